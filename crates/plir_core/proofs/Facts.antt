@@ -1,0 +1,153 @@
+-- What holds of the nodes of every forest: kids and parents agree, kids stand once, what is linked is live, and what is
+-- live was given out.
+use Rattle.std.proofs.Common.{◌≡◌, ℕ, ◌<◌, true, false, cond, List, [], ◌∷◌, map, Option, Some, None, IsSome, is_some, inl, inr, refl, sym, ap, subst, arith, eqb, eq-eqb}
+use Rattle.std.specs.Prelude.{option_map, nat_lt, nat_le}
+use Rattle.std.proofs.lemmas.Bool.{eqb-true, and_parts, and_from}
+use Rattle.std.proofs.lemmas.Option.{same_Some, none-some}
+use Rattle.plir_store.specs.Lists.{Lists, In, Apart, kids_at, parent_at}
+use Rattle.plir_store.specs.Table.{Table, IsTable, content_at, version_at, is_live_at}
+use Rattle.plir_core.specs.declared.ptr.Ptr.{Ptr}
+use Rattle.plir_core.specs.declared.ptr.IRNode.{IRNode}
+use Rattle.plir_core.specs.declared.ptr.IRNode.TheVariants.{Operation, Region, BasicBlock}
+use Rattle.plir_core.specs.NodeLists.{Has, Distinct}
+use Rattle.plir_core.specs.Nodes.{Nodes, ptr_at, is_given_out, is_node_live, was_given_out, node_kids, node_parent}
+use Rattle.plir_core.specs.Forest.{IsListing, IsForest}
+use Rattle.plir_core.proofs.Listing.{within_content}
+
+-- an element of a list of images
+pub Has-map : {A : Type 0} (f : ℕ → A) (xs : List ℕ) (a : A) → Has (map f xs) a → (i : ℕ) × (In i xs × (f i ≡ a))
+Has-map f [] a h = absurd h
+Has-map f (x ∷ xs) a h = elim h [
+  | inl e ↦ (x, (inl refl, e))
+  | inr k ↦ let r = Has-map f xs a k in (r.0, (inr r.1.0, r.1.1))
+]
+
+pub map-Has : {A : Type 0} (f : ℕ → A) (xs : List ℕ) (i : ℕ) → In i xs → Has (map f xs) (f i)
+map-Has f [] i k = absurd k
+map-Has f (x ∷ xs) i k = elim k [ inl e ↦ inl (ap f (sym e)) | inr j ↦ inr (map-Has f xs i j) ]
+
+pub Distinct-map : {A : Type 0} (f : ℕ → A) → ((i j : ℕ) → f i ≡ f j → i ≡ j) → (xs : List ℕ) → Apart xs → Distinct (map f xs)
+Distinct-map f one [] a = tt
+Distinct-map f one (x ∷ xs) a = (
+  λ h. let r = Has-map f xs (f x) h in a.0 (subst (λ z. In z xs) (one r.0 x r.1.1) r.1.0),
+  Distinct-map f one xs a.1,
+)
+
+pub live_parts : {C : Type 0} (t : Table C) (i v : ℕ) → is_live_at t i v ≡ true → IsSome (content_at t i) × (version_at t i ≡ v)
+live_parts t i v e = let r = and_parts (is_some (content_at t i)) (eqb (version_at t i) v) e in (r.0, eqb-true (version_at t i) v r.1)
+
+pub live_at : {C : Type 0} (t : Table C) (i : ℕ) → IsSome (content_at t i) → is_live_at t i (version_at t i) ≡ true
+live_at t i some = and_from (is_some (content_at t i)) (eqb (version_at t i) (version_at t i)) some (eq-eqb (version_at t i) (version_at t i) refl)
+
+-- the pointer to what a slot holds is the live one
+pub ptr_is : {C X : Type 0} (t : Table C) (p : Ptr X) → is_live_at t p.slot p.version ≡ true → ptr_at t p.slot ≡ p
+ptr_is {X} t p e = ap (λ v. let q : Ptr X = record { slot = p.slot; version = v; kind = record {} } in q) ((live_parts t p.slot p.version e).1)
+
+abbrev pub slot_of : IRNode → ℕ
+slot_of (Operation p) = p.slot
+slot_of (Region p) = p.slot
+slot_of (BasicBlock p) = p.slot
+
+-- One of the three kinds of lists: `child` and `over` make nodes of the pointers.
+module _ {C P X Y : Type 0} (l : Lists) (t : Table C) (u : Table P) (w : IsListing l t u) (child : Ptr X → IRNode) (over : Ptr Y → IRNode) where
+  abbrev kids_word : Ptr Y → List IRNode
+  kids_word p = cond (is_live_at u p.slot p.version) (map (λ i. child (ptr_at t i)) (kids_at l p.slot)) []
+
+  abbrev parent_word : Ptr X → Option IRNode
+  parent_word q = cond (is_live_at t q.slot q.version) (option_map (λ i. over (ptr_at u i)) (parent_at l q.slot)) None
+
+  record IsKid (p : Ptr Y) (x : IRNode) : Type 0 where
+    ptr : Ptr X
+    is : x ≡ child ptr
+    parent : parent_word ptr ≡ Some (over p)
+    live : is_live_at t ptr.slot ptr.version ≡ true
+
+  record IsOver (q : Ptr X) (n : IRNode) : Type 0 where
+    ptr : Ptr Y
+    is : n ≡ over ptr
+    kid : Has (kids_word ptr) (child q)
+    live : is_live_at u ptr.slot ptr.version ≡ true
+
+  kid_in : (p : Ptr Y) (x : IRNode) → is_live_at u p.slot p.version ≡ true → Has (map (λ i. child (ptr_at t i)) (kids_at l p.slot)) x → IsKid p x
+  kid_in p x e h =
+      let r = Has-map (λ i. child (ptr_at t i)) (kids_at l p.slot) x h in
+      let par = w.agreed.owned p.slot r.0 r.1.0 in
+      let live : is_live_at t r.0 (version_at t r.0) ≡ true = live_at t r.0 ((w.linked_live r.0 p.slot par).0) in
+      record {
+        ptr = ptr_at t r.0;
+        is = sym r.1.1;
+        parent = rw (live, par) (ap (λ z. Some (over z)) (ptr_is u p e));
+        live = live;
+      }
+
+  is_kid : (p : Ptr Y) (x : IRNode) → Has (kids_word p) x → IsKid p x
+  is_kid p x = elim (is_live_at u p.slot p.version) as (λ b. is_live_at u p.slot p.version ≡ b → Has (cond b (map (λ i. child (ptr_at t i)) (kids_at l p.slot)) []) x → IsKid p x) [
+    | true ↦ λ e h. kid_in p x e h
+    | false ↦ λ e h. absurd h
+  ] refl
+
+  over_in : (q : Ptr X) (n : IRNode) (o : Option ℕ) → is_live_at t q.slot q.version ≡ true → parent_at l q.slot ≡ o → option_map (λ i. over (ptr_at u i)) o ≡ Some n → IsOver q n
+  over_in q n None e f g = absurd (none-some n g)
+  over_in q n (Some i) e f g =
+      let live : is_live_at u i (version_at u i) ≡ true = live_at u i ((w.linked_live q.slot i f).1) in
+      record {
+        ptr = ptr_at u i;
+        is = sym (same_Some (over (ptr_at u i)) n g);
+        kid = rw live (subst (λ z. Has (map (λ j. child (ptr_at t j)) (kids_at l i)) (child z)) (ptr_is t q e) (map-Has (λ j. child (ptr_at t j)) (kids_at l i) q.slot (w.agreed.held i q.slot f)));
+        live = live;
+      }
+
+  is_over : (q : Ptr X) (n : IRNode) → parent_word q ≡ Some n → IsOver q n
+  is_over q n = elim (is_live_at t q.slot q.version) as (λ b. is_live_at t q.slot q.version ≡ b → cond b (option_map (λ i. over (ptr_at u i)) (parent_at l q.slot)) None ≡ Some n → IsOver q n) [
+    | true ↦ λ e h. over_in q n (parent_at l q.slot) e refl h
+    | false ↦ λ e h. absurd (none-some n h)
+  ] refl
+
+  kids_once : ((i j : ℕ) → child (ptr_at t i) ≡ child (ptr_at t j) → i ≡ j) → (p : Ptr Y) → Distinct (kids_word p)
+  kids_once one p = elim (is_live_at u p.slot p.version) as (λ b. Distinct (cond b (map (λ i. child (ptr_at t i)) (kids_at l p.slot)) [])) [
+    | true ↦ Distinct-map (λ i. child (ptr_at t i)) one (kids_at l p.slot) (w.agreed.apart p.slot)
+    | false ↦ tt
+  ]
+
+given_in : {C X : Type 0} (t : Table C) (w : IsTable t) (p : Ptr X) → is_live_at t p.slot p.version ≡ true → is_given_out t p ≡ true
+given_in t w p e =
+    let r = live_parts t p.slot p.version e in
+    let pos : 0 < version_at t p.slot = w.used p.slot (within_content t p.slot r.0) in
+    and_from (nat_lt 0 p.version) (nat_le p.version (version_at t p.slot)) (grind arith) (grind arith)
+
+module _ {O B : Type 0} (s : Nodes O B) (w : IsForest s) where
+  -- a kid's parent is the node
+  pub kid-parent : (a x : IRNode) → Has (node_kids s a) x → node_parent s x ≡ Some a
+  kid-parent (Operation p) x h = let k = is_kid s.regions_in_op s.regions s.ops w.regions_listed Region Operation p x h in rw k.is k.parent
+  kid-parent (Region p) x h = let k = is_kid s.blocks_in_region s.blocks s.regions w.blocks_listed BasicBlock Region p x h in rw k.is k.parent
+  kid-parent (BasicBlock p) x h = let k = is_kid s.ops_in_block s.ops s.blocks w.ops_listed Operation BasicBlock p x h in rw k.is k.parent
+
+  -- kids are live
+  pub kid-live : (a x : IRNode) → Has (node_kids s a) x → is_node_live s x ≡ true
+  kid-live (Operation p) x h = let k = is_kid s.regions_in_op s.regions s.ops w.regions_listed Region Operation p x h in rw k.is k.live
+  kid-live (Region p) x h = let k = is_kid s.blocks_in_region s.blocks s.regions w.blocks_listed BasicBlock Region p x h in rw k.is k.live
+  kid-live (BasicBlock p) x h = let k = is_kid s.ops_in_block s.ops s.blocks w.ops_listed Operation BasicBlock p x h in rw k.is k.live
+
+  -- a node with that parent is among its kids
+  pub parent-kid : (a x : IRNode) → node_parent s x ≡ Some a → Has (node_kids s a) x
+  parent-kid a (Operation q) e = let k = is_over s.ops_in_block s.ops s.blocks w.ops_listed Operation BasicBlock q a e in rw k.is k.kid
+  parent-kid a (Region q) e = let k = is_over s.regions_in_op s.regions s.ops w.regions_listed Region Operation q a e in rw k.is k.kid
+  parent-kid a (BasicBlock q) e = let k = is_over s.blocks_in_region s.blocks s.regions w.blocks_listed BasicBlock Region q a e in rw k.is k.kid
+
+  -- parents are live
+  pub parent-live : (a x : IRNode) → node_parent s x ≡ Some a → is_node_live s a ≡ true
+  parent-live a (Operation q) e = let k = is_over s.ops_in_block s.ops s.blocks w.ops_listed Operation BasicBlock q a e in rw k.is k.live
+  parent-live a (Region q) e = let k = is_over s.regions_in_op s.regions s.ops w.regions_listed Region Operation q a e in rw k.is k.live
+  parent-live a (BasicBlock q) e = let k = is_over s.blocks_in_region s.blocks s.regions w.blocks_listed BasicBlock Region q a e in rw k.is k.live
+
+  -- kids stand once
+  pub kids-once : (a : IRNode) → Distinct (node_kids s a)
+  kids-once (Operation p) = kids_once s.regions_in_op s.regions s.ops w.regions_listed Region Operation (λ i j e. ap slot_of e) p
+  kids-once (Region p) = kids_once s.blocks_in_region s.blocks s.regions w.blocks_listed BasicBlock Region (λ i j e. ap slot_of e) p
+  kids-once (BasicBlock p) = kids_once s.ops_in_block s.ops s.blocks w.ops_listed Operation BasicBlock (λ i j e. ap slot_of e) p
+
+  -- a live node was given out
+  pub live-given : (x : IRNode) → is_node_live s x ≡ true → was_given_out s x ≡ true
+  live-given (Operation p) e = given_in s.ops w.op_slots p e
+  live-given (Region p) e = given_in s.regions w.region_slots p e
+  live-given (BasicBlock p) e = given_in s.blocks w.block_slots p e

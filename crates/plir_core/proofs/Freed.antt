@@ -1,0 +1,162 @@
+-- One node without kids is freed: what is live, who is whose kid, and that the rest is still a forest.
+use Rattle.std.proofs.Common.{◌≡◌, ℕ, ◌+◌, ◌*◌, ◌<◌, ◌≤◌, Bool, true, false, cond, List, [], ◌∷◌, ◌++◌, map, length, Option, Some, None, IsSome, is_some, ◌⊎◌, inl, inr, refl, sym, ◌∙◌, ap, subst, set, arith, eqb, length-set}
+use Rattle.std.specs.Prelude.{option_map}
+use Rattle.std.proofs.lemmas.Bool.{cases_eq, and_left}
+use Rattle.std.proofs.lemmas.Option.{same_Some, none-some}
+use Rattle.plir_store.specs.Lists.{Lists, In, IsAgreed, kids_at, parent_at, without, without_child, without_under}
+use Rattle.plir_store.specs.Table.{Table, content_at, version_at, is_live_at, num_full, without_slot}
+use Rattle.plir_core.specs.declared.ptr.Ptr.{Ptr}
+use Rattle.plir_core.specs.declared.ptr.IRNode.{IRNode}
+use Rattle.plir_core.specs.declared.ptr.IRNode.TheVariants.{Operation, Region, BasicBlock}
+use Rattle.plir_core.specs.NodeLists.{Has, Distinct, head}
+use Rattle.plir_core.specs.Above.{IsGrounded}
+use Rattle.plir_core.specs.Nodes.{Nodes, ptr_at, is_given_out, is_node_live, was_given_out, node_kids, node_parent, nodes_under, node_over, num_nodes, op_node, block_node, region_node}
+use Rattle.plir_core.specs.Forest.{Seat, op, region, block, up, most_steps, IsListing, IsForest}
+use Rattle.plir_core.specs.Erase.{without_node}
+use Rattle.plir_core.proofs.Climbs.{IsGrounded-cut}
+use Rattle.plir_core.proofs.Facts.{live_parts, live_at, ptr_is, Has-map, kid-parent, slot_of}
+use Rattle.plir_core.proofs.Depths.{count_without}
+use Rattle.plir_core.proofs.Listing.{IsMoved, IsListing-unlink, IsListing-free_child, IsListing-free_parent, content_without, content_gone, version_without}
+use Rattle.plir_core.proofs.Removal.{kids_at-without_here, kids_at-without_other, parent_at-without_here, parent_at-without_other, IsAgreed-without, length-parents_without, length-kids_without, map-without, among}
+
+-- equal functions on a list, and on an option
+pub map-same : {A : Type 0} (f g : ℕ → A) → ((i : ℕ) → f i ≡ g i) → (xs : List ℕ) → map f xs ≡ map g xs
+map-same f g e [] = refl
+map-same f g e (x ∷ xs) = rw (e x, map-same f g e xs) refl
+
+pub option_map-same : {A : Type 0} (f g : ℕ → A) → ((i : ℕ) → f i ≡ g i) → (o : Option ℕ) → option_map f o ≡ option_map g o
+option_map-same f g e None = refl
+option_map-same f g e (Some x) = ap (λ z. Some z) (e x)
+
+-- the slot i of a table is freed
+module _ {C : Type 0} (t : Table C) (i : ℕ) where
+  pub ptr_without : {X : Type 0} (j : ℕ) → ptr_at {X = X} (without_slot t i) j ≡ ptr_at t j
+  ptr_without {X} j = ap (λ v. let q : Ptr X = record { slot = j; version = v; kind = record {} } in q) (version_without t i j)
+
+  pub given_without : {X : Type 0} (p : Ptr X) → is_given_out (without_slot t i) p ≡ is_given_out t p
+  given_without p = rw (version_without t i p.slot) refl
+
+  pub live_other : (j v : ℕ) → (j ≡ i → ⊥) → is_live_at (without_slot t i) j v ≡ is_live_at t j v
+  live_other j v n = rw (content_without t i j n, version_without t i j) refl
+
+  pub live_gone : (v : ℕ) → IsSome (content_at t i) → is_live_at (without_slot t i) i v ≡ false
+  live_gone v some = and_left (is_some (content_at (without_slot t i) i)) (eqb (version_at (without_slot t i) i) v) (rw (content_gone t i some) refl)
+
+  pub most_without : length (without_slot t i).slots ≡ length t.slots
+  most_without = length-set t.slots i (record { version = version_at t i; content = None })
+
+-- one of two live pointers to a slot is the other
+pub ptr_one : {C X : Type 0} (t : Table C) (p q : Ptr X) → is_live_at t p.slot p.version ≡ true → is_live_at t q.slot q.version ≡ true → q.slot ≡ p.slot → q ≡ p
+ptr_one {X} t p q ep eq e =
+    sym (ptr_is t q eq) ∙ ap (λ j. let z : Ptr X = ptr_at t j in z) e ∙ ptr_is t p ep
+
+bool_cases : (b : Bool) → (b ≡ true) ⊎ (b ≡ false)
+bool_cases true = inl refl
+bool_cases false = inr refl
+
+-- no kid, if what the list could hold is of another kind
+pub wrong_kid : (b : Bool) (f : ℕ → IRNode) (ks : List ℕ) (n : IRNode) → ((i : ℕ) → f i ≡ n → ⊥) → Has (cond b (map f ks) []) n → ⊥
+wrong_kid false f ks n wrong h = h
+wrong_kid true f ks n wrong h = let r = Has-map f ks n h in wrong r.0 r.1.1
+
+pub map-nil : {A : Type 0} (f : ℕ → A) (ks : List ℕ) → map f ks ≡ [] → ks ≡ []
+map-nil f [] e = refl
+map-nil f (k ∷ ks) e = cc
+
+pub mid_Has : (xs ys : List IRNode) (n : IRNode) → Has (xs ++ n ∷ ys) n
+mid_Has [] ys n = inl refl
+mid_Has (x ∷ xs) ys n = inr (mid_Has xs ys n)
+
+-- a list of kids by first making nodes of other pointers
+pub kids-made : (b : Bool) (f g : ℕ → IRNode) (ks : List ℕ) → ((i : ℕ) → f i ≡ g i) → cond b (map f ks) [] ≡ cond b (map g ks) []
+kids-made false f g ks e = refl
+kids-made true f g ks e = map-same f g e ks
+
+pub parent-made : (b : Bool) (f g : ℕ → IRNode) (o : Option ℕ) → ((i : ℕ) → f i ≡ g i) → cond b (option_map f o) None ≡ cond b (option_map g o) None
+parent-made false f g o e = refl
+parent-made true f g o e = option_map-same f g e o
+
+-- One of the three kinds of lists, as one of its children is freed.
+module _ {C P X : Type 0} (l : Lists) (t : Table C) (u : Table P) (w : IsListing l t u) (p : Ptr X) (live : is_live_at t p.slot p.version ≡ true) where
+  abbrev seated : IsSome (content_at t p.slot)
+  seated = (live_parts t p.slot p.version live).0
+
+  pub moved_out : IsMoved l (without_child l p.slot) p.slot None
+  moved_out = record {
+    parents = length-parents_without l w.agreed p.slot;
+    kids = length-kids_without l w.agreed p.slot;
+    here = parent_at-without_here l w.agreed p.slot;
+    other = λ x n. parent_at-without_other l w.agreed p.slot x n;
+  }
+
+  pub IsListing-without : IsListing (without_child l p.slot) (without_slot t p.slot) u
+  IsListing-without =
+      let a = IsAgreed-without l w.agreed p.slot in
+      IsListing-free_child (without_child l p.slot) t u (IsListing-unlink l t u w (without_child l p.slot) p.slot moved_out a) p.slot (parent_at-without_here l w.agreed p.slot)
+
+  -- whether another node is live
+  pub live_same : (q : Ptr X) → (q ≡ p → ⊥) → is_live_at (without_slot t p.slot) q.slot q.version ≡ is_live_at t q.slot q.version
+  live_same q n = elim (cases_eq q.slot p.slot) [
+    | inl e ↦ elim (bool_cases (is_live_at t q.slot q.version)) [
+      | inl f ↦ absurd (n (ptr_one t p q live f e))
+      | inr f ↦ ap (λ j. is_live_at (without_slot t p.slot) j q.version) e ∙ live_gone t p.slot q.version seated ∙ sym f
+    ]
+    | inr m ↦ live_other t p.slot q.slot q.version m
+  ]
+
+  pub live_none : is_live_at (without_slot t p.slot) p.slot p.version ≡ false
+  live_none = live_gone t p.slot p.version seated
+
+  -- the parent of another node
+  pub parent_same : (over : ℕ → IRNode) (q : Ptr X) → (q ≡ p → ⊥) → cond (is_live_at (without_slot t p.slot) q.slot q.version) (option_map over (parent_at (without_child l p.slot) q.slot)) None ≡ cond (is_live_at t q.slot q.version) (option_map over (parent_at l q.slot)) None
+  parent_same over q n = elim (cases_eq q.slot p.slot) [
+    | inl e ↦ elim (bool_cases (is_live_at t q.slot q.version)) [
+      | inl f ↦ absurd (n (ptr_one t p q live f e))
+      | inr f ↦ rw (live_same q n, f) refl
+    ]
+    | inr m ↦ rw (live_same q n, parent_at-without_other l w.agreed p.slot q.slot m) refl
+  ]
+
+  -- the kids of a node of its own kind, of which it had none
+  pub kids_below : (kids : ℕ → List IRNode) → kids p.slot ≡ [] → (q : Ptr X) → cond (is_live_at (without_slot t p.slot) q.slot q.version) (kids q.slot) [] ≡ cond (is_live_at t q.slot q.version) (kids q.slot) []
+  kids_below kids none q = elim (cases_eq q.slot p.slot) [
+    | inl e ↦ rw (ap kids e ∙ none) (nil (is_live_at (without_slot t p.slot) q.slot q.version) (is_live_at t q.slot q.version))
+    | inr m ↦ rw (live_other t p.slot q.slot q.version m) refl
+  ]
+    where
+      nil : (a b : Bool) → ◌≡◌ {A = List IRNode} (cond a [] []) (cond b [] [])
+      nil true true = refl
+      nil true false = refl
+      nil false true = refl
+      nil false false = refl
+
+  module _ (child : Ptr X → IRNode) (one : (i j : ℕ) → child (ptr_at t i) ≡ child (ptr_at t j) → i ≡ j) where
+    abbrev kid : ℕ → IRNode
+    kid i = child (ptr_at t i)
+
+    abbrev kid' : ℕ → IRNode
+    kid' i = child (ptr_at (without_slot t p.slot) i)
+
+    kid_same : (i : ℕ) → kid' i ≡ kid i
+    kid_same i = ap child (ptr_without t p.slot i)
+
+    -- the kids of the parent
+    pub kids_here : (b : Bool) (j : ℕ) (xs ys : List IRNode) → cond b (map kid (kids_at l j)) [] ≡ xs ++ child p ∷ ys → cond b (map kid' (kids_at (without_child l p.slot) j)) [] ≡ xs ++ ys
+    kids_here false j [] ys e = cc
+    kids_here false j (x ∷ xs) ys e = cc
+    kids_here true j xs ys e =
+        let at : map kid (kids_at l j) ≡ xs ++ kid p.slot ∷ ys = e ∙ ap (λ z. xs ++ child z ∷ ys) (sym (ptr_is t p live)) in
+        let under : parent_at l p.slot ≡ Some j = w.agreed.owned j p.slot (among kid one p.slot (kids_at l j) xs ys at) in
+        map-same kid' kid kid_same (kids_at (without_child l p.slot) j)
+        ∙ ap (map kid) (kids_at-without_here l w.agreed p.slot j under)
+        ∙ map-without kid one p.slot (kids_at l j) xs ys (w.agreed.apart j) at
+
+    -- the kids of any other node
+    pub kids_other : (j : ℕ) → (parent_at l p.slot ≡ Some j → ⊥) → map kid' (kids_at (without_child l p.slot) j) ≡ map kid (kids_at l j)
+    kids_other j n = map-same kid' kid kid_same (kids_at (without_child l p.slot) j) ∙ ap (map kid) (kids_at-without_other l w.agreed p.slot j n)
+
+    pub kids_away : {Y : Type 0} (over : Ptr Y → IRNode) (q : Ptr Y) → (cond (is_live_at t p.slot p.version) (option_map (λ i. over (ptr_at u i)) (parent_at l p.slot)) None ≡ Some (over q) → ⊥) → cond (is_live_at u q.slot q.version) (map kid' (kids_at (without_child l p.slot) q.slot)) [] ≡ cond (is_live_at u q.slot q.version) (map kid (kids_at l q.slot)) []
+    kids_away over q away = elim (bool_cases (is_live_at u q.slot q.version)) [
+      | inl f ↦ rw (f, kids_other q.slot (λ e. away (rw (live, e) (ap (λ z. Some (over z)) (ptr_is u q f))))) refl
+      | inr f ↦ rw f refl
+    ]

@@ -1,0 +1,153 @@
+-- A child is taken out of its list.
+use Rattle.std.proofs.Common.{◌≡◌, ℕ, ◌<◌, List, [], ◌∷◌, ◌++◌, map, length, Option, Some, None, ◌⊎◌, inl, inr, refl, sym, ◌∙◌, ap, subst, set, length-set, eqb, eq-eqb, arith}
+use Rattle.std.proofs.lemmas.Bool.{cases_eq}
+use Rattle.std.proofs.lemmas.List.{get_or-set_same, get_or-set_other}
+use Rattle.std.proofs.lemmas.Option.{same_Some, none-some}
+use Rattle.plir_store.specs.Lists.{Lists, In, Apart, IsAgreed, kids_at, parent_at, without, without_child, without_under}
+use Rattle.plir_store.proofs.Members.{eqb_false}
+use Rattle.plir_store.proofs.Agreed.{within_from_parent_at, within_from_kid}
+use Rattle.plir_core.specs.NodeLists.{Has}
+use Rattle.plir_core.proofs.Facts.{Has-map}
+
+without-here : (c x : ℕ) (xs : List ℕ) → x ≡ c → without c (x ∷ xs) ≡ xs
+without-here c x xs e = rw (eq-eqb x c e) refl
+
+without-past : (c x : ℕ) (xs : List ℕ) → (x ≡ c → ⊥) → without c (x ∷ xs) ≡ x ∷ without c xs
+without-past c x xs n = rw (eqb_false x c n) refl
+
+In-without : (c x : ℕ) (xs : List ℕ) → In x (without c xs) → In x xs
+In-without c x [] i = i
+In-without c x (y ∷ ys) i = elim (cases_eq y c) [
+  | inl e ↦ inr (subst (In x) (without-here c y ys e) i)
+  | inr n ↦ elim (subst (In x) (without-past c y ys n) i) [ inl e ↦ inl e | inr j ↦ inr (In-without c x ys j) ]
+]
+
+without-In : (c x : ℕ) (xs : List ℕ) → (x ≡ c → ⊥) → In x xs → In x (without c xs)
+without-In c x [] n i = i
+without-In c x (y ∷ ys) n i = elim (cases_eq y c) [
+  | inl e ↦ subst (In x) (sym (without-here c y ys e)) (elim i [ inl q ↦ absurd (n (q ∙ e)) | inr j ↦ j ])
+  | inr m ↦ subst (In x) (sym (without-past c y ys m)) (elim i [ inl q ↦ inl q | inr j ↦ inr (without-In c x ys n j) ])
+]
+
+without-gone : (c : ℕ) (xs : List ℕ) → Apart xs → In c (without c xs) → ⊥
+without-gone c [] a i = i
+without-gone c (y ∷ ys) a i = elim (cases_eq y c) [
+  | inl e ↦ a.0 (subst (λ z. In z ys) (sym e) (subst (In c) (without-here c y ys e) i))
+  | inr n ↦ elim (subst (In c) (without-past c y ys n) i) [ inl e ↦ n (sym e) | inr j ↦ without-gone c ys a.1 j ]
+]
+
+Apart-without : (c : ℕ) (xs : List ℕ) → Apart xs → Apart (without c xs)
+Apart-without c [] a = a
+Apart-without c (y ∷ ys) a = elim (cases_eq y c) [
+  | inl e ↦ subst Apart (sym (without-here c y ys e)) a.1
+  | inr n ↦ subst Apart (sym (without-past c y ys n)) (λ i. a.0 (In-without c y ys i), Apart-without c ys a.1)
+]
+
+module _ (l : Lists) (a : IsAgreed l) where
+  under_here : (c p : ℕ) (o : Option ℕ) → parent_at l c ≡ o → o ≡ Some p → kids_at (without_under l c o) p ≡ without c (kids_at l p)
+  under_here c p None e f = absurd (none-some p f)
+  under_here c p (Some q) e f =
+      let g : q ≡ p = same_Some q p f in
+      let in' : q < length l.kids = within_from_kid l q c (a.held q c e) in
+      subst (λ z. kids_at (without_under l c (Some q)) z ≡ without c (kids_at l z)) g (get_or-set_same l.kids q (without c (kids_at l q)) [] in')
+
+  -- the list that it stood in
+  pub kids_at-without_here : (c p : ℕ) → parent_at l c ≡ Some p → kids_at (without_child l c) p ≡ without c (kids_at l p)
+  kids_at-without_here c p e = under_here c p (parent_at l c) refl e
+
+  under_other : (c q : ℕ) (o : Option ℕ) → (o ≡ Some q → ⊥) → kids_at (without_under l c o) q ≡ kids_at l q
+  under_other c q None n = refl
+  under_other c q (Some p) n = get_or-set_other l.kids p q (without c (kids_at l p)) [] (λ e. n (ap (λ z. Some z) (sym e)))
+
+  -- every other list
+  pub kids_at-without_other : (c q : ℕ) → (parent_at l c ≡ Some q → ⊥) → kids_at (without_child l c) q ≡ kids_at l q
+  kids_at-without_other c q n = under_other c q (parent_at l c) n
+
+  gone_under : (c : ℕ) (o : Option ℕ) → parent_at l c ≡ o → parent_at (without_under l c o) c ≡ None
+  gone_under c None e = e
+  gone_under c (Some p) e = get_or-set_same l.parents c None None (within_from_parent_at l c p e)
+
+  pub parent_at-without_here : (c : ℕ) → parent_at (without_child l c) c ≡ None
+  parent_at-without_here c = gone_under c (parent_at l c) refl
+
+  parent_under : (c x : ℕ) (o : Option ℕ) → (x ≡ c → ⊥) → parent_at (without_under l c o) x ≡ parent_at l x
+  parent_under c x None n = refl
+  parent_under c x (Some p) n = get_or-set_other l.parents c x None None n
+
+  pub parent_at-without_other : (c x : ℕ) → (x ≡ c → ⊥) → parent_at (without_child l c) x ≡ parent_at l x
+  parent_at-without_other c x n = parent_under c x (parent_at l c) n
+
+  option_cases : (o : Option ℕ) (p : ℕ) → (o ≡ Some p) ⊎ (o ≡ Some p → ⊥)
+  option_cases None p = inr (λ e. none-some p e)
+  option_cases (Some q) p = elim (cases_eq q p) [ inl e ↦ inl (ap (λ z. Some z) e) | inr n ↦ inr (λ e. n (same_Some q p e)) ]
+
+  kid_of : (c p x : ℕ) → In x (kids_at (without_child l c) p) → In x (kids_at l p) × (x ≡ c → ⊥)
+  kid_of c p x i = elim (option_cases (parent_at l c) p) [
+    | inl e ↦
+        let j : In x (without c (kids_at l p)) = subst (In x) (kids_at-without_here c p e) i in
+        (In-without c x (kids_at l p) j, λ q. without-gone c (kids_at l p) (a.apart p) (subst (λ z. In z (without c (kids_at l p))) q j))
+    | inr n ↦
+        let j : In x (kids_at l p) = subst (In x) (kids_at-without_other c p n) i in
+        (j, λ q. n (a.owned p c (subst (λ z. In z (kids_at l p)) q j)))
+  ]
+
+  of_kid : (c p x : ℕ) → In x (kids_at l p) → (x ≡ c → ⊥) → In x (kids_at (without_child l c) p)
+  of_kid c p x i ne = elim (option_cases (parent_at l c) p) [
+    | inl e ↦ subst (In x) (sym (kids_at-without_here c p e)) (without-In c x (kids_at l p) ne i)
+    | inr n ↦ subst (In x) (sym (kids_at-without_other c p n)) i
+  ]
+
+  num_parents : (c : ℕ) (o : Option ℕ) → length (without_under l c o).parents ≡ length l.parents
+  num_parents c None = refl
+  num_parents c (Some p) = length-set l.parents c None
+
+  num_kids : (c : ℕ) (o : Option ℕ) → length (without_under l c o).kids ≡ length l.kids
+  num_kids c None = refl
+  num_kids c (Some p) = length-set l.kids p (without c (kids_at l p))
+
+  pub length-parents_without : (c : ℕ) → length (without_child l c).parents ≡ length l.parents
+  length-parents_without c = num_parents c (parent_at l c)
+
+  pub length-kids_without : (c : ℕ) → length (without_child l c).kids ≡ length l.kids
+  length-kids_without c = num_kids c (parent_at l c)
+
+  pub IsAgreed-without : (c : ℕ) → IsAgreed (without_child l c)
+  IsAgreed-without c = record {
+    apart = λ p. elim (option_cases (parent_at l c) p) [
+      | inl e ↦ subst Apart (sym (kids_at-without_here c p e)) (Apart-without c (kids_at l p) (a.apart p))
+      | inr n ↦ subst Apart (sym (kids_at-without_other c p n)) (a.apart p)
+    ];
+    owned = λ p x i. let r = kid_of c p x i in parent_at-without_other c x r.1 ∙ a.owned p x r.0;
+    held = λ p x e. elim (cases_eq x c) [
+      | inl q ↦ absurd (none-some p (sym (parent_at-without_here c) ∙ ap (parent_at (without_child l c)) (sym q) ∙ e))
+      | inr n ↦ of_kid c p x (a.held p x (sym (parent_at-without_other c x n) ∙ e)) n
+    ];
+    within = λ p x i. let h = a.within p x ((kid_of c p x i).0) in let n = length-parents_without c in omega arith;
+    num_lists = let h = a.num_lists in let n = length-kids_without c in omega arith;
+    num_children = let h = a.num_children in let n = length-parents_without c in omega arith;
+  }
+
+-- f gives each number an image of its own
+module _ {A : Type 0} (f : ℕ → A) (one : (i j : ℕ) → f i ≡ f j → i ≡ j) (c : ℕ) where
+  mid : (xs ys : List A) → Has (xs ++ f c ∷ ys) (f c)
+  mid [] ys = inl refl
+  mid (x ∷ xs) ys = inr (mid xs ys)
+
+  pub among : (ks : List ℕ) (xs ys : List A) → map f ks ≡ xs ++ f c ∷ ys → In c ks
+  among ks xs ys t = let r = Has-map f ks (f c) (subst (λ z. Has z (f c)) (sym t) (mid xs ys)) in subst (λ z. In z ks) (one r.0 c r.1.1) r.1.0
+
+  -- the images of a list without c, where the image of c stood between xs and ys
+  pub map-without : (ks : List ℕ) (xs ys : List A) → Apart ks → map f ks ≡ xs ++ f c ∷ ys → map f (without c ks) ≡ xs ++ ys
+  map-without [] [] ys a e = cc
+  map-without [] (x ∷ xs) ys a e = cc
+  map-without (k ∷ ks) [] ys a e =
+      let h : f k ≡ f c = cc in
+      let t : map f ks ≡ ys = cc in
+      ap (map f) (without-here c k ks (one k c h)) ∙ t
+  map-without (k ∷ ks) (x ∷ xs) ys a e =
+      let h : f k ≡ x = cc in
+      let t : map f ks ≡ xs ++ f c ∷ ys = cc in
+      elim (cases_eq k c) [
+        | inl q ↦ absurd (a.0 (subst (λ z. In z ks) (sym q) (among ks xs ys t)))
+        | inr n ↦ ap (map f) (without-past c k ks n) ∙ rw (h, map-without ks xs ys a.1 t) refl
+      ]

@@ -1,0 +1,11 @@
+use Rattle.std.proofs.Common.{sym, subst}
+use Rattle.plir_core.specs.Unused.{IsUnusedOutside}
+use Rattle.plir_core.proofs.removing.erase_tree.Goals as goal
+use Rattle.plir_core.proofs.Uses.{IsWhole-erased}
+
+pub invariant_of-ctx : goal.invariant_of-ctx
+invariant_of-ctx g c =
+    IsWhole-erased g.D.OpSet.attr_handles _ c.erase.new.self c.args.node c.ctx.invariant (subst (λ z. IsUnusedOutside z c.args.node) (sym c.ctx.view_is) c.requires.unused) c.erase.ensures.tree
+
+pub returns-clause-whole : goal.returns-clause-whole
+returns-clause-whole g c = invariant_of-ctx g c

@@ -1,0 +1,54 @@
+-- What the calls that change a context make of it.
+use Rattle.std.specs.Prelude.{◌≡◌, ℕ, Option, Some, None}
+use Rattle.plir_store.specs.Lists.{with_last}
+use Rattle.plir_store.specs.Table.{with_content, next_slot}
+use Rattle.plir_core.specs.declared.ptr.Ptr.{Ptr}
+use Rattle.plir_core.specs.declared.ptr.Operation.{Operation as OperationKind}
+use Rattle.plir_core.specs.declared.ptr.Region.{Region as RegionKind}
+use Rattle.plir_core.specs.declared.ptr.BasicBlock.{BasicBlock as BasicBlockKind}
+use Rattle.plir_core.specs.Contents.{OpView, BlockView}
+use Rattle.plir_core.specs.Edits.{SameNodes, with_new_op, with_new_block, with_new_regions}
+use Rattle.plir_core.specs.Store.{Store, op_at, block_at}
+
+module _ {K A T : Type 0} where
+  -- a new operation with n new regions, in no block
+  abbrev pub with_op : Store K A T → OpView K A → ℕ → Store K A T
+  with_op s v n = record s { nodes = with_new_regions (with_new_op s.nodes v) (next_slot s.nodes.ops) n }
+
+  -- a new block, in no region
+  abbrev pub with_block : Store K A T → BlockView A → Store K A T
+  with_block s v = record s { nodes = with_new_block s.nodes v }
+
+  -- an operation at the end of a block, and a block at the end of a region
+  abbrev pub with_op_last : Store K A T → Ptr OperationKind → Ptr BasicBlockKind → Store K A T
+  with_op_last s op block = record s { nodes = record s.nodes { ops_in_block = with_last s.nodes.ops_in_block block.slot op.slot } }
+
+  abbrev pub with_block_last : Store K A T → Ptr BasicBlockKind → Ptr RegionKind → Store K A T
+  with_block_last s block region = record s { nodes = record s.nodes { blocks_in_region = with_last s.nodes.blocks_in_region region.slot block.slot } }
+
+  -- another content in an operation's slot, and in a block's
+  abbrev pub with_op_content : Store K A T → ℕ → OpView K A → Store K A T
+  with_op_content s i v = record s { nodes = record s.nodes { ops = with_content s.nodes.ops i v } }
+
+  abbrev pub with_block_content : Store K A T → ℕ → BlockView A → Store K A T
+  with_block_content s i v = record s { nodes = record s.nodes { blocks = with_content s.nodes.blocks i v } }
+
+  abbrev pub op_edited : Store K A T → ℕ → (OpView K A → OpView K A) → Option (OpView K A) → Store K A T
+  op_edited s i f None = s
+  op_edited s i f (Some v) = with_op_content s i (f v)
+
+  abbrev pub block_edited : Store K A T → ℕ → (BlockView A → BlockView A) → Option (BlockView A) → Store K A T
+  block_edited s i f None = s
+  block_edited s i f (Some v) = with_block_content s i (f v)
+
+  -- what an operation holds has become f of what it held, and what a block holds likewise
+  abbrev pub with_op_edit : Store K A T → Ptr OperationKind → (OpView K A → OpView K A) → Store K A T
+  with_op_edit s p f = op_edited s p.slot f (op_at s p)
+
+  abbrev pub with_block_edit : Store K A T → Ptr BasicBlockKind → (BlockView A → BlockView A) → Store K A T
+  with_block_edit s p f = block_edited s p.slot f (block_at s p)
+
+  -- no live node has changed, and the types are the same
+  pub record SameLive (before now : Store K A T) : Type 0 where
+    pub nodes : SameNodes before.nodes now.nodes
+    pub types : now.types ≡ before.types

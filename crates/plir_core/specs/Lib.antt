@@ -1,0 +1,34 @@
+-- What the contracts of this crate cite.
+--
+--   Store        Store K A T: what contracts see of a context; is_live, given_out, num_live, kids, parent_of, first_kid,
+--                last_kid, next_sibling, prev_sibling, IsAncestor, depth; op_at, block_at and the parts of what they hold;
+--                is_value_live, type_of_value
+--   Contents     OpView K A, BlockView A: what operations and blocks hold
+--   Whole        IsWhole: what holds of every context
+--   Interfaces   implements: which interfaces a kind of operations implements
+--   Changes      what the calls that change a context make of it; SameLive: no live node has changed
+--   Edits        what they make of the nodes
+--   Nodes        the nodes with their slots, and the words of Store over them
+--   Forest       IsForest: the live nodes form a forest
+--   Above        climb, Reaches, depth: what stands above what
+--   Made         IsMade: a tree is new, and nothing else has changed
+--   Lends        what a `&mut` into a node leaves
+--   AttrHandles  attr_handles: the type handles that an attribute holds
+--   Erase        erased: the nodes without a tree; IsErased: what that leaves as it was
+--   Unused       IsUnusedOutside: nothing outside a tree uses a value or a block of it
+--   NodeLists    Has, Distinct, head: lists of nodes
+pub mod Above
+pub mod Nodes
+pub mod Forest
+pub mod Edits
+pub mod Lends
+pub mod Contents
+pub mod AttrHandles
+pub mod Store
+pub mod Whole
+pub mod Interfaces
+pub mod Changes
+pub mod Made
+pub mod NodeLists
+pub mod Erase
+pub mod Unused

@@ -1,0 +1,115 @@
+//! The context: all nodes and types of an IR.
+ghost use Rattle.std.specs.Prelude.{◌≡◌, ◌↔◌, ◌-◌, ◌^◌, [], IfOk, OnErr, IsTrue};
+ghost use Rattle.plir_data.specs.Types.{IsLive as IsTypeLive, AllLive, IsInstantiated, handles_of};
+ghost use Rattle.plir_data.specs.TypeSeen.{type_view};
+ghost use Rattle.plir_core.specs.Store.{Store, num_live, is_live};
+ghost use Rattle.plir_core.specs.Whole.{IsWhole};
+ghost use Rattle.plir_core.specs.Edits.{empty};
+
+use crate::arena::Arena;
+use crate::contents::{BlockData, OpData};
+use crate::ptr::IRNode;
+use plir_data::{Memory, OpSet, TypeHandle, TypeObj, TypeStore, TypeTable};
+use std::alloc::Global;
+use std::marker::Model;
+
+/// All nodes and types of an IR.
+#[derive(Drop)]
+pub struct Context<D: OpSet> {
+    pub(crate) nodes: Arena<OpData<D>, BlockData<D>>,
+    pub(crate) types: TypeTable<D>,
+}
+
+impl<D: OpSet> Model for Context<D> {
+    ghost use Rattle.plir_core.specs.Store.{Store};
+    ghost use Rattle.plir_core.specs.Whole.{IsWhole};
+
+    ghost Value = { Store D.Kind D.Attr D.Ty };
+
+    ghost use Rattle.std.specs.Coded.{codes};
+    ghost use Rattle.plir_data.specs.AttrCode.{attr_code};
+
+    ghost coded = { Prim.hlevel (codes, attr_code D.Attr.code) };
+
+    ghost view = { λ c. record { nodes = c.nodes; types = c.types } };
+
+    ghost invariant = { λ c. IsWhole D.attr_handles (record { nodes = c.nodes; types = c.types }) };
+}
+
+impl<D: OpSet> Context<D> {
+    /// An empty context with room for 4294967295 live nodes.
+    pub fn new(alloc: Global) -> Context<D>
+        ensures empty { result ≡ record { nodes = empty (2 ^ 32 - 1); types = [] } }
+        ensures whole { IsWhole D.attr_handles result }
+    {
+        Self::with_limit(alloc, u32::MAX)
+    }
+
+    /// An empty context with room for so many live nodes.
+    pub fn with_limit(alloc: Global, max_nodes: u32) -> Context<D>
+        ensures empty { result ≡ record { nodes = empty max_nodes; types = [] } }
+        ensures whole { IsWhole D.attr_handles result }
+    {
+        Context {
+            nodes: Arena::new(alloc, max_nodes),
+            types: TypeTable::new(alloc),
+        }
+    }
+
+    /// How many nodes are live.
+    pub fn num_live(&self) -> u32
+        ensures value { result ≡ num_live self.now }
+        ensures whole { IsWhole D.attr_handles self.now }
+    {
+        self.nodes.num_live()
+    }
+
+    /// Whether a type handle names a type of this context.
+    pub fn is_type_live(&self, handle: TypeHandle) -> bool
+        ensures value { IsTrue result ↔ IsTypeLive self.now.types handle }
+        ensures whole { IsWhole D.attr_handles self.now }
+    {
+        self.types.is_live(handle)
+    }
+}
+
+impl IRNode {
+    /// Whether the node is live.
+    pub fn is_live<D: OpSet>(self, ctx: &Context<D>) -> bool
+        ensures value { result ≡ is_live ctx.now self }
+        ensures whole { IsWhole D.attr_handles ctx.now }
+    {
+        ctx.nodes.is_live(self)
+    }
+}
+
+impl<D: OpSet> TypeStore<D> for Context<D> {
+    ghost use Rattle.std.specs.Prelude.{◌≡◌, refl};
+    ghost use Rattle.std.proofs.Common.{◌∙◌};
+
+    ghost types = { λ c. c.types };
+
+    ghost same_besides = { λ a b. b.nodes ≡ a.nodes };
+
+    fn types(&self) -> &TypeTable<D>
+        ensures value { result.now ≡ self.now.types }
+        ensures whole { IsWhole D.attr_handles self.now }
+    {
+        &self.types
+    }
+
+    fn instantiate(&mut self, value: TypeObj<D>) -> Result<TypeHandle, Memory>
+        requires { AllLive self.old.types (handles_of D.type_handles (type_view value)) }
+        ensures ok { IfOk result (λ h. IsInstantiated self.old.types (type_view value) h self.new.types) }
+        ensures err { OnErr result (self.new.types ≡ self.old.types) }
+        ensures rest { self.new.nodes ≡ self.old.nodes }
+        ensures whole { IsWhole D.attr_handles self.new }
+    {
+        let handle = self.types.instantiate(value)?;
+        Ok(handle)
+    }
+
+    ghost same_besides_itself = { λ c. refl };
+
+    ghost same_besides_on = { λ a b c p q. q ∙ p };
+}

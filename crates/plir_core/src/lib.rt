@@ -1,0 +1,23 @@
+//! The context: operations, regions and blocks, the values between them, and the calls that read and change them.
+#![tactic(auto)]
+
+mod arena;
+mod block;
+mod contents;
+mod context;
+mod erase;
+mod interface;
+mod making;
+mod moving;
+mod operation;
+mod ptr;
+mod region;
+mod removing;
+mod unused;
+mod value;
+
+pub use context::Context;
+pub use interface::{Interface, kind_impls, op_impls};
+pub use making::NodeErr;
+pub use ptr::{BasicBlock, IRNode, Operation, Ptr, Region};
+pub use value::{DefiningEntity, Value};

@@ -1,0 +1,264 @@
+//! Calls on operations.
+ghost use Rattle.std.specs.Prelude.{◌≡◌, ◌<◌, ◌+◌, ◌-◌, ◌^◌, ◌≤◌, ◌⊎◌, ℕ, All, [], Some, None, OnOk, OnErr, IfOk, IfSome, length, slice_get, option_map, true, false};
+ghost use Rattle.plir_data.specs.Types.{AllLive};
+ghost use Rattle.plir_data.specs.AttrSeen.{attr_view};
+ghost use Rattle.plir_data.specs.Dictionary.{dict_put};
+ghost use Rattle.plir_store.specs.Table.{next_slot};
+ghost use Rattle.plir_core.specs.Made.{IsMade};
+ghost use Rattle.plir_core.specs.Nodes.{ptr_at};
+ghost use Rattle.plir_core.specs.AttrHandles.{attr_handles};
+ghost use Rattle.plir_core.specs.Store.{IsLive, IsValueLive, IsAncestor, is_live, kids, parent_of, op_above, first_kid, last_kid, next_sibling, prev_sibling, kind_of, result_types_of, operands_of, successors_of, attributes_of, given_out, num_live, limit};
+ghost use Rattle.plir_core.specs.Whole.{IsWhole};
+ghost use Rattle.plir_core.specs.Changes.{with_op_edit, with_op_last, with_op, SameLive};
+ghost use Rattle.plir_data.specs.declared.location.Location.{Location};
+ghost use Rattle.plir_core.specs.declared.ptr.IRNode.{IRNode};
+ghost use Rattle.plir_core.specs.declared.value.DefiningEntity.{DefiningEntity};
+
+use crate::contents::OpData;
+use crate::context::Context;
+use crate::making::NodeErr;
+use crate::ptr::{BasicBlock, IRNode, Operation, Ptr, Region};
+use crate::value::{DefiningEntity, Value};
+use plir_data::{AttrObj, AttributeDict, Identifier, Location, Memory, OpKind, OpSet, TypeHandle};
+use std::alloc::Global;
+
+impl Operation {
+    /// A new operation in no block, with so many new regions. `TooManyNodes` comes only where the limit of live nodes would be
+    /// passed, or the slot numbers of operations or regions are spent. After a refusal no live node has changed.
+    pub fn new<D: OpSet>(
+        alloc: Global,
+        ctx: &mut Context<D>,
+        kind: OpKind<D::Kind>,
+        result_types: Vec<TypeHandle>,
+        operands: Vec<Value>,
+        successors: Vec<Ptr<BasicBlock>>,
+        num_regions: usize,
+    ) -> Result<Ptr<Operation>, NodeErr>
+        requires types_live { AllLive ctx.old.types result_types.items }
+        requires operands_live { All (IsValueLive ctx.old) operands.items }
+        requires successors_live { All (λ b. IsLive ctx.old (IRNode.BasicBlock b)) successors.items }
+        ensures ok { OnOk result (ctx.new ≡ with_op ctx.old (record { kind = kind; result_types = result_types.items; operands = operands.items; successors = successors.items; attributes = []; location = Location.Unknown }) num_regions) }
+        ensures pointer { IfOk result (λ p. p ≡ ptr_at ctx.new.nodes.ops (next_slot ctx.old.nodes.ops)) }
+        ensures live { IfOk result (λ p. IsLive ctx.new (IRNode.Operation p)) }
+        ensures fresh { IfOk result (λ p. given_out ctx.old (IRNode.Operation p) ≡ false) }
+        ensures given { (n : IRNode) → given_out ctx.old n ≡ true → given_out ctx.new n ≡ true }
+        ensures made { IfOk result (λ p. IsMade ctx.old.nodes ctx.new.nodes (IRNode.Operation p)) }
+        ensures err { OnErr result (SameLive ctx.old ctx.new) }
+        ensures too_many { limit ctx.old < num_live ctx.old + 1 + num_regions → result ≡ Err NodeErr.TooManyNodes }
+        ensures too_many_only { result ≡ Err NodeErr.TooManyNodes → (limit ctx.old < num_live ctx.old + 1 + num_regions) ⊎ ((2 ^ 32 - 1 ≤ next_slot ctx.old.nodes.ops) ⊎ (2 ^ 32 - 1 + length ctx.old.nodes.regions.free < length ctx.old.nodes.regions.slots + num_regions)) }
+        ensures whole { IsWhole D.attr_handles ctx.new }
+    {
+        let data = OpData {
+            kind,
+            result_types,
+            operands,
+            successors,
+            attributes: AttributeDict::new(alloc),
+            location: Location::Unknown,
+        };
+        let op = ctx.nodes.make_op_with_regions(data, num_regions)?;
+        Ok(op)
+    }
+}
+
+impl Ptr<Operation> {
+    /// Whether the operation is live.
+    pub fn is_live<D: OpSet>(self, ctx: &Context<D>) -> bool
+        ensures value { result ≡ is_live ctx.now (IRNode.Operation self) }
+        ensures whole { IsWhole D.attr_handles ctx.now }
+    {
+        ctx.nodes.is_live(IRNode::Operation(self))
+    }
+
+    /// The block that the operation stands in.
+    pub fn get_parent_block<D: OpSet>(self, ctx: &Context<D>) -> Option<Ptr<BasicBlock>>
+        requires { IsLive ctx.now (IRNode.Operation self) }
+        ensures value { option_map IRNode.BasicBlock result ≡ parent_of ctx.now (IRNode.Operation self) }
+        ensures whole { IsWhole D.attr_handles ctx.now }
+    {
+        ctx.nodes.parent_of_op(self)
+    }
+
+    /// The operation that holds the block that the operation stands in.
+    pub fn get_parent_op<D: OpSet>(self, ctx: &Context<D>) -> Option<Ptr<Operation>>
+        requires { IsLive ctx.now (IRNode.Operation self) }
+        ensures value { option_map IRNode.Operation result ≡ op_above ctx.now (IRNode.Operation self) }
+        ensures whole { IsWhole D.attr_handles ctx.now }
+    {
+        match self.get_parent_block(ctx) {
+            None => None,
+            Some(block) => block.get_parent_op(ctx),
+        }
+    }
+
+    /// The operation right after this one in its block.
+    pub fn get_next<D: OpSet>(self, ctx: &Context<D>) -> Option<Ptr<Operation>>
+        requires { IsLive ctx.now (IRNode.Operation self) }
+        ensures value { option_map IRNode.Operation result ≡ next_sibling ctx.now (IRNode.Operation self) }
+        ensures whole { IsWhole D.attr_handles ctx.now }
+    {
+        ctx.nodes.next_op(self)
+    }
+
+    /// The operation right before this one in its block.
+    pub fn get_prev<D: OpSet>(self, ctx: &Context<D>) -> Option<Ptr<Operation>>
+        requires { IsLive ctx.now (IRNode.Operation self) }
+        ensures value { option_map IRNode.Operation result ≡ prev_sibling ctx.now (IRNode.Operation self) }
+        ensures whole { IsWhole D.attr_handles ctx.now }
+    {
+        ctx.nodes.prev_op(self)
+    }
+
+    /// The first region of the operation.
+    pub fn first_region<D: OpSet>(self, ctx: &Context<D>) -> Option<Ptr<Region>>
+        requires { IsLive ctx.now (IRNode.Operation self) }
+        ensures value { option_map IRNode.Region result ≡ first_kid ctx.now (IRNode.Operation self) }
+        ensures whole { IsWhole D.attr_handles ctx.now }
+    {
+        ctx.nodes.first_region(self)
+    }
+
+    /// The last region of the operation.
+    pub fn last_region<D: OpSet>(self, ctx: &Context<D>) -> Option<Ptr<Region>>
+        requires { IsLive ctx.now (IRNode.Operation self) }
+        ensures value { option_map IRNode.Region result ≡ last_kid ctx.now (IRNode.Operation self) }
+        ensures whole { IsWhole D.attr_handles ctx.now }
+    {
+        ctx.nodes.last_region(self)
+    }
+
+    /// How many regions the operation has.
+    pub fn num_regions<D: OpSet>(self, ctx: &Context<D>) -> usize
+        requires { IsLive ctx.now (IRNode.Operation self) }
+        ensures value { result ≡ length (kids ctx.now (IRNode.Operation self)) }
+        ensures whole { IsWhole D.attr_handles ctx.now }
+    {
+        ctx.nodes.num_regions(self)
+    }
+
+    /// The region at a place, from 0, among those of the operation.
+    pub fn get_region<D: OpSet>(self, ctx: &Context<D>, i: usize) -> Ptr<Region>
+        requires live { IsLive ctx.now (IRNode.Operation self) }
+        requires below { i < length (kids ctx.now (IRNode.Operation self)) }
+        ensures value { slice_get (kids ctx.now (IRNode.Operation self)) i ≡ Some (IRNode.Region result) }
+        ensures whole { IsWhole D.attr_handles ctx.now }
+    {
+        ctx.nodes.region(self, i)
+    }
+
+    /// The kind of the operation.
+    pub fn kind<D: OpSet>(self, ctx: &Context<D>) -> OpKind<D::Kind>
+        requires { IsLive ctx.now (IRNode.Operation self) }
+        ensures value { kind_of ctx.now self ≡ Some result }
+        ensures whole { IsWhole D.attr_handles ctx.now }
+    {
+        ctx.nodes.op(self).kind
+    }
+
+    /// How many results the operation has.
+    pub fn get_num_results<D: OpSet>(self, ctx: &Context<D>) -> usize
+        requires { IsLive ctx.now (IRNode.Operation self) }
+        ensures value { result ≡ length (result_types_of ctx.now self) }
+        ensures whole { IsWhole D.attr_handles ctx.now }
+    {
+        ctx.nodes.op(self).result_types.len()
+    }
+
+    /// The type of the result at a place, from 0.
+    pub fn get_type<D: OpSet>(self, ctx: &Context<D>, i: usize) -> TypeHandle
+        requires live { IsLive ctx.now (IRNode.Operation self) }
+        requires below { i < length (result_types_of ctx.now self) }
+        ensures value { slice_get (result_types_of ctx.now self) i ≡ Some result }
+        ensures whole { IsWhole D.attr_handles ctx.now }
+    {
+        ctx.nodes.op(self).result_types[i]
+    }
+
+    /// The result at a place, from 0.
+    pub fn get_result<D: OpSet>(self, ctx: &Context<D>, i: usize) -> Value
+        requires live { IsLive ctx.now (IRNode.Operation self) }
+        requires below { i < length (result_types_of ctx.now self) }
+        ensures value { result ≡ record { entity = DefiningEntity.Op self; index = i } }
+        ensures live { IsValueLive ctx.now result }
+        ensures whole { IsWhole D.attr_handles ctx.now }
+    {
+        let _types = &ctx.types;
+        Value::new(DefiningEntity::Op(self), i)
+    }
+
+    /// How many operands the operation has.
+    pub fn get_num_operands<D: OpSet>(self, ctx: &Context<D>) -> usize
+        requires { IsLive ctx.now (IRNode.Operation self) }
+        ensures value { result ≡ length (operands_of ctx.now self) }
+        ensures whole { IsWhole D.attr_handles ctx.now }
+    {
+        ctx.nodes.op(self).operands.len()
+    }
+
+    /// The operand at a place, from 0.
+    pub fn get_operand<D: OpSet>(self, ctx: &Context<D>, i: usize) -> Value
+        requires live { IsLive ctx.now (IRNode.Operation self) }
+        requires below { i < length (operands_of ctx.now self) }
+        ensures value { slice_get (operands_of ctx.now self) i ≡ Some result }
+        ensures whole { IsWhole D.attr_handles ctx.now }
+    {
+        ctx.nodes.op(self).operands[i]
+    }
+
+    /// How many successors the operation has.
+    pub fn get_num_successors<D: OpSet>(self, ctx: &Context<D>) -> usize
+        requires { IsLive ctx.now (IRNode.Operation self) }
+        ensures value { result ≡ length (successors_of ctx.now self) }
+        ensures whole { IsWhole D.attr_handles ctx.now }
+    {
+        ctx.nodes.op(self).successors.len()
+    }
+
+    /// The successor at a place, from 0.
+    pub fn get_successor<D: OpSet>(self, ctx: &Context<D>, i: usize) -> Ptr<BasicBlock>
+        requires live { IsLive ctx.now (IRNode.Operation self) }
+        requires below { i < length (successors_of ctx.now self) }
+        ensures value { slice_get (successors_of ctx.now self) i ≡ Some result }
+        ensures whole { IsWhole D.attr_handles ctx.now }
+    {
+        ctx.nodes.op(self).successors[i]
+    }
+
+    /// The attributes of the operation.
+    pub fn attributes<D: OpSet>(self, ctx: &Context<D>) -> &AttributeDict<D>
+        requires { IsLive ctx.now (IRNode.Operation self) }
+        ensures value { result.now ≡ attributes_of ctx.now self }
+        ensures whole { IsWhole D.attr_handles ctx.now }
+    {
+        &ctx.nodes.op(self).attributes
+    }
+
+    /// Puts an attribute under a key, in place of what was there. After a refusal all is as before.
+    pub fn set_attr<D: OpSet>(
+        self,
+        ctx: &mut Context<D>,
+        key: Identifier,
+        value: AttrObj<D>,
+    ) -> Result<(), Memory>
+        requires live { IsLive ctx.old (IRNode.Operation self) }
+        requires handles { AllLive ctx.old.types (attr_handles D.attr_handles (attr_view value)) }
+        ensures ok { OnOk result (ctx.new ≡ with_op_edit ctx.old self (λ o. record o { attributes = dict_put o.attributes key (attr_view value) })) }
+        ensures err { OnErr result (ctx.new ≡ ctx.old) }
+        ensures whole { IsWhole D.attr_handles ctx.new }
+    {
+        ctx.nodes.op_mut(self).attributes.insert(key, value)?;
+        Ok(())
+    }
+
+    /// Puts an operation that is in no block at the end of a block that it does not stand above.
+    pub fn insert_at_back<D: OpSet>(self, block: Ptr<BasicBlock>, ctx: &mut Context<D>)
+        requires live { IsLive ctx.old (IRNode.Operation self) }
+        requires target_live { IsLive ctx.old (IRNode.BasicBlock block) }
+        requires unlinked { parent_of ctx.old (IRNode.Operation self) ≡ None }
+        requires not_above { IsAncestor ctx.old (IRNode.Operation self) (IRNode.BasicBlock block) → ⊥ }
+        ensures after { ctx.new ≡ with_op_last ctx.old self block }
+        ensures whole { IsWhole D.attr_handles ctx.new }
+    {
+        ctx.nodes.push_op(self, block);
+    }
+}

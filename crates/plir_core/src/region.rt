@@ -1,0 +1,64 @@
+//! Calls on regions.
+ghost use Rattle.std.specs.Prelude.{◌≡◌, option_map};
+ghost use Rattle.plir_core.specs.Store.{IsLive, is_live, parent_of, first_kid, last_kid, next_sibling, prev_sibling};
+ghost use Rattle.plir_core.specs.Whole.{IsWhole};
+ghost use Rattle.plir_core.specs.declared.ptr.IRNode.{IRNode};
+
+use crate::context::Context;
+use crate::ptr::{BasicBlock, IRNode, Operation, Ptr, Region};
+use plir_data::OpSet;
+
+impl Ptr<Region> {
+    /// Whether the region is live.
+    pub fn is_live<D: OpSet>(self, ctx: &Context<D>) -> bool
+        ensures value { result ≡ is_live ctx.now (IRNode.Region self) }
+        ensures whole { IsWhole D.attr_handles ctx.now }
+    {
+        ctx.nodes.is_live(IRNode::Region(self))
+    }
+
+    /// The operation that the region belongs to; each live region has one.
+    pub fn get_parent_op<D: OpSet>(self, ctx: &Context<D>) -> Option<Ptr<Operation>>
+        requires { IsLive ctx.now (IRNode.Region self) }
+        ensures value { option_map IRNode.Operation result ≡ parent_of ctx.now (IRNode.Region self) }
+        ensures whole { IsWhole D.attr_handles ctx.now }
+    {
+        ctx.nodes.parent_of_region(self)
+    }
+
+    /// The region right after this one in its operation.
+    pub fn get_next<D: OpSet>(self, ctx: &Context<D>) -> Option<Ptr<Region>>
+        requires { IsLive ctx.now (IRNode.Region self) }
+        ensures value { option_map IRNode.Region result ≡ next_sibling ctx.now (IRNode.Region self) }
+        ensures whole { IsWhole D.attr_handles ctx.now }
+    {
+        ctx.nodes.next_region(self)
+    }
+
+    /// The region right before this one in its operation.
+    pub fn get_prev<D: OpSet>(self, ctx: &Context<D>) -> Option<Ptr<Region>>
+        requires { IsLive ctx.now (IRNode.Region self) }
+        ensures value { option_map IRNode.Region result ≡ prev_sibling ctx.now (IRNode.Region self) }
+        ensures whole { IsWhole D.attr_handles ctx.now }
+    {
+        ctx.nodes.prev_region(self)
+    }
+
+    /// The first block of the region.
+    pub fn get_head<D: OpSet>(self, ctx: &Context<D>) -> Option<Ptr<BasicBlock>>
+        requires { IsLive ctx.now (IRNode.Region self) }
+        ensures value { option_map IRNode.BasicBlock result ≡ first_kid ctx.now (IRNode.Region self) }
+        ensures whole { IsWhole D.attr_handles ctx.now }
+    {
+        ctx.nodes.first_block(self)
+    }
+
+    /// The last block of the region.
+    pub fn get_tail<D: OpSet>(self, ctx: &Context<D>) -> Option<Ptr<BasicBlock>>
+        requires { IsLive ctx.now (IRNode.Region self) }
+        ensures value { option_map IRNode.BasicBlock result ≡ last_kid ctx.now (IRNode.Region self) }
+        ensures whole { IsWhole D.attr_handles ctx.now }
+    {
+        ctx.nodes.last_block(self)
+    }
+}

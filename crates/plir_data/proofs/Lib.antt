@@ -1,0 +1,3 @@
+pub mod Dictionaries
+pub mod Tables
+pub mod TypeTrees

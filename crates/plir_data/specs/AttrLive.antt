@@ -1,0 +1,28 @@
+-- Attributes whose handles name types of a table.
+use Rattle.std.specs.Prelude.{ℕ, List, [], ◌∷◌}
+use Rattle.plir_data.specs.Types.{TypeView, AllLive}
+use Rattle.plir_data.specs.AttrView.{Leaf, identifier, string, bool, integer, unit, type_of, operand_segment_sizes, given_names, own, AttrView, leaf, dict, vec, Items, no_items, item, Entries, no_entries, entry}
+
+module _ {A : Type 0} where
+  -- the type handles in a leaf
+  abbrev pub leaf_handles : (own_handles : A → List ℕ) → Leaf A → List ℕ
+  leaf_handles own_handles (integer t w b) = t ∷ []
+  leaf_handles own_handles (type_of t) = t ∷ []
+  leaf_handles own_handles (own a) = own_handles a
+  leaf_handles own_handles _ = []
+
+module _ {A T : Type 0} where
+  -- all type handles in an attribute name types of the table
+  abbrev mutual
+    pub IsAttrLive : (own_handles : A → List ℕ) → List (TypeView T) → AttrView A → Type 0
+    IsAttrLive own_handles types (leaf x) = AllLive types (leaf_handles own_handles x)
+    IsAttrLive own_handles types (dict es) = AreEntriesLive own_handles types es
+    IsAttrLive own_handles types (vec xs) = AreItemsLive own_handles types xs
+
+    pub AreItemsLive : (own_handles : A → List ℕ) → List (TypeView T) → Items A → Type 0
+    AreItemsLive own_handles types no_items = Unit {0}
+    AreItemsLive own_handles types (item x xs) = IsAttrLive own_handles types x × AreItemsLive own_handles types xs
+
+    pub AreEntriesLive : (own_handles : A → List ℕ) → List (TypeView T) → Entries A → Type 0
+    AreEntriesLive own_handles types no_entries = Unit {0}
+    AreEntriesLive own_handles types (entry k x es) = IsAttrLive own_handles types x × AreEntriesLive own_handles types es

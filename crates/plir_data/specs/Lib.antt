@@ -1,0 +1,31 @@
+-- What the contracts of this crate cite.
+--
+--   Identifier   is_identifier
+--   Types        TypeView T: a type as contracts see it; IsLive, AllLive, type_at, handles_of, IsInstantiated, IsTypeTable
+--   Integers     bits_of, signed_of, literal: integers of some bits, as numbers and as digits
+--   TypeSeen     type_view: a `TypeObj` as a TypeView
+--   Verify       IsVerdict: what a verifier answers
+--   AttrView     AttrView A: an attribute as contracts see it, with its leaves, items and entries
+--   AttrSeen     attr_view: an `AttrObj` as an AttrView
+--   Dictionary   dict_get, dict_put, dict_without, IsDictionary: entries in ascending order of their keys
+--   DictSeen     a map of attributes as its entries
+--   AttrDepth    how deep attributes stand in one another
+--   AttrCode, AttrFalls   what the prover needs of attributes that hold attributes
+pub mod Identifier
+pub mod Types
+pub mod Integers
+pub mod TypeSeen
+pub mod Verify
+pub mod AttrView
+pub mod AttrCode
+pub mod AttrDepth
+pub mod AttrSeen
+pub mod DictSeen
+pub mod AttrFalls
+pub mod Dictionary
+pub mod AttrCalls
+pub mod AttrEq
+pub mod AttrLaws
+pub mod AttrLive
+pub mod TypeTree
+pub mod TypeText

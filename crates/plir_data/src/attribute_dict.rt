@@ -1,0 +1,104 @@
+//! Attributes under keys.
+
+ghost use Rattle.std.specs.Prelude.{◌≡◌, ◌↔◌, ℕ, List, [], Option, Some, None, OnOk, OnErr, IfOk, IfSome, IsTrue, length, option_map};
+ghost use Rattle.plir_data.specs.AttrSeen.{attr_view};
+ghost use Rattle.plir_data.specs.DictSeen.{pairs_view};
+ghost use Rattle.plir_data.specs.Dictionary.{dict_get, dict_put, dict_without, IsDictionary};
+
+use crate::attributes::AttrObj;
+use crate::identifier::Identifier;
+use crate::memory::Memory;
+use crate::op_set::OpSet;
+use std::alloc::Global;
+use std::collections::btree_map::{BTreeMap, Iter};
+use std::marker::Model;
+
+/// Attributes under keys, in ascending order of the keys' bytes.
+#[cycle(attr)]
+#[derive(Drop)]
+pub struct AttributeDict<D: OpSet> {
+    pub(crate) entries: BTreeMap<String, AttrObj<D>>,
+}
+
+impl<D: OpSet> Model for AttributeDict<D> {
+    ghost use Rattle.std.specs.Prelude.{List, ℕ, map};
+    ghost use Rattle.std.proofs.Common.{arith};
+    ghost use Rattle.std.specs.Coded.{coded_list, coded×, coded_ℕ};
+    ghost use Rattle.plir_data.specs.AttrView.{AttrView};
+    ghost use Rattle.plir_data.specs.AttrCode.{attr_code};
+
+    ghost Value = { List (List ℕ × AttrView D.Attr) };
+
+    ghost coded = { coded_list (coded× (coded_list coded_ℕ) (attr_code D.Attr.code)) };
+
+    ghost use Rattle.plir_data.specs.AttrDepth.{entries_bulk};
+    ghost use Rattle.plir_data.specs.DictSeen.{dict_view};
+    ghost use Rattle.plir_data.specs.Dictionary.{IsDictionary};
+
+    ghost view = { λ d. dict_view d.entries };
+
+    ghost invariant = { λ d. IsDictionary (dict_view d.entries) };
+
+    ghost size = { entries_bulk };
+
+    ghost use Rattle.plir_data.specs.AttrFalls.{deep_le, most_entries};
+
+    ghost size_decreases = { λ a h. omega (arith, most_entries _ (deep_le D.OpSet D.Attr.PartialEq D.Attr.Hash D.Attr.Debug D.Ty.PartialEq D.Ty.Hash D.Ty.Debug D.Err.Debug D.Err.Display) a.entries.entries) };
+}
+
+impl<D: OpSet> AttributeDict<D> {
+    /// No attributes.
+    pub fn new(alloc: Global) -> AttributeDict<D>
+        ensures { result ≡ [] }
+    {
+        AttributeDict {
+            entries: BTreeMap::new(alloc),
+        }
+    }
+
+    /// The number of attributes.
+    pub fn len(&self) -> usize
+        ensures { result ≡ length self.now }
+    {
+        self.entries.len()
+    }
+
+    /// Whether there are no attributes.
+    pub fn is_empty(&self) -> bool
+        ensures { IsTrue result ↔ (self.now ≡ []) }
+    {
+        self.entries.is_empty()
+    }
+
+    /// The attribute under a key.
+    pub fn get(&self, key: &str) -> Option<&AttrObj<D>>
+        ensures { option_map (λ a. attr_view a.now) result ≡ dict_get self.now key.now }
+    {
+        self.entries.get(key)
+    }
+
+    /// Puts an attribute under a key, in place of what was there.
+    pub fn insert(&mut self, key: Identifier, value: AttrObj<D>) -> Result<(), Memory>
+        ensures ok { OnOk result (self.new ≡ dict_put self.old key (attr_view value)) }
+        ensures err { OnErr result (self.new ≡ self.old) }
+    {
+        self.entries.insert(key.into_string(), value)?;
+        Ok(())
+    }
+
+    /// Takes the attribute under a key out.
+    pub fn remove(&mut self, key: &str) -> Option<AttrObj<D>>
+        ensures taken { option_map (λ a. attr_view a) result ≡ dict_get self.old key.now }
+        ensures left { self.new ≡ dict_without self.old key.now }
+    {
+        self.entries.remove(key)
+    }
+
+    /// The keys with their attributes, in ascending order of the keys' bytes.
+    pub fn iter(&self) -> Iter<'_, String, AttrObj<D>>
+        ensures entries { pairs_view result ≡ self.now }
+        ensures whole { IsDictionary self.now }
+    {
+        self.entries.iter()
+    }
+}

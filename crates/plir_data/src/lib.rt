@@ -1,0 +1,34 @@
+//! The data that an IR is made of: names, places, types and attributes, and the set of a user's own.
+#![tactic(auto)]
+
+mod ap_int;
+mod attr_interfaces;
+mod attribute_dict;
+mod attributes;
+mod identifier;
+mod location;
+mod memory;
+mod op_set;
+mod type_store;
+mod type_table;
+mod typed_handle;
+mod types;
+
+pub use ap_int::APInt;
+pub use attr_interfaces::{OutlinedAttr, PrintOnceAttr, Typed, TypedAttrInterface};
+pub use attribute_dict::AttributeDict;
+pub use attributes::{
+    AttrObj, BoolAttr, DictAttr, GivenNamesAttr, IdentifierAttr, IntegerAttr,
+    OperandSegmentSizesAttr, StringAttr, TypeAttr, UnitAttr, VecAttr,
+};
+pub use identifier::{Identifier, IdentifierErr, is_identifier};
+pub use location::{Location, VerifyErr};
+pub use memory::Memory;
+pub use op_set::{OpKind, OpSet};
+pub use type_store::TypeStore;
+pub use type_table::TypeTable;
+pub use typed_handle::{FunctionTypeMark, TypeInterfaceMark, TypeMark, TypedHandle};
+pub use types::{
+    FunctionType, FunctionTypeInterface, IntegerType, Signedness, TypeHandle, TypeObj, TypeSig,
+    UnitType,
+};

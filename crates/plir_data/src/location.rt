@@ -1,0 +1,27 @@
+//! Places in a source text, and the refusals of verifiers.
+
+use crate::memory::Memory;
+
+/// Where something stands in a source text.
+#[derive(Clone, Copy, PartialEq, Eq, Hash, Debug)]
+pub enum Location {
+    /// No place is known.
+    Unknown,
+    /// A place in a text, both numbers counted from 1.
+    SrcPos { line: u32, column: u32 },
+}
+
+/// Why a verifier did not accept.
+#[derive(PartialEq, Eq, Drop, Debug)]
+pub enum VerifyErr<E> {
+    /// A rule is broken: where, and which.
+    Refused { loc: Location, err: E },
+    /// The text of the refusal could not be made.
+    Memory,
+}
+
+impl<E> From<Memory> for VerifyErr<E> {
+    fn from(_refused: Memory) -> VerifyErr<E> {
+        VerifyErr::Memory
+    }
+}

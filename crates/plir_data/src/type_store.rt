@@ -1,0 +1,34 @@
+//! Where types are kept: each once, named by a handle.
+
+ghost use Rattle.std.specs.Prelude.{◌≡◌, ◌↔◌, ℕ, List, Option, Some, OnErr, IfOk, IsTrue};
+ghost use Rattle.plir_data.specs.Types.{TypeView, IsLive, AllLive, IsInstantiated, handles_of, type_at};
+ghost use Rattle.plir_data.specs.TypeSeen.{type_view};
+
+use crate::memory::Memory;
+use crate::op_set::OpSet;
+use crate::type_table::TypeTable;
+use crate::types::{TypeHandle, TypeObj};
+
+/// A type table, or what holds one.
+pub trait TypeStore<D: OpSet> {
+    // The types, in order of creation.
+    ghost types: { Self → List (TypeView D.Ty) };
+
+    // Nothing but the types may differ.
+    ghost same_besides: { Self → Self → Type 0 };
+
+    /// The table of types.
+    fn types(&self) -> &TypeTable<D>
+        ensures { result.now ≡ types self.now };
+
+    /// The handle of a type: if the table hasn't it yet, it comes last. Nothing else changes, and after a refusal nothing at all.
+    fn instantiate(&mut self, value: TypeObj<D>) -> Result<TypeHandle, Memory>
+        requires { AllLive (types self.old) (handles_of D.type_handles (type_view value)) }
+        ensures ok { IfOk result (λ h. IsInstantiated (types self.old) (type_view value) h (types self.new)) }
+        ensures err { OnErr result (types self.new ≡ types self.old) }
+        ensures rest { same_besides self.old self.new };
+
+    ghost same_besides_itself: { (c : Self) → same_besides c c };
+
+    ghost same_besides_on: { (a b c : Self) → same_besides a b → same_besides b c → same_besides a c };
+}

@@ -1,0 +1,108 @@
+//! The table of types.
+
+ghost use Rattle.std.specs.Prelude.{◌≡◌, ◌↔◌, ℕ, List, [], Option, Some, OnErr, IfOk, IsTrue, length, slice_get, ⊤};
+ghost use Rattle.plir_data.specs.Types.{TypeView, IsLive, AllLive, IsInstantiated, IsTypeTable, IsGrown, handles_of, type_at};
+ghost use Rattle.plir_data.specs.TypeSeen.{type_view};
+
+use crate::memory::Memory;
+use crate::op_set::OpSet;
+use crate::type_store::TypeStore;
+use crate::types::{TypeHandle, TypeObj};
+use indexmap::IndexSet;
+use std::alloc::Global;
+use std::marker::Model;
+
+/// Types, each once, in order of creation. A type is looked up by its hash.
+#[derive(Drop)]
+pub struct TypeTable<D: OpSet> {
+    objects: IndexSet<TypeObj<D>>,
+}
+
+impl<D: OpSet> Model for TypeTable<D> {
+    ghost use Rattle.std.specs.Prelude.{List, map};
+    ghost use Rattle.plir_data.specs.Types.{TypeView, IsTypeTable};
+    ghost use Rattle.plir_data.specs.TypeSeen.{type_view};
+
+    ghost Value = { List (TypeView D.Ty) };
+
+    ghost view = { λ t. map type_view t.objects.keys };
+
+    ghost invariant = { λ t. IsTypeTable D.type_handles (map type_view t.objects.keys) };
+}
+
+impl<D: OpSet> TypeTable<D> {
+    /// No types.
+    pub fn new(alloc: Global) -> TypeTable<D>
+        ensures { result ≡ [] }
+    {
+        TypeTable {
+            objects: IndexSet::new(alloc),
+        }
+    }
+
+    /// The number of types.
+    pub fn len(&self) -> usize
+        ensures { result ≡ length self.now }
+    {
+        self.objects.len()
+    }
+
+    /// Whether there is no type.
+    pub fn is_empty(&self) -> bool
+        ensures { IsTrue result ↔ (self.now ≡ []) }
+    {
+        self.objects.is_empty()
+    }
+
+    /// Whether a handle names a type of this table.
+    pub fn is_live(&self, handle: TypeHandle) -> bool
+        ensures { IsTrue result ↔ IsLive self.now handle }
+    {
+        handle.index() < self.objects.len()
+    }
+
+    /// The type that a handle names.
+    pub fn get(&self, handle: TypeHandle) -> &TypeObj<D>
+        requires { IsLive self.now handle }
+        ensures found { type_at self.now handle ≡ Some (type_view result.now) }
+        ensures whole { IsTypeTable D.type_handles self.now }
+    {
+        self.objects.get_index(handle.index()).unwrap()
+    }
+}
+
+// The place of a type among those of a table; one that isn't there yet comes last.
+fn add<D: OpSet>(objects: &mut IndexSet<TypeObj<D>>, value: TypeObj<D>) -> Result<usize, Memory>
+    ensures place { IfOk result (λ i. slice_get objects.new.keys i ≡ Some value) }
+    ensures grown { IsGrown objects.old.keys value objects.new.keys }
+    ensures err { OnErr result (objects.new.keys ≡ objects.old.keys) }
+{
+    let (index, _) = objects.insert_full(value)?;
+    Ok(index)
+}
+
+impl<D: OpSet> TypeStore<D> for TypeTable<D> {
+    ghost use Rattle.std.specs.Prelude.{⊤};
+
+    ghost types = { λ t. t };
+
+    ghost same_besides = { λ _ _. ⊤ };
+
+    fn types(&self) -> &TypeTable<D> {
+        self
+    }
+
+    fn instantiate(&mut self, value: TypeObj<D>) -> Result<TypeHandle, Memory>
+        requires { AllLive self.old (handles_of D.type_handles (type_view value)) }
+        ensures ok { IfOk result (λ h. IsInstantiated self.old (type_view value) h self.new) }
+        ensures err { OnErr result (self.new ≡ self.old) }
+        ensures rest { ⊤ }
+    {
+        let index = add(&mut self.objects, value)?;
+        Ok(TypeHandle::new(index))
+    }
+
+    ghost same_besides_itself = { λ c. tt };
+
+    ghost same_besides_on = { λ a b c p q. tt };
+}

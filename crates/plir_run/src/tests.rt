@@ -1,0 +1,267 @@
+//! Scripts and what they write.
+use crate::run::run_script;
+use std::alloc::Global;
+use std::io::{self, ErrorKind, Read, Write};
+use std::process::Abort;
+use std::test::Fail;
+
+/// Runs a script from memory to memory.
+fn run(alloc: Global, script: &[u8]) -> (u8, Vec<u8>) {
+    let mut written = Vec::new(alloc);
+    let status = run_script(alloc, script, &mut written);
+    (status, written)
+}
+
+/// A script writes this text and ends with this status.
+fn expect_run(rt: &impl Abort, alloc: Global, script: &[u8], text: &str, status: u8) {
+    let (found, written) = run(alloc, script);
+    assert_eq!(rt; written.as_slice(), text.as_bytes());
+    assert_eq!(rt; found, status);
+}
+
+#[test]
+fn a_walk_prints_each_node_in_order(rt: HostRuntime) {
+    let alloc = rt.alloc();
+    expect_run(
+        &rt,
+        alloc,
+        b"module m\nfunc f1\nfunc f2\nend\nwalk pre fwd\n",
+        "op m\nregion of m\nblock of m\nop f1\nregion of f1\nblock of f1\nop f2\nregion of f2\nblock of f2\nadvance\n",
+        0,
+    );
+    expect_run(
+        &rt,
+        alloc,
+        b"module m\nfunc f1\nfunc f2\nwalk post rev",
+        "block of f2\nregion of f2\nop f2\nblock of f1\nregion of f1\nop f1\nblock of m\nregion of m\nop m\nadvance\n",
+        0,
+    );
+    expect_run(
+        &rt,
+        alloc,
+        b"module m\nmodule n\nend\nfunc f\nwalk pre rev\nwalk post fwd\n",
+        "op m\nregion of m\nblock of m\nop f\nregion of f\nblock of f\nop n\nregion of n\nblock of n\nadvance\nblock of n\nregion of n\nop n\nblock of f\nregion of f\nop f\nblock of m\nregion of m\nop m\nadvance\n",
+        0,
+    );
+}
+
+#[test]
+fn an_empty_script_writes_nothing(rt: HostRuntime) {
+    let alloc = rt.alloc();
+    expect_run(&rt, alloc, b"", "", 0);
+    expect_run(&rt, alloc, b"\n\n\n", "", 0);
+    expect_run(&rt, alloc, b"module m", "", 0);
+}
+
+#[test]
+fn what_is_no_command_or_cannot_be_done_is_refused(rt: HostRuntime) {
+    let alloc = rt.alloc();
+    let first_lines: [&[u8]; 18] = [
+        b"func f",
+        b"end",
+        b"walk pre fwd",
+        b"modul m",
+        b"module",
+        b"module ",
+        b"module  m",
+        b"module m ",
+        b"module m n",
+        b" module m",
+        b"module 1m",
+        b"module m-n",
+        b"end ",
+        b"walk",
+        b"walk pre",
+        b"text",
+        b"module \xff",
+        b"end\r",
+    ];
+    for line in first_lines {
+        expect_run(&rt, alloc, line, "line 1: refused\n", 1);
+    }
+    expect_run(
+        &rt,
+        alloc,
+        b"module m\nend\nmodule n\n",
+        "line 3: refused\n",
+        1,
+    );
+    expect_run(
+        &rt,
+        alloc,
+        b"module m\nfunc m2\nfunc m2\n",
+        "line 3: refused\n",
+        1,
+    );
+    expect_run(
+        &rt,
+        alloc,
+        b"module m\nfunc n\nmodule n\n",
+        "line 3: refused\n",
+        1,
+    );
+    expect_run(&rt, alloc, b"module m\nend\nend\n", "line 3: refused\n", 1);
+    expect_run(
+        &rt,
+        alloc,
+        b"module m\nend\nfunc f\n",
+        "line 3: refused\n",
+        1,
+    );
+    expect_run(
+        &rt,
+        alloc,
+        b"module m\n\nwalk fwd pre\n",
+        "line 3: refused\n",
+        1,
+    );
+    expect_run(
+        &rt,
+        alloc,
+        b"module m\nwalk pre fwd \n",
+        "line 2: refused\n",
+        1,
+    );
+    expect_run(
+        &rt,
+        alloc,
+        b"module m\nwalk pre  fwd\n",
+        "line 2: refused\n",
+        1,
+    );
+    expect_run(
+        &rt,
+        alloc,
+        b"module m\nwalk pre up\n",
+        "line 2: refused\n",
+        1,
+    );
+}
+
+#[test]
+fn what_was_written_before_a_refusal_stands(rt: HostRuntime) {
+    expect_run(
+        &rt,
+        rt.alloc(),
+        b"module m\nwalk pre fwd\nwalk\nwalk pre fwd\n",
+        "op m\nregion of m\nblock of m\nadvance\nline 3: refused\n",
+        1,
+    );
+}
+
+#[test]
+fn names_repeat_in_different_modules_alone(rt: HostRuntime) {
+    expect_run(
+        &rt,
+        rt.alloc(),
+        b"module m\nmodule n\nfunc f\nend\nfunc f\nfunc m\nend\n",
+        "",
+        0,
+    );
+}
+
+/// A line with a name of so many letters.
+fn long_line(alloc: Global, letters: usize) -> Result<Vec<u8>, Fail> {
+    let mut line = Vec::new(alloc);
+    line.extend_from_slice(b"module ")?;
+    for _ in 0..letters {
+        line.push(b'a')?;
+    }
+    Ok(line)
+}
+
+#[test]
+fn a_line_has_1024_bytes_at_most(rt: HostRuntime) -> Result<(), Fail> {
+    let alloc = rt.alloc();
+    let mut line = long_line(alloc, 1017)?;
+    expect_run(&rt, alloc, line.as_slice(), "", 0);
+    line.push(b'\n')?;
+    expect_run(&rt, alloc, line.as_slice(), "", 0);
+    let longer = long_line(alloc, 1018)?;
+    expect_run(&rt, alloc, longer.as_slice(), "line 1: refused\n", 1);
+    Ok(())
+}
+
+/// A reader that gives so many bytes, one at a time, and then fails.
+#[derive(Drop)]
+struct FailingReader<'a> {
+    left: &'a [u8],
+}
+
+impl Read for FailingReader<'_> {
+    fn read(&mut self, buf: &mut [u8]) -> io::Result<usize> {
+        match self.left.split_first() {
+            None => Err(io::Error::from(ErrorKind::Other)),
+            Some((byte, rest)) => {
+                if buf.is_empty() {
+                    return Ok(0);
+                }
+                buf[0] = *byte;
+                self.left = rest;
+                Ok(1)
+            }
+        }
+    }
+}
+
+const SCRIPT: &[u8] = b"module m\nfunc f\nwalk pre fwd\nend\n";
+
+const OUTPUT: &[u8] = b"op m\nregion of m\nblock of m\nop f\nregion of f\nblock of f\nadvance\n";
+
+#[test]
+fn a_reader_that_fails_ends_the_script(rt: HostRuntime) {
+    let alloc = rt.alloc();
+    for k in 0..=SCRIPT.len() {
+        let mut written = Vec::new(alloc);
+        let reader = FailingReader { left: &SCRIPT[..k] };
+        let status = run_script(alloc, reader, &mut written);
+        assert_eq!(rt; status, 1);
+        let walked = k >= 29;
+        let text: &[u8] = if walked { OUTPUT } else { b"" };
+        assert!(rt; written.as_slice().starts_with(text));
+        assert_eq!(rt;
+            &written.as_slice()[text.len()..],
+            b"read failed\n".as_slice()
+        );
+    }
+}
+
+/// A writer that takes so many bytes, and then fails.
+#[derive(Drop)]
+struct FailingWriter {
+    taken: Vec<u8>,
+    room: usize,
+}
+
+impl Write for &mut FailingWriter {
+    fn write(&mut self, buf: &[u8]) -> io::Result<usize> {
+        match buf.first() {
+            None => Ok(0),
+            Some(_) if self.room == 0 => Err(io::Error::from(ErrorKind::Other)),
+            Some(byte) => {
+                self.taken.push(*byte)?;
+                self.room -= 1;
+                Ok(1)
+            }
+        }
+    }
+
+    fn flush(&mut self) -> io::Result<()> {
+        Ok(())
+    }
+}
+
+#[test]
+fn a_writer_that_fails_ends_the_script(rt: HostRuntime) {
+    let alloc = rt.alloc();
+    for room in 0..OUTPUT.len() {
+        let mut writer = FailingWriter {
+            taken: Vec::new(alloc),
+            room,
+        };
+        let status = run_script(alloc, SCRIPT, &mut writer);
+        assert_eq!(rt; status, 1);
+        assert_eq!(rt; writer.taken.len(), room);
+        assert!(rt; OUTPUT.starts_with(writer.taken.as_slice()));
+    }
+}

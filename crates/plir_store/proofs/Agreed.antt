@@ -1,0 +1,72 @@
+-- Lists that agree with the parents of their children.
+use Rattle.std.proofs.Common.{◌≡◌, ℕ, ◌<◌, true, false, cond, eqb, List, [], ◌∷◌, length, Option, Some, None, IfSome, inl, inr, refl, sym, ◌∙◌, subst}
+use Rattle.std.proofs.lemmas.Bool.{cases_lt}
+use Rattle.std.proofs.lemmas.List.{get_or_past}
+use Rattle.std.proofs.lemmas.Option.{none-some}
+use Rattle.plir_store.specs.Lists.{Lists, In, IsAgreed, kids_at, parent_at, first_of, last_of, last_from, next_in, prev_in, next_of, prev_of, next_under, prev_under}
+
+-- what has a parent, and what is a parent, is within
+pub within_from_parent_at : (s : Lists) (c p : ℕ) → parent_at s c ≡ Some p → c < length s.parents
+within_from_parent_at s c p e = elim (cases_lt c (length s.parents)) [
+  | inl h ↦ h
+  | inr h ↦ absurd (none-some p (sym (get_or_past s.parents c None h) ∙ e))
+]
+
+pub within_from_kid : (s : Lists) (p c : ℕ) → In c (kids_at s p) → p < length s.kids
+within_from_kid s p c i = elim (cases_lt p (length s.kids)) [
+  | inl h ↦ h
+  | inr h ↦ absurd (subst (λ xs. In c xs) (get_or_past s.kids p [] h) i)
+]
+
+first_within_in : (n : ℕ) (xs : List ℕ) → ((x : ℕ) → In x xs → x < n) → IfSome (first_of xs) (λ j. j < n)
+first_within_in n [] h = tt
+first_within_in n (x ∷ xs) h = h x (inl refl)
+
+last_within_in : (n : ℕ) (a : Option ℕ) (xs : List ℕ) → IfSome a (λ j. j < n) → ((x : ℕ) → In x xs → x < n) → IfSome (last_from a xs) (λ j. j < n)
+last_within_in n a [] g h = g
+last_within_in n a (x ∷ xs) g h = last_within_in n (Some x) xs (h x (inl refl)) (λ y i. h y (inr i))
+
+next_within_in : (n : ℕ) (xs : List ℕ) (c : ℕ) → ((x : ℕ) → In x xs → x < n) → IfSome (next_in xs c) (λ j. j < n)
+next_within_in n [] c h = tt
+next_within_in n (x ∷ xs) c h = elim (eqb x c) as (λ b. IfSome (cond b (first_of xs) (next_in xs c)) (λ j. j < n)) [
+  | true ↦ first_within_in n xs (λ y i. h y (inr i))
+  | false ↦ next_within_in n xs c (λ y i. h y (inr i))
+]
+
+prev_within_in : (n : ℕ) (a : Option ℕ) (xs : List ℕ) (c : ℕ) → IfSome a (λ j. j < n) → ((x : ℕ) → In x xs → x < n) → IfSome (prev_in a xs c) (λ j. j < n)
+prev_within_in n a [] c g h = tt
+prev_within_in n a (x ∷ xs) c g h = elim (eqb x c) as (λ b. IfSome (cond b a (prev_in (Some x) xs c)) (λ j. j < n)) [
+  | true ↦ g
+  | false ↦ prev_within_in n (Some x) xs c (h x (inl refl)) (λ y i. h y (inr i))
+]
+
+module _ (s : Lists) (a : IsAgreed s) where
+  kid_within : (p c : ℕ) → In c (kids_at s p) → c < length s.parents
+  kid_within p c i = a.within p c i
+
+  pub first_of_within : (p : ℕ) → IfSome (first_of (kids_at s p)) (λ c. c < length s.parents)
+  first_of_within p = first_within_in (length s.parents) (kids_at s p) (kid_within p)
+
+  pub last_of_within : (p : ℕ) → IfSome (last_of (kids_at s p)) (λ c. c < length s.parents)
+  last_of_within p = last_within_in (length s.parents) None (kids_at s p) tt (kid_within p)
+
+  next_under_within : (c : ℕ) (o : Option ℕ) → IfSome (next_under s c o) (λ c. c < length s.parents)
+  next_under_within c None = tt
+  next_under_within c (Some p) = next_within_in (length s.parents) (kids_at s p) c (kid_within p)
+
+  pub next_of_within : (c : ℕ) → IfSome (next_of s c) (λ c. c < length s.parents)
+  next_of_within c = next_under_within c (parent_at s c)
+
+  prev_under_within : (c : ℕ) (o : Option ℕ) → IfSome (prev_under s c o) (λ c. c < length s.parents)
+  prev_under_within c None = tt
+  prev_under_within c (Some p) = prev_within_in (length s.parents) None (kids_at s p) c tt (kid_within p)
+
+  pub prev_of_within : (c : ℕ) → IfSome (prev_of s c) (λ c. c < length s.parents)
+  prev_of_within c = prev_under_within c (parent_at s c)
+
+  parent_within_in : (c : ℕ) (o : Option ℕ) → parent_at s c ≡ o → IfSome o (λ p. p < length s.kids)
+  parent_within_in c None e = tt
+  parent_within_in c (Some p) e = within_from_kid s p c (a.held p c e)
+
+  pub parent_at_within : (c : ℕ) → IfSome (parent_at s c) (λ p. p < length s.kids)
+  parent_at_within c = parent_within_in c (parent_at s c) refl

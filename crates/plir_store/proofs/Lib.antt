@@ -1,0 +1,8 @@
+pub mod Members
+pub mod Joined
+pub mod Writes
+pub mod Steps
+pub mod Changes
+pub mod Tables
+pub mod Frees
+pub mod Agreed

@@ -1,0 +1,6 @@
+pub mod Lists
+pub mod Links
+pub mod Table
+pub mod Places
+pub mod Lends
+pub mod Hops

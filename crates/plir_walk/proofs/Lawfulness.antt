@@ -1,0 +1,148 @@
+-- What a callback at n may do to the context, call after call: each lemma takes what was lawful so far, since s, one call
+-- further.
+use Rattle.std.proofs.Common.{◌≡◌, ◌≢◌, ℕ, zero, suc, ◌+◌, Bool, true, false, cond, List, Option, Some, None, ◌⊎◌, inl, inr, refl, sym, ap, subst, ◌∙◌, option_and_then, arith}
+use Rattle.std.proofs.lemmas.Option.{none-some, same_Some}
+use Rattle.plir_core.specs.declared.ptr.IRNode.{IRNode}
+use Rattle.plir_core.specs.Above.{Reaches, climb as climb_up}
+use Rattle.plir_core.specs.Nodes.{Nodes, is_node_live, node_parent, node_over}
+use Rattle.plir_core.specs.Forest.{IsForest as IsNodeForest}
+use Rattle.plir_core.specs.Store.{Store, is_live, given_out}
+use Rattle.plir_core.specs.Erase.{IsErased}
+use Rattle.plir_core.specs.Made.{IsMade}
+use Rattle.plir_core.proofs.Facts.{parent-live}
+use Rattle.plir_walk.specs.Forest.{Shape, climb, AtOrBelow, IsBelow, Lawful}
+use Rattle.plir_walk.specs.View.{look}
+use Rattle.plir_walk.proofs.Climbs.{climb-bottom}
+use Rattle.plir_walk.proofs.Groves.{and_then-some}
+
+-- nothing done is lawful
+pub lawful-none : (s : Shape) (n : IRNode) → Lawful s n s
+lawful-none s n = record {
+  kept = λ m v b. (v, refl, λ k. refl);
+  below = λ m b. inl b;
+  given = λ m g. g;
+}
+
+-- one lawful change after another
+pub lawful-then : (s t u : Shape) (n : IRNode) → ((m : IRNode) → s.live m ≡ true → s.given m ≡ true) → Lawful s n t → Lawful t n u → Lawful s n u
+lawful-then s t u n live_given f g = record {
+  kept = λ m v b.
+      (let k = f.kept m v b in
+      let h = g.kept m k.0 (λ z. elim (f.below m z) [ inl y ↦ b y | inr y ↦ both (s.given m) (live_given m v) y ]) in
+      (h.0, h.1 ∙ k.1, λ ne. h.2 ne ∙ k.2 ne));
+  below = λ m z. elim (g.below m z) [
+    | inl y ↦ f.below m y
+    | inr y ↦ inr (was (s.given m) (t.given m) (f.given m) y)
+  ];
+  given = λ m h. g.given m (f.given m h);
+}
+  where
+    both : (b : Bool) → b ≡ true → b ≡ false → ⊥
+    both b h k = (let z : ⊥ = cc (h, k) in z)
+
+    was : (b c : Bool) → (b ≡ true → c ≡ true) → c ≡ false → b ≡ false
+    was true c h k = (let e = h refl in cc (e, k))
+    was false c h k = refl
+
+-- a change that keeps live nodes, parents, children and what was given out
+pub lawful-same : (s t : Shape) (n : IRNode) → ((m : IRNode) → t.live m ≡ s.live m) → ((m : IRNode) → t.parent m ≡ s.parent m) → ((m : IRNode) → t.kids m ≡ s.kids m) → ((m : IRNode) → s.given m ≡ true → t.given m ≡ true) → Lawful s n t
+lawful-same s t n live parent kids given = record {
+  kept = λ m v b. (live m ∙ v, parent m, λ k. kids m);
+  below = λ m z. inl (z.0, sym (climbs (suc z.0) m) ∙ z.1);
+  given = given;
+}
+  where
+    climbs : (k : ℕ) (m : IRNode) → climb t k m ≡ climb s k m
+    climbs zero m = refl
+    climbs (suc k) m = ap (option_and_then t.parent) (climbs k m) ∙ each (climb s k m)
+      where
+        each : (o : Option IRNode) → option_and_then t.parent o ≡ option_and_then s.parent o
+        each None = refl
+        each (Some a) = parent a
+
+-- the two ways to climb
+pub climb-and : (up : IRNode → Option IRNode) (k : ℕ) (o : Option IRNode) → climb_up up (suc k) o ≡ option_and_then up (climb_up up k o)
+climb-and up zero None = refl
+climb-and up zero (Some n) = refl
+climb-and up (suc k) None = refl
+climb-and up (suc k) (Some n) = climb-and up k (up n)
+
+pub climb-is : (s : Shape) (k : ℕ) (x : IRNode) → climb s k x ≡ climb_up s.parent k (Some x)
+climb-is s zero x = refl
+climb-is s (suc k) x = ap (option_and_then s.parent) (climb-is s k x) ∙ sym (climb-and s.parent k (Some x))
+
+-- where the parents of the nodes on the way are the same, so is the way
+pub climb-back : (s t : Shape) (P : IRNode → Type 0) → ((m a : IRNode) → P m → t.parent m ≡ Some a → (s.parent m ≡ Some a) × P a) → (k : ℕ) (m a : IRNode) → P m → climb t k m ≡ Some a → (climb s k m ≡ Some a) × P a
+climb-back s t P up zero m a p e = (e, subst P (same_Some m a e) p)
+climb-back s t P up (suc k) m a p e =
+    let r = and_then-some t.parent (climb t k m) a e in
+    let z = climb-back s t P up k m r.0 p r.1 in
+    let y = up r.0 a z.1 r.2 in
+    (ap (option_and_then s.parent) z.0 ∙ y.0, y.1)
+
+-- j steps above k steps
+pub climb-plus : (s : Shape) (j k i : ℕ) (x y a : IRNode) → i ≡ j + k → climb s k x ≡ Some y → climb s j y ≡ Some a → climb s i x ≡ Some a
+climb-plus s zero k i x y a q e g = (let h : k ≡ i = omega (arith, q) in subst (λ (v : ℕ). climb s v x ≡ Some a) h (e ∙ g))
+climb-plus s (suc j) k zero x y a q e g = absurd (omega (arith, q))
+climb-plus s (suc j) k (suc i) x y a q e g =
+    let r = and_then-some s.parent (climb s j y) a g in
+    ap (option_and_then s.parent) (climb-plus s j k i x y r.0 (omega (arith, q)) e r.1) ∙ r.2
+
+-- a node below another has a parent
+pub climb-first : (s : Shape) (k : ℕ) (x a : IRNode) → climb s (suc k) x ≡ Some a → (p : IRNode) × (s.parent x ≡ Some p)
+climb-first s zero x a e = (a, e)
+climb-first s (suc k) x a e = (let r = and_then-some s.parent (climb s (suc k) x) a e in climb-first s k x r.0 r.1)
+
+pub not-both : (b : Bool) → b ≡ true → b ≡ false → ⊥
+not-both b h k = (let z : ⊥ = cc (h, k) in z)
+
+-- a node that has a parent is live
+pub linked-live : {O B : Type 0} (s : Nodes O B) (m a : IRNode) → node_parent s m ≡ Some a → is_node_live s m ≡ true
+linked-live s m a e = go (is_node_live s m) (node_over s m) e
+  where
+    go : (b : Bool) (o : Option IRNode) → cond b o None ≡ Some a → b ≡ true
+    go true o e = refl
+    go false o e = absurd (none-some a e)
+
+module _ {K A T : Type 0} (s t : Store K A T) (w : IsNodeForest s.nodes) where
+  -- erasing a tree below n
+  pub lawful-erased : (n x : IRNode) → IsBelow (look s) n x → IsErased s.nodes t.nodes x → Lawful (look s) n (look t)
+  lawful-erased n x b e = record {
+    kept = λ m v nb.
+        (let away = λ (r : Reaches (node_parent s.nodes) m x). nb (deep m (r.0, climb-is (look s) r.0 m ∙ r.1)) in
+        (e.live m away ∙ v, e.parents m away, λ ne. e.kids m away (λ p. over m ne nb p)));
+    below = λ m z. inl (z.0, (climb-back (look s) (look t) (λ k. Unit {0}) (λ k a p q. (still k a q, tt)) (suc z.0) m n tt z.1).0);
+    given = λ m g. e.given m ∙ g;
+  }
+    where
+      -- what is at or below x is below n
+      deep : (m : IRNode) → AtOrBelow (look s) x m → IsBelow (look s) n m
+      deep m r = (b.0 + r.0, climb-plus (look s) (suc b.0) r.0 (suc (b.0 + r.0)) m x n (omega arith) r.1 b.1)
+
+      over : (m : IRNode) → m ≢ n → (IsBelow (look s) n m → ⊥) → node_parent s.nodes x ≡ Some m → ⊥
+      over m ne nb p = go b.0 b.1
+        where
+          go : (k : ℕ) → climb (look s) (suc k) x ≡ Some n → ⊥
+          go zero c = ne (same_Some m n (sym p ∙ c))
+          go (suc k) c = nb (k, sym (climb-bottom (look s) (suc k) x m p) ∙ c)
+
+      still : (k a : IRNode) → node_parent t.nodes k ≡ Some a → node_parent s.nodes k ≡ Some a
+      still k a q = sym (e.parents k (λ r. not-both (is_node_live t.nodes k) (linked-live t.nodes k a q) (e.gone k r))) ∙ q
+
+  -- making a tree
+  pub lawful-made : (n r : IRNode) → is_live s n ≡ true → IsMade s.nodes t.nodes r → Lawful (look s) n (look t)
+  lawful-made n r v e = record {
+    kept = λ m l nb. (e.keeps.live m l, e.keeps.parents m l, λ ne. e.kids m l);
+    below = λ m z. go (is_live s m) m refl z;
+    given = λ m g. e.keeps.given m g;
+  }
+    where
+      go : (b : Bool) (m : IRNode) → is_live s m ≡ b → IsBelow (look t) n m → IsBelow (look s) n m ⊎ (given_out s m ≡ false)
+      go true m l z = inl (
+        z.0,
+        (climb-back (look s) (look t) (λ k. is_live s k ≡ true) (λ k a p q.
+            (let h : node_parent s.nodes k ≡ Some a = sym (e.keeps.parents k p) ∙ q in (h, parent-live s.nodes w a k h))) (suc z.0) m n l z.1).0,
+      )
+      go false m l z =
+          let up = climb-first (look t) z.0 m n z.1 in
+          inr (e.fresh m (linked-live t.nodes m up.0 up.1) l)

@@ -1,0 +1,122 @@
+use Rattle.std.proofs.Common.{◌≡◌, ℕ, ◌+◌, ◌-◌, ◌*◌, ◌^◌, ◌<◌, ◌≤◌, Bool, true, false, List, [], ◌∷◌, Option, Some, None, inl, inr, refl, sym, subst, arith, option_map}
+use Rattle.plir_walk.specs.Config.{direction_of, order_of}
+use Rattle.plir_walk.specs.Forest.{IsForest, Shape}
+use Rattle.plir_core.specs.NodeLists.{Has, head}
+use Rattle.plir_walk.specs.Step.{due_at, enter_or_leave, first_of, next_of, step_of}
+use Rattle.plir_walk.specs.Tree.{after, taken}
+use Rattle.plir_walk.specs.declared.config.Order.{Order}
+use Rattle.plir_walk.specs.declared.config.Order.TheVariants.{PostOrder, PreOrder}
+use Rattle.plir_walk.specs.declared.config.WalkConfig.{WalkConfig}
+use Rattle.plir_core.specs.declared.ptr.IRNode.{IRNode}
+use Rattle.plir_walk.proofs.Groves.{Has-taken}
+use Rattle.plir_walk.proofs.Nodes.{same_tells}
+
+-- Between two calls a walk goes up, from PreOrder nodes that it leaves, and then down, into PostOrder nodes.
+abbrev pub part_at : Order → ℕ → Bool → ℕ
+part_at PreOrder d true = 0
+part_at PreOrder d false = 0x200_0000_0000 + d
+part_at PostOrder d true = 0x200_0000_0000 - d
+part_at PostOrder d false = 0
+
+abbrev pub part : WalkConfig → Shape → IRNode → Bool → ℕ
+part w s c en = part_at (order_of w c) (s.depth c) en
+
+abbrev pub size_of : WalkConfig → Shape → ℕ → IRNode → Bool → ℕ
+size_of w s left c en = left * 0x1000_0000_0000 + part w s c en
+
+pub part-entering : (o : Order) (d : ℕ) → part_at o d true ≤ 0x200_0000_0000 - d
+part-entering PreOrder d = omega arith
+part-entering PostOrder d = omega arith
+
+pub part-leaving : (o : Order) (d : ℕ) → part_at o d false ≤ 0x200_0000_0000 + d
+part-leaving PreOrder d = omega arith
+part-leaving PostOrder d = omega arith
+
+pub part-bound : (o : Order) (d : ℕ) (en : Bool) → d ≤ 2 ^ 40 → part_at o d en < 0x1000_0000_0000
+part-bound PreOrder d true h = omega arith
+part-bound PreOrder d false h = omega arith
+part-bound PostOrder d true h = omega arith
+part-bound PostOrder d false h = omega arith
+
+pub head-Has : (xs : List IRNode) (n : IRNode) → head xs ≡ Some n → Has xs n
+head-Has [] n h = cc
+head-Has (x ∷ xs) n h = inl cc
+
+pub after-Has : (xs : List IRNode) (c n : IRNode) → after c xs ≡ Some n → Has xs n
+after-Has [] c n h = cc
+after-Has (x ∷ xs) c n h = elim (same_tells x c) [
+  | inl e ↦ inr (head-Has xs n (rw e.0 at h))
+  | inr e ↦ inr (after-Has xs c n (rw e.0 at h))
+]
+
+module _ (w : WalkConfig) (s : Shape) (f : IsForest s) where
+  pub small : (n : IRNode) → s.depth n ≤ 2 ^ 40
+  small n = (let p = f.bounded n in let q = f.small in omega (arith, p, q))
+
+  pub kid-depth : (a k : IRNode) → Has (taken (direction_of w a) (s.kids a)) k → s.depth k ≡ s.depth a + 1
+  kid-depth a k h = f.deeper a k (f.kid_parent a k (Has-taken (direction_of w a) (s.kids a) k h))
+
+  pub down-smaller : (c : IRNode) (o : Option IRNode) (n : IRNode) (en : Bool) → order_of w c ≡ PostOrder → first_of w s c ≡ o → enter_or_leave o c ≡ (n, en) → part w s n en < part w s c true
+  down-smaller c None n en d e z =
+      let g : part w s c false < part w s c true = (rw d (let p = small c in omega (arith, p))) in
+      subst (λ (v : IRNode × Bool). part w s v.0 v.1 < part w s c true) z g
+  down-smaller c (Some k) n en d e z =
+      let p = kid-depth c k (head-Has (taken (direction_of w c) (s.kids c)) k e) in
+      let q = part-entering (order_of w k) (s.depth k) in
+      let m = small k in
+      let g : part w s k true < part w s c true = (rw d (omega (arith, p, q, m))) in
+      subst (λ (v : IRNode × Bool). part w s v.0 v.1 < part w s c true) z g
+
+  pub up-smaller : (c a : IRNode) (o : Option IRNode) (n : IRNode) (en : Bool) → order_of w c ≡ PreOrder → s.parent c ≡ Some a → after c (taken (direction_of w a) (s.kids a)) ≡ o → enter_or_leave o a ≡ (n, en) → part w s n en < part w s c false
+  up-smaller c a None n en d u e z =
+      let p = f.deeper a c u in
+      let q = part-leaving (order_of w a) (s.depth a) in
+      let g : part w s a false < part w s c false = (rw d (omega (arith, p, q))) in
+      subst (λ (v : IRNode × Bool). part w s v.0 v.1 < part w s c false) z g
+  up-smaller c a (Some k) n en d u e z =
+      let p = kid-depth a k (after-Has (taken (direction_of w a) (s.kids a)) c k e) in
+      let q = part-entering (order_of w k) (s.depth k) in
+      let m = small k in
+      let g : part w s k true < part w s c false = (rw d (omega (arith, p, q, m))) in
+      subst (λ (v : IRNode × Bool). part w s v.0 v.1 < part w s c false) z g
+
+  pub step-smaller : (r c : IRNode) (en : Bool) (o : Order) (n : IRNode) (en' : Bool) → order_of w c ≡ o → due_at o en ≡ false → step_of w s r c en ≡ Some (n, en') → part w s n en' < part w s c en
+  step-smaller r c true PreOrder n en' k d z = cc
+  step-smaller r c true PostOrder n en' k d z = down-smaller c (first_of w s c) n en' k refl (some-is z)
+    where
+      some-is : {A : Type 0} {x y : A} → Some x ≡ Some y → x ≡ y
+      some-is e = cc
+  step-smaller r c false PostOrder n en' k d z = cc
+  step-smaller r c false PreOrder n en' k d z = elim (same_tells c r) [
+    | inl e ↦ absurd (none-some (rw e.0 at z))
+    | inr e ↦ go (s.parent c) refl (rw e.0 at z)
+  ]
+    where
+      none-some : {A : Type 0} {x : A} → None ≡ Some x → ⊥
+      none-some e = cc
+
+      go : (o : Option IRNode) → s.parent c ≡ o → option_map (λ a. enter_or_leave (next_of w s c) a) o ≡ Some (n, en') → part w s n en' < part w s c false
+      go None e z = cc
+      go (Some a) e z = up-smaller c a (after c (taken (direction_of w a) (s.kids a))) n en' k e refl
+          (let y : Some (enter_or_leave (next_of w s c) a) ≡ Some (n, en') = z in
+          let x : next_of w s c ≡ after c (taken (direction_of w a) (s.kids a)) = (rw e refl) in
+          let v : Some (enter_or_leave (after c (taken (direction_of w a) (s.kids a))) a) ≡ Some (n, en') = (rw x at y) in cc v)
+
+  -- a step with no call
+  pub moved-smaller : (r c : IRNode) (en : Bool) (n : IRNode) (en' : Bool) (left : ℕ) → due_at (order_of w c) en ≡ false → step_of w s r c en ≡ Some (n, en') → size_of w s left n en' < size_of w s left c en
+  moved-smaller r c en n en' left d z = (let p = step-smaller r c en (order_of w c) n en' refl d z in omega (arith, p))
+
+-- a step with a call
+pub called-smaller : (w : WalkConfig) (s s' : Shape) (f' : IsForest s') (c n : IRNode) (en en' : Bool) (left left' : ℕ) → left ≡ left' + 1 → size_of w s' left' n en' < size_of w s left c en
+called-smaller w s s' f' c n en en' left left' h = (let p = part-bound (order_of w n) (s'.depth n) en' (small w s' f' n) in rw h (omega (arith, p)))
+
+-- a step with no call, over the values that a loop has after its branches
+pub moved-smaller-as : {C : Type 0} (look : C → Shape) (w : WalkConfig)
+    (e e'' : C) (f : IsForest (look e'')) (r c : IRNode) (en below : Bool) (n : IRNode) (en' : Bool) (left left' : ℕ) → due_at (order_of w c) en ≡ false → e'' ≡ e → left' ≡ left → below ≡ en
+    → step_of w (look e'') r c below ≡ Some (n, en') → size_of w (look e'') left' n en' < size_of w (look e) left c en
+moved-smaller-as look w e e'' f r c en below n en' left left' d pe pl pb z =
+    let z1 : step_of w (look e'') r c en ≡ Some (n, en') = (rw pb at z) in
+    let d' : due_at (order_of w c) en ≡ false = subst (λ (v : _). due_at (order_of w c) en ≡ false) (sym pe) d in
+    let g = moved-smaller w (look e'') f r c en n en' left' d' z1 in
+    let g1 : size_of w (look e'') left' n en' < size_of w (look e'') left c en = subst (λ (v : ℕ). size_of w (look e'') left' n en' < size_of w (look e'') v c en) pl g in
+    subst (λ (v : _). size_of w (look e'') left' n en' < size_of w (look v) left c en) pe g1

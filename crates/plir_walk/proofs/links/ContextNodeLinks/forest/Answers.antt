@@ -1,0 +1,5 @@
+use Rattle.plir_walk.proofs.View.{forest-of}
+use Rattle.plir_walk.proofs.links.ContextNodeLinks.forest.Goals as goal
+
+pub returns : goal.returns
+returns g c = forest-of g.D.OpSet.attr_handles c.args.self.now c.num_live-count.ensures.whole

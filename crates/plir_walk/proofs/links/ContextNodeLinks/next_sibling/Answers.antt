@@ -1,0 +1,6 @@
+use Rattle.std.proofs.Common.{◌∙◌}
+use Rattle.plir_walk.proofs.ListLinks.{next-is}
+use Rattle.plir_walk.proofs.links.ContextNodeLinks.next_sibling.Goals as goal
+
+pub returns : goal.returns
+returns g c = c.sibling_after.ensures.value ∙ next-is c.args.self.now.nodes c.sibling_after.ensures.whole.forest c.args.node c.requires

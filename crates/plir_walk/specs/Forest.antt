@@ -1,0 +1,53 @@
+-- What a walk sees of a context, and how a call may change it.
+use Rattle.std.specs.Prelude.{◌≡◌, ◌≢◌, ℕ, zero, suc, ◌+◌, ◌≤◌, ◌^◌, Bool, true, false, List, Option, Some, option_and_then, ◌⊎◌}
+use Rattle.plir_core.specs.declared.ptr.IRNode.{IRNode}
+use Rattle.plir_core.specs.NodeLists.{Has, Distinct}
+
+-- What a walk can see of a context: the children of each node (none, if it is dead), the node right above it, whether it
+-- is live, whether it was ever given out, and how many nodes stand above it, with a bound.
+pub record Shape : Type 0 where
+  pub kids : IRNode → List IRNode
+  pub parent : IRNode → Option IRNode
+  pub live : IRNode → Bool
+  pub given : IRNode → Bool
+  pub depth : IRNode → ℕ
+  pub deepest : ℕ
+
+-- the ancestor k levels above x
+abbrev pub climb : Shape → ℕ → IRNode → Option IRNode
+climb s zero x = Some x
+climb s (suc k) x = option_and_then s.parent (climb s k x)
+
+-- x is a or below it
+abbrev pub AtOrBelow : Shape → IRNode → IRNode → Type 0
+AtOrBelow s a x = (k : ℕ) × (climb s k x ≡ Some a)
+
+-- x is below a
+abbrev pub IsBelow : Shape → IRNode → IRNode → Type 0
+IsBelow s a x = (k : ℕ) × (climb s (suc k) x ≡ Some a)
+
+-- The live nodes make a forest: the children of a node are live and are those that have it as their parent, each once; a
+-- node stands one level deeper than its parent, so that none is above itself; and live nodes were given out.
+pub record IsForest (s : Shape) : Type 0 where
+  pub kid_parent : (a x : IRNode) → Has (s.kids a) x → s.parent x ≡ Some a
+  pub parent_kid : (a x : IRNode) → s.parent x ≡ Some a → Has (s.kids a) x
+  pub once : (a : IRNode) → Distinct (s.kids a)
+  pub kid_live : (a x : IRNode) → Has (s.kids a) x → s.live x ≡ true
+  pub parent_live : (a x : IRNode) → s.parent x ≡ Some a → s.live a ≡ true
+  pub live_given : (x : IRNode) → s.live x ≡ true → s.given x ≡ true
+  pub deeper : (a x : IRNode) → s.parent x ≡ Some a → s.depth x ≡ s.depth a + 1
+  pub bounded : (x : IRNode) → s.depth x ≤ s.deepest
+  pub small : s.deepest ≤ 2 ^ 40
+
+-- A lawful call at n, from s to s'. Every node that was live before it and is not below n is live after it, with the same
+-- parent, and with the same children unless it is n. What is below n afterwards was below n before, or was never given
+-- out before. What was given out before counts as given out after it.
+pub record Lawful (s : Shape) (n : IRNode) (s' : Shape) : Type 0 where
+  pub kept : (m : IRNode) → s.live m ≡ true → (IsBelow s n m → ⊥) → (s'.live m ≡ true) × (s'.parent m ≡ s.parent m) × (m ≢ n → s'.kids m ≡ s.kids m)
+  pub below : (m : IRNode) → IsBelow s' n m → IsBelow s n m ⊎ (s.given m ≡ false)
+  pub given : (m : IRNode) → s.given m ≡ true → s'.given m ≡ true
+
+-- the live nodes and all lists of children are the same
+pub record SameShape (s s' : Shape) : Type 0 where
+  pub live : (m : IRNode) → s'.live m ≡ s.live m
+  pub kids : (m : IRNode) → s'.kids m ≡ s.kids m

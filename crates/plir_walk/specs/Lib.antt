@@ -1,0 +1,14 @@
+-- What the walks promise, from the ground up: settings and trees, places and their order, calls, what a skip shuts out,
+-- the walk, the tree as read, and the two contracts.
+pub mod Lists
+pub mod Config
+pub mod Tree
+pub mod Forest
+pub mod Calls
+pub mod ShutOut
+pub mod Walk
+pub mod AsRead
+pub mod Walked
+pub mod View
+pub mod Step
+pub mod Laws

@@ -1,0 +1,40 @@
+-- One step of a walk's cursor: a node, and whether it is entered or left.
+use Rattle.std.specs.Prelude.{Bool, true, false, not, cond, Option, Some, None, option_and_then, option_map}
+use Rattle.plir_core.specs.declared.ptr.IRNode.{IRNode}
+use Rattle.plir_walk.specs.declared.config.Order.{Order}
+use Rattle.plir_walk.specs.declared.config.Order.TheVariants.{PreOrder, PostOrder}
+use Rattle.plir_walk.specs.declared.config.WalkConfig.{WalkConfig}
+use Rattle.plir_walk.specs.declared.interruptible.WalkContinue.{WalkContinue}
+use Rattle.plir_walk.specs.declared.interruptible.WalkContinue.TheVariants.{Advance, Skip}
+use Rattle.plir_core.specs.NodeLists.{head}
+use Rattle.plir_walk.specs.Config.{direction_of}
+use Rattle.plir_walk.specs.Tree.{same, after, taken}
+use Rattle.plir_walk.specs.Forest.{Shape}
+
+-- whether a node of this order is called as it is entered, or left
+abbrev pub due_at : Order → Bool → Bool
+due_at PreOrder entering = entering
+due_at PostOrder entering = not entering
+
+-- the child that a walk enters first
+abbrev pub first_of : WalkConfig → Shape → IRNode → Option IRNode
+first_of w s n = head (taken (direction_of w n) (s.kids n))
+
+-- the sibling that a walk enters after n
+abbrev pub next_of : WalkConfig → Shape → IRNode → Option IRNode
+next_of w s n = option_and_then (λ a. after n (taken (direction_of w a) (s.kids a))) (s.parent n)
+
+-- enter the node, or leave the other
+abbrev pub enter_or_leave : Option IRNode → IRNode → IRNode × Bool
+enter_or_leave None n = (n, false)
+enter_or_leave (Some k) n = (k, true)
+
+-- the next cursor: what is below n comes next, or n is left
+abbrev pub step_of : WalkConfig → Shape → IRNode → IRNode → Bool → Option (IRNode × Bool)
+step_of w s root n true = Some (enter_or_leave (first_of w s n) n)
+step_of w s root n false = cond (same n root) None (option_map (λ a. enter_or_leave (next_of w s n) a) (s.parent n))
+
+-- what a walk goes on to after a call with this answer
+abbrev pub goes_on : Bool → WalkContinue → Bool
+goes_on entering Advance = entering
+goes_on entering Skip = false

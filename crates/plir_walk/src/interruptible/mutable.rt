@@ -1,0 +1,135 @@
+//! Walkers whose callback may change the context.
+#![tactic(auto)]
+
+ghost use Rattle.std.specs.Prelude.{◌≡◌, true};
+ghost use Rattle.plir_core.specs.declared.ptr.IRNode.{IRNode as AnyNode};
+ghost use Rattle.plir_walk.specs.Calls.{CallsBack};
+ghost use Rattle.plir_walk.specs.Walked.{IsLawful, Walked};
+
+use crate::config::WalkConfig;
+use crate::cursor::{is_due, step};
+use crate::interruptible::{WalkContinue, WalkResult};
+use crate::limit::CallLimit;
+use crate::links::NodeLinks;
+use plir_core::{BasicBlock, Context, IRNode, Operation, Ptr, Region};
+use std::ops::ControlFlow;
+
+/// A callback as a plain function.
+pub type WalkerCallback<D, S, B> = fn(&mut Context<D>, &mut S, IRNode) -> WalkResult<B>;
+
+/// Walks an operation and all that is below it, and calls `callback` at each node that no skip leaves out, in the order of
+/// `config`, at most `limit` times. A call may change the tree below its own node: the walk goes on over what stands there
+/// after a PreOrder call. Answers `Break(b)` where the last call did, else `Continue(Advance)`. Takes no memory.
+///
+/// # Errors
+///
+/// [`CallLimit`] where `limit` calls were made, none broke the walk, and another one was due.
+pub fn walk_op<C: NodeLinks, S, B: Drop, F: Fn(&mut C, &mut S, IRNode) -> WalkResult<B>>(
+    ctx: &mut C,
+    state: &mut S,
+    config: &WalkConfig,
+    root: Ptr<Operation>,
+    limit: u64,
+    callback: F,
+) -> Result<WalkResult<B>, CallLimit>
+    requires root_live { (C.look ctx.old).live (IRNode.Operation root) ≡ true }
+    requires callable { (c : _) (s : _) (n : AnyNode) → (C.look c.now).live n ≡ true → F.pre callback c s n }
+    requires lawful { IsLawful C.look (CallsBack F.Fn callback) }
+    ensures { Walked C.look config.now (CallsBack F.Fn callback) ctx.old state.old (IRNode.Operation root) limit result ctx.new state.new }
+{
+    walk(ctx, state, config, IRNode::Operation(root), limit, callback)
+}
+
+/// Walks a region and all that is below it, and calls `callback` at each node that no skip leaves out, in the order of
+/// `config`, at most `limit` times. A call may change the tree below its own node: the walk goes on over what stands there
+/// after a PreOrder call. Answers `Break(b)` where the last call did, else `Continue(Advance)`. Takes no memory.
+///
+/// # Errors
+///
+/// [`CallLimit`] where `limit` calls were made, none broke the walk, and another one was due.
+pub fn walk_region<C: NodeLinks, S, B: Drop, F: Fn(&mut C, &mut S, IRNode) -> WalkResult<B>>(
+    ctx: &mut C,
+    state: &mut S,
+    config: &WalkConfig,
+    root: Ptr<Region>,
+    limit: u64,
+    callback: F,
+) -> Result<WalkResult<B>, CallLimit>
+    requires root_live { (C.look ctx.old).live (IRNode.Region root) ≡ true }
+    requires callable { (c : _) (s : _) (n : AnyNode) → (C.look c.now).live n ≡ true → F.pre callback c s n }
+    requires lawful { IsLawful C.look (CallsBack F.Fn callback) }
+    ensures { Walked C.look config.now (CallsBack F.Fn callback) ctx.old state.old (IRNode.Region root) limit result ctx.new state.new }
+{
+    walk(ctx, state, config, IRNode::Region(root), limit, callback)
+}
+
+/// Walks a block and all that is below it, and calls `callback` at each node that no skip leaves out, in the order of
+/// `config`, at most `limit` times. A call may change the tree below its own node: the walk goes on over what stands there
+/// after a PreOrder call. Answers `Break(b)` where the last call did, else `Continue(Advance)`. Takes no memory.
+///
+/// # Errors
+///
+/// [`CallLimit`] where `limit` calls were made, none broke the walk, and another one was due.
+pub fn walk_block<C: NodeLinks, S, B: Drop, F: Fn(&mut C, &mut S, IRNode) -> WalkResult<B>>(
+    ctx: &mut C,
+    state: &mut S,
+    config: &WalkConfig,
+    root: Ptr<BasicBlock>,
+    limit: u64,
+    callback: F,
+) -> Result<WalkResult<B>, CallLimit>
+    requires root_live { (C.look ctx.old).live (IRNode.BasicBlock root) ≡ true }
+    requires callable { (c : _) (s : _) (n : AnyNode) → (C.look c.now).live n ≡ true → F.pre callback c s n }
+    requires lawful { IsLawful C.look (CallsBack F.Fn callback) }
+    ensures { Walked C.look config.now (CallsBack F.Fn callback) ctx.old state.old (IRNode.BasicBlock root) limit result ctx.new state.new }
+{
+    let block = IRNode::BasicBlock(root);
+    walk(ctx, state, config, block, limit, callback)
+}
+
+/// The walk from a node of any kind, by one loop over the links: it stops as the root is left.
+pub(crate) fn walk<C: NodeLinks, S, B: Drop, F: Fn(&mut C, &mut S, IRNode) -> WalkResult<B>>(
+    ctx: &mut C,
+    state: &mut S,
+    config: &WalkConfig,
+    root: IRNode,
+    limit: u64,
+    callback: F,
+) -> Result<WalkResult<B>, CallLimit>
+    requires root_live { (C.look ctx.old).live root ≡ true }
+    requires callable { (c : _) (s : _) (n : AnyNode) → (C.look c.now).live n ≡ true → F.pre callback c s n }
+    requires lawful { IsLawful C.look (CallsBack F.Fn callback) }
+    ensures { Walked C.look config.now (CallsBack F.Fn callback) ctx.old state.old root limit result ctx.new state.new }
+{
+    ctx.forest();
+    let mut left = limit;
+    let mut node = root;
+    let mut entering = true;
+    'nodes: loop {
+        let mut below = entering;
+        if is_due(config, node, entering) {
+            if left == 0 {
+                return Err(CallLimit);
+            }
+            left -= 1;
+            match callback(ctx, state, node) {
+                ControlFlow::Break(b) => {
+                    ctx.forest();
+                    return Ok(ControlFlow::Break(b));
+                }
+                ControlFlow::Continue(WalkContinue::Skip) => {
+                    ctx.forest();
+                    below = false;
+                }
+                ControlFlow::Continue(WalkContinue::Advance) => ctx.forest(),
+            }
+        }
+        match step(ctx, config, root, node, below) {
+            Some((next, enter)) => {
+                node = next;
+                entering = enter;
+            }
+            None => return Ok(ControlFlow::Continue(WalkContinue::Advance)),
+        }
+    }
+}

@@ -1,0 +1,60 @@
+//! Laws of the walks: each function does next to nothing, and its contract is the law.
+#![tactic(auto)]
+
+ghost use Rattle.std.specs.Prelude.{◌≡◌, List, true};
+ghost use Rattle.plir_walk.specs.declared.config.TheConstants.{WALKCONFIG_PREORDER_FORWARD as pre_forward};
+ghost use Rattle.plir_walk.specs.declared.config.WalkConfig.{WalkConfig as AnyConfig};
+ghost use Rattle.plir_core.specs.declared.ptr.IRNode.{IRNode as AnyNode};
+ghost use Rattle.plir_walk.specs.Tree.{HasOnePlaceEach};
+ghost use Rattle.plir_walk.specs.Calls.{Advancing, Call, ReadsBack};
+ghost use Rattle.plir_walk.specs.Laws.{BeforeOrders, PostReverseIsPreForwardReversed, SkipsAtPostOrder, ShutsOutNothing, WalkedOnce};
+
+use crate::config::WalkConfig;
+use crate::links::NodeLinks;
+use crate::uninterruptible;
+use plir_core::{IRNode, Operation, Ptr};
+
+/// The default setting is [`crate::WALKCONFIG_PREORDER_FORWARD`].
+pub fn default_setting() -> WalkConfig
+    ensures { result ≡ pre_forward }
+{
+    WalkConfig::default()
+}
+
+/// Each node under a root has one place there.
+pub fn one_place_each<C: NodeLinks>(ctx: &C)
+    ensures { (r : AnyNode) → HasOnePlaceEach (C.look ctx.now).kids r }
+{
+    ctx.forest();
+}
+
+/// To be before is a total order on the nodes under one root.
+pub fn before_is_a_total_order()
+    ensures { BeforeOrders }
+{}
+
+/// With one order and one direction at all levels, PostOrder Reverse is PreOrder Forward reversed.
+pub fn post_reverse_is_pre_forward_reversed()
+    ensures { PostReverseIsPreForwardReversed }
+{}
+
+/// A list of calls whose only skips are at PostOrder nodes shuts out nothing.
+pub fn post_order_skips_shut_out_nothing<C, S, B>()
+    ensures { (w : AnyConfig) (calls : List (Call C S B)) → SkipsAtPostOrder w calls → ShutsOutNothing w calls }
+{}
+
+/// A walk without skip, break or limit calls each node under the root once. The calls leave the state that the walk
+/// leaves.
+pub fn walks_each_node_once<C: NodeLinks, S, F: Fn(&C, &mut S, IRNode)>(
+    ctx: &C,
+    state: &mut S,
+    config: &WalkConfig,
+    root: Ptr<Operation>,
+    callback: F,
+)
+    requires root_live { (C.look ctx.now).live (IRNode.Operation root) ≡ true }
+    requires callable { (c : _) (s : _) (n : AnyNode) → c.now ≡ ctx.now → (C.look ctx.now).live n ≡ true → F.pre callback c s n }
+    ensures { WalkedOnce C.look config.now (Advancing (ReadsBack F.Fn callback)) ctx.now state.old (IRNode.Operation root) state.new }
+{
+    uninterruptible::immutable::walk_op(ctx, state, config, root, callback);
+}

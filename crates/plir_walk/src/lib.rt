@@ -1,0 +1,19 @@
+//! Walks over the tree of operations, regions and blocks: which nodes a callback is called at, in which order, and how
+//! a call stops the walk or leaves out what is below its node.
+#![tactic(auto)]
+
+pub mod config;
+mod cursor;
+pub mod interruptible;
+pub mod laws;
+pub mod limit;
+pub mod links;
+pub mod uninterruptible;
+
+pub use config::{
+    Direction, Order, WALKCONFIG_POSTORDER_FORWARD, WALKCONFIG_POSTORDER_REVERSE,
+    WALKCONFIG_PREORDER_FORWARD, WALKCONFIG_PREORDER_REVERSE, WalkConfig,
+};
+pub use limit::CallLimit;
+pub use links::NodeLinks;
+pub use plir_core::IRNode;

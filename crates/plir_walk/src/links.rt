@@ -1,0 +1,124 @@
+//! What a walk reads of a context: which nodes are live, and the links of a node of any kind.
+#![tactic(auto)]
+
+ghost use Rattle.std.specs.Prelude.{◌≡◌, true, reverse, option_and_then};
+ghost use Rattle.plir_core.specs.NodeLists.{head};
+ghost use Rattle.plir_core.specs.Store.{IsLive, last_kid, next_sibling, prev_sibling};
+ghost use Rattle.plir_core.specs.Whole.{IsWhole};
+ghost use Rattle.plir_walk.specs.Tree.{after};
+ghost use Rattle.plir_walk.specs.Forest.{Shape, IsForest};
+
+use plir_core::{Context, IRNode};
+use plir_data::OpSet;
+
+/// A context that can be walked: [`Context`] is one, for every op set.
+pub trait NodeLinks {
+    // What a walk sees of the context.
+    ghost look: { Self → Shape };
+
+    /// The live nodes make a forest: this tells a proof what every context keeps.
+    fn forest(&self)
+        ensures { IsForest (look self.now) };
+
+    /// What stands right above a node.
+    fn parent(&self, node: IRNode) -> Option<IRNode>
+        requires { (look self.now).live node ≡ true }
+        ensures { result ≡ (look self.now).parent node };
+
+    /// The first child of a node.
+    fn first_child(&self, node: IRNode) -> Option<IRNode>
+        requires { (look self.now).live node ≡ true }
+        ensures { result ≡ head ((look self.now).kids node) };
+
+    /// The last child of a node.
+    fn last_child(&self, node: IRNode) -> Option<IRNode>
+        requires { (look self.now).live node ≡ true }
+        ensures { result ≡ head (reverse ((look self.now).kids node)) };
+
+    /// The sibling right behind a node.
+    fn next_sibling(&self, node: IRNode) -> Option<IRNode>
+        requires { (look self.now).live node ≡ true }
+        ensures { result ≡ option_and_then (λ a. after node ((look self.now).kids a)) ((look self.now).parent node) };
+
+    /// The sibling right before a node.
+    fn previous_sibling(&self, node: IRNode) -> Option<IRNode>
+        requires { (look self.now).live node ≡ true }
+        ensures { result ≡ option_and_then (λ a. after node (reverse ((look self.now).kids a))) ((look self.now).parent node) };
+}
+
+impl<D: OpSet> NodeLinks for Context<D> {
+    ghost use Rattle.plir_walk.specs.View.{look as look_at};
+
+    ghost look = { λ s. look_at s };
+
+    fn forest(&self) {
+        let _count = self.num_live();
+    }
+
+    fn parent(&self, node: IRNode) -> Option<IRNode> {
+        match node {
+            IRNode::Operation(op) => op.get_parent_block(self).map(IRNode::BasicBlock),
+            IRNode::Region(region) => region.get_parent_op(self).map(IRNode::Operation),
+            IRNode::BasicBlock(block) => block.get_parent_region(self).map(IRNode::Region),
+        }
+    }
+
+    fn first_child(&self, node: IRNode) -> Option<IRNode> {
+        match node {
+            IRNode::Operation(op) => op.first_region(self).map(IRNode::Region),
+            IRNode::Region(region) => region.get_head(self).map(IRNode::BasicBlock),
+            IRNode::BasicBlock(block) => block.get_head(self).map(IRNode::Operation),
+        }
+    }
+
+    fn last_child(&self, node: IRNode) -> Option<IRNode> {
+        last_kid_of(self, node)
+    }
+
+    fn next_sibling(&self, node: IRNode) -> Option<IRNode> {
+        sibling_after(self, node)
+    }
+
+    fn previous_sibling(&self, node: IRNode) -> Option<IRNode> {
+        sibling_before(self, node)
+    }
+}
+
+/// The last child of a node.
+fn last_kid_of<D: OpSet>(ctx: &Context<D>, node: IRNode) -> Option<IRNode>
+    requires { IsLive ctx.now node }
+    ensures value { result ≡ last_kid ctx.now node }
+    ensures whole { IsWhole D.attr_handles ctx.now }
+{
+    match node {
+        IRNode::Operation(op) => op.last_region(ctx).map(IRNode::Region),
+        IRNode::Region(region) => region.get_tail(ctx).map(IRNode::BasicBlock),
+        IRNode::BasicBlock(block) => block.get_tail(ctx).map(IRNode::Operation),
+    }
+}
+
+/// The sibling right behind a node.
+fn sibling_after<D: OpSet>(ctx: &Context<D>, node: IRNode) -> Option<IRNode>
+    requires { IsLive ctx.now node }
+    ensures value { result ≡ next_sibling ctx.now node }
+    ensures whole { IsWhole D.attr_handles ctx.now }
+{
+    match node {
+        IRNode::Operation(op) => op.get_next(ctx).map(IRNode::Operation),
+        IRNode::Region(region) => region.get_next(ctx).map(IRNode::Region),
+        IRNode::BasicBlock(block) => block.get_next(ctx).map(IRNode::BasicBlock),
+    }
+}
+
+/// The sibling right before a node.
+fn sibling_before<D: OpSet>(ctx: &Context<D>, node: IRNode) -> Option<IRNode>
+    requires { IsLive ctx.now node }
+    ensures value { result ≡ prev_sibling ctx.now node }
+    ensures whole { IsWhole D.attr_handles ctx.now }
+{
+    match node {
+        IRNode::Operation(op) => op.get_prev(ctx).map(IRNode::Operation),
+        IRNode::Region(region) => region.get_prev(ctx).map(IRNode::Region),
+        IRNode::BasicBlock(block) => block.get_prev(ctx).map(IRNode::BasicBlock),
+    }
+}

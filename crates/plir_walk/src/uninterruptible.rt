@@ -1,0 +1,5 @@
+//! Walkers whose callback answers nothing: they always go to their end.
+#![tactic(auto)]
+
+pub mod immutable;
+pub mod mutable;
