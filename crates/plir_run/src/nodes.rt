@@ -4,7 +4,7 @@ ghost use Rattle.plir_core.specs.Store.{IsLive};
 ghost use Rattle.plir_core.specs.declared.ptr.IRNode.{IRNode};
 
 use crate::naming::ATTR_KEY_SYM_NAME;
-use crate::script_set::{Never, ScriptSet};
+use crate::script_set::{ScriptSet, Unmade};
 use crate::stop::Stop;
 use plir_core::{BasicBlock, Context, Operation, Ptr};
 use plir_data::{AttrObj, Identifier, IdentifierAttr, OpKind};
@@ -22,7 +22,7 @@ pub struct Made {
 pub fn make_named(
     alloc: Global,
     ctx: &mut Context<ScriptSet>,
-    kind: OpKind<Never>,
+    kind: OpKind<Unmade>,
     name: Identifier,
     target: Option<Ptr<BasicBlock>>,
 ) -> Result<Made, Stop> {
@@ -37,7 +37,7 @@ pub fn make_named(
 fn make_op(
     alloc: Global,
     ctx: &mut Context<ScriptSet>,
-    kind: OpKind<Never>,
+    kind: OpKind<Unmade>,
     target: Option<Ptr<BasicBlock>>,
 ) -> Result<Ptr<Operation>, Stop>
     ensures { IfOk result (λ op. IsLive ctx.new (IRNode.Operation op)) }

@@ -1,7 +1,7 @@
 //! What a script has built so far, and what each command does to it.
 use crate::command::{Command, read_command};
 use crate::nodes::{Made, make_named};
-use crate::script_set::{Never, ScriptSet};
+use crate::script_set::{ScriptSet, Unmade};
 use crate::stop::Stop;
 use crate::walking::print_walk;
 use plir_core::{BasicBlock, Context, Operation, Ptr};
@@ -78,7 +78,7 @@ impl Script {
     }
 
     // A new operation in the innermost open module, if there is one, where its name must be new.
-    fn add(&mut self, kind: OpKind<Never>, name: Identifier) -> Result<Made, Stop> {
+    fn add(&mut self, kind: OpKind<Unmade>, name: Identifier) -> Result<Made, Stop> {
         let mut target = None;
         if let Some(open) = self.open.last_mut() {
             if !open.names.insert(name.try_clone(self.alloc)?)? {

@@ -1,29 +1,29 @@
-//! The op set of scripts, which adds nothing to the builtin dialect.
+//! The op set of scripts: one operation kind, one attribute and one type of its own, of which no script makes a value.
 use plir_data::{Memory, OpSet, TypeHandle, TypeStore, VerifyErr};
 use std::alloc::Global;
 use thiserror::Error;
 
-/// An operation kind, an attribute or a type that no script makes.
+/// The operation kind, the attribute and the type of the set's own; no script makes one.
 #[derive(Clone, Copy, PartialEq, Eq, Hash, Debug)]
-pub enum Never {}
+pub struct Unmade;
 
 /// A refusal that no verifier of a script gives.
 #[derive(Clone, Copy, PartialEq, Eq, Debug, Error)]
 #[error("never given")]
 pub struct NeverRefused;
 
-/// The builtin operations, attributes and types alone.
+/// The builtin operations, attributes and types, and beside them only `Unmade`.
 #[derive(Clone, Copy, PartialEq, Eq, Debug)]
 pub struct ScriptSet;
 
 impl OpSet for ScriptSet {
-    ghost use Rattle.std.specs.Prelude.{[], None, false};
+    ghost use Rattle.std.specs.Prelude.{[], None, true, false, refl, codes};
 
-    type Kind = Never;
+    type Kind = Unmade;
 
-    type Attr = Never;
+    type Attr = Unmade;
 
-    type Ty = Never;
+    type Ty = Unmade;
 
     type Err = NeverRefused;
 
@@ -35,9 +35,9 @@ impl OpSet for ScriptSet {
 
     ghost is_symbol_user = { λ _. false };
 
-    ghost kind_id = { λ _. [] };
+    ghost kind_id = { λ _. codes "script.unmade" };
 
-    ghost attr_id = { λ _. [] };
+    ghost attr_id = { λ _. codes "script.unmade" };
 
     ghost attr_text = { λ _ _. [] };
 
@@ -45,13 +45,13 @@ impl OpSet for ScriptSet {
 
     ghost attr_outlined = { λ _. false };
 
-    ghost type_id = { λ _. [] };
+    ghost type_id = { λ _. codes "script.unmade" };
 
     ghost type_body_text = { λ _ _. [] };
 
     ghost function_sig = { λ _. None };
 
-    ghost attr_is_valid = { λ _ _. false };
+    ghost attr_is_valid = { λ _ _. true };
 
     ghost attr_refusal = { λ _ _ _. ⊥ };
 
@@ -59,81 +59,81 @@ impl OpSet for ScriptSet {
 
     ghost type_handles = { λ _. [] };
 
-    fn is_terminator(kind: Never) -> bool {
-        match kind {}
+    fn is_terminator(_kind: Unmade) -> bool {
+        false
     }
 
-    fn is_symbol(kind: Never) -> bool {
-        match kind {}
+    fn is_symbol(_kind: Unmade) -> bool {
+        false
     }
 
-    fn is_symbol_table(kind: Never) -> bool {
-        match kind {}
+    fn is_symbol_table(_kind: Unmade) -> bool {
+        false
     }
 
-    fn is_symbol_user(kind: Never) -> bool {
-        match kind {}
+    fn is_symbol_user(_kind: Unmade) -> bool {
+        false
     }
 
-    fn kind_id(kind: Never) -> &'static str {
-        match kind {}
+    fn kind_id(_kind: Unmade) -> &'static str {
+        "script.unmade"
     }
 
-    fn attr_id(attr: &Never) -> &'static str {
-        match *attr {}
+    fn attr_id(_attr: &Unmade) -> &'static str {
+        "script.unmade"
     }
 
     fn attr_text<C: TypeStore<Self>>(
-        _alloc: Global,
-        attr: &Never,
+        alloc: Global,
+        _attr: &Unmade,
         _ctx: &C,
     ) -> Result<String, Memory> {
-        match *attr {}
+        Ok(String::new(alloc))
     }
 
-    fn attr_type(attr: &Never) -> Option<TypeHandle> {
-        match *attr {}
+    fn attr_type(_attr: &Unmade) -> Option<TypeHandle> {
+        None
     }
 
-    fn attr_outlined(attr: &Never) -> bool {
-        match *attr {}
+    fn attr_outlined(_attr: &Unmade) -> bool {
+        false
     }
 
     fn verify_attr<C: TypeStore<Self>>(
         _alloc: Global,
-        attr: &Never,
+        _attr: &Unmade,
         _ctx: &C,
     ) -> Result<(), VerifyErr<NeverRefused>> {
-        match *attr {}
+        Ok(())
     }
 
-    fn clone_attr(_alloc: Global, attr: &Never) -> Result<Never, Memory> {
-        match *attr {}
+    fn clone_attr(_alloc: Global, _attr: &Unmade) -> Result<Unmade, Memory> {
+        Ok(Unmade)
     }
 
-    fn type_id(ty: &Never) -> &'static str {
-        match *ty {}
+    fn type_id(_ty: &Unmade) -> &'static str {
+        "script.unmade"
     }
 
     fn type_body_text<C: TypeStore<Self>>(
-        _alloc: Global,
-        ty: &Never,
+        alloc: Global,
+        _ty: &Unmade,
         _ctx: &C,
     ) -> Result<String, Memory> {
-        match *ty {}
+        Ok(String::new(alloc))
     }
 
-    fn function_sig(ty: &Never) -> Option<(&[TypeHandle], &[TypeHandle])> {
-        match *ty {}
+    fn function_sig(_ty: &Unmade) -> Option<(&[TypeHandle], &[TypeHandle])> {
+        None
     }
 
-    ghost attr_eq_exact = { λ a b e. elim a [ ] };
+    ghost attr_eq_exact = { λ a b e. refl };
 
-    ghost type_eq_exact = { λ a b e. elim a [ ] };
+    ghost type_eq_exact = { λ a b e. refl };
 
-    ghost attr_type_held = { λ a h e. elim a [ ] };
+    ghost attr_type_held = { λ a h e. elim e [ ] };
 
-    ghost arguments_held = { λ t p h e m. elim t [ ] };
+    ghost arguments_held = { λ t p h e m. elim e [ ] };
 
-    ghost results_held = { λ t p h e m. elim t [ ] };
+    ghost results_held = { λ t p h e m. elim e [ ] };
 }
