@@ -7,6 +7,7 @@ mod contents;
 mod context;
 mod erase;
 mod interface;
+mod linking;
 mod making;
 mod moving;
 mod operation;
