@@ -41,7 +41,7 @@ pub kids_at-room_list : (l : Lists) (fs : List ℕ) (p : ℕ) → kids_at (room_
 kids_at-room_list l [] p = get_or-push_default l.kids [] p
 kids_at-room_list l (f ∷ fs) p = refl
 
-kids-room_child : (l : Lists) (fs : List ℕ) → (room_child l fs).kids ≡ l.kids
+pub kids-room_child : (l : Lists) (fs : List ℕ) → (room_child l fs).kids ≡ l.kids
 kids-room_child l [] = refl
 kids-room_child l (f ∷ fs) = refl
 
@@ -157,6 +157,16 @@ module _ {C P : Type 0} (l : Lists) (t : Table C) (u : Table P) (w : IsListing l
 
   pub loose : (c : ℕ) → content_at t c ≡ None → parent_at l c ≡ None
   loose c f = loose_in c (parent_at l c) refl f
+
+  -- what is not live has nothing under it
+  childless_in : (p : ℕ) (ks : List ℕ) → kids_at l p ≡ ks → content_at u p ≡ None → ks ≡ []
+  childless_in p [] e f = refl
+  childless_in p (k ∷ ks) e f =
+      let x = w.linked_live k p (w.agreed.owned p k (rw e (inl refl))) in
+      absurd (some_none (content_at u p) x.1 f)
+
+  pub childless : (p : ℕ) → content_at u p ≡ None → kids_at l p ≡ []
+  childless p f = childless_in p (kids_at l p) refl f
 
   -- room for one more child, and for one more parent
   pub IsListing-child : (v : C) → content_at t (next_slot t) ≡ None → IsAgreed (room_child l t.free) → IsListing (room_child l t.free) (with_new t v) u

@@ -5,6 +5,7 @@ ghost use Rattle.plir_data.specs.Types.{AllLive};
 ghost use Rattle.plir_data.specs.AttrSeen.{attr_view};
 ghost use Rattle.plir_data.specs.Dictionary.{dict_put};
 ghost use Rattle.plir_core.specs.AttrHandles.{attr_handles};
+ghost use Rattle.plir_core.specs.Made.{IsMade};
 ghost use Rattle.plir_core.specs.Nodes.{ptr_at};
 ghost use Rattle.plir_core.specs.Store.{IsLive, IsValueLive, IsAncestor, is_live, given_out, num_live, limit, kids, parent_of, op_above, first_kid, last_kid, next_sibling, prev_sibling, arg_types_of, block_attributes_of};
 ghost use Rattle.plir_core.specs.Whole.{IsWhole};
@@ -35,6 +36,8 @@ impl BasicBlock {
         ensures live { IfOk result (λ p. IsLive ctx.new (IRNode.BasicBlock p)) }
         ensures fresh { IfOk result (λ p. given_out ctx.old (IRNode.BasicBlock p) ≡ false) }
         ensures given { (n : IRNode) → given_out ctx.old n ≡ true → given_out ctx.new n ≡ true }
+        ensures made { IfOk result (λ p. IsMade ctx.old.nodes ctx.new.nodes (IRNode.BasicBlock p)) }
+        ensures empty { IfOk result (λ p. kids ctx.new (IRNode.BasicBlock p) ≡ []) }
         ensures err { OnErr result (ctx.new ≡ ctx.old) }
         ensures too_many { (result ≡ Err NodeErr.TooManyNodes) ↔ ((num_live ctx.old ≡ limit ctx.old) ⊎ (2 ^ 32 - 1 ≤ next_slot ctx.old.nodes.blocks)) }
         ensures whole { IsWhole D.attr_handles ctx.new }

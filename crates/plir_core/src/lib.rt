@@ -13,6 +13,7 @@ mod moving;
 mod operation;
 mod ptr;
 mod region;
+mod regions;
 mod removing;
 mod unused;
 mod value;
