@@ -21,3 +21,4 @@ pub mod Uses
 pub mod Scan
 pub mod NewRegions
 pub mod KidAt
+pub mod Terminators
