@@ -22,3 +22,4 @@ pub mod Scan
 pub mod NewRegions
 pub mod KidAt
 pub mod Terminators
+pub mod Links
