@@ -15,7 +15,7 @@ use Rattle.plir_core.specs.declared.ptr.IRNode.TheVariants.{Operation, Region, B
 use Rattle.plir_core.specs.NodeLists.{Has}
 use Rattle.plir_core.specs.Nodes.{Nodes, ptr_at, is_node_live, node_kids, node_parent, op_node, block_node, region_node}
 use Rattle.plir_core.specs.Forest.{IsListing, IsForest}
-use Rattle.plir_core.specs.Linked.{IsLinked, IsUnlinked}
+use Rattle.plir_core.specs.Placed.{IsPlaced, IsUnlinked}
 use Rattle.plir_core.proofs.Facts.{live_parts, ptr_is, kid-parent, parent-live, slot_of}
 use Rattle.plir_core.proofs.Freed.{bool_cases, ptr_one, wrong_kid, mid_Has}
 use Rattle.plir_core.proofs.Listing.{within_content}
@@ -178,7 +178,7 @@ module _ {O B : Type 0} (s : Nodes O B) (w : IsForest s) where
   region_over r live = let h = within_content s.regions r.slot ((live_parts s.regions r.slot r.version live).0) in omega (arith, w.blocks_listed.parent_places)
 
   -- an operation is put into a block, and a block into a region
-  op_put : (l : Lists) (o : Ptr OperationKind) (b : Ptr BlockKind) (ks : List ℕ) → is_node_live s (Operation o) ≡ true → is_node_live s (BasicBlock b) ≡ true → IsPut s.ops_in_block l o.slot b.slot ks → IsLinked s (record s { ops_in_block = l }) (Operation o) (BasicBlock b) (map (op_node s) ks)
+  op_put : (l : Lists) (o : Ptr OperationKind) (b : Ptr BlockKind) (ks : List ℕ) → is_node_live s (Operation o) ≡ true → is_node_live s (BasicBlock b) ≡ true → IsPut s.ops_in_block l o.slot b.slot ks → IsPlaced s (record s { ops_in_block = l }) (Operation o) (BasicBlock b) (map (op_node s) ks)
   op_put l o b ks live_o live_b put = record {
     moved = record {
       ops = refl;
@@ -200,7 +200,7 @@ module _ {O B : Type 0} (s : Nodes O B) (w : IsForest s) where
     ];
   }
 
-  block_put : (l : Lists) (b : Ptr BlockKind) (r : Ptr RegionKind) (ks : List ℕ) → is_node_live s (BasicBlock b) ≡ true → is_node_live s (Region r) ≡ true → IsPut s.blocks_in_region l b.slot r.slot ks → IsLinked s (record s { blocks_in_region = l }) (BasicBlock b) (Region r) (map (block_node s) ks)
+  block_put : (l : Lists) (b : Ptr BlockKind) (r : Ptr RegionKind) (ks : List ℕ) → is_node_live s (BasicBlock b) ≡ true → is_node_live s (Region r) ≡ true → IsPut s.blocks_in_region l b.slot r.slot ks → IsPlaced s (record s { blocks_in_region = l }) (BasicBlock b) (Region r) (map (block_node s) ks)
   block_put l b r ks live_b live_r put = record {
     moved = record {
       ops = refl;
@@ -279,32 +279,32 @@ module _ {O B : Type 0} (s t : Nodes O B) (view : s ≡ t) (w : IsForest s) wher
   live_here : (m : IRNode) → is_node_live t m ≡ true → is_node_live s m ≡ true
   live_here m e = subst (λ z. is_node_live z m ≡ true) (sym view) e
 
-  seen : (n n' : Nodes O B) (m over : IRNode) (ks ks' : List IRNode) → n ≡ n' → ks ≡ ks' → IsLinked s n' m over ks → IsLinked t n m over ks'
-  seen n n' m over ks ks' e f x = subst (λ z. IsLinked z n m over ks') view (subst (λ z. IsLinked s z m over ks') (sym e) (subst (IsLinked s n' m over) f x))
+  seen : (n n' : Nodes O B) (m over : IRNode) (ks ks' : List IRNode) → n ≡ n' → ks ≡ ks' → IsPlaced s n' m over ks → IsPlaced t n m over ks'
+  seen n n' m over ks ks' e f x = subst (λ z. IsPlaced z n m over ks') view (subst (λ z. IsPlaced s z m over ks') (sym e) (subst (IsPlaced s n' m over) f x))
 
   -- at the start and at the end
-  pub op_first : (n : Nodes O B) (o : Ptr OperationKind) (b : Ptr BlockKind) → is_node_live t (Operation o) ≡ true → is_node_live t (BasicBlock b) ≡ true → n ≡ record s { ops_in_block = with_first s.ops_in_block b.slot o.slot } → IsLinked t n (Operation o) (BasicBlock b) (Operation o ∷ node_kids t (BasicBlock b))
+  pub op_first : (n : Nodes O B) (o : Ptr OperationKind) (b : Ptr BlockKind) → is_node_live t (Operation o) ≡ true → is_node_live t (BasicBlock b) ≡ true → n ≡ record s { ops_in_block = with_first s.ops_in_block b.slot o.slot } → IsPlaced t n (Operation o) (BasicBlock b) (Operation o ∷ node_kids t (BasicBlock b))
   op_first n o b live_o live_b e =
       let lo = live_here (Operation o) live_o in
       let lb = live_here (BasicBlock b) live_b in
       seen n _ (Operation o) (BasicBlock b) _ _ e (kids_first s.ops_in_block s.ops s.blocks w.ops_listed Operation o lo b lb ∙ ap (λ z. Operation o ∷ node_kids z (BasicBlock b)) view)
       (op_put s w (with_first s.ops_in_block b.slot o.slot) o b (o.slot ∷ kids_at s.ops_in_block b.slot) lo lb (IsPut-first s.ops_in_block o.slot b.slot (op_within s w o lo) (block_over s w b lb)))
 
-  pub op_last : (n : Nodes O B) (o : Ptr OperationKind) (b : Ptr BlockKind) → is_node_live t (Operation o) ≡ true → is_node_live t (BasicBlock b) ≡ true → n ≡ record s { ops_in_block = with_last s.ops_in_block b.slot o.slot } → IsLinked t n (Operation o) (BasicBlock b) (node_kids t (BasicBlock b) ++ Operation o ∷ [])
+  pub op_last : (n : Nodes O B) (o : Ptr OperationKind) (b : Ptr BlockKind) → is_node_live t (Operation o) ≡ true → is_node_live t (BasicBlock b) ≡ true → n ≡ record s { ops_in_block = with_last s.ops_in_block b.slot o.slot } → IsPlaced t n (Operation o) (BasicBlock b) (node_kids t (BasicBlock b) ++ Operation o ∷ [])
   op_last n o b live_o live_b e =
       let lo = live_here (Operation o) live_o in
       let lb = live_here (BasicBlock b) live_b in
       seen n _ (Operation o) (BasicBlock b) _ _ e (kids_last s.ops_in_block s.ops s.blocks w.ops_listed Operation o lo b lb ∙ ap (λ z. node_kids z (BasicBlock b) ++ Operation o ∷ []) view)
       (op_put s w (with_last s.ops_in_block b.slot o.slot) o b (kids_at s.ops_in_block b.slot ++ o.slot ∷ []) lo lb (IsPut-last s.ops_in_block o.slot b.slot (op_within s w o lo) (block_over s w b lb)))
 
-  pub block_first : (n : Nodes O B) (b : Ptr BlockKind) (r : Ptr RegionKind) → is_node_live t (BasicBlock b) ≡ true → is_node_live t (Region r) ≡ true → n ≡ record s { blocks_in_region = with_first s.blocks_in_region r.slot b.slot } → IsLinked t n (BasicBlock b) (Region r) (BasicBlock b ∷ node_kids t (Region r))
+  pub block_first : (n : Nodes O B) (b : Ptr BlockKind) (r : Ptr RegionKind) → is_node_live t (BasicBlock b) ≡ true → is_node_live t (Region r) ≡ true → n ≡ record s { blocks_in_region = with_first s.blocks_in_region r.slot b.slot } → IsPlaced t n (BasicBlock b) (Region r) (BasicBlock b ∷ node_kids t (Region r))
   block_first n b r live_b live_r e =
       let lb = live_here (BasicBlock b) live_b in
       let lr = live_here (Region r) live_r in
       seen n _ (BasicBlock b) (Region r) _ _ e (kids_first s.blocks_in_region s.blocks s.regions w.blocks_listed BasicBlock b lb r lr ∙ ap (λ z. BasicBlock b ∷ node_kids z (Region r)) view)
       (block_put s w (with_first s.blocks_in_region r.slot b.slot) b r (b.slot ∷ kids_at s.blocks_in_region r.slot) lb lr (IsPut-first s.blocks_in_region b.slot r.slot (block_within s w b lb) (region_over s w r lr)))
 
-  pub block_last : (n : Nodes O B) (b : Ptr BlockKind) (r : Ptr RegionKind) → is_node_live t (BasicBlock b) ≡ true → is_node_live t (Region r) ≡ true → n ≡ record s { blocks_in_region = with_last s.blocks_in_region r.slot b.slot } → IsLinked t n (BasicBlock b) (Region r) (node_kids t (Region r) ++ BasicBlock b ∷ [])
+  pub block_last : (n : Nodes O B) (b : Ptr BlockKind) (r : Ptr RegionKind) → is_node_live t (BasicBlock b) ≡ true → is_node_live t (Region r) ≡ true → n ≡ record s { blocks_in_region = with_last s.blocks_in_region r.slot b.slot } → IsPlaced t n (BasicBlock b) (Region r) (node_kids t (Region r) ++ BasicBlock b ∷ [])
   block_last n b r live_b live_r e =
       let lb = live_here (BasicBlock b) live_b in
       let lr = live_here (Region r) live_r in
@@ -323,46 +323,46 @@ module _ {O B : Type 0} (s t : Nodes O B) (view : s ≡ t) (w : IsForest s) wher
   over_block (BasicBlock q) xs ys m e = absurd (wrong_kid (is_node_live s (BasicBlock q)) (op_node s) (kids_at s.ops_in_block q.slot) (BasicBlock m) (λ i f. cc) (subst (λ z. Has z (BasicBlock m)) (sym e) (mid_Has xs ys (BasicBlock m))))
 
   -- beside a mark m
-  pub op_before : (n : Nodes O B) (o m : Ptr OperationKind) → is_node_live t (Operation o) ≡ true → is_node_live t (Operation m) ≡ true → n ≡ record s { ops_in_block = with_before s.ops_in_block o.slot m.slot } → (a : IRNode) (xs ys : List IRNode) → node_kids t a ≡ xs ++ Operation m ∷ ys → IsLinked t n (Operation o) a (xs ++ Operation o ∷ Operation m ∷ ys)
+  pub op_before : (n : Nodes O B) (o m : Ptr OperationKind) → is_node_live t (Operation o) ≡ true → is_node_live t (Operation m) ≡ true → n ≡ record s { ops_in_block = with_before s.ops_in_block o.slot m.slot } → (a : IRNode) (xs ys : List IRNode) → node_kids t a ≡ xs ++ Operation m ∷ ys → IsPlaced t n (Operation o) a (xs ++ Operation o ∷ Operation m ∷ ys)
   op_before n o m live_o live_m e a xs ys k =
       let lo = live_here (Operation o) live_o in
       let lm = live_here (Operation m) live_m in
       let v = over_op a xs ys m (ap (λ z. node_kids z a) view ∙ k) in
       let h : node_kids s (BasicBlock v.0) ≡ xs ++ Operation m ∷ ys = ap (node_kids s) (sym v.1.0) ∙ ap (λ z. node_kids z a) view ∙ k in
-      subst (λ z. IsLinked t n (Operation o) z (xs ++ Operation o ∷ Operation m ∷ ys)) (sym v.1.0)
+      subst (λ z. IsPlaced t n (Operation o) z (xs ++ Operation o ∷ Operation m ∷ ys)) (sym v.1.0)
       (seen n _ (Operation o) (BasicBlock v.0) _ _ e (kids_before s.ops_in_block s.ops s.blocks w.ops_listed Operation o lo v.0 v.1.1 (λ i j f. ap slot_of f) m lm xs ys h)
       (op_put s w (with_before s.ops_in_block o.slot m.slot) o v.0 (put_in o.slot m.slot (kids_at s.ops_in_block (v.0).slot)) lo v.1.1
       (IsPut-before s.ops_in_block o.slot m.slot (v.0).slot (over_mark s.ops_in_block s.ops s.blocks w.ops_listed Operation o lo v.0 v.1.1 (λ i j f. ap slot_of f) m lm xs ys h) (op_within s w o lo) (block_over s w v.0 v.1.1))))
 
-  pub op_after : (n : Nodes O B) (o m : Ptr OperationKind) → is_node_live t (Operation o) ≡ true → is_node_live t (Operation m) ≡ true → n ≡ record s { ops_in_block = with_after s.ops_in_block o.slot m.slot } → (a : IRNode) (xs ys : List IRNode) → node_kids t a ≡ xs ++ Operation m ∷ ys → IsLinked t n (Operation o) a (xs ++ Operation m ∷ Operation o ∷ ys)
+  pub op_after : (n : Nodes O B) (o m : Ptr OperationKind) → is_node_live t (Operation o) ≡ true → is_node_live t (Operation m) ≡ true → n ≡ record s { ops_in_block = with_after s.ops_in_block o.slot m.slot } → (a : IRNode) (xs ys : List IRNode) → node_kids t a ≡ xs ++ Operation m ∷ ys → IsPlaced t n (Operation o) a (xs ++ Operation m ∷ Operation o ∷ ys)
   op_after n o m live_o live_m e a xs ys k =
       let lo = live_here (Operation o) live_o in
       let lm = live_here (Operation m) live_m in
       let v = over_op a xs ys m (ap (λ z. node_kids z a) view ∙ k) in
       let h : node_kids s (BasicBlock v.0) ≡ xs ++ Operation m ∷ ys = ap (node_kids s) (sym v.1.0) ∙ ap (λ z. node_kids z a) view ∙ k in
-      subst (λ z. IsLinked t n (Operation o) z (xs ++ Operation m ∷ Operation o ∷ ys)) (sym v.1.0)
+      subst (λ z. IsPlaced t n (Operation o) z (xs ++ Operation m ∷ Operation o ∷ ys)) (sym v.1.0)
       (seen n _ (Operation o) (BasicBlock v.0) _ _ e (kids_after s.ops_in_block s.ops s.blocks w.ops_listed Operation o lo v.0 v.1.1 (λ i j f. ap slot_of f) m lm xs ys h)
       (op_put s w (with_after s.ops_in_block o.slot m.slot) o v.0 (put_in_after o.slot m.slot (kids_at s.ops_in_block (v.0).slot)) lo v.1.1
       (IsPut-after s.ops_in_block o.slot m.slot (v.0).slot (over_mark s.ops_in_block s.ops s.blocks w.ops_listed Operation o lo v.0 v.1.1 (λ i j f. ap slot_of f) m lm xs ys h) (op_within s w o lo) (block_over s w v.0 v.1.1))))
 
-  pub block_before : (n : Nodes O B) (b m : Ptr BlockKind) → is_node_live t (BasicBlock b) ≡ true → is_node_live t (BasicBlock m) ≡ true → n ≡ record s { blocks_in_region = with_before s.blocks_in_region b.slot m.slot } → (a : IRNode) (xs ys : List IRNode) → node_kids t a ≡ xs ++ BasicBlock m ∷ ys → IsLinked t n (BasicBlock b) a (xs ++ BasicBlock b ∷ BasicBlock m ∷ ys)
+  pub block_before : (n : Nodes O B) (b m : Ptr BlockKind) → is_node_live t (BasicBlock b) ≡ true → is_node_live t (BasicBlock m) ≡ true → n ≡ record s { blocks_in_region = with_before s.blocks_in_region b.slot m.slot } → (a : IRNode) (xs ys : List IRNode) → node_kids t a ≡ xs ++ BasicBlock m ∷ ys → IsPlaced t n (BasicBlock b) a (xs ++ BasicBlock b ∷ BasicBlock m ∷ ys)
   block_before n b m live_b live_m e a xs ys k =
       let lb = live_here (BasicBlock b) live_b in
       let lm = live_here (BasicBlock m) live_m in
       let v = over_block a xs ys m (ap (λ z. node_kids z a) view ∙ k) in
       let h : node_kids s (Region v.0) ≡ xs ++ BasicBlock m ∷ ys = ap (node_kids s) (sym v.1.0) ∙ ap (λ z. node_kids z a) view ∙ k in
-      subst (λ z. IsLinked t n (BasicBlock b) z (xs ++ BasicBlock b ∷ BasicBlock m ∷ ys)) (sym v.1.0)
+      subst (λ z. IsPlaced t n (BasicBlock b) z (xs ++ BasicBlock b ∷ BasicBlock m ∷ ys)) (sym v.1.0)
       (seen n _ (BasicBlock b) (Region v.0) _ _ e (kids_before s.blocks_in_region s.blocks s.regions w.blocks_listed BasicBlock b lb v.0 v.1.1 (λ i j f. ap slot_of f) m lm xs ys h)
       (block_put s w (with_before s.blocks_in_region b.slot m.slot) b v.0 (put_in b.slot m.slot (kids_at s.blocks_in_region (v.0).slot)) lb v.1.1
       (IsPut-before s.blocks_in_region b.slot m.slot (v.0).slot (over_mark s.blocks_in_region s.blocks s.regions w.blocks_listed BasicBlock b lb v.0 v.1.1 (λ i j f. ap slot_of f) m lm xs ys h) (block_within s w b lb) (region_over s w v.0 v.1.1))))
 
-  pub block_after : (n : Nodes O B) (b m : Ptr BlockKind) → is_node_live t (BasicBlock b) ≡ true → is_node_live t (BasicBlock m) ≡ true → n ≡ record s { blocks_in_region = with_after s.blocks_in_region b.slot m.slot } → (a : IRNode) (xs ys : List IRNode) → node_kids t a ≡ xs ++ BasicBlock m ∷ ys → IsLinked t n (BasicBlock b) a (xs ++ BasicBlock m ∷ BasicBlock b ∷ ys)
+  pub block_after : (n : Nodes O B) (b m : Ptr BlockKind) → is_node_live t (BasicBlock b) ≡ true → is_node_live t (BasicBlock m) ≡ true → n ≡ record s { blocks_in_region = with_after s.blocks_in_region b.slot m.slot } → (a : IRNode) (xs ys : List IRNode) → node_kids t a ≡ xs ++ BasicBlock m ∷ ys → IsPlaced t n (BasicBlock b) a (xs ++ BasicBlock m ∷ BasicBlock b ∷ ys)
   block_after n b m live_b live_m e a xs ys k =
       let lb = live_here (BasicBlock b) live_b in
       let lm = live_here (BasicBlock m) live_m in
       let v = over_block a xs ys m (ap (λ z. node_kids z a) view ∙ k) in
       let h : node_kids s (Region v.0) ≡ xs ++ BasicBlock m ∷ ys = ap (node_kids s) (sym v.1.0) ∙ ap (λ z. node_kids z a) view ∙ k in
-      subst (λ z. IsLinked t n (BasicBlock b) z (xs ++ BasicBlock m ∷ BasicBlock b ∷ ys)) (sym v.1.0)
+      subst (λ z. IsPlaced t n (BasicBlock b) z (xs ++ BasicBlock m ∷ BasicBlock b ∷ ys)) (sym v.1.0)
       (seen n _ (BasicBlock b) (Region v.0) _ _ e (kids_after s.blocks_in_region s.blocks s.regions w.blocks_listed BasicBlock b lb v.0 v.1.1 (λ i j f. ap slot_of f) m lm xs ys h)
       (block_put s w (with_after s.blocks_in_region b.slot m.slot) b v.0 (put_in_after b.slot m.slot (kids_at s.blocks_in_region (v.0).slot)) lb v.1.1
       (IsPut-after s.blocks_in_region b.slot m.slot (v.0).slot (over_mark s.blocks_in_region s.blocks s.regions w.blocks_listed BasicBlock b lb v.0 v.1.1 (λ i j f. ap slot_of f) m lm xs ys h) (block_within s w b lb) (region_over s w v.0 v.1.1))))

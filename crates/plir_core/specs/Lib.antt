@@ -12,7 +12,7 @@
 --   Forest       IsForest: the live nodes form a forest
 --   Above        climb, Reaches, depth: what stands above what
 --   Made         IsMade: a tree is new, and nothing else has changed; IsRegionAdded: one region is
---   Linked       IsLinked: a node has come under another one, and nothing else has changed; IsUnlinked: it has left its parent
+--   Placed       IsPlaced: a node has come under another one, and nothing else has changed; IsUnlinked: it has left its parent
 --   Lends        what a `&mut` into a node leaves
 --   AttrHandles  attr_handles: the type handles that an attribute holds
 --   Erase        erased: the nodes without a tree; IsErased: what that leaves as it was
@@ -32,7 +32,7 @@ pub mod Whole
 pub mod Interfaces
 pub mod Changes
 pub mod Made
-pub mod Linked
+pub mod Placed
 pub mod NodeLists
 pub mod Erase
 pub mod Unused

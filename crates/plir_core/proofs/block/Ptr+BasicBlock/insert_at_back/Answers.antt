@@ -10,6 +10,6 @@ invariant_of-ctx g c = block_linked _ _ c.ctx.invariant c.push_block.new.self _ 
 pub returns-clause-whole : goal.returns-clause-whole
 returns-clause-whole g c = invariant_of-ctx g c
 
-pub returns-clause-linked : goal.returns-clause-linked
-returns-clause-linked g c =
+pub returns-clause-placed : goal.returns-clause-placed
+returns-clause-placed g c =
     block_last c.ctx.inside.nodes c.args.ctx.now.nodes (ap (λ (z : Store g.row.D-Kind.Denot g.row.D-Attr.Denot g.row.D-Ty.Denot). z.nodes) c.ctx.view_is) c.ctx.invariant.forest c.push_block.new.self c.args.self c.args.region c.requires.live c.requires.target_live c.push_block.ensures.after

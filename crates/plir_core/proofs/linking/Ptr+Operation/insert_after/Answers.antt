@@ -10,6 +10,6 @@ invariant_of-ctx g c = op_linked _ _ c.ctx.invariant c.insert_op_after.new.self 
 pub returns-clause-whole : goal.returns-clause-whole
 returns-clause-whole g c = invariant_of-ctx g c
 
-pub returns-clause-linked : goal.returns-clause-linked
-returns-clause-linked g c =
+pub returns-clause-placed : goal.returns-clause-placed
+returns-clause-placed g c =
     op_after c.ctx.inside.nodes c.args.ctx.now.nodes (ap (λ (z : Store g.row.D-Kind.Denot g.row.D-Attr.Denot g.row.D-Ty.Denot). z.nodes) c.ctx.view_is) c.ctx.invariant.forest c.insert_op_after.new.self c.args.self c.args.mark c.requires.live c.requires.mark_live c.insert_op_after.ensures.after

@@ -13,7 +13,7 @@ module _ {O B : Type 0} where
     pub parents : (m : IRNode) → (m ≡ n → ⊥) → node_parent t m ≡ node_parent s m
 
   -- From s to t the node n has come under `over`, whose kids are now ks, and nothing else has changed.
-  pub record IsLinked (s t : Nodes O B) (n over : IRNode) (ks : List IRNode) : Type 0 where
+  pub record IsPlaced (s t : Nodes O B) (n over : IRNode) (ks : List IRNode) : Type 0 where
     pub moved : MovesOnly s t n
     pub parent : node_parent t n ≡ Some over
     pub kids_over : node_kids t over ≡ ks
