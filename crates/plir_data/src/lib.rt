@@ -5,6 +5,7 @@ mod ap_int;
 mod attr_interfaces;
 mod attribute_dict;
 mod attributes;
+mod builtin_set;
 mod identifier;
 mod location;
 mod memory;
@@ -21,6 +22,7 @@ pub use attributes::{
     AttrObj, BoolAttr, DictAttr, GivenNamesAttr, IdentifierAttr, IntegerAttr,
     OperandSegmentSizesAttr, StringAttr, TypeAttr, UnitAttr, VecAttr,
 };
+pub use builtin_set::{BuiltinSet, NeverRefused, NoMeaning};
 pub use identifier::{Identifier, IdentifierErr, is_identifier};
 pub use location::{Location, VerifyErr};
 pub use memory::Memory;
