@@ -1,0 +1,90 @@
+//! The tree that most tests walk: a module that holds two functions.
+ghost use Rattle.std.specs.Prelude.{IfOk};
+ghost use Rattle.plir_core.specs.Store.{IsLive};
+ghost use Rattle.plir_core.specs.declared.ptr.IRNode.{IRNode as AnyNode};
+
+use plir_core::{BasicBlock, Context, IRNode, Operation, Ptr, Region};
+use plir_data::{BuiltinSet, NoMeaning, OpKind};
+use std::alloc::Global;
+use std::test::Fail;
+
+/// An operation with one region that holds one block.
+#[derive(Clone, Copy)]
+pub struct Nest {
+    pub op: Ptr<Operation>,
+    pub region: Ptr<Region>,
+    pub block: Ptr<BasicBlock>,
+}
+
+impl Nest {
+    /// The operation, the region and the block.
+    pub fn nodes(self) -> (IRNode, IRNode, IRNode) {
+        (
+            IRNode::Operation(self.op),
+            IRNode::Region(self.region),
+            IRNode::BasicBlock(self.block),
+        )
+    }
+}
+
+/// A module `m` whose block holds the functions `f1` and `f2`.
+#[derive(Drop)]
+pub struct Sample {
+    pub ctx: Context<BuiltinSet>,
+    pub m: Nest,
+    pub f1: Nest,
+    pub f2: Nest,
+}
+
+impl Sample {
+    /// The module and the functions, made in this order.
+    pub fn new(alloc: Global) -> Result<Self, Fail> {
+        let mut ctx = Context::new(alloc);
+        let m = nest(alloc, &mut ctx, OpKind::Module, None)?;
+        let f1 = nest(alloc, &mut ctx, OpKind::Func, Some(m.block))?;
+        let f2 = nest(alloc, &mut ctx, OpKind::Func, Some(m.block))?;
+        Ok(Sample { ctx, m, f1, f2 })
+    }
+}
+
+/// A new operation with one region, which holds one empty block. It stands at the end of the block `target`, if there is one.
+pub fn nest(
+    alloc: Global,
+    ctx: &mut Context<BuiltinSet>,
+    kind: OpKind<NoMeaning>,
+    target: Option<Ptr<BasicBlock>>,
+) -> Result<Nest, Fail> {
+    let op = new_op(alloc, ctx, kind, target)?;
+    let region = op.first_region(ctx).ok_or("no region")?;
+    if !region.is_live(ctx) {
+        return Err("a dead region")?;
+    }
+    let block = BasicBlock::new(alloc, ctx, None, Vec::new(alloc))?;
+    block.insert_at_back(region, ctx);
+    Ok(Nest { op, region, block })
+}
+
+// A new operation with one region, at the end of `target`, if that is given.
+fn new_op(
+    alloc: Global,
+    ctx: &mut Context<BuiltinSet>,
+    kind: OpKind<NoMeaning>,
+    target: Option<Ptr<BasicBlock>>,
+) -> Result<Ptr<Operation>, Fail>
+    ensures { IfOk result (λ op. IsLive ctx.new (AnyNode.Operation op)) }
+{
+    let results = Vec::new(alloc);
+    let operands = Vec::new(alloc);
+    let successors = Vec::new(alloc);
+    match target {
+        None => Ok(Operation::new(alloc, ctx, kind, results, operands, successors, 1)?),
+        Some(block) => {
+            if !block.is_live(ctx) {
+                return Err("a dead block")?;
+            }
+            let op = Operation::new(alloc, ctx, kind, results, operands, successors, 1)?;
+            op.insert_at_back(block, ctx);
+            Ok(op)
+        }
+    }
+}
