@@ -13,6 +13,8 @@ mod operation;
 mod ptr;
 mod region;
 mod removing;
+#[cfg(test)]
+mod tests;
 mod unused;
 mod value;
 
