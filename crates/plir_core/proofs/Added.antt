@@ -16,12 +16,12 @@ use Rattle.plir_core.specs.Above.{climb, Reaches}
 use Rattle.plir_core.specs.Nodes.{Nodes, ptr_at, is_given_out, op_node, region_node, block_node, is_node_live, was_given_out, node_kids, node_parent}
 use Rattle.plir_core.specs.Forest.{IsListing, IsForest}
 use Rattle.std.proofs.Common.{set, length-set}
-use Rattle.std.proofs.lemmas.List.{get_or-set_same, get_or-set_other}
+use Rattle.std.proofs.lemmas.List.{get_or-set_same, get_or-set_other, map-append}
 use Rattle.plir_core.specs.Erase.{IsErased}
 use Rattle.plir_core.proofs.Facts.{parent-live}
 use Rattle.plir_core.specs.Edits.{SameNodes, room_child, room_list, with_new_op, with_new_block, with_new_region}
-use Rattle.plir_core.specs.Made.{KeepsLive, IsAdded, IsMade}
-use Rattle.plir_core.proofs.Listing.{within_content, parent_at-room_child, parent_at-room_list, kids_at-room_child, kids_at-room_list, loose, some_none}
+use Rattle.plir_core.specs.Made.{KeepsLive, IsAdded, IsRegionAdded, IsMade}
+use Rattle.plir_core.proofs.Listing.{within_content, parent_at-room_child, parent_at-room_list, kids_at-room_child, kids_at-room_list, kids-room_child, loose, childless, some_none}
 use Rattle.plir_core.proofs.Seats.{live_some, live_version, some_live, same_ptr}
 
 -- a map whose function changes at no element
@@ -143,6 +143,7 @@ module _ {O B : Type 0} (s : Nodes O B) (w : IsForest s) where
         fresh = ptr_fresh s.ops v w.op_slots p is;
         added = ptr_live s.ops v w.op_slots p is;
         placed = rw (ptr_live s.ops v w.op_slots p is, parent_at-room_child s.ops_in_block s.ops.free p.slot, loose s.ops_in_block s.ops s.blocks w.ops_listed p.slot (rw (slot_is s.ops v w.op_slots p is) (content_at-next_slot s.ops w.op_slots))) refl;
+        leaf = rw (ptr_live s.ops v w.op_slots p is, kids_at-room_list s.regions_in_op s.ops.free p.slot, childless s.regions_in_op s.regions s.ops w.regions_listed p.slot (rw (slot_is s.ops v w.op_slots p is) (content_at-next_slot s.ops w.op_slots))) refl;
         only = elim [
           | Operation q ↦ λ e f. ap Operation (ptr_only s.ops v w.op_slots p is q e f)
           | Region q ↦ λ e f. absurd (true_false e f)
@@ -183,6 +184,7 @@ module _ {O B : Type 0} (s : Nodes O B) (w : IsForest s) where
         fresh = ptr_fresh s.blocks v w.block_slots p is;
         added = ptr_live s.blocks v w.block_slots p is;
         placed = rw (ptr_live s.blocks v w.block_slots p is, parent_at-room_child s.blocks_in_region s.blocks.free p.slot, loose s.blocks_in_region s.blocks s.regions w.blocks_listed p.slot (rw (slot_is s.blocks v w.block_slots p is) (content_at-next_slot s.blocks w.block_slots))) refl;
+        leaf = rw (ptr_live s.blocks v w.block_slots p is, kids_at-room_list s.ops_in_block s.blocks.free p.slot, childless s.ops_in_block s.ops s.blocks w.ops_listed p.slot (rw (slot_is s.blocks v w.block_slots p is) (content_at-next_slot s.blocks w.block_slots))) refl;
         only = elim [
           | Operation q ↦ λ e f. absurd (true_false e f)
           | Region q ↦ λ e f. absurd (true_false e f)
@@ -239,6 +241,7 @@ module _ {O B : Type 0} (s : Nodes O B) (w : IsForest s) where
         fresh = ptr_fresh s.regions v w.region_slots p is;
         added = ptr_live s.regions v w.region_slots p is;
         placed = rw (ptr_live s.regions v w.region_slots p is, slot_is s.regions v w.region_slots p is, here) (ap (λ z. Some (Operation z)) (same_ptr (ptr_at s.ops o.slot) o refl (live_version s.ops o.slot o.version live)));
+        leaf = rw (ptr_live s.regions v w.region_slots p is, kids_at-room_list s.blocks_in_region s.regions.free p.slot, childless s.blocks_in_region s.blocks s.regions w.blocks_listed p.slot (rw (slot_is s.regions v w.region_slots p is) (content_at-next_slot s.regions w.region_slots))) refl;
         only = elim [
           | Operation q ↦ λ e f. absurd (true_false e f)
           | Region q ↦ λ e f. ap Region (ptr_only s.regions v w.region_slots p is q e f)
@@ -248,6 +251,30 @@ module _ {O B : Type 0} (s : Nodes O B) (w : IsForest s) where
     where
       same_op : (q : Ptr OperationKind) → q.slot ≡ o.slot → is_live_at s.ops q.slot q.version ≡ true → q ≡ o
       same_op q g e = same_ptr q o g (sym (live_version s.ops q.slot q.version e) ∙ ap (version_at s.ops) g ∙ live_version s.ops o.slot o.version live)
+
+  -- the regions of o with the new one
+  region_kids_here : (o : ℕ) → o < length s.ops.slots → kids_at (region_lists o) o ≡ kids_at s.regions_in_op o ++ next_slot s.regions ∷ []
+  unfolding region_lists
+  region_kids_here o h =
+      get_or-set_same (room_child s.regions_in_op s.regions.free).kids o (kids_at (room_child s.regions_in_op s.regions.free) o ++ next_slot s.regions ∷ []) [] (let c = ap length (kids-room_child s.regions_in_op s.regions.free) in let d = w.regions_listed.parent_places in omega arith)
+      ∙ ap (λ ks. ks ++ next_slot s.regions ∷ []) (kids_at-room_child s.regions_in_op s.regions.free o)
+
+  region_last : (o : Ptr OperationKind) (p : Ptr RegionKind) → is_node_live s (Operation o) ≡ true → p ≡ ptr_at (with_new s.regions (record {})) (next_slot s.regions) → node_kids (with_new_region s o.slot) (Operation o) ≡ node_kids s (Operation o) ++ Region p ∷ []
+  unfolding region_lists
+  region_last o p live is =
+      let t = with_new_region s o.slot in
+      rw (live, region_kids_here o.slot (within_content s.ops o.slot (live_some s.ops o.slot o.version live)), map-append (region_node t) (kids_at s.regions_in_op o.slot) (next_slot s.regions ∷ []))
+      (ap (λ ks. ks ++ region_node t (next_slot s.regions) ∷ []) (kids_grown s.regions_in_op s.regions s.ops w.regions_listed Region (record {}) w.region_slots o.slot)
+      ∙ ap (λ z. map (region_node s) (kids_at s.regions_in_op o.slot) ++ Region z ∷ []) (sym is))
+
+-- a region is made: t is what the nodes are then
+pub IsRegionAdded-made : {O B : Type 0} (s t : Nodes O B) → IsForest s → (o : Ptr OperationKind) (p : Ptr RegionKind) → is_node_live s (Operation o) ≡ true → t ≡ with_new_region s o.slot → IsForest t → p ≡ ptr_at t.regions (next_slot s.regions) → IsRegionAdded s t (Operation o) (Region p)
+IsRegionAdded-made {O} {B} s t w o p live e f is =
+    let here : p ≡ ptr_at (with_new s.regions (record {})) (next_slot s.regions) = is ∙ ap (λ (z : Nodes O B). ptr_at z.regions (next_slot s.regions)) e in
+    subst (λ z. IsRegionAdded s z (Operation o) (Region p)) (sym e) (record {
+      added = IsAdded-region s w o p live (subst IsForest e f) here;
+      last = region_last s w o p live here;
+    })
 
 not_given : (b c : Bool) → (b ≡ true → c ≡ true) → c ≡ false → b ≡ false
 not_given true c f e = absurd (true_false (f refl) e)
@@ -283,6 +310,11 @@ module _ {O B : Type 0} where
     below = λ m e f. (0, ap (λ z. Some z) (a.only m e f));
     fresh = λ m e f. subst (λ z. was_given_out s z ≡ false) (sym (a.only m e f)) a.fresh;
   }
+
+  -- a block is made: t is what the nodes are then
+  pub IsAdded-made_block : (s t : Nodes O B) → IsForest s → (v : B) (p : Ptr BasicBlockKind) → t ≡ with_new_block s v → p ≡ ptr_at t.blocks (next_slot s.blocks) → IsAdded s t (BasicBlock p) None
+  IsAdded-made_block s t w v p e is =
+      subst (λ z. IsAdded s z (BasicBlock p) None) (sym e) (IsAdded-block s w v p (is ∙ ap (λ (z : Nodes O B). ptr_at z.blocks (next_slot s.blocks)) e))
 
   -- what is reached stays reached
   climb_kept : (t u : Nodes O B) → IsForest t → KeepsLive t u → (k : ℕ) (m n : IRNode) → is_node_live t m ≡ true → climb (node_parent t) k (Some m) ≡ Some n → climb (node_parent u) k (Some m) ≡ Some n

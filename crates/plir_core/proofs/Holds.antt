@@ -166,6 +166,10 @@ module _ {K A T : Type 0} where
     pub block_linked : (s : Store K A T) → IsWhole own s → (n : Nodes (OpView K A) (BlockView A)) (l : Lists) → n ≡ record s.nodes { blocks_in_region = l } → IsForest n → IsWhole own (record s { nodes = n })
     block_linked s w n l e f = whole_linked s w n (ap (λ (z : Nodes (OpView K A) (BlockView A)). z.ops) e) (ap (λ (z : Nodes (OpView K A) (BlockView A)). z.blocks) e) f
 
+    -- a new region
+    pub region_added : (s : Store K A T) → IsWhole own s → (n : Nodes (OpView K A) (BlockView A)) (o : ℕ) → n ≡ with_new_region s.nodes o → IsForest n → IsWhole own (record s { nodes = n })
+    region_added s w n o e f = whole_linked s w n (ap (λ (z : Nodes (OpView K A) (BlockView A)). z.ops) e) (ap (λ (z : Nodes (OpView K A) (BlockView A)). z.blocks) e) f
+
     pub block_made : (s : Store K A T) → IsWhole own s → (n : Nodes (OpView K A) (BlockView A)) (v : BlockView A) → n ≡ with_new_block s.nodes v → IsForest n → content_at (with_new s.nodes.blocks v) (next_slot s.nodes.blocks) ≡ Some v → BlockHoldsLive own s v → IsWhole own (record s { nodes = n })
     block_made s w n v e f here h =
         let s' : Store K A T = record s { nodes = n } in

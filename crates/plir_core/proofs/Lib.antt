@@ -19,4 +19,6 @@ pub mod Erasing
 pub mod Ancestors
 pub mod Uses
 pub mod Scan
-pub mod Regions
+pub mod NewRegions
+pub mod KidAt
+pub mod Terminators

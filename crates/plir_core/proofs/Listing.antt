@@ -3,7 +3,7 @@ use Rattle.std.proofs.Common.{◌≡◌, ℕ, ◌+◌, ◌<◌, ◌≤◌, List,
 use Rattle.std.proofs.lemmas.Bool.{cases_eq, cases_lt}
 use Rattle.std.proofs.lemmas.List.{get_or_past, get_or-set_same, get_or-set_other, get_or_append_left, length-append}
 use Rattle.std.proofs.lemmas.Option.{same_Some, none-some}
-use Rattle.plir_store.specs.Lists.{Lists, In, IsAgreed, kids_at, parent_at, put_in, without, with_last, with_before, with_before_under, without_child, without_under}
+use Rattle.plir_store.specs.Lists.{Lists, In, IsAgreed, kids_at, parent_at, put_in, put_in_after, without, with_first, with_last, with_before, with_before_under, with_after, with_after_under, without_child, without_under}
 use Rattle.plir_store.specs.Table.{Table, Cell, no_cell, cell_at, content_at, version_at, num_full, slot_after, next_slot, with_new, with_new_in, without_slot}
 use Rattle.plir_store.proofs.Changes.{get_or-push_default}
 use Rattle.plir_core.specs.Forest.{IsListing}
@@ -41,7 +41,7 @@ pub kids_at-room_list : (l : Lists) (fs : List ℕ) (p : ℕ) → kids_at (room_
 kids_at-room_list l [] p = get_or-push_default l.kids [] p
 kids_at-room_list l (f ∷ fs) p = refl
 
-kids-room_child : (l : Lists) (fs : List ℕ) → (room_child l fs).kids ≡ l.kids
+pub kids-room_child : (l : Lists) (fs : List ℕ) → (room_child l fs).kids ≡ l.kids
 kids-room_child l [] = refl
 kids-room_child l (f ∷ fs) = refl
 
@@ -125,11 +125,17 @@ IsMoved-under l c p ks h = record {
   other = λ x n. get_or-set_other l.parents c x (Some p) None n;
 }
 
+pub IsMoved-first : (l : Lists) (c p : ℕ) → c < length l.parents → IsMoved l (with_first l p c) c (Some p)
+IsMoved-first l c p h = IsMoved-under l c p (c ∷ kids_at l p) h
+
 pub IsMoved-last : (l : Lists) (c p : ℕ) → c < length l.parents → IsMoved l (with_last l p c) c (Some p)
 IsMoved-last l c p h = IsMoved-under l c p (kids_at l p ++ c ∷ []) h
 
 pub IsMoved-before : (l : Lists) (c m p : ℕ) → c < length l.parents → parent_at l m ≡ Some p → IsMoved l (with_before l c m) c (Some p)
 IsMoved-before l c m p h e = subst (λ o. IsMoved l (with_before_under l c m o) c (Some p)) (sym e) (IsMoved-under l c p (put_in c m (kids_at l p)) h)
+
+pub IsMoved-after : (l : Lists) (c m p : ℕ) → c < length l.parents → parent_at l m ≡ Some p → IsMoved l (with_after l c m) c (Some p)
+IsMoved-after l c m p h e = subst (λ o. IsMoved l (with_after_under l c m o) c (Some p)) (sym e) (IsMoved-under l c p (put_in_after c m (kids_at l p)) h)
 
 IsMoved-out_under : (l : Lists) (c : ℕ) (o : Option ℕ) → c < length l.parents → parent_at l c ≡ o → IsMoved l (without_under l c o) c None
 IsMoved-out_under l c None h e = record { parents = refl; kids = refl; here = e; other = λ x n. refl }
@@ -151,6 +157,16 @@ module _ {C P : Type 0} (l : Lists) (t : Table C) (u : Table P) (w : IsListing l
 
   pub loose : (c : ℕ) → content_at t c ≡ None → parent_at l c ≡ None
   loose c f = loose_in c (parent_at l c) refl f
+
+  -- what is not live has nothing under it
+  childless_in : (p : ℕ) (ks : List ℕ) → kids_at l p ≡ ks → content_at u p ≡ None → ks ≡ []
+  childless_in p [] e f = refl
+  childless_in p (k ∷ ks) e f =
+      let x = w.linked_live k p (w.agreed.owned p k (rw e (inl refl))) in
+      absurd (some_none (content_at u p) x.1 f)
+
+  pub childless : (p : ℕ) → content_at u p ≡ None → kids_at l p ≡ []
+  childless p f = childless_in p (kids_at l p) refl f
 
   -- room for one more child, and for one more parent
   pub IsListing-child : (v : C) → content_at t (next_slot t) ≡ None → IsAgreed (room_child l t.free) → IsListing (room_child l t.free) (with_new t v) u

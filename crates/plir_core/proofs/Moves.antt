@@ -2,7 +2,7 @@
 use Rattle.std.proofs.Common.{◌≡◌, ℕ, suc, ◌+◌, ◌<◌, length, Option, Some, None, IsSome, refl, sym, ◌∙◌, ap, subst, arith}
 use Rattle.std.specs.Prelude.{option_map, true, cond, map, [], slice_get}
 use Rattle.std.proofs.lemmas.Option.{slice_get-map}
-use Rattle.plir_store.specs.Lists.{Lists, IsAgreed, kids_at, parent_at, with_last, with_before, without_child}
+use Rattle.plir_store.specs.Lists.{Lists, IsAgreed, kids_at, parent_at, with_last, without_child}
 use Rattle.plir_store.specs.Table.{Table, content_at, version_at, next_slot, with_content}
 use Rattle.plir_core.specs.declared.ptr.Ptr.{Ptr}
 use Rattle.plir_core.specs.declared.ptr.Operation.{Operation as OperationKind}
@@ -14,7 +14,7 @@ use Rattle.plir_core.specs.Above.{climb, Reaches}
 use Rattle.plir_core.specs.Nodes.{Nodes, num_nodes, ptr_at, node_kids, block_node, region_node, is_node_live, node_parent, node_over}
 use Rattle.plir_core.specs.Forest.{Seat, op, region, block, seat_of, up, IsForest}
 use Rattle.plir_core.specs.Edits.{IsFilled, room_child, room_list}
-use Rattle.plir_core.proofs.Listing.{IsMoved, IsMoved-last, IsMoved-before, IsMoved-out, some_value, within_content}
+use Rattle.plir_core.proofs.Listing.{IsMoved, IsMoved-out, some_value, within_content}
 use Rattle.plir_core.proofs.Changes.{IsForest-new_region, IsForest-link_op, IsForest-unlink_op, IsForest-link_block, IsForest-unlink_block, IsForest-held_op, IsForest-held_block}
 use Rattle.plir_core.proofs.Siblings.{In_get}
 use Rattle.plir_core.proofs.Seats.{same_ptr, live_some, parent_over, reach_seat}
@@ -46,13 +46,14 @@ module _ {O B : Type 0} (s t : Nodes O B) (view : s ≡ t) (w : IsForest s) wher
   region_made x l m n o i live e f le me ne la ma na room =
       IsForest-new_region s w x l m n o.slot f le me (ne ∙ ap (with_last m o.slot) e) la ma na room (op_some o live)
 
-  pub op_pushed : (o : Ptr OperationKind) (b : Ptr BasicBlockKind) (l : Lists) → is_node_live t (Operation o) ≡ true → is_node_live t (BasicBlock b) ≡ true → (Reaches (node_parent t) (BasicBlock b) (Operation o) → ⊥) → l ≡ with_last s.ops_in_block b.slot o.slot → IsAgreed l → IsForest (record s { ops_in_block = l })
-  op_pushed o b l live_o live_b away e a =
-      IsForest-link_op s w l o.slot b.slot (subst (λ z. IsMoved s.ops_in_block z o.slot (Some b.slot)) (sym e) (IsMoved-last s.ops_in_block o.slot b.slot (op_in o live_o))) a (op_some o live_o) (block_some b live_b) (away_from (BasicBlock b) (Operation o) live_b live_o away)
+  -- a node is put under a parent: f says where among its kids
+  pub op_put : (f : Lists → ℕ → ℕ → Lists) → ((l : Lists) (c p : ℕ) → c < length l.parents → IsMoved l (f l p c) c (Some p)) → (o : Ptr OperationKind) (b : Ptr BasicBlockKind) (l : Lists) → is_node_live t (Operation o) ≡ true → is_node_live t (BasicBlock b) ≡ true → (Reaches (node_parent t) (BasicBlock b) (Operation o) → ⊥) → l ≡ f s.ops_in_block b.slot o.slot → IsAgreed l → IsForest (record s { ops_in_block = l })
+  op_put f moved o b l live_o live_b away e a =
+      IsForest-link_op s w l o.slot b.slot (subst (λ z. IsMoved s.ops_in_block z o.slot (Some b.slot)) (sym e) (moved s.ops_in_block o.slot b.slot (op_in o live_o))) a (op_some o live_o) (block_some b live_b) (away_from (BasicBlock b) (Operation o) live_b live_o away)
 
-  pub block_pushed : (b : Ptr BasicBlockKind) (r : Ptr RegionKind) (l : Lists) → is_node_live t (BasicBlock b) ≡ true → is_node_live t (Region r) ≡ true → (Reaches (node_parent t) (Region r) (BasicBlock b) → ⊥) → l ≡ with_last s.blocks_in_region r.slot b.slot → IsAgreed l → IsForest (record s { blocks_in_region = l })
-  block_pushed b r l live_b live_r away e a =
-      IsForest-link_block s w l b.slot r.slot (subst (λ z. IsMoved s.blocks_in_region z b.slot (Some r.slot)) (sym e) (IsMoved-last s.blocks_in_region b.slot r.slot (block_in b live_b))) a (block_some b live_b) (region_some r live_r) (away_from (Region r) (BasicBlock b) live_r live_b away)
+  pub block_put : (f : Lists → ℕ → ℕ → Lists) → ((l : Lists) (c p : ℕ) → c < length l.parents → IsMoved l (f l p c) c (Some p)) → (b : Ptr BasicBlockKind) (r : Ptr RegionKind) (l : Lists) → is_node_live t (BasicBlock b) ≡ true → is_node_live t (Region r) ≡ true → (Reaches (node_parent t) (Region r) (BasicBlock b) → ⊥) → l ≡ f s.blocks_in_region r.slot b.slot → IsAgreed l → IsForest (record s { blocks_in_region = l })
+  block_put f moved b r l live_b live_r away e a =
+      IsForest-link_block s w l b.slot r.slot (subst (λ z. IsMoved s.blocks_in_region z b.slot (Some r.slot)) (sym e) (moved s.blocks_in_region b.slot r.slot (block_in b live_b))) a (block_some b live_b) (region_some r live_r) (away_from (Region r) (BasicBlock b) live_r live_b away)
 
   -- the parent's slot of a node that has a parent
   mapped : {A C : Type 0} (f : A → C) (o : Option A) → IsSome (option_map f o) → (p : A) × (o ≡ Some p)
@@ -67,16 +68,17 @@ module _ {O B : Type 0} (s t : Nodes O B) (view : s ≡ t) (w : IsForest s) wher
   linked_block m live linked =
       mapped (region_node s) (parent_at s.blocks_in_region m.slot) (subst IsSome (parent_over s (BasicBlock m) (live_of (BasicBlock m) live)) (subst (λ z. IsSome (node_parent z (BasicBlock m))) (sym view) linked))
 
-  pub op_inserted_before : (o m : Ptr OperationKind) (l : Lists) → is_node_live t (Operation o) ≡ true → is_node_live t (Operation m) ≡ true → IsSome (node_parent t (Operation m)) → (Reaches (node_parent t) (Operation m) (Operation o) → ⊥) → l ≡ with_before s.ops_in_block o.slot m.slot → IsAgreed l → IsForest (record s { ops_in_block = l })
-  op_inserted_before o m l live_o live_m linked away e a =
+  -- a node is put beside another one: f says on which side
+  pub op_put_beside : (f : Lists → ℕ → ℕ → Lists) → ((l : Lists) (c m p : ℕ) → c < length l.parents → parent_at l m ≡ Some p → IsMoved l (f l c m) c (Some p)) → (o m : Ptr OperationKind) (l : Lists) → is_node_live t (Operation o) ≡ true → is_node_live t (Operation m) ≡ true → IsSome (node_parent t (Operation m)) → (Reaches (node_parent t) (Operation m) (Operation o) → ⊥) → l ≡ f s.ops_in_block o.slot m.slot → IsAgreed l → IsForest (record s { ops_in_block = l })
+  op_put_beside f moved o m l live_o live_m linked away e a =
       let p = linked_op m live_m linked in
-      IsForest-link_op s w l o.slot p.0 (subst (λ z. IsMoved s.ops_in_block z o.slot (Some p.0)) (sym e) (IsMoved-before s.ops_in_block o.slot m.slot p.0 (op_in o live_o) p.1)) a (op_some o live_o) ((w.ops_listed.linked_live m.slot p.0 p.1).1)
+      IsForest-link_op s w l o.slot p.0 (subst (λ z. IsMoved s.ops_in_block z o.slot (Some p.0)) (sym e) (moved s.ops_in_block o.slot m.slot p.0 (op_in o live_o) p.1)) a (op_some o live_o) ((w.ops_listed.linked_live m.slot p.0 p.1).1)
       (λ r. away_from (Operation m) (Operation o) live_m live_o away (suc r.0, ap (λ z. climb (up s) r.0 (option_map block z)) p.1 ∙ r.1))
 
-  pub block_inserted_before : (b m : Ptr BasicBlockKind) (l : Lists) → is_node_live t (BasicBlock b) ≡ true → is_node_live t (BasicBlock m) ≡ true → IsSome (node_parent t (BasicBlock m)) → (Reaches (node_parent t) (BasicBlock m) (BasicBlock b) → ⊥) → l ≡ with_before s.blocks_in_region b.slot m.slot → IsAgreed l → IsForest (record s { blocks_in_region = l })
-  block_inserted_before b m l live_b live_m linked away e a =
+  pub block_put_beside : (f : Lists → ℕ → ℕ → Lists) → ((l : Lists) (c m p : ℕ) → c < length l.parents → parent_at l m ≡ Some p → IsMoved l (f l c m) c (Some p)) → (b m : Ptr BasicBlockKind) (l : Lists) → is_node_live t (BasicBlock b) ≡ true → is_node_live t (BasicBlock m) ≡ true → IsSome (node_parent t (BasicBlock m)) → (Reaches (node_parent t) (BasicBlock m) (BasicBlock b) → ⊥) → l ≡ f s.blocks_in_region b.slot m.slot → IsAgreed l → IsForest (record s { blocks_in_region = l })
+  block_put_beside f moved b m l live_b live_m linked away e a =
       let p = linked_block m live_m linked in
-      IsForest-link_block s w l b.slot p.0 (subst (λ z. IsMoved s.blocks_in_region z b.slot (Some p.0)) (sym e) (IsMoved-before s.blocks_in_region b.slot m.slot p.0 (block_in b live_b) p.1)) a (block_some b live_b) ((w.blocks_listed.linked_live m.slot p.0 p.1).1)
+      IsForest-link_block s w l b.slot p.0 (subst (λ z. IsMoved s.blocks_in_region z b.slot (Some p.0)) (sym e) (moved s.blocks_in_region b.slot m.slot p.0 (block_in b live_b) p.1)) a (block_some b live_b) ((w.blocks_listed.linked_live m.slot p.0 p.1).1)
       (λ r. away_from (BasicBlock m) (BasicBlock b) live_m live_b away (suc r.0, ap (λ z. climb (up s) r.0 (option_map region z)) p.1 ∙ r.1))
 
   pub op_unlinked : (o : Ptr OperationKind) (l : Lists) → is_node_live t (Operation o) ≡ true → l ≡ without_child s.ops_in_block o.slot → IsAgreed l → IsForest (record s { ops_in_block = l })

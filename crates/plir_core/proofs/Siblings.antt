@@ -2,7 +2,7 @@
 use Rattle.std.proofs.Common.{◌≡◌, ℕ, zero, suc, ◌+◌, ◌<◌, true, false, cond, eqb, List, [], ◌∷◌, length, ◌^◌, ◌≤◌, Option, Some, None, ◌⊎◌, inl, inr, refl, sym, ◌∙◌, ap, subst, eq-eqb, add-one, arith}
 use Rattle.std.specs.Prelude.{slice_get}
 use Rattle.std.proofs.lemmas.Bool.{ne_eqb}
-use Rattle.std.proofs.lemmas.Option.{same_Some, none-some}
+use Rattle.std.proofs.lemmas.Option.{same_Some, none-some, slice_get_within}
 use Rattle.plir_store.proofs.Members.{length-le_from_Apart}
 use Rattle.plir_store.specs.Lists.{Lists, In, Apart, IsAgreed, kids_at, parent_at, first_of, next_in, next_of, next_under}
 
@@ -39,3 +39,30 @@ pub none_past : (xs : List ℕ) (i : ℕ) → slice_get xs i ≡ None → length
 none_past [] i e = omega arith
 none_past (x ∷ xs) zero e = absurd (none-some x (sym e))
 none_past (x ∷ xs) (suc i) e = let h = none_past xs i e in omega arith
+
+pub get_In : (xs : List ℕ) (c : ℕ) → In c xs → (i : ℕ) × (slice_get xs i ≡ Some c)
+get_In [] c k = absurd k
+get_In (x ∷ xs) c k = elim k [
+  | inl e ↦ (0, ap (λ z. Some z) (sym e))
+  | inr j ↦ let r = get_In xs c j in (suc r.0, r.1)
+]
+
+-- c is sought in a list, of which `at` stands at `place`: it is not before that place
+pub record IsSeeking (xs : List ℕ) (c place : ℕ) (at : Option ℕ) : Type 0 where
+  pub at_place : at ≡ slice_get xs place
+  pub index : ℕ
+  pub ahead : place ≤ index
+  pub here : slice_get xs index ≡ Some c
+
+pub IsSeeking-start : (xs : List ℕ) (c : ℕ) → In c xs → IsSeeking xs c 0 (first_of xs)
+IsSeeking-start xs c k = let r = get_In xs c k in record { at_place = first_get xs; index = r.0; ahead = omega arith; here = r.1 }
+
+-- another child stands at the place
+pub IsSeeking-more : (xs : List ℕ) (c place x : ℕ) (at next : Option ℕ) → IsSeeking xs c place at → at ≡ Some x → (x ≡ c → ⊥) → next ≡ slice_get xs (place + 1) → IsSeeking xs c (place + 1) next
+IsSeeking-more xs c place x at next k e other n =
+    let past : place ≡ k.index → ⊥ = λ q. other (same_Some x c (sym e ∙ k.at_place ∙ ap (slice_get xs) q ∙ k.here)) in
+    record { at_place = n; index = k.index; ahead = let h = k.ahead in omega arith; here = k.here }
+
+-- the list has not come to its end
+pub IsSeeking-on : (xs : List ℕ) (c place : ℕ) (at : Option ℕ) → IsSeeking xs c place at → place < length xs
+IsSeeking-on xs c place at k = let h = slice_get_within xs k.index c k.here in let a = k.ahead in omega arith

@@ -1,13 +1,13 @@
 -- What the calls that change a context make of it.
 use Rattle.std.specs.Prelude.{◌≡◌, ℕ, Option, Some, None}
-use Rattle.plir_store.specs.Lists.{with_last}
+use Rattle.plir_store.specs.Lists.{with_first, with_last, with_before, with_after, without_child}
 use Rattle.plir_store.specs.Table.{with_content, next_slot}
 use Rattle.plir_core.specs.declared.ptr.Ptr.{Ptr}
 use Rattle.plir_core.specs.declared.ptr.Operation.{Operation as OperationKind}
 use Rattle.plir_core.specs.declared.ptr.Region.{Region as RegionKind}
 use Rattle.plir_core.specs.declared.ptr.BasicBlock.{BasicBlock as BasicBlockKind}
 use Rattle.plir_core.specs.Contents.{OpView, BlockView}
-use Rattle.plir_core.specs.Edits.{SameNodes, with_new_op, with_new_block, with_new_regions}
+use Rattle.plir_core.specs.Edits.{SameNodes, with_new_op, with_new_block, with_new_region, with_new_regions}
 use Rattle.plir_core.specs.Store.{Store, op_at, block_at}
 
 module _ {K A T : Type 0} where
@@ -25,6 +25,38 @@ module _ {K A T : Type 0} where
 
   abbrev pub with_block_last : Store K A T → Ptr BasicBlockKind → Ptr RegionKind → Store K A T
   with_block_last s block region = record s { nodes = record s.nodes { blocks_in_region = with_last s.nodes.blocks_in_region region.slot block.slot } }
+
+  -- an operation at the start of a block, and a block at the start of a region
+  abbrev pub with_op_first : Store K A T → Ptr OperationKind → Ptr BasicBlockKind → Store K A T
+  with_op_first s op block = record s { nodes = record s.nodes { ops_in_block = with_first s.nodes.ops_in_block block.slot op.slot } }
+
+  abbrev pub with_block_first : Store K A T → Ptr BasicBlockKind → Ptr RegionKind → Store K A T
+  with_block_first s block region = record s { nodes = record s.nodes { blocks_in_region = with_first s.nodes.blocks_in_region region.slot block.slot } }
+
+  -- an operation right before another one, which is the mark, and a block likewise
+  abbrev pub with_op_before : Store K A T → Ptr OperationKind → Ptr OperationKind → Store K A T
+  with_op_before s op mark = record s { nodes = record s.nodes { ops_in_block = with_before s.nodes.ops_in_block op.slot mark.slot } }
+
+  abbrev pub with_block_before : Store K A T → Ptr BasicBlockKind → Ptr BasicBlockKind → Store K A T
+  with_block_before s block mark = record s { nodes = record s.nodes { blocks_in_region = with_before s.nodes.blocks_in_region block.slot mark.slot } }
+
+  -- an operation right after the mark, and a block likewise
+  abbrev pub with_op_after : Store K A T → Ptr OperationKind → Ptr OperationKind → Store K A T
+  with_op_after s op mark = record s { nodes = record s.nodes { ops_in_block = with_after s.nodes.ops_in_block op.slot mark.slot } }
+
+  abbrev pub with_block_after : Store K A T → Ptr BasicBlockKind → Ptr BasicBlockKind → Store K A T
+  with_block_after s block mark = record s { nodes = record s.nodes { blocks_in_region = with_after s.nodes.blocks_in_region block.slot mark.slot } }
+
+  -- an operation in no block, and a block in no region, with all below it as it was
+  abbrev pub with_op_unlinked : Store K A T → Ptr OperationKind → Store K A T
+  with_op_unlinked s op = record s { nodes = record s.nodes { ops_in_block = without_child s.nodes.ops_in_block op.slot } }
+
+  abbrev pub with_block_unlinked : Store K A T → Ptr BasicBlockKind → Store K A T
+  with_block_unlinked s block = record s { nodes = record s.nodes { blocks_in_region = without_child s.nodes.blocks_in_region block.slot } }
+
+  -- a new region with no block, the last one of an operation
+  abbrev pub with_region : Store K A T → Ptr OperationKind → Store K A T
+  with_region s op = record s { nodes = with_new_region s.nodes op.slot }
 
   -- another content in an operation's slot, and in a block's
   abbrev pub with_op_content : Store K A T → ℕ → OpView K A → Store K A T

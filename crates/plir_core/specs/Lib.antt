@@ -16,6 +16,8 @@
 --   AttrHandles  attr_handles: the type handles that an attribute holds
 --   Erase        erased: the nodes without a tree; IsErased: what that leaves as it was
 --   Unused       IsUnusedOutside: nothing outside a tree uses a value or a block of it
+--   Terminator   terminator_of: the operation that ends a block
+--   InsertionPoint  insertion_block: the block that an insertion point is in
 --   NodeLists    Has, Distinct, head: lists of nodes
 pub mod Above
 pub mod Nodes
@@ -32,3 +34,5 @@ pub mod Made
 pub mod NodeLists
 pub mod Erase
 pub mod Unused
+pub mod Terminator
+pub mod InsertionPoint

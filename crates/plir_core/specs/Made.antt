@@ -1,5 +1,5 @@
 -- What making nodes leaves as it was, and what is new.
-use Rattle.std.specs.Prelude.{◌≡◌, Bool, true, false, Option, Some, None}
+use Rattle.std.specs.Prelude.{◌≡◌, Bool, true, false, List, [], ◌∷◌, ◌++◌, Option, Some, None}
 use Rattle.plir_store.specs.Table.{content_at}
 use Rattle.plir_core.specs.declared.ptr.Ptr.{Ptr}
 use Rattle.plir_core.specs.declared.ptr.Operation.{Operation as OperationKind}
@@ -28,7 +28,13 @@ module _ {O B : Type 0} where
     pub fresh : was_given_out s n ≡ false
     pub added : is_node_live t n ≡ true
     pub placed : node_parent t n ≡ over
+    pub leaf : node_kids t n ≡ []
     pub only : (m : IRNode) → is_node_live t m ≡ true → is_node_live s m ≡ false → m ≡ n
+
+  -- From s to t one region n is new, the last one of the operation o, and nothing else has changed.
+  pub record IsRegionAdded (s t : Nodes O B) (o n : IRNode) : Type 0 where
+    pub added : IsAdded s t n (Some o)
+    pub last : node_kids t o ≡ node_kids s o ++ n ∷ []
 
   -- From s to t the tree under n is new, and nothing else has changed: the pointers of its nodes were never given out before,
   -- and its root n has no parent.

@@ -74,6 +74,10 @@ module _ {K A T : Type 0} where
   op_above s (BasicBlock p) = climb (parent_of s) 2 (Some (BasicBlock p))
   op_above s (Region p) = parent_of s (Region p)
 
+  -- the region that the block of an operation stands in
+  abbrev pub region_above : Store K A T → Ptr OperationKind → Option IRNode
+  region_above s p = climb (parent_of s) 2 (Some (Operation p))
+
   -- how many nodes there are from a node up
   abbrev pub depth : Store K A T → IRNode → ℕ
   depth s n = depth_of s.nodes n

@@ -5,15 +5,18 @@ ghost use Rattle.plir_data.specs.Types.{AllLive};
 ghost use Rattle.plir_data.specs.AttrSeen.{attr_view};
 ghost use Rattle.plir_data.specs.Dictionary.{dict_put};
 ghost use Rattle.plir_core.specs.AttrHandles.{attr_handles};
+ghost use Rattle.plir_core.specs.Made.{IsMade};
 ghost use Rattle.plir_core.specs.Nodes.{ptr_at};
 ghost use Rattle.plir_core.specs.Store.{IsLive, IsValueLive, IsAncestor, is_live, given_out, num_live, limit, kids, parent_of, op_above, first_kid, last_kid, next_sibling, prev_sibling, arg_types_of, block_attributes_of};
 ghost use Rattle.plir_core.specs.Whole.{IsWhole};
+ghost use Rattle.plir_core.specs.Terminator.{terminator_of};
 ghost use Rattle.plir_core.specs.Changes.{with_block_edit, with_block, with_block_last};
 ghost use Rattle.plir_core.specs.declared.ptr.IRNode.{IRNode};
 ghost use Rattle.plir_core.specs.declared.value.DefiningEntity.{DefiningEntity};
 
 use crate::contents::BlockData;
 use crate::context::Context;
+use crate::interface::{Interface, op_impls};
 use crate::making::NodeErr;
 use crate::ptr::{BasicBlock, IRNode, Operation, Ptr, Region};
 use crate::value::{DefiningEntity, Value};
@@ -35,6 +38,8 @@ impl BasicBlock {
         ensures live { IfOk result (λ p. IsLive ctx.new (IRNode.BasicBlock p)) }
         ensures fresh { IfOk result (λ p. given_out ctx.old (IRNode.BasicBlock p) ≡ false) }
         ensures given { (n : IRNode) → given_out ctx.old n ≡ true → given_out ctx.new n ≡ true }
+        ensures made { IfOk result (λ p. IsMade ctx.old.nodes ctx.new.nodes (IRNode.BasicBlock p)) }
+        ensures empty { IfOk result (λ p. kids ctx.new (IRNode.BasicBlock p) ≡ []) }
         ensures err { OnErr result (ctx.new ≡ ctx.old) }
         ensures too_many { (result ≡ Err NodeErr.TooManyNodes) ↔ ((num_live ctx.old ≡ limit ctx.old) ⊎ (2 ^ 32 - 1 ≤ next_slot ctx.old.nodes.blocks)) }
         ensures whole { IsWhole D.attr_handles ctx.new }
@@ -113,6 +118,18 @@ impl Ptr<BasicBlock> {
         ensures whole { IsWhole D.attr_handles ctx.now }
     {
         ctx.nodes.last_op(self)
+    }
+
+    /// The last operation of the block, if its kind is a terminator.
+    pub fn get_terminator<D: OpSet>(self, ctx: &Context<D>) -> Option<Ptr<Operation>>
+        requires { IsLive ctx.now (IRNode.BasicBlock self) }
+        ensures value { option_map IRNode.Operation result ≡ terminator_of D.is_terminator ctx.now self }
+        ensures whole { IsWhole D.attr_handles ctx.now }
+    {
+        match self.get_tail(ctx) {
+            Some(op) if op_impls(ctx, op, Interface::Terminator) => Some(op),
+            _ => None,
+        }
     }
 
     /// How many arguments the block has.

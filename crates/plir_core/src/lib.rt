@@ -6,12 +6,16 @@ mod block;
 mod contents;
 mod context;
 mod erase;
+mod index;
+mod insertion_point;
 mod interface;
+mod linking;
 mod making;
 mod moving;
 mod operation;
 mod ptr;
 mod region;
+mod regions;
 mod removing;
 #[cfg(test)]
 mod tests;
@@ -19,6 +23,7 @@ mod unused;
 mod value;
 
 pub use context::Context;
+pub use insertion_point::OpInsertionPoint;
 pub use interface::{Interface, kind_impls, op_impls};
 pub use making::NodeErr;
 pub use ptr::{BasicBlock, IRNode, Operation, Ptr, Region};

@@ -7,7 +7,7 @@ ghost use Rattle.plir_store.specs.Table.{next_slot};
 ghost use Rattle.plir_core.specs.Made.{IsMade};
 ghost use Rattle.plir_core.specs.Nodes.{ptr_at};
 ghost use Rattle.plir_core.specs.AttrHandles.{attr_handles};
-ghost use Rattle.plir_core.specs.Store.{IsLive, IsValueLive, IsAncestor, is_live, kids, parent_of, op_above, first_kid, last_kid, next_sibling, prev_sibling, kind_of, result_types_of, operands_of, successors_of, attributes_of, given_out, num_live, limit};
+ghost use Rattle.plir_core.specs.Store.{IsLive, IsValueLive, IsAncestor, is_live, kids, parent_of, op_above, region_above, first_kid, last_kid, next_sibling, prev_sibling, kind_of, result_types_of, operands_of, successors_of, attributes_of, given_out, num_live, limit};
 ghost use Rattle.plir_core.specs.Whole.{IsWhole};
 ghost use Rattle.plir_core.specs.Changes.{with_op_edit, with_op_last, with_op, SameLive};
 ghost use Rattle.plir_data.specs.declared.location.Location.{Location};
@@ -77,6 +77,18 @@ impl Ptr<Operation> {
         ensures whole { IsWhole D.attr_handles ctx.now }
     {
         ctx.nodes.parent_of_op(self)
+    }
+
+    /// The region that holds the block that the operation stands in.
+    pub fn get_parent_region<D: OpSet>(self, ctx: &Context<D>) -> Option<Ptr<Region>>
+        requires { IsLive ctx.now (IRNode.Operation self) }
+        ensures value { option_map IRNode.Region result ≡ region_above ctx.now self }
+        ensures whole { IsWhole D.attr_handles ctx.now }
+    {
+        match self.get_parent_block(ctx) {
+            None => None,
+            Some(block) => block.get_parent_region(ctx),
+        }
     }
 
     /// The operation that holds the block that the operation stands in.

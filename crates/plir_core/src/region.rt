@@ -1,6 +1,6 @@
 //! Calls on regions.
-ghost use Rattle.std.specs.Prelude.{◌≡◌, option_map};
-ghost use Rattle.plir_core.specs.Store.{IsLive, is_live, parent_of, first_kid, last_kid, next_sibling, prev_sibling};
+ghost use Rattle.std.specs.Prelude.{◌≡◌, Some, IfSome, option_map, slice_get};
+ghost use Rattle.plir_core.specs.Store.{IsLive, is_live, kids, parent_of, first_kid, last_kid, next_sibling, prev_sibling};
 ghost use Rattle.plir_core.specs.Whole.{IsWhole};
 ghost use Rattle.plir_core.specs.declared.ptr.IRNode.{IRNode};
 
@@ -24,6 +24,15 @@ impl Ptr<Region> {
         ensures whole { IsWhole D.attr_handles ctx.now }
     {
         ctx.nodes.parent_of_region(self)
+    }
+
+    /// The place of the region, from 0, among those of its operation.
+    pub fn find_index_in_parent<D: OpSet>(self, ctx: &Context<D>) -> usize
+        requires { IsLive ctx.now (IRNode.Region self) }
+        ensures value { IfSome (parent_of ctx.now (IRNode.Region self)) (λ n. slice_get (kids ctx.now n) result ≡ Some (IRNode.Region self)) }
+        ensures whole { IsWhole D.attr_handles ctx.now }
+    {
+        ctx.nodes.place_of_region(self)
     }
 
     /// The region right after this one in its operation.
@@ -60,5 +69,14 @@ impl Ptr<Region> {
         ensures whole { IsWhole D.attr_handles ctx.now }
     {
         ctx.nodes.last_block(self)
+    }
+
+    /// The block in which control enters the region: its first one.
+    pub fn get_entry_block<D: OpSet>(self, ctx: &Context<D>) -> Option<Ptr<BasicBlock>>
+        requires { IsLive ctx.now (IRNode.Region self) }
+        ensures value { option_map IRNode.BasicBlock result ≡ first_kid ctx.now (IRNode.Region self) }
+        ensures whole { IsWhole D.attr_handles ctx.now }
+    {
+        self.get_head(ctx)
     }
 }

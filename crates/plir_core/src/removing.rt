@@ -31,8 +31,8 @@ impl IRNode {
     }
 }
 
-// Erases the tree of a node.
-fn erase_tree<D: OpSet>(node: IRNode, ctx: &mut Context<D>)
+/// Erases the tree of a node.
+pub(crate) fn erase_tree<D: OpSet>(node: IRNode, ctx: &mut Context<D>)
     requires live { IsLive ctx.old node }
     requires unused { IsUnusedOutside ctx.old node }
     ensures after { ctx.new ≡ without_tree ctx.old node }

@@ -7,7 +7,7 @@ use Rattle.plir_core.specs.Nodes.{Nodes}
 use Rattle.plir_core.specs.Erase.{IsErased}
 use Rattle.plir_core.proofs.arena.Arena.make_op_with_regions.Goals as goal
 use Rattle.plir_core.proofs.Added.{SameNodes-unmade}
-use Rattle.plir_core.proofs.Regions.{IsMaking-start, IsMaking-more, spent_refusal}
+use Rattle.plir_core.proofs.NewRegions.{IsMaking-start, IsMaking-more, spent_refusal}
 
 pub loop-i-init : goal.loop-i-init
 loop-i-init g c = IsMaking-start c.args.self.now c.make_op.new.self c.args.value c.in_ok-op.op c.num_live-live.ensures.forest c.in_ok-op.ensures.ok c.in_ok-op.ensures.pointer c.make_op.ensures.forest

@@ -1,4 +1,4 @@
-use Rattle.plir_core.proofs.Regions.{IsMaking}
+use Rattle.plir_core.proofs.NewRegions.{IsMaking}
 use Rattle.plir_core.proofs.arena.Arena.make_op_with_regions.Given as goal
 
 abbrev pub invariant-loop-i : goal.invariant-loop-i

@@ -1,9 +1,11 @@
+use Rattle.plir_store.specs.Lists.{with_last}
 use Rattle.plir_core.proofs.arena.Arena.push_block.Goals as goal
-use Rattle.plir_core.proofs.Moves.{block_pushed}
+use Rattle.plir_core.proofs.Listing.{IsMoved-last}
+use Rattle.plir_core.proofs.Moves.{block_put}
 
 pub invariant_of-self : goal.invariant_of-self
 invariant_of-self g c =
-    block_pushed _ c.args.self.now c.self.view_is c.self.invariant c.args.block c.args.target _ c.requires.block_live c.requires.target_live c.requires.not_above c.push_back.ensures.after c.push_back.ensures.agreed
+    block_put _ c.args.self.now c.self.view_is c.self.invariant with_last IsMoved-last c.args.block c.args.target _ c.requires.block_live c.requires.target_live c.requires.not_above c.push_back.ensures.after c.push_back.ensures.agreed
 
 pub returns-clause-forest : goal.returns-clause-forest
 returns-clause-forest g c = invariant_of-self g c

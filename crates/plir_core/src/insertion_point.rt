@@ -1,0 +1,45 @@
+//! Where an operation is to be put.
+ghost use Rattle.std.specs.Prelude.{◌≡◌, option_map};
+ghost use Rattle.plir_core.specs.Whole.{IsWhole};
+ghost use Rattle.plir_core.specs.declared.ptr.IRNode.{IRNode};
+
+use crate::context::Context;
+use crate::ptr::{BasicBlock, Operation, Ptr};
+use plir_data::OpSet;
+
+/// Where an operation is to be put.
+#[derive(Clone, Copy, PartialEq, Eq, Hash, Debug)]
+pub enum OpInsertionPoint {
+    /// Nowhere.
+    Unset,
+    /// At the start of a block.
+    AtBlockStart(Ptr<BasicBlock>),
+    /// At the end of a block.
+    AtBlockEnd(Ptr<BasicBlock>),
+    /// Right before an operation.
+    BeforeOperation(Ptr<Operation>),
+    /// Right after an operation.
+    AfterOperation(Ptr<Operation>),
+}
+
+impl OpInsertionPoint {
+    ghost use Rattle.plir_core.specs.InsertionPoint.{IsPointLive, insertion_block};
+
+    /// The block that an operation which is put there comes to stand in.
+    pub fn get_insertion_block<D: OpSet>(self, ctx: &Context<D>) -> Option<Ptr<BasicBlock>>
+        requires { IsPointLive ctx.now self }
+        ensures value { option_map IRNode.BasicBlock result ≡ insertion_block ctx.now self }
+        ensures whole { IsWhole D.attr_handles ctx.now }
+    {
+        let _types = &ctx.types;
+        match self {
+            OpInsertionPoint::Unset => None,
+            OpInsertionPoint::AtBlockStart(block) | OpInsertionPoint::AtBlockEnd(block) => {
+                Some(block)
+            }
+            OpInsertionPoint::BeforeOperation(op) | OpInsertionPoint::AfterOperation(op) => {
+                op.get_parent_block(ctx)
+            }
+        }
+    }
+}
