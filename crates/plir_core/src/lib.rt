@@ -2,14 +2,20 @@
 #![tactic(auto)]
 
 mod arena;
+mod attributes;
 mod block;
 mod contents;
 mod context;
 mod erase;
 mod interface;
+mod labels;
+mod less_than;
 mod making;
 mod moving;
+mod operand_uses;
+mod operands;
 mod operation;
+mod places;
 mod ptr;
 mod region;
 mod removing;
@@ -18,6 +24,8 @@ mod value;
 
 pub use context::Context;
 pub use interface::{Interface, kind_impls, op_impls};
+pub use less_than::LessThanN;
 pub use making::NodeErr;
+pub use operand_uses::Use;
 pub use ptr::{BasicBlock, IRNode, Operation, Ptr, Region};
 pub use value::{DefiningEntity, Value};
