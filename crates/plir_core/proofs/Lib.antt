@@ -6,6 +6,7 @@ pub mod Fresh
 pub mod Moves
 pub mod Siblings
 pub mod Holds
+pub mod Edited
 pub mod Added
 pub mod Facts
 pub mod Depths
