@@ -20,3 +20,5 @@ pub mod Ancestors
 pub mod Uses
 pub mod Scan
 pub mod Regions
+pub mod NewNodes
+pub mod Linked
