@@ -4,18 +4,21 @@ use Rattle.std.proofs.Common.{◌≡◌, ◌≢◌, ℕ, zero, suc, ◌+◌, Boo
 use Rattle.std.proofs.lemmas.Option.{none-some, same_Some}
 use Rattle.plir_core.specs.declared.ptr.IRNode.{IRNode}
 use Rattle.plir_core.specs.Above.{Reaches, climb as climb_up}
-use Rattle.plir_core.specs.Nodes.{Nodes, is_node_live, node_parent, node_over}
+use Rattle.plir_core.specs.Nodes.{Nodes, is_node_live, node_parent, node_over, node_first}
 use Rattle.plir_core.specs.Forest.{IsForest as IsNodeForest}
 use Rattle.plir_core.specs.Store.{Store, is_live, given_out}
+use Rattle.plir_core.specs.Changes.{SameLive}
 use Rattle.plir_core.specs.Erase.{IsErased}
 use Rattle.plir_core.specs.Linked.{IsLinked}
 use Rattle.plir_core.specs.Made.{IsMade}
-use Rattle.plir_core.proofs.Facts.{parent-live}
+use Rattle.plir_core.proofs.Facts.{kid-parent, parent-live}
 use Rattle.plir_core.proofs.NewNodes.{apart_new}
 use Rattle.plir_walk.specs.Forest.{Shape, climb, AtOrBelow, IsBelow, IsForest, Lawful}
 use Rattle.plir_walk.specs.View.{look}
-use Rattle.plir_walk.proofs.Climbs.{climb-bottom, not-below-itself}
+use Rattle.plir_walk.proofs.Climbs.{climb-bottom, climb-top, not-below-itself}
 use Rattle.plir_walk.proofs.Groves.{and_then-some}
+use Rattle.plir_walk.proofs.ListLinks.{first-is}
+use Rattle.plir_walk.proofs.Measure.{head-Has}
 use Rattle.plir_walk.proofs.Nodes.{same_tells}
 
 -- nothing done is lawful
@@ -203,3 +206,21 @@ module _ {K A T : Type 0} (s : Shape) (n : IRNode) (live_given : (m : IRNode) �
               | inr q ↦ inr (ap (option_and_then (look t).parent) h ∙ sym (e.parents r.0 q.1) ∙ r.2)
             ]
           ]
+
+-- making a tree, and putting its root under n or below it
+pub lawful-grown : {K A T : Type 0} (s : Shape) (n : IRNode) → ((m : IRNode) → s.live m ≡ true → s.given m ≡ true) → (t : Store K A T) → Lawful s n (look t) → (u v : Store K A T) (x a : IRNode) → is_live t n ≡ true → IsNodeForest t.nodes → IsMade t.nodes u.nodes x → IsLinked u.nodes v.nodes x a → AtOrBelow (look u) n a → Lawful s n (look v)
+lawful-grown s n live_given t f u v x a l w made link over =
+    let g = lawful-then s (look t) (look u) n live_given f (lawful-made t u w n x l made) in
+    lawful-linked s n live_given u g v x a link over (made-new s n live_given t f u x w made)
+
+-- no live node has changed
+pub lawful-refused : {K A T : Type 0} (s t : Store K A T) (n : IRNode) → SameLive s t → ((m : IRNode) → given_out s m ≡ true → given_out t m ≡ true) → Lawful (look s) n (look t)
+lawful-refused s t n e given = lawful-same (look s) (look t) n e.nodes.live e.nodes.parents e.nodes.kids given
+
+-- a node's first kid stands under it
+pub first-parent : {O B : Type 0} (s : Nodes O B) → IsNodeForest s → (a x : IRNode) → Some x ≡ node_first s a → node_parent s x ≡ Some a
+first-parent s w a x e = kid-parent s w a x (head-Has _ x (sym (first-is s a) ∙ sym e))
+
+-- a kid of a kid is below a node
+pub two-below : (s : Shape) (n a x : IRNode) → s.parent x ≡ Some a → s.parent a ≡ Some n → AtOrBelow s n x
+two-below s n a x e f = (suc (suc zero), climb-top s (suc zero) x a n e f)
