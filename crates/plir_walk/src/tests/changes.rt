@@ -26,6 +26,7 @@ pub enum Change {
 
 /// What a callback does: at each node the changes that are listed for it, in order, and then it answers `Skip` at `skip`
 /// and `Advance` elsewhere.
+#[derive(Clone, Copy)]
 pub struct Plan<'a> {
     pub changes: &'a [(IRNode, Change)],
     pub skip: Option<IRNode>,
@@ -106,18 +107,15 @@ fn visit(
     }
 }
 
-/// Walks from the sample's module with a callback that notes its node and follows `plan`; the notes have to be `nodes`, and
-/// the walk's answer `end`.
-pub fn expect_changes(
+/// Walks from the sample's module with a callback that notes its node and follows `plan`: the notes, and the walk's answer.
+pub fn walk_changing(
     rt: &impl Abort,
     alloc: Global,
     sample: &mut Sample,
     config: &WalkConfig,
     limit: u64,
     plan: &Plan<'_>,
-    nodes: &[IRNode],
-    end: Result<WalkResult<u32>, CallLimit>,
-) {
+) -> (Vec<IRNode>, Result<WalkResult<u32>, CallLimit>) {
     let ctx = &mut sample.ctx;
     let root = sample.m.op;
     assert!(rt; root.is_live(ctx));
@@ -129,10 +127,35 @@ pub fn expect_changes(
         ensures { Lawful (look ctx.old) node (look ctx.new) }
     { visit(alloc, ctx, seen, plan, node) };
     let found = walk_op(ctx, &mut seen, config, root, limit, callback);
-    assert_eq!(rt; seen.as_slice(), nodes);
+    (seen, found)
+}
+
+/// A walk's answer has to be this one, or that it was at its limit.
+pub fn expect_end(
+    rt: &impl Abort,
+    found: Result<WalkResult<u32>, CallLimit>,
+    end: Result<WalkResult<u32>, CallLimit>,
+) {
     match (found, end) {
         (Ok(found), Ok(end)) => expect_answer(rt, found, end),
         (Err(_), Err(_)) => {}
         _ => assert!(rt; false, "at the limit or not"),
     }
+}
+
+/// Walks from the sample's module with a callback that notes its node and follows `plan`; the notes have to be `nodes`, and
+/// the walk's answer `end`.
+pub fn expect_changing(
+    rt: &impl Abort,
+    alloc: Global,
+    sample: &mut Sample,
+    config: &WalkConfig,
+    limit: u64,
+    plan: &Plan<'_>,
+    nodes: &[IRNode],
+    end: Result<WalkResult<u32>, CallLimit>,
+) {
+    let (seen, found) = walk_changing(rt, alloc, sample, config, limit, plan);
+    assert_eq!(rt; seen.as_slice(), nodes);
+    expect_end(rt, found, end);
 }

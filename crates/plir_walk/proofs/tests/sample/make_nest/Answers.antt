@@ -41,7 +41,7 @@ returns c = record {
       let region_live = sym c.if-not-is_live.ensures.value in
       let held = first-parent t.nodes forest op region (sym (ap (option_map Region) c.in_ok-region.ensures.ok_part) ∙ c.first_region.ensures.value) in
       let link = subst (λ z. IsLinked u.nodes z.nodes block region) (sym c.insert_at_back.ensures.after)
-          (IsLinked-block u.nodes c.in_ok-block.ensures.whole.forest c.in_ok-block.block c.in_ok-region.region made.root (made.keeps.live region region_live) made.top) in
+      (IsLinked-block u.nodes c.in_ok-block.ensures.whole.forest c.in_ok-block.block c.in_ok-region.region made.root (made.keeps.live region region_live) made.top) in
       let over = two-below (look u) n op region (made.keeps.parents region region_live ∙ held) (made.keeps.parents op c.in_ok-op.ensures.live ∙ placed) in
       lawful-grown (look c.args.ctx.now) n c.forest.ensures.live_given t (c.in_ok-op.ensures.lawful b is) u c.insert_at_back.new.ctx block region
       (parent-live t.nodes forest n op placed) forest made link over;

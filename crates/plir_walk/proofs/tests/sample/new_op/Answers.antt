@@ -28,6 +28,6 @@ returns-in_ok-op-in-Some-clause-lawful c = λ b e.
     let made = c.in_ok-op-in-Some.ensures.made in
     let live = sym c.if-not-is_live.ensures.value in
     let link = subst (λ z. IsLinked t.nodes z.nodes op block) (sym c.insert_at_back.ensures.after)
-        (IsLinked-op t.nodes c.in_ok-op-in-Some.ensures.whole.forest c.in_ok-op-in-Some.op c.in-Some.block made.root (made.keeps.live block live) made.top) in
+    (IsLinked-op t.nodes c.in_ok-op-in-Some.ensures.whole.forest c.in_ok-op-in-Some.op c.in-Some.block made.root (made.keeps.live block live) made.top) in
     let lawful = lawful-grown (look s) block (live-given s.nodes forest) s (lawful-none (look s) block) t c.insert_at_back.new.ctx op block live forest made link (zero, refl) in
     subst (λ z. Lawful (look s) (BasicBlock z) (look c.insert_at_back.new.ctx)) (same_Some c.in-Some.block b (sym c.in-Some.is ∙ e)) lawful
