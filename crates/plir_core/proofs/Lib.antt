@@ -23,3 +23,5 @@ pub mod Scan
 pub mod NewRegions
 pub mod KidAt
 pub mod Terminators
+pub mod NewNodes
+pub mod Linked

@@ -12,6 +12,7 @@
 --   Forest       IsForest: the live nodes form a forest
 --   Above        climb, Reaches, depth: what stands above what
 --   Made         IsMade: a tree is new, and nothing else has changed
+--   Linked       IsLinked: a node is put under another, and nothing else has changed
 --   Lends        what a `&mut` into a node leaves
 --   AttrHandles  attr_handles: the type handles that an attribute holds
 --   Erase        erased: the nodes without a tree; IsErased: what that leaves as it was
@@ -31,6 +32,7 @@ pub mod Whole
 pub mod Interfaces
 pub mod Changes
 pub mod Made
+pub mod Linked
 pub mod NodeLists
 pub mod Erase
 pub mod Unused

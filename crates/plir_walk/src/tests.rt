@@ -1,4 +1,6 @@
 //! Worked walks of trees that are made by the calls of `plir_core` alone.
+mod changes;
 mod noting;
 mod orders;
+mod reshaping;
 mod sample;

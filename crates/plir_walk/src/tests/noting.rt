@@ -13,7 +13,7 @@ use std::ops::ControlFlow;
 use std::process::Abort;
 
 /// What a callback breaks the walk with where memory for its note was refused.
-const NO_MEMORY: u32 = u32::MAX;
+pub const NO_MEMORY: u32 = u32::MAX;
 
 /// Walks from a live node. The callback notes its node and answers by `answer`; the notes have to be `nodes`, and the walk's
 /// answer `end`.
