@@ -50,7 +50,7 @@ pub ptr_one : {C X : Type 0} (t : Table C) (p q : Ptr X) → is_live_at t p.slot
 ptr_one {X} t p q ep eq e =
     sym (ptr_is t q eq) ∙ ap (λ j. let z : Ptr X = ptr_at t j in z) e ∙ ptr_is t p ep
 
-bool_cases : (b : Bool) → (b ≡ true) ⊎ (b ≡ false)
+pub bool_cases : (b : Bool) → (b ≡ true) ⊎ (b ≡ false)
 bool_cases true = inl refl
 bool_cases false = inr refl
 

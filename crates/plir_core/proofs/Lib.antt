@@ -25,3 +25,4 @@ pub mod KidAt
 pub mod Terminators
 pub mod NewNodes
 pub mod Linked
+pub mod Links

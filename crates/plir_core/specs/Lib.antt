@@ -11,7 +11,8 @@
 --   Nodes        the nodes with their slots, and the words of Store over them
 --   Forest       IsForest: the live nodes form a forest
 --   Above        climb, Reaches, depth: what stands above what
---   Made         IsMade: a tree is new, and nothing else has changed
+--   Made         IsMade: a tree is new, and nothing else has changed; IsRegionAdded: one region is
+--   Placed       IsPlaced: a node has come under another one, and nothing else has changed; IsUnlinked: it has left its parent
 --   Linked       IsLinked: a node is put under another, and nothing else has changed
 --   Lends        what a `&mut` into a node leaves
 --   AttrHandles  attr_handles: the type handles that an attribute holds
@@ -33,6 +34,7 @@ pub mod Interfaces
 pub mod Changes
 pub mod Made
 pub mod Linked
+pub mod Placed
 pub mod NodeLists
 pub mod Erase
 pub mod Unused

@@ -1,5 +1,5 @@
 //! Calls on operations.
-ghost use Rattle.std.specs.Prelude.{◌≡◌, ◌<◌, ◌+◌, ◌-◌, ◌^◌, ◌≤◌, ◌⊎◌, ℕ, All, [], Some, None, OnOk, OnErr, IfOk, IfSome, length, slice_get, option_map, true, false};
+ghost use Rattle.std.specs.Prelude.{◌≡◌, ◌∷◌, ◌++◌, ◌<◌, ◌+◌, ◌-◌, ◌^◌, ◌≤◌, ◌⊎◌, ℕ, All, [], Some, None, OnOk, OnErr, IfOk, IfSome, length, slice_get, option_map, true, false};
 ghost use Rattle.plir_data.specs.Types.{AllLive};
 ghost use Rattle.plir_data.specs.AttrSeen.{attr_view};
 ghost use Rattle.plir_data.specs.Dictionary.{dict_put};
@@ -9,6 +9,7 @@ ghost use Rattle.plir_core.specs.Nodes.{ptr_at};
 ghost use Rattle.plir_core.specs.AttrHandles.{attr_handles};
 ghost use Rattle.plir_core.specs.Store.{IsLive, IsValueLive, IsAncestor, is_live, kids, parent_of, op_above, region_above, first_kid, last_kid, next_sibling, prev_sibling, kind_of, result_types_of, operands_of, successors_of, attributes_of, given_out, num_live, limit};
 ghost use Rattle.plir_core.specs.Whole.{IsWhole};
+ghost use Rattle.plir_core.specs.Placed.{IsPlaced};
 ghost use Rattle.plir_core.specs.Changes.{with_op_edit, with_op_last, with_op, SameLive};
 ghost use Rattle.plir_data.specs.declared.location.Location.{Location};
 ghost use Rattle.plir_core.specs.declared.ptr.IRNode.{IRNode};
@@ -269,6 +270,7 @@ impl Ptr<Operation> {
         requires unlinked { parent_of ctx.old (IRNode.Operation self) ≡ None }
         requires not_above { IsAncestor ctx.old (IRNode.Operation self) (IRNode.BasicBlock block) → ⊥ }
         ensures after { ctx.new ≡ with_op_last ctx.old self block }
+        ensures placed { IsPlaced ctx.old.nodes ctx.new.nodes (IRNode.Operation self) (IRNode.BasicBlock block) (kids ctx.old (IRNode.BasicBlock block) ++ IRNode.Operation self ∷ []) }
         ensures whole { IsWhole D.attr_handles ctx.new }
     {
         ctx.nodes.push_op(self, block);

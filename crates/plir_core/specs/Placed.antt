@@ -1,0 +1,27 @@
+-- What linking and unlinking leave as it was, and which kids they change.
+use Rattle.std.specs.Prelude.{◌≡◌, List, ◌∷◌, ◌++◌, Option, Some, None}
+use Rattle.plir_core.specs.declared.ptr.IRNode.{IRNode}
+use Rattle.plir_core.specs.Nodes.{Nodes, node_kids, node_parent}
+
+module _ {O B : Type 0} where
+  -- From s to t the same nodes are live and hold what they held, and none but n has another parent.
+  pub record MovesOnly (s t : Nodes O B) (n : IRNode) : Type 0 where
+    pub ops : t.ops ≡ s.ops
+    pub regions : t.regions ≡ s.regions
+    pub blocks : t.blocks ≡ s.blocks
+    pub limit : t.limit ≡ s.limit
+    pub parents : (m : IRNode) → (m ≡ n → ⊥) → node_parent t m ≡ node_parent s m
+
+  -- From s to t the node n has come under `over`, whose kids are now ks, and nothing else has changed.
+  pub record IsPlaced (s t : Nodes O B) (n over : IRNode) (ks : List IRNode) : Type 0 where
+    pub moved : MovesOnly s t n
+    pub parent : node_parent t n ≡ Some over
+    pub kids_over : node_kids t over ≡ ks
+    pub kids : (m : IRNode) → (m ≡ over → ⊥) → node_kids t m ≡ node_kids s m
+
+  -- From s to t the node n stands under nothing, its parent, if it had one, has lost it, and nothing else has changed.
+  pub record IsUnlinked (s t : Nodes O B) (n : IRNode) : Type 0 where
+    pub moved : MovesOnly s t n
+    pub parent : node_parent t n ≡ None
+    pub kids_over : (m : IRNode) (xs ys : List IRNode) → node_kids s m ≡ xs ++ n ∷ ys → node_kids t m ≡ xs ++ ys
+    pub kids : (m : IRNode) → (node_parent s n ≡ Some m → ⊥) → node_kids t m ≡ node_kids s m
