@@ -107,17 +107,16 @@ fn visit(
     }
 }
 
-/// Walks from the sample's module with a callback that notes its node and follows `plan`: the notes, and the walk's answer.
+/// Walks from an operation with a callback that notes its node and follows `plan`: the notes, and the walk's answer.
 pub fn walk_changing(
     rt: &impl Abort,
     alloc: Global,
-    sample: &mut Sample,
+    ctx: &mut Context<BuiltinSet>,
+    root: Ptr<Operation>,
     config: &WalkConfig,
     limit: u64,
     plan: &Plan<'_>,
 ) -> (Vec<IRNode>, Result<WalkResult<u32>, CallLimit>) {
-    let ctx = &mut sample.ctx;
-    let root = sample.m.op;
     assert!(rt; root.is_live(ctx));
     let mut seen: Vec<IRNode> = Vec::new(alloc);
     let callback = |ctx: &mut Context<BuiltinSet>, seen: &mut Vec<
@@ -155,7 +154,8 @@ pub fn expect_changing(
     nodes: &[IRNode],
     end: Result<WalkResult<u32>, CallLimit>,
 ) {
-    let (seen, found) = walk_changing(rt, alloc, sample, config, limit, plan);
+    let root = sample.m.op;
+    let (seen, found) = walk_changing(rt, alloc, &mut sample.ctx, root, config, limit, plan);
     assert_eq!(rt; seen.as_slice(), nodes);
     expect_end(rt, found, end);
 }

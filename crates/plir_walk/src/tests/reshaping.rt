@@ -108,7 +108,7 @@ fn what_a_call_appends_is_called(rt: HostRuntime) -> Result<(), Fail> {
         changes: &changes,
         skip: None,
     };
-    let (seen, found) = walk_changing(&rt, alloc, &mut s, &config, 12, &plan);
+    let (seen, found) = walk_changing(&rt, alloc, &mut s.ctx, s.m.op, &config, 12, &plan);
     let (f3, f3_region, f3_entry) = last_nest(&s.ctx, m_block)?;
     let nodes = [
         m, m_region, m_block, f1, f1_region, f1_entry, f2, f2_region, f2_entry, f3, f3_region,
@@ -159,7 +159,7 @@ fn a_new_node_in_an_old_slot_is_called(rt: HostRuntime) -> Result<(), Fail> {
         changes: &changes,
         skip: None,
     };
-    let (seen, found) = walk_changing(&rt, alloc, &mut s, &config, 10, &plan);
+    let (seen, found) = walk_changing(&rt, alloc, &mut s.ctx, s.m.op, &config, 10, &plan);
     let (f3, f3_region, f3_entry) = last_nest(&s.ctx, m_block)?;
     let nodes = [
         m, m_region, m_block, f1, f1_region, f1_entry, f3, f3_region, f3_entry,

@@ -9,7 +9,6 @@ use crate::NodeLinks;
 use plir_core::{BasicBlock, Context, IRNode, NodeErr, Operation, Ptr, Region};
 use plir_data::{BuiltinSet, NoMeaning, OpKind};
 use std::alloc::Global;
-use std::test::Fail;
 
 /// Why a tree was not changed.
 #[derive(Clone, Copy, Debug)]
@@ -75,7 +74,7 @@ pub struct Sample {
 
 impl Sample {
     /// The module and the functions, made in this order.
-    pub fn new(alloc: Global) -> Result<Self, Fail> {
+    pub fn new(alloc: Global) -> Result<Self, Refusal> {
         let mut ctx = Context::new(alloc);
         let m = make_nest(alloc, &mut ctx, OpKind::Module, None)?;
         let f1 = make_nest(alloc, &mut ctx, OpKind::Func, Some(m.block))?;
