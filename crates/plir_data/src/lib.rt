@@ -4,6 +4,7 @@
 mod ap_int;
 mod attr_clone;
 mod attr_eq;
+mod attr_hash;
 mod attr_interfaces;
 mod attribute_dict;
 mod attributes;
