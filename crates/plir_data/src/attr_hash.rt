@@ -5,12 +5,10 @@ ghost use Rattle.std.specs.List.{fold};
 ghost use Rattle.plir_data.specs.AttrHash.{attr_words, items_words, entries_words, mark};
 ghost use Rattle.plir_data.specs.AttrSeen.{attr_view};
 ghost use Rattle.plir_data.specs.AttrView.{items_of, entries_of};
-ghost use Rattle.plir_data.specs.DictSeen.{dict_view};
 
 use crate::attribute_dict::AttributeDict;
 use crate::attributes::{AttrObj, DictAttr, VecAttr};
 use crate::op_set::OpSet;
-use std::collections::BTreeMap;
 use std::hash::{Hash, Hasher};
 
 // What comes behind the last item or entry.
@@ -27,7 +25,7 @@ impl<D: OpSet> Hash for AttrObj<D> {
     ghost respects_eq = { λ x y e. ap (attr_words D.Attr.hash_input) (same_attr D.Attr.eq D.attr_eq_exact (attr_view x) (attr_view y) e) };
 
     fn hash<H: Hasher>(&self, state: &mut H) {
-        feed(self, state);
+        self.feed(state);
     }
 }
 
@@ -42,7 +40,7 @@ impl<D: OpSet> Hash for AttributeDict<D> {
     ghost respects_eq = { λ x y e. ap (entries_words D.Attr.hash_input) (same_entries D.Attr.eq D.attr_eq_exact (entries_of x) (entries_of y) e) };
 
     fn hash<H: Hasher>(&self, state: &mut H) {
-        feed_dict(self, state);
+        self.feed(state);
     }
 }
 
@@ -57,7 +55,7 @@ impl<D: OpSet> Hash for DictAttr<D> {
     ghost respects_eq = { λ x y e. ap (entries_words D.Attr.hash_input) (same_entries D.Attr.eq D.attr_eq_exact (entries_of x) (entries_of y) e) };
 
     fn hash<H: Hasher>(&self, state: &mut H) {
-        feed_dict(&self.0, state);
+        self.0.feed(state);
     }
 }
 
@@ -72,27 +70,55 @@ impl<D: OpSet> Hash for VecAttr<D> {
     ghost respects_eq = { λ x y e. ap (items_words D.Attr.hash_input) (same_items D.Attr.eq D.attr_eq_exact (items_of x) (items_of y) e) };
 
     fn hash<H: Hasher>(&self, state: &mut H) {
-        feed_items(self.0.as_slice(), state);
+        self.feed(state);
     }
 }
 
-#[cycle(feed)]
-fn feed<D: OpSet, H: Hasher>(attr: &AttrObj<D>, state: &mut H)
-    ensures { state.new ≡ fold H.write state.old (attr_words D.Attr.hash_input (attr_view attr.now)) }
-{
-    state.write_u8(mark_of(attr));
-    match attr {
-        AttrObj::Identifier(value) => value.hash(state),
-        AttrObj::String(value) => value.hash(state),
-        AttrObj::Bool(value) => value.hash(state),
-        AttrObj::Integer(value) => value.hash(state),
-        AttrObj::Dict(value) => feed_dict(&value.0, state),
-        AttrObj::Vec(value) => feed_items(value.0.as_slice(), state),
-        AttrObj::Unit(_) => {}
-        AttrObj::Type(value) => value.hash(state),
-        AttrObj::OperandSegmentSizes(value) => value.hash(state),
-        AttrObj::GivenNames(value) => value.hash(state),
-        AttrObj::Own(value) => value.hash(state),
+impl<D: OpSet> AttrObj<D> {
+    #[cycle(feed)]
+    fn feed<H: Hasher>(&self, state: &mut H)
+        ensures { state.new ≡ fold H.write state.old (attr_words D.Attr.hash_input (attr_view self.now)) }
+    {
+        state.write_u8(mark_of(self));
+        match self {
+            AttrObj::Identifier(value) => value.hash(state),
+            AttrObj::String(value) => value.hash(state),
+            AttrObj::Bool(value) => value.hash(state),
+            AttrObj::Integer(value) => value.hash(state),
+            AttrObj::Dict(value) => value.0.feed(state),
+            AttrObj::Vec(value) => value.feed(state),
+            AttrObj::Unit(_) => {}
+            AttrObj::Type(value) => value.hash(state),
+            AttrObj::OperandSegmentSizes(value) => value.hash(state),
+            AttrObj::GivenNames(value) => value.hash(state),
+            AttrObj::Own(value) => value.hash(state),
+        }
+    }
+}
+
+impl<D: OpSet> VecAttr<D> {
+    #[cycle(feed)]
+    fn feed<H: Hasher>(&self, state: &mut H)
+        ensures { state.new ≡ fold H.write state.old (items_words D.Attr.hash_input (items_of self.now)) }
+    {
+        let items = self.0.as_slice();
+        'items: for item in items {
+            item.feed(state);
+        }
+        state.write_u8(END);
+    }
+}
+
+impl<D: OpSet> AttributeDict<D> {
+    #[cycle(feed)]
+    fn feed<H: Hasher>(&self, state: &mut H)
+        ensures { state.new ≡ fold H.write state.old (entries_words D.Attr.hash_input (entries_of self.now)) }
+    {
+        'entries: for (key, value) in self.entries.iter() {
+            key.hash(state);
+            value.feed(state);
+        }
+        state.write_u8(END);
     }
 }
 
@@ -113,32 +139,4 @@ fn mark_of<D: OpSet>(attr: &AttrObj<D>) -> u8
         AttrObj::GivenNames(_) => 9,
         AttrObj::Own(_) => 10,
     }
-}
-
-#[cycle(feed)]
-fn feed_items<D: OpSet, H: Hasher>(items: &[AttrObj<D>], state: &mut H)
-    ensures { state.new ≡ fold H.write state.old (items_words D.Attr.hash_input (items_of (map attr_view items.now))) }
-{
-    'items: for item in items {
-        feed(item, state);
-    }
-    state.write_u8(END);
-}
-
-#[cycle(feed)]
-fn feed_dict<D: OpSet, H: Hasher>(dict: &AttributeDict<D>, state: &mut H)
-    ensures { state.new ≡ fold H.write state.old (entries_words D.Attr.hash_input (entries_of dict.now)) }
-{
-    feed_entries(&dict.entries, state);
-}
-
-#[cycle(feed)]
-fn feed_entries<D: OpSet, H: Hasher>(entries: &BTreeMap<String, AttrObj<D>>, state: &mut H)
-    ensures { state.new ≡ fold H.write state.old (entries_words D.Attr.hash_input (entries_of (dict_view entries.now))) }
-{
-    'entries: for (key, value) in entries.iter() {
-        key.hash(state);
-        feed(value, state);
-    }
-    state.write_u8(END);
 }
