@@ -1,5 +1,5 @@
 -- A map of attributes beside the dictionary that it stands for.
-use Rattle.std.proofs.Common.{◌≡◌, ℕ, Bool, true, false, true≢false, cond, List, [], ◌∷◌, String, string_bytes, Ordering, Less, Equal, Greater, Option, Some, None, IsSome, option_map, Bor, nat_cmp, refl, ap, subst, sym, ◌∙◌}
+use Rattle.std.proofs.Common.{◌≡◌, ℕ, Bool, true, false, true≢false, cond, List, [], ◌∷◌, String, string_bytes, Ordering, Less, Equal, Greater, Option, Some, None, IsSome, option_map, Bor, nat_cmp, refl, ap, subst, sym, ◌∙◌, ◌++◌, append_assoc, append-nil}
 use Rattle.std.specs.declared.alloc.Global.{Global}
 use Rattle.std.specs.Map.{lookup, remove_entry, set_value}
 use Rattle.std.specs.BTreeMap.{insert_entry, is_at}
@@ -11,7 +11,7 @@ use Rattle.std.specs.String.{string_cmp}
 use Rattle.plir_data.specs.AttrView.{AttrView}
 use Rattle.plir_data.specs.AttrSeen.{attr_view}
 use Rattle.plir_data.specs.DictSeen.{pairs_view}
-use Rattle.plir_data.specs.Dictionary.{dict_get, dict_put, dict_without, is_key, IsBelowAll, IsDictionary}
+use Rattle.plir_data.specs.Dictionary.{dict_get, dict_put, dict_without, dict_put_all, dict_of, is_key, IsBelowAll, IsDictionary}
 use Rattle.plir_data.specs.Identifier.{is_identifier}
 use Rattle.plir_data.specs.declared.attributes.AttrObj.{AttrObj}
 
@@ -153,3 +153,24 @@ module _ {D K A T E : Type 0} where
 
   pub dictionary_written : (es fs : List (String Global × AttrObj D K A T E)) (k : List ℕ) (v : AttrObj D K A T E) → IsDictionary (pairs_view es) → fs ≡ set_value (is_at (order_of k)) es v → IsDictionary (pairs_view fs)
   dictionary_written es fs k v d w = subst IsDictionary (sym (ap pairs_view w ∙ written_view es k v)) (dictionary_with (pairs_view es) k (attr_view v) d)
+
+  -- ---- entries that are put one after another
+
+  below_at : (done : List (List ℕ × V)) (e : List ℕ × V) (more : List (List ℕ × V)) (k : List ℕ) → IsBelowAll k (done ++ e ∷ more) → slice_cmp nat_cmp k e.0 ≡ Less
+  below_at [] e more k below = below.0
+  below_at (f ∷ done) e more k below = below_at done e more k below.1
+
+  -- a key above all others comes last
+  put_last : (done : List (List ℕ × V)) (e : List ℕ × V) (more : List (List ℕ × V)) → IsDictionary (done ++ e ∷ more) → dict_put done e.0 e.1 ≡ done ++ e ∷ []
+  put_last [] e more d = refl
+  put_last (f ∷ done) e more d =
+      ap (λ o. match_ordering o (e ∷ f ∷ done) ((f.0, e.1) ∷ done) (f ∷ dict_put done e.0 e.1)) (nat_list_cmp_total.antisymm e.0 f.0 ∙ ap ordering_reverse (below_at done e more f.0 d.1)) ∙ ap (λ es. f ∷ es) (put_last done e more d.2)
+
+  put_all_behind : (done more : List (List ℕ × V)) → IsDictionary (done ++ more) → dict_put_all done more ≡ done ++ more
+  put_all_behind done [] d = sym (append-nil done)
+  put_all_behind done (e ∷ more) d =
+      ap (λ es. dict_put_all es more) (put_last done e more d) ∙ put_all_behind (done ++ e ∷ []) more (subst IsDictionary (sym (append_assoc done (e ∷ []) more)) d) ∙ append_assoc done (e ∷ []) more
+
+  -- a dictionary is the dictionary of its own entries
+  pub dict_of-itself : (es : List (List ℕ × V)) → IsDictionary es → dict_of es ≡ es
+  dict_of-itself es d = put_all_behind [] es d

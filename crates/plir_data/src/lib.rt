@@ -2,6 +2,9 @@
 #![tactic(auto)]
 
 mod ap_int;
+mod attr_clone;
+mod attr_eq;
+mod attr_hash;
 mod attr_interfaces;
 mod attribute_dict;
 mod attributes;
