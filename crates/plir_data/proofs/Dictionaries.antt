@@ -146,14 +146,6 @@ module _ {V : Type 0} where
       by true rest = (d.0, d.1, d.2)
       by false rest = (d.0, below_with es k e.0 v d.1, rest)
 
--- a map with a value written under a key that is there
-module _ {D K A T E : Type 0} where
-  pub written : (es fs : List (String Global × AttrObj D K A T E)) (seen : List (List ℕ × AttrView A)) (k : List ℕ) (v x : AttrObj D K A T E) → pairs_view es ≡ seen → IsDictionary (pairs_view es) → Some x ≡ lookup (is_at (order_of k)) es → fs ≡ set_value (is_at (order_of k)) es v → pairs_view fs ≡ dict_put seen k (attr_view v)
-  written es fs seen k v x s d e w = ap pairs_view w ∙ written_view es k v ∙ with_is_put (pairs_view es) k (attr_view v) d (subst IsSome (taken (Some x) es (pairs_view es) k refl e) refl) ∙ ap (λ ps. dict_put ps k (attr_view v)) s
-
-  pub dictionary_written : (es fs : List (String Global × AttrObj D K A T E)) (k : List ℕ) (v : AttrObj D K A T E) → IsDictionary (pairs_view es) → fs ≡ set_value (is_at (order_of k)) es v → IsDictionary (pairs_view fs)
-  dictionary_written es fs k v d w = subst IsDictionary (sym (ap pairs_view w ∙ written_view es k v)) (dictionary_with (pairs_view es) k (attr_view v) d)
-
   -- ---- entries that are put one after another
 
   below_at : (done : List (List ℕ × V)) (e : List ℕ × V) (more : List (List ℕ × V)) (k : List ℕ) → IsBelowAll k (done ++ e ∷ more) → slice_cmp nat_cmp k e.0 ≡ Less
@@ -174,3 +166,11 @@ module _ {D K A T E : Type 0} where
   -- a dictionary is the dictionary of its own entries
   pub dict_of-itself : (es : List (List ℕ × V)) → IsDictionary es → dict_of es ≡ es
   dict_of-itself es d = put_all_behind [] es d
+
+-- a map with a value written under a key that is there
+module _ {D K A T E : Type 0} where
+  pub written : (es fs : List (String Global × AttrObj D K A T E)) (seen : List (List ℕ × AttrView A)) (k : List ℕ) (v x : AttrObj D K A T E) → pairs_view es ≡ seen → IsDictionary (pairs_view es) → Some x ≡ lookup (is_at (order_of k)) es → fs ≡ set_value (is_at (order_of k)) es v → pairs_view fs ≡ dict_put seen k (attr_view v)
+  written es fs seen k v x s d e w = ap pairs_view w ∙ written_view es k v ∙ with_is_put (pairs_view es) k (attr_view v) d (subst IsSome (taken (Some x) es (pairs_view es) k refl e) refl) ∙ ap (λ ps. dict_put ps k (attr_view v)) s
+
+  pub dictionary_written : (es fs : List (String Global × AttrObj D K A T E)) (k : List ℕ) (v : AttrObj D K A T E) → IsDictionary (pairs_view es) → fs ≡ set_value (is_at (order_of k)) es v → IsDictionary (pairs_view fs)
+  dictionary_written es fs k v d w = subst IsDictionary (sym (ap pairs_view w ∙ written_view es k v)) (dictionary_with (pairs_view es) k (attr_view v) d)
