@@ -6,6 +6,7 @@ pub mod Fresh
 pub mod Moves
 pub mod Siblings
 pub mod Holds
+pub mod Edited
 pub mod Added
 pub mod Facts
 pub mod Depths
@@ -22,4 +23,6 @@ pub mod Scan
 pub mod NewRegions
 pub mod KidAt
 pub mod Terminators
+pub mod NewNodes
+pub mod Linked
 pub mod Links

@@ -4,6 +4,7 @@ use Rattle.plir_store.specs.Table.{content_at}
 use Rattle.plir_data.specs.AttrView.{AttrView}
 use Rattle.plir_data.specs.Types.{TypeView}
 use Rattle.plir_data.specs.declared.op_set.OpKind.{OpKind}
+use Rattle.plir_data.specs.declared.location.Location.{Location}
 use Rattle.plir_core.specs.declared.ptr.Ptr.{Ptr}
 use Rattle.plir_core.specs.declared.ptr.Operation.{Operation as OperationKind}
 use Rattle.plir_core.specs.declared.ptr.Region.{Region as RegionKind}
@@ -111,6 +112,10 @@ module _ {K A : Type 0} where
   attributes_in None = []
   attributes_in (Some o) = o.attributes
 
+  abbrev pub location_in : Option (OpView K A) → Option Location
+  location_in None = None
+  location_in (Some o) = Some o.location
+
 module _ {A : Type 0} where
   abbrev pub arguments_in : Option (BlockView A) → List ℕ
   arguments_in None = []
@@ -145,6 +150,10 @@ module _ {K A T : Type 0} where
 
   abbrev pub attributes_of : Store K A T → Ptr OperationKind → List (List ℕ × AttrView A)
   attributes_of s p = attributes_in (op_at s p)
+
+  -- its place in a source text
+  abbrev pub location_of : Store K A T → Ptr OperationKind → Option Location
+  location_of s p = location_in (op_at s p)
 
   -- the types of a block's arguments, its attributes and its label
   abbrev pub arg_types_of : Store K A T → Ptr BasicBlockKind → List ℕ

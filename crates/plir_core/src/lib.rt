@@ -2,6 +2,7 @@
 #![tactic(auto)]
 
 mod arena;
+mod attributes;
 mod block;
 mod contents;
 mod context;
@@ -9,20 +10,29 @@ mod erase;
 mod index;
 mod insertion_point;
 mod interface;
+mod labels;
+mod less_than;
 mod linking;
 mod making;
 mod moving;
+mod operand_uses;
+mod operands;
 mod operation;
+mod places;
 mod ptr;
 mod region;
 mod regions;
 mod removing;
+#[cfg(test)]
+mod tests;
 mod unused;
 mod value;
 
 pub use context::Context;
 pub use insertion_point::OpInsertionPoint;
 pub use interface::{Interface, kind_impls, op_impls};
+pub use less_than::LessThanN;
 pub use making::NodeErr;
+pub use operand_uses::Use;
 pub use ptr::{BasicBlock, IRNode, Operation, Ptr, Region};
 pub use value::{DefiningEntity, Value};

@@ -1,3 +1,5 @@
+pub mod Bulk
 pub mod Dictionaries
+pub mod Equality
 pub mod Tables
 pub mod TypeTrees

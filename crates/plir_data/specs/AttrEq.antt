@@ -20,6 +20,11 @@ module _ {A : Type 0} where
   leaf_eq own_eq (own a) (own b) = own_eq a b
   leaf_eq own_eq _ _ = false
 
+  -- the same of attributes of which neither holds others
+  abbrev pub leaves_eq : (own_eq : A → A → Bool) → AttrView A → AttrView A → Bool
+  leaves_eq own_eq (leaf x) (leaf y) = leaf_eq own_eq x y
+  leaves_eq own_eq _ _ = false
+
   abbrev mutual
     pub attr_eq : (own_eq : A → A → Bool) → AttrView A → AttrView A → Bool
     attr_eq own_eq (leaf x) (leaf y) = leaf_eq own_eq x y

@@ -93,13 +93,13 @@ module _ {A : Type 0} (own_eq : A → A → Bool) (same : (a b : A) → own_eq a
     same_attr (vec xs) (dict fs) e = no e
     same_attr (vec xs) (vec ys) e = ap vec (same_items xs ys e)
 
-    same_items : (xs ys : Items A) → items_eq own_eq xs ys ≡ true → xs ≡ ys
+    pub same_items : (xs ys : Items A) → items_eq own_eq xs ys ≡ true → xs ≡ ys
     same_items no_items no_items e = refl
     same_items no_items (item y ys) e = no e
     same_items (item x xs) no_items e = no e
     same_items (item x xs) (item y ys) e = ap (λ z. item z xs) (same_attr x y (both_left _ _ e)) ∙ ap (item y) (same_items xs ys (both_right _ _ e))
 
-    same_entries : (es fs : Entries A) → entries_eq own_eq es fs ≡ true → es ≡ fs
+    pub same_entries : (es fs : Entries A) → entries_eq own_eq es fs ≡ true → es ≡ fs
     same_entries no_entries no_entries e = refl
     same_entries no_entries (entry l y fs) e = no e
     same_entries (entry k x es) no_entries e = no e
@@ -128,10 +128,21 @@ module _ {A : Type 0} (own_eq : A → A → Bool) (own_itself : (a : A) → own_
     attr_itself (dict es) = entries_itself es
     attr_itself (vec xs) = items_itself xs
 
-    items_itself : (xs : Items A) → items_eq own_eq xs xs ≡ true
+    pub items_itself : (xs : Items A) → items_eq own_eq xs xs ≡ true
     items_itself no_items = refl
     items_itself (item x xs) = both _ _ (attr_itself x) (items_itself xs)
 
-    entries_itself : (es : Entries A) → entries_eq own_eq es es ≡ true
+    pub entries_itself : (es : Entries A) → entries_eq own_eq es es ≡ true
     entries_itself no_entries = refl
     entries_itself (entry k x es) = both _ _ (text_itself k) (both _ _ (attr_itself x) (entries_itself es))
+
+-- equality of attributes, of lists of them and of their entries under keys is an equivalence
+module _ {A : Type 0} (own_eq : A → A → Bool) (same : (a b : A) → own_eq a b ≡ true → a ≡ b) (own : IsEquivalence own_eq) where
+  pub attr_equivalence : IsEquivalence (attr_eq own_eq)
+  attr_equivalence = equivalence (attr_eq own_eq) (same_attr own_eq same) (attr_itself own_eq own.refl)
+
+  pub items_equivalence : IsEquivalence (items_eq own_eq)
+  items_equivalence = equivalence (items_eq own_eq) (same_items own_eq same) (items_itself own_eq own.refl)
+
+  pub entries_equivalence : IsEquivalence (entries_eq own_eq)
+  entries_equivalence = equivalence (entries_eq own_eq) (same_entries own_eq same) (entries_itself own_eq own.refl)

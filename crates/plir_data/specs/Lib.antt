@@ -25,6 +25,7 @@ pub mod AttrFalls
 pub mod Dictionary
 pub mod AttrCalls
 pub mod AttrEq
+pub mod AttrHash
 pub mod AttrLaws
 pub mod AttrLive
 pub mod TypeTree

@@ -1,6 +1,6 @@
 //! Attributes under keys.
 
-ghost use Rattle.std.specs.Prelude.{◌≡◌, ◌↔◌, ℕ, List, [], Option, Some, None, OnOk, OnErr, IfOk, IfSome, IsTrue, length, option_map};
+ghost use Rattle.std.specs.Prelude.{◌≡◌, ◌↔◌, ℕ, List, [], Option, Some, None, OnOk, OnErr, IfOk, IfErr, IfSome, IsTrue, length, option_map};
 ghost use Rattle.plir_data.specs.AttrSeen.{attr_view};
 ghost use Rattle.plir_data.specs.DictSeen.{pairs_view};
 ghost use Rattle.plir_data.specs.Dictionary.{dict_get, dict_put, dict_without, IsDictionary};
@@ -12,6 +12,7 @@ use crate::op_set::OpSet;
 use std::alloc::Global;
 use std::collections::btree_map::{BTreeMap, Iter};
 use std::marker::Model;
+use std::mem::replace;
 
 /// Attributes under keys, in ascending order of the keys' bytes.
 #[cycle(attr)]
@@ -84,6 +85,21 @@ impl<D: OpSet> AttributeDict<D> {
     {
         self.entries.insert(key.into_string(), value)?;
         Ok(())
+    }
+
+    /// Puts an attribute in place of the one under a key, and answers that one. Where there is none, the new one comes back
+    /// and nothing has changed.
+    pub fn replace(&mut self, key: &str, value: AttrObj<D>) -> Result<AttrObj<D>, AttrObj<D>>
+        ensures found { IfOk result (λ a. dict_get self.old key.now ≡ Some (attr_view a)) }
+        ensures put { OnOk result (self.new ≡ dict_put self.old key.now (attr_view value)) }
+        ensures absent { OnErr result (dict_get self.old key.now ≡ None) }
+        ensures handed_back { IfErr result (λ a. a ≡ value) }
+        ensures same { OnErr result (self.new ≡ self.old) }
+    {
+        let Some(place) = self.entries.get_mut(key) else {
+            return Err(value);
+        };
+        Ok(replace(place, value))
     }
 
     /// Takes the attribute under a key out.

@@ -2,9 +2,13 @@
 #![tactic(auto)]
 
 mod ap_int;
+mod attr_clone;
+mod attr_eq;
+mod attr_hash;
 mod attr_interfaces;
 mod attribute_dict;
 mod attributes;
+mod builtin_set;
 mod identifier;
 mod location;
 mod memory;
@@ -21,6 +25,7 @@ pub use attributes::{
     AttrObj, BoolAttr, DictAttr, GivenNamesAttr, IdentifierAttr, IntegerAttr,
     OperandSegmentSizesAttr, StringAttr, TypeAttr, UnitAttr, VecAttr,
 };
+pub use builtin_set::{BuiltinSet, NeverRefused, NoMeaning};
 pub use identifier::{Identifier, IdentifierErr, is_identifier};
 pub use location::{Location, VerifyErr};
 pub use memory::Memory;

@@ -7,7 +7,6 @@ mod naming;
 mod nodes;
 mod run;
 mod script;
-mod script_set;
 mod stop;
 #[cfg(test)]
 mod tests;

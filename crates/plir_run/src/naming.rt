@@ -2,15 +2,14 @@
 ghost use Rattle.std.specs.Prelude.{IfSome};
 ghost use Rattle.plir_core.specs.Store.{IsLive};
 
-use crate::script_set::ScriptSet;
 use plir_core::{Context, IRNode, Operation, Ptr};
-use plir_data::AttrObj;
+use plir_data::{AttrObj, BuiltinSet};
 
 /// The key under which an operation keeps its name.
 pub const ATTR_KEY_SYM_NAME: &str = "builtin_sym_name";
 
 /// The operation that a node is, or stands in.
-pub fn owner_of(ctx: &Context<ScriptSet>, node: IRNode) -> Option<Ptr<Operation>>
+pub fn owner_of(ctx: &Context<BuiltinSet>, node: IRNode) -> Option<Ptr<Operation>>
     requires { IsLive ctx.now node }
     ensures { IfSome result (λ op. IsLive ctx.now (IRNode.Operation op)) }
 {
@@ -22,7 +21,7 @@ pub fn owner_of(ctx: &Context<ScriptSet>, node: IRNode) -> Option<Ptr<Operation>
 }
 
 /// The name of an operation, if it has one.
-pub fn name_of(ctx: &Context<ScriptSet>, op: Ptr<Operation>) -> Option<&str>
+pub fn name_of(ctx: &Context<BuiltinSet>, op: Ptr<Operation>) -> Option<&str>
     requires { IsLive ctx.now (IRNode.Operation op) }
 {
     match op.attributes(ctx).get(ATTR_KEY_SYM_NAME)? {

@@ -4,10 +4,9 @@ ghost use Rattle.plir_core.specs.Store.{IsLive};
 ghost use Rattle.plir_core.specs.declared.ptr.IRNode.{IRNode};
 
 use crate::naming::ATTR_KEY_SYM_NAME;
-use crate::script_set::{ScriptSet, Unmade};
 use crate::stop::Stop;
 use plir_core::{BasicBlock, Context, Operation, Ptr};
-use plir_data::{AttrObj, Identifier, IdentifierAttr, OpKind};
+use plir_data::{AttrObj, BuiltinSet, Identifier, IdentifierAttr, NoMeaning, OpKind};
 use std::alloc::Global;
 
 /// A module or a function: its operation, and the block in its region.
@@ -21,8 +20,8 @@ pub struct Made {
 /// `target`, if there is one; refused where that block is dead.
 pub fn make_named(
     alloc: Global,
-    ctx: &mut Context<ScriptSet>,
-    kind: OpKind<Unmade>,
+    ctx: &mut Context<BuiltinSet>,
+    kind: OpKind<NoMeaning>,
     name: Identifier,
     target: Option<Ptr<BasicBlock>>,
 ) -> Result<Made, Stop> {
@@ -36,8 +35,8 @@ pub fn make_named(
 // A new operation with one region, at the end of `target`, if that is given.
 fn make_op(
     alloc: Global,
-    ctx: &mut Context<ScriptSet>,
-    kind: OpKind<Unmade>,
+    ctx: &mut Context<BuiltinSet>,
+    kind: OpKind<NoMeaning>,
     target: Option<Ptr<BasicBlock>>,
 ) -> Result<Ptr<Operation>, Stop>
     ensures { IfOk result (λ op. IsLive ctx.new (IRNode.Operation op)) }
@@ -59,7 +58,7 @@ fn make_op(
 // A new block without arguments, in the operation's first region.
 fn add_block(
     alloc: Global,
-    ctx: &mut Context<ScriptSet>,
+    ctx: &mut Context<BuiltinSet>,
     op: Ptr<Operation>,
 ) -> Result<Ptr<BasicBlock>, Stop>
     requires { IsLive ctx.old (IRNode.Operation op) }

@@ -1,11 +1,10 @@
 //! What a script has built so far, and what each command does to it.
 use crate::command::{Command, read_command};
 use crate::nodes::{Made, make_named};
-use crate::script_set::{ScriptSet, Unmade};
 use crate::stop::Stop;
 use crate::walking::print_walk;
 use plir_core::{BasicBlock, Context, Operation, Ptr};
-use plir_data::{Identifier, OpKind};
+use plir_data::{BuiltinSet, Identifier, NoMeaning, OpKind};
 use plir_walk::{Direction, Order};
 use std::alloc::Global;
 use std::collections::BTreeSet;
@@ -22,7 +21,7 @@ struct OpenModule {
 #[derive(Drop)]
 pub struct Script {
     alloc: Global,
-    ctx: Context<ScriptSet>,
+    ctx: Context<BuiltinSet>,
     root: Option<Ptr<Operation>>,
     // The innermost one is last.
     open: Vec<OpenModule>,
@@ -78,7 +77,7 @@ impl Script {
     }
 
     // A new operation in the innermost open module, if there is one, where its name must be new.
-    fn add(&mut self, kind: OpKind<Unmade>, name: Identifier) -> Result<Made, Stop> {
+    fn add(&mut self, kind: OpKind<NoMeaning>, name: Identifier) -> Result<Made, Stop> {
         let mut target = None;
         if let Some(open) = self.open.last_mut() {
             if !open.names.insert(name.try_clone(self.alloc)?)? {

@@ -2,9 +2,9 @@
 ghost use Rattle.plir_core.specs.Store.{IsLive};
 
 use crate::naming::{name_of, owner_of};
-use crate::script_set::ScriptSet;
 use crate::stop::Stop;
 use plir_core::{Context, IRNode, Operation, Ptr};
+use plir_data::BuiltinSet;
 use plir_walk::interruptible::immutable::walk_op;
 use plir_walk::interruptible::{WalkResult, walk_advance, walk_break};
 use plir_walk::{Direction, Order, WalkConfig};
@@ -13,7 +13,7 @@ use std::ops::ControlFlow;
 
 /// Writes a line for each node under the root, in the order of a walk, and then `advance`.
 pub fn print_walk<W: Write>(
-    ctx: &Context<ScriptSet>,
+    ctx: &Context<BuiltinSet>,
     root: Ptr<Operation>,
     pair: (Order, Direction),
     writer: &mut W,
@@ -25,7 +25,7 @@ pub fn print_walk<W: Write>(
         ops_in_block: pair,
         blocks_in_region: pair,
     };
-    let visit = |ctx: &Context<ScriptSet>, writer: &mut W, node: IRNode| -> WalkResult<()>
+    let visit = |ctx: &Context<BuiltinSet>, writer: &mut W, node: IRNode| -> WalkResult<()>
         requires { IsLive ctx.now node }
     {
         match print_node(ctx, node, writer) {
@@ -43,7 +43,7 @@ pub fn print_walk<W: Write>(
 }
 
 // `op N`, `region of N` or `block of N`, where N is the name of the operation that the node is, or stands in.
-fn print_node<W: Write>(ctx: &Context<ScriptSet>, node: IRNode, writer: &mut W) -> io::Result<()>
+fn print_node<W: Write>(ctx: &Context<BuiltinSet>, node: IRNode, writer: &mut W) -> io::Result<()>
     requires { IsLive ctx.now node }
 {
     let what = match node {

@@ -34,7 +34,7 @@ fn take(rt: &impl Abort, slots: &mut Slots<u32>, index: u32, version: u32) -> u3
 }
 
 #[test]
-fn uses_the_slot_freed_last_first(rt: HostRuntime) -> Result<(), Fail> {
+fn uses_the_slot_freed_last_first_where_memory_is_refused(rt: HostRuntime) -> Result<(), Fail> {
     let mut slots = Slots::new(rt.alloc());
     assert_eq!(rt; put(&rt, &mut slots, 10)?, (0, 1));
     assert_eq!(rt; put(&rt, &mut slots, 11)?, (1, 1));
@@ -110,7 +110,7 @@ fn is_loose(chains: &Chains, child: u32) -> bool
 }
 
 #[test]
-fn links_children_in_order(rt: HostRuntime) -> Result<(), Fail> {
+fn links_children_in_order_where_memory_is_refused(rt: HostRuntime) -> Result<(), Fail> {
     let mut chains = Chains::new(rt.alloc());
     add_list(&rt, &mut chains)?;
     add_list(&rt, &mut chains)?;

@@ -4,16 +4,22 @@ use Rattle.std.proofs.Common.{◌≡◌, ◌≢◌, ℕ, zero, suc, ◌+◌, Boo
 use Rattle.std.proofs.lemmas.Option.{none-some, same_Some}
 use Rattle.plir_core.specs.declared.ptr.IRNode.{IRNode}
 use Rattle.plir_core.specs.Above.{Reaches, climb as climb_up}
-use Rattle.plir_core.specs.Nodes.{Nodes, is_node_live, node_parent, node_over}
+use Rattle.plir_core.specs.Nodes.{Nodes, is_node_live, node_parent, node_over, node_first}
 use Rattle.plir_core.specs.Forest.{IsForest as IsNodeForest}
 use Rattle.plir_core.specs.Store.{Store, is_live, given_out}
+use Rattle.plir_core.specs.Changes.{SameLive}
 use Rattle.plir_core.specs.Erase.{IsErased}
+use Rattle.plir_core.specs.Linked.{IsLinked}
 use Rattle.plir_core.specs.Made.{IsMade}
-use Rattle.plir_core.proofs.Facts.{parent-live}
-use Rattle.plir_walk.specs.Forest.{Shape, climb, AtOrBelow, IsBelow, Lawful}
+use Rattle.plir_core.proofs.Facts.{kid-parent, parent-live}
+use Rattle.plir_core.proofs.NewNodes.{apart_new}
+use Rattle.plir_walk.specs.Forest.{Shape, climb, AtOrBelow, IsBelow, IsForest, Lawful}
 use Rattle.plir_walk.specs.View.{look}
-use Rattle.plir_walk.proofs.Climbs.{climb-bottom}
+use Rattle.plir_walk.proofs.Climbs.{climb-bottom, climb-top, not-below-itself}
 use Rattle.plir_walk.proofs.Groves.{and_then-some}
+use Rattle.plir_walk.proofs.ListLinks.{first-is}
+use Rattle.plir_walk.proofs.Measure.{head-Has}
+use Rattle.plir_walk.proofs.Nodes.{same_tells}
 
 -- nothing done is lawful
 pub lawful-none : (s : Shape) (n : IRNode) → Lawful s n s
@@ -146,3 +152,75 @@ module _ {K A T : Type 0} (s t : Store K A T) (w : IsNodeForest s.nodes) where
       go false m l z =
           let up = climb-first (look t) z.0 m n z.1 in
           inr (e.fresh m (linked-live t.nodes m up.0 up.1) l)
+
+-- a lawful call leaves its own node live
+pub lawful-stays : (s t : Shape) (n : IRNode) → IsForest s → Lawful s n t → s.live n ≡ true → t.live n ≡ true
+lawful-stays s t n w f v = (f.kept n v (not-below-itself s w n)).0
+
+-- What was done so far, since s, and t is what it left.
+module _ {K A T : Type 0} (s : Shape) (n : IRNode) (live_given : (m : IRNode) → s.live m ≡ true → s.given m ≡ true) (t : Store K A T) (f : Lawful s n (look t)) where
+  -- what is new since t is new since s
+  new_since : (m : IRNode) → given_out t m ≡ false → s.given m ≡ false
+  new_since m e = go (s.given m) (f.given m)
+    where
+      go : (b : Bool) → (b ≡ true → given_out t m ≡ true) → b ≡ false
+      go true h = absurd (not-both (given_out t m) (h refl) e)
+      go false h = refl
+
+  -- a tree that was made is new from its root down
+  pub made-new : (u : Store K A T) (r : IRNode) → IsNodeForest t.nodes → IsMade t.nodes u.nodes r → (m : IRNode) → AtOrBelow (look u) r m → s.given m ≡ false
+  made-new u r w e m z = go (is_live t m) refl
+    where
+      live_in : (k : ℕ) → climb (look u) k m ≡ Some r → is_live u m ≡ true
+      live_in zero c = subst (λ v. is_live u v ≡ true) (sym (same_Some m r c)) e.root
+      live_in (suc k) c = let p = climb-first (look u) k m r c in linked-live u.nodes m p.0 p.1
+
+      go : (b : Bool) → is_live t m ≡ b → s.given m ≡ false
+      go true l = absurd (apart_new t.nodes u.nodes w e.keeps r e.new m l (z.0, sym (climb-is (look u) z.0 m) ∙ z.1))
+      go false l = new_since m (e.fresh m (live_in z.0 z.1) l)
+
+  -- putting x under n or below it, where x and what is below it is new
+  pub lawful-linked : (u : Store K A T) (x a : IRNode) → IsLinked t.nodes u.nodes x a → AtOrBelow (look t) n a → ((m : IRNode) → AtOrBelow (look t) x m → s.given m ≡ false) → Lawful s n (look u)
+  lawful-linked u x a e over new = record {
+    kept = λ m v nb.
+        (let k = f.kept m v nb in
+        let not_x = λ (q : m ≡ x). not-both (s.given m) (live_given m v) (new m (zero, ap Some q)) in
+        (e.live m ∙ k.0, e.parents m not_x ∙ k.1, λ ne. e.kids m (λ q. not_over m v nb ne (subst (λ z. AtOrBelow (look t) n z) (sym q) over)) ∙ k.2 ne));
+    below = λ m z. elim (passes m (suc z.0) n z.1) [ inl h ↦ inr (new m h) | inr h ↦ f.below m (z.0, h) ];
+    given = λ m g. e.given m ∙ f.given m g;
+  }
+    where
+      not_over : (m : IRNode) → s.live m ≡ true → (IsBelow s n m → ⊥) → m ≢ n → AtOrBelow (look t) n m → ⊥
+      not_over m v nb ne (zero, c) = ne (same_Some m n c)
+      not_over m v nb ne (suc k, c) = elim (f.below m (k, c)) [ inl y ↦ nb y | inr y ↦ not-both (s.given m) (live_given m v) y ]
+
+      -- a way up passes x, or was there
+      passes : (m : IRNode) (k : ℕ) (b : IRNode) → climb (look u) k m ≡ Some b → AtOrBelow (look t) x m ⊎ (climb (look t) k m ≡ Some b)
+      passes m zero b c = inr c
+      passes m (suc k) b c =
+          let r = and_then-some (look u).parent (climb (look u) k m) b c in
+          elim (passes m k r.0 r.1) [
+            | inl h ↦ inl h
+            | inr h ↦ elim (same_tells r.0 x) [
+              | inl q ↦ inl (k, h ∙ ap Some q.1)
+              | inr q ↦ inr (ap (option_and_then (look t).parent) h ∙ sym (e.parents r.0 q.1) ∙ r.2)
+            ]
+          ]
+
+-- making a tree, and putting its root under n or below it
+pub lawful-grown : {K A T : Type 0} (s : Shape) (n : IRNode) → ((m : IRNode) → s.live m ≡ true → s.given m ≡ true) → (t : Store K A T) → Lawful s n (look t) → (u v : Store K A T) (x a : IRNode) → is_live t n ≡ true → IsNodeForest t.nodes → IsMade t.nodes u.nodes x → IsLinked u.nodes v.nodes x a → AtOrBelow (look u) n a → Lawful s n (look v)
+lawful-grown s n live_given t f u v x a l w made link over =
+    let g = lawful-then s (look t) (look u) n live_given f (lawful-made t u w n x l made) in
+    lawful-linked s n live_given u g v x a link over (made-new s n live_given t f u x w made)
+
+-- no live node has changed
+pub lawful-refused : {K A T : Type 0} (s t : Store K A T) (n : IRNode) → SameLive s t → ((m : IRNode) → given_out s m ≡ true → given_out t m ≡ true) → Lawful (look s) n (look t)
+lawful-refused s t n e given = lawful-same (look s) (look t) n e.nodes.live e.nodes.parents e.nodes.kids given
+
+-- a node's first kid stands under it
+pub first-parent : {O B : Type 0} (s : Nodes O B) → IsNodeForest s → (a x : IRNode) → Some x ≡ node_first s a → node_parent s x ≡ Some a
+first-parent s w a x e = kid-parent s w a x (head-Has _ x (sym (first-is s a) ∙ sym e))
+
+-- a kid of a kid is below a node
+pub two-below : (s : Shape) (n a x : IRNode) → s.parent x ≡ Some a → s.parent a ≡ Some n → AtOrBelow s n x
+two-below s n a x e f = (suc (suc zero), climb-top s (suc zero) x a n e f)

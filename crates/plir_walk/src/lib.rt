@@ -8,6 +8,8 @@ pub mod interruptible;
 pub mod laws;
 pub mod limit;
 pub mod links;
+#[cfg(test)]
+mod tests;
 pub mod uninterruptible;
 
 pub use config::{

@@ -5,7 +5,7 @@ use Rattle.plir_core.specs.Above.{Reaches}
 use Rattle.plir_core.specs.Nodes.{node_parent, ptr_at}
 use Rattle.plir_core.proofs.Added.{IsAdded-block}
 use Rattle.plir_run.proofs.nodes.add_block.Goals as goal
-use Rattle.plir_run.proofs.NewNodes.{apart_new}
+use Rattle.plir_core.proofs.NewNodes.{apart_new}
 
 pub insert_at_back-requires-clause-not_above : goal.insert_at_back-requires-clause-not_above
 insert_at_back-requires-clause-not_above c =

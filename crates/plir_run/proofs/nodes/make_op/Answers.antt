@@ -1,7 +1,7 @@
 use Rattle.std.proofs.Common.{◌∙◌, sym}
 use Rattle.plir_core.specs.declared.ptr.IRNode.TheVariants.{Operation, BasicBlock}
 use Rattle.plir_run.proofs.nodes.make_op.Goals as goal
-use Rattle.plir_run.proofs.NewNodes.{apart_new}
+use Rattle.plir_core.proofs.NewNodes.{apart_new}
 
 pub insert_at_back-requires-clause-not_above : goal.insert_at_back-requires-clause-not_above
 insert_at_back-requires-clause-not_above c =

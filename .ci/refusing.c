@@ -1,0 +1,60 @@
+/* Preloaded into a program: its Nth request for memory is refused (REFUSE=memory:N), its Nth read or write fails
+   (REFUSE=io:N), or its Nth read or write of several bytes moves one byte alone (REFUSE=short:N). Where that request
+   came, the file that REFUSED names is made. */
+#define _GNU_SOURCE
+#include <dlfcn.h>
+#include <errno.h>
+#include <fcntl.h>
+#include <stdlib.h>
+#include <string.h>
+#include <sys/uio.h>
+#include <unistd.h>
+
+static enum { NOTHING, MEMORY, IO, SHORT } what;
+static long nth, count;
+
+__attribute__((constructor)) static void begin(void) {
+    const char *refuse = getenv("REFUSE");
+    if (refuse && !strncmp(refuse, "memory:", 7)) what = MEMORY, nth = atol(refuse + 7);
+    else if (refuse && !strncmp(refuse, "io:", 3)) what = IO, nth = atol(refuse + 3);
+    else if (refuse && !strncmp(refuse, "short:", 6)) what = SHORT, nth = atol(refuse + 6);
+}
+
+static int is_due(int kind) {
+    if (what != kind || ++count != nth) return 0;
+    const char *path = getenv("REFUSED");
+    int file = path ? open(path, O_CREAT | O_WRONLY, 0600) : -1;
+    if (file >= 0) close(file);
+    return 1;
+}
+
+#define REAL(name) ((__typeof__(&name))dlsym(RTLD_NEXT, #name))
+
+void *__libc_malloc(size_t);
+void *__libc_realloc(void *, size_t);
+void *__libc_calloc(size_t, size_t);
+void *__libc_memalign(size_t, size_t);
+
+static void *none(void) { errno = ENOMEM; return NULL; }
+
+void *malloc(size_t n) { return is_due(MEMORY) ? none() : __libc_malloc(n); }
+void *realloc(void *p, size_t n) { return is_due(MEMORY) ? none() : __libc_realloc(p, n); }
+void *calloc(size_t m, size_t n) { return is_due(MEMORY) ? none() : __libc_calloc(m, n); }
+void *aligned_alloc(size_t a, size_t n) { return is_due(MEMORY) ? none() : __libc_memalign(a, n); }
+void *memalign(size_t a, size_t n) { return is_due(MEMORY) ? none() : __libc_memalign(a, n); }
+int posix_memalign(void **p, size_t a, size_t n) {
+    if (is_due(MEMORY)) return ENOMEM;
+    *p = __libc_memalign(a, n);
+    return *p ? 0 : ENOMEM;
+}
+
+ssize_t read(int file, void *bytes, size_t n) {
+    if (is_due(IO)) { errno = EIO; return -1; }
+    if (n > 1 && is_due(SHORT)) n = 1;
+    return REAL(read)(file, bytes, n);
+}
+ssize_t write(int file, const void *bytes, size_t n) {
+    if (is_due(IO)) { errno = EIO; return -1; }
+    if (n > 1 && is_due(SHORT)) n = 1;
+    return REAL(write)(file, bytes, n);
+}

@@ -1,0 +1,96 @@
+-- What an operation or a block holds is edited.
+use Rattle.std.proofs.Common.{◌≡◌, ℕ, suc, true, false, cond, List, [], ◌∷◌, take, drop, Option, Some, Result, Ok, Err, OnOk, OnErr, refl, sym, subst, slice_set, ◌⊎◌, inl, inr}
+use Rattle.std.specs.Prelude.{All, insert, remove}
+use Rattle.std.proofs.lemmas.List.Elements.{All-append, All-cons, All-head, All-tail, All-take, All-drop, All-set}
+use Rattle.plir_data.specs.AttrView.{AttrView}
+use Rattle.plir_data.specs.declared.location.Location.{Location}
+use Rattle.plir_data.specs.Types.{AllLive}
+use Rattle.plir_data.specs.Dictionary.{is_key, dict_without}
+use Rattle.plir_store.specs.Table.{content_at, with_content}
+use Rattle.plir_core.specs.declared.value.Value.{Value}
+use Rattle.plir_core.specs.AttrHandles.{attr_handles}
+use Rattle.plir_core.specs.Contents.{OpView, BlockView}
+use Rattle.plir_core.specs.Store.{Store, IsValueLive}
+use Rattle.plir_core.specs.Whole.{OpHoldsLive, BlockHoldsLive, IsWhole}
+use Rattle.plir_core.specs.Changes.{with_op_content, with_block_content}
+use Rattle.plir_core.proofs.Changes.{IsForest-held_op, IsForest-held_block}
+use Rattle.plir_core.proofs.Holds.{op_replaced, block_replaced}
+
+-- lists with an element more, fewer or changed
+module _ {X : Type 0} (P : X → Type 0) (xs : List X) (i : ℕ) where
+  All-insert : (x : X) → P x → All P xs → All P (insert xs i x)
+  All-insert x p a = All-append P (take i xs) (x ∷ drop i xs) (All-take P i xs a) (All-cons P x (drop i xs) p (All-drop P i xs a))
+
+  All-remove : All P xs → All P (remove xs i)
+  All-remove a = All-append P (take i xs) (drop (suc i) xs) (All-take P i xs a) (All-drop P (suc i) xs a)
+
+-- attributes after one is taken out
+All-dict_without : {V : Type 0} (P : List ℕ × V → Type 0) (es : List (List ℕ × V)) (k : List ℕ) → All P es → All P (dict_without es k)
+All-dict_without P [] k a = a
+All-dict_without P (e ∷ es) k a = elim (is_key k e.0) as (λ b. All P (cond b es (e ∷ dict_without es k))) [
+  | true ↦ All-tail P e es a
+  | false ↦ All-cons P e (dict_without es k) (All-head P e es a) (All-dict_without P es k (All-tail P e es a))
+]
+
+-- of two ways to end, one came
+pub either_way : {X Y P Q : Type 0} (r : Result X Y) → OnOk r P → OnErr r Q → P ⊎ Q
+either_way (Ok x) p q = inl p
+either_way (Err y) p q = inr q
+
+-- The edits of a context, where t is its value and s is made of the fields.
+module _ {K A T : Type 0} (own : A → List ℕ) (s t : Store K A T) (view : s ≡ t) (w : IsWhole own s) where
+  -- of an operation all but the types of the results may change
+  pub op_edited : (i : ℕ) (u v : OpView K A) → content_at s.nodes.ops i ≡ Some u → v.result_types ≡ u.result_types → (OpHoldsLive own s u → OpHoldsLive own s v) → IsWhole own (with_op_content s i v)
+  op_edited i u v was same keeps = op_replaced own s w (record s.nodes { ops = with_content s.nodes.ops i v }) i u v refl (IsForest-held_op s.nodes w.forest i v (rw was refl)) was same (keeps (w.holds.ops i u was))
+
+  -- of a block all but the types of the arguments may change
+  pub block_edited : (i : ℕ) (u v : BlockView A) → content_at s.nodes.blocks i ≡ Some u → v.arg_types ≡ u.arg_types → (BlockHoldsLive own s u → BlockHoldsLive own s v) → IsWhole own (with_block_content s i v)
+  block_edited i u v was same keeps = block_replaced own s w (record s.nodes { blocks = with_content s.nodes.blocks i v }) i u v refl (IsForest-held_block s.nodes w.forest i v (rw was refl)) was same (keeps (w.holds.blocks i u was))
+
+  operands_edited : (i : ℕ) (u : OpView K A) (xs : List Value) → content_at s.nodes.ops i ≡ Some u → (All (IsValueLive s) u.operands → All (IsValueLive s) xs) → IsWhole own (with_op_content s i (record u { operands = xs }))
+  operands_edited i u xs was keeps = op_edited i u (record u { operands = xs }) was refl (λ h. record {
+    operands = keeps h.operands;
+    successors = h.successors;
+    result_types = h.result_types;
+    attributes = h.attributes;
+  })
+
+  value_live : (x : Value) → IsValueLive t x → IsValueLive s x
+  value_live x l = subst (λ z. IsValueLive z x) (sym view) l
+
+  pub operand_inserted : (i n : ℕ) (u : OpView K A) (x : Value) (xs : List Value) → content_at s.nodes.ops i ≡ Some u → xs ≡ insert u.operands n x → IsValueLive t x → IsWhole own (with_op_content s i (record u { operands = xs }))
+  operand_inserted i n u x xs was e l = operands_edited i u xs was (λ a. subst (All (IsValueLive s)) (sym e) (All-insert (IsValueLive s) u.operands n x (value_live x l) a))
+
+  pub operand_removed : (i n : ℕ) (u : OpView K A) (xs : List Value) → content_at s.nodes.ops i ≡ Some u → xs ≡ remove u.operands n → IsWhole own (with_op_content s i (record u { operands = xs }))
+  operand_removed i n u xs was e = operands_edited i u xs was (λ a. subst (All (IsValueLive s)) (sym e) (All-remove (IsValueLive s) u.operands n a))
+
+  pub operand_replaced : (i n : ℕ) (u : OpView K A) (x : Value) (xs : List Value) → content_at s.nodes.ops i ≡ Some u → xs ≡ slice_set u.operands n x → IsValueLive t x → IsWhole own (with_op_content s i (record u { operands = xs }))
+  operand_replaced i n u x xs was e l = operands_edited i u xs was (λ a. subst (All (IsValueLive s)) (sym e) (All-set (IsValueLive s) u.operands n x (value_live x l) a))
+
+  pub operands_same : (i : ℕ) (u : OpView K A) (xs : List Value) → content_at s.nodes.ops i ≡ Some u → xs ≡ u.operands → IsWhole own (with_op_content s i (record u { operands = xs }))
+  operands_same i u xs was e = operands_edited i u xs was (λ a. subst (All (IsValueLive s)) (sym e) a)
+
+  pub located : (i : ℕ) (u : OpView K A) (l : Location) → content_at s.nodes.ops i ≡ Some u → IsWhole own (with_op_content s i (record u { location = l }))
+  located i u l was = op_edited i u (record u { location = l }) was refl (λ h. record {
+    operands = h.operands;
+    successors = h.successors;
+    result_types = h.result_types;
+    attributes = h.attributes;
+  })
+
+  pub labelled : (i : ℕ) (u : BlockView A) (l : Option (List ℕ)) → content_at s.nodes.blocks i ≡ Some u → IsWhole own (with_block_content s i (record u { label = l }))
+  labelled i u l was = block_edited i u (record u { label = l }) was refl (λ h. record { arg_types = h.arg_types; attributes = h.attributes })
+
+  pub op_attr_removed : (i : ℕ) (u : OpView K A) (k : List ℕ) (es : List (List ℕ × AttrView A)) → content_at s.nodes.ops i ≡ Some u → es ≡ dict_without u.attributes k → IsWhole own (with_op_content s i (record u { attributes = es }))
+  op_attr_removed i u k es was e = op_edited i u (record u { attributes = es }) was refl (λ h. record {
+    operands = h.operands;
+    successors = h.successors;
+    result_types = h.result_types;
+    attributes = rw e (All-dict_without (λ x. AllLive s.types (attr_handles own x.1)) u.attributes k h.attributes);
+  })
+
+  pub block_attr_removed : (i : ℕ) (u : BlockView A) (k : List ℕ) (es : List (List ℕ × AttrView A)) → content_at s.nodes.blocks i ≡ Some u → es ≡ dict_without u.attributes k → IsWhole own (with_block_content s i (record u { attributes = es }))
+  block_attr_removed i u k es was e = block_edited i u (record u { attributes = es }) was refl (λ h. record {
+    arg_types = h.arg_types;
+    attributes = rw e (All-dict_without (λ x. AllLive s.types (attr_handles own x.1)) u.attributes k h.attributes);
+  })

@@ -1,0 +1,124 @@
+//! Copies of attributes.
+
+ghost use Rattle.std.specs.Prelude.{◌≡◌, IfOk, OnOk, map};
+ghost use Rattle.plir_data.specs.AttrSeen.{attr_view};
+ghost use Rattle.plir_data.specs.DictSeen.{dict_view};
+ghost use Rattle.plir_data.specs.Dictionary.{dict_of, dict_put};
+
+use crate::attribute_dict::AttributeDict;
+use crate::attributes::{AttrObj, DictAttr, VecAttr};
+use crate::memory::Memory;
+use crate::op_set::OpSet;
+use std::alloc::Global;
+use std::collections::BTreeMap;
+
+impl<D: OpSet> AttrObj<D> {
+    /// An equal attribute.
+    pub fn try_clone(&self, alloc: Global) -> Result<AttrObj<D>, Memory>
+        ensures { IfOk result (λ a. attr_view a ≡ attr_view self.now) }
+    {
+        copy_of(alloc, self)
+    }
+}
+
+impl<D: OpSet> DictAttr<D> {
+    /// An equal attribute.
+    pub fn try_clone(&self, alloc: Global) -> Result<DictAttr<D>, Memory>
+        ensures { IfOk result (λ a. a ≡ self.now) }
+    {
+        Ok(DictAttr(self.0.try_clone(alloc)?))
+    }
+}
+
+impl<D: OpSet> AttributeDict<D> {
+    /// Equal attributes under the same keys.
+    pub fn try_clone(&self, alloc: Global) -> Result<AttributeDict<D>, Memory>
+        ensures { IfOk result (λ d. d ≡ self.now) }
+    {
+        copy_of_dict(alloc, self)
+    }
+}
+
+impl<D: OpSet> VecAttr<D> {
+    /// An equal attribute.
+    pub fn try_clone(&self, alloc: Global) -> Result<VecAttr<D>, Memory>
+        ensures { IfOk result (λ a. a ≡ self.now) }
+    {
+        Ok(VecAttr(copy_of_items(alloc, &self.0)?))
+    }
+}
+
+#[cycle(copy)]
+fn copy_of<D: OpSet>(alloc: Global, attr: &AttrObj<D>) -> Result<AttrObj<D>, Memory>
+    ensures { IfOk result (λ a. attr_view a ≡ attr_view attr.now) }
+{
+    match attr {
+        AttrObj::Identifier(value) => Ok(AttrObj::Identifier(value.try_clone(alloc)?)),
+        AttrObj::String(value) => Ok(AttrObj::String(value.try_clone(alloc)?)),
+        AttrObj::Bool(value) => Ok(AttrObj::Bool(*value)),
+        AttrObj::Integer(value) => Ok(AttrObj::Integer(*value)),
+        AttrObj::Dict(value) => Ok(AttrObj::Dict(DictAttr(copy_of_dict(alloc, &value.0)?))),
+        AttrObj::Vec(value) => Ok(AttrObj::Vec(VecAttr(copy_of_items(alloc, &value.0)?))),
+        AttrObj::Unit(value) => Ok(AttrObj::Unit(*value)),
+        AttrObj::Type(value) => Ok(AttrObj::Type(*value)),
+        AttrObj::OperandSegmentSizes(value) => {
+            Ok(AttrObj::OperandSegmentSizes(value.try_clone(alloc)?))
+        }
+        AttrObj::GivenNames(value) => Ok(AttrObj::GivenNames(value.try_clone(alloc)?)),
+        AttrObj::Own(value) => Ok(AttrObj::Own(D::clone_attr(alloc, value)?)),
+    }
+}
+
+#[cycle(copy)]
+fn copy_of_items<D: OpSet>(
+    alloc: Global,
+    items: &Vec<AttrObj<D>>,
+) -> Result<Vec<AttrObj<D>>, Memory>
+    ensures { IfOk result (λ v. map attr_view v.items ≡ map attr_view items.now.items) }
+{
+    let mut copies = Vec::with_capacity(alloc, items.len())?;
+    'items: for item in items {
+        copies.push(copy_of(alloc, item)?)?;
+    }
+    Ok(copies)
+}
+
+#[cycle(copy)]
+fn copy_of_dict<D: OpSet>(
+    alloc: Global,
+    dict: &AttributeDict<D>,
+) -> Result<AttributeDict<D>, Memory>
+    ensures { IfOk result (λ d. d ≡ dict.now) }
+{
+    let entries = copy_of_entries(alloc, &dict.entries)?;
+    Ok(AttributeDict { entries })
+}
+
+#[cycle(copy)]
+fn copy_of_entries<D: OpSet>(
+    alloc: Global,
+    entries: &BTreeMap<String, AttrObj<D>>,
+) -> Result<BTreeMap<String, AttrObj<D>>, Memory>
+    ensures { IfOk result (λ m. dict_view m ≡ dict_of (dict_view entries.now)) }
+{
+    let mut copies = BTreeMap::new(alloc);
+    'entries: for (key, value) in entries.iter() {
+        let copy = copy_of(alloc, value)?;
+        put_copy(alloc, &mut copies, key.as_str(), copy)?;
+    }
+    Ok(copies)
+}
+
+// Puts an attribute under a copy of a key.
+fn put_copy<D: OpSet>(
+    alloc: Global,
+    copies: &mut BTreeMap<String, AttrObj<D>>,
+    key: &str,
+    value: AttrObj<D>,
+) -> Result<(), Memory>
+    ensures { OnOk result (dict_view copies.new ≡ dict_put (dict_view copies.old) key.now (attr_view value)) }
+{
+    let name = String::from_str(alloc, key)?;
+    copies.insert(name, value)?;
+    Ok(())
+}

@@ -1,0 +1,8 @@
+//! Worked walks of trees that are made by the calls of `plir_core` alone.
+mod changes;
+mod deep;
+mod noting;
+mod orders;
+mod refused;
+mod reshaping;
+mod sample;
