@@ -24,7 +24,7 @@ use thiserror::Error;
 pub struct IntegerAttrBitwidthErr;
 
 /// Why an attribute is not valid.
-#[derive(Debug, Drop, Error)]
+#[derive(PartialEq, Eq, Debug, Drop, Error)]
 pub enum AttrVerifyErr<E: Error> {
     #[error(transparent)]
     IntegerAttrBitwidth(IntegerAttrBitwidthErr),

@@ -19,6 +19,9 @@ mod type_texts;
 mod typed_handle;
 mod types;
 
+#[cfg(test)]
+mod tests;
+
 pub use ap_int::APInt;
 pub use attr_interfaces::{OutlinedAttr, PrintOnceAttr, Typed, TypedAttrInterface};
 pub use attr_verify::{AttrVerifyErr, IntegerAttrBitwidthErr};
