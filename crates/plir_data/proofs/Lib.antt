@@ -2,4 +2,6 @@ pub mod Bulk
 pub mod Dictionaries
 pub mod Equality
 pub mod Tables
+pub mod TypeTexts
 pub mod TypeTrees
+pub mod Verdicts

@@ -11,12 +11,12 @@ module _ {X : Type 0} where
       ap (λ x. x ∷ map f hs) (same h (all 0 0 (omega arith))) ∙ ap (λ xs. g h ∷ xs) (map_agree f g b same hs (λ k d p. all (suc k) d (omega (arith, p))))
 
   -- a fact of all of two lists joined is one of each
-  all_left : (P : X → Type 0) (xs ys : List X) → All P (xs ++ ys) → All P xs
+  pub all_left : (P : X → Type 0) (xs ys : List X) → All P (xs ++ ys) → All P xs
   all_left P [] ys all k d p = absurd (omega (arith, p))
   all_left P (x ∷ xs) ys all zero d p = all 0 d (omega arith)
   all_left P (x ∷ xs) ys all (suc k) d p = all_left P xs ys (λ i e q. all (suc i) e (omega (arith, q))) k d (omega (arith, p))
 
-  all_right : (P : X → Type 0) (xs ys : List X) → All P (xs ++ ys) → All P ys
+  pub all_right : (P : X → Type 0) (xs ys : List X) → All P (xs ++ ys) → All P ys
   all_right P [] ys all = all
   all_right P (x ∷ xs) ys all = all_right P xs ys (λ i e q. all (suc i) e (omega (arith, q)))
 

@@ -28,5 +28,6 @@ pub mod AttrEq
 pub mod AttrHash
 pub mod AttrLaws
 pub mod AttrLive
+pub mod AttrVerify
 pub mod TypeTree
 pub mod TypeText

@@ -118,7 +118,8 @@ impl APInt {
     }
 }
 
-fn put_decimal(out: &mut String, n: u128) -> Result<(), Memory>
+// Writes a number in decimal digits.
+pub(crate) fn put_decimal(out: &mut String, n: u128) -> Result<(), Memory>
     ensures { OnOk result (string_bytes out.new ≡ string_bytes out.old ++ decimal n) }
 {
     write!(out, "{n}")?;

@@ -6,6 +6,7 @@ mod attr_clone;
 mod attr_eq;
 mod attr_hash;
 mod attr_interfaces;
+mod attr_verify;
 mod attribute_dict;
 mod attributes;
 mod builtin_set;
@@ -15,11 +16,16 @@ mod memory;
 mod op_set;
 mod type_store;
 mod type_table;
+mod type_texts;
 mod typed_handle;
 mod types;
 
+#[cfg(test)]
+mod tests;
+
 pub use ap_int::APInt;
 pub use attr_interfaces::{OutlinedAttr, PrintOnceAttr, Typed, TypedAttrInterface};
+pub use attr_verify::{AttrVerifyErr, IntegerAttrBitwidthErr};
 pub use attribute_dict::AttributeDict;
 pub use attributes::{
     AttrObj, BoolAttr, DictAttr, GivenNamesAttr, IdentifierAttr, IntegerAttr,
@@ -32,6 +38,7 @@ pub use memory::Memory;
 pub use op_set::{OpKind, OpSet};
 pub use type_store::TypeStore;
 pub use type_table::TypeTable;
+pub use type_texts::type_text;
 pub use typed_handle::{FunctionTypeMark, TypeInterfaceMark, TypeMark, TypedHandle};
 pub use types::{
     FunctionType, FunctionTypeInterface, IntegerType, Signedness, TypeHandle, TypeObj, TypeSig,

@@ -1,0 +1,128 @@
+//! Attribute values, their conversions, equality and copies.
+
+use super::sample_set::{Marked, SampleSet};
+use crate::{
+    APInt, AttrObj, BoolAttr, GivenNamesAttr, Identifier, IdentifierAttr, IntegerAttr, IntegerType,
+    OperandSegmentSizesAttr, Signedness, StringAttr, TypeAttr, TypeTable, UnitAttr, VecAttr,
+};
+use std::alloc::Global;
+use std::hash::{DefaultHasher, Hash, Hasher};
+use std::process::Abort;
+use std::test::Fail;
+
+type Attr = AttrObj<SampleSet>;
+
+// The attribute of a text.
+pub(crate) fn text(alloc: Global, value: &str) -> Result<Attr, Fail> {
+    Ok(AttrObj::String(again!(StringAttr::try_from_str(alloc, value))))
+}
+
+pub(crate) fn hash_of<T: Hash>(value: &T) -> u64 {
+    let mut state = DefaultHasher::new();
+    value.hash(&mut state);
+    state.finish()
+}
+
+#[test]
+fn test_integer_attributes(rt: HostRuntime) -> Result<(), Fail> {
+    let mut table: TypeTable<SampleSet> = TypeTable::new(rt.alloc());
+    let si64 = again!(IntegerType::get(&mut table, 64, Signedness::Signed));
+    let zero = IntegerAttr::new(si64, APInt::from_i64(0, 64).expect(&rt, "a width"));
+    let same = IntegerAttr::new(si64, APInt::from_i64(0, 64).expect(&rt, "a width"));
+    let fifteen = IntegerAttr::new(si64, APInt::from_i64(15, 64).expect(&rt, "a width"));
+    assert!(rt; zero == same);
+    assert!(rt; zero != fifteen);
+    assert!(rt; zero.value().is_zero());
+    assert_eq!(rt; APInt::from(fifteen).to_i64(), 15);
+    assert!(rt; fifteen.get_type() == si64);
+    Ok(())
+}
+
+#[test]
+fn test_string_attributes(rt: HostRuntime) -> Result<(), Fail> {
+    let alloc = rt.alloc();
+    let hello = again!(StringAttr::try_from_str(alloc, "hello"));
+    let world = again!(StringAttr::try_from_str(alloc, "world"));
+    assert!(rt; hello != world);
+    assert_eq!(rt; hello.as_str(), "hello");
+    let hello = String::from(hello);
+    assert_eq!(rt; hello.as_str(), "hello");
+    let world = String::from(world);
+    assert_eq!(rt; world.as_str(), "world");
+    Ok(())
+}
+
+#[test]
+fn test_vec_attributes(rt: HostRuntime) -> Result<(), Fail> {
+    let alloc = rt.alloc();
+    let list = two_texts(alloc, "hello", "world")?;
+    assert_eq!(rt; list.0.len(), 2);
+    assert!(rt; list.0[0] == text(alloc, "hello")?);
+    assert!(rt; list.0[1] == text(alloc, "world")?);
+    Ok(())
+}
+
+// A list of two texts.
+fn two_texts(alloc: Global, first: &str, second: &str) -> Result<VecAttr<SampleSet>, Fail> {
+    let mut list = again!(Vec::with_capacity(alloc, 2));
+    list.push(text(alloc, first)?)?;
+    list.push(text(alloc, second)?)?;
+    Ok(VecAttr::new(list))
+}
+
+#[test]
+fn test_type_attributes(rt: HostRuntime) -> Result<(), Fail> {
+    let mut table: TypeTable<SampleSet> = TypeTable::new(rt.alloc());
+    let si64 = again!(IntegerType::get(&mut table, 64, Signedness::Signed));
+    let attr = TypeAttr::new(si64.into());
+    assert!(rt; attr.get_type() == si64.into());
+    assert!(rt; AttrObj::<SampleSet>::Type(attr).typed() == Some(si64.into()));
+    Ok(())
+}
+
+#[test]
+fn test_operand_segment_sizes_attr(rt: HostRuntime) -> Result<(), Fail> {
+    let alloc = rt.alloc();
+    let sizes = OperandSegmentSizesAttr(again!(Vec::from_slice(alloc, &[1, 2, 3])));
+    let copy = again!(sizes.try_clone(alloc));
+    assert!(rt; copy == sizes);
+    assert_eq!(rt; copy.0.as_slice(), [1, 2, 3].as_slice());
+    Ok(())
+}
+
+// A copy of an attribute is equal to it, and hashes alike.
+fn copies(rt: &impl Abort, alloc: Global, attr: &Attr, id: &str) -> Result<(), Fail> {
+    let copy = again!(attr.try_clone(alloc));
+    assert!(rt; copy == *attr);
+    assert!(rt; hash_of(&copy) == hash_of(attr));
+    assert_eq!(rt; copy.get_attr_id(), id);
+    Ok(())
+}
+
+#[test]
+fn copies_each_kind(rt: HostRuntime) -> Result<(), Fail> {
+    let alloc = rt.alloc();
+    let name = again!(Identifier::try_new(alloc, "name"));
+    copies(&rt, alloc, &AttrObj::Identifier(IdentifierAttr::new(name)), "builtin.identifier")?;
+    copies(&rt, alloc, &text(alloc, "text")?, "builtin.string")?;
+    copies(&rt, alloc, &AttrObj::Bool(BoolAttr::new(true)), "builtin.bool")?;
+    copies(&rt, alloc, &AttrObj::Unit(UnitAttr::new()), "builtin.unit")?;
+    copies(&rt, alloc, &AttrObj::GivenNames(GivenNamesAttr::new(alloc)), "builtin.given_names")?;
+    copies(&rt, alloc, &AttrObj::Vec(two_texts(alloc, "a", "b")?), "builtin.vec")?;
+    copies(&rt, alloc, &AttrObj::Own(Marked(true)), "sample.marked")?;
+    Ok(())
+}
+
+#[test]
+fn differs_by_kind_and_parts(rt: HostRuntime) -> Result<(), Fail> {
+    let alloc = rt.alloc();
+    let marked: Attr = AttrObj::Own(Marked(true));
+    assert!(rt; marked != AttrObj::Own(Marked(false)));
+    assert!(rt; marked != AttrObj::Bool(BoolAttr::new(true)));
+    assert!(rt; marked.outline());
+    let list: Attr = AttrObj::Vec(two_texts(alloc, "a", "b")?);
+    assert!(rt; list != AttrObj::Vec(two_texts(alloc, "b", "a")?));
+    assert!(rt; list != AttrObj::Vec(VecAttr::new(Vec::new(alloc))));
+    assert!(rt; !list.outline());
+    Ok(())
+}
