@@ -2,5 +2,7 @@
 --
 --   Verdict      IsRefusal: how a verifier refuses
 --   Counts       the rules of numbers
+--   IndexRange   IsIndexRange: ranges of places in a list
 pub mod Verdict
 pub mod Counts
+pub mod IndexRange

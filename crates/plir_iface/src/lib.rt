@@ -3,10 +3,31 @@
 #![tactic(auto)]
 
 mod counts;
+mod index_range;
+mod less_than;
 mod op;
+mod operands;
 mod regions;
+mod results;
+mod values;
 mod verdict;
 
-pub use counts::{AtMostNRegionVerifyErr, NRegionsVerifyErr};
+pub use counts::{
+    AtLeastNOpdsVerifyErr, AtLeastNResultsVerifyErr, AtMostNOpdsVerifyErr, AtMostNRegionVerifyErr,
+    AtMostNResultsVerifyErr, NOpdsVerifyErr, NRegionsVerifyErr, NResultsVerifyErr,
+    NotEnoughOperandsErr, NotEnoughResultsErr,
+};
+pub use index_range::{IndexRange, resolve_index_range};
+pub use less_than::LessThanN;
 pub use op::Op;
-pub use regions::{AtMostNRegionsInterface, AtMostOneRegionInterface, NRegionsInterface, OneRegionInterface};
+pub use operands::{
+    AtLeastNOpdsInterface, AtMostNOpdsInterface, NOpdsInterface, OneOpdInterface,
+    OptionalOpdInterface, verify_get_operand_n,
+};
+pub use regions::{
+    AtMostNRegionsInterface, AtMostOneRegionInterface, NRegionsInterface, OneRegionInterface,
+};
+pub use results::{
+    AtLeastNResultsInterface, AtMostNResultsInterface, NResultsInterface, OneResultInterface,
+    OptionalResultInterface, verify_get_result_n,
+};

@@ -1,5 +1,5 @@
 //! Interfaces of operations by their regions.
-ghost use Rattle.std.specs.Prelude.{◌≡◌, ◌<◌, ◌↔◌, Some, None, IsOk, IfErr, slice_get, option_map};
+ghost use Rattle.std.specs.Prelude.{◌≡◌, ◌↔◌, Some, None, IsOk, IfErr, slice_get, option_map};
 ghost use Rattle.plir_core.specs.NodeLists.{head};
 ghost use Rattle.plir_core.specs.Store.{IsLive};
 ghost use Rattle.plir_core.specs.Whole.{IsWhole};
@@ -8,6 +8,7 @@ ghost use Rattle.plir_iface.specs.Counts.{regions_of, num_regions, HasNRegions, 
 ghost use Rattle.plir_iface.specs.Verdict.{IsRefusal};
 
 use crate::counts::{AtMostNRegionVerifyErr, NRegionsVerifyErr};
+use crate::less_than::LessThanN;
 use crate::op::Op;
 use crate::verdict::accept_if;
 use plir_core::{Context, Ptr, Region};
@@ -28,14 +29,13 @@ pub trait NRegionsInterface<D: OpSet, const N: usize>: Op<D> {
     }
 
     /// The region at a place, from 0.
-    final fn get_region_i(&self, ctx: &Context<D>, i: usize) -> Ptr<Region>
+    final fn get_region_i(&self, ctx: &Context<D>, i: LessThanN<N>) -> Ptr<Region>
         requires live { IsLive ctx.now (IRNode.Operation (Self.pointer self.now)) }
         requires rule { HasNRegions N ctx.now (Self.pointer self.now) }
-        requires below { i < N }
-        ensures value { slice_get (regions_of ctx.now (Self.pointer self.now)) i ≡ Some (IRNode.Region result) }
+        ensures value { slice_get (regions_of ctx.now (Self.pointer self.now)) i.entry ≡ Some (IRNode.Region result) }
         ensures whole { IsWhole D.attr_handles ctx.now }
     {
-        self.get_operation().get_region(ctx, i)
+        self.get_operation().get_region(ctx, i.i())
     }
 }
 

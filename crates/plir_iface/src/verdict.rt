@@ -25,5 +25,8 @@ pub(crate) fn accept_if<D: OpSet, E: Drop>(
         return Ok(());
     }
     let _op = op;
-    Err(VerifyErr::Refused { loc: Location::Unknown, err })
+    Err(VerifyErr::Refused {
+        loc: Location::Unknown,
+        err,
+    })
 }
