@@ -2,8 +2,11 @@
 //! the calls that the rule makes good.
 #![tactic(auto)]
 
+mod blocks;
 mod counts;
+mod ids;
 mod index_range;
+mod kinds;
 mod less_than;
 mod op;
 mod operands;
@@ -12,12 +15,17 @@ mod results;
 mod values;
 mod verdict;
 
+pub use blocks::{SingleBlockRegionInterface, SingleBlockRegionVerifyErr};
 pub use counts::{
     AtLeastNOpdsVerifyErr, AtLeastNResultsVerifyErr, AtMostNOpdsVerifyErr, AtMostNRegionVerifyErr,
     AtMostNResultsVerifyErr, NOpdsVerifyErr, NRegionsVerifyErr, NResultsVerifyErr,
     NotEnoughOperandsErr, NotEnoughResultsErr,
 };
 pub use index_range::{IndexRange, resolve_index_range};
+pub use kinds::{
+    IsTerminatorInterface, IsolatedFromAboveInterface, NoTerminatorInterface, RegionKind,
+    RegionKindInterface,
+};
 pub use less_than::LessThanN;
 pub use op::Op;
 pub use operands::{

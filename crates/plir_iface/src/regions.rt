@@ -1,5 +1,5 @@
 //! Interfaces of operations by their regions.
-ghost use Rattle.std.specs.Prelude.{◌≡◌, ◌↔◌, Some, None, IsOk, IfErr, slice_get, option_map};
+ghost use Rattle.std.specs.Prelude.{◌≡◌, ◌↔◌, Some, Ok, IsOk, IfErr, slice_get, option_map};
 ghost use Rattle.plir_core.specs.NodeLists.{head};
 ghost use Rattle.plir_core.specs.Store.{IsLive};
 ghost use Rattle.plir_core.specs.Whole.{IsWhole};
@@ -12,7 +12,7 @@ use crate::less_than::LessThanN;
 use crate::op::Op;
 use crate::verdict::accept_if;
 use plir_core::{Context, Ptr, Region};
-use plir_data::{OpSet, VerifyErr};
+use plir_data::{Memory, OpSet, VerifyErr};
 
 /// Operations that have `N` regions.
 pub trait NRegionsInterface<D: OpSet, const N: usize>: Op<D> {
@@ -81,6 +81,13 @@ pub trait AtMostNRegionsInterface<D: OpSet, const N: usize>: Op<D> {
 
 /// Operations that have at most one region.
 pub trait AtMostOneRegionInterface<D: OpSet>: AtMostNRegionsInterface<D, 1> {
+    /// Accepts always: that there is no other region is the rule of [`AtMostNRegionsInterface`].
+    final fn verify(&self, _ctx: &Context<D>) -> Result<(), Memory>
+        ensures { result ≡ Ok tt }
+    {
+        Ok(())
+    }
+
     /// The region, if there is one.
     final fn get_region(&self, ctx: &Context<D>) -> Option<Ptr<Region>>
         requires { IsLive ctx.now (IRNode.Operation (Self.pointer self.now)) }
