@@ -1,0 +1,3 @@
+-- The lemmas that proofs of this crate cite.
+pub mod Ends
+pub mod Places

@@ -1,0 +1,12 @@
+-- What the contracts of this crate cite.
+--
+--   Verdict      IsRefusal: how a verifier refuses
+--   Counts       how many regions, results and operands an operation has, and the rules of these numbers
+--   Regions      the rules of regions and blocks
+--   IndexRange   IsIndexRange: ranges of places in a list
+--   Ids          op_id, type_id: the ids of operations and types
+pub mod Verdict
+pub mod Counts
+pub mod Regions
+pub mod IndexRange
+pub mod Ids

@@ -1,0 +1,115 @@
+//! The interface of operations whose regions have one block each.
+ghost use Rattle.std.specs.Prelude.{◌≡◌, ◌<◌, ◌↔◌, ℕ, Some, None, IsOk, IfErr, IfSome, IsTrue, length, slice_get};
+ghost use Rattle.plir_core.specs.declared.ptr.Ptr.{Ptr as PtrTo};
+ghost use Rattle.plir_core.specs.declared.ptr.BasicBlock.{BasicBlock as BasicBlockKind};
+ghost use Rattle.plir_core.specs.declared.ptr.IRNode.{IRNode};
+ghost use Rattle.plir_core.specs.Store.{IsLive, IsAncestor, parent_of, kind_of};
+ghost use Rattle.plir_core.specs.Changes.{with_op_last};
+ghost use Rattle.plir_core.specs.Whole.{IsWhole};
+ghost use Rattle.plir_iface.specs.Counts.{regions_of};
+ghost use Rattle.plir_iface.specs.Ids.{op_id};
+ghost use Rattle.plir_iface.specs.Regions.{HasOneBlock, HasSingleBlocks, body_of};
+ghost use Rattle.plir_iface.specs.Verdict.{IsRefusal};
+
+use crate::ids::id_of_kind;
+use crate::op::Op;
+use crate::verdict::accept_if;
+use plir_core::{BasicBlock, Context, Operation, Ptr, Region};
+use plir_data::{OpSet, VerifyErr};
+use thiserror::Error;
+
+/// An operation has a region with no block, or with more than one: the operation's id.
+#[derive(Clone, Copy, PartialEq, Eq, Debug, Error)]
+#[error("Op {0} must only have regions with single block")]
+pub struct SingleBlockRegionVerifyErr(pub &'static str);
+
+/// Whether a region has one block.
+fn has_one_block<D: OpSet>(ctx: &Context<D>, region: Ptr<Region>) -> bool
+    requires { IsLive ctx.now (IRNode.Region region) }
+    ensures value { IsTrue result ↔ HasOneBlock ctx.now (IRNode.Region region) }
+    ensures whole { IsWhole D.attr_handles ctx.now }
+{
+    let Some(first) = region.get_head(ctx) else {
+        return false;
+    };
+    let Some(last) = region.get_tail(ctx) else {
+        return false;
+    };
+    first == last
+}
+
+/// The region at a place, from 0, which is live as every region of an operation is.
+fn region_at<D: OpSet>(ctx: &Context<D>, op: Ptr<Operation>, i: usize) -> Ptr<Region>
+    requires live { IsLive ctx.now (IRNode.Operation op) }
+    requires below { i < length (regions_of ctx.now op) }
+    ensures value { slice_get (regions_of ctx.now op) i ≡ Some (IRNode.Region result) }
+    ensures live { IsLive ctx.now (IRNode.Region result) }
+    ensures whole { IsWhole D.attr_handles ctx.now }
+{
+    op.get_region(ctx, i)
+}
+
+/// Whether each region of an operation has one block.
+fn has_single_blocks<D: OpSet>(ctx: &Context<D>, op: Ptr<Operation>) -> bool
+    requires { IsLive ctx.now (IRNode.Operation op) }
+    ensures value { IsTrue result ↔ HasSingleBlocks ctx.now op }
+    ensures whole { IsWhole D.attr_handles ctx.now }
+{
+    let found = op.num_regions(ctx);
+    for i in 0..found {
+        if !has_one_block(ctx, region_at(ctx, op, i)) {
+            return false;
+        }
+    }
+    true
+}
+
+/// Operations whose regions have one block each.
+pub trait SingleBlockRegionInterface<D: OpSet>: Op<D> {
+    /// Accepts exactly where each region of the operation has one block.
+    final fn verify(&self, ctx: &Context<D>) -> Result<(), VerifyErr<SingleBlockRegionVerifyErr>>
+        requires { IsLive ctx.now (IRNode.Operation (Self.pointer self.now)) }
+        ensures ok { IsOk result ↔ HasSingleBlocks ctx.now (Self.pointer self.now) }
+        ensures refused { IfErr result (IsRefusal ctx.now (Self.pointer self.now) (λ e. IfSome (kind_of ctx.now (Self.pointer self.now)) (λ k. e.0.now ≡ op_id D.kind_id k))) }
+        ensures whole { IsWhole D.attr_handles ctx.now }
+    {
+        let op = self.get_operation();
+        let id = id_of_kind::<D>(op.kind(ctx));
+        accept_if(
+            ctx,
+            op,
+            has_single_blocks(ctx, op),
+            SingleBlockRegionVerifyErr(id),
+        )
+    }
+
+    /// The block of the region at a place, from 0.
+    final fn get_body(&self, ctx: &Context<D>, region: usize) -> Ptr<BasicBlock>
+        requires live { IsLive ctx.now (IRNode.Operation (Self.pointer self.now)) }
+        requires rule { HasSingleBlocks ctx.now (Self.pointer self.now) }
+        requires below { region < length (regions_of ctx.now (Self.pointer self.now)) }
+        ensures value { body_of ctx.now (Self.pointer self.now) region ≡ Some (IRNode.BasicBlock result) }
+        ensures live { IsLive ctx.now (IRNode.BasicBlock result) }
+        ensures whole { IsWhole D.attr_handles ctx.now }
+    {
+        region_at(ctx, self.get_operation(), region)
+            .get_head(ctx)
+            .unwrap()
+    }
+
+    /// Puts an operation that is in no block at the end of the block of the region at a place, from 0, which it does not
+    /// stand above.
+    final fn append_operation(&self, ctx: &mut Context<D>, op: Ptr<Operation>, region: usize)
+        requires live { IsLive ctx.old (IRNode.Operation (Self.pointer self.now)) }
+        requires rule { HasSingleBlocks ctx.old (Self.pointer self.now) }
+        requires below { region < length (regions_of ctx.old (Self.pointer self.now)) }
+        requires op_live { IsLive ctx.old (IRNode.Operation op) }
+        requires unlinked { parent_of ctx.old (IRNode.Operation op) ≡ None }
+        requires not_above { (b : IRNode) → body_of ctx.old (Self.pointer self.now) region ≡ Some b → IsAncestor ctx.old (IRNode.Operation op) b → ⊥ }
+        ensures after { (b : PtrTo BasicBlockKind) → body_of ctx.old (Self.pointer self.now) region ≡ Some (IRNode.BasicBlock b) → ctx.new ≡ with_op_last ctx.old op b }
+        ensures whole { IsWhole D.attr_handles ctx.new }
+    {
+        let body = self.get_body(ctx, region);
+        op.insert_at_back(body, ctx);
+    }
+}

@@ -1,0 +1,41 @@
+//! What operations may be: interfaces of counts, regions and types, each a trait with a rule, the verifier of the rule, and
+//! the calls that the rule makes good.
+#![tactic(auto)]
+
+mod blocks;
+mod counts;
+mod ids;
+mod index_range;
+mod kinds;
+mod less_than;
+mod op;
+mod operands;
+mod regions;
+mod results;
+mod values;
+mod verdict;
+
+pub use blocks::{SingleBlockRegionInterface, SingleBlockRegionVerifyErr};
+pub use counts::{
+    AtLeastNOpdsVerifyErr, AtLeastNResultsVerifyErr, AtMostNOpdsVerifyErr, AtMostNRegionVerifyErr,
+    AtMostNResultsVerifyErr, NOpdsVerifyErr, NRegionsVerifyErr, NResultsVerifyErr,
+    NotEnoughOperandsErr, NotEnoughResultsErr,
+};
+pub use index_range::{IndexRange, resolve_index_range};
+pub use kinds::{
+    IsTerminatorInterface, IsolatedFromAboveInterface, NoTerminatorInterface, RegionKind,
+    RegionKindInterface,
+};
+pub use less_than::LessThanN;
+pub use op::Op;
+pub use operands::{
+    AtLeastNOpdsInterface, AtMostNOpdsInterface, NOpdsInterface, OneOpdInterface,
+    OptionalOpdInterface, verify_get_operand_n,
+};
+pub use regions::{
+    AtMostNRegionsInterface, AtMostOneRegionInterface, NRegionsInterface, OneRegionInterface,
+};
+pub use results::{
+    AtLeastNResultsInterface, AtMostNResultsInterface, NResultsInterface, OneResultInterface,
+    OptionalResultInterface, verify_get_result_n,
+};

@@ -1,0 +1,32 @@
+//! What a verifier answers.
+ghost use Rattle.std.specs.Prelude.{◌≡◌, ◌↔◌, IsOk, IfErr, IsTrue};
+ghost use Rattle.plir_core.specs.Store.{IsLive};
+ghost use Rattle.plir_core.specs.Whole.{IsWhole};
+ghost use Rattle.plir_core.specs.declared.ptr.IRNode.{IRNode};
+ghost use Rattle.plir_iface.specs.Verdict.{IsRefusal};
+
+use plir_core::{Context, Operation, Ptr};
+use plir_data::{Location, OpSet, VerifyErr};
+
+/// Accepts where a rule holds, and else refuses by the error, at the operation's location.
+pub(crate) fn accept_if<D: OpSet, E: Drop>(
+    ctx: &Context<D>,
+    op: Ptr<Operation>,
+    holds: bool,
+    err: E,
+) -> Result<(), VerifyErr<E>>
+    requires { IsLive ctx.now (IRNode.Operation op) }
+    ensures ok { IsOk result ↔ IsTrue holds }
+    ensures refused { IfErr result (IsRefusal ctx.now op (λ e. e ≡ err)) }
+    ensures whole { IsWhole D.attr_handles ctx.now }
+{
+    let _live = ctx.num_live();
+    if holds {
+        return Ok(());
+    }
+    let _op = op;
+    Err(VerifyErr::Refused {
+        loc: Location::Unknown,
+        err,
+    })
+}
