@@ -19,6 +19,8 @@ mod places;
 mod ptr;
 mod region;
 mod removing;
+#[cfg(test)]
+mod tests;
 mod unused;
 mod value;
 
