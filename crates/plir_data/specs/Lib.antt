@@ -29,5 +29,7 @@ pub mod AttrHash
 pub mod AttrLaws
 pub mod AttrLive
 pub mod AttrVerify
+pub mod Laws
+pub mod NamesLent
 pub mod TypeTree
 pub mod TypeText

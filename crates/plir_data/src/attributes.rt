@@ -448,6 +448,9 @@ impl Model for GivenNamesAttr {
 }
 
 impl GivenNamesAttr {
+    ghost use Rattle.std.specs.Borrow.{sem};
+    ghost use Rattle.plir_data.specs.NamesLent.{LendsNames};
+
     /// No names. The list that grows later takes its memory from this allocator.
     pub fn new(alloc: Global) -> GivenNamesAttr
         ensures { result ≡ [] }
@@ -462,6 +465,14 @@ impl GivenNamesAttr {
         ensures { result.now ≡ self.now }
     {
         self.names.as_slice()
+    }
+
+    /// The names, to be changed.
+    pub fn names_mut(&mut self) -> &mut Vec<Option<Identifier>>
+        ensures* writes_back { sem 𝓛 (LendsNames self.entry result) }
+        ensures names { result.now.items ≡ self.old }
+    {
+        &mut self.names
     }
 
     /// An equal attribute.

@@ -10,6 +10,7 @@ mod attr_verify;
 mod attribute_dict;
 mod attributes;
 mod identifier;
+pub mod laws;
 mod location;
 mod memory;
 mod op_set;
