@@ -16,6 +16,7 @@ use std::marker::Model;
 /// Attributes under keys, in ascending order of the keys' bytes.
 #[cycle(attr)]
 #[derive(Drop)]
+#[derive_where(Debug)]
 pub struct AttributeDict<D: OpSet> {
     pub(crate) entries: BTreeMap<String, AttrObj<D>>,
 }

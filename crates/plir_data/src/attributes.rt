@@ -231,6 +231,7 @@ impl From<IntegerAttr> for APInt {
 /// Attributes under keys.
 #[cycle(attr)]
 #[derive(Drop)]
+#[derive_where(Debug)]
 pub struct DictAttr<D: OpSet>(pub AttributeDict<D>);
 
 impl<D: OpSet> Model for DictAttr<D> {
@@ -297,6 +298,7 @@ impl<D: OpSet> DictAttr<D> {
 /// A list of attributes.
 #[cycle(attr)]
 #[derive(Drop)]
+#[derive_where(Debug)]
 pub struct VecAttr<D: OpSet>(pub Vec<AttrObj<D>>);
 
 impl<D: OpSet> Model for VecAttr<D> {
@@ -536,6 +538,7 @@ impl Hash for GivenNamesAttr {
 /// An attribute.
 #[cycle(attr)]
 #[derive(Drop)]
+#[derive_where(Debug)]
 pub enum AttrObj<D: OpSet> {
     Identifier(IdentifierAttr),
     String(StringAttr),

@@ -1,5 +1,7 @@
 //! Attribute values, their conversions, equality and copies.
 
+ghost use Rattle.std.specs.Prelude.{◌≡◌, []};
+
 use super::sample_set::{Marked, SampleSet};
 use crate::{
     APInt, AttrObj, BoolAttr, GivenNamesAttr, Identifier, IdentifierAttr, IntegerAttr, IntegerType,
@@ -103,12 +105,32 @@ fn copies(rt: &impl Abort, alloc: Global, attr: &Attr, id: &str) -> Result<(), F
 fn copies_each_kind(rt: HostRuntime) -> Result<(), Fail> {
     let alloc = rt.alloc();
     let name = again!(Identifier::try_new(alloc, "name"));
-    copies(&rt, alloc, &AttrObj::Identifier(IdentifierAttr::new(name)), "builtin.identifier")?;
+    copies(
+        &rt,
+        alloc,
+        &AttrObj::Identifier(IdentifierAttr::new(name)),
+        "builtin.identifier",
+    )?;
     copies(&rt, alloc, &text(alloc, "text")?, "builtin.string")?;
-    copies(&rt, alloc, &AttrObj::Bool(BoolAttr::new(true)), "builtin.bool")?;
+    copies(
+        &rt,
+        alloc,
+        &AttrObj::Bool(BoolAttr::new(true)),
+        "builtin.bool",
+    )?;
     copies(&rt, alloc, &AttrObj::Unit(UnitAttr::new()), "builtin.unit")?;
-    copies(&rt, alloc, &AttrObj::GivenNames(GivenNamesAttr::new(alloc)), "builtin.given_names")?;
-    copies(&rt, alloc, &AttrObj::Vec(two_texts(alloc, "a", "b")?), "builtin.vec")?;
+    copies(
+        &rt,
+        alloc,
+        &AttrObj::GivenNames(GivenNamesAttr::new(alloc)),
+        "builtin.given_names",
+    )?;
+    copies(
+        &rt,
+        alloc,
+        &AttrObj::Vec(two_texts(alloc, "a", "b")?),
+        "builtin.vec",
+    )?;
     copies(&rt, alloc, &AttrObj::Own(Marked(true)), "sample.marked")?;
     Ok(())
 }
@@ -124,5 +146,29 @@ fn differs_by_kind_and_parts(rt: HostRuntime) -> Result<(), Fail> {
     assert!(rt; list != AttrObj::Vec(two_texts(alloc, "b", "a")?));
     assert!(rt; list != AttrObj::Vec(VecAttr::new(Vec::new(alloc))));
     assert!(rt; !list.outline());
+    Ok(())
+}
+
+// The names are gone once the list that was lent is cleared.
+fn clear(names: &mut GivenNamesAttr)
+    ensures { names.new ≡ [] }
+{
+    names.names_mut().clear();
+}
+
+#[test]
+fn lends_its_names(rt: HostRuntime) -> Result<(), Fail> {
+    let alloc = rt.alloc();
+    let mut names = GivenNamesAttr::new(alloc);
+    let first = again!(Identifier::try_new(alloc, "first"));
+    again!(names.names_mut().reserve(2));
+    names.names_mut().push(Some(first))?;
+    names.names_mut().push(None)?;
+    assert_eq!(rt; names.names().len(), 2);
+    let copy = again!(names.try_clone(alloc));
+    assert!(rt; copy == names);
+    clear(&mut names);
+    assert!(rt; names == GivenNamesAttr::new(alloc));
+    assert!(rt; copy != names);
     Ok(())
 }

@@ -12,7 +12,12 @@ fn name(alloc: Global, text: &str) -> Result<Identifier, Fail> {
 }
 
 // Puts a text under itself, once more where memory was refused.
-fn put(rt: &impl Abort, alloc: Global, dict: &mut DictAttr<SampleSet>, key: &str) -> Result<(), Fail> {
+fn put(
+    rt: &impl Abort,
+    alloc: Global,
+    dict: &mut DictAttr<SampleSet>,
+    key: &str,
+) -> Result<(), Fail> {
     let name = name(alloc, key)?;
     let value = text(alloc, key)?;
     let before = dict.0.len();

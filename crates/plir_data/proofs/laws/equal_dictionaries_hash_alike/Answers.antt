@@ -13,7 +13,7 @@ returns-clause-equal g c =
     let one = c.args.one.now in
     let other = c.args.other.now in (
       λ yes. same_list one other (same_entries own_eq g.met.D.OpSet.attr_eq_exact (entries_of one) (entries_of other) (sym c.eq.ensures ∙ yes)),
-      λ same. c.eq.ensures ∙ ap (λ d. entries_eq own_eq (entries_of one) (entries_of d)) (sym same) ∙ entries_itself own_eq g.met.D.Attr.Eq.laws.refl (entries_of one)
+      λ same. c.eq.ensures ∙ ap (λ d. entries_eq own_eq (entries_of one) (entries_of d)) (sym same) ∙ entries_itself own_eq g.met.D.Attr.Eq.laws.refl (entries_of one),
     )
 
 pub returns-clause-alike : goal.returns-clause-alike
