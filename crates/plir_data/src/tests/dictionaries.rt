@@ -1,6 +1,6 @@
 //! Dictionaries.
 
-use super::attributes::{hash_of, text};
+use super::attributes::{hash_of, is_text, text};
 use super::sample_set::SampleSet;
 use crate::{AttrObj, AttributeDict, BoolAttr, DictAttr, Identifier, UnitAttr};
 use std::alloc::Global;
@@ -53,7 +53,7 @@ fn test_dictionary_attributes(rt: HostRuntime) -> Result<(), Fail> {
     put(&rt, alloc, &mut alone, "hello")?;
     assert!(rt; one != alone);
     let found = one.lookup(&hello).expect(&rt, "the key is there");
-    assert!(rt; *found == text(alloc, "hello")?);
+    is_text(&rt, found, "hello");
     assert!(rt; one.lookup(&name(alloc, "world")?).is_some());
     assert!(rt; one.lookup(&name(alloc, "hello_world")?).is_none());
     put(&rt, alloc, &mut alone, "world")?;
@@ -102,7 +102,7 @@ fn takes_entries_out(rt: HostRuntime) -> Result<(), Fail> {
     }
     assert!(rt; dict.remove("b").is_none());
     let taken = dict.remove("a").expect(&rt, "the key is there");
-    assert!(rt; taken == text(alloc, "a")?);
+    is_text(&rt, &taken, "a");
     assert!(rt; dict.is_empty());
     Ok(())
 }
