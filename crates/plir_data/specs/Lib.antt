@@ -10,7 +10,14 @@
 --   Dictionary   dict_get, dict_put, dict_without, IsDictionary: entries in ascending order of their keys
 --   DictSeen     a map of attributes as its entries
 --   AttrDepth    how deep attributes stand in one another
---   AttrCode, AttrFalls   what the prover needs of attributes that hold attributes
+--   AttrCalls    attr_id, attr_type, is_outlined: what the getters of an attribute answer
+--   AttrEq, AttrHash   attr_eq, attr_words: equality of attributes, and what their hash is made from
+--   AttrLive     IsAttrLive: the handles in an attribute name types of a table
+--   AttrVerify   attr_is_valid, IsRefusal: which attributes are valid, and how others are refused
+--   TypeTree, TypeText   tree_of, type_text: a type as a whole, and its text
+--   NamesLent    LendsNames: what becomes of given names that are lent
+--   Laws         IsReordered, OrderIsNotSeen: laws of dictionaries
+--   AttrCode, AttrFalls, AttrLaws   what the prover needs of attributes that hold attributes
 pub mod Identifier
 pub mod Types
 pub mod Integers
@@ -29,5 +36,7 @@ pub mod AttrHash
 pub mod AttrLaws
 pub mod AttrLive
 pub mod AttrVerify
+pub mod Laws
+pub mod NamesLent
 pub mod TypeTree
 pub mod TypeText

@@ -17,6 +17,7 @@ use std::mem::replace;
 /// Attributes under keys, in ascending order of the keys' bytes.
 #[cycle(attr)]
 #[derive(Drop)]
+#[derive_where(Debug)]
 pub struct AttributeDict<D: OpSet> {
     pub(crate) entries: BTreeMap<String, AttrObj<D>>,
 }

@@ -231,6 +231,7 @@ impl From<IntegerAttr> for APInt {
 /// Attributes under keys.
 #[cycle(attr)]
 #[derive(Drop)]
+#[derive_where(Debug)]
 pub struct DictAttr<D: OpSet>(pub AttributeDict<D>);
 
 impl<D: OpSet> Model for DictAttr<D> {
@@ -297,6 +298,7 @@ impl<D: OpSet> DictAttr<D> {
 /// A list of attributes.
 #[cycle(attr)]
 #[derive(Drop)]
+#[derive_where(Debug)]
 pub struct VecAttr<D: OpSet>(pub Vec<AttrObj<D>>);
 
 impl<D: OpSet> Model for VecAttr<D> {
@@ -448,6 +450,9 @@ impl Model for GivenNamesAttr {
 }
 
 impl GivenNamesAttr {
+    ghost use Rattle.std.specs.Borrow.{sem};
+    ghost use Rattle.plir_data.specs.NamesLent.{LendsNames};
+
     /// No names. The list that grows later takes its memory from this allocator.
     pub fn new(alloc: Global) -> GivenNamesAttr
         ensures { result ≡ [] }
@@ -462,6 +467,14 @@ impl GivenNamesAttr {
         ensures { result.now ≡ self.now }
     {
         self.names.as_slice()
+    }
+
+    /// The names, to be changed.
+    pub fn names_mut(&mut self) -> &mut Vec<Option<Identifier>>
+        ensures* writes_back { sem 𝓛 (LendsNames self.entry result) }
+        ensures names { result.now.items ≡ self.old }
+    {
+        &mut self.names
     }
 
     /// An equal attribute.
@@ -525,6 +538,7 @@ impl Hash for GivenNamesAttr {
 /// An attribute.
 #[cycle(attr)]
 #[derive(Drop)]
+#[derive_where(Debug)]
 pub enum AttrObj<D: OpSet> {
     Identifier(IdentifierAttr),
     String(StringAttr),

@@ -11,17 +11,17 @@ mod attribute_dict;
 mod attributes;
 mod builtin_set;
 mod identifier;
+pub mod laws;
 mod location;
 mod memory;
 mod op_set;
+#[cfg(test)]
+mod tests;
 mod type_store;
 mod type_table;
 mod type_texts;
 mod typed_handle;
 mod types;
-
-#[cfg(test)]
-mod tests;
 
 pub use ap_int::APInt;
 pub use attr_interfaces::{OutlinedAttr, PrintOnceAttr, Typed, TypedAttrInterface};

@@ -8,7 +8,9 @@ use crate::ap_int::put_decimal;
 use crate::memory::Memory;
 use crate::op_set::OpSet;
 use crate::type_store::TypeStore;
-use crate::types::{FunctionType, FunctionTypeInterface, IntegerType, Signedness, TypeHandle, TypeObj};
+use crate::types::{
+    FunctionType, FunctionTypeInterface, IntegerType, Signedness, TypeHandle, TypeObj,
+};
 use std::alloc::Global;
 
 /// The text of a type: its id, and what stands behind it.

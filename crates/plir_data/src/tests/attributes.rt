@@ -1,5 +1,7 @@
 //! Attribute values, their conversions, equality and copies.
 
+ghost use Rattle.std.specs.Prelude.{◌≡◌, []};
+
 use super::sample_set::{Marked, SampleSet};
 use crate::{
     APInt, AttrObj, BoolAttr, GivenNamesAttr, Identifier, IdentifierAttr, IntegerAttr, IntegerType,
@@ -10,7 +12,7 @@ use std::hash::{DefaultHasher, Hash, Hasher};
 use std::process::Abort;
 use std::test::Fail;
 
-type Attr = AttrObj<SampleSet>;
+pub(crate) type Attr = AttrObj<SampleSet>;
 
 // The attribute of a text.
 pub(crate) fn text(alloc: Global, value: &str) -> Result<Attr, Fail> {
@@ -57,9 +59,17 @@ fn test_vec_attributes(rt: HostRuntime) -> Result<(), Fail> {
     let alloc = rt.alloc();
     let list = two_texts(alloc, "hello", "world")?;
     assert_eq!(rt; list.0.len(), 2);
-    assert!(rt; list.0[0] == text(alloc, "hello")?);
-    assert!(rt; list.0[1] == text(alloc, "world")?);
+    is_text(&rt, &list.0[0], "hello");
+    is_text(&rt, &list.0[1], "world");
     Ok(())
+}
+
+// The attribute is this text.
+pub(crate) fn is_text(rt: &impl Abort, attr: &Attr, want: &str) {
+    let AttrObj::String(value) = attr else {
+        panic!(rt; "not a text");
+    };
+    assert_eq!(rt; value.as_str(), want);
 }
 
 // A list of two texts.
@@ -91,38 +101,103 @@ fn test_operand_segment_sizes_attr(rt: HostRuntime) -> Result<(), Fail> {
 }
 
 // A copy of an attribute is equal to it, and hashes alike.
-fn copies(rt: &impl Abort, alloc: Global, attr: &Attr, id: &str) -> Result<(), Fail> {
+fn copies(rt: &impl Abort, alloc: Global, attr: Attr, id: &str) -> Result<(), Fail> {
     let copy = again!(attr.try_clone(alloc));
-    assert!(rt; copy == *attr);
-    assert!(rt; hash_of(&copy) == hash_of(attr));
+    assert!(rt; copy == attr);
+    assert!(rt; hash_of(&copy) == hash_of(&attr));
     assert_eq!(rt; copy.get_attr_id(), id);
     Ok(())
 }
 
 #[test]
-fn copies_each_kind(rt: HostRuntime) -> Result<(), Fail> {
+fn copies_small_ones(rt: HostRuntime) -> Result<(), Fail> {
     let alloc = rt.alloc();
-    let name = again!(Identifier::try_new(alloc, "name"));
-    copies(&rt, alloc, &AttrObj::Identifier(IdentifierAttr::new(name)), "builtin.identifier")?;
-    copies(&rt, alloc, &text(alloc, "text")?, "builtin.string")?;
-    copies(&rt, alloc, &AttrObj::Bool(BoolAttr::new(true)), "builtin.bool")?;
-    copies(&rt, alloc, &AttrObj::Unit(UnitAttr::new()), "builtin.unit")?;
-    copies(&rt, alloc, &AttrObj::GivenNames(GivenNamesAttr::new(alloc)), "builtin.given_names")?;
-    copies(&rt, alloc, &AttrObj::Vec(two_texts(alloc, "a", "b")?), "builtin.vec")?;
-    copies(&rt, alloc, &AttrObj::Own(Marked(true)), "sample.marked")?;
+    copies(
+        &rt,
+        alloc,
+        AttrObj::Bool(BoolAttr::new(true)),
+        "builtin.bool",
+    )?;
+    copies(&rt, alloc, AttrObj::Unit(UnitAttr::new()), "builtin.unit")?;
+    copies(&rt, alloc, AttrObj::Own(Marked(true)), "sample.marked")?;
     Ok(())
 }
 
 #[test]
-fn differs_by_kind_and_parts(rt: HostRuntime) -> Result<(), Fail> {
+fn copies_texts_and_lists(rt: HostRuntime) -> Result<(), Fail> {
     let alloc = rt.alloc();
+    let name = again!(Identifier::try_new(alloc, "name"));
+    let name = AttrObj::Identifier(IdentifierAttr::new(name));
+    copies(&rt, alloc, name, "builtin.identifier")?;
+    copies(&rt, alloc, text(alloc, "text")?, "builtin.string")?;
+    let list = AttrObj::Vec(two_texts(alloc, "a", "b")?);
+    copies(&rt, alloc, list, "builtin.vec")?;
+    Ok(())
+}
+
+// Two attributes differ, either way.
+fn differ(rt: &impl Abort, one: Attr, other: Attr) {
+    assert!(rt; one != other);
+    assert!(rt; other != one);
+}
+
+#[test]
+fn differs_by_kind(rt: HostRuntime) {
+    differ(&rt, AttrObj::Own(Marked(true)), AttrObj::Own(Marked(false)));
+    differ(
+        &rt,
+        AttrObj::Own(Marked(true)),
+        AttrObj::Bool(BoolAttr::new(true)),
+    );
+    differ(
+        &rt,
+        AttrObj::Unit(UnitAttr::new()),
+        AttrObj::Bool(BoolAttr::new(true)),
+    );
+}
+
+#[test]
+fn differs_by_parts(rt: HostRuntime) -> Result<(), Fail> {
+    let alloc = rt.alloc();
+    let ab = AttrObj::Vec(two_texts(alloc, "a", "b")?);
+    let ba = AttrObj::Vec(two_texts(alloc, "b", "a")?);
+    differ(&rt, ab, ba);
+    let a = text(alloc, "a")?;
+    let b = text(alloc, "b")?;
+    differ(&rt, a, b);
+    Ok(())
+}
+
+#[test]
+fn is_outlined(rt: HostRuntime) {
+    let names: Attr = AttrObj::GivenNames(GivenNamesAttr::new(rt.alloc()));
+    assert!(rt; names.outline());
     let marked: Attr = AttrObj::Own(Marked(true));
-    assert!(rt; marked != AttrObj::Own(Marked(false)));
-    assert!(rt; marked != AttrObj::Bool(BoolAttr::new(true)));
     assert!(rt; marked.outline());
-    let list: Attr = AttrObj::Vec(two_texts(alloc, "a", "b")?);
-    assert!(rt; list != AttrObj::Vec(two_texts(alloc, "b", "a")?));
-    assert!(rt; list != AttrObj::Vec(VecAttr::new(Vec::new(alloc))));
-    assert!(rt; !list.outline());
+    let unit: Attr = AttrObj::Unit(UnitAttr::new());
+    assert!(rt; !unit.outline());
+}
+
+// The names are gone once the list that was lent is cleared.
+fn clear(names: &mut GivenNamesAttr)
+    ensures { names.new ≡ [] }
+{
+    names.names_mut().clear();
+}
+
+#[test]
+fn lends_its_names(rt: HostRuntime) -> Result<(), Fail> {
+    let alloc = rt.alloc();
+    let mut names = GivenNamesAttr::new(alloc);
+    let first = again!(Identifier::try_new(alloc, "first"));
+    again!(names.names_mut().reserve(2));
+    names.names_mut().push(Some(first))?;
+    names.names_mut().push(None)?;
+    assert_eq!(rt; names.names().len(), 2);
+    let copy = again!(names.try_clone(alloc));
+    assert!(rt; copy == names);
+    clear(&mut names);
+    assert!(rt; names == GivenNamesAttr::new(alloc));
+    assert!(rt; copy != names);
     Ok(())
 }

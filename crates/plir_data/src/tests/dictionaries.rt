@@ -1,6 +1,6 @@
 //! Dictionaries.
 
-use super::attributes::{hash_of, text};
+use super::attributes::{hash_of, is_text, text};
 use super::sample_set::SampleSet;
 use crate::{AttrObj, AttributeDict, BoolAttr, DictAttr, Identifier, UnitAttr};
 use std::alloc::Global;
@@ -12,7 +12,12 @@ fn name(alloc: Global, text: &str) -> Result<Identifier, Fail> {
 }
 
 // Puts a text under itself, once more where memory was refused.
-fn put(rt: &impl Abort, alloc: Global, dict: &mut DictAttr<SampleSet>, key: &str) -> Result<(), Fail> {
+fn put(
+    rt: &impl Abort,
+    alloc: Global,
+    dict: &mut DictAttr<SampleSet>,
+    key: &str,
+) -> Result<(), Fail> {
     let name = name(alloc, key)?;
     let value = text(alloc, key)?;
     let before = dict.0.len();
@@ -48,7 +53,7 @@ fn test_dictionary_attributes(rt: HostRuntime) -> Result<(), Fail> {
     put(&rt, alloc, &mut alone, "hello")?;
     assert!(rt; one != alone);
     let found = one.lookup(&hello).expect(&rt, "the key is there");
-    assert!(rt; *found == text(alloc, "hello")?);
+    is_text(&rt, found, "hello");
     assert!(rt; one.lookup(&name(alloc, "world")?).is_some());
     assert!(rt; one.lookup(&name(alloc, "hello_world")?).is_none());
     put(&rt, alloc, &mut alone, "world")?;
@@ -97,7 +102,7 @@ fn takes_entries_out(rt: HostRuntime) -> Result<(), Fail> {
     }
     assert!(rt; dict.remove("b").is_none());
     let taken = dict.remove("a").expect(&rt, "the key is there");
-    assert!(rt; taken == text(alloc, "a")?);
+    is_text(&rt, &taken, "a");
     assert!(rt; dict.is_empty());
     Ok(())
 }

@@ -20,7 +20,10 @@ fn keeps_the_low_bits(rt: HostRuntime) {
     assert_eq!(rt; unsigned(300, 8), Some(44));
     assert_eq!(rt; unsigned(255, 8), Some(255));
     assert_eq!(rt; unsigned(2, 1), Some(0));
-    assert_eq!(rt; unsigned(18446744073709551615, 64), Some(18446744073709551615));
+    assert_eq!(rt;
+        unsigned(18446744073709551615, 64),
+        Some(18446744073709551615)
+    );
     assert_eq!(rt; signed(-128, 8), Some(-128));
     assert_eq!(rt; signed(255, 8), Some(-1));
     assert_eq!(rt; signed(-129, 8), Some(127));
@@ -67,7 +70,13 @@ fn writes_digits(rt: HostRuntime) -> Result<(), Fail> {
     has_digits(&rt, alloc, APInt::from_i64(-128, 8), "-128", "128")?;
     has_digits(&rt, alloc, APInt::from_u64(42, 64), "42", "42")?;
     has_digits(&rt, alloc, APInt::from_u64(0, 1), "0", "0")?;
-    has_digits(&rt, alloc, APInt::from_i64(-1, 64), "-1", "18446744073709551615")?;
+    has_digits(
+        &rt,
+        alloc,
+        APInt::from_i64(-1, 64),
+        "-1",
+        "18446744073709551615",
+    )?;
     Ok(())
 }
 

@@ -1,7 +1,6 @@
 //! An op set for tests: an attribute that is valid only if it is marked, and a type that may have a body text.
 
-use crate::{Memory, OpSet, TypeHandle, TypeStore, VerifyErr};
-use crate::Location;
+use crate::{Location, Memory, OpSet, TypeHandle, TypeStore, VerifyErr};
 use std::alloc::Global;
 use thiserror::Error;
 

@@ -12,7 +12,11 @@ use std::process::Abort;
 use std::test::Fail;
 
 // The handle of an integer type.
-fn integer(table: &mut TypeTable<SampleSet>, width: u32, signedness: Signedness) -> Result<TypeHandle, Fail> {
+fn integer(
+    table: &mut TypeTable<SampleSet>,
+    width: u32,
+    signedness: Signedness,
+) -> Result<TypeHandle, Fail> {
     let ty: TypedHandle<IntegerType> = again!(IntegerType::get(table, width, signedness));
     Ok(ty.into())
 }
@@ -111,7 +115,13 @@ fn writes_types(rt: HostRuntime) -> Result<(), Fail> {
     let unit: TypedHandle<UnitType> = again!(UnitType::get(&mut table));
     has_text(&rt, alloc, &table, unit.into(), "builtin.unit")?;
     let function = function(&rt, alloc, &mut table, si32, unit.into())?;
-    has_text(&rt, alloc, &table, function, "builtin.function <(builtin.integer si32)->(builtin.unit)>")?;
+    has_text(
+        &rt,
+        alloc,
+        &table,
+        function,
+        "builtin.function <(builtin.integer si32)->(builtin.unit)>",
+    )?;
     let narrow = again!(table.instantiate(TypeObj::Own(Cloth(false))));
     has_text(&rt, alloc, &table, narrow, "sample.cloth")?;
     let wide = again!(table.instantiate(TypeObj::Own(Cloth(true))));

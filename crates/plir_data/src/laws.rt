@@ -1,0 +1,35 @@
+//! Laws of dictionaries. Each is the contract of a public function.
+
+ghost use Rattle.std.specs.Prelude.{◌≡◌, ◌↔◌, IsTrue};
+ghost use Rattle.std.specs.List.{fold};
+ghost use Rattle.plir_data.specs.AttrHash.{entries_words};
+ghost use Rattle.plir_data.specs.AttrView.{entries_of};
+ghost use Rattle.plir_data.specs.Laws.{OrderIsNotSeen};
+
+use crate::attributes::DictAttr;
+use crate::op_set::OpSet;
+use std::hash::{Hash, Hasher};
+
+/// The order in which pairs of different keys are put isn't seen in the dictionary.
+pub fn order_of_insertion_is_not_seen<V>()
+    ensures { OrderIsNotSeen V }
+{}
+
+/// Dictionaries are equal exactly if they have the same entries, and equal ones hash alike: each
+/// hasher is fed the entries of its dictionary, and where these are equal and the hashers begin
+/// alike, they end alike.
+pub fn equal_dictionaries_hash_alike<D: OpSet, H: Hasher>(
+    one: &DictAttr<D>,
+    other: &DictAttr<D>,
+    first: &mut H,
+    second: &mut H,
+) -> bool
+    ensures equal { IsTrue result ↔ (one.now ≡ other.now) }
+    ensures alike { IsTrue result → first.old ≡ second.old → first.new ≡ second.new }
+    ensures one_fed { first.new ≡ fold H.write first.old (entries_words D.Attr.hash_input (entries_of one.now)) }
+    ensures other_fed { second.new ≡ fold H.write second.old (entries_words D.Attr.hash_input (entries_of other.now)) }
+{
+    one.hash(first);
+    other.hash(second);
+    one == other
+}
