@@ -1,0 +1,4 @@
+pub mod Steps
+pub mod Lexing
+pub mod Quoted
+pub mod Fronts
