@@ -9,4 +9,5 @@ pub mod TypeGrammar
 pub mod Names
 pub mod Lists
 pub mod TypeReading
+pub mod Wholes
 pub mod Reading

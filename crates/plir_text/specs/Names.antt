@@ -10,6 +10,11 @@ module _ {T : Type 0} where
   abbrev pub Grows : (old new : List (TypeView T)) → Type 0
   Grows old new = (more : List (TypeView T)) × (new ≡ old ++ more)
 
+  -- from one holder of a table to another, types may come last and nothing else changes
+  pub record Adds {S : Type 0} (types : S → List (TypeView T)) (same : S → S → Type 0) (old new : S) : Type 0 where
+    pub grown : Grows (types old) (types new)
+    pub rest : same old new
+
   abbrev mutual
     -- the handle names the type
     pub Names : (types : List (TypeView T)) → ℕ → TypeTerm → Type 0

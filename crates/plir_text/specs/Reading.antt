@@ -1,6 +1,7 @@
 -- Reading from left to right, with the first fault that is met.
 use Rattle.std.specs.Prelude.{◌≡◌, Result, Ok, Err}
 use Rattle.plir_text.specs.declared.fault.Fault.{Fault}
+use Rattle.plir_text.specs.declared.fault.Fault.TheVariants.{Memory}
 use Rattle.plir_text.specs.declared.fault.Stop.{Stop}
 use Rattle.plir_text.specs.declared.fault.Stop.TheVariants.{Wanting, At}
 
@@ -18,3 +19,8 @@ Gives view (Err stop) read = Fails stop read
 abbrev pub Reads : {X Y : Type 0} → (X → Y → Type 0) → Result X Stop → Result Y Fault → Type 0
 Reads means (Ok x) read = (y : _) × (read ≡ Ok y) × means x y
 Reads means (Err stop) read = Fails stop read
+
+-- the fault of a stop
+abbrev pub fault_of : Stop → Fault
+fault_of Wanting = Memory
+fault_of (At fault left) = fault

@@ -4,7 +4,7 @@ use Rattle.std.specs.Str.{bytes_eq}
 use Rattle.plir_data.specs.Identifier.{is_digit}
 use Rattle.plir_data.specs.declared.types.Signedness.{Signedness}
 use Rattle.plir_data.specs.declared.types.Signedness.TheVariants.{Signed, Unsigned, Signless}
-use Rattle.plir_text.specs.Bytes.{is_blank, front, past, begins, all_pass, value_after}
+use Rattle.plir_text.specs.Bytes.{front, begins, all_pass, value_after}
 use Rattle.plir_text.specs.Steps.{◌>>=◌}
 use Rattle.plir_text.specs.Terms.{TypeTerm, integer_type, function_type, unit_type, TypeTerms, types_of}
 use Rattle.plir_text.specs.Tokens.{Token, word, digits, signed, quoted, arrow, sign, look}
@@ -77,12 +77,3 @@ type_body read Unit bytes = Ok (unit_type, bytes)
 unfoldable pub type_at : (n : ℕ) → List ℕ → Result (TypeTerm × List ℕ) Fault
 type_at zero bytes = type_head bytes >>= λ h. Err TooDeep
 type_at (suc n) bytes = type_head bytes >>= λ h. type_body (type_at n) h.0 h.1
-
-module _ {A : Type 0} where
-  abbrev pub if_none_left : A → List ℕ → Result A Fault
-  if_none_left x [] = Ok x
-  if_none_left x (b ∷ bs) = Err Unexpected
-
-  -- a reader over the whole text
-  unfoldable pub whole : (List ℕ → Result (A × List ℕ) Fault) → List ℕ → Result A Fault
-  whole read bytes = read bytes >>= λ x. if_none_left x.0 (past is_blank x.1)

@@ -2,9 +2,12 @@
 #![tactic(auto)]
 
 mod fault;
+mod place;
+mod read_types;
 mod strings;
 mod tokens;
 mod types;
 mod words;
 
 pub use fault::{Fault, ReadErr};
+pub use read_types::{read_function_type, read_integer_type, read_type};

@@ -1,6 +1,7 @@
 //! The tokens of a text.
 
-ghost use Rattle.std.specs.Prelude.{◌≡◌, ◌≤◌, ◌^◌, ◌+◌, ◌-◌, ◌*◌, MatchOption, nat_eq};
+ghost use Rattle.std.specs.Prelude.{◌≡◌, ◌≤◌, ◌^◌, ◌+◌, ◌-◌, ◌*◌, ◌≢◌, MatchOption, IfErr, nat_eq};
+ghost use Rattle.plir_text.specs.declared.fault.Stop.TheVariants.{Wanting};
 ghost use Rattle.plir_data.specs.Identifier.{is_letter, is_digit};
 ghost use Rattle.plir_text.specs.Bytes.{is_blank, is_in_word, front, past, begins, all_pass, value_after};
 ghost use Rattle.plir_text.specs.Tokens.{look, is_mark};
@@ -123,7 +124,8 @@ pub fn left_at(bytes: &[u8]) -> usize {
 // The first token, and what stands behind it.
 #[tactic(auto, unfolding(crate::specs::Tokens::look))]
 pub fn look(bytes: &[u8]) -> Result<(Piece<'_>, &[u8]), Stop>
-    ensures { Gives (λ x. (token_of x.0, x.1.now)) result (look bytes.now) }
+    ensures found { Gives (λ x. (token_of x.0, x.1.now)) result (look bytes.now) }
+    ensures steady { IfErr result (λ stop. stop ≢ Wanting) }
 {
     let bytes = past_blank(bytes);
     let [first, more @ ..] = bytes else {
