@@ -11,3 +11,4 @@ pub mod TypesFound
 pub mod ListsAgain
 pub mod TypesAgain
 pub mod Wholes
+pub mod SameNames

@@ -11,3 +11,6 @@ mod words;
 
 pub use fault::{Fault, ReadErr};
 pub use read_types::{read_function_type, read_integer_type, read_type};
+
+#[cfg(test)]
+mod tests;

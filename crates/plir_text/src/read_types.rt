@@ -36,10 +36,7 @@ fn whole_type<D: OpSet, C: TypeStore<D>>(
 }
 
 #[tactic(auto, unfolding(crate::specs::Wholes::whole))]
-fn whole_integer<D: OpSet, C: TypeStore<D>>(
-    ctx: &mut C,
-    bytes: &[u8],
-) -> Result<TypeHandle, Stop>
+fn whole_integer<D: OpSet, C: TypeStore<D>>(ctx: &mut C, bytes: &[u8]) -> Result<TypeHandle, Stop>
     ensures read { Reads (λ h x. Names (C.types ctx.new) h (integer_type x.0 x.1)) result (whole integer_at bytes.now) }
     ensures kept { Adds C.types C.same_besides ctx.old ctx.new }
 {

@@ -10,8 +10,12 @@ ghost use Rattle.plir_text.specs.TypeReading.{integer_at, function_at, type_at};
 
 use crate::fault::{Fault, Stop};
 use crate::tokens::left_at;
-use crate::words::{TypeKind, past_sign, read_arrow, read_integer, read_separator, read_sign, read_type_head};
-use plir_data::{FunctionType, IntegerType, Memory, OpSet, TypeHandle, TypeStore, TypedHandle, UnitType};
+use crate::words::{
+    TypeKind, past_sign, read_arrow, read_integer, read_separator, read_sign, read_type_head,
+};
+use plir_data::{
+    FunctionType, IntegerType, Memory, OpSet, TypeHandle, TypeStore, TypedHandle, UnitType,
+};
 use std::alloc::Global;
 
 // An integer type without its id.
