@@ -1,5 +1,5 @@
 -- Readers of whole texts, and what they refuse.
-use Rattle.std.proofs.Common.{◌≡◌, ◌≢◌, ◌≤◌, ℕ, zero, suc, max, arith, List, Result, Ok, Err, refl, sym, ap, ◌∙◌}
+use Rattle.std.proofs.Common.{◌≡◌, ◌≢◌, ◌≤◌, ◌+◌, ℕ, zero, suc, max, arith, List, Result, Ok, Err, refl, sym, ap, ◌∙◌}
 use Rattle.plir_data.specs.declared.types.Signedness.{Signedness}
 use Rattle.plir_text.specs.declared.fault.Fault.{Fault}
 use Rattle.plir_text.specs.declared.fault.Fault.TheVariants.{Memory}
@@ -13,7 +13,7 @@ use Rattle.plir_text.specs.Steps.{◌>>=◌}
 use Rattle.plir_text.specs.Reading.{Fails, fault_of}
 use Rattle.plir_text.proofs.Steps.{done, Fails-bind, Fails-from}
 use Rattle.plir_text.proofs.ListsFound.{FoundOne, IsSound, whole_found}
-use Rattle.plir_text.proofs.ListsAgain.{refused}
+use Rattle.plir_text.proofs.ListsAgain.{refused, only_one}
 use Rattle.plir_text.proofs.TypesFound.{integer_found, function_found, type_found}
 use Rattle.plir_text.proofs.TypesAgain.{integer_again, type_within_again, function_within_again}
 
@@ -57,3 +57,10 @@ module _ {A : Type 0} (read : List ℕ → Result (A × List ℕ) Fault) (bytes 
   pub whole_read : (x : A) (rest : List ℕ) (u : Unit {0}) → read bytes ≡ Ok (x, rest) → end_at rest ≡ Ok u → whole read bytes ≡ Ok x
   unfolding whole
   whole_read x rest u p q = rw (p, q) refl
+
+wider : (m n : ℕ) (bytes : List ℕ) (t : TypeTerm) → m ≤ n → IsText (TypeWithin m) bytes t → IsText (TypeWithin n) bytes t
+wider m n bytes t le s = record { tokens = s.tokens; are_tokens = s.are_tokens; spelled = (s.spelled.0, omega (arith, s.spelled.1)) }
+
+-- a text stands for one type at most
+pub one_type : (m n : ℕ) (bytes : List ℕ) (t u : TypeTerm) → IsText (TypeWithin m) bytes t → IsText (TypeWithin n) bytes u → t ≡ u
+one_type m n bytes t u s r = only_one (type_at (m + n)) (TypeWithin (m + n)) (type_within_again (m + n)) bytes t u (wider m (m + n) bytes t (omega arith) s) (wider n (m + n) bytes u (omega arith) r)
