@@ -462,6 +462,13 @@ impl GivenNamesAttr {
         }
     }
 
+    /// The attribute of these names.
+    pub fn from_names(names: Vec<Option<Identifier>>) -> GivenNamesAttr
+        ensures { result ≡ names.items }
+    {
+        GivenNamesAttr { names }
+    }
+
     /// The names.
     pub fn names(&self) -> &[Option<Identifier>]
         ensures { result.now ≡ self.now }

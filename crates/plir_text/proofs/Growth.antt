@@ -1,0 +1,74 @@
+-- Tables of types that grow, and what handles name in them.
+use Rattle.std.proofs.Common.{◌≡◌, ℕ, zero, suc, ◌<◌, ◌≤◌, ◌⊎◌, inl, inr, List, [], ◌∷◌, ◌++◌, length, Some, All, slice_get, refl, sym, ap, subst, ◌∙◌, append-nil, append_assoc, arith}
+use Rattle.std.proofs.lemmas.Option.{slice_get_within}
+use Rattle.plir_data.specs.Types.{TypeView, integer, function, unit, IsInstantiated, AllLive, type_at}
+use Rattle.plir_text.specs.Terms.{TypeTerm, integer_type, function_type, unit_type, TypeTerms, no_types, type_before, types_of}
+use Rattle.plir_text.specs.Names.{Grows, Adds, Names, NamesAll}
+
+module _ {T : Type 0} where
+  pub Grows-itself : (xs : List (TypeView T)) → Grows xs xs
+  Grows-itself xs = ([], sym (append-nil xs))
+
+  pub Grows-on : (xs ys zs : List (TypeView T)) → Grows xs ys → Grows ys zs → Grows xs zs
+  Grows-on xs ys zs p q = (p.0 ++ q.0, q.1 ∙ ap (λ (l : List (TypeView T)). l ++ q.0) p.1 ∙ append_assoc xs p.0 q.0)
+
+  pub Grows-instantiated : (xs ys : List (TypeView T)) (t : TypeView T) (h : ℕ) → IsInstantiated xs t h ys → Grows xs ys
+  Grows-instantiated xs ys t h i = elim (i.grown) [ inl e ↦ ([], e ∙ sym (append-nil xs)) | inr p ↦ (t ∷ [], p.1) ]
+
+  at_append : (xs more : List (TypeView T)) (h : ℕ) (t : TypeView T) → slice_get xs h ≡ Some t → slice_get (xs ++ more) h ≡ Some t
+  at_append [] more h t e = absurd (omega (arith, slice_get_within [] h t e))
+  at_append (x ∷ xs) more zero t e = e
+  at_append (x ∷ xs) more (suc h) t e = at_append xs more h t e
+
+  pub at_grown : (xs ys : List (TypeView T)) (h : ℕ) (t : TypeView T) → Grows xs ys → type_at xs h ≡ Some t → type_at ys h ≡ Some t
+  at_grown xs ys h t g e = subst (λ (l : List (TypeView T)). slice_get l h ≡ Some t) (sym g.1) (at_append xs g.0 h t e)
+
+  mutual
+    -- what a handle names it names on
+    pub Names-grown : (xs ys : List (TypeView T)) (h : ℕ) (t : TypeTerm) → Grows xs ys → Names xs h t → Names ys h t
+    Names-grown xs ys h (integer_type s w) g n = at_grown xs ys h (integer s w) g n
+    Names-grown xs ys h (function_type as_ rs) g n = (n.0, n.1, at_grown xs ys h (function n.0 n.1) g n.2, NamesAll-grown xs ys n.0 as_ g n.3, NamesAll-grown xs ys n.1 rs g n.4)
+    Names-grown xs ys h unit_type g n = at_grown xs ys h unit g n
+
+    pub NamesAll-grown : (xs ys : List (TypeView T)) (hs : List ℕ) (ts : TypeTerms) → Grows xs ys → NamesAll xs hs ts → NamesAll ys hs ts
+    NamesAll-grown xs ys hs no_types g n = n
+    NamesAll-grown xs ys hs (type_before t ts) g n = (n.0, n.1, Names-grown xs ys n.0 t g n.2, NamesAll-grown xs ys n.1 ts g n.3, n.4)
+
+  pub Names-live : (xs : List (TypeView T)) (h : ℕ) (t : TypeTerm) → Names xs h t → h < length xs
+  Names-live xs h (integer_type s w) n = slice_get_within xs h (integer s w) n
+  Names-live xs h (function_type as_ rs) n = slice_get_within xs h (function n.0 n.1) n.2
+  Names-live xs h unit_type n = slice_get_within xs h unit n
+
+  live_before : (xs : List (TypeView T)) (h : ℕ) (hs : List ℕ) → h < length xs → AllLive xs hs → AllLive xs (h ∷ hs)
+  live_before xs h hs lt all zero d p = lt
+  live_before xs h hs lt all (suc k) d p = all k d (omega (arith, p))
+
+  live_append : (xs : List (TypeView T)) (hs ks : List ℕ) → AllLive xs hs → AllLive xs ks → AllLive xs (hs ++ ks)
+  live_append xs [] ks all more = more
+  live_append xs (h ∷ hs) ks all more = live_before xs h (hs ++ ks) (all 0 0 (omega arith)) (live_append xs hs ks (λ k d p. all (suc k) d (omega (arith, p))) more)
+
+  NamesAll-live : (xs : List (TypeView T)) (hs : List ℕ) (ts : TypeTerms) → NamesAll xs hs ts → AllLive xs hs
+  NamesAll-live xs hs no_types n = subst (λ (l : List ℕ). AllLive xs l) (sym n) (λ k d p. absurd (omega (arith, p)))
+  NamesAll-live xs hs (type_before t ts) n = subst (λ (l : List ℕ). AllLive xs l) (sym n.4) (live_before xs n.0 n.1 (Names-live xs n.0 t n.2) (NamesAll-live xs n.1 ts n.3))
+
+  -- the handles of arguments and results may make a function type
+  pub both_live : (xs : List (TypeView T)) (hs ks : List ℕ) (as_ rs : TypeTerms) → NamesAll xs hs as_ → NamesAll xs ks rs → AllLive xs (hs ++ ks)
+  both_live xs hs ks as_ rs n m = live_append xs hs ks (NamesAll-live xs hs as_ n) (NamesAll-live xs ks rs m)
+
+  pub NamesAll-push : (xs : List (TypeView T)) (hs : List ℕ) (ts : List TypeTerm) (h : ℕ) (t : TypeTerm) → NamesAll xs hs (types_of ts) → Names xs h t → NamesAll xs (hs ++ h ∷ []) (types_of (ts ++ t ∷ []))
+  NamesAll-push xs hs [] h t n m = (h, [], m, refl, ap (λ (l : List ℕ). l ++ h ∷ []) n)
+  NamesAll-push xs hs (s ∷ ts) h t n m = (n.0, n.1 ++ h ∷ [], n.2, NamesAll-push xs n.1 ts h t n.3 m, ap (λ (l : List ℕ). l ++ h ∷ []) n.4)
+
+module _ {S T : Type 0} {types : S → List (TypeView T)} {same : S → S → Type 0} where
+  pub Adds-itself : ((c : S) → same c c) → (c : S) → Adds types same c c
+  Adds-itself itself c = record { grown = Grows-itself (types c); rest = itself c }
+
+  pub Adds-on : ((a b c : S) → same a b → same b c → same a c) → (a b c : S) → Adds types same a b → Adds types same b c → Adds types same a c
+  Adds-on on a b c p q = record { grown = Grows-on (types a) (types b) (types c) p.grown q.grown; rest = on a b c p.rest q.rest }
+
+  -- one type more
+  pub Adds-one : (a b : S) (t : TypeView T) (h : ℕ) → IsInstantiated (types a) t h (types b) → same a b → Adds types same a b
+  Adds-one a b t h i r = record { grown = Grows-instantiated (types a) (types b) t h i; rest = r }
+
+  pub Adds-none : (a b : S) → types b ≡ types a → same a b → Adds types same a b
+  Adds-none a b e r = record { grown = ([], e ∙ sym (append-nil (types a))); rest = r }

@@ -1,0 +1,59 @@
+-- Tokens, and how much of the text they take.
+use Rattle.std.proofs.Common.{◌≡◌, ◌⊎◌, ℕ, zero, suc, ◌+◌, ◌-◌, ◌*◌, ◌<◌, ◌≤◌, Bool, true, false, cond, nat_eq, ◌||◌, ◌&&◌, List, [], ◌∷◌, ◌++◌, length, get_or, take, drop, Result, Ok, Err, refl, sym, ap, subst, arith, inl, inr}
+use Rattle.std.proofs.lemmas.List.{take_all}
+use Rattle.plir_data.specs.Identifier.{is_letter, is_digit}
+use Rattle.plir_text.specs.declared.fault.Fault.{Fault}
+use Rattle.plir_text.specs.Bytes.{is_blank, is_in_word, front, past, begins, value_after, hex_value, hex_after}
+use Rattle.plir_text.specs.Tokens.{Token, word, token_at, look}
+
+choice-length : (t : Bool) (xs ys : List ℕ) (n : ℕ) → length xs ≤ n → length ys ≤ n → length (cond t xs ys) ≤ n
+choice-length true xs ys n p q = p
+choice-length false xs ys n p q = q
+
+pub past-length : (p : ℕ → Bool) (bytes : List ℕ) → length (past p bytes) ≤ length bytes
+past-length p [] = omega arith
+past-length p (b ∷ bs) = choice-length (p b) (past p bs) (b ∷ bs) (suc (length bs)) (omega (arith, past-length p bs)) (omega arith)
+
+taken-step : (t : Bool) (b : ℕ) (bs past_bs front_bs : List ℕ) → length past_bs ≤ length bs → take (length bs - length past_bs) bs ≡ front_bs
+    → take (suc (length bs) - length (cond t past_bs (b ∷ bs))) (b ∷ bs) ≡ cond t (b ∷ front_bs) []
+taken-step true b bs past_bs front_bs le e = let k : suc (length bs) - length past_bs ≡ suc (length bs - length past_bs) = omega arith in rw k (ap (λ (x : List ℕ). b ∷ x) e)
+taken-step false b bs past_bs front_bs le e = let k : suc (length bs) - suc (length bs) ≡ 0 = omega arith in rw k refl
+
+-- the front, as what stands before the rest
+pub front-taken : (p : ℕ → Bool) (bytes : List ℕ) → take (length bytes - length (past p bytes)) bytes ≡ front p bytes
+front-taken p [] = refl
+front-taken p (b ∷ bs) = taken-step (p b) b bs (past p bs) (front p bs) (past-length p bs) (front-taken p bs)
+
+-- more digits make no smaller number
+pub value_after-ge : (n : ℕ) (ds : List ℕ) → n ≤ value_after n ds
+value_after-ge n [] = omega arith
+value_after-ge n (d ∷ ds) = omega (arith, value_after-ge (10 * n + (d - 48)) ds)
+
+pub value_after-over : (n : ℕ) (ds : List ℕ) (total k : ℕ) → 1 ≤ length ds → value_after n ds ≡ total → k ≤ 10 * n + (get_or ds 0 0 - 48) → k ≤ total
+value_after-over n [] total k le e h = absurd (omega arith)
+value_after-over n (d ∷ ds) total k le e h = let g : 10 * n + (d - 48) ≤ total = subst (λ (t : ℕ). 10 * n + (d - 48) ≤ t) e (value_after-ge (10 * n + (d - 48)) ds) in omega arith
+
+pub hex_after-ge : (n : ℕ) (ds : List ℕ) → n ≤ hex_after n ds
+hex_after-ge n [] = omega arith
+hex_after-ge n (d ∷ ds) = omega (arith, hex_after-ge (16 * n + hex_value d) ds)
+
+pub hex_after-over : (n : ℕ) (ds : List ℕ) (total k : ℕ) → 1 ≤ length ds → hex_after n ds ≡ total → k ≤ 16 * n + hex_value (get_or ds 0 0) → k ≤ total
+hex_after-over n [] total k le e h = absurd (omega arith)
+hex_after-over n (d ∷ ds) total k le e h = let g : 16 * n + hex_value d ≤ total = subst (λ (t : ℕ). 16 * n + hex_value d ≤ t) e (hex_after-ge (16 * n + hex_value d) ds) in omega (arith, h, g)
+
+-- `[b, tail @ ..]`, as the check writes the tail
+pub tail_is : (bytes : List ℕ) → take (length bytes - 1) (drop 1 bytes) ≡ drop 1 bytes
+tail_is [] = refl
+tail_is (b ∷ bs) = take_all (suc (length bs) - 1) bs (omega arith)
+
+-- a word, as the reader takes it
+pub word_taken : (bytes : List ℕ) → 1 ≤ length bytes → is_letter (get_or bytes 0 0) ≡ true
+    → token_at bytes ≡ Ok (word (take (length bytes - length (past is_in_word (drop 1 bytes))) bytes), past is_in_word (drop 1 bytes))
+word_taken [] le h = absurd (omega arith)
+word_taken (b ∷ bs) le h =
+    let k : suc (length bs) - length (past is_in_word bs) ≡ suc (length bs - length (past is_in_word bs)) = omega (arith, past-length is_in_word bs) in
+    rw (h, k, front-taken is_in_word bs) refl
+
+pub word-length : (bytes : List ℕ) → length (past is_in_word (drop 1 bytes)) ≤ length bytes
+word-length [] = omega arith
+word-length (b ∷ bs) = omega (arith, past-length is_in_word bs)

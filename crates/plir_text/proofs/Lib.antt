@@ -1,0 +1,14 @@
+pub mod Steps
+pub mod Lexing
+pub mod Quoted
+pub mod Fronts
+pub mod Growth
+pub mod Collecting
+pub mod TypeSteps
+pub mod Begun
+pub mod ListsFound
+pub mod TypesFound
+pub mod ListsAgain
+pub mod TypesAgain
+pub mod Wholes
+pub mod SameNames

@@ -1,0 +1,57 @@
+-- Kinds of bytes, and fronts of texts.
+use Rattle.std.specs.Prelude.{ℕ, ◌+◌, ◌-◌, ◌*◌, List, [], ◌∷◌, Bool, true, false, ◌||◌, ◌&&◌, nat_eq, nat_le, if◌then◌else◌}
+use Rattle.plir_data.specs.Identifier.{is_between, is_letter, is_digit}
+
+-- space, tab, line feed or carriage return
+abbrev pub is_blank : ℕ → Bool
+is_blank b = nat_eq b 32 || (nat_eq b 9 || (nat_eq b 10 || nat_eq b 13))
+
+-- a letter, a digit, `_` or `.`
+abbrev pub is_in_word : ℕ → Bool
+is_in_word b = is_letter b || (is_digit b || nat_eq b 46)
+
+-- a hexadecimal digit
+abbrev pub is_hex : ℕ → Bool
+is_hex b = is_digit b || (is_between 97 102 b || is_between 65 70 b)
+
+-- the longest front whose bytes all pass
+abbrev pub front : (ℕ → Bool) → List ℕ → List ℕ
+front p [] = []
+front p (b ∷ bs) = if p b then b ∷ front p bs else []
+
+-- what stands behind that front
+abbrev pub past : (ℕ → Bool) → List ℕ → List ℕ
+past p [] = []
+past p (b ∷ bs) = if p b then past p bs else b ∷ bs
+
+-- the first byte passes
+abbrev pub begins : (ℕ → Bool) → List ℕ → Bool
+begins p [] = false
+begins p (b ∷ bs) = p b
+
+-- what stands behind the first byte
+abbrev pub tail_of : List ℕ → List ℕ
+tail_of [] = []
+tail_of (b ∷ bs) = bs
+
+abbrev pub all_pass : (ℕ → Bool) → List ℕ → Bool
+all_pass p [] = true
+all_pass p (b ∷ bs) = p b && all_pass p bs
+
+-- one digit or more
+abbrev pub is_digits : List ℕ → Bool
+is_digits bs = begins is_digit bs && all_pass is_digit bs
+
+-- the number that digits write behind those of n
+abbrev pub value_after : ℕ → List ℕ → ℕ
+value_after n [] = n
+value_after n (d ∷ ds) = value_after (10 * n + (d - 48)) ds
+
+-- what a hexadecimal digit counts
+abbrev pub hex_value : ℕ → ℕ
+hex_value b = if nat_le b 57 then b - 48 else if nat_le b 70 then b - 55 else b - 87
+
+-- the number that hexadecimal digits write behind those of n
+abbrev pub hex_after : ℕ → List ℕ → ℕ
+hex_after n [] = n
+hex_after n (d ∷ ds) = hex_after (16 * n + hex_value d) ds

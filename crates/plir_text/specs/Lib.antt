@@ -1,0 +1,13 @@
+pub mod Bytes
+pub mod Steps
+pub mod Strings
+pub mod Units
+pub mod Tokens
+pub mod Pieces
+pub mod Terms
+pub mod TypeGrammar
+pub mod Names
+pub mod Lists
+pub mod TypeReading
+pub mod Wholes
+pub mod Reading
