@@ -3,10 +3,16 @@
 --   Verdict      IsRefusal: how a verifier refuses
 --   Counts       how many regions, results and operands an operation has, and the rules of these numbers
 --   Regions      the rules of regions and blocks
+--   Sides        types_on, type_in: operands and results as lists of types
+--   SameTypes    the rules of one type
+--   TypeRules    the rules of types that pass a test
 --   IndexRange   IsIndexRange: ranges of places in a list
 --   Ids          op_id, type_id: the ids of operations and types
 pub mod Verdict
 pub mod Counts
 pub mod Regions
+pub mod Sides
+pub mod SameTypes
+pub mod TypeRules
 pub mod IndexRange
 pub mod Ids

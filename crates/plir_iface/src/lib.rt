@@ -12,6 +12,9 @@ mod op;
 mod operands;
 mod regions;
 mod results;
+mod same_types;
+mod side;
+mod type_tests;
 mod values;
 mod verdict;
 
@@ -38,4 +41,8 @@ pub use regions::{
 pub use results::{
     AtLeastNResultsInterface, AtMostNResultsInterface, NResultsInterface, OneResultInterface,
     OptionalResultInterface, verify_get_result_n,
+};
+pub use same_types::{
+    SameOperandsAndResultType, SameOperandsAndResultTypeVerifyErr, SameOperandsType,
+    SameOperandsTypeVerifyErr, SameResultsType, SameResultsTypeVerifyErr,
 };

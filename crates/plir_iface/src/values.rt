@@ -1,7 +1,7 @@
 //! Values that operations name, and their types.
 ghost use Rattle.std.specs.Prelude.{◌≡◌, ◌<◌, Some, length, slice_get};
 ghost use Rattle.plir_data.specs.Types.{IsLive as IsTypeLive};
-ghost use Rattle.plir_core.specs.Store.{IsLive, IsValueLive, operands_of, type_of_value};
+ghost use Rattle.plir_core.specs.Store.{IsLive, IsValueLive, operands_of, result_types_of, type_of_value};
 ghost use Rattle.plir_core.specs.Whole.{IsWhole};
 ghost use Rattle.plir_core.specs.declared.ptr.IRNode.{IRNode};
 
@@ -30,4 +30,15 @@ pub(crate) fn type_of<D: OpSet>(ctx: &Context<D>, value: Value) -> TypeHandle
         DefiningEntity::Op(op) => op.get_type(ctx, value.index()),
         DefiningEntity::Block(block) => block.get_type(ctx, value.index()),
     }
+}
+
+/// The type of the result at a place, from 0, which is a type of the context as that of every result is.
+pub(crate) fn result_type_at<D: OpSet>(ctx: &Context<D>, op: Ptr<Operation>, i: usize) -> TypeHandle
+    requires live { IsLive ctx.now (IRNode.Operation op) }
+    requires below { i < length (result_types_of ctx.now op) }
+    ensures value { slice_get (result_types_of ctx.now op) i ≡ Some result }
+    ensures live { IsTypeLive ctx.now.types result }
+    ensures whole { IsWhole D.attr_handles ctx.now }
+{
+    op.get_type(ctx, i)
 }
