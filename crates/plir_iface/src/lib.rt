@@ -7,7 +7,6 @@ mod counts;
 mod ids;
 mod index_range;
 mod kinds;
-mod less_than;
 mod op;
 mod operands;
 mod regions;
@@ -29,7 +28,7 @@ pub use kinds::{
     IsTerminatorInterface, IsolatedFromAboveInterface, NoTerminatorInterface, RegionKind,
     RegionKindInterface,
 };
-pub use less_than::LessThanN;
+pub use plir_core::LessThanN;
 pub use op::Op;
 pub use operands::{
     AtLeastNOpdsInterface, AtMostNOpdsInterface, NOpdsInterface, OneOpdInterface,

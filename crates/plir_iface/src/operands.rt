@@ -9,11 +9,10 @@ ghost use Rattle.plir_iface.specs.Verdict.{IsRefusal};
 use crate::counts::{
     AtLeastNOpdsVerifyErr, AtMostNOpdsVerifyErr, NOpdsVerifyErr, NotEnoughOperandsErr,
 };
-use crate::less_than::LessThanN;
 use crate::op::Op;
 use crate::values::{operand_at, type_of};
 use crate::verdict::accept_if;
-use plir_core::{Context, Operation, Ptr, Value};
+use plir_core::{Context, LessThanN, Operation, Ptr, Value};
 use plir_data::{OpSet, TypeHandle, VerifyErr};
 
 /// Operations that have `N` operands.

@@ -8,10 +8,9 @@ ghost use Rattle.plir_iface.specs.Counts.{regions_of, num_regions, HasNRegions, 
 ghost use Rattle.plir_iface.specs.Verdict.{IsRefusal};
 
 use crate::counts::{AtMostNRegionVerifyErr, NRegionsVerifyErr};
-use crate::less_than::LessThanN;
 use crate::op::Op;
 use crate::verdict::accept_if;
-use plir_core::{Context, Ptr, Region};
+use plir_core::{Context, LessThanN, Ptr, Region};
 use plir_data::{Memory, OpSet, VerifyErr};
 
 /// Operations that have `N` regions.

@@ -9,10 +9,9 @@ ghost use Rattle.plir_iface.specs.Verdict.{IsRefusal};
 use crate::counts::{
     AtLeastNResultsVerifyErr, AtMostNResultsVerifyErr, NResultsVerifyErr, NotEnoughResultsErr,
 };
-use crate::less_than::LessThanN;
 use crate::op::Op;
 use crate::verdict::accept_if;
-use plir_core::{Context, Operation, Ptr, Value};
+use plir_core::{Context, LessThanN, Operation, Ptr, Value};
 use plir_data::{OpSet, TypeHandle, VerifyErr};
 
 /// Operations that have `N` results.
