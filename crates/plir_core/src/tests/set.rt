@@ -137,13 +137,15 @@ impl OpSet for TestSet {
         None
     }
 
+    ghost use Rattle.std.proofs.lemmas.Option.{none-some};
+
     ghost attr_eq_exact = { λ a b e. refl };
 
     ghost type_eq_exact = { λ a b e. refl };
 
-    ghost attr_type_held = { λ a h e. elim e [ ] };
+    ghost attr_type_held = { λ a h e. absurd (none-some h e) };
 
-    ghost arguments_held = { λ t p h e m. elim e [ ] };
+    ghost arguments_held = { λ t p h e m. absurd (none-some p e) };
 
-    ghost results_held = { λ t p h e m. elim e [ ] };
+    ghost results_held = { λ t p h e m. absurd (none-some p e) };
 }
