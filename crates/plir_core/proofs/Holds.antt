@@ -95,7 +95,7 @@ module _ {C : Type 0} (t : Table C) (i : ℕ) (v : C) (some : IsSome (content_at
     | inr n ↦ inr (ap (λ (z : Cell C). z.content) (cell_at-with_content_other t i v j n))
   ]
 
-  version_held : (j : ℕ) → version_at (with_content t i v) j ≡ version_at t j
+  pub version_held : (j : ℕ) → version_at (with_content t i v) j ≡ version_at t j
   version_held j = elim (cases_eq j i) [
     | inl q ↦ ap (version_at (with_content t i v)) q ∙ ap (λ (z : Cell C). z.version) here_held ∙ ap (version_at t) (sym q)
     | inr n ↦ ap (λ (z : Cell C). z.version) (cell_at-with_content_other t i v j n)

@@ -24,5 +24,4 @@ pub mod NewRegions
 pub mod KidAt
 pub mod Terminators
 pub mod NewNodes
-pub mod Linked
 pub mod Links

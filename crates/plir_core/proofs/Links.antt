@@ -13,9 +13,8 @@ use Rattle.plir_core.specs.declared.ptr.BasicBlock.{BasicBlock as BlockKind}
 use Rattle.plir_core.specs.declared.ptr.IRNode.{IRNode}
 use Rattle.plir_core.specs.declared.ptr.IRNode.TheVariants.{Operation, Region, BasicBlock}
 use Rattle.plir_core.specs.NodeLists.{Has}
-use Rattle.plir_core.specs.Nodes.{Nodes, ptr_at, is_given_out, is_node_live, node_kids, node_parent, op_node, block_node, region_node}
+use Rattle.plir_core.specs.Nodes.{Nodes, ptr_at, is_node_live, node_kids, node_parent, op_node, block_node, region_node}
 use Rattle.plir_core.specs.Forest.{IsListing, IsForest}
-use Rattle.plir_core.specs.Linked.{IsLinked}
 use Rattle.plir_core.specs.Placed.{IsPlaced, IsUnlinked}
 use Rattle.plir_core.proofs.Facts.{live_parts, ptr_is, kid-parent, parent-live, slot_of}
 use Rattle.plir_core.proofs.Freed.{bool_cases, ptr_one, wrong_kid, mid_Has}
@@ -374,22 +373,3 @@ module _ {O B : Type 0} (s t : Nodes O B) (view : s ≡ t) (w : IsForest s) wher
 
   pub block_alone : (n : Nodes O B) (b : Ptr BlockKind) → is_node_live t (BasicBlock b) ≡ true → n ≡ record s { blocks_in_region = without_child s.blocks_in_region b.slot } → IsUnlinked t n (BasicBlock b)
   block_alone n b live e = subst (λ z. IsUnlinked z n (BasicBlock b)) view (subst (λ z. IsUnlinked s z (BasicBlock b)) (sym e) (block_taken s w b (live_here (BasicBlock b) live)))
-
--- what came among another's kids, and stood under nothing, is linked
-pub IsLinked-placed : {O B : Type 0} (s t : Nodes O B) (n over : IRNode) (ks : List IRNode) → IsPlaced s t n over ks → node_parent s n ≡ None → IsLinked s t n over
-IsLinked-placed s t n over ks p loose = record {
-  live = elim [
-    | Operation q ↦ ap (λ x. is_live_at x q.slot q.version) p.moved.ops
-    | Region q ↦ ap (λ x. is_live_at x q.slot q.version) p.moved.regions
-    | BasicBlock q ↦ ap (λ x. is_live_at x q.slot q.version) p.moved.blocks
-  ];
-  given = elim [
-    | Operation q ↦ ap (λ x. is_given_out x q) p.moved.ops
-    | Region q ↦ ap (λ x. is_given_out x q) p.moved.regions
-    | BasicBlock q ↦ ap (λ x. is_given_out x q) p.moved.blocks
-  ];
-  loose = loose;
-  here = p.parent;
-  parents = λ m ne. p.moved.parents m ne;
-  kids = λ m ne. p.kids m ne;
-}

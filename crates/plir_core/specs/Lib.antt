@@ -13,7 +13,6 @@
 --   Above        climb, Reaches, depth: what stands above what
 --   Made         IsMade: a tree is new, and nothing else has changed; IsRegionAdded: one region is
 --   Placed       IsPlaced: a node has come under another one, and nothing else has changed; IsUnlinked: it has left its parent
---   Linked       IsLinked: a node is put under another, and nothing else has changed
 --   Lends        what a `&mut` into a node leaves
 --   AttrHandles  attr_handles: the type handles that an attribute holds
 --   Erase        erased: the nodes without a tree; IsErased: what that leaves as it was
@@ -33,7 +32,6 @@ pub mod Whole
 pub mod Interfaces
 pub mod Changes
 pub mod Made
-pub mod Linked
 pub mod Placed
 pub mod NodeLists
 pub mod Erase

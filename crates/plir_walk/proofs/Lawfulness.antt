@@ -3,14 +3,16 @@
 use Rattle.std.proofs.Common.{◌≡◌, ◌≢◌, ℕ, zero, suc, ◌+◌, Bool, true, false, cond, List, Option, Some, None, ◌⊎◌, inl, inr, refl, sym, ap, subst, ◌∙◌, option_and_then, arith}
 use Rattle.std.proofs.lemmas.Option.{none-some, same_Some}
 use Rattle.plir_core.specs.declared.ptr.IRNode.{IRNode}
+use Rattle.plir_core.specs.declared.ptr.IRNode.TheVariants.{Operation, Region, BasicBlock}
 use Rattle.plir_core.specs.Above.{Reaches, climb as climb_up}
-use Rattle.plir_core.specs.Nodes.{Nodes, is_node_live, node_parent, node_over, node_first}
+use Rattle.plir_store.specs.Table.{is_live_at}
+use Rattle.plir_core.specs.Nodes.{Nodes, is_given_out, is_node_live, was_given_out, node_kids, node_parent, node_over, node_first}
 use Rattle.plir_core.specs.Forest.{IsForest as IsNodeForest}
 use Rattle.plir_core.specs.Store.{Store, is_live, given_out}
 use Rattle.plir_core.specs.Changes.{SameLive}
 use Rattle.plir_core.specs.Erase.{IsErased}
-use Rattle.plir_core.specs.Linked.{IsLinked}
-use Rattle.plir_core.specs.Made.{IsMade}
+use Rattle.plir_core.specs.Made.{KeepsLive, IsAdded, IsMade}
+use Rattle.plir_core.specs.Placed.{MovesOnly, IsPlaced}
 use Rattle.plir_core.proofs.Facts.{kid-parent, parent-live}
 use Rattle.plir_core.proofs.NewNodes.{apart_new}
 use Rattle.plir_walk.specs.Forest.{Shape, climb, AtOrBelow, IsBelow, IsForest, Lawful}
@@ -135,23 +137,42 @@ module _ {K A T : Type 0} (s t : Store K A T) (w : IsNodeForest s.nodes) where
       still : (k a : IRNode) → node_parent t.nodes k ≡ Some a → node_parent s.nodes k ≡ Some a
       still k a q = sym (e.parents k (λ r. not-both (is_node_live t.nodes k) (linked-live t.nodes k a q) (e.gone k r))) ∙ q
 
-  -- making a tree
-  pub lawful-made : (n r : IRNode) → is_live s n ≡ true → IsMade s.nodes t.nodes r → Lawful (look s) n (look t)
-  lawful-made n r v e = record {
-    kept = λ m l nb. (e.keeps.live m l, e.keeps.parents m l, λ ne. e.kids m l);
+  -- new nodes, of which none stands above an old one but n
+  lawful-kept : (n : IRNode) → KeepsLive s.nodes t.nodes → ((m : IRNode) → is_live s m ≡ true → m ≢ n → node_kids t.nodes m ≡ node_kids s.nodes m) → ((m : IRNode) → is_live t m ≡ true → is_live s m ≡ false → given_out s m ≡ false) → Lawful (look s) n (look t)
+  lawful-kept n keeps kids fresh = record {
+    kept = λ m l nb. (keeps.live m l, keeps.parents m l, λ ne. kids m l ne);
     below = λ m z. go (is_live s m) m refl z;
-    given = λ m g. e.keeps.given m g;
+    given = λ m g. keeps.given m g;
   }
     where
       go : (b : Bool) (m : IRNode) → is_live s m ≡ b → IsBelow (look t) n m → IsBelow (look s) n m ⊎ (given_out s m ≡ false)
       go true m l z = inl (
         z.0,
         (climb-back (look s) (look t) (λ k. is_live s k ≡ true) (λ k a p q.
-            (let h : node_parent s.nodes k ≡ Some a = sym (e.keeps.parents k p) ∙ q in (h, parent-live s.nodes w a k h))) (suc z.0) m n l z.1).0,
+            (let h : node_parent s.nodes k ≡ Some a = sym (keeps.parents k p) ∙ q in (h, parent-live s.nodes w a k h))) (suc z.0) m n l z.1).0,
       )
       go false m l z =
           let up = climb-first (look t) z.0 m n z.1 in
-          inr (e.fresh m (linked-live t.nodes m up.0 up.1) l)
+          inr (fresh m (linked-live t.nodes m up.0 up.1) l)
+
+  -- making a tree
+  pub lawful-made : (n r : IRNode) → IsMade s.nodes t.nodes r → Lawful (look s) n (look t)
+  lawful-made n r e = lawful-kept n e.keeps (λ m l ne. e.kids m l) e.fresh
+
+  -- making a node under n
+  pub lawful-added : (n r : IRNode) → IsAdded s.nodes t.nodes r (Some n) → Lawful (look s) n (look t)
+  lawful-added n r e = lawful-kept n e.keeps (λ m l ne. e.kids m l (λ q. ne (sym (same_Some n m q)))) (λ m l d. subst (λ z. given_out s z ≡ false) (sym (e.only m l d)) e.fresh)
+
+-- where nodes are moved, the same are live and given out
+moved-live : {O B : Type 0} (s t : Nodes O B) (x : IRNode) → MovesOnly s t x → (m : IRNode) → is_node_live t m ≡ is_node_live s m
+moved-live s t x e (Operation p) = ap (λ z. is_live_at z p.slot p.version) e.ops
+moved-live s t x e (Region p) = ap (λ z. is_live_at z p.slot p.version) e.regions
+moved-live s t x e (BasicBlock p) = ap (λ z. is_live_at z p.slot p.version) e.blocks
+
+moved-given : {O B : Type 0} (s t : Nodes O B) (x : IRNode) → MovesOnly s t x → (m : IRNode) → was_given_out t m ≡ was_given_out s m
+moved-given s t x e (Operation p) = ap (λ z. is_given_out z p) e.ops
+moved-given s t x e (Region p) = ap (λ z. is_given_out z p) e.regions
+moved-given s t x e (BasicBlock p) = ap (λ z. is_given_out z p) e.blocks
 
 -- a lawful call leaves its own node live
 pub lawful-stays : (s t : Shape) (n : IRNode) → IsForest s → Lawful s n t → s.live n ≡ true → t.live n ≡ true
@@ -180,14 +201,14 @@ module _ {K A T : Type 0} (s : Shape) (n : IRNode) (live_given : (m : IRNode) �
       go false l = new_since m (e.fresh m (live_in z.0 z.1) l)
 
   -- putting x under n or below it, where x and what is below it is new
-  pub lawful-linked : (u : Store K A T) (x a : IRNode) → IsLinked t.nodes u.nodes x a → AtOrBelow (look t) n a → ((m : IRNode) → AtOrBelow (look t) x m → s.given m ≡ false) → Lawful s n (look u)
-  lawful-linked u x a e over new = record {
+  pub lawful-placed : (u : Store K A T) (x a : IRNode) (ks : List IRNode) → IsPlaced t.nodes u.nodes x a ks → AtOrBelow (look t) n a → ((m : IRNode) → AtOrBelow (look t) x m → s.given m ≡ false) → Lawful s n (look u)
+  lawful-placed u x a ks e over new = record {
     kept = λ m v nb.
         (let k = f.kept m v nb in
         let not_x = λ (q : m ≡ x). not-both (s.given m) (live_given m v) (new m (zero, ap Some q)) in
-        (e.live m ∙ k.0, e.parents m not_x ∙ k.1, λ ne. e.kids m (λ q. not_over m v nb ne (subst (λ z. AtOrBelow (look t) n z) (sym q) over)) ∙ k.2 ne));
+        (moved-live t.nodes u.nodes x e.moved m ∙ k.0, e.moved.parents m not_x ∙ k.1, λ ne. e.kids m (λ q. not_over m v nb ne (subst (λ z. AtOrBelow (look t) n z) (sym q) over)) ∙ k.2 ne));
     below = λ m z. elim (passes m (suc z.0) n z.1) [ inl h ↦ inr (new m h) | inr h ↦ f.below m (z.0, h) ];
-    given = λ m g. e.given m ∙ f.given m g;
+    given = λ m g. moved-given t.nodes u.nodes x e.moved m ∙ f.given m g;
   }
     where
       not_over : (m : IRNode) → s.live m ≡ true → (IsBelow s n m → ⊥) → m ≢ n → AtOrBelow (look t) n m → ⊥
@@ -203,15 +224,15 @@ module _ {K A T : Type 0} (s : Shape) (n : IRNode) (live_given : (m : IRNode) �
             | inl h ↦ inl h
             | inr h ↦ elim (same_tells r.0 x) [
               | inl q ↦ inl (k, h ∙ ap Some q.1)
-              | inr q ↦ inr (ap (option_and_then (look t).parent) h ∙ sym (e.parents r.0 q.1) ∙ r.2)
+              | inr q ↦ inr (ap (option_and_then (look t).parent) h ∙ sym (e.moved.parents r.0 q.1) ∙ r.2)
             ]
           ]
 
 -- making a tree, and putting its root under n or below it
-pub lawful-grown : {K A T : Type 0} (s : Shape) (n : IRNode) → ((m : IRNode) → s.live m ≡ true → s.given m ≡ true) → (t : Store K A T) → Lawful s n (look t) → (u v : Store K A T) (x a : IRNode) → is_live t n ≡ true → IsNodeForest t.nodes → IsMade t.nodes u.nodes x → IsLinked u.nodes v.nodes x a → AtOrBelow (look u) n a → Lawful s n (look v)
-lawful-grown s n live_given t f u v x a l w made link over =
-    let g = lawful-then s (look t) (look u) n live_given f (lawful-made t u w n x l made) in
-    lawful-linked s n live_given u g v x a link over (made-new s n live_given t f u x w made)
+pub lawful-grown : {K A T : Type 0} (s : Shape) (n : IRNode) → ((m : IRNode) → s.live m ≡ true → s.given m ≡ true) → (t : Store K A T) → Lawful s n (look t) → (u v : Store K A T) (x a : IRNode) (ks : List IRNode) → IsNodeForest t.nodes → IsMade t.nodes u.nodes x → IsPlaced u.nodes v.nodes x a ks → AtOrBelow (look u) n a → Lawful s n (look v)
+lawful-grown s n live_given t f u v x a ks w made placed over =
+    let g = lawful-then s (look t) (look u) n live_given f (lawful-made t u w n x made) in
+    lawful-placed s n live_given u g v x a ks placed over (made-new s n live_given t f u x w made)
 
 -- no live node has changed
 pub lawful-refused : {K A T : Type 0} (s t : Store K A T) (n : IRNode) → SameLive s t → ((m : IRNode) → given_out s m ≡ true → given_out t m ≡ true) → Lawful (look s) n (look t)

@@ -10,7 +10,7 @@ use super::sample::{Refusal, Sample, make_nest};
 use crate::interruptible::mutable::walk_op;
 use crate::interruptible::{WalkResult, walk_advance, walk_break, walk_skip};
 use crate::{CallLimit, NodeLinks, WalkConfig};
-use plir_core::{Context, IRNode, Operation, Ptr};
+use plir_core::{BasicBlock, Context, IRNode, Operation, Ptr, Region};
 use plir_data::{BuiltinSet, OpKind};
 use std::alloc::Global;
 use std::process::Abort;
@@ -22,6 +22,12 @@ pub enum Change {
     EraseOp(Ptr<Operation>),
     /// A new function is put at the end of the node, a block.
     AppendFunc,
+    /// A new block is put at the end of the node, a region.
+    AppendBlock,
+    /// A region is added to the node, an operation.
+    AddRegion,
+    /// The first region of the node, an operation, is erased.
+    EraseRegion,
 }
 
 /// What a callback does: at each node the changes that are listed for it, in order, and then it answers `Skip` at `skip`
@@ -48,6 +54,48 @@ fn erase_op(ctx: &mut Context<BuiltinSet>, node: IRNode, op: Ptr<Operation>) -> 
     Ok(())
 }
 
+/// Erases the first region of an operation, which nothing outside the region uses.
+fn erase_region(ctx: &mut Context<BuiltinSet>, op: Ptr<Operation>) -> Result<(), Refusal>
+    ensures { Lawful (look ctx.old) (AnyNode.Operation op) (look ctx.new) }
+{
+    if !op.is_live(ctx) || op.num_regions(ctx) == 0 {
+        return Err(Refusal::Misplaced);
+    }
+    let region = op.get_region(ctx, 0);
+    if !IRNode::Region(region).is_unused_outside(ctx) {
+        return Err(Refusal::Misplaced);
+    }
+    Operation::erase_region(op, 0, ctx);
+    Ok(())
+}
+
+/// Adds a region to an operation.
+fn add_region(ctx: &mut Context<BuiltinSet>, op: Ptr<Operation>) -> Result<(), Refusal>
+    ensures { Lawful (look ctx.old) (AnyNode.Operation op) (look ctx.new) }
+{
+    if !op.is_live(ctx) {
+        return Err(Refusal::Misplaced);
+    }
+    let _region = Operation::add_region(op, ctx)?;
+    Ok(())
+}
+
+/// Puts a new block at the end of a region.
+fn append_block(
+    alloc: Global,
+    ctx: &mut Context<BuiltinSet>,
+    region: Ptr<Region>,
+) -> Result<(), Refusal>
+    ensures { Lawful (look ctx.old) (AnyNode.Region region) (look ctx.new) }
+{
+    if !region.is_live(ctx) {
+        return Err(Refusal::Misplaced);
+    }
+    let block = BasicBlock::new(alloc, ctx, None, Vec::new(alloc))?;
+    block.insert_at_back(region, ctx);
+    Ok(())
+}
+
 /// Changes the tree right below `node`.
 fn apply(
     alloc: Global,
@@ -63,7 +111,10 @@ fn apply(
             make_nest(alloc, ctx, OpKind::Func, Some(block))?;
             Ok(())
         }
-        (Change::AppendFunc, _) => Err(Refusal::Misplaced),
+        (Change::AppendBlock, IRNode::Region(region)) => append_block(alloc, ctx, region),
+        (Change::AddRegion, IRNode::Operation(op)) => add_region(ctx, op),
+        (Change::EraseRegion, IRNode::Operation(op)) => erase_region(ctx, op),
+        _ => Err(Refusal::Misplaced),
     }
 }
 

@@ -2,9 +2,31 @@
 use super::changes::{Change, Plan, walk_changing};
 use super::noting::NO_MEMORY;
 use super::sample::{Sample, last_nest};
-use crate::WALKCONFIG_PREORDER_FORWARD;
-use crate::interruptible::WalkContinue;
+use crate::interruptible::{WalkContinue, WalkResult};
+use crate::{CallLimit, WALKCONFIG_PREORDER_FORWARD};
+use plir_core::IRNode;
 use std::ops::ControlFlow;
+use std::process::Abort;
+
+/// Either all nodes were called, or memory was refused, and the called nodes are the first of them.
+fn expect_whole_or_broken(
+    rt: &impl Abort,
+    nodes: &[IRNode],
+    seen: &[IRNode],
+    found: Result<WalkResult<u32>, CallLimit>,
+) {
+    match found {
+        Ok(ControlFlow::Break(value)) => {
+            assert_eq!(rt; value, NO_MEMORY);
+            assert!(rt; nodes.starts_with(seen));
+        }
+        Ok(ControlFlow::Continue(goes_on)) => {
+            assert_eq!(rt; goes_on, WalkContinue::Advance);
+            assert_eq!(rt; seen, nodes);
+        }
+        Err(_) => assert!(rt; false, "at the limit"),
+    }
+}
 
 #[test]
 fn a_refused_growth_breaks_the_walk_and_the_calls_stay(rt: HostRuntime) {
@@ -27,15 +49,5 @@ fn a_refused_growth_breaks_the_walk_and_the_calls_stay(rt: HostRuntime) {
         m, m_region, m_block, f1, f1_region, f1_entry, f2, f2_region, f2_entry, f3, f3_region,
         f3_entry,
     ];
-    match found {
-        Ok(ControlFlow::Break(value)) => {
-            assert_eq!(rt; value, NO_MEMORY);
-            assert!(rt; nodes.starts_with(seen.as_slice()));
-        }
-        Ok(ControlFlow::Continue(goes_on)) => {
-            assert_eq!(rt; goes_on, WalkContinue::Advance);
-            assert_eq!(rt; seen.as_slice(), nodes.as_slice());
-        }
-        Err(_) => assert!(rt; false, "at the limit"),
-    }
+    expect_whole_or_broken(&rt, &nodes, seen.as_slice(), found);
 }

@@ -1,9 +1,7 @@
-use Rattle.std.proofs.Common.{zero, Some, sym, refl, ap, subst, ◌∙◌}
+use Rattle.std.proofs.Common.{zero, sym, refl, subst, ◌∙◌}
 use Rattle.std.proofs.lemmas.Option.{same_Some}
 use Rattle.plir_core.specs.declared.ptr.IRNode.TheVariants.{Operation, BasicBlock}
-use Rattle.plir_core.specs.Linked.{IsLinked}
 use Rattle.plir_core.proofs.Facts.{live-given}
-use Rattle.plir_core.proofs.Linked.{IsLinked-op}
 use Rattle.plir_core.proofs.NewNodes.{apart_new}
 use Rattle.plir_walk.specs.Forest.{Lawful}
 use Rattle.plir_walk.specs.View.{look}
@@ -22,12 +20,8 @@ pub returns-in_ok-op-in-Some-clause-lawful : goal.returns-in_ok-op-in-Some-claus
 returns-in_ok-op-in-Some-clause-lawful c = λ b e.
     let s = c.args.ctx.now in
     let t = c.new-in-Some.new.ctx in
-    let op = Operation c.in_ok-op-in-Some.op in
+    let u = c.insert_at_back.new.ctx in
     let block = BasicBlock c.in-Some.block in
     let forest = c.is_live.ensures.whole.forest in
-    let made = c.in_ok-op-in-Some.ensures.made in
-    let live = sym c.if-not-is_live.ensures.value in
-    let link = subst (λ z. IsLinked t.nodes z.nodes op block) (sym c.insert_at_back.ensures.after)
-    (IsLinked-op t.nodes c.in_ok-op-in-Some.ensures.whole.forest c.in_ok-op-in-Some.op c.in-Some.block made.root (made.keeps.live block live) made.top) in
-    let lawful = lawful-grown (look s) block (live-given s.nodes forest) s (lawful-none (look s) block) t c.insert_at_back.new.ctx op block live forest made link (zero, refl) in
-    subst (λ z. Lawful (look s) (BasicBlock z) (look c.insert_at_back.new.ctx)) (same_Some c.in-Some.block b (sym c.in-Some.is ∙ e)) lawful
+    let lawful = lawful-grown (look s) block (live-given s.nodes forest) s (lawful-none (look s) block) t u (Operation c.in_ok-op-in-Some.op) block _ forest c.in_ok-op-in-Some.ensures.made c.insert_at_back.ensures.placed (zero, refl) in
+    subst (λ z. Lawful (look s) (BasicBlock z) (look u)) (same_Some c.in-Some.block b (sym c.in-Some.is ∙ e)) lawful
