@@ -23,8 +23,6 @@ mod ptr;
 mod region;
 mod regions;
 mod removing;
-#[cfg(test)]
-mod tests;
 mod unused;
 mod value;
 
