@@ -26,7 +26,7 @@ pub struct NotMarked;
 pub struct SampleSet;
 
 impl OpSet for SampleSet {
-    ghost use Rattle.std.specs.Prelude.{[], None, true, false, codes, cond, ⊤};
+    ghost use Rattle.std.specs.Prelude.{[], None, false, codes, cond, ⊤};
     ghost use Rattle.std.proofs.Common.{rules};
 
     type Kind = Nothing;
