@@ -1,5 +1,5 @@
 -- An attribute in others is no larger than the largest of them.
-use Rattle.std.proofs.Common.{ℕ, zero, suc, ◌+◌, ◌<◌, ◌≤◌, length, map, get_or, List, [], ◌∷◌, arith}
+use Rattle.std.proofs.Common.{ℕ, zero, suc, ◌<◌, ◌≤◌, length, map, get_or, List, [], ◌∷◌, arith}
 use Rattle.plir_data.specs.AttrView.{AttrView}
 use Rattle.plir_data.specs.AttrDepth.{bulk, items_bulk}
 

@@ -1,11 +1,11 @@
 -- Pairs of different keys, put in either order.
-use Rattle.std.proofs.Common.{◌≡◌, ℕ, zero, suc, Bool, true, false, List, [], ◌∷◌, ◌++◌, Ordering, Less, Equal, Greater, nat_cmp, refl, sym, ap, ◌∙◌, true≢false}
+use Rattle.std.proofs.Common.{◌≡◌, ℕ, zero, suc, true, false, List, [], ◌∷◌, ◌++◌, Ordering, Less, Equal, Greater, nat_cmp, refl, sym, ap, ◌∙◌, true≢false}
 use Rattle.std.proofs.lemmas.Cmp.{nat_list_cmp_total}
 use Rattle.std.specs.Ordering.{match_ordering, ordering_reverse, is_eq, is_lt}
 use Rattle.std.specs.Cmp.Lexicographic.{slice_cmp}
 use Rattle.plir_data.specs.AttrView.{AttrView, Entries, no_entries, entry, entries_of}
 use Rattle.plir_data.specs.Dictionary.{dict_put, dict_put_all, dict_of, is_key}
-use Rattle.plir_data.specs.Laws.{IsReordered, OrderIsNotSeen}
+use Rattle.plir_data.specs.Laws.{OrderIsNotSeen}
 
 turned : (k l : List ℕ) (o : Ordering) → slice_cmp nat_cmp k l ≡ o → slice_cmp nat_cmp l k ≡ ordering_reverse o
 turned k l o is = nat_list_cmp_total.antisymm l k ∙ ap ordering_reverse is

@@ -1,5 +1,5 @@
 -- The verdict on a list, by those on its items.
-use Rattle.std.proofs.Common.{◌≡◌, Bool, true, false, ◌&&◌, Err, refl, sym, true≢false}
+use Rattle.std.proofs.Common.{◌≡◌, Bool, true, false, ◌&&◌, Err, sym, true≢false}
 use Rattle.std.proofs.Common.{Result}
 use Rattle.plir_data.specs.AttrVerify.{Whether}
 use Rattle.plir_data.specs.Verify.{IsVerdict}

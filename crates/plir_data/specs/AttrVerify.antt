@@ -1,5 +1,5 @@
 -- Which attributes are valid, and how one that is not is refused.
-use Rattle.std.specs.Prelude.{◌≡◌, ℕ, List, Bool, true, false, ◌&&◌, Option, Some, None, nat_eq}
+use Rattle.std.specs.Prelude.{◌≡◌, ℕ, List, Bool, true, false, ◌&&◌, Option, Some, nat_eq}
 use Rattle.plir_data.specs.Types.{TypeView, integer as integer_type, type_at}
 use Rattle.plir_data.specs.AttrView.{Leaf, integer, own, AttrView, leaf, dict, vec, Items, no_items, item}
 use Rattle.plir_data.specs.declared.attr_verify.AttrVerifyErr.{AttrVerifyErr}

@@ -1,6 +1,6 @@
 //! Hashes of attributes: equal ones hash alike.
 
-ghost use Rattle.std.specs.Prelude.{◌≡◌, ◌++◌, map, string_bytes};
+ghost use Rattle.std.specs.Prelude.{◌≡◌};
 ghost use Rattle.std.specs.List.{fold};
 ghost use Rattle.plir_data.specs.AttrHash.{attr_words, items_words, entries_words, mark};
 ghost use Rattle.plir_data.specs.AttrSeen.{attr_view};

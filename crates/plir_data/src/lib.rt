@@ -14,10 +14,7 @@ mod identifier;
 pub mod laws;
 mod location;
 mod memory;
-mod op_set;
-#[cfg(test)]
-mod tests;
-mod type_store;
+mod op_set;mod type_store;
 mod type_table;
 mod type_texts;
 mod typed_handle;

@@ -1,4 +1,4 @@
-use Rattle.std.proofs.Common.{◌≡◌, ◌∷◌, string_bytes, sym, ap, subst, ◌∙◌}
+use Rattle.std.proofs.Common.{string_bytes, sym, ap, subst, ◌∙◌}
 use Rattle.plir_data.specs.AttrSeen.{attr_view}
 use Rattle.plir_data.specs.DictSeen.{dict_view, pairs_view}
 use Rattle.plir_data.specs.Dictionary.{IsDictionary, dict_put, dict_put_all}

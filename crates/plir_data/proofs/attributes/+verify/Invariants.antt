@@ -2,7 +2,7 @@ use Rattle.std.proofs.Common.{drop, map, Result}
 use Rattle.plir_data.specs.AttrLive.{AreItemsLive}
 use Rattle.plir_data.specs.AttrSeen.{attr_view}
 use Rattle.plir_data.specs.AttrVerify.{items_are_valid, IsFirstRefusal}
-use Rattle.plir_data.specs.AttrView.{AttrView, items_of}
+use Rattle.plir_data.specs.AttrView.{items_of}
 use Rattle.plir_data.specs.Verify.{IsVerdict}
 use Rattle.plir_data.specs.declared.attr_verify.AttrVerifyErr.{AttrVerifyErr}
 use Rattle.plir_data.specs.declared.location.VerifyErr.{VerifyErr}

@@ -1,4 +1,4 @@
-use Rattle.std.proofs.Common.{◌≡◌, sym, ap, ◌∙◌}
+use Rattle.std.proofs.Common.{sym, ap, ◌∙◌}
 use Rattle.std.specs.List.{fold}
 use Rattle.plir_data.specs.AttrEq.{entries_eq}
 use Rattle.plir_data.specs.AttrHash.{entries_words}
