@@ -28,12 +28,12 @@ pub use kinds::{
     IsTerminatorInterface, IsolatedFromAboveInterface, NoTerminatorInterface, RegionKind,
     RegionKindInterface,
 };
-pub use plir_core::LessThanN;
 pub use op::Op;
 pub use operands::{
     AtLeastNOpdsInterface, AtMostNOpdsInterface, NOpdsInterface, OneOpdInterface,
     OptionalOpdInterface, verify_get_operand_n,
 };
+pub use plir_core::LessThanN;
 pub use regions::{
     AtMostNRegionsInterface, AtMostOneRegionInterface, NRegionsInterface, OneRegionInterface,
 };
