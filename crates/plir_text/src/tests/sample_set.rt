@@ -141,9 +141,9 @@ impl OpSet for SampleSet {
 
     ghost type_eq_exact = { λ a b e. Prim.search rules };
 
-    ghost attr_type_held = { λ a h e. elim e [ ] };
+    ghost attr_type_held = { λ a h e. absurd Prim.cc };
 
-    ghost arguments_held = { λ t p h e m. elim e [ ] };
+    ghost arguments_held = { λ t p h e m. absurd Prim.cc };
 
-    ghost results_held = { λ t p h e m. elim e [ ] };
+    ghost results_held = { λ t p h e m. absurd Prim.cc };
 }

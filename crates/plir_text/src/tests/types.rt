@@ -65,14 +65,14 @@ fn refuses(rt: &impl Abort, alloc: Global, text: &str, fault: Fault, line: usize
 // The text of nested function types, each the one argument of the one around it.
 fn nested(alloc: Global, levels: usize, cut: bool) -> Result<String, AllocError> {
     let mut text = String::new(alloc);
-    for _ in 0..levels - 1 {
+    for _ in 1..levels {
         text.push_str("builtin.function <(")?;
     }
     if cut {
         return Ok(text);
     }
     text.push_str("builtin.unit")?;
-    for _ in 0..levels - 1 {
+    for _ in 1..levels {
         text.push_str(")->()>")?;
     }
     Ok(text)
@@ -144,50 +144,21 @@ fn white_space_is_free(rt: HostRuntime) {
 #[test]
 fn faults_stand_at_their_tokens(rt: HostRuntime) {
     let alloc = rt.alloc();
-    refuses(
-        &rt,
-        alloc,
-        "builtin.integer si4294967296",
-        Fault::IntegerOutOfRange,
-        1,
-        19,
-    );
-    refuses(&rt, alloc, "", Fault::Unexpected, 1, 1);
-    refuses(&rt, alloc, "builtin.integer", Fault::Unexpected, 1, 16);
-    refuses(&rt, alloc, "builtin.integer si", Fault::Unexpected, 1, 19);
-    refuses(&rt, alloc, "builtin.integer i64x", Fault::Unexpected, 1, 20);
-    refuses(&rt, alloc, "builtin.unit x", Fault::Unexpected, 1, 14);
-    refuses(
-        &rt,
-        alloc,
-        "builtin.function\n <()- >()>",
-        Fault::Unexpected,
-        2,
-        5,
-    );
-    refuses(&rt, alloc, "builtin.function <(é", Fault::Unexpected, 1, 20);
-    refuses(
-        &rt,
-        alloc,
-        "builtin.function <(\"\\k",
-        Fault::Unexpected,
-        1,
-        20,
-    );
-    refuses(&rt, alloc, "sample.cloth", Fault::Unexpected, 1, 1);
-    let message = ReadErr {
-        line: 2,
-        column: 5,
-        fault: Fault::Unexpected,
-    };
-    let text = match format!(in alloc; "{message}") {
-        Ok(text) => text,
-        Err(_) => match format!(in alloc; "{message}") {
-            Ok(text) => text,
-            Err(_) => panic!(&rt; "out of memory"),
-        },
-    };
-    assert_eq!(&rt; text.as_str(), "Parse error at line: 2, column: 5");
+    for (text, line, column) in [
+        ("", 1, 1),
+        ("builtin.integer", 1, 16),
+        ("builtin.integer si", 1, 19),
+        ("builtin.integer i64x", 1, 20),
+        ("builtin.unit x", 1, 14),
+        ("builtin.function\n <()- >()>", 2, 5),
+        ("builtin.function <(é", 1, 20),
+        ("builtin.function <(\"\\k", 1, 20),
+        ("sample.cloth", 1, 1),
+    ] {
+        refuses(&rt, alloc, text, Fault::Unexpected, line, column);
+    }
+    let wide = "builtin.integer si4294967296";
+    refuses(&rt, alloc, wide, Fault::IntegerOutOfRange, 1, 19);
 }
 
 #[test]
