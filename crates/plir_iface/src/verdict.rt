@@ -6,7 +6,7 @@ ghost use Rattle.plir_core.specs.declared.ptr.IRNode.{IRNode};
 ghost use Rattle.plir_iface.specs.Verdict.{IsRefusal};
 
 use plir_core::{Context, Operation, Ptr};
-use plir_data::{Location, OpSet, VerifyErr};
+use plir_data::{OpSet, VerifyErr};
 
 /// Accepts where a rule holds, and else refuses by the error, at the operation's location.
 pub(crate) fn accept_if<D: OpSet, E: Drop>(
@@ -24,9 +24,8 @@ pub(crate) fn accept_if<D: OpSet, E: Drop>(
     if holds {
         return Ok(());
     }
-    let _op = op;
     Err(VerifyErr::Refused {
-        loc: Location::Unknown,
+        loc: op.loc(ctx),
         err,
     })
 }
