@@ -12,3 +12,4 @@ pub mod ListsAgain
 pub mod TypesAgain
 pub mod Wholes
 pub mod SameNames
+pub mod LeavesFound

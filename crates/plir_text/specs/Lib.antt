@@ -11,3 +11,6 @@ pub mod Lists
 pub mod TypeReading
 pub mod Wholes
 pub mod Reading
+pub mod AttrGrammar
+pub mod AttrReading
+pub mod Meaning
