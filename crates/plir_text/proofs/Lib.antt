@@ -12,4 +12,3 @@ pub mod ListsAgain
 pub mod TypesAgain
 pub mod Wholes
 pub mod SameNames
-pub mod LeavesFound

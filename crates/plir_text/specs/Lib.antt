@@ -11,6 +11,3 @@ pub mod Lists
 pub mod TypeReading
 pub mod Wholes
 pub mod Reading
-pub mod AttrGrammar
-pub mod AttrReading
-pub mod Meaning

@@ -20,4 +20,3 @@ pub mod Reading
 pub mod Advancing
 pub mod Orders
 pub mod Lawfulness
-pub mod BlockEdits

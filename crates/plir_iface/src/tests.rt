@@ -1,6 +1,0 @@
-//! Each interface at an operation of its own type, and ranges of places.
-mod counts;
-mod ranges;
-mod regions;
-mod sample;
-mod types;
