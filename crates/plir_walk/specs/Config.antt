@@ -28,3 +28,7 @@ AllPre w = (w.regions_in_op.0 ≡ PreOrder) × (w.ops_in_block.0 ≡ PreOrder) �
 -- all levels are PostOrder
 abbrev pub AllPost : WalkConfig → Type 0
 AllPost w = (w.regions_in_op.0 ≡ PostOrder) × (w.ops_in_block.0 ≡ PostOrder) × (w.blocks_in_region.0 ≡ PostOrder)
+
+-- the setting with one order and one direction at all levels
+abbrev pub uniform : Order → Direction → WalkConfig
+uniform o d = record { regions_in_op = (o, d); ops_in_block = (o, d); blocks_in_region = (o, d) }

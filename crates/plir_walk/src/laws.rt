@@ -2,7 +2,10 @@
 #![tactic(auto)]
 
 ghost use Rattle.std.specs.Prelude.{◌≡◌, List, true};
-ghost use Rattle.plir_walk.specs.declared.config.TheConstants.{WALKCONFIG_PREORDER_FORWARD as pre_forward};
+ghost use Rattle.plir_walk.specs.Config.{uniform};
+ghost use Rattle.plir_walk.specs.declared.config.Direction.TheVariants.{Forward, Reverse};
+ghost use Rattle.plir_walk.specs.declared.config.Order.TheVariants.{PreOrder, PostOrder};
+ghost use Rattle.plir_walk.specs.declared.config.TheConstants.{WALKCONFIG_PREORDER_FORWARD as pre_forward, WALKCONFIG_POSTORDER_FORWARD as post_forward, WALKCONFIG_PREORDER_REVERSE as pre_reverse, WALKCONFIG_POSTORDER_REVERSE as post_reverse};
 ghost use Rattle.plir_walk.specs.declared.config.WalkConfig.{WalkConfig as AnyConfig};
 ghost use Rattle.plir_core.specs.declared.ptr.IRNode.{IRNode as AnyNode};
 ghost use Rattle.plir_walk.specs.Tree.{HasOnePlaceEach};
@@ -20,6 +23,14 @@ pub fn default_setting() -> WalkConfig
 {
     WalkConfig::default()
 }
+
+/// Each of the four settings has one order and one direction at all levels, those of its name.
+pub fn settings_are_as_named()
+    ensures preorder_forward { pre_forward ≡ uniform PreOrder Forward }
+    ensures postorder_forward { post_forward ≡ uniform PostOrder Forward }
+    ensures preorder_reverse { pre_reverse ≡ uniform PreOrder Reverse }
+    ensures postorder_reverse { post_reverse ≡ uniform PostOrder Reverse }
+{}
 
 /// Each node under a root has one place there.
 pub fn one_place_each<C: NodeLinks>(ctx: &C)
