@@ -1,4 +1,4 @@
-use Rattle.std.proofs.Common.{◌≡◌, ℕ, zero, true, List, [], ◌∷◌, ◌++◌, ◌⊎◌, inl, inr, refl, sym, ap, subst, ◌∙◌, append_assoc}
+use Rattle.std.proofs.Common.{◌≡◌, zero, true, List, [], ◌∷◌, ◌++◌, ◌⊎◌, inl, inr, refl, sym, ap, subst, ◌∙◌, append_assoc}
 use Rattle.std.proofs.lemmas.List.{append-nil}
 use Rattle.std.specs.declared.ops.ControlFlow.{ControlFlow}
 use Rattle.std.specs.declared.ops.ControlFlow.TheVariants.{Continue}
@@ -7,7 +7,7 @@ use Rattle.plir_walk.specs.Calls.{Call, nodes_of}
 use Rattle.plir_walk.specs.Config.{direction_of, order_of}
 use Rattle.plir_walk.specs.Forest.{IsBelow, IsForest, Lawful, Shape}
 use Rattle.plir_core.specs.NodeLists.{Distinct, Has}
-use Rattle.plir_walk.specs.Tree.{Tree, after, taken}
+use Rattle.plir_walk.specs.Tree.{Tree, taken}
 use Rattle.plir_walk.specs.declared.config.Direction.{Direction}
 use Rattle.plir_walk.specs.declared.config.Direction.TheVariants.{Forward, Reverse}
 use Rattle.plir_walk.specs.declared.config.Order.{Order}

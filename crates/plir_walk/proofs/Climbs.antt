@@ -1,7 +1,6 @@
 use Rattle.std.proofs.Common.{◌≡◌, ℕ, zero, suc, ◌+◌, true, List, Some, ◌⊎◌, inl, inr, sym, ap, subst, arith, ◌∙◌, option_and_then}
 use Rattle.plir_walk.specs.Forest.{AtOrBelow, IsBelow, IsForest, Lawful, Shape, climb}
 use Rattle.plir_core.specs.NodeLists.{Has}
-use Rattle.plir_walk.specs.Tree.{same}
 use Rattle.plir_core.specs.declared.ptr.IRNode.{IRNode}
 use Rattle.plir_walk.proofs.Groves.{and_then-some}
 

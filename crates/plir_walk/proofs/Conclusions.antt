@@ -1,5 +1,5 @@
 -- From what a walk keeps to what it promises.
-use Rattle.std.proofs.Common.{◌≡◌, ℕ, zero, suc, ◌≤◌, true, List, [], ◌∷◌, ◌++◌, Some, slice_get, Ok, Err, Result, inl, inr, length, refl, sym, ap, subst, arith, ◌∙◌}
+use Rattle.std.proofs.Common.{◌≡◌, ℕ, ◌≤◌, List, [], ◌∷◌, ◌++◌, Some, slice_get, Ok, Err, Result, inl, inr, length, refl, sym, ap, subst, ◌∙◌}
 use Rattle.std.specs.declared.ops.ControlFlow.{ControlFlow}
 use Rattle.std.specs.declared.ops.ControlFlow.TheVariants.{Break, Continue}
 use Rattle.plir_walk.specs.AsRead.{kids_by, tree_read}
@@ -10,7 +10,7 @@ use Rattle.plir_walk.specs.Lists.{Pairs}
 use Rattle.plir_core.specs.NodeLists.{Has}
 use Rattle.plir_walk.specs.Tree.{HasOnePlaceEach, IsUnder, NodeBefore, Place, Tree, after, node_at, same}
 use Rattle.plir_walk.specs.Walk.{Answers, AnswersWithin, CallsAllDue, CallsUpToLast, InOrder, IsWalkWithin}
-use Rattle.plir_walk.specs.Walked.{AtLive, KeepsShape, Walked, WalkedOver}
+use Rattle.plir_walk.specs.Walked.{AtLive, KeepsShape, Walked}
 use Rattle.plir_walk.specs.declared.config.Order.{Order}
 use Rattle.plir_walk.specs.declared.config.WalkConfig.{WalkConfig}
 use Rattle.plir_walk.specs.declared.interruptible.WalkContinue.{WalkContinue}

@@ -1,5 +1,5 @@
 -- Trees that agree under the root, and the order of nodes.
-use Rattle.std.proofs.Common.{◌≡◌, ℕ, ◌≤◌, List, [], ◌∷◌, Option, Some, None, slice_get, inl, inr, length, refl, sym, ap, subst, arith, ◌∙◌, option_and_then}
+use Rattle.std.proofs.Common.{◌≡◌, ℕ, List, [], ◌∷◌, Option, Some, None, slice_get, inl, inr, length, refl, sym, subst, arith, ◌∙◌, option_and_then}
 use Rattle.std.proofs.Common.{Ok, Err, Result, MatchOption, length}
 use Rattle.std.specs.declared.ops.ControlFlow.{ControlFlow}
 use Rattle.std.specs.declared.ops.ControlFlow.TheVariants.{Break, Continue}

@@ -1,5 +1,5 @@
 -- A tree without what its calls shut out, and the tree itself.
-use Rattle.std.proofs.Common.{◌≡◌, ℕ, zero, suc, Bool, true, false, cond, List, [], ◌∷◌, ◌++◌, Option, Some, None, Ok, Err, Result, slice_get, ◌⊎◌, inl, inr, length, refl, sym, ap, subst, arith, ◌∙◌, option_and_then, MatchOption}
+use Rattle.std.proofs.Common.{◌≡◌, ℕ, List, [], ◌∷◌, ◌++◌, Option, Some, slice_get, ◌⊎◌, inl, inr, refl, sym, ap, subst, ◌∙◌, MatchOption}
 use Rattle.std.proofs.lemmas.Option.{none-some}
 use Rattle.std.specs.declared.ops.ControlFlow.{ControlFlow}
 use Rattle.std.specs.declared.ops.ControlFlow.TheVariants.{Break, Continue}

@@ -245,3 +245,7 @@ first-parent s w a x e = kid-parent s w a x (head-Has _ x (sym (first-is s a) �
 -- a kid of a kid is below a node
 pub two-below : (s : Shape) (n a x : IRNode) → s.parent x ≡ Some a → s.parent a ≡ Some n → AtOrBelow s n x
 two-below s n a x e f = (suc (suc zero), climb-top s (suc zero) x a n e f)
+
+-- a lawful change, told of contexts that are these
+pub lawful-of : {K A T : Type 0} (s s' t t' : Store K A T) (n : IRNode) → s ≡ t → s' ≡ t' → Lawful (look s) n (look s') → Lawful (look t) n (look t')
+lawful-of s s' t t' n e f l = subst (λ z. Lawful (look t) n (look z)) f (subst (λ z. Lawful (look z) n (look s')) e l)

@@ -20,3 +20,4 @@ pub mod Reading
 pub mod Advancing
 pub mod Orders
 pub mod Lawfulness
+pub mod BlockEdits

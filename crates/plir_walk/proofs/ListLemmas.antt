@@ -1,7 +1,7 @@
 -- Lists of nodes: appends, pairs, and elements that stand once.
 use Rattle.std.proofs.Common.{◌≡◌, ℕ, zero, suc, List, [], ◌∷◌, ◌++◌, Some, slice_get, ◌⊎◌, inl, inr, refl, sym, ap, subst}
 use Rattle.plir_walk.specs.Lists.{Pairs}
-use Rattle.plir_core.specs.NodeLists.{Has, Distinct, head}
+use Rattle.plir_core.specs.NodeLists.{Has, Distinct}
 
 pub Has-append_left : {A : Type 0} (xs ys : List A) (n : A) → Has xs n → Has (xs ++ ys) n
 Has-append_left [] ys n h = absurd h

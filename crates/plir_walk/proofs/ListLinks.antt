@@ -1,20 +1,19 @@
 -- The links of a node, by the lists of children.
-use Rattle.std.proofs.Common.{◌≡◌, ℕ, Bool, true, false, cond, List, [], ◌∷◌, ◌++◌, map, reverse, Option, Some, None, IsSome, ◌⊎◌, inl, inr, refl, sym, ap, subst, ◌∙◌, append_assoc}
+use Rattle.std.proofs.Common.{◌≡◌, ℕ, Bool, true, false, cond, List, [], ◌∷◌, ◌++◌, map, reverse, Option, Some, None, inl, inr, refl, sym, ap, subst, ◌∙◌, append_assoc}
 use Rattle.std.specs.Prelude.{option_map, option_and_then}
 use Rattle.std.proofs.lemmas.Bool.Decides.{eqb_tells}
 use Rattle.std.proofs.lemmas.List.{reverse-append, map-append}
 use Rattle.plir_store.specs.Lists.{Lists, In, Apart, first_of, last_from, last_of, next_in, prev_in, next_of, prev_of, next_under, prev_under, kids_at, parent_at}
-use Rattle.plir_store.specs.Table.{Table, content_at, version_at, is_live_at}
+use Rattle.plir_store.specs.Table.{Table, is_live_at}
 use Rattle.plir_store.proofs.Members.{Cut, cut, Apart-mid_left}
 use Rattle.plir_core.specs.declared.ptr.Ptr.{Ptr}
 use Rattle.plir_core.specs.declared.ptr.IRNode.{IRNode}
 use Rattle.plir_core.specs.declared.ptr.IRNode.TheVariants.{Operation, Region, BasicBlock}
-use Rattle.plir_core.specs.NodeLists.{Has, Distinct, head}
+use Rattle.plir_core.specs.NodeLists.{Distinct, head}
 use Rattle.plir_core.specs.Nodes.{Nodes, ptr_at, is_node_live, node_kids, node_parent, node_first, node_last, node_next, node_prev, op_node, block_node, region_node}
 use Rattle.plir_core.specs.Forest.{IsListing, IsForest}
 use Rattle.plir_core.proofs.Facts.{Distinct-map, live_at, ptr_is}
-use Rattle.plir_walk.specs.Tree.{same, after}
-use Rattle.plir_walk.proofs.ListLemmas.{Has-append_right}
+use Rattle.plir_walk.specs.Tree.{after}
 use Rattle.plir_walk.proofs.Nodes.{same_tells, after-at}
 use Rattle.plir_walk.proofs.Steps.{Distinct-reverse}
 

@@ -1,5 +1,5 @@
 -- Whether two nodes are the same.
-use Rattle.std.proofs.Common.{◌≡◌, ◌≢◌, Bool, true, false, ◌&&◌, ◌==◌, List, [], ◌∷◌, ◌++◌, ◌⊎◌, inl, inr, refl, sym, ap}
+use Rattle.std.proofs.Common.{◌≡◌, ◌≢◌, true, false, List, [], ◌∷◌, ◌++◌, ◌⊎◌, inl, inr, refl, sym, ap}
 use Rattle.std.proofs.lemmas.Bool.Decides.{eqb_tells}
 use Rattle.plir_core.specs.declared.ptr.Ptr.{Ptr}
 use Rattle.plir_core.specs.declared.ptr.IRNode.{IRNode}

@@ -1,5 +1,5 @@
 -- Before is a total order, and what turns it round.
-use Rattle.std.proofs.Common.{◌≡◌, ◌≢◌, ℕ, ◌<◌, List, [], ◌∷◌, ◌++◌, Option, Some, None, slice_get, MatchOption, ◌⊎◌, inl, inr, reverse, refl, sym, ap, subst, arith, ◌∙◌}
+use Rattle.std.proofs.Common.{◌≡◌, ◌≢◌, ℕ, List, [], ◌∷◌, Option, Some, None, slice_get, MatchOption, ◌⊎◌, inl, inr, reverse, refl, sym, ap, subst, arith, ◌∙◌}
 use Rattle.std.proofs.lemmas.Bool.{cases_eq, cases_lt}
 use Rattle.std.proofs.lemmas.List.{reverse-append}
 use Rattle.std.specs.declared.ops.ControlFlow.TheVariants.{Continue}

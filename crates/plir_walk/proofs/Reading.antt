@@ -1,5 +1,5 @@
 -- Walks whose callback only reads the context.
-use Rattle.std.proofs.Common.{◌≡◌, ℕ, Ok, refl, sym, ap, subst}
+use Rattle.std.proofs.Common.{ℕ, Ok, ap}
 use Rattle.std.specs.Borrow.{Bor, MutBor}
 use Rattle.std.specs.Fn.{Shared}
 use Rattle.std.specs.declared.ops.ControlFlow.{ControlFlow}

@@ -1,4 +1,4 @@
-use Rattle.std.proofs.Common.{◌≡◌, ◌≢◌, ℕ, suc, ◌≤◌, true, List, [], ◌∷◌, ◌++◌, Some, inl, inr, reverse, refl, sym, subst, arith, ◌∙◌}
+use Rattle.std.proofs.Common.{◌≡◌, ◌≢◌, suc, ◌≤◌, true, List, [], ◌∷◌, ◌++◌, Some, inl, inr, reverse, refl, sym, subst, arith, ◌∙◌}
 use Rattle.std.proofs.lemmas.List.{reverse-append}
 use Rattle.plir_walk.specs.Config.{AllPost, direction_of, order_of}
 use Rattle.plir_walk.specs.Forest.{AtOrBelow, IsBelow, IsForest, Lawful, Shape}

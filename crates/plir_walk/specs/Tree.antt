@@ -1,5 +1,5 @@
 -- Trees, places in them, and the order of places.
-use Rattle.std.specs.Prelude.{◌≡◌, ◌≢◌, ℕ, ◌<◌, Bool, true, false, ◌&&◌, ◌==◌, List, [], ◌∷◌, Option, Some, None, cond, slice_get, option_and_then, MatchOption, ◌⊎◌, reverse}
+use Rattle.std.specs.Prelude.{◌≡◌, ◌≢◌, ℕ, ◌<◌, Bool, false, ◌&&◌, ◌==◌, List, [], ◌∷◌, Option, Some, None, cond, slice_get, option_and_then, MatchOption, ◌⊎◌, reverse}
 use Rattle.plir_core.specs.declared.ptr.Ptr.{Ptr}
 use Rattle.plir_core.specs.declared.ptr.IRNode.{IRNode}
 use Rattle.plir_core.specs.declared.ptr.IRNode.TheVariants.{Operation, BasicBlock, Region}
@@ -7,7 +7,7 @@ use Rattle.plir_walk.specs.declared.config.Order.TheVariants.{PreOrder, PostOrde
 use Rattle.plir_walk.specs.declared.config.Direction.{Direction}
 use Rattle.plir_walk.specs.declared.config.Direction.TheVariants.{Forward, Reverse}
 use Rattle.plir_walk.specs.declared.config.WalkConfig.{WalkConfig}
-use Rattle.plir_core.specs.NodeLists.{Has, head}
+use Rattle.plir_core.specs.NodeLists.{head}
 use Rattle.plir_walk.specs.Config.{order_of, direction_of}
 
 -- A tree gives the children of each node.

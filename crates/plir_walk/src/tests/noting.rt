@@ -1,7 +1,4 @@
 //! Walks whose callback notes the nodes that it is called at.
-ghost use Rattle.std.specs.Prelude.{};
-ghost use Rattle.plir_core.specs.Store.{IsLive};
-ghost use Rattle.plir_core.specs.declared.ptr.IRNode.{IRNode as AnyNode};
 
 use crate::WalkConfig;
 use crate::interruptible::immutable::{walk_block, walk_op, walk_region};

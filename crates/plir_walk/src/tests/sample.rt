@@ -44,6 +44,25 @@ impl Nest {
     }
 }
 
+/// The last child of a node.
+fn last_child(ctx: &Context<BuiltinSet>, node: IRNode) -> Result<IRNode, Refusal> {
+    if !node.is_live(ctx) {
+        return Err(Refusal::Misplaced);
+    }
+    ctx.last_child(node).ok_or(Refusal::Misplaced)
+}
+
+/// The operation at the end of a block, the last region in it, and the last block in that.
+pub fn last_nest(
+    ctx: &Context<BuiltinSet>,
+    block: IRNode,
+) -> Result<(IRNode, IRNode, IRNode), Refusal> {
+    let op = last_child(ctx, block)?;
+    let region = last_child(ctx, op)?;
+    let entry = last_child(ctx, region)?;
+    Ok((op, region, entry))
+}
+
 /// A module `m` whose block holds the functions `f1` and `f2`.
 #[derive(Drop)]
 pub struct Sample {
@@ -61,6 +80,16 @@ impl Sample {
         let f1 = make_nest(alloc, &mut ctx, OpKind::Func, Some(m.block))?;
         let f2 = make_nest(alloc, &mut ctx, OpKind::Func, Some(m.block))?;
         Ok(Sample { ctx, m, f1, f2 })
+    }
+
+    /// All nodes, each before what is below it, in order.
+    pub fn nodes(&self) -> [IRNode; 9] {
+        let (m, m_region, m_block) = self.m.nodes();
+        let (f1, f1_region, f1_entry) = self.f1.nodes();
+        let (f2, f2_region, f2_entry) = self.f2.nodes();
+        [
+            m, m_region, m_block, f1, f1_region, f1_entry, f2, f2_region, f2_entry,
+        ]
     }
 }
 

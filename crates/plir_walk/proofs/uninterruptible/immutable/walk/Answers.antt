@@ -1,4 +1,3 @@
-use Rattle.std.proofs.Common.{◌∙◌}
 use Rattle.plir_walk.specs.Calls.{ReadsBack}
 use Rattle.plir_walk.proofs.Advancing.{over-advancing, reads-again}
 use Rattle.plir_walk.proofs.uninterruptible.immutable.walk.Goals as goal
