@@ -12,3 +12,13 @@ pub mod ListsAgain
 pub mod TypesAgain
 pub mod Wholes
 pub mod SameNames
+pub mod Gathering
+pub mod Meanings
+pub mod AttrSteps
+pub mod Nested
+pub mod LeavesFound
+pub mod AttrsFound
+pub mod LeavesAgain
+pub mod AttrsAgain
+pub mod Escapes
+pub mod Joins

@@ -19,7 +19,7 @@ use Rattle.plir_text.proofs.ListsFound.{More, Several}
 use Rattle.plir_text.proofs.ListsAgain.{IsRead, several_read, word_opens}
 use Rattle.plir_text.proofs.TypesFound.{both, front_all, FunctionOf}
 
-parts : (a b : Bool) → (a && b) ≡ true → (a ≡ true) × (b ≡ true)
+pub parts : (a b : Bool) → (a && b) ≡ true → (a ≡ true) × (b ≡ true)
 parts true b e = (refl, e)
 parts false b e = absurd cc
 
