@@ -61,9 +61,14 @@ entries_of-entry_list : (es : EntryTerms) → entries_of (entry_list es) ≡ es
 entries_of-entry_list no_entries = refl
 entries_of-entry_list (entry_before k t es) = ap (entry_before k t) (entries_of-entry_list es)
 
-entry_again : (read : List ℕ → Result (AttrTerm × List ℕ) Fault) (k : List ℕ) (t : AttrTerm) (bytes mid behind rest : List ℕ) → name_at bytes ≡ Ok (k, mid) → sign_at 61 mid ≡ Ok behind → read behind ≡ Ok (t, rest) → entry_at read bytes ≡ Ok ((k, t), rest)
+pub entry_again : (read : List ℕ → Result (AttrTerm × List ℕ) Fault) (k : List ℕ) (t : AttrTerm) (bytes mid behind rest : List ℕ) → name_at bytes ≡ Ok (k, mid) → sign_at 61 mid ≡ Ok behind → read behind ≡ Ok (t, rest) → entry_at read bytes ≡ Ok ((k, t), rest)
 unfolding entry_at
 entry_again read k t bytes mid behind rest p q r = rw (p, q, r) refl
+
+entry_reads : (read : List ℕ → Result (AttrTerm × List ℕ) Fault) (k : List ℕ) (t : AttrTerm) (ts : List Token) (bytes rest : List ℕ) → is_identifier k ≡ true → ((from : List ℕ) → Begins from ts rest → read from ≡ Ok (t, rest)) → Begins bytes (word k ∷ sign 61 ∷ ts) rest → entry_at read bytes ≡ Ok ((k, t), rest)
+entry_reads read k t ts bytes rest id reads b =
+    let e = b.2 in
+    entry_again read k t bytes b.0 e.0 rest (name_again k (word k ∷ []) bytes b.0 (id, refl) (b.0, b.1, refl)) (sign_again 61 b.0 e.0 e.1) (reads e.0 e.2)
 
 -- an attribute begins with a word
 attr_opens : (t : AttrTerm) (ts : List Token) (close : ℕ) (bytes rest : List ℕ) → Spells t ts → Begins bytes ts rest → past_sign close bytes ≡ None
@@ -125,18 +130,13 @@ mutual
   more_attrs_again no_attrs ts n h le = h
   more_attrs_again (attr_before t xs) ts n h le = (h.0, h.1, record { reads = λ bytes rest b. attr_again t h.0 n bytes rest h.2 (omega arith) b; opens = λ bytes rest b. attr_opens t h.0 93 bytes rest h.2 b }, more_attrs_again xs h.1 n h.3 (omega arith), h.4)
 
-  entry_reads : (k : List ℕ) (t : AttrTerm) (ts : List Token) (n : ℕ) (bytes rest : List ℕ) → is_identifier k ≡ true → Spells t ts → levels t ≤ n → Begins bytes (word k ∷ sign 61 ∷ ts) rest → entry_at (attr_at n) bytes ≡ Ok ((k, t), rest)
-  entry_reads k t ts n bytes rest id h le b =
-      let e = b.2 in
-      entry_again (attr_at n) k t bytes b.0 e.0 rest (name_again k (word k ∷ []) bytes b.0 (id, refl) (b.0, b.1, refl)) (sign_again 61 b.0 e.0 e.1) (attr_again t ts n e.0 rest h le e.2)
-
   entries_again : (es : EntryTerms) (ts : List Token) (n : ℕ) → SpellsEntries es ts → entries_levels es ≤ n → Several (IsRead 93 (entry_at (attr_at n))) (entry_list es) ts
   entries_again no_entries ts n h le = h
-  entries_again (entry_before k t es) ts n h le = (word k ∷ sign 61 ∷ h.0, h.1, record { reads = λ bytes rest b. entry_reads k t h.0 n bytes rest h.2 h.3 (omega arith) b; opens = λ bytes rest b. word_opens 93 k (sign 61 ∷ h.0) bytes rest b }, more_entries_again es h.1 n h.4 (omega arith), h.5)
+  entries_again (entry_before k t es) ts n h le = (word k ∷ sign 61 ∷ h.0, h.1, record { reads = λ bytes rest b. entry_reads (attr_at n) k t h.0 bytes rest h.2 (λ from c. attr_again t h.0 n from rest h.3 (omega arith) c) b; opens = λ bytes rest b. word_opens 93 k (sign 61 ∷ h.0) bytes rest b }, more_entries_again es h.1 n h.4 (omega arith), h.5)
 
   more_entries_again : (es : EntryTerms) (ts : List Token) (n : ℕ) → SpellsMoreEntries es ts → entries_levels es ≤ n → More (IsRead 93 (entry_at (attr_at n))) (entry_list es) ts
   more_entries_again no_entries ts n h le = h
-  more_entries_again (entry_before k t es) ts n h le = (word k ∷ sign 61 ∷ h.0, h.1, record { reads = λ bytes rest b. entry_reads k t h.0 n bytes rest h.2 h.3 (omega arith) b; opens = λ bytes rest b. word_opens 93 k (sign 61 ∷ h.0) bytes rest b }, more_entries_again es h.1 n h.4 (omega arith), h.5)
+  more_entries_again (entry_before k t es) ts n h le = (word k ∷ sign 61 ∷ h.0, h.1, record { reads = λ bytes rest b. entry_reads (attr_at n) k t h.0 bytes rest h.2 (λ from c. attr_again t h.0 n from rest h.3 (omega arith) c) b; opens = λ bytes rest b. word_opens 93 k (sign 61 ∷ h.0) bytes rest b }, more_entries_again es h.1 n h.4 (omega arith), h.5)
 
 -- ---- whole texts
 

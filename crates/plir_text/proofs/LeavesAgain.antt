@@ -65,11 +65,15 @@ pub sizes_read : (ns : List ℕ) (ts : List Token) → Several SpellsSize ns ts 
 sizes_read [] ts h = h
 sizes_read (n ∷ ns) ts h = (h.0, h.1, record { reads = λ bytes rest b. size_reads n h.0 bytes rest h.2 b; opens = λ bytes rest b. size_opens n h.0 bytes rest h.2 b }, more_sizes ns h.1 h.3, h.4)
 
+-- an unset name
+abbrev unset : Option (List ℕ)
+unset = None
+
 given_reads : (n : Option (List ℕ)) (ts : List Token) (bytes rest : List ℕ) → SpellsName n ts → Begins bytes ts rest → given_name_at bytes ≡ Ok (n, rest)
 unfolding given_name_at
 given_reads None ts bytes rest h b =
     let c = subst (λ (y : List Token). Begins bytes y rest) h b in
-    rw (past_sign_again 63 bytes c.0 c.1) (ap (λ (y : List ℕ). done (None {A = List ℕ}, y)) c.2)
+    rw (past_sign_again 63 bytes c.0 c.1) (ap (λ (y : List ℕ). done (unset, y)) c.2)
 given_reads (Some w) ts bytes rest h b =
     let c = subst (λ (y : List Token). Begins bytes y rest) h.1 b in
     rw (no_sign 63 bytes (word w, c.0) c.1 refl, name_again w ts bytes rest h b) refl
@@ -107,7 +111,7 @@ bits_again false m w b h = rw ((Decides-ltb m (2 ^ w)).1 h.0) (ap (λ (x : ℕ).
 width_again : (w : ℕ) → 1 ≤ w → w ≤ 64 → is_width w ≡ true
 width_again w some few = both (nat_le 1 w) (nat_le w 64) (le-leb 1 w some) (le-leb w 64 few)
 
-value_of_again : (s : Bool) (m w b : ℕ) → 1 ≤ w → w ≤ 64 → IsBits s m w b → value_of s m w ≡ Ok b
+pub value_of_again : (s : Bool) (m w b : ℕ) → 1 ≤ w → w ≤ 64 → IsBits s m w b → value_of s m w ≡ Ok b
 unfolding value_of
 value_of_again s m w b some few h = rw (width_again w some few) (bits_again s m w b h)
 

@@ -146,7 +146,7 @@ literal_found bytes x e =
     let b = as_literal_is a.0.0 a.0.1 x a.2 in
     record { tokens = a.0.0 ∷ []; begins = (x.1, literal_takes x.0.0 x.0.1 a.0.0 bytes x.1 b.0 (a.1 ∙ ap (λ (r : List ℕ). done (a.0.0, r)) b.1), refl); spelled = (a.0.0, b.0, refl) }
 
-bits_found : (s : Bool) (m w b : ℕ) → bits_of s m w ≡ Ok b → IsBits s m w b
+pub bits_found : (s : Bool) (m w b : ℕ) → bits_of s m w ≡ Ok b → IsBits s m w b
 unfolding bits_of
 bits_found true m w b e =
     elim (chosen (nat_le m (2 ^ (w - 1))) _ _ _ e) [ inl h ↦ (leb-true m (2 ^ (w - 1)) h.0, sym (ok_is _ b h.1)) | inr h ↦ absurd (let k = h.1 in cc) ]

@@ -3,7 +3,7 @@ pub mod Lexing
 pub mod Quoted
 pub mod Fronts
 pub mod Growth
-pub mod Collecting
+pub mod Gathering
 pub mod TypeSteps
 pub mod Begun
 pub mod ListsFound
@@ -12,13 +12,14 @@ pub mod ListsAgain
 pub mod TypesAgain
 pub mod Wholes
 pub mod SameNames
-pub mod Gathering
+pub mod Escapes
+pub mod Joins
+pub mod Nested
 pub mod Meanings
 pub mod AttrSteps
-pub mod Nested
 pub mod LeavesFound
 pub mod AttrsFound
 pub mod LeavesAgain
 pub mod AttrsAgain
-pub mod Escapes
-pub mod Joins
+pub mod Ascii
+pub mod Values

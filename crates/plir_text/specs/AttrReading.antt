@@ -4,7 +4,7 @@ use Rattle.std.specs.Str.{bytes_eq, is_utf8}
 use Rattle.plir_data.specs.Identifier.{is_identifier}
 use Rattle.plir_data.specs.declared.types.Signedness.{Signedness}
 use Rattle.plir_data.specs.Integers.{is_width}
-use Rattle.plir_text.specs.Steps.{◌>>=◌}
+use Rattle.plir_text.specs.Steps.{◌>>=◌, read_as}
 use Rattle.plir_text.specs.Strings.{string_at}
 use Rattle.plir_text.specs.Terms as terms
 use Rattle.plir_text.specs.Terms.{AttrTerm, attrs_of, entries_of}
@@ -103,16 +103,16 @@ entry_at read bytes = name_at bytes >>= λ k. sign_at 61 k.1 >>= λ behind. read
 
 -- what stands behind an id, where at most n levels stand in it, and `read` reads the attributes in it
 abbrev pub attr_body : (n : ℕ) → (read : List ℕ → Result (AttrTerm × List ℕ) Fault) → AttrKind → List ℕ → Result (AttrTerm × List ℕ) Fault
-attr_body n read kinds.Identifier bytes = name_at bytes >>= λ w. Ok (terms.identifier w.0, w.1)
-attr_body n read kinds.String bytes = text_at bytes >>= λ s. Ok (terms.string s.0, s.1)
-attr_body n read kinds.Bool bytes = bool_at bytes >>= λ b. Ok (terms.bool b.0, b.1)
-attr_body n read kinds.Integer bytes = value_at n bytes >>= λ v. Ok (terms.integer v.0.0.0 v.0.0.1 v.0.1, v.1)
-attr_body n read kinds.Dict bytes = items_at 91 93 (entry_at read) bytes >>= λ es. Ok (terms.dict (entries_of es.0), es.1)
-attr_body n read kinds.Vec bytes = items_at 91 93 read bytes >>= λ xs. Ok (terms.vec (attrs_of xs.0), xs.1)
+attr_body n read kinds.Identifier bytes = read_as terms.identifier (name_at bytes)
+attr_body n read kinds.String bytes = read_as terms.string (text_at bytes)
+attr_body n read kinds.Bool bytes = read_as terms.bool (bool_at bytes)
+attr_body n read kinds.Integer bytes = read_as (λ v. terms.integer v.0.0 v.0.1 v.1) (value_at n bytes)
+attr_body n read kinds.Dict bytes = read_as (λ es. terms.dict (entries_of es)) (items_at 91 93 (entry_at read) bytes)
+attr_body n read kinds.Vec bytes = read_as (λ xs. terms.vec (attrs_of xs)) (items_at 91 93 read bytes)
 attr_body n read kinds.Unit bytes = Ok (terms.unit, bytes)
-attr_body n read kinds.TypeOf bytes = type_at n bytes >>= λ t. Ok (terms.type t.0, t.1)
-attr_body n read kinds.OperandSegmentSizes bytes = items_at 91 93 size_at bytes >>= λ ns. Ok (terms.operand_segment_sizes ns.0, ns.1)
-attr_body n read kinds.GivenNames bytes = items_at 91 93 given_name_at bytes >>= λ ns. Ok (terms.given_names ns.0, ns.1)
+attr_body n read kinds.TypeOf bytes = read_as terms.type (type_at n bytes)
+attr_body n read kinds.OperandSegmentSizes bytes = read_as terms.operand_segment_sizes (items_at 91 93 size_at bytes)
+attr_body n read kinds.GivenNames bytes = read_as terms.given_names (items_at 91 93 given_name_at bytes)
 
 -- an attribute, with at most n levels open
 unfoldable pub attr_at : (n : ℕ) → List ℕ → Result (AttrTerm × List ℕ) Fault

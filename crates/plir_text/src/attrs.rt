@@ -1,13 +1,13 @@
 //! From a text to an attribute.
 
-ghost use Rattle.std.specs.Prelude.{◌≡◌, map, Ok};
+ghost use Rattle.std.specs.Prelude.{◌≡◌, map};
 ghost use Rattle.plir_data.specs.AttrSeen.{attr_view};
 ghost use Rattle.plir_data.specs.AttrView.{leaf, identifier, string, bool, operand_segment_sizes, given_names};
 ghost use Rattle.plir_text.specs.Terms.{attrs_of, entries_of};
 ghost use Rattle.plir_text.specs.Names.{Adds};
 ghost use Rattle.plir_text.specs.Meaning.{IsMeant, AreMeant, IsDictMeant};
 ghost use Rattle.plir_text.specs.Reading.{Gives, Reads};
-ghost use Rattle.plir_text.specs.Steps.{◌>>=◌};
+ghost use Rattle.plir_text.specs.Steps.{read_as};
 ghost use Rattle.plir_text.specs.Lists.{items_at};
 ghost use Rattle.plir_text.specs.AttrReading.{name_at, text_at, bool_at, size_at, given_name_at, entry_at, attr_body, attr_at};
 
@@ -31,7 +31,7 @@ fn read_identifier_attr<D: OpSet>(
     alloc: Global,
     bytes: &[u8],
 ) -> Result<(AttrObj<D>, &[u8]), Stop>
-    ensures { Gives (λ x. (attr_view x.0, x.1.now)) result (name_at bytes.now >>= λ w. Ok (leaf (identifier w.0), w.1)) }
+    ensures { Gives (λ x. (attr_view x.0, x.1.now)) result (read_as (λ w. leaf (identifier w)) (name_at bytes.now)) }
 {
     let (name, rest) = read_name(alloc, bytes)?;
     Ok((AttrObj::Identifier(IdentifierAttr::new(name)), rest))
@@ -42,7 +42,7 @@ fn read_string_attr<D: OpSet>(
     alloc: Global,
     bytes: &[u8],
 ) -> Result<(AttrObj<D>, &[u8]), Stop>
-    ensures { Gives (λ x. (attr_view x.0, x.1.now)) result (text_at bytes.now >>= λ w. Ok (leaf (string w.0), w.1)) }
+    ensures { Gives (λ x. (attr_view x.0, x.1.now)) result (read_as (λ w. leaf (string w)) (text_at bytes.now)) }
 {
     let (text, rest) = read_text(alloc, bytes)?;
     Ok((AttrObj::String(StringAttr::new(text)), rest))
@@ -50,7 +50,7 @@ fn read_string_attr<D: OpSet>(
 
 // A truth value as an attribute.
 fn read_bool_attr<D: OpSet>(bytes: &[u8]) -> Result<(AttrObj<D>, &[u8]), Stop>
-    ensures { Gives (λ x. (attr_view x.0, x.1.now)) result (bool_at bytes.now >>= λ w. Ok (leaf (bool w.0), w.1)) }
+    ensures { Gives (λ x. (attr_view x.0, x.1.now)) result (read_as (λ w. leaf (bool w)) (bool_at bytes.now)) }
 {
     let (value, rest) = read_bool(bytes)?;
     Ok((AttrObj::Bool(BoolAttr::new(value)), rest))
@@ -61,7 +61,7 @@ fn read_sizes_attr<D: OpSet>(
     alloc: Global,
     bytes: &[u8],
 ) -> Result<(AttrObj<D>, &[u8]), Stop>
-    ensures { Gives (λ x. (attr_view x.0, x.1.now)) result (items_at 91 93 size_at bytes.now >>= λ w. Ok (leaf (operand_segment_sizes w.0), w.1)) }
+    ensures { Gives (λ x. (attr_view x.0, x.1.now)) result (read_as (λ w. leaf (operand_segment_sizes w)) (items_at 91 93 size_at bytes.now)) }
 {
     let (sizes, rest) = read_sizes(alloc, bytes)?;
     Ok((AttrObj::OperandSegmentSizes(OperandSegmentSizesAttr(sizes)), rest))
@@ -72,7 +72,7 @@ fn read_names_attr<D: OpSet>(
     alloc: Global,
     bytes: &[u8],
 ) -> Result<(AttrObj<D>, &[u8]), Stop>
-    ensures { Gives (λ x. (attr_view x.0, x.1.now)) result (items_at 91 93 given_name_at bytes.now >>= λ w. Ok (leaf (given_names w.0), w.1)) }
+    ensures { Gives (λ x. (attr_view x.0, x.1.now)) result (read_as (λ w. leaf (given_names w)) (items_at 91 93 given_name_at bytes.now)) }
 {
     let (names, rest) = read_given_names(alloc, bytes)?;
     Ok((AttrObj::GivenNames(GivenNamesAttr::from_names(names)), rest))

@@ -4,5 +4,7 @@
 //! same way whichever request is refused.
 
 mod attributes;
+mod hostile;
+mod memory;
 mod sample_set;
 mod types;

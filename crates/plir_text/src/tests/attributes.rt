@@ -1,69 +1,90 @@
-//! Texts of attributes that are read.
+//! Attributes that are read and printed.
+
+ghost use Rattle.plir_data.specs.AttrLive.{IsAttrLive};
+ghost use Rattle.plir_data.specs.AttrSeen.{attr_view};
 
 use super::sample_set::SampleSet;
-use crate::{Fault, ReadErr, read_attr};
-use plir_data::{AttrObj, TypeTable};
+use crate::{Fault, ReadErr, print_attr, read_attr};
+use plir_data::{
+    APInt, AttrObj, IntegerAttr, IntegerType, Signedness, StringAttr, TypeAttr, TypeTable,
+};
 use std::alloc::{AllocError, Global};
 use std::process::Abort;
-use std::test::Fail;
 
 type Table = TypeTable<SampleSet>;
 
 type Attr = AttrObj<SampleSet>;
 
-// What the reader answers, made once more where memory was wanting. Then line and column were 0.
-fn tried(
-    rt: &impl Abort,
-    alloc: Global,
-    table: &mut Table,
-    text: &str,
-) -> Result<Attr, ReadErr> {
-    match read_attr(alloc, table, text) {
-        Err(err) if err.fault == Fault::Memory => {
-            assert_eq!(rt; (err.line, err.column), (0, 0));
-            read_attr(alloc, table, text)
-        }
-        read => read,
+fn printed(rt: &impl Abort, alloc: Global, table: &Table, attr: &Attr) -> String
+    requires { IsAttrLive SampleSet.attr_handles table.now (attr_view attr.now) }
+{
+    match print_attr(alloc, table, attr) {
+        Ok(text) => text,
+        Err(_) => panic!(rt; "out of memory"),
     }
 }
 
-fn refuses(rt: &impl Abort, alloc: Global, text: &str, fault: Fault, column: usize) {
+// A text is read, and what was read prints the other text.
+fn prints(rt: &impl Abort, alloc: Global, text: &str, want: &str) {
+    let mut table: Table = TypeTable::new(alloc);
+    match read_attr(alloc, &mut table, text) {
+        Ok(attr) => {
+            let text = printed(rt, alloc, &table, &attr);
+            assert_eq!(rt; text.as_str(), want);
+        }
+        Err(err) => panic!(rt; "{text}: {err}"),
+    }
+}
+
+fn refuses(rt: &impl Abort, alloc: Global, text: &str, fault: Fault, line: usize, column: usize) {
     let mut table: Table = TypeTable::new(alloc);
     let want = ReadErr {
-        line: 1,
+        line,
         column,
         fault,
     };
-    match tried(rt, alloc, &mut table, text) {
+    match read_attr(alloc, &mut table, text) {
         Ok(_) => panic!(rt; "{text} is read"),
         Err(err) => assert_eq!(rt; err, want, "{text}"),
     }
 }
 
-// An integer by the text of its literal and type: the width and the bits.
-fn integer(rt: &impl Abort, alloc: Global, text: &str) -> (u32, u64) {
+#[test]
+fn test_integer_attributes(rt: HostRuntime) {
+    let alloc = rt.alloc();
     let mut table: Table = TypeTable::new(alloc);
-    match tried(rt, alloc, &mut table, text) {
-        Ok(AttrObj::Integer(value)) => (value.value().bw(), value.value().to_u64()),
-        Ok(_) => panic!(rt; "{text} is no integer"),
-        Err(err) => panic!(rt; "{text} at {}:{}", err.line, err.column),
+    let Ok(ty) = IntegerType::get(&mut table, 64, Signedness::Signed) else {
+        panic!(&rt; "out of memory");
+    };
+    for (value, want) in [(0, "builtin.integer <0: si64>"), (15, "builtin.integer <15: si64>")] {
+        let Some(bits) = APInt::from_i64(value, 64) else {
+            panic!(&rt; "no value");
+        };
+        let attr: Attr = AttrObj::Integer(IntegerAttr::new(ty, bits));
+        let text = printed(&rt, alloc, &table, &attr);
+        assert_eq!(&rt; text.as_str(), want);
+        assert_eq!(&rt; bits.is_zero(), value == 0);
+        assert_eq!(&rt; bits.to_i64(), value);
     }
 }
 
 #[test]
 fn test_integer_attribute_signs(rt: HostRuntime) {
     let alloc = rt.alloc();
-    for (text, width, bits) in [
-        ("builtin.integer <18446744073709551615: i64>", 64, 18446744073709551615),
-        ("builtin.integer <255: ui8>", 8, 255),
-        ("builtin.integer <1: i1>", 1, 1),
-        ("builtin.integer <-128: ui8>", 8, 128),
-        ("builtin.integer <1: si1>", 1, 1),
-        ("builtin.integer <+42: si64>", 64, 42),
-        ("builtin.integer <-1: i1>", 1, 1),
-        ("builtin.integer <-9223372036854775808: i64>", 64, 9223372036854775808),
+    for (text, want) in [
+        ("builtin.integer <18446744073709551615: i64>", "builtin.integer <-1: i64>"),
+        ("builtin.integer <255: ui8>", "builtin.integer <255: ui8>"),
+        ("builtin.integer <1: i1>", "builtin.integer <1: i1>"),
+        ("builtin.integer <-1: i1>", "builtin.integer <1: i1>"),
+        ("builtin.integer <-128: ui8>", "builtin.integer <128: ui8>"),
+        ("builtin.integer <1: si1>", "builtin.integer <-1: si1>"),
+        ("builtin.integer <+42: si64>", "builtin.integer <42: si64>"),
+        ("builtin.integer <-1: i64>", "builtin.integer <-1: i64>"),
+        ("builtin.integer <42: si64>", "builtin.integer <42: si64>"),
+        ("builtin.integer <-42: si64>", "builtin.integer <-42: si64>"),
+        ("builtin.integer <0: si64>", "builtin.integer <0: si64>"),
     ] {
-        assert_eq!(&rt; integer(&rt, alloc, text), (width, bits), "{text}");
+        prints(&rt, alloc, text, want);
     }
 }
 
@@ -84,90 +105,84 @@ fn integers_that_are_refused(rt: HostRuntime) {
         ("builtin.operand_segment_sizes [4294967296]", Fault::IntegerOutOfRange, 32),
         ("builtin.operand_segment_sizes [+1]", Fault::Unexpected, 32),
     ] {
-        refuses(&rt, alloc, text, fault, column);
+        refuses(&rt, alloc, text, fault, 1, column);
     }
 }
 
 #[test]
 fn test_string_attributes(rt: HostRuntime) {
     let alloc = rt.alloc();
-    let mut table: Table = TypeTable::new(alloc);
-    let text = "builtin.string \"a\\\\b\\nc\\td\\re\\0f\\u{7f}\"";
-    match tried(&rt, alloc, &mut table, text) {
-        Ok(AttrObj::String(text)) => assert_eq!(&rt; text.as_str(), "a\\b\nc\td\re\0f\u{7f}"),
-        _ => panic!(&rt; "not read"),
-    }
-    refuses(&rt, alloc, "builtin.string \"hello \\k \"", Fault::BadEscape, 23);
-    refuses(&rt, alloc, "builtin.string \"hello \\u{d800}\"", Fault::BadEscape, 23);
-    refuses(&rt, alloc, "builtin.string \"ab", Fault::Unexpected, 19);
-}
-
-// Lists in lists, and the signs that close them.
-fn nested(alloc: Global, levels: usize, cut: bool) -> Result<String, AllocError> {
-    let mut text = String::new(alloc);
-    for _ in 0..levels {
-        text.push_str("builtin.vec [")?;
-    }
-    if cut {
-        return Ok(text);
-    }
-    for _ in 0..levels {
-        text.push(']')?;
-    }
-    Ok(text)
-}
-
-fn made(rt: &impl Abort, alloc: Global, levels: usize, cut: bool) -> String {
-    match nested(alloc, levels, cut) {
-        Ok(text) => text,
-        Err(_) => match nested(alloc, levels, cut) {
-            Ok(text) => text,
-            Err(_) => panic!(rt; "out of memory"),
-        },
+    let table: Table = TypeTable::new(alloc);
+    for (value, want) in [
+        ("hello", "builtin.string \"hello\""),
+        ("world", "builtin.string \"world\""),
+        ("a\u{b}\u{1f}é", "builtin.string \"a\\u{b}\\u{1f}é\""),
+    ] {
+        let Ok(text) = StringAttr::try_from_str(alloc, value) else {
+            panic!(&rt; "out of memory");
+        };
+        let attr: Attr = AttrObj::String(text);
+        let text = printed(&rt, alloc, &table, &attr);
+        assert_eq!(&rt; text.as_str(), want);
     }
 }
 
 #[test]
-fn two_hundred_levels(rt: HostRuntime) {
+fn strings_are_read_and_printed(rt: HostRuntime) {
     let alloc = rt.alloc();
-    let mut table: Table = TypeTable::new(alloc);
-    let text = made(&rt, alloc, 200, false);
-    match tried(&rt, alloc, &mut table, text.as_str()) {
-        Ok(AttrObj::Vec(items)) => assert_eq!(&rt; items.0.len(), 1),
-        _ => panic!(&rt; "not read"),
+    for text in [
+        "builtin.string \"hello \\\"world\\\"\"",
+        "builtin.string \"a\\\\b\\nc\\td\\re\\0f\\u{7f}\"",
+        "builtin.string \"\"",
+    ] {
+        prints(&rt, alloc, text, text);
     }
-    refuses(&rt, alloc, made(&rt, alloc, 201, false).as_str(), Fault::TooDeep, 2601);
-    refuses(&rt, alloc, made(&rt, alloc, 200, true).as_str(), Fault::Unexpected, 2601);
+    refuses(&rt, alloc, "builtin.string \"hello \\k \"", Fault::BadEscape, 1, 23);
+    refuses(&rt, alloc, "builtin.string \"hello \\u{d800}\"", Fault::BadEscape, 1, 23);
+    refuses(&rt, alloc, "builtin.string \"ab", Fault::Unexpected, 1, 19);
 }
 
 #[test]
-fn attributes_in_attributes(rt: HostRuntime) -> Result<(), Fail> {
+fn test_type_attributes(rt: HostRuntime) {
     let alloc = rt.alloc();
     let mut table: Table = TypeTable::new(alloc);
-    let text = "builtin.dict [b = builtin.bool true, a = builtin.unit, b = builtin.bool false]";
-    match tried(&rt, alloc, &mut table, text) {
-        Ok(AttrObj::Dict(dict)) => {
-            assert_eq!(&rt; dict.0.len(), 2);
-            assert!(&rt; matches!(dict.0.get("a"), Some(AttrObj::Unit(_))));
-            match dict.0.get("b") {
-                Some(AttrObj::Bool(value)) => assert!(&rt; !bool::from(*value)),
-                _ => panic!(&rt; "no truth value"),
-            }
-        }
+    let Ok(ty) = IntegerType::get(&mut table, 64, Signedness::Signed) else {
+        panic!(&rt; "out of memory");
+    };
+    let attr: Attr = AttrObj::Type(TypeAttr::new(ty.into()));
+    let text = printed(&rt, alloc, &table, &attr);
+    assert_eq!(&rt; text.as_str(), "builtin.type builtin.integer si64");
+    match read_attr(alloc, &mut table, text.as_str()) {
+        Ok(AttrObj::Type(read)) => assert_eq!(&rt; read.get_type(), ty.into()),
         _ => panic!(&rt; "not read"),
     }
-    let text = "builtin.vec [ builtin.operand_segment_sizes [1,2] ,builtin.type builtin.unit ]";
-    match tried(&rt, alloc, &mut table, text) {
-        Ok(AttrObj::Vec(items)) => {
-            assert_eq!(&rt; items.0.len(), 2);
-            assert!(&rt; matches!(items.0.get(1), Some(AttrObj::Type(_))));
-        }
-        _ => panic!(&rt; "not read"),
+}
+
+#[test]
+fn test_operand_segment_sizes_attr(rt: HostRuntime) {
+    let alloc = rt.alloc();
+    let text = "builtin.operand_segment_sizes [1, 2, 3]";
+    prints(&rt, alloc, text, text);
+    let text = "builtin.operand_segment_sizes []";
+    prints(&rt, alloc, text, text);
+}
+
+#[test]
+fn attributes_in_attributes(rt: HostRuntime) {
+    let alloc = rt.alloc();
+    for (text, want) in [
+        (
+            "builtin.dict [b = builtin.bool true, a = builtin.unit, b = builtin.bool false]",
+            "builtin.dict [a = builtin.unit, b = builtin.bool false]",
+        ),
+        (
+            "builtin.vec [ builtin.operand_segment_sizes [1,2] ,builtin.type builtin.unit ]",
+            "builtin.vec [builtin.operand_segment_sizes [1, 2], builtin.type builtin.unit]",
+        ),
+        (" builtin.given_names\t[ins,?,r0\r\n,r1] ", "builtin.given_names [ins, ?, r0, r1]"),
+        ("builtin.vec[builtin.dict[]]", "builtin.vec [builtin.dict []]"),
+        ("builtin.identifier a1_", "builtin.identifier a1_"),
+    ] {
+        prints(&rt, alloc, text, want);
     }
-    let text = "builtin.given_names [c0, ?]";
-    match tried(&rt, alloc, &mut table, text) {
-        Ok(AttrObj::GivenNames(names)) => assert_eq!(&rt; names.names().len(), 2),
-        _ => panic!(&rt; "not read"),
-    }
-    Ok(())
 }
