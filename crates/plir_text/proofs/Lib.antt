@@ -23,3 +23,6 @@ pub mod LeavesAgain
 pub mod AttrsAgain
 pub mod Ascii
 pub mod Values
+pub mod SameMeanings
+pub mod Printed
+pub mod ReadBack

@@ -1,5 +1,6 @@
 //! Attributes that are read and printed.
 
+ghost use Rattle.std.specs.Prelude.{[]};
 ghost use Rattle.plir_data.specs.AttrLive.{IsAttrLive};
 ghost use Rattle.plir_data.specs.AttrSeen.{attr_view};
 
@@ -8,7 +9,7 @@ use crate::{Fault, ReadErr, print_attr, read_attr};
 use plir_data::{
     APInt, AttrObj, IntegerAttr, IntegerType, Signedness, StringAttr, TypeAttr, TypeTable,
 };
-use std::alloc::{AllocError, Global};
+use std::alloc::Global;
 use std::process::Abort;
 
 type Table = TypeTable<SampleSet>;
@@ -16,7 +17,7 @@ type Table = TypeTable<SampleSet>;
 type Attr = AttrObj<SampleSet>;
 
 fn printed(rt: &impl Abort, alloc: Global, table: &Table, attr: &Attr) -> String
-    requires { IsAttrLive SampleSet.attr_handles table.now (attr_view attr.now) }
+    requires { IsAttrLive (λ _. []) table.now (attr_view attr.now) }
 {
     match print_attr(alloc, table, attr) {
         Ok(text) => text,
@@ -152,9 +153,12 @@ fn test_type_attributes(rt: HostRuntime) {
     let attr: Attr = AttrObj::Type(TypeAttr::new(ty.into()));
     let text = printed(&rt, alloc, &table, &attr);
     assert_eq!(&rt; text.as_str(), "builtin.type builtin.integer si64");
-    match read_attr(alloc, &mut table, text.as_str()) {
-        Ok(AttrObj::Type(read)) => assert_eq!(&rt; read.get_type(), ty.into()),
-        _ => panic!(&rt; "not read"),
+    let Ok(read) = read_attr(alloc, &mut table, text.as_str()) else {
+        panic!(&rt; "not read");
+    };
+    match &read {
+        AttrObj::Type(read) => assert_eq!(&rt; read.get_type(), ty.into()),
+        _ => panic!(&rt; "no type"),
     }
 }
 
