@@ -211,7 +211,7 @@ integer-begins s k w b rest h =
     let type_word = look-spaced (integer_text k w ++ (62 ∷ rest)) ∙ look-type k w (62 ∷ rest) (omega (arith, h.few)) refl in
     let inner : Begins behind (sign 58 ∷ word (integer_text k w) ∷ sign 62 ∷ []) rest = (32 ∷ (integer_text k w ++ (62 ∷ rest)), look-colon _, (62 ∷ rest, type_word, (rest, look-greater rest, refl))) in
     subst (λ (x : List ℕ). Begins (codes "builtin.integer <" ++ x) (word (codes "builtin.integer") ∷ sign 60 ∷ literal_token s w b ∷ sign 58 ∷ word (integer_text k w) ∷ sign 62 ∷ []) rest) (sym shape)
-    (32 ∷ 60 ∷ (literal s w b ++ behind), look-integer _, (literal s w b ++ behind, look-less _, literal-takes s w b (literal s w b ++ behind) behind _ rest (look-literal s w b behind h refl) inner))
+    (32 ∷ 60 ∷ (literal s w b ++ behind), look-integer _, (literal s w b ++ behind, look-less _, literal-takes s w b (literal s w b ++ behind) behind (sign 58 ∷ word (integer_text k w) ∷ sign 62 ∷ []) rest (look-literal s w b behind h refl) inner))
 
 -- the text of an integer stands for it
 pub integer_printed : (s : Bool) (k : Signedness) (w b : ℕ) → IsValue w b → IsText (AttrWithin 200) (value_text s k w b) (terms.integer k w b)

@@ -1,18 +1,23 @@
-use Rattle.std.proofs.Common.{rules, ◌≡◌, ℕ, List, IfOk, IfErr, true, ◌+◌, ◌-◌, ◌*◌, ◌<◌, ◌≤◌, length, ◌/◌, ◌%◌, Bool, false, nat_eq, nat_lt, [], ◌∷◌, ◌++◌, slice_index_or, slice_set, bit_and, bit_or, Fits, w8, w32, w64, Bor, MutBor}
-use Rattle.plir_data.specs.AttrSeen.{attr_view}
-use Rattle.plir_data.specs.AttrVerify.{is_of_width}
-use Rattle.plir_data.specs.AttrView.{AttrView, leaf, integer}
-use Rattle.plir_data.specs.Types.{TypeView, IsTypeTable, IsLive, type_at}
-use Rattle.plir_text.specs.Terms.{TypeTerm}
-use Rattle.plir_text.specs.TypeGrammar.{IsText, TypeWithin}
-use Rattle.plir_text.specs.Meaning.{StandsFor}
-use Rattle.plir_text.specs.Names.{Names}
+use Rattle.std.proofs.Common.{◌∙◌, subst}
+use Rattle.plir_data.specs.Types.{IsTypeTable}
+use Rattle.plir_text.proofs.Printed.{IsValue}
+use Rattle.plir_text.proofs.ReadBack.{integer_stands, memory_alone}
+use Rattle.plir_text.proofs.SameMeanings.{one_meaning}
 use Rattle.plir_text.proofs.laws.integer_is_read_back.Goals as goal
 
--- src/laws.rt:55:21
 pub returns-in-Err-clause-refused : goal.returns-in-Err-clause-refused
-returns-in-Err-clause-refused g c = ?
+returns-in-Err-clause-refused g c =
+    let n = c.args.value.value in
+    let value : IsValue n.width n.bits = record { some = n.some; few = n.few; below = n.below } in
+    let now = g.C.TypeStore.types c.read_attr.new.ctx in
+    let ours = integer_stands g.D.OpSet.attr_id g.D.OpSet.attr_text g.D.OpSet.type_id g.D.OpSet.type_body_text (g.C.TypeStore.types c.args.ctx.now) now c.args.value.ty n.width n.bits c.as_str.result.now (c.as_str.ensures.value ∙ c.in-Ok.ensures) value c.requires.verified c.in-Err.ensures.grown in
+    memory_alone c.in-Err.err.fault (λ other. c.in-Err.ensures.refused other ours.0 ours.1)
 
--- src/laws.rt:35:1
 pub returns-clause-equal : goal.returns-clause-equal
-returns-clause-equal g c = ?
+returns-clause-equal g c =
+    let n = c.args.value.value in
+    let value : IsValue n.width n.bits = record { some = n.some; few = n.few; below = n.below } in
+    let now = g.C.TypeStore.types c.read_attr.new.ctx in
+    let whole : IsTypeTable g.D.OpSet.type_handles now = subst (IsTypeTable g.D.OpSet.type_handles) c.types.ensures c.get-known.ensures.whole in
+    let ours = integer_stands g.D.OpSet.attr_id g.D.OpSet.attr_text g.D.OpSet.type_id g.D.OpSet.type_body_text (g.C.TypeStore.types c.args.ctx.now) now c.args.value.ty n.width n.bits c.as_str.result.now (c.as_str.ensures.value ∙ c.in-Ok.ensures) value c.requires.verified c.in-Ok-read_attr.ensures.grown in
+    one_meaning g.D.OpSet.type_handles now whole 200 200 c.as_str.result.now _ _ c.in-Ok-read_attr.ensures.found ours
