@@ -1,21 +1,19 @@
 -- Attributes that stand there are read.
-use Rattle.std.proofs.Common.{◌≡◌, ℕ, zero, suc, max, ◌<◌, ◌≤◌, ◌+◌, ◌-◌, true, List, [], ◌∷◌, ◌++◌, length, codes, Option, Some, None, Result, Ok, Err, refl, sym, ap, subst, ◌∙◌, arith}
+use Rattle.std.proofs.Common.{◌≡◌, ℕ, zero, suc, ◌<◌, ◌≤◌, ◌+◌, ◌-◌, true, List, [], ◌∷◌, codes, None, Result, Ok, Err, refl, sym, ap, subst, ◌∙◌, arith}
 use Rattle.plir_data.specs.Identifier.{is_identifier}
 use Rattle.plir_text.specs.declared.attr_words.AttrKind.{AttrKind}
 use Rattle.plir_text.specs.declared.attr_words.AttrKind.TheVariants as kinds
 use Rattle.plir_text.specs.declared.fault.Fault.{Fault}
-use Rattle.plir_text.specs.Steps.{◌>>=◌}
 use Rattle.plir_text.specs.Terms as terms
 use Rattle.plir_text.specs.Terms.{AttrTerm, AttrTerms, no_attrs, attr_before, EntryTerms, no_entries, entry_before, attrs_of, entries_of, levels, attrs_levels, entries_levels}
 use Rattle.plir_text.specs.Tokens.{Token, word, sign, look, Begins}
 use Rattle.plir_text.specs.TypeGrammar.{enclosed, IsText}
-use Rattle.plir_text.specs.Lists.{sign_at, past_sign, items_at}
-use Rattle.plir_text.specs.TypeReading.{word_at, type_at}
+use Rattle.plir_text.specs.Lists.{sign_at, past_sign}
 use Rattle.plir_text.specs.AttrGrammar.{Spells, SpellsItems, SpellsMoreItems, SpellsEntries, SpellsMoreEntries, AttrWithin}
 use Rattle.plir_text.specs.AttrReading.{attr_kind, attr_head, name_at, size_at, given_name_at, entry_at, attr_body, attr_at}
 use Rattle.plir_text.specs.Wholes.{whole}
 use Rattle.plir_text.proofs.Steps.{done}
-use Rattle.plir_text.proofs.Begun.{Begins-append, Begins-split, word_again, sign_again}
+use Rattle.plir_text.proofs.Begun.{word_again, sign_again}
 use Rattle.plir_text.proofs.ListsFound.{More, Several, whole_found}
 use Rattle.plir_text.proofs.ListsAgain.{IsRead, several_read, word_opens, refused, only_one}
 use Rattle.plir_text.proofs.TypesAgain.{type_again}

@@ -1,5 +1,5 @@
 -- Attributes that are read stand there.
-use Rattle.std.proofs.Common.{◌≡◌, ◌⊎◌, ℕ, zero, suc, max, ◌<◌, ◌≤◌, ◌+◌, Bool, true, false, cond, List, [], ◌∷◌, ◌++◌, length, codes, Result, Ok, Err, refl, sym, ap, subst, ◌∙◌, arith, inl, inr}
+use Rattle.std.proofs.Common.{◌≡◌, ◌⊎◌, ℕ, zero, suc, ◌<◌, ◌≤◌, cond, List, [], ◌∷◌, ◌++◌, length, codes, Result, Ok, Err, refl, ap, subst, ◌∙◌, arith, inl, inr}
 use Rattle.std.specs.Str.{bytes_eq}
 use Rattle.std.proofs.lemmas.Slice.Eq.{bytes_eq-Decides}
 use Rattle.plir_text.specs.declared.attr_words.AttrKind.{AttrKind}
@@ -9,14 +9,14 @@ use Rattle.plir_text.specs.declared.fault.Fault.TheVariants.{TooDeep}
 use Rattle.plir_text.specs.Steps.{◌>>=◌}
 use Rattle.plir_text.specs.Terms as terms
 use Rattle.plir_text.specs.Terms.{AttrTerm, attrs_of, entries_of, levels, attrs_levels, entries_levels}
-use Rattle.plir_text.specs.Tokens.{Token, word, sign, look, Begins}
-use Rattle.plir_text.specs.TypeGrammar.{enclosed, TypeWithin}
+use Rattle.plir_text.specs.Tokens.{Token, word, sign, look}
+use Rattle.plir_text.specs.TypeGrammar.{enclosed}
 use Rattle.plir_text.specs.Lists.{sign_at, items_at}
 use Rattle.plir_text.specs.TypeReading.{word_at, type_at}
 use Rattle.plir_text.specs.AttrGrammar.{SpellsIdentifier, SpellsSize, SpellsName, Spells, SpellsItems, SpellsMoreItems, SpellsEntries, SpellsMoreEntries, AttrWithin}
 use Rattle.plir_text.specs.AttrReading.{attr_kind, attr_head, name_at, text_at, bool_at, size_at, given_name_at, value_at, entry_at, attr_body, attr_at}
 use Rattle.plir_text.proofs.Steps.{chosen, bind_ok, done, ok_is}
-use Rattle.plir_text.proofs.Begun.{Begins-append, Begins-length, word_found, sign_found}
+use Rattle.plir_text.proofs.Begun.{Begins-append, word_found, sign_found}
 use Rattle.plir_text.proofs.ListsFound.{FoundOne, IsSound, More, Several, items_found}
 use Rattle.plir_text.proofs.TypesFound.{type_found}
 use Rattle.plir_text.proofs.LeavesFound.{name_found, string_found, truth_found, size_found, given_name_found, value_found, found-shorter}

@@ -1,5 +1,5 @@
 -- Things that are printed one after the other.
-use Rattle.std.proofs.Common.{◌≡◌, ℕ, Bool, true, false, List, [], ◌∷◌, ◌++◌, map, refl, sym, ap, ◌∙◌, append_assoc, append-nil}
+use Rattle.std.proofs.Common.{◌≡◌, ℕ, Bool, true, false, List, [], ◌∷◌, ◌++◌, refl, sym, ap, ◌∙◌, append_assoc, append-nil}
 use Rattle.plir_data.specs.AttrView.{AttrView, items_of, entries_of}
 use Rattle.plir_data.specs.TypeText.{comma}
 use Rattle.plir_data.specs.Types.{TypeView}

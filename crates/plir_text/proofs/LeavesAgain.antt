@@ -1,20 +1,14 @@
 -- The parts of attributes that hold no other are read where they stand.
-use Rattle.std.proofs.Common.{◌≡◌, ℕ, ◌<◌, ◌≤◌, ◌+◌, ◌-◌, ◌%◌, ◌^◌, ◌&&◌, Bool, true, false, cond, nat_lt, nat_le, nat_eq, List, [], ◌∷◌, ◌++◌, length, Option, Some, None, Result, Ok, Err, codes, refl, sym, ap, subst, ◌∙◌, arith}
-use Rattle.std.specs.Prelude.{IsUtf8}
+use Rattle.std.proofs.Common.{◌≡◌, ℕ, ◌≤◌, ◌-◌, ◌^◌, Bool, true, false, nat_le, List, [], ◌∷◌, Option, Some, None, Ok, codes, refl, sym, ap, subst, ◌∙◌}
 use Rattle.std.proofs.lemmas.Bool.{le-leb}
 use Rattle.std.proofs.lemmas.Bool.Decides.{Decides-ltb}
 use Rattle.std.proofs.lemmas.Str.{is_utf8-from_IsUtf8}
-use Rattle.plir_data.specs.Identifier.{is_identifier}
 use Rattle.plir_data.specs.Integers.{is_width}
 use Rattle.plir_data.specs.declared.types.Signedness.{Signedness}
-use Rattle.plir_text.specs.declared.fault.Fault.{Fault}
-use Rattle.plir_text.specs.declared.fault.Fault.TheVariants.{Unexpected}
-use Rattle.plir_text.specs.Steps.{◌>>=◌}
-use Rattle.plir_text.specs.Tokens.{Token, word, digits, signed, quoted, arrow, sign, look, Takes, Begins}
-use Rattle.plir_text.specs.Lists.{past_sign, sign_at}
-use Rattle.plir_text.specs.TypeReading.{word_at, integer_at}
-use Rattle.plir_text.specs.AttrGrammar.{truth, SpellsLiteral, IsBits, SpellsIdentifier, SpellsString, SpellsTruth, SpellsValue, SpellsSize, SpellsName}
-use Rattle.plir_text.specs.AttrReading.{name_at, bool_at, text_at, as_size, size_at, given_name_at, as_literal, literal_at, bits_of, value_of, if_level, value_at}
+use Rattle.plir_text.specs.Tokens.{Token, word, digits, signed, quoted, arrow, sign, Takes, Begins}
+use Rattle.plir_text.specs.Lists.{past_sign}
+use Rattle.plir_text.specs.AttrGrammar.{SpellsLiteral, IsBits, SpellsIdentifier, SpellsString, SpellsTruth, SpellsValue, SpellsSize, SpellsName}
+use Rattle.plir_text.specs.AttrReading.{name_at, bool_at, text_at, size_at, given_name_at, literal_at, bits_of, value_of, if_level, value_at}
 use Rattle.plir_text.proofs.Steps.{done}
 use Rattle.plir_text.proofs.Begun.{Begins-split, word_again, sign_again, past_sign_again, no_sign}
 use Rattle.plir_text.proofs.ListsFound.{More, Several}

@@ -1,6 +1,5 @@
 -- The parts of attributes that hold no other, as they are read, stand there.
-use Rattle.std.proofs.Common.{◌≡◌, ◌⊎◌, ℕ, ◌<◌, ◌≤◌, ◌+◌, ◌-◌, ◌%◌, ◌^◌, ◌&&◌, Bool, true, false, cond, nat_lt, nat_le, nat_eq, List, [], ◌∷◌, ◌++◌, length, Option, Some, None, Result, Ok, Err, codes, refl, sym, ap, subst, ◌∙◌, arith, inl, inr}
-use Rattle.std.specs.Prelude.{IsUtf8}
+use Rattle.std.proofs.Common.{◌≡◌, ℕ, ◌<◌, ◌≤◌, ◌-◌, ◌^◌, Bool, true, false, cond, nat_lt, nat_le, List, [], ◌∷◌, ◌++◌, length, Option, Some, None, Result, Ok, Err, codes, refl, sym, ap, subst, ◌∙◌, arith, inl, inr}
 use Rattle.std.specs.Str.{bytes_eq, is_utf8}
 use Rattle.std.proofs.lemmas.Bool.{leb-true}
 use Rattle.std.proofs.lemmas.Bool.Decides.{Decides-ltb}
@@ -10,7 +9,7 @@ use Rattle.plir_data.specs.Identifier.{is_identifier}
 use Rattle.plir_data.specs.Integers.{is_width}
 use Rattle.plir_data.specs.declared.types.Signedness.{Signedness}
 use Rattle.plir_text.specs.declared.fault.Fault.{Fault}
-use Rattle.plir_text.specs.declared.fault.Fault.TheVariants.{Unexpected, IntegerOutOfRange, IntegerWidthUnsupported, TooDeep}
+use Rattle.plir_text.specs.declared.fault.Fault.TheVariants.{Unexpected}
 use Rattle.plir_text.specs.Steps.{◌>>=◌}
 use Rattle.plir_text.specs.Strings.{string_at}
 use Rattle.plir_text.specs.Tokens.{Token, word, digits, signed, quoted, arrow, sign, look, Takes, Begins}

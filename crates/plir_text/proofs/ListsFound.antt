@@ -1,5 +1,5 @@
 -- Lists that are read stand there.
-use Rattle.std.proofs.Common.{◌≡◌, ◌⊎◌, ℕ, zero, suc, ◌<◌, ◌≤◌, Bool, true, false, List, [], ◌∷◌, ◌++◌, length, Option, Some, None, Result, Ok, Err, refl, sym, ap, subst, ◌∙◌, arith, append-nil, append_assoc}
+use Rattle.std.proofs.Common.{◌≡◌, ℕ, zero, suc, Bool, true, false, List, [], ◌∷◌, ◌++◌, length, Option, Some, None, Result, Ok, refl, sym, ap, subst, append-nil, append_assoc}
 use Rattle.plir_text.specs.declared.fault.Fault.{Fault}
 use Rattle.plir_text.specs.Bytes.{is_blank, past}
 use Rattle.plir_text.specs.Steps.{◌>>=◌}
@@ -8,7 +8,7 @@ use Rattle.plir_text.specs.TypeGrammar.{enclosed, IsText}
 use Rattle.plir_text.specs.AttrGrammar.{SpellsMore, SpellsSeveral}
 use Rattle.plir_text.specs.Lists.{sign_at, past_sign, separator_at, with_first, if_more, more_at, unless_closed, items_at}
 use Rattle.plir_text.specs.Wholes.{if_none_left, end_at, whole}
-use Rattle.plir_text.proofs.Steps.{bind_ok, done, ok_is}
+use Rattle.plir_text.proofs.Steps.{bind_ok, ok_is}
 use Rattle.plir_text.proofs.Begun.{Begins-append, sign_found, past_sign_found, separator, separator_found}
 
 -- a reader finds things that tokens stand for

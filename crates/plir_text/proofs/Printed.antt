@@ -1,24 +1,23 @@
 -- The tokens of what is printed.
-use Rattle.std.proofs.Common.{◌≡◌, ◌⊎◌, ◌&&◌, ◌||◌, nat_eq, nat_le, true≢false, ℕ, suc, ◌+◌, ◌-◌, ◌*◌, ◌%◌, ◌^◌, ◌<◌, ◌≤◌, Bool, true, false, cond, List, [], ◌∷◌, ◌++◌, codes, Ok, refl, sym, ap, subst, ◌∙◌, arith, inl, inr, append-nil, append_assoc}
+use Rattle.std.proofs.Common.{◌≡◌, ◌&&◌, ℕ, suc, ◌+◌, ◌-◌, ◌*◌, ◌%◌, ◌^◌, ◌<◌, ◌≤◌, Bool, true, false, cond, List, [], ◌∷◌, ◌++◌, codes, Ok, refl, sym, ap, subst, ◌∙◌, arith, append-nil, append_assoc}
 use Rattle.std.specs.Fmt.{decimal}
 use Rattle.std.proofs.lemmas.Fmt.{decimal_by_steps}
 use Rattle.std.proofs.lemmas.Nat.{pow_pos}
 use Rattle.std.proofs.Math.Nat.{pow-le-pow_right, pow-succ', mod-eq_of_lt}
 use Rattle.std.proofs.lemmas.Bool.{le-leb, leb-true}
-use Rattle.std.proofs.lemmas.Bool.Decides.{nat_tests, Decides-eqb}
+use Rattle.std.proofs.lemmas.Bool.Decides.{nat_tests}
 use Rattle.plir_data.specs.Identifier.{is_letter, is_digit}
 use Rattle.plir_data.specs.Integers.{is_high, literal}
 use Rattle.plir_data.specs.TypeText.{letters, integer_text}
 use Rattle.plir_data.specs.declared.types.Signedness.{Signedness}
 use Rattle.plir_data.specs.declared.types.Signedness.TheVariants.{Signed, Unsigned, Signless}
-use Rattle.plir_text.specs.AttrGrammar.{IsBits, SpellsValue, AttrWithin}
-use Rattle.plir_text.specs.Bytes.{is_blank, is_in_word, front, past, begins, all_pass, is_digits, value_after}
+use Rattle.plir_text.specs.AttrGrammar.{SpellsValue, AttrWithin}
+use Rattle.plir_text.specs.Bytes.{is_blank, is_in_word, front, past, all_pass, is_digits, value_after}
 use Rattle.plir_text.specs.Terms as terms
 use Rattle.plir_text.specs.Tokens.{Token, word, digits, signed, sign, number_of, token_at, look, Begins}
 use Rattle.plir_text.specs.TypeGrammar.{SpellsInteger, IsText}
 use Rattle.plir_text.proofs.Steps.{done}
 use Rattle.plir_text.proofs.TypesAgain.{parts}
-use Rattle.plir_text.proofs.TypesFound.{both}
 
 -- what ends a run
 abbrev pub Ends : (ℕ → Bool) → List ℕ → Type 0

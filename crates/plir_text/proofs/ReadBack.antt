@@ -1,8 +1,8 @@
 -- What a printed integer is read as.
-use Rattle.std.proofs.Common.{◌≡◌, ◌≢◌, ◌++◌, ℕ, Bool, true, false, nat_eq, codes, List, Option, Some, None, refl, sym, ap, subst, ◌∙◌}
+use Rattle.std.proofs.Common.{◌≡◌, ◌≢◌, ◌++◌, ℕ, true, codes, List, Option, Some, None, refl, sym, ap, subst}
 use Rattle.std.proofs.lemmas.Bool.Decides.{Decides-eqb}
 use Rattle.plir_data.specs.AttrVerify.{is_of_width}
-use Rattle.plir_data.specs.AttrView.{AttrView, leaf, integer}
+use Rattle.plir_data.specs.AttrView.{leaf, integer}
 use Rattle.plir_data.specs.Types as types
 use Rattle.plir_data.specs.Types.{TypeView, type_at, prints_as_signed}
 use Rattle.plir_data.specs.declared.types.Signedness.{Signedness}

@@ -1,5 +1,5 @@
 -- The text of an attribute.
-use Rattle.std.specs.Prelude.{ℕ, List, [], ◌++◌, Bool, true, false, codes, Option, Some, None}
+use Rattle.std.specs.Prelude.{ℕ, List, [], ◌++◌, Bool, false, codes, Option, Some}
 use Rattle.std.specs.Fmt.{decimal}
 use Rattle.plir_data.specs.AttrView.{Leaf, identifier, string, bool, integer, unit, type_of, operand_segment_sizes, given_names, own, AttrView, leaf, dict, vec, Items, no_items, item, Entries, no_entries, entry}
 use Rattle.plir_data.specs.Integers.{literal}

@@ -218,13 +218,7 @@ fn read_literal(bytes: &[u8]) -> Result<((bool, &[u8]), &[u8]), Stop>
 fn mark_length(piece: Piece<'_>) -> usize {
     match piece {
         Piece::Arrow => 1,
-        Piece::Sign(byte) => {
-            if byte == b'-' || byte == b'+' {
-                1
-            } else {
-                0
-            }
-        }
+        Piece::Sign(byte) => { if byte == b'-' || byte == b'+' { 1 } else { 0 } }
         _ => 0,
     }
 }
@@ -297,10 +291,7 @@ fn if_level(levels: usize, bytes: &[u8]) -> Result<(), Stop>
 
 // `<V: T>`: the type and the value, with at most this many levels in it.
 #[tactic(auto, unfolding(crate::specs::AttrReading::value_at))]
-pub fn read_value(
-    levels: usize,
-    bytes: &[u8],
-) -> Result<(((Signedness, u32), APInt), &[u8]), Stop>
+pub fn read_value(levels: usize, bytes: &[u8]) -> Result<(((Signedness, u32), APInt), &[u8]), Stop>
     ensures value { Gives (λ x. ((x.0.0, x.0.1.bits), x.1.now)) result (value_at levels bytes.now) }
     ensures width { IfOk result (λ x. x.0.1.width ≡ x.0.0.1) }
 {

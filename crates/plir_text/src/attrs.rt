@@ -27,10 +27,7 @@ use plir_data::{
 use std::alloc::Global;
 
 // An identifier as an attribute.
-fn read_identifier_attr<D: OpSet>(
-    alloc: Global,
-    bytes: &[u8],
-) -> Result<(AttrObj<D>, &[u8]), Stop>
+fn read_identifier_attr<D: OpSet>(alloc: Global, bytes: &[u8]) -> Result<(AttrObj<D>, &[u8]), Stop>
     ensures { Gives (λ x. (attr_view x.0, x.1.now)) result (read_as (λ w. leaf (identifier w)) (name_at bytes.now)) }
 {
     let (name, rest) = read_name(alloc, bytes)?;
@@ -38,10 +35,7 @@ fn read_identifier_attr<D: OpSet>(
 }
 
 // A string as an attribute.
-fn read_string_attr<D: OpSet>(
-    alloc: Global,
-    bytes: &[u8],
-) -> Result<(AttrObj<D>, &[u8]), Stop>
+fn read_string_attr<D: OpSet>(alloc: Global, bytes: &[u8]) -> Result<(AttrObj<D>, &[u8]), Stop>
     ensures { Gives (λ x. (attr_view x.0, x.1.now)) result (read_as (λ w. leaf (string w)) (text_at bytes.now)) }
 {
     let (text, rest) = read_text(alloc, bytes)?;
@@ -57,21 +51,18 @@ fn read_bool_attr<D: OpSet>(bytes: &[u8]) -> Result<(AttrObj<D>, &[u8]), Stop>
 }
 
 // Sizes of segments as an attribute.
-fn read_sizes_attr<D: OpSet>(
-    alloc: Global,
-    bytes: &[u8],
-) -> Result<(AttrObj<D>, &[u8]), Stop>
+fn read_sizes_attr<D: OpSet>(alloc: Global, bytes: &[u8]) -> Result<(AttrObj<D>, &[u8]), Stop>
     ensures { Gives (λ x. (attr_view x.0, x.1.now)) result (read_as (λ w. leaf (operand_segment_sizes w)) (items_at 91 93 size_at bytes.now)) }
 {
     let (sizes, rest) = read_sizes(alloc, bytes)?;
-    Ok((AttrObj::OperandSegmentSizes(OperandSegmentSizesAttr(sizes)), rest))
+    Ok((
+        AttrObj::OperandSegmentSizes(OperandSegmentSizesAttr(sizes)),
+        rest,
+    ))
 }
 
 // Given names as an attribute.
-fn read_names_attr<D: OpSet>(
-    alloc: Global,
-    bytes: &[u8],
-) -> Result<(AttrObj<D>, &[u8]), Stop>
+fn read_names_attr<D: OpSet>(alloc: Global, bytes: &[u8]) -> Result<(AttrObj<D>, &[u8]), Stop>
     ensures { Gives (λ x. (attr_view x.0, x.1.now)) result (read_as (λ w. leaf (given_names w)) (items_at 91 93 given_name_at bytes.now)) }
 {
     let (names, rest) = read_given_names(alloc, bytes)?;

@@ -57,7 +57,10 @@ fn test_integer_attributes(rt: HostRuntime) {
     let Ok(ty) = IntegerType::get(&mut table, 64, Signedness::Signed) else {
         panic!(&rt; "out of memory");
     };
-    for (value, want) in [(0, "builtin.integer <0: si64>"), (15, "builtin.integer <15: si64>")] {
+    for (value, want) in [
+        (0, "builtin.integer <0: si64>"),
+        (15, "builtin.integer <15: si64>"),
+    ] {
         let Some(bits) = APInt::from_i64(value, 64) else {
             panic!(&rt; "no value");
         };
@@ -73,7 +76,10 @@ fn test_integer_attributes(rt: HostRuntime) {
 fn test_integer_attribute_signs(rt: HostRuntime) {
     let alloc = rt.alloc();
     for (text, want) in [
-        ("builtin.integer <18446744073709551615: i64>", "builtin.integer <-1: i64>"),
+        (
+            "builtin.integer <18446744073709551615: i64>",
+            "builtin.integer <-1: i64>",
+        ),
         ("builtin.integer <255: ui8>", "builtin.integer <255: ui8>"),
         ("builtin.integer <1: i1>", "builtin.integer <1: i1>"),
         ("builtin.integer <-1: i1>", "builtin.integer <1: i1>"),
@@ -96,14 +102,34 @@ fn integers_that_are_refused(rt: HostRuntime) {
         ("builtin.integer <256: ui8>", Fault::IntegerOutOfRange, 18),
         ("builtin.integer <-129: ui8>", Fault::IntegerOutOfRange, 18),
         ("builtin.integer <2: i1>", Fault::IntegerOutOfRange, 18),
-        ("builtin.integer <-9223372036854775809: i64>", Fault::IntegerOutOfRange, 18),
-        ("builtin.integer <18446744073709551616: ui64>", Fault::IntegerOutOfRange, 18),
+        (
+            "builtin.integer <-9223372036854775809: i64>",
+            Fault::IntegerOutOfRange,
+            18,
+        ),
+        (
+            "builtin.integer <18446744073709551616: ui64>",
+            Fault::IntegerOutOfRange,
+            18,
+        ),
         ("builtin.integer <1-2: si64>", Fault::Unexpected, 19),
         ("builtin.integer <++4: si64>", Fault::Unexpected, 19),
         ("builtin.integer <0: builtin.unit>", Fault::Unexpected, 21),
-        ("builtin.integer <0: i65>", Fault::IntegerWidthUnsupported, 21),
-        ("builtin.integer <9: i0>", Fault::IntegerWidthUnsupported, 21),
-        ("builtin.operand_segment_sizes [4294967296]", Fault::IntegerOutOfRange, 32),
+        (
+            "builtin.integer <0: i65>",
+            Fault::IntegerWidthUnsupported,
+            21,
+        ),
+        (
+            "builtin.integer <9: i0>",
+            Fault::IntegerWidthUnsupported,
+            21,
+        ),
+        (
+            "builtin.operand_segment_sizes [4294967296]",
+            Fault::IntegerOutOfRange,
+            32,
+        ),
         ("builtin.operand_segment_sizes [+1]", Fault::Unexpected, 32),
     ] {
         refuses(&rt, alloc, text, fault, 1, column);
@@ -138,8 +164,22 @@ fn strings_are_read_and_printed(rt: HostRuntime) {
     ] {
         prints(&rt, alloc, text, text);
     }
-    refuses(&rt, alloc, "builtin.string \"hello \\k \"", Fault::BadEscape, 1, 23);
-    refuses(&rt, alloc, "builtin.string \"hello \\u{d800}\"", Fault::BadEscape, 1, 23);
+    refuses(
+        &rt,
+        alloc,
+        "builtin.string \"hello \\k \"",
+        Fault::BadEscape,
+        1,
+        23,
+    );
+    refuses(
+        &rt,
+        alloc,
+        "builtin.string \"hello \\u{d800}\"",
+        Fault::BadEscape,
+        1,
+        23,
+    );
     refuses(&rt, alloc, "builtin.string \"ab", Fault::Unexpected, 1, 19);
 }
 
@@ -183,8 +223,14 @@ fn attributes_in_attributes(rt: HostRuntime) {
             "builtin.vec [ builtin.operand_segment_sizes [1,2] ,builtin.type builtin.unit ]",
             "builtin.vec [builtin.operand_segment_sizes [1, 2], builtin.type builtin.unit]",
         ),
-        (" builtin.given_names\t[ins,?,r0\r\n,r1] ", "builtin.given_names [ins, ?, r0, r1]"),
-        ("builtin.vec[builtin.dict[]]", "builtin.vec [builtin.dict []]"),
+        (
+            " builtin.given_names\t[ins,?,r0\r\n,r1] ",
+            "builtin.given_names [ins, ?, r0, r1]",
+        ),
+        (
+            "builtin.vec[builtin.dict[]]",
+            "builtin.vec [builtin.dict []]",
+        ),
         ("builtin.identifier a1_", "builtin.identifier a1_"),
     ] {
         prints(&rt, alloc, text, want);

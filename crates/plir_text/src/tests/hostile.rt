@@ -37,7 +37,12 @@ fn two_hundred_levels_of_lists(rt: HostRuntime) -> Result<(), Fail> {
     let alloc = rt.alloc();
     let mut table: Table = TypeTable::new(alloc);
     let text = repeated(alloc, "builtin.vec [", "]", 200)?;
-    assert!(&rt; matches!(read_attr(alloc, &mut table, text.as_str()), Ok(AttrObj::Vec(_))));
+    assert!(&rt;
+        matches!(
+            read_attr(alloc, &mut table, text.as_str()),
+            Ok(AttrObj::Vec(_))
+        )
+    );
     let text = repeated(alloc, "builtin.vec [", "]", 201)?;
     refuses(&rt, alloc, text.as_str(), Fault::TooDeep, 2601);
     let text = repeated(alloc, "builtin.vec [", "", 200)?;
@@ -60,7 +65,8 @@ fn a_literal_of_a_thousand_digits(rt: HostRuntime) -> Result<(), Fail> {
 #[test]
 fn beginnings_of_attributes_are_unexpected(rt: HostRuntime) {
     let alloc = rt.alloc();
-    let text = "builtin.dict [a = builtin.string \"\\u{7f}\", b = builtin.vec [builtin.integer <-1: si8>], c = builtin.given_names [x, ?]]";
+    let text =
+        "builtin.dict [a = builtin.string \"\\u{7f}\", b = builtin.vec [builtin.integer <-1: si8>], c = builtin.given_names [x, ?]]";
     for count in 0..text.len() {
         let Some(front) = text.get(..count) else {
             panic!(&rt; "no beginning of {count} bytes");

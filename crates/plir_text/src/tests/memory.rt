@@ -10,7 +10,8 @@ type Table = TypeTable<SampleSet>;
 fn attributes_are_read_and_printed_where_memory_is_refused(rt: HostRuntime) {
     let alloc = rt.alloc();
     let mut table: Table = TypeTable::new(alloc);
-    let text = "builtin.dict [a = builtin.string \"b\\n\", c = builtin.vec [builtin.integer <-1: si8>], d = builtin.given_names [x, ?]]";
+    let text =
+        "builtin.dict [a = builtin.string \"b\\n\", c = builtin.vec [builtin.integer <-1: si8>], d = builtin.given_names [x, ?]]";
     let attr = match read_attr(alloc, &mut table, text) {
         Ok(attr) => attr,
         Err(err) => {

@@ -1,4 +1,4 @@
-use Rattle.std.proofs.Common.{◌≡◌, ◌∙◌, false, ap, refl, sym, inr}
+use Rattle.std.proofs.Common.{◌∙◌, ap, refl, sym, inr}
 use Rattle.std.specs.Str.{is_utf8}
 use Rattle.plir_text.proofs.Ascii.{no_identifier}
 use Rattle.plir_text.proofs.attr_words.identifier_of.Goals as goal

@@ -1,14 +1,13 @@
-use Rattle.std.proofs.Common.{◌≡◌, ◌∙◌, ◌<◌, ℕ, List, map, length, [], true, false, refl, sym, ap, arith}
+use Rattle.std.proofs.Common.{◌≡◌, ◌∙◌, map, length, [], refl, sym, ap, arith}
 use Rattle.std.proofs.lemmas.Result.{err_from_is_err_and}
 use Rattle.plir_data.specs.AttrSeen.{attr_view}
 use Rattle.plir_data.specs.AttrView as views
 use Rattle.plir_text.specs.declared.attr_words.AttrKind.TheVariants as kinds
 use Rattle.plir_text.specs.Terms as terms
 use Rattle.plir_text.specs.Terms.{attrs_of, entries_of}
-use Rattle.plir_text.specs.Meaning.{IsMeant}
 use Rattle.plir_text.specs.Steps.{read_as}
 use Rattle.plir_text.specs.Lists.{items_at}
-use Rattle.plir_text.specs.AttrReading.{name_at, text_at, bool_at, size_at, given_name_at, entry_at, attr_head, attr_body, attr_at}
+use Rattle.plir_text.specs.AttrReading.{name_at, text_at, bool_at, size_at, given_name_at, entry_at, attr_head, attr_at}
 use Rattle.plir_text.proofs.Steps.{done}
 use Rattle.plir_text.proofs.Fronts.{no_open, nothing_inside}
 use Rattle.plir_text.proofs.Growth.{Adds-itself, Adds-on}
@@ -236,4 +235,3 @@ read_items-returns-else-goes_on-clause-read g t c =
 
 pub read_items-returns-else-goes_on-clause-kept : goal.read_items-returns-else-goes_on-clause-kept
 read_items-returns-else-goes_on-clause-kept g t c = Adds-on g.met.C.TypeStore.same_besides_on _ _ _ c.items.invariant.kept c.in-Ok.ensures.kept
-

@@ -1,4 +1,4 @@
-use Rattle.std.proofs.Common.{◌≡◌, ◌∙◌, ap, refl}
+use Rattle.std.proofs.Common.{◌∙◌, ap, refl}
 use Rattle.plir_data.specs.AttrView as views
 use Rattle.plir_text.specs.Terms as terms
 use Rattle.plir_text.specs.Steps.{read_as}

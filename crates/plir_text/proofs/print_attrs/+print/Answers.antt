@@ -1,4 +1,4 @@
-use Rattle.std.proofs.Common.{◌≡◌, ◌∙◌, ◌++◌, ◌∷◌, ◌+◌, ◌<◌, ◌≤◌, [], codes, ap, sym, subst, arith, rules, map, drop, string_bytes}
+use Rattle.std.proofs.Common.{◌≡◌, ◌∙◌, ◌++◌, ◌∷◌, ◌+◌, ◌<◌, ◌≤◌, codes, ap, sym, subst, arith, rules, map, drop, string_bytes}
 use Rattle.std.proofs.lemmas.List.{drop_all}
 use Rattle.plir_data.specs.AttrDepth.{bulk, items_bulk, entries_bulk}
 use Rattle.plir_data.specs.AttrLive.{IsAttrLive, AreItemsLive, AreEntriesLive}

@@ -1,4 +1,4 @@
-use Rattle.std.proofs.Common.{◌≡◌, ◌∙◌, ◌++◌, ap, codes, string_bytes}
+use Rattle.std.proofs.Common.{◌∙◌, ◌++◌, ap, codes, string_bytes}
 use Rattle.plir_data.specs.TypeText.{type_text}
 use Rattle.plir_text.proofs.Joins.{two}
 use Rattle.plir_text.proofs.print_attrs.put_type_attr.Goals as goal

@@ -1,10 +1,8 @@
-use Rattle.std.proofs.Common.{◌≡◌, ◌∙◌, ◌<◌, ℕ, List, length, [], true, false, refl, sym, ap, arith}
+use Rattle.std.proofs.Common.{◌≡◌, ◌∙◌, length, [], refl, sym, ap, arith}
 use Rattle.std.proofs.lemmas.Result.{err_from_is_err_and}
 use Rattle.plir_text.specs.declared.words.TypeKind.TheVariants.{Integer, Function, Unit}
-use Rattle.plir_text.specs.Terms.{TypeTerm, integer_type, function_type, unit_type, types_of}
-use Rattle.plir_text.specs.Names.{Names}
-use Rattle.plir_text.specs.Lists.{separator_at}
-use Rattle.plir_text.specs.TypeReading.{type_at, type_head, type_body, integer_at, function_at}
+use Rattle.plir_text.specs.Terms.{integer_type, function_type, unit_type, types_of}
+use Rattle.plir_text.specs.TypeReading.{type_at, type_head, integer_at}
 use Rattle.plir_text.proofs.Steps.{done}
 use Rattle.plir_text.proofs.Fronts.{nothing_inside}
 use Rattle.plir_text.proofs.Growth.{Grows-instantiated, Adds-itself, Adds-on, Adds-one, Adds-none, NamesAll-grown, both_live, NamesFront, NamesFront-grown, NamesFront-push}
