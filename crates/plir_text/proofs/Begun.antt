@@ -1,11 +1,10 @@
 -- Tokens that stand first in a text.
-use Rattle.std.proofs.Common.{◌≡◌, ◌⊎◌, ℕ, zero, suc, ◌+◌, ◌-◌, ◌<◌, ◌≤◌, Bool, true, false, cond, nat_eq, ◌||◌, ◌&&◌, List, [], ◌∷◌, ◌++◌, length, Option, Some, None, Result, Ok, Err, refl, sym, ap, subst, ◌∙◌, arith, inl, inr, append_assoc}
+use Rattle.std.proofs.Common.{◌≡◌, ℕ, zero, suc, ◌+◌, ◌<◌, ◌≤◌, Bool, true, false, cond, nat_eq, ◌&&◌, List, [], ◌∷◌, ◌++◌, length, Option, Some, None, Result, Ok, Err, refl, sym, ap, subst, ◌∙◌, arith, inl, inr}
 use Rattle.std.proofs.lemmas.Bool.Decides.{Decides-eqb}
 use Rattle.plir_data.specs.Identifier.{is_letter, is_digit}
 use Rattle.plir_text.specs.declared.fault.Fault.{Fault}
 use Rattle.plir_text.specs.declared.fault.Fault.TheVariants.{Unexpected}
 use Rattle.plir_text.specs.Bytes.{is_blank, is_in_word, past, begins, tail_of}
-use Rattle.plir_text.specs.Steps.{◌>>=◌}
 use Rattle.plir_text.specs.Strings.{unit_at, onward, behind, content_at, string_at}
 use Rattle.plir_text.specs.Tokens.{Token, word, digits, signed, quoted, arrow, sign, is_mark, token_at, look, Takes, Begins}
 use Rattle.plir_text.specs.Lists.{is_sign, sign_at, behind_sign, past_sign, separator_at}

@@ -1,12 +1,11 @@
 -- Reading items one after the other, as a loop does.
-use Rattle.std.proofs.Common.{◌≡◌, ℕ, zero, suc, ◌≤◌, ◌<◌, List, [], ◌∷◌, ◌++◌, length, Bool, true, false, Option, Some, None, Result, Ok, Err, refl, sym, ap, ◌∙◌, append_assoc, append-nil, arith}
+use Rattle.std.proofs.Common.{◌≡◌, ℕ, zero, suc, ◌≤◌, ◌<◌, List, [], ◌∷◌, ◌++◌, length, true, false, Some, None, Result, Ok, Err, refl, sym, ap, ◌∙◌, append_assoc, arith}
 use Rattle.plir_text.specs.declared.fault.Fault.{Fault}
 use Rattle.plir_text.specs.declared.fault.Stop.{Stop}
 use Rattle.plir_text.specs.Steps.{◌>>=◌}
-use Rattle.plir_text.specs.Tokens.{Token, look}
 use Rattle.plir_text.specs.Lists.{sign_at, past_sign, separator_at, with_first, if_more, more_at, unless_closed, items_at}
 use Rattle.plir_text.specs.Reading.{Fails}
-use Rattle.plir_text.proofs.Steps.{done, Fails-bind, Fails-from}
+use Rattle.plir_text.proofs.Steps.{Fails-bind, Fails-from}
 
 -- what was read before, and what is still read
 abbrev pub with_front : {A : Type 0} → List A → Result (List A × List ℕ) Fault → Result (List A × List ℕ) Fault

@@ -1,5 +1,5 @@
 -- Tables of types that grow, and what handles name in them.
-use Rattle.std.proofs.Common.{◌≡◌, ℕ, zero, suc, ◌<◌, ◌≤◌, ◌⊎◌, inl, inr, List, [], ◌∷◌, ◌++◌, length, Some, All, slice_get, refl, sym, ap, subst, ◌∙◌, append-nil, append_assoc, arith}
+use Rattle.std.proofs.Common.{◌≡◌, ℕ, zero, suc, ◌<◌, inl, inr, List, [], ◌∷◌, ◌++◌, length, Some, slice_get, refl, sym, ap, subst, ◌∙◌, append-nil, append_assoc, arith}
 use Rattle.std.proofs.lemmas.Option.{slice_get_within}
 use Rattle.plir_data.specs.Types.{TypeView, integer, function, unit, IsInstantiated, AllLive, type_at}
 use Rattle.plir_text.specs.Terms.{TypeTerm, integer_type, function_type, unit_type, TypeTerms, no_types, type_before, types_of}
@@ -58,6 +58,16 @@ module _ {T : Type 0} where
   pub NamesAll-push : (xs : List (TypeView T)) (hs : List ℕ) (ts : List TypeTerm) (h : ℕ) (t : TypeTerm) → NamesAll xs hs (types_of ts) → Names xs h t → NamesAll xs (hs ++ h ∷ []) (types_of (ts ++ t ∷ []))
   NamesAll-push xs hs [] h t n m = (h, [], m, refl, ap (λ (l : List ℕ). l ++ h ∷ []) n)
   NamesAll-push xs hs (s ∷ ts) h t n m = (n.0, n.1 ++ h ∷ [], n.2, NamesAll-push xs n.1 ts h t n.3 m, ap (λ (l : List ℕ). l ++ h ∷ []) n.4)
+
+  -- handles of the types read so far
+  abbrev pub NamesFront : List (TypeView T) → List ℕ → List TypeTerm → Type 0
+  NamesFront types hs front = NamesAll types hs (types_of front)
+
+  pub NamesFront-grown : (xs ys : List (TypeView T)) (hs : List ℕ) (ts : List TypeTerm) → Grows xs ys → NamesFront xs hs ts → NamesFront ys hs ts
+  NamesFront-grown xs ys hs ts g n = NamesAll-grown xs ys hs (types_of ts) g n
+
+  pub NamesFront-push : (xs : List (TypeView T)) (hs ks : List ℕ) (ts : List TypeTerm) (h : ℕ) (t : TypeTerm) → ks ≡ hs ++ h ∷ [] → NamesFront xs hs ts → Names xs h t → NamesFront xs ks (ts ++ t ∷ [])
+  NamesFront-push xs hs ks ts h t e n m = subst (λ (l : List ℕ). NamesAll xs l (types_of (ts ++ t ∷ []))) (sym e) (NamesAll-push xs hs ts h t n m)
 
 module _ {S T : Type 0} {types : S → List (TypeView T)} {same : S → S → Type 0} where
   pub Adds-itself : ((c : S) → same c c) → (c : S) → Adds types same c c

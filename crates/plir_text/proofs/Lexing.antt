@@ -1,10 +1,9 @@
 -- Tokens, and how much of the text they take.
-use Rattle.std.proofs.Common.{◌≡◌, ◌⊎◌, ℕ, zero, suc, ◌+◌, ◌-◌, ◌*◌, ◌<◌, ◌≤◌, Bool, true, false, cond, nat_eq, ◌||◌, ◌&&◌, List, [], ◌∷◌, ◌++◌, length, get_or, take, drop, Result, Ok, Err, refl, sym, ap, subst, arith, inl, inr}
+use Rattle.std.proofs.Common.{◌≡◌, ℕ, suc, ◌+◌, ◌-◌, ◌*◌, ◌≤◌, Bool, true, false, cond, List, [], ◌∷◌, length, get_or, take, drop, Ok, refl, ap, subst, arith}
 use Rattle.std.proofs.lemmas.List.{take_all}
-use Rattle.plir_data.specs.Identifier.{is_letter, is_digit}
-use Rattle.plir_text.specs.declared.fault.Fault.{Fault}
-use Rattle.plir_text.specs.Bytes.{is_blank, is_in_word, front, past, begins, value_after, hex_value, hex_after}
-use Rattle.plir_text.specs.Tokens.{Token, word, token_at, look}
+use Rattle.plir_data.specs.Identifier.{is_letter}
+use Rattle.plir_text.specs.Bytes.{is_in_word, front, past, value_after, hex_value, hex_after}
+use Rattle.plir_text.specs.Tokens.{word, token_at}
 
 choice-length : (t : Bool) (xs ys : List ℕ) (n : ℕ) → length xs ≤ n → length ys ≤ n → length (cond t xs ys) ≤ n
 choice-length true xs ys n p q = p

@@ -3,7 +3,7 @@ pub mod Lexing
 pub mod Quoted
 pub mod Fronts
 pub mod Growth
-pub mod Collecting
+pub mod Gathering
 pub mod TypeSteps
 pub mod Begun
 pub mod ListsFound
@@ -12,3 +12,17 @@ pub mod ListsAgain
 pub mod TypesAgain
 pub mod Wholes
 pub mod SameNames
+pub mod Escapes
+pub mod Joins
+pub mod Nested
+pub mod Meanings
+pub mod AttrSteps
+pub mod LeavesFound
+pub mod AttrsFound
+pub mod LeavesAgain
+pub mod AttrsAgain
+pub mod Ascii
+pub mod Values
+pub mod SameMeanings
+pub mod Printed
+pub mod ReadBack

@@ -1,11 +1,10 @@
 -- Lists that stand there are read.
-use Rattle.std.proofs.Common.{◌≡◌, ℕ, zero, suc, ◌-◌, ◌+◌, ◌<◌, ◌≤◌, Bool, true, false, nat_eq, List, [], ◌∷◌, ◌++◌, length, Option, Some, None, Result, Ok, Err, refl, sym, ap, subst, ◌∙◌, arith, append_assoc}
+use Rattle.std.proofs.Common.{◌≡◌, ℕ, zero, suc, ◌-◌, ◌<◌, ◌≤◌, false, nat_eq, List, [], ◌∷◌, ◌++◌, length, None, Result, Ok, Err, refl, sym, ap, subst, ◌∙◌, arith, append_assoc}
 use Rattle.plir_text.specs.declared.fault.Fault.{Fault}
-use Rattle.plir_text.specs.Bytes.{is_blank, past}
 use Rattle.plir_text.specs.Steps.{◌>>=◌}
-use Rattle.plir_text.specs.Tokens.{Token, word, sign, look, Begins}
+use Rattle.plir_text.specs.Tokens.{Token, word, sign, Begins}
 use Rattle.plir_text.specs.TypeGrammar.{enclosed, IsText}
-use Rattle.plir_text.specs.Lists.{sign_at, past_sign, separator_at, with_first, if_more, more_at, unless_closed, items_at}
+use Rattle.plir_text.specs.Lists.{past_sign, separator_at, with_first, if_more, more_at, items_at}
 use Rattle.plir_text.specs.Wholes.{end_at, whole}
 use Rattle.plir_text.proofs.Steps.{done, ok_is}
 use Rattle.plir_text.proofs.Begun.{Begins-split, Begins-length, Takes-shorter, sign_again, past_sign_again, no_sign, closed_again, comma_again}

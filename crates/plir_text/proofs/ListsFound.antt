@@ -1,13 +1,14 @@
 -- Lists that are read stand there.
-use Rattle.std.proofs.Common.{◌≡◌, ◌⊎◌, ℕ, zero, suc, ◌<◌, ◌≤◌, Bool, true, false, List, [], ◌∷◌, ◌++◌, length, Option, Some, None, Result, Ok, Err, refl, sym, ap, subst, ◌∙◌, arith, append-nil, append_assoc}
+use Rattle.std.proofs.Common.{◌≡◌, ℕ, zero, suc, Bool, true, false, List, [], ◌∷◌, ◌++◌, length, Option, Some, None, Result, Ok, refl, sym, ap, subst, append-nil, append_assoc}
 use Rattle.plir_text.specs.declared.fault.Fault.{Fault}
 use Rattle.plir_text.specs.Bytes.{is_blank, past}
 use Rattle.plir_text.specs.Steps.{◌>>=◌}
 use Rattle.plir_text.specs.Tokens.{Token, sign, look, Begins}
 use Rattle.plir_text.specs.TypeGrammar.{enclosed, IsText}
+use Rattle.plir_text.specs.AttrGrammar.{SpellsMore, SpellsSeveral}
 use Rattle.plir_text.specs.Lists.{sign_at, past_sign, separator_at, with_first, if_more, more_at, unless_closed, items_at}
 use Rattle.plir_text.specs.Wholes.{if_none_left, end_at, whole}
-use Rattle.plir_text.proofs.Steps.{bind_ok, done, ok_is}
+use Rattle.plir_text.proofs.Steps.{bind_ok, ok_is}
 use Rattle.plir_text.proofs.Begun.{Begins-append, sign_found, past_sign_found, separator, separator_found}
 
 -- a reader finds things that tokens stand for
@@ -19,15 +20,11 @@ pub record FoundOne {A : Type 0} (E : A → List Token → Type 0) (bytes : List
 abbrev pub IsSound : {A : Type 0} → (A → List Token → Type 0) → (List ℕ → Result (A × List ℕ) Fault) → Type 0
 IsSound {A} E read = (bytes : List ℕ) (x : A × List ℕ) → read bytes ≡ Ok x → FoundOne E bytes x.0 x.1
 
--- several, each behind a comma
 abbrev pub More : {A : Type 0} → (A → List Token → Type 0) → List A → List Token → Type 0
-More E [] ts = ts ≡ []
-More E (x ∷ xs) ts = (first more : List Token) × E x first × More E xs more × (ts ≡ sign 44 ∷ (first ++ more))
+More {A} E xs ts = SpellsMore E xs ts
 
--- several, with commas between them
 abbrev pub Several : {A : Type 0} → (A → List Token → Type 0) → List A → List Token → Type 0
-Several E [] ts = ts ≡ []
-Several E (x ∷ xs) ts = (first more : List Token) × E x first × More E xs more × (ts ≡ first ++ more)
+Several {A} E xs ts = SpellsSeveral E xs ts
 
 none_left_is : (rest : List ℕ) (u : Unit {0}) → if_none_left rest ≡ Ok u → rest ≡ []
 none_left_is [] u e = refl

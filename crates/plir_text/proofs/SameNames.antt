@@ -1,6 +1,6 @@
 -- A type that is written is named by one handle of a table at most.
-use Rattle.std.proofs.Common.{◌≡◌, ℕ, List, [], ◌∷◌, Some, refl, sym, ap, subst, ◌∙◌}
-use Rattle.plir_data.specs.Types.{TypeView, integer, function, unit, IsTypeTable, type_at}
+use Rattle.std.proofs.Common.{◌≡◌, ℕ, List, ◌∷◌, Some, sym, ap, ◌∙◌}
+use Rattle.plir_data.specs.Types.{TypeView, integer, function, unit, IsTypeTable}
 use Rattle.plir_text.specs.Terms.{TypeTerm, integer_type, function_type, unit_type, TypeTerms, no_types, type_before}
 use Rattle.plir_text.specs.Names.{Names, NamesAll}
 

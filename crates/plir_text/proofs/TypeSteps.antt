@@ -4,10 +4,10 @@ use Rattle.plir_text.specs.declared.fault.Fault.{Fault}
 use Rattle.plir_text.specs.declared.fault.Stop.{Stop}
 use Rattle.plir_text.specs.declared.words.TypeKind.{TypeKind}
 use Rattle.plir_text.specs.Steps.{◌>>=◌}
-use Rattle.plir_text.specs.Terms.{TypeTerm, TypeTerms, types_of}
+use Rattle.plir_text.specs.Terms.{TypeTerm, types_of}
 use Rattle.plir_text.specs.Lists.{sign_at, items_at}
 use Rattle.plir_text.specs.TypeReading.{arrow_at, function_at, type_head, type_body, type_at}
-use Rattle.plir_text.specs.Reading.{Reads, Fails}
+use Rattle.plir_text.specs.Reading.{Reads}
 use Rattle.plir_text.proofs.Steps.{done, Fails-bind, Fails-from}
 
 pub type_at-body : (n : ℕ) (bytes rest : List ℕ) (k : TypeKind) → 0 < n → type_head bytes ≡ Ok (k, rest) → type_at n bytes ≡ type_body (type_at (n - 1)) k rest

@@ -1,25 +1,24 @@
 -- Types that stand there are read.
-use Rattle.std.proofs.Common.{◌≡◌, ℕ, zero, suc, max, ◌+◌, ◌-◌, ◌<◌, ◌≤◌, ◌^◌, ◌&&◌, nat_eq, nat_lt, Bool, true, false, List, [], ◌∷◌, ◌++◌, length, codes, Option, None, Result, Ok, Err, refl, sym, ap, subst, ◌∙◌, arith, append_assoc}
+use Rattle.std.proofs.Common.{◌≡◌, ℕ, zero, suc, ◌<◌, ◌≤◌, ◌^◌, ◌&&◌, nat_lt, Bool, true, false, List, [], ◌∷◌, ◌++◌, codes, None, Result, Ok, refl, ap, subst, ◌∙◌, arith}
 use Rattle.std.proofs.lemmas.Bool.Decides.{Decides-ltb}
 use Rattle.plir_data.specs.Identifier.{is_digit}
 use Rattle.plir_data.specs.declared.types.Signedness.{Signedness}
 use Rattle.plir_data.specs.declared.types.Signedness.TheVariants.{Signed, Unsigned, Signless}
 use Rattle.plir_data.specs.TypeText.{letters}
 use Rattle.plir_text.specs.declared.fault.Fault.{Fault}
-use Rattle.plir_text.specs.Bytes.{front, begins, all_pass, is_digits, value_after}
-use Rattle.plir_text.specs.Steps.{◌>>=◌}
+use Rattle.plir_text.specs.Bytes.{begins, all_pass, is_digits, value_after}
 use Rattle.plir_text.specs.Terms.{TypeTerm, integer_type, function_type, unit_type, TypeTerms, no_types, type_before, types_of, type_levels, types_levels}
 use Rattle.plir_text.specs.Tokens.{Token, word, arrow, sign, look, Begins}
-use Rattle.plir_text.specs.TypeGrammar.{enclosed, in_angles, SpellsInteger, SpellsType, SpellsTypes, SpellsMoreTypes, SpellsFunction, TypeWithin, IsInteger, FunctionWithin}
-use Rattle.plir_text.specs.Lists.{sign_at, past_sign, items_at}
-use Rattle.plir_text.specs.TypeReading.{word_at, arrow_at, type_kind, width_of, integer_of, integer_at, function_at, type_head, type_body, type_at}
+use Rattle.plir_text.specs.TypeGrammar.{enclosed, in_angles, SpellsInteger, SpellsType, SpellsTypes, SpellsMoreTypes, TypeWithin, IsInteger, FunctionWithin}
+use Rattle.plir_text.specs.Lists.{past_sign}
+use Rattle.plir_text.specs.TypeReading.{type_kind, width_of, integer_of, integer_at, function_at, type_head, type_at}
 use Rattle.plir_text.proofs.Steps.{done}
 use Rattle.plir_text.proofs.Begun.{Begins-split, word_again, arrow_again, sign_again}
 use Rattle.plir_text.proofs.ListsFound.{More, Several}
 use Rattle.plir_text.proofs.ListsAgain.{IsRead, several_read, word_opens}
-use Rattle.plir_text.proofs.TypesFound.{both, front_all, FunctionOf}
+use Rattle.plir_text.proofs.TypesFound.{front_all, FunctionOf}
 
-parts : (a b : Bool) → (a && b) ≡ true → (a ≡ true) × (b ≡ true)
+pub parts : (a b : Bool) → (a && b) ≡ true → (a ≡ true) × (b ≡ true)
 parts true b e = (refl, e)
 parts false b e = absurd cc
 

@@ -1,5 +1,5 @@
 -- Types that are read stand there.
-use Rattle.std.proofs.Common.{◌≡◌, ◌⊎◌, ℕ, zero, suc, max, ◌+◌, ◌-◌, ◌<◌, ◌≤◌, ◌^◌, ◌&&◌, nat_eq, nat_lt, Bool, true, false, cond, List, [], ◌∷◌, ◌++◌, length, codes, Result, Ok, Err, refl, sym, ap, subst, ◌∙◌, arith, inl, inr, append_assoc}
+use Rattle.std.proofs.Common.{◌≡◌, ◌⊎◌, ℕ, zero, suc, ◌<◌, ◌≤◌, ◌^◌, ◌&&◌, nat_eq, nat_lt, Bool, true, false, cond, List, [], ◌∷◌, ◌++◌, length, codes, Result, Ok, Err, refl, sym, ap, subst, ◌∙◌, arith, inl, inr}
 use Rattle.std.specs.Str.{bytes_eq}
 use Rattle.std.proofs.lemmas.Slice.Eq.{bytes_eq-Decides}
 use Rattle.std.proofs.lemmas.Bool.Decides.{Decides-eqb, Decides-ltb}
@@ -8,14 +8,14 @@ use Rattle.plir_data.specs.declared.types.Signedness.{Signedness}
 use Rattle.plir_data.specs.declared.types.Signedness.TheVariants.{Signed, Unsigned, Signless}
 use Rattle.plir_data.specs.TypeText.{letters}
 use Rattle.plir_text.specs.declared.fault.Fault.{Fault}
-use Rattle.plir_text.specs.declared.fault.Fault.TheVariants.{Unexpected, IntegerOutOfRange, TooDeep}
+use Rattle.plir_text.specs.declared.fault.Fault.TheVariants.{TooDeep}
 use Rattle.plir_text.specs.declared.words.TypeKind.{TypeKind}
 use Rattle.plir_text.specs.declared.words.TypeKind.TheVariants.{Integer, Function, Unit}
 use Rattle.plir_text.specs.Bytes.{front, begins, all_pass, is_digits, value_after}
 use Rattle.plir_text.specs.Steps.{◌>>=◌}
-use Rattle.plir_text.specs.Terms.{TypeTerm, integer_type, function_type, unit_type, TypeTerms, no_types, type_before, types_of, type_levels, types_levels}
-use Rattle.plir_text.specs.Tokens.{Token, word, arrow, sign, look, Begins}
-use Rattle.plir_text.specs.TypeGrammar.{enclosed, in_angles, SpellsInteger, SpellsType, SpellsTypes, SpellsMoreTypes, SpellsFunction, TypeWithin, IsInteger}
+use Rattle.plir_text.specs.Terms.{TypeTerm, integer_type, function_type, unit_type, TypeTerms, types_of, types_levels}
+use Rattle.plir_text.specs.Tokens.{Token, word, arrow, sign, look}
+use Rattle.plir_text.specs.TypeGrammar.{enclosed, in_angles, SpellsType, SpellsTypes, SpellsMoreTypes, SpellsFunction, TypeWithin, IsInteger}
 use Rattle.plir_text.specs.Lists.{sign_at, items_at}
 use Rattle.plir_text.specs.TypeReading.{word_at, arrow_at, type_kind, width_of, integer_of, integer_at, function_at, type_head, type_body, type_at}
 use Rattle.plir_text.proofs.Steps.{chosen, bind_ok, done, ok_is}

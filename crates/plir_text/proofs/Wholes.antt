@@ -1,5 +1,5 @@
 -- Readers of whole texts, and what they refuse.
-use Rattle.std.proofs.Common.{◌≡◌, ◌≢◌, ◌≤◌, ◌+◌, ℕ, zero, suc, max, arith, List, Result, Ok, Err, refl, sym, ap, ◌∙◌}
+use Rattle.std.proofs.Common.{◌≡◌, ◌≢◌, ◌≤◌, ◌+◌, ℕ, suc, arith, List, Result, Ok, Err, refl, sym, ap, ◌∙◌}
 use Rattle.plir_data.specs.declared.types.Signedness.{Signedness}
 use Rattle.plir_text.specs.declared.fault.Fault.{Fault}
 use Rattle.plir_text.specs.declared.fault.Fault.TheVariants.{Memory}
@@ -12,7 +12,7 @@ use Rattle.plir_text.specs.Wholes.{end_at, whole}
 use Rattle.plir_text.specs.Steps.{◌>>=◌}
 use Rattle.plir_text.specs.Reading.{Fails, fault_of}
 use Rattle.plir_text.proofs.Steps.{done, Fails-bind, Fails-from}
-use Rattle.plir_text.proofs.ListsFound.{FoundOne, IsSound, whole_found}
+use Rattle.plir_text.proofs.ListsFound.{IsSound, whole_found}
 use Rattle.plir_text.proofs.ListsAgain.{refused, only_one}
 use Rattle.plir_text.proofs.TypesFound.{integer_found, function_found, type_found}
 use Rattle.plir_text.proofs.TypesAgain.{integer_again, type_within_again, function_within_again}

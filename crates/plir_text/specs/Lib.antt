@@ -11,3 +11,8 @@ pub mod Lists
 pub mod TypeReading
 pub mod Wholes
 pub mod Reading
+pub mod AttrGrammar
+pub mod Written
+pub mod AttrText
+pub mod AttrReading
+pub mod Meaning

@@ -1,5 +1,5 @@
 -- A text as tokens, with white space between them.
-use Rattle.std.specs.Prelude.{◌≡◌, ℕ, List, [], ◌∷◌, Bool, true, false, ◌||◌, ◌&&◌, nat_eq, Result, Ok, Err, if◌then◌else◌}
+use Rattle.std.specs.Prelude.{◌≡◌, ℕ, List, [], ◌∷◌, Bool, ◌||◌, ◌&&◌, nat_eq, Result, Ok, Err, if◌then◌else◌}
 use Rattle.plir_data.specs.Identifier.{is_letter, is_digit}
 use Rattle.plir_text.specs.Bytes.{is_blank, is_in_word, front, past, begins, tail_of, value_after}
 use Rattle.plir_text.specs.Strings.{string_at}

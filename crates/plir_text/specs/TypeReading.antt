@@ -1,5 +1,5 @@
 -- Types as they are read.
-use Rattle.std.specs.Prelude.{ℕ, zero, suc, ◌^◌, List, [], ◌∷◌, Bool, Result, Ok, Err, codes, nat_eq, nat_lt, if◌then◌else◌}
+use Rattle.std.specs.Prelude.{ℕ, zero, suc, ◌^◌, List, [], ◌∷◌, Result, Ok, Err, codes, nat_eq, nat_lt, if◌then◌else◌}
 use Rattle.std.specs.Str.{bytes_eq}
 use Rattle.plir_data.specs.Identifier.{is_digit}
 use Rattle.plir_data.specs.declared.types.Signedness.{Signedness}

@@ -1,9 +1,14 @@
 //! Texts of types and attributes: readers and printers.
 #![tactic(auto)]
 
+mod attr_words;
+mod attrs;
 mod fault;
 pub mod laws;
 mod place;
+mod print_attrs;
+mod put;
+mod read_attrs;
 mod read_types;
 mod strings;
 mod tokens;
@@ -11,6 +16,8 @@ mod types;
 mod words;
 
 pub use fault::{Fault, ReadErr};
+pub use print_attrs::print_attr;
+pub use read_attrs::read_attr;
 pub use read_types::{read_function_type, read_integer_type, read_type};
 
 #[cfg(test)]

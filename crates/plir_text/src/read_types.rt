@@ -16,7 +16,7 @@ use plir_data::{OpSet, TypeHandle, TypeStore};
 use std::alloc::Global;
 
 // How many levels of a text may be open at one place.
-const MAX_LEVELS: usize = 200;
+pub const MAX_LEVELS: usize = 200;
 
 #[tactic(auto, unfolding(crate::specs::Wholes::whole))]
 fn whole_type<D: OpSet, C: TypeStore<D>>(

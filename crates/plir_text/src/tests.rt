@@ -3,5 +3,8 @@
 //! A call that takes memory is made once more where its first try was refused, so a test ends the
 //! same way whichever request is refused.
 
+mod attributes;
+mod hostile;
+mod memory;
 mod sample_set;
 mod types;

@@ -4,6 +4,7 @@ use super::sample_set::SampleSet;
 use crate::{Fault, ReadErr, read_function_type, read_integer_type, read_type};
 use plir_data::{
     FunctionTypeInterface, IntegerType, Signedness, TypeHandle, TypeObj, TypeTable, TypedHandle,
+    type_text,
 };
 use std::alloc::{AllocError, Global};
 use std::process::Abort;
@@ -139,6 +140,11 @@ fn white_space_is_free(rt: HostRuntime) {
     let handle = read(&rt, alloc, &mut table, spaced);
     assert_eq!(&rt; read(&rt, alloc, &mut table, plain), handle);
     assert_eq!(&rt; table.len(), 3);
+    assert!(&rt; table.is_live(handle));
+    match type_text(alloc, &table, handle) {
+        Ok(text) => assert_eq!(&rt; text.as_str(), plain),
+        Err(_) => panic!(&rt; "out of memory"),
+    }
 }
 
 #[test]

@@ -1,5 +1,5 @@
 use Rattle.std.proofs.Common.{ap, sym, ◌∙◌}
-use Rattle.plir_text.specs.TypeReading.{integer_at, function_at, type_at}
+use Rattle.plir_text.specs.TypeReading.{integer_at}
 use Rattle.plir_text.specs.Wholes.{whole}
 use Rattle.plir_text.proofs.Wholes.{told, integer_text_found, integer_text_refused}
 use Rattle.plir_text.proofs.read_types.read_integer_type.Goals as goal

@@ -1,5 +1,5 @@
 use Rattle.std.proofs.Common.{ap, sym, ◌∙◌}
-use Rattle.plir_text.specs.TypeReading.{integer_at, function_at, type_at}
+use Rattle.plir_text.specs.TypeReading.{type_at}
 use Rattle.plir_text.specs.Wholes.{whole}
 use Rattle.plir_text.proofs.Wholes.{told, type_text_found, type_text_refused}
 use Rattle.plir_text.proofs.read_types.read_type.Goals as goal

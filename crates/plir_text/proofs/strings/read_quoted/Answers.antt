@@ -1,4 +1,4 @@
-use Rattle.std.proofs.Common.{◌≡◌, ap, sym, ◌∙◌, Some, option_map, rules, arith}
+use Rattle.std.proofs.Common.{◌≡◌, ap, ◌∙◌, Some, option_map}
 use Rattle.std.proofs.lemmas.Result.{err_from_is_err_and}
 use Rattle.plir_text.specs.Strings.{unit_at}
 use Rattle.plir_text.specs.Units.{bytes_of}

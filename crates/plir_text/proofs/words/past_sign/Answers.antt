@@ -1,4 +1,4 @@
-use Rattle.std.proofs.Common.{◌≡◌, ◌≢◌, ℕ, List, None, Result, Err, sym, refl}
+use Rattle.std.proofs.Common.{◌≡◌, ◌≢◌, ℕ, List, None, Result, refl}
 use Rattle.plir_text.specs.declared.fault.Fault.{Fault}
 use Rattle.plir_text.specs.declared.fault.Stop.{Stop}
 use Rattle.plir_text.specs.declared.fault.Stop.TheVariants.{Wanting, At}
