@@ -1,9 +1,9 @@
 -- A map of attributes beside the dictionary that it stands for.
-use Rattle.std.proofs.Common.{◌≡◌, ℕ, Bool, true, false, true≢false, cond, List, [], ◌∷◌, String, string_bytes, Ordering, Less, Equal, Greater, Option, Some, None, IsSome, option_map, Bor, nat_cmp, refl, ap, subst, sym, ◌∙◌, ◌++◌, append_assoc, append-nil}
+use Rattle.std.proofs.Common.{◌≡◌, ℕ, Bool, true, false, true≢false, cond, List, [], ◌∷◌, String, string_bytes, Ordering, Less, Equal, Greater, Option, Some, None, IsSome, option_map, Bor, MutBor, nat_cmp, refl, ap, subst, sym, ◌∙◌, ◌++◌, append_assoc, append-nil}
 use Rattle.std.specs.declared.alloc.Global.{Global}
 use Rattle.std.specs.Map.{lookup, remove_entry, set_value}
 use Rattle.std.specs.BTreeMap.{insert_entry, is_at}
-use Rattle.std.specs.Option.{option_copied}
+use Rattle.std.specs.Option.{option_copied, option_copied_mut, OnSome}
 use Rattle.std.proofs.lemmas.Cmp.{nat_list_cmp_total}
 use Rattle.std.specs.Ordering.{match_ordering, ordering_reverse, is_eq}
 use Rattle.std.specs.Cmp.Lexicographic.{slice_cmp}
@@ -174,3 +174,15 @@ module _ {D K A T E : Type 0} where
 
   pub dictionary_written : (es fs : List (String Global × AttrObj D K A T E)) (k : List ℕ) (v : AttrObj D K A T E) → IsDictionary (pairs_view es) → fs ≡ set_value (is_at (order_of k)) es v → IsDictionary (pairs_view fs)
   dictionary_written es fs k v d w = subst IsDictionary (sym (ap pairs_view w ∙ written_view es k v)) (dictionary_with (pairs_view es) k (attr_view v) d)
+
+  -- what a map lends, and what is written through it
+  lent_view : (r : Option (MutBor (AttrObj D K A T E))) → option_map (λ a. attr_view a.now) r ≡ option_map attr_view (option_copied_mut r)
+  lent_view None = refl
+  lent_view (Some a) = refl
+
+  pub lent : (r : Option (MutBor (AttrObj D K A T E))) (es : List (String Global × AttrObj D K A T E)) (seen : List (List ℕ × AttrView A)) (k : List ℕ) → pairs_view es ≡ seen → option_copied_mut r ≡ lookup (is_at (order_of k)) es → option_map (λ a. attr_view a.now) r ≡ dict_get seen k
+  lent r es seen k s e = lent_view r ∙ taken (option_copied_mut r) es seen k s e
+
+  pub lent_written : (r : Option (MutBor (AttrObj D K A T E))) (es fs : List (String Global × AttrObj D K A T E)) (seen : List (List ℕ × AttrView A)) (k : List ℕ) (v : AttrObj D K A T E) → pairs_view es ≡ seen → IsDictionary (pairs_view es) → option_copied_mut r ≡ lookup (is_at (order_of k)) es → fs ≡ set_value (is_at (order_of k)) es v → OnSome r (pairs_view fs ≡ dict_put seen k (attr_view v))
+  lent_written None es fs seen k v s d e w = tt
+  lent_written (Some x) es fs seen k v s d e w = written es fs seen k v x.now s d e w

@@ -1,5 +1,5 @@
 -- Texts of lists of types, from the front on.
-use Rattle.std.proofs.Common.{◌≡◌, ℕ, zero, suc, ◌+◌, ◌<◌, ◌≤◌, max, Bool, true, false, List, [], ◌∷◌, ◌++◌, length, get_or, All, Some, refl, sym, ap, subst, ◌∙◌, arith, append_assoc, append-nil}
+use Rattle.std.proofs.Common.{◌≡◌, ℕ, zero, suc, ◌<◌, ◌≤◌, max, Bool, true, false, List, [], ◌∷◌, ◌++◌, length, get_or, All, Some, refl, sym, ap, subst, ◌∙◌, arith, append_assoc, append-nil}
 use Rattle.plir_data.specs.TypeTree.{TypeTree, Trees, no_trees, tree}
 use Rattle.plir_data.specs.TypeSeen.{type_view}
 use Rattle.plir_data.specs.TypeText.{tree_text, type_text, type_text_over, comma}

@@ -1,7 +1,7 @@
 -- The tree of a handle, by those of the handles that its type holds.
-use Rattle.std.proofs.Common.{◌≡◌, ℕ, zero, suc, ◌+◌, ◌<◌, ◌≤◌, Bool, true, false, List, [], ◌∷◌, ◌++◌, length, map, Option, Some, None, All, refl, sym, ap, ◌∙◌, arith, length-append, string_bytes, append_assoc, append-nil}
+use Rattle.std.proofs.Common.{◌≡◌, ℕ, zero, suc, ◌<◌, Bool, true, false, List, [], ◌∷◌, ◌++◌, map, Option, Some, None, All, refl, ap, ◌∙◌, arith}
 use Rattle.plir_data.specs.Types.{TypeView, integer, function, unit, own, IsTypeTable, handles_of, type_at}
-use Rattle.plir_data.specs.TypeTree.{TypeTree, Trees, no_trees, tree, trees_of, tree_over, tree_if, tree_within, tree_of, function_tree}
+use Rattle.plir_data.specs.TypeTree.{TypeTree, Trees, trees_of, tree_over, tree_if, tree_within, tree_of, function_tree}
 use Rattle.plir_data.specs.TypeText.{trees_text, more_trees_text, type_text, type_text_over, tree_text}
 
 module _ {X : Type 0} where

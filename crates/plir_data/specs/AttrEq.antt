@@ -1,5 +1,5 @@
 -- Equality of attributes.
-use Rattle.std.specs.Prelude.{ℕ, List, [], ◌∷◌, Bool, true, false, ◌&&◌, nat_eq}
+use Rattle.std.specs.Prelude.{Bool, true, false, ◌&&◌, nat_eq}
 use Rattle.std.specs.Cmp.Lexicographic.{pointwise}
 use Rattle.std.specs.Option.{option_eq}
 use Rattle.plir_data.specs.AttrView.{Leaf, identifier, string, bool, integer, unit, type_of, operand_segment_sizes, given_names, own, AttrView, leaf, dict, vec, Items, no_items, item, Entries, no_entries, entry}

@@ -1,7 +1,7 @@
 -- Attributes whose handles name types of a table.
 use Rattle.std.specs.Prelude.{ℕ, List, [], ◌∷◌}
 use Rattle.plir_data.specs.Types.{TypeView, AllLive}
-use Rattle.plir_data.specs.AttrView.{Leaf, identifier, string, bool, integer, unit, type_of, operand_segment_sizes, given_names, own, AttrView, leaf, dict, vec, Items, no_items, item, Entries, no_entries, entry}
+use Rattle.plir_data.specs.AttrView.{Leaf, integer, type_of, own, AttrView, leaf, dict, vec, Items, no_items, item, Entries, no_entries, entry}
 
 module _ {A : Type 0} where
   -- the type handles in a leaf

@@ -1,5 +1,5 @@
 -- Integers of some bits.
-use Rattle.std.specs.Prelude.{◌≡◌, ℕ, ◌+◌, ◌-◌, ◌*◌, ◌%◌, ◌^◌, ◌<◌, ◌≤◌, ◌++◌, List, ℤ, pos, negsuc, Bool, true, false, ◌&&◌, nat_lt, nat_le, not, if◌then◌else◌, codes}
+use Rattle.std.specs.Prelude.{ℕ, ◌-◌, ◌%◌, ◌^◌, ◌++◌, List, ℤ, pos, negsuc, Bool, ◌&&◌, nat_le, if◌then◌else◌, codes}
 use Rattle.std.specs.Fmt.{decimal}
 
 -- the bits of a whole number in a width: the number modulo two to the width

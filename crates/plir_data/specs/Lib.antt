@@ -15,7 +15,7 @@
 --   AttrLive     IsAttrLive: the handles in an attribute name types of a table
 --   AttrVerify   attr_is_valid, IsRefusal: which attributes are valid, and how others are refused
 --   TypeTree, TypeText   tree_of, type_text: a type as a whole, and its text
---   NamesLent    LendsNames: what becomes of given names that are lent
+--   NamesLent, EntryLent   LendsNames, LendsEntry: what becomes of given names, and of a dictionary's entry, that are lent
 --   Laws         IsReordered, OrderIsNotSeen: laws of dictionaries
 --   AttrCode, AttrFalls, AttrLaws   what the prover needs of attributes that hold attributes
 pub mod Identifier
@@ -38,5 +38,6 @@ pub mod AttrLive
 pub mod AttrVerify
 pub mod Laws
 pub mod NamesLent
+pub mod EntryLent
 pub mod TypeTree
 pub mod TypeText

@@ -1,12 +1,13 @@
 //! What can be asked of an attribute, whatever its kind.
 
-ghost use Rattle.std.specs.Prelude.{◌≡◌, ℕ, Bool, true, Option, Some, Ok};
+ghost use Rattle.std.specs.Prelude.{◌≡◌, ℕ, Bool, true, Option, Some, Ok, ⊤};
 ghost use Rattle.plir_data.specs.AttrSeen.{attr_view};
 ghost use Rattle.plir_data.specs.AttrCalls.{attr_id, attr_type, is_outlined};
 
-use crate::attributes::{AttrObj, GivenNamesAttr, IntegerAttr, TypeAttr};
+use crate::attributes::{AttrObj, GivenNamesAttr};
 use crate::memory::Memory;
 use crate::op_set::OpSet;
+use crate::plain_attrs::{IntegerAttr, TypeAttr};
 use crate::types::TypeHandle;
 
 impl<D: OpSet> AttrObj<D> {
@@ -53,27 +54,31 @@ impl<D: OpSet> AttrObj<D> {
     }
 }
 
-/// What has a type.
-pub trait Typed {
-    ghost type_of: { Self → ℕ };
+/// What has a type; where the type is looked up in a context, the context is asked.
+pub trait Typed<C> {
+    // Where there is a type to be had, and which.
+    ghost has_type: { C → Self → Type 0 } = { λ _ _. ⊤ };
+
+    ghost type_of: { C → Self → ℕ };
 
     /// The type.
-    fn get_type(&self) -> TypeHandle
-        ensures { result ≡ type_of self.now };
+    fn get_type(&self, ctx: &C) -> TypeHandle
+        requires { has_type ctx.now self.now }
+        ensures { result ≡ type_of ctx.now self.now };
 }
 
-impl Typed for IntegerAttr {
-    ghost type_of = { λ a. a.ty };
+impl<C> Typed<C> for IntegerAttr {
+    ghost type_of = { λ _ a. a.ty };
 
-    fn get_type(&self) -> TypeHandle {
+    fn get_type(&self, _ctx: &C) -> TypeHandle {
         self.get_type().into()
     }
 }
 
-impl Typed for TypeAttr {
-    ghost type_of = { λ a. a.0 };
+impl<C> Typed<C> for TypeAttr {
+    ghost type_of = { λ _ a. a.0 };
 
-    fn get_type(&self) -> TypeHandle {
+    fn get_type(&self, _ctx: &C) -> TypeHandle {
         self.get_type()
     }
 }
@@ -135,7 +140,7 @@ impl OutlinedAttr for GivenNamesAttr {
 /// Outlined attributes that are printed once.
 pub trait PrintOnceAttr: OutlinedAttr {
     /// Accepts always.
-    final fn verify_once<C>(&self, _ctx: &C) -> Result<(), Memory>
+    final fn verify<C>(&self, _ctx: &C) -> Result<(), Memory>
         ensures { result ≡ Ok tt }
     {
         Ok(())

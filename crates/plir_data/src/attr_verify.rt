@@ -1,6 +1,6 @@
 //! Which attributes are valid.
 
-ghost use Rattle.std.specs.Prelude.{◌≡◌, ⊤};
+ghost use Rattle.std.specs.Prelude.{◌≡◌, ⊤, Ok};
 ghost use Rattle.plir_data.specs.AttrLive.{IsAttrLive, AreItemsLive};
 ghost use Rattle.plir_data.specs.AttrSeen.{attr_view};
 ghost use Rattle.plir_data.specs.AttrVerify.{is_of_width, attr_is_valid, items_are_valid, IsLeafRefusal, IsRefusal, IsFirstRefusal};
@@ -9,9 +9,11 @@ ghost use Rattle.plir_data.specs.Types.{IsLive, AllLive, type_at};
 ghost use Rattle.plir_data.specs.Verify.{IsVerdict};
 ghost use Rattle.plir_data.specs.declared.attr_verify.AttrVerifyErr.TheVariants.{IntegerAttrBitwidth};
 
-use crate::attributes::{AttrObj, IntegerAttr, VecAttr};
+use crate::attributes::{AttrObj, DictAttr, OperandSegmentSizesAttr, VecAttr};
 use crate::location::{Location, VerifyErr};
+use crate::memory::Memory;
 use crate::op_set::OpSet;
+use crate::plain_attrs::IntegerAttr;
 use crate::type_store::TypeStore;
 use crate::types::TypeObj;
 use std::alloc::Global;
@@ -82,6 +84,24 @@ impl<D: OpSet> AttrObj<D> {
             AttrObj::Own(value) => verify_own(alloc, value, ctx),
             _ => Ok(()),
         }
+    }
+}
+
+impl<D: OpSet> DictAttr<D> {
+    /// Accepts whatever the dictionary holds.
+    pub fn verify<C>(&self, _ctx: &C) -> Result<(), Memory>
+        ensures { result ≡ Ok tt }
+    {
+        Ok(())
+    }
+}
+
+impl OperandSegmentSizesAttr {
+    /// Accepts always.
+    pub fn verify<C>(&self, _ctx: &C) -> Result<(), Memory>
+        ensures { result ≡ Ok tt }
+    {
+        Ok(())
     }
 }
 

@@ -49,6 +49,9 @@ impl<D: OpSet> Model for AttributeDict<D> {
 }
 
 impl<D: OpSet> AttributeDict<D> {
+    ghost use Rattle.std.specs.Borrow.{sem};
+    ghost use Rattle.plir_data.specs.EntryLent.{LendsEntry};
+
     /// No attributes.
     pub fn new(alloc: Global) -> AttributeDict<D>
         ensures { result ≡ [] }
@@ -77,6 +80,14 @@ impl<D: OpSet> AttributeDict<D> {
         ensures { option_map (λ a. attr_view a.now) result ≡ dict_get self.now key.now }
     {
         self.entries.get(key)
+    }
+
+    /// The attribute under a key, to be changed.
+    pub fn get_mut(&mut self, key: &str) -> Option<&mut AttrObj<D>>
+        ensures* writes_back { sem 𝓛 (LendsEntry D.row D.Kind.row D.Attr.row D.Ty.row D.Err.row D.OpSet D.Attr.Hash D.Attr.Debug D.Ty.Hash D.Ty.Debug D.Err.Debug D.Err.Display self.entry key.now result) }
+        ensures value { option_map (λ a. attr_view a.now) result ≡ dict_get self.old key.now }
+    {
+        self.entries.get_mut(key)
     }
 
     /// Puts an attribute under a key, in place of what was there.

@@ -1,232 +1,18 @@
-//! Attributes: values that operations and blocks carry under keys.
+//! Attributes: values that operations and blocks carry under keys. Here those that are lists or dictionaries, and the enum of all.
 
-ghost use Rattle.std.specs.Prelude.{◌≡◌, ◌++◌, ℕ, List, [], Option, None, IfOk, OnOk, OnErr, option_map, string_bytes, map};
+ghost use Rattle.std.specs.Prelude.{◌≡◌, ℕ, List, [], Option, IfOk, OnOk, OnErr, option_map, map};
 ghost use Rattle.plir_data.specs.AttrSeen.{attr_view};
 ghost use Rattle.plir_data.specs.Dictionary.{dict_get, dict_put, dict_without, dict_of};
 
-use crate::ap_int::APInt;
 use crate::attribute_dict::AttributeDict;
 use crate::identifier::Identifier;
 use crate::memory::Memory;
 use crate::op_set::OpSet;
-use crate::typed_handle::TypedHandle;
-use crate::types::{IntegerType, TypeHandle};
+use crate::plain_attrs::{BoolAttr, IntegerAttr, TypeAttr, UnitAttr};
+use crate::text_attrs::{IdentifierAttr, StringAttr};
 use std::alloc::Global;
-use std::convert::AsStr;
 use std::hash::{Hash, Hasher};
 use std::marker::Model;
-
-/// A name.
-#[derive(PartialEq, Eq, Hash, Debug, Drop)]
-pub struct IdentifierAttr(Identifier);
-
-impl IdentifierAttr {
-    /// The attribute of an identifier.
-    pub fn new(value: Identifier) -> IdentifierAttr
-        ensures { result.0 ≡ value }
-    {
-        IdentifierAttr(value)
-    }
-
-    /// An equal attribute.
-    pub fn try_clone(&self, alloc: Global) -> Result<IdentifierAttr, Memory>
-        ensures { IfOk result (λ a. a ≡ self.now) }
-    {
-        Ok(IdentifierAttr(self.0.try_clone(alloc)?))
-    }
-}
-
-impl AsRef<Identifier> for IdentifierAttr {
-    fn as_ref(&self) -> &Identifier
-        ensures { result.now ≡ self.now.0 }
-    {
-        &self.0
-    }
-}
-
-impl From<Identifier> for IdentifierAttr {
-    ghost from_gives = { λ i a. a.0 ≡ i };
-
-    fn from(value: Identifier) -> IdentifierAttr {
-        IdentifierAttr(value)
-    }
-}
-
-impl From<IdentifierAttr> for Identifier {
-    ghost from_gives = { λ a i. i ≡ a.0 };
-
-    fn from(value: IdentifierAttr) -> Identifier {
-        value.0
-    }
-}
-
-/// A text.
-#[derive(Debug, Drop)]
-pub struct StringAttr(String);
-
-impl Model for StringAttr {
-    ghost use Rattle.std.specs.Prelude.{List, ℕ, string_bytes};
-
-    ghost Value = { List ℕ };
-
-    ghost view = { λ s. string_bytes s.0 };
-}
-
-impl StringAttr {
-    /// The attribute of a text.
-    pub fn new(value: String) -> StringAttr
-        ensures { result ≡ string_bytes value }
-    {
-        StringAttr(value)
-    }
-
-    /// The attribute of a text, which is copied.
-    pub fn try_from_str(alloc: Global, value: &str) -> Result<StringAttr, Memory>
-        ensures { IfOk result (λ a. a ≡ value.now) }
-    {
-        Ok(StringAttr(String::from_str(alloc, value)?))
-    }
-
-    /// The text.
-    pub fn as_str(&self) -> &str
-        ensures { result.now ≡ self.now }
-    {
-        self.0.as_str()
-    }
-
-    /// An equal attribute.
-    pub fn try_clone(&self, alloc: Global) -> Result<StringAttr, Memory>
-        ensures { IfOk result (λ a. a ≡ self.now) }
-    {
-        StringAttr::try_from_str(alloc, self.0.as_str())
-    }
-}
-
-impl AsStr for StringAttr {
-    ghost text = { λ a. a };
-
-    fn as_str(&self) -> &str {
-        self.0.as_str()
-    }
-}
-
-impl From<String> for StringAttr {
-    ghost from_gives = { λ s a. a ≡ string_bytes s };
-
-    fn from(value: String) -> StringAttr {
-        StringAttr(value)
-    }
-}
-
-impl From<StringAttr> for String {
-    ghost from_gives = { λ a s. string_bytes s ≡ a };
-
-    fn from(value: StringAttr) -> String {
-        value.0
-    }
-}
-
-impl PartialEq for StringAttr {
-    ghost use Rattle.std.specs.Prelude.{nat_eq};
-    ghost use Rattle.std.specs.Cmp as Cmp;
-    ghost use Rattle.std.specs.Cmp.Lexicographic.{pointwise, nat_list_eq_equiv};
-
-    ghost eq = { pointwise nat_eq };
-
-    ghost laws = { Cmp.partial_equiv_from_equiv nat_list_eq_equiv };
-
-    fn eq(&self, other: &Self) -> bool {
-        self.0.as_str() == other.0.as_str()
-    }
-}
-
-impl Eq for StringAttr {
-    ghost use Rattle.std.specs.Cmp.Lexicographic.{nat_list_eq_equiv};
-
-    ghost laws = { nat_list_eq_equiv };
-}
-
-impl Hash for StringAttr {
-    ghost use Rattle.std.specs.Hash as fed;
-    ghost use Rattle.std.specs.Cmp.Rules.{hashing};
-    ghost use Rattle.std.proofs.Common.{rules};
-
-    ghost hash_input = { fed.str };
-
-    ghost respects_eq = { Prim.search (hashing, rules) };
-
-    fn hash<H: Hasher>(&self, state: &mut H) {
-        self.0.as_str().hash(state);
-    }
-}
-
-/// A truth value.
-#[derive(Clone, Copy, PartialEq, Eq, Hash, Debug)]
-pub struct BoolAttr(bool);
-
-impl BoolAttr {
-    /// The attribute of a truth value.
-    pub fn new(value: bool) -> BoolAttr
-        ensures { result.0 ≡ value }
-    {
-        BoolAttr(value)
-    }
-}
-
-impl From<bool> for BoolAttr {
-    ghost from_gives = { λ b a. a.0 ≡ b };
-
-    fn from(value: bool) -> BoolAttr {
-        BoolAttr(value)
-    }
-}
-
-impl From<BoolAttr> for bool {
-    ghost from_gives = { λ a b. b ≡ a.0 };
-
-    fn from(value: BoolAttr) -> bool {
-        value.0
-    }
-}
-
-/// An integer of an integer type.
-#[derive(Clone, Copy, PartialEq, Eq, Hash, Debug)]
-pub struct IntegerAttr {
-    ty: TypedHandle<IntegerType>,
-    value: APInt,
-}
-
-impl IntegerAttr {
-    /// The attribute of a value of an integer type. That their widths agree is for `verify` to say.
-    pub fn new(ty: TypedHandle<IntegerType>, value: APInt) -> IntegerAttr
-        ensures ty { result.ty ≡ ty }
-        ensures value { result.value ≡ value }
-    {
-        IntegerAttr { ty, value }
-    }
-
-    /// The value.
-    pub fn value(&self) -> APInt
-        ensures { result ≡ self.now.value }
-    {
-        self.value
-    }
-
-    /// The type.
-    pub fn get_type(&self) -> TypedHandle<IntegerType>
-        ensures { result ≡ self.now.ty }
-    {
-        self.ty
-    }
-}
-
-impl From<IntegerAttr> for APInt {
-    ghost from_gives = { λ a n. n ≡ a.value };
-
-    fn from(value: IntegerAttr) -> APInt {
-        value.value
-    }
-}
 
 /// Attributes under keys.
 #[cycle(attr)]
@@ -255,6 +41,9 @@ impl<D: OpSet> Model for DictAttr<D> {
 }
 
 impl<D: OpSet> DictAttr<D> {
+    ghost use Rattle.std.specs.Borrow.{sem};
+    ghost use Rattle.plir_data.specs.EntryLent.{LendsDictEntry};
+
     /// The dictionary of these pairs; of a key that comes again the last counts.
     pub fn new(alloc: Global, pairs: Vec<(Identifier, AttrObj<D>)>) -> Result<DictAttr<D>, Memory>
         ensures { IfOk result (λ d. d ≡ dict_of (map (λ p. (p.0, attr_view p.1)) pairs.items)) }
@@ -293,6 +82,14 @@ impl<D: OpSet> DictAttr<D> {
     {
         self.0.get(key.as_str())
     }
+
+    /// The attribute under a key, to be changed.
+    pub fn lookup_mut(&mut self, key: &Identifier) -> Option<&mut AttrObj<D>>
+        ensures* writes_back { sem 𝓛 (LendsDictEntry D.row D.Kind.row D.Attr.row D.Ty.row D.Err.row D.OpSet D.Attr.Hash D.Attr.Debug D.Ty.Hash D.Ty.Debug D.Err.Debug D.Err.Display self.entry key.now result) }
+        ensures value { option_map (λ a. attr_view a.now) result ≡ dict_get self.old key.now }
+    {
+        self.0.get_mut(key.as_str())
+    }
 }
 
 /// A list of attributes.
@@ -330,53 +127,6 @@ impl<D: OpSet> VecAttr<D> {
         ensures { result ≡ map attr_view value.items }
     {
         VecAttr(value)
-    }
-}
-
-/// No information.
-#[derive(Clone, Copy, PartialEq, Eq, Hash, Debug, Default)]
-pub struct UnitAttr;
-
-impl UnitAttr {
-    /// The attribute of no information.
-    pub fn new() -> UnitAttr {
-        UnitAttr
-    }
-}
-
-/// A type.
-#[derive(Clone, Copy, PartialEq, Eq, Hash, Debug)]
-pub struct TypeAttr(TypeHandle);
-
-impl TypeAttr {
-    /// The attribute of a type.
-    pub fn new(ty: TypeHandle) -> TypeAttr
-        ensures { result.0 ≡ ty }
-    {
-        TypeAttr(ty)
-    }
-
-    /// The type.
-    pub fn get_type(&self) -> TypeHandle
-        ensures { result ≡ self.now.0 }
-    {
-        self.0
-    }
-}
-
-impl From<TypeHandle> for TypeAttr {
-    ghost from_gives = { λ t a. a.0 ≡ t };
-
-    fn from(value: TypeHandle) -> TypeAttr {
-        TypeAttr(value)
-    }
-}
-
-impl From<TypeAttr> for TypeHandle {
-    ghost from_gives = { λ a t. t ≡ a.0 };
-
-    fn from(value: TypeAttr) -> TypeHandle {
-        value.0
     }
 }
 

@@ -15,6 +15,8 @@ pub mod laws;
 mod location;
 mod memory;
 mod op_set;
+mod plain_attrs;
+mod text_attrs;
 mod type_store;
 mod type_table;
 mod type_texts;
@@ -25,15 +27,14 @@ pub use ap_int::APInt;
 pub use attr_interfaces::{OutlinedAttr, PrintOnceAttr, Typed, TypedAttrInterface};
 pub use attr_verify::{AttrVerifyErr, IntegerAttrBitwidthErr};
 pub use attribute_dict::AttributeDict;
-pub use attributes::{
-    AttrObj, BoolAttr, DictAttr, GivenNamesAttr, IdentifierAttr, IntegerAttr,
-    OperandSegmentSizesAttr, StringAttr, TypeAttr, UnitAttr, VecAttr,
-};
+pub use attributes::{AttrObj, DictAttr, GivenNamesAttr, OperandSegmentSizesAttr, VecAttr};
 pub use builtin_set::{BuiltinSet, NeverRefused, NoMeaning};
 pub use identifier::{Identifier, IdentifierErr, is_identifier};
 pub use location::{Location, VerifyErr};
 pub use memory::Memory;
 pub use op_set::{OpKind, OpSet};
+pub use plain_attrs::{BoolAttr, IntegerAttr, TypeAttr, UnitAttr};
+pub use text_attrs::{IdentifierAttr, StringAttr};
 pub use type_store::TypeStore;
 pub use type_table::TypeTable;
 pub use type_texts::type_text;

@@ -1,4 +1,4 @@
-use Rattle.std.proofs.Common.{subst, sym, refl, ◌∙◌}
+use Rattle.std.proofs.Common.{subst, sym, refl}
 use Rattle.plir_data.specs.Dictionary.{IsDictionary}
 use Rattle.plir_data.proofs.Dictionaries.{put, dictionary_put}
 use Rattle.plir_data.proofs.attribute_dict.AttributeDict.insert.Goals as goal
