@@ -20,3 +20,10 @@ pub mod Reading
 pub mod Advancing
 pub mod Orders
 pub mod Lawfulness
+pub mod NameLists
+pub mod NamesUnderKey
+pub mod NamedStores
+pub mod NamesTaken
+pub mod Picked
+pub mod Refilled
+pub mod Unnaming
