@@ -37,14 +37,8 @@ pub fn set_operation_result_name<D: OpSet>(
     ensures incorrect { (result ≡ Err GivenNamesErr.GivenNamesIncorrect) ↔ (has_other_at ctx.old (DefiningEntity.Op op) ≡ true) }
     ensures whole { IsWhole D.attr_handles ctx.new }
 {
-    put_name(
-        alloc,
-        ctx,
-        DefiningEntity::Op(op),
-        i,
-        name,
-        Placing::Replacing,
-    )
+    let results_of = DefiningEntity::Op(op);
+    put_name(alloc, ctx, results_of, i, name, Placing::Replacing)
 }
 
 /// Puts a name before that of the result at a place, from 0, or at the end: that and the later ones move up. Unset names fill
@@ -70,14 +64,8 @@ pub fn insert_operation_result_name<D: OpSet>(
     ensures incorrect { (result ≡ Err GivenNamesErr.GivenNamesIncorrect) ↔ (has_other_at ctx.old (DefiningEntity.Op op) ≡ true) }
     ensures whole { IsWhole D.attr_handles ctx.new }
 {
-    put_name(
-        alloc,
-        ctx,
-        DefiningEntity::Op(op),
-        i,
-        name,
-        Placing::Shifting,
-    )
+    let results_of = DefiningEntity::Op(op);
+    put_name(alloc, ctx, results_of, i, name, Placing::Shifting)
 }
 
 /// Takes the name of the result at a place, from 0, out, if the list is so long: the later ones move down. A list with no name
@@ -137,14 +125,8 @@ pub fn set_block_arg_name<D: OpSet>(
     ensures incorrect { (result ≡ Err GivenNamesErr.GivenNamesIncorrect) ↔ (has_other_at ctx.old (DefiningEntity.Block block) ≡ true) }
     ensures whole { IsWhole D.attr_handles ctx.new }
 {
-    put_name(
-        alloc,
-        ctx,
-        DefiningEntity::Block(block),
-        i,
-        name,
-        Placing::Replacing,
-    )
+    let arguments_of = DefiningEntity::Block(block);
+    put_name(alloc, ctx, arguments_of, i, name, Placing::Replacing)
 }
 
 /// Puts a name before that of the argument at a place, from 0, or at the end: that and the later ones move up. Unset names fill
@@ -170,14 +152,8 @@ pub fn insert_block_arg_name<D: OpSet>(
     ensures incorrect { (result ≡ Err GivenNamesErr.GivenNamesIncorrect) ↔ (has_other_at ctx.old (DefiningEntity.Block block) ≡ true) }
     ensures whole { IsWhole D.attr_handles ctx.new }
 {
-    put_name(
-        alloc,
-        ctx,
-        DefiningEntity::Block(block),
-        i,
-        name,
-        Placing::Shifting,
-    )
+    let arguments_of = DefiningEntity::Block(block);
+    put_name(alloc, ctx, arguments_of, i, name, Placing::Shifting)
 }
 
 /// Takes the name of the argument at a place, from 0, out, if the list is so long: the later ones move down. A list with no name
