@@ -21,3 +21,10 @@ pub mod Advancing
 pub mod Orders
 pub mod Lawfulness
 pub mod BlockEdits
+pub mod NameLists
+pub mod NamesUnderKey
+pub mod NamedStores
+pub mod NamesTaken
+pub mod Picked
+pub mod Refilled
+pub mod Unnaming

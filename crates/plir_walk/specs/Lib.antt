@@ -1,5 +1,5 @@
 -- What the walks promise, from the ground up: settings and trees, places and their order, calls, what a skip shuts out,
--- the walk, the tree as read, and the two contracts.
+-- the walk, the tree as read, and the two contracts; then the names that are given to results and arguments.
 pub mod Lists
 pub mod Config
 pub mod Tree
@@ -12,3 +12,6 @@ pub mod Walked
 pub mod View
 pub mod Step
 pub mod Laws
+pub mod GivenNames
+pub mod Placing
+pub mod Unnamed

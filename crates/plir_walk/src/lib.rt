@@ -4,10 +4,14 @@
 
 pub mod config;
 mod cursor;
+mod erase_names;
+pub mod given_names;
 pub mod interruptible;
 pub mod laws;
 pub mod limit;
 pub mod links;
+mod name_list;
+mod names_attr;
 #[cfg(test)]
 mod tests;
 pub mod uninterruptible;
@@ -18,4 +22,5 @@ pub use config::{
 };
 pub use limit::CallLimit;
 pub use links::NodeLinks;
+pub use names_attr::{ATTR_KEY_GIVEN_NAMES, GivenNamesErr, GivenNamesIncorrect};
 pub use plir_core::IRNode;

@@ -1,0 +1,73 @@
+-- A dictionary in which one key is put, changed and taken out.
+use Rattle.std.proofs.Common.{◌≡◌, ℕ, Bool, true, false, cond, List, [], ◌∷◌, Ordering, Less, Equal, Greater, Option, Some, None, IsSome, nat_cmp, refl, sym, ap, subst, ◌∙◌}
+use Rattle.std.proofs.lemmas.Cmp.{nat_list_cmp_total}
+use Rattle.std.proofs.lemmas.Option.{same_Some, none-some}
+use Rattle.std.specs.Ordering.{match_ordering, ordering_reverse, is_eq}
+use Rattle.std.specs.Cmp.Lexicographic.{slice_cmp}
+use Rattle.plir_data.specs.Dictionary.{dict_get, dict_put, dict_without, is_key, IsDictionary}
+use Rattle.plir_data.proofs.Dictionaries.{dict_with, with_is_put}
+
+same-key : (k : List ℕ) → slice_cmp nat_cmp k k ≡ Equal
+same-key k = by (slice_cmp nat_cmp k k) (nat_list_cmp_total.antisymm k k)
+  where
+    by : (o : Ordering) → o ≡ ordering_reverse o → o ≡ Equal
+    by Less e = absurd (let z : ⊥ = cc (e) in z)
+    by Equal e = refl
+    by Greater e = absurd (let z : ⊥ = cc (e) in z)
+
+module _ {V : Type 0} where
+  -- of two values put under a key the second stays
+  pub put-put : (es : List (List ℕ × V)) (k : List ℕ) (u v : V) → dict_put (dict_put es k u) k v ≡ dict_put es k v
+  put-put [] k u v = ap (λ o. match_ordering o ((k, v) ∷ (k, u) ∷ []) ((k, v) ∷ []) ((k, u) ∷ (k, v) ∷ [])) (same-key k)
+  put-put (e ∷ es) k u v = by (slice_cmp nat_cmp k e.0) refl (put-put es k u v)
+    where
+      by : (o : Ordering) → slice_cmp nat_cmp k e.0 ≡ o → dict_put (dict_put es k u) k v ≡ dict_put es k v → dict_put (match_ordering o ((k, u) ∷ e ∷ es) ((e.0, u) ∷ es) (e ∷ dict_put es k u)) k v ≡ match_ordering o ((k, v) ∷ e ∷ es) ((e.0, v) ∷ es) (e ∷ dict_put es k v)
+      by Less is rest = ap (λ o. match_ordering o ((k, v) ∷ (k, u) ∷ e ∷ es) ((k, v) ∷ e ∷ es) ((k, u) ∷ dict_put (e ∷ es) k v)) (same-key k)
+      by Equal is rest = ap (λ o. match_ordering o ((k, v) ∷ (e.0, u) ∷ es) ((e.0, v) ∷ es) ((e.0, u) ∷ dict_put es k v)) is
+      by Greater is rest = ap (λ o. match_ordering o ((k, v) ∷ e ∷ dict_put es k u) ((e.0, v) ∷ dict_put es k u) (e ∷ dict_put (dict_put es k u) k v)) is ∙ ap (λ l. e ∷ l) rest
+
+  without-with : (es : List (List ℕ × V)) (k : List ℕ) (u : V) → dict_without (dict_with es k u) k ≡ dict_without es k
+  without-with [] k u = refl
+  without-with (e ∷ es) k u = by (is_key k e.0) refl (without-with es k u)
+    where
+      by : (b : Bool) → is_key k e.0 ≡ b → dict_without (dict_with es k u) k ≡ dict_without es k → dict_without (cond b ((e.0, u) ∷ es) (e ∷ dict_with es k u)) k ≡ cond b es (e ∷ dict_without es k)
+      by true is rest = ap (λ b. cond b es ((e.0, u) ∷ dict_without es k)) is
+      by false is rest = ap (λ b. cond b (dict_with es k u) (e ∷ dict_without (dict_with es k u) k)) is ∙ ap (λ l. e ∷ l) rest
+
+  with-same : (es : List (List ℕ × V)) (k : List ℕ) (v : V) → dict_get es k ≡ Some v → dict_with es k v ≡ es
+  with-same [] k v got = refl
+  with-same (e ∷ es) k v got = by (is_key k e.0) got (with-same es k v)
+    where
+      by : (b : Bool) → cond b (Some e.1) (dict_get es k) ≡ Some v → (dict_get es k ≡ Some v → dict_with es k v ≡ es) → cond b ((e.0, v) ∷ es) (e ∷ dict_with es k v) ≡ e ∷ es
+      by true g rest = ap (λ z. (e.0, z) ∷ es) (sym (same_Some e.1 v g))
+      by false g rest = ap (λ l. e ∷ l) (rest g)
+
+  some-of : (o : Option V) (v : V) → o ≡ Some v → IsSome o
+  some-of o v e = subst IsSome (sym e) refl
+
+  -- what was put under a key that was there can be taken out again
+  pub without-put : (es : List (List ℕ × V)) (k : List ℕ) (u v : V) → IsDictionary es → dict_get es k ≡ Some v → dict_without (dict_put es k u) k ≡ dict_without es k
+  without-put es k u v d got = ap (λ z. dict_without z k) (sym (with_is_put es k u d (some-of (dict_get es k) v got))) ∙ without-with es k u
+
+  -- to put the value that is there changes nothing
+  pub put-same : (es : List (List ℕ × V)) (k : List ℕ) (v : V) → IsDictionary es → dict_get es k ≡ Some v → dict_put es k v ≡ es
+  put-same es k v d got = sym (with_is_put es k v d (some-of (dict_get es k) v got)) ∙ with-same es k v got
+
+  -- nor does it to take out what is not there
+  pub without-absent : (es : List (List ℕ × V)) (k : List ℕ) → dict_get es k ≡ None → dict_without es k ≡ es
+  without-absent [] k absent = refl
+  without-absent (e ∷ es) k absent = by (is_key k e.0) absent (without-absent es k)
+    where
+      by : (b : Bool) → cond b (Some e.1) (dict_get es k) ≡ None → (dict_get es k ≡ None → dict_without es k ≡ es) → cond b es (e ∷ dict_without es k) ≡ e ∷ es
+      by true a rest = absurd (none-some e.1 (sym a))
+      by false a rest = ap (λ l. e ∷ l) (rest a)
+
+  -- what is put under a key is there
+  pub get-put : (es : List (List ℕ × V)) (k : List ℕ) (v : V) → dict_get (dict_put es k v) k ≡ Some v
+  get-put [] k v = ap (λ o. cond (is_eq o) (Some v) None) (same-key k)
+  get-put (e ∷ es) k v = by (slice_cmp nat_cmp k e.0) refl (get-put es k v)
+    where
+      by : (o : Ordering) → slice_cmp nat_cmp k e.0 ≡ o → dict_get (dict_put es k v) k ≡ Some v → dict_get (match_ordering o ((k, v) ∷ e ∷ es) ((e.0, v) ∷ es) (e ∷ dict_put es k v)) k ≡ Some v
+      by Less is rest = ap (λ o. cond (is_eq o) (Some v) (dict_get (e ∷ es) k)) (same-key k)
+      by Equal is rest = ap (λ o. cond (is_eq o) (Some v) (dict_get es k)) is
+      by Greater is rest = ap (λ o. cond (is_eq o) (Some e.1) (dict_get (dict_put es k v) k)) is ∙ rest
