@@ -1,3 +1,3 @@
 -- The lemmas that proofs of this crate cite.
 pub mod Ends
-pub mod Places
+pub mod ListPlaces
