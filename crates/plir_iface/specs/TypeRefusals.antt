@@ -33,7 +33,7 @@ use Rattle.plir_iface.specs.declared.type_errors.OperandsMNOfTypeError.TheVarian
 use Rattle.plir_iface.specs.declared.type_errors.ResultsMNOfTypeError.{ResultsMNOfTypeError}
 use Rattle.plir_iface.specs.declared.type_errors.ResultsMNOfTypeError.TheVariants.{NotEnoughResults, UnexpectedType as UnexpectedResultType}
 use Rattle.plir_iface.specs.declared.type_errors.TypeRuleErr.{TypeRuleErr}
-use Rattle.plir_iface.specs.declared.type_errors.TypeRuleErr.TheVariants.{TooFew, Type as WrongType}
+use Rattle.plir_iface.specs.declared.type_errors.TypeRuleErr.TheVariants.{TooFew, WrongType}
 
 -- the id of the type at a place, and its text
 abbrev pub id_in : {K A T : Type 0} (own_id : T → List ℕ) → Store K A T → List (Option ℕ) → ℕ → List ℕ

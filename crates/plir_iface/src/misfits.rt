@@ -130,6 +130,8 @@ pub(crate) fn verify_each_kind<D: OpSet, T: TypeMark<D>, E: From<OtherKind> + Dr
         return Ok(());
     };
     let wanted = misfit.wanted;
-    let found = type_text(alloc, ctx, side.type_at(ctx, op, misfit.place))?;
+    let Ok(found) = type_text(alloc, ctx, side.type_at(ctx, op, misfit.place)) else {
+        return Err(VerifyErr::Memory);
+    };
     Err(refusal(ctx, op, E::from(OtherKind { wanted, found })))
 }

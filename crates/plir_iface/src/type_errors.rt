@@ -196,7 +196,7 @@ pub enum TypeRuleErr<F, E> {
     TooFew(F),
     /// A type is wrong.
     #[error(transparent)]
-    Type(E),
+    WrongType(E),
 }
 
 impl<F: From<TooFew>, E: From<Misfit>> From<TypeFault> for TypeRuleErr<F, E> {
@@ -205,7 +205,7 @@ impl<F: From<TooFew>, E: From<Misfit>> From<TypeFault> for TypeRuleErr<F, E> {
     fn from(fault: TypeFault) -> TypeRuleErr<F, E> {
         match fault {
             TypeFault::Few(few) => TypeRuleErr::TooFew(F::from(few)),
-            TypeFault::Wrong(m) => TypeRuleErr::Type(E::from(m)),
+            TypeFault::Wrong(m) => TypeRuleErr::WrongType(E::from(m)),
         }
     }
 }

@@ -64,7 +64,7 @@ fn operands_in_a_range_implement_an_interface(rt: HostRuntime) -> Result<(), Fai
     refused(
         &rt,
         OperandsMNImplsTy::<BuiltinSet, 0, 1, FunctionTypeMark>::verify(&bad, &s.ctx),
-        TypeRuleErr::Type(TypeInterfaceImplsErr::Operand(
+        TypeRuleErr::WrongType(TypeInterfaceImplsErr::Operand(
             0,
             "FunctionTypeInterface",
             "builtin.integer",
@@ -86,7 +86,7 @@ fn results_in_a_range_implement_an_interface(rt: HostRuntime) -> Result<(), Fail
     refused(
         &rt,
         ResultsMNImplsTy::<BuiltinSet, 0, 4294967295, FunctionTypeMark>::verify(&bad, &s.ctx),
-        TypeRuleErr::Type(TypeInterfaceImplsErr::Result(
+        TypeRuleErr::WrongType(TypeInterfaceImplsErr::Result(
             1,
             "FunctionTypeInterface",
             "builtin.unit",

@@ -91,7 +91,7 @@ fn the_operand_at_a_place_is_of_a_kind(rt: HostRuntime) -> Result<(), Fail> {
     refused(
         &rt,
         OperandNOfType::<BuiltinSet, 0, UnitType>::verify(&bad, &s.ctx),
-        TypeRuleErr::Type(OperandNOfTypeError::AllOperandsOfTypeVerifyErr(
+        TypeRuleErr::WrongType(OperandNOfTypeError::AllOperandsOfTypeVerifyErr(
             "builtin.unit",
             "builtin.integer",
         )),
@@ -118,7 +118,7 @@ fn the_result_at_a_place_is_of_a_kind(rt: HostRuntime) -> Result<(), Fail> {
     refused(
         &rt,
         ResultNOfType::<BuiltinSet, 0, UnitType>::verify(&bad, &s.ctx),
-        TypeRuleErr::Type(ResultNOfTypeError::AllResultsOfTypeVerifyErr(
+        TypeRuleErr::WrongType(ResultNOfTypeError::AllResultsOfTypeVerifyErr(
             "builtin.unit",
             "builtin.integer",
         )),
@@ -144,7 +144,7 @@ fn the_type_at_a_place_implements_an_interface(rt: HostRuntime) -> Result<(), Fa
     refused(
         &rt,
         ResultNImplsTy::<BuiltinSet, 1, FunctionTypeMark>::verify(&op, &s.ctx),
-        TypeRuleErr::Type(TypeInterfaceImplsErr::Result(
+        TypeRuleErr::WrongType(TypeInterfaceImplsErr::Result(
             1,
             "FunctionTypeInterface",
             "builtin.integer",
@@ -153,7 +153,7 @@ fn the_type_at_a_place_implements_an_interface(rt: HostRuntime) -> Result<(), Fa
     refused(
         &rt,
         OperandNImplsTy::<BuiltinSet, 1, FunctionTypeMark>::verify(&other, &s.ctx),
-        TypeRuleErr::Type(TypeInterfaceImplsErr::Operand(
+        TypeRuleErr::WrongType(TypeInterfaceImplsErr::Operand(
             1,
             "FunctionTypeInterface",
             "builtin.integer",
@@ -185,14 +185,14 @@ fn refusals_of_types_have_their_texts(rt: HostRuntime) -> Result<(), Fail> {
     has_text(
         &rt,
         alloc,
-        TypeRuleErr::<NotEnoughOperandsErr, OperandNOfTypeError>::Type(operand),
+        TypeRuleErr::<NotEnoughOperandsErr, OperandNOfTypeError>::WrongType(operand),
         "Expected operand type builtin.unit, but found test.own",
     )?;
     let result = ResultNOfTypeError::AllResultsOfTypeVerifyErr("builtin.unit", "test.own");
     has_text(
         &rt,
         alloc,
-        TypeRuleErr::<NotEnoughResultsErr, ResultNOfTypeError>::Type(result),
+        TypeRuleErr::<NotEnoughResultsErr, ResultNOfTypeError>::WrongType(result),
         "Expected result type builtin.unit, but found test.own",
     )
 }
