@@ -1,5 +1,4 @@
-//! Verifiers of types, for operands and results alike. An interface of types is a trait over `Op` whose `verify` names here its
-//! side, its test and its places; its rule stands in `specs/TypeRules.antt`, and its error in `type_errors.rt`.
+//! Verifiers of types, for operands and results alike: an interface names its side, its test, its places and its error.
 ghost use Rattle.std.specs.Prelude.{◌≡◌, ◌<◌, ◌≤◌, ◌↔◌, IsOk, IfErr, IfSome, IsNone, length};
 ghost use Rattle.plir_core.specs.declared.ptr.IRNode.{IRNode};
 ghost use Rattle.plir_core.specs.Store.{IsLive};

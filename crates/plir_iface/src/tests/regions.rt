@@ -6,7 +6,7 @@ use crate::{
     NRegionsVerifyErr, NoTerminatorInterface, OneRegionInterface, RegionKindInterface,
     SingleBlockRegionInterface, SingleBlockRegionVerifyErr,
 };
-use plir_core::{BasicBlock, Context};
+use plir_core::{BasicBlock, Context, IRNode};
 use plir_data::BuiltinSet;
 use std::alloc::Global;
 use std::process::Abort;
@@ -71,6 +71,9 @@ fn add_block(alloc: Global, ctx: &mut Context<BuiltinSet>, op: &AnyOp) -> Result
     let block = BasicBlock::new(alloc, ctx, None, Vec::new(alloc))?;
     if !region.is_live(ctx) {
         return Err("a dead region")?;
+    }
+    if IRNode::BasicBlock(block).is_ancestor(IRNode::Region(region), ctx) {
+        return Err("a block above its region")?;
     }
     block.insert_at_back(region, ctx);
     Ok(())

@@ -13,6 +13,7 @@ fn operands_in_a_range_are_of_a_kind(rt: HostRuntime) -> Result<(), Fail> {
     let (unit, si8) = (s.unit, s.si8);
     let bad = s.make(rt.alloc(), &[unit, si8, unit], &[], 0)?;
     let none = s.make(rt.alloc(), &[], &[], 0)?;
+    assert!(rt; bad.op.is_live(&s.ctx));
     refused(
         &rt,
         OperandsMNOfType::<BuiltinSet, 1, 4294967295, IntegerType>::verify(&bad, &s.ctx),
@@ -32,6 +33,8 @@ fn results_in_a_range_are_of_a_kind(rt: HostRuntime) -> Result<(), Fail> {
     let few = s.make(rt.alloc(), &[], &[si8, si8], 0)?;
     let bad = s.make(rt.alloc(), &[], &[si8, unit, si8], 0)?;
     let good = s.make(rt.alloc(), &[], &[si8, si8, si8, unit], 0)?;
+    assert!(rt; few.op.is_live(&s.ctx));
+    assert!(rt; bad.op.is_live(&s.ctx));
     refused(
         &rt,
         ResultsMNOfType::<BuiltinSet, 0, 2, IntegerType>::verify(&few, &s.ctx),
@@ -56,6 +59,8 @@ fn operands_in_a_range_implement_an_interface(rt: HostRuntime) -> Result<(), Fai
     let few = s.make(rt.alloc(), &[function], &[], 0)?;
     let bad = s.make(rt.alloc(), &[si8, function], &[], 0)?;
     let good = s.make(rt.alloc(), &[function, function, si8], &[], 0)?;
+    assert!(rt; few.op.is_live(&s.ctx));
+    assert!(rt; bad.op.is_live(&s.ctx));
     refused(
         &rt,
         OperandsMNImplsTy::<BuiltinSet, 0, 1, FunctionTypeMark>::verify(&few, &s.ctx),
@@ -83,6 +88,7 @@ fn results_in_a_range_implement_an_interface(rt: HostRuntime) -> Result<(), Fail
     let (function, unit) = (s.function, s.unit);
     let bad = s.make(rt.alloc(), &[], &[function, unit], 0)?;
     let none = s.make(rt.alloc(), &[], &[], 0)?;
+    assert!(rt; bad.op.is_live(&s.ctx));
     refused(
         &rt,
         ResultsMNImplsTy::<BuiltinSet, 0, 4294967295, FunctionTypeMark>::verify(&bad, &s.ctx),

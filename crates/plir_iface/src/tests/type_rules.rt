@@ -21,6 +21,7 @@ fn all_operands_are_of_a_kind(rt: HostRuntime) -> Result<(), Fail> {
     let (unit, si8) = (s.unit, s.si8);
     let good = s.make(rt.alloc(), &[unit, unit], &[], 0)?;
     let bad = s.make(rt.alloc(), &[si8], &[], 0)?;
+    assert!(rt; good.op.is_live(&s.ctx));
     accepted(
         &rt,
         AllOperandsOfType::<BuiltinSet, UnitType>::verify(&good, rt.alloc(), &s.ctx),
@@ -39,6 +40,7 @@ fn all_results_are_of_a_kind(rt: HostRuntime) -> Result<(), Fail> {
     let (unit, si8) = (s.unit, s.si8);
     let good = s.make(rt.alloc(), &[], &[], 0)?;
     let bad = s.make(rt.alloc(), &[], &[unit, si8], 0)?;
+    assert!(rt; good.op.is_live(&s.ctx));
     accepted(
         &rt,
         AllResultsOfType::<BuiltinSet, UnitType>::verify(&good, rt.alloc(), &s.ctx),
@@ -57,6 +59,7 @@ fn all_types_implement_an_interface(rt: HostRuntime) -> Result<(), Fail> {
     let (function, si8) = (s.function, s.si8);
     let op = s.make(rt.alloc(), &[function, si8], &[function], 0)?;
     let other = s.make(rt.alloc(), &[function], &[si8, function], 0)?;
+    assert!(rt; op.op.is_live(&s.ctx));
     refused(
         &rt,
         AllOperandsImplsTy::<BuiltinSet, FunctionTypeMark>::verify(&op, &s.ctx),
@@ -84,6 +87,7 @@ fn the_operand_at_a_place_is_of_a_kind(rt: HostRuntime) -> Result<(), Fail> {
     let (unit, si8) = (s.unit, s.si8);
     let good = s.make(rt.alloc(), &[unit, si8], &[], 0)?;
     let bad = s.make(rt.alloc(), &[si8], &[], 0)?;
+    assert!(rt; good.op.is_live(&s.ctx));
     accepted(
         &rt,
         OperandNOfType::<BuiltinSet, 0, UnitType>::verify(&good, &s.ctx),
@@ -111,6 +115,8 @@ fn the_result_at_a_place_is_of_a_kind(rt: HostRuntime) -> Result<(), Fail> {
     let good = s.make(rt.alloc(), &[], &[unit, si8], 0)?;
     let bad = s.make(rt.alloc(), &[], &[si8], 0)?;
     let none = s.make(rt.alloc(), &[], &[], 0)?;
+    assert!(rt; good.op.is_live(&s.ctx));
+    assert!(rt; bad.op.is_live(&s.ctx));
     accepted(
         &rt,
         ResultNOfType::<BuiltinSet, 0, UnitType>::verify(&good, &s.ctx),
@@ -137,6 +143,7 @@ fn the_type_at_a_place_implements_an_interface(rt: HostRuntime) -> Result<(), Fa
     let (function, si8) = (s.function, s.si8);
     let op = s.make(rt.alloc(), &[si8, function], &[function, si8], 0)?;
     let other = s.make(rt.alloc(), &[function, si8], &[si8, function], 0)?;
+    assert!(rt; op.op.is_live(&s.ctx));
     accepted(
         &rt,
         OperandNImplsTy::<BuiltinSet, 1, FunctionTypeMark>::verify(&op, &s.ctx),
