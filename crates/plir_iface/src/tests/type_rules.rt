@@ -1,13 +1,15 @@
 //! The interfaces of types that are of a kind, or implement an interface: all of them, or one.
-use super::sample::{Sample, accepted, has_text, refused};
+use super::sample::{AnyOp, Sample, accepted, has_text, refused};
 use crate::{
     AllOperandsImplsTy, AllOperandsOfType, AllOperandsOfTypeVerifyErr, AllResultsImplsTy,
     AllResultsOfType, AllResultsOfTypeVerifyErr, NotEnoughOperandsErr, NotEnoughResultsErr,
     OperandNImplsTy, OperandNOfType, OperandNOfTypeError, ResultNImplsTy, ResultNOfType,
     ResultNOfTypeError, TypeInterfaceImplsErr, TypeRuleErr,
 };
+use plir_core::Context;
 use plir_data::{BuiltinSet, FunctionTypeMark, UnitType};
 use std::alloc::Global;
+use std::process::Abort;
 use std::test::Fail;
 
 // The text of a type of integers.
@@ -15,42 +17,68 @@ fn si8_text(alloc: Global) -> Result<String, Fail> {
     Ok(String::from_str(alloc, "builtin.integer si8")?)
 }
 
-#[test]
-fn all_operands_are_of_a_kind(rt: HostRuntime) -> Result<(), Fail> {
-    let mut s = Sample::new(rt.alloc())?;
-    let (unit, si8) = (s.unit, s.si8);
-    let good = s.make(rt.alloc(), &[unit, unit], &[], 0)?;
-    let bad = s.make(rt.alloc(), &[si8], &[], 0)?;
-    assert!(rt; good.op.is_live(&s.ctx));
+// Expects operands unit, unit and no results to be accepted, and operands si8 and results unit, si8 to be refused.
+fn judges_kinds(
+    rt: &impl Abort,
+    alloc: Global,
+    ctx: &Context<BuiltinSet>,
+    good: &AnyOp,
+    bad: &AnyOp,
+) -> Result<(), Fail> {
+    assert!(rt; good.op.is_live(ctx));
+    assert!(rt; bad.op.is_live(ctx));
     accepted(
-        &rt,
-        AllOperandsOfType::<BuiltinSet, UnitType>::verify(&good, rt.alloc(), &s.ctx),
+        rt,
+        AllOperandsOfType::<BuiltinSet, UnitType>::verify(good, alloc, ctx),
+    );
+    accepted(
+        rt,
+        AllResultsOfType::<BuiltinSet, UnitType>::verify(good, alloc, ctx),
     );
     refused(
-        &rt,
-        AllOperandsOfType::<BuiltinSet, UnitType>::verify(&bad, rt.alloc(), &s.ctx),
-        AllOperandsOfTypeVerifyErr("builtin.unit", si8_text(rt.alloc())?),
+        rt,
+        AllOperandsOfType::<BuiltinSet, UnitType>::verify(bad, alloc, ctx),
+        AllOperandsOfTypeVerifyErr("builtin.unit", si8_text(alloc)?),
+    );
+    refused(
+        rt,
+        AllResultsOfType::<BuiltinSet, UnitType>::verify(bad, alloc, ctx),
+        AllResultsOfTypeVerifyErr("builtin.unit", si8_text(alloc)?),
     );
     Ok(())
 }
 
 #[test]
-fn all_results_are_of_a_kind(rt: HostRuntime) -> Result<(), Fail> {
+fn all_types_are_of_a_kind(rt: HostRuntime) -> Result<(), Fail> {
     let mut s = Sample::new(rt.alloc())?;
     let (unit, si8) = (s.unit, s.si8);
-    let good = s.make(rt.alloc(), &[], &[], 0)?;
-    let bad = s.make(rt.alloc(), &[], &[unit, si8], 0)?;
-    assert!(rt; good.op.is_live(&s.ctx));
+    let good = s.make(rt.alloc(), &[unit, unit], &[], 0)?;
+    let bad = s.make(rt.alloc(), &[si8], &[unit, si8], 0)?;
+    judges_kinds(&rt, rt.alloc(), &s.ctx, &good, &bad)
+}
+
+// Expects functions and si8 to be judged so: `op` has operands function, si8, and `other` results si8, function.
+fn judges_interfaces(rt: &impl Abort, ctx: &Context<BuiltinSet>, op: &AnyOp, other: &AnyOp) {
+    assert!(rt; op.op.is_live(ctx));
+    assert!(rt; other.op.is_live(ctx));
+    refused(
+        rt,
+        AllOperandsImplsTy::<BuiltinSet, FunctionTypeMark>::verify(op, ctx),
+        TypeInterfaceImplsErr::Operand(1, "FunctionTypeInterface", "builtin.integer"),
+    );
     accepted(
-        &rt,
-        AllResultsOfType::<BuiltinSet, UnitType>::verify(&good, rt.alloc(), &s.ctx),
+        rt,
+        AllResultsImplsTy::<BuiltinSet, FunctionTypeMark>::verify(op, ctx),
+    );
+    accepted(
+        rt,
+        AllOperandsImplsTy::<BuiltinSet, FunctionTypeMark>::verify(other, ctx),
     );
     refused(
-        &rt,
-        AllResultsOfType::<BuiltinSet, UnitType>::verify(&bad, rt.alloc(), &s.ctx),
-        AllResultsOfTypeVerifyErr("builtin.unit", si8_text(rt.alloc())?),
+        rt,
+        AllResultsImplsTy::<BuiltinSet, FunctionTypeMark>::verify(other, ctx),
+        TypeInterfaceImplsErr::Result(0, "FunctionTypeInterface", "builtin.integer"),
     );
-    Ok(())
 }
 
 #[test]
@@ -59,82 +87,96 @@ fn all_types_implement_an_interface(rt: HostRuntime) -> Result<(), Fail> {
     let (function, si8) = (s.function, s.si8);
     let op = s.make(rt.alloc(), &[function, si8], &[function], 0)?;
     let other = s.make(rt.alloc(), &[function], &[si8, function], 0)?;
-    assert!(rt; op.op.is_live(&s.ctx));
-    refused(
-        &rt,
-        AllOperandsImplsTy::<BuiltinSet, FunctionTypeMark>::verify(&op, &s.ctx),
-        TypeInterfaceImplsErr::Operand(1, "FunctionTypeInterface", "builtin.integer"),
-    );
-    accepted(
-        &rt,
-        AllResultsImplsTy::<BuiltinSet, FunctionTypeMark>::verify(&op, &s.ctx),
-    );
-    accepted(
-        &rt,
-        AllOperandsImplsTy::<BuiltinSet, FunctionTypeMark>::verify(&other, &s.ctx),
-    );
-    refused(
-        &rt,
-        AllResultsImplsTy::<BuiltinSet, FunctionTypeMark>::verify(&other, &s.ctx),
-        TypeInterfaceImplsErr::Result(0, "FunctionTypeInterface", "builtin.integer"),
-    );
+    judges_interfaces(&rt, &s.ctx, &op, &other);
     Ok(())
 }
 
-#[test]
-fn the_operand_at_a_place_is_of_a_kind(rt: HostRuntime) -> Result<(), Fail> {
-    let mut s = Sample::new(rt.alloc())?;
-    let (unit, si8) = (s.unit, s.si8);
-    let good = s.make(rt.alloc(), &[unit, si8], &[], 0)?;
-    let bad = s.make(rt.alloc(), &[si8], &[], 0)?;
-    assert!(rt; good.op.is_live(&s.ctx));
+// Expects an operation with the operands and results unit, si8 to be accepted, and si8 and nothing to be refused.
+fn judges_operands_at(rt: &impl Abort, ctx: &Context<BuiltinSet>, good: &AnyOp, bad: &AnyOp) {
+    assert!(rt; good.op.is_live(ctx));
+    assert!(rt; bad.op.is_live(ctx));
     accepted(
-        &rt,
-        OperandNOfType::<BuiltinSet, 0, UnitType>::verify(&good, &s.ctx),
+        rt,
+        OperandNOfType::<BuiltinSet, 0, UnitType>::verify(good, ctx),
     );
     refused(
-        &rt,
-        OperandNOfType::<BuiltinSet, 0, UnitType>::verify(&bad, &s.ctx),
+        rt,
+        OperandNOfType::<BuiltinSet, 0, UnitType>::verify(bad, ctx),
         TypeRuleErr::WrongType(OperandNOfTypeError::AllOperandsOfTypeVerifyErr(
             "builtin.unit",
             "builtin.integer",
         )),
     );
     refused(
-        &rt,
-        OperandNImplsTy::<BuiltinSet, 1, FunctionTypeMark>::verify(&bad, &s.ctx),
+        rt,
+        OperandNImplsTy::<BuiltinSet, 1, FunctionTypeMark>::verify(bad, ctx),
         TypeRuleErr::TooFew(NotEnoughOperandsErr(1, 2)),
     );
-    Ok(())
 }
 
-#[test]
-fn the_result_at_a_place_is_of_a_kind(rt: HostRuntime) -> Result<(), Fail> {
-    let mut s = Sample::new(rt.alloc())?;
-    let (unit, si8) = (s.unit, s.si8);
-    let good = s.make(rt.alloc(), &[], &[unit, si8], 0)?;
-    let bad = s.make(rt.alloc(), &[], &[si8], 0)?;
-    let none = s.make(rt.alloc(), &[], &[], 0)?;
-    assert!(rt; good.op.is_live(&s.ctx));
-    assert!(rt; bad.op.is_live(&s.ctx));
+fn judges_results_at(rt: &impl Abort, ctx: &Context<BuiltinSet>, good: &AnyOp, bad: &AnyOp) {
+    assert!(rt; good.op.is_live(ctx));
+    assert!(rt; bad.op.is_live(ctx));
     accepted(
-        &rt,
-        ResultNOfType::<BuiltinSet, 0, UnitType>::verify(&good, &s.ctx),
+        rt,
+        ResultNOfType::<BuiltinSet, 0, UnitType>::verify(good, ctx),
     );
     refused(
-        &rt,
-        ResultNOfType::<BuiltinSet, 0, UnitType>::verify(&bad, &s.ctx),
+        rt,
+        ResultNOfType::<BuiltinSet, 0, UnitType>::verify(bad, ctx),
         TypeRuleErr::WrongType(ResultNOfTypeError::AllResultsOfTypeVerifyErr(
             "builtin.unit",
             "builtin.integer",
         )),
     );
     refused(
-        &rt,
-        ResultNOfType::<BuiltinSet, 0, UnitType>::verify(&none, &s.ctx),
-        TypeRuleErr::TooFew(NotEnoughResultsErr(0, 1)),
+        rt,
+        ResultNImplsTy::<BuiltinSet, 1, FunctionTypeMark>::verify(bad, ctx),
+        TypeRuleErr::TooFew(NotEnoughResultsErr(1, 2)),
     );
+}
+
+#[test]
+fn the_type_at_a_place_is_of_a_kind(rt: HostRuntime) -> Result<(), Fail> {
+    let mut s = Sample::new(rt.alloc())?;
+    let (unit, si8) = (s.unit, s.si8);
+    let good = s.make(rt.alloc(), &[unit, si8], &[unit, si8], 0)?;
+    let bad = s.make(rt.alloc(), &[si8], &[si8], 0)?;
+    judges_operands_at(&rt, &s.ctx, &good, &bad);
+    judges_results_at(&rt, &s.ctx, &good, &bad);
     Ok(())
+}
+
+// Expects a function at the place 1 to be accepted, and si8 to be refused.
+fn judges_interfaces_at(rt: &impl Abort, ctx: &Context<BuiltinSet>, op: &AnyOp, other: &AnyOp) {
+    assert!(rt; op.op.is_live(ctx));
+    assert!(rt; other.op.is_live(ctx));
+    accepted(
+        rt,
+        OperandNImplsTy::<BuiltinSet, 1, FunctionTypeMark>::verify(op, ctx),
+    );
+    refused(
+        rt,
+        ResultNImplsTy::<BuiltinSet, 1, FunctionTypeMark>::verify(op, ctx),
+        TypeRuleErr::WrongType(TypeInterfaceImplsErr::Result(
+            1,
+            "FunctionTypeInterface",
+            "builtin.integer",
+        )),
+    );
+    refused(
+        rt,
+        OperandNImplsTy::<BuiltinSet, 1, FunctionTypeMark>::verify(other, ctx),
+        TypeRuleErr::WrongType(TypeInterfaceImplsErr::Operand(
+            1,
+            "FunctionTypeInterface",
+            "builtin.integer",
+        )),
+    );
+    accepted(
+        rt,
+        ResultNImplsTy::<BuiltinSet, 1, FunctionTypeMark>::verify(other, ctx),
+    );
 }
 
 #[test]
@@ -143,33 +185,7 @@ fn the_type_at_a_place_implements_an_interface(rt: HostRuntime) -> Result<(), Fa
     let (function, si8) = (s.function, s.si8);
     let op = s.make(rt.alloc(), &[si8, function], &[function, si8], 0)?;
     let other = s.make(rt.alloc(), &[function, si8], &[si8, function], 0)?;
-    assert!(rt; op.op.is_live(&s.ctx));
-    accepted(
-        &rt,
-        OperandNImplsTy::<BuiltinSet, 1, FunctionTypeMark>::verify(&op, &s.ctx),
-    );
-    refused(
-        &rt,
-        ResultNImplsTy::<BuiltinSet, 1, FunctionTypeMark>::verify(&op, &s.ctx),
-        TypeRuleErr::WrongType(TypeInterfaceImplsErr::Result(
-            1,
-            "FunctionTypeInterface",
-            "builtin.integer",
-        )),
-    );
-    refused(
-        &rt,
-        OperandNImplsTy::<BuiltinSet, 1, FunctionTypeMark>::verify(&other, &s.ctx),
-        TypeRuleErr::WrongType(TypeInterfaceImplsErr::Operand(
-            1,
-            "FunctionTypeInterface",
-            "builtin.integer",
-        )),
-    );
-    accepted(
-        &rt,
-        ResultNImplsTy::<BuiltinSet, 1, FunctionTypeMark>::verify(&other, &s.ctx),
-    );
+    judges_interfaces_at(&rt, &s.ctx, &op, &other);
     Ok(())
 }
 
