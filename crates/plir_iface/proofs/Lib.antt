@@ -1,3 +1,5 @@
 -- The lemmas that proofs of this crate cite.
 pub mod Ends
-pub mod Places
+pub mod ListPlaces
+pub mod Refusals
+pub mod Spans

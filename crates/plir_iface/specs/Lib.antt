@@ -5,7 +5,9 @@
 --   Regions      the rules of regions and blocks
 --   Sides        types_on, type_in: operands and results as lists of types
 --   SameTypes    the rules of one type
+--   Places       IsAmong, NeedsMore: places of a list that a rule is about
 --   TypeRules    the rules of types that pass a test
+--   TypeRefusals IsFault: how types break a rule, and what an error tells of it
 --   IndexRange   IsIndexRange: ranges of places in a list
 --   Ids          op_id, type_id: the ids of operations and types
 pub mod Verdict
@@ -13,6 +15,8 @@ pub mod Counts
 pub mod Regions
 pub mod Sides
 pub mod SameTypes
+pub mod Places
 pub mod TypeRules
+pub mod TypeRefusals
 pub mod IndexRange
 pub mod Ids

@@ -7,12 +7,19 @@ mod counts;
 mod ids;
 mod index_range;
 mod kinds;
+mod misfits;
 mod op;
+mod operand_types;
 mod operands;
+mod places;
 mod regions;
+mod result_types;
 mod results;
 mod same_types;
 mod side;
+#[cfg(test)]
+mod tests;
+mod type_errors;
 mod type_tests;
 mod values;
 mod verdict;
@@ -29,6 +36,10 @@ pub use kinds::{
     RegionKindInterface,
 };
 pub use op::Op;
+pub use operand_types::{
+    AllOperandsImplsTy, AllOperandsOfType, OperandNImplsTy, OperandNOfType, OperandsMNImplsTy,
+    OperandsMNOfType,
+};
 pub use operands::{
     AtLeastNOpdsInterface, AtMostNOpdsInterface, NOpdsInterface, OneOpdInterface,
     OptionalOpdInterface, verify_get_operand_n,
@@ -37,6 +48,10 @@ pub use plir_core::LessThanN;
 pub use regions::{
     AtMostNRegionsInterface, AtMostOneRegionInterface, NRegionsInterface, OneRegionInterface,
 };
+pub use result_types::{
+    AllResultsImplsTy, AllResultsOfType, ResultNImplsTy, ResultNOfType, ResultsMNImplsTy,
+    ResultsMNOfType,
+};
 pub use results::{
     AtLeastNResultsInterface, AtMostNResultsInterface, NResultsInterface, OneResultInterface,
     OptionalResultInterface, verify_get_result_n,
@@ -44,4 +59,9 @@ pub use results::{
 pub use same_types::{
     SameOperandsAndResultType, SameOperandsAndResultTypeVerifyErr, SameOperandsType,
     SameOperandsTypeVerifyErr, SameResultsType, SameResultsTypeVerifyErr,
+};
+pub use type_errors::{
+    AllOperandsOfTypeVerifyErr, AllResultsOfTypeVerifyErr, OperandNOfTypeError,
+    OperandsMNOfTypeError, ResultNOfTypeError, ResultsMNOfTypeError, TypeInterfaceImplsErr,
+    TypeRuleErr,
 };

@@ -6,7 +6,7 @@ ghost use Rattle.plir_core.specs.declared.ptr.IRNode.{IRNode};
 ghost use Rattle.plir_core.specs.Store.{IsLive};
 ghost use Rattle.plir_core.specs.Whole.{IsWhole};
 ghost use Rattle.plir_iface.specs.Sides.{types_on, type_in};
-ghost use Rattle.plir_iface.specs.TypeRules.{Passes, IsFirstFailing};
+ghost use Rattle.plir_iface.specs.TypeRules.{Passes, IsBetween, IsFirstFailing};
 
 use crate::side::Side;
 use plir_core::{Context, Operation, Ptr};
@@ -15,11 +15,18 @@ use std::marker::PhantomData;
 
 /// A test of types: whether they are of one kind, or implement an interface.
 pub trait TypeTest<D: OpSet> {
-    ghost use Rattle.std.specs.Prelude.{Bool};
+    ghost use Rattle.std.specs.Prelude.{Bool, List, ℕ};
     ghost use Rattle.plir_data.specs.Types.{TypeView};
 
     // The types that pass.
     ghost passes: { TypeView D.Ty → Bool };
+
+    // The name of what is asked for.
+    ghost test_name: { List ℕ };
+
+    /// The name of what is asked for.
+    fn test_name() -> &'static str
+        ensures { result.now ≡ test_name };
 
     /// Whether a type passes.
     fn test(ty: &TypeObj<D>) -> bool
@@ -34,6 +41,12 @@ pub struct OfType<T> {
 impl<D: OpSet, T: TypeMark<D>> TypeTest<D> for OfType<T> {
     ghost passes = { T.marks };
 
+    ghost test_name = { T.mark_name };
+
+    fn test_name() -> &'static str {
+        T::mark_name()
+    }
+
     fn test(ty: &TypeObj<D>) -> bool {
         T::project(ty).is_some()
     }
@@ -46,6 +59,12 @@ pub struct Implementing<I> {
 
 impl<D: OpSet, I: TypeInterfaceMark<D>> TypeTest<D> for Implementing<I> {
     ghost passes = { I.marks };
+
+    ghost test_name = { I.mark_name };
+
+    fn test_name() -> &'static str {
+        I::mark_name()
+    }
 
     fn test(ty: &TypeObj<D>) -> bool {
         I::is_implemented_by(ty)
@@ -77,7 +96,7 @@ pub(crate) fn first_failing<D: OpSet, Q: TypeTest<D>>(
 ) -> Option<usize>
     requires live { IsLive ctx.now (IRNode.Operation op) }
     requires within { end ≤ length (types_on side ctx.now op) }
-    ensures value { IsFirstFailing Q.passes ctx.now (types_on side ctx.now op) start end result }
+    ensures value { IsFirstFailing Q.passes ctx.now (IsBetween start end) (types_on side ctx.now op) result }
     ensures whole { IsWhole D.attr_handles ctx.now }
 {
     let _count = side.len(ctx, op);

@@ -24,8 +24,22 @@ pub(crate) fn accept_if<D: OpSet, E: Drop>(
     if holds {
         return Ok(());
     }
-    Err(VerifyErr::Refused {
+    Err(refusal(ctx, op, err))
+}
+
+/// The refusal by an error, at the operation's location.
+pub(crate) fn refusal<D: OpSet, E: Drop>(
+    ctx: &Context<D>,
+    op: Ptr<Operation>,
+    err: E,
+) -> VerifyErr<E>
+    requires { IsLive ctx.now (IRNode.Operation op) }
+    ensures refused { IsRefusal ctx.now op (λ e. e ≡ err) result }
+    ensures whole { IsWhole D.attr_handles ctx.now }
+{
+    let _live = ctx.num_live();
+    VerifyErr::Refused {
         loc: op.loc(ctx),
         err,
-    })
+    }
 }

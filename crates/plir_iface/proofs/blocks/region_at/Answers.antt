@@ -1,6 +1,6 @@
 use Rattle.plir_core.specs.declared.ptr.IRNode.TheVariants.{Operation, Region}
 use Rattle.plir_core.proofs.Facts.{kid-live}
-use Rattle.plir_iface.proofs.Places.{at-Has}
+use Rattle.plir_iface.proofs.ListPlaces.{at-Has}
 use Rattle.plir_iface.proofs.blocks.region_at.Goals as goal
 
 pub returns-clause-live : goal.returns-clause-live

@@ -1,0 +1,4 @@
+use Rattle.plir_iface.proofs.result_types.ResultNImplsTy.verify.Goals as goal
+
+pub returns-clause-refused : goal.returns-clause-refused
+returns-clause-refused g c = rw c.get_operation.ensures at c.verify_at.ensures.refused

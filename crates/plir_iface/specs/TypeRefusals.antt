@@ -1,0 +1,108 @@
+-- How the rules of types are refused: a fault of the types, and what an error tells of it.
+use Rattle.std.specs.Prelude.{◌≡◌, ◌<◌, ℕ, List, [], length, Bool, Option, string_bytes}
+use Rattle.std.specs.Option.{option_map_or, option_and_then}
+use Rattle.plir_data.specs.Types.{TypeView, type_at}
+use Rattle.plir_data.specs.TypeText.{type_text}
+use Rattle.plir_core.specs.declared.ptr.Ptr.{Ptr}
+use Rattle.plir_core.specs.declared.ptr.Operation.{Operation as OperationKind}
+use Rattle.plir_core.specs.Store.{Store}
+use Rattle.plir_iface.specs.Ids.{type_id}
+use Rattle.plir_iface.specs.Sides.{type_in, types_on}
+use Rattle.plir_iface.specs.Places.{NeedsMore, IsAmong}
+use Rattle.plir_iface.specs.TypeRules.{FailsFirst}
+use Rattle.plir_iface.specs.declared.places.Places.{Places}
+use Rattle.plir_iface.specs.declared.side.Side.{Side}
+use Rattle.plir_iface.specs.declared.side.Side.TheVariants.{Operands, Results}
+use Rattle.plir_iface.specs.declared.counts.NotEnoughOperandsErr.{NotEnoughOperandsErr}
+use Rattle.plir_iface.specs.declared.counts.NotEnoughResultsErr.{NotEnoughResultsErr}
+use Rattle.plir_iface.specs.declared.type_errors.AllOperandsOfTypeVerifyErr.{AllOperandsOfTypeVerifyErr}
+use Rattle.plir_iface.specs.declared.type_errors.AllResultsOfTypeVerifyErr.{AllResultsOfTypeVerifyErr}
+use Rattle.plir_iface.specs.declared.type_errors.OtherKind.{OtherKind}
+use Rattle.plir_iface.specs.declared.type_errors.TooFew.{TooFew as FewValues}
+use Rattle.plir_iface.specs.declared.type_errors.Misfit.{Misfit}
+use Rattle.plir_iface.specs.declared.type_errors.TypeFault.{TypeFault}
+use Rattle.plir_iface.specs.declared.type_errors.TypeFault.TheVariants.{Few, Wrong}
+use Rattle.plir_iface.specs.declared.type_errors.TypeInterfaceImplsErr.{TypeInterfaceImplsErr}
+use Rattle.plir_iface.specs.declared.type_errors.TypeInterfaceImplsErr.TheVariants.{Operand, Result, Segment}
+use Rattle.plir_iface.specs.declared.type_errors.OperandNOfTypeError.{OperandNOfTypeError}
+use Rattle.plir_iface.specs.declared.type_errors.OperandNOfTypeError.TheVariants.{AllOperandsOfTypeVerifyErr as OperandOfOtherKind}
+use Rattle.plir_iface.specs.declared.type_errors.ResultNOfTypeError.{ResultNOfTypeError}
+use Rattle.plir_iface.specs.declared.type_errors.ResultNOfTypeError.TheVariants.{AllResultsOfTypeVerifyErr as ResultOfOtherKind}
+use Rattle.plir_iface.specs.declared.type_errors.OperandsMNOfTypeError.{OperandsMNOfTypeError}
+use Rattle.plir_iface.specs.declared.type_errors.OperandsMNOfTypeError.TheVariants.{NotEnoughOperands, UnexpectedType as UnexpectedOperandType}
+use Rattle.plir_iface.specs.declared.type_errors.ResultsMNOfTypeError.{ResultsMNOfTypeError}
+use Rattle.plir_iface.specs.declared.type_errors.ResultsMNOfTypeError.TheVariants.{NotEnoughResults, UnexpectedType as UnexpectedResultType}
+use Rattle.plir_iface.specs.declared.type_errors.TypeRuleErr.{TypeRuleErr}
+use Rattle.plir_iface.specs.declared.type_errors.TypeRuleErr.TheVariants.{TooFew, WrongType}
+
+-- the id of the type at a place, and its text
+abbrev pub id_in : {K A T : Type 0} (own_id : T → List ℕ) → Store K A T → List (Option ℕ) → ℕ → List ℕ
+id_in own_id s ts i = option_map_or (type_id own_id) (option_and_then (type_at s.types) (type_in ts i)) []
+
+abbrev pub text_in : {K A T : Type 0} (own_id : T → List ℕ) (own_body : List (TypeView T) → T → List ℕ) → Store K A T → List (Option ℕ) → ℕ → List ℕ
+text_in own_id own_body s ts i = option_map_or (type_text own_id own_body s.types) (type_in ts i) []
+
+module _ {K A T : Type 0} (passes : TypeView T → Bool) (name : List ℕ) (own_id : T → List ℕ) (s : Store K A T) where
+  -- the first of these places whose type fails the test, with the name of what is asked for and the id of that type
+  abbrev pub IsMisfit : Side → (among : ℕ → Type 0) → List (Option ℕ) → Misfit → Type 0
+  IsMisfit side among ts m = (m.side ≡ side) × FailsFirst passes s among ts m.place × (m.wanted.now ≡ name) × (m.found.now ≡ id_in own_id s ts m.place)
+
+  -- How types break the rule of some places: there are too few, and so many are needed; or the first that fails.
+  abbrev pub IsFault : Side → Places → List (Option ℕ) → TypeFault → Type 0
+  IsFault side places ts (Few few) = (few.found ≡ length ts) × NeedsMore places (length ts) few.needed
+  IsFault side places ts (Wrong m) = IsMisfit side (IsAmong places (length ts)) ts m
+
+  -- An error tells, as R says, of the first type of an operation's side that fails the test; or of how they break the rule of some places.
+  abbrev pub IsMisfitTold : {E : Type 0} → Ptr OperationKind → Side → (R : Misfit → E → Type 0) → E → Type 0
+  IsMisfitTold op side R e = let ts = types_on side s op in (m : Misfit) × (IsMisfit side (λ i. i < length ts) ts m × R m e)
+
+  abbrev pub IsFaultTold : {E : Type 0} → Ptr OperationKind → Side → Places → (R : TypeFault → E → Type 0) → E → Type 0
+  IsFaultTold op side places R e = (f : TypeFault) × (IsFault side places (types_on side s op) f × R f e)
+
+  -- the same of the first that fails, by its text
+  abbrev pub IsOtherKind : (own_body : List (TypeView T) → T → List ℕ) → List (Option ℕ) → OtherKind → Type 0
+  IsOtherKind own_body ts o =
+      (o.wanted.now ≡ name) × ((i : ℕ) × (FailsFirst passes s (λ i. i < length ts) ts i × (string_bytes o.found ≡ text_in own_id own_body s ts i)))
+
+  abbrev pub IsOtherKindTold : {E : Type 0} → (own_body : List (TypeView T) → T → List ℕ) → Ptr OperationKind → Side → (R : OtherKind → E → Type 0) → E → Type 0
+  IsOtherKindTold own_body op side R e = (o : OtherKind) × (IsOtherKind own_body (types_on side s op) o × R o e)
+
+-- What an error tells of a fault.
+abbrev pub TellsFewOperands : FewValues → NotEnoughOperandsErr → Type 0
+TellsFewOperands few e = (e.0 ≡ few.found) × (e.1 ≡ few.needed)
+
+abbrev pub TellsFewResults : FewValues → NotEnoughResultsErr → Type 0
+TellsFewResults few e = (e.0 ≡ few.found) × (e.1 ≡ few.needed)
+
+abbrev pub TellsOtherOperand : OtherKind → AllOperandsOfTypeVerifyErr → Type 0
+TellsOtherOperand o e = (e.0 ≡ o.wanted) × (string_bytes e.1 ≡ string_bytes o.found)
+
+abbrev pub TellsOtherResult : OtherKind → AllResultsOfTypeVerifyErr → Type 0
+TellsOtherResult o e = (e.0 ≡ o.wanted) × (string_bytes e.1 ≡ string_bytes o.found)
+
+abbrev pub TellsImpls : Misfit → TypeInterfaceImplsErr → Type 0
+TellsImpls m (Operand i name id) = (m.side ≡ Operands) × (i ≡ m.place) × (name ≡ m.wanted) × (id ≡ m.found)
+TellsImpls m (Result i name id) = (m.side ≡ Results) × (i ≡ m.place) × (name ≡ m.wanted) × (id ≡ m.found)
+TellsImpls m (Segment i name id) = ⊥
+
+abbrev pub TellsOperandN : Misfit → OperandNOfTypeError → Type 0
+TellsOperandN m (OperandOfOtherKind name id) = (name ≡ m.wanted) × (id ≡ m.found)
+
+abbrev pub TellsResultN : Misfit → ResultNOfTypeError → Type 0
+TellsResultN m (ResultOfOtherKind name id) = (name ≡ m.wanted) × (id ≡ m.found)
+
+abbrev pub TellsOperandsMN : TypeFault → OperandsMNOfTypeError → Type 0
+TellsOperandsMN (Few few) (NotEnoughOperands found needed) = (found ≡ few.found) × (needed ≡ few.needed)
+TellsOperandsMN (Wrong m) (UnexpectedOperandType i name id) = (i ≡ m.place) × (name ≡ m.wanted) × (id ≡ m.found)
+TellsOperandsMN _ _ = ⊥
+
+abbrev pub TellsResultsMN : TypeFault → ResultsMNOfTypeError → Type 0
+TellsResultsMN (Few few) (NotEnoughResults found needed) = (found ≡ few.found) × (needed ≡ few.needed)
+TellsResultsMN (Wrong m) (UnexpectedResultType i name id) = (i ≡ m.place) × (name ≡ m.wanted) × (id ≡ m.found)
+TellsResultsMN _ _ = ⊥
+
+-- too few values are told as P says, and a wrong type as Q does
+abbrev pub TellsRule : {F E : Type 0} → (P : FewValues → F → Type 0) (Q : Misfit → E → Type 0) → TypeFault → TypeRuleErr F E → Type 0
+TellsRule P Q (Few few) (TooFew e) = P few e
+TellsRule P Q (Wrong m) (WrongType e) = Q m e
+TellsRule P Q _ _ = ⊥

@@ -1,0 +1,150 @@
+//! Interfaces of operations by the types of their results.
+ghost use Rattle.std.specs.Prelude.{◌↔◌, ◌<◌, ◌-◌, ◌^◌, IsOk, IfErr};
+ghost use Rattle.plir_core.specs.declared.ptr.IRNode.{IRNode};
+ghost use Rattle.plir_core.specs.Store.{IsLive};
+ghost use Rattle.plir_core.specs.Whole.{IsWhole};
+ghost use Rattle.plir_iface.specs.Places.{IsOrdered, signed};
+ghost use Rattle.plir_iface.specs.TypeRules.{HasAllResultsOfType, HasAllResultsImplsTy, HasResultNOfType, HasResultNImplsTy, HasResultsMNOfType, HasResultsMNImplsTy};
+ghost use Rattle.plir_iface.specs.TypeRefusals.{IsFaultTold, IsMisfitTold, IsOtherKindTold, TellsFewResults, TellsImpls, TellsResultN, TellsResultsMN, TellsOtherResult, TellsRule};
+ghost use Rattle.plir_iface.specs.Verdict.{IsRefusal, IsRefusalMemoryAside};
+
+use crate::counts::NotEnoughResultsErr;
+use crate::misfits::{verify_at, verify_each, verify_each_kind};
+use crate::op::Op;
+use crate::places::Places;
+use crate::side::Side;
+use crate::type_errors::{
+    AllResultsOfTypeVerifyErr, ResultNOfTypeError, ResultsMNOfTypeError, TypeInterfaceImplsErr,
+    TypeRuleErr,
+};
+use crate::type_tests::{Implementing, OfType};
+use plir_core::Context;
+use plir_data::{OpSet, TypeInterfaceMark, TypeMark, VerifyErr};
+use std::alloc::Global;
+
+/// Operations whose results all have a type of the kind `T`.
+pub trait AllResultsOfType<D: OpSet, T: TypeMark<D>>: Op<D> {
+    /// Accepts exactly where each result has a type of the kind `T`. The refusal has the text of the first type that is none,
+    /// unless memory for that text was refused.
+    final fn verify(
+        &self,
+        alloc: Global,
+        ctx: &Context<D>,
+    ) -> Result<(), VerifyErr<AllResultsOfTypeVerifyErr>>
+        requires { IsLive ctx.now (IRNode.Operation (Self.pointer self.now)) }
+        ensures ok { IsOk result ↔ HasAllResultsOfType T.marks ctx.now (Self.pointer self.now) }
+        ensures refused { IfErr result (IsRefusalMemoryAside ctx.now (Self.pointer self.now) (IsOtherKindTold T.marks T.mark_name D.type_id ctx.now D.type_body_text (Self.pointer self.now) Side.Results TellsOtherResult)) }
+        ensures whole { IsWhole D.attr_handles ctx.now }
+    {
+        verify_each_kind::<D, T, AllResultsOfTypeVerifyErr>(
+            alloc,
+            ctx,
+            self.get_operation(),
+            Side::Results,
+        )
+    }
+}
+
+/// Operations whose results all have a type that implements `I`.
+pub trait AllResultsImplsTy<D: OpSet, I: TypeInterfaceMark<D>>: Op<D> {
+    /// Accepts exactly where each result has a type that implements `I`; the refusal names the first that doesn't.
+    final fn verify(&self, ctx: &Context<D>) -> Result<(), VerifyErr<TypeInterfaceImplsErr>>
+        requires { IsLive ctx.now (IRNode.Operation (Self.pointer self.now)) }
+        ensures ok { IsOk result ↔ HasAllResultsImplsTy I.marks ctx.now (Self.pointer self.now) }
+        ensures refused { IfErr result (IsRefusal ctx.now (Self.pointer self.now) (IsMisfitTold I.marks I.mark_name D.type_id ctx.now (Self.pointer self.now) Side.Results TellsImpls)) }
+        ensures whole { IsWhole D.attr_handles ctx.now }
+    {
+        verify_each::<D, Implementing<I>, TypeInterfaceImplsErr>(
+            ctx,
+            self.get_operation(),
+            Side::Results,
+        )
+    }
+}
+
+/// Operations that have a result at the place `N`, from 0, with a type of the kind `T`.
+pub trait ResultNOfType<D: OpSet, const N: usize, T: TypeMark<D>>: Op<D> {
+    /// Accepts exactly where there is a result at the place `N`, and its type is of the kind `T`.
+    final fn verify(
+        &self,
+        ctx: &Context<D>,
+    ) -> Result<(), VerifyErr<TypeRuleErr<NotEnoughResultsErr, ResultNOfTypeError>>>
+        requires live { IsLive ctx.now (IRNode.Operation (Self.pointer self.now)) }
+        requires countable { N < 2 ^ 64 - 1 }
+        ensures ok { IsOk result ↔ HasResultNOfType T.marks ctx.now (Self.pointer self.now) N }
+        ensures refused { IfErr result (IsRefusal ctx.now (Self.pointer self.now) (IsFaultTold T.marks T.mark_name D.type_id ctx.now (Self.pointer self.now) Side.Results (Places.At N) (TellsRule TellsFewResults TellsResultN))) }
+        ensures whole { IsWhole D.attr_handles ctx.now }
+    {
+        verify_at::<D, OfType<T>, TypeRuleErr<NotEnoughResultsErr, ResultNOfTypeError>>(
+            ctx,
+            self.get_operation(),
+            Side::Results,
+            Places::At(N),
+        )
+    }
+}
+
+/// Operations that have a result at the place `N`, from 0, with a type that implements `I`.
+pub trait ResultNImplsTy<D: OpSet, const N: usize, I: TypeInterfaceMark<D>>: Op<D> {
+    /// Accepts exactly where there is a result at the place `N`, and its type implements `I`.
+    final fn verify(
+        &self,
+        ctx: &Context<D>,
+    ) -> Result<(), VerifyErr<TypeRuleErr<NotEnoughResultsErr, TypeInterfaceImplsErr>>>
+        requires live { IsLive ctx.now (IRNode.Operation (Self.pointer self.now)) }
+        requires countable { N < 2 ^ 64 - 1 }
+        ensures ok { IsOk result ↔ HasResultNImplsTy I.marks ctx.now (Self.pointer self.now) N }
+        ensures refused { IfErr result (IsRefusal ctx.now (Self.pointer self.now) (IsFaultTold I.marks I.mark_name D.type_id ctx.now (Self.pointer self.now) Side.Results (Places.At N) (TellsRule TellsFewResults TellsImpls))) }
+        ensures whole { IsWhole D.attr_handles ctx.now }
+    {
+        verify_at::<D, Implementing<I>, TypeRuleErr<NotEnoughResultsErr, TypeInterfaceImplsErr>>(
+            ctx,
+            self.get_operation(),
+            Side::Results,
+            Places::At(N),
+        )
+    }
+}
+
+/// Operations whose results from the place `M` to the place `N` have a type of the kind `T`.
+/// The number `N` stands for the signed number of its 32 bits: a negative one counts from the last result, which is -1.
+pub trait ResultsMNOfType<D: OpSet, const M: u32, const N: u32, T: TypeMark<D>>: Op<D> {
+    /// Accepts exactly where there are enough results for the range of places, and those in it have a type of the kind `T`.
+    final fn verify(&self, ctx: &Context<D>) -> Result<(), VerifyErr<ResultsMNOfTypeError>>
+        requires live { IsLive ctx.now (IRNode.Operation (Self.pointer self.now)) }
+        requires ordered { IsOrdered M (signed N) }
+        ensures ok { IsOk result ↔ HasResultsMNOfType T.marks ctx.now (Self.pointer self.now) M N }
+        ensures refused { IfErr result (IsRefusal ctx.now (Self.pointer self.now) (IsFaultTold T.marks T.mark_name D.type_id ctx.now (Self.pointer self.now) Side.Results (Places.Within M (signed N)) TellsResultsMN)) }
+        ensures whole { IsWhole D.attr_handles ctx.now }
+    {
+        verify_at::<D, OfType<T>, ResultsMNOfTypeError>(
+            ctx,
+            self.get_operation(),
+            Side::Results,
+            Places::Within(M, N.cast_signed()),
+        )
+    }
+}
+
+/// Operations whose results from the place `M` to the place `N` have a type that implements `I`.
+/// The number `N` stands for the signed number of its 32 bits: a negative one counts from the last result, which is -1.
+pub trait ResultsMNImplsTy<D: OpSet, const M: u32, const N: u32, I: TypeInterfaceMark<D>>: Op<D> {
+    /// Accepts exactly where there are enough results for the range of places, and those in it have a type that implements `I`.
+    final fn verify(
+        &self,
+        ctx: &Context<D>,
+    ) -> Result<(), VerifyErr<TypeRuleErr<NotEnoughResultsErr, TypeInterfaceImplsErr>>>
+        requires live { IsLive ctx.now (IRNode.Operation (Self.pointer self.now)) }
+        requires ordered { IsOrdered M (signed N) }
+        ensures ok { IsOk result ↔ HasResultsMNImplsTy I.marks ctx.now (Self.pointer self.now) M N }
+        ensures refused { IfErr result (IsRefusal ctx.now (Self.pointer self.now) (IsFaultTold I.marks I.mark_name D.type_id ctx.now (Self.pointer self.now) Side.Results (Places.Within M (signed N)) (TellsRule TellsFewResults TellsImpls))) }
+        ensures whole { IsWhole D.attr_handles ctx.now }
+    {
+        verify_at::<D, Implementing<I>, TypeRuleErr<NotEnoughResultsErr, TypeInterfaceImplsErr>>(
+            ctx,
+            self.get_operation(),
+            Side::Results,
+            Places::Within(M, N.cast_signed()),
+        )
+    }
+}
