@@ -1,0 +1,266 @@
+//! Attribute values, their conversions, equality and copies.
+
+ghost use Rattle.std.specs.Prelude.{◌≡◌, []};
+
+use super::sample_set::{Marked, SampleSet};
+use plir_data::{
+    APInt, AttrObj, BoolAttr, GivenNamesAttr, Identifier, IdentifierAttr, IntegerAttr, IntegerType,
+    OperandSegmentSizesAttr, PrintOnceAttr, Signedness, StringAttr, TypeAttr, TypeHandle,
+    TypeTable, Typed, TypedAttrInterface, UnitAttr, VecAttr,
+};
+use std::alloc::Global;
+use std::convert::AsStr;
+use std::hash::{DefaultHasher, Hash, Hasher};
+use std::process::Abort;
+use std::test::Fail;
+
+pub(crate) type Attr = AttrObj<SampleSet>;
+
+// The attribute of a text.
+pub(crate) fn text(alloc: Global, value: &str) -> Result<Attr, Fail> {
+    Ok(AttrObj::String(again!(StringAttr::try_from_str(alloc, value))))
+}
+
+pub(crate) fn hash_of<T: Hash>(value: &T) -> u64 {
+    let mut state = DefaultHasher::new();
+    value.hash(&mut state);
+    state.finish()
+}
+
+#[test]
+fn test_integer_attributes(rt: HostRuntime) -> Result<(), Fail> {
+    let mut table: TypeTable<SampleSet> = TypeTable::new(rt.alloc());
+    let si64 = again!(IntegerType::get(&mut table, 64, Signedness::Signed));
+    let zero = IntegerAttr::new(si64, APInt::from_i64(0, 64).expect(&rt, "a width"));
+    let same = IntegerAttr::new(si64, APInt::from_i64(0, 64).expect(&rt, "a width"));
+    let fifteen = IntegerAttr::new(si64, APInt::from_i64(15, 64).expect(&rt, "a width"));
+    assert!(rt; zero == same);
+    assert!(rt; zero != fifteen);
+    assert!(rt; zero.value().is_zero());
+    assert_eq!(rt; APInt::from(fifteen).to_i64(), 15);
+    assert!(rt; fifteen.get_type() == si64);
+    Ok(())
+}
+
+#[test]
+fn test_string_attributes(rt: HostRuntime) -> Result<(), Fail> {
+    let alloc = rt.alloc();
+    let hello = again!(StringAttr::try_from_str(alloc, "hello"));
+    let world = again!(StringAttr::try_from_str(alloc, "world"));
+    assert!(rt; hello != world);
+    assert_eq!(rt; hello.as_str(), "hello");
+    let hello = String::from(hello);
+    assert_eq!(rt; hello.as_str(), "hello");
+    let world = String::from(world);
+    assert_eq!(rt; world.as_str(), "world");
+    Ok(())
+}
+
+#[test]
+fn test_vec_attributes(rt: HostRuntime) -> Result<(), Fail> {
+    let alloc = rt.alloc();
+    let list = two_texts(alloc, "hello", "world")?;
+    are_texts(&rt, list.0.as_slice(), "hello", "world");
+    Ok(())
+}
+
+// The attribute is this text.
+pub(crate) fn is_text(rt: &impl Abort, attr: &Attr, want: &str) {
+    let AttrObj::String(value) = attr else {
+        panic!(rt; "not a text");
+    };
+    assert_eq!(rt; value.as_str(), want);
+}
+
+// The attributes are these two texts.
+fn are_texts(rt: &impl Abort, items: &[Attr], first: &str, second: &str) {
+    let [one, other] = items else {
+        panic!(rt; "not two attributes");
+    };
+    is_text(rt, one, first);
+    is_text(rt, other, second);
+}
+
+// A list of two texts.
+fn two_texts(alloc: Global, first: &str, second: &str) -> Result<VecAttr<SampleSet>, Fail> {
+    let mut list = again!(Vec::with_capacity(alloc, 2));
+    list.push(text(alloc, first)?)?;
+    list.push(text(alloc, second)?)?;
+    Ok(VecAttr::new(list))
+}
+
+#[test]
+fn test_type_attributes(rt: HostRuntime) -> Result<(), Fail> {
+    let mut table: TypeTable<SampleSet> = TypeTable::new(rt.alloc());
+    let si64 = again!(IntegerType::get(&mut table, 64, Signedness::Signed));
+    let attr = TypeAttr::new(si64.into());
+    assert!(rt; attr.get_type() == si64.into());
+    assert!(rt; AttrObj::<SampleSet>::Type(attr).typed() == Some(si64.into()));
+    Ok(())
+}
+
+#[test]
+fn test_operand_segment_sizes_attr(rt: HostRuntime) -> Result<(), Fail> {
+    let alloc = rt.alloc();
+    let sizes = OperandSegmentSizesAttr(again!(Vec::from_slice(alloc, &[1, 2, 3])));
+    let copy = again!(sizes.try_clone(alloc));
+    assert!(rt; copy == sizes);
+    assert_eq!(rt; copy.0.as_slice(), [1, 2, 3].as_slice());
+    Ok(())
+}
+
+// A copy of an attribute is equal to it, and hashes alike.
+fn copies(rt: &impl Abort, alloc: Global, attr: Attr, id: &str) -> Result<(), Fail> {
+    let copy = again!(attr.try_clone(alloc));
+    assert!(rt; copy == attr);
+    assert!(rt; hash_of(&copy) == hash_of(&attr));
+    assert_eq!(rt; copy.get_attr_id(), id);
+    Ok(())
+}
+
+#[test]
+fn copies_small_ones(rt: HostRuntime) -> Result<(), Fail> {
+    let alloc = rt.alloc();
+    copies(
+        &rt,
+        alloc,
+        AttrObj::Bool(BoolAttr::new(true)),
+        "builtin.bool",
+    )?;
+    copies(&rt, alloc, AttrObj::Unit(UnitAttr::new()), "builtin.unit")?;
+    copies(&rt, alloc, AttrObj::Own(Marked(true)), "sample.marked")?;
+    Ok(())
+}
+
+#[test]
+fn copies_texts_and_lists_where_memory_is_refused(rt: HostRuntime) -> Result<(), Fail> {
+    let alloc = rt.alloc();
+    let name = again!(Identifier::try_new(alloc, "name"));
+    let name = AttrObj::Identifier(IdentifierAttr::new(name));
+    copies(&rt, alloc, name, "builtin.identifier")?;
+    copies(&rt, alloc, text(alloc, "text")?, "builtin.string")?;
+    let list = AttrObj::Vec(two_texts(alloc, "a", "b")?);
+    copies(&rt, alloc, list, "builtin.vec")?;
+    Ok(())
+}
+
+// Two attributes differ, either way.
+fn differ(rt: &impl Abort, one: Attr, other: Attr) {
+    assert!(rt; one != other);
+    assert!(rt; other != one);
+}
+
+#[test]
+fn differs_by_kind(rt: HostRuntime) {
+    differ(&rt, AttrObj::Own(Marked(true)), AttrObj::Own(Marked(false)));
+    differ(
+        &rt,
+        AttrObj::Own(Marked(true)),
+        AttrObj::Bool(BoolAttr::new(true)),
+    );
+    differ(
+        &rt,
+        AttrObj::Unit(UnitAttr::new()),
+        AttrObj::Bool(BoolAttr::new(true)),
+    );
+}
+
+#[test]
+fn differs_by_parts(rt: HostRuntime) -> Result<(), Fail> {
+    let alloc = rt.alloc();
+    let ab = AttrObj::Vec(two_texts(alloc, "a", "b")?);
+    let ba = AttrObj::Vec(two_texts(alloc, "b", "a")?);
+    differ(&rt, ab, ba);
+    let a = text(alloc, "a")?;
+    let b = text(alloc, "b")?;
+    differ(&rt, a, b);
+    Ok(())
+}
+
+#[test]
+fn is_outlined(rt: HostRuntime) {
+    let names: Attr = AttrObj::GivenNames(GivenNamesAttr::new(rt.alloc()));
+    assert!(rt; names.outline());
+    let marked: Attr = AttrObj::Own(Marked(true));
+    assert!(rt; marked.outline());
+    let unit: Attr = AttrObj::Unit(UnitAttr::new());
+    assert!(rt; !unit.outline());
+}
+
+// The names are gone once the list that was lent is cleared.
+fn clear(names: &mut GivenNamesAttr)
+    ensures { names.new ≡ [] }
+{
+    names.names_mut().clear();
+}
+
+#[test]
+fn lends_its_names_where_memory_is_refused(rt: HostRuntime) -> Result<(), Fail> {
+    let alloc = rt.alloc();
+    let mut names = GivenNamesAttr::new(alloc);
+    let first = again!(Identifier::try_new(alloc, "first"));
+    again!(names.names_mut().reserve(2));
+    names.names_mut().push(Some(first))?;
+    names.names_mut().push(None)?;
+    assert_eq!(rt; names.names().len(), 2);
+    let copy = again!(names.try_clone(alloc));
+    assert!(rt; copy == names);
+    clear(&mut names);
+    assert!(rt; names == GivenNamesAttr::new(alloc));
+    assert!(rt; copy != names);
+    Ok(())
+}
+
+// The type of what has one, through the bound.
+fn type_of<T: TypedAttrInterface>(attr: &T) -> TypeHandle {
+    attr.get_type()
+}
+
+// The type of what has one in some context, through the bound.
+fn type_in<C, T: Typed<C>>(ctx: &C, value: &T) -> TypeHandle
+    requires { T.has_type ctx.now value.now }
+{
+    value.get_type(ctx)
+}
+
+// Whether an attribute that is printed once is left out, through the bound.
+fn is_left_out<T: PrintOnceAttr>(attr: &T) -> bool {
+    attr.outline()
+}
+
+#[test]
+fn has_a_type(rt: HostRuntime) -> Result<(), Fail> {
+    let mut table: TypeTable<SampleSet> = TypeTable::new(rt.alloc());
+    let si8 = again!(IntegerType::get(&mut table, 8, Signedness::Signed));
+    let seven = IntegerAttr::new(si8, APInt::from_u64(7, 8).expect(&rt, "a width"));
+    assert!(rt; type_of(&seven) == si8.into());
+    assert!(rt; type_in(&table, &seven) == si8.into());
+    let ty = TypeAttr::from(si8.into());
+    assert!(rt; type_of(&ty) == si8.into());
+    assert!(rt; type_in(&table, &ty) == si8.into());
+    assert!(rt; TypeHandle::from(ty) == si8.into());
+    Ok(())
+}
+
+#[test]
+fn is_left_out_where_printed_once(rt: HostRuntime) {
+    assert!(rt; is_left_out(&Marked(true)));
+    assert!(rt; !is_left_out(&Marked(false)));
+    assert!(rt; PrintOnceAttr::verify(&Marked(true), &()) == Ok(()));
+}
+
+#[test]
+fn converts(rt: HostRuntime) -> Result<(), Fail> {
+    let alloc = rt.alloc();
+    assert!(rt; bool::from(BoolAttr::from(true)));
+    assert!(rt; UnitAttr::default() == UnitAttr::new());
+    let name = again!(Identifier::try_new(alloc, "name"));
+    let attr = IdentifierAttr::from(name);
+    assert_eq!(rt; attr.as_ref().as_str(), "name");
+    let name = Identifier::from(attr);
+    assert_eq!(rt; name.as_str(), "name");
+    let text = again!(String::from_str(alloc, "text"));
+    let text = StringAttr::from(text);
+    assert_eq!(rt; AsStr::as_str(&text), "text");
+    Ok(())
+}
