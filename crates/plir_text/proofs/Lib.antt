@@ -26,3 +26,7 @@ pub mod Values
 pub mod SameMeanings
 pub mod Printed
 pub mod ReadBack
+pub mod Runs
+pub mod QuotedAgain
+pub mod TypesShown
+pub mod AttrsShown

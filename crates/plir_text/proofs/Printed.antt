@@ -24,12 +24,12 @@ abbrev pub Ends : (ℕ → Bool) → List ℕ → Type 0
 Ends p [] = Unit {0}
 Ends p (b ∷ bs) = p b ≡ false
 
-front-run : (p : ℕ → Bool) (w rest : List ℕ) → all_pass p w ≡ true → Ends p rest → front p (w ++ rest) ≡ w
+pub front-run : (p : ℕ → Bool) (w rest : List ℕ) → all_pass p w ≡ true → Ends p rest → front p (w ++ rest) ≡ w
 front-run p [] [] r e = refl
 front-run p [] (b ∷ bs) r e = rw e refl
 front-run p (b ∷ w) rest r e = let h = parts (p b) (all_pass p w) r in rw h.0 (ap (λ (x : List ℕ). b ∷ x) (front-run p w rest h.1 e))
 
-past-run : (p : ℕ → Bool) (w rest : List ℕ) → all_pass p w ≡ true → Ends p rest → past p (w ++ rest) ≡ rest
+pub past-run : (p : ℕ → Bool) (w rest : List ℕ) → all_pass p w ≡ true → Ends p rest → past p (w ++ rest) ≡ rest
 past-run p [] [] r e = refl
 past-run p [] (b ∷ bs) r e = rw e refl
 past-run p (b ∷ w) rest r e = let h = parts (p b) (all_pass p w) r in rw h.0 (past-run p w rest h.1 e)
@@ -166,7 +166,7 @@ look-literal s w b rest h e = at (s && is_high w b) refl
     at true f = look-negative (2 ^ w - b) rest (omega (arith, h.below, small_power w h.few, high s w b f, pow_pos (w - 1))) e
     at false f = look-decimal b rest (omega (arith, h.below, small_power w h.few)) e
 
-value_spelled : (s : Bool) (k : Signedness) (w b : ℕ) → IsValue w b → SpellsValue k w b (sign 60 ∷ literal_token s w b ∷ sign 58 ∷ word (integer_text k w) ∷ sign 62 ∷ [])
+pub value_spelled : (s : Bool) (k : Signedness) (w b : ℕ) → IsValue w b → SpellsValue k w b (sign 60 ∷ literal_token s w b ∷ sign 58 ∷ word (integer_text k w) ∷ sign 62 ∷ [])
 value_spelled s k w b h = at (s && is_high w b) refl
   where
     at : (t : Bool) → (s && is_high w b) ≡ t → SpellsValue k w b (sign 60 ∷ cond t (signed true (2 ^ w - b)) (digits b) ∷ sign 58 ∷ word (integer_text k w) ∷ sign 62 ∷ [])
@@ -202,7 +202,7 @@ literal-takes s w b bytes rest ts end e m = at (s && is_high w b) e
 abbrev pub value_text : Bool → Signedness → ℕ → ℕ → List ℕ
 value_text s k w b = codes "builtin.integer <" ++ (literal s w b ++ (codes ": " ++ (integer_text k w ++ codes ">")))
 
-integer-begins : (s : Bool) (k : Signedness) (w b : ℕ) (rest : List ℕ) → IsValue w b → Begins (value_text s k w b ++ rest) (word (codes "builtin.integer") ∷ sign 60 ∷ literal_token s w b ∷ sign 58 ∷ word (integer_text k w) ∷ sign 62 ∷ []) rest
+pub integer-begins : (s : Bool) (k : Signedness) (w b : ℕ) (rest : List ℕ) → IsValue w b → Begins (value_text s k w b ++ rest) (word (codes "builtin.integer") ∷ sign 60 ∷ literal_token s w b ∷ sign 58 ∷ word (integer_text k w) ∷ sign 62 ∷ []) rest
 integer-begins s k w b rest h =
     let behind : List ℕ = 58 ∷ 32 ∷ (integer_text k w ++ (62 ∷ rest)) in
     let shape : (literal s w b ++ (codes ": " ++ (integer_text k w ++ codes ">"))) ++ rest ≡ literal s w b ++ behind =

@@ -21,7 +21,7 @@ use Rattle.plir_text.proofs.Printed.{IsValue, integer_printed}
 
 module _ {T : Type 0} where
   -- the type of a verified integer
-  verified_type : (o : Option (TypeView T)) (w : ℕ) → is_of_width w o ≡ true → (s : Signedness) × (o ≡ Some (types.integer s w))
+  pub verified_type : (o : Option (TypeView T)) (w : ℕ) → is_of_width w o ≡ true → (s : Signedness) × (o ≡ Some (types.integer s w))
   verified_type (Some (types.integer s v)) w e = (s, ap (λ n. Some (types.integer s n)) ((Decides-eqb v w).0 e))
   verified_type (Some (types.function a r)) w e = absurd cc
   verified_type (Some types.unit) w e = absurd cc

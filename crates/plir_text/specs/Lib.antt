@@ -16,3 +16,4 @@ pub mod Written
 pub mod AttrText
 pub mod AttrReading
 pub mod Meaning
+pub mod Writable

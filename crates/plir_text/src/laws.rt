@@ -1,14 +1,16 @@
 //! Laws of texts.
 
-ghost use Rattle.std.specs.Prelude.{◌≡◌, ℕ, List, IfOk, IfErr, true};
+ghost use Rattle.std.specs.Prelude.{◌≡◌, ◌≤◌, ℕ, List, IfOk, IfErr, true};
 ghost use Rattle.plir_data.specs.AttrSeen.{attr_view};
 ghost use Rattle.plir_data.specs.AttrVerify.{is_of_width};
 ghost use Rattle.plir_data.specs.AttrView.{AttrView, leaf, integer};
 ghost use Rattle.plir_data.specs.Types.{TypeView, IsTypeTable, IsLive, type_at};
-ghost use Rattle.plir_text.specs.Terms.{TypeTerm};
+ghost use Rattle.plir_text.specs.AttrText.{attr_text};
+ghost use Rattle.plir_text.specs.Terms.{TypeTerm, levels};
 ghost use Rattle.plir_text.specs.TypeGrammar.{IsText, TypeWithin};
 ghost use Rattle.plir_text.specs.Meaning.{StandsFor};
 ghost use Rattle.plir_text.specs.Names.{Names};
+ghost use Rattle.plir_text.specs.Writable.{IsWritable, attr_term};
 
 use crate::fault::{Fault, ReadErr};
 use crate::print_attrs::print_attr;
@@ -29,6 +31,11 @@ pub fn written_type_has_one_handle<D: OpSet>()
 /// A text stands for one attribute at most.
 pub fn text_stands_for_one_attribute<D: OpSet>()
     ensures { (m n : ℕ) (types : List (TypeView D.Ty)) → IsTypeTable D.type_handles types → (bytes : List ℕ) (x y : AttrView D.Attr) → StandsFor m types bytes x → StandsFor n types bytes y → x ≡ y }
+{}
+
+/// The text of an attribute stands for it, with as many levels as it has.
+pub fn text_stands_for_its_attribute<D: OpSet>()
+    ensures { (n : ℕ) (types : List (TypeView D.Ty)) → IsTypeTable D.type_handles types → (x : AttrView D.Attr) → IsWritable types x → levels (attr_term types x) ≤ n → StandsFor n types (attr_text D.attr_id D.attr_text D.type_id D.type_body_text types x) x }
 {}
 
 /// The text of a verified integer is read back as an equal attribute; it is refused by `Memory` alone.
