@@ -14,5 +14,6 @@ macro_rules! again {
 }
 
 mod attributes;
+mod dictionaries;
 mod numbers;
 mod sample_set;
