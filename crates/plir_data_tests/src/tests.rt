@@ -17,3 +17,4 @@ mod attributes;
 mod dictionaries;
 mod numbers;
 mod sample_set;
+mod types;
