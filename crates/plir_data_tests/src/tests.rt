@@ -18,3 +18,4 @@ mod dictionaries;
 mod numbers;
 mod sample_set;
 mod types;
+mod validity;
