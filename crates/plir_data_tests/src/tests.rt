@@ -17,3 +17,5 @@ mod attributes;
 mod dictionaries;
 mod numbers;
 mod sample_set;
+mod types;
+mod validity;
