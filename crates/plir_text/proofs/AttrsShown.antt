@@ -1,5 +1,6 @@
 -- The text of an attribute stands for it.
 use Rattle.std.proofs.Common.{◌≡◌, ℕ, ◌<◌, ◌≤◌, ◌^◌, Bool, true, false, ◌||◌, nat_eq, List, [], ◌∷◌, ◌++◌, Option, Some, None, Ok, codes, refl, sym, ap, subst, ◌∙◌, arith, append-nil, append_assoc}
+use Rattle.std.proofs.lemmas.Bool.Decides.{Decides-eqb}
 use Rattle.std.specs.Fmt.{decimal}
 use Rattle.plir_data.specs.AttrVerify.{is_of_width}
 use Rattle.plir_data.specs.AttrView as views
@@ -17,6 +18,7 @@ use Rattle.plir_text.specs.AttrGrammar.{truth, SpellsIdentifier, SpellsSize, Spe
 use Rattle.plir_text.specs.AttrText.{is_signed, bare_text, leaf_text, attr_text, items_text, more_items_text, entries_text, more_entries_text}
 use Rattle.plir_text.specs.Bytes.{is_in_word}
 use Rattle.plir_text.specs.Meaning.{IsMeant, AreMeant, AreEntriesMeant, StandsFor}
+use Rattle.plir_text.specs.Names.{Grows}
 use Rattle.plir_text.specs.Terms as terms
 use Rattle.plir_text.specs.Terms.{levels}
 use Rattle.plir_text.specs.Tokens.{Token, word, digits, sign, look, Begins}
@@ -24,7 +26,7 @@ use Rattle.plir_text.specs.Writable.{IsNameOrMark, pairs_of, IsLeafWritable, IsW
 use Rattle.plir_text.specs.Written.{name_or_mark}
 use Rattle.plir_text.proofs.Printed.{Ends, IsValue, is_word, look-word, look-spaced, look-decimal, value_text, value_spelled, integer-begins}
 use Rattle.plir_text.proofs.QuotedAgain.{string-shown}
-use Rattle.plir_text.proofs.ReadBack.{verified_type}
+use Rattle.plir_text.proofs.Meanings.{IsMeant-grown}
 use Rattle.plir_text.proofs.Runs.{Run, Shown, Tail, Shown-as, Run-as, Tail-as, behind_id, word-shown, identifier_is_word, listed, nothing, behind_first, behind_comma, begins-spaced, several-shown}
 use Rattle.plir_text.proofs.TypesShown.{type-shown, type_named}
 
@@ -64,6 +66,15 @@ value-shown k w b v = record {
   spelled = (_, value_spelled (prints_as_signed k w) k w b v, refl);
   begun = λ rest e. integer-begins (prints_as_signed k w) k w b rest v;
 }
+
+module _ {T : Type 0} where
+  -- the type of a verified integer
+  pub verified_type : (o : Option (TypeView T)) (w : ℕ) → is_of_width w o ≡ true → (s : Signedness) × (o ≡ Some (types.integer s w))
+  verified_type (Some (types.integer s v)) w e = (s, ap (λ n. Some (types.integer s n)) ((Decides-eqb v w).0 e))
+  verified_type (Some (types.function a r)) w e = absurd cc
+  verified_type (Some types.unit) w e = absurd cc
+  verified_type (Some (types.own t)) w e = absurd cc
+  verified_type None w e = absurd cc
 
 module _ {A T : Type 0} (own_id : A → List ℕ) (own_body : List (TypeView T) → A → List ℕ) (type_id : T → List ℕ) (type_body : List (TypeView T) → T → List ℕ) (table : List (TypeView T)) where
   abbrev text_by : (h w b : ℕ) → Option (TypeView T) → List ℕ
@@ -183,9 +194,9 @@ module _ {A T : Type 0} (own_handles : T → List ℕ) (table : List (TypeView T
     entries_meant no_entries h = refl
     entries_meant (entry k x es) h = (x, pairs_of es, attr_meant x h.0, entries_meant es h.1, refl)
 
-  -- the text of an attribute stands for it, with as many levels as it has
-  pub text_stands : (own_id : A → List ℕ) (own_body : List (TypeView T) → A → List ℕ) (type_id : T → List ℕ) (type_body : List (TypeView T) → T → List ℕ) (n : ℕ) (x : AttrView A) → IsWritable table x → levels (attr_term table x) ≤ n → StandsFor n table (attr_text own_id own_body type_id type_body table x) x
-  text_stands own_id own_body type_id type_body n x h le =
+  -- the text of an attribute stands for it, with as many levels as it has, also in a table that has grown on
+  pub text_stands : (own_id : A → List ℕ) (own_body : List (TypeView T) → A → List ℕ) (type_id : T → List ℕ) (type_body : List (TypeView T) → T → List ℕ) (n : ℕ) (new : List (TypeView T)) → Grows table new → (x : AttrView A) → IsWritable table x → levels (attr_term table x) ≤ n → StandsFor n new (attr_text own_id own_body type_id type_body table x) x
+  text_stands own_id own_body type_id type_body n new g x h le =
       let text = attr_text own_id own_body type_id type_body table x in
       let shown = attr-shown own_id own_body type_id type_body table x h in (
         attr_term table x,
@@ -194,5 +205,5 @@ module _ {A T : Type 0} (own_handles : T → List ℕ) (table : List (TypeView T
           are_tokens = record { rest = []; begins = subst (λ bytes. Begins bytes (shown.first ∷ shown.others) []) (append-nil text) (shown.begun [] tt); blank = refl };
           spelled = (shown.spelled, le);
         },
-        attr_meant x h,
+        IsMeant-grown table new g (attr_term table x) x (attr_meant x h),
       )

@@ -97,11 +97,11 @@ module _ {A T : Type 0} (own : A → List ℕ) (table : List (TypeView T)) where
   put_all_live es [] all more = all
   put_all_live es (p ∷ ps) all more = put_all_live (dict_put es p.0 p.1) ps (put_live es p.0 p.1 more.0 all) more.1
 
-  one_live : (h : ℕ) → h < length table → AllLive table (h ∷ [])
+  pub one_live : (h : ℕ) → h < length table → AllLive table (h ∷ [])
   one_live h lt zero d p = lt
   one_live h lt (suc k) d p = absurd (omega (arith, p))
 
-  leaf_live : (x : Leaf A) → leaf_handles own x ≡ [] → IsHeld (leaf x)
+  pub leaf_live : (x : Leaf A) → leaf_handles own x ≡ [] → IsHeld (leaf x)
   leaf_live x none = subst (AllLive table) (sym none) (λ k d p. absurd (omega (arith, p)))
 
   mutual

@@ -1,5 +1,5 @@
 -- The tokens of what is printed.
-use Rattle.std.proofs.Common.{◌≡◌, ◌&&◌, ℕ, suc, ◌+◌, ◌-◌, ◌*◌, ◌%◌, ◌^◌, ◌<◌, ◌≤◌, Bool, true, false, cond, List, [], ◌∷◌, ◌++◌, codes, Ok, refl, sym, ap, subst, ◌∙◌, arith, append-nil, append_assoc}
+use Rattle.std.proofs.Common.{◌≡◌, ◌&&◌, ℕ, suc, ◌+◌, ◌-◌, ◌*◌, ◌%◌, ◌^◌, ◌<◌, ◌≤◌, Bool, true, false, cond, List, [], ◌∷◌, ◌++◌, codes, Ok, refl, sym, ap, subst, ◌∙◌, arith, append_assoc}
 use Rattle.std.specs.Fmt.{decimal}
 use Rattle.std.proofs.lemmas.Fmt.{decimal_by_steps}
 use Rattle.std.proofs.lemmas.Nat.{pow_pos}
@@ -11,11 +11,10 @@ use Rattle.plir_data.specs.Integers.{is_high, literal}
 use Rattle.plir_data.specs.TypeText.{letters, integer_text}
 use Rattle.plir_data.specs.declared.types.Signedness.{Signedness}
 use Rattle.plir_data.specs.declared.types.Signedness.TheVariants.{Signed, Unsigned, Signless}
-use Rattle.plir_text.specs.AttrGrammar.{SpellsValue, AttrWithin}
+use Rattle.plir_text.specs.AttrGrammar.{SpellsValue}
 use Rattle.plir_text.specs.Bytes.{is_blank, is_in_word, front, past, all_pass, is_digits, value_after}
-use Rattle.plir_text.specs.Terms as terms
 use Rattle.plir_text.specs.Tokens.{Token, word, digits, signed, sign, number_of, token_at, look, Begins}
-use Rattle.plir_text.specs.TypeGrammar.{SpellsInteger, IsText}
+use Rattle.plir_text.specs.TypeGrammar.{SpellsInteger}
 use Rattle.plir_text.proofs.Steps.{done}
 use Rattle.plir_text.proofs.TypesAgain.{parts}
 
@@ -211,11 +210,3 @@ integer-begins s k w b rest h =
     let inner : Begins behind (sign 58 ∷ word (integer_text k w) ∷ sign 62 ∷ []) rest = (32 ∷ (integer_text k w ++ (62 ∷ rest)), look-colon _, (62 ∷ rest, type_word, (rest, look-greater rest, refl))) in
     subst (λ (x : List ℕ). Begins (codes "builtin.integer <" ++ x) (word (codes "builtin.integer") ∷ sign 60 ∷ literal_token s w b ∷ sign 58 ∷ word (integer_text k w) ∷ sign 62 ∷ []) rest) (sym shape)
     (32 ∷ 60 ∷ (literal s w b ++ behind), look-integer _, (literal s w b ++ behind, look-less _, literal-takes s w b (literal s w b ++ behind) behind (sign 58 ∷ word (integer_text k w) ∷ sign 62 ∷ []) rest (look-literal s w b behind h refl) inner))
-
--- the text of an integer stands for it
-pub integer_printed : (s : Bool) (k : Signedness) (w b : ℕ) → IsValue w b → IsText (AttrWithin 200) (value_text s k w b) (terms.integer k w b)
-integer_printed s k w b h = record {
-  tokens = word (codes "builtin.integer") ∷ sign 60 ∷ literal_token s w b ∷ sign 58 ∷ word (integer_text k w) ∷ sign 62 ∷ [];
-  are_tokens = record { rest = []; begins = subst (λ (x : List ℕ). Begins x (word (codes "builtin.integer") ∷ sign 60 ∷ literal_token s w b ∷ sign 58 ∷ word (integer_text k w) ∷ sign 62 ∷ []) []) (append-nil (value_text s k w b)) (integer-begins s k w b [] h); blank = refl };
-  spelled = ((_, value_spelled s k w b h, refl), omega arith);
-}

@@ -1,44 +1,65 @@
--- What a printed integer is read as.
-use Rattle.std.proofs.Common.{◌≡◌, ◌≢◌, ◌++◌, ℕ, true, codes, List, Option, Some, None, refl, sym, ap, subst}
-use Rattle.std.proofs.lemmas.Bool.Decides.{Decides-eqb}
-use Rattle.plir_data.specs.AttrVerify.{is_of_width}
-use Rattle.plir_data.specs.AttrView.{leaf, integer}
+-- What a printed attribute is read as.
+use Rattle.std.proofs.Common.{◌≡◌, ◌≢◌, ◌<◌, ◌≤◌, ℕ, List, length, refl, sym, ap, subst, ◌∙◌}
+use Rattle.std.proofs.lemmas.Option.{slice_get_within}
+use Rattle.plir_data.specs.AttrLive.{IsAttrLive, AreItemsLive, AreEntriesLive}
+use Rattle.plir_data.specs.AttrView as views
+use Rattle.plir_data.specs.AttrView.{Leaf, AttrView, leaf, dict, vec, Items, no_items, item, Entries, no_entries, entry}
 use Rattle.plir_data.specs.Types as types
-use Rattle.plir_data.specs.Types.{TypeView, type_at, prints_as_signed}
-use Rattle.plir_data.specs.declared.types.Signedness.{Signedness}
-use Rattle.plir_text.specs.AttrText.{is_signed, bare_text, leaf_text}
-use Rattle.plir_data.specs.Integers.{literal}
-use Rattle.plir_data.specs.TypeText.{type_text}
-use Rattle.plir_text.specs.AttrGrammar.{AttrWithin}
-use Rattle.plir_text.specs.TypeGrammar.{IsText}
+use Rattle.plir_data.specs.Types.{TypeView, IsTypeTable, IsInstantiated, IsLive, type_at}
+use Rattle.plir_text.specs.AttrText.{attr_text}
 use Rattle.plir_text.specs.Meaning.{StandsFor}
 use Rattle.plir_text.specs.Names.{Grows}
-use Rattle.plir_text.specs.Terms as terms
+use Rattle.plir_text.specs.Terms.{levels}
+use Rattle.plir_text.specs.Writable.{IsLeafWritable, IsWritable, AreItemsWritable, AreEntriesWritable, attr_term}
 use Rattle.plir_text.specs.declared.fault.Fault.{Fault}
 use Rattle.plir_text.specs.declared.fault.Fault.TheVariants as faults
-use Rattle.plir_text.proofs.Growth.{at_grown}
-use Rattle.plir_text.proofs.Printed.{IsValue, integer_printed}
+use Rattle.plir_text.proofs.AttrsShown.{verified_type, text_stands}
+use Rattle.plir_text.proofs.Growth.{at_grown, Grows-on}
+use Rattle.plir_text.proofs.Meanings.{one_live, leaf_live}
+use Rattle.plir_text.proofs.SameMeanings.{one_meaning}
 
-module _ {T : Type 0} where
-  -- the type of a verified integer
-  pub verified_type : (o : Option (TypeView T)) (w : ℕ) → is_of_width w o ≡ true → (s : Signedness) × (o ≡ Some (types.integer s w))
-  verified_type (Some (types.integer s v)) w e = (s, ap (λ n. Some (types.integer s n)) ((Decides-eqb v w).0 e))
-  verified_type (Some (types.function a r)) w e = absurd cc
-  verified_type (Some types.unit) w e = absurd cc
-  verified_type (Some (types.own t)) w e = absurd cc
-  verified_type None w e = absurd cc
+-- what a table has grown from is a table
+pub table_before : {T : Type 0} (own_handles : T → List ℕ) (old new : List (TypeView T)) → Grows old new → IsTypeTable own_handles new → IsTypeTable own_handles old
+table_before own_handles old new g whole = record { once = λ t i j p q. whole.once t i j (at_grown old new i t g p) (at_grown old new j t g q); before = λ t i p. whole.before t i (at_grown old new i t g p) }
 
-module _ {A T : Type 0} (own_id : A → List ℕ) (own_body : List (TypeView T) → A → List ℕ) (type_id : T → List ℕ) (type_body : List (TypeView T) → T → List ℕ) (old new : List (TypeView T)) where
-  -- the text of an integer, by its type
-  abbrev text_by : (h w b : ℕ) → Option (TypeView T) → List ℕ
-  text_by h w b o = codes "builtin.integer <" ++ (literal (is_signed o) w b ++ (codes ": " ++ (bare_text (type_text type_id type_body old h) o ++ codes ">")))
+-- the handles in what can be written are of the table
+module _ {A T : Type 0} (own_handles : A → List ℕ) (table : List (TypeView T)) where
+  leaf_held : (x : Leaf A) → IsLeafWritable table x → IsAttrLive own_handles table (leaf x)
+  leaf_held (views.identifier w) h = leaf_live own_handles table (views.identifier w) refl
+  leaf_held (views.string s) h = leaf_live own_handles table (views.string s) refl
+  leaf_held (views.bool b) h = leaf_live own_handles table (views.bool b) refl
+  leaf_held (views.integer handle w b) h = let t = verified_type (type_at table handle) w h.3 in one_live own_handles table handle (slice_get_within table handle (types.integer t.0 w) t.1)
+  leaf_held views.unit h = leaf_live own_handles table views.unit refl
+  leaf_held (views.type_of handle) h = one_live own_handles table handle h.0
+  leaf_held (views.operand_segment_sizes ns) h = leaf_live own_handles table (views.operand_segment_sizes ns) refl
+  leaf_held (views.given_names ns) h = leaf_live own_handles table (views.given_names ns) refl
+  leaf_held (views.own a) h = absurd h
 
-  -- in a table that has grown on, the text of a verified integer stands for it
-  pub integer_stands : (h w b : ℕ) (bytes : List ℕ) → bytes ≡ leaf_text own_id own_body type_id type_body old (integer h w b) → IsValue w b → is_of_width w (type_at old h) ≡ true → Grows old new → StandsFor {A = A} 200 new bytes (leaf (integer h w b))
-  integer_stands h w b bytes is v e g =
-      let t = verified_type (type_at old h) w e in
-      let written = subst (λ o. IsText (AttrWithin 200) (text_by h w b o) (terms.integer t.0 w b)) (sym t.1) (integer_printed (prints_as_signed t.0 w) t.0 w b v) in
-      (terms.integer t.0 w b, subst (λ l. IsText (AttrWithin 200) l (terms.integer t.0 w b)) (sym is) written, (h, at_grown old new h (types.integer t.0 w) g t.1, refl))
+  mutual
+    pub writable_live : (x : AttrView A) → IsWritable table x → IsAttrLive own_handles table x
+    writable_live (leaf x) h = leaf_held x h
+    writable_live (dict es) h = entries_live es h.1
+    writable_live (vec xs) h = items_live xs h
+
+    items_live : (xs : Items A) → AreItemsWritable table xs → AreItemsLive own_handles table xs
+    items_live no_items h = tt
+    items_live (item x xs) h = (writable_live x h.0, items_live xs h.1)
+
+    entries_live : (es : Entries A) → AreEntriesWritable table es → AreEntriesLive own_handles table es
+    entries_live no_entries h = tt
+    entries_live (entry k x es) h = (writable_live x h.0, entries_live es h.1)
+
+-- a handle of a type that was asked for is one of the table
+pub asked_live : {T : Type 0} (old new table : List (TypeView T)) (t : TypeView T) (h k : ℕ) → IsInstantiated old t h new → table ≡ new → k ≡ h → IsLive table k
+asked_live old new table t h k asked same is = subst (λ n. n < length table) (sym is) (slice_get_within table h t (ap (λ l. type_at l h) same ∙ asked.named))
+
+-- what the text of an attribute stands for in a table that has grown on, of which more types were asked for since
+module _ {A T : Type 0} (own_id : A → List ℕ) (own_body : List (TypeView T) → A → List ℕ) (type_id : T → List ℕ) (type_body : List (TypeView T) → T → List ℕ) (own_handles : T → List ℕ) (old new last : List (TypeView T)) (g : Grows old new) (later : Grows new last) (whole : IsTypeTable own_handles last) (bytes : List ℕ) (x : AttrView A) (is : bytes ≡ attr_text own_id own_body type_id type_body old x) (h : IsWritable old x) (few : levels (attr_term old x) ≤ 200) where
+  pub stands : StandsFor 200 new bytes x
+  stands = subst (λ l. StandsFor 200 new l x) (sym is) (text_stands own_handles old (table_before own_handles old last (Grows-on old new last g later) whole) own_id own_body type_id type_body 200 new g x h few)
+
+  pub read_again : (y : AttrView A) → StandsFor 200 new bytes y → y ≡ x
+  read_again y found = one_meaning own_handles new (table_before own_handles new last later whole) 200 200 bytes y x found stands
 
 -- a fault that can't be another
 pub memory_alone : (f : Fault) → (f ≢ faults.Memory → ⊥) → f ≡ faults.Memory

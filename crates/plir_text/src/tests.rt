@@ -6,5 +6,6 @@
 mod attributes;
 mod hostile;
 mod memory;
+mod read_back;
 mod sample_set;
 mod types;
