@@ -16,6 +16,7 @@ mod location;
 mod memory;
 mod op_set;
 mod plain_attrs;
+pub mod put;
 mod text_attrs;
 mod type_store;
 mod type_table;

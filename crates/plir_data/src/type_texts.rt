@@ -2,15 +2,13 @@
 
 ghost use Rattle.std.specs.Prelude.{◌≡◌, ◌++◌, IfOk, OnOk, codes, string_bytes};
 ghost use Rattle.plir_data.specs.Types.{IsLive, AllLive, function};
-ghost use Rattle.plir_data.specs.TypeText.{comma, integer_text, letters, spaced, type_text, types_text, type_text_over};
+ghost use Rattle.plir_data.specs.TypeText.{integer_text, spaced, type_text, types_text, type_text_over};
 
-use crate::ap_int::put_decimal;
 use crate::memory::Memory;
 use crate::op_set::OpSet;
+use crate::put::{put, put_comma, put_integer_text, put_spaced};
 use crate::type_store::TypeStore;
-use crate::types::{
-    FunctionType, FunctionTypeInterface, IntegerType, Signedness, TypeHandle, TypeObj,
-};
+use crate::types::{FunctionType, FunctionTypeInterface, IntegerType, TypeHandle, TypeObj};
 use std::alloc::Global;
 
 /// The text of a type: its id, and what stands behind it.
@@ -101,46 +99,5 @@ fn put_integer_type(out: &mut String, ty: &IntegerType) -> Result<(), Memory>
     ensures { OnOk result (string_bytes out.new ≡ string_bytes out.old ++ (codes "builtin.integer " ++ integer_text ty.now.signedness ty.now.width)) }
 {
     put(out, "builtin.integer ")?;
-    put(out, letters_of(ty.signedness()))?;
-    put_decimal(out, u128::from(ty.width()))?;
-    Ok(())
-}
-
-// What stands before the width of an integer type.
-fn letters_of(signedness: Signedness) -> &'static str
-    ensures { result.now ≡ letters signedness }
-{
-    match signedness {
-        Signedness::Signed => "si",
-        Signedness::Unsigned => "ui",
-        Signedness::Signless => "i",
-    }
-}
-
-fn put(out: &mut String, text: &str) -> Result<(), Memory>
-    ensures { OnOk result (string_bytes out.new ≡ string_bytes out.old ++ text.now) }
-{
-    out.push_str(text)?;
-    Ok(())
-}
-
-// A comma and a space before all but the first.
-fn put_comma(out: &mut String, is_first: bool) -> Result<(), Memory>
-    ensures { OnOk result (string_bytes out.new ≡ string_bytes out.old ++ comma is_first) }
-{
-    if !is_first {
-        put(out, ", ")?;
-    }
-    Ok(())
-}
-
-// A text behind a space, where it isn't empty.
-fn put_spaced(out: &mut String, text: &str) -> Result<(), Memory>
-    ensures { OnOk result (string_bytes out.new ≡ string_bytes out.old ++ spaced text.now) }
-{
-    if !text.is_empty() {
-        put(out, " ")?;
-        put(out, text)?;
-    }
-    Ok(())
+    put_integer_text(out, ty)
 }

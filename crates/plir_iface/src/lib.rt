@@ -17,8 +17,6 @@ mod result_types;
 mod results;
 mod same_types;
 mod side;
-#[cfg(test)]
-mod tests;
 mod type_errors;
 mod type_tests;
 mod values;

@@ -9,10 +9,8 @@ ghost use Rattle.plir_data.specs.Types.{IsLive, AllLive, type_at};
 ghost use Rattle.plir_data.specs.TypeText.{type_text};
 ghost use Rattle.plir_text.specs.AttrText.{is_signed, bare_text, leaf_text, attr_text, items_text, entries_text};
 
-use crate::put::{
-    put, put_bool, put_comma, put_given_names, put_identifier, put_integer_type, put_segments,
-    put_spaced, put_string,
-};
+use crate::put::{put_bool, put_given_names, put_identifier, put_segments, put_string};
+use plir_data::put::{put, put_comma, put_integer_text, put_spaced};
 use plir_data::{
     APInt, AttrObj, AttributeDict, IntegerAttr, Memory, OpSet, TypeAttr, TypeHandle, TypeObj,
     TypeStore, TypeTable, type_text,
@@ -157,7 +155,7 @@ fn put_bare_type<D: OpSet>(
     ensures { OnOk result (string_bytes out.new ≡ string_bytes out.old ++ bare_text (type_text D.type_id D.type_body_text types.now handle) (type_at types.now handle)) }
 {
     match types.get(handle) {
-        TypeObj::Integer(ty) => put_integer_type(out, ty),
+        TypeObj::Integer(ty) => put_integer_text(out, ty),
         _ => put_type(out, alloc, types, handle),
     }
 }

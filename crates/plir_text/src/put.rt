@@ -2,42 +2,14 @@
 
 ghost use Rattle.std.specs.Prelude.{◌≡◌, ◌<◌, ◌++◌, OnOk, codes, string_bytes, ◌∷◌, []};
 ghost use Rattle.std.specs.Fmt.{decimal};
-ghost use Rattle.plir_data.specs.TypeText.{comma, integer_text, letters, spaced};
 ghost use Rattle.plir_text.specs.AttrGrammar.{truth};
 ghost use Rattle.plir_text.specs.Written.{hex_digit, hex, is_control, escape, escape_char, escaped, quotation, joined, name_or_mark};
 
+use plir_data::put::{put, put_comma};
 use plir_data::{
-    BoolAttr, GivenNamesAttr, Identifier, IdentifierAttr, IntegerType, Memory,
-    OperandSegmentSizesAttr, Signedness, StringAttr,
+    BoolAttr, GivenNamesAttr, Identifier, IdentifierAttr, Memory, OperandSegmentSizesAttr,
+    StringAttr,
 };
-
-pub fn put(out: &mut String, text: &str) -> Result<(), Memory>
-    ensures { OnOk result (string_bytes out.new ≡ string_bytes out.old ++ text.now) }
-{
-    out.push_str(text)?;
-    Ok(())
-}
-
-// A comma and a space before all but the first.
-pub fn put_comma(out: &mut String, is_first: bool) -> Result<(), Memory>
-    ensures { OnOk result (string_bytes out.new ≡ string_bytes out.old ++ comma is_first) }
-{
-    if !is_first {
-        put(out, ", ")?;
-    }
-    Ok(())
-}
-
-// A text behind a space, where it isn't empty.
-pub fn put_spaced(out: &mut String, text: &str) -> Result<(), Memory>
-    ensures { OnOk result (string_bytes out.new ≡ string_bytes out.old ++ spaced text.now) }
-{
-    if !text.is_empty() {
-        put(out, " ")?;
-        put(out, text)?;
-    }
-    Ok(())
-}
 
 fn put_truth(out: &mut String, value: bool) -> Result<(), Memory>
     ensures { OnOk result (string_bytes out.new ≡ string_bytes out.old ++ truth value) }
@@ -53,26 +25,6 @@ fn put_number(out: &mut String, n: u32) -> Result<(), Memory>
     ensures { OnOk result (string_bytes out.new ≡ string_bytes out.old ++ decimal n) }
 {
     write!(out, "{n}")?;
-    Ok(())
-}
-
-// What stands before the width of an integer type.
-fn letters_of(signedness: Signedness) -> &'static str
-    ensures { result.now ≡ letters signedness }
-{
-    match signedness {
-        Signedness::Signed => "si",
-        Signedness::Unsigned => "ui",
-        Signedness::Signless => "i",
-    }
-}
-
-// An integer type without its id.
-pub fn put_integer_type(out: &mut String, ty: &IntegerType) -> Result<(), Memory>
-    ensures { OnOk result (string_bytes out.new ≡ string_bytes out.old ++ integer_text ty.now.signedness ty.now.width) }
-{
-    put(out, letters_of(ty.signedness()))?;
-    put_number(out, ty.width())?;
     Ok(())
 }
 

@@ -12,8 +12,6 @@ pub mod limit;
 pub mod links;
 mod name_list;
 mod names_attr;
-#[cfg(test)]
-mod tests;
 pub mod uninterruptible;
 
 pub use config::{

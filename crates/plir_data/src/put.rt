@@ -1,0 +1,58 @@
+//! The parts that printed texts share, for the texts of your own types and attributes too. Each puts something
+//! behind what is there; where memory is refused, a part of it may stand there already.
+
+ghost use Rattle.std.specs.Prelude.{◌≡◌, ◌++◌, OnOk, string_bytes};
+ghost use Rattle.plir_data.specs.TypeText.{comma, integer_text, letters, spaced};
+
+use crate::ap_int::put_decimal;
+use crate::memory::Memory;
+use crate::types::{IntegerType, Signedness};
+
+/// Puts a text.
+pub fn put(out: &mut String, text: &str) -> Result<(), Memory>
+    ensures { OnOk result (string_bytes out.new ≡ string_bytes out.old ++ text.now) }
+{
+    out.push_str(text)?;
+    Ok(())
+}
+
+/// Puts a comma and a space, before all but the first.
+pub fn put_comma(out: &mut String, is_first: bool) -> Result<(), Memory>
+    ensures { OnOk result (string_bytes out.new ≡ string_bytes out.old ++ comma is_first) }
+{
+    if !is_first {
+        put(out, ", ")?;
+    }
+    Ok(())
+}
+
+/// Puts a text behind a space, where it isn't empty.
+pub fn put_spaced(out: &mut String, text: &str) -> Result<(), Memory>
+    ensures { OnOk result (string_bytes out.new ≡ string_bytes out.old ++ spaced text.now) }
+{
+    if !text.is_empty() {
+        put(out, " ")?;
+        put(out, text)?;
+    }
+    Ok(())
+}
+
+/// Puts an integer type without its id, as `si32`.
+pub fn put_integer_text(out: &mut String, ty: &IntegerType) -> Result<(), Memory>
+    ensures { OnOk result (string_bytes out.new ≡ string_bytes out.old ++ integer_text ty.now.signedness ty.now.width) }
+{
+    put(out, letters_of(ty.signedness()))?;
+    put_decimal(out, u128::from(ty.width()))?;
+    Ok(())
+}
+
+// What stands before the width of an integer type.
+fn letters_of(signedness: Signedness) -> &'static str
+    ensures { result.now ≡ letters signedness }
+{
+    match signedness {
+        Signedness::Signed => "si",
+        Signedness::Unsigned => "ui",
+        Signedness::Signless => "i",
+    }
+}

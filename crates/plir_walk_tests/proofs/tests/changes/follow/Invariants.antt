@@ -1,0 +1,7 @@
+use Rattle.plir_core.specs.Store.{IsLive}
+use Rattle.plir_walk.specs.Forest.{Lawful}
+use Rattle.plir_walk.specs.View.{look}
+use Rattle.plir_walk_tests.proofs.tests.changes.follow.Given as goal
+
+abbrev pub invariant-loop-at : goal.invariant-loop-at
+invariant-loop-at l = Lawful (look l.fn.ctx) l.node (look l.ctx) × IsLive l.ctx l.node
