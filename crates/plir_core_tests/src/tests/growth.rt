@@ -1,8 +1,8 @@
-//! Attributes and operands where memory is refused: all is as it was, and the call can be made once more.
+//! Attributes, operands and types where memory is refused: all is as it was, and the call can be made once more.
 use crate::tests::nodes::{Refused, make_block, make_def, make_op};
 use crate::tests::set::TestSet;
 use plir_core::{BasicBlock, Context, Operation, Ptr};
-use plir_data::{AttrObj, BoolAttr, Identifier, Memory, OpKind};
+use plir_data::{AttrObj, BoolAttr, Identifier, Memory, OpKind, TypeObj, TypeStore, UnitType};
 use std::alloc::Global;
 use std::process::Abort;
 use std::test::Fail;
@@ -122,5 +122,21 @@ fn operands_are_put_in_where_memory_is_refused(rt: HostRuntime) -> Result<(), Fa
         }
         counts(&rt, &ctx, user, count + 1);
     }
+    Ok(())
+}
+
+#[test]
+fn a_type_is_made_where_memory_is_refused(rt: HostRuntime) -> Result<(), Fail> {
+    let alloc = rt.alloc();
+    let mut ctx: Context<TestSet> = Context::new(alloc);
+    let unit = match ctx.instantiate(TypeObj::Unit(UnitType)) {
+        Ok(unit) => unit,
+        Err(Memory) => {
+            assert_eq!(rt; ctx.num_live(), 0);
+            ctx.instantiate(TypeObj::Unit(UnitType))?
+        }
+    };
+    assert!(rt; ctx.is_type_live(unit));
+    assert_eq!(rt; ctx.instantiate(TypeObj::Unit(UnitType)), Ok(unit));
     Ok(())
 }
