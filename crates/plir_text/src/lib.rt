@@ -19,6 +19,3 @@ pub use fault::{Fault, ReadErr};
 pub use print_attrs::print_attr;
 pub use read_attrs::read_attr;
 pub use read_types::{read_function_type, read_integer_type, read_type};
-
-#[cfg(test)]
-mod tests;

@@ -5,10 +5,10 @@ ghost use Rattle.plir_data.specs.AttrLive.{IsAttrLive};
 ghost use Rattle.plir_data.specs.AttrSeen.{attr_view};
 
 use super::sample_set::SampleSet;
-use crate::{Fault, ReadErr, print_attr, read_attr};
 use plir_data::{
     APInt, AttrObj, IntegerAttr, IntegerType, Signedness, StringAttr, TypeAttr, TypeTable,
 };
+use plir_text::{Fault, ReadErr, print_attr, read_attr};
 use std::alloc::Global;
 use std::process::Abort;
 

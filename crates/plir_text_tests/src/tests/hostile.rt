@@ -1,8 +1,8 @@
 //! Texts that are deep, long or cut.
 
 use super::sample_set::SampleSet;
-use crate::{Fault, read_attr};
 use plir_data::{AttrObj, TypeTable};
+use plir_text::{Fault, read_attr};
 use std::alloc::{AllocError, Global};
 use std::process::Abort;
 use std::test::Fail;

@@ -1,11 +1,11 @@
 //! Texts of types that are read.
 
 use super::sample_set::SampleSet;
-use crate::{Fault, ReadErr, read_function_type, read_integer_type, read_type};
 use plir_data::{
     FunctionTypeInterface, IntegerType, Signedness, TypeHandle, TypeObj, TypeTable, TypedHandle,
     type_text,
 };
+use plir_text::{Fault, ReadErr, read_function_type, read_integer_type, read_type};
 use std::alloc::{AllocError, Global};
 use std::process::Abort;
 use std::test::Fail;

@@ -1,8 +1,8 @@
 //! An attribute whose text is read back.
 
 use super::sample_set::SampleSet;
-use crate::laws::attr_is_read_back;
 use plir_data::{APInt, AttrObj, IntegerAttr, IntegerType, Signedness, TypeTable};
+use plir_text::laws::attr_is_read_back;
 use std::process::Abort;
 
 #[test]

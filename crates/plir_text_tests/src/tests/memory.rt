@@ -1,10 +1,10 @@
 //! Calls whose requests for memory are refused: each answers `Memory`, and does what it is asked once it is called again.
 
 use super::sample_set::SampleSet;
-use crate::{
+use plir_data::{TypeHandle, TypeTable};
+use plir_text::{
     Fault, ReadErr, print_attr, read_attr, read_function_type, read_integer_type, read_type,
 };
-use plir_data::{TypeHandle, TypeTable};
 use std::process::Abort;
 
 type Table = TypeTable<SampleSet>;

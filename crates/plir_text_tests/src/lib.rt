@@ -1,0 +1,5 @@
+//! Tests of `plir_text`, in a crate of their own: over the compiled library they are proved in a fraction of the time.
+#![tactic(auto)]
+
+#[cfg(test)]
+mod tests;
