@@ -30,3 +30,4 @@ pub mod Runs
 pub mod QuotedAgain
 pub mod TypesShown
 pub mod AttrsShown
+pub mod Asked

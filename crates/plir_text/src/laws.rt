@@ -38,7 +38,7 @@ pub fn text_stands_for_its_attribute<D: OpSet>()
 {}
 
 /// The text of an attribute is read back as an equal one; it is refused by `Memory` alone. The unit type
-/// may come into the table too.
+/// may come into the table too. `is_writable` is the test of the first condition.
 pub fn attr_is_read_back<D: OpSet, C: TypeStore<D>>(
     alloc: Global,
     ctx: &mut C,

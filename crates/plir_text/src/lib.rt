@@ -14,8 +14,10 @@ mod strings;
 mod tokens;
 mod types;
 mod words;
+mod writable;
 
 pub use fault::{Fault, ReadErr};
 pub use print_attrs::print_attr;
 pub use read_attrs::read_attr;
 pub use read_types::{read_function_type, read_integer_type, read_type};
+pub use writable::is_writable;

@@ -9,3 +9,4 @@ mod memory;
 mod read_back;
 mod sample_set;
 mod types;
+mod writable;
