@@ -1,4 +1,4 @@
-//! Tests of `plir_text`, in a crate of their own: over the compiled library they are proved in a fraction of the time.
+//! Tests of `plir_text`, in a crate of their own, since a crate that holds its tests is proved twice, once with them.
 #![tactic(auto)]
 
 #[cfg(test)]
