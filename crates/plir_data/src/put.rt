@@ -1,5 +1,5 @@
 //! The parts that printed texts share, for the texts of your own types and attributes too. Each puts something
-//! behind what is there; where memory is refused, a part of it may stand there already.
+//! behind what is there. Where memory is refused, the text is to be thrown away: no contract says what is in it then.
 
 ghost use Rattle.std.specs.Prelude.{◌≡◌, ◌++◌, OnOk, string_bytes};
 ghost use Rattle.plir_data.specs.TypeText.{comma, integer_text, letters, spaced};
