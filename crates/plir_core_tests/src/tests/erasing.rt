@@ -1,0 +1,120 @@
+//! Large trees are erased whole.
+ghost use Rattle.std.specs.Prelude.{IfOk};
+ghost use Rattle.plir_core.specs.Store.{IsLive};
+ghost use Rattle.plir_core.specs.declared.ptr.IRNode.{IRNode as AnyNode};
+
+use crate::tests::stop::Stop;
+use plir_core::{BasicBlock, Context, IRNode, Operation, Ptr};
+use plir_data::{BuiltinSet, OpKind};
+use std::alloc::Global;
+use std::test::Fail;
+
+// A new module with one region and no block.
+fn make_module(alloc: Global, ctx: &mut Context<BuiltinSet>) -> Result<Ptr<Operation>, Stop>
+    ensures { IfOk result (λ op. IsLive ctx.new (AnyNode.Operation op)) }
+{
+    let results = Vec::new(alloc);
+    let operands = Vec::new(alloc);
+    let successors = Vec::new(alloc);
+    let op = Operation::new(alloc, ctx, OpKind::Module, results, operands, successors, 1)?;
+    Ok(op)
+}
+
+// A new block in the first region of an operation.
+fn add_block(
+    alloc: Global,
+    ctx: &mut Context<BuiltinSet>,
+    op: Ptr<Operation>,
+) -> Result<Ptr<BasicBlock>, Stop> {
+    let block = BasicBlock::new(alloc, ctx, None, Vec::new(alloc))?;
+    if !op.is_live(ctx) || block.get_parent_region(ctx).is_some() {
+        return Err(Stop::Refused);
+    }
+    let Some(region) = op.first_region(ctx) else {
+        return Err(Stop::Refused);
+    };
+    if !region.is_live(ctx) || IRNode::BasicBlock(block).is_ancestor(IRNode::Region(region), ctx) {
+        return Err(Stop::Refused);
+    }
+    block.insert_at_back(region, ctx);
+    Ok(block)
+}
+
+// Puts an operation at the end of a block.
+fn append(
+    ctx: &mut Context<BuiltinSet>,
+    op: Ptr<Operation>,
+    block: Ptr<BasicBlock>,
+) -> Result<(), Stop> {
+    if !op.is_live(ctx) || !block.is_live(ctx) || op.get_parent_block(ctx).is_some() {
+        return Err(Stop::Refused);
+    }
+    if IRNode::Operation(op).is_ancestor(IRNode::BasicBlock(block), ctx) {
+        return Err(Stop::Refused);
+    }
+    op.insert_at_back(block, ctx);
+    Ok(())
+}
+
+// Erases an operation with all below it.
+fn erase(ctx: &mut Context<BuiltinSet>, op: Ptr<Operation>) -> Result<(), Stop> {
+    if !op.is_live(ctx) || !IRNode::Operation(op).is_unused_outside(ctx) {
+        return Err(Stop::Refused);
+    }
+    Operation::erase(op, ctx);
+    Ok(())
+}
+
+// So many modules, each in the block of the next, with a block in each; answers the outermost.
+fn nest(
+    alloc: Global,
+    ctx: &mut Context<BuiltinSet>,
+    count: usize,
+) -> Result<Ptr<Operation>, Stop> {
+    let mut outermost = make_module(alloc, ctx)?;
+    add_block(alloc, ctx, outermost)?;
+    for _ in 1..count {
+        let outer = make_module(alloc, ctx)?;
+        let block = add_block(alloc, ctx, outer)?;
+        append(ctx, outermost, block)?;
+        outermost = outer;
+    }
+    Ok(outermost)
+}
+
+// So many operations in the block of a module, which is answered.
+fn fill(
+    alloc: Global,
+    ctx: &mut Context<BuiltinSet>,
+    count: usize,
+) -> Result<Ptr<Operation>, Stop> {
+    let module = make_module(alloc, ctx)?;
+    let block = add_block(alloc, ctx, module)?;
+    for _ in 0..count {
+        let op = make_module(alloc, ctx)?;
+        append(ctx, op, block)?;
+    }
+    Ok(module)
+}
+
+#[test]
+fn ten_thousand_modules_in_one_another(rt: HostRuntime) -> Result<(), Fail> {
+    let alloc = rt.alloc();
+    let mut ctx = Context::new(alloc);
+    let outermost = nest(alloc, &mut ctx, 10_000)?;
+    assert_eq!(rt; ctx.num_live(), 30_000);
+    erase(&mut ctx, outermost)?;
+    assert_eq!(rt; ctx.num_live(), 0);
+    Ok(())
+}
+
+#[test]
+fn a_hundred_thousand_operations_in_a_block(rt: HostRuntime) -> Result<(), Fail> {
+    let alloc = rt.alloc();
+    let mut ctx = Context::new(alloc);
+    let module = fill(alloc, &mut ctx, 100_000)?;
+    assert_eq!(rt; ctx.num_live(), 200_003);
+    erase(&mut ctx, module)?;
+    assert_eq!(rt; ctx.num_live(), 0);
+    Ok(())
+}
