@@ -33,7 +33,7 @@ put_type-returns-in-Function g t c =
 pub put_type-returns-in-Unit : goal.put_type-returns-in-Unit
 put_type-returns-in-Unit g t c =
     let text = read_text g.D.OpSet.type_id g.D.OpSet.type_body_text g.D.OpSet.type_handles (g.C.TypeStore.types c.args.ctx.now) c.types.result.now c.args.handle c.get.result.now (Unit c.in-Unit.field-0) c.types.ensures c.get.ensures.found c.get.ensures.whole c.in-Unit.is in
-    on_ok_weaker c.put.result (λ e. e ∙ ap (λ bytes. string_bytes c.args.out.now ++ bytes) (sym text)) c.put.ensures
+    on_ok_weaker c.put.result (λ e. e ∙ ap (λ bytes. string_bytes c.args.out.now ++ bytes) (sym text)) c.put.ensures.ok
 
 pub put_type-returns-in-Own : goal.put_type-returns-in-Own
 put_type-returns-in-Own g t c =
@@ -67,7 +67,7 @@ put_function_type-returns g t c =
     let text = types_text g.D.OpSet.type_id g.D.OpSet.type_body_text (g.C.TypeStore.types c.args.ctx.now) in
     let arguments = c.in_ok-put_types.ensures ∙ ap (λ hs. string_bytes c.put.new.out ++ text hs) c.arg_types.ensures in
     let results = c.in_ok-put_types-2.ensures ∙ ap (λ hs. string_bytes c.put-2.new.out ++ text hs) c.res_types.ensures in
-    five _ _ _ _ _ _ _ _ _ _ _ c.in_ok-put.ensures arguments c.in_ok-put-2.ensures results c.in_ok-put-3.ensures
+    five _ _ _ _ _ _ _ _ _ _ _ c.in_ok-put.ensures.ok arguments c.in_ok-put-2.ensures.ok results c.in_ok-put-3.ensures.ok
 
 pub put_types-put_type-requires : goal.put_types-put_type-requires
 put_types-put_type-requires g t c =
