@@ -20,6 +20,7 @@ use Rattle.std.proofs.lemmas.List.{get_or-set_same, get_or-set_other, map-append
 use Rattle.plir_core.specs.Erase.{IsErased}
 use Rattle.plir_core.proofs.Facts.{parent-live}
 use Rattle.plir_core.specs.Edits.{SameNodes, room_child, room_list, with_new_op, with_new_block, with_new_region}
+use Rattle.plir_core.proofs.NewNodes.{apart_new}
 use Rattle.plir_core.specs.Made.{KeepsLive, IsAdded, IsRegionAdded, IsMade}
 use Rattle.plir_core.proofs.Listing.{within_content, parent_at-room_child, parent_at-room_list, kids_at-room_child, kids_at-room_list, kids-room_child, loose, childless, some_none}
 use Rattle.plir_core.proofs.Seats.{live_some, live_version, some_live, same_ptr}
@@ -309,6 +310,7 @@ module _ {O B : Type 0} where
     top = a.placed;
     below = λ m e f. (0, ap (λ z. Some z) (a.only m e f));
     fresh = λ m e f. subst (λ z. was_given_out s z ≡ false) (sym (a.only m e f)) a.fresh;
+    apart = apart_new s t w a.keeps n a.new;
   }
 
   -- a block is made: t is what the nodes are then
@@ -317,21 +319,25 @@ module _ {O B : Type 0} where
       subst (λ z. IsAdded s z (BasicBlock p) None) (sym e) (IsAdded-block s w v p (is ∙ ap (λ (z : Nodes O B). ptr_at z.blocks (next_slot s.blocks)) e))
 
   -- what is reached stays reached
-  climb_kept : (t u : Nodes O B) → IsForest t → KeepsLive t u → (k : ℕ) (m n : IRNode) → is_node_live t m ≡ true → climb (node_parent t) k (Some m) ≡ Some n → climb (node_parent u) k (Some m) ≡ Some n
+  pub climb_kept : (t u : Nodes O B) → IsForest t → KeepsLive t u → (k : ℕ) (m n : IRNode) → is_node_live t m ≡ true → climb (node_parent t) k (Some m) ≡ Some n → climb (node_parent u) k (Some m) ≡ Some n
   climb_kept t u w x zero m n e c = c
   climb_kept t u w x (suc k) m n e c = rw (x.parents m e) (climb_from (node_parent t) (node_parent u) k (node_parent t m) n (λ b q d. climb_kept t u w x k b n (parent-live t w b m q) d) c)
+
+  -- what is kept in two steps is kept
+  pub KeepsLive-on : (s t u : Nodes O B) → KeepsLive s t → KeepsLive t u → KeepsLive s u
+  KeepsLive-on s t u k l = record {
+    live = λ x e. l.live x (k.live x e);
+    parents = λ x e. l.parents x (k.live x e) ∙ k.parents x e;
+    ops = λ p e. l.ops p (k.live (Operation p) e) ∙ k.ops p e;
+    blocks = λ p e. l.blocks p (k.live (BasicBlock p) e) ∙ k.blocks p e;
+    given = λ x e. l.given x (k.given x e);
+    limit = l.limit ∙ k.limit;
+  }
 
   -- one more node under the root
   pub IsMade-more : (s t u : Nodes O B) → IsForest s → IsForest t → (n r : IRNode) → IsMade s t n → IsAdded t u r (Some n) → IsMade s u n
   IsMade-more s t u v w n r m a = record {
-    keeps = record {
-      live = λ x e. a.keeps.live x (m.keeps.live x e);
-      parents = λ x e. a.keeps.parents x (m.keeps.live x e) ∙ m.keeps.parents x e;
-      ops = λ p e. a.keeps.ops p (m.keeps.live (Operation p) e) ∙ m.keeps.ops p e;
-      blocks = λ p e. a.keeps.blocks p (m.keeps.live (BasicBlock p) e) ∙ m.keeps.blocks p e;
-      given = λ x e. a.keeps.given x (m.keeps.given x e);
-      limit = a.keeps.limit ∙ m.keeps.limit;
-    };
+    keeps = KeepsLive-on s t u m.keeps a.keeps;
     kids = λ x e. a.kids x (m.keeps.live x e) (λ q. true_false e (subst (λ z. is_node_live s z ≡ false) (same_Some n x q) m.new)) ∙ m.kids x e;
     new = m.new;
     root = a.keeps.live n m.root;
@@ -344,22 +350,11 @@ module _ {O B : Type 0} where
       | inl g ↦ m.fresh x g f
       | inr g ↦ not_given (was_given_out s x) (was_given_out t x) (m.keeps.given x) (subst (λ z. was_given_out t z ≡ false) (sym (a.only x e g)) a.fresh)
     ];
+    apart = apart_new s u v (KeepsLive-on s t u m.keeps a.keeps) n m.new;
   }
 
   -- A tree that was made and is erased again: no live node has changed.
   module _ (s t u : Nodes O B) (v : IsForest s) (n : IRNode) (m : IsMade s t n) (x : IsErased t u n) where
-    old_apart : (y : IRNode) → is_node_live s y ≡ true → Reaches (node_parent t) y n → ⊥
-    old_apart y e r = old_climb r.0 y e r.1
-      where
-        old_in : (k : ℕ) (o : Option IRNode) → ((b : IRNode) → o ≡ Some b → climb (node_parent t) k (Some b) ≡ Some n → ⊥) → climb (node_parent t) k o ≡ Some n → ⊥
-        old_in zero None f c = none-some n c
-        old_in (suc k) None f c = none-some n c
-        old_in k (Some b) f c = f b refl c
-
-        old_climb : (k : ℕ) (y : IRNode) → is_node_live s y ≡ true → climb (node_parent t) k (Some y) ≡ Some n → ⊥
-        old_climb zero y e c = true_false (subst (λ z. is_node_live s z ≡ true) (same_Some y n c) e) m.new
-        old_climb (suc k) y e c = old_in k (node_parent s y) (λ b q d. old_climb k b (parent-live s v b y q) d) (ap (climb (node_parent t) k) (sym (m.keeps.parents y e)) ∙ c)
-
     dead_apart : (y : IRNode) → is_node_live t y ≡ false → Reaches (node_parent t) y n → ⊥
     dead_apart y e r = dead_climb r.0 r.1
       where
@@ -372,7 +367,7 @@ module _ {O B : Type 0} where
 
     same_live : (y : IRNode) → is_node_live u y ≡ is_node_live s y
     same_live y = elim (true_or_false (is_node_live s y)) [
-      | inl e ↦ x.live y (old_apart y e) ∙ m.keeps.live y e ∙ sym e
+      | inl e ↦ x.live y (m.apart y e) ∙ m.keeps.live y e ∙ sym e
       | inr e ↦ elim (true_or_false (is_node_live t y)) [
         | inl f ↦ x.gone y (m.below y f e) ∙ sym e
         | inr f ↦ x.live y (dead_apart y f) ∙ f ∙ sym e
@@ -383,11 +378,11 @@ module _ {O B : Type 0} where
     SameNodes-unmade = record {
       live = same_live;
       kids = λ y. elim (true_or_false (is_node_live s y)) [
-        | inl e ↦ x.kids y (old_apart y e) (λ q. none-some y (sym m.top ∙ q)) ∙ m.kids y e
+        | inl e ↦ x.kids y (m.apart y e) (λ q. none-some y (sym m.top ∙ q)) ∙ m.kids y e
         | inr e ↦ dead_kids u y (same_live y ∙ e) ∙ sym (dead_kids s y e)
       ];
       parents = λ y. elim (true_or_false (is_node_live s y)) [
-        | inl e ↦ x.parents y (old_apart y e) ∙ m.keeps.parents y e
+        | inl e ↦ x.parents y (m.apart y e) ∙ m.keeps.parents y e
         | inr e ↦ dead_over u y (same_live y ∙ e) ∙ sym (dead_over s y e)
       ];
       ops = λ p e. x.ops p (same_live (Operation p) ∙ e) ∙ m.keeps.ops p e;

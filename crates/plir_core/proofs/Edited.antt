@@ -8,7 +8,7 @@ use Rattle.plir_data.specs.Types.{AllLive}
 use Rattle.plir_data.specs.Dictionary.{is_key, dict_without}
 use Rattle.plir_store.specs.Table.{content_at, with_content}
 use Rattle.plir_core.specs.declared.value.Value.{Value}
-use Rattle.plir_core.specs.AttrHandles.{attr_handles}
+use Rattle.plir_data.specs.AttrLive.{IsAttrLive}
 use Rattle.plir_core.specs.Contents.{OpView, BlockView}
 use Rattle.plir_core.specs.Store.{Store, IsValueLive}
 use Rattle.plir_core.specs.Whole.{OpHoldsLive, BlockHoldsLive, IsWhole}
@@ -86,11 +86,11 @@ module _ {K A T : Type 0} (own : A → List ℕ) (s t : Store K A T) (view : s �
     operands = h.operands;
     successors = h.successors;
     result_types = h.result_types;
-    attributes = rw e (All-dict_without (λ x. AllLive s.types (attr_handles own x.1)) u.attributes k h.attributes);
+    attributes = rw e (All-dict_without (λ x. IsAttrLive own s.types x.1) u.attributes k h.attributes);
   })
 
   pub block_attr_removed : (i : ℕ) (u : BlockView A) (k : List ℕ) (es : List (List ℕ × AttrView A)) → content_at s.nodes.blocks i ≡ Some u → es ≡ dict_without u.attributes k → IsWhole own (with_block_content s i (record u { attributes = es }))
   block_attr_removed i u k es was e = block_edited i u (record u { attributes = es }) was refl (λ h. record {
     arg_types = h.arg_types;
-    attributes = rw e (All-dict_without (λ x. AllLive s.types (attr_handles own x.1)) u.attributes k h.attributes);
+    attributes = rw e (All-dict_without (λ x. IsAttrLive own s.types x.1) u.attributes k h.attributes);
   })

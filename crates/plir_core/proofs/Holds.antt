@@ -23,8 +23,8 @@ use Rattle.plir_core.specs.declared.ptr.IRNode.TheVariants.{Operation, Region, B
 use Rattle.plir_core.specs.declared.value.Value.{Value}
 use Rattle.plir_core.specs.declared.value.DefiningEntity.{DefiningEntity}
 use Rattle.plir_core.specs.declared.value.DefiningEntity.TheVariants.{Op, Block}
-use Rattle.plir_data.specs.AttrView.{AttrView}
-use Rattle.plir_core.specs.AttrHandles.{attr_handles}
+use Rattle.plir_data.specs.AttrView.{AttrView, leaf, dict, vec, Items, no_items, item, Entries, no_entries, entry}
+use Rattle.plir_data.specs.AttrLive.{leaf_handles, IsAttrLive, HandlesLive, AreItemsLive, AreEntriesLive}
 use Rattle.plir_core.specs.Contents.{OpView, BlockView}
 use Rattle.plir_core.specs.Nodes.{Nodes, ptr_at, is_node_live}
 use Rattle.plir_core.specs.Forest.{IsForest}
@@ -84,9 +84,25 @@ types_grown_in : {T : Type 0} (old ts : List (TypeView T)) (ty : TypeView T) (k 
 types_grown_in old ts ty k l (inl e) = rw e l
 types_grown_in old ts ty k l (inr e) = rw e.1 (omega (arith, length-append old (ty ∷ [])))
 
+-- handles in attributes that are live stay so where all live ones do
+module _ {A T : Type 0} (own : A → List ℕ) (ts ts' : List (TypeView T)) (more : (h : ℕ) → IsTypeLive ts h → IsTypeLive ts' h) where
+  mutual
+    attr_kept : (x : AttrView A) → IsAttrLive own ts x → IsAttrLive own ts' x
+    attr_kept (leaf x) l = All-weaker (IsTypeLive ts) (IsTypeLive ts') more (leaf_handles own x) l
+    attr_kept (dict es) l = entries_kept es l
+    attr_kept (vec xs) l = items_kept xs l
+
+    items_kept : (xs : Items A) → AreItemsLive own ts xs → AreItemsLive own ts' xs
+    items_kept no_items l = tt
+    items_kept (item x xs) l = (attr_kept x l.0, items_kept xs l.1)
+
+    entries_kept : (es : Entries A) → AreEntriesLive own ts es → AreEntriesLive own ts' es
+    entries_kept no_entries l = tt
+    entries_kept (entry k x es) l = (attr_kept x l.0, entries_kept es l.1)
+
 -- another content in a live slot
 module _ {C : Type 0} (t : Table C) (i : ℕ) (v : C) (some : IsSome (content_at t i)) where
-  here_held : cell_at (with_content t i v) i ≡ record { version = version_at t i; content = Some v }
+  pub here_held : cell_at (with_content t i v) i ≡ record { version = version_at t i; content = Some v }
   here_held = cell_at-with_content t i v (within_content t i some)
 
   pub held_cases : (j : ℕ) → ((j ≡ i) × (content_at (with_content t i v) j ≡ Some v)) ⊎ (content_at (with_content t i v) j ≡ content_at t j)
@@ -121,8 +137,8 @@ module _ {K A T : Type 0} where
       value_in (Block p) i e = both_kept (is_live s (BasicBlock p)) (is_live s' (BasicBlock p)) i (length (arg_types_of s p)) (length (arg_types_of s' p)) (k.blocks p) e
 
   module _ (own : A → List ℕ) where
-    attributes_kept : (s s' : Store K A T) → IsKept s s' → (es : List (List ℕ × AttrView A)) → All (λ e. AllLive s.types (attr_handles own e.1)) es → All (λ e. AllLive s'.types (attr_handles own e.1)) es
-    attributes_kept s s' k es a = All-weaker (λ e. AllLive s.types (attr_handles own e.1)) (λ e. AllLive s'.types (attr_handles own e.1)) (λ e x. All-weaker (IsTypeLive s.types) (IsTypeLive s'.types) k.types (attr_handles own e.1) x) es a
+    attributes_kept : (s s' : Store K A T) → IsKept s s' → (es : List (List ℕ × AttrView A)) → All (λ e. IsAttrLive own s.types e.1) es → All (λ e. IsAttrLive own s'.types e.1) es
+    attributes_kept s s' k es a = All-weaker (λ e. IsAttrLive own s.types e.1) (λ e. IsAttrLive own s'.types e.1) (λ e x. attr_kept own s.types s'.types k.types e.1 x) es a
 
     pub op_kept : (s s' : Store K A T) → IsKept s s' → (v : OpView K A) → OpHoldsLive own s v → OpHoldsLive own s' v
     op_kept s s' k v h = record {
@@ -297,23 +313,23 @@ module _ {K A T : Type 0} where
       block_new n l ts es e q f a =
           block_made s w n (record { label = l; arg_types = ts; attributes = es }) e f (ap (λ (z : Cell (BlockView A)). z.content) (cell_at-with_new s.nodes.blocks _ w.forest.block_slots)) (record {
             arg_types = handles_live ts a;
-            attributes = rw q (All-nil (λ x. AllLive s.types (attr_handles own x.1)));
+            attributes = rw q (All-nil (λ x. IsAttrLive own s.types x.1));
           })
 
-      pub op_new : (n : Nodes (OpView K A) (BlockView A)) (k : OpKind K) (rs : List ℕ) (us : List Value) (bs : List (Ptr BasicBlockKind)) (es : List (List ℕ × AttrView A)) (l : Location) (o m : ℕ) → n ≡ with_new_regions (with_new_op s.nodes (record { kind = k; result_types = rs; operands = us; successors = bs; attributes = es; location = l })) o m → es ≡ [] → IsForest n → AllLive t.types rs → All (IsValueLive t) us → All (λ b. IsLive t (BasicBlock b)) bs → IsWhole own (record s { nodes = n })
+      pub op_new : (n : Nodes (OpView K A) (BlockView A)) (k : OpKind K) (rs : List ℕ) (us : List Value) (bs : List (Ptr BasicBlockKind)) (es : List (List ℕ × AttrView A)) (l : Location) (o m : ℕ) → n ≡ with_new_regions (with_new_op s.nodes (record { kind = k; result_types = rs; operands = us; successors = bs; attributes = es; location = l })) o m → HandlesLive own t.types es → IsForest n → AllLive t.types rs → All (IsValueLive t) us → All (λ b. IsLive t (BasicBlock b)) bs → IsWhole own (record s { nodes = n })
       op_new n k rs us bs es l o m e q f ra ua ba =
           op_made s w n (record { kind = k; result_types = rs; operands = us; successors = bs; attributes = es; location = l }) o m e f (record {
             operands = subst (λ (z : Store K A T). All (IsValueLive z) us) (sym view) ua;
             successors = subst (λ (z : Store K A T). All (λ b. IsLive z (BasicBlock b)) bs) (sym view) ba;
             result_types = handles_live rs ra;
-            attributes = rw q (All-nil (λ x. AllLive s.types (attr_handles own x.1)));
+            attributes = subst (λ (z : Store K A T). HandlesLive own z.types es) (sym view) q;
           })
 
-      put_live : (es fs : List (List ℕ × AttrView A)) (k : List ℕ) (v : AttrView A) → (fs ≡ dict_put es k v) ⊎ (fs ≡ es) → AllLive t.types (attr_handles own v) → All (λ e. AllLive s.types (attr_handles own e.1)) es → All (λ e. AllLive s.types (attr_handles own e.1)) fs
-      put_live es fs k v (inl e) h a = rw e (All-dict_put (λ x. AllLive s.types (attr_handles own x.1)) (λ k' l' v' p. p) es k v (handles_live (attr_handles own v) h) a)
+      put_live : (es fs : List (List ℕ × AttrView A)) (k : List ℕ) (v : AttrView A) → (fs ≡ dict_put es k v) ⊎ (fs ≡ es) → IsAttrLive own t.types v → All (λ e. IsAttrLive own s.types e.1) es → All (λ e. IsAttrLive own s.types e.1) fs
+      put_live es fs k v (inl e) h a = rw e (All-dict_put (λ x. IsAttrLive own s.types x.1) (λ k' l' v' p. p) es k v (subst (λ (z : Store K A T). IsAttrLive own z.types v) (sym view) h) a)
       put_live es fs k v (inr e) h a = rw e a
 
-      pub op_attr_set : (p : Ptr OperationKind) (u : OpView K A) (fs : List (List ℕ × AttrView A)) (k : List ℕ) (v : AttrView A) → IsLive t (Operation p) → content_at s.nodes.ops p.slot ≡ Some u → (fs ≡ dict_put u.attributes k v) ⊎ (fs ≡ u.attributes) → AllLive t.types (attr_handles own v) → IsWhole own (record s { nodes = record s.nodes { ops = with_content s.nodes.ops p.slot (record u { attributes = fs }) } })
+      pub op_attr_set : (p : Ptr OperationKind) (u : OpView K A) (fs : List (List ℕ × AttrView A)) (k : List ℕ) (v : AttrView A) → IsLive t (Operation p) → content_at s.nodes.ops p.slot ≡ Some u → (fs ≡ dict_put u.attributes k v) ⊎ (fs ≡ u.attributes) → IsAttrLive own t.types v → IsWhole own (record s { nodes = record s.nodes { ops = with_content s.nodes.ops p.slot (record u { attributes = fs }) } })
       op_attr_set p u fs k v live was put h =
           let x = w.holds.ops p.slot u was in
           op_replaced s w (record s.nodes { ops = with_content s.nodes.ops p.slot (record u { attributes = fs }) }) p.slot u (record u { attributes = fs }) refl (IsForest-held_op s.nodes w.forest p.slot (record u { attributes = fs }) (rw was refl)) was refl (record {
@@ -323,7 +339,7 @@ module _ {K A T : Type 0} where
             attributes = put_live u.attributes fs k v put h x.attributes;
           })
 
-      pub block_attr_set : (p : Ptr BasicBlockKind) (u : BlockView A) (fs : List (List ℕ × AttrView A)) (k : List ℕ) (v : AttrView A) → IsLive t (BasicBlock p) → content_at s.nodes.blocks p.slot ≡ Some u → (fs ≡ dict_put u.attributes k v) ⊎ (fs ≡ u.attributes) → AllLive t.types (attr_handles own v) → IsWhole own (record s { nodes = record s.nodes { blocks = with_content s.nodes.blocks p.slot (record u { attributes = fs }) } })
+      pub block_attr_set : (p : Ptr BasicBlockKind) (u : BlockView A) (fs : List (List ℕ × AttrView A)) (k : List ℕ) (v : AttrView A) → IsLive t (BasicBlock p) → content_at s.nodes.blocks p.slot ≡ Some u → (fs ≡ dict_put u.attributes k v) ⊎ (fs ≡ u.attributes) → IsAttrLive own t.types v → IsWhole own (record s { nodes = record s.nodes { blocks = with_content s.nodes.blocks p.slot (record u { attributes = fs }) } })
       block_attr_set p u fs k v live was put h =
           let x = w.holds.blocks p.slot u was in
           block_replaced s w (record s.nodes { blocks = with_content s.nodes.blocks p.slot (record u { attributes = fs }) }) p.slot u (record u { attributes = fs }) refl (IsForest-held_block s.nodes w.forest p.slot (record u { attributes = fs }) (rw was refl)) was refl (record {

@@ -25,3 +25,8 @@ pub mod KidAt
 pub mod Terminators
 pub mod NewNodes
 pub mod Links
+pub mod Answered
+pub mod Growing
+pub mod Editing
+pub mod KidPlaces
+pub mod Indices

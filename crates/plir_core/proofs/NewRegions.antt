@@ -1,17 +1,25 @@
 -- An operation that gets its regions one after another.
 use Rattle.std.proofs.Common.{◌≡◌, ℕ, zero, suc, ◌+◌, ◌≤◌, ◌<◌, ◌-◌, ◌^◌, ◌⊎◌, inr, true, List, [], ◌∷◌, ◌++◌, length, Some, inl, refl, sym, ◌∙◌, ap, subst, arith, add-one, length-set}
 use Rattle.std.proofs.lemmas.List.{length-append}
-use Rattle.plir_store.specs.Table.{Table, IsTable, version_at, num_full, next_slot, slot_after, with_new, with_new_in}
-use Rattle.plir_store.proofs.Tables.{num_full-with_new}
+use Rattle.std.proofs.lemmas.List.Elements.{All-nil, All-cons, All-append, All-weaker}
+use Rattle.std.proofs.lemmas.Option.{same_Some}
+use Rattle.std.specs.Prelude.{All}
+use Rattle.plir_store.specs.Table.{Table, Cell, IsTable, content_at, version_at, num_full, next_slot, slot_after, with_new, with_new_in}
+use Rattle.plir_store.proofs.Tables.{num_full-with_new, cell_at-with_new}
 use Rattle.plir_core.specs.declared.ptr.Ptr.{Ptr}
 use Rattle.plir_core.specs.declared.ptr.Operation.{Operation as OperationKind}
 use Rattle.plir_core.specs.declared.ptr.Region.{Region as RegionKind}
+use Rattle.plir_core.specs.declared.ptr.IRNode.{IRNode}
 use Rattle.plir_core.specs.declared.ptr.IRNode.TheVariants.{Operation, Region, BasicBlock}
-use Rattle.plir_core.specs.Nodes.{Nodes, ptr_at, num_nodes, is_node_live}
+use Rattle.plir_core.specs.NodeLists.{Has}
+use Rattle.plir_core.specs.Nodes.{Nodes, ptr_at, num_nodes, is_node_live, node_kids}
 use Rattle.plir_core.specs.Forest.{IsForest}
 use Rattle.plir_core.specs.Edits.{with_new_op, with_new_region, with_new_regions}
-use Rattle.plir_core.specs.Made.{IsMade}
-use Rattle.plir_core.proofs.Added.{IsAdded-op, IsAdded-region, IsMade-first, IsMade-more}
+use Rattle.plir_core.specs.Made.{IsRegionAdded, IsMade, IsNewRegion, HasNewRegions}
+use Rattle.plir_core.specs.Erase.{erased}
+use Rattle.plir_core.specs.Refused.{IsUnmade}
+use Rattle.plir_core.proofs.Facts.{parent-kid}
+use Rattle.plir_core.proofs.Added.{IsAdded-op, IsAdded-region, IsRegionAdded-made, IsMade-first, IsMade-more}
 
 -- slots that are used again, and slots that come new
 slots_with_new_in : {C : Type 0} (t : Table C) (v : C) (fs : List ℕ) → length (with_new_in t v fs).slots + length fs ≡ length t.slots + length (with_new_in t v fs).free + 1
@@ -36,6 +44,26 @@ module _ {O B : Type 0} where
     pub forest : IsForest s
     pub count : num_nodes s ≡ num_nodes b + 1 + n
     pub slots : length s.regions.slots + length b.regions.free ≡ length b.regions.slots + length s.regions.free + n
+    pub ops : s.ops ≡ with_new b.ops v
+    pub held : content_at s.ops p.slot ≡ Some v
+    pub regions : HasNewRegions s (Operation p) n
+
+  -- an operation gets one more region
+  HasNewRegions-more : (s t : Nodes O B) (o r : IRNode) (n : ℕ) → IsForest s → HasNewRegions s o n → IsRegionAdded s t o r → HasNewRegions t o (n + 1)
+  HasNewRegions-more s t o r n w h x = record {
+    count = ap length x.last ∙ (let e = length-append (node_kids s o) (r ∷ []) in let c = h.count in omega arith);
+    each = rw x.last (All-append (IsNewRegion t o) (node_kids s o) (r ∷ []) (All-weaker (IsNewRegion s o) (IsNewRegion t o) stays (node_kids s o) h.each) (All-cons (IsNewRegion t o) r [] last (All-nil (IsNewRegion t o))));
+  }
+    where
+      stays : (m : IRNode) → IsNewRegion s o m → IsNewRegion t o m
+      stays m g = record {
+        live = x.added.keeps.live m g.live;
+        parent = x.added.keeps.parents m g.live ∙ g.parent;
+        empty = x.added.kids m g.live (λ q. subst (λ ks. Has ks m) (g.empty) (subst (λ z. Has (node_kids s z) m) (same_Some o m q) (parent-kid s w o m g.parent))) ∙ g.empty;
+      }
+
+      last : IsNewRegion t o r
+      last = record { live = x.added.added; parent = x.added.placed; empty = x.added.leaf }
 
   pub IsMaking-start : (b s : Nodes O B) (v : O) (p : Ptr OperationKind) → IsForest b → s ≡ with_new_op b v → p ≡ ptr_at s.ops (next_slot b.ops) → IsForest s → IsMaking b v p 0 s
   IsMaking-start b s v p w e q f = record {
@@ -46,6 +74,9 @@ module _ {O B : Type 0} where
     forest = f;
     count = ap num_nodes e ∙ (let c = num_full-with_new b.ops v w.op_slots in omega arith);
     slots = let d : length s.regions.slots ≡ length b.regions.slots = ap (λ (z : Nodes O B). length z.regions.slots) e in let g : length s.regions.free ≡ length b.regions.free = ap (λ (z : Nodes O B). length z.regions.free) e in omega arith;
+    ops = ap (λ (z : Nodes O B). z.ops) e;
+    held = ap (λ (z : Nodes O B). content_at z.ops p.slot) e ∙ ap (λ z. content_at (with_new b.ops v) z) (ap (λ z. z.slot) q) ∙ ap (λ (z : Cell O). z.content) (cell_at-with_new b.ops v w.op_slots);
+    regions = let none : node_kids s (Operation p) ≡ [] = subst (λ z. node_kids z (Operation p) ≡ []) (sym e) ((IsAdded-op b w v p (q ∙ ap (λ (z : Nodes O B). ptr_at z.ops (next_slot b.ops)) e)).leaf) in record { count = ap length none; each = rw none (All-nil (IsNewRegion s (Operation p))) };
   }
 
   pub IsMaking-more : (b s t : Nodes O B) (v : O) (p : Ptr OperationKind) (r : Ptr RegionKind) (n : ℕ) → IsForest b → IsMaking b v p n s → t ≡ with_new_region s p.slot → r ≡ ptr_at t.regions (next_slot s.regions) → IsForest t → IsMaking b v p (n + 1) t
@@ -65,7 +96,16 @@ module _ {O B : Type 0} where
             let d : length t.regions.slots ≡ length (with_new s.regions (record {})).slots = ap (λ (z : Nodes O B). length z.regions.slots) e in
             let h : length t.regions.free ≡ length (with_new s.regions (record {})).free = ap (λ (z : Nodes O B). length z.regions.free) e in
             omega (arith, m.slots);
+        ops = ap (λ (z : Nodes O B). z.ops) e ∙ m.ops;
+        held = ap (λ (z : Nodes O B). content_at z.ops p.slot) e ∙ m.held;
+        regions = HasNewRegions-more s t (Operation p) (Region r) n m.forest m.regions (IsRegionAdded-made s t m.forest p r m.made.root e f q);
       }
+
+  -- where no further region is made, all is freed again
+  pub IsMaking-freed : (b : Nodes O B) (v : O) (p : Ptr OperationKind) (n m : ℕ) (s t u : Nodes O B) → IsMaking b v p n s → n < m → t ≡ s → u ≡ erased t (Operation p) → IsUnmade b u v m
+  IsMaking-freed b v p n m s t u k h e f =
+      let is : p ≡ ptr_at (with_new b.ops v) (next_slot b.ops) = k.pointer ∙ ap (λ z. ptr_at z (next_slot b.ops)) k.ops in
+      inr (n, (omega arith, f ∙ ap (λ z. erased z (Operation p)) (e ∙ k.is) ∙ ap (λ z. erased (with_new_regions (with_new_op b v) (next_slot b.ops) n) (Operation z)) is))
 
   -- where no further region can be made within the limit, the slot numbers of regions are spent
   pub spent_refusal : (b : Nodes O B) (v : O) (p : Ptr OperationKind) (n m : ℕ) (s : Nodes O B) → IsMaking b v p n s → n < m → num_nodes b + 1 + m ≤ b.limit → (num_nodes s ≡ s.limit) ⊎ (2 ^ 32 - 1 ≤ next_slot s.regions) → 2 ^ 32 - 1 + length b.regions.free < length b.regions.slots + m

@@ -1,4 +1,4 @@
--- The last operation of a block is live, and what its kind says of it.
+-- What the kind of the last operation of a block says of it.
 use Rattle.std.proofs.Common.{◌≡◌, ℕ, Bool, true, false, cond, List, [], ◌∷◌, Option, Some, None, ◌⊎◌, inl, inr, refl, sym, ◌∙◌, ap, subst}
 use Rattle.std.specs.Prelude.{option_map, IfSome}
 use Rattle.std.proofs.lemmas.Option.{same_Some, none-some}
@@ -19,28 +19,6 @@ use Rattle.plir_core.specs.Store.{Store, IsLive, op_at, kind_in, kind_of, last_k
 use Rattle.plir_core.specs.Terminator.{is_terminator_kind, if_terminator, terminator_of}
 use Rattle.plir_core.proofs.Listing.{some_value}
 use Rattle.plir_core.proofs.Seats.{live_some, some_live}
-
-last_In : (a : Option ℕ) (xs : List ℕ) (i : ℕ) → last_from a xs ≡ Some i → (a ≡ Some i) ⊎ In i xs
-last_In a [] i e = inl e
-last_In a (x ∷ xs) i e = elim (last_In (Some x) xs i e) [
-  | inl f ↦ inr (inl (sym (same_Some x i f)))
-  | inr k ↦ inr (inr k)
-]
-
-module _ {O B : Type 0} (s : Nodes O B) (w : IsForest s) (b : Ptr BasicBlockKind) (n : IRNode) where
-  last_live_in : (k : Option ℕ) → last_of (kids_at s.ops_in_block b.slot) ≡ k → option_map (op_node s) k ≡ Some n → is_node_live s n ≡ true
-  last_live_in None e f = absurd (none-some n f)
-  last_live_in (Some i) e f = elim (last_In None (kids_at s.ops_in_block b.slot) i e) [
-    | inl q ↦ absurd (none-some i q)
-    | inr k ↦ subst (λ z. is_node_live s z ≡ true) (same_Some (op_node s i) n f) (some_live s.ops i ((w.ops_listed.linked_live i b.slot (w.ops_listed.agreed.owned b.slot i k)).0))
-  ]
-
-  last_live_if : (here : Bool) → cond here (option_map (op_node s) (last_of (kids_at s.ops_in_block b.slot))) None ≡ Some n → is_node_live s n ≡ true
-  last_live_if true e = last_live_in (last_of (kids_at s.ops_in_block b.slot)) refl e
-  last_live_if false e = absurd (none-some n e)
-
-  pub last_live : Some n ≡ node_last s (BasicBlock b) → is_node_live s n ≡ true
-  last_live e = last_live_if (is_node_live s (BasicBlock b)) (sym e)
 
 module _ {K : Type 0} (t y b u : K → Bool) where
   ends : (k : OpKind K) → implements t y b u k Terminator ≡ is_terminator_kind t (Some k)

@@ -3,7 +3,8 @@
 --   Store        Store K A T: what contracts see of a context; is_live, given_out, num_live, kids, parent_of, first_kid,
 --                last_kid, next_sibling, prev_sibling, IsAncestor, depth; op_at, block_at and the parts of what they hold;
 --                is_value_live, type_of_value
---   Contents     OpView K A, BlockView A: what operations and blocks hold
+--   Contents     OpView K A, BlockView A: what operations and blocks hold; op_view: an operation without a location
+--   Texts        pointer_text, node_text: pointers as texts write them, as op3v1
 --   Whole        IsWhole: what holds of every context
 --   Interfaces   implements: which interfaces a kind of operations implements
 --   Changes      what the calls that change a context make of it; SameLive: no live node has changed
@@ -11,10 +12,13 @@
 --   Nodes        the nodes with their slots, and the words of Store over them
 --   Forest       IsForest: the live nodes form a forest
 --   Above        climb, Reaches, depth: what stands above what
---   Made         IsMade: a tree is new, and nothing else has changed; IsRegionAdded: one region is
+--   Made         IsMade: a tree is new, and nothing else has changed; IsRegionAdded: one region is;
+--                HasNewRegions: the regions of a new operation
 --   Placed       IsPlaced: a node has come under another one, and nothing else has changed; IsUnlinked: it has left its parent
+--   Held         IsOpEdited, IsBlockEdited: what an operation or a block holds is edited, and nothing else has changed
+--   Grown        IsGrown: nodes are new below a node; Growth: how trees grow in many steps
 --   Lends        what a `&mut` into a node leaves
---   AttrHandles  attr_handles: the type handles that an attribute holds
+--   Refused      IsUnmade: what a refused make leaves of the slots
 --   Erase        erased: the nodes without a tree; IsErased: what that leaves as it was
 --   Unused       IsUnusedOutside: nothing outside a tree uses a value or a block of it
 --   Terminator   terminator_of: the operation that ends a block
@@ -26,15 +30,18 @@ pub mod Forest
 pub mod Edits
 pub mod Lends
 pub mod Contents
-pub mod AttrHandles
 pub mod Store
+pub mod Texts
 pub mod Whole
 pub mod Interfaces
 pub mod Changes
 pub mod Made
 pub mod Placed
+pub mod Held
+pub mod Grown
 pub mod NodeLists
 pub mod Erase
+pub mod Refused
 pub mod Unused
 pub mod Terminator
 pub mod InsertionPoint

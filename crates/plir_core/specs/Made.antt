@@ -1,5 +1,5 @@
 -- What making nodes leaves as it was, and what is new.
-use Rattle.std.specs.Prelude.{◌≡◌, Bool, true, false, List, [], ◌∷◌, ◌++◌, Option, Some, None}
+use Rattle.std.specs.Prelude.{◌≡◌, ℕ, Bool, true, false, All, List, [], ◌∷◌, ◌++◌, length, Option, Some, None}
 use Rattle.plir_store.specs.Table.{content_at}
 use Rattle.plir_core.specs.declared.ptr.Ptr.{Ptr}
 use Rattle.plir_core.specs.declared.ptr.Operation.{Operation as OperationKind}
@@ -46,3 +46,16 @@ module _ {O B : Type 0} where
     pub top : node_parent t n ≡ None
     pub below : (m : IRNode) → is_node_live t m ≡ true → is_node_live s m ≡ false → Reaches (node_parent t) m n
     pub fresh : (m : IRNode) → is_node_live t m ≡ true → is_node_live s m ≡ false → was_given_out s m ≡ false
+    -- no older node stands below it
+    pub apart : (m : IRNode) → is_node_live s m ≡ true → Reaches (node_parent t) m n → ⊥
+
+  -- a region of a new operation o: it is live, stands in o, and has no block
+  pub record IsNewRegion (t : Nodes O B) (o r : IRNode) : Type 0 where
+    pub live : is_node_live t r ≡ true
+    pub parent : node_parent t r ≡ Some o
+    pub empty : node_kids t r ≡ []
+
+  -- a new operation o has n regions, each new
+  pub record HasNewRegions (t : Nodes O B) (o : IRNode) (n : ℕ) : Type 0 where
+    pub count : length (node_kids t o) ≡ n
+    pub each : All (IsNewRegion t o) (node_kids t o)

@@ -1,5 +1,5 @@
 -- The nodes of a context: what they hold, which of them are live, and what stands under what.
-use Rattle.std.specs.Prelude.{◌≡◌, ℕ, ◌+◌, Bool, true, ◌&&◌, nat_lt, nat_le, cond, map, List, [], Option, Some, None, option_map}
+use Rattle.std.specs.Prelude.{◌≡◌, ℕ, ◌+◌, ◌-◌, ◌^◌, min, Bool, true, ◌&&◌, nat_lt, nat_le, cond, map, List, [], Option, Some, None, option_map}
 use Rattle.plir_store.specs.Lists.{Lists, parent_at, kids_at, first_of, last_of, next_of, prev_of}
 use Rattle.plir_store.specs.Table.{Table, version_at, is_live_at, num_full}
 use Rattle.plir_core.specs.declared.ptr.Ptr.{Ptr}
@@ -21,6 +21,10 @@ pub record Nodes (O B : Type 0) : Type 0 where
 -- the pointer to what a slot holds
 abbrev pub ptr_at : {C X : Type 0} → Table C → ℕ → Ptr X
 ptr_at t i = record { slot = i; version = version_at t i; kind = record {} }
+
+-- the number of a pointer's slot, from 1; no node has the slot past the last number
+abbrev pub index_of : {X : Type 0} → Ptr X → ℕ
+index_of p = min (p.slot + 1) (2 ^ 32 - 1)
 
 -- the pointer has been given out: its slot has held a node under its version
 abbrev pub is_given_out : {C X : Type 0} → Table C → Ptr X → Bool

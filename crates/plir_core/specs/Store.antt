@@ -1,5 +1,5 @@
 -- What a contract sees of a `Context`, and the words by which other crates speak of it.
-use Rattle.std.specs.Prelude.{◌≡◌, ℕ, Bool, true, ◌&&◌, nat_lt, List, [], length, Option, Some, None, slice_get}
+use Rattle.std.specs.Prelude.{◌≡◌, ℕ, ◌+◌, Bool, true, ◌&&◌, nat_lt, List, [], length, Option, Some, None, slice_get}
 use Rattle.plir_store.specs.Table.{content_at}
 use Rattle.plir_data.specs.AttrView.{AttrView}
 use Rattle.plir_data.specs.Types.{TypeView}
@@ -15,7 +15,7 @@ use Rattle.plir_core.specs.declared.value.Value.{Value}
 use Rattle.plir_core.specs.declared.value.DefiningEntity.{DefiningEntity}
 use Rattle.plir_core.specs.declared.value.DefiningEntity.TheVariants.{Op, Block}
 use Rattle.plir_core.specs.Above.{climb, Reaches}
-use Rattle.plir_core.specs.Nodes.{Nodes, is_node_live, was_given_out, num_nodes, node_kids, node_parent, node_first, node_last, node_next, node_prev}
+use Rattle.plir_core.specs.Nodes.{Nodes, index_of, is_node_live, was_given_out, num_nodes, node_kids, node_parent, node_first, node_last, node_next, node_prev}
 use Rattle.plir_core.specs.Forest.{depth_of}
 use Rattle.plir_core.specs.Contents.{OpView, BlockView}
 
@@ -180,3 +180,9 @@ module _ {K A T : Type 0} where
   -- the type of a value
   abbrev pub type_of_value : Store K A T → Value → Option ℕ
   type_of_value s v = slice_get (types_from s v.entity) v.index
+
+  -- The index of a pointer that was given out is its slot and 1.
+  pub record IsIndexed (s : Store K A T) : Type 0 where
+    pub ops : (p : Ptr OperationKind) → given_out s (Operation p) ≡ true → index_of p ≡ p.slot + 1
+    pub regions : (p : Ptr RegionKind) → given_out s (Region p) ≡ true → index_of p ≡ p.slot + 1
+    pub blocks : (p : Ptr BasicBlockKind) → given_out s (BasicBlock p) ≡ true → index_of p ≡ p.slot + 1

@@ -1,13 +1,13 @@
 -- What holds of every context.
 use Rattle.std.specs.Prelude.{◌≡◌, ℕ, List, [], ◌∷◌, Some, All}
 use Rattle.plir_store.specs.Table.{content_at}
+use Rattle.plir_data.specs.AttrLive.{HandlesLive}
 use Rattle.plir_data.specs.AttrView.{AttrView}
 use Rattle.plir_data.specs.Types.{AllLive}
 use Rattle.plir_core.specs.declared.ptr.IRNode.TheVariants.{Operation, Region, BasicBlock}
 use Rattle.plir_core.specs.Forest.{IsForest}
 use Rattle.plir_core.specs.Contents.{OpView, BlockView}
 use Rattle.plir_core.specs.Store.{Store, IsLive, IsValueLive}
-use Rattle.plir_core.specs.AttrHandles.{attr_handles}
 
 -- What an operation and a block hold is live; `own_handles` gives the type handles of the user's own attributes.
 module _ {K A T : Type 0} (own_handles : A → List ℕ) (s : Store K A T) where
@@ -15,11 +15,11 @@ module _ {K A T : Type 0} (own_handles : A → List ℕ) (s : Store K A T) where
     pub operands : All (IsValueLive s) v.operands
     pub successors : All (λ b. IsLive s (BasicBlock b)) v.successors
     pub result_types : AllLive s.types v.result_types
-    pub attributes : All (λ e. AllLive s.types (attr_handles own_handles e.1)) v.attributes
+    pub attributes : HandlesLive own_handles s.types v.attributes
 
   pub record BlockHoldsLive (v : BlockView A) : Type 0 where
     pub arg_types : AllLive s.types v.arg_types
-    pub attributes : All (λ e. AllLive s.types (attr_handles own_handles e.1)) v.attributes
+    pub attributes : HandlesLive own_handles s.types v.attributes
 
   pub record HoldsLive : Type 0 where
     pub ops : (o : ℕ) (v : OpView K A) → content_at s.nodes.ops o ≡ Some v → OpHoldsLive v

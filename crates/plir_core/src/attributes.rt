@@ -1,9 +1,8 @@
 //! Calls that take attributes of operations and blocks out or put others in their place, without memory.
 ghost use Rattle.std.specs.Prelude.{◌≡◌, Some, None, IfOk, IfErr, OnOk, OnErr, option_map};
-ghost use Rattle.plir_data.specs.Types.{AllLive};
+ghost use Rattle.plir_data.specs.AttrLive.{IsAttrLive};
 ghost use Rattle.plir_data.specs.AttrSeen.{attr_view};
 ghost use Rattle.plir_data.specs.Dictionary.{dict_get, dict_put, dict_without};
-ghost use Rattle.plir_core.specs.AttrHandles.{attr_handles};
 ghost use Rattle.plir_core.specs.Store.{IsLive, attributes_of, block_attributes_of};
 ghost use Rattle.plir_core.specs.Whole.{IsWhole};
 ghost use Rattle.plir_core.specs.Changes.{with_op_edit, with_block_edit};
@@ -33,7 +32,7 @@ impl Ptr<Operation> {
         value: AttrObj<D>,
     ) -> Result<AttrObj<D>, AttrObj<D>>
         requires live { IsLive ctx.old (IRNode.Operation self) }
-        requires handles { AllLive ctx.old.types (attr_handles D.attr_handles (attr_view value)) }
+        requires handles { IsAttrLive D.attr_handles ctx.old.types (attr_view value) }
         ensures found { IfOk result (λ a. dict_get (attributes_of ctx.old self) key.now ≡ Some (attr_view a)) }
         ensures put { OnOk result (ctx.new ≡ with_op_edit ctx.old self (λ o. record o { attributes = dict_put o.attributes key.now (attr_view value) })) }
         ensures absent { OnErr result (dict_get (attributes_of ctx.old self) key.now ≡ None) }
@@ -65,7 +64,7 @@ impl Ptr<BasicBlock> {
         value: AttrObj<D>,
     ) -> Result<AttrObj<D>, AttrObj<D>>
         requires live { IsLive ctx.old (IRNode.BasicBlock self) }
-        requires handles { AllLive ctx.old.types (attr_handles D.attr_handles (attr_view value)) }
+        requires handles { IsAttrLive D.attr_handles ctx.old.types (attr_view value) }
         ensures found { IfOk result (λ a. dict_get (block_attributes_of ctx.old self) key.now ≡ Some (attr_view a)) }
         ensures put { OnOk result (ctx.new ≡ with_block_edit ctx.old self (λ b. record b { attributes = dict_put b.attributes key.now (attr_view value) })) }
         ensures absent { OnErr result (dict_get (block_attributes_of ctx.old self) key.now ≡ None) }

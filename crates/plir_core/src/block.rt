@@ -1,13 +1,13 @@
 //! Calls on basic blocks.
-ghost use Rattle.std.specs.Prelude.{◌≡◌, ◌∷◌, ◌++◌, ◌<◌, ◌↔◌, ◌⊎◌, ◌-◌, ◌^◌, ◌≤◌, ℕ, [], Some, None, OnOk, OnErr, IfOk, length, slice_get, option_map, true, false};
+ghost use Rattle.std.specs.Prelude.{◌≡◌, ◌∷◌, ◌++◌, ◌<◌, ◌↔◌, ◌⊎◌, ◌-◌, ◌^◌, ◌≤◌, ℕ, [], Some, None, OnOk, OnErr, IfOk, IfSome, length, slice_get, option_map, true, false};
 ghost use Rattle.plir_store.specs.Table.{next_slot};
-ghost use Rattle.plir_data.specs.Types.{AllLive};
+ghost use Rattle.plir_data.specs.Types.{IsLive as IsTypeLive, AllLive};
+ghost use Rattle.plir_data.specs.AttrLive.{IsAttrLive, HandlesLive};
 ghost use Rattle.plir_data.specs.AttrSeen.{attr_view};
 ghost use Rattle.plir_data.specs.Dictionary.{dict_put};
-ghost use Rattle.plir_core.specs.AttrHandles.{attr_handles};
 ghost use Rattle.plir_core.specs.Made.{IsMade};
 ghost use Rattle.plir_core.specs.Nodes.{ptr_at};
-ghost use Rattle.plir_core.specs.Store.{IsLive, IsValueLive, IsAncestor, is_live, given_out, num_live, limit, kids, parent_of, op_above, first_kid, last_kid, next_sibling, prev_sibling, arg_types_of, block_attributes_of};
+ghost use Rattle.plir_core.specs.Store.{IsLive, IsValueLive, IsAncestor, is_live, given_out, num_live, limit, kids, parent_of, op_above, first_kid, last_kid, next_sibling, prev_sibling, block_at, arg_types_of, block_attributes_of};
 ghost use Rattle.plir_core.specs.Whole.{IsWhole};
 ghost use Rattle.plir_core.specs.Terminator.{terminator_of};
 ghost use Rattle.plir_core.specs.Placed.{IsPlaced};
@@ -35,6 +35,7 @@ impl BasicBlock {
     ) -> Result<Ptr<BasicBlock>, NodeErr>
         requires { AllLive ctx.old.types arg_types.items }
         ensures ok { OnOk result (ctx.new ≡ with_block ctx.old (record { label = label; arg_types = arg_types.items; attributes = [] })) }
+        ensures held { IfOk result (λ p. block_at ctx.new p ≡ Some (record { label = label; arg_types = arg_types.items; attributes = [] })) }
         ensures pointer { IfOk result (λ p. p ≡ ptr_at ctx.new.nodes.blocks (next_slot ctx.old.nodes.blocks)) }
         ensures live { IfOk result (λ p. IsLive ctx.new (IRNode.BasicBlock p)) }
         ensures fresh { IfOk result (λ p. given_out ctx.old (IRNode.BasicBlock p) ≡ false) }
@@ -68,6 +69,7 @@ impl Ptr<BasicBlock> {
     pub fn get_parent_region<D: OpSet>(self, ctx: &Context<D>) -> Option<Ptr<Region>>
         requires { IsLive ctx.now (IRNode.BasicBlock self) }
         ensures value { option_map IRNode.Region result ≡ parent_of ctx.now (IRNode.BasicBlock self) }
+        ensures live { IfSome result (λ region. IsLive ctx.now (IRNode.Region region)) }
         ensures whole { IsWhole D.attr_handles ctx.now }
     {
         ctx.nodes.parent_of_block(self)
@@ -77,6 +79,7 @@ impl Ptr<BasicBlock> {
     pub fn get_parent_op<D: OpSet>(self, ctx: &Context<D>) -> Option<Ptr<Operation>>
         requires { IsLive ctx.now (IRNode.BasicBlock self) }
         ensures value { option_map IRNode.Operation result ≡ op_above ctx.now (IRNode.BasicBlock self) }
+        ensures live { IfSome result (λ op. IsLive ctx.now (IRNode.Operation op)) }
         ensures whole { IsWhole D.attr_handles ctx.now }
     {
         match self.get_parent_region(ctx) {
@@ -89,6 +92,7 @@ impl Ptr<BasicBlock> {
     pub fn get_next<D: OpSet>(self, ctx: &Context<D>) -> Option<Ptr<BasicBlock>>
         requires { IsLive ctx.now (IRNode.BasicBlock self) }
         ensures value { option_map IRNode.BasicBlock result ≡ next_sibling ctx.now (IRNode.BasicBlock self) }
+        ensures live { IfSome result (λ block. IsLive ctx.now (IRNode.BasicBlock block)) }
         ensures whole { IsWhole D.attr_handles ctx.now }
     {
         ctx.nodes.next_block(self)
@@ -98,6 +102,7 @@ impl Ptr<BasicBlock> {
     pub fn get_prev<D: OpSet>(self, ctx: &Context<D>) -> Option<Ptr<BasicBlock>>
         requires { IsLive ctx.now (IRNode.BasicBlock self) }
         ensures value { option_map IRNode.BasicBlock result ≡ prev_sibling ctx.now (IRNode.BasicBlock self) }
+        ensures live { IfSome result (λ block. IsLive ctx.now (IRNode.BasicBlock block)) }
         ensures whole { IsWhole D.attr_handles ctx.now }
     {
         ctx.nodes.prev_block(self)
@@ -107,6 +112,8 @@ impl Ptr<BasicBlock> {
     pub fn get_head<D: OpSet>(self, ctx: &Context<D>) -> Option<Ptr<Operation>>
         requires { IsLive ctx.now (IRNode.BasicBlock self) }
         ensures value { option_map IRNode.Operation result ≡ first_kid ctx.now (IRNode.BasicBlock self) }
+        ensures live { IfSome result (λ op. IsLive ctx.now (IRNode.Operation op)) }
+        ensures here { IfSome result (λ op. parent_of ctx.now (IRNode.Operation op) ≡ Some (IRNode.BasicBlock self)) }
         ensures whole { IsWhole D.attr_handles ctx.now }
     {
         ctx.nodes.first_op(self)
@@ -116,6 +123,8 @@ impl Ptr<BasicBlock> {
     pub fn get_tail<D: OpSet>(self, ctx: &Context<D>) -> Option<Ptr<Operation>>
         requires { IsLive ctx.now (IRNode.BasicBlock self) }
         ensures value { option_map IRNode.Operation result ≡ last_kid ctx.now (IRNode.BasicBlock self) }
+        ensures live { IfSome result (λ op. IsLive ctx.now (IRNode.Operation op)) }
+        ensures here { IfSome result (λ op. parent_of ctx.now (IRNode.Operation op) ≡ Some (IRNode.BasicBlock self)) }
         ensures whole { IsWhole D.attr_handles ctx.now }
     {
         ctx.nodes.last_op(self)
@@ -125,6 +134,8 @@ impl Ptr<BasicBlock> {
     pub fn get_terminator<D: OpSet>(self, ctx: &Context<D>) -> Option<Ptr<Operation>>
         requires { IsLive ctx.now (IRNode.BasicBlock self) }
         ensures value { option_map IRNode.Operation result ≡ terminator_of D.is_terminator ctx.now self }
+        ensures live { IfSome result (λ op. IsLive ctx.now (IRNode.Operation op)) }
+        ensures here { IfSome result (λ op. parent_of ctx.now (IRNode.Operation op) ≡ Some (IRNode.BasicBlock self)) }
         ensures whole { IsWhole D.attr_handles ctx.now }
     {
         match self.get_tail(ctx) {
@@ -147,6 +158,7 @@ impl Ptr<BasicBlock> {
         requires live { IsLive ctx.now (IRNode.BasicBlock self) }
         requires below { i < length (arg_types_of ctx.now self) }
         ensures value { slice_get (arg_types_of ctx.now self) i ≡ Some result }
+        ensures live { IsTypeLive ctx.now.types result }
         ensures whole { IsWhole D.attr_handles ctx.now }
     {
         ctx.nodes.block(self).arg_types[i]
@@ -168,6 +180,7 @@ impl Ptr<BasicBlock> {
     pub fn attributes<D: OpSet>(self, ctx: &Context<D>) -> &AttributeDict<D>
         requires { IsLive ctx.now (IRNode.BasicBlock self) }
         ensures value { result.now ≡ block_attributes_of ctx.now self }
+        ensures live { HandlesLive D.attr_handles ctx.now.types (block_attributes_of ctx.now self) }
         ensures whole { IsWhole D.attr_handles ctx.now }
     {
         &ctx.nodes.block(self).attributes
@@ -181,7 +194,7 @@ impl Ptr<BasicBlock> {
         value: AttrObj<D>,
     ) -> Result<(), Memory>
         requires live { IsLive ctx.old (IRNode.BasicBlock self) }
-        requires handles { AllLive ctx.old.types (attr_handles D.attr_handles (attr_view value)) }
+        requires handles { IsAttrLive D.attr_handles ctx.old.types (attr_view value) }
         ensures ok { OnOk result (ctx.new ≡ with_block_edit ctx.old self (λ b. record b { attributes = dict_put b.attributes key (attr_view value) })) }
         ensures err { OnErr result (ctx.new ≡ ctx.old) }
         ensures whole { IsWhole D.attr_handles ctx.new }

@@ -1,6 +1,6 @@
 //! The context: all nodes and types of an IR.
 ghost use Rattle.std.specs.Prelude.{◌≡◌, ◌↔◌, ◌-◌, ◌^◌, [], IfOk, OnErr, IsTrue};
-ghost use Rattle.plir_data.specs.Types.{IsLive as IsTypeLive, AllLive, IsInstantiated, handles_of};
+ghost use Rattle.plir_data.specs.Types.{IsLive as IsTypeLive, AllLive, IsInstantiated, IsTypeTable, handles_of};
 ghost use Rattle.plir_data.specs.TypeSeen.{type_view};
 ghost use Rattle.plir_core.specs.Store.{Store, num_live, is_live};
 ghost use Rattle.plir_core.specs.Whole.{IsWhole};
@@ -65,7 +65,7 @@ impl<D: OpSet> Context<D> {
     }
 
     /// Whether a type handle names a type of this context.
-    pub fn is_type_live(&self, handle: TypeHandle) -> bool
+    pub fn is_live(&self, handle: TypeHandle) -> bool
         ensures value { IsTrue result ↔ IsTypeLive self.now.types handle }
         ensures whole { IsWhole D.attr_handles self.now }
     {
@@ -93,9 +93,10 @@ impl<D: OpSet> TypeStore<D> for Context<D> {
 
     fn types(&self) -> &TypeTable<D>
         ensures value { result.now ≡ self.now.types }
+        ensures table { IsTypeTable D.type_handles self.now.types }
         ensures whole { IsWhole D.attr_handles self.now }
     {
-        &self.types
+        self.types.types()
     }
 
     fn instantiate(&mut self, value: TypeObj<D>) -> Result<TypeHandle, Memory>

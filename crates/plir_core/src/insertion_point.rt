@@ -1,5 +1,6 @@
 //! Where an operation is to be put.
-ghost use Rattle.std.specs.Prelude.{◌≡◌, option_map};
+ghost use Rattle.std.specs.Prelude.{◌≡◌, IfSome, option_map};
+ghost use Rattle.plir_core.specs.Store.{IsLive};
 ghost use Rattle.plir_core.specs.Whole.{IsWhole};
 ghost use Rattle.plir_core.specs.declared.ptr.IRNode.{IRNode};
 
@@ -29,6 +30,7 @@ impl OpInsertionPoint {
     pub fn get_insertion_block<D: OpSet>(self, ctx: &Context<D>) -> Option<Ptr<BasicBlock>>
         requires { IsPointLive ctx.now self }
         ensures value { option_map IRNode.BasicBlock result ≡ insertion_block ctx.now self }
+        ensures live { IfSome result (λ block. IsLive ctx.now (IRNode.BasicBlock block)) }
         ensures whole { IsWhole D.attr_handles ctx.now }
     {
         let _types = &ctx.types;

@@ -11,6 +11,7 @@ mod index;
 mod insertion_point;
 mod interface;
 mod labels;
+pub mod laws;
 mod less_than;
 mod linking;
 mod making;

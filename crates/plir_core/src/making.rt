@@ -5,7 +5,8 @@ ghost use Rattle.plir_store.specs.Table.{Table, content_at, num_full, next_slot}
 ghost use Rattle.plir_core.specs.Nodes.{num_nodes, is_node_live, was_given_out, ptr_at};
 ghost use Rattle.plir_core.specs.Forest.{IsForest};
 ghost use Rattle.plir_core.specs.Edits.{IsFilled, SameNodes, room_child, room_list, with_new_op, with_new_block, with_new_region, with_new_regions};
-ghost use Rattle.plir_core.specs.Made.{IsMade};
+ghost use Rattle.plir_core.specs.Made.{IsMade, HasNewRegions};
+ghost use Rattle.plir_core.specs.Refused.{IsUnmade};
 ghost use Rattle.plir_core.specs.declared.ptr.IRNode.{IRNode};
 
 use crate::arena::Arena;
@@ -100,6 +101,7 @@ impl<O: Drop, B: Drop> Arena<O, B> {
         ensures ok { OnOk result (self.new ≡ with_new_block self.old value) }
         ensures pointer { IfOk result (λ p. p ≡ ptr_at self.new.blocks (next_slot self.old.blocks)) }
         ensures live { IfOk result (λ p. is_node_live self.new (IRNode.BasicBlock p) ≡ true) }
+        ensures held { IfOk result (λ p. content_at self.new.blocks p.slot ≡ Some value) }
         ensures fresh { IfOk result (λ p. was_given_out self.old (IRNode.BasicBlock p) ≡ false) }
         ensures given { (n : IRNode) → was_given_out self.old n ≡ true → was_given_out self.new n ≡ true }
         ensures err { OnErr result (self.new ≡ self.old) }
@@ -143,7 +145,8 @@ impl<O: Drop, B: Drop> Arena<O, B> {
         Ok(Ptr::new(slot, self.regions.version(slot)))
     }
 
-    /// A new operation in no block, with so many new regions. After a refusal no live node has changed.
+    /// A new operation in no block, with so many new regions. After a refusal no live node has changed, and the slots are as
+    /// before or as where the operation and some of its regions were made and freed again.
     pub(crate) fn make_op_with_regions(
         &mut self,
         value: O,
@@ -154,8 +157,11 @@ impl<O: Drop, B: Drop> Arena<O, B> {
         ensures live { IfOk result (λ p. is_node_live self.new (IRNode.Operation p) ≡ true) }
         ensures fresh { IfOk result (λ p. was_given_out self.old (IRNode.Operation p) ≡ false) }
         ensures given { (n : IRNode) → was_given_out self.old n ≡ true → was_given_out self.new n ≡ true }
+        ensures held { IfOk result (λ p. content_at self.new.ops p.slot ≡ Some value) }
         ensures made { IfOk result (λ p. IsMade self.old self.new (IRNode.Operation p)) }
+        ensures regions { IfOk result (λ p. HasNewRegions self.new (IRNode.Operation p) count) }
         ensures err { OnErr result (SameNodes self.old self.new) }
+        ensures slots { OnErr result (IsUnmade self.old self.new value count) }
         ensures too_many { self.old.limit < num_nodes self.old + 1 + count → result ≡ Err NodeErr.TooManyNodes }
         ensures too_many_only { result ≡ Err NodeErr.TooManyNodes → (self.old.limit < num_nodes self.old + 1 + count) ⊎ ((2 ^ 32 - 1 ≤ next_slot self.old.ops) ⊎ (2 ^ 32 - 1 + length self.old.regions.free < length self.old.regions.slots + count)) }
         ensures forest { IsForest self.new }

@@ -1,6 +1,7 @@
 //! Uses: the places of operations where a value stands as an operand.
 ghost use Rattle.std.specs.Prelude.{◌≡◌, ◌<◌, Some, length, slice_get};
-ghost use Rattle.plir_core.specs.Store.{IsLive, IsValueLive, operands_of, type_of_value};
+ghost use Rattle.plir_data.specs.Types.{IsLive as IsTypeLive};
+ghost use Rattle.plir_core.specs.Store.{IsLive, IsValueLive, is_value_live, operands_of, type_of_value};
 ghost use Rattle.plir_core.specs.Whole.{IsWhole};
 ghost use Rattle.plir_core.specs.declared.ptr.IRNode.{IRNode};
 
@@ -11,10 +12,24 @@ use plir_data::{OpSet, TypeHandle};
 use std::marker::PhantomData;
 
 impl Value {
+    /// Whether the value is live: its operation or block is, and has a result or an argument at its place.
+    pub fn is_live<D: OpSet>(self, ctx: &Context<D>) -> bool
+        ensures value { result ≡ is_value_live ctx.now self }
+        ensures whole { IsWhole D.attr_handles ctx.now }
+    {
+        match self.defining_entity() {
+            DefiningEntity::Op(op) => op.is_live(ctx) && self.index() < op.get_num_results(ctx),
+            DefiningEntity::Block(block) => {
+                block.is_live(ctx) && self.index() < block.get_num_arguments(ctx)
+            }
+        }
+    }
+
     /// The type of the value.
     pub fn get_type<D: OpSet>(self, ctx: &Context<D>) -> TypeHandle
         requires { IsValueLive ctx.now self }
         ensures value { type_of_value ctx.now self ≡ Some result }
+        ensures live { IsTypeLive ctx.now.types result }
         ensures whole { IsWhole D.attr_handles ctx.now }
     {
         match self.defining_entity() {
@@ -64,6 +79,7 @@ impl Use<Value> {
         requires live { IsLive ctx.now (IRNode.Operation self.op) }
         requires below { self.index < length (operands_of ctx.now self.op) }
         ensures value { slice_get (operands_of ctx.now self.op) self.index ≡ Some result }
+        ensures live { IsValueLive ctx.now result }
         ensures whole { IsWhole D.attr_handles ctx.now }
     {
         self.op.get_operand(ctx, self.index)

@@ -1,17 +1,19 @@
 //! Calls on operations.
 ghost use Rattle.std.specs.Prelude.{◌≡◌, ◌∷◌, ◌++◌, ◌<◌, ◌+◌, ◌-◌, ◌^◌, ◌≤◌, ◌⊎◌, ℕ, All, [], Some, None, OnOk, OnErr, IfOk, IfSome, length, slice_get, option_map, true, false};
-ghost use Rattle.plir_data.specs.Types.{AllLive};
+ghost use Rattle.plir_data.specs.Types.{IsLive as IsTypeLive, AllLive};
+ghost use Rattle.plir_data.specs.AttrLive.{IsAttrLive, HandlesLive};
 ghost use Rattle.plir_data.specs.AttrSeen.{attr_view};
 ghost use Rattle.plir_data.specs.Dictionary.{dict_put};
 ghost use Rattle.plir_store.specs.Table.{next_slot};
-ghost use Rattle.plir_core.specs.Made.{IsMade};
+ghost use Rattle.plir_core.specs.Made.{IsMade, HasNewRegions};
+ghost use Rattle.plir_core.specs.Refused.{IsUnmade};
+ghost use Rattle.plir_core.specs.Contents.{op_view};
 ghost use Rattle.plir_core.specs.Nodes.{ptr_at};
-ghost use Rattle.plir_core.specs.AttrHandles.{attr_handles};
-ghost use Rattle.plir_core.specs.Store.{IsLive, IsValueLive, IsAncestor, is_live, kids, parent_of, op_above, region_above, first_kid, last_kid, next_sibling, prev_sibling, kind_of, result_types_of, operands_of, successors_of, attributes_of, given_out, num_live, limit};
+ghost use Rattle.plir_core.specs.Store.{IsLive, IsValueLive, IsAncestor, is_live, kids, parent_of, op_above, region_above, first_kid, last_kid, next_sibling, prev_sibling, op_at, kind_of, result_types_of, operands_of, successors_of, attributes_of, given_out, num_live, limit};
 ghost use Rattle.plir_core.specs.Whole.{IsWhole};
 ghost use Rattle.plir_core.specs.Placed.{IsPlaced};
+ghost use Rattle.plir_core.specs.Unused.{kid_at};
 ghost use Rattle.plir_core.specs.Changes.{with_op_edit, with_op_last, with_op, SameLive};
-ghost use Rattle.plir_data.specs.declared.location.Location.{Location};
 ghost use Rattle.plir_core.specs.declared.ptr.IRNode.{IRNode};
 ghost use Rattle.plir_core.specs.declared.value.DefiningEntity.{DefiningEntity};
 
@@ -24,8 +26,7 @@ use plir_data::{AttrObj, AttributeDict, Identifier, Location, Memory, OpKind, Op
 use std::alloc::Global;
 
 impl Operation {
-    /// A new operation in no block, with so many new regions. `TooManyNodes` comes only where the limit of live nodes would be
-    /// passed, or the slot numbers of operations or regions are spent. After a refusal no live node has changed.
+    /// A new operation in no block, with no attribute and so many new regions: `with_attributes` with an empty dictionary.
     pub fn new<D: OpSet>(
         alloc: Global,
         ctx: &mut Context<D>,
@@ -38,13 +39,58 @@ impl Operation {
         requires types_live { AllLive ctx.old.types result_types.items }
         requires operands_live { All (IsValueLive ctx.old) operands.items }
         requires successors_live { All (λ b. IsLive ctx.old (IRNode.BasicBlock b)) successors.items }
-        ensures ok { OnOk result (ctx.new ≡ with_op ctx.old (record { kind = kind; result_types = result_types.items; operands = operands.items; successors = successors.items; attributes = []; location = Location.Unknown }) num_regions) }
+        ensures ok { OnOk result (ctx.new ≡ with_op ctx.old (op_view kind result_types.items operands.items successors.items []) num_regions) }
+        ensures held { IfOk result (λ p. op_at ctx.new p ≡ Some (op_view kind result_types.items operands.items successors.items [])) }
         ensures pointer { IfOk result (λ p. p ≡ ptr_at ctx.new.nodes.ops (next_slot ctx.old.nodes.ops)) }
         ensures live { IfOk result (λ p. IsLive ctx.new (IRNode.Operation p)) }
         ensures fresh { IfOk result (λ p. given_out ctx.old (IRNode.Operation p) ≡ false) }
         ensures given { (n : IRNode) → given_out ctx.old n ≡ true → given_out ctx.new n ≡ true }
         ensures made { IfOk result (λ p. IsMade ctx.old.nodes ctx.new.nodes (IRNode.Operation p)) }
+        ensures regions { IfOk result (λ p. HasNewRegions ctx.new.nodes (IRNode.Operation p) num_regions) }
         ensures err { OnErr result (SameLive ctx.old ctx.new) }
+        ensures slots { OnErr result (IsUnmade ctx.old.nodes ctx.new.nodes (op_view kind result_types.items operands.items successors.items []) num_regions) }
+        ensures too_many { limit ctx.old < num_live ctx.old + 1 + num_regions → result ≡ Err NodeErr.TooManyNodes }
+        ensures too_many_only { result ≡ Err NodeErr.TooManyNodes → (limit ctx.old < num_live ctx.old + 1 + num_regions) ⊎ ((2 ^ 32 - 1 ≤ next_slot ctx.old.nodes.ops) ⊎ (2 ^ 32 - 1 + length ctx.old.nodes.regions.free < length ctx.old.nodes.regions.slots + num_regions)) }
+        ensures whole { IsWhole D.attr_handles ctx.new }
+    {
+        let attributes = AttributeDict::new(alloc);
+        Operation::with_attributes(
+            ctx,
+            kind,
+            result_types,
+            operands,
+            successors,
+            attributes,
+            num_regions,
+        )
+    }
+
+    /// A new operation in no block, with these attributes and so many new regions. `TooManyNodes` comes only where the limit of
+    /// live nodes would be passed, or the slot numbers of operations or regions are spent. After a refusal no live node has
+    /// changed, and the slots are as before or as where the operation and some of its regions were made and freed again.
+    pub fn with_attributes<D: OpSet>(
+        ctx: &mut Context<D>,
+        kind: OpKind<D::Kind>,
+        result_types: Vec<TypeHandle>,
+        operands: Vec<Value>,
+        successors: Vec<Ptr<BasicBlock>>,
+        attributes: AttributeDict<D>,
+        num_regions: usize,
+    ) -> Result<Ptr<Operation>, NodeErr>
+        requires types_live { AllLive ctx.old.types result_types.items }
+        requires operands_live { All (IsValueLive ctx.old) operands.items }
+        requires successors_live { All (λ b. IsLive ctx.old (IRNode.BasicBlock b)) successors.items }
+        requires handles_live { HandlesLive D.attr_handles ctx.old.types attributes }
+        ensures ok { OnOk result (ctx.new ≡ with_op ctx.old (op_view kind result_types.items operands.items successors.items attributes) num_regions) }
+        ensures held { IfOk result (λ p. op_at ctx.new p ≡ Some (op_view kind result_types.items operands.items successors.items attributes)) }
+        ensures pointer { IfOk result (λ p. p ≡ ptr_at ctx.new.nodes.ops (next_slot ctx.old.nodes.ops)) }
+        ensures live { IfOk result (λ p. IsLive ctx.new (IRNode.Operation p)) }
+        ensures fresh { IfOk result (λ p. given_out ctx.old (IRNode.Operation p) ≡ false) }
+        ensures given { (n : IRNode) → given_out ctx.old n ≡ true → given_out ctx.new n ≡ true }
+        ensures made { IfOk result (λ p. IsMade ctx.old.nodes ctx.new.nodes (IRNode.Operation p)) }
+        ensures regions { IfOk result (λ p. HasNewRegions ctx.new.nodes (IRNode.Operation p) num_regions) }
+        ensures err { OnErr result (SameLive ctx.old ctx.new) }
+        ensures slots { OnErr result (IsUnmade ctx.old.nodes ctx.new.nodes (op_view kind result_types.items operands.items successors.items attributes) num_regions) }
         ensures too_many { limit ctx.old < num_live ctx.old + 1 + num_regions → result ≡ Err NodeErr.TooManyNodes }
         ensures too_many_only { result ≡ Err NodeErr.TooManyNodes → (limit ctx.old < num_live ctx.old + 1 + num_regions) ⊎ ((2 ^ 32 - 1 ≤ next_slot ctx.old.nodes.ops) ⊎ (2 ^ 32 - 1 + length ctx.old.nodes.regions.free < length ctx.old.nodes.regions.slots + num_regions)) }
         ensures whole { IsWhole D.attr_handles ctx.new }
@@ -54,7 +100,7 @@ impl Operation {
             result_types,
             operands,
             successors,
-            attributes: AttributeDict::new(alloc),
+            attributes,
             location: Location::Unknown,
         };
         let op = ctx.nodes.make_op_with_regions(data, num_regions)?;
@@ -75,6 +121,7 @@ impl Ptr<Operation> {
     pub fn get_parent_block<D: OpSet>(self, ctx: &Context<D>) -> Option<Ptr<BasicBlock>>
         requires { IsLive ctx.now (IRNode.Operation self) }
         ensures value { option_map IRNode.BasicBlock result ≡ parent_of ctx.now (IRNode.Operation self) }
+        ensures live { IfSome result (λ block. IsLive ctx.now (IRNode.BasicBlock block)) }
         ensures whole { IsWhole D.attr_handles ctx.now }
     {
         ctx.nodes.parent_of_op(self)
@@ -84,6 +131,7 @@ impl Ptr<Operation> {
     pub fn get_parent_region<D: OpSet>(self, ctx: &Context<D>) -> Option<Ptr<Region>>
         requires { IsLive ctx.now (IRNode.Operation self) }
         ensures value { option_map IRNode.Region result ≡ region_above ctx.now self }
+        ensures live { IfSome result (λ region. IsLive ctx.now (IRNode.Region region)) }
         ensures whole { IsWhole D.attr_handles ctx.now }
     {
         match self.get_parent_block(ctx) {
@@ -96,6 +144,7 @@ impl Ptr<Operation> {
     pub fn get_parent_op<D: OpSet>(self, ctx: &Context<D>) -> Option<Ptr<Operation>>
         requires { IsLive ctx.now (IRNode.Operation self) }
         ensures value { option_map IRNode.Operation result ≡ op_above ctx.now (IRNode.Operation self) }
+        ensures live { IfSome result (λ op. IsLive ctx.now (IRNode.Operation op)) }
         ensures whole { IsWhole D.attr_handles ctx.now }
     {
         match self.get_parent_block(ctx) {
@@ -108,6 +157,7 @@ impl Ptr<Operation> {
     pub fn get_next<D: OpSet>(self, ctx: &Context<D>) -> Option<Ptr<Operation>>
         requires { IsLive ctx.now (IRNode.Operation self) }
         ensures value { option_map IRNode.Operation result ≡ next_sibling ctx.now (IRNode.Operation self) }
+        ensures live { IfSome result (λ op. IsLive ctx.now (IRNode.Operation op)) }
         ensures whole { IsWhole D.attr_handles ctx.now }
     {
         ctx.nodes.next_op(self)
@@ -117,6 +167,7 @@ impl Ptr<Operation> {
     pub fn get_prev<D: OpSet>(self, ctx: &Context<D>) -> Option<Ptr<Operation>>
         requires { IsLive ctx.now (IRNode.Operation self) }
         ensures value { option_map IRNode.Operation result ≡ prev_sibling ctx.now (IRNode.Operation self) }
+        ensures live { IfSome result (λ op. IsLive ctx.now (IRNode.Operation op)) }
         ensures whole { IsWhole D.attr_handles ctx.now }
     {
         ctx.nodes.prev_op(self)
@@ -126,6 +177,7 @@ impl Ptr<Operation> {
     pub fn first_region<D: OpSet>(self, ctx: &Context<D>) -> Option<Ptr<Region>>
         requires { IsLive ctx.now (IRNode.Operation self) }
         ensures value { option_map IRNode.Region result ≡ first_kid ctx.now (IRNode.Operation self) }
+        ensures live { IfSome result (λ region. IsLive ctx.now (IRNode.Region region)) }
         ensures whole { IsWhole D.attr_handles ctx.now }
     {
         ctx.nodes.first_region(self)
@@ -135,12 +187,13 @@ impl Ptr<Operation> {
     pub fn last_region<D: OpSet>(self, ctx: &Context<D>) -> Option<Ptr<Region>>
         requires { IsLive ctx.now (IRNode.Operation self) }
         ensures value { option_map IRNode.Region result ≡ last_kid ctx.now (IRNode.Operation self) }
+        ensures live { IfSome result (λ region. IsLive ctx.now (IRNode.Region region)) }
         ensures whole { IsWhole D.attr_handles ctx.now }
     {
         ctx.nodes.last_region(self)
     }
 
-    /// How many regions the operation has.
+    /// How many regions the operation has. They are counted one by one: a loop over them goes by `first_region` and `get_next`.
     pub fn num_regions<D: OpSet>(self, ctx: &Context<D>) -> usize
         requires { IsLive ctx.now (IRNode.Operation self) }
         ensures value { result ≡ length (kids ctx.now (IRNode.Operation self)) }
@@ -149,11 +202,13 @@ impl Ptr<Operation> {
         ctx.nodes.num_regions(self)
     }
 
-    /// The region at a place, from 0, among those of the operation.
+    /// The region at a place, from 0, among those of the operation. It is found from the first one on, one by one.
     pub fn get_region<D: OpSet>(self, ctx: &Context<D>, i: usize) -> Ptr<Region>
         requires live { IsLive ctx.now (IRNode.Operation self) }
         requires below { i < length (kids ctx.now (IRNode.Operation self)) }
         ensures value { slice_get (kids ctx.now (IRNode.Operation self)) i ≡ Some (IRNode.Region result) }
+        ensures live { IsLive ctx.now (IRNode.Region result) }
+        ensures kid { IRNode.Region result ≡ kid_at ctx.now (IRNode.Operation self) i }
         ensures whole { IsWhole D.attr_handles ctx.now }
     {
         ctx.nodes.region(self, i)
@@ -182,6 +237,7 @@ impl Ptr<Operation> {
         requires live { IsLive ctx.now (IRNode.Operation self) }
         requires below { i < length (result_types_of ctx.now self) }
         ensures value { slice_get (result_types_of ctx.now self) i ≡ Some result }
+        ensures live { IsTypeLive ctx.now.types result }
         ensures whole { IsWhole D.attr_handles ctx.now }
     {
         ctx.nodes.op(self).result_types[i]
@@ -213,6 +269,7 @@ impl Ptr<Operation> {
         requires live { IsLive ctx.now (IRNode.Operation self) }
         requires below { i < length (operands_of ctx.now self) }
         ensures value { slice_get (operands_of ctx.now self) i ≡ Some result }
+        ensures live { IsValueLive ctx.now result }
         ensures whole { IsWhole D.attr_handles ctx.now }
     {
         ctx.nodes.op(self).operands[i]
@@ -232,6 +289,7 @@ impl Ptr<Operation> {
         requires live { IsLive ctx.now (IRNode.Operation self) }
         requires below { i < length (successors_of ctx.now self) }
         ensures value { slice_get (successors_of ctx.now self) i ≡ Some result }
+        ensures live { IsLive ctx.now (IRNode.BasicBlock result) }
         ensures whole { IsWhole D.attr_handles ctx.now }
     {
         ctx.nodes.op(self).successors[i]
@@ -241,6 +299,7 @@ impl Ptr<Operation> {
     pub fn attributes<D: OpSet>(self, ctx: &Context<D>) -> &AttributeDict<D>
         requires { IsLive ctx.now (IRNode.Operation self) }
         ensures value { result.now ≡ attributes_of ctx.now self }
+        ensures live { HandlesLive D.attr_handles ctx.now.types (attributes_of ctx.now self) }
         ensures whole { IsWhole D.attr_handles ctx.now }
     {
         &ctx.nodes.op(self).attributes
@@ -254,7 +313,7 @@ impl Ptr<Operation> {
         value: AttrObj<D>,
     ) -> Result<(), Memory>
         requires live { IsLive ctx.old (IRNode.Operation self) }
-        requires handles { AllLive ctx.old.types (attr_handles D.attr_handles (attr_view value)) }
+        requires handles { IsAttrLive D.attr_handles ctx.old.types (attr_view value) }
         ensures ok { OnOk result (ctx.new ≡ with_op_edit ctx.old self (λ o. record o { attributes = dict_put o.attributes key (attr_view value) })) }
         ensures err { OnErr result (ctx.new ≡ ctx.old) }
         ensures whole { IsWhole D.attr_handles ctx.new }

@@ -1,6 +1,9 @@
 //! Pointers to nodes: a slot and the version under which the slot held the node.
-ghost use Rattle.std.specs.Prelude.{◌≡◌, ◌+◌, ◌-◌, ◌^◌, min};
+ghost use Rattle.std.specs.Prelude.{◌≡◌, Some, codes};
+ghost use Rattle.plir_core.specs.Nodes.{index_of};
+ghost use Rattle.plir_core.specs.Texts.{pointer_text, node_text};
 
+use std::fmt;
 use std::marker::PhantomData;
 
 /// The kind of pointers to operations.
@@ -16,7 +19,7 @@ pub struct Region;
 pub struct BasicBlock;
 
 /// A pointer to a node of the kind `T`: the node that its slot held under its version.
-#[derive(Clone, Copy, PartialEq, Eq, PartialOrd, Ord, Hash, Debug)]
+#[derive(Clone, Copy, PartialEq, Eq, PartialOrd, Ord, Hash)]
 pub struct Ptr<T> {
     pub(crate) slot: u32,
     pub(crate) version: u32,
@@ -37,7 +40,7 @@ impl<T> Ptr<T> {
 
     /// The number of the slot, from 1.
     pub fn index(self) -> u32
-        ensures { result ≡ min (self.slot + 1) (2 ^ 32 - 1) }
+        ensures { result ≡ index_of self }
     {
         self.slot.saturating_add(1)
     }
@@ -56,4 +59,58 @@ pub enum IRNode {
     Operation(Ptr<Operation>),
     BasicBlock(Ptr<BasicBlock>),
     Region(Ptr<Region>),
+}
+
+impl fmt::Display for Ptr<Operation> {
+    ghost output = { λ p. Some (pointer_text (codes "op") p) };
+
+    fn fmt<W: fmt::Write>(&self, f: &mut fmt::Formatter<W>) -> fmt::Result {
+        write!(f, "op{}v{}", self.index(), self.version)
+    }
+}
+
+impl fmt::Debug for Ptr<Operation> {
+    fn fmt<W: fmt::Write>(&self, f: &mut fmt::Formatter<W>) -> fmt::Result {
+        write!(f, "{self}")
+    }
+}
+
+impl fmt::Display for Ptr<Region> {
+    ghost output = { λ p. Some (pointer_text (codes "region") p) };
+
+    fn fmt<W: fmt::Write>(&self, f: &mut fmt::Formatter<W>) -> fmt::Result {
+        write!(f, "region{}v{}", self.index(), self.version)
+    }
+}
+
+impl fmt::Debug for Ptr<Region> {
+    fn fmt<W: fmt::Write>(&self, f: &mut fmt::Formatter<W>) -> fmt::Result {
+        write!(f, "{self}")
+    }
+}
+
+impl fmt::Display for Ptr<BasicBlock> {
+    ghost output = { λ p. Some (pointer_text (codes "block") p) };
+
+    fn fmt<W: fmt::Write>(&self, f: &mut fmt::Formatter<W>) -> fmt::Result {
+        write!(f, "block{}v{}", self.index(), self.version)
+    }
+}
+
+impl fmt::Debug for Ptr<BasicBlock> {
+    fn fmt<W: fmt::Write>(&self, f: &mut fmt::Formatter<W>) -> fmt::Result {
+        write!(f, "{self}")
+    }
+}
+
+impl fmt::Display for IRNode {
+    ghost output = { λ n. Some (node_text n) };
+
+    fn fmt<W: fmt::Write>(&self, f: &mut fmt::Formatter<W>) -> fmt::Result {
+        match *self {
+            IRNode::Operation(op) => write!(f, "{op}"),
+            IRNode::BasicBlock(block) => write!(f, "{block}"),
+            IRNode::Region(region) => write!(f, "{region}"),
+        }
+    }
 }

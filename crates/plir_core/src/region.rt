@@ -21,12 +21,13 @@ impl Ptr<Region> {
     pub fn get_parent_op<D: OpSet>(self, ctx: &Context<D>) -> Option<Ptr<Operation>>
         requires { IsLive ctx.now (IRNode.Region self) }
         ensures value { option_map IRNode.Operation result ≡ parent_of ctx.now (IRNode.Region self) }
+        ensures live { IfSome result (λ op. IsLive ctx.now (IRNode.Operation op)) }
         ensures whole { IsWhole D.attr_handles ctx.now }
     {
         ctx.nodes.parent_of_region(self)
     }
 
-    /// The place of the region, from 0, among those of its operation.
+    /// The place of the region, from 0, among those of its operation. It is found from the first one on, one by one.
     pub fn find_index_in_parent<D: OpSet>(self, ctx: &Context<D>) -> usize
         requires { IsLive ctx.now (IRNode.Region self) }
         ensures value { IfSome (parent_of ctx.now (IRNode.Region self)) (λ n. slice_get (kids ctx.now n) result ≡ Some (IRNode.Region self)) }
@@ -39,6 +40,7 @@ impl Ptr<Region> {
     pub fn get_next<D: OpSet>(self, ctx: &Context<D>) -> Option<Ptr<Region>>
         requires { IsLive ctx.now (IRNode.Region self) }
         ensures value { option_map IRNode.Region result ≡ next_sibling ctx.now (IRNode.Region self) }
+        ensures live { IfSome result (λ region. IsLive ctx.now (IRNode.Region region)) }
         ensures whole { IsWhole D.attr_handles ctx.now }
     {
         ctx.nodes.next_region(self)
@@ -48,6 +50,7 @@ impl Ptr<Region> {
     pub fn get_prev<D: OpSet>(self, ctx: &Context<D>) -> Option<Ptr<Region>>
         requires { IsLive ctx.now (IRNode.Region self) }
         ensures value { option_map IRNode.Region result ≡ prev_sibling ctx.now (IRNode.Region self) }
+        ensures live { IfSome result (λ region. IsLive ctx.now (IRNode.Region region)) }
         ensures whole { IsWhole D.attr_handles ctx.now }
     {
         ctx.nodes.prev_region(self)
@@ -57,6 +60,7 @@ impl Ptr<Region> {
     pub fn get_head<D: OpSet>(self, ctx: &Context<D>) -> Option<Ptr<BasicBlock>>
         requires { IsLive ctx.now (IRNode.Region self) }
         ensures value { option_map IRNode.BasicBlock result ≡ first_kid ctx.now (IRNode.Region self) }
+        ensures live { IfSome result (λ block. IsLive ctx.now (IRNode.BasicBlock block)) }
         ensures whole { IsWhole D.attr_handles ctx.now }
     {
         ctx.nodes.first_block(self)
@@ -66,6 +70,7 @@ impl Ptr<Region> {
     pub fn get_tail<D: OpSet>(self, ctx: &Context<D>) -> Option<Ptr<BasicBlock>>
         requires { IsLive ctx.now (IRNode.Region self) }
         ensures value { option_map IRNode.BasicBlock result ≡ last_kid ctx.now (IRNode.Region self) }
+        ensures live { IfSome result (λ block. IsLive ctx.now (IRNode.BasicBlock block)) }
         ensures whole { IsWhole D.attr_handles ctx.now }
     {
         ctx.nodes.last_block(self)
@@ -75,6 +80,7 @@ impl Ptr<Region> {
     pub fn get_entry_block<D: OpSet>(self, ctx: &Context<D>) -> Option<Ptr<BasicBlock>>
         requires { IsLive ctx.now (IRNode.Region self) }
         ensures value { option_map IRNode.BasicBlock result ≡ first_kid ctx.now (IRNode.Region self) }
+        ensures live { IfSome result (λ block. IsLive ctx.now (IRNode.BasicBlock block)) }
         ensures whole { IsWhole D.attr_handles ctx.now }
     {
         self.get_head(ctx)

@@ -39,7 +39,7 @@ impl Operation {
         Ok(region)
     }
 
-    /// Erases the region at a place, from 0, among those of an operation, with all below it, whose values and blocks nothing
+    /// Erases the region that `get_region` finds at a place, from 0, among those of an operation, with all below it, whose values and blocks nothing
     /// else uses (`IRNode::is_unused_outside`). Each node is freed after those below it, kids in order. Later regions move
     /// down by one.
     pub fn erase_region<D: OpSet>(op: Ptr<Operation>, i: usize, ctx: &mut Context<D>)

@@ -1,6 +1,7 @@
 pub mod Bulk
 pub mod Dictionaries
 pub mod Equality
+pub mod HeldHandles
 pub mod Reordered
 pub mod Tables
 pub mod TypeTexts

@@ -1,5 +1,5 @@
 -- Attributes whose handles name types of a table.
-use Rattle.std.specs.Prelude.{ℕ, List, [], ◌∷◌}
+use Rattle.std.specs.Prelude.{ℕ, List, [], ◌∷◌, All}
 use Rattle.plir_data.specs.Types.{TypeView, AllLive}
 use Rattle.plir_data.specs.AttrView.{Leaf, integer, type_of, own, AttrView, leaf, dict, vec, Items, no_items, item, Entries, no_entries, entry}
 
@@ -26,3 +26,7 @@ module _ {A T : Type 0} where
     pub AreEntriesLive : (own_handles : A → List ℕ) → List (TypeView T) → Entries A → Type 0
     AreEntriesLive own_handles types no_entries = Unit {0}
     AreEntriesLive own_handles types (entry k x es) = IsAttrLive own_handles types x × AreEntriesLive own_handles types es
+
+  -- all type handles in the attributes of a dictionary name types of the table
+  abbrev pub HandlesLive : (own_handles : A → List ℕ) → List (TypeView T) → List (List ℕ × AttrView A) → Type 0
+  HandlesLive own_handles types es = All (λ e. IsAttrLive own_handles types e.1) es

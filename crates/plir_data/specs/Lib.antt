@@ -4,6 +4,7 @@
 --   Types        TypeView T: a type as contracts see it; IsLive, AllLive, type_at, handles_of, IsInstantiated, IsTypeTable
 --   Integers     bits_of, signed_of, literal: integers of some bits, as numbers and as digits
 --   TypeSeen     type_view: a `TypeObj` as a TypeView
+--   TypeNames    the names of the marks of builtin types
 --   Verify       IsVerdict: what a verifier answers
 --   AttrView     AttrView A: an attribute as contracts see it, with its leaves, items and entries
 --   AttrSeen     attr_view: an `AttrObj` as an AttrView
@@ -12,7 +13,7 @@
 --   AttrDepth    how deep attributes stand in one another
 --   AttrCalls    attr_id, attr_type, is_outlined: what the getters of an attribute answer
 --   AttrEq, AttrHash   attr_eq, attr_words: equality of attributes, and what their hash is made from
---   AttrLive     IsAttrLive: the handles in an attribute name types of a table
+--   AttrLive     IsAttrLive: the handles in an attribute name types of a table; HandlesLive: those in a dictionary
 --   AttrVerify   attr_is_valid, IsRefusal: which attributes are valid, and how others are refused
 --   TypeTree, TypeText   tree_of, type_text: a type as a whole, and its text
 --   NamesLent, EntryLent   LendsNames, LendsEntry: what becomes of given names, and of a dictionary's entry, that are lent
@@ -22,6 +23,7 @@ pub mod Identifier
 pub mod Types
 pub mod Integers
 pub mod TypeSeen
+pub mod TypeNames
 pub mod Verify
 pub mod AttrView
 pub mod AttrCode

@@ -1,5 +1,5 @@
 -- Types as contracts see them, and the table that holds each type once.
-use Rattle.std.specs.Prelude.{◌≡◌, ◌<◌, ◌⊎◌, ℕ, List, [], ◌∷◌, ◌++◌, length, All, Contains, Option, Some, None, Bool, true, false, nat_lt, slice_get}
+use Rattle.std.specs.Prelude.{◌≡◌, ◌<◌, ◌⊎◌, ℕ, List, [], ◌∷◌, ◌++◌, length, All, Contains, Option, Some, None, Bool, true, false, nat_lt, slice_get, codes}
 use Rattle.std.specs.Option.{option_map_or}
 use Rattle.plir_data.specs.declared.types.Signedness.{Signedness}
 use Rattle.plir_data.specs.declared.types.Signedness.TheVariants.{Signed, Unsigned, Signless}
@@ -44,6 +44,13 @@ module _ {T : Type 0} where
   pub record IsTypeTable (own_handles : T → List ℕ) (types : List (TypeView T)) : Type 0 where
     pub once : (type : TypeView T) (i j : ℕ) → type_at types i ≡ Some type → type_at types j ≡ Some type → i ≡ j
     pub before : (type : TypeView T) (i : ℕ) → type_at types i ≡ Some type → All (λ handle. handle < i) (handles_of own_handles type)
+
+  -- the id of a type, as `dialect.name`; `own_id` gives that of the user's own
+  abbrev pub type_id : (own_id : T → List ℕ) → TypeView T → List ℕ
+  type_id own_id (integer s w) = codes "builtin.integer"
+  type_id own_id (function arguments results) = codes "builtin.function"
+  type_id own_id unit = codes "builtin.unit"
+  type_id own_id (own t) = own_id t
 
   -- the types of arguments and results, of a type of functions
   abbrev pub signature_of : (own_signature : T → Option (List ℕ × List ℕ)) → TypeView T → Option (List ℕ × List ℕ)

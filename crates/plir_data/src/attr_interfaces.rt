@@ -1,6 +1,7 @@
 //! What can be asked of an attribute, whatever its kind.
 
 ghost use Rattle.std.specs.Prelude.{◌≡◌, ℕ, Bool, true, Option, Some, Ok, ⊤};
+ghost use Rattle.plir_data.specs.AttrView.{AttrView};
 ghost use Rattle.plir_data.specs.AttrSeen.{attr_view};
 ghost use Rattle.plir_data.specs.AttrCalls.{attr_id, attr_type, is_outlined};
 
@@ -83,13 +84,14 @@ impl<C> Typed<C> for TypeAttr {
     }
 }
 
-/// Attributes that have a type.
-pub trait TypedAttrInterface {
-    ghost attr_type_of: { Self → ℕ };
+/// Attributes that have a type: those for which `typed` answers one.
+pub trait TypedAttrInterface<D: OpSet> {
+    // How an attribute of this kind is seen among all attributes.
+    ghost seen: { Self → AttrView D.Attr };
 
     /// The type.
     fn get_type(&self) -> TypeHandle
-        ensures { result ≡ attr_type_of self.now };
+        ensures { attr_type D.attr_type (seen self.now) ≡ Some result };
 
     /// Accepts always.
     final fn verify<C>(&self, _ctx: &C) -> Result<(), Memory>
@@ -99,29 +101,34 @@ pub trait TypedAttrInterface {
     }
 }
 
-impl TypedAttrInterface for IntegerAttr {
-    ghost attr_type_of = { λ a. a.ty };
+impl<D: OpSet> TypedAttrInterface<D> for IntegerAttr {
+    ghost use Rattle.plir_data.specs.AttrView.{leaf, integer};
+
+    ghost seen = { λ a. leaf (integer a.ty a.value.width a.value.bits) };
 
     fn get_type(&self) -> TypeHandle {
         self.get_type().into()
     }
 }
 
-impl TypedAttrInterface for TypeAttr {
-    ghost attr_type_of = { λ a. a.0 };
+impl<D: OpSet> TypedAttrInterface<D> for TypeAttr {
+    ghost use Rattle.plir_data.specs.AttrView.{leaf, type_of};
+
+    ghost seen = { λ a. leaf (type_of a.0) };
 
     fn get_type(&self) -> TypeHandle {
         self.get_type()
     }
 }
 
-/// Attributes that are left out of an operation's text.
-pub trait OutlinedAttr {
-    ghost is_outlined: { Self → Bool } = { λ _. true };
+/// Attributes that may be left out of an operation's text: whether they are is what `outline` of an `AttrObj` answers.
+pub trait OutlinedAttr<D: OpSet> {
+    // How an attribute of this kind is seen among all attributes.
+    ghost seen: { Self → AttrView D.Attr };
 
     /// Whether the attribute is left out.
     fn outline(&self) -> bool
-        ensures { result ≡ is_outlined self.now };
+        ensures { result ≡ is_outlined D.attr_outlined (seen self.now) };
 
     /// Accepts always.
     final fn verify<C>(&self, _ctx: &C) -> Result<(), Memory>
@@ -131,14 +138,18 @@ pub trait OutlinedAttr {
     }
 }
 
-impl OutlinedAttr for GivenNamesAttr {
+impl<D: OpSet> OutlinedAttr<D> for GivenNamesAttr {
+    ghost use Rattle.plir_data.specs.AttrView.{leaf, given_names};
+
+    ghost seen = { λ a. leaf (given_names a) };
+
     fn outline(&self) -> bool {
         true
     }
 }
 
 /// Outlined attributes that are printed once.
-pub trait PrintOnceAttr: OutlinedAttr {
+pub trait PrintOnceAttr<D: OpSet>: OutlinedAttr<D> {
     /// Accepts always.
     final fn verify<C>(&self, _ctx: &C) -> Result<(), Memory>
         ensures { result ≡ Ok tt }

@@ -9,7 +9,7 @@ ghost use Rattle.plir_data.specs.Types.{IsLive, AllLive, type_at};
 ghost use Rattle.plir_data.specs.Verify.{IsVerdict};
 ghost use Rattle.plir_data.specs.declared.attr_verify.AttrVerifyErr.TheVariants.{IntegerAttrBitwidth};
 
-use crate::attributes::{AttrObj, DictAttr, OperandSegmentSizesAttr, VecAttr};
+use crate::attributes::{AttrObj, DictAttr, GivenNamesAttr, OperandSegmentSizesAttr, VecAttr};
 use crate::location::{Location, VerifyErr};
 use crate::memory::Memory;
 use crate::op_set::OpSet;
@@ -97,6 +97,15 @@ impl<D: OpSet> DictAttr<D> {
 }
 
 impl OperandSegmentSizesAttr {
+    /// Accepts always.
+    pub fn verify<C>(&self, _ctx: &C) -> Result<(), Memory>
+        ensures { result ≡ Ok tt }
+    {
+        Ok(())
+    }
+}
+
+impl GivenNamesAttr {
     /// Accepts always.
     pub fn verify<C>(&self, _ctx: &C) -> Result<(), Memory>
         ensures { result ≡ Ok tt }

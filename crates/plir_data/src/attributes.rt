@@ -14,7 +14,7 @@ use std::alloc::Global;
 use std::hash::{Hash, Hasher};
 use std::marker::Model;
 
-/// Attributes under keys.
+/// Attributes under keys. How deep attributes may stand in one another is said at [`VecAttr`].
 #[cycle(attr)]
 #[derive(Drop)]
 #[derive_where(Debug)]
@@ -93,6 +93,9 @@ impl<D: OpSet> DictAttr<D> {
 }
 
 /// A list of attributes.
+///
+/// Attributes that stand in one another are let go, copied, compared, hashed, printed and verified by calls within calls, so a
+/// program's stack bounds their depth: 5,000 levels are safe in a stack of 8 MB, and 20,000 overflow it, which ends the program.
 #[cycle(attr)]
 #[derive(Drop)]
 #[derive_where(Debug)]
@@ -293,6 +296,9 @@ impl Hash for GivenNamesAttr {
 }
 
 /// An attribute.
+///
+/// One that holds others at more than 5,000 levels may overflow the stack as it is let go, copied, compared, hashed, printed
+/// or verified, as [`VecAttr`] says.
 #[cycle(attr)]
 #[derive(Drop)]
 #[derive_where(Debug)]

@@ -9,9 +9,10 @@ mod attr_interfaces;
 mod attr_verify;
 mod attribute_dict;
 mod attributes;
-mod builtin_set;
 mod identifier;
+mod kind_set;
 pub mod laws;
+mod liveness;
 mod location;
 mod memory;
 mod op_set;
@@ -29,8 +30,8 @@ pub use attr_interfaces::{OutlinedAttr, PrintOnceAttr, Typed, TypedAttrInterface
 pub use attr_verify::{AttrVerifyErr, IntegerAttrBitwidthErr};
 pub use attribute_dict::AttributeDict;
 pub use attributes::{AttrObj, DictAttr, GivenNamesAttr, OperandSegmentSizesAttr, VecAttr};
-pub use builtin_set::{BuiltinSet, NeverRefused, NoMeaning};
 pub use identifier::{Identifier, IdentifierErr, is_identifier};
+pub use kind_set::{BuiltinSet, KindSet, NeverRefused, NoMeaning, OwnKind};
 pub use location::{Location, VerifyErr};
 pub use memory::Memory;
 pub use op_set::{OpKind, OpSet};
@@ -39,7 +40,7 @@ pub use text_attrs::{IdentifierAttr, StringAttr};
 pub use type_store::TypeStore;
 pub use type_table::TypeTable;
 pub use type_texts::type_text;
-pub use typed_handle::{FunctionTypeMark, TypeInterfaceMark, TypeMark, TypedHandle};
+pub use typed_handle::{FunctionTypeMark, MarkName, TypeInterfaceMark, TypeMark, TypedHandle};
 pub use types::{
     FunctionType, FunctionTypeInterface, IntegerType, Signedness, TypeHandle, TypeObj, TypeSig,
     UnitType,

@@ -1,6 +1,8 @@
 //! Places in a source text, and the refusals of verifiers.
 
 use crate::memory::Memory;
+use std::error::Error as StdError;
+use thiserror::Error;
 
 /// Where something stands in a source text.
 #[derive(Clone, Copy, PartialEq, Eq, Hash, Debug)]
@@ -12,11 +14,14 @@ pub enum Location {
 }
 
 /// Why a verifier did not accept.
-#[derive(PartialEq, Eq, Drop, Debug)]
+#[derive(PartialEq, Eq, Drop, Debug, Error)]
+#[error_bound(E: StdError)]
 pub enum VerifyErr<E> {
-    /// A rule is broken: where, and which.
+    /// A rule is broken: where, and which. The text is that of the rule's own error.
+    #[error("{err}")]
     Refused { loc: Location, err: E },
     /// The text of the refusal could not be made.
+    #[error("out of memory")]
     Memory,
 }
 

@@ -129,6 +129,10 @@ pub trait OpSet: Sized {
     fn clone_attr(alloc: Global, attr: &Self::Attr) -> Result<Self::Attr, Memory>
         ensures { IfOk result (λ a. a ≡ attr.now) };
 
+    /// Whether all type handles that an own attribute holds name types of the context.
+    fn is_attr_live<C: TypeStore<Self>>(attr: &Self::Attr, ctx: &C) -> bool
+        ensures { IsTrue result ↔ AllLive (C.types ctx.now) (attr_handles attr.now) };
+
     /// The id of an own type, as `dialect.name`.
     fn type_id(ty: &Self::Ty) -> &'static str
         ensures { result.now ≡ type_id ty.now };
@@ -145,6 +149,10 @@ pub trait OpSet: Sized {
     /// The types of arguments and results, where an own type is a type of functions.
     fn function_sig(ty: &Self::Ty) -> Option<(&[TypeHandle], &[TypeHandle])>
         ensures { option_map (λ p. (p.0.now, p.1.now)) result ≡ function_sig ty.now };
+
+    /// Whether all type handles that an own type holds name types of the context.
+    fn is_type_live<C: TypeStore<Self>>(ty: &Self::Ty, ctx: &C) -> bool
+        ensures { IsTrue result ↔ AllLive (C.types ctx.now) (type_handles ty.now) };
 
     // Equality tells own values apart exactly as contracts do, and what a query hands out is among the handles held.
     ghost attr_eq_exact: { (a b : Self.Attr) → IsTrue (Self.Attr.eq a b) → a ≡ b };

@@ -1,7 +1,7 @@
 //! The parts that printed texts share, for the texts of your own types and attributes too. Each puts something
-//! behind what is there. Where memory is refused, the text is to be thrown away: no contract says what is in it then.
+//! behind what is there. Where memory is refused, the text is as it was.
 
-ghost use Rattle.std.specs.Prelude.{◌≡◌, ◌++◌, OnOk, string_bytes};
+ghost use Rattle.std.specs.Prelude.{◌≡◌, ◌++◌, OnErr, OnOk, string_bytes};
 ghost use Rattle.plir_data.specs.TypeText.{comma, integer_text, letters, spaced};
 
 use crate::ap_int::put_decimal;
@@ -10,7 +10,8 @@ use crate::types::{IntegerType, Signedness};
 
 /// Puts a text.
 pub fn put(out: &mut String, text: &str) -> Result<(), Memory>
-    ensures { OnOk result (string_bytes out.new ≡ string_bytes out.old ++ text.now) }
+    ensures ok { OnOk result (string_bytes out.new ≡ string_bytes out.old ++ text.now) }
+    ensures err { OnErr result (string_bytes out.new ≡ string_bytes out.old) }
 {
     out.push_str(text)?;
     Ok(())
@@ -18,7 +19,8 @@ pub fn put(out: &mut String, text: &str) -> Result<(), Memory>
 
 /// Puts a comma and a space, before all but the first.
 pub fn put_comma(out: &mut String, is_first: bool) -> Result<(), Memory>
-    ensures { OnOk result (string_bytes out.new ≡ string_bytes out.old ++ comma is_first) }
+    ensures ok { OnOk result (string_bytes out.new ≡ string_bytes out.old ++ comma is_first) }
+    ensures err { OnErr result (string_bytes out.new ≡ string_bytes out.old) }
 {
     if !is_first {
         put(out, ", ")?;
@@ -28,22 +30,27 @@ pub fn put_comma(out: &mut String, is_first: bool) -> Result<(), Memory>
 
 /// Puts a text behind a space, where it isn't empty.
 pub fn put_spaced(out: &mut String, text: &str) -> Result<(), Memory>
-    ensures { OnOk result (string_bytes out.new ≡ string_bytes out.old ++ spaced text.now) }
+    ensures ok { OnOk result (string_bytes out.new ≡ string_bytes out.old ++ spaced text.now) }
+    ensures err { OnErr result (string_bytes out.new ≡ string_bytes out.old) }
 {
-    if !text.is_empty() {
-        put(out, " ")?;
-        put(out, text)?;
+    if text.is_empty() {
+        return Ok(());
     }
-    Ok(())
+    let mut whole = String::new(*out.allocator());
+    put(&mut whole, " ")?;
+    put(&mut whole, text)?;
+    put(out, &whole)
 }
 
 /// Puts an integer type without its id, as `si32`.
 pub fn put_integer_text(out: &mut String, ty: &IntegerType) -> Result<(), Memory>
-    ensures { OnOk result (string_bytes out.new ≡ string_bytes out.old ++ integer_text ty.now.signedness ty.now.width) }
+    ensures ok { OnOk result (string_bytes out.new ≡ string_bytes out.old ++ integer_text ty.now.signedness ty.now.width) }
+    ensures err { OnErr result (string_bytes out.new ≡ string_bytes out.old) }
 {
-    put(out, letters_of(ty.signedness()))?;
-    put_decimal(out, u128::from(ty.width()))?;
-    Ok(())
+    let mut whole = String::new(*out.allocator());
+    put(&mut whole, letters_of(ty.signedness()))?;
+    put_decimal(&mut whole, u128::from(ty.width()))?;
+    put(out, &whole)
 }
 
 // What stands before the width of an integer type.

@@ -1,7 +1,7 @@
 //! Where types are kept: each once, named by a handle.
 
 ghost use Rattle.std.specs.Prelude.{◌≡◌, ◌↔◌, ℕ, List, Option, Some, OnErr, IfOk, IsTrue};
-ghost use Rattle.plir_data.specs.Types.{TypeView, IsLive, AllLive, IsInstantiated, handles_of, type_at};
+ghost use Rattle.plir_data.specs.Types.{TypeView, IsLive, AllLive, IsInstantiated, IsTypeTable, handles_of, type_at};
 ghost use Rattle.plir_data.specs.TypeSeen.{type_view};
 
 use crate::memory::Memory;
@@ -17,9 +17,10 @@ pub trait TypeStore<D: OpSet> {
     // Nothing but the types may differ.
     ghost same_besides: { Self → Self → Type 0 };
 
-    /// The table of types.
+    /// The table of types. No type stands in it twice: equal handles name equal types, and equal types have equal handles.
     fn types(&self) -> &TypeTable<D>
-        ensures { result.now ≡ types self.now };
+        ensures value { result.now ≡ types self.now }
+        ensures whole { IsTypeTable D.type_handles (types self.now) };
 
     /// The handle of a type: if the table hasn't it yet, it comes last. Nothing else changes, and after a refusal nothing at all.
     fn instantiate(&mut self, value: TypeObj<D>) -> Result<TypeHandle, Memory>

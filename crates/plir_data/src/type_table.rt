@@ -61,6 +61,13 @@ impl<D: OpSet> TypeTable<D> {
         handle.index() < self.objects.len()
     }
 
+    /// Whether all of these handles name types of this table.
+    pub fn are_live(&self, handles: &[TypeHandle]) -> bool
+        ensures { IsTrue result ↔ AllLive self.now handles.now }
+    {
+        handles.iter().all(|&handle| self.is_live(handle))
+    }
+
     /// The type that a handle names.
     pub fn get(&self, handle: TypeHandle) -> &TypeObj<D>
         requires { IsLive self.now handle }
@@ -88,7 +95,9 @@ impl<D: OpSet> TypeStore<D> for TypeTable<D> {
 
     ghost same_besides = { λ _ _. ⊤ };
 
+    // The length is read so that what a table keeps is known.
     fn types(&self) -> &TypeTable<D> {
+        let _len = self.objects.len();
         self
     }
 

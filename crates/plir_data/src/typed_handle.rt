@@ -1,7 +1,7 @@
 //! Handles of types that are known to be of one kind, and the marks of kinds.
 
 ghost use Rattle.std.specs.Prelude.{◌≡◌, ◌↔◌, IsTrue, ℕ, List, Bool, true, Some, IfSome, IsSome, is_some, option_map};
-ghost use Rattle.plir_data.specs.Types.{TypeView, integer, function, unit, IsLive, IsMarked, type_at, signature_of, is_integer, is_function, is_unit};
+ghost use Rattle.plir_data.specs.Types.{TypeView, integer, function, unit, IsLive, IsMarked, type_at, signature_of, is_integer, is_function, is_unit, type_id};
 ghost use Rattle.plir_data.specs.TypeSeen.{type_view};
 
 use crate::op_set::OpSet;
@@ -72,6 +72,27 @@ impl<T> TypedHandle<T> {
     }
 }
 
+/// The name of a kind of types or of an interface of types, as refusals tell it.
+#[derive(Debug, Drop)]
+pub struct MarkName(pub &'static str);
+
+impl Model for MarkName {
+    ghost use Rattle.std.specs.Prelude.{List, ℕ};
+
+    ghost Value = { List ℕ };
+
+    ghost view = { λ n. n.0.now };
+}
+
+impl MarkName {
+    /// The text of the name.
+    pub fn as_str(&self) -> &'static str
+        ensures { result.now ≡ self.now }
+    {
+        self.0
+    }
+}
+
 /// The mark of one kind of type: its name, and the test of a type value.
 pub trait TypeMark<D: OpSet>: Sized {
     // The types that are of this kind, and how a type of this kind is seen among all types.
@@ -79,19 +100,18 @@ pub trait TypeMark<D: OpSet>: Sized {
 
     ghost seen: { Self → TypeView D.Ty };
 
-    ghost mark_name: { List ℕ };
+    ghost NAME: { List ℕ };
 
     /// The name of the kind: the id of its types.
-    const NAME: &'static str;
-
-    /// The name of the kind.
-    fn mark_name() -> &'static str
-        ensures { result.now ≡ mark_name };
+    const NAME: MarkName;
 
     /// The type as one of this kind, if it is one.
     fn project(ty: &TypeObj<D>) -> Option<&Self>
         ensures test { is_some result ≡ marks (type_view ty.now) }
         ensures value { IfSome result (λ t. seen t.now ≡ type_view ty.now) };
+
+    // The name is the id of each type of this kind.
+    ghost named_by_id: { (t : TypeView D.Ty) → marks t ≡ true → type_id D.type_id t ≡ NAME };
 }
 
 /// The mark of an interface of types: its name, and the test of a type value.
@@ -99,14 +119,10 @@ pub trait TypeInterfaceMark<D: OpSet> {
     // The types that implement the interface.
     ghost marks: { TypeView D.Ty → Bool };
 
-    ghost mark_name: { List ℕ };
+    ghost NAME: { List ℕ };
 
     /// The name of the interface.
-    const NAME: &'static str;
-
-    /// The name of the interface.
-    fn mark_name() -> &'static str
-        ensures { result.now ≡ mark_name };
+    const NAME: MarkName;
 
     /// Whether a type implements the interface.
     fn is_implemented_by(ty: &TypeObj<D>) -> bool
@@ -120,13 +136,9 @@ impl<D: OpSet> TypeMark<D> for IntegerType {
 
     ghost seen = { λ t. integer t.signedness t.width };
 
-    ghost mark_name = { codes "builtin.integer" };
+    ghost NAME = { codes "builtin.integer" };
 
-    const NAME: &'static str = "builtin.integer";
-
-    fn mark_name() -> &'static str {
-        "builtin.integer"
-    }
+    const NAME: MarkName = MarkName("builtin.integer");
 
     fn project(ty: &TypeObj<D>) -> Option<&IntegerType> {
         match ty {
@@ -134,6 +146,10 @@ impl<D: OpSet> TypeMark<D> for IntegerType {
             _ => None,
         }
     }
+
+    ghost use Rattle.plir_data.specs.TypeNames.{integer_named};
+
+    ghost named_by_id = { integer_named D.type_id };
 }
 
 impl<D: OpSet> TypeMark<D> for FunctionType {
@@ -143,13 +159,9 @@ impl<D: OpSet> TypeMark<D> for FunctionType {
 
     ghost seen = { λ t. function t.0.0 t.0.1 };
 
-    ghost mark_name = { codes "builtin.function" };
+    ghost NAME = { codes "builtin.function" };
 
-    const NAME: &'static str = "builtin.function";
-
-    fn mark_name() -> &'static str {
-        "builtin.function"
-    }
+    const NAME: MarkName = MarkName("builtin.function");
 
     fn project(ty: &TypeObj<D>) -> Option<&FunctionType> {
         match ty {
@@ -157,6 +169,10 @@ impl<D: OpSet> TypeMark<D> for FunctionType {
             _ => None,
         }
     }
+
+    ghost use Rattle.plir_data.specs.TypeNames.{function_named};
+
+    ghost named_by_id = { function_named D.type_id };
 }
 
 impl<D: OpSet> TypeMark<D> for UnitType {
@@ -166,13 +182,9 @@ impl<D: OpSet> TypeMark<D> for UnitType {
 
     ghost seen = { λ _. unit };
 
-    ghost mark_name = { codes "builtin.unit" };
+    ghost NAME = { codes "builtin.unit" };
 
-    const NAME: &'static str = "builtin.unit";
-
-    fn mark_name() -> &'static str {
-        "builtin.unit"
-    }
+    const NAME: MarkName = MarkName("builtin.unit");
 
     fn project(ty: &TypeObj<D>) -> Option<&UnitType> {
         match ty {
@@ -180,6 +192,10 @@ impl<D: OpSet> TypeMark<D> for UnitType {
             _ => None,
         }
     }
+
+    ghost use Rattle.plir_data.specs.TypeNames.{unit_named};
+
+    ghost named_by_id = { unit_named D.type_id };
 }
 
 /// The mark of types of functions.
@@ -191,13 +207,9 @@ impl<D: OpSet> TypeInterfaceMark<D> for FunctionTypeMark {
 
     ghost marks = { λ t. is_some (signature_of D.function_sig t) };
 
-    ghost mark_name = { codes "FunctionTypeInterface" };
+    ghost NAME = { codes "FunctionTypeInterface" };
 
-    const NAME: &'static str = "FunctionTypeInterface";
-
-    fn mark_name() -> &'static str {
-        "FunctionTypeInterface"
-    }
+    const NAME: MarkName = MarkName("FunctionTypeInterface");
 
     fn is_implemented_by(ty: &TypeObj<D>) -> bool {
         ty.function_sig().is_some()

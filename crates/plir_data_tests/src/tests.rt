@@ -16,6 +16,5 @@ macro_rules! again {
 mod attributes;
 mod dictionaries;
 mod numbers;
-mod sample_set;
 mod types;
 mod validity;

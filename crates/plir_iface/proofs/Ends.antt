@@ -33,6 +33,10 @@ pub no-ends : {A : Type 0} (f : ℕ → A) (xs : List ℕ) → None ≡ option_m
 no-ends f [] e p = omega arith
 no-ends f (x ∷ xs) e p = none-some (f x) e
 
+pub no-last : {A : Type 0} (f : ℕ → A) (xs : List ℕ) → None ≡ option_map f (last_of xs) → length (map f xs) ≡ 1 → ⊥
+no-last f [] e p = omega arith
+no-last f (x ∷ xs) e p = let r = last-in x xs in none-some (f r.0) (e ∙ ap (option_map f) r.1.1)
+
 abbrev slot_of : IRNode → ℕ
 slot_of (Operation p) = p.slot
 slot_of (Region p) = p.slot
@@ -52,6 +56,9 @@ module _ {O B : Type 0} (s : Nodes O B) (w : IsForest s) (r : Ptr RegionKind) (l
 
   pub no-block : None ≡ node_first s (Region r) → length (node_kids s (Region r)) ≡ 1 → ⊥
   no-block e = rw live (no-ends (block_node s) (kids_at s.blocks_in_region r.slot) (e ∙ rw live refl))
+
+  pub no-last-block : None ≡ node_last s (Region r) → length (node_kids s (Region r)) ≡ 1 → ⊥
+  no-last-block e = rw live (no-last (block_node s) (kids_at s.blocks_in_region r.slot) (e ∙ rw live refl))
 
 -- whether two pointers have one slot and one version
 pub same-ptr : {X : Type 0} (p q : Ptr X) (b : Bool) → b ≡ (eqb p.slot q.slot && (eqb p.version q.version && true)) → IsTrue b ↔ (p ≡ q)

@@ -1,6 +1,5 @@
--- The ids of operations and types, as `dialect.name`.
+-- The ids of operations, as `dialect.name`.
 use Rattle.std.specs.Prelude.{ℕ, List, codes}
-use Rattle.plir_data.specs.Types.{TypeView, integer, function, unit, own}
 use Rattle.plir_data.specs.declared.op_set.OpKind.{OpKind}
 use Rattle.plir_data.specs.declared.op_set.OpKind.TheVariants.{Module, Func, Constant, ForwardRef, Own}
 
@@ -11,10 +10,3 @@ op_id own_id Func = codes "builtin.func"
 op_id own_id Constant = codes "builtin.constant"
 op_id own_id ForwardRef = codes "builtin.forward_ref"
 op_id own_id (Own k) = own_id k
-
--- the id of a type
-abbrev pub type_id : {T : Type 0} (own_id : T → List ℕ) → TypeView T → List ℕ
-type_id own_id (integer s w) = codes "builtin.integer"
-type_id own_id (function arguments results) = codes "builtin.function"
-type_id own_id unit = codes "builtin.unit"
-type_id own_id (own t) = own_id t

@@ -5,11 +5,11 @@
 --   Regions      the rules of regions and blocks
 --   Sides        types_on, type_in: operands and results as lists of types
 --   SameTypes    the rules of one type
---   Places       IsAmong, NeedsMore: places of a list that a rule is about
+--   Places       IsAmong, NeedsMore, IsLongEnough: places of a list that a rule is about
 --   TypeRules    the rules of types that pass a test
 --   TypeRefusals IsFault: how types break a rule, and what an error tells of it
 --   IndexRange   IsIndexRange: ranges of places in a list
---   Ids          op_id, type_id: the ids of operations and types
+--   Ids          op_id: the ids of operations
 pub mod Verdict
 pub mod Counts
 pub mod Regions

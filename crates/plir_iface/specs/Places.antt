@@ -20,6 +20,10 @@ abbrev pub NeedsMore : Places → (len needed : ℕ) → Type 0
 NeedsMore (At n) len needed = (len ≤ n) × (needed ≡ n + 1)
 NeedsMore (Within m n) len needed = IsTooShort n len × (needed ≡ unsigned_abs n + 1)
 
+-- a list of `len` entities is long enough for these places
+abbrev pub IsLongEnough : Places → (len : ℕ) → Type 0
+IsLongEnough places len = (needed : ℕ) → NeedsMore places len needed → ⊥
+
 -- i is one of these places of a list of `len` entities
 abbrev pub IsAmong : Places → (len i : ℕ) → Type 0
 IsAmong (At n) len i = i ≡ n
@@ -33,4 +37,4 @@ IsCountable (Within m n) = Unit {0}
 -- a list of `len` entities is long enough for these places, and they are those from start on and before end
 abbrev pub IsSpan : Places → (len : ℕ) → Span → Type 0
 IsSpan places len span =
-    ((needed : ℕ) → NeedsMore places len needed → ⊥) × (span.end ≤ len) × ((i : ℕ) → ((span.start ≤ i) × (i < span.end)) ↔ IsAmong places len i)
+    IsLongEnough places len × (span.end ≤ len) × ((i : ℕ) → ((span.start ≤ i) × (i < span.end)) ↔ IsAmong places len i)

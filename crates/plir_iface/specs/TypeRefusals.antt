@@ -1,14 +1,13 @@
 -- How the rules of types are refused: a fault of the types, and what an error tells of it.
 use Rattle.std.specs.Prelude.{◌≡◌, ◌<◌, ℕ, List, [], length, Bool, Option, string_bytes}
 use Rattle.std.specs.Option.{option_map_or, option_and_then}
-use Rattle.plir_data.specs.Types.{TypeView, type_at}
+use Rattle.plir_data.specs.Types.{TypeView, type_at, type_id}
 use Rattle.plir_data.specs.TypeText.{type_text}
 use Rattle.plir_core.specs.declared.ptr.Ptr.{Ptr}
 use Rattle.plir_core.specs.declared.ptr.Operation.{Operation as OperationKind}
 use Rattle.plir_core.specs.Store.{Store}
-use Rattle.plir_iface.specs.Ids.{type_id}
 use Rattle.plir_iface.specs.Sides.{type_in, types_on}
-use Rattle.plir_iface.specs.Places.{NeedsMore, IsAmong}
+use Rattle.plir_iface.specs.Places.{NeedsMore, IsLongEnough, IsAmong}
 use Rattle.plir_iface.specs.TypeRules.{FailsFirst}
 use Rattle.plir_iface.specs.declared.places.Places.{Places}
 use Rattle.plir_iface.specs.declared.side.Side.{Side}
@@ -47,10 +46,10 @@ module _ {K A T : Type 0} (passes : TypeView T → Bool) (name : List ℕ) (own_
   abbrev pub IsMisfit : Side → (among : ℕ → Type 0) → List (Option ℕ) → Misfit → Type 0
   IsMisfit side among ts m = (m.side ≡ side) × FailsFirst passes s among ts m.place × (m.wanted.now ≡ name) × (m.found.now ≡ id_in own_id s ts m.place)
 
-  -- How types break the rule of some places: there are too few, and so many are needed; or the first that fails.
+  -- How types break the rule of some places: there are too few, and so many are needed; or there are enough, and this is the first that fails.
   abbrev pub IsFault : Side → Places → List (Option ℕ) → TypeFault → Type 0
   IsFault side places ts (Few few) = (few.found ≡ length ts) × NeedsMore places (length ts) few.needed
-  IsFault side places ts (Wrong m) = IsMisfit side (IsAmong places (length ts)) ts m
+  IsFault side places ts (Wrong m) = IsLongEnough places (length ts) × IsMisfit side (IsAmong places (length ts)) ts m
 
   -- An error tells, as R says, of the first type of an operation's side that fails the test; or of how they break the rule of some places.
   abbrev pub IsMisfitTold : {E : Type 0} → Ptr OperationKind → Side → (R : Misfit → E → Type 0) → E → Type 0

@@ -7,7 +7,7 @@ use Rattle.plir_core.specs.declared.ptr.Operation.{Operation as OperationKind}
 use Rattle.plir_core.specs.Store.{Store}
 use Rattle.plir_iface.specs.Counts.{operand_types, result_types}
 use Rattle.plir_iface.specs.Sides.{type_in}
-use Rattle.plir_iface.specs.Places.{NeedsMore, IsAmong, signed}
+use Rattle.plir_iface.specs.Places.{IsLongEnough, IsAmong, signed}
 use Rattle.plir_iface.specs.declared.places.Places.{Places}
 use Rattle.plir_iface.specs.declared.places.Places.TheVariants.{At, Within}
 
@@ -42,7 +42,7 @@ module _ {K A T : Type 0} (passes : TypeView T → Bool) (s : Store K A T) where
 
   -- the list is long enough for these places, and all types at them pass
   abbrev pub PassesAt : Places → List (Option ℕ) → Type 0
-  PassesAt places ts = ((needed : ℕ) → NeedsMore places (length ts) needed → ⊥) × AllPass (IsAmong places (length ts)) ts
+  PassesAt places ts = IsLongEnough places (length ts) × AllPass (IsAmong places (length ts)) ts
 
 -- The rules, each named after its interface. A type passes if it is of the interface's mark.
 module _ {K A T : Type 0} (marks : TypeView T → Bool) (s : Store K A T) (op : Ptr OperationKind) where

@@ -14,7 +14,7 @@ ghost use Rattle.plir_iface.specs.Verdict.{IsRefusal};
 use crate::ids::id_of_kind;
 use crate::op::Op;
 use crate::verdict::accept_if;
-use plir_core::{BasicBlock, Context, Operation, Ptr, Region};
+use plir_core::{BasicBlock, Context, IRNode, Operation, Ptr, Region, laws};
 use plir_data::{OpSet, VerifyErr};
 use thiserror::Error;
 
@@ -38,28 +38,21 @@ fn has_one_block<D: OpSet>(ctx: &Context<D>, region: Ptr<Region>) -> bool
     first == last
 }
 
-/// The region at a place, from 0, which is live as every region of an operation is.
-fn region_at<D: OpSet>(ctx: &Context<D>, op: Ptr<Operation>, i: usize) -> Ptr<Region>
-    requires live { IsLive ctx.now (IRNode.Operation op) }
-    requires below { i < length (regions_of ctx.now op) }
-    ensures value { slice_get (regions_of ctx.now op) i ≡ Some (IRNode.Region result) }
-    ensures live { IsLive ctx.now (IRNode.Region result) }
-    ensures whole { IsWhole D.attr_handles ctx.now }
-{
-    op.get_region(ctx, i)
-}
-
-/// Whether each region of an operation has one block.
+/// Whether each region of an operation has one block. The loop goes from each region to the next one.
 fn has_single_blocks<D: OpSet>(ctx: &Context<D>, op: Ptr<Operation>) -> bool
     requires { IsLive ctx.now (IRNode.Operation op) }
     ensures value { IsTrue result ↔ HasSingleBlocks ctx.now op }
     ensures whole { IsWhole D.attr_handles ctx.now }
 {
-    let found = op.num_regions(ctx);
-    for i in 0..found {
-        if !has_one_block(ctx, region_at(ctx, op, i)) {
+    laws::first_kid_is_front(ctx, IRNode::Operation(op));
+    let mut next = op.first_region(ctx);
+    for place in 0..op.num_regions(ctx) {
+        let Some(region) = next else { unreachable!() };
+        laws::kid_at(ctx, IRNode::Operation(op), IRNode::Region(region), place);
+        if !has_one_block(ctx, region) {
             return false;
         }
+        next = region.get_next(ctx);
     }
     true
 }
@@ -92,7 +85,8 @@ pub trait SingleBlockRegionInterface<D: OpSet>: Op<D> {
         ensures live { IsLive ctx.now (IRNode.BasicBlock result) }
         ensures whole { IsWhole D.attr_handles ctx.now }
     {
-        region_at(ctx, self.get_operation(), region)
+        self.get_operation()
+            .get_region(ctx, region)
             .get_head(ctx)
             .unwrap()
     }

@@ -1,7 +1,8 @@
 //! The ids of operations and types, as `dialect.name`.
 ghost use Rattle.std.specs.Prelude.{◌≡◌};
 ghost use Rattle.plir_data.specs.TypeSeen.{type_view};
-ghost use Rattle.plir_iface.specs.Ids.{op_id, type_id};
+ghost use Rattle.plir_data.specs.Types.{type_id};
+ghost use Rattle.plir_iface.specs.Ids.{op_id};
 
 use plir_data::{OpKind, OpSet, TypeObj};
 

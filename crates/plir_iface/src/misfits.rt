@@ -121,7 +121,7 @@ pub(crate) fn verify_each_kind<D: OpSet, T: TypeMark<D>, E: From<OtherKind> + Dr
 ) -> Result<(), VerifyErr<E>>
     requires { IsLive ctx.now (IRNode.Operation op) }
     ensures ok { IsOk result ↔ EachPasses T.marks ctx.now (types_on side ctx.now op) }
-    ensures refused { IfErr result (IsRefusalMemoryAside ctx.now op (IsOtherKindTold T.marks T.mark_name D.type_id ctx.now D.type_body_text op side E.from_gives)) }
+    ensures refused { IfErr result (IsRefusalMemoryAside ctx.now op (IsOtherKindTold T.marks T.NAME D.type_id ctx.now D.type_body_text op side E.from_gives)) }
     ensures whole { IsWhole D.attr_handles ctx.now }
 {
     let count = side.len(ctx, op);

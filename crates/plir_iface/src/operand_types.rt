@@ -33,7 +33,7 @@ pub trait AllOperandsOfType<D: OpSet, T: TypeMark<D>>: Op<D> {
     ) -> Result<(), VerifyErr<AllOperandsOfTypeVerifyErr>>
         requires { IsLive ctx.now (IRNode.Operation (Self.pointer self.now)) }
         ensures ok { IsOk result ↔ HasAllOperandsOfType T.marks ctx.now (Self.pointer self.now) }
-        ensures refused { IfErr result (IsRefusalMemoryAside ctx.now (Self.pointer self.now) (IsOtherKindTold T.marks T.mark_name D.type_id ctx.now D.type_body_text (Self.pointer self.now) Side.Operands TellsOtherOperand)) }
+        ensures refused { IfErr result (IsRefusalMemoryAside ctx.now (Self.pointer self.now) (IsOtherKindTold T.marks T.NAME D.type_id ctx.now D.type_body_text (Self.pointer self.now) Side.Operands TellsOtherOperand)) }
         ensures whole { IsWhole D.attr_handles ctx.now }
     {
         verify_each_kind::<D, T, AllOperandsOfTypeVerifyErr>(
@@ -51,7 +51,7 @@ pub trait AllOperandsImplsTy<D: OpSet, I: TypeInterfaceMark<D>>: Op<D> {
     final fn verify(&self, ctx: &Context<D>) -> Result<(), VerifyErr<TypeInterfaceImplsErr>>
         requires { IsLive ctx.now (IRNode.Operation (Self.pointer self.now)) }
         ensures ok { IsOk result ↔ HasAllOperandsImplsTy I.marks ctx.now (Self.pointer self.now) }
-        ensures refused { IfErr result (IsRefusal ctx.now (Self.pointer self.now) (IsMisfitTold I.marks I.mark_name D.type_id ctx.now (Self.pointer self.now) Side.Operands TellsImpls)) }
+        ensures refused { IfErr result (IsRefusal ctx.now (Self.pointer self.now) (IsMisfitTold I.marks I.NAME D.type_id ctx.now (Self.pointer self.now) Side.Operands TellsImpls)) }
         ensures whole { IsWhole D.attr_handles ctx.now }
     {
         verify_each::<D, Implementing<I>, TypeInterfaceImplsErr>(
@@ -72,7 +72,7 @@ pub trait OperandNOfType<D: OpSet, const N: usize, T: TypeMark<D>>: Op<D> {
         requires live { IsLive ctx.now (IRNode.Operation (Self.pointer self.now)) }
         requires countable { N < 2 ^ 64 - 1 }
         ensures ok { IsOk result ↔ HasOperandNOfType T.marks ctx.now (Self.pointer self.now) N }
-        ensures refused { IfErr result (IsRefusal ctx.now (Self.pointer self.now) (IsFaultTold T.marks T.mark_name D.type_id ctx.now (Self.pointer self.now) Side.Operands (Places.At N) (TellsRule TellsFewOperands TellsOperandN))) }
+        ensures refused { IfErr result (IsRefusal ctx.now (Self.pointer self.now) (IsFaultTold T.marks T.NAME D.type_id ctx.now (Self.pointer self.now) Side.Operands (Places.At N) (TellsRule TellsFewOperands TellsOperandN))) }
         ensures whole { IsWhole D.attr_handles ctx.now }
     {
         verify_at::<D, OfType<T>, TypeRuleErr<NotEnoughOperandsErr, OperandNOfTypeError>>(
@@ -94,7 +94,7 @@ pub trait OperandNImplsTy<D: OpSet, const N: usize, I: TypeInterfaceMark<D>>: Op
         requires live { IsLive ctx.now (IRNode.Operation (Self.pointer self.now)) }
         requires countable { N < 2 ^ 64 - 1 }
         ensures ok { IsOk result ↔ HasOperandNImplsTy I.marks ctx.now (Self.pointer self.now) N }
-        ensures refused { IfErr result (IsRefusal ctx.now (Self.pointer self.now) (IsFaultTold I.marks I.mark_name D.type_id ctx.now (Self.pointer self.now) Side.Operands (Places.At N) (TellsRule TellsFewOperands TellsImpls))) }
+        ensures refused { IfErr result (IsRefusal ctx.now (Self.pointer self.now) (IsFaultTold I.marks I.NAME D.type_id ctx.now (Self.pointer self.now) Side.Operands (Places.At N) (TellsRule TellsFewOperands TellsImpls))) }
         ensures whole { IsWhole D.attr_handles ctx.now }
     {
         verify_at::<D, Implementing<I>, TypeRuleErr<NotEnoughOperandsErr, TypeInterfaceImplsErr>>(
@@ -114,7 +114,7 @@ pub trait OperandsMNOfType<D: OpSet, const M: u32, const N: u32, T: TypeMark<D>>
         requires live { IsLive ctx.now (IRNode.Operation (Self.pointer self.now)) }
         requires ordered { IsOrdered M (signed N) }
         ensures ok { IsOk result ↔ HasOperandsMNOfType T.marks ctx.now (Self.pointer self.now) M N }
-        ensures refused { IfErr result (IsRefusal ctx.now (Self.pointer self.now) (IsFaultTold T.marks T.mark_name D.type_id ctx.now (Self.pointer self.now) Side.Operands (Places.Within M (signed N)) TellsOperandsMN)) }
+        ensures refused { IfErr result (IsRefusal ctx.now (Self.pointer self.now) (IsFaultTold T.marks T.NAME D.type_id ctx.now (Self.pointer self.now) Side.Operands (Places.Within M (signed N)) TellsOperandsMN)) }
         ensures whole { IsWhole D.attr_handles ctx.now }
     {
         verify_at::<D, OfType<T>, OperandsMNOfTypeError>(
@@ -137,7 +137,7 @@ pub trait OperandsMNImplsTy<D: OpSet, const M: u32, const N: u32, I: TypeInterfa
         requires live { IsLive ctx.now (IRNode.Operation (Self.pointer self.now)) }
         requires ordered { IsOrdered M (signed N) }
         ensures ok { IsOk result ↔ HasOperandsMNImplsTy I.marks ctx.now (Self.pointer self.now) M N }
-        ensures refused { IfErr result (IsRefusal ctx.now (Self.pointer self.now) (IsFaultTold I.marks I.mark_name D.type_id ctx.now (Self.pointer self.now) Side.Operands (Places.Within M (signed N)) (TellsRule TellsFewOperands TellsImpls))) }
+        ensures refused { IfErr result (IsRefusal ctx.now (Self.pointer self.now) (IsFaultTold I.marks I.NAME D.type_id ctx.now (Self.pointer self.now) Side.Operands (Places.Within M (signed N)) (TellsRule TellsFewOperands TellsImpls))) }
         ensures whole { IsWhole D.attr_handles ctx.now }
     {
         verify_at::<D, Implementing<I>, TypeRuleErr<NotEnoughOperandsErr, TypeInterfaceImplsErr>>(

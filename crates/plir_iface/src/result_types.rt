@@ -33,7 +33,7 @@ pub trait AllResultsOfType<D: OpSet, T: TypeMark<D>>: Op<D> {
     ) -> Result<(), VerifyErr<AllResultsOfTypeVerifyErr>>
         requires { IsLive ctx.now (IRNode.Operation (Self.pointer self.now)) }
         ensures ok { IsOk result ↔ HasAllResultsOfType T.marks ctx.now (Self.pointer self.now) }
-        ensures refused { IfErr result (IsRefusalMemoryAside ctx.now (Self.pointer self.now) (IsOtherKindTold T.marks T.mark_name D.type_id ctx.now D.type_body_text (Self.pointer self.now) Side.Results TellsOtherResult)) }
+        ensures refused { IfErr result (IsRefusalMemoryAside ctx.now (Self.pointer self.now) (IsOtherKindTold T.marks T.NAME D.type_id ctx.now D.type_body_text (Self.pointer self.now) Side.Results TellsOtherResult)) }
         ensures whole { IsWhole D.attr_handles ctx.now }
     {
         verify_each_kind::<D, T, AllResultsOfTypeVerifyErr>(
@@ -51,7 +51,7 @@ pub trait AllResultsImplsTy<D: OpSet, I: TypeInterfaceMark<D>>: Op<D> {
     final fn verify(&self, ctx: &Context<D>) -> Result<(), VerifyErr<TypeInterfaceImplsErr>>
         requires { IsLive ctx.now (IRNode.Operation (Self.pointer self.now)) }
         ensures ok { IsOk result ↔ HasAllResultsImplsTy I.marks ctx.now (Self.pointer self.now) }
-        ensures refused { IfErr result (IsRefusal ctx.now (Self.pointer self.now) (IsMisfitTold I.marks I.mark_name D.type_id ctx.now (Self.pointer self.now) Side.Results TellsImpls)) }
+        ensures refused { IfErr result (IsRefusal ctx.now (Self.pointer self.now) (IsMisfitTold I.marks I.NAME D.type_id ctx.now (Self.pointer self.now) Side.Results TellsImpls)) }
         ensures whole { IsWhole D.attr_handles ctx.now }
     {
         verify_each::<D, Implementing<I>, TypeInterfaceImplsErr>(
@@ -72,7 +72,7 @@ pub trait ResultNOfType<D: OpSet, const N: usize, T: TypeMark<D>>: Op<D> {
         requires live { IsLive ctx.now (IRNode.Operation (Self.pointer self.now)) }
         requires countable { N < 2 ^ 64 - 1 }
         ensures ok { IsOk result ↔ HasResultNOfType T.marks ctx.now (Self.pointer self.now) N }
-        ensures refused { IfErr result (IsRefusal ctx.now (Self.pointer self.now) (IsFaultTold T.marks T.mark_name D.type_id ctx.now (Self.pointer self.now) Side.Results (Places.At N) (TellsRule TellsFewResults TellsResultN))) }
+        ensures refused { IfErr result (IsRefusal ctx.now (Self.pointer self.now) (IsFaultTold T.marks T.NAME D.type_id ctx.now (Self.pointer self.now) Side.Results (Places.At N) (TellsRule TellsFewResults TellsResultN))) }
         ensures whole { IsWhole D.attr_handles ctx.now }
     {
         verify_at::<D, OfType<T>, TypeRuleErr<NotEnoughResultsErr, ResultNOfTypeError>>(
@@ -94,7 +94,7 @@ pub trait ResultNImplsTy<D: OpSet, const N: usize, I: TypeInterfaceMark<D>>: Op<
         requires live { IsLive ctx.now (IRNode.Operation (Self.pointer self.now)) }
         requires countable { N < 2 ^ 64 - 1 }
         ensures ok { IsOk result ↔ HasResultNImplsTy I.marks ctx.now (Self.pointer self.now) N }
-        ensures refused { IfErr result (IsRefusal ctx.now (Self.pointer self.now) (IsFaultTold I.marks I.mark_name D.type_id ctx.now (Self.pointer self.now) Side.Results (Places.At N) (TellsRule TellsFewResults TellsImpls))) }
+        ensures refused { IfErr result (IsRefusal ctx.now (Self.pointer self.now) (IsFaultTold I.marks I.NAME D.type_id ctx.now (Self.pointer self.now) Side.Results (Places.At N) (TellsRule TellsFewResults TellsImpls))) }
         ensures whole { IsWhole D.attr_handles ctx.now }
     {
         verify_at::<D, Implementing<I>, TypeRuleErr<NotEnoughResultsErr, TypeInterfaceImplsErr>>(
@@ -114,7 +114,7 @@ pub trait ResultsMNOfType<D: OpSet, const M: u32, const N: u32, T: TypeMark<D>>:
         requires live { IsLive ctx.now (IRNode.Operation (Self.pointer self.now)) }
         requires ordered { IsOrdered M (signed N) }
         ensures ok { IsOk result ↔ HasResultsMNOfType T.marks ctx.now (Self.pointer self.now) M N }
-        ensures refused { IfErr result (IsRefusal ctx.now (Self.pointer self.now) (IsFaultTold T.marks T.mark_name D.type_id ctx.now (Self.pointer self.now) Side.Results (Places.Within M (signed N)) TellsResultsMN)) }
+        ensures refused { IfErr result (IsRefusal ctx.now (Self.pointer self.now) (IsFaultTold T.marks T.NAME D.type_id ctx.now (Self.pointer self.now) Side.Results (Places.Within M (signed N)) TellsResultsMN)) }
         ensures whole { IsWhole D.attr_handles ctx.now }
     {
         verify_at::<D, OfType<T>, ResultsMNOfTypeError>(
@@ -137,7 +137,7 @@ pub trait ResultsMNImplsTy<D: OpSet, const M: u32, const N: u32, I: TypeInterfac
         requires live { IsLive ctx.now (IRNode.Operation (Self.pointer self.now)) }
         requires ordered { IsOrdered M (signed N) }
         ensures ok { IsOk result ↔ HasResultsMNImplsTy I.marks ctx.now (Self.pointer self.now) M N }
-        ensures refused { IfErr result (IsRefusal ctx.now (Self.pointer self.now) (IsFaultTold I.marks I.mark_name D.type_id ctx.now (Self.pointer self.now) Side.Results (Places.Within M (signed N)) (TellsRule TellsFewResults TellsImpls))) }
+        ensures refused { IfErr result (IsRefusal ctx.now (Self.pointer self.now) (IsFaultTold I.marks I.NAME D.type_id ctx.now (Self.pointer self.now) Side.Results (Places.Within M (signed N)) (TellsRule TellsFewResults TellsImpls))) }
         ensures whole { IsWhole D.attr_handles ctx.now }
     {
         verify_at::<D, Implementing<I>, TypeRuleErr<NotEnoughResultsErr, TypeInterfaceImplsErr>>(

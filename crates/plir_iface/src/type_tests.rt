@@ -41,10 +41,10 @@ pub struct OfType<T> {
 impl<D: OpSet, T: TypeMark<D>> TypeTest<D> for OfType<T> {
     ghost passes = { T.marks };
 
-    ghost test_name = { T.mark_name };
+    ghost test_name = { T.NAME };
 
     fn test_name() -> &'static str {
-        T::mark_name()
+        T::NAME.as_str()
     }
 
     fn test(ty: &TypeObj<D>) -> bool {
@@ -60,10 +60,10 @@ pub struct Implementing<I> {
 impl<D: OpSet, I: TypeInterfaceMark<D>> TypeTest<D> for Implementing<I> {
     ghost passes = { I.marks };
 
-    ghost test_name = { I.mark_name };
+    ghost test_name = { I.NAME };
 
     fn test_name() -> &'static str {
-        I::mark_name()
+        I::NAME.as_str()
     }
 
     fn test(ty: &TypeObj<D>) -> bool {

@@ -1,8 +1,6 @@
-//! Each interface at an operation of its own type, and ranges of places.
-mod counts;
-mod ranges;
-mod regions;
-mod sample;
-mod type_ranges;
-mod type_rules;
-mod types;
+//! Each interface at an operation that has them all, as scripts, and ranges of places.
+mod any_op;
+mod appending;
+mod asking;
+mod scripts;
+mod verifying;

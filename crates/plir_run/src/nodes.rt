@@ -1,6 +1,6 @@
 //! How a script's modules and functions are made.
-ghost use Rattle.std.specs.Prelude.{IfOk};
-ghost use Rattle.plir_core.specs.Store.{IsLive};
+ghost use Rattle.std.specs.Prelude.{◌≡◌, IfOk, length};
+ghost use Rattle.plir_core.specs.Store.{IsLive, kids};
 ghost use Rattle.plir_core.specs.declared.ptr.IRNode.{IRNode};
 
 use crate::naming::ATTR_KEY_SYM_NAME;
@@ -39,7 +39,8 @@ fn make_op(
     kind: OpKind<NoMeaning>,
     target: Option<Ptr<BasicBlock>>,
 ) -> Result<Ptr<Operation>, Stop>
-    ensures { IfOk result (λ op. IsLive ctx.new (IRNode.Operation op)) }
+    ensures live { IfOk result (λ op. IsLive ctx.new (IRNode.Operation op)) }
+    ensures region { IfOk result (λ op. length (kids ctx.new (IRNode.Operation op)) ≡ 1) }
 {
     let results = Vec::new(alloc);
     let operands = Vec::new(alloc);
@@ -55,19 +56,17 @@ fn make_op(
     }
 }
 
-// A new block without arguments, in the operation's first region.
+// A new block without arguments, in the operation's region.
 fn add_block(
     alloc: Global,
     ctx: &mut Context<BuiltinSet>,
     op: Ptr<Operation>,
 ) -> Result<Ptr<BasicBlock>, Stop>
-    requires { IsLive ctx.old (IRNode.Operation op) }
+    requires live { IsLive ctx.old (IRNode.Operation op) }
+    requires region { length (kids ctx.old (IRNode.Operation op)) ≡ 1 }
     ensures { IfOk result (λ block. IsLive ctx.new (IRNode.Operation op)) }
 {
-    let region = match op.first_region(ctx) {
-        Some(region) if region.is_live(ctx) => region,
-        _ => return Err(Stop::Refused),
-    };
+    let region = op.get_region(ctx, 0);
     let block = BasicBlock::new(alloc, ctx, None, Vec::new(alloc))?;
     block.insert_at_back(region, ctx);
     Ok(block)

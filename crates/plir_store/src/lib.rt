@@ -5,5 +5,3 @@
 pub mod chains;
 mod hop;
 pub mod slots;
-#[cfg(test)]
-mod tests;

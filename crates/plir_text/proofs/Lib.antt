@@ -1,4 +1,5 @@
 pub mod Steps
+pub mod TypeLevels
 pub mod Lexing
 pub mod Quoted
 pub mod Fronts

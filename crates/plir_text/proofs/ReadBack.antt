@@ -1,16 +1,19 @@
 -- What a printed attribute is read as.
-use Rattle.std.proofs.Common.{◌≡◌, ◌≢◌, ◌<◌, ◌≤◌, ℕ, List, length, refl, sym, ap, subst, ◌∙◌}
+use Rattle.std.proofs.Common.{◌≡◌, ◌≢◌, ℕ, List, Result, Ok, Err, refl, sym, subst}
 use Rattle.std.proofs.lemmas.Option.{slice_get_within}
 use Rattle.plir_data.specs.AttrLive.{IsAttrLive, AreItemsLive, AreEntriesLive}
+use Rattle.plir_data.specs.AttrSeen.{attr_view}
 use Rattle.plir_data.specs.AttrView as views
 use Rattle.plir_data.specs.AttrView.{Leaf, AttrView, leaf, dict, vec, Items, no_items, item, Entries, no_entries, entry}
 use Rattle.plir_data.specs.Types as types
-use Rattle.plir_data.specs.Types.{TypeView, IsTypeTable, IsInstantiated, IsLive, type_at}
+use Rattle.plir_data.specs.Types.{TypeView, IsTypeTable, type_at}
+use Rattle.plir_data.specs.declared.attributes.AttrObj.{AttrObj}
+use Rattle.plir_text.specs.AttrAnswer.{IsReadable, IsReadBack}
 use Rattle.plir_text.specs.AttrText.{attr_text}
 use Rattle.plir_text.specs.Meaning.{StandsFor}
 use Rattle.plir_text.specs.Names.{Grows}
-use Rattle.plir_text.specs.Terms.{levels}
-use Rattle.plir_text.specs.Writable.{IsLeafWritable, IsWritable, AreItemsWritable, AreEntriesWritable, attr_term}
+use Rattle.plir_text.specs.Writable.{IsLeafWritable, IsWritable, AreItemsWritable, AreEntriesWritable}
+use Rattle.plir_text.specs.declared.fault.ReadErr.{ReadErr}
 use Rattle.plir_text.specs.declared.fault.Fault.{Fault}
 use Rattle.plir_text.specs.declared.fault.Fault.TheVariants as faults
 use Rattle.plir_text.proofs.AttrsShown.{verified_type, text_stands}
@@ -49,17 +52,13 @@ module _ {A T : Type 0} (own_handles : A → List ℕ) (table : List (TypeView T
     entries_live no_entries h = tt
     entries_live (entry k x es) h = (writable_live x h.0, entries_live es h.1)
 
--- a handle of a type that was asked for is one of the table
-pub asked_live : {T : Type 0} (old new table : List (TypeView T)) (t : TypeView T) (h k : ℕ) → IsInstantiated old t h new → table ≡ new → k ≡ h → IsLive table k
-asked_live old new table t h k asked same is = subst (λ n. n < length table) (sym is) (slice_get_within table h t (ap (λ l. type_at l h) same ∙ asked.named))
-
--- what the text of an attribute stands for in a table that has grown on, of which more types were asked for since
-module _ {A T : Type 0} (own_id : A → List ℕ) (own_body : List (TypeView T) → A → List ℕ) (type_id : T → List ℕ) (type_body : List (TypeView T) → T → List ℕ) (own_handles : T → List ℕ) (old new last : List (TypeView T)) (g : Grows old new) (later : Grows new last) (whole : IsTypeTable own_handles last) (bytes : List ℕ) (x : AttrView A) (is : bytes ≡ attr_text own_id own_body type_id type_body old x) (h : IsWritable old x) (few : levels (attr_term old x) ≤ 200) where
+-- what the text of an attribute stands for in a table that has grown on
+module _ {A T : Type 0} (own_id : A → List ℕ) (own_body : List (TypeView T) → A → List ℕ) (type_id : T → List ℕ) (type_body : List (TypeView T) → T → List ℕ) (own_handles : T → List ℕ) (old new : List (TypeView T)) (g : Grows old new) (whole : IsTypeTable own_handles new) (bytes : List ℕ) (x : AttrView A) (is : bytes ≡ attr_text own_id own_body type_id type_body old x) (readable : IsReadable old x) where
   pub stands : StandsFor 200 new bytes x
-  stands = subst (λ l. StandsFor 200 new l x) (sym is) (text_stands own_handles old (table_before own_handles old last (Grows-on old new last g later) whole) own_id own_body type_id type_body 200 new g x h few)
+  stands = subst (λ l. StandsFor 200 new l x) (sym is) (text_stands own_handles old (table_before own_handles old new g whole) own_id own_body type_id type_body 200 new g x readable.0 readable.1)
 
   pub read_again : (y : AttrView A) → StandsFor 200 new bytes y → y ≡ x
-  read_again y found = one_meaning own_handles new (table_before own_handles new last later whole) 200 200 bytes y x found stands
+  read_again y found = one_meaning own_handles new whole 200 200 bytes y x found stands
 
 -- a fault that can't be another
 pub memory_alone : (f : Fault) → (f ≢ faults.Memory → ⊥) → f ≡ faults.Memory
@@ -69,3 +68,12 @@ memory_alone faults.IntegerOutOfRange h = absurd (h (λ e. absurd cc))
 memory_alone faults.IntegerWidthUnsupported h = absurd (h (λ e. absurd cc))
 memory_alone faults.TooDeep h = absurd (h (λ e. absurd cc))
 memory_alone faults.Memory h = refl
+
+-- whatever the reader answers to the text of an attribute that can be read back
+module _ {D K A T E : Type 0} (own_id : A → List ℕ) (own_body : List (TypeView T) → A → List ℕ) (type_id : T → List ℕ) (type_body : List (TypeView T) → T → List ℕ) (attr_handles : A → List ℕ) (type_handles : T → List ℕ) where
+  pub read_back : (x : AttrView A) (bytes : List ℕ) (answer : Result (AttrObj D K A T E) ReadErr) → IsReadBack own_id own_body type_id type_body attr_handles type_handles x bytes answer
+  read_back x bytes (Ok a) printed old new whole readable is grown read =
+      read_again own_id own_body type_id type_body type_handles printed new (Grows-on printed old new grown read.grown) whole bytes x is readable (attr_view a) read.found
+  read_back x bytes (Err e) printed old new whole readable is grown read =
+      let ours = stands own_id own_body type_id type_body type_handles printed new (Grows-on printed old new grown read.grown) whole bytes x is readable in
+      memory_alone e.fault (λ other. read.refused other ours.0 ours.1)

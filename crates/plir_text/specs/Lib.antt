@@ -17,3 +17,4 @@ pub mod AttrText
 pub mod AttrReading
 pub mod Meaning
 pub mod Writable
+pub mod AttrAnswer

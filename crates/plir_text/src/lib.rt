@@ -5,6 +5,7 @@ mod attr_words;
 mod attrs;
 mod fault;
 pub mod laws;
+mod levels;
 mod place;
 mod print_attrs;
 mod put;
@@ -17,6 +18,7 @@ mod words;
 mod writable;
 
 pub use fault::{Fault, ReadErr};
+pub use levels::is_within_levels;
 pub use print_attrs::print_attr;
 pub use read_attrs::read_attr;
 pub use read_types::{read_function_type, read_integer_type, read_type};

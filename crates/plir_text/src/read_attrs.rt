@@ -1,19 +1,15 @@
 //! The reader of texts of attributes.
 
-ghost use Rattle.std.specs.Prelude.{◌≡◌, ◌≢◌, IfOk, IfErr, Err};
-ghost use Rattle.plir_data.specs.AttrLive.{IsAttrLive};
 ghost use Rattle.plir_data.specs.AttrSeen.{attr_view};
-ghost use Rattle.plir_text.specs.Terms.{AttrTerm};
-ghost use Rattle.plir_text.specs.TypeGrammar.{IsText};
-ghost use Rattle.plir_text.specs.AttrGrammar.{AttrWithin};
-ghost use Rattle.plir_text.specs.Names.{Adds, Grows};
-ghost use Rattle.plir_text.specs.Meaning.{IsMeant, StandsFor};
+ghost use Rattle.plir_text.specs.AttrAnswer.{IsAttrRead};
+ghost use Rattle.plir_text.specs.Names.{Adds};
+ghost use Rattle.plir_text.specs.Meaning.{IsMeant};
 ghost use Rattle.plir_text.specs.Reading.{Reads};
 ghost use Rattle.plir_text.specs.AttrReading.{attr_at};
 ghost use Rattle.plir_text.specs.Wholes.{whole};
 
 use crate::attrs::read_attr_at;
-use crate::fault::{Fault, ReadErr, Stop};
+use crate::fault::{ReadErr, Stop};
 use crate::place::{placed, read_end};
 use crate::read_types::MAX_LEVELS;
 use plir_data::{AttrObj, OpSet, TypeStore};
@@ -43,11 +39,7 @@ pub fn read_attr<D: OpSet, C: TypeStore<D>>(
     ctx: &mut C,
     text: &str,
 ) -> Result<AttrObj<D>, ReadErr>
-    ensures found { IfOk result (λ a. StandsFor 200 (C.types ctx.new) text.now (attr_view a)) }
-    ensures live { IfOk result (λ a. IsAttrLive D.attr_handles (C.types ctx.new) (attr_view a)) }
-    ensures fault { IfErr result (λ e. e.fault ≢ Fault.Memory → whole (attr_at 200) text.now ≡ Err e.fault) }
-    ensures refused { IfErr result (λ e. e.fault ≢ Fault.Memory → (x : AttrTerm) → IsText (AttrWithin 200) text.now x → ⊥) }
-    ensures grown { Grows (C.types ctx.old) (C.types ctx.new) }
+    ensures read { IsAttrRead D.attr_handles (C.types ctx.old) text.now result (C.types ctx.new) }
     ensures rest { C.same_besides ctx.old ctx.new }
 {
     let bytes = text.as_bytes();

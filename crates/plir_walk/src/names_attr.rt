@@ -1,10 +1,9 @@
 //! The names of results and arguments, in the attributes of their operation or block.
 ghost use Rattle.std.specs.Prelude.{◌≡◌, ◌↔◌, true, false, [], Some, None, OnOk, OnErr, IfOk, IsSome, Ok, is_err, option_map};
 ghost use Rattle.plir_data.specs.AttrView.{leaf, unit, given_names};
+ghost use Rattle.plir_data.specs.AttrLive.{IsAttrLive};
 ghost use Rattle.plir_data.specs.AttrSeen.{attr_view};
 ghost use Rattle.plir_data.specs.Dictionary.{IsDictionary, dict_get, dict_put, dict_without};
-ghost use Rattle.plir_data.specs.Types.{AllLive};
-ghost use Rattle.plir_core.specs.AttrHandles.{attr_handles};
 ghost use Rattle.plir_core.specs.Store.{IsLive, entity_node};
 ghost use Rattle.plir_core.specs.Whole.{IsWhole};
 ghost use Rattle.plir_walk.specs.GivenNames.{name_at as name_in, names_of as names_in, names_at, names_key, has_other, has_other_at, attributes_at, with_attributes, with_names, remove_name};
@@ -81,7 +80,7 @@ fn swap_attr<D: OpSet>(
     value: AttrObj<D>,
 ) -> Result<AttrObj<D>, AttrObj<D>>
     requires live { IsLive ctx.old (entity_node entity) }
-    requires handles { AllLive ctx.old.types (attr_handles D.attr_handles (attr_view value)) }
+    requires handles { IsAttrLive D.attr_handles ctx.old.types (attr_view value) }
     ensures found { IfOk result (λ a. dict_get (attributes_at ctx.old entity) names_key ≡ Some (attr_view a)) }
     ensures put { OnOk result (ctx.new ≡ with_attributes ctx.old entity (λ es. dict_put es names_key (attr_view value))) }
     ensures absent { OnErr result (dict_get (attributes_at ctx.old entity) names_key ≡ None) }

@@ -1,12 +1,8 @@
-//! Worked walks of trees that are made by the calls of `plir_core` alone, and names in them.
+//! Walks of trees that are made by the calls of `plir_core` alone, and names in them, as scripts.
 mod changes;
 mod deep;
-mod labels;
-mod named;
-mod names;
-mod noting;
-mod orders;
+mod naming;
+mod plan;
 mod refused;
-mod regions;
-mod reshaping;
-mod sample;
+mod scripts;
+mod walking;

@@ -3,9 +3,9 @@ ghost use Rattle.std.specs.Prelude.{IfOk};
 ghost use Rattle.plir_core.specs.Store.{IsLive};
 ghost use Rattle.plir_core.specs.declared.ptr.IRNode.{IRNode as AnyNode};
 
-use crate::tests::stop::Stop;
 use plir_core::{BasicBlock, Context, IRNode, Operation, Ptr};
 use plir_data::{BuiltinSet, OpKind};
+use plir_scripts::Stop;
 use std::alloc::Global;
 use std::test::Fail;
 

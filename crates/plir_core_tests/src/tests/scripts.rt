@@ -1,412 +1,342 @@
-//! The scripts of node calls, with their answers. `showing` says what `show` writes, `made` how nodes are named.
-use crate::tests::bench::plays;
+//! The scripts of node calls, with their answers.
 use plir_core::{LessThanN, NodeErr};
+use plir_scripts::{Mismatch, NodeCalls, play};
 use std::test::Fail;
 
 #[test]
-fn the_slot_freed_last_is_used_first(rt: HostRuntime) -> Result<(), Fail> {
-    let script = [
-        ("op module 1", "o0"),
-        ("block", "b0"),
-        ("back b0 r0", ""),
-        ("op func 1", "o1"),
-        ("block", "b1"),
-        ("back b1 r1", ""),
-        ("back o1 b0", ""),
-        ("op func 1", "o2"),
-        ("block", "b2"),
-        ("back b2 r2", ""),
-        ("back o2 b0", ""),
-        ("number o0", "op1v1"),
-        ("number o2", "op3v1"),
-        ("number b2", "block3v1"),
-        ("count", "9"),
-        ("erase o2", ""),
-        ("count", "6"),
-        ("live o2", "no"),
-        ("live b2", "no"),
-        ("op func 1", "o3"),
-        ("block", "b3"),
-        ("number o3", "op3v2"),
-        ("number r3", "region3v2"),
-        ("number b3", "block3v2"),
-        ("count", "9"),
-        ("live o2", "no"),
-        ("erase o1", ""),
-        ("erase o3", ""),
-        ("op func 0", "o4"),
-        ("op func 0", "o5"),
-        ("number o4", "op3v3"),
-        ("number o5", "op2v2"),
-    ];
-    plays(&rt, rt.alloc(), 100, &script)
+fn the_slot_freed_last_is_used_first(rt: HostRuntime) -> Result<(), Mismatch> {
+    let script = "
+        op module 1 => o0
+        block => b0
+        back b0 r0
+        op func 1 => o1
+        block => b1
+        back b1 r1
+        back o1 b0
+        op func 1 => o2
+        block => b2
+        back b2 r2
+        back o2 b0
+        number o0 => op1v1
+        number o2 => op3v1
+        number b2 => block3v1
+        count => 9
+        erase o2
+        count => 6
+        live o2 => no
+        live b2 => no
+        op func 1 => o3
+        block => b3
+        number o3 => op3v2
+        number r3 => region3v2
+        number b3 => block3v2
+        count => 9
+        live o2 => no
+        erase o1
+        erase o3
+        op func 0 => o4
+        op func 0 => o5
+        number o4 => op3v3
+        number o5 => op2v2";
+    play::<NodeCalls>(rt.alloc(), 100, script)
 }
 
 #[test]
-fn an_erased_module_leaves_its_slot_to_the_next(rt: HostRuntime) -> Result<(), Fail> {
-    let script = [
-        ("op module 1", "o0"),
-        ("block", "b0"),
-        ("back b0 r0", ""),
-        ("op module 1", "o1"),
-        ("block", "b1"),
-        ("back b1 r1", ""),
-        ("back o1 b0", ""),
-        ("op func 1", "o2"),
-        ("back o2 b1", ""),
-        ("number o1", "op2v1"),
-        ("number o2", "op3v1"),
-        ("erase o1", ""),
-        ("live o2", "no"),
-        ("op module 1", "o3"),
-        ("number o3", "op2v2"),
-        (
-            "show b0",
-            "-, in r0 o0, between - -, operations to -, terminator -, arguments 0, attributes",
-        ),
-        ("back o3 b0", ""),
-        (
-            "show b0",
-            "-, in r0 o0, between - -, operations o3 to o3, terminator -, arguments 0, attributes",
-        ),
-    ];
-    plays(&rt, rt.alloc(), 100, &script)
+fn an_erased_module_leaves_its_slot_to_the_next(rt: HostRuntime) -> Result<(), Mismatch> {
+    let script = "
+        op module 1 => o0
+        block => b0
+        back b0 r0
+        op module 1 => o1
+        block => b1
+        back b1 r1
+        back o1 b0
+        op func 1 => o2
+        back o2 b1
+        number o1 => op2v1
+        number o2 => op3v1
+        erase o1
+        live o2 => no
+        op module 1 => o3
+        number o3 => op2v2
+        show b0 => -, in r0 o0, between - -, operations to -, terminator -, arguments 0
+        back o3 b0
+        show b0 => -, in r0 o0, between - -, operations o3 to o3, terminator -, arguments 0";
+    play::<NodeCalls>(rt.alloc(), 100, script)
 }
 
 #[test]
-fn a_function_is_put_before_another_and_taken_out(rt: HostRuntime) -> Result<(), Fail> {
-    let script = [
-        ("op module 1", "o0"),
-        ("block", "b0"),
-        ("back b0 r0", ""),
-        ("op func 0", "o1"),
-        ("op func 0", "o2"),
-        ("back o1 b0", ""),
-        ("before o2 o1", ""),
-        (
-            "show b0",
-            "-, in r0 o0, between - -, operations o2 o1 to o1, terminator -, arguments 0, attributes",
-        ),
-        ("unlink o1", ""),
-        (
-            "show o1",
-            "Func Unknown, in - - -, between - -, regions, from - to -, operands, successors, results 0, attributes",
-        ),
-        ("erase o2", ""),
-        ("live o2", "no"),
-        ("live o1", "yes"),
-    ];
-    plays(&rt, rt.alloc(), 100, &script)
+fn a_function_is_put_before_another_and_taken_out(rt: HostRuntime) -> Result<(), Mismatch> {
+    let script = "
+        op module 1 => o0
+        block => b0
+        back b0 r0
+        op func 0 => o1
+        op func 0 => o2
+        back o1 b0
+        before o2 o1
+        show b0 => -, in r0 o0, between - -, operations o2 o1 to o1, terminator -, arguments 0
+        unlink o1
+        show o1 => func Unknown, in - - -, between - -, regions, from - to -, operands, successors, results 0
+        erase o2
+        live o2 => no
+        live o1 => yes";
+    play::<NodeCalls>(rt.alloc(), 100, script)
 }
 
 #[test]
-fn no_more_nodes_than_the_limit(rt: HostRuntime) -> Result<(), Fail> {
-    let alloc = rt.alloc();
-    let script = [
-        ("op module 1", "o0"),
-        ("block", "too many nodes"),
-        ("region o0", "too many nodes"),
-        ("count", "2"),
-        ("erase o0", ""),
-        ("block", "b0"),
-    ];
-    plays(&rt, alloc, 2, &script)?;
-    let script = [
-        ("op module 2", "too many nodes"),
-        ("count", "0"),
-        ("op module 1", "o0"),
-    ];
-    plays(&rt, alloc, 2, &script)
+fn no_more_nodes_than_the_limit(rt: HostRuntime) -> Result<(), Mismatch> {
+    let script = "
+        op module 1 => o0
+        block => too many nodes
+        region o0 => too many nodes
+        count => 2
+        erase o0
+        block => b0";
+    play::<NodeCalls>(rt.alloc(), 2, script)
 }
 
 #[test]
-fn ancestors_stand_above(rt: HostRuntime) -> Result<(), Fail> {
-    let script = [
-        ("op module 1", "o0"),
-        ("block", "b0"),
-        ("back b0 r0", ""),
-        ("op func 1", "o1"),
-        ("block", "b1"),
-        ("back b1 r1", ""),
-        ("back o1 b0", ""),
-        ("op func 1", "o2"),
-        ("back o2 b0", ""),
-        ("above o0 b1", "yes"),
-        ("above b1 b1", "yes"),
-        ("above o1 o2", "no"),
-        ("above b1 o0", "no"),
-        ("unlink o0", ""),
-        ("back o0 b1", "refused"),
-    ];
-    plays(&rt, rt.alloc(), 100, &script)
+fn no_node_is_left_at_the_limit(rt: HostRuntime) -> Result<(), Mismatch> {
+    let script = "
+        op module 2 => too many nodes
+        count => 0
+        op module 1 => o0";
+    play::<NodeCalls>(rt.alloc(), 2, script)
 }
 
 #[test]
-fn a_use_beside_counts_and_one_within_does_not(rt: HostRuntime) -> Result<(), Fail> {
-    let script = [
-        ("op func 1", "o0"),
-        ("block", "b0"),
-        ("back b0 r0", ""),
-        ("def constant", "o1"),
-        ("back o1 b0", ""),
-        ("user plain o1.0 b0", "o2"),
-        ("back o2 b0", ""),
-        ("unused o1", "no"),
-        ("unused o2", "yes"),
-        ("unused b0", "yes"),
-        ("erase o1", "refused"),
-        ("unlink o2", ""),
-        ("unused b0", "no"),
-        ("erase r0", "refused"),
-        ("remove o2 0", "o1.0"),
-        ("unused o1", "yes"),
-        ("unused b0", "no"),
-        ("erase o2", ""),
-        ("erase b0", ""),
-        ("show r0", "in o0 at 0, between - -, blocks, from - to -"),
-        ("count", "2"),
-    ];
-    plays(&rt, rt.alloc(), 100, &script)
+fn ancestors_stand_above(rt: HostRuntime) -> Result<(), Mismatch> {
+    let script = "
+        op module 1 => o0
+        block => b0
+        back b0 r0
+        op func 1 => o1
+        block => b1
+        back b1 r1
+        back o1 b0
+        op func 1 => o2
+        back o2 b0
+        above o0 b1 => yes
+        above b1 b1 => yes
+        above o1 o2 => no
+        above b1 o0 => no
+        unlink o0
+        back o0 b1 => refused";
+    play::<NodeCalls>(rt.alloc(), 100, script)
 }
 
 #[test]
-fn operations_are_put_where_memory_is_refused(rt: HostRuntime) -> Result<(), Fail> {
-    let script = [
-        ("op module 1", "o0"),
-        ("block unit body", "b0"),
-        ("back b0 r0", ""),
-        ("op func 1", "o1"),
-        ("block", "b1"),
-        ("back b1 r1", ""),
-        ("op constant 0", "o2"),
-        ("op constant 0", "o3"),
-        ("op end 0", "o4"),
-        ("back o1 b0", ""),
-        ("front o2 b0", ""),
-        ("before o3 o1", ""),
-        ("after o4 o1", ""),
-        (
-            "show b0",
-            "body, in r0 o0, between - -, operations o2 o3 o1 o4 to o4, terminator o4, arguments 1, attributes",
-        ),
-        (
-            "show o1",
-            "Func Unknown, in b0 r0 o0, between o3 o4, regions r1, from r1 to r1, operands, successors, results 0, attributes",
-        ),
-        ("back o1 b0", "refused"),
-        ("unlink o1", ""),
-        ("unlink o1", ""),
-        (
-            "show o1",
-            "Func Unknown, in - - -, between - -, regions r1, from r1 to r1, operands, successors, results 0, attributes",
-        ),
-        (
-            "show r1",
-            "in o1 at 0, between - -, blocks b1, from b1 to b1",
-        ),
-        ("back o1 b0", ""),
-        (
-            "show b0",
-            "body, in r0 o0, between - -, operations o2 o3 o4 o1 to o1, terminator -, arguments 1, attributes",
-        ),
-        ("count", "9"),
-    ];
-    plays(&rt, rt.alloc(), 100, &script)
+fn a_use_beside_counts_and_one_within_does_not(rt: HostRuntime) -> Result<(), Mismatch> {
+    let script = "
+        type builtin.unit => t0
+        op func 1 => o0
+        block => b0
+        back b0 r0
+        op constant 0 t0 => o1
+        back o1 b0
+        op plain 0 < o1.0 > b0 => o2
+        back o2 b0
+        unused o1 => no
+        unused o2 => yes
+        unused b0 => yes
+        erase o1 => refused
+        unlink o2
+        unused b0 => no
+        erase r0 => refused
+        remove o2 0 => o1.0
+        unused o1 => yes
+        unused b0 => no
+        erase o2
+        erase b0
+        show r0 => in o0 at 0, between - -, blocks, from - to -
+        count => 2";
+    play::<NodeCalls>(rt.alloc(), 100, script)
 }
 
 #[test]
-fn blocks_and_regions_are_put_where_memory_is_refused(rt: HostRuntime) -> Result<(), Fail> {
-    let script = [
-        ("op module 2", "o0"),
-        ("block", "b0"),
-        ("block", "b1"),
-        ("block", "b2"),
-        ("block", "b3"),
-        ("back b0 r1", ""),
-        ("front b1 r1", ""),
-        ("before b2 b0", ""),
-        ("after b3 b0", ""),
-        (
-            "show r1",
-            "in o0 at 1, between r0 -, blocks b1 b2 b0 b3, from b1 to b3",
-        ),
-        (
-            "show b2",
-            "-, in r1 o0, between b1 b0, operations to -, terminator -, arguments 0, attributes",
-        ),
-        ("unlink b1", ""),
-        (
-            "show r1",
-            "in o0 at 1, between r0 -, blocks b2 b0 b3, from b2 to b3",
-        ),
-        ("region o0", "r2"),
-        ("show r2", "in o0 at 2, between r1 -, blocks, from - to -"),
-        ("back b1 r2", ""),
-        ("erase r1", ""),
-        ("live b3", "no"),
-        (
-            "show r2",
-            "in o0 at 1, between r0 -, blocks b1, from b1 to b1",
-        ),
-        (
-            "show o0",
-            "Module Unknown, in - - -, between - -, regions r0 r2, from r0 to r2, operands, successors, results 0, attributes",
-        ),
-        ("count", "4"),
-    ];
-    plays(&rt, rt.alloc(), 100, &script)
+fn operations_are_put_where_memory_is_refused(rt: HostRuntime) -> Result<(), Mismatch> {
+    let script = "
+        type builtin.unit => t0
+        op module 1 => o0
+        block body t0 => b0
+        back b0 r0
+        op func 1 => o1
+        block => b1
+        back b1 r1
+        op constant 0 => o2
+        op constant 0 => o3
+        op yield 0 => o4
+        back o1 b0
+        front o2 b0
+        before o3 o1
+        after o4 o1
+        show b0 => body, in r0 o0, between - -, operations o2 o3 o1 o4 to o4, terminator o4, arguments 1
+        show o1 => func Unknown, in b0 r0 o0, between o3 o4, regions r1, from r1 to r1, operands, successors, results 0
+        back o1 b0 => refused
+        unlink o1
+        unlink o1
+        show o1 => func Unknown, in - - -, between - -, regions r1, from r1 to r1, operands, successors, results 0
+        show r1 => in o1 at 0, between - -, blocks b1, from b1 to b1
+        back o1 b0
+        show b0 => body, in r0 o0, between - -, operations o2 o3 o4 o1 to o1, terminator -, arguments 1
+        count => 9";
+    play::<NodeCalls>(rt.alloc(), 100, script)
 }
 
 #[test]
-fn operands_are_put_in_and_taken_out_where_memory_is_refused(rt: HostRuntime) -> Result<(), Fail> {
-    let script = [
-        ("def constant", "o0"),
-        ("def plain", "o1"),
-        ("block unit", "b0"),
-        ("op plain 0", "o2"),
-        ("insert o2 0 o0.0", ""),
-        ("insert o2 0 o1.0", ""),
-        ("insert o2 2 b0.0", ""),
-        ("insert o2 1 b0.0", ""),
-        ("insert o2 5 b0.0", "refused"),
-        ("use o2 1", "o2 1 b0.0"),
-        (
-            "show o2",
-            "Own(TestKind { ends: false }) Unknown, in - - -, between - -, regions, from - to -, operands o1.0 b0.0 o0.0 b0.0, successors, results 0, attributes",
-        ),
-        ("remove o2 1", "b0.0"),
-        ("replace o2 0 o0.0", ""),
-        ("remove o2 3", "refused"),
-        ("user end o0.0 b0", "o3"),
-        (
-            "show o3",
-            "Own(TestKind { ends: true }) Unknown, in - - -, between - -, regions, from - to -, operands o0.0, successors b0, results 0, attributes",
-        ),
-        (
-            "show o2",
-            "Own(TestKind { ends: false }) Unknown, in - - -, between - -, regions, from - to -, operands o0.0 o0.0 b0.0, successors, results 0, attributes",
-        ),
-        ("type o0.0", "builtin.unit"),
-        ("type b0.0", "builtin.unit"),
-        ("type o2.0", "refused"),
-        ("types o0", "builtin.unit"),
-        ("types o2", ""),
-        ("types b0", "builtin.unit"),
-    ];
-    plays(&rt, rt.alloc(), 100, &script)
+fn blocks_and_regions_are_put_where_memory_is_refused(rt: HostRuntime) -> Result<(), Mismatch> {
+    let script = "
+        op module 2 => o0
+        block => b0
+        block => b1
+        block => b2
+        block => b3
+        back b0 r1
+        front b1 r1
+        before b2 b0
+        after b3 b0
+        show r1 => in o0 at 1, between r0 -, blocks b1 b2 b0 b3, from b1 to b3
+        show b2 => -, in r1 o0, between b1 b0, operations to -, terminator -, arguments 0
+        unlink b1
+        show r1 => in o0 at 1, between r0 -, blocks b2 b0 b3, from b2 to b3
+        region o0 => r2
+        show r2 => in o0 at 2, between r1 -, blocks, from - to -
+        back b1 r2
+        erase r1
+        live b3 => no
+        show r2 => in o0 at 1, between r0 -, blocks b1, from b1 to b1
+        show o0 => module Unknown, in - - -, between - -, regions r0 r2, from r0 to r2, operands, successors, results 0
+        count => 4";
+    play::<NodeCalls>(rt.alloc(), 100, script)
+}
+
+#[test]
+fn operands_are_put_in_and_taken_out_where_memory_is_refused(
+    rt: HostRuntime,
+) -> Result<(), Mismatch> {
+    let script = "
+        type builtin.unit => t0
+        op constant 0 t0 => o0
+        op plain 0 t0 => o1
+        block - t0 => b0
+        op plain 0 => o2
+        insert o2 0 o0.0
+        insert o2 0 o1.0
+        insert o2 2 b0.0
+        insert o2 1 b0.0
+        insert o2 5 b0.0 => refused
+        use o2 1 => o2 1 b0.0
+        show o2 => plain Unknown, in - - -, between - -, regions, from - to -, operands o1.0 b0.0 o0.0 b0.0, successors, results 0
+        remove o2 1 => b0.0
+        replace o2 0 o0.0
+        remove o2 3 => refused
+        op yield 0 < o0.0 > b0 => o3
+        show o3 => yield Unknown, in - - -, between - -, regions, from - to -, operands o0.0, successors b0, results 0
+        show o2 => plain Unknown, in - - -, between - -, regions, from - to -, operands o0.0 o0.0 b0.0, successors, results 0
+        typed o0.0 => builtin.unit
+        typed b0.0 => builtin.unit
+        typed o2.0 => refused
+        types o0 => builtin.unit
+        types o2
+        types b0 => builtin.unit";
+    play::<NodeCalls>(rt.alloc(), 100, script)
 }
 
 #[test]
 fn attributes_labels_and_locations_are_set_where_memory_is_refused(
     rt: HostRuntime,
-) -> Result<(), Fail> {
-    let script = [
-        ("op constant 0", "o0"),
-        ("block unit", "b0"),
-        ("set o0 a true", ""),
-        ("set o0 b false", ""),
-        ("set o0 a false", ""),
-        ("set b0 c true", ""),
-        ("at o0 2 3", ""),
-        ("label b0 entry", ""),
-        (
-            "show o0",
-            "Constant SrcPos { line: 2, column: 3 }, in - - -, between - -, regions, from - to -, operands, successors, results 0, attributes a = false b = false",
-        ),
-        (
-            "show b0",
-            "entry, in - -, between - -, operations to -, terminator -, arguments 1, attributes c = true",
-        ),
-        ("swap o0 a true", "was false"),
-        ("swap o0 c true", "back true"),
-        ("swap b0 c false", "was true"),
-        ("swap b0 a false", "back false"),
-        ("take o0 b", "false"),
-        ("take o0 b", "none"),
-        ("take b0 c", "false"),
-        ("take b0 c", "none"),
-        ("label b0", ""),
-        (
-            "show o0",
-            "Constant SrcPos { line: 2, column: 3 }, in - - -, between - -, regions, from - to -, operands, successors, results 0, attributes a = true",
-        ),
-        (
-            "show b0",
-            "-, in - -, between - -, operations to -, terminator -, arguments 1, attributes",
-        ),
-    ];
-    plays(&rt, rt.alloc(), 100, &script)
+) -> Result<(), Mismatch> {
+    let script = "
+        type builtin.unit => t0
+        op constant 0 => o0
+        block - t0 => b0
+        set o0 a builtin.bool true
+        set o0 b builtin.bool false
+        set o0 a builtin.bool false
+        set b0 c builtin.bool true
+        at o0 2 3
+        label b0 entry
+        show o0 => constant SrcPos { line: 2, column: 3 }, in - - -, between - -, regions, from - to -, operands, successors, results 0, attributes a = builtin.bool false b = builtin.bool false
+        show b0 => entry, in - -, between - -, operations to -, terminator -, arguments 1, attributes c = builtin.bool true
+        swap o0 a builtin.bool true => was false
+        swap o0 c builtin.bool true => back true
+        swap b0 c builtin.bool false => was true
+        swap b0 a builtin.bool false => back false
+        take o0 b => false
+        take o0 b => none
+        take b0 c => false
+        take b0 c => none
+        label b0
+        show o0 => constant SrcPos { line: 2, column: 3 }, in - - -, between - -, regions, from - to -, operands, successors, results 0, attributes a = builtin.bool true
+        show b0 => -, in - -, between - -, operations to -, terminator -, arguments 1";
+    play::<NodeCalls>(rt.alloc(), 100, script)
 }
 
 #[test]
-fn lists_grow_where_memory_is_refused(rt: HostRuntime) -> Result<(), Fail> {
-    let script = [
-        ("op module 3", "o0"),
-        ("op module 3", "o1"),
-        ("region o0", "r6"),
-        ("region o1", "r7"),
-        ("region o0", "r8"),
-        ("block", "b0"),
-        ("block", "b1"),
-        ("block unit", "b2"),
-        ("block", "b3"),
-        ("block", "b4"),
-        ("op func 0", "o2"),
-        ("op func 0", "o3"),
-        ("def plain", "o4"),
-        ("op func 0", "o5"),
-        ("op func 0", "o6"),
-        ("insert o2 0 o4.0", ""),
-        ("insert o2 0 o4.0", ""),
-        ("insert o2 0 o4.0", ""),
-        ("insert o2 0 o4.0", ""),
-        ("insert o2 0 b2.0", ""),
-        ("count", "21"),
-        ("erase o0", ""),
-        ("op module 6", "o7"),
-        (
-            "show o7",
-            "Module Unknown, in - - -, between - -, regions r9 r10 r11 r12 r13 r14, from r9 to r14, operands, successors, results 0, attributes",
-        ),
-    ];
-    plays(&rt, rt.alloc(), 100, &script)
+fn lists_grow_where_memory_is_refused(rt: HostRuntime) -> Result<(), Mismatch> {
+    let script = "
+        type builtin.unit => t0
+        op module 3 => o0
+        op module 3 => o1
+        region o0 => r6
+        region o1 => r7
+        region o0 => r8
+        block => b0
+        block => b1
+        block - t0 => b2
+        block => b3
+        block => b4
+        op func 0 => o2
+        op func 0 => o3
+        op plain 0 t0 => o4
+        op func 0 => o5
+        op func 0 => o6
+        insert o2 0 o4.0
+        insert o2 0 o4.0
+        insert o2 0 o4.0
+        insert o2 0 o4.0
+        insert o2 0 b2.0
+        count => 21
+        erase o0
+        op module 6 => o7
+        show o7 => module Unknown, in - - -, between - -, regions r9 r10 r11 r12 r13 r14, from r9 to r14, operands, successors, results 0";
+    play::<NodeCalls>(rt.alloc(), 100, script)
 }
 
 #[test]
-fn kinds_implement_interfaces(rt: HostRuntime) -> Result<(), Fail> {
-    let script = [
-        ("op module 0", "o0"),
-        ("op func 0", "o1"),
-        ("op constant 0", "o2"),
-        ("op forward_ref 0", "o3"),
-        ("op end 0", "o4"),
-        ("op plain 0", "o5"),
-        ("interfaces o0", "symbol symbol_table"),
-        ("interfaces o1", "symbol"),
-        ("interfaces o2", ""),
-        ("interfaces o3", ""),
-        ("interfaces o4", "terminator"),
-        ("interfaces o5", ""),
-    ];
-    plays(&rt, rt.alloc(), 100, &script)
+fn kinds_implement_interfaces(rt: HostRuntime) -> Result<(), Mismatch> {
+    let script = "
+        op module 0 => o0
+        op func 0 => o1
+        op constant 0 => o2
+        op forward_ref 0 => o3
+        op yield 0 => o4
+        op plain 0 => o5
+        interfaces o0 => symbol symbol_table
+        interfaces o1 => symbol
+        interfaces o2
+        interfaces o3
+        interfaces o4 => terminator
+        interfaces o5";
+    play::<NodeCalls>(rt.alloc(), 100, script)
 }
 
 #[test]
-fn an_insertion_point_is_in_the_block_of_its_mark(rt: HostRuntime) -> Result<(), Fail> {
-    let script = [
-        ("op module 1", "o0"),
-        ("block", "b0"),
-        ("back b0 r0", ""),
-        ("op func 1", "o1"),
-        ("back o1 b0", ""),
-        ("point unset", "-"),
-        ("point start b0", "b0"),
-        ("point end b0", "b0"),
-        ("point before o1", "b0"),
-        ("point after o1", "b0"),
-        ("point after o0", "-"),
-    ];
-    plays(&rt, rt.alloc(), 100, &script)
+fn an_insertion_point_is_in_the_block_of_its_mark(rt: HostRuntime) -> Result<(), Mismatch> {
+    let script = "
+        op module 1 => o0
+        block => b0
+        back b0 r0
+        op func 1 => o1
+        back o1 b0
+        point unset => -
+        point start b0 => b0
+        point end b0 => b0
+        point before o1 => b0
+        point after o1 => b0
+        point after o0 => -";
+    play::<NodeCalls>(rt.alloc(), 100, script)
 }
 
 #[test]

@@ -2,12 +2,12 @@
 
 ghost use Rattle.std.specs.Prelude.{◌≡◌, []};
 
-use super::sample_set::{Marked, SampleSet};
 use plir_data::{
     APInt, AttrObj, BoolAttr, GivenNamesAttr, Identifier, IdentifierAttr, IntegerAttr, IntegerType,
     OperandSegmentSizesAttr, PrintOnceAttr, Signedness, StringAttr, TypeAttr, TypeHandle,
     TypeTable, Typed, TypedAttrInterface, UnitAttr, VecAttr,
 };
+use plir_scripts::{SampleAttr, SampleSet};
 use std::alloc::Global;
 use std::convert::AsStr;
 use std::hash::{DefaultHasher, Hash, Hasher};
@@ -128,7 +128,7 @@ fn copies_small_ones(rt: HostRuntime) -> Result<(), Fail> {
         "builtin.bool",
     )?;
     copies(&rt, alloc, AttrObj::Unit(UnitAttr::new()), "builtin.unit")?;
-    copies(&rt, alloc, AttrObj::Own(Marked(true)), "sample.marked")?;
+    copies(&rt, alloc, AttrObj::Own(SampleAttr(true)), "sample.attr")?;
     Ok(())
 }
 
@@ -152,10 +152,14 @@ fn differ(rt: &impl Abort, one: Attr, other: Attr) {
 
 #[test]
 fn differs_by_kind(rt: HostRuntime) {
-    differ(&rt, AttrObj::Own(Marked(true)), AttrObj::Own(Marked(false)));
     differ(
         &rt,
-        AttrObj::Own(Marked(true)),
+        AttrObj::Own(SampleAttr(true)),
+        AttrObj::Own(SampleAttr(false)),
+    );
+    differ(
+        &rt,
+        AttrObj::Own(SampleAttr(true)),
         AttrObj::Bool(BoolAttr::new(true)),
     );
     differ(
@@ -181,7 +185,7 @@ fn differs_by_parts(rt: HostRuntime) -> Result<(), Fail> {
 fn is_outlined(rt: HostRuntime) {
     let names: Attr = AttrObj::GivenNames(GivenNamesAttr::new(rt.alloc()));
     assert!(rt; names.outline());
-    let marked: Attr = AttrObj::Own(Marked(true));
+    let marked: Attr = AttrObj::Own(SampleAttr(true));
     assert!(rt; marked.outline());
     let unit: Attr = AttrObj::Unit(UnitAttr::new());
     assert!(rt; !unit.outline());
@@ -212,7 +216,7 @@ fn lends_its_names_where_memory_is_refused(rt: HostRuntime) -> Result<(), Fail> 
 }
 
 // The type of what has one, through the bound.
-fn type_of<T: TypedAttrInterface>(attr: &T) -> TypeHandle {
+fn type_of<T: TypedAttrInterface<SampleSet>>(attr: &T) -> TypeHandle {
     attr.get_type()
 }
 
@@ -224,7 +228,7 @@ fn type_in<C, T: Typed<C>>(ctx: &C, value: &T) -> TypeHandle
 }
 
 // Whether an attribute that is printed once is left out, through the bound.
-fn is_left_out<T: PrintOnceAttr>(attr: &T) -> bool {
+fn is_left_out<T: PrintOnceAttr<SampleSet>>(attr: &T) -> bool {
     attr.outline()
 }
 
@@ -244,9 +248,9 @@ fn has_a_type(rt: HostRuntime) -> Result<(), Fail> {
 
 #[test]
 fn is_left_out_where_printed_once(rt: HostRuntime) {
-    assert!(rt; is_left_out(&Marked(true)));
-    assert!(rt; !is_left_out(&Marked(false)));
-    assert!(rt; PrintOnceAttr::verify(&Marked(true), &()) == Ok(()));
+    assert!(rt; is_left_out(&SampleAttr(true)));
+    assert!(rt; !is_left_out(&SampleAttr(false)));
+    assert!(rt; PrintOnceAttr::<SampleSet>::verify(&SampleAttr(true), &()) == Ok(()));
 }
 
 #[test]

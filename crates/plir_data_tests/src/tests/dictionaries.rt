@@ -5,9 +5,9 @@ ghost use Rattle.plir_data.specs.AttrView.{leaf, unit};
 ghost use Rattle.plir_data.specs.Dictionary.{dict_get, dict_put, dict_without};
 
 use super::attributes::{is_text, text};
-use super::sample_set::SampleSet;
 use plir_data::laws::equal_dictionaries_hash_alike;
 use plir_data::{AttrObj, AttributeDict, BoolAttr, DictAttr, Identifier, UnitAttr};
+use plir_scripts::SampleSet;
 use std::alloc::Global;
 use std::hash::{DefaultHasher, Hasher};
 use std::process::Abort;

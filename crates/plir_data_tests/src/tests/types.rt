@@ -2,11 +2,11 @@
 
 ghost use Rattle.std.specs.Prelude.{◌≡◌, ◌∷◌, [], IfOk};
 
-use super::sample_set::{Cloth, SampleSet};
 use plir_data::{
     FunctionType, FunctionTypeInterface, FunctionTypeMark, IntegerType, Signedness, TypeHandle,
     TypeInterfaceMark, TypeMark, TypeObj, TypeStore, TypeTable, TypedHandle, UnitType, type_text,
 };
+use plir_scripts::{SampleSet, SampleType};
 use std::alloc::{AllocError, Global};
 use std::process::Abort;
 use std::test::Fail;
@@ -128,11 +128,11 @@ fn own(
     is_wide: bool,
 ) -> Result<TypeHandle, Fail> {
     let before = table.len();
-    match table.instantiate(TypeObj::Own(Cloth(is_wide))) {
+    match table.instantiate(TypeObj::Own(SampleType(is_wide))) {
         Ok(handle) => Ok(handle),
         Err(_) => {
             assert_eq!(rt; table.len(), before);
-            Ok(table.instantiate(TypeObj::Own(Cloth(is_wide)))?)
+            Ok(table.instantiate(TypeObj::Own(SampleType(is_wide)))?)
         }
     }
 }
@@ -189,9 +189,9 @@ fn writes_own_types_where_memory_is_refused(rt: HostRuntime) -> Result<(), Fail>
     let alloc = rt.alloc();
     let mut table = TypeTable::new(alloc);
     let narrow = own(&rt, &mut table, false)?;
-    has_text(&rt, alloc, &table, narrow, "sample.cloth")?;
+    has_text(&rt, alloc, &table, narrow, "sample.type")?;
     let wide = own(&rt, &mut table, true)?;
-    has_text(&rt, alloc, &table, wide, "sample.cloth wide")
+    has_text(&rt, alloc, &table, wide, "sample.type wide")
 }
 
 #[test]

@@ -4,11 +4,11 @@ ghost use Rattle.std.specs.Prelude.{◌≡◌, IfOk};
 ghost use Rattle.plir_data.specs.AttrSeen.{attr_view};
 ghost use Rattle.plir_data.specs.AttrView.{leaf, integer, item, no_items, entry, no_entries, vec, dict};
 
-use super::sample_set::{Marked, NotMarked, SampleSet};
 use plir_data::{
     APInt, AttrObj, AttrVerifyErr, DictAttr, Identifier, IntegerAttr, IntegerAttrBitwidthErr,
     IntegerType, Location, Memory, Signedness, TypeTable, TypedHandle, VecAttr, VerifyErr,
 };
+use plir_scripts::{NotMarked, SampleAttr, SampleSet};
 use std::alloc::Global;
 use std::process::Abort;
 use std::test::Fail;
@@ -123,7 +123,7 @@ fn refuses_it_in_a_list_and_not_in_a_dictionary(rt: HostRuntime) -> Result<(), F
 
 // The verdict on an own attribute, marked or not.
 fn verdict_on_own(alloc: Global, table: &TypeTable<SampleSet>, is_marked: bool) -> Verdict {
-    let attr: Attr = AttrObj::Own(Marked(is_marked));
+    let attr: Attr = AttrObj::Own(SampleAttr(is_marked));
     attr.verify(alloc, table)
 }
 

@@ -1,12 +1,14 @@
 //! Attributes that a text can stand for, and others.
 
-use super::sample_set::SampleSet;
 use plir_data::{
     APInt, AttrObj, AttributeDict, DictAttr, Identifier, IntegerAttr, IntegerType, Signedness,
-    TypeTable,
+    TypeObj, TypeStore, TypeTable, type_text,
 };
-use plir_text::{is_writable, read_attr};
+use plir_scripts::{SampleAttr, SampleSet, SampleType};
+use plir_text::laws::attr_is_read_back;
+use plir_text::{is_within_levels, is_writable, print_attr, read_attr};
 use std::process::Abort;
+use std::test::Fail;
 
 type Table = TypeTable<SampleSet>;
 
@@ -37,12 +39,38 @@ fn integers_are_writable_in_the_width_of_their_type(rt: HostRuntime) {
 }
 
 #[test]
-fn lists_with_types_are_writable(rt: HostRuntime) {
+fn test_integer_is_read_back(rt: HostRuntime) -> Result<(), Fail> {
     let alloc = rt.alloc();
     let mut table: Table = TypeTable::new(alloc);
-    let text = "builtin.vec [builtin.vec [builtin.type builtin.integer si8]]";
-    match read_attr(alloc, &mut table, text) {
-        Ok(attr) => assert!(&rt; is_writable(&table, &attr)),
-        Err(_) => panic!(&rt; "not read"),
+    let ty = IntegerType::get(&mut table, 8, Signedness::Signed)?;
+    let value = APInt::from_i64(-3, 8).ok_or("no value")?;
+    let attr: Attr = AttrObj::Integer(IntegerAttr::new(ty, value));
+    assert!(rt; is_within_levels(&table, &attr, 2));
+    assert!(rt; !is_within_levels(&table, &attr, 1));
+    let text = print_attr(alloc, &table, &attr)?;
+    let read = read_attr(alloc, &mut table, text.as_str());
+    attr_is_read_back::<SampleSet>(&attr, text.as_str(), &read);
+    match read {
+        Ok(read) => assert!(rt; read == attr),
+        Err(_) => panic!(rt; "not read"),
     }
+    Ok(())
+}
+
+#[test]
+fn own_attributes_and_types_have_texts(rt: HostRuntime) -> Result<(), Fail> {
+    let alloc = rt.alloc();
+    let mut table: Table = TypeTable::new(alloc);
+    for (own, want) in [(true, "sample.attr marked"), (false, "sample.attr")] {
+        let attr: Attr = AttrObj::Own(SampleAttr(own));
+        let text = print_attr(alloc, &table, &attr)?;
+        assert_eq!(&rt; text.as_str(), want);
+        assert!(&rt; !is_writable(&table, &attr));
+    }
+    for (own, want) in [(true, "sample.type wide"), (false, "sample.type")] {
+        let handle = table.instantiate(TypeObj::Own(SampleType(own)))?;
+        let text = type_text(alloc, &table, handle)?;
+        assert_eq!(&rt; text.as_str(), want);
+    }
+    Ok(())
 }

@@ -1,44 +1,105 @@
-//! Walks whose callback changes the tree below its node, by a plan.
-ghost use Rattle.plir_core.specs.Store.{IsLive};
+//! Walks whose callback changes the tree below its node.
+ghost use Rattle.std.specs.Prelude.{◌≡◌, Some, IfOk};
+ghost use Rattle.plir_core.specs.Store.{IsLive, parent_of};
 ghost use Rattle.plir_core.specs.declared.ptr.IRNode.{IRNode as AnyNode};
 ghost use Rattle.plir_walk.specs.Forest.{Lawful};
 ghost use Rattle.plir_walk.specs.View.{look};
 
-use super::noting::{NO_MEMORY, expect_answer};
-use super::sample::{Refusal, Sample, make_nest};
-use plir_core::{BasicBlock, Context, IRNode, Operation, Ptr, Region};
-use plir_data::{BuiltinSet, OpKind};
-use plir_walk::interruptible::mutable::walk_op;
-use plir_walk::interruptible::{WalkResult, walk_advance, walk_break, walk_skip};
-use plir_walk::{CallLimit, NodeLinks, WalkConfig};
+use super::plan::{Change, Plan};
+use plir_core::{BasicBlock, Context, IRNode, NodeErr, Operation, Ptr, Region};
+use plir_data::{Identifier, OpKind};
+use plir_scripts::{SampleKind, SampleSet};
+use plir_walk::NodeLinks;
+use plir_walk::interruptible::{WalkResult, walk_break};
 use std::alloc::Global;
-use std::process::Abort;
 
-/// A change right below a node.
-#[derive(Clone, Copy)]
-pub enum Change {
-    /// The operation, which stands in the node, is erased.
-    EraseOp(Ptr<Operation>),
-    /// A new function is put at the end of the node, a block.
-    AppendFunc,
-    /// A new block is put at the end of the node, a region.
-    AppendBlock,
-    /// A region is added to the node, an operation.
-    AddRegion,
-    /// The first region of the node, an operation, is erased.
-    EraseRegion,
+/// What a callback breaks the walk with where memory was refused, or a change can't be made.
+pub const NOT_DONE: u32 = u32::MAX;
+
+/// Why a tree was not changed.
+#[derive(Clone, Copy, Debug)]
+pub enum Refusal {
+    /// A node was not made.
+    NotMade(NodeErr),
+    /// A node is dead, used, or not where it has to be.
+    Misplaced,
 }
 
-/// What a callback does: at each node the changes that are listed for it, in order, and then it answers `Skip` at `skip`
-/// and `Advance` elsewhere.
+impl From<NodeErr> for Refusal {
+    fn from(error: NodeErr) -> Refusal {
+        Refusal::NotMade(error)
+    }
+}
+
+/// An operation with one region that holds one block.
 #[derive(Clone, Copy)]
-pub struct Plan<'a> {
-    pub changes: &'a [(IRNode, Change)],
-    pub skip: Option<IRNode>,
+pub struct Nest {
+    pub op: Ptr<Operation>,
+    pub region: Ptr<Region>,
+    pub block: Ptr<BasicBlock>,
+}
+
+impl Nest {
+    /// The operation, the region and the block.
+    pub fn nodes(self) -> (IRNode, IRNode, IRNode) {
+        (
+            IRNode::Operation(self.op),
+            IRNode::Region(self.region),
+            IRNode::BasicBlock(self.block),
+        )
+    }
+}
+
+/// A new operation with one region, which holds one empty block. It stands at the end of the block `target`, if there
+/// is one.
+pub fn make_nest(
+    alloc: Global,
+    ctx: &mut Context<SampleSet>,
+    kind: OpKind<SampleKind>,
+    target: Option<Ptr<BasicBlock>>,
+) -> Result<Nest, Refusal>
+    ensures lawful { (b : _) → target ≡ Some b → Lawful (look ctx.old) (AnyNode.BasicBlock b) (look ctx.new) }
+{
+    ctx.forest();
+    let op = new_op(alloc, ctx, kind, target)?;
+    let region = op.first_region(ctx).ok_or(Refusal::Misplaced)?;
+    if !region.is_live(ctx) {
+        return Err(Refusal::Misplaced);
+    }
+    let block = BasicBlock::new(alloc, ctx, None, Vec::new(alloc))?;
+    block.insert_at_back(region, ctx);
+    Ok(Nest { op, region, block })
+}
+
+// A new operation with one region, at the end of `target`, if that is given.
+fn new_op(
+    alloc: Global,
+    ctx: &mut Context<SampleSet>,
+    kind: OpKind<SampleKind>,
+    target: Option<Ptr<BasicBlock>>,
+) -> Result<Ptr<Operation>, Refusal>
+    ensures live { IfOk result (λ op. IsLive ctx.new (AnyNode.Operation op)) }
+    ensures placed { (b : _) → target ≡ Some b → IfOk result (λ op. parent_of ctx.new (AnyNode.Operation op) ≡ Some (AnyNode.BasicBlock b)) }
+    ensures lawful { (b : _) → target ≡ Some b → Lawful (look ctx.old) (AnyNode.BasicBlock b) (look ctx.new) }
+{
+    let results = Vec::new(alloc);
+    let operands = Vec::new(alloc);
+    let successors = Vec::new(alloc);
+    match target {
+        None => Ok(Operation::new(alloc, ctx, kind, results, operands, successors, 1)?),
+        Some(block) => {
+            if !block.is_live(ctx) {
+                return Err(Refusal::Misplaced);
+            }
+            let op = Operation::new(alloc, ctx, kind, results, operands, successors, 1)?;
+            op.insert_at_back(block, ctx);
+            Ok(op)
+        }
+    }
 }
 
 /// Erases an operation that stands in `node` and that nothing outside it uses.
-fn erase_op(ctx: &mut Context<BuiltinSet>, node: IRNode, op: Ptr<Operation>) -> Result<(), Refusal>
+fn erase_op(ctx: &mut Context<SampleSet>, node: IRNode, op: Ptr<Operation>) -> Result<(), Refusal>
     ensures { Lawful (look ctx.old) node (look ctx.new) }
 {
     let erased = IRNode::Operation(op);
@@ -54,7 +115,7 @@ fn erase_op(ctx: &mut Context<BuiltinSet>, node: IRNode, op: Ptr<Operation>) -> 
 }
 
 /// Erases the first region of an operation, which nothing outside the region uses.
-fn erase_region(ctx: &mut Context<BuiltinSet>, op: Ptr<Operation>) -> Result<(), Refusal>
+fn erase_region(ctx: &mut Context<SampleSet>, op: Ptr<Operation>) -> Result<(), Refusal>
     ensures { Lawful (look ctx.old) (AnyNode.Operation op) (look ctx.new) }
 {
     if !op.is_live(ctx) || op.num_regions(ctx) == 0 {
@@ -69,7 +130,7 @@ fn erase_region(ctx: &mut Context<BuiltinSet>, op: Ptr<Operation>) -> Result<(),
 }
 
 /// Adds a region to an operation.
-fn add_region(ctx: &mut Context<BuiltinSet>, op: Ptr<Operation>) -> Result<(), Refusal>
+fn add_region(ctx: &mut Context<SampleSet>, op: Ptr<Operation>) -> Result<(), Refusal>
     ensures { Lawful (look ctx.old) (AnyNode.Operation op) (look ctx.new) }
 {
     if !op.is_live(ctx) {
@@ -82,7 +143,7 @@ fn add_region(ctx: &mut Context<BuiltinSet>, op: Ptr<Operation>) -> Result<(), R
 /// Puts a new block at the end of a region.
 fn append_block(
     alloc: Global,
-    ctx: &mut Context<BuiltinSet>,
+    ctx: &mut Context<SampleSet>,
     region: Ptr<Region>,
 ) -> Result<(), Refusal>
     ensures { Lawful (look ctx.old) (AnyNode.Region region) (look ctx.new) }
@@ -95,10 +156,24 @@ fn append_block(
     Ok(())
 }
 
-/// Changes the tree right below `node`.
+/// Labels a block `b`.
+fn label(alloc: Global, ctx: &mut Context<SampleSet>, block: Ptr<BasicBlock>) -> Result<(), Refusal>
+    ensures { Lawful (look ctx.old) (AnyNode.BasicBlock block) (look ctx.new) }
+{
+    let Ok(name) = Identifier::try_new(alloc, "b") else {
+        return Err(Refusal::NotMade(NodeErr::Memory));
+    };
+    if !block.is_live(ctx) {
+        return Err(Refusal::Misplaced);
+    }
+    block.set_label(Some(name), ctx);
+    Ok(())
+}
+
+/// Changes the tree right below `node`, or the node itself.
 fn apply(
     alloc: Global,
-    ctx: &mut Context<BuiltinSet>,
+    ctx: &mut Context<SampleSet>,
     node: IRNode,
     change: Change,
 ) -> Result<(), Refusal>
@@ -106,6 +181,7 @@ fn apply(
 {
     match (change, node) {
         (Change::EraseOp(op), _) => erase_op(ctx, node, op),
+        (Change::Label, IRNode::BasicBlock(block)) => label(alloc, ctx, block),
         (Change::AppendFunc, IRNode::BasicBlock(block)) => {
             make_nest(alloc, ctx, OpKind::Func, Some(block))?;
             Ok(())
@@ -120,7 +196,7 @@ fn apply(
 /// Does what is listed for `node`.
 fn follow(
     alloc: Global,
-    ctx: &mut Context<BuiltinSet>,
+    ctx: &mut Context<SampleSet>,
     changes: &[(IRNode, Change)],
     node: IRNode,
 ) -> Result<(), Refusal>
@@ -137,75 +213,21 @@ fn follow(
 }
 
 /// Notes the node, and does what the plan says.
-fn visit(
+pub fn visit(
     alloc: Global,
-    ctx: &mut Context<BuiltinSet>,
+    ctx: &mut Context<SampleSet>,
     seen: &mut Vec<IRNode>,
-    plan: &Plan<'_>,
+    plan: &Plan,
     node: IRNode,
 ) -> WalkResult<u32>
     requires { IsLive ctx.old node }
     ensures { Lawful (look ctx.old) node (look ctx.new) }
 {
     if seen.push(node).is_err() {
-        return walk_break(NO_MEMORY);
+        return walk_break(NOT_DONE);
     }
-    match follow(alloc, ctx, plan.changes, node) {
-        Ok(()) if plan.skip == Some(node) => walk_skip(),
-        Ok(()) => walk_advance(),
-        Err(_) => walk_break(NO_MEMORY),
+    match follow(alloc, ctx, plan.changes.as_slice(), node) {
+        Ok(()) => plan.answer(node),
+        Err(_) => walk_break(NOT_DONE),
     }
-}
-
-/// Walks from an operation with a callback that notes its node and follows `plan`: the notes, and the walk's answer.
-pub fn walk_changing(
-    rt: &impl Abort,
-    alloc: Global,
-    ctx: &mut Context<BuiltinSet>,
-    root: Ptr<Operation>,
-    config: &WalkConfig,
-    limit: u64,
-    plan: &Plan<'_>,
-) -> (Vec<IRNode>, Result<WalkResult<u32>, CallLimit>) {
-    assert!(rt; root.is_live(ctx));
-    let mut seen: Vec<IRNode> = Vec::new(alloc);
-    let callback = |ctx: &mut Context<BuiltinSet>, seen: &mut Vec<
-        IRNode,
-    >, node: IRNode| -> WalkResult<u32>
-        requires { IsLive ctx.old node }
-        ensures { Lawful (look ctx.old) node (look ctx.new) }
-    { visit(alloc, ctx, seen, plan, node) };
-    let found = walk_op(ctx, &mut seen, config, root, limit, callback);
-    (seen, found)
-}
-
-/// A walk's answer has to be this one, or that it was at its limit.
-pub fn expect_end(
-    rt: &impl Abort,
-    found: Result<WalkResult<u32>, CallLimit>,
-    end: Result<WalkResult<u32>, CallLimit>,
-) {
-    match (found, end) {
-        (Ok(found), Ok(end)) => expect_answer(rt, found, end),
-        (Err(_), Err(_)) => {}
-        _ => assert!(rt; false, "at the limit or not"),
-    }
-}
-
-/// Walks from the sample's module with a callback that notes its node and follows `plan`; the notes have to be `nodes`, and
-/// the walk's answer `end`.
-pub fn expect_changing(
-    rt: &impl Abort,
-    alloc: Global,
-    sample: &mut Sample,
-    config: &WalkConfig,
-    limit: u64,
-    plan: &Plan<'_>,
-    nodes: &[IRNode],
-    end: Result<WalkResult<u32>, CallLimit>,
-) {
-    let root = sample.m.op;
-    let (seen, found) = walk_changing(rt, alloc, &mut sample.ctx, root, config, limit, plan);
-    assert_eq!(rt; seen.as_slice(), nodes);
-    expect_end(rt, found, end);
 }

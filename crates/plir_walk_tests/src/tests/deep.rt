@@ -1,12 +1,13 @@
 //! Walks of a deep tree.
-use super::changes::{Plan, expect_end, walk_changing};
-use super::noting::{advance, expect_walk};
-use super::sample::{Nest, Refusal, make_nest};
+use super::changes::{Nest, Refusal, make_nest};
+use super::plan::Plan;
+use super::walking::{change, look_at};
 use plir_core::{Context, IRNode, NodeErr, Operation, Ptr};
-use plir_data::{BuiltinSet, OpKind};
-use plir_walk::interruptible::walk_advance;
-use plir_walk::{CallLimit, WALKCONFIG_POSTORDER_REVERSE, WALKCONFIG_PREORDER_FORWARD};
+use plir_data::OpKind;
+use plir_scripts::SampleSet;
+use plir_walk::{CallLimit, WALKCONFIG_POSTORDER_REVERSE, WALKCONFIG_PREORDER_FORWARD, WalkConfig};
 use std::alloc::Global;
+use std::process::Abort;
 use std::test::Fail;
 
 /// How many modules stand in one another.
@@ -15,7 +16,7 @@ const MODULES: usize = 10_000;
 /// Modules that stand in one another: the outermost, and all nodes, each before what is below it.
 #[derive(Drop)]
 struct Deep {
-    ctx: Context<BuiltinSet>,
+    ctx: Context<SampleSet>,
     root: Ptr<Operation>,
     nodes: Vec<IRNode>,
 }
@@ -47,7 +48,7 @@ fn note(nodes: &mut Vec<IRNode>, nest: Nest) -> Result<(), Refusal> {
 /// Puts the other modules into one another, below `outermost`, and notes their nodes.
 fn fill(
     alloc: Global,
-    ctx: &mut Context<BuiltinSet>,
+    ctx: &mut Context<SampleSet>,
     outermost: Nest,
     nodes: &mut Vec<IRNode>,
 ) -> Result<(), Refusal> {
@@ -59,45 +60,37 @@ fn fill(
     Ok(())
 }
 
-#[test]
-fn a_walk_is_as_deep_as_its_tree(rt: HostRuntime) -> Result<(), Fail> {
-    let alloc = rt.alloc();
-    let deep = Deep::new(alloc)?;
-    assert_eq!(rt; deep.nodes.len(), 30_000);
+/// A plan with no change, no skip and no break, and so many calls at most.
+fn plain_plan(alloc: Global, limit: u64) -> Plan {
+    Plan {
+        changes: Vec::new(alloc),
+        skips: Vec::new(alloc),
+        stop: None,
+        limit,
+    }
+}
+
+/// A walk of the outermost module calls these nodes.
+fn expect_walk(rt: &impl Abort, alloc: Global, deep: &Deep, config: &WalkConfig, nodes: &[IRNode]) {
+    let mut called = Vec::new(alloc);
     let root = IRNode::Operation(deep.root);
-    let config = WALKCONFIG_PREORDER_FORWARD;
-    let nodes = deep.nodes.as_slice();
-    expect_walk(
-        &rt,
-        alloc,
-        &deep.ctx,
-        &config,
-        root,
-        advance,
-        nodes,
-        walk_advance(),
-    );
-    Ok(())
+    assert!(rt; root.is_live(&deep.ctx));
+    let plan = plain_plan(alloc, 0);
+    let found = look_at(&deep.ctx, config, root, &plan, &mut called);
+    assert!(rt; found.is_continue());
+    assert_eq!(rt; called.as_slice(), nodes);
 }
 
 #[test]
-fn a_deep_walk_may_be_reversed(rt: HostRuntime) -> Result<(), Fail> {
+fn a_walk_is_as_deep_as_its_tree(rt: HostRuntime) -> Result<(), Fail> {
     let alloc = rt.alloc();
     let mut deep = Deep::new(alloc)?;
+    assert_eq!(rt; deep.nodes.len(), 30_000);
+    let config = WALKCONFIG_PREORDER_FORWARD;
+    expect_walk(&rt, alloc, &deep, &config, deep.nodes.as_slice());
     deep.nodes.reverse();
-    let root = IRNode::Operation(deep.root);
     let config = WALKCONFIG_POSTORDER_REVERSE;
-    let nodes = deep.nodes.as_slice();
-    expect_walk(
-        &rt,
-        alloc,
-        &deep.ctx,
-        &config,
-        root,
-        advance,
-        nodes,
-        walk_advance(),
-    );
+    expect_walk(&rt, alloc, &deep, &config, deep.nodes.as_slice());
     Ok(())
 }
 
@@ -105,14 +98,14 @@ fn a_deep_walk_may_be_reversed(rt: HostRuntime) -> Result<(), Fail> {
 fn a_deep_walk_ends_at_its_limit(rt: HostRuntime) -> Result<(), Fail> {
     let alloc = rt.alloc();
     let mut deep = Deep::new(alloc)?;
+    let root = IRNode::Operation(deep.root);
+    assert!(rt; root.is_live(&deep.ctx));
+    let plan = plain_plan(alloc, 29_999);
     let config = WALKCONFIG_PREORDER_FORWARD;
-    let plan = Plan {
-        changes: &[],
-        skip: None,
-    };
-    let (seen, found) = walk_changing(&rt, alloc, &mut deep.ctx, deep.root, &config, 29_999, &plan);
-    assert_eq!(rt; seen.len(), 29_999);
-    assert!(rt; deep.nodes.as_slice().starts_with(seen.as_slice()));
-    expect_end(&rt, found, Err(CallLimit));
+    let mut called = Vec::new(alloc);
+    let found = change(alloc, &mut deep.ctx, &config, root, &plan, &mut called);
+    assert!(rt; matches!(found, Err(CallLimit)));
+    assert_eq!(rt; called.len(), 29_999);
+    assert!(rt; deep.nodes.as_slice().starts_with(called.as_slice()));
     Ok(())
 }

@@ -22,22 +22,22 @@ put_type-put_own_type-requires g t c =
 
 pub put_type-returns-in-Integer : goal.put_type-returns-in-Integer
 put_type-returns-in-Integer g t c =
-    let text = read_text g.D.OpSet.type_id g.D.OpSet.type_body_text g.D.OpSet.type_handles (g.C.TypeStore.types c.args.ctx.now) c.types.result.now c.args.handle c.get.result.now (Integer c.in-Integer.ty) c.types.ensures c.get.ensures.found c.get.ensures.whole c.in-Integer.is in
+    let text = read_text g.D.OpSet.type_id g.D.OpSet.type_body_text g.D.OpSet.type_handles (g.C.TypeStore.types c.args.ctx.now) c.types.result.now c.args.handle c.get.result.now (Integer c.in-Integer.ty) c.types.ensures.value c.get.ensures.found c.get.ensures.whole c.in-Integer.is in
     on_ok_weaker c.put_integer_type.result (λ e. e ∙ ap (λ bytes. string_bytes c.args.out.now ++ bytes) (sym text)) c.put_integer_type.ensures
 
 pub put_type-returns-in-Function : goal.put_type-returns-in-Function
 put_type-returns-in-Function g t c =
-    let text = read_text g.D.OpSet.type_id g.D.OpSet.type_body_text g.D.OpSet.type_handles (g.C.TypeStore.types c.args.ctx.now) c.types.result.now c.args.handle c.get.result.now (Function c.in-Function.ty) c.types.ensures c.get.ensures.found c.get.ensures.whole c.in-Function.is in
+    let text = read_text g.D.OpSet.type_id g.D.OpSet.type_body_text g.D.OpSet.type_handles (g.C.TypeStore.types c.args.ctx.now) c.types.result.now c.args.handle c.get.result.now (Function c.in-Function.ty) c.types.ensures.value c.get.ensures.found c.get.ensures.whole c.in-Function.is in
     on_ok_weaker c.put_function_type.result (λ e. e ∙ ap (λ bytes. string_bytes c.args.out.now ++ bytes) (sym text)) c.put_function_type.ensures
 
 pub put_type-returns-in-Unit : goal.put_type-returns-in-Unit
 put_type-returns-in-Unit g t c =
-    let text = read_text g.D.OpSet.type_id g.D.OpSet.type_body_text g.D.OpSet.type_handles (g.C.TypeStore.types c.args.ctx.now) c.types.result.now c.args.handle c.get.result.now (Unit c.in-Unit.field-0) c.types.ensures c.get.ensures.found c.get.ensures.whole c.in-Unit.is in
-    on_ok_weaker c.put.result (λ e. e ∙ ap (λ bytes. string_bytes c.args.out.now ++ bytes) (sym text)) c.put.ensures
+    let text = read_text g.D.OpSet.type_id g.D.OpSet.type_body_text g.D.OpSet.type_handles (g.C.TypeStore.types c.args.ctx.now) c.types.result.now c.args.handle c.get.result.now (Unit c.in-Unit.field-0) c.types.ensures.value c.get.ensures.found c.get.ensures.whole c.in-Unit.is in
+    on_ok_weaker c.put.result (λ e. e ∙ ap (λ bytes. string_bytes c.args.out.now ++ bytes) (sym text)) c.put.ensures.ok
 
 pub put_type-returns-in-Own : goal.put_type-returns-in-Own
 put_type-returns-in-Own g t c =
-    let text = read_text g.D.OpSet.type_id g.D.OpSet.type_body_text g.D.OpSet.type_handles (g.C.TypeStore.types c.args.ctx.now) c.types.result.now c.args.handle c.get.result.now (Own c.in-Own.ty) c.types.ensures c.get.ensures.found c.get.ensures.whole c.in-Own.is in
+    let text = read_text g.D.OpSet.type_id g.D.OpSet.type_body_text g.D.OpSet.type_handles (g.C.TypeStore.types c.args.ctx.now) c.types.result.now c.args.handle c.get.result.now (Own c.in-Own.ty) c.types.ensures.value c.get.ensures.found c.get.ensures.whole c.in-Own.is in
     on_ok_weaker c.put_own_type.result (λ e. e ∙ ap (λ bytes. string_bytes c.args.out.now ++ bytes) (sym text)) c.put_own_type.ensures
 
 pub put_function_type-put_types-requires : goal.put_function_type-put_types-requires
@@ -67,7 +67,7 @@ put_function_type-returns g t c =
     let text = types_text g.D.OpSet.type_id g.D.OpSet.type_body_text (g.C.TypeStore.types c.args.ctx.now) in
     let arguments = c.in_ok-put_types.ensures ∙ ap (λ hs. string_bytes c.put.new.out ++ text hs) c.arg_types.ensures in
     let results = c.in_ok-put_types-2.ensures ∙ ap (λ hs. string_bytes c.put-2.new.out ++ text hs) c.res_types.ensures in
-    five _ _ _ _ _ _ _ _ _ _ _ c.in_ok-put.ensures arguments c.in_ok-put-2.ensures results c.in_ok-put-3.ensures
+    five _ _ _ _ _ _ _ _ _ _ _ c.in_ok-put.ensures.ok arguments c.in_ok-put-2.ensures.ok results c.in_ok-put-3.ensures.ok
 
 pub put_types-put_type-requires : goal.put_types-put_type-requires
 put_types-put_type-requires g t c =

@@ -14,12 +14,12 @@ use Rattle.plir_text.proofs.print_attrs.+print.Goals as goal
 pub put_dict-returns : goal.put_dict-returns
 put_dict-returns g t c =
     let text = entries_text g.D.OpSet.attr_id g.D.OpSet.attr_text g.D.OpSet.type_id g.D.OpSet.type_body_text c.args.types.now (entries_of c.args.dict.now) in
-    three (string_bytes c.args.out.now) (codes "builtin.dict [") text (codes "]") c.in_ok-put.ensures c.in_ok-put_entries.ensures c.in_ok-put-2.ensures
+    three (string_bytes c.args.out.now) (codes "builtin.dict [") text (codes "]") c.in_ok-put.ensures.ok c.in_ok-put_entries.ensures c.in_ok-put-2.ensures.ok
 
 pub put_list-returns : goal.put_list-returns
 put_list-returns g t c =
     let text = items_text g.D.OpSet.attr_id g.D.OpSet.attr_text g.D.OpSet.type_id g.D.OpSet.type_body_text c.args.types.now (items_of (map attr_view c.args.list.now.items)) in
-    three (string_bytes c.args.out.now) (codes "builtin.vec [") text (codes "]") c.in_ok-put.ensures c.in_ok-put_items.ensures c.in_ok-put-2.ensures
+    three (string_bytes c.args.out.now) (codes "builtin.vec [") text (codes "]") c.in_ok-put.ensures.ok c.in_ok-put_items.ensures c.in_ok-put-2.ensures.ok
 
 pub put_entries-entries-init : goal.put_entries-entries-init
 put_entries-entries-init g t c =
@@ -46,10 +46,10 @@ put_entries-entries-preserved g t c =
     let x = attr_view c.in-Some.value.now in
     let left = pairs_view c.next.new.self in
     let step : pairs_view l.key-iterator ≡ (k, x) ∷ left = ap pairs_view c.in-Some.ensures.steps in
-    let key = c.in_ok-put.ensures ∙ ap (λ w. string_bytes c.put_comma.new.out ++ w) c.as_str.ensures.value in
+    let key = c.in_ok-put.ensures.ok ∙ ap (λ w. string_bytes c.put_comma.new.out ++ w) c.as_str.ensures.value in
     let text = attr_text g.D.OpSet.attr_id g.D.OpSet.attr_text g.D.OpSet.type_id g.D.OpSet.type_body_text types in
-    let pair = three (string_bytes c.put_comma.new.out) k (codes " = ") (text x) key c.in_ok-put-2.ensures c.in_ok-put_attr.ensures in
-    let written = goes_on write _ _ _ _ l.is_first (k, x) left c.in_ok-put_comma.ensures pair (ap (λ es. string_bytes l.out ++ joined_from l.is_first write es) (sym step) ∙ inv.0) in
+    let pair = three (string_bytes c.put_comma.new.out) k (codes " = ") (text x) key c.in_ok-put-2.ensures.ok c.in_ok-put_attr.ensures in
+    let written = goes_on write _ _ _ _ l.is_first (k, x) left c.in_ok-put_comma.ensures.ok pair (ap (λ es. string_bytes l.out ++ joined_from l.is_first write es) (sym step) ∙ inv.0) in
     (written, (first_live g.D.OpSet.attr_handles types _ left (k, x) step inv.1).1, (first_small (entries_bulk c.args.dict.now) _ left (k, x) step inv.2).1)
 
 pub put_entries-returns : goal.put_entries-returns
@@ -77,7 +77,7 @@ put_items-items-preserved g t c =
     let write = attr_text g.D.OpSet.attr_id g.D.OpSet.attr_text g.D.OpSet.type_id g.D.OpSet.type_body_text c.args.types.now in
     let x = c.item-item.result in
     let step = left_items xs l.item-index x x (omega arith) c.item-item.is in
-    goes_on write _ _ _ _ l.is_first (attr_view x) (map attr_view (drop (l.item-index + 1) xs)) c.in_ok-put_comma.ensures c.in_ok-put_attr.ensures (ap (λ ys. string_bytes l.out ++ joined_from l.is_first write ys) (sym step) ∙ l.invariant)
+    goes_on write _ _ _ _ l.is_first (attr_view x) (map attr_view (drop (l.item-index + 1) xs)) c.in_ok-put_comma.ensures.ok c.in_ok-put_attr.ensures (ap (λ ys. string_bytes l.out ++ joined_from l.is_first write ys) (sym step) ∙ l.invariant)
 
 pub put_items-returns : goal.put_items-returns
 put_items-returns g t c =

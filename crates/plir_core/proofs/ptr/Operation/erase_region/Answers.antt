@@ -4,13 +4,7 @@ use Rattle.plir_core.specs.Erase.{IsErased}
 use Rattle.plir_core.specs.Store.{kids}
 use Rattle.plir_core.specs.Unused.{IsUnusedOutside, without_tree}
 use Rattle.plir_core.proofs.ptr.Operation.erase_region.Goals as goal
-use Rattle.plir_core.proofs.Facts.{kid-live}
-use Rattle.plir_core.proofs.KidAt.{Has_get, parted_at, kid_at-is}
-
-pub erase_tree-requires-clause-live : goal.erase_tree-requires-clause-live
-erase_tree-requires-clause-live g c =
-    kid-live c.args.ctx.now.nodes c.get_region-region.ensures.whole.forest (Operation c.args.op) (Region c.get_region-region.result)
-    (Has_get (kids c.args.ctx.now (Operation c.args.op)) c.args.i (Region c.get_region-region.result) c.get_region-region.ensures.value)
+use Rattle.plir_core.proofs.KidAt.{parted_at, kid_at-is}
 
 pub erase_tree-requires-clause-unused : goal.erase_tree-requires-clause-unused
 erase_tree-requires-clause-unused g c =

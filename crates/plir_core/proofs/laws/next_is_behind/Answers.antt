@@ -1,0 +1,5 @@
+use Rattle.plir_core.proofs.laws.next_is_behind.Goals as goal
+use Rattle.plir_core.proofs.KidPlaces.{next-behind}
+
+pub returns : goal.returns
+returns g c = λ over xs ys e. next-behind c.args.ctx.now.nodes c.num_live-count.ensures.whole.forest over c.args.kid xs ys e

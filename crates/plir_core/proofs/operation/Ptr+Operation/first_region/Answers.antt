@@ -1,0 +1,6 @@
+use Rattle.plir_core.specs.declared.ptr.IRNode.TheVariants.{Operation, Region}
+use Rattle.plir_core.proofs.operation.Ptr+Operation.first_region.Goals as goal
+use Rattle.plir_core.proofs.Answered.{first_told}
+
+pub returns-clause-live : goal.returns-clause-live
+returns-clause-live g c = first_told g.D.OpSet.attr_handles _ c.args.ctx.now c.ctx.view_is c.ctx.invariant Region c.first_region.result (Operation c.args.self) c.first_region.ensures

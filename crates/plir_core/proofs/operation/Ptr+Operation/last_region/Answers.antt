@@ -1,0 +1,6 @@
+use Rattle.plir_core.specs.declared.ptr.IRNode.TheVariants.{Operation, Region}
+use Rattle.plir_core.proofs.operation.Ptr+Operation.last_region.Goals as goal
+use Rattle.plir_core.proofs.Answered.{last_told}
+
+pub returns-clause-live : goal.returns-clause-live
+returns-clause-live g c = last_told g.D.OpSet.attr_handles _ c.args.ctx.now c.ctx.view_is c.ctx.invariant Region c.last_region.result (Operation c.args.self) c.last_region.ensures

@@ -1,0 +1,6 @@
+use Rattle.plir_core.specs.declared.ptr.IRNode.TheVariants.{Region}
+use Rattle.plir_core.proofs.region.Ptr+Region.get_next.Goals as goal
+use Rattle.plir_core.proofs.Answered.{next_told}
+
+pub returns-clause-live : goal.returns-clause-live
+returns-clause-live g c = next_told g.D.OpSet.attr_handles _ c.args.ctx.now c.ctx.view_is c.ctx.invariant Region c.next_region.result (Region c.args.self) c.next_region.ensures

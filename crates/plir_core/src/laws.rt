@@ -1,0 +1,69 @@
+//! Laws of contexts: each function does nothing, and its contract is the law.
+ghost use Rattle.std.specs.Prelude.{◌≡◌, ◌∷◌, ◌++◌, ◌+◌, List, Some, slice_get};
+ghost use Rattle.plir_core.specs.Contents.{OpView, BlockView};
+ghost use Rattle.plir_core.specs.NodeLists.{head};
+ghost use Rattle.plir_core.specs.Store.{IsLive, kids, parent_of, first_kid, next_sibling, depth, IsIndexed};
+ghost use Rattle.plir_core.specs.Changes.{with_op_edit, with_block_edit};
+ghost use Rattle.plir_core.specs.Held.{IsOpEdited, IsBlockEdited};
+ghost use Rattle.plir_core.specs.Grown.{Growth};
+ghost use Rattle.plir_core.specs.declared.ptr.IRNode.{IRNode as AnyNode};
+
+use crate::context::Context;
+use crate::ptr::{BasicBlock, IRNode, Operation, Ptr};
+use plir_data::OpSet;
+
+/// What is known of the kid of a node at a place, from 0.
+pub fn kid_at<D: OpSet>(ctx: &Context<D>, over: IRNode, kid: IRNode, place: usize)
+    requires { slice_get (kids ctx.now over) place ≡ Some kid }
+    ensures live { IsLive ctx.now kid }
+    ensures parent { parent_of ctx.now kid ≡ Some over }
+    ensures deeper { depth ctx.now kid ≡ depth ctx.now over + 1 }
+    ensures next { next_sibling ctx.now kid ≡ slice_get (kids ctx.now over) (place + 1) }
+{
+    let _count = ctx.num_live();
+}
+
+/// The first kid of a node is the one at the place 0.
+pub fn first_kid_is_front<D: OpSet>(ctx: &Context<D>, over: IRNode)
+    ensures place { first_kid ctx.now over ≡ slice_get (kids ctx.now over) 0 }
+    ensures front { first_kid ctx.now over ≡ head (kids ctx.now over) }
+{
+    let _types = &ctx.types;
+}
+
+/// What follows a kid of a node is the first of what stands behind it.
+pub fn next_is_behind<D: OpSet>(ctx: &Context<D>, kid: IRNode)
+    ensures { (over : AnyNode) (xs ys : List AnyNode) → kids ctx.now over ≡ xs ++ kid ∷ ys → next_sibling ctx.now kid ≡ head ys }
+{
+    let _count = ctx.num_live();
+}
+
+/// An edit of what an operation holds changes nothing else.
+pub fn op_edits_keep_the_rest<D: OpSet>(ctx: &Context<D>, op: Ptr<Operation>)
+    requires { IsLive ctx.now (AnyNode.Operation op) }
+    ensures { (f : OpView D.Kind D.Attr → OpView D.Kind D.Attr) → IsOpEdited ctx.now (with_op_edit ctx.now op f) op f }
+{
+    let _count = ctx.num_live();
+}
+
+/// An edit of what a block holds changes nothing else.
+pub fn block_edits_keep_the_rest<D: OpSet>(ctx: &Context<D>, block: Ptr<BasicBlock>)
+    requires { IsLive ctx.now (AnyNode.BasicBlock block) }
+    ensures { (f : BlockView D.Attr → BlockView D.Attr) → IsBlockEdited ctx.now (with_block_edit ctx.now block f) block f }
+{
+    let _count = ctx.num_live();
+}
+
+/// How trees grow from a context on: what is made and put below a node, and what is made in many steps.
+pub fn growth<D: OpSet>(ctx: &Context<D>)
+    ensures { Growth ctx.now.nodes }
+{
+    let _count = ctx.num_live();
+}
+
+/// The index of a pointer that was given out is its slot and 1.
+pub fn index_is_slot_and_one<D: OpSet>(ctx: &Context<D>)
+    ensures { IsIndexed ctx.now }
+{
+    let _count = ctx.num_live();
+}

@@ -1,0 +1,26 @@
+//! An interpreter of scripts, for tests. A line of a script is a call on nodes that earlier lines have made, and its
+//! answer.
+//!
+//! A script is a text, with lines `CALL => ANSWER`; a line with no ` => ` has an empty answer. A call is a command and
+//! its words, parted by single spaces. Nodes are named in the order in which the script has made them: `o0` is the
+//! first operation, `r0` the first region, `b0` the first block, `t0` the first type, `o0.1` the second result of `o0`
+//! and `b0.1` the second argument of `b0`. A call whose condition doesn't hold is answered by `refused`.
+#![tactic(auto)]
+
+mod bench;
+mod contents;
+mod line;
+mod linking;
+mod made;
+mod making;
+mod sample_set;
+mod showing;
+mod stop;
+
+pub use bench::{Bench, Layer, Mismatch, NodeCalls, play};
+pub use line::{Line, number, split_word};
+pub use made::Made;
+pub use making::{label_of, put_type_name};
+pub use sample_set::{NotMarked, SampleAttr, SampleKind, SampleSet, SampleType};
+pub use showing::{put_attr, put_truth};
+pub use stop::Stop;

@@ -1,0 +1,177 @@
+//! The commands that link nodes, unlink them and erase them.
+ghost use Rattle.plir_core.specs.Store.{IsLive};
+ghost use Rattle.plir_core.specs.declared.ptr.IRNode.{IRNode as AnyNode};
+
+use crate::line::Line;
+use crate::made::Made;
+use crate::sample_set::SampleSet;
+use crate::stop::Stop;
+use plir_core::{BasicBlock, Context, IRNode, Operation, Ptr, Region};
+
+/// Where a node is put.
+#[derive(Clone, Copy, PartialEq, Eq, Debug)]
+enum Side {
+    Front,
+    Back,
+    Before,
+    After,
+}
+
+/// Does what a line says that changes links: `front NODE IN`, `back NODE IN`, `before NODE MARK`, `after NODE MARK`,
+/// `unlink NODE` or `erase NODE`.
+pub fn link(ctx: &mut Context<SampleSet>, made: &Made, line: Line<'_>) -> Result<(), Stop> {
+    match line.command {
+        "front" => put(ctx, made, line, Side::Front),
+        "back" => put(ctx, made, line, Side::Back),
+        "before" => put(ctx, made, line, Side::Before),
+        "after" => put(ctx, made, line, Side::After),
+        "unlink" => unlink(ctx, made, line),
+        "erase" => erase(ctx, made, line),
+        _ => Err(Stop::Refused),
+    }
+}
+
+fn put(ctx: &mut Context<SampleSet>, made: &Made, line: Line<'_>, side: Side) -> Result<(), Stop> {
+    let node = made.live(ctx, line.first)?;
+    let mark = made.live(ctx, line.second)?;
+    match (node, mark) {
+        (IRNode::Operation(op), IRNode::BasicBlock(block)) => put_op(ctx, op, block, side),
+        (IRNode::Operation(op), IRNode::Operation(mark)) => put_op_beside(ctx, op, mark, side),
+        (IRNode::BasicBlock(block), IRNode::Region(region)) => put_block(ctx, block, region, side),
+        (IRNode::BasicBlock(block), IRNode::BasicBlock(mark)) => {
+            put_block_beside(ctx, block, mark, side)
+        }
+        _ => Err(Stop::Refused),
+    }
+}
+
+fn put_op(
+    ctx: &mut Context<SampleSet>,
+    op: Ptr<Operation>,
+    block: Ptr<BasicBlock>,
+    side: Side,
+) -> Result<(), Stop>
+    requires live { IsLive ctx.old (AnyNode.Operation op) }
+    requires block { IsLive ctx.old (AnyNode.BasicBlock block) }
+{
+    if op.get_parent_block(ctx).is_some()
+        || IRNode::Operation(op).is_ancestor(IRNode::BasicBlock(block), ctx)
+    {
+        return Err(Stop::Refused);
+    }
+    match side {
+        Side::Front => op.insert_at_front(block, ctx),
+        Side::Back => op.insert_at_back(block, ctx),
+        _ => return Err(Stop::Refused),
+    }
+    Ok(())
+}
+
+fn put_op_beside(
+    ctx: &mut Context<SampleSet>,
+    op: Ptr<Operation>,
+    mark: Ptr<Operation>,
+    side: Side,
+) -> Result<(), Stop>
+    requires live { IsLive ctx.old (AnyNode.Operation op) }
+    requires mark { IsLive ctx.old (AnyNode.Operation mark) }
+{
+    if op.get_parent_block(ctx).is_some()
+        || mark.get_parent_block(ctx).is_none()
+        || IRNode::Operation(op).is_ancestor(IRNode::Operation(mark), ctx)
+    {
+        return Err(Stop::Refused);
+    }
+    match side {
+        Side::Before => op.insert_before(mark, ctx),
+        Side::After => op.insert_after(mark, ctx),
+        _ => return Err(Stop::Refused),
+    }
+    Ok(())
+}
+
+fn put_block(
+    ctx: &mut Context<SampleSet>,
+    block: Ptr<BasicBlock>,
+    region: Ptr<Region>,
+    side: Side,
+) -> Result<(), Stop>
+    requires live { IsLive ctx.old (AnyNode.BasicBlock block) }
+    requires region { IsLive ctx.old (AnyNode.Region region) }
+{
+    if block.get_parent_region(ctx).is_some()
+        || IRNode::BasicBlock(block).is_ancestor(IRNode::Region(region), ctx)
+    {
+        return Err(Stop::Refused);
+    }
+    match side {
+        Side::Front => block.insert_at_front(region, ctx),
+        Side::Back => block.insert_at_back(region, ctx),
+        _ => return Err(Stop::Refused),
+    }
+    Ok(())
+}
+
+fn put_block_beside(
+    ctx: &mut Context<SampleSet>,
+    block: Ptr<BasicBlock>,
+    mark: Ptr<BasicBlock>,
+    side: Side,
+) -> Result<(), Stop>
+    requires live { IsLive ctx.old (AnyNode.BasicBlock block) }
+    requires mark { IsLive ctx.old (AnyNode.BasicBlock mark) }
+{
+    if block.get_parent_region(ctx).is_some()
+        || mark.get_parent_region(ctx).is_none()
+        || IRNode::BasicBlock(block).is_ancestor(IRNode::BasicBlock(mark), ctx)
+    {
+        return Err(Stop::Refused);
+    }
+    match side {
+        Side::Before => block.insert_before(mark, ctx),
+        Side::After => block.insert_after(mark, ctx),
+        _ => return Err(Stop::Refused),
+    }
+    Ok(())
+}
+
+fn unlink(ctx: &mut Context<SampleSet>, made: &Made, line: Line<'_>) -> Result<(), Stop> {
+    match made.live(ctx, line.first)? {
+        IRNode::Operation(op) => op.unlink(ctx),
+        IRNode::BasicBlock(block) => block.unlink(ctx),
+        IRNode::Region(_) => return Err(Stop::Refused),
+    }
+    Ok(())
+}
+
+fn erase(ctx: &mut Context<SampleSet>, made: &Made, line: Line<'_>) -> Result<(), Stop> {
+    match made.live(ctx, line.first)? {
+        IRNode::Operation(op) if IRNode::Operation(op).is_unused_outside(ctx) => {
+            Operation::erase(op, ctx);
+        }
+        IRNode::BasicBlock(block) if IRNode::BasicBlock(block).is_unused_outside(ctx) => {
+            BasicBlock::erase(block, ctx);
+        }
+        IRNode::Region(region) => return erase_region(ctx, region),
+        _ => return Err(Stop::Refused),
+    }
+    Ok(())
+}
+
+// Erases a region by its place in its operation.
+fn erase_region(ctx: &mut Context<SampleSet>, region: Ptr<Region>) -> Result<(), Stop>
+    requires { IsLive ctx.old (AnyNode.Region region) }
+{
+    let Some(op) = region.get_parent_op(ctx) else {
+        return Err(Stop::Refused);
+    };
+    let place = region.find_index_in_parent(ctx);
+    if place >= op.num_regions(ctx) {
+        return Err(Stop::Refused);
+    }
+    if !IRNode::Region(op.get_region(ctx, place)).is_unused_outside(ctx) {
+        return Err(Stop::Refused);
+    }
+    Operation::erase_region(op, place, ctx);
+    Ok(())
+}

@@ -1,0 +1,229 @@
+//! The nodes that a script has made, and their names.
+ghost use Rattle.std.specs.Prelude.{All, IfOk};
+ghost use Rattle.plir_data.specs.Types.{AllLive, IsLive as IsTypeLive};
+ghost use Rattle.plir_core.specs.Store.{IsLive, IsValueLive};
+ghost use Rattle.plir_core.specs.declared.ptr.IRNode.{IRNode as AnyNode};
+
+use crate::line::number;
+use crate::sample_set::SampleSet;
+use crate::stop::Stop;
+use plir_core::{BasicBlock, Context, DefiningEntity, IRNode, Operation, Ptr, Region, Value};
+use plir_data::TypeHandle;
+use std::alloc::{AllocError, Global};
+use std::fmt::Write;
+
+/// The nodes that a script has made and the types that it has named, in this order.
+#[derive(Drop)]
+pub struct Made {
+    pub ops: Vec<Ptr<Operation>>,
+    pub regions: Vec<Ptr<Region>>,
+    pub blocks: Vec<Ptr<BasicBlock>>,
+    pub types: Vec<TypeHandle>,
+}
+
+impl Made {
+    /// No node.
+    pub fn new(alloc: Global) -> Self {
+        Made {
+            ops: Vec::new(alloc),
+            regions: Vec::new(alloc),
+            blocks: Vec::new(alloc),
+            types: Vec::new(alloc),
+        }
+    }
+
+    /// The node of a name, live or not.
+    pub fn node(&self, name: &str) -> Result<IRNode, Stop> {
+        match self.find(name) {
+            Some(node) => Ok(node),
+            None => Err(Stop::Refused),
+        }
+    }
+
+    fn find(&self, name: &str) -> Option<IRNode> {
+        if let Some(place) = name.strip_prefix('o') {
+            let op = self.ops.get(place.parse::<usize>().ok()?)?;
+            return Some(IRNode::Operation(*op));
+        }
+        if let Some(place) = name.strip_prefix('r') {
+            let region = self.regions.get(place.parse::<usize>().ok()?)?;
+            return Some(IRNode::Region(*region));
+        }
+        let place = name.strip_prefix('b')?;
+        let block = self.blocks.get(place.parse::<usize>().ok()?)?;
+        Some(IRNode::BasicBlock(*block))
+    }
+
+    /// The node of a name, which has to be live.
+    pub fn live(&self, ctx: &Context<SampleSet>, name: &str) -> Result<IRNode, Stop>
+        ensures { IfOk result (λ node. IsLive ctx.now node) }
+    {
+        let node = self.node(name)?;
+        if node.is_live(ctx) {
+            Ok(node)
+        } else {
+            Err(Stop::Refused)
+        }
+    }
+
+    /// The operation of a name, which has to be live.
+    pub fn op(&self, ctx: &Context<SampleSet>, name: &str) -> Result<Ptr<Operation>, Stop>
+        ensures { IfOk result (λ op. IsLive ctx.now (AnyNode.Operation op)) }
+    {
+        match self.live(ctx, name)? {
+            IRNode::Operation(op) => Ok(op),
+            _ => Err(Stop::Refused),
+        }
+    }
+
+    /// The block of a name, which has to be live.
+    pub fn block(&self, ctx: &Context<SampleSet>, name: &str) -> Result<Ptr<BasicBlock>, Stop>
+        ensures { IfOk result (λ block. IsLive ctx.now (AnyNode.BasicBlock block)) }
+    {
+        match self.live(ctx, name)? {
+            IRNode::BasicBlock(block) => Ok(block),
+            _ => Err(Stop::Refused),
+        }
+    }
+
+    /// The value of a name, of a live node.
+    pub fn value(&self, ctx: &Context<SampleSet>, name: &str) -> Result<Value, Stop>
+        ensures { IfOk result (λ value. IsValueLive ctx.now value) }
+    {
+        let Some((owner, place)) = name.split_once('.') else {
+            return Err(Stop::Refused);
+        };
+        let place = number(place)?;
+        match self.live(ctx, owner)? {
+            IRNode::Operation(op) if place < op.get_num_results(ctx) => {
+                Ok(op.get_result(ctx, place))
+            }
+            IRNode::BasicBlock(block) if place < block.get_num_arguments(ctx) => {
+                Ok(block.get_argument(ctx, place))
+            }
+            _ => Err(Stop::Refused),
+        }
+    }
+
+    /// The type of a name.
+    pub fn type_named(&self, ctx: &Context<SampleSet>, name: &str) -> Result<TypeHandle, Stop>
+        ensures { IfOk result (λ handle. IsTypeLive ctx.now.types handle) }
+    {
+        let Some(place) = name.strip_prefix('t') else {
+            return Err(Stop::Refused);
+        };
+        match self.types.get(number(place)?) {
+            Some(handle) if ctx.is_live(*handle) => Ok(*handle),
+            _ => Err(Stop::Refused),
+        }
+    }
+
+    /// The types of these names, parted by spaces.
+    pub fn types_named(
+        &self,
+        alloc: Global,
+        ctx: &Context<SampleSet>,
+        names: &str,
+    ) -> Result<Vec<TypeHandle>, Stop>
+        ensures { IfOk result (λ handles. AllLive ctx.now.types handles.items) }
+    {
+        let mut handles = Vec::new(alloc);
+        for name in names.split_whitespace() {
+            handles.push(self.type_named(ctx, name)?)?;
+        }
+        Ok(handles)
+    }
+
+    /// The values of these names, parted by spaces.
+    pub fn values_named(
+        &self,
+        alloc: Global,
+        ctx: &Context<SampleSet>,
+        names: &str,
+    ) -> Result<Vec<Value>, Stop>
+        ensures { IfOk result (λ values. All (IsValueLive ctx.now) values.items) }
+    {
+        let mut values = Vec::new(alloc);
+        for name in names.split_whitespace() {
+            values.push(self.value(ctx, name)?)?;
+        }
+        Ok(values)
+    }
+
+    /// The blocks of these names, parted by spaces.
+    pub fn blocks_named(
+        &self,
+        alloc: Global,
+        ctx: &Context<SampleSet>,
+        names: &str,
+    ) -> Result<Vec<Ptr<BasicBlock>>, Stop>
+        ensures { IfOk result (λ blocks. All (λ b. IsLive ctx.now (AnyNode.BasicBlock b)) blocks.items) }
+    {
+        let mut blocks = Vec::new(alloc);
+        for name in names.split_whitespace() {
+            blocks.push(self.block(ctx, name)?)?;
+        }
+        Ok(blocks)
+    }
+
+    /// Writes the name of a node.
+    pub fn put_node(&self, text: &mut String, node: IRNode) -> Result<(), AllocError> {
+        match node {
+            IRNode::Operation(op) => put_name(text, " o", place_of(&self.ops, op)),
+            IRNode::Region(region) => put_name(text, " r", place_of(&self.regions, region)),
+            IRNode::BasicBlock(block) => put_name(text, " b", place_of(&self.blocks, block)),
+        }
+    }
+
+    /// Writes the name of an operation, or `-` for none.
+    pub fn put_op(&self, text: &mut String, op: Option<Ptr<Operation>>) -> Result<(), AllocError> {
+        self.put(text, op.map(IRNode::Operation))
+    }
+
+    /// Writes the name of a block, or `-` for none.
+    pub fn put_block(
+        &self,
+        text: &mut String,
+        block: Option<Ptr<BasicBlock>>,
+    ) -> Result<(), AllocError> {
+        self.put(text, block.map(IRNode::BasicBlock))
+    }
+
+    /// Writes the name of a region, or `-` for none.
+    pub fn put_region(
+        &self,
+        text: &mut String,
+        region: Option<Ptr<Region>>,
+    ) -> Result<(), AllocError> {
+        self.put(text, region.map(IRNode::Region))
+    }
+
+    fn put(&self, text: &mut String, node: Option<IRNode>) -> Result<(), AllocError> {
+        match node {
+            None => text.push_str(" -"),
+            Some(node) => self.put_node(text, node),
+        }
+    }
+
+    /// Writes the name of a value.
+    pub fn put_value(&self, text: &mut String, value: Value) -> Result<(), AllocError> {
+        match value.defining_entity() {
+            DefiningEntity::Op(op) => self.put_node(text, IRNode::Operation(op))?,
+            DefiningEntity::Block(block) => self.put_node(text, IRNode::BasicBlock(block))?,
+        }
+        let index = value.index();
+        write!(text, ".{index}")
+    }
+}
+
+// The place of a pointer in a list.
+fn place_of<T: Copy + PartialEq>(nodes: &[Ptr<T>], node: Ptr<T>) -> Option<usize> {
+    nodes.iter().position(|other| *other == node)
+}
+
+fn put_name(text: &mut String, letter: &str, place: Option<usize>) -> Result<(), AllocError> {
+    match place {
+        None => text.push_str(" unknown"),
+        Some(place) => write!(text, "{letter}{place}"),
+    }
+}

@@ -1,0 +1,207 @@
+//! The scripts of texts, with their answers.
+use super::reading::{ask_attr, read, read_beginnings, read_nested};
+use plir_scripts::{Bench, Layer, Line, Mismatch, NodeCalls, Stop, play};
+
+/// The calls of this crate, and those on nodes.
+struct TextCalls;
+
+impl Layer for TextCalls {
+    fn run(bench: &mut Bench, line: Line<'_>) -> Result<(), Stop> {
+        match line.command {
+            "read-type" | "read-integer" | "read-function" => read(bench, line),
+            "attr" | "verify" | "writable" | "typed-attr" => ask_attr(bench, line),
+            "nested-attr" | "nested-type" => read_nested(bench, line),
+            "beginnings-attr" | "beginnings-type" => read_beginnings(bench, line),
+            _ => NodeCalls::run(bench, line),
+        }
+    }
+}
+
+#[test]
+fn test_integer_parsing(rt: HostRuntime) -> Result<(), Mismatch> {
+    let script = "
+        read-integer si64 => t0
+        text t0 => builtin.integer si64
+        read-integer asi64 => Unexpected at 1:1";
+    play::<TextCalls>(rt.alloc(), 100, script)
+}
+
+#[test]
+fn test_fntype_parsing(rt: HostRuntime) -> Result<(), Mismatch> {
+    let script = "
+        type builtin.integer si32 => t0
+        read-function <() -> (builtin.integer si32)> => t1
+        text t1 => builtin.function <()->(builtin.integer si32)>
+        read-type builtin.function <()->(builtin.integer si32)> => t1";
+    play::<TextCalls>(rt.alloc(), 100, script)
+}
+
+#[test]
+fn white_space_is_free(rt: HostRuntime) -> Result<(), Mismatch> {
+    let script = "
+        read-type ¶builtin.function\t<( builtin.integer\r¶si32 ,builtin.unit ) -> ( )>¶ => t0
+        read-type builtin.function <(builtin.integer si32, builtin.unit)->()> => t0
+        text t0 => builtin.function <(builtin.integer si32, builtin.unit)->()>
+        attr ¶builtin.given_names\t[ins,?,r0\r¶,r1]¶ => builtin.given_names [ins, ?, r0, r1]";
+    play::<TextCalls>(rt.alloc(), 100, script)
+}
+
+#[test]
+fn faults_stand_at_their_tokens(rt: HostRuntime) -> Result<(), Mismatch> {
+    let script = "
+        read-type builtin.integer => Unexpected at 1:16
+        read-type builtin.integer si => Unexpected at 1:19
+        read-type builtin.integer i64x => Unexpected at 1:20
+        read-type builtin.unit x => Unexpected at 1:14
+        read-type builtin.function¶ <()- >()> => Unexpected at 2:5
+        read-type builtin.function <(é => Unexpected at 1:20
+        read-type builtin.function <(\"\\k => Unexpected at 1:20
+        read-type sample.type => Unexpected at 1:1
+        read-type => Unexpected at 1:1
+        read-type builtin.integer si4294967296 => IntegerOutOfRange at 1:19";
+    play::<TextCalls>(rt.alloc(), 100, script)
+}
+
+#[test]
+fn beginnings_are_unexpected(rt: HostRuntime) -> Result<(), Mismatch> {
+    let script = "
+        beginnings-type builtin.function <( builtin.integer si32 ,builtin.unit ) -> ( )> => unexpected
+        beginnings-attr builtin.dict [a = builtin.string \"\\u{7f}\", b = builtin.vec [builtin.integer <-1: si8>], c = builtin.given_names [x, ?]] => unexpected
+        beginnings-attr builtin.integer <18446744073709551615: i64> => unexpected
+        beginnings-attr builtin.string \"a\\\\b\\nc\\td\\re\\0f\\u{7f}\" => unexpected";
+    play::<TextCalls>(rt.alloc(), 100, script)
+}
+
+#[test]
+fn two_hundred_levels(rt: HostRuntime) -> Result<(), Mismatch> {
+    let script = "
+        nested-type 199 | builtin.function <( | builtin.unit | )->()> => read
+        nested-type 200 | builtin.function <( | builtin.unit | )->()> => TooDeep at 1:3801
+        nested-type 199 | builtin.function <( | | => Unexpected at 1:3782
+        nested-attr 200 | builtin.vec [ | | ] => read
+        nested-attr 201 | builtin.vec [ | | ] => TooDeep at 1:2601
+        nested-attr 200 | builtin.vec [ | | => Unexpected at 1:2601";
+    play::<TextCalls>(rt.alloc(), 100, script)
+}
+
+#[test]
+fn a_literal_of_a_thousand_digits(rt: HostRuntime) -> Result<(), Mismatch> {
+    let script = "
+        nested-attr 1000 builtin.integer < | 7 | : ui64> | => IntegerOutOfRange at 1:18
+        nested-attr 1000 builtin.integer < | 9 | : i64> | => IntegerOutOfRange at 1:18";
+    play::<TextCalls>(rt.alloc(), 100, script)
+}
+
+#[test]
+fn test_integer_attribute_signs(rt: HostRuntime) -> Result<(), Mismatch> {
+    let script = "
+        attr builtin.integer <18446744073709551615: i64> => builtin.integer <-1: i64>
+        attr builtin.integer <255: ui8> => builtin.integer <255: ui8>
+        attr builtin.integer <1: i1> => builtin.integer <1: i1>
+        attr builtin.integer <-1: i1> => builtin.integer <1: i1>
+        attr builtin.integer <-128: ui8> => builtin.integer <128: ui8>
+        attr builtin.integer <1: si1> => builtin.integer <-1: si1>
+        attr builtin.integer <+42: si64> => builtin.integer <42: si64>
+        attr builtin.integer <-1: i64> => builtin.integer <-1: i64>
+        attr builtin.integer <42: si64> => builtin.integer <42: si64>
+        attr builtin.integer <-42: si64> => builtin.integer <-42: si64>
+        attr builtin.integer <0: si64> => builtin.integer <0: si64>
+        attr builtin.integer <15: si64> => builtin.integer <15: si64>
+        attr builtin.integer <-9223372036854775808: i64> => builtin.integer <-9223372036854775808: i64>";
+    play::<TextCalls>(rt.alloc(), 100, script)
+}
+
+#[test]
+fn integers_that_are_refused(rt: HostRuntime) -> Result<(), Mismatch> {
+    let script = "
+        attr builtin.integer <256: ui8> => IntegerOutOfRange at 1:18
+        attr builtin.integer <-129: ui8> => IntegerOutOfRange at 1:18
+        attr builtin.integer <2: i1> => IntegerOutOfRange at 1:18
+        attr builtin.integer <-9223372036854775809: i64> => IntegerOutOfRange at 1:18
+        attr builtin.integer <18446744073709551616: ui64> => IntegerOutOfRange at 1:18
+        attr builtin.integer <1-2: si64> => Unexpected at 1:19
+        attr builtin.integer <++4: si64> => Unexpected at 1:19
+        attr builtin.integer <0: builtin.unit> => Unexpected at 1:21
+        attr builtin.integer <0: i65> => IntegerWidthUnsupported at 1:21
+        attr builtin.integer <9: i0> => IntegerWidthUnsupported at 1:21
+        attr builtin.operand_segment_sizes [4294967296] => IntegerOutOfRange at 1:32
+        attr builtin.operand_segment_sizes [+1] => Unexpected at 1:32";
+    play::<TextCalls>(rt.alloc(), 100, script)
+}
+
+#[test]
+fn test_string_attributes(rt: HostRuntime) -> Result<(), Mismatch> {
+    let script = "
+        attr builtin.string \"hello\" => builtin.string \"hello\"
+        attr builtin.string \"world\" => builtin.string \"world\"
+        attr builtin.string \"hello \\\"world\\\"\" => builtin.string \"hello \\\"world\\\"\"
+        attr builtin.string \"a\\\\b\\nc\\td\\re\\0f\\u{7f}\" => builtin.string \"a\\\\b\\nc\\td\\re\\0f\\u{7f}\"
+        attr builtin.string \"\" => builtin.string \"\"
+        attr builtin.string \"a\\u{b}\\u{1f}é\" => builtin.string \"a\\u{b}\\u{1f}é\"
+        attr builtin.string \"hello \\k \" => BadEscape at 1:23
+        attr builtin.string \"hello \\u{d800}\" => BadEscape at 1:23
+        attr builtin.string \"ab => Unexpected at 1:19";
+    play::<TextCalls>(rt.alloc(), 100, script)
+}
+
+#[test]
+fn test_type_attributes(rt: HostRuntime) -> Result<(), Mismatch> {
+    let script = "
+        type builtin.integer si64 => t0
+        typed-attr builtin.type builtin.integer si64 => t0
+        attr builtin.type builtin.integer si64 => builtin.type builtin.integer si64";
+    play::<TextCalls>(rt.alloc(), 100, script)
+}
+
+#[test]
+fn test_operand_segment_sizes_attr(rt: HostRuntime) -> Result<(), Mismatch> {
+    let script = "
+        attr builtin.operand_segment_sizes [1, 2, 3] => builtin.operand_segment_sizes [1, 2, 3]
+        attr builtin.operand_segment_sizes [] => builtin.operand_segment_sizes []";
+    play::<TextCalls>(rt.alloc(), 100, script)
+}
+
+#[test]
+fn attributes_in_attributes(rt: HostRuntime) -> Result<(), Mismatch> {
+    let script = "
+        attr builtin.dict [b = builtin.bool true, a = builtin.unit, b = builtin.bool false] => builtin.dict [a = builtin.unit, b = builtin.bool false]
+        attr builtin.vec [ builtin.operand_segment_sizes [1,2] ,builtin.type builtin.unit ] => builtin.vec [builtin.operand_segment_sizes [1, 2], builtin.type builtin.unit]
+        attr builtin.vec[builtin.dict[]] => builtin.vec [builtin.dict []]
+        attr builtin.identifier a1_ => builtin.identifier a1_";
+    play::<TextCalls>(rt.alloc(), 100, script)
+}
+
+#[test]
+fn lists_with_types_are_writable(rt: HostRuntime) -> Result<(), Mismatch> {
+    let script = "
+        writable builtin.vec [builtin.vec [builtin.type builtin.integer si8]] => yes";
+    play::<TextCalls>(rt.alloc(), 100, script)
+}
+
+#[test]
+fn attributes_are_verified(rt: HostRuntime) -> Result<(), Mismatch> {
+    let script = "
+        verify builtin.integer <3: si8> => ok
+        verify builtin.vec [builtin.integer <3: si8>, builtin.dict [a = builtin.integer <1: i1>]] => ok";
+    play::<TextCalls>(rt.alloc(), 100, script)
+}
+
+#[test]
+fn attributes_are_read_and_printed_where_memory_is_refused(
+    rt: HostRuntime,
+) -> Result<(), Mismatch> {
+    let script = "
+        attr builtin.dict [a = builtin.string \"b\\n\", c = builtin.vec [builtin.integer <-1: si8>], d = builtin.given_names [x, ?]] => builtin.dict [a = builtin.string \"b\\n\", c = builtin.vec [builtin.integer <-1: si8>], d = builtin.given_names [x, ?]]
+        text t0 => refused
+        type builtin.integer si8 => t0";
+    play::<TextCalls>(rt.alloc(), 100, script)
+}
+
+#[test]
+fn types_are_read_where_memory_is_refused(rt: HostRuntime) -> Result<(), Mismatch> {
+    let script = "
+        read-integer si8 => t0
+        read-type builtin.unit => t1
+        read-function <(builtin.unit)->()> => t2";
+    play::<TextCalls>(rt.alloc(), 100, script)
+}

@@ -1,0 +1,538 @@
+//! The scripts of walks and names, with their answers.
+use super::naming::name;
+use super::walking::walk;
+use plir_scripts::{Bench, Layer, Line, Mismatch, NodeCalls, Stop, play};
+
+/// The calls of this crate, and those on nodes.
+struct WalkCalls;
+
+impl Layer for WalkCalls {
+    fn run(bench: &mut Bench, line: Line<'_>) -> Result<(), Stop> {
+        match line.command {
+            "look" | "plainly-look" | "change" | "plainly-change" => walk(bench, line),
+            "set-name" | "insert-name" | "remove-name" | "names" | "erase-names" => {
+                name(bench, line)
+            }
+            _ => NodeCalls::run(bench, line),
+        }
+    }
+}
+
+#[test]
+fn one_order_and_direction_at_all_levels(rt: HostRuntime) -> Result<(), Mismatch> {
+    let script = "
+        op module 1 => o0
+        block => b0
+        back b0 r0
+        op func 1 => o1
+        block => b1
+        back b1 r1
+        back o1 b0
+        op func 1 => o2
+        block => b2
+        back b2 r2
+        back o2 b0
+        look pre-fwd o0 => o0 r0 b0 o1 r1 b1 o2 r2 b2 advance
+        look post-rev o0 => b2 r2 o2 b1 r1 o1 b0 r0 o0 advance
+        look pre-rev o0 => o0 r0 b0 o2 r2 b2 o1 r1 b1 advance
+        look post-fwd o0 => b1 r1 o1 b2 r2 o2 b0 r0 o0 advance";
+    play::<WalkCalls>(rt.alloc(), 100, script)
+}
+
+#[test]
+fn orders_and_directions_may_be_mixed(rt: HostRuntime) -> Result<(), Mismatch> {
+    let script = "
+        op module 1 => o0
+        block => b0
+        back b0 r0
+        op func 1 => o1
+        block => b1
+        back b1 r1
+        back o1 b0
+        op func 1 => o2
+        block => b2
+        back b2 r2
+        back o2 b0
+        look post-fwd/pre-rev/pre-fwd o0 => r0 b0 r2 b2 o2 r1 b1 o1 o0 advance";
+    play::<WalkCalls>(rt.alloc(), 100, script)
+}
+
+#[test]
+fn a_skip_before_leaves_out_what_is_below(rt: HostRuntime) -> Result<(), Mismatch> {
+    let script = "
+        op module 1 => o0
+        block => b0
+        back b0 r0
+        op func 1 => o1
+        block => b1
+        back b1 r1
+        back o1 b0
+        op func 1 => o2
+        block => b2
+        back b2 r2
+        back o2 b0
+        look pre-fwd o0 skip o1 => o0 r0 b0 o1 o2 r2 b2 advance
+        look pre-fwd o0 skip o0 => o0 advance
+        look post-fwd o0 skip o0, skip r0, skip b0, skip o1, skip r1, skip b1, skip o2, skip r2, skip b2 => b1 r1 o1 b2 r2 o2 b0 r0 o0 advance";
+    play::<WalkCalls>(rt.alloc(), 100, script)
+}
+
+#[test]
+fn a_break_ends_the_walk(rt: HostRuntime) -> Result<(), Mismatch> {
+    let script = "
+        op module 1 => o0
+        block => b0
+        back b0 r0
+        op func 1 => o1
+        block => b1
+        back b1 r1
+        back o1 b0
+        op func 1 => o2
+        block => b2
+        back b2 r2
+        back o2 b0
+        look pre-fwd o0 break o1 => o0 r0 b0 o1 break 7
+        change pre-fwd o0 break o1 => o0 r0 b0 o1 break 7";
+    play::<WalkCalls>(rt.alloc(), 100, script)
+}
+
+#[test]
+fn a_walk_stays_under_its_root(rt: HostRuntime) -> Result<(), Mismatch> {
+    let script = "
+        op module 1 => o0
+        block => b0
+        back b0 r0
+        op func 1 => o1
+        block => b1
+        back b1 r1
+        back o1 b0
+        op func 1 => o2
+        block => b2
+        back b2 r2
+        back o2 b0
+        look pre-fwd r0 => r0 b0 o1 r1 b1 o2 r2 b2 advance
+        look pre-fwd b1 => b1 advance
+        look pre-fwd o1 => o1 r1 b1 advance
+        look pre-rev o1 => o1 r1 b1 advance
+        look post-fwd o1 => b1 r1 o1 advance
+        look post-rev o1 => b1 r1 o1 advance";
+    play::<WalkCalls>(rt.alloc(), 100, script)
+}
+
+#[test]
+fn each_walker_walks(rt: HostRuntime) -> Result<(), Mismatch> {
+    let script = "
+        op module 1 => o0
+        block => b0
+        back b0 r0
+        op func 1 => o1
+        block => b1
+        back b1 r1
+        back o1 b0
+        op func 1 => o2
+        block => b2
+        back b2 r2
+        back o2 b0
+        look pre-fwd o1 => o1 r1 b1 advance
+        look pre-fwd r1 => r1 b1 advance
+        look pre-fwd b1 => b1 advance
+        plainly-look pre-fwd o1 => o1 r1 b1 advance
+        plainly-look pre-fwd r1 => r1 b1 advance
+        plainly-look pre-fwd b1 => b1 advance
+        change pre-fwd o1 => o1 r1 b1 advance
+        change pre-fwd r1 => r1 b1 advance
+        change pre-fwd b1 => b1 advance
+        plainly-change pre-fwd o1 => o1 r1 b1 advance
+        plainly-change pre-fwd r1 => r1 b1 advance
+        plainly-change pre-fwd b1 => b1 advance";
+    play::<WalkCalls>(rt.alloc(), 100, script)
+}
+
+#[test]
+fn a_walk_makes_at_most_as_many_calls_as_its_limit(rt: HostRuntime) -> Result<(), Mismatch> {
+    let script = "
+        op module 1 => o0
+        block => b0
+        back b0 r0
+        op func 1 => o1
+        block => b1
+        back b1 r1
+        back o1 b0
+        op func 1 => o2
+        block => b2
+        back b2 r2
+        back o2 b0
+        change pre-fwd o0 limit 0 => limit
+        change pre-fwd o0 limit 8 => o0 r0 b0 o1 r1 b1 o2 r2 limit
+        change pre-fwd o0 limit 9 => o0 r0 b0 o1 r1 b1 o2 r2 b2 advance";
+    play::<WalkCalls>(rt.alloc(), 100, script)
+}
+
+#[test]
+fn a_plain_walk_ends_at_its_limit(rt: HostRuntime) -> Result<(), Mismatch> {
+    let script = "
+        op module 1 => o0
+        block => b0
+        back b0 r0
+        op func 1 => o1
+        block => b1
+        back b1 r1
+        back o1 b0
+        op func 1 => o2
+        block => b2
+        back b2 r2
+        back o2 b0
+        plainly-change pre-fwd o0 limit 8, at b0 label, at b1 label, at b2 label => o0 r0 b0 o1 r1 b1 o2 r2 limit
+        show b0 => b, in r0 o0, between - -, operations o1 o2 to o2, terminator -, arguments 0
+        show b1 => b, in r1 o1, between - -, operations to -, terminator -, arguments 0
+        show b2 => -, in r2 o2, between - -, operations to -, terminator -, arguments 0
+        plainly-change pre-fwd o0 limit 9, at b0 label, at b1 label, at b2 label => o0 r0 b0 o1 r1 b1 o2 r2 b2 advance
+        show b2 => b, in r2 o2, between - -, operations to -, terminator -, arguments 0
+        look pre-fwd o0 => o0 r0 b0 o1 r1 b1 o2 r2 b2 advance";
+    play::<WalkCalls>(rt.alloc(), 100, script)
+}
+
+#[test]
+fn what_a_call_erases_is_not_called(rt: HostRuntime) -> Result<(), Mismatch> {
+    let script = "
+        op module 1 => o0
+        block => b0
+        back b0 r0
+        op func 1 => o1
+        block => b1
+        back b1 r1
+        back o1 b0
+        op func 1 => o2
+        block => b2
+        back b2 r2
+        back o2 b0
+        change pre-fwd o0 limit 6, at b0 erase o2 => o0 r0 b0 o1 r1 b1 advance";
+    play::<WalkCalls>(rt.alloc(), 100, script)
+}
+
+#[test]
+fn what_a_call_erases_after_its_walk_was_called(rt: HostRuntime) -> Result<(), Mismatch> {
+    let script = "
+        op module 1 => o0
+        block => b0
+        back b0 r0
+        op func 1 => o1
+        block => b1
+        back b1 r1
+        back o1 b0
+        op func 1 => o2
+        block => b2
+        back b2 r2
+        back o2 b0
+        change post-fwd o0 limit 9, at b0 erase o2 => b1 r1 o1 b2 r2 o2 b0 r0 o0 advance";
+    play::<WalkCalls>(rt.alloc(), 100, script)
+}
+
+#[test]
+fn what_a_call_appends_is_called(rt: HostRuntime) -> Result<(), Mismatch> {
+    let script = "
+        op module 1 => o0
+        block => b0
+        back b0 r0
+        op func 1 => o1
+        block => b1
+        back b1 r1
+        back o1 b0
+        op func 1 => o2
+        block => b2
+        back b2 r2
+        back o2 b0
+        change pre-fwd o0 limit 12, at b0 append => o0 r0 b0 o1 r1 b1 o2 r2 b2 o3 r3 b3 advance";
+    play::<WalkCalls>(rt.alloc(), 100, script)
+}
+
+#[test]
+fn what_a_call_appends_counts_for_the_limit(rt: HostRuntime) -> Result<(), Mismatch> {
+    let script = "
+        op module 1 => o0
+        block => b0
+        back b0 r0
+        op func 1 => o1
+        block => b1
+        back b1 r1
+        back o1 b0
+        op func 1 => o2
+        block => b2
+        back b2 r2
+        back o2 b0
+        change pre-fwd o0 limit 9, at b0 append => o0 r0 b0 o1 r1 b1 o2 r2 b2 limit";
+    play::<WalkCalls>(rt.alloc(), 100, script)
+}
+
+#[test]
+fn a_new_node_in_an_old_slot_is_called(rt: HostRuntime) -> Result<(), Mismatch> {
+    let script = "
+        op module 1 => o0
+        block => b0
+        back b0 r0
+        op func 1 => o1
+        block => b1
+        back b1 r1
+        back o1 b0
+        op func 1 => o2
+        block => b2
+        back b2 r2
+        back o2 b0
+        change pre-fwd o0 limit 10, at b0 erase o2, at b0 append => o0 r0 b0 o1 r1 b1 o3 r3 b3 advance
+        number o3 => op3v2";
+    play::<WalkCalls>(rt.alloc(), 100, script)
+}
+
+#[test]
+fn a_call_may_change_the_tree_and_skip_it(rt: HostRuntime) -> Result<(), Mismatch> {
+    let script = "
+        op module 1 => o0
+        block => b0
+        back b0 r0
+        op func 1 => o1
+        block => b1
+        back b1 r1
+        back o1 b0
+        op func 1 => o2
+        block => b2
+        back b2 r2
+        back o2 b0
+        change pre-fwd o0 limit 10, at b0 erase o2, skip b0 => o0 r0 b0 advance";
+    play::<WalkCalls>(rt.alloc(), 100, script)
+}
+
+#[test]
+fn a_region_that_a_call_erases_is_not_called(rt: HostRuntime) -> Result<(), Mismatch> {
+    let script = "
+        op module 1 => o0
+        block => b0
+        back b0 r0
+        op func 1 => o1
+        block => b1
+        back b1 r1
+        back o1 b0
+        op func 1 => o2
+        block => b2
+        back b2 r2
+        back o2 b0
+        change pre-fwd o0 limit 10, at o1 clear => o0 r0 b0 o1 o2 r2 b2 advance";
+    play::<WalkCalls>(rt.alloc(), 100, script)
+}
+
+#[test]
+fn a_region_that_a_later_call_adds_is_not_called(rt: HostRuntime) -> Result<(), Mismatch> {
+    let script = "
+        op module 1 => o0
+        block => b0
+        back b0 r0
+        op func 1 => o1
+        block => b1
+        back b1 r1
+        back o1 b0
+        op func 1 => o2
+        block => b2
+        back b2 r2
+        back o2 b0
+        change post-fwd o0 limit 10, at o1 add => b1 r1 o1 b2 r2 o2 b0 r0 o0 advance";
+    play::<WalkCalls>(rt.alloc(), 100, script)
+}
+
+#[test]
+fn a_region_that_a_later_call_erases_was_called(rt: HostRuntime) -> Result<(), Mismatch> {
+    let script = "
+        op module 1 => o0
+        block => b0
+        back b0 r0
+        op func 1 => o1
+        block => b1
+        back b1 r1
+        back o1 b0
+        op func 1 => o2
+        block => b2
+        back b2 r2
+        back o2 b0
+        change post-fwd/pre-rev/pre-fwd o0 limit 10, at o2 clear => r0 b0 r2 b2 o2 r1 b1 o1 o0 advance";
+    play::<WalkCalls>(rt.alloc(), 100, script)
+}
+
+#[test]
+fn a_block_is_called_before_its_region_is_erased(rt: HostRuntime) -> Result<(), Mismatch> {
+    let script = "
+        op module 1 => o0
+        block => b0
+        back b0 r0
+        op func 1 => o1
+        block => b1
+        back b1 r1
+        back o1 b0
+        op func 1 => o2
+        block => b2
+        back b2 r2
+        back o2 b0
+        change post-fwd/pre-rev/pre-fwd o0 limit 10, at r2 append, at o2 clear => r0 b0 r2 b2 b3 o2 r1 b1 o1 o0 advance
+        number b3 => block4v1";
+    play::<WalkCalls>(rt.alloc(), 100, script)
+}
+
+#[test]
+fn test_block_arg_name(rt: HostRuntime) -> Result<(), Mismatch> {
+    let script = "
+        type builtin.unit => t0
+        block - t0 => b0
+        set-name b0 0 foo
+        names b0 => foo - - -";
+    play::<WalkCalls>(rt.alloc(), 100, script)
+}
+
+#[test]
+fn test_op_result_name_insert_remove_shift(rt: HostRuntime) -> Result<(), Mismatch> {
+    let script = "
+        type builtin.unit => t0
+        op plain 0 t0 t0 t0 => o0
+        set-name o0 0 r0
+        names o0 => r0 - - -
+        set-name o0 1 r1
+        names o0 => r0 r1 - -
+        insert-name o0 2 tail
+        names o0 => r0 r1 tail -
+        remove-name o0 2
+        names o0 => r0 r1 - -
+        insert-name o0 0 -
+        names o0 => - r0 r1 -
+        insert-name o0 0 ins
+        names o0 => ins - r0 r1
+        remove-name o0 0
+        names o0 => - r0 r1 -
+        remove-name o0 0
+        names o0 => r0 r1 - -";
+    play::<WalkCalls>(rt.alloc(), 100, script)
+}
+
+#[test]
+fn test_block_arg_name_insert_remove_shift(rt: HostRuntime) -> Result<(), Mismatch> {
+    let script = "
+        type builtin.unit => t0
+        block - t0 t0 t0 => b0
+        set-name b0 0 a0
+        names b0 => a0 - - -
+        set-name b0 1 a1
+        names b0 => a0 a1 - -
+        insert-name b0 2 tail
+        names b0 => a0 a1 tail -
+        remove-name b0 2
+        names b0 => a0 a1 - -
+        insert-name b0 0 -
+        names b0 => - a0 a1 -
+        insert-name b0 0 ins
+        names b0 => ins - a0 a1
+        remove-name b0 0
+        names b0 => - a0 a1 -
+        remove-name b0 0
+        names b0 => a0 a1 - -";
+    play::<WalkCalls>(rt.alloc(), 100, script)
+}
+
+#[test]
+fn names_are_erased(rt: HostRuntime) -> Result<(), Mismatch> {
+    let script = "
+        type builtin.unit => t0
+        op plain 0 t0 t0 t0 => o0
+        set-name o0 0 r0
+        names o0 => r0 - - -
+        set-name o0 1 r1
+        names o0 => r0 r1 - -
+        insert-name o0 2 tail
+        names o0 => r0 r1 tail -
+        remove-name o0 2
+        names o0 => r0 r1 - -
+        insert-name o0 0 -
+        names o0 => - r0 r1 -
+        insert-name o0 0 ins
+        names o0 => ins - r0 r1
+        get o0 builtin_given_names => builtin.given_names [ins, ?, r0, r1]
+        erase-names o0
+        names o0 => - - - -
+        get o0 builtin_given_names => none";
+    play::<WalkCalls>(rt.alloc(), 100, script)
+}
+
+#[test]
+fn a_list_with_no_name_set_is_taken_out(rt: HostRuntime) -> Result<(), Mismatch> {
+    let script = "
+        type builtin.unit => t0
+        op plain 0 t0 => o0
+        insert-name o0 1 b
+        names o0 => - b - -
+        remove-name o0 0
+        names o0 => b - - -
+        remove-name o0 0
+        get o0 builtin_given_names => none
+        set-name o0 0 a
+        names o0 => a - - -
+        set-name o0 0 -
+        get o0 builtin_given_names => none
+        set-name o0 0 -
+        get o0 builtin_given_names => none
+        insert-name o0 1 -
+        get o0 builtin_given_names => none
+        remove-name o0 0
+        get o0 builtin_given_names => none
+        set-name o0 1 a => refused
+        insert-name o0 2 a => refused
+        remove-name o0 1 => refused";
+    play::<WalkCalls>(rt.alloc(), 100, script)
+}
+
+#[test]
+fn an_attribute_of_another_kind_stays(rt: HostRuntime) -> Result<(), Mismatch> {
+    let script = "
+        type builtin.unit => t0
+        op plain 0 t0 => o0
+        set o0 builtin_given_names builtin.string \"names\"
+        set-name o0 0 a => incorrect
+        insert-name o0 0 - => incorrect
+        remove-name o0 0 => incorrect
+        names o0 => - - - -
+        erase-names o0
+        get o0 builtin_given_names => builtin.string \"names\"";
+    play::<WalkCalls>(rt.alloc(), 100, script)
+}
+
+#[test]
+fn names_stay_where_memory_is_refused(rt: HostRuntime) -> Result<(), Mismatch> {
+    let script = "
+        type builtin.unit => t0
+        op plain 0 t0 t0 t0 => o0
+        set-name o0 0 a
+        names o0 => a - - -
+        set-name o0 2 c
+        names o0 => a - c -
+        insert-name o0 1 b
+        names o0 => a b - c";
+    play::<WalkCalls>(rt.alloc(), 100, script)
+}
+
+#[test]
+fn names_below_are_erased(rt: HostRuntime) -> Result<(), Mismatch> {
+    let script = "
+        op module 1 => o0
+        block => b0
+        back b0 r0
+        op func 1 => o1
+        block => b1
+        back b1 r1
+        back o1 b0
+        op func 1 => o2
+        block => b2
+        back b2 r2
+        back o2 b0
+        type builtin.unit => t0
+        op plain 0 t0 t0 t0 => o3
+        back o3 b1
+        set-name o3 2 c
+        label b1 body
+        erase-names o0
+        get o3 builtin_given_names => none
+        show b1 => -, in r1 o1, between - -, operations o3 to o3, terminator -, arguments 0";
+    play::<WalkCalls>(rt.alloc(), 100, script)
+}

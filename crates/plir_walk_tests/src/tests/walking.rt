@@ -1,0 +1,215 @@
+//! The calls that walk a tree.
+ghost use Rattle.plir_core.specs.Store.{IsLive};
+ghost use Rattle.plir_core.specs.declared.ptr.IRNode.{IRNode as AnyNode};
+ghost use Rattle.plir_walk.specs.Forest.{Lawful};
+ghost use Rattle.plir_walk.specs.View.{look};
+
+use super::changes::{NOT_DONE, visit};
+use super::plan::{Plan, read_plan};
+use plir_core::{Context, IRNode};
+use plir_scripts::{Bench, Line, Made, SampleSet, Stop};
+use plir_walk::interruptible::{WalkResult, walk_advance, walk_break};
+use plir_walk::{
+    CallLimit, Direction, Order, WALKCONFIG_POSTORDER_FORWARD, WALKCONFIG_POSTORDER_REVERSE,
+    WALKCONFIG_PREORDER_FORWARD, WALKCONFIG_PREORDER_REVERSE, WalkConfig, interruptible,
+    uninterruptible,
+};
+use std::alloc::Global;
+use std::fmt::Write;
+use std::ops::ControlFlow;
+
+/// Does what a line says that walks: `look SETTING ROOT PLAN` and `plainly-look SETTING ROOT PLAN` by a callback that
+/// only reads, `change SETTING ROOT PLAN` and `plainly-change SETTING ROOT PLAN` by one that follows the plan. Writes
+/// the called nodes and the walk's answer. Nodes that the walk has made are named as they are called.
+pub fn walk(bench: &mut Bench, line: Line<'_>) -> Result<(), Stop> {
+    let config = config_of(line.first)?;
+    let root = bench.made.live(&bench.ctx, line.second)?;
+    let plan = read_plan(bench, line.tail)?;
+    let mut called = Vec::new(bench.alloc);
+    called.reserve(32)?;
+    let found = match line.command {
+        "look" => Ok(look_at(&bench.ctx, &config, root, &plan, &mut called)),
+        "plainly-look" => {
+            look_plainly(&bench.ctx, &config, root, &mut called);
+            Ok(walk_advance())
+        }
+        "change" => change(
+            bench.alloc,
+            &mut bench.ctx,
+            &config,
+            root,
+            &plan,
+            &mut called,
+        ),
+        _ => change_plainly(
+            bench.alloc,
+            &mut bench.ctx,
+            &config,
+            root,
+            &plan,
+            &mut called,
+        ),
+    };
+    name_new(&mut bench.made, called.as_slice())?;
+    put_walk(&bench.made, &mut bench.answer, called.as_slice(), found)
+}
+
+// A setting: `pre-fwd` and its kin, or three of them for the regions of operations, the operations of blocks and the
+// blocks of regions, parted by `/`.
+fn config_of(word: &str) -> Result<WalkConfig, Stop> {
+    match word {
+        "pre-fwd" => return Ok(WALKCONFIG_PREORDER_FORWARD),
+        "post-fwd" => return Ok(WALKCONFIG_POSTORDER_FORWARD),
+        "pre-rev" => return Ok(WALKCONFIG_PREORDER_REVERSE),
+        "post-rev" => return Ok(WALKCONFIG_POSTORDER_REVERSE),
+        _ => {}
+    }
+    let (regions, rest) = word.split_once('/').ok_or(Stop::Refused)?;
+    let (ops, blocks) = rest.split_once('/').ok_or(Stop::Refused)?;
+    Ok(WalkConfig {
+        regions_in_op: pair_of(regions)?,
+        ops_in_block: pair_of(ops)?,
+        blocks_in_region: pair_of(blocks)?,
+    })
+}
+
+fn pair_of(word: &str) -> Result<(Order, Direction), Stop> {
+    match word {
+        "pre-fwd" => Ok((Order::PreOrder, Direction::Forward)),
+        "post-fwd" => Ok((Order::PostOrder, Direction::Forward)),
+        "pre-rev" => Ok((Order::PreOrder, Direction::Reverse)),
+        "post-rev" => Ok((Order::PostOrder, Direction::Reverse)),
+        _ => Err(Stop::Refused),
+    }
+}
+
+/// Walks with a callback that notes its node and answers by the plan.
+pub fn look_at(
+    ctx: &Context<SampleSet>,
+    config: &WalkConfig,
+    root: IRNode,
+    plan: &Plan,
+    called: &mut Vec<IRNode>,
+) -> WalkResult<u32>
+    requires { IsLive ctx.now root }
+{
+    use interruptible::immutable::{walk_block, walk_op, walk_region};
+    let note = |_ctx: &Context<SampleSet>, called: &mut Vec<IRNode>, node: IRNode| -> WalkResult<
+        u32,
+    > {
+        match called.push(node) {
+            Ok(()) => plan.answer(node),
+            Err(_) => walk_break(NOT_DONE),
+        }
+    };
+    match root {
+        IRNode::Operation(op) => walk_op(ctx, called, config, op, note),
+        IRNode::Region(region) => walk_region(ctx, called, config, region, note),
+        IRNode::BasicBlock(block) => walk_block(ctx, called, config, block, note),
+    }
+}
+
+// The same with a callback that always advances.
+fn look_plainly(
+    ctx: &Context<SampleSet>,
+    config: &WalkConfig,
+    root: IRNode,
+    called: &mut Vec<IRNode>,
+)
+    requires { IsLive ctx.now root }
+{
+    use uninterruptible::immutable::{walk_block, walk_op, walk_region};
+    let note = |_ctx: &Context<SampleSet>, called: &mut Vec<IRNode>, node: IRNode| {
+        let _noted = called.push(node);
+    };
+    match root {
+        IRNode::Operation(op) => walk_op(ctx, called, config, op, note),
+        IRNode::Region(region) => walk_region(ctx, called, config, region, note),
+        IRNode::BasicBlock(block) => walk_block(ctx, called, config, block, note),
+    }
+}
+
+/// Walks with a callback that notes its node and follows the plan.
+pub fn change(
+    alloc: Global,
+    ctx: &mut Context<SampleSet>,
+    config: &WalkConfig,
+    root: IRNode,
+    plan: &Plan,
+    called: &mut Vec<IRNode>,
+) -> Result<WalkResult<u32>, CallLimit>
+    requires { IsLive ctx.old root }
+{
+    use interruptible::mutable::{walk_block, walk_op, walk_region};
+    let follow = |ctx: &mut Context<SampleSet>, called: &mut Vec<
+        IRNode,
+    >, node: IRNode| -> WalkResult<u32>
+        requires { IsLive ctx.old node }
+        ensures { Lawful (look ctx.old) node (look ctx.new) }
+    { visit(alloc, ctx, called, plan, node) };
+    let limit = plan.limit;
+    match root {
+        IRNode::Operation(op) => walk_op(ctx, called, config, op, limit, follow),
+        IRNode::Region(region) => walk_region(ctx, called, config, region, limit, follow),
+        IRNode::BasicBlock(block) => walk_block(ctx, called, config, block, limit, follow),
+    }
+}
+
+// The same with a callback that always advances.
+fn change_plainly(
+    alloc: Global,
+    ctx: &mut Context<SampleSet>,
+    config: &WalkConfig,
+    root: IRNode,
+    plan: &Plan,
+    called: &mut Vec<IRNode>,
+) -> Result<WalkResult<u32>, CallLimit>
+    requires { IsLive ctx.old root }
+{
+    use uninterruptible::mutable::{walk_block, walk_op, walk_region};
+    let follow = |ctx: &mut Context<SampleSet>, called: &mut Vec<IRNode>, node: IRNode|
+        requires { IsLive ctx.old node }
+        ensures { Lawful (look ctx.old) node (look ctx.new) }
+    {
+        let _answer = visit(alloc, ctx, called, plan, node);
+    };
+    let limit = plan.limit;
+    let found = match root {
+        IRNode::Operation(op) => walk_op(ctx, called, config, op, limit, follow),
+        IRNode::Region(region) => walk_region(ctx, called, config, region, limit, follow),
+        IRNode::BasicBlock(block) => walk_block(ctx, called, config, block, limit, follow),
+    };
+    found.map(|()| walk_advance())
+}
+
+// Names the called nodes that have no name.
+fn name_new(made: &mut Made, called: &[IRNode]) -> Result<(), Stop> {
+    for node in called {
+        match node {
+            IRNode::Operation(op) if !made.ops.contains(op) => made.ops.push(*op)?,
+            IRNode::Region(region) if !made.regions.contains(region) => made.regions.push(*region)?,
+            IRNode::BasicBlock(block) if !made.blocks.contains(block) => made.blocks.push(*block)?,
+            _ => {}
+        }
+    }
+    Ok(())
+}
+
+// Writes the names of the called nodes, and the walk's answer.
+fn put_walk(
+    made: &Made,
+    text: &mut String,
+    called: &[IRNode],
+    found: Result<WalkResult<u32>, CallLimit>,
+) -> Result<(), Stop> {
+    for node in called {
+        made.put_node(text, *node)?;
+    }
+    match found {
+        Err(CallLimit) => text.push_str(" limit")?,
+        Ok(ControlFlow::Break(value)) => write!(text, " break {value}")?,
+        Ok(ControlFlow::Continue(answer)) if answer.is_advance() => text.push_str(" advance")?,
+        Ok(ControlFlow::Continue(_)) => text.push_str(" skip")?,
+    }
+    Ok(())
+}
