@@ -54,7 +54,7 @@ impl<O, B> Model for Arena<O, B> {
     }) };
 }
 
-impl<O: Drop, B: Drop> Arena<O, B> {
+impl<O, B> Arena<O, B> {
     /// No nodes, and room for as many as `limit`.
     pub(crate) fn new(alloc: Global, limit: u32) -> Self
         ensures empty { result ≡ empty limit }

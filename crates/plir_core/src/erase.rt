@@ -9,7 +9,7 @@ ghost use Rattle.plir_core.specs.Erase.{without_node, erased, IsErased};
 use crate::arena::Arena;
 use crate::ptr::IRNode;
 
-impl<O: Drop, B: Drop> Arena<O, B> {
+impl<O, B> Arena<O, B> {
     /// The first kid of a node of any kind.
     pub(crate) fn first_kid(&self, node: IRNode) -> Option<IRNode>
         requires { is_node_live self.now node ≡ true }
@@ -34,6 +34,24 @@ impl<O: Drop, B: Drop> Arena<O, B> {
         }
     }
 
+    /// Whether a node is another one or stands above it.
+    pub(crate) fn is_ancestor(&self, ancestor: IRNode, node: IRNode) -> bool
+        requires { is_node_live self.now node ≡ true }
+        ensures { IsTrue result ↔ Reaches (node_parent self.now) node ancestor }
+    {
+        let _limit = &self.limit;
+        let mut at = Some(node);
+        while let Some(current) = at {
+            if current == ancestor {
+                return true;
+            }
+            at = self.parent(current);
+        }
+        false
+    }
+}
+
+impl<O: Drop, B: Drop> Arena<O, B> {
     // Takes a node without kids out of its list and frees its slot.
     fn free(&mut self, node: IRNode)
         requires live { is_node_live self.old node ≡ true }
@@ -81,21 +99,5 @@ impl<O: Drop, B: Drop> Arena<O, B> {
                 }
             }
         }
-    }
-
-    /// Whether a node is another one or stands above it.
-    pub(crate) fn is_ancestor(&self, ancestor: IRNode, node: IRNode) -> bool
-        requires { is_node_live self.now node ≡ true }
-        ensures { IsTrue result ↔ Reaches (node_parent self.now) node ancestor }
-    {
-        let _limit = &self.limit;
-        let mut at = Some(node);
-        while let Some(current) = at {
-            if current == ancestor {
-                return true;
-            }
-            at = self.parent(current);
-        }
-        false
     }
 }

@@ -72,6 +72,33 @@ fn fill<T: Drop>(
     }
 }
 
+impl<O, B> Arena<O, B> {
+    /// A new region with no block, the last one of an operation. After a refusal all is as before.
+    pub(crate) fn make_region(&mut self, op: Ptr<Operation>) -> Result<Ptr<Region>, NodeErr>
+        requires { is_node_live self.old (IRNode.Operation op) ≡ true }
+        ensures ok { OnOk result (self.new ≡ with_new_region self.old op.slot) }
+        ensures pointer { IfOk result (λ p. p ≡ ptr_at self.new.regions (next_slot self.old.regions)) }
+        ensures live { IfOk result (λ p. is_node_live self.new (IRNode.Region p) ≡ true) }
+        ensures fresh { IfOk result (λ p. was_given_out self.old (IRNode.Region p) ≡ false) }
+        ensures given { (n : IRNode) → was_given_out self.old n ≡ true → was_given_out self.new n ≡ true }
+        ensures err { OnErr result (self.new ≡ self.old) }
+        ensures too_many { (result ≡ Err NodeErr.TooManyNodes) ↔ ((num_nodes self.old ≡ self.old.limit) ⊎ (2 ^ 32 - 1 ≤ next_slot self.old.regions)) }
+        ensures forest { IsForest self.new }
+    {
+        if self.num_live() == self.limit || self.regions.next_slot() >= u32::MAX as usize {
+            return Err(NodeErr::TooManyNodes);
+        }
+        let slot = fill(
+            &mut self.regions,
+            &mut self.blocks_in_region,
+            &mut self.regions_in_op,
+            Region,
+        )?;
+        self.regions_in_op.push_back(op.slot, slot);
+        Ok(Ptr::new(slot, self.regions.version(slot)))
+    }
+}
+
 impl<O: Drop, B: Drop> Arena<O, B> {
     /// A new operation, in no block and with no region. After a refusal all is as before.
     pub(crate) fn make_op(&mut self, value: O) -> Result<Ptr<Operation>, NodeErr>
@@ -118,31 +145,6 @@ impl<O: Drop, B: Drop> Arena<O, B> {
             value,
         )?;
         Ok(Ptr::new(slot, self.blocks.version(slot)))
-    }
-
-    /// A new region with no block, the last one of an operation. After a refusal all is as before.
-    pub(crate) fn make_region(&mut self, op: Ptr<Operation>) -> Result<Ptr<Region>, NodeErr>
-        requires { is_node_live self.old (IRNode.Operation op) ≡ true }
-        ensures ok { OnOk result (self.new ≡ with_new_region self.old op.slot) }
-        ensures pointer { IfOk result (λ p. p ≡ ptr_at self.new.regions (next_slot self.old.regions)) }
-        ensures live { IfOk result (λ p. is_node_live self.new (IRNode.Region p) ≡ true) }
-        ensures fresh { IfOk result (λ p. was_given_out self.old (IRNode.Region p) ≡ false) }
-        ensures given { (n : IRNode) → was_given_out self.old n ≡ true → was_given_out self.new n ≡ true }
-        ensures err { OnErr result (self.new ≡ self.old) }
-        ensures too_many { (result ≡ Err NodeErr.TooManyNodes) ↔ ((num_nodes self.old ≡ self.old.limit) ⊎ (2 ^ 32 - 1 ≤ next_slot self.old.regions)) }
-        ensures forest { IsForest self.new }
-    {
-        if self.num_live() == self.limit || self.regions.next_slot() >= u32::MAX as usize {
-            return Err(NodeErr::TooManyNodes);
-        }
-        let slot = fill(
-            &mut self.regions,
-            &mut self.blocks_in_region,
-            &mut self.regions_in_op,
-            Region,
-        )?;
-        self.regions_in_op.push_back(op.slot, slot);
-        Ok(Ptr::new(slot, self.regions.version(slot)))
     }
 
     /// A new operation in no block, with so many new regions. After a refusal no live node has changed, and the slots are as

@@ -9,7 +9,7 @@ ghost use Rattle.plir_core.specs.declared.ptr.IRNode.{IRNode};
 use crate::arena::Arena;
 use crate::ptr::{BasicBlock, Operation, Ptr, Region};
 
-impl<O: Drop, B: Drop> Arena<O, B> {
+impl<O, B> Arena<O, B> {
     /// Puts an operation that is in no block at the end of a block that it does not stand above.
     pub(crate) fn push_op(&mut self, op: Ptr<Operation>, target: Ptr<BasicBlock>)
         requires op_live { is_node_live self.old (IRNode.Operation op) ≡ true }

@@ -25,7 +25,7 @@ impl DefiningEntity {
     }
 }
 
-impl<O: Drop, B: Drop> Arena<O, B> {
+impl<O, B> Arena<O, B> {
     // How many slots of operations there are, free ones among them.
     fn num_op_slots(&self) -> u32
         ensures { result ≡ length self.now.ops.slots }

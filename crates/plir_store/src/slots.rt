@@ -120,7 +120,7 @@ fn push_slot<T: Drop>(
     }
 }
 
-impl<T: Drop> Slots<T> {
+impl<T> Slots<T> {
     ghost use Rattle.plir_store.specs.Lends.{LendsContent};
 
     /// No slot yet, and no memory taken.
@@ -220,6 +220,24 @@ impl<T: Drop> Slots<T> {
         self.free.is_none()
     }
 
+    /// Takes the value out of its slot, which is then the next to be used, or never again after its last version.
+    pub fn remove(&mut self, index: u32) -> T
+        requires { IsSome (content_at self.old index) }
+        ensures value { content_at self.old index ≡ Some result }
+        ensures after { self.new ≡ without_slot self.old index }
+        ensures count { num_full self.new + 1 ≡ num_full self.old }
+        ensures whole { IsTable self.new }
+    {
+        let value = self.places[index as usize].vacate(self.free);
+        if self.versions[index as usize] < u32::MAX {
+            self.free = Some(index);
+        }
+        self.live -= 1;
+        value
+    }
+}
+
+impl<T: Drop> Slots<T> {
     /// Puts a value into a slot, or gives it back where memory runs out.
     pub fn insert(&mut self, value: T) -> Result<u32, T>
         requires room { next_slot self.old < 2 ^ 32 - 1 }
@@ -256,21 +274,5 @@ impl<T: Drop> Slots<T> {
                 }
             }
         }
-    }
-
-    /// Takes the value out of its slot, which is then the next to be used, or never again after its last version.
-    pub fn remove(&mut self, index: u32) -> T
-        requires { IsSome (content_at self.old index) }
-        ensures value { content_at self.old index ≡ Some result }
-        ensures after { self.new ≡ without_slot self.old index }
-        ensures count { num_full self.new + 1 ≡ num_full self.old }
-        ensures whole { IsTable self.new }
-    {
-        let value = self.places[index as usize].vacate(self.free);
-        if self.versions[index as usize] < u32::MAX {
-            self.free = Some(index);
-        }
-        self.live -= 1;
-        value
     }
 }
