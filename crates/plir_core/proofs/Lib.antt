@@ -28,5 +28,6 @@ pub mod Links
 pub mod Answered
 pub mod Growing
 pub mod Editing
+pub mod Joining
 pub mod KidPlaces
 pub mod Indices

@@ -2,7 +2,7 @@
 ghost use Rattle.std.specs.Prelude.{◌≡◌, ◌∷◌, ◌++◌, ◌+◌, List, Some, slice_get};
 ghost use Rattle.plir_core.specs.Contents.{OpView, BlockView};
 ghost use Rattle.plir_core.specs.NodeLists.{head};
-ghost use Rattle.plir_core.specs.Store.{IsLive, kids, parent_of, first_kid, next_sibling, depth, IsIndexed};
+ghost use Rattle.plir_core.specs.Store.{IsLive, op_at, kids, parent_of, first_kid, next_sibling, depth, IsIndexed};
 ghost use Rattle.plir_core.specs.Changes.{with_op_edit, with_block_edit};
 ghost use Rattle.plir_core.specs.Held.{IsOpEdited, IsBlockEdited};
 ghost use Rattle.plir_core.specs.Grown.{Growth};
@@ -42,6 +42,15 @@ pub fn next_is_behind<D: OpSet>(ctx: &Context<D>, kid: IRNode)
 pub fn op_edits_keep_the_rest<D: OpSet>(ctx: &Context<D>, op: Ptr<Operation>)
     requires { IsLive ctx.now (AnyNode.Operation op) }
     ensures { (f : OpView D.Kind D.Attr → OpView D.Kind D.Attr) → IsOpEdited ctx.now (with_op_edit ctx.now op f) op f }
+{
+    let _count = ctx.num_live();
+}
+
+/// Two edits of what an operation holds are one: the second of what the first made. An edit is what it makes of what the
+/// operation holds.
+pub fn op_edits_join<D: OpSet>(ctx: &Context<D>, op: Ptr<Operation>)
+    ensures join { (f g : OpView D.Kind D.Attr → OpView D.Kind D.Attr) → with_op_edit (with_op_edit ctx.now op f) op g ≡ with_op_edit ctx.now op (λ o. g (f o)) }
+    ensures same { (f g : OpView D.Kind D.Attr → OpView D.Kind D.Attr) → ((o : OpView D.Kind D.Attr) → op_at ctx.now op ≡ Some o → f o ≡ g o) → with_op_edit ctx.now op f ≡ with_op_edit ctx.now op g }
 {
     let _count = ctx.num_live();
 }

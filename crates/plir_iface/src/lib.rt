@@ -28,6 +28,7 @@ pub use counts::{
     AtMostNResultsVerifyErr, NOpdsVerifyErr, NRegionsVerifyErr, NResultsVerifyErr,
     NotEnoughOperandsErr, NotEnoughResultsErr,
 };
+pub use ids::id_of_type;
 pub use index_range::{IndexRange, resolve_index_range};
 pub use kinds::{
     IsTerminatorInterface, IsolatedFromAboveInterface, NoTerminatorInterface, RegionKind,
@@ -58,8 +59,11 @@ pub use same_types::{
     SameOperandsAndResultType, SameOperandsAndResultTypeVerifyErr, SameOperandsType,
     SameOperandsTypeVerifyErr, SameResultsType, SameResultsTypeVerifyErr,
 };
+pub use side::Side;
 pub use type_errors::{
     AllOperandsOfTypeVerifyErr, AllResultsOfTypeVerifyErr, OperandNOfTypeError,
     OperandsMNOfTypeError, ResultNOfTypeError, ResultsMNOfTypeError, TypeInterfaceImplsErr,
     TypeRuleErr,
 };
+pub use type_tests::{Implementing, OfType, TypeTest, first_failing};
+pub use verdict::{accept_if, refusal};

@@ -87,7 +87,7 @@ pub(crate) fn passes_at<D: OpSet, Q: TypeTest<D>>(
 }
 
 /// The first place, from `start` on and before `end`, whose type fails a test.
-pub(crate) fn first_failing<D: OpSet, Q: TypeTest<D>>(
+pub fn first_failing<D: OpSet, Q: TypeTest<D>>(
     ctx: &Context<D>,
     op: Ptr<Operation>,
     side: Side,

@@ -9,7 +9,7 @@ use plir_core::{Context, Operation, Ptr};
 use plir_data::{OpSet, VerifyErr};
 
 /// Accepts where a rule holds, and else refuses by the error, at the operation's location.
-pub(crate) fn accept_if<D: OpSet, E: Drop>(
+pub fn accept_if<D: OpSet, E: Drop>(
     ctx: &Context<D>,
     op: Ptr<Operation>,
     holds: bool,
@@ -28,7 +28,7 @@ pub(crate) fn accept_if<D: OpSet, E: Drop>(
 }
 
 /// The refusal by an error, at the operation's location.
-pub(crate) fn refusal<D: OpSet, E: Drop>(
+pub fn refusal<D: OpSet, E: Drop>(
     ctx: &Context<D>,
     op: Ptr<Operation>,
     err: E,

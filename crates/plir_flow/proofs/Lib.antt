@@ -1,0 +1,6 @@
+-- The lemmas that proofs of this crate cite.
+pub mod SegmentLists
+pub mod SizesPut
+pub mod SegmentsPut
+pub mod Ranges
+pub mod Popping

@@ -1,0 +1,73 @@
+-- Sizes that are taken out to be edited, and put back.
+use Rattle.std.proofs.Common.{◌≡◌, ℕ, Bool, true, false, cond, List, [], ◌∷◌, Ordering, Less, Equal, Greater, Option, Some, None, IsSome, is_some, ◌&&◌, ◌==◌, nat_cmp, refl, sym, ap, subst, ◌∙◌}
+use Rattle.std.specs.Prelude.{option_map}
+use Rattle.std.proofs.lemmas.Cmp.{nat_list_cmp_total}
+use Rattle.std.specs.Ordering.{match_ordering, ordering_reverse, is_eq}
+use Rattle.std.specs.Cmp.Lexicographic.{slice_cmp}
+use Rattle.plir_data.specs.AttrView.{AttrView}
+use Rattle.plir_data.specs.Dictionary.{dict_get, dict_put}
+use Rattle.plir_store.specs.Table.{version_at}
+use Rattle.plir_core.specs.declared.ptr.Ptr.{Ptr}
+use Rattle.plir_core.specs.declared.ptr.Operation.{Operation as OperationKind}
+use Rattle.plir_core.specs.declared.ptr.IRNode.TheVariants.{Operation}
+use Rattle.plir_core.specs.Contents.{OpView}
+use Rattle.plir_core.specs.Store.{Store, IsLive, op_at, attributes_in, attributes_of}
+use Rattle.plir_core.specs.Changes.{with_op_edit}
+use Rattle.plir_core.specs.Held.{IsOpEdited}
+use Rattle.plir_flow.specs.Segments.{sizes_key, with_sizes}
+
+same-key : (k : List ℕ) → slice_cmp nat_cmp k k ≡ Equal
+same-key k = by (slice_cmp nat_cmp k k) (nat_list_cmp_total.antisymm k k)
+  where
+    by : (o : Ordering) → o ≡ ordering_reverse o → o ≡ Equal
+    by Less e = absurd (let z : ⊥ = cc (e) in z)
+    by Equal e = refl
+    by Greater e = absurd (let z : ⊥ = cc (e) in z)
+
+module _ {V : Type 0} where
+  -- of two values put under a key the second stays
+  pub put-put : (es : List (List ℕ × V)) (k : List ℕ) (u v : V) → dict_put (dict_put es k u) k v ≡ dict_put es k v
+  put-put [] k u v = ap (λ o. match_ordering o ((k, v) ∷ (k, u) ∷ []) ((k, v) ∷ []) ((k, u) ∷ (k, v) ∷ [])) (same-key k)
+  put-put (e ∷ es) k u v = by (slice_cmp nat_cmp k e.0) refl (put-put es k u v)
+    where
+      by : (o : Ordering) → slice_cmp nat_cmp k e.0 ≡ o → dict_put (dict_put es k u) k v ≡ dict_put es k v → dict_put (match_ordering o ((k, u) ∷ e ∷ es) ((e.0, u) ∷ es) (e ∷ dict_put es k u)) k v ≡ match_ordering o ((k, v) ∷ e ∷ es) ((e.0, v) ∷ es) (e ∷ dict_put es k v)
+      by Less is rest = ap (λ o. match_ordering o ((k, v) ∷ (k, u) ∷ e ∷ es) ((k, v) ∷ e ∷ es) ((k, u) ∷ dict_put (e ∷ es) k v)) (same-key k)
+      by Equal is rest = ap (λ o. match_ordering o ((k, v) ∷ (e.0, u) ∷ es) ((e.0, v) ∷ es) ((e.0, u) ∷ dict_put es k v)) is
+      by Greater is rest = ap (λ o. match_ordering o ((k, v) ∷ e ∷ dict_put es k u) ((e.0, v) ∷ dict_put es k u) (e ∷ dict_put (dict_put es k u) k v)) is ∙ ap (λ l. e ∷ l) rest
+
+  -- what is put under a key is there
+  pub get-put : (es : List (List ℕ × V)) (k : List ℕ) (v : V) → dict_get (dict_put es k v) k ≡ Some v
+  get-put [] k v = ap (λ o. cond (is_eq o) (Some v) None) (same-key k)
+  get-put (e ∷ es) k v = by (slice_cmp nat_cmp k e.0) refl (get-put es k v)
+    where
+      by : (o : Ordering) → slice_cmp nat_cmp k e.0 ≡ o → dict_get (dict_put es k v) k ≡ Some v → dict_get (match_ordering o ((k, v) ∷ e ∷ es) ((e.0, v) ∷ es) (e ∷ dict_put es k v)) k ≡ Some v
+      by Less is rest = ap (λ o. cond (is_eq o) (Some v) (dict_get (e ∷ es) k)) (same-key k)
+      by Equal is rest = ap (λ o. cond (is_eq o) (Some v) (dict_get es k)) is
+      by Greater is rest = ap (λ o. cond (is_eq o) (Some e.1) (dict_get (dict_put es k v) k)) is ∙ rest
+
+module _ {K A T : Type 0} (s : Store K A T) (op : Ptr OperationKind) where
+  -- two edits of the operation are one, and an edit is what it makes of what is held
+  abbrev pub Join : Type 0
+  Join = (f g : OpView K A → OpView K A) → with_op_edit (with_op_edit s op f) op g ≡ with_op_edit s op (λ o. g (f o))
+
+  abbrev pub Same : Type 0
+  Same = (f g : OpView K A → OpView K A) → ((o : OpView K A) → op_at s op ≡ Some o → f o ≡ g o) → with_op_edit s op f ≡ with_op_edit s op g
+
+  -- of two attributes put under the key of sizes the second stays
+  pub sizes-again : (t u : Store K A T) (a b : AttrView A) → Join → Same → t ≡ with_op_edit s op (with_sizes a) → u ≡ with_op_edit t op (with_sizes b) → u ≡ with_op_edit s op (with_sizes b)
+  sizes-again t u a b join same first second =
+      second
+      ∙ ap (λ z. with_op_edit z op (with_sizes b)) first
+      ∙ join (with_sizes a) (with_sizes b)
+      ∙ same (λ o. with_sizes b (with_sizes a o)) (with_sizes b) (λ o h. ap (λ es. record o { attributes = es }) (put-put o.attributes sizes_key a b))
+
+  -- and something stands there
+  pub sizes-there : (t : Store K A T) (a : AttrView A) → IsLive s (Operation op) → t ≡ with_op_edit s op (with_sizes a) → IsOpEdited s (with_op_edit s op (with_sizes a)) op (with_sizes a)
+      → IsSome (dict_get (attributes_of t op) sizes_key)
+  sizes-there t a live is edited = go (op_at s op) refl live (ap (λ z. op_at z op) is ∙ edited.held)
+    where
+      go : (o : Option (OpView K A)) → op_at s op ≡ o → (is_some o && (version_at s.nodes.ops op.slot == op.version)) ≡ true → op_at t op ≡ option_map (with_sizes a) (op_at s op) → IsSome (dict_get (attributes_of t op) sizes_key)
+      go None e l held = absurd (let z : ⊥ = cc (l) in z)
+      go (Some o) e l held =
+          let put : op_at t op ≡ Some (with_sizes a o) = held ∙ ap (option_map (with_sizes a)) e in
+          subst IsSome (sym (ap (λ z. dict_get (attributes_in z) sizes_key) put ∙ get-put o.attributes sizes_key a)) refl

@@ -1,0 +1,16 @@
+use Rattle.std.proofs.Common.{ℕ, List, length, take, ◌-◌, ap, subst, sym, ◌∙◌, ◌<◌}
+use Rattle.std.specs.Prelude.{remove, slice_get}
+use Rattle.plir_core.specs.declared.value.Value.{Value}
+use Rattle.plir_flow.specs.Segments.{edit_at, segment_at, segments_of, IsResegmented}
+use Rattle.plir_flow.proofs.SegmentLists.{edit-same, popped}
+use Rattle.plir_flow.proofs.SegmentsPut.{size-is}
+use Rattle.plir_flow.proofs.segment_edits.pop_last.Goals as goal
+
+pub returns-clause-after : goal.returns-clause-after
+returns-clause-after g c =
+    let s = c.args.ctx.now in
+    let segs : List (List Value) = segments_of s c.args.op in
+    let length_is = c.size_of-size.ensures.value ∙ size-is s c.args.op c.requires.segmented c.args.seg in
+    let some = subst (λ (n : ℕ). 0 < n) (sym c.size_of-size.ensures.value) c.requires.filled in
+    let same = edit-same c.args.seg (λ xs. remove xs (c.size_of-size.result - 1)) (λ xs. take (length xs - 1) xs) segs (popped (segment_at segs c.args.seg) c.size_of-size.result length_is some) in
+    subst (λ (z : List (List Value)). IsResegmented s c.remove_at.new.ctx c.args.op z) same c.remove_at.ensures.after

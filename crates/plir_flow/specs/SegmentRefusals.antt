@@ -1,0 +1,16 @@
+-- How the rule of segments is refused.
+use Rattle.std.specs.Prelude.{◌≡◌, ◌≢◌, ℕ, length, sum, Option, Some, None}
+use Rattle.plir_core.specs.declared.ptr.Ptr.{Ptr}
+use Rattle.plir_core.specs.declared.ptr.Operation.{Operation as OperationKind}
+use Rattle.plir_core.specs.Store.{Store, operands_of}
+use Rattle.plir_flow.specs.Segments.{sizes_under, sizes_of, num_segments, IsSegmented}
+use Rattle.plir_flow.specs.declared.segments.OperandSegmentInterfaceVerifyErr.{OperandSegmentInterfaceVerifyErr}
+use Rattle.plir_flow.specs.declared.segments.OperandSegmentInterfaceVerifyErr.TheVariants.{OperandSegmentSizesAttrErr, OperandSegmentSizesTotalMismatchErr, SegmentCountMismatch}
+
+-- There are no sizes; or their sum is another number than that of the operands; or there are right sizes, but not as
+-- many as are expected.
+abbrev pub IsSegmentFault : {K A T : Type 0} → (expected : Option ℕ) → Store K A T → Ptr OperationKind → OperandSegmentInterfaceVerifyErr → Type 0
+IsSegmentFault x s op OperandSegmentSizesAttrErr = sizes_under s op ≡ None
+IsSegmentFault x s op (OperandSegmentSizesTotalMismatchErr total operands) =
+    (sizes_under s op ≡ Some (sizes_of s op)) × (total ≡ sum (sizes_of s op)) × (operands ≡ length (operands_of s op)) × (total ≢ operands)
+IsSegmentFault x s op (SegmentCountMismatch expected found) = IsSegmented s op × (x ≡ Some expected) × (found ≡ num_segments s op) × (found ≢ expected)

@@ -1,0 +1,111 @@
+-- Operands in segments: a list of lists, whose lengths are the sizes and whose flattening is the operands.
+use Rattle.std.specs.Prelude.{◌≡◌, ℕ, zero, suc, ◌+◌, List, [], ◌∷◌, length, map, take, drop, sum, slice_index_or, Option, Some, None, IsSome, unwrap_or, option_and_then, codes}
+use Rattle.std.specs.List.{flat_map}
+use Rattle.plir_data.specs.AttrView.{AttrView, leaf, operand_segment_sizes}
+use Rattle.plir_data.specs.Dictionary.{dict_get, dict_put}
+use Rattle.plir_core.specs.declared.ptr.Ptr.{Ptr}
+use Rattle.plir_core.specs.declared.ptr.Operation.{Operation as OperationKind}
+use Rattle.plir_core.specs.declared.ptr.IRNode.TheVariants.{Operation}
+use Rattle.plir_core.specs.declared.value.Value.{Value}
+use Rattle.plir_core.specs.Contents.{OpView}
+use Rattle.plir_core.specs.Store.{Store, IsLive, operands_of, attributes_of}
+use Rattle.plir_core.specs.Changes.{with_op_edit}
+use Rattle.plir_core.specs.Held.{IsOpEdited}
+
+module _ {V : Type 0} where
+  -- values in segments of these sizes, from the first value on
+  abbrev pub in_segments : List ℕ → List V → List (List V)
+  in_segments [] vs = []
+  in_segments (n ∷ ns) vs = take n vs ∷ in_segments ns (drop n vs)
+
+  -- the values of all segments, in order
+  abbrev pub flatten : List (List V) → List V
+  flatten segs = flat_map (λ seg. seg) segs
+
+  -- the segment at a place; past the last it is empty
+  abbrev pub segment_at : List (List V) → ℕ → List V
+  segment_at segs i = slice_index_or segs i []
+
+  -- the segments with the one at a place edited
+  abbrev pub edit_at : ℕ → (List V → List V) → List (List V) → List (List V)
+  edit_at i f [] = []
+  edit_at zero f (seg ∷ segs) = f seg ∷ segs
+  edit_at (suc i) f (seg ∷ segs) = seg ∷ edit_at i f segs
+
+-- how many values stand before a segment
+abbrev pub start_in : List ℕ → ℕ → ℕ
+start_in ns i = sum (take i ns)
+
+-- the key that the sizes stand under
+abbrev pub sizes_key : List ℕ
+sizes_key = codes "builtin_operand_segment_sizes"
+
+module _ {A : Type 0} where
+  -- the sizes in an attribute of sizes
+  abbrev pub sizes_in : AttrView A → Option (List ℕ)
+  sizes_in (leaf (operand_segment_sizes ns)) = Some ns
+  sizes_in _ = None
+
+  -- the attribute of sizes
+  abbrev pub sizes_attr : List ℕ → AttrView A
+  sizes_attr ns = leaf (operand_segment_sizes ns)
+
+-- there are as many segments as are expected, where a number is
+abbrev pub IsCount : Option ℕ → ℕ → Type 0
+IsCount None n = Unit {0}
+IsCount (Some expected) n = n ≡ expected
+
+module _ {K A T : Type 0} where
+  -- the sizes that stand under the key, if an attribute of sizes does
+  abbrev pub sizes_under : Store K A T → Ptr OperationKind → Option (List ℕ)
+  sizes_under s op = option_and_then sizes_in (dict_get (attributes_of s op) sizes_key)
+
+  -- the sizes of an operation's segments, and how many there are
+  abbrev pub sizes_of : Store K A T → Ptr OperationKind → List ℕ
+  sizes_of s op = unwrap_or (sizes_under s op) []
+
+  abbrev pub num_segments : Store K A T → Ptr OperationKind → ℕ
+  num_segments s op = length (sizes_of s op)
+
+  -- the size of the segment at a place; past the last it is 0
+  abbrev pub segment_size : Store K A T → Ptr OperationKind → ℕ → ℕ
+  segment_size s op i = slice_index_or (sizes_of s op) i 0
+
+  -- its operands in their segments
+  abbrev pub segments_of : Store K A T → Ptr OperationKind → List (List Value)
+  segments_of s op = in_segments (sizes_of s op) (operands_of s op)
+
+  -- The sizes are there, and their sum, a whole number, is the number of operands.
+  pub record IsSegmented (s : Store K A T) (op : Ptr OperationKind) : Type 0 where
+    pub present : IsSome (sizes_under s op)
+    pub total : sum (sizes_of s op) ≡ length (operands_of s op)
+
+  -- The rule: this, and there are as many segments as are expected.
+  pub record HasSegments (expected : Option ℕ) (s : Store K A T) (op : Ptr OperationKind) : Type 0 where
+    pub segmented : IsSegmented s op
+    pub count : IsCount expected (num_segments s op)
+
+-- what an operation holds, with an attribute under the key of sizes
+abbrev pub with_sizes : {K A : Type 0} → AttrView A → OpView K A → OpView K A
+with_sizes a o = record o { attributes = dict_put o.attributes sizes_key a }
+
+-- what an operation holds, with other operands in segments
+abbrev pub in_op : {K A : Type 0} → List (List Value) → OpView K A → OpView K A
+in_op segs o = record o { operands = flatten segs; attributes = dict_put o.attributes sizes_key (sizes_attr (map length segs)) }
+
+module _ {K A T : Type 0} where
+  -- an operation has come to have these segments
+  abbrev pub with_segments : Store K A T → Ptr OperationKind → List (List Value) → Store K A T
+  with_segments s op segs = with_op_edit s op (in_op segs)
+
+  -- From s to t an operation has come to have these segments, and nothing else has changed.
+  pub record IsResegmented (s t : Store K A T) (op : Ptr OperationKind) (segs : List (List Value)) : Type 0 where
+    pub after : t ≡ with_segments s op segs
+    pub edited : IsOpEdited s t op (in_op segs)
+    pub segmented : IsSegmented t op
+    pub sizes : sizes_of t op ≡ map length segs
+    pub segments : segments_of t op ≡ segs
+    pub operands : operands_of t op ≡ flatten segs
+    pub live : IsLive t (Operation op)
+    pub count : num_segments t op ≡ length segs
+    pub size_at : (i : ℕ) → segment_size t op i ≡ length (segment_at segs i)

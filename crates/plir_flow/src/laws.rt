@@ -1,0 +1,58 @@
+//! Laws of segments: each function that takes no context does nothing, and its contract is the law.
+ghost use Rattle.std.specs.Prelude.{◌≡◌, ◌≢◌, ◌<◌, ◌-◌, ◌^◌, ◌∷◌, ◌++◌, ℕ, List, [], IfOk, OnOk, OnErr, length, map, take, sum};
+ghost use Rattle.plir_core.specs.declared.ptr.IRNode.{IRNode};
+ghost use Rattle.plir_core.specs.declared.value.Value.{Value as AnyValue};
+ghost use Rattle.plir_core.specs.Store.{IsLive, IsValueLive, operands_of};
+ghost use Rattle.plir_core.specs.Whole.{IsWhole};
+ghost use Rattle.plir_flow.specs.Segments.{in_segments, flatten, segment_at, edit_at, sizes_of, num_segments, segment_size, segments_of, HasSegments};
+
+use crate::segments::OperandSegmentInterface;
+use plir_core::{Context, Value};
+use plir_data::{Memory, OpSet};
+
+/// Where the sum of sizes is the number of values, the values in segments are the one list of lists with these sizes
+/// and this flattening; where it isn't, there is none.
+pub fn segments_are_the_one_list()
+    ensures sizes { (ns : List ℕ) (vs : List AnyValue) → sum ns ≡ length vs → map length (in_segments ns vs) ≡ ns }
+    ensures values { (ns : List ℕ) (vs : List AnyValue) → sum ns ≡ length vs → flatten (in_segments ns vs) ≡ vs }
+    ensures one { (segs : List (List AnyValue)) → in_segments (map length segs) (flatten segs) ≡ segs }
+    ensures sum { (segs : List (List AnyValue)) → sum (map length segs) ≡ length (flatten segs) }
+{}
+
+/// A value that is put at the end of a list and taken off leaves the same list; so it does in a segment.
+pub fn put_and_taken_off()
+    ensures list { (xs : List AnyValue) (v : AnyValue) → take (length (xs ++ v ∷ []) - 1) (xs ++ v ∷ []) ≡ xs }
+    ensures segment { (i : ℕ) (v : AnyValue) (segs : List (List AnyValue)) → edit_at i (λ xs. take (length xs - 1) xs) (edit_at i (λ xs. xs ++ v ∷ []) segs) ≡ segs }
+{}
+
+/// An edit of one segment changes that segment, and no other.
+pub fn edits_of_one_segment()
+    ensures count { (i : ℕ) (f : List AnyValue → List AnyValue) (segs : List (List AnyValue)) → length (edit_at i f segs) ≡ length segs }
+    ensures here { (i : ℕ) (f : List AnyValue → List AnyValue) (segs : List (List AnyValue)) → i < length segs → segment_at (edit_at i f segs) i ≡ f (segment_at segs i) }
+    ensures others { (i j : ℕ) (f : List AnyValue → List AnyValue) (segs : List (List AnyValue)) → j ≢ i → segment_at (edit_at i f segs) j ≡ segment_at segs j }
+{}
+
+/// Pushes a value to a segment and pops it: that gives the value, and the operation's segments and operands are as
+/// before. Where the push is refused, all is as before.
+pub fn push_then_pop<D: OpSet, O: OperandSegmentInterface<D>>(
+    ctx: &mut Context<D>,
+    op: &O,
+    seg: usize,
+    operand: Value,
+) -> Result<Value, Memory>
+    requires live { IsLive ctx.old (IRNode.Operation (O.pointer op.now)) }
+    requires rule { HasSegments (O.expected op.now ctx.old) ctx.old (O.pointer op.now) }
+    requires below { seg < num_segments ctx.old (O.pointer op.now) }
+    requires room { segment_size ctx.old (O.pointer op.now) seg < 2 ^ 32 - 1 }
+    requires operand_live { IsValueLive ctx.old operand }
+    ensures value { IfOk result (λ v. v ≡ operand) }
+    ensures segments { OnOk result (segments_of ctx.new (O.pointer op.now) ≡ segments_of ctx.old (O.pointer op.now)) }
+    ensures sizes { OnOk result (sizes_of ctx.new (O.pointer op.now) ≡ sizes_of ctx.old (O.pointer op.now)) }
+    ensures operands { OnOk result (operands_of ctx.new (O.pointer op.now) ≡ operands_of ctx.old (O.pointer op.now)) }
+    ensures rule { OnOk result (HasSegments (O.expected op.now ctx.new) ctx.new (O.pointer op.now)) }
+    ensures err { OnErr result (ctx.new ≡ ctx.old) }
+    ensures whole { IsWhole D.attr_handles ctx.new }
+{
+    op.push_to_segment(ctx, seg, operand)?;
+    Ok(op.pop_from_segment(ctx, seg))
+}

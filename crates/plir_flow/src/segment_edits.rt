@@ -1,0 +1,97 @@
+//! Edits of one segment: the operand and the size change together, and nothing else does.
+ghost use Rattle.std.specs.Prelude.{◌≡◌, ◌<◌, ◌≤◌, ◌-◌, ◌^◌, ◌∷◌, ◌++◌, [], Some, IfOk, OnOk, OnErr, insert, remove, take, length, slice_get};
+ghost use Rattle.plir_core.specs.declared.ptr.IRNode.{IRNode};
+ghost use Rattle.plir_core.specs.Store.{IsLive, IsValueLive};
+ghost use Rattle.plir_core.specs.Whole.{IsWhole};
+ghost use Rattle.plir_flow.specs.Segments.{segment_at, edit_at, segments_of, num_segments, segment_size, IsSegmented, IsResegmented};
+
+use crate::segment_sizes::{place_among, set_size, size_of};
+use plir_core::{Context, Operation, Ptr, Value, laws};
+use plir_data::{Memory, OpSet};
+
+/// Puts a value into a segment at a place, from 0. The growth comes before the first change.
+pub(crate) fn insert_at<D: OpSet>(
+    ctx: &mut Context<D>,
+    op: Ptr<Operation>,
+    seg: usize,
+    place: usize,
+    operand: Value,
+) -> Result<(), Memory>
+    requires live { IsLive ctx.old (IRNode.Operation op) }
+    requires segmented { IsSegmented ctx.old op }
+    requires below { seg < num_segments ctx.old op }
+    requires within { place ≤ segment_size ctx.old op seg }
+    requires room { segment_size ctx.old op seg < 2 ^ 32 - 1 }
+    requires operand_live { IsValueLive ctx.old operand }
+    ensures ok { OnOk result (IsResegmented ctx.old ctx.new op (edit_at seg (λ xs. insert xs place operand) (segments_of ctx.old op))) }
+    ensures err { OnErr result (ctx.new ≡ ctx.old) }
+    ensures whole { IsWhole D.attr_handles ctx.new }
+{
+    laws::op_edits_join(ctx, op);
+    laws::op_edits_keep_the_rest(ctx, op);
+    let among = place_among(ctx, op, seg, place);
+    let size = size_of(ctx, op, seg);
+    op.insert_operand(among, operand, ctx)?;
+    set_size(ctx, op, seg, size + 1);
+    Ok(())
+}
+
+/// Takes the value at a place, from 0, out of a segment. Takes no memory.
+pub(crate) fn remove_at<D: OpSet>(
+    ctx: &mut Context<D>,
+    op: Ptr<Operation>,
+    seg: usize,
+    place: usize,
+) -> Value
+    requires live { IsLive ctx.old (IRNode.Operation op) }
+    requires segmented { IsSegmented ctx.old op }
+    requires below { seg < num_segments ctx.old op }
+    requires within { place < segment_size ctx.old op seg }
+    ensures value { slice_get (segment_at (segments_of ctx.old op) seg) place ≡ Some result }
+    ensures after { IsResegmented ctx.old ctx.new op (edit_at seg (λ xs. remove xs place) (segments_of ctx.old op)) }
+    ensures whole { IsWhole D.attr_handles ctx.new }
+{
+    laws::op_edits_join(ctx, op);
+    laws::op_edits_keep_the_rest(ctx, op);
+    let among = place_among(ctx, op, seg, place);
+    let size = size_of(ctx, op, seg);
+    let operand = op.remove_operand(among, ctx);
+    set_size(ctx, op, seg, size - 1);
+    operand
+}
+
+/// Puts a value at the end of a segment, and answers its place there. The growth comes before the first change.
+pub(crate) fn push_last<D: OpSet>(
+    ctx: &mut Context<D>,
+    op: Ptr<Operation>,
+    seg: usize,
+    operand: Value,
+) -> Result<usize, Memory>
+    requires live { IsLive ctx.old (IRNode.Operation op) }
+    requires segmented { IsSegmented ctx.old op }
+    requires below { seg < num_segments ctx.old op }
+    requires room { segment_size ctx.old op seg < 2 ^ 32 - 1 }
+    requires operand_live { IsValueLive ctx.old operand }
+    ensures index { IfOk result (λ i. i ≡ segment_size ctx.old op seg) }
+    ensures ok { OnOk result (IsResegmented ctx.old ctx.new op (edit_at seg (λ xs. xs ++ operand ∷ []) (segments_of ctx.old op))) }
+    ensures err { OnErr result (ctx.new ≡ ctx.old) }
+    ensures whole { IsWhole D.attr_handles ctx.new }
+{
+    let size = size_of(ctx, op, seg) as usize;
+    insert_at(ctx, op, seg, size, operand)?;
+    Ok(size)
+}
+
+/// Takes the last value out of a segment that isn't empty. Takes no memory.
+pub(crate) fn pop_last<D: OpSet>(ctx: &mut Context<D>, op: Ptr<Operation>, seg: usize) -> Value
+    requires live { IsLive ctx.old (IRNode.Operation op) }
+    requires segmented { IsSegmented ctx.old op }
+    requires below { seg < num_segments ctx.old op }
+    requires filled { 0 < segment_size ctx.old op seg }
+    ensures value { slice_get (segment_at (segments_of ctx.old op) seg) (segment_size ctx.old op seg - 1) ≡ Some result }
+    ensures after { IsResegmented ctx.old ctx.new op (edit_at seg (λ xs. take (length xs - 1) xs) (segments_of ctx.old op)) }
+    ensures whole { IsWhole D.attr_handles ctx.new }
+{
+    let size = size_of(ctx, op, seg) as usize;
+    remove_at(ctx, op, seg, size - 1)
+}
