@@ -4,3 +4,8 @@ pub mod SizesPut
 pub mod SegmentsPut
 pub mod Ranges
 pub mod Popping
+pub mod SegmentPlaces
+pub mod Refusals
+pub mod Forwarded
+pub mod BranchFaults
+pub mod CalleeTypes

@@ -20,7 +20,7 @@ pub(crate) fn id_of_kind<D: OpSet>(kind: OpKind<D::Kind>) -> &'static str
 }
 
 /// The id of a type.
-pub fn id_of_type<D: OpSet>(ty: &TypeObj<D>) -> &'static str
+pub(crate) fn id_of_type<D: OpSet>(ty: &TypeObj<D>) -> &'static str
     ensures { result.now ≡ type_id D.type_id (type_view ty.now) }
 {
     match ty {

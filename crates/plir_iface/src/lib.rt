@@ -28,12 +28,12 @@ pub use counts::{
     AtMostNResultsVerifyErr, NOpdsVerifyErr, NRegionsVerifyErr, NResultsVerifyErr,
     NotEnoughOperandsErr, NotEnoughResultsErr,
 };
-pub use ids::id_of_type;
 pub use index_range::{IndexRange, resolve_index_range};
 pub use kinds::{
     IsTerminatorInterface, IsolatedFromAboveInterface, NoTerminatorInterface, RegionKind,
     RegionKindInterface,
 };
+pub use misfits::id_at;
 pub use op::Op;
 pub use operand_types::{
     AllOperandsImplsTy, AllOperandsOfType, OperandNImplsTy, OperandNOfType, OperandsMNImplsTy,

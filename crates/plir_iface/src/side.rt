@@ -34,7 +34,7 @@ impl Side {
     }
 
     /// The type of the value at a place, from 0.
-    pub(crate) fn type_at<D: OpSet>(
+    pub fn type_at<D: OpSet>(
         self,
         ctx: &Context<D>,
         op: Ptr<Operation>,

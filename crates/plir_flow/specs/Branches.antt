@@ -1,0 +1,90 @@
+-- The rules of branches and of successors, and how they are refused.
+use Rattle.std.specs.Prelude.{◌≡◌, ◌≢◌, ◌<◌, ◌-◌, ℕ, List, length, map, slice_get, slice_range, Option, Some, string_bytes}
+use Rattle.plir_data.specs.Types.{TypeView, IsLive as IsTypeLive}
+use Rattle.plir_data.specs.TypeText.{type_text}
+use Rattle.plir_core.specs.declared.ptr.Ptr.{Ptr}
+use Rattle.plir_core.specs.declared.ptr.Operation.{Operation as OperationKind}
+use Rattle.plir_core.specs.declared.ptr.BasicBlock.{BasicBlock as BasicBlockKind}
+use Rattle.plir_core.specs.declared.ptr.IRNode.TheVariants.{Operation}
+use Rattle.plir_core.specs.declared.value.Value.{Value}
+use Rattle.plir_core.specs.Store.{Store, IsLive, op_at, block_at, kind_of, result_types_of, operands_of, successors_of, location_of, arg_types_of, type_of_value}
+use Rattle.plir_core.specs.Held.{KeepsNodes}
+use Rattle.plir_iface.specs.Sides.{type_in}
+use Rattle.plir_flow.specs.declared.branch_errors.BranchOpInterfaceVerifyErr.{BranchOpInterfaceVerifyErr}
+use Rattle.plir_flow.specs.declared.branch_errors.BranchOpInterfaceVerifyErr.TheVariants.{Layout, SuccessorOperandsMismatch, SuccessorOperandTypeMismatch}
+use Rattle.plir_flow.specs.declared.branch_errors.Mismatch.{Mismatch}
+use Rattle.plir_flow.specs.declared.branch_errors.Mismatch.TheVariants.{Count, Differ}
+
+-- a range of places: its first, and the one behind its last
+abbrev pub Range : Type 0
+Range = ℕ × ℕ
+
+-- Two lists of types are not the same: they have other lengths; or else this is the first place where they differ, with the types there.
+abbrev pub IsMismatch : (given wanted : List (Option ℕ)) → Mismatch → Type 0
+IsMismatch given wanted (Count provided expected) = (provided ≡ length given) × (expected ≡ length wanted) × (provided ≢ expected)
+IsMismatch given wanted (Differ i forwarded expected) =
+    (length given ≡ length wanted) × (type_in given i ≡ Some forwarded) × (type_in wanted i ≡ Some expected) × (forwarded ≢ expected) × ((k : ℕ) → k < i → type_in given k ≡ type_in wanted k)
+
+module _ {K A T : Type 0} where
+  abbrev pub num_successors : Store K A T → Ptr OperationKind → ℕ
+  num_successors s op = length (successors_of s op)
+
+  -- the rule of the number of successors
+  abbrev pub HasNSuccs : ℕ → Store K A T → Ptr OperationKind → Type 0
+  HasNSuccs n s op = num_successors s op ≡ n
+
+  -- the operands in a range of places, and their types
+  abbrev pub operands_within : Store K A T → Ptr OperationKind → Range → List Value
+  operands_within s op r = slice_range (operands_of s op) r.0 r.1
+
+  abbrev pub types_within : Store K A T → Ptr OperationKind → Range → List (Option ℕ)
+  types_within s op r = map (type_of_value s) (operands_within s op r)
+
+  -- the types of a block's arguments
+  abbrev pub argument_types : Store K A T → Ptr BasicBlockKind → List (Option ℕ)
+  argument_types s b = map Some (arg_types_of s b)
+
+  -- The types of the operands in the successor's range are, as a list, those of the block's arguments.
+  abbrev pub AgreesAt : Store K A T → Ptr OperationKind → (forwards : ℕ → Range) → ℕ → Type 0
+  AgreesAt s op forwards i = (b : Ptr BasicBlockKind) → slice_get (successors_of s op) i ≡ Some b → types_within s op (forwards i) ≡ argument_types s b
+
+  -- The rule: the layout is right, and each successor gets values of the types of its arguments.
+  abbrev pub HasBranchRule : (layout : Type 0) → Store K A T → Ptr OperationKind → (forwards : ℕ → Range) → Type 0
+  HasBranchRule layout s op forwards = layout × ((i : ℕ) → i < num_successors s op → AgreesAt s op forwards i)
+
+  -- a successor is the first whose types do not agree, and this is how
+  abbrev pub IsFirstMismatch : Store K A T → Ptr OperationKind → (forwards : ℕ → Range) → Mismatch → Type 0
+  IsFirstMismatch s op forwards m =
+      (i : ℕ) × ((b : Ptr BasicBlockKind) × ((slice_get (successors_of s op) i ≡ Some b) × IsMismatch (types_within s op (forwards i)) (argument_types s b) m × ((k : ℕ) → k < i → AgreesAt s op forwards k)))
+
+  -- the types that a mismatch names are types of the context
+  abbrev pub NamesLive : Store K A T → Mismatch → Type 0
+  NamesLive s (Count provided expected) = Unit {0}
+  NamesLive s (Differ i forwarded expected) = IsTypeLive s.types forwarded × IsTypeLive s.types expected
+
+  -- What an error tells of a mismatch: its numbers, or the texts of its types.
+  abbrev pub TellsMismatch : {E : Type 0} → (own_id : T → List ℕ) (own_body : List (TypeView T) → T → List ℕ) → Store K A T → Mismatch → BranchOpInterfaceVerifyErr E → Type 0
+  TellsMismatch own_id own_body s (Count p x) (SuccessorOperandsMismatch provided expected) = (provided ≡ p) × (expected ≡ x)
+  TellsMismatch own_id own_body s (Differ i f x) (SuccessorOperandTypeMismatch idx forwarded expected) =
+      (idx ≡ i) × (string_bytes forwarded ≡ type_text own_id own_body s.types f) × (string_bytes expected ≡ type_text own_id own_body s.types x)
+  TellsMismatch own_id own_body s _ _ = ⊥
+
+  -- The layout is wrong, and this is its refusal; or it is right, and the error tells how the first successor's types do not agree.
+  abbrev pub IsBranchFault : {E : Type 0} → (layout : Type 0) (layout_refusal : E → Type 0) (own_id : T → List ℕ) (own_body : List (TypeView T) → T → List ℕ)
+      → Store K A T → Ptr OperationKind → (forwards : ℕ → Range) → BranchOpInterfaceVerifyErr E → Type 0
+  IsBranchFault layout layout_refusal own_id own_body s op forwards (Layout e) = (layout → ⊥) × layout_refusal e
+  IsBranchFault layout layout_refusal own_id own_body s op forwards e = layout × ((m : Mismatch) × (IsFirstMismatch s op forwards m × TellsMismatch own_id own_body s m e))
+
+  -- From s to t an operation has come to have these operands; what its successor i gets has become `values`, what the others
+  -- get is the same, and beside attributes of the operation nothing else has changed.
+  pub record IsReforwarded (s t : Store K A T) (op : Ptr OperationKind) (old new : ℕ → Range) (i : ℕ) (operands values : List Value) : Type 0 where
+    pub keeps : KeepsNodes s t
+    pub ops : (q : Ptr OperationKind) → IsLive s (Operation q) → (q ≡ op → ⊥) → op_at t q ≡ op_at s q
+    pub blocks : (b : Ptr BasicBlockKind) → block_at t b ≡ block_at s b
+    pub kind : kind_of t op ≡ kind_of s op
+    pub result_types : result_types_of t op ≡ result_types_of s op
+    pub successors : successors_of t op ≡ successors_of s op
+    pub location : location_of t op ≡ location_of s op
+    pub operands_now : operands_of t op ≡ operands
+    pub here : operands_within t op (new i) ≡ values
+    pub others : (j : ℕ) → j < num_successors s op → j ≢ i → operands_within t op (new j) ≡ operands_within s op (old j)

@@ -1,0 +1,205 @@
+//! The interface of operations that branch to other blocks.
+ghost use Rattle.std.specs.Prelude.{◌≡◌, ◌↔◌, ◌<◌, ◌≤◌, ◌+◌, ◌-◌, ◌^◌, ◌∷◌, ◌++◌, ℕ, [], Some, All, IsOk, IfOk, IfErr, OnOk, OnErr, length, insert, remove, slice_get, slice_set};
+ghost use Rattle.plir_core.specs.declared.ptr.IRNode.{IRNode};
+ghost use Rattle.plir_core.specs.Store.{IsLive, IsValueLive, operands_of, successors_of};
+ghost use Rattle.plir_core.specs.Whole.{IsWhole};
+ghost use Rattle.plir_core.specs.Changes.{with_op_edit};
+ghost use Rattle.plir_iface.specs.Verdict.{IsRefusal, IsRefusalMemoryAside};
+ghost use Rattle.plir_flow.specs.Branches.{num_successors, HasNSuccs, operands_within, HasBranchRule, IsBranchFault, IsReforwarded};
+
+use crate::branch_errors::{BranchOpInterfaceVerifyErr, NSuccsVerifyErr};
+use crate::forwarding::{find_first_mismatch, tell};
+use crate::operand_ranges::operands_in;
+use plir_core::{BasicBlock, Context, LessThanN, Ptr, Value};
+use plir_data::{Memory, OpSet, VerifyErr};
+use plir_iface::{IsTerminatorInterface, Op, accept_if};
+use std::alloc::Global;
+use std::ops::Range;
+
+/// Operations that end their block and branch to other ones, their successors. To each successor they forward operands in
+/// a row, one for each argument of the block.
+///
+/// What an implementer says of its operation holds by its layout: that its operands stand as it wants them. The check of
+/// the layout accepts exactly where a predicate of the context and the operation holds, memory aside, and the ranges of
+/// operands that are forwarded are a function of these two.
+pub trait BranchOpInterface<D: OpSet>: IsTerminatorInterface<D> {
+    ghost use Rattle.plir_core.specs.Store.{Store};
+    ghost use Rattle.plir_flow.specs.Branches.{Range as Places};
+
+    // The operands stand as the operation wants them, and what a refusal tells where they don't.
+    ghost has_layout: { Self → Store D.Kind D.Attr D.Ty → Type 0 };
+
+    ghost refuses_layout: { Self → Store D.Kind D.Attr D.Ty → D.Err → Type 0 };
+
+    // The places of the operands that are forwarded to a successor.
+    ghost forwards: { Self → Store D.Kind D.Attr D.Ty → ℕ → Places };
+
+    /// Accepts exactly where the operands stand as the operation wants them.
+    fn verify_successor_operand_layout(
+        &self,
+        alloc: Global,
+        ctx: &Context<D>,
+    ) -> Result<(), VerifyErr<D::Err>>
+        requires { IsLive ctx.now (IRNode.Operation (Self.pointer self.now)) }
+        ensures ok { OnOk result (has_layout self.now ctx.now) }
+        ensures refused { IfErr result (IsRefusalMemoryAside ctx.now (Self.pointer self.now) (λ e. (has_layout self.now ctx.now → ⊥) × refuses_layout self.now ctx.now e)) };
+
+    /// The places of the operands that are forwarded to a successor, from 0; they are among the operands.
+    fn successor_operand_range(&self, ctx: &Context<D>, succ: usize) -> Range<usize>
+        requires live { IsLive ctx.now (IRNode.Operation (Self.pointer self.now)) }
+        requires layout { has_layout self.now ctx.now }
+        requires below { succ < num_successors ctx.now (Self.pointer self.now) }
+        ensures start { result.start ≡ (forwards self.now ctx.now succ).0 }
+        ensures end { result.end ≡ (forwards self.now ctx.now succ).1 }
+        ensures ordered { result.start ≤ result.end }
+        ensures inside { result.end ≤ length (operands_of ctx.now (Self.pointer self.now)) };
+
+    /// Forwards one more value to a successor, from 0, behind those that it gets, which have to be fewer than 4294967295,
+    /// and answers its place among them. After a refusal all is as before.
+    fn add_successor_operand(
+        &self,
+        ctx: &mut Context<D>,
+        succ: usize,
+        operand: Value,
+    ) -> Result<usize, Memory>
+        requires live { IsLive ctx.old (IRNode.Operation (Self.pointer self.now)) }
+        requires layout { has_layout self.now ctx.old }
+        requires below { succ < num_successors ctx.old (Self.pointer self.now) }
+        requires room { length (operands_within ctx.old (Self.pointer self.now) (forwards self.now ctx.old succ)) < 2 ^ 32 - 1 }
+        requires operand_live { IsValueLive ctx.old operand }
+        ensures index { IfOk result (λ i. i ≡ length (operands_within ctx.old (Self.pointer self.now) (forwards self.now ctx.old succ))) }
+        ensures ok { OnOk result (IsReforwarded ctx.old ctx.new (Self.pointer self.now) (forwards self.now ctx.old) (forwards self.now ctx.new) succ (insert (operands_of ctx.old (Self.pointer self.now)) (forwards self.now ctx.old succ).1 operand) (operands_within ctx.old (Self.pointer self.now) (forwards self.now ctx.old succ) ++ operand ∷ [])) }
+        ensures layout { OnOk result (has_layout self.now ctx.new) }
+        ensures err { OnErr result (ctx.new ≡ ctx.old) }
+        ensures whole { IsWhole D.attr_handles ctx.new };
+
+    /// Takes the value for the argument at a place, from 0, of a successor, from 0, out; those behind it move down.
+    fn remove_successor_operand(&self, ctx: &mut Context<D>, succ: usize, arg: usize) -> Value
+        requires live { IsLive ctx.old (IRNode.Operation (Self.pointer self.now)) }
+        requires layout { has_layout self.now ctx.old }
+        requires below { succ < num_successors ctx.old (Self.pointer self.now) }
+        requires within { arg < length (operands_within ctx.old (Self.pointer self.now) (forwards self.now ctx.old succ)) }
+        ensures value { slice_get (operands_within ctx.old (Self.pointer self.now) (forwards self.now ctx.old succ)) arg ≡ Some result }
+        ensures after { IsReforwarded ctx.old ctx.new (Self.pointer self.now) (forwards self.now ctx.old) (forwards self.now ctx.new) succ (remove (operands_of ctx.old (Self.pointer self.now)) ((forwards self.now ctx.old succ).0 + arg)) (remove (operands_within ctx.old (Self.pointer self.now) (forwards self.now ctx.old succ)) arg) }
+        ensures layout { has_layout self.now ctx.new }
+        ensures whole { IsWhole D.attr_handles ctx.new };
+
+    /// The operands that are forwarded to a successor, from 0.
+    final fn successor_operands(
+        &self,
+        alloc: Global,
+        ctx: &Context<D>,
+        succ: usize,
+    ) -> Result<Vec<Value>, Memory>
+        requires live { IsLive ctx.now (IRNode.Operation (Self.pointer self.now)) }
+        requires layout { has_layout self.now ctx.now }
+        requires below { succ < num_successors ctx.now (Self.pointer self.now) }
+        ensures value { IfOk result (λ vs. vs.items ≡ operands_within ctx.now (Self.pointer self.now) (forwards self.now ctx.now succ)) }
+        ensures live { IfOk result (λ vs. All (IsValueLive ctx.now) vs.items) }
+        ensures whole { IsWhole D.attr_handles ctx.now }
+    {
+        let range = self.successor_operand_range(ctx, succ);
+        operands_in(alloc, ctx, self.get_operation(), range)
+    }
+
+    /// Forwards another value in place of the one for the argument at a place, from 0, of a successor, from 0.
+    final fn set_successor_operand(
+        &self,
+        ctx: &mut Context<D>,
+        succ: usize,
+        arg: usize,
+        operand: Value,
+    )
+        requires live { IsLive ctx.old (IRNode.Operation (Self.pointer self.now)) }
+        requires layout { has_layout self.now ctx.old }
+        requires below { succ < num_successors ctx.old (Self.pointer self.now) }
+        requires within { (forwards self.now ctx.old succ).0 + arg < (forwards self.now ctx.old succ).1 }
+        requires operand_live { IsValueLive ctx.old operand }
+        ensures after { ctx.new ≡ with_op_edit ctx.old (Self.pointer self.now) (λ o. record o { operands = slice_set o.operands ((forwards self.now ctx.old succ).0 + arg) operand }) }
+        ensures whole { IsWhole D.attr_handles ctx.new }
+    {
+        let op = self.get_operation();
+        let _count = op.get_num_operands(ctx);
+        let range = self.successor_operand_range(ctx, succ);
+        op.replace_operand(range.start + arg, operand, ctx);
+    }
+
+    /// Accepts exactly where the operands stand as the operation wants them, and each successor gets values of the types
+    /// of its arguments. Else it tells the refusal of the layout, or how the first successor doesn't.
+    final fn verify(
+        &self,
+        alloc: Global,
+        ctx: &Context<D>,
+    ) -> Result<(), VerifyErr<BranchOpInterfaceVerifyErr<D::Err>>>
+        requires { IsLive ctx.now (IRNode.Operation (Self.pointer self.now)) }
+        ensures ok { OnOk result (HasBranchRule (has_layout self.now ctx.now) ctx.now (Self.pointer self.now) (forwards self.now ctx.now)) }
+        ensures refused { IfErr result (IsRefusalMemoryAside ctx.now (Self.pointer self.now) (IsBranchFault (has_layout self.now ctx.now) (refuses_layout self.now ctx.now) D.type_id D.type_body_text ctx.now (Self.pointer self.now) (forwards self.now ctx.now))) }
+        ensures whole { IsWhole D.attr_handles ctx.now }
+    {
+        let op = self.get_operation();
+        let _live = op.is_live(ctx);
+        match self.verify_successor_operand_layout(alloc, ctx) {
+            Err(VerifyErr::Memory) => Err(VerifyErr::Memory),
+            Err(VerifyErr::Refused { loc, err }) => Err(VerifyErr::Refused {
+                loc,
+                err: BranchOpInterfaceVerifyErr::Layout(err),
+            }),
+            Ok(()) => match find_first_mismatch(ctx, self) {
+                None => Ok(()),
+                Some(mismatch) => Err(tell(alloc, ctx, op, mismatch)),
+            },
+        }
+    }
+}
+
+/// Branches that have `N` successors.
+pub trait NSuccsInterface<D: OpSet, const N: usize>: BranchOpInterface<D> {
+    /// Accepts exactly where the operation has `N` successors.
+    final fn verify(&self, ctx: &Context<D>) -> Result<(), VerifyErr<NSuccsVerifyErr>>
+        requires { IsLive ctx.now (IRNode.Operation (Self.pointer self.now)) }
+        ensures ok { IsOk result ↔ HasNSuccs N ctx.now (Self.pointer self.now) }
+        ensures refused { IfErr result (IsRefusal ctx.now (Self.pointer self.now) (λ e. (e.0 ≡ N) × (e.1 ≡ num_successors ctx.now (Self.pointer self.now)))) }
+        ensures whole { IsWhole D.attr_handles ctx.now }
+    {
+        let op = self.get_operation();
+        let found = op.get_num_successors(ctx);
+        accept_if(ctx, op, found == N, NSuccsVerifyErr(N, found))
+    }
+
+    /// The successor at a place, from 0.
+    final fn get_successor_i(&self, ctx: &Context<D>, i: LessThanN<N>) -> Ptr<BasicBlock>
+        requires live { IsLive ctx.now (IRNode.Operation (Self.pointer self.now)) }
+        requires rule { HasNSuccs N ctx.now (Self.pointer self.now) }
+        ensures value { slice_get (successors_of ctx.now (Self.pointer self.now)) i.entry ≡ Some result }
+        ensures live { IsLive ctx.now (IRNode.BasicBlock result) }
+        ensures whole { IsWhole D.attr_handles ctx.now }
+    {
+        self.get_operation().get_successor(ctx, i.i())
+    }
+}
+
+/// Branches that have one successor.
+pub trait OneSuccInterface<D: OpSet>: BranchOpInterface<D> {
+    /// Accepts exactly where the operation has one successor.
+    final fn verify(&self, ctx: &Context<D>) -> Result<(), VerifyErr<NSuccsVerifyErr>>
+        requires { IsLive ctx.now (IRNode.Operation (Self.pointer self.now)) }
+        ensures ok { IsOk result ↔ HasNSuccs 1 ctx.now (Self.pointer self.now) }
+        ensures refused { IfErr result (IsRefusal ctx.now (Self.pointer self.now) (λ e. (e.0 ≡ 1) × (e.1 ≡ num_successors ctx.now (Self.pointer self.now)))) }
+        ensures whole { IsWhole D.attr_handles ctx.now }
+    {
+        let op = self.get_operation();
+        let found = op.get_num_successors(ctx);
+        accept_if(ctx, op, found == 1, NSuccsVerifyErr(1, found))
+    }
+
+    /// The successor.
+    final fn get_successor(&self, ctx: &Context<D>) -> Ptr<BasicBlock>
+        requires live { IsLive ctx.now (IRNode.Operation (Self.pointer self.now)) }
+        requires rule { HasNSuccs 1 ctx.now (Self.pointer self.now) }
+        ensures value { slice_get (successors_of ctx.now (Self.pointer self.now)) 0 ≡ Some result }
+        ensures live { IsLive ctx.now (IRNode.BasicBlock result) }
+        ensures whole { IsWhole D.attr_handles ctx.now }
+    {
+        self.get_operation().get_successor(ctx, 0)
+    }
+}

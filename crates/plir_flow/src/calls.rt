@@ -1,0 +1,196 @@
+//! The interface of operations that call functions.
+ghost use Rattle.std.specs.Prelude.{◌≡◌, ◌↔◌, ◌≤◌, ℕ, Bool, Some, All, IsOk, IsNone, IfSome, IfOk, IfErr, OnOk, OnErr, is_some, length};
+ghost use Rattle.plir_data.specs.AttrSeen.{attr_view};
+ghost use Rattle.plir_data.specs.AttrView.{leaf, type_of};
+ghost use Rattle.plir_data.specs.Dictionary.{dict_put};
+ghost use Rattle.plir_data.specs.Types.{IsLive as IsTypeLive, signature_of};
+ghost use Rattle.plir_core.specs.declared.ptr.IRNode.{IRNode};
+ghost use Rattle.plir_core.specs.Store.{IsLive, IsValueLive, operands_of};
+ghost use Rattle.plir_core.specs.Whole.{IsWhole};
+ghost use Rattle.plir_core.specs.Changes.{with_op_edit};
+ghost use Rattle.plir_iface.specs.Verdict.{IsRefusal, IsRefusalMemoryAside};
+ghost use Rattle.plir_flow.specs.Branches.{operands_within};
+ghost use Rattle.plir_flow.specs.Calls.{callee_type_of, callee_type_key, type_in_attr, HasCalleeType, IsCallFault, IsCalleeLive};
+
+use crate::operand_ranges::operands_in;
+use plir_core::{Context, Operation, Ptr, Value};
+use plir_data::{AttrObj, Identifier, Memory, OpSet, TypeAttr, TypeHandle, TypeStore, VerifyErr};
+use plir_iface::{Op, refusal};
+use std::alloc::Global;
+use std::ops::Range;
+use thiserror::Error;
+
+/// The key under which the type of what is called stands.
+pub const ATTR_KEY_CALLEE_TYPE: &'static str = "builtin_callee_type";
+
+/// What a call calls.
+#[derive(Drop)]
+pub enum CallOpCallable {
+    /// The function of a name.
+    Direct(Identifier),
+    /// The function that a value is.
+    Indirect(Value),
+}
+
+/// How the type of what is called is not one of functions.
+#[derive(Clone, Copy, PartialEq, Eq, Debug, Error)]
+pub enum CallOpInterfaceErr {
+    /// There is no attribute of a type under the key.
+    #[error("Callee type attribute not found")]
+    CalleeTypeAttrNotFoundErr,
+    /// There is, and the type is none of functions.
+    #[error("Callee type attribute must impl FunctionTypeInterface")]
+    CalleeTypeAttrIncorrectTypeErr,
+}
+
+// The type in an attribute of a type.
+fn type_in<D: OpSet>(attribute: &AttrObj<D>) -> Option<TypeHandle>
+    ensures { result ≡ type_in_attr (attr_view attribute.now) }
+{
+    match attribute {
+        AttrObj::Type(ty) => Some(ty.get_type()),
+        _ => None,
+    }
+}
+
+// The type of what is called, if an attribute of a type stands under the key.
+fn find_callee_type<D: OpSet>(ctx: &Context<D>, op: Ptr<Operation>) -> Option<TypeHandle>
+    requires { IsLive ctx.now (IRNode.Operation op) }
+    ensures value { result ≡ callee_type_of ctx.now op }
+    ensures live { IfSome result (IsTypeLive ctx.now.types) }
+    ensures whole { IsWhole D.attr_handles ctx.now }
+{
+    type_in(op.attributes(ctx).get(ATTR_KEY_CALLEE_TYPE)?)
+}
+
+// How the type of what is called breaks the rule.
+fn find_fault<D: OpSet>(ctx: &Context<D>, op: Ptr<Operation>) -> Option<CallOpInterfaceErr>
+    requires { IsLive ctx.now (IRNode.Operation op) }
+    ensures none { IsNone result ↔ HasCalleeType (λ t. is_some (signature_of D.function_sig t)) ctx.now op }
+    ensures some { IfSome result (IsCallFault (λ t. is_some (signature_of D.function_sig t)) ctx.now op) }
+    ensures whole { IsWhole D.attr_handles ctx.now }
+{
+    let Some(ty) = find_callee_type(ctx, op) else {
+        return Some(CallOpInterfaceErr::CalleeTypeAttrNotFoundErr);
+    };
+    if ctx.types().get(ty).function_sig().is_none() {
+        return Some(CallOpInterfaceErr::CalleeTypeAttrIncorrectTypeErr);
+    }
+    None
+}
+
+// Puts the type of what is called under its key.
+fn put_callee_type<D: OpSet>(
+    alloc: Global,
+    ctx: &mut Context<D>,
+    op: Ptr<Operation>,
+    ty: TypeHandle,
+) -> Result<(), Memory>
+    requires live { IsLive ctx.old (IRNode.Operation op) }
+    requires type_live { IsTypeLive ctx.old.types ty }
+    ensures ok { OnOk result (ctx.new ≡ with_op_edit ctx.old op (λ o. record o { attributes = dict_put o.attributes callee_type_key (leaf (type_of ty)) })) }
+    ensures err { OnErr result (ctx.new ≡ ctx.old) }
+    ensures whole { IsWhole D.attr_handles ctx.new }
+{
+    let _live = ctx.num_live();
+    match Identifier::try_new(alloc, ATTR_KEY_CALLEE_TYPE) {
+        Ok(key) => op.set_attr(ctx, key, AttrObj::Type(TypeAttr::new(ty))),
+        Err(_) => Err(Memory),
+    }
+}
+
+/// Operations that call a function, with operands in a row as its arguments. The type of what is called is an attribute
+/// under [`ATTR_KEY_CALLEE_TYPE`].
+///
+/// What an implementer says of its operation holds by its layout: that its operands stand as it wants them. The check of
+/// the layout accepts exactly where a predicate of the context and the operation holds, memory aside; what is called and
+/// the range of the arguments are functions of these two.
+pub trait CallOpInterface<D: OpSet>: Op<D> {
+    ghost use Rattle.plir_core.specs.Store.{Store};
+    ghost use Rattle.plir_flow.specs.Branches.{Range as Places};
+    ghost use Rattle.plir_flow.specs.declared.calls.CallOpCallable.{CallOpCallable as Callable};
+
+    // The operands stand as the operation wants them, and what a refusal tells where they don't.
+    ghost has_call_layout: { Self → Store D.Kind D.Attr D.Ty → Type 0 };
+
+    ghost refuses_call_layout: { Self → Store D.Kind D.Attr D.Ty → D.Err → Type 0 };
+
+    // What is called, and the places of the operands that are its arguments.
+    ghost called: { Self → Store D.Kind D.Attr D.Ty → Callable };
+
+    ghost arguments: { Self → Store D.Kind D.Attr D.Ty → Places };
+
+    /// Accepts exactly where the operands stand as the operation wants them.
+    fn verify_call_layout(&self, alloc: Global, ctx: &Context<D>) -> Result<(), VerifyErr<D::Err>>
+        requires { IsLive ctx.now (IRNode.Operation (Self.pointer self.now)) }
+        ensures ok { OnOk result (has_call_layout self.now ctx.now) }
+        ensures refused { IfErr result (IsRefusalMemoryAside ctx.now (Self.pointer self.now) (λ e. (has_call_layout self.now ctx.now → ⊥) × refuses_call_layout self.now ctx.now e)) };
+
+    /// What is called.
+    fn callee(&self, alloc: Global, ctx: &Context<D>) -> Result<CallOpCallable, Memory>
+        requires live { IsLive ctx.now (IRNode.Operation (Self.pointer self.now)) }
+        requires layout { has_call_layout self.now ctx.now }
+        ensures value { IfOk result (λ c. c ≡ called self.now ctx.now) }
+        ensures live { IsCalleeLive ctx.now (called self.now ctx.now) };
+
+    /// The places of the operands that are passed to what is called; they are among the operands.
+    fn arg_range(&self, ctx: &Context<D>) -> Range<usize>
+        requires live { IsLive ctx.now (IRNode.Operation (Self.pointer self.now)) }
+        requires layout { has_call_layout self.now ctx.now }
+        ensures start { result.start ≡ (arguments self.now ctx.now).0 }
+        ensures end { result.end ≡ (arguments self.now ctx.now).1 }
+        ensures ordered { result.start ≤ result.end }
+        ensures inside { result.end ≤ length (operands_of ctx.now (Self.pointer self.now)) };
+
+    /// The operands that are passed to what is called.
+    final fn args(&self, alloc: Global, ctx: &Context<D>) -> Result<Vec<Value>, Memory>
+        requires live { IsLive ctx.now (IRNode.Operation (Self.pointer self.now)) }
+        requires layout { has_call_layout self.now ctx.now }
+        ensures value { IfOk result (λ vs. vs.items ≡ operands_within ctx.now (Self.pointer self.now) (arguments self.now ctx.now)) }
+        ensures live { IfOk result (λ vs. All (IsValueLive ctx.now) vs.items) }
+        ensures whole { IsWhole D.attr_handles ctx.now }
+    {
+        operands_in(alloc, ctx, self.get_operation(), self.arg_range(ctx))
+    }
+
+    /// The type of what is called.
+    final fn callee_type(&self, ctx: &Context<D>) -> TypeHandle
+        requires live { IsLive ctx.now (IRNode.Operation (Self.pointer self.now)) }
+        requires rule { HasCalleeType (λ t. is_some (signature_of D.function_sig t)) ctx.now (Self.pointer self.now) }
+        ensures value { callee_type_of ctx.now (Self.pointer self.now) ≡ Some result }
+        ensures live { IsTypeLive ctx.now.types result }
+        ensures whole { IsWhole D.attr_handles ctx.now }
+    {
+        find_callee_type(ctx, self.get_operation()).unwrap()
+    }
+
+    /// Says of what type it is that is called. After a refusal all is as before.
+    final fn set_callee_type(
+        &self,
+        alloc: Global,
+        ctx: &mut Context<D>,
+        ty: TypeHandle,
+    ) -> Result<(), Memory>
+        requires live { IsLive ctx.old (IRNode.Operation (Self.pointer self.now)) }
+        requires type_live { IsTypeLive ctx.old.types ty }
+        ensures ok { OnOk result (ctx.new ≡ with_op_edit ctx.old (Self.pointer self.now) (λ o. record o { attributes = dict_put o.attributes callee_type_key (leaf (type_of ty)) })) }
+        ensures err { OnErr result (ctx.new ≡ ctx.old) }
+        ensures whole { IsWhole D.attr_handles ctx.new }
+    {
+        put_callee_type(alloc, ctx, self.get_operation(), ty)
+    }
+
+    /// Accepts exactly where an attribute of a type stands under the key, and the type is one of functions.
+    final fn verify(&self, ctx: &Context<D>) -> Result<(), VerifyErr<CallOpInterfaceErr>>
+        requires { IsLive ctx.now (IRNode.Operation (Self.pointer self.now)) }
+        ensures ok { IsOk result ↔ HasCalleeType (λ t. is_some (signature_of D.function_sig t)) ctx.now (Self.pointer self.now) }
+        ensures refused { IfErr result (IsRefusal ctx.now (Self.pointer self.now) (IsCallFault (λ t. is_some (signature_of D.function_sig t)) ctx.now (Self.pointer self.now))) }
+        ensures whole { IsWhole D.attr_handles ctx.now }
+    {
+        let op = self.get_operation();
+        match find_fault(ctx, op) {
+            None => Ok(()),
+            Some(fault) => Err(refusal(ctx, op, fault)),
+        }
+    }
+}
