@@ -11,11 +11,11 @@ use Rattle.plir_core.specs.declared.ptr.Operation.{Operation as OperationKind}
 use Rattle.plir_core.specs.declared.ptr.IRNode.TheVariants.{Operation}
 use Rattle.plir_core.specs.declared.value.Value.{Value}
 use Rattle.plir_core.specs.Contents.{OpView}
-use Rattle.plir_core.specs.Store.{Store, IsLive, is_live, op_at, operands_in, operands_of, attributes_in, attributes_of}
+use Rattle.plir_core.specs.Store.{Store, IsLive, is_live, op_at, kind_in, results_in, successors_in, location_in, operands_in, operands_of, attributes_in, attributes_of}
 use Rattle.plir_core.specs.Changes.{with_op_edit}
 use Rattle.plir_core.specs.Held.{IsOpEdited}
 use Rattle.plir_flow.specs.Segments.{in_segments, flatten, segment_at, edit_at, start_in, sizes_in, sizes_key, sizes_attr, with_sizes, sizes_under, sizes_of, segments_of, segment_size, num_segments, in_op, with_segments, IsCount, IsSegmented, HasSegments, IsResegmented}
-use Rattle.plir_flow.proofs.SegmentLists.{sum-cons, flatten-in, sizes-in, in-flatten, size-at, sizes-edit, count-edit, count-in, value-at, flatten-insert, flatten-remove}
+use Rattle.plir_flow.proofs.SegmentLists.{sum-cons, flatten-in, sizes-in, in-flatten, size-at, sizes-edit, count-edit, count-in, value-at, segment-range, flatten-insert, flatten-remove}
 use Rattle.plir_flow.proofs.SizesPut.{Join, Same, get-put}
 
 pub sum-lengths : (segs : List (List Value)) → sum (map length segs) ≡ length (flatten segs)
@@ -25,16 +25,17 @@ sum-lengths (seg ∷ segs) = sum-cons (length seg) (map length segs) ∙ ap (λ 
 -- what is held by an operation that has come to have segments
 module _ {K A T : Type 0} (s t : Store K A T) (op : Ptr OperationKind) (segs : List (List Value)) (live : IsLive s (Operation op)) (is : t ≡ with_segments s op segs)
     (edited : IsOpEdited s (with_segments s op segs) op (in_op segs)) where
-  held : (o : Option (OpView K A)) → op_at s op ≡ o → (is_some o && (version_at s.nodes.ops op.slot == op.version)) ≡ true → (o : OpView K A) × (op_at t op ≡ Some (in_op segs o))
+  held : (o : Option (OpView K A)) → op_at s op ≡ o → (is_some o && (version_at s.nodes.ops op.slot == op.version)) ≡ true → (o : OpView K A) × ((op_at t op ≡ Some (in_op segs o)) × (op_at s op ≡ Some o))
   held None e l = absurd (let z : ⊥ = cc (l) in z)
-  held (Some o) e l = (o, ap (λ z. op_at z op) is ∙ edited.held ∙ ap (option_map (in_op segs)) e)
+  held (Some o) e l = (o, (ap (λ z. op_at z op) is ∙ edited.held ∙ ap (option_map (in_op segs)) e, e))
 
   pub resegmented : IsResegmented s t op segs
   resegmented =
       let h = held (op_at s op) refl live in
-      let under : sizes_under t op ≡ Some (map length segs) = ap (λ z. option_and_then sizes_in (dict_get (attributes_in z) sizes_key)) h.1 ∙ ap (option_and_then sizes_in) (get-put h.0.attributes sizes_key (sizes_attr (map length segs))) in
+      let under : sizes_under t op ≡ Some (map length segs) = ap (λ z. option_and_then sizes_in (dict_get (attributes_in z) sizes_key)) h.1.0 ∙ ap (option_and_then sizes_in) (get-put h.0.attributes sizes_key (sizes_attr (map length segs))) in
       let sizes : sizes_of t op ≡ map length segs = ap (λ z. unwrap_or z []) under in
-      let operands : operands_of t op ≡ flatten segs = ap operands_in h.1 in
+      let operands : operands_of t op ≡ flatten segs = ap operands_in h.1.0 in
+      let segments : segments_of t op ≡ segs = ap (λ z. in_segments z (operands_of t op)) sizes ∙ ap (in_segments (map length segs)) operands ∙ in-flatten segs in
       record {
         after = is;
         edited = subst (λ z. IsOpEdited s z op (in_op segs)) (sym is) edited;
@@ -43,11 +44,16 @@ module _ {K A T : Type 0} (s t : Store K A T) (op : Ptr OperationKind) (segs : L
           total = ap sum sizes ∙ sum-lengths segs ∙ ap length (sym operands);
         };
         sizes = sizes;
-        segments = ap (λ z. in_segments z (operands_of t op)) sizes ∙ ap (in_segments (map length segs)) operands ∙ in-flatten segs;
+        segments = segments;
         operands = operands;
         live = ap (λ z. is_live z (Operation op)) is ∙ edited.keeps.live (Operation op) ∙ live;
         count = ap length sizes ∙ length-map segs length;
         size_at = λ i. ap (λ ns. slice_index_or ns i 0) sizes ∙ size-at segs i;
+        within = λ i. sym (segment-range (sizes_of t op) i (operands_of t op)) ∙ ap (λ z. segment_at z i) segments;
+        kind = ap kind_in h.1.0 ∙ ap kind_in (sym h.1.1);
+        result_types = ap results_in h.1.0 ∙ ap results_in (sym h.1.1);
+        successors = ap successors_in h.1.0 ∙ ap successors_in (sym h.1.1);
+        location = ap location_in h.1.0 ∙ ap location_in (sym h.1.1);
       }
 
 module _ {K A T : Type 0} (s : Store K A T) (op : Ptr OperationKind) where

@@ -1,5 +1,5 @@
 -- Operands in segments: a list of lists, whose lengths are the sizes and whose flattening is the operands.
-use Rattle.std.specs.Prelude.{◌≡◌, ℕ, zero, suc, ◌+◌, List, [], ◌∷◌, length, map, take, drop, sum, slice_index_or, Option, Some, None, IsSome, unwrap_or, option_and_then, codes}
+use Rattle.std.specs.Prelude.{◌≡◌, ℕ, zero, suc, ◌+◌, List, [], ◌∷◌, length, map, take, drop, sum, slice_index_or, slice_range, Option, Some, None, IsSome, unwrap_or, option_and_then, codes}
 use Rattle.std.specs.List.{flat_map}
 use Rattle.plir_data.specs.AttrView.{AttrView, leaf, operand_segment_sizes}
 use Rattle.plir_data.specs.Dictionary.{dict_get, dict_put}
@@ -8,7 +8,7 @@ use Rattle.plir_core.specs.declared.ptr.Operation.{Operation as OperationKind}
 use Rattle.plir_core.specs.declared.ptr.IRNode.TheVariants.{Operation}
 use Rattle.plir_core.specs.declared.value.Value.{Value}
 use Rattle.plir_core.specs.Contents.{OpView}
-use Rattle.plir_core.specs.Store.{Store, IsLive, operands_of, attributes_of}
+use Rattle.plir_core.specs.Store.{Store, IsLive, kind_of, result_types_of, operands_of, successors_of, attributes_of, location_of}
 use Rattle.plir_core.specs.Changes.{with_op_edit}
 use Rattle.plir_core.specs.Held.{IsOpEdited}
 
@@ -71,6 +71,10 @@ module _ {K A T : Type 0} where
   abbrev pub segment_size : Store K A T → Ptr OperationKind → ℕ → ℕ
   segment_size s op i = slice_index_or (sizes_of s op) i 0
 
+  -- the places of the operands in a segment: the first, and the one behind the last
+  abbrev pub segment_places : Store K A T → Ptr OperationKind → ℕ → ℕ × ℕ
+  segment_places s op i = (start_in (sizes_of s op) i, start_in (sizes_of s op) i + segment_size s op i)
+
   -- its operands in their segments
   abbrev pub segments_of : Store K A T → Ptr OperationKind → List (List Value)
   segments_of s op = in_segments (sizes_of s op) (operands_of s op)
@@ -109,3 +113,8 @@ module _ {K A T : Type 0} where
     pub live : IsLive t (Operation op)
     pub count : num_segments t op ≡ length segs
     pub size_at : (i : ℕ) → segment_size t op i ≡ length (segment_at segs i)
+    pub within : (i : ℕ) → slice_range (operands_of t op) (segment_places t op i).0 (segment_places t op i).1 ≡ segment_at segs i
+    pub kind : kind_of t op ≡ kind_of s op
+    pub result_types : result_types_of t op ≡ result_types_of s op
+    pub successors : successors_of t op ≡ successors_of s op
+    pub location : location_of t op ≡ location_of s op

@@ -1,13 +1,13 @@
 //! Laws of segments: each function that takes no context does nothing, and its contract is the law.
-ghost use Rattle.std.specs.Prelude.{◌≡◌, ◌≢◌, ◌<◌, ◌-◌, ◌^◌, ◌∷◌, ◌++◌, ℕ, List, [], IfOk, OnOk, OnErr, length, map, take, sum};
+ghost use Rattle.std.specs.Prelude.{◌≡◌, ◌≢◌, ◌<◌, ◌≤◌, ◌-◌, ◌^◌, ◌∷◌, ◌++◌, ℕ, List, [], IfOk, OnOk, OnErr, length, map, take, sum, slice_range};
 ghost use Rattle.plir_core.specs.declared.ptr.IRNode.{IRNode};
 ghost use Rattle.plir_core.specs.declared.value.Value.{Value as AnyValue};
 ghost use Rattle.plir_core.specs.Store.{IsLive, IsValueLive, operands_of};
 ghost use Rattle.plir_core.specs.Whole.{IsWhole};
-ghost use Rattle.plir_flow.specs.Segments.{in_segments, flatten, segment_at, edit_at, sizes_of, num_segments, segment_size, segments_of, HasSegments};
+ghost use Rattle.plir_flow.specs.Segments.{in_segments, flatten, segment_at, edit_at, sizes_of, num_segments, segment_size, segment_places, segments_of, IsSegmented, HasSegments};
 
 use crate::segments::OperandSegmentInterface;
-use plir_core::{Context, Value};
+use plir_core::{Context, Operation, Ptr, Value};
 use plir_data::{Memory, OpSet};
 
 /// Where the sum of sizes is the number of values, the values in segments are the one list of lists with these sizes
@@ -31,6 +31,18 @@ pub fn edits_of_one_segment()
     ensures here { (i : ℕ) (f : List AnyValue → List AnyValue) (segs : List (List AnyValue)) → i < length segs → segment_at (edit_at i f segs) i ≡ f (segment_at segs i) }
     ensures others { (i j : ℕ) (f : List AnyValue → List AnyValue) (segs : List (List AnyValue)) → j ≢ i → segment_at (edit_at i f segs) j ≡ segment_at segs j }
 {}
+
+/// The operands in a segment stand in a row among all operands.
+pub fn segments_stand_in_a_row<D: OpSet>(ctx: &Context<D>, op: Ptr<Operation>)
+    requires live { IsLive ctx.now (IRNode.Operation op) }
+    requires segmented { IsSegmented ctx.now op }
+    ensures within { (i : ℕ) → slice_range (operands_of ctx.now op) (segment_places ctx.now op i).0 (segment_places ctx.now op i).1 ≡ segment_at (segments_of ctx.now op) i }
+    ensures sizes { (i : ℕ) → length (segment_at (segments_of ctx.now op) i) ≡ segment_size ctx.now op i }
+    ensures inside { (i : ℕ) → (segment_places ctx.now op i).1 ≤ length (operands_of ctx.now op) }
+    ensures count { length (segments_of ctx.now op) ≡ num_segments ctx.now op }
+{
+    let _live = ctx.num_live();
+}
 
 /// Pushes a value to a segment and pops it: that gives the value, and the operation's segments and operands are as
 /// before. Where the push is refused, all is as before.

@@ -1,9 +1,9 @@
 //! Edits of one segment: the operand and the size change together, and nothing else does.
-ghost use Rattle.std.specs.Prelude.{◌≡◌, ◌<◌, ◌≤◌, ◌-◌, ◌^◌, ◌∷◌, ◌++◌, [], Some, IfOk, OnOk, OnErr, insert, remove, take, length, slice_get};
+ghost use Rattle.std.specs.Prelude.{◌≡◌, ◌<◌, ◌≤◌, ◌+◌, ◌-◌, ◌^◌, ◌∷◌, ◌++◌, [], Some, IfOk, OnOk, OnErr, insert, remove, take, length, slice_get};
 ghost use Rattle.plir_core.specs.declared.ptr.IRNode.{IRNode};
-ghost use Rattle.plir_core.specs.Store.{IsLive, IsValueLive};
+ghost use Rattle.plir_core.specs.Store.{IsLive, IsValueLive, operands_of};
 ghost use Rattle.plir_core.specs.Whole.{IsWhole};
-ghost use Rattle.plir_flow.specs.Segments.{segment_at, edit_at, segments_of, num_segments, segment_size, IsSegmented, IsResegmented};
+ghost use Rattle.plir_flow.specs.Segments.{segment_at, edit_at, segments_of, num_segments, segment_size, segment_places, IsSegmented, IsResegmented};
 
 use crate::segment_sizes::{place_among, set_size, size_of};
 use plir_core::{Context, Operation, Ptr, Value, laws};
@@ -24,6 +24,7 @@ pub(crate) fn insert_at<D: OpSet>(
     requires room { segment_size ctx.old op seg < 2 ^ 32 - 1 }
     requires operand_live { IsValueLive ctx.old operand }
     ensures ok { OnOk result (IsResegmented ctx.old ctx.new op (edit_at seg (λ xs. insert xs place operand) (segments_of ctx.old op))) }
+    ensures operands { OnOk result (operands_of ctx.new op ≡ insert (operands_of ctx.old op) ((segment_places ctx.old op seg).0 + place) operand) }
     ensures err { OnErr result (ctx.new ≡ ctx.old) }
     ensures whole { IsWhole D.attr_handles ctx.new }
 {
@@ -49,6 +50,7 @@ pub(crate) fn remove_at<D: OpSet>(
     requires within { place < segment_size ctx.old op seg }
     ensures value { slice_get (segment_at (segments_of ctx.old op) seg) place ≡ Some result }
     ensures after { IsResegmented ctx.old ctx.new op (edit_at seg (λ xs. remove xs place) (segments_of ctx.old op)) }
+    ensures operands { operands_of ctx.new op ≡ remove (operands_of ctx.old op) ((segment_places ctx.old op seg).0 + place) }
     ensures whole { IsWhole D.attr_handles ctx.new }
 {
     laws::op_edits_join(ctx, op);
@@ -74,6 +76,7 @@ pub(crate) fn push_last<D: OpSet>(
     requires operand_live { IsValueLive ctx.old operand }
     ensures index { IfOk result (λ i. i ≡ segment_size ctx.old op seg) }
     ensures ok { OnOk result (IsResegmented ctx.old ctx.new op (edit_at seg (λ xs. xs ++ operand ∷ []) (segments_of ctx.old op))) }
+    ensures operands { OnOk result (operands_of ctx.new op ≡ insert (operands_of ctx.old op) (segment_places ctx.old op seg).1 operand) }
     ensures err { OnErr result (ctx.new ≡ ctx.old) }
     ensures whole { IsWhole D.attr_handles ctx.new }
 {
@@ -90,6 +93,7 @@ pub(crate) fn pop_last<D: OpSet>(ctx: &mut Context<D>, op: Ptr<Operation>, seg: 
     requires filled { 0 < segment_size ctx.old op seg }
     ensures value { slice_get (segment_at (segments_of ctx.old op) seg) (segment_size ctx.old op seg - 1) ≡ Some result }
     ensures after { IsResegmented ctx.old ctx.new op (edit_at seg (λ xs. take (length xs - 1) xs) (segments_of ctx.old op)) }
+    ensures operands { operands_of ctx.new op ≡ remove (operands_of ctx.old op) ((segment_places ctx.old op seg).1 - 1) }
     ensures whole { IsWhole D.attr_handles ctx.new }
 {
     let size = size_of(ctx, op, seg) as usize;

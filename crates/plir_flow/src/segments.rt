@@ -6,7 +6,7 @@ ghost use Rattle.plir_core.specs.Store.{IsLive, IsValueLive, operands_of};
 ghost use Rattle.plir_core.specs.Whole.{IsWhole};
 ghost use Rattle.plir_core.specs.Changes.{with_op_edit};
 ghost use Rattle.plir_iface.specs.Verdict.{IsRefusal};
-ghost use Rattle.plir_flow.specs.Segments.{flatten, segment_at, edit_at, start_in, sizes_attr, with_sizes, sizes_of, sizes_under, num_segments, segment_size, segments_of, IsSegmented, HasSegments, IsResegmented};
+ghost use Rattle.plir_flow.specs.Segments.{flatten, segment_at, edit_at, sizes_attr, with_sizes, sizes_of, sizes_under, num_segments, segment_size, segment_places, segments_of, IsSegmented, HasSegments, IsResegmented};
 ghost use Rattle.plir_flow.specs.SegmentRefusals.{IsSegmentFault};
 
 use crate::operand_ranges::operands_in;
@@ -110,8 +110,9 @@ fn range_of<D: OpSet>(ctx: &Context<D>, op: Ptr<Operation>, seg: usize) -> Range
     requires live { IsLive ctx.now (IRNode.Operation op) }
     requires segmented { IsSegmented ctx.now op }
     requires below { seg < num_segments ctx.now op }
-    ensures start { result.start ≡ start_in (sizes_of ctx.now op) seg }
-    ensures end { result.end ≡ result.start + segment_size ctx.now op seg }
+    ensures start { result.start ≡ (segment_places ctx.now op seg).0 }
+    ensures end { result.end ≡ (segment_places ctx.now op seg).1 }
+    ensures ordered { result.start ≤ result.end }
     ensures inside { result.end ≤ length (operands_of ctx.now op) }
     ensures whole { IsWhole D.attr_handles ctx.now }
 {
@@ -173,8 +174,9 @@ pub trait OperandSegmentInterface<D: OpSet>: Op<D> {
         requires live { IsLive ctx.now (IRNode.Operation (Self.pointer self.now)) }
         requires rule { HasSegments (expected self.now ctx.now) ctx.now (Self.pointer self.now) }
         requires below { seg < num_segments ctx.now (Self.pointer self.now) }
-        ensures start { result.start ≡ start_in (sizes_of ctx.now (Self.pointer self.now)) seg }
-        ensures end { result.end ≡ result.start + segment_size ctx.now (Self.pointer self.now) seg }
+        ensures start { result.start ≡ (segment_places ctx.now (Self.pointer self.now) seg).0 }
+        ensures end { result.end ≡ (segment_places ctx.now (Self.pointer self.now) seg).1 }
+        ensures ordered { result.start ≤ result.end }
         ensures inside { result.end ≤ length (operands_of ctx.now (Self.pointer self.now)) }
         ensures whole { IsWhole D.attr_handles ctx.now }
     {
@@ -267,6 +269,7 @@ pub trait OperandSegmentInterface<D: OpSet>: Op<D> {
         requires operand_live { IsValueLive ctx.old operand }
         ensures index { IfOk result (λ i. i ≡ segment_size ctx.old (Self.pointer self.now) seg) }
         ensures ok { OnOk result (IsResegmented ctx.old ctx.new (Self.pointer self.now) (edit_at seg (λ xs. xs ++ operand ∷ []) (segments_of ctx.old (Self.pointer self.now)))) }
+        ensures operands { OnOk result (operands_of ctx.new (Self.pointer self.now) ≡ insert (operands_of ctx.old (Self.pointer self.now)) (segment_places ctx.old (Self.pointer self.now) seg).1 operand) }
         ensures rule { OnOk result (HasSegments (expected self.now ctx.new) ctx.new (Self.pointer self.now)) }
         ensures err { OnErr result (ctx.new ≡ ctx.old) }
         ensures whole { IsWhole D.attr_handles ctx.new }
@@ -282,6 +285,7 @@ pub trait OperandSegmentInterface<D: OpSet>: Op<D> {
         requires filled { 0 < segment_size ctx.old (Self.pointer self.now) seg }
         ensures value { slice_get (segment_at (segments_of ctx.old (Self.pointer self.now)) seg) (segment_size ctx.old (Self.pointer self.now) seg - 1) ≡ Some result }
         ensures after { IsResegmented ctx.old ctx.new (Self.pointer self.now) (edit_at seg (λ xs. take (length xs - 1) xs) (segments_of ctx.old (Self.pointer self.now))) }
+        ensures operands { operands_of ctx.new (Self.pointer self.now) ≡ remove (operands_of ctx.old (Self.pointer self.now)) ((segment_places ctx.old (Self.pointer self.now) seg).1 - 1) }
         ensures rule { HasSegments (expected self.now ctx.new) ctx.new (Self.pointer self.now) }
         ensures whole { IsWhole D.attr_handles ctx.new }
     {
@@ -304,6 +308,7 @@ pub trait OperandSegmentInterface<D: OpSet>: Op<D> {
         requires room { segment_size ctx.old (Self.pointer self.now) seg < 2 ^ 32 - 1 }
         requires operand_live { IsValueLive ctx.old operand }
         ensures ok { OnOk result (IsResegmented ctx.old ctx.new (Self.pointer self.now) (edit_at seg (λ xs. insert xs place operand) (segments_of ctx.old (Self.pointer self.now)))) }
+        ensures operands { OnOk result (operands_of ctx.new (Self.pointer self.now) ≡ insert (operands_of ctx.old (Self.pointer self.now)) ((segment_places ctx.old (Self.pointer self.now) seg).0 + place) operand) }
         ensures rule { OnOk result (HasSegments (expected self.now ctx.new) ctx.new (Self.pointer self.now)) }
         ensures err { OnErr result (ctx.new ≡ ctx.old) }
         ensures whole { IsWhole D.attr_handles ctx.new }
@@ -319,6 +324,7 @@ pub trait OperandSegmentInterface<D: OpSet>: Op<D> {
         requires within { place < segment_size ctx.old (Self.pointer self.now) seg }
         ensures value { slice_get (segment_at (segments_of ctx.old (Self.pointer self.now)) seg) place ≡ Some result }
         ensures after { IsResegmented ctx.old ctx.new (Self.pointer self.now) (edit_at seg (λ xs. remove xs place) (segments_of ctx.old (Self.pointer self.now))) }
+        ensures operands { operands_of ctx.new (Self.pointer self.now) ≡ remove (operands_of ctx.old (Self.pointer self.now)) ((segment_places ctx.old (Self.pointer self.now) seg).0 + place) }
         ensures rule { HasSegments (expected self.now ctx.new) ctx.new (Self.pointer self.now) }
         ensures whole { IsWhole D.attr_handles ctx.new }
     {

@@ -21,3 +21,7 @@ returns-clause-ok g c =
     let sizes = ap (λ ns. slice_set (unwrap_or ns []) c.args.seg (c.size_of-size.result + 1)) kept ∙ inserted-sizes s op c.requires.segmented c.args.seg c.args.place (c.size_of-size.result + 1) c.args.operand c.requires.within (ap (λ n. n + 1) c.size_of-size.ensures.value) in
     let is = put-together s op c.insert_operand.new.ctx c.set_size.new.ctx put _ segs c.op_edits_join.ensures.join c.op_edits_join.ensures.same values sizes c.in_ok-insert_operand.ensures.ok c.set_size.ensures.after in
     resegmented s c.set_size.new.ctx op segs c.requires.live is (c.op_edits_keep_the_rest.ensures (in_op segs))
+
+pub returns-clause-operands : goal.returns-clause-operands
+returns-clause-operands g c =
+    (returns-clause-ok g c).operands ∙ sym (inserted-values c.args.ctx.now c.args.op c.requires.segmented c.args.seg c.args.place c.args.operand c.requires.below c.requires.within)

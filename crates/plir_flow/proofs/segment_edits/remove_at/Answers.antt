@@ -27,3 +27,6 @@ returns-clause-after g c =
     let sizes = ap (λ ns. slice_set (unwrap_or ns []) c.args.seg (c.size_of-size.result - 1)) kept ∙ removed-sizes s op c.requires.segmented c.args.seg c.args.place (c.size_of-size.result - 1) c.requires.within (ap (λ n. n - 1) c.size_of-size.ensures.value) in
     let is = put-together s op c.remove_operand-operand.new.ctx c.set_size.new.ctx take_out _ segs c.op_edits_join.ensures.join c.op_edits_join.ensures.same values sizes c.remove_operand-operand.ensures.after c.set_size.ensures.after in
     resegmented s c.set_size.new.ctx op segs c.requires.live is (c.op_edits_keep_the_rest.ensures (in_op segs))
+
+pub returns-clause-operands : goal.returns-clause-operands
+returns-clause-operands g c = (returns-clause-after g c).operands ∙ sym (removed-values c.args.ctx.now c.args.op c.requires.segmented c.args.seg c.args.place c.requires.below c.requires.within)
