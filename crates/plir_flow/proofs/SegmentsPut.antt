@@ -16,7 +16,7 @@ use Rattle.plir_core.specs.Changes.{with_op_edit}
 use Rattle.plir_core.specs.Held.{IsOpEdited}
 use Rattle.plir_flow.specs.Segments.{in_segments, flatten, segment_at, edit_at, start_in, sizes_in, sizes_key, sizes_attr, with_sizes, sizes_under, sizes_of, segments_of, segment_size, num_segments, in_op, with_segments, IsCount, IsSegmented, HasSegments, IsResegmented}
 use Rattle.plir_flow.proofs.SegmentLists.{sum-cons, flatten-in, sizes-in, in-flatten, size-at, sizes-edit, count-edit, count-in, value-at, segment-range, flatten-insert, flatten-remove}
-use Rattle.plir_flow.proofs.SizesPut.{Join, Same, get-put}
+use Rattle.plir_flow.proofs.SizesPut.{Join, Same, get-put, get-other}
 
 pub sum-lengths : (segs : List (List Value)) → sum (map length segs) ≡ length (flatten segs)
 sum-lengths [] = refl
@@ -54,6 +54,7 @@ module _ {K A T : Type 0} (s t : Store K A T) (op : Ptr OperationKind) (segs : L
         result_types = ap results_in h.1.0 ∙ ap results_in (sym h.1.1);
         successors = ap successors_in h.1.0 ∙ ap successors_in (sym h.1.1);
         location = ap location_in h.1.0 ∙ ap location_in (sym h.1.1);
+        attributes = λ k other. ap (λ z. dict_get (attributes_in z) k) h.1.0 ∙ get-other h.0.attributes sizes_key k (sizes_attr (map length segs)) other ∙ ap (λ z. dict_get (attributes_in z) k) (sym h.1.1);
       }
 
 module _ {K A T : Type 0} (s : Store K A T) (op : Ptr OperationKind) where

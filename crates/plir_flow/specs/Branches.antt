@@ -1,19 +1,27 @@
 -- The rules of branches and of successors, and how they are refused.
-use Rattle.std.specs.Prelude.{◌≡◌, ◌≢◌, ◌<◌, ◌-◌, ℕ, List, length, map, slice_get, slice_range, Option, Some, string_bytes}
+use Rattle.std.specs.Prelude.{◌≡◌, ◌≢◌, ◌<◌, ◌-◌, ℕ, List, length, map, slice_get, slice_range, Bool, false, Option, Some, string_bytes}
+use Rattle.plir_data.specs.Dictionary.{dict_get}
 use Rattle.plir_data.specs.Types.{TypeView, IsLive as IsTypeLive}
 use Rattle.plir_data.specs.TypeText.{type_text}
+use Rattle.plir_data.specs.declared.location.VerifyErr.{VerifyErr}
+use Rattle.plir_data.specs.declared.location.VerifyErr.TheVariants.{Refused, Memory}
 use Rattle.plir_core.specs.declared.ptr.Ptr.{Ptr}
 use Rattle.plir_core.specs.declared.ptr.Operation.{Operation as OperationKind}
 use Rattle.plir_core.specs.declared.ptr.BasicBlock.{BasicBlock as BasicBlockKind}
 use Rattle.plir_core.specs.declared.ptr.IRNode.TheVariants.{Operation}
 use Rattle.plir_core.specs.declared.value.Value.{Value}
-use Rattle.plir_core.specs.Store.{Store, IsLive, op_at, block_at, kind_of, result_types_of, operands_of, successors_of, location_of, arg_types_of, type_of_value}
+use Rattle.plir_core.specs.Store.{Store, IsLive, op_at, block_at, kind_of, result_types_of, operands_of, successors_of, attributes_of, location_of, arg_types_of, type_of_value}
 use Rattle.plir_core.specs.Held.{KeepsNodes}
 use Rattle.plir_iface.specs.Sides.{type_in}
 use Rattle.plir_flow.specs.declared.branch_errors.BranchOpInterfaceVerifyErr.{BranchOpInterfaceVerifyErr}
 use Rattle.plir_flow.specs.declared.branch_errors.BranchOpInterfaceVerifyErr.TheVariants.{Layout, SuccessorOperandsMismatch, SuccessorOperandTypeMismatch}
 use Rattle.plir_flow.specs.declared.branch_errors.Mismatch.{Mismatch}
 use Rattle.plir_flow.specs.declared.branch_errors.Mismatch.TheVariants.{Count, Differ}
+
+-- the refusal of a layout, as that of a branch
+abbrev pub in_branch : {E : Type 0} → VerifyErr E → VerifyErr (BranchOpInterfaceVerifyErr E)
+in_branch (Refused loc err) = Refused loc (Layout err)
+in_branch Memory = Memory
 
 -- a range of places: its first, and the one behind its last
 abbrev pub Range : Type 0
@@ -76,8 +84,8 @@ module _ {K A T : Type 0} where
   IsBranchFault layout layout_refusal own_id own_body s op forwards e = layout × ((m : Mismatch) × (IsFirstMismatch s op forwards m × TellsMismatch own_id own_body s m e))
 
   -- From s to t an operation has come to have these operands; what its successor i gets has become `values`, what the others
-  -- get is the same, and beside attributes of the operation nothing else has changed.
-  pub record IsReforwarded (s t : Store K A T) (op : Ptr OperationKind) (old new : ℕ → Range) (i : ℕ) (operands values : List Value) : Type 0 where
+  -- get is the same, and beside attributes that tell of the layout nothing else has changed.
+  pub record IsReforwarded (s t : Store K A T) (op : Ptr OperationKind) (tells_layout : List ℕ → Bool) (old new : ℕ → Range) (i : ℕ) (operands values : List Value) : Type 0 where
     pub keeps : KeepsNodes s t
     pub ops : (q : Ptr OperationKind) → IsLive s (Operation q) → (q ≡ op → ⊥) → op_at t q ≡ op_at s q
     pub blocks : (b : Ptr BasicBlockKind) → block_at t b ≡ block_at s b
@@ -85,6 +93,7 @@ module _ {K A T : Type 0} where
     pub result_types : result_types_of t op ≡ result_types_of s op
     pub successors : successors_of t op ≡ successors_of s op
     pub location : location_of t op ≡ location_of s op
+    pub attributes : (k : List ℕ) → tells_layout k ≡ false → dict_get (attributes_of t op) k ≡ dict_get (attributes_of s op) k
     pub operands_now : operands_of t op ≡ operands
     pub here : operands_within t op (new i) ≡ values
     pub others : (j : ℕ) → j < num_successors s op → j ≢ i → operands_within t op (new j) ≡ operands_within s op (old j)

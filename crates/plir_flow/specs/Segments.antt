@@ -1,8 +1,8 @@
 -- Operands in segments: a list of lists, whose lengths are the sizes and whose flattening is the operands.
-use Rattle.std.specs.Prelude.{◌≡◌, ℕ, zero, suc, ◌+◌, List, [], ◌∷◌, length, map, take, drop, sum, slice_index_or, slice_range, Option, Some, None, IsSome, unwrap_or, option_and_then, codes}
+use Rattle.std.specs.Prelude.{◌≡◌, ℕ, zero, suc, ◌+◌, List, [], ◌∷◌, length, map, take, drop, sum, slice_index_or, slice_range, false, Option, Some, None, IsSome, unwrap_or, option_and_then, codes}
 use Rattle.std.specs.List.{flat_map}
 use Rattle.plir_data.specs.AttrView.{AttrView, leaf, operand_segment_sizes}
-use Rattle.plir_data.specs.Dictionary.{dict_get, dict_put}
+use Rattle.plir_data.specs.Dictionary.{dict_get, dict_put, is_key}
 use Rattle.plir_core.specs.declared.ptr.Ptr.{Ptr}
 use Rattle.plir_core.specs.declared.ptr.Operation.{Operation as OperationKind}
 use Rattle.plir_core.specs.declared.ptr.IRNode.TheVariants.{Operation}
@@ -118,3 +118,4 @@ module _ {K A T : Type 0} where
     pub result_types : result_types_of t op ≡ result_types_of s op
     pub successors : successors_of t op ≡ successors_of s op
     pub location : location_of t op ≡ location_of s op
+    pub attributes : (k : List ℕ) → is_key k sizes_key ≡ false → dict_get (attributes_of t op) k ≡ dict_get (attributes_of s op) k

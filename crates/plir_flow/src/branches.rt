@@ -8,7 +8,7 @@ ghost use Rattle.plir_iface.specs.Verdict.{IsRefusal, IsRefusalMemoryAside};
 ghost use Rattle.plir_flow.specs.Branches.{num_successors, HasNSuccs, operands_within, HasBranchRule, IsBranchFault, IsReforwarded};
 
 use crate::branch_errors::{BranchOpInterfaceVerifyErr, NSuccsVerifyErr};
-use crate::forwarding::{find_first_mismatch, tell};
+use crate::forwarding::{as_layout, find_first_mismatch, tell};
 use crate::operand_ranges::operands_in;
 use plir_core::{BasicBlock, Context, LessThanN, Ptr, Value};
 use plir_data::{Memory, OpSet, VerifyErr};
@@ -23,6 +23,7 @@ use std::ops::Range;
 /// the layout accepts exactly where a predicate of the context and the operation holds, memory aside, and the ranges of
 /// operands that are forwarded are a function of these two.
 pub trait BranchOpInterface<D: OpSet>: IsTerminatorInterface<D> {
+    ghost use Rattle.std.specs.Prelude.{List, Bool};
     ghost use Rattle.plir_core.specs.Store.{Store};
     ghost use Rattle.plir_flow.specs.Branches.{Range as Places};
 
@@ -30,6 +31,9 @@ pub trait BranchOpInterface<D: OpSet>: IsTerminatorInterface<D> {
     ghost has_layout: { Self → Store D.Kind D.Attr D.Ty → Type 0 };
 
     ghost refuses_layout: { Self → Store D.Kind D.Attr D.Ty → D.Err → Type 0 };
+
+    // The keys of the attributes that tell of the layout: these change as values are added and taken out.
+    ghost tells_layout: { Self → List ℕ → Bool };
 
     // The places of the operands that are forwarded to a successor.
     ghost forwards: { Self → Store D.Kind D.Attr D.Ty → ℕ → Places };
@@ -68,7 +72,7 @@ pub trait BranchOpInterface<D: OpSet>: IsTerminatorInterface<D> {
         requires room { length (operands_within ctx.old (Self.pointer self.now) (forwards self.now ctx.old succ)) < 2 ^ 32 - 1 }
         requires operand_live { IsValueLive ctx.old operand }
         ensures index { IfOk result (λ i. i ≡ length (operands_within ctx.old (Self.pointer self.now) (forwards self.now ctx.old succ))) }
-        ensures ok { OnOk result (IsReforwarded ctx.old ctx.new (Self.pointer self.now) (forwards self.now ctx.old) (forwards self.now ctx.new) succ (insert (operands_of ctx.old (Self.pointer self.now)) (forwards self.now ctx.old succ).1 operand) (operands_within ctx.old (Self.pointer self.now) (forwards self.now ctx.old succ) ++ operand ∷ [])) }
+        ensures ok { OnOk result (IsReforwarded ctx.old ctx.new (Self.pointer self.now) (tells_layout self.now) (forwards self.now ctx.old) (forwards self.now ctx.new) succ (insert (operands_of ctx.old (Self.pointer self.now)) (forwards self.now ctx.old succ).1 operand) (operands_within ctx.old (Self.pointer self.now) (forwards self.now ctx.old succ) ++ operand ∷ [])) }
         ensures layout { OnOk result (has_layout self.now ctx.new) }
         ensures err { OnErr result (ctx.new ≡ ctx.old) }
         ensures whole { IsWhole D.attr_handles ctx.new };
@@ -80,7 +84,7 @@ pub trait BranchOpInterface<D: OpSet>: IsTerminatorInterface<D> {
         requires below { succ < num_successors ctx.old (Self.pointer self.now) }
         requires within { arg < length (operands_within ctx.old (Self.pointer self.now) (forwards self.now ctx.old succ)) }
         ensures value { slice_get (operands_within ctx.old (Self.pointer self.now) (forwards self.now ctx.old succ)) arg ≡ Some result }
-        ensures after { IsReforwarded ctx.old ctx.new (Self.pointer self.now) (forwards self.now ctx.old) (forwards self.now ctx.new) succ (remove (operands_of ctx.old (Self.pointer self.now)) ((forwards self.now ctx.old succ).0 + arg)) (remove (operands_within ctx.old (Self.pointer self.now) (forwards self.now ctx.old succ)) arg) }
+        ensures after { IsReforwarded ctx.old ctx.new (Self.pointer self.now) (tells_layout self.now) (forwards self.now ctx.old) (forwards self.now ctx.new) succ (remove (operands_of ctx.old (Self.pointer self.now)) ((forwards self.now ctx.old succ).0 + arg)) (remove (operands_within ctx.old (Self.pointer self.now) (forwards self.now ctx.old succ)) arg) }
         ensures layout { has_layout self.now ctx.new }
         ensures whole { IsWhole D.attr_handles ctx.new };
 
@@ -139,11 +143,7 @@ pub trait BranchOpInterface<D: OpSet>: IsTerminatorInterface<D> {
         let op = self.get_operation();
         let _live = op.is_live(ctx);
         match self.verify_successor_operand_layout(alloc, ctx) {
-            Err(VerifyErr::Memory) => Err(VerifyErr::Memory),
-            Err(VerifyErr::Refused { loc, err }) => Err(VerifyErr::Refused {
-                loc,
-                err: BranchOpInterfaceVerifyErr::Layout(err),
-            }),
+            Err(refused) => Err(as_layout(refused)),
             Ok(()) => match find_first_mismatch(ctx, self) {
                 None => Ok(()),
                 Some(mismatch) => Err(tell(alloc, ctx, op, mismatch)),

@@ -4,7 +4,7 @@ ghost use Rattle.plir_core.specs.declared.ptr.IRNode.{IRNode};
 ghost use Rattle.plir_core.specs.Store.{IsLive, operands_of};
 ghost use Rattle.plir_core.specs.Whole.{IsWhole};
 ghost use Rattle.plir_iface.specs.Verdict.{IsRefusalMemoryAside};
-ghost use Rattle.plir_flow.specs.Branches.{types_within, argument_types, num_successors, AgreesAt, IsMismatch, IsFirstMismatch, NamesLive, TellsMismatch};
+ghost use Rattle.plir_flow.specs.Branches.{types_within, argument_types, num_successors, AgreesAt, IsMismatch, IsFirstMismatch, NamesLive, TellsMismatch, in_branch};
 
 use crate::branch_errors::{BranchOpInterfaceVerifyErr, Mismatch};
 use crate::branches::BranchOpInterface;
@@ -101,4 +101,17 @@ pub(crate) fn tell<D: OpSet>(
         }
     };
     refusal(ctx, op, err)
+}
+
+/// The refusal of a layout as that of a branch, at the same place.
+pub(crate) fn as_layout<E>(refused: VerifyErr<E>) -> VerifyErr<BranchOpInterfaceVerifyErr<E>>
+    ensures { result ≡ in_branch refused }
+{
+    match refused {
+        VerifyErr::Refused { loc, err } => VerifyErr::Refused {
+            loc,
+            err: BranchOpInterfaceVerifyErr::Layout(err),
+        },
+        VerifyErr::Memory => VerifyErr::Memory,
+    }
 }

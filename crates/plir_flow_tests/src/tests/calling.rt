@@ -1,0 +1,76 @@
+//! The calls of calls.
+ghost use Rattle.plir_core.specs.Store.{IsLive};
+ghost use Rattle.plir_core.specs.declared.ptr.IRNode.{IRNode as AnyNode};
+
+use super::call_ops::{NamedCall, ValueCall};
+use super::grouping::{put_values, put_verdict};
+use plir_core::{Context, Operation, Ptr};
+use plir_flow::{CallOpCallable, CallOpInterface};
+use plir_scripts::{Bench, Line, Made, SampleSet, Stop, put_type_name};
+use std::alloc::Global;
+
+/// `layout OP KIND`, `call OP KIND` and `args OP KIND`: the kind is `value` or `name`.
+pub fn ask_call<C: CallOpInterface<SampleSet> + Drop>(
+    alloc: Global,
+    ctx: &Context<SampleSet>,
+    made: &Made,
+    text: &mut String,
+    op: &C,
+    command: &str,
+) -> Result<(), Stop>
+    requires { IsLive ctx.now (AnyNode.Operation (C.pointer op.now)) }
+{
+    match command {
+        "layout" => put_verdict(text, op.verify_call_layout(alloc, ctx)),
+        "call" => put_verdict(text, op.verify(ctx)),
+        _ => {
+            if op.verify_call_layout(alloc, ctx).is_err() {
+                return Err(Stop::Refused);
+            }
+            match op.callee(alloc, ctx)? {
+                CallOpCallable::Direct(name) => text.push_str(name.as_str())?,
+                CallOpCallable::Indirect(value) => made.put_value(text, value)?,
+            }
+            text.push_str(" /")?;
+            put_values(made, text, op.args(alloc, ctx)?.as_slice())
+        }
+    }
+}
+
+/// The same by the kind of the call.
+pub fn ask_kind(
+    alloc: Global,
+    ctx: &Context<SampleSet>,
+    made: &Made,
+    text: &mut String,
+    op: Ptr<Operation>,
+    line: Line<'_>,
+) -> Result<(), Stop>
+    requires { IsLive ctx.now (AnyNode.Operation op) }
+{
+    match line.second {
+        "value" => ask_call(alloc, ctx, made, text, &ValueCall { op }, line.command),
+        "name" => ask_call(alloc, ctx, made, text, &NamedCall { op }, line.command),
+        _ => Err(Stop::Refused),
+    }
+}
+
+/// `callee-type OP`.
+pub fn ask_type(bench: &mut Bench, op: ValueCall) -> Result<(), Stop>
+    requires { IsLive bench.old.ctx (AnyNode.Operation op.op) }
+{
+    if op.verify(&bench.ctx).is_err() {
+        return Err(Stop::Refused);
+    }
+    let ty = op.callee_type(&bench.ctx);
+    put_type_name(&mut bench.made, &mut bench.answer, ty)
+}
+
+/// `set-callee OP TYPE`.
+pub fn set_type(bench: &mut Bench, op: ValueCall, line: Line<'_>) -> Result<(), Stop>
+    requires { IsLive bench.old.ctx (AnyNode.Operation op.op) }
+{
+    let ty = bench.made.type_named(&bench.ctx, line.second)?;
+    op.set_callee_type(bench.alloc, &mut bench.ctx, ty)?;
+    Ok(())
+}

@@ -1,0 +1,99 @@
+//! A conditional branch: an operation with two successors, whose operands stand in three segments.
+use plir_core::{Context, Operation, Ptr, Value};
+use plir_data::{Memory, VerifyErr};
+use plir_flow::{
+    BranchOpInterface, NSuccsInterface, OneSuccInterface, OperandSegmentInterface, laws,
+};
+use plir_iface::{IsTerminatorInterface, Op};
+use plir_scripts::{NotMarked, SampleSet};
+use std::alloc::Global;
+use std::ops::Range;
+
+/// A conditional branch. The first segment of its operands is the condition, the second and the third are what the two
+/// successors get.
+#[derive(Clone, Copy)]
+pub struct CondBranch {
+    pub op: Ptr<Operation>,
+}
+
+impl Op<SampleSet> for CondBranch {
+    ghost pointer = { λ o. o.op };
+
+    fn get_operation(&self) -> Ptr<Operation> {
+        self.op
+    }
+}
+
+impl IsTerminatorInterface<SampleSet> for CondBranch {}
+
+impl OperandSegmentInterface<SampleSet> for CondBranch {
+    ghost use Rattle.std.specs.Prelude.{Some, refl};
+
+    ghost expected = { λ _ _. Some 3 };
+
+    fn expected_num_segments(&self, _ctx: &Context<SampleSet>) -> Option<usize> {
+        Some(3)
+    }
+
+    ghost expected_kept = { λ o s segs. refl };
+}
+
+impl BranchOpInterface<SampleSet> for CondBranch {
+    ghost use Rattle.std.specs.Prelude.{Some, ◌+◌};
+    ghost use Rattle.plir_data.specs.Dictionary.{is_key};
+    ghost use Rattle.plir_flow.specs.Segments.{HasSegments, segment_places, sizes_key};
+    ghost use Rattle.plir_flow.specs.Branches.{HasNSuccs};
+
+    ghost has_layout = { λ o s. HasSegments (Some 3) s o.op × HasNSuccs 2 s o.op };
+
+    ghost refuses_layout = { λ _ _ _. Unit {0} };
+
+    ghost tells_layout = { λ _ k. is_key k sizes_key };
+
+    ghost forwards = { λ o s i. segment_places s o.op (i + 1) };
+
+    fn verify_successor_operand_layout(
+        &self,
+        _alloc: Global,
+        ctx: &Context<SampleSet>,
+    ) -> Result<(), VerifyErr<NotMarked>> {
+        let has_segments = OperandSegmentInterface::<SampleSet>::verify(self, ctx).is_ok();
+        if has_segments && self.op.get_num_successors(ctx) == 2 {
+            return Ok(());
+        }
+        Err(VerifyErr::Refused {
+            loc: self.op.loc(ctx),
+            err: NotMarked,
+        })
+    }
+
+    fn successor_operand_range(&self, ctx: &Context<SampleSet>, succ: usize) -> Range<usize> {
+        self.segment_range(ctx, succ + 1)
+    }
+
+    fn add_successor_operand(
+        &self,
+        ctx: &mut Context<SampleSet>,
+        succ: usize,
+        operand: Value,
+    ) -> Result<usize, Memory> {
+        laws::segments_stand_in_a_row(ctx, self.op);
+        laws::edits_of_one_segment();
+        self.push_to_segment(ctx, succ + 1, operand)
+    }
+
+    fn remove_successor_operand(
+        &self,
+        ctx: &mut Context<SampleSet>,
+        succ: usize,
+        arg: usize,
+    ) -> Value {
+        laws::segments_stand_in_a_row(ctx, self.op);
+        laws::edits_of_one_segment();
+        self.remove_from_segment(ctx, succ + 1, arg)
+    }
+}
+
+impl NSuccsInterface<SampleSet, 2> for CondBranch {}
+
+impl OneSuccInterface<SampleSet> for CondBranch {}

@@ -1,0 +1,191 @@
+//! The calls that read segments.
+ghost use Rattle.plir_core.specs.Store.{IsLive};
+ghost use Rattle.plir_core.specs.declared.ptr.IRNode.{IRNode as AnyNode};
+
+use super::grouped::Grouped;
+use plir_core::{Context, Value};
+use plir_data::{FunctionTypeMark, Memory, OperandSegmentSizesAttr, UnitType, VerifyErr};
+use plir_flow::{OperandSegmentInterface, SegmentNImplsTy, SegmentNOfType};
+use plir_scripts::{Bench, Line, Made, SampleSet, Stop, number, split_word};
+use std::alloc::Global;
+use std::fmt::{Display, Write};
+
+/// Writes `ok`, or the text of the refusal.
+pub fn put_verdict<E: Display + Drop>(
+    text: &mut String,
+    verdict: Result<(), VerifyErr<E>>,
+) -> Result<(), Stop> {
+    match verdict {
+        Ok(()) => text.push_str("ok")?,
+        Err(VerifyErr::Refused { err, .. }) => write!(text, "{err}")?,
+        Err(VerifyErr::Memory) => return Err(Stop::Memory),
+    }
+    Ok(())
+}
+
+/// Writes the names of values.
+pub fn put_values(made: &Made, text: &mut String, values: &[Value]) -> Result<(), Stop> {
+    for value in values {
+        made.put_value(text, *value)?;
+    }
+    Ok(())
+}
+
+// Writes sizes.
+fn put_sizes(text: &mut String, sizes: &OperandSegmentSizesAttr) -> Result<(), Stop> {
+    for size in sizes.0.as_slice() {
+        write!(text, " {size}")?;
+    }
+    Ok(())
+}
+
+/// `verify OP COUNT`, where `-` expects no number of segments.
+pub fn verify(ctx: &Context<SampleSet>, text: &mut String, op: &Grouped) -> Result<(), Stop>
+    requires { IsLive ctx.now (AnyNode.Operation op.now.op) }
+{
+    put_verdict(text, OperandSegmentInterface::<SampleSet>::verify(op, ctx))
+}
+
+/// `types OP RULE`: the rules of the types in one segment.
+pub fn verify_types(
+    alloc: Global,
+    ctx: &Context<SampleSet>,
+    text: &mut String,
+    op: &Grouped,
+    rule: &str,
+) -> Result<(), Stop>
+    requires { IsLive ctx.now (AnyNode.Operation op.now.op) }
+{
+    if OperandSegmentInterface::<SampleSet>::verify(op, ctx).is_err() {
+        return Err(Stop::Refused);
+    }
+    match rule {
+        "SegmentNOfType<1, Unit>" => put_verdict(
+            text,
+            SegmentNOfType::<SampleSet, 1, UnitType>::verify(op, alloc, ctx),
+        ),
+        "SegmentNOfType<2, Unit>" => put_verdict(
+            text,
+            SegmentNOfType::<SampleSet, 2, UnitType>::verify(op, alloc, ctx),
+        ),
+        "SegmentNImplsTy<1, Function>" => put_verdict(
+            text,
+            SegmentNImplsTy::<SampleSet, 1, FunctionTypeMark>::verify(op, ctx),
+        ),
+        _ => Err(Stop::Refused),
+    }
+}
+
+/// `segments OP` writes how many segments there are, `held OP` the operands and the sizes.
+pub fn ask_all(
+    ctx: &Context<SampleSet>,
+    made: &Made,
+    text: &mut String,
+    op: &Grouped,
+    what: &str,
+) -> Result<(), Stop>
+    requires { IsLive ctx.now (AnyNode.Operation op.now.op) }
+{
+    if OperandSegmentInterface::<SampleSet>::verify(op, ctx).is_err() {
+        return Err(Stop::Refused);
+    }
+    if what == "segments" {
+        let count = op.num_segments(ctx);
+        write!(text, "{count}")?;
+        return Ok(());
+    }
+    for place in 0..op.op.get_num_operands(ctx) {
+        made.put_value(text, op.op.get_operand(ctx, place))?;
+    }
+    text.push_str(" /")?;
+    put_sizes(text, op.get_operand_segment_sizes(ctx))
+}
+
+/// `size OP SEGMENT`.
+pub fn ask_size(
+    ctx: &Context<SampleSet>,
+    text: &mut String,
+    op: &Grouped,
+    seg: usize,
+) -> Result<(), Stop>
+    requires { IsLive ctx.now (AnyNode.Operation op.now.op) }
+{
+    if OperandSegmentInterface::<SampleSet>::verify(op, ctx).is_err() {
+        return Err(Stop::Refused);
+    }
+    let size = op.segment_size(ctx, seg);
+    write!(text, "{size}")?;
+    Ok(())
+}
+
+/// `segment OP SEGMENT` writes the places of a segment and its operands.
+pub fn ask_segment(
+    alloc: Global,
+    ctx: &Context<SampleSet>,
+    made: &Made,
+    text: &mut String,
+    op: &Grouped,
+    seg: usize,
+) -> Result<(), Stop>
+    requires { IsLive ctx.now (AnyNode.Operation op.now.op) }
+{
+    if OperandSegmentInterface::<SampleSet>::verify(op, ctx).is_err()
+        || seg >= op.num_segments(ctx)
+    {
+        return Err(Stop::Refused);
+    }
+    let values = op.get_segment(alloc, ctx, seg)?;
+    let range = op.segment_range(ctx, seg);
+    let (start, end) = (range.start, range.end);
+    write!(text, "{start} to {end}:")?;
+    put_values(made, text, values.as_slice())
+}
+
+/// `flatten VALUES / VALUES ..` writes the values of all segments and their sizes.
+pub fn flatten(bench: &mut Bench, line: Line<'_>) -> Result<(), Stop> {
+    let (alloc, ctx, made) = (bench.alloc, &bench.ctx, &bench.made);
+    let mut segments = Vec::new(alloc);
+    for names in line.text.split('/') {
+        let values = made.values_named(alloc, ctx, names)?;
+        if values.len() > 1000 {
+            return Err(Stop::Refused);
+        }
+        segments.push(values)?;
+    }
+    let (values, sizes) = flat(alloc, segments)?;
+    put_values(made, &mut bench.answer, values.as_slice())?;
+    bench.answer.push_str(" /")?;
+    put_sizes(&mut bench.answer, &sizes)
+}
+
+fn flat(
+    alloc: Global,
+    segments: Vec<Vec<Value>>,
+) -> Result<(Vec<Value>, OperandSegmentSizesAttr), Memory> {
+    <Grouped as OperandSegmentInterface<SampleSet>>::compute_segment_sizes(alloc, segments)
+}
+
+/// `sizes OP SIZES` puts sizes under their key.
+pub fn set_sizes(bench: &mut Bench, op: &Grouped, line: Line<'_>) -> Result<(), Stop>
+    requires { IsLive bench.old.ctx (AnyNode.Operation op.now.op) }
+{
+    let alloc = bench.alloc;
+    let mut sizes = Vec::new(alloc);
+    let (_, words) = split_word(line.text);
+    for word in words.split_whitespace() {
+        let Ok(size) = word.parse::<u32>() else {
+            return Err(Stop::Refused);
+        };
+        sizes.push(size)?;
+    }
+    op.set_operand_segment_sizes(alloc, &mut bench.ctx, OperandSegmentSizesAttr(sizes))?;
+    Ok(())
+}
+
+/// The number that a word is, or none for `-`.
+pub fn expected_of(word: &str) -> Result<Option<usize>, Stop> {
+    if word == "-" || word.is_empty() {
+        return Ok(None);
+    }
+    Ok(Some(number(word)?))
+}
