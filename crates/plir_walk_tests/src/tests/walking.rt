@@ -7,7 +7,7 @@ ghost use Rattle.plir_walk.specs.View.{look};
 use super::changes::{NOT_DONE, visit};
 use super::plan::{Plan, read_plan};
 use plir_core::{Context, IRNode};
-use plir_scripts::{Bench, Line, Made, SampleSet, Stop};
+use plir_scripts::{Answer, Bench, Line, Made, SampleSet, Stop};
 use plir_walk::interruptible::{WalkResult, walk_advance, walk_break};
 use plir_walk::{
     CallLimit, Direction, Order, WALKCONFIG_POSTORDER_FORWARD, WALKCONFIG_POSTORDER_REVERSE,
@@ -15,13 +15,12 @@ use plir_walk::{
     uninterruptible,
 };
 use std::alloc::Global;
-use std::fmt::Write;
 use std::ops::ControlFlow;
 
 /// Does what a line says that walks: `look SETTING ROOT PLAN` and `plainly-look SETTING ROOT PLAN` by a callback that
 /// only reads, `change SETTING ROOT PLAN` and `plainly-change SETTING ROOT PLAN` by one that follows the plan. Writes
 /// the called nodes and the walk's answer. Nodes that the walk has made are named as they are called.
-pub fn walk(bench: &mut Bench, line: Line<'_>) -> Result<(), Stop> {
+pub fn walk(bench: &mut Bench<SampleSet>, line: Line<'_>) -> Result<(), Stop> {
     let config = config_of(line.first)?;
     let root = bench.made.live(&bench.ctx, line.second)?;
     let plan = read_plan(bench, line.tail)?;
@@ -51,7 +50,8 @@ pub fn walk(bench: &mut Bench, line: Line<'_>) -> Result<(), Stop> {
         ),
     };
     name_new(&mut bench.made, called.as_slice())?;
-    put_walk(&bench.made, &mut bench.answer, called.as_slice(), found)
+    put_walk(&bench.made, &mut bench.answer, called.as_slice(), found);
+    Ok(())
 }
 
 // A setting: `pre-fwd` and its kin, or three of them for the regions of operations, the operations of blocks and the
@@ -198,18 +198,20 @@ fn name_new(made: &mut Made, called: &[IRNode]) -> Result<(), Stop> {
 // Writes the names of the called nodes, and the walk's answer.
 fn put_walk(
     made: &Made,
-    text: &mut String,
+    answer: &mut Answer,
     called: &[IRNode],
     found: Result<WalkResult<u32>, CallLimit>,
-) -> Result<(), Stop> {
+) {
     for node in called {
-        made.put_node(text, *node)?;
+        made.put_node(answer, *node);
     }
     match found {
-        Err(CallLimit) => text.push_str(" limit")?,
-        Ok(ControlFlow::Break(value)) => write!(text, " break {value}")?,
-        Ok(ControlFlow::Continue(answer)) if answer.is_advance() => text.push_str(" advance")?,
-        Ok(ControlFlow::Continue(_)) => text.push_str(" skip")?,
+        Err(CallLimit) => answer.put(" limit"),
+        Ok(ControlFlow::Break(value)) => {
+            answer.put(" break ");
+            answer.put_number(value as usize);
+        }
+        Ok(ControlFlow::Continue(how)) if how.is_advance() => answer.put(" advance"),
+        Ok(ControlFlow::Continue(_)) => answer.put(" skip"),
     }
-    Ok(())
 }
