@@ -95,6 +95,29 @@ impl<D: OpSet> Bench<D> {
         Ok(())
     }
 
+    // Whether all nodes are as they are after so many lines of the script.
+    fn is_as_after<L: Layer<D>>(
+        &self,
+        max_nodes: u32,
+        script: &str,
+        count: usize,
+    ) -> Result<bool, Stop> {
+        let mut other: Bench<D> = Bench::new(self.alloc, max_nodes);
+        other.run_lines::<L>(script, count)?;
+        Ok(self.state().text()? == other.state().text()?)
+    }
+
+    // Carries out the calls of so many lines of a script.
+    fn run_lines<L: Layer<D>>(&mut self, script: &str, count: usize) -> Result<(), Stop> {
+        for line in script.lines().take(count) {
+            let (call, _answer) = parts_of(line);
+            if !call.is_empty() {
+                self.run::<L>(call)?;
+            }
+        }
+        Ok(())
+    }
+
     // What the getters answer of all nodes that the script has made.
     fn state(&self) -> Answer {
         let mut answer = Answer::new(self.alloc);
@@ -133,13 +156,12 @@ pub fn play<D: OpSet, L: Layer<D>>(
 ) -> Result<(), Mismatch> {
     let mut bench: Bench<D> = Bench::new(alloc, max_nodes);
     for (count, line) in script.lines().enumerate() {
-        let (call, answer) = line.trim().split_once(" => ").unwrap_or((line.trim(), ""));
+        let (call, answer) = parts_of(line);
         if call.is_empty() {
             continue;
         }
         if bench.run::<L>(call).is_err() {
-            let other = state_after::<D, L>(alloc, max_nodes, script, count)?;
-            if bench.state().text()? != other.text()? {
+            if !bench.is_as_after::<L>(max_nodes, script, count)? {
                 return Err(Mismatch::Nodes(String::from_str(alloc, call)?));
             }
             bench.run::<L>(call)?;
@@ -155,19 +177,7 @@ pub fn play<D: OpSet, L: Layer<D>>(
     Ok(())
 }
 
-// The state after so many lines of a script.
-fn state_after<D: OpSet, L: Layer<D>>(
-    alloc: Global,
-    max_nodes: u32,
-    script: &str,
-    count: usize,
-) -> Result<Answer, Stop> {
-    let mut bench: Bench<D> = Bench::new(alloc, max_nodes);
-    for line in script.lines().take(count) {
-        let (call, _answer) = line.trim().split_once(" => ").unwrap_or((line.trim(), ""));
-        if !call.is_empty() {
-            bench.run::<L>(call)?;
-        }
-    }
-    Ok(bench.state())
+// The call and the answer of a line.
+fn parts_of(line: &str) -> (&str, &str) {
+    line.trim().split_once(" => ").unwrap_or((line.trim(), ""))
 }

@@ -110,7 +110,10 @@ fn take<D: OpSet>(bench: &mut Bench<D>, line: Line<'_>) -> Result<(), Stop> {
         IRNode::BasicBlock(block) => block.remove_attr(&mut bench.ctx, line.second),
         IRNode::Region(_) => return Err(Stop::Refused),
     };
-    bench.answer.put(taken.as_ref().map_or("none", word_of));
+    match &taken {
+        Some(attr) => bench.answer.put(word_of(attr)),
+        None => bench.answer.put("none"),
+    }
     Ok(())
 }
 
