@@ -52,19 +52,19 @@ module _ {A : Type 0} (E : A → List Token → Type 0) (close : ℕ) where
   }
 
   module _ (read : List ℕ → Result (A × List ℕ) Fault) (sound : IsSound E read) where
-    more_found : (m : ℕ) (bytes : List ℕ) (xs : List A × List ℕ) → more_at close read m bytes ≡ Ok xs → FoundMore bytes xs.0 xs.1
+    more_found : (m : ℕ) (bytes : List ℕ) (xs : List A × List ℕ) → more_at (separator_at close) read m bytes ≡ Ok xs → FoundMore bytes xs.0 xs.1
     unfolding more_at
     more_found zero bytes xs e = absurd cc
     more_found (suc m) bytes xs e =
-        let a = bind_ok (read bytes) (λ x. separator_at close x.1 >>= λ s. with_first x.0 (if_more s.0 (more_at close read m s.1) s.1)) xs e in
-        let b = bind_ok (separator_at close a.0.1) (λ s. with_first a.0.0 (if_more s.0 (more_at close read m s.1) s.1)) xs a.2 in
-        let d = bind_ok (if_more b.0.0 (more_at close read m b.0.1) b.0.1) (λ ys. Ok (a.0.0 ∷ ys.0, ys.1)) xs b.2 in
+        let a = bind_ok (read bytes) (λ x. separator_at close x.1 >>= λ s. with_first x.0 (if_more s.0 (more_at (separator_at close) read m s.1) s.1)) xs e in
+        let b = bind_ok (separator_at close a.0.1) (λ s. with_first a.0.0 (if_more s.0 (more_at (separator_at close) read m s.1) s.1)) xs a.2 in
+        let d = bind_ok (if_more b.0.0 (more_at (separator_at close) read m b.0.1) b.0.1) (λ ys. Ok (a.0.0 ∷ ys.0, ys.1)) xs b.2 in
         let f = sound bytes a.0 a.1 in
         let s = separator_found close a.0.1 b.0 b.1 in
         subst (λ (y : List A × List ℕ). FoundMore bytes y.0 y.1) (ok_is _ xs d.2) (at b.0.0 a.0 b.0.1 d.0 f s d.1 (more_found m b.0.1 d.0))
       where
-        at : (goes : Bool) (x : A × List ℕ) (behind : List ℕ) (ys : List A × List ℕ) → FoundOne E bytes x.0 x.1 → look x.1 ≡ Ok (sign (separator close goes), behind) → if_more goes (more_at close read m behind) behind ≡ Ok ys
-            → (more_at close read m behind ≡ Ok ys → FoundMore behind ys.0 ys.1) → FoundMore bytes (x.0 ∷ ys.0) ys.1
+        at : (goes : Bool) (x : A × List ℕ) (behind : List ℕ) (ys : List A × List ℕ) → FoundOne E bytes x.0 x.1 → look x.1 ≡ Ok (sign (separator close goes), behind) → if_more goes (more_at (separator_at close) read m behind) behind ≡ Ok ys
+            → (more_at (separator_at close) read m behind ≡ Ok ys → FoundMore behind ys.0 ys.1) → FoundMore bytes (x.0 ∷ ys.0) ys.1
         at true x behind ys f s h g = one_more_found bytes x.1 behind ys.1 x.0 ys.0 f s (g h)
         at false x behind ys f s h g = subst (λ (y : List A × List ℕ). FoundMore bytes (x.0 ∷ y.0) y.1) (ok_is ([], behind) ys h) (last_found bytes x.1 behind x.0 f s)
 
@@ -82,10 +82,10 @@ module _ {A : Type 0} (E : A → List Token → Type 0) (close : ℕ) where
     pub items_found : (open_ : ℕ) (bytes : List ℕ) (xs : List A × List ℕ) → items_at open_ close read bytes ≡ Ok xs → FoundItems open_ bytes xs.0 xs.1
     unfolding items_at
     items_found open_ bytes xs e =
-        let a = bind_ok (sign_at open_ bytes) (λ start. unless_closed (past_sign close start) (more_at close read (suc (length start)) start)) xs e in
+        let a = bind_ok (sign_at open_ bytes) (λ start. unless_closed (past_sign close start) (more_at (separator_at close) read (suc (length start)) start)) xs e in
         at a.0 (sign_found open_ bytes a.0 a.1) (past_sign close a.0) refl a.2
       where
-        at : (start : List ℕ) → look bytes ≡ Ok (sign open_, start) → (o : Option (List ℕ)) → past_sign close start ≡ o → unless_closed o (more_at close read (suc (length start)) start) ≡ Ok xs → FoundItems open_ bytes xs.0 xs.1
+        at : (start : List ℕ) → look bytes ≡ Ok (sign open_, start) → (o : Option (List ℕ)) → past_sign close start ≡ o → unless_closed o (more_at (separator_at close) read (suc (length start)) start) ≡ Ok xs → FoundItems open_ bytes xs.0 xs.1
         at start s (Some rest) p h =
             let none : FoundItems open_ bytes [] rest = record { tokens = []; begins = (start, s, (rest, past_sign_found close start rest p, refl)); spelled = refl } in
             subst (λ (y : List A × List ℕ). FoundItems open_ bytes y.0 y.1) (ok_is ([], rest) xs h) none

@@ -67,7 +67,10 @@ memory_alone faults.BadEscape h = absurd (h (λ e. absurd cc))
 memory_alone faults.IntegerOutOfRange h = absurd (h (λ e. absurd cc))
 memory_alone faults.IntegerWidthUnsupported h = absurd (h (λ e. absurd cc))
 memory_alone faults.TooDeep h = absurd (h (λ e. absurd cc))
+memory_alone faults.ForwardRefOpExistenceErr h = absurd (h (λ e. absurd cc))
+memory_alone (faults.NResultsVerifyErr wanted found) h = absurd (h (λ e. absurd cc))
 memory_alone faults.Memory h = refl
+memory_alone faults.TooManyNodes h = absurd (h (λ e. absurd cc))
 
 -- whatever the reader answers to the text of an attribute that can be read back
 module _ {D K A T E : Type 0} (own_id : A → List ℕ) (own_body : List (TypeView T) → A → List ℕ) (type_id : T → List ℕ) (type_body : List (TypeView T) → T → List ℕ) (attr_handles : A → List ℕ) (type_handles : T → List ℕ) where

@@ -28,6 +28,17 @@ fn put_fault(bench: &mut Bench, found: ReadErr) -> Result<(), Stop> {
     Ok(())
 }
 
+/// `fault forward-ref` or `fault results WANTED FOUND`: writes the text of the fault.
+pub fn show_fault(bench: &mut Bench, line: Line<'_>) -> Result<(), Stop> {
+    let fault = match line.first {
+        "forward-ref" => Fault::ForwardRefOpExistenceErr,
+        "results" => Fault::NResultsVerifyErr(number(line.second)?, number(line.third)?),
+        _ => return Err(Stop::Refused),
+    };
+    write!(bench.answer, "{fault}")?;
+    Ok(())
+}
+
 /// `read-type TEXT`, `read-integer TEXT` or `read-function TEXT`: writes the name of the type.
 pub fn read(bench: &mut Bench, line: Line<'_>) -> Result<(), Stop> {
     let text = unfold(bench.alloc, line.text)?;

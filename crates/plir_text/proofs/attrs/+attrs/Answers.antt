@@ -6,7 +6,7 @@ use Rattle.plir_text.specs.declared.attr_words.AttrKind.TheVariants as kinds
 use Rattle.plir_text.specs.Terms as terms
 use Rattle.plir_text.specs.Terms.{attrs_of, entries_of}
 use Rattle.plir_text.specs.Steps.{read_as}
-use Rattle.plir_text.specs.Lists.{items_at}
+use Rattle.plir_text.specs.Lists.{separator_at, items_at}
 use Rattle.plir_text.specs.AttrReading.{name_at, text_at, bool_at, size_at, given_name_at, entry_at, attr_head, attr_at}
 use Rattle.plir_text.proofs.Steps.{done}
 use Rattle.plir_text.proofs.Fronts.{no_open, nothing_inside}
@@ -145,10 +145,10 @@ pub read_entries-returns-in-Some-clause-kept : goal.read_entries-returns-in-Some
 read_entries-returns-in-Some-clause-kept g t c = Adds-itself g.met.C.TypeStore.same_besides_itself _
 
 pub read_entries-entries-init : goal.read_entries-entries-init
-read_entries-entries-init g t c = begins 93 (entry_at (attr_at c.args.levels)) DictFront 91 g.met.C.TypeStore.same_besides_itself _ _ _ _ ([], refl, c.new-entries.ensures) c.in_ok-start.ensures (sym c.in_default.ensures)
+read_entries-entries-init g t c = begins 91 93 (entry_at (attr_at c.args.levels)) DictFront g.met.C.TypeStore.same_besides_itself _ _ _ _ ([], refl, c.new-entries.ensures) c.in_ok-start.ensures (sym c.in_default.ensures)
 
 pub read_entries-returns-in-Err-clause-read : goal.read_entries-returns-in-Err-clause-read
-read_entries-returns-in-Err-clause-read g t c = fails_at 93 (entry_at (attr_at c.args.levels)) DictFront _ _ _ _ _ c.in-Err.stop c.entries.invariant c.in-Err.ensures.read
+read_entries-returns-in-Err-clause-read g t c = fails_at (separator_at 93) (entry_at (attr_at c.args.levels)) DictFront _ _ _ _ _ c.in-Err.stop c.entries.invariant c.in-Err.ensures.read
 
 pub read_entries-returns-in-Err-clause-kept : goal.read_entries-returns-in-Err-clause-kept
 read_entries-returns-in-Err-clause-kept g t c = Adds-on g.met.C.TypeStore.same_besides_on _ _ _ c.entries.invariant.kept c.in-Err.ensures.kept
@@ -160,7 +160,7 @@ pub read_entries-returns-in_err-goes_on-clause-read : goal.read_entries-returns-
 read_entries-returns-in_err-goes_on-clause-read g t c =
     let p = err_from_is_err_and c.from_residual-in_err-goes_on.result c.from_residual-in_err-goes_on.ensures.1 in
     let y = c.in-Ok.ensures.read in
-    rw (p.1, p.2) (fails_behind 93 (entry_at (attr_at c.args.levels)) DictFront _ _ _ _ _ c.in_err-goes_on.field-0.0 y.0.0 c.in-Ok.read.1.now c.entries.invariant (behind_is _ y.0 c.in-Ok.read.1.now y.1 y.2.2) c.in_err-goes_on.ensures)
+    rw (p.1, p.2) (fails_behind (separator_at 93) (entry_at (attr_at c.args.levels)) DictFront _ _ _ _ _ c.in_err-goes_on.field-0.0 y.0.0 c.in-Ok.read.1.now c.entries.invariant (behind_is _ y.0 c.in-Ok.read.1.now y.1 y.2.2) c.in_err-goes_on.ensures)
 
 pub read_entries-returns-in_err-goes_on-clause-kept : goal.read_entries-returns-in_err-goes_on-clause-kept
 read_entries-returns-in_err-goes_on-clause-kept g t c = Adds-on g.met.C.TypeStore.same_besides_on _ _ _ c.entries.invariant.kept c.in-Ok.ensures.kept
@@ -173,12 +173,12 @@ read_entries-entries-smaller g t c =
 pub read_entries-entries-preserved : goal.read_entries-entries-preserved
 read_entries-entries-preserved g t c =
     let y = c.in-Ok.ensures.read in
-    one_more 93 (entry_at (attr_at c.args.levels)) DictFront g.met.C.TypeStore.same_besides_on DictFront-grown _ _ _ _ _ _ c.entries.invariant c.in-Ok.ensures.kept y.0.0 c.in-Ok.read.1.now (behind_is _ y.0 c.in-Ok.read.1.now y.1 y.2.2) _ (λ front m. IsDictMeant-push _ _ _ front c.in-Ok.read.0.0 y.0.0.0 _ y.0.0.1 c.in_ok-insert.ensures.ok y.2.0 m y.2.1) c.in_ok-goes_on.behind.now (c.in_ok-goes_on.ensures ∙ ap (λ b. done (b, c.in_ok-goes_on.behind.now)) c.if-goes_on.true) (read_entries-entries-smaller g t c)
+    one_more (separator_at 93) (entry_at (attr_at c.args.levels)) DictFront g.met.C.TypeStore.same_besides_on DictFront-grown _ _ _ _ _ _ c.entries.invariant c.in-Ok.ensures.kept y.0.0 c.in-Ok.read.1.now (behind_is _ y.0 c.in-Ok.read.1.now y.1 y.2.2) _ (λ front m. IsDictMeant-push _ _ _ front c.in-Ok.read.0.0 y.0.0.0 _ y.0.0.1 c.in_ok-insert.ensures.ok y.2.0 m y.2.1) c.in_ok-goes_on.behind.now (c.in_ok-goes_on.ensures ∙ ap (λ b. done (b, c.in_ok-goes_on.behind.now)) c.if-goes_on.true) (read_entries-entries-smaller g t c)
 
 pub read_entries-returns-else-goes_on-clause-read : goal.read_entries-returns-else-goes_on-clause-read
 read_entries-returns-else-goes_on-clause-read g t c =
     let y = c.in-Ok.ensures.read in
-    gathered 93 (entry_at (attr_at c.args.levels)) DictFront g.met.C.TypeStore.same_besides_on DictFront-grown _ _ _ _ _ _ c.entries.invariant c.in-Ok.ensures.kept y.0.0 c.in-Ok.read.1.now (behind_is _ y.0 c.in-Ok.read.1.now y.1 y.2.2) _ (λ front m. IsDictMeant-push _ _ _ front c.in-Ok.read.0.0 y.0.0.0 _ y.0.0.1 c.in_ok-insert.ensures.ok y.2.0 m y.2.1) c.in_ok-goes_on.behind.now (c.in_ok-goes_on.ensures ∙ ap (λ b. done (b, c.in_ok-goes_on.behind.now)) c.if-goes_on.false)
+    gathered (separator_at 93) (entry_at (attr_at c.args.levels)) DictFront g.met.C.TypeStore.same_besides_on DictFront-grown _ _ _ _ _ _ c.entries.invariant c.in-Ok.ensures.kept y.0.0 c.in-Ok.read.1.now (behind_is _ y.0 c.in-Ok.read.1.now y.1 y.2.2) _ (λ front m. IsDictMeant-push _ _ _ front c.in-Ok.read.0.0 y.0.0.0 _ y.0.0.1 c.in_ok-insert.ensures.ok y.2.0 m y.2.1) c.in_ok-goes_on.behind.now (c.in_ok-goes_on.ensures ∙ ap (λ b. done (b, c.in_ok-goes_on.behind.now)) c.if-goes_on.false)
 
 pub read_entries-returns-else-goes_on-clause-kept : goal.read_entries-returns-else-goes_on-clause-kept
 read_entries-returns-else-goes_on-clause-kept g t c = Adds-on g.met.C.TypeStore.same_besides_on _ _ _ c.entries.invariant.kept c.in-Ok.ensures.kept
@@ -198,10 +198,10 @@ pub read_items-returns-in-Some-clause-kept : goal.read_items-returns-in-Some-cla
 read_items-returns-in-Some-clause-kept g t c = Adds-itself g.met.C.TypeStore.same_besides_itself _
 
 pub read_items-items-init : goal.read_items-items-init
-read_items-items-init g t c = begins 93 (attr_at c.args.levels) ItemsFront 91 g.met.C.TypeStore.same_besides_itself _ _ _ _ (ap (map attr_view) c.new-items.ensures.items) c.in_ok-start.ensures (sym c.in_default.ensures)
+read_items-items-init g t c = begins 91 93 (attr_at c.args.levels) ItemsFront g.met.C.TypeStore.same_besides_itself _ _ _ _ (ap (map attr_view) c.new-items.ensures.items) c.in_ok-start.ensures (sym c.in_default.ensures)
 
 pub read_items-returns-in-Err-clause-read : goal.read_items-returns-in-Err-clause-read
-read_items-returns-in-Err-clause-read g t c = fails_at 93 (attr_at c.args.levels) ItemsFront _ _ _ _ _ c.in-Err.stop c.items.invariant c.in-Err.ensures.read
+read_items-returns-in-Err-clause-read g t c = fails_at (separator_at 93) (attr_at c.args.levels) ItemsFront _ _ _ _ _ c.in-Err.stop c.items.invariant c.in-Err.ensures.read
 
 pub read_items-returns-in-Err-clause-kept : goal.read_items-returns-in-Err-clause-kept
 read_items-returns-in-Err-clause-kept g t c = Adds-on g.met.C.TypeStore.same_besides_on _ _ _ c.items.invariant.kept c.in-Err.ensures.kept
@@ -213,7 +213,7 @@ pub read_items-returns-in_err-goes_on-clause-read : goal.read_items-returns-in_e
 read_items-returns-in_err-goes_on-clause-read g t c =
     let p = err_from_is_err_and c.from_residual-in_err-goes_on.result c.from_residual-in_err-goes_on.ensures.1 in
     let y = c.in-Ok.ensures.read in
-    rw (p.1, p.2) (fails_behind 93 (attr_at c.args.levels) ItemsFront _ _ _ _ _ c.in_err-goes_on.field-0.0 y.0.0 c.in-Ok.read.1.now c.items.invariant (behind_is _ y.0 c.in-Ok.read.1.now y.1 y.2.1) c.in_err-goes_on.ensures)
+    rw (p.1, p.2) (fails_behind (separator_at 93) (attr_at c.args.levels) ItemsFront _ _ _ _ _ c.in_err-goes_on.field-0.0 y.0.0 c.in-Ok.read.1.now c.items.invariant (behind_is _ y.0 c.in-Ok.read.1.now y.1 y.2.1) c.in_err-goes_on.ensures)
 
 pub read_items-returns-in_err-goes_on-clause-kept : goal.read_items-returns-in_err-goes_on-clause-kept
 read_items-returns-in_err-goes_on-clause-kept g t c = Adds-on g.met.C.TypeStore.same_besides_on _ _ _ c.items.invariant.kept c.in-Ok.ensures.kept
@@ -226,12 +226,12 @@ read_items-items-smaller g t c =
 pub read_items-items-preserved : goal.read_items-items-preserved
 read_items-items-preserved g t c =
     let y = c.in-Ok.ensures.read in
-    one_more 93 (attr_at c.args.levels) ItemsFront g.met.C.TypeStore.same_besides_on ItemsFront-grown _ _ _ _ _ _ c.items.invariant c.in-Ok.ensures.kept y.0.0 c.in-Ok.read.1.now (behind_is _ y.0 c.in-Ok.read.1.now y.1 y.2.1) _ (λ front m. ItemsFront-push _ _ _ front c.in-Ok.read.0 y.0.0 c.in_ok-push.ensures.items m y.2.0) c.in_ok-goes_on.behind.now (c.in_ok-goes_on.ensures ∙ ap (λ b. done (b, c.in_ok-goes_on.behind.now)) c.if-goes_on.true) (read_items-items-smaller g t c)
+    one_more (separator_at 93) (attr_at c.args.levels) ItemsFront g.met.C.TypeStore.same_besides_on ItemsFront-grown _ _ _ _ _ _ c.items.invariant c.in-Ok.ensures.kept y.0.0 c.in-Ok.read.1.now (behind_is _ y.0 c.in-Ok.read.1.now y.1 y.2.1) _ (λ front m. ItemsFront-push _ _ _ front c.in-Ok.read.0 y.0.0 c.in_ok-push.ensures.items m y.2.0) c.in_ok-goes_on.behind.now (c.in_ok-goes_on.ensures ∙ ap (λ b. done (b, c.in_ok-goes_on.behind.now)) c.if-goes_on.true) (read_items-items-smaller g t c)
 
 pub read_items-returns-else-goes_on-clause-read : goal.read_items-returns-else-goes_on-clause-read
 read_items-returns-else-goes_on-clause-read g t c =
     let y = c.in-Ok.ensures.read in
-    gathered 93 (attr_at c.args.levels) ItemsFront g.met.C.TypeStore.same_besides_on ItemsFront-grown _ _ _ _ _ _ c.items.invariant c.in-Ok.ensures.kept y.0.0 c.in-Ok.read.1.now (behind_is _ y.0 c.in-Ok.read.1.now y.1 y.2.1) _ (λ front m. ItemsFront-push _ _ _ front c.in-Ok.read.0 y.0.0 c.in_ok-push.ensures.items m y.2.0) c.in_ok-goes_on.behind.now (c.in_ok-goes_on.ensures ∙ ap (λ b. done (b, c.in_ok-goes_on.behind.now)) c.if-goes_on.false)
+    gathered (separator_at 93) (attr_at c.args.levels) ItemsFront g.met.C.TypeStore.same_besides_on ItemsFront-grown _ _ _ _ _ _ c.items.invariant c.in-Ok.ensures.kept y.0.0 c.in-Ok.read.1.now (behind_is _ y.0 c.in-Ok.read.1.now y.1 y.2.1) _ (λ front m. ItemsFront-push _ _ _ front c.in-Ok.read.0 y.0.0 c.in_ok-push.ensures.items m y.2.0) c.in_ok-goes_on.behind.now (c.in_ok-goes_on.ensures ∙ ap (λ b. done (b, c.in_ok-goes_on.behind.now)) c.if-goes_on.false)
 
 pub read_items-returns-else-goes_on-clause-kept : goal.read_items-returns-else-goes_on-clause-kept
 read_items-returns-else-goes_on-clause-kept g t c = Adds-on g.met.C.TypeStore.same_besides_on _ _ _ c.items.invariant.kept c.in-Ok.ensures.kept

@@ -2,12 +2,13 @@ use Rattle.std.proofs.Common.{◌≡◌, ◌∙◌, length, [], refl, sym, ap, a
 use Rattle.std.proofs.lemmas.Result.{err_from_is_err_and}
 use Rattle.plir_text.specs.declared.words.TypeKind.TheVariants.{Integer, Function, Unit}
 use Rattle.plir_text.specs.Terms.{integer_type, function_type, unit_type, types_of}
+use Rattle.plir_text.specs.Lists.{separator_at}
 use Rattle.plir_text.specs.TypeReading.{type_at, type_head, integer_at}
 use Rattle.plir_text.proofs.Steps.{done}
 use Rattle.plir_text.proofs.Fronts.{nothing_inside}
 use Rattle.plir_text.proofs.Growth.{Grows-instantiated, Adds-itself, Adds-on, Adds-one, Adds-none, NamesAll-grown, both_live, NamesFront, NamesFront-grown, NamesFront-push}
 use Rattle.plir_text.proofs.Gathering.{begins, gathered, one_more, fails_at, fails_behind}
-use Rattle.plir_text.proofs.TypeSteps.{type_at-body, function_read, Reads-made, behind_is}
+use Rattle.plir_text.proofs.TypeSteps.{type_at-body, type_at-head-fails, function_read, Reads-made, behind_is}
 use Rattle.plir_text.proofs.Begun.{separator_at-shorter}
 use Rattle.plir_text.proofs.TypesFound.{type_at-shorter}
 use Rattle.plir_text.proofs.types.+types.Goals as goal
@@ -56,6 +57,11 @@ read_function-returns-in_err-handle-clause-kept g t c =
     let h = c.in_err-handle.ensures in
     Adds-on on _ _ _ (Adds-on on _ _ _ c.in_ok-arguments.ensures.kept c.in_ok-results.ensures.kept) (Adds-none _ _ h.err h.rest)
 
+pub read_type_at-returns-in_err-kind-clause-read : goal.read_type_at-returns-in_err-kind-clause-read
+read_type_at-returns-in_err-kind-clause-read g t c =
+    let p = err_from_is_err_and c.from_residual.result c.from_residual.ensures.1 in
+    rw (p.1, p.2) (type_at-head-fails c.in_err-kind.field-0.0 c.args.levels c.args.bytes.now c.in_err-kind.ensures)
+
 pub read_type_at-returns-in_err-kind-clause-kept : goal.read_type_at-returns-in_err-kind-clause-kept
 read_type_at-returns-in_err-kind-clause-kept g t c = Adds-itself g.met.C.TypeStore.same_besides_itself _
 
@@ -102,10 +108,10 @@ pub read_types-returns-in-Some-clause-kept : goal.read_types-returns-in-Some-cla
 read_types-returns-in-Some-clause-kept g t c = Adds-itself g.met.C.TypeStore.same_besides_itself _
 
 pub read_types-types-init : goal.read_types-types-init
-read_types-types-init g t c = begins 41 (type_at c.args.levels) NamesFront 40 g.met.C.TypeStore.same_besides_itself _ _ _ _ c.new-types.ensures.items c.in_ok-start.ensures (sym c.in_default.ensures)
+read_types-types-init g t c = begins 40 41 (type_at c.args.levels) NamesFront g.met.C.TypeStore.same_besides_itself _ _ _ _ c.new-types.ensures.items c.in_ok-start.ensures (sym c.in_default.ensures)
 
 pub read_types-returns-in-Err-clause-read : goal.read_types-returns-in-Err-clause-read
-read_types-returns-in-Err-clause-read g t c = fails_at 41 (type_at c.args.levels) NamesFront _ _ _ _ _ c.in-Err.stop c.types.invariant c.in-Err.ensures.read
+read_types-returns-in-Err-clause-read g t c = fails_at (separator_at 41) (type_at c.args.levels) NamesFront _ _ _ _ _ c.in-Err.stop c.types.invariant c.in-Err.ensures.read
 
 pub read_types-returns-in-Err-clause-kept : goal.read_types-returns-in-Err-clause-kept
 read_types-returns-in-Err-clause-kept g t c = Adds-on g.met.C.TypeStore.same_besides_on _ _ _ c.types.invariant.kept c.in-Err.ensures.kept
@@ -117,7 +123,7 @@ pub read_types-returns-in_err-goes_on-clause-read : goal.read_types-returns-in_e
 read_types-returns-in_err-goes_on-clause-read g t c =
     let p = err_from_is_err_and c.from_residual-in_err-goes_on.result c.from_residual-in_err-goes_on.ensures.1 in
     let y = c.in-Ok.ensures.read in
-    rw (p.1, p.2) (fails_behind 41 (type_at c.args.levels) NamesFront _ _ _ _ _ c.in_err-goes_on.field-0.0 y.0.0 c.in-Ok.read.1.now c.types.invariant (behind_is _ y.0 c.in-Ok.read.1.now y.1 y.2.1) c.in_err-goes_on.ensures)
+    rw (p.1, p.2) (fails_behind (separator_at 41) (type_at c.args.levels) NamesFront _ _ _ _ _ c.in_err-goes_on.field-0.0 y.0.0 c.in-Ok.read.1.now c.types.invariant (behind_is _ y.0 c.in-Ok.read.1.now y.1 y.2.1) c.in_err-goes_on.ensures)
 
 pub read_types-returns-in_err-goes_on-clause-kept : goal.read_types-returns-in_err-goes_on-clause-kept
 read_types-returns-in_err-goes_on-clause-kept g t c = Adds-on g.met.C.TypeStore.same_besides_on _ _ _ c.types.invariant.kept c.in-Ok.ensures.kept
@@ -125,7 +131,7 @@ read_types-returns-in_err-goes_on-clause-kept g t c = Adds-on g.met.C.TypeStore.
 pub read_types-returns-else-goes_on-clause-read : goal.read_types-returns-else-goes_on-clause-read
 read_types-returns-else-goes_on-clause-read g t c =
     let y = c.in-Ok.ensures.read in
-    gathered 41 (type_at c.args.levels) NamesFront g.met.C.TypeStore.same_besides_on NamesFront-grown _ _ _ _ _ _ c.types.invariant c.in-Ok.ensures.kept y.0.0 c.in-Ok.read.1.now (behind_is _ y.0 c.in-Ok.read.1.now y.1 y.2.1) _ (λ front m. NamesFront-push _ _ _ front c.in-Ok.read.0 y.0.0 c.in_ok-push.ensures.items m y.2.0) c.in_ok-goes_on.behind.now (c.in_ok-goes_on.ensures ∙ ap (λ b. done (b, c.in_ok-goes_on.behind.now)) c.if-goes_on.false)
+    gathered (separator_at 41) (type_at c.args.levels) NamesFront g.met.C.TypeStore.same_besides_on NamesFront-grown _ _ _ _ _ _ c.types.invariant c.in-Ok.ensures.kept y.0.0 c.in-Ok.read.1.now (behind_is _ y.0 c.in-Ok.read.1.now y.1 y.2.1) _ (λ front m. NamesFront-push _ _ _ front c.in-Ok.read.0 y.0.0 c.in_ok-push.ensures.items m y.2.0) c.in_ok-goes_on.behind.now (c.in_ok-goes_on.ensures ∙ ap (λ b. done (b, c.in_ok-goes_on.behind.now)) c.if-goes_on.false)
 
 pub read_types-returns-else-goes_on-clause-kept : goal.read_types-returns-else-goes_on-clause-kept
 read_types-returns-else-goes_on-clause-kept g t c = Adds-on g.met.C.TypeStore.same_besides_on _ _ _ c.types.invariant.kept c.in-Ok.ensures.kept
@@ -138,4 +144,4 @@ read_types-types-smaller g t c =
 pub read_types-types-preserved : goal.read_types-types-preserved
 read_types-types-preserved g t c =
     let y = c.in-Ok.ensures.read in
-    one_more 41 (type_at c.args.levels) NamesFront g.met.C.TypeStore.same_besides_on NamesFront-grown _ _ _ _ _ _ c.types.invariant c.in-Ok.ensures.kept y.0.0 c.in-Ok.read.1.now (behind_is _ y.0 c.in-Ok.read.1.now y.1 y.2.1) _ (λ front m. NamesFront-push _ _ _ front c.in-Ok.read.0 y.0.0 c.in_ok-push.ensures.items m y.2.0) c.in_ok-goes_on.behind.now (c.in_ok-goes_on.ensures ∙ ap (λ b. done (b, c.in_ok-goes_on.behind.now)) c.if-goes_on.true) (read_types-types-smaller g t c)
+    one_more (separator_at 41) (type_at c.args.levels) NamesFront g.met.C.TypeStore.same_besides_on NamesFront-grown _ _ _ _ _ _ c.types.invariant c.in-Ok.ensures.kept y.0.0 c.in-Ok.read.1.now (behind_is _ y.0 c.in-Ok.read.1.now y.1 y.2.1) _ (λ front m. NamesFront-push _ _ _ front c.in-Ok.read.0 y.0.0 c.in_ok-push.ensures.items m y.2.0) c.in_ok-goes_on.behind.now (c.in_ok-goes_on.ensures ∙ ap (λ b. done (b, c.in_ok-goes_on.behind.now)) c.if-goes_on.true) (read_types-types-smaller g t c)
