@@ -16,6 +16,7 @@ pub mod SameNames
 pub mod Escapes
 pub mod Joins
 pub mod Nested
+pub mod Handles
 pub mod Meanings
 pub mod AttrSteps
 pub mod LeavesFound
