@@ -4,6 +4,7 @@ pub mod Lexing
 pub mod Quoted
 pub mod Fronts
 pub mod Growth
+pub mod TypesIn
 pub mod Gathering
 pub mod TypeSteps
 pub mod Begun
