@@ -13,6 +13,7 @@ ghost use Rattle.plir_text.specs.Names.{Names, Grows};
 ghost use Rattle.plir_text.specs.Writable.{IsWritable, attr_term};
 
 use crate::fault::ReadErr;
+use plir_data::laws::dictionary_is_that_of_its_entries;
 use plir_data::{AttrObj, OpSet};
 
 /// A text stands for one type at most.
@@ -33,7 +34,9 @@ pub fn text_stands_for_one_attribute<D: OpSet>()
 /// The text of an attribute stands for it, with as many levels as it has, also in a table that has grown on.
 pub fn text_stands_for_its_attribute<D: OpSet>()
     ensures { (n : ℕ) (old new : List (TypeView D.Ty)) → IsTypeTable D.type_handles old → Grows old new → (x : AttrView D.Attr) → IsWritable old x → levels (attr_term old x) ≤ n → StandsFor n new (attr_text D.attr_id D.attr_text D.type_id D.type_body_text old x) x }
-{}
+{
+    dictionary_is_that_of_its_entries::<D>();
+}
 
 /// The text of an attribute is read back as an equal one.
 ///
@@ -46,4 +49,6 @@ pub fn attr_is_read_back<D: OpSet>(
     read: &Result<AttrObj<D>, ReadErr>,
 )
     ensures { IsReadBack D.attr_id D.attr_text D.type_id D.type_body_text D.attr_handles D.type_handles (attr_view attr.now) text.now read.now }
-{}
+{
+    dictionary_is_that_of_its_entries::<D>();
+}

@@ -29,6 +29,17 @@ fn put_fault<D: OpSet>(bench: &mut Bench<D>, found: ReadErr) -> Result<(), Stop>
     Ok(())
 }
 
+/// `fault forward-ref` or `fault results WANTED FOUND`: writes the text of the fault.
+pub fn show_fault<D: OpSet>(bench: &mut Bench<D>, line: Line<'_>) -> Result<(), Stop> {
+    let fault = match line.first {
+        "forward-ref" => Fault::ForwardRefOpExistenceErr,
+        "results" => Fault::NResultsVerifyErr(number(line.second)?, number(line.third)?),
+        _ => return Err(Stop::Refused),
+    };
+    bench.answer.put_shown(&fault);
+    Ok(())
+}
+
 /// `read-type TEXT`, `read-integer TEXT` or `read-function TEXT`: writes the name of the type.
 pub fn read<D: OpSet>(bench: &mut Bench<D>, line: Line<'_>) -> Result<(), Stop> {
     let text = unfold(bench.alloc, line.text)?;

@@ -1,5 +1,5 @@
 //! The scripts of texts, with their answers.
-use super::reading::{ask_attr, read, read_beginnings, read_nested};
+use super::reading::{ask_attr, read, read_beginnings, read_nested, show_fault};
 use plir_scripts::{Bench, Layer, Line, Mismatch, NodeCalls, SampleSet, ScriptSet, Stop, play};
 use std::alloc::Global;
 
@@ -13,6 +13,7 @@ impl<D: ScriptSet> Layer<D> for TextCalls {
             "attr" | "verify" | "writable" | "typed-attr" => ask_attr(bench, line),
             "nested-attr" | "nested-type" => read_nested(bench, line),
             "beginnings-attr" | "beginnings-type" => read_beginnings(bench, line),
+            "fault" => show_fault(bench, line),
             _ => NodeCalls::run(bench, line),
         }
     }
@@ -65,6 +66,14 @@ fn faults_stand_at_their_tokens(rt: HostRuntime) -> Result<(), Mismatch> {
         read-type sample.type => Unexpected at 1:1
         read-type => Unexpected at 1:1
         read-type builtin.integer si4294967296 => IntegerOutOfRange at 1:19";
+    play_in(rt.alloc(), script)
+}
+
+#[test]
+fn faults_of_operations_have_texts(rt: HostRuntime) -> Result<(), Mismatch> {
+    let script = "
+        fault forward-ref => builtin.forward_ref is a temporary Op during parsing. It must not exit in a well-formed program.
+        fault results 0 1 => Expected 0 result(s), but found 1 results";
     play_in(rt.alloc(), script)
 }
 
