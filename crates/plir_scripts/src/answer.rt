@@ -76,6 +76,11 @@ impl Answer {
         self.put(if truth { "yes" } else { "no" });
     }
 
+    /// Whether the same is written as in another one.
+    pub fn is_same(&self, other: &Answer) -> Result<bool, Stop> {
+        Ok(self.text()? == other.text()?)
+    }
+
     /// What is written.
     pub fn text(&self) -> Result<&str, Stop> {
         if self.is_whole {

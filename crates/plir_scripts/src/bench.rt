@@ -55,7 +55,7 @@ pub enum Mismatch {
     /// A line with the answer that it got.
     Answer { line: String, found: String },
     /// A call that was refused for want of memory has changed a node.
-    Nodes(String),
+    Nodes,
     /// Memory was refused twice.
     Memory,
 }
@@ -95,16 +95,48 @@ impl<D: OpSet> Bench<D> {
         Ok(())
     }
 
-    // Whether all nodes are as they are after so many lines of the script.
-    fn is_as_after<L: Layer<D>>(
+    // Plays the lines of a script, each with its answer.
+    fn play<L: Layer<D>>(&mut self, max_nodes: u32, script: &str) -> Result<(), Mismatch> {
+        for (count, line) in script.lines().enumerate() {
+            let (call, answer) = parts_of(line);
+            if call.is_empty() {
+                continue;
+            }
+            if self.run::<L>(call).is_err() {
+                self.stays_as_after::<L>(max_nodes, script, count)?;
+                self.run::<L>(call)?;
+            }
+            self.expect(line, answer)?;
+        }
+        Ok(())
+    }
+
+    // Asks whether the answer is this one.
+    fn expect(&self, line: &str, answer: &str) -> Result<(), Mismatch> {
+        let found = self.answer.text()?;
+        if found.trim_start() == answer {
+            return Ok(());
+        }
+        Err(Mismatch::Answer {
+            line: String::from_str(self.alloc, line)?,
+            found: String::from_str(self.alloc, found)?,
+        })
+    }
+
+    // Asks whether all nodes are as they are after so many lines of the script.
+    fn stays_as_after<L: Layer<D>>(
         &self,
         max_nodes: u32,
         script: &str,
         count: usize,
-    ) -> Result<bool, Stop> {
+    ) -> Result<(), Mismatch> {
         let mut other: Bench<D> = Bench::new(self.alloc, max_nodes);
         other.run_lines::<L>(script, count)?;
-        Ok(self.state().text()? == other.state().text()?)
+        if self.state().is_same(&other.state())? {
+            Ok(())
+        } else {
+            Err(Mismatch::Nodes)
+        }
     }
 
     // Carries out the calls of so many lines of a script.
@@ -155,26 +187,7 @@ pub fn play<D: OpSet, L: Layer<D>>(
     script: &str,
 ) -> Result<(), Mismatch> {
     let mut bench: Bench<D> = Bench::new(alloc, max_nodes);
-    for (count, line) in script.lines().enumerate() {
-        let (call, answer) = parts_of(line);
-        if call.is_empty() {
-            continue;
-        }
-        if bench.run::<L>(call).is_err() {
-            if !bench.is_as_after::<L>(max_nodes, script, count)? {
-                return Err(Mismatch::Nodes(String::from_str(alloc, call)?));
-            }
-            bench.run::<L>(call)?;
-        }
-        let found = bench.answer.text()?;
-        if found.trim_start() != answer {
-            return Err(Mismatch::Answer {
-                line: String::from_str(alloc, line)?,
-                found: String::from_str(alloc, found)?,
-            });
-        }
-    }
-    Ok(())
+    bench.play::<L>(max_nodes, script)
 }
 
 // The call and the answer of a line.

@@ -48,6 +48,7 @@ fn white_space_is_free(rt: HostRuntime) -> Result<(), Mismatch> {
     let script = "
         read-type ¶builtin.function\t<( builtin.integer\r¶si32 ,builtin.unit ) -> ( )>¶ => t0
         read-type builtin.function <(builtin.integer si32, builtin.unit)->()> => t0
+        read-type builtin.function <( builtin.integer si32 ,builtin.unit ) -> ( )> => t0
         text t0 => builtin.function <(builtin.integer si32, builtin.unit)->()>
         attr ¶builtin.given_names\t[ins,?,r0\r¶,r1]¶ => builtin.given_names [ins, ?, r0, r1]";
     play_in(rt.alloc(), script)
