@@ -26,7 +26,7 @@ behind_more open_ close read (suc n) start rest next x h e s = (h.0, h.1, h.2, h
 
 module _ {S T Y H : Type 0} {types : S → List (TypeView T)} {same : S → S → Type 0} (open_ close : ℕ) (read : List ℕ → Result (Y × List ℕ) Fault) (is_in : List ℕ → TypeTerm → Type 0) (means : List (TypeView T) → H → List Y → Type 0) (bytes : List ℕ) where
   pub begins : ((c : S) → same c c) → (c : S) (held : H) (start : List ℕ) → means (types c) held [] → sign_at open_ bytes ≡ Ok start → past_sign close start ≡ None → Gathers types same open_ close read is_in means bytes c c held start
-  begins itself c held start none p q = record { kept = Adds-itself itself c; front = []; meant = none; place = (start, zero, p, refl); going = starts open_ close read bytes start p q }
+  begins itself c held start none p q = record { kept = Adds-itself itself c; front = []; meant = none; place = (start, zero, p, q, refl); going = starts open_ close read bytes start p q }
 
   -- the types that the next item adds are written in the list
   pub kept_on : ((a b c : S) → same a b → same b c → same a c) → (a b c : S) (held : H) (rest : List ℕ) → Gathers types same open_ close read is_in means bytes a b held rest → Adds types same (is_in rest) b c → Adds types same (IsInList open_ close read is_in bytes) a c
@@ -43,7 +43,7 @@ module _ {S T Y H : Type 0} {types : S → List (TypeView T)} {same : S → S �
         kept = kept_on on a b c held rest so_far kept;
         front = so_far.front ++ y ∷ [];
         meant = push so_far.front (grown (types b) (types c) held so_far.front kept.grown so_far.meant);
-        place = (so_far.place.0, suc so_far.place.1, so_far.place.2, behind_more open_ close read so_far.place.1 so_far.place.0 rest behind (y, after) so_far.place.3 is_read s);
+        place = (so_far.place.0, suc so_far.place.1, so_far.place.2, so_far.place.3, behind_more open_ close read so_far.place.1 so_far.place.0 rest behind (y, after) so_far.place.4 is_read s);
         going = goes_on (separator_at close) read so_far.front rest _ y after behind so_far.going is_read s lt;
       }
 

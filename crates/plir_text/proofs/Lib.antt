@@ -34,3 +34,4 @@ pub mod QuotedAgain
 pub mod TypesShown
 pub mod AttrsShown
 pub mod Asked
+pub mod Parts

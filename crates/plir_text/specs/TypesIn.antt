@@ -1,8 +1,8 @@
 -- Which types are written in a text: at each place of it where a type is read, as far as the text is read.
-use Rattle.std.specs.Prelude.{◌≡◌, ◌⊎◌, ℕ, zero, suc, List, true, Result, Ok}
+use Rattle.std.specs.Prelude.{◌≡◌, ◌⊎◌, ℕ, zero, suc, List, true, None, Result, Ok}
 use Rattle.plir_data.specs.declared.types.Signedness.{Signedness}
 use Rattle.plir_text.specs.Terms.{TypeTerm, integer_type, function_type, unit_type, TypeTerms, AttrTerm}
-use Rattle.plir_text.specs.Lists.{sign_at, separator_at, items_at}
+use Rattle.plir_text.specs.Lists.{sign_at, past_sign, separator_at, items_at}
 use Rattle.plir_text.specs.TypeReading.{arrow_at, integer_at, function_at, type_head, type_at}
 use Rattle.plir_text.specs.AttrReading.{name_at, value_at, entry_at, attr_head, attr_at}
 use Rattle.plir_text.specs.declared.fault.Fault.{Fault}
@@ -17,9 +17,9 @@ module _ {A : Type 0} (open_ close : ℕ) (read : List ℕ → Result (A × List
   IsBehind zero start place = place ≡ start
   IsBehind (suc n) start place = (x : A × List ℕ) × (next : List ℕ) × (read start ≡ Ok x) × (separator_at close x.1 ≡ Ok (true, next)) × IsBehind n next place
 
-  -- an item of the list in brackets begins at `place`
+  -- an item of the list in brackets, which isn't empty, begins at `place`
   abbrev pub IsItemAt : (bytes place : List ℕ) → Type 0
-  IsItemAt bytes place = (start : List ℕ) × (items : ℕ) × (sign_at open_ bytes ≡ Ok start) × IsBehind items start place
+  IsItemAt bytes place = (start : List ℕ) × (items : ℕ) × (sign_at open_ bytes ≡ Ok start) × (past_sign close start ≡ None) × IsBehind items start place
 
   -- the type is written in an item of the list in brackets; `is_in` says which types are written in an item
   abbrev pub IsInList : (is_in : List ℕ → TypeTerm → Type 0) → List ℕ → TypeTerm → Type 0

@@ -6,7 +6,10 @@ ghost use Rattle.plir_data.specs.AttrView.{AttrView};
 ghost use Rattle.plir_data.specs.Types.{TypeView, IsTypeTable};
 ghost use Rattle.plir_text.specs.AttrAnswer.{IsReadBack};
 ghost use Rattle.plir_text.specs.AttrText.{attr_text};
-ghost use Rattle.plir_text.specs.Terms.{TypeTerm, levels};
+ghost use Rattle.plir_text.specs.AttrGrammar.{AttrWithin};
+ghost use Rattle.plir_text.specs.Parts.{IsPartOf, IsHeldBy};
+ghost use Rattle.plir_text.specs.Terms.{TypeTerm, AttrTerm, levels};
+ghost use Rattle.plir_text.specs.TypesIn.{IsInType, IsInAttr};
 ghost use Rattle.plir_text.specs.TypeGrammar.{IsText, TypeWithin};
 ghost use Rattle.plir_text.specs.Meaning.{StandsFor};
 ghost use Rattle.plir_text.specs.Names.{Names, Grows};
@@ -19,6 +22,16 @@ use plir_data::{AttrObj, OpSet};
 /// A text stands for one type at most.
 pub fn text_stands_for_one_type()
     ensures { (m n : ℕ) (bytes : List ℕ) (t u : TypeTerm) → IsText (TypeWithin m) bytes t → IsText (TypeWithin n) bytes u → t ≡ u }
+{}
+
+/// A type that is written in a text that stands for a type is that type, or one that it is made of.
+pub fn type_in_a_text_is_part_of_its_type()
+    ensures { (n : ℕ) (text : List ℕ) (t u : TypeTerm) → IsText (TypeWithin n) text u → IsInType n text t → IsPartOf t u }
+{}
+
+/// A type that is written in a text that stands for an attribute is the type of an integer in it, or part of a type in it.
+pub fn type_in_a_text_is_held_by_its_attribute()
+    ensures { (n : ℕ) (text : List ℕ) (t : TypeTerm) (x : AttrTerm) → IsText (AttrWithin n) text x → IsInAttr n text t → IsHeldBy t x }
 {}
 
 /// A type that is written is named by one handle of a table at most.
