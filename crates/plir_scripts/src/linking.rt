@@ -151,15 +151,29 @@ fn unlink<D: OpSet>(ctx: &mut Context<D>, made: &Made, line: Line<'_>) -> Result
 
 fn erase<D: OpSet>(ctx: &mut Context<D>, made: &Made, line: Line<'_>) -> Result<(), Stop> {
     match made.live(ctx, line.first)? {
-        IRNode::Operation(op) if IRNode::Operation(op).is_unused_outside(ctx) => {
-            Operation::erase(op, ctx);
-        }
-        IRNode::BasicBlock(block) if IRNode::BasicBlock(block).is_unused_outside(ctx) => {
-            BasicBlock::erase(block, ctx);
-        }
-        IRNode::Region(region) => return erase_region(ctx, region),
-        _ => return Err(Stop::Refused),
+        IRNode::Operation(op) => erase_op(ctx, op),
+        IRNode::Region(region) => erase_region(ctx, region),
+        IRNode::BasicBlock(block) => erase_block(ctx, block),
     }
+}
+
+fn erase_op<D: OpSet>(ctx: &mut Context<D>, op: Ptr<Operation>) -> Result<(), Stop>
+    requires { IsLive ctx.old (AnyNode.Operation op) }
+{
+    if !IRNode::Operation(op).is_unused_outside(ctx) {
+        return Err(Stop::Refused);
+    }
+    Operation::erase(op, ctx);
+    Ok(())
+}
+
+fn erase_block<D: OpSet>(ctx: &mut Context<D>, block: Ptr<BasicBlock>) -> Result<(), Stop>
+    requires { IsLive ctx.old (AnyNode.BasicBlock block) }
+{
+    if !IRNode::BasicBlock(block).is_unused_outside(ctx) {
+        return Err(Stop::Refused);
+    }
+    BasicBlock::erase(block, ctx);
     Ok(())
 }
 

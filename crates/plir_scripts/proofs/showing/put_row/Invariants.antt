@@ -3,4 +3,4 @@ use Rattle.plir_core.specs.Store.{IsLive}
 use Rattle.plir_scripts.proofs.showing.put_row.Given as goal
 
 abbrev pub invariant-nodes : goal.invariant-nodes
-invariant-nodes l = IfSome l.at (λ node. IsLive l.ctx node)
+invariant-nodes g l = IfSome l.at (λ node. IsLive l.ctx node)
