@@ -3,14 +3,14 @@ use Rattle.std.proofs.lemmas.List.{append-nil}
 use Rattle.plir_walk.specs.AsRead.{tree_read}
 use Rattle.plir_walk.specs.Calls.{Call, nodes_of}
 use Rattle.plir_walk.specs.Config.{AllPost, direction_of, order_of}
-use Rattle.plir_walk.specs.Forest.{AtOrBelow, IsBelow, IsForest, Shape}
+use Rattle.plir_walk.specs.Forest.{IsBelow, IsForest, Shape}
 use Rattle.plir_core.specs.NodeLists.{Distinct, Has}
 use Rattle.plir_walk.specs.Tree.{Place, Tree, node_at, taken}
 use Rattle.plir_walk.specs.declared.config.Order.{Order}
 use Rattle.plir_walk.specs.declared.config.Order.TheVariants.{PostOrder, PreOrder}
 use Rattle.plir_walk.specs.declared.config.WalkConfig.{WalkConfig}
 use Rattle.plir_core.specs.declared.ptr.IRNode.{IRNode}
-use Rattle.plir_walk.proofs.Climbs.{IsBelow-AtOrBelow, climb-top, kid-below, not-below-itself, same-branch}
+use Rattle.plir_walk.proofs.Climbs.{AtOrBelow, IsBelow-AtOrBelow, climb-top, kid-below, not-below-itself, same-branch}
 use Rattle.plir_walk.proofs.Groves.{Grove, Has-taken, Reads, Reads-beside, Reads-same, and_then-some, beside, first, flat, flat-beside, flat-cases, flat-root, flat-under, grow, last, last-is, leaf, no-both, roots, roots-beside}
 use Rattle.plir_walk.proofs.ListLemmas.{Distinct-append, Distinct-one, Distinct-right, Has-append_cases, Has-append_left, Has-append_right, Has-at}
 use Rattle.plir_walk.proofs.Stages.{Closing, Entering, Leaving, Opening, read-fresh}

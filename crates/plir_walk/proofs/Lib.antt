@@ -20,7 +20,6 @@ pub mod Reading
 pub mod Advancing
 pub mod Orders
 pub mod Lawfulness
-pub mod BlockEdits
 pub mod NameLists
 pub mod NamesUnderKey
 pub mod NamedStores

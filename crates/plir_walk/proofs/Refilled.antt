@@ -24,7 +24,7 @@ module _ {C : Type 0} (t : Table C) (i : ℕ) (f : C → C) where
   some-content : (v : C) → content_at t i ≡ Some v → IsSome (content_at t i)
   some-content v e = subst IsSome (sym e) refl
 
-  edited-slots : SameSlots t (edited t i f)
+  pub edited-slots : SameSlots t (edited t i f)
   edited-slots = go (content_at t i) refl
     where
       full : (v : C) → content_at t i ≡ Some v → (j : ℕ) → is_some (content_at (with_content t i (f v)) j) ≡ is_some (content_at t j)

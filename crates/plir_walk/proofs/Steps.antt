@@ -1,7 +1,7 @@
-use Rattle.std.proofs.Common.{◌≡◌, ◌≢◌, suc, ◌≤◌, true, List, [], ◌∷◌, ◌++◌, Some, inl, inr, reverse, refl, sym, subst, arith, ◌∙◌}
+use Rattle.std.proofs.Common.{◌≡◌, ◌≢◌, zero, suc, ◌≤◌, true, List, [], ◌∷◌, ◌++◌, Some, inl, inr, reverse, refl, sym, ap, subst, arith, ◌∙◌}
 use Rattle.std.proofs.lemmas.List.{reverse-append}
 use Rattle.plir_walk.specs.Config.{AllPost, direction_of, order_of}
-use Rattle.plir_walk.specs.Forest.{AtOrBelow, IsBelow, IsForest, Lawful, Shape}
+use Rattle.plir_walk.specs.Forest.{IsBelow, IsForest, Lawful, Shape}
 use Rattle.plir_core.specs.NodeLists.{Distinct, Has}
 use Rattle.plir_walk.specs.Tree.{Tree, same, taken}
 use Rattle.plir_walk.specs.declared.config.Direction.{Direction}
@@ -10,7 +10,7 @@ use Rattle.plir_walk.specs.declared.config.Order.{Order}
 use Rattle.plir_walk.specs.declared.config.Order.TheVariants.{PostOrder, PreOrder}
 use Rattle.plir_walk.specs.declared.config.WalkConfig.{WalkConfig}
 use Rattle.plir_core.specs.declared.ptr.IRNode.{IRNode}
-use Rattle.plir_walk.proofs.Climbs.{IsBelow-AtOrBelow, apart-kept, below-live, beside-branch, climb-depth, kid-below, not-below-itself, same-branch, two-above}
+use Rattle.plir_walk.proofs.Climbs.{AtOrBelow, IsBelow-AtOrBelow, apart-kept, below-live, beside-branch, climb-bottom, climb-depth, kid-below, not-below-itself, same-branch, two-above}
 use Rattle.plir_walk.proofs.Groves.{Grove, Has-reverse, Has-taken, Reads, Reads-same, first, flat, roots}
 use Rattle.plir_walk.proofs.ListLemmas.{Distinct-append, Distinct-one, Distinct-right, Has-append_cases, Has-append_left, Has-append_right}
 
@@ -92,6 +92,13 @@ pub path-depth : (w : WalkConfig) (s : Shape) (f : IsForest s) (base : Tree) (t 
 path-depth w s f base t r ns top c h = rw h (omega arith)
 path-depth w s f base t r ns (under a o d td u) c h =
     omega (arith, path-depth w s f base t r ns u a h.1, f.deeper a c (frame-parent w s f base t ns a o d td c h.0))
+
+-- the cursor is the root, or below it
+pub path-under : (w : WalkConfig) (s : Shape) (f : IsForest s) (base : Tree) (t : Tree) (r : IRNode) (ns : List IRNode) (path : Path) (c : IRNode) → Fits w s base t r ns path c → AtOrBelow s r c
+path-under w s f base t r ns top c h = (zero, ap Some h)
+path-under w s f base t r ns (under a o d td u) c h =
+    let z = path-under w s f base t r ns u a h.1 in
+    (suc z.0, climb-bottom s z.0 c a (frame-parent w s f base t ns a o d td c h.0) ∙ z.1)
 
 -- A lawful call at n keeps the way to n.
 pub frame-keep : (w : WalkConfig) (s s' : Shape) (f : IsForest s) (f' : IsForest s') (n : IRNode) (l : Lawful s n s') (base : Tree) (t t' : Tree) (ns : List IRNode)

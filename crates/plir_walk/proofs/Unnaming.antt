@@ -23,7 +23,7 @@ use Rattle.plir_walk.specs.Forest.{Lawful, SameShape}
 use Rattle.plir_walk.specs.Calls.{Call, Relation, Chain, nodes_of}
 use Rattle.plir_walk.specs.ShutOut.{IsShutOut}
 use Rattle.plir_walk.specs.Walk.{IsWalkWithin}
-use Rattle.plir_walk.specs.Walked.{AtLive, Walked, plain_answer}
+use Rattle.plir_walk.specs.Walked.{IsCallUnder, Walked, plain_answer}
 use Rattle.plir_walk.specs.View.{look}
 use Rattle.plir_walk.specs.Unnamed.{unnamed, op_unnamed, block_unnamed, without_names, IsUnnamed}
 use Rattle.plir_walk.proofs.ListLemmas.{Has-at}
@@ -170,19 +170,19 @@ pub walk-unnamed : {K A T S : Type 0} (own : A → List ℕ) (w : WalkConfig) (p
 walk-unnamed own w post c s r c' s' limit result h each enough whole live = go result walk
   where
     walk : IsWalkWithin w (kids c) r limit h.calls (plain_answer result)
-    walk = h.unchanged (λ d t n a d' t' l p. unnamed-shape d d' n (each d t n a d' t' p).1)
+    walk = h.unchanged (λ d t n a d' t' p. unnamed-shape d d' n (each d t n a d' t' p.made).1)
 
     once : Distinct (nodes_of h.calls)
     once = Pairs-distinct (NodeBefore w (kids c) r) (nodes_of h.calls) (total-order w (kids c) r walk.in_order.one_place).irreflexive walk.in_order.increasing
 
     left : c' ≡ at_once c (nodes_of h.calls)
-    left = chain-unnamed (AtLive look post) (λ d t n a d' t' p. (each d t n a d' t' p.1).1) h.calls c s c' s' h.chain ∙ unnamed-at_once c (nodes_of h.calls)
+    left = chain-unnamed (IsCallUnder look r post) (λ d t n a d' t' p. (each d t n a d' t' p.made).1) h.calls c s c' s' h.chain ∙ unnamed-at_once c (nodes_of h.calls)
 
     not-shut : (n : IRNode) → IsShutOut w (kids c) r h.calls n → ⊥
     not-shut n o =
-        let k = Chain-each (AtLive look post) c s h.calls c' s' h.chain o.skipped.0 o.skipped.1 in
+        let k = Chain-each (IsCallUnder look r post) c s h.calls c' s' h.chain o.skipped.0 o.skipped.1 in
         let x = o.skipped.0 in
-        let e = sym (each x.before x.state x.node x.answer x.after x.left k.1).0 ∙ o.skipped.3 in
+        let e = sym (each x.before x.state x.node x.answer x.after x.left k.made).0 ∙ o.skipped.3 in
         let z : ⊥ = cc e in
         z
 

@@ -10,6 +10,7 @@ pub mod Walk
 pub mod AsRead
 pub mod Walked
 pub mod View
+pub mod LawfulChanges
 pub mod Step
 pub mod Laws
 pub mod GivenNames
