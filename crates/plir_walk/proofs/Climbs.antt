@@ -5,6 +5,7 @@ use Rattle.plir_core.specs.NodeLists.{Has}
 use Rattle.plir_core.specs.declared.ptr.IRNode.{IRNode}
 use Rattle.plir_walk.specs.Forest.{IsBelow, IsForest, Lawful, Shape}
 use Rattle.plir_walk.proofs.Groves.{and_then-some}
+use Rattle.plir_walk.proofs.Heights.{deeper, depth_in}
 
 -- x is a or below it
 abbrev pub AtOrBelow : Shape → IRNode → IRNode → Type 0
@@ -28,11 +29,11 @@ climb-top s k x a b e f = climb-and s.parent k (Some x) ∙ (ap (option_and_then
 pub climb-bottom : (s : Shape) (k : ℕ) (x a : IRNode) → s.parent x ≡ Some a → climb s.parent (suc k) (Some x) ≡ climb s.parent k (Some a)
 climb-bottom s k x a e = ap (climb s.parent k) e
 
-pub climb-depth : (s : Shape) (f : IsForest s) (k : ℕ) (x a : IRNode) → climb s.parent k (Some x) ≡ Some a → s.depth x ≡ s.depth a + k
+pub climb-depth : (s : Shape) (f : IsForest s) (k : ℕ) (x a : IRNode) → climb s.parent k (Some x) ≡ Some a → depth_in s x ≡ depth_in s a + k
 climb-depth s f zero x a e = let h : x ≡ a = cc in rw h (omega arith)
 climb-depth s f (suc k) x a e =
     let r = climb-split s k x a e in
-    omega (arith, climb-depth s f k x r.0 r.1, f.deeper a r.0 r.2)
+    omega (arith, climb-depth s f k x r.0 r.1, deeper s f a r.0 r.2)
 
 pub not-below-itself : (s : Shape) (f : IsForest s) (x : IRNode) → IsBelow s x x → ⊥
 not-below-itself s f x h = omega (arith, climb-depth s f (suc h.0) x x h.1)
@@ -45,7 +46,7 @@ pub kid-below : (s : Shape) (a c x : IRNode) → s.parent c ≡ Some a → AtOrB
 kid-below s a c x e h = (h.0, climb-top s h.0 x c a h.1 e)
 
 -- of two nodes of one depth with a node at or below both, each is the other
-pub same-branch : (s : Shape) (f : IsForest s) (a b x : IRNode) → s.depth a ≡ s.depth b → AtOrBelow s a x → AtOrBelow s b x → a ≡ b
+pub same-branch : (s : Shape) (f : IsForest s) (a b x : IRNode) → depth_in s a ≡ depth_in s b → AtOrBelow s a x → AtOrBelow s b x → a ≡ b
 same-branch s f a b x d h k =
     let e : h.0 ≡ k.0 = omega (arith, climb-depth s f h.0 x a h.1, climb-depth s f k.0 x b k.1) in
     let g : climb s.parent k.0 (Some x) ≡ Some a = subst (λ (v : ℕ). climb s.parent v (Some x) ≡ Some a) e h.1 in
@@ -53,7 +54,7 @@ same-branch s f a b x d h k =
     cc (g, g')
 
 -- a node b of the depth of a, where n is at or below a, is not at or below n unless it is a
-pub beside-branch : (s : Shape) (f : IsForest s) (a b n : IRNode) → s.depth a ≡ s.depth b → AtOrBelow s a n → AtOrBelow s n b → a ≡ b
+pub beside-branch : (s : Shape) (f : IsForest s) (a b n : IRNode) → depth_in s a ≡ depth_in s b → AtOrBelow s a n → AtOrBelow s n b → a ≡ b
 beside-branch s f a b n d h k =
     let p = climb-depth s f h.0 n a h.1 in
     let q = climb-depth s f k.0 b n k.1 in

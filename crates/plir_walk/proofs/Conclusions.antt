@@ -26,6 +26,7 @@ use Rattle.plir_walk.proofs.Nodes.{same_tells}
 use Rattle.plir_walk.proofs.Places.{index-once}
 use Rattle.plir_walk.proofs.Results.{Visits}
 use Rattle.plir_walk.proofs.Stages.{cut, cut-same, nodes-append}
+use Rattle.plir_walk.proofs.Heights.{deeper, depth_in}
 
 -- in a forest each node has one place
 pub forest-one-place : (s : Shape) (f : IsForest s) (p q : Place) (r n : IRNode) → node_at s.kids r p ≡ Some n → node_at s.kids r q ≡ Some n → p ≡ q
@@ -37,7 +38,7 @@ forest-one-place s f (i ∷ p) (j ∷ q) r n e g =
     let y = and_then-some (λ c. node_at s.kids c q) (slice_get (s.kids r) j) n g in
     let ux : s.parent x.0 ≡ Some r = f.kid_parent r x.0 (Has-at (s.kids r) i x.0 x.1) in
     let uy : s.parent y.0 ≡ Some r = f.kid_parent r y.0 (Has-at (s.kids r) j y.0 y.1) in
-    let dp : s.depth x.0 ≡ s.depth y.0 = f.deeper r x.0 ux ∙ sym (f.deeper r y.0 uy) in
+    let dp : depth_in s x.0 ≡ depth_in s y.0 = deeper s f r x.0 ux ∙ sym (deeper s f r y.0 uy) in
     let xy : x.0 ≡ y.0 = same-branch s f x.0 y.0 n dp (place-below s f x.0 n p x.2) (place-below s f y.0 n q y.2) in
     let ij : i ≡ j = index-once (s.kids r) i j y.0 (f.once r) (x.1 ∙ ap Some xy) y.1 in
     let pq : p ≡ q = forest-one-place s f p q y.0 n (subst (λ (v : IRNode). node_at s.kids v p ≡ Some n) xy x.2) y.2 in

@@ -15,7 +15,7 @@ use Rattle.plir_core.specs.Changes.{SameLive, with_op_edit, with_block_edit}
 use Rattle.plir_core.specs.Erase.{IsErased}
 use Rattle.plir_core.specs.Made.{IsRegionAdded, IsMade}
 use Rattle.plir_core.specs.Placed.{MovesOnly, IsPlaced}
-use Rattle.plir_walk.specs.Forest.{Shape, IsBelow, IsForest, Lawful}
+use Rattle.plir_walk.specs.Forest.{Shape, IsBelow, IsForest, Lawful, SameShape}
 use Rattle.plir_walk.specs.View.{look}
 use Rattle.plir_walk.proofs.Climbs.{AtOrBelow, climb-bottom, climb-split, climb-top, not-below-itself}
 use Rattle.plir_walk.proofs.NamedStores.{op-edit-is, block-edit-is}
@@ -192,16 +192,38 @@ module _ {K A T : Type 0} (s : Store K A T) where
   same_slots : {C : Type 0} (t : Table C) → SameSlots t t
   same_slots t = record { versions = λ j. refl; full = λ j. refl }
 
-  pub op-edit-lawful : (p : Ptr OperationKind) (f : OpView K A → OpView K A) (n : IRNode) → Lawful (look s) n (look (with_op_edit s p f))
-  op-edit-lawful p f n =
+  record SeesTheSame (t : Store K A T) : Type 0 where
+    live : (m : IRNode) → is_live t m ≡ is_live s m
+    parents : (m : IRNode) → parent_of t m ≡ parent_of s m
+    kids : (m : IRNode) → kids t m ≡ kids s m
+    given : (m : IRNode) → given_out t m ≡ given_out s m
+
+  lawful-seen : (t : Store K A T) (n : IRNode) → SeesTheSame t → Lawful (look s) n (look t)
+  lawful-seen t n e = lawful-same (look s) (look t) n e.live e.parents e.kids (λ m g. e.given m ∙ g)
+
+  shape-seen : (t : Store K A T) → SeesTheSame t → SameShape (look s) (look t)
+  shape-seen t e = record { live = e.live; kids = e.kids }
+
+  op-edit-seen : (p : Ptr OperationKind) (f : OpView K A → OpView K A) → SeesTheSame (with_op_edit s p f)
+  op-edit-seen p f =
       let os = edited-slots s.nodes.ops p.slot f in
       let bs = same_slots s.nodes.blocks in
-      subst (λ z. Lawful (look s) n (look z)) (sym (op-edit-is s p f))
-      (lawful-same (look s) _ n (refilled-live s _ _ os bs) (refilled-parents s _ _ os bs) (refilled-kids s _ _ os bs) (λ m g. refilled-given s _ _ os bs m ∙ g))
+      subst SeesTheSame (sym (op-edit-is s p f)) (record { live = refilled-live s _ _ os bs; parents = refilled-parents s _ _ os bs; kids = refilled-kids s _ _ os bs; given = refilled-given s _ _ os bs })
 
-  pub block-edit-lawful : (p : Ptr BasicBlockKind) (f : BlockView A → BlockView A) (n : IRNode) → Lawful (look s) n (look (with_block_edit s p f))
-  block-edit-lawful p f n =
+  block-edit-seen : (p : Ptr BasicBlockKind) (f : BlockView A → BlockView A) → SeesTheSame (with_block_edit s p f)
+  block-edit-seen p f =
       let os = same_slots s.nodes.ops in
       let bs = edited-slots s.nodes.blocks p.slot f in
-      subst (λ z. Lawful (look s) n (look z)) (sym (block-edit-is s p f))
-      (lawful-same (look s) _ n (refilled-live s _ _ os bs) (refilled-parents s _ _ os bs) (refilled-kids s _ _ os bs) (λ m g. refilled-given s _ _ os bs m ∙ g))
+      subst SeesTheSame (sym (block-edit-is s p f)) (record { live = refilled-live s _ _ os bs; parents = refilled-parents s _ _ os bs; kids = refilled-kids s _ _ os bs; given = refilled-given s _ _ os bs })
+
+  pub op-edit-lawful : (p : Ptr OperationKind) (f : OpView K A → OpView K A) (n : IRNode) → Lawful (look s) n (look (with_op_edit s p f))
+  op-edit-lawful p f n = lawful-seen (with_op_edit s p f) n (op-edit-seen p f)
+
+  pub block-edit-lawful : (p : Ptr BasicBlockKind) (f : BlockView A → BlockView A) (n : IRNode) → Lawful (look s) n (look (with_block_edit s p f))
+  block-edit-lawful p f n = lawful-seen (with_block_edit s p f) n (block-edit-seen p f)
+
+  pub op-edit-shape : (p : Ptr OperationKind) (f : OpView K A → OpView K A) → SameShape (look s) (look (with_op_edit s p f))
+  op-edit-shape p f = shape-seen (with_op_edit s p f) (op-edit-seen p f)
+
+  pub block-edit-shape : (p : Ptr BasicBlockKind) (f : BlockView A → BlockView A) → SameShape (look s) (look (with_block_edit s p f))
+  block-edit-shape p f = shape-seen (with_block_edit s p f) (block-edit-seen p f)

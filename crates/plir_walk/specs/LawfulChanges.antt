@@ -11,7 +11,7 @@ use Rattle.plir_core.specs.Changes.{SameLive, with_op_edit, with_block_edit}
 use Rattle.plir_core.specs.Erase.{IsErased}
 use Rattle.plir_core.specs.Made.{IsRegionAdded, IsMade}
 use Rattle.plir_core.specs.Placed.{IsPlaced}
-use Rattle.plir_walk.specs.Forest.{IsBelow, IsForest, Lawful}
+use Rattle.plir_walk.specs.Forest.{IsBelow, IsForest, Lawful, SameShape}
 use Rattle.plir_walk.specs.View.{look}
 
 -- Which changes of a context are lawful calls at a node n. Each is said in the words of the node calls that make it, so that
@@ -28,6 +28,9 @@ pub record LawfulChanges (K A T : Type 0) : Type 0 where
   -- an edit of what an operation or a block holds, wherever it stands
   pub op_edit : (s : Store K A T) (n : IRNode) (p : Ptr OperationKind) (f : OpView K A → OpView K A) → Lawful (look s) n (look (with_op_edit s p f))
   pub block_edit : (s : Store K A T) (n : IRNode) (p : Ptr BasicBlockKind) (f : BlockView A → BlockView A) → Lawful (look s) n (look (with_block_edit s p f))
+  -- it keeps the shape
+  pub op_edit_shape : (s : Store K A T) (p : Ptr OperationKind) (f : OpView K A → OpView K A) → SameShape (look s) (look (with_op_edit s p f))
+  pub block_edit_shape : (s : Store K A T) (p : Ptr BasicBlockKind) (f : BlockView A → BlockView A) → SameShape (look s) (look (with_block_edit s p f))
   -- a make that was refused
   pub refused : (s t : Store K A T) (n : IRNode) → SameLive s t → ((m : IRNode) → given_out s m ≡ true → given_out t m ≡ true) → Lawful (look s) n (look t)
   -- a tree was made, and its root x was put under n, or under a node below it

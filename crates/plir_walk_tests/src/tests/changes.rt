@@ -6,11 +6,13 @@ ghost use Rattle.plir_walk.specs.Forest.{Lawful};
 ghost use Rattle.plir_walk.specs.View.{look};
 
 use super::plan::{Change, Plan};
+use plir_core::laws::{first_kid_is_front, kid_at};
 use plir_core::{BasicBlock, Context, IRNode, NodeErr, Operation, Ptr, Region};
 use plir_data::{Identifier, OpKind};
 use plir_scripts::{SampleKind, SampleSet};
 use plir_walk::NodeLinks;
 use plir_walk::interruptible::{WalkResult, walk_break};
+use plir_walk::laws::lawful_changes;
 use std::alloc::Global;
 
 /// What a callback breaks the walk with where memory was refused, or a change can't be made.
@@ -61,11 +63,14 @@ pub fn make_nest(
     ensures lawful { (b : _) → target ≡ Some b → Lawful (look ctx.old) (AnyNode.BasicBlock b) (look ctx.new) }
 {
     ctx.forest();
+    lawful_changes::<SampleSet>();
     let op = new_op(alloc, ctx, kind, target)?;
     let region = op.first_region(ctx).ok_or(Refusal::Misplaced)?;
     if !region.is_live(ctx) {
         return Err(Refusal::Misplaced);
     }
+    first_kid_is_front(ctx, IRNode::Operation(op));
+    kid_at(ctx, IRNode::Operation(op), IRNode::Region(region), 0);
     let block = BasicBlock::new(alloc, ctx, None, Vec::new(alloc))?;
     block.insert_at_back(region, ctx);
     Ok(Nest { op, region, block })
@@ -82,6 +87,7 @@ fn new_op(
     ensures placed { (b : _) → target ≡ Some b → IfOk result (λ op. parent_of ctx.new (AnyNode.Operation op) ≡ Some (AnyNode.BasicBlock b)) }
     ensures lawful { (b : _) → target ≡ Some b → Lawful (look ctx.old) (AnyNode.BasicBlock b) (look ctx.new) }
 {
+    lawful_changes::<SampleSet>();
     let results = Vec::new(alloc);
     let operands = Vec::new(alloc);
     let successors = Vec::new(alloc);
@@ -102,6 +108,7 @@ fn new_op(
 fn erase_op(ctx: &mut Context<SampleSet>, node: IRNode, op: Ptr<Operation>) -> Result<(), Refusal>
     ensures { Lawful (look ctx.old) node (look ctx.new) }
 {
+    lawful_changes::<SampleSet>();
     let erased = IRNode::Operation(op);
     if !op.is_live(ctx) || !erased.is_unused_outside(ctx) {
         return Err(Refusal::Misplaced);
@@ -118,10 +125,12 @@ fn erase_op(ctx: &mut Context<SampleSet>, node: IRNode, op: Ptr<Operation>) -> R
 fn erase_region(ctx: &mut Context<SampleSet>, op: Ptr<Operation>) -> Result<(), Refusal>
     ensures { Lawful (look ctx.old) (AnyNode.Operation op) (look ctx.new) }
 {
+    lawful_changes::<SampleSet>();
     if !op.is_live(ctx) || op.num_regions(ctx) == 0 {
         return Err(Refusal::Misplaced);
     }
     let region = op.get_region(ctx, 0);
+    kid_at(ctx, IRNode::Operation(op), IRNode::Region(region), 0);
     if !IRNode::Region(region).is_unused_outside(ctx) {
         return Err(Refusal::Misplaced);
     }
@@ -133,6 +142,7 @@ fn erase_region(ctx: &mut Context<SampleSet>, op: Ptr<Operation>) -> Result<(), 
 fn add_region(ctx: &mut Context<SampleSet>, op: Ptr<Operation>) -> Result<(), Refusal>
     ensures { Lawful (look ctx.old) (AnyNode.Operation op) (look ctx.new) }
 {
+    lawful_changes::<SampleSet>();
     if !op.is_live(ctx) {
         return Err(Refusal::Misplaced);
     }
@@ -148,6 +158,7 @@ fn append_block(
 ) -> Result<(), Refusal>
     ensures { Lawful (look ctx.old) (AnyNode.Region region) (look ctx.new) }
 {
+    lawful_changes::<SampleSet>();
     if !region.is_live(ctx) {
         return Err(Refusal::Misplaced);
     }
@@ -160,6 +171,7 @@ fn append_block(
 fn label(alloc: Global, ctx: &mut Context<SampleSet>, block: Ptr<BasicBlock>) -> Result<(), Refusal>
     ensures { Lawful (look ctx.old) (AnyNode.BasicBlock block) (look ctx.new) }
 {
+    lawful_changes::<SampleSet>();
     let Ok(name) = Identifier::try_new(alloc, "b") else {
         return Err(Refusal::NotMade(NodeErr::Memory));
     };
@@ -204,6 +216,7 @@ fn follow(
     ensures { Lawful (look ctx.old) node (look ctx.new) }
 {
     ctx.forest();
+    lawful_changes::<SampleSet>();
     for (at, change) in changes {
         if *at == node {
             apply(alloc, ctx, node, *change)?;

@@ -1,6 +1,6 @@
 //! The scripts of walks and names, with their answers.
 use super::naming::name;
-use super::walking::walk;
+use super::walking::{walk, walk_plainly};
 use plir_scripts::{Bench, Layer, Line, Mismatch, NodeCalls, Stop, play};
 
 /// The calls of this crate, and those on nodes.
@@ -10,6 +10,7 @@ impl Layer for WalkCalls {
     fn run(bench: &mut Bench, line: Line<'_>) -> Result<(), Stop> {
         match line.command {
             "look" | "plainly-look" | "change" | "plainly-change" => walk(bench, line),
+            "grow" | "unlabel" => walk_plainly(bench, line),
             "set-name" | "insert-name" | "remove-name" | "names" | "erase-names" => {
                 name(bench, line)
             }
@@ -225,6 +226,37 @@ fn what_a_call_erases_after_its_walk_was_called(rt: HostRuntime) -> Result<(), M
         back b2 r2
         back o2 b0
         change post-fwd o0 limit 9, at b0 erase o2 => b1 r1 o1 b2 r2 o2 b0 r0 o0 advance";
+    play::<WalkCalls>(rt.alloc(), 100, script)
+}
+
+#[test]
+fn regions_that_calls_add_are_called(rt: HostRuntime) -> Result<(), Mismatch> {
+    let script = "
+        op module 1 => o0
+        block => b0
+        back b0 r0
+        op func 1 => o1
+        block => b1
+        back b1 r1
+        back o1 b0
+        grow pre-fwd o0 => o0 r0 b0 o1 r1 b1 r2 r3 advance
+        grow post-fwd o0 => b1 r1 r2 o1 b0 r0 r3 o0 advance
+        look pre-fwd o0 => o0 r0 b0 o1 r1 b1 r2 r4 r3 r5 advance";
+    play::<WalkCalls>(rt.alloc(), 100, script)
+}
+
+#[test]
+fn a_call_may_change_what_a_block_holds(rt: HostRuntime) -> Result<(), Mismatch> {
+    let script = "
+        op module 1 => o0
+        block a => b0
+        back b0 r0
+        op func 1 => o1
+        block => b1
+        back b1 r1
+        back o1 b0
+        unlabel post-fwd/pre-rev/pre-fwd o0 => r0 b0 r1 b1 o1 o0 advance
+        show b0 => -, in r0 o0, between - -, operations o1 to o1, terminator -, arguments 0";
     play::<WalkCalls>(rt.alloc(), 100, script)
 }
 

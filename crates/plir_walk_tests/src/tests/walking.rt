@@ -5,6 +5,7 @@ ghost use Rattle.plir_walk.specs.Forest.{Lawful};
 ghost use Rattle.plir_walk.specs.View.{look};
 
 use super::changes::{NOT_DONE, visit};
+use super::growing::{grow, unlabel};
 use super::plan::{Plan, read_plan};
 use plir_core::{Context, IRNode};
 use plir_scripts::{Bench, Line, Made, SampleSet, Stop};
@@ -81,6 +82,21 @@ fn pair_of(word: &str) -> Result<(Order, Direction), Stop> {
         "post-rev" => Ok((Order::PostOrder, Direction::Reverse)),
         _ => Err(Stop::Refused),
     }
+}
+
+/// Does what a line says that walks under an operation: `grow SETTING OP` gives each called operation a region, `unlabel
+/// SETTING OP` takes the label from each called block. Writes the called nodes and the walk's answer.
+pub fn walk_plainly(bench: &mut Bench, line: Line<'_>) -> Result<(), Stop> {
+    let config = config_of(line.first)?;
+    let root = bench.made.op(&bench.ctx, line.second)?;
+    let mut called = Vec::new(bench.alloc);
+    called.reserve(32)?;
+    let found = match line.command {
+        "grow" => grow(&mut bench.ctx, &config, root, &mut called),
+        _ => unlabel(&mut bench.ctx, &config, root, &mut called),
+    };
+    name_new(&mut bench.made, called.as_slice())?;
+    put_walk(&bench.made, &mut bench.answer, called.as_slice(), found)
 }
 
 /// Walks with a callback that notes its node and answers by the plan.
