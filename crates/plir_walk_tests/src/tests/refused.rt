@@ -26,11 +26,11 @@ fn appending(alloc: Global, node: IRNode) -> Option<Plan> {
 }
 
 // The nodes of a tree of a module that holds at most one function, in the order of their places.
-fn nodes_in(ctx: &Context<SampleSet>, module: Nest) -> [Option<IRNode>; 6]
-    requires { IsLive ctx.now (AnyNode.BasicBlock module.block) }
+fn nodes_in(ctx: &Context<SampleSet>, nest: Nest) -> [Option<IRNode>; 6]
+    requires { IsLive ctx.now (AnyNode.BasicBlock nest.block) }
 {
-    let (root, region, block) = module.nodes();
-    let func = module.block.get_head(ctx);
+    let (root, region, block) = nest.nodes();
+    let func = nest.block.get_head(ctx);
     let inner = match func {
         None => None,
         Some(op) => op.first_region(ctx),
