@@ -30,3 +30,4 @@ pub mod Growing
 pub mod Editing
 pub mod KidPlaces
 pub mod Indices
+pub mod Standing

@@ -11,8 +11,7 @@ use Rattle.plir_core.specs.Changes.{with_block_edit}
 use Rattle.plir_core.specs.Contents.{BlockView}
 use Rattle.plir_core.specs.Forest.{Seat, op, block, seat_of}
 use Rattle.plir_core.specs.Store.{Store, IsLive, is_live, given_out, kids, parent_of, num_live}
-use Rattle.plir_core.specs.Whole.{IsWhole}
-use Rattle.plir_core.proofs.Depths.{IsSeated, length-le_seated}
+use Rattle.plir_core.specs.Standing.{IsStanding}
 use Rattle.plir_walk.specs.declared.limit.CallLimit.{CallLimit}
 use Rattle.plir_walk.specs.declared.config.WalkConfig.{WalkConfig}
 use Rattle.plir_walk.specs.declared.interruptible.WalkContinue.TheVariants.{Advance}
@@ -116,11 +115,6 @@ module _ {K A T : Type 0} (s : Store K A T) where
       let z = and_then-some (λ c. node_at (kids s) c p) (slice_get (kids s r) i) n e in
       under-live p z.0 n w (w.kid_live r z.0 (Has-at (kids s r) i z.0 z.1)) z.2
 
-  live-seated : (n : IRNode) → IsLive s n → IsSeated s.nodes (seat_of n)
-  live-seated (Operation p) l = (live_parts s.nodes.ops p.slot p.version l).0
-  live-seated (Region p) l = (live_parts s.nodes.regions p.slot p.version l).0
-  live-seated (BasicBlock p) l = (live_parts s.nodes.blocks p.slot p.version l).0
-
   op-seat : (n : IRNode) (i : ℕ) → op_slot n ≡ Some i → seat_of n ≡ op i
   op-seat (Operation p) i e = ap op (same_Some p.slot i e)
   op-seat (Region p) i e = absurd (none-some i e)
@@ -130,14 +124,6 @@ module _ {K A T : Type 0} (s : Store K A T) where
   block-seat (Operation p) i e = absurd (none-some i e)
   block-seat (Region p) i e = absurd (none-some i e)
   block-seat (BasicBlock p) i e = ap block (same_Some p.slot i e)
-
-  -- different live nodes are no more than are live
-  count-live : (ns : List IRNode) → Distinct ns → ((n : IRNode) → Has ns n → IsLive s n) → length ns ≤ num_live s
-  count-live ns d live =
-      let seat : IRNode → Option Seat = λ n. Some (seat_of n) in
-      let apart = Distinct-picked seat ns (λ a b x h i e f. same-seat a b (live a h) (live b i) (same_Some (seat_of a) (seat_of b) (e ∙ sym f))) d in
-      let some = length-le_seated (picked seat ns) s.nodes apart (λ x h. (let z = picked-Has seat ns x h in subst (IsSeated s.nodes) (same_Some (seat_of z.0) x z.2) (live-seated z.0 (live z.0 z.1)))) in
-      subst (λ z. z ≤ num_live s) (length-picked seat_of ns) some
 
 -- the calls of a walk that takes the names of each node
 chain-unnamed : {K A T S B : Type 0} (P : Relation (Store K A T) S B) → ((c : Store K A T) (s : S) (n : IRNode) (a : _) (c' : Store K A T) (s' : S) → P c s n a c' s' → c' ≡ without_names c n)
@@ -176,13 +162,13 @@ module _ {K A T : Type 0} (s : Store K A T) (w : IsForest (look s)) (r : IRNode)
   }
 
 -- What a walk leaves whose callback takes the names of each node.
-pub walk-unnamed : {K A T S : Type 0} (own : A → List ℕ) (w : WalkConfig) (post : Relation (Store K A T) S (Unit {0})) (c : Store K A T) (s : S) (r : IRNode) (c' : Store K A T) (s' : S) (limit : ℕ) (result : Result (Unit {0}) CallLimit)
+pub walk-unnamed : {K A T S : Type 0} (w : WalkConfig) (post : Relation (Store K A T) S (Unit {0})) (c : Store K A T) (s : S) (r : IRNode) (c' : Store K A T) (s' : S) (limit : ℕ) (result : Result (Unit {0}) CallLimit)
     → Walked look w post c s r limit (plain_answer result) c' s' → ((d : Store K A T) (t : S) (n : IRNode) (a : _) (d' : Store K A T) (t' : S) → post d t n a d' t' → (a ≡ Continue Advance) × (d' ≡ without_names d n))
-    → 2 ^ 32 ≤ limit + 1 → IsWhole own c → IsLive c r → IsUnnamed c c' r
-walk-unnamed own w post c s r c' s' limit result h each enough whole live = go result walk
+    → 2 ^ 32 ≤ limit + 1 → IsStanding c → IsLive c r → IsUnnamed c c' r
+walk-unnamed w post c s r c' s' limit result h each enough stands live = go result walk
   where
     forest : IsForest (look c)
-    forest = forest-of own c whole
+    forest = forest-of c stands
 
     walk : IsWalkWithin w (kids c) r limit h.calls (plain_answer result)
     walk = h.unchanged (λ d t n a d' t' p. unnamed-shape d d' n (each d t n a d' t' p.made).1)
@@ -205,12 +191,12 @@ walk-unnamed own w post c s r c' s' limit result h each enough whole live = go r
     go (Ok u) v = subst (λ z. IsUnnamed c z r) (sym left) (unnamed-once c forest r live (nodes_of h.calls) once (λ n. (v.in_order.under_root n, λ under. (v.answers.2 n).1 (under, not-shut n))))
     go (Err x) v =
         let missed = v.answers.3 in
-        let more = count-live c (missed.0 ∷ nodes_of h.calls) (missed.2, once) (λ n k. elim k [
+        let more = stands.counted (missed.0 ∷ nodes_of h.calls) (missed.2, once) (λ n k. elim k [
           | inl e ↦ subst (IsLive c) e (under-live c missed.1.0.0 r missed.0 forest live missed.1.0.1)
           | inr i ↦ (let u = v.in_order.under_root n i in under-live c u.0 r n forest live u.1)
         ]) in
         let made = v.answers.0 in
         let same = length-nodes h.calls in
-        let within = whole.forest.within in
-        let fits = whole.forest.limit_fits in
+        let within = stands.within in
+        let fits = stands.limit_fits in
         absurd (omega arith)

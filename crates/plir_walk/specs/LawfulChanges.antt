@@ -15,10 +15,11 @@ use Rattle.plir_walk.specs.Forest.{IsBelow, IsForest, Lawful, SameShape}
 use Rattle.plir_walk.specs.View.{look}
 
 -- Which changes of a context are lawful calls at a node n. Each is said in the words of the node calls that make it, so that
--- a callback that makes one is lawful by that call's own contract.
-pub record LawfulChanges (K A T : Type 0) : Type 0 where
+-- a callback that makes one is lawful by that call's own contract. `own_handles` gives the type handles of the user's own
+-- attributes.
+pub record LawfulChanges (K A T : Type 0) (own_handles : A → List ℕ) : Type 0 where
   -- every context is a forest
-  pub forest : (own : A → List ℕ) (s : Store K A T) → IsWhole own s → IsForest (look s)
+  pub forest : (s : Store K A T) → IsWhole own_handles s → IsForest (look s)
   -- nothing done
   pub none : (s : Store K A T) (n : IRNode) → Lawful (look s) n (look s)
   -- one lawful change after another

@@ -17,6 +17,7 @@ ghost use Rattle.plir_walk.specs.Laws.{BeforeOrders, PostReverseIsPreForwardReve
 use crate::config::WalkConfig;
 use crate::links::NodeLinks;
 use crate::uninterruptible;
+use plir_core::laws::contexts_stand;
 use plir_core::{IRNode, Operation, Ptr};
 use plir_data::OpSet;
 
@@ -75,5 +76,7 @@ pub fn walks_each_node_once<C: NodeLinks, S, F: Fn(&C, &mut S, IRNode)>(
 
 /// What a callback at a node may do to a context: each change is lawful, told in the words of the node calls that make it.
 pub fn lawful_changes<D: OpSet>()
-    ensures { LawfulChanges D.Kind D.Attr D.Ty }
-{}
+    ensures { LawfulChanges D.Kind D.Attr D.Ty D.attr_handles }
+{
+    contexts_stand::<D>();
+}

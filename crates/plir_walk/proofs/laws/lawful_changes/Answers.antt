@@ -5,7 +5,7 @@ use Rattle.plir_walk.proofs.laws.lawful_changes.Goals as goal
 
 pub returns : goal.returns
 returns g c = record {
-  forest = λ own s w. forest-of own s w;
+  forest = λ s w. forest-of s (c.contexts_stand.ensures s w);
   none = λ s n. lawful-none (look s) n;
   both = λ s t u n w f l. lawful-then (look s) (look t) (look u) n w f l;
   stays = λ s t n w f l. lawful-stays (look s) (look t) n w f l;

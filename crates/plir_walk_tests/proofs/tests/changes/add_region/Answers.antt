@@ -12,5 +12,5 @@ returns-in_err-_region g c =
 pub returns : goal.returns
 returns g c =
     let s = c.args.ctx.now in
-    let forest = c.lawful_changes.ensures.forest _ s c.is_live.ensures.whole in
+    let forest = c.lawful_changes.ensures.forest s c.is_live.ensures.whole in
     c.lawful_changes.ensures.region s c.add_region.new.ctx (Operation c.args.op) (Region c.in_ok-_region._region) forest c.in_ok-_region.ensures.added

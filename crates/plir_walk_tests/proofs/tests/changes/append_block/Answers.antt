@@ -16,5 +16,5 @@ pub returns : goal.returns
 returns g c =
     let s = c.args.ctx.now in
     let region = Region c.args.region in
-    let forest = c.lawful_changes.ensures.forest _ s c.is_live.ensures.whole in
+    let forest = c.lawful_changes.ensures.forest s c.is_live.ensures.whole in
     c.lawful_changes.ensures.placed s c.new-2.new.ctx c.insert_at_back.new.ctx region region (BasicBlock c.in_ok-block.block) _ forest (zero, refl) c.in_ok-block.ensures.made c.insert_at_back.ensures.placed

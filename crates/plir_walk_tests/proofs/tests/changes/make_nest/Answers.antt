@@ -21,7 +21,7 @@ returns g c = record {
       let n = BasicBlock b in
       let region = Region c.in_ok-region.region in
       let over : Reaches (parent_of t) region n = (suc (suc zero), ap (climb (parent_of t) (suc zero)) c.kid_at.ensures.parent ∙ c.in_ok-op.ensures.placed b is) in
-      let forest = c.lawful_changes.ensures.forest _ t c.is_live.ensures.whole in
+      let forest = c.lawful_changes.ensures.forest t c.is_live.ensures.whole in
       let more = c.lawful_changes.ensures.placed t c.new-2.new.ctx v n region (BasicBlock c.in_ok-block.block) _ forest over c.in_ok-block.ensures.made c.insert_at_back.ensures.placed in
       c.lawful_changes.ensures.both s t v n c.forest.ensures (c.in_ok-op.ensures.lawful b is) more;
 }

@@ -16,6 +16,6 @@ returns-in_ok-op-in-Some-clause-lawful g c = λ b e.
     let s = c.args.ctx.now in
     let u = c.insert_at_back.new.ctx in
     let block = BasicBlock c.in-Some.block in
-    let forest = c.lawful_changes.ensures.forest _ s c.is_live.ensures.whole in
+    let forest = c.lawful_changes.ensures.forest s c.is_live.ensures.whole in
     let lawful = c.lawful_changes.ensures.placed s c.new-in-Some.new.ctx u block block (Operation c.in_ok-op-in-Some.op) _ forest (zero, refl) c.in_ok-op-in-Some.ensures.made c.insert_at_back.ensures.placed in
     subst (λ z. Lawful (look s) (BasicBlock z) (look u)) (same_Some c.in-Some.block b (sym c.in-Some.is ∙ e)) lawful
