@@ -4,7 +4,7 @@ use Rattle.plir_walk.specs.View.{look}
 use Rattle.plir_walk_tests.proofs.tests.growing.grow.Goals as goal
 
 pub walk_op-requires-clause-lawful : goal.walk_op-requires-clause-lawful
-walk_op-requires-clause-lawful c = λ d t n a d' t' p.
+walk_op-requires-clause-lawful g c = λ d t n a d' t' p.
     let law = c.lawful_changes.ensures in
     let s = p.made.context.now in
     let s' = p.made.context_left.now in
