@@ -3,7 +3,6 @@ mod changes;
 mod deep;
 mod growing;
 mod naming;
-mod pass;
 mod plan;
 mod refused;
 mod scripts;

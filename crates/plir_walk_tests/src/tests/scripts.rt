@@ -1,6 +1,5 @@
 //! The scripts of walks and names, with their answers.
 use super::naming::name;
-use super::pass::run_pass;
 use super::walking::{walk, walk_plainly};
 use plir_scripts::{Bench, Layer, Line, Mismatch, NodeCalls, SampleSet, ScriptSet, Stop, play};
 use std::alloc::Global;
@@ -13,7 +12,6 @@ impl<D: ScriptSet> Layer<D> for WalkCalls {
         match line.command {
             "look" | "plainly-look" | "change" | "plainly-change" => walk(bench, line),
             "grow" | "unlabel" => walk_plainly(bench, line),
-            "pass" => run_pass(bench, line),
             "set-name" | "insert-name" | "remove-name" | "names" | "erase-names" => {
                 name(bench, line)
             }
@@ -265,16 +263,6 @@ fn a_call_may_change_what_a_block_holds(rt: HostRuntime) -> Result<(), Mismatch>
         back o1 b0
         unlabel post-fwd/pre-rev/pre-fwd o0 => r0 b0 r1 b1 o1 o0 advance
         show b0 => -, in r0 o0, between - -, operations o1 to o1, terminator -, arguments 0";
-    play_in(rt.alloc(), script)
-}
-
-#[test]
-fn a_pass_stores_an_attribute_and_rewrites_its_tree(rt: HostRuntime) -> Result<(), Mismatch> {
-    let script = "
-        pass plain builtin.vec [ builtin.type builtin.unit ] => builtin.vec [builtin.type builtin.unit] o0 r0 b0 o1 r1 b1 b2 r2 b3 advance
-        show o0 => module Unknown, in - - -, between - -, regions r0 r2, from r0 to r2, operands, successors, results 0, attributes note = builtin.vec [builtin.type builtin.unit]
-        show b0 => -, in r0 o0, between - b2, operations o1 to o1, terminator -, arguments 0
-        show o1 => plain Unknown, in b0 r0 o0, between - -, regions r1, from r1 to r1, operands, successors, results 0";
     play_in(rt.alloc(), script)
 }
 

@@ -197,7 +197,7 @@ fn change_plainly<D: OpSet>(
 }
 
 // Names the called nodes that have no name.
-pub fn name_new(made: &mut Made, called: &[IRNode]) -> Result<(), Stop> {
+fn name_new(made: &mut Made, called: &[IRNode]) -> Result<(), Stop> {
     for node in called {
         match node {
             IRNode::Operation(op) if !made.ops.contains(op) => made.ops.push(*op)?,
@@ -210,7 +210,7 @@ pub fn name_new(made: &mut Made, called: &[IRNode]) -> Result<(), Stop> {
 }
 
 // Writes the names of the called nodes, and the walk's answer.
-pub fn put_walk(
+fn put_walk(
     made: &Made,
     answer: &mut Answer,
     called: &[IRNode],
