@@ -31,3 +31,4 @@ pub mod Editing
 pub mod Joining
 pub mod KidPlaces
 pub mod Indices
+pub mod Standing

@@ -6,6 +6,7 @@
 --   Contents     OpView K A, BlockView A: what operations and blocks hold; op_view: an operation without a location
 --   Texts        pointer_text, node_text: pointers as texts write them, as op3v1
 --   Whole        IsWhole: what holds of every context
+--   Standing     IsStanding: what every context keeps of its nodes, in the words of kids and parents
 --   Interfaces   implements: which interfaces a kind of operations implements
 --   Changes      what the calls that change a context make of it; SameLive: no live node has changed
 --   Edits        what they make of the nodes
@@ -33,6 +34,7 @@ pub mod Contents
 pub mod Store
 pub mod Texts
 pub mod Whole
+pub mod Standing
 pub mod Interfaces
 pub mod Changes
 pub mod Made

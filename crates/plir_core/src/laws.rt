@@ -2,7 +2,9 @@
 ghost use Rattle.std.specs.Prelude.{◌≡◌, ◌∷◌, ◌++◌, ◌+◌, List, Some, slice_get};
 ghost use Rattle.plir_core.specs.Contents.{OpView, BlockView};
 ghost use Rattle.plir_core.specs.NodeLists.{head};
-ghost use Rattle.plir_core.specs.Store.{IsLive, op_at, kids, parent_of, first_kid, next_sibling, depth, IsIndexed};
+ghost use Rattle.plir_core.specs.Store.{Store, IsLive, op_at, kids, parent_of, first_kid, next_sibling, depth, IsIndexed};
+ghost use Rattle.plir_core.specs.Whole.{IsWhole};
+ghost use Rattle.plir_core.specs.Standing.{IsStanding};
 ghost use Rattle.plir_core.specs.Changes.{with_op_edit, with_block_edit};
 ghost use Rattle.plir_core.specs.Held.{IsOpEdited, IsBlockEdited};
 ghost use Rattle.plir_core.specs.Grown.{Growth};
@@ -76,3 +78,8 @@ pub fn index_is_slot_and_one<D: OpSet>(ctx: &Context<D>)
 {
     let _count = ctx.num_live();
 }
+
+/// What every context keeps of the nodes that stand in it, in the words of kids and parents.
+pub fn contexts_stand<D: OpSet>()
+    ensures { (s : Store D.Kind D.Attr D.Ty) → IsWhole D.attr_handles s → IsStanding s }
+{}

@@ -1,7 +1,9 @@
 -- Whether handles name types of a table, asked of their parts.
-use Rattle.std.proofs.Common.{◌≡◌, ◌↔◌, ℕ, Bool, true, false, List, ◌∷◌, ◌++◌, IsTrue, refl, subst}
-use Rattle.std.proofs.lemmas.List.Elements.{All-append}
-use Rattle.plir_data.specs.AttrLive.{IsAttrLive, AreEntriesLive}
+use Rattle.std.proofs.Common.{◌≡◌, ◌↔◌, ℕ, Bool, true, false, cond, List, [], ◌∷◌, ◌++◌, Option, Some, None, IsTrue, option_map, refl, sym, subst}
+use Rattle.std.specs.Prelude.{All, IfSome}
+use Rattle.std.proofs.lemmas.List.Elements.{All-append, All-head, All-tail}
+use Rattle.plir_data.specs.AttrLive.{IsAttrLive, AreEntriesLive, IsLiveWith}
+use Rattle.plir_data.specs.Dictionary.{dict_get, is_key}
 use Rattle.plir_data.specs.AttrView.{AttrView, entries_of}
 use Rattle.plir_data.specs.Types.{TypeView, IsLive, AllLive}
 use Rattle.plir_data.proofs.TypeTrees.{all_left, all_right}
@@ -25,3 +27,19 @@ module _ {A T : Type 0} (own_handles : A → List ℕ) (types : List (TypeView T
   entry_dead is first all r =
       let h : (IsAttrLive own_handles types e.1 × AreEntriesLive own_handles types (entries_of fs)) ↔ R = subst (λ l. AreEntriesLive own_handles types (entries_of l) ↔ R) is all in
       first (h.1 r).0
+
+-- what holds of all values of a dictionary holds of the one at a key
+module _ {V : Type 0} (P : V → Type 0) (k : List ℕ) where
+  one_or_later : (b : Bool) (v : V) (o : Option V) → P v → IfSome o P → IfSome (cond b (Some v) o) P
+  one_or_later true v o p q = p
+  one_or_later false v o p q = q
+
+  held_at : (es : List (List ℕ × V)) → All (λ e. P e.1) es → IfSome (dict_get es k) P
+  held_at [] all = tt
+  held_at (e ∷ es) all = one_or_later (is_key k e.0) e.1 (dict_get es k) (All-head (λ f. P f.1) e es all) (held_at es (All-tail (λ f. P f.1) e es all))
+
+-- so an attribute that is seen under a key is live where all of the dictionary are
+module _ {A X : Type 0} (T : Type 0) (see : X → AttrView A) where
+  pub seen_live : (r : Option X) (es : List (List ℕ × AttrView A)) (k : List ℕ) → option_map see r ≡ dict_get es k → IfSome r (λ x. IsLiveWith T es (see x))
+  seen_live None es k is = tt
+  seen_live (Some x) es k is = λ own_handles types all. subst (λ o. IfSome o (IsAttrLive own_handles types)) (sym is) (held_at (IsAttrLive own_handles types) k es all)

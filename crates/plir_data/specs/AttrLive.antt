@@ -30,3 +30,7 @@ module _ {A T : Type 0} where
   -- all type handles in the attributes of a dictionary name types of the table
   abbrev pub HandlesLive : (own_handles : A → List ℕ) → List (TypeView T) → List (List ℕ × AttrView A) → Type 0
   HandlesLive own_handles types es = All (λ e. IsAttrLive own_handles types e.1) es
+
+-- the attribute is live in each table in which all attributes of a dictionary are
+abbrev pub IsLiveWith : {A : Type 0} → (T : Type 0) → List (List ℕ × AttrView A) → AttrView A → Type 0
+IsLiveWith {A} T es a = (own_handles : A → List ℕ) (types : List (TypeView T)) → HandlesLive own_handles types es → IsAttrLive own_handles types a

@@ -1,6 +1,8 @@
--- Laws of dictionaries.
-use Rattle.std.specs.Prelude.{◌≡◌, ℕ, zero, suc, List, ◌∷◌, ◌++◌, false}
-use Rattle.plir_data.specs.Dictionary.{dict_of, is_key}
+-- Laws of dictionaries and types.
+use Rattle.std.specs.Prelude.{◌≡◌, ℕ, zero, suc, List, ◌∷◌, ◌++◌, Some, false}
+use Rattle.plir_data.specs.Dictionary.{IsDictionary, dict_of, is_key}
+use Rattle.plir_data.specs.TypeTree.{tree_over, tree_of}
+use Rattle.plir_data.specs.Types.{TypeView, type_at}
 
 module _ {V : Type 0} where
   -- One list becomes the other in n steps, each of which exchanges two neighbours with different keys. So any two lists with
@@ -13,3 +15,11 @@ module _ {V : Type 0} where
 -- the order in which pairs of different keys come isn't seen in their dictionary
 abbrev pub OrderIsNotSeen : Type 0 → Type 0
 OrderIsNotSeen V = (n : ℕ) (ps qs : List (List ℕ × V)) → IsReordered n ps qs → dict_of ps ≡ dict_of qs
+
+-- a dictionary is that of its own entries
+abbrev pub IsDictOfItself : Type 0 → Type 0
+IsDictOfItself V = (es : List (List ℕ × V)) → IsDictionary es → dict_of es ≡ es
+
+-- the tree of each handle of the table is that of its type, over the trees of the handles that the type holds
+abbrev pub IsMadeOfTrees : {T : Type 0} → List (TypeView T) → Type 0
+IsMadeOfTrees types = (handle : ℕ) (t : TypeView _) → type_at types handle ≡ Some t → tree_of types handle ≡ tree_over (tree_of types) t

@@ -17,7 +17,7 @@
 --   AttrVerify   attr_is_valid, IsRefusal: which attributes are valid, and how others are refused
 --   TypeTree, TypeText   tree_of, type_text: a type as a whole, and its text
 --   NamesLent, EntryLent   LendsNames, LendsEntry: what becomes of given names, and of a dictionary's entry, that are lent
---   Laws         IsReordered, OrderIsNotSeen: laws of dictionaries
+--   Laws         IsReordered, OrderIsNotSeen, IsDictOfItself: laws of dictionaries; IsMadeOfTrees: a law of types
 --   AttrCode, AttrFalls, AttrLaws   what the prover needs of attributes that hold attributes
 pub mod Identifier
 pub mod Types

@@ -1,6 +1,7 @@
 //! Attributes under keys.
 
 ghost use Rattle.std.specs.Prelude.{◌≡◌, ◌↔◌, ℕ, List, [], Option, Some, None, OnOk, OnErr, IfOk, IfErr, IfSome, IsTrue, length, option_map};
+ghost use Rattle.plir_data.specs.AttrLive.{IsLiveWith};
 ghost use Rattle.plir_data.specs.AttrSeen.{attr_view};
 ghost use Rattle.plir_data.specs.DictSeen.{pairs_view};
 ghost use Rattle.plir_data.specs.Dictionary.{dict_get, dict_put, dict_without, IsDictionary};
@@ -77,7 +78,8 @@ impl<D: OpSet> AttributeDict<D> {
 
     /// The attribute under a key.
     pub fn get(&self, key: &str) -> Option<&AttrObj<D>>
-        ensures { option_map (λ a. attr_view a.now) result ≡ dict_get self.now key.now }
+        ensures value { option_map (λ a. attr_view a.now) result ≡ dict_get self.now key.now }
+        ensures live { IfSome result (λ a. IsLiveWith D.Ty self.now (attr_view a.now)) }
     {
         self.entries.get(key)
     }

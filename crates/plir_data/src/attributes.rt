@@ -1,6 +1,7 @@
 //! Attributes: values that operations and blocks carry under keys. Here those that are lists or dictionaries, and the enum of all.
 
-ghost use Rattle.std.specs.Prelude.{◌≡◌, ℕ, List, [], Option, IfOk, OnOk, OnErr, option_map, map};
+ghost use Rattle.std.specs.Prelude.{◌≡◌, ℕ, List, [], Option, IfOk, IfSome, OnOk, OnErr, option_map, map};
+ghost use Rattle.plir_data.specs.AttrLive.{IsLiveWith};
 ghost use Rattle.plir_data.specs.AttrSeen.{attr_view};
 ghost use Rattle.plir_data.specs.Dictionary.{dict_get, dict_put, dict_without, dict_of};
 
@@ -78,7 +79,8 @@ impl<D: OpSet> DictAttr<D> {
 
     /// The attribute under a key.
     pub fn lookup(&self, key: &Identifier) -> Option<&AttrObj<D>>
-        ensures { option_map (λ a. attr_view a.now) result ≡ dict_get self.now key.now }
+        ensures value { option_map (λ a. attr_view a.now) result ≡ dict_get self.now key.now }
+        ensures live { IfSome result (λ a. IsLiveWith D.Ty self.now (attr_view a.now)) }
     {
         self.0.get(key.as_str())
     }

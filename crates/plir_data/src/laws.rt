@@ -1,10 +1,11 @@
-//! Laws of dictionaries. Each is the contract of a public function.
+//! Laws of dictionaries and types. Each is the contract of a public function.
 
-ghost use Rattle.std.specs.Prelude.{◌≡◌, ◌↔◌, IsTrue};
+ghost use Rattle.std.specs.Prelude.{◌≡◌, ◌↔◌, IsTrue, List};
 ghost use Rattle.std.specs.List.{fold};
 ghost use Rattle.plir_data.specs.AttrHash.{entries_words};
-ghost use Rattle.plir_data.specs.AttrView.{entries_of};
-ghost use Rattle.plir_data.specs.Laws.{OrderIsNotSeen};
+ghost use Rattle.plir_data.specs.AttrView.{AttrView, entries_of};
+ghost use Rattle.plir_data.specs.Laws.{OrderIsNotSeen, IsDictOfItself, IsMadeOfTrees};
+ghost use Rattle.plir_data.specs.Types.{TypeView, IsTypeTable};
 
 use crate::attributes::DictAttr;
 use crate::op_set::OpSet;
@@ -33,3 +34,13 @@ pub fn equal_dictionaries_hash_alike<D: OpSet, H: Hasher>(
     other.hash(second);
     one == other
 }
+
+/// A dictionary of attributes is that of its own entries, put one after the other.
+pub fn dictionary_is_that_of_its_entries<D: OpSet>()
+    ensures { IsDictOfItself (AttrView D.Attr) }
+{}
+
+/// The tree of a handle is that of its type, over the trees of the handles that the type holds.
+pub fn tree_of_a_handle<D: OpSet>()
+    ensures { (types : List (TypeView D.Ty)) → IsTypeTable D.type_handles types → IsMadeOfTrees types }
+{}

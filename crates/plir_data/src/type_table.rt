@@ -42,7 +42,8 @@ impl<D: OpSet> TypeTable<D> {
 
     /// The number of types.
     pub fn len(&self) -> usize
-        ensures { result ≡ length self.now }
+        ensures value { result ≡ length self.now }
+        ensures whole { IsTypeTable D.type_handles self.now }
     {
         self.objects.len()
     }
@@ -51,14 +52,14 @@ impl<D: OpSet> TypeTable<D> {
     pub fn is_empty(&self) -> bool
         ensures { IsTrue result ↔ (self.now ≡ []) }
     {
-        self.objects.is_empty()
+        self.len() == 0
     }
 
     /// Whether a handle names a type of this table.
     pub fn is_live(&self, handle: TypeHandle) -> bool
         ensures { IsTrue result ↔ IsLive self.now handle }
     {
-        handle.index() < self.objects.len()
+        handle.index() < self.len()
     }
 
     /// Whether all of these handles name types of this table.
@@ -97,7 +98,7 @@ impl<D: OpSet> TypeStore<D> for TypeTable<D> {
 
     // The length is read so that what a table keeps is known.
     fn types(&self) -> &TypeTable<D> {
-        let _len = self.objects.len();
+        let _len = self.len();
         self
     }
 

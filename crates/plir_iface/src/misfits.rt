@@ -20,12 +20,7 @@ use plir_data::{OpSet, TypeMark, TypeStore, VerifyErr, type_text};
 use std::alloc::Global;
 
 /// The id of the type at a place, from 0.
-pub fn id_at<D: OpSet>(
-    ctx: &Context<D>,
-    op: Ptr<Operation>,
-    side: Side,
-    i: usize,
-) -> &'static str
+pub fn id_at<D: OpSet>(ctx: &Context<D>, op: Ptr<Operation>, side: Side, i: usize) -> &'static str
     requires live { IsLive ctx.now (IRNode.Operation op) }
     requires below { i < length (types_on side ctx.now op) }
     ensures value { result.now ≡ id_in D.type_id ctx.now (types_on side ctx.now op) i }

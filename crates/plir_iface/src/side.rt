@@ -34,12 +34,7 @@ impl Side {
     }
 
     /// The type of the value at a place, from 0.
-    pub fn type_at<D: OpSet>(
-        self,
-        ctx: &Context<D>,
-        op: Ptr<Operation>,
-        i: usize,
-    ) -> TypeHandle
+    pub fn type_at<D: OpSet>(self, ctx: &Context<D>, op: Ptr<Operation>, i: usize) -> TypeHandle
         requires live { IsLive ctx.now (IRNode.Operation op) }
         requires below { i < length (types_on self ctx.now op) }
         ensures value { type_in (types_on self ctx.now op) i ≡ Some result }

@@ -28,11 +28,7 @@ pub fn accept_if<D: OpSet, E: Drop>(
 }
 
 /// The refusal by an error, at the operation's location.
-pub fn refusal<D: OpSet, E: Drop>(
-    ctx: &Context<D>,
-    op: Ptr<Operation>,
-    err: E,
-) -> VerifyErr<E>
+pub fn refusal<D: OpSet, E: Drop>(ctx: &Context<D>, op: Ptr<Operation>, err: E) -> VerifyErr<E>
     requires { IsLive ctx.now (IRNode.Operation op) }
     ensures refused { IsRefusal ctx.now op (λ e. e ≡ err) result }
     ensures whole { IsWhole D.attr_handles ctx.now }

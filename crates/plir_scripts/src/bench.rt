@@ -1,39 +1,41 @@
 //! How a script is played.
+use crate::answer::Answer;
+use crate::asking::ask;
 use crate::contents::change;
 use crate::line::{Line, read_line};
 use crate::linking::link;
 use crate::made::Made;
 use crate::making::make;
-use crate::sample_set::SampleSet;
-use crate::showing::{ask, show};
+use crate::script_set::ScriptSet;
+use crate::showing::show;
 use crate::stop::Stop;
 use plir_core::{Context, IRNode};
+use plir_data::OpSet;
 use std::alloc::{AllocError, Global};
-use std::fmt::Write;
 
 // The bytes that an answer takes at most. They are there before the call, so that no call is made twice.
 const MAX_ANSWER: usize = 256;
 
 /// A context, the nodes that a script has made in it, and the answer of its last call.
 #[derive(Drop)]
-pub struct Bench {
+pub struct Bench<D: OpSet> {
     pub alloc: Global,
-    pub ctx: Context<SampleSet>,
+    pub ctx: Context<D>,
     pub made: Made,
-    pub answer: String,
+    pub answer: Answer,
 }
 
 /// The calls of a layer of the library.
-pub trait Layer {
+pub trait Layer<D: OpSet> {
     /// Carries a call out and writes its answer. A call that is refused for want of memory has changed no node.
-    fn run(bench: &mut Bench, line: Line<'_>) -> Result<(), Stop>;
+    fn run(bench: &mut Bench<D>, line: Line<'_>) -> Result<(), Stop>;
 }
 
 /// The calls on nodes.
 pub struct NodeCalls;
 
-impl Layer for NodeCalls {
-    fn run(bench: &mut Bench, line: Line<'_>) -> Result<(), Stop> {
+impl<D: ScriptSet> Layer<D> for NodeCalls {
+    fn run(bench: &mut Bench<D>, line: Line<'_>) -> Result<(), Stop> {
         match line.command {
             "op" | "block" | "region" | "type" => make(bench, line),
             "front" | "back" | "before" | "after" | "unlink" | "erase" => {
@@ -53,7 +55,7 @@ pub enum Mismatch {
     /// A line with the answer that it got.
     Answer { line: String, found: String },
     /// A call that was refused for want of memory has changed a node.
-    Nodes(String),
+    Nodes,
     /// Memory was refused twice.
     Memory,
 }
@@ -70,53 +72,106 @@ impl From<Stop> for Mismatch {
     }
 }
 
-impl Bench {
+impl<D: OpSet> Bench<D> {
     fn new(alloc: Global, max_nodes: u32) -> Self {
         Bench {
             alloc,
             ctx: Context::with_limit(alloc, max_nodes),
             made: Made::new(alloc),
-            answer: String::new(alloc),
+            answer: Answer::new(alloc),
         }
     }
 
     // Carries a call out; refused only for want of memory.
-    fn run<L: Layer>(&mut self, call: &str) -> Result<(), Stop> {
-        self.answer.clear();
-        self.answer.reserve(MAX_ANSWER)?;
+    fn run<L: Layer<D>>(&mut self, call: &str) -> Result<(), Stop> {
+        self.answer.begin(MAX_ANSWER)?;
         match L::run(self, read_line(call)) {
-            Err(Stop::Refused) => self.answer.push_str("refused")?,
-            Err(Stop::TooManyNodes) => self.answer.push_str("too many nodes")?,
-            other => return other,
+            Err(Stop::Refused) => self.answer.put("refused"),
+            Err(Stop::TooManyNodes) => self.answer.put("too many nodes"),
+            Err(Stop::Memory) => return Err(Stop::Memory),
+            Ok(()) => {}
+        }
+        self.answer.text()?;
+        Ok(())
+    }
+
+    // Plays the lines of a script, each with its answer.
+    fn play<L: Layer<D>>(&mut self, max_nodes: u32, script: &str) -> Result<(), Mismatch> {
+        for (count, line) in script.lines().enumerate() {
+            let (call, answer) = parts_of(line);
+            if call.is_empty() {
+                continue;
+            }
+            if self.run::<L>(call).is_err() {
+                self.stays_as_after::<L>(max_nodes, script, count)?;
+                self.run::<L>(call)?;
+            }
+            self.expect(line, answer)?;
+        }
+        Ok(())
+    }
+
+    // Asks whether the answer is this one.
+    fn expect(&self, line: &str, answer: &str) -> Result<(), Mismatch> {
+        let found = self.answer.text()?;
+        if found.trim_start() == answer {
+            return Ok(());
+        }
+        Err(Mismatch::Answer {
+            line: String::from_str(self.alloc, line)?,
+            found: String::from_str(self.alloc, found)?,
+        })
+    }
+
+    // Asks whether all nodes are as they are after so many lines of the script.
+    fn stays_as_after<L: Layer<D>>(
+        &self,
+        max_nodes: u32,
+        script: &str,
+        count: usize,
+    ) -> Result<(), Mismatch> {
+        let mut other: Bench<D> = Bench::new(self.alloc, max_nodes);
+        other.run_lines::<L>(script, count)?;
+        if self.state().is_same(&other.state())? {
+            Ok(())
+        } else {
+            Err(Mismatch::Nodes)
+        }
+    }
+
+    // Carries out the calls of so many lines of a script.
+    fn run_lines<L: Layer<D>>(&mut self, script: &str, count: usize) -> Result<(), Stop> {
+        for line in script.lines().take(count) {
+            let (call, _answer) = parts_of(line);
+            if !call.is_empty() {
+                self.run::<L>(call)?;
+            }
         }
         Ok(())
     }
 
     // What the getters answer of all nodes that the script has made.
-    fn state(&self) -> Result<String, Stop> {
-        let mut text = String::new(self.alloc);
-        let count = self.ctx.num_live();
-        writeln!(text, "{count} live")?;
+    fn state(&self) -> Answer {
+        let mut answer = Answer::new(self.alloc);
+        answer.put_number(self.ctx.num_live() as usize);
         for op in &self.made.ops {
-            self.put_state(&mut text, IRNode::Operation(*op))?;
+            self.put_state(&mut answer, IRNode::Operation(*op));
         }
         for region in &self.made.regions {
-            self.put_state(&mut text, IRNode::Region(*region))?;
+            self.put_state(&mut answer, IRNode::Region(*region));
         }
         for block in &self.made.blocks {
-            self.put_state(&mut text, IRNode::BasicBlock(*block))?;
+            self.put_state(&mut answer, IRNode::BasicBlock(*block));
         }
-        Ok(text)
+        answer
     }
 
-    fn put_state(&self, text: &mut String, node: IRNode) -> Result<(), Stop> {
-        self.made.put_node(text, node)?;
-        text.push_str(": ")?;
+    fn put_state(&self, answer: &mut Answer, node: IRNode) {
+        answer.put("\n");
+        self.made.put_node(answer, node);
         if node.is_live(&self.ctx) {
-            show(self.alloc, &self.ctx, &self.made, text, node)?;
+            show(self.alloc, &self.ctx, &self.made, answer, node);
         }
-        text.push('\n')?;
-        Ok(())
     }
 }
 
@@ -126,42 +181,16 @@ impl Bench {
 /// # Errors
 ///
 /// The first line whose answer is another one.
-pub fn play<L: Layer>(alloc: Global, max_nodes: u32, script: &str) -> Result<(), Mismatch> {
-    let mut bench = Bench::new(alloc, max_nodes);
-    for (count, line) in script.lines().enumerate() {
-        let (call, answer) = line.trim().split_once(" => ").unwrap_or((line.trim(), ""));
-        if call.is_empty() {
-            continue;
-        }
-        if bench.run::<L>(call).is_err() {
-            if bench.state()? != state_after::<L>(alloc, max_nodes, script, count)? {
-                return Err(Mismatch::Nodes(String::from_str(alloc, call)?));
-            }
-            bench.run::<L>(call)?;
-        }
-        if bench.answer.trim_start() != answer {
-            return Err(Mismatch::Answer {
-                line: String::from_str(alloc, line)?,
-                found: bench.answer,
-            });
-        }
-    }
-    Ok(())
-}
-
-// The state after so many lines of a script.
-fn state_after<L: Layer>(
+pub fn play<D: OpSet, L: Layer<D>>(
     alloc: Global,
     max_nodes: u32,
     script: &str,
-    count: usize,
-) -> Result<String, Stop> {
-    let mut bench = Bench::new(alloc, max_nodes);
-    for line in script.lines().take(count) {
-        let (call, _answer) = line.trim().split_once(" => ").unwrap_or((line.trim(), ""));
-        if !call.is_empty() {
-            bench.run::<L>(call)?;
-        }
-    }
-    bench.state()
+) -> Result<(), Mismatch> {
+    let mut bench: Bench<D> = Bench::new(alloc, max_nodes);
+    bench.play::<L>(max_nodes, script)
+}
+
+// The call and the answer of a line.
+fn parts_of(line: &str) -> (&str, &str) {
+    line.trim().split_once(" => ").unwrap_or((line.trim(), ""))
 }

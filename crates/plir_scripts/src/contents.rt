@@ -6,17 +6,16 @@ ghost use Rattle.plir_data.specs.AttrSeen.{attr_view};
 use crate::bench::Bench;
 use crate::line::{Line, number};
 use crate::making::label_of;
-use crate::sample_set::SampleSet;
 use crate::stop::Stop;
 use plir_core::{Context, IRNode};
-use plir_data::{AttrObj, Identifier, Location};
+use plir_data::{AttrObj, Identifier, Location, OpSet};
 use plir_text::read_attr;
 use std::alloc::Global;
 
 /// Does what a line says that changes contents: `insert OP PLACE VALUE`, `remove OP PLACE`, `replace OP PLACE VALUE`,
 /// `set NODE KEY ATTRIBUTE`, `swap NODE KEY ATTRIBUTE`, `take NODE KEY`, `label BLOCK NAME`, `label BLOCK` or `at OP
 /// LINE COLUMN`.
-pub fn change(bench: &mut Bench, line: Line<'_>) -> Result<(), Stop> {
+pub fn change<D: OpSet>(bench: &mut Bench<D>, line: Line<'_>) -> Result<(), Stop> {
     match line.command {
         "insert" | "remove" | "replace" => change_operand(bench, line),
         "set" => set(bench, line),
@@ -28,7 +27,7 @@ pub fn change(bench: &mut Bench, line: Line<'_>) -> Result<(), Stop> {
 }
 
 // Writes the value that is taken out.
-fn change_operand(bench: &mut Bench, line: Line<'_>) -> Result<(), Stop> {
+fn change_operand<D: OpSet>(bench: &mut Bench<D>, line: Line<'_>) -> Result<(), Stop> {
     let (ctx, made) = (&mut bench.ctx, &bench.made);
     let op = made.op(ctx, line.first)?;
     let place = number(line.second)?;
@@ -48,18 +47,18 @@ fn change_operand(bench: &mut Bench, line: Line<'_>) -> Result<(), Stop> {
         op.replace_operand(place, value, ctx);
     } else {
         let value = op.remove_operand(place, ctx);
-        made.put_value(&mut bench.answer, value)?;
+        made.put_value(&mut bench.answer, value);
     }
     Ok(())
 }
 
 /// The attribute of a text.
-pub fn attr_of(
+pub fn attr_of<D: OpSet>(
     alloc: Global,
-    ctx: &mut Context<SampleSet>,
+    ctx: &mut Context<D>,
     text: &str,
-) -> Result<AttrObj<SampleSet>, Stop>
-    ensures { IfOk result (λ attr. IsAttrLive (λ _. []) ctx.new.types (attr_view attr)) }
+) -> Result<AttrObj<D>, Stop>
+    ensures { IfOk result (λ attr. IsAttrLive D.attr_handles ctx.new.types (attr_view attr)) }
 {
     match read_attr(alloc, ctx, text) {
         Ok(attr) => Ok(attr),
@@ -67,7 +66,7 @@ pub fn attr_of(
     }
 }
 
-fn set(bench: &mut Bench, line: Line<'_>) -> Result<(), Stop> {
+fn set<D: OpSet>(bench: &mut Bench<D>, line: Line<'_>) -> Result<(), Stop> {
     let value = attr_of(bench.alloc, &mut bench.ctx, line.tail)?;
     let key = Identifier::try_new(bench.alloc, line.second)?;
     match bench.made.live(&bench.ctx, line.first)? {
@@ -79,7 +78,7 @@ fn set(bench: &mut Bench, line: Line<'_>) -> Result<(), Stop> {
 }
 
 // The truth value that an attribute is, or else its id.
-fn word_of(attr: &AttrObj<SampleSet>) -> &'static str {
+fn word_of<D: OpSet>(attr: &AttrObj<D>) -> &'static str {
     match attr {
         AttrObj::Bool(truth) if bool::from(*truth) => "true",
         AttrObj::Bool(_) => "false",
@@ -88,7 +87,7 @@ fn word_of(attr: &AttrObj<SampleSet>) -> &'static str {
 }
 
 // Writes `was` and the word of the attribute that stood there, or `back` and that of the one that is handed back.
-fn swap(bench: &mut Bench, line: Line<'_>) -> Result<(), Stop> {
+fn swap<D: OpSet>(bench: &mut Bench<D>, line: Line<'_>) -> Result<(), Stop> {
     let value = attr_of(bench.alloc, &mut bench.ctx, line.tail)?;
     let swapped = match bench.made.live(&bench.ctx, line.first)? {
         IRNode::Operation(op) => op.swap_attr(&mut bench.ctx, line.second, value),
@@ -99,32 +98,33 @@ fn swap(bench: &mut Bench, line: Line<'_>) -> Result<(), Stop> {
         Ok(old) => ("was ", old),
         Err(new) => ("back ", new),
     };
-    bench.answer.push_str(word)?;
-    bench.answer.push_str(word_of(&attr))?;
+    bench.answer.put(word);
+    bench.answer.put(word_of(&attr));
     Ok(())
 }
 
 // Writes the word of the attribute that is taken out, or `none`.
-fn take(bench: &mut Bench, line: Line<'_>) -> Result<(), Stop> {
+fn take<D: OpSet>(bench: &mut Bench<D>, line: Line<'_>) -> Result<(), Stop> {
     let taken = match bench.made.live(&bench.ctx, line.first)? {
         IRNode::Operation(op) => op.remove_attr(&mut bench.ctx, line.second),
         IRNode::BasicBlock(block) => block.remove_attr(&mut bench.ctx, line.second),
         IRNode::Region(_) => return Err(Stop::Refused),
     };
-    bench
-        .answer
-        .push_str(taken.as_ref().map_or("none", word_of))?;
+    match &taken {
+        Some(attr) => bench.answer.put(word_of(attr)),
+        None => bench.answer.put("none"),
+    }
     Ok(())
 }
 
-fn label(bench: &mut Bench, line: Line<'_>) -> Result<(), Stop> {
+fn label<D: OpSet>(bench: &mut Bench<D>, line: Line<'_>) -> Result<(), Stop> {
     let label = label_of(bench.alloc, line.second)?;
     let block = bench.made.block(&bench.ctx, line.first)?;
     block.set_label(label, &mut bench.ctx);
     Ok(())
 }
 
-fn set_location(bench: &mut Bench, line: Line<'_>) -> Result<(), Stop> {
+fn set_location<D: OpSet>(bench: &mut Bench<D>, line: Line<'_>) -> Result<(), Stop> {
     let op = bench.made.op(&bench.ctx, line.first)?;
     let (Ok(line), Ok(column)) = (line.second.parse::<u32>(), line.third.parse::<u32>()) else {
         return Err(Stop::Refused);

@@ -7,6 +7,8 @@
 //! and `b0.1` the second argument of `b0`. A call whose condition doesn't hold is answered by `refused`.
 #![tactic(auto)]
 
+mod answer;
+mod asking;
 mod bench;
 mod contents;
 mod line;
@@ -14,13 +16,16 @@ mod linking;
 mod made;
 mod making;
 mod sample_set;
+mod script_set;
 mod showing;
 mod stop;
 
+pub use answer::Answer;
 pub use bench::{Bench, Layer, Mismatch, NodeCalls, play};
 pub use line::{Line, number, split_word};
 pub use made::Made;
 pub use making::{label_of, put_type_name};
 pub use sample_set::{NotMarked, SampleAttr, SampleKind, SampleSet, SampleType};
-pub use showing::{put_attr, put_truth};
+pub use script_set::ScriptSet;
+pub use showing::put_attr;
 pub use stop::Stop;

@@ -4,9 +4,9 @@ ghost use Rattle.plir_core.specs.declared.ptr.IRNode.{IRNode as AnyNode};
 
 use crate::line::Line;
 use crate::made::Made;
-use crate::sample_set::SampleSet;
 use crate::stop::Stop;
 use plir_core::{BasicBlock, Context, IRNode, Operation, Ptr, Region};
+use plir_data::OpSet;
 
 /// Where a node is put.
 #[derive(Clone, Copy, PartialEq, Eq, Debug)]
@@ -19,7 +19,7 @@ enum Side {
 
 /// Does what a line says that changes links: `front NODE IN`, `back NODE IN`, `before NODE MARK`, `after NODE MARK`,
 /// `unlink NODE` or `erase NODE`.
-pub fn link(ctx: &mut Context<SampleSet>, made: &Made, line: Line<'_>) -> Result<(), Stop> {
+pub fn link<D: OpSet>(ctx: &mut Context<D>, made: &Made, line: Line<'_>) -> Result<(), Stop> {
     match line.command {
         "front" => put(ctx, made, line, Side::Front),
         "back" => put(ctx, made, line, Side::Back),
@@ -31,7 +31,12 @@ pub fn link(ctx: &mut Context<SampleSet>, made: &Made, line: Line<'_>) -> Result
     }
 }
 
-fn put(ctx: &mut Context<SampleSet>, made: &Made, line: Line<'_>, side: Side) -> Result<(), Stop> {
+fn put<D: OpSet>(
+    ctx: &mut Context<D>,
+    made: &Made,
+    line: Line<'_>,
+    side: Side,
+) -> Result<(), Stop> {
     let node = made.live(ctx, line.first)?;
     let mark = made.live(ctx, line.second)?;
     match (node, mark) {
@@ -45,8 +50,8 @@ fn put(ctx: &mut Context<SampleSet>, made: &Made, line: Line<'_>, side: Side) ->
     }
 }
 
-fn put_op(
-    ctx: &mut Context<SampleSet>,
+fn put_op<D: OpSet>(
+    ctx: &mut Context<D>,
     op: Ptr<Operation>,
     block: Ptr<BasicBlock>,
     side: Side,
@@ -67,8 +72,8 @@ fn put_op(
     Ok(())
 }
 
-fn put_op_beside(
-    ctx: &mut Context<SampleSet>,
+fn put_op_beside<D: OpSet>(
+    ctx: &mut Context<D>,
     op: Ptr<Operation>,
     mark: Ptr<Operation>,
     side: Side,
@@ -90,8 +95,8 @@ fn put_op_beside(
     Ok(())
 }
 
-fn put_block(
-    ctx: &mut Context<SampleSet>,
+fn put_block<D: OpSet>(
+    ctx: &mut Context<D>,
     block: Ptr<BasicBlock>,
     region: Ptr<Region>,
     side: Side,
@@ -112,8 +117,8 @@ fn put_block(
     Ok(())
 }
 
-fn put_block_beside(
-    ctx: &mut Context<SampleSet>,
+fn put_block_beside<D: OpSet>(
+    ctx: &mut Context<D>,
     block: Ptr<BasicBlock>,
     mark: Ptr<BasicBlock>,
     side: Side,
@@ -135,7 +140,7 @@ fn put_block_beside(
     Ok(())
 }
 
-fn unlink(ctx: &mut Context<SampleSet>, made: &Made, line: Line<'_>) -> Result<(), Stop> {
+fn unlink<D: OpSet>(ctx: &mut Context<D>, made: &Made, line: Line<'_>) -> Result<(), Stop> {
     match made.live(ctx, line.first)? {
         IRNode::Operation(op) => op.unlink(ctx),
         IRNode::BasicBlock(block) => block.unlink(ctx),
@@ -144,22 +149,36 @@ fn unlink(ctx: &mut Context<SampleSet>, made: &Made, line: Line<'_>) -> Result<(
     Ok(())
 }
 
-fn erase(ctx: &mut Context<SampleSet>, made: &Made, line: Line<'_>) -> Result<(), Stop> {
+fn erase<D: OpSet>(ctx: &mut Context<D>, made: &Made, line: Line<'_>) -> Result<(), Stop> {
     match made.live(ctx, line.first)? {
-        IRNode::Operation(op) if IRNode::Operation(op).is_unused_outside(ctx) => {
-            Operation::erase(op, ctx);
-        }
-        IRNode::BasicBlock(block) if IRNode::BasicBlock(block).is_unused_outside(ctx) => {
-            BasicBlock::erase(block, ctx);
-        }
-        IRNode::Region(region) => return erase_region(ctx, region),
-        _ => return Err(Stop::Refused),
+        IRNode::Operation(op) => erase_op(ctx, op),
+        IRNode::Region(region) => erase_region(ctx, region),
+        IRNode::BasicBlock(block) => erase_block(ctx, block),
     }
+}
+
+fn erase_op<D: OpSet>(ctx: &mut Context<D>, op: Ptr<Operation>) -> Result<(), Stop>
+    requires { IsLive ctx.old (AnyNode.Operation op) }
+{
+    if !IRNode::Operation(op).is_unused_outside(ctx) {
+        return Err(Stop::Refused);
+    }
+    Operation::erase(op, ctx);
+    Ok(())
+}
+
+fn erase_block<D: OpSet>(ctx: &mut Context<D>, block: Ptr<BasicBlock>) -> Result<(), Stop>
+    requires { IsLive ctx.old (AnyNode.BasicBlock block) }
+{
+    if !IRNode::BasicBlock(block).is_unused_outside(ctx) {
+        return Err(Stop::Refused);
+    }
+    BasicBlock::erase(block, ctx);
     Ok(())
 }
 
 // Erases a region by its place in its operation.
-fn erase_region(ctx: &mut Context<SampleSet>, region: Ptr<Region>) -> Result<(), Stop>
+fn erase_region<D: OpSet>(ctx: &mut Context<D>, region: Ptr<Region>) -> Result<(), Stop>
     requires { IsLive ctx.old (AnyNode.Region region) }
 {
     let Some(op) = region.get_parent_op(ctx) else {

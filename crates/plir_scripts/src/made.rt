@@ -4,13 +4,12 @@ ghost use Rattle.plir_data.specs.Types.{AllLive, IsLive as IsTypeLive};
 ghost use Rattle.plir_core.specs.Store.{IsLive, IsValueLive};
 ghost use Rattle.plir_core.specs.declared.ptr.IRNode.{IRNode as AnyNode};
 
+use crate::answer::Answer;
 use crate::line::number;
-use crate::sample_set::SampleSet;
 use crate::stop::Stop;
 use plir_core::{BasicBlock, Context, DefiningEntity, IRNode, Operation, Ptr, Region, Value};
-use plir_data::TypeHandle;
-use std::alloc::{AllocError, Global};
-use std::fmt::Write;
+use plir_data::{OpSet, TypeHandle};
+use std::alloc::Global;
 
 /// The nodes that a script has made and the types that it has named, in this order.
 #[derive(Drop)]
@@ -55,7 +54,7 @@ impl Made {
     }
 
     /// The node of a name, which has to be live.
-    pub fn live(&self, ctx: &Context<SampleSet>, name: &str) -> Result<IRNode, Stop>
+    pub fn live<D: OpSet>(&self, ctx: &Context<D>, name: &str) -> Result<IRNode, Stop>
         ensures { IfOk result (λ node. IsLive ctx.now node) }
     {
         let node = self.node(name)?;
@@ -67,7 +66,7 @@ impl Made {
     }
 
     /// The operation of a name, which has to be live.
-    pub fn op(&self, ctx: &Context<SampleSet>, name: &str) -> Result<Ptr<Operation>, Stop>
+    pub fn op<D: OpSet>(&self, ctx: &Context<D>, name: &str) -> Result<Ptr<Operation>, Stop>
         ensures { IfOk result (λ op. IsLive ctx.now (AnyNode.Operation op)) }
     {
         match self.live(ctx, name)? {
@@ -77,7 +76,7 @@ impl Made {
     }
 
     /// The block of a name, which has to be live.
-    pub fn block(&self, ctx: &Context<SampleSet>, name: &str) -> Result<Ptr<BasicBlock>, Stop>
+    pub fn block<D: OpSet>(&self, ctx: &Context<D>, name: &str) -> Result<Ptr<BasicBlock>, Stop>
         ensures { IfOk result (λ block. IsLive ctx.now (AnyNode.BasicBlock block)) }
     {
         match self.live(ctx, name)? {
@@ -87,7 +86,7 @@ impl Made {
     }
 
     /// The value of a name, of a live node.
-    pub fn value(&self, ctx: &Context<SampleSet>, name: &str) -> Result<Value, Stop>
+    pub fn value<D: OpSet>(&self, ctx: &Context<D>, name: &str) -> Result<Value, Stop>
         ensures { IfOk result (λ value. IsValueLive ctx.now value) }
     {
         let Some((owner, place)) = name.split_once('.') else {
@@ -106,7 +105,7 @@ impl Made {
     }
 
     /// The type of a name.
-    pub fn type_named(&self, ctx: &Context<SampleSet>, name: &str) -> Result<TypeHandle, Stop>
+    pub fn type_named<D: OpSet>(&self, ctx: &Context<D>, name: &str) -> Result<TypeHandle, Stop>
         ensures { IfOk result (λ handle. IsTypeLive ctx.now.types handle) }
     {
         let Some(place) = name.strip_prefix('t') else {
@@ -119,10 +118,10 @@ impl Made {
     }
 
     /// The types of these names, parted by spaces.
-    pub fn types_named(
+    pub fn types_named<D: OpSet>(
         &self,
         alloc: Global,
-        ctx: &Context<SampleSet>,
+        ctx: &Context<D>,
         names: &str,
     ) -> Result<Vec<TypeHandle>, Stop>
         ensures { IfOk result (λ handles. AllLive ctx.now.types handles.items) }
@@ -135,10 +134,10 @@ impl Made {
     }
 
     /// The values of these names, parted by spaces.
-    pub fn values_named(
+    pub fn values_named<D: OpSet>(
         &self,
         alloc: Global,
-        ctx: &Context<SampleSet>,
+        ctx: &Context<D>,
         names: &str,
     ) -> Result<Vec<Value>, Stop>
         ensures { IfOk result (λ values. All (IsValueLive ctx.now) values.items) }
@@ -151,10 +150,10 @@ impl Made {
     }
 
     /// The blocks of these names, parted by spaces.
-    pub fn blocks_named(
+    pub fn blocks_named<D: OpSet>(
         &self,
         alloc: Global,
-        ctx: &Context<SampleSet>,
+        ctx: &Context<D>,
         names: &str,
     ) -> Result<Vec<Ptr<BasicBlock>>, Stop>
         ensures { IfOk result (λ blocks. All (λ b. IsLive ctx.now (AnyNode.BasicBlock b)) blocks.items) }
@@ -167,52 +166,45 @@ impl Made {
     }
 
     /// Writes the name of a node.
-    pub fn put_node(&self, text: &mut String, node: IRNode) -> Result<(), AllocError> {
+    pub fn put_node(&self, answer: &mut Answer, node: IRNode) {
         match node {
-            IRNode::Operation(op) => put_name(text, " o", place_of(&self.ops, op)),
-            IRNode::Region(region) => put_name(text, " r", place_of(&self.regions, region)),
-            IRNode::BasicBlock(block) => put_name(text, " b", place_of(&self.blocks, block)),
+            IRNode::Operation(op) => put_name(answer, " o", place_of(&self.ops, op)),
+            IRNode::Region(region) => put_name(answer, " r", place_of(&self.regions, region)),
+            IRNode::BasicBlock(block) => put_name(answer, " b", place_of(&self.blocks, block)),
+        }
+    }
+
+    /// Writes the name of a node, or `-` for none.
+    pub fn put(&self, answer: &mut Answer, node: Option<IRNode>) {
+        match node {
+            None => answer.put(" -"),
+            Some(node) => self.put_node(answer, node),
         }
     }
 
     /// Writes the name of an operation, or `-` for none.
-    pub fn put_op(&self, text: &mut String, op: Option<Ptr<Operation>>) -> Result<(), AllocError> {
-        self.put(text, op.map(IRNode::Operation))
-    }
-
-    /// Writes the name of a block, or `-` for none.
-    pub fn put_block(
-        &self,
-        text: &mut String,
-        block: Option<Ptr<BasicBlock>>,
-    ) -> Result<(), AllocError> {
-        self.put(text, block.map(IRNode::BasicBlock))
+    pub fn put_op(&self, answer: &mut Answer, op: Option<Ptr<Operation>>) {
+        self.put(answer, op.map(IRNode::Operation));
     }
 
     /// Writes the name of a region, or `-` for none.
-    pub fn put_region(
-        &self,
-        text: &mut String,
-        region: Option<Ptr<Region>>,
-    ) -> Result<(), AllocError> {
-        self.put(text, region.map(IRNode::Region))
+    pub fn put_region(&self, answer: &mut Answer, region: Option<Ptr<Region>>) {
+        self.put(answer, region.map(IRNode::Region));
     }
 
-    fn put(&self, text: &mut String, node: Option<IRNode>) -> Result<(), AllocError> {
-        match node {
-            None => text.push_str(" -"),
-            Some(node) => self.put_node(text, node),
-        }
+    /// Writes the name of a block, or `-` for none.
+    pub fn put_block(&self, answer: &mut Answer, block: Option<Ptr<BasicBlock>>) {
+        self.put(answer, block.map(IRNode::BasicBlock));
     }
 
     /// Writes the name of a value.
-    pub fn put_value(&self, text: &mut String, value: Value) -> Result<(), AllocError> {
+    pub fn put_value(&self, answer: &mut Answer, value: Value) {
         match value.defining_entity() {
-            DefiningEntity::Op(op) => self.put_node(text, IRNode::Operation(op))?,
-            DefiningEntity::Block(block) => self.put_node(text, IRNode::BasicBlock(block))?,
+            DefiningEntity::Op(op) => self.put_node(answer, IRNode::Operation(op)),
+            DefiningEntity::Block(block) => self.put_node(answer, IRNode::BasicBlock(block)),
         }
-        let index = value.index();
-        write!(text, ".{index}")
+        answer.put(".");
+        answer.put_number(value.index());
     }
 }
 
@@ -221,9 +213,12 @@ fn place_of<T: Copy + PartialEq>(nodes: &[Ptr<T>], node: Ptr<T>) -> Option<usize
     nodes.iter().position(|other| *other == node)
 }
 
-fn put_name(text: &mut String, letter: &str, place: Option<usize>) -> Result<(), AllocError> {
+fn put_name(answer: &mut Answer, letter: &str, place: Option<usize>) {
     match place {
-        None => text.push_str(" unknown"),
-        Some(place) => write!(text, "{letter}{place}"),
+        None => answer.put(" unknown"),
+        Some(place) => {
+            answer.put(letter);
+            answer.put_number(place);
+        }
     }
 }

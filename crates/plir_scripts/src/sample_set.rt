@@ -1,5 +1,6 @@
 //! The op set of the tests: a kind that ends its block and one that doesn't, an attribute that is valid only if it is
 //! marked, and a type that may have a body text.
+use crate::script_set::ScriptSet;
 use plir_data::{
     Location, Memory, OpSet, OutlinedAttr, PrintOnceAttr, TypeHandle, TypeStore, VerifyErr,
 };
@@ -194,3 +195,13 @@ impl OutlinedAttr<SampleSet> for SampleAttr {
 }
 
 impl PrintOnceAttr<SampleSet> for SampleAttr {}
+
+impl ScriptSet for SampleSet {
+    fn own_kind(word: &str) -> Option<SampleKind> {
+        match word {
+            "plain" => Some(SampleKind::Plain),
+            "yield" => Some(SampleKind::Yield),
+            _ => None,
+        }
+    }
+}

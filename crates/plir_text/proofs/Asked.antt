@@ -1,17 +1,17 @@
 -- Whether a text can stand for a type or an attribute, asked of its parts.
 use Rattle.std.proofs.Common.{◌≡◌, ◌↔◌, ℕ, Bool, true, false, List, [], ◌∷◌, Some, IsTrue, refl, sym, ap, subst, ◌∙◌}
 use Rattle.plir_data.specs.AttrView.{AttrView, entries_of}
-use Rattle.plir_data.specs.Types.{TypeView, IsTypeTable, type_at}
+use Rattle.plir_data.specs.Laws.{IsMadeOfTrees}
+use Rattle.plir_data.specs.Types.{TypeView, type_at}
 use Rattle.plir_data.specs.TypeSeen.{type_view}
 use Rattle.plir_data.specs.TypeTree.{TypeTree, tree_over, tree_of}
 use Rattle.plir_data.specs.declared.types.TypeObj.{TypeObj}
-use Rattle.plir_data.proofs.TypeTrees.{tree_of-over}
 use Rattle.plir_text.specs.Writable.{IsWritable, AreEntriesWritable, pairs_of}
 
 -- what is asked of the type of a handle, as it was read
-pub asked_as : {D K A T E : Type 0} (P : TypeTree T → Type 0) (own_handles : T → List ℕ) (types : List (TypeView T)) (h : ℕ) (x y : TypeObj D K A T E) (b : Bool) → type_at types h ≡ Some (type_view x) → IsTypeTable own_handles types → x ≡ y → (IsTrue b ↔ P (tree_over (tree_of types) (type_view y))) → IsTrue b ↔ P (tree_of types h)
-asked_as P own_handles types h x y b at whole is asked =
-    subst (λ t. IsTrue b ↔ P t) (sym (tree_of-over own_handles types whole h (type_view y) (at ∙ ap (λ z. Some (type_view z)) is))) asked
+pub asked_as : {D K A T E : Type 0} (P : TypeTree T → Type 0) (types : List (TypeView T)) → IsMadeOfTrees types → (h : ℕ) (x y : TypeObj D K A T E) (b : Bool) → type_at types h ≡ Some (type_view x) → x ≡ y → (IsTrue b ↔ P (tree_over (tree_of types) (type_view y))) → IsTrue b ↔ P (tree_of types h)
+asked_as P types made h x y b at is asked =
+    subst (λ t. IsTrue b ↔ P t) (sym (made h (type_view y) (at ∙ ap (λ z. Some (type_view z)) is))) asked
 
 module _ {P Q : Type 0} (a : Bool) where
   -- of two tests the second is asked where the first is true

@@ -4,7 +4,7 @@ use Rattle.plir_data.specs.AttrView.{AttrView}
 use Rattle.plir_text.specs.declared.fault.Fault.{Fault}
 use Rattle.plir_text.specs.declared.fault.Fault.TheVariants.{TooDeep}
 use Rattle.plir_text.specs.declared.fault.Stop.{Stop}
-use Rattle.plir_text.specs.declared.fault.Stop.TheVariants.{Wanting, At}
+use Rattle.plir_text.specs.declared.fault.Stop.TheVariants.{Wanting, Crowded, At}
 use Rattle.plir_text.specs.declared.attr_words.AttrKind.{AttrKind}
 use Rattle.plir_text.specs.Steps.{◌>>=◌, read_as}
 use Rattle.plir_text.specs.Terms.{AttrTerm}
@@ -30,6 +30,7 @@ Gives-meant see means view term h (Ok x) read total e p =
     let a = bind_ok read (λ w. Ok (view w)) (see x) p in
     (term a.0, e ∙ ap (λ q. q >>= λ w. done (term w)) a.1, h x a.0 (sym (ok_is (view a.0) (see x) a.2)))
 Gives-meant see means view term h (Err Wanting) read total e p = tt
+Gives-meant see means view term h (Err Crowded) read total e p = p
 Gives-meant see means view term h (Err (At f left)) read total e p = e ∙ ap (λ q. q >>= λ w. done (term w)) (err_is f read view p)
 
 -- a fault of the id is one of the attribute

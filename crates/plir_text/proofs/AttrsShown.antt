@@ -8,12 +8,12 @@ use Rattle.plir_data.specs.AttrView.{Leaf, AttrView, leaf, dict, vec, Items, no_
 use Rattle.plir_data.specs.Dictionary.{IsDictionary}
 use Rattle.plir_data.specs.Identifier.{is_identifier, is_letter, is_digit}
 use Rattle.plir_data.specs.Integers.{literal}
+use Rattle.plir_data.specs.Laws.{IsDictOfItself}
 use Rattle.plir_data.specs.TypeText.{type_text}
 use Rattle.plir_data.specs.Types as types
 use Rattle.plir_data.specs.Types.{TypeView, IsTypeTable, type_at, prints_as_signed}
 use Rattle.plir_data.specs.TypeTree.{tree_of}
 use Rattle.plir_data.specs.declared.types.Signedness.{Signedness}
-use Rattle.plir_data.proofs.Dictionaries.{dict_of-itself}
 use Rattle.plir_text.specs.AttrGrammar.{truth, SpellsIdentifier, SpellsSize, SpellsName, Spells, SpellsItems, SpellsMoreItems, SpellsEntries, SpellsMoreEntries}
 use Rattle.plir_text.specs.AttrText.{is_signed, bare_text, leaf_text, attr_text, items_text, more_items_text, entries_text, more_entries_text}
 use Rattle.plir_text.specs.Bytes.{is_in_word}
@@ -165,7 +165,7 @@ module _ {A : Type 0} where
   entries_again no_entries = refl
   entries_again (entry k x es) = ap (λ l. entry k x l) (entries_again es)
 
-module _ {A T : Type 0} (own_handles : T → List ℕ) (table : List (TypeView T)) (whole : IsTypeTable own_handles table) where
+module _ {A T : Type 0} (itself : IsDictOfItself (AttrView A)) (own_handles : T → List ℕ) (table : List (TypeView T)) (whole : IsTypeTable own_handles table) where
   integer_meant : (h w b : ℕ) → is_of_width w (type_at table h) ≡ true → IsMeant {A = A} table (terms.integer (signedness_of (type_at table h)) w b) (leaf (views.integer h w b))
   integer_meant h w b e = let t = verified_type (type_at table h) w e in (h, t.1 ∙ ap (λ o. Some (types.integer (signedness_of o) w)) (sym t.1), refl)
 
@@ -183,7 +183,7 @@ module _ {A T : Type 0} (own_handles : T → List ℕ) (table : List (TypeView T
   mutual
     attr_meant : (x : AttrView A) → IsWritable table x → IsMeant table (attr_term table x) x
     attr_meant (leaf x) h = leaf_meant x h
-    attr_meant (dict es) h = (pairs_of es, entries_meant es h.1, ap dict (sym (ap entries_of (dict_of-itself (pairs_of es) h.0) ∙ entries_again es)))
+    attr_meant (dict es) h = (pairs_of es, entries_meant es h.1, ap dict (sym (ap entries_of (itself (pairs_of es) h.0) ∙ entries_again es)))
     attr_meant (vec xs) h = (items_in xs, items_meant xs h, ap vec (sym (items_again xs)))
 
     items_meant : (xs : Items A) → AreItemsWritable table xs → AreMeant table (attr_terms table xs) (items_in xs)

@@ -1,9 +1,10 @@
 -- Tables of types that grow, and what handles name in them.
-use Rattle.std.proofs.Common.{◌≡◌, ℕ, zero, suc, ◌<◌, inl, inr, List, [], ◌∷◌, ◌++◌, length, Some, slice_get, refl, sym, ap, subst, ◌∙◌, append-nil, append_assoc, arith}
+use Rattle.std.proofs.Common.{◌≡◌, ℕ, zero, suc, ◌<◌, ◌+◌, inl, inr, List, [], ◌∷◌, ◌++◌, length, Some, slice_get, refl, sym, ap, subst, ◌∙◌, append-nil, append_assoc, length-append, arith}
+use Rattle.std.proofs.lemmas.Bool.{cases_lt}
 use Rattle.std.proofs.lemmas.Option.{slice_get_within}
 use Rattle.plir_data.specs.Types.{TypeView, integer, function, unit, IsInstantiated, AllLive, type_at}
 use Rattle.plir_text.specs.Terms.{TypeTerm, integer_type, function_type, unit_type, TypeTerms, no_types, type_before, types_of}
-use Rattle.plir_text.specs.Names.{Grows, Adds, Names, NamesAll}
+use Rattle.plir_text.specs.Names.{Grows, AreNamed, Adds, Names, NamesAll}
 
 module _ {T : Type 0} where
   pub Grows-itself : (xs : List (TypeView T)) → Grows xs xs
@@ -33,6 +34,35 @@ module _ {T : Type 0} where
     pub NamesAll-grown : (xs ys : List (TypeView T)) (hs : List ℕ) (ts : TypeTerms) → Grows xs ys → NamesAll xs hs ts → NamesAll ys hs ts
     NamesAll-grown xs ys hs no_types g n = n
     NamesAll-grown xs ys hs (type_before t ts) g n = (n.0, n.1, Names-grown xs ys n.0 t g n.2, NamesAll-grown xs ys n.1 ts g n.3, n.4)
+
+  -- ---- types that come last are named
+
+  named_itself : (written : TypeTerm → Type 0) (xs : List (TypeView T)) → AreNamed written xs xs
+  named_itself written xs h ge lt = absurd (omega (arith, ge, lt))
+
+  named_on : (written : TypeTerm → Type 0) (xs ys zs : List (TypeView T)) → Grows ys zs → AreNamed written xs ys → AreNamed written ys zs → AreNamed written xs zs
+  named_on written xs ys zs g p q h ge lt = elim (cases_lt h (length ys)) [ inl less ↦ let n = p h ge less in (n.0, n.1, Names-grown ys zs h n.0 g n.2) | inr more ↦ q h more lt ]
+
+  named_none : (written : TypeTerm → Type 0) (xs ys : List (TypeView T)) → ys ≡ xs → AreNamed written xs ys
+  named_none written xs ys e = subst (λ (l : List (TypeView T)). AreNamed written xs l) (sym e) (named_itself written xs)
+
+  at_end : (xs : List (TypeView T)) (t : TypeView T) → type_at (xs ++ t ∷ []) (length xs) ≡ Some t
+  at_end [] t = refl
+  at_end (x ∷ xs) t = at_end xs t
+
+  -- `names` says which type the term is that stands for the one that comes
+  named_one : (written : TypeTerm → Type 0) (xs ys : List (TypeView T)) (t : TypeView T) (h : ℕ) (term : TypeTerm) → written term → ((k : ℕ) → type_at ys k ≡ Some t → Names ys k term) → IsInstantiated xs t h ys → AreNamed written xs ys
+  named_one written xs ys t h term w names i = elim (i.grown) [
+    | inl e ↦ named_none written xs ys e
+    | inr p ↦ λ k ge lt.
+        let size : length ys ≡ length xs + 1 = ap length p.1 ∙ length-append xs (t ∷ []) in
+        let last : k ≡ length xs = omega (arith, ge, lt, size) in
+        (term, w, names k (ap (type_at ys) last ∙ ap (λ (l : List (TypeView T)). type_at l (length xs)) p.1 ∙ at_end xs t))
+  ]
+
+  -- the same under another name of the text
+  pub named_as : (written : List ℕ → TypeTerm → Type 0) (a b : List ℕ) (xs ys : List (TypeView T)) → a ≡ b → AreNamed (written a) xs ys → AreNamed (written b) xs ys
+  named_as written a b xs ys e n = subst (λ (l : List ℕ). AreNamed (written l) xs ys) e n
 
   pub Names-live : (xs : List (TypeView T)) (h : ℕ) (t : TypeTerm) → Names xs h t → h < length xs
   Names-live xs h (integer_type s w) n = slice_get_within xs h (integer s w) n
@@ -69,16 +99,20 @@ module _ {T : Type 0} where
   pub NamesFront-push : (xs : List (TypeView T)) (hs ks : List ℕ) (ts : List TypeTerm) (h : ℕ) (t : TypeTerm) → ks ≡ hs ++ h ∷ [] → NamesFront xs hs ts → Names xs h t → NamesFront xs ks (ts ++ t ∷ [])
   NamesFront-push xs hs ks ts h t e n m = subst (λ (l : List ℕ). NamesAll xs l (types_of (ts ++ t ∷ []))) (sym e) (NamesAll-push xs hs ts h t n m)
 
-module _ {S T : Type 0} {types : S → List (TypeView T)} {same : S → S → Type 0} where
-  pub Adds-itself : ((c : S) → same c c) → (c : S) → Adds types same c c
-  Adds-itself itself c = record { grown = Grows-itself (types c); rest = itself c }
+module _ {S T : Type 0} {types : S → List (TypeView T)} {same : S → S → Type 0} {written : TypeTerm → Type 0} where
+  pub Adds-itself : ((c : S) → same c c) → (c : S) → Adds types same written c c
+  Adds-itself itself c = record { grown = Grows-itself (types c); named = named_itself written (types c); rest = itself c }
 
-  pub Adds-on : ((a b c : S) → same a b → same b c → same a c) → (a b c : S) → Adds types same a b → Adds types same b c → Adds types same a c
-  Adds-on on a b c p q = record { grown = Grows-on (types a) (types b) (types c) p.grown q.grown; rest = on a b c p.rest q.rest }
+  pub Adds-on : ((a b c : S) → same a b → same b c → same a c) → (a b c : S) → Adds types same written a b → Adds types same written b c → Adds types same written a c
+  Adds-on on a b c p q = record { grown = Grows-on (types a) (types b) (types c) p.grown q.grown; named = named_on written (types a) (types b) (types c) q.grown p.named q.named; rest = on a b c p.rest q.rest }
 
   -- one type more
-  pub Adds-one : (a b : S) (t : TypeView T) (h : ℕ) → IsInstantiated (types a) t h (types b) → same a b → Adds types same a b
-  Adds-one a b t h i r = record { grown = Grows-instantiated (types a) (types b) t h i; rest = r }
+  pub Adds-one : (a b : S) (t : TypeView T) (h : ℕ) (term : TypeTerm) → written term → ((k : ℕ) → type_at (types b) k ≡ Some t → Names (types b) k term) → IsInstantiated (types a) t h (types b) → same a b → Adds types same written a b
+  Adds-one a b t h term w names i r = record { grown = Grows-instantiated (types a) (types b) t h i; named = named_one written (types a) (types b) t h term w names i; rest = r }
 
-  pub Adds-none : (a b : S) → types b ≡ types a → same a b → Adds types same a b
-  Adds-none a b e r = record { grown = ([], e ∙ sym (append-nil (types a))); rest = r }
+  pub Adds-none : (a b : S) → types b ≡ types a → same a b → Adds types same written a b
+  Adds-none a b e r = record { grown = ([], e ∙ sym (append-nil (types a))); named = named_none written (types a) (types b) e; rest = r }
+
+  -- what is written in a part is written in the whole
+  pub Adds-as : {whole : TypeTerm → Type 0} → ((t : TypeTerm) → written t → whole t) → (a b : S) → Adds types same written a b → Adds types same whole a b
+  Adds-as as_whole a b p = record { grown = p.grown; named = λ h ge lt. (let n = p.named h ge lt in (n.0, as_whole n.0 n.1, n.2)); rest = p.rest }

@@ -4,6 +4,7 @@ pub mod Lexing
 pub mod Quoted
 pub mod Fronts
 pub mod Growth
+pub mod TypesIn
 pub mod Gathering
 pub mod TypeSteps
 pub mod Begun
@@ -16,6 +17,7 @@ pub mod SameNames
 pub mod Escapes
 pub mod Joins
 pub mod Nested
+pub mod Handles
 pub mod Meanings
 pub mod AttrSteps
 pub mod LeavesFound
@@ -32,3 +34,4 @@ pub mod QuotedAgain
 pub mod TypesShown
 pub mod AttrsShown
 pub mod Asked
+pub mod Parts

@@ -18,9 +18,9 @@ pub record IsRead {A : Type 0} (close : ℕ) (read : List ℕ → Result (A × L
 module _ {A : Type 0} (close : ℕ) (other : nat_eq 44 close ≡ false) (read : List ℕ → Result (A × List ℕ) Fault) where
   -- what is read behind an item
   abbrev behind : ℕ → A → List ℕ → Result (List A × List ℕ) Fault
-  behind m x bytes = separator_at close bytes >>= λ s. with_first x (if_more s.0 (more_at close read m s.1) s.1)
+  behind m x bytes = separator_at close bytes >>= λ s. with_first x (if_more s.0 (more_at (separator_at close) read m s.1) s.1)
 
-  more_at-suc : (m : ℕ) (bytes after : List ℕ) (x : A) → 0 < m → read bytes ≡ Ok (x, after) → more_at close read m bytes ≡ behind (m - 1) x after
+  more_at-suc : (m : ℕ) (bytes after : List ℕ) (x : A) → 0 < m → read bytes ≡ Ok (x, after) → more_at (separator_at close) read m bytes ≡ behind (m - 1) x after
   unfolding more_at
   more_at-suc zero bytes after x lt e = absurd (omega arith)
   more_at-suc (suc m) bytes after x lt e = let k : suc m - 1 ≡ m = omega arith in rw (e, k) refl
@@ -33,7 +33,7 @@ module _ {A : Type 0} (close : ℕ) (other : nat_eq 44 close ≡ false) (read : 
       let c = subst (λ (y : List Token). Begins bytes (y ++ sign close ∷ []) rest) h.4 b in
       let d = Begins-split h.0 (h.1 ++ sign close ∷ []) c.0 rest (subst (λ (y : List Token). Begins c.0 y rest) (append_assoc h.0 h.1 (sign close ∷ [])) c.2) in
       let lt = Takes-shorter bytes (sign 44) c.0 c.1 in
-      let next : more_at close read m c.0 ≡ Ok (y ∷ ys, rest) = more_at-suc m c.0 d.0 y (omega arith) (h.2.reads c.0 d.0 d.1) ∙ more_read ys y h.1 (m - 1) d.0 rest h.3 (omega (arith, Begins-length h.0 c.0 d.0 d.1)) d.2 in
+      let next : more_at (separator_at close) read m c.0 ≡ Ok (y ∷ ys, rest) = more_at-suc m c.0 d.0 y (omega arith) (h.2.reads c.0 d.0 d.1) ∙ more_read ys y h.1 (m - 1) d.0 rest h.3 (omega (arith, Begins-length h.0 c.0 d.0 d.1)) d.2 in
       rw (comma_again close bytes c.0 other c.1, next) refl
 
   pub several_read : (open_ : ℕ) (xs : List A) (ts : List Token) (bytes rest : List ℕ) → Several (IsRead close read) xs ts → Begins bytes (enclosed open_ ts close) rest → items_at open_ close read bytes ≡ Ok (xs, rest)
@@ -45,7 +45,7 @@ module _ {A : Type 0} (close : ℕ) (other : nat_eq 44 close ≡ false) (read : 
       let c = subst (λ (y : List Token). Begins bytes (enclosed open_ y close) rest) h.4 b in
       let d = Begins-split h.0 (h.1 ++ sign close ∷ []) c.0 rest (subst (λ (y : List Token). Begins c.0 y rest) (append_assoc h.0 h.1 (sign close ∷ [])) c.2) in
       let k : suc (length c.0) - 1 ≡ length c.0 = omega arith in
-      let all : more_at close read (suc (length c.0)) c.0 ≡ Ok (x ∷ xs, rest) = more_at-suc (suc (length c.0)) c.0 d.0 x (omega arith) (h.2.reads c.0 d.0 d.1) ∙ rw k (more_read xs x h.1 (length c.0) d.0 rest h.3 (omega (arith, Begins-length h.0 c.0 d.0 d.1)) d.2) in
+      let all : more_at (separator_at close) read (suc (length c.0)) c.0 ≡ Ok (x ∷ xs, rest) = more_at-suc (suc (length c.0)) c.0 d.0 x (omega arith) (h.2.reads c.0 d.0 d.1) ∙ rw k (more_read xs x h.1 (length c.0) d.0 rest h.3 (omega (arith, Begins-length h.0 c.0 d.0 d.1)) d.2) in
       rw (sign_again open_ bytes c.0 c.1, h.2.opens c.0 d.0 d.1, all) refl
 
 -- a word closes no list

@@ -5,6 +5,7 @@ use Rattle.plir_data.specs.AttrLive.{IsAttrLive, AreItemsLive, AreEntriesLive}
 use Rattle.plir_data.specs.AttrSeen.{attr_view}
 use Rattle.plir_data.specs.AttrView as views
 use Rattle.plir_data.specs.AttrView.{Leaf, AttrView, leaf, dict, vec, Items, no_items, item, Entries, no_entries, entry}
+use Rattle.plir_data.specs.Laws.{IsDictOfItself}
 use Rattle.plir_data.specs.Types as types
 use Rattle.plir_data.specs.Types.{TypeView, IsTypeTable, type_at}
 use Rattle.plir_data.specs.declared.attributes.AttrObj.{AttrObj}
@@ -53,9 +54,9 @@ module _ {A T : Type 0} (own_handles : A → List ℕ) (table : List (TypeView T
     entries_live (entry k x es) h = (writable_live x h.0, entries_live es h.1)
 
 -- what the text of an attribute stands for in a table that has grown on
-module _ {A T : Type 0} (own_id : A → List ℕ) (own_body : List (TypeView T) → A → List ℕ) (type_id : T → List ℕ) (type_body : List (TypeView T) → T → List ℕ) (own_handles : T → List ℕ) (old new : List (TypeView T)) (g : Grows old new) (whole : IsTypeTable own_handles new) (bytes : List ℕ) (x : AttrView A) (is : bytes ≡ attr_text own_id own_body type_id type_body old x) (readable : IsReadable old x) where
+module _ {A T : Type 0} (itself : IsDictOfItself (AttrView A)) (own_id : A → List ℕ) (own_body : List (TypeView T) → A → List ℕ) (type_id : T → List ℕ) (type_body : List (TypeView T) → T → List ℕ) (own_handles : T → List ℕ) (old new : List (TypeView T)) (g : Grows old new) (whole : IsTypeTable own_handles new) (bytes : List ℕ) (x : AttrView A) (is : bytes ≡ attr_text own_id own_body type_id type_body old x) (readable : IsReadable old x) where
   pub stands : StandsFor 200 new bytes x
-  stands = subst (λ l. StandsFor 200 new l x) (sym is) (text_stands own_handles old (table_before own_handles old new g whole) own_id own_body type_id type_body 200 new g x readable.0 readable.1)
+  stands = subst (λ l. StandsFor 200 new l x) (sym is) (text_stands itself own_handles old (table_before own_handles old new g whole) own_id own_body type_id type_body 200 new g x readable.0 readable.1)
 
   pub read_again : (y : AttrView A) → StandsFor 200 new bytes y → y ≡ x
   read_again y found = one_meaning own_handles new whole 200 200 bytes y x found stands
@@ -67,13 +68,16 @@ memory_alone faults.BadEscape h = absurd (h (λ e. absurd cc))
 memory_alone faults.IntegerOutOfRange h = absurd (h (λ e. absurd cc))
 memory_alone faults.IntegerWidthUnsupported h = absurd (h (λ e. absurd cc))
 memory_alone faults.TooDeep h = absurd (h (λ e. absurd cc))
+memory_alone faults.ForwardRefOpExistenceErr h = absurd (h (λ e. absurd cc))
+memory_alone (faults.NResultsVerifyErr wanted found) h = absurd (h (λ e. absurd cc))
 memory_alone faults.Memory h = refl
+memory_alone faults.TooManyNodes h = absurd (h (λ e. absurd cc))
 
 -- whatever the reader answers to the text of an attribute that can be read back
-module _ {D K A T E : Type 0} (own_id : A → List ℕ) (own_body : List (TypeView T) → A → List ℕ) (type_id : T → List ℕ) (type_body : List (TypeView T) → T → List ℕ) (attr_handles : A → List ℕ) (type_handles : T → List ℕ) where
+module _ {D K A T E : Type 0} (itself : IsDictOfItself (AttrView A)) (own_id : A → List ℕ) (own_body : List (TypeView T) → A → List ℕ) (type_id : T → List ℕ) (type_body : List (TypeView T) → T → List ℕ) (attr_handles : A → List ℕ) (type_handles : T → List ℕ) where
   pub read_back : (x : AttrView A) (bytes : List ℕ) (answer : Result (AttrObj D K A T E) ReadErr) → IsReadBack own_id own_body type_id type_body attr_handles type_handles x bytes answer
   read_back x bytes (Ok a) printed old new whole readable is grown read =
-      read_again own_id own_body type_id type_body type_handles printed new (Grows-on printed old new grown read.grown) whole bytes x is readable (attr_view a) read.found
+      read_again itself own_id own_body type_id type_body type_handles printed new (Grows-on printed old new grown read.grown) whole bytes x is readable (attr_view a) read.found
   read_back x bytes (Err e) printed old new whole readable is grown read =
-      let ours = stands own_id own_body type_id type_body type_handles printed new (Grows-on printed old new grown read.grown) whole bytes x is readable in
+      let ours = stands itself own_id own_body type_id type_body type_handles printed new (Grows-on printed old new grown read.grown) whole bytes x is readable in
       memory_alone e.fault (λ other. read.refused other ours.0 ours.1)

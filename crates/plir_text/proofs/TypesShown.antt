@@ -4,12 +4,12 @@ use Rattle.std.proofs.lemmas.Option.{slice_get_cases}
 use Rattle.plir_data.specs.Types.{TypeView, integer, function, unit, own, IsTypeTable, type_at}
 use Rattle.plir_data.specs.TypeTree.{TypeTree, integer_tree, function_tree, unit_tree, own_tree, Trees, no_trees, tree, trees_of, tree_over, tree_if, tree_within, tree_of}
 use Rattle.plir_data.specs.TypeText.{integer_text, tree_text, trees_text, more_trees_text}
-use Rattle.plir_data.proofs.TypeTrees.{all_left, all_right}
 use Rattle.plir_text.specs.Names.{Names, NamesAll}
 use Rattle.plir_text.specs.Tokens.{Token, word, sign, arrow, look, Begins}
 use Rattle.plir_text.specs.TypeGrammar.{enclosed, in_angles, SpellsInteger, SpellsType, SpellsTypes, SpellsMoreTypes}
 use Rattle.plir_text.specs.Writable.{IsBuiltin, AreBuiltin, type_term, type_terms}
 use Rattle.plir_text.proofs.Begun.{Begins-append}
+use Rattle.plir_text.proofs.Handles.{all_left, all_right}
 use Rattle.plir_text.proofs.Printed.{look-type, type_spelled}
 use Rattle.plir_text.proofs.Runs.{Run, Shown, Tail, Shown-as, behind_id, word-shown, closed_by, nothing, behind_first, behind_comma}
 

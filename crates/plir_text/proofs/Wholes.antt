@@ -4,7 +4,7 @@ use Rattle.plir_data.specs.declared.types.Signedness.{Signedness}
 use Rattle.plir_text.specs.declared.fault.Fault.{Fault}
 use Rattle.plir_text.specs.declared.fault.Fault.TheVariants.{Memory}
 use Rattle.plir_text.specs.declared.fault.Stop.{Stop}
-use Rattle.plir_text.specs.declared.fault.Stop.TheVariants.{Wanting, At}
+use Rattle.plir_text.specs.declared.fault.Stop.TheVariants.{Wanting, Crowded, At}
 use Rattle.plir_text.specs.Terms.{TypeTerm, TypeTerms}
 use Rattle.plir_text.specs.TypeGrammar.{IsText, TypeWithin, IsInteger, FunctionWithin}
 use Rattle.plir_text.specs.TypeReading.{integer_at, function_at, type_at}
@@ -20,6 +20,7 @@ use Rattle.plir_text.proofs.TypesAgain.{integer_again, type_within_again, functi
 -- a fault that is told is the one that was met
 pub told : {X : Type 0} (stop : Stop) (f : Fault) (read : Result X Fault) → f ≡ fault_of stop → Fails stop read → f ≢ Memory → read ≡ Err f
 told Wanting f read e h n = absurd (n e)
+told Crowded f read e h n = absurd h
 told (At g left) f read e h n = h ∙ ap (λ k. Err k) (sym e)
 
 pub type_text_found : (n : ℕ) (bytes : List ℕ) (t : TypeTerm) → whole (type_at n) bytes ≡ Ok t → IsText (TypeWithin n) bytes t

@@ -15,6 +15,8 @@ pub mod AttrGrammar
 pub mod Written
 pub mod AttrText
 pub mod AttrReading
+pub mod TypesIn
+pub mod Parts
 pub mod Meaning
 pub mod Writable
 pub mod AttrAnswer

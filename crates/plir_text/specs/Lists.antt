@@ -1,4 +1,4 @@
--- Lists in brackets, with commas between their items, as they are read.
+-- Things one behind another, and lists in brackets with commas between their items, as they are read.
 use Rattle.std.specs.Prelude.{ℕ, zero, suc, List, [], ◌∷◌, length, Bool, true, false, Option, Some, None, Result, Ok, Err, nat_eq, if◌then◌else◌}
 use Rattle.plir_text.specs.Steps.{◌>>=◌}
 use Rattle.plir_text.specs.Tokens.{Token, word, digits, signed, quoted, arrow, sign, look}
@@ -37,15 +37,15 @@ module _ {A : Type 0} where
   if_more true more rest = more
   if_more false more rest = Ok ([], rest)
 
-  -- one item or more up to the closing sign, less than n of them
-  unfoldable pub more_at : (close : ℕ) → (List ℕ → Result (A × List ℕ) Fault) → ℕ → List ℕ → Result (List A × List ℕ) Fault
-  more_at close read zero bytes = Err Unexpected
-  more_at close read (suc n) bytes = read bytes >>= λ x. separator_at close x.1 >>= λ s. with_first x.0 (if_more s.0 (more_at close read n s.1) s.1)
+  -- One thing or more, less than n of them. `goes` looks behind a thing: whether one more comes, and where that begins or the things end.
+  unfoldable pub more_at : (goes : List ℕ → Result (Bool × List ℕ) Fault) → (read : List ℕ → Result (A × List ℕ) Fault) → ℕ → List ℕ → Result (List A × List ℕ) Fault
+  more_at goes read zero bytes = Err Unexpected
+  more_at goes read (suc n) bytes = read bytes >>= λ x. goes x.1 >>= λ s. with_first x.0 (if_more s.0 (more_at goes read n s.1) s.1)
 
   abbrev pub unless_closed : Option (List ℕ) → (some : Result (List A × List ℕ) Fault) → Result (List A × List ℕ) Fault
   unless_closed (Some rest) some = Ok ([], rest)
   unless_closed None some = some
 
-  -- a list
+  -- a list in brackets: a comma behind an item says that one more comes
   unfoldable pub items_at : (open_ close : ℕ) → (List ℕ → Result (A × List ℕ) Fault) → List ℕ → Result (List A × List ℕ) Fault
-  items_at open_ close read bytes = sign_at open_ bytes >>= λ start. unless_closed (past_sign close start) (more_at close read (suc (length start)) start)
+  items_at open_ close read bytes = sign_at open_ bytes >>= λ start. unless_closed (past_sign close start) (more_at (separator_at close) read (suc (length start)) start)

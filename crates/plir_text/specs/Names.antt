@@ -1,5 +1,5 @@
 -- Which handles of a table name the types that are written.
-use Rattle.std.specs.Prelude.{◌≡◌, ℕ, List, [], ◌∷◌, ◌++◌, Some}
+use Rattle.std.specs.Prelude.{◌≡◌, ◌<◌, ◌≤◌, ℕ, List, [], ◌∷◌, ◌++◌, length, Some}
 use Rattle.plir_data.specs.Types.{TypeView, integer, function, unit, type_at}
 use Rattle.plir_data.specs.declared.types.Signedness.{Signedness}
 use Rattle.plir_text.specs.Terms.{TypeTerm, integer_type, function_type, unit_type, TypeTerms, no_types, type_before}
@@ -9,11 +9,6 @@ module _ {T : Type 0} where
   -- from one table to another, types may come last and nothing else changes
   abbrev pub Grows : (old new : List (TypeView T)) → Type 0
   Grows old new = (more : List (TypeView T)) × (new ≡ old ++ more)
-
-  -- from one holder of a table to another, types may come last and nothing else changes
-  pub record Adds {S : Type 0} (types : S → List (TypeView T)) (same : S → S → Type 0) (old new : S) : Type 0 where
-    pub grown : Grows (types old) (types new)
-    pub rest : same old new
 
   abbrev mutual
     -- the handle names the type
@@ -26,6 +21,16 @@ module _ {T : Type 0} where
     pub NamesAll : (types : List (TypeView T)) → List ℕ → TypeTerms → Type 0
     NamesAll types handles no_types = handles ≡ []
     NamesAll types handles (type_before t ts) = (first : ℕ) × (more : List ℕ) × Names types first t × NamesAll types more ts × (handles ≡ first ∷ more)
+
+  -- each type that a table has, and one from which it has grown hasn't, is named by a type that is written
+  abbrev pub AreNamed : (written : TypeTerm → Type 0) → (old new : List (TypeView T)) → Type 0
+  AreNamed written old new = (handle : ℕ) → length old ≤ handle → handle < length new → (t : TypeTerm) × written t × Names new handle t
+
+  -- from one holder of a table to another, types that are written may come last and nothing else changes
+  pub record Adds {S : Type 0} (types : S → List (TypeView T)) (same : S → S → Type 0) (written : TypeTerm → Type 0) (old new : S) : Type 0 where
+    pub grown : Grows (types old) (types new)
+    pub named : AreNamed written (types old) (types new)
+    pub rest : same old new
 
   -- the whole text stands for the type that the handle names, with at most n levels open
   abbrev pub StandsForType : (n : ℕ) → (types : List (TypeView T)) → (bytes : List ℕ) → ℕ → Type 0

@@ -1,14 +1,19 @@
 -- Reading from left to right, with the first fault that is met.
 use Rattle.std.specs.Prelude.{◌≡◌, Result, Ok, Err}
 use Rattle.plir_text.specs.declared.fault.Fault.{Fault}
-use Rattle.plir_text.specs.declared.fault.Fault.TheVariants.{Memory}
+use Rattle.plir_text.specs.declared.fault.Fault.TheVariants.{Memory, TooManyNodes}
 use Rattle.plir_text.specs.declared.fault.Stop.{Stop}
-use Rattle.plir_text.specs.declared.fault.Stop.TheVariants.{Wanting, At}
+use Rattle.plir_text.specs.declared.fault.Stop.TheVariants.{Wanting, Crowded, At}
 
--- reading met this fault, unless memory was wanting
+-- Reading met this fault, unless memory was wanting. That there is room for no more nodes is an end only where `crowded` holds.
+abbrev pub Ends : {Y : Type 0} (crowded : Type 0) → Stop → Result Y Fault → Type 0
+Ends crowded Wanting read = Unit {0}
+Ends crowded Crowded read = crowded
+Ends crowded (At fault left) read = read ≡ Err fault
+
+-- reading met this fault, unless memory was wanting: no node is made, so there is room
 abbrev pub Fails : {Y : Type 0} → Stop → Result Y Fault → Type 0
-Fails Wanting read = Unit {0}
-Fails (At fault left) read = read ≡ Err fault
+Fails stop read = Ends ⊥ stop read
 
 -- what a function answered, seen by view, is what is read, unless memory was wanting
 abbrev pub Gives : {X Y : Type 0} → (X → Y) → Result X Stop → Result Y Fault → Type 0
@@ -23,4 +28,5 @@ Reads means (Err stop) read = Fails stop read
 -- the fault of a stop
 abbrev pub fault_of : Stop → Fault
 fault_of Wanting = Memory
+fault_of Crowded = TooManyNodes
 fault_of (At fault left) = fault

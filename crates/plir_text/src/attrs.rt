@@ -10,6 +10,7 @@ ghost use Rattle.plir_text.specs.Reading.{Gives, Reads};
 ghost use Rattle.plir_text.specs.Steps.{read_as};
 ghost use Rattle.plir_text.specs.Lists.{items_at};
 ghost use Rattle.plir_text.specs.AttrReading.{name_at, text_at, bool_at, size_at, given_name_at, entry_at, attr_body, attr_at};
+ghost use Rattle.plir_text.specs.TypesIn.{IsInEntry, IsInAttr, IsBehindId};
 
 use crate::attr_words::{
     AttrKind, read_attr_head, read_bool, read_given_names, read_name, read_sizes, read_text,
@@ -76,7 +77,7 @@ fn read_integer_attr<'a, D: OpSet, C: TypeStore<D>>(
     bytes: &'a [u8],
 ) -> Result<(AttrObj<D>, &'a [u8]), Stop>
     ensures read { Reads (λ x y. IsMeant (C.types ctx.new) y.0 (attr_view x.0) × (x.1.now ≡ y.1)) result (attr_body levels (attr_at levels) AttrKind.Integer bytes.now) }
-    ensures kept { Adds C.types C.same_besides ctx.old ctx.new }
+    ensures kept { Adds C.types C.same_besides (IsBehindId levels AttrKind.Integer bytes.now) ctx.old ctx.new }
 {
     let ((ty, value), rest) = read_value(levels, bytes)?;
     let handle = IntegerType::get(ctx, ty.1, ty.0)?;
@@ -91,7 +92,7 @@ fn read_type_attr<'a, D: OpSet, C: TypeStore<D>>(
     bytes: &'a [u8],
 ) -> Result<(AttrObj<D>, &'a [u8]), Stop>
     ensures read { Reads (λ x y. IsMeant (C.types ctx.new) y.0 (attr_view x.0) × (x.1.now ≡ y.1)) result (attr_body levels (attr_at levels) AttrKind.TypeOf bytes.now) }
-    ensures kept { Adds C.types C.same_besides ctx.old ctx.new }
+    ensures kept { Adds C.types C.same_besides (IsBehindId levels AttrKind.TypeOf bytes.now) ctx.old ctx.new }
 {
     match read_type_at(alloc, ctx, levels, bytes) {
         Ok(read) => Ok((AttrObj::Type(TypeAttr::new(read.0)), read.1)),
@@ -109,7 +110,7 @@ fn read_entry<'a, D: OpSet, C: TypeStore<D>>(
     bytes: &'a [u8],
 ) -> Result<((Identifier, AttrObj<D>), &'a [u8]), Stop>
     ensures read { Reads (λ x y. (x.0.0 ≡ y.0.0) × IsMeant (C.types ctx.new) y.0.1 (attr_view x.0.1) × (x.1.now ≡ y.1)) result (entry_at (attr_at levels) bytes.now) }
-    ensures kept { Adds C.types C.same_besides ctx.old ctx.new }
+    ensures kept { Adds C.types C.same_besides (IsInEntry (IsInAttr levels) bytes.now) ctx.old ctx.new }
 {
     let (key, rest) = read_name(alloc, bytes)?;
     let behind = read_sign(rest, b'=')?;
@@ -128,7 +129,7 @@ fn read_entries<'a, D: OpSet, C: TypeStore<D>>(
     bytes: &'a [u8],
 ) -> Result<(AttributeDict<D>, &'a [u8]), Stop>
     ensures read { Reads (λ x y. IsDictMeant (C.types ctx.new) (entries_of y.0) x.0 × (x.1.now ≡ y.1)) result (items_at 91 93 (entry_at (attr_at levels)) bytes.now) }
-    ensures kept { Adds C.types C.same_besides ctx.old ctx.new }
+    ensures kept { Adds C.types C.same_besides (IsBehindId levels AttrKind.Dict bytes.now) ctx.old ctx.new }
 {
     let start = read_sign(bytes, b'[')?;
     let mut entries = AttributeDict::new(alloc);
@@ -160,7 +161,7 @@ fn read_items<'a, D: OpSet, C: TypeStore<D>>(
     bytes: &'a [u8],
 ) -> Result<(Vec<AttrObj<D>>, &'a [u8]), Stop>
     ensures read { Reads (λ x y. AreMeant (C.types ctx.new) (attrs_of y.0) (map attr_view x.0.items) × (x.1.now ≡ y.1)) result (items_at 91 93 (attr_at levels) bytes.now) }
-    ensures kept { Adds C.types C.same_besides ctx.old ctx.new }
+    ensures kept { Adds C.types C.same_besides (IsBehindId levels AttrKind.Vec bytes.now) ctx.old ctx.new }
 {
     let start = read_sign(bytes, b'[')?;
     let mut items = Vec::new(alloc);
@@ -192,7 +193,7 @@ fn read_dict_attr<'a, D: OpSet, C: TypeStore<D>>(
     bytes: &'a [u8],
 ) -> Result<(AttrObj<D>, &'a [u8]), Stop>
     ensures read { Reads (λ x y. IsMeant (C.types ctx.new) y.0 (attr_view x.0) × (x.1.now ≡ y.1)) result (attr_body levels (attr_at levels) AttrKind.Dict bytes.now) }
-    ensures kept { Adds C.types C.same_besides ctx.old ctx.new }
+    ensures kept { Adds C.types C.same_besides (IsBehindId levels AttrKind.Dict bytes.now) ctx.old ctx.new }
 {
     match read_entries(alloc, ctx, levels, bytes) {
         Ok(read) => Ok((AttrObj::Dict(DictAttr(read.0)), read.1)),
@@ -209,7 +210,7 @@ fn read_list_attr<'a, D: OpSet, C: TypeStore<D>>(
     bytes: &'a [u8],
 ) -> Result<(AttrObj<D>, &'a [u8]), Stop>
     ensures read { Reads (λ x y. IsMeant (C.types ctx.new) y.0 (attr_view x.0) × (x.1.now ≡ y.1)) result (attr_body levels (attr_at levels) AttrKind.Vec bytes.now) }
-    ensures kept { Adds C.types C.same_besides ctx.old ctx.new }
+    ensures kept { Adds C.types C.same_besides (IsBehindId levels AttrKind.Vec bytes.now) ctx.old ctx.new }
 {
     match read_items(alloc, ctx, levels, bytes) {
         Ok(read) => Ok((AttrObj::Vec(VecAttr::new(read.0)), read.1)),
@@ -227,7 +228,7 @@ pub fn read_attr_at<'a, D: OpSet, C: TypeStore<D>>(
     bytes: &'a [u8],
 ) -> Result<(AttrObj<D>, &'a [u8]), Stop>
     ensures read { Reads (λ x y. IsMeant (C.types ctx.new) y.0 (attr_view x.0) × (x.1.now ≡ y.1)) result (attr_at levels bytes.now) }
-    ensures kept { Adds C.types C.same_besides ctx.old ctx.new }
+    ensures kept { Adds C.types C.same_besides (IsInAttr levels bytes.now) ctx.old ctx.new }
 {
     let (kind, rest) = read_attr_head(bytes)?;
     if levels == 0 {

@@ -6,18 +6,32 @@ ghost use Rattle.plir_data.specs.AttrView.{AttrView};
 ghost use Rattle.plir_data.specs.Types.{TypeView, IsTypeTable};
 ghost use Rattle.plir_text.specs.AttrAnswer.{IsReadBack};
 ghost use Rattle.plir_text.specs.AttrText.{attr_text};
-ghost use Rattle.plir_text.specs.Terms.{TypeTerm, levels};
+ghost use Rattle.plir_text.specs.AttrGrammar.{AttrWithin};
+ghost use Rattle.plir_text.specs.Parts.{IsPartOf, IsHeldBy};
+ghost use Rattle.plir_text.specs.Terms.{TypeTerm, AttrTerm, levels};
+ghost use Rattle.plir_text.specs.TypesIn.{IsInType, IsInAttr};
 ghost use Rattle.plir_text.specs.TypeGrammar.{IsText, TypeWithin};
 ghost use Rattle.plir_text.specs.Meaning.{StandsFor};
 ghost use Rattle.plir_text.specs.Names.{Names, Grows};
 ghost use Rattle.plir_text.specs.Writable.{IsWritable, attr_term};
 
 use crate::fault::ReadErr;
+use plir_data::laws::dictionary_is_that_of_its_entries;
 use plir_data::{AttrObj, OpSet};
 
 /// A text stands for one type at most.
 pub fn text_stands_for_one_type()
     ensures { (m n : ℕ) (bytes : List ℕ) (t u : TypeTerm) → IsText (TypeWithin m) bytes t → IsText (TypeWithin n) bytes u → t ≡ u }
+{}
+
+/// A type that is written in a text that stands for a type is that type, or one that it is made of.
+pub fn type_in_a_text_is_part_of_its_type()
+    ensures { (n : ℕ) (text : List ℕ) (t u : TypeTerm) → IsText (TypeWithin n) text u → IsInType n text t → IsPartOf t u }
+{}
+
+/// A type that is written in a text that stands for an attribute is the type of an integer in it, or part of a type in it.
+pub fn type_in_a_text_is_held_by_its_attribute()
+    ensures { (n : ℕ) (text : List ℕ) (t : TypeTerm) (x : AttrTerm) → IsText (AttrWithin n) text x → IsInAttr n text t → IsHeldBy t x }
 {}
 
 /// A type that is written is named by one handle of a table at most.
@@ -33,7 +47,9 @@ pub fn text_stands_for_one_attribute<D: OpSet>()
 /// The text of an attribute stands for it, with as many levels as it has, also in a table that has grown on.
 pub fn text_stands_for_its_attribute<D: OpSet>()
     ensures { (n : ℕ) (old new : List (TypeView D.Ty)) → IsTypeTable D.type_handles old → Grows old new → (x : AttrView D.Attr) → IsWritable old x → levels (attr_term old x) ≤ n → StandsFor n new (attr_text D.attr_id D.attr_text D.type_id D.type_body_text old x) x }
-{}
+{
+    dictionary_is_that_of_its_entries::<D>();
+}
 
 /// The text of an attribute is read back as an equal one.
 ///
@@ -46,4 +62,6 @@ pub fn attr_is_read_back<D: OpSet>(
     read: &Result<AttrObj<D>, ReadErr>,
 )
     ensures { IsReadBack D.attr_id D.attr_text D.type_id D.type_body_text D.attr_handles D.type_handles (attr_view attr.now) text.now read.now }
-{}
+{
+    dictionary_is_that_of_its_entries::<D>();
+}

@@ -9,6 +9,7 @@ ghost use Rattle.plir_data.specs.Types.{IsLive, AllLive};
 ghost use Rattle.plir_text.specs.Terms.{levels, attrs_levels, entries_levels, type_levels, types_levels};
 ghost use Rattle.plir_text.specs.Writable.{attr_term, attr_terms, entry_terms, type_term, type_terms};
 
+use plir_data::laws::tree_of_a_handle;
 use plir_data::{
     AttrObj, AttributeDict, FunctionType, FunctionTypeInterface, OpSet, TypeHandle, TypeObj,
     TypeStore, TypeTable,
@@ -76,6 +77,7 @@ fn is_type_within<D: OpSet>(types: &TypeTable<D>, handle: TypeHandle, most: usiz
     if most == 0 {
         return false;
     }
+    tree_of_a_handle::<D>();
     match types.get(handle) {
         TypeObj::Function(ty) => is_function_within(types, ty, most - 1),
         _ => true,

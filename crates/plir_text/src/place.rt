@@ -1,9 +1,9 @@
 //! Where a fault stands.
 
-ghost use Rattle.std.specs.Prelude.{◌≡◌};
+ghost use Rattle.std.specs.Prelude.{◌≡◌, ◌⊎◌};
 ghost use Rattle.plir_text.specs.Reading.{Gives, fault_of};
 ghost use Rattle.plir_text.specs.Wholes.{end_at};
-ghost use Rattle.plir_text.specs.declared.fault.Stop.TheVariants.{Wanting};
+ghost use Rattle.plir_text.specs.declared.fault.Stop.TheVariants.{Wanting, Crowded};
 
 use crate::fault::{Fault, ReadErr, Stop};
 use crate::tokens::past_blank;
@@ -20,17 +20,25 @@ pub fn read_end(bytes: &[u8]) -> Result<(), Stop>
     Ok(())
 }
 
+// A fault that is none of the text.
+fn nowhere(fault: Fault) -> ReadErr
+    ensures { result ≡ record { line = 0; column = 0; fault = fault } }
+{
+    ReadErr {
+        line: 0,
+        column: 0,
+        fault,
+    }
+}
+
 // Why a text was not read, and where.
 pub fn placed(bytes: &[u8], stop: Stop) -> ReadErr
     ensures fault { result.fault ≡ fault_of stop }
-    ensures nowhere { stop ≡ Wanting → (result.line ≡ 0) × (result.column ≡ 0) }
+    ensures nowhere { (stop ≡ Wanting) ⊎ (stop ≡ Crowded) → (result.line ≡ 0) × (result.column ≡ 0) }
 {
     match stop {
-        Stop::Wanting => ReadErr {
-            line: 0,
-            column: 0,
-            fault: Fault::Memory,
-        },
+        Stop::Wanting => nowhere(Fault::Memory),
+        Stop::Crowded => nowhere(Fault::TooManyNodes),
         Stop::At(fault, left) => {
             let (line, column) = place(&bytes[..bytes.len() - left.min(bytes.len())]);
             ReadErr {

@@ -6,6 +6,7 @@ ghost use Rattle.plir_text.specs.Names.{Adds};
 ghost use Rattle.plir_text.specs.Meaning.{IsMeant};
 ghost use Rattle.plir_text.specs.Reading.{Reads};
 ghost use Rattle.plir_text.specs.AttrReading.{attr_at};
+ghost use Rattle.plir_text.specs.TypesIn.{IsInAttr};
 ghost use Rattle.plir_text.specs.Wholes.{whole};
 
 use crate::attrs::read_attr_at;
@@ -22,7 +23,7 @@ fn whole_attr<D: OpSet, C: TypeStore<D>>(
     bytes: &[u8],
 ) -> Result<AttrObj<D>, Stop>
     ensures read { Reads (λ a x. IsMeant (C.types ctx.new) x (attr_view a)) result (whole (attr_at 200) bytes.now) }
-    ensures kept { Adds C.types C.same_besides ctx.old ctx.new }
+    ensures kept { Adds C.types C.same_besides (IsInAttr 200 bytes.now) ctx.old ctx.new }
 {
     let (attr, rest) = match read_attr_at(alloc, ctx, MAX_LEVELS, bytes) {
         Ok(read) => read,

@@ -4,9 +4,10 @@ ghost use Rattle.std.specs.Prelude.{◌≡◌, ◌≢◌, ℕ, IfOk, IfErr, Err}
 ghost use Rattle.plir_data.specs.declared.types.Signedness.{Signedness};
 ghost use Rattle.plir_text.specs.Terms.{TypeTerm, TypeTerms, integer_type, function_type};
 ghost use Rattle.plir_text.specs.TypeGrammar.{IsText, TypeWithin, IsInteger, FunctionWithin};
-ghost use Rattle.plir_text.specs.Names.{Adds, Grows, Names, StandsForType, StandsForInteger, StandsForFunction};
+ghost use Rattle.plir_text.specs.Names.{Adds, AreNamed, Grows, Names, StandsForType, StandsForInteger, StandsForFunction};
 ghost use Rattle.plir_text.specs.Reading.{Reads};
 ghost use Rattle.plir_text.specs.TypeReading.{integer_at, function_at, type_at};
+ghost use Rattle.plir_text.specs.TypesIn.{IsInInteger, IsInFunction, IsInType};
 ghost use Rattle.plir_text.specs.Wholes.{whole};
 
 use crate::fault::{Fault, ReadErr, Stop};
@@ -25,7 +26,7 @@ fn whole_type<D: OpSet, C: TypeStore<D>>(
     bytes: &[u8],
 ) -> Result<TypeHandle, Stop>
     ensures read { Reads (λ h t. Names (C.types ctx.new) h t) result (whole (type_at 200) bytes.now) }
-    ensures kept { Adds C.types C.same_besides ctx.old ctx.new }
+    ensures kept { Adds C.types C.same_besides (IsInType 200 bytes.now) ctx.old ctx.new }
 {
     let (handle, rest) = match read_type_at(alloc, ctx, MAX_LEVELS, bytes) {
         Ok(read) => read,
@@ -38,7 +39,7 @@ fn whole_type<D: OpSet, C: TypeStore<D>>(
 #[tactic(auto, unfolding(crate::specs::Wholes::whole))]
 fn whole_integer<D: OpSet, C: TypeStore<D>>(ctx: &mut C, bytes: &[u8]) -> Result<TypeHandle, Stop>
     ensures read { Reads (λ h x. Names (C.types ctx.new) h (integer_type x.0 x.1)) result (whole integer_at bytes.now) }
-    ensures kept { Adds C.types C.same_besides ctx.old ctx.new }
+    ensures kept { Adds C.types C.same_besides (IsInInteger bytes.now) ctx.old ctx.new }
 {
     let (handle, rest) = match read_integer_handle(ctx, bytes) {
         Ok(read) => read,
@@ -55,7 +56,7 @@ fn whole_function<D: OpSet, C: TypeStore<D>>(
     bytes: &[u8],
 ) -> Result<TypeHandle, Stop>
     ensures read { Reads (λ h x. Names (C.types ctx.new) h (function_type x.0 x.1)) result (whole (function_at (type_at 199)) bytes.now) }
-    ensures kept { Adds C.types C.same_besides ctx.old ctx.new }
+    ensures kept { Adds C.types C.same_besides (IsInFunction 199 bytes.now) ctx.old ctx.new }
 {
     let (handle, rest) = match read_function(alloc, ctx, MAX_LEVELS - 1, bytes) {
         Ok(read) => read,
@@ -76,6 +77,7 @@ pub fn read_type<D: OpSet, C: TypeStore<D>>(
     ensures fault { IfErr result (λ e. e.fault ≢ Fault.Memory → whole (type_at 200) text.now ≡ Err e.fault) }
     ensures refused { IfErr result (λ e. e.fault ≢ Fault.Memory → (t : TypeTerm) → IsText (TypeWithin 200) text.now t → ⊥) }
     ensures grown { Grows (C.types ctx.old) (C.types ctx.new) }
+    ensures named { AreNamed (IsInType 200 text.now) (C.types ctx.old) (C.types ctx.new) }
     ensures rest { C.same_besides ctx.old ctx.new }
 {
     let bytes = text.as_bytes();
@@ -94,6 +96,7 @@ pub fn read_integer_type<D: OpSet, C: TypeStore<D>>(
     ensures fault { IfErr result (λ e. e.fault ≢ Fault.Memory → whole integer_at text.now ≡ Err e.fault) }
     ensures refused { IfErr result (λ e. e.fault ≢ Fault.Memory → (x : Signedness × ℕ) → IsText IsInteger text.now x → ⊥) }
     ensures grown { Grows (C.types ctx.old) (C.types ctx.new) }
+    ensures named { AreNamed (IsInInteger text.now) (C.types ctx.old) (C.types ctx.new) }
     ensures rest { C.same_besides ctx.old ctx.new }
 {
     let bytes = text.as_bytes();
@@ -113,6 +116,7 @@ pub fn read_function_type<D: OpSet, C: TypeStore<D>>(
     ensures fault { IfErr result (λ e. e.fault ≢ Fault.Memory → whole (function_at (type_at 199)) text.now ≡ Err e.fault) }
     ensures refused { IfErr result (λ e. e.fault ≢ Fault.Memory → (x : TypeTerms × TypeTerms) → IsText (FunctionWithin 200) text.now x → ⊥) }
     ensures grown { Grows (C.types ctx.old) (C.types ctx.new) }
+    ensures named { AreNamed (IsInFunction 199 text.now) (C.types ctx.old) (C.types ctx.new) }
     ensures rest { C.same_besides ctx.old ctx.new }
 {
     let bytes = text.as_bytes();

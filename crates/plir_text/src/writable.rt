@@ -11,6 +11,7 @@ ghost use Rattle.plir_data.specs.TypeTree.{trees_of, tree_of};
 ghost use Rattle.plir_data.specs.Types.{IsLive, AllLive, type_at};
 ghost use Rattle.plir_text.specs.Writable.{IsBuiltin, AreBuiltin, IsNameOrMark, IsWritable, AreItemsWritable};
 
+use plir_data::laws::tree_of_a_handle;
 use plir_data::{
     AttrObj, AttributeDict, FunctionTypeInterface, Identifier, IntegerAttr, IntegerType, OpSet,
     OperandSegmentSizesAttr, StringAttr, TypeHandle, TypeObj, TypeStore, TypeTable,
@@ -90,6 +91,7 @@ fn is_builtin<D: OpSet>(types: &TypeTable<D>, handle: TypeHandle) -> bool
     requires { IsLive types.now handle }
     ensures { IsTrue result ↔ IsBuiltin (tree_of types.now handle) }
 {
+    tree_of_a_handle::<D>();
     match types.get(handle) {
         TypeObj::Integer(ty) => is_width(ty),
         TypeObj::Function(ty) => {

@@ -9,7 +9,7 @@ use Rattle.plir_walk.specs.Calls.{Advancing, Call, CallsBack, Chain, ReadsBack, 
 use Rattle.plir_walk.specs.Forest.{Shape}
 use Rattle.plir_walk.specs.Tree.{Tree}
 use Rattle.plir_walk.specs.Walk.{Answers, IsWalkWithin}
-use Rattle.plir_walk.specs.Walked.{AtLive, KeepsShape, Walked, WalkedOver}
+use Rattle.plir_walk.specs.Walked.{IsCallUnder, KeepsShape, Walked, WalkedOver}
 use Rattle.plir_walk.specs.declared.config.WalkConfig.{WalkConfig}
 use Rattle.plir_walk.specs.declared.interruptible.WalkContinue.{WalkContinue}
 use Rattle.plir_walk.specs.declared.interruptible.WalkContinue.TheVariants.{Advance}
@@ -29,16 +29,20 @@ Chain-last P c s (y ∷ front) x c' s' h = Chain-last P y.after y.left front x c
 
 module _ {C S : Type 0} (look : C → Shape) (w : WalkConfig) (post : Relation C S (Unit {0})) (plain : C → S → IRNode → Unit {0} → C → S → Type 0)
     (advances : (c : C) (s : S) (n : IRNode) (a : ControlFlow (Unit {0}) WalkContinue) (c' : C) (s' : S) → post c s n a c' s' → Advancing plain c s n a c' s') where
-  pub always : (c : C) (s : S) (xs : List (Call C S (Unit {0}))) (c' : C) (s' : S) → Chain (AtLive look post) c s xs c' s' → Chain (AtLive look (Advancing plain)) c s xs c' s'
-  always c s xs c' s' h = Chain-map (AtLive look post) (AtLive look (Advancing plain)) (λ d t n a d' t' p. (p.0, advances d t n a d' t' p.1)) c s xs c' s' h
+  -- a call that advances
+  pub call-advancing : (r : IRNode) (c : C) (s : S) (n : IRNode) (a : ControlFlow (Unit {0}) WalkContinue) (c' : C) (s' : S) → IsCallUnder look r post c s n a c' s' → IsCallUnder look r (Advancing plain) c s n a c' s'
+  call-advancing r c s n a c' s' p = record { stands = p.stands; leaves = p.leaves; made = advances c s n a c' s' p.made }
+
+  pub always : (r : IRNode) (c : C) (s : S) (xs : List (Call C S (Unit {0}))) (c' : C) (s' : S) → Chain (IsCallUnder look r post) c s xs c' s' → Chain (IsCallUnder look r (Advancing plain)) c s xs c' s'
+  always r c s xs c' s' h = Chain-map (IsCallUnder look r post) (IsCallUnder look r (Advancing plain)) (call-advancing r) c s xs c' s' h
 
   -- so the answer is to advance
-  pub answer-is : (t : Tree) (r : IRNode) (c : C) (s : S) (xs : List (Call C S (Unit {0}))) (c' : C) (s' : S) (a : ControlFlow (Unit {0}) WalkContinue) → Chain (AtLive look post) c s xs c' s' → Answers w t r xs a → a ≡ Continue Advance
+  pub answer-is : (t : Tree) (r : IRNode) (c : C) (s : S) (xs : List (Call C S (Unit {0}))) (c' : C) (s' : S) (a : ControlFlow (Unit {0}) WalkContinue) → Chain (IsCallUnder look r post) c s xs c' s' → Answers w t r xs a → a ≡ Continue Advance
   answer-is t r c s xs c' s' (Continue k) h p = ap Continue p.0
   answer-is t r c s xs c' s' (Break b) h p =
-      let ch = subst (λ (v : List (Call C S (Unit {0}))). Chain (AtLive look post) c s v c' s') p.0.2 h in
-      let last = Chain-last (AtLive look post) c s p.0.0 p.0.1 c' s' ch in
-      let e = sym p.0.3 ∙ (advances p.0.1.before p.0.1.state p.0.1.node p.0.1.answer p.0.1.after p.0.1.left last.1).0 in
+      let ch = subst (λ (v : List (Call C S (Unit {0}))). Chain (IsCallUnder look r post) c s v c' s') p.0.2 h in
+      let last = Chain-last (IsCallUnder look r post) c s p.0.0 p.0.1 c' s' ch in
+      let e = sym p.0.3 ∙ (advances p.0.1.before p.0.1.state p.0.1.node p.0.1.answer p.0.1.after p.0.1.left last.made).0 in
       absurd (let y : ⊥ = cc e in y)
 
   pub over-advancing : (c : C) (s : S) (r : IRNode) (a : ControlFlow (Unit {0}) WalkContinue) (s' : S) → WalkedOver look w post c s r a s' → WalkedOver look w (Advancing plain) c s r (Continue Advance) s'
@@ -46,37 +50,37 @@ module _ {C S : Type 0} (look : C → Shape) (w : WalkConfig) (post : Relation C
       let e = answer-is (look c).kids r c s h.calls c s' a h.chain h.walk.answers in
       record {
         calls = h.calls;
-        chain = always c s h.calls c s' h.chain;
+        chain = always r c s h.calls c s' h.chain;
         walk = record { in_order = h.walk.in_order; answers = subst (λ (v : ControlFlow (Unit {0}) WalkContinue). Answers w (look c).kids r h.calls v) e h.walk.answers };
       }
 
-  pub within-answer : (t : Tree) (r : IRNode) (limit : ℕ) (c : C) (s : S) (xs : List (Call C S (Unit {0}))) (c' : C) (s' : S) (a : ControlFlow (Unit {0}) WalkContinue) → Chain (AtLive look post) c s xs c' s'
+  pub within-answer : (t : Tree) (r : IRNode) (limit : ℕ) (c : C) (s : S) (xs : List (Call C S (Unit {0}))) (c' : C) (s' : S) (a : ControlFlow (Unit {0}) WalkContinue) → Chain (IsCallUnder look r post) c s xs c' s'
       → IsWalkWithin w t r limit xs (Ok a) → IsWalkWithin w t r limit xs (Ok (Continue Advance))
   within-answer t r limit c s xs c' s' a h k = record { in_order = k.in_order; within = k.within; answers = subst (λ (v : ControlFlow (Unit {0}) WalkContinue). Answers w t r xs v) (answer-is t r c s xs c' s' a h k.answers) k.answers }
 
-  pub keeps : KeepsShape look (Advancing plain) → KeepsShape look post
-  keeps k d t n a d' t' v p = k d t n a d' t' v (advances d t n a d' t' p)
+  pub keeps : (r : IRNode) → KeepsShape look r (Advancing plain) → KeepsShape look r post
+  keeps r k d t n a d' t' p = k d t n a d' t' (call-advancing r d t n a d' t' p)
 
   pub ok-advancing : (c : C) (s : S) (r : IRNode) (limit : ℕ) (a : ControlFlow (Unit {0}) WalkContinue) (c' : C) (s' : S) → Walked look w post c s r limit (Ok a) c' s' → Walked look w (Advancing plain) c s r limit (Ok (Continue Advance)) c' s'
   ok-advancing c s r limit a c' s' h =
       let to = λ (t : Tree) (k : IsWalkWithin w t r limit h.calls (Ok a)). within-answer t r limit c s h.calls c' s' a h.chain k in
       record {
         calls = h.calls;
-        chain = always c s h.calls c' s' h.chain;
+        chain = always r c s h.calls c' s' h.chain;
         as_read = to (tree_read look w h.calls c') h.as_read;
         at_exit = λ all. to (look c').kids (h.at_exit all);
         at_entry = λ all. to (look c).kids (h.at_entry all);
-        unchanged = λ k. to (look c).kids (h.unchanged (keeps k));
+        unchanged = λ k. to (look c).kids (h.unchanged (keeps r k));
       }
 
   pub err-advancing : (c : C) (s : S) (r : IRNode) (limit : ℕ) (x : CallLimit) (c' : C) (s' : S) → Walked look w post c s r limit (Err x) c' s' → Walked look w (Advancing plain) c s r limit (Err x) c' s'
   err-advancing c s r limit x c' s' h = record {
     calls = h.calls;
-    chain = always c s h.calls c' s' h.chain;
+    chain = always r c s h.calls c' s' h.chain;
     as_read = h.as_read;
     at_exit = h.at_exit;
     at_entry = h.at_entry;
-    unchanged = λ k. h.unchanged (keeps k);
+    unchanged = λ k. h.unchanged (keeps r k);
   }
 
 -- a call that a wrapper passes on

@@ -1,23 +1,39 @@
-use Rattle.std.proofs.Common.{◌≡◌, ℕ, zero, suc, ◌+◌, true, List, Some, ◌⊎◌, inl, inr, sym, ap, subst, arith, ◌∙◌, option_and_then}
-use Rattle.plir_walk.specs.Forest.{AtOrBelow, IsBelow, IsForest, Lawful, Shape, climb}
+-- The way up from a node, and what a lawful call leaves of it.
+use Rattle.std.proofs.Common.{◌≡◌, ℕ, zero, suc, ◌+◌, true, List, Option, Some, None, ◌⊎◌, inl, inr, refl, sym, ap, subst, arith, ◌∙◌, option_and_then}
+use Rattle.plir_core.specs.Above.{climb, Reaches}
 use Rattle.plir_core.specs.NodeLists.{Has}
 use Rattle.plir_core.specs.declared.ptr.IRNode.{IRNode}
+use Rattle.plir_walk.specs.Forest.{IsBelow, IsForest, Lawful, Shape}
 use Rattle.plir_walk.proofs.Groves.{and_then-some}
+use Rattle.plir_walk.proofs.Heights.{deeper, depth_in}
+
+-- x is a or below it
+abbrev pub AtOrBelow : Shape → IRNode → IRNode → Type 0
+AtOrBelow s a x = Reaches s.parent x a
+
+-- the last step of a climb
+pub climb-and : (up : IRNode → Option IRNode) (k : ℕ) (o : Option IRNode) → climb up (suc k) o ≡ option_and_then up (climb up k o)
+climb-and up zero None = refl
+climb-and up zero (Some n) = refl
+climb-and up (suc k) None = refl
+climb-and up (suc k) (Some n) = climb-and up k (up n)
+
+pub climb-split : (s : Shape) (k : ℕ) (x a : IRNode) → climb s.parent (suc k) (Some x) ≡ Some a → (y : IRNode) × (climb s.parent k (Some x) ≡ Some y) × (s.parent y ≡ Some a)
+climb-split s k x a e = and_then-some s.parent (climb s.parent k (Some x)) a (sym (climb-and s.parent k (Some x)) ∙ e)
 
 -- one level more, at the top
-pub climb-top : (s : Shape) (k : ℕ) (x a b : IRNode) → climb s k x ≡ Some a → s.parent a ≡ Some b → climb s (suc k) x ≡ Some b
-climb-top s k x a b e f = rw e f
+pub climb-top : (s : Shape) (k : ℕ) (x a b : IRNode) → climb s.parent k (Some x) ≡ Some a → s.parent a ≡ Some b → climb s.parent (suc k) (Some x) ≡ Some b
+climb-top s k x a b e f = climb-and s.parent k (Some x) ∙ (ap (option_and_then s.parent) e ∙ f)
 
 -- one level more, at the bottom
-pub climb-bottom : (s : Shape) (k : ℕ) (x a : IRNode) → s.parent x ≡ Some a → climb s (suc k) x ≡ climb s k a
-climb-bottom s zero x a e = e
-climb-bottom s (suc k) x a e = ap (option_and_then s.parent) (climb-bottom s k x a e)
+pub climb-bottom : (s : Shape) (k : ℕ) (x a : IRNode) → s.parent x ≡ Some a → climb s.parent (suc k) (Some x) ≡ climb s.parent k (Some a)
+climb-bottom s k x a e = ap (climb s.parent k) e
 
-pub climb-depth : (s : Shape) (f : IsForest s) (k : ℕ) (x a : IRNode) → climb s k x ≡ Some a → s.depth x ≡ s.depth a + k
+pub climb-depth : (s : Shape) (f : IsForest s) (k : ℕ) (x a : IRNode) → climb s.parent k (Some x) ≡ Some a → depth_in s x ≡ depth_in s a + k
 climb-depth s f zero x a e = let h : x ≡ a = cc in rw h (omega arith)
 climb-depth s f (suc k) x a e =
-    let r = and_then-some s.parent (climb s k x) a e in
-    omega (arith, climb-depth s f k x r.0 r.1, f.deeper a r.0 r.2)
+    let r = climb-split s k x a e in
+    omega (arith, climb-depth s f k x r.0 r.1, deeper s f a r.0 r.2)
 
 pub not-below-itself : (s : Shape) (f : IsForest s) (x : IRNode) → IsBelow s x x → ⊥
 not-below-itself s f x h = omega (arith, climb-depth s f (suc h.0) x x h.1)
@@ -30,30 +46,30 @@ pub kid-below : (s : Shape) (a c x : IRNode) → s.parent c ≡ Some a → AtOrB
 kid-below s a c x e h = (h.0, climb-top s h.0 x c a h.1 e)
 
 -- of two nodes of one depth with a node at or below both, each is the other
-pub same-branch : (s : Shape) (f : IsForest s) (a b x : IRNode) → s.depth a ≡ s.depth b → AtOrBelow s a x → AtOrBelow s b x → a ≡ b
+pub same-branch : (s : Shape) (f : IsForest s) (a b x : IRNode) → depth_in s a ≡ depth_in s b → AtOrBelow s a x → AtOrBelow s b x → a ≡ b
 same-branch s f a b x d h k =
     let e : h.0 ≡ k.0 = omega (arith, climb-depth s f h.0 x a h.1, climb-depth s f k.0 x b k.1) in
-    let g : climb s k.0 x ≡ Some a = subst (λ (v : ℕ). climb s v x ≡ Some a) e h.1 in
-    let g' : climb s k.0 x ≡ Some b = k.1 in
+    let g : climb s.parent k.0 (Some x) ≡ Some a = subst (λ (v : ℕ). climb s.parent v (Some x) ≡ Some a) e h.1 in
+    let g' : climb s.parent k.0 (Some x) ≡ Some b = k.1 in
     cc (g, g')
 
 -- a node b of the depth of a, where n is at or below a, is not at or below n unless it is a
-pub beside-branch : (s : Shape) (f : IsForest s) (a b n : IRNode) → s.depth a ≡ s.depth b → AtOrBelow s a n → AtOrBelow s n b → a ≡ b
+pub beside-branch : (s : Shape) (f : IsForest s) (a b n : IRNode) → depth_in s a ≡ depth_in s b → AtOrBelow s a n → AtOrBelow s n b → a ≡ b
 beside-branch s f a b n d h k =
     let p = climb-depth s f h.0 n a h.1 in
     let q = climb-depth s f k.0 b n k.1 in
     let e : h.0 ≡ zero = omega (arith, p, q) in
     let e' : k.0 ≡ zero = omega (arith, p, q) in
-    let g : climb s zero n ≡ Some a = subst (λ (v : ℕ). climb s v n ≡ Some a) e h.1 in
-    let g' : climb s zero b ≡ Some n = subst (λ (v : ℕ). climb s v b ≡ Some n) e' k.1 in
+    let g : climb s.parent zero (Some n) ≡ Some a = subst (λ (v : ℕ). climb s.parent v (Some n) ≡ Some a) e h.1 in
+    let g' : climb s.parent zero (Some b) ≡ Some n = subst (λ (v : ℕ). climb s.parent v (Some b) ≡ Some n) e' k.1 in
     cc (g, g')
 
 -- What stands under a node that is apart from n stood there before a lawful call at n.
 pub apart-kept : (s s' : Shape) (n : IRNode) (f : IsForest s) (f' : IsForest s') (l : Lawful s n s') (k : ℕ) (x d : IRNode)
-    → climb s' k x ≡ Some d → s.live d ≡ true → (AtOrBelow s n d → ⊥) → (AtOrBelow s d n → ⊥) → climb s k x ≡ Some d
+    → climb s'.parent k (Some x) ≡ Some d → s.live d ≡ true → (AtOrBelow s n d → ⊥) → (AtOrBelow s d n → ⊥) → climb s.parent k (Some x) ≡ Some d
 apart-kept s s' n f f' l zero x d e v p q = e
 apart-kept s s' n f f' l (suc k) x d e v p q =
-    let r = and_then-some s'.parent (climb s' k x) d e in
+    let r = climb-split s' k x d e in
     let y : IRNode = r.0 in
     let same : s'.kids d ≡ s.kids d = (l.kept d v (λ h. p (IsBelow-AtOrBelow s n d h))).2 (λ h. p (zero, ap Some h)) in
     let has : Has (s.kids d) y = subst (λ (z : List IRNode). Has z y) same (f'.parent_kid d y r.2) in
@@ -72,27 +88,27 @@ apart-kept s s' n f f' l (suc k) x d e v p q =
 pub two-above : (s : Shape) (e n x : IRNode) → AtOrBelow s e x → AtOrBelow s n x → AtOrBelow s n e ⊎ AtOrBelow s e n
 two-above s e n x (k, h) (j, g) = go k j e n h g
   where
-    go : (k j : ℕ) (e n : IRNode) → climb s k x ≡ Some e → climb s j x ≡ Some n → AtOrBelow s n e ⊎ AtOrBelow s e n
-    go zero j e n h g = inl (j, (let p : x ≡ e = cc in subst (λ (v : IRNode). climb s j v ≡ Some n) p g))
-    go (suc k) zero e n h g = inr (suc k, (let p : x ≡ n = cc in subst (λ (v : IRNode). climb s (suc k) v ≡ Some e) p h))
+    go : (k j : ℕ) (e n : IRNode) → climb s.parent k (Some x) ≡ Some e → climb s.parent j (Some x) ≡ Some n → AtOrBelow s n e ⊎ AtOrBelow s e n
+    go zero j e n h g = inl (j, (let p : x ≡ e = cc in subst (λ (v : IRNode). climb s.parent j (Some v) ≡ Some n) p g))
+    go (suc k) zero e n h g = inr (suc k, (let p : x ≡ n = cc in subst (λ (v : IRNode). climb s.parent (suc k) (Some v) ≡ Some e) p h))
     go (suc k) (suc j) e n h g =
-        let p = and_then-some s.parent (climb s k x) e h in
-        let q = and_then-some s.parent (climb s j x) n g in
+        let p = climb-split s k x e h in
+        let q = climb-split s j x n g in
         elim (go k j p.0 q.0 p.1 q.1) [
           | inl z ↦ up-one s p.0 e q.0 n p.2 q.2 z.0 z.1
           | inr z ↦ elim (up-one s q.0 n p.0 e q.2 p.2 z.0 z.1) [ inl y ↦ inr y | inr y ↦ inl y ]
         ]
       where
         -- from a at or below b to their parents
-        up-one : (s : Shape) (a a' b b' : IRNode) → s.parent a ≡ Some a' → s.parent b ≡ Some b' → (i : ℕ) → climb s i a ≡ Some b → AtOrBelow s b' a' ⊎ AtOrBelow s a' b'
+        up-one : (s : Shape) (a a' b b' : IRNode) → s.parent a ≡ Some a' → s.parent b ≡ Some b' → (i : ℕ) → climb s.parent i (Some a) ≡ Some b → AtOrBelow s b' a' ⊎ AtOrBelow s a' b'
         up-one s a a' b b' u v zero h = inl (zero, (let p : a ≡ b = cc in let z : Some a' ≡ Some b' = sym u ∙ (ap s.parent p ∙ v) in z))
         up-one s a a' b b' u v (suc i) h = inl (suc i, climb-top s i a' b b' (sym (climb-bottom s i a a' u) ∙ h) v)
 
 pub below-live : (s : Shape) (f : IsForest s) (e x : IRNode) → s.live e ≡ true → AtOrBelow s e x → s.live x ≡ true
 below-live s f e x v (k, h) = go k e v h
   where
-    go : (k : ℕ) (e : IRNode) → s.live e ≡ true → climb s k x ≡ Some e → s.live x ≡ true
+    go : (k : ℕ) (e : IRNode) → s.live e ≡ true → climb s.parent k (Some x) ≡ Some e → s.live x ≡ true
     go zero e v h = (let p : e ≡ x = cc in rw (← p) v)
     go (suc k) e v h =
-        let p = and_then-some s.parent (climb s k x) e h in
+        let p = climb-split s k x e h in
         go k p.0 (f.kid_live e p.0 (f.parent_kid e p.0 p.2)) p.1

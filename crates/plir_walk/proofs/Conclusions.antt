@@ -10,7 +10,7 @@ use Rattle.plir_walk.specs.Lists.{Pairs}
 use Rattle.plir_core.specs.NodeLists.{Has}
 use Rattle.plir_walk.specs.Tree.{HasOnePlaceEach, IsUnder, NodeBefore, Place, Tree, after, node_at, same}
 use Rattle.plir_walk.specs.Walk.{Answers, AnswersWithin, CallsAllDue, CallsUpToLast, InOrder, IsWalkWithin}
-use Rattle.plir_walk.specs.Walked.{AtLive, KeepsShape, Walked}
+use Rattle.plir_walk.specs.Walked.{IsCallUnder, KeepsShape, Walked}
 use Rattle.plir_walk.specs.declared.config.Order.{Order}
 use Rattle.plir_walk.specs.declared.config.WalkConfig.{WalkConfig}
 use Rattle.plir_walk.specs.declared.interruptible.WalkContinue.{WalkContinue}
@@ -26,6 +26,7 @@ use Rattle.plir_walk.proofs.Nodes.{same_tells}
 use Rattle.plir_walk.proofs.Places.{index-once}
 use Rattle.plir_walk.proofs.Results.{Visits}
 use Rattle.plir_walk.proofs.Stages.{cut, cut-same, nodes-append}
+use Rattle.plir_walk.proofs.Heights.{deeper, depth_in}
 
 -- in a forest each node has one place
 pub forest-one-place : (s : Shape) (f : IsForest s) (p q : Place) (r n : IRNode) → node_at s.kids r p ≡ Some n → node_at s.kids r q ≡ Some n → p ≡ q
@@ -37,7 +38,7 @@ forest-one-place s f (i ∷ p) (j ∷ q) r n e g =
     let y = and_then-some (λ c. node_at s.kids c q) (slice_get (s.kids r) j) n g in
     let ux : s.parent x.0 ≡ Some r = f.kid_parent r x.0 (Has-at (s.kids r) i x.0 x.1) in
     let uy : s.parent y.0 ≡ Some r = f.kid_parent r y.0 (Has-at (s.kids r) j y.0 y.1) in
-    let dp : s.depth x.0 ≡ s.depth y.0 = f.deeper r x.0 ux ∙ sym (f.deeper r y.0 uy) in
+    let dp : depth_in s x.0 ≡ depth_in s y.0 = deeper s f r x.0 ux ∙ sym (deeper s f r y.0 uy) in
     let xy : x.0 ≡ y.0 = same-branch s f x.0 y.0 n dp (place-below s f x.0 n p x.2) (place-below s f y.0 n q y.2) in
     let ij : i ≡ j = index-once (s.kids r) i j y.0 (f.once r) (x.1 ∙ ap Some xy) y.1 in
     let pq : p ≡ q = forest-one-place s f p q y.0 n (subst (λ (v : IRNode). node_at s.kids v p ≡ Some n) xy x.2) y.2 in
@@ -91,14 +92,14 @@ module _ {C S B : Type 0} (w : WalkConfig) (u : Tree) (r : IRNode) (calls : List
   walk-within limit a within h = record { in_order = ordered; within = within; answers = answered-within limit a h }
 
 -- Calls that keep the shape read the tree that was there from the start, but for what was skipped.
-pub still-read : {C S B : Type 0} (look : C → Shape) (w : WalkConfig) (post : Relation C S B) → KeepsShape look post
-    → (xs : List (Call C S B)) (c : C) (s : S) (e : C) (st : S) → Chain (AtLive look post) c s xs e st
+pub still-read : {C S B : Type 0} (look : C → Shape) (w : WalkConfig) (r : IRNode) (post : Relation C S B) → KeepsShape look r post
+    → (xs : List (Call C S B)) (c : C) (s : S) (e : C) (st : S) → Chain (IsCallUnder look r post) c s xs e st
     → (n : IRNode) → tree_read look w xs e n ≡ cut w xs (look c).kids n
-still-read look w post still [] c s e st h n = ap (λ v. (look v).kids n) h.0
-still-read look w post still (x ∷ xs) c s e st h n =
+still-read look w r post still [] c s e st h n = ap (λ v. (look v).kids n) h.0
+still-read look w r post still (x ∷ xs) c s e st h n =
     let was : (look x.before).kids n ≡ (look c).kids n = ap (λ v. (look v).kids n) h.0 in
-    let is : (look x.after).kids n ≡ (look x.before).kids n = (still x.before x.state x.node x.answer x.after x.left h.2.0 h.2.1).kids n in
-    let ih : tree_read look w xs e n ≡ cut w xs (look x.after).kids n = still-read look w post still xs x.after x.left e st h.3 n in
+    let is : (look x.after).kids n ≡ (look x.before).kids n = (still x.before x.state x.node x.answer x.after x.left h.2).kids n in
+    let ih : tree_read look w xs e n ≡ cut w xs (look x.after).kids n = still-read look w r post still xs x.after x.left e st h.3 n in
     let tail : tree_read look w xs e n ≡ cut w xs (look c).kids n = ih ∙ cut-same w xs (look x.after).kids (look c).kids n (is ∙ was) in
     elim (same_tells x.node n) [
       | inl k ↦ rw k.0 (ap (λ (v : Order). kids_by v x.answer ((look x.before).kids x.node) ((look x.after).kids x.node)) (ap (order_of w) k.1)
@@ -112,7 +113,7 @@ still-read look w post still (x ∷ xs) c s e st h n =
 
 -- A walk of the tree as it is read is one of the trees at the entry and the exit, where these are read.
 pub walked-of : {C S B : Type 0} (look : C → Shape) (w : WalkConfig) (post : Relation C S B) (c : C) (s : S) (r : IRNode) (limit : ℕ) (a : Result (ControlFlow B WalkContinue) CallLimit) (c' : C) (s' : S)
-    (calls : List (Call C S B)) → IsForest (look c) → IsForest (look c') → Chain (AtLive look post) c s calls c' s' → length calls ≤ limit
+    (calls : List (Call C S B)) → IsForest (look c) → IsForest (look c') → Chain (IsCallUnder look r post) c s calls c' s' → length calls ≤ limit
     → Visits w (tree_read look w calls c') r (nodes_of calls) → EndsWithin (tree_read look w calls c') r limit calls a
     → (AllPre w → (n : IRNode) → tree_read look w calls c' n ≡ cut w calls (look c').kids n)
     → (AllPost w → (n : IRNode) → IsUnder (tree_read look w calls c') r n → tree_read look w calls c' n ≡ (look c).kids n)
@@ -125,7 +126,7 @@ walked-of {C} {S} {B} look w post c s r limit a c' s' calls f f' chain within vi
       as_read = same_as t visits.one_place (λ n k. cut-read look w calls c' n);
       at_exit = λ all. same_as (look c').kids (λ n p q e g. forest-one-place (look c') f' p q r n e g) (λ n k. sym (pre all n));
       at_entry = λ all. same_as (look c).kids (λ n p q e g. forest-one-place (look c) f p q r n e g) (λ n k. cut-post w (look c).kids calls all n ∙ sym (after all n k));
-      unchanged = λ keep. same_as (look c).kids (λ n p q e g. forest-one-place (look c) f p q r n e g) (λ n k. sym (still-read look w post keep calls c s c' s' chain n));
+      unchanged = λ keep. same_as (look c).kids (λ n p q e g. forest-one-place (look c) f p q r n e g) (λ n k. sym (still-read look w r post keep calls c s c' s' chain n));
     }
   where
     same_as : (u : Tree) → HasOnePlaceEach u r → ((n : IRNode) → IsUnder (tree_read look w calls c') r n → cut w calls u n ≡ tree_read look w calls c' n) → IsWalkWithin w u r limit calls a

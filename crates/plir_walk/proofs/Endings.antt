@@ -3,18 +3,19 @@ use Rattle.std.proofs.lemmas.List.{append-nil}
 use Rattle.plir_walk.specs.AsRead.{tree_read}
 use Rattle.plir_walk.specs.Calls.{Call, nodes_of}
 use Rattle.plir_walk.specs.Config.{AllPost, direction_of, order_of}
-use Rattle.plir_walk.specs.Forest.{AtOrBelow, IsBelow, IsForest, Shape}
+use Rattle.plir_walk.specs.Forest.{IsBelow, IsForest, Shape}
 use Rattle.plir_core.specs.NodeLists.{Distinct, Has}
 use Rattle.plir_walk.specs.Tree.{Place, Tree, node_at, taken}
 use Rattle.plir_walk.specs.declared.config.Order.{Order}
 use Rattle.plir_walk.specs.declared.config.Order.TheVariants.{PostOrder, PreOrder}
 use Rattle.plir_walk.specs.declared.config.WalkConfig.{WalkConfig}
 use Rattle.plir_core.specs.declared.ptr.IRNode.{IRNode}
-use Rattle.plir_walk.proofs.Climbs.{IsBelow-AtOrBelow, climb-top, kid-below, not-below-itself, same-branch}
+use Rattle.plir_walk.proofs.Climbs.{AtOrBelow, IsBelow-AtOrBelow, climb-top, kid-below, not-below-itself, same-branch}
 use Rattle.plir_walk.proofs.Groves.{Grove, Has-taken, Reads, Reads-beside, Reads-same, and_then-some, beside, first, flat, flat-beside, flat-cases, flat-root, flat-under, grow, last, last-is, leaf, no-both, roots, roots-beside}
 use Rattle.plir_walk.proofs.ListLemmas.{Distinct-append, Distinct-one, Distinct-right, Has-append_cases, Has-append_left, Has-append_right, Has-at}
 use Rattle.plir_walk.proofs.Stages.{Closing, Entering, Leaving, Opening, read-fresh}
 use Rattle.plir_walk.proofs.Steps.{Distinct-taken, Fits, Frame, Path, ahead-of, base-of, frame-distinct, frame-kid, frame-parent, path-depth, so_far, todo_of, top, under}
+use Rattle.plir_walk.proofs.Heights.{bounded, deepest, deeper, depth_in}
 
 pub last-has : (o : Order) (c : IRNode) → o ≡ PostOrder → Has (last o c) c
 last-has PostOrder c e = inl refl
@@ -34,9 +35,9 @@ pub row-roots : (w : WalkConfig) (s : Shape) (f : List IRNode → Grove) (xs : L
 row-roots w s f [] = refl
 row-roots w s f (x ∷ xs) = ap (λ v. x ∷ v) (row-roots w s f xs)
 
-pub unread-roots : (w : WalkConfig) (s : Shape) (f : IsForest s) (k : ℕ) (xs : List IRNode) → ((x : IRNode) → Has xs x → s.deepest < s.depth x + k) → roots (unread w s k xs) ≡ xs
+pub unread-roots : (w : WalkConfig) (s : Shape) (f : IsForest s) (k : ℕ) (xs : List IRNode) → ((x : IRNode) → Has xs x → deepest < depth_in s x + k) → roots (unread w s k xs) ≡ xs
 unread-roots w s f zero [] h = refl
-unread-roots w s f zero (x ∷ xs) h = absurd (let p = h x (inl refl) in let q = f.bounded x in omega (arith, p, q))
+unread-roots w s f zero (x ∷ xs) h = absurd (let p = h x (inl refl) in let q = bounded s x in omega (arith, p, q))
 unread-roots w s f (suc k) xs h = row-roots w s (unread w s k) xs
 
 pub row-reads : (w : WalkConfig) (s : Shape) (f : List IRNode → Grove) (xs : List IRNode)
@@ -45,13 +46,13 @@ pub row-reads : (w : WalkConfig) (s : Shape) (f : List IRNode → Grove) (xs : L
 row-reads w s f [] h = tt
 row-reads w s f (x ∷ xs) h = (refl, (h x (inl refl)).0, (h x (inl refl)).1, row-reads w s f xs (λ y k. h y (inr k)))
 
-pub unread-reads : (w : WalkConfig) (s : Shape) (f : IsForest s) (k : ℕ) (xs : List IRNode) → ((x : IRNode) → Has xs x → s.deepest < s.depth x + k) → Reads w s.kids (unread w s k xs)
+pub unread-reads : (w : WalkConfig) (s : Shape) (f : IsForest s) (k : ℕ) (xs : List IRNode) → ((x : IRNode) → Has xs x → deepest < depth_in s x + k) → Reads w s.kids (unread w s k xs)
 unread-reads w s f zero xs h = tt
 unread-reads w s f (suc k) xs h = row-reads w s (unread w s k) xs (λ x z.
     (let deep = λ (y : IRNode) (u : Has (taken (direction_of w x) (s.kids x)) y).
     (let p = h x z in
-    let q = f.deeper x y (f.kid_parent x y (Has-taken (direction_of w x) (s.kids x) y u)) in
-    let g : s.deepest < s.depth y + k = omega (arith, p, q) in g) in
+    let q = deeper s f x y (f.kid_parent x y (Has-taken (direction_of w x) (s.kids x) y u)) in
+    let g : deepest < depth_in s y + k = omega (arith, p, q) in g) in
     (unread-roots w s f k (taken (direction_of w x) (s.kids x)) deep, unread-reads w s f k (taken (direction_of w x) (s.kids x)) deep)))
 
 -- a place in a context's tree is at or below its root
@@ -70,16 +71,16 @@ place-below-kid s f c n i p e =
 
 -- the trees of xs as they stand in s, in any tree that agrees at what was not called
 abbrev pub rest_of : WalkConfig → Shape → List IRNode → Grove
-rest_of w s xs = unread w s (suc s.deepest) xs
+rest_of w s xs = unread w s (suc deepest) xs
 
 pub rest-roots : (w : WalkConfig) (s : Shape) (f : IsForest s) (xs : List IRNode) → roots (rest_of w s xs) ≡ xs
-rest-roots w s f xs = unread-roots w s f (suc s.deepest) xs (λ x h. omega arith)
+rest-roots w s f xs = unread-roots w s f (suc deepest) xs (λ x h. omega arith)
 
 pub rest-reads : (w : WalkConfig) (s : Shape) (f : IsForest s) (t : Tree) (ns : List IRNode) (xs : List IRNode)
     → ((m : IRNode) → (Has ns m → ⊥) → t m ≡ s.kids m) → ((c x : IRNode) → Has xs c → AtOrBelow s c x → Has ns x → ⊥) → Reads w t (rest_of w s xs)
 rest-reads w s f t ns xs new un =
     let g : Grove = rest_of w s xs in
-    let rd : Reads w s.kids g = unread-reads w s f (suc s.deepest) xs (λ x h. omega arith) in
+    let rd : Reads w s.kids g = unread-reads w s f (suc deepest) xs (λ x h. omega arith) in
     Reads-same w s.kids t g
     (λ n h. new n (λ z. (let u = flat-under w s.kids g n rd h in
     un u.0 n (subst (λ (v : List IRNode). Has v u.0) (rest-roots w s f xs) u.1) (place-below s f u.0 n u.2.0 u.2.1) z)))
@@ -90,7 +91,7 @@ pub rest-base : (w : WalkConfig) (s : Shape) (f : IsForest s) (t : Tree) (ns : L
     → ((c x : IRNode) → Has xs c → AtOrBelow s c x → s.kids x ≡ base x) → (n : IRNode) → Has (flat (rest_of w s xs)) n → t n ≡ base n
 rest-base w s f t ns base xs new un is n h =
     let g : Grove = rest_of w s xs in
-    let rd : Reads w s.kids g = unread-reads w s f (suc s.deepest) xs (λ x h. omega arith) in
+    let rd : Reads w s.kids g = unread-reads w s f (suc deepest) xs (λ x h. omega arith) in
     let u = flat-under w s.kids g n rd h in
     let c_in : Has xs u.0 = subst (λ (v : List IRNode). Has v u.0) (rest-roots w s f xs) u.1 in
     let b : AtOrBelow s u.0 n = place-below s f u.0 n u.2.0 u.2.1 in
@@ -139,8 +140,8 @@ unread-under w s f (suc k) xs n h = row-under w s f (unread w s k) xs (λ ys m z
 
 pub row-distinct : (w : WalkConfig) (s : Shape) (f : IsForest s) (g : List IRNode → Grove) (xs : List IRNode)
     → ((ys : List IRNode) (n : IRNode) → Has (flat (g ys)) n → (c : IRNode) × Has ys c × AtOrBelow s c n)
-    → ((ys : List IRNode) → Distinct ys → ((a b : IRNode) → Has ys a → Has ys b → s.depth a ≡ s.depth b) → Distinct (flat (g ys)))
-    → Distinct xs → ((a b : IRNode) → Has xs a → Has xs b → s.depth a ≡ s.depth b) → Distinct (flat (row w s g xs))
+    → ((ys : List IRNode) → Distinct ys → ((a b : IRNode) → Has ys a → Has ys b → depth_in s a ≡ depth_in s b) → Distinct (flat (g ys)))
+    → Distinct xs → ((a b : IRNode) → Has xs a → Has xs b → depth_in s a ≡ depth_in s b) → Distinct (flat (row w s g xs))
 row-distinct w s f g [] hu hd d e = tt
 row-distinct w s f g (x ∷ xs) hu hd d e =
     let ks : List IRNode = taken (direction_of w x) (s.kids x) in
@@ -150,26 +151,26 @@ row-distinct w s f g (x ∷ xs) hu hd d e =
     (let r = row-under w s f g xs hu n z in
     d.0 (subst (λ (v : IRNode). Has xs v) (sym (same-branch s f x r.0 n (e x r.0 (inl refl) (inr r.1)) b r.2)) r.1)) in
     grow-distinct x (order_of w x) (g ks) (row w s g xs)
-    (hd ks (Distinct-taken (direction_of w x) (s.kids x) (f.once x)) (λ a b i j. (let p = f.deeper x a (up a i) in let q = f.deeper x b (up b j) in omega (arith, p, q))))
+    (hd ks (Distinct-taken (direction_of w x) (s.kids x) (f.once x)) (λ a b i j. (let p = deeper s f x a (up a i) in let q = deeper s f x b (up b j) in omega (arith, p, q))))
     (row-distinct w s f g xs hu hd d.1 (λ a b i j. e a b (inr i) (inr j)))
     (λ z. not-below-itself s f x (under-x x z))
     (λ z. apart x (zero, refl) z)
     (λ n i j. apart n (IsBelow-AtOrBelow s x n (under-x n i)) j)
 
-pub unread-distinct : (w : WalkConfig) (s : Shape) (f : IsForest s) (k : ℕ) (xs : List IRNode) → Distinct xs → ((a b : IRNode) → Has xs a → Has xs b → s.depth a ≡ s.depth b) → Distinct (flat (unread w s k xs))
+pub unread-distinct : (w : WalkConfig) (s : Shape) (f : IsForest s) (k : ℕ) (xs : List IRNode) → Distinct xs → ((a b : IRNode) → Has xs a → Has xs b → depth_in s a ≡ depth_in s b) → Distinct (flat (unread w s k xs))
 unread-distinct w s f zero xs d e = tt
 unread-distinct w s f (suc k) xs d e =
     row-distinct w s f (unread w s k) xs (λ ys m z. unread-under w s f k ys m z) (λ ys p q. unread-distinct w s f k ys p q) d e
 
 -- the cursor, and what is still to be walked beside it, are apart and at one depth
 pub todo-beside : (w : WalkConfig) (s : Shape) (f : IsForest s) (base : Tree) (t : Tree) (r : IRNode) (ns : List IRNode) (path : Path) (c : IRNode) → Fits w s base t r ns path c
-    → Distinct (c ∷ todo_of path) × ((a : IRNode) → Has (c ∷ todo_of path) a → s.depth a ≡ s.depth c)
-todo-beside w s f base t r ns top c h = (Distinct-one c, λ a k. elim k [ inl e ↦ ap s.depth (sym e) | inr z ↦ absurd z ])
+    → Distinct (c ∷ todo_of path) × ((a : IRNode) → Has (c ∷ todo_of path) a → depth_in s a ≡ depth_in s c)
+todo-beside w s f base t r ns top c h = (Distinct-one c, λ a k. elim k [ inl e ↦ ap (depth_in s) (sym e) | inr z ↦ absurd z ])
 todo-beside w s f base t r ns (under a o d td u) c h = (
   Distinct-right (roots d) (c ∷ td) (frame-distinct w s f base t ns a o d td c h.0),
   λ x k. (let kd = frame-kid w s base t ns a o d td c h.0 x (Has-append_right (roots d) (c ∷ td) x k) in
-      let p = f.deeper a x (f.kid_parent a x kd) in
-      let q = f.deeper a c (frame-parent w s f base t ns a o d td c h.0) in
+      let p = deeper s f a x (f.kid_parent a x kd) in
+      let q = deeper s f a c (frame-parent w s f base t ns a o d td c h.0) in
       omega (arith, p, q)),
 )
 
@@ -177,20 +178,20 @@ pub rest-distinct : (w : WalkConfig) (s : Shape) (f : IsForest s) (base : Tree) 
     → Distinct (flat (rest_of w s (c ∷ todo_of path)))
 rest-distinct w s f base t r ns path c h =
     let z = todo-beside w s f base t r ns path c h in
-    unread-distinct w s f (suc s.deepest) (c ∷ todo_of path) z.0 (λ a b i j. z.1 a i ∙ sym (z.1 b j))
+    unread-distinct w s f (suc deepest) (c ∷ todo_of path) z.0 (λ a b i j. z.1 a i ∙ sym (z.1 b j))
 
 pub todo-distinct : (w : WalkConfig) (s : Shape) (f : IsForest s) (base : Tree) (t : Tree) (r : IRNode) (ns : List IRNode) (path : Path) (c : IRNode) → Fits w s base t r ns path c
     → Distinct (flat (rest_of w s (todo_of path)))
 todo-distinct w s f base t r ns path c h =
     let z = todo-beside w s f base t r ns path c h in
-    unread-distinct w s f (suc s.deepest) (todo_of path) z.0.1 (λ a b i j. z.1 a (inr i) ∙ sym (z.1 b (inr j)))
+    unread-distinct w s f (suc deepest) (todo_of path) z.0.1 (λ a b i j. z.1 a (inr i) ∙ sym (z.1 b (inr j)))
 
 -- what is still to be walked beside the cursor is not at or below it
 pub todo-apart : (w : WalkConfig) (s : Shape) (f : IsForest s) (base : Tree) (t : Tree) (r : IRNode) (ns : List IRNode) (path : Path) (c : IRNode) → Fits w s base t r ns path c
     → (x : IRNode) → AtOrBelow s c x → Has (flat (rest_of w s (todo_of path))) x → ⊥
 todo-apart w s f base t r ns path c h x b k =
     let z = todo-beside w s f base t r ns path c h in
-    let u = unread-under w s f (suc s.deepest) (todo_of path) x k in
+    let u = unread-under w s f (suc deepest) (todo_of path) x k in
     z.0.0 (subst (λ (v : IRNode). Has (todo_of path) v) (sym (same-branch s f c u.0 x (sym (z.1 u.0 (inr u.1))) b u.2)) u.1)
 
 -- What comes behind the cursor's trees: its nodes are apart, uncalled, and under none of those trees.
@@ -212,12 +213,12 @@ behind-up w s f base t r ns a o d td u c h rest b =
           b.once
           (λ n i j. elim (Has-append_cases (last o a) U n i) [
             | inl k ↦ b.outside n a j (inl refl) (zero, ap Some (sym (last-is o a n k).0))
-            | inr k ↦ (let z = unread-under w s f (suc s.deepest) (todo_of u) n k in b.outside n z.0 j (inr z.1) z.2)
+            | inr k ↦ (let z = unread-under w s f (suc deepest) (todo_of u) n k in b.outside n z.0 j (inr z.1) z.2)
           ]);
       uncalled = λ x k z. elim (where-is x k) [
         | inl i ↦ (let q = last-is o a x i in h.0.fresh q.1 (subst (λ (v : IRNode). Has ns v) (sym q.0) z))
         | inr y ↦ elim y [
-          | inl i ↦ (let q = unread-under w s f (suc s.deepest) (todo_of u) x i in ahead-of w s base t r ns u a h.1 q.0 x q.1 q.2 z)
+          | inl i ↦ (let q = unread-under w s f (suc deepest) (todo_of u) x i in ahead-of w s base t r ns u a h.1 q.0 x q.1 q.2 z)
           | inr i ↦ b.uncalled x i z
         ]
       ];
@@ -326,13 +327,13 @@ module _ {C S B : Type 0} (look : C → Shape) (w : WalkConfig) (base : Tree)
           at_base = z.5;
           once = subst (λ (v : List IRNode). Distinct v) (sym (z.4 ∙ ap (λ v. v ++ (flat g ++ z.3)) h.told))
               (all-apart s ns (c ∷ td) (flat g) z.3 h.distinct (rest-distinct w s f base t r ns h.path c h.fits)
-              (λ x k q. (let u = unread-under w s f (suc s.deepest) (c ∷ td) x k in elim u.1 [
+              (λ x k q. (let u = unread-under w s f (suc deepest) (c ∷ td) x k in elim u.1 [
                 | inl i ↦ h.fresh x (subst (λ (v : IRNode). AtOrBelow s v x) (sym i) u.2) q
                 | inr i ↦ ahead-of w s base t r ns h.path c h.fits u.0 x i u.2 q
               ]))
-              (λ x k. unread-under w s f (suc s.deepest) (c ∷ td) x k) z.6);
+              (λ x k. unread-under w s f (suc deepest) (c ∷ td) x k) z.6);
         },
-        Has-append_left (flat g) z.3 c (flat-root c (order_of w c) (unread w s s.deepest (taken (direction_of w c) (s.kids c))) (row w s (unread w s s.deepest) td)),
+        Has-append_left (flat g) z.3 c (flat-root c (order_of w c) (unread w s deepest (taken (direction_of w c) (s.kids c))) (row w s (unread w s deepest) td)),
       )
 
   pub opening-told : Opening look w base xs e r c → Told w (tree_read look w xs e) r (nodes_of xs) (AllPost w) base
@@ -346,7 +347,7 @@ module _ {C S B : Type 0} (look : C → Shape) (w : WalkConfig) (base : Tree)
       let U : Grove = rest_of w s ks in
       let V : Grove = rest_of w s td in
       let kid-up = λ (y : IRNode) (z : Has ks y). f.kid_parent c y (Has-taken (direction_of w c) (s.kids c) y z) in
-      let kid-under = λ (n : IRNode) (z : Has (flat U) n). (let u = unread-under w s f (suc s.deepest) ks n z in kid-below s c u.0 n (kid-up u.0 u.1) u.2) in
+      let kid-under = λ (n : IRNode) (z : Has (flat U) n). (let u = unread-under w s f (suc deepest) ks n z in kid-below s c u.0 n (kid-up u.0 u.1) u.2) in
       let tail-distinct : Distinct (last h.o c ++ flat V) = Distinct-append (last h.o c) (flat V) (last-distinct h.o c) (todo-distinct w s f base t r ns h.path c h.fits)
       (λ n i j. todo-apart w s f base t r ns h.path c h.fits n (zero, ap Some (sym (last-is h.o c n i).0)) j) in
       let g : Grove = grow c h.o U V in
@@ -371,8 +372,8 @@ module _ {C S B : Type 0} (look : C → Shape) (w : WalkConfig) (base : Tree)
         once = subst (λ (v : List IRNode). Distinct v) (sym (z.4 ∙ open-told (so_far h.path) (first h.o c) (flat U ++ (last h.o c ++ flat V)) z.3 ns h.told))
             (all-apart s ns (c ∷ td) (flat U ++ (last h.o c ++ flat V)) z.3 h.distinct
             (Distinct-append (flat U) (last h.o c ++ flat V)
-            (unread-distinct w s f (suc s.deepest) ks (Distinct-taken (direction_of w c) (s.kids c) (f.once c))
-            (λ a b i j. (let p = f.deeper c a (kid-up a i) in let q = f.deeper c b (kid-up b j) in omega (arith, p, q))))
+            (unread-distinct w s f (suc deepest) ks (Distinct-taken (direction_of w c) (s.kids c) (f.once c))
+            (λ a b i j. (let p = deeper s f c a (kid-up a i) in let q = deeper s f c b (kid-up b j) in omega (arith, p, q))))
             tail-distinct
             (λ n i j. elim (Has-append_cases (last h.o c) (flat V) n j) [
               | inl k ↦ not-below-itself s f c (subst (λ (v : IRNode). IsBelow s c v) (sym (last-is h.o c n k).0) (kid-under n i))
@@ -382,14 +383,14 @@ module _ {C S B : Type 0} (look : C → Shape) (w : WalkConfig) (base : Tree)
               | inl i ↦ h.fresh x (kid-under x i) q
               | inr i ↦ elim (Has-append_cases (last h.o c) (flat V) x i) [
                 | inl j ↦ (let y = last-is h.o c x j in h.post_fresh y.1 (subst (λ (v : IRNode). Has ns v) (sym y.0) q))
-                | inr j ↦ (let y = unread-under w s f (suc s.deepest) td x j in ahead-of w s base t r ns h.path c h.fits y.0 x y.1 y.2 q)
+                | inr j ↦ (let y = unread-under w s f (suc deepest) td x j in ahead-of w s base t r ns h.path c h.fits y.0 x y.1 y.2 q)
               ]
             ])
             (λ x k. elim (Has-append_cases (flat U) (last h.o c ++ flat V) x k) [
               | inl i ↦ (c, inl refl, IsBelow-AtOrBelow s c x (kid-under x i))
               | inr i ↦ elim (Has-append_cases (last h.o c) (flat V) x i) [
                 | inl j ↦ (c, inl refl, (zero, ap Some (sym (last-is h.o c x j).0)))
-                | inr j ↦ (let y = unread-under w s f (suc s.deepest) td x j in (y.0, inr y.1, y.2))
+                | inr j ↦ (let y = unread-under w s f (suc deepest) td x j in (y.0, inr y.1, y.2))
               ]
             ]) z.6);
       }
@@ -425,11 +426,11 @@ module _ {C S B : Type 0} (look : C → Shape) (w : WalkConfig) (base : Tree)
               (λ n i j. todo-apart w s f base t r ns h.path c h.fits n (zero, ap Some (sym (last-is h.o c n i).0)) j))
               (λ x k q. elim (Has-append_cases (last h.o c) (flat V) x k) [
                 | inl j ↦ (let y = last-is h.o c x j in h.post_fresh y.1 (subst (λ (v : IRNode). Has ns v) (sym y.0) q))
-                | inr j ↦ (let y = unread-under w s f (suc s.deepest) td x j in ahead-of w s base t r ns h.path c h.fits y.0 x y.1 y.2 q)
+                | inr j ↦ (let y = unread-under w s f (suc deepest) td x j in ahead-of w s base t r ns h.path c h.fits y.0 x y.1 y.2 q)
               ])
               (λ x k. elim (Has-append_cases (last h.o c) (flat V) x k) [
                 | inl j ↦ (c, inl refl, (zero, ap Some (sym (last-is h.o c x j).0)))
-                | inr j ↦ (let y = unread-under w s f (suc s.deepest) td x j in (y.0, inr y.1, y.2))
+                | inr j ↦ (let y = unread-under w s f (suc deepest) td x j in (y.0, inr y.1, y.2))
               ]) z.6);
         },
         Has-append_left (last h.o c ++ flat V) z.3 c (Has-append_left (last h.o c) (flat V) c (last-has h.o c ho)),
@@ -463,8 +464,8 @@ module _ {C S B : Type 0} (look : C → Shape) (w : WalkConfig) (base : Tree)
         at_base = z.5;
         once = subst (λ (v : List IRNode). Distinct v) (sym told)
             (all-apart s ns (c ∷ td) (flat V) z.3 h.distinct (todo-distinct w s f base t r ns h.path c h.fits)
-            (λ x j q. (let y = unread-under w s f (suc s.deepest) td x j in ahead-of w s base t r ns h.path c h.fits y.0 x y.1 y.2 q))
-            (λ x j. (let y = unread-under w s f (suc s.deepest) td x j in (y.0, inr y.1, y.2))) z.6);
+            (λ x j q. (let y = unread-under w s f (suc deepest) td x j in ahead-of w s base t r ns h.path c h.fits y.0 x y.1 y.2 q))
+            (λ x j. (let y = unread-under w s f (suc deepest) td x j in (y.0, inr y.1, y.2))) z.6);
       }
     where
       shut-told : (x y u z ns : List IRNode) → x ++ y ≡ ns → x ++ ((y ++ u) ++ z) ≡ ns ++ (u ++ z)
@@ -488,6 +489,6 @@ module _ {C S B : Type 0} (look : C → Shape) (w : WalkConfig) (base : Tree)
         refl,
       )
       go (under a o d td u) fits told =
-          let p = f.deeper a c (frame-parent w (look e) f base (tree_read look w xs e) (nodes_of xs) a o d td c fits.0) in
+          let p = deeper (look e) f a c (frame-parent w (look e) f base (tree_read look w xs e) (nodes_of xs) a o d td c fits.0) in
           let k = path-depth w (look e) f base (tree_read look w xs e) r (nodes_of xs) u a fits.1 in
-          absurd (omega (arith, p, k, ap (look e).depth q))
+          absurd (omega (arith, p, k, ap (depth_in (look e)) q))

@@ -1,8 +1,10 @@
 pub mod ListLemmas
 pub mod Nodes
 pub mod Groves
+pub mod Slots
 pub mod View
 pub mod ListLinks
+pub mod Heights
 pub mod Climbs
 pub mod Steps
 pub mod Stages
@@ -20,7 +22,6 @@ pub mod Reading
 pub mod Advancing
 pub mod Orders
 pub mod Lawfulness
-pub mod BlockEdits
 pub mod NameLists
 pub mod NamesUnderKey
 pub mod NamedStores

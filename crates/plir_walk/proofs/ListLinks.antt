@@ -5,17 +5,50 @@ use Rattle.std.proofs.lemmas.Bool.Decides.{eqb_tells}
 use Rattle.std.proofs.lemmas.List.{reverse-append, map-append}
 use Rattle.plir_store.specs.Lists.{Lists, In, Apart, first_of, last_from, last_of, next_in, prev_in, next_of, prev_of, next_under, prev_under, kids_at, parent_at}
 use Rattle.plir_store.specs.Table.{Table, is_live_at}
-use Rattle.plir_store.proofs.Members.{Cut, cut, Apart-mid_left}
 use Rattle.plir_core.specs.declared.ptr.Ptr.{Ptr}
 use Rattle.plir_core.specs.declared.ptr.IRNode.{IRNode}
 use Rattle.plir_core.specs.declared.ptr.IRNode.TheVariants.{Operation, Region, BasicBlock}
-use Rattle.plir_core.specs.NodeLists.{Distinct, head}
+use Rattle.plir_core.specs.NodeLists.{Has, Distinct, head}
 use Rattle.plir_core.specs.Nodes.{Nodes, ptr_at, is_node_live, node_kids, node_parent, node_first, node_last, node_next, node_prev, op_node, block_node, region_node}
 use Rattle.plir_core.specs.Forest.{IsListing, IsForest}
-use Rattle.plir_core.proofs.Facts.{Distinct-map, live_at, ptr_is}
 use Rattle.plir_walk.specs.Tree.{after}
 use Rattle.plir_walk.proofs.Nodes.{same_tells, after-at}
+use Rattle.plir_walk.proofs.Slots.{live_at, ptr_is}
 use Rattle.plir_walk.proofs.Steps.{Distinct-reverse}
+
+-- a list of numbers cut at one of them
+record Cut (x : ℕ) (xs : List ℕ) : Type 0 where
+  front : List ℕ
+  back : List ℕ
+  whole : xs ≡ front ++ x ∷ back
+
+cut : (x : ℕ) (xs : List ℕ) → In x xs → Cut x xs
+cut x [] i = absurd i
+cut x (z ∷ zs) (inl e) = record { front = []; back = zs; whole = ap (λ w. w ∷ zs) (sym e) }
+cut x (z ∷ zs) (inr j) = (let t = cut x zs j in record { front = z ∷ t.front; back = t.back; whole = ap (λ ws. z ∷ ws) t.whole })
+
+-- what stands once does not stand before itself
+not-before : (c : ℕ) (xs ys : List ℕ) → Apart (xs ++ c ∷ ys) → In c xs → ⊥
+not-before c [] ys a i = i
+not-before c (x ∷ xs) ys a (inl e) = a.0 (subst (λ z. In z (xs ++ c ∷ ys)) e (mid xs))
+  where
+    mid : (zs : List ℕ) → In c (zs ++ c ∷ ys)
+    mid [] = inl refl
+    mid (z ∷ zs) = inr (mid zs)
+not-before c (x ∷ xs) ys a (inr i) = not-before c xs ys a.1 i
+
+-- the images of different numbers
+Has-map : {A : Type 0} (f : ℕ → A) (xs : List ℕ) (a : A) → Has (map f xs) a → (i : ℕ) × In i xs × (f i ≡ a)
+Has-map f [] a h = absurd h
+Has-map f (x ∷ xs) a (inl e) = (x, inl refl, e)
+Has-map f (x ∷ xs) a (inr k) = (let r = Has-map f xs a k in (r.0, inr r.1, r.2))
+
+Distinct-map : {A : Type 0} (f : ℕ → A) → ((i j : ℕ) → f i ≡ f j → i ≡ j) → (xs : List ℕ) → Apart xs → Distinct (map f xs)
+Distinct-map f one [] a = tt
+Distinct-map f one (x ∷ xs) a = (
+  λ h. (let r = Has-map f xs (f x) h in a.0 (subst (λ z. In z xs) (one r.0 x r.2) r.1)),
+  Distinct-map f one xs a.1,
+)
 
 -- the first of the two that is there
 abbrev pub first_or : {A : Type 0} → Option A → Option A → Option A
@@ -66,7 +99,7 @@ module _ (f : ℕ → IRNode) (one : (i j : ℕ) → f i ≡ f j → i ≡ j) wh
       let apart : Distinct (reverse bs ++ f c ∷ reverse fs) = subst (λ (v : List IRNode). Distinct v) turned (Distinct-reverse (map f xs) (Distinct-map f one xs d)) in
       let d' : Apart (k.front ++ c ∷ k.back) = subst (λ (v : List ℕ). Apart v) k.whole d in
       ap (after (f c)) turned ∙ (after-at (reverse bs) (f c) (reverse fs) apart
-      ∙ (last-map f k.front ∙ sym (ap (option_map f) (ap (λ (v : List ℕ). prev_in None v c) k.whole ∙ prev-cut c k.front k.back None (Apart-mid_left c k.front k.back d')))))
+      ∙ (last-map f k.front ∙ sym (ap (option_map f) (ap (λ (v : List ℕ). prev_in None v c) k.whole ∙ prev-cut c k.front k.back None (not-before c k.front k.back d')))))
     where
       turn : (fs : List IRNode) (c : IRNode) (bs : List IRNode) → reverse (fs ++ c ∷ bs) ≡ reverse bs ++ c ∷ reverse fs
       turn fs c bs = reverse-append fs (c ∷ bs) ∙ (ap (λ (v : List IRNode). v ++ reverse fs) (reverse-append (c ∷ []) bs) ∙ append_assoc (reverse bs) (c ∷ []) (reverse fs))

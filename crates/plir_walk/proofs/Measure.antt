@@ -10,6 +10,7 @@ use Rattle.plir_walk.specs.declared.config.WalkConfig.{WalkConfig}
 use Rattle.plir_core.specs.declared.ptr.IRNode.{IRNode}
 use Rattle.plir_walk.proofs.Groves.{Has-taken}
 use Rattle.plir_walk.proofs.Nodes.{same_tells}
+use Rattle.plir_walk.proofs.Heights.{bounded, deepest-is, deeper, depth_in}
 
 -- Between two calls a walk goes up, from PreOrder nodes that it leaves, and then down, into PostOrder nodes.
 abbrev pub part_at : Order → ℕ → Bool → ℕ
@@ -19,7 +20,7 @@ part_at PostOrder d true = 0x200_0000_0000 - d
 part_at PostOrder d false = 0
 
 abbrev pub part : WalkConfig → Shape → IRNode → Bool → ℕ
-part w s c en = part_at (order_of w c) (s.depth c) en
+part w s c en = part_at (order_of w c) (depth_in s c) en
 
 abbrev pub size_of : WalkConfig → Shape → ℕ → IRNode → Bool → ℕ
 size_of w s left c en = left * 0x1000_0000_0000 + part w s c en
@@ -50,11 +51,11 @@ after-Has (x ∷ xs) c n h = elim (same_tells x c) [
 ]
 
 module _ (w : WalkConfig) (s : Shape) (f : IsForest s) where
-  pub small : (n : IRNode) → s.depth n ≤ 2 ^ 40
-  small n = (let p = f.bounded n in let q = f.small in omega (arith, p, q))
+  pub small : (n : IRNode) → depth_in s n ≤ 2 ^ 40
+  small n = (let p = bounded s n in let q = deepest-is in omega (arith, p, q))
 
-  pub kid-depth : (a k : IRNode) → Has (taken (direction_of w a) (s.kids a)) k → s.depth k ≡ s.depth a + 1
-  kid-depth a k h = f.deeper a k (f.kid_parent a k (Has-taken (direction_of w a) (s.kids a) k h))
+  pub kid-depth : (a k : IRNode) → Has (taken (direction_of w a) (s.kids a)) k → depth_in s k ≡ depth_in s a + 1
+  kid-depth a k h = deeper s f a k (f.kid_parent a k (Has-taken (direction_of w a) (s.kids a) k h))
 
   pub down-smaller : (c : IRNode) (o : Option IRNode) (n : IRNode) (en : Bool) → order_of w c ≡ PostOrder → first_of w s c ≡ o → enter_or_leave o c ≡ (n, en) → part w s n en < part w s c true
   down-smaller c None n en d e z =
@@ -62,20 +63,20 @@ module _ (w : WalkConfig) (s : Shape) (f : IsForest s) where
       subst (λ (v : IRNode × Bool). part w s v.0 v.1 < part w s c true) z g
   down-smaller c (Some k) n en d e z =
       let p = kid-depth c k (head-Has (taken (direction_of w c) (s.kids c)) k e) in
-      let q = part-entering (order_of w k) (s.depth k) in
+      let q = part-entering (order_of w k) (depth_in s k) in
       let m = small k in
       let g : part w s k true < part w s c true = (rw d (omega (arith, p, q, m))) in
       subst (λ (v : IRNode × Bool). part w s v.0 v.1 < part w s c true) z g
 
   pub up-smaller : (c a : IRNode) (o : Option IRNode) (n : IRNode) (en : Bool) → order_of w c ≡ PreOrder → s.parent c ≡ Some a → after c (taken (direction_of w a) (s.kids a)) ≡ o → enter_or_leave o a ≡ (n, en) → part w s n en < part w s c false
   up-smaller c a None n en d u e z =
-      let p = f.deeper a c u in
-      let q = part-leaving (order_of w a) (s.depth a) in
+      let p = deeper s f a c u in
+      let q = part-leaving (order_of w a) (depth_in s a) in
       let g : part w s a false < part w s c false = (rw d (omega (arith, p, q))) in
       subst (λ (v : IRNode × Bool). part w s v.0 v.1 < part w s c false) z g
   up-smaller c a (Some k) n en d u e z =
       let p = kid-depth a k (after-Has (taken (direction_of w a) (s.kids a)) c k e) in
-      let q = part-entering (order_of w k) (s.depth k) in
+      let q = part-entering (order_of w k) (depth_in s k) in
       let m = small k in
       let g : part w s k true < part w s c false = (rw d (omega (arith, p, q, m))) in
       subst (λ (v : IRNode × Bool). part w s v.0 v.1 < part w s c false) z g
@@ -108,7 +109,7 @@ module _ (w : WalkConfig) (s : Shape) (f : IsForest s) where
 
 -- a step with a call
 pub called-smaller : (w : WalkConfig) (s s' : Shape) (f' : IsForest s') (c n : IRNode) (en en' : Bool) (left left' : ℕ) → left ≡ left' + 1 → size_of w s' left' n en' < size_of w s left c en
-called-smaller w s s' f' c n en en' left left' h = (let p = part-bound (order_of w n) (s'.depth n) en' (small w s' f' n) in rw h (omega (arith, p)))
+called-smaller w s s' f' c n en en' left left' h = (let p = part-bound (order_of w n) (depth_in s' n) en' (small w s' f' n) in rw h (omega (arith, p)))
 
 -- a step with no call, over the values that a loop has after its branches
 pub moved-smaller-as : {C : Type 0} (look : C → Shape) (w : WalkConfig)

@@ -2,7 +2,6 @@
 use Rattle.std.proofs.Common.{◌≡◌, ℕ, zero, suc, List, [], ◌∷◌, Option, Some, None, IsSome, slice_set, refl, sym, ap, subst, ◌∙◌}
 use Rattle.std.proofs.lemmas.List.{set-get_or}
 use Rattle.plir_store.specs.Table.{Table, Cell, no_cell, content_at, version_at, with_content}
-use Rattle.plir_store.proofs.Tables.{cell_at-with_content}
 use Rattle.plir_data.specs.AttrView.{AttrView}
 use Rattle.plir_core.specs.declared.ptr.Ptr.{Ptr}
 use Rattle.plir_core.specs.declared.ptr.Operation.{Operation as OperationKind}
@@ -13,19 +12,14 @@ use Rattle.plir_core.specs.declared.value.DefiningEntity.TheVariants.{Op, Block}
 use Rattle.plir_core.specs.Contents.{OpView, BlockView}
 use Rattle.plir_core.specs.Store.{Store, IsLive, entity_node, op_at, block_at, attributes_in, block_attributes_in}
 use Rattle.plir_core.specs.Changes.{with_op_content, with_block_content, op_edited, block_edited, with_op_edit, with_block_edit}
-use Rattle.plir_core.proofs.Listing.{within_content}
-use Rattle.plir_core.proofs.Holds.{version_held, live_held}
 use Rattle.plir_walk.specs.GivenNames.{attributes_at, with_attributes}
+use Rattle.plir_walk.proofs.Slots.{content-here, version-kept, live-kept}
 
 module _ {C : Type 0} (t : Table C) (i : ℕ) where
-  -- what was written is there
-  pub content-here : (v : C) → IsSome (content_at t i) → content_at (with_content t i v) i ≡ Some v
-  content-here v some = ap (λ (c : Cell C). c.content) (cell_at-with_content t i v (within_content t i some))
-
   -- of two writes the second stays
   pub content-again : (v w : C) → IsSome (content_at t i) → with_content (with_content t i v) i w ≡ with_content t i w
   content-again v w some =
-      ap (λ n. record t { slots = slice_set (slice_set t.slots i (record { version = version_at t i; content = Some v })) i (record { version = n; content = Some w }) }) (version_held t i v some i)
+      ap (λ n. record t { slots = slice_set (slice_set t.slots i (record { version = version_at t i; content = Some v })) i (record { version = n; content = Some w }) }) (version-kept t i v some i)
       ∙ ap (λ l. record t { slots = l }) (set-twice t.slots i _ _)
     where
       set-twice : (xs : List (Cell C)) (k : ℕ) (a b : Cell C) → slice_set (slice_set xs k a) k b ≡ slice_set xs k b
@@ -99,12 +93,12 @@ module _ {K A T : Type 0} (s : Store K A T) where
     where
       go : (o : Option (OpView K A)) → op_at s p ≡ o → IsLive (op_edited s p.slot (λ v. record v { attributes = f v.attributes }) o) (Operation p)
       go None q = l
-      go (Some v) q = live_held s.nodes.ops p.slot (record v { attributes = f v.attributes }) (some-of s.nodes.ops p.slot v q) p.slot p.version l
+      go (Some v) q = live-kept s.nodes.ops p.slot (record v { attributes = f v.attributes }) (some-of s.nodes.ops p.slot v q) p.slot p.version l
   attributes-live (Block p) f l = go (block_at s p) refl
     where
       go : (o : Option (BlockView A)) → block_at s p ≡ o → IsLive (block_edited s p.slot (λ v. record v { attributes = f v.attributes }) o) (BasicBlock p)
       go None q = l
-      go (Some v) q = live_held s.nodes.blocks p.slot (record v { attributes = f v.attributes }) (some-of s.nodes.blocks p.slot v q) p.slot p.version l
+      go (Some v) q = live-kept s.nodes.blocks p.slot (record v { attributes = f v.attributes }) (some-of s.nodes.blocks p.slot v q) p.slot p.version l
 
   -- the attributes are what the edit made of them, where there were any
   pub attributes-after : (e : DefiningEntity) (f : Attributes → Attributes) → (attributes_at s e ≡ [] → ⊥) → attributes_at (with_attributes s e f) e ≡ f (attributes_at s e)

@@ -4,8 +4,7 @@ use Rattle.std.proofs.lemmas.Cmp.{nat_list_cmp_total}
 use Rattle.std.proofs.lemmas.Option.{same_Some, none-some}
 use Rattle.std.specs.Ordering.{match_ordering, ordering_reverse, is_eq}
 use Rattle.std.specs.Cmp.Lexicographic.{slice_cmp}
-use Rattle.plir_data.specs.Dictionary.{dict_get, dict_put, dict_without, is_key, IsDictionary}
-use Rattle.plir_data.proofs.Dictionaries.{dict_with, with_is_put}
+use Rattle.plir_data.specs.Dictionary.{dict_get, dict_put, dict_without, is_key, IsBelowAll, IsDictionary}
 
 same-key : (k : List ℕ) → slice_cmp nat_cmp k k ≡ Equal
 same-key k = by (slice_cmp nat_cmp k k) (nat_list_cmp_total.antisymm k k)
@@ -16,6 +15,32 @@ same-key k = by (slice_cmp nat_cmp k k) (nat_list_cmp_total.antisymm k k)
     by Greater e = absurd (let z : ⊥ = cc (e) in z)
 
 module _ {V : Type 0} where
+  -- the entries with v in place of what stands under a key
+  abbrev dict_with : List (List ℕ × V) → List ℕ → V → List (List ℕ × V)
+  dict_with [] k v = []
+  dict_with (e ∷ es) k v = cond (is_key k e.0) ((e.0, v) ∷ es) (e ∷ dict_with es k v)
+
+  -- a key before another is before all that the other is before
+  below-all : (es : List (List ℕ × V)) (k l : List ℕ) → slice_cmp nat_cmp k l ≡ Less → IsBelowAll l es → IsBelowAll k es
+  below-all [] k l less below = tt
+  below-all (e ∷ es) k l less below = (nat_list_cmp_total.trans k l e.0 less below.0, below-all es k l less below.1)
+
+  none-below : (es : List (List ℕ × V)) (k : List ℕ) → IsBelowAll k es → dict_get es k ≡ None
+  none-below [] k below = refl
+  none-below (e ∷ es) k below = ap (λ o. cond (is_eq o) (Some e.1) (dict_get es k)) below.0 ∙ none-below es k below.1
+
+  -- where the key is there, that is to put v under it
+  with_is_put : (es : List (List ℕ × V)) (k : List ℕ) (v : V) → IsDictionary es → IsSome (dict_get es k) → dict_with es k v ≡ dict_put es k v
+  with_is_put [] k v d some = cc
+  with_is_put (e ∷ es) k v d some = by (slice_cmp nat_cmp k e.0) refl (with_is_put es k v d.2)
+    where
+      by : (o : Ordering) → slice_cmp nat_cmp k e.0 ≡ o → (IsSome (dict_get es k) → dict_with es k v ≡ dict_put es k v) → cond (is_eq o) ((e.0, v) ∷ es) (e ∷ dict_with es k v) ≡ match_ordering o ((k, v) ∷ e ∷ es) ((e.0, v) ∷ es) (e ∷ dict_put es k v)
+      by Less is rest =
+          let none : dict_get (e ∷ es) k ≡ None = ap (λ o. cond (is_eq o) (Some e.1) (dict_get es k)) is ∙ none-below es k (below-all es k e.0 is d.1) in
+          absurd (let z : ⊥ = cc (some, none) in z)
+      by Equal is rest = refl
+      by Greater is rest = ap (λ l. e ∷ l) (rest (subst (λ o. IsSome (cond (is_eq o) (Some e.1) (dict_get es k))) is some))
+
   -- of two values put under a key the second stays
   pub put-put : (es : List (List ℕ × V)) (k : List ℕ) (u v : V) → dict_put (dict_put es k u) k v ≡ dict_put es k v
   put-put [] k u v = ap (λ o. match_ordering o ((k, v) ∷ (k, u) ∷ []) ((k, v) ∷ []) ((k, u) ∷ (k, v) ∷ [])) (same-key k)

@@ -11,7 +11,7 @@ use Rattle.plir_walk.specs.Laws.{BeforeOrders, PostReverseIsPreForwardReversed, 
 use Rattle.plir_walk.specs.Lists.{Pairs}
 use Rattle.plir_core.specs.NodeLists.{Distinct, Has}
 use Rattle.plir_walk.specs.Tree.{Before, Earlier, NodeBefore, Place, Tree, node_at}
-use Rattle.plir_walk.specs.Walked.{AtLive, WalkedOver}
+use Rattle.plir_walk.specs.Walked.{IsCallUnder, WalkedOver}
 use Rattle.plir_walk.specs.declared.config.Direction.{Direction}
 use Rattle.plir_walk.specs.declared.config.Direction.TheVariants.{Forward, Reverse}
 use Rattle.plir_walk.specs.declared.config.Order.{Order}
@@ -206,8 +206,8 @@ once look w plain c s r s' h =
           λ u. (h.walk.answers.2 n).1 (
             u,
             λ o.
-                (let k = Chain-each (AtLive look (Advancing plain)) c s h.calls c s' h.chain o.skipped.0 o.skipped.1 in
-                let e = sym k.1.0 ∙ o.skipped.3 in
+                (let k = Chain-each (IsCallUnder look r (Advancing plain)) c s h.calls c s' h.chain o.skipped.0 o.skipped.1 in
+                let e = sym k.made.0 ∙ o.skipped.3 in
                 let z : ⊥ = cc e in z),
           ),
         );

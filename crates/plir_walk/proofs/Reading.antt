@@ -15,9 +15,9 @@ module _ {F C S B : Type 0} (look : C → Shape) (w : WalkConfig) (g : Shared F 
   pub walked-over : (c : C) (s : S) (r : IRNode) (limit : ℕ) (a : ControlFlow B WalkContinue) (s' : S)
       → Walked look w (ReadsBack g f) c s r limit (Ok a) c s' → WalkedOver look w (ReadsBack g f) c s r a s'
   walked-over c s r limit a s' h =
-      let over = h.unchanged (λ d s n a d' s' v p. record { live = λ m. ap (λ z. (look z).live m) p.stays; kids = λ m. ap (λ z. (look z).kids m) p.stays }) in
+      let over = h.unchanged (λ d s n a d' s' p. record { live = λ m. ap (λ z. (look z).live m) p.made.stays; kids = λ m. ap (λ z. (look z).kids m) p.made.stays }) in
       record { calls = h.calls; chain = h.chain; walk = record { in_order = over.in_order; answers = over.answers } }
 
 module _ {F C S B : Type 0} (look : C → Shape) (g : Shared F (Bor C × (MutBor S × (IRNode × Unit {0}))) (ControlFlow B WalkContinue × (MutBor S × Unit {0}))) (f : F) where
-  pub reads-lawful : IsLawful look (ReadsBack g f)
-  reads-lawful d s n a d' s' v p = unchanged-lawful (look d) (look d') n (ap look p.stays)
+  pub reads-lawful : (r : IRNode) → IsLawful look r (ReadsBack g f)
+  reads-lawful r d s n a d' s' p = unchanged-lawful (look d) (look d') n (ap look p.made.stays)

@@ -12,8 +12,8 @@ use Rattle.plir_core.specs.NodeLists.{Has, Distinct}
 use Rattle.plir_core.specs.Contents.{OpView, BlockView}
 use Rattle.plir_core.specs.Nodes.{region_node}
 use Rattle.plir_core.specs.Store.{Store, is_live, given_out, kids, parent_of}
-use Rattle.plir_core.proofs.Holds.{held_cases, version_held}
-use Rattle.plir_walk.proofs.NamedStores.{content-here, edit_in, edited}
+use Rattle.plir_walk.proofs.NamedStores.{edit_in, edited}
+use Rattle.plir_walk.proofs.Slots.{content-here, content-other, version-kept, full-kept}
 
 -- the same slots hold something, under the same versions
 pub record SameSlots {C : Type 0} (t u : Table C) : Type 0 where
@@ -24,18 +24,12 @@ module _ {C : Type 0} (t : Table C) (i : ℕ) (f : C → C) where
   some-content : (v : C) → content_at t i ≡ Some v → IsSome (content_at t i)
   some-content v e = subst IsSome (sym e) refl
 
-  edited-slots : SameSlots t (edited t i f)
+  pub edited-slots : SameSlots t (edited t i f)
   edited-slots = go (content_at t i) refl
     where
-      full : (v : C) → content_at t i ≡ Some v → (j : ℕ) → is_some (content_at (with_content t i (f v)) j) ≡ is_some (content_at t j)
-      full v e j = elim (held_cases t i (f v) (some-content v e) j) [
-        | inl q ↦ ap is_some q.1 ∙ sym (ap is_some (ap (content_at t) q.0 ∙ e))
-        | inr q ↦ ap is_some q
-      ]
-
       go : (o : Option C) → content_at t i ≡ o → SameSlots t (edit_in t i f o)
       go None e = record { versions = λ j. refl; full = λ j. refl }
-      go (Some v) e = record { versions = version_held t i (f v) (some-content v e); full = full v e }
+      go (Some v) e = record { versions = version-kept t i (f v) (some-content v e); full = full-kept t i (f v) (some-content v e) }
 
   edited-here : content_at (edited t i f) i ≡ option_map f (content_at t i)
   edited-here = go (content_at t i) refl
@@ -49,7 +43,7 @@ module _ {C : Type 0} (t : Table C) (i : ℕ) (f : C → C) where
     where
       go : (o : Option C) → content_at t i ≡ o → content_at (edit_in t i f o) j ≡ content_at t j
       go None e = refl
-      go (Some v) e = elim (held_cases t i (f v) (some-content v e) j) [ inl q ↦ absurd (ne q.0) | inr q ↦ q ]
+      go (Some v) e = content-other t i (f v) (some-content v e) j ne
 
 -- the contents of some slots are edited one after another
 unfoldable pub refilled : {C : Type 0} → Table C → (C → C) → List ℕ → Table C

@@ -10,6 +10,7 @@ use Rattle.plir_walk.proofs.Endings.{rest_of, row, unread}
 use Rattle.plir_walk.proofs.Groves.{Grove, Has-taken, grow, leaf}
 use Rattle.plir_walk.proofs.Nodes.{same_tells}
 use Rattle.plir_walk.proofs.Steps.{Distinct-taken}
+use Rattle.plir_walk.proofs.Heights.{bounded, deepest, deeper, depth_in}
 
 -- How many steps a walk with no call that changes anything still makes: two for each node that is still to be entered,
 -- and one for each that is still to be left.
@@ -66,7 +67,7 @@ module _ (w : WalkConfig) (s : Shape) where
   above_to (suc k) n = above_by (above_to k) n (s.parent n)
 
   abbrev pub above : IRNode → ℕ
-  above n = above_to (s.depth n) n
+  above n = above_to (depth_in s n) n
 
   abbrev pub left_at : IRNode → Bool → ℕ
   left_at n true = steps_at (n ∷ []) + above n
@@ -80,12 +81,12 @@ module _ (w : WalkConfig) (s : Shape) (f : IsForest s) where
   row-same g h [] e = refl
   row-same g h (x ∷ xs) e = (let p = e x (inl refl) in let q = row-same g h xs (λ y k. e y (inr k)) in rw (p, q) refl)
 
-  pub kids-deeper : (n k : IRNode) → Has (taken (direction_of w n) (s.kids n)) k → s.depth k ≡ s.depth n + 1
-  kids-deeper n k h = f.deeper n k (f.kid_parent n k (Has-taken (direction_of w n) (s.kids n) k h))
+  pub kids-deeper : (n k : IRNode) → Has (taken (direction_of w n) (s.kids n)) k → depth_in s k ≡ depth_in s n + 1
+  kids-deeper n k h = deeper s f n k (f.kid_parent n k (Has-taken (direction_of w n) (s.kids n) k h))
 
-  pub unread-more : (k : ℕ) (xs : List IRNode) → ((x : IRNode) → Has xs x → s.deepest < s.depth x + k) → unread w s k xs ≡ unread w s (suc k) xs
+  pub unread-more : (k : ℕ) (xs : List IRNode) → ((x : IRNode) → Has xs x → deepest < depth_in s x + k) → unread w s k xs ≡ unread w s (suc k) xs
   unread-more zero [] h = refl
-  unread-more zero (x ∷ xs) h = absurd (let p = h x (inl refl) in let q = f.bounded x in omega (arith, p, q))
+  unread-more zero (x ∷ xs) h = absurd (let p = h x (inl refl) in let q = bounded s x in omega (arith, p, q))
   unread-more (suc k) xs h = row-same (unread w s k) (unread w s (suc k)) xs (λ x z. unread-more k (taken (direction_of w x) (s.kids x))
       (λ y u. (let p = h x z in let q = kids-deeper x y u in omega (arith, p, q))))
 
@@ -94,12 +95,12 @@ module _ (w : WalkConfig) (s : Shape) (f : IsForest s) where
 
   pub steps-kids : (n : IRNode) → steps_at w s (n ∷ []) ≡ 2 + steps_at w s (taken (direction_of w n) (s.kids n))
   steps-kids n =
-      let e = unread-more s.deepest (taken (direction_of w n) (s.kids n)) (λ y u. (let q = kids-deeper n y u in omega (arith, q))) in
+      let e = unread-more deepest (taken (direction_of w n) (s.kids n)) (λ y u. (let q = kids-deeper n y u in omega (arith, q))) in
       let g = ap steps_in e in omega (arith, g)
 
   pub above-is : (n a : IRNode) → s.parent n ≡ Some a → above w s n ≡ steps_at w s (behind n (taken (direction_of w a) (s.kids a))) + (1 + above w s a)
   above-is n a h =
-      let e : s.depth n ≡ suc (s.depth a) = (let p = f.deeper a n h in omega (arith, p)) in
+      let e : depth_in s n ≡ suc (depth_in s a) = (let p = deeper s f a n h in omega (arith, p)) in
       rw e (rw h refl)
 
   pub enter-smaller : (n : IRNode) (ks : List IRNode) (m : IRNode) (en : Bool) → taken (direction_of w n) (s.kids n) ≡ ks → enter_or_leave (head ks) n ≡ (m, en) → left_at w s m en < left_at w s n true

@@ -3,14 +3,14 @@ use Rattle.std.proofs.lemmas.List.{append-nil}
 use Rattle.plir_walk.specs.AsRead.{kids_at, kids_by, tree_read}
 use Rattle.plir_walk.specs.Calls.{Call, nodes_of}
 use Rattle.plir_walk.specs.Config.{AllPost, direction_of, order_of}
-use Rattle.plir_walk.specs.Forest.{AtOrBelow, IsBelow, IsForest, Shape}
+use Rattle.plir_walk.specs.Forest.{IsBelow, IsForest, Shape}
 use Rattle.plir_core.specs.NodeLists.{Distinct, Has, head}
 use Rattle.plir_walk.specs.Tree.{Tree, after, same, taken}
 use Rattle.plir_walk.specs.declared.config.Order.{Order}
 use Rattle.plir_walk.specs.declared.config.Order.TheVariants.{PostOrder, PreOrder}
 use Rattle.plir_walk.specs.declared.config.WalkConfig.{WalkConfig}
 use Rattle.plir_core.specs.declared.ptr.IRNode.{IRNode}
-use Rattle.plir_walk.proofs.Climbs.{IsBelow-AtOrBelow, kid-below}
+use Rattle.plir_walk.proofs.Climbs.{AtOrBelow, IsBelow-AtOrBelow, kid-below}
 use Rattle.plir_walk.proofs.Groves.{Grove, Has-taken, Reads, Reads-beside, beside, first, flat, flat-beside, grow, last, leaf, no-both, roots}
 use Rattle.plir_walk.proofs.ListLemmas.{Has-append_right}
 use Rattle.plir_walk.proofs.Nodes.{after-at, same_tells}

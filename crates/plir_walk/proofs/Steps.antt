@@ -1,7 +1,7 @@
-use Rattle.std.proofs.Common.{◌≡◌, ◌≢◌, suc, ◌≤◌, true, List, [], ◌∷◌, ◌++◌, Some, inl, inr, reverse, refl, sym, subst, arith, ◌∙◌}
+use Rattle.std.proofs.Common.{◌≡◌, ◌≢◌, zero, suc, ◌≤◌, true, List, [], ◌∷◌, ◌++◌, Some, inl, inr, reverse, refl, sym, ap, subst, arith, ◌∙◌}
 use Rattle.std.proofs.lemmas.List.{reverse-append}
 use Rattle.plir_walk.specs.Config.{AllPost, direction_of, order_of}
-use Rattle.plir_walk.specs.Forest.{AtOrBelow, IsBelow, IsForest, Lawful, Shape}
+use Rattle.plir_walk.specs.Forest.{IsBelow, IsForest, Lawful, Shape}
 use Rattle.plir_core.specs.NodeLists.{Distinct, Has}
 use Rattle.plir_walk.specs.Tree.{Tree, same, taken}
 use Rattle.plir_walk.specs.declared.config.Direction.{Direction}
@@ -10,9 +10,10 @@ use Rattle.plir_walk.specs.declared.config.Order.{Order}
 use Rattle.plir_walk.specs.declared.config.Order.TheVariants.{PostOrder, PreOrder}
 use Rattle.plir_walk.specs.declared.config.WalkConfig.{WalkConfig}
 use Rattle.plir_core.specs.declared.ptr.IRNode.{IRNode}
-use Rattle.plir_walk.proofs.Climbs.{IsBelow-AtOrBelow, apart-kept, below-live, beside-branch, climb-depth, kid-below, not-below-itself, same-branch, two-above}
+use Rattle.plir_walk.proofs.Climbs.{AtOrBelow, IsBelow-AtOrBelow, apart-kept, below-live, beside-branch, climb-bottom, climb-depth, kid-below, not-below-itself, same-branch, two-above}
 use Rattle.plir_walk.proofs.Groves.{Grove, Has-reverse, Has-taken, Reads, Reads-same, first, flat, roots}
 use Rattle.plir_walk.proofs.ListLemmas.{Distinct-append, Distinct-one, Distinct-right, Has-append_cases, Has-append_left, Has-append_right}
+use Rattle.plir_walk.proofs.Heights.{deeper, depth_in}
 
 -- The way from the root to the cursor, the innermost first: an ancestor of the cursor, its order, the trees below it
 -- that were walked, and its children that are still to be walked, after the one on the way.
@@ -88,10 +89,17 @@ base-of w s base t r ns top c h all e x k b = absurd k
 base-of w s base t r ns (under a o d td u) c h all e x k b = h.0.base_ahead all e x k b
 
 -- the cursor is deeper than the root, but for the root itself
-pub path-depth : (w : WalkConfig) (s : Shape) (f : IsForest s) (base : Tree) (t : Tree) (r : IRNode) (ns : List IRNode) (path : Path) (c : IRNode) → Fits w s base t r ns path c → s.depth r ≤ s.depth c
+pub path-depth : (w : WalkConfig) (s : Shape) (f : IsForest s) (base : Tree) (t : Tree) (r : IRNode) (ns : List IRNode) (path : Path) (c : IRNode) → Fits w s base t r ns path c → depth_in s r ≤ depth_in s c
 path-depth w s f base t r ns top c h = rw h (omega arith)
 path-depth w s f base t r ns (under a o d td u) c h =
-    omega (arith, path-depth w s f base t r ns u a h.1, f.deeper a c (frame-parent w s f base t ns a o d td c h.0))
+    omega (arith, path-depth w s f base t r ns u a h.1, deeper s f a c (frame-parent w s f base t ns a o d td c h.0))
+
+-- the cursor is the root, or below it
+pub path-under : (w : WalkConfig) (s : Shape) (f : IsForest s) (base : Tree) (t : Tree) (r : IRNode) (ns : List IRNode) (path : Path) (c : IRNode) → Fits w s base t r ns path c → AtOrBelow s r c
+path-under w s f base t r ns top c h = (zero, ap Some h)
+path-under w s f base t r ns (under a o d td u) c h =
+    let z = path-under w s f base t r ns u a h.1 in
+    (suc z.0, climb-bottom s z.0 c a (frame-parent w s f base t ns a o d td c h.0) ∙ z.1)
 
 -- A lawful call at n keeps the way to n.
 pub frame-keep : (w : WalkConfig) (s s' : Shape) (f : IsForest s) (f' : IsForest s') (n : IRNode) (l : Lawful s n s') (base : Tree) (t t' : Tree) (ns : List IRNode)
@@ -123,7 +131,7 @@ frame-keep w s s' f f' n l base t t' ns same new a o d td c called b h =
           (let dis = frame-distinct w s f base t ns a o d td c h in
           let c_e : c ≢ e = λ (g : c ≡ e). (Distinct-right (roots d) (c ∷ td) dis).0 (subst (λ (v : IRNode). Has td v) (sym g) k) in
           let e_kid : Has (s.kids a) e = frame-kid w s base t ns a o d td c h e (Has-append_right (roots d) (c ∷ td) e (inr k)) in
-          let depths : s.depth c ≡ s.depth e = omega (arith, f.deeper a c up, f.deeper a e (f.kid_parent a e e_kid)) in
+          let depths : depth_in s c ≡ depth_in s e = omega (arith, deeper s f a c up, deeper s f a e (f.kid_parent a e e_kid)) in
           let n_e = λ (g : AtOrBelow s n e). c_e (beside-branch s f c e n depths b g) in
           let e_n = λ (g : AtOrBelow s e n). c_e (same-branch s f c e n depths b g) in
           let was : AtOrBelow s e x = (z.0, apart-kept s s' n f f' l z.0 x e z.1 (f.kid_live a e e_kid) n_e e_n) in
@@ -136,7 +144,7 @@ frame-keep w s s' f f' n l base t t' ns same new a o d td c called b h =
           (let dis = frame-distinct w s f base t ns a o d td c h in
           let c_e : c ≢ e = λ (g : c ≡ e). (Distinct-right (roots d) (c ∷ td) dis).0 (subst (λ (v : IRNode). Has td v) (sym g) k) in
           let e_kid : Has (s.kids a) e = frame-kid w s base t ns a o d td c h e (Has-append_right (roots d) (c ∷ td) e (inr k)) in
-          let depths : s.depth c ≡ s.depth e = omega (arith, f.deeper a c up, f.deeper a e (f.kid_parent a e e_kid)) in
+          let depths : depth_in s c ≡ depth_in s e = omega (arith, deeper s f a c up, deeper s f a e (f.kid_parent a e e_kid)) in
           let n_e = λ (g : AtOrBelow s n e). c_e (beside-branch s f c e n depths b g) in
           let e_n = λ (g : AtOrBelow s e n). c_e (same-branch s f c e n depths b g) in
           let e_live : s.live e ≡ true = f.kid_live a e e_kid in

@@ -9,24 +9,23 @@ use Rattle.plir_core.specs.declared.ptr.IRNode.TheVariants.{Operation, Region, B
 use Rattle.plir_core.specs.NodeLists.{Has, Distinct}
 use Rattle.plir_core.specs.Changes.{with_block_edit}
 use Rattle.plir_core.specs.Contents.{BlockView}
-use Rattle.plir_core.specs.Forest.{Seat, op, block, seat_of, IsForest as IsNodeForest}
+use Rattle.plir_core.specs.Forest.{Seat, op, block, seat_of}
 use Rattle.plir_core.specs.Store.{Store, IsLive, is_live, given_out, kids, parent_of, num_live}
-use Rattle.plir_core.specs.Whole.{IsWhole}
-use Rattle.plir_core.proofs.Seats.{live_some, same_seat}
-use Rattle.plir_core.proofs.Facts.{kid-live}
-use Rattle.plir_core.proofs.Depths.{IsSeated, length-le_seated}
+use Rattle.plir_core.specs.Standing.{IsStanding}
 use Rattle.plir_walk.specs.declared.limit.CallLimit.{CallLimit}
 use Rattle.plir_walk.specs.declared.config.WalkConfig.{WalkConfig}
 use Rattle.plir_walk.specs.declared.interruptible.WalkContinue.TheVariants.{Advance}
 use Rattle.plir_walk.specs.Tree.{IsUnder, NodeBefore, node_at, Place}
-use Rattle.plir_walk.specs.Forest.{Lawful, SameShape}
+use Rattle.plir_walk.specs.Forest.{IsForest, Lawful, SameShape}
 use Rattle.plir_walk.specs.Calls.{Call, Relation, Chain, nodes_of}
 use Rattle.plir_walk.specs.ShutOut.{IsShutOut}
 use Rattle.plir_walk.specs.Walk.{IsWalkWithin}
-use Rattle.plir_walk.specs.Walked.{AtLive, Walked, plain_answer}
+use Rattle.plir_walk.specs.Walked.{IsCallUnder, Walked, plain_answer}
 use Rattle.plir_walk.specs.View.{look}
 use Rattle.plir_walk.specs.Unnamed.{unnamed, op_unnamed, block_unnamed, without_names, IsUnnamed}
 use Rattle.plir_walk.proofs.ListLemmas.{Has-at}
+use Rattle.plir_walk.proofs.View.{forest-of}
+use Rattle.plir_walk.proofs.Slots.{live_parts, ptr_one}
 use Rattle.plir_walk.proofs.Groves.{and_then-some}
 use Rattle.plir_walk.proofs.Lawfulness.{lawful-same}
 use Rattle.plir_walk.proofs.NamedStores.{op-edit-is, block-edit-is, edited, edit-then}
@@ -97,17 +96,24 @@ block-unnamed {A} s p =
     ∙ sym (block-edit-is s p block_unnamed)
 
 module _ {K A T : Type 0} (s : Store K A T) where
+  -- live nodes in one seat are one
+  same-seat : (a b : IRNode) → IsLive s a → IsLive s b → seat_of a ≡ seat_of b → a ≡ b
+  same-seat (Operation p) (Operation q) l m e = ap Operation (ptr_one s.nodes.ops p q l m (let f : p.slot ≡ q.slot = cc in f))
+  same-seat (Region p) (Region q) l m e = ap Region (ptr_one s.nodes.regions p q l m (let f : p.slot ≡ q.slot = cc in f))
+  same-seat (BasicBlock p) (BasicBlock q) l m e = ap BasicBlock (ptr_one s.nodes.blocks p q l m (let f : p.slot ≡ q.slot = cc in f))
+  same-seat (Operation p) (Region q) l m e = cc
+  same-seat (Operation p) (BasicBlock q) l m e = cc
+  same-seat (Region p) (Operation q) l m e = cc
+  same-seat (Region p) (BasicBlock q) l m e = cc
+  same-seat (BasicBlock p) (Operation q) l m e = cc
+  same-seat (BasicBlock p) (Region q) l m e = cc
+
   -- a node under a live one is live
-  under-live : (p : Place) (r n : IRNode) → IsNodeForest s.nodes → IsLive s r → node_at (kids s) r p ≡ Some n → IsLive s n
+  under-live : (p : Place) (r n : IRNode) → IsForest (look s) → IsLive s r → node_at (kids s) r p ≡ Some n → IsLive s n
   under-live [] r n w l e = subst (IsLive s) (same_Some r n e) l
   under-live (i ∷ p) r n w l e =
       let z = and_then-some (λ c. node_at (kids s) c p) (slice_get (kids s r) i) n e in
-      under-live p z.0 n w (kid-live s.nodes w r z.0 (Has-at (kids s r) i z.0 z.1)) z.2
-
-  live-seated : (n : IRNode) → IsLive s n → IsSeated s.nodes (seat_of n)
-  live-seated (Operation p) l = live_some s.nodes.ops p.slot p.version l
-  live-seated (Region p) l = live_some s.nodes.regions p.slot p.version l
-  live-seated (BasicBlock p) l = live_some s.nodes.blocks p.slot p.version l
+      under-live p z.0 n w (w.kid_live r z.0 (Has-at (kids s r) i z.0 z.1)) z.2
 
   op-seat : (n : IRNode) (i : ℕ) → op_slot n ≡ Some i → seat_of n ≡ op i
   op-seat (Operation p) i e = ap op (same_Some p.slot i e)
@@ -118,14 +124,6 @@ module _ {K A T : Type 0} (s : Store K A T) where
   block-seat (Operation p) i e = absurd (none-some i e)
   block-seat (Region p) i e = absurd (none-some i e)
   block-seat (BasicBlock p) i e = ap block (same_Some p.slot i e)
-
-  -- different live nodes are no more than are live
-  count-live : (ns : List IRNode) → Distinct ns → ((n : IRNode) → Has ns n → IsLive s n) → length ns ≤ num_live s
-  count-live ns d live =
-      let seat : IRNode → Option Seat = λ n. Some (seat_of n) in
-      let apart = Distinct-picked seat ns (λ a b x h i e f. same_seat s.nodes a b (live a h) (live b i) (same_Some (seat_of a) (seat_of b) (e ∙ sym f))) d in
-      let some = length-le_seated (picked seat ns) s.nodes apart (λ x h. (let z = picked-Has seat ns x h in subst (IsSeated s.nodes) (same_Some (seat_of z.0) x z.2) (live-seated z.0 (live z.0 z.1)))) in
-      subst (λ z. z ≤ num_live s) (length-picked seat_of ns) some
 
 -- the calls of a walk that takes the names of each node
 chain-unnamed : {K A T S B : Type 0} (P : Relation (Store K A T) S B) → ((c : Store K A T) (s : S) (n : IRNode) (a : _) (c' : Store K A T) (s' : S) → P c s n a c' s' → c' ≡ without_names c n)
@@ -138,16 +136,16 @@ length-nodes [] = refl
 length-nodes (x ∷ xs) = ap suc (length-nodes xs)
 
 -- each node under the root, and no other, lost its names once
-module _ {K A T : Type 0} (s : Store K A T) (w : IsNodeForest s.nodes) (r : IRNode) (l : IsLive s r) (ns : List IRNode) (d : Distinct ns)
+module _ {K A T : Type 0} (s : Store K A T) (w : IsForest (look s)) (r : IRNode) (l : IsLive s r) (ns : List IRNode) (d : Distinct ns)
     (exactly : (n : IRNode) → (Has ns n → IsUnder (kids s) r n) × (IsUnder (kids s) r n → Has ns n)) where
   live-of : (n : IRNode) → Has ns n → IsLive s n
   live-of n h = let u = (exactly n).0 h in under-live s u.0 r n w l u.1
 
   ops-apart : (a b : IRNode) (i : ℕ) → IsLive s a → IsLive s b → op_slot a ≡ Some i → op_slot b ≡ Some i → a ≡ b
-  ops-apart a b i la lb e f = same_seat s.nodes a b la lb (op-seat s a i e ∙ sym (op-seat s b i f))
+  ops-apart a b i la lb e f = same-seat s a b la lb (op-seat s a i e ∙ sym (op-seat s b i f))
 
   blocks-apart : (a b : IRNode) (i : ℕ) → IsLive s a → IsLive s b → block_slot a ≡ Some i → block_slot b ≡ Some i → a ≡ b
-  blocks-apart a b i la lb e f = same_seat s.nodes a b la lb (block-seat s a i e ∙ sym (block-seat s b i f))
+  blocks-apart a b i la lb e f = same-seat s a b la lb (block-seat s a i e ∙ sym (block-seat s b i f))
 
   unnamed-once : IsUnnamed s (at_once s ns) r
   unnamed-once = record {
@@ -164,38 +162,41 @@ module _ {K A T : Type 0} (s : Store K A T) (w : IsNodeForest s.nodes) (r : IRNo
   }
 
 -- What a walk leaves whose callback takes the names of each node.
-pub walk-unnamed : {K A T S : Type 0} (own : A → List ℕ) (w : WalkConfig) (post : Relation (Store K A T) S (Unit {0})) (c : Store K A T) (s : S) (r : IRNode) (c' : Store K A T) (s' : S) (limit : ℕ) (result : Result (Unit {0}) CallLimit)
+pub walk-unnamed : {K A T S : Type 0} (w : WalkConfig) (post : Relation (Store K A T) S (Unit {0})) (c : Store K A T) (s : S) (r : IRNode) (c' : Store K A T) (s' : S) (limit : ℕ) (result : Result (Unit {0}) CallLimit)
     → Walked look w post c s r limit (plain_answer result) c' s' → ((d : Store K A T) (t : S) (n : IRNode) (a : _) (d' : Store K A T) (t' : S) → post d t n a d' t' → (a ≡ Continue Advance) × (d' ≡ without_names d n))
-    → 2 ^ 32 ≤ limit + 1 → IsWhole own c → IsLive c r → IsUnnamed c c' r
-walk-unnamed own w post c s r c' s' limit result h each enough whole live = go result walk
+    → 2 ^ 32 ≤ limit + 1 → IsStanding c → IsLive c r → IsUnnamed c c' r
+walk-unnamed w post c s r c' s' limit result h each enough stands live = go result walk
   where
+    forest : IsForest (look c)
+    forest = forest-of c stands
+
     walk : IsWalkWithin w (kids c) r limit h.calls (plain_answer result)
-    walk = h.unchanged (λ d t n a d' t' l p. unnamed-shape d d' n (each d t n a d' t' p).1)
+    walk = h.unchanged (λ d t n a d' t' p. unnamed-shape d d' n (each d t n a d' t' p.made).1)
 
     once : Distinct (nodes_of h.calls)
     once = Pairs-distinct (NodeBefore w (kids c) r) (nodes_of h.calls) (total-order w (kids c) r walk.in_order.one_place).irreflexive walk.in_order.increasing
 
     left : c' ≡ at_once c (nodes_of h.calls)
-    left = chain-unnamed (AtLive look post) (λ d t n a d' t' p. (each d t n a d' t' p.1).1) h.calls c s c' s' h.chain ∙ unnamed-at_once c (nodes_of h.calls)
+    left = chain-unnamed (IsCallUnder look r post) (λ d t n a d' t' p. (each d t n a d' t' p.made).1) h.calls c s c' s' h.chain ∙ unnamed-at_once c (nodes_of h.calls)
 
     not-shut : (n : IRNode) → IsShutOut w (kids c) r h.calls n → ⊥
     not-shut n o =
-        let k = Chain-each (AtLive look post) c s h.calls c' s' h.chain o.skipped.0 o.skipped.1 in
+        let k = Chain-each (IsCallUnder look r post) c s h.calls c' s' h.chain o.skipped.0 o.skipped.1 in
         let x = o.skipped.0 in
-        let e = sym (each x.before x.state x.node x.answer x.after x.left k.1).0 ∙ o.skipped.3 in
+        let e = sym (each x.before x.state x.node x.answer x.after x.left k.made).0 ∙ o.skipped.3 in
         let z : ⊥ = cc e in
         z
 
     go : (x : Result (Unit {0}) CallLimit) → IsWalkWithin w (kids c) r limit h.calls (plain_answer x) → IsUnnamed c c' r
-    go (Ok u) v = subst (λ z. IsUnnamed c z r) (sym left) (unnamed-once c whole.forest r live (nodes_of h.calls) once (λ n. (v.in_order.under_root n, λ under. (v.answers.2 n).1 (under, not-shut n))))
+    go (Ok u) v = subst (λ z. IsUnnamed c z r) (sym left) (unnamed-once c forest r live (nodes_of h.calls) once (λ n. (v.in_order.under_root n, λ under. (v.answers.2 n).1 (under, not-shut n))))
     go (Err x) v =
         let missed = v.answers.3 in
-        let more = count-live c (missed.0 ∷ nodes_of h.calls) (missed.2, once) (λ n k. elim k [
-          | inl e ↦ subst (IsLive c) e (under-live c missed.1.0.0 r missed.0 whole.forest live missed.1.0.1)
-          | inr i ↦ (let u = v.in_order.under_root n i in under-live c u.0 r n whole.forest live u.1)
+        let more = stands.counted (missed.0 ∷ nodes_of h.calls) (missed.2, once) (λ n k. elim k [
+          | inl e ↦ subst (IsLive c) e (under-live c missed.1.0.0 r missed.0 forest live missed.1.0.1)
+          | inr i ↦ (let u = v.in_order.under_root n i in under-live c u.0 r n forest live u.1)
         ]) in
         let made = v.answers.0 in
         let same = length-nodes h.calls in
-        let within = whole.forest.within in
-        let fits = whole.forest.limit_fits in
+        let within = stands.within in
+        let fits = stands.limit_fits in
         absurd (omega arith)

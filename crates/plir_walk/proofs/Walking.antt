@@ -4,11 +4,11 @@ use Rattle.std.specs.declared.ops.ControlFlow.TheVariants.{Break, Continue}
 use Rattle.plir_walk.specs.AsRead.{kids_by, tree_read}
 use Rattle.plir_walk.specs.Calls.{Call, Chain, NoBreak, Relation, nodes_of}
 use Rattle.plir_walk.specs.Config.{AllPost, AllPre, direction_of, order_of}
-use Rattle.plir_walk.specs.Forest.{IsForest, Lawful, Shape}
+use Rattle.plir_walk.specs.Forest.{IsForest, Lawful, Shape, StandsUnder}
 use Rattle.plir_core.specs.NodeLists.{Distinct, Has, head}
 use Rattle.plir_walk.specs.Step.{due_at, enter_or_leave, goes_on, step_of}
 use Rattle.plir_walk.specs.Tree.{Tree, taken}
-use Rattle.plir_walk.specs.Walked.{AtLive, Walked}
+use Rattle.plir_walk.specs.Walked.{IsCallUnder, IsLawful, Walked}
 use Rattle.plir_walk.specs.declared.config.Order.{Order}
 use Rattle.plir_walk.specs.declared.config.Order.TheVariants.{PostOrder, PreOrder}
 use Rattle.plir_walk.specs.declared.config.WalkConfig.{WalkConfig}
@@ -17,11 +17,12 @@ use Rattle.plir_walk.specs.declared.interruptible.WalkContinue.TheVariants.{Adva
 use Rattle.plir_walk.specs.declared.limit.CallLimit.{CallLimit}
 use Rattle.plir_core.specs.declared.ptr.IRNode.{IRNode}
 use Rattle.plir_walk.proofs.Calling.{Has-more, call-close, call-open, call-skip, call_of, called-spot}
-use Rattle.plir_walk.proofs.Climbs.{IsBelow-AtOrBelow, not-below-itself}
+use Rattle.plir_walk.proofs.Climbs.{AtOrBelow, IsBelow-AtOrBelow, not-below-itself}
 use Rattle.plir_walk.proofs.Conclusions.{walked-of}
 use Rattle.plir_walk.proofs.Endings.{Told, closing-told, entering-told, finished-told, leaving-told, opening-told}
 use Rattle.plir_walk.proofs.Nodes.{Has-or-not, pre-at, same_tells}
 use Rattle.plir_walk.proofs.Results.{all-called, due-under, under-base, walk-told}
+use Rattle.plir_walk.proofs.Steps.{path-under}
 use Rattle.plir_walk.proofs.Stages.{Closing, Entering, Leaving, Opening, bottom, cut, cut-called, cut-fresh, cut-new, cut-same, down, not-root, pass-enter, pass-leave, read-called, read-fresh, start}
 
 -- one more call
@@ -54,7 +55,7 @@ module _ {C S B : Type 0} (look : C → Shape) (w : WalkConfig)
   pub record Walking (e : C) (st : S) (c : IRNode) (en : Bool) (left : ℕ) : Type 0 where
     pub begun : IsForest (look c0)
     pub calls : List (Call C S B)
-    pub chain : Chain (AtLive look post) c0 s0 calls e st
+    pub chain : Chain (IsCallUnder look r post) c0 s0 calls e st
     pub count : length calls + left ≡ limit
     pub unbroken : NoBreak calls
     pub forest : IsForest (look e)
@@ -64,7 +65,7 @@ module _ {C S B : Type 0} (look : C → Shape) (w : WalkConfig)
   pub record Halfway (e : C) (st : S) (c : IRNode) (below : Bool) (left : ℕ) : Type 0 where
     pub begun : IsForest (look c0)
     pub calls : List (Call C S B)
-    pub chain : Chain (AtLive look post) c0 s0 calls e st
+    pub chain : Chain (IsCallUnder look r post) c0 s0 calls e st
     pub count : length calls + left ≡ limit
     pub unbroken : NoBreak calls
     pub forest : IsForest (look e)
@@ -92,6 +93,14 @@ module _ {C S B : Type 0} (look : C → Shape) (w : WalkConfig)
 
   pub walking-live : (e : C) (st : S) (c : IRNode) (en : Bool) (left : ℕ) → Walking e st c en left → (look e).live c ≡ true
   walking-live e st c en left h = stage-live h.calls e c en h.stage
+
+  -- and it stands under the root
+  stage-under : (xs : List (Call C S B)) (e : C) (f : IsForest (look e)) (c : IRNode) (en : Bool) → Stage xs e c en → AtOrBelow (look e) r c
+  stage-under xs e f c true h = path-under w (look e) f (look c0).kids (tree_read look w xs e) r (nodes_of xs) h.path c h.fits
+  stage-under xs e f c false h = path-under w (look e) f (look c0).kids (tree_read look w xs e) r (nodes_of xs) h.path c h.fits
+
+  pub walking-under : (e : C) (st : S) (c : IRNode) (en : Bool) (left : ℕ) → Walking e st c en left → StandsUnder (look e) r c
+  walking-under e st c en left h = record { forest = h.forest; live = walking-live e st c en left h; under_root = stage-under h.calls e h.forest c en h.stage }
 
   pub halfway-live : (e : C) (st : S) (c : IRNode) (en : Bool) (left : ℕ) → Halfway e st c en left → (look e).live c ≡ true
   halfway-live e st c en left h = half-live h.calls e c en h.half
@@ -171,7 +180,7 @@ module _ {C S B : Type 0} (look : C → Shape) (w : WalkConfig)
   called e e' f' st st' c en left left' k h d p l u = record {
     begun = h.begun;
     calls = h.calls ++ call_of e st c (Continue k) e' st' ∷ [];
-    chain = Chain-more (AtLive look post) c0 s0 h.calls e st c (Continue k) e' st' h.chain (walking-live e st c en left h, p);
+    chain = Chain-more (IsCallUnder look r post) c0 s0 h.calls e st c (Continue k) e' st' h.chain (record { stands = walking-under e st c en left h; leaves = f'; made = p });
     count = count-more h.calls (call_of e st c (Continue k) e' st') left left' h.count u;
     unbroken = NoBreak-more h.calls (call_of e st c (Continue k) e' st') k h.unbroken refl;
     forest = f';
@@ -200,7 +209,7 @@ module _ {C S B : Type 0} (look : C → Shape) (w : WalkConfig)
       let n : length xs + (left - 1) ≡ limit = count-more h.calls x left (left - 1) h.count (omega arith) in
       walked-of look w post c0 s0 r limit (Ok (Break b)) e' st'
       xs
-      h.begun f' (Chain-more (AtLive look post) c0 s0 h.calls e st c (Break b) e' st' h.chain (walking-live e st c en left h, p))
+      h.begun f' (Chain-more (IsCallUnder look r post) c0 s0 h.calls e st c (Break b) e' st' h.chain (record { stands = walking-under e st c en left h; leaves = f'; made = p }))
       (omega (arith, n))
       (walk-told w (tree_read look w xs e') r (nodes_of xs) (AllPost w) (look c0).kids (half-distinct xs e' c en half) (half-told xs e' f' c en half))
       (h.calls, x, refl, refl, h.unbroken)
@@ -287,12 +296,12 @@ module _ {C S B : Type 0} (look : C → Shape) (w : WalkConfig)
 -- The same, over the values that a loop has after its branches.
 module _ {C S B : Type 0} (look : C → Shape) (w : WalkConfig)
     (post : Relation C S B) (c0 : C) (s0 : S) (r : IRNode) (limit : ℕ)
-    (lawful : (c : C) (s : S) (n : IRNode) (a : ControlFlow B WalkContinue) (c' : C) (s' : S) → (look c).live n ≡ true → post c s n a c' s' → Lawful (look c) n (look c')) where
+    (lawful : IsLawful look r post) where
   pub called-as : (e e' e'' : C) (f' : IsForest (look e')) (st st' st'' : S) (c : IRNode) (en below : Bool) (left left' : ℕ) (a : ControlFlow B WalkContinue) (k : WalkContinue)
       → Walking look w post c0 s0 r limit e st c en left → due_at (order_of w c) en ≡ true → post e st c a e' st' → a ≡ Continue k
       → (left ≡ 0 → ⊥) → e'' ≡ e' → st'' ≡ st' → left' ≡ left - 1 → below ≡ goes_on en k → Halfway look w post c0 s0 r limit e'' st'' c below left'
   called-as e e' e'' f' st st' st'' c en below left left' a k h d p q z pe ps pl pb =
-      let l : Lawful (look e) c (look e') = lawful e st c a e' st' (walking-live look w post c0 s0 r limit e st c en left h) p in
+      let l : Lawful (look e) c (look e') = lawful e st c a e' st' (record { stands = walking-under look w post c0 s0 r limit e st c en left h; leaves = f'; made = p }) in
       let p' : post e st c (Continue k) e' st' = subst (λ (v : ControlFlow B WalkContinue). post e st c v e' st') q p in
       let g = called look w post c0 s0 r limit e e' f' st st' c en left left' k h d p' l (omega (arith, z, pl)) in
       let g1 = subst (λ (v : C). Halfway look w post c0 s0 r limit v st' c (goes_on en k) left') (sym pe) g in
@@ -313,7 +322,7 @@ module _ {C S B : Type 0} (look : C → Shape) (w : WalkConfig)
       → Walking look w post c0 s0 r limit e st c en left → due_at (order_of w c) en ≡ true → post e st c a e' st' → a ≡ Break b
       → (left ≡ 0 → ⊥) → Walked look w post c0 s0 r limit (Ok (Break b)) e' st'
   broken-as e e' f' st st' c en left a b h d p q z =
-      let l : Lawful (look e) c (look e') = lawful e st c a e' st' (walking-live look w post c0 s0 r limit e st c en left h) p in
+      let l : Lawful (look e) c (look e') = lawful e st c a e' st' (record { stands = walking-under look w post c0 s0 r limit e st c en left h; leaves = f'; made = p }) in
       broken look w post c0 s0 r limit e e' f' st st' c en left b h d (subst (λ (v : ControlFlow B WalkContinue). post e st c v e' st') q p) l (omega (arith, z))
 
   -- one more call may be made

@@ -1,33 +1,23 @@
 -- What a walk sees of a context, and how a call may change it.
-use Rattle.std.specs.Prelude.{◌≡◌, ◌≢◌, ℕ, zero, suc, ◌+◌, ◌≤◌, ◌^◌, Bool, true, false, List, Option, Some, option_and_then, ◌⊎◌}
+use Rattle.std.specs.Prelude.{◌≡◌, ◌≢◌, ℕ, suc, ◌^◌, Bool, true, false, List, Option, Some, None, ◌⊎◌}
 use Rattle.plir_core.specs.declared.ptr.IRNode.{IRNode}
+use Rattle.plir_core.specs.Above.{climb, Reaches}
 use Rattle.plir_core.specs.NodeLists.{Has, Distinct}
 
 -- What a walk can see of a context: the children of each node (none, if it is dead), the node right above it, whether it
--- is live, whether it was ever given out, and how many nodes stand above it, with a bound.
+-- is live, and whether it was ever given out.
 pub record Shape : Type 0 where
   pub kids : IRNode → List IRNode
   pub parent : IRNode → Option IRNode
   pub live : IRNode → Bool
   pub given : IRNode → Bool
-  pub depth : IRNode → ℕ
-  pub deepest : ℕ
-
--- the ancestor k levels above x
-abbrev pub climb : Shape → ℕ → IRNode → Option IRNode
-climb s zero x = Some x
-climb s (suc k) x = option_and_then s.parent (climb s k x)
-
--- x is a or below it
-abbrev pub AtOrBelow : Shape → IRNode → IRNode → Type 0
-AtOrBelow s a x = (k : ℕ) × (climb s k x ≡ Some a)
 
 -- x is below a
 abbrev pub IsBelow : Shape → IRNode → IRNode → Type 0
-IsBelow s a x = (k : ℕ) × (climb s (suc k) x ≡ Some a)
+IsBelow s a x = (k : ℕ) × (climb s.parent (suc k) (Some x) ≡ Some a)
 
--- The live nodes make a forest: the children of a node are live and are those that have it as their parent, each once; a
--- node stands one level deeper than its parent, so that none is above itself; and live nodes were given out.
+-- The live nodes make a forest: the children of a node are live and are those that have it as their parent, each once; live
+-- nodes were given out; and each climb ends, so that no node is above itself.
 pub record IsForest (s : Shape) : Type 0 where
   pub kid_parent : (a x : IRNode) → Has (s.kids a) x → s.parent x ≡ Some a
   pub parent_kid : (a x : IRNode) → s.parent x ≡ Some a → Has (s.kids a) x
@@ -35,9 +25,13 @@ pub record IsForest (s : Shape) : Type 0 where
   pub kid_live : (a x : IRNode) → Has (s.kids a) x → s.live x ≡ true
   pub parent_live : (a x : IRNode) → s.parent x ≡ Some a → s.live a ≡ true
   pub live_given : (x : IRNode) → s.live x ≡ true → s.given x ≡ true
-  pub deeper : (a x : IRNode) → s.parent x ≡ Some a → s.depth x ≡ s.depth a + 1
-  pub bounded : (x : IRNode) → s.depth x ≤ s.deepest
-  pub small : s.deepest ≤ 2 ^ 40
+  pub ends : (x : IRNode) → climb s.parent (2 ^ 40) (Some x) ≡ None
+
+-- n is a live node of a forest, and it is r or stands below it
+pub record StandsUnder (s : Shape) (r n : IRNode) : Type 0 where
+  pub forest : IsForest s
+  pub live : s.live n ≡ true
+  pub under_root : Reaches s.parent n r
 
 -- A lawful call at n, from s to s'. Every node that was live before it and is not below n is live after it, with the same
 -- parent, and with the same children unless it is n. What is below n afterwards was below n before, or was never given

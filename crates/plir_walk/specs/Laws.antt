@@ -13,7 +13,7 @@ use Rattle.plir_walk.specs.Tree.{Tree, IsUnder, HasOnePlaceEach, NodeBefore}
 use Rattle.plir_walk.specs.Forest.{Shape}
 use Rattle.plir_walk.specs.Calls.{Call, Relation, Chain, nodes_of}
 use Rattle.plir_walk.specs.ShutOut.{IsShutOut}
-use Rattle.plir_walk.specs.Walked.{AtLive}
+use Rattle.plir_walk.specs.Walked.{IsCallUnder}
 
 -- Before is a total order on the nodes under r: no node is before itself, what is before a node is before what that one
 -- is before, and of two different nodes one is before the other.
@@ -51,5 +51,5 @@ ShutsOutNothing w calls = (t : Tree) (r n : IRNode) → IsShutOut w t r calls n 
 -- A walk from c and s that left the state s', and called each node under the root once, in their order.
 pub record WalkedOnce {C S B : Type 0} (look : C → Shape) (w : WalkConfig) (post : Relation C S B) (c : C) (s : S) (r : IRNode) (s' : S) : Type 0 where
   pub calls : List (Call C S B)
-  pub chain : Chain (AtLive look post) c s calls c s'
+  pub chain : Chain (IsCallUnder look r post) c s calls c s'
   pub each_once : IsTraversal w (look c).kids r (nodes_of calls)

@@ -8,6 +8,7 @@ ghost use Rattle.plir_walk.specs.Unnamed.{IsUnnamed, unnamed, without_names};
 use crate::config::WALKCONFIG_PREORDER_FORWARD;
 use crate::names_attr::{has_other, remove_attr};
 use crate::uninterruptible::mutable::walk_op;
+use plir_core::laws::contexts_stand;
 use plir_core::{Context, DefiningEntity, IRNode, Operation, Ptr};
 use plir_data::OpSet;
 
@@ -43,6 +44,7 @@ pub fn erase_given_names<D: OpSet>(ctx: &mut Context<D>, op: Ptr<Operation>)
     requires { IsLive ctx.old (AnyNode.Operation op) }
     ensures { IsUnnamed ctx.old ctx.new (AnyNode.Operation op) }
 {
+    contexts_stand::<D>();
     let _at_most_the_limit = ctx.num_live();
     let unname_node = |ctx: &mut Context<D>, _state: &mut (), node: IRNode|
         requires { IsLive ctx.old node }

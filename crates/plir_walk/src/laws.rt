@@ -9,13 +9,17 @@ ghost use Rattle.plir_walk.specs.declared.config.TheConstants.{WALKCONFIG_PREORD
 ghost use Rattle.plir_walk.specs.declared.config.WalkConfig.{WalkConfig as AnyConfig};
 ghost use Rattle.plir_core.specs.declared.ptr.IRNode.{IRNode as AnyNode};
 ghost use Rattle.plir_walk.specs.Tree.{HasOnePlaceEach};
+ghost use Rattle.plir_walk.specs.Forest.{StandsUnder};
 ghost use Rattle.plir_walk.specs.Calls.{Advancing, Call, ReadsBack};
+ghost use Rattle.plir_walk.specs.LawfulChanges.{LawfulChanges};
 ghost use Rattle.plir_walk.specs.Laws.{BeforeOrders, PostReverseIsPreForwardReversed, SkipsAtPostOrder, ShutsOutNothing, WalkedOnce};
 
 use crate::config::WalkConfig;
 use crate::links::NodeLinks;
 use crate::uninterruptible;
+use plir_core::laws::contexts_stand;
 use plir_core::{IRNode, Operation, Ptr};
+use plir_data::OpSet;
 
 /// The default setting is [`crate::WALKCONFIG_PREORDER_FORWARD`].
 pub fn default_setting() -> WalkConfig
@@ -64,8 +68,15 @@ pub fn walks_each_node_once<C: NodeLinks, S, F: Fn(&C, &mut S, IRNode)>(
     callback: F,
 )
     requires root_live { (C.look ctx.now).live (IRNode.Operation root) ≡ true }
-    requires callable { (c : _) (s : _) (n : AnyNode) → c.now ≡ ctx.now → (C.look ctx.now).live n ≡ true → F.pre callback c s n }
+    requires callable { (c : _) (s : _) (n : AnyNode) → c.now ≡ ctx.now → StandsUnder (C.look ctx.now) (IRNode.Operation root) n → F.pre callback c s n }
     ensures { WalkedOnce C.look config.now (Advancing (ReadsBack F.Fn callback)) ctx.now state.old (IRNode.Operation root) state.new }
 {
     uninterruptible::immutable::walk_op(ctx, state, config, root, callback);
+}
+
+/// What a callback at a node may do to a context: each change is lawful, told in the words of the node calls that make it.
+pub fn lawful_changes<D: OpSet>()
+    ensures { LawfulChanges D.Kind D.Attr D.Ty D.attr_handles }
+{
+    contexts_stand::<D>();
 }

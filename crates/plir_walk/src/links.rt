@@ -8,6 +8,7 @@ ghost use Rattle.plir_core.specs.Whole.{IsWhole};
 ghost use Rattle.plir_walk.specs.Tree.{after};
 ghost use Rattle.plir_walk.specs.Forest.{Shape, IsForest};
 
+use plir_core::laws::contexts_stand;
 use plir_core::{Context, IRNode};
 use plir_data::OpSet;
 
@@ -52,6 +53,7 @@ impl<D: OpSet> NodeLinks for Context<D> {
     ghost look = { λ s. look_at s };
 
     fn forest(&self) {
+        contexts_stand::<D>();
         let _count = self.num_live();
     }
 

@@ -1,7 +1,13 @@
 //! The scripts of node calls, with their answers.
 use plir_core::{LessThanN, NodeErr};
-use plir_scripts::{Mismatch, NodeCalls, play};
+use plir_scripts::{Mismatch, NodeCalls, SampleSet, play};
+use std::alloc::Global;
 use std::test::Fail;
+
+// Plays a script of node calls, with room for so many nodes.
+fn play_in(alloc: Global, max_nodes: u32, script: &str) -> Result<(), Mismatch> {
+    play::<SampleSet, NodeCalls>(alloc, max_nodes, script)
+}
 
 #[test]
 fn the_slot_freed_last_is_used_first(rt: HostRuntime) -> Result<(), Mismatch> {
@@ -38,7 +44,7 @@ fn the_slot_freed_last_is_used_first(rt: HostRuntime) -> Result<(), Mismatch> {
         op func 0 => o5
         number o4 => op3v3
         number o5 => op2v2";
-    play::<NodeCalls>(rt.alloc(), 100, script)
+    play_in(rt.alloc(), 100, script)
 }
 
 #[test]
@@ -62,7 +68,7 @@ fn an_erased_module_leaves_its_slot_to_the_next(rt: HostRuntime) -> Result<(), M
         show b0 => -, in r0 o0, between - -, operations to -, terminator -, arguments 0
         back o3 b0
         show b0 => -, in r0 o0, between - -, operations o3 to o3, terminator -, arguments 0";
-    play::<NodeCalls>(rt.alloc(), 100, script)
+    play_in(rt.alloc(), 100, script)
 }
 
 #[test]
@@ -81,7 +87,7 @@ fn a_function_is_put_before_another_and_taken_out(rt: HostRuntime) -> Result<(),
         erase o2
         live o2 => no
         live o1 => yes";
-    play::<NodeCalls>(rt.alloc(), 100, script)
+    play_in(rt.alloc(), 100, script)
 }
 
 #[test]
@@ -93,7 +99,7 @@ fn no_more_nodes_than_the_limit(rt: HostRuntime) -> Result<(), Mismatch> {
         count => 2
         erase o0
         block => b0";
-    play::<NodeCalls>(rt.alloc(), 2, script)
+    play_in(rt.alloc(), 2, script)
 }
 
 #[test]
@@ -102,7 +108,7 @@ fn no_node_is_left_at_the_limit(rt: HostRuntime) -> Result<(), Mismatch> {
         op module 2 => too many nodes
         count => 0
         op module 1 => o0";
-    play::<NodeCalls>(rt.alloc(), 2, script)
+    play_in(rt.alloc(), 2, script)
 }
 
 #[test]
@@ -123,7 +129,7 @@ fn ancestors_stand_above(rt: HostRuntime) -> Result<(), Mismatch> {
         above b1 o0 => no
         unlink o0
         back o0 b1 => refused";
-    play::<NodeCalls>(rt.alloc(), 100, script)
+    play_in(rt.alloc(), 100, script)
 }
 
 #[test]
@@ -151,7 +157,7 @@ fn a_use_beside_counts_and_one_within_does_not(rt: HostRuntime) -> Result<(), Mi
         erase b0
         show r0 => in o0 at 0, between - -, blocks, from - to -
         count => 2";
-    play::<NodeCalls>(rt.alloc(), 100, script)
+    play_in(rt.alloc(), 100, script)
 }
 
 #[test]
@@ -181,7 +187,7 @@ fn operations_are_put_where_memory_is_refused(rt: HostRuntime) -> Result<(), Mis
         back o1 b0
         show b0 => body, in r0 o0, between - -, operations o2 o3 o4 o1 to o1, terminator -, arguments 1
         count => 9";
-    play::<NodeCalls>(rt.alloc(), 100, script)
+    play_in(rt.alloc(), 100, script)
 }
 
 #[test]
@@ -208,7 +214,7 @@ fn blocks_and_regions_are_put_where_memory_is_refused(rt: HostRuntime) -> Result
         show r2 => in o0 at 1, between r0 -, blocks b1, from b1 to b1
         show o0 => module Unknown, in - - -, between - -, regions r0 r2, from r0 to r2, operands, successors, results 0
         count => 4";
-    play::<NodeCalls>(rt.alloc(), 100, script)
+    play_in(rt.alloc(), 100, script)
 }
 
 #[test]
@@ -240,7 +246,7 @@ fn operands_are_put_in_and_taken_out_where_memory_is_refused(
         types o0 => builtin.unit
         types o2
         types b0 => builtin.unit";
-    play::<NodeCalls>(rt.alloc(), 100, script)
+    play_in(rt.alloc(), 100, script)
 }
 
 #[test]
@@ -270,7 +276,7 @@ fn attributes_labels_and_locations_are_set_where_memory_is_refused(
         label b0
         show o0 => constant SrcPos { line: 2, column: 3 }, in - - -, between - -, regions, from - to -, operands, successors, results 0, attributes a = builtin.bool true
         show b0 => -, in - -, between - -, operations to -, terminator -, arguments 1";
-    play::<NodeCalls>(rt.alloc(), 100, script)
+    play_in(rt.alloc(), 100, script)
 }
 
 #[test]
@@ -301,7 +307,7 @@ fn lists_grow_where_memory_is_refused(rt: HostRuntime) -> Result<(), Mismatch> {
         erase o0
         op module 6 => o7
         show o7 => module Unknown, in - - -, between - -, regions r9 r10 r11 r12 r13 r14, from r9 to r14, operands, successors, results 0";
-    play::<NodeCalls>(rt.alloc(), 100, script)
+    play_in(rt.alloc(), 100, script)
 }
 
 #[test]
@@ -319,7 +325,7 @@ fn kinds_implement_interfaces(rt: HostRuntime) -> Result<(), Mismatch> {
         interfaces o3
         interfaces o4 => terminator
         interfaces o5";
-    play::<NodeCalls>(rt.alloc(), 100, script)
+    play_in(rt.alloc(), 100, script)
 }
 
 #[test]
@@ -336,7 +342,7 @@ fn an_insertion_point_is_in_the_block_of_its_mark(rt: HostRuntime) -> Result<(),
         point before o1 => b0
         point after o1 => b0
         point after o0 => -";
-    play::<NodeCalls>(rt.alloc(), 100, script)
+    play_in(rt.alloc(), 100, script)
 }
 
 #[test]

@@ -94,13 +94,15 @@ fn is_absent(
     Ok(())
 }
 
-// Two texts in either order make equal dictionaries, unlike one of them alone.
+// Two texts in either order make equal dictionaries, unlike one of them alone until the other comes in.
 fn order_is_not_seen(rt: &impl Abort, alloc: Global) -> Result<(), Fail> {
     let one = two_texts(rt, alloc, "hello", "world")?;
     let other = two_texts(rt, alloc, "world", "hello")?;
     are_equal(rt, &one, &other);
-    let alone = one_text(rt, alloc, "hello")?;
+    let mut alone = one_text(rt, alloc, "hello")?;
     differ(rt, &one, &alone);
+    put(rt, alloc, &mut alone, "world")?;
+    are_equal(rt, &one, &alone);
     Ok(())
 }
 

@@ -10,6 +10,7 @@ use plir_data::{
 };
 use plir_scripts::{NotMarked, SampleAttr, SampleSet};
 use std::alloc::Global;
+use std::fmt::Write;
 use std::process::Abort;
 use std::test::Fail;
 
@@ -139,4 +140,32 @@ fn tells_own_refusals_where_memory_is_refused(rt: HostRuntime) {
     } else {
         assert!(rt; verdict == not_marked);
     }
+}
+
+// A verdict is told with this text.
+fn is_told(rt: &impl Abort, alloc: Global, verdict: Verdict, told: &str) -> Result<(), Fail> {
+    let mut text = String::new(alloc);
+    if let Err(refusal) = verdict {
+        write!(text, "{refusal}")?;
+    }
+    assert_eq!(rt; text.as_str(), told);
+    Ok(())
+}
+
+#[test]
+fn refusals_are_told_with_the_text_of_their_rule(rt: HostRuntime) -> Result<(), Fail> {
+    let alloc = rt.alloc();
+    is_told(
+        &rt,
+        alloc,
+        refused(AttrVerifyErr::Own(NotMarked)),
+        "not marked",
+    )?;
+    is_told(&rt, alloc, Err(VerifyErr::Memory), "out of memory")?;
+    is_told(
+        &rt,
+        alloc,
+        other_width(),
+        "The bitwidth type does not match the bitwidth of the value.",
+    )
 }

@@ -6,32 +6,35 @@ use super::cond_branch::CondBranch;
 use super::grouping::{put_values, put_verdict};
 use plir_core::{Context, LessThanN};
 use plir_flow::{BranchOpInterface, NSuccsInterface, OneSuccInterface};
-use plir_scripts::{Line, Made, SampleSet, Stop, number};
+use plir_scripts::{Answer, Line, Made, SampleSet, Stop, number};
 use std::alloc::Global;
-use std::fmt::Write;
 
 /// `branch OP RULE` verifies.
 pub fn verify_branch(
     alloc: Global,
     ctx: &Context<SampleSet>,
-    text: &mut String,
+    answer: &mut Answer,
     op: &CondBranch,
     rule: &str,
 ) -> Result<(), Stop>
     requires { IsLive ctx.now (AnyNode.Operation op.now.op) }
 {
     match rule {
-        "NSuccs<2>" => put_verdict(text, NSuccsInterface::<SampleSet, 2>::verify(op, ctx)),
-        "OneSucc" => put_verdict(text, OneSuccInterface::<SampleSet>::verify(op, ctx)),
-        _ => put_verdict(text, BranchOpInterface::<SampleSet>::verify(op, alloc, ctx)),
+        "NSuccs<2>" => put_verdict(answer, NSuccsInterface::<SampleSet, 2>::verify(op, ctx)),
+        "OneSucc" => put_verdict(answer, OneSuccInterface::<SampleSet>::verify(op, ctx)),
+        _ => put_verdict(
+            answer,
+            BranchOpInterface::<SampleSet>::verify(op, alloc, ctx),
+        ),
     }
+    Ok(())
 }
 
 /// `successor OP` writes the last of two successors, or the one.
 pub fn ask_successor(
     ctx: &Context<SampleSet>,
     made: &Made,
-    text: &mut String,
+    answer: &mut Answer,
     op: &CondBranch,
 ) -> Result<(), Stop>
     requires { IsLive ctx.now (AnyNode.Operation op.now.op) }
@@ -39,14 +42,14 @@ pub fn ask_successor(
     let last: LessThanN<2> = LessThanN::new(1).ok_or(Stop::Refused)?;
     if NSuccsInterface::<SampleSet, 2>::verify(op, ctx).is_ok() {
         let block = NSuccsInterface::<SampleSet, 2>::get_successor_i(op, ctx, last);
-        made.put_block(text, Some(block))?;
+        made.put_block(answer, Some(block));
         return Ok(());
     }
     if OneSuccInterface::<SampleSet>::verify(op, ctx).is_err() {
         return Err(Stop::Refused);
     }
     let block = OneSuccInterface::<SampleSet>::get_successor(op, ctx);
-    made.put_block(text, Some(block))?;
+    made.put_block(answer, Some(block));
     Ok(())
 }
 
@@ -55,7 +58,7 @@ pub fn ask_forwarded(
     alloc: Global,
     ctx: &Context<SampleSet>,
     made: &Made,
-    text: &mut String,
+    answer: &mut Answer,
     op: &CondBranch,
     succ: usize,
 ) -> Result<(), Stop>
@@ -69,8 +72,12 @@ pub fn ask_forwarded(
     let values = op.successor_operands(alloc, ctx, succ)?;
     let range = op.successor_operand_range(ctx, succ);
     let (start, end) = (range.start, range.end);
-    write!(text, "{start} to {end}:")?;
-    put_values(made, text, values.as_slice())
+    answer.put_number(start);
+    answer.put(" to ");
+    answer.put_number(end);
+    answer.put(":");
+    put_values(made, answer, values.as_slice());
+    Ok(())
 }
 
 /// `add OP SUCCESSOR VALUE` writes the place.
@@ -78,7 +85,7 @@ pub fn add(
     alloc: Global,
     ctx: &mut Context<SampleSet>,
     made: &Made,
-    text: &mut String,
+    answer: &mut Answer,
     op: &CondBranch,
     line: Line<'_>,
 ) -> Result<(), Stop>
@@ -92,7 +99,7 @@ pub fn add(
         return Err(Stop::Refused);
     }
     let place = op.add_successor_operand(ctx, succ, value)?;
-    write!(text, "{place}")?;
+    answer.put_number(place as usize);
     Ok(())
 }
 
@@ -101,7 +108,7 @@ pub fn take_out(
     alloc: Global,
     ctx: &mut Context<SampleSet>,
     made: &Made,
-    text: &mut String,
+    answer: &mut Answer,
     op: &CondBranch,
     line: Line<'_>,
 ) -> Result<(), Stop>
@@ -115,7 +122,7 @@ pub fn take_out(
         return Err(Stop::Refused);
     }
     let value = op.remove_successor_operand(ctx, succ, arg);
-    made.put_value(text, value)?;
+    made.put_value(answer, value);
     Ok(())
 }
 

@@ -6,7 +6,7 @@ use super::call_ops::{NamedCall, ValueCall};
 use super::grouping::{put_values, put_verdict};
 use plir_core::{Context, Operation, Ptr};
 use plir_flow::{CallOpCallable, CallOpInterface};
-use plir_scripts::{Bench, Line, Made, SampleSet, Stop, put_type_name};
+use plir_scripts::{Answer, Bench, Line, Made, SampleSet, Stop, put_type_name};
 use std::alloc::Global;
 
 /// `layout OP KIND`, `call OP KIND` and `args OP KIND`: the kind is `value` or `name`.
@@ -14,27 +14,28 @@ pub fn ask_call<C: CallOpInterface<SampleSet> + Drop>(
     alloc: Global,
     ctx: &Context<SampleSet>,
     made: &Made,
-    text: &mut String,
+    answer: &mut Answer,
     op: &C,
     command: &str,
 ) -> Result<(), Stop>
     requires { IsLive ctx.now (AnyNode.Operation (C.pointer op.now)) }
 {
     match command {
-        "layout" => put_verdict(text, op.verify_call_layout(alloc, ctx)),
-        "call" => put_verdict(text, op.verify(ctx)),
+        "layout" => put_verdict(answer, op.verify_call_layout(alloc, ctx)),
+        "call" => put_verdict(answer, op.verify(ctx)),
         _ => {
             if op.verify_call_layout(alloc, ctx).is_err() {
                 return Err(Stop::Refused);
             }
             match op.callee(alloc, ctx)? {
-                CallOpCallable::Direct(name) => text.push_str(name.as_str())?,
-                CallOpCallable::Indirect(value) => made.put_value(text, value)?,
+                CallOpCallable::Direct(name) => answer.put(name.as_str()),
+                CallOpCallable::Indirect(value) => made.put_value(answer, value),
             }
-            text.push_str(" /")?;
-            put_values(made, text, op.args(alloc, ctx)?.as_slice())
+            answer.put(" /");
+            put_values(made, answer, op.args(alloc, ctx)?.as_slice());
         }
     }
+    Ok(())
 }
 
 /// The same by the kind of the call.
@@ -42,21 +43,21 @@ pub fn ask_kind(
     alloc: Global,
     ctx: &Context<SampleSet>,
     made: &Made,
-    text: &mut String,
+    answer: &mut Answer,
     op: Ptr<Operation>,
     line: Line<'_>,
 ) -> Result<(), Stop>
     requires { IsLive ctx.now (AnyNode.Operation op) }
 {
     match line.second {
-        "value" => ask_call(alloc, ctx, made, text, &ValueCall { op }, line.command),
-        "name" => ask_call(alloc, ctx, made, text, &NamedCall { op }, line.command),
+        "value" => ask_call(alloc, ctx, made, answer, &ValueCall { op }, line.command),
+        "name" => ask_call(alloc, ctx, made, answer, &NamedCall { op }, line.command),
         _ => Err(Stop::Refused),
     }
 }
 
 /// `callee-type OP`.
-pub fn ask_type(bench: &mut Bench, op: ValueCall) -> Result<(), Stop>
+pub fn ask_type(bench: &mut Bench<SampleSet>, op: ValueCall) -> Result<(), Stop>
     requires { IsLive bench.old.ctx (AnyNode.Operation op.op) }
 {
     if op.verify(&bench.ctx).is_err() {
@@ -67,7 +68,7 @@ pub fn ask_type(bench: &mut Bench, op: ValueCall) -> Result<(), Stop>
 }
 
 /// `set-callee OP TYPE`.
-pub fn set_type(bench: &mut Bench, op: ValueCall, line: Line<'_>) -> Result<(), Stop>
+pub fn set_type(bench: &mut Bench<SampleSet>, op: ValueCall, line: Line<'_>) -> Result<(), Stop>
     requires { IsLive bench.old.ctx (AnyNode.Operation op.op) }
 {
     let ty = bench.made.type_named(&bench.ctx, line.second)?;

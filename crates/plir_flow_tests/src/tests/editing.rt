@@ -5,33 +5,32 @@ ghost use Rattle.plir_core.specs.declared.ptr.IRNode.{IRNode as AnyNode};
 use super::grouped::Grouped;
 use plir_core::Context;
 use plir_flow::{OperandSegmentInterface, laws};
-use plir_scripts::{Line, Made, SampleSet, Stop, number};
-use std::fmt::Write;
+use plir_scripts::{Answer, Line, Made, SampleSet, Stop, number};
 
 /// `push OP SEGMENT VALUE` writes the place, `into OP SEGMENT PLACE VALUE`, `pop OP SEGMENT` and `from OP SEGMENT PLACE`
 /// write the value, and so does `again OP SEGMENT VALUE`, which pushes a value and pops it.
 pub fn edit(
     ctx: &mut Context<SampleSet>,
     made: &Made,
-    text: &mut String,
+    answer: &mut Answer,
     op: &Grouped,
     line: Line<'_>,
 ) -> Result<(), Stop>
     requires { IsLive ctx.old (AnyNode.Operation op.now.op) }
 {
     match line.command {
-        "push" => push(ctx, made, text, op, line),
+        "push" => push(ctx, made, answer, op, line),
         "into" => into(ctx, made, op, line),
-        "pop" => pop(ctx, made, text, op, line),
-        "from" => from(ctx, made, text, op, line),
-        _ => again(ctx, made, text, op, line),
+        "pop" => pop(ctx, made, answer, op, line),
+        "from" => from(ctx, made, answer, op, line),
+        _ => again(ctx, made, answer, op, line),
     }
 }
 
 fn push(
     ctx: &mut Context<SampleSet>,
     made: &Made,
-    text: &mut String,
+    answer: &mut Answer,
     op: &Grouped,
     line: Line<'_>,
 ) -> Result<(), Stop>
@@ -45,7 +44,7 @@ fn push(
         return Err(Stop::Refused);
     }
     let place = op.push_to_segment(ctx, seg, value)?;
-    write!(text, "{place}")?;
+    answer.put_number(place as usize);
     Ok(())
 }
 
@@ -72,7 +71,7 @@ fn into(ctx: &mut Context<SampleSet>, made: &Made, op: &Grouped, line: Line<'_>)
 fn pop(
     ctx: &mut Context<SampleSet>,
     made: &Made,
-    text: &mut String,
+    answer: &mut Answer,
     op: &Grouped,
     line: Line<'_>,
 ) -> Result<(), Stop>
@@ -86,14 +85,14 @@ fn pop(
         return Err(Stop::Refused);
     }
     let value = op.pop_from_segment(ctx, seg);
-    made.put_value(text, value)?;
+    made.put_value(answer, value);
     Ok(())
 }
 
 fn from(
     ctx: &mut Context<SampleSet>,
     made: &Made,
-    text: &mut String,
+    answer: &mut Answer,
     op: &Grouped,
     line: Line<'_>,
 ) -> Result<(), Stop>
@@ -107,14 +106,14 @@ fn from(
         return Err(Stop::Refused);
     }
     let value = op.remove_from_segment(ctx, seg, place);
-    made.put_value(text, value)?;
+    made.put_value(answer, value);
     Ok(())
 }
 
 fn again(
     ctx: &mut Context<SampleSet>,
     made: &Made,
-    text: &mut String,
+    answer: &mut Answer,
     op: &Grouped,
     line: Line<'_>,
 ) -> Result<(), Stop>
@@ -128,6 +127,6 @@ fn again(
         return Err(Stop::Refused);
     }
     let back = laws::push_then_pop(ctx, op, seg, value)?;
-    made.put_value(text, back)?;
+    made.put_value(answer, back);
     Ok(())
 }

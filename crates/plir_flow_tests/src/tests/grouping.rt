@@ -6,51 +6,50 @@ use super::grouped::Grouped;
 use plir_core::{Context, Value};
 use plir_data::{FunctionTypeMark, Memory, OperandSegmentSizesAttr, UnitType, VerifyErr};
 use plir_flow::{OperandSegmentInterface, SegmentNImplsTy, SegmentNOfType};
-use plir_scripts::{Bench, Line, Made, SampleSet, Stop, number, split_word};
+use plir_scripts::{Answer, Bench, Line, Made, SampleSet, Stop, number, split_word};
 use std::alloc::Global;
-use std::fmt::{Display, Write};
+use std::fmt::Display;
 
 /// Writes `ok`, or the text of the refusal.
-pub fn put_verdict<E: Display + Drop>(
-    text: &mut String,
-    verdict: Result<(), VerifyErr<E>>,
-) -> Result<(), Stop> {
+pub fn put_verdict<E: Display + Drop>(answer: &mut Answer, verdict: Result<(), VerifyErr<E>>) {
     match verdict {
-        Ok(()) => text.push_str("ok")?,
-        Err(VerifyErr::Refused { err, .. }) => write!(text, "{err}")?,
-        Err(VerifyErr::Memory) => return Err(Stop::Memory),
+        Ok(()) => answer.put("ok"),
+        Err(VerifyErr::Refused { err, .. }) => answer.put_shown(&err),
+        Err(VerifyErr::Memory) => answer.note_lost(),
     }
-    Ok(())
 }
 
 /// Writes the names of values.
-pub fn put_values(made: &Made, text: &mut String, values: &[Value]) -> Result<(), Stop> {
+pub fn put_values(made: &Made, answer: &mut Answer, values: &[Value]) {
     for value in values {
-        made.put_value(text, *value)?;
+        made.put_value(answer, *value);
     }
-    Ok(())
 }
 
 // Writes sizes.
-fn put_sizes(text: &mut String, sizes: &OperandSegmentSizesAttr) -> Result<(), Stop> {
+fn put_sizes(answer: &mut Answer, sizes: &OperandSegmentSizesAttr) {
     for size in sizes.0.as_slice() {
-        write!(text, " {size}")?;
+        answer.put(" ");
+        answer.put_number(*size as usize);
     }
-    Ok(())
 }
 
 /// `verify OP COUNT`, where `-` expects no number of segments.
-pub fn verify(ctx: &Context<SampleSet>, text: &mut String, op: &Grouped) -> Result<(), Stop>
+pub fn verify(ctx: &Context<SampleSet>, answer: &mut Answer, op: &Grouped) -> Result<(), Stop>
     requires { IsLive ctx.now (AnyNode.Operation op.now.op) }
 {
-    put_verdict(text, OperandSegmentInterface::<SampleSet>::verify(op, ctx))
+    put_verdict(
+        answer,
+        OperandSegmentInterface::<SampleSet>::verify(op, ctx),
+    );
+    Ok(())
 }
 
 /// `types OP RULE`: the rules of the types in one segment.
 pub fn verify_types(
     alloc: Global,
     ctx: &Context<SampleSet>,
-    text: &mut String,
+    answer: &mut Answer,
     op: &Grouped,
     rule: &str,
 ) -> Result<(), Stop>
@@ -61,26 +60,27 @@ pub fn verify_types(
     }
     match rule {
         "SegmentNOfType<1, Unit>" => put_verdict(
-            text,
+            answer,
             SegmentNOfType::<SampleSet, 1, UnitType>::verify(op, alloc, ctx),
         ),
         "SegmentNOfType<2, Unit>" => put_verdict(
-            text,
+            answer,
             SegmentNOfType::<SampleSet, 2, UnitType>::verify(op, alloc, ctx),
         ),
         "SegmentNImplsTy<1, Function>" => put_verdict(
-            text,
+            answer,
             SegmentNImplsTy::<SampleSet, 1, FunctionTypeMark>::verify(op, ctx),
         ),
-        _ => Err(Stop::Refused),
+        _ => return Err(Stop::Refused),
     }
+    Ok(())
 }
 
 /// `segments OP` writes how many segments there are, `held OP` the operands and the sizes.
 pub fn ask_all(
     ctx: &Context<SampleSet>,
     made: &Made,
-    text: &mut String,
+    answer: &mut Answer,
     op: &Grouped,
     what: &str,
 ) -> Result<(), Stop>
@@ -91,20 +91,21 @@ pub fn ask_all(
     }
     if what == "segments" {
         let count = op.num_segments(ctx);
-        write!(text, "{count}")?;
+        answer.put_number(count as usize);
         return Ok(());
     }
     for place in 0..op.op.get_num_operands(ctx) {
-        made.put_value(text, op.op.get_operand(ctx, place))?;
+        made.put_value(answer, op.op.get_operand(ctx, place));
     }
-    text.push_str(" /")?;
-    put_sizes(text, op.get_operand_segment_sizes(ctx))
+    answer.put(" /");
+    put_sizes(answer, op.get_operand_segment_sizes(ctx));
+    Ok(())
 }
 
 /// `size OP SEGMENT`.
 pub fn ask_size(
     ctx: &Context<SampleSet>,
-    text: &mut String,
+    answer: &mut Answer,
     op: &Grouped,
     seg: usize,
 ) -> Result<(), Stop>
@@ -114,7 +115,7 @@ pub fn ask_size(
         return Err(Stop::Refused);
     }
     let size = op.segment_size(ctx, seg);
-    write!(text, "{size}")?;
+    answer.put_number(size as usize);
     Ok(())
 }
 
@@ -123,7 +124,7 @@ pub fn ask_segment(
     alloc: Global,
     ctx: &Context<SampleSet>,
     made: &Made,
-    text: &mut String,
+    answer: &mut Answer,
     op: &Grouped,
     seg: usize,
 ) -> Result<(), Stop>
@@ -137,12 +138,16 @@ pub fn ask_segment(
     let values = op.get_segment(alloc, ctx, seg)?;
     let range = op.segment_range(ctx, seg);
     let (start, end) = (range.start, range.end);
-    write!(text, "{start} to {end}:")?;
-    put_values(made, text, values.as_slice())
+    answer.put_number(start);
+    answer.put(" to ");
+    answer.put_number(end);
+    answer.put(":");
+    put_values(made, answer, values.as_slice());
+    Ok(())
 }
 
 /// `flatten VALUES / VALUES ..` writes the values of all segments and their sizes.
-pub fn flatten(bench: &mut Bench, line: Line<'_>) -> Result<(), Stop> {
+pub fn flatten(bench: &mut Bench<SampleSet>, line: Line<'_>) -> Result<(), Stop> {
     let (alloc, ctx, made) = (bench.alloc, &bench.ctx, &bench.made);
     let mut segments = Vec::new(alloc);
     for names in line.text.split('/') {
@@ -153,9 +158,10 @@ pub fn flatten(bench: &mut Bench, line: Line<'_>) -> Result<(), Stop> {
         segments.push(values)?;
     }
     let (values, sizes) = flat(alloc, segments)?;
-    put_values(made, &mut bench.answer, values.as_slice())?;
-    bench.answer.push_str(" /")?;
-    put_sizes(&mut bench.answer, &sizes)
+    put_values(made, &mut bench.answer, values.as_slice());
+    bench.answer.put(" /");
+    put_sizes(&mut bench.answer, &sizes);
+    Ok(())
 }
 
 fn flat(
@@ -166,7 +172,7 @@ fn flat(
 }
 
 /// `sizes OP SIZES` puts sizes under their key.
-pub fn set_sizes(bench: &mut Bench, op: &Grouped, line: Line<'_>) -> Result<(), Stop>
+pub fn set_sizes(bench: &mut Bench<SampleSet>, op: &Grouped, line: Line<'_>) -> Result<(), Stop>
     requires { IsLive bench.old.ctx (AnyNode.Operation op.now.op) }
 {
     let alloc = bench.alloc;

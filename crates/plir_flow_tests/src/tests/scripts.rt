@@ -8,13 +8,13 @@ use super::grouped::Grouped;
 use super::grouping::{
     ask_all, ask_segment, ask_size, expected_of, flatten, set_sizes, verify, verify_types,
 };
-use plir_scripts::{Bench, Layer, Line, Mismatch, NodeCalls, Stop, number, play};
+use plir_scripts::{Bench, Layer, Line, Mismatch, NodeCalls, SampleSet, Stop, number, play};
 
 /// The calls on segments, and those on nodes.
 struct SegmentCalls;
 
-impl Layer for SegmentCalls {
-    fn run(bench: &mut Bench, line: Line<'_>) -> Result<(), Stop> {
+impl Layer<SampleSet> for SegmentCalls {
+    fn run(bench: &mut Bench<SampleSet>, line: Line<'_>) -> Result<(), Stop> {
         if line.command == "flatten" {
             return flatten(bench, line);
         }
@@ -43,22 +43,22 @@ impl Layer for SegmentCalls {
         if matches!(line.command, "push" | "into" | "pop" | "from" | "again") {
             return edit(&mut bench.ctx, &bench.made, &mut bench.answer, &any, line);
         }
-        let (alloc, ctx, made, text) = (bench.alloc, &bench.ctx, &bench.made, &mut bench.answer);
+        let (alloc, ctx, made, answer) = (bench.alloc, &bench.ctx, &bench.made, &mut bench.answer);
         match line.command {
             "verify" => {
                 let expected = expected_of(line.second)?;
-                verify(ctx, text, &Grouped { op, expected })
+                verify(ctx, answer, &Grouped { op, expected })
             }
             "segment-types" => verify_types(
                 alloc,
                 ctx,
-                text,
+                answer,
                 &any,
                 line.text.split_once(' ').unwrap_or((line.text, "")).1,
             ),
-            "size" => ask_size(ctx, text, &any, number(line.second)?),
-            "segment" => ask_segment(alloc, ctx, made, text, &any, number(line.second)?),
-            _ => ask_all(ctx, made, text, &any, line.command),
+            "size" => ask_size(ctx, answer, &any, number(line.second)?),
+            "segment" => ask_segment(alloc, ctx, made, answer, &any, number(line.second)?),
+            _ => ask_all(ctx, made, answer, &any, line.command),
         }
     }
 }
@@ -66,8 +66,8 @@ impl Layer for SegmentCalls {
 /// The calls on branches, and those on segments.
 struct BranchCalls;
 
-impl Layer for BranchCalls {
-    fn run(bench: &mut Bench, line: Line<'_>) -> Result<(), Stop> {
+impl Layer<SampleSet> for BranchCalls {
+    fn run(bench: &mut Bench<SampleSet>, line: Line<'_>) -> Result<(), Stop> {
         if !matches!(
             line.command,
             "branch" | "successor" | "forwarded" | "add" | "drop" | "reset"
@@ -76,14 +76,14 @@ impl Layer for BranchCalls {
         }
         let op = bench.made.op(&bench.ctx, line.first)?;
         let op = CondBranch { op };
-        let (alloc, made, text) = (bench.alloc, &bench.made, &mut bench.answer);
+        let (alloc, made, answer) = (bench.alloc, &bench.made, &mut bench.answer);
         match line.command {
-            "add" => add(alloc, &mut bench.ctx, made, text, &op, line),
-            "drop" => take_out(alloc, &mut bench.ctx, made, text, &op, line),
+            "add" => add(alloc, &mut bench.ctx, made, answer, &op, line),
+            "drop" => take_out(alloc, &mut bench.ctx, made, answer, &op, line),
             "reset" => reset(alloc, &mut bench.ctx, made, &op, line),
-            "branch" => verify_branch(alloc, &bench.ctx, text, &op, line.second),
-            "successor" => ask_successor(&bench.ctx, made, text, &op),
-            _ => ask_forwarded(alloc, &bench.ctx, made, text, &op, number(line.second)?),
+            "branch" => verify_branch(alloc, &bench.ctx, answer, &op, line.second),
+            "successor" => ask_successor(&bench.ctx, made, answer, &op),
+            _ => ask_forwarded(alloc, &bench.ctx, made, answer, &op, number(line.second)?),
         }
     }
 }
@@ -91,8 +91,8 @@ impl Layer for BranchCalls {
 /// The calls on calls, and those on nodes.
 struct CallCalls;
 
-impl Layer for CallCalls {
-    fn run(bench: &mut Bench, line: Line<'_>) -> Result<(), Stop> {
+impl Layer<SampleSet> for CallCalls {
+    fn run(bench: &mut Bench<SampleSet>, line: Line<'_>) -> Result<(), Stop> {
         if !matches!(
             line.command,
             "layout" | "call" | "args" | "callee-type" | "set-callee"
@@ -140,7 +140,7 @@ fn segments_are_edited_where_memory_is_refused(rt: HostRuntime) -> Result<(), Mi
         pop o1 3 => refused
         again o1 0 o0.3 => o0.3
         held o1 => o0.0 o0.1 o0.2 / 2 0 1";
-    play::<SegmentCalls>(rt.alloc(), 100, script)
+    play::<SampleSet, SegmentCalls>(rt.alloc(), 100, script)
 }
 
 #[test]
@@ -162,7 +162,7 @@ fn values_come_into_segments_where_memory_is_refused(rt: HostRuntime) -> Result<
         held o1 => o0.0 o0.1 o0.0 o0.0 / 3 1
         from o1 0 1 => o0.1
         held o1 => o0.0 o0.0 o0.0 / 2 1";
-    play::<SegmentCalls>(rt.alloc(), 100, script)
+    play::<SampleSet, SegmentCalls>(rt.alloc(), 100, script)
 }
 
 #[test]
@@ -187,7 +187,7 @@ fn sizes_are_accepted_and_refused(rt: HostRuntime) -> Result<(), Mismatch> {
         verify o2 - => ok
         verify o2 0 => ok
         segments o2 => 0";
-    play::<SegmentCalls>(rt.alloc(), 100, script)
+    play::<SampleSet, SegmentCalls>(rt.alloc(), 100, script)
 }
 
 #[test]
@@ -197,7 +197,7 @@ fn segments_are_flattened_where_memory_is_refused(rt: HostRuntime) -> Result<(),
         op plain 0 t0 t0 t0 => o0
         flatten o0.0 o0.1 / / o0.2 => o0.0 o0.1 o0.2 / 2 0 1
         flatten => / 0";
-    play::<SegmentCalls>(rt.alloc(), 100, script)
+    play::<SampleSet, SegmentCalls>(rt.alloc(), 100, script)
 }
 
 #[test]
@@ -224,7 +224,7 @@ fn types_in_a_segment_are_asked_where_memory_is_refused(rt: HostRuntime) -> Resu
         segment-types o3 SegmentNImplsTy<1, Function> => Op does not have operand segment at index 1
         sizes o3 1
         segment-types o3 SegmentNImplsTy<1, Function> => refused";
-    play::<SegmentCalls>(rt.alloc(), 100, script)
+    play::<SampleSet, SegmentCalls>(rt.alloc(), 100, script)
 }
 
 #[test]
@@ -261,7 +261,7 @@ fn branches_are_accepted_and_refused_where_memory_is_refused(
         successor o3 => b1
         sizes o3 0 0 0
         branch o3 => not marked";
-    play::<BranchCalls>(rt.alloc(), 100, script)
+    play::<SampleSet, BranchCalls>(rt.alloc(), 100, script)
 }
 
 #[test]
@@ -290,7 +290,7 @@ fn values_are_forwarded_where_memory_is_refused(rt: HostRuntime) -> Result<(), M
         reset o1 0 1 o0.1 => refused
         reset o1 0 0 o0.1
         held o1 => o0.0 o0.1 / 1 1 0";
-    play::<BranchCalls>(rt.alloc(), 100, script)
+    play::<SampleSet, BranchCalls>(rt.alloc(), 100, script)
 }
 
 #[test]
@@ -318,5 +318,5 @@ fn calls_are_accepted_and_refused_where_memory_is_refused(rt: HostRuntime) -> Re
         args o2 value => refused
         layout o2 name => ok
         args o2 name => f /";
-    play::<CallCalls>(rt.alloc(), 100, script)
+    play::<SampleSet, CallCalls>(rt.alloc(), 100, script)
 }

@@ -1,6 +1,6 @@
 //! An operation that has every interface.
 use plir_core::{Operation, Ptr};
-use plir_data::{FunctionTypeMark, IntegerType, UnitType};
+use plir_data::{FunctionTypeMark, IntegerType, OpSet, UnitType};
 use plir_iface::{
     AllOperandsImplsTy, AllOperandsOfType, AllResultsImplsTy, AllResultsOfType,
     AtLeastNOpdsInterface, AtLeastNResultsInterface, AtMostNOpdsInterface, AtMostNRegionsInterface,
@@ -12,7 +12,6 @@ use plir_iface::{
     ResultsMNImplsTy, ResultsMNOfType, SameOperandsAndResultType, SameOperandsType,
     SameResultsType, SingleBlockRegionInterface,
 };
-use plir_scripts::SampleSet;
 
 /// An operation that has every interface, so that each can be tried.
 #[derive(Clone, Copy)]
@@ -20,7 +19,7 @@ pub struct AnyOp {
     pub op: Ptr<Operation>,
 }
 
-impl Op<SampleSet> for AnyOp {
+impl<D: OpSet> Op<D> for AnyOp {
     ghost pointer = { λ o. o.op };
 
     fn get_operation(&self) -> Ptr<Operation> {
@@ -28,23 +27,23 @@ impl Op<SampleSet> for AnyOp {
     }
 }
 
-impl NRegionsInterface<SampleSet, 2> for AnyOp {}
+impl<D: OpSet> NRegionsInterface<D, 2> for AnyOp {}
 
-impl OneRegionInterface<SampleSet> for AnyOp {}
+impl<D: OpSet> OneRegionInterface<D> for AnyOp {}
 
-impl AtMostNRegionsInterface<SampleSet, 1> for AnyOp {}
+impl<D: OpSet> AtMostNRegionsInterface<D, 1> for AnyOp {}
 
-impl AtMostOneRegionInterface<SampleSet> for AnyOp {}
+impl<D: OpSet> AtMostOneRegionInterface<D> for AnyOp {}
 
-impl SingleBlockRegionInterface<SampleSet> for AnyOp {}
+impl<D: OpSet> SingleBlockRegionInterface<D> for AnyOp {}
 
-impl NoTerminatorInterface<SampleSet> for AnyOp {}
+impl<D: OpSet> NoTerminatorInterface<D> for AnyOp {}
 
-impl IsTerminatorInterface<SampleSet> for AnyOp {}
+impl<D: OpSet> IsTerminatorInterface<D> for AnyOp {}
 
-impl IsolatedFromAboveInterface<SampleSet> for AnyOp {}
+impl<D: OpSet> IsolatedFromAboveInterface<D> for AnyOp {}
 
-impl RegionKindInterface<SampleSet> for AnyOp {
+impl<D: OpSet> RegionKindInterface<D> for AnyOp {
     ghost use Rattle.std.specs.Prelude.{◌==◌, if◌then◌else◌};
     ghost use Rattle.plir_iface.specs.declared.kinds.RegionKind.TheVariants.{Graph, SSACFG};
 
@@ -59,54 +58,54 @@ impl RegionKindInterface<SampleSet> for AnyOp {
     }
 }
 
-impl NResultsInterface<SampleSet, 2> for AnyOp {}
+impl<D: OpSet> NResultsInterface<D, 2> for AnyOp {}
 
-impl AtMostNResultsInterface<SampleSet, 2> for AnyOp {}
+impl<D: OpSet> AtMostNResultsInterface<D, 2> for AnyOp {}
 
-impl OptionalResultInterface<SampleSet> for AnyOp {}
+impl<D: OpSet> OptionalResultInterface<D> for AnyOp {}
 
-impl AtLeastNResultsInterface<SampleSet, 2> for AnyOp {}
+impl<D: OpSet> AtLeastNResultsInterface<D, 2> for AnyOp {}
 
-impl OneResultInterface<SampleSet> for AnyOp {}
+impl<D: OpSet> OneResultInterface<D> for AnyOp {}
 
-impl NOpdsInterface<SampleSet, 2> for AnyOp {}
+impl<D: OpSet> NOpdsInterface<D, 2> for AnyOp {}
 
-impl AtMostNOpdsInterface<SampleSet, 2> for AnyOp {}
+impl<D: OpSet> AtMostNOpdsInterface<D, 2> for AnyOp {}
 
-impl OptionalOpdInterface<SampleSet> for AnyOp {}
+impl<D: OpSet> OptionalOpdInterface<D> for AnyOp {}
 
-impl AtLeastNOpdsInterface<SampleSet, 2> for AnyOp {}
+impl<D: OpSet> AtLeastNOpdsInterface<D, 2> for AnyOp {}
 
-impl OneOpdInterface<SampleSet> for AnyOp {}
+impl<D: OpSet> OneOpdInterface<D> for AnyOp {}
 
-impl SameOperandsType<SampleSet> for AnyOp {}
+impl<D: OpSet> SameOperandsType<D> for AnyOp {}
 
-impl SameResultsType<SampleSet> for AnyOp {}
+impl<D: OpSet> SameResultsType<D> for AnyOp {}
 
-impl SameOperandsAndResultType<SampleSet> for AnyOp {}
+impl<D: OpSet> SameOperandsAndResultType<D> for AnyOp {}
 
-impl AllOperandsOfType<SampleSet, UnitType> for AnyOp {}
+impl<D: OpSet> AllOperandsOfType<D, UnitType> for AnyOp {}
 
-impl AllResultsOfType<SampleSet, UnitType> for AnyOp {}
+impl<D: OpSet> AllResultsOfType<D, UnitType> for AnyOp {}
 
-impl AllOperandsImplsTy<SampleSet, FunctionTypeMark> for AnyOp {}
+impl<D: OpSet> AllOperandsImplsTy<D, FunctionTypeMark> for AnyOp {}
 
-impl AllResultsImplsTy<SampleSet, FunctionTypeMark> for AnyOp {}
+impl<D: OpSet> AllResultsImplsTy<D, FunctionTypeMark> for AnyOp {}
 
-impl OperandNOfType<SampleSet, 0, UnitType> for AnyOp {}
+impl<D: OpSet> OperandNOfType<D, 0, UnitType> for AnyOp {}
 
-impl ResultNOfType<SampleSet, 0, UnitType> for AnyOp {}
+impl<D: OpSet> ResultNOfType<D, 0, UnitType> for AnyOp {}
 
-impl OperandNImplsTy<SampleSet, 1, FunctionTypeMark> for AnyOp {}
+impl<D: OpSet> OperandNImplsTy<D, 1, FunctionTypeMark> for AnyOp {}
 
-impl ResultNImplsTy<SampleSet, 1, FunctionTypeMark> for AnyOp {}
+impl<D: OpSet> ResultNImplsTy<D, 1, FunctionTypeMark> for AnyOp {}
 
-impl OperandsMNOfType<SampleSet, 1, 4294967295, IntegerType> for AnyOp {}
+impl<D: OpSet> OperandsMNOfType<D, 1, 4294967295, IntegerType> for AnyOp {}
 
-impl OperandsMNOfType<SampleSet, 0, 2, IntegerType> for AnyOp {}
+impl<D: OpSet> OperandsMNOfType<D, 0, 2, IntegerType> for AnyOp {}
 
-impl ResultsMNOfType<SampleSet, 0, 2, IntegerType> for AnyOp {}
+impl<D: OpSet> ResultsMNOfType<D, 0, 2, IntegerType> for AnyOp {}
 
-impl OperandsMNImplsTy<SampleSet, 0, 1, FunctionTypeMark> for AnyOp {}
+impl<D: OpSet> OperandsMNImplsTy<D, 0, 1, FunctionTypeMark> for AnyOp {}
 
-impl ResultsMNImplsTy<SampleSet, 0, 4294967295, FunctionTypeMark> for AnyOp {}
+impl<D: OpSet> ResultsMNImplsTy<D, 0, 4294967295, FunctionTypeMark> for AnyOp {}

@@ -4,41 +4,43 @@ ghost use Rattle.plir_core.specs.declared.ptr.IRNode.{IRNode as AnyNode};
 
 use super::any_op::AnyOp;
 use plir_core::{Context, LessThanN, Value};
-use plir_data::TypeHandle;
+use plir_data::{OpSet, TypeHandle};
 use plir_iface::{
     AtMostOneRegionInterface, NOpdsInterface, NRegionsInterface, NResultsInterface,
     OneOpdInterface, OneRegionInterface, OneResultInterface, OptionalOpdInterface,
     OptionalResultInterface, RegionKindInterface, SameOperandsAndResultType, SameOperandsType,
     SameResultsType, SingleBlockRegionInterface, verify_get_operand_n, verify_get_result_n,
 };
-use plir_scripts::{Made, SampleSet, Stop, put_truth};
-use std::alloc::AllocError;
-use std::fmt::Write;
+use plir_scripts::{Answer, Made, Stop};
 
 // Writes the name of a type, or `-` for none.
-fn put_type(made: &Made, text: &mut String, handle: Option<TypeHandle>) -> Result<(), AllocError> {
+fn put_type(made: &Made, answer: &mut Answer, handle: Option<TypeHandle>) {
     let Some(handle) = handle else {
-        return text.push('-');
+        answer.put("-");
+        return;
     };
     match made.types.iter().position(|other| *other == handle) {
-        None => text.push_str("unknown"),
-        Some(place) => write!(text, "t{place}"),
+        None => answer.put("unknown"),
+        Some(place) => {
+            answer.put("t");
+            answer.put_number(place);
+        }
     }
 }
 
 // Writes the name of a value, or `-` for none.
-fn put_value(made: &Made, text: &mut String, value: Option<Value>) -> Result<(), AllocError> {
+fn put_value(made: &Made, answer: &mut Answer, value: Option<Value>) {
     match value {
-        None => text.push('-'),
-        Some(value) => made.put_value(text, value),
+        None => answer.put("-"),
+        Some(value) => made.put_value(answer, value),
     }
 }
 
 /// The accessors of two results or operands and of one: the last of two.
-pub fn ask_counted(
-    ctx: &Context<SampleSet>,
+pub fn ask_counted<D: OpSet>(
+    ctx: &Context<D>,
     made: &Made,
-    text: &mut String,
+    answer: &mut Answer,
     op: &AnyOp,
     name: &str,
 ) -> Result<(), Stop>
@@ -46,53 +48,48 @@ pub fn ask_counted(
 {
     let last: LessThanN<2> = LessThanN::new(1).ok_or(Stop::Refused)?;
     match name {
-        "OneResult.get_result" if OneResultInterface::<SampleSet>::verify(op, ctx).is_ok() => {
-            made.put_value(text, OneResultInterface::<SampleSet>::get_result(op, ctx))?
+        "OneResult.get_result" if OneResultInterface::<D>::verify(op, ctx).is_ok() => {
+            made.put_value(answer, OneResultInterface::<D>::get_result(op, ctx))
         }
-        "OneOpd.get_operand" if OneOpdInterface::<SampleSet>::verify(op, ctx).is_ok() => {
-            made.put_value(text, OneOpdInterface::<SampleSet>::get_operand(op, ctx))?
+        "OneOpd.get_operand" if OneOpdInterface::<D>::verify(op, ctx).is_ok() => {
+            made.put_value(answer, OneOpdInterface::<D>::get_operand(op, ctx))
         }
-        "OneResult.result_type" if OneResultInterface::<SampleSet>::verify(op, ctx).is_ok() => {
+        "OneResult.result_type" if OneResultInterface::<D>::verify(op, ctx).is_ok() => {
             put_type(
                 made,
-                text,
-                Some(OneResultInterface::<SampleSet>::result_type(op, ctx)),
-            )?
+                answer,
+                Some(OneResultInterface::<D>::result_type(op, ctx)),
+            )
         }
-        "OneOpd.operand_type" if OneOpdInterface::<SampleSet>::verify(op, ctx).is_ok() => {
+        "OneOpd.operand_type" if OneOpdInterface::<D>::verify(op, ctx).is_ok() => {
             put_type(
                 made,
-                text,
-                Some(OneOpdInterface::<SampleSet>::operand_type(op, ctx)),
-            )?
+                answer,
+                Some(OneOpdInterface::<D>::operand_type(op, ctx)),
+            )
         }
-        "NResults<2>.get_result_i" if NResultsInterface::<SampleSet, 2>::verify(op, ctx).is_ok() =>
-            {
-                made.put_value(
-                    text,
-                    NResultsInterface::<SampleSet, 2>::get_result_i(op, ctx, last),
-                )?
-            }
-        "NOpds<2>.get_operand_i" if NOpdsInterface::<SampleSet, 2>::verify(op, ctx).is_ok() => {
+        "NResults<2>.get_result_i" if NResultsInterface::<D, 2>::verify(op, ctx).is_ok() => {
             made.put_value(
-                text,
-                NOpdsInterface::<SampleSet, 2>::get_operand_i(op, ctx, last),
-            )?
+                answer,
+                NResultsInterface::<D, 2>::get_result_i(op, ctx, last),
+            )
         }
-        "NResults<2>.result_type_i" if NResultsInterface::<SampleSet, 2>::verify(op, ctx).is_ok() =>
-            {
-                put_type(
-                    made,
-                    text,
-                    Some(NResultsInterface::<SampleSet, 2>::result_type_i(op, ctx, last)),
-                )?
-            }
-        "NOpds<2>.operand_type_i" if NOpdsInterface::<SampleSet, 2>::verify(op, ctx).is_ok() => {
+        "NOpds<2>.get_operand_i" if NOpdsInterface::<D, 2>::verify(op, ctx).is_ok() => {
+            made.put_value(answer, NOpdsInterface::<D, 2>::get_operand_i(op, ctx, last))
+        }
+        "NResults<2>.result_type_i" if NResultsInterface::<D, 2>::verify(op, ctx).is_ok() => {
             put_type(
                 made,
-                text,
-                Some(NOpdsInterface::<SampleSet, 2>::operand_type_i(op, ctx, last)),
-            )?
+                answer,
+                Some(NResultsInterface::<D, 2>::result_type_i(op, ctx, last)),
+            )
+        }
+        "NOpds<2>.operand_type_i" if NOpdsInterface::<D, 2>::verify(op, ctx).is_ok() => {
+            put_type(
+                made,
+                answer,
+                Some(NOpdsInterface::<D, 2>::operand_type_i(op, ctx, last)),
+            )
         }
         _ => return Err(Stop::Refused),
     }
@@ -100,10 +97,10 @@ pub fn ask_counted(
 }
 
 /// The accessors of regions.
-pub fn ask_regions(
-    ctx: &Context<SampleSet>,
+pub fn ask_regions<D: OpSet>(
+    ctx: &Context<D>,
     made: &Made,
-    text: &mut String,
+    answer: &mut Answer,
     op: &AnyOp,
     name: &str,
 ) -> Result<(), Stop>
@@ -111,55 +108,61 @@ pub fn ask_regions(
 {
     let last: LessThanN<2> = LessThanN::new(1).ok_or(Stop::Refused)?;
     let region = match name {
-        "OneRegion.get_region" if OneRegionInterface::<SampleSet>::verify(op, ctx).is_ok() => {
-            OneRegionInterface::<SampleSet>::get_region(op, ctx)
+        "OneRegion.get_region" if OneRegionInterface::<D>::verify(op, ctx).is_ok() => {
+            OneRegionInterface::<D>::get_region(op, ctx)
         }
-        "NRegions<2>.get_region_i" if NRegionsInterface::<SampleSet, 2>::verify(op, ctx).is_ok() =>
-            { NRegionsInterface::<SampleSet, 2>::get_region_i(op, ctx, last) }
+        "NRegions<2>.get_region_i" if NRegionsInterface::<D, 2>::verify(op, ctx).is_ok() => {
+            NRegionsInterface::<D, 2>::get_region_i(op, ctx, last)
+        }
         "SingleBlockRegion.get_body" => {
-            if SingleBlockRegionInterface::<SampleSet>::verify(op, ctx).is_err()
+            if SingleBlockRegionInterface::<D>::verify(op, ctx).is_err()
                 || op.op.num_regions(ctx) == 0
             {
                 return Err(Stop::Refused);
             }
-            let body = SingleBlockRegionInterface::<SampleSet>::get_body(op, ctx, 0);
-            return Ok(made.put_block(text, Some(body))?);
+            let body = SingleBlockRegionInterface::<D>::get_body(op, ctx, 0);
+            made.put_block(answer, Some(body));
+            return Ok(());
         }
         _ => return Err(Stop::Refused),
     };
-    made.put_region(text, Some(region))?;
+    made.put_region(answer, Some(region));
     Ok(())
 }
 
 /// The accessors that have no condition.
-pub fn ask_freely(
-    ctx: &Context<SampleSet>,
+pub fn ask_freely<D: OpSet>(
+    ctx: &Context<D>,
     made: &Made,
-    text: &mut String,
+    answer: &mut Answer,
     op: &AnyOp,
     name: &str,
 ) -> Result<(), Stop>
     requires { IsLive ctx.now (AnyNode.Operation op.now.op) }
 {
     match name {
-        "OptionalResult.get_result_opt" => put_value(made, text, op.get_result_opt(ctx))?,
-        "OptionalOpd.get_operand_opt" => put_value(made, text, op.get_operand_opt(ctx))?,
-        "common_operand_type" => put_type(made, text, op.common_operand_type(ctx))?,
-        "common_result_type" => put_type(made, text, op.common_result_type(ctx))?,
-        "common_type" => put_type(made, text, op.common_type(ctx))?,
+        "OptionalResult.get_result_opt" => put_value(made, answer, op.get_result_opt(ctx)),
+        "OptionalOpd.get_operand_opt" => put_value(made, answer, op.get_operand_opt(ctx)),
+        "common_operand_type" => put_type(made, answer, op.common_operand_type(ctx)),
+        "common_result_type" => put_type(made, answer, op.common_result_type(ctx)),
+        "common_type" => put_type(made, answer, op.common_type(ctx)),
         "AtMostOneRegion.get_region" => made.put_region(
-            text,
-            AtMostOneRegionInterface::<SampleSet>::get_region(op, ctx),
-        )?,
-        "has_ssa_dominance(0)" => put_truth(text, op.has_ssa_dominance(0))?,
-        "has_ssa_dominance(1)" => put_truth(text, op.has_ssa_dominance(1))?,
-        "verify_get_operand_n<2>" => match verify_get_operand_n::<SampleSet, 2>(op.op, ctx) {
-            Ok(value) => made.put_value(text, value)?,
-            Err(refusal) => write!(text, "{refusal}")?,
+            answer,
+            AtMostOneRegionInterface::<D>::get_region(op, ctx),
+        ),
+        "has_ssa_dominance(0)" => answer.put_truth(RegionKindInterface::<D>::has_ssa_dominance(
+            op, 0,
+        )),
+        "has_ssa_dominance(1)" => answer.put_truth(RegionKindInterface::<D>::has_ssa_dominance(
+            op, 1,
+        )),
+        "verify_get_operand_n<2>" => match verify_get_operand_n::<D, 2>(op.op, ctx) {
+            Ok(value) => made.put_value(answer, value),
+            Err(refusal) => answer.put_shown(&refusal),
         },
-        "verify_get_result_n<0>" => match verify_get_result_n::<SampleSet, 0>(op.op, ctx) {
-            Ok(value) => made.put_value(text, value)?,
-            Err(refusal) => write!(text, "{refusal}")?,
+        "verify_get_result_n<0>" => match verify_get_result_n::<D, 0>(op.op, ctx) {
+            Ok(value) => made.put_value(answer, value),
+            Err(refusal) => answer.put_shown(&refusal),
         },
         _ => return Err(Stop::Refused),
     }

@@ -4,15 +4,16 @@ use super::appending::append;
 use super::asking::{ask_counted, ask_freely, ask_regions};
 use super::verifying::{verify_counts, verify_places, verify_types};
 use plir_iface::{IndexRange, resolve_index_range};
-use plir_scripts::{Bench, Layer, Line, Mismatch, NodeCalls, Stop, play};
+use plir_scripts::{Bench, Layer, Line, Mismatch, NodeCalls, SampleSet, ScriptSet, Stop, play};
+use std::alloc::Global;
 
 /// The calls of this crate, and those on nodes: `counts OP INTERFACE`, `of-types OP INTERFACE` and `places OP
 /// INTERFACE` verify, `counted OP ACCESSOR`, `regions OP ACCESSOR` and `free OP ACCESSOR` ask, and `append OP OTHER`
 /// puts an operation into the body.
 struct InterfaceCalls;
 
-impl Layer for InterfaceCalls {
-    fn run(bench: &mut Bench, line: Line<'_>) -> Result<(), Stop> {
+impl<D: ScriptSet> Layer<D> for InterfaceCalls {
+    fn run(bench: &mut Bench<D>, line: Line<'_>) -> Result<(), Stop> {
         if !matches!(
             line.command,
             "counts" | "of-types" | "places" | "counted" | "regions" | "free" | "append"
@@ -23,18 +24,23 @@ impl Layer for InterfaceCalls {
         if line.command == "append" {
             return append(bench, line);
         }
-        let (alloc, ctx, made, text) = (bench.alloc, &bench.ctx, &bench.made, &mut bench.answer);
+        let (alloc, ctx, made, answer) = (bench.alloc, &bench.ctx, &bench.made, &mut bench.answer);
         let (_, name) = line.text.split_once(' ').unwrap_or((line.text, ""));
         let op = AnyOp { op };
         match line.command {
-            "counts" => verify_counts(ctx, text, &op, name),
-            "of-types" => verify_types(alloc, ctx, text, &op, name),
-            "places" => verify_places(ctx, text, &op, name),
-            "counted" => ask_counted(ctx, made, text, &op, name),
-            "regions" => ask_regions(ctx, made, text, &op, name),
-            _ => ask_freely(ctx, made, text, &op, name),
+            "counts" => verify_counts(ctx, answer, &op, name),
+            "of-types" => verify_types(alloc, ctx, answer, &op, name),
+            "places" => verify_places(ctx, answer, &op, name),
+            "counted" => ask_counted(ctx, made, answer, &op, name),
+            "regions" => ask_regions(ctx, made, answer, &op, name),
+            _ => ask_freely(ctx, made, answer, &op, name),
         }
     }
+}
+
+// Plays a script of interfaces.
+fn play_in(alloc: Global, script: &str) -> Result<(), Mismatch> {
+    play::<SampleSet, InterfaceCalls>(alloc, 100, script)
 }
 
 #[test]
@@ -64,7 +70,7 @@ fn numbers_are_accepted_and_refused(rt: HostRuntime) -> Result<(), Mismatch> {
         counts o2 OptionalOpd => At most 1 operands expected, but found 3 operands
         counts o2 AtLeastNResults<2> => ok
         counts o2 AtLeastNOpds<2> => ok";
-    play::<InterfaceCalls>(rt.alloc(), 100, script)
+    play_in(rt.alloc(), script)
 }
 
 #[test]
@@ -91,7 +97,7 @@ fn results_and_operands_are_got(rt: HostRuntime) -> Result<(), Mismatch> {
         counted o2 OneOpd.operand_type => t0
         free o2 OptionalResult.get_result_opt => o2.0
         free o2 OptionalOpd.get_operand_opt => o0.0";
-    play::<InterfaceCalls>(rt.alloc(), 100, script)
+    play_in(rt.alloc(), script)
 }
 
 #[test]
@@ -106,7 +112,7 @@ fn what_is_missing_is_counted(rt: HostRuntime) -> Result<(), Mismatch> {
         free o1 verify_get_result_n<0> => Op has only 0 results, but expected at least 1
         insert o1 2 o0.2
         free o1 verify_get_operand_n<2> => o0.2";
-    play::<InterfaceCalls>(rt.alloc(), 100, script)
+    play_in(rt.alloc(), script)
 }
 
 #[test]
@@ -137,7 +143,7 @@ fn regions_are_counted_and_got(rt: HostRuntime) -> Result<(), Mismatch> {
         regions o3 NRegions<2>.get_region_i => r2
         free o3 has_ssa_dominance(0) => no
         free o3 has_ssa_dominance(1) => yes";
-    play::<InterfaceCalls>(rt.alloc(), 100, script)
+    play_in(rt.alloc(), script)
 }
 
 #[test]
@@ -163,7 +169,7 @@ fn regions_have_one_block(rt: HostRuntime) -> Result<(), Mismatch> {
         block => b1
         back b1 r0
         counts o1 SingleBlockRegion => Op builtin.module must only have regions with single block";
-    play::<InterfaceCalls>(rt.alloc(), 100, script)
+    play_in(rt.alloc(), script)
 }
 
 #[test]
@@ -196,7 +202,7 @@ fn one_type_is_asked_of_several_values(rt: HostRuntime) -> Result<(), Mismatch> 
         op constant 0 t0 => o5
         free o5 common_operand_type => -
         free o5 common_type => t0";
-    play::<InterfaceCalls>(rt.alloc(), 100, script)
+    play_in(rt.alloc(), script)
 }
 
 #[test]
@@ -212,7 +218,7 @@ fn all_types_are_of_a_kind_where_memory_is_refused(rt: HostRuntime) -> Result<()
         op constant 0 t0 t1 < o0.1 => o2
         of-types o2 AllOperandsOfType<Unit> => Expected operand type builtin.unit, but found builtin.integer si8
         of-types o2 AllResultsOfType<Unit> => Expected result type builtin.unit, but found builtin.integer si8";
-    play::<InterfaceCalls>(rt.alloc(), 100, script)
+    play_in(rt.alloc(), script)
 }
 
 #[test]
@@ -228,7 +234,7 @@ fn all_types_implement_an_interface(rt: HostRuntime) -> Result<(), Mismatch> {
         op constant 0 t1 t2 < o0.2 => o2
         of-types o2 AllOperandsImplsTy<Function> => ok
         of-types o2 AllResultsImplsTy<Function> => Expected result 0 to implement FunctionTypeInterface, but builtin.integer does not";
-    play::<InterfaceCalls>(rt.alloc(), 100, script)
+    play_in(rt.alloc(), script)
 }
 
 #[test]
@@ -254,7 +260,7 @@ fn the_type_at_a_place_is_asked(rt: HostRuntime) -> Result<(), Mismatch> {
         op constant 0 => o4
         places o4 OperandNOfType<0, Unit> => Op has only 0 operands, but expected at least 1
         places o4 ResultNOfType<0, Unit> => Op has only 0 results, but expected at least 1";
-    play::<InterfaceCalls>(rt.alloc(), 100, script)
+    play_in(rt.alloc(), script)
 }
 
 #[test]
@@ -281,7 +287,7 @@ fn types_in_a_range_are_asked(rt: HostRuntime) -> Result<(), Mismatch> {
         places o5 ResultsMNImplsTy<0, -1, Function> => ok
         op constant 0 < o0.2 o0.2 o0.1 => o6
         places o6 OperandsMNImplsTy<0, 1, Function> => ok";
-    play::<InterfaceCalls>(rt.alloc(), 100, script)
+    play_in(rt.alloc(), script)
 }
 
 #[test]

@@ -4,7 +4,7 @@ ghost use Rattle.plir_core.specs.declared.ptr.IRNode.{IRNode as AnyNode};
 
 use super::any_op::AnyOp;
 use plir_core::Context;
-use plir_data::{FunctionTypeMark, IntegerType, Memory, UnitType, VerifyErr};
+use plir_data::{FunctionTypeMark, IntegerType, Memory, OpSet, UnitType, VerifyErr};
 use plir_iface::{
     AllOperandsImplsTy, AllOperandsOfType, AllResultsImplsTy, AllResultsOfType,
     AtLeastNOpdsInterface, AtLeastNResultsInterface, AtMostNOpdsInterface, AtMostNRegionsInterface,
@@ -16,128 +16,115 @@ use plir_iface::{
     ResultsMNOfType, SameOperandsAndResultType, SameOperandsType, SameResultsType,
     SingleBlockRegionInterface,
 };
-use plir_scripts::{SampleSet, Stop};
+use plir_scripts::{Answer, Stop};
 use std::alloc::Global;
-use std::fmt::{Display, Write};
+use std::fmt::Display;
 
 // Writes `ok`, or the text of the refusal.
-fn put_verdict<E: Display + Drop>(
-    text: &mut String,
-    verdict: Result<(), VerifyErr<E>>,
-) -> Result<(), Stop> {
+fn put_verdict<E: Display + Drop>(answer: &mut Answer, verdict: Result<(), VerifyErr<E>>) {
     match verdict {
-        Ok(()) => text.push_str("ok")?,
-        Err(VerifyErr::Refused { err, .. }) => write!(text, "{err}")?,
-        Err(VerifyErr::Memory) => return Err(Stop::Memory),
+        Ok(()) => answer.put("ok"),
+        Err(VerifyErr::Refused { err, .. }) => answer.put_shown(&err),
+        Err(VerifyErr::Memory) => answer.note_lost(),
     }
-    Ok(())
 }
 
 // Writes `ok` for an interface without a rule.
-fn put_free(text: &mut String, verdict: Result<(), Memory>) -> Result<(), Stop> {
-    verdict?;
-    text.push_str("ok")?;
-    Ok(())
+fn put_free(answer: &mut Answer, verdict: Result<(), Memory>) {
+    match verdict {
+        Ok(()) => answer.put("ok"),
+        Err(Memory) => answer.note_lost(),
+    }
 }
 
 /// Interfaces of numbers of results and operands, and of regions.
-pub fn verify_counts(
-    ctx: &Context<SampleSet>,
-    text: &mut String,
+pub fn verify_counts<D: OpSet>(
+    ctx: &Context<D>,
+    answer: &mut Answer,
     op: &AnyOp,
     name: &str,
 ) -> Result<(), Stop>
     requires { IsLive ctx.now (AnyNode.Operation op.now.op) }
 {
     match name {
-        "NResults<2>" => put_verdict(text, NResultsInterface::<SampleSet, 2>::verify(op, ctx)),
-        "OneResult" => put_verdict(text, OneResultInterface::<SampleSet>::verify(op, ctx)),
+        "NResults<2>" => put_verdict(answer, NResultsInterface::<D, 2>::verify(op, ctx)),
+        "OneResult" => put_verdict(answer, OneResultInterface::<D>::verify(op, ctx)),
         "AtMostNResults<2>" => put_verdict(
-            text,
-            AtMostNResultsInterface::<SampleSet, 2>::verify(op, ctx),
+            answer,
+            AtMostNResultsInterface::<D, 2>::verify(op, ctx),
         ),
-        "OptionalResult" => put_verdict(
-            text,
-            OptionalResultInterface::<SampleSet>::verify(op, ctx),
-        ),
+        "OptionalResult" => put_verdict(answer, OptionalResultInterface::<D>::verify(op, ctx)),
         "AtLeastNResults<2>" => put_verdict(
-            text,
-            AtLeastNResultsInterface::<SampleSet, 2>::verify(op, ctx),
+            answer,
+            AtLeastNResultsInterface::<D, 2>::verify(op, ctx),
         ),
-        "NOpds<2>" => put_verdict(text, NOpdsInterface::<SampleSet, 2>::verify(op, ctx)),
-        "OneOpd" => put_verdict(text, OneOpdInterface::<SampleSet>::verify(op, ctx)),
-        "AtMostNOpds<2>" => put_verdict(
-            text,
-            AtMostNOpdsInterface::<SampleSet, 2>::verify(op, ctx),
-        ),
-        "OptionalOpd" => put_verdict(text, OptionalOpdInterface::<SampleSet>::verify(op, ctx)),
-        "AtLeastNOpds<2>" => put_verdict(
-            text,
-            AtLeastNOpdsInterface::<SampleSet, 2>::verify(op, ctx),
-        ),
-        "NRegions<2>" => put_verdict(text, NRegionsInterface::<SampleSet, 2>::verify(op, ctx)),
-        "OneRegion" => put_verdict(text, OneRegionInterface::<SampleSet>::verify(op, ctx)),
+        "NOpds<2>" => put_verdict(answer, NOpdsInterface::<D, 2>::verify(op, ctx)),
+        "OneOpd" => put_verdict(answer, OneOpdInterface::<D>::verify(op, ctx)),
+        "AtMostNOpds<2>" => put_verdict(answer, AtMostNOpdsInterface::<D, 2>::verify(op, ctx)),
+        "OptionalOpd" => put_verdict(answer, OptionalOpdInterface::<D>::verify(op, ctx)),
+        "AtLeastNOpds<2>" => put_verdict(answer, AtLeastNOpdsInterface::<D, 2>::verify(op, ctx)),
+        "NRegions<2>" => put_verdict(answer, NRegionsInterface::<D, 2>::verify(op, ctx)),
+        "OneRegion" => put_verdict(answer, OneRegionInterface::<D>::verify(op, ctx)),
         "AtMostNRegions<1>" => put_verdict(
-            text,
-            AtMostNRegionsInterface::<SampleSet, 1>::verify(op, ctx),
+            answer,
+            AtMostNRegionsInterface::<D, 1>::verify(op, ctx),
         ),
         "SingleBlockRegion" => put_verdict(
-            text,
-            SingleBlockRegionInterface::<SampleSet>::verify(op, ctx),
+            answer,
+            SingleBlockRegionInterface::<D>::verify(op, ctx),
         ),
-        "AtMostOneRegion" => put_free(text, AtMostOneRegionInterface::<SampleSet>::verify(op, ctx)),
-        "RegionKind" => put_free(text, RegionKindInterface::<SampleSet>::verify(op, ctx)),
-        "IsTerminator" => put_free(text, IsTerminatorInterface::<SampleSet>::verify(op, ctx)),
-        "NoTerminator" => put_free(text, NoTerminatorInterface::<SampleSet>::verify(op, ctx)),
-        "IsolatedFromAbove" => put_free(
-            text,
-            IsolatedFromAboveInterface::<SampleSet>::verify(op, ctx),
-        ),
-        _ => Err(Stop::Refused),
+        "AtMostOneRegion" => put_free(answer, AtMostOneRegionInterface::<D>::verify(op, ctx)),
+        "RegionKind" => put_free(answer, RegionKindInterface::<D>::verify(op, ctx)),
+        "IsTerminator" => put_free(answer, IsTerminatorInterface::<D>::verify(op, ctx)),
+        "NoTerminator" => put_free(answer, NoTerminatorInterface::<D>::verify(op, ctx)),
+        "IsolatedFromAbove" => put_free(answer, IsolatedFromAboveInterface::<D>::verify(op, ctx)),
+        _ => return Err(Stop::Refused),
     }
+    Ok(())
 }
 
 /// Interfaces of types of all operands and results.
-pub fn verify_types(
+pub fn verify_types<D: OpSet>(
     alloc: Global,
-    ctx: &Context<SampleSet>,
-    text: &mut String,
+    ctx: &Context<D>,
+    answer: &mut Answer,
     op: &AnyOp,
     name: &str,
 ) -> Result<(), Stop>
     requires { IsLive ctx.now (AnyNode.Operation op.now.op) }
 {
     match name {
-        "SameOperandsType" => put_verdict(text, SameOperandsType::<SampleSet>::verify(op, ctx)),
-        "SameResultsType" => put_verdict(text, SameResultsType::<SampleSet>::verify(op, ctx)),
+        "SameOperandsType" => put_verdict(answer, SameOperandsType::<D>::verify(op, ctx)),
+        "SameResultsType" => put_verdict(answer, SameResultsType::<D>::verify(op, ctx)),
         "SameOperandsAndResultType" => put_verdict(
-            text,
-            SameOperandsAndResultType::<SampleSet>::verify(op, ctx),
+            answer,
+            SameOperandsAndResultType::<D>::verify(op, ctx),
         ),
         "AllOperandsOfType<Unit>" => put_verdict(
-            text,
-            AllOperandsOfType::<SampleSet, UnitType>::verify(op, alloc, ctx),
+            answer,
+            AllOperandsOfType::<D, UnitType>::verify(op, alloc, ctx),
         ),
         "AllResultsOfType<Unit>" => put_verdict(
-            text,
-            AllResultsOfType::<SampleSet, UnitType>::verify(op, alloc, ctx),
+            answer,
+            AllResultsOfType::<D, UnitType>::verify(op, alloc, ctx),
         ),
         "AllOperandsImplsTy<Function>" => put_verdict(
-            text,
-            AllOperandsImplsTy::<SampleSet, FunctionTypeMark>::verify(op, ctx),
+            answer,
+            AllOperandsImplsTy::<D, FunctionTypeMark>::verify(op, ctx),
         ),
         "AllResultsImplsTy<Function>" => put_verdict(
-            text,
-            AllResultsImplsTy::<SampleSet, FunctionTypeMark>::verify(op, ctx),
+            answer,
+            AllResultsImplsTy::<D, FunctionTypeMark>::verify(op, ctx),
         ),
-        _ => Err(Stop::Refused),
+        _ => return Err(Stop::Refused),
     }
+    Ok(())
 }
 
 /// Interfaces of types at places.
-pub fn verify_places(
-    ctx: &Context<SampleSet>,
-    text: &mut String,
+pub fn verify_places<D: OpSet>(
+    ctx: &Context<D>,
+    answer: &mut Answer,
     op: &AnyOp,
     name: &str,
 ) -> Result<(), Stop>
@@ -145,41 +132,42 @@ pub fn verify_places(
 {
     match name {
         "OperandNOfType<0, Unit>" => put_verdict(
-            text,
-            OperandNOfType::<SampleSet, 0, UnitType>::verify(op, ctx),
+            answer,
+            OperandNOfType::<D, 0, UnitType>::verify(op, ctx),
         ),
         "ResultNOfType<0, Unit>" => put_verdict(
-            text,
-            ResultNOfType::<SampleSet, 0, UnitType>::verify(op, ctx),
+            answer,
+            ResultNOfType::<D, 0, UnitType>::verify(op, ctx),
         ),
         "OperandNImplsTy<1, Function>" => put_verdict(
-            text,
-            OperandNImplsTy::<SampleSet, 1, FunctionTypeMark>::verify(op, ctx),
+            answer,
+            OperandNImplsTy::<D, 1, FunctionTypeMark>::verify(op, ctx),
         ),
         "ResultNImplsTy<1, Function>" => put_verdict(
-            text,
-            ResultNImplsTy::<SampleSet, 1, FunctionTypeMark>::verify(op, ctx),
+            answer,
+            ResultNImplsTy::<D, 1, FunctionTypeMark>::verify(op, ctx),
         ),
         "OperandsMNOfType<1, -1, Integer>" => put_verdict(
-            text,
-            OperandsMNOfType::<SampleSet, 1, 4294967295, IntegerType>::verify(op, ctx),
+            answer,
+            OperandsMNOfType::<D, 1, 4294967295, IntegerType>::verify(op, ctx),
         ),
         "OperandsMNOfType<0, 2, Integer>" => put_verdict(
-            text,
-            OperandsMNOfType::<SampleSet, 0, 2, IntegerType>::verify(op, ctx),
+            answer,
+            OperandsMNOfType::<D, 0, 2, IntegerType>::verify(op, ctx),
         ),
         "ResultsMNOfType<0, 2, Integer>" => put_verdict(
-            text,
-            ResultsMNOfType::<SampleSet, 0, 2, IntegerType>::verify(op, ctx),
+            answer,
+            ResultsMNOfType::<D, 0, 2, IntegerType>::verify(op, ctx),
         ),
         "OperandsMNImplsTy<0, 1, Function>" => put_verdict(
-            text,
-            OperandsMNImplsTy::<SampleSet, 0, 1, FunctionTypeMark>::verify(op, ctx),
+            answer,
+            OperandsMNImplsTy::<D, 0, 1, FunctionTypeMark>::verify(op, ctx),
         ),
         "ResultsMNImplsTy<0, -1, Function>" => put_verdict(
-            text,
-            ResultsMNImplsTy::<SampleSet, 0, 4294967295, FunctionTypeMark>::verify(op, ctx),
+            answer,
+            ResultsMNImplsTy::<D, 0, 4294967295, FunctionTypeMark>::verify(op, ctx),
         ),
-        _ => Err(Stop::Refused),
+        _ => return Err(Stop::Refused),
     }
+    Ok(())
 }

@@ -1,13 +1,10 @@
 //! The calls that read and print.
-use plir_data::AttrObj;
-use plir_scripts::{
-    Bench, Line, SampleSet, Stop, number, put_attr, put_truth, put_type_name, split_word,
-};
+use plir_data::{AttrObj, OpSet};
+use plir_scripts::{Bench, Line, Stop, number, put_attr, put_type_name, split_word};
 use plir_text::{
     Fault, ReadErr, is_writable, read_attr, read_function_type, read_integer_type, read_type,
 };
 use std::alloc::{AllocError, Global};
-use std::fmt::Write;
 
 // A text as a line of a script writes it: `¶` stands for the end of a line.
 fn unfold(alloc: Global, written: &str) -> Result<String, AllocError> {
@@ -19,17 +16,32 @@ fn unfold(alloc: Global, written: &str) -> Result<String, AllocError> {
 }
 
 // Writes a fault and its place.
-fn put_fault(bench: &mut Bench, found: ReadErr) -> Result<(), Stop> {
+fn put_fault<D: OpSet>(bench: &mut Bench<D>, found: ReadErr) -> Result<(), Stop> {
     let (line, column) = (found.line, found.column);
     if found.fault == Fault::Memory && line == 0 && column == 0 {
         return Err(Stop::Memory);
     }
-    write!(bench.answer, "{:?} at {line}:{column}", found.fault)?;
+    bench.answer.put_debug(&found.fault);
+    bench.answer.put(" at ");
+    bench.answer.put_number(line);
+    bench.answer.put(":");
+    bench.answer.put_number(column);
+    Ok(())
+}
+
+/// `fault forward-ref` or `fault results WANTED FOUND`: writes the text of the fault.
+pub fn show_fault<D: OpSet>(bench: &mut Bench<D>, line: Line<'_>) -> Result<(), Stop> {
+    let fault = match line.first {
+        "forward-ref" => Fault::ForwardRefOpExistenceErr,
+        "results" => Fault::NResultsVerifyErr(number(line.second)?, number(line.third)?),
+        _ => return Err(Stop::Refused),
+    };
+    bench.answer.put_shown(&fault);
     Ok(())
 }
 
 /// `read-type TEXT`, `read-integer TEXT` or `read-function TEXT`: writes the name of the type.
-pub fn read(bench: &mut Bench, line: Line<'_>) -> Result<(), Stop> {
+pub fn read<D: OpSet>(bench: &mut Bench<D>, line: Line<'_>) -> Result<(), Stop> {
     let text = unfold(bench.alloc, line.text)?;
     bench.made.types.reserve(1)?;
     let found = match line.command {
@@ -44,38 +56,40 @@ pub fn read(bench: &mut Bench, line: Line<'_>) -> Result<(), Stop> {
 }
 
 /// `attr TEXT`, `verify TEXT`, `writable TEXT` or `typed-attr TEXT`: reads an attribute and writes its text, or what the call answers of it.
-pub fn ask_attr(bench: &mut Bench, line: Line<'_>) -> Result<(), Stop> {
+pub fn ask_attr<D: OpSet>(bench: &mut Bench<D>, line: Line<'_>) -> Result<(), Stop> {
     let text = unfold(bench.alloc, line.text)?;
     bench.made.types.reserve(1)?;
     let attr = match read_attr(bench.alloc, &mut bench.ctx, text.as_str()) {
         Ok(attr) => attr,
         Err(fault) => return put_fault(bench, fault),
     };
+    let answer = &mut bench.answer;
     match line.command {
-        "attr" => put_attr(bench.alloc, &bench.ctx, &mut bench.answer, &attr),
-        "writable" => put_truth(&mut bench.answer, is_writable(&bench.ctx, &attr)),
-        "verify" => {
-            match attr.verify(bench.alloc, &bench.ctx) {
-                Ok(()) => bench.answer.push_str("ok")?,
-                Err(refusal) => write!(bench.answer, "{refusal}")?,
-            }
-            Ok(())
-        }
-        _ => put_type_of(bench, &attr),
+        "attr" => put_attr(bench.alloc, &bench.ctx, answer, &attr),
+        "writable" => answer.put_truth(is_writable(&bench.ctx, &attr)),
+        "verify" => match attr.verify(bench.alloc, &bench.ctx) {
+            Ok(()) => answer.put("ok"),
+            Err(refusal) => answer.put_shown(&refusal),
+        },
+        _ => return put_type_of(bench, &attr),
     }
+    Ok(())
 }
 
 // Writes the name of the attribute's type, or `none`.
-fn put_type_of(bench: &mut Bench, attr: &AttrObj<SampleSet>) -> Result<(), Stop> {
+fn put_type_of<D: OpSet>(bench: &mut Bench<D>, attr: &AttrObj<D>) -> Result<(), Stop> {
     match attr.typed() {
         Some(handle) => put_type_name(&mut bench.made, &mut bench.answer, handle),
-        None => Ok(bench.answer.push_str("none")?),
+        None => {
+            bench.answer.put("none");
+            Ok(())
+        }
     }
 }
 
 /// `nested-attr COUNT HEAD | BEFORE | MIDDLE | BEHIND` or `nested-type ..`: reads the head, so many times what is before, the middle, and so many times
 /// what is behind. Writes `read`, or the fault.
-pub fn read_nested(bench: &mut Bench, line: Line<'_>) -> Result<(), Stop> {
+pub fn read_nested<D: OpSet>(bench: &mut Bench<D>, line: Line<'_>) -> Result<(), Stop> {
     let count = number(line.first)?;
     let (_, rest) = split_word(line.text);
     let mut parts = rest.split('|').map(str::trim);
@@ -90,13 +104,16 @@ pub fn read_nested(bench: &mut Bench, line: Line<'_>) -> Result<(), Stop> {
         text.push_str(behind)?;
     }
     match fault_of(bench, line.command == "nested-attr", text.as_str()) {
-        None => Ok(bench.answer.push_str("read")?),
+        None => {
+            bench.answer.put("read");
+            Ok(())
+        }
         Some(fault) => put_fault(bench, fault),
     }
 }
 
 // The fault of a text, if it isn't read.
-fn fault_of(bench: &mut Bench, is_attr: bool, text: &str) -> Option<ReadErr> {
+fn fault_of<D: OpSet>(bench: &mut Bench<D>, is_attr: bool, text: &str) -> Option<ReadErr> {
     if is_attr {
         read_attr(bench.alloc, &mut bench.ctx, text).err()
     } else {
@@ -106,15 +123,18 @@ fn fault_of(bench: &mut Bench, is_attr: bool, text: &str) -> Option<ReadErr> {
 
 /// `beginnings-attr TEXT` or `beginnings-type TEXT`: reads each proper beginning of a text, and writes the first that is read or has another fault
 /// than `Unexpected`, or `unexpected` where there is none.
-pub fn read_beginnings(bench: &mut Bench, line: Line<'_>) -> Result<(), Stop> {
+pub fn read_beginnings<D: OpSet>(bench: &mut Bench<D>, line: Line<'_>) -> Result<(), Stop> {
     let is_attr = line.command == "beginnings-attr";
     for count in 0..line.text.len() {
         let front = line.text.get(..count).ok_or(Stop::Refused)?;
         match fault_of(bench, is_attr, front) {
             Some(found) if found.fault == Fault::Unexpected => {}
-            _ => return Ok(bench.answer.push_str(front)?),
+            _ => {
+                bench.answer.put(front);
+                return Ok(());
+            }
         }
     }
-    bench.answer.push_str("unexpected")?;
+    bench.answer.put("unexpected");
     Ok(())
 }

@@ -1,20 +1,27 @@
 //! The scripts of texts, with their answers.
-use super::reading::{ask_attr, read, read_beginnings, read_nested};
-use plir_scripts::{Bench, Layer, Line, Mismatch, NodeCalls, Stop, play};
+use super::reading::{ask_attr, read, read_beginnings, read_nested, show_fault};
+use plir_scripts::{Bench, Layer, Line, Mismatch, NodeCalls, SampleSet, ScriptSet, Stop, play};
+use std::alloc::Global;
 
 /// The calls of this crate, and those on nodes.
 struct TextCalls;
 
-impl Layer for TextCalls {
-    fn run(bench: &mut Bench, line: Line<'_>) -> Result<(), Stop> {
+impl<D: ScriptSet> Layer<D> for TextCalls {
+    fn run(bench: &mut Bench<D>, line: Line<'_>) -> Result<(), Stop> {
         match line.command {
             "read-type" | "read-integer" | "read-function" => read(bench, line),
             "attr" | "verify" | "writable" | "typed-attr" => ask_attr(bench, line),
             "nested-attr" | "nested-type" => read_nested(bench, line),
             "beginnings-attr" | "beginnings-type" => read_beginnings(bench, line),
+            "fault" => show_fault(bench, line),
             _ => NodeCalls::run(bench, line),
         }
     }
+}
+
+// Plays a script of texts.
+fn play_in(alloc: Global, script: &str) -> Result<(), Mismatch> {
+    play::<SampleSet, TextCalls>(alloc, 100, script)
 }
 
 #[test]
@@ -23,7 +30,7 @@ fn test_integer_parsing(rt: HostRuntime) -> Result<(), Mismatch> {
         read-integer si64 => t0
         text t0 => builtin.integer si64
         read-integer asi64 => Unexpected at 1:1";
-    play::<TextCalls>(rt.alloc(), 100, script)
+    play_in(rt.alloc(), script)
 }
 
 #[test]
@@ -33,7 +40,7 @@ fn test_fntype_parsing(rt: HostRuntime) -> Result<(), Mismatch> {
         read-function <() -> (builtin.integer si32)> => t1
         text t1 => builtin.function <()->(builtin.integer si32)>
         read-type builtin.function <()->(builtin.integer si32)> => t1";
-    play::<TextCalls>(rt.alloc(), 100, script)
+    play_in(rt.alloc(), script)
 }
 
 #[test]
@@ -41,9 +48,10 @@ fn white_space_is_free(rt: HostRuntime) -> Result<(), Mismatch> {
     let script = "
         read-type ¶builtin.function\t<( builtin.integer\r¶si32 ,builtin.unit ) -> ( )>¶ => t0
         read-type builtin.function <(builtin.integer si32, builtin.unit)->()> => t0
+        read-type builtin.function <( builtin.integer si32 ,builtin.unit ) -> ( )> => t0
         text t0 => builtin.function <(builtin.integer si32, builtin.unit)->()>
         attr ¶builtin.given_names\t[ins,?,r0\r¶,r1]¶ => builtin.given_names [ins, ?, r0, r1]";
-    play::<TextCalls>(rt.alloc(), 100, script)
+    play_in(rt.alloc(), script)
 }
 
 #[test]
@@ -59,7 +67,15 @@ fn faults_stand_at_their_tokens(rt: HostRuntime) -> Result<(), Mismatch> {
         read-type sample.type => Unexpected at 1:1
         read-type => Unexpected at 1:1
         read-type builtin.integer si4294967296 => IntegerOutOfRange at 1:19";
-    play::<TextCalls>(rt.alloc(), 100, script)
+    play_in(rt.alloc(), script)
+}
+
+#[test]
+fn faults_of_operations_have_texts(rt: HostRuntime) -> Result<(), Mismatch> {
+    let script = "
+        fault forward-ref => builtin.forward_ref is a temporary Op during parsing. It must not exit in a well-formed program.
+        fault results 0 1 => Expected 0 result(s), but found 1 results";
+    play_in(rt.alloc(), script)
 }
 
 #[test]
@@ -69,7 +85,7 @@ fn beginnings_are_unexpected(rt: HostRuntime) -> Result<(), Mismatch> {
         beginnings-attr builtin.dict [a = builtin.string \"\\u{7f}\", b = builtin.vec [builtin.integer <-1: si8>], c = builtin.given_names [x, ?]] => unexpected
         beginnings-attr builtin.integer <18446744073709551615: i64> => unexpected
         beginnings-attr builtin.string \"a\\\\b\\nc\\td\\re\\0f\\u{7f}\" => unexpected";
-    play::<TextCalls>(rt.alloc(), 100, script)
+    play_in(rt.alloc(), script)
 }
 
 #[test]
@@ -81,7 +97,7 @@ fn two_hundred_levels(rt: HostRuntime) -> Result<(), Mismatch> {
         nested-attr 200 | builtin.vec [ | | ] => read
         nested-attr 201 | builtin.vec [ | | ] => TooDeep at 1:2601
         nested-attr 200 | builtin.vec [ | | => Unexpected at 1:2601";
-    play::<TextCalls>(rt.alloc(), 100, script)
+    play_in(rt.alloc(), script)
 }
 
 #[test]
@@ -89,7 +105,7 @@ fn a_literal_of_a_thousand_digits(rt: HostRuntime) -> Result<(), Mismatch> {
     let script = "
         nested-attr 1000 builtin.integer < | 7 | : ui64> | => IntegerOutOfRange at 1:18
         nested-attr 1000 builtin.integer < | 9 | : i64> | => IntegerOutOfRange at 1:18";
-    play::<TextCalls>(rt.alloc(), 100, script)
+    play_in(rt.alloc(), script)
 }
 
 #[test]
@@ -108,7 +124,7 @@ fn test_integer_attribute_signs(rt: HostRuntime) -> Result<(), Mismatch> {
         attr builtin.integer <0: si64> => builtin.integer <0: si64>
         attr builtin.integer <15: si64> => builtin.integer <15: si64>
         attr builtin.integer <-9223372036854775808: i64> => builtin.integer <-9223372036854775808: i64>";
-    play::<TextCalls>(rt.alloc(), 100, script)
+    play_in(rt.alloc(), script)
 }
 
 #[test]
@@ -126,7 +142,7 @@ fn integers_that_are_refused(rt: HostRuntime) -> Result<(), Mismatch> {
         attr builtin.integer <9: i0> => IntegerWidthUnsupported at 1:21
         attr builtin.operand_segment_sizes [4294967296] => IntegerOutOfRange at 1:32
         attr builtin.operand_segment_sizes [+1] => Unexpected at 1:32";
-    play::<TextCalls>(rt.alloc(), 100, script)
+    play_in(rt.alloc(), script)
 }
 
 #[test]
@@ -141,7 +157,7 @@ fn test_string_attributes(rt: HostRuntime) -> Result<(), Mismatch> {
         attr builtin.string \"hello \\k \" => BadEscape at 1:23
         attr builtin.string \"hello \\u{d800}\" => BadEscape at 1:23
         attr builtin.string \"ab => Unexpected at 1:19";
-    play::<TextCalls>(rt.alloc(), 100, script)
+    play_in(rt.alloc(), script)
 }
 
 #[test]
@@ -150,7 +166,7 @@ fn test_type_attributes(rt: HostRuntime) -> Result<(), Mismatch> {
         type builtin.integer si64 => t0
         typed-attr builtin.type builtin.integer si64 => t0
         attr builtin.type builtin.integer si64 => builtin.type builtin.integer si64";
-    play::<TextCalls>(rt.alloc(), 100, script)
+    play_in(rt.alloc(), script)
 }
 
 #[test]
@@ -158,7 +174,7 @@ fn test_operand_segment_sizes_attr(rt: HostRuntime) -> Result<(), Mismatch> {
     let script = "
         attr builtin.operand_segment_sizes [1, 2, 3] => builtin.operand_segment_sizes [1, 2, 3]
         attr builtin.operand_segment_sizes [] => builtin.operand_segment_sizes []";
-    play::<TextCalls>(rt.alloc(), 100, script)
+    play_in(rt.alloc(), script)
 }
 
 #[test]
@@ -168,14 +184,14 @@ fn attributes_in_attributes(rt: HostRuntime) -> Result<(), Mismatch> {
         attr builtin.vec [ builtin.operand_segment_sizes [1,2] ,builtin.type builtin.unit ] => builtin.vec [builtin.operand_segment_sizes [1, 2], builtin.type builtin.unit]
         attr builtin.vec[builtin.dict[]] => builtin.vec [builtin.dict []]
         attr builtin.identifier a1_ => builtin.identifier a1_";
-    play::<TextCalls>(rt.alloc(), 100, script)
+    play_in(rt.alloc(), script)
 }
 
 #[test]
 fn lists_with_types_are_writable(rt: HostRuntime) -> Result<(), Mismatch> {
     let script = "
         writable builtin.vec [builtin.vec [builtin.type builtin.integer si8]] => yes";
-    play::<TextCalls>(rt.alloc(), 100, script)
+    play_in(rt.alloc(), script)
 }
 
 #[test]
@@ -183,7 +199,7 @@ fn attributes_are_verified(rt: HostRuntime) -> Result<(), Mismatch> {
     let script = "
         verify builtin.integer <3: si8> => ok
         verify builtin.vec [builtin.integer <3: si8>, builtin.dict [a = builtin.integer <1: i1>]] => ok";
-    play::<TextCalls>(rt.alloc(), 100, script)
+    play_in(rt.alloc(), script)
 }
 
 #[test]
@@ -194,7 +210,7 @@ fn attributes_are_read_and_printed_where_memory_is_refused(
         attr builtin.dict [a = builtin.string \"b\\n\", c = builtin.vec [builtin.integer <-1: si8>], d = builtin.given_names [x, ?]] => builtin.dict [a = builtin.string \"b\\n\", c = builtin.vec [builtin.integer <-1: si8>], d = builtin.given_names [x, ?]]
         text t0 => refused
         type builtin.integer si8 => t0";
-    play::<TextCalls>(rt.alloc(), 100, script)
+    play_in(rt.alloc(), script)
 }
 
 #[test]
@@ -203,5 +219,5 @@ fn types_are_read_where_memory_is_refused(rt: HostRuntime) -> Result<(), Mismatc
         read-integer si8 => t0
         read-type builtin.unit => t1
         read-function <(builtin.unit)->()> => t2";
-    play::<TextCalls>(rt.alloc(), 100, script)
+    play_in(rt.alloc(), script)
 }

@@ -4,6 +4,7 @@
 ghost use Rattle.std.specs.Prelude.{◌≡◌, true};
 ghost use Rattle.plir_core.specs.declared.ptr.IRNode.{IRNode as AnyNode};
 ghost use Rattle.plir_walk.specs.Calls.{ReadsBack};
+ghost use Rattle.plir_walk.specs.Forest.{StandsUnder};
 ghost use Rattle.plir_walk.specs.Walked.{WalkedOver};
 
 use crate::config::WalkConfig;
@@ -26,7 +27,7 @@ pub fn walk_op<C: NodeLinks, S, B: Drop, F: Fn(&C, &mut S, IRNode) -> WalkResult
     callback: F,
 ) -> WalkResult<B>
     requires root_live { (C.look ctx.now).live (IRNode.Operation root) ≡ true }
-    requires callable { (c : _) (s : _) (n : AnyNode) → c.now ≡ ctx.now → (C.look ctx.now).live n ≡ true → F.pre callback c s n }
+    requires callable { (c : _) (s : _) (n : AnyNode) → c.now ≡ ctx.now → StandsUnder (C.look ctx.now) (IRNode.Operation root) n → F.pre callback c s n }
     ensures { WalkedOver C.look config.now (ReadsBack F.Fn callback) ctx.now state.old (IRNode.Operation root) result state.new }
 {
     walk(ctx, state, config, IRNode::Operation(root), callback)
@@ -42,7 +43,7 @@ pub fn walk_region<C: NodeLinks, S, B: Drop, F: Fn(&C, &mut S, IRNode) -> WalkRe
     callback: F,
 ) -> WalkResult<B>
     requires root_live { (C.look ctx.now).live (IRNode.Region root) ≡ true }
-    requires callable { (c : _) (s : _) (n : AnyNode) → c.now ≡ ctx.now → (C.look ctx.now).live n ≡ true → F.pre callback c s n }
+    requires callable { (c : _) (s : _) (n : AnyNode) → c.now ≡ ctx.now → StandsUnder (C.look ctx.now) (IRNode.Region root) n → F.pre callback c s n }
     ensures { WalkedOver C.look config.now (ReadsBack F.Fn callback) ctx.now state.old (IRNode.Region root) result state.new }
 {
     walk(ctx, state, config, IRNode::Region(root), callback)
@@ -58,7 +59,7 @@ pub fn walk_block<C: NodeLinks, S, B: Drop, F: Fn(&C, &mut S, IRNode) -> WalkRes
     callback: F,
 ) -> WalkResult<B>
     requires root_live { (C.look ctx.now).live (IRNode.BasicBlock root) ≡ true }
-    requires callable { (c : _) (s : _) (n : AnyNode) → c.now ≡ ctx.now → (C.look ctx.now).live n ≡ true → F.pre callback c s n }
+    requires callable { (c : _) (s : _) (n : AnyNode) → c.now ≡ ctx.now → StandsUnder (C.look ctx.now) (IRNode.BasicBlock root) n → F.pre callback c s n }
     ensures { WalkedOver C.look config.now (ReadsBack F.Fn callback) ctx.now state.old (IRNode.BasicBlock root) result state.new }
 {
     walk(ctx, state, config, IRNode::BasicBlock(root), callback)
@@ -73,7 +74,7 @@ pub(crate) fn walk<C: NodeLinks, S, B: Drop, F: Fn(&C, &mut S, IRNode) -> WalkRe
     callback: F,
 ) -> WalkResult<B>
     requires root_live { (C.look ctx.now).live root ≡ true }
-    requires callable { (c : _) (s : _) (n : AnyNode) → c.now ≡ ctx.now → (C.look ctx.now).live n ≡ true → F.pre callback c s n }
+    requires callable { (c : _) (s : _) (n : AnyNode) → c.now ≡ ctx.now → StandsUnder (C.look ctx.now) root n → F.pre callback c s n }
     ensures { WalkedOver C.look config.now (ReadsBack F.Fn callback) ctx.now state.old root result state.new }
 {
     ctx.forest();

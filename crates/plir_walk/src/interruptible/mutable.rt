@@ -4,6 +4,7 @@
 ghost use Rattle.std.specs.Prelude.{◌≡◌, true};
 ghost use Rattle.plir_core.specs.declared.ptr.IRNode.{IRNode as AnyNode};
 ghost use Rattle.plir_walk.specs.Calls.{CallsBack};
+ghost use Rattle.plir_walk.specs.Forest.{StandsUnder};
 ghost use Rattle.plir_walk.specs.Walked.{IsLawful, Walked};
 
 use crate::config::WalkConfig;
@@ -33,8 +34,8 @@ pub fn walk_op<C: NodeLinks, S, B: Drop, F: Fn(&mut C, &mut S, IRNode) -> WalkRe
     callback: F,
 ) -> Result<WalkResult<B>, CallLimit>
     requires root_live { (C.look ctx.old).live (IRNode.Operation root) ≡ true }
-    requires callable { (c : _) (s : _) (n : AnyNode) → (C.look c.now).live n ≡ true → F.pre callback c s n }
-    requires lawful { IsLawful C.look (CallsBack F.Fn callback) }
+    requires callable { (c : _) (s : _) (n : AnyNode) → StandsUnder (C.look c.now) (IRNode.Operation root) n → F.pre callback c s n }
+    requires lawful { IsLawful C.look (IRNode.Operation root) (CallsBack F.Fn callback) }
     ensures { Walked C.look config.now (CallsBack F.Fn callback) ctx.old state.old (IRNode.Operation root) limit result ctx.new state.new }
 {
     walk(ctx, state, config, IRNode::Operation(root), limit, callback)
@@ -56,8 +57,8 @@ pub fn walk_region<C: NodeLinks, S, B: Drop, F: Fn(&mut C, &mut S, IRNode) -> Wa
     callback: F,
 ) -> Result<WalkResult<B>, CallLimit>
     requires root_live { (C.look ctx.old).live (IRNode.Region root) ≡ true }
-    requires callable { (c : _) (s : _) (n : AnyNode) → (C.look c.now).live n ≡ true → F.pre callback c s n }
-    requires lawful { IsLawful C.look (CallsBack F.Fn callback) }
+    requires callable { (c : _) (s : _) (n : AnyNode) → StandsUnder (C.look c.now) (IRNode.Region root) n → F.pre callback c s n }
+    requires lawful { IsLawful C.look (IRNode.Region root) (CallsBack F.Fn callback) }
     ensures { Walked C.look config.now (CallsBack F.Fn callback) ctx.old state.old (IRNode.Region root) limit result ctx.new state.new }
 {
     walk(ctx, state, config, IRNode::Region(root), limit, callback)
@@ -79,8 +80,8 @@ pub fn walk_block<C: NodeLinks, S, B: Drop, F: Fn(&mut C, &mut S, IRNode) -> Wal
     callback: F,
 ) -> Result<WalkResult<B>, CallLimit>
     requires root_live { (C.look ctx.old).live (IRNode.BasicBlock root) ≡ true }
-    requires callable { (c : _) (s : _) (n : AnyNode) → (C.look c.now).live n ≡ true → F.pre callback c s n }
-    requires lawful { IsLawful C.look (CallsBack F.Fn callback) }
+    requires callable { (c : _) (s : _) (n : AnyNode) → StandsUnder (C.look c.now) (IRNode.BasicBlock root) n → F.pre callback c s n }
+    requires lawful { IsLawful C.look (IRNode.BasicBlock root) (CallsBack F.Fn callback) }
     ensures { Walked C.look config.now (CallsBack F.Fn callback) ctx.old state.old (IRNode.BasicBlock root) limit result ctx.new state.new }
 {
     let block = IRNode::BasicBlock(root);
@@ -97,8 +98,8 @@ pub(crate) fn walk<C: NodeLinks, S, B: Drop, F: Fn(&mut C, &mut S, IRNode) -> Wa
     callback: F,
 ) -> Result<WalkResult<B>, CallLimit>
     requires root_live { (C.look ctx.old).live root ≡ true }
-    requires callable { (c : _) (s : _) (n : AnyNode) → (C.look c.now).live n ≡ true → F.pre callback c s n }
-    requires lawful { IsLawful C.look (CallsBack F.Fn callback) }
+    requires callable { (c : _) (s : _) (n : AnyNode) → StandsUnder (C.look c.now) root n → F.pre callback c s n }
+    requires lawful { IsLawful C.look root (CallsBack F.Fn callback) }
     ensures { Walked C.look config.now (CallsBack F.Fn callback) ctx.old state.old root limit result ctx.new state.new }
 {
     ctx.forest();

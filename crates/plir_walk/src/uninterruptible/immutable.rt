@@ -6,6 +6,7 @@ ghost use Rattle.std.specs.declared.ops.ControlFlow.TheVariants.{Continue};
 ghost use Rattle.plir_core.specs.declared.ptr.IRNode.{IRNode as AnyNode};
 ghost use Rattle.plir_walk.specs.declared.interruptible.WalkContinue.TheVariants.{Advance};
 ghost use Rattle.plir_walk.specs.Calls.{Advancing, ReadsBack};
+ghost use Rattle.plir_walk.specs.Forest.{StandsUnder};
 ghost use Rattle.plir_walk.specs.Walked.{WalkedOver};
 
 use crate::config::WalkConfig;
@@ -25,7 +26,7 @@ pub fn walk_op<C: NodeLinks, S, F: Fn(&C, &mut S, IRNode)>(
     callback: F,
 )
     requires root_live { (C.look ctx.now).live (IRNode.Operation root) ≡ true }
-    requires callable { (c : _) (s : _) (n : AnyNode) → c.now ≡ ctx.now → (C.look ctx.now).live n ≡ true → F.pre callback c s n }
+    requires callable { (c : _) (s : _) (n : AnyNode) → c.now ≡ ctx.now → StandsUnder (C.look ctx.now) (IRNode.Operation root) n → F.pre callback c s n }
     ensures { WalkedOver C.look config.now (Advancing (ReadsBack F.Fn callback)) ctx.now state.old (IRNode.Operation root) (Continue Advance) state.new }
 {
     walk(ctx, state, config, IRNode::Operation(root), callback);
@@ -40,7 +41,7 @@ pub fn walk_region<C: NodeLinks, S, F: Fn(&C, &mut S, IRNode)>(
     callback: F,
 )
     requires root_live { (C.look ctx.now).live (IRNode.Region root) ≡ true }
-    requires callable { (c : _) (s : _) (n : AnyNode) → c.now ≡ ctx.now → (C.look ctx.now).live n ≡ true → F.pre callback c s n }
+    requires callable { (c : _) (s : _) (n : AnyNode) → c.now ≡ ctx.now → StandsUnder (C.look ctx.now) (IRNode.Region root) n → F.pre callback c s n }
     ensures { WalkedOver C.look config.now (Advancing (ReadsBack F.Fn callback)) ctx.now state.old (IRNode.Region root) (Continue Advance) state.new }
 {
     walk(ctx, state, config, IRNode::Region(root), callback);
@@ -55,7 +56,7 @@ pub fn walk_block<C: NodeLinks, S, F: Fn(&C, &mut S, IRNode)>(
     callback: F,
 )
     requires root_live { (C.look ctx.now).live (IRNode.BasicBlock root) ≡ true }
-    requires callable { (c : _) (s : _) (n : AnyNode) → c.now ≡ ctx.now → (C.look ctx.now).live n ≡ true → F.pre callback c s n }
+    requires callable { (c : _) (s : _) (n : AnyNode) → c.now ≡ ctx.now → StandsUnder (C.look ctx.now) (IRNode.BasicBlock root) n → F.pre callback c s n }
     ensures { WalkedOver C.look config.now (Advancing (ReadsBack F.Fn callback)) ctx.now state.old (IRNode.BasicBlock root) (Continue Advance) state.new }
 {
     walk(ctx, state, config, IRNode::BasicBlock(root), callback);
@@ -70,7 +71,7 @@ fn walk<C: NodeLinks, S, F: Fn(&C, &mut S, IRNode)>(
     callback: F,
 )
     requires root_live { (C.look ctx.now).live root ≡ true }
-    requires callable { (c : _) (s : _) (n : AnyNode) → c.now ≡ ctx.now → (C.look ctx.now).live n ≡ true → F.pre callback c s n }
+    requires callable { (c : _) (s : _) (n : AnyNode) → c.now ≡ ctx.now → StandsUnder (C.look ctx.now) root n → F.pre callback c s n }
     ensures { WalkedOver C.look config.now (Advancing (ReadsBack F.Fn callback)) ctx.now state.old root (Continue Advance) state.new }
 {
     let advancing = |c: &C, s: &mut S, n: IRNode| -> WalkResult<()>

@@ -6,6 +6,7 @@ ghost use Rattle.std.specs.declared.ops.ControlFlow.TheVariants.{Continue};
 ghost use Rattle.plir_core.specs.declared.ptr.IRNode.{IRNode as AnyNode};
 ghost use Rattle.plir_walk.specs.declared.interruptible.WalkContinue.TheVariants.{Advance};
 ghost use Rattle.plir_walk.specs.Calls.{Advancing, CallsBack};
+ghost use Rattle.plir_walk.specs.Forest.{StandsUnder};
 ghost use Rattle.plir_walk.specs.Walked.{IsLawful, Walked, plain_answer};
 
 use crate::config::WalkConfig;
@@ -33,8 +34,8 @@ pub fn walk_op<C: NodeLinks, S, F: Fn(&mut C, &mut S, IRNode)>(
     callback: F,
 ) -> Result<(), CallLimit>
     requires root_live { (C.look ctx.old).live (IRNode.Operation root) ≡ true }
-    requires callable { (c : _) (s : _) (n : AnyNode) → (C.look c.now).live n ≡ true → F.pre callback c s n }
-    requires lawful { IsLawful C.look (Advancing (CallsBack F.Fn callback)) }
+    requires callable { (c : _) (s : _) (n : AnyNode) → StandsUnder (C.look c.now) (IRNode.Operation root) n → F.pre callback c s n }
+    requires lawful { IsLawful C.look (IRNode.Operation root) (Advancing (CallsBack F.Fn callback)) }
     ensures { Walked C.look config.now (Advancing (CallsBack F.Fn callback)) ctx.old state.old (IRNode.Operation root) limit (plain_answer result) ctx.new state.new }
 {
     walk(ctx, state, config, IRNode::Operation(root), limit, callback)
@@ -56,8 +57,8 @@ pub fn walk_region<C: NodeLinks, S, F: Fn(&mut C, &mut S, IRNode)>(
     callback: F,
 ) -> Result<(), CallLimit>
     requires root_live { (C.look ctx.old).live (IRNode.Region root) ≡ true }
-    requires callable { (c : _) (s : _) (n : AnyNode) → (C.look c.now).live n ≡ true → F.pre callback c s n }
-    requires lawful { IsLawful C.look (Advancing (CallsBack F.Fn callback)) }
+    requires callable { (c : _) (s : _) (n : AnyNode) → StandsUnder (C.look c.now) (IRNode.Region root) n → F.pre callback c s n }
+    requires lawful { IsLawful C.look (IRNode.Region root) (Advancing (CallsBack F.Fn callback)) }
     ensures { Walked C.look config.now (Advancing (CallsBack F.Fn callback)) ctx.old state.old (IRNode.Region root) limit (plain_answer result) ctx.new state.new }
 {
     walk(ctx, state, config, IRNode::Region(root), limit, callback)
@@ -79,8 +80,8 @@ pub fn walk_block<C: NodeLinks, S, F: Fn(&mut C, &mut S, IRNode)>(
     callback: F,
 ) -> Result<(), CallLimit>
     requires root_live { (C.look ctx.old).live (IRNode.BasicBlock root) ≡ true }
-    requires callable { (c : _) (s : _) (n : AnyNode) → (C.look c.now).live n ≡ true → F.pre callback c s n }
-    requires lawful { IsLawful C.look (Advancing (CallsBack F.Fn callback)) }
+    requires callable { (c : _) (s : _) (n : AnyNode) → StandsUnder (C.look c.now) (IRNode.BasicBlock root) n → F.pre callback c s n }
+    requires lawful { IsLawful C.look (IRNode.BasicBlock root) (Advancing (CallsBack F.Fn callback)) }
     ensures { Walked C.look config.now (Advancing (CallsBack F.Fn callback)) ctx.old state.old (IRNode.BasicBlock root) limit (plain_answer result) ctx.new state.new }
 {
     let block = IRNode::BasicBlock(root);
@@ -97,8 +98,8 @@ fn walk<C: NodeLinks, S, F: Fn(&mut C, &mut S, IRNode)>(
     callback: F,
 ) -> Result<(), CallLimit>
     requires root_live { (C.look ctx.old).live root ≡ true }
-    requires callable { (c : _) (s : _) (n : AnyNode) → (C.look c.now).live n ≡ true → F.pre callback c s n }
-    requires lawful { IsLawful C.look (Advancing (CallsBack F.Fn callback)) }
+    requires callable { (c : _) (s : _) (n : AnyNode) → StandsUnder (C.look c.now) root n → F.pre callback c s n }
+    requires lawful { IsLawful C.look root (Advancing (CallsBack F.Fn callback)) }
     ensures { Walked C.look config.now (Advancing (CallsBack F.Fn callback)) ctx.old state.old root limit (plain_answer result) ctx.new state.new }
 {
     let advancing = |c: &mut C, s: &mut S, n: IRNode| -> WalkResult<()>

@@ -6,11 +6,12 @@ ghost use Rattle.plir_walk.specs.Forest.{Lawful};
 ghost use Rattle.plir_walk.specs.View.{look};
 
 use super::plan::{Change, Plan};
+use plir_core::laws::{first_kid_is_front, kid_at};
 use plir_core::{BasicBlock, Context, IRNode, NodeErr, Operation, Ptr, Region};
-use plir_data::{Identifier, OpKind};
-use plir_scripts::{SampleKind, SampleSet};
+use plir_data::{Identifier, OpKind, OpSet};
 use plir_walk::NodeLinks;
 use plir_walk::interruptible::{WalkResult, walk_break};
+use plir_walk::laws::lawful_changes;
 use std::alloc::Global;
 
 /// What a callback breaks the walk with where memory was refused, or a change can't be made.
@@ -52,36 +53,40 @@ impl Nest {
 
 /// A new operation with one region, which holds one empty block. It stands at the end of the block `target`, if there
 /// is one.
-pub fn make_nest(
+pub fn make_nest<D: OpSet>(
     alloc: Global,
-    ctx: &mut Context<SampleSet>,
-    kind: OpKind<SampleKind>,
+    ctx: &mut Context<D>,
+    kind: OpKind<D::Kind>,
     target: Option<Ptr<BasicBlock>>,
 ) -> Result<Nest, Refusal>
     ensures lawful { (b : _) → target ≡ Some b → Lawful (look ctx.old) (AnyNode.BasicBlock b) (look ctx.new) }
 {
     ctx.forest();
+    lawful_changes::<D>();
     let op = new_op(alloc, ctx, kind, target)?;
     let region = op.first_region(ctx).ok_or(Refusal::Misplaced)?;
     if !region.is_live(ctx) {
         return Err(Refusal::Misplaced);
     }
+    first_kid_is_front(ctx, IRNode::Operation(op));
+    kid_at(ctx, IRNode::Operation(op), IRNode::Region(region), 0);
     let block = BasicBlock::new(alloc, ctx, None, Vec::new(alloc))?;
     block.insert_at_back(region, ctx);
     Ok(Nest { op, region, block })
 }
 
 // A new operation with one region, at the end of `target`, if that is given.
-fn new_op(
+fn new_op<D: OpSet>(
     alloc: Global,
-    ctx: &mut Context<SampleSet>,
-    kind: OpKind<SampleKind>,
+    ctx: &mut Context<D>,
+    kind: OpKind<D::Kind>,
     target: Option<Ptr<BasicBlock>>,
 ) -> Result<Ptr<Operation>, Refusal>
     ensures live { IfOk result (λ op. IsLive ctx.new (AnyNode.Operation op)) }
     ensures placed { (b : _) → target ≡ Some b → IfOk result (λ op. parent_of ctx.new (AnyNode.Operation op) ≡ Some (AnyNode.BasicBlock b)) }
     ensures lawful { (b : _) → target ≡ Some b → Lawful (look ctx.old) (AnyNode.BasicBlock b) (look ctx.new) }
 {
+    lawful_changes::<D>();
     let results = Vec::new(alloc);
     let operands = Vec::new(alloc);
     let successors = Vec::new(alloc);
@@ -99,9 +104,10 @@ fn new_op(
 }
 
 /// Erases an operation that stands in `node` and that nothing outside it uses.
-fn erase_op(ctx: &mut Context<SampleSet>, node: IRNode, op: Ptr<Operation>) -> Result<(), Refusal>
+fn erase_op<D: OpSet>(ctx: &mut Context<D>, node: IRNode, op: Ptr<Operation>) -> Result<(), Refusal>
     ensures { Lawful (look ctx.old) node (look ctx.new) }
 {
+    lawful_changes::<D>();
     let erased = IRNode::Operation(op);
     if !op.is_live(ctx) || !erased.is_unused_outside(ctx) {
         return Err(Refusal::Misplaced);
@@ -115,13 +121,15 @@ fn erase_op(ctx: &mut Context<SampleSet>, node: IRNode, op: Ptr<Operation>) -> R
 }
 
 /// Erases the first region of an operation, which nothing outside the region uses.
-fn erase_region(ctx: &mut Context<SampleSet>, op: Ptr<Operation>) -> Result<(), Refusal>
+fn erase_region<D: OpSet>(ctx: &mut Context<D>, op: Ptr<Operation>) -> Result<(), Refusal>
     ensures { Lawful (look ctx.old) (AnyNode.Operation op) (look ctx.new) }
 {
+    lawful_changes::<D>();
     if !op.is_live(ctx) || op.num_regions(ctx) == 0 {
         return Err(Refusal::Misplaced);
     }
     let region = op.get_region(ctx, 0);
+    kid_at(ctx, IRNode::Operation(op), IRNode::Region(region), 0);
     if !IRNode::Region(region).is_unused_outside(ctx) {
         return Err(Refusal::Misplaced);
     }
@@ -130,9 +138,10 @@ fn erase_region(ctx: &mut Context<SampleSet>, op: Ptr<Operation>) -> Result<(), 
 }
 
 /// Adds a region to an operation.
-fn add_region(ctx: &mut Context<SampleSet>, op: Ptr<Operation>) -> Result<(), Refusal>
+fn add_region<D: OpSet>(ctx: &mut Context<D>, op: Ptr<Operation>) -> Result<(), Refusal>
     ensures { Lawful (look ctx.old) (AnyNode.Operation op) (look ctx.new) }
 {
+    lawful_changes::<D>();
     if !op.is_live(ctx) {
         return Err(Refusal::Misplaced);
     }
@@ -141,13 +150,14 @@ fn add_region(ctx: &mut Context<SampleSet>, op: Ptr<Operation>) -> Result<(), Re
 }
 
 /// Puts a new block at the end of a region.
-fn append_block(
+fn append_block<D: OpSet>(
     alloc: Global,
-    ctx: &mut Context<SampleSet>,
+    ctx: &mut Context<D>,
     region: Ptr<Region>,
 ) -> Result<(), Refusal>
     ensures { Lawful (look ctx.old) (AnyNode.Region region) (look ctx.new) }
 {
+    lawful_changes::<D>();
     if !region.is_live(ctx) {
         return Err(Refusal::Misplaced);
     }
@@ -157,9 +167,14 @@ fn append_block(
 }
 
 /// Labels a block `b`.
-fn label(alloc: Global, ctx: &mut Context<SampleSet>, block: Ptr<BasicBlock>) -> Result<(), Refusal>
+fn label<D: OpSet>(
+    alloc: Global,
+    ctx: &mut Context<D>,
+    block: Ptr<BasicBlock>,
+) -> Result<(), Refusal>
     ensures { Lawful (look ctx.old) (AnyNode.BasicBlock block) (look ctx.new) }
 {
+    lawful_changes::<D>();
     let Ok(name) = Identifier::try_new(alloc, "b") else {
         return Err(Refusal::NotMade(NodeErr::Memory));
     };
@@ -171,9 +186,9 @@ fn label(alloc: Global, ctx: &mut Context<SampleSet>, block: Ptr<BasicBlock>) ->
 }
 
 /// Changes the tree right below `node`, or the node itself.
-fn apply(
+fn apply<D: OpSet>(
     alloc: Global,
-    ctx: &mut Context<SampleSet>,
+    ctx: &mut Context<D>,
     node: IRNode,
     change: Change,
 ) -> Result<(), Refusal>
@@ -194,9 +209,9 @@ fn apply(
 }
 
 /// Does what is listed for `node`.
-fn follow(
+fn follow<D: OpSet>(
     alloc: Global,
-    ctx: &mut Context<SampleSet>,
+    ctx: &mut Context<D>,
     changes: &[(IRNode, Change)],
     node: IRNode,
 ) -> Result<(), Refusal>
@@ -204,6 +219,7 @@ fn follow(
     ensures { Lawful (look ctx.old) node (look ctx.new) }
 {
     ctx.forest();
+    lawful_changes::<D>();
     for (at, change) in changes {
         if *at == node {
             apply(alloc, ctx, node, *change)?;
@@ -213,9 +229,9 @@ fn follow(
 }
 
 /// Notes the node, and does what the plan says.
-pub fn visit(
+pub fn visit<D: OpSet>(
     alloc: Global,
-    ctx: &mut Context<SampleSet>,
+    ctx: &mut Context<D>,
     seen: &mut Vec<IRNode>,
     plan: &Plan,
     node: IRNode,

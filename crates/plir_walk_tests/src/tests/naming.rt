@@ -3,8 +3,8 @@ ghost use Rattle.plir_core.specs.Store.{IsLive};
 ghost use Rattle.plir_core.specs.declared.ptr.IRNode.{IRNode as AnyNode};
 
 use plir_core::{BasicBlock, Context, IRNode, Operation, Ptr};
-use plir_data::Identifier;
-use plir_scripts::{Bench, Line, SampleSet, Stop, label_of, number};
+use plir_data::{Identifier, OpSet};
+use plir_scripts::{Bench, Line, Stop, label_of, number};
 use plir_walk::GivenNamesErr;
 use plir_walk::given_names::{
     erase_given_names, get_block_arg_name, get_operation_result_name, insert_block_arg_name,
@@ -15,7 +15,7 @@ use std::alloc::Global;
 
 /// Does what a line says of names: `set-name NODE PLACE NAME`, `insert-name NODE PLACE NAME`, where `-` unsets,
 /// `remove-name NODE PLACE`, `names NODE`, which writes the first four, or `erase-names OP`.
-pub fn name(bench: &mut Bench, line: Line<'_>) -> Result<(), Stop> {
+pub fn name<D: OpSet>(bench: &mut Bench<D>, line: Line<'_>) -> Result<(), Stop> {
     match line.command {
         "erase-names" => {
             let op = bench.made.op(&bench.ctx, line.first)?;
@@ -25,13 +25,19 @@ pub fn name(bench: &mut Bench, line: Line<'_>) -> Result<(), Stop> {
         "names" => put_names(bench, line),
         _ => match edit_names(bench, line)? {
             Ok(()) => Ok(()),
-            Err(GivenNamesErr::GivenNamesIncorrect) => Ok(bench.answer.push_str("incorrect")?),
+            Err(GivenNamesErr::GivenNamesIncorrect) => {
+                bench.answer.put("incorrect");
+                Ok(())
+            }
             Err(GivenNamesErr::Memory) => Err(Stop::Memory),
         },
     }
 }
 
-fn edit_names(bench: &mut Bench, line: Line<'_>) -> Result<Result<(), GivenNamesErr>, Stop> {
+fn edit_names<D: OpSet>(
+    bench: &mut Bench<D>,
+    line: Line<'_>,
+) -> Result<Result<(), GivenNamesErr>, Stop> {
     match bench.made.live(&bench.ctx, line.first)? {
         IRNode::Operation(op) => edit_op(bench.alloc, &mut bench.ctx, op, line),
         IRNode::BasicBlock(block) => edit_block(bench.alloc, &mut bench.ctx, block, line),
@@ -39,9 +45,9 @@ fn edit_names(bench: &mut Bench, line: Line<'_>) -> Result<Result<(), GivenNames
     }
 }
 
-fn edit_op(
+fn edit_op<D: OpSet>(
     alloc: Global,
-    ctx: &mut Context<SampleSet>,
+    ctx: &mut Context<D>,
     op: Ptr<Operation>,
     line: Line<'_>,
 ) -> Result<Result<(), GivenNamesErr>, Stop>
@@ -64,9 +70,9 @@ fn edit_op(
     }
 }
 
-fn edit_block(
+fn edit_block<D: OpSet>(
     alloc: Global,
-    ctx: &mut Context<SampleSet>,
+    ctx: &mut Context<D>,
     block: Ptr<BasicBlock>,
     line: Line<'_>,
 ) -> Result<Result<(), GivenNamesErr>, Stop>
@@ -88,21 +94,18 @@ fn edit_block(
 }
 
 // Writes the first four names of results or arguments, `-` for one that isn't set.
-fn put_names(bench: &mut Bench, line: Line<'_>) -> Result<(), Stop> {
-    let (ctx, made, text) = (&bench.ctx, &bench.made, &mut bench.answer);
+fn put_names<D: OpSet>(bench: &mut Bench<D>, line: Line<'_>) -> Result<(), Stop> {
+    let (ctx, made, answer) = (&bench.ctx, &bench.made, &mut bench.answer);
     let node = made.live(ctx, line.first)?;
     for place in 0..4 {
-        text.push(' ')?;
-        match name_at(ctx, node, place) {
-            Some(name) => text.push_str(name.as_str())?,
-            None => text.push('-')?,
-        }
+        answer.put(" ");
+        answer.put(name_at(ctx, node, place).map_or("-", |name| name.as_str()));
     }
     Ok(())
 }
 
 // The name at a place.
-fn name_at(ctx: &Context<SampleSet>, node: IRNode, place: usize) -> Option<&Identifier>
+fn name_at<D: OpSet>(ctx: &Context<D>, node: IRNode, place: usize) -> Option<&Identifier>
     requires { IsLive ctx.now node }
 {
     match node {

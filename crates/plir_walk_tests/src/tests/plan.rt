@@ -1,5 +1,6 @@
 //! What the callback of a walk does, as a text says it.
 use plir_core::{IRNode, Operation, Ptr};
+use plir_data::OpSet;
 use plir_scripts::{Bench, Stop, split_word};
 use plir_walk::interruptible::{WalkResult, walk_advance, walk_break, walk_skip};
 
@@ -45,7 +46,7 @@ impl Plan {
 
 /// The plan of a text: `limit N`, `skip NODE`, `break NODE`, `at NODE erase OP`, `at NODE append`, `at NODE add`, `at
 /// NODE clear` and `at NODE label`, parted by `, `.
-pub fn read_plan(bench: &Bench, text: &str) -> Result<Plan, Stop> {
+pub fn read_plan<D: OpSet>(bench: &Bench<D>, text: &str) -> Result<Plan, Stop> {
     let mut plan = Plan {
         changes: Vec::new(bench.alloc),
         skips: Vec::new(bench.alloc),
@@ -67,7 +68,7 @@ pub fn read_plan(bench: &Bench, text: &str) -> Result<Plan, Stop> {
 }
 
 // A node and the change there.
-fn read_change(bench: &Bench, text: &str) -> Result<(IRNode, Change), Stop> {
+fn read_change<D: OpSet>(bench: &Bench<D>, text: &str) -> Result<(IRNode, Change), Stop> {
     let (name, rest) = split_word(text);
     let node = bench.made.node(name)?;
     let (word, name) = split_word(rest);

@@ -1,9 +1,13 @@
 //! A callback whose own growth is refused.
-use super::changes::{NOT_DONE, make_nest};
+ghost use Rattle.plir_core.specs.Store.{IsLive};
+ghost use Rattle.plir_core.specs.declared.ptr.IRNode.{IRNode as AnyNode};
+
+use super::changes::{NOT_DONE, Nest, make_nest};
 use super::plan::{Change, Plan};
 use super::walking::change;
 use plir_core::{Context, IRNode};
 use plir_data::OpKind;
+use plir_scripts::SampleSet;
 use plir_walk::WALKCONFIG_PREORDER_FORWARD;
 use std::alloc::Global;
 use std::ops::ControlFlow;
@@ -21,25 +25,58 @@ fn appending(alloc: Global, node: IRNode) -> Option<Plan> {
     })
 }
 
+// The nodes of a tree of a module that holds at most one function, in the order of their places.
+fn nodes_in(ctx: &Context<SampleSet>, nest: Nest) -> [Option<IRNode>; 6]
+    requires { IsLive ctx.now (AnyNode.BasicBlock nest.block) }
+{
+    let (root, region, block) = nest.nodes();
+    let func = nest.block.get_head(ctx);
+    let inner = match func {
+        None => None,
+        Some(op) => op.first_region(ctx),
+    };
+    let body = match inner {
+        None => None,
+        Some(region) => region.get_head(ctx),
+    };
+    [
+        Some(root),
+        Some(region),
+        Some(block),
+        func.map(IRNode::Operation),
+        inner.map(IRNode::Region),
+        body.map(IRNode::BasicBlock),
+    ]
+}
+
+// Whether the called nodes are the first ones of these.
+fn are_first(called: &[IRNode], nodes: [Option<IRNode>; 6]) -> bool {
+    called.len() <= 6
+        && called
+            .iter()
+            .zip(nodes)
+            .all(|(called, node)| Some(*called) == node)
+}
+
 #[test]
 fn a_walk_breaks_and_its_calls_stay_where_memory_is_refused(rt: HostRuntime) {
     let alloc = rt.alloc();
-    let mut ctx = Context::new(alloc);
+    let mut ctx: Context<SampleSet> = Context::new(alloc);
     let Ok(module) = make_nest(alloc, &mut ctx, OpKind::Module, None) else {
         return;
     };
-    let (root, region, block) = module.nodes();
+    let (root, _, block) = module.nodes();
     let Some(plan) = appending(alloc, block) else {
         return;
     };
     let mut called = Vec::new(alloc);
     let config = WALKCONFIG_PREORDER_FORWARD;
     assert!(&rt; root.is_live(&ctx));
-    match change(alloc, &mut ctx, &config, root, &plan, &mut called) {
-        Ok(ControlFlow::Break(value)) => {
-            assert_eq!(&rt; value, NOT_DONE);
-            assert!(&rt; called.starts_with(&[root, region, block]) || called.len() < 3);
-        }
+    let answer = change(alloc, &mut ctx, &config, root, &plan, &mut called);
+    assert!(&rt; block.is_live(&ctx));
+    assert!(&rt; are_first(called.as_slice(), nodes_in(&ctx, module)));
+    match answer {
+        Ok(ControlFlow::Break(value)) => assert_eq!(&rt; value, NOT_DONE),
         Ok(ControlFlow::Continue(_)) => assert_eq!(&rt; called.len(), 6),
         Err(_) => assert!(&rt; false, "at the limit"),
     }

@@ -1,21 +1,28 @@
 //! The scripts of walks and names, with their answers.
 use super::naming::name;
-use super::walking::walk;
-use plir_scripts::{Bench, Layer, Line, Mismatch, NodeCalls, Stop, play};
+use super::walking::{walk, walk_plainly};
+use plir_scripts::{Bench, Layer, Line, Mismatch, NodeCalls, SampleSet, ScriptSet, Stop, play};
+use std::alloc::Global;
 
 /// The calls of this crate, and those on nodes.
 struct WalkCalls;
 
-impl Layer for WalkCalls {
-    fn run(bench: &mut Bench, line: Line<'_>) -> Result<(), Stop> {
+impl<D: ScriptSet> Layer<D> for WalkCalls {
+    fn run(bench: &mut Bench<D>, line: Line<'_>) -> Result<(), Stop> {
         match line.command {
             "look" | "plainly-look" | "change" | "plainly-change" => walk(bench, line),
+            "grow" | "unlabel" => walk_plainly(bench, line),
             "set-name" | "insert-name" | "remove-name" | "names" | "erase-names" => {
                 name(bench, line)
             }
             _ => NodeCalls::run(bench, line),
         }
     }
+}
+
+// Plays a script of walks and names.
+fn play_in(alloc: Global, script: &str) -> Result<(), Mismatch> {
+    play::<SampleSet, WalkCalls>(alloc, 100, script)
 }
 
 #[test]
@@ -36,7 +43,7 @@ fn one_order_and_direction_at_all_levels(rt: HostRuntime) -> Result<(), Mismatch
         look post-rev o0 => b2 r2 o2 b1 r1 o1 b0 r0 o0 advance
         look pre-rev o0 => o0 r0 b0 o2 r2 b2 o1 r1 b1 advance
         look post-fwd o0 => b1 r1 o1 b2 r2 o2 b0 r0 o0 advance";
-    play::<WalkCalls>(rt.alloc(), 100, script)
+    play_in(rt.alloc(), script)
 }
 
 #[test]
@@ -54,7 +61,7 @@ fn orders_and_directions_may_be_mixed(rt: HostRuntime) -> Result<(), Mismatch> {
         back b2 r2
         back o2 b0
         look post-fwd/pre-rev/pre-fwd o0 => r0 b0 r2 b2 o2 r1 b1 o1 o0 advance";
-    play::<WalkCalls>(rt.alloc(), 100, script)
+    play_in(rt.alloc(), script)
 }
 
 #[test]
@@ -74,7 +81,7 @@ fn a_skip_before_leaves_out_what_is_below(rt: HostRuntime) -> Result<(), Mismatc
         look pre-fwd o0 skip o1 => o0 r0 b0 o1 o2 r2 b2 advance
         look pre-fwd o0 skip o0 => o0 advance
         look post-fwd o0 skip o0, skip r0, skip b0, skip o1, skip r1, skip b1, skip o2, skip r2, skip b2 => b1 r1 o1 b2 r2 o2 b0 r0 o0 advance";
-    play::<WalkCalls>(rt.alloc(), 100, script)
+    play_in(rt.alloc(), script)
 }
 
 #[test]
@@ -93,7 +100,7 @@ fn a_break_ends_the_walk(rt: HostRuntime) -> Result<(), Mismatch> {
         back o2 b0
         look pre-fwd o0 break o1 => o0 r0 b0 o1 break 7
         change pre-fwd o0 break o1 => o0 r0 b0 o1 break 7";
-    play::<WalkCalls>(rt.alloc(), 100, script)
+    play_in(rt.alloc(), script)
 }
 
 #[test]
@@ -116,7 +123,7 @@ fn a_walk_stays_under_its_root(rt: HostRuntime) -> Result<(), Mismatch> {
         look pre-rev o1 => o1 r1 b1 advance
         look post-fwd o1 => b1 r1 o1 advance
         look post-rev o1 => b1 r1 o1 advance";
-    play::<WalkCalls>(rt.alloc(), 100, script)
+    play_in(rt.alloc(), script)
 }
 
 #[test]
@@ -145,7 +152,7 @@ fn each_walker_walks(rt: HostRuntime) -> Result<(), Mismatch> {
         plainly-change pre-fwd o1 => o1 r1 b1 advance
         plainly-change pre-fwd r1 => r1 b1 advance
         plainly-change pre-fwd b1 => b1 advance";
-    play::<WalkCalls>(rt.alloc(), 100, script)
+    play_in(rt.alloc(), script)
 }
 
 #[test]
@@ -165,7 +172,7 @@ fn a_walk_makes_at_most_as_many_calls_as_its_limit(rt: HostRuntime) -> Result<()
         change pre-fwd o0 limit 0 => limit
         change pre-fwd o0 limit 8 => o0 r0 b0 o1 r1 b1 o2 r2 limit
         change pre-fwd o0 limit 9 => o0 r0 b0 o1 r1 b1 o2 r2 b2 advance";
-    play::<WalkCalls>(rt.alloc(), 100, script)
+    play_in(rt.alloc(), script)
 }
 
 #[test]
@@ -189,7 +196,7 @@ fn a_plain_walk_ends_at_its_limit(rt: HostRuntime) -> Result<(), Mismatch> {
         plainly-change pre-fwd o0 limit 9, at b0 label, at b1 label, at b2 label => o0 r0 b0 o1 r1 b1 o2 r2 b2 advance
         show b2 => b, in r2 o2, between - -, operations to -, terminator -, arguments 0
         look pre-fwd o0 => o0 r0 b0 o1 r1 b1 o2 r2 b2 advance";
-    play::<WalkCalls>(rt.alloc(), 100, script)
+    play_in(rt.alloc(), script)
 }
 
 #[test]
@@ -207,7 +214,7 @@ fn what_a_call_erases_is_not_called(rt: HostRuntime) -> Result<(), Mismatch> {
         back b2 r2
         back o2 b0
         change pre-fwd o0 limit 6, at b0 erase o2 => o0 r0 b0 o1 r1 b1 advance";
-    play::<WalkCalls>(rt.alloc(), 100, script)
+    play_in(rt.alloc(), script)
 }
 
 #[test]
@@ -225,7 +232,38 @@ fn what_a_call_erases_after_its_walk_was_called(rt: HostRuntime) -> Result<(), M
         back b2 r2
         back o2 b0
         change post-fwd o0 limit 9, at b0 erase o2 => b1 r1 o1 b2 r2 o2 b0 r0 o0 advance";
-    play::<WalkCalls>(rt.alloc(), 100, script)
+    play_in(rt.alloc(), script)
+}
+
+#[test]
+fn regions_that_calls_add_are_called(rt: HostRuntime) -> Result<(), Mismatch> {
+    let script = "
+        op module 1 => o0
+        block => b0
+        back b0 r0
+        op func 1 => o1
+        block => b1
+        back b1 r1
+        back o1 b0
+        grow pre-fwd o0 => o0 r0 b0 o1 r1 b1 r2 r3 advance
+        grow post-fwd o0 => b1 r1 r2 o1 b0 r0 r3 o0 advance
+        look pre-fwd o0 => o0 r0 b0 o1 r1 b1 r2 r4 r3 r5 advance";
+    play_in(rt.alloc(), script)
+}
+
+#[test]
+fn a_call_may_change_what_a_block_holds(rt: HostRuntime) -> Result<(), Mismatch> {
+    let script = "
+        op module 1 => o0
+        block a => b0
+        back b0 r0
+        op func 1 => o1
+        block => b1
+        back b1 r1
+        back o1 b0
+        unlabel post-fwd/pre-rev/pre-fwd o0 => r0 b0 r1 b1 o1 o0 advance
+        show b0 => -, in r0 o0, between - -, operations o1 to o1, terminator -, arguments 0";
+    play_in(rt.alloc(), script)
 }
 
 #[test]
@@ -243,7 +281,7 @@ fn what_a_call_appends_is_called(rt: HostRuntime) -> Result<(), Mismatch> {
         back b2 r2
         back o2 b0
         change pre-fwd o0 limit 12, at b0 append => o0 r0 b0 o1 r1 b1 o2 r2 b2 o3 r3 b3 advance";
-    play::<WalkCalls>(rt.alloc(), 100, script)
+    play_in(rt.alloc(), script)
 }
 
 #[test]
@@ -261,7 +299,7 @@ fn what_a_call_appends_counts_for_the_limit(rt: HostRuntime) -> Result<(), Misma
         back b2 r2
         back o2 b0
         change pre-fwd o0 limit 9, at b0 append => o0 r0 b0 o1 r1 b1 o2 r2 b2 limit";
-    play::<WalkCalls>(rt.alloc(), 100, script)
+    play_in(rt.alloc(), script)
 }
 
 #[test]
@@ -280,7 +318,7 @@ fn a_new_node_in_an_old_slot_is_called(rt: HostRuntime) -> Result<(), Mismatch> 
         back o2 b0
         change pre-fwd o0 limit 10, at b0 erase o2, at b0 append => o0 r0 b0 o1 r1 b1 o3 r3 b3 advance
         number o3 => op3v2";
-    play::<WalkCalls>(rt.alloc(), 100, script)
+    play_in(rt.alloc(), script)
 }
 
 #[test]
@@ -298,7 +336,7 @@ fn a_call_may_change_the_tree_and_skip_it(rt: HostRuntime) -> Result<(), Mismatc
         back b2 r2
         back o2 b0
         change pre-fwd o0 limit 10, at b0 erase o2, skip b0 => o0 r0 b0 advance";
-    play::<WalkCalls>(rt.alloc(), 100, script)
+    play_in(rt.alloc(), script)
 }
 
 #[test]
@@ -316,7 +354,7 @@ fn a_region_that_a_call_erases_is_not_called(rt: HostRuntime) -> Result<(), Mism
         back b2 r2
         back o2 b0
         change pre-fwd o0 limit 10, at o1 clear => o0 r0 b0 o1 o2 r2 b2 advance";
-    play::<WalkCalls>(rt.alloc(), 100, script)
+    play_in(rt.alloc(), script)
 }
 
 #[test]
@@ -334,7 +372,7 @@ fn a_region_that_a_later_call_adds_is_not_called(rt: HostRuntime) -> Result<(), 
         back b2 r2
         back o2 b0
         change post-fwd o0 limit 10, at o1 add => b1 r1 o1 b2 r2 o2 b0 r0 o0 advance";
-    play::<WalkCalls>(rt.alloc(), 100, script)
+    play_in(rt.alloc(), script)
 }
 
 #[test]
@@ -352,7 +390,7 @@ fn a_region_that_a_later_call_erases_was_called(rt: HostRuntime) -> Result<(), M
         back b2 r2
         back o2 b0
         change post-fwd/pre-rev/pre-fwd o0 limit 10, at o2 clear => r0 b0 r2 b2 o2 r1 b1 o1 o0 advance";
-    play::<WalkCalls>(rt.alloc(), 100, script)
+    play_in(rt.alloc(), script)
 }
 
 #[test]
@@ -371,7 +409,7 @@ fn a_block_is_called_before_its_region_is_erased(rt: HostRuntime) -> Result<(), 
         back o2 b0
         change post-fwd/pre-rev/pre-fwd o0 limit 10, at r2 append, at o2 clear => r0 b0 r2 b2 b3 o2 r1 b1 o1 o0 advance
         number b3 => block4v1";
-    play::<WalkCalls>(rt.alloc(), 100, script)
+    play_in(rt.alloc(), script)
 }
 
 #[test]
@@ -381,7 +419,7 @@ fn test_block_arg_name(rt: HostRuntime) -> Result<(), Mismatch> {
         block - t0 => b0
         set-name b0 0 foo
         names b0 => foo - - -";
-    play::<WalkCalls>(rt.alloc(), 100, script)
+    play_in(rt.alloc(), script)
 }
 
 #[test]
@@ -405,7 +443,7 @@ fn test_op_result_name_insert_remove_shift(rt: HostRuntime) -> Result<(), Mismat
         names o0 => - r0 r1 -
         remove-name o0 0
         names o0 => r0 r1 - -";
-    play::<WalkCalls>(rt.alloc(), 100, script)
+    play_in(rt.alloc(), script)
 }
 
 #[test]
@@ -429,7 +467,7 @@ fn test_block_arg_name_insert_remove_shift(rt: HostRuntime) -> Result<(), Mismat
         names b0 => - a0 a1 -
         remove-name b0 0
         names b0 => a0 a1 - -";
-    play::<WalkCalls>(rt.alloc(), 100, script)
+    play_in(rt.alloc(), script)
 }
 
 #[test]
@@ -453,7 +491,7 @@ fn names_are_erased(rt: HostRuntime) -> Result<(), Mismatch> {
         erase-names o0
         names o0 => - - - -
         get o0 builtin_given_names => none";
-    play::<WalkCalls>(rt.alloc(), 100, script)
+    play_in(rt.alloc(), script)
 }
 
 #[test]
@@ -480,7 +518,7 @@ fn a_list_with_no_name_set_is_taken_out(rt: HostRuntime) -> Result<(), Mismatch>
         set-name o0 1 a => refused
         insert-name o0 2 a => refused
         remove-name o0 1 => refused";
-    play::<WalkCalls>(rt.alloc(), 100, script)
+    play_in(rt.alloc(), script)
 }
 
 #[test]
@@ -495,7 +533,7 @@ fn an_attribute_of_another_kind_stays(rt: HostRuntime) -> Result<(), Mismatch> {
         names o0 => - - - -
         erase-names o0
         get o0 builtin_given_names => builtin.string \"names\"";
-    play::<WalkCalls>(rt.alloc(), 100, script)
+    play_in(rt.alloc(), script)
 }
 
 #[test]
@@ -509,7 +547,7 @@ fn names_stay_where_memory_is_refused(rt: HostRuntime) -> Result<(), Mismatch> {
         names o0 => a - c -
         insert-name o0 1 b
         names o0 => a b - c";
-    play::<WalkCalls>(rt.alloc(), 100, script)
+    play_in(rt.alloc(), script)
 }
 
 #[test]
@@ -534,5 +572,5 @@ fn names_below_are_erased(rt: HostRuntime) -> Result<(), Mismatch> {
         erase-names o0
         get o3 builtin_given_names => none
         show b1 => -, in r1 o1, between - -, operations o3 to o3, terminator -, arguments 0";
-    play::<WalkCalls>(rt.alloc(), 100, script)
+    play_in(rt.alloc(), script)
 }

@@ -5,9 +5,11 @@ ghost use Rattle.plir_walk.specs.Forest.{Lawful};
 ghost use Rattle.plir_walk.specs.View.{look};
 
 use super::changes::{NOT_DONE, visit};
+use super::growing::{grow, unlabel};
 use super::plan::{Plan, read_plan};
 use plir_core::{Context, IRNode};
-use plir_scripts::{Bench, Line, Made, SampleSet, Stop};
+use plir_data::OpSet;
+use plir_scripts::{Answer, Bench, Line, Made, Stop};
 use plir_walk::interruptible::{WalkResult, walk_advance, walk_break};
 use plir_walk::{
     CallLimit, Direction, Order, WALKCONFIG_POSTORDER_FORWARD, WALKCONFIG_POSTORDER_REVERSE,
@@ -15,13 +17,12 @@ use plir_walk::{
     uninterruptible,
 };
 use std::alloc::Global;
-use std::fmt::Write;
 use std::ops::ControlFlow;
 
 /// Does what a line says that walks: `look SETTING ROOT PLAN` and `plainly-look SETTING ROOT PLAN` by a callback that
 /// only reads, `change SETTING ROOT PLAN` and `plainly-change SETTING ROOT PLAN` by one that follows the plan. Writes
 /// the called nodes and the walk's answer. Nodes that the walk has made are named as they are called.
-pub fn walk(bench: &mut Bench, line: Line<'_>) -> Result<(), Stop> {
+pub fn walk<D: OpSet>(bench: &mut Bench<D>, line: Line<'_>) -> Result<(), Stop> {
     let config = config_of(line.first)?;
     let root = bench.made.live(&bench.ctx, line.second)?;
     let plan = read_plan(bench, line.tail)?;
@@ -51,7 +52,8 @@ pub fn walk(bench: &mut Bench, line: Line<'_>) -> Result<(), Stop> {
         ),
     };
     name_new(&mut bench.made, called.as_slice())?;
-    put_walk(&bench.made, &mut bench.answer, called.as_slice(), found)
+    put_walk(&bench.made, &mut bench.answer, called.as_slice(), found);
+    Ok(())
 }
 
 // A setting: `pre-fwd` and its kin, or three of them for the regions of operations, the operations of blocks and the
@@ -83,9 +85,25 @@ fn pair_of(word: &str) -> Result<(Order, Direction), Stop> {
     }
 }
 
+/// Does what a line says that walks under an operation: `grow SETTING OP` gives each called operation a region, `unlabel
+/// SETTING OP` takes the label from each called block. Writes the called nodes and the walk's answer.
+pub fn walk_plainly<D: OpSet>(bench: &mut Bench<D>, line: Line<'_>) -> Result<(), Stop> {
+    let config = config_of(line.first)?;
+    let root = bench.made.op(&bench.ctx, line.second)?;
+    let mut called = Vec::new(bench.alloc);
+    called.reserve(32)?;
+    let found = match line.command {
+        "grow" => grow(&mut bench.ctx, &config, root, &mut called),
+        _ => unlabel(&mut bench.ctx, &config, root, &mut called),
+    };
+    name_new(&mut bench.made, called.as_slice())?;
+    put_walk(&bench.made, &mut bench.answer, called.as_slice(), found);
+    Ok(())
+}
+
 /// Walks with a callback that notes its node and answers by the plan.
-pub fn look_at(
-    ctx: &Context<SampleSet>,
+pub fn look_at<D: OpSet>(
+    ctx: &Context<D>,
     config: &WalkConfig,
     root: IRNode,
     plan: &Plan,
@@ -94,9 +112,7 @@ pub fn look_at(
     requires { IsLive ctx.now root }
 {
     use interruptible::immutable::{walk_block, walk_op, walk_region};
-    let note = |_ctx: &Context<SampleSet>, called: &mut Vec<IRNode>, node: IRNode| -> WalkResult<
-        u32,
-    > {
+    let note = |_ctx: &Context<D>, called: &mut Vec<IRNode>, node: IRNode| -> WalkResult<u32> {
         match called.push(node) {
             Ok(()) => plan.answer(node),
             Err(_) => walk_break(NOT_DONE),
@@ -110,8 +126,8 @@ pub fn look_at(
 }
 
 // The same with a callback that always advances.
-fn look_plainly(
-    ctx: &Context<SampleSet>,
+fn look_plainly<D: OpSet>(
+    ctx: &Context<D>,
     config: &WalkConfig,
     root: IRNode,
     called: &mut Vec<IRNode>,
@@ -119,7 +135,7 @@ fn look_plainly(
     requires { IsLive ctx.now root }
 {
     use uninterruptible::immutable::{walk_block, walk_op, walk_region};
-    let note = |_ctx: &Context<SampleSet>, called: &mut Vec<IRNode>, node: IRNode| {
+    let note = |_ctx: &Context<D>, called: &mut Vec<IRNode>, node: IRNode| {
         let _noted = called.push(node);
     };
     match root {
@@ -130,9 +146,9 @@ fn look_plainly(
 }
 
 /// Walks with a callback that notes its node and follows the plan.
-pub fn change(
+pub fn change<D: OpSet>(
     alloc: Global,
-    ctx: &mut Context<SampleSet>,
+    ctx: &mut Context<D>,
     config: &WalkConfig,
     root: IRNode,
     plan: &Plan,
@@ -141,9 +157,7 @@ pub fn change(
     requires { IsLive ctx.old root }
 {
     use interruptible::mutable::{walk_block, walk_op, walk_region};
-    let follow = |ctx: &mut Context<SampleSet>, called: &mut Vec<
-        IRNode,
-    >, node: IRNode| -> WalkResult<u32>
+    let follow = |ctx: &mut Context<D>, called: &mut Vec<IRNode>, node: IRNode| -> WalkResult<u32>
         requires { IsLive ctx.old node }
         ensures { Lawful (look ctx.old) node (look ctx.new) }
     { visit(alloc, ctx, called, plan, node) };
@@ -156,9 +170,9 @@ pub fn change(
 }
 
 // The same with a callback that always advances.
-fn change_plainly(
+fn change_plainly<D: OpSet>(
     alloc: Global,
-    ctx: &mut Context<SampleSet>,
+    ctx: &mut Context<D>,
     config: &WalkConfig,
     root: IRNode,
     plan: &Plan,
@@ -167,7 +181,7 @@ fn change_plainly(
     requires { IsLive ctx.old root }
 {
     use uninterruptible::mutable::{walk_block, walk_op, walk_region};
-    let follow = |ctx: &mut Context<SampleSet>, called: &mut Vec<IRNode>, node: IRNode|
+    let follow = |ctx: &mut Context<D>, called: &mut Vec<IRNode>, node: IRNode|
         requires { IsLive ctx.old node }
         ensures { Lawful (look ctx.old) node (look ctx.new) }
     {
@@ -198,18 +212,20 @@ fn name_new(made: &mut Made, called: &[IRNode]) -> Result<(), Stop> {
 // Writes the names of the called nodes, and the walk's answer.
 fn put_walk(
     made: &Made,
-    text: &mut String,
+    answer: &mut Answer,
     called: &[IRNode],
     found: Result<WalkResult<u32>, CallLimit>,
-) -> Result<(), Stop> {
+) {
     for node in called {
-        made.put_node(text, *node)?;
+        made.put_node(answer, *node);
     }
     match found {
-        Err(CallLimit) => text.push_str(" limit")?,
-        Ok(ControlFlow::Break(value)) => write!(text, " break {value}")?,
-        Ok(ControlFlow::Continue(answer)) if answer.is_advance() => text.push_str(" advance")?,
-        Ok(ControlFlow::Continue(_)) => text.push_str(" skip")?,
+        Err(CallLimit) => answer.put(" limit"),
+        Ok(ControlFlow::Break(value)) => {
+            answer.put(" break ");
+            answer.put_number(value as usize);
+        }
+        Ok(ControlFlow::Continue(how)) if how.is_advance() => answer.put(" advance"),
+        Ok(ControlFlow::Continue(_)) => answer.put(" skip"),
     }
-    Ok(())
 }

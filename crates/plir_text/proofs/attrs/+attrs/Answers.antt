@@ -8,16 +8,18 @@ use Rattle.plir_text.specs.Terms.{attrs_of, entries_of}
 use Rattle.plir_text.specs.Steps.{read_as}
 use Rattle.plir_text.specs.Lists.{items_at}
 use Rattle.plir_text.specs.AttrReading.{name_at, text_at, bool_at, size_at, given_name_at, entry_at, attr_head, attr_at}
+use Rattle.plir_text.specs.TypesIn.{IsInEntry, IsInAttr}
 use Rattle.plir_text.proofs.Steps.{done}
 use Rattle.plir_text.proofs.Fronts.{no_open, nothing_inside}
-use Rattle.plir_text.proofs.Growth.{Adds-itself, Adds-on}
-use Rattle.plir_text.proofs.Gathering.{begins, gathered, one_more, fails_at, fails_behind}
+use Rattle.plir_text.proofs.Growth.{Adds-itself, Adds-as}
+use Rattle.plir_text.proofs.Gathering.{begins, kept_on, gathered, one_more, fails_at, fails_behind}
 use Rattle.plir_text.proofs.Meanings.{ItemsFront, ItemsFront-grown, DictFront, DictFront-grown, ItemsFront-push, IsDictMeant-push}
 use Rattle.plir_text.proofs.TypeSteps.{behind_is}
 use Rattle.plir_text.proofs.AttrSteps.{attr_at-body, attr_at-head-fails, Reads-from, leaf_read}
 use Rattle.plir_text.proofs.AttrsFound.{attr_at-shorter, entry_at-shorter}
 use Rattle.plir_text.proofs.AttrsAgain.{entry_again}
 use Rattle.plir_text.proofs.Begun.{separator_at-shorter}
+use Rattle.plir_text.proofs.TypesIn.{in_entry, in_attr}
 use Rattle.plir_text.proofs.attrs.+attrs.Goals as goal
 
 pub read_attr_at-returns-in_err-kind-clause-read : goal.read_attr_at-returns-in_err-kind-clause-read
@@ -82,11 +84,21 @@ read_attr_at-returns-in-Integer-clause-read g t c =
     let body = attr_at-body c.args.levels c.args.bytes.now c.in_ok-kind.rest.now kinds.Integer (omega (arith, c.if-levels-eq0.false)) head in
     Reads-from _ c.read_integer_attr.result _ _ body c.read_integer_attr.ensures.read
 
+pub read_attr_at-returns-in-Integer-clause-kept : goal.read_attr_at-returns-in-Integer-clause-kept
+read_attr_at-returns-in-Integer-clause-kept g t c =
+    let head : attr_head c.args.bytes.now ≡ done (kinds.Integer, c.in_ok-kind.rest.now) = c.in_ok-kind.ensures ∙ ap (λ k. done (k, c.in_ok-kind.rest.now)) c.in-Integer.is in
+    Adds-as (in_attr c.args.levels _ _ kinds.Integer (omega (arith, c.if-levels-eq0.false)) head) _ _ c.read_integer_attr.ensures.kept
+
 pub read_attr_at-returns-in-Dict-clause-read : goal.read_attr_at-returns-in-Dict-clause-read
 read_attr_at-returns-in-Dict-clause-read g t c =
     let head : attr_head c.args.bytes.now ≡ done (kinds.Dict, c.in_ok-kind.rest.now) = c.in_ok-kind.ensures ∙ ap (λ k. done (k, c.in_ok-kind.rest.now)) c.in-Dict.is in
     let body = attr_at-body c.args.levels c.args.bytes.now c.in_ok-kind.rest.now kinds.Dict (omega (arith, c.if-levels-eq0.false)) head in
     Reads-from _ c.read_dict_attr.result _ _ body c.read_dict_attr.ensures.read
+
+pub read_attr_at-returns-in-Dict-clause-kept : goal.read_attr_at-returns-in-Dict-clause-kept
+read_attr_at-returns-in-Dict-clause-kept g t c =
+    let head : attr_head c.args.bytes.now ≡ done (kinds.Dict, c.in_ok-kind.rest.now) = c.in_ok-kind.ensures ∙ ap (λ k. done (k, c.in_ok-kind.rest.now)) c.in-Dict.is in
+    Adds-as (in_attr c.args.levels _ _ kinds.Dict (omega (arith, c.if-levels-eq0.false)) head) _ _ c.read_dict_attr.ensures.kept
 
 pub read_attr_at-returns-in-Vec-clause-read : goal.read_attr_at-returns-in-Vec-clause-read
 read_attr_at-returns-in-Vec-clause-read g t c =
@@ -94,11 +106,21 @@ read_attr_at-returns-in-Vec-clause-read g t c =
     let body = attr_at-body c.args.levels c.args.bytes.now c.in_ok-kind.rest.now kinds.Vec (omega (arith, c.if-levels-eq0.false)) head in
     Reads-from _ c.read_list_attr.result _ _ body c.read_list_attr.ensures.read
 
+pub read_attr_at-returns-in-Vec-clause-kept : goal.read_attr_at-returns-in-Vec-clause-kept
+read_attr_at-returns-in-Vec-clause-kept g t c =
+    let head : attr_head c.args.bytes.now ≡ done (kinds.Vec, c.in_ok-kind.rest.now) = c.in_ok-kind.ensures ∙ ap (λ k. done (k, c.in_ok-kind.rest.now)) c.in-Vec.is in
+    Adds-as (in_attr c.args.levels _ _ kinds.Vec (omega (arith, c.if-levels-eq0.false)) head) _ _ c.read_list_attr.ensures.kept
+
 pub read_attr_at-returns-in-TypeOf-clause-read : goal.read_attr_at-returns-in-TypeOf-clause-read
 read_attr_at-returns-in-TypeOf-clause-read g t c =
     let head : attr_head c.args.bytes.now ≡ done (kinds.TypeOf, c.in_ok-kind.rest.now) = c.in_ok-kind.ensures ∙ ap (λ k. done (k, c.in_ok-kind.rest.now)) c.in-TypeOf.is in
     let body = attr_at-body c.args.levels c.args.bytes.now c.in_ok-kind.rest.now kinds.TypeOf (omega (arith, c.if-levels-eq0.false)) head in
     Reads-from _ c.read_type_attr.result _ _ body c.read_type_attr.ensures.read
+
+pub read_attr_at-returns-in-TypeOf-clause-kept : goal.read_attr_at-returns-in-TypeOf-clause-kept
+read_attr_at-returns-in-TypeOf-clause-kept g t c =
+    let head : attr_head c.args.bytes.now ≡ done (kinds.TypeOf, c.in_ok-kind.rest.now) = c.in_ok-kind.ensures ∙ ap (λ k. done (k, c.in_ok-kind.rest.now)) c.in-TypeOf.is in
+    Adds-as (in_attr c.args.levels _ _ kinds.TypeOf (omega (arith, c.if-levels-eq0.false)) head) _ _ c.read_type_attr.ensures.kept
 
 pub read_attr_at-returns-in-Unit-clause-read : goal.read_attr_at-returns-in-Unit-clause-read
 read_attr_at-returns-in-Unit-clause-read g t c =
@@ -130,6 +152,12 @@ read_entry-returns-in-Ok-clause-read g t c =
     let y = c.in-Ok.ensures.read in
     (((c.in_ok-key.key, y.0.0), y.0.1), entry_again (attr_at c.args.levels) c.in_ok-key.key y.0.0 _ _ _ y.0.1 c.in_ok-key.ensures c.in_ok-behind.ensures y.1, (refl, y.2.0, y.2.1))
 
+pub read_entry-returns-in-Ok-clause-kept : goal.read_entry-returns-in-Ok-clause-kept
+read_entry-returns-in-Ok-clause-kept g t c = Adds-as (in_entry (IsInAttr c.args.levels) _ _ _ _ c.in_ok-key.ensures c.in_ok-behind.ensures) _ _ c.in-Ok.ensures.kept
+
+pub read_entry-returns-in-Err-clause-kept : goal.read_entry-returns-in-Err-clause-kept
+read_entry-returns-in-Err-clause-kept g t c = Adds-as (in_entry (IsInAttr c.args.levels) _ _ _ _ c.in_ok-key.ensures c.in_ok-behind.ensures) _ _ c.in-Err.ensures.kept
+
 pub read_entries-returns-in_err-start-clause-read : goal.read_entries-returns-in_err-start-clause-read
 read_entries-returns-in_err-start-clause-read g t c =
     let p = err_from_is_err_and c.from_residual.result c.from_residual.ensures.1 in
@@ -145,25 +173,25 @@ pub read_entries-returns-in-Some-clause-kept : goal.read_entries-returns-in-Some
 read_entries-returns-in-Some-clause-kept g t c = Adds-itself g.met.C.TypeStore.same_besides_itself _
 
 pub read_entries-entries-init : goal.read_entries-entries-init
-read_entries-entries-init g t c = begins 93 (entry_at (attr_at c.args.levels)) DictFront 91 g.met.C.TypeStore.same_besides_itself _ _ _ _ ([], refl, c.new-entries.ensures) c.in_ok-start.ensures (sym c.in_default.ensures)
+read_entries-entries-init g t c = begins 91 93 (entry_at (attr_at c.args.levels)) (IsInEntry (IsInAttr c.args.levels)) DictFront c.args.bytes.now g.met.C.TypeStore.same_besides_itself _ _ _ ([], refl, c.new-entries.ensures) c.in_ok-start.ensures (sym c.in_default.ensures)
 
 pub read_entries-returns-in-Err-clause-read : goal.read_entries-returns-in-Err-clause-read
-read_entries-returns-in-Err-clause-read g t c = fails_at 93 (entry_at (attr_at c.args.levels)) DictFront _ _ _ _ _ c.in-Err.stop c.entries.invariant c.in-Err.ensures.read
+read_entries-returns-in-Err-clause-read g t c = fails_at 91 93 (entry_at (attr_at c.args.levels)) (IsInEntry (IsInAttr c.args.levels)) DictFront c.args.bytes.now _ _ _ _ c.in-Err.stop c.entries.invariant c.in-Err.ensures.read
 
 pub read_entries-returns-in-Err-clause-kept : goal.read_entries-returns-in-Err-clause-kept
-read_entries-returns-in-Err-clause-kept g t c = Adds-on g.met.C.TypeStore.same_besides_on _ _ _ c.entries.invariant.kept c.in-Err.ensures.kept
+read_entries-returns-in-Err-clause-kept g t c = kept_on 91 93 (entry_at (attr_at c.args.levels)) (IsInEntry (IsInAttr c.args.levels)) DictFront c.args.bytes.now g.met.C.TypeStore.same_besides_on _ _ _ _ _ c.entries.invariant c.in-Err.ensures.kept
 
 pub read_entries-returns-in_err-insert-clause-kept : goal.read_entries-returns-in_err-insert-clause-kept
-read_entries-returns-in_err-insert-clause-kept g t c = Adds-on g.met.C.TypeStore.same_besides_on _ _ _ c.entries.invariant.kept c.in-Ok.ensures.kept
+read_entries-returns-in_err-insert-clause-kept g t c = kept_on 91 93 (entry_at (attr_at c.args.levels)) (IsInEntry (IsInAttr c.args.levels)) DictFront c.args.bytes.now g.met.C.TypeStore.same_besides_on _ _ _ _ _ c.entries.invariant c.in-Ok.ensures.kept
 
 pub read_entries-returns-in_err-goes_on-clause-read : goal.read_entries-returns-in_err-goes_on-clause-read
 read_entries-returns-in_err-goes_on-clause-read g t c =
     let p = err_from_is_err_and c.from_residual-in_err-goes_on.result c.from_residual-in_err-goes_on.ensures.1 in
     let y = c.in-Ok.ensures.read in
-    rw (p.1, p.2) (fails_behind 93 (entry_at (attr_at c.args.levels)) DictFront _ _ _ _ _ c.in_err-goes_on.field-0.0 y.0.0 c.in-Ok.read.1.now c.entries.invariant (behind_is _ y.0 c.in-Ok.read.1.now y.1 y.2.2) c.in_err-goes_on.ensures)
+    rw (p.1, p.2) (fails_behind 91 93 (entry_at (attr_at c.args.levels)) (IsInEntry (IsInAttr c.args.levels)) DictFront c.args.bytes.now _ _ _ _ c.in_err-goes_on.field-0.0 y.0.0 c.in-Ok.read.1.now c.entries.invariant (behind_is _ y.0 c.in-Ok.read.1.now y.1 y.2.2) c.in_err-goes_on.ensures)
 
 pub read_entries-returns-in_err-goes_on-clause-kept : goal.read_entries-returns-in_err-goes_on-clause-kept
-read_entries-returns-in_err-goes_on-clause-kept g t c = Adds-on g.met.C.TypeStore.same_besides_on _ _ _ c.entries.invariant.kept c.in-Ok.ensures.kept
+read_entries-returns-in_err-goes_on-clause-kept g t c = kept_on 91 93 (entry_at (attr_at c.args.levels)) (IsInEntry (IsInAttr c.args.levels)) DictFront c.args.bytes.now g.met.C.TypeStore.same_besides_on _ _ _ _ _ c.entries.invariant c.in-Ok.ensures.kept
 
 pub read_entries-entries-smaller : goal.read_entries-entries-smaller
 read_entries-entries-smaller g t c =
@@ -173,15 +201,15 @@ read_entries-entries-smaller g t c =
 pub read_entries-entries-preserved : goal.read_entries-entries-preserved
 read_entries-entries-preserved g t c =
     let y = c.in-Ok.ensures.read in
-    one_more 93 (entry_at (attr_at c.args.levels)) DictFront g.met.C.TypeStore.same_besides_on DictFront-grown _ _ _ _ _ _ c.entries.invariant c.in-Ok.ensures.kept y.0.0 c.in-Ok.read.1.now (behind_is _ y.0 c.in-Ok.read.1.now y.1 y.2.2) _ (λ front m. IsDictMeant-push _ _ _ front c.in-Ok.read.0.0 y.0.0.0 _ y.0.0.1 c.in_ok-insert.ensures.ok y.2.0 m y.2.1) c.in_ok-goes_on.behind.now (c.in_ok-goes_on.ensures ∙ ap (λ b. done (b, c.in_ok-goes_on.behind.now)) c.if-goes_on.true) (read_entries-entries-smaller g t c)
+    one_more 91 93 (entry_at (attr_at c.args.levels)) (IsInEntry (IsInAttr c.args.levels)) DictFront c.args.bytes.now g.met.C.TypeStore.same_besides_on DictFront-grown _ _ _ _ _ c.entries.invariant c.in-Ok.ensures.kept y.0.0 c.in-Ok.read.1.now (behind_is _ y.0 c.in-Ok.read.1.now y.1 y.2.2) _ (λ front m. IsDictMeant-push _ _ _ front c.in-Ok.read.0.0 y.0.0.0 _ y.0.0.1 c.in_ok-insert.ensures.ok y.2.0 m y.2.1) c.in_ok-goes_on.behind.now (c.in_ok-goes_on.ensures ∙ ap (λ b. done (b, c.in_ok-goes_on.behind.now)) c.if-goes_on.true) (read_entries-entries-smaller g t c)
 
 pub read_entries-returns-else-goes_on-clause-read : goal.read_entries-returns-else-goes_on-clause-read
 read_entries-returns-else-goes_on-clause-read g t c =
     let y = c.in-Ok.ensures.read in
-    gathered 93 (entry_at (attr_at c.args.levels)) DictFront g.met.C.TypeStore.same_besides_on DictFront-grown _ _ _ _ _ _ c.entries.invariant c.in-Ok.ensures.kept y.0.0 c.in-Ok.read.1.now (behind_is _ y.0 c.in-Ok.read.1.now y.1 y.2.2) _ (λ front m. IsDictMeant-push _ _ _ front c.in-Ok.read.0.0 y.0.0.0 _ y.0.0.1 c.in_ok-insert.ensures.ok y.2.0 m y.2.1) c.in_ok-goes_on.behind.now (c.in_ok-goes_on.ensures ∙ ap (λ b. done (b, c.in_ok-goes_on.behind.now)) c.if-goes_on.false)
+    gathered 91 93 (entry_at (attr_at c.args.levels)) (IsInEntry (IsInAttr c.args.levels)) DictFront c.args.bytes.now g.met.C.TypeStore.same_besides_on DictFront-grown _ _ _ _ _ c.entries.invariant c.in-Ok.ensures.kept y.0.0 c.in-Ok.read.1.now (behind_is _ y.0 c.in-Ok.read.1.now y.1 y.2.2) _ (λ front m. IsDictMeant-push _ _ _ front c.in-Ok.read.0.0 y.0.0.0 _ y.0.0.1 c.in_ok-insert.ensures.ok y.2.0 m y.2.1) c.in_ok-goes_on.behind.now (c.in_ok-goes_on.ensures ∙ ap (λ b. done (b, c.in_ok-goes_on.behind.now)) c.if-goes_on.false)
 
 pub read_entries-returns-else-goes_on-clause-kept : goal.read_entries-returns-else-goes_on-clause-kept
-read_entries-returns-else-goes_on-clause-kept g t c = Adds-on g.met.C.TypeStore.same_besides_on _ _ _ c.entries.invariant.kept c.in-Ok.ensures.kept
+read_entries-returns-else-goes_on-clause-kept g t c = kept_on 91 93 (entry_at (attr_at c.args.levels)) (IsInEntry (IsInAttr c.args.levels)) DictFront c.args.bytes.now g.met.C.TypeStore.same_besides_on _ _ _ _ _ c.entries.invariant c.in-Ok.ensures.kept
 
 pub read_items-returns-in_err-start-clause-read : goal.read_items-returns-in_err-start-clause-read
 read_items-returns-in_err-start-clause-read g t c =
@@ -198,25 +226,25 @@ pub read_items-returns-in-Some-clause-kept : goal.read_items-returns-in-Some-cla
 read_items-returns-in-Some-clause-kept g t c = Adds-itself g.met.C.TypeStore.same_besides_itself _
 
 pub read_items-items-init : goal.read_items-items-init
-read_items-items-init g t c = begins 93 (attr_at c.args.levels) ItemsFront 91 g.met.C.TypeStore.same_besides_itself _ _ _ _ (ap (map attr_view) c.new-items.ensures.items) c.in_ok-start.ensures (sym c.in_default.ensures)
+read_items-items-init g t c = begins 91 93 (attr_at c.args.levels) (IsInAttr c.args.levels) ItemsFront c.args.bytes.now g.met.C.TypeStore.same_besides_itself _ _ _ (ap (map attr_view) c.new-items.ensures.items) c.in_ok-start.ensures (sym c.in_default.ensures)
 
 pub read_items-returns-in-Err-clause-read : goal.read_items-returns-in-Err-clause-read
-read_items-returns-in-Err-clause-read g t c = fails_at 93 (attr_at c.args.levels) ItemsFront _ _ _ _ _ c.in-Err.stop c.items.invariant c.in-Err.ensures.read
+read_items-returns-in-Err-clause-read g t c = fails_at 91 93 (attr_at c.args.levels) (IsInAttr c.args.levels) ItemsFront c.args.bytes.now _ _ _ _ c.in-Err.stop c.items.invariant c.in-Err.ensures.read
 
 pub read_items-returns-in-Err-clause-kept : goal.read_items-returns-in-Err-clause-kept
-read_items-returns-in-Err-clause-kept g t c = Adds-on g.met.C.TypeStore.same_besides_on _ _ _ c.items.invariant.kept c.in-Err.ensures.kept
+read_items-returns-in-Err-clause-kept g t c = kept_on 91 93 (attr_at c.args.levels) (IsInAttr c.args.levels) ItemsFront c.args.bytes.now g.met.C.TypeStore.same_besides_on _ _ _ _ _ c.items.invariant c.in-Err.ensures.kept
 
 pub read_items-returns-in_err-push-clause-kept : goal.read_items-returns-in_err-push-clause-kept
-read_items-returns-in_err-push-clause-kept g t c = Adds-on g.met.C.TypeStore.same_besides_on _ _ _ c.items.invariant.kept c.in-Ok.ensures.kept
+read_items-returns-in_err-push-clause-kept g t c = kept_on 91 93 (attr_at c.args.levels) (IsInAttr c.args.levels) ItemsFront c.args.bytes.now g.met.C.TypeStore.same_besides_on _ _ _ _ _ c.items.invariant c.in-Ok.ensures.kept
 
 pub read_items-returns-in_err-goes_on-clause-read : goal.read_items-returns-in_err-goes_on-clause-read
 read_items-returns-in_err-goes_on-clause-read g t c =
     let p = err_from_is_err_and c.from_residual-in_err-goes_on.result c.from_residual-in_err-goes_on.ensures.1 in
     let y = c.in-Ok.ensures.read in
-    rw (p.1, p.2) (fails_behind 93 (attr_at c.args.levels) ItemsFront _ _ _ _ _ c.in_err-goes_on.field-0.0 y.0.0 c.in-Ok.read.1.now c.items.invariant (behind_is _ y.0 c.in-Ok.read.1.now y.1 y.2.1) c.in_err-goes_on.ensures)
+    rw (p.1, p.2) (fails_behind 91 93 (attr_at c.args.levels) (IsInAttr c.args.levels) ItemsFront c.args.bytes.now _ _ _ _ c.in_err-goes_on.field-0.0 y.0.0 c.in-Ok.read.1.now c.items.invariant (behind_is _ y.0 c.in-Ok.read.1.now y.1 y.2.1) c.in_err-goes_on.ensures)
 
 pub read_items-returns-in_err-goes_on-clause-kept : goal.read_items-returns-in_err-goes_on-clause-kept
-read_items-returns-in_err-goes_on-clause-kept g t c = Adds-on g.met.C.TypeStore.same_besides_on _ _ _ c.items.invariant.kept c.in-Ok.ensures.kept
+read_items-returns-in_err-goes_on-clause-kept g t c = kept_on 91 93 (attr_at c.args.levels) (IsInAttr c.args.levels) ItemsFront c.args.bytes.now g.met.C.TypeStore.same_besides_on _ _ _ _ _ c.items.invariant c.in-Ok.ensures.kept
 
 pub read_items-items-smaller : goal.read_items-items-smaller
 read_items-items-smaller g t c =
@@ -226,12 +254,12 @@ read_items-items-smaller g t c =
 pub read_items-items-preserved : goal.read_items-items-preserved
 read_items-items-preserved g t c =
     let y = c.in-Ok.ensures.read in
-    one_more 93 (attr_at c.args.levels) ItemsFront g.met.C.TypeStore.same_besides_on ItemsFront-grown _ _ _ _ _ _ c.items.invariant c.in-Ok.ensures.kept y.0.0 c.in-Ok.read.1.now (behind_is _ y.0 c.in-Ok.read.1.now y.1 y.2.1) _ (λ front m. ItemsFront-push _ _ _ front c.in-Ok.read.0 y.0.0 c.in_ok-push.ensures.items m y.2.0) c.in_ok-goes_on.behind.now (c.in_ok-goes_on.ensures ∙ ap (λ b. done (b, c.in_ok-goes_on.behind.now)) c.if-goes_on.true) (read_items-items-smaller g t c)
+    one_more 91 93 (attr_at c.args.levels) (IsInAttr c.args.levels) ItemsFront c.args.bytes.now g.met.C.TypeStore.same_besides_on ItemsFront-grown _ _ _ _ _ c.items.invariant c.in-Ok.ensures.kept y.0.0 c.in-Ok.read.1.now (behind_is _ y.0 c.in-Ok.read.1.now y.1 y.2.1) _ (λ front m. ItemsFront-push _ _ _ front c.in-Ok.read.0 y.0.0 c.in_ok-push.ensures.items m y.2.0) c.in_ok-goes_on.behind.now (c.in_ok-goes_on.ensures ∙ ap (λ b. done (b, c.in_ok-goes_on.behind.now)) c.if-goes_on.true) (read_items-items-smaller g t c)
 
 pub read_items-returns-else-goes_on-clause-read : goal.read_items-returns-else-goes_on-clause-read
 read_items-returns-else-goes_on-clause-read g t c =
     let y = c.in-Ok.ensures.read in
-    gathered 93 (attr_at c.args.levels) ItemsFront g.met.C.TypeStore.same_besides_on ItemsFront-grown _ _ _ _ _ _ c.items.invariant c.in-Ok.ensures.kept y.0.0 c.in-Ok.read.1.now (behind_is _ y.0 c.in-Ok.read.1.now y.1 y.2.1) _ (λ front m. ItemsFront-push _ _ _ front c.in-Ok.read.0 y.0.0 c.in_ok-push.ensures.items m y.2.0) c.in_ok-goes_on.behind.now (c.in_ok-goes_on.ensures ∙ ap (λ b. done (b, c.in_ok-goes_on.behind.now)) c.if-goes_on.false)
+    gathered 91 93 (attr_at c.args.levels) (IsInAttr c.args.levels) ItemsFront c.args.bytes.now g.met.C.TypeStore.same_besides_on ItemsFront-grown _ _ _ _ _ c.items.invariant c.in-Ok.ensures.kept y.0.0 c.in-Ok.read.1.now (behind_is _ y.0 c.in-Ok.read.1.now y.1 y.2.1) _ (λ front m. ItemsFront-push _ _ _ front c.in-Ok.read.0 y.0.0 c.in_ok-push.ensures.items m y.2.0) c.in_ok-goes_on.behind.now (c.in_ok-goes_on.ensures ∙ ap (λ b. done (b, c.in_ok-goes_on.behind.now)) c.if-goes_on.false)
 
 pub read_items-returns-else-goes_on-clause-kept : goal.read_items-returns-else-goes_on-clause-kept
-read_items-returns-else-goes_on-clause-kept g t c = Adds-on g.met.C.TypeStore.same_besides_on _ _ _ c.items.invariant.kept c.in-Ok.ensures.kept
+read_items-returns-else-goes_on-clause-kept g t c = kept_on 91 93 (attr_at c.args.levels) (IsInAttr c.args.levels) ItemsFront c.args.bytes.now g.met.C.TypeStore.same_besides_on _ _ _ _ _ c.items.invariant c.in-Ok.ensures.kept

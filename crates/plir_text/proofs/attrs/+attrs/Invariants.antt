@@ -1,7 +1,7 @@
 use Rattle.std.proofs.Common.{◌+◌, ◌*◌, length, map}
 use Rattle.plir_data.specs.AttrSeen.{attr_view}
-use Rattle.plir_text.specs.Lists.{items_at}
 use Rattle.plir_text.specs.AttrReading.{entry_at, attr_at}
+use Rattle.plir_text.specs.TypesIn.{IsInEntry, IsInAttr}
 use Rattle.plir_text.proofs.Gathering.{Gathers}
 use Rattle.plir_text.proofs.Meanings.{ItemsFront, DictFront}
 use Rattle.plir_text.proofs.attrs.+attrs.Given as goal
@@ -31,7 +31,7 @@ abbrev pub decreases-read_entries-entries : goal.decreases-read_entries-entries
 decreases-read_entries-entries g l = length l.rest
 
 abbrev pub invariant-read_items-items : goal.invariant-read_items-items
-invariant-read_items-items g l = Gathers g.C.TypeStore.types g.C.TypeStore.same_besides 93 (attr_at l.levels) ItemsFront l.fn.ctx l.ctx (map attr_view l.items.items) l.rest (items_at 91 93 (attr_at l.levels) l.bytes)
+invariant-read_items-items g l = Gathers g.C.TypeStore.types g.C.TypeStore.same_besides 91 93 (attr_at l.levels) (IsInAttr l.levels) ItemsFront l.bytes l.fn.ctx l.ctx (map attr_view l.items.items) l.rest
 
 abbrev pub invariant-read_entries-entries : goal.invariant-read_entries-entries
-invariant-read_entries-entries g l = Gathers g.C.TypeStore.types g.C.TypeStore.same_besides 93 (entry_at (attr_at l.levels)) DictFront l.fn.ctx l.ctx l.entries l.rest (items_at 91 93 (entry_at (attr_at l.levels)) l.bytes)
+invariant-read_entries-entries g l = Gathers g.C.TypeStore.types g.C.TypeStore.same_besides 91 93 (entry_at (attr_at l.levels)) (IsInEntry (IsInAttr l.levels)) DictFront l.bytes l.fn.ctx l.ctx l.entries l.rest

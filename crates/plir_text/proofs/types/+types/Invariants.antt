@@ -1,6 +1,6 @@
 use Rattle.std.proofs.Common.{◌+◌, ◌*◌, length}
-use Rattle.plir_text.specs.Lists.{items_at}
 use Rattle.plir_text.specs.TypeReading.{type_at}
+use Rattle.plir_text.specs.TypesIn.{IsInType}
 use Rattle.plir_text.proofs.Gathering.{Gathers}
 use Rattle.plir_text.proofs.Growth.{NamesFront}
 use Rattle.plir_text.proofs.types.+types.Given as goal
@@ -18,4 +18,4 @@ abbrev pub decreases-read_types-types : goal.decreases-read_types-types
 decreases-read_types-types g l = length l.rest
 
 abbrev pub invariant-read_types-types : goal.invariant-read_types-types
-invariant-read_types-types g l = Gathers g.C.TypeStore.types g.C.TypeStore.same_besides 41 (type_at l.levels) NamesFront l.initial.ctx l.ctx l.types.items l.rest (items_at 40 41 (type_at l.levels) l.bytes)
+invariant-read_types-types g l = Gathers g.C.TypeStore.types g.C.TypeStore.same_besides 40 41 (type_at l.levels) (IsInType l.levels) NamesFront l.bytes l.initial.ctx l.ctx l.types.items l.rest

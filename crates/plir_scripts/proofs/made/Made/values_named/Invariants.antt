@@ -3,4 +3,4 @@ use Rattle.plir_core.specs.Store.{IsValueLive}
 use Rattle.plir_scripts.proofs.made.Made.values_named.Given as goal
 
 abbrev pub invariant-loop-name : goal.invariant-loop-name
-invariant-loop-name l = All (IsValueLive l.ctx) l.values.items
+invariant-loop-name g l = All (IsValueLive l.ctx) l.values.items

@@ -2,7 +2,7 @@ use Rattle.std.proofs.Common.{◌≡◌, ◌-◌, arith, sym, ◌∙◌, ap, ref
 use Rattle.std.specs.declared.ops.ControlFlow.TheVariants.{Continue}
 use Rattle.plir_walk.specs.declared.interruptible.WalkContinue.TheVariants.{Advance, Skip}
 use Rattle.plir_walk.specs.Calls.{CallsBack}
-use Rattle.plir_walk.proofs.Walking.{Halfway, begin, limited, ended, moved, halfway-live, walking-live, called-as, passed-as, broken-as}
+use Rattle.plir_walk.proofs.Walking.{Halfway, begin, limited, ended, moved, halfway-live, walking-under, called-as, passed-as, broken-as}
 use Rattle.plir_walk.proofs.Measure.{moved-smaller-as, called-smaller}
 use Rattle.plir_walk.proofs.interruptible.mutable.walk.Goals as goal
 use Rattle.plir_walk.proofs.interruptible.mutable.walk.Goals.{then-is_due+else-left-eq0+in-Continue-Skip, then-is_due+else-left-eq0+in-Continue-Advance, else-is_due}
@@ -11,7 +11,7 @@ pub nodes-init : goal.nodes-init
 nodes-init g c = begin g.C.NodeLinks.look c.args.config.now (CallsBack g.F.Fn c.args.callback) c.args.ctx.now c.args.state.now c.args.root c.args.limit c.forest.ensures c.requires.root_live
 
 pub callback-requires : goal.callback-requires
-callback-requires g c = c.requires.callable _ _ _ (walking-live g.C.NodeLinks.look c.args.config.now (CallsBack g.F.Fn c.args.callback) c.args.ctx.now c.args.state.now c.args.root c.args.limit c.nodes.ctx c.nodes.state c.nodes.node c.nodes.entering c.nodes.left c.nodes.invariant)
+callback-requires g c = c.requires.callable _ _ _ (walking-under g.C.NodeLinks.look c.args.config.now (CallsBack g.F.Fn c.args.callback) c.args.ctx.now c.args.state.now c.args.root c.args.limit c.nodes.ctx c.nodes.state c.nodes.node c.nodes.entering c.nodes.left c.nodes.invariant)
 
 pub returns-then-left-eq0 : goal.returns-then-left-eq0
 returns-then-left-eq0 g c = limited g.C.NodeLinks.look c.args.config.now (CallsBack g.F.Fn c.args.callback) c.args.ctx.now c.args.state.now c.args.root c.args.limit

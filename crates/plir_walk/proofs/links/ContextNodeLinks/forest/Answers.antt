@@ -2,4 +2,4 @@ use Rattle.plir_walk.proofs.View.{forest-of}
 use Rattle.plir_walk.proofs.links.ContextNodeLinks.forest.Goals as goal
 
 pub returns : goal.returns
-returns g c = forest-of g.D.OpSet.attr_handles c.args.self.now c.num_live-count.ensures.whole
+returns g c = forest-of c.args.self.now (c.contexts_stand.ensures c.args.self.now c.num_live-count.ensures.whole)

@@ -13,4 +13,8 @@ returns g c = err-advancing g.C.NodeLinks.look c.args.config.now _ (CallsBack g.
     c.args.ctx.now c.args.state.now c.args.root c.args.limit _ c.walk.new.ctx c.walk.new.state c.in-Err.ensures
 
 pub walk-requires-clause-lawful : goal.walk-requires-clause-lawful
-walk-requires-clause-lawful g c = λ d s n a d' s' v p. c.requires.lawful d s n a d' s' v (p.met.1.0, calls-again g.F.Fn c.args.callback p.shows p.leaves p.met.1.1)
+walk-requires-clause-lawful g c = λ d s n a d' s' p. c.requires.lawful d s n a d' s' (record {
+  stands = p.stands;
+  leaves = p.leaves;
+  made = (p.made.met.1.0, calls-again g.F.Fn c.args.callback p.made.shows p.made.leaves p.made.met.1.1);
+})

@@ -4,4 +4,4 @@ use Rattle.plir_walk.specs.View.{look}
 use Rattle.plir_walk_tests.proofs.tests.changes.follow.Given as goal
 
 abbrev pub invariant-loop-at : goal.invariant-loop-at
-invariant-loop-at l = Lawful (look l.fn.ctx) l.node (look l.ctx) × IsLive l.ctx l.node
+invariant-loop-at g l = Lawful (look l.fn.ctx) l.node (look l.ctx) × IsLive l.ctx l.node

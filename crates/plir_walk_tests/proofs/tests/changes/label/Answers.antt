@@ -1,6 +1,10 @@
+use Rattle.std.proofs.Common.{sym, subst}
 use Rattle.plir_core.specs.declared.ptr.IRNode.TheVariants.{BasicBlock}
-use Rattle.plir_walk.proofs.BlockEdits.{lawful-block}
+use Rattle.plir_walk.specs.Forest.{Lawful}
+use Rattle.plir_walk.specs.View.{look}
 use Rattle.plir_walk_tests.proofs.tests.changes.label.Goals as goal
 
 pub returns : goal.returns
-returns c = lawful-block c.args.ctx.now c.set_label.new.ctx _ _ (BasicBlock c.args.block) c.set_label.ensures.after
+returns g c =
+    let block = BasicBlock c.args.block in
+    subst (λ z. Lawful (look c.args.ctx.now) block (look z)) (sym c.set_label.ensures.after) (c.lawful_changes.ensures.block_edit c.args.ctx.now block c.args.block _)

@@ -1,0 +1,55 @@
+-- What every whole context keeps of the nodes that stand in it.
+use Rattle.std.proofs.Common.{◌≡◌, ℕ, suc, ◌≤◌, List, [], ◌∷◌, map, length, inl, inr, refl, sym, ap, subst, ◌∙◌}
+use Rattle.plir_core.specs.declared.ptr.IRNode.{IRNode}
+use Rattle.plir_core.specs.declared.ptr.IRNode.TheVariants.{Operation, Region, BasicBlock}
+use Rattle.plir_core.specs.NodeLists.{Has, Distinct}
+use Rattle.plir_core.specs.Forest.{Seat, seat_of}
+use Rattle.plir_core.specs.Standing.{IsStanding}
+use Rattle.plir_core.specs.Store.{Store, IsLive, num_live}
+use Rattle.plir_core.specs.Whole.{IsWhole}
+use Rattle.plir_core.proofs.Depths.{IsSeated, depth-kid, depth-le, length-le_seated}
+use Rattle.plir_core.proofs.Facts.{kid-parent, kid-live, parent-kid, parent-live, kids-once, live-given}
+use Rattle.plir_core.proofs.Seats.{live_some, same_seat}
+
+seats_of : (ns : List IRNode) (x : Seat) → Has (map seat_of ns) x → (n : IRNode) × Has ns n × (seat_of n ≡ x)
+seats_of [] x h = absurd h
+seats_of (n ∷ ns) x (inl e) = (n, inl refl, e)
+seats_of (n ∷ ns) x (inr h) = (let r = seats_of ns x h in (r.0, inr r.1, r.2))
+
+seats_apart : (ns : List IRNode) → ((a b : IRNode) → Has ns a → Has ns b → seat_of a ≡ seat_of b → a ≡ b) → Distinct ns → Distinct (map seat_of ns)
+seats_apart [] one d = tt
+seats_apart (n ∷ ns) one d = (
+  λ h. (let r = seats_of ns (seat_of n) h in d.0 (subst (Has ns) (one r.0 n (inr r.1) (inl refl) r.2) r.1)),
+  seats_apart ns (λ a b h i. one a b (inr h) (inr i)) d.1,
+)
+
+length_seats : (ns : List IRNode) → length (map seat_of ns) ≡ length ns
+length_seats [] = refl
+length_seats (n ∷ ns) = ap suc (length_seats ns)
+
+module _ {K A T : Type 0} (s : Store K A T) where
+  seated : (n : IRNode) → IsLive s n → IsSeated s.nodes (seat_of n)
+  seated (Operation p) l = live_some s.nodes.ops p.slot p.version l
+  seated (Region p) l = live_some s.nodes.regions p.slot p.version l
+  seated (BasicBlock p) l = live_some s.nodes.blocks p.slot p.version l
+
+  counted : (ns : List IRNode) → Distinct ns → ((n : IRNode) → Has ns n → IsLive s n) → length ns ≤ num_live s
+  counted ns d live =
+      let apart = seats_apart ns (λ a b h i e. same_seat s.nodes a b (live a h) (live b i) e) d in
+      let most = length-le_seated (map seat_of ns) s.nodes apart (λ x h. (let r = seats_of ns x h in subst (IsSeated s.nodes) r.2 (seated r.0 (live r.0 r.1)))) in
+      subst (λ z. z ≤ num_live s) (length_seats ns) most
+
+  pub standing : (own : A → List ℕ) → IsWhole own s → IsStanding s
+  standing own w = record {
+    kid_parent = kid-parent s.nodes w.forest;
+    parent_kid = parent-kid s.nodes w.forest;
+    once = kids-once s.nodes w.forest;
+    kid_live = kid-live s.nodes w.forest;
+    parent_live = parent-live s.nodes w.forest;
+    live_given = live-given s.nodes w.forest;
+    deeper = depth-kid s.nodes w.forest;
+    deepest = depth-le s.nodes w.forest;
+    counted = counted;
+    within = w.forest.within;
+    limit_fits = w.forest.limit_fits;
+  }

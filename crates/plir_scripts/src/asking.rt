@@ -1,0 +1,187 @@
+//! The calls that ask.
+ghost use Rattle.std.specs.Prelude.{IfOk};
+ghost use Rattle.plir_core.specs.InsertionPoint.{IsPointLive};
+ghost use Rattle.plir_core.specs.Store.{IsLive};
+ghost use Rattle.plir_core.specs.declared.ptr.IRNode.{IRNode as AnyNode};
+
+use crate::answer::Answer;
+use crate::bench::Bench;
+use crate::line::{Line, number};
+use crate::made::Made;
+use crate::showing::{put_attr, put_type, show};
+use crate::stop::Stop;
+use plir_core::{
+    BasicBlock, Context, IRNode, Interface, OpInsertionPoint, Operation, Ptr, Use, kind_impls,
+    op_impls,
+};
+use plir_data::OpSet;
+use std::alloc::Global;
+
+/// Writes what a line asks for: `show NODE`, `get NODE KEY`, `live NODE`, `count`, `number NODE`, `above NODE NODE`,
+/// `unused NODE`, `interfaces OP`, `point SIDE NODE`, `use OP PLACE`, `text TYPE`, `typed VALUE` or `types NODE`.
+pub fn ask<D: OpSet>(bench: &mut Bench<D>, line: Line<'_>) -> Result<(), Stop> {
+    let (alloc, ctx, made, answer) = (bench.alloc, &bench.ctx, &bench.made, &mut bench.answer);
+    match line.command {
+        "show" => show(alloc, ctx, made, answer, made.live(ctx, line.first)?),
+        "get" => get(alloc, ctx, made, answer, line)?,
+        "live" => answer.put_truth(made.node(line.first)?.is_live(ctx)),
+        "count" => answer.put_number(ctx.num_live() as usize),
+        "number" => put_pointer(answer, made.node(line.first)?),
+        "above" => above(ctx, made, answer, line)?,
+        "unused" => answer.put_truth(made.live(ctx, line.first)?.is_unused_outside(ctx)),
+        "interfaces" => interfaces(ctx, answer, made.op(ctx, line.first)?)?,
+        "point" => made.put_block(answer, point(ctx, made, line)?.get_insertion_block(ctx)),
+        "use" => show_use(ctx, made, answer, line)?,
+        "text" => put_type(alloc, ctx, answer, made.type_named(ctx, line.first)?),
+        "typed" => put_type(
+            alloc,
+            ctx,
+            answer,
+            made.value(ctx, line.first)?.get_type(ctx),
+        ),
+        "types" => types(alloc, ctx, made, answer, line)?,
+        _ => return Err(Stop::Refused),
+    }
+    Ok(())
+}
+
+// Writes the attribute under a key, or `none`.
+fn get<D: OpSet>(
+    alloc: Global,
+    ctx: &Context<D>,
+    made: &Made,
+    answer: &mut Answer,
+    line: Line<'_>,
+) -> Result<(), Stop> {
+    let attributes = match made.live(ctx, line.first)? {
+        IRNode::Operation(op) => op.attributes(ctx),
+        IRNode::BasicBlock(block) => block.attributes(ctx),
+        IRNode::Region(_) => return Err(Stop::Refused),
+    };
+    match attributes.get(line.second) {
+        Some(attr) if attr.is_live(ctx) => put_attr(alloc, ctx, answer, attr),
+        Some(_) => return Err(Stop::Refused),
+        None => answer.put("none"),
+    }
+    Ok(())
+}
+
+// Writes the kind of a node, its slot and its version.
+fn put_pointer(answer: &mut Answer, node: IRNode) {
+    let (kind, index, version) = match node {
+        IRNode::Operation(op) => ("op", op.index(), op.version()),
+        IRNode::Region(region) => ("region", region.index(), region.version()),
+        IRNode::BasicBlock(block) => ("block", block.index(), block.version()),
+    };
+    answer.put(kind);
+    answer.put_number(index as usize);
+    answer.put("v");
+    answer.put_number(version as usize);
+}
+
+// Whether a node stands above another one.
+fn above<D: OpSet>(
+    ctx: &Context<D>,
+    made: &Made,
+    answer: &mut Answer,
+    line: Line<'_>,
+) -> Result<(), Stop> {
+    let node = made.live(ctx, line.second)?;
+    answer.put_truth(made.node(line.first)?.is_ancestor(node, ctx));
+    Ok(())
+}
+
+// Whether an operation ends its block, has a name, holds a table of names, uses names.
+fn interfaces<D: OpSet>(
+    ctx: &Context<D>,
+    answer: &mut Answer,
+    op: Ptr<Operation>,
+) -> Result<(), Stop>
+    requires { IsLive ctx.now (AnyNode.Operation op) }
+{
+    for (interface, word) in [
+        (Interface::Terminator, " terminator"),
+        (Interface::Symbol, " symbol"),
+        (Interface::SymbolTable, " symbol_table"),
+        (Interface::SymbolUser, " symbol_user"),
+    ] {
+        if op_impls(ctx, op, interface) != kind_impls::<D>(op.kind(ctx), interface) {
+            return Err(Stop::Refused);
+        }
+        if op_impls(ctx, op, interface) {
+            answer.put(word);
+        }
+    }
+    Ok(())
+}
+
+// The insertion point that a line names.
+fn point<D: OpSet>(ctx: &Context<D>, made: &Made, line: Line<'_>) -> Result<OpInsertionPoint, Stop>
+    ensures { IfOk result (λ point. IsPointLive ctx.now point) }
+{
+    match line.first {
+        "unset" => Ok(OpInsertionPoint::Unset),
+        "start" => Ok(OpInsertionPoint::AtBlockStart(made.block(ctx, line.second)?)),
+        "end" => Ok(OpInsertionPoint::AtBlockEnd(made.block(ctx, line.second)?)),
+        "before" => Ok(OpInsertionPoint::BeforeOperation(made.op(ctx, line.second)?)),
+        "after" => Ok(OpInsertionPoint::AfterOperation(made.op(ctx, line.second)?)),
+        _ => Err(Stop::Refused),
+    }
+}
+
+// The operation of a use, its place there, and the value that it uses.
+fn show_use<D: OpSet>(
+    ctx: &Context<D>,
+    made: &Made,
+    answer: &mut Answer,
+    line: Line<'_>,
+) -> Result<(), Stop> {
+    let op = made.op(ctx, line.first)?;
+    let place = number(line.second)?;
+    if place >= op.get_num_operands(ctx) {
+        return Err(Stop::Refused);
+    }
+    let used = Use::new(op, place);
+    made.put_op(answer, Some(used.user_op()));
+    answer.put(" ");
+    answer.put_number(used.opd_idx());
+    made.put_value(answer, used.get_def(ctx));
+    Ok(())
+}
+
+// The texts of the types of an operation's results or of a block's arguments.
+fn types<D: OpSet>(
+    alloc: Global,
+    ctx: &Context<D>,
+    made: &Made,
+    answer: &mut Answer,
+    line: Line<'_>,
+) -> Result<(), Stop> {
+    match made.live(ctx, line.first)? {
+        IRNode::Operation(op) => result_types(alloc, ctx, answer, op),
+        IRNode::BasicBlock(block) => argument_types(alloc, ctx, answer, block),
+        IRNode::Region(_) => return Err(Stop::Refused),
+    }
+    Ok(())
+}
+
+fn result_types<D: OpSet>(alloc: Global, ctx: &Context<D>, answer: &mut Answer, op: Ptr<Operation>)
+    requires { IsLive ctx.now (AnyNode.Operation op) }
+{
+    for place in 0..op.get_num_results(ctx) {
+        put_type(alloc, ctx, answer, op.get_type(ctx, place));
+    }
+}
+
+fn argument_types<D: OpSet>(
+    alloc: Global,
+    ctx: &Context<D>,
+    answer: &mut Answer,
+    block: Ptr<BasicBlock>,
+)
+    requires { IsLive ctx.now (AnyNode.BasicBlock block) }
+{
+    for place in 0..block.get_num_arguments(ctx) {
+        put_type(alloc, ctx, answer, block.get_type(ctx, place));
+    }
+}

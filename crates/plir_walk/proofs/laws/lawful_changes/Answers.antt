@@ -1,0 +1,20 @@
+use Rattle.plir_walk.specs.View.{look}
+use Rattle.plir_walk.proofs.View.{forest-of}
+use Rattle.plir_walk.proofs.Lawfulness.{lawful-none, lawful-then, lawful-stays, lawful-refused, lawful-placed, lawful-region, lawful-erased, op-edit-lawful, block-edit-lawful, op-edit-shape, block-edit-shape}
+use Rattle.plir_walk.proofs.laws.lawful_changes.Goals as goal
+
+pub returns : goal.returns
+returns g c = record {
+  forest = λ s w. forest-of s (c.contexts_stand.ensures s w);
+  none = λ s n. lawful-none (look s) n;
+  both = λ s t u n w f l. lawful-then (look s) (look t) (look u) n w f l;
+  stays = λ s t n w f l. lawful-stays (look s) (look t) n w f l;
+  op_edit = λ s n p f. op-edit-lawful s p f n;
+  block_edit = λ s n p f. block-edit-lawful s p f n;
+  op_edit_shape = λ s p f. op-edit-shape s p f;
+  block_edit_shape = λ s p f. block-edit-shape s p f;
+  refused = λ s t n e given. lawful-refused s t n e given;
+  placed = λ s t u n over x ks w under made placed. lawful-placed s t u n x over ks w under made placed;
+  region = λ s t n x w e. lawful-region s t n x w e;
+  erased = λ s t n x b e. lawful-erased s t n x b e;
+}
