@@ -8,7 +8,8 @@ use super::walking::change;
 use plir_core::{Context, IRNode};
 use plir_data::OpKind;
 use plir_scripts::SampleSet;
-use plir_walk::WALKCONFIG_PREORDER_FORWARD;
+use plir_walk::interruptible::WalkResult;
+use plir_walk::{CallLimit, WALKCONFIG_PREORDER_FORWARD};
 use std::alloc::Global;
 use std::ops::ControlFlow;
 use std::process::Abort;
@@ -58,26 +59,40 @@ fn are_first(called: &[IRNode], nodes: [Option<IRNode>; 6]) -> bool {
             .all(|(called, node)| Some(*called) == node)
 }
 
+// Walks a module with a callback that appends a function to its block. Where memory is refused the callback breaks the walk;
+// the called nodes are the first ones of the tree all the same.
+fn append_in_walk(rt: &impl Abort, alloc: Global, ctx: &mut Context<SampleSet>, nest: Nest) {
+    let (root, _, block) = nest.nodes();
+    let mut called = Vec::new(alloc);
+    if let Some(plan) = appending(alloc, block) {
+        assert!(rt; root.is_live(ctx));
+        let config = WALKCONFIG_PREORDER_FORWARD;
+        let answer = change(alloc, ctx, &config, root, &plan, &mut called);
+        is_expected(rt, ctx, nest, called.as_slice(), answer);
+    }
+}
+
+fn is_expected(
+    rt: &impl Abort,
+    ctx: &Context<SampleSet>,
+    nest: Nest,
+    called: &[IRNode],
+    answer: Result<WalkResult<u32>, CallLimit>,
+) {
+    assert!(rt; nest.block.is_live(ctx));
+    assert!(rt; are_first(called, nodes_in(ctx, nest)));
+    match answer {
+        Ok(ControlFlow::Break(value)) => assert_eq!(rt; value, NOT_DONE),
+        Ok(ControlFlow::Continue(_)) => assert_eq!(rt; called.len(), 6),
+        Err(_) => assert!(rt; false, "at the limit"),
+    }
+}
+
 #[test]
 fn a_walk_breaks_and_its_calls_stay_where_memory_is_refused(rt: HostRuntime) {
     let alloc = rt.alloc();
     let mut ctx: Context<SampleSet> = Context::new(alloc);
-    let Ok(module) = make_nest(alloc, &mut ctx, OpKind::Module, None) else {
-        return;
-    };
-    let (root, _, block) = module.nodes();
-    let Some(plan) = appending(alloc, block) else {
-        return;
-    };
-    let mut called = Vec::new(alloc);
-    let config = WALKCONFIG_PREORDER_FORWARD;
-    assert!(&rt; root.is_live(&ctx));
-    let answer = change(alloc, &mut ctx, &config, root, &plan, &mut called);
-    assert!(&rt; block.is_live(&ctx));
-    assert!(&rt; are_first(called.as_slice(), nodes_in(&ctx, module)));
-    match answer {
-        Ok(ControlFlow::Break(value)) => assert_eq!(&rt; value, NOT_DONE),
-        Ok(ControlFlow::Continue(_)) => assert_eq!(&rt; called.len(), 6),
-        Err(_) => assert!(&rt; false, "at the limit"),
+    if let Ok(nest) = make_nest(alloc, &mut ctx, OpKind::Module, None) {
+        append_in_walk(&rt, alloc, &mut ctx, nest);
     }
 }
