@@ -9,4 +9,4 @@ use Rattle.plir_flow.proofs.calls.find_callee_type.Goals as goal
 pub returns-clause-live : goal.returns-clause-live
 returns-clause-live g c =
     type-under-live g.D.OpSet.attr_handles c.args.ctx.now.types (attributes_of c.args.ctx.now c.args.op) callee_type_key (attr_view c.in_ok-get.field-0.now) c.type_in.result c.attributes.ensures.live
-    (ap (λ es. dict_get es callee_type_key) (sym c.attributes.ensures.value) ∙ sym c.in_ok-get.ensures) c.type_in.ensures
+    (ap (λ es. dict_get es callee_type_key) (sym c.attributes.ensures.value) ∙ sym c.in_ok-get.ensures.value) c.type_in.ensures
