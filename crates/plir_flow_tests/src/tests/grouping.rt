@@ -1,4 +1,5 @@
 //! The calls that read segments.
+ghost use Rattle.std.specs.Prelude.{◌<◌, ◌^◌, All, length};
 ghost use Rattle.plir_core.specs.Store.{IsLive};
 ghost use Rattle.plir_core.specs.declared.ptr.IRNode.{IRNode as AnyNode};
 
@@ -152,7 +153,7 @@ pub fn flatten(bench: &mut Bench<SampleSet>, line: Line<'_>) -> Result<(), Stop>
     let mut segments = Vec::new(alloc);
     for names in line.text.split('/') {
         let values = made.values_named(alloc, ctx, names)?;
-        if values.len() > 1000 {
+        if values.len() > u32::MAX as usize {
             return Err(Stop::Refused);
         }
         segments.push(values)?;
@@ -167,7 +168,9 @@ pub fn flatten(bench: &mut Bench<SampleSet>, line: Line<'_>) -> Result<(), Stop>
 fn flat(
     alloc: Global,
     segments: Vec<Vec<Value>>,
-) -> Result<(Vec<Value>, OperandSegmentSizesAttr), Memory> {
+) -> Result<(Vec<Value>, OperandSegmentSizesAttr), Memory>
+    requires { All (λ seg. length seg.items < 2 ^ 32) segments.items }
+{
     <Grouped as OperandSegmentInterface<SampleSet>>::compute_segment_sizes(alloc, segments)
 }
 
