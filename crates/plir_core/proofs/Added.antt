@@ -5,7 +5,7 @@ use Rattle.std.proofs.lemmas.Bool.{cases_eq}
 use Rattle.std.proofs.lemmas.Option.{same_Some, none-some}
 use Rattle.plir_store.specs.Lists.{Lists, In, IsAgreed, kids_at, parent_at, with_last}
 use Rattle.plir_store.specs.Table.{Table, Cell, IsTable, cell_at, content_at, version_at, is_live_at, next_slot, with_new}
-use Rattle.plir_store.proofs.Tables.{cell_at-with_new, cell_at-with_new_other, content_at-next_slot}
+use Rattle.plir_store.specs.TableLaws.{cell_at-with_new, cell_at-with_new_other, content_at-next_slot}
 use Rattle.plir_core.specs.declared.ptr.Ptr.{Ptr}
 use Rattle.plir_core.specs.declared.ptr.Operation.{Operation as OperationKind}
 use Rattle.plir_core.specs.declared.ptr.BasicBlock.{BasicBlock as BasicBlockKind}

@@ -3,7 +3,7 @@ use Rattle.std.proofs.Common.{set, length-set, ◌≡◌, ℕ, zero, suc, ◌+�
 use Rattle.std.specs.Prelude.{option_map}
 use Rattle.std.proofs.lemmas.Bool.{cases_eq}
 use Rattle.std.proofs.lemmas.List.{get_or-set_same, get_or-set_other}
-use Rattle.plir_store.proofs.Tables.{IsTable-with_content, num_full-with_content}
+use Rattle.plir_store.specs.TableLaws.{IsTable-with_content, num_full-with_content}
 use Rattle.std.proofs.lemmas.Option.{same_Some, none-some}
 use Rattle.plir_store.specs.Lists.{Lists, IsAgreed, parent_at, kids_at, with_last, with_before, without_child}
 use Rattle.plir_store.specs.Table.{Table, Cell, no_cell, IsTable, content_at, version_at, num_full, next_slot, with_new, without_slot, with_content}

@@ -6,7 +6,7 @@ use Rattle.std.proofs.lemmas.Bool.{cases_eq}
 use Rattle.std.proofs.lemmas.Option.{none-some}
 use Rattle.plir_store.specs.Lists.{kids_at, parent_at, without_child}
 use Rattle.plir_store.specs.Table.{Table, content_at, version_at, is_live_at, num_full, without_slot}
-use Rattle.plir_store.proofs.Tables.{IsTable-without_slot}
+use Rattle.plir_store.specs.TableLaws.{IsTable-without_slot}
 use Rattle.plir_core.specs.declared.ptr.IRNode.{IRNode}
 use Rattle.plir_core.specs.declared.ptr.IRNode.TheVariants.{Operation, Region, BasicBlock}
 use Rattle.plir_core.specs.NodeLists.{Has}

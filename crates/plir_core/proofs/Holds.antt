@@ -34,7 +34,7 @@ use Rattle.plir_core.specs.Whole.{OpHoldsLive, BlockHoldsLive, HoldsLive, IsWhol
 use Rattle.plir_core.proofs.Listing.{within_content, content_new_other, version_new_other, not_next, some_none}
 use Rattle.plir_core.proofs.Seats.{live_some, live_version, some_live}
 use Rattle.plir_core.proofs.Changes.{content_held, IsForest-held_op, IsForest-held_block}
-use Rattle.plir_store.proofs.Tables.{cell_at-with_new, cell_at-with_content, cell_at-with_content_other}
+use Rattle.plir_store.specs.TableLaws.{cell_at-with_new, cell_at-with_content, cell_at-with_content_other}
 use Rattle.plir_core.specs.Changes.{with_op_content, with_block_content}
 
 -- attributes after one is put under a key

@@ -5,7 +5,7 @@ use Rattle.std.proofs.lemmas.List.{get_or_past, get_or-set_same, get_or-set_othe
 use Rattle.std.proofs.lemmas.Option.{same_Some, none-some}
 use Rattle.plir_store.specs.Lists.{Lists, In, IsAgreed, kids_at, parent_at, put_in, put_in_after, without, with_first, with_last, with_before, with_before_under, with_after, with_after_under, without_child, without_under}
 use Rattle.plir_store.specs.Table.{Table, Cell, no_cell, cell_at, content_at, version_at, num_full, slot_after, next_slot, with_new, with_new_in, without_slot}
-use Rattle.plir_store.proofs.Changes.{get_or-push_default}
+use Rattle.plir_store.specs.ListLaws.{get_or-push_default}
 use Rattle.plir_core.specs.Forest.{IsListing}
 use Rattle.plir_core.specs.Edits.{room_child, room_list}
 

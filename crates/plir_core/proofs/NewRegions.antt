@@ -5,7 +5,7 @@ use Rattle.std.proofs.lemmas.List.Elements.{All-nil, All-cons, All-append, All-w
 use Rattle.std.proofs.lemmas.Option.{same_Some}
 use Rattle.std.specs.Prelude.{All}
 use Rattle.plir_store.specs.Table.{Table, Cell, IsTable, content_at, version_at, num_full, next_slot, slot_after, with_new, with_new_in}
-use Rattle.plir_store.proofs.Tables.{num_full-with_new, cell_at-with_new}
+use Rattle.plir_store.specs.TableLaws.{num_full-with_new, cell_at-with_new}
 use Rattle.plir_core.specs.declared.ptr.Ptr.{Ptr}
 use Rattle.plir_core.specs.declared.ptr.Operation.{Operation as OperationKind}
 use Rattle.plir_core.specs.declared.ptr.Region.{Region as RegionKind}

@@ -1,11 +1,10 @@
 -- A child is taken out of its list.
 use Rattle.std.proofs.Common.{◌≡◌, ℕ, ◌<◌, List, [], ◌∷◌, ◌++◌, map, length, Option, Some, None, ◌⊎◌, inl, inr, refl, sym, ◌∙◌, ap, subst, set, length-set, eqb, eq-eqb, arith}
-use Rattle.std.proofs.lemmas.Bool.{cases_eq}
+use Rattle.std.proofs.lemmas.Bool.{cases_eq, ne_eqb}
 use Rattle.std.proofs.lemmas.List.{get_or-set_same, get_or-set_other}
 use Rattle.std.proofs.lemmas.Option.{same_Some, none-some}
 use Rattle.plir_store.specs.Lists.{Lists, In, Apart, IsAgreed, kids_at, parent_at, without, without_child, without_under}
-use Rattle.plir_store.proofs.Members.{eqb_false}
-use Rattle.plir_store.proofs.Agreed.{within_from_parent_at, within_from_kid}
+use Rattle.plir_store.specs.ListLaws.{within_from_parent_at, within_from_kid}
 use Rattle.plir_core.specs.NodeLists.{Has}
 use Rattle.plir_core.proofs.Facts.{Has-map}
 
@@ -13,7 +12,7 @@ without-here : (c x : ℕ) (xs : List ℕ) → x ≡ c → without c (x ∷ xs) 
 without-here c x xs e = rw (eq-eqb x c e) refl
 
 without-past : (c x : ℕ) (xs : List ℕ) → (x ≡ c → ⊥) → without c (x ∷ xs) ≡ x ∷ without c xs
-without-past c x xs n = rw (eqb_false x c n) refl
+without-past c x xs n = rw (ne_eqb x c n) refl
 
 In-without : (c x : ℕ) (xs : List ℕ) → In x (without c xs) → In x xs
 In-without c x [] i = i

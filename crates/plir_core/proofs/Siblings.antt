@@ -3,7 +3,7 @@ use Rattle.std.proofs.Common.{◌≡◌, ℕ, zero, suc, ◌+◌, ◌<◌, true,
 use Rattle.std.specs.Prelude.{slice_get}
 use Rattle.std.proofs.lemmas.Bool.{ne_eqb}
 use Rattle.std.proofs.lemmas.Option.{same_Some, none-some, slice_get_within}
-use Rattle.plir_store.proofs.Members.{length-le_from_Apart}
+use Rattle.plir_store.specs.ListLaws.{length-le_from_Apart}
 use Rattle.plir_store.specs.Lists.{Lists, In, Apart, IsAgreed, kids_at, parent_at, first_of, next_in, next_of, next_under}
 
 pub first_get : (xs : List ℕ) → first_of xs ≡ slice_get xs 0

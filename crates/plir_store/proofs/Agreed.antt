@@ -1,22 +1,7 @@
 -- Lists that agree with the parents of their children.
-use Rattle.std.proofs.Common.{◌≡◌, ℕ, ◌<◌, true, false, cond, eqb, List, [], ◌∷◌, length, Option, Some, None, IfSome, inl, inr, refl, sym, ◌∙◌, subst}
-use Rattle.std.proofs.lemmas.Bool.{cases_lt}
-use Rattle.std.proofs.lemmas.List.{get_or_past}
-use Rattle.std.proofs.lemmas.Option.{none-some}
+use Rattle.std.proofs.Common.{◌≡◌, ℕ, ◌<◌, true, false, cond, eqb, List, [], ◌∷◌, length, Option, Some, None, IfSome, inl, inr, refl}
+use Rattle.plir_store.specs.ListLaws.{within_from_kid}
 use Rattle.plir_store.specs.Lists.{Lists, In, IsAgreed, kids_at, parent_at, first_of, last_of, last_from, next_in, prev_in, next_of, prev_of, next_under, prev_under}
-
--- what has a parent, and what is a parent, is within
-pub within_from_parent_at : (s : Lists) (c p : ℕ) → parent_at s c ≡ Some p → c < length s.parents
-within_from_parent_at s c p e = elim (cases_lt c (length s.parents)) [
-  | inl h ↦ h
-  | inr h ↦ absurd (none-some p (sym (get_or_past s.parents c None h) ∙ e))
-]
-
-pub within_from_kid : (s : Lists) (p c : ℕ) → In c (kids_at s p) → p < length s.kids
-within_from_kid s p c i = elim (cases_lt p (length s.kids)) [
-  | inl h ↦ h
-  | inr h ↦ absurd (subst (λ xs. In c xs) (get_or_past s.kids p [] h) i)
-]
 
 first_within_in : (n : ℕ) (xs : List ℕ) → ((x : ℕ) → In x xs → x < n) → IfSome (first_of xs) (λ j. j < n)
 first_within_in n [] h = tt

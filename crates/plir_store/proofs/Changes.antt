@@ -1,8 +1,9 @@
 -- What each change of the fields of `Chains` does to its lists.
-use Rattle.std.proofs.Common.{◌≡◌, ℕ, zero, suc, ◌+◌, ◌<◌, ◌^◌, List, [], ◌∷◌, ◌++◌, length, Option, Some, None, IfSome, inl, inr, refl, sym, ◌∙◌, ap, subst, arith, get_or, set, take, ◌-◌, append_assoc}
+use Rattle.std.proofs.Common.{◌≡◌, ℕ, ◌+◌, ◌<◌, ◌^◌, List, [], ◌∷◌, ◌++◌, length, Option, Some, None, IfSome, inl, inr, refl, sym, ◌∙◌, ap, subst, arith, get_or, set, take, ◌-◌, append_assoc}
 use Rattle.std.proofs.lemmas.Bool.{cases_lt}
 use Rattle.std.proofs.lemmas.List.{take_more, take_all, length-take-le, take-map, append-nil, map-append, map-set, set-get_or, get_or_past, length-map, get_or-map, length-append, get_or_read}
 use Rattle.std.proofs.lemmas.Option.{none-some}
+use Rattle.plir_store.specs.ListLaws.{get_or-push_default}
 use Rattle.plir_store.specs.declared.chains.Link.{Link}
 use Rattle.plir_store.specs.declared.chains.Ends.{Ends}
 use Rattle.plir_store.specs.Lists.{Lists, kids_at, parent_at, first_of, last_of, next_of, prev_of, next_under, prev_under, put_in, put_in_after, without, with_before, with_before_under, with_after, with_after_under, without_child, without_under, with_list, with_child, without_last_list, without_last_child, IsAgreed}
@@ -173,13 +174,6 @@ module _ (es : List Ends) (ls : List Link) (k : IsLinked es ls (kids_of es ls)) 
       (IsStore-from (ends_out es p l r) (links_out ls c l r) s.kids s.parents
       (subst (λ z. IsLinked (ends_out es p l r) (links_out ls c l r) (set (kids_of es ls) p z)) (sym new) kept)
       (parents_out c l r))
-
--- the default at the end of a list changes no read
-pub get_or-push_default : {X : Type 0} (xs : List X) (d : X) (i : ℕ) → get_or (xs ++ d ∷ []) i d ≡ get_or xs i d
-get_or-push_default [] d zero = refl
-get_or-push_default [] d (suc i) = refl
-get_or-push_default (x ∷ xs) d zero = refl
-get_or-push_default (x ∷ xs) d (suc i) = get_or-push_default xs d i
 
 after_same : (es es' : List Ends) (ls ls' : List Link) → ((p : ℕ) → ends_at es' p ≡ ends_at es p) → ((x : ℕ) → link_at ls' x ≡ link_at ls x) → (p : ℕ) (a : Option ℕ) → after es' ls' p a ≡ after es ls p a
 after_same es es' ls ls' e l p None = ap (λ z. z.first) (e p)

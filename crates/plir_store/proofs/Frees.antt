@@ -2,14 +2,15 @@
 use Rattle.std.proofs.Common.{◌≡◌, ℕ, zero, suc, ◌+◌, ◌-◌, ◌<◌, ◌≤◌, ◌^◌, true, false, ◌&&◌, is_some, List, [], ◌∷◌, ◌++◌, length, Option, Some, None, IsSome, inl, inr, refl, sym, ◌∙◌, ap, subst, arith, get_or, set, length-set, eq-eqb}
 use Rattle.std.proofs.lemmas.List.{get_or-set_same, get_or-set_other, get_or_read, get_or_past, length_push}
 use Rattle.std.proofs.lemmas.Option.{same_Some, none-some}
+use Rattle.std.proofs.lemmas.Bool.{ne_eqb}
 use Rattle.plir_store.specs.Lists.{In, Apart}
 use Rattle.plir_store.specs.Links.{walk}
 use Rattle.plir_store.specs.declared.slots.Place.{Place}
 use Rattle.plir_store.specs.declared.slots.Place.TheVariants.{Vacant, Full}
 use Rattle.plir_store.specs.Table.{Table, Cell, no_cell, cell_at, content_at, version_at, is_live_at, num_full, next_slot, slot_after, with_new, with_new_in, without_slot, with_content, IsTable, MAX_VERSION}
 use Rattle.plir_store.specs.Places.{Leads, content_of, link_of, place_at, cells_of, next_free, free_of, table_of, IsSound}
-use Rattle.plir_store.proofs.Members.{eqb_false, length-le_from_Apart}
-use Rattle.plir_store.proofs.Tables.{within_from_content, free-vacant, num_full-with_new, num_full-without_slot, num_full-with_content, IsTable-with_new, IsTable-freed, IsTable-retired, IsTable-with_content}
+use Rattle.plir_store.specs.ListLaws.{length-le_from_Apart}
+use Rattle.plir_store.specs.TableLaws.{within_from_content, free-vacant, num_full-with_new, num_full-without_slot, num_full-with_content, IsTable-with_new, IsTable-freed, IsTable-retired, IsTable-with_content}
 
 Leads-frame : (next next' : ℕ → Option ℕ) (a : Option ℕ) (xs : List ℕ) → ((x : ℕ) → In x xs → next' x ≡ next x) → Leads next a xs → Leads next' a xs
 Leads-frame next next' a [] same l = l
@@ -129,7 +130,7 @@ module _ {T : Type 0} where
     pub live_other : (i v n : ℕ) → i < length vs → n ≡ get_or vs i n → (n ≡ v → ⊥) → false ≡ is_live_at t i v
     live_other i v n h read other =
         let e : version_at t i ≡ n = version_now i ∙ version_read i n h read in
-        rw (e, eqb_false n v other) (elim (is_some (content_at t i)) as (λ b. false ≡ (b && false)) [ true ↦ refl | false ↦ refl ])
+        rw (e, ne_eqb n v other) (elim (is_some (content_at t i)) as (λ b. false ≡ (b && false)) [ true ↦ refl | false ↦ refl ])
 
     pub live_vacant : (i v : ℕ) (p : Place T) → i < length vs → p ≡ get_or ps i p → content_of p ≡ None → false ≡ is_live_at t i v
     live_vacant i v p h read vacant = rw (content_read i p (omega (arith, k.as_many)) read ∙ vacant) refl
@@ -223,7 +224,7 @@ module _ {T : Type 0} where
       pub freed_done : get_or vs i 0 < MAX_VERSION → IsSlots vs (set ps i (Vacant head)) (Some i) (live - 1) (without_slot t i)
       freed_done small =
           let small' : version_at t i < MAX_VERSION = rw (version_now i) small in
-          let test = eqb_false (version_at t i) MAX_VERSION (λ q. omega (arith, small')) in
+          let test = ne_eqb (version_at t i) MAX_VERSION (λ q. omega (arith, small')) in
           let link : next_free (set ps i (Vacant head)) i ≡ head = ap link_of (get_or-set_same ps i (Vacant head) (Vacant None) slot_within) in
           let l : Leads (next_free (set ps i (Vacant head))) (Some i) (i ∷ t.free) = (refl, subst (λ o. Leads (next_free (set ps i (Vacant head))) o t.free) (sym link) (leads_past (Vacant head))) in
           rw test

@@ -1,11 +1,11 @@
 -- A doubly linked list over two functions: N leads on and P leads back, `None` being the place before the first
 -- and after the last.
 use Rattle.std.proofs.Common.{◌≡◌, ℕ, zero, suc, ◌≤◌, List, [], ◌∷◌, ◌++◌, length, Option, Some, None, inl, inr, refl, sym, ◌∙◌, ap, subst, arith, eq-eqb}
-use Rattle.std.proofs.lemmas.Bool.{cases_eq}
+use Rattle.std.proofs.lemmas.Bool.{cases_eq, ne_eqb}
 use Rattle.std.proofs.lemmas.Option.{same_Some, none-some}
 use Rattle.plir_store.specs.Lists.{first_of, last_from, next_in, prev_in}
 use Rattle.plir_store.specs.Links.{Joined, In, Apart, walk}
-use Rattle.plir_store.proofs.Members.{eqb_false, In-append_left, In-append_right, Apart-append_left, Apart-append_right, Apart-disjoint, Apart-mid_left, Apart-mid_right, Apart-remove}
+use Rattle.plir_store.proofs.Members.{In-append_left, In-append_right, Apart-append_left, Apart-append_right, Apart-disjoint, Apart-mid_left, Apart-mid_right, Apart-remove}
 
 pub last_from-push : (a : Option ℕ) (xs : List ℕ) (m : ℕ) → last_from a (xs ++ m ∷ []) ≡ Some m
 last_from-push a [] m = refl
@@ -44,14 +44,14 @@ module _ (N P : Option ℕ → Option ℕ) where
   next_is a [] c j i = absurd i
   next_is a (x ∷ xs) c j i = elim (cases_eq x c) [
     | inl e ↦ rw (eq-eqb x c e) (subst (λ w. N (Some w) ≡ first_of xs) e (front_is (Some x) None xs j.2))
-    | inr n ↦ rw (eqb_false x c n) (elim i [ inl e ↦ absurd (n (sym e)) | inr k ↦ next_is (Some x) xs c j.2 k ])
+    | inr n ↦ rw (ne_eqb x c n) (elim i [ inl e ↦ absurd (n (sym e)) | inr k ↦ next_is (Some x) xs c j.2 k ])
   ]
 
   pub prev_is : (a r : Option ℕ) (xs : List ℕ) (c : ℕ) → Joined N P a xs r → In c xs → P (Some c) ≡ prev_in a xs c
   prev_is a r [] c j i = absurd i
   prev_is a r (x ∷ xs) c j i = elim (cases_eq x c) [
     | inl e ↦ rw (eq-eqb x c e) (subst (λ w. P (Some w) ≡ a) e j.1)
-    | inr n ↦ rw (eqb_false x c n) (elim i [ inl e ↦ absurd (n (sym e)) | inr k ↦ prev_is (Some x) r xs c j.2 k ])
+    | inr n ↦ rw (ne_eqb x c n) (elim i [ inl e ↦ absurd (n (sym e)) | inr k ↦ prev_is (Some x) r xs c j.2 k ])
   ]
 
   pub walk_is : (n : ℕ) (a : Option ℕ) (xs : List ℕ) → Joined N P a xs None → length xs ≤ n → walk n (λ x. N (Some x)) (N a) ≡ xs

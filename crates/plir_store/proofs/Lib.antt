@@ -3,6 +3,5 @@ pub mod Joined
 pub mod Writes
 pub mod Steps
 pub mod Changes
-pub mod Tables
 pub mod Frees
 pub mod Agreed

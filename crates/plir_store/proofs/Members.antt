@@ -1,14 +1,8 @@
 -- Lists of numbers: membership, no element twice, and a list cut at an element.
-use Rattle.std.proofs.Common.{◌≡◌, ℕ, ◌<◌, ◌≤◌, true, false, eqb, List, [], ◌∷◌, ◌++◌, length, ◌⊎◌, inl, inr, refl, sym, ap, subst, arith, eq-eqb}
-use Rattle.std.specs.List.{IsDistinct, list_any, AllByRecursion}
-use Rattle.std.proofs.lemmas.Bool.{cases_eq}
-use Rattle.std.proofs.lemmas.Map.Steps.{length-le_from_distinct_below}
+use Rattle.std.proofs.Common.{◌≡◌, ℕ, List, [], ◌∷◌, ◌++◌, ◌⊎◌, inl, inr, refl, sym, ap, subst, eq-eqb}
+use Rattle.std.proofs.lemmas.Bool.{ne_eqb}
 use Rattle.plir_store.specs.Lists.{put_in, put_in_after, without}
 use Rattle.plir_store.specs.Links.{In, Apart}
-
--- a test that fails
-pub eqb_false : (x y : ℕ) → (x ≡ y → ⊥) → eqb x y ≡ false
-eqb_false x y n = elim (eqb x y) as (λ b. eqb x y ≡ b → b ≡ false) [ true ↦ λ e. absurd (n (grind arith)) | false ↦ λ e. refl ] refl
 
 pub In-append_left : (x : ℕ) (xs ys : List ℕ) → In x xs → In x (xs ++ ys)
 In-append_left x [] ys i = absurd i
@@ -86,32 +80,12 @@ cut x (z ∷ zs) i = elim i [
 
 pub put_in-cut : (c m : ℕ) (xs ys : List ℕ) → (In m xs → ⊥) → put_in c m (xs ++ m ∷ ys) ≡ xs ++ c ∷ m ∷ ys
 put_in-cut c m [] ys n = rw (eq-eqb m m refl) refl
-put_in-cut c m (x ∷ xs) ys n = rw (eqb_false x m (λ e. n (inl (sym e)))) (ap (λ ws. x ∷ ws) (put_in-cut c m xs ys (λ i. n (inr i))))
+put_in-cut c m (x ∷ xs) ys n = rw (ne_eqb x m (λ e. n (inl (sym e)))) (ap (λ ws. x ∷ ws) (put_in-cut c m xs ys (λ i. n (inr i))))
 
 pub put_in_after-cut : (c m : ℕ) (xs ys : List ℕ) → (In m xs → ⊥) → put_in_after c m (xs ++ m ∷ ys) ≡ (xs ++ m ∷ []) ++ c ∷ ys
 put_in_after-cut c m [] ys n = rw (eq-eqb m m refl) refl
-put_in_after-cut c m (x ∷ xs) ys n = rw (eqb_false x m (λ e. n (inl (sym e)))) (ap (λ ws. x ∷ ws) (put_in_after-cut c m xs ys (λ i. n (inr i))))
+put_in_after-cut c m (x ∷ xs) ys n = rw (ne_eqb x m (λ e. n (inl (sym e)))) (ap (λ ws. x ∷ ws) (put_in_after-cut c m xs ys (λ i. n (inr i))))
 
 pub without-cut : (c : ℕ) (xs ys : List ℕ) → (In c xs → ⊥) → without c (xs ++ c ∷ ys) ≡ xs ++ ys
 without-cut c [] ys n = rw (eq-eqb c c refl) refl
-without-cut c (x ∷ xs) ys n = rw (eqb_false x c (λ e. n (inl (sym e)))) (ap (λ ws. x ∷ ws) (without-cut c xs ys (λ i. n (inr i))))
-
--- numbers below n, no two equal, are at most n
-AllByRecursion-from_not_in : (x : ℕ) (xs : List ℕ) → (In x xs → ⊥) → AllByRecursion (λ y. eqb x y ≡ false) xs
-AllByRecursion-from_not_in x [] n = tt
-AllByRecursion-from_not_in x (y ∷ ys) n = (eqb_false x y (λ e. n (inl e)), AllByRecursion-from_not_in x ys (λ i. n (inr i)))
-
-IsDistinct-from_Apart : (xs : List ℕ) → Apart xs → IsDistinct eqb xs
-unfolding IsDistinct
-IsDistinct-from_Apart [] a = tt
-IsDistinct-from_Apart (x ∷ xs) a = (AllByRecursion-from_not_in x xs a.0, IsDistinct-from_Apart xs a.1)
-
-In-from_list_any : (q : ℕ) (xs : List ℕ) → list_any (eqb q) xs ≡ true → In q xs
-In-from_list_any q [] e = cc
-In-from_list_any q (x ∷ xs) e = elim (cases_eq q x) [
-  | inl s ↦ inl s
-  | inr n ↦ inr (In-from_list_any q xs (rw (eqb_false q x n) at e))
-]
-
-pub length-le_from_Apart : (xs : List ℕ) (n : ℕ) → Apart xs → ((x : ℕ) → In x xs → x < n) → length xs ≤ n
-length-le_from_Apart xs n a below = length-le_from_distinct_below xs n (IsDistinct-from_Apart xs a) (λ q e. below q (In-from_list_any q xs e))
+without-cut c (x ∷ xs) ys n = rw (ne_eqb x c (λ e. n (inl (sym e)))) (ap (λ ws. x ∷ ws) (without-cut c xs ys (λ i. n (inr i))))

@@ -7,7 +7,8 @@ use Rattle.plir_store.specs.declared.chains.Link.{Link}
 use Rattle.plir_store.specs.declared.chains.Ends.{Ends}
 use Rattle.plir_store.specs.Lists.{first_of}
 use Rattle.plir_store.specs.Links.{no_link, no_ends, link_at, ends_at, after, before, put_first, put_last, put_next, put_prev, ends_in, links_in, ends_out, links_out, Joined, In, Apart, kids_from, kids_of, IsLinked}
-use Rattle.plir_store.proofs.Members.{In-append_left, In-append_right, In-append_cases, Apart-insert, Apart-remove, Apart-mid, length-le_from_Apart}
+use Rattle.plir_store.proofs.Members.{In-append_left, In-append_right, In-append_cases, Apart-insert, Apart-remove, Apart-mid}
+use Rattle.plir_store.specs.ListLaws.{length-le_from_Apart}
 use Rattle.plir_store.proofs.Joined.{Joined-cut, back_is_in, walk_is, Joined-frame, Joined-insert, Joined-remove}
 use Rattle.plir_store.proofs.Writes.{after_put_same, after_put_other, after_put_elsewhere, after_put_back, before_put_same, before_put_other, before_put_elsewhere, before_put_front, after_set_other, before_set_other, parent_put_next, parent_put_prev, length-put_first, length-put_last, length-put_next, length-put_prev, within_from_parent}
 

@@ -4,3 +4,5 @@ pub mod Table
 pub mod Places
 pub mod Lends
 pub mod Hops
+pub mod TableLaws
+pub mod ListLaws

@@ -1,6 +1,6 @@
 use Rattle.std.proofs.Common.{◌≡◌, ◌∙◌, ◌<◌, ap, sym, subst, length, arith, rules}
 use Rattle.plir_store.specs.Table.{Cell, num_full, content_at, next_slot, slot_after, IsTable}
-use Rattle.plir_store.proofs.Tables.{num_full-with_new, cell_at-with_new, IsTable-with_new}
+use Rattle.plir_store.specs.TableLaws.{num_full-with_new, cell_at-with_new, IsTable-with_new}
 use Rattle.plir_store.proofs.slots.Slots.insert.Goals.{After-self-in-Some-2-1, After-self-in-Ok-1}
 use Rattle.plir_store.proofs.Frees.{whole_now, head_within, head_usable, version_read, none_free, slots_length, reused_read, pushed_done}
 use Rattle.plir_store.proofs.slots.Slots.insert.Goals as goal

@@ -1,6 +1,6 @@
 use Rattle.std.proofs.Common.{◌≡◌, ◌∙◌, ◌≤◌, sym, ap, length, subst, rules}
 use Rattle.plir_store.specs.Table.{slot_after}
-use Rattle.plir_store.proofs.Tables.{next_slot-within}
+use Rattle.plir_store.specs.TableLaws.{next_slot-within}
 use Rattle.plir_store.proofs.Frees.{whole_now, none_free, head_is, slots_length}
 use Rattle.plir_store.proofs.slots.Slots.next_slot.Goals as goal
 

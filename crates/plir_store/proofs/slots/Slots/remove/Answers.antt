@@ -1,6 +1,6 @@
 use Rattle.std.proofs.Common.{◌∙◌, ◌+◌, ◌-◌, ◌<◌, ap, sym, subst, length, arith, rules}
 use Rattle.plir_store.specs.Table.{num_full, without_slot, IsTable}
-use Rattle.plir_store.proofs.Tables.{num_full-without_slot, IsTable-without_slot}
+use Rattle.plir_store.specs.TableLaws.{num_full-without_slot, IsTable-without_slot}
 use Rattle.plir_store.proofs.slots.Slots.remove.Goals.{After-self-2-1, then-index-lt4294967295, else-index-lt4294967295}
 use Rattle.plir_store.proofs.Frees.{IsSlots, whole_now, slot_within, place_full, content_read, freed_read, retired_read}
 use Rattle.plir_store.proofs.slots.Slots.remove.Goals as goal

@@ -1,12 +1,12 @@
--- What each change of a table does to its slots, and that it keeps what holds of every table.
+-- Laws of tables, proved beside their words so that the crates above can cite them: what each change does to the slots, and
+-- that it keeps what holds of every table. No contract cites this module.
 use Rattle.std.proofs.Common.{◌≡◌, ℕ, ◌+◌, ◌-◌, ◌<◌, ◌≤◌, ◌^◌, cond, List, [], ◌∷◌, ◌++◌, length, Option, Some, None, is_some, IsSome, inl, inr, refl, sym, ◌∙◌, ap, subst, arith, get_or, set, length-set, eq-eqb}
-use Rattle.std.proofs.lemmas.Bool.{cases_eq, cases_lt}
+use Rattle.std.proofs.lemmas.Bool.{cases_eq, cases_lt, ne_eqb}
 use Rattle.std.proofs.lemmas.List.{get_or-set_same, get_or-set_other, get_or_past, length-append, get_or_append_left, get_or_push}
 use Rattle.std.proofs.lemmas.List.Sums.{sum_by-set, sum_by_push}
 use Rattle.std.proofs.lemmas.Option.{none-some}
 use Rattle.plir_store.specs.Lists.{In, Apart}
 use Rattle.plir_store.specs.Table.{Table, Cell, no_cell, cell_at, content_at, version_at, num_full, next_slot, slot_after, with_new, with_new_in, without_slot, with_content, IsFreeSlot, IsTable, MAX_VERSION}
-use Rattle.plir_store.proofs.Members.{eqb_false}
 
 module _ {T : Type 0} where
   full_some : (o : Option T) → IsSome o → ◌≡◌ {A = ℕ} (cond (is_some o) 1 0) 1
@@ -208,5 +208,5 @@ IsTable-without_slot t i some w = elim (cases_eq (version_at t i) MAX_VERSION) [
   | inl e ↦ rw (eq-eqb (version_at t i) MAX_VERSION e) (IsTable-retired t i some w)
   | inr n ↦
       let most = w.bounded i (within_from_content t i some) in
-      rw (eqb_false (version_at t i) MAX_VERSION n) (IsTable-freed t i some w (omega (arith, n, most)))
+      rw (ne_eqb (version_at t i) MAX_VERSION n) (IsTable-freed t i some w (omega (arith, n, most)))
 ]
