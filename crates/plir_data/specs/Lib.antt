@@ -9,6 +9,7 @@
 --   AttrView     AttrView A: an attribute as contracts see it, with its leaves, items and entries
 --   AttrSeen     attr_view: an `AttrObj` as an AttrView
 --   Dictionary   dict_get, dict_put, dict_without, IsDictionary: entries in ascending order of their keys
+--   DictLaws     laws of look-ups after edits, for the proofs of the crates above
 --   DictSeen     a map of attributes as its entries
 --   AttrDepth    how deep attributes stand in one another
 --   AttrCalls    attr_id, attr_type, is_outlined: what the getters of an attribute answer
@@ -32,6 +33,7 @@ pub mod AttrSeen
 pub mod DictSeen
 pub mod AttrFalls
 pub mod Dictionary
+pub mod DictLaws
 pub mod AttrCalls
 pub mod AttrEq
 pub mod AttrHash

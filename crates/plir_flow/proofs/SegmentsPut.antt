@@ -16,7 +16,8 @@ use Rattle.plir_core.specs.Changes.{with_op_edit}
 use Rattle.plir_core.specs.Held.{IsOpEdited}
 use Rattle.plir_flow.specs.Segments.{in_segments, flatten, segment_at, edit_at, start_in, sizes_in, sizes_key, sizes_attr, with_sizes, sizes_under, sizes_of, segments_of, segment_size, num_segments, in_op, with_segments, IsCount, IsSegmented, HasSegments, IsResegmented}
 use Rattle.plir_flow.proofs.SegmentLists.{sum-cons, flatten-in, sizes-in, in-flatten, size-at, sizes-edit, count-edit, count-in, value-at, segment-range, flatten-insert, flatten-remove}
-use Rattle.plir_flow.proofs.SizesPut.{Join, Same, get-put, get-other}
+use Rattle.plir_data.specs.DictLaws.{get-put, get-other}
+use Rattle.plir_flow.proofs.SizesPut.{Join, Same}
 
 pub sum-lengths : (segs : List (List Value)) → sum (map length segs) ≡ length (flatten segs)
 sum-lengths [] = refl

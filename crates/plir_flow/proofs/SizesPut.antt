@@ -6,7 +6,8 @@ use Rattle.std.proofs.lemmas.Map.Lookups.{exact_bytes}
 use Rattle.std.specs.Ordering.{match_ordering, ordering_reverse, is_eq}
 use Rattle.std.specs.Cmp.Lexicographic.{slice_cmp}
 use Rattle.plir_data.specs.AttrView.{AttrView}
-use Rattle.plir_data.specs.Dictionary.{dict_get, dict_put, is_key}
+use Rattle.plir_data.specs.Dictionary.{dict_get, dict_put}
+use Rattle.plir_data.specs.DictLaws.{put-put, get-put}
 use Rattle.plir_store.specs.Table.{version_at}
 use Rattle.plir_core.specs.declared.ptr.Ptr.{Ptr}
 use Rattle.plir_core.specs.declared.ptr.Operation.{Operation as OperationKind}
@@ -16,48 +17,6 @@ use Rattle.plir_core.specs.Store.{Store, IsLive, op_at, attributes_in, attribute
 use Rattle.plir_core.specs.Changes.{with_op_edit}
 use Rattle.plir_core.specs.Held.{IsOpEdited}
 use Rattle.plir_flow.specs.Segments.{sizes_key, with_sizes}
-
-same-key : (k : List ℕ) → slice_cmp nat_cmp k k ≡ Equal
-same-key k = by (slice_cmp nat_cmp k k) (nat_list_cmp_total.antisymm k k)
-  where
-    by : (o : Ordering) → o ≡ ordering_reverse o → o ≡ Equal
-    by Less e = absurd (let z : ⊥ = cc (e) in z)
-    by Equal e = refl
-    by Greater e = absurd (let z : ⊥ = cc (e) in z)
-
-module _ {V : Type 0} where
-  -- of two values put under a key the second stays
-  pub put-put : (es : List (List ℕ × V)) (k : List ℕ) (u v : V) → dict_put (dict_put es k u) k v ≡ dict_put es k v
-  put-put [] k u v = ap (λ o. match_ordering o ((k, v) ∷ (k, u) ∷ []) ((k, v) ∷ []) ((k, u) ∷ (k, v) ∷ [])) (same-key k)
-  put-put (e ∷ es) k u v = by (slice_cmp nat_cmp k e.0) refl (put-put es k u v)
-    where
-      by : (o : Ordering) → slice_cmp nat_cmp k e.0 ≡ o → dict_put (dict_put es k u) k v ≡ dict_put es k v → dict_put (match_ordering o ((k, u) ∷ e ∷ es) ((e.0, u) ∷ es) (e ∷ dict_put es k u)) k v ≡ match_ordering o ((k, v) ∷ e ∷ es) ((e.0, v) ∷ es) (e ∷ dict_put es k v)
-      by Less is rest = ap (λ o. match_ordering o ((k, v) ∷ (k, u) ∷ e ∷ es) ((k, v) ∷ e ∷ es) ((k, u) ∷ dict_put (e ∷ es) k v)) (same-key k)
-      by Equal is rest = ap (λ o. match_ordering o ((k, v) ∷ (e.0, u) ∷ es) ((e.0, v) ∷ es) ((e.0, u) ∷ dict_put es k v)) is
-      by Greater is rest = ap (λ o. match_ordering o ((k, v) ∷ e ∷ dict_put es k u) ((e.0, v) ∷ dict_put es k u) (e ∷ dict_put (dict_put es k u) k v)) is ∙ ap (λ l. e ∷ l) rest
-
-  -- what is put under a key is there
-  pub get-put : (es : List (List ℕ × V)) (k : List ℕ) (v : V) → dict_get (dict_put es k v) k ≡ Some v
-  get-put [] k v = ap (λ o. cond (is_eq o) (Some v) None) (same-key k)
-  get-put (e ∷ es) k v = by (slice_cmp nat_cmp k e.0) refl (get-put es k v)
-    where
-      by : (o : Ordering) → slice_cmp nat_cmp k e.0 ≡ o → dict_get (dict_put es k v) k ≡ Some v → dict_get (match_ordering o ((k, v) ∷ e ∷ es) ((e.0, v) ∷ es) (e ∷ dict_put es k v)) k ≡ Some v
-      by Less is rest = ap (λ o. cond (is_eq o) (Some v) (dict_get (e ∷ es) k)) (same-key k)
-      by Equal is rest = ap (λ o. cond (is_eq o) (Some v) (dict_get es k)) is
-      by Greater is rest = ap (λ o. cond (is_eq o) (Some e.1) (dict_get (dict_put es k v) k)) is ∙ rest
-
-  -- and what stands under another key stays
-  pub get-other : (es : List (List ℕ × V)) (k l : List ℕ) (v : V) → is_key l k ≡ false → dict_get (dict_put es k v) l ≡ dict_get es l
-  get-other [] k l v other = ap (λ b. cond b (Some v) None) other
-  get-other (e ∷ es) k l v other = by (slice_cmp nat_cmp k e.0) refl (get-other es k l v other)
-    where
-      by : (o : Ordering) → slice_cmp nat_cmp k e.0 ≡ o → dict_get (dict_put es k v) l ≡ dict_get es l → dict_get (match_ordering o ((k, v) ∷ e ∷ es) ((e.0, v) ∷ es) (e ∷ dict_put es k v)) l ≡ dict_get (e ∷ es) l
-      by Less is rest = ap (λ b. cond b (Some v) (dict_get (e ∷ es) l)) other
-      by Equal is rest =
-          let same : k ≡ e.0 = exact_bytes k e.0 is in
-          let no : is_key l e.0 ≡ false = subst (λ z. is_key l z ≡ false) same other in
-          ap (λ b. cond b (Some v) (dict_get es l)) no ∙ sym (ap (λ b. cond b (Some e.1) (dict_get es l)) no)
-      by Greater is rest = ap (λ z. cond (is_key l e.0) (Some e.1) z) rest
 
 module _ {K A T : Type 0} (s : Store K A T) (op : Ptr OperationKind) where
   -- two edits of the operation are one, and an edit is what it makes of what is held

@@ -23,7 +23,6 @@ pub mod Advancing
 pub mod Orders
 pub mod Lawfulness
 pub mod NameLists
-pub mod NamesUnderKey
 pub mod NamedStores
 pub mod NamesTaken
 pub mod Picked

@@ -10,7 +10,7 @@ use Rattle.plir_walk.specs.declared.name_list.Placing.{Placing}
 use Rattle.plir_walk.specs.GivenNames.{Names, names_of, names_key, named, all_unset, attributes_at, with_attributes, names_at, with_names}
 use Rattle.plir_walk.specs.Placing.{placed_name}
 use Rattle.plir_walk.proofs.NameLists.{unset-first, given-set}
-use Rattle.plir_walk.proofs.NamesUnderKey.{put-put, without-put, put-same, without-absent, get-put}
+use Rattle.plir_data.specs.DictLaws.{put-put, without-put, put-same, without-absent, get-put}
 use Rattle.plir_walk.proofs.NamedStores.{attributes-same, attributes-id, attributes-live, attributes-after, attributes-then}
 
 module _ {K A T : Type 0} (s t : Store K A T) (e : DefiningEntity) (ns : Names)

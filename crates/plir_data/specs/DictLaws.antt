@@ -1,6 +1,8 @@
--- A dictionary in which one key is put, changed and taken out.
+-- Laws of dictionaries, proved beside their words so that the crates above can cite them: what is found after an entry was
+-- put, replaced or taken out. No contract cites this module.
 use Rattle.std.proofs.Common.{◌≡◌, ℕ, Bool, true, false, cond, List, [], ◌∷◌, Ordering, Less, Equal, Greater, Option, Some, None, IsSome, nat_cmp, refl, sym, ap, subst, ◌∙◌}
 use Rattle.std.proofs.lemmas.Cmp.{nat_list_cmp_total}
+use Rattle.std.proofs.lemmas.Map.Lookups.{exact_bytes}
 use Rattle.std.proofs.lemmas.Option.{same_Some, none-some}
 use Rattle.std.specs.Ordering.{match_ordering, ordering_reverse, is_eq}
 use Rattle.std.specs.Cmp.Lexicographic.{slice_cmp}
@@ -96,3 +98,16 @@ module _ {V : Type 0} where
       by Less is rest = ap (λ o. cond (is_eq o) (Some v) (dict_get (e ∷ es) k)) (same-key k)
       by Equal is rest = ap (λ o. cond (is_eq o) (Some v) (dict_get es k)) is
       by Greater is rest = ap (λ o. cond (is_eq o) (Some e.1) (dict_get (dict_put es k v) k)) is ∙ rest
+
+  -- and what stands under another key stays
+  pub get-other : (es : List (List ℕ × V)) (k l : List ℕ) (v : V) → is_key l k ≡ false → dict_get (dict_put es k v) l ≡ dict_get es l
+  get-other [] k l v other = ap (λ b. cond b (Some v) None) other
+  get-other (e ∷ es) k l v other = by (slice_cmp nat_cmp k e.0) refl (get-other es k l v other)
+    where
+      by : (o : Ordering) → slice_cmp nat_cmp k e.0 ≡ o → dict_get (dict_put es k v) l ≡ dict_get es l → dict_get (match_ordering o ((k, v) ∷ e ∷ es) ((e.0, v) ∷ es) (e ∷ dict_put es k v)) l ≡ dict_get (e ∷ es) l
+      by Less is rest = ap (λ b. cond b (Some v) (dict_get (e ∷ es) l)) other
+      by Equal is rest =
+          let same : k ≡ e.0 = exact_bytes k e.0 is in
+          let no : is_key l e.0 ≡ false = subst (λ z. is_key l z ≡ false) same other in
+          ap (λ b. cond b (Some v) (dict_get es l)) no ∙ sym (ap (λ b. cond b (Some e.1) (dict_get es l)) no)
+      by Greater is rest = ap (λ z. cond (is_key l e.0) (Some e.1) z) rest

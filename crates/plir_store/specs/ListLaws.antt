@@ -1,0 +1,48 @@
+-- Laws of lists of children, proved beside their words so that the crates above can cite them. No contract cites this module.
+use Rattle.std.proofs.Common.{◌≡◌, ℕ, ◌<◌, ◌≤◌, zero, suc, true, false, eqb, List, [], ◌∷◌, ◌++◌, length, Some, None, inl, inr, refl, sym, ◌∙◌, subst, get_or}
+use Rattle.std.specs.List.{IsDistinct, list_any, AllByRecursion}
+use Rattle.std.proofs.lemmas.Bool.{cases_eq, cases_lt, ne_eqb}
+use Rattle.std.proofs.lemmas.List.{get_or_past}
+use Rattle.std.proofs.lemmas.Map.Steps.{length-le_from_distinct_below}
+use Rattle.std.proofs.lemmas.Option.{none-some}
+use Rattle.plir_store.specs.Lists.{Lists, In, Apart, kids_at, parent_at}
+
+-- what has a parent, and what is a parent, is within
+pub within_from_parent_at : (s : Lists) (c p : ℕ) → parent_at s c ≡ Some p → c < length s.parents
+within_from_parent_at s c p e = elim (cases_lt c (length s.parents)) [
+  | inl h ↦ h
+  | inr h ↦ absurd (none-some p (sym (get_or_past s.parents c None h) ∙ e))
+]
+
+pub within_from_kid : (s : Lists) (p c : ℕ) → In c (kids_at s p) → p < length s.kids
+within_from_kid s p c i = elim (cases_lt p (length s.kids)) [
+  | inl h ↦ h
+  | inr h ↦ absurd (subst (λ xs. In c xs) (get_or_past s.kids p [] h) i)
+]
+
+-- the default at the end of a list changes no read
+pub get_or-push_default : {X : Type 0} (xs : List X) (d : X) (i : ℕ) → get_or (xs ++ d ∷ []) i d ≡ get_or xs i d
+get_or-push_default [] d zero = refl
+get_or-push_default [] d (suc i) = refl
+get_or-push_default (x ∷ xs) d zero = refl
+get_or-push_default (x ∷ xs) d (suc i) = get_or-push_default xs d i
+
+-- numbers below n, no two equal, are at most n
+AllByRecursion-from_not_in : (x : ℕ) (xs : List ℕ) → (In x xs → ⊥) → AllByRecursion (λ y. eqb x y ≡ false) xs
+AllByRecursion-from_not_in x [] n = tt
+AllByRecursion-from_not_in x (y ∷ ys) n = (ne_eqb x y (λ e. n (inl e)), AllByRecursion-from_not_in x ys (λ i. n (inr i)))
+
+IsDistinct-from_Apart : (xs : List ℕ) → Apart xs → IsDistinct eqb xs
+unfolding IsDistinct
+IsDistinct-from_Apart [] a = tt
+IsDistinct-from_Apart (x ∷ xs) a = (AllByRecursion-from_not_in x xs a.0, IsDistinct-from_Apart xs a.1)
+
+In-from_list_any : (q : ℕ) (xs : List ℕ) → list_any (eqb q) xs ≡ true → In q xs
+In-from_list_any q [] e = cc
+In-from_list_any q (x ∷ xs) e = elim (cases_eq q x) [
+  | inl s ↦ inl s
+  | inr n ↦ inr (In-from_list_any q xs (rw (ne_eqb q x n) at e))
+]
+
+pub length-le_from_Apart : (xs : List ℕ) (n : ℕ) → Apart xs → ((x : ℕ) → In x xs → x < n) → length xs ≤ n
+length-le_from_Apart xs n a below = length-le_from_distinct_below xs n (IsDistinct-from_Apart xs a) (λ q e. below q (In-from_list_any q xs e))
