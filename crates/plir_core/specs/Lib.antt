@@ -15,7 +15,9 @@
 --   Above        climb, Reaches, depth: what stands above what
 --   Made         IsMade: a tree is new, and nothing else has changed; IsRegionAdded: one region is;
 --                HasNewRegions: the regions of a new operation
---   Placed       IsPlaced: a node has come under another one, and nothing else has changed; IsUnlinked: it has left its parent
+--   Room         IsFullForOp and its kin: when there is no room for a new node
+--   Placed       IsPlaced: a node has come under another one, and nothing else has changed (IsPlacedFirst and its kin: where);
+--                IsUnlinked: it has left its parent
 --   Held         IsOpEdited, IsBlockEdited: what an operation or a block holds is edited, and nothing else has changed
 --   Grown        IsGrown: nodes are new below a node; Growth: how trees grow in many steps
 --   Lends        what a `&mut` into a node leaves
@@ -38,6 +40,7 @@ pub mod Standing
 pub mod Interfaces
 pub mod Changes
 pub mod Made
+pub mod Room
 pub mod Placed
 pub mod Held
 pub mod Grown

@@ -1,5 +1,5 @@
 -- What linking and unlinking leave as it was, and which kids they change.
-use Rattle.std.specs.Prelude.{◌≡◌, List, ◌∷◌, ◌++◌, Option, Some, None}
+use Rattle.std.specs.Prelude.{◌≡◌, List, [], ◌∷◌, ◌++◌, Option, Some, None}
 use Rattle.plir_core.specs.declared.ptr.IRNode.{IRNode}
 use Rattle.plir_core.specs.Nodes.{Nodes, node_kids, node_parent}
 
@@ -25,3 +25,17 @@ module _ {O B : Type 0} where
     pub parent : node_parent t n ≡ None
     pub kids_over : (m : IRNode) (xs ys : List IRNode) → node_kids s m ≡ xs ++ n ∷ ys → node_kids t m ≡ xs ++ ys
     pub kids : (m : IRNode) → (node_parent s n ≡ Some m → ⊥) → node_kids t m ≡ node_kids s m
+
+  -- first, or last, among the kids of `over`
+  abbrev pub IsPlacedFirst : Nodes O B → Nodes O B → IRNode → IRNode → Type 0
+  IsPlacedFirst s t n over = IsPlaced s t n over (n ∷ node_kids s over)
+
+  abbrev pub IsPlacedLast : Nodes O B → Nodes O B → IRNode → IRNode → Type 0
+  IsPlacedLast s t n over = IsPlaced s t n over (node_kids s over ++ n ∷ [])
+
+  -- right before, or right behind, a kid that is named, under that one's parent
+  abbrev pub IsPlacedBefore : Nodes O B → Nodes O B → IRNode → IRNode → Type 0
+  IsPlacedBefore s t n mark = (over : IRNode) (xs ys : List IRNode) → node_kids s over ≡ xs ++ mark ∷ ys → IsPlaced s t n over (xs ++ n ∷ mark ∷ ys)
+
+  abbrev pub IsPlacedBehind : Nodes O B → Nodes O B → IRNode → IRNode → Type 0
+  IsPlacedBehind s t n mark = (over : IRNode) (xs ys : List IRNode) → node_kids s over ≡ xs ++ mark ∷ ys → IsPlaced s t n over (xs ++ mark ∷ n ∷ ys)

@@ -1,5 +1,5 @@
 //! Calls on basic blocks.
-ghost use Rattle.std.specs.Prelude.{◌≡◌, ◌∷◌, ◌++◌, ◌<◌, ◌↔◌, ◌⊎◌, ◌-◌, ◌^◌, ◌≤◌, ℕ, [], Some, None, OnOk, OnErr, IfOk, IfSome, length, slice_get, option_map, true, false};
+ghost use Rattle.std.specs.Prelude.{◌≡◌, ◌<◌, ◌↔◌, ◌-◌, [], Some, None, OnOk, OnErr, IfOk, IfSome, length, slice_get, option_map, true, false};
 ghost use Rattle.plir_store.specs.Table.{next_slot};
 ghost use Rattle.plir_data.specs.Types.{IsLive as IsTypeLive, AllLive};
 ghost use Rattle.plir_data.specs.AttrLive.{IsAttrLive, HandlesLive};
@@ -7,10 +7,11 @@ ghost use Rattle.plir_data.specs.AttrSeen.{attr_view};
 ghost use Rattle.plir_data.specs.Dictionary.{dict_put};
 ghost use Rattle.plir_core.specs.Made.{IsMade};
 ghost use Rattle.plir_core.specs.Nodes.{ptr_at};
-ghost use Rattle.plir_core.specs.Store.{IsLive, IsValueLive, IsAncestor, is_live, given_out, num_live, limit, kids, parent_of, op_above, first_kid, last_kid, next_sibling, prev_sibling, block_at, arg_types_of, block_attributes_of};
+ghost use Rattle.plir_core.specs.Store.{IsLive, IsValueLive, IsAncestor, is_live, given_out, limit, kids, parent_of, op_above, first_kid, last_kid, next_sibling, prev_sibling, block_at, arg_types_of, block_attributes_of};
 ghost use Rattle.plir_core.specs.Whole.{IsWhole};
 ghost use Rattle.plir_core.specs.Terminator.{terminator_of};
-ghost use Rattle.plir_core.specs.Placed.{IsPlaced};
+ghost use Rattle.plir_core.specs.Room.{IsFullForBlock};
+ghost use Rattle.plir_core.specs.Placed.{IsPlacedLast};
 ghost use Rattle.plir_core.specs.Changes.{with_block_edit, with_block, with_block_last};
 ghost use Rattle.plir_core.specs.declared.ptr.IRNode.{IRNode};
 ghost use Rattle.plir_core.specs.declared.value.DefiningEntity.{DefiningEntity};
@@ -43,7 +44,7 @@ impl BasicBlock {
         ensures made { IfOk result (λ p. IsMade ctx.old.nodes ctx.new.nodes (IRNode.BasicBlock p)) }
         ensures empty { IfOk result (λ p. kids ctx.new (IRNode.BasicBlock p) ≡ []) }
         ensures err { OnErr result (ctx.new ≡ ctx.old) }
-        ensures too_many { (result ≡ Err NodeErr.TooManyNodes) ↔ ((num_live ctx.old ≡ limit ctx.old) ⊎ (2 ^ 32 - 1 ≤ next_slot ctx.old.nodes.blocks)) }
+        ensures too_many { (result ≡ Err NodeErr.TooManyNodes) ↔ IsFullForBlock ctx.old.nodes }
         ensures whole { IsWhole D.attr_handles ctx.new }
     {
         let data = BlockData {
@@ -210,7 +211,7 @@ impl Ptr<BasicBlock> {
         requires unlinked { parent_of ctx.old (IRNode.BasicBlock self) ≡ None }
         requires not_above { IsAncestor ctx.old (IRNode.BasicBlock self) (IRNode.Region region) → ⊥ }
         ensures after { ctx.new ≡ with_block_last ctx.old self region }
-        ensures placed { IsPlaced ctx.old.nodes ctx.new.nodes (IRNode.BasicBlock self) (IRNode.Region region) (kids ctx.old (IRNode.Region region) ++ IRNode.BasicBlock self ∷ []) }
+        ensures placed { IsPlacedLast ctx.old.nodes ctx.new.nodes (IRNode.BasicBlock self) (IRNode.Region region) }
         ensures whole { IsWhole D.attr_handles ctx.new }
     {
         ctx.nodes.push_block(self, region);

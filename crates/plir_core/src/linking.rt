@@ -1,9 +1,9 @@
 //! Calls that link operations and blocks beside others and at the start of what holds them, and that unlink them.
-ghost use Rattle.std.specs.Prelude.{◌≡◌, List, [], ◌∷◌, ◌++◌, None, IsSome};
-ghost use Rattle.plir_core.specs.Store.{IsLive, IsAncestor, kids, parent_of};
+ghost use Rattle.std.specs.Prelude.{◌≡◌, None, IsSome};
+ghost use Rattle.plir_core.specs.Store.{IsLive, IsAncestor, parent_of};
 ghost use Rattle.plir_core.specs.Whole.{IsWhole};
 ghost use Rattle.plir_core.specs.Changes.{with_op_first, with_block_first, with_op_before, with_block_before, with_op_after, with_block_after, with_op_unlinked, with_block_unlinked};
-ghost use Rattle.plir_core.specs.Placed.{IsPlaced, IsUnlinked};
+ghost use Rattle.plir_core.specs.Placed.{IsPlacedBefore, IsPlacedBehind, IsPlacedFirst, IsUnlinked};
 ghost use Rattle.plir_core.specs.declared.ptr.IRNode.{IRNode};
 
 use crate::context::Context;
@@ -18,7 +18,7 @@ impl Ptr<Operation> {
         requires unlinked { parent_of ctx.old (IRNode.Operation self) ≡ None }
         requires not_above { IsAncestor ctx.old (IRNode.Operation self) (IRNode.BasicBlock block) → ⊥ }
         ensures after { ctx.new ≡ with_op_first ctx.old self block }
-        ensures placed { IsPlaced ctx.old.nodes ctx.new.nodes (IRNode.Operation self) (IRNode.BasicBlock block) (IRNode.Operation self ∷ kids ctx.old (IRNode.BasicBlock block)) }
+        ensures placed { IsPlacedFirst ctx.old.nodes ctx.new.nodes (IRNode.Operation self) (IRNode.BasicBlock block) }
         ensures whole { IsWhole D.attr_handles ctx.new }
     {
         ctx.nodes.push_op_front(self, block);
@@ -32,7 +32,7 @@ impl Ptr<Operation> {
         requires linked { IsSome (parent_of ctx.old (IRNode.Operation mark)) }
         requires not_above { IsAncestor ctx.old (IRNode.Operation self) (IRNode.Operation mark) → ⊥ }
         ensures after { ctx.new ≡ with_op_before ctx.old self mark }
-        ensures placed { (n : IRNode) (xs ys : List IRNode) → kids ctx.old n ≡ xs ++ IRNode.Operation mark ∷ ys → IsPlaced ctx.old.nodes ctx.new.nodes (IRNode.Operation self) n (xs ++ IRNode.Operation self ∷ IRNode.Operation mark ∷ ys) }
+        ensures placed { IsPlacedBefore ctx.old.nodes ctx.new.nodes (IRNode.Operation self) (IRNode.Operation mark) }
         ensures whole { IsWhole D.attr_handles ctx.new }
     {
         ctx.nodes.insert_op_before(self, mark);
@@ -46,7 +46,7 @@ impl Ptr<Operation> {
         requires linked { IsSome (parent_of ctx.old (IRNode.Operation mark)) }
         requires not_above { IsAncestor ctx.old (IRNode.Operation self) (IRNode.Operation mark) → ⊥ }
         ensures after { ctx.new ≡ with_op_after ctx.old self mark }
-        ensures placed { (n : IRNode) (xs ys : List IRNode) → kids ctx.old n ≡ xs ++ IRNode.Operation mark ∷ ys → IsPlaced ctx.old.nodes ctx.new.nodes (IRNode.Operation self) n (xs ++ IRNode.Operation mark ∷ IRNode.Operation self ∷ ys) }
+        ensures placed { IsPlacedBehind ctx.old.nodes ctx.new.nodes (IRNode.Operation self) (IRNode.Operation mark) }
         ensures whole { IsWhole D.attr_handles ctx.new }
     {
         ctx.nodes.insert_op_after(self, mark);
@@ -71,7 +71,7 @@ impl Ptr<BasicBlock> {
         requires unlinked { parent_of ctx.old (IRNode.BasicBlock self) ≡ None }
         requires not_above { IsAncestor ctx.old (IRNode.BasicBlock self) (IRNode.Region region) → ⊥ }
         ensures after { ctx.new ≡ with_block_first ctx.old self region }
-        ensures placed { IsPlaced ctx.old.nodes ctx.new.nodes (IRNode.BasicBlock self) (IRNode.Region region) (IRNode.BasicBlock self ∷ kids ctx.old (IRNode.Region region)) }
+        ensures placed { IsPlacedFirst ctx.old.nodes ctx.new.nodes (IRNode.BasicBlock self) (IRNode.Region region) }
         ensures whole { IsWhole D.attr_handles ctx.new }
     {
         ctx.nodes.push_block_front(self, region);
@@ -85,7 +85,7 @@ impl Ptr<BasicBlock> {
         requires linked { IsSome (parent_of ctx.old (IRNode.BasicBlock mark)) }
         requires not_above { IsAncestor ctx.old (IRNode.BasicBlock self) (IRNode.BasicBlock mark) → ⊥ }
         ensures after { ctx.new ≡ with_block_before ctx.old self mark }
-        ensures placed { (n : IRNode) (xs ys : List IRNode) → kids ctx.old n ≡ xs ++ IRNode.BasicBlock mark ∷ ys → IsPlaced ctx.old.nodes ctx.new.nodes (IRNode.BasicBlock self) n (xs ++ IRNode.BasicBlock self ∷ IRNode.BasicBlock mark ∷ ys) }
+        ensures placed { IsPlacedBefore ctx.old.nodes ctx.new.nodes (IRNode.BasicBlock self) (IRNode.BasicBlock mark) }
         ensures whole { IsWhole D.attr_handles ctx.new }
     {
         ctx.nodes.insert_block_before(self, mark);
@@ -99,7 +99,7 @@ impl Ptr<BasicBlock> {
         requires linked { IsSome (parent_of ctx.old (IRNode.BasicBlock mark)) }
         requires not_above { IsAncestor ctx.old (IRNode.BasicBlock self) (IRNode.BasicBlock mark) → ⊥ }
         ensures after { ctx.new ≡ with_block_after ctx.old self mark }
-        ensures placed { (n : IRNode) (xs ys : List IRNode) → kids ctx.old n ≡ xs ++ IRNode.BasicBlock mark ∷ ys → IsPlaced ctx.old.nodes ctx.new.nodes (IRNode.BasicBlock self) n (xs ++ IRNode.BasicBlock mark ∷ IRNode.BasicBlock self ∷ ys) }
+        ensures placed { IsPlacedBehind ctx.old.nodes ctx.new.nodes (IRNode.BasicBlock self) (IRNode.BasicBlock mark) }
         ensures whole { IsWhole D.attr_handles ctx.new }
     {
         ctx.nodes.insert_block_after(self, mark);

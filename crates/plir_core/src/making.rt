@@ -1,7 +1,8 @@
 //! How nodes come into the arena.
-ghost use Rattle.std.specs.Prelude.{◌≡◌, ℕ, ◌+◌, ◌-◌, ◌<◌, ◌≤◌, ◌^◌, [], length, Option, Some, None, OnOk, OnErr, IfOk, IfErr, IsSome, ◌↔◌, ◌⊎◌, true, false};
-ghost use Rattle.plir_store.specs.Lists.{IsAgreed, parent_at, kids_at};
-ghost use Rattle.plir_store.specs.Table.{Table, content_at, num_full, next_slot};
+ghost use Rattle.std.specs.Prelude.{◌≡◌, ◌+◌, ◌-◌, ◌<◌, ◌≤◌, ◌^◌, length, Some, OnOk, OnErr, IfOk, IfErr, ◌↔◌, ◌⊎◌, true, false};
+ghost use Rattle.plir_store.specs.Lists.{IsAgreed};
+ghost use Rattle.plir_store.specs.Table.{content_at, num_full, next_slot};
+ghost use Rattle.plir_core.specs.Room.{IsFullForOp, IsFullForBlock, IsFullForRegion};
 ghost use Rattle.plir_core.specs.Nodes.{num_nodes, is_node_live, was_given_out, ptr_at};
 ghost use Rattle.plir_core.specs.Forest.{IsForest};
 ghost use Rattle.plir_core.specs.Edits.{IsFilled, SameNodes, room_child, room_list, with_new_op, with_new_block, with_new_region, with_new_regions};
@@ -82,7 +83,7 @@ impl<O, B> Arena<O, B> {
         ensures fresh { IfOk result (λ p. was_given_out self.old (IRNode.Region p) ≡ false) }
         ensures given { (n : IRNode) → was_given_out self.old n ≡ true → was_given_out self.new n ≡ true }
         ensures err { OnErr result (self.new ≡ self.old) }
-        ensures too_many { (result ≡ Err NodeErr.TooManyNodes) ↔ ((num_nodes self.old ≡ self.old.limit) ⊎ (2 ^ 32 - 1 ≤ next_slot self.old.regions)) }
+        ensures too_many { (result ≡ Err NodeErr.TooManyNodes) ↔ IsFullForRegion self.old }
         ensures forest { IsForest self.new }
     {
         if self.num_live() == self.limit || self.regions.next_slot() >= u32::MAX as usize {
@@ -132,7 +133,7 @@ impl<O: Drop, B: Drop> Arena<O, B> {
         ensures fresh { IfOk result (λ p. was_given_out self.old (IRNode.BasicBlock p) ≡ false) }
         ensures given { (n : IRNode) → was_given_out self.old n ≡ true → was_given_out self.new n ≡ true }
         ensures err { OnErr result (self.new ≡ self.old) }
-        ensures too_many { (result ≡ Err NodeErr.TooManyNodes) ↔ ((num_nodes self.old ≡ self.old.limit) ⊎ (2 ^ 32 - 1 ≤ next_slot self.old.blocks)) }
+        ensures too_many { (result ≡ Err NodeErr.TooManyNodes) ↔ IsFullForBlock self.old }
         ensures forest { IsForest self.new }
     {
         if self.num_live() == self.limit || self.blocks.next_slot() >= u32::MAX as usize {
@@ -165,7 +166,7 @@ impl<O: Drop, B: Drop> Arena<O, B> {
         ensures err { OnErr result (SameNodes self.old self.new) }
         ensures slots { OnErr result (IsUnmade self.old self.new value count) }
         ensures too_many { self.old.limit < num_nodes self.old + 1 + count → result ≡ Err NodeErr.TooManyNodes }
-        ensures too_many_only { result ≡ Err NodeErr.TooManyNodes → (self.old.limit < num_nodes self.old + 1 + count) ⊎ ((2 ^ 32 - 1 ≤ next_slot self.old.ops) ⊎ (2 ^ 32 - 1 + length self.old.regions.free < length self.old.regions.slots + count)) }
+        ensures too_many_only { result ≡ Err NodeErr.TooManyNodes → IsFullForOp self.old count }
         ensures forest { IsForest self.new }
     {
         let live = self.num_live();

@@ -1,5 +1,5 @@
 //! How nodes are linked and unlinked in the arena.
-ghost use Rattle.std.specs.Prelude.{◌≡◌, Option, Some, None, IsSome, true};
+ghost use Rattle.std.specs.Prelude.{◌≡◌, None, IsSome, true};
 ghost use Rattle.plir_store.specs.Lists.{with_first, with_last, with_before, with_after, without_child};
 ghost use Rattle.plir_core.specs.Above.{Reaches};
 ghost use Rattle.plir_core.specs.Nodes.{is_node_live, node_parent};

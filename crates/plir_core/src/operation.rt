@@ -1,5 +1,5 @@
 //! Calls on operations.
-ghost use Rattle.std.specs.Prelude.{◌≡◌, ◌∷◌, ◌++◌, ◌<◌, ◌+◌, ◌-◌, ◌^◌, ◌≤◌, ◌⊎◌, ℕ, All, [], Some, None, OnOk, OnErr, IfOk, IfSome, length, slice_get, option_map, true, false};
+ghost use Rattle.std.specs.Prelude.{◌≡◌, ◌<◌, ◌+◌, ◌-◌, All, [], Some, None, OnOk, OnErr, IfOk, IfSome, length, slice_get, option_map, true, false};
 ghost use Rattle.plir_data.specs.Types.{IsLive as IsTypeLive, AllLive};
 ghost use Rattle.plir_data.specs.AttrLive.{IsAttrLive, HandlesLive};
 ghost use Rattle.plir_data.specs.AttrSeen.{attr_view};
@@ -11,7 +11,8 @@ ghost use Rattle.plir_core.specs.Contents.{op_view};
 ghost use Rattle.plir_core.specs.Nodes.{ptr_at};
 ghost use Rattle.plir_core.specs.Store.{IsLive, IsValueLive, IsAncestor, is_live, kids, parent_of, op_above, region_above, first_kid, last_kid, next_sibling, prev_sibling, op_at, kind_of, result_types_of, operands_of, successors_of, attributes_of, given_out, num_live, limit};
 ghost use Rattle.plir_core.specs.Whole.{IsWhole};
-ghost use Rattle.plir_core.specs.Placed.{IsPlaced};
+ghost use Rattle.plir_core.specs.Room.{IsFullForOp};
+ghost use Rattle.plir_core.specs.Placed.{IsPlacedLast};
 ghost use Rattle.plir_core.specs.Unused.{kid_at};
 ghost use Rattle.plir_core.specs.Changes.{with_op_edit, with_op_last, with_op, SameLive};
 ghost use Rattle.plir_core.specs.declared.ptr.IRNode.{IRNode};
@@ -50,7 +51,7 @@ impl Operation {
         ensures err { OnErr result (SameLive ctx.old ctx.new) }
         ensures slots { OnErr result (IsUnmade ctx.old.nodes ctx.new.nodes (op_view kind result_types.items operands.items successors.items []) num_regions) }
         ensures too_many { limit ctx.old < num_live ctx.old + 1 + num_regions → result ≡ Err NodeErr.TooManyNodes }
-        ensures too_many_only { result ≡ Err NodeErr.TooManyNodes → (limit ctx.old < num_live ctx.old + 1 + num_regions) ⊎ ((2 ^ 32 - 1 ≤ next_slot ctx.old.nodes.ops) ⊎ (2 ^ 32 - 1 + length ctx.old.nodes.regions.free < length ctx.old.nodes.regions.slots + num_regions)) }
+        ensures too_many_only { result ≡ Err NodeErr.TooManyNodes → IsFullForOp ctx.old.nodes num_regions }
         ensures whole { IsWhole D.attr_handles ctx.new }
     {
         let attributes = AttributeDict::new(alloc);
@@ -92,7 +93,7 @@ impl Operation {
         ensures err { OnErr result (SameLive ctx.old ctx.new) }
         ensures slots { OnErr result (IsUnmade ctx.old.nodes ctx.new.nodes (op_view kind result_types.items operands.items successors.items attributes) num_regions) }
         ensures too_many { limit ctx.old < num_live ctx.old + 1 + num_regions → result ≡ Err NodeErr.TooManyNodes }
-        ensures too_many_only { result ≡ Err NodeErr.TooManyNodes → (limit ctx.old < num_live ctx.old + 1 + num_regions) ⊎ ((2 ^ 32 - 1 ≤ next_slot ctx.old.nodes.ops) ⊎ (2 ^ 32 - 1 + length ctx.old.nodes.regions.free < length ctx.old.nodes.regions.slots + num_regions)) }
+        ensures too_many_only { result ≡ Err NodeErr.TooManyNodes → IsFullForOp ctx.old.nodes num_regions }
         ensures whole { IsWhole D.attr_handles ctx.new }
     {
         let data = OpData {
@@ -329,7 +330,7 @@ impl Ptr<Operation> {
         requires unlinked { parent_of ctx.old (IRNode.Operation self) ≡ None }
         requires not_above { IsAncestor ctx.old (IRNode.Operation self) (IRNode.BasicBlock block) → ⊥ }
         ensures after { ctx.new ≡ with_op_last ctx.old self block }
-        ensures placed { IsPlaced ctx.old.nodes ctx.new.nodes (IRNode.Operation self) (IRNode.BasicBlock block) (kids ctx.old (IRNode.BasicBlock block) ++ IRNode.Operation self ∷ []) }
+        ensures placed { IsPlacedLast ctx.old.nodes ctx.new.nodes (IRNode.Operation self) (IRNode.BasicBlock block) }
         ensures whole { IsWhole D.attr_handles ctx.new }
     {
         ctx.nodes.push_op(self, block);

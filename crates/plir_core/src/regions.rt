@@ -1,9 +1,10 @@
 //! Calls that give regions to operations and erase them.
-ghost use Rattle.std.specs.Prelude.{◌≡◌, ◌<◌, ◌≤◌, ◌-◌, ◌^◌, ◌↔◌, ◌⊎◌, OnOk, OnErr, IfOk, length, true, false};
+ghost use Rattle.std.specs.Prelude.{◌≡◌, ◌<◌, ◌-◌, ◌↔◌, OnOk, OnErr, IfOk, length, true, false};
 ghost use Rattle.std.specs.List.{remove};
 ghost use Rattle.plir_store.specs.Table.{next_slot};
+ghost use Rattle.plir_core.specs.Room.{IsFullForRegion};
 ghost use Rattle.plir_core.specs.Nodes.{ptr_at};
-ghost use Rattle.plir_core.specs.Store.{IsLive, given_out, num_live, limit, kids};
+ghost use Rattle.plir_core.specs.Store.{IsLive, given_out, limit, kids};
 ghost use Rattle.plir_core.specs.Whole.{IsWhole};
 ghost use Rattle.plir_core.specs.Changes.{with_region};
 ghost use Rattle.plir_core.specs.Made.{IsRegionAdded};
@@ -32,7 +33,7 @@ impl Operation {
         ensures given { (n : IRNode) → given_out ctx.old n ≡ true → given_out ctx.new n ≡ true }
         ensures added { IfOk result (λ p. IsRegionAdded ctx.old.nodes ctx.new.nodes (IRNode.Operation op) (IRNode.Region p)) }
         ensures err { OnErr result (ctx.new ≡ ctx.old) }
-        ensures too_many { (result ≡ Err NodeErr.TooManyNodes) ↔ ((num_live ctx.old ≡ limit ctx.old) ⊎ (2 ^ 32 - 1 ≤ next_slot ctx.old.nodes.regions)) }
+        ensures too_many { (result ≡ Err NodeErr.TooManyNodes) ↔ IsFullForRegion ctx.old.nodes }
         ensures whole { IsWhole D.attr_handles ctx.new }
     {
         let region = ctx.nodes.make_region(op)?;

@@ -1,9 +1,9 @@
 //! Whether anything outside a tree of nodes uses what is in it.
-ghost use Rattle.std.specs.Prelude.{◌≡◌, ℕ, ◌<◌, All, Option, Some, None, IfSome, IsTrue, ◌↔◌, true, length};
+ghost use Rattle.std.specs.Prelude.{◌≡◌, ◌<◌, All, Option, Some, None, IfSome, IsTrue, ◌↔◌, true, length};
 ghost use Rattle.plir_store.specs.Table.{content_at};
 ghost use Rattle.plir_core.specs.Above.{Reaches};
 ghost use Rattle.plir_core.specs.Nodes.{is_node_live, node_parent, ptr_at};
-ghost use Rattle.plir_core.specs.Store.{IsLive, entity_node, operands_of, successors_of};
+ghost use Rattle.plir_core.specs.Store.{IsLive, entity_node};
 ghost use Rattle.plir_core.specs.Unused.{UsesNoneOf, IsUnusedAt, IsUnusedOutside};
 ghost use Rattle.plir_core.specs.declared.ptr.IRNode.{IRNode};
 

@@ -3,6 +3,7 @@ mod changes;
 mod deep;
 mod growing;
 mod naming;
+mod pass;
 mod plan;
 mod refused;
 mod scripts;

@@ -1,6 +1,6 @@
 //! The scripts of walks and names, with their answers.
 use super::naming::name;
-use super::walking::{walk, walk_plainly};
+use super::walking::{run_pass, walk, walk_plainly};
 use plir_scripts::{Bench, Layer, Line, Mismatch, NodeCalls, SampleSet, ScriptSet, Stop, play};
 use std::alloc::Global;
 
@@ -12,6 +12,7 @@ impl<D: ScriptSet> Layer<D> for WalkCalls {
         match line.command {
             "look" | "plainly-look" | "change" | "plainly-change" => walk(bench, line),
             "grow" | "unlabel" => walk_plainly(bench, line),
+            "pass" => run_pass(bench, line),
             "set-name" | "insert-name" | "remove-name" | "names" | "erase-names" => {
                 name(bench, line)
             }
@@ -572,5 +573,13 @@ fn names_below_are_erased(rt: HostRuntime) -> Result<(), Mismatch> {
         erase-names o0
         get o3 builtin_given_names => none
         show b1 => -, in r1 o1, between - -, operations o3 to o3, terminator -, arguments 0";
+    play_in(rt.alloc(), script)
+}
+
+#[test]
+fn a_pass_reshapes_what_it_has_made(rt: HostRuntime) -> Result<(), Mismatch> {
+    let script = "
+        pass plain - builtin.vec [ builtin.unit ] => builtin.vec [builtin.unit] o0 r0 b0 o1 r1 b1 r2 r3 advance
+        pass plain - builtin.nothing => refused";
     play_in(rt.alloc(), script)
 }

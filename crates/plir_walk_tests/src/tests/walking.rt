@@ -6,10 +6,11 @@ ghost use Rattle.plir_walk.specs.View.{look};
 
 use super::changes::{NOT_DONE, visit};
 use super::growing::{grow, unlabel};
+use super::pass::{module_with_function, note, reshape};
 use super::plan::{Plan, read_plan};
 use plir_core::{Context, IRNode};
 use plir_data::OpSet;
-use plir_scripts::{Answer, Bench, Line, Made, Stop};
+use plir_scripts::{Answer, Bench, Line, Made, ScriptSet, Stop};
 use plir_walk::interruptible::{WalkResult, walk_advance, walk_break};
 use plir_walk::{
     CallLimit, Direction, Order, WALKCONFIG_POSTORDER_FORWARD, WALKCONFIG_POSTORDER_REVERSE,
@@ -194,6 +195,21 @@ fn change_plainly<D: OpSet>(
         IRNode::BasicBlock(block) => walk_block(ctx, called, config, block, limit, follow),
     };
     found.map(|()| walk_advance())
+}
+
+/// Does what `pass KIND` says: makes a module with a function and an operation of an own kind in it, walks it by a callback that
+/// reshapes it, and writes the called nodes, the walk's answer, and what the attribute `builtin.unit` on the module prints.
+pub fn run_pass<D: ScriptSet>(bench: &mut Bench<D>, line: Line<'_>) -> Result<(), Stop> {
+    let kind = D::own_kind(line.first).ok_or(Stop::Refused)?;
+    let mut called = Vec::new(bench.alloc);
+    called.reserve(32)?;
+    let module = module_with_function(bench.alloc, &mut bench.ctx, kind)?;
+    let printed = note(bench.alloc, &mut bench.ctx, module, line.tail).ok_or(Stop::Refused)?;
+    bench.answer.put(&printed);
+    let found = reshape(bench.alloc, &mut bench.ctx, module, &mut called);
+    name_new(&mut bench.made, called.as_slice())?;
+    put_walk(&bench.made, &mut bench.answer, called.as_slice(), found);
+    Ok(())
 }
 
 // Names the called nodes that have no name.
