@@ -197,6 +197,7 @@ impl Ptr<BasicBlock> {
         requires live { IsLive ctx.old (IRNode.BasicBlock self) }
         requires handles { IsAttrLive D.attr_handles ctx.old.types (attr_view value) }
         ensures ok { OnOk result (ctx.new ≡ with_block_edit ctx.old self (λ b. record b { attributes = dict_put b.attributes key (attr_view value) })) }
+        ensures attributes { OnOk result (block_attributes_of ctx.new self ≡ dict_put (block_attributes_of ctx.old self) key (attr_view value)) }
         ensures err { OnErr result (ctx.new ≡ ctx.old) }
         ensures whole { IsWhole D.attr_handles ctx.new }
     {

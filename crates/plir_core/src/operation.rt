@@ -316,6 +316,7 @@ impl Ptr<Operation> {
         requires live { IsLive ctx.old (IRNode.Operation self) }
         requires handles { IsAttrLive D.attr_handles ctx.old.types (attr_view value) }
         ensures ok { OnOk result (ctx.new ≡ with_op_edit ctx.old self (λ o. record o { attributes = dict_put o.attributes key (attr_view value) })) }
+        ensures attributes { OnOk result (attributes_of ctx.new self ≡ dict_put (attributes_of ctx.old self) key (attr_view value)) }
         ensures err { OnErr result (ctx.new ≡ ctx.old) }
         ensures whole { IsWhole D.attr_handles ctx.new }
     {

@@ -8,9 +8,9 @@ ghost use Rattle.plir_walk.specs.Forest.{Lawful};
 ghost use Rattle.plir_walk.specs.View.{look};
 
 use super::changes::NOT_DONE;
-use plir_core::laws::kid_at;
+use plir_core::laws::{growth, kid_at, op_edits_keep_the_rest};
 use plir_core::{BasicBlock, Context, IRNode, NodeErr, Operation, Ptr, Region};
-use plir_data::{Identifier, OpKind, OpSet};
+use plir_data::{Identifier, Memory, OpKind, OpSet};
 use plir_text::{print_attr, read_attr};
 use plir_walk::interruptible::mutable::walk_op;
 use plir_walk::interruptible::{WalkResult, walk_advance, walk_break};
@@ -82,6 +82,7 @@ fn append<D: OpSet>(
 {
     lawful_changes::<D>();
     ctx.forest();
+    growth(ctx);
     let results = Vec::new(alloc);
     let operands = Vec::new(alloc);
     let successors = Vec::new(alloc);
@@ -89,8 +90,7 @@ fn append<D: OpSet>(
     let region = op.get_region(ctx, 0);
     op.insert_at_back(block, ctx);
     kid_at(ctx, IRNode::Operation(op), IRNode::Region(region), 0);
-    let entry = fill(alloc, ctx, region)?;
-    Ok(entry)
+    fill(alloc, ctx, region)
 }
 
 // Gives a region to an operation.
@@ -122,8 +122,7 @@ fn replace_last<D: OpSet>(
         return Ok(());
     }
     Operation::erase(last, ctx);
-    append(alloc, ctx, OpKind::Func, block)?;
-    Ok(())
+    append(alloc, ctx, OpKind::Func, block).map(|_entry| ())
 }
 
 // Notes a node; gives a region to it if it is an operation, and has its last operation replaced if it is a block.
@@ -177,10 +176,17 @@ pub fn note<D: OpSet>(
 ) -> Option<String>
     requires { IsLive ctx.old (AnyNode.Operation op) }
 {
-    let attr = read_attr(alloc, ctx, text).ok()?;
-    let key = Identifier::try_new(alloc, "note").ok()?;
-    op.set_attr(ctx, key, attr).ok()?;
-    print_note(alloc, ctx, op)
+    let Ok(attr) = read_attr(alloc, ctx, text) else {
+        return None;
+    };
+    let Ok(key) = Identifier::try_new(alloc, "note") else {
+        return None;
+    };
+    op_edits_keep_the_rest(ctx, op);
+    match op.set_attr(ctx, key, attr) {
+        Ok(()) => print_note(alloc, ctx, op),
+        Err(Memory) => None,
+    }
 }
 
 // Verifies the attribute under `note`, and prints it.
