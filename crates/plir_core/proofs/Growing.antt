@@ -11,7 +11,7 @@ use Rattle.plir_core.specs.Placed.{MovesOnly}
 use Rattle.plir_core.specs.Grown.{PlacedIsGrown, RegionIsGrown, GrownTwice, MadeAndGrown, Growth}
 use Rattle.plir_core.proofs.Freed.{bool_cases}
 use Rattle.plir_core.proofs.NewNodes.{apart_new}
-use Rattle.plir_core.proofs.Added.{KeepsLive-on, climb_kept}
+use Rattle.plir_core.proofs.Added.{KeepsLive-on, SameNodes-unmade, climb_kept}
 
 climb_nowhere : (up : IRNode → Option IRNode) (k : ℕ) → climb up k None ≡ None
 climb_nowhere up zero = refl
@@ -121,4 +121,4 @@ module _ {O B : Type 0} where
   }
 
   pub growth : (s : Nodes O B) → IsForest s → Growth s
-  growth s w = record { placed = placed_grown s; region = region_grown s; twice = grown_twice s; made = made_grown s w }
+  growth s w = record { placed = placed_grown s; region = region_grown s; twice = grown_twice s; made = made_grown s w; unmade = λ t u n m x. SameNodes-unmade s t u w n m x }

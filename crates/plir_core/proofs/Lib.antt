@@ -32,3 +32,4 @@ pub mod Joining
 pub mod KidPlaces
 pub mod Indices
 pub mod Standing
+pub mod MadeUnused

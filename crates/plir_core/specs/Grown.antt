@@ -6,6 +6,8 @@ use Rattle.plir_core.specs.Nodes.{Nodes, is_node_live, was_given_out, node_kids,
 use Rattle.plir_core.specs.Forest.{IsForest}
 use Rattle.plir_core.specs.Made.{KeepsLive, IsRegionAdded, IsMade}
 use Rattle.plir_core.specs.Placed.{IsPlaced}
+use Rattle.plir_core.specs.Edits.{SameNodes}
+use Rattle.plir_core.specs.Erase.{IsErased}
 
 module _ {O B : Type 0} where
   -- From s to t nodes are new, all below `over`, whose kids may be others; nothing else has changed, and the pointers of the
@@ -32,9 +34,14 @@ module _ {O B : Type 0} where
   abbrev pub MadeAndGrown : Nodes O B → Type 0
   MadeAndGrown s = (t u : Nodes O B) (n over : IRNode) → IsForest t → IsMade s t n → is_node_live t over ≡ true → is_node_live s over ≡ false → IsGrown t u over → IsMade s u n
 
+  -- where a tree that was made is erased again, no live node has changed
+  abbrev pub MadeAndErased : Nodes O B → Type 0
+  MadeAndErased s = (t u : Nodes O B) (n : IRNode) → IsMade s t n → IsErased t u n → SameNodes s u
+
   -- How trees grow from s on.
   pub record Growth (s : Nodes O B) : Type 0 where
     pub placed : PlacedIsGrown s
     pub region : RegionIsGrown s
     pub twice : GrownTwice s
     pub made : MadeAndGrown s
+    pub unmade : MadeAndErased s

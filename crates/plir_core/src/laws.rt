@@ -8,6 +8,8 @@ ghost use Rattle.plir_core.specs.Standing.{IsStanding};
 ghost use Rattle.plir_core.specs.Changes.{with_op_edit, with_block_edit};
 ghost use Rattle.plir_core.specs.Held.{IsOpEdited, IsBlockEdited};
 ghost use Rattle.plir_core.specs.Grown.{Growth};
+ghost use Rattle.plir_core.specs.Made.{IsMade};
+ghost use Rattle.plir_core.specs.Unused.{IsUnusedOutside};
 ghost use Rattle.plir_core.specs.declared.ptr.IRNode.{IRNode as AnyNode};
 
 use crate::context::Context;
@@ -65,7 +67,15 @@ pub fn block_edits_keep_the_rest<D: OpSet>(ctx: &Context<D>, block: Ptr<BasicBlo
     let _count = ctx.num_live();
 }
 
-/// How trees grow from a context on: what is made and put below a node, and what is made in many steps.
+/// What was made is used by nothing outside it: a refusal in the midst of a larger make can erase it.
+pub fn what_was_made_is_unused<D: OpSet>(ctx: &Context<D>)
+    ensures { (made : Store D.Kind D.Attr D.Ty) (root : AnyNode) → IsMade ctx.now.nodes made.nodes root → IsUnusedOutside made root }
+{
+    let _count = ctx.num_live();
+}
+
+/// How trees grow from a context on: what is made and put below a node, what is made in many steps, and what is made and erased
+/// again.
 pub fn growth<D: OpSet>(ctx: &Context<D>)
     ensures { Growth ctx.now.nodes }
 {

@@ -1,5 +1,5 @@
 -- The rules of branches and of successors, and how they are refused.
-use Rattle.std.specs.Prelude.{◌≡◌, ◌≢◌, ◌<◌, ◌-◌, ℕ, List, length, map, slice_get, slice_range, Bool, false, Option, Some, string_bytes}
+use Rattle.std.specs.Prelude.{◌≡◌, ◌≢◌, ◌<◌, ◌+◌, ◌-◌, ℕ, List, [], ◌∷◌, ◌++◌, insert, remove, length, map, slice_get, slice_range, Bool, false, Option, Some, string_bytes}
 use Rattle.plir_data.specs.Dictionary.{dict_get}
 use Rattle.plir_data.specs.Types.{TypeView, IsLive as IsTypeLive}
 use Rattle.plir_data.specs.TypeText.{type_text}
@@ -97,3 +97,10 @@ module _ {K A T : Type 0} where
     pub operands_now : operands_of t op ≡ operands
     pub here : operands_within t op (new i) ≡ values
     pub others : (j : ℕ) → j < num_successors s op → j ≢ i → operands_within t op (new j) ≡ operands_within s op (old j)
+
+  -- its successor i gets one more value, behind the others; or one less, that for its argument at a place
+  abbrev pub IsForwardedMore : (s t : Store K A T) → Ptr OperationKind → (tells_layout : List ℕ → Bool) → (old new : ℕ → Range) → (i : ℕ) → Value → Type 0
+  IsForwardedMore s t op tells_layout old new i v = IsReforwarded s t op tells_layout old new i (insert (operands_of s op) (old i).1 v) (operands_within s op (old i) ++ v ∷ [])
+
+  abbrev pub IsForwardedLess : (s t : Store K A T) → Ptr OperationKind → (tells_layout : List ℕ → Bool) → (old new : ℕ → Range) → (i place : ℕ) → Type 0
+  IsForwardedLess s t op tells_layout old new i place = IsReforwarded s t op tells_layout old new i (remove (operands_of s op) ((old i).0 + place)) (remove (operands_within s op (old i)) place)

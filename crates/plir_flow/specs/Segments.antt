@@ -1,5 +1,5 @@
 -- Operands in segments: a list of lists, whose lengths are the sizes and whose flattening is the operands.
-use Rattle.std.specs.Prelude.{◌≡◌, ℕ, zero, suc, ◌+◌, List, [], ◌∷◌, length, map, take, drop, sum, slice_index_or, slice_range, false, Option, Some, None, IsSome, unwrap_or, option_and_then, codes}
+use Rattle.std.specs.Prelude.{◌≡◌, ℕ, zero, suc, ◌+◌, List, [], ◌∷◌, insert, remove, length, map, take, drop, sum, slice_index_or, slice_range, false, Option, Some, None, IsSome, unwrap_or, option_and_then, codes}
 use Rattle.std.specs.List.{flat_map}
 use Rattle.plir_data.specs.AttrView.{AttrView, leaf, operand_segment_sizes}
 use Rattle.plir_data.specs.Dictionary.{dict_get, dict_put, is_key}
@@ -119,3 +119,14 @@ module _ {K A T : Type 0} where
     pub successors : successors_of t op ≡ successors_of s op
     pub location : location_of t op ≡ location_of s op
     pub attributes : (k : List ℕ) → is_key k sizes_key ≡ false → dict_get (attributes_of t op) k ≡ dict_get (attributes_of s op) k
+
+  -- From s to t one segment of an operation has been edited, and beside the sizes nothing else has changed.
+  abbrev pub IsSegmentEdited : (s t : Store K A T) → Ptr OperationKind → ℕ → (List Value → List Value) → Type 0
+  IsSegmentEdited s t op seg f = IsResegmented s t op (edit_at seg f (segments_of s op))
+
+  -- one more operand has come in at a place, or one has gone from there
+  abbrev pub IsOperandPut : (s t : Store K A T) → Ptr OperationKind → ℕ → Value → Type 0
+  IsOperandPut s t op i v = operands_of t op ≡ insert (operands_of s op) i v
+
+  abbrev pub IsOperandTaken : (s t : Store K A T) → Ptr OperationKind → ℕ → Type 0
+  IsOperandTaken s t op i = operands_of t op ≡ remove (operands_of s op) i

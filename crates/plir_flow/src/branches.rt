@@ -1,11 +1,11 @@
 //! The interface of operations that branch to other blocks.
-ghost use Rattle.std.specs.Prelude.{◌≡◌, ◌↔◌, ◌<◌, ◌≤◌, ◌+◌, ◌-◌, ◌^◌, ◌∷◌, ◌++◌, ℕ, [], Some, All, IsOk, IfOk, IfErr, OnOk, OnErr, length, insert, remove, slice_get, slice_set};
+ghost use Rattle.std.specs.Prelude.{◌≡◌, ◌↔◌, ◌<◌, ◌≤◌, ◌+◌, ◌-◌, ◌^◌, ℕ, Some, All, IsOk, IfOk, IfErr, OnOk, OnErr, length, slice_get, slice_set};
 ghost use Rattle.plir_core.specs.declared.ptr.IRNode.{IRNode};
 ghost use Rattle.plir_core.specs.Store.{IsLive, IsValueLive, operands_of, successors_of};
 ghost use Rattle.plir_core.specs.Whole.{IsWhole};
 ghost use Rattle.plir_core.specs.Changes.{with_op_edit};
 ghost use Rattle.plir_iface.specs.Verdict.{IsRefusal, IsRefusalMemoryAside};
-ghost use Rattle.plir_flow.specs.Branches.{num_successors, HasNSuccs, operands_within, HasBranchRule, IsBranchFault, IsReforwarded};
+ghost use Rattle.plir_flow.specs.Branches.{num_successors, HasNSuccs, operands_within, HasBranchRule, IsBranchFault, IsForwardedMore, IsForwardedLess};
 
 use crate::branch_errors::{BranchOpInterfaceVerifyErr, NSuccsVerifyErr};
 use crate::forwarding::{as_layout, find_first_mismatch, tell};
@@ -72,7 +72,7 @@ pub trait BranchOpInterface<D: OpSet>: IsTerminatorInterface<D> {
         requires room { length (operands_within ctx.old (Self.pointer self.now) (forwards self.now ctx.old succ)) < 2 ^ 32 - 1 }
         requires operand_live { IsValueLive ctx.old operand }
         ensures index { IfOk result (λ i. i ≡ length (operands_within ctx.old (Self.pointer self.now) (forwards self.now ctx.old succ))) }
-        ensures ok { OnOk result (IsReforwarded ctx.old ctx.new (Self.pointer self.now) (tells_layout self.now) (forwards self.now ctx.old) (forwards self.now ctx.new) succ (insert (operands_of ctx.old (Self.pointer self.now)) (forwards self.now ctx.old succ).1 operand) (operands_within ctx.old (Self.pointer self.now) (forwards self.now ctx.old succ) ++ operand ∷ [])) }
+        ensures ok { OnOk result (IsForwardedMore ctx.old ctx.new (Self.pointer self.now) (tells_layout self.now) (forwards self.now ctx.old) (forwards self.now ctx.new) succ operand) }
         ensures layout { OnOk result (has_layout self.now ctx.new) }
         ensures err { OnErr result (ctx.new ≡ ctx.old) }
         ensures whole { IsWhole D.attr_handles ctx.new };
@@ -84,7 +84,7 @@ pub trait BranchOpInterface<D: OpSet>: IsTerminatorInterface<D> {
         requires below { succ < num_successors ctx.old (Self.pointer self.now) }
         requires within { arg < length (operands_within ctx.old (Self.pointer self.now) (forwards self.now ctx.old succ)) }
         ensures value { slice_get (operands_within ctx.old (Self.pointer self.now) (forwards self.now ctx.old succ)) arg ≡ Some result }
-        ensures after { IsReforwarded ctx.old ctx.new (Self.pointer self.now) (tells_layout self.now) (forwards self.now ctx.old) (forwards self.now ctx.new) succ (remove (operands_of ctx.old (Self.pointer self.now)) ((forwards self.now ctx.old succ).0 + arg)) (remove (operands_within ctx.old (Self.pointer self.now) (forwards self.now ctx.old succ)) arg) }
+        ensures after { IsForwardedLess ctx.old ctx.new (Self.pointer self.now) (tells_layout self.now) (forwards self.now ctx.old) (forwards self.now ctx.new) succ arg }
         ensures layout { has_layout self.now ctx.new }
         ensures whole { IsWhole D.attr_handles ctx.new };
 

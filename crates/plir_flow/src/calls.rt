@@ -1,5 +1,5 @@
 //! The interface of operations that call functions.
-ghost use Rattle.std.specs.Prelude.{◌≡◌, ◌↔◌, ◌≤◌, ℕ, Bool, Some, All, IsOk, IsNone, IfSome, IfOk, IfErr, OnOk, OnErr, is_some, length};
+ghost use Rattle.std.specs.Prelude.{◌≡◌, ◌↔◌, ◌≤◌, Some, All, IsOk, IsNone, IfSome, IfOk, IfErr, OnOk, OnErr, is_some, length};
 ghost use Rattle.plir_data.specs.AttrSeen.{attr_view};
 ghost use Rattle.plir_data.specs.AttrView.{leaf, type_of};
 ghost use Rattle.plir_data.specs.Dictionary.{dict_put};

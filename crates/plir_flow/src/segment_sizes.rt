@@ -1,5 +1,5 @@
 //! The sizes of an operation's segments, in its attributes.
-ghost use Rattle.std.specs.Prelude.{◌≡◌, ◌<◌, ◌≤◌, ◌+◌, ℕ, length, sum, take, slice_set, option_map, IsSome};
+ghost use Rattle.std.specs.Prelude.{◌≡◌, ◌<◌, ◌≤◌, ◌+◌, length, sum, slice_set, option_map, IsSome};
 ghost use Rattle.plir_data.specs.AttrSeen.{attr_view};
 ghost use Rattle.plir_data.specs.AttrView.{leaf, unit};
 ghost use Rattle.plir_data.specs.Dictionary.{dict_get};

@@ -1,5 +1,5 @@
 //! Interfaces of operations whose operands in one segment have a type that is asked for.
-ghost use Rattle.std.specs.Prelude.{◌≡◌, ◌↔◌, ◌<◌, ◌≤◌, ℕ, IsOk, IfErr, IsNone, IfSome, length};
+ghost use Rattle.std.specs.Prelude.{◌≡◌, ◌↔◌, ◌<◌, ℕ, IsOk, IfErr, IsNone, IfSome};
 ghost use Rattle.plir_core.specs.declared.ptr.IRNode.{IRNode};
 ghost use Rattle.plir_core.specs.Store.{IsLive};
 ghost use Rattle.plir_core.specs.Whole.{IsWhole};

@@ -1,0 +1,6 @@
+-- What the contracts of this crate cite.
+--
+--   BuiltinOps   HoldsOneBlock and its kin: what the builtin operations hold, and the trees that their constructors make
+--   OpMaking     what the constructors share
+pub mod BuiltinOps
+pub mod OpMaking
