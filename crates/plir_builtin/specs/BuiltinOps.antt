@@ -1,5 +1,5 @@
 -- What the builtin operations hold, and the trees that their constructors make.
-use Rattle.std.specs.Prelude.{◌≡◌, ℕ, List, [], ◌∷◌, Option, None, Some, codes, option_and_then, MatchOption}
+use Rattle.std.specs.Prelude.{◌≡◌, ℕ, List, [], ◌∷◌, Option, None, Some, codes, option_and_then, MatchOption, slice_get}
 use Rattle.plir_data.specs.AttrView.{AttrView, leaf, identifier, type_of}
 use Rattle.plir_data.specs.AttrCalls.{attr_type}
 use Rattle.plir_data.specs.Dictionary.{dict_get, dict_put}
@@ -12,7 +12,7 @@ use Rattle.plir_core.specs.declared.ptr.BasicBlock.{BasicBlock as BasicBlockKind
 use Rattle.plir_core.specs.declared.ptr.IRNode.{IRNode}
 use Rattle.plir_core.specs.declared.ptr.IRNode.TheVariants.{Operation, Region, BasicBlock}
 use Rattle.plir_core.specs.Contents.{OpView, BlockView, op_view}
-use Rattle.plir_core.specs.Store.{Store, attributes_of, first_kid, kids, op_at, block_at}
+use Rattle.plir_core.specs.Store.{Store, attributes_of, result_types_of, first_kid, kids, op_at, block_at}
 
 -- the keys that a symbol's name, a function's type and a constant's value stand under
 abbrev pub name_key : List ℕ
@@ -84,3 +84,15 @@ module _ {K A T : Type 0} where
   -- the first block of the first region, if there is one
   abbrev pub entry_of : Store K A T → Ptr OperationKind → Option IRNode
   entry_of s op = option_and_then (first_kid s) (first_kid s (Operation op))
+
+  -- the value of a constant, if there is one
+  abbrev pub value_of : Store K A T → Ptr OperationKind → Option (AttrView A)
+  value_of s op = dict_get (attributes_of s op) value_key
+
+  -- The rule of constants: a value is there, it has a type, and that is the type of the result.
+  pub record HasConstantValue (own_type : A → Option ℕ) (s : Store K A T) (op : Ptr OperationKind) : Type 0 where
+    pub value : AttrView A
+    pub type : ℕ
+    pub there : value_of s op ≡ Some value
+    pub typed : attr_type own_type value ≡ Some type
+    pub result : slice_get (result_types_of s op) 0 ≡ Some type

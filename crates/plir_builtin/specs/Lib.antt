@@ -1,6 +1,8 @@
 -- What the contracts of this crate cite.
 --
 --   BuiltinOps   HoldsOneBlock and its kin: what the builtin operations hold, and the trees that their constructors make
+--   ConstantFaults  IsConstantFault: how constants break their rule
 --   OpMaking     what the constructors share
 pub mod BuiltinOps
+pub mod ConstantFaults
 pub mod OpMaking

@@ -7,9 +7,9 @@ mod func_op;
 mod module_op;
 mod op_making;
 
-pub use constant_op::ConstantOp;
+pub use constant_op::{ConstantOp, ConstantOpVerifyErr};
 pub use forward_ref_op::ForwardRefOp;
-pub use func_op::FuncOp;
+pub use func_op::{FuncOp, FuncOpTypeErr};
 pub use module_op::ModuleOp;
 
 /// The key that a symbol's name stands under.
