@@ -81,6 +81,13 @@ impl ConstantOp {
         Ok(ConstantOp { op })
     }
 
+    // The operation, without the op set to be named.
+    pub(crate) fn operation(self) -> Ptr<Operation>
+        ensures { result ≡ self.op }
+    {
+        self.op
+    }
+
     /// The operation as a constant, if it is one.
     pub fn from_operation<D: OpSet>(ctx: &Context<D>, op: Ptr<Operation>) -> Option<ConstantOp>
         requires { IsLive ctx.now (AnyNode.Operation op) }

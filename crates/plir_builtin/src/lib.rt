@@ -4,12 +4,14 @@
 mod constant_op;
 mod forward_ref_op;
 mod func_op;
+mod materializable;
 mod module_op;
 mod op_making;
 
 pub use constant_op::{ConstantOp, ConstantOpVerifyErr};
-pub use forward_ref_op::ForwardRefOp;
+pub use forward_ref_op::{ForwardRefOp, ForwardRefOpExistenceErr};
 pub use func_op::{FuncOp, FuncOpTypeErr};
+pub use materializable::MaterializableAttr;
 pub use module_op::ModuleOp;
 
 /// The key that a symbol's name stands under.
