@@ -1,0 +1,3 @@
+pub mod Single
+pub mod LiveTypes
+pub mod ConstantRefusals

@@ -1,0 +1,98 @@
+-- What the builtin operations hold, and the trees that their constructors make.
+use Rattle.std.specs.Prelude.{◌≡◌, ℕ, List, [], ◌∷◌, Option, None, Some, codes, option_and_then, MatchOption, slice_get}
+use Rattle.plir_data.specs.AttrView.{AttrView, leaf, identifier, type_of}
+use Rattle.plir_data.specs.AttrCalls.{attr_type}
+use Rattle.plir_data.specs.Dictionary.{dict_get, dict_put}
+use Rattle.plir_data.specs.Types.{TypeView, IsMarked, function, is_function, unit, type_at}
+use Rattle.plir_data.specs.declared.op_set.OpKind.TheVariants.{Module, Func, Constant, ForwardRef}
+use Rattle.plir_core.specs.declared.ptr.Ptr.{Ptr}
+use Rattle.plir_core.specs.declared.ptr.Operation.{Operation as OperationKind}
+use Rattle.plir_core.specs.declared.ptr.Region.{Region as RegionKind}
+use Rattle.plir_core.specs.declared.ptr.BasicBlock.{BasicBlock as BasicBlockKind}
+use Rattle.plir_core.specs.declared.ptr.IRNode.{IRNode}
+use Rattle.plir_core.specs.declared.ptr.IRNode.TheVariants.{Operation, Region, BasicBlock}
+use Rattle.plir_core.specs.Contents.{OpView, BlockView, op_view}
+use Rattle.plir_core.specs.Store.{Store, attributes_of, result_types_of, first_kid, kids, op_at, block_at}
+
+-- the keys that a symbol's name, a function's type and a constant's value stand under
+abbrev pub name_key : List ℕ
+name_key = codes "builtin_sym_name"
+
+abbrev pub func_type_key : List ℕ
+func_type_key = codes "builtin_func_type"
+
+abbrev pub value_key : List ℕ
+value_key = codes "builtin_constant_value"
+
+-- the attributes of a new function, by its name and its type
+abbrev pub func_attributes : {A : Type 0} → List ℕ → ℕ → List (List ℕ × AttrView A)
+func_attributes name ty = dict_put (dict_put [] name_key (leaf (identifier name))) func_type_key (leaf (type_of ty))
+
+-- a handle names a type of functions, with arguments of these types
+abbrev pub HasArguments : {T : Type 0} → List (TypeView T) → ℕ → List ℕ → Type 0
+HasArguments types ty arguments = (results : List ℕ) × (type_at types ty ≡ Some (function arguments results))
+
+module _ {K A T : Type 0} where
+  -- An operation has one region, which holds one block, in which nothing stands; this is what operation and block hold.
+  pub record HoldsOneBlock (s : Store K A T) (op : Ptr OperationKind) (held : OpView K A) (block_held : BlockView A) : Type 0 where
+    pub region : Ptr RegionKind
+    pub block : Ptr BasicBlockKind
+    pub holds : op_at s op ≡ Some held
+    pub regions : kids s (Operation op) ≡ Region region ∷ []
+    pub blocks : kids s (Region region) ≡ BasicBlock block ∷ []
+    pub block_holds : block_at s block ≡ Some block_held
+    pub empty : kids s (BasicBlock block) ≡ []
+
+  -- a new module has a name, and its block has no label and no argument
+  abbrev pub IsNewModule : Store K A T → Ptr OperationKind → (name : List ℕ) → Type 0
+  IsNewModule s op name = HoldsOneBlock s op (op_view Module [] [] [] (dict_put [] name_key (leaf (identifier name)))) (record { label = None; arg_types = []; attributes = [] })
+
+  -- a new function has a name and a type of functions, and the arguments of its block, labelled `entry`, have the types of the type's
+  pub record IsNewFunc (s : Store K A T) (op : Ptr OperationKind) (name : List ℕ) (ty : ℕ) : Type 0 where
+    pub arguments : List ℕ
+    pub typed : HasArguments s.types ty arguments
+    pub tree : HoldsOneBlock s op (op_view Func [] [] [] (func_attributes name ty)) (record { label = Some (codes "entry"); arg_types = arguments; attributes = [] })
+
+  -- a new constant has a value, and one result of the value's type; `own_type` gives the type of the user's own attributes
+  pub record IsNewConstant (own_type : A → Option ℕ) (s : Store K A T) (op : Ptr OperationKind) (value : AttrView A) : Type 0 where
+    pub type : ℕ
+    pub typed : attr_type own_type value ≡ Some type
+    pub holds : op_at s op ≡ Some (op_view Constant (type ∷ []) [] [] (dict_put [] value_key value))
+    pub no_regions : kids s (Operation op) ≡ []
+
+  -- a new forward reference has one result of the unit type, and nothing else
+  pub record IsNewForwardRef (s : Store K A T) (op : Ptr OperationKind) : Type 0 where
+    pub type : ℕ
+    pub typed : type_at s.types type ≡ Some unit
+    pub holds : op_at s op ≡ Some (op_view ForwardRef (type ∷ []) [] [] [])
+    pub no_regions : kids s (Operation op) ≡ []
+
+-- the type in an attribute of a type
+abbrev pub type_in_attr : {A : Type 0} → AttrView A → Option ℕ
+type_in_attr (leaf (type_of t)) = Some t
+type_in_attr _ = None
+
+module _ {K A T : Type 0} where
+  -- the type under a function's key, if an attribute of a type stands there
+  abbrev pub func_type_of : Store K A T → Ptr OperationKind → Option ℕ
+  func_type_of s op = option_and_then type_in_attr (dict_get (attributes_of s op) func_type_key)
+
+  -- The rule of functions: an attribute of a type stands under the key, and the type is one that `FunctionType` makes.
+  abbrev pub HasFuncType : Store K A T → Ptr OperationKind → Type 0
+  HasFuncType s op = MatchOption (func_type_of s op) ⊥ (IsMarked is_function s.types)
+
+  -- the first block of the first region, if there is one
+  abbrev pub entry_of : Store K A T → Ptr OperationKind → Option IRNode
+  entry_of s op = option_and_then (first_kid s) (first_kid s (Operation op))
+
+  -- the value of a constant, if there is one
+  abbrev pub value_of : Store K A T → Ptr OperationKind → Option (AttrView A)
+  value_of s op = dict_get (attributes_of s op) value_key
+
+  -- The rule of constants: a value is there, it has a type, and that is the type of the result.
+  pub record HasConstantValue (own_type : A → Option ℕ) (s : Store K A T) (op : Ptr OperationKind) : Type 0 where
+    pub value : AttrView A
+    pub type : ℕ
+    pub there : value_of s op ≡ Some value
+    pub typed : attr_type own_type value ≡ Some type
+    pub result : slice_get (result_types_of s op) 0 ≡ Some type

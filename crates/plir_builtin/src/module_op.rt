@@ -1,0 +1,91 @@
+//! Modules.
+ghost use Rattle.std.specs.Prelude.{◌≡◌, ◌↔◌, true, Some, Ok, OnErr, IfOk, IfSome, IsSome};
+ghost use Rattle.plir_store.specs.Table.{next_slot};
+ghost use Rattle.plir_data.specs.declared.op_set.OpKind.{OpKind as AnyKind};
+ghost use Rattle.plir_core.specs.Changes.{SameLive};
+ghost use Rattle.plir_core.specs.Made.{IsMade};
+ghost use Rattle.plir_core.specs.Nodes.{ptr_at};
+ghost use Rattle.plir_core.specs.Store.{IsLive, given_out, kind_of};
+ghost use Rattle.plir_core.specs.Whole.{IsWhole};
+ghost use Rattle.plir_core.specs.declared.ptr.IRNode.{IRNode as AnyNode};
+ghost use Rattle.plir_builtin.specs.BuiltinOps.{IsNewModule};
+
+use crate::op_making::{named, new_with_block};
+use plir_core::{Context, NodeErr, Operation, Ptr};
+use plir_data::{Identifier, OpKind, OpSet};
+use plir_iface::{
+    IsolatedFromAboveInterface, NOpdsInterface, NResultsInterface, NoTerminatorInterface,
+    OneRegionInterface, Op, RegionKind, RegionKindInterface, SingleBlockRegionInterface,
+};
+use std::alloc::Global;
+
+/// A module, the container at the top: a symbol and a symbol table with one region of one block, which has no terminator.
+#[derive(Clone, Copy)]
+pub struct ModuleOp {
+    op: Ptr<Operation>,
+}
+
+impl ModuleOp {
+    /// A new module of a name, in no block. After a refusal no live node has changed.
+    pub fn new<D: OpSet>(
+        alloc: Global,
+        ctx: &mut Context<D>,
+        name: Identifier,
+    ) -> Result<ModuleOp, NodeErr>
+        ensures made { IfOk result (λ m. IsMade ctx.old.nodes ctx.new.nodes (AnyNode.Operation m.op)) }
+        ensures pointer { IfOk result (λ m. m.op ≡ ptr_at ctx.new.nodes.ops (next_slot ctx.old.nodes.ops)) }
+        ensures tree { IfOk result (λ m. IsNewModule ctx.new m.op name) }
+        ensures types { ctx.new.types ≡ ctx.old.types }
+        ensures given { (n : AnyNode) → given_out ctx.old n ≡ true → given_out ctx.new n ≡ true }
+        ensures err { OnErr result (SameLive ctx.old ctx.new) }
+        ensures whole { IsWhole D.attr_handles ctx.new }
+    {
+        let _live = ctx.num_live();
+        let attributes = named(alloc, name)?;
+        let arg_types = Vec::new(alloc);
+        let op = new_with_block(alloc, ctx, OpKind::Module, attributes, None, arg_types)?;
+        Ok(ModuleOp { op })
+    }
+
+    /// The operation as a module, if it is one.
+    pub fn from_operation<D: OpSet>(ctx: &Context<D>, op: Ptr<Operation>) -> Option<ModuleOp>
+        requires { IsLive ctx.now (AnyNode.Operation op) }
+        ensures found { IsSome result ↔ (kind_of ctx.now op ≡ Some AnyKind.Module) }
+        ensures same { IfSome result (λ m. m.op ≡ op) }
+    {
+        match op.kind(ctx) {
+            OpKind::Module => Some(ModuleOp { op }),
+            _ => None,
+        }
+    }
+}
+
+impl<D: OpSet> Op<D> for ModuleOp {
+    ghost pointer = { λ m. m.op };
+
+    fn get_operation(&self) -> Ptr<Operation> {
+        self.op
+    }
+}
+
+impl<D: OpSet> OneRegionInterface<D> for ModuleOp {}
+
+impl<D: OpSet> SingleBlockRegionInterface<D> for ModuleOp {}
+
+impl<D: OpSet> IsolatedFromAboveInterface<D> for ModuleOp {}
+
+impl<D: OpSet> NOpdsInterface<D, 0> for ModuleOp {}
+
+impl<D: OpSet> NResultsInterface<D, 0> for ModuleOp {}
+
+impl<D: OpSet> NoTerminatorInterface<D> for ModuleOp {}
+
+impl<D: OpSet> RegionKindInterface<D> for ModuleOp {
+    ghost use Rattle.plir_iface.specs.declared.kinds.RegionKind.TheVariants.{Graph};
+
+    ghost region_kind = { λ m i. Graph };
+
+    fn get_region_kind(&self, _region: usize) -> RegionKind {
+        RegionKind::Graph
+    }
+}

@@ -1,0 +1,155 @@
+//! What the constructors of builtin operations share.
+ghost use Rattle.std.specs.Prelude.{◌≡◌, true, List, [], ◌∷◌, OnOk, OnErr, IfOk};
+ghost use Rattle.plir_store.specs.Table.{next_slot};
+ghost use Rattle.plir_data.specs.AttrLive.{HandlesLive, IsAttrLive};
+ghost use Rattle.plir_data.specs.AttrSeen.{attr_view};
+ghost use Rattle.plir_data.specs.AttrView.{leaf, identifier};
+ghost use Rattle.plir_data.specs.Dictionary.{dict_put};
+ghost use Rattle.plir_data.specs.Identifier.{is_identifier as IsIdentifier};
+ghost use Rattle.plir_data.specs.Types.{AllLive, IsLive as IsTypeLive, TypeView};
+ghost use Rattle.plir_core.specs.Changes.{SameLive};
+ghost use Rattle.plir_core.specs.Contents.{op_view};
+ghost use Rattle.plir_core.specs.Made.{IsMade, HasNewRegions};
+ghost use Rattle.plir_core.specs.Nodes.{ptr_at};
+ghost use Rattle.plir_core.specs.Store.{IsLive, given_out};
+ghost use Rattle.plir_core.specs.Whole.{IsWhole};
+ghost use Rattle.plir_core.specs.declared.ptr.IRNode.{IRNode as AnyNode};
+ghost use Rattle.plir_builtin.specs.BuiltinOps.{HoldsOneBlock, func_attributes, name_key, value_key};
+ghost use Rattle.plir_builtin.specs.OpMaking.{GivesBlock};
+
+use crate::{ATTR_KEY_BUILTIN_FUNC_TYPE, ATTR_KEY_CONSTANT_VALUE, ATTR_KEY_SYM_NAME};
+use plir_core::laws::{growth, what_was_made_is_unused};
+use plir_core::{BasicBlock, Context, IRNode, NodeErr, Operation, Ptr};
+use plir_data::{
+    AttrObj, AttributeDict, Identifier, IdentifierAttr, Memory, OpKind, OpSet, TypeAttr, TypeHandle,
+};
+use std::alloc::Global;
+
+/// Puts an attribute under a key that is an identifier. After a refusal all is as before.
+pub(crate) fn put_under<D: OpSet>(
+    alloc: Global,
+    attributes: &mut AttributeDict<D>,
+    key: &str,
+    value: AttrObj<D>,
+) -> Result<(), NodeErr>
+    requires { IsIdentifier key.now ≡ true }
+    ensures ok { OnOk result (attributes.new ≡ dict_put attributes.old key.now (attr_view value)) }
+    ensures err { OnErr result (attributes.new ≡ attributes.old) }
+{
+    let Ok(key) = Identifier::try_new(alloc, key) else {
+        return Err(NodeErr::Memory);
+    };
+    match attributes.insert(key, value) {
+        Ok(()) => Ok(()),
+        Err(Memory) => Err(NodeErr::Memory),
+    }
+}
+
+/// A dictionary with a name and nothing else.
+pub(crate) fn named<D: OpSet>(alloc: Global, name: Identifier) -> Result<AttributeDict<D>, NodeErr>
+    ensures value { IfOk result (λ es. es ≡ dict_put [] name_key (leaf (identifier name))) }
+    ensures live { IfOk result (λ es. (types : List (TypeView D.Ty)) → HandlesLive D.attr_handles types es) }
+{
+    let mut attributes = AttributeDict::new(alloc);
+    let value = AttrObj::Identifier(IdentifierAttr::new(name));
+    put_under(alloc, &mut attributes, ATTR_KEY_SYM_NAME, value)?;
+    Ok(attributes)
+}
+
+/// A dictionary with a name and a type of functions.
+pub(crate) fn named_and_typed<D: OpSet>(
+    alloc: Global,
+    name: Identifier,
+    ty: TypeHandle,
+) -> Result<AttributeDict<D>, NodeErr>
+    ensures value { IfOk result (λ es. es ≡ func_attributes name ty) }
+    ensures live { IfOk result (λ es. (types : List (TypeView D.Ty)) → IsTypeLive types ty → HandlesLive D.attr_handles types es) }
+{
+    let mut attributes = named(alloc, name)?;
+    let value = AttrObj::Type(TypeAttr::new(ty));
+    put_under(alloc, &mut attributes, ATTR_KEY_BUILTIN_FUNC_TYPE, value)?;
+    Ok(attributes)
+}
+
+/// A dictionary with a value and nothing else.
+pub(crate) fn valued<D: OpSet>(
+    alloc: Global,
+    value: AttrObj<D>,
+) -> Result<AttributeDict<D>, NodeErr>
+    ensures value { IfOk result (λ es. es ≡ dict_put [] value_key (attr_view value)) }
+    ensures live { IfOk result (λ es. (types : List (TypeView D.Ty)) → IsAttrLive D.attr_handles types (attr_view value) → HandlesLive D.attr_handles types es) }
+{
+    let mut attributes = AttributeDict::new(alloc);
+    put_under(alloc, &mut attributes, ATTR_KEY_CONSTANT_VALUE, value)?;
+    Ok(attributes)
+}
+
+/// A list of one type.
+pub(crate) fn one_type(alloc: Global, ty: TypeHandle) -> Result<Vec<TypeHandle>, NodeErr>
+    ensures { IfOk result (λ ts. ts.items ≡ ty ∷ []) }
+{
+    let mut types = Vec::new(alloc);
+    match types.push(ty) {
+        Ok(()) => Ok(types),
+        Err(_) => Err(NodeErr::Memory),
+    }
+}
+
+/// A new operation with these attributes and one region, which holds one new block with a label, if it has one, and arguments
+/// of these types. After a refusal no live node has changed.
+pub(crate) fn new_with_block<D: OpSet>(
+    alloc: Global,
+    ctx: &mut Context<D>,
+    kind: OpKind<D::Kind>,
+    attributes: AttributeDict<D>,
+    label: Option<Identifier>,
+    arg_types: Vec<TypeHandle>,
+) -> Result<Ptr<Operation>, NodeErr>
+    requires types_live { AllLive ctx.old.types arg_types.items }
+    requires handles_live { HandlesLive D.attr_handles ctx.old.types attributes }
+    ensures made { IfOk result (λ op. IsMade ctx.old.nodes ctx.new.nodes (AnyNode.Operation op)) }
+    ensures pointer { IfOk result (λ op. op ≡ ptr_at ctx.new.nodes.ops (next_slot ctx.old.nodes.ops)) }
+    ensures tree { IfOk result (λ op. HoldsOneBlock ctx.new op (op_view kind [] [] [] attributes) (record { label = label; arg_types = arg_types.items; attributes = [] })) }
+    ensures types { ctx.new.types ≡ ctx.old.types }
+    ensures given { (n : AnyNode) → given_out ctx.old n ≡ true → given_out ctx.new n ≡ true }
+    ensures err { OnErr result (SameLive ctx.old ctx.new) }
+    ensures whole { IsWhole D.attr_handles ctx.new }
+{
+    what_was_made_is_unused(ctx);
+    growth(ctx);
+    let results = Vec::new(alloc);
+    let operands = Vec::new(alloc);
+    let successors = Vec::new(alloc);
+    let op = Operation::with_attributes(ctx, kind, results, operands, successors, attributes, 1)?;
+    match add_block(alloc, ctx, op, label, arg_types) {
+        Ok(()) => Ok(op),
+        Err(refused) => {
+            Operation::erase(op, ctx);
+            Err(refused)
+        }
+    }
+}
+
+// Puts a new block into the one region of an operation, which holds none. After a refusal all is as before.
+fn add_block<D: OpSet>(
+    alloc: Global,
+    ctx: &mut Context<D>,
+    op: Ptr<Operation>,
+    label: Option<Identifier>,
+    arg_types: Vec<TypeHandle>,
+) -> Result<(), NodeErr>
+    requires live { IsLive ctx.old (AnyNode.Operation op) }
+    requires regions { HasNewRegions ctx.old.nodes (AnyNode.Operation op) 1 }
+    requires types_live { AllLive ctx.old.types arg_types.items }
+    ensures added { OnOk result (GivesBlock ctx.old ctx.new op (record { label = label; arg_types = arg_types.items; attributes = [] })) }
+    ensures types { ctx.new.types ≡ ctx.old.types }
+    ensures given { (n : AnyNode) → given_out ctx.old n ≡ true → given_out ctx.new n ≡ true }
+    ensures err { OnErr result (ctx.new ≡ ctx.old) }
+    ensures whole { IsWhole D.attr_handles ctx.new }
+{
+    growth(ctx);
+    let region = op.get_region(ctx, 0);
+    let block = BasicBlock::new(alloc, ctx, label, arg_types)?;
+    block.insert_at_back(region, ctx);
+    Ok(())
+}
