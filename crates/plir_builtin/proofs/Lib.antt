@@ -1,0 +1,14 @@
+pub mod MapViews
+pub mod SymbolLists
+pub mod Bodies
+pub mod SoleBlocks
+pub mod Frames
+pub mod Edits
+pub mod Puts
+pub mod TableEdits
+pub mod Cached
+pub mod ReadTables
+pub mod ReadLoop
+pub mod EditLists
+pub mod Brought
+pub mod Seeking

@@ -1,0 +1,22 @@
+//! The builtin dialect: symbols, and the tables that look them up by their names.
+#![tactic(auto)]
+
+mod applying;
+mod collection;
+mod inserting;
+mod lookup;
+mod nearest;
+mod reading;
+mod standing;
+mod symbol_edits;
+mod symbol_table;
+mod symbol_table_err;
+mod symbols;
+mod table_body;
+
+pub use collection::SymbolTableCollection;
+pub use nearest::nearest_symbol_table;
+pub use symbol_edits::{SymbolEdit, SymbolEditErr};
+pub use symbol_table::SymbolTable;
+pub use symbol_table_err::SymbolTableErr;
+pub use symbols::{ATTR_KEY_SYM_NAME, SymbolOpInterfaceErr};
