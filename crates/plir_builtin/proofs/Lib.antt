@@ -12,3 +12,7 @@ pub mod ReadLoop
 pub mod EditLists
 pub mod Brought
 pub mod Seeking
+pub mod Places
+pub mod HandedCalls
+pub mod PassedOn
+pub mod Handing

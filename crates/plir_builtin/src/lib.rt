@@ -13,6 +13,8 @@ mod symbol_table;
 mod symbol_table_err;
 mod symbols;
 mod table_body;
+mod table_links;
+mod walking;
 
 pub use collection::SymbolTableCollection;
 pub use nearest::nearest_symbol_table;
@@ -20,3 +22,5 @@ pub use symbol_edits::{SymbolEdit, SymbolEditErr};
 pub use symbol_table::SymbolTable;
 pub use symbol_table_err::SymbolTableErr;
 pub use symbols::{ATTR_KEY_SYM_NAME, SymbolOpInterfaceErr};
+pub use table_links::TableLinks;
+pub use walking::{SymbolTableWalkerCallback, walk_symbol_table};
