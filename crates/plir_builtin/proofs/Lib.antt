@@ -8,7 +8,9 @@ pub mod Puts
 pub mod TableEdits
 pub mod Cached
 pub mod ReadTables
+pub mod Passing
 pub mod ReadLoop
+pub mod FindLoop
 pub mod EditLists
 pub mod Brought
 pub mod Seeking

@@ -1,24 +1,21 @@
 -- The loop that reads the symbols of a block.
-use Rattle.std.proofs.Common.{◌≡◌, suc, ◌<◌, arith, Bool, true, false, true≢false, cond, List, [], ◌∷◌, ◌++◌, append_assoc, append-nil, length, Option, Some, None, inl, inr, refl, sym, ap, subst, ◌∙◌}
+use Rattle.std.proofs.Common.{◌≡◌, ◌<◌, Bool, List, [], ◌∷◌, ◌++◌, append_assoc, Option, Some, None, refl, sym, ap, subst, ◌∙◌, true}
 use Rattle.std.specs.Prelude.{IfSome, option_map}
-use Rattle.std.specs.Ordering.{eq_by_cmp}
-use Rattle.std.proofs.lemmas.Option.{same_Some, none-some}
 use Rattle.plir_core.specs.declared.ptr.Ptr.{Ptr}
 use Rattle.plir_core.specs.declared.ptr.Operation.{Operation as OperationKind}
 use Rattle.plir_core.specs.declared.ptr.BasicBlock.{BasicBlock as BlockKind}
 use Rattle.plir_core.specs.declared.ptr.IRNode.{IRNode}
-use Rattle.plir_core.specs.declared.ptr.IRNode.TheVariants.{Operation, Region, BasicBlock}
-use Rattle.plir_core.specs.NodeLists.{Has, Distinct, head}
+use Rattle.plir_core.specs.declared.ptr.IRNode.TheVariants.{Operation, BasicBlock}
+use Rattle.plir_core.specs.NodeLists.{head}
 use Rattle.plir_core.specs.Standing.{IsStanding}
 use Rattle.plir_core.specs.Store.{Store, kids, is_live, op_at, first_kid, next_sibling}
-use Rattle.plir_builtin.specs.Maps.{ptr_cmp}
 use Rattle.plir_builtin.specs.Table.{Table}
 use Rattle.plir_builtin.specs.Symbols.{Symbols, symbols_among, symbols_of}
 use Rattle.plir_builtin.specs.Refusals.{Refusal, no_table, regions, blocks, no_symbol, unnamed, redefined, elsewhere, outside, not_there}
 use Rattle.plir_builtin.specs.Reading.{IsRead, ReadsOn, RefusesOn, FirstRefused}
 use Rattle.plir_builtin.specs.Left.{left_in}
-use Rattle.plir_builtin.proofs.MapViews.{ptr_same, ptr_reflects}
-use Rattle.plir_builtin.proofs.SymbolLists.{Has-mid, symbols-append}
+use Rattle.plir_builtin.proofs.SymbolLists.{symbols-append}
+use Rattle.plir_builtin.proofs.Passing.{IsPassing, passing-start, passing-end, passing-live, passing-more, passing-falls, symbols-cut}
 
 -- what was refused first in a list is refused first in a longer one
 pub refused-more : (es fs : Symbols) (r : Refusal) → FirstRefused es r → FirstRefused (es ++ fs) r
@@ -32,103 +29,39 @@ refused-more es fs (elsewhere x) h = absurd h
 refused-more es fs outside h = absurd h
 refused-more es fs not_there h = absurd h
 
--- how many there are from an operation on, where it stands
-left-at : (xs : List IRNode) (p : Ptr OperationKind) (ys : List IRNode) → Distinct (xs ++ Operation p ∷ ys) → left_in (xs ++ Operation p ∷ ys) (Some p) ≡ suc (length ys)
-left-at [] p ys d = ap (λ b. cond b (suc (length ys)) (left_in ys (Some p))) (ptr_reflects p p refl)
-left-at (Operation q ∷ xs) p ys d = at (left-at xs p ys d.1) (eq_by_cmp ptr_cmp q p) refl
-  where
-    at : left_in (xs ++ Operation p ∷ ys) (Some p) ≡ suc (length ys) → (b : Bool) → eq_by_cmp ptr_cmp q p ≡ b → cond (eq_by_cmp ptr_cmp q p) (suc (length (xs ++ Operation p ∷ ys))) (left_in (xs ++ Operation p ∷ ys) (Some p)) ≡ suc (length ys)
-    at rest true e = absurd (d.0 (subst (λ z. Has (xs ++ Operation p ∷ ys) (Operation z)) (sym (ptr_same q p e)) (Has-mid xs ys (Operation p))))
-    at rest false e = ap (λ b. cond b (suc (length (xs ++ Operation p ∷ ys))) (left_in (xs ++ Operation p ∷ ys) (Some p))) e ∙ rest
-left-at (Region q ∷ xs) p ys d = left-at xs p ys d.1
-left-at (BasicBlock q ∷ xs) p ys d = left-at xs p ys d.1
-
-cut_head : (ys : List IRNode) (n : IRNode) → head ys ≡ Some n → (zs : List IRNode) × (ys ≡ n ∷ zs)
-cut_head [] n e = absurd (none-some n e)
-cut_head (y ∷ ys) n e = (ys, ap (λ z. z ∷ ys) (same_Some y n e))
-
 module _ {K A T : Type 0} (own : K → Bool) (s : Store K A T) (b : Ptr BlockKind) where
-  abbrev block : IRNode
-  block = BasicBlock b
-
   -- the operations before `at` have been read
   pub record IsReading (at : Option (Ptr OperationKind)) (t : Table) : Type 0 where
     pub before : List IRNode
-    pub behind : List IRNode
-    pub cut : kids s block ≡ before ++ behind
-    pub here : option_map Operation at ≡ head behind
+    pub passing : IsPassing own s b before at
     pub read : IsRead (symbols_among own (op_at s) before) t
 
-  pub reading-start : (at : Option (Ptr OperationKind)) (t : Table) → option_map Operation at ≡ first_kid s block → first_kid s block ≡ head (kids s block) → IsRead [] t → IsReading at t
-  reading-start at t e f r = record { before = []; behind = kids s block; cut = refl; here = e ∙ f; read = r }
+  pub reading-start : (at : Option (Ptr OperationKind)) (t : Table) → option_map Operation at ≡ first_kid s (BasicBlock b) → first_kid s (BasicBlock b) ≡ head (kids s (BasicBlock b)) → IsRead [] t → IsReading at t
+  reading-start at t e f r = record { before = []; passing = passing-start own s b at e f; read = r }
 
-  pub reading-end : (at : Option (Ptr OperationKind)) (t : Table) → IsReading at t → at ≡ None → IsRead (symbols_among own (op_at s) (kids s block)) t
-  reading-end at t r none =
-      subst (λ z. IsRead (symbols_among own (op_at s) z) t) (sym (r.cut ∙ ap (λ z. r.before ++ z) (nothing r.behind (sym r.here ∙ ap (option_map Operation) none)) ∙ append-nil r.before)) r.read
-    where
-      nothing : (ys : List IRNode) → head ys ≡ None → ys ≡ []
-      nothing [] e = refl
-      nothing (y ∷ ys) e = absurd (none-some y (sym e))
+  pub reading-end : (at : Option (Ptr OperationKind)) (t : Table) → IsReading at t → at ≡ None → IsRead (symbols_among own (op_at s) (kids s (BasicBlock b))) t
+  reading-end at t r none = subst (λ z. IsRead (symbols_among own (op_at s) z) t) (sym (passing-end own s b r.before at r.passing none)) r.read
 
   module _ (w : IsStanding s) (at : Option (Ptr OperationKind)) (t : Table) (r : IsReading at t) (p : Ptr OperationKind) (is : at ≡ Some p) where
-    zs_at : (zs : List IRNode) × (r.behind ≡ Operation p ∷ zs)
-    zs_at = cut_head r.behind (Operation p) (sym r.here ∙ ap (option_map Operation) is)
-
-    whole_at : kids s block ≡ r.before ++ Operation p ∷ zs_at.0
-    whole_at = r.cut ∙ ap (λ z. r.before ++ z) zs_at.1
-
-    has_at : Has (kids s block) (Operation p)
-    has_at = subst (λ z. Has z (Operation p)) (sym whole_at) (Has-mid r.before zs_at.0 (Operation p))
-
-    apart_at : Distinct (r.before ++ Operation p ∷ zs_at.0)
-    apart_at = subst Distinct whole_at (w.once block)
-
     pub reading-live : is_live s (Operation p) ≡ true
-    reading-live = w.kid_live block (Operation p) has_at
-
-    symbols_at : symbols_among own (op_at s) (kids s block) ≡ (symbols_among own (op_at s) r.before ++ symbols_of own s p) ++ symbols_among own (op_at s) zs_at.0
-    symbols_at =
-        ap (symbols_among own (op_at s)) (whole_at ∙ sym (append_assoc r.before (Operation p ∷ []) zs_at.0))
-        ∙ symbols-append own (op_at s) (r.before ++ Operation p ∷ []) zs_at.0
-        ∙ ap (λ z. z ++ symbols_among own (op_at s) zs_at.0) (symbols-append own (op_at s) r.before (Operation p ∷ []))
+    reading-live = passing-live own s b w r.before at r.passing p is
 
     -- an operation is refused
-    pub reading-refused : (o : Option Refusal) → IfSome o (RefusesOn t (symbols_of own s p)) → IfSome o (FirstRefused (symbols_among own (op_at s) (kids s block)))
+    pub reading-refused : (o : Option Refusal) → IfSome o (RefusesOn t (symbols_of own s p)) → IfSome o (FirstRefused (symbols_among own (op_at s) (kids s (BasicBlock b))))
     reading-refused None h = tt
-    reading-refused (Some f) h = subst (λ z. FirstRefused z f) (sym symbols_at) (refused-more _ (symbols_among own (op_at s) zs_at.0) f (h (symbols_among own (op_at s) r.before) r.read))
+    reading-refused (Some f) h =
+        let cut = symbols-cut own s b w r.before at r.passing p is in
+        subst (λ z. FirstRefused z f) (sym cut.1)
+        (refused-more _ cut.0 f (h (symbols_among own (op_at s) r.before) r.read))
 
     module _ (next : Option (Ptr OperationKind)) (e : option_map Operation next ≡ next_sibling s (Operation p)) (law : (over : IRNode) (xs ys : List IRNode) → kids s over ≡ xs ++ Operation p ∷ ys → next_sibling s (Operation p) ≡ head ys) where
-      next_is : option_map Operation next ≡ head zs_at.0
-      next_is = e ∙ law block r.before zs_at.0 whole_at
-
       -- an operation is read
       pub reading-more : (u : Table) → ReadsOn t (symbols_of own s p) u → IsReading next u
       reading-more u h = record {
         before = r.before ++ Operation p ∷ [];
-        behind = zs_at.0;
-        cut = whole_at ∙ sym (append_assoc r.before (Operation p ∷ []) zs_at.0);
-        here = next_is;
+        passing = passing-more own s b w r.before at r.passing p is next e law;
         read = subst (λ z. IsRead z u) (sym (symbols-append own (op_at s) r.before (Operation p ∷ []))) (h (symbols_among own (op_at s) r.before) r.read);
       }
 
-      now_left : left_in (kids s block) at ≡ suc (length zs_at.0)
-      now_left = ap (left_in (kids s block)) is ∙ ap (λ z. left_in z (Some p)) whole_at ∙ left-at r.before p zs_at.0 apart_at
-
-      none_left : (xs : List IRNode) → left_in xs None ≡ 0
-      none_left [] = refl
-      none_left (x ∷ xs) = refl
-
-      next_left : (zs : List IRNode) (o : Option (Ptr OperationKind)) → kids s block ≡ (r.before ++ Operation p ∷ []) ++ zs → option_map Operation o ≡ head zs → left_in (kids s block) o ≡ length zs
-      next_left [] None c h = none_left (kids s block)
-      next_left [] (Some q) c h = absurd (none-some (Operation q) (sym h))
-      next_left (z ∷ zs) None c h = absurd (none-some z h)
-      next_left (z ∷ zs) (Some q) c h =
-          let same : z ≡ Operation q = sym (same_Some (Operation q) z h) in
-          let d : kids s block ≡ (r.before ++ Operation p ∷ []) ++ Operation q ∷ zs = c ∙ ap (λ y. (r.before ++ Operation p ∷ []) ++ y ∷ zs) same in
-          ap (λ ks. left_in ks (Some q)) d ∙ left-at (r.before ++ Operation p ∷ []) q zs (subst Distinct d (w.once block))
-
-      pub reading-falls : left_in (kids s block) next < left_in (kids s block) at
-      reading-falls =
-          let a = now_left in
-          let b = next_left zs_at.0 next (whole_at ∙ sym (append_assoc r.before (Operation p ∷ []) zs_at.0)) next_is in
-          omega (arith, a, b)
+      pub reading-falls : left_in (kids s (BasicBlock b)) next < left_in (kids s (BasicBlock b)) at
+      reading-falls = passing-falls own s b w r.before at r.passing p is next e law
