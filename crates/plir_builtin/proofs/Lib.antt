@@ -18,3 +18,5 @@ pub mod Places
 pub mod HandedCalls
 pub mod PassedOn
 pub mod Handing
+pub mod UsesWalked
+pub mod UseChecks

@@ -84,8 +84,12 @@ module _ {K A T : Type 0} (own_symbol : K → Bool) (s : Store K A T) where
 abbrev pub IsUnnamedFirst : Symbols → Type 0
 IsUnnamedFirst es = (front : Symbols) × (o : Ptr OperationKind) × (back : Symbols) × (es ≡ front ++ (o, None) ∷ back) × AllNamed front × NamesDiffer front
 
+-- the same for a name, and that symbol is o
+abbrev pub IsRepeatedAt : List ℕ → Ptr OperationKind → Symbols → Type 0
+IsRepeatedAt x o es = (front : Symbols) × (back : Symbols) × (es ≡ front ++ (o, Some x) ∷ back) × AllNamed front × NamesDiffer front × IsSome (find_named x front)
+
 abbrev pub IsRepeatedFirst : List ℕ → Symbols → Type 0
-IsRepeatedFirst x es = (front : Symbols) × (o : Ptr OperationKind) × (back : Symbols) × (es ≡ front ++ (o, Some x) ∷ back) × AllNamed front × NamesDiffer front × IsSome (find_named x front)
+IsRepeatedFirst x es = (o : Ptr OperationKind) × IsRepeatedAt x o es
 
 module _ {K A T : Type 0} (s : Store K A T) where
   -- the operation t has no body: it has not one region, or that has not one block

@@ -25,6 +25,13 @@ pub(crate) fn redefined(alloc: Global, name: &Identifier) -> SymbolTableErr
     }
 }
 
+/// A symbol that a table refuses, and why.
+#[derive(Drop)]
+pub(crate) struct RefusedSymbol {
+    pub(crate) op: Ptr<Operation>,
+    pub(crate) why: SymbolTableErr,
+}
+
 impl SymbolTable {
     /// Records an operation, if it is a symbol, behind those that were read.
     fn read_op<D: OpSet>(
@@ -35,7 +42,7 @@ impl SymbolTable {
         requires { IsLive ctx.now (AnyNode.Operation op) }
         ensures op { self.new.op ≡ self.old.op }
         ensures read { OnOk result (ReadsOn self.old (symbols_of D.is_symbol ctx.now op) self.new) }
-        ensures refused { IfErr result (Tells (RefusesOn self.old (symbols_of D.is_symbol ctx.now op))) }
+        ensures refused { IfErr result (Tells (RefusesOn self.old op (symbols_of D.is_symbol ctx.now op))) }
     {
         if !is_symbol(ctx, op) {
             return Ok(());
@@ -55,20 +62,21 @@ impl SymbolTable {
         &mut self,
         ctx: &Context<D>,
         block: Ptr<BasicBlock>,
-    ) -> Result<(), SymbolTableErr>
+    ) -> Result<(), RefusedSymbol>
         requires live { IsLive ctx.now (AnyNode.BasicBlock block) }
         requires read { IsRead [] self.old }
         ensures op { self.new.op ≡ self.old.op }
+        ensures live { IfErr result (λ e. IsLive ctx.now (AnyNode.Operation e.op)) }
         ensures read { OnOk result (IsRead (symbols_in D.is_symbol ctx.now (Some (AnyNode.BasicBlock block))) self.new) }
-        ensures refused { IfErr result (Tells (FirstRefused (symbols_in D.is_symbol ctx.now (Some (AnyNode.BasicBlock block))))) }
+        ensures refused { IfErr result (λ e. Tells (FirstRefused e.op (symbols_in D.is_symbol ctx.now (Some (AnyNode.BasicBlock block)))) e.why) }
     {
         stands(ctx);
         first_kid_is_front(ctx, IRNode::BasicBlock(block));
         let mut at = block.get_head(ctx);
         'ops: while let Some(op) = at {
             next_is_behind(ctx, IRNode::Operation(op));
-            if let Err(refused) = self.read_op(ctx, op) {
-                return Err(refused);
+            if let Err(why) = self.read_op(ctx, op) {
+                return Err(RefusedSymbol { op, why });
             }
             at = op.get_next(ctx);
         }

@@ -1,5 +1,5 @@
 //! Symbol tables: the symbols in the body of an operation, by their names.
-ghost use Rattle.std.specs.Prelude.{◌≡◌, Some, None, OnOk, OnErr, IsSome, option_map};
+ghost use Rattle.std.specs.Prelude.{◌≡◌, [], Some, None, OnOk, OnErr, IsSome, option_map};
 ghost use Rattle.std.specs.Prelude.{IfOk, IfErr, IfSome, true, false};
 ghost use Rattle.std.specs.FinMap as map;
 ghost use Rattle.plir_core.specs.declared.ptr.IRNode.{IRNode as AnyNode};
@@ -11,6 +11,7 @@ ghost use Rattle.plir_builtin.specs.Symbols.{body};
 ghost use Rattle.plir_builtin.specs.Agree.{Agrees, KeepsAgreement, KeepsAllAgree};
 ghost use Rattle.plir_builtin.specs.Insertion.{inserted};
 ghost use Rattle.plir_builtin.specs.Refusals.{Tells, TellsOnly, IsSymbolNamed, IsPlaceable, InsertRefused, RemoveRefused, TableRefused};
+ghost use Rattle.plir_builtin.specs.Reading.{IsRead};
 ghost use Rattle.plir_builtin.specs.TableEdits.{IsRecorded, IsForgotten};
 
 use crate::inserting::{Plan, carry_out};
@@ -125,6 +126,18 @@ pub(crate) fn is_member<D: OpSet>(
 }
 
 impl SymbolTable {
+    /// The table of an operation, before its symbols are read.
+    pub(crate) fn unread(alloc: Global, op: Ptr<Operation>) -> SymbolTable
+        ensures op { result.op ≡ op }
+        ensures read { IsRead [] result }
+    {
+        SymbolTable {
+            op,
+            names: HashMap::new(alloc),
+            alloc,
+        }
+    }
+
     /// The table of an operation, with the symbols that stand in its body. Refused by, in this order:
     /// `DoesNotImplementSymbolTableInterface`; `Regions`, where it has not one region; `Body`, where that has not one block; at
     /// the first symbol that has no name, or that of an earlier one, `Unnamed` or `SymbolRedefined`. `Memory` may come in place
@@ -143,13 +156,11 @@ impl SymbolTable {
             return Err(SymbolTableErr::DoesNotImplementSymbolTableInterface);
         }
         let block = find_body(ctx, op)?;
-        let mut table = SymbolTable {
-            op,
-            names: HashMap::new(alloc),
-            alloc,
-        };
-        table.read(ctx, block)?;
-        Ok(table)
+        let mut table = SymbolTable::unread(alloc, op);
+        match table.read(ctx, block) {
+            Ok(()) => Ok(table),
+            Err(refused) => Err(refused.why),
+        }
     }
 
     /// Inserts a symbol, and records its name. One that stands in the body stays where it is; one that stands in no block is

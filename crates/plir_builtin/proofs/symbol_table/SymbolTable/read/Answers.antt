@@ -10,7 +10,10 @@ pub read_op-requires : goal.read_op-requires
 read_op-requires g c = reading-live g.D.OpSet.is_symbol c.args.ctx.now c.args.block c.stands.ensures c.ops.at c.ops.self c.ops.invariant.reading c.in-Some.op c.in-Some.is
 
 pub returns-in-Err-clause-refused : goal.returns-in-Err-clause-refused
-returns-in-Err-clause-refused g c = reading-refused g.D.OpSet.is_symbol c.args.ctx.now c.args.block c.stands.ensures c.ops.at c.ops.self c.ops.invariant.reading c.in-Some.op c.in-Some.is (told c.in-Err.refused) c.in-Err.ensures.refused
+returns-in-Err-clause-refused g c = reading-refused g.D.OpSet.is_symbol c.args.ctx.now c.args.block c.stands.ensures c.ops.at c.ops.self c.ops.invariant.reading c.in-Some.op c.in-Some.is (told c.in-Err.why) c.in-Err.ensures.refused
+
+pub returns-in-Err-clause-live : goal.returns-in-Err-clause-live
+returns-in-Err-clause-live g c = reading-live g.D.OpSet.is_symbol c.args.ctx.now c.args.block c.stands.ensures c.ops.at c.ops.self c.ops.invariant.reading c.in-Some.op c.in-Some.is
 
 pub get_next-at-requires : goal.get_next-at-requires
 get_next-at-requires g c = reading-live g.D.OpSet.is_symbol c.args.ctx.now c.args.block c.stands.ensures c.ops.at c.ops.self c.ops.invariant.reading c.in-Some.op c.in-Some.is
