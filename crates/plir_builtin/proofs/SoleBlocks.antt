@@ -1,5 +1,5 @@
 -- An operation with one region that has one block has a body.
-use Rattle.std.proofs.Common.{◌≡◌, ℕ, zero, suc, ◌<◌, length, slice_get, get_or, arith, List, [], ◌∷◌, Option, Some, None, IsSome, All, true≢false, refl, sym, subst, ◌∙◌}
+use Rattle.std.proofs.Common.{◌≡◌, ℕ, zero, suc, ◌<◌, length, slice_get, get_or, arith, List, [], ◌∷◌, Option, Some, None, IsSome, All, true≢false, refl, sym, subst}
 use Rattle.std.specs.Prelude.{option_and_then}
 use Rattle.std.proofs.lemmas.Option.{same_Some, none-some}
 use Rattle.plir_core.specs.declared.ptr.Ptr.{Ptr}

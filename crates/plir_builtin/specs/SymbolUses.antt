@@ -1,5 +1,5 @@
 -- The rule of a symbol table: its symbols have names of their own, and the uses of symbols below it hold.
-use Rattle.std.specs.Prelude.{◌≡◌, ℕ, Bool, true, false, List, [], ◌∷◌, Option, Some, None, ◌⊎◌, string_bytes}
+use Rattle.std.specs.Prelude.{◌≡◌, Bool, true, false, [], ◌∷◌, Option, Some, ◌⊎◌, string_bytes}
 use Rattle.plir_data.specs.declared.op_set.OpKind.{OpKind}
 use Rattle.plir_data.specs.declared.op_set.OpKind.TheVariants.{Own}
 use Rattle.plir_data.specs.declared.location.VerifyErr.{VerifyErr}

@@ -1,4 +1,4 @@
-//! The builtin dialect: symbols, and the tables that look them up by their names.
+//! The builtin dialect: symbols, the tables that look them up by their names, and the verifier of tables.
 #![tactic(auto)]
 
 mod applying;
@@ -14,6 +14,7 @@ mod symbol_op;
 mod symbol_table;
 mod symbol_table_err;
 mod symbol_table_op;
+mod symbol_user_op;
 mod symbol_users;
 mod symbols;
 mod table_body;
@@ -27,6 +28,7 @@ pub use symbol_op::SymbolOpInterface;
 pub use symbol_table::SymbolTable;
 pub use symbol_table_err::SymbolTableErr;
 pub use symbol_table_op::{SymbolTableInterface, SymbolTableInterfaceErr};
+pub use symbol_user_op::SymbolUserOpInterface;
 pub use symbol_users::SymbolUserSet;
 pub use symbols::{ATTR_KEY_SYM_NAME, SymbolOpInterfaceErr};
 pub use table_links::TableLinks;
