@@ -1,21 +1,49 @@
-//! The builtin dialect: its operations.
+//! The builtin dialect: symbols, the tables that look them up by their names, the verifier of tables, and the four operations.
 #![tactic(auto)]
 
+mod applying;
+mod collection;
 mod constant_op;
 mod forward_ref_op;
 mod func_op;
+mod inserting;
+mod lookup;
 mod materializable;
 mod module_op;
+mod nearest;
 mod op_making;
+mod reading;
+mod scanning;
+mod standing;
+mod symbol_edits;
+mod symbol_op;
+mod symbol_table;
+mod symbol_table_err;
+mod symbol_table_op;
+mod symbol_user_op;
+mod symbol_users;
+mod symbols;
+mod table_body;
+mod table_links;
+mod walking;
 
+pub use collection::SymbolTableCollection;
 pub use constant_op::{ConstantOp, ConstantOpVerifyErr};
 pub use forward_ref_op::{ForwardRefOp, ForwardRefOpExistenceErr};
 pub use func_op::{FuncOp, FuncOpTypeErr};
 pub use materializable::MaterializableAttr;
 pub use module_op::ModuleOp;
-
-/// The key that a symbol's name stands under.
-pub const ATTR_KEY_SYM_NAME: &'static str = "builtin_sym_name";
+pub use nearest::nearest_symbol_table;
+pub use symbol_edits::{SymbolEdit, SymbolEditErr};
+pub use symbol_op::SymbolOpInterface;
+pub use symbol_table::SymbolTable;
+pub use symbol_table_err::SymbolTableErr;
+pub use symbol_table_op::{SymbolTableInterface, SymbolTableInterfaceErr};
+pub use symbol_user_op::SymbolUserOpInterface;
+pub use symbol_users::SymbolUserSet;
+pub use symbols::{ATTR_KEY_SYM_NAME, SymbolOpInterfaceErr};
+pub use table_links::TableLinks;
+pub use walking::{SymbolTableWalkerCallback, walk_symbol_table};
 
 /// The key that a function's type stands under.
 pub const ATTR_KEY_BUILTIN_FUNC_TYPE: &'static str = "builtin_func_type";

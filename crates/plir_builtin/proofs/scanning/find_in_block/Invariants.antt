@@ -1,0 +1,11 @@
+use Rattle.plir_core.specs.declared.ptr.IRNode.TheVariants.{BasicBlock}
+use Rattle.plir_core.specs.Store.{kids}
+use Rattle.plir_builtin.specs.Left.{left_in}
+use Rattle.plir_builtin.proofs.FindLoop.{IsFinding}
+use Rattle.plir_builtin.proofs.scanning.find_in_block.Given as goal
+
+abbrev pub invariant-ops : goal.invariant-ops
+invariant-ops g l = IsFinding g.D.OpSet.is_symbol l.ctx l.fn.block l.fn.name l.at
+
+abbrev pub decreases-ops : goal.decreases-ops
+decreases-ops g l = left_in (kids l.ctx (BasicBlock l.fn.block)) l.at

@@ -1,0 +1,36 @@
+-- Tables that agree with the bodies that they stand for.
+use Rattle.std.specs.Prelude.{◌≡◌, ℕ, Bool, List, Some, ◌⊎◌}
+use Rattle.std.specs.FinMap as map
+use Rattle.plir_core.specs.declared.ptr.Ptr.{Ptr}
+use Rattle.plir_core.specs.declared.ptr.Operation.{Operation as OperationKind}
+use Rattle.plir_core.specs.declared.ptr.IRNode.TheVariants.{Operation}
+use Rattle.plir_core.specs.Store.{Store, IsLive}
+use Rattle.plir_builtin.specs.Table.{Table, Tables}
+use Rattle.plir_builtin.specs.Symbols.{IsGood, scan}
+
+module _ {K A T : Type 0} (own_symbol own_table : K → Bool) where
+  -- the table's operation is good, and the table has each name as a scan of the body finds it
+  pub record Agrees (s : Store K A T) (t : Table) : Type 0 where
+    pub good : IsGood own_symbol own_table s t.op
+    pub names : (x : List ℕ) → map.get t.names x ≡ scan own_symbol s t.op x
+
+  -- Each cached table whose own operation is live, or that is cached for a live operation, is cached for its own operation
+  -- and agrees.
+  abbrev pub AllAgree : Store K A T → Tables → Type 0
+  AllAgree s c = (p : Ptr OperationKind) (t : Table) → map.get c p ≡ Some t → IsLive s (Operation t.op) ⊎ IsLive s (Operation p) → (t.op ≡ p) × Agrees s t
+
+  -- an edit takes the context from s to s' and the table from t to t': if the table agreed, it agrees
+  abbrev pub KeepsAgreement : Store K A T → Table → Store K A T → Table → Type 0
+  KeepsAgreement s t s' t' = Agrees s t → Agrees s' t'
+
+  -- and if it is cached and all tables agreed, all agree
+  abbrev pub KeepsAllAgree : Store K A T → Table → Store K A T → Table → Type 0
+  KeepsAllAgree s t s' t' = (c : Tables) → AllAgree s c → map.get c t.op ≡ Some t → AllAgree s' (map.insert c t.op t')
+
+  -- a new table is cached for p, which agrees
+  abbrev pub IsNewlyCached : Store K A T → Tables → Ptr OperationKind → Tables → Type 0
+  IsNewlyCached s c p c' = (t : Table) × (c' ≡ map.insert c p t) × (t.op ≡ p) × Agrees s t
+
+  -- the table that is cached for p belongs to p, and agrees
+  abbrev pub IsCachedFor : Store K A T → Tables → Ptr OperationKind → Type 0
+  IsCachedFor s c p = (t : Table) × (map.get c p ≡ Some t) × (t.op ≡ p) × Agrees s t

@@ -1,0 +1,80 @@
+-- What an edit of symbols answers, and the context afterwards: by scans of the bodies, without any cached table.
+use Rattle.std.specs.Prelude.{◌≡◌, ℕ, Bool, List, [], ◌∷◌, Result, Ok, Err, IfSome, ◌⊎◌}
+use Rattle.plir_core.specs.declared.ptr.Ptr.{Ptr}
+use Rattle.plir_core.specs.declared.ptr.Operation.{Operation as OperationKind}
+use Rattle.plir_core.specs.declared.ptr.IRNode.TheVariants.{Operation}
+use Rattle.plir_core.specs.InsertionPoint.{IsPointLive}
+use Rattle.plir_core.specs.Store.{Store, IsLive, IsAncestor, parent_of}
+use Rattle.plir_core.specs.Changes.{with_op_unlinked}
+use Rattle.plir_core.specs.Unused.{IsUnusedOutside, without_tree}
+use Rattle.plir_builtin.specs.declared.symbol_edits.SymbolEdit.{SymbolEdit}
+use Rattle.plir_builtin.specs.declared.symbol_edits.SymbolEdit.TheVariants.{Insert, Remove, Erase}
+use Rattle.plir_builtin.specs.declared.symbol_edits.SymbolEditErr.{SymbolEditErr}
+use Rattle.plir_builtin.specs.declared.symbol_edits.SymbolEditErr.TheVariants.{DeadPointer, WouldNest, StillUsed, Table}
+use Rattle.plir_builtin.specs.Table.{Tables}
+use Rattle.plir_builtin.specs.Symbols.{IsGood, body, scan}
+use Rattle.plir_builtin.specs.Agree.{AllAgree}
+use Rattle.plir_builtin.specs.Insertion.{inserted}
+use Rattle.plir_builtin.specs.Refusals.{Refusal, Tells, IsSymbolNamed, IsNotOthers, IsPlaceable, InsertRefused, RemoveRefused, TableRefused}
+
+-- the operation of the table that is edited
+abbrev pub table_of : SymbolEdit → Ptr OperationKind
+table_of (Insert t o p) = t
+table_of (Remove t o) = t
+table_of (Erase t o) = t
+
+module _ {K A T : Type 0} (is_terminator own_symbol own_table : K → Bool) (s : Store K A T) where
+  -- all that the edit names is live
+  abbrev pub IsEditLive : SymbolEdit → Type 0
+  IsEditLive (Insert t o p) = IsLive s (Operation t) × IsLive s (Operation o) × IfSome p (IsPointLive s)
+  IsEditLive (Remove t o) = IsLive s (Operation t) × IsLive s (Operation o)
+  IsEditLive (Erase t o) = IsLive s (Operation t) × IsLive s (Operation o)
+
+  -- the operation is a symbol of the body with a name
+  abbrev pub IsMember : Ptr OperationKind → Ptr OperationKind → Type 0
+  IsMember t o = ((x : List ℕ) × IsSymbolNamed own_symbol s o x) × (parent_of s (Operation o) ≡ body s t)
+
+  -- the edit is made: its conditions hold, and this is the context afterwards
+  abbrev pub IsMadeEdit : SymbolEdit → Store K A T → Type 0
+  IsMadeEdit (Insert t o p) s' =
+      (IsAncestor s (Operation o) (Operation t) → ⊥) × ((x : List ℕ) × IsSymbolNamed own_symbol s o x × IsNotOthers own_symbol s (scan own_symbol s t) o x) × IsPlaceable own_symbol s t o p
+      × (s' ≡ inserted is_terminator s t o p)
+  IsMadeEdit (Remove t o) s' = IsMember t o × (s' ≡ with_op_unlinked s o)
+  IsMadeEdit (Erase t o) s' = IsMember t o × IsUnusedOutside s (Operation o) × (s' ≡ without_tree s (Operation o))
+
+  -- the call on the table refuses
+  abbrev pub IsCallRefused : SymbolEdit → Refusal → Type 0
+  IsCallRefused (Insert t o p) r = (IsAncestor s (Operation o) (Operation t) → ⊥) × InsertRefused own_symbol s (scan own_symbol s t) t o p r
+  IsCallRefused (Remove t o) r = RemoveRefused own_symbol s t o r
+  IsCallRefused (Erase t o) r = RemoveRefused own_symbol s t o r
+
+  -- the edit would put an operation below itself; it would erase what is still used
+  abbrev pub IsNesting : SymbolEdit → Type 0
+  IsNesting (Insert t o p) = IsAncestor s (Operation o) (Operation t)
+  IsNesting (Remove t o) = ⊥
+  IsNesting (Erase t o) = ⊥
+
+  abbrev pub IsStillUsed : SymbolEdit → Type 0
+  IsStillUsed (Insert t o p) = ⊥
+  IsStillUsed (Remove t o) = ⊥
+  IsStillUsed (Erase t o) = IsMember t o × (IsUnusedOutside s (Operation o) → ⊥)
+
+  -- Why an edit is refused: something that it names is dead; else the table is not good; else it would nest; else the call
+  -- on the table refuses; else the operation is still used. Memory may be refused in place of any of them.
+  abbrev pub IsRefusedEdit : SymbolEdit → SymbolEditErr → Type 0
+  IsRefusedEdit e DeadPointer = IsEditLive e → ⊥
+  IsRefusedEdit e WouldNest = IsEditLive e × IsGood own_symbol own_table s (table_of e) × IsNesting e
+  IsRefusedEdit e StillUsed = IsEditLive e × IsGood own_symbol own_table s (table_of e) × IsStillUsed e
+  IsRefusedEdit e (Table x) = Tells (λ r. IsEditLive e × (TableRefused own_symbol own_table s (table_of e) r ⊎ (IsGood own_symbol own_table s (table_of e) × IsCallRefused e r))) x
+
+  -- what an edit answers, and the context afterwards
+  abbrev pub IsEdited : SymbolEdit → Result (Unit {0}) SymbolEditErr → Store K A T → Type 0
+  IsEdited e (Ok u) s' = IsEditLive e × IsGood own_symbol own_table s (table_of e) × IsMadeEdit e s'
+  IsEdited e (Err x) s' = (s' ≡ s) × IsRefusedEdit e x
+
+-- the answers to edits one after another, and the context and the cached tables afterwards; after each edit all tables agree
+abbrev pub AreEdited : {K A T : Type 0} → (is_terminator own_symbol own_table : K → Bool) → Store K A T → List SymbolEdit → List (Result (Unit {0}) SymbolEditErr) → Store K A T → Tables → Type 0
+AreEdited {K} {A} {T} w f g s [] [] s' c' = (s' ≡ s) × AllAgree f g s c'
+AreEdited {K} {A} {T} w f g s [] (r ∷ rs) s' c' = ⊥
+AreEdited {K} {A} {T} w f g s (e ∷ es) [] s' c' = ⊥
+AreEdited {K} {A} {T} w f g s (e ∷ es) (r ∷ rs) s' c' = (m : Store K A T) × (c : Tables) × IsEdited w f g s e r m × AllAgree f g m c × AreEdited w f g m es rs s' c'

@@ -1,0 +1,83 @@
+-- The rule of a symbol table: its symbols have names of their own, and the uses of symbols below it hold.
+use Rattle.std.specs.Prelude.{◌≡◌, Bool, true, false, [], ◌∷◌, Option, Some, ◌⊎◌, string_bytes}
+use Rattle.plir_data.specs.declared.op_set.OpKind.{OpKind}
+use Rattle.plir_data.specs.declared.op_set.OpKind.TheVariants.{Own}
+use Rattle.plir_data.specs.declared.location.VerifyErr.{VerifyErr}
+use Rattle.plir_data.specs.declared.location.VerifyErr.TheVariants.{Refused, Memory}
+use Rattle.plir_core.specs.declared.ptr.Ptr.{Ptr}
+use Rattle.plir_core.specs.declared.ptr.Operation.{Operation as OperationKind}
+use Rattle.plir_core.specs.declared.ptr.Region.{Region as RegionKind}
+use Rattle.plir_core.specs.declared.ptr.IRNode.TheVariants.{Operation, Region}
+use Rattle.plir_core.specs.Store.{Store, kids, kind_of, location_of}
+use Rattle.plir_walk.specs.Tree.{Tree, IsProperlyUnder}
+use Rattle.plir_builtin.specs.declared.symbol_table_op.SymbolTableInterfaceErr.{SymbolTableInterfaceErr}
+use Rattle.plir_builtin.specs.declared.symbol_table_op.SymbolTableInterfaceErr.TheVariants.{SymbolRedefined, Unnamed, Use}
+use Rattle.plir_builtin.specs.Symbols.{IsGood, symbols}
+use Rattle.plir_builtin.specs.Refusals.{IsUnnamedFirst, IsRepeatedAt}
+use Rattle.std.specs.declared.ops.ControlFlow.{ControlFlow}
+use Rattle.std.specs.declared.ops.ControlFlow.TheVariants.{Continue, Break}
+use Rattle.plir_walk.specs.declared.interruptible.WalkContinue.{WalkContinue}
+use Rattle.plir_walk.specs.declared.interruptible.WalkContinue.TheVariants.{Advance, Skip}
+use Rattle.plir_builtin.specs.Table.{Tables}
+use Rattle.plir_builtin.specs.Agree.{AllAgree}
+use Rattle.plir_builtin.specs.Handed.{is_table_at}
+
+-- whether operations of a kind are symbol users; `own` tells of the user's own kinds
+abbrev pub is_user_kind : {K : Type 0} → (own : K → Bool) → Option (OpKind K) → Bool
+is_user_kind own (Some (Own k)) = own k
+is_user_kind own _ = false
+
+-- a use is refused only where it does not hold, memory aside
+abbrev pub IsUseRefused : {E : Type 0} → Type 0 → VerifyErr E → Type 0
+IsUseRefused holds (Refused loc err) = holds → ⊥
+IsUseRefused holds Memory = Unit {0}
+
+-- p is handed over as the table of op is walked to its end without a skip: it is below the one region of op, and no table
+-- below that region is above it.
+pub record IsHanded (t : Tree) (is_table : Ptr OperationKind → Bool) (op p : Ptr OperationKind) : Type 0 where
+  pub region : Ptr RegionKind
+  pub one_region : t (Operation op) ≡ Region region ∷ []
+  pub below : IsProperlyUnder t (Region region) (Operation p)
+  pub no_table : (q : Ptr OperationKind) → IsProperlyUnder t (Region region) (Operation q) → IsProperlyUnder t (Operation q) (Operation p) → is_table q ≡ false
+
+-- A call that checks one operation, from the tables c to c': it never skips. Where the tables agree, they agree afterwards; it
+-- advances only past uses that hold, and breaks only at a symbol user whose uses are refused, with what it tells.
+pub record IsUseCheck {K A T E B : Type 0} (own_symbol own_table own_user : K → Bool) (holds : Store K A T → Ptr OperationKind → Type 0) (told : B → VerifyErr E) (s : Store K A T) (c : Tables) (p : Ptr OperationKind) (a : ControlFlow B WalkContinue) (c' : Tables) : Type 0 where
+  pub never_skips : a ≡ Continue Skip → ⊥
+  pub agree : AllAgree own_symbol own_table s c → AllAgree own_symbol own_table s c'
+  pub advances : AllAgree own_symbol own_table s c → a ≡ Continue Advance → is_user_kind own_user (kind_of s p) ≡ true → holds s p
+  pub breaks : AllAgree own_symbol own_table s c → (b : B) → a ≡ Break b → (is_user_kind own_user (kind_of s p) ≡ true) × IsUseRefused (holds s p) (told b)
+
+module _ {K A T : Type 0} (own_table : K → Bool) (s : Store K A T) where
+  -- the uses of every symbol user that is handed over hold
+  abbrev pub AllUsesHold : (own_user : K → Bool) → (holds : Store K A T → Ptr OperationKind → Type 0) → Ptr OperationKind → Type 0
+  AllUsesHold own_user holds t = (p : Ptr OperationKind) → IsHanded (kids s) (is_table_at own_table s) t p → is_user_kind own_user (kind_of s p) ≡ true → holds s p
+
+module _ {K A T : Type 0} (own_symbol own_table own_user : K → Bool) (holds : Store K A T → Ptr OperationKind → Type 0) (s : Store K A T) (t : Ptr OperationKind) where
+  -- the rule of a symbol table
+  pub record HasTableRule : Type 0 where
+    pub good : IsGood own_symbol own_table s t
+    pub uses : AllUsesHold own_table s own_user holds t
+
+-- What a refusal tells: a symbol repeats the name of an earlier one, and it stands there; or a symbol has no name.
+abbrev pub IsSymbolFault : {K A T E : Type 0} → (own_symbol : K → Bool) → Store K A T → Ptr OperationKind → VerifyErr (SymbolTableInterfaceErr E) → Type 0
+IsSymbolFault own_symbol s t (Refused loc (SymbolRedefined n)) = (o : Ptr OperationKind) × IsRepeatedAt (string_bytes n) o (symbols own_symbol s t) × (location_of s o ≡ Some loc)
+IsSymbolFault own_symbol s t (Refused loc (Unnamed e)) = IsUnnamedFirst (symbols own_symbol s t) × (location_of s t ≡ Some loc)
+IsSymbolFault own_symbol s t (Refused loc (Use e)) = ⊥
+IsSymbolFault own_symbol s t Memory = Unit {0}
+
+-- a use is told that does not hold
+abbrev pub IsUseFault : {E : Type 0} → Type 0 → VerifyErr (SymbolTableInterfaceErr E) → Type 0
+IsUseFault holds (Refused loc (Use e)) = holds → ⊥
+IsUseFault holds (Refused loc (SymbolRedefined n)) = ⊥
+IsUseFault holds (Refused loc (Unnamed e)) = ⊥
+IsUseFault holds Memory = Unit {0}
+
+-- what the refusal of a use is told as
+abbrev pub use_told : {E : Type 0} → VerifyErr E → VerifyErr (SymbolTableInterfaceErr E)
+use_told (Refused loc err) = Refused loc (Use err)
+use_told Memory = Memory
+
+-- Of a table: that, or the symbols are right and some use does not hold.
+abbrev pub IsTableFault : {K A T E : Type 0} → (own_symbol own_table own_user : K → Bool) (holds : Store K A T → Ptr OperationKind → Type 0) → Store K A T → Ptr OperationKind → VerifyErr (SymbolTableInterfaceErr E) → Type 0
+IsTableFault own_symbol own_table own_user holds s t e = IsSymbolFault own_symbol s t e ⊎ (IsGood own_symbol own_table s t × IsUseFault (AllUsesHold own_table s own_user holds t) e)

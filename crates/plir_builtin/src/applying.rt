@@ -1,0 +1,247 @@
+//! Edits of symbols over cached tables, one after another.
+ghost use Rattle.std.specs.Prelude.{◌≡◌, Some, None, IfOk, IfErr, IfSome, IsSome, OnOk, OnErr, true, false};
+ghost use Rattle.std.specs.FinMap as map;
+ghost use Rattle.plir_core.specs.declared.ptr.IRNode.{IRNode as AnyNode};
+ghost use Rattle.plir_core.specs.InsertionPoint.{IsPointLive};
+ghost use Rattle.plir_core.specs.Store.{IsLive, IsAncestor, parent_of};
+ghost use Rattle.plir_core.specs.Changes.{with_op_unlinked};
+ghost use Rattle.plir_core.specs.Unused.{IsUnusedOutside, without_tree};
+ghost use Rattle.plir_builtin.specs.Symbols.{IsGood, scan};
+ghost use Rattle.plir_builtin.specs.Agree.{AllAgree, IsCachedFor};
+ghost use Rattle.plir_builtin.specs.Refusals.{Tells, InsertRefused, RemoveRefused, TableRefused};
+ghost use Rattle.plir_builtin.specs.SymbolEdits.{IsMadeEdit, IsMember, IsEdited, AreEdited};
+ghost use Rattle.plir_builtin.specs.declared.symbol_edits.SymbolEdit.{SymbolEdit as Edit};
+
+use crate::collection::SymbolTableCollection;
+use crate::symbol_edits::{SymbolEdit, SymbolEditErr};
+use crate::symbol_table::is_member;
+use crate::symbol_table_err::SymbolTableErr;
+use plir_core::{Context, IRNode, OpInsertionPoint, Operation, Ptr};
+use plir_data::{Memory, OpSet};
+
+impl SymbolTableCollection {
+    /// Sees to it that a table is cached for an operation, where all tables agree.
+    fn see_to<D: OpSet>(
+        &mut self,
+        ctx: &Context<D>,
+        op: Ptr<Operation>,
+    ) -> Result<(), SymbolTableErr>
+        requires live { IsLive ctx.now (AnyNode.Operation op) }
+        requires agree { AllAgree D.is_symbol D.is_symbol_table ctx.now self.old }
+        ensures cached { OnOk result (IsCachedFor D.is_symbol D.is_symbol_table ctx.now self.new op) }
+        ensures agree { AllAgree D.is_symbol D.is_symbol_table ctx.now self.new }
+        ensures refused { IfErr result (Tells (TableRefused D.is_symbol D.is_symbol_table ctx.now op)) }
+        ensures same { OnErr result (self.new ≡ self.old) }
+    {
+        self.bring(ctx, op)
+    }
+
+    /// Inserts an operation through the table that is cached.
+    fn insert_in<D: OpSet>(
+        &mut self,
+        ctx: &mut Context<D>,
+        table: Ptr<Operation>,
+        op: Ptr<Operation>,
+        point: Option<OpInsertionPoint>,
+    ) -> Result<(), SymbolTableErr>
+        requires table_live { IsLive ctx.old (AnyNode.Operation table) }
+        requires op_live { IsLive ctx.old (AnyNode.Operation op) }
+        requires point_live { IfSome point (IsPointLive ctx.old) }
+        requires cached { IsSome (map.get self.old table) }
+        requires agree { AllAgree D.is_symbol D.is_symbol_table ctx.old self.old }
+        requires not_above { IsAncestor ctx.old (AnyNode.Operation op) (AnyNode.Operation table) → ⊥ }
+        ensures made { OnOk result (IsMadeEdit D.is_terminator D.is_symbol D.is_symbol_table ctx.old (Edit.Insert table op point) ctx.new) }
+        ensures refused { IfErr result (Tells (InsertRefused D.is_symbol ctx.old (scan D.is_symbol ctx.old table) table op point)) }
+        ensures same { OnErr result (ctx.new ≡ ctx.old) }
+        ensures agree { AllAgree D.is_symbol D.is_symbol_table ctx.new self.new }
+    {
+        match self.cached(table) {
+            Some(cached) => cached.insert(ctx, op, point),
+            None => unreachable!(),
+        }
+    }
+
+    /// Removes an operation through the table that is cached.
+    fn remove_in<D: OpSet>(
+        &mut self,
+        ctx: &mut Context<D>,
+        table: Ptr<Operation>,
+        op: Ptr<Operation>,
+    ) -> Result<(), SymbolTableErr>
+        requires table_live { IsLive ctx.old (AnyNode.Operation table) }
+        requires op_live { IsLive ctx.old (AnyNode.Operation op) }
+        requires cached { IsSome (map.get self.old table) }
+        requires agree { AllAgree D.is_symbol D.is_symbol_table ctx.old self.old }
+        ensures made { OnOk result (IsMadeEdit D.is_terminator D.is_symbol D.is_symbol_table ctx.old (Edit.Remove table op) ctx.new) }
+        ensures refused { IfErr result (Tells (RemoveRefused D.is_symbol ctx.old table op)) }
+        ensures same { OnErr result (ctx.new ≡ ctx.old) }
+        ensures agree { AllAgree D.is_symbol D.is_symbol_table ctx.new self.new }
+    {
+        match self.cached(table) {
+            Some(cached) => cached.remove(ctx, op),
+            None => unreachable!(),
+        }
+    }
+
+    /// Erases an operation through the table that is cached.
+    fn erase_in<D: OpSet>(
+        &mut self,
+        ctx: &mut Context<D>,
+        table: Ptr<Operation>,
+        op: Ptr<Operation>,
+    ) -> Result<(), SymbolTableErr>
+        requires table_live { IsLive ctx.old (AnyNode.Operation table) }
+        requires op_live { IsLive ctx.old (AnyNode.Operation op) }
+        requires cached { IsSome (map.get self.old table) }
+        requires agree { AllAgree D.is_symbol D.is_symbol_table ctx.old self.old }
+        requires unused { IsUnusedOutside ctx.old (AnyNode.Operation op) }
+        ensures made { OnOk result (IsMadeEdit D.is_terminator D.is_symbol D.is_symbol_table ctx.old (Edit.Erase table op) ctx.new) }
+        ensures refused { IfErr result (Tells (RemoveRefused D.is_symbol ctx.old table op)) }
+        ensures same { OnErr result (ctx.new ≡ ctx.old) }
+        ensures agree { AllAgree D.is_symbol D.is_symbol_table ctx.new self.new }
+    {
+        match self.cached(table) {
+            Some(cached) => cached.erase(ctx, op),
+            None => unreachable!(),
+        }
+    }
+}
+
+/// Whether two operations are live.
+fn are_live<D: OpSet>(ctx: &Context<D>, table: Ptr<Operation>, op: Ptr<Operation>) -> bool
+    ensures yes { result ≡ true → IsLive ctx.now (AnyNode.Operation table) × IsLive ctx.now (AnyNode.Operation op) }
+    ensures no { result ≡ false → IsLive ctx.now (AnyNode.Operation table) → IsLive ctx.now (AnyNode.Operation op) → ⊥ }
+{
+    table.is_live(ctx) && op.is_live(ctx)
+}
+
+/// Whether what a point names is live.
+fn is_point_live<D: OpSet>(ctx: &Context<D>, point: Option<OpInsertionPoint>) -> bool
+    ensures yes { result ≡ true → IfSome point (IsPointLive ctx.now) }
+    ensures no { result ≡ false → IfSome point (IsPointLive ctx.now) → ⊥ }
+{
+    match point {
+        None => true,
+        Some(OpInsertionPoint::Unset) => true,
+        Some(OpInsertionPoint::AtBlockStart(block)) => block.is_live(ctx),
+        Some(OpInsertionPoint::AtBlockEnd(block)) => block.is_live(ctx),
+        Some(OpInsertionPoint::BeforeOperation(op)) => op.is_live(ctx),
+        Some(OpInsertionPoint::AfterOperation(op)) => op.is_live(ctx),
+    }
+}
+
+impl SymbolTableCollection {
+    fn apply_insert<D: OpSet>(
+        &mut self,
+        ctx: &mut Context<D>,
+        table: Ptr<Operation>,
+        op: Ptr<Operation>,
+        point: Option<OpInsertionPoint>,
+    ) -> Result<(), SymbolEditErr>
+        requires { AllAgree D.is_symbol D.is_symbol_table ctx.old self.old }
+        ensures edited { IsEdited D.is_terminator D.is_symbol D.is_symbol_table ctx.old (Edit.Insert table op point) result ctx.new }
+        ensures agree { AllAgree D.is_symbol D.is_symbol_table ctx.new self.new }
+    {
+        if !are_live(ctx, table, op) {
+            return Err(SymbolEditErr::DeadPointer);
+        }
+        if !is_point_live(ctx, point) {
+            return Err(SymbolEditErr::DeadPointer);
+        }
+        if let Err(refused) = self.see_to(ctx, table) {
+            return Err(SymbolEditErr::Table(refused));
+        }
+        if IRNode::Operation(op).is_ancestor(IRNode::Operation(table), ctx) {
+            return Err(SymbolEditErr::WouldNest);
+        }
+        match self.insert_in(ctx, table, op, point) {
+            Ok(()) => Ok(()),
+            Err(refused) => Err(SymbolEditErr::Table(refused)),
+        }
+    }
+
+    fn apply_remove<D: OpSet>(
+        &mut self,
+        ctx: &mut Context<D>,
+        table: Ptr<Operation>,
+        op: Ptr<Operation>,
+    ) -> Result<(), SymbolEditErr>
+        requires { AllAgree D.is_symbol D.is_symbol_table ctx.old self.old }
+        ensures edited { IsEdited D.is_terminator D.is_symbol D.is_symbol_table ctx.old (Edit.Remove table op) result ctx.new }
+        ensures agree { AllAgree D.is_symbol D.is_symbol_table ctx.new self.new }
+    {
+        if !are_live(ctx, table, op) {
+            return Err(SymbolEditErr::DeadPointer);
+        }
+        if let Err(refused) = self.see_to(ctx, table) {
+            return Err(SymbolEditErr::Table(refused));
+        }
+        match self.remove_in(ctx, table, op) {
+            Ok(()) => Ok(()),
+            Err(refused) => Err(SymbolEditErr::Table(refused)),
+        }
+    }
+
+    fn apply_erase<D: OpSet>(
+        &mut self,
+        ctx: &mut Context<D>,
+        table: Ptr<Operation>,
+        op: Ptr<Operation>,
+    ) -> Result<(), SymbolEditErr>
+        requires { AllAgree D.is_symbol D.is_symbol_table ctx.old self.old }
+        ensures edited { IsEdited D.is_terminator D.is_symbol D.is_symbol_table ctx.old (Edit.Erase table op) result ctx.new }
+        ensures agree { AllAgree D.is_symbol D.is_symbol_table ctx.new self.new }
+    {
+        if !are_live(ctx, table, op) {
+            return Err(SymbolEditErr::DeadPointer);
+        }
+        if let Err(refused) = self.see_to(ctx, table) {
+            return Err(SymbolEditErr::Table(refused));
+        }
+        if let Err(refused) = is_member(ctx, table, op) {
+            return Err(SymbolEditErr::Table(refused));
+        }
+        if !IRNode::Operation(op).is_unused_outside(ctx) {
+            return Err(SymbolEditErr::StillUsed);
+        }
+        match self.erase_in(ctx, table, op) {
+            Ok(()) => Ok(()),
+            Err(refused) => Err(SymbolEditErr::Table(refused)),
+        }
+    }
+
+    /// Makes one edit, or refuses it.
+    fn apply<D: OpSet>(
+        &mut self,
+        ctx: &mut Context<D>,
+        edit: SymbolEdit,
+    ) -> Result<(), SymbolEditErr>
+        requires { AllAgree D.is_symbol D.is_symbol_table ctx.old self.old }
+        ensures edited { IsEdited D.is_terminator D.is_symbol D.is_symbol_table ctx.old edit result ctx.new }
+        ensures agree { AllAgree D.is_symbol D.is_symbol_table ctx.new self.new }
+    {
+        match edit {
+            SymbolEdit::Insert { table, op, point } => { self.apply_insert(ctx, table, op, point) }
+            SymbolEdit::Remove { table, op } => self.apply_remove(ctx, table, op),
+            SymbolEdit::Erase { table, op } => self.apply_erase(ctx, table, op),
+        }
+    }
+
+    /// Makes edits one after another and answers each. `Memory` comes before the first edit. After each edit all tables agree.
+    pub fn apply_all<D: OpSet>(
+        &mut self,
+        ctx: &mut Context<D>,
+        edits: Vec<SymbolEdit>,
+    ) -> Result<Vec<Result<(), SymbolEditErr>>, Memory>
+        requires { AllAgree D.is_symbol D.is_symbol_table ctx.old self.old }
+        ensures edited { IfOk result (λ rs. AreEdited D.is_terminator D.is_symbol D.is_symbol_table ctx.old edits.items rs.items ctx.new self.new) }
+        ensures same { OnErr result ((ctx.new ≡ ctx.old) × (self.new ≡ self.old)) }
+    {
+        let mut replies = Vec::with_capacity(self.alloc, edits.len())?;
+        for edit in &edits {
+            let reply = self.apply(ctx, *edit);
+            replies.push_reserved(reply);
+        }
+        Ok(replies)
+    }
+}

@@ -1,0 +1,41 @@
+//! The interface of operations that use symbols.
+ghost use Rattle.std.specs.Prelude.{◌≡◌, Ok, IfErr, OnOk};
+ghost use Rattle.plir_core.specs.declared.ptr.IRNode.{IRNode as AnyNode};
+ghost use Rattle.plir_core.specs.Store.{Store, IsLive};
+ghost use Rattle.plir_builtin.specs.Agree.{AllAgree};
+ghost use Rattle.plir_builtin.specs.SymbolUses.{IsUseRefused};
+
+use crate::collection::SymbolTableCollection;
+use plir_core::Context;
+use plir_data::{Identifier, Memory, OpSet, VerifyErr};
+use plir_iface::Op;
+use std::alloc::Global;
+
+/// Operations that use symbols by their names.
+pub trait SymbolUserOpInterface<D: OpSet>: Op<D> {
+    // The uses of the operation are right.
+    ghost has_right_uses: { Self → Store D.Kind D.Attr D.Ty → Type 0 };
+
+    /// Accepts exactly where the uses are right, where all tables of the collection agree, memory aside; they agree
+    /// afterwards.
+    fn verify_symbol_uses(
+        &self,
+        ctx: &Context<D>,
+        tables: &mut SymbolTableCollection,
+    ) -> Result<(), VerifyErr<D::Err>>
+        requires { IsLive ctx.now (AnyNode.Operation (Self.pointer self.now)) }
+        ensures ok { AllAgree D.is_symbol D.is_symbol_table ctx.now tables.old → OnOk result (has_right_uses self.now ctx.now) }
+        ensures refused { AllAgree D.is_symbol D.is_symbol_table ctx.now tables.old → IfErr result (IsUseRefused (has_right_uses self.now ctx.now)) }
+        ensures agree { AllAgree D.is_symbol D.is_symbol_table ctx.now tables.old → AllAgree D.is_symbol D.is_symbol_table ctx.now tables.new };
+
+    /// The names that the operation uses.
+    fn used_symbols(&self, alloc: Global, ctx: &Context<D>) -> Result<Vec<Identifier>, Memory>
+        requires { IsLive ctx.now (AnyNode.Operation (Self.pointer self.now)) };
+
+    /// Accepts always.
+    final fn verify(&self, _ctx: &Context<D>) -> Result<(), Memory>
+        ensures { result ≡ Ok tt }
+    {
+        Ok(())
+    }
+}

@@ -1,0 +1,93 @@
+//! Operations that use symbols, and how an op set verifies their uses.
+ghost use Rattle.std.specs.Prelude.{◌≡◌, true, length, IfErr, OnOk};
+ghost use Rattle.plir_core.specs.declared.ptr.Operation.{Operation as OperationKind};
+ghost use Rattle.plir_core.specs.declared.ptr.Ptr.{Ptr as AnyPtr};
+ghost use Rattle.plir_core.specs.declared.ptr.IRNode.{IRNode as AnyNode};
+ghost use Rattle.plir_core.specs.Store.{Store, IsLive, kids, kind_of};
+ghost use Rattle.plir_builtin.specs.Agree.{AllAgree};
+ghost use Rattle.plir_builtin.specs.Handed.{is_table_at};
+ghost use Rattle.plir_builtin.specs.SymbolUses.{is_user_kind, AllUsesHold, IsUseCheck, IsUseRefused};
+
+use crate::collection::SymbolTableCollection;
+use crate::walking::walk_symbol_table;
+use plir_core::{Context, Interface, Operation, Ptr, kind_impls};
+use plir_data::{OpSet, VerifyErr};
+use plir_walk::interruptible::{WalkResult, walk_advance, walk_break};
+use std::alloc::Global;
+use std::ops::ControlFlow;
+
+/// An op set that verifies the uses of symbols of its own operations: it sends each to the interface that it implements.
+pub trait SymbolUserSet: OpSet {
+    // The uses of an operation are right.
+    ghost uses_hold: { Store Self.Kind Self.Attr Self.Ty → AnyPtr OperationKind → Type 0 };
+
+    /// Accepts exactly where the uses of a symbol user are right, where all tables of the collection agree, memory aside;
+    /// they agree afterwards.
+    fn verify_symbol_uses(
+        ctx: &Context<Self>,
+        op: Ptr<Operation>,
+        tables: &mut SymbolTableCollection,
+    ) -> Result<(), VerifyErr<Self::Err>>
+        requires live { IsLive ctx.now (AnyNode.Operation op) }
+        requires user { is_user_kind Self.is_symbol_user (kind_of ctx.now op) ≡ true }
+        ensures ok { AllAgree Self.is_symbol Self.is_symbol_table ctx.now tables.old → OnOk result (uses_hold ctx.now op) }
+        ensures refused { AllAgree Self.is_symbol Self.is_symbol_table ctx.now tables.old → IfErr result (IsUseRefused (uses_hold ctx.now op)) }
+        ensures agree { AllAgree Self.is_symbol Self.is_symbol_table ctx.now tables.old → AllAgree Self.is_symbol Self.is_symbol_table ctx.now tables.new };
+}
+
+/// Whether an operation is a symbol user.
+pub(crate) fn is_user<D: OpSet>(ctx: &Context<D>, op: Ptr<Operation>) -> bool
+    requires { IsLive ctx.now (AnyNode.Operation op) }
+    ensures { result ≡ is_user_kind D.is_symbol_user (kind_of ctx.now op) }
+{
+    kind_impls::<D>(op.kind(ctx), Interface::SymbolUser)
+}
+
+/// What is told of uses that are refused. (A walk's callback can't break with an `Err` of an op set that stands alone.)
+#[derive(Drop)]
+struct RefusedUse<D: OpSet> {
+    why: VerifyErr<D::Err>,
+}
+
+/// Verifies the uses of an operation, if it is a symbol user.
+fn check_use<D: SymbolUserSet>(
+    ctx: &Context<D>,
+    op: Ptr<Operation>,
+    tables: &mut SymbolTableCollection,
+) -> WalkResult<RefusedUse<D>>
+    requires { IsLive ctx.now (AnyNode.Operation op) }
+    ensures { IsUseCheck D.is_symbol D.is_symbol_table D.is_symbol_user D.uses_hold (λ r. r.why) ctx.now tables.old op result tables.new }
+{
+    if !is_user(ctx, op) {
+        return walk_advance();
+    }
+    match D::verify_symbol_uses(ctx, op, tables) {
+        Ok(()) => walk_advance(),
+        Err(why) => walk_break(RefusedUse { why }),
+    }
+}
+
+/// Accepts exactly where the uses of every symbol user hold that the walk of a table hands over.
+pub(crate) fn verify_uses<D: SymbolUserSet>(
+    alloc: Global,
+    ctx: &Context<D>,
+    op: Ptr<Operation>,
+) -> Result<(), VerifyErr<D::Err>>
+    requires op_live { IsLive ctx.now (AnyNode.Operation op) }
+    requires table { is_table_at D.is_symbol_table ctx.now op ≡ true }
+    requires one_region { length (kids ctx.now (AnyNode.Operation op)) ≡ 1 }
+    ensures ok { OnOk result (AllUsesHold D.is_symbol_table ctx.now D.is_symbol_user D.uses_hold op) }
+    ensures refused { IfErr result (IsUseRefused (AllUsesHold D.is_symbol_table ctx.now D.is_symbol_user D.uses_hold op)) }
+{
+    let mut tables = SymbolTableCollection::new(alloc);
+    let check = |c: &Context<D>, t: &mut SymbolTableCollection, p: Ptr<Operation>| -> WalkResult<
+        RefusedUse<D>,
+    >
+        requires { IsLive c.now (AnyNode.Operation p) }
+        ensures { IsUseCheck D.is_symbol D.is_symbol_table D.is_symbol_user D.uses_hold (λ r. r.why) c.now t.old p result t.new }
+    { check_use(c, p, t) };
+    match walk_symbol_table(op, ctx, &mut tables, check) {
+        ControlFlow::Break(RefusedUse { why }) => Err(why),
+        ControlFlow::Continue(_) => Ok(()),
+    }
+}

@@ -1,0 +1,62 @@
+//! The body of a table: the one block of its one region.
+ghost use Rattle.std.specs.Prelude.{◌≡◌, Some, IfOk, IfErr, IsSome};
+ghost use Rattle.plir_core.specs.declared.ptr.IRNode.{IRNode as AnyNode};
+ghost use Rattle.plir_core.specs.Store.{IsLive};
+ghost use Rattle.plir_builtin.specs.Symbols.{body};
+ghost use Rattle.plir_builtin.specs.Refusals.{Tells, BodyRefused};
+
+use crate::symbol_table_err::SymbolTableErr;
+use plir_core::{BasicBlock, Context, Operation, Ptr};
+use plir_data::{OpSet, VerifyErr};
+use plir_iface::{OneRegionInterface, Op, SingleBlockRegionInterface};
+
+/// Any operation, as one whose one region has one block.
+#[derive(Clone, Copy)]
+struct AnyOp {
+    op: Ptr<Operation>,
+}
+
+impl<D: OpSet> Op<D> for AnyOp {
+    ghost pointer = { λ o. o.op };
+
+    fn get_operation(&self) -> Ptr<Operation> {
+        self.op
+    }
+}
+
+impl<D: OpSet> OneRegionInterface<D> for AnyOp {}
+
+impl<D: OpSet> SingleBlockRegionInterface<D> for AnyOp {}
+
+/// The body of an operation that has one.
+pub(crate) fn body_of<D: OpSet>(ctx: &Context<D>, op: Ptr<Operation>) -> Ptr<BasicBlock>
+    requires live { IsLive ctx.now (AnyNode.Operation op) }
+    requires at_body { IsSome (body ctx.now op) }
+    ensures body { body ctx.now op ≡ Some (AnyNode.BasicBlock result) }
+    ensures live { IsLive ctx.now (AnyNode.BasicBlock result) }
+{
+    SingleBlockRegionInterface::<D>::get_body(&AnyOp { op }, ctx, 0)
+}
+
+/// The body of an operation, or why it has none.
+pub(crate) fn find_body<D: OpSet>(
+    ctx: &Context<D>,
+    op: Ptr<Operation>,
+) -> Result<Ptr<BasicBlock>, SymbolTableErr>
+    requires { IsLive ctx.now (AnyNode.Operation op) }
+    ensures body { IfOk result (λ b. body ctx.now op ≡ Some (AnyNode.BasicBlock b)) }
+    ensures live { IfOk result (λ b. IsLive ctx.now (AnyNode.BasicBlock b)) }
+    ensures refused { IfErr result (Tells (BodyRefused ctx.now op)) }
+{
+    let any = AnyOp { op };
+    match OneRegionInterface::<D>::verify(&any, ctx) {
+        Ok(()) => {}
+        Err(VerifyErr::Refused { err, .. }) => return Err(SymbolTableErr::Regions(err)),
+        Err(VerifyErr::Memory) => unreachable!(),
+    }
+    match SingleBlockRegionInterface::<D>::verify(&any, ctx) {
+        Ok(()) => Ok(body_of(ctx, op)),
+        Err(VerifyErr::Refused { err, .. }) => Err(SymbolTableErr::Body(err)),
+        Err(VerifyErr::Memory) => unreachable!(),
+    }
+}
