@@ -11,6 +11,9 @@ use Rattle.plir_core.specs.declared.ptr.Ptr.{Ptr}
 use Rattle.plir_core.specs.declared.ptr.Region.{Region as RegionKind}
 use Rattle.plir_core.specs.NodeLists.{Has, Distinct}
 use Rattle.plir_flow.specs.declared.hops.Hop.{Hop}
+use Rattle.plir_core.specs.Store.{Store}
+use Rattle.plir_flow.specs.declared.edge_ends.RegionSuccessor.TheVariants.{Region as ToRegion}
+use Rattle.plir_flow.specs.RegionEdges.{EdgeView, IsFromRegion, IsStep}
 use Rattle.plir_flow.specs.Hops.{IsHop, IsNoneFrom, IsLatest, AreLinked, AreHeads, IsReachedMore}
 use Rattle.plir_flow.proofs.TakenLists.{has-left, has-last, has-more, distinct-push, any-has}
 
@@ -184,3 +187,32 @@ module _ (hops : List Hop) (r : Ptr RegionKind) where
             more-like _ _ xs (insert_key eq ys g.to) (more-insert eq exact (IsHopFrom n) xs ys g.to w) (from-next n k g latest.0 here own latest.2),
           ),
         )
+
+-- an edge more
+module _ {K A T : Type 0} (s : Store K A T) (es : List EdgeView) (e : EdgeView) (a b : Ptr RegionKind) where
+  pub steps-more : (IsStep s es a b ⊎ (IsFromRegion s a e × (e.to ≡ ToRegion b))) ↔ IsStep s (es ++ e ∷ []) a b
+  steps-more = (
+    λ h. elim h [
+      | inl (d, (here, from, to)) ↦ (d, (has-left es (e ∷ []) d here, from, to))
+      | inr (from, to) ↦ (e, (has-last es e, from, to))
+    ],
+    λ (d, (here, from, to)). elim (has-more es e d here) [
+      | inl before ↦ inl (d, (before, from, to))
+      | inr same ↦ inr (subst (λ (z : EdgeView). IsFromRegion s a z) (sym same) from, ap (λ (z : EdgeView). z.to) same ∙ to)
+    ],
+  )
+
+pub sum-like : {A B C D : Type 0} → (A ↔ C) → (B ↔ D) → (A ⊎ B) ↔ (C ⊎ D)
+sum-like f g = (λ h. elim h [ inl a ↦ inl (f.0 a) | inr b ↦ inr (g.0 b) ], λ h. elim h [ inl c ↦ inl (f.1 c) | inr d ↦ inr (g.1 d) ])
+
+pub through : {A B C : Type 0} → (A ↔ B) → (B ↔ C) → A ↔ C
+through f g = (λ a. g.0 (f.0 a), λ c. f.1 (g.1 c))
+
+pub no-some : {A : Type 0} (x : A) → None ≡ Some x → ⊥
+no-some x e = cc
+
+pub pair-same : {A B : Type 0} (x y : A × B) → ((x.0 ≡ y.0) × (x.1 ≡ y.1)) ↔ (Some x ≡ Some y)
+pair-same {A} {B} x y = (
+  λ (p, q). let e : x ≡ y = λ i. (p i, q i) in ap (λ z. Some z) e,
+  λ e. let s : x ≡ y = same_Some x y e in (ap (λ (z : A × B). z.0) s, ap (λ (z : A × B). z.1) s),
+)

@@ -13,3 +13,4 @@ pub mod TakenLists
 pub mod Hopping
 pub mod Exact
 pub mod LiveEdges
+pub mod Reaching

@@ -115,6 +115,10 @@ module _ {A : Type 0} where
     any-has x (y ∷ ys) =
         Decides-or (eq x y) (list_any (eq x) ys) (Decides-like (eq x y) (λ e. sym e) (λ e. sym e) (exact x y)) (any-has x ys)
 
+    pub any-is : (x : A) (ys : List A) → Decides (list_any (λ y. eq y x) ys) (Has ys x)
+    any-is x [] = (λ e. absurd (let f : false ≡ true = e in cc), λ h. absurd h)
+    any-is x (y ∷ ys) = Decides-or (eq y x) (list_any (λ z. eq z x) ys) (exact y x) (any-is x ys)
+
     -- what an insertion says of whether the element is new
     pub fresh-says : (x : A) (ys : List A) (b : Bool) → b ≡ not (list_any (eq x) ys) → IsTrue b ↔ (Has ys x → ⊥)
     fresh-says x ys b e = by (list_any (eq x) ys) refl

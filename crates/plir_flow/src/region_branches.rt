@@ -1,6 +1,8 @@
 //! The interface of operations that pass control between their regions.
 ghost use Rattle.std.specs.Prelude.{◌≡◌, ◌↔◌, List, All, IsTrue, IfOk, IfErr, OnOk, map};
 ghost use Rattle.std.specs.List.{flat_map};
+ghost use Rattle.plir_core.specs.declared.ptr.Ptr.{Ptr as PtrTo};
+ghost use Rattle.plir_core.specs.declared.ptr.Region.{Region as RegionKind};
 ghost use Rattle.plir_core.specs.declared.ptr.IRNode.{IRNode};
 ghost use Rattle.plir_core.specs.NodeLists.{Has, Distinct};
 ghost use Rattle.plir_core.specs.Store.{IsLive, IsValueLive};
@@ -12,6 +14,7 @@ ghost use Rattle.plir_flow.specs.RegionEdges.{Flow, IsFrom, IsTo, IsFromRegion, 
 use crate::edge_ends::{RegionBranchPoint, RegionEdge, RegionSuccessor};
 use crate::edge_lists::{keep_from, keep_to, reads, reads_in, receivers, regions_in};
 use crate::flow_lists::{flows, keep_into, operands};
+use crate::hops::{is_among, reachable};
 use plir_core::{Context, Ptr, Region, Use, Value};
 use plir_data::{Memory, OpSet, VerifyErr};
 use plir_iface::Op;
@@ -195,5 +198,37 @@ pub trait RegionBranchOpInterface<D: OpSet>: Op<D> {
     {
         let edges = self.region_edges(alloc, ctx)?;
         regions_in(alloc, ctx, &edges, region)
+    }
+    /// The regions that paths of one edge or more between regions lead to from a region, each once; the region itself is
+    /// among them only if it is on a cycle. Their order is open. What this takes is linear in the regions and edges.
+    final fn reachable_regions(
+        &self,
+        alloc: Global,
+        ctx: &Context<D>,
+        region: Ptr<Region>,
+    ) -> Result<Vec<Ptr<Region>>, Memory>
+        requires live { IsLive ctx.now (IRNode.Operation (Self.pointer self.now)) }
+        requires layout { has_edges_layout self.now ctx.now }
+        ensures all { IfOk result (λ rs. (b : PtrTo RegionKind) → Has rs.items b ↔ Reach ctx.now (edges self.now ctx.now) region b) }
+        ensures once { IfOk result (λ rs. Distinct rs.items) }
+        ensures live { IfOk result (λ rs. All (λ r. IsLive ctx.now (IRNode.Region r)) rs.items) }
+    {
+        let edges = self.region_edges(alloc, ctx)?;
+        reachable(alloc, ctx, &edges, region)
+    }
+
+    /// Whether a path of one edge or more between regions leads from a region back to it, as in the body of a loop.
+    final fn is_repetitive_region(
+        &self,
+        alloc: Global,
+        ctx: &Context<D>,
+        region: Ptr<Region>,
+    ) -> Result<bool, Memory>
+        requires live { IsLive ctx.now (IRNode.Operation (Self.pointer self.now)) }
+        requires layout { has_edges_layout self.now ctx.now }
+        ensures { IfOk result (λ b. IsTrue b ↔ Reach ctx.now (edges self.now ctx.now) region region) }
+    {
+        let reached = self.reachable_regions(alloc, ctx, region)?;
+        Ok(is_among(&reached, region))
     }
 }
