@@ -14,3 +14,4 @@ pub mod Hopping
 pub mod Exact
 pub mod LiveEdges
 pub mod Reaching
+pub mod EdgeRules

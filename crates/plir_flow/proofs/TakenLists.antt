@@ -120,12 +120,15 @@ module _ {A : Type 0} where
     any-is x (y ∷ ys) = Decides-or (eq y x) (list_any (λ z. eq z x) ys) (exact y x) (any-is x ys)
 
     -- what an insertion says of whether the element is new
-    pub fresh-says : (x : A) (ys : List A) (b : Bool) → b ≡ not (list_any (eq x) ys) → IsTrue b ↔ (Has ys x → ⊥)
-    fresh-says x ys b e = by (list_any (eq x) ys) refl
+    pub fresh-says : (x : A) (ys : List A) (b : Bool) → b ≡ not (list_any (eq x) ys) → b ≡ true → Has ys x → ⊥
+    fresh-says x ys b e t h = let y : list_any (eq x) ys ≡ true = (any-has x ys).1 h in let n : b ≡ not true = e ∙ ap not y in let f : false ≡ true = sym n ∙ t in cc
+
+    pub twice-says : (x : A) (ys : List A) (b : Bool) → b ≡ not (list_any (eq x) ys) → b ≡ false → Has ys x
+    twice-says x ys b e f = by (list_any (eq x) ys) refl
       where
-        by : (v : Bool) → list_any (eq x) ys ≡ v → IsTrue b ↔ (Has ys x → ⊥)
-        by true is = (λ t h. let n : b ≡ not true = e ∙ ap not is in cc, λ n. absurd (n ((any-has x ys).0 is)))
-        by false is = (λ t h. let y : list_any (eq x) ys ≡ true = (any-has x ys).1 h in cc, λ n. let y : b ≡ not false = e ∙ ap not is in y)
+        by : (v : Bool) → list_any (eq x) ys ≡ v → Has ys x
+        by true is = (any-has x ys).0 is
+        by false is = absurd (let n : b ≡ not false = e ∙ ap not is in let g : true ≡ false = sym n ∙ f in cc)
 
     -- one element more
     pub once-more : (xs ys : List A) (x : A) → IsOnceEach xs ys → IsOnceEach (xs ++ x ∷ []) (insert_key eq ys x)
@@ -163,7 +166,7 @@ module _ {A : Type 0} where
           order = upto (ys ++ x ∷ []) (omega (arith, length-append ys (x ∷ []))) (λ m h. take-append-le m ys (x ∷ []) h) new;
         }
 
-pub last-says : {A : Type 0} (eq : A → A → Bool) (x : A) (ys zs : List A) (b : Bool) → b ≡ not (list_any (eq x) ys) → zs ≡ insert_key eq ys x → IsTrue b → zs ≡ ys ++ x ∷ []
+pub last-says : {A : Type 0} (eq : A → A → Bool) (x : A) (ys zs : List A) (b : Bool) → b ≡ not (list_any (eq x) ys) → zs ≡ insert_key eq ys x → b ≡ true → zs ≡ ys ++ x ∷ []
 last-says eq x ys zs b e is t = by (list_any (eq x) ys) refl
   where
     by : (v : Bool) → list_any (eq x) ys ≡ v → zs ≡ ys ++ x ∷ []

@@ -1,11 +1,14 @@
 -- The rule of region edges, and how it is refused.
-use Rattle.std.specs.Prelude.{◌≡◌, ◌⊎◌, ◌↔◌, ℕ, List, [], ◌∷◌, All, Bool, true, map, slice_get, Option, Some, string_bytes, option_and_then}
+use Rattle.std.specs.Prelude.{◌≡◌, ◌⊎◌, ◌↔◌, ℕ, List, [], ◌∷◌, All, Bool, true, map, slice_get, Option, Some, None, ◌<◌, ◌++◌, ◌&&◌, false, string_bytes, option_and_then}
+use Rattle.std.specs.HashMap.{HashMap, get}
+use Rattle.std.specs.Option.{option_eq}
 use Rattle.plir_data.specs.declared.location.VerifyErr.{VerifyErr}
 use Rattle.plir_data.specs.declared.location.VerifyErr.TheVariants.{Refused, Memory}
 use Rattle.plir_data.specs.Types.{TypeView, IsLive as IsTypeLive}
 use Rattle.plir_data.specs.TypeText.{type_text}
 use Rattle.plir_core.specs.declared.ptr.Ptr.{Ptr}
 use Rattle.plir_core.specs.declared.ptr.Operation.{Operation as OperationKind}
+use Rattle.plir_core.specs.declared.ptr.Region.{Region as RegionKind}
 use Rattle.plir_core.specs.declared.ptr.IRNode.TheVariants.{Operation, Region}
 use Rattle.plir_core.specs.declared.value.Value.{Value}
 use Rattle.plir_core.specs.declared.value.DefiningEntity.{DefiningEntity}
@@ -22,6 +25,7 @@ use Rattle.plir_flow.specs.declared.region_edge_errors.RegionBranchOpInterfaceVe
 use Rattle.plir_flow.specs.declared.region_edge_errors.RegionBranchOpInterfaceVerifyErr.TheVariants.{Layout, ReceiverSetMismatch, InvalidTerminator, ReadNotOpOrSourceOperand, ForeignRegionSuccessor, OperandNotAtBranchPoint, ReceiverNotRegionArgument, ReceiverNotResult, DuplicateReceiver, FlowTypeMismatch}
 use Rattle.plir_flow.specs.declared.region_edge_errors.EdgeFault.{EdgeFault}
 use Rattle.plir_flow.specs.declared.region_edge_errors.EdgeFault.TheVariants.{OtherReceivers, ForeignTerminator, ForeignRead, ForeignRegion, ForeignOperand, NoArgument, NoResult, ReceivedTwice, OtherType}
+use Rattle.plir_flow.specs.Hops.{same_region}
 use Rattle.plir_flow.specs.RegionEdges.{EdgeView, Flow, receivers_on}
 
 -- the refusal of a layout, as that of region edges
@@ -32,6 +36,10 @@ in_edges Memory = Memory
 -- two edges have one set of receivers
 abbrev pub SameReceivers : (d e : EdgeView) → Type 0
 SameReceivers d e = (v : Value) → Has (receivers_on d) v ↔ Has (receivers_on e) v
+
+-- two edges with one target have other sets of receivers
+abbrev pub HaveOtherReceivers : List EdgeView → Type 0
+HaveOtherReceivers es = (d : EdgeView) × ((e : EdgeView) × (Has es d × Has es e × (d.to ≡ e.to) × (SameReceivers d e → ⊥)))
 
 -- the operation at a point of the operation op
 abbrev pub source_at : Ptr OperationKind → RegionBranchPoint → Ptr OperationKind
@@ -64,9 +72,19 @@ module _ {K A T : Type 0} (s : Store K A T) (op : Ptr OperationKind) where
   IsReceiver (ToRegion r) v = IsArgument v.entity × (first_kid s (Region r) ≡ Some (entity_node v.entity))
   IsReceiver After v = v.entity ≡ Op op
 
+-- the fault of a value that may not receive at the end of an edge
+abbrev pub no_receiver : RegionSuccessor → EdgeFault
+no_receiver (ToRegion r) = NoArgument
+no_receiver After = NoResult
+
 -- the type of the operand at a use
 abbrev pub type_of_use : {K A T : Type 0} → Store K A T → Use Value → Option ℕ
 type_of_use s u = option_and_then (type_of_value s) (slice_get (operands_of s u.op) u.index)
+
+-- a fault names the types of the operand at a use and of what receives it, and they are two
+abbrev pub IsOfOtherType : {K A T : Type 0} → Store K A T → Use Value → Value → EdgeFault → Type 0
+IsOfOtherType s u v (OtherType x y) = (type_of_use s u ≡ Some x) × (type_of_value s v ≡ Some y) × (x ≡ y → ⊥)
+IsOfOtherType s u v _ = ⊥
 
 module _ {K A T : Type 0} (s : Store K A T) (op : Ptr OperationKind) (p : RegionBranchPoint) (t : RegionSuccessor) where
   -- What flows on an edge is an operand of the operation at its start, and goes to a receiver at its end, of the same type.
@@ -78,9 +96,9 @@ module _ {K A T : Type 0} (s : Store K A T) (op : Ptr OperationKind) (p : Region
   -- what flows breaks the point that a fault names
   abbrev pub IsFlowBroken : Flow → EdgeFault → Type 0
   IsFlowBroken f ForeignOperand = f.0.op ≡ source_at op p → ⊥
-  IsFlowBroken f NoArgument = (t ≡ After → ⊥) × (IsReceiver s op t f.1 → ⊥)
-  IsFlowBroken f NoResult = (t ≡ After) × (IsReceiver s op t f.1 → ⊥)
-  IsFlowBroken f (OtherType x y) = (type_of_use s f.0 ≡ Some x) × (type_of_value s f.1 ≡ Some y) × (x ≡ y → ⊥)
+  IsFlowBroken f NoArgument = (no_receiver t ≡ NoArgument) × (IsReceiver s op t f.1 → ⊥)
+  IsFlowBroken f NoResult = (no_receiver t ≡ NoResult) × (IsReceiver s op t f.1 → ⊥)
+  IsFlowBroken f (OtherType x y) = IsOfOtherType s f.0 f.1 (OtherType x y)
   IsFlowBroken f _ = ⊥
 
 module _ {K A T : Type 0} (is_terminator : K → Bool) (s : Store K A T) (op : Ptr OperationKind) where
@@ -106,14 +124,52 @@ module _ {K A T : Type 0} (is_terminator : K → Bool) (s : Store K A T) (op : P
   IsBrokenAt e ReceivedTwice = Distinct (receivers_on e) → ⊥
   IsBrokenAt e x = (f : Flow) × (Has e.flows f × IsFlowBroken s op e.from e.to f x)
 
-  -- two edges with one target have other sets of receivers
-  abbrev pub HaveOtherReceivers : List EdgeView → Type 0
-  HaveOtherReceivers es = (d : EdgeView) × ((e : EdgeView) × (Has es d × Has es e × (d.to ≡ e.to) × (SameReceivers d e → ⊥)))
-
   -- some edge breaks the point that a fault names
   abbrev pub IsBroken : List EdgeView → EdgeFault → Type 0
   IsBroken es OtherReceivers = HaveOtherReceivers es
   IsBroken es f = (e : EdgeView) × (Has es e × IsBrokenAt e f)
+
+-- What flows is right and goes to none of those that have received, and now its receiver is the last of these; or it breaks
+-- the point that the fault names, or goes to one of those.
+abbrev pub FlowSays : {K A T : Type 0} → Store K A T → Ptr OperationKind → RegionBranchPoint → RegionSuccessor → Flow → (received now : List Value) → Option EdgeFault → Type 0
+FlowSays s op p t f received now None = IsFlowRight s op p t f × (Has received f.1 → ⊥) × (now ≡ received ++ f.1 ∷ [])
+FlowSays s op p t f received now (Some x) = IsFlowBroken s op p t f x ⊎ ((x ≡ ReceivedTwice) × Has received f.1)
+
+module _ {K A T : Type 0} (is_terminator : K → Bool) (s : Store K A T) (op : Ptr OperationKind) where
+  -- what flows on an edge is right, or the edge breaks the point that the fault names
+  abbrev pub FlowsSay : EdgeView → Option EdgeFault → Type 0
+  FlowsSay e None = All (IsFlowRight s op e.from e.to) e.flows × Distinct (receivers_on e)
+  FlowsSay e (Some x) = IsBrokenAt is_terminator s op e x
+
+  -- an edge is right, or it breaks the point that the fault names
+  abbrev pub EdgeSays : EdgeView → Option EdgeFault → Type 0
+  EdgeSays e None = IsEdgeRight is_terminator s op e
+  EdgeSays e (Some x) = IsBrokenAt is_terminator s op e x
+
+  -- the rule holds, or some edge breaks the point that the fault names
+  abbrev pub EdgesSay : List EdgeView → Option EdgeFault → Type 0
+  EdgesSay es None = HasEdgeRule is_terminator s op es
+  EdgesSay es (Some x) = IsBroken is_terminator s op es x
+
+-- Of the first n edges each has the receivers of the one that its target's head tells, and a head tells an edge with that target.
+pub record AreFirsts (es : List EdgeView) (n : ℕ) (head : RegionSuccessor → Option ℕ) : Type 0 where
+  pub seen : (j : ℕ) (d : EdgeView) → j < n → slice_get es j ≡ Some d → (i : ℕ) × ((e : EdgeView) × ((head d.to ≡ Some i) × (slice_get es i ≡ Some e) × SameReceivers e d))
+  pub heads : (t : RegionSuccessor) (i : ℕ) → head t ≡ Some i → (e : EdgeView) × ((slice_get es i ≡ Some e) × (e.to ≡ t))
+
+-- whether two successors are one
+abbrev pub same_successor : (t u : RegionSuccessor) → Bool
+same_successor (ToRegion p) (ToRegion q) = same_region p q && true
+same_successor After After = true
+same_successor _ _ = false
+
+-- the region that an edge leads to
+abbrev pub target_region : RegionSuccessor → Option (Ptr RegionKind)
+target_region (ToRegion r) = Some r
+target_region After = None
+
+-- the place that a map has for the region of a target
+abbrev pub first_place : {S : Type 0} → HashMap (Option (Ptr RegionKind)) ℕ S → RegionSuccessor → Option ℕ
+first_place m t = get (option_eq same_region) m (target_region t)
 
 -- the types that a fault names are types of the context
 abbrev pub NamesLive : {K A T : Type 0} → Store K A T → EdgeFault → Type 0
@@ -135,8 +191,12 @@ module _ {K A T E : Type 0} (own_id : T → List ℕ) (own_body : List (TypeView
       (string_bytes operand ≡ type_text own_id own_body s.types t) × (string_bytes receiver ≡ type_text own_id own_body s.types u)
   TellsFault _ _ = ⊥
 
-  module _ (is_terminator : K → Bool) (layout : Type 0) (layout_refusal : E → Type 0) (op : Ptr OperationKind) (es : List EdgeView) where
+  module _ (is_terminator : K → Bool) (op : Ptr OperationKind) (es : List EdgeView) where
+    -- the error tells a point that some edge breaks
+    abbrev pub IsToldFault : RegionBranchOpInterfaceVerifyErr E → Type 0
+    IsToldFault e = (f : EdgeFault) × (IsBroken is_terminator s op es f × TellsFault f e)
+
     -- The layout is wrong, and this is its refusal; or it is right, and the error tells a point that some edge breaks.
-    abbrev pub IsEdgeRefusal : RegionBranchOpInterfaceVerifyErr E → Type 0
-    IsEdgeRefusal (Layout e) = (layout → ⊥) × layout_refusal e
-    IsEdgeRefusal e = layout × ((f : EdgeFault) × (IsBroken is_terminator s op es f × TellsFault f e))
+    abbrev pub IsEdgeRefusal : (layout : Type 0) (layout_refusal : E → Type 0) → RegionBranchOpInterfaceVerifyErr E → Type 0
+    IsEdgeRefusal layout layout_refusal (Layout e) = (layout → ⊥) × layout_refusal e
+    IsEdgeRefusal layout layout_refusal e = layout × IsToldFault e

@@ -1,5 +1,5 @@
 //! Lists that have each of their elements once.
-ghost use Rattle.std.specs.Prelude.{◌≡◌, ◌↔◌, ◌∷◌, ◌++◌, List, [], IsTrue, IfOk, OnOk};
+ghost use Rattle.std.specs.Prelude.{◌≡◌, ◌↔◌, ◌∷◌, ◌++◌, List, [], IsTrue, IfOk, OnOk, true, false};
 ghost use Rattle.std.specs.Bool.{Decides};
 ghost use Rattle.plir_core.specs.NodeLists.{Has};
 ghost use Rattle.plir_flow.specs.Taken.{IsOnceEach};
@@ -16,8 +16,9 @@ pub(crate) fn add<T: Copy + Eq + Hash + Drop>(
 ) -> Result<bool, Memory>
     requires { (a b : T) → Decides (T.eq a b) (a ≡ b) }
     ensures once { OnOk result ((xs : List T) → IsOnceEach xs seen.old.keys → IsOnceEach (xs ++ value ∷ []) seen.new.keys) }
-    ensures fresh { IfOk result (λ b. IsTrue b ↔ (Has seen.old.keys value → ⊥)) }
-    ensures last { IfOk result (λ b. IsTrue b → seen.new.keys ≡ seen.old.keys ++ value ∷ []) }
+    ensures fresh { IfOk result (λ b. b ≡ true → Has seen.old.keys value → ⊥) }
+    ensures twice { IfOk result (λ b. b ≡ false → Has seen.old.keys value) }
+    ensures last { IfOk result (λ b. b ≡ true → seen.new.keys ≡ seen.old.keys ++ value ∷ []) }
 {
     let fresh = seen.insert(value)?;
     Ok(fresh)

@@ -10,11 +10,14 @@ ghost use Rattle.plir_core.specs.Whole.{IsWhole};
 ghost use Rattle.plir_iface.specs.Verdict.{IsRefusalMemoryAside};
 ghost use Rattle.plir_flow.specs.Taken.{AreThose, AreTakenOnce};
 ghost use Rattle.plir_flow.specs.RegionEdges.{Flow, IsFrom, IsTo, IsFromRegion, IsInto, IsUseLive, IsFlowLive, AreEdgesLive, flows_on, reads_on, receivers_on, regions_on, Reach};
+ghost use Rattle.plir_flow.specs.RegionRule.{HasEdgeRule, IsEdgeRefusal};
 
 use crate::edge_ends::{RegionBranchPoint, RegionEdge, RegionSuccessor};
 use crate::edge_lists::{keep_from, keep_to, reads, reads_in, receivers, regions_in};
+use crate::edge_refusals::{as_edges_layout, verify_edges};
 use crate::flow_lists::{flows, keep_into, operands};
 use crate::hops::{is_among, reachable};
+use crate::region_edge_errors::RegionBranchOpInterfaceVerifyErr;
 use plir_core::{Context, Ptr, Region, Use, Value};
 use plir_data::{Memory, OpSet, VerifyErr};
 use plir_iface::Op;
@@ -230,5 +233,31 @@ pub trait RegionBranchOpInterface<D: OpSet>: Op<D> {
     {
         let reached = self.reachable_regions(alloc, ctx, region)?;
         Ok(is_among(&reached, region))
+    }
+    /// Accepts exactly where the operation stands as its edges want it and the edges have their rule: two edges with one
+    /// target have one set of receivers; edges start at the operation or at terminators in its regions, lead to its regions
+    /// or behind it, read operands of the operation or of the one at their start, and pass operands of the one at their
+    /// start to arguments of the entry block or to results, each once and of the same type. Else it tells the refusal of the
+    /// layout, or the point that the first edge breaks that breaks one.
+    final fn verify(
+        &self,
+        alloc: Global,
+        ctx: &Context<D>,
+    ) -> Result<(), VerifyErr<RegionBranchOpInterfaceVerifyErr<D::Err>>>
+        requires { IsLive ctx.now (IRNode.Operation (Self.pointer self.now)) }
+        ensures layout { OnOk result (has_edges_layout self.now ctx.now) }
+        ensures rule { OnOk result (HasEdgeRule D.is_terminator ctx.now (Self.pointer self.now) (edges self.now ctx.now)) }
+        ensures refused { IfErr result (IsRefusalMemoryAside ctx.now (Self.pointer self.now) (IsEdgeRefusal D.type_id D.type_body_text ctx.now D.is_terminator (Self.pointer self.now) (edges self.now ctx.now) (has_edges_layout self.now ctx.now) (refuses_edges_layout self.now ctx.now))) }
+        ensures whole { IsWhole D.attr_handles ctx.now }
+    {
+        let op = self.get_operation();
+        let _live = op.is_live(ctx);
+        match self.verify_region_edges_layout(alloc, ctx) {
+            Err(refused) => Err(as_edges_layout(refused)),
+            Ok(()) => match self.region_edges(alloc, ctx) {
+                Err(_) => Err(VerifyErr::Memory),
+                Ok(edges) => verify_edges(alloc, ctx, op, &edges),
+            },
+        }
     }
 }
