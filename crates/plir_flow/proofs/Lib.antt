@@ -9,3 +9,9 @@ pub mod Refusals
 pub mod Forwarded
 pub mod BranchFaults
 pub mod CalleeTypes
+pub mod TakenLists
+pub mod Hopping
+pub mod Exact
+pub mod LiveEdges
+pub mod Reaching
+pub mod EdgeRules

@@ -5,8 +5,18 @@
 --   SegmentTypes     the rules of the types in one segment, and how they are refused
 --   Branches         the rules of branches and of successors, and how they are refused
 --   Calls            the rule of calls, and how it is refused
+--   Taken            AreThose, IsOnceEach, AreTakenOnce: lists that are taken from other lists
+--   Paths            LeadsTo: paths of steps
+--   RegionEdges      EdgeView: an edge between an operation and its regions; Reach: which regions paths of edges lead to
+--   RegionRule       HasEdgeRule: the rule of region edges, and how it is refused
+--   Hops             how the steps between regions are kept, while those that are reached are looked for
 pub mod Segments
 pub mod SegmentRefusals
 pub mod SegmentTypes
 pub mod Branches
 pub mod Calls
+pub mod Taken
+pub mod Paths
+pub mod RegionEdges
+pub mod RegionRule
+pub mod Hops

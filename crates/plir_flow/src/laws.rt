@@ -1,14 +1,17 @@
-//! Laws of segments: each function that takes no context does nothing, and its contract is the law.
-ghost use Rattle.std.specs.Prelude.{◌≡◌, ◌≢◌, ◌<◌, ◌≤◌, ◌-◌, ◌^◌, ◌∷◌, ◌++◌, ℕ, List, [], IfOk, OnOk, OnErr, length, map, take, sum, slice_range};
+//! Laws of segments and of region edges: each function that takes no context does nothing, and its contract is the law.
+ghost use Rattle.std.specs.Prelude.{◌≡◌, ◌≢◌, ◌<◌, ◌≤◌, ◌-◌, ◌^◌, ◌∷◌, ◌++◌, ◌↔◌, ℕ, List, [], IsTrue, IfOk, OnOk, OnErr, length, map, take, sum, slice_range};
 ghost use Rattle.plir_core.specs.declared.ptr.IRNode.{IRNode};
 ghost use Rattle.plir_core.specs.declared.value.Value.{Value as AnyValue};
 ghost use Rattle.plir_core.specs.Store.{IsLive, IsValueLive, operands_of};
 ghost use Rattle.plir_core.specs.Whole.{IsWhole};
+ghost use Rattle.plir_flow.specs.RegionEdges.{Reach};
 ghost use Rattle.plir_flow.specs.Segments.{in_segments, flatten, segment_at, edit_at, sizes_of, num_segments, segment_size, segment_places, segments_of, IsSegmented, HasSegments};
 
+use crate::region_branches::RegionBranchOpInterface;
 use crate::segments::OperandSegmentInterface;
-use plir_core::{Context, Operation, Ptr, Value};
+use plir_core::{Context, Operation, Ptr, Region, Value};
 use plir_data::{Memory, OpSet};
+use std::alloc::Global;
 
 /// Where the sum of sizes is the number of values, the values in segments are the one list of lists with these sizes
 /// and this flattening; where it isn't, there is none.
@@ -67,4 +70,18 @@ pub fn push_then_pop<D: OpSet, O: OperandSegmentInterface<D>>(
 {
     op.push_to_segment(ctx, seg, operand)?;
     Ok(op.pop_from_segment(ctx, seg))
+}
+
+/// A region is repetitive exactly if a path of one edge or more between regions leads from it back to it.
+pub fn repetitive_is_on_a_cycle<D: OpSet, O: RegionBranchOpInterface<D>>(
+    alloc: Global,
+    ctx: &Context<D>,
+    op: &O,
+    region: Ptr<Region>,
+) -> Result<bool, Memory>
+    requires live { IsLive ctx.now (IRNode.Operation (O.pointer op.now)) }
+    requires layout { O.has_edges_layout op.now ctx.now }
+    ensures { IfOk result (λ b. IsTrue b ↔ Reach ctx.now (O.edges op.now ctx.now) region region) }
+{
+    op.is_repetitive_region(alloc, ctx, region)
 }

@@ -1,0 +1,242 @@
+-- What follows for the rule of region edges from what is known of one edge more.
+use Rattle.std.proofs.Common.{◌≡◌, ◌↔◌, ℕ, zero, suc, ◌+◌, ◌<◌, ◌≤◌, Bool, true, false, cond, List, [], ◌∷◌, ◌++◌, length, take, map, get_or, ◌⊎◌, Option, Some, None, inl, inr, refl, sym, ap, subst, ◌∙◌, arith, ◌&&◌}
+use Rattle.std.specs.Prelude.{All, IsTrue, slice_get}
+use Rattle.std.specs.Bool.{Decides}
+use Rattle.std.specs.Option.{option_eq, is_some, IfSome, IsNone}
+use Rattle.std.proofs.lemmas.List.Elements.{All-more}
+use Rattle.plir_flow.specs.Hops.{same_region}
+use Rattle.std.proofs.lemmas.Bool.{cases_lt, cases_eq}
+use Rattle.std.proofs.lemmas.Option.{same_Some, slice_get-get_or, slice_get_within, get_or_from_slice_get}
+use Rattle.plir_core.specs.declared.ptr.Ptr.{Ptr}
+use Rattle.plir_core.specs.declared.ptr.Operation.{Operation as OperationKind}
+use Rattle.plir_core.specs.declared.value.Value.{Value}
+use Rattle.plir_core.specs.NodeLists.{Has, Distinct}
+use Rattle.plir_core.specs.Store.{Store}
+use Rattle.plir_flow.specs.declared.edge_ends.RegionBranchPoint.{RegionBranchPoint}
+use Rattle.plir_flow.specs.declared.edge_ends.RegionSuccessor.{RegionSuccessor}
+use Rattle.plir_flow.specs.declared.edge_ends.RegionSuccessor.TheVariants.{Region as ToRegion, After}
+use Rattle.plir_flow.specs.declared.region_edge_errors.EdgeFault.{EdgeFault}
+use Rattle.plir_flow.specs.declared.region_edge_errors.EdgeFault.TheVariants.{OtherReceivers, ForeignTerminator, ForeignRead, ForeignRegion, ForeignOperand, NoArgument, NoResult, ReceivedTwice, OtherType}
+use Rattle.plir_flow.specs.RegionEdges.{EdgeView, Flow, receivers_on}
+use Rattle.plir_flow.specs.RegionRule.{SameReceivers, HaveOtherReceivers, AreFirsts, IsReceiver, IsFlowBroken, IsBrokenAt, IsEdgeRight, HasEdgeRule, IsBroken, no_receiver, same_successor, target_region, IsFlowRight, FlowSays, FlowsSay, EdgeSays}
+use Rattle.plir_flow.proofs.TakenLists.{each-has, each-from-has, mapped-all, mapped-at, distinct-push}
+use Rattle.plir_flow.proofs.Exact.{same-region-exact}
+
+-- receivers
+has-mapped : (fs : List Flow) (f : Flow) → Has fs f → Has (map (λ (o : Flow). o.1) fs) f.1
+has-mapped [] f h = absurd h
+has-mapped (g ∷ gs) f (inl e) = inl (ap (λ (o : Flow). o.1) e)
+has-mapped (g ∷ gs) f (inr h) = inr (has-mapped gs f h)
+
+pub within-from : (fs : List Flow) (vs : List Value) → All (λ (f : Flow). Has vs f.1) fs → (v : Value) → Has (map (λ (o : Flow). o.1) fs) v → Has vs v
+within-from fs vs all v h = each-has (Has vs) (map (λ (o : Flow). o.1) fs) v (mapped-all (λ (o : Flow). o.1) (λ (f : Flow). Has vs f.1) (Has vs) (λ f k. k) fs all) h
+
+pub within-to : (fs : List Flow) (vs : List Value) → ((v : Value) → Has (map (λ (o : Flow). o.1) fs) v → Has vs v) → All (λ (f : Flow). Has vs f.1) fs
+within-to fs vs all = each-from-has (λ (f : Flow). Has vs f.1) fs (λ f h. all f.1 (has-mapped fs f h))
+
+pub within-like : (fs : List Flow) (us vs : List Value) → ((v : Value) → Has us v ↔ Has vs v) → All (λ (f : Flow). Has us f.1) fs ↔ All (λ (f : Flow). Has vs f.1) fs
+within-like fs us vs same = (
+  λ a. within-to fs vs (λ v h. (same v).0 (within-from fs us a v h)),
+  λ a. within-to fs us (λ v h. (same v).1 (within-from fs vs a v h)),
+)
+
+pub within-at : (b : Bool) (fs gs os ps : List Flow) → fs ≡ gs → os ≡ ps → (IsTrue b ↔ All (λ (f : Flow). Has (map (λ (o : Flow). o.1) os) f.1) fs) → IsTrue b ↔ All (λ (f : Flow). Has (map (λ (o : Flow). o.1) ps) f.1) gs
+within-at b fs gs os ps e g w =
+    subst (λ l. IsTrue b ↔ All (λ (f : Flow). Has (map (λ (o : Flow). o.1) ps) f.1) l) e (subst (λ l. IsTrue b ↔ All (λ (f : Flow). Has (map (λ (o : Flow). o.1) l) f.1) fs) g w)
+
+module _ (d e : EdgeView) where
+  abbrev pub Within : EdgeView → EdgeView → Type 0
+  Within x y = All (λ (f : Flow). Has (receivers_on y) f.1) x.flows
+
+  pub same-not : (Within d e → ⊥) → SameReceivers d e → ⊥
+  same-not n same = n (within-to d.flows (receivers_on e) (λ v h. (same v).0 h))
+
+  pub same-if : Within d e → Within e d ↔ SameReceivers d e
+  same-if there = (
+    λ back v. (λ h. within-from d.flows (receivers_on e) there v h, λ h. within-from e.flows (receivers_on d) back v h),
+    λ same. within-to e.flows (receivers_on d) (λ v h. (same v).1 h),
+  )
+
+pub same-successor-exact : (t u : RegionSuccessor) → Decides (same_successor t u) (t ≡ u)
+same-successor-exact (ToRegion p) (ToRegion q) = (
+  λ e. ap (λ r. ToRegion r) ((same-region-exact p q).0 (grind arith)),
+  λ e. let s : p ≡ q = cc in let h = (same-region-exact p q).1 s in grind (arith, h),
+)
+same-successor-exact (ToRegion p) After = (λ e. absurd (let f : false ≡ true = e in cc), λ e. absurd (let f : ToRegion p ≡ After = e in cc))
+same-successor-exact After (ToRegion q) = (λ e. absurd (let f : false ≡ true = e in cc), λ e. absurd (let f : After ≡ ToRegion q = e in cc))
+same-successor-exact After After = (λ e. refl, λ e. refl)
+
+and-true : (b : Bool) → b ≡ (b && true)
+and-true true = refl
+and-true false = refl
+
+pub target-same : (t u : RegionSuccessor) → option_eq same_region (target_region t) (target_region u) ≡ same_successor t u
+target-same (ToRegion p) (ToRegion q) = and-true (same_region p q)
+target-same (ToRegion p) After = refl
+target-same After (ToRegion q) = refl
+target-same After After = refl
+
+pub has-at : {A : Type 0} (xs : List A) (i : ℕ) (x : A) → slice_get xs i ≡ Some x → Has xs x
+has-at [] i x e = absurd (let f : None ≡ Some x = e in cc)
+has-at (y ∷ ys) zero x e = inl (same_Some y x e)
+has-at (y ∷ ys) (suc i) x e = inr (has-at ys i x e)
+
+-- the first edges with each target
+module _ (es : List EdgeView) (n : ℕ) (head : RegionSuccessor → Option ℕ) (w : AreFirsts es n head) (e : EdgeView) (here : slice_get es n ≡ Some e) where
+  pub firsts-kept : (i : ℕ) (d : EdgeView) → head e.to ≡ Some i → slice_get es i ≡ Some d → SameReceivers d e → AreFirsts es (n + 1) head
+  firsts-kept i d is at same = record { seen = seen; heads = w.heads }
+    where
+      seen : (j : ℕ) (x : EdgeView) → j < n + 1 → slice_get es j ≡ Some x → (k : ℕ) × ((y : EdgeView) × ((head x.to ≡ Some k) × (slice_get es k ≡ Some y) × SameReceivers y x))
+      seen j x below got = elim (cases_eq j n) [
+        | inl last ↦
+            let one : e ≡ x = same_Some e x (sym here ∙ ap (slice_get es) (sym last) ∙ got) in
+            subst (λ (z : EdgeView). (k : ℕ) × ((y : EdgeView) × ((head z.to ≡ Some k) × (slice_get es k ≡ Some y) × SameReceivers y z))) one (i, (d, (is, at, same)))
+        | inr other ↦ w.seen j x (omega arith) got
+      ]
+
+  pub firsts-broken : (i : ℕ) (d : EdgeView) → head e.to ≡ Some i → slice_get es i ≡ Some d → (SameReceivers d e → ⊥) → HaveOtherReceivers es
+  firsts-broken i d is at other =
+      let r = w.heads e.to i is in
+      let one : r.0 ≡ d = same_Some r.0 d (sym r.1.0 ∙ at) in
+      (d, (e, (has-at es i d at, has-at es n e here, subst (λ (z : EdgeView). z.to ≡ e.to) one r.1.1, other)))
+
+  pub firsts-new : head e.to ≡ None → (now : RegionSuccessor → Option ℕ) → ((t : RegionSuccessor) → now t ≡ cond (same_successor e.to t) (Some n) (head t)) → AreFirsts es (n + 1) now
+  firsts-new absent now is = record { seen = seen; heads = heads }
+    where
+      own : now e.to ≡ Some n
+      own = is e.to ∙ ap (λ b. cond b (Some n) (head e.to)) ((same-successor-exact e.to e.to).1 refl)
+
+      others : (t : RegionSuccessor) (k : ℕ) → head t ≡ Some k → now t ≡ Some k
+      others t k at = by (same_successor e.to t) refl
+        where
+          by : (b : Bool) → same_successor e.to t ≡ b → now t ≡ Some k
+          by true same = absurd (let f : e.to ≡ t = (same-successor-exact e.to t).0 same in let g : None ≡ Some k = sym absent ∙ ap head f ∙ at in cc)
+          by false differ = is t ∙ ap (λ b. cond b (Some n) (head t)) differ ∙ at
+
+      seen : (j : ℕ) (x : EdgeView) → j < n + 1 → slice_get es j ≡ Some x → (k : ℕ) × ((y : EdgeView) × ((now x.to ≡ Some k) × (slice_get es k ≡ Some y) × SameReceivers y x))
+      seen j x below got = elim (cases_eq j n) [
+        | inl last ↦
+            let one : e ≡ x = same_Some e x (sym here ∙ ap (slice_get es) (sym last) ∙ got) in
+            subst (λ (z : EdgeView). (k : ℕ) × ((y : EdgeView) × ((now z.to ≡ Some k) × (slice_get es k ≡ Some y) × SameReceivers y z))) one (n, (e, (own, here, λ v. (λ h. h, λ h. h))))
+        | inr other ↦ let r = w.seen j x (omega arith) got in (r.0, (r.1.0, (others x.to r.0 r.1.1.0, r.1.1.1, r.1.1.2)))
+      ]
+
+      heads : (t : RegionSuccessor) (i : ℕ) → now t ≡ Some i → (y : EdgeView) × ((slice_get es i ≡ Some y) × (y.to ≡ t))
+      heads t i at = by (same_successor e.to t) refl
+        where
+          by : (b : Bool) → same_successor e.to t ≡ b → (y : EdgeView) × ((slice_get es i ≡ Some y) × (y.to ≡ t))
+          by true same =
+              let place : n ≡ i = same_Some n i (sym (is t ∙ ap (λ b. cond b (Some n) (head t)) same) ∙ at) in
+              (e, (subst (λ k. slice_get es k ≡ Some e) place here, (same-successor-exact e.to t).0 same))
+          by false differ = w.heads t i (sym (is t ∙ ap (λ b. cond b (Some n) (head t)) differ) ∙ at)
+
+-- once all edges are seen, those with one target have one set of receivers
+at-place : {A : Type 0} (xs : List A) (x : A) → Has xs x → (i : ℕ) × ((i < length xs) × (slice_get xs i ≡ Some x))
+at-place [] x h = absurd h
+at-place (y ∷ ys) x (inl e) = (0, (omega arith, ap (λ z. Some z) e))
+at-place (y ∷ ys) x (inr h) = let r = at-place ys x h in (suc r.0, (omega (arith, r.1.0), r.1.1))
+
+pub firsts-all : (es : List EdgeView) (n : ℕ) (head : RegionSuccessor → Option ℕ) → AreFirsts es n head → length es ≤ n → (d e : EdgeView) → Has es d → Has es e → d.to ≡ e.to → SameReceivers d e
+firsts-all es n head w long d e hd he same v =
+    let i = at-place es d hd in
+    let j = at-place es e he in
+    let p = w.seen i.0 d (omega (arith, i.1.0)) i.1.1 in
+    let q = w.seen j.0 e (omega (arith, j.1.0)) j.1.1 in
+    let place : p.0 ≡ q.0 = same_Some p.0 q.0 (sym p.1.1.0 ∙ ap head same ∙ q.1.1.0) in
+    let one : p.1.0 ≡ q.1.0 = same_Some p.1.0 q.1.0 (sym p.1.1.1 ∙ ap (slice_get es) place ∙ q.1.1.1) in
+    let s = subst (λ (z : EdgeView). SameReceivers z d) one p.1.1.2 in
+    (λ h. (q.1.1.2 v).0 ((s v).1 h), λ h. (s v).0 ((q.1.1.2 v).1 h))
+
+-- faults
+module _ {K A T : Type 0} (s : Store K A T) (op : Ptr OperationKind) (p : RegionBranchPoint) where
+  pub no-receiver : (t : RegionSuccessor) (f : Flow) → (IsReceiver s op t f.1 → ⊥) → IsFlowBroken s op p t f (no_receiver t)
+  no-receiver (ToRegion r) f n = (refl, n)
+  no-receiver After f n = (refl, n)
+
+module _ {K A T : Type 0} (is_terminator : K → Bool) (s : Store K A T) (op : Ptr OperationKind) (e : EdgeView) (f : Flow) (here : Has e.flows f) where
+  pub flow-breaks : (x : EdgeFault) → IsFlowBroken s op e.from e.to f x → IsBrokenAt is_terminator s op e x
+  flow-breaks OtherReceivers b = absurd b
+  flow-breaks ForeignTerminator b = absurd b
+  flow-breaks ForeignRead b = absurd b
+  flow-breaks ForeignRegion b = absurd b
+  flow-breaks ForeignOperand b = (f, (here, b))
+  flow-breaks NoArgument b = (f, (here, b))
+  flow-breaks NoResult b = (f, (here, b))
+  flow-breaks ReceivedTwice b = absurd b
+  flow-breaks (OtherType t u) b = (f, (here, b))
+
+pub edge-breaks : {K A T : Type 0} (is_terminator : K → Bool) (s : Store K A T) (op : Ptr OperationKind) (es : List EdgeView) (e : EdgeView) → Has es e → (x : EdgeFault) → IsBrokenAt is_terminator s op e x
+    → IsBroken is_terminator s op es x
+edge-breaks t s op es e here OtherReceivers b = absurd b
+edge-breaks t s op es e here ForeignTerminator b = (e, (here, b))
+edge-breaks t s op es e here ForeignRead b = (e, (here, b))
+edge-breaks t s op es e here ForeignRegion b = (e, (here, b))
+edge-breaks t s op es e here ForeignOperand b = (e, (here, b))
+edge-breaks t s op es e here NoArgument b = (e, (here, b))
+edge-breaks t s op es e here NoResult b = (e, (here, b))
+edge-breaks t s op es e here ReceivedTwice b = (e, (here, b))
+edge-breaks t s op es e here (OtherType x y) b = (e, (here, b))
+
+pub place-has : {A : Type 0} (xs : List A) (i : ℕ) (d : A) → i < length xs → Has xs (get_or xs i d)
+place-has xs i d h = has-at xs i (get_or xs i d) (slice_get-get_or xs i d h)
+
+-- an element that stands before stands twice
+pub twice : {A B : Type 0} (g : A → B) (xs : List A) (i : ℕ) (d : A) → i < length xs → Has (map g (take i xs)) (g (get_or xs i d)) → Distinct (map g xs) → ⊥
+twice g [] i d h k w = omega arith
+twice g (x ∷ xs) zero d h k w = k
+twice {A} {B} g (x ∷ xs) (suc i) d h k w = elim k [
+  | inl e ↦ w.0 (subst (Has (map g xs)) (sym e) (mapped xs i (omega arith)))
+  | inr r ↦ twice g xs i d (omega arith) r w.1
+]
+  where
+    mapped : (ys : List A) (j : ℕ) → j < length ys → Has (map g ys) (g (get_or ys j d))
+    mapped [] j b = absurd (omega arith)
+    mapped (y ∷ ys) zero b = inl refl
+    mapped (y ∷ ys) (suc j) b = inr (mapped ys j (omega arith))
+
+module _ {K A T : Type 0} (is_terminator : K → Bool) (s : Store K A T) (op : Ptr OperationKind) where
+  pub edge-told : (es : List EdgeView) (e : EdgeView) (r : Option EdgeFault) → Has es e → EdgeSays is_terminator s op e r → IfSome r (IsBroken is_terminator s op es)
+  edge-told es e None here told = tt
+  edge-told es e (Some x) here told = edge-breaks is_terminator s op es e here x told
+
+  module _ (x e : EdgeView) (v : x ≡ e) (gs : List Flow) (g : gs ≡ x.flows) (i : ℕ) (d : Flow) (received now : List Value) (below : i < length gs) where
+    abbrev Names : List Flow → List Value
+    Names fs = map (λ (f : Flow). f.1) fs
+
+    stop : (r : Option EdgeFault) → received ≡ Names (take i x.flows) → FlowSays s op x.from x.to (get_or x.flows i d) received now r → i < length x.flows → is_some r ≡ true → FlowsSay is_terminator s op x r
+    stop None is told within some = absurd (let f : false ≡ true = some in cc)
+    stop (Some y) is (inl broken) within some = flow-breaks is_terminator s op x (get_or x.flows i d) (place-has x.flows i d within) y broken
+    stop (Some y) is (inr (e, h)) within some =
+        subst (λ z. IsBrokenAt is_terminator s op x z) (sym e) (twice (λ (f : Flow). f.1) x.flows i d within (subst (λ l. Has l (get_or x.flows i d).1) is h))
+
+    inside : i < length x.flows
+    inside = subst (λ l. i < length l) g below
+
+    pub flows-stop : (r : Option EdgeFault) → received ≡ Names (take i e.flows) → FlowSays s op x.from x.to (get_or gs i d) received now r → is_some r ≡ true → FlowsSay is_terminator s op e r
+    flows-stop r is told some =
+        subst (λ (z : EdgeView). FlowsSay is_terminator s op z r) v
+        (stop r (is ∙ ap (λ (z : EdgeView). Names (take i z.flows)) (sym v)) (subst (λ l. FlowSays s op x.from x.to (get_or l i d) received now r) g told) inside some)
+
+    abbrev Goes : EdgeView → Type 0
+    Goes z = (now ≡ Names (take (i + 1) z.flows)) × All (IsFlowRight s op z.from z.to) (take (i + 1) z.flows) × Distinct now
+
+    go : (r : Option EdgeFault) → received ≡ Names (take i x.flows) → All (IsFlowRight s op x.from x.to) (take i x.flows) → Distinct received
+        → FlowSays s op x.from x.to (get_or x.flows i d) received now r → is_some r ≡ false → Goes x
+    go (Some y) is all once told none = absurd (let f : true ≡ false = none in cc)
+    go None is all once (right, fresh, grown) none = (
+      grown ∙ ap (λ l. l ++ (get_or x.flows i d).1 ∷ []) is ∙ mapped-at (λ (f : Flow). f.1) [] x.flows i d inside,
+      All-more (IsFlowRight s op x.from x.to) x.flows i d inside all right,
+      subst Distinct (sym grown) (distinct-push received (get_or x.flows i d).1 once fresh),
+    )
+
+    pub flows-go : (r : Option EdgeFault) → received ≡ Names (take i e.flows) → All (IsFlowRight s op e.from e.to) (take i e.flows) → Distinct received
+        → FlowSays s op x.from x.to (get_or gs i d) received now r → is_some r ≡ false → Goes e
+    flows-go r is all once told none =
+        subst Goes v (go r (is ∙ ap (λ (z : EdgeView). Names (take i z.flows)) (sym v)) (subst (λ (z : EdgeView). All (IsFlowRight s op z.from z.to) (take i z.flows)) (sym v) all) once
+        (subst (λ l. FlowSays s op x.from x.to (get_or l i d) received now r) g told) none)
+
+pub firsts-none : (es : List EdgeView) (head : RegionSuccessor → Option ℕ) → ((t : RegionSuccessor) → head t ≡ None) → AreFirsts es 0 head
+firsts-none es head empty = record {
+  seen = λ j d h. absurd (omega arith);
+  heads = λ t i at. absurd (let f : None ≡ Some i = sym (empty t) ∙ at in cc);
+}

@@ -1,0 +1,6 @@
+use Rattle.std.proofs.Common.{rules, inr, refl}
+use Rattle.plir_flow.proofs.EdgeRules.{no-receiver}
+use Rattle.plir_flow.proofs.edge_rule.find_flow_fault.Goals as goal
+
+pub returns-then-not-branch-clause-told : goal.returns-then-not-branch-clause-told
+returns-then-not-branch-clause-told g c = inr (refl, c.in_ok-add.ensures.twice c.if-not-branch.true)

@@ -1,0 +1,12 @@
+use Rattle.std.proofs.Common.{rules, [], sym, subst, map}
+use Rattle.plir_flow.specs.Taken.{IsOnceEach}
+use Rattle.plir_flow.specs.RegionEdges.{Flow}
+use Rattle.plir_flow.proofs.TakenLists.{once-none}
+use Rattle.plir_flow.proofs.EdgeRules.{within-like}
+use Rattle.plir_flow.proofs.Hopping.{through}
+use Rattle.plir_flow.proofs.receiver_sets.receive_among.Goals as goal
+
+pub returns : goal.returns
+returns c =
+    let w = c.in_ok-add_receivers.ensures [] (subst (IsOnceEach []) (sym c.new-among.ensures.empty) once-none) in
+    through c.are_received.ensures (within-like c.args.flows.now c.add_receivers.new.seen.keys (map (λ (o : Flow). o.1) c.args.others.now) w.same)

@@ -1,0 +1,14 @@
+use Rattle.std.proofs.Common.{rules, subst, sym, ◌∙◌}
+use Rattle.std.proofs.lemmas.Result.{IfOk-weaker}
+use Rattle.plir_core.specs.declared.ptr.IRNode.TheVariants.{Region}
+use Rattle.plir_core.specs.Store.{IsLive}
+use Rattle.plir_flow.specs.RegionEdges.{regions_on, IsFromRegion, IsEdgeLive, AreEdgesLive}
+use Rattle.plir_flow.proofs.TakenLists.{taken-all}
+use Rattle.plir_flow.proofs.LiveEdges.{regions-live}
+use Rattle.plir_flow.proofs.region_branches.RegionBranchOpInterface.successor_regions.Goals as goal
+
+pub returns-clause-live : goal.returns-clause-live
+returns-clause-live g c =
+    let s = c.args.ctx.now in
+    let all = subst (AreEdgesLive s) (sym (c.deref.ensures.value ∙ c.in_ok-edges.ensures.value)) c.in_ok-edges.ensures.live in
+    IfOk-weaker c.regions_in.result _ _ (λ us o. taken-all regions_on (IsEdgeLive s) (λ r. IsLive s (Region r)) (regions-live s) (IsFromRegion s c.args.region) c.deref.result.now us.items all o) c.regions_in.ensures.taken

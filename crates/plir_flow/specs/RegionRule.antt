@@ -1,0 +1,202 @@
+-- The rule of region edges, and how it is refused.
+use Rattle.std.specs.Prelude.{◌≡◌, ◌⊎◌, ◌↔◌, ℕ, List, [], ◌∷◌, All, Bool, true, map, slice_get, Option, Some, None, ◌<◌, ◌++◌, ◌&&◌, false, string_bytes, option_and_then}
+use Rattle.std.specs.HashMap.{HashMap, get}
+use Rattle.std.specs.Option.{option_eq}
+use Rattle.plir_data.specs.declared.location.VerifyErr.{VerifyErr}
+use Rattle.plir_data.specs.declared.location.VerifyErr.TheVariants.{Refused, Memory}
+use Rattle.plir_data.specs.Types.{TypeView, IsLive as IsTypeLive}
+use Rattle.plir_data.specs.TypeText.{type_text}
+use Rattle.plir_core.specs.declared.ptr.Ptr.{Ptr}
+use Rattle.plir_core.specs.declared.ptr.Operation.{Operation as OperationKind}
+use Rattle.plir_core.specs.declared.ptr.Region.{Region as RegionKind}
+use Rattle.plir_core.specs.declared.ptr.IRNode.TheVariants.{Operation, Region}
+use Rattle.plir_core.specs.declared.value.Value.{Value}
+use Rattle.plir_core.specs.declared.value.DefiningEntity.{DefiningEntity}
+use Rattle.plir_core.specs.declared.value.DefiningEntity.TheVariants.{Op, Block}
+use Rattle.plir_core.specs.declared.operand_uses.Use.{Use}
+use Rattle.plir_core.specs.NodeLists.{Has, Distinct}
+use Rattle.plir_core.specs.Store.{Store, entity_node, first_kid, kind_of, op_above, operands_of, parent_of, type_of_value}
+use Rattle.plir_core.specs.Terminator.{is_terminator_kind}
+use Rattle.plir_flow.specs.declared.edge_ends.RegionBranchPoint.{RegionBranchPoint}
+use Rattle.plir_flow.specs.declared.edge_ends.RegionBranchPoint.TheVariants.{Parent, Terminator}
+use Rattle.plir_flow.specs.declared.edge_ends.RegionSuccessor.{RegionSuccessor}
+use Rattle.plir_flow.specs.declared.edge_ends.RegionSuccessor.TheVariants.{Region as ToRegion, After}
+use Rattle.plir_flow.specs.declared.region_edge_errors.RegionBranchOpInterfaceVerifyErr.{RegionBranchOpInterfaceVerifyErr}
+use Rattle.plir_flow.specs.declared.region_edge_errors.RegionBranchOpInterfaceVerifyErr.TheVariants.{Layout, ReceiverSetMismatch, InvalidTerminator, ReadNotOpOrSourceOperand, ForeignRegionSuccessor, OperandNotAtBranchPoint, ReceiverNotRegionArgument, ReceiverNotResult, DuplicateReceiver, FlowTypeMismatch}
+use Rattle.plir_flow.specs.declared.region_edge_errors.EdgeFault.{EdgeFault}
+use Rattle.plir_flow.specs.declared.region_edge_errors.EdgeFault.TheVariants.{OtherReceivers, ForeignTerminator, ForeignRead, ForeignRegion, ForeignOperand, NoArgument, NoResult, ReceivedTwice, OtherType}
+use Rattle.plir_flow.specs.Hops.{same_region}
+use Rattle.plir_flow.specs.RegionEdges.{EdgeView, Flow, receivers_on}
+
+-- the refusal of a layout, as that of region edges
+abbrev pub in_edges : {E : Type 0} → VerifyErr E → VerifyErr (RegionBranchOpInterfaceVerifyErr E)
+in_edges (Refused loc e) = Refused loc (Layout e)
+in_edges Memory = Memory
+
+-- two edges have one set of receivers
+abbrev pub SameReceivers : (d e : EdgeView) → Type 0
+SameReceivers d e = (v : Value) → Has (receivers_on d) v ↔ Has (receivers_on e) v
+
+-- two edges with one target have other sets of receivers
+abbrev pub HaveOtherReceivers : List EdgeView → Type 0
+HaveOtherReceivers es = (d : EdgeView) × ((e : EdgeView) × (Has es d × Has es e × (d.to ≡ e.to) × (SameReceivers d e → ⊥)))
+
+-- the operation at a point of the operation op
+abbrev pub source_at : Ptr OperationKind → RegionBranchPoint → Ptr OperationKind
+source_at op Parent = op
+source_at op (Terminator t) = t
+
+module _ {K A T : Type 0} (is_terminator : K → Bool) (s : Store K A T) (op : Ptr OperationKind) where
+  -- a terminator at the start is of a kind of terminators, and stands in a region of the operation itself
+  abbrev pub IsOwnPoint : RegionBranchPoint → Type 0
+  IsOwnPoint Parent = Unit {0}
+  IsOwnPoint (Terminator t) = (op_above s (Operation t) ≡ Some (Operation op)) × (is_terminator_kind is_terminator (kind_of s t) ≡ true)
+
+-- the operand that is read is one of the operation itself, or of the operation at the start
+abbrev pub IsOwnRead : Ptr OperationKind → RegionBranchPoint → Use Value → Type 0
+IsOwnRead op p u = (u.op ≡ op) ⊎ (u.op ≡ source_at op p)
+
+-- the value comes from a block
+abbrev pub IsArgument : DefiningEntity → Type 0
+IsArgument (Block b) = Unit {0}
+IsArgument (Op o) = ⊥
+
+module _ {K A T : Type 0} (s : Store K A T) (op : Ptr OperationKind) where
+  -- a region at the end is one of the operation itself
+  abbrev pub IsOwnSuccessor : RegionSuccessor → Type 0
+  IsOwnSuccessor (ToRegion r) = parent_of s (Region r) ≡ Some (Operation op)
+  IsOwnSuccessor After = Unit {0}
+
+  -- the value is an argument of the region's entry block, or behind the operation a result of it
+  abbrev pub IsReceiver : RegionSuccessor → Value → Type 0
+  IsReceiver (ToRegion r) v = IsArgument v.entity × (first_kid s (Region r) ≡ Some (entity_node v.entity))
+  IsReceiver After v = v.entity ≡ Op op
+
+-- the fault of a value that may not receive at the end of an edge
+abbrev pub no_receiver : RegionSuccessor → EdgeFault
+no_receiver (ToRegion r) = NoArgument
+no_receiver After = NoResult
+
+-- the type of the operand at a use
+abbrev pub type_of_use : {K A T : Type 0} → Store K A T → Use Value → Option ℕ
+type_of_use s u = option_and_then (type_of_value s) (slice_get (operands_of s u.op) u.index)
+
+-- a fault names the types of the operand at a use and of what receives it, and they are two
+abbrev pub IsOfOtherType : {K A T : Type 0} → Store K A T → Use Value → Value → EdgeFault → Type 0
+IsOfOtherType s u v (OtherType x y) = (type_of_use s u ≡ Some x) × (type_of_value s v ≡ Some y) × (x ≡ y → ⊥)
+IsOfOtherType s u v _ = ⊥
+
+module _ {K A T : Type 0} (s : Store K A T) (op : Ptr OperationKind) (p : RegionBranchPoint) (t : RegionSuccessor) where
+  -- What flows on an edge is an operand of the operation at its start, and goes to a receiver at its end, of the same type.
+  pub record IsFlowRight (f : Flow) : Type 0 where
+    pub source : f.0.op ≡ source_at op p
+    pub receiver : IsReceiver s op t f.1
+    pub types : type_of_use s f.0 ≡ type_of_value s f.1
+
+  -- what flows breaks the point that a fault names
+  abbrev pub IsFlowBroken : Flow → EdgeFault → Type 0
+  IsFlowBroken f ForeignOperand = f.0.op ≡ source_at op p → ⊥
+  IsFlowBroken f NoArgument = (no_receiver t ≡ NoArgument) × (IsReceiver s op t f.1 → ⊥)
+  IsFlowBroken f NoResult = (no_receiver t ≡ NoResult) × (IsReceiver s op t f.1 → ⊥)
+  IsFlowBroken f (OtherType x y) = IsOfOtherType s f.0 f.1 (OtherType x y)
+  IsFlowBroken f _ = ⊥
+
+module _ {K A T : Type 0} (is_terminator : K → Bool) (s : Store K A T) (op : Ptr OperationKind) where
+  -- The points of the rule that speak of one edge, in their order.
+  pub record IsEdgeRight (e : EdgeView) : Type 0 where
+    pub from : IsOwnPoint is_terminator s op e.from
+    pub reads : All (IsOwnRead op e.from) e.reads
+    pub to : IsOwnSuccessor s op e.to
+    pub flows : All (IsFlowRight s op e.from e.to) e.flows
+    pub once : Distinct (receivers_on e)
+
+  -- The rule: two edges with one target have one set of receivers, and each edge is right.
+  pub record HasEdgeRule (es : List EdgeView) : Type 0 where
+    pub same : (d e : EdgeView) → Has es d → Has es e → d.to ≡ e.to → SameReceivers d e
+    pub each : All IsEdgeRight es
+
+  -- an edge breaks the point that a fault names
+  abbrev pub IsBrokenAt : EdgeView → EdgeFault → Type 0
+  IsBrokenAt e OtherReceivers = ⊥
+  IsBrokenAt e ForeignTerminator = IsOwnPoint is_terminator s op e.from → ⊥
+  IsBrokenAt e ForeignRead = All (IsOwnRead op e.from) e.reads → ⊥
+  IsBrokenAt e ForeignRegion = IsOwnSuccessor s op e.to → ⊥
+  IsBrokenAt e ReceivedTwice = Distinct (receivers_on e) → ⊥
+  IsBrokenAt e x = (f : Flow) × (Has e.flows f × IsFlowBroken s op e.from e.to f x)
+
+  -- some edge breaks the point that a fault names
+  abbrev pub IsBroken : List EdgeView → EdgeFault → Type 0
+  IsBroken es OtherReceivers = HaveOtherReceivers es
+  IsBroken es f = (e : EdgeView) × (Has es e × IsBrokenAt e f)
+
+-- What flows is right and goes to none of those that have received, and now its receiver is the last of these; or it breaks
+-- the point that the fault names, or goes to one of those.
+abbrev pub FlowSays : {K A T : Type 0} → Store K A T → Ptr OperationKind → RegionBranchPoint → RegionSuccessor → Flow → (received now : List Value) → Option EdgeFault → Type 0
+FlowSays s op p t f received now None = IsFlowRight s op p t f × (Has received f.1 → ⊥) × (now ≡ received ++ f.1 ∷ [])
+FlowSays s op p t f received now (Some x) = IsFlowBroken s op p t f x ⊎ ((x ≡ ReceivedTwice) × Has received f.1)
+
+module _ {K A T : Type 0} (is_terminator : K → Bool) (s : Store K A T) (op : Ptr OperationKind) where
+  -- what flows on an edge is right, or the edge breaks the point that the fault names
+  abbrev pub FlowsSay : EdgeView → Option EdgeFault → Type 0
+  FlowsSay e None = All (IsFlowRight s op e.from e.to) e.flows × Distinct (receivers_on e)
+  FlowsSay e (Some x) = IsBrokenAt is_terminator s op e x
+
+  -- an edge is right, or it breaks the point that the fault names
+  abbrev pub EdgeSays : EdgeView → Option EdgeFault → Type 0
+  EdgeSays e None = IsEdgeRight is_terminator s op e
+  EdgeSays e (Some x) = IsBrokenAt is_terminator s op e x
+
+  -- the rule holds, or some edge breaks the point that the fault names
+  abbrev pub EdgesSay : List EdgeView → Option EdgeFault → Type 0
+  EdgesSay es None = HasEdgeRule is_terminator s op es
+  EdgesSay es (Some x) = IsBroken is_terminator s op es x
+
+-- Of the first n edges each has the receivers of the one that its target's head tells, and a head tells an edge with that target.
+pub record AreFirsts (es : List EdgeView) (n : ℕ) (head : RegionSuccessor → Option ℕ) : Type 0 where
+  pub seen : (j : ℕ) (d : EdgeView) → j < n → slice_get es j ≡ Some d → (i : ℕ) × ((e : EdgeView) × ((head d.to ≡ Some i) × (slice_get es i ≡ Some e) × SameReceivers e d))
+  pub heads : (t : RegionSuccessor) (i : ℕ) → head t ≡ Some i → (e : EdgeView) × ((slice_get es i ≡ Some e) × (e.to ≡ t))
+
+-- whether two successors are one
+abbrev pub same_successor : (t u : RegionSuccessor) → Bool
+same_successor (ToRegion p) (ToRegion q) = same_region p q && true
+same_successor After After = true
+same_successor _ _ = false
+
+-- the region that an edge leads to
+abbrev pub target_region : RegionSuccessor → Option (Ptr RegionKind)
+target_region (ToRegion r) = Some r
+target_region After = None
+
+-- the place that a map has for the region of a target
+abbrev pub first_place : {S : Type 0} → HashMap (Option (Ptr RegionKind)) ℕ S → RegionSuccessor → Option ℕ
+first_place m t = get (option_eq same_region) m (target_region t)
+
+-- the types that a fault names are types of the context
+abbrev pub NamesLive : {K A T : Type 0} → Store K A T → EdgeFault → Type 0
+NamesLive s (OtherType t u) = IsTypeLive s.types t × IsTypeLive s.types u
+NamesLive s _ = Unit {0}
+
+module _ {K A T E : Type 0} (own_id : T → List ℕ) (own_body : List (TypeView T) → T → List ℕ) (s : Store K A T) where
+  -- What an error tells of a fault: the point, and the texts of the types.
+  abbrev pub TellsFault : EdgeFault → RegionBranchOpInterfaceVerifyErr E → Type 0
+  TellsFault OtherReceivers ReceiverSetMismatch = Unit {0}
+  TellsFault ForeignTerminator InvalidTerminator = Unit {0}
+  TellsFault ForeignRead ReadNotOpOrSourceOperand = Unit {0}
+  TellsFault ForeignRegion ForeignRegionSuccessor = Unit {0}
+  TellsFault ForeignOperand OperandNotAtBranchPoint = Unit {0}
+  TellsFault NoArgument ReceiverNotRegionArgument = Unit {0}
+  TellsFault NoResult ReceiverNotResult = Unit {0}
+  TellsFault ReceivedTwice DuplicateReceiver = Unit {0}
+  TellsFault (OtherType t u) (FlowTypeMismatch operand receiver) =
+      (string_bytes operand ≡ type_text own_id own_body s.types t) × (string_bytes receiver ≡ type_text own_id own_body s.types u)
+  TellsFault _ _ = ⊥
+
+  module _ (is_terminator : K → Bool) (op : Ptr OperationKind) (es : List EdgeView) where
+    -- the error tells a point that some edge breaks
+    abbrev pub IsToldFault : RegionBranchOpInterfaceVerifyErr E → Type 0
+    IsToldFault e = (f : EdgeFault) × (IsBroken is_terminator s op es f × TellsFault f e)
+
+    -- The layout is wrong, and this is its refusal; or it is right, and the error tells a point that some edge breaks.
+    abbrev pub IsEdgeRefusal : (layout : Type 0) (layout_refusal : E → Type 0) → RegionBranchOpInterfaceVerifyErr E → Type 0
+    IsEdgeRefusal layout layout_refusal (Layout e) = (layout → ⊥) × layout_refusal e
+    IsEdgeRefusal layout layout_refusal e = layout × IsToldFault e
