@@ -1,12 +1,12 @@
 -- What follows for the rule of region edges from what is known of one edge more.
-use Rattle.std.proofs.Common.{◌≡◌, ◌↔◌, ℕ, zero, suc, ◌+◌, ◌<◌, ◌≤◌, Bool, true, false, cond, List, [], ◌∷◌, ◌++◌, length, take, map, get_or, ◌⊎◌, Option, Some, None, inl, inr, refl, sym, ap, subst, ◌∙◌, arith, ◌&&◌}
+use Rattle.std.proofs.Common.{◌≡◌, ◌↔◌, ℕ, zero, suc, ◌+◌, ◌<◌, ◌≤◌, Bool, true, false, cond, List, [], ◌∷◌, ◌++◌, length, take, map, get_or, Option, Some, None, inl, inr, refl, sym, ap, subst, ◌∙◌, arith, ◌&&◌}
 use Rattle.std.specs.Prelude.{All, IsTrue, slice_get}
 use Rattle.std.specs.Bool.{Decides}
-use Rattle.std.specs.Option.{option_eq, is_some, IfSome, IsNone}
+use Rattle.std.specs.Option.{option_eq, is_some, IfSome}
 use Rattle.std.proofs.lemmas.List.Elements.{All-more}
 use Rattle.plir_flow.specs.Hops.{same_region}
-use Rattle.std.proofs.lemmas.Bool.{cases_lt, cases_eq}
-use Rattle.std.proofs.lemmas.Option.{same_Some, slice_get-get_or, slice_get_within, get_or_from_slice_get}
+use Rattle.std.proofs.lemmas.Bool.{cases_eq}
+use Rattle.std.proofs.lemmas.Option.{same_Some, slice_get-get_or}
 use Rattle.plir_core.specs.declared.ptr.Ptr.{Ptr}
 use Rattle.plir_core.specs.declared.ptr.Operation.{Operation as OperationKind}
 use Rattle.plir_core.specs.declared.value.Value.{Value}
@@ -18,7 +18,7 @@ use Rattle.plir_flow.specs.declared.edge_ends.RegionSuccessor.TheVariants.{Regio
 use Rattle.plir_flow.specs.declared.region_edge_errors.EdgeFault.{EdgeFault}
 use Rattle.plir_flow.specs.declared.region_edge_errors.EdgeFault.TheVariants.{OtherReceivers, ForeignTerminator, ForeignRead, ForeignRegion, ForeignOperand, NoArgument, NoResult, ReceivedTwice, OtherType}
 use Rattle.plir_flow.specs.RegionEdges.{EdgeView, Flow, receivers_on}
-use Rattle.plir_flow.specs.RegionRule.{SameReceivers, HaveOtherReceivers, AreFirsts, IsReceiver, IsFlowBroken, IsBrokenAt, IsEdgeRight, HasEdgeRule, IsBroken, no_receiver, same_successor, target_region, IsFlowRight, FlowSays, FlowsSay, EdgeSays}
+use Rattle.plir_flow.specs.RegionRule.{SameReceivers, HaveOtherReceivers, AreFirsts, IsReceiver, IsFlowBroken, IsBrokenAt, IsBroken, no_receiver, target_region, IsFlowRight, FlowSays, FlowsSay, EdgeSays}
 use Rattle.plir_flow.proofs.TakenLists.{each-has, each-from-has, mapped-all, mapped-at, distinct-push}
 use Rattle.plir_flow.proofs.Exact.{same-region-exact}
 
@@ -56,6 +56,12 @@ module _ (d e : EdgeView) where
     λ back v. (λ h. within-from d.flows (receivers_on e) there v h, λ h. within-from e.flows (receivers_on d) back v h),
     λ same. within-to e.flows (receivers_on d) (λ v h. (same v).1 h),
   )
+
+-- whether two successors are one
+abbrev pub same_successor : (t u : RegionSuccessor) → Bool
+same_successor (ToRegion p) (ToRegion q) = same_region p q && true
+same_successor After After = true
+same_successor _ _ = false
 
 pub same-successor-exact : (t u : RegionSuccessor) → Decides (same_successor t u) (t ≡ u)
 same-successor-exact (ToRegion p) (ToRegion q) = (

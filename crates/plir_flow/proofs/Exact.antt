@@ -1,5 +1,5 @@
 -- Equality as it is derived tells different values apart.
-use Rattle.std.proofs.Common.{◌≡◌, Bool, true, ap, ◌∙◌, arith, ◌&&◌, eqb, ℕ}
+use Rattle.std.proofs.Common.{◌≡◌, ap, ◌∙◌, arith, ℕ}
 use Rattle.std.specs.Bool.{Decides}
 use Rattle.plir_core.specs.declared.ptr.Ptr.{Ptr}
 use Rattle.plir_core.specs.declared.ptr.Region.{Region as RegionKind}

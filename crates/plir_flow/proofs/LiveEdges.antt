@@ -1,5 +1,5 @@
 -- What stands on good edges is live.
-use Rattle.std.proofs.Common.{◌≡◌, ◌↔◌, subst, List, [], ◌∷◌, map, arith, ℕ, ◌<◌, length}
+use Rattle.std.proofs.Common.{◌↔◌, subst, List, []}
 use Rattle.std.specs.Prelude.{All}
 use Rattle.std.proofs.lemmas.List.Elements.{All-nil, All-cons}
 use Rattle.plir_core.specs.declared.ptr.Ptr.{Ptr}

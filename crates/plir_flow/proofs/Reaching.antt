@@ -1,5 +1,5 @@
 -- Paths of steps, and the worklist that follows them.
-use Rattle.std.proofs.Common.{◌≡◌, ◌↔◌, ℕ, zero, suc, ◌+◌, ◌<◌, ◌≤◌, List, [], ◌∷◌, ◌++◌, length, take, map, get_or, ◌⊎◌, Some, None, inl, inr, refl, sym, ap, subst, ◌∙◌, arith}
+use Rattle.std.proofs.Common.{◌≡◌, ◌↔◌, ℕ, zero, suc, ◌+◌, ◌<◌, ◌≤◌, List, [], ◌∷◌, ◌++◌, length, take, map, Some, None, inl, inr, refl, sym, ap, subst, ◌∙◌, arith}
 use Rattle.std.specs.Prelude.{slice_get}
 use Rattle.std.proofs.lemmas.Option.{get_or_from_slice_get, same_Some}
 use Rattle.std.proofs.lemmas.List.{take_more, take_all, length-map}
@@ -9,7 +9,7 @@ use Rattle.plir_core.specs.NodeLists.{Has, Distinct}
 use Rattle.plir_flow.specs.Paths.{IsPath, LeadsTo}
 use Rattle.plir_flow.specs.declared.hops.Hop.{Hop}
 use Rattle.plir_flow.specs.Hops.{IsHop, IsReachedMore}
-use Rattle.plir_flow.proofs.TakenLists.{has-left, has-right, has-cases, has-more, has-last, one-more}
+use Rattle.plir_flow.proofs.TakenLists.{has-more}
 
 module _ {N : Type 0} (Step : N → N → Type 0) where
   -- one step behind a path

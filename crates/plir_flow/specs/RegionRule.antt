@@ -1,5 +1,5 @@
 -- The rule of region edges, and how it is refused.
-use Rattle.std.specs.Prelude.{◌≡◌, ◌⊎◌, ◌↔◌, ℕ, List, [], ◌∷◌, All, Bool, true, map, slice_get, Option, Some, None, ◌<◌, ◌++◌, ◌&&◌, false, string_bytes, option_and_then}
+use Rattle.std.specs.Prelude.{◌≡◌, ◌⊎◌, ◌↔◌, ℕ, List, [], ◌∷◌, All, Bool, true, slice_get, Option, Some, None, ◌<◌, ◌++◌, string_bytes, option_and_then}
 use Rattle.std.specs.HashMap.{HashMap, get}
 use Rattle.std.specs.Option.{option_eq}
 use Rattle.plir_data.specs.declared.location.VerifyErr.{VerifyErr}
@@ -155,12 +155,6 @@ module _ {K A T : Type 0} (is_terminator : K → Bool) (s : Store K A T) (op : P
 pub record AreFirsts (es : List EdgeView) (n : ℕ) (head : RegionSuccessor → Option ℕ) : Type 0 where
   pub seen : (j : ℕ) (d : EdgeView) → j < n → slice_get es j ≡ Some d → (i : ℕ) × ((e : EdgeView) × ((head d.to ≡ Some i) × (slice_get es i ≡ Some e) × SameReceivers e d))
   pub heads : (t : RegionSuccessor) (i : ℕ) → head t ≡ Some i → (e : EdgeView) × ((slice_get es i ≡ Some e) × (e.to ≡ t))
-
--- whether two successors are one
-abbrev pub same_successor : (t u : RegionSuccessor) → Bool
-same_successor (ToRegion p) (ToRegion q) = same_region p q && true
-same_successor After After = true
-same_successor _ _ = false
 
 -- the region that an edge leads to
 abbrev pub target_region : RegionSuccessor → Option (Ptr RegionKind)

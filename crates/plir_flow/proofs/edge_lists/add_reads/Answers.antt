@@ -1,4 +1,4 @@
-use Rattle.std.proofs.Common.{rules, subst, ◌∙◌, sym, ap, ◌++◌, ◌<◌, arith, take, length, List}
+use Rattle.std.proofs.Common.{subst, ap, ◌++◌, ◌<◌, arith, take, length}
 use Rattle.std.specs.List.{flat_map}
 use Rattle.std.proofs.lemmas.List.{take_all}
 use Rattle.plir_flow.specs.Taken.{IsOnceEach}

@@ -1,4 +1,4 @@
-use Rattle.std.proofs.Common.{◌≡◌, rules, subst, ◌∙◌, sym, ap, ◌++◌, ◌∷◌, [], ◌<◌, arith, take, length, List, map}
+use Rattle.std.proofs.Common.{subst, ◌++◌, ◌<◌, arith, take, length, map}
 use Rattle.std.proofs.lemmas.List.{take_all}
 use Rattle.plir_flow.specs.Taken.{IsOnceEach}
 use Rattle.plir_flow.specs.RegionEdges.{Flow}

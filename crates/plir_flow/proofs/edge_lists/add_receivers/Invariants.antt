@@ -1,5 +1,4 @@
 use Rattle.std.proofs.Common.{List, ◌++◌, take, map}
-use Rattle.std.specs.List.{flat_map}
 use Rattle.plir_core.specs.declared.value.Value.{Value}
 use Rattle.plir_flow.specs.Taken.{IsOnceEach}
 use Rattle.plir_flow.specs.RegionEdges.{Flow}

@@ -1,6 +1,3 @@
-use Rattle.std.proofs.Common.{rules, ◌++◌}
-use Rattle.plir_flow.specs.Taken.{IsOnceEach}
-use Rattle.plir_flow.specs.RegionEdges.{region_in}
 use Rattle.plir_flow.proofs.edge_lists.add_region.Goals as goal
 
 pub returns-in_ok-add : goal.returns-in_ok-add

@@ -1,4 +1,4 @@
-use Rattle.std.proofs.Common.{◌≡◌, ◌<◌, rules, subst, sym, ap, arith, take, length, true, false}
+use Rattle.std.proofs.Common.{◌≡◌, ◌<◌, subst, sym, ap, arith, length, true, false}
 use Rattle.std.proofs.lemmas.List.{take_all}
 use Rattle.plir_flow.specs.Taken.{AreTakenOnce}
 use Rattle.plir_flow.specs.RegionEdges.{EdgeView, IsPointIn, IsFromRegion, regions_on}

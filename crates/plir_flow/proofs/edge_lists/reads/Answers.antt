@@ -1,4 +1,4 @@
-use Rattle.std.proofs.Common.{rules, [], sym, subst}
+use Rattle.std.proofs.Common.{[], sym, subst}
 use Rattle.std.proofs.lemmas.Result.{IfOk-weaker}
 use Rattle.plir_flow.specs.Taken.{IsOnceEach}
 use Rattle.plir_flow.proofs.TakenLists.{once-none}

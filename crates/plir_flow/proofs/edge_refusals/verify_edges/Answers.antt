@@ -1,4 +1,3 @@
-use Rattle.std.proofs.Common.{rules}
 use Rattle.plir_flow.proofs.Refusals.{aside-weaker}
 use Rattle.plir_flow.proofs.edge_refusals.verify_edges.Goals as goal
 

@@ -1,4 +1,4 @@
-use Rattle.std.proofs.Common.{rules, ◌≡◌, subst, sym, true, false}
+use Rattle.std.proofs.Common.{◌≡◌, subst, sym, true, false}
 use Rattle.std.specs.Prelude.{All}
 use Rattle.plir_flow.specs.RegionEdges.{EdgeView}
 use Rattle.plir_flow.specs.RegionRule.{IsOwnRead}

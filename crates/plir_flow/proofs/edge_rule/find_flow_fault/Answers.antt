@@ -1,5 +1,4 @@
-use Rattle.std.proofs.Common.{rules, inr, refl}
-use Rattle.plir_flow.proofs.EdgeRules.{no-receiver}
+use Rattle.std.proofs.Common.{inr, refl}
 use Rattle.plir_flow.proofs.edge_rule.find_flow_fault.Goals as goal
 
 pub returns-then-not-branch-clause-told : goal.returns-then-not-branch-clause-told

@@ -1,6 +1,5 @@
-use Rattle.std.proofs.Common.{rules, ◌≡◌, ◌<◌, ◌∙◌, ap, sym, arith, length, true, false}
+use Rattle.std.proofs.Common.{◌≡◌, ◌<◌, ◌∙◌, sym, arith, length, true, false}
 use Rattle.std.specs.Option.{is_some}
-use Rattle.plir_flow.specs.RegionEdges.{flows_on}
 use Rattle.plir_flow.proofs.EdgeRules.{flows-stop, flows-go}
 use Rattle.plir_flow.proofs.edge_rule.find_flows_fault.Goals as goal
 

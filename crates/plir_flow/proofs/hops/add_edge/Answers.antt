@@ -1,4 +1,4 @@
-use Rattle.std.proofs.Common.{rules, inl, inr}
+use Rattle.std.proofs.Common.{inl, inr}
 use Rattle.std.proofs.lemmas.Result.{on_ok_weaker}
 use Rattle.plir_core.specs.declared.ptr.Ptr.{Ptr}
 use Rattle.plir_core.specs.declared.ptr.Region.{Region as RegionKind}

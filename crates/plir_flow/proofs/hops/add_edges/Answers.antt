@@ -1,4 +1,4 @@
-use Rattle.std.proofs.Common.{rules, ◌≡◌, ◌<◌, ◌↔◌, subst, sym, arith, take, length, List}
+use Rattle.std.proofs.Common.{◌<◌, ◌↔◌, subst, arith, take, length}
 use Rattle.std.proofs.lemmas.List.{take_all}
 use Rattle.plir_flow.specs.RegionEdges.{IsStep}
 use Rattle.plir_flow.specs.Hops.{IsHop}

@@ -1,7 +1,7 @@
-use Rattle.std.proofs.Common.{cond, Some, rules, sym, ap, subst, ◌∙◌, ◌++◌, ◌∷◌, [], List, length, ◌↔◌, ◌⊎◌}
+use Rattle.std.proofs.Common.{cond, Some, sym, ap, subst, ◌∙◌, length}
 use Rattle.std.specs.HashMap.{get}
 use Rattle.plir_flow.specs.declared.hops.Hop.{Hop}
-use Rattle.plir_flow.specs.Hops.{IsHop, IsLatest, AreLinked, AreHeads, same_region}
+use Rattle.plir_flow.specs.Hops.{IsLatest, same_region}
 use Rattle.plir_flow.proofs.Exact.{same-region-exact}
 use Rattle.plir_flow.proofs.Hopping.{linked-more, heads-more, hops-more}
 use Rattle.plir_flow.proofs.hops.add_hop.Goals as goal

@@ -1,9 +1,8 @@
-use Rattle.std.proofs.Common.{rules, sym, ap, subst, ◌∙◌, ◌++◌, ◌∷◌, [], List, length, ◌↔◌, ◌⊎◌, arith}
-use Rattle.std.specs.HashMap.{get}
+use Rattle.std.proofs.Common.{sym, subst, ◌∙◌, length, arith}
 use Rattle.std.proofs.lemmas.Option.{slice_get-get_or}
-use Rattle.plir_flow.specs.Hops.{IsHop, IsLatest, AreLinked, AreHeads, same_region}
+use Rattle.plir_flow.specs.Hops.{IsLatest, same_region}
 use Rattle.plir_flow.proofs.Exact.{same-region-exact}
-use Rattle.plir_flow.proofs.Hopping.{IsHopFrom, more-none, more-like, more-insert, from-end, from-start, from-next, hop-done}
+use Rattle.plir_flow.proofs.Hopping.{more-none, from-end, hop-done}
 use Rattle.plir_flow.proofs.hops.add_targets.Goals as goal
 
 pub loop-at-init : goal.loop-at-init

@@ -1,4 +1,3 @@
-use Rattle.std.proofs.Common.{rules}
 use Rattle.plir_flow.specs.Hops.{same_region}
 use Rattle.plir_flow.proofs.Exact.{same-region-exact}
 use Rattle.plir_flow.proofs.TakenLists.{any-is}

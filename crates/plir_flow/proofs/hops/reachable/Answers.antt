@@ -1,4 +1,4 @@
-use Rattle.std.proofs.Common.{rules, subst, ◌↔◌}
+use Rattle.std.proofs.Common.{subst, ◌↔◌}
 use Rattle.std.proofs.lemmas.Result.{IfOk-weaker}
 use Rattle.plir_core.specs.NodeLists.{Has}
 use Rattle.plir_flow.specs.Paths.{LeadsTo}

@@ -1,4 +1,3 @@
-use Rattle.std.proofs.Common.{rules, ◌≡◌, Bool, true, false, not, cond, List, [], ◌∷◌, ◌++◌}
 use Rattle.plir_flow.proofs.TakenLists.{once-more, fresh-says, twice-says, last-says}
 use Rattle.plir_flow.proofs.once.add.Goals as goal
 

@@ -1,4 +1,3 @@
-use Rattle.std.proofs.Common.{rules, sym, ◌∙◌}
 use Rattle.plir_flow.proofs.TakenLists.{any-has}
 use Rattle.plir_flow.proofs.once.has.Goals as goal
 

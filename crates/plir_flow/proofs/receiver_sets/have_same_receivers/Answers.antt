@@ -1,4 +1,4 @@
-use Rattle.std.proofs.Common.{rules, ◌≡◌, ◌∙◌, ap, true, false}
+use Rattle.std.proofs.Common.{◌≡◌, ◌∙◌, ap, true, false}
 use Rattle.std.proofs.lemmas.Result.{IfOk-weaker}
 use Rattle.plir_flow.specs.RegionEdges.{flows_on}
 use Rattle.plir_flow.proofs.EdgeRules.{within-at, same-if, same-not}

@@ -1,5 +1,4 @@
 use Rattle.std.proofs.Common.{rules, ◌≡◌, ◌<◌, ◌∙◌, ap, sym, subst, length, cond, Some, None}
-use Rattle.std.specs.Prelude.{slice_get}
 use Rattle.std.specs.HashMap.{get}
 use Rattle.std.specs.Option.{option_eq}
 use Rattle.plir_flow.specs.Hops.{same_region}

@@ -1,4 +1,4 @@
-use Rattle.std.proofs.Common.{rules, [], sym, subst, map}
+use Rattle.std.proofs.Common.{[], sym, subst, map}
 use Rattle.plir_flow.specs.Taken.{IsOnceEach}
 use Rattle.plir_flow.specs.RegionEdges.{Flow}
 use Rattle.plir_flow.proofs.TakenLists.{once-none}

@@ -1,4 +1,4 @@
-use Rattle.std.proofs.Common.{rules, subst, sym}
+use Rattle.std.proofs.Common.{subst, sym}
 use Rattle.plir_flow.specs.RegionEdges.{IsFrom, IsEdgeLive, AreEdgesLive}
 use Rattle.plir_flow.proofs.TakenLists.{those-live}
 use Rattle.plir_flow.proofs.region_branches.RegionBranchOpInterface.edges_from.Goals as goal

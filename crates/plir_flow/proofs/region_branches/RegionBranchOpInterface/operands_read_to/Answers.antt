@@ -1,4 +1,4 @@
-use Rattle.std.proofs.Common.{rules, subst, sym}
+use Rattle.std.proofs.Common.{subst, sym}
 use Rattle.std.proofs.lemmas.Result.{IfOk-weaker}
 use Rattle.plir_flow.specs.RegionEdges.{reads_on, IsEdgeLive, AreEdgesLive, IsUseLive}
 use Rattle.plir_flow.proofs.TakenLists.{once-all}

@@ -1,7 +1,6 @@
-use Rattle.std.proofs.Common.{rules, ◌↔◌, subst, sym, ◌∙◌}
+use Rattle.std.proofs.Common.{subst, sym, ◌∙◌}
 use Rattle.std.proofs.lemmas.Result.{IfOk-weaker}
-use Rattle.plir_core.specs.NodeLists.{Has}
-use Rattle.plir_flow.specs.RegionEdges.{Reach, AreEdgesLive}
+use Rattle.plir_flow.specs.RegionEdges.{AreEdgesLive}
 use Rattle.plir_flow.proofs.LiveEdges.{reached-live}
 use Rattle.plir_flow.proofs.region_branches.RegionBranchOpInterface.reachable_regions.Goals as goal
 

@@ -1,4 +1,4 @@
-use Rattle.std.proofs.Common.{rules, subst, sym, ◌∙◌}
+use Rattle.std.proofs.Common.{subst, sym, ◌∙◌}
 use Rattle.std.proofs.lemmas.Result.{IfOk-weaker}
 use Rattle.plir_core.specs.declared.ptr.IRNode.TheVariants.{Region}
 use Rattle.plir_core.specs.Store.{IsLive}
