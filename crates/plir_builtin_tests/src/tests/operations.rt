@@ -1,0 +1,104 @@
+//! The calls on builtin operations.
+ghost use Rattle.plir_core.specs.Store.{IsLive};
+ghost use Rattle.plir_core.specs.declared.ptr.IRNode.{IRNode as AnyNode};
+
+use plir_builtin::{ConstantOp, ForwardRefOp, FuncOp, MaterializableAttr, ModuleOp};
+use plir_core::{IRNode, NodeErr, Operation, Ptr};
+use plir_data::{AttrObj, FunctionType, Identifier, OpSet, VerifyErr};
+use plir_iface::Op;
+use plir_scripts::{Answer, Bench, Line, Stop};
+use plir_text::read_attr;
+use std::fmt::Display;
+
+/// Does what a line says of builtin operations: `module NAME`, `func NAME`, `constant TEXT`, `materialize TEXT` and
+/// `forward-ref` make one, `rule OP` tells whether its own rule holds.
+pub fn operation<D: OpSet>(bench: &mut Bench<D>, line: Line<'_>) -> Result<(), Stop> {
+    match line.command {
+        "module" => make_module(bench, line),
+        "func" => make_func(bench, line),
+        "constant" | "materialize" => make_constant(bench, line),
+        "forward-ref" => make_forward_ref(bench),
+        _ => verify(bench, line),
+    }
+}
+
+fn make_module<D: OpSet>(bench: &mut Bench<D>, line: Line<'_>) -> Result<(), Stop> {
+    let name = Identifier::try_new(bench.alloc, line.first)?;
+    let module = ModuleOp::new(bench.alloc, &mut bench.ctx, name)?;
+    put_tree(bench, Op::<D>::get_operation(&module))
+}
+
+fn make_func<D: OpSet>(bench: &mut Bench<D>, line: Line<'_>) -> Result<(), Stop> {
+    let name = Identifier::try_new(bench.alloc, line.first)?;
+    let arguments = Vec::new(bench.alloc);
+    let results = Vec::new(bench.alloc);
+    let ty = FunctionType::get(&mut bench.ctx, arguments, results)?;
+    let func = FuncOp::new(bench.alloc, &mut bench.ctx, name, ty)?;
+    put_tree(bench, Op::<D>::get_operation(&func))
+}
+
+fn make_constant<D: OpSet>(bench: &mut Bench<D>, line: Line<'_>) -> Result<(), Stop> {
+    let value = read_attr(bench.alloc, &mut bench.ctx, line.text)?;
+    let op = match value {
+        AttrObj::Integer(integer) if line.command == "materialize" => {
+            integer.materialize(bench.alloc, &mut bench.ctx)?
+        }
+        value if value.typed().is_some() => {
+            let constant = ConstantOp::new(bench.alloc, &mut bench.ctx, value)?;
+            Op::<D>::get_operation(&constant)
+        }
+        _ => return Err(Stop::Refused),
+    };
+    put_tree(bench, op)
+}
+
+fn make_forward_ref<D: OpSet>(bench: &mut Bench<D>) -> Result<(), Stop> {
+    let reference = ForwardRefOp::new(bench.alloc, &mut bench.ctx)?;
+    put_tree(bench, Op::<D>::get_operation(&reference))
+}
+
+// Names a new operation, its first region and that one's first block, and writes the name of the operation.
+fn put_tree<D: OpSet>(bench: &mut Bench<D>, op: Ptr<Operation>) -> Result<(), Stop>
+    requires { IsLive bench.old.ctx (AnyNode.Operation op) }
+{
+    let (ctx, made) = (&bench.ctx, &mut bench.made);
+    made.ops.push(op)?;
+    if let Some(region) = op.first_region(ctx) {
+        made.regions.push(region)?;
+        if let Some(block) = region.get_head(ctx) {
+            made.blocks.push(block)?;
+        }
+    }
+    bench.made.put_op(&mut bench.answer, Some(op));
+    Ok(())
+}
+
+fn verify<D: OpSet>(bench: &mut Bench<D>, line: Line<'_>) -> Result<(), Stop> {
+    let (alloc, ctx, answer) = (bench.alloc, &bench.ctx, &mut bench.answer);
+    let op = bench.made.op(ctx, line.first)?;
+    if let Some(func) = FuncOp::from_operation(ctx, op) {
+        return put_verdict(answer, func.verify(ctx));
+    }
+    if let Some(reference) = ForwardRefOp::from_operation(ctx, op) {
+        return put_verdict(answer, reference.verify(alloc, ctx));
+    }
+    let Some(constant) = ConstantOp::from_operation(ctx, op) else {
+        return Err(Stop::Refused);
+    };
+    if op.get_num_results(ctx) != 1 {
+        return Err(Stop::Refused);
+    }
+    put_verdict(answer, constant.verify(alloc, ctx))
+}
+
+fn put_verdict<E: Display + Drop>(
+    answer: &mut Answer,
+    verdict: Result<(), VerifyErr<E>>,
+) -> Result<(), Stop> {
+    match verdict {
+        Ok(()) => answer.put("holds"),
+        Err(VerifyErr::Refused { loc: _, err }) => answer.put_shown(&err),
+        Err(VerifyErr::Memory) => return Err(Stop::Memory),
+    }
+    Ok(())
+}
