@@ -1,9 +1,12 @@
 //! The calls on builtin operations.
+ghost use Rattle.std.specs.Prelude.{IfOk};
+ghost use Rattle.plir_data.specs.AttrLive.{IsAttrLive};
+ghost use Rattle.plir_data.specs.AttrSeen.{attr_view};
 ghost use Rattle.plir_core.specs.Store.{IsLive};
 ghost use Rattle.plir_core.specs.declared.ptr.IRNode.{IRNode as AnyNode};
 
 use plir_builtin::{ConstantOp, ForwardRefOp, FuncOp, MaterializableAttr, ModuleOp};
-use plir_core::{IRNode, NodeErr, Operation, Ptr};
+use plir_core::{Operation, Ptr};
 use plir_data::{AttrObj, FunctionType, Identifier, OpSet, VerifyErr};
 use plir_iface::Op;
 use plir_scripts::{Answer, Bench, Line, Stop};
@@ -16,7 +19,8 @@ pub fn operation<D: OpSet>(bench: &mut Bench<D>, line: Line<'_>) -> Result<(), S
     match line.command {
         "module" => make_module(bench, line),
         "func" => make_func(bench, line),
-        "constant" | "materialize" => make_constant(bench, line),
+        "constant" => make_constant(bench, line),
+        "materialize" => materialize(bench, line),
         "forward-ref" => make_forward_ref(bench),
         _ => verify(bench, line),
     }
@@ -38,18 +42,32 @@ fn make_func<D: OpSet>(bench: &mut Bench<D>, line: Line<'_>) -> Result<(), Stop>
 }
 
 fn make_constant<D: OpSet>(bench: &mut Bench<D>, line: Line<'_>) -> Result<(), Stop> {
-    let value = read_attr(bench.alloc, &mut bench.ctx, line.text)?;
-    let op = match value {
-        AttrObj::Integer(integer) if line.command == "materialize" => {
-            integer.materialize(bench.alloc, &mut bench.ctx)?
+    let value = attribute(bench, line)?;
+    if value.typed().is_none() {
+        return Err(Stop::Refused);
+    }
+    let constant = ConstantOp::new(bench.alloc, &mut bench.ctx, value)?;
+    put_tree(bench, Op::<D>::get_operation(&constant))
+}
+
+fn materialize<D: OpSet>(bench: &mut Bench<D>, line: Line<'_>) -> Result<(), Stop> {
+    match attribute(bench, line)? {
+        AttrObj::Integer(value) => {
+            let op = value.materialize(bench.alloc, &mut bench.ctx)?;
+            put_tree(bench, op)
         }
-        value if value.typed().is_some() => {
-            let constant = ConstantOp::new(bench.alloc, &mut bench.ctx, value)?;
-            Op::<D>::get_operation(&constant)
-        }
-        _ => return Err(Stop::Refused),
-    };
-    put_tree(bench, op)
+        _ => Err(Stop::Refused),
+    }
+}
+
+// The attribute that the text of a line stands for.
+fn attribute<D: OpSet>(bench: &mut Bench<D>, line: Line<'_>) -> Result<AttrObj<D>, Stop>
+    ensures { IfOk result (λ attr. IsAttrLive D.attr_handles bench.new.ctx.types (attr_view attr)) }
+{
+    match read_attr(bench.alloc, &mut bench.ctx, line.text) {
+        Ok(attr) => Ok(attr),
+        Err(fault) => Err(Stop::from(fault)),
+    }
 }
 
 fn make_forward_ref<D: OpSet>(bench: &mut Bench<D>) -> Result<(), Stop> {
