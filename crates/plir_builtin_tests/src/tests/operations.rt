@@ -1,13 +1,14 @@
 //! The calls on builtin operations.
-ghost use Rattle.std.specs.Prelude.{IfOk};
+ghost use Rattle.std.specs.Prelude.{◌≡◌, IfOk, IfSome};
 ghost use Rattle.plir_data.specs.AttrLive.{IsAttrLive};
 ghost use Rattle.plir_data.specs.AttrSeen.{attr_view};
+ghost use Rattle.plir_data.specs.AttrView.{leaf, integer};
 ghost use Rattle.plir_core.specs.Store.{IsLive};
 ghost use Rattle.plir_core.specs.declared.ptr.IRNode.{IRNode as AnyNode};
 
 use plir_builtin::{ConstantOp, ForwardRefOp, FuncOp, MaterializableAttr, ModuleOp};
 use plir_core::{Operation, Ptr};
-use plir_data::{AttrObj, FunctionType, Identifier, OpSet, VerifyErr};
+use plir_data::{AttrObj, FunctionType, Identifier, IntegerAttr, OpSet, VerifyErr};
 use plir_iface::Op;
 use plir_scripts::{Answer, Bench, Line, Stop};
 use plir_text::read_attr;
@@ -51,12 +52,19 @@ fn make_constant<D: OpSet>(bench: &mut Bench<D>, line: Line<'_>) -> Result<(), S
 }
 
 fn materialize<D: OpSet>(bench: &mut Bench<D>, line: Line<'_>) -> Result<(), Stop> {
-    match attribute(bench, line)? {
-        AttrObj::Integer(value) => {
-            let op = value.materialize(bench.alloc, &mut bench.ctx)?;
-            put_tree(bench, op)
-        }
-        _ => Err(Stop::Refused),
+    let value = attribute(bench, line)?;
+    let integer = integer_in(&value).ok_or(Stop::Refused)?;
+    let op = integer.materialize(bench.alloc, &mut bench.ctx)?;
+    put_tree(bench, op)
+}
+
+// The integer that an attribute is.
+fn integer_in<D: OpSet>(value: &AttrObj<D>) -> Option<IntegerAttr>
+    ensures { IfSome result (λ i. attr_view value.now ≡ leaf (integer i.ty i.value.width i.value.bits)) }
+{
+    match value {
+        AttrObj::Integer(integer) => Some(*integer),
+        _ => None,
     }
 }
 
