@@ -175,6 +175,7 @@ pub fn note<D: OpSet>(
     text: &str,
 ) -> Option<String>
     requires { IsLive ctx.old (AnyNode.Operation op) }
+    ensures { IsLive ctx.new (AnyNode.Operation op) }
 {
     let Ok(attr) = read_attr(alloc, ctx, text) else {
         return None;
