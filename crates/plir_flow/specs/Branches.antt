@@ -1,5 +1,5 @@
 -- The rules of branches and of successors, and how they are refused.
-use Rattle.std.specs.Prelude.{◌≡◌, ◌≢◌, ◌<◌, ◌+◌, ◌-◌, ℕ, List, [], ◌∷◌, ◌++◌, insert, remove, length, map, slice_get, slice_range, Bool, false, Option, Some, string_bytes}
+use Rattle.std.specs.Prelude.{◌≡◌, ◌≢◌, ◌<◌, ◌+◌, ◌-◌, ℕ, List, [], ◌∷◌, ◌++◌, insert, remove, length, map, slice_get, slice_range, slice_set, Bool, false, Option, Some, string_bytes}
 use Rattle.plir_data.specs.Dictionary.{dict_get}
 use Rattle.plir_data.specs.Types.{TypeView, IsLive as IsTypeLive}
 use Rattle.plir_data.specs.TypeText.{type_text}
@@ -11,10 +11,13 @@ use Rattle.plir_core.specs.declared.ptr.BasicBlock.{BasicBlock as BasicBlockKind
 use Rattle.plir_core.specs.declared.ptr.IRNode.TheVariants.{Operation}
 use Rattle.plir_core.specs.declared.value.Value.{Value}
 use Rattle.plir_core.specs.Store.{Store, IsLive, op_at, block_at, kind_of, result_types_of, operands_of, successors_of, attributes_of, location_of, arg_types_of, type_of_value}
+use Rattle.plir_core.specs.Changes.{with_op_edit}
 use Rattle.plir_core.specs.Held.{KeepsNodes}
+use Rattle.plir_iface.specs.Verdict.{IsRefusal, IsRefusalMemoryAside}
 use Rattle.plir_iface.specs.Sides.{type_in}
 use Rattle.plir_flow.specs.declared.branch_errors.BranchOpInterfaceVerifyErr.{BranchOpInterfaceVerifyErr}
 use Rattle.plir_flow.specs.declared.branch_errors.BranchOpInterfaceVerifyErr.TheVariants.{Layout, SuccessorOperandsMismatch, SuccessorOperandTypeMismatch}
+use Rattle.plir_flow.specs.declared.branch_errors.NSuccsVerifyErr.{NSuccsVerifyErr}
 use Rattle.plir_flow.specs.declared.branch_errors.Mismatch.{Mismatch}
 use Rattle.plir_flow.specs.declared.branch_errors.Mismatch.TheVariants.{Count, Differ}
 
@@ -40,6 +43,10 @@ module _ {K A T : Type 0} where
   -- the rule of the number of successors
   abbrev pub HasNSuccs : ℕ → Store K A T → Ptr OperationKind → Type 0
   HasNSuccs n s op = num_successors s op ≡ n
+
+  -- it is refused with the number that is asked for and the one that is there
+  abbrev pub BreaksNSuccs : ℕ → Store K A T → Ptr OperationKind → VerifyErr NSuccsVerifyErr → Type 0
+  BreaksNSuccs n s op = IsRefusal s op (λ e. (e.0 ≡ n) × (e.1 ≡ num_successors s op))
 
   -- the operands in a range of places, and their types
   abbrev pub operands_within : Store K A T → Ptr OperationKind → Range → List Value
@@ -98,9 +105,22 @@ module _ {K A T : Type 0} where
     pub here : operands_within t op (new i) ≡ values
     pub others : (j : ℕ) → j < num_successors s op → j ≢ i → operands_within t op (new j) ≡ operands_within s op (old j)
 
-  -- its successor i gets one more value, behind the others; or one less, that for its argument at a place
-  abbrev pub IsForwardedMore : (s t : Store K A T) → Ptr OperationKind → (tells_layout : List ℕ → Bool) → (old new : ℕ → Range) → (i : ℕ) → Value → Type 0
-  IsForwardedMore s t op tells_layout old new i v = IsReforwarded s t op tells_layout old new i (insert (operands_of s op) (old i).1 v) (operands_within s op (old i) ++ v ∷ [])
+  -- Its successor i gets one more value, behind the others; or one less, that for its argument at a place. What it forwards is a
+  -- function of the context.
+  module _ (tells_layout : List ℕ → Bool) (forwards : Store K A T → ℕ → Range) (s t : Store K A T) (op : Ptr OperationKind) (i : ℕ) where
+    abbrev pub IsForwardedMore : Value → Type 0
+    IsForwardedMore v =
+        IsReforwarded s t op tells_layout (forwards s) (forwards t) i (insert (operands_of s op) (forwards s i).1 v) (operands_within s op (forwards s i) ++ v ∷ [])
 
-  abbrev pub IsForwardedLess : (s t : Store K A T) → Ptr OperationKind → (tells_layout : List ℕ → Bool) → (old new : ℕ → Range) → (i place : ℕ) → Type 0
-  IsForwardedLess s t op tells_layout old new i place = IsReforwarded s t op tells_layout old new i (remove (operands_of s op) ((old i).0 + place)) (remove (operands_within s op (old i)) place)
+    abbrev pub IsForwardedLess : (place : ℕ) → Type 0
+    IsForwardedLess place =
+        IsReforwarded s t op tells_layout (forwards s) (forwards t) i (remove (operands_of s op) ((forwards s i).0 + place)) (remove (operands_within s op (forwards s i)) place)
+
+  -- from s to t another value has come in the place of an operand, and nothing else has changed
+  abbrev pub IsOperandReplaced : (s t : Store K A T) → Ptr OperationKind → ℕ → Value → Type 0
+  IsOperandReplaced s t op i v = t ≡ with_op_edit s op (λ o. record o { operands = slice_set o.operands i v })
+
+  -- the refusal of a branch, at the operation's location; or memory was refused
+  abbrev pub BreaksBranchRule : {E : Type 0} → (own_id : T → List ℕ) (own_body : List (TypeView T) → T → List ℕ) (layout : Store K A T → Type 0) (tells : Store K A T → E → Type 0)
+      → (forwards : Store K A T → ℕ → Range) → Store K A T → Ptr OperationKind → VerifyErr (BranchOpInterfaceVerifyErr E) → Type 0
+  BreaksBranchRule own_id own_body layout tells forwards s op = IsRefusalMemoryAside s op (IsBranchFault (layout s) (tells s) own_id own_body s op (forwards s))

@@ -1,11 +1,14 @@
 -- The rule of calls, and how it is refused.
-use Rattle.std.specs.Prelude.{◌≡◌, ◌<◌, ℕ, List, Bool, Option, Some, None, option_and_then, codes}
+use Rattle.std.specs.Prelude.{◌≡◌, ◌<◌, ℕ, List, Bool, Option, Some, None, is_some, option_and_then, codes}
 use Rattle.plir_data.specs.AttrView.{AttrView, leaf, type_of}
-use Rattle.plir_data.specs.Dictionary.{dict_get}
-use Rattle.plir_data.specs.Types.{TypeView, IsMarked}
+use Rattle.plir_data.specs.Dictionary.{dict_get, dict_put}
+use Rattle.plir_data.specs.Types.{TypeView, IsMarked, signature_of}
+use Rattle.plir_data.specs.declared.location.VerifyErr.{VerifyErr}
 use Rattle.plir_core.specs.declared.ptr.Ptr.{Ptr}
 use Rattle.plir_core.specs.declared.ptr.Operation.{Operation as OperationKind}
 use Rattle.plir_core.specs.Store.{Store, IsValueLive, attributes_of}
+use Rattle.plir_core.specs.Changes.{with_op_edit}
+use Rattle.plir_iface.specs.Verdict.{IsRefusal}
 use Rattle.plir_flow.specs.declared.calls.CallOpCallable.{CallOpCallable}
 use Rattle.plir_flow.specs.declared.calls.CallOpCallable.TheVariants.{Direct, Indirect}
 use Rattle.plir_flow.specs.declared.calls.CallOpInterfaceErr.{CallOpInterfaceErr}
@@ -19,6 +22,10 @@ callee_type_key = codes "builtin_callee_type"
 abbrev pub type_in_attr : {A : Type 0} → AttrView A → Option ℕ
 type_in_attr (leaf (type_of t)) = Some t
 type_in_attr _ = None
+
+-- whether a type is one of functions: whether it has a signature
+abbrev pub has_signature : {T : Type 0} → (own_signature : T → Option (List ℕ × List ℕ)) → TypeView T → Bool
+has_signature own_signature t = is_some (signature_of own_signature t)
 
 module _ {K A T : Type 0} where
   -- the type that stands under the key, if an attribute of a type does
@@ -44,3 +51,11 @@ module _ {K A T : Type 0} where
     abbrev pub IsCallFault : CallOpInterfaceErr → Type 0
     IsCallFault CalleeTypeAttrNotFoundErr = callee_type_of s op ≡ None
     IsCallFault CalleeTypeAttrIncorrectTypeErr = (t : ℕ) × ((callee_type_of s op ≡ Some t) × (IsMarked is_function s.types t → ⊥))
+
+    -- the same, told at the operation's location
+    abbrev pub BreaksCalleeType : VerifyErr CallOpInterfaceErr → Type 0
+    BreaksCalleeType = IsRefusal s op IsCallFault
+
+  -- the attribute of a type has come under the key
+  abbrev pub with_callee_type : Store K A T → Ptr OperationKind → ℕ → Store K A T
+  with_callee_type s op t = with_op_edit s op (λ o. record o { attributes = dict_put o.attributes callee_type_key (leaf (type_of t)) })

@@ -3,6 +3,7 @@
 --   Segments         segments_of: an operation's operands in segments; HasSegments: the rule; with_segments: the edits
 --   SegmentRefusals  IsSegmentFault: how the rule of segments is refused
 --   SegmentTypes     the rules of the types in one segment, and how they are refused
+--   Layout           IsLayoutRefusal: how the check of a layout refuses
 --   Branches         the rules of branches and of successors, and how they are refused
 --   Calls            the rule of calls, and how it is refused
 --   Taken            AreThose, IsOnceEach, AreTakenOnce: lists that are taken from other lists
@@ -13,6 +14,7 @@
 pub mod Segments
 pub mod SegmentRefusals
 pub mod SegmentTypes
+pub mod Layout
 pub mod Branches
 pub mod Calls
 pub mod Taken

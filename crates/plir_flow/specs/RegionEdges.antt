@@ -1,5 +1,6 @@
 -- Edges between an operation and its regions, and the paths that they make.
 use Rattle.std.specs.Prelude.{◌≡◌, ◌<◌, List, [], ◌∷◌, All, length, map, Some}
+use Rattle.std.specs.List.{flat_map}
 use Rattle.plir_core.specs.declared.ptr.Ptr.{Ptr}
 use Rattle.plir_core.specs.declared.ptr.Region.{Region as RegionKind}
 use Rattle.plir_core.specs.declared.ptr.IRNode.TheVariants.{Operation, Region}
@@ -8,6 +9,7 @@ use Rattle.plir_core.specs.declared.operand_uses.Use.{Use}
 use Rattle.plir_core.specs.NodeLists.{Has}
 use Rattle.plir_core.specs.Store.{Store, IsLive, IsValueLive, operands_of, region_above}
 use Rattle.plir_flow.specs.Paths.{LeadsTo}
+use Rattle.plir_flow.specs.Taken.{AreThose}
 use Rattle.plir_flow.specs.declared.edge_ends.RegionBranchPoint.{RegionBranchPoint}
 use Rattle.plir_flow.specs.declared.edge_ends.RegionBranchPoint.TheVariants.{Parent, Terminator}
 use Rattle.plir_flow.specs.declared.edge_ends.RegionSuccessor.{RegionSuccessor}
@@ -52,6 +54,10 @@ regions_on e = region_in e.to
 -- the value is the one that receives
 abbrev pub IsInto : Value → Flow → Type 0
 IsInto v f = f.1 ≡ v
+
+-- these are the operands that flow into a value along the edges, in order
+abbrev pub AreOperandsInto : Value → List EdgeView → List (Use Value) → Type 0
+AreOperandsInto v es us = (those : List Flow) × (AreThose (IsInto v) (flat_map flows_on es) those × (us ≡ map (λ f. f.0) those))
 
 module _ {K A T : Type 0} (s : Store K A T) where
   -- a terminator whose parent region this is stands at the start

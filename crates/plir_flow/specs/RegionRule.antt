@@ -25,6 +25,7 @@ use Rattle.plir_flow.specs.declared.region_edge_errors.RegionBranchOpInterfaceVe
 use Rattle.plir_flow.specs.declared.region_edge_errors.RegionBranchOpInterfaceVerifyErr.TheVariants.{Layout, ReceiverSetMismatch, InvalidTerminator, ReadNotOpOrSourceOperand, ForeignRegionSuccessor, OperandNotAtBranchPoint, ReceiverNotRegionArgument, ReceiverNotResult, DuplicateReceiver, FlowTypeMismatch}
 use Rattle.plir_flow.specs.declared.region_edge_errors.EdgeFault.{EdgeFault}
 use Rattle.plir_flow.specs.declared.region_edge_errors.EdgeFault.TheVariants.{OtherReceivers, ForeignTerminator, ForeignRead, ForeignRegion, ForeignOperand, NoArgument, NoResult, ReceivedTwice, OtherType}
+use Rattle.plir_iface.specs.Verdict.{IsRefusalMemoryAside}
 use Rattle.plir_flow.specs.Hops.{same_region}
 use Rattle.plir_flow.specs.RegionEdges.{EdgeView, Flow, receivers_on}
 
@@ -194,3 +195,9 @@ module _ {K A T E : Type 0} (own_id : T → List ℕ) (own_body : List (TypeView
     abbrev pub IsEdgeRefusal : (layout : Type 0) (layout_refusal : E → Type 0) → RegionBranchOpInterfaceVerifyErr E → Type 0
     IsEdgeRefusal layout layout_refusal (Layout e) = (layout → ⊥) × layout_refusal e
     IsEdgeRefusal layout layout_refusal e = layout × IsToldFault e
+
+-- the refusal of region edges, at the operation's location; or memory was refused
+abbrev pub BreaksEdgeRule : {K A T E : Type 0} → (own_id : T → List ℕ) (own_body : List (TypeView T) → T → List ℕ) (is_terminator : K → Bool) (layout : Store K A T → Type 0)
+    (tells : Store K A T → E → Type 0) (edges : Store K A T → List EdgeView) → Store K A T → Ptr OperationKind → VerifyErr (RegionBranchOpInterfaceVerifyErr E) → Type 0
+BreaksEdgeRule own_id own_body is_terminator layout tells edges s op =
+    IsRefusalMemoryAside s op (IsEdgeRefusal own_id own_body s is_terminator op (edges s) (layout s) (tells s))

@@ -1,9 +1,13 @@
 -- The rules of the types in one segment, and how they are refused.
 use Rattle.std.specs.Prelude.{◌≡◌, ◌<◌, ◌≤◌, ℕ, List, length, map, Bool, Option, string_bytes}
 use Rattle.plir_data.specs.Types.{TypeView}
+use Rattle.plir_data.specs.declared.location.VerifyErr.{VerifyErr}
 use Rattle.plir_core.specs.declared.ptr.Ptr.{Ptr}
 use Rattle.plir_core.specs.declared.ptr.Operation.{Operation as OperationKind}
 use Rattle.plir_core.specs.Store.{Store, type_of_value}
+use Rattle.plir_iface.specs.Sides.{type_in}
+use Rattle.plir_iface.specs.Counts.{operand_types}
+use Rattle.plir_iface.specs.Verdict.{IsRefusal, IsRefusalMemoryAside}
 use Rattle.plir_iface.specs.TypeRules.{EachPasses, FailsFirst}
 use Rattle.plir_iface.specs.TypeRefusals.{id_in, text_in}
 use Rattle.plir_iface.specs.declared.type_errors.TypeRuleErr.{TypeRuleErr}
@@ -31,6 +35,10 @@ module _ {K A T : Type 0} where
     abbrev pub FailsFirstIn : ℕ → Type 0
     FailsFirstIn i = FailsFirst passes s (λ k. k < length (segment_types s op n)) (segment_types s op n) i
 
+    -- the operand with that type stands at a place among all operands
+    abbrev pub IsFirstFailingOperand : ℕ → Type 0
+    IsFirstFailingOperand p = (i : ℕ) × (FailsFirstIn i × (type_in (segment_types s op n) i ≡ type_in (operand_types s op) p))
+
     module _ (name : List ℕ) (own_id : T → List ℕ) where
       -- There is no segment n; or it is there, and the text is that of the first type in it that fails.
       abbrev pub IsSegmentOfOtherKind : (own_body : List (TypeView T) → T → List ℕ) → SegmentNOfTypeError → Type 0
@@ -44,3 +52,10 @@ module _ {K A T : Type 0} where
       IsSegmentWithout (WrongType (Segment i wanted found)) =
           (n < num_segments s op) × (i ≡ n) × (wanted.now ≡ name) × ((k : ℕ) × (FailsFirstIn k × (found.now ≡ id_in own_id s (segment_types s op n) k)))
       IsSegmentWithout _ = ⊥
+
+      -- How an operation breaks one of these rules: the refusal is at its location.
+      abbrev pub BreaksSegmentNOfType : (own_body : List (TypeView T) → T → List ℕ) → VerifyErr SegmentNOfTypeError → Type 0
+      BreaksSegmentNOfType own_body = IsRefusalMemoryAside s op (IsSegmentOfOtherKind own_body)
+
+      abbrev pub BreaksSegmentNImplsTy : VerifyErr (TypeRuleErr SegmentNOfTypeError TypeInterfaceImplsErr) → Type 0
+      BreaksSegmentNImplsTy = IsRefusal s op IsSegmentWithout

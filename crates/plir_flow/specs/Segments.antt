@@ -1,5 +1,5 @@
 -- Operands in segments: a list of lists, whose lengths are the sizes and whose flattening is the operands.
-use Rattle.std.specs.Prelude.{◌≡◌, ℕ, zero, suc, ◌+◌, List, [], ◌∷◌, insert, remove, length, map, take, drop, sum, slice_index_or, slice_range, false, Option, Some, None, IsSome, unwrap_or, option_and_then, codes}
+use Rattle.std.specs.Prelude.{◌≡◌, ℕ, zero, suc, ◌+◌, ◌-◌, List, [], ◌∷◌, insert, remove, length, map, take, drop, sum, slice_get, slice_index_or, slice_range, false, Option, Some, None, IsSome, unwrap_or, option_and_then, codes}
 use Rattle.std.specs.List.{flat_map}
 use Rattle.plir_data.specs.AttrView.{AttrView, leaf, operand_segment_sizes}
 use Rattle.plir_data.specs.Dictionary.{dict_get, dict_put, is_key}
@@ -124,9 +124,20 @@ module _ {K A T : Type 0} where
   abbrev pub IsSegmentEdited : (s t : Store K A T) → Ptr OperationKind → ℕ → (List Value → List Value) → Type 0
   IsSegmentEdited s t op seg f = IsResegmented s t op (edit_at seg f (segments_of s op))
 
-  -- one more operand has come in at a place, or one has gone from there
-  abbrev pub IsOperandPut : (s t : Store K A T) → Ptr OperationKind → ℕ → Value → Type 0
-  IsOperandPut s t op i v = operands_of t op ≡ insert (operands_of s op) i v
+  -- the value stands at a place of a segment
+  abbrev pub StandsInSegment : Store K A T → Ptr OperationKind → (seg place : ℕ) → Value → Type 0
+  StandsInSegment s op seg place v = slice_get (segment_at (segments_of s op) seg) place ≡ Some v
 
-  abbrev pub IsOperandTaken : (s t : Store K A T) → Ptr OperationKind → ℕ → Type 0
-  IsOperandTaken s t op i = operands_of t op ≡ remove (operands_of s op) i
+  -- Among the operands one more has come in at a place of a segment, or behind its last; or one has gone from there.
+  module _ (s t : Store K A T) (op : Ptr OperationKind) (seg : ℕ) where
+    abbrev pub IsOperandPutAt : (place : ℕ) → Value → Type 0
+    IsOperandPutAt place v = operands_of t op ≡ insert (operands_of s op) ((segment_places s op seg).0 + place) v
+
+    abbrev pub IsOperandPutLast : Value → Type 0
+    IsOperandPutLast v = operands_of t op ≡ insert (operands_of s op) (segment_places s op seg).1 v
+
+    abbrev pub IsOperandTakenAt : (place : ℕ) → Type 0
+    IsOperandTakenAt place = operands_of t op ≡ remove (operands_of s op) ((segment_places s op seg).0 + place)
+
+    abbrev pub IsLastOperandTaken : Type 0
+    IsLastOperandTaken = operands_of t op ≡ remove (operands_of s op) ((segment_places s op seg).1 - 1)

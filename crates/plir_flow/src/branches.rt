@@ -1,11 +1,12 @@
 //! The interface of operations that branch to other blocks.
-ghost use Rattle.std.specs.Prelude.{◌≡◌, ◌↔◌, ◌<◌, ◌≤◌, ◌+◌, ◌-◌, ◌^◌, ℕ, Some, All, IsOk, IfOk, IfErr, OnOk, OnErr, length, slice_get, slice_set};
+ghost use Rattle.std.specs.Prelude.{◌≡◌, ◌↔◌, ◌<◌, ◌≤◌, ◌+◌, ◌-◌, ◌^◌, ℕ};
+ghost use Rattle.std.specs.Prelude.{Some, All, IsOk, IfOk, IfErr, OnOk, OnErr, length, slice_get};
 ghost use Rattle.plir_core.specs.declared.ptr.IRNode.{IRNode};
 ghost use Rattle.plir_core.specs.Store.{IsLive, IsValueLive, operands_of, successors_of};
 ghost use Rattle.plir_core.specs.Whole.{IsWhole};
-ghost use Rattle.plir_core.specs.Changes.{with_op_edit};
-ghost use Rattle.plir_iface.specs.Verdict.{IsRefusal, IsRefusalMemoryAside};
-ghost use Rattle.plir_flow.specs.Branches.{num_successors, HasNSuccs, operands_within, HasBranchRule, IsBranchFault, IsForwardedMore, IsForwardedLess};
+ghost use Rattle.plir_flow.specs.Layout.{IsLayoutRefusal};
+ghost use Rattle.plir_flow.specs.Branches.{num_successors, HasNSuccs, BreaksNSuccs, operands_within};
+ghost use Rattle.plir_flow.specs.Branches.{HasBranchRule, BreaksBranchRule, IsForwardedMore, IsForwardedLess, IsOperandReplaced};
 
 use crate::branch_errors::{BranchOpInterfaceVerifyErr, NSuccsVerifyErr};
 use crate::forwarding::{as_layout, find_first_mismatch, tell};
@@ -46,7 +47,7 @@ pub trait BranchOpInterface<D: OpSet>: IsTerminatorInterface<D> {
     ) -> Result<(), VerifyErr<D::Err>>
         requires { IsLive ctx.now (IRNode.Operation (Self.pointer self.now)) }
         ensures ok { OnOk result (has_layout self.now ctx.now) }
-        ensures refused { IfErr result (IsRefusalMemoryAside ctx.now (Self.pointer self.now) (λ e. (has_layout self.now ctx.now → ⊥) × refuses_layout self.now ctx.now e)) };
+        ensures refused { IfErr result (IsLayoutRefusal (has_layout self.now) (refuses_layout self.now) ctx.now (Self.pointer self.now)) };
 
     /// The places of the operands that are forwarded to a successor, from 0; they are among the operands.
     fn successor_operand_range(&self, ctx: &Context<D>, succ: usize) -> Range<usize>
@@ -72,7 +73,7 @@ pub trait BranchOpInterface<D: OpSet>: IsTerminatorInterface<D> {
         requires room { length (operands_within ctx.old (Self.pointer self.now) (forwards self.now ctx.old succ)) < 2 ^ 32 - 1 }
         requires operand_live { IsValueLive ctx.old operand }
         ensures index { IfOk result (λ i. i ≡ length (operands_within ctx.old (Self.pointer self.now) (forwards self.now ctx.old succ))) }
-        ensures ok { OnOk result (IsForwardedMore ctx.old ctx.new (Self.pointer self.now) (tells_layout self.now) (forwards self.now ctx.old) (forwards self.now ctx.new) succ operand) }
+        ensures ok { OnOk result (IsForwardedMore (tells_layout self.now) (forwards self.now) ctx.old ctx.new (Self.pointer self.now) succ operand) }
         ensures layout { OnOk result (has_layout self.now ctx.new) }
         ensures err { OnErr result (ctx.new ≡ ctx.old) }
         ensures whole { IsWhole D.attr_handles ctx.new };
@@ -84,7 +85,7 @@ pub trait BranchOpInterface<D: OpSet>: IsTerminatorInterface<D> {
         requires below { succ < num_successors ctx.old (Self.pointer self.now) }
         requires within { arg < length (operands_within ctx.old (Self.pointer self.now) (forwards self.now ctx.old succ)) }
         ensures value { slice_get (operands_within ctx.old (Self.pointer self.now) (forwards self.now ctx.old succ)) arg ≡ Some result }
-        ensures after { IsForwardedLess ctx.old ctx.new (Self.pointer self.now) (tells_layout self.now) (forwards self.now ctx.old) (forwards self.now ctx.new) succ arg }
+        ensures after { IsForwardedLess (tells_layout self.now) (forwards self.now) ctx.old ctx.new (Self.pointer self.now) succ arg }
         ensures layout { has_layout self.now ctx.new }
         ensures whole { IsWhole D.attr_handles ctx.new };
 
@@ -119,7 +120,7 @@ pub trait BranchOpInterface<D: OpSet>: IsTerminatorInterface<D> {
         requires below { succ < num_successors ctx.old (Self.pointer self.now) }
         requires within { (forwards self.now ctx.old succ).0 + arg < (forwards self.now ctx.old succ).1 }
         requires operand_live { IsValueLive ctx.old operand }
-        ensures after { ctx.new ≡ with_op_edit ctx.old (Self.pointer self.now) (λ o. record o { operands = slice_set o.operands ((forwards self.now ctx.old succ).0 + arg) operand }) }
+        ensures after { IsOperandReplaced ctx.old ctx.new (Self.pointer self.now) ((forwards self.now ctx.old succ).0 + arg) operand }
         ensures whole { IsWhole D.attr_handles ctx.new }
     {
         let op = self.get_operation();
@@ -137,7 +138,7 @@ pub trait BranchOpInterface<D: OpSet>: IsTerminatorInterface<D> {
     ) -> Result<(), VerifyErr<BranchOpInterfaceVerifyErr<D::Err>>>
         requires { IsLive ctx.now (IRNode.Operation (Self.pointer self.now)) }
         ensures ok { OnOk result (HasBranchRule (has_layout self.now ctx.now) ctx.now (Self.pointer self.now) (forwards self.now ctx.now)) }
-        ensures refused { IfErr result (IsRefusalMemoryAside ctx.now (Self.pointer self.now) (IsBranchFault (has_layout self.now ctx.now) (refuses_layout self.now ctx.now) D.type_id D.type_body_text ctx.now (Self.pointer self.now) (forwards self.now ctx.now))) }
+        ensures refused { IfErr result (BreaksBranchRule D.type_id D.type_body_text (has_layout self.now) (refuses_layout self.now) (forwards self.now) ctx.now (Self.pointer self.now)) }
         ensures whole { IsWhole D.attr_handles ctx.now }
     {
         let op = self.get_operation();
@@ -158,7 +159,7 @@ pub trait NSuccsInterface<D: OpSet, const N: usize>: BranchOpInterface<D> {
     final fn verify(&self, ctx: &Context<D>) -> Result<(), VerifyErr<NSuccsVerifyErr>>
         requires { IsLive ctx.now (IRNode.Operation (Self.pointer self.now)) }
         ensures ok { IsOk result ↔ HasNSuccs N ctx.now (Self.pointer self.now) }
-        ensures refused { IfErr result (IsRefusal ctx.now (Self.pointer self.now) (λ e. (e.0 ≡ N) × (e.1 ≡ num_successors ctx.now (Self.pointer self.now)))) }
+        ensures refused { IfErr result (BreaksNSuccs N ctx.now (Self.pointer self.now)) }
         ensures whole { IsWhole D.attr_handles ctx.now }
     {
         let op = self.get_operation();
@@ -184,7 +185,7 @@ pub trait OneSuccInterface<D: OpSet>: BranchOpInterface<D> {
     final fn verify(&self, ctx: &Context<D>) -> Result<(), VerifyErr<NSuccsVerifyErr>>
         requires { IsLive ctx.now (IRNode.Operation (Self.pointer self.now)) }
         ensures ok { IsOk result ↔ HasNSuccs 1 ctx.now (Self.pointer self.now) }
-        ensures refused { IfErr result (IsRefusal ctx.now (Self.pointer self.now) (λ e. (e.0 ≡ 1) × (e.1 ≡ num_successors ctx.now (Self.pointer self.now)))) }
+        ensures refused { IfErr result (BreaksNSuccs 1 ctx.now (Self.pointer self.now)) }
         ensures whole { IsWhole D.attr_handles ctx.now }
     {
         let op = self.get_operation();

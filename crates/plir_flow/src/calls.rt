@@ -1,16 +1,14 @@
 //! The interface of operations that call functions.
-ghost use Rattle.std.specs.Prelude.{◌≡◌, ◌↔◌, ◌≤◌, Some, All, IsOk, IsNone, IfSome, IfOk, IfErr, OnOk, OnErr, is_some, length};
+ghost use Rattle.std.specs.Prelude.{◌≡◌, ◌↔◌, ◌≤◌, Some, All, IsOk, IsNone, IfSome, IfOk, IfErr, OnOk, OnErr, length};
 ghost use Rattle.plir_data.specs.AttrSeen.{attr_view};
-ghost use Rattle.plir_data.specs.AttrView.{leaf, type_of};
-ghost use Rattle.plir_data.specs.Dictionary.{dict_put};
-ghost use Rattle.plir_data.specs.Types.{IsLive as IsTypeLive, signature_of};
+ghost use Rattle.plir_data.specs.Types.{IsLive as IsTypeLive};
 ghost use Rattle.plir_core.specs.declared.ptr.IRNode.{IRNode};
 ghost use Rattle.plir_core.specs.Store.{IsLive, IsValueLive, operands_of};
 ghost use Rattle.plir_core.specs.Whole.{IsWhole};
-ghost use Rattle.plir_core.specs.Changes.{with_op_edit};
-ghost use Rattle.plir_iface.specs.Verdict.{IsRefusal, IsRefusalMemoryAside};
 ghost use Rattle.plir_flow.specs.Branches.{operands_within};
-ghost use Rattle.plir_flow.specs.Calls.{callee_type_of, callee_type_key, type_in_attr, HasCalleeType, IsCallFault, IsCalleeLive};
+ghost use Rattle.plir_flow.specs.Layout.{IsLayoutRefusal};
+ghost use Rattle.plir_flow.specs.Calls.{callee_type_of, type_in_attr, with_callee_type};
+ghost use Rattle.plir_flow.specs.Calls.{has_signature, HasCalleeType, BreaksCalleeType, IsCallFault, IsCalleeLive};
 
 use crate::operand_ranges::operands_in;
 use plir_core::{Context, Operation, Ptr, Value};
@@ -66,8 +64,8 @@ fn find_callee_type<D: OpSet>(ctx: &Context<D>, op: Ptr<Operation>) -> Option<Ty
 // How the type of what is called breaks the rule.
 fn find_fault<D: OpSet>(ctx: &Context<D>, op: Ptr<Operation>) -> Option<CallOpInterfaceErr>
     requires { IsLive ctx.now (IRNode.Operation op) }
-    ensures none { IsNone result ↔ HasCalleeType (λ t. is_some (signature_of D.function_sig t)) ctx.now op }
-    ensures some { IfSome result (IsCallFault (λ t. is_some (signature_of D.function_sig t)) ctx.now op) }
+    ensures none { IsNone result ↔ HasCalleeType (has_signature D.function_sig) ctx.now op }
+    ensures some { IfSome result (IsCallFault (has_signature D.function_sig) ctx.now op) }
     ensures whole { IsWhole D.attr_handles ctx.now }
 {
     let Some(ty) = find_callee_type(ctx, op) else {
@@ -88,7 +86,7 @@ fn put_callee_type<D: OpSet>(
 ) -> Result<(), Memory>
     requires live { IsLive ctx.old (IRNode.Operation op) }
     requires type_live { IsTypeLive ctx.old.types ty }
-    ensures ok { OnOk result (ctx.new ≡ with_op_edit ctx.old op (λ o. record o { attributes = dict_put o.attributes callee_type_key (leaf (type_of ty)) })) }
+    ensures ok { OnOk result (ctx.new ≡ with_callee_type ctx.old op ty) }
     ensures err { OnErr result (ctx.new ≡ ctx.old) }
     ensures whole { IsWhole D.attr_handles ctx.new }
 {
@@ -124,7 +122,7 @@ pub trait CallOpInterface<D: OpSet>: Op<D> {
     fn verify_call_layout(&self, alloc: Global, ctx: &Context<D>) -> Result<(), VerifyErr<D::Err>>
         requires { IsLive ctx.now (IRNode.Operation (Self.pointer self.now)) }
         ensures ok { OnOk result (has_call_layout self.now ctx.now) }
-        ensures refused { IfErr result (IsRefusalMemoryAside ctx.now (Self.pointer self.now) (λ e. (has_call_layout self.now ctx.now → ⊥) × refuses_call_layout self.now ctx.now e)) };
+        ensures refused { IfErr result (IsLayoutRefusal (has_call_layout self.now) (refuses_call_layout self.now) ctx.now (Self.pointer self.now)) };
 
     /// What is called.
     fn callee(&self, alloc: Global, ctx: &Context<D>) -> Result<CallOpCallable, Memory>
@@ -156,7 +154,7 @@ pub trait CallOpInterface<D: OpSet>: Op<D> {
     /// The type of what is called.
     final fn callee_type(&self, ctx: &Context<D>) -> TypeHandle
         requires live { IsLive ctx.now (IRNode.Operation (Self.pointer self.now)) }
-        requires rule { HasCalleeType (λ t. is_some (signature_of D.function_sig t)) ctx.now (Self.pointer self.now) }
+        requires rule { HasCalleeType (has_signature D.function_sig) ctx.now (Self.pointer self.now) }
         ensures value { callee_type_of ctx.now (Self.pointer self.now) ≡ Some result }
         ensures live { IsTypeLive ctx.now.types result }
         ensures whole { IsWhole D.attr_handles ctx.now }
@@ -173,7 +171,7 @@ pub trait CallOpInterface<D: OpSet>: Op<D> {
     ) -> Result<(), Memory>
         requires live { IsLive ctx.old (IRNode.Operation (Self.pointer self.now)) }
         requires type_live { IsTypeLive ctx.old.types ty }
-        ensures ok { OnOk result (ctx.new ≡ with_op_edit ctx.old (Self.pointer self.now) (λ o. record o { attributes = dict_put o.attributes callee_type_key (leaf (type_of ty)) })) }
+        ensures ok { OnOk result (ctx.new ≡ with_callee_type ctx.old (Self.pointer self.now) ty) }
         ensures err { OnErr result (ctx.new ≡ ctx.old) }
         ensures whole { IsWhole D.attr_handles ctx.new }
     {
@@ -183,8 +181,8 @@ pub trait CallOpInterface<D: OpSet>: Op<D> {
     /// Accepts exactly where an attribute of a type stands under the key, and the type is one of functions.
     final fn verify(&self, ctx: &Context<D>) -> Result<(), VerifyErr<CallOpInterfaceErr>>
         requires { IsLive ctx.now (IRNode.Operation (Self.pointer self.now)) }
-        ensures ok { IsOk result ↔ HasCalleeType (λ t. is_some (signature_of D.function_sig t)) ctx.now (Self.pointer self.now) }
-        ensures refused { IfErr result (IsRefusal ctx.now (Self.pointer self.now) (IsCallFault (λ t. is_some (signature_of D.function_sig t)) ctx.now (Self.pointer self.now))) }
+        ensures ok { IsOk result ↔ HasCalleeType (has_signature D.function_sig) ctx.now (Self.pointer self.now) }
+        ensures refused { IfErr result (BreaksCalleeType (has_signature D.function_sig) ctx.now (Self.pointer self.now)) }
         ensures whole { IsWhole D.attr_handles ctx.now }
     {
         let op = self.get_operation();

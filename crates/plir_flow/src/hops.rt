@@ -1,5 +1,5 @@
 //! Steps from region to region, so linked that those from one region are found one after another.
-ghost use Rattle.std.specs.Prelude.{◌≡◌, ◌↔◌, ◌⊎◌, ℕ, List, [], IfOk, OnOk, Some, None, IsTrue, length};
+ghost use Rattle.std.specs.Prelude.{◌≡◌, ◌↔◌, ◌⊎◌, [], IfOk, OnOk, Some, None, IsTrue};
 ghost use Rattle.std.specs.HashMap.{get};
 ghost use Rattle.plir_core.specs.declared.ptr.Ptr.{Ptr as PtrTo};
 ghost use Rattle.plir_core.specs.declared.ptr.Region.{Region as RegionKind};
@@ -8,7 +8,7 @@ ghost use Rattle.plir_core.specs.Whole.{IsWhole};
 ghost use Rattle.plir_flow.specs.Paths.{LeadsTo};
 ghost use Rattle.plir_flow.specs.RegionEdges.{AreEdgesLive, IsFromRegion, IsStep, IsPointLive, Reach};
 ghost use Rattle.plir_flow.specs.declared.edge_ends.RegionSuccessor.{RegionSuccessor as Successor};
-ghost use Rattle.plir_flow.specs.Hops.{IsHop, IsLatest, AreLinked, AreHeads, IsReachedMore, same_region};
+ghost use Rattle.plir_flow.specs.Hops.{IsHop, AreLinked, AreHeads, IsReachedMore, same_region};
 
 use crate::edge_ends::{RegionBranchPoint, RegionEdge, RegionSuccessor};
 use crate::once::list;

@@ -1,5 +1,5 @@
 //! The interface of operations that pass control between their regions.
-ghost use Rattle.std.specs.Prelude.{◌≡◌, ◌↔◌, List, All, IsTrue, IfOk, IfErr, OnOk, map};
+ghost use Rattle.std.specs.Prelude.{◌≡◌, ◌↔◌, All, IsTrue, IfOk, IfErr, OnOk};
 ghost use Rattle.std.specs.List.{flat_map};
 ghost use Rattle.plir_core.specs.declared.ptr.Ptr.{Ptr as PtrTo};
 ghost use Rattle.plir_core.specs.declared.ptr.Region.{Region as RegionKind};
@@ -7,10 +7,11 @@ ghost use Rattle.plir_core.specs.declared.ptr.IRNode.{IRNode};
 ghost use Rattle.plir_core.specs.NodeLists.{Has, Distinct};
 ghost use Rattle.plir_core.specs.Store.{IsLive, IsValueLive};
 ghost use Rattle.plir_core.specs.Whole.{IsWhole};
-ghost use Rattle.plir_iface.specs.Verdict.{IsRefusalMemoryAside};
 ghost use Rattle.plir_flow.specs.Taken.{AreThose, AreTakenOnce};
-ghost use Rattle.plir_flow.specs.RegionEdges.{Flow, IsFrom, IsTo, IsFromRegion, IsInto, IsUseLive, IsFlowLive, AreEdgesLive, flows_on, reads_on, receivers_on, regions_on, Reach};
-ghost use Rattle.plir_flow.specs.RegionRule.{HasEdgeRule, IsEdgeRefusal};
+ghost use Rattle.plir_flow.specs.Layout.{IsLayoutRefusal};
+ghost use Rattle.plir_flow.specs.RegionEdges.{IsFrom, IsTo, IsFromRegion, IsUseLive, IsFlowLive, AreEdgesLive, AreOperandsInto};
+ghost use Rattle.plir_flow.specs.RegionEdges.{flows_on, reads_on, receivers_on, regions_on, Reach};
+ghost use Rattle.plir_flow.specs.RegionRule.{HasEdgeRule, BreaksEdgeRule};
 
 use crate::edge_ends::{RegionBranchPoint, RegionEdge, RegionSuccessor};
 use crate::edge_lists::{keep_from, keep_to, reads, reads_in, receivers, regions_in};
@@ -53,7 +54,7 @@ pub trait RegionBranchOpInterface<D: OpSet>: Op<D> {
     ) -> Result<(), VerifyErr<D::Err>>
         requires { IsLive ctx.now (IRNode.Operation (Self.pointer self.now)) }
         ensures ok { OnOk result (has_edges_layout self.now ctx.now) }
-        ensures refused { IfErr result (IsRefusalMemoryAside ctx.now (Self.pointer self.now) (λ e. (has_edges_layout self.now ctx.now → ⊥) × refuses_edges_layout self.now ctx.now e)) };
+        ensures refused { IfErr result (IsLayoutRefusal (has_edges_layout self.now) (refuses_edges_layout self.now) ctx.now (Self.pointer self.now)) };
 
     /// The edges along which control passes: into the regions, between them and out of them.
     fn region_edges(&self, alloc: Global, ctx: &Context<D>) -> Result<Vec<RegionEdge>, Memory>
@@ -180,7 +181,7 @@ pub trait RegionBranchOpInterface<D: OpSet>: Op<D> {
     ) -> Result<Vec<Use<Value>>, Memory>
         requires live { IsLive ctx.now (IRNode.Operation (Self.pointer self.now)) }
         requires layout { has_edges_layout self.now ctx.now }
-        ensures value { IfOk result (λ us. (those : List Flow) × (AreThose (IsInto receiver) (flat_map flows_on (edges self.now ctx.now)) those × (us.items ≡ map (λ f. f.0) those))) }
+        ensures value { IfOk result (λ us. AreOperandsInto receiver (edges self.now ctx.now) us.items) }
         ensures live { IfOk result (λ us. All (IsUseLive ctx.now) us.items) }
     {
         let flows = keep_into(self.region_flows(alloc, ctx)?, receiver);
@@ -247,7 +248,7 @@ pub trait RegionBranchOpInterface<D: OpSet>: Op<D> {
         requires { IsLive ctx.now (IRNode.Operation (Self.pointer self.now)) }
         ensures layout { OnOk result (has_edges_layout self.now ctx.now) }
         ensures rule { OnOk result (HasEdgeRule D.is_terminator ctx.now (Self.pointer self.now) (edges self.now ctx.now)) }
-        ensures refused { IfErr result (IsRefusalMemoryAside ctx.now (Self.pointer self.now) (IsEdgeRefusal D.type_id D.type_body_text ctx.now D.is_terminator (Self.pointer self.now) (edges self.now ctx.now) (has_edges_layout self.now ctx.now) (refuses_edges_layout self.now ctx.now))) }
+        ensures refused { IfErr result (BreaksEdgeRule D.type_id D.type_body_text D.is_terminator (has_edges_layout self.now) (refuses_edges_layout self.now) (edges self.now) ctx.now (Self.pointer self.now)) }
         ensures whole { IsWhole D.attr_handles ctx.now }
     {
         let op = self.get_operation();

@@ -3,7 +3,8 @@ ghost use Rattle.std.specs.Prelude.{◌≡◌, ◌<◌, ◌≤◌, ◌+◌, ◌-
 ghost use Rattle.plir_core.specs.declared.ptr.IRNode.{IRNode};
 ghost use Rattle.plir_core.specs.Store.{IsLive, IsValueLive, operands_of};
 ghost use Rattle.plir_core.specs.Whole.{IsWhole};
-ghost use Rattle.plir_flow.specs.Segments.{segment_at, edit_at, segments_of, num_segments, segment_size, segment_places, IsSegmented, IsResegmented};
+ghost use Rattle.plir_flow.specs.Segments.{segment_at, edit_at, segments_of, num_segments, segment_size, segment_places};
+ghost use Rattle.plir_flow.specs.Segments.{IsSegmented, IsResegmented, IsOperandPutAt};
 
 use crate::segment_sizes::{place_among, set_size, size_of};
 use plir_core::{Context, Operation, Ptr, Value, laws};
@@ -24,7 +25,7 @@ pub(crate) fn insert_at<D: OpSet>(
     requires room { segment_size ctx.old op seg < 2 ^ 32 - 1 }
     requires operand_live { IsValueLive ctx.old operand }
     ensures ok { OnOk result (IsResegmented ctx.old ctx.new op (edit_at seg (λ xs. insert xs place operand) (segments_of ctx.old op))) }
-    ensures operands { OnOk result (operands_of ctx.new op ≡ insert (operands_of ctx.old op) ((segment_places ctx.old op seg).0 + place) operand) }
+    ensures operands { OnOk result (IsOperandPutAt ctx.old ctx.new op seg place operand) }
     ensures err { OnErr result (ctx.new ≡ ctx.old) }
     ensures whole { IsWhole D.attr_handles ctx.new }
 {

@@ -1,14 +1,14 @@
 //! Interfaces of operations whose operands in one segment have a type that is asked for.
-ghost use Rattle.std.specs.Prelude.{◌≡◌, ◌↔◌, ◌<◌, ℕ, IsOk, IfErr, IsNone, IfSome};
+ghost use Rattle.std.specs.Prelude.{◌↔◌, ◌<◌, IsOk, IfErr, IsNone, IfSome};
 ghost use Rattle.plir_core.specs.declared.ptr.IRNode.{IRNode};
 ghost use Rattle.plir_core.specs.Store.{IsLive};
 ghost use Rattle.plir_core.specs.Whole.{IsWhole};
-ghost use Rattle.plir_iface.specs.Counts.{num_operands, operand_types};
-ghost use Rattle.plir_iface.specs.Sides.{type_in};
+ghost use Rattle.plir_iface.specs.Counts.{num_operands};
 ghost use Rattle.plir_iface.specs.TypeRules.{EachPasses};
-ghost use Rattle.plir_iface.specs.Verdict.{IsRefusal, IsRefusalMemoryAside};
+ghost use Rattle.plir_iface.specs.Verdict.{IsRefusal};
 ghost use Rattle.plir_flow.specs.Segments.{num_segments, IsSegmented, HasSegments};
-ghost use Rattle.plir_flow.specs.SegmentTypes.{segment_types, FailsFirstIn, HasSegmentNOfType, HasSegmentNImplsTy, IsSegmentOfOtherKind, IsSegmentWithout};
+ghost use Rattle.plir_flow.specs.SegmentTypes.{segment_types, IsFirstFailingOperand, IsSegmentWithout};
+ghost use Rattle.plir_flow.specs.SegmentTypes.{HasSegmentNOfType, HasSegmentNImplsTy, BreaksSegmentNOfType, BreaksSegmentNImplsTy};
 
 use crate::segment_sizes::{count_of, place_among, size_of, start_of};
 use crate::segments::OperandSegmentInterface;
@@ -42,7 +42,7 @@ fn find_misfit<D: OpSet, Q: TypeTest<D>>(
     requires segmented { IsSegmented ctx.now op }
     requires below { seg < num_segments ctx.now op }
     ensures none { IsNone result ↔ EachPasses Q.passes ctx.now (segment_types ctx.now op seg) }
-    ensures some { IfSome result (λ p. (i : ℕ) × (FailsFirstIn Q.passes ctx.now op seg i × (type_in (segment_types ctx.now op seg) i ≡ type_in (operand_types ctx.now op) p))) }
+    ensures some { IfSome result (IsFirstFailingOperand Q.passes ctx.now op seg) }
     ensures below { IfSome result (λ p. p < num_operands ctx.now op) }
     ensures whole { IsWhole D.attr_handles ctx.now }
 {
@@ -61,7 +61,7 @@ fn verify_kind<D: OpSet, T: TypeMark<D>>(
     requires live { IsLive ctx.now (IRNode.Operation op) }
     requires segmented { IsSegmented ctx.now op }
     ensures ok { IsOk result ↔ HasSegmentNOfType T.marks ctx.now op seg }
-    ensures refused { IfErr result (IsRefusalMemoryAside ctx.now op (IsSegmentOfOtherKind T.marks ctx.now op seg T.NAME D.type_id D.type_body_text)) }
+    ensures refused { IfErr result (BreaksSegmentNOfType T.marks ctx.now op seg T.NAME D.type_id D.type_body_text) }
     ensures whole { IsWhole D.attr_handles ctx.now }
 {
     if count_of(ctx, op) <= seg {
@@ -113,7 +113,7 @@ pub trait SegmentNOfType<D: OpSet, const N: usize, T: TypeMark<D>>: OperandSegme
         requires live { IsLive ctx.now (IRNode.Operation (Self.pointer self.now)) }
         requires rule { HasSegments (Self.expected self.now ctx.now) ctx.now (Self.pointer self.now) }
         ensures ok { IsOk result ↔ HasSegmentNOfType T.marks ctx.now (Self.pointer self.now) N }
-        ensures refused { IfErr result (IsRefusalMemoryAside ctx.now (Self.pointer self.now) (IsSegmentOfOtherKind T.marks ctx.now (Self.pointer self.now) N T.NAME D.type_id D.type_body_text)) }
+        ensures refused { IfErr result (BreaksSegmentNOfType T.marks ctx.now (Self.pointer self.now) N T.NAME D.type_id D.type_body_text) }
         ensures whole { IsWhole D.attr_handles ctx.now }
     {
         verify_kind::<D, T>(alloc, ctx, self.get_operation(), N)
@@ -135,7 +135,7 @@ pub trait SegmentNImplsTy<
         requires live { IsLive ctx.now (IRNode.Operation (Self.pointer self.now)) }
         requires rule { HasSegments (Self.expected self.now ctx.now) ctx.now (Self.pointer self.now) }
         ensures ok { IsOk result ↔ HasSegmentNImplsTy I.marks ctx.now (Self.pointer self.now) N }
-        ensures refused { IfErr result (IsRefusal ctx.now (Self.pointer self.now) (IsSegmentWithout I.marks ctx.now (Self.pointer self.now) N I.NAME D.type_id)) }
+        ensures refused { IfErr result (BreaksSegmentNImplsTy I.marks ctx.now (Self.pointer self.now) N I.NAME D.type_id) }
         ensures whole { IsWhole D.attr_handles ctx.now }
     {
         verify_impls::<D, I>(ctx, self.get_operation(), N)

@@ -1,12 +1,15 @@
 //! The interface of operations whose operands stand in segments.
-ghost use Rattle.std.specs.Prelude.{◌≡◌, ◌↔◌, ◌<◌, ◌≤◌, ◌+◌, ◌-◌, ◌^◌, ◌∷◌, ◌++◌, ℕ, List, [], Some, All, IsOk, IsNone, IfSome, IfOk, IfErr, OnOk, OnErr, length, map, take, insert, remove, slice_get};
+ghost use Rattle.std.specs.Prelude.{◌≡◌, ◌↔◌, ◌<◌, ◌≤◌, ◌+◌, ◌-◌, ◌^◌, ◌∷◌, ◌++◌, ℕ, List, [], Some, All};
+ghost use Rattle.std.specs.Prelude.{IsOk, IsNone, IfSome, IfOk, IfErr, OnOk, OnErr, length, map, take, insert, remove};
 ghost use Rattle.plir_core.specs.declared.ptr.IRNode.{IRNode};
 ghost use Rattle.plir_core.specs.declared.value.Value.{Value as AnyValue};
 ghost use Rattle.plir_core.specs.Store.{IsLive, IsValueLive, operands_of};
 ghost use Rattle.plir_core.specs.Whole.{IsWhole};
 ghost use Rattle.plir_core.specs.Changes.{with_op_edit};
 ghost use Rattle.plir_iface.specs.Verdict.{IsRefusal};
-ghost use Rattle.plir_flow.specs.Segments.{flatten, segment_at, sizes_attr, with_sizes, sizes_of, num_segments, segment_size, segment_places, segments_of, IsSegmented, HasSegments, IsSegmentEdited, IsOperandPut, IsOperandTaken};
+ghost use Rattle.plir_flow.specs.Segments.{flatten, segment_at, sizes_attr, with_sizes, sizes_of, num_segments, segment_size, segment_places, segments_of};
+ghost use Rattle.plir_flow.specs.Segments.{IsSegmented, HasSegments, IsSegmentEdited, StandsInSegment};
+ghost use Rattle.plir_flow.specs.Segments.{IsOperandPutAt, IsOperandPutLast, IsOperandTakenAt, IsLastOperandTaken};
 ghost use Rattle.plir_flow.specs.SegmentRefusals.{IsSegmentFault};
 
 use crate::operand_ranges::operands_in;
@@ -269,7 +272,7 @@ pub trait OperandSegmentInterface<D: OpSet>: Op<D> {
         requires operand_live { IsValueLive ctx.old operand }
         ensures index { IfOk result (λ i. i ≡ segment_size ctx.old (Self.pointer self.now) seg) }
         ensures ok { OnOk result (IsSegmentEdited ctx.old ctx.new (Self.pointer self.now) seg (λ xs. xs ++ operand ∷ [])) }
-        ensures operands { OnOk result (IsOperandPut ctx.old ctx.new (Self.pointer self.now) (segment_places ctx.old (Self.pointer self.now) seg).1 operand) }
+        ensures operands { OnOk result (IsOperandPutLast ctx.old ctx.new (Self.pointer self.now) seg operand) }
         ensures rule { OnOk result (HasSegments (expected self.now ctx.new) ctx.new (Self.pointer self.now)) }
         ensures err { OnErr result (ctx.new ≡ ctx.old) }
         ensures whole { IsWhole D.attr_handles ctx.new }
@@ -283,9 +286,9 @@ pub trait OperandSegmentInterface<D: OpSet>: Op<D> {
         requires rule { HasSegments (expected self.now ctx.old) ctx.old (Self.pointer self.now) }
         requires below { seg < num_segments ctx.old (Self.pointer self.now) }
         requires filled { 0 < segment_size ctx.old (Self.pointer self.now) seg }
-        ensures value { slice_get (segment_at (segments_of ctx.old (Self.pointer self.now)) seg) (segment_size ctx.old (Self.pointer self.now) seg - 1) ≡ Some result }
+        ensures value { StandsInSegment ctx.old (Self.pointer self.now) seg (segment_size ctx.old (Self.pointer self.now) seg - 1) result }
         ensures after { IsSegmentEdited ctx.old ctx.new (Self.pointer self.now) seg (λ xs. take (length xs - 1) xs) }
-        ensures operands { IsOperandTaken ctx.old ctx.new (Self.pointer self.now) ((segment_places ctx.old (Self.pointer self.now) seg).1 - 1) }
+        ensures operands { IsLastOperandTaken ctx.old ctx.new (Self.pointer self.now) seg }
         ensures rule { HasSegments (expected self.now ctx.new) ctx.new (Self.pointer self.now) }
         ensures whole { IsWhole D.attr_handles ctx.new }
     {
@@ -308,7 +311,7 @@ pub trait OperandSegmentInterface<D: OpSet>: Op<D> {
         requires room { segment_size ctx.old (Self.pointer self.now) seg < 2 ^ 32 - 1 }
         requires operand_live { IsValueLive ctx.old operand }
         ensures ok { OnOk result (IsSegmentEdited ctx.old ctx.new (Self.pointer self.now) seg (λ xs. insert xs place operand)) }
-        ensures operands { OnOk result (IsOperandPut ctx.old ctx.new (Self.pointer self.now) ((segment_places ctx.old (Self.pointer self.now) seg).0 + place) operand) }
+        ensures operands { OnOk result (IsOperandPutAt ctx.old ctx.new (Self.pointer self.now) seg place operand) }
         ensures rule { OnOk result (HasSegments (expected self.now ctx.new) ctx.new (Self.pointer self.now)) }
         ensures err { OnErr result (ctx.new ≡ ctx.old) }
         ensures whole { IsWhole D.attr_handles ctx.new }
@@ -322,9 +325,9 @@ pub trait OperandSegmentInterface<D: OpSet>: Op<D> {
         requires rule { HasSegments (expected self.now ctx.old) ctx.old (Self.pointer self.now) }
         requires below { seg < num_segments ctx.old (Self.pointer self.now) }
         requires within { place < segment_size ctx.old (Self.pointer self.now) seg }
-        ensures value { slice_get (segment_at (segments_of ctx.old (Self.pointer self.now)) seg) place ≡ Some result }
+        ensures value { StandsInSegment ctx.old (Self.pointer self.now) seg place result }
         ensures after { IsSegmentEdited ctx.old ctx.new (Self.pointer self.now) seg (λ xs. remove xs place) }
-        ensures operands { IsOperandTaken ctx.old ctx.new (Self.pointer self.now) ((segment_places ctx.old (Self.pointer self.now) seg).0 + place) }
+        ensures operands { IsOperandTakenAt ctx.old ctx.new (Self.pointer self.now) seg place }
         ensures rule { HasSegments (expected self.now ctx.new) ctx.new (Self.pointer self.now) }
         ensures whole { IsWhole D.attr_handles ctx.new }
     {

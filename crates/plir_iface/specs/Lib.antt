@@ -2,6 +2,7 @@
 --
 --   Verdict      IsRefusal: how a verifier refuses
 --   Counts       how many regions, results and operands an operation has, and the rules of these numbers
+--   CountRefusals  BreaksNRegions and kin: how the rules of counts are refused
 --   Regions      the rules of regions and blocks
 --   Sides        types_on, type_in: operands and results as lists of types
 --   SameTypes    the rules of one type
@@ -12,6 +13,7 @@
 --   Ids          op_id: the ids of operations
 pub mod Verdict
 pub mod Counts
+pub mod CountRefusals
 pub mod Regions
 pub mod Sides
 pub mod SameTypes

@@ -1,11 +1,18 @@
--- The rules of regions and blocks.
-use Rattle.std.specs.Prelude.{◌≡◌, ℕ, length, All, Option, slice_get, option_and_then}
+-- The rules of regions and blocks, and how that of single blocks is refused.
+use Rattle.std.specs.Prelude.{◌≡◌, ℕ, List, length, All, Option, Some, IfSome, slice_get, option_and_then}
 use Rattle.plir_core.specs.declared.ptr.Ptr.{Ptr}
 use Rattle.plir_core.specs.declared.ptr.Operation.{Operation as OperationKind}
+use Rattle.plir_core.specs.declared.ptr.BasicBlock.{BasicBlock as BlockKind}
 use Rattle.plir_core.specs.declared.ptr.IRNode.{IRNode}
+use Rattle.plir_core.specs.declared.ptr.IRNode.TheVariants.{Operation, BasicBlock}
+use Rattle.plir_core.specs.Changes.{with_op_last}
 use Rattle.plir_core.specs.NodeLists.{head}
-use Rattle.plir_core.specs.Store.{Store, kids}
+use Rattle.plir_core.specs.Store.{Store, kids, kind_of, IsAncestor}
+use Rattle.plir_data.specs.declared.location.VerifyErr.{VerifyErr}
 use Rattle.plir_iface.specs.Counts.{regions_of}
+use Rattle.plir_iface.specs.Ids.{op_id}
+use Rattle.plir_iface.specs.Verdict.{IsRefusal}
+use Rattle.plir_iface.specs.declared.blocks.SingleBlockRegionVerifyErr.{SingleBlockRegionVerifyErr}
 
 module _ {K A T : Type 0} where
   abbrev pub HasOneBlock : Store K A T → IRNode → Type 0
@@ -17,3 +24,15 @@ module _ {K A T : Type 0} where
   -- the first block of the region at a place
   abbrev pub body_of : Store K A T → Ptr OperationKind → ℕ → Option IRNode
   body_of s op i = option_and_then (λ r. head (kids s r)) (slice_get (regions_of s op) i)
+
+  -- the rule is refused with the operation's id
+  abbrev pub BreaksSingleBlocks : (own_id : K → List ℕ) → Store K A T → Ptr OperationKind → VerifyErr SingleBlockRegionVerifyErr → Type 0
+  BreaksSingleBlocks own_id s op = IsRefusal s op (λ e. IfSome (kind_of s op) (λ k. e.0.now ≡ op_id own_id k))
+
+  -- an operation doesn't stand above the first block of that region
+  abbrev pub IsNotAboveBody : Store K A T → Ptr OperationKind → ℕ → Ptr OperationKind → Type 0
+  IsNotAboveBody s op i q = (b : IRNode) → body_of s op i ≡ Some b → IsAncestor s (Operation q) b → ⊥
+
+  -- it was put last in that block
+  abbrev pub IsAppendedToBody : (old new : Store K A T) → Ptr OperationKind → ℕ → Ptr OperationKind → Type 0
+  IsAppendedToBody old new op i q = (b : Ptr BlockKind) → body_of old op i ≡ Some (BasicBlock b) → new ≡ with_op_last old q b

@@ -3,13 +3,16 @@ use Rattle.std.specs.Prelude.{◌≡◌, ◌<◌, ℕ, List, [], length, Bool, O
 use Rattle.std.specs.Option.{option_map_or, option_and_then}
 use Rattle.plir_data.specs.Types.{TypeView, type_at, type_id}
 use Rattle.plir_data.specs.TypeText.{type_text}
+use Rattle.plir_data.specs.declared.location.VerifyErr.{VerifyErr}
 use Rattle.plir_core.specs.declared.ptr.Ptr.{Ptr}
 use Rattle.plir_core.specs.declared.ptr.Operation.{Operation as OperationKind}
 use Rattle.plir_core.specs.Store.{Store}
 use Rattle.plir_iface.specs.Sides.{type_in, types_on}
-use Rattle.plir_iface.specs.Places.{NeedsMore, IsLongEnough, IsAmong}
+use Rattle.plir_iface.specs.Places.{NeedsMore, IsLongEnough, IsAmong, signed}
 use Rattle.plir_iface.specs.TypeRules.{FailsFirst}
+use Rattle.plir_iface.specs.Verdict.{IsRefusal, IsRefusalMemoryAside}
 use Rattle.plir_iface.specs.declared.places.Places.{Places}
+use Rattle.plir_iface.specs.declared.places.Places.TheVariants.{At, Within}
 use Rattle.plir_iface.specs.declared.side.Side.{Side}
 use Rattle.plir_iface.specs.declared.side.Side.TheVariants.{Operands, Results}
 use Rattle.plir_iface.specs.declared.counts.NotEnoughOperandsErr.{NotEnoughOperandsErr}
@@ -105,3 +108,41 @@ abbrev pub TellsRule : {F E : Type 0} → (P : FewValues → F → Type 0) (Q : 
 TellsRule P Q (Few few) (TooFew e) = P few e
 TellsRule P Q (Wrong m) (WrongType e) = Q m e
 TellsRule P Q _ _ = ⊥
+
+-- How an operation breaks a rule of types, each word named after its interface: the refusal is at the operation's location.
+module _ {K A T : Type 0} (marks : TypeView T → Bool) (name : List ℕ) (own_id : T → List ℕ) (s : Store K A T) (op : Ptr OperationKind) where
+  abbrev pub BreaksAllOperandsOfType : (own_body : List (TypeView T) → T → List ℕ) → VerifyErr AllOperandsOfTypeVerifyErr → Type 0
+  BreaksAllOperandsOfType own_body = IsRefusalMemoryAside s op (IsOtherKindTold marks name own_id s own_body op Operands TellsOtherOperand)
+
+  abbrev pub BreaksAllOperandsImplsTy : VerifyErr TypeInterfaceImplsErr → Type 0
+  BreaksAllOperandsImplsTy = IsRefusal s op (IsMisfitTold marks name own_id s op Operands TellsImpls)
+
+  abbrev pub BreaksOperandNOfType : (n : ℕ) → VerifyErr (TypeRuleErr NotEnoughOperandsErr OperandNOfTypeError) → Type 0
+  BreaksOperandNOfType n = IsRefusal s op (IsFaultTold marks name own_id s op Operands (At n) (TellsRule TellsFewOperands TellsOperandN))
+
+  abbrev pub BreaksOperandNImplsTy : (n : ℕ) → VerifyErr (TypeRuleErr NotEnoughOperandsErr TypeInterfaceImplsErr) → Type 0
+  BreaksOperandNImplsTy n = IsRefusal s op (IsFaultTold marks name own_id s op Operands (At n) (TellsRule TellsFewOperands TellsImpls))
+
+  abbrev pub BreaksOperandsMNOfType : (m n : ℕ) → VerifyErr OperandsMNOfTypeError → Type 0
+  BreaksOperandsMNOfType m n = IsRefusal s op (IsFaultTold marks name own_id s op Operands (Within m (signed n)) TellsOperandsMN)
+
+  abbrev pub BreaksOperandsMNImplsTy : (m n : ℕ) → VerifyErr (TypeRuleErr NotEnoughOperandsErr TypeInterfaceImplsErr) → Type 0
+  BreaksOperandsMNImplsTy m n = IsRefusal s op (IsFaultTold marks name own_id s op Operands (Within m (signed n)) (TellsRule TellsFewOperands TellsImpls))
+
+  abbrev pub BreaksAllResultsOfType : (own_body : List (TypeView T) → T → List ℕ) → VerifyErr AllResultsOfTypeVerifyErr → Type 0
+  BreaksAllResultsOfType own_body = IsRefusalMemoryAside s op (IsOtherKindTold marks name own_id s own_body op Results TellsOtherResult)
+
+  abbrev pub BreaksAllResultsImplsTy : VerifyErr TypeInterfaceImplsErr → Type 0
+  BreaksAllResultsImplsTy = IsRefusal s op (IsMisfitTold marks name own_id s op Results TellsImpls)
+
+  abbrev pub BreaksResultNOfType : (n : ℕ) → VerifyErr (TypeRuleErr NotEnoughResultsErr ResultNOfTypeError) → Type 0
+  BreaksResultNOfType n = IsRefusal s op (IsFaultTold marks name own_id s op Results (At n) (TellsRule TellsFewResults TellsResultN))
+
+  abbrev pub BreaksResultNImplsTy : (n : ℕ) → VerifyErr (TypeRuleErr NotEnoughResultsErr TypeInterfaceImplsErr) → Type 0
+  BreaksResultNImplsTy n = IsRefusal s op (IsFaultTold marks name own_id s op Results (At n) (TellsRule TellsFewResults TellsImpls))
+
+  abbrev pub BreaksResultsMNOfType : (m n : ℕ) → VerifyErr ResultsMNOfTypeError → Type 0
+  BreaksResultsMNOfType m n = IsRefusal s op (IsFaultTold marks name own_id s op Results (Within m (signed n)) TellsResultsMN)
+
+  abbrev pub BreaksResultsMNImplsTy : (m n : ℕ) → VerifyErr (TypeRuleErr NotEnoughResultsErr TypeInterfaceImplsErr) → Type 0
+  BreaksResultsMNImplsTy m n = IsRefusal s op (IsFaultTold marks name own_id s op Results (Within m (signed n)) (TellsRule TellsFewResults TellsImpls))

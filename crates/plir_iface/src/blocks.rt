@@ -1,15 +1,10 @@
 //! The interface of operations whose regions have one block each.
-ghost use Rattle.std.specs.Prelude.{◌≡◌, ◌<◌, ◌↔◌, ℕ, Some, None, IsOk, IfErr, IfSome, IsTrue, length, slice_get};
-ghost use Rattle.plir_core.specs.declared.ptr.Ptr.{Ptr as PtrTo};
-ghost use Rattle.plir_core.specs.declared.ptr.BasicBlock.{BasicBlock as BasicBlockKind};
+ghost use Rattle.std.specs.Prelude.{◌≡◌, ◌<◌, ◌↔◌, Some, None, IsOk, IfErr, IsTrue, length};
 ghost use Rattle.plir_core.specs.declared.ptr.IRNode.{IRNode};
-ghost use Rattle.plir_core.specs.Store.{IsLive, IsAncestor, parent_of, kind_of};
-ghost use Rattle.plir_core.specs.Changes.{with_op_last};
+ghost use Rattle.plir_core.specs.Store.{IsLive, parent_of};
 ghost use Rattle.plir_core.specs.Whole.{IsWhole};
 ghost use Rattle.plir_iface.specs.Counts.{regions_of};
-ghost use Rattle.plir_iface.specs.Ids.{op_id};
-ghost use Rattle.plir_iface.specs.Regions.{HasOneBlock, HasSingleBlocks, body_of};
-ghost use Rattle.plir_iface.specs.Verdict.{IsRefusal};
+ghost use Rattle.plir_iface.specs.Regions.{HasOneBlock, HasSingleBlocks, BreaksSingleBlocks, IsNotAboveBody, IsAppendedToBody, body_of};
 
 use crate::ids::id_of_kind;
 use crate::op::Op;
@@ -63,7 +58,7 @@ pub trait SingleBlockRegionInterface<D: OpSet>: Op<D> {
     final fn verify(&self, ctx: &Context<D>) -> Result<(), VerifyErr<SingleBlockRegionVerifyErr>>
         requires { IsLive ctx.now (IRNode.Operation (Self.pointer self.now)) }
         ensures ok { IsOk result ↔ HasSingleBlocks ctx.now (Self.pointer self.now) }
-        ensures refused { IfErr result (IsRefusal ctx.now (Self.pointer self.now) (λ e. IfSome (kind_of ctx.now (Self.pointer self.now)) (λ k. e.0.now ≡ op_id D.kind_id k))) }
+        ensures refused { IfErr result (BreaksSingleBlocks D.kind_id ctx.now (Self.pointer self.now)) }
         ensures whole { IsWhole D.attr_handles ctx.now }
     {
         let op = self.get_operation();
@@ -99,8 +94,8 @@ pub trait SingleBlockRegionInterface<D: OpSet>: Op<D> {
         requires below { region < length (regions_of ctx.old (Self.pointer self.now)) }
         requires op_live { IsLive ctx.old (IRNode.Operation op) }
         requires unlinked { parent_of ctx.old (IRNode.Operation op) ≡ None }
-        requires not_above { (b : IRNode) → body_of ctx.old (Self.pointer self.now) region ≡ Some b → IsAncestor ctx.old (IRNode.Operation op) b → ⊥ }
-        ensures after { (b : PtrTo BasicBlockKind) → body_of ctx.old (Self.pointer self.now) region ≡ Some (IRNode.BasicBlock b) → ctx.new ≡ with_op_last ctx.old op b }
+        requires not_above { IsNotAboveBody ctx.old (Self.pointer self.now) region op }
+        ensures after { IsAppendedToBody ctx.old ctx.new (Self.pointer self.now) region op }
         ensures whole { IsWhole D.attr_handles ctx.new }
     {
         let body = self.get_body(ctx, region);

@@ -4,9 +4,10 @@ ghost use Rattle.plir_core.specs.declared.ptr.IRNode.{IRNode};
 ghost use Rattle.plir_core.specs.Store.{IsLive};
 ghost use Rattle.plir_core.specs.Whole.{IsWhole};
 ghost use Rattle.plir_iface.specs.Places.{IsOrdered, signed};
-ghost use Rattle.plir_iface.specs.TypeRules.{HasAllOperandsOfType, HasAllOperandsImplsTy, HasOperandNOfType, HasOperandNImplsTy, HasOperandsMNOfType, HasOperandsMNImplsTy};
-ghost use Rattle.plir_iface.specs.TypeRefusals.{IsFaultTold, IsMisfitTold, IsOtherKindTold, TellsFewOperands, TellsImpls, TellsOperandN, TellsOperandsMN, TellsOtherOperand, TellsRule};
-ghost use Rattle.plir_iface.specs.Verdict.{IsRefusal, IsRefusalMemoryAside};
+ghost use Rattle.plir_iface.specs.TypeRules.{HasAllOperandsOfType, HasOperandNOfType, HasOperandsMNOfType};
+ghost use Rattle.plir_iface.specs.TypeRules.{HasAllOperandsImplsTy, HasOperandNImplsTy, HasOperandsMNImplsTy};
+ghost use Rattle.plir_iface.specs.TypeRefusals.{BreaksAllOperandsOfType, BreaksOperandNOfType, BreaksOperandsMNOfType};
+ghost use Rattle.plir_iface.specs.TypeRefusals.{BreaksAllOperandsImplsTy, BreaksOperandNImplsTy, BreaksOperandsMNImplsTy};
 
 use crate::counts::NotEnoughOperandsErr;
 use crate::misfits::{verify_at, verify_each, verify_each_kind};
@@ -33,7 +34,7 @@ pub trait AllOperandsOfType<D: OpSet, T: TypeMark<D>>: Op<D> {
     ) -> Result<(), VerifyErr<AllOperandsOfTypeVerifyErr>>
         requires { IsLive ctx.now (IRNode.Operation (Self.pointer self.now)) }
         ensures ok { IsOk result ↔ HasAllOperandsOfType T.marks ctx.now (Self.pointer self.now) }
-        ensures refused { IfErr result (IsRefusalMemoryAside ctx.now (Self.pointer self.now) (IsOtherKindTold T.marks T.NAME D.type_id ctx.now D.type_body_text (Self.pointer self.now) Side.Operands TellsOtherOperand)) }
+        ensures refused { IfErr result (BreaksAllOperandsOfType T.marks T.NAME D.type_id ctx.now (Self.pointer self.now) D.type_body_text) }
         ensures whole { IsWhole D.attr_handles ctx.now }
     {
         verify_each_kind::<D, T, AllOperandsOfTypeVerifyErr>(
@@ -51,7 +52,7 @@ pub trait AllOperandsImplsTy<D: OpSet, I: TypeInterfaceMark<D>>: Op<D> {
     final fn verify(&self, ctx: &Context<D>) -> Result<(), VerifyErr<TypeInterfaceImplsErr>>
         requires { IsLive ctx.now (IRNode.Operation (Self.pointer self.now)) }
         ensures ok { IsOk result ↔ HasAllOperandsImplsTy I.marks ctx.now (Self.pointer self.now) }
-        ensures refused { IfErr result (IsRefusal ctx.now (Self.pointer self.now) (IsMisfitTold I.marks I.NAME D.type_id ctx.now (Self.pointer self.now) Side.Operands TellsImpls)) }
+        ensures refused { IfErr result (BreaksAllOperandsImplsTy I.marks I.NAME D.type_id ctx.now (Self.pointer self.now)) }
         ensures whole { IsWhole D.attr_handles ctx.now }
     {
         verify_each::<D, Implementing<I>, TypeInterfaceImplsErr>(
@@ -72,7 +73,7 @@ pub trait OperandNOfType<D: OpSet, const N: usize, T: TypeMark<D>>: Op<D> {
         requires live { IsLive ctx.now (IRNode.Operation (Self.pointer self.now)) }
         requires countable { N < 2 ^ 64 - 1 }
         ensures ok { IsOk result ↔ HasOperandNOfType T.marks ctx.now (Self.pointer self.now) N }
-        ensures refused { IfErr result (IsRefusal ctx.now (Self.pointer self.now) (IsFaultTold T.marks T.NAME D.type_id ctx.now (Self.pointer self.now) Side.Operands (Places.At N) (TellsRule TellsFewOperands TellsOperandN))) }
+        ensures refused { IfErr result (BreaksOperandNOfType T.marks T.NAME D.type_id ctx.now (Self.pointer self.now) N) }
         ensures whole { IsWhole D.attr_handles ctx.now }
     {
         verify_at::<D, OfType<T>, TypeRuleErr<NotEnoughOperandsErr, OperandNOfTypeError>>(
@@ -94,7 +95,7 @@ pub trait OperandNImplsTy<D: OpSet, const N: usize, I: TypeInterfaceMark<D>>: Op
         requires live { IsLive ctx.now (IRNode.Operation (Self.pointer self.now)) }
         requires countable { N < 2 ^ 64 - 1 }
         ensures ok { IsOk result ↔ HasOperandNImplsTy I.marks ctx.now (Self.pointer self.now) N }
-        ensures refused { IfErr result (IsRefusal ctx.now (Self.pointer self.now) (IsFaultTold I.marks I.NAME D.type_id ctx.now (Self.pointer self.now) Side.Operands (Places.At N) (TellsRule TellsFewOperands TellsImpls))) }
+        ensures refused { IfErr result (BreaksOperandNImplsTy I.marks I.NAME D.type_id ctx.now (Self.pointer self.now) N) }
         ensures whole { IsWhole D.attr_handles ctx.now }
     {
         verify_at::<D, Implementing<I>, TypeRuleErr<NotEnoughOperandsErr, TypeInterfaceImplsErr>>(
@@ -114,7 +115,7 @@ pub trait OperandsMNOfType<D: OpSet, const M: u32, const N: u32, T: TypeMark<D>>
         requires live { IsLive ctx.now (IRNode.Operation (Self.pointer self.now)) }
         requires ordered { IsOrdered M (signed N) }
         ensures ok { IsOk result ↔ HasOperandsMNOfType T.marks ctx.now (Self.pointer self.now) M N }
-        ensures refused { IfErr result (IsRefusal ctx.now (Self.pointer self.now) (IsFaultTold T.marks T.NAME D.type_id ctx.now (Self.pointer self.now) Side.Operands (Places.Within M (signed N)) TellsOperandsMN)) }
+        ensures refused { IfErr result (BreaksOperandsMNOfType T.marks T.NAME D.type_id ctx.now (Self.pointer self.now) M N) }
         ensures whole { IsWhole D.attr_handles ctx.now }
     {
         verify_at::<D, OfType<T>, OperandsMNOfTypeError>(
@@ -137,7 +138,7 @@ pub trait OperandsMNImplsTy<D: OpSet, const M: u32, const N: u32, I: TypeInterfa
         requires live { IsLive ctx.now (IRNode.Operation (Self.pointer self.now)) }
         requires ordered { IsOrdered M (signed N) }
         ensures ok { IsOk result ↔ HasOperandsMNImplsTy I.marks ctx.now (Self.pointer self.now) M N }
-        ensures refused { IfErr result (IsRefusal ctx.now (Self.pointer self.now) (IsFaultTold I.marks I.NAME D.type_id ctx.now (Self.pointer self.now) Side.Operands (Places.Within M (signed N)) (TellsRule TellsFewOperands TellsImpls))) }
+        ensures refused { IfErr result (BreaksOperandsMNImplsTy I.marks I.NAME D.type_id ctx.now (Self.pointer self.now) M N) }
         ensures whole { IsWhole D.attr_handles ctx.now }
     {
         verify_at::<D, Implementing<I>, TypeRuleErr<NotEnoughOperandsErr, TypeInterfaceImplsErr>>(

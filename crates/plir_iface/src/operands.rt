@@ -1,9 +1,10 @@
 //! Interfaces of operations by their operands.
-ghost use Rattle.std.specs.Prelude.{◌≡◌, ◌≤◌, ◌<◌, ◌+◌, ◌-◌, ◌^◌, ◌↔◌, Some, IsOk, IfOk, IfErr, IsSome, IfSome, slice_get};
+ghost use Rattle.std.specs.Prelude.{◌≡◌, ◌<◌, ◌+◌, ◌-◌, ◌^◌, ◌↔◌, Some, IsOk, IfOk, IfErr, IsSome, IfSome, slice_get};
 ghost use Rattle.plir_core.specs.Store.{IsLive, IsValueLive, operands_of};
 ghost use Rattle.plir_core.specs.Whole.{IsWhole};
 ghost use Rattle.plir_core.specs.declared.ptr.IRNode.{IRNode};
 ghost use Rattle.plir_iface.specs.Counts.{HasNOpds, HasAtMostNOpds, HasAtLeastNOpds, num_operands, operand_types};
+ghost use Rattle.plir_iface.specs.CountRefusals.{BreaksNOpds, BreaksAtMostNOpds, BreaksAtLeastNOpds};
 ghost use Rattle.plir_iface.specs.Verdict.{IsRefusal};
 
 use crate::counts::{
@@ -21,7 +22,7 @@ pub trait NOpdsInterface<D: OpSet, const N: usize>: Op<D> {
     final fn verify(&self, ctx: &Context<D>) -> Result<(), VerifyErr<NOpdsVerifyErr>>
         requires { IsLive ctx.now (IRNode.Operation (Self.pointer self.now)) }
         ensures ok { IsOk result ↔ HasNOpds N ctx.now (Self.pointer self.now) }
-        ensures refused { IfErr result (IsRefusal ctx.now (Self.pointer self.now) (λ e. (e.0 ≡ N) × (e.1 ≡ num_operands ctx.now (Self.pointer self.now)))) }
+        ensures refused { IfErr result (BreaksNOpds N ctx.now (Self.pointer self.now)) }
         ensures whole { IsWhole D.attr_handles ctx.now }
     {
         let op = self.get_operation();
@@ -57,7 +58,7 @@ pub trait AtMostNOpdsInterface<D: OpSet, const N: usize>: Op<D> {
     final fn verify(&self, ctx: &Context<D>) -> Result<(), VerifyErr<AtMostNOpdsVerifyErr>>
         requires { IsLive ctx.now (IRNode.Operation (Self.pointer self.now)) }
         ensures ok { IsOk result ↔ HasAtMostNOpds N ctx.now (Self.pointer self.now) }
-        ensures refused { IfErr result (IsRefusal ctx.now (Self.pointer self.now) (λ e. (e.0 ≡ N) × (e.1 ≡ num_operands ctx.now (Self.pointer self.now)))) }
+        ensures refused { IfErr result (BreaksAtMostNOpds N ctx.now (Self.pointer self.now)) }
         ensures whole { IsWhole D.attr_handles ctx.now }
     {
         let op = self.get_operation();
@@ -72,7 +73,7 @@ pub trait OptionalOpdInterface<D: OpSet>: Op<D> {
     final fn verify(&self, ctx: &Context<D>) -> Result<(), VerifyErr<AtMostNOpdsVerifyErr>>
         requires { IsLive ctx.now (IRNode.Operation (Self.pointer self.now)) }
         ensures ok { IsOk result ↔ HasAtMostNOpds 1 ctx.now (Self.pointer self.now) }
-        ensures refused { IfErr result (IsRefusal ctx.now (Self.pointer self.now) (λ e. (e.0 ≡ 1) × (e.1 ≡ num_operands ctx.now (Self.pointer self.now)))) }
+        ensures refused { IfErr result (BreaksAtMostNOpds 1 ctx.now (Self.pointer self.now)) }
         ensures whole { IsWhole D.attr_handles ctx.now }
     {
         let op = self.get_operation();
@@ -102,7 +103,7 @@ pub trait AtLeastNOpdsInterface<D: OpSet, const N: usize>: Op<D> {
     final fn verify(&self, ctx: &Context<D>) -> Result<(), VerifyErr<AtLeastNOpdsVerifyErr>>
         requires { IsLive ctx.now (IRNode.Operation (Self.pointer self.now)) }
         ensures ok { IsOk result ↔ HasAtLeastNOpds N ctx.now (Self.pointer self.now) }
-        ensures refused { IfErr result (IsRefusal ctx.now (Self.pointer self.now) (λ e. (e.0 ≡ N) × (e.1 ≡ num_operands ctx.now (Self.pointer self.now)))) }
+        ensures refused { IfErr result (BreaksAtLeastNOpds N ctx.now (Self.pointer self.now)) }
         ensures whole { IsWhole D.attr_handles ctx.now }
     {
         let op = self.get_operation();
@@ -117,7 +118,7 @@ pub trait OneOpdInterface<D: OpSet>: Op<D> {
     final fn verify(&self, ctx: &Context<D>) -> Result<(), VerifyErr<NOpdsVerifyErr>>
         requires { IsLive ctx.now (IRNode.Operation (Self.pointer self.now)) }
         ensures ok { IsOk result ↔ HasNOpds 1 ctx.now (Self.pointer self.now) }
-        ensures refused { IfErr result (IsRefusal ctx.now (Self.pointer self.now) (λ e. (e.0 ≡ 1) × (e.1 ≡ num_operands ctx.now (Self.pointer self.now)))) }
+        ensures refused { IfErr result (BreaksNOpds 1 ctx.now (Self.pointer self.now)) }
         ensures whole { IsWhole D.attr_handles ctx.now }
     {
         let op = self.get_operation();

@@ -4,8 +4,8 @@ ghost use Rattle.plir_core.specs.NodeLists.{head};
 ghost use Rattle.plir_core.specs.Store.{IsLive};
 ghost use Rattle.plir_core.specs.Whole.{IsWhole};
 ghost use Rattle.plir_core.specs.declared.ptr.IRNode.{IRNode};
-ghost use Rattle.plir_iface.specs.Counts.{regions_of, num_regions, HasNRegions, HasAtMostNRegions};
-ghost use Rattle.plir_iface.specs.Verdict.{IsRefusal};
+ghost use Rattle.plir_iface.specs.Counts.{regions_of, HasNRegions, HasAtMostNRegions};
+ghost use Rattle.plir_iface.specs.CountRefusals.{BreaksNRegions, BreaksAtMostNRegions};
 
 use crate::counts::{AtMostNRegionVerifyErr, NRegionsVerifyErr};
 use crate::op::Op;
@@ -19,7 +19,7 @@ pub trait NRegionsInterface<D: OpSet, const N: usize>: Op<D> {
     final fn verify(&self, ctx: &Context<D>) -> Result<(), VerifyErr<NRegionsVerifyErr>>
         requires { IsLive ctx.now (IRNode.Operation (Self.pointer self.now)) }
         ensures ok { IsOk result ↔ HasNRegions N ctx.now (Self.pointer self.now) }
-        ensures refused { IfErr result (IsRefusal ctx.now (Self.pointer self.now) (λ e. (e.0 ≡ N) × (e.1 ≡ num_regions ctx.now (Self.pointer self.now)))) }
+        ensures refused { IfErr result (BreaksNRegions N ctx.now (Self.pointer self.now)) }
         ensures whole { IsWhole D.attr_handles ctx.now }
     {
         let op = self.get_operation();
@@ -44,7 +44,7 @@ pub trait OneRegionInterface<D: OpSet>: Op<D> {
     final fn verify(&self, ctx: &Context<D>) -> Result<(), VerifyErr<NRegionsVerifyErr>>
         requires { IsLive ctx.now (IRNode.Operation (Self.pointer self.now)) }
         ensures ok { IsOk result ↔ HasNRegions 1 ctx.now (Self.pointer self.now) }
-        ensures refused { IfErr result (IsRefusal ctx.now (Self.pointer self.now) (λ e. (e.0 ≡ 1) × (e.1 ≡ num_regions ctx.now (Self.pointer self.now)))) }
+        ensures refused { IfErr result (BreaksNRegions 1 ctx.now (Self.pointer self.now)) }
         ensures whole { IsWhole D.attr_handles ctx.now }
     {
         let op = self.get_operation();
@@ -69,7 +69,7 @@ pub trait AtMostNRegionsInterface<D: OpSet, const N: usize>: Op<D> {
     final fn verify(&self, ctx: &Context<D>) -> Result<(), VerifyErr<AtMostNRegionVerifyErr>>
         requires { IsLive ctx.now (IRNode.Operation (Self.pointer self.now)) }
         ensures ok { IsOk result ↔ HasAtMostNRegions N ctx.now (Self.pointer self.now) }
-        ensures refused { IfErr result (IsRefusal ctx.now (Self.pointer self.now) (λ e. (e.0 ≡ N) × (e.1 ≡ num_regions ctx.now (Self.pointer self.now)))) }
+        ensures refused { IfErr result (BreaksAtMostNRegions N ctx.now (Self.pointer self.now)) }
         ensures whole { IsWhole D.attr_handles ctx.now }
     {
         let op = self.get_operation();

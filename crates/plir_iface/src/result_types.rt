@@ -4,9 +4,10 @@ ghost use Rattle.plir_core.specs.declared.ptr.IRNode.{IRNode};
 ghost use Rattle.plir_core.specs.Store.{IsLive};
 ghost use Rattle.plir_core.specs.Whole.{IsWhole};
 ghost use Rattle.plir_iface.specs.Places.{IsOrdered, signed};
-ghost use Rattle.plir_iface.specs.TypeRules.{HasAllResultsOfType, HasAllResultsImplsTy, HasResultNOfType, HasResultNImplsTy, HasResultsMNOfType, HasResultsMNImplsTy};
-ghost use Rattle.plir_iface.specs.TypeRefusals.{IsFaultTold, IsMisfitTold, IsOtherKindTold, TellsFewResults, TellsImpls, TellsResultN, TellsResultsMN, TellsOtherResult, TellsRule};
-ghost use Rattle.plir_iface.specs.Verdict.{IsRefusal, IsRefusalMemoryAside};
+ghost use Rattle.plir_iface.specs.TypeRules.{HasAllResultsOfType, HasResultNOfType, HasResultsMNOfType};
+ghost use Rattle.plir_iface.specs.TypeRules.{HasAllResultsImplsTy, HasResultNImplsTy, HasResultsMNImplsTy};
+ghost use Rattle.plir_iface.specs.TypeRefusals.{BreaksAllResultsOfType, BreaksResultNOfType, BreaksResultsMNOfType};
+ghost use Rattle.plir_iface.specs.TypeRefusals.{BreaksAllResultsImplsTy, BreaksResultNImplsTy, BreaksResultsMNImplsTy};
 
 use crate::counts::NotEnoughResultsErr;
 use crate::misfits::{verify_at, verify_each, verify_each_kind};
@@ -33,7 +34,7 @@ pub trait AllResultsOfType<D: OpSet, T: TypeMark<D>>: Op<D> {
     ) -> Result<(), VerifyErr<AllResultsOfTypeVerifyErr>>
         requires { IsLive ctx.now (IRNode.Operation (Self.pointer self.now)) }
         ensures ok { IsOk result ↔ HasAllResultsOfType T.marks ctx.now (Self.pointer self.now) }
-        ensures refused { IfErr result (IsRefusalMemoryAside ctx.now (Self.pointer self.now) (IsOtherKindTold T.marks T.NAME D.type_id ctx.now D.type_body_text (Self.pointer self.now) Side.Results TellsOtherResult)) }
+        ensures refused { IfErr result (BreaksAllResultsOfType T.marks T.NAME D.type_id ctx.now (Self.pointer self.now) D.type_body_text) }
         ensures whole { IsWhole D.attr_handles ctx.now }
     {
         verify_each_kind::<D, T, AllResultsOfTypeVerifyErr>(
@@ -51,7 +52,7 @@ pub trait AllResultsImplsTy<D: OpSet, I: TypeInterfaceMark<D>>: Op<D> {
     final fn verify(&self, ctx: &Context<D>) -> Result<(), VerifyErr<TypeInterfaceImplsErr>>
         requires { IsLive ctx.now (IRNode.Operation (Self.pointer self.now)) }
         ensures ok { IsOk result ↔ HasAllResultsImplsTy I.marks ctx.now (Self.pointer self.now) }
-        ensures refused { IfErr result (IsRefusal ctx.now (Self.pointer self.now) (IsMisfitTold I.marks I.NAME D.type_id ctx.now (Self.pointer self.now) Side.Results TellsImpls)) }
+        ensures refused { IfErr result (BreaksAllResultsImplsTy I.marks I.NAME D.type_id ctx.now (Self.pointer self.now)) }
         ensures whole { IsWhole D.attr_handles ctx.now }
     {
         verify_each::<D, Implementing<I>, TypeInterfaceImplsErr>(
@@ -72,7 +73,7 @@ pub trait ResultNOfType<D: OpSet, const N: usize, T: TypeMark<D>>: Op<D> {
         requires live { IsLive ctx.now (IRNode.Operation (Self.pointer self.now)) }
         requires countable { N < 2 ^ 64 - 1 }
         ensures ok { IsOk result ↔ HasResultNOfType T.marks ctx.now (Self.pointer self.now) N }
-        ensures refused { IfErr result (IsRefusal ctx.now (Self.pointer self.now) (IsFaultTold T.marks T.NAME D.type_id ctx.now (Self.pointer self.now) Side.Results (Places.At N) (TellsRule TellsFewResults TellsResultN))) }
+        ensures refused { IfErr result (BreaksResultNOfType T.marks T.NAME D.type_id ctx.now (Self.pointer self.now) N) }
         ensures whole { IsWhole D.attr_handles ctx.now }
     {
         verify_at::<D, OfType<T>, TypeRuleErr<NotEnoughResultsErr, ResultNOfTypeError>>(
@@ -94,7 +95,7 @@ pub trait ResultNImplsTy<D: OpSet, const N: usize, I: TypeInterfaceMark<D>>: Op<
         requires live { IsLive ctx.now (IRNode.Operation (Self.pointer self.now)) }
         requires countable { N < 2 ^ 64 - 1 }
         ensures ok { IsOk result ↔ HasResultNImplsTy I.marks ctx.now (Self.pointer self.now) N }
-        ensures refused { IfErr result (IsRefusal ctx.now (Self.pointer self.now) (IsFaultTold I.marks I.NAME D.type_id ctx.now (Self.pointer self.now) Side.Results (Places.At N) (TellsRule TellsFewResults TellsImpls))) }
+        ensures refused { IfErr result (BreaksResultNImplsTy I.marks I.NAME D.type_id ctx.now (Self.pointer self.now) N) }
         ensures whole { IsWhole D.attr_handles ctx.now }
     {
         verify_at::<D, Implementing<I>, TypeRuleErr<NotEnoughResultsErr, TypeInterfaceImplsErr>>(
@@ -114,7 +115,7 @@ pub trait ResultsMNOfType<D: OpSet, const M: u32, const N: u32, T: TypeMark<D>>:
         requires live { IsLive ctx.now (IRNode.Operation (Self.pointer self.now)) }
         requires ordered { IsOrdered M (signed N) }
         ensures ok { IsOk result ↔ HasResultsMNOfType T.marks ctx.now (Self.pointer self.now) M N }
-        ensures refused { IfErr result (IsRefusal ctx.now (Self.pointer self.now) (IsFaultTold T.marks T.NAME D.type_id ctx.now (Self.pointer self.now) Side.Results (Places.Within M (signed N)) TellsResultsMN)) }
+        ensures refused { IfErr result (BreaksResultsMNOfType T.marks T.NAME D.type_id ctx.now (Self.pointer self.now) M N) }
         ensures whole { IsWhole D.attr_handles ctx.now }
     {
         verify_at::<D, OfType<T>, ResultsMNOfTypeError>(
@@ -137,7 +138,7 @@ pub trait ResultsMNImplsTy<D: OpSet, const M: u32, const N: u32, I: TypeInterfac
         requires live { IsLive ctx.now (IRNode.Operation (Self.pointer self.now)) }
         requires ordered { IsOrdered M (signed N) }
         ensures ok { IsOk result ↔ HasResultsMNImplsTy I.marks ctx.now (Self.pointer self.now) M N }
-        ensures refused { IfErr result (IsRefusal ctx.now (Self.pointer self.now) (IsFaultTold I.marks I.NAME D.type_id ctx.now (Self.pointer self.now) Side.Results (Places.Within M (signed N)) (TellsRule TellsFewResults TellsImpls))) }
+        ensures refused { IfErr result (BreaksResultsMNImplsTy I.marks I.NAME D.type_id ctx.now (Self.pointer self.now) M N) }
         ensures whole { IsWhole D.attr_handles ctx.now }
     {
         verify_at::<D, Implementing<I>, TypeRuleErr<NotEnoughResultsErr, TypeInterfaceImplsErr>>(

@@ -1,9 +1,10 @@
 //! Interfaces of operations by their results.
-ghost use Rattle.std.specs.Prelude.{◌≡◌, ◌≤◌, ◌<◌, ◌+◌, ◌-◌, ◌^◌, ◌↔◌, Some, IsOk, IfOk, IfErr, IsSome, IfSome, slice_get};
+ghost use Rattle.std.specs.Prelude.{◌≡◌, ◌<◌, ◌+◌, ◌-◌, ◌^◌, ◌↔◌, Some, IsOk, IfOk, IfErr, IsSome, IfSome, slice_get};
 ghost use Rattle.plir_core.specs.Store.{IsLive, IsValueLive};
 ghost use Rattle.plir_core.specs.Whole.{IsWhole};
 ghost use Rattle.plir_core.specs.declared.ptr.IRNode.{IRNode};
 ghost use Rattle.plir_iface.specs.Counts.{HasNResults, HasAtMostNResults, HasAtLeastNResults, num_results, result_at, result_types};
+ghost use Rattle.plir_iface.specs.CountRefusals.{BreaksNResults, BreaksAtMostNResults, BreaksAtLeastNResults};
 ghost use Rattle.plir_iface.specs.Verdict.{IsRefusal};
 
 use crate::counts::{
@@ -20,7 +21,7 @@ pub trait NResultsInterface<D: OpSet, const N: usize>: Op<D> {
     final fn verify(&self, ctx: &Context<D>) -> Result<(), VerifyErr<NResultsVerifyErr>>
         requires { IsLive ctx.now (IRNode.Operation (Self.pointer self.now)) }
         ensures ok { IsOk result ↔ HasNResults N ctx.now (Self.pointer self.now) }
-        ensures refused { IfErr result (IsRefusal ctx.now (Self.pointer self.now) (λ e. (e.0 ≡ N) × (e.1 ≡ num_results ctx.now (Self.pointer self.now)))) }
+        ensures refused { IfErr result (BreaksNResults N ctx.now (Self.pointer self.now)) }
         ensures whole { IsWhole D.attr_handles ctx.now }
     {
         let op = self.get_operation();
@@ -56,7 +57,7 @@ pub trait AtMostNResultsInterface<D: OpSet, const N: usize>: Op<D> {
     final fn verify(&self, ctx: &Context<D>) -> Result<(), VerifyErr<AtMostNResultsVerifyErr>>
         requires { IsLive ctx.now (IRNode.Operation (Self.pointer self.now)) }
         ensures ok { IsOk result ↔ HasAtMostNResults N ctx.now (Self.pointer self.now) }
-        ensures refused { IfErr result (IsRefusal ctx.now (Self.pointer self.now) (λ e. (e.0 ≡ N) × (e.1 ≡ num_results ctx.now (Self.pointer self.now)))) }
+        ensures refused { IfErr result (BreaksAtMostNResults N ctx.now (Self.pointer self.now)) }
         ensures whole { IsWhole D.attr_handles ctx.now }
     {
         let op = self.get_operation();
@@ -71,7 +72,7 @@ pub trait OptionalResultInterface<D: OpSet>: Op<D> {
     final fn verify(&self, ctx: &Context<D>) -> Result<(), VerifyErr<AtMostNResultsVerifyErr>>
         requires { IsLive ctx.now (IRNode.Operation (Self.pointer self.now)) }
         ensures ok { IsOk result ↔ HasAtMostNResults 1 ctx.now (Self.pointer self.now) }
-        ensures refused { IfErr result (IsRefusal ctx.now (Self.pointer self.now) (λ e. (e.0 ≡ 1) × (e.1 ≡ num_results ctx.now (Self.pointer self.now)))) }
+        ensures refused { IfErr result (BreaksAtMostNResults 1 ctx.now (Self.pointer self.now)) }
         ensures whole { IsWhole D.attr_handles ctx.now }
     {
         let op = self.get_operation();
@@ -101,7 +102,7 @@ pub trait AtLeastNResultsInterface<D: OpSet, const N: usize>: Op<D> {
     final fn verify(&self, ctx: &Context<D>) -> Result<(), VerifyErr<AtLeastNResultsVerifyErr>>
         requires { IsLive ctx.now (IRNode.Operation (Self.pointer self.now)) }
         ensures ok { IsOk result ↔ HasAtLeastNResults N ctx.now (Self.pointer self.now) }
-        ensures refused { IfErr result (IsRefusal ctx.now (Self.pointer self.now) (λ e. (e.0 ≡ N) × (e.1 ≡ num_results ctx.now (Self.pointer self.now)))) }
+        ensures refused { IfErr result (BreaksAtLeastNResults N ctx.now (Self.pointer self.now)) }
         ensures whole { IsWhole D.attr_handles ctx.now }
     {
         let op = self.get_operation();
@@ -116,7 +117,7 @@ pub trait OneResultInterface<D: OpSet>: Op<D> {
     final fn verify(&self, ctx: &Context<D>) -> Result<(), VerifyErr<NResultsVerifyErr>>
         requires { IsLive ctx.now (IRNode.Operation (Self.pointer self.now)) }
         ensures ok { IsOk result ↔ HasNResults 1 ctx.now (Self.pointer self.now) }
-        ensures refused { IfErr result (IsRefusal ctx.now (Self.pointer self.now) (λ e. (e.0 ≡ 1) × (e.1 ≡ num_results ctx.now (Self.pointer self.now)))) }
+        ensures refused { IfErr result (BreaksNResults 1 ctx.now (Self.pointer self.now)) }
         ensures whole { IsWhole D.attr_handles ctx.now }
     {
         let op = self.get_operation();

@@ -5,7 +5,7 @@ ghost use Rattle.plir_core.specs.Store.{IsLive};
 ghost use Rattle.plir_core.specs.Whole.{IsWhole};
 ghost use Rattle.plir_iface.specs.Counts.{operand_types, result_types};
 ghost use Rattle.plir_iface.specs.Sides.{AllSame, type_in, types_on};
-ghost use Rattle.plir_iface.specs.SameTypes.{HasSameOperandsType, HasSameResultsType, HasSameOperandsAndResultType, first_of_both};
+ghost use Rattle.plir_iface.specs.SameTypes.{HasSameOperandsType, HasSameResultsType, HasSameOperandsAndResultType, first_type};
 ghost use Rattle.plir_iface.specs.Verdict.{IsRefusal};
 
 use crate::op::Op;
@@ -132,7 +132,7 @@ pub trait SameOperandsAndResultType<D: OpSet>: SameOperandsType<D> + SameResults
     /// The type of the first result, if there is one, and else that of the first operand, if there is one.
     final fn common_type(&self, ctx: &Context<D>) -> Option<TypeHandle>
         requires { IsLive ctx.now (IRNode.Operation (Self.pointer self.now)) }
-        ensures value { result ≡ first_of_both (type_in (result_types ctx.now (Self.pointer self.now)) 0) (type_in (operand_types ctx.now (Self.pointer self.now)) 0) }
+        ensures value { result ≡ first_type ctx.now (Self.pointer self.now) }
         ensures whole { IsWhole D.attr_handles ctx.now }
     {
         let op = self.get_operation();

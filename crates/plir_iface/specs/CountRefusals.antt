@@ -1,0 +1,41 @@
+-- How the rules of counts are refused: at the operation's location, with the number that is asked for and the one that is there.
+use Rattle.std.specs.Prelude.{◌≡◌, ℕ}
+use Rattle.plir_core.specs.declared.ptr.Ptr.{Ptr}
+use Rattle.plir_core.specs.declared.ptr.Operation.{Operation as OperationKind}
+use Rattle.plir_core.specs.Store.{Store}
+use Rattle.plir_data.specs.declared.location.VerifyErr.{VerifyErr}
+use Rattle.plir_iface.specs.Counts.{num_regions, num_results, num_operands}
+use Rattle.plir_iface.specs.Verdict.{IsRefusal}
+use Rattle.plir_iface.specs.declared.counts.NRegionsVerifyErr.{NRegionsVerifyErr}
+use Rattle.plir_iface.specs.declared.counts.AtMostNRegionVerifyErr.{AtMostNRegionVerifyErr}
+use Rattle.plir_iface.specs.declared.counts.NResultsVerifyErr.{NResultsVerifyErr}
+use Rattle.plir_iface.specs.declared.counts.AtMostNResultsVerifyErr.{AtMostNResultsVerifyErr}
+use Rattle.plir_iface.specs.declared.counts.AtLeastNResultsVerifyErr.{AtLeastNResultsVerifyErr}
+use Rattle.plir_iface.specs.declared.counts.NOpdsVerifyErr.{NOpdsVerifyErr}
+use Rattle.plir_iface.specs.declared.counts.AtMostNOpdsVerifyErr.{AtMostNOpdsVerifyErr}
+use Rattle.plir_iface.specs.declared.counts.AtLeastNOpdsVerifyErr.{AtLeastNOpdsVerifyErr}
+
+module _ {K A T : Type 0} (n : ℕ) (s : Store K A T) (op : Ptr OperationKind) where
+  abbrev pub BreaksNRegions : VerifyErr NRegionsVerifyErr → Type 0
+  BreaksNRegions = IsRefusal s op (λ e. (e.0 ≡ n) × (e.1 ≡ num_regions s op))
+
+  abbrev pub BreaksAtMostNRegions : VerifyErr AtMostNRegionVerifyErr → Type 0
+  BreaksAtMostNRegions = IsRefusal s op (λ e. (e.0 ≡ n) × (e.1 ≡ num_regions s op))
+
+  abbrev pub BreaksNResults : VerifyErr NResultsVerifyErr → Type 0
+  BreaksNResults = IsRefusal s op (λ e. (e.0 ≡ n) × (e.1 ≡ num_results s op))
+
+  abbrev pub BreaksAtMostNResults : VerifyErr AtMostNResultsVerifyErr → Type 0
+  BreaksAtMostNResults = IsRefusal s op (λ e. (e.0 ≡ n) × (e.1 ≡ num_results s op))
+
+  abbrev pub BreaksAtLeastNResults : VerifyErr AtLeastNResultsVerifyErr → Type 0
+  BreaksAtLeastNResults = IsRefusal s op (λ e. (e.0 ≡ n) × (e.1 ≡ num_results s op))
+
+  abbrev pub BreaksNOpds : VerifyErr NOpdsVerifyErr → Type 0
+  BreaksNOpds = IsRefusal s op (λ e. (e.0 ≡ n) × (e.1 ≡ num_operands s op))
+
+  abbrev pub BreaksAtMostNOpds : VerifyErr AtMostNOpdsVerifyErr → Type 0
+  BreaksAtMostNOpds = IsRefusal s op (λ e. (e.0 ≡ n) × (e.1 ≡ num_operands s op))
+
+  abbrev pub BreaksAtLeastNOpds : VerifyErr AtLeastNOpdsVerifyErr → Type 0
+  BreaksAtLeastNOpds = IsRefusal s op (λ e. (e.0 ≡ n) × (e.1 ≡ num_operands s op))
