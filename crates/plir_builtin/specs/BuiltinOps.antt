@@ -11,7 +11,10 @@ use Rattle.plir_core.specs.declared.ptr.Region.{Region as RegionKind}
 use Rattle.plir_core.specs.declared.ptr.BasicBlock.{BasicBlock as BasicBlockKind}
 use Rattle.plir_core.specs.declared.ptr.IRNode.{IRNode}
 use Rattle.plir_core.specs.declared.ptr.IRNode.TheVariants.{Operation, Region, BasicBlock}
+use Rattle.plir_store.specs.Table.{next_slot}
+use Rattle.plir_core.specs.Changes.{with_op, with_block, with_block_last}
 use Rattle.plir_core.specs.Contents.{OpView, BlockView, op_view}
+use Rattle.plir_core.specs.Nodes.{ptr_at}
 use Rattle.plir_core.specs.Store.{Store, attributes_of, result_types_of, first_kid, kids, op_at, block_at}
 
 -- the keys that a symbol's name, a function's type and a constant's value stand under
@@ -24,13 +27,31 @@ func_type_key = codes "builtin_func_type"
 abbrev pub value_key : List ℕ
 value_key = codes "builtin_constant_value"
 
--- the attributes of a new function, by its name and its type
+-- the attributes of a new module, by its name, and those of a new function, by its name and its type
+abbrev pub module_attributes : {A : Type 0} → List ℕ → List (List ℕ × AttrView A)
+module_attributes name = dict_put [] name_key (leaf (identifier name))
+
 abbrev pub func_attributes : {A : Type 0} → List ℕ → ℕ → List (List ℕ × AttrView A)
 func_attributes name ty = dict_put (dict_put [] name_key (leaf (identifier name))) func_type_key (leaf (type_of ty))
+
+-- what a block holds that has a label, if it has one, arguments of these types and no attribute; so the blocks of a new module and
+-- of a new function
+abbrev pub block_view : {A : Type 0} → Option (List ℕ) → (arg_types : List ℕ) → BlockView A
+block_view label arg_types = record { label = label; arg_types = arg_types; attributes = [] }
+
+abbrev pub module_block : {A : Type 0} → BlockView A
+module_block = block_view None []
+
+abbrev pub func_block : {A : Type 0} → (arguments : List ℕ) → BlockView A
+func_block arguments = block_view (Some (codes "entry")) arguments
 
 -- a handle names a type of functions, with arguments of these types
 abbrev pub HasArguments : {T : Type 0} → List (TypeView T) → ℕ → List ℕ → Type 0
 HasArguments types ty arguments = (results : List ℕ) × (type_at types ty ≡ Some (function arguments results))
+
+-- the context in which a new block was made, and put last into a region
+abbrev pub with_first_block : {K A T : Type 0} → Store K A T → Ptr RegionKind → BlockView A → Store K A T
+with_first_block s region held = let u = with_block s held in with_block_last u (ptr_at u.nodes.blocks (next_slot s.nodes.blocks)) region
 
 module _ {K A T : Type 0} where
   -- An operation has one region, which holds one block, in which nothing stands; this is what operation and block hold.
@@ -43,15 +64,29 @@ module _ {K A T : Type 0} where
     pub block_holds : block_at s block ≡ Some block_held
     pub empty : kids s (BasicBlock block) ≡ []
 
+  -- From s to t an operation was made with one region, then a block, which was put into the region, and nothing else was done: so
+  -- each of the three has the next number of its kind.
+  pub record IsMadeWithBlock (s t : Store K A T) (held : OpView K A) (block_held : BlockView A) : Type 0 where
+    pub region : Ptr RegionKind
+    pub only_region : kids (with_op s held 1) (Operation (ptr_at (with_op s held 1).nodes.ops (next_slot s.nodes.ops))) ≡ Region region ∷ []
+    pub after : t ≡ with_first_block (with_op s held 1) region block_held
+
   -- a new module has a name, and its block has no label and no argument
   abbrev pub IsNewModule : Store K A T → Ptr OperationKind → (name : List ℕ) → Type 0
-  IsNewModule s op name = HoldsOneBlock s op (op_view Module [] [] [] (dict_put [] name_key (leaf (identifier name)))) (record { label = None; arg_types = []; attributes = [] })
+  IsNewModule s op name = HoldsOneBlock s op (op_view Module [] [] [] (module_attributes name)) module_block
 
   -- a new function has a name and a type of functions, and the arguments of its block, labelled `entry`, have the types of the type's
   pub record IsNewFunc (s : Store K A T) (op : Ptr OperationKind) (name : List ℕ) (ty : ℕ) : Type 0 where
     pub arguments : List ℕ
     pub typed : HasArguments s.types ty arguments
-    pub tree : HoldsOneBlock s op (op_view Func [] [] [] (func_attributes name ty)) (record { label = Some (codes "entry"); arg_types = arguments; attributes = [] })
+    pub tree : HoldsOneBlock s op (op_view Func [] [] [] (func_attributes name ty)) (func_block arguments)
+
+  -- the same of how a module and a function are made
+  abbrev pub IsModuleMade : (s t : Store K A T) → (name : List ℕ) → Type 0
+  IsModuleMade s t name = IsMadeWithBlock s t (op_view Module [] [] [] (module_attributes name)) module_block
+
+  abbrev pub IsFuncMade : (s t : Store K A T) → (name : List ℕ) (ty : ℕ) → Type 0
+  IsFuncMade s t name ty = (arguments : List ℕ) × (HasArguments s.types ty arguments × IsMadeWithBlock s t (op_view Func [] [] [] (func_attributes name ty)) (func_block arguments))
 
   -- a new constant has a value, and one result of the value's type; `own_type` gives the type of the user's own attributes
   pub record IsNewConstant (own_type : A → Option ℕ) (s : Store K A T) (op : Ptr OperationKind) (value : AttrView A) : Type 0 where

@@ -8,12 +8,15 @@ use Rattle.plir_core.specs.declared.ptr.IRNode.TheVariants.{Operation, Region, B
 use Rattle.plir_core.specs.Contents.{BlockView}
 use Rattle.plir_core.specs.Grown.{IsGrown}
 use Rattle.plir_core.specs.Store.{Store, IsLive, kids, parent_of, op_at, block_at}
+use Rattle.plir_builtin.specs.BuiltinOps.{with_first_block}
 
 -- From s to t the one region of an operation, in which nothing stood, has got a new block, and nothing else has changed.
 pub record GivesBlock {K A T : Type 0} (s t : Store K A T) (op : Ptr OperationKind) (held : BlockView A) : Type 0 where
   pub region : Ptr RegionKind
   pub block : Ptr BasicBlockKind
   pub region_live : IsLive s (Region region)
+  pub only_region : kids s (Operation op) ≡ Region region ∷ []
+  pub after : t ≡ with_first_block s region held
   pub over : parent_of s (Region region) ≡ Some (Operation op)
   pub grown : IsGrown s.nodes t.nodes (Region region)
   pub holds : op_at t op ≡ op_at s op

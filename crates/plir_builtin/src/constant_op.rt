@@ -12,6 +12,8 @@ ghost use Rattle.plir_core.specs.Store.{IsLive, given_out, kind_of};
 ghost use Rattle.plir_core.specs.Whole.{IsWhole};
 ghost use Rattle.plir_core.specs.declared.ptr.IRNode.{IRNode as AnyNode};
 ghost use Rattle.plir_builtin.specs.BuiltinOps.{HasConstantValue, IsNewConstant, value_of};
+ghost use Rattle.plir_builtin.specs.OpRules.{HasConstantRules};
+ghost use Rattle.plir_builtin.specs.OpFaults.{IsConstantOpFault};
 ghost use Rattle.plir_builtin.specs.ConstantFaults.{IsConstantFault, TellsMismatch, TellsUntyped};
 ghost use Rattle.plir_iface.specs.Counts.{HasNResults};
 ghost use Rattle.plir_iface.specs.Verdict.{IsRefusalMemoryAside};
@@ -19,6 +21,7 @@ ghost use Rattle.plir_data.specs.Types.{IsLive as IsTypeLive};
 
 use crate::ATTR_KEY_CONSTANT_VALUE;
 use crate::op_making::{one_type, valued};
+use crate::op_verify_err::{OpVerifyErr, told};
 use plir_core::{Context, NodeErr, Operation, Ptr};
 use plir_data::{AttrObj, OpKind, OpSet, TypeHandle, VerifyErr, type_text};
 use plir_iface::{NOpdsInterface, OneResultInterface, Op, refusal};
@@ -199,3 +202,23 @@ impl<D: OpSet> Op<D> for ConstantOp {
 impl<D: OpSet> NOpdsInterface<D, 0> for ConstantOp {}
 
 impl<D: OpSet> OneResultInterface<D> for ConstantOp {}
+
+impl ConstantOp {
+    /// Accepts exactly where the rules of all interfaces that a constant declares hold, and its own, memory aside: no operand, one
+    /// result, and a value of the result's type. Else tells the refusal of the first, in this order.
+    pub fn verify_interfaces<D: OpSet>(
+        &self,
+        alloc: Global,
+        ctx: &Context<D>,
+    ) -> Result<(), VerifyErr<OpVerifyErr<D::Err>>>
+        requires { IsLive ctx.now (AnyNode.Operation self.now.op) }
+        ensures ok { OnOk result (HasConstantRules D.attr_type ctx.now self.now.op) }
+        ensures refused { IfErr result (IsConstantOpFault ctx.now self.now.op D.attr_id D.attr_type D.type_id D.type_body_text) }
+        ensures whole { IsWhole D.attr_handles ctx.now }
+    {
+        let _live = ctx.num_live();
+        told(NOpdsInterface::<D, 0>::verify(self, ctx))?;
+        told(OneResultInterface::<D>::verify(self, ctx))?;
+        told(self.verify(alloc, ctx))
+    }
+}

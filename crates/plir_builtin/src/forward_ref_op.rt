@@ -10,6 +10,7 @@ ghost use Rattle.plir_core.specs.Store.{IsLive, given_out, kind_of};
 ghost use Rattle.plir_core.specs.Whole.{IsWhole};
 ghost use Rattle.plir_core.specs.declared.ptr.IRNode.{IRNode as AnyNode};
 ghost use Rattle.plir_builtin.specs.BuiltinOps.{IsNewForwardRef};
+ghost use Rattle.plir_builtin.specs.OpFaults.{IsForwardRefFault};
 ghost use Rattle.plir_builtin.specs.ResultNames.{given_first, result_name};
 ghost use Rattle.plir_walk.specs.GivenNames.{name_at, names_at};
 ghost use Rattle.plir_core.specs.declared.value.DefiningEntity.{DefiningEntity};
@@ -18,6 +19,7 @@ ghost use Rattle.std.specs.Fmt.{decimal};
 ghost use Rattle.plir_iface.specs.Verdict.{IsRefusalMemoryAside};
 
 use crate::op_making::one_type;
+use crate::op_verify_err::{OpVerifyErr, told};
 use plir_core::{Context, NodeErr, Operation, Ptr};
 use plir_data::put::put;
 use plir_data::{Memory, OpKind, OpSet, UnitType, VerifyErr};
@@ -105,6 +107,24 @@ impl ForwardRefOp {
             Ok(name) => Err(refusal(ctx, self.op, ForwardRefOpExistenceErr(name))),
             Err(Memory) => Err(VerifyErr::Memory),
         }
+    }
+
+    /// Refuses always: tells the refusal of the first interface whose rule does not hold, of no operand and one result in this
+    /// order, else the name of the result.
+    pub fn verify_interfaces<D: OpSet>(
+        &self,
+        alloc: Global,
+        ctx: &Context<D>,
+    ) -> Result<(), VerifyErr<OpVerifyErr<D::Err>>>
+        requires { IsLive ctx.now (AnyNode.Operation self.now.op) }
+        ensures never { IsErr result }
+        ensures refused { IfErr result (IsForwardRefFault ctx.now self.now.op) }
+        ensures whole { IsWhole D.attr_handles ctx.now }
+    {
+        let _live = ctx.num_live();
+        told(NOpdsInterface::<D, 0>::verify(self, ctx))?;
+        told(OneResultInterface::<D>::verify(self, ctx))?;
+        told(self.verify(alloc, ctx))
     }
 }
 

@@ -1,5 +1,5 @@
 //! Functions.
-ghost use Rattle.std.specs.Prelude.{⊤, ◌≡◌, ◌↔◌, true, Some, OnErr, IsOk, IfErr, IfOk, IfSome, IsSome};
+ghost use Rattle.std.specs.Prelude.{⊤, ◌≡◌, ◌↔◌, true, Some, OnOk, OnErr, IsOk, IfErr, IfOk, IfSome, IsSome};
 ghost use Rattle.plir_store.specs.Table.{next_slot};
 ghost use Rattle.plir_data.specs.declared.op_set.OpKind.{OpKind as AnyKind};
 ghost use Rattle.plir_data.specs.Types.{AllLive, IsLive as IsTypeLive, IsMarked, is_function};
@@ -9,13 +9,17 @@ ghost use Rattle.plir_core.specs.Nodes.{ptr_at};
 ghost use Rattle.plir_core.specs.Store.{IsLive, given_out, kind_of};
 ghost use Rattle.plir_core.specs.Whole.{IsWhole};
 ghost use Rattle.plir_core.specs.declared.ptr.IRNode.{IRNode as AnyNode};
-ghost use Rattle.plir_builtin.specs.BuiltinOps.{HasArguments, HasFuncType, IsNewFunc, entry_of, func_type_of, type_in_attr};
+ghost use Rattle.plir_builtin.specs.BuiltinOps.{HasArguments, HasFuncType, IsFuncMade, IsNewFunc, entry_of, func_type_of, type_in_attr};
+ghost use Rattle.plir_builtin.specs.OpRules.{HasFuncRules};
+ghost use Rattle.plir_builtin.specs.OpFaults.{IsFuncFault};
 ghost use Rattle.plir_iface.specs.Counts.{HasNRegions};
 ghost use Rattle.plir_iface.specs.Verdict.{IsRefusal};
 ghost use Rattle.plir_data.specs.AttrSeen.{attr_view};
 
 use crate::ATTR_KEY_BUILTIN_FUNC_TYPE;
 use crate::op_making::{named_and_typed, new_with_block};
+use crate::op_verify_err::{OpVerifyErr, told};
+use crate::symbol_op::SymbolOpInterface;
 use plir_core::{BasicBlock, Context, NodeErr, Operation, Ptr};
 use plir_data::{
     AttrObj, FunctionType, FunctionTypeInterface, Identifier, OpKind, OpSet, TypeHandle, TypeStore,
@@ -52,6 +56,7 @@ impl FuncOp {
         ensures made { IfOk result (λ f. IsMade ctx.old.nodes ctx.new.nodes (AnyNode.Operation f.op)) }
         ensures pointer { IfOk result (λ f. f.op ≡ ptr_at ctx.new.nodes.ops (next_slot ctx.old.nodes.ops)) }
         ensures tree { IfOk result (λ f. IsNewFunc ctx.new f.op name ty) }
+        ensures after { OnOk result (IsFuncMade ctx.old ctx.new name ty) }
         ensures types { ctx.new.types ≡ ctx.old.types }
         ensures given { (n : AnyNode) → given_out ctx.old n ≡ true → given_out ctx.new n ≡ true }
         ensures err { OnErr result (SameLive ctx.old ctx.new) }
@@ -88,6 +93,8 @@ impl<D: OpSet> Op<D> for FuncOp {
 }
 
 impl<D: OpSet> OneRegionInterface<D> for FuncOp {}
+
+impl<D: OpSet> SymbolOpInterface<D> for FuncOp {}
 
 impl<D: OpSet> IsolatedFromAboveInterface<D> for FuncOp {}
 
@@ -132,6 +139,25 @@ impl FuncOp {
             Some(_) => Ok(()),
             None => Err(refusal(ctx, self.op, FuncOpTypeErr)),
         }
+    }
+
+    /// Accepts exactly where the rules of all interfaces that a function declares hold, and its own: one region, a name, no
+    /// operand, no result, and a type of functions. Else tells the refusal of the first, in this order. Takes no memory.
+    pub fn verify_interfaces<D: OpSet>(
+        &self,
+        ctx: &Context<D>,
+    ) -> Result<(), VerifyErr<OpVerifyErr<D::Err>>>
+        requires { IsLive ctx.now (AnyNode.Operation self.now.op) }
+        ensures ok { IsOk result ↔ HasFuncRules ctx.now self.now.op }
+        ensures refused { IfErr result (IsFuncFault ctx.now self.now.op) }
+        ensures whole { IsWhole D.attr_handles ctx.now }
+    {
+        let _live = ctx.num_live();
+        told(OneRegionInterface::<D>::verify(self, ctx))?;
+        told(SymbolOpInterface::<D>::verify(self, ctx))?;
+        told(NOpdsInterface::<D, 0>::verify(self, ctx))?;
+        told(NResultsInterface::<D, 0>::verify(self, ctx))?;
+        told(self.verify(ctx))
     }
 }
 

@@ -1,5 +1,13 @@
-//! Modules.
-ghost use Rattle.std.specs.Prelude.{◌≡◌, ◌↔◌, true, Some, Ok, OnErr, IfOk, IfSome, IsSome};
+//! Modules. The other builtin operations are written in the same form, and so may be one of a user's own:
+//!
+//! 1. A struct around a pointer, with an `impl` of `Op` whose ghost `pointer` is that pointer.
+//! 2. A constructor, which says by `IsMade` that a tree is new, and by a word of `specs/BuiltinOps.antt` what its nodes hold; and
+//!    `from_operation`, which asks the kind.
+//! 3. An `impl` for each interface that it declares, and for their parents; most are empty.
+//! 4. A rule of its own, if it has one: a word, and a `verify` that accepts exactly where it holds.
+//! 5. The rules of all of these as a record (`specs/OpRules.antt`), how the first that is broken is told (`specs/OpFaults.antt`), and
+//!    `verify_interfaces`, which verifies them in that order; a law says that so each call that it offers may be made (`laws.rt`).
+ghost use Rattle.std.specs.Prelude.{◌≡◌, ◌↔◌, true, Some, Ok, OnOk, OnErr, IfOk, IfErr, IfSome, IsSome};
 ghost use Rattle.plir_store.specs.Table.{next_slot};
 ghost use Rattle.plir_data.specs.declared.op_set.OpKind.{OpKind as AnyKind};
 ghost use Rattle.plir_core.specs.Changes.{SameLive};
@@ -8,11 +16,17 @@ ghost use Rattle.plir_core.specs.Nodes.{ptr_at};
 ghost use Rattle.plir_core.specs.Store.{IsLive, given_out, kind_of};
 ghost use Rattle.plir_core.specs.Whole.{IsWhole};
 ghost use Rattle.plir_core.specs.declared.ptr.IRNode.{IRNode as AnyNode};
-ghost use Rattle.plir_builtin.specs.BuiltinOps.{IsNewModule};
+ghost use Rattle.plir_builtin.specs.BuiltinOps.{IsModuleMade, IsNewModule};
+ghost use Rattle.plir_builtin.specs.OpRules.{HasModuleRules};
+ghost use Rattle.plir_builtin.specs.OpFaults.{IsModuleFault};
 
 use crate::op_making::{named, new_with_block};
+use crate::op_verify_err::{OpVerifyErr, told};
+use crate::symbol_op::SymbolOpInterface;
+use crate::symbol_table_op::SymbolTableInterface;
+use crate::symbol_users::SymbolUserSet;
 use plir_core::{Context, NodeErr, Operation, Ptr};
-use plir_data::{Identifier, OpKind, OpSet};
+use plir_data::{Identifier, OpKind, OpSet, VerifyErr};
 use plir_iface::{
     IsolatedFromAboveInterface, NOpdsInterface, NResultsInterface, NoTerminatorInterface,
     OneRegionInterface, Op, RegionKind, RegionKindInterface, SingleBlockRegionInterface,
@@ -35,6 +49,7 @@ impl ModuleOp {
         ensures made { IfOk result (λ m. IsMade ctx.old.nodes ctx.new.nodes (AnyNode.Operation m.op)) }
         ensures pointer { IfOk result (λ m. m.op ≡ ptr_at ctx.new.nodes.ops (next_slot ctx.old.nodes.ops)) }
         ensures tree { IfOk result (λ m. IsNewModule ctx.new m.op name) }
+        ensures after { OnOk result (IsModuleMade ctx.old ctx.new name) }
         ensures types { ctx.new.types ≡ ctx.old.types }
         ensures given { (n : AnyNode) → given_out ctx.old n ≡ true → given_out ctx.new n ≡ true }
         ensures err { OnErr result (SameLive ctx.old ctx.new) }
@@ -72,6 +87,10 @@ impl<D: OpSet> OneRegionInterface<D> for ModuleOp {}
 
 impl<D: OpSet> SingleBlockRegionInterface<D> for ModuleOp {}
 
+impl<D: SymbolUserSet> SymbolTableInterface<D> for ModuleOp {}
+
+impl<D: OpSet> SymbolOpInterface<D> for ModuleOp {}
+
 impl<D: OpSet> IsolatedFromAboveInterface<D> for ModuleOp {}
 
 impl<D: OpSet> NOpdsInterface<D, 0> for ModuleOp {}
@@ -87,5 +106,29 @@ impl<D: OpSet> RegionKindInterface<D> for ModuleOp {
 
     fn get_region_kind(&self, _region: usize) -> RegionKind {
         RegionKind::Graph
+    }
+}
+
+impl ModuleOp {
+    /// Accepts exactly where the rules of all interfaces that a module declares hold, memory aside: one region, of one block, a
+    /// symbol table that is right, a name, no operand and no result. Else tells the refusal of the first, in this order.
+    pub fn verify_interfaces<D: SymbolUserSet>(
+        &self,
+        alloc: Global,
+        ctx: &Context<D>,
+    ) -> Result<(), VerifyErr<OpVerifyErr<D::Err>>>
+        requires live { IsLive ctx.now (AnyNode.Operation self.now.op) }
+        requires module_kind { kind_of ctx.now self.now.op ≡ Some AnyKind.Module }
+        ensures ok { OnOk result (HasModuleRules D.is_symbol D.is_symbol_table D.is_symbol_user D.uses_hold ctx.now self.now.op) }
+        ensures refused { IfErr result (IsModuleFault ctx.now self.now.op D.kind_id D.is_symbol D.is_symbol_table D.is_symbol_user D.uses_hold) }
+        ensures whole { IsWhole D.attr_handles ctx.now }
+    {
+        let _live = ctx.num_live();
+        told(OneRegionInterface::<D>::verify(self, ctx))?;
+        told(SingleBlockRegionInterface::<D>::verify(self, ctx))?;
+        told(SymbolTableInterface::<D>::verify(self, alloc, ctx))?;
+        told(SymbolOpInterface::<D>::verify(self, ctx))?;
+        told(NOpdsInterface::<D, 0>::verify(self, ctx))?;
+        told(NResultsInterface::<D, 0>::verify(self, ctx))
     }
 }

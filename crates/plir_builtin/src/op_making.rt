@@ -14,7 +14,7 @@ ghost use Rattle.plir_core.specs.Nodes.{ptr_at};
 ghost use Rattle.plir_core.specs.Store.{IsLive, given_out};
 ghost use Rattle.plir_core.specs.Whole.{IsWhole};
 ghost use Rattle.plir_core.specs.declared.ptr.IRNode.{IRNode as AnyNode};
-ghost use Rattle.plir_builtin.specs.BuiltinOps.{HoldsOneBlock, func_attributes, name_key, value_key};
+ghost use Rattle.plir_builtin.specs.BuiltinOps.{HoldsOneBlock, IsMadeWithBlock, block_view, func_attributes, module_attributes, value_key};
 ghost use Rattle.plir_builtin.specs.OpMaking.{GivesBlock};
 
 use crate::{ATTR_KEY_BUILTIN_FUNC_TYPE, ATTR_KEY_CONSTANT_VALUE, ATTR_KEY_SYM_NAME};
@@ -47,7 +47,7 @@ pub(crate) fn put_under<D: OpSet>(
 
 /// A dictionary with a name and nothing else.
 pub(crate) fn named<D: OpSet>(alloc: Global, name: Identifier) -> Result<AttributeDict<D>, NodeErr>
-    ensures value { IfOk result (λ es. es ≡ dict_put [] name_key (leaf (identifier name))) }
+    ensures value { IfOk result (λ es. es ≡ module_attributes name) }
     ensures live { IfOk result (λ es. (types : List (TypeView D.Ty)) → HandlesLive D.attr_handles types es) }
 {
     let mut attributes = AttributeDict::new(alloc);
@@ -109,7 +109,8 @@ pub(crate) fn new_with_block<D: OpSet>(
     requires handles_live { HandlesLive D.attr_handles ctx.old.types attributes }
     ensures made { IfOk result (λ op. IsMade ctx.old.nodes ctx.new.nodes (AnyNode.Operation op)) }
     ensures pointer { IfOk result (λ op. op ≡ ptr_at ctx.new.nodes.ops (next_slot ctx.old.nodes.ops)) }
-    ensures tree { IfOk result (λ op. HoldsOneBlock ctx.new op (op_view kind [] [] [] attributes) (record { label = label; arg_types = arg_types.items; attributes = [] })) }
+    ensures tree { IfOk result (λ op. HoldsOneBlock ctx.new op (op_view kind [] [] [] attributes) (block_view label arg_types.items)) }
+    ensures after { OnOk result (IsMadeWithBlock ctx.old ctx.new (op_view kind [] [] [] attributes) (block_view label arg_types.items)) }
     ensures types { ctx.new.types ≡ ctx.old.types }
     ensures given { (n : AnyNode) → given_out ctx.old n ≡ true → given_out ctx.new n ≡ true }
     ensures err { OnErr result (SameLive ctx.old ctx.new) }
@@ -141,7 +142,7 @@ fn add_block<D: OpSet>(
     requires live { IsLive ctx.old (AnyNode.Operation op) }
     requires regions { HasNewRegions ctx.old.nodes (AnyNode.Operation op) 1 }
     requires types_live { AllLive ctx.old.types arg_types.items }
-    ensures added { OnOk result (GivesBlock ctx.old ctx.new op (record { label = label; arg_types = arg_types.items; attributes = [] })) }
+    ensures added { OnOk result (GivesBlock ctx.old ctx.new op (block_view label arg_types.items)) }
     ensures types { ctx.new.types ≡ ctx.old.types }
     ensures given { (n : AnyNode) → given_out ctx.old n ≡ true → given_out ctx.new n ≡ true }
     ensures err { OnErr result (ctx.new ≡ ctx.old) }

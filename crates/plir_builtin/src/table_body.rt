@@ -1,10 +1,11 @@
 //! The body of a table: the one block of its one region.
-ghost use Rattle.std.specs.Prelude.{◌≡◌, Some, IfOk, IfErr, IsSome};
+ghost use Rattle.std.specs.Prelude.{◌≡◌, ◌↔◌, Some, IfOk, IfErr, IsSome, IsTrue};
 ghost use Rattle.plir_core.specs.declared.ptr.IRNode.{IRNode as AnyNode};
 ghost use Rattle.plir_core.specs.Store.{IsLive};
 ghost use Rattle.plir_builtin.specs.Symbols.{body};
 ghost use Rattle.plir_builtin.specs.Refusals.{Tells, BodyRefused};
 
+use crate::symbol_table::SymbolTable;
 use crate::symbol_table_err::SymbolTableErr;
 use plir_core::{BasicBlock, Context, Operation, Ptr};
 use plir_data::{OpSet, VerifyErr};
@@ -58,5 +59,32 @@ pub(crate) fn find_body<D: OpSet>(
         Ok(()) => Ok(body_of(ctx, op)),
         Err(VerifyErr::Refused { err, .. }) => Err(SymbolTableErr::Body(err)),
         Err(VerifyErr::Memory) => unreachable!(),
+    }
+}
+
+/// Whether an operation has a body.
+fn has_body<D: OpSet>(ctx: &Context<D>, op: Ptr<Operation>) -> bool
+    requires { IsLive ctx.now (AnyNode.Operation op) }
+    ensures { IsTrue result ↔ IsSome (body ctx.now op) }
+{
+    let any = AnyOp { op };
+    OneRegionInterface::<D>::verify(&any, ctx).is_ok()
+        && SingleBlockRegionInterface::<D>::verify(&any, ctx).is_ok()
+}
+
+impl SymbolTable {
+    /// The operation whose table this is.
+    pub fn get_operation(&self) -> Ptr<Operation>
+        ensures { result ≡ self.now.op }
+    {
+        self.op
+    }
+
+    /// Whether the table's operation is live and has a body, as [`SymbolTable::insert`], [`SymbolTable::remove`] and
+    /// [`SymbolTable::erase`] ask.
+    pub fn has_body<D: OpSet>(&self, ctx: &Context<D>) -> bool
+        ensures { IsTrue result ↔ (IsLive ctx.now (AnyNode.Operation self.now.op) × IsSome (body ctx.now self.now.op)) }
+    {
+        self.op.is_live(ctx) && has_body(ctx, self.op)
     }
 }

@@ -1,6 +1,8 @@
 use Rattle.std.proofs.Common.{◌≡◌, zero, [], ◌∷◌, ◌++◌, ◌∙◌, ap, subst, arith}
 use Rattle.std.specs.Prelude.{All}
-use Rattle.plir_store.specs.Table.{content_at}
+use Rattle.plir_store.specs.Table.{content_at, next_slot}
+use Rattle.plir_core.specs.Changes.{with_block_last}
+use Rattle.plir_core.specs.Nodes.{ptr_at}
 use Rattle.plir_core.specs.Made.{IsNewRegion}
 use Rattle.plir_core.specs.Store.{kids}
 use Rattle.plir_core.specs.declared.ptr.IRNode.TheVariants.{Operation, Region, BasicBlock}
@@ -24,6 +26,10 @@ returns-clause-added g c =
       region = c.get_region-region.result;
       block = c.in_ok-block.block;
       region_live = c.get_region-region.ensures.live;
+      only_region = one;
+      after = c.insert_at_back.ensures.after
+          ∙ ap (λ b. with_block_last c.new.new.ctx b c.get_region-region.result) c.in_ok-block.ensures.pointer
+          ∙ ap (λ u. with_block_last u (ptr_at u.nodes.blocks (next_slot s.nodes.blocks)) c.get_region-region.result) c.in_ok-block.ensures.ok;
       over = new.parent;
       grown = c.growth.ensures.placed c.new.new.ctx.nodes c.insert_at_back.new.ctx.nodes block region _ made placed;
       holds = ap (λ ops. content_at ops c.args.op.slot) placed.moved.ops ∙ made.keeps.ops c.args.op c.requires.live;

@@ -1,6 +1,11 @@
-use Rattle.std.proofs.Common.{suc, zero, sym, ap, subst, ◌∙◌}
+use Rattle.std.proofs.Common.{rules, ◌≡◌, suc, zero, [], ◌∷◌, sym, ap, subst, ◌∙◌}
+use Rattle.plir_store.specs.Table.{next_slot}
+use Rattle.plir_core.specs.Changes.{with_op}
+use Rattle.plir_core.specs.Contents.{op_view}
+use Rattle.plir_core.specs.Store.{kids}
+use Rattle.plir_builtin.specs.BuiltinOps.{block_view, with_first_block}
 use Rattle.plir_core.specs.Erase.{IsErased}
-use Rattle.plir_core.specs.Nodes.{is_node_live}
+use Rattle.plir_core.specs.Nodes.{is_node_live, ptr_at}
 use Rattle.plir_core.specs.Unused.{IsUnusedOutside}
 use Rattle.plir_core.specs.declared.ptr.IRNode.TheVariants.{Operation, Region}
 use Rattle.plir_builtin.proofs.Single.{not_true}
@@ -30,4 +35,19 @@ returns-in-Err-clause-err g c =
     record {
       nodes = c.growth.ensures.unmade t.nodes v.nodes op c.in_ok-op.ensures.made erased;
       types = ap (λ z. z.types) c.erase.ensures.after ∙ c.in-Err.ensures.types ∙ ap (λ z. z.types) c.in_ok-op.ensures.ok;
+    }
+
+pub returns-in-Ok-clause-after : goal.returns-in-Ok-clause-after
+returns-in-Ok-clause-after g c =
+    let s = c.args.ctx.now in
+    let v = c.with_attributes.new.ctx in
+    let added = c.in-Ok.ensures.added in
+    let held = op_view c.args.kind [] [] [] c.args.attributes in
+    let made : v ≡ with_op s held 1 = search rules in
+    let one : kids v (Operation (ptr_at v.nodes.ops (next_slot s.nodes.ops))) ≡ Region added.region ∷ [] =
+        subst (λ p. kids v (Operation p) ≡ Region added.region ∷ []) c.in_ok-op.ensures.pointer added.only_region in
+    record {
+      region = added.region;
+      only_region = subst (λ u. kids u (Operation (ptr_at u.nodes.ops (next_slot s.nodes.ops))) ≡ Region added.region ∷ []) made one;
+      after = added.after ∙ ap (λ u. with_first_block u added.region (block_view c.args.label c.args.arg_types.items)) made;
     }
