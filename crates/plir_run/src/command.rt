@@ -14,6 +14,12 @@ pub enum Command<'a> {
     End,
     /// `walk pre|post fwd|rev`: walks the root.
     Walk(Order, Direction),
+    /// `lookup NAME`: looks a name up from the innermost open module, else from the root.
+    Lookup(&'a str),
+    /// `erase NAME`: erases what has that name there.
+    Erase(&'a str),
+    /// `symbols`: walks the table of the innermost open module, else of the root.
+    Symbols,
 }
 
 /// Reads a line, whose words are parted by single spaces.
@@ -24,10 +30,13 @@ pub fn read_command(line: &str) -> Option<Command<'_>> {
         None => match line {
             "" => Some(Command::Nothing),
             "end" => Some(Command::End),
+            "symbols" => Some(Command::Symbols),
             _ => None,
         },
         Some(("module", name)) => Some(Command::Module(name)),
         Some(("func", name)) => Some(Command::Func(name)),
+        Some(("lookup", name)) => Some(Command::Lookup(name)),
+        Some(("erase", name)) => Some(Command::Erase(name)),
         Some(("walk", setting)) => read_walk(setting),
         Some(_) => None,
     }

@@ -4,13 +4,14 @@
 mod command;
 mod lines;
 mod naming;
-mod nodes;
 mod run;
 mod script;
 mod stop;
+mod tables;
 #[cfg(test)]
 mod tests;
 mod walking;
+mod writing;
 
 use run::run_script;
 use std::io;

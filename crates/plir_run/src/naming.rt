@@ -2,11 +2,9 @@
 ghost use Rattle.std.specs.Prelude.{IfSome};
 ghost use Rattle.plir_core.specs.Store.{IsLive};
 
+use plir_builtin::ATTR_KEY_SYM_NAME;
 use plir_core::{Context, IRNode, Operation, Ptr};
 use plir_data::{AttrObj, BuiltinSet};
-
-/// The key under which an operation keeps its name.
-pub const ATTR_KEY_SYM_NAME: &str = "builtin_sym_name";
 
 /// The operation that a node is, or stands in.
 pub fn owner_of(ctx: &Context<BuiltinSet>, node: IRNode) -> Option<Ptr<Operation>>

@@ -1,30 +1,30 @@
 //! What a script has built so far, and what each command does to it.
+ghost use Rattle.std.specs.Prelude.{IfOk};
+ghost use Rattle.plir_core.specs.Store.{IsLive};
+ghost use Rattle.plir_core.specs.declared.ptr.IRNode.{IRNode as AnyNode};
+
 use crate::command::{Command, read_command};
-use crate::nodes::{Made, make_named};
 use crate::stop::Stop;
-use crate::walking::print_walk;
-use plir_core::{BasicBlock, Context, Operation, Ptr};
-use plir_data::{BuiltinSet, Identifier, NoMeaning, OpKind};
+use crate::tables::{erase, insert};
+use crate::walking::{print_symbols, print_walk};
+use crate::writing::{print_line, print_named};
+use plir_builtin::{FuncOp, ModuleOp, SymbolTableCollection};
+use plir_core::{Context, Operation, Ptr};
+use plir_data::{BuiltinSet, FunctionType, Identifier};
+use plir_iface::Op;
 use plir_walk::{Direction, Order};
 use std::alloc::Global;
-use std::collections::BTreeSet;
 use std::io::Write;
 
-/// A module that isn't closed yet: the block that its operations go into, and their names.
-#[derive(Drop)]
-struct OpenModule {
-    body: Ptr<BasicBlock>,
-    names: BTreeSet<Identifier>,
-}
-
-/// The modules and functions of a script.
+/// The modules and functions of a script, and their tables.
 #[derive(Drop)]
 pub struct Script {
     alloc: Global,
     ctx: Context<BuiltinSet>,
+    tables: SymbolTableCollection,
     root: Option<Ptr<Operation>>,
     // The innermost one is last.
-    open: Vec<OpenModule>,
+    open: Vec<Ptr<Operation>>,
 }
 
 impl Script {
@@ -33,6 +33,7 @@ impl Script {
         Script {
             alloc,
             ctx: Context::new(alloc),
+            tables: SymbolTableCollection::new(alloc),
             root: None,
             open: Vec::new(alloc),
         }
@@ -47,6 +48,9 @@ impl Script {
             Some(Command::Func(name)) => self.add_func(name),
             Some(Command::End) => self.close_module(),
             Some(Command::Walk(order, direction)) => self.walk(order, direction, writer),
+            Some(Command::Lookup(name)) => self.look_up(name, writer),
+            Some(Command::Erase(name)) => self.erase(name, writer),
+            Some(Command::Symbols) => self.list_symbols(writer),
         }
     }
 
@@ -56,36 +60,47 @@ impl Script {
             return Err(Stop::Refused);
         }
         let name = Identifier::try_new(self.alloc, name)?;
-        let made = self.add(OpKind::Module, name)?;
+        self.open.reserve(1)?;
+        let made = ModuleOp::new(self.alloc, &mut self.ctx, name)?;
+        let op = Op::<BuiltinSet>::get_operation(&made);
         if self.root.is_none() {
-            self.root = Some(made.op);
+            self.root = Some(op);
+        } else {
+            self.insert(op)?;
         }
-        self.open.push(OpenModule {
-            body: made.body,
-            names: BTreeSet::new(self.alloc),
-        })?;
+        self.open.push(op)?;
         Ok(())
     }
 
+    // A function without arguments and results, in the innermost open module.
     fn add_func(&mut self, name: &str) -> Result<(), Stop> {
         if self.open.is_empty() {
             return Err(Stop::Refused);
         }
         let name = Identifier::try_new(self.alloc, name)?;
-        self.add(OpKind::Func, name)?;
-        Ok(())
+        let arguments = Vec::new(self.alloc);
+        let results = Vec::new(self.alloc);
+        let ty = FunctionType::get(&mut self.ctx, arguments, results)?;
+        let made = FuncOp::new(self.alloc, &mut self.ctx, name, ty)?;
+        self.insert(Op::<BuiltinSet>::get_operation(&made))
     }
 
-    // A new operation in the innermost open module, if there is one, where its name must be new.
-    fn add(&mut self, kind: OpKind<NoMeaning>, name: Identifier) -> Result<Made, Stop> {
-        let mut target = None;
-        if let Some(open) = self.open.last_mut() {
-            if !open.names.insert(name.try_clone(self.alloc)?)? {
-                return Err(Stop::Refused);
-            }
-            target = Some(open.body);
+    // Puts a new operation into the innermost open module.
+    fn insert(&mut self, op: Ptr<Operation>) -> Result<(), Stop>
+        requires { IsLive self.old.ctx (AnyNode.Operation op) }
+    {
+        let target = self.innermost()?;
+        insert(&mut self.ctx, &mut self.tables, target, op)
+    }
+
+    // The innermost open module, else the root.
+    fn innermost(&self) -> Result<Ptr<Operation>, Stop>
+        ensures { IfOk result (λ op. IsLive self.now.ctx (AnyNode.Operation op)) }
+    {
+        match self.open.last().copied().or(self.root) {
+            Some(op) if op.is_live(&self.ctx) => Ok(op),
+            _ => Err(Stop::Refused),
         }
-        make_named(self.alloc, &mut self.ctx, kind, name, target)
     }
 
     fn walk<W: Write>(
@@ -100,6 +115,35 @@ impl Script {
             }
             _ => Err(Stop::Refused),
         }
+    }
+
+    // Looks a name up from the innermost open module, else from the root.
+    fn find(&mut self, name: &str) -> Result<Option<Ptr<Operation>>, Stop> {
+        let from = self.innermost()?;
+        let name = Identifier::try_new(self.alloc, name)?;
+        let found = self
+            .tables
+            .lookup_symbol_in_nearest_table(&self.ctx, from, &name)?;
+        Ok(found)
+    }
+
+    fn look_up<W: Write>(&mut self, name: &str, writer: &mut W) -> Result<(), Stop> {
+        match self.find(name)? {
+            Some(_) => print_named(writer, "found", name),
+            None => print_line(writer, "none"),
+        }
+    }
+
+    // Erases what has a name in the innermost open module, else in the root.
+    fn erase<W: Write>(&mut self, name: &str, writer: &mut W) -> Result<(), Stop> {
+        let op = self.find(name)?.ok_or(Stop::Refused)?;
+        let target = self.innermost()?;
+        erase(&mut self.ctx, &mut self.tables, target, op)?;
+        print_named(writer, "erased", name)
+    }
+
+    fn list_symbols<W: Write>(&self, writer: &mut W) -> Result<(), Stop> {
+        print_symbols(&self.ctx, self.innermost()?, writer)
     }
 
     fn close_module(&mut self) -> Result<(), Stop> {

@@ -1,4 +1,5 @@
 //! Why a script ends before its input does.
+use plir_builtin::SymbolTableErr;
 use plir_core::NodeErr;
 use plir_data::{IdentifierErr, Memory};
 use std::alloc::{AllocError, AllocFailed};
@@ -45,6 +46,15 @@ impl From<NodeErr> for Stop {
         match error {
             NodeErr::TooManyNodes => Stop::Refused,
             NodeErr::Memory => Stop::OutOfMemory,
+        }
+    }
+}
+
+impl From<SymbolTableErr> for Stop {
+    fn from(error: SymbolTableErr) -> Stop {
+        match error {
+            SymbolTableErr::Memory => Stop::OutOfMemory,
+            _ => Stop::Refused,
         }
     }
 }

@@ -56,7 +56,7 @@ fn an_empty_script_writes_nothing(rt: HostRuntime) {
 #[test]
 fn what_is_no_command_or_cannot_be_done_is_refused(rt: HostRuntime) {
     let alloc = rt.alloc();
-    let first_lines: [&[u8]; 18] = [
+    let first_lines: [&[u8]; 22] = [
         b"func f",
         b"end",
         b"walk pre fwd",
@@ -73,6 +73,10 @@ fn what_is_no_command_or_cannot_be_done_is_refused(rt: HostRuntime) {
         b"walk",
         b"walk pre",
         b"text",
+        b"lookup m",
+        b"erase m",
+        b"symbols",
+        b"symbols m",
         b"module \xff",
         b"end\r",
     ];
@@ -264,4 +268,42 @@ fn a_writer_that_fails_ends_the_script(rt: HostRuntime) {
         assert_eq!(rt; writer.taken.len(), room);
         assert!(rt; OUTPUT.starts_with(writer.taken.as_slice()));
     }
+}
+
+#[test]
+fn names_are_looked_up_and_erased(rt: HostRuntime) {
+    let alloc = rt.alloc();
+    expect_run(
+        &rt,
+        alloc,
+        b"module m\nmodule n\nfunc g\nend\nlookup n\nerase n\nlookup n\nmodule n\nlookup g\nend\nlookup n\nend\nwalk post rev\nerase x\n",
+        "found n\nerased n\nnone\nnone\nfound n\nblock of n\nregion of n\nop n\nblock of m\nregion of m\nop m\nadvance\nline 14: refused\n",
+        1,
+    );
+    expect_run(
+        &rt,
+        alloc,
+        b"module m\nfunc f\nerase f\nfunc f\nlookup f\nlookup 1",
+        "erased f\nfound f\nline 6: refused\n",
+        1,
+    );
+}
+
+#[test]
+fn the_symbols_of_a_table_are_listed(rt: HostRuntime) {
+    let alloc = rt.alloc();
+    expect_run(
+        &rt,
+        alloc,
+        b"module m\nfunc f1\nmodule n\nfunc g\nend\nsymbols",
+        "op f1\nop n\nadvance\n",
+        0,
+    );
+    expect_run(
+        &rt,
+        alloc,
+        b"module m\nmodule n\nfunc g\nsymbols\nend\nend\nsymbols",
+        "op g\nadvance\nop n\nadvance\n",
+        0,
+    );
 }

@@ -1,9 +1,13 @@
 //! How a walk is printed.
-ghost use Rattle.plir_core.specs.Store.{IsLive};
+ghost use Rattle.std.specs.Prelude.{◌≡◌, true, length};
+ghost use Rattle.plir_core.specs.Store.{IsLive, kids};
+ghost use Rattle.plir_builtin.specs.Handed.{is_table_at};
 
 use crate::naming::{name_of, owner_of};
 use crate::stop::Stop;
-use plir_core::{Context, IRNode, Operation, Ptr};
+use crate::writing::print_line;
+use plir_builtin::walk_symbol_table;
+use plir_core::{Context, IRNode, Interface, Operation, Ptr, op_impls};
 use plir_data::BuiltinSet;
 use plir_walk::interruptible::immutable::walk_op;
 use plir_walk::interruptible::{WalkResult, walk_advance, walk_break};
@@ -33,12 +37,38 @@ pub fn print_walk<W: Write>(
             Err(_) => walk_break(()),
         }
     };
-    match walk_op(ctx, writer, &config, root, visit) {
+    let end = walk_op(ctx, writer, &config, root, visit);
+    print_end(end, writer)
+}
+
+/// Writes a line for each operation that a walk of the table of an operation hands over, and then `advance`.
+pub fn print_symbols<W: Write>(
+    ctx: &Context<BuiltinSet>,
+    table: Ptr<Operation>,
+    writer: &mut W,
+) -> Result<(), Stop>
+    requires { IsLive ctx.now (IRNode.Operation table) }
+{
+    if !op_impls(ctx, table, Interface::SymbolTable) || table.num_regions(ctx) != 1 {
+        return Err(Stop::Refused);
+    }
+    let visit = |ctx: &Context<BuiltinSet>, writer: &mut W, op: Ptr<Operation>| -> WalkResult<()>
+        requires { IsLive ctx.now (IRNode.Operation op) }
+    {
+        match print_node(ctx, IRNode::Operation(op), writer) {
+            Ok(()) => walk_advance(),
+            Err(_) => walk_break(()),
+        }
+    };
+    let end = walk_symbol_table(table, ctx, writer, visit);
+    print_end(end, writer)
+}
+
+// Writes `advance` where a walk went to its end; it breaks only where a line can't be written.
+fn print_end<W: Write>(end: WalkResult<()>, writer: &mut W) -> Result<(), Stop> {
+    match end {
         ControlFlow::Break(()) => Err(Stop::WriteFailed),
-        ControlFlow::Continue(_) => match writeln!(writer, "advance") {
-            Ok(()) => Ok(()),
-            Err(_) => Err(Stop::WriteFailed),
-        },
+        ControlFlow::Continue(_) => print_line(writer, "advance"),
     }
 }
 

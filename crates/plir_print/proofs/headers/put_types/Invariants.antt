@@ -1,0 +1,11 @@
+use Rattle.std.proofs.Common.{◌≡◌, ◌++◌, codes, drop, string_bytes}
+use Rattle.plir_print.specs.Headers.{value_type_text}
+use Rattle.plir_print.specs.Lists.{parted, parted_from}
+use Rattle.plir_print.specs.ValueLists.{values_in}
+use Rattle.plir_print.proofs.headers.put_types.Given as goal
+
+abbrev pub invariant-types : goal.invariant-types
+invariant-types g l =
+    let vs = values_in l.ctx l.list in
+    let write = value_type_text g.D.OpSet l.ctx in
+    string_bytes l.out ++ parted_from l.is_first (codes ", ") write (drop l.place vs) ≡ string_bytes l.fn.out ++ parted (codes ", ") write vs

@@ -1,0 +1,11 @@
+use Rattle.std.proofs.Common.{◌≡◌, ◌++◌, codes, drop, string_bytes}
+use Rattle.plir_print.specs.Lists.{parted, parted_from}
+use Rattle.plir_print.specs.OpText.{argument_text}
+use Rattle.plir_print.specs.ValueLists.{values_in}
+use Rattle.plir_print.proofs.ops.put_arguments.Given as goal
+
+abbrev pub invariant-arguments : goal.invariant-arguments
+invariant-arguments g l =
+    let vs = values_in l.ctx l.arguments in
+    let write = argument_text g.D.OpSet l.ctx in
+    string_bytes l.out ++ parted_from l.is_first (codes ", ") write (drop l.place vs) ≡ string_bytes l.fn.out ++ parted (codes ", ") write vs

@@ -1,0 +1,80 @@
+//! The attributes that the headers of operations tell.
+ghost use Rattle.std.specs.Prelude.{◌≡◌, IfSome, option_map};
+ghost use Rattle.plir_data.specs.AttrLive.{IsAttrLive};
+ghost use Rattle.plir_data.specs.AttrSeen.{attr_view};
+ghost use Rattle.plir_data.specs.Types.{IsLive as IsTypeLive};
+ghost use Rattle.plir_core.specs.declared.ptr.IRNode.{IRNode as AnyNode};
+ghost use Rattle.plir_core.specs.Store.{IsLive, op_at};
+ghost use Rattle.plir_core.specs.Whole.{IsWhole};
+ghost use Rattle.plir_builtin.specs.BuiltinOps.{func_type_of, type_in_attr, value_of};
+ghost use Rattle.plir_builtin.specs.Symbols.{name_held, name_in as name_inside};
+ghost use Rattle.plir_print.specs.HeaderAttrs.{has_header};
+
+use plir_builtin::{ATTR_KEY_BUILTIN_FUNC_TYPE, ATTR_KEY_CONSTANT_VALUE, ATTR_KEY_SYM_NAME};
+use plir_core::{Context, Operation, Ptr};
+use plir_data::{AttrObj, Identifier, OpKind, OpSet, TypeHandle};
+
+// The name in an attribute.
+fn name_in<D: OpSet>(attribute: &AttrObj<D>) -> Option<&Identifier>
+    ensures { option_map (λ n. n.now) result ≡ name_inside (Some (attr_view attribute.now)) }
+{
+    match attribute {
+        AttrObj::Identifier(name) => Some(name.as_ref()),
+        _ => None,
+    }
+}
+
+/// The name of a module or a function, if it has one.
+pub(crate) fn find_name<D: OpSet>(ctx: &Context<D>, op: Ptr<Operation>) -> Option<&Identifier>
+    requires { IsLive ctx.now (AnyNode.Operation op) }
+    ensures { option_map (λ n. n.now) result ≡ name_held (op_at ctx.now op) }
+{
+    name_in(op.attributes(ctx).get(ATTR_KEY_SYM_NAME)?)
+}
+
+// The type in an attribute of a type.
+fn type_in<D: OpSet>(ctx: &Context<D>, attribute: &AttrObj<D>) -> Option<TypeHandle>
+    requires { IsAttrLive D.attr_handles ctx.now.types (attr_view attribute.now) }
+    ensures value { result ≡ type_in_attr (attr_view attribute.now) }
+    ensures live { IfSome result (IsTypeLive ctx.now.types) }
+{
+    let _live = ctx.num_live();
+    match attribute {
+        AttrObj::Type(ty) => Some(ty.get_type()),
+        _ => None,
+    }
+}
+
+/// The type of a function, if it has one.
+pub(crate) fn find_type<D: OpSet>(ctx: &Context<D>, op: Ptr<Operation>) -> Option<TypeHandle>
+    requires { IsLive ctx.now (AnyNode.Operation op) }
+    ensures value { result ≡ func_type_of ctx.now op }
+    ensures live { IfSome result (IsTypeLive ctx.now.types) }
+{
+    type_in(ctx, op.attributes(ctx).get(ATTR_KEY_BUILTIN_FUNC_TYPE)?)
+}
+
+/// The value of a constant, if it has one.
+pub(crate) fn find_value<D: OpSet>(ctx: &Context<D>, op: Ptr<Operation>) -> Option<&AttrObj<D>>
+    requires { IsLive ctx.now (AnyNode.Operation op) }
+    ensures value { option_map (λ a. attr_view a.now) result ≡ value_of ctx.now op }
+    ensures live { IfSome result (λ a. IsAttrLive D.attr_handles ctx.now.types (attr_view a.now)) }
+{
+    op.attributes(ctx).get(ATTR_KEY_CONSTANT_VALUE)
+}
+
+/// Whether an operation has the attributes that its header tells: a module or a function an identifier as its name, a
+/// function a type too, a constant a value and one result. Of other operations nothing is asked.
+pub fn has_header<D: OpSet>(ctx: &Context<D>, op: Ptr<Operation>) -> bool
+    requires { IsLive ctx.now (AnyNode.Operation op) }
+    ensures value { result ≡ has_header ctx.now op }
+    ensures whole { IsWhole D.attr_handles ctx.now }
+{
+    match op.kind(ctx) {
+        OpKind::Module => find_name(ctx, op).is_some(),
+        OpKind::Func => find_name(ctx, op).is_some() && find_type(ctx, op).is_some(),
+        OpKind::Constant => find_value(ctx, op).is_some() && op.get_num_results(ctx) == 1,
+        OpKind::ForwardRef => true,
+        OpKind::Own(_) => true,
+    }
+}

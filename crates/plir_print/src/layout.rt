@@ -1,0 +1,25 @@
+//! What stands between the parts of a text.
+ghost use Rattle.std.specs.Prelude.{OnOk};
+ghost use Rattle.plir_print.specs.Lists.{Puts, before};
+ghost use Rattle.plir_print.specs.OpText.{line};
+
+use plir_data::Memory;
+use plir_data::put::put;
+
+/// Puts what stands between things, before all but the first.
+pub(crate) fn put_between(out: &mut String, is_first: bool, between: &str) -> Result<(), Memory>
+    ensures { OnOk result (Puts out.old out.new (before is_first between.now)) }
+{
+    if is_first { Ok(()) } else { put(out, between) }
+}
+
+/// Puts a new line, as far in as so many columns.
+pub(crate) fn put_line(out: &mut String, columns: usize) -> Result<(), Memory>
+    ensures { OnOk result (Puts out.old out.new (line columns)) }
+{
+    put(out, "\n")?;
+    'columns: for _column in 0..columns {
+        put(out, " ")?;
+    }
+    Ok(())
+}

@@ -1,0 +1,18 @@
+//! The texts of operations and of edges between regions.
+#![tactic(auto)]
+
+mod dictionaries;
+mod edges;
+mod header_attrs;
+mod headers;
+mod kids;
+mod layout;
+mod names;
+mod ops;
+mod printable;
+mod values;
+
+pub use edges::print_edge;
+pub use header_attrs::has_header;
+pub use ops::print_op;
+pub use printable::is_printable;
