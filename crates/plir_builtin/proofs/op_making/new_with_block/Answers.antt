@@ -45,7 +45,7 @@ returns-in-Ok-clause-after g c =
     let held = op_view c.args.kind [] [] [] c.args.attributes in
     let made : v ≡ with_op s held 1 = search rules in
     let one : kids v (Operation (ptr_at v.nodes.ops (next_slot s.nodes.ops))) ≡ Region added.region ∷ [] =
-        subst (λ p. kids v (Operation p) ≡ Region added.region ∷ []) c.in_ok-op.ensures.pointer added.only_region in
+    subst (λ p. kids v (Operation p) ≡ Region added.region ∷ []) c.in_ok-op.ensures.pointer added.only_region in
     record {
       region = added.region;
       only_region = subst (λ u. kids u (Operation (ptr_at u.nodes.ops (next_slot s.nodes.ops))) ≡ Region added.region ∷ []) made one;

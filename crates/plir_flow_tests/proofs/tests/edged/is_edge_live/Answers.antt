@@ -17,6 +17,7 @@ returns c =
     let found : IsTrue c.are_flows_live.result = search rules in
     let same : c.as_slice.result.now ≡ c.args.edge.now.flows = search rules in
     let same-2 : c.as_slice-2.result.now ≡ c.args.edge.now.reads = search rules in
-    let flows = subst (All (IsFlowLive s)) same (c.are_flows_live.ensures.0 found) in
-    (λ h. record { from = from; to = to; flows = flows; reads = subst (All (IsUseLive s)) same-2 (c.are_reads_live.ensures.0 h) },
-     λ live. c.are_reads_live.ensures.1 (subst (All (IsUseLive s)) (sym same-2) live.reads))
+    let flows = subst (All (IsFlowLive s)) same (c.are_flows_live.ensures.0 found) in (
+      λ h. record { from = from; to = to; flows = flows; reads = subst (All (IsUseLive s)) same-2 (c.are_reads_live.ensures.0 h) },
+      λ live. c.are_reads_live.ensures.1 (subst (All (IsUseLive s)) (sym same-2) live.reads),
+    )
