@@ -26,7 +26,7 @@ use Rattle.plir_text.specs.Writable.{IsNameOrMark, pairs_of, IsLeafWritable, IsW
 use Rattle.plir_text.specs.Written.{name_or_mark}
 use Rattle.plir_text.proofs.Printed.{Ends, IsValue, is_word, look-word, look-spaced, look-decimal, value_text, value_spelled, integer-begins}
 use Rattle.plir_text.proofs.QuotedAgain.{string-shown}
-use Rattle.plir_text.proofs.Meanings.{IsMeant-grown}
+use Rattle.plir_text.specs.Meanings.{IsMeant-grown}
 use Rattle.plir_text.proofs.Runs.{Run, Shown, Tail, Shown-as, Run-as, Tail-as, behind_id, word-shown, identifier_is_word, listed, nothing, behind_first, behind_comma, begins-spaced, several-shown}
 use Rattle.plir_text.proofs.TypesShown.{type-shown, type_named}
 

@@ -15,9 +15,9 @@ use Rattle.plir_text.specs.TypeGrammar.{IsText, TypeWithin}
 use Rattle.plir_text.specs.AttrGrammar.{AttrWithin}
 use Rattle.plir_text.specs.TypesIn.{IsBehind, IsItemAt, IsInList, IsInTypeBody, IsInType, IsInFunction, IsInEntry, IsInAttr, IsBehindId}
 use Rattle.plir_text.specs.Parts.{IsPartOf, IsPartOfOne, IsHeldBy, IsHeldByItem, IsHeldByEntry}
-use Rattle.plir_text.proofs.Steps.{bind_ok, ok_is}
-use Rattle.plir_text.proofs.TypesAgain.{type_within_again}
-use Rattle.plir_text.proofs.AttrsAgain.{attr_again}
+use Rattle.plir_text.specs.StepLaws.{bind_ok, ok_is}
+use Rattle.plir_text.specs.TypesAgain.{type_within_again}
+use Rattle.plir_text.specs.AttrsAgain.{attr_again}
 
 one_of : {A : Type 0} (r : Result A Fault) (x y : A) → r ≡ Ok x → r ≡ Ok y → x ≡ y
 one_of r x y e f = ok_is x y (sym e ∙ f)

@@ -15,8 +15,8 @@ use Rattle.plir_text.specs.AttrGrammar.{SpellsValue}
 use Rattle.plir_text.specs.Bytes.{is_blank, is_in_word, front, past, all_pass, is_digits, value_after}
 use Rattle.plir_text.specs.Tokens.{Token, word, digits, signed, sign, number_of, token_at, look, Begins}
 use Rattle.plir_text.specs.TypeGrammar.{SpellsInteger}
-use Rattle.plir_text.proofs.Steps.{done}
-use Rattle.plir_text.proofs.TypesAgain.{parts}
+use Rattle.plir_text.specs.StepLaws.{done}
+use Rattle.plir_text.specs.TypesAgain.{parts}
 
 -- what ends a run
 abbrev pub Ends : (ℕ → Bool) → List ℕ → Type 0

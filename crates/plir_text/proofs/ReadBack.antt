@@ -18,8 +18,8 @@ use Rattle.plir_text.specs.declared.fault.ReadErr.{ReadErr}
 use Rattle.plir_text.specs.declared.fault.Fault.{Fault}
 use Rattle.plir_text.specs.declared.fault.Fault.TheVariants as faults
 use Rattle.plir_text.proofs.AttrsShown.{verified_type, text_stands}
-use Rattle.plir_text.proofs.Growth.{at_grown, Grows-on}
-use Rattle.plir_text.proofs.Meanings.{one_live, leaf_live}
+use Rattle.plir_text.specs.Growth.{at_grown, Grows-on}
+use Rattle.plir_text.specs.Meanings.{one_live, leaf_live}
 use Rattle.plir_text.proofs.SameMeanings.{one_meaning}
 
 -- what a table has grown from is a table

@@ -6,9 +6,9 @@ use Rattle.plir_text.specs.Bytes.{is_in_word, all_pass}
 use Rattle.plir_text.specs.Tokens.{Token, word, digits, signed, quoted, arrow, sign, look, Takes, Begins}
 use Rattle.plir_text.specs.TypeGrammar.{enclosed}
 use Rattle.plir_text.specs.Written.{joined, joined_on}
-use Rattle.plir_text.proofs.Begun.{Begins-append}
+use Rattle.plir_text.specs.Begun.{Begins-append}
 use Rattle.plir_text.proofs.Printed.{Ends, is_word, look-word, look-spaced}
-use Rattle.plir_text.proofs.TypesAgain.{parts}
+use Rattle.plir_text.specs.TypesAgain.{parts}
 
 -- a text that is tokens which spell something, where no word goes on behind it
 pub record Run (E : List Token → Type 0) (text : List ℕ) : Type 0 where

@@ -11,11 +11,11 @@ use Rattle.plir_text.specs.TypeReading.{integer_at, function_at, type_at}
 use Rattle.plir_text.specs.Wholes.{end_at, whole}
 use Rattle.plir_text.specs.Steps.{◌>>=◌}
 use Rattle.plir_text.specs.Reading.{Fails, fault_of}
-use Rattle.plir_text.proofs.Steps.{done, Fails-bind, Fails-from}
-use Rattle.plir_text.proofs.ListsFound.{IsSound, whole_found}
-use Rattle.plir_text.proofs.ListsAgain.{refused, only_one}
-use Rattle.plir_text.proofs.TypesFound.{integer_found, function_found, type_found}
-use Rattle.plir_text.proofs.TypesAgain.{integer_again, type_within_again, function_within_again}
+use Rattle.plir_text.specs.StepLaws.{done, Fails-bind, Fails-from}
+use Rattle.plir_text.specs.ListsFound.{IsSound, whole_found}
+use Rattle.plir_text.specs.ListsAgain.{refused, only_one}
+use Rattle.plir_text.specs.TypesFound.{integer_found, function_found, type_found}
+use Rattle.plir_text.specs.TypesAgain.{integer_again, type_within_again, function_within_again}
 
 -- a fault that is told is the one that was met
 pub told : {X : Type 0} (stop : Stop) (f : Fault) (read : Result X Fault) → f ≡ fault_of stop → Fails stop read → f ≢ Memory → read ≡ Err f

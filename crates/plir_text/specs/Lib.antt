@@ -20,3 +20,28 @@ pub mod Parts
 pub mod Meaning
 pub mod Writable
 pub mod AttrAnswer
+-- Laws of these words, proved beside them so that the crates above can cite them. No contract cites these modules.
+--
+--   StepLaws     steps that did not fail, and choices
+--   Lexing, Quoted, Begun       tokens that stand first in a text
+--   ListsFound, TypesFound, LeavesFound, AttrsFound   what is read stands there
+--   ListsAgain, TypesAgain, LeavesAgain, AttrsAgain   what stands there is read
+--   Fronts, TypeSteps, AttrSteps   reading step by step, as loops and readers do
+--   Growth, Meanings   what is named and meant in tables that grow
+pub mod StepLaws
+pub mod Lexing
+pub mod Quoted
+pub mod Fronts
+pub mod Growth
+pub mod TypeSteps
+pub mod Begun
+pub mod ListsFound
+pub mod TypesFound
+pub mod ListsAgain
+pub mod TypesAgain
+pub mod LeavesFound
+pub mod LeavesAgain
+pub mod AttrSteps
+pub mod AttrsFound
+pub mod AttrsAgain
+pub mod Meanings

@@ -71,7 +71,7 @@ pub fn read_attr_head(bytes: &[u8]) -> Result<(AttrKind, &[u8]), Stop>
 }
 
 // The identifier of a word, with this many bytes left where it stands.
-fn identifier_of(alloc: Global, word: &[u8], left: usize) -> Result<Identifier, Stop>
+pub fn identifier_of(alloc: Global, word: &[u8], left: usize) -> Result<Identifier, Stop>
     ensures made { IfOk result (λ i. i ≡ word.now) }
     ensures formed { IfOk result (λ i. is_identifier word.now ≡ true) }
     ensures refused { IfErr result (λ stop. (stop ≡ Wanting) ⊎ ((stop ≡ At Fault.Unexpected left) × (is_identifier word.now ≡ false))) }

@@ -122,7 +122,7 @@ fn read_entry<'a, D: OpSet, C: TypeStore<D>>(
 
 // Entries in brackets; of a key that comes again the last counts.
 #[cycle(attrs)]
-fn read_entries<'a, D: OpSet, C: TypeStore<D>>(
+pub fn read_entries<'a, D: OpSet, C: TypeStore<D>>(
     alloc: Global,
     ctx: &mut C,
     levels: usize,

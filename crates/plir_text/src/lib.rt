@@ -1,20 +1,20 @@
 //! Texts of types and attributes: readers and printers.
 #![tactic(auto)]
 
-mod attr_words;
-mod attrs;
-mod fault;
+pub mod attr_words;
+pub mod attrs;
+pub mod fault;
 pub mod laws;
 mod levels;
-mod place;
+pub mod place;
 mod print_attrs;
 mod put;
 mod read_attrs;
-mod read_types;
+pub mod read_types;
 mod strings;
-mod tokens;
-mod types;
-mod words;
+pub mod tokens;
+pub mod types;
+pub mod words;
 mod writable;
 
 pub use fault::{Fault, ReadErr};

@@ -77,7 +77,7 @@ fn past_word(bytes: &[u8]) -> &[u8]
     rest
 }
 
-fn past_digits(bytes: &[u8]) -> &[u8]
+pub fn past_digits(bytes: &[u8]) -> &[u8]
     ensures { result.now ≡ past is_digit bytes.now }
 {
     let mut rest = bytes;

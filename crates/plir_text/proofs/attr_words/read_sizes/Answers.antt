@@ -2,10 +2,10 @@ use Rattle.std.proofs.Common.{◌∙◌, ap, sym, arith}
 use Rattle.std.proofs.lemmas.Result.{err_from_is_err_and}
 use Rattle.plir_text.specs.Lists.{separator_at}
 use Rattle.plir_text.specs.AttrReading.{size_at}
-use Rattle.plir_text.proofs.Steps.{done}
-use Rattle.plir_text.proofs.Fronts.{no_open, nothing_inside, starts, ends_at_item, ends_behind, closes, goes_on}
-use Rattle.plir_text.proofs.Begun.{separator_at-shorter}
-use Rattle.plir_text.proofs.LeavesFound.{size_at-shorter}
+use Rattle.plir_text.specs.StepLaws.{done}
+use Rattle.plir_text.specs.Fronts.{no_open, nothing_inside, starts, ends_at_item, ends_behind, closes, goes_on}
+use Rattle.plir_text.specs.Begun.{separator_at-shorter}
+use Rattle.plir_text.specs.LeavesFound.{size_at-shorter}
 use Rattle.plir_text.proofs.attr_words.read_sizes.Goals as goal
 
 pub returns-in_err-start : goal.returns-in_err-start

@@ -1,7 +1,7 @@
 use Rattle.std.proofs.Common.{length}
 use Rattle.plir_text.specs.Lists.{separator_at, items_at}
 use Rattle.plir_text.specs.AttrReading.{size_at}
-use Rattle.plir_text.proofs.Fronts.{GoesOn}
+use Rattle.plir_text.specs.Fronts.{GoesOn}
 use Rattle.plir_text.proofs.attr_words.read_sizes.Given as goal
 
 abbrev pub invariant-sizes : goal.invariant-sizes

@@ -9,16 +9,16 @@ use Rattle.plir_text.specs.Steps.{read_as}
 use Rattle.plir_text.specs.Lists.{items_at}
 use Rattle.plir_text.specs.AttrReading.{name_at, text_at, bool_at, size_at, given_name_at, entry_at, attr_head, attr_at}
 use Rattle.plir_text.specs.TypesIn.{IsInEntry, IsInAttr}
-use Rattle.plir_text.proofs.Steps.{done}
-use Rattle.plir_text.proofs.Fronts.{no_open, nothing_inside}
-use Rattle.plir_text.proofs.Growth.{Adds-itself, Adds-as}
+use Rattle.plir_text.specs.StepLaws.{done}
+use Rattle.plir_text.specs.Fronts.{no_open, nothing_inside}
+use Rattle.plir_text.specs.Growth.{Adds-itself, Adds-as}
 use Rattle.plir_text.proofs.Gathering.{begins, kept_on, gathered, one_more, fails_at, fails_behind}
-use Rattle.plir_text.proofs.Meanings.{ItemsFront, ItemsFront-grown, DictFront, DictFront-grown, ItemsFront-push, IsDictMeant-push}
-use Rattle.plir_text.proofs.TypeSteps.{behind_is}
-use Rattle.plir_text.proofs.AttrSteps.{attr_at-body, attr_at-head-fails, Reads-from, leaf_read}
-use Rattle.plir_text.proofs.AttrsFound.{attr_at-shorter, entry_at-shorter}
-use Rattle.plir_text.proofs.AttrsAgain.{entry_again}
-use Rattle.plir_text.proofs.Begun.{separator_at-shorter}
+use Rattle.plir_text.specs.Meanings.{ItemsFront, ItemsFront-grown, DictFront, DictFront-grown, ItemsFront-push, IsDictMeant-push}
+use Rattle.plir_text.specs.TypeSteps.{behind_is}
+use Rattle.plir_text.specs.AttrSteps.{attr_at-body, attr_at-head-fails, Reads-from, leaf_read}
+use Rattle.plir_text.specs.AttrsFound.{attr_at-shorter, entry_at-shorter}
+use Rattle.plir_text.specs.AttrsAgain.{entry_again}
+use Rattle.plir_text.specs.Begun.{separator_at-shorter}
 use Rattle.plir_text.proofs.TypesIn.{in_entry, in_attr}
 use Rattle.plir_text.proofs.attrs.+attrs.Goals as goal
 

@@ -2,9 +2,9 @@ use Rattle.std.proofs.Common.{ap, sym, ◌∙◌}
 use Rattle.plir_text.specs.AttrReading.{attr_at}
 use Rattle.plir_text.specs.TypesIn.{IsInAttr}
 use Rattle.plir_text.specs.Wholes.{whole}
-use Rattle.plir_text.proofs.AttrsAgain.{attr_text_found, attr_text_refused}
-use Rattle.plir_text.proofs.Growth.{named_as}
-use Rattle.plir_text.proofs.Meanings.{IsMeant-live}
+use Rattle.plir_text.specs.AttrsAgain.{attr_text_found, attr_text_refused}
+use Rattle.plir_text.specs.Growth.{named_as}
+use Rattle.plir_text.specs.Meanings.{IsMeant-live}
 use Rattle.plir_text.proofs.Wholes.{told}
 use Rattle.plir_text.proofs.read_attrs.read_attr.Goals as goal
 

@@ -2,7 +2,7 @@ use Rattle.std.proofs.Common.{ap, sym, ◌∙◌}
 use Rattle.plir_text.specs.TypeReading.{function_at, type_at}
 use Rattle.plir_text.specs.TypesIn.{IsInFunction}
 use Rattle.plir_text.specs.Wholes.{whole}
-use Rattle.plir_text.proofs.Growth.{named_as}
+use Rattle.plir_text.specs.Growth.{named_as}
 use Rattle.plir_text.proofs.Wholes.{told, function_text_found, function_text_refused}
 use Rattle.plir_text.proofs.read_types.read_function_type.Goals as goal
 

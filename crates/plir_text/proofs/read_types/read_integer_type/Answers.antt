@@ -2,7 +2,7 @@ use Rattle.std.proofs.Common.{ap, sym, ◌∙◌}
 use Rattle.plir_text.specs.TypeReading.{integer_at}
 use Rattle.plir_text.specs.TypesIn.{IsInInteger}
 use Rattle.plir_text.specs.Wholes.{whole}
-use Rattle.plir_text.proofs.Growth.{named_as}
+use Rattle.plir_text.specs.Growth.{named_as}
 use Rattle.plir_text.proofs.Wholes.{told, integer_text_found, integer_text_refused}
 use Rattle.plir_text.proofs.read_types.read_integer_type.Goals as goal
 

@@ -2,7 +2,7 @@ use Rattle.std.proofs.Common.{ap, sym, ◌∙◌}
 use Rattle.plir_text.specs.TypeReading.{type_at}
 use Rattle.plir_text.specs.TypesIn.{IsInType}
 use Rattle.plir_text.specs.Wholes.{whole}
-use Rattle.plir_text.proofs.Growth.{named_as}
+use Rattle.plir_text.specs.Growth.{named_as}
 use Rattle.plir_text.proofs.Wholes.{told, type_text_found, type_text_refused}
 use Rattle.plir_text.proofs.read_types.read_type.Goals as goal
 

@@ -1,6 +1,6 @@
 use Rattle.std.proofs.Common.{length}
 use Rattle.plir_text.specs.Strings.{string_at}
-use Rattle.plir_text.proofs.Quoted.{GoesOn}
+use Rattle.plir_text.specs.Quoted.{GoesOn}
 use Rattle.plir_text.proofs.strings.read_quoted.Given as goal
 
 abbrev pub invariant-steps : goal.invariant-steps

@@ -2,7 +2,7 @@ use Rattle.std.proofs.Common.{◌+◌, ◌*◌, length}
 use Rattle.plir_text.specs.TypeReading.{type_at}
 use Rattle.plir_text.specs.TypesIn.{IsInType}
 use Rattle.plir_text.proofs.Gathering.{Gathers}
-use Rattle.plir_text.proofs.Growth.{NamesFront}
+use Rattle.plir_text.specs.Growth.{NamesFront}
 use Rattle.plir_text.proofs.types.+types.Given as goal
 
 abbrev pub decreases-read_type_at : goal.decreases-read_type_at

@@ -1,0 +1,143 @@
+-- Nodes that are made one after another and put under one node, as a loop does.
+use Rattle.std.proofs.Common.{◌≡◌, ℕ, ◌<◌, true, false, List, [], ◌∷◌, ◌++◌, length, Bool, Option, Some, None, Result, Ok, refl, sym, ap, subst, ◌∙◌}
+use Rattle.std.proofs.lemmas.Option.{none-some}
+use Rattle.plir_core.specs.declared.ptr.IRNode.{IRNode}
+use Rattle.plir_core.specs.declared.ptr.IRNode.TheVariants.{Operation, BasicBlock}
+use Rattle.plir_core.specs.Above.{Reaches}
+use Rattle.plir_core.specs.Grown.{IsGrown, Growth}
+use Rattle.plir_core.specs.Made.{KeepsLive, IsMade}
+use Rattle.plir_core.specs.NodeLists.{Has}
+use Rattle.plir_core.specs.Nodes.{Nodes}
+use Rattle.plir_core.specs.Placed.{IsPlaced}
+use Rattle.plir_core.specs.Standing.{IsStanding}
+use Rattle.plir_core.specs.Store.{Store, IsLive, kids, parent_of}
+use Rattle.plir_core.specs.Whole.{IsWhole}
+use Rattle.plir_text.specs.declared.fault.Fault.{Fault}
+use Rattle.plir_text.specs.declared.fault.Stop.{Stop}
+use Rattle.plir_text.specs.Names.{Grows}
+use Rattle.plir_text.specs.Growth.{Grows-itself, Grows-on}
+use Rattle.plir_text.specs.Fronts.{GoesOn, ends_at_item, closes, goes_on}
+use Rattle.plir_read.specs.Keeping.{KeepsBut, KeepsOlder}
+use Rattle.plir_read.specs.Stopping.{Stops}
+use Rattle.plir_read.proofs.Frames.{IsFrame, frame_made, frame_placed, kid_below}
+
+module _ {O B : Type 0} where
+  pub KeepsLive-itself : (s : Nodes O B) → KeepsLive s s
+  KeepsLive-itself s = record { live = λ m e. e; parents = λ m e. refl; ops = λ p e. refl; blocks = λ p e. refl; given = λ m e. e; limit = refl }
+
+  pub IsGrown-itself : (s : Nodes O B) (o : IRNode) → IsGrown s s o
+  IsGrown-itself s o = record {
+    keeps = KeepsLive-itself s;
+    kids = λ m e h. refl;
+    below = λ m e f. absurd (let z = sym e ∙ f in cc);
+    fresh = λ m e f. absurd (let z = sym e ∙ f in cc);
+  }
+
+module _ {K A T : Type 0} where
+  -- what has grown under a node keeps all but that one's kids
+  pub KeepsBut-grown : (s t : Store K A T) (over : IRNode) → IsGrown s.nodes t.nodes over → Grows s.types t.types → KeepsBut s t (Some over)
+  KeepsBut-grown s t over g y = record { keeps = g.keeps; kids = λ m e h. g.kids m e (λ q. h (ap (λ z. Some z) (sym q))); types = y }
+
+  pub KeepsBut-itself : (s : Store K A T) (but : Option IRNode) → KeepsBut s s but
+  KeepsBut-itself s but = record { keeps = KeepsLive-itself s.nodes; kids = λ m e h. refl; types = Grows-itself s.types }
+
+  pub KeepsLive-on : (s t u : Store K A T) → KeepsLive s.nodes t.nodes → KeepsLive t.nodes u.nodes → KeepsLive s.nodes u.nodes
+  KeepsLive-on s t u p q = record {
+    live = λ m e. q.live m (p.live m e);
+    parents = λ m e. q.parents m (p.live m e) ∙ p.parents m e;
+    ops = λ x e. q.ops x (p.live (Operation x) e) ∙ p.ops x e;
+    blocks = λ x e. q.blocks x (p.live (BasicBlock x) e) ∙ p.blocks x e;
+    given = λ m e. q.given m (p.given m e);
+    limit = q.limit ∙ p.limit;
+  }
+
+  -- what is kept on and on: `over` may have got kids at first, and `but` is that node, or was not live before
+  pub KeepsBut-on : (s t u : Store K A T) (over but : Option IRNode) → ((m : IRNode) → IsLive s m → (over ≡ Some m → ⊥) → but ≡ Some m → ⊥) → KeepsBut s t over → KeepsBut t u but → KeepsBut s u over
+  KeepsBut-on s t u over but new p q = record {
+    keeps = KeepsLive-on s t u p.keeps q.keeps;
+    kids = λ m e h. q.kids m (p.keeps.live m e) (new m e h) ∙ p.kids m e h;
+    types = Grows-on s.types t.types u.types p.types q.types;
+  }
+
+  -- X are things that nodes stand for: one by one, and in a list.
+  module _ (own : A → List ℕ) {X : Type 0} (One : Store K A T → IRNode → X → Type 0) (Many : Store K A T → List IRNode → List X → Type 0) (one_kept : (s t : Store K A T) (P : IRNode → Type 0) → IsFrame s t P → (n : IRNode) (x : X) → P n → One s n x → One t n x) (many_kept : (s t : Store K A T) (P : IRNode → Type 0) → IsFrame s t P → (ns : List IRNode) (xs : List X) → ((m : IRNode) → Has ns m → P m) → Many s ns xs → Many t ns xs) (push : (s : Store K A T) (ns : List IRNode) (xs : List X) (n : IRNode) (x : X) → Many s ns xs → One s n x → Many s (ns ++ n ∷ []) (xs ++ x ∷ [])) (goes : List ℕ → Result (Bool × List ℕ) Fault) (read : List ℕ → Result (X × List ℕ) Fault) where
+    -- from `first` to s nodes were put under `over`, and what is read goes on at `rest`
+    pub record Gathers (first s : Store K A T) (over : IRNode) (rest : List ℕ) (total : Result (List X × List ℕ) Fault) : Type 0 where
+      pub live : IsLive first over
+      pub grown : IsGrown first.nodes s.nodes over
+      pub types : Grows first.types s.types
+      pub whole : IsWhole own s
+      pub front : List X
+      pub stand : Many s (kids s over) front
+      pub turns : GoesOn goes read front rest total
+
+    -- the node n is made, from s to t, and put under `over`, from t to u
+    pub record Comes (s t u : Store K A T) (n over : IRNode) (x : X) : Type 0 where
+      pub made : IsMade s.nodes t.nodes n
+      pub kept : KeepsOlder s t
+      pub stands : One t n x
+      pub there : IsWhole own t
+      pub placed : IsPlaced t.nodes u.nodes n over (kids t over ++ n ∷ [])
+      pub types : u.types ≡ t.types
+
+    pub unlinked_apart : (first s t : Store K A T) (over n : IRNode) (rest : List ℕ) (total : Result (List X × List ℕ) Fault) → Gathers first s over rest total → IsMade s.nodes t.nodes n → Reaches (parent_of t) over n → ⊥
+    unlinked_apart first s t over n rest total g m r = m.apart over (g.grown.keeps.live over g.live) r
+
+    -- one of them was not read
+    pub not_one : (first s t : Store K A T) (over : IRNode) (rest : List ℕ) (total : Result (List X × List ℕ) Fault) → Gathers first s over rest total → KeepsOlder s t → KeepsBut first t (Some over)
+    not_one first s t over rest total g k = KeepsBut-on first s t (Some over) None (λ m e h q. none-some m q) (KeepsBut-grown first s over g.grown g.types) k
+
+    pub not_read : (first s : Store K A T) (over : IRNode) (rest : List ℕ) (total : Result (List X × List ℕ) Fault) (e : Stop) → Gathers first s over rest total → Stops e (read rest) → Stops e total
+    not_read first s over rest total e g h = ends_at_item goes read g.front rest total (Unit {0}) e g.turns h
+
+    module _ (standing : (s : Store K A T) → IsWhole own s → IsStanding s) where
+      comes_grown : (first s t u : Store K A T) (over n : IRNode) (x : X) (rest : List ℕ) (total : Result (List X × List ℕ) Fault) → Growth first.nodes → Growth s.nodes → Gathers first s over rest total → Comes s t u n over x → IsGrown first.nodes u.nodes over
+      comes_grown first s t u over n x rest total w v g c = w.twice s.nodes u.nodes over g.whole.forest g.grown (v.placed t.nodes u.nodes n over (kids t over ++ n ∷ []) c.made c.placed)
+
+      comes_types : (first s t u : Store K A T) (over n : IRNode) (x : X) (rest : List ℕ) (total : Result (List X × List ℕ) Fault) → Gathers first s over rest total → Comes s t u n over x → Grows first.types u.types
+      comes_types first s t u over n x rest total g c = subst (Grows first.types) (sym c.types) (Grows-on first.types s.types t.types g.types c.kept.types)
+
+      comes_stand : (first s t u : Store K A T) (over n : IRNode) (x : X) (rest : List ℕ) (total : Result (List X × List ℕ) Fault) (g : Gathers first s over rest total) → Comes s t u n over x → Many u (kids u over) (g.front ++ x ∷ [])
+      comes_stand first s t u over n x rest total g c =
+          let live = g.grown.keeps.live over g.live in
+          let before = standing s g.whole in
+          let now = standing t c.there in
+          let first_frame = frame_made s t n before c.made c.kept.types in
+          let second_frame = frame_placed t u n over (kids t over ++ n ∷ []) now c.placed c.types in
+          let same : kids t over ≡ kids s over = c.made.kids over live in
+          let here : Many t (kids t over) g.front = subst (λ z. Many t z g.front) (sym same) (many_kept s t (λ m. IsLive s m) first_frame (kids s over) g.front (λ m h. before.kid_live over m h) g.stand) in
+          let after : Many u (kids t over) g.front = many_kept t u (λ m. Reaches (parent_of t) over m → ⊥) second_frame (kids t over) g.front (λ m h. kid_below t now over m h) here in
+          let one : One u n x = one_kept t u (λ m. Reaches (parent_of t) over m → ⊥) second_frame n x (unlinked_apart first s t over n rest total g c.made) c.stands in
+          subst (λ z. Many u z (g.front ++ x ∷ [])) (sym c.placed.kids_over) (push u (kids t over) g.front n x after one)
+
+      pub one_more : (first s t u : Store K A T) (over n : IRNode) (x : X) (rest after behind : List ℕ) (total : Result (List X × List ℕ) Fault) → Growth first.nodes → Growth s.nodes → Gathers first s over rest total → Comes s t u n over x → IsWhole own u
+          → read rest ≡ Ok (x, after) → goes after ≡ Ok (true, behind) → length behind < length rest → Gathers first u over behind total
+      one_more first s t u over n x rest after behind total p q g c w e f lt = record {
+        live = g.live;
+        grown = comes_grown first s t u over n x rest total p q g c;
+        types = comes_types first s t u over n x rest total g c;
+        whole = w;
+        front = g.front ++ x ∷ [];
+        stand = comes_stand first s t u over n x rest total g c;
+        turns = goes_on goes read g.front rest total x after behind g.turns e f lt;
+      }
+
+      -- all of them were read
+      pub record Gathered (first u : Store K A T) (over : IRNode) (behind : List ℕ) (total : Result (List X × List ℕ) Fault) : Type 0 where
+        pub all : List X
+        pub gives : total ≡ Ok (all, behind)
+        pub stand : Many u (kids u over) all
+        pub grown : IsGrown first.nodes u.nodes over
+        pub kept : KeepsBut first u (Some over)
+
+      pub last_one : (first s t u : Store K A T) (over n : IRNode) (x : X) (rest after behind : List ℕ) (total : Result (List X × List ℕ) Fault) → Growth first.nodes → Growth s.nodes → Gathers first s over rest total → Comes s t u n over x
+          → read rest ≡ Ok (x, after) → goes after ≡ Ok (false, behind) → Gathered first u over behind total
+      last_one first s t u over n x rest after behind total p q g c e f =
+          let grown = comes_grown first s t u over n x rest total p q g c in
+          record {
+            all = g.front ++ x ∷ [];
+            gives = closes goes read g.front rest total x after behind g.turns e f;
+            stand = comes_stand first s t u over n x rest total g c;
+            grown = grown;
+            kept = KeepsBut-grown first u over grown (comes_types first s t u over n x rest total g c);
+          }

@@ -1,0 +1,9 @@
+pub mod Frames
+pub mod NamesGiven
+pub mod Gathered
+pub mod Loops
+pub mod OpFound
+pub mod OpAgain
+pub mod OpSteps
+pub mod OpMade
+pub mod OpWhole

@@ -1,0 +1,188 @@
+-- Operations and blocks that are made of what was read.
+use Rattle.std.proofs.Common.{◌≡◌, ℕ, zero, suc, append-nil, cond, is_none, option_map, true, false, Bool, List, [], ◌∷◌, Option, Some, None, inl, refl, sym, ap, subst, ◌∙◌}
+use Rattle.std.proofs.lemmas.Option.{same_Some}
+use Rattle.std.specs.List.{list_all}
+use Rattle.plir_data.specs.AttrView.{leaf, given_names}
+use Rattle.plir_data.specs.Dictionary.{dict_put}
+use Rattle.plir_data.specs.Types.{TypeView, AllLive}
+use Rattle.plir_core.specs.declared.ptr.Ptr.{Ptr}
+use Rattle.plir_core.specs.declared.ptr.BasicBlock.{BasicBlock as BlockKind}
+use Rattle.plir_core.specs.declared.ptr.Operation.{Operation as OperationKind}
+use Rattle.plir_core.specs.declared.ptr.Region.{Region as RegionKind}
+use Rattle.plir_core.specs.declared.ptr.IRNode.{IRNode}
+use Rattle.plir_core.specs.declared.ptr.IRNode.TheVariants.{Operation, Region, BasicBlock}
+use Rattle.plir_core.specs.Above.{climb}
+use Rattle.plir_core.specs.Changes.{SameLive}
+use Rattle.plir_core.specs.Contents.{OpView, BlockView}
+use Rattle.plir_core.specs.Held.{IsBlockEdited}
+use Rattle.plir_core.specs.Grown.{IsGrown, Growth}
+use Rattle.plir_core.specs.Made.{KeepsLive, IsMade}
+use Rattle.plir_core.specs.NodeLists.{Has}
+use Rattle.plir_core.specs.Nodes.{is_node_live, node_kids}
+use Rattle.plir_core.specs.Forest.{IsForest}
+use Rattle.plir_core.specs.Standing.{IsStanding}
+use Rattle.plir_core.specs.Store.{Store, IsLive, given_out, kids, parent_of, op_at}
+use Rattle.plir_text.specs.Growth.{Grows-itself, Names-grown, NamesAll-grown, Names-live, both_live}
+use Rattle.plir_text.specs.Terms.{no_types}
+use Rattle.plir_text.specs.Names.{Grows}
+use Rattle.plir_read.specs.Heads.{IsHead, IsHeadLive, op_with, argument_types, names_attributes, IsBlockHead, block_with}
+use Rattle.plir_read.specs.Keys.{names_key}
+use Rattle.plir_read.specs.Keeping.{KeepsBut, KeepsOlder, IsNewOp, IsNewBlock}
+use Rattle.plir_read.specs.OpTerms.{Head, module_head, func_head, BlockHead, op_term, BlockTerm, blocks_of}
+use Rattle.plir_read.specs.OpsStanding.{IsHeadAt, IsBlockHeadAt, IsOpAt, AreBlocksAt}
+use Rattle.plir_read.specs.Suffixes.{given_name}
+use Rattle.plir_read.specs.declared.arguments.BlockHeadData.{BlockHeadData}
+use Rattle.plir_read.specs.declared.heads.HeadData.{HeadData}
+use Rattle.plir_read.specs.declared.heads.HeadData.TheVariants.{Module, Func}
+use Rattle.plir_read.specs.declared.names.Suffix.TheVariants as Suffix
+use Rattle.plir_read.proofs.Gathered.{KeepsLive-itself, KeepsBut-on}
+
+module _ {K A T : Type 0} where
+  -- a tree that was made keeps all that is older
+  pub KeepsOlder-made : (s t : Store K A T) (n : IRNode) → IsMade s.nodes t.nodes n → t.types ≡ s.types → KeepsOlder s t
+  KeepsOlder-made s t n m e = record { keeps = m.keeps; kids = λ x f h. m.kids x f; types = subst (Grows s.types) (sym e) (Grows-itself s.types) }
+
+  -- so does what changes no live node
+  pub KeepsOlder-same : (s t : Store K A T) → SameLive s t → ((n : IRNode) → given_out s n ≡ true → given_out t n ≡ true) → KeepsOlder s t
+  KeepsOlder-same s t p given = record {
+    keeps = record {
+      live = λ m e. p.nodes.live m ∙ e;
+      parents = λ m e. p.nodes.parents m;
+      ops = λ q e. p.nodes.ops q e;
+      blocks = λ q e. p.nodes.blocks q e;
+      given = given;
+      limit = p.nodes.limit;
+    };
+    kids = λ m e h. p.nodes.kids m;
+    types = subst (Grows s.types) (sym p.types) (Grows-itself s.types);
+  }
+
+  -- and what makes types alone
+  pub KeepsOlder-typed : (s t : Store K A T) → t.nodes ≡ s.nodes → Grows s.types t.types → KeepsOlder s t
+  KeepsOlder-typed s t e g = record {
+    keeps = subst (KeepsLive s.nodes) (sym e) (KeepsLive-itself s.nodes);
+    kids = λ m f h. ap (λ z. node_kids z m) e;
+    types = g;
+  }
+
+  -- one behind the other
+  pub KeepsOlder-on : (s t u : Store K A T) → KeepsOlder s t → KeepsOlder t u → KeepsOlder s u
+  KeepsOlder-on s t u p q = KeepsBut-on s t u None None (λ m e h. h) p q
+
+  -- what is new is not what was live
+  new_apart : (s : Store K A T) (n m : IRNode) → is_node_live s.nodes n ≡ false → IsLive s m → Some n ≡ Some m → ⊥
+  new_apart s n m new e q = let f = subst (λ z. IsLive s z) (sym (same_Some n m q)) e in let z = sym f ∙ new in cc
+
+  -- a tree that was made, and what came under a part of it
+  pub part_kept : (s t u : Store K A T) (n o : IRNode) → IsMade s.nodes t.nodes n → is_node_live s.nodes o ≡ false → t.types ≡ s.types → KeepsBut t u (Some o) → KeepsOlder s u
+  part_kept s t u n o m new e k = KeepsBut-on s t u None (Some o) (λ x f h q. new_apart s o x new f q) (KeepsOlder-made s t n m e) k
+
+  -- a tree that was made, and what came under its root
+  pub root_grown : (s t u : Store K A T) (n : IRNode) → Growth s.nodes → IsForest t.nodes → IsMade s.nodes t.nodes n → IsGrown t.nodes u.nodes n → IsMade s.nodes u.nodes n
+  root_grown s t u n w f m g = w.made t.nodes u.nodes n n f m m.root m.new g
+
+  -- ---- a block
+
+  -- From a to s types were read; from s to t the block was made, and from t to u its operations.
+  module _ (a s t u : Store K A T) (p : Ptr BlockKind) (h : BlockHeadData) (same : s.nodes ≡ a.nodes) (types : Grows a.types s.types) (n : IsNewBlock s t p (block_with h)) where
+    pub block_kept : KeepsBut t u (Some (BasicBlock p)) → KeepsOlder a u
+    block_kept k = KeepsOlder-on a s u (KeepsOlder-typed a s same types) (part_kept s t u (BasicBlock p) (BasicBlock p) n.made n.made.new n.types k)
+
+    pub block_made : Growth s.nodes → IsForest t.nodes → IsGrown t.nodes u.nodes (BasicBlock p) → IsMade a.nodes u.nodes (BasicBlock p)
+    block_made growth f g = subst (λ z. IsMade z u.nodes (BasicBlock p)) same (root_grown s t u (BasicBlock p) growth f n.made g)
+
+    pub block_stands : (b : BlockHead) → IsBlockHead s.types h b → KeepsBut t u (Some (BasicBlock p)) → IsBlockHeadAt u (BasicBlock p) b
+    block_stands b is k = (
+      h.arguments.types.items,
+      NamesAll-grown s.types u.types h.arguments.types.items (argument_types b.1) (subst (λ z. Grows z u.types) n.types k.types) is.arguments.typed,
+      k.keeps.blocks p n.made.root ∙ n.held
+          ∙ ap (λ l. let v : BlockView A = record { label = l; arg_types = h.arguments.types.items; attributes = names_attributes h.arguments.names.items } in Some v) is.label
+          ∙ ap (λ l. let v : BlockView A = record { label = given_name Suffix.Block b.0; arg_types = h.arguments.types.items; attributes = names_attributes l } in Some v) is.arguments.named,
+    )
+
+  -- a new block is edited
+  climb_same : (t u : Store K A T) → ((m : IRNode) → parent_of u m ≡ parent_of t m) → (k : ℕ) (x : Option IRNode) → climb (parent_of u) k x ≡ climb (parent_of t) k x
+  climb_same t u e zero x = refl
+  climb_same t u e (suc k) None = refl
+  climb_same t u e (suc k) (Some m) = ap (climb (parent_of u) k) (e m) ∙ climb_same t u e k (parent_of t m)
+
+  pub IsNewBlock-edited : (s t u : Store K A T) (p : Ptr BlockKind) (v : BlockView A) (f : BlockView A → BlockView A) → IsNewBlock s t p v → IsBlockEdited t u p f → IsNewBlock s u p (f v)
+  IsNewBlock-edited s t u p v f n e = record {
+    made = record {
+      keeps = record {
+        live = λ m h. e.keeps.live m ∙ n.made.keeps.live m h;
+        parents = λ m h. e.keeps.parents m ∙ n.made.keeps.parents m h;
+        ops = λ q h. e.ops q ∙ n.made.keeps.ops q h;
+        blocks = λ q h. e.blocks q (n.made.keeps.live (BasicBlock q) h) (λ z. live_or_not (is_node_live s.nodes (BasicBlock q)) h (ap (λ y. is_node_live s.nodes (BasicBlock y)) z ∙ n.made.new)) ∙ n.made.keeps.blocks q h;
+        given = λ m h. e.keeps.given m ∙ n.made.keeps.given m h;
+        limit = e.keeps.limit ∙ n.made.keeps.limit;
+      };
+      kids = λ m h. e.keeps.kids m ∙ n.made.kids m h;
+      new = n.made.new;
+      root = e.keeps.live (BasicBlock p) ∙ n.made.root;
+      top = e.keeps.parents (BasicBlock p) ∙ n.made.top;
+      below = λ m h g. (let r = n.made.below m (sym (e.keeps.live m) ∙ h) g in (r.0, climb_same t u e.keeps.parents r.0 (Some m) ∙ r.1));
+      fresh = λ m h g. n.made.fresh m (sym (e.keeps.live m) ∙ h) g;
+      apart = λ m h r. n.made.apart m h (r.0, sym (climb_same t u e.keeps.parents r.0 (Some m)) ∙ r.1);
+    };
+    held = e.held ∙ ap (option_map f) n.held;
+    empty = e.keeps.kids (BasicBlock p) ∙ n.empty;
+    types = e.keeps.types ∙ n.types;
+  }
+    where
+      live_or_not : (b : Bool) → b ≡ true → b ≡ false → ⊥
+      live_or_not b p q = let z = sym p ∙ q in cc
+
+  -- a new block whose arguments have a name
+  pub named_block : (s t : Store K A T) (p : Ptr BlockKind) (h : BlockHeadData) → list_all is_none h.arguments.names.items ≡ false
+      → IsNewBlock s t p (record { label = h.label; arg_types = h.arguments.types.items; attributes = dict_put [] names_key (leaf (given_names h.arguments.names.items)) }) → IsNewBlock s t p (block_with h)
+  named_block s t p h set n = record {
+    made = n.made;
+    held = n.held ∙ ap (λ b. let v : BlockView A = record { label = h.label; arg_types = h.arguments.types.items; attributes = cond b [] (dict_put [] names_key (leaf (given_names h.arguments.names.items))) } in Some v) (sym set);
+    empty = n.empty;
+    types = n.types;
+  }
+
+  -- ---- an operation
+
+  pub body_above : (t : Store K A T) (p : Ptr OperationKind) (r : Ptr RegionKind) → IsStanding t → kids t (Operation p) ≡ Region r ∷ [] → parent_of t (Region r) ≡ Some (Operation p)
+  body_above t p r w e = w.kid_parent (Operation p) (Region r) (subst (λ z. Has z (Region r)) (sym e) (inl refl))
+
+  pub body_new : (s t : Store K A T) (p : Ptr OperationKind) (r : Ptr RegionKind) (v : OpView K A) → IsStanding t → IsNewOp s t p r v → is_node_live s.nodes (Region r) ≡ false
+  body_new s t p r v w n = at (is_node_live s.nodes (Region r)) refl
+    where
+      at : (b : Bool) → is_node_live s.nodes (Region r) ≡ b → is_node_live s.nodes (Region r) ≡ false
+      at true e = absurd (n.made.apart (Region r) e (1, body_above t p r w n.body))
+      at false e = e
+
+  -- From a to s types were read; from s to t the operation was made, and from t to u its blocks.
+  module _ (a s t u : Store K A T) (p : Ptr OperationKind) (r : Ptr RegionKind) (v : OpView K A) (w : IsStanding t) (same : s.nodes ≡ a.nodes) (types : Grows a.types s.types) (n : IsNewOp s t p r v) where
+    pub op_kept : KeepsBut t u (Some (Region r)) → KeepsOlder a u
+    op_kept k = KeepsOlder-on a s u (KeepsOlder-typed a s same types) (part_kept s t u (Operation p) (Region r) n.made (body_new s t p r v w n) n.types k)
+
+    pub op_made : Growth s.nodes → IsForest t.nodes → IsGrown t.nodes u.nodes (Region r) → IsMade a.nodes u.nodes (Operation p)
+    op_made growth f g = subst (λ z. IsMade z u.nodes (Operation p)) same (growth.made t.nodes u.nodes (Operation p) (Region r) f n.made n.live (body_new s t p r v w n) g)
+
+    head_stands : (h : HeadData) (d : Head) → IsHead s.types h d → Grows s.types u.types → op_at u p ≡ Some (op_with h) → IsHeadAt u (Operation p) d
+    head_stands (Module name) (module_head w) h g e = e ∙ ap (λ z. Some (op_with (Module z))) h
+    head_stands (Module name) (func_head w t) h g e = absurd h
+    head_stands (Func name handle) (module_head w) h g e = absurd h
+    head_stands (Func name handle) (func_head w t) h g e = (handle, Names-grown s.types u.types handle t g h.1, e ∙ ap (λ z. Some (op_with (Func z handle))) h.0)
+
+    pub op_stands : (h : HeadData) (d : Head) (bs : List BlockTerm) → IsHead s.types h d → v ≡ op_with h → KeepsBut t u (Some (Region r)) → AreBlocksAt u (kids u (Region r)) (blocks_of bs) → IsOpAt u (Operation p) (op_term d (blocks_of bs))
+    op_stands h d bs is e k b = (
+      Region r,
+      head_stands h d is (subst (λ z. Grows z u.types) n.types k.types) (k.keeps.ops p n.made.root ∙ n.held ∙ ap (λ z. Some z) e),
+      k.kids (Operation p) n.made.root (λ q. let f = same_Some (Region r) (Operation p) q in cc) ∙ n.body,
+      b,
+    )
+
+-- handles that name types are live
+pub arguments_live : {T : Type 0} (types : List (TypeView T)) (h : BlockHeadData) (b : BlockHead) → IsBlockHead types h b → AllLive types h.arguments.types.items
+arguments_live types h b is = subst (AllLive types) (append-nil h.arguments.types.items) (both_live types h.arguments.types.items [] (argument_types b.1) no_types is.arguments.typed refl)
+
+pub head_live : {T : Type 0} (types : List (TypeView T)) (h : HeadData) (d : Head) → IsHead types h d → IsHeadLive types h
+head_live types (Module name) (module_head w) e = tt
+head_live types (Module name) (func_head w t) e = absurd e
+head_live types (Func name handle) (module_head w) e = absurd e
+head_live types (Func name handle) (func_head w t) e = Names-live types handle t e.1

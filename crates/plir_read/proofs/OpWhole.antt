@@ -1,0 +1,46 @@
+-- Readers of whole texts of operations, and what they refuse.
+use Rattle.std.proofs.Common.{◌≡◌, ℕ, List, Result, Ok, Err, refl, sym, ap, ◌∙◌}
+use Rattle.plir_text.specs.declared.fault.Fault.{Fault}
+use Rattle.plir_text.specs.declared.fault.Stop.{Stop}
+use Rattle.plir_text.specs.declared.fault.Stop.TheVariants.{Wanting, Crowded, At}
+use Rattle.plir_text.specs.ListsAgain.{refused}
+use Rattle.plir_text.specs.ListsFound.{whole_found}
+use Rattle.plir_text.specs.Reading.{Fails, fault_of}
+use Rattle.plir_text.specs.StepLaws.{done}
+use Rattle.plir_text.specs.Steps.{◌>>=◌}
+use Rattle.plir_text.specs.TypeGrammar.{IsText}
+use Rattle.plir_text.specs.Wholes.{end_at, whole}
+use Rattle.plir_read.specs.OpGrammar.{PlainOpWithin}
+use Rattle.plir_read.specs.OpReading.{op_at}
+use Rattle.plir_read.specs.OpTerms.{OpTerm}
+use Rattle.plir_read.specs.Stopping.{Stops, IsOfText}
+use Rattle.plir_read.proofs.OpAgain.{op_within_again}
+use Rattle.plir_read.proofs.OpFound.{op_found}
+use Rattle.plir_read.proofs.OpSteps.{Stops-of, Stops-bind, Stops-from}
+
+pub op_text_found : (n : ℕ) (bytes : List ℕ) (w : OpTerm) → whole (op_at n) bytes ≡ Ok w → IsText (PlainOpWithin n) bytes w
+op_text_found n bytes w e = whole_found (PlainOpWithin n) 41 (op_at n) (op_found n) bytes w e
+
+pub op_text_refused : (n : ℕ) (bytes : List ℕ) (f : Fault) → whole (op_at n) bytes ≡ Err f → (w : OpTerm) → IsText (PlainOpWithin n) bytes w → ⊥
+op_text_refused n bytes f e w s = refused (op_at n) (PlainOpWithin n) (op_within_again n) bytes f e w s
+
+-- a fault that is told is the one that was met
+pub told : {X : Type 0} (stop : Stop) (f : Fault) (read : Result X Fault) → f ≡ fault_of stop → Stops stop read → IsOfText f → read ≡ Err f
+told Wanting f read e h is = absurd (is.0 e)
+told Crowded f read e h is = absurd (is.1 e)
+told (At g left) f read e h is = h ∙ ap (λ k. Err k) (sym e)
+
+module _ {A : Type 0} (read : List ℕ → Result (A × List ℕ) Fault) (bytes : List ℕ) where
+  pub whole_stops : (e : Stop) → Stops e (read bytes) → Stops e (whole read bytes)
+  unfolding whole
+  whole_stops e h = Stops-bind e (read bytes) (λ x. end_at x.1 >>= λ u. Ok x.0) h
+
+  pub whole_stops_behind : (e : Stop) (x : A) (rest : List ℕ) → read bytes ≡ Ok (x, rest) → Fails e (end_at rest) → Stops e (whole read bytes)
+  unfolding whole
+  whole_stops_behind e x rest p h =
+      let q : (end_at rest >>= λ u. done x) ≡ whole read bytes = rw p refl in
+      Stops-from e _ _ q (Stops-bind e (end_at rest) (λ u. done x) (Stops-of e (end_at rest) h))
+
+  pub whole_read : (x : A) (rest : List ℕ) (u : Unit {0}) → read bytes ≡ Ok (x, rest) → end_at rest ≡ Ok u → whole read bytes ≡ Ok x
+  unfolding whole
+  whole_read x rest u p q = rw (p, q) refl

@@ -1,0 +1,12 @@
+use Rattle.std.proofs.Common.{refl}
+use Rattle.plir_text.specs.TypeSteps.{behind_is}
+use Rattle.plir_read.proofs.OpSteps.{block_head_is}
+use Rattle.plir_read.proofs.arguments.read_block_head.Goals as goal
+
+pub returns-in_ok-label-in-Ok-clause-read : goal.returns-in_ok-label-in-Ok-clause-read
+returns-in_ok-label-in-Ok-clause-read g c =
+    let y = c.in-Ok.ensures.read in (
+      ((c.in_ok-name.name, y.0.0), c.in_ok-end-in-Ok.end.now),
+      block_head_is c.args.levels _ _ _ _ _ _ y.0.0 c.in_ok-start.ensures c.in_ok-name.ensures (behind_is _ y.0 c.in-Ok.read.1.now y.1 y.2.1) c.in_ok-end-in-Ok.ensures,
+      (record { label = c.in_ok-label-in-Ok.ensures.given; arguments = y.2.0 }, refl),
+    )

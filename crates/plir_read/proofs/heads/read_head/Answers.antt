@@ -1,0 +1,15 @@
+use Rattle.std.proofs.Common.{refl, ap, ◌∙◌}
+use Rattle.plir_text.specs.TypeSteps.{behind_is}
+use Rattle.plir_read.specs.OpTerms.{module_head, func_head}
+use Rattle.plir_read.specs.OpReading.{head_at}
+use Rattle.plir_read.proofs.OpSteps.{module_read, func_read}
+use Rattle.plir_read.proofs.heads.read_head.Goals as goal
+
+pub returns-in_ok-name-in-Module-clause-read : goal.returns-in_ok-name-in-Module-clause-read
+returns-in_ok-name-in-Module-clause-read g c =
+    ((module_head c.in_ok-name-in-Module.name, c.in_ok-name-in-Module.rest.now), ap (λ k. head_at c.args.levels k c.args.bytes.now) c.in-Module.is ∙ module_read c.args.levels _ _ _ c.in_ok-name-in-Module.ensures, (refl, refl))
+
+pub returns-in-Ok-clause-read : goal.returns-in-Ok-clause-read
+returns-in-Ok-clause-read g c =
+    let y = c.in-Ok.ensures.read in
+    ((func_head c.in_ok-name-in-Func.name y.0.0, c.in-Ok.read.1.now), ap (λ k. head_at c.args.levels k c.args.bytes.now) c.in-Func.is ∙ func_read c.args.levels _ _ _ _ _ y.0.0 c.in_ok-name-in-Func.ensures c.in_ok-colon-in-Func.ensures (behind_is _ y.0 c.in-Ok.read.1.now y.1 y.2.1), ((refl, y.2.0), refl))

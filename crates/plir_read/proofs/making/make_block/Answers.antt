@@ -1,0 +1,18 @@
+use Rattle.std.proofs.Common.{◌≡◌, false, is_none, ap, sym, subst, ◌∙◌}
+use Rattle.std.specs.List.{list_all}
+use Rattle.plir_data.specs.AttrView.{leaf, given_names}
+use Rattle.plir_data.specs.Dictionary.{dict_put}
+use Rattle.plir_core.specs.Contents.{BlockView}
+use Rattle.plir_core.specs.Held.{IsBlockEdited}
+use Rattle.plir_read.specs.Keys.{names_key}
+use Rattle.plir_read.proofs.OpMade.{IsNewBlock-edited, named_block}
+use Rattle.plir_read.proofs.making.make_block.Goals as goal
+
+pub returns-clause-made : goal.returns-clause-made
+returns-clause-made g c =
+    let f : BlockView g.row.D-Attr.Denot → BlockView g.row.D-Attr.Denot = λ b. record b { attributes = dict_put b.attributes names_key (leaf (given_names c.args.head.arguments.names.items)) } in
+    let b = c.in-Ok.ensures in
+    let edited = subst (λ z. IsBlockEdited c.new.new.ctx z c.in-Ok.block f) (sym c.in_ok-put_names.ensures.put) (c.block_edits_keep_the_rest.ensures f) in
+    let set : list_all is_none c.args.head.arguments.names.items ≡ false = ap (list_all is_none) (sym c.as_slice.ensures.value) ∙ sym c.all_unset-unset.ensures ∙ c.if-unset.false in
+    named_block c.args.ctx.now c.put_names.new.ctx c.in-Ok.block c.args.head set
+    (IsNewBlock-edited c.args.ctx.now c.new.new.ctx c.put_names.new.ctx c.in-Ok.block _ f (record { made = b.made; held = b.held; empty = b.empty; types = ap (λ z. z.types) b.ok }) edited)

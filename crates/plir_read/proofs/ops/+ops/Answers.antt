@@ -1,0 +1,217 @@
+use Rattle.std.proofs.Common.{◌-◌, ◌∙◌, length, [], None, Ok, refl, sym, ap, arith}
+use Rattle.std.proofs.lemmas.Result.{err_from_is_err_and}
+use Rattle.plir_core.specs.declared.ptr.IRNode.TheVariants.{Operation, Region, BasicBlock}
+use Rattle.plir_text.specs.Growth.{Grows-itself}
+use Rattle.plir_text.specs.TypeSteps.{behind_is}
+use Rattle.plir_read.specs.OpTerms.{op_term, blocks_of}
+use Rattle.plir_read.specs.OpReading.{op_at, block_at, semicolon_at, brace_at}
+use Rattle.plir_read.proofs.Gathered as gathered
+use Rattle.plir_read.proofs.Gathered.{IsGrown-itself, KeepsBut-itself}
+use Rattle.plir_read.proofs.OpFound.{op_at-shorter, block_at-shorter, semicolon_at-shorter, brace_at-shorter}
+use Rattle.plir_read.proofs.OpMade.{arguments_live, block_kept, block_made, block_stands, op_kept, op_made, op_stands, head_live, KeepsOlder-typed, KeepsOlder-on}
+use Rattle.plir_read.proofs.OpSteps.{Stops-from, from_start, op_at-behind, no_id, no_head, no_body, op_read, too_deep, no_operations, operations, no_block_head, no_block, block_read, no_brace, no_blocks_inside, blocks}
+use Rattle.plir_read.proofs.ops.+ops.Goals as goal
+
+-- ---- a block
+
+pub read_block-returns-in_err-head-clause-read : goal.read_block-returns-in_err-head-clause-read
+read_block-returns-in_err-head-clause-read g t c =
+    let p = err_from_is_err_and c.from_residual.result c.from_residual.ensures.1 in
+    rw (p.1, p.2) (no_block_head (op_at c.args.levels) c.args.levels c.in_err-head.field-0.0 c.args.bytes.now c.in_err-head.ensures.read)
+
+pub read_block-make_block-requires : goal.read_block-make_block-requires
+read_block-make_block-requires g t c =
+    let y = c.in_ok-head.ensures.read in
+    arguments_live _ _ y.0.0 y.2.0
+
+pub read_block-returns-in_err-block-clause-kept : goal.read_block-returns-in_err-block-clause-kept
+read_block-returns-in_err-block-clause-kept g t c = KeepsOlder-on _ _ _ (KeepsOlder-typed c.args.ctx.now c.read_block_head-read.new.ctx c.in_ok-head.ensures.rest c.in_ok-head.ensures.grown) c.in_err-block.ensures.kept
+
+pub read_block-returns-in-Ok-clause-read : goal.read_block-returns-in-Ok-clause-read
+read_block-returns-in-Ok-clause-read g t c =
+    let h = c.in_ok-head.ensures.read in
+    let y = c.in-Ok.ensures.read in (
+      ((h.0.0, y.0.0), c.in-Ok.end.now),
+      block_read (op_at c.args.levels) c.args.levels _ h.0.0 _ _ y.0.0 (behind_is _ h.0 c.in_ok-head.rest.now h.1 h.2.1) (behind_is _ y.0 c.in-Ok.end.now y.1 y.2.1),
+      (record { head = block_stands c.args.ctx.now c.read_block_head-read.new.ctx c.make_block.new.ctx c.read_ops.new.ctx c.in_ok-block.block c.in_ok-head.head c.in_ok-head.ensures.rest c.in_ok-head.ensures.grown c.in_ok-block.ensures.made h.0.0 h.2.0 c.in-Ok.ensures.kept; ops = y.2.0 }, refl),
+    )
+
+pub read_block-returns-in-Ok-clause-made : goal.read_block-returns-in-Ok-clause-made
+read_block-returns-in-Ok-clause-made g t c = block_made c.args.ctx.now c.read_block_head-read.new.ctx c.make_block.new.ctx c.read_ops.new.ctx c.in_ok-block.block c.in_ok-head.head c.in_ok-head.ensures.rest c.in_ok-head.ensures.grown c.in_ok-block.ensures.made c.growth.ensures c.in_ok-block.ensures.whole.forest c.in-Ok.ensures.grown
+
+pub read_block-returns-in-Ok-clause-kept : goal.read_block-returns-in-Ok-clause-kept
+read_block-returns-in-Ok-clause-kept g t c = block_kept c.args.ctx.now c.read_block_head-read.new.ctx c.make_block.new.ctx c.read_ops.new.ctx c.in_ok-block.block c.in_ok-head.head c.in_ok-head.ensures.rest c.in_ok-head.ensures.grown c.in_ok-block.ensures.made c.in-Ok.ensures.kept
+
+pub read_block-returns-in-Err-clause-kept : goal.read_block-returns-in-Err-clause-kept
+read_block-returns-in-Err-clause-kept g t c = block_kept c.args.ctx.now c.read_block_head-read.new.ctx c.make_block.new.ctx c.read_ops.new.ctx c.in_ok-block.block c.in_ok-head.head c.in_ok-head.ensures.rest c.in_ok-head.ensures.grown c.in_ok-block.ensures.made c.in-Err.ensures.kept
+
+pub read_block-returns-in-Err-clause-read : goal.read_block-returns-in-Err-clause-read
+read_block-returns-in-Err-clause-read g t c =
+    let h = c.in_ok-head.ensures.read in
+    no_block (op_at c.args.levels) c.args.levels c.in-Err.stop _ h.0.0 _ (behind_is _ h.0 c.in_ok-head.rest.now h.1 h.2.1) c.in-Err.ensures.read
+
+-- ---- the blocks of a region
+
+pub read_body-returns-in_err-start-clause-read : goal.read_body-returns-in_err-start-clause-read
+read_body-returns-in_err-start-clause-read g t c =
+    let p = err_from_is_err_and c.from_residual.result c.from_residual.ensures.1 in
+    rw (p.1, p.2) (no_brace (op_at c.args.levels) c.args.levels c.in_err-start.field-0.0 c.args.bytes.now c.in_err-start.ensures)
+
+pub read_body-returns-in_err-start-clause-kept : goal.read_body-returns-in_err-start-clause-kept
+read_body-returns-in_err-start-clause-kept g t c = KeepsBut-itself _ _
+
+pub read_body-returns-in-Some-clause-read : goal.read_body-returns-in-Some-clause-read
+read_body-returns-in-Some-clause-read g t c = (([], c.in-Some.rest.now), no_blocks_inside (op_at c.args.levels) c.args.levels _ _ _ c.in_ok-start.ensures (sym c.in-Some.ensures), (c.requires.empty, refl))
+
+pub read_body-returns-in-Some-clause-kept : goal.read_body-returns-in-Some-clause-kept
+read_body-returns-in-Some-clause-kept g t c = KeepsBut-itself _ _
+
+pub read_body-inner-init : goal.read_body-inner-init
+read_body-inner-init g t c = record {
+  live = c.requires.live;
+  grown = IsGrown-itself _ _;
+  types = Grows-itself _;
+  whole = c.num_live-before.ensures.whole;
+  front = [];
+  stand = c.requires.empty;
+  turns = from_start brace_at (block_at (op_at c.args.levels) c.args.levels) c.in_ok-start.start.now _ (blocks (op_at c.args.levels) c.args.levels _ _ c.in_ok-start.ensures (sym c.in_default.ensures));
+}
+
+pub read_body-returns-in-Err-clause-read : goal.read_body-returns-in-Err-clause-read
+read_body-returns-in-Err-clause-read g t c = gathered.not_read _ _ _ _ _ _ _ _ _ _ _ _ _ c.in-Err.stop c.inner.invariant c.in-Err.ensures.read
+
+pub read_body-returns-in-Err-clause-kept : goal.read_body-returns-in-Err-clause-kept
+read_body-returns-in-Err-clause-kept g t c = gathered.not_one _ _ _ _ _ _ _ _ _ _ _ _ _ _ c.inner.invariant c.in-Err.ensures.kept
+
+pub read_body-insert_at_back-requires-clause-target_live : goal.read_body-insert_at_back-requires-clause-target_live
+read_body-insert_at_back-requires-clause-target_live g t c =
+    let i = c.inner.invariant in
+    c.in-Ok.ensures.kept.keeps.live (Region c.args.region) (i.grown.keeps.live (Region c.args.region) i.live)
+
+pub read_body-insert_at_back-requires-clause-not_above : goal.read_body-insert_at_back-requires-clause-not_above
+read_body-insert_at_back-requires-clause-not_above g t c = gathered.unlinked_apart _ _ _ _ _ _ _ _ c.args.ctx.now c.inner.ctx c.read_block.new.ctx (Region c.args.region) (BasicBlock c.in-Ok.read.0) _ _ c.inner.invariant c.in-Ok.ensures.made
+
+pub read_body-inner-smaller : goal.read_body-inner-smaller
+read_body-inner-smaller g t c =
+    let y = c.in-Ok.ensures.read in
+    omega (arith, block_at-shorter c.args.levels c.inner.rest.now y.0 y.1, ap length y.2.1, brace_at-shorter c.in-Ok.read.1.now _ c.past_brace-goes_on.ensures)
+
+pub read_body-inner-preserved : goal.read_body-inner-preserved
+read_body-inner-preserved g t c =
+    let y = c.in-Ok.ensures.read in
+    gathered.one_more _ _ _ _ _ _ _ _ c.contexts_stand.ensures c.args.ctx.now c.inner.ctx c.read_block.new.ctx c.insert_at_back.new.ctx (Region c.args.region) (BasicBlock c.in-Ok.read.0) y.0.0 c.inner.rest.now c.in-Ok.read.1.now c.past_brace-goes_on.result.1.now _ c.growth.ensures c.growth-in-inner.ensures c.inner.invariant
+    (record { made = c.in-Ok.ensures.made; kept = c.in-Ok.ensures.kept; stands = y.2.0; there = c.in-Ok.ensures.whole; placed = c.insert_at_back.ensures.placed; types = ap (λ z. z.types) c.insert_at_back.ensures.after })
+    c.insert_at_back.ensures.whole (behind_is _ y.0 c.in-Ok.read.1.now y.1 y.2.1) (c.past_brace-goes_on.ensures ∙ ap (λ b. Ok (b, c.past_brace-goes_on.result.1.now)) c.if-goes_on.true) (read_body-inner-smaller g t c)
+
+pub read_body-returns-else-goes_on : goal.read_body-returns-else-goes_on
+read_body-returns-else-goes_on g t c =
+    let y = c.in-Ok.ensures.read in
+    let r = gathered.last_one _ _ _ _ _ _ _ _ c.contexts_stand.ensures c.args.ctx.now c.inner.ctx c.read_block.new.ctx c.insert_at_back.new.ctx (Region c.args.region) (BasicBlock c.in-Ok.read.0) y.0.0 c.inner.rest.now c.in-Ok.read.1.now c.past_brace-goes_on.result.1.now _ c.growth.ensures c.growth-in-inner.ensures c.inner.invariant
+    (record { made = c.in-Ok.ensures.made; kept = c.in-Ok.ensures.kept; stands = y.2.0; there = c.in-Ok.ensures.whole; placed = c.insert_at_back.ensures.placed; types = ap (λ z. z.types) c.insert_at_back.ensures.after })
+    (behind_is _ y.0 c.in-Ok.read.1.now y.1 y.2.1) (c.past_brace-goes_on.ensures ∙ ap (λ b. Ok (b, c.past_brace-goes_on.result.1.now)) c.if-goes_on.false) in
+    record { read = ((r.all, c.past_brace-goes_on.result.1.now), r.gives, (r.stand, refl)); grown = r.grown; kept = r.kept; whole = c.insert_at_back.ensures.whole }
+
+-- ---- the operations of a block
+
+pub read_ops-returns-then-ends_block-clause-read : goal.read_ops-returns-then-ends_block-clause-read
+read_ops-returns-then-ends_block-clause-read g t c = (([], c.args.bytes.now), no_operations (op_at c.args.levels) _ (sym c.ends_block.ensures ∙ c.if-ends_block.true), (c.requires.empty, refl))
+
+pub read_ops-returns-then-ends_block-clause-kept : goal.read_ops-returns-then-ends_block-clause-kept
+read_ops-returns-then-ends_block-clause-kept g t c = KeepsBut-itself _ _
+
+pub read_ops-ops-init : goal.read_ops-ops-init
+read_ops-ops-init g t c = record {
+  live = c.requires.live;
+  grown = IsGrown-itself _ _;
+  types = Grows-itself _;
+  whole = c.num_live-before.ensures.whole;
+  front = [];
+  stand = c.requires.empty;
+  turns = from_start semicolon_at (op_at c.args.levels) c.args.bytes.now _ (operations (op_at c.args.levels) _ (sym c.ends_block.ensures ∙ c.if-ends_block.false));
+}
+
+pub read_ops-returns-in-Err-clause-read : goal.read_ops-returns-in-Err-clause-read
+read_ops-returns-in-Err-clause-read g t c = gathered.not_read _ _ _ _ _ _ _ _ _ _ _ _ _ c.in-Err.stop c.ops.invariant c.in-Err.ensures.read
+
+pub read_ops-returns-in-Err-clause-kept : goal.read_ops-returns-in-Err-clause-kept
+read_ops-returns-in-Err-clause-kept g t c = gathered.not_one _ _ _ _ _ _ _ _ _ _ _ _ _ _ c.ops.invariant c.in-Err.ensures.kept
+
+pub read_ops-insert_at_back-requires-clause-target_live : goal.read_ops-insert_at_back-requires-clause-target_live
+read_ops-insert_at_back-requires-clause-target_live g t c =
+    let i = c.ops.invariant in
+    c.in-Ok.ensures.kept.keeps.live (BasicBlock c.args.block) (i.grown.keeps.live (BasicBlock c.args.block) i.live)
+
+pub read_ops-insert_at_back-requires-clause-not_above : goal.read_ops-insert_at_back-requires-clause-not_above
+read_ops-insert_at_back-requires-clause-not_above g t c = gathered.unlinked_apart _ _ _ _ _ _ _ _ c.args.ctx.now c.ops.ctx c.read_op_at.new.ctx (BasicBlock c.args.block) (Operation c.in-Ok.read.0) _ _ c.ops.invariant c.in-Ok.ensures.made
+
+pub read_ops-ops-smaller : goal.read_ops-ops-smaller
+read_ops-ops-smaller g t c =
+    let y = c.in-Ok.ensures.read in
+    omega (arith, op_at-shorter c.args.levels c.ops.rest.now y.0 y.1, ap length y.2.1, semicolon_at-shorter c.in-Ok.read.1.now _ c.past_semicolon-goes_on.ensures)
+
+pub read_ops-ops-preserved : goal.read_ops-ops-preserved
+read_ops-ops-preserved g t c =
+    let y = c.in-Ok.ensures.read in
+    gathered.one_more _ _ _ _ _ _ _ _ c.contexts_stand.ensures c.args.ctx.now c.ops.ctx c.read_op_at.new.ctx c.insert_at_back.new.ctx (BasicBlock c.args.block) (Operation c.in-Ok.read.0) y.0.0 c.ops.rest.now c.in-Ok.read.1.now c.past_semicolon-goes_on.result.1.now _ c.growth.ensures c.growth-in-ops.ensures c.ops.invariant
+    (record { made = c.in-Ok.ensures.made; kept = c.in-Ok.ensures.kept; stands = y.2.0; there = c.in-Ok.ensures.whole; placed = c.insert_at_back.ensures.placed; types = ap (λ z. z.types) c.insert_at_back.ensures.after })
+    c.insert_at_back.ensures.whole (behind_is _ y.0 c.in-Ok.read.1.now y.1 y.2.1) (c.past_semicolon-goes_on.ensures ∙ ap (λ b. Ok (b, c.past_semicolon-goes_on.result.1.now)) c.if-goes_on.true) (read_ops-ops-smaller g t c)
+
+pub read_ops-returns-else-goes_on : goal.read_ops-returns-else-goes_on
+read_ops-returns-else-goes_on g t c =
+    let y = c.in-Ok.ensures.read in
+    let r = gathered.last_one _ _ _ _ _ _ _ _ c.contexts_stand.ensures c.args.ctx.now c.ops.ctx c.read_op_at.new.ctx c.insert_at_back.new.ctx (BasicBlock c.args.block) (Operation c.in-Ok.read.0) y.0.0 c.ops.rest.now c.in-Ok.read.1.now c.past_semicolon-goes_on.result.1.now _ c.growth.ensures c.growth-in-ops.ensures c.ops.invariant
+    (record { made = c.in-Ok.ensures.made; kept = c.in-Ok.ensures.kept; stands = y.2.0; there = c.in-Ok.ensures.whole; placed = c.insert_at_back.ensures.placed; types = ap (λ z. z.types) c.insert_at_back.ensures.after })
+    (behind_is _ y.0 c.in-Ok.read.1.now y.1 y.2.1) (c.past_semicolon-goes_on.ensures ∙ ap (λ b. Ok (b, c.past_semicolon-goes_on.result.1.now)) c.if-goes_on.false) in
+    record { read = ((r.all, c.past_semicolon-goes_on.result.1.now), r.gives, (r.stand, refl)); grown = r.grown; kept = r.kept; whole = c.insert_at_back.ensures.whole }
+
+-- ---- an operation
+
+pub read_op_at-returns-in_err-kind-clause-read : goal.read_op_at-returns-in_err-kind-clause-read
+read_op_at-returns-in_err-kind-clause-read g t c =
+    let p = err_from_is_err_and c.from_residual.result c.from_residual.ensures.1 in
+    rw (p.1, p.2) (no_id c.args.levels c.in_err-kind.field-0.0 c.args.bytes.now c.in_err-kind.ensures)
+
+pub read_op_at-returns-in_err-kind-clause-kept : goal.read_op_at-returns-in_err-kind-clause-kept
+read_op_at-returns-in_err-kind-clause-kept g t c = KeepsBut-itself _ None
+
+pub read_op_at-returns-then-levels-eq0-clause-read : goal.read_op_at-returns-then-levels-eq0-clause-read
+read_op_at-returns-then-levels-eq0-clause-read g t c = too_deep c.args.levels c.args.bytes.now _ c.if-levels-eq0.true c.in_ok-kind.ensures
+
+pub read_op_at-returns-then-levels-eq0-clause-kept : goal.read_op_at-returns-then-levels-eq0-clause-kept
+read_op_at-returns-then-levels-eq0-clause-kept g t c = KeepsBut-itself _ None
+
+pub read_op_at-returns-in_err-head-clause-read : goal.read_op_at-returns-in_err-head-clause-read
+read_op_at-returns-in_err-head-clause-read g t c =
+    let p = err_from_is_err_and c.from_residual-in_err-head.result c.from_residual-in_err-head.ensures.1 in
+    rw (p.1, p.2) (Stops-from _ _ _ (sym (op_at-behind c.args.levels c.args.bytes.now _ c.in_ok-kind.kind (omega (arith, c.if-levels-eq0.false)) c.in_ok-kind.ensures)) (no_head (c.args.levels - 1) c.in_err-head.field-0.0 c.in_ok-kind.kind _ c.in_err-head.ensures.read))
+
+pub read_op_at-make_op-requires : goal.read_op_at-make_op-requires
+read_op_at-make_op-requires g t c =
+    let y = c.in_ok-head.ensures.read in
+    head_live _ _ y.0.0 y.2.0
+
+pub read_op_at-returns-in_err-op-clause-kept : goal.read_op_at-returns-in_err-op-clause-kept
+read_op_at-returns-in_err-op-clause-kept g t c = KeepsOlder-on _ _ _ (KeepsOlder-typed c.args.ctx.now c.read_head-read.new.ctx c.in_ok-head.ensures.rest c.in_ok-head.ensures.grown) c.in_err-op.ensures.kept
+
+pub read_op_at-returns-in-Ok-clause-read : goal.read_op_at-returns-in-Ok-clause-read
+read_op_at-returns-in-Ok-clause-read g t c =
+    let h = c.in_ok-head.ensures.read in
+    let y = c.in-Ok.ensures.read in (
+      (op_term h.0.0 (blocks_of y.0.0), c.in-Ok.end.now),
+      op_at-behind c.args.levels c.args.bytes.now _ c.in_ok-kind.kind (omega (arith, c.if-levels-eq0.false)) c.in_ok-kind.ensures ∙ op_read (c.args.levels - 1) c.in_ok-kind.kind _ _ _ h.0.0 y.0.0 (behind_is _ h.0 c.in_ok-head.behind.now h.1 h.2.1) (behind_is _ y.0 c.in-Ok.end.now y.1 y.2.1),
+      (op_stands c.args.ctx.now c.read_head-read.new.ctx c.make_op.new.ctx c.read_body.new.ctx c.in_ok-op.op c.in_ok-op.region _ (c.contexts_stand.ensures _ c.in_ok-op.ensures.whole) c.in_ok-head.ensures.rest c.in_ok-head.ensures.grown c.in_ok-op.ensures.made c.in_ok-head.head h.0.0 y.0.0 h.2.0 refl c.in-Ok.ensures.kept y.2.0, refl),
+    )
+
+pub read_op_at-returns-in-Ok-clause-made : goal.read_op_at-returns-in-Ok-clause-made
+read_op_at-returns-in-Ok-clause-made g t c = op_made c.args.ctx.now c.read_head-read.new.ctx c.make_op.new.ctx c.read_body.new.ctx c.in_ok-op.op c.in_ok-op.region _ (c.contexts_stand.ensures _ c.in_ok-op.ensures.whole) c.in_ok-head.ensures.rest c.in_ok-head.ensures.grown c.in_ok-op.ensures.made c.growth.ensures c.in_ok-op.ensures.whole.forest c.in-Ok.ensures.grown
+
+pub read_op_at-returns-in-Ok-clause-kept : goal.read_op_at-returns-in-Ok-clause-kept
+read_op_at-returns-in-Ok-clause-kept g t c = op_kept c.args.ctx.now c.read_head-read.new.ctx c.make_op.new.ctx c.read_body.new.ctx c.in_ok-op.op c.in_ok-op.region _ (c.contexts_stand.ensures _ c.in_ok-op.ensures.whole) c.in_ok-head.ensures.rest c.in_ok-head.ensures.grown c.in_ok-op.ensures.made c.in-Ok.ensures.kept
+
+pub read_op_at-returns-in-Err-clause-kept : goal.read_op_at-returns-in-Err-clause-kept
+read_op_at-returns-in-Err-clause-kept g t c = op_kept c.args.ctx.now c.read_head-read.new.ctx c.make_op.new.ctx c.read_body.new.ctx c.in_ok-op.op c.in_ok-op.region _ (c.contexts_stand.ensures _ c.in_ok-op.ensures.whole) c.in_ok-head.ensures.rest c.in_ok-head.ensures.grown c.in_ok-op.ensures.made c.in-Err.ensures.kept
+
+pub read_op_at-returns-in-Err-clause-read : goal.read_op_at-returns-in-Err-clause-read
+read_op_at-returns-in-Err-clause-read g t c =
+    let h = c.in_ok-head.ensures.read in
+    Stops-from _ _ _ (sym (op_at-behind c.args.levels c.args.bytes.now _ c.in_ok-kind.kind (omega (arith, c.if-levels-eq0.false)) c.in_ok-kind.ensures)) (no_body (c.args.levels - 1) c.in-Err.stop c.in_ok-kind.kind _ _ h.0.0 (behind_is _ h.0 c.in_ok-head.behind.now h.1 h.2.1) c.in-Err.ensures.read)

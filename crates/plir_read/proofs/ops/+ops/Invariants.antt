@@ -1,0 +1,29 @@
+use Rattle.std.proofs.Common.{◌+◌, ◌*◌, length}
+use Rattle.plir_core.specs.declared.ptr.IRNode.TheVariants.{Region, BasicBlock}
+use Rattle.plir_read.specs.OpReading.{op_at, ops_at, blocks_at}
+use Rattle.plir_read.proofs.Loops.{OpsGather, BlocksGather}
+use Rattle.plir_read.proofs.ops.+ops.Given as goal
+
+abbrev pub decreases-read_op_at : goal.decreases-read_op_at
+decreases-read_op_at g l = 4 * l.levels
+
+abbrev pub decreases-read_body : goal.decreases-read_body
+decreases-read_body g l = 4 * l.levels + 3
+
+abbrev pub decreases-read_block : goal.decreases-read_block
+decreases-read_block g l = 4 * l.levels + 2
+
+abbrev pub decreases-read_ops : goal.decreases-read_ops
+decreases-read_ops g l = 4 * l.levels + 1
+
+abbrev pub decreases-read_ops-ops : goal.decreases-read_ops-ops
+decreases-read_ops-ops g l = length l.rest
+
+abbrev pub decreases-read_body-inner : goal.decreases-read_body-inner
+decreases-read_body-inner g l = length l.rest
+
+abbrev pub invariant-read_ops-ops : goal.invariant-read_ops-ops
+invariant-read_ops-ops g l = OpsGather g.D.OpSet.attr_handles (op_at l.levels) l.initial.ctx l.ctx (BasicBlock l.block) l.rest (ops_at (op_at l.levels) l.bytes)
+
+abbrev pub invariant-read_body-inner : goal.invariant-read_body-inner
+invariant-read_body-inner g l = BlocksGather g.D.OpSet.attr_handles (op_at l.levels) l.levels l.initial.ctx l.ctx (Region l.region) l.rest (blocks_at (op_at l.levels) l.levels l.bytes)

@@ -1,0 +1,16 @@
+use Rattle.std.proofs.Common.{ap, sym, ◌∙◌}
+use Rattle.plir_text.specs.Wholes.{whole}
+use Rattle.plir_read.specs.OpReading.{op_at}
+use Rattle.plir_read.proofs.OpWhole.{told, op_text_found, op_text_refused}
+use Rattle.plir_read.proofs.reader.read_op.Goals as goal
+
+pub returns-in-Ok-clause-found : goal.returns-in-Ok-clause-found
+returns-in-Ok-clause-found g c =
+    let y = c.in-Ok.ensures.read in
+    (y.0, op_text_found 200 _ y.0 (ap (whole (op_at 200)) (sym c.as_bytes-bytes.ensures.value) ∙ y.1), y.2)
+
+pub returns-in-Err-clause-fault : goal.returns-in-Err-clause-fault
+returns-in-Err-clause-fault g c = λ is. ap (whole (op_at 200)) (sym c.as_bytes-bytes.ensures.value) ∙ told c.in-Err.stop _ _ c.placed.ensures.fault c.in-Err.ensures.read is
+
+pub returns-in-Err-clause-refused : goal.returns-in-Err-clause-refused
+returns-in-Err-clause-refused g c = λ is w s. op_text_refused 200 _ _ (returns-in-Err-clause-fault g c is) w s

@@ -1,0 +1,47 @@
+-- Which tokens stand for a plain operation: a module or a function without a dictionary, in whose body are plain operations.
+use Rattle.std.specs.Prelude.{◌≡◌, ℕ, ◌≤◌, List, [], ◌∷◌, ◌++◌, true, codes}
+use Rattle.plir_data.specs.Identifier.{is_identifier}
+use Rattle.plir_text.specs.Tokens.{Token, word, sign}
+use Rattle.plir_text.specs.AttrGrammar.{SpellsSeveral}
+use Rattle.plir_text.specs.TypeGrammar.{enclosed, SpellsType}
+use Rattle.plir_read.specs.OpTerms.{Head, module_head, func_head, Argument, BlockHead, OpTerm, op_term, BlockTerms, no_blocks, block_before, OpTerms, no_ops, op_before, op_levels}
+
+-- `@name`
+abbrev pub symbol : List ℕ → List Token
+symbol w = sign 64 ∷ word w ∷ []
+
+-- what stands before the body
+abbrev pub SpellsHead : Head → List Token → Type 0
+SpellsHead (module_head w) ts = (is_identifier w ≡ true) × (ts ≡ word (codes "builtin.module") ∷ symbol w)
+SpellsHead (func_head w t) ts = (type : List Token) × (is_identifier w ≡ true) × SpellsType t type × (ts ≡ word (codes "builtin.func") ∷ (symbol w ++ sign 58 ∷ type))
+
+-- `name: TYPE`
+abbrev pub SpellsArgument : Argument → List Token → Type 0
+SpellsArgument a ts = (type : List Token) × (is_identifier a.0 ≡ true) × SpellsType a.1 type × (ts ≡ word a.0 ∷ sign 58 ∷ type)
+
+-- `^name(argument, argument):`
+abbrev pub SpellsBlockHead : BlockHead → List Token → Type 0
+SpellsBlockHead b ts = (inner : List Token) × (is_identifier b.0 ≡ true) × SpellsSeveral SpellsArgument b.1 inner × (ts ≡ sign 94 ∷ word b.0 ∷ (enclosed 40 inner 41 ++ sign 58 ∷ []))
+
+abbrev mutual
+  pub SpellsOp : OpTerm → List Token → Type 0
+  SpellsOp (op_term h bs) ts = (head body : List Token) × SpellsHead h head × SpellsBlocks bs body × (ts ≡ head ++ enclosed 123 body 125)
+
+  -- blocks, one behind another
+  pub SpellsBlocks : BlockTerms → List Token → Type 0
+  SpellsBlocks no_blocks ts = ts ≡ []
+  SpellsBlocks (block_before b os bs) ts = (head ops more : List Token) × SpellsBlockHead b head × SpellsOps os ops × SpellsBlocks bs more × (ts ≡ head ++ (ops ++ more))
+
+  -- operations with semicolons between them
+  pub SpellsOps : OpTerms → List Token → Type 0
+  SpellsOps no_ops ts = ts ≡ []
+  SpellsOps (op_before o os) ts = (first more : List Token) × SpellsOp o first × SpellsMoreOps os more × (ts ≡ first ++ more)
+
+  -- a semicolon before each operation
+  pub SpellsMoreOps : OpTerms → List Token → Type 0
+  SpellsMoreOps no_ops ts = ts ≡ []
+  SpellsMoreOps (op_before o os) ts = (first more : List Token) × SpellsOp o first × SpellsMoreOps os more × (ts ≡ sign 59 ∷ (first ++ more))
+
+-- a plain operation, with at most n levels open
+abbrev pub PlainOpWithin : ℕ → OpTerm → List Token → Type 0
+PlainOpWithin n x ts = SpellsOp x ts × (op_levels x ≤ n)

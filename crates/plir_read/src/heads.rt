@@ -1,0 +1,126 @@
+//! Headers of operations and blocks.
+ghost use Rattle.std.specs.Prelude.{◌≡◌, ℕ, Ok};
+ghost use Rattle.plir_text.specs.Names.{Grows};
+ghost use Rattle.plir_text.specs.Reading.{Gives, Reads};
+ghost use Rattle.plir_read.specs.Heads.{IsHead};
+ghost use Rattle.plir_read.specs.OpReading.{op_kind, op_id, symbol_at, head_at, ends_block, semicolon_at, brace_at};
+
+use plir_data::{Identifier, OpSet, TypeHandle, TypeStore};
+use plir_text::Fault;
+use plir_text::attr_words::read_name;
+use plir_text::fault::Stop;
+use plir_text::tokens::left_at;
+use plir_text::types::read_type_at;
+use plir_text::words::{past_sign, read_sign, read_word};
+use std::alloc::Global;
+
+// What the id of an operation names.
+#[derive(Clone, Copy)]
+pub enum HeadKind {
+    Module,
+    Func,
+    ForwardRef,
+}
+
+// A header: a name, and a function's type.
+#[derive(Drop)]
+pub enum HeadData {
+    Module(Identifier),
+    Func(Identifier, TypeHandle),
+}
+
+// What the id of an operation names, with this many bytes left where it stands.
+#[tactic(auto, unfolding(crate::specs::OpReading::op_kind))]
+fn op_kind(word: &[u8], left: usize) -> Result<HeadKind, Stop>
+    ensures { Gives (λ k. k) result (op_kind word.now) }
+{
+    if word == b"builtin.module".as_slice() {
+        Ok(HeadKind::Module)
+    } else if word == b"builtin.func".as_slice() {
+        Ok(HeadKind::Func)
+    } else if word == b"builtin.forward_ref".as_slice() {
+        Ok(HeadKind::ForwardRef)
+    } else {
+        Err(Stop::At(Fault::Unexpected, left))
+    }
+}
+
+// The id of an operation.
+#[tactic(auto, unfolding(crate::specs::OpReading::op_id))]
+pub fn read_op_id(bytes: &[u8]) -> Result<(HeadKind, &[u8]), Stop>
+    ensures { Gives (λ x. (x.0, x.1.now)) result (op_id bytes.now) }
+{
+    let (word, rest) = read_word(bytes)?;
+    let kind = op_kind(word, left_at(bytes))?;
+    Ok((kind, rest))
+}
+
+// `@name`
+#[tactic(auto, unfolding(crate::specs::OpReading::symbol_at))]
+fn read_symbol(alloc: Global, bytes: &[u8]) -> Result<(Identifier, &[u8]), Stop>
+    ensures { Gives (λ x. (x.0, x.1.now)) result (symbol_at bytes.now) }
+{
+    let start = read_sign(bytes, b'@')?;
+    read_name(alloc, start)
+}
+
+// Whether a semicolon comes next, and what stands behind it, or here.
+#[tactic(auto, unfolding(crate::specs::OpReading::semicolon_at))]
+pub fn past_semicolon(bytes: &[u8]) -> (bool, &[u8])
+    ensures { semicolon_at bytes.now ≡ Ok (result.0, result.1.now) }
+{
+    match past_sign(bytes, b';') {
+        Some(rest) => (true, rest),
+        None => (false, bytes),
+    }
+}
+
+// Whether no closing brace comes next, and what stands behind it, or here.
+#[tactic(auto, unfolding(crate::specs::OpReading::brace_at))]
+pub fn past_brace(bytes: &[u8]) -> (bool, &[u8])
+    ensures { brace_at bytes.now ≡ Ok (result.0, result.1.now) }
+{
+    match past_sign(bytes, b'}') {
+        Some(rest) => (false, rest),
+        None => (true, bytes),
+    }
+}
+
+// Whether a block ends here: another one, or the closing brace, comes next.
+#[tactic(auto, unfolding(crate::specs::OpReading::ends_block))]
+pub fn ends_block(bytes: &[u8]) -> bool
+    ensures { result ≡ ends_block bytes.now }
+{
+    past_sign(bytes, b'^').is_some() || past_sign(bytes, b'}').is_some()
+}
+
+// What stands behind an id up to the body, with at most this many levels in it, and with this many bytes left at the id.
+#[tactic(auto, unfolding(crate::specs::OpReading::head_at))]
+pub fn read_head<'a, D: OpSet, C: TypeStore<D>>(
+    alloc: Global,
+    ctx: &mut C,
+    levels: usize,
+    kind: HeadKind,
+    left: usize,
+    bytes: &'a [u8],
+) -> Result<(HeadData, &'a [u8]), Stop>
+    ensures read { Reads (λ x y. IsHead (C.types ctx.new) x.0 y.0 × (x.1.now ≡ y.1)) result (head_at levels kind bytes.now) }
+    ensures grown { Grows (C.types ctx.old) (C.types ctx.new) }
+    ensures rest { C.same_besides ctx.old ctx.new }
+{
+    match kind {
+        HeadKind::Module => {
+            let (name, rest) = read_symbol(alloc, bytes)?;
+            Ok((HeadData::Module(name), rest))
+        }
+        HeadKind::Func => {
+            let (name, rest) = read_symbol(alloc, bytes)?;
+            let colon = read_sign(rest, b':')?;
+            match read_type_at(alloc, ctx, levels, colon) {
+                Ok(read) => Ok((HeadData::Func(name, read.0), read.1)),
+                Err(stop) => Err(stop),
+            }
+        }
+        HeadKind::ForwardRef => Err(Stop::At(Fault::ForwardRefOpExistenceErr, left)),
+    }
+}

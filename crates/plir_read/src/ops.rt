@@ -1,0 +1,159 @@
+//! From a text to operations in a context.
+ghost use Rattle.std.specs.Prelude.{◌≡◌, Some, None, [], IfOk};
+ghost use Rattle.plir_core.specs.Grown.{IsGrown};
+ghost use Rattle.plir_core.specs.Made.{IsMade};
+ghost use Rattle.plir_core.specs.Store.{IsLive, kids};
+ghost use Rattle.plir_core.specs.Whole.{IsWhole};
+ghost use Rattle.plir_core.specs.declared.ptr.IRNode.{IRNode};
+ghost use Rattle.plir_read.specs.Keeping.{KeepsBut, KeepsOlder};
+ghost use Rattle.plir_read.specs.OpReading.{op_at, ops_at, block_at, blocks_at};
+ghost use Rattle.plir_read.specs.OpTerms.{ops_of, blocks_of};
+ghost use Rattle.plir_read.specs.OpsStanding.{IsOpAt, AreOpsAt, AreBlocksAt, IsBlockAt};
+ghost use Rattle.plir_read.specs.Stopping.{ReadsOn};
+
+use crate::arguments::read_block_head;
+use crate::heads::{ends_block, past_brace, past_semicolon, read_head, read_op_id};
+use crate::making::{make_block, make_op};
+use plir_core::laws::{contexts_stand, growth};
+use plir_core::{BasicBlock, Context, Operation, Ptr, Region};
+use plir_data::OpSet;
+use plir_text::Fault;
+use plir_text::fault::Stop;
+use plir_text::tokens::left_at;
+use plir_text::words::{past_sign, read_sign};
+use std::alloc::Global;
+
+// The operations of a block that has none.
+#[cycle(ops)]
+fn read_ops<'a, D: OpSet>(
+    alloc: Global,
+    ctx: &mut Context<D>,
+    levels: usize,
+    block: Ptr<BasicBlock>,
+    bytes: &'a [u8],
+) -> Result<&'a [u8], Stop>
+    requires live { IsLive ctx.old (IRNode.BasicBlock block) }
+    requires empty { kids ctx.old (IRNode.BasicBlock block) ≡ [] }
+    ensures read { ReadsOn (λ x y. AreOpsAt ctx.new (kids ctx.new (IRNode.BasicBlock block)) (ops_of y.0) × (x.now ≡ y.1)) result (ops_at (op_at levels) bytes.now) }
+    ensures grown { IfOk result (λ x. IsGrown ctx.old.nodes ctx.new.nodes (IRNode.BasicBlock block)) }
+    ensures kept { KeepsBut ctx.old ctx.new (Some (IRNode.BasicBlock block)) }
+    ensures whole { IsWhole D.attr_handles ctx.new }
+{
+    contexts_stand::<D>();
+    growth(ctx);
+    let _before = ctx.num_live();
+    if ends_block(bytes) {
+        return Ok(bytes);
+    }
+    let mut rest = bytes;
+    'ops: loop {
+        growth(ctx);
+        let (op, after) = match read_op_at(alloc, ctx, levels, rest) {
+            Ok(read) => read,
+            Err(stop) => return Err(stop),
+        };
+        op.insert_at_back(block, ctx);
+        let (goes_on, behind) = past_semicolon(after);
+        if goes_on {
+            rest = behind;
+        } else {
+            return Ok(behind);
+        }
+    }
+}
+
+// A block in no region.
+#[cycle(ops)]
+fn read_block<'a, D: OpSet>(
+    alloc: Global,
+    ctx: &mut Context<D>,
+    levels: usize,
+    bytes: &'a [u8],
+) -> Result<(Ptr<BasicBlock>, &'a [u8]), Stop>
+    ensures read { ReadsOn (λ x y. IsBlockAt ctx.new (IRNode.BasicBlock x.0) y.0 × (x.1.now ≡ y.1)) result (block_at (op_at levels) levels bytes.now) }
+    ensures made { IfOk result (λ x. IsMade ctx.old.nodes ctx.new.nodes (IRNode.BasicBlock x.0)) }
+    ensures kept { KeepsOlder ctx.old ctx.new }
+    ensures whole { IsWhole D.attr_handles ctx.new }
+{
+    contexts_stand::<D>();
+    let _before = ctx.num_live();
+    let read = read_block_head(alloc, ctx, levels, bytes);
+    growth(ctx);
+    let _after = ctx.num_live();
+    let (head, rest) = read?;
+    let block = make_block(alloc, ctx, head)?;
+    match read_ops(alloc, ctx, levels, block, rest) {
+        Ok(end) => Ok((block, end)),
+        Err(stop) => Err(stop),
+    }
+}
+
+// The blocks of a region that has none.
+#[cycle(ops)]
+fn read_body<'a, D: OpSet>(
+    alloc: Global,
+    ctx: &mut Context<D>,
+    levels: usize,
+    region: Ptr<Region>,
+    bytes: &'a [u8],
+) -> Result<&'a [u8], Stop>
+    requires live { IsLive ctx.old (IRNode.Region region) }
+    requires empty { kids ctx.old (IRNode.Region region) ≡ [] }
+    ensures read { ReadsOn (λ x y. AreBlocksAt ctx.new (kids ctx.new (IRNode.Region region)) (blocks_of y.0) × (x.now ≡ y.1)) result (blocks_at (op_at levels) levels bytes.now) }
+    ensures grown { IfOk result (λ x. IsGrown ctx.old.nodes ctx.new.nodes (IRNode.Region region)) }
+    ensures kept { KeepsBut ctx.old ctx.new (Some (IRNode.Region region)) }
+    ensures whole { IsWhole D.attr_handles ctx.new }
+{
+    contexts_stand::<D>();
+    growth(ctx);
+    let _before = ctx.num_live();
+    let start = read_sign(bytes, b'{')?;
+    if let Some(rest) = past_sign(start, b'}') {
+        return Ok(rest);
+    }
+    let mut rest = start;
+    'inner: loop {
+        growth(ctx);
+        let (block, after) = match read_block(alloc, ctx, levels, rest) {
+            Ok(read) => read,
+            Err(stop) => return Err(stop),
+        };
+        block.insert_at_back(region, ctx);
+        let (goes_on, behind) = past_brace(after);
+        if goes_on {
+            rest = behind;
+        } else {
+            return Ok(behind);
+        }
+    }
+}
+
+// An operation in no block, with at most this many levels open.
+#[cycle(ops)]
+pub fn read_op_at<'a, D: OpSet>(
+    alloc: Global,
+    ctx: &mut Context<D>,
+    levels: usize,
+    bytes: &'a [u8],
+) -> Result<(Ptr<Operation>, &'a [u8]), Stop>
+    ensures read { ReadsOn (λ x y. IsOpAt ctx.new (IRNode.Operation x.0) y.0 × (x.1.now ≡ y.1)) result (op_at levels bytes.now) }
+    ensures made { IfOk result (λ x. IsMade ctx.old.nodes ctx.new.nodes (IRNode.Operation x.0)) }
+    ensures kept { KeepsOlder ctx.old ctx.new }
+    ensures whole { IsWhole D.attr_handles ctx.new }
+{
+    contexts_stand::<D>();
+    let _before = ctx.num_live();
+    let (kind, rest) = read_op_id(bytes)?;
+    if levels == 0 {
+        return Err(Stop::At(Fault::TooDeep, left_at(bytes)));
+    }
+    let read = read_head(alloc, ctx, levels - 1, kind, left_at(bytes), rest);
+    growth(ctx);
+    let _after = ctx.num_live();
+    let (head, behind) = read?;
+    let (op, region) = make_op(alloc, ctx, head)?;
+    match read_body(alloc, ctx, levels - 1, region, behind) {
+        Ok(end) => Ok((op, end)),
+        Err(stop) => Err(stop),
+    }
+}

@@ -1,0 +1,67 @@
+//! The reader of texts of operations.
+ghost use Rattle.std.specs.Prelude.{◌≡◌, Err, IfOk, IfErr};
+ghost use Rattle.plir_core.specs.Made.{IsMade};
+ghost use Rattle.plir_core.specs.Whole.{IsWhole};
+ghost use Rattle.plir_core.specs.declared.ptr.IRNode.{IRNode};
+ghost use Rattle.plir_text.specs.TypeGrammar.{IsText};
+ghost use Rattle.plir_text.specs.Wholes.{whole};
+ghost use Rattle.plir_read.specs.Keeping.{KeepsOlder};
+ghost use Rattle.plir_read.specs.OpGrammar.{PlainOpWithin};
+ghost use Rattle.plir_read.specs.OpReading.{op_at};
+ghost use Rattle.plir_read.specs.OpTerms.{OpTerm};
+ghost use Rattle.plir_read.specs.OpsStanding.{IsOpAt, StandsForPlainOp};
+ghost use Rattle.plir_read.specs.Stopping.{ReadsOn, IsOfText};
+
+use crate::ops::read_op_at;
+use plir_core::{Context, Operation, Ptr};
+use plir_data::OpSet;
+use plir_text::ReadErr;
+use plir_text::fault::Stop;
+use plir_text::place::{placed, read_end};
+use plir_text::read_types::MAX_LEVELS;
+use std::alloc::Global;
+
+#[tactic(auto, unfolding(plir_text::specs::Wholes::whole))]
+fn whole_op<D: OpSet>(
+    alloc: Global,
+    ctx: &mut Context<D>,
+    bytes: &[u8],
+) -> Result<Ptr<Operation>, Stop>
+    ensures read { ReadsOn (λ p w. IsOpAt ctx.new (IRNode.Operation p) w) result (whole (op_at 200) bytes.now) }
+    ensures made { IfOk result (λ p. IsMade ctx.old.nodes ctx.new.nodes (IRNode.Operation p)) }
+    ensures kept { KeepsOlder ctx.old ctx.new }
+    ensures whole { IsWhole D.attr_handles ctx.new }
+{
+    let (op, rest) = match read_op_at(alloc, ctx, MAX_LEVELS, bytes) {
+        Ok(read) => read,
+        Err(stop) => return Err(stop),
+    };
+    read_end(rest)?;
+    Ok(op)
+}
+
+/// The plain operation that a text stands for, made anew with all below it: a module or a function without a dictionary, in whose
+/// blocks plain operations stand. A refused text may leave new nodes that stand nowhere, and types; what was there before is as it
+/// was.
+///
+/// A fault stands at the text's end where the text ends within a token or before one, and at the first character of a token that
+/// can't stand there; the first character of a level that is one too many comes before any fault inside it. A forward reference is
+/// refused at its id.
+pub fn read_op<D: OpSet>(
+    alloc: Global,
+    ctx: &mut Context<D>,
+    text: &str,
+) -> Result<Ptr<Operation>, ReadErr>
+    ensures found { IfOk result (λ p. StandsForPlainOp 200 ctx.new text.now (IRNode.Operation p)) }
+    ensures made { IfOk result (λ p. IsMade ctx.old.nodes ctx.new.nodes (IRNode.Operation p)) }
+    ensures fault { IfErr result (λ e. IsOfText e.fault → whole (op_at 200) text.now ≡ Err e.fault) }
+    ensures refused { IfErr result (λ e. IsOfText e.fault → (w : OpTerm) → IsText (PlainOpWithin 200) text.now w → ⊥) }
+    ensures kept { KeepsOlder ctx.old ctx.new }
+    ensures whole { IsWhole D.attr_handles ctx.new }
+{
+    let bytes = text.as_bytes();
+    match whole_op(alloc, ctx, bytes) {
+        Ok(op) => Ok(op),
+        Err(stop) => Err(placed(bytes, stop)),
+    }
+}
