@@ -2,7 +2,8 @@
 ghost use Rattle.std.specs.Prelude.{◌≡◌, ◌+◌, ◌-◌, ◌<◌, length, Option, Some, None, true, option_map, slice_get};
 ghost use Rattle.plir_store.specs.Lists.{kids_at};
 ghost use Rattle.plir_store.specs.Table.{content_at};
-ghost use Rattle.plir_core.specs.Nodes.{Nodes, num_nodes, is_node_live, node_kids, node_parent, node_first, node_last, node_next, node_prev};
+ghost use Rattle.plir_core.specs.Nodes.{Nodes, num_nodes, is_node_live, node_kids, node_parent, node_first, node_last};
+ghost use Rattle.plir_core.specs.Nodes.{node_next, node_prev};
 ghost use Rattle.plir_core.specs.Forest.{IsForest};
 ghost use Rattle.plir_core.specs.Lends.{LendsOp, LendsBlock};
 ghost use Rattle.std.specs.Borrow.{sem};

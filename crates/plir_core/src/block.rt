@@ -1,5 +1,6 @@
 //! Calls on basic blocks.
-ghost use Rattle.std.specs.Prelude.{◌≡◌, ◌<◌, ◌↔◌, ◌-◌, [], Some, None, OnOk, OnErr, IfOk, IfSome, length, slice_get, option_map, true, false};
+ghost use Rattle.std.specs.Prelude.{◌≡◌, ◌<◌, ◌↔◌, ◌-◌, [], Some, None, OnOk, OnErr, IfOk, IfSome, length, slice_get};
+ghost use Rattle.std.specs.Prelude.{option_map, true, false};
 ghost use Rattle.plir_store.specs.Table.{next_slot};
 ghost use Rattle.plir_data.specs.Types.{IsLive as IsTypeLive, AllLive};
 ghost use Rattle.plir_data.specs.AttrLive.{IsAttrLive, HandlesLive};
@@ -7,7 +8,9 @@ ghost use Rattle.plir_data.specs.AttrSeen.{attr_view};
 ghost use Rattle.plir_data.specs.Dictionary.{dict_put};
 ghost use Rattle.plir_core.specs.Made.{IsMade};
 ghost use Rattle.plir_core.specs.Nodes.{ptr_at};
-ghost use Rattle.plir_core.specs.Store.{IsLive, IsValueLive, IsAncestor, is_live, given_out, limit, kids, parent_of, op_above, first_kid, last_kid, next_sibling, prev_sibling, block_at, arg_types_of, block_attributes_of};
+ghost use Rattle.plir_core.specs.Store.{IsLive, IsValueLive, IsAncestor, is_live, given_out, limit, kids, parent_of};
+ghost use Rattle.plir_core.specs.Store.{op_above, first_kid, last_kid, next_sibling, prev_sibling, block_at};
+ghost use Rattle.plir_core.specs.Store.{arg_types_of, block_attributes_of};
 ghost use Rattle.plir_core.specs.Whole.{IsWhole};
 ghost use Rattle.plir_core.specs.Terminator.{terminator_of};
 ghost use Rattle.plir_core.specs.Room.{IsFullForBlock};

@@ -2,7 +2,8 @@
 ghost use Rattle.std.specs.Prelude.{◌≡◌, None, IsSome};
 ghost use Rattle.plir_core.specs.Store.{IsLive, IsAncestor, parent_of};
 ghost use Rattle.plir_core.specs.Whole.{IsWhole};
-ghost use Rattle.plir_core.specs.Changes.{with_op_first, with_block_first, with_op_before, with_block_before, with_op_after, with_block_after, with_op_unlinked, with_block_unlinked};
+ghost use Rattle.plir_core.specs.Changes.{with_op_first, with_block_first, with_op_before, with_block_before};
+ghost use Rattle.plir_core.specs.Changes.{with_op_after, with_block_after, with_op_unlinked, with_block_unlinked};
 ghost use Rattle.plir_core.specs.Placed.{IsPlacedBefore, IsPlacedBehind, IsPlacedFirst, IsUnlinked};
 ghost use Rattle.plir_core.specs.declared.ptr.IRNode.{IRNode};
 

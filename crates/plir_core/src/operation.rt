@@ -1,5 +1,6 @@
 //! Calls on operations.
-ghost use Rattle.std.specs.Prelude.{◌≡◌, ◌<◌, ◌+◌, ◌-◌, All, [], Some, None, OnOk, OnErr, IfOk, IfSome, length, slice_get, option_map, true, false};
+ghost use Rattle.std.specs.Prelude.{◌≡◌, ◌<◌, ◌+◌, ◌-◌, All, [], Some, None, OnOk, OnErr, IfOk, IfSome, length};
+ghost use Rattle.std.specs.Prelude.{slice_get, option_map, true, false};
 ghost use Rattle.plir_data.specs.Types.{IsLive as IsTypeLive, AllLive};
 ghost use Rattle.plir_data.specs.AttrLive.{IsAttrLive, HandlesLive};
 ghost use Rattle.plir_data.specs.AttrSeen.{attr_view};
@@ -9,7 +10,10 @@ ghost use Rattle.plir_core.specs.Made.{IsMade, HasNewRegions};
 ghost use Rattle.plir_core.specs.Refused.{IsUnmade};
 ghost use Rattle.plir_core.specs.Contents.{op_view};
 ghost use Rattle.plir_core.specs.Nodes.{ptr_at};
-ghost use Rattle.plir_core.specs.Store.{IsLive, IsValueLive, IsAncestor, is_live, kids, parent_of, op_above, region_above, first_kid, last_kid, next_sibling, prev_sibling, op_at, kind_of, result_types_of, operands_of, successors_of, attributes_of, given_out, num_live, limit};
+ghost use Rattle.plir_core.specs.Store.{IsLive, IsValueLive, IsAncestor, is_live, kids, parent_of, op_above};
+ghost use Rattle.plir_core.specs.Store.{region_above, first_kid, last_kid, next_sibling, prev_sibling, op_at, kind_of};
+ghost use Rattle.plir_core.specs.Store.{result_types_of, operands_of, successors_of, attributes_of, given_out};
+ghost use Rattle.plir_core.specs.Store.{num_live, limit};
 ghost use Rattle.plir_core.specs.Whole.{IsWhole};
 ghost use Rattle.plir_core.specs.Room.{IsFullForOp};
 ghost use Rattle.plir_core.specs.Placed.{IsPlacedLast};

@@ -3,7 +3,8 @@ ghost use Rattle.std.specs.Prelude.{◌≡◌, ◌↔◌, ◌++◌, List, [], If
 ghost use Rattle.std.specs.List.{flat_map};
 ghost use Rattle.plir_core.specs.Whole.{IsWhole};
 ghost use Rattle.plir_flow.specs.Taken.{AreThose, IsOnceEach, AreTakenOnce};
-ghost use Rattle.plir_flow.specs.RegionEdges.{IsFrom, IsTo, IsPointIn, IsPointLive, IsFromRegion, AreEdgesLive, reads_on, receivers_on, regions_on, region_in};
+ghost use Rattle.plir_flow.specs.RegionEdges.{IsFrom, IsTo, IsPointIn, IsPointLive, IsFromRegion, AreEdgesLive};
+ghost use Rattle.plir_flow.specs.RegionEdges.{reads_on, receivers_on, regions_on, region_in};
 
 use crate::edge_ends::{RegionBranchPoint, RegionEdge, RegionSuccessor};
 use crate::once::{add, add_all, list};

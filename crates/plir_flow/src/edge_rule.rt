@@ -4,7 +4,9 @@ ghost use Rattle.std.specs.List.{HoldsAt};
 ghost use Rattle.plir_core.specs.Store.{IsValueLive, type_of_value};
 ghost use Rattle.plir_core.specs.Whole.{IsWhole};
 ghost use Rattle.plir_flow.specs.RegionEdges.{IsPointLive, IsSuccessorLive, IsFlowLive, IsUseLive, IsEdgeLive, AreEdgesLive};
-ghost use Rattle.plir_flow.specs.RegionRule.{source_at, type_of_use, no_receiver, IsOfOtherType, IsOwnPoint, IsOwnRead, IsOwnSuccessor, IsReceiver, IsEdgeRight, IsBroken, FlowSays, FlowsSay, EdgeSays, EdgesSay, AreFirsts, first_place, NamesLive};
+ghost use Rattle.plir_flow.specs.RegionRule.{source_at, type_of_use, no_receiver, IsOfOtherType, IsOwnPoint, IsOwnRead};
+ghost use Rattle.plir_flow.specs.RegionRule.{IsOwnSuccessor, IsReceiver, IsEdgeRight, IsBroken, FlowSays, FlowsSay};
+ghost use Rattle.plir_flow.specs.RegionRule.{EdgeSays, EdgesSay, AreFirsts, first_place, NamesLive};
 
 use crate::edge_ends::{RegionBranchPoint, RegionEdge, RegionSuccessor};
 use crate::once::add;

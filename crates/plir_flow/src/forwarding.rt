@@ -4,7 +4,8 @@ ghost use Rattle.plir_core.specs.declared.ptr.IRNode.{IRNode};
 ghost use Rattle.plir_core.specs.Store.{IsLive, operands_of};
 ghost use Rattle.plir_core.specs.Whole.{IsWhole};
 ghost use Rattle.plir_iface.specs.Verdict.{IsRefusalMemoryAside};
-ghost use Rattle.plir_flow.specs.Branches.{types_within, argument_types, num_successors, AgreesAt, IsMismatch, IsFirstMismatch, NamesLive, TellsMismatch, in_branch};
+ghost use Rattle.plir_flow.specs.Branches.{types_within, argument_types, num_successors, AgreesAt, IsMismatch};
+ghost use Rattle.plir_flow.specs.Branches.{IsFirstMismatch, NamesLive, TellsMismatch, in_branch};
 
 use crate::branch_errors::{BranchOpInterfaceVerifyErr, Mismatch};
 use crate::branches::BranchOpInterface;

@@ -1,11 +1,13 @@
 //! Laws of segments and of region edges: each function that takes no context does nothing, and its contract is the law.
-ghost use Rattle.std.specs.Prelude.{◌≡◌, ◌≢◌, ◌<◌, ◌≤◌, ◌-◌, ◌^◌, ◌∷◌, ◌++◌, ◌↔◌, ℕ, List, [], IsTrue, IfOk, OnOk, OnErr, length, map, take, sum, slice_range};
+ghost use Rattle.std.specs.Prelude.{◌≡◌, ◌≢◌, ◌<◌, ◌≤◌, ◌-◌, ◌^◌, ◌∷◌, ◌++◌, ◌↔◌, ℕ, List, [], IsTrue, IfOk, OnOk};
+ghost use Rattle.std.specs.Prelude.{OnErr, length, map, take, sum, slice_range};
 ghost use Rattle.plir_core.specs.declared.ptr.IRNode.{IRNode};
 ghost use Rattle.plir_core.specs.declared.value.Value.{Value as AnyValue};
 ghost use Rattle.plir_core.specs.Store.{IsLive, IsValueLive, operands_of};
 ghost use Rattle.plir_core.specs.Whole.{IsWhole};
 ghost use Rattle.plir_flow.specs.RegionEdges.{Reach};
-ghost use Rattle.plir_flow.specs.Segments.{in_segments, flatten, segment_at, edit_at, sizes_of, num_segments, segment_size, segment_places, segments_of, IsSegmented, HasSegments};
+ghost use Rattle.plir_flow.specs.Segments.{in_segments, flatten, segment_at, edit_at, sizes_of, num_segments};
+ghost use Rattle.plir_flow.specs.Segments.{segment_size, segment_places, segments_of, IsSegmented, HasSegments};
 
 use crate::region_branches::RegionBranchOpInterface;
 use crate::segments::OperandSegmentInterface;

@@ -7,7 +7,8 @@ ghost use Rattle.plir_core.specs.declared.ptr.IRNode.{IRNode};
 ghost use Rattle.plir_core.specs.Store.{IsLive, operands_of, attributes_of};
 ghost use Rattle.plir_core.specs.Whole.{IsWhole};
 ghost use Rattle.plir_core.specs.Changes.{with_op_edit};
-ghost use Rattle.plir_flow.specs.Segments.{sizes_in, sizes_under, sizes_of, sizes_key, sizes_attr, with_sizes, num_segments, segment_size, segments_of, start_in, IsSegmented};
+ghost use Rattle.plir_flow.specs.Segments.{sizes_in, sizes_under, sizes_of, sizes_key, sizes_attr, with_sizes};
+ghost use Rattle.plir_flow.specs.Segments.{num_segments, segment_size, segments_of, start_in, IsSegmented};
 
 use plir_core::{Context, Operation, Ptr, laws};
 use plir_data::{AttrObj, OpSet, OperandSegmentSizesAttr, UnitAttr};

@@ -1,5 +1,7 @@
 //! Refusals of types. An id is a type's id alone, as `dialect.name`.
-ghost use Rattle.plir_iface.specs.TypeRefusals.{TellsFewOperands, TellsFewResults, TellsOtherOperand, TellsOtherResult, TellsImpls, TellsOperandN, TellsResultN, TellsOperandsMN, TellsResultsMN, TellsRule};
+ghost use Rattle.plir_iface.specs.TypeRefusals.{TellsFewOperands, TellsFewResults, TellsOtherOperand, TellsOtherResult};
+ghost use Rattle.plir_iface.specs.TypeRefusals.{TellsImpls, TellsOperandN, TellsResultN, TellsOperandsMN};
+ghost use Rattle.plir_iface.specs.TypeRefusals.{TellsResultsMN, TellsRule};
 
 use crate::counts::{NotEnoughOperandsErr, NotEnoughResultsErr};
 use crate::side::Side;

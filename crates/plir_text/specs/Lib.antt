@@ -1,3 +1,18 @@
+-- What the contracts of this crate cite.
+--
+--   Bytes, Tokens, Pieces        kinds of bytes; a text as tokens, and a token as it is read
+--   Strings, Units               what stands between two `"`, with escapes
+--   Terms                        types and attributes as they are written
+--   TypeGrammar, AttrGrammar     IsText: which tokens stand for a type, for an attribute
+--   Names, Parts                 the handles that written types name, and the types that others are made of
+--   Meaning                      StandsFor: the attribute that a text stands for
+--   Steps, Lists, Wholes         reading step by step, of lists, of whole texts
+--   TypeReading, AttrReading     type_at, attr_at: types and attributes as they are read, with the first fault that is met
+--   TypesIn                      which types are written in a text
+--   Reading                      Reads, Gives: what a reader answers, by what is read
+--   Written, AttrText            attr_text: the text of an attribute
+--   Puts                         texts that are written one behind another
+--   Writable, AttrAnswer         attributes that texts can stand for; what the reader of attributes answers
 pub mod Bytes
 pub mod Steps
 pub mod Strings
@@ -13,6 +28,7 @@ pub mod Wholes
 pub mod Reading
 pub mod AttrGrammar
 pub mod Written
+pub mod Puts
 pub mod AttrText
 pub mod AttrReading
 pub mod TypesIn

@@ -6,7 +6,8 @@ ghost use Rattle.plir_data.specs.Identifier.{is_identifier};
 ghost use Rattle.plir_text.specs.Bytes.{value_after};
 ghost use Rattle.plir_text.specs.Reading.{Gives};
 ghost use Rattle.plir_text.specs.Lists.{items_at};
-ghost use Rattle.plir_text.specs.AttrReading.{attr_kind, attr_head, name_at, bool_at, text_at, size_at, given_name_at, literal_at, bits_of, value_of, if_level, value_at};
+ghost use Rattle.plir_text.specs.AttrReading.{attr_kind, attr_head, name_at, bool_at, text_at, size_at, given_name_at};
+ghost use Rattle.plir_text.specs.AttrReading.{literal_at, bits_of, value_of, if_level, value_at};
 
 use crate::fault::{Fault, Stop};
 use crate::strings::{read_quoted, text_of};

@@ -8,6 +8,7 @@ ghost use Rattle.plir_data.specs.Integers.{literal};
 ghost use Rattle.plir_data.specs.Types.{IsLive, AllLive, type_at};
 ghost use Rattle.plir_data.specs.TypeText.{type_text};
 ghost use Rattle.plir_text.specs.AttrText.{is_signed, bare_text, leaf_text, attr_text, items_text, entries_text};
+ghost use Rattle.plir_text.specs.Puts.{Puts};
 
 use crate::put::{put_bool, put_given_names, put_identifier, put_segments, put_string};
 use plir_data::put::{put, put_comma, put_integer_text, put_spaced};
@@ -40,7 +41,7 @@ fn put_attr<D: OpSet>(
     attr: &AttrObj<D>,
 ) -> Result<(), Memory>
     requires { IsAttrLive D.attr_handles types.now (attr_view attr.now) }
-    ensures { OnOk result (string_bytes out.new ≡ string_bytes out.old ++ attr_text D.attr_id D.attr_text D.type_id D.type_body_text types.now (attr_view attr.now)) }
+    ensures { OnOk result (Puts out.old out.new (attr_text D.attr_id D.attr_text D.type_id D.type_body_text types.now (attr_view attr.now))) }
 {
     match attr {
         AttrObj::Identifier(value) => put_identifier(out, value),
@@ -66,7 +67,7 @@ fn put_dict<D: OpSet>(
     dict: &AttributeDict<D>,
 ) -> Result<(), Memory>
     requires { AreEntriesLive D.attr_handles types.now (entries_of dict.now) }
-    ensures { OnOk result (string_bytes out.new ≡ string_bytes out.old ++ (codes "builtin.dict [" ++ (entries_text D.attr_id D.attr_text D.type_id D.type_body_text types.now (entries_of dict.now) ++ codes "]"))) }
+    ensures { OnOk result (Puts out.old out.new (codes "builtin.dict [" ++ (entries_text D.attr_id D.attr_text D.type_id D.type_body_text types.now (entries_of dict.now) ++ codes "]"))) }
 {
     put(out, "builtin.dict [")?;
     put_entries(out, alloc, types, dict)?;
@@ -83,7 +84,7 @@ fn put_entries<D: OpSet>(
     dict: &AttributeDict<D>,
 ) -> Result<(), Memory>
     requires { AreEntriesLive D.attr_handles types.now (entries_of dict.now) }
-    ensures { OnOk result (string_bytes out.new ≡ string_bytes out.old ++ entries_text D.attr_id D.attr_text D.type_id D.type_body_text types.now (entries_of dict.now)) }
+    ensures { OnOk result (Puts out.old out.new (entries_text D.attr_id D.attr_text D.type_id D.type_body_text types.now (entries_of dict.now))) }
 {
     let mut is_first = true;
     'entries: for (key, value) in dict.iter() {
@@ -105,7 +106,7 @@ fn put_list<D: OpSet>(
     list: &Vec<AttrObj<D>>,
 ) -> Result<(), Memory>
     requires { AreItemsLive D.attr_handles types.now (items_of (map attr_view list.now.items)) }
-    ensures { OnOk result (string_bytes out.new ≡ string_bytes out.old ++ (codes "builtin.vec [" ++ (items_text D.attr_id D.attr_text D.type_id D.type_body_text types.now (items_of (map attr_view list.now.items)) ++ codes "]"))) }
+    ensures { OnOk result (Puts out.old out.new (codes "builtin.vec [" ++ (items_text D.attr_id D.attr_text D.type_id D.type_body_text types.now (items_of (map attr_view list.now.items)) ++ codes "]"))) }
 {
     put(out, "builtin.vec [")?;
     put_items(out, alloc, types, list)?;
@@ -122,7 +123,7 @@ fn put_items<D: OpSet>(
     list: &Vec<AttrObj<D>>,
 ) -> Result<(), Memory>
     requires { AreItemsLive D.attr_handles types.now (items_of (map attr_view list.now.items)) }
-    ensures { OnOk result (string_bytes out.new ≡ string_bytes out.old ++ items_text D.attr_id D.attr_text D.type_id D.type_body_text types.now (items_of (map attr_view list.now.items))) }
+    ensures { OnOk result (Puts out.old out.new (items_text D.attr_id D.attr_text D.type_id D.type_body_text types.now (items_of (map attr_view list.now.items)))) }
 {
     let mut is_first = true;
     'items: for item in list {
@@ -152,7 +153,7 @@ fn put_bare_type<D: OpSet>(
     handle: TypeHandle,
 ) -> Result<(), Memory>
     requires { IsLive types.now handle }
-    ensures { OnOk result (string_bytes out.new ≡ string_bytes out.old ++ bare_text (type_text D.type_id D.type_body_text types.now handle) (type_at types.now handle)) }
+    ensures { OnOk result (Puts out.old out.new (bare_text (type_text D.type_id D.type_body_text types.now handle) (type_at types.now handle))) }
 {
     match types.get(handle) {
         TypeObj::Integer(ty) => put_integer_text(out, ty),
@@ -167,14 +168,14 @@ fn put_type<D: OpSet>(
     handle: TypeHandle,
 ) -> Result<(), Memory>
     requires { IsLive types.now handle }
-    ensures { OnOk result (string_bytes out.new ≡ string_bytes out.old ++ type_text D.type_id D.type_body_text types.now handle) }
+    ensures { OnOk result (Puts out.old out.new (type_text D.type_id D.type_body_text types.now handle)) }
 {
     let text = type_text(alloc, types, handle)?;
     put(out, text.as_str())
 }
 
 fn put_literal(out: &mut String, alloc: Global, value: APInt, signed: bool) -> Result<(), Memory>
-    ensures { OnOk result (string_bytes out.new ≡ string_bytes out.old ++ literal signed value.width value.bits) }
+    ensures { OnOk result (Puts out.old out.new (literal signed value.width value.bits)) }
 {
     let text = value.to_string_decimal(alloc, signed)?;
     put(out, text.as_str())
@@ -188,7 +189,7 @@ fn put_integer<D: OpSet>(
     value: &IntegerAttr,
 ) -> Result<(), Memory>
     requires { IsLive types.now value.now.ty }
-    ensures { OnOk result (string_bytes out.new ≡ string_bytes out.old ++ leaf_text D.attr_id D.attr_text D.type_id D.type_body_text types.now (integer value.now.ty value.now.value.width value.now.value.bits)) }
+    ensures { OnOk result (Puts out.old out.new (leaf_text D.attr_id D.attr_text D.type_id D.type_body_text types.now (integer value.now.ty value.now.value.width value.now.value.bits))) }
 {
     let handle = value.get_type().into();
     put(out, "builtin.integer <")?;
@@ -207,7 +208,7 @@ fn put_type_attr<D: OpSet>(
     value: TypeAttr,
 ) -> Result<(), Memory>
     requires { IsLive types.now value.0 }
-    ensures { OnOk result (string_bytes out.new ≡ string_bytes out.old ++ leaf_text D.attr_id D.attr_text D.type_id D.type_body_text types.now (type_of value.0)) }
+    ensures { OnOk result (Puts out.old out.new (leaf_text D.attr_id D.attr_text D.type_id D.type_body_text types.now (type_of value.0))) }
 {
     put(out, "builtin.type ")?;
     put_type(out, alloc, types, value.get_type())?;
@@ -222,7 +223,7 @@ fn put_own<D: OpSet>(
     value: &D::Attr,
 ) -> Result<(), Memory>
     requires { AllLive types.now (D.attr_handles value.now) }
-    ensures { OnOk result (string_bytes out.new ≡ string_bytes out.old ++ leaf_text D.attr_id D.attr_text D.type_id D.type_body_text types.now (own value.now)) }
+    ensures { OnOk result (Puts out.old out.new (leaf_text D.attr_id D.attr_text D.type_id D.type_body_text types.now (own value.now))) }
 {
     let body = D::attr_text(alloc, value, types)?;
     put(out, D::attr_id(value))?;

@@ -1,8 +1,9 @@
 //! The parts of a printed text.
 
-ghost use Rattle.std.specs.Prelude.{◌≡◌, ◌<◌, ◌++◌, OnOk, codes, string_bytes, ◌∷◌, []};
+ghost use Rattle.std.specs.Prelude.{◌≡◌, ◌<◌, ◌++◌, OnOk, codes, ◌∷◌, []};
 ghost use Rattle.std.specs.Fmt.{decimal};
 ghost use Rattle.plir_text.specs.AttrGrammar.{truth};
+ghost use Rattle.plir_text.specs.Puts.{Puts};
 ghost use Rattle.plir_text.specs.Written.{hex_digit, hex, is_control, escape, escape_char, escaped, quotation, joined, name_or_mark};
 
 use plir_data::put::{put, put_comma};
@@ -12,7 +13,7 @@ use plir_data::{
 };
 
 fn put_truth(out: &mut String, value: bool) -> Result<(), Memory>
-    ensures { OnOk result (string_bytes out.new ≡ string_bytes out.old ++ truth value) }
+    ensures { OnOk result (Puts out.old out.new (truth value)) }
 {
     if value {
         put(out, "true")
@@ -22,7 +23,7 @@ fn put_truth(out: &mut String, value: bool) -> Result<(), Memory>
 }
 
 fn put_number(out: &mut String, n: u32) -> Result<(), Memory>
-    ensures { OnOk result (string_bytes out.new ≡ string_bytes out.old ++ decimal n) }
+    ensures { OnOk result (Puts out.old out.new (decimal n)) }
 {
     write!(out, "{n}")?;
     Ok(())
@@ -30,7 +31,7 @@ fn put_number(out: &mut String, n: u32) -> Result<(), Memory>
 
 // Sizes of segments, with a comma and a space between them.
 fn put_sizes(out: &mut String, sizes: &[u32]) -> Result<(), Memory>
-    ensures { OnOk result (string_bytes out.new ≡ string_bytes out.old ++ joined decimal sizes.now) }
+    ensures { OnOk result (Puts out.old out.new (joined decimal sizes.now)) }
 {
     let mut is_first = true;
     'sizes: for size in sizes {
@@ -43,7 +44,7 @@ fn put_sizes(out: &mut String, sizes: &[u32]) -> Result<(), Memory>
 
 // A given name, or `?`.
 fn put_name(out: &mut String, name: &Option<Identifier>) -> Result<(), Memory>
-    ensures { OnOk result (string_bytes out.new ≡ string_bytes out.old ++ name_or_mark name.now) }
+    ensures { OnOk result (Puts out.old out.new (name_or_mark name.now)) }
 {
     match name {
         Some(name) => put(out, name.as_str()),
@@ -53,7 +54,7 @@ fn put_name(out: &mut String, name: &Option<Identifier>) -> Result<(), Memory>
 
 // Given names, with a comma and a space between them.
 fn put_names(out: &mut String, names: &[Option<Identifier>]) -> Result<(), Memory>
-    ensures { OnOk result (string_bytes out.new ≡ string_bytes out.old ++ joined name_or_mark names.now) }
+    ensures { OnOk result (Puts out.old out.new (joined name_or_mark names.now)) }
 {
     let mut is_first = true;
     'names: for name in names {
@@ -67,7 +68,7 @@ fn put_names(out: &mut String, names: &[Option<Identifier>]) -> Result<(), Memor
 // A character below 128.
 fn put_byte(out: &mut String, byte: u8) -> Result<(), Memory>
     requires { byte < 128 }
-    ensures { OnOk result (string_bytes out.new ≡ string_bytes out.old ++ byte ∷ []) }
+    ensures { OnOk result (Puts out.old out.new (byte ∷ [])) }
 {
     out.push(char::from(byte))?;
     Ok(())
@@ -82,7 +83,7 @@ fn hex_digit(n: u8) -> u8
 
 // A number in hexadecimal digits, without leading zeros.
 fn put_hex(out: &mut String, n: u8) -> Result<(), Memory>
-    ensures { OnOk result (string_bytes out.new ≡ string_bytes out.old ++ hex n) }
+    ensures { OnOk result (Puts out.old out.new (hex n)) }
 {
     if n >= 16 {
         put_byte(out, hex_digit(n / 16))?;
@@ -95,7 +96,7 @@ fn put_hex(out: &mut String, n: u8) -> Result<(), Memory>
 
 // A control character by its number.
 fn put_code(out: &mut String, byte: u8) -> Result<(), Memory>
-    ensures { OnOk result (string_bytes out.new ≡ string_bytes out.old ++ (codes "\\u{" ++ (hex byte ++ codes "}"))) }
+    ensures { OnOk result (Puts out.old out.new (codes "\\u{" ++ (hex byte ++ codes "}"))) }
 {
     put(out, "\\u{")?;
     put_hex(out, byte)?;
@@ -106,7 +107,7 @@ fn put_code(out: &mut String, byte: u8) -> Result<(), Memory>
 // A character below 128 of a string.
 fn put_escape(out: &mut String, byte: u8) -> Result<(), Memory>
     requires { byte < 128 }
-    ensures { OnOk result (string_bytes out.new ≡ string_bytes out.old ++ escape byte) }
+    ensures { OnOk result (Puts out.old out.new (escape byte)) }
 {
     if byte == b'"' {
         put(out, "\\\"")
@@ -129,7 +130,7 @@ fn put_escape(out: &mut String, byte: u8) -> Result<(), Memory>
 
 // A character of a string.
 fn put_char(out: &mut String, c: char) -> Result<(), Memory>
-    ensures { OnOk result (string_bytes out.new ≡ string_bytes out.old ++ escape_char c) }
+    ensures { OnOk result (Puts out.old out.new (escape_char c)) }
 {
     let code = u32::from(c);
     if code < 128 {
@@ -142,7 +143,7 @@ fn put_char(out: &mut String, c: char) -> Result<(), Memory>
 
 // What stands between the quotes of a string.
 fn put_escaped(out: &mut String, text: &str) -> Result<(), Memory>
-    ensures { OnOk result (string_bytes out.new ≡ string_bytes out.old ++ escaped text.now) }
+    ensures { OnOk result (Puts out.old out.new (escaped text.now)) }
 {
     'chars: for c in text.chars() {
         put_char(out, c)?;
@@ -152,7 +153,7 @@ fn put_escaped(out: &mut String, text: &str) -> Result<(), Memory>
 
 // A string with its quotes.
 fn put_quotation(out: &mut String, text: &str) -> Result<(), Memory>
-    ensures { OnOk result (string_bytes out.new ≡ string_bytes out.old ++ quotation text.now) }
+    ensures { OnOk result (Puts out.old out.new (quotation text.now)) }
 {
     put(out, "\"")?;
     put_escaped(out, text)?;
@@ -162,7 +163,7 @@ fn put_quotation(out: &mut String, text: &str) -> Result<(), Memory>
 
 // An identifier as an attribute.
 pub fn put_identifier(out: &mut String, value: &IdentifierAttr) -> Result<(), Memory>
-    ensures { OnOk result (string_bytes out.new ≡ string_bytes out.old ++ (codes "builtin.identifier " ++ value.now.0)) }
+    ensures { OnOk result (Puts out.old out.new (codes "builtin.identifier " ++ value.now.0)) }
 {
     put(out, "builtin.identifier ")?;
     put(out, value.as_ref().as_str())?;
@@ -171,7 +172,7 @@ pub fn put_identifier(out: &mut String, value: &IdentifierAttr) -> Result<(), Me
 
 // A string as an attribute.
 pub fn put_string(out: &mut String, value: &StringAttr) -> Result<(), Memory>
-    ensures { OnOk result (string_bytes out.new ≡ string_bytes out.old ++ (codes "builtin.string " ++ quotation value.now)) }
+    ensures { OnOk result (Puts out.old out.new (codes "builtin.string " ++ quotation value.now)) }
 {
     put(out, "builtin.string ")?;
     put_quotation(out, value.as_str())?;
@@ -180,7 +181,7 @@ pub fn put_string(out: &mut String, value: &StringAttr) -> Result<(), Memory>
 
 // A truth value as an attribute.
 pub fn put_bool(out: &mut String, value: BoolAttr) -> Result<(), Memory>
-    ensures { OnOk result (string_bytes out.new ≡ string_bytes out.old ++ (codes "builtin.bool " ++ truth value.0)) }
+    ensures { OnOk result (Puts out.old out.new (codes "builtin.bool " ++ truth value.0)) }
 {
     put(out, "builtin.bool ")?;
     put_truth(out, bool::from(value))?;
@@ -189,7 +190,7 @@ pub fn put_bool(out: &mut String, value: BoolAttr) -> Result<(), Memory>
 
 // Sizes of segments as an attribute.
 pub fn put_segments(out: &mut String, value: &OperandSegmentSizesAttr) -> Result<(), Memory>
-    ensures { OnOk result (string_bytes out.new ≡ string_bytes out.old ++ (codes "builtin.operand_segment_sizes [" ++ (joined decimal value.now ++ codes "]"))) }
+    ensures { OnOk result (Puts out.old out.new (codes "builtin.operand_segment_sizes [" ++ (joined decimal value.now ++ codes "]"))) }
 {
     put(out, "builtin.operand_segment_sizes [")?;
     put_sizes(out, value.0.as_slice())?;
@@ -199,7 +200,7 @@ pub fn put_segments(out: &mut String, value: &OperandSegmentSizesAttr) -> Result
 
 // Given names as an attribute.
 pub fn put_given_names(out: &mut String, value: &GivenNamesAttr) -> Result<(), Memory>
-    ensures { OnOk result (string_bytes out.new ≡ string_bytes out.old ++ (codes "builtin.given_names [" ++ (joined name_or_mark value.now ++ codes "]"))) }
+    ensures { OnOk result (Puts out.old out.new (codes "builtin.given_names [" ++ (joined name_or_mark value.now ++ codes "]"))) }
 {
     put(out, "builtin.given_names [")?;
     put_names(out, value.names())?;

@@ -1,6 +1,7 @@
 //! Strings: what stands between two `"`, with escapes.
 
-ghost use Rattle.std.specs.Prelude.{◌≡◌, ◌≤◌, ◌<◌, ◌^◌, ◌++◌, ◌+◌, ◌*◌, MatchOption, OnOk, encode_utf8, length, option_map, true, false, string_bytes};
+ghost use Rattle.std.specs.Prelude.{◌≡◌, ◌≤◌, ◌<◌, ◌^◌, ◌++◌, ◌+◌, ◌*◌, MatchOption, OnOk, encode_utf8, length};
+ghost use Rattle.std.specs.Prelude.{option_map, true, false, string_bytes};
 ghost use Rattle.std.specs.Str.{is_utf8};
 ghost use Rattle.plir_text.specs.Bytes.{is_hex, front, past, hex_value, hex_after};
 ghost use Rattle.plir_text.specs.Strings.{is_code, code_at, escape_at, unit_at, string_at};

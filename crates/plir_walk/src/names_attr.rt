@@ -6,7 +6,8 @@ ghost use Rattle.plir_data.specs.AttrSeen.{attr_view};
 ghost use Rattle.plir_data.specs.Dictionary.{IsDictionary, dict_get, dict_put, dict_without};
 ghost use Rattle.plir_core.specs.Store.{IsLive, entity_node};
 ghost use Rattle.plir_core.specs.Whole.{IsWhole};
-ghost use Rattle.plir_walk.specs.GivenNames.{name_at as name_in, names_of as names_in, names_at, names_key, has_other, has_other_at, attributes_at, with_attributes, with_names, remove_name};
+ghost use Rattle.plir_walk.specs.GivenNames.{name_at as name_in, names_of as names_in, names_at, names_key, has_other};
+ghost use Rattle.plir_walk.specs.GivenNames.{has_other_at, attributes_at, with_attributes, with_names, remove_name};
 ghost use Rattle.plir_walk.specs.Placing.{placed_name};
 
 use crate::name_list::{Placing, are_all_unset, place_name, remove_from};
