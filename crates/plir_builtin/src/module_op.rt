@@ -87,7 +87,7 @@ impl<D: OpSet> OneRegionInterface<D> for ModuleOp {}
 
 impl<D: OpSet> SingleBlockRegionInterface<D> for ModuleOp {}
 
-impl<D: SymbolUserSet> SymbolTableInterface<D> for ModuleOp {}
+impl<D: OpSet> SymbolTableInterface<D> for ModuleOp {}
 
 impl<D: OpSet> SymbolOpInterface<D> for ModuleOp {}
 

@@ -118,8 +118,7 @@ fn verify_table<D: SymbolUserSet>(
 }
 
 /// Operations that are symbol tables: they have one region with one block, their body.
-pub trait SymbolTableInterface<D: SymbolUserSet>: SingleBlockRegionInterface<D>
-    + OneRegionInterface<D> {
+pub trait SymbolTableInterface<D: OpSet>: SingleBlockRegionInterface<D> + OneRegionInterface<D> {
     /// The first symbol in the body that has a name. It is sought symbol by symbol.
     final fn lookup(&self, ctx: &Context<D>, name: &Identifier) -> Option<Ptr<Operation>>
         requires live { IsLive ctx.now (AnyNode.Operation (Self.pointer self.now)) }
@@ -139,6 +138,8 @@ pub trait SymbolTableInterface<D: SymbolUserSet>: SingleBlockRegionInterface<D>
         alloc: Global,
         ctx: &Context<D>,
     ) -> Result<(), VerifyErr<SymbolTableInterfaceErr<D::Err>>>
+    where
+        D: SymbolUserSet,
         requires live { IsLive ctx.now (AnyNode.Operation (Self.pointer self.now)) }
         requires table { is_table_kind D.is_symbol_table (kind_of ctx.now (Self.pointer self.now)) ≡ true }
         requires one_region { HasNRegions 1 ctx.now (Self.pointer self.now) }
