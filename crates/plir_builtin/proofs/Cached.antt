@@ -14,7 +14,7 @@ use Rattle.plir_builtin.specs.declared.symbol_table_err.SymbolTableErr.{SymbolTa
 use Rattle.plir_builtin.specs.declared.symbol_edits.SymbolEdit.TheVariants.{Insert, Remove, Erase}
 use Rattle.plir_builtin.specs.Table.{Table, Tables}
 use Rattle.plir_builtin.specs.Symbols.{body, scan}
-use Rattle.plir_builtin.specs.Agree.{Agrees, AllAgree, IsNewlyCached, IsCachedFor}
+use Rattle.plir_builtin.specs.Agree.{Agrees, AllAgree, AgreesAsLent, IsNewlyCached, IsCachedFor}
 use Rattle.plir_builtin.specs.Insertion.{inserted}
 use Rattle.plir_builtin.specs.Refusals.{Refusal, told, InsertRefused, RemoveRefused, IsPlaceable}
 use Rattle.plir_builtin.specs.TableEdits.{IsRecorded, IsForgotten}
@@ -25,6 +25,7 @@ use Rattle.std.specs.Ordering.{eq_by_cmp}
 use Rattle.std.proofs.lemmas.Option.{same_Some}
 use Rattle.plir_builtin.specs.Maps.{ptr_cmp}
 use Rattle.plir_builtin.specs.Symbols.{IsGood}
+use Rattle.plir_builtin.proofs.Brought.{lent-put}
 use Rattle.plir_builtin.proofs.Frames.{some-is}
 use Rattle.plir_builtin.proofs.MapViews.{insert-has, ptr_total, ptr_same, ptr_reflects}
 
@@ -77,14 +78,14 @@ module _ {K A T : Type 0} (own own_table : K → Bool) (s : Store K A T) (c : Ta
   erase-made w (Ok v) o t u unused a b = (((a.name, a.named), a.member ∙ ap (body s) cached_at.0), unused, b)
   erase-made w (Err e) o t u unused a b = tt
 
-  -- the collection afterwards
-  pub agree-after : (r : Result (Unit {0}) SymbolTableErr) (t : Store K A T) (u : Table) (n : Tables) (res : Option (MutBor Table)) (lent : MutBor Table) → res ≡ Some lent → OnSome res (n ≡ insert c table u)
-      → OnOk r ((d : Tables) → AllAgree own own_table s d → get d tab.op ≡ Some tab → AllAgree own own_table t (insert d tab.op u)) → OnErr r ((t ≡ s) × (u ≡ tab)) → AllAgree own own_table t n
-  agree-after r t u n res lent e put ok err = subst (AllAgree own own_table t) (sym (subst (λ z. OnSome z (n ≡ insert c table u)) e put)) (at r ok err)
+  -- the collection afterwards, of which P holds: that all its tables agree, or that they are cached for what was given out
+  pub kept-after : (P : Store K A T → Tables → Type 0) → P s c → (r : Result (Unit {0}) SymbolTableErr) (t : Store K A T) (u : Table) (n : Tables) (res : Option (MutBor Table)) (lent : MutBor Table) → res ≡ Some lent → OnSome res (n ≡ insert c table u)
+      → OnOk r ((d : Tables) → P s (insert d tab.op tab) → P t (insert d tab.op u)) → OnErr r ((t ≡ s) × (u ≡ tab)) → P t n
+  kept-after P h r t u n res lent e put ok err = subst (P t) (sym (subst (λ z. OnSome z (n ≡ insert c table u)) e put)) (at r ok err)
     where
-      at : (r : Result (Unit {0}) SymbolTableErr) → OnOk r ((d : Tables) → AllAgree own own_table s d → get d tab.op ≡ Some tab → AllAgree own own_table t (insert d tab.op u)) → OnErr r ((t ≡ s) × (u ≡ tab)) → AllAgree own own_table t (insert c table u)
-      at (Ok v) h k = subst (λ z. AllAgree own own_table t (insert c z u)) cached_at.0 (h c all (ap (get c) cached_at.0 ∙ sym has))
-      at (Err x) h k = subst (λ z. AllAgree own own_table z (insert c table u)) (sym k.0) (subst (AllAgree own own_table s) (sym (ap (insert c table) k.1 ∙ insert-has c table tab (sym has))) all)
+      at : (r : Result (Unit {0}) SymbolTableErr) → OnOk r ((d : Tables) → P s (insert d tab.op tab) → P t (insert d tab.op u)) → OnErr r ((t ≡ s) × (u ≡ tab)) → P t (insert c table u)
+      at (Ok v) f k = subst (λ z. P t (insert c z u)) cached_at.0 (f c (subst (P s) (sym (insert-has c tab.op tab (ap (get c) cached_at.0 ∙ sym has))) h))
+      at (Err x) f k = subst (λ z. P z (insert c table u)) (sym k.0) (subst (P s) (sym (ap (insert c table) k.1 ∙ insert-has c table tab (sym has))) h)
 
 -- what is said of what is told, if it is told
 pub if_told : (P Q : Refusal → Type 0) (o : Option Refusal) → ((r : Refusal) → P r → Q r) → IfSome o P → IfSome o Q
@@ -133,6 +134,14 @@ module _ {K A T : Type 0} (own own_table : K → Bool) (s : Store K A T) (c : Ta
       at : (o : Option Table) → get c p ≡ o → AllAgree own own_table s d
       at None e = let m = made e in agree-new own own_table s c all p m.0 m.2 m.3 d m.1
       at (Some t) e = subst (AllAgree own own_table s) (sym (kept (subst IsSome (sym e) refl))) all
+
+  -- with the table that is lent in its place all tables agree
+  pub brought-lent : (x : Table) → Some x ≡ get d p → AgreesAsLent own own_table s c p x
+  brought-lent x has =
+      let f = brought-for in (
+        ap (λ (z : Table). z.op) (same_Some x f.0 (has ∙ f.1)) ∙ f.2,
+        subst (AllAgree own own_table s) (sym (lent-put own own_table s c d p kept made x has)) brought-agree,
+      )
 
   -- what it finds is what a scan finds
   pub brought-found : (r : Option (Ptr OperationKind)) (x : List ℕ) → IfSome (get d p) (λ t. r ≡ get t.names x) → r ≡ scan own s p x

@@ -13,6 +13,8 @@ pub mod ReadLoop
 pub mod FindLoop
 pub mod EditLists
 pub mod Brought
+pub mod GivenOut
+pub mod NewNodes
 pub mod Seeking
 pub mod Places
 pub mod HandedCalls

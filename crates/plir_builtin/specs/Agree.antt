@@ -1,10 +1,10 @@
 -- Tables that agree with the bodies that they stand for.
-use Rattle.std.specs.Prelude.{◌≡◌, ℕ, Bool, List, Some, ◌⊎◌}
+use Rattle.std.specs.Prelude.{◌≡◌, ℕ, Bool, true, List, Some, ◌⊎◌}
 use Rattle.std.specs.FinMap as map
 use Rattle.plir_core.specs.declared.ptr.Ptr.{Ptr}
 use Rattle.plir_core.specs.declared.ptr.Operation.{Operation as OperationKind}
 use Rattle.plir_core.specs.declared.ptr.IRNode.TheVariants.{Operation}
-use Rattle.plir_core.specs.Store.{Store, IsLive}
+use Rattle.plir_core.specs.Store.{Store, IsLive, given_out}
 use Rattle.plir_builtin.specs.Table.{Table, Tables}
 use Rattle.plir_builtin.specs.Symbols.{IsGood, scan}
 
@@ -23,9 +23,13 @@ module _ {K A T : Type 0} (own_symbol own_table : K → Bool) where
   abbrev pub KeepsAgreement : Store K A T → Table → Store K A T → Table → Type 0
   KeepsAgreement s t s' t' = Agrees s t → Agrees s' t'
 
-  -- and if it is cached and all tables agreed, all agree
+  -- and where all tables agreed with this one cached for its operation, all agree with the edited one in its place
   abbrev pub KeepsAllAgree : Store K A T → Table → Store K A T → Table → Type 0
-  KeepsAllAgree s t s' t' = (c : Tables) → AllAgree s c → map.get c t.op ≡ Some t → AllAgree s' (map.insert c t.op t')
+  KeepsAllAgree s t s' t' = (c : Tables) → AllAgree s (map.insert c t.op t) → AllAgree s' (map.insert c t.op t')
+
+  -- the table t is lent for p out of c: it is that operation's, and with it in its place all tables agree
+  abbrev pub AgreesAsLent : Store K A T → Tables → Ptr OperationKind → Table → Type 0
+  AgreesAsLent s c p t = (t.op ≡ p) × AllAgree s (map.insert c p t)
 
   -- a new table is cached for p, which agrees
   abbrev pub IsNewlyCached : Store K A T → Tables → Ptr OperationKind → Tables → Type 0
@@ -34,3 +38,14 @@ module _ {K A T : Type 0} (own_symbol own_table : K → Bool) where
   -- the table that is cached for p belongs to p, and agrees
   abbrev pub IsCachedFor : Store K A T → Tables → Ptr OperationKind → Type 0
   IsCachedFor s c p = (t : Table) × (map.get c p ≡ Some t) × (t.op ≡ p) × Agrees s t
+
+module _ {K A T : Type 0} where
+  -- Each cached table is cached for an operation that was given out, and so was its own operation. (A table that is cached
+  -- for a pointer that is still to be given out would speak of an operation that is still to be made.)
+  abbrev pub AreGivenOut : Store K A T → Tables → Type 0
+  AreGivenOut s c = (p : Ptr OperationKind) (t : Table) → map.get c p ≡ Some t → (given_out s (Operation p) ≡ true) × (given_out s (Operation t.op) ≡ true)
+
+  -- an edit takes the context from s to s' and the table from t to t': where all tables were cached for what was given out with
+  -- this one among them, they are with the edited one in its place
+  abbrev pub KeepsGivenOut : Store K A T → Table → Store K A T → Table → Type 0
+  KeepsGivenOut s t s' t' = (c : Tables) → AreGivenOut s (map.insert c t.op t) → AreGivenOut s' (map.insert c t.op t')

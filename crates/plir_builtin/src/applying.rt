@@ -7,7 +7,7 @@ ghost use Rattle.plir_core.specs.Store.{IsLive, IsAncestor, parent_of};
 ghost use Rattle.plir_core.specs.Changes.{with_op_unlinked};
 ghost use Rattle.plir_core.specs.Unused.{IsUnusedOutside, without_tree};
 ghost use Rattle.plir_builtin.specs.Symbols.{IsGood, scan};
-ghost use Rattle.plir_builtin.specs.Agree.{AllAgree, IsCachedFor};
+ghost use Rattle.plir_builtin.specs.Agree.{AllAgree, AreGivenOut, IsCachedFor};
 ghost use Rattle.plir_builtin.specs.Refusals.{Tells, InsertRefused, RemoveRefused, TableRefused};
 ghost use Rattle.plir_builtin.specs.SymbolEdits.{IsMadeEdit, IsMember, IsEdited, AreEdited};
 ghost use Rattle.plir_builtin.specs.declared.symbol_edits.SymbolEdit.{SymbolEdit as Edit};
@@ -30,6 +30,7 @@ impl SymbolTableCollection {
         requires agree { AllAgree D.is_symbol D.is_symbol_table ctx.now self.old }
         ensures cached { OnOk result (IsCachedFor D.is_symbol D.is_symbol_table ctx.now self.new op) }
         ensures agree { AllAgree D.is_symbol D.is_symbol_table ctx.now self.new }
+        ensures given { AreGivenOut ctx.now self.old → AreGivenOut ctx.now self.new }
         ensures refused { IfErr result (Tells (TableRefused D.is_symbol D.is_symbol_table ctx.now op)) }
         ensures same { OnErr result (self.new ≡ self.old) }
     {
@@ -54,6 +55,7 @@ impl SymbolTableCollection {
         ensures refused { IfErr result (Tells (InsertRefused D.is_symbol ctx.old (scan D.is_symbol ctx.old table) table op point)) }
         ensures same { OnErr result (ctx.new ≡ ctx.old) }
         ensures agree { AllAgree D.is_symbol D.is_symbol_table ctx.new self.new }
+        ensures given { AreGivenOut ctx.old self.old → AreGivenOut ctx.new self.new }
     {
         match self.cached(table) {
             Some(cached) => cached.insert(ctx, op, point),
@@ -76,6 +78,7 @@ impl SymbolTableCollection {
         ensures refused { IfErr result (Tells (RemoveRefused D.is_symbol ctx.old table op)) }
         ensures same { OnErr result (ctx.new ≡ ctx.old) }
         ensures agree { AllAgree D.is_symbol D.is_symbol_table ctx.new self.new }
+        ensures given { AreGivenOut ctx.old self.old → AreGivenOut ctx.new self.new }
     {
         match self.cached(table) {
             Some(cached) => cached.remove(ctx, op),
@@ -99,6 +102,7 @@ impl SymbolTableCollection {
         ensures refused { IfErr result (Tells (RemoveRefused D.is_symbol ctx.old table op)) }
         ensures same { OnErr result (ctx.new ≡ ctx.old) }
         ensures agree { AllAgree D.is_symbol D.is_symbol_table ctx.new self.new }
+        ensures given { AreGivenOut ctx.old self.old → AreGivenOut ctx.new self.new }
     {
         match self.cached(table) {
             Some(cached) => cached.erase(ctx, op),
@@ -141,6 +145,7 @@ impl SymbolTableCollection {
         requires { AllAgree D.is_symbol D.is_symbol_table ctx.old self.old }
         ensures edited { IsEdited D.is_terminator D.is_symbol D.is_symbol_table ctx.old (Edit.Insert table op point) result ctx.new }
         ensures agree { AllAgree D.is_symbol D.is_symbol_table ctx.new self.new }
+        ensures given { AreGivenOut ctx.old self.old → AreGivenOut ctx.new self.new }
     {
         if !are_live(ctx, table, op) {
             return Err(SymbolEditErr::DeadPointer);
@@ -169,6 +174,7 @@ impl SymbolTableCollection {
         requires { AllAgree D.is_symbol D.is_symbol_table ctx.old self.old }
         ensures edited { IsEdited D.is_terminator D.is_symbol D.is_symbol_table ctx.old (Edit.Remove table op) result ctx.new }
         ensures agree { AllAgree D.is_symbol D.is_symbol_table ctx.new self.new }
+        ensures given { AreGivenOut ctx.old self.old → AreGivenOut ctx.new self.new }
     {
         if !are_live(ctx, table, op) {
             return Err(SymbolEditErr::DeadPointer);
@@ -191,6 +197,7 @@ impl SymbolTableCollection {
         requires { AllAgree D.is_symbol D.is_symbol_table ctx.old self.old }
         ensures edited { IsEdited D.is_terminator D.is_symbol D.is_symbol_table ctx.old (Edit.Erase table op) result ctx.new }
         ensures agree { AllAgree D.is_symbol D.is_symbol_table ctx.new self.new }
+        ensures given { AreGivenOut ctx.old self.old → AreGivenOut ctx.new self.new }
     {
         if !are_live(ctx, table, op) {
             return Err(SymbolEditErr::DeadPointer);
@@ -219,6 +226,7 @@ impl SymbolTableCollection {
         requires { AllAgree D.is_symbol D.is_symbol_table ctx.old self.old }
         ensures edited { IsEdited D.is_terminator D.is_symbol D.is_symbol_table ctx.old edit result ctx.new }
         ensures agree { AllAgree D.is_symbol D.is_symbol_table ctx.new self.new }
+        ensures given { AreGivenOut ctx.old self.old → AreGivenOut ctx.new self.new }
     {
         match edit {
             SymbolEdit::Insert { table, op, point } => { self.apply_insert(ctx, table, op, point) }
@@ -235,6 +243,8 @@ impl SymbolTableCollection {
     ) -> Result<Vec<Result<(), SymbolEditErr>>, Memory>
         requires { AllAgree D.is_symbol D.is_symbol_table ctx.old self.old }
         ensures edited { IfOk result (λ rs. AreEdited D.is_terminator D.is_symbol D.is_symbol_table ctx.old edits.items rs.items ctx.new self.new) }
+        ensures agree { AllAgree D.is_symbol D.is_symbol_table ctx.new self.new }
+        ensures given { AreGivenOut ctx.old self.old → AreGivenOut ctx.new self.new }
         ensures same { OnErr result ((ctx.new ≡ ctx.old) × (self.new ≡ self.old)) }
     {
         let mut replies = Vec::with_capacity(self.alloc, edits.len())?;

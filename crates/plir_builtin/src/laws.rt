@@ -2,8 +2,9 @@
 ghost use Rattle.std.specs.FinMap as map;
 ghost use Rattle.plir_iface.specs.Counts.{HasNOpds, HasNRegions, HasNResults};
 ghost use Rattle.plir_iface.specs.Regions.{HasSingleBlocks};
-ghost use Rattle.plir_builtin.specs.Agree.{AllAgree};
+ghost use Rattle.plir_builtin.specs.Agree.{AllAgree, AreGivenOut};
 ghost use Rattle.plir_builtin.specs.BuiltinOps.{HasConstantValue, HasFuncType};
+ghost use Rattle.plir_builtin.specs.Lasting.{LastsOverNodes, LastsOverRefusals, LastsOverTypes, StaysGivenOut};
 ghost use Rattle.plir_builtin.specs.OpRules.{HasConstantRules, HasFuncRules, HasModuleRules};
 ghost use Rattle.plir_builtin.specs.Symbols.{HasSymbolName, IsGood};
 
@@ -12,13 +13,27 @@ use crate::func_op::FuncOp;
 use crate::module_op::ModuleOp;
 use crate::symbol_users::SymbolUserSet;
 use plir_core::Context;
+use plir_core::laws::contexts_stand;
 use plir_data::OpSet;
 
 /// A collection that caches no table agrees with every context: what `SymbolTableCollection::new` answers may be handed to
 /// `SymbolTableCollection::apply_all`.
 pub fn no_tables_agree<D: OpSet>(ctx: &Context<D>)
-    ensures { AllAgree D.is_symbol D.is_symbol_table ctx.now map.empty }
+    ensures agree { AllAgree D.is_symbol D.is_symbol_table ctx.now map.empty }
+    ensures given { AreGivenOut ctx.now map.empty }
 {
+    let _count = ctx.num_live();
+}
+
+/// Tables that agree still agree once a tree of new nodes was made, as by a constructor, once a constructor was refused, and once
+/// a type was made: so a collection may serve before and after.
+pub fn new_nodes_keep_agreement<D: OpSet>(ctx: &Context<D>)
+    ensures made { LastsOverNodes D.is_symbol D.is_symbol_table D.attr_handles ctx.now }
+    ensures refused { LastsOverRefusals D.is_symbol D.is_symbol_table D.attr_handles ctx.now }
+    ensures types { LastsOverTypes D.is_symbol D.is_symbol_table D.attr_handles ctx.now }
+    ensures given { StaysGivenOut ctx.now }
+{
+    contexts_stand::<D>();
     let _count = ctx.num_live();
 }
 

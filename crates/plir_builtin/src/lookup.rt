@@ -4,12 +4,13 @@ ghost use Rattle.std.specs.FinMap as map;
 ghost use Rattle.plir_core.specs.declared.ptr.IRNode.{IRNode as AnyNode};
 ghost use Rattle.plir_core.specs.Store.{IsLive};
 ghost use Rattle.plir_builtin.specs.Symbols.{IsGood, scan};
-ghost use Rattle.plir_builtin.specs.Agree.{Agrees, AllAgree, IsNewlyCached};
+ghost use Rattle.plir_builtin.specs.Agree.{Agrees, AgreesAsLent, AllAgree, AreGivenOut, IsNewlyCached};
 ghost use Rattle.plir_builtin.specs.Nearest.{IsFoundNearest, NearestRefused};
 ghost use Rattle.plir_builtin.specs.Refusals.{Tells, TableRefused};
 
 use crate::collection::SymbolTableCollection;
 use crate::nearest::nearest_symbol_table;
+use crate::standing::stands;
 use crate::symbol_table::SymbolTable;
 use crate::symbol_table_err::SymbolTableErr;
 use plir_core::{Context, Operation, Ptr};
@@ -29,9 +30,11 @@ impl SymbolTableCollection {
         ensures kept { OnOk result (IsSome (map.get self.old op) → self.new ≡ self.old) }
         ensures made { OnOk result (map.get self.old op ≡ None → IsNewlyCached D.is_symbol D.is_symbol_table ctx.now self.old op self.new) }
         ensures absent { OnErr result (map.get self.old op ≡ None) }
+        ensures given { AreGivenOut ctx.now self.old → AreGivenOut ctx.now self.new }
         ensures refused { IfErr result (Tells (TableRefused D.is_symbol D.is_symbol_table ctx.now op)) }
         ensures same { OnErr result (self.new ≡ self.old) }
     {
+        stands(ctx);
         if self.is_cached(op) {
             return Ok(());
         }
@@ -51,6 +54,8 @@ impl SymbolTableCollection {
         ensures* writes_back { sem 𝓛 (LendsTable self.entry op result) }
         ensures cached { IfOk result (λ t. IfSome (map.get self.old op) (λ u. t.now ≡ u)) }
         ensures made { IfOk result (λ t. map.get self.old op ≡ None → (t.now.op ≡ op) × Agrees D.is_symbol D.is_symbol_table ctx.now t.now) }
+        ensures agree { IfOk result (λ t. AllAgree D.is_symbol D.is_symbol_table ctx.now self.old → AgreesAsLent D.is_symbol D.is_symbol_table ctx.now self.old op t.now) }
+        ensures given { IfOk result (λ t. AreGivenOut ctx.now self.old → AreGivenOut ctx.now (map.insert self.old op t.now)) }
         ensures absent { OnErr result (map.get self.old op ≡ None) }
         ensures refused { IfErr result (Tells (TableRefused D.is_symbol D.is_symbol_table ctx.now op)) }
     {
@@ -76,6 +81,7 @@ impl SymbolTableCollection {
         ensures found { AllAgree D.is_symbol D.is_symbol_table ctx.now self.old → IfOk result (λ r. r ≡ scan D.is_symbol ctx.now table name.now) }
         ensures good { AllAgree D.is_symbol D.is_symbol_table ctx.now self.old → OnOk result (IsGood D.is_symbol D.is_symbol_table ctx.now table) }
         ensures agree { AllAgree D.is_symbol D.is_symbol_table ctx.now self.old → AllAgree D.is_symbol D.is_symbol_table ctx.now self.new }
+        ensures given { AreGivenOut ctx.now self.old → AreGivenOut ctx.now self.new }
         ensures recorded { IfOk result (λ r. IfSome (map.get self.new table) (λ t. r ≡ map.get t.names name.now)) }
         ensures kept { IsSome (map.get self.old table) → self.new ≡ self.old }
         ensures refused { IfErr result (Tells (TableRefused D.is_symbol D.is_symbol_table ctx.now table)) }
@@ -98,6 +104,7 @@ impl SymbolTableCollection {
         requires live { IsLive ctx.now (AnyNode.Operation from) }
         ensures found { AllAgree D.is_symbol D.is_symbol_table ctx.now self.old → IfOk result (IsFoundNearest D.is_symbol D.is_symbol_table ctx.now from name.now) }
         ensures agree { AllAgree D.is_symbol D.is_symbol_table ctx.now self.old → AllAgree D.is_symbol D.is_symbol_table ctx.now self.new }
+        ensures given { AreGivenOut ctx.now self.old → AreGivenOut ctx.now self.new }
         ensures refused { IfErr result (NearestRefused D.is_symbol D.is_symbol_table ctx.now from) }
         ensures same { OnErr result (self.new ≡ self.old) }
     {

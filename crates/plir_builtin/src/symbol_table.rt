@@ -8,7 +8,7 @@ ghost use Rattle.plir_core.specs.InsertionPoint.{IsPointLive};
 ghost use Rattle.plir_core.specs.Changes.{with_op_unlinked};
 ghost use Rattle.plir_core.specs.Unused.{IsUnusedOutside, without_tree};
 ghost use Rattle.plir_builtin.specs.Symbols.{body};
-ghost use Rattle.plir_builtin.specs.Agree.{Agrees, KeepsAgreement, KeepsAllAgree};
+ghost use Rattle.plir_builtin.specs.Agree.{Agrees, KeepsAgreement, KeepsAllAgree, KeepsGivenOut};
 ghost use Rattle.plir_builtin.specs.Insertion.{inserted};
 ghost use Rattle.plir_builtin.specs.Refusals.{Tells, TellsOnly, IsSymbolNamed, IsPlaceable, InsertRefused, RemoveRefused, TableRefused};
 ghost use Rattle.plir_builtin.specs.Reading.{IsRead};
@@ -187,6 +187,7 @@ impl SymbolTable {
         ensures same { OnErr result ((ctx.new ≡ ctx.old) × (self.new ≡ self.old)) }
         ensures agrees { OnOk result (KeepsAgreement D.is_symbol D.is_symbol_table ctx.old self.old ctx.new self.new) }
         ensures all_agree { OnOk result (KeepsAllAgree D.is_symbol D.is_symbol_table ctx.old self.old ctx.new self.new) }
+        ensures given { OnOk result (KeepsGivenOut ctx.old self.old ctx.new self.new) }
     {
         let Plan { name, body, place } = self.plan(ctx, op, point)?;
         stands(ctx);
@@ -230,6 +231,7 @@ impl SymbolTable {
         ensures same { OnErr result ((ctx.new ≡ ctx.old) × (self.new ≡ self.old)) }
         ensures agrees { OnOk result (KeepsAgreement D.is_symbol D.is_symbol_table ctx.old self.old ctx.new self.new) }
         ensures all_agree { OnOk result (KeepsAllAgree D.is_symbol D.is_symbol_table ctx.old self.old ctx.new self.new) }
+        ensures given { OnOk result (KeepsGivenOut ctx.old self.old ctx.new self.new) }
     {
         self.forget(ctx, op)?;
         stands(ctx);
@@ -255,6 +257,7 @@ impl SymbolTable {
         ensures same { OnErr result ((ctx.new ≡ ctx.old) × (self.new ≡ self.old)) }
         ensures agrees { OnOk result (KeepsAgreement D.is_symbol D.is_symbol_table ctx.old self.old ctx.new self.new) }
         ensures all_agree { OnOk result (KeepsAllAgree D.is_symbol D.is_symbol_table ctx.old self.old ctx.new self.new) }
+        ensures given { OnOk result (KeepsGivenOut ctx.old self.old ctx.new self.new) }
     {
         self.forget(ctx, op)?;
         stands(ctx);

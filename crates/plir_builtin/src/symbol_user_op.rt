@@ -1,8 +1,8 @@
 //! The interface of operations that use symbols.
-ghost use Rattle.std.specs.Prelude.{◌≡◌, Ok, IfErr, OnOk};
+ghost use Rattle.std.specs.Prelude.{◌≡◌, ℕ, List, Ok, IfOk, IfErr, OnOk};
 ghost use Rattle.plir_core.specs.declared.ptr.IRNode.{IRNode as AnyNode};
 ghost use Rattle.plir_core.specs.Store.{Store, IsLive};
-ghost use Rattle.plir_builtin.specs.Agree.{AllAgree};
+ghost use Rattle.plir_builtin.specs.Agree.{AllAgree, AreGivenOut};
 ghost use Rattle.plir_builtin.specs.SymbolUses.{IsUseRefused};
 
 use crate::collection::SymbolTableCollection;
@@ -13,6 +13,9 @@ use std::alloc::Global;
 
 /// Operations that use symbols by their names.
 pub trait SymbolUserOpInterface<D: OpSet>: Op<D> {
+    // The names that the operation uses.
+    ghost names_used: { Self → Store D.Kind D.Attr D.Ty → List (List ℕ) };
+
     // The uses of the operation are right.
     ghost has_right_uses: { Self → Store D.Kind D.Attr D.Ty → Type 0 };
 
@@ -26,11 +29,13 @@ pub trait SymbolUserOpInterface<D: OpSet>: Op<D> {
         requires { IsLive ctx.now (AnyNode.Operation (Self.pointer self.now)) }
         ensures ok { AllAgree D.is_symbol D.is_symbol_table ctx.now tables.old → OnOk result (has_right_uses self.now ctx.now) }
         ensures refused { AllAgree D.is_symbol D.is_symbol_table ctx.now tables.old → IfErr result (IsUseRefused (has_right_uses self.now ctx.now)) }
-        ensures agree { AllAgree D.is_symbol D.is_symbol_table ctx.now tables.old → AllAgree D.is_symbol D.is_symbol_table ctx.now tables.new };
+        ensures agree { AllAgree D.is_symbol D.is_symbol_table ctx.now tables.old → AllAgree D.is_symbol D.is_symbol_table ctx.now tables.new }
+        ensures given { AreGivenOut ctx.now tables.old → AreGivenOut ctx.now tables.new };
 
     /// The names that the operation uses.
     fn used_symbols(&self, alloc: Global, ctx: &Context<D>) -> Result<Vec<Identifier>, Memory>
-        requires { IsLive ctx.now (AnyNode.Operation (Self.pointer self.now)) };
+        requires { IsLive ctx.now (AnyNode.Operation (Self.pointer self.now)) }
+        ensures { IfOk result (λ names. names.items ≡ names_used self.now ctx.now) };
 
     /// Accepts always.
     final fn verify(&self, _ctx: &Context<D>) -> Result<(), Memory>

@@ -4,14 +4,14 @@ ghost use Rattle.plir_core.specs.declared.ptr.Operation.{Operation as OperationK
 ghost use Rattle.plir_core.specs.declared.ptr.Ptr.{Ptr as AnyPtr};
 ghost use Rattle.plir_core.specs.declared.ptr.IRNode.{IRNode as AnyNode};
 ghost use Rattle.plir_core.specs.Store.{Store, IsLive, kids, kind_of};
-ghost use Rattle.plir_builtin.specs.Agree.{AllAgree};
+ghost use Rattle.plir_builtin.specs.Agree.{AllAgree, AreGivenOut};
 ghost use Rattle.plir_builtin.specs.Handed.{is_table_at};
 ghost use Rattle.plir_builtin.specs.SymbolUses.{is_user_kind, AllUsesHold, IsUseCheck, IsUseRefused};
 
 use crate::collection::SymbolTableCollection;
 use crate::walking::walk_symbol_table;
 use plir_core::{Context, Interface, Operation, Ptr, kind_impls};
-use plir_data::{OpSet, VerifyErr};
+use plir_data::{BuiltinSet, OpSet, VerifyErr};
 use plir_walk::interruptible::{WalkResult, walk_advance, walk_break};
 use std::alloc::Global;
 use std::ops::ControlFlow;
@@ -21,18 +21,33 @@ pub trait SymbolUserSet: OpSet {
     // The uses of an operation are right.
     ghost uses_hold: { Store Self.Kind Self.Attr Self.Ty → AnyPtr OperationKind → Type 0 };
 
-    /// Accepts exactly where the uses of a symbol user are right, where all tables of the collection agree, memory aside;
-    /// they agree afterwards.
+    /// Accepts exactly where the uses of an operation are right, where all tables of the collection agree, memory aside;
+    /// they agree afterwards. The verifier of tables asks it of symbol users alone.
     fn verify_symbol_uses(
         ctx: &Context<Self>,
         op: Ptr<Operation>,
         tables: &mut SymbolTableCollection,
     ) -> Result<(), VerifyErr<Self::Err>>
-        requires live { IsLive ctx.now (AnyNode.Operation op) }
-        requires user { is_user_kind Self.is_symbol_user (kind_of ctx.now op) ≡ true }
+        requires { IsLive ctx.now (AnyNode.Operation op) }
         ensures ok { AllAgree Self.is_symbol Self.is_symbol_table ctx.now tables.old → OnOk result (uses_hold ctx.now op) }
         ensures refused { AllAgree Self.is_symbol Self.is_symbol_table ctx.now tables.old → IfErr result (IsUseRefused (uses_hold ctx.now op)) }
-        ensures agree { AllAgree Self.is_symbol Self.is_symbol_table ctx.now tables.old → AllAgree Self.is_symbol Self.is_symbol_table ctx.now tables.new };
+        ensures agree { AllAgree Self.is_symbol Self.is_symbol_table ctx.now tables.old → AllAgree Self.is_symbol Self.is_symbol_table ctx.now tables.new }
+        ensures given { AreGivenOut ctx.now tables.old → AreGivenOut ctx.now tables.new };
+}
+
+impl SymbolUserSet for BuiltinSet {
+    ghost use Rattle.std.specs.Prelude.{⊤};
+
+    ghost uses_hold = { λ _ _. ⊤ };
+
+    /// Accepts: no builtin operation uses symbols.
+    fn verify_symbol_uses(
+        _ctx: &Context<Self>,
+        _op: Ptr<Operation>,
+        _tables: &mut SymbolTableCollection,
+    ) -> Result<(), VerifyErr<Self::Err>> {
+        Ok(())
+    }
 }
 
 /// Whether an operation is a symbol user.

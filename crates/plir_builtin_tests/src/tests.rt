@@ -1,4 +1,11 @@
 //! Symbol tables and builtin operations, as scripts.
+mod around;
+mod link_set;
+mod many;
+mod one_collection;
 mod operations;
 mod scripts;
+mod sessions;
+mod symbol_scripts;
+mod symbols;
 mod tables;

@@ -1,6 +1,7 @@
 -- Written operations that stand in a context go on standing there while others are made.
 use Rattle.std.proofs.Common.{◌≡◌, ℕ, zero, suc, ◌+◌, List, [], ◌∷◌, ◌++◌, Option, Some, None, inl, inr, refl, sym, ap, subst, ◌∙◌, arith}
 use Rattle.std.proofs.lemmas.Option.{same_Some, none-some}
+use Rattle.plir_data.specs.AttrView.{AttrView}
 use Rattle.plir_store.specs.Table.{content_at}
 use Rattle.plir_core.specs.declared.ptr.Ptr.{Ptr}
 use Rattle.plir_core.specs.declared.ptr.Operation.{Operation as OperationKind}
@@ -16,9 +17,11 @@ use Rattle.plir_core.specs.Standing.{IsStanding}
 use Rattle.plir_core.specs.Store.{Store, IsLive, kids, parent_of, depth, op_at, block_at}
 use Rattle.plir_text.specs.Names.{Grows}
 use Rattle.plir_text.specs.Growth.{Grows-itself, Names-grown, NamesAll-grown}
-use Rattle.plir_read.specs.OpTerms.{Head, module_head, func_head, BlockHead, OpTerm, op_term, BlockTerms, no_blocks, block_before, OpTerms, no_ops, op_before, ops_of, BlockTerm, blocks_of}
-use Rattle.plir_read.specs.Heads.{argument_types, written_block}
-use Rattle.plir_read.specs.OpsStanding.{HoldsOp, HoldsBlock, IsHeadAt, IsBlockHeadAt, IsOpAt, AreBlocksAt, AreOpsAt, IsBlockAt}
+use Rattle.plir_text.specs.Meanings.{IsMeant-grown, IsDictMeant-grown}
+use Rattle.plir_text.specs.Terms.{AttrTerm, TypeTerm}
+use Rattle.plir_read.specs.OpTerms.{Head, module_head, func_head, Header, BlockHead, OpTerm, op_term, constant_term, BlockTerms, no_blocks, block_before, OpTerms, no_ops, op_before, ops_of, BlockTerm, blocks_of}
+use Rattle.plir_read.specs.Heads.{result_names, argument_types, written_block}
+use Rattle.plir_read.specs.OpsStanding.{HoldsOp, HoldsBlock, IsConstantAt, IsHeadAt, IsHeaderAt, IsBlockHeadAt, IsOpAt, AreBlocksAt, AreOpsAt, IsBlockAt}
 
 module _ {K A T : Type 0} where
   -- The nodes that pass hold what they held and have the kids that they had, and their kids pass.
@@ -40,18 +43,31 @@ module _ {K A T : Type 0} where
     holds_block (Region p) v h e = e
     holds_block (Operation p) v h e = e
 
-    head_kept : (n : IRNode) (h : Head) → P n → IsHeadAt s n h → IsHeadAt t n h
-    head_kept n (module_head w) h e = holds_op n _ h e
-    head_kept n (func_head w ty) h e = (e.0, Names-grown s.types t.types e.0 ty f.types e.1, holds_op n _ h e.2)
+    head_kept : (n : IRNode) (h : Head) (entries : List (List ℕ × AttrView A)) → P n → IsHeadAt s n h entries → IsHeadAt t n h entries
+    head_kept n (module_head w) entries h e = holds_op n _ h e
+    head_kept n (func_head w ty) entries h e = (e.0, Names-grown s.types t.types e.0 ty f.types e.1, holds_op n _ h e.2)
+
+    header_kept : (n : IRNode) (h : Header) → P n → IsHeaderAt s n h → IsHeaderAt t n h
+    header_kept n h p e = (e.0, IsDictMeant-grown s.types t.types f.types h.1 e.0 e.1, head_kept n h.0 e.0 p e.2)
 
     block_head_kept : (n : IRNode) (b : BlockHead) → P n → IsBlockHeadAt s n b → IsBlockHeadAt t n b
     block_head_kept n b h e = (e.0, NamesAll-grown s.types t.types e.0 (argument_types b.1) f.types e.1, holds_block n (written_block b e.0) h e.2)
 
+    constant_kept : (n : IRNode) (names : List (Option (List ℕ))) (c : AttrTerm × TypeTerm) → P n → IsConstantAt s n names c → IsConstantAt t n names c
+    constant_kept n names c h e = (
+      e.0,
+      e.1,
+      record { meant = IsMeant-grown s.types t.types f.types c.0 e.0 e.2.meant; typed = Names-grown s.types t.types e.1 c.1 f.types e.2.typed },
+      holds_op n _ h e.3,
+      f.same n h ∙ e.4,
+    )
+
     mutual
       pub IsOpAt-kept : (n : IRNode) (o : OpTerm) → P n → IsOpAt s n o → IsOpAt t n o
+      IsOpAt-kept n (constant_term w a ty) p e = constant_kept n (result_names (w ∷ [])) (a, ty) p e
       IsOpAt-kept n (op_term h bs) p e =
           let inside : P e.0 = f.down n e.0 p (subst (λ z. Has z e.0) (sym e.2) (inl refl)) in
-          (e.0, head_kept n h p e.1, f.same n p ∙ e.2, subst (λ z. AreBlocksAt t z bs) (sym (f.same e.0 inside)) (AreBlocksAt-kept (kids s e.0) bs (λ x. f.down e.0 x inside) e.3))
+          (e.0, header_kept n h p e.1, f.same n p ∙ e.2, subst (λ z. AreBlocksAt t z bs) (sym (f.same e.0 inside)) (AreBlocksAt-kept (kids s e.0) bs (λ x. f.down e.0 x inside) e.3))
 
       pub AreBlocksAt-kept : (ns : List IRNode) (bs : BlockTerms) → ((x : IRNode) → Has ns x → P x) → AreBlocksAt s ns bs → AreBlocksAt t ns bs
       AreBlocksAt-kept ns no_blocks all e = e

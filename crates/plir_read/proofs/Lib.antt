@@ -2,7 +2,12 @@ pub mod Frames
 pub mod NamesGiven
 pub mod Gathered
 pub mod Loops
+pub mod EntriesLive
+pub mod HeadsGrown
+pub mod Dictionaries
+pub mod StartFound
 pub mod OpFound
+pub mod StartAgain
 pub mod OpAgain
 pub mod OpSteps
 pub mod OpMade

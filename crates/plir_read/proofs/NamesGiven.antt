@@ -1,15 +1,20 @@
 -- Names without their suffixes, and arguments that are read one after the other.
-use Rattle.std.proofs.Common.{◌≡◌, ℕ, suc, ◌-◌, ◌≤◌, ◌+◌, Bool, true, false, cond, ◌&&◌, ◌||◌, List, [], ◌∷◌, ◌++◌, length, take, drop, Option, Some, None, option_map, refl, sym, ap, subst, ◌∙◌, arith, append_assoc, append-nil, length-append}
+use Rattle.std.proofs.Common.{◌≡◌, ℕ, suc, ◌-◌, ◌≤◌, ◌<◌, ◌+◌, Bool, true, false, cond, ◌&&◌, ◌||◌, List, [], ◌∷◌, ◌++◌, length, take, drop, Option, Some, None, option_map, Ok, refl, sym, ap, subst, ◌∙◌, arith, append_assoc, append-nil, length-append}
+use Rattle.std.proofs.lemmas.List.{map-append}
 use Rattle.std.proofs.lemmas.Option.{same_Some, none-some}
 use Rattle.plir_data.specs.Identifier.{is_identifier, all_in_identifier, is_letter, is_digit}
 use Rattle.plir_data.specs.Types.{TypeView}
+use Rattle.plir_text.specs.AttrGrammar.{SpellsIdentifier}
+use Rattle.plir_text.specs.AttrReading.{name_at}
 use Rattle.plir_text.specs.Fronts.{GoesOn}
+use Rattle.plir_text.specs.LeavesFound.{found-shorter, name_found}
 use Rattle.plir_text.specs.Lists.{separator_at, items_at}
 use Rattle.plir_text.specs.Names.{Grows, Names, NamesAll}
-use Rattle.plir_read.specs.Heads.{argument_types, argument_names}
-use Rattle.plir_read.specs.OpReading.{argument_at}
+use Rattle.plir_read.specs.Heads.{argument_types, argument_names, result_names}
+use Rattle.plir_read.specs.OpReading.{argument_at, names_at}
 use Rattle.plir_read.specs.OpTerms.{Argument}
 use Rattle.plir_read.specs.Suffixes.{is_joined_suffix, before_suffix, given_name}
+use Rattle.plir_read.proofs.OpSteps.{from_start}
 use Rattle.plir_read.specs.declared.names.Suffix.{Suffix}
 use Rattle.plir_read.specs.declared.names.Suffix.TheVariants as kinds
 
@@ -113,3 +118,22 @@ typed_push types hs (x ∷ front) h a n m = (n.0, n.1 ++ h ∷ [], n.2, typed_pu
 pub named_push : (front : List Argument) (a : Argument) → argument_names (front ++ a ∷ []) ≡ argument_names front ++ given_name kinds.Argument a.0 ∷ []
 named_push [] a = refl
 named_push (x ∷ front) a = ap (λ (l : List (Option (List ℕ))). given_name kinds.Argument x.0 ∷ l) (named_push front a)
+
+-- ---- names of results that are read one after the other
+
+-- the names read so far are given
+pub record AreGiven (bytes : List ℕ) (names : List (Option (List ℕ))) (rest : List ℕ) : Type 0 where
+  pub front : List (List ℕ)
+  pub named : names ≡ result_names front
+  pub going : GoesOn (separator_at 61) name_at front rest (names_at bytes)
+
+pub names_begin : (bytes : List ℕ) (names : List (Option (List ℕ))) → names ≡ [] → AreGiven bytes names bytes
+unfolding names_at
+names_begin bytes names e = record { front = []; named = e; going = from_start (separator_at 61) name_at bytes (names_at bytes) refl }
+
+pub result_push : (front : List (List ℕ)) (w : List ℕ) (names more : List (Option (List ℕ))) (given : Option (List ℕ)) → more ≡ names ++ given ∷ [] → names ≡ result_names front → given ≡ given_name kinds.OpResult w → more ≡ result_names (front ++ w ∷ [])
+result_push front w names more given e f g =
+    e ∙ ap (λ (l : List (Option (List ℕ))). l ++ given ∷ []) f ∙ ap (λ (x : Option (List ℕ)). result_names front ++ x ∷ []) g ∙ sym (map-append (given_name kinds.OpResult) front (w ∷ []))
+
+pub name_at-shorter : (bytes : List ℕ) (x : List ℕ × List ℕ) → name_at bytes ≡ Ok x → length x.1 < length bytes
+name_at-shorter bytes x e = found-shorter SpellsIdentifier name_at name_found (λ w ts h. rw (h.1) (omega arith)) bytes x e

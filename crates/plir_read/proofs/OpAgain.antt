@@ -1,24 +1,28 @@
 -- Operations that stand there are read.
-use Rattle.std.proofs.Common.{◌≡◌, ℕ, zero, suc, ◌<◌, ◌≤◌, Bool, true, false, List, [], ◌∷◌, ◌++◌, length, codes, None, Result, Ok, refl, sym, ap, subst, ◌∙◌, arith, append_assoc}
+use Rattle.std.proofs.Common.{◌≡◌, ℕ, zero, suc, ◌<◌, ◌≤◌, true, false, List, [], ◌∷◌, ◌++◌, length, codes, None, Result, Ok, refl, sym, ap, subst, ◌∙◌, arith, append_assoc}
 use Rattle.plir_data.specs.Identifier.{is_identifier}
 use Rattle.plir_text.specs.declared.fault.Fault.{Fault}
 use Rattle.plir_text.specs.Tokens.{Token, word, sign, look, Begins}
 use Rattle.plir_text.specs.AttrGrammar.{SpellsMore, SpellsSeveral}
 use Rattle.plir_text.specs.ListsAgain.{IsRead, several_read, word_opens}
-use Rattle.plir_text.specs.Terms.{type_levels}
+use Rattle.plir_text.specs.Terms.{AttrTerm, TypeTerm, levels, type_levels}
 use Rattle.plir_text.specs.TypeGrammar.{enclosed}
 use Rattle.plir_text.specs.Lists.{sign_at, past_sign, more_at}
 use Rattle.plir_text.specs.AttrReading.{name_at}
 use Rattle.plir_text.specs.StepLaws.{done}
-use Rattle.plir_text.specs.Begun.{Begins-split, Begins-length, Takes-shorter, word_again, sign_again, past_sign_again, no_sign}
+use Rattle.plir_text.specs.Begun.{Begins-split, Begins-length, Takes-shorter, sign_again, past_sign_again, no_sign}
 use Rattle.plir_text.specs.LeavesAgain.{name_again}
 use Rattle.plir_text.specs.TypesAgain.{type_again}
 use Rattle.plir_read.proofs.OpFound.{block_head-length}
-use Rattle.plir_read.specs.OpTerms.{Head, module_head, func_head, Argument, BlockHead, OpTerm, op_term, BlockTerms, no_blocks, block_before, OpTerms, no_ops, op_before, BlockTerm, ops_of, blocks_of, head_levels, arguments_levels, block_levels, op_levels, ops_levels, blocks_levels}
-use Rattle.plir_read.specs.OpGrammar.{symbol, SpellsHead, SpellsArgument, SpellsBlockHead, SpellsOp, SpellsOps, SpellsMoreOps, SpellsBlocks, PlainOpWithin}
-use Rattle.plir_read.specs.OpReading.{op_kind, op_id, symbol_at, argument_at, block_head_at, head_at, ends_block, semicolon_at, brace_at, ops_at, block_at, blocks_at, op_at}
-use Rattle.plir_read.specs.declared.heads.HeadKind.{HeadKind}
-use Rattle.plir_read.specs.declared.heads.HeadKind.TheVariants.{Module, Func}
+use Rattle.plir_read.specs.OpTerms.{Head, module_head, func_head, Header, Argument, BlockHead, OpTerm, op_term, constant_term, BlockTerms, no_blocks, block_before, OpTerms, no_ops, op_before, BlockTerm, ops_of, blocks_of, head_levels, header_levels, arguments_levels, block_levels, op_levels, ops_levels, blocks_levels}
+use Rattle.plir_read.specs.OpGrammar.{symbol, typed_value, SpellsHead, SpellsHeader, SpellsArgument, SpellsBlockHead, SpellsOp, SpellsOps, SpellsMoreOps, SpellsBlocks, OpWithin}
+use Rattle.plir_read.specs.OpReading.{start_at, named, symbol_at, argument_at, block_head_at, head_at, header_at, ends_block, semicolon_at, brace_at, ops_at, block_at, blocks_at, constant_at, named_constant_at, bodied_at, op_at}
+use Rattle.plir_read.specs.declared.heads.HeadKind.TheVariants.{Bodied, Constant}
+use Rattle.plir_read.specs.declared.heads.BodyKind.{BodyKind}
+use Rattle.plir_read.specs.declared.heads.BodyKind.TheVariants.{Module, Func}
+use Rattle.plir_read.proofs.Dictionaries.{dictionary_again}
+use Rattle.plir_read.proofs.OpSteps.{header_is}
+use Rattle.plir_read.proofs.StartAgain.{last_again, next_again, module_id, func_id, constant_starts, constant_again}
 
 -- the operations and the blocks, as lists
 abbrev pub op_list : OpTerms → List OpTerm
@@ -77,18 +81,10 @@ block_head_again n b ts bytes rest s le f =
     rw (sign_again 94 bytes c.0 c.1, name_again b.0 (word b.0 ∷ []) c.0 w.0 (s.1, refl) (w.0, w.1, refl), several_read 41 refl (argument_at n) 40 b.1 s.0 w.0 d.0 (arguments_read n b.1 s.0 s.2 le) d.1, sign_again 58 d.0 end.0 end.1) (ap (λ (r : List ℕ). done (b, r)) end.2)
 
 record HeadRead (n : ℕ) (h : Head) (bytes rest : List ℕ) : Type 0 where
-  kind : HeadKind
+  kind : BodyKind
   behind : List ℕ
-  id : op_id bytes ≡ Ok (kind, behind)
+  id : start_at bytes ≡ Ok (([], Bodied kind), behind)
   reads : head_at n kind behind ≡ Ok (h, rest)
-
-module_id : (bytes rest : List ℕ) → look bytes ≡ Ok (word (codes "builtin.module"), rest) → op_id bytes ≡ Ok (Module, rest)
-unfolding op_id op_kind
-module_id bytes rest e = rw (word_again bytes (codes "builtin.module") rest e) refl
-
-func_id : (bytes rest : List ℕ) → look bytes ≡ Ok (word (codes "builtin.func"), rest) → op_id bytes ≡ Ok (Func, rest)
-unfolding op_id op_kind
-func_id bytes rest e = rw (word_again bytes (codes "builtin.func") rest e) refl
 
 head_again : (h : Head) (ts : List Token) (n : ℕ) (bytes rest : List ℕ) → SpellsHead h ts → head_levels h ≤ n → Begins bytes ts rest → HeadRead n h bytes rest
 unfolding head_at
@@ -101,6 +97,20 @@ head_again (func_head w t) ts n bytes rest s le b =
     let e = d.2 in
     record { kind = Func; behind = c.0; id = func_id bytes c.0 c.1; reads = rw (symbol_again w c.0 d.0 s.1 d.1, sign_again 58 d.0 e.0 e.1, type_again t s.0 n e.0 rest s.2 le e.2) refl }
 
+record HeaderRead (n : ℕ) (h : Header) (bytes rest : List ℕ) : Type 0 where
+  kind : BodyKind
+  behind : List ℕ
+  id : start_at bytes ≡ Ok (([], Bodied kind), behind)
+  reads : header_at n kind behind ≡ Ok (h, rest)
+
+-- a brace stands behind a header
+header_again : (h : Header) (ts : List Token) (n : ℕ) (bytes rest start : List ℕ) → SpellsHeader h ts → header_levels h ≤ n → Begins bytes ts rest → look rest ≡ Ok (sign 123, start) → HeaderRead n h bytes rest
+header_again h ts n bytes rest start s le b brace =
+    let c = Begins-split s.0 s.1 bytes rest (subst (λ y. Begins bytes y rest) s.4 b) in
+    let r = head_again h.0 s.0 n bytes c.0 s.2 (omega (arith, le)) c.1 in
+    let d = dictionary_again n h.1 s.1 c.0 rest start s.3 (omega (arith, le)) c.2 brace in
+    record { kind = r.kind; behind = r.behind; id = r.id; reads = header_is n r.kind r.behind c.0 rest h.0 h.1 r.reads d }
+
 -- ---- what comes next
 
 -- a word comes next
@@ -110,9 +120,11 @@ pub record StartsWord (bytes : List ℕ) : Type 0 where
   pub is : look bytes ≡ Ok (word text, rest)
 
 op_starts : (o : OpTerm) (ts : List Token) (bytes rest : List ℕ) → SpellsOp o ts → Begins bytes ts rest → StartsWord bytes
+op_starts (constant_term w a t) ts bytes rest s b = let c = subst (λ y. Begins bytes y rest) s.5 b in record { text = w; rest = c.0; is = c.1 }
 op_starts (op_term h bs) ts bytes rest s b =
     let c = Begins-split s.0 (enclosed 123 s.1 125) bytes rest (subst (λ y. Begins bytes y rest) s.4 b) in
-    at h s.0 s.2 c.0 c.1
+    let d = Begins-split s.2.0 s.2.1 bytes c.0 (subst (λ y. Begins bytes y c.0) s.2.4 c.1) in
+    at h.0 s.2.0 s.2.2 d.0 d.1
   where
     at : (h : Head) (hs : List Token) → SpellsHead h hs → (mid : List ℕ) → Begins bytes hs mid → StartsWord bytes
     at (module_head w) hs p mid q = let d = subst (λ y. Begins bytes y mid) p.1 q in record { text = codes "builtin.module"; rest = d.0; is = d.1 }
@@ -170,25 +182,15 @@ no_brace_yet : (bytes rest : List ℕ) → look bytes ≡ Ok (sign 94, rest) →
 unfolding brace_at
 no_brace_yet bytes rest e = rw (no_sign 125 bytes (sign 94, rest) e refl) refl
 
--- ---- things one behind another
-
-module _ {A : Type 0} (goes : List ℕ → Result (Bool × List ℕ) Fault) (read : List ℕ → Result (A × List ℕ) Fault) where
-  last_again : (m : ℕ) (x : A) (bytes after rest : List ℕ) → length bytes < m → read bytes ≡ Ok (x, after) → goes after ≡ Ok (false, rest) → more_at goes read m bytes ≡ Ok (x ∷ [], rest)
-  unfolding more_at
-  last_again zero x bytes after rest lt e f = absurd (omega arith)
-  last_again (suc m) x bytes after rest lt e f = rw (e, f) refl
-
-  next_again : (m : ℕ) (x : A) (xs : List A) (bytes after behind rest : List ℕ) → length bytes < m → read bytes ≡ Ok (x, after) → goes after ≡ Ok (true, behind) → length behind < length bytes
-      → ((k : ℕ) → length behind < k → more_at goes read k behind ≡ Ok (xs, rest)) → more_at goes read m bytes ≡ Ok (x ∷ xs, rest)
-  unfolding more_at
-  next_again zero x xs bytes after behind rest lt e f less g = absurd (omega arith)
-  next_again (suc m) x xs bytes after behind rest lt e f less g = rw (e, f, g m (omega arith)) refl
-
 -- ---- operations
 
-op_behind : (n : ℕ) (h : Head) (bs : BlockTerms) (bytes mid rest : List ℕ) → HeadRead n h bytes mid → blocks_at (op_at n) n mid ≡ Ok (block_list bs, rest) → op_at (suc n) bytes ≡ Ok (op_term h bs, rest)
-unfolding op_at
+op_behind : (n : ℕ) (h : Header) (bs : BlockTerms) (bytes mid rest : List ℕ) → HeaderRead n h bytes mid → blocks_at (op_at n) n mid ≡ Ok (block_list bs, rest) → op_at (suc n) bytes ≡ Ok (op_term h bs, rest)
+unfolding op_at bodied_at named
 op_behind n h bs bytes mid rest r e = rw (r.id, r.reads, e) (ap (λ x. done (op_term h x, rest)) (blocks_of-list bs))
+
+constant_behind : (n : ℕ) (w : List ℕ) (a : AttrTerm) (t : TypeTerm) (bytes mid rest : List ℕ) → start_at bytes ≡ Ok ((w ∷ [], Constant), mid) → constant_at n mid ≡ Ok ((a, t), rest) → op_at (suc n) bytes ≡ Ok (constant_term w a t, rest)
+unfolding op_at named_constant_at named
+constant_behind n w a t bytes mid rest p q = rw (p, q) refl
 
 bodiless : (read : List ℕ → Result (OpTerm × List ℕ) Fault) (n : ℕ) (bytes start rest : List ℕ) → look bytes ≡ Ok (sign 123, start) → look start ≡ Ok (sign 125, rest) → blocks_at read n bytes ≡ Ok ([], rest)
 unfolding blocks_at
@@ -269,12 +271,21 @@ one_block n h os (block_before h' os' bs) inside blocks head ops more m bytes re
     (omega (arith, block_head-length h head f, Begins-length head bytes c.0 c.1, Begins-length ops c.0 d.0 d.1))
     (λ k less. blocks more k d.0 rest tt q less d.2)
 
+-- a constant is read
+constant_read : (n : ℕ) (w : List ℕ) (a : AttrTerm) (t : TypeTerm) → levels a ≤ n → type_levels t ≤ n → OpRead (suc n) (constant_term w a t)
+constant_read n w a t le fits ts bytes rest s b =
+    let start = word w ∷ sign 61 ∷ word (codes "builtin.constant") ∷ [] in
+    let c = Begins-split start (typed_value s.0 s.1) bytes rest (subst (λ y. Begins bytes y rest) s.5 b) in
+    constant_behind n w a t bytes c.0 rest (constant_starts w bytes c.0 s.2 c.1) (constant_again n a t s.0 s.1 c.0 rest s.3 s.4 le fits c.2)
+
 mutual
   pub op_again : (o : OpTerm) (n : ℕ) → op_levels o ≤ n → OpRead n o
+  op_again (constant_term w a t) zero le ts bytes rest s b = absurd (omega arith)
+  op_again (constant_term w a t) (suc n) le ts bytes rest s b = constant_read n w a t (omega arith) (omega arith) ts bytes rest s b
   op_again (op_term h bs) zero le ts bytes rest s b = absurd (omega arith)
   op_again (op_term h bs) (suc n) le ts bytes rest s b =
       let c = Begins-split s.0 (enclosed 123 s.1 125) bytes rest (subst (λ y. Begins bytes y rest) s.4 b) in
-      op_behind n h bs bytes c.0 rest (head_again h s.0 n bytes c.0 s.2 (omega arith) c.1) (body_again bs n (omega arith) s.1 c.0 rest s.3 c.2)
+      op_behind n h bs bytes c.0 rest (header_again h s.0 n bytes c.0 c.2.0 s.2 (omega arith) c.1 c.2.1) (body_again bs n (omega arith) s.1 c.0 rest s.3 c.2)
 
   body_again : (bs : BlockTerms) (n : ℕ) → blocks_levels bs ≤ n → (ts : List Token) (bytes rest : List ℕ) → SpellsBlocks bs ts → Begins bytes (enclosed 123 ts 125) rest → blocks_at (op_at n) n bytes ≡ Ok (block_list bs, rest)
   body_again no_blocks n le ts bytes rest s b =
@@ -305,5 +316,5 @@ mutual
   several_again (op_before o os) n le ts m bytes rest some s e lt b =
       one_op n o os (op_again o n (omega arith)) (several_again os n (omega arith)) s.0 s.1 m bytes rest s.2 s.3 e lt (subst (λ y. Begins bytes y rest) s.4 b)
 
-pub op_within_again : (n : ℕ) (o : OpTerm) (ts : List Token) (bytes rest : List ℕ) → PlainOpWithin n o ts → Begins bytes ts rest → op_at n bytes ≡ Ok (o, rest)
+pub op_within_again : (n : ℕ) (o : OpTerm) (ts : List Token) (bytes rest : List ℕ) → OpWithin n o ts → Begins bytes ts rest → op_at n bytes ≡ Ok (o, rest)
 op_within_again n o ts bytes rest h b = op_again o n h.1 ts bytes rest h.0 b

@@ -1,28 +1,30 @@
 -- Operations that are read stand there.
-use Rattle.std.proofs.Common.{◌≡◌, ℕ, zero, suc, ◌+◌, ◌<◌, ◌≤◌, Bool, true, false, List, [], ◌∷◌, ◌++◌, length, codes, Option, Some, None, Result, Ok, Err, refl, sym, ap, subst, ◌∙◌, arith, inl, inr, append_assoc, length-append}
-use Rattle.std.specs.Str.{bytes_eq}
-use Rattle.std.proofs.lemmas.Slice.Eq.{bytes_eq-Decides}
+use Rattle.std.proofs.Common.{◌≡◌, ℕ, zero, suc, ◌+◌, ◌<◌, ◌≤◌, Bool, true, false, List, [], ◌∷◌, ◌++◌, length, Option, Some, None, Result, Ok, Err, refl, sym, ap, subst, ◌∙◌, arith, inl, inr, append_assoc, length-append}
 use Rattle.plir_data.specs.Identifier.{is_identifier}
 use Rattle.plir_text.specs.declared.fault.Fault.{Fault}
 use Rattle.plir_text.specs.declared.fault.Fault.TheVariants.{TooDeep}
-use Rattle.plir_text.specs.Steps.{◌>>=◌}
+use Rattle.plir_text.specs.Steps.{◌>>=◌, read_as}
 use Rattle.plir_text.specs.Terms.{type_levels}
 use Rattle.plir_text.specs.Tokens.{Token, word, sign, look, Begins}
 use Rattle.plir_text.specs.AttrGrammar.{SpellsMore, SpellsSeveral}
 use Rattle.plir_text.specs.TypeGrammar.{enclosed}
 use Rattle.plir_text.specs.Lists.{sign_at, past_sign, more_at, unless_closed, items_at}
-use Rattle.plir_text.specs.TypeReading.{word_at, type_at}
+use Rattle.plir_text.specs.TypeReading.{type_at}
 use Rattle.plir_text.specs.AttrReading.{name_at}
 use Rattle.plir_text.specs.StepLaws.{chosen, bind_ok, done, ok_is}
-use Rattle.plir_text.specs.Begun.{Begins-append, Begins-length, word_found, sign_found, past_sign_found}
+use Rattle.plir_text.specs.Begun.{Begins-append, Begins-length, sign_found, past_sign_found}
 use Rattle.plir_text.specs.ListsFound.{FoundOne, IsSound, After, Chain, several_found, items_found}
 use Rattle.plir_text.specs.LeavesFound.{name_found}
 use Rattle.plir_text.specs.TypesFound.{type_found}
-use Rattle.plir_read.specs.OpTerms.{Head, module_head, func_head, Argument, BlockHead, OpTerm, op_term, BlockTerm, ops_of, blocks_of, head_levels, arguments_levels, block_levels, ops_levels, blocks_levels}
-use Rattle.plir_read.specs.OpGrammar.{symbol, SpellsHead, SpellsArgument, SpellsBlockHead, SpellsOp, SpellsOps, SpellsMoreOps, SpellsBlocks, PlainOpWithin}
-use Rattle.plir_read.specs.OpReading.{op_kind, op_id, symbol_at, argument_at, block_head_at, head_at, ends_block, behind_semicolon, semicolon_at, behind_brace, brace_at, ops_at, block_at, blocks_at, op_at}
+use Rattle.plir_read.specs.OpTerms.{Head, module_head, func_head, Header, Argument, BlockHead, OpTerm, op_term, constant_term, BlockTerm, ops_of, blocks_of, head_levels, header_levels, arguments_levels, block_levels, ops_levels, blocks_levels}
+use Rattle.plir_read.specs.OpGrammar.{symbol, SpellsHead, SpellsHeader, SpellsArgument, SpellsBlockHead, SpellsOp, SpellsOps, SpellsMoreOps, SpellsBlocks, OpWithin}
+use Rattle.plir_read.specs.OpReading.{start_at, named, first_name, symbol_at, argument_at, block_head_at, head_at, dictionary_at, header_at, ends_block, behind_semicolon, semicolon_at, behind_brace, brace_at, ops_at, block_at, blocks_at, constant_at, named_constant_at, bodied_at, behind_id, op_at}
 use Rattle.plir_read.specs.declared.heads.HeadKind.{HeadKind}
-use Rattle.plir_read.specs.declared.heads.HeadKind.TheVariants.{Module, Func, ForwardRef}
+use Rattle.plir_read.specs.declared.heads.HeadKind.TheVariants.{Bodied, Constant, ForwardRef}
+use Rattle.plir_read.specs.declared.heads.BodyKind.{BodyKind}
+use Rattle.plir_read.specs.declared.heads.BodyKind.TheVariants.{Module, Func}
+use Rattle.plir_read.proofs.Dictionaries.{dictionary_found}
+use Rattle.plir_read.proofs.StartFound.{id_of, Opened, start_found, named_is, bare_id, named_id, constant_found}
 
 -- ---- what parts them
 
@@ -51,33 +53,6 @@ brace_found bytes s e = subst (λ (y : Bool × List ℕ). Begins bytes (by_brace
     at None e = refl
 
 -- ---- headers
-
-abbrev pub id_of : HeadKind → List ℕ
-id_of Module = codes "builtin.module"
-id_of Func = codes "builtin.func"
-id_of ForwardRef = codes "builtin.forward_ref"
-
-kind_is : (w : List ℕ) (k : HeadKind) → op_kind w ≡ Ok k → w ≡ id_of k
-unfolding op_kind
-kind_is w k e =
-    elim (chosen (bytes_eq w (codes "builtin.module")) _ _ _ e) [
-      | inl h ↦ (bytes_eq-Decides w (codes "builtin.module")).0 h.0 ∙ ap id_of (ok_is Module k h.1)
-      | inr e1 ↦ elim (chosen (bytes_eq w (codes "builtin.func")) _ _ _ e1.1) [
-        | inl h ↦ (bytes_eq-Decides w (codes "builtin.func")).0 h.0 ∙ ap id_of (ok_is Func k h.1)
-        | inr e2 ↦ elim (chosen (bytes_eq w (codes "builtin.forward_ref")) _ _ _ e2.1) [
-          | inl h ↦ (bytes_eq-Decides w (codes "builtin.forward_ref")).0 h.0 ∙ ap id_of (ok_is ForwardRef k h.1)
-          | inr h ↦ absurd (let v = h.1 in cc)
-        ]
-      ]
-    ]
-
-pub id_found : (bytes : List ℕ) (x : HeadKind × List ℕ) → op_id bytes ≡ Ok x → look bytes ≡ Ok (word (id_of x.0), x.1)
-unfolding op_id
-id_found bytes x e =
-    let a = bind_ok (word_at bytes) (λ w. op_kind w.0 >>= λ k. Ok (k, w.1)) x e in
-    let b = bind_ok (op_kind a.0.0) (λ k. Ok (k, a.0.1)) x a.2 in
-    let is : look bytes ≡ Ok (word (id_of b.0), a.0.1) = word_found bytes a.0 a.1 ∙ ap (λ (w : List ℕ). done (word w, a.0.1)) (kind_is a.0.0 b.0 b.1) in
-    subst (λ (y : HeadKind × List ℕ). look bytes ≡ Ok (word (id_of y.0), y.1)) (ok_is _ x b.2) is
 
 -- a name behind a sign
 record FoundNamed (b : ℕ) (bytes w rest : List ℕ) : Type 0 where
@@ -152,12 +127,12 @@ block_head_found n bytes x e =
 abbrev pub HeadWithin : ℕ → Head → List Token → Type 0
 HeadWithin n h ts = SpellsHead h ts × (head_levels h ≤ n)
 
-head_found : (n : ℕ) (k : HeadKind) (bytes rest : List ℕ) (x : Head × List ℕ) → look bytes ≡ Ok (word (id_of k), rest) → head_at n k rest ≡ Ok x → FoundOne (HeadWithin n) bytes x.0 x.1
+head_found : (n : ℕ) (k : BodyKind) (bytes rest : List ℕ) (x : Head × List ℕ) → look bytes ≡ Ok (word (id_of (Bodied k)), rest) → head_at n k rest ≡ Ok x → FoundOne (HeadWithin n) bytes x.0 x.1
 unfolding head_at
 head_found n Module bytes rest x id e =
     let a = bind_ok (symbol_at rest) (λ w. Ok (module_head w.0, w.1)) x e in
     let s = symbol_found rest a.0 a.1 in
-    let found : FoundOne (HeadWithin n) bytes (module_head a.0.0) a.0.1 = record { tokens = word (id_of Module) ∷ symbol a.0.0; begins = (rest, id, s.begins); spelled = ((s.formed, refl), omega arith) } in
+    let found : FoundOne (HeadWithin n) bytes (module_head a.0.0) a.0.1 = record { tokens = word (id_of (Bodied Module)) ∷ symbol a.0.0; begins = (rest, id, s.begins); spelled = ((s.formed, refl), omega arith) } in
     subst (λ (y : Head × List ℕ). FoundOne (HeadWithin n) bytes y.0 y.1) (ok_is _ x a.2) found
 head_found n Func bytes rest x id e =
     let a = bind_ok (symbol_at rest) (λ w. sign_at 58 w.1 >>= λ colon. type_at n colon >>= λ t. Ok (func_head w.0 t.0, t.1)) x e in
@@ -166,28 +141,44 @@ head_found n Func bytes rest x id e =
     let s = symbol_found rest a.0 a.1 in
     let t = type_found n b.0 d.0 d.1 in
     let behind : Begins a.0.1 (sign 58 ∷ t.tokens) d.0.1 = (b.0, sign_found 58 a.0.1 b.0 b.1, t.begins) in
-    let found : FoundOne (HeadWithin n) bytes (func_head a.0.0 d.0.0) d.0.1 = record { tokens = word (id_of Func) ∷ (symbol a.0.0 ++ sign 58 ∷ t.tokens); begins = (rest, id, Begins-append (symbol a.0.0) (sign 58 ∷ t.tokens) rest a.0.1 d.0.1 s.begins behind); spelled = ((t.tokens, s.formed, t.spelled.0, refl), t.spelled.1) } in
+    let found : FoundOne (HeadWithin n) bytes (func_head a.0.0 d.0.0) d.0.1 = record { tokens = word (id_of (Bodied Func)) ∷ (symbol a.0.0 ++ sign 58 ∷ t.tokens); begins = (rest, id, Begins-append (symbol a.0.0) (sign 58 ∷ t.tokens) rest a.0.1 d.0.1 s.begins behind); spelled = ((t.tokens, s.formed, t.spelled.0, refl), t.spelled.1) } in
     subst (λ (y : Head × List ℕ). FoundOne (HeadWithin n) bytes y.0 y.1) (ok_is _ x d.2) found
-head_found n ForwardRef bytes rest x id e = absurd (let v = e in cc)
+
+abbrev HeaderWithin : ℕ → Header → List Token → Type 0
+HeaderWithin n h ts = SpellsHeader h ts × (header_levels h ≤ n)
+
+header_found : (n : ℕ) (k : BodyKind) (bytes rest : List ℕ) (x : Header × List ℕ) → look bytes ≡ Ok (word (id_of (Bodied k)), rest) → header_at n k rest ≡ Ok x → FoundOne (HeaderWithin n) bytes x.0 x.1
+unfolding header_at
+header_found n k bytes rest x id e =
+    let a = bind_ok (head_at n k rest) (λ h. dictionary_at n h.1 >>= λ d. Ok ((h.0, d.0), d.1)) x e in
+    let b = bind_ok (dictionary_at n a.0.1) (λ d. Ok ((a.0.0, d.0), d.1)) x a.2 in
+    let h = head_found n k bytes rest a.0 id a.1 in
+    let d = dictionary_found n a.0.1 b.0 b.1 in
+    let found : FoundOne (HeaderWithin n) bytes (a.0.0, b.0.0) b.0.1 = record {
+      tokens = h.tokens ++ d.tokens;
+      begins = Begins-append h.tokens d.tokens bytes a.0.1 b.0.1 h.begins d.begins;
+      spelled = ((h.tokens, d.tokens, h.spelled.0, d.spelled.0, refl), omega (arith, h.spelled.1, d.spelled.1));
+    } in
+    subst (λ (y : Header × List ℕ). FoundOne (HeaderWithin n) bytes y.0 y.1) (ok_is _ x b.2) found
 
 -- ---- operations and blocks
 
 abbrev pub OpsWithin : ℕ → List OpTerm → List Token → Type 0
 OpsWithin n os ts = SpellsOps (ops_of os) ts × (ops_levels (ops_of os) ≤ n)
 
-more_wrote : (n : ℕ) (os : List OpTerm) (ts : List Token) → After (PlainOpWithin n) by_semicolon os ts → SpellsMoreOps (ops_of os) ts × (ops_levels (ops_of os) ≤ n)
+more_wrote : (n : ℕ) (os : List OpTerm) (ts : List Token) → After (OpWithin n) by_semicolon os ts → SpellsMoreOps (ops_of os) ts × (ops_levels (ops_of os) ≤ n)
 more_wrote n [] ts h = (h, omega arith)
 more_wrote n (o ∷ os) ts h =
     let w = more_wrote n os h.1 h.3 in
     ((h.0, h.1, h.2.0, w.0, h.4), omega (arith, h.2.1, w.1))
 
-ops_wrote : (n : ℕ) (os : List OpTerm) (ts : List Token) → Chain (PlainOpWithin n) by_semicolon os ts → OpsWithin n os ts
+ops_wrote : (n : ℕ) (os : List OpTerm) (ts : List Token) → Chain (OpWithin n) by_semicolon os ts → OpsWithin n os ts
 ops_wrote n [] ts h = absurd h
 ops_wrote n (o ∷ os) ts h =
     let w = more_wrote n os h.1 h.3 in
     ((h.0, h.1, h.2.0, w.0, h.4), omega (arith, h.2.1, w.1))
 
-ops_found : (n : ℕ) (read : List ℕ → Result (OpTerm × List ℕ) Fault) → IsSound (PlainOpWithin n) read → IsSound (OpsWithin n) (ops_at read)
+ops_found : (n : ℕ) (read : List ℕ → Result (OpTerm × List ℕ) Fault) → IsSound (OpWithin n) read → IsSound (OpsWithin n) (ops_at read)
 unfolding ops_at
 ops_found n read sound bytes x e =
     elim (chosen (ends_block bytes) (done ([], bytes)) (more_at semicolon_at read (suc (length bytes)) bytes) (done x) e) [
@@ -195,7 +186,7 @@ ops_found n read sound bytes x e =
           let none : FoundOne (OpsWithin n) bytes [] bytes = record { tokens = []; begins = refl; spelled = (refl, omega arith) } in
           subst (λ (y : List OpTerm × List ℕ). FoundOne (OpsWithin n) bytes y.0 y.1) (ok_is ([], bytes) x h.1) none
       | inr h ↦
-          let f = several_found (PlainOpWithin n) by_semicolon semicolon_at semicolon_found read sound (suc (length bytes)) bytes x h.1 in
+          let f = several_found (OpWithin n) by_semicolon semicolon_at semicolon_found read sound (suc (length bytes)) bytes x h.1 in
           record { tokens = f.tokens; begins = f.begins; spelled = ops_wrote n x.0 f.tokens f.spelled }
     ]
 
@@ -209,7 +200,7 @@ pub record BlockWithin (n : ℕ) (b : BlockTerm) (ts : List Token) : Type 0 wher
   pub within : ops_levels (ops_of b.1) ≤ n
   pub tokens : ts ≡ head ++ inside
 
-pub block_found : (n : ℕ) (read : List ℕ → Result (OpTerm × List ℕ) Fault) → IsSound (PlainOpWithin n) read → IsSound (BlockWithin n) (block_at read n)
+pub block_found : (n : ℕ) (read : List ℕ → Result (OpTerm × List ℕ) Fault) → IsSound (OpWithin n) read → IsSound (BlockWithin n) (block_at read n)
 unfolding block_at
 block_found n read sound bytes x e =
     let a = bind_ok (block_head_at n bytes) (λ w. ops_at read w.1 >>= λ os. Ok ((w.0, os.0), os.1)) x e in
@@ -255,7 +246,7 @@ record FoundBody (n : ℕ) (bytes : List ℕ) (bs : List BlockTerm) (rest : List
   spelled : SpellsBlocks (blocks_of bs) body
   within : blocks_levels (blocks_of bs) ≤ n
 
-body_found : (n : ℕ) (read : List ℕ → Result (OpTerm × List ℕ) Fault) → IsSound (PlainOpWithin n) read → (bytes : List ℕ) (x : List BlockTerm × List ℕ) → blocks_at read n bytes ≡ Ok x → FoundBody n bytes x.0 x.1
+body_found : (n : ℕ) (read : List ℕ → Result (OpTerm × List ℕ) Fault) → IsSound (OpWithin n) read → (bytes : List ℕ) (x : List BlockTerm × List ℕ) → blocks_at read n bytes ≡ Ok x → FoundBody n bytes x.0 x.1
 unfolding blocks_at
 body_found n read sound bytes x e =
     let a = bind_ok (sign_at 123 bytes) (λ start. unless_closed (past_sign 125 start) (more_at brace_at (block_at read n) (suc (length start)) start)) x e in
@@ -270,20 +261,49 @@ body_found n read sound bytes x e =
         let w = chain_wrote n x.0 f.tokens f.spelled in
         record { body = w.body; begins = (start, s, subst (λ ts. Begins start ts x.1) w.tokens f.begins); spelled = w.spelled; within = w.within }
 
+-- a module or a function behind its id
+bodied_found : (n : ℕ) (read : List ℕ → Result (OpTerm × List ℕ) Fault) → IsSound (OpWithin n) read → (k : BodyKind) (ws : List (List ℕ)) (bytes rest : List ℕ) (x : OpTerm × List ℕ) → Opened bytes ws (Bodied k) rest → bodied_at read n k (length ws) rest ≡ Ok x → FoundOne (OpWithin (suc n)) bytes x.0 x.1
+unfolding bodied_at
+bodied_found n read sound k ws bytes rest x o e =
+    let a = bind_ok (named 0 (length ws)) (λ u. header_at n k rest >>= λ h. blocks_at read n h.1 >>= λ bs. Ok (op_term h.0 (blocks_of bs.0), bs.1)) x e in
+    let b = bind_ok (header_at n k rest) (λ h. blocks_at read n h.1 >>= λ bs. Ok (op_term h.0 (blocks_of bs.0), bs.1)) x a.2 in
+    let d = bind_ok (blocks_at read n b.0.1) (λ bs. Ok (op_term b.0.0 (blocks_of bs.0), bs.1)) x b.2 in
+    let h = header_found n k bytes rest b.0 (bare_id bytes ws (Bodied k) rest o (named_is 0 (length ws) a.0 a.1)) b.1 in
+    let f = body_found n read sound b.0.1 d.0 d.1 in
+    let found : FoundOne (OpWithin (suc n)) bytes (op_term b.0.0 (blocks_of d.0.0)) d.0.1 = record { tokens = h.tokens ++ enclosed 123 f.body 125; begins = Begins-append h.tokens (enclosed 123 f.body 125) bytes b.0.1 d.0.1 h.begins f.begins; spelled = ((h.tokens, f.body, h.spelled.0, f.spelled, refl), omega (arith, h.spelled.1, f.within)) } in
+    subst (λ (y : OpTerm × List ℕ). FoundOne (OpWithin (suc n)) bytes y.0 y.1) (ok_is _ x d.2) found
+
+-- a constant behind its id
+named_constant_found : (n : ℕ) (ws : List (List ℕ)) (bytes rest : List ℕ) (x : OpTerm × List ℕ) → Opened bytes ws Constant rest → read_as (λ c. constant_term (first_name ws) c.0 c.1) (named_constant_at n (length ws) rest) ≡ Ok x → FoundOne (OpWithin (suc n)) bytes x.0 x.1
+unfolding named_constant_at
+named_constant_found n ws bytes rest x o e =
+    let w = first_name ws in
+    let a = bind_ok (named_constant_at n (length ws) rest) (λ y. Ok (constant_term w y.0.0 y.0.1, y.1)) x e in
+    let b = bind_ok (named 1 (length ws)) (λ u. constant_at n rest) a.0 a.1 in
+    let i = named_id bytes ws Constant rest o (named_is 1 (length ws) b.0 b.1) in
+    let f = constant_found n rest a.0 b.2 in
+    let s = f.spelled in
+    let found : FoundOne (OpWithin (suc n)) bytes (constant_term w a.0.0.0 a.0.0.1) a.0.1 = record {
+      tokens = word w ∷ sign 61 ∷ word (id_of Constant) ∷ f.tokens;
+      begins = Begins-append (word w ∷ sign 61 ∷ word (id_of Constant) ∷ []) f.tokens bytes rest a.0.1 i.begins f.begins;
+      spelled = ((s.attr, s.type, i.formed, s.value, s.typed, ap (λ (ts : List Token). word w ∷ sign 61 ∷ word (id_of Constant) ∷ ts) s.tokens), omega (arith, s.within));
+    } in
+    subst (λ (y : OpTerm × List ℕ). FoundOne (OpWithin (suc n)) bytes y.0 y.1) (ok_is _ x a.2) found
+
+behind_found : (n : ℕ) (read : List ℕ → Result (OpTerm × List ℕ) Fault) → IsSound (OpWithin n) read → (k : HeadKind) (ws : List (List ℕ)) (bytes rest : List ℕ) (x : OpTerm × List ℕ) → Opened bytes ws k rest → behind_id read n ws k rest ≡ Ok x → FoundOne (OpWithin (suc n)) bytes x.0 x.1
+behind_found n read sound (Bodied k) ws bytes rest x o e = bodied_found n read sound k ws bytes rest x o e
+behind_found n read sound Constant ws bytes rest x o e = named_constant_found n ws bytes rest x o e
+behind_found n read sound ForwardRef ws bytes rest x o e = absurd (let v = e in cc)
+
 no_op : (bytes : List ℕ) (x : OpTerm × List ℕ) → Err TooDeep ≡ done x → ⊥
 no_op bytes x e = cc
 
-pub op_found : (n : ℕ) → IsSound (PlainOpWithin n) (op_at n)
+pub op_found : (n : ℕ) → IsSound (OpWithin n) (op_at n)
 unfolding op_at
-op_found zero bytes x e = let a = bind_ok (op_id bytes) (λ k. Err TooDeep) x e in absurd (no_op bytes x a.2)
+op_found zero bytes x e = let a = bind_ok (start_at bytes) (λ s. Err TooDeep) x e in absurd (no_op bytes x a.2)
 op_found (suc n) bytes x e =
-    let a = bind_ok (op_id bytes) (λ k. head_at n k.0 k.1 >>= λ h. blocks_at (op_at n) n h.1 >>= λ bs. Ok (op_term h.0 (blocks_of bs.0), bs.1)) x e in
-    let b = bind_ok (head_at n a.0.0 a.0.1) (λ h. blocks_at (op_at n) n h.1 >>= λ bs. Ok (op_term h.0 (blocks_of bs.0), bs.1)) x a.2 in
-    let d = bind_ok (blocks_at (op_at n) n b.0.1) (λ bs. Ok (op_term b.0.0 (blocks_of bs.0), bs.1)) x b.2 in
-    let h = head_found n a.0.0 bytes a.0.1 b.0 (id_found bytes a.0 a.1) b.1 in
-    let f = body_found n (op_at n) (op_found n) b.0.1 d.0 d.1 in
-    let found : FoundOne (PlainOpWithin (suc n)) bytes (op_term b.0.0 (blocks_of d.0.0)) d.0.1 = record { tokens = h.tokens ++ enclosed 123 f.body 125; begins = Begins-append h.tokens (enclosed 123 f.body 125) bytes b.0.1 d.0.1 h.begins f.begins; spelled = ((h.tokens, f.body, h.spelled.0, f.spelled, refl), omega (arith, h.spelled.1, f.within)) } in
-    subst (λ (y : OpTerm × List ℕ). FoundOne (PlainOpWithin (suc n)) bytes y.0 y.1) (ok_is _ x d.2) found
+    let a = bind_ok (start_at bytes) (λ s. behind_id (op_at n) n s.0.0 s.0.1 s.1) x e in
+    behind_found n (op_at n) (op_found n) a.0.0.1 a.0.0.0 bytes a.0.1 x (start_found bytes a.0 a.1) a.2
 
 -- ---- each takes a byte or more
 
@@ -291,8 +311,12 @@ head-length : (h : Head) (ts : List Token) → SpellsHead h ts → 1 ≤ length 
 head-length (module_head w) ts h = rw (h.1) (omega arith)
 head-length (func_head w t) ts h = rw (h.3) (omega arith)
 
+header-length : (h : Header) (ts : List Token) → SpellsHeader h ts → 1 ≤ length ts
+header-length h ts s = let k = head-length h.0 s.0 s.2 in rw (s.4, length-append s.0 s.1) (omega arith)
+
 op-length : (o : OpTerm) (ts : List Token) → SpellsOp o ts → 1 ≤ length ts
-op-length (op_term h bs) ts s = let k = head-length h s.0 s.2 in rw (s.4, length-append s.0 (enclosed 123 s.1 125)) (omega arith)
+op-length (constant_term w a t) ts s = rw (s.5) (omega arith)
+op-length (op_term h bs) ts s = let k = header-length h s.0 s.2 in rw (s.4, length-append s.0 (enclosed 123 s.1 125)) (omega arith)
 
 pub op_at-shorter : (n : ℕ) (bytes : List ℕ) (x : OpTerm × List ℕ) → op_at n bytes ≡ Ok x → length x.1 < length bytes
 op_at-shorter n bytes x e =

@@ -2,9 +2,10 @@
 use Rattle.std.proofs.Common.{◌≡◌, ℕ, zero, suc, append-nil, cond, is_none, option_map, true, false, Bool, List, [], ◌∷◌, Option, Some, None, inl, refl, sym, ap, subst, ◌∙◌}
 use Rattle.std.proofs.lemmas.Option.{same_Some}
 use Rattle.std.specs.List.{list_all}
-use Rattle.plir_data.specs.AttrView.{leaf, given_names}
 use Rattle.plir_data.specs.Dictionary.{dict_put}
-use Rattle.plir_data.specs.Types.{TypeView, AllLive}
+use Rattle.plir_data.specs.AttrLive.{IsAttrLive}
+use Rattle.plir_data.specs.AttrView.{AttrView, leaf, given_names}
+use Rattle.plir_data.specs.Types.{TypeView, AllLive, IsLive as IsTypeLive}
 use Rattle.plir_core.specs.declared.ptr.Ptr.{Ptr}
 use Rattle.plir_core.specs.declared.ptr.BasicBlock.{BasicBlock as BlockKind}
 use Rattle.plir_core.specs.declared.ptr.Operation.{Operation as OperationKind}
@@ -23,13 +24,14 @@ use Rattle.plir_core.specs.Forest.{IsForest}
 use Rattle.plir_core.specs.Standing.{IsStanding}
 use Rattle.plir_core.specs.Store.{Store, IsLive, given_out, kids, parent_of, op_at}
 use Rattle.plir_text.specs.Growth.{Grows-itself, Names-grown, NamesAll-grown, Names-live, both_live}
-use Rattle.plir_text.specs.Terms.{no_types}
+use Rattle.plir_text.specs.Meanings.{IsMeant-live, IsDictMeant-grown}
+use Rattle.plir_text.specs.Terms.{no_types, AttrTerm, TypeTerm}
 use Rattle.plir_text.specs.Names.{Grows}
-use Rattle.plir_read.specs.Heads.{IsHead, IsHeadLive, op_with, argument_types, names_attributes, IsBlockHead, block_with}
+use Rattle.plir_read.specs.Heads.{IsHead, IsHeader, IsHeadLive, op_with, argument_types, names_attributes, IsBlockHead, block_with, IsConstant, constant_op}
 use Rattle.plir_read.specs.Keys.{names_key}
-use Rattle.plir_read.specs.Keeping.{KeepsBut, KeepsOlder, IsNewOp, IsNewBlock}
-use Rattle.plir_read.specs.OpTerms.{Head, module_head, func_head, BlockHead, op_term, BlockTerm, blocks_of}
-use Rattle.plir_read.specs.OpsStanding.{IsHeadAt, IsBlockHeadAt, IsOpAt, AreBlocksAt}
+use Rattle.plir_read.specs.Keeping.{KeepsBut, KeepsOlder, IsNewOp, IsNewLeaf, IsNewBlock}
+use Rattle.plir_read.specs.OpTerms.{Head, module_head, func_head, Header, BlockHead, op_term, BlockTerm, blocks_of}
+use Rattle.plir_read.specs.OpsStanding.{IsHeadAt, IsBlockHeadAt, IsConstantAt, IsOpAt, AreBlocksAt}
 use Rattle.plir_read.specs.Suffixes.{given_name}
 use Rattle.plir_read.specs.declared.arguments.BlockHeadData.{BlockHeadData}
 use Rattle.plir_read.specs.declared.heads.HeadData.{HeadData}
@@ -143,6 +145,19 @@ module _ {K A T : Type 0} where
     types = n.types;
   }
 
+  -- ---- a constant
+
+  -- From a to s types were read; from s to t the constant was made.
+  module _ (a s t : Store K A T) (p : Ptr OperationKind) (names : List (Option (List ℕ))) (value : AttrView A) (handle : ℕ) (same : s.nodes ≡ a.nodes) (types : Grows a.types s.types) (n : IsNewLeaf s t p (constant_op names value handle)) where
+    pub constant_kept : KeepsOlder a t
+    constant_kept = KeepsOlder-on a s t (KeepsOlder-typed a s same types) (KeepsOlder-made s t (Operation p) n.made n.types)
+
+    pub constant_made : IsMade a.nodes t.nodes (Operation p)
+    constant_made = subst (λ z. IsMade z t.nodes (Operation p)) same n.made
+
+    pub constant_stands : (c : AttrTerm × TypeTerm) → IsConstant s.types value handle c → IsConstantAt t (Operation p) names c
+    constant_stands c is = (value, handle, subst (λ z. IsConstant z value handle c) (sym n.types) is, n.held, n.empty)
+
   -- ---- an operation
 
   pub body_above : (t : Store K A T) (p : Ptr OperationKind) (r : Ptr RegionKind) → IsStanding t → kids t (Operation p) ≡ Region r ∷ [] → parent_of t (Region r) ≡ Some (Operation p)
@@ -163,19 +178,27 @@ module _ {K A T : Type 0} where
     pub op_made : Growth s.nodes → IsForest t.nodes → IsGrown t.nodes u.nodes (Region r) → IsMade a.nodes u.nodes (Operation p)
     op_made growth f g = subst (λ z. IsMade z u.nodes (Operation p)) same (growth.made t.nodes u.nodes (Operation p) (Region r) f n.made n.live (body_new s t p r v w n) g)
 
-    head_stands : (h : HeadData) (d : Head) → IsHead s.types h d → Grows s.types u.types → op_at u p ≡ Some (op_with h) → IsHeadAt u (Operation p) d
-    head_stands (Module name) (module_head w) h g e = e ∙ ap (λ z. Some (op_with (Module z))) h
-    head_stands (Module name) (func_head w t) h g e = absurd h
-    head_stands (Func name handle) (module_head w) h g e = absurd h
-    head_stands (Func name handle) (func_head w t) h g e = (handle, Names-grown s.types u.types handle t g h.1, e ∙ ap (λ z. Some (op_with (Func z handle))) h.0)
+    head_stands : (h : HeadData) (entries : List (List ℕ × AttrView A)) (d : Head) → IsHead s.types h d → Grows s.types u.types → op_at u p ≡ Some (op_with h entries) → IsHeadAt u (Operation p) d entries
+    head_stands (Module name) entries (module_head w) h g e = e ∙ ap (λ z. Some (op_with (Module z) entries)) h
+    head_stands (Module name) entries (func_head w t) h g e = absurd h
+    head_stands (Func name handle) entries (module_head w) h g e = absurd h
+    head_stands (Func name handle) entries (func_head w t) h g e = (handle, Names-grown s.types u.types handle t g h.1, e ∙ ap (λ z. Some (op_with (Func z handle) entries)) h.0)
 
-    pub op_stands : (h : HeadData) (d : Head) (bs : List BlockTerm) → IsHead s.types h d → v ≡ op_with h → KeepsBut t u (Some (Region r)) → AreBlocksAt u (kids u (Region r)) (blocks_of bs) → IsOpAt u (Operation p) (op_term d (blocks_of bs))
-    op_stands h d bs is e k b = (
-      Region r,
-      head_stands h d is (subst (λ z. Grows z u.types) n.types k.types) (k.keeps.ops p n.made.root ∙ n.held ∙ ap (λ z. Some z) e),
-      k.kids (Operation p) n.made.root (λ q. let f = same_Some (Region r) (Operation p) q in cc) ∙ n.body,
-      b,
-    )
+    pub op_stands : (h : HeadData) (entries : List (List ℕ × AttrView A)) (d : Header) (bs : List BlockTerm) → IsHeader s.types h entries d → v ≡ op_with h entries → KeepsBut t u (Some (Region r)) → AreBlocksAt u (kids u (Region r)) (blocks_of bs) → IsOpAt u (Operation p) (op_term d (blocks_of bs))
+    op_stands h entries d bs is e k b =
+        let grown : Grows s.types u.types = subst (λ z. Grows z u.types) n.types k.types in (
+          Region r,
+          (entries, IsDictMeant-grown s.types u.types grown d.1 entries is.dictionary, head_stands h entries d.0 is.head_is grown (k.keeps.ops p n.made.root ∙ n.held ∙ ap (λ z. Some z) e)),
+          k.kids (Operation p) n.made.root (λ q. let f = same_Some (Region r) (Operation p) q in cc) ∙ n.body,
+          b,
+        )
+
+-- a value that is meant, and a handle that names a type, are live
+pub value_live : {A T : Type 0} (own : A → List ℕ) (types : List (TypeView T)) (value : AttrView A) (handle : ℕ) (c : AttrTerm × TypeTerm) → IsConstant types value handle c → IsAttrLive own types value
+value_live own types value handle c is = IsMeant-live own types c.0 value is.meant
+
+pub result_live : {A T : Type 0} (types : List (TypeView T)) (value : AttrView A) (handle : ℕ) (c : AttrTerm × TypeTerm) → IsConstant types value handle c → IsTypeLive types handle
+result_live types value handle c is = Names-live types handle c.1 is.typed
 
 -- handles that name types are live
 pub arguments_live : {T : Type 0} (types : List (TypeView T)) (h : BlockHeadData) (b : BlockHead) → IsBlockHead types h b → AllLive types h.arguments.types.items

@@ -1,22 +1,32 @@
 -- What the parts of an operation, as they are read, make of the whole.
-use Rattle.std.proofs.Common.{◌≡◌, ℕ, zero, suc, ◌-◌, ◌<◌, List, [], length, Bool, true, false, None, Some, Result, Ok, Err, refl, sym, ◌∙◌, arith}
+use Rattle.std.proofs.Common.{◌≡◌, ℕ, zero, suc, ◌-◌, ◌<◌, List, [], length, Bool, true, false, None, Some, Result, Ok, Err, refl, sym, ◌∙◌, arith, Option, ◌∷◌, ap, subst}
+use Rattle.std.proofs.lemmas.List.{length-map}
+use Rattle.plir_core.specs.declared.ptr.IRNode.{IRNode}
+use Rattle.plir_core.specs.Store.{Store}
 use Rattle.plir_text.specs.declared.fault.Fault.{Fault}
 use Rattle.plir_text.specs.declared.fault.Fault.TheVariants.{TooDeep}
 use Rattle.plir_text.specs.declared.fault.Stop.{Stop}
 use Rattle.plir_text.specs.declared.fault.Stop.TheVariants.{Wanting, Crowded, At}
 use Rattle.plir_text.specs.Steps.{◌>>=◌}
 use Rattle.plir_text.specs.Reading.{Fails}
-use Rattle.plir_text.specs.Terms.{TypeTerm}
+use Rattle.plir_text.specs.Terms.{AttrTerm, TypeTerm, EntryTerms, no_entries, entries_of}
 use Rattle.plir_text.specs.Lists.{sign_at, past_sign, more_at, items_at}
-use Rattle.plir_text.specs.AttrReading.{name_at}
+use Rattle.plir_text.specs.AttrReading.{name_at, entry_at, attr_at}
 use Rattle.plir_text.specs.TypeReading.{type_at}
 use Rattle.plir_text.specs.Fronts.{GoesOn, with_front}
-use Rattle.plir_text.specs.StepLaws.{done, Ends-bind, Ends-from}
-use Rattle.plir_read.specs.OpTerms.{Head, module_head, func_head, Argument, BlockHead, OpTerm, op_term, BlockTerm, blocks_of}
-use Rattle.plir_read.specs.OpReading.{op_id, symbol_at, argument_at, block_head_at, head_at, ends_block, ops_at, block_at, blocks_at, op_at, semicolon_at, brace_at}
-use Rattle.plir_read.specs.Stopping.{Stops, IsRefusal}
+use Rattle.plir_text.specs.StepLaws.{done, bind_ok, Ends-bind, Ends-from}
+use Rattle.plir_read.specs.OpTerms.{Head, module_head, func_head, Header, Argument, BlockHead, OpTerm, op_term, constant_term, BlockTerm, blocks_of}
+use Rattle.plir_read.specs.OpReading.{op_id, names_before, start_at, named, first_name, symbol_at, argument_at, block_head_at, head_at, dictionary_at, header_at, ends_block, ops_at, block_at, blocks_at, value_at, constant_at, named_constant_at, bodied_at, behind_id, op_at, semicolon_at, brace_at}
+use Rattle.plir_read.specs.Heads.{result_names}
+use Rattle.plir_read.specs.OpsStanding.{IsConstantAt, IsOpAt}
+use Rattle.plir_read.specs.Stopping.{Stops, ReadsOn, IsRefusal}
+use Rattle.plir_read.specs.Suffixes.{given_name}
+use Rattle.plir_read.specs.declared.names.Suffix.TheVariants as kinds
 use Rattle.plir_read.specs.declared.heads.HeadKind.{HeadKind}
-use Rattle.plir_read.specs.declared.heads.HeadKind.TheVariants.{Module, Func}
+use Rattle.plir_read.specs.declared.heads.HeadKind.TheVariants.{Bodied, Constant}
+use Rattle.plir_read.specs.declared.heads.BodyKind.{BodyKind}
+use Rattle.plir_read.specs.declared.heads.BodyKind.TheVariants.{Module, Func}
+use Rattle.plir_read.proofs.StartFound.{named_is}
 
 -- a fault of the readers below is a fault here
 pub Stops-of : {A : Type 0} (stop : Stop) (r : Result A Fault) → Fails stop r → Stops stop r
@@ -52,6 +62,18 @@ pub func_read : (n : ℕ) (bytes w rest colon end : List ℕ) (t : TypeTerm) →
 unfolding head_at
 func_read n bytes w rest colon end t p q r = rw (p, q, r) refl
 
+pub no_dictionary : (n : ℕ) (bytes : List ℕ) → past_sign 91 bytes ≡ None → dictionary_at n bytes ≡ Ok (no_entries, bytes)
+unfolding dictionary_at
+no_dictionary n bytes e = rw e refl
+
+pub dictionary_is : (n : ℕ) (bytes inside end : List ℕ) (es : List (List ℕ × AttrTerm)) → past_sign 91 bytes ≡ Some inside → items_at 91 93 (entry_at (attr_at n)) bytes ≡ Ok (es, end) → dictionary_at n bytes ≡ Ok (entries_of es, end)
+unfolding dictionary_at
+dictionary_is n bytes inside end es p q = rw (p, q) refl
+
+pub header_is : (n : ℕ) (k : BodyKind) (bytes rest end : List ℕ) (h : Head) (es : EntryTerms) → head_at n k bytes ≡ Ok (h, rest) → dictionary_at n rest ≡ Ok (es, end) → header_at n k bytes ≡ Ok ((h, es), end)
+unfolding header_at
+header_is n k bytes rest end h es p q = rw (p, q) refl
+
 -- ---- heads of blocks
 
 pub argument_is : (n : ℕ) (bytes w rest colon end : List ℕ) (t : TypeTerm) → name_at bytes ≡ Ok (w, rest) → sign_at 58 rest ≡ Ok colon → type_at n colon ≡ Ok (t, end) → argument_at n bytes ≡ Ok ((w, t), end)
@@ -62,32 +84,99 @@ pub block_head_is : (n : ℕ) (bytes start w rest behind end : List ℕ) (as_ : 
 unfolding block_head_at
 block_head_is n bytes start w rest behind end as_ p q r s = rw (p, q, r, s) refl
 
+-- ---- names and ids
+
+pub start_is : (bytes rest end : List ℕ) (ws : List (List ℕ)) (k : HeadKind) → names_before bytes ≡ Ok (ws, rest) → op_id rest ≡ Ok (k, end) → start_at bytes ≡ Ok ((ws, k), end)
+unfolding start_at
+start_is bytes rest end ws k p q = rw (p, q) refl
+
+-- as many names are given as are written
+as_many : (ws : List (List ℕ)) (names : List (Option (List ℕ))) → names ≡ result_names ws → length ws ≡ length names
+as_many ws names e = sym (ap length e ∙ length-map ws (given_name kinds.OpResult))
+
+-- one name is given where one is written
+one_given : (ws : List (List ℕ)) (names : List (Option (List ℕ))) → names ≡ result_names ws → 1 ≡ length names → names ≡ result_names (first_name ws ∷ [])
+one_given [] names e f = absurd (let g : 1 ≡ 0 = f ∙ ap length e in omega (arith, g))
+one_given (w ∷ []) names e f = e
+one_given (v ∷ w ∷ ws) names e f = absurd (let g = f ∙ ap length e in omega (arith, g))
+
+-- ---- constants
+
+pub value_is : (n : ℕ) (bytes start mid end : List ℕ) (a : AttrTerm) → sign_at 60 bytes ≡ Ok start → attr_at n start ≡ Ok (a, mid) → sign_at 62 mid ≡ Ok end → value_at n bytes ≡ Ok (a, end)
+unfolding value_at
+value_is n bytes start mid end a p q r = rw (p, q, r) refl
+
+pub constant_is : (n : ℕ) (bytes rest colon end : List ℕ) (a : AttrTerm) (t : TypeTerm) → value_at n bytes ≡ Ok (a, rest) → sign_at 58 rest ≡ Ok colon → type_at n colon ≡ Ok (t, end) → constant_at n bytes ≡ Ok ((a, t), end)
+unfolding constant_at
+constant_is n bytes rest colon end a t p q r = rw (p, q, r) refl
+
 -- ---- an operation
 
--- what is read behind its id
-abbrev pub behind_id : ℕ → HeadKind → List ℕ → Result (OpTerm × List ℕ) Fault
-behind_id n k bytes = head_at n k bytes >>= λ h. blocks_at (op_at n) n h.1 >>= λ bs. Ok (op_term h.0 (blocks_of bs.0), bs.1)
-
-pub op_at-behind : (n : ℕ) (bytes rest : List ℕ) (k : HeadKind) → 0 < n → op_id bytes ≡ Ok (k, rest) → op_at n bytes ≡ behind_id (n - 1) k rest
+pub op_at-behind : (n : ℕ) (bytes rest : List ℕ) (ws : List (List ℕ)) (k : HeadKind) → 0 < n → start_at bytes ≡ Ok ((ws, k), rest) → op_at n bytes ≡ behind_id (op_at (n - 1)) (n - 1) ws k rest
 unfolding op_at
-op_at-behind zero bytes rest k lt e = absurd (omega arith)
-op_at-behind (suc n) bytes rest k lt e = let m : suc n - 1 ≡ n = omega arith in rw (e, m) refl
+op_at-behind zero bytes rest ws k lt e = absurd (omega arith)
+op_at-behind (suc n) bytes rest ws k lt e = let m : suc n - 1 ≡ n = omega arith in rw (e, m) refl
 
-pub no_id : (n : ℕ) (e : Stop) (bytes : List ℕ) → Fails e (op_id bytes) → Stops e (op_at n bytes)
+pub no_start : (n : ℕ) (e : Stop) (bytes : List ℕ) → Fails e (start_at bytes) → Stops e (op_at n bytes)
 unfolding op_at
-no_id zero e bytes h = Stops-bind e (op_id bytes) (λ k. Err _) (Stops-of e (op_id bytes) h)
-no_id (suc n) e bytes h = Stops-bind e (op_id bytes) (λ k. behind_id n k.0 k.1) (Stops-of e (op_id bytes) h)
+no_start zero e bytes h = Stops-bind e (start_at bytes) (λ s. Err _) (Stops-of e (start_at bytes) h)
+no_start (suc n) e bytes h = Stops-bind e (start_at bytes) (λ s. behind_id (op_at n) n s.0.0 s.0.1 s.1) (Stops-of e (start_at bytes) h)
 
-pub no_head : (n : ℕ) (e : Stop) (k : HeadKind) (bytes : List ℕ) → Fails e (head_at n k bytes) → Stops e (behind_id n k bytes)
-no_head n e k bytes h = Stops-bind e (head_at n k bytes) (λ h. blocks_at (op_at n) n h.1 >>= λ bs. Ok (op_term h.0 (blocks_of bs.0), bs.1)) (Stops-of e (head_at n k bytes) h)
+pub too_deep : (n : ℕ) (bytes : List ℕ) (x : (List (List ℕ) × HeadKind) × List ℕ) → n ≡ 0 → start_at bytes ≡ Ok x → op_at n bytes ≡ Err TooDeep
+unfolding op_at
+too_deep zero bytes x z e = rw e refl
+too_deep (suc n) bytes x z e = absurd (omega arith)
 
-pub no_body : (n : ℕ) (e : Stop) (k : HeadKind) (bytes rest : List ℕ) (h : Head) → head_at n k bytes ≡ Ok (h, rest) → Stops e (blocks_at (op_at n) n rest) → Stops e (behind_id n k bytes)
-no_body n e k bytes rest h p q =
-    let is : (blocks_at (op_at n) n rest >>= λ bs. done (op_term h (blocks_of bs.0), bs.1)) ≡ behind_id n k bytes = rw p refl in
-    Stops-from e _ _ is (Stops-bind e (blocks_at (op_at n) n rest) (λ bs. done (op_term h (blocks_of bs.0), bs.1)) q)
+-- a module or a function is read behind its id
+pub bodied_behind : (n : ℕ) (bytes rest : List ℕ) (ws : List (List ℕ)) (names : List (Option (List ℕ))) (k : HeadKind) (b : BodyKind) → 0 < n → start_at bytes ≡ Ok ((ws, k), rest) → k ≡ Bodied b → names ≡ result_names ws → op_at n bytes ≡ bodied_at (op_at (n - 1)) (n - 1) b (length names) rest
+bodied_behind n bytes rest ws names k b lt e is given =
+    op_at-behind n bytes rest ws k lt e ∙ ap (λ (z : HeadKind). behind_id (op_at (n - 1)) (n - 1) ws z rest) is ∙ ap (λ m. bodied_at (op_at (n - 1)) (n - 1) b m rest) (as_many ws names given)
 
-pub op_read : (n : ℕ) (k : HeadKind) (bytes rest end : List ℕ) (h : Head) (bs : List BlockTerm) → head_at n k bytes ≡ Ok (h, rest) → blocks_at (op_at n) n rest ≡ Ok (bs, end) → behind_id n k bytes ≡ Ok (op_term h (blocks_of bs), end)
-op_read n k bytes rest end h bs p q = rw (p, q) refl
+pub ReadsOn-from : {X Y : Type 0} (means : X → Y → Type 0) (r : Result X Stop) (read total : Result Y Fault) → total ≡ read → ReadsOn means r read → ReadsOn means r total
+ReadsOn-from means (Ok x) read total e h = (h.0, e ∙ h.1, h.2)
+ReadsOn-from means (Err stop) read total e h = Stops-from stop read total (sym e) h
+
+-- a constant is read behind its id, with the one name that stands before that
+module _ {K A T X : Type 0} (s : Store K A T) (node : X → IRNode) (after : X → List ℕ) (n : ℕ) (bytes rest : List ℕ) (ws : List (List ℕ)) (names : List (Option (List ℕ))) (given : names ≡ result_names ws) where
+  abbrev as_constant : (AttrTerm × TypeTerm) × List ℕ → OpTerm × List ℕ
+  as_constant c = (constant_term (first_name ws) c.0.0 c.0.1, c.1)
+
+  constant_behind : (k : HeadKind) → 0 < n → start_at bytes ≡ Ok ((ws, k), rest) → k ≡ Constant → op_at n bytes ≡ (named_constant_at (n - 1) (length names) rest >>= λ c. done (as_constant c))
+  constant_behind k lt e is =
+      op_at-behind n bytes rest ws k lt e ∙ ap (λ (z : HeadKind). behind_id (op_at (n - 1)) (n - 1) ws z rest) is
+      ∙ ap (λ m. named_constant_at (n - 1) m rest >>= λ c. done (as_constant c)) (as_many ws names given)
+
+  one_name_given : (c : (AttrTerm × TypeTerm) × List ℕ) → named_constant_at (n - 1) (length names) rest ≡ Ok c → names ≡ result_names (first_name ws ∷ [])
+  unfolding named_constant_at
+  one_name_given c e = let u = bind_ok (named 1 (length names)) (λ u. constant_at (n - 1) rest) c e in one_given ws names given (named_is 1 (length names) u.0 u.1)
+
+  pub constant_reads : (r : Result X Stop) (k : HeadKind) → 0 < n → start_at bytes ≡ Ok ((ws, k), rest) → k ≡ Constant
+      → ReadsOn (λ x y. IsConstantAt s (node x) names y.0 × (after x ≡ y.1)) r (named_constant_at (n - 1) (length names) rest) → ReadsOn (λ x y. IsOpAt s (node x) y.0 × (after x ≡ y.1)) r (op_at n bytes)
+  constant_reads (Ok x) k lt e is h =
+      let total = constant_behind k lt e is in
+      (as_constant h.0, total ∙ rw (h.1) refl, (subst (λ z. IsConstantAt s (node x) z h.0.0) (one_name_given h.0 h.1) h.2.0, h.2.1))
+  constant_reads (Err stop) k lt e is h = Stops-from stop _ _ (sym (constant_behind k lt e is)) (Stops-bind stop _ (λ c. done (as_constant c)) h)
+
+module _ (read : List ℕ → Result (OpTerm × List ℕ) Fault) (n : ℕ) (k : BodyKind) (names : ℕ) where
+  -- what is read behind the id of a module or a function
+  abbrev behind_names : List ℕ → Result (OpTerm × List ℕ) Fault
+  behind_names bytes = header_at n k bytes >>= λ h. blocks_at read n h.1 >>= λ bs. Ok (op_term h.0 (blocks_of bs.0), bs.1)
+
+  pub no_head : (e : Stop) (u : Unit {0}) (bytes : List ℕ) → named 0 names ≡ Ok u → Fails e (header_at n k bytes) → Stops e (bodied_at read n k names bytes)
+  unfolding bodied_at
+  no_head e u bytes p h =
+      let is : behind_names bytes ≡ bodied_at read n k names bytes = rw p refl in
+      Stops-from e _ _ is (Stops-bind e (header_at n k bytes) (λ h. blocks_at read n h.1 >>= λ bs. Ok (op_term h.0 (blocks_of bs.0), bs.1)) (Stops-of e (header_at n k bytes) h))
+
+  pub no_body : (e : Stop) (u : Unit {0}) (bytes rest : List ℕ) (h : Header) → named 0 names ≡ Ok u → header_at n k bytes ≡ Ok (h, rest) → Stops e (blocks_at read n rest) → Stops e (bodied_at read n k names bytes)
+  unfolding bodied_at
+  no_body e u bytes rest h p q r =
+      let is : (blocks_at read n rest >>= λ bs. done (op_term h (blocks_of bs.0), bs.1)) ≡ bodied_at read n k names bytes = rw (p, q) refl in
+      Stops-from e _ _ is (Stops-bind e (blocks_at read n rest) (λ bs. done (op_term h (blocks_of bs.0), bs.1)) r)
+
+  pub bodied_read : (u : Unit {0}) (bytes rest end : List ℕ) (h : Header) (bs : List BlockTerm) → named 0 names ≡ Ok u → header_at n k bytes ≡ Ok (h, rest) → blocks_at read n rest ≡ Ok (bs, end) → bodied_at read n k names bytes ≡ Ok (op_term h (blocks_of bs), end)
+  unfolding bodied_at
+  bodied_read u bytes rest end h bs p q r = rw (p, q, r) refl
 
 -- ---- blocks and their operations
 
@@ -125,8 +214,3 @@ module _ (read : List ℕ → Result (OpTerm × List ℕ) Fault) where
   pub blocks : (n : ℕ) (bytes start : List ℕ) → sign_at 123 bytes ≡ Ok start → past_sign 125 start ≡ None → blocks_at read n bytes ≡ more_at brace_at (block_at read n) (suc (length start)) start
   unfolding blocks_at
   blocks n bytes start p q = rw (p, q) refl
-
-pub too_deep : (n : ℕ) (bytes : List ℕ) (x : HeadKind × List ℕ) → n ≡ 0 → op_id bytes ≡ Ok x → op_at n bytes ≡ Err TooDeep
-unfolding op_at
-too_deep zero bytes x z e = rw e refl
-too_deep (suc n) bytes x z e = absurd (omega arith)

@@ -10,7 +10,7 @@ use Rattle.plir_text.specs.StepLaws.{done}
 use Rattle.plir_text.specs.Steps.{◌>>=◌}
 use Rattle.plir_text.specs.TypeGrammar.{IsText}
 use Rattle.plir_text.specs.Wholes.{end_at, whole}
-use Rattle.plir_read.specs.OpGrammar.{PlainOpWithin}
+use Rattle.plir_read.specs.OpGrammar.{OpWithin}
 use Rattle.plir_read.specs.OpReading.{op_at}
 use Rattle.plir_read.specs.OpTerms.{OpTerm}
 use Rattle.plir_read.specs.Stopping.{Stops, IsOfText}
@@ -18,11 +18,11 @@ use Rattle.plir_read.proofs.OpAgain.{op_within_again}
 use Rattle.plir_read.proofs.OpFound.{op_found}
 use Rattle.plir_read.proofs.OpSteps.{Stops-of, Stops-bind, Stops-from}
 
-pub op_text_found : (n : ℕ) (bytes : List ℕ) (w : OpTerm) → whole (op_at n) bytes ≡ Ok w → IsText (PlainOpWithin n) bytes w
-op_text_found n bytes w e = whole_found (PlainOpWithin n) 41 (op_at n) (op_found n) bytes w e
+pub op_text_found : (n : ℕ) (bytes : List ℕ) (w : OpTerm) → whole (op_at n) bytes ≡ Ok w → IsText (OpWithin n) bytes w
+op_text_found n bytes w e = whole_found (OpWithin n) 41 (op_at n) (op_found n) bytes w e
 
-pub op_text_refused : (n : ℕ) (bytes : List ℕ) (f : Fault) → whole (op_at n) bytes ≡ Err f → (w : OpTerm) → IsText (PlainOpWithin n) bytes w → ⊥
-op_text_refused n bytes f e w s = refused (op_at n) (PlainOpWithin n) (op_within_again n) bytes f e w s
+pub op_text_refused : (n : ℕ) (bytes : List ℕ) (f : Fault) → whole (op_at n) bytes ≡ Err f → (w : OpTerm) → IsText (OpWithin n) bytes w → ⊥
+op_text_refused n bytes f e w s = refused (op_at n) (OpWithin n) (op_within_again n) bytes f e w s
 
 -- a fault that is told is the one that was met
 pub told : {X : Type 0} (stop : Stop) (f : Fault) (read : Result X Fault) → f ≡ fault_of stop → Stops stop read → IsOfText f → read ≡ Err f

@@ -31,6 +31,13 @@ module _ {K A T : Type 0} where
     pub empty : kids t (Region r) ≡ []
     pub types : t.types ≡ s.types
 
+  -- From s to t the operation p is new, with no region, and nothing else has changed.
+  pub record IsNewLeaf (s t : Store K A T) (p : Ptr OperationKind) (v : OpView K A) : Type 0 where
+    pub made : IsMade s.nodes t.nodes (Operation p)
+    pub held : op_at t p ≡ Some v
+    pub empty : kids t (Operation p) ≡ []
+    pub types : t.types ≡ s.types
+
   -- From s to t the block p is new, with no operation, and nothing else has changed.
   pub record IsNewBlock (s t : Store K A T) (p : Ptr BlockKind) (v : BlockView A) : Type 0 where
     pub made : IsMade s.nodes t.nodes (BasicBlock p)

@@ -2,11 +2,11 @@
 --
 --   Keys         the keys of attributes
 --   Suffixes     given_name: the name that a text gives, without the suffix that says where a value stands
---   OpTerms      plain operations as they are written: modules and functions without dictionaries
+--   OpTerms      operations as they are written
 --   OpGrammar    which tokens stand for an operation
 --   OpReading    op_at: operations as they are read, with the first fault that is met
 --   Heads        what operations and blocks hold, by what is written before their bodies
---   OpsStanding  IsOpAt: the written operation that a node of a context stands for; StandsForPlainOp: the one that a text stands for
+--   OpsStanding  IsOpAt: the written operation that a node of a context stands for; StandsForOp: the one that a text stands for
 --   Keeping      KeepsOlder: what reading leaves of a context as it was
 --   Stopping     ReadsOn: reading into a context; IsOfText: faults of a text
 pub mod Keys

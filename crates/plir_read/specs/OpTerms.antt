@@ -1,11 +1,15 @@
--- Plain operations as they are written: modules and functions without dictionaries.
+-- Operations as they are written.
 use Rattle.std.specs.Prelude.{ℕ, suc, max, List, [], ◌∷◌}
-use Rattle.plir_text.specs.Terms.{TypeTerm, type_levels}
+use Rattle.plir_text.specs.Terms.{TypeTerm, type_levels, AttrTerm, levels, EntryTerms, entries_levels}
 
--- what stands before the body
+-- what stands before the dictionary
 pub data Head : Type 0 where
   module_head : (name : List ℕ) → Head
   func_head : (name : List ℕ) → TypeTerm → Head
+
+-- what stands before the body: the entries of the dictionary too, of which there may be none
+abbrev pub Header : Type 0
+Header = Head × EntryTerms
 
 -- an argument of a block: its name and its type
 abbrev pub Argument : Type 0
@@ -15,10 +19,11 @@ Argument = List ℕ × TypeTerm
 abbrev pub BlockHead : Type 0
 BlockHead = List ℕ × List Argument
 
--- A header with the blocks in braces.
+-- A header with the blocks in braces; or the name of a constant's result, the constant's value, and the result's type.
 mutual
   pub data OpTerm : Type 0 where
-    op_term : Head → BlockTerms → OpTerm
+    op_term : Header → BlockTerms → OpTerm
+    constant_term : (name : List ℕ) → AttrTerm → TypeTerm → OpTerm
 
   pub data BlockTerms : Type 0 where
     no_blocks : BlockTerms
@@ -45,6 +50,9 @@ abbrev pub head_levels : Head → ℕ
 head_levels (module_head w) = 0
 head_levels (func_head w t) = type_levels t
 
+abbrev pub header_levels : Header → ℕ
+header_levels h = max (head_levels h.0) (entries_levels h.1)
+
 -- the same of the head of a block
 abbrev pub arguments_levels : List Argument → ℕ
 arguments_levels [] = 0
@@ -56,7 +64,8 @@ block_levels b = arguments_levels b.1
 -- How many levels are open at the deepest place, the operation itself counted.
 abbrev mutual
   pub op_levels : OpTerm → ℕ
-  op_levels (op_term h bs) = suc (max (head_levels h) (blocks_levels bs))
+  op_levels (op_term h bs) = suc (max (header_levels h) (blocks_levels bs))
+  op_levels (constant_term w a t) = suc (max (levels a) (type_levels t))
 
   pub blocks_levels : BlockTerms → ℕ
   blocks_levels no_blocks = 0

@@ -1,14 +1,25 @@
 -- The written operation that a node of a context stands for.
-use Rattle.std.specs.Prelude.{◌≡◌, ℕ, List, [], ◌∷◌, Some}
+use Rattle.std.specs.Borrow.{Bor}
+use Rattle.std.specs.Prelude.{◌≡◌, ℕ, List, [], ◌∷◌, Option, Some, Result}
+use Rattle.plir_core.specs.declared.ptr.Ptr.{Ptr}
+use Rattle.plir_core.specs.declared.ptr.Operation.{Operation as OperationKind}
+use Rattle.plir_core.specs.declared.ptr.Region.{Region as RegionKind}
+use Rattle.plir_core.specs.declared.ptr.BasicBlock.{BasicBlock as BlockKind}
 use Rattle.plir_core.specs.declared.ptr.IRNode.{IRNode}
 use Rattle.plir_core.specs.declared.ptr.IRNode.TheVariants.{Operation, Region, BasicBlock}
 use Rattle.plir_core.specs.Contents.{OpView, BlockView}
+use Rattle.plir_data.specs.AttrView.{AttrView}
 use Rattle.plir_core.specs.Store.{Store, kids, op_at, block_at}
+use Rattle.plir_text.specs.Meaning.{IsDictMeant}
 use Rattle.plir_text.specs.Names.{Names, NamesAll}
+use Rattle.plir_text.specs.Terms.{TypeTerm, AttrTerm}
+use Rattle.plir_text.specs.declared.fault.Fault.{Fault}
+use Rattle.plir_text.specs.declared.fault.Stop.{Stop}
 use Rattle.plir_text.specs.TypeGrammar.{IsText}
-use Rattle.plir_read.specs.OpGrammar.{PlainOpWithin}
-use Rattle.plir_read.specs.OpTerms.{Head, module_head, func_head, BlockHead, OpTerm, op_term, BlockTerms, no_blocks, block_before, OpTerms, no_ops, op_before, ops_of, BlockTerm}
-use Rattle.plir_read.specs.Heads.{module_op, func_op, argument_types, written_block}
+use Rattle.plir_read.specs.OpGrammar.{OpWithin}
+use Rattle.plir_read.specs.OpTerms.{Head, module_head, func_head, Header, BlockHead, OpTerm, op_term, constant_term, BlockTerms, no_blocks, block_before, OpTerms, no_ops, op_before, ops_of, blocks_of, BlockTerm}
+use Rattle.plir_read.specs.Stopping.{ReadsOnFirst}
+use Rattle.plir_read.specs.Heads.{module_op, func_op, result_names, IsConstant, constant_op, argument_types, written_block}
 
 module _ {K A T : Type 0} where
   -- what a node holds
@@ -22,19 +33,28 @@ module _ {K A T : Type 0} where
   HoldsBlock s (Region p) v = ⊥
   HoldsBlock s (Operation p) v = ⊥
 
-  -- an operation holds what its header says
-  abbrev pub IsHeadAt : Store K A T → IRNode → Head → Type 0
-  IsHeadAt s n (module_head w) = HoldsOp s n (module_op w)
-  IsHeadAt s n (func_head w t) = (handle : ℕ) × Names s.types handle t × HoldsOp s n (func_op w handle)
+  -- an operation holds what its header says, with the entries of its dictionary
+  abbrev pub IsHeadAt : Store K A T → IRNode → Head → (entries : List (List ℕ × AttrView A)) → Type 0
+  IsHeadAt s n (module_head w) entries = HoldsOp s n (module_op w entries)
+  IsHeadAt s n (func_head w t) entries = (handle : ℕ) × Names s.types handle t × HoldsOp s n (func_op w handle entries)
+
+  abbrev pub IsHeaderAt : Store K A T → IRNode → Header → Type 0
+  IsHeaderAt s n h = (entries : List (List ℕ × AttrView A)) × IsDictMeant s.types h.1 entries × IsHeadAt s n h.0 entries
 
   -- a block holds what its head says
   abbrev pub IsBlockHeadAt : Store K A T → IRNode → BlockHead → Type 0
   IsBlockHeadAt s n b = (handles : List ℕ) × NamesAll s.types handles (argument_types b.1) × HoldsBlock s n (written_block b handles)
 
+  -- a constant holds what is written, has these names for its result, and has no region
+  abbrev pub IsConstantAt : Store K A T → IRNode → List (Option (List ℕ)) → AttrTerm × TypeTerm → Type 0
+  IsConstantAt s n names c = (value : AttrView A) × (handle : ℕ) × IsConstant s.types value handle c × HoldsOp s n (constant_op names value handle) × (kids s n ≡ [])
+
   abbrev mutual
-    -- the operation at n is the written one: it holds what the header says, and has one region, with the written blocks
+    -- The operation at n is the written one. A module or a function holds what the header says, and has one region, with the
+    -- written blocks.
     pub IsOpAt : Store K A T → IRNode → OpTerm → Type 0
-    IsOpAt s n (op_term h bs) = (region : IRNode) × IsHeadAt s n h × (kids s n ≡ region ∷ []) × AreBlocksAt s (kids s region) bs
+    IsOpAt s n (op_term h bs) = (region : IRNode) × IsHeaderAt s n h × (kids s n ≡ region ∷ []) × AreBlocksAt s (kids s region) bs
+    IsOpAt s n (constant_term w a t) = IsConstantAt s n (result_names (w ∷ [])) (a, t)
 
     -- the blocks ns are the written ones
     pub AreBlocksAt : Store K A T → List IRNode → BlockTerms → Type 0
@@ -51,6 +71,23 @@ module _ {K A T : Type 0} where
     pub head : IsBlockHeadAt s n b.0
     pub ops : AreOpsAt s (kids s n) (ops_of b.1)
 
-  -- The whole text stands for the plain operation at n, with at most k levels open.
-  abbrev pub StandsForPlainOp : (k : ℕ) → Store K A T → (bytes : List ℕ) → IRNode → Type 0
-  StandsForPlainOp k s bytes n = (w : OpTerm) × IsText (PlainOpWithin k) bytes w × IsOpAt s n w
+  -- the blocks of a region, and the operations of a block, are the written ones
+  abbrev pub HasBlocks : Store K A T → Ptr RegionKind → List BlockTerm → Type 0
+  HasBlocks s p bs = AreBlocksAt s (kids s (Region p)) (blocks_of bs)
+
+  abbrev pub HasOps : Store K A T → Ptr BlockKind → List OpTerm → Type 0
+  HasOps s p os = AreOpsAt s (kids s (BasicBlock p)) (ops_of os)
+
+  -- an operation, a block and a constant were read, and stand in the context at the pointer that is answered
+  abbrev pub ReadsOp : Store K A T → Result (Ptr OperationKind × Bor (List ℕ)) Stop → Result (OpTerm × List ℕ) Fault → Type 0
+  ReadsOp s = ReadsOnFirst (λ p. IsOpAt s (Operation p))
+
+  abbrev pub ReadsBlock : Store K A T → Result (Ptr BlockKind × Bor (List ℕ)) Stop → Result (BlockTerm × List ℕ) Fault → Type 0
+  ReadsBlock s = ReadsOnFirst (λ p. IsBlockAt s (BasicBlock p))
+
+  abbrev pub ReadsConstant : Store K A T → (names : List (Option (List ℕ))) → Result (Ptr OperationKind × Bor (List ℕ)) Stop → Result ((AttrTerm × TypeTerm) × List ℕ) Fault → Type 0
+  ReadsConstant s names = ReadsOnFirst (λ p. IsConstantAt s (Operation p) names)
+
+  -- The whole text stands for the operation at n, with at most k levels open.
+  abbrev pub StandsForOp : (k : ℕ) → Store K A T → (bytes : List ℕ) → IRNode → Type 0
+  StandsForOp k s bytes n = (w : OpTerm) × IsText (OpWithin k) bytes w × IsOpAt s n w

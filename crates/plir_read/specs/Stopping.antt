@@ -1,6 +1,7 @@
 -- Reading into a context, with the first fault that is met.
-use Rattle.std.specs.Prelude.{◌≡◌, ◌≢◌, Result, Ok, Err}
-use Rattle.plir_text.specs.Reading.{Ends}
+use Rattle.std.specs.Borrow.{Bor}
+use Rattle.std.specs.Prelude.{◌≡◌, ◌≢◌, ℕ, List, Result, Ok, Err}
+use Rattle.plir_text.specs.Reading.{Ends, Reads}
 use Rattle.plir_text.specs.declared.fault.Fault.{Fault}
 use Rattle.plir_text.specs.declared.fault.Fault.TheVariants.{Memory, TooManyNodes}
 use Rattle.plir_text.specs.declared.fault.Stop.{Stop}
@@ -14,6 +15,17 @@ Stops stop read = Ends (Unit {0}) stop read
 abbrev pub ReadsOn : {X Y : Type 0} → (X → Y → Type 0) → Result X Stop → Result Y Fault → Type 0
 ReadsOn means (Ok x) read = (y : _) × (read ≡ Ok y) × means x y
 ReadsOn means (Err stop) read = Stops stop read
+
+-- the same of what stands first in a text, where what stands behind it is answered beside it
+abbrev pub ReadsFirst : {X Y : Type 0} → (X → Y → Type 0) → Result (X × Bor (List ℕ)) Stop → Result (Y × List ℕ) Fault → Type 0
+ReadsFirst means result read = Reads (λ x y. means x.0 y.0 × (x.1.now ≡ y.1)) result read
+
+abbrev pub ReadsOnFirst : {X Y : Type 0} → (X → Y → Type 0) → Result (X × Bor (List ℕ)) Stop → Result (Y × List ℕ) Fault → Type 0
+ReadsOnFirst means result read = ReadsOn (λ x y. means x.0 y.0 × (x.1.now ≡ y.1)) result read
+
+-- the same where only what stands behind it is answered
+abbrev pub ReadsOnPast : {Y : Type 0} → (Y → Type 0) → Result (Bor (List ℕ)) Stop → Result (Y × List ℕ) Fault → Type 0
+ReadsOnPast holds result read = ReadsOn (λ x y. holds y.0 × (x.now ≡ y.1)) result read
 
 -- memory or room for a node was wanting
 abbrev pub IsRefusal : Stop → Type 0

@@ -4,7 +4,7 @@ use Rattle.std.specs.Str.{bytes_eq}
 use Rattle.plir_data.specs.Identifier.{is_digit}
 use Rattle.plir_text.specs.Bytes.{begins, past}
 use Rattle.plir_read.specs.declared.names.Suffix.{Suffix}
-use Rattle.plir_read.specs.declared.names.Suffix.TheVariants.{Block, Argument}
+use Rattle.plir_read.specs.declared.names.Suffix.TheVariants.{Block, Argument, OpResult}
 
 -- what stands behind letters
 unfoldable pub behind_letters : List ℕ → List ℕ → Option (List ℕ)
@@ -18,19 +18,24 @@ behind_digits w = if begins is_digit w then Some (past is_digit w) else None
 unfoldable pub behind_number : List ℕ → List ℕ → Option (List ℕ)
 behind_number letters w = option_and_then behind_digits (behind_letters letters w)
 
--- what stands behind a pointer to a block, as `block2v1`
-unfoldable pub behind_block : List ℕ → Option (List ℕ)
-behind_block w = option_and_then (behind_number (codes "v")) (behind_number (codes "block") w)
+-- what stands behind a pointer, as `block2v1` or `op3v1`
+unfoldable pub behind_pointer : (letters : List ℕ) → List ℕ → Option (List ℕ)
+behind_pointer letters w = option_and_then (behind_number (codes "v")) (behind_number letters w)
+
+-- what stands behind a pointer, letters and a number, as `block2v1_arg0` or `op3v1_res0`
+unfoldable pub behind_place : (letters place : List ℕ) → List ℕ → Option (List ℕ)
+behind_place letters place w = option_and_then (behind_number place) (behind_pointer letters w)
 
 abbrev pub is_nothing : Option (List ℕ) → Bool
 is_nothing (Some []) = true
 is_nothing (Some (b ∷ bs)) = false
 is_nothing None = false
 
--- whether this is a suffix: `block2v1` of a block, `block2v1_arg0` of an argument
+-- whether this is a suffix: `block2v1` of a block, `block2v1_arg0` of an argument, `op3v1_res0` of a result
 unfoldable pub is_suffix : Suffix → List ℕ → Bool
-is_suffix Block w = is_nothing (behind_block w)
-is_suffix Argument w = is_nothing (option_and_then (behind_number (codes "_arg")) (behind_block w))
+is_suffix Block w = is_nothing (behind_pointer (codes "block") w)
+is_suffix Argument w = is_nothing (behind_place (codes "block") (codes "_arg") w)
+is_suffix OpResult w = is_nothing (behind_place (codes "op") (codes "_res") w)
 
 -- whether this is `_` and a suffix
 abbrev pub is_joined_suffix : Suffix → List ℕ → Bool

@@ -1,11 +1,9 @@
 //! Heads of blocks.
-ghost use Rattle.std.specs.Prelude.{◌≡◌};
 ghost use Rattle.plir_text.specs.Lists.{items_at};
-ghost use Rattle.plir_text.specs.Names.{Grows, Names};
-ghost use Rattle.plir_text.specs.Reading.{Reads};
-ghost use Rattle.plir_read.specs.Heads.{AreArguments, IsBlockHead};
+ghost use Rattle.plir_text.specs.Names.{Grows};
+ghost use Rattle.plir_read.specs.Heads.{AreArguments, IsArgument, IsBlockHead};
 ghost use Rattle.plir_read.specs.OpReading.{argument_at, block_head_at};
-ghost use Rattle.plir_read.specs.Suffixes.{given_name};
+ghost use Rattle.plir_read.specs.Stopping.{ReadsFirst};
 
 use crate::names::{Suffix, given_name};
 use plir_data::{Identifier, OpSet, TypeHandle, TypeStore};
@@ -37,7 +35,7 @@ fn read_argument<'a, D: OpSet, C: TypeStore<D>>(
     levels: usize,
     bytes: &'a [u8],
 ) -> Result<((Option<Identifier>, TypeHandle), &'a [u8]), Stop>
-    ensures read { Reads (λ x y. (x.0.0 ≡ given_name Suffix.Argument y.0.0) × Names (C.types ctx.new) x.0.1 y.0.1 × (x.1.now ≡ y.1)) result (argument_at levels bytes.now) }
+    ensures read { ReadsFirst (IsArgument (C.types ctx.new)) result (argument_at levels bytes.now) }
     ensures grown { Grows (C.types ctx.old) (C.types ctx.new) }
     ensures rest { C.same_besides ctx.old ctx.new }
 {
@@ -59,7 +57,7 @@ fn read_arguments<'a, D: OpSet, C: TypeStore<D>>(
     levels: usize,
     bytes: &'a [u8],
 ) -> Result<(Arguments, &'a [u8]), Stop>
-    ensures read { Reads (λ x y. AreArguments (C.types ctx.new) x.0 y.0 × (x.1.now ≡ y.1)) result (items_at 40 41 (argument_at levels) bytes.now) }
+    ensures read { ReadsFirst (AreArguments (C.types ctx.new)) result (items_at 40 41 (argument_at levels) bytes.now) }
     ensures grown { Grows (C.types ctx.old) (C.types ctx.new) }
     ensures rest { C.same_besides ctx.old ctx.new }
 {
@@ -94,7 +92,7 @@ pub fn read_block_head<'a, D: OpSet, C: TypeStore<D>>(
     levels: usize,
     bytes: &'a [u8],
 ) -> Result<(BlockHeadData, &'a [u8]), Stop>
-    ensures read { Reads (λ x y. IsBlockHead (C.types ctx.new) x.0 y.0 × (x.1.now ≡ y.1)) result (block_head_at levels bytes.now) }
+    ensures read { ReadsFirst (IsBlockHead (C.types ctx.new)) result (block_head_at levels bytes.now) }
     ensures grown { Grows (C.types ctx.old) (C.types ctx.new) }
     ensures rest { C.same_besides ctx.old ctx.new }
 {

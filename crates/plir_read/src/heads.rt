@@ -1,9 +1,10 @@
 //! Headers of operations and blocks.
-ghost use Rattle.std.specs.Prelude.{◌≡◌, ℕ, Ok};
+ghost use Rattle.std.specs.Prelude.{◌≡◌, Ok};
 ghost use Rattle.plir_text.specs.Names.{Grows};
-ghost use Rattle.plir_text.specs.Reading.{Gives, Reads};
+ghost use Rattle.plir_text.specs.Reading.{Gives};
 ghost use Rattle.plir_read.specs.Heads.{IsHead};
 ghost use Rattle.plir_read.specs.OpReading.{op_kind, op_id, symbol_at, head_at, ends_block, semicolon_at, brace_at};
+ghost use Rattle.plir_read.specs.Stopping.{ReadsFirst};
 
 use plir_data::{Identifier, OpSet, TypeHandle, TypeStore};
 use plir_text::Fault;
@@ -14,15 +15,22 @@ use plir_text::types::read_type_at;
 use plir_text::words::{past_sign, read_sign, read_word};
 use std::alloc::Global;
 
+// Operations with a header and a body.
+#[derive(Clone, Copy)]
+pub enum BodyKind {
+    Module,
+    Func,
+}
+
 // What the id of an operation names.
 #[derive(Clone, Copy)]
 pub enum HeadKind {
-    Module,
-    Func,
+    Bodied(BodyKind),
+    Constant,
     ForwardRef,
 }
 
-// A header: a name, and a function's type.
+// What stands before the dictionary: a name, and a function's type.
 #[derive(Drop)]
 pub enum HeadData {
     Module(Identifier),
@@ -35,9 +43,11 @@ fn op_kind(word: &[u8], left: usize) -> Result<HeadKind, Stop>
     ensures { Gives (λ k. k) result (op_kind word.now) }
 {
     if word == b"builtin.module".as_slice() {
-        Ok(HeadKind::Module)
+        Ok(HeadKind::Bodied(BodyKind::Module))
     } else if word == b"builtin.func".as_slice() {
-        Ok(HeadKind::Func)
+        Ok(HeadKind::Bodied(BodyKind::Func))
+    } else if word == b"builtin.constant".as_slice() {
+        Ok(HeadKind::Constant)
     } else if word == b"builtin.forward_ref".as_slice() {
         Ok(HeadKind::ForwardRef)
     } else {
@@ -94,26 +104,25 @@ pub fn ends_block(bytes: &[u8]) -> bool
     past_sign(bytes, b'^').is_some() || past_sign(bytes, b'}').is_some()
 }
 
-// What stands behind an id up to the body, with at most this many levels in it, and with this many bytes left at the id.
+// What stands behind an id up to the dictionary, with at most this many levels in it.
 #[tactic(auto, unfolding(crate::specs::OpReading::head_at))]
 pub fn read_head<'a, D: OpSet, C: TypeStore<D>>(
     alloc: Global,
     ctx: &mut C,
     levels: usize,
-    kind: HeadKind,
-    left: usize,
+    kind: BodyKind,
     bytes: &'a [u8],
 ) -> Result<(HeadData, &'a [u8]), Stop>
-    ensures read { Reads (λ x y. IsHead (C.types ctx.new) x.0 y.0 × (x.1.now ≡ y.1)) result (head_at levels kind bytes.now) }
+    ensures read { ReadsFirst (IsHead (C.types ctx.new)) result (head_at levels kind bytes.now) }
     ensures grown { Grows (C.types ctx.old) (C.types ctx.new) }
     ensures rest { C.same_besides ctx.old ctx.new }
 {
     match kind {
-        HeadKind::Module => {
+        BodyKind::Module => {
             let (name, rest) = read_symbol(alloc, bytes)?;
             Ok((HeadData::Module(name), rest))
         }
-        HeadKind::Func => {
+        BodyKind::Func => {
             let (name, rest) = read_symbol(alloc, bytes)?;
             let colon = read_sign(rest, b':')?;
             match read_type_at(alloc, ctx, levels, colon) {
@@ -121,6 +130,5 @@ pub fn read_head<'a, D: OpSet, C: TypeStore<D>>(
                 Err(stop) => Err(stop),
             }
         }
-        HeadKind::ForwardRef => Err(Stop::At(Fault::ForwardRefOpExistenceErr, left)),
     }
 }

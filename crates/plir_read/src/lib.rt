@@ -1,12 +1,14 @@
-//! The reader of texts of operations. It reads modules and functions, with blocks, their arguments and their labels. What it can't
-//! read yet: names of results, constants, and the dictionaries of modules and functions. Such a text is refused as one with a
-//! token that can't stand there, and the contract speaks of plain operations alone: those without these parts.
+//! The reader of texts of operations: constants, modules and functions, with names of results, dictionaries, blocks,
+//! their arguments and their labels.
 #![tactic(auto)]
 
 mod arguments;
+mod constants;
+mod headers;
 mod heads;
 mod making;
 mod names;
+mod openings;
 mod ops;
 mod reader;
 

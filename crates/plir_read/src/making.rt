@@ -1,9 +1,9 @@
 //! How operations are made of what was read.
-ghost use Rattle.std.specs.Prelude.{◌≡◌, true, List, [], is_none, IfOk, IfErr, OnOk, OnErr};
+ghost use Rattle.std.specs.Prelude.{◌≡◌, true, List, [], ◌∷◌, is_none, IfOk, IfErr, OnOk, OnErr};
 ghost use Rattle.std.specs.List.{list_all};
-ghost use Rattle.plir_data.specs.AttrLive.{HandlesLive};
+ghost use Rattle.plir_data.specs.AttrLive.{HandlesLive, IsAttrLive};
 ghost use Rattle.plir_data.specs.AttrSeen.{attr_view};
-ghost use Rattle.plir_data.specs.AttrView.{leaf, identifier, given_names};
+ghost use Rattle.plir_data.specs.AttrView.{leaf, given_names};
 ghost use Rattle.plir_data.specs.Dictionary.{dict_put};
 ghost use Rattle.plir_data.specs.Identifier.{is_identifier as IsIdentifier};
 ghost use Rattle.plir_data.specs.Types.{AllLive, IsLive as IsTypeLive, TypeView};
@@ -12,12 +12,15 @@ ghost use Rattle.plir_core.specs.Contents.{op_view};
 ghost use Rattle.plir_core.specs.Store.{IsLive};
 ghost use Rattle.plir_core.specs.Whole.{IsWhole};
 ghost use Rattle.plir_core.specs.declared.ptr.IRNode.{IRNode};
-ghost use Rattle.plir_read.specs.Keys.{name_key, names_key, func_attributes};
-ghost use Rattle.plir_read.specs.Heads.{IsHeadLive, op_with, block_with};
-ghost use Rattle.plir_read.specs.Keeping.{IsNewOp, IsNewBlock, KeepsOlder};
+ghost use Rattle.plir_read.specs.Keys.{names_key};
+ghost use Rattle.plir_read.specs.Heads.{IsHeadLive, module_attributes, func_attributes, op_with, block_with};
+ghost use Rattle.plir_read.specs.Heads.{constant_attributes, constant_op};
+ghost use Rattle.plir_read.specs.Keeping.{IsNewOp, IsNewLeaf, IsNewBlock, KeepsOlder};
 ghost use Rattle.plir_read.specs.Stopping.{IsRefusal};
 
 use crate::arguments::{Arguments, BlockHeadData};
+use crate::constants::ConstantData;
+use crate::headers::HeaderData;
 use crate::heads::HeadData;
 use plir_core::laws::block_edits_keep_the_rest;
 use plir_core::{BasicBlock, Context, NodeErr, Operation, Ptr, Region};
@@ -33,6 +36,8 @@ const ATTR_KEY_SYM_NAME: &'static str = "builtin_sym_name";
 const ATTR_KEY_GIVEN_NAMES: &'static str = "builtin_given_names";
 
 const ATTR_KEY_BUILTIN_FUNC_TYPE: &'static str = "builtin_func_type";
+
+const ATTR_KEY_CONSTANT_VALUE: &'static str = "builtin_constant_value";
 
 // Why reading stops where a node was not made.
 pub fn stop_of(refused: NodeErr) -> Stop
@@ -65,29 +70,34 @@ fn put_under<D: OpSet>(
     }
 }
 
-// A dictionary with a name and nothing else.
-fn named<D: OpSet>(alloc: Global, name: Identifier) -> Result<AttributeDict<D>, Stop>
-    ensures value { IfOk result (λ es. es ≡ dict_put [] name_key (leaf (identifier name))) }
-    ensures live { IfOk result (λ es. (types : List (TypeView D.Ty)) → HandlesLive D.attr_handles types es) }
+// Entries with a name, which takes the place of one among them.
+fn named<D: OpSet>(
+    alloc: Global,
+    entries: AttributeDict<D>,
+    name: Identifier,
+) -> Result<AttributeDict<D>, Stop>
+    ensures value { IfOk result (λ es. es ≡ module_attributes name entries) }
+    ensures live { IfOk result (λ es. (types : List (TypeView D.Ty)) → HandlesLive D.attr_handles types entries → HandlesLive D.attr_handles types es) }
     ensures refused { IfErr result IsRefusal }
 {
-    let mut attributes = AttributeDict::new(alloc);
+    let mut attributes = entries;
     let value = AttrObj::Identifier(IdentifierAttr::new(name));
     put_under(alloc, &mut attributes, ATTR_KEY_SYM_NAME, value)?;
     Ok(attributes)
 }
 
-// A dictionary with a name and a type of functions.
+// Entries with a name and a type of functions, which take the places of those among them.
 fn named_and_typed<D: OpSet>(
     alloc: Global,
+    entries: AttributeDict<D>,
     name: Identifier,
     ty: TypeHandle,
 ) -> Result<AttributeDict<D>, Stop>
-    ensures value { IfOk result (λ es. es ≡ func_attributes name ty) }
-    ensures live { IfOk result (λ es. (types : List (TypeView D.Ty)) → IsTypeLive types ty → HandlesLive D.attr_handles types es) }
+    ensures value { IfOk result (λ es. es ≡ func_attributes name ty entries) }
+    ensures live { IfOk result (λ es. (types : List (TypeView D.Ty)) → IsTypeLive types ty → HandlesLive D.attr_handles types entries → HandlesLive D.attr_handles types es) }
     ensures refused { IfErr result IsRefusal }
 {
-    let mut attributes = named(alloc, name)?;
+    let mut attributes = named(alloc, entries, name)?;
     let value = AttrObj::Type(TypeAttr::new(ty));
     put_under(alloc, &mut attributes, ATTR_KEY_BUILTIN_FUNC_TYPE, value)?;
     Ok(attributes)
@@ -122,22 +132,24 @@ fn make_with<D: OpSet>(
 pub fn make_op<D: OpSet>(
     alloc: Global,
     ctx: &mut Context<D>,
-    head: HeadData,
+    header: HeaderData<D>,
 ) -> Result<(Ptr<Operation>, Ptr<Region>), Stop>
-    requires { IsHeadLive ctx.old.types head }
-    ensures made { IfOk result (λ x. IsNewOp ctx.old ctx.new x.0 x.1 (op_with head)) }
+    requires head_live { IsHeadLive ctx.old.types header.head }
+    requires entries_live { HandlesLive D.attr_handles ctx.old.types header.entries }
+    ensures made { IfOk result (λ x. IsNewOp ctx.old ctx.new x.0 x.1 (op_with header.head header.entries)) }
     ensures kept { OnErr result (KeepsOlder ctx.old ctx.new) }
     ensures refused { IfErr result IsRefusal }
     ensures whole { IsWhole D.attr_handles ctx.new }
 {
     let _before = ctx.num_live();
+    let HeaderData { head, entries } = header;
     match head {
         HeadData::Module(name) => {
-            let attributes = named(alloc, name)?;
+            let attributes = named(alloc, entries, name)?;
             make_with(alloc, ctx, OpKind::Module, attributes)
         }
         HeadData::Func(name, handle) => {
-            let attributes = named_and_typed(alloc, name, handle)?;
+            let attributes = named_and_typed(alloc, entries, name, handle)?;
             make_with(alloc, ctx, OpKind::Func, attributes)
         }
     }
@@ -148,6 +160,71 @@ fn all_unset(names: &[Option<Identifier>]) -> bool
     ensures { result ≡ list_all is_none names.now }
 {
     names.iter().all(|name| name.is_none())
+}
+
+// A dictionary with the value of a constant, and the names that are given to its results, if one is set.
+fn named_and_valued<D: OpSet>(
+    alloc: Global,
+    names: Vec<Option<Identifier>>,
+    value: AttrObj<D>,
+) -> Result<AttributeDict<D>, Stop>
+    ensures value { IfOk result (λ es. es ≡ constant_attributes names.items (attr_view value)) }
+    ensures live { IfOk result (λ es. (types : List (TypeView D.Ty)) → IsAttrLive D.attr_handles types (attr_view value) → HandlesLive D.attr_handles types es) }
+    ensures refused { IfErr result IsRefusal }
+{
+    let mut attributes = AttributeDict::new(alloc);
+    if !all_unset(names.as_slice()) {
+        let given = AttrObj::GivenNames(GivenNamesAttr::from_names(names));
+        put_under(alloc, &mut attributes, ATTR_KEY_GIVEN_NAMES, given)?;
+    }
+    put_under(alloc, &mut attributes, ATTR_KEY_CONSTANT_VALUE, value)?;
+    Ok(attributes)
+}
+
+// A list of one type.
+fn one_type(alloc: Global, ty: TypeHandle) -> Result<Vec<TypeHandle>, Stop>
+    ensures value { IfOk result (λ ts. ts.items ≡ ty ∷ []) }
+    ensures refused { IfErr result IsRefusal }
+{
+    let mut types = Vec::new(alloc);
+    match types.push(ty) {
+        Ok(()) => Ok(types),
+        Err(_) => Err(Stop::Wanting),
+    }
+}
+
+// A new constant whose result has these names.
+pub fn make_constant<D: OpSet>(
+    alloc: Global,
+    ctx: &mut Context<D>,
+    names: Vec<Option<Identifier>>,
+    constant: ConstantData<D>,
+) -> Result<Ptr<Operation>, Stop>
+    requires value_live { IsAttrLive D.attr_handles ctx.old.types (attr_view constant.value) }
+    requires type_live { IsTypeLive ctx.old.types constant.ty }
+    ensures made { IfOk result (λ p. IsNewLeaf ctx.old ctx.new p (constant_op names.items (attr_view constant.value) constant.ty)) }
+    ensures kept { OnErr result (KeepsOlder ctx.old ctx.new) }
+    ensures refused { IfErr result IsRefusal }
+    ensures whole { IsWhole D.attr_handles ctx.new }
+{
+    let _before = ctx.num_live();
+    let ConstantData { value, ty } = constant;
+    let attributes = named_and_valued(alloc, names, value)?;
+    let results = one_type(alloc, ty)?;
+    let operands = Vec::new(alloc);
+    let successors = Vec::new(alloc);
+    match Operation::with_attributes(
+        ctx,
+        OpKind::Constant,
+        results,
+        operands,
+        successors,
+        attributes,
+        0,
+    ) {
+        Ok(op) => Ok(op),
+        Err(refused) => Err(stop_of(refused)),
+    }
 }
 
 // Gives names to a block's arguments. After a refusal all is as before.

@@ -1,7 +1,8 @@
 //! Names in texts, and the suffixes that they are printed with.
 ghost use Rattle.std.specs.Prelude.{◌≡◌, IfErr, IfOk, option_map};
 ghost use Rattle.plir_text.specs.declared.fault.Stop.TheVariants.{Wanting};
-ghost use Rattle.plir_read.specs.Suffixes.{behind_letters, behind_digits, behind_number, behind_block, is_suffix, is_joined_suffix, before_suffix, given_name};
+ghost use Rattle.plir_read.specs.Suffixes.{behind_letters, behind_digits, behind_number, behind_pointer, behind_place};
+ghost use Rattle.plir_read.specs.Suffixes.{is_nothing, is_suffix, is_joined_suffix, before_suffix, given_name};
 
 use plir_data::Identifier;
 use plir_text::attr_words::identifier_of;
@@ -14,6 +15,7 @@ use std::alloc::Global;
 pub enum Suffix {
     Block,
     Argument,
+    OpResult,
 }
 
 // What stands behind letters.
@@ -47,14 +49,35 @@ fn behind_number<'a>(letters: &[u8], word: &'a [u8]) -> Option<&'a [u8]>
     }
 }
 
-// What stands behind a pointer to a block.
-#[tactic(auto, unfolding(crate::specs::Suffixes::behind_block))]
-fn behind_block(word: &[u8]) -> Option<&[u8]>
-    ensures { option_map (λ x. x.now) result ≡ behind_block word.now }
+// What stands behind a pointer, as `block2v1` or `op3v1`.
+#[tactic(auto, unfolding(crate::specs::Suffixes::behind_pointer))]
+fn behind_pointer<'a>(letters: &[u8], word: &'a [u8]) -> Option<&'a [u8]>
+    ensures { option_map (λ x. x.now) result ≡ behind_pointer letters.now word.now }
 {
-    match behind_number(b"block".as_slice(), word) {
+    match behind_number(letters, word) {
         Some(rest) => behind_number(b"v".as_slice(), rest),
         None => None,
+    }
+}
+
+// What stands behind a pointer, letters and a number, as `block2v1_arg0` or `op3v1_res0`.
+#[tactic(auto, unfolding(crate::specs::Suffixes::behind_place))]
+fn behind_place<'a>(letters: &[u8], place: &[u8], word: &'a [u8]) -> Option<&'a [u8]>
+    ensures { option_map (λ x. x.now) result ≡ behind_place letters.now place.now word.now }
+{
+    match behind_pointer(letters, word) {
+        Some(rest) => behind_number(place, rest),
+        None => None,
+    }
+}
+
+// Whether nothing stands behind a suffix.
+fn is_whole(rest: Option<&[u8]>) -> bool
+    ensures { result ≡ is_nothing (option_map (λ x. x.now) rest.entry) }
+{
+    match rest {
+        Some(end) => end.is_empty(),
+        None => false,
     }
 }
 
@@ -63,15 +86,12 @@ fn behind_block(word: &[u8]) -> Option<&[u8]>
 fn is_suffix(suffix: Suffix, word: &[u8]) -> bool
     ensures { result ≡ is_suffix suffix word.now }
 {
-    match behind_block(word) {
-        Some(rest) => match suffix {
-            Suffix::Block => rest.is_empty(),
-            Suffix::Argument => match behind_number(b"_arg".as_slice(), rest) {
-                Some(end) => end.is_empty(),
-                None => false,
-            },
-        },
-        None => false,
+    match suffix {
+        Suffix::Block => is_whole(behind_pointer(b"block".as_slice(), word)),
+        Suffix::Argument => {
+            is_whole(behind_place(b"block".as_slice(), b"_arg".as_slice(), word))
+        }
+        Suffix::OpResult => is_whole(behind_place(b"op".as_slice(), b"_res".as_slice(), word)),
     }
 }
 

@@ -6,14 +6,16 @@ ghost use Rattle.plir_core.specs.Store.{IsLive, kids};
 ghost use Rattle.plir_core.specs.Whole.{IsWhole};
 ghost use Rattle.plir_core.specs.declared.ptr.IRNode.{IRNode};
 ghost use Rattle.plir_read.specs.Keeping.{KeepsBut, KeepsOlder};
-ghost use Rattle.plir_read.specs.OpReading.{op_at, ops_at, block_at, blocks_at};
-ghost use Rattle.plir_read.specs.OpTerms.{ops_of, blocks_of};
-ghost use Rattle.plir_read.specs.OpsStanding.{IsOpAt, AreOpsAt, AreBlocksAt, IsBlockAt};
-ghost use Rattle.plir_read.specs.Stopping.{ReadsOn};
+ghost use Rattle.plir_read.specs.OpReading.{op_at, bodied_at, ops_at, block_at, blocks_at};
+ghost use Rattle.plir_read.specs.OpsStanding.{HasOps, HasBlocks, ReadsOp, ReadsBlock};
+ghost use Rattle.plir_read.specs.Stopping.{ReadsOnPast};
 
 use crate::arguments::read_block_head;
-use crate::heads::{ends_block, past_brace, past_semicolon, read_head, read_op_id};
+use crate::constants::read_constant;
+use crate::headers::read_header;
+use crate::heads::{BodyKind, HeadKind, ends_block, past_brace, past_semicolon};
 use crate::making::{make_block, make_op};
+use crate::openings::{Opening, expect_names, read_opening};
 use plir_core::laws::{contexts_stand, growth};
 use plir_core::{BasicBlock, Context, Operation, Ptr, Region};
 use plir_data::OpSet;
@@ -34,7 +36,7 @@ fn read_ops<'a, D: OpSet>(
 ) -> Result<&'a [u8], Stop>
     requires live { IsLive ctx.old (IRNode.BasicBlock block) }
     requires empty { kids ctx.old (IRNode.BasicBlock block) ≡ [] }
-    ensures read { ReadsOn (λ x y. AreOpsAt ctx.new (kids ctx.new (IRNode.BasicBlock block)) (ops_of y.0) × (x.now ≡ y.1)) result (ops_at (op_at levels) bytes.now) }
+    ensures read { ReadsOnPast (HasOps ctx.new block) result (ops_at (op_at levels) bytes.now) }
     ensures grown { IfOk result (λ x. IsGrown ctx.old.nodes ctx.new.nodes (IRNode.BasicBlock block)) }
     ensures kept { KeepsBut ctx.old ctx.new (Some (IRNode.BasicBlock block)) }
     ensures whole { IsWhole D.attr_handles ctx.new }
@@ -70,7 +72,7 @@ fn read_block<'a, D: OpSet>(
     levels: usize,
     bytes: &'a [u8],
 ) -> Result<(Ptr<BasicBlock>, &'a [u8]), Stop>
-    ensures read { ReadsOn (λ x y. IsBlockAt ctx.new (IRNode.BasicBlock x.0) y.0 × (x.1.now ≡ y.1)) result (block_at (op_at levels) levels bytes.now) }
+    ensures read { ReadsBlock ctx.new result (block_at (op_at levels) levels bytes.now) }
     ensures made { IfOk result (λ x. IsMade ctx.old.nodes ctx.new.nodes (IRNode.BasicBlock x.0)) }
     ensures kept { KeepsOlder ctx.old ctx.new }
     ensures whole { IsWhole D.attr_handles ctx.new }
@@ -99,7 +101,7 @@ fn read_body<'a, D: OpSet>(
 ) -> Result<&'a [u8], Stop>
     requires live { IsLive ctx.old (IRNode.Region region) }
     requires empty { kids ctx.old (IRNode.Region region) ≡ [] }
-    ensures read { ReadsOn (λ x y. AreBlocksAt ctx.new (kids ctx.new (IRNode.Region region)) (blocks_of y.0) × (x.now ≡ y.1)) result (blocks_at (op_at levels) levels bytes.now) }
+    ensures read { ReadsOnPast (HasBlocks ctx.new region) result (blocks_at (op_at levels) levels bytes.now) }
     ensures grown { IfOk result (λ x. IsGrown ctx.old.nodes ctx.new.nodes (IRNode.Region region)) }
     ensures kept { KeepsBut ctx.old ctx.new (Some (IRNode.Region region)) }
     ensures whole { IsWhole D.attr_handles ctx.new }
@@ -128,32 +130,62 @@ fn read_body<'a, D: OpSet>(
     }
 }
 
-// An operation in no block, with at most this many levels open.
+// A module or a function in no block, behind its id, with so many names before that and this many bytes left there.
 #[cycle(ops)]
-pub fn read_op_at<'a, D: OpSet>(
+#[tactic(auto, unfolding(crate::specs::OpReading::bodied_at))]
+fn read_bodied<'a, D: OpSet>(
     alloc: Global,
     ctx: &mut Context<D>,
     levels: usize,
+    kind: BodyKind,
+    names: usize,
+    left: usize,
     bytes: &'a [u8],
 ) -> Result<(Ptr<Operation>, &'a [u8]), Stop>
-    ensures read { ReadsOn (λ x y. IsOpAt ctx.new (IRNode.Operation x.0) y.0 × (x.1.now ≡ y.1)) result (op_at levels bytes.now) }
+    ensures read { ReadsOp ctx.new result (bodied_at (op_at levels) levels kind names bytes.now) }
     ensures made { IfOk result (λ x. IsMade ctx.old.nodes ctx.new.nodes (IRNode.Operation x.0)) }
     ensures kept { KeepsOlder ctx.old ctx.new }
     ensures whole { IsWhole D.attr_handles ctx.new }
 {
     contexts_stand::<D>();
     let _before = ctx.num_live();
-    let (kind, rest) = read_op_id(bytes)?;
+    expect_names(0, names, left)?;
+    let read = read_header(alloc, ctx, levels, kind, bytes);
+    growth(ctx);
+    let _after = ctx.num_live();
+    let (header, behind) = read?;
+    let (op, region) = make_op(alloc, ctx, header)?;
+    match read_body(alloc, ctx, levels, region, behind) {
+        Ok(end) => Ok((op, end)),
+        Err(stop) => Err(stop),
+    }
+}
+
+// An operation in no block, with at most this many levels open.
+#[cycle(ops)]
+#[tactic(auto, unfolding(crate::specs::OpReading::op_at))]
+pub fn read_op_at<'a, D: OpSet>(
+    alloc: Global,
+    ctx: &mut Context<D>,
+    levels: usize,
+    bytes: &'a [u8],
+) -> Result<(Ptr<Operation>, &'a [u8]), Stop>
+    ensures read { ReadsOp ctx.new result (op_at levels bytes.now) }
+    ensures made { IfOk result (λ x. IsMade ctx.old.nodes ctx.new.nodes (IRNode.Operation x.0)) }
+    ensures kept { KeepsOlder ctx.old ctx.new }
+    ensures whole { IsWhole D.attr_handles ctx.new }
+{
+    let _before = ctx.num_live();
+    let (opening, rest) = read_opening(alloc, bytes)?;
     if levels == 0 {
         return Err(Stop::At(Fault::TooDeep, left_at(bytes)));
     }
-    let read = read_head(alloc, ctx, levels - 1, kind, left_at(bytes), rest);
-    growth(ctx);
-    let _after = ctx.num_live();
-    let (head, behind) = read?;
-    let (op, region) = make_op(alloc, ctx, head)?;
-    match read_body(alloc, ctx, levels - 1, region, behind) {
-        Ok(end) => Ok((op, end)),
-        Err(stop) => Err(stop),
+    let Opening { names, kind, left } = opening;
+    match kind {
+        HeadKind::Bodied(body) => {
+            read_bodied(alloc, ctx, levels - 1, body, names.len(), left, rest)
+        }
+        HeadKind::Constant => read_constant(alloc, ctx, levels - 1, names, left, rest),
+        HeadKind::ForwardRef => Err(Stop::At(Fault::ForwardRefOpExistenceErr, left)),
     }
 }

@@ -6,10 +6,10 @@ ghost use Rattle.plir_core.specs.declared.ptr.IRNode.{IRNode};
 ghost use Rattle.plir_text.specs.TypeGrammar.{IsText};
 ghost use Rattle.plir_text.specs.Wholes.{whole};
 ghost use Rattle.plir_read.specs.Keeping.{KeepsOlder};
-ghost use Rattle.plir_read.specs.OpGrammar.{PlainOpWithin};
+ghost use Rattle.plir_read.specs.OpGrammar.{OpWithin};
 ghost use Rattle.plir_read.specs.OpReading.{op_at};
 ghost use Rattle.plir_read.specs.OpTerms.{OpTerm};
-ghost use Rattle.plir_read.specs.OpsStanding.{IsOpAt, StandsForPlainOp};
+ghost use Rattle.plir_read.specs.OpsStanding.{IsOpAt, StandsForOp};
 ghost use Rattle.plir_read.specs.Stopping.{ReadsOn, IsOfText};
 
 use crate::ops::read_op_at;
@@ -40,22 +40,23 @@ fn whole_op<D: OpSet>(
     Ok(op)
 }
 
-/// The plain operation that a text stands for, made anew with all below it: a module or a function without a dictionary, in whose
-/// blocks plain operations stand. A refused text may leave new nodes that stand nowhere, and types; what was there before is as it
-/// was.
+/// The operation that a text stands for, made anew with all below it: a constant, a module or a function. The name and
+/// the type in a header win over those in its dictionary. A refused text may leave new nodes that stand nowhere, and
+/// types; what was there before is as it was.
 ///
-/// A fault stands at the text's end where the text ends within a token or before one, and at the first character of a token that
-/// can't stand there; the first character of a level that is one too many comes before any fault inside it. A forward reference is
-/// refused at its id.
+/// A fault stands at the text's end where the text ends within a token or before one, and at the first character of a
+/// token that can't stand there; the first character of a level that is one too many comes before any fault inside it.
+/// A forward reference is refused at its id, and so is an operation before which another number of names stands than
+/// it has results.
 pub fn read_op<D: OpSet>(
     alloc: Global,
     ctx: &mut Context<D>,
     text: &str,
 ) -> Result<Ptr<Operation>, ReadErr>
-    ensures found { IfOk result (λ p. StandsForPlainOp 200 ctx.new text.now (IRNode.Operation p)) }
+    ensures found { IfOk result (λ p. StandsForOp 200 ctx.new text.now (IRNode.Operation p)) }
     ensures made { IfOk result (λ p. IsMade ctx.old.nodes ctx.new.nodes (IRNode.Operation p)) }
     ensures fault { IfErr result (λ e. IsOfText e.fault → whole (op_at 200) text.now ≡ Err e.fault) }
-    ensures refused { IfErr result (λ e. IsOfText e.fault → (w : OpTerm) → IsText (PlainOpWithin 200) text.now w → ⊥) }
+    ensures refused { IfErr result (λ e. IsOfText e.fault → (w : OpTerm) → IsText (OpWithin 200) text.now w → ⊥) }
     ensures kept { KeepsOlder ctx.old ctx.new }
     ensures whole { IsWhole D.attr_handles ctx.new }
 {

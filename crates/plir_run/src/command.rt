@@ -20,6 +20,8 @@ pub enum Command<'a> {
     Erase(&'a str),
     /// `symbols`: walks the table of the innermost open module, else of the root.
     Symbols,
+    /// `text`: the text of the root.
+    Text,
 }
 
 /// Reads a line, whose words are parted by single spaces.
@@ -31,6 +33,7 @@ pub fn read_command(line: &str) -> Option<Command<'_>> {
             "" => Some(Command::Nothing),
             "end" => Some(Command::End),
             "symbols" => Some(Command::Symbols),
+            "text" => Some(Command::Text),
             _ => None,
         },
         Some(("module", name)) => Some(Command::Module(name)),

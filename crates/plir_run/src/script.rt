@@ -12,6 +12,7 @@ use plir_builtin::{FuncOp, ModuleOp, SymbolTableCollection};
 use plir_core::{Context, Operation, Ptr};
 use plir_data::{BuiltinSet, FunctionType, Identifier};
 use plir_iface::Op;
+use plir_print::{is_printable, print_op};
 use plir_walk::{Direction, Order};
 use std::alloc::Global;
 use std::io::Write;
@@ -51,6 +52,7 @@ impl Script {
             Some(Command::Lookup(name)) => self.look_up(name, writer),
             Some(Command::Erase(name)) => self.erase(name, writer),
             Some(Command::Symbols) => self.list_symbols(writer),
+            Some(Command::Text) => self.print_text(writer),
         }
     }
 
@@ -109,10 +111,24 @@ impl Script {
         direction: Direction,
         writer: &mut W,
     ) -> Result<(), Stop> {
+        print_walk(&self.ctx, self.root()?, (order, direction), writer)
+    }
+
+    fn print_text<W: Write>(&self, writer: &mut W) -> Result<(), Stop> {
+        let root = self.root()?;
+        if !is_printable(&self.ctx, root) {
+            return Err(Stop::Refused);
+        }
+        let text = print_op(self.alloc, &self.ctx, root)?;
+        print_line(writer, text.as_str())
+    }
+
+    // The root, which has to be there.
+    fn root(&self) -> Result<Ptr<Operation>, Stop>
+        ensures { IfOk result (λ op. IsLive self.now.ctx (AnyNode.Operation op)) }
+    {
         match self.root {
-            Some(root) if root.is_live(&self.ctx) => {
-                print_walk(&self.ctx, root, (order, direction), writer)
-            }
+            Some(root) if root.is_live(&self.ctx) => Ok(root),
             _ => Err(Stop::Refused),
         }
     }

@@ -307,3 +307,29 @@ fn the_symbols_of_a_table_are_listed(rt: HostRuntime) {
         0,
     );
 }
+
+#[test]
+fn the_text_of_the_root_is_printed(rt: HostRuntime) {
+    let alloc = rt.alloc();
+    expect_run(
+        &rt,
+        alloc,
+        b"module m\nfunc f\ntext",
+        "builtin.module @m \n{\n  ^block1v1():\n    builtin.func @f: builtin.function <()->()> \n    {\n      ^entry_block2v1():\n    }\n}\n",
+        0,
+    );
+    expect_run(
+        &rt,
+        alloc,
+        b"module m\nfunc f\nerase f\nfunc g\ntext",
+        "erased f\nbuiltin.module @m \n{\n  ^block1v1():\n    builtin.func @g: builtin.function <()->()> \n    {\n      ^entry_block2v2():\n    }\n}\n",
+        0,
+    );
+    expect_run(
+        &rt,
+        alloc,
+        b"module m\nmodule n\ntext\ntext m",
+        "builtin.module @m \n{\n  ^block1v1():\n    builtin.module @n \n    {\n      ^block2v1():\n    }\n}\nline 4: refused\n",
+        1,
+    );
+}

@@ -19,6 +19,7 @@ mod sample_set;
 mod script_set;
 mod showing;
 mod stop;
+mod texts;
 
 pub use answer::Answer;
 pub use bench::{Bench, Layer, Mismatch, NodeCalls, play};
@@ -26,6 +27,7 @@ pub use line::{Line, number, split_word};
 pub use made::Made;
 pub use making::{label_of, put_type_name};
 pub use sample_set::{NotMarked, SampleAttr, SampleKind, SampleSet, SampleType};
-pub use script_set::ScriptSet;
+pub use script_set::{ScriptKind, ScriptSet};
 pub use showing::put_attr;
 pub use stop::Stop;
+pub use texts::{nested_text, put_fault, put_folded, unfold};

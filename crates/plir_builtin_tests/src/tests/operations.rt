@@ -6,19 +6,19 @@ ghost use Rattle.plir_data.specs.AttrView.{leaf, integer};
 ghost use Rattle.plir_core.specs.Store.{IsLive};
 ghost use Rattle.plir_core.specs.declared.ptr.IRNode.{IRNode as AnyNode};
 
+use super::symbols::put_verdict;
 use plir_builtin::{ConstantOp, ForwardRefOp, FuncOp, MaterializableAttr, ModuleOp};
 use plir_core::{Operation, Ptr};
-use plir_data::{AttrObj, FunctionType, Identifier, IntegerAttr, OpSet, VerifyErr};
+use plir_data::{AttrObj, FunctionType, Identifier, IntegerAttr, OpSet};
 use plir_iface::Op;
-use plir_scripts::{Answer, Bench, Line, Stop};
+use plir_scripts::{Bench, Line, Stop};
 use plir_text::read_attr;
-use std::fmt::Display;
 
 /// Does what a line says of builtin operations: `module NAME`, `func NAME`, `constant TEXT`, `materialize TEXT` and
 /// `forward-ref` make one, `rule OP` tells whether its own rule holds.
 pub fn operation<D: OpSet>(bench: &mut Bench<D>, line: Line<'_>) -> Result<(), Stop> {
     match line.command {
-        "module" => make_module(bench, line),
+        "module" => make_module(bench, line.first),
         "func" => make_func(bench, line),
         "constant" => make_constant(bench, line),
         "materialize" => materialize(bench, line),
@@ -27,13 +27,16 @@ pub fn operation<D: OpSet>(bench: &mut Bench<D>, line: Line<'_>) -> Result<(), S
     }
 }
 
-fn make_module<D: OpSet>(bench: &mut Bench<D>, line: Line<'_>) -> Result<(), Stop> {
-    let name = Identifier::try_new(bench.alloc, line.first)?;
+/// Makes a module of a name.
+pub fn make_module<D: OpSet>(bench: &mut Bench<D>, name: &str) -> Result<(), Stop> {
+    make_room(bench)?;
+    let name = Identifier::try_new(bench.alloc, name)?;
     let module = ModuleOp::new(bench.alloc, &mut bench.ctx, name)?;
     put_tree(bench, Op::<D>::get_operation(&module))
 }
 
 fn make_func<D: OpSet>(bench: &mut Bench<D>, line: Line<'_>) -> Result<(), Stop> {
+    make_room(bench)?;
     let name = Identifier::try_new(bench.alloc, line.first)?;
     let arguments = Vec::new(bench.alloc);
     let results = Vec::new(bench.alloc);
@@ -43,6 +46,7 @@ fn make_func<D: OpSet>(bench: &mut Bench<D>, line: Line<'_>) -> Result<(), Stop>
 }
 
 fn make_constant<D: OpSet>(bench: &mut Bench<D>, line: Line<'_>) -> Result<(), Stop> {
+    make_room(bench)?;
     let value = attribute(bench, line)?;
     if value.typed().is_none() {
         return Err(Stop::Refused);
@@ -52,6 +56,7 @@ fn make_constant<D: OpSet>(bench: &mut Bench<D>, line: Line<'_>) -> Result<(), S
 }
 
 fn materialize<D: OpSet>(bench: &mut Bench<D>, line: Line<'_>) -> Result<(), Stop> {
+    make_room(bench)?;
     let value = attribute(bench, line)?;
     let integer = integer_in(&value).ok_or(Stop::Refused)?;
     let op = integer.materialize(bench.alloc, &mut bench.ctx)?;
@@ -79,8 +84,17 @@ fn attribute<D: OpSet>(bench: &mut Bench<D>, line: Line<'_>) -> Result<AttrObj<D
 }
 
 fn make_forward_ref<D: OpSet>(bench: &mut Bench<D>) -> Result<(), Stop> {
+    make_room(bench)?;
     let reference = ForwardRefOp::new(bench.alloc, &mut bench.ctx)?;
     put_tree(bench, Op::<D>::get_operation(&reference))
+}
+
+// Makes room for the names of a new tree, so that none is left without a name where memory is refused.
+fn make_room<D: OpSet>(bench: &mut Bench<D>) -> Result<(), Stop> {
+    bench.made.ops.reserve(1)?;
+    bench.made.regions.reserve(1)?;
+    bench.made.blocks.reserve(1)?;
+    Ok(())
 }
 
 // Names a new operation, its first region and that one's first block, and writes the name of the operation.
@@ -115,16 +129,4 @@ fn verify<D: OpSet>(bench: &mut Bench<D>, line: Line<'_>) -> Result<(), Stop> {
         return Err(Stop::Refused);
     }
     put_verdict(answer, constant.verify(alloc, ctx))
-}
-
-fn put_verdict<E: Display + Drop>(
-    answer: &mut Answer,
-    verdict: Result<(), VerifyErr<E>>,
-) -> Result<(), Stop> {
-    match verdict {
-        Ok(()) => answer.put("holds"),
-        Err(VerifyErr::Refused { loc: _, err }) => answer.put_shown(&err),
-        Err(VerifyErr::Memory) => return Err(Stop::Memory),
-    }
-    Ok(())
 }

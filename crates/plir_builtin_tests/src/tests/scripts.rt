@@ -1,13 +1,17 @@
 //! The scripts of symbol tables and builtin operations, with their answers.
+use super::link_set::LinkSet;
 use super::operations::operation;
+use super::sessions::session;
+use super::symbols::symbol;
 use super::tables::table;
-use plir_scripts::{Bench, Layer, Line, Mismatch, NodeCalls, SampleSet, ScriptSet, Stop, play};
+use plir_builtin::SymbolUserSet;
+use plir_scripts::{Bench, Layer, Line, Mismatch, NodeCalls, ScriptSet, Stop, play};
 use std::alloc::Global;
 
 /// The calls of this crate, and those on nodes.
 struct BuiltinCalls;
 
-impl<D: ScriptSet> Layer<D> for BuiltinCalls {
+impl<D: ScriptSet + SymbolUserSet> Layer<D> for BuiltinCalls {
     fn run(bench: &mut Bench<D>, line: Line<'_>) -> Result<(), Stop> {
         match line.command {
             "table" | "lookup" | "nearest" | "nearest-lookup" | "edits" | "hand" => {
@@ -16,14 +20,16 @@ impl<D: ScriptSet> Layer<D> for BuiltinCalls {
             "module" | "func" | "constant" | "materialize" | "forward-ref" | "rule" => {
                 operation(bench, line)
             }
+            "symbol" | "name" | "scan" | "right" | "declared" | "past" => symbol(bench, line),
+            "session" => session(bench, line),
             _ => NodeCalls::run(bench, line),
         }
     }
 }
 
-// Plays a script of tables and operations in a context with room for so many nodes.
-fn play_in(alloc: Global, limit: u32, script: &str) -> Result<(), Mismatch> {
-    play::<SampleSet, BuiltinCalls>(alloc, limit, script)
+/// Plays a script of tables and operations in a context with room for so many nodes.
+pub fn play_in(alloc: Global, limit: u32, script: &str) -> Result<(), Mismatch> {
+    play::<LinkSet, BuiltinCalls>(alloc, limit, script)
 }
 
 #[test]

@@ -4,6 +4,7 @@ ghost use Rattle.plir_core.specs.Store.{IsLive, kids};
 ghost use Rattle.plir_core.specs.declared.ptr.IRNode.{IRNode as AnyNode};
 ghost use Rattle.plir_builtin.specs.Handed.{is_table_at};
 
+use plir_builtin::laws::no_tables_agree;
 use plir_builtin::{
     SymbolEdit, SymbolEditErr, SymbolTable, SymbolTableCollection, SymbolTableErr,
     nearest_symbol_table, walk_symbol_table,
@@ -12,6 +13,7 @@ use plir_core::{Context, IRNode, Interface, OpInsertionPoint, Operation, Ptr, op
 use plir_data::{Identifier, OpSet};
 use plir_scripts::{Answer, Bench, Line, Made, Stop, split_word};
 use plir_walk::interruptible::{WalkResult, walk_advance, walk_break};
+use std::alloc::Global;
 
 /// Does what a line says of tables: `table OP` makes one, `lookup OP NAME` and `nearest-lookup OP NAME` look a symbol up in
 /// the table of an operation and in the nearest one, `nearest OP` finds that, `edits EDIT; EDIT; ..` makes edits, and
@@ -35,8 +37,8 @@ fn make_table<D: OpSet>(bench: &mut Bench<D>, line: Line<'_>) -> Result<(), Stop
     Ok(())
 }
 
-// Writes why a table refuses.
-fn put_refused(answer: &mut Answer, refused: SymbolTableErr) -> Result<(), Stop> {
+/// Writes why a table refuses.
+pub fn put_refused(answer: &mut Answer, refused: SymbolTableErr) -> Result<(), Stop> {
     match refused {
         SymbolTableErr::Memory => Err(Stop::Memory),
         refused => {
@@ -71,15 +73,25 @@ fn find_nearest<D: OpSet>(bench: &mut Bench<D>, line: Line<'_>) -> Result<(), St
 
 fn edit<D: OpSet>(bench: &mut Bench<D>, line: Line<'_>) -> Result<(), Stop> {
     let mut edits = Vec::new(bench.alloc);
-    for words in line.text.split("; ") {
+    for words in line.text.split("; ").filter(|words| !words.is_empty()) {
         edits.push(edit_of(&bench.made, words)?)?;
     }
-    let mut tables = SymbolTableCollection::new(bench.alloc);
-    let replies = tables.apply_all(&mut bench.ctx, edits)?;
+    let replies = make_edits(bench.alloc, &mut bench.ctx, edits)?;
     for reply in &replies {
         put_reply(&mut bench.answer, reply);
     }
     Ok(())
+}
+
+/// Makes edits through the tables of a new collection.
+pub fn make_edits<D: OpSet>(
+    alloc: Global,
+    ctx: &mut Context<D>,
+    edits: Vec<SymbolEdit>,
+) -> Result<Vec<Result<(), SymbolEditErr>>, Stop> {
+    no_tables_agree(ctx);
+    let mut tables = SymbolTableCollection::new(alloc);
+    Ok(tables.apply_all(ctx, edits)?)
 }
 
 // The edit that some words say: `insert OP OP`, with `before OP` behind it or not, `remove OP OP` or `erase OP OP`.

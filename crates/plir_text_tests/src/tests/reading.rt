@@ -1,33 +1,11 @@
 //! The calls that read and print.
 use plir_data::{AttrObj, OpSet};
-use plir_scripts::{Bench, Line, Stop, number, put_attr, put_type_name, split_word};
+use plir_scripts::{
+    Bench, Line, Stop, nested_text, number, put_attr, put_fault, put_type_name, unfold,
+};
 use plir_text::{
     Fault, ReadErr, is_writable, read_attr, read_function_type, read_integer_type, read_type,
 };
-use std::alloc::{AllocError, Global};
-
-// A text as a line of a script writes it: `¶` stands for the end of a line.
-fn unfold(alloc: Global, written: &str) -> Result<String, AllocError> {
-    let mut text = String::new(alloc);
-    for character in written.chars() {
-        text.push(if character == '¶' { '\n' } else { character })?;
-    }
-    Ok(text)
-}
-
-// Writes a fault and its place.
-fn put_fault<D: OpSet>(bench: &mut Bench<D>, found: ReadErr) -> Result<(), Stop> {
-    let (line, column) = (found.line, found.column);
-    if found.fault == Fault::Memory && line == 0 && column == 0 {
-        return Err(Stop::Memory);
-    }
-    bench.answer.put_debug(&found.fault);
-    bench.answer.put(" at ");
-    bench.answer.put_number(line);
-    bench.answer.put(":");
-    bench.answer.put_number(column);
-    Ok(())
-}
 
 /// `fault forward-ref` or `fault results WANTED FOUND`: writes the text of the fault.
 pub fn show_fault<D: OpSet>(bench: &mut Bench<D>, line: Line<'_>) -> Result<(), Stop> {
@@ -51,7 +29,7 @@ pub fn read<D: OpSet>(bench: &mut Bench<D>, line: Line<'_>) -> Result<(), Stop> 
     };
     match found {
         Ok(handle) => put_type_name(&mut bench.made, &mut bench.answer, handle),
-        Err(fault) => put_fault(bench, fault),
+        Err(fault) => put_fault(&mut bench.answer, fault),
     }
 }
 
@@ -61,7 +39,7 @@ pub fn ask_attr<D: OpSet>(bench: &mut Bench<D>, line: Line<'_>) -> Result<(), St
     bench.made.types.reserve(1)?;
     let attr = match read_attr(bench.alloc, &mut bench.ctx, text.as_str()) {
         Ok(attr) => attr,
-        Err(fault) => return put_fault(bench, fault),
+        Err(fault) => return put_fault(&mut bench.answer, fault),
     };
     let answer = &mut bench.answer;
     match line.command {
@@ -90,25 +68,13 @@ fn put_type_of<D: OpSet>(bench: &mut Bench<D>, attr: &AttrObj<D>) -> Result<(), 
 /// `nested-attr COUNT HEAD | BEFORE | MIDDLE | BEHIND` or `nested-type ..`: reads the head, so many times what is before, the middle, and so many times
 /// what is behind. Writes `read`, or the fault.
 pub fn read_nested<D: OpSet>(bench: &mut Bench<D>, line: Line<'_>) -> Result<(), Stop> {
-    let count = number(line.first)?;
-    let (_, rest) = split_word(line.text);
-    let mut parts = rest.split('|').map(str::trim);
-    let (head, before) = (parts.next().unwrap_or(""), parts.next().unwrap_or(""));
-    let (middle, behind) = (parts.next().unwrap_or(""), parts.next().unwrap_or(""));
-    let mut text = String::from_str(bench.alloc, head)?;
-    for _ in 0..count {
-        text.push_str(before)?;
-    }
-    text.push_str(middle)?;
-    for _ in 0..count {
-        text.push_str(behind)?;
-    }
+    let text = nested_text(bench.alloc, line)?;
     match fault_of(bench, line.command == "nested-attr", text.as_str()) {
         None => {
             bench.answer.put("read");
             Ok(())
         }
-        Some(fault) => put_fault(bench, fault),
+        Some(fault) => put_fault(&mut bench.answer, fault),
     }
 }
 

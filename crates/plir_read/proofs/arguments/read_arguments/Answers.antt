@@ -69,21 +69,21 @@ pub returns-in_err-goes_on-clause-read : goal.returns-in_err-goes_on-clause-read
 returns-in_err-goes_on-clause-read g c =
     let p = err_from_is_err_and c.from_residual-in_err-goes_on.result c.from_residual-in_err-goes_on.ensures.1 in
     let y = c.in-Ok.ensures.read in
-    rw (p.1, p.2) (ends_behind (separator_at 41) (argument_at c.args.levels) _ _ _ ⊥ c.in_err-goes_on.field-0.0 y.0.0 c.in-Ok.read.1.now c.arguments.invariant.going (behind_is _ y.0 c.in-Ok.read.1.now y.1 y.2.2) c.in_err-goes_on.ensures)
+    rw (p.1, p.2) (ends_behind (separator_at 41) (argument_at c.args.levels) _ _ _ ⊥ c.in_err-goes_on.field-0.0 y.0.0 c.in-Ok.read.1.now c.arguments.invariant.going (behind_is _ y.0 c.in-Ok.read.1.now y.1 y.2.1) c.in_err-goes_on.ensures)
 
 pub returns-else-goes_on-clause-read : goal.returns-else-goes_on-clause-read
 returns-else-goes_on-clause-read g c =
     let y = c.in-Ok.ensures.read in
     let i = c.arguments.invariant in (
       (i.front ++ y.0.0 ∷ [], c.in_ok-goes_on.behind.now),
-      closes (separator_at 41) (argument_at c.args.levels) i.front _ _ y.0.0 c.in-Ok.read.1.now c.in_ok-goes_on.behind.now i.going (behind_is _ y.0 c.in-Ok.read.1.now y.1 y.2.2) (c.in_ok-goes_on.ensures ∙ ap (λ b. done (b, c.in_ok-goes_on.behind.now)) c.if-goes_on.false),
-      (record { typed = subst (λ z. NamesAll (g.C.TypeStore.types c.read_argument.new.ctx) z (argument_types (i.front ++ y.0.0 ∷ []))) (sym c.in_ok-push-2.ensures.items) (typed_push _ _ i.front _ y.0.0 (NamesAll-grown _ _ _ (argument_types i.front) c.in-Ok.ensures.grown i.typed) y.2.1); named = c.in_ok-push.ensures.items ∙ ap (λ l. l ++ c.in-Ok.read.0.0 ∷ []) i.named ∙ ap (λ x. argument_names i.front ++ x ∷ []) y.2.0 ∙ sym (named_push i.front y.0.0) }, refl),
+      closes (separator_at 41) (argument_at c.args.levels) i.front _ _ y.0.0 c.in-Ok.read.1.now c.in_ok-goes_on.behind.now i.going (behind_is _ y.0 c.in-Ok.read.1.now y.1 y.2.1) (c.in_ok-goes_on.ensures ∙ ap (λ b. done (b, c.in_ok-goes_on.behind.now)) c.if-goes_on.false),
+      (record { typed = subst (λ z. NamesAll (g.C.TypeStore.types c.read_argument.new.ctx) z (argument_types (i.front ++ y.0.0 ∷ []))) (sym c.in_ok-push-2.ensures.items) (typed_push _ _ i.front _ y.0.0 (NamesAll-grown _ _ _ (argument_types i.front) c.in-Ok.ensures.grown i.typed) y.2.0.1); named = c.in_ok-push.ensures.items ∙ ap (λ l. l ++ c.in-Ok.read.0.0 ∷ []) i.named ∙ ap (λ x. argument_names i.front ++ x ∷ []) y.2.0.0 ∙ sym (named_push i.front y.0.0) }, refl),
     )
 
 pub arguments-smaller : goal.arguments-smaller
 arguments-smaller g c =
     let y = c.in-Ok.ensures.read in
-    omega (arith, argument_at-shorter c.args.levels c.arguments.rest.now y.0 y.1, ap length y.2.2, separator_at-shorter 41 c.in-Ok.read.1.now (c.in_ok-goes_on.goes_on, c.in_ok-goes_on.behind.now) c.in_ok-goes_on.ensures)
+    omega (arith, argument_at-shorter c.args.levels c.arguments.rest.now y.0 y.1, ap length y.2.1, separator_at-shorter 41 c.in-Ok.read.1.now (c.in_ok-goes_on.goes_on, c.in_ok-goes_on.behind.now) c.in_ok-goes_on.ensures)
 
 pub arguments-preserved : goal.arguments-preserved
 arguments-preserved g c =
@@ -91,9 +91,9 @@ arguments-preserved g c =
     let i = c.arguments.invariant in
     record {
       front = i.front ++ y.0.0 ∷ [];
-      typed = subst (λ z. NamesAll (g.C.TypeStore.types c.read_argument.new.ctx) z (argument_types (i.front ++ y.0.0 ∷ []))) (sym c.in_ok-push-2.ensures.items) (typed_push _ _ i.front _ y.0.0 (NamesAll-grown _ _ _ (argument_types i.front) c.in-Ok.ensures.grown i.typed) y.2.1);
-      named = c.in_ok-push.ensures.items ∙ ap (λ l. l ++ c.in-Ok.read.0.0 ∷ []) i.named ∙ ap (λ x. argument_names i.front ++ x ∷ []) y.2.0 ∙ sym (named_push i.front y.0.0);
+      typed = subst (λ z. NamesAll (g.C.TypeStore.types c.read_argument.new.ctx) z (argument_types (i.front ++ y.0.0 ∷ []))) (sym c.in_ok-push-2.ensures.items) (typed_push _ _ i.front _ y.0.0 (NamesAll-grown _ _ _ (argument_types i.front) c.in-Ok.ensures.grown i.typed) y.2.0.1);
+      named = c.in_ok-push.ensures.items ∙ ap (λ l. l ++ c.in-Ok.read.0.0 ∷ []) i.named ∙ ap (λ x. argument_names i.front ++ x ∷ []) y.2.0.0 ∙ sym (named_push i.front y.0.0);
       grown = Grows-on _ _ _ i.grown c.in-Ok.ensures.grown;
       kept = g.met.C.TypeStore.same_besides_on _ _ _ i.kept c.in-Ok.ensures.rest;
-      going = goes_on (separator_at 41) (argument_at c.args.levels) i.front _ _ y.0.0 c.in-Ok.read.1.now c.in_ok-goes_on.behind.now i.going (behind_is _ y.0 c.in-Ok.read.1.now y.1 y.2.2) (c.in_ok-goes_on.ensures ∙ ap (λ b. done (b, c.in_ok-goes_on.behind.now)) c.if-goes_on.true) (arguments-smaller g c);
+      going = goes_on (separator_at 41) (argument_at c.args.levels) i.front _ _ y.0.0 c.in-Ok.read.1.now c.in_ok-goes_on.behind.now i.going (behind_is _ y.0 c.in-Ok.read.1.now y.1 y.2.1) (c.in_ok-goes_on.ensures ∙ ap (λ b. done (b, c.in_ok-goes_on.behind.now)) c.if-goes_on.true) (arguments-smaller g c);
     }

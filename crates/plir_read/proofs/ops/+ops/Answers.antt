@@ -4,12 +4,13 @@ use Rattle.plir_core.specs.declared.ptr.IRNode.TheVariants.{Operation, Region, B
 use Rattle.plir_text.specs.Growth.{Grows-itself}
 use Rattle.plir_text.specs.TypeSteps.{behind_is}
 use Rattle.plir_read.specs.OpTerms.{op_term, blocks_of}
-use Rattle.plir_read.specs.OpReading.{op_at, block_at, semicolon_at, brace_at}
+use Rattle.plir_read.specs.OpReading.{op_at, bodied_at, block_at, semicolon_at, brace_at}
+use Rattle.plir_read.proofs.EntriesLive.{meant_live}
 use Rattle.plir_read.proofs.Gathered as gathered
 use Rattle.plir_read.proofs.Gathered.{IsGrown-itself, KeepsBut-itself}
 use Rattle.plir_read.proofs.OpFound.{op_at-shorter, block_at-shorter, semicolon_at-shorter, brace_at-shorter}
 use Rattle.plir_read.proofs.OpMade.{arguments_live, block_kept, block_made, block_stands, op_kept, op_made, op_stands, head_live, KeepsOlder-typed, KeepsOlder-on}
-use Rattle.plir_read.proofs.OpSteps.{Stops-from, from_start, op_at-behind, no_id, no_head, no_body, op_read, too_deep, no_operations, operations, no_block_head, no_block, block_read, no_brace, no_blocks_inside, blocks}
+use Rattle.plir_read.proofs.OpSteps.{from_start, ReadsOn-from, bodied_behind, constant_reads, no_start, no_head, no_body, bodied_read, no_operations, operations, no_block_head, no_block, block_read, no_brace, no_blocks_inside, blocks}
 use Rattle.plir_read.proofs.ops.+ops.Goals as goal
 
 -- ---- a block
@@ -164,54 +165,78 @@ read_ops-returns-else-goes_on g t c =
     (behind_is _ y.0 c.in-Ok.read.1.now y.1 y.2.1) (c.past_semicolon-goes_on.ensures ∙ ap (λ b. Ok (b, c.past_semicolon-goes_on.result.1.now)) c.if-goes_on.false) in
     record { read = ((r.all, c.past_semicolon-goes_on.result.1.now), r.gives, (r.stand, refl)); grown = r.grown; kept = r.kept; whole = c.insert_at_back.ensures.whole }
 
+-- ---- a module or a function
+
+pub read_bodied-returns-in_err-expect_names-clause-kept : goal.read_bodied-returns-in_err-expect_names-clause-kept
+read_bodied-returns-in_err-expect_names-clause-kept g t c = KeepsBut-itself _ None
+
+pub read_bodied-make_op-requires-clause-head_live : goal.read_bodied-make_op-requires-clause-head_live
+read_bodied-make_op-requires-clause-head_live g t c =
+    let y = c.in_ok-header.ensures.read in
+    head_live _ _ y.0.0.0 y.2.0.head_is
+
+pub read_bodied-make_op-requires-clause-entries_live : goal.read_bodied-make_op-requires-clause-entries_live
+read_bodied-make_op-requires-clause-entries_live g t c =
+    let y = c.in_ok-header.ensures.read in
+    meant_live _ _ y.0.0.1 _ y.2.0.dictionary
+
+pub read_bodied-returns-in_err-header-clause-read : goal.read_bodied-returns-in_err-header-clause-read
+read_bodied-returns-in_err-header-clause-read g t c =
+    let p = err_from_is_err_and c.from_residual-in_err-header.result c.from_residual-in_err-header.ensures.1 in
+    rw (p.1, p.2) (no_head (op_at c.args.levels) c.args.levels c.args.kind c.args.names c.in_err-header.field-0.0 _ c.args.bytes.now c.in_ok-expect_names.ensures c.in_err-header.ensures.read)
+
+pub read_bodied-returns-in_err-op-clause-kept : goal.read_bodied-returns-in_err-op-clause-kept
+read_bodied-returns-in_err-op-clause-kept g t c = KeepsOlder-on _ _ _ (KeepsOlder-typed c.args.ctx.now c.read_header-read.new.ctx c.in_ok-header.ensures.rest c.in_ok-header.ensures.grown) c.in_err-op.ensures.kept
+
+pub read_bodied-returns-in-Ok-clause-read : goal.read_bodied-returns-in-Ok-clause-read
+read_bodied-returns-in-Ok-clause-read g t c =
+    let h = c.in_ok-header.ensures.read in
+    let y = c.in-Ok.ensures.read in (
+      (op_term h.0.0 (blocks_of y.0.0), c.in-Ok.end.now),
+      bodied_read (op_at c.args.levels) c.args.levels c.args.kind c.args.names _ c.args.bytes.now _ _ h.0.0 y.0.0 c.in_ok-expect_names.ensures (behind_is _ h.0 c.in_ok-header.behind.now h.1 h.2.1) (behind_is _ y.0 c.in-Ok.end.now y.1 y.2.1),
+      (op_stands c.args.ctx.now c.read_header-read.new.ctx c.make_op.new.ctx c.read_body.new.ctx c.in_ok-op.op c.in_ok-op.region _ (c.contexts_stand.ensures _ c.in_ok-op.ensures.whole) c.in_ok-header.ensures.rest c.in_ok-header.ensures.grown c.in_ok-op.ensures.made c.in_ok-header.header.head c.in_ok-header.header.entries h.0.0 y.0.0 h.2.0 refl c.in-Ok.ensures.kept y.2.0, refl),
+    )
+
+pub read_bodied-returns-in-Ok-clause-made : goal.read_bodied-returns-in-Ok-clause-made
+read_bodied-returns-in-Ok-clause-made g t c = op_made c.args.ctx.now c.read_header-read.new.ctx c.make_op.new.ctx c.read_body.new.ctx c.in_ok-op.op c.in_ok-op.region _ (c.contexts_stand.ensures _ c.in_ok-op.ensures.whole) c.in_ok-header.ensures.rest c.in_ok-header.ensures.grown c.in_ok-op.ensures.made c.growth.ensures c.in_ok-op.ensures.whole.forest c.in-Ok.ensures.grown
+
+pub read_bodied-returns-in-Ok-clause-kept : goal.read_bodied-returns-in-Ok-clause-kept
+read_bodied-returns-in-Ok-clause-kept g t c = op_kept c.args.ctx.now c.read_header-read.new.ctx c.make_op.new.ctx c.read_body.new.ctx c.in_ok-op.op c.in_ok-op.region _ (c.contexts_stand.ensures _ c.in_ok-op.ensures.whole) c.in_ok-header.ensures.rest c.in_ok-header.ensures.grown c.in_ok-op.ensures.made c.in-Ok.ensures.kept
+
+pub read_bodied-returns-in-Err-clause-kept : goal.read_bodied-returns-in-Err-clause-kept
+read_bodied-returns-in-Err-clause-kept g t c = op_kept c.args.ctx.now c.read_header-read.new.ctx c.make_op.new.ctx c.read_body.new.ctx c.in_ok-op.op c.in_ok-op.region _ (c.contexts_stand.ensures _ c.in_ok-op.ensures.whole) c.in_ok-header.ensures.rest c.in_ok-header.ensures.grown c.in_ok-op.ensures.made c.in-Err.ensures.kept
+
+pub read_bodied-returns-in-Err-clause-read : goal.read_bodied-returns-in-Err-clause-read
+read_bodied-returns-in-Err-clause-read g t c =
+    let h = c.in_ok-header.ensures.read in
+    no_body (op_at c.args.levels) c.args.levels c.args.kind c.args.names c.in-Err.stop _ c.args.bytes.now _ h.0.0 c.in_ok-expect_names.ensures (behind_is _ h.0 c.in_ok-header.behind.now h.1 h.2.1) c.in-Err.ensures.read
+
 -- ---- an operation
 
-pub read_op_at-returns-in_err-kind-clause-read : goal.read_op_at-returns-in_err-kind-clause-read
-read_op_at-returns-in_err-kind-clause-read g t c =
-    let p = err_from_is_err_and c.from_residual.result c.from_residual.ensures.1 in
-    rw (p.1, p.2) (no_id c.args.levels c.in_err-kind.field-0.0 c.args.bytes.now c.in_err-kind.ensures)
-
-pub read_op_at-returns-in_err-kind-clause-kept : goal.read_op_at-returns-in_err-kind-clause-kept
-read_op_at-returns-in_err-kind-clause-kept g t c = KeepsBut-itself _ None
-
-pub read_op_at-returns-then-levels-eq0-clause-read : goal.read_op_at-returns-then-levels-eq0-clause-read
-read_op_at-returns-then-levels-eq0-clause-read g t c = too_deep c.args.levels c.args.bytes.now _ c.if-levels-eq0.true c.in_ok-kind.ensures
+pub read_op_at-returns-in_err-opening-clause-kept : goal.read_op_at-returns-in_err-opening-clause-kept
+read_op_at-returns-in_err-opening-clause-kept g t c = KeepsBut-itself _ None
 
 pub read_op_at-returns-then-levels-eq0-clause-kept : goal.read_op_at-returns-then-levels-eq0-clause-kept
 read_op_at-returns-then-levels-eq0-clause-kept g t c = KeepsBut-itself _ None
 
-pub read_op_at-returns-in_err-head-clause-read : goal.read_op_at-returns-in_err-head-clause-read
-read_op_at-returns-in_err-head-clause-read g t c =
-    let p = err_from_is_err_and c.from_residual-in_err-head.result c.from_residual-in_err-head.ensures.1 in
-    rw (p.1, p.2) (Stops-from _ _ _ (sym (op_at-behind c.args.levels c.args.bytes.now _ c.in_ok-kind.kind (omega (arith, c.if-levels-eq0.false)) c.in_ok-kind.ensures)) (no_head (c.args.levels - 1) c.in_err-head.field-0.0 c.in_ok-kind.kind _ c.in_err-head.ensures.read))
+pub read_op_at-returns-in_err-opening-clause-read : goal.read_op_at-returns-in_err-opening-clause-read
+read_op_at-returns-in_err-opening-clause-read g t c =
+    let p = err_from_is_err_and c.from_residual.result c.from_residual.ensures.1 in
+    rw (p.1, p.2) (no_start c.args.levels c.in_err-opening.field-0.0 c.args.bytes.now c.in_err-opening.ensures)
 
-pub read_op_at-make_op-requires : goal.read_op_at-make_op-requires
-read_op_at-make_op-requires g t c =
-    let y = c.in_ok-head.ensures.read in
-    head_live _ _ y.0.0 y.2.0
+pub read_op_at-returns-in-Bodied-clause-read : goal.read_op_at-returns-in-Bodied-clause-read
+read_op_at-returns-in-Bodied-clause-read g t c =
+    let y = c.in_ok-opening.ensures in
+    let start = behind_is _ y.0 c.in_ok-opening.rest.now y.1 y.2.1 in
+    let behind = bodied_behind c.args.levels c.args.bytes.now c.in_ok-opening.rest.now y.0.0.0 c.in_ok-opening.opening.names.items y.0.0.1 c.in-Bodied.body (omega (arith, c.if-levels-eq0.false)) start (sym y.2.0.kind ∙ c.in-Bodied.is) y.2.0.names in
+    let same = ap (λ m. bodied_at (op_at (c.args.levels - 1)) (c.args.levels - 1) c.in-Bodied.body m c.in_ok-opening.rest.now) (sym (c.len.ensures ∙ c.in_ok-opening.opening.names.ok.0)) in
+    ReadsOn-from _ c.read_bodied.result _ _ (behind ∙ same) c.read_bodied.ensures.read
 
-pub read_op_at-returns-in_err-op-clause-kept : goal.read_op_at-returns-in_err-op-clause-kept
-read_op_at-returns-in_err-op-clause-kept g t c = KeepsOlder-on _ _ _ (KeepsOlder-typed c.args.ctx.now c.read_head-read.new.ctx c.in_ok-head.ensures.rest c.in_ok-head.ensures.grown) c.in_err-op.ensures.kept
+pub read_op_at-returns-in-Constant-clause-read : goal.read_op_at-returns-in-Constant-clause-read
+read_op_at-returns-in-Constant-clause-read g t c =
+    let y = c.in_ok-opening.ensures in
+    let start = behind_is _ y.0 c.in_ok-opening.rest.now y.1 y.2.1 in
+    constant_reads _ (λ x. Operation x.0) (λ x. x.1.now) c.args.levels c.args.bytes.now c.in_ok-opening.rest.now y.0.0.0 c.in_ok-opening.opening.names.items y.2.0.names c.read_constant.result y.0.0.1 (omega (arith, c.if-levels-eq0.false)) start (sym y.2.0.kind ∙ c.in-Constant.is) c.read_constant.ensures.read
 
-pub read_op_at-returns-in-Ok-clause-read : goal.read_op_at-returns-in-Ok-clause-read
-read_op_at-returns-in-Ok-clause-read g t c =
-    let h = c.in_ok-head.ensures.read in
-    let y = c.in-Ok.ensures.read in (
-      (op_term h.0.0 (blocks_of y.0.0), c.in-Ok.end.now),
-      op_at-behind c.args.levels c.args.bytes.now _ c.in_ok-kind.kind (omega (arith, c.if-levels-eq0.false)) c.in_ok-kind.ensures ∙ op_read (c.args.levels - 1) c.in_ok-kind.kind _ _ _ h.0.0 y.0.0 (behind_is _ h.0 c.in_ok-head.behind.now h.1 h.2.1) (behind_is _ y.0 c.in-Ok.end.now y.1 y.2.1),
-      (op_stands c.args.ctx.now c.read_head-read.new.ctx c.make_op.new.ctx c.read_body.new.ctx c.in_ok-op.op c.in_ok-op.region _ (c.contexts_stand.ensures _ c.in_ok-op.ensures.whole) c.in_ok-head.ensures.rest c.in_ok-head.ensures.grown c.in_ok-op.ensures.made c.in_ok-head.head h.0.0 y.0.0 h.2.0 refl c.in-Ok.ensures.kept y.2.0, refl),
-    )
-
-pub read_op_at-returns-in-Ok-clause-made : goal.read_op_at-returns-in-Ok-clause-made
-read_op_at-returns-in-Ok-clause-made g t c = op_made c.args.ctx.now c.read_head-read.new.ctx c.make_op.new.ctx c.read_body.new.ctx c.in_ok-op.op c.in_ok-op.region _ (c.contexts_stand.ensures _ c.in_ok-op.ensures.whole) c.in_ok-head.ensures.rest c.in_ok-head.ensures.grown c.in_ok-op.ensures.made c.growth.ensures c.in_ok-op.ensures.whole.forest c.in-Ok.ensures.grown
-
-pub read_op_at-returns-in-Ok-clause-kept : goal.read_op_at-returns-in-Ok-clause-kept
-read_op_at-returns-in-Ok-clause-kept g t c = op_kept c.args.ctx.now c.read_head-read.new.ctx c.make_op.new.ctx c.read_body.new.ctx c.in_ok-op.op c.in_ok-op.region _ (c.contexts_stand.ensures _ c.in_ok-op.ensures.whole) c.in_ok-head.ensures.rest c.in_ok-head.ensures.grown c.in_ok-op.ensures.made c.in-Ok.ensures.kept
-
-pub read_op_at-returns-in-Err-clause-kept : goal.read_op_at-returns-in-Err-clause-kept
-read_op_at-returns-in-Err-clause-kept g t c = op_kept c.args.ctx.now c.read_head-read.new.ctx c.make_op.new.ctx c.read_body.new.ctx c.in_ok-op.op c.in_ok-op.region _ (c.contexts_stand.ensures _ c.in_ok-op.ensures.whole) c.in_ok-head.ensures.rest c.in_ok-head.ensures.grown c.in_ok-op.ensures.made c.in-Err.ensures.kept
-
-pub read_op_at-returns-in-Err-clause-read : goal.read_op_at-returns-in-Err-clause-read
-read_op_at-returns-in-Err-clause-read g t c =
-    let h = c.in_ok-head.ensures.read in
-    Stops-from _ _ _ (sym (op_at-behind c.args.levels c.args.bytes.now _ c.in_ok-kind.kind (omega (arith, c.if-levels-eq0.false)) c.in_ok-kind.ensures)) (no_body (c.args.levels - 1) c.in-Err.stop c.in_ok-kind.kind _ _ h.0.0 (behind_is _ h.0 c.in_ok-head.behind.now h.1 h.2.1) c.in-Err.ensures.read)
+pub read_op_at-returns-clause-kept : goal.read_op_at-returns-clause-kept
+read_op_at-returns-clause-kept g t c = KeepsBut-itself _ None

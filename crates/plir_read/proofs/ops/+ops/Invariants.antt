@@ -5,16 +5,19 @@ use Rattle.plir_read.proofs.Loops.{OpsGather, BlocksGather}
 use Rattle.plir_read.proofs.ops.+ops.Given as goal
 
 abbrev pub decreases-read_op_at : goal.decreases-read_op_at
-decreases-read_op_at g l = 4 * l.levels
+decreases-read_op_at g l = 5 * l.levels
+
+abbrev pub decreases-read_bodied : goal.decreases-read_bodied
+decreases-read_bodied g l = 5 * l.levels + 4
 
 abbrev pub decreases-read_body : goal.decreases-read_body
-decreases-read_body g l = 4 * l.levels + 3
+decreases-read_body g l = 5 * l.levels + 3
 
 abbrev pub decreases-read_block : goal.decreases-read_block
-decreases-read_block g l = 4 * l.levels + 2
+decreases-read_block g l = 5 * l.levels + 2
 
 abbrev pub decreases-read_ops : goal.decreases-read_ops
-decreases-read_ops g l = 4 * l.levels + 1
+decreases-read_ops g l = 5 * l.levels + 1
 
 abbrev pub decreases-read_ops-ops : goal.decreases-read_ops-ops
 decreases-read_ops-ops g l = length l.rest

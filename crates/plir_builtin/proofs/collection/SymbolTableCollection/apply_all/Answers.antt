@@ -15,6 +15,7 @@ loop-edit-preserved g c =
     let more = take_more c.deref-edit-items.result.now c.loop-edit.edit-index no_edit here in
     let put = c.push_reserved.ensures.items in
     record {
+      given = λ h. c.apply-reply.ensures.given (c.loop-edit.invariant.given h);
       agree = c.apply-reply.ensures.agree;
       edited =
           subst (λ es. AreEdited g.D.OpSet.is_terminator g.D.OpSet.is_symbol g.D.OpSet.is_symbol_table c.args.ctx.now es c.push_reserved.new.self.items c.apply-reply.new.ctx c.apply-reply.new.self) (sym more)

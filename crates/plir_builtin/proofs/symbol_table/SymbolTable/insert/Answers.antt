@@ -1,3 +1,6 @@
+use Rattle.std.proofs.Common.{ap}
+use Rattle.plir_builtin.specs.Table.{Table}
+use Rattle.plir_builtin.proofs.GivenOut.{keeps-put, given-edited, put-given}
 use Rattle.plir_builtin.proofs.TableEdits.{insert-not_above, insert-agrees, insert-all}
 use Rattle.plir_builtin.proofs.symbol_table.SymbolTable.insert.Goals as goal
 
@@ -12,5 +15,11 @@ returns-clause-agrees g c =
 
 pub returns-clause-all_agree : goal.returns-clause-all_agree
 returns-clause-all_agree g c =
-    insert-all g.D.OpSet.is_terminator g.D.OpSet.is_symbol g.D.OpSet.is_symbol_table c.args.ctx.now c.carry_out.new.ctx c.stands.ensures c.carry_out.ensures.stands c.args.self.now c.args.op c.args.point c.in_ok-name.field-0.name c.in_ok-name.field-0.body c.in_ok-name.field-0.place
-    (record { plan = c.in_ok-name.ensures.ok; stays = c.carry_out.ensures.stays; put = c.carry_out.ensures.put }) c.requires.table_live c.record_name.new.self c.in_ok-record_name.ensures.ok
+    keeps-put g.D.OpSet.is_symbol g.D.OpSet.is_symbol_table c.args.ctx.now c.carry_out.new.ctx c.args.self.now c.record_name.new.self
+    (insert-all g.D.OpSet.is_terminator g.D.OpSet.is_symbol g.D.OpSet.is_symbol_table c.args.ctx.now c.carry_out.new.ctx c.stands.ensures c.carry_out.ensures.stands c.args.self.now c.args.op c.args.point c.in_ok-name.field-0.name c.in_ok-name.field-0.body c.in_ok-name.field-0.place
+    (record { plan = c.in_ok-name.ensures.ok; stays = c.carry_out.ensures.stays; put = c.carry_out.ensures.put }) c.requires.table_live c.record_name.new.self c.in_ok-record_name.ensures.ok)
+
+pub returns-clause-given : goal.returns-clause-given
+returns-clause-given g c =
+    given-edited c.args.ctx.now c.carry_out.new.ctx (put-given c.args.ctx.now c.carry_out.new.ctx c.args.op c.in_ok-name.field-0.body c.in_ok-name.field-0.place c.carry_out.ensures.stays c.carry_out.ensures.put)
+    c.args.self.now c.record_name.new.self (ap (λ (z : Table). z.op) c.in_ok-record_name.ensures.ok)

@@ -1,0 +1,352 @@
+//! An op set whose operations are symbols, tables and users of symbols as their kinds say.
+ghost use Rattle.std.specs.Prelude.{◌≡◌, ◌↔◌, IsTrue, Some, option_map};
+ghost use Rattle.plir_data.specs.AttrSeen.{attr_view};
+ghost use Rattle.plir_core.specs.Store.{IsLive};
+ghost use Rattle.plir_core.specs.declared.ptr.IRNode.{IRNode as AnyNode};
+ghost use Rattle.plir_builtin.specs.Symbols.{name_in};
+ghost use Rattle.plir_builtin_tests.specs.Links.{IsFoundIn, IsLinked, used_name};
+
+use crate::tests::around::Around;
+use crate::tests::many::new_func;
+use plir_builtin::{
+    SymbolTableCollection, SymbolTableInterface, SymbolUserOpInterface, SymbolUserSet,
+};
+use plir_core::{Context, Operation, Ptr};
+use plir_data::{
+    AttrObj, Identifier, IdentifierAttr, Location, Memory, OpSet, TypeHandle, TypeStore, VerifyErr,
+};
+use plir_iface::{OneRegionInterface, Op, SingleBlockRegionInterface};
+use plir_scripts::{ScriptSet, Stop};
+use std::alloc::Global;
+use thiserror::Error;
+
+/// The key that the name of a symbol stands under that an operation uses.
+pub const ATTR_KEY_USES: &'static str = "link_uses";
+
+/// A kind of operations: whether they end their block, and whether they are symbols, tables and users of symbols.
+#[derive(Clone, Copy)]
+pub struct LinkKind {
+    pub ends: bool,
+    pub symbol: bool,
+    pub table: bool,
+    pub user: bool,
+}
+
+/// An attribute, and a type, that no test makes.
+#[derive(Clone, Copy, PartialEq, Eq, Hash, Debug)]
+pub struct Unused;
+
+/// The used symbol is not there.
+#[derive(Clone, Copy, PartialEq, Eq, Debug, Error)]
+#[error("not linked")]
+pub struct NotLinked;
+
+/// The set.
+#[derive(Clone, Copy, PartialEq, Eq, Debug)]
+pub struct LinkSet;
+
+impl OpSet for LinkSet {
+    ghost use Rattle.std.specs.Prelude.{[], None, true, codes, ⊤};
+    ghost use Rattle.std.proofs.Common.{rules};
+
+    type Kind = LinkKind;
+
+    type Attr = Unused;
+
+    type Ty = Unused;
+
+    type Err = NotLinked;
+
+    ghost is_terminator = { λ k. k.ends };
+
+    ghost is_symbol = { λ k. k.symbol };
+
+    ghost is_symbol_table = { λ k. k.table };
+
+    ghost is_symbol_user = { λ k. k.user };
+
+    ghost kind_id = { λ _. codes "link.op" };
+
+    ghost attr_id = { λ _. codes "link.attr" };
+
+    ghost attr_text = { λ _ _. [] };
+
+    ghost attr_type = { λ _. None };
+
+    ghost attr_outlined = { λ _. true };
+
+    ghost type_id = { λ _. codes "link.type" };
+
+    ghost type_body_text = { λ _ _. [] };
+
+    ghost function_sig = { λ _. None };
+
+    ghost attr_is_valid = { λ _ _. true };
+
+    ghost attr_refusal = { λ _ _ _. ⊤ };
+
+    ghost attr_handles = { λ _. [] };
+
+    ghost type_handles = { λ _. [] };
+
+    fn is_terminator(kind: LinkKind) -> bool {
+        kind.ends
+    }
+
+    fn is_symbol(kind: LinkKind) -> bool {
+        kind.symbol
+    }
+
+    fn is_symbol_table(kind: LinkKind) -> bool {
+        kind.table
+    }
+
+    fn is_symbol_user(kind: LinkKind) -> bool {
+        kind.user
+    }
+
+    fn kind_id(_kind: LinkKind) -> &'static str {
+        "link.op"
+    }
+
+    fn attr_id(_attr: &Unused) -> &'static str {
+        "link.attr"
+    }
+
+    fn attr_text<C: TypeStore<Self>>(
+        alloc: Global,
+        _attr: &Unused,
+        _ctx: &C,
+    ) -> Result<String, Memory> {
+        Ok(String::new(alloc))
+    }
+
+    fn attr_type(_attr: &Unused) -> Option<TypeHandle> {
+        None
+    }
+
+    fn attr_outlined(_attr: &Unused) -> bool {
+        true
+    }
+
+    fn verify_attr<C: TypeStore<Self>>(
+        _alloc: Global,
+        _attr: &Unused,
+        _ctx: &C,
+    ) -> Result<(), VerifyErr<NotLinked>> {
+        Ok(())
+    }
+
+    fn clone_attr(_alloc: Global, attr: &Unused) -> Result<Unused, Memory> {
+        Ok(*attr)
+    }
+
+    fn is_attr_live<C: TypeStore<Self>>(_attr: &Unused, _ctx: &C) -> bool {
+        true
+    }
+
+    fn type_id(_ty: &Unused) -> &'static str {
+        "link.type"
+    }
+
+    fn type_body_text<C: TypeStore<Self>>(
+        alloc: Global,
+        _ty: &Unused,
+        _ctx: &C,
+    ) -> Result<String, Memory> {
+        Ok(String::new(alloc))
+    }
+
+    fn function_sig(_ty: &Unused) -> Option<(&[TypeHandle], &[TypeHandle])> {
+        None
+    }
+
+    fn is_type_live<C: TypeStore<Self>>(_ty: &Unused, _ctx: &C) -> bool {
+        true
+    }
+
+    ghost use Rattle.std.proofs.lemmas.Option.{none-some};
+
+    ghost attr_eq_exact = { λ a b e. Prim.search rules };
+
+    ghost type_eq_exact = { λ a b e. Prim.search rules };
+
+    ghost attr_type_held = { λ a h e. absurd (none-some h e) };
+
+    ghost arguments_held = { λ t p h e m. absurd (none-some p e) };
+
+    ghost results_held = { λ t p h e m. absurd (none-some p e) };
+}
+
+impl ScriptSet for LinkSet {
+    fn own_kind(word: &str) -> Option<LinkKind> {
+        let bytes = word.as_bytes();
+        let has = |letter: u8| -> bool { bytes.iter().any(|byte| *byte == letter) };
+        if bytes
+            .iter()
+            .any(|byte| !matches!(*byte, b'e' | b's' | b't' | b'u' | b'-'))
+        {
+            return None;
+        }
+        Some(LinkKind {
+            ends: has(b'e'),
+            symbol: has(b's'),
+            table: has(b't'),
+            user: has(b'u'),
+        })
+    }
+}
+
+// The name in an attribute.
+fn name_of<D: OpSet>(attribute: &AttrObj<D>) -> Option<&Identifier>
+    ensures { option_map (λ n. n.now) result ≡ name_in (Some (attr_view attribute.now)) }
+{
+    match attribute {
+        AttrObj::Identifier(name) => Some(name.as_ref()),
+        _ => None,
+    }
+}
+
+// The name of the symbol that an operation uses.
+fn used_symbol<D: OpSet>(ctx: &Context<D>, op: Ptr<Operation>) -> Option<&Identifier>
+    requires { IsLive ctx.now (AnyNode.Operation op) }
+    ensures { option_map (λ n. n.now) result ≡ used_name ctx.now op }
+{
+    name_of(op.attributes(ctx).get(ATTR_KEY_USES)?)
+}
+
+// Whether a symbol of a name stands in the body of an operation.
+fn is_found_in<D: OpSet>(ctx: &Context<D>, table: Ptr<Operation>, name: &Identifier) -> bool
+    requires { IsLive ctx.now (AnyNode.Operation table) }
+    ensures { IsTrue result ↔ IsFoundIn D.is_symbol ctx.now table name.now }
+{
+    let table = Around { op: table };
+    if OneRegionInterface::<D>::verify(&table, ctx).is_err() {
+        return false;
+    }
+    if SingleBlockRegionInterface::<D>::verify(&table, ctx).is_err() {
+        return false;
+    }
+    SymbolTableInterface::<D>::lookup(&table, ctx, name).is_some()
+}
+
+// Whether an operation names a symbol that stands in the body of its parent operation.
+fn is_linked<D: OpSet>(ctx: &Context<D>, op: Ptr<Operation>) -> bool
+    requires { IsLive ctx.now (AnyNode.Operation op) }
+    ensures { IsTrue result ↔ IsLinked D.is_symbol ctx.now op }
+{
+    match (op.get_parent_op(ctx), used_symbol(ctx, op)) {
+        (Some(table), Some(name)) => is_found_in(ctx, table, name),
+        _ => false,
+    }
+}
+
+/// An operation that names a symbol, which has to stand in the body of its parent operation.
+#[derive(Clone, Copy)]
+pub struct LinkOp {
+    pub op: Ptr<Operation>,
+}
+
+impl<D: OpSet> Op<D> for LinkOp {
+    ghost pointer = { λ o. o.op };
+
+    fn get_operation(&self) -> Ptr<Operation> {
+        self.op
+    }
+}
+
+impl SymbolUserOpInterface<LinkSet> for LinkOp {
+    ghost use Rattle.plir_builtin_tests.specs.Links.{IsLinked, names_in_use};
+
+    ghost names_used = { λ o s. names_in_use s o.op };
+
+    ghost has_right_uses = { λ o s. IsLinked (λ k. k.symbol) s o.op };
+
+    fn verify_symbol_uses(
+        &self,
+        ctx: &Context<LinkSet>,
+        _tables: &mut SymbolTableCollection,
+    ) -> Result<(), VerifyErr<NotLinked>> {
+        if is_linked(ctx, self.op) {
+            return Ok(());
+        }
+        Err(VerifyErr::Refused {
+            loc: self.op.loc(ctx),
+            err: NotLinked,
+        })
+    }
+
+    fn used_symbols(
+        &self,
+        alloc: Global,
+        ctx: &Context<LinkSet>,
+    ) -> Result<Vec<Identifier>, Memory> {
+        let mut names = Vec::new(alloc);
+        if let Some(name) = used_symbol(ctx, self.op) {
+            names.push(name.try_clone(alloc)?)?;
+        }
+        Ok(names)
+    }
+}
+
+impl SymbolUserSet for LinkSet {
+    ghost use Rattle.plir_builtin_tests.specs.Links.{IsLinked};
+
+    ghost uses_hold = { λ s op. IsLinked (λ k. k.symbol) s op };
+
+    fn verify_symbol_uses(
+        ctx: &Context<LinkSet>,
+        op: Ptr<Operation>,
+        tables: &mut SymbolTableCollection,
+    ) -> Result<(), VerifyErr<NotLinked>> {
+        SymbolUserOpInterface::<LinkSet>::verify_symbol_uses(&LinkOp { op }, ctx, tables)
+    }
+}
+
+#[test]
+fn an_operation_tells_the_name_that_it_uses(rt: HostRuntime) -> Result<(), Stop> {
+    let alloc = rt.alloc();
+    let mut ctx: Context<LinkSet> = Context::new(alloc);
+    let told = tells_its_name(alloc, &mut ctx)?;
+    assert!(rt; told);
+    Ok(())
+}
+
+// Whether an operation tells no name at first, and that of the symbol that it uses later.
+fn tells_its_name(alloc: Global, ctx: &mut Context<LinkSet>) -> Result<bool, Stop> {
+    let user = LinkOp {
+        op: new_func(alloc, ctx, 1)?,
+    };
+    let before = names_of(alloc, ctx, user)?;
+    name_used(alloc, ctx, user.op, "missing")?;
+    let after = names_of(alloc, ctx, user)?;
+    Ok(before.is_empty() && are_one(after.as_slice(), "missing"))
+}
+
+// Whether some names are this one alone.
+fn are_one(names: &[Identifier], name: &str) -> bool {
+    names.len() == 1 && names.iter().all(|found| found.as_str() == name)
+}
+
+// The names that an operation uses, if it is live.
+fn names_of(alloc: Global, ctx: &Context<LinkSet>, user: LinkOp) -> Result<Vec<Identifier>, Stop> {
+    if !user.op.is_live(ctx) {
+        return Err(Stop::Refused);
+    }
+    Ok(SymbolUserOpInterface::<LinkSet>::used_symbols(&user, alloc, ctx)?)
+}
+
+// Makes an operation use a symbol of a name.
+fn name_used<D: OpSet>(
+    alloc: Global,
+    ctx: &mut Context<D>,
+    op: Ptr<Operation>,
+    name: &str,
+) -> Result<(), Stop>
+    requires { IsLive ctx.old (AnyNode.Operation op) }
+{
+    let key = Identifier::try_new(alloc, ATTR_KEY_USES)?;
+    let name = Identifier::try_new(alloc, name)?;
+    op.set_attr(ctx, key, AttrObj::Identifier(IdentifierAttr::new(name)))?;
+    Ok(())
+}

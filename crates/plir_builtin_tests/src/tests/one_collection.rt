@@ -1,0 +1,60 @@
+//! One collection that serves while modules are made: that its tables agree is carried from call to call, and never tested.
+ghost use Rattle.plir_builtin.specs.Agree.{AllAgree, AreGivenOut};
+
+use super::link_set::LinkSet;
+use super::many::numbered;
+use plir_builtin::laws::{new_nodes_keep_agreement, no_tables_agree};
+use plir_builtin::{ModuleOp, SymbolEdit, SymbolTableCollection};
+use plir_core::{Context, Operation, Ptr};
+use plir_data::{Identifier, OpSet};
+use plir_iface::Op;
+use plir_scripts::Stop;
+use std::alloc::Global;
+
+// Makes a module, and inserts it through a collection; answers whether it was inserted.
+fn add_module<D: OpSet>(
+    alloc: Global,
+    ctx: &mut Context<D>,
+    tables: &mut SymbolTableCollection,
+    table: Ptr<Operation>,
+    name: Identifier,
+) -> Result<bool, Stop>
+    requires agree { AllAgree D.is_symbol D.is_symbol_table ctx.old tables.old }
+    requires given { AreGivenOut ctx.old tables.old }
+    ensures agree { AllAgree D.is_symbol D.is_symbol_table ctx.new tables.new }
+    ensures given { AreGivenOut ctx.new tables.new }
+{
+    let _live = ctx.num_live();
+    let made = ModuleOp::new(alloc, ctx, name);
+    new_nodes_keep_agreement(ctx);
+    let module = made?;
+    let mut edits = Vec::new(alloc);
+    edits.push(SymbolEdit::Insert {
+        table,
+        op: Op::<D>::get_operation(&module),
+        point: None,
+    })?;
+    let replies = tables.apply_all(ctx, edits)?;
+    Ok(replies.iter().all(|reply| reply.is_ok()))
+}
+
+// Makes a module and inserts three into it, of which the third has the name of the first; answers which were inserted.
+fn fill<D: OpSet>(alloc: Global, ctx: &mut Context<D>) -> Result<(bool, bool, bool), Stop> {
+    let root = ModuleOp::new(alloc, ctx, numbered(alloc, "m", 0)?)?;
+    let root = Op::<D>::get_operation(&root);
+    no_tables_agree(ctx);
+    let mut tables = SymbolTableCollection::new(alloc);
+    let first = add_module(alloc, ctx, &mut tables, root, numbered(alloc, "m", 1)?)?;
+    let second = add_module(alloc, ctx, &mut tables, root, numbered(alloc, "m", 2)?)?;
+    let third = add_module(alloc, ctx, &mut tables, root, numbered(alloc, "m", 1)?)?;
+    Ok((first, second, third))
+}
+
+#[test]
+fn one_collection_serves_while_modules_are_made(rt: HostRuntime) -> Result<(), Stop> {
+    let alloc = rt.alloc();
+    let mut ctx: Context<LinkSet> = Context::new(alloc);
+    assert_eq!(rt; fill(alloc, &mut ctx)?, (true, true, false));
+    assert_eq!(rt; ctx.num_live(), 12);
+    Ok(())
+}

@@ -1,0 +1,14 @@
+use Rattle.std.proofs.Common.{refl}
+use Rattle.plir_text.specs.Meanings.{IsMeant-grown}
+use Rattle.plir_text.specs.TypeSteps.{behind_is}
+use Rattle.plir_read.proofs.OpSteps.{constant_is}
+use Rattle.plir_read.proofs.constants.read_typed_value.Goals as goal
+
+pub returns-in-Ok-read_type_at-clause-read : goal.returns-in-Ok-read_type_at-clause-read
+returns-in-Ok-read_type_at-clause-read g c =
+    let v = c.in-Ok.ensures.read in
+    let t = c.in-Ok-read_type_at.ensures.read in (
+      ((v.0.0, t.0.0), c.in-Ok-read_type_at.read.1.now),
+      constant_is c.args.levels _ _ _ _ v.0.0 t.0.0 (behind_is _ v.0 c.in-Ok.read.1.now v.1 v.2.1) c.in_ok-colon.ensures (behind_is _ t.0 c.in-Ok-read_type_at.read.1.now t.1 t.2.1),
+      (record { meant = IsMeant-grown _ _ c.in-Ok-read_type_at.ensures.kept.grown v.0.0 _ v.2.0; typed = t.2.0 }, refl),
+    )

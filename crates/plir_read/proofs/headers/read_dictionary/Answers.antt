@@ -1,0 +1,13 @@
+use Rattle.std.proofs.Common.{[], refl, sym}
+use Rattle.plir_text.specs.Terms.{no_entries, entries_of}
+use Rattle.plir_text.specs.TypeSteps.{behind_is}
+use Rattle.plir_read.proofs.OpSteps.{no_dictionary, dictionary_is}
+use Rattle.plir_read.proofs.headers.read_dictionary.Goals as goal
+
+pub returns-in-None-clause-read : goal.returns-in-None-clause-read
+returns-in-None-clause-read g c = ((no_entries, c.args.bytes.now), no_dictionary c.args.levels _ (sym c.in-None.ensures), (([], refl, c.new.ensures), refl))
+
+pub returns-in-Ok-clause-read : goal.returns-in-Ok-clause-read
+returns-in-Ok-clause-read g c =
+    let y = c.in-Ok.ensures.read in
+    ((entries_of y.0.0, c.in-Ok.read.1.now), dictionary_is c.args.levels _ _ _ y.0.0 (sym c.in-Some.ensures) (behind_is _ y.0 c.in-Ok.read.1.now y.1 y.2.1), (y.2.0, refl))

@@ -1,0 +1,24 @@
+use Rattle.std.proofs.Common.{[], refl, sym, subst}
+use Rattle.std.specs.Prelude.{All}
+use Rattle.std.proofs.lemmas.List.Elements.{All-nil, All-cons}
+use Rattle.plir_data.specs.Types.{AllLive, IsLive as IsTypeLive}
+use Rattle.plir_core.specs.Store.{IsLive, IsValueLive}
+use Rattle.plir_core.specs.declared.ptr.IRNode.TheVariants.{BasicBlock}
+use Rattle.plir_read.proofs.making.make_constant.Goals as goal
+
+pub same-attributes : goal.same-attributes
+same-attributes g c = refl
+
+pub with_attributes-requires-clause-types_live : goal.with_attributes-requires-clause-types_live
+with_attributes-requires-clause-types_live g c =
+    let types = c.args.ctx.now.types in
+    subst (AllLive types) (sym c.in_ok-results.ensures.value) (All-cons (IsTypeLive types) c.args.constant.ty [] c.requires.type_live (All-nil (IsTypeLive types)))
+
+pub with_attributes-requires-clause-operands_live : goal.with_attributes-requires-clause-operands_live
+with_attributes-requires-clause-operands_live g c = subst (All (IsValueLive c.args.ctx.now)) (sym c.new-operands.ensures.items) (All-nil (IsValueLive c.args.ctx.now))
+
+pub with_attributes-requires-clause-successors_live : goal.with_attributes-requires-clause-successors_live
+with_attributes-requires-clause-successors_live g c = subst (All (λ b. IsLive c.args.ctx.now (BasicBlock b))) (sym c.new-successors.ensures.items) (All-nil (λ b. IsLive c.args.ctx.now (BasicBlock b)))
+
+pub with_attributes-requires-clause-handles_live : goal.with_attributes-requires-clause-handles_live
+with_attributes-requires-clause-handles_live g c = c.in_ok-attributes.ensures.live _ c.requires.value_live

@@ -1,0 +1,11 @@
+use Rattle.std.proofs.Common.{refl, sym, subst}
+use Rattle.plir_data.specs.AttrLive.{HandlesLive}
+use Rattle.plir_data.specs.AttrView.{identifier}
+use Rattle.plir_text.specs.Meanings.{leaf_live}
+use Rattle.plir_read.proofs.EntriesLive.{put_live}
+use Rattle.plir_read.proofs.making.named.Goals as goal
+
+pub returns-clause-live : goal.returns-clause-live
+returns-clause-live g c =
+    let own = g.D.OpSet.attr_handles in
+    λ types all. subst (HandlesLive own types) (sym c.in_ok-put_under.ensures.ok) (put_live own types c.args.entries _ _ (leaf_live own types (identifier c.new.result.0) refl) all)

@@ -1,0 +1,12 @@
+use Rattle.std.proofs.Common.{refl}
+use Rattle.plir_text.specs.TypeSteps.{behind_is}
+use Rattle.plir_read.proofs.OpSteps.{start_is}
+use Rattle.plir_read.proofs.openings.read_opening.Goals as goal
+
+pub returns : goal.returns
+returns c =
+    let y = c.in_ok-names.ensures in (
+      ((y.0.0, c.in_ok-kind.kind), c.in_ok-kind.behind.now),
+      start_is _ _ _ y.0.0 c.in_ok-kind.kind (behind_is _ y.0 c.in_ok-names.rest.now y.1 y.2.1) c.in_ok-kind.ensures,
+      (record { names = y.2.0; kind = refl }, refl),
+    )

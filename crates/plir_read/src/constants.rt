@@ -1,0 +1,102 @@
+//! Constants.
+ghost use Rattle.std.specs.Prelude.{IfOk, length};
+ghost use Rattle.plir_data.specs.AttrSeen.{attr_view};
+ghost use Rattle.plir_core.specs.Made.{IsMade};
+ghost use Rattle.plir_core.specs.Whole.{IsWhole};
+ghost use Rattle.plir_core.specs.declared.ptr.IRNode.{IRNode};
+ghost use Rattle.plir_text.specs.Meaning.{IsMeant};
+ghost use Rattle.plir_text.specs.Names.{Grows};
+ghost use Rattle.plir_read.specs.Heads.{IsConstant};
+ghost use Rattle.plir_read.specs.Keeping.{KeepsOlder};
+ghost use Rattle.plir_read.specs.OpReading.{value_at, constant_at, named_constant_at};
+ghost use Rattle.plir_read.specs.OpsStanding.{ReadsConstant};
+ghost use Rattle.plir_read.specs.Stopping.{ReadsFirst};
+
+use crate::making::make_constant;
+use crate::openings::expect_names;
+use plir_core::{Context, Operation, Ptr};
+use plir_data::{AttrObj, Identifier, OpSet, TypeHandle, TypeStore};
+use plir_text::attrs::read_attr_at;
+use plir_text::fault::Stop;
+use plir_text::types::read_type_at;
+use plir_text::words::read_sign;
+use std::alloc::Global;
+
+// A constant's value, and the type of its result.
+#[derive(Drop)]
+pub struct ConstantData<D: OpSet> {
+    pub value: AttrObj<D>,
+    pub ty: TypeHandle,
+}
+
+// `<ATTR>`
+#[tactic(auto, unfolding(crate::specs::OpReading::value_at))]
+fn read_value<'a, D: OpSet, C: TypeStore<D>>(
+    alloc: Global,
+    ctx: &mut C,
+    levels: usize,
+    bytes: &'a [u8],
+) -> Result<(AttrObj<D>, &'a [u8]), Stop>
+    ensures read { ReadsFirst (λ x y. IsMeant (C.types ctx.new) y (attr_view x)) result (value_at levels bytes.now) }
+    ensures grown { Grows (C.types ctx.old) (C.types ctx.new) }
+    ensures rest { C.same_besides ctx.old ctx.new }
+{
+    let start = read_sign(bytes, b'<')?;
+    match read_attr_at(alloc, ctx, levels, start) {
+        Ok(read) => {
+            let end = read_sign(read.1, b'>')?;
+            Ok((read.0, end))
+        }
+        Err(stop) => Err(stop),
+    }
+}
+
+// `<ATTR> : TYPE`
+#[tactic(auto, unfolding(crate::specs::OpReading::constant_at))]
+fn read_typed_value<'a, D: OpSet, C: TypeStore<D>>(
+    alloc: Global,
+    ctx: &mut C,
+    levels: usize,
+    bytes: &'a [u8],
+) -> Result<(ConstantData<D>, &'a [u8]), Stop>
+    ensures read { ReadsFirst (λ x. IsConstant (C.types ctx.new) (attr_view x.value) x.ty) result (constant_at levels bytes.now) }
+    ensures grown { Grows (C.types ctx.old) (C.types ctx.new) }
+    ensures rest { C.same_besides ctx.old ctx.new }
+{
+    let (value, rest) = match read_value(alloc, ctx, levels, bytes) {
+        Ok(read) => read,
+        Err(stop) => return Err(stop),
+    };
+    let colon = read_sign(rest, b':')?;
+    match read_type_at(alloc, ctx, levels, colon) {
+        Ok(read) => {
+            let ty = read.0;
+            Ok((ConstantData { value, ty }, read.1))
+        }
+        Err(stop) => Err(stop),
+    }
+}
+
+// A constant in no block, whose result has these names, with this many bytes left where its id stands.
+#[tactic(auto, unfolding(crate::specs::OpReading::named_constant_at))]
+pub fn read_constant<'a, D: OpSet>(
+    alloc: Global,
+    ctx: &mut Context<D>,
+    levels: usize,
+    names: Vec<Option<Identifier>>,
+    left: usize,
+    bytes: &'a [u8],
+) -> Result<(Ptr<Operation>, &'a [u8]), Stop>
+    ensures read { ReadsConstant ctx.new names.items result (named_constant_at levels (length names.items) bytes.now) }
+    ensures made { IfOk result (λ x. IsMade ctx.old.nodes ctx.new.nodes (IRNode.Operation x.0)) }
+    ensures kept { KeepsOlder ctx.old ctx.new }
+    ensures whole { IsWhole D.attr_handles ctx.new }
+{
+    let _before = ctx.num_live();
+    expect_names(1, names.len(), left)?;
+    let read = read_typed_value(alloc, ctx, levels, bytes);
+    let _after = ctx.num_live();
+    let (constant, rest) = read?;
+    let op = make_constant(alloc, ctx, names, constant)?;
+    Ok((op, rest))
+}
