@@ -4,8 +4,8 @@ ghost use Rattle.std.specs.Prelude.{◌≡◌, []};
 
 use plir_data::{
     APInt, AttrObj, BoolAttr, GivenNamesAttr, Identifier, IdentifierAttr, IntegerAttr, IntegerType,
-    OperandSegmentSizesAttr, PrintOnceAttr, Signedness, StringAttr, TypeAttr, TypeHandle,
-    TypeTable, Typed, TypedAttrInterface, UnitAttr, VecAttr,
+    OpSet, OperandSegmentSizesAttr, PrintOnceAttr, Signedness, StringAttr, TypeAttr, TypeHandle,
+    TypeTable, Typed, TypedAttrInterface, TypedHandle, UnitAttr, VecAttr,
 };
 use plir_scripts::{SampleAttr, SampleSet};
 use std::alloc::Global;
@@ -14,10 +14,8 @@ use std::hash::{DefaultHasher, Hash, Hasher};
 use std::process::Abort;
 use std::test::Fail;
 
-pub(crate) type Attr = AttrObj<SampleSet>;
-
 // The attribute of a text.
-pub(crate) fn text(alloc: Global, value: &str) -> Result<Attr, Fail> {
+pub(crate) fn text<D: OpSet>(alloc: Global, value: &str) -> Result<AttrObj<D>, Fail> {
     Ok(AttrObj::String(again!(StringAttr::try_from_str(alloc, value))))
 }
 
@@ -31,15 +29,20 @@ pub(crate) fn hash_of<T: Hash>(value: &T) -> u64 {
 fn test_integer_attributes(rt: HostRuntime) -> Result<(), Fail> {
     let mut table: TypeTable<SampleSet> = TypeTable::new(rt.alloc());
     let si64 = again!(IntegerType::get(&mut table, 64, Signedness::Signed));
-    let zero = IntegerAttr::new(si64, APInt::from_i64(0, 64).expect(&rt, "a width"));
-    let same = IntegerAttr::new(si64, APInt::from_i64(0, 64).expect(&rt, "a width"));
-    let fifteen = IntegerAttr::new(si64, APInt::from_i64(15, 64).expect(&rt, "a width"));
+    are_integers(&rt, si64);
+    Ok(())
+}
+
+// Integers of one type are equal where their values are.
+fn are_integers(rt: &impl Abort, si64: TypedHandle<IntegerType>) {
+    let zero = IntegerAttr::new(si64, APInt::from_i64(0, 64).expect(rt, "a width"));
+    let same = IntegerAttr::new(si64, APInt::from_i64(0, 64).expect(rt, "a width"));
+    let fifteen = IntegerAttr::new(si64, APInt::from_i64(15, 64).expect(rt, "a width"));
     assert!(rt; zero == same);
     assert!(rt; zero != fifteen);
     assert!(rt; zero.value().is_zero());
     assert_eq!(rt; APInt::from(fifteen).to_i64(), 15);
     assert!(rt; fifteen.get_type() == si64);
-    Ok(())
 }
 
 #[test]
@@ -56,16 +59,20 @@ fn test_string_attributes(rt: HostRuntime) -> Result<(), Fail> {
     Ok(())
 }
 
-#[test]
-fn test_vec_attributes(rt: HostRuntime) -> Result<(), Fail> {
-    let alloc = rt.alloc();
-    let list = two_texts(alloc, "hello", "world")?;
-    are_texts(&rt, list.0.as_slice(), "hello", "world");
+// A list of two texts has them in this order.
+fn are_in_order<D: OpSet>(rt: &impl Abort, alloc: Global) -> Result<(), Fail> {
+    let list: VecAttr<D> = two_texts(alloc, "hello", "world")?;
+    are_texts(rt, list.0.as_slice(), "hello", "world");
     Ok(())
 }
 
+#[test]
+fn test_vec_attributes(rt: HostRuntime) -> Result<(), Fail> {
+    are_in_order::<SampleSet>(&rt, rt.alloc())
+}
+
 // The attribute is this text.
-pub(crate) fn is_text(rt: &impl Abort, attr: &Attr, want: &str) {
+pub(crate) fn is_text<D: OpSet>(rt: &impl Abort, attr: &AttrObj<D>, want: &str) {
     let AttrObj::String(value) = attr else {
         panic!(rt; "not a text");
     };
@@ -73,7 +80,7 @@ pub(crate) fn is_text(rt: &impl Abort, attr: &Attr, want: &str) {
 }
 
 // The attributes are these two texts.
-fn are_texts(rt: &impl Abort, items: &[Attr], first: &str, second: &str) {
+fn are_texts<D: OpSet>(rt: &impl Abort, items: &[AttrObj<D>], first: &str, second: &str) {
     let [one, other] = items else {
         panic!(rt; "not two attributes");
     };
@@ -82,7 +89,7 @@ fn are_texts(rt: &impl Abort, items: &[Attr], first: &str, second: &str) {
 }
 
 // A list of two texts.
-fn two_texts(alloc: Global, first: &str, second: &str) -> Result<VecAttr<SampleSet>, Fail> {
+fn two_texts<D: OpSet>(alloc: Global, first: &str, second: &str) -> Result<VecAttr<D>, Fail> {
     let mut list = again!(Vec::with_capacity(alloc, 2));
     list.push(text(alloc, first)?)?;
     list.push(text(alloc, second)?)?;
@@ -110,7 +117,7 @@ fn test_operand_segment_sizes_attr(rt: HostRuntime) -> Result<(), Fail> {
 }
 
 // A copy of an attribute is equal to it, and hashes alike.
-fn copies(rt: &impl Abort, alloc: Global, attr: Attr, id: &str) -> Result<(), Fail> {
+fn copies<D: OpSet>(rt: &impl Abort, alloc: Global, attr: AttrObj<D>, id: &str) -> Result<(), Fail> {
     let copy = again!(attr.try_clone(alloc));
     assert!(rt; copy == attr);
     assert!(rt; hash_of(&copy) == hash_of(&attr));
@@ -118,77 +125,93 @@ fn copies(rt: &impl Abort, alloc: Global, attr: Attr, id: &str) -> Result<(), Fa
     Ok(())
 }
 
+// Truths and the attribute of no information are copied.
+fn copies_leaves<D: OpSet>(rt: &impl Abort, alloc: Global) -> Result<(), Fail> {
+    let truth: AttrObj<D> = AttrObj::Bool(BoolAttr::new(true));
+    copies(rt, alloc, truth, "builtin.bool")?;
+    let unit: AttrObj<D> = AttrObj::Unit(UnitAttr::new());
+    copies(rt, alloc, unit, "builtin.unit")
+}
+
 #[test]
 fn copies_small_ones(rt: HostRuntime) -> Result<(), Fail> {
-    let alloc = rt.alloc();
-    copies(
-        &rt,
-        alloc,
-        AttrObj::Bool(BoolAttr::new(true)),
-        "builtin.bool",
-    )?;
-    copies(&rt, alloc, AttrObj::Unit(UnitAttr::new()), "builtin.unit")?;
-    copies(&rt, alloc, AttrObj::Own(SampleAttr(true)), "sample.attr")?;
-    Ok(())
+    copies_leaves::<SampleSet>(&rt, rt.alloc())?;
+    let own: AttrObj<SampleSet> = AttrObj::Own(SampleAttr(true));
+    copies(&rt, rt.alloc(), own, "sample.attr")
+}
+
+// Names, texts and lists are copied.
+fn copies_whole<D: OpSet>(rt: &impl Abort, alloc: Global) -> Result<(), Fail> {
+    let name = again!(Identifier::try_new(alloc, "name"));
+    let name: AttrObj<D> = AttrObj::Identifier(IdentifierAttr::new(name));
+    copies(rt, alloc, name, "builtin.identifier")?;
+    let one: AttrObj<D> = text(alloc, "text")?;
+    copies(rt, alloc, one, "builtin.string")?;
+    let list: AttrObj<D> = AttrObj::Vec(two_texts(alloc, "a", "b")?);
+    copies(rt, alloc, list, "builtin.vec")
 }
 
 #[test]
 fn copies_texts_and_lists_where_memory_is_refused(rt: HostRuntime) -> Result<(), Fail> {
-    let alloc = rt.alloc();
-    let name = again!(Identifier::try_new(alloc, "name"));
-    let name = AttrObj::Identifier(IdentifierAttr::new(name));
-    copies(&rt, alloc, name, "builtin.identifier")?;
-    copies(&rt, alloc, text(alloc, "text")?, "builtin.string")?;
-    let list = AttrObj::Vec(two_texts(alloc, "a", "b")?);
-    copies(&rt, alloc, list, "builtin.vec")?;
-    Ok(())
+    copies_whole::<SampleSet>(&rt, rt.alloc())
 }
 
 // Two attributes differ, either way.
-fn differ(rt: &impl Abort, one: Attr, other: Attr) {
+fn differ<D: OpSet>(rt: &impl Abort, one: AttrObj<D>, other: AttrObj<D>) {
     assert!(rt; one != other);
     assert!(rt; other != one);
 }
 
-#[test]
-fn differs_by_kind(rt: HostRuntime) {
-    differ(
-        &rt,
-        AttrObj::Own(SampleAttr(true)),
-        AttrObj::Own(SampleAttr(false)),
-    );
-    differ(
-        &rt,
-        AttrObj::Own(SampleAttr(true)),
-        AttrObj::Bool(BoolAttr::new(true)),
-    );
-    differ(
-        &rt,
-        AttrObj::Unit(UnitAttr::new()),
-        AttrObj::Bool(BoolAttr::new(true)),
-    );
+// An own attribute.
+fn own(is_marked: bool) -> AttrObj<SampleSet> {
+    AttrObj::Own(SampleAttr(is_marked))
+}
+
+// A truth.
+fn truth<D: OpSet>() -> AttrObj<D> {
+    AttrObj::Bool(BoolAttr::new(true))
 }
 
 #[test]
-fn differs_by_parts(rt: HostRuntime) -> Result<(), Fail> {
-    let alloc = rt.alloc();
-    let ab = AttrObj::Vec(two_texts(alloc, "a", "b")?);
-    let ba = AttrObj::Vec(two_texts(alloc, "b", "a")?);
-    differ(&rt, ab, ba);
-    let a = text(alloc, "a")?;
-    let b = text(alloc, "b")?;
-    differ(&rt, a, b);
+fn differs_by_kind(rt: HostRuntime) {
+    differ(&rt, own(true), own(false));
+    differ(&rt, own(true), truth());
+    differ::<SampleSet>(&rt, AttrObj::Unit(UnitAttr::new()), truth());
+}
+
+// Lists differ by their order, and texts by their letters.
+fn parts_are_seen<D: OpSet>(rt: &impl Abort, alloc: Global) -> Result<(), Fail> {
+    let ab: AttrObj<D> = AttrObj::Vec(two_texts(alloc, "a", "b")?);
+    let ba: AttrObj<D> = AttrObj::Vec(two_texts(alloc, "b", "a")?);
+    differ(rt, ab, ba);
+    let a: AttrObj<D> = text(alloc, "a")?;
+    let b: AttrObj<D> = text(alloc, "b")?;
+    differ(rt, a, b);
     Ok(())
 }
 
 #[test]
+fn differs_by_parts(rt: HostRuntime) -> Result<(), Fail> {
+    parts_are_seen::<SampleSet>(&rt, rt.alloc())
+}
+
+// Whether given names are printed once.
+fn names_are_outlined<D: OpSet>(alloc: Global) -> bool {
+    let names: AttrObj<D> = AttrObj::GivenNames(GivenNamesAttr::new(alloc));
+    names.outline()
+}
+
+// Whether the attribute of no information is printed once.
+fn unit_is_outlined<D: OpSet>() -> bool {
+    let unit: AttrObj<D> = AttrObj::Unit(UnitAttr::new());
+    unit.outline()
+}
+
+#[test]
 fn is_outlined(rt: HostRuntime) {
-    let names: Attr = AttrObj::GivenNames(GivenNamesAttr::new(rt.alloc()));
-    assert!(rt; names.outline());
-    let marked: Attr = AttrObj::Own(SampleAttr(true));
-    assert!(rt; marked.outline());
-    let unit: Attr = AttrObj::Unit(UnitAttr::new());
-    assert!(rt; !unit.outline());
+    assert!(rt; names_are_outlined::<SampleSet>(rt.alloc()));
+    assert!(rt; own(true).outline());
+    assert!(rt; !unit_is_outlined::<SampleSet>());
 }
 
 // The names are gone once the list that was lent is cleared.

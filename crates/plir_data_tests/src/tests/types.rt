@@ -3,7 +3,7 @@
 ghost use Rattle.std.specs.Prelude.{◌≡◌, ◌∷◌, [], IfOk};
 
 use plir_data::{
-    FunctionType, FunctionTypeInterface, FunctionTypeMark, IntegerType, Signedness, TypeHandle,
+    FunctionType, FunctionTypeInterface, FunctionTypeMark, IntegerType, OpSet, Signedness, TypeHandle,
     TypeInterfaceMark, TypeMark, TypeObj, TypeStore, TypeTable, TypedHandle, UnitType, type_text,
 };
 use plir_scripts::{SampleSet, SampleType};
@@ -12,8 +12,8 @@ use std::process::Abort;
 use std::test::Fail;
 
 // The handle of an integer type.
-fn integer(
-    table: &mut TypeTable<SampleSet>,
+fn integer<D: OpSet>(
+    table: &mut TypeTable<D>,
     width: u32,
     signedness: Signedness,
 ) -> Result<TypeHandle, Fail> {
@@ -22,10 +22,10 @@ fn integer(
 }
 
 // The handle of the type of functions from one type to another.
-fn function(
+fn function<D: OpSet>(
     rt: &impl Abort,
     alloc: Global,
-    table: &mut TypeTable<SampleSet>,
+    table: &mut TypeTable<D>,
     argument: TypeHandle,
     outcome: TypeHandle,
 ) -> Result<TypeHandle, Fail> {
@@ -55,10 +55,10 @@ fn listed(alloc: Global, handle: TypeHandle) -> Result<Vec<TypeHandle>, AllocErr
 }
 
 // The text of the type of a handle.
-fn has_text(
+fn has_text<D: OpSet>(
     rt: &impl Abort,
     alloc: Global,
-    table: &TypeTable<SampleSet>,
+    table: &TypeTable<D>,
     handle: TypeHandle,
     want: &str,
 ) -> Result<(), Fail> {
@@ -68,9 +68,9 @@ fn has_text(
     Ok(())
 }
 
-#[test]
-fn test_integer_types(rt: HostRuntime) -> Result<(), Fail> {
-    let mut table = TypeTable::new(rt.alloc());
+// Integer types are equal where their widths and their signs are.
+fn integers_are_told_apart<D: OpSet>(rt: &impl Abort, alloc: Global) -> Result<(), Fail> {
+    let mut table: TypeTable<D> = TypeTable::new(alloc);
     assert!(rt; table.is_empty());
     let si32 = integer(&mut table, 32, Signedness::Signed)?;
     let same = integer(&mut table, 32, Signedness::Signed)?;
@@ -85,6 +85,11 @@ fn test_integer_types(rt: HostRuntime) -> Result<(), Fail> {
     Ok(())
 }
 
+#[test]
+fn test_integer_types(rt: HostRuntime) -> Result<(), Fail> {
+    integers_are_told_apart::<SampleSet>(&rt, rt.alloc())
+}
+
 // There is one handle, this one.
 fn is_only(rt: &impl Abort, handles: &[TypeHandle], want: TypeHandle) {
     let [only] = handles else {
@@ -94,9 +99,9 @@ fn is_only(rt: &impl Abort, handles: &[TypeHandle], want: TypeHandle) {
 }
 
 // The handle is of the type of functions from one type to another, and of no integer type.
-fn is_function(
+fn is_function<D: OpSet>(
     rt: &impl Abort,
-    table: &TypeTable<SampleSet>,
+    table: &TypeTable<D>,
     handle: TypeHandle,
     argument: TypeHandle,
     outcome: TypeHandle,
@@ -110,15 +115,19 @@ fn is_function(
     assert!(rt; ty.verify(table) == Ok(()));
 }
 
-#[test]
-fn test_function_types(rt: HostRuntime) -> Result<(), Fail> {
-    let alloc = rt.alloc();
-    let mut table = TypeTable::new(alloc);
+// A type of functions tells its arguments and its results.
+fn functions_tell_their_types<D: OpSet>(rt: &impl Abort, alloc: Global) -> Result<(), Fail> {
+    let mut table: TypeTable<D> = TypeTable::new(alloc);
     let si32 = integer(&mut table, 32, Signedness::Signed)?;
     let si64 = integer(&mut table, 64, Signedness::Signed)?;
-    let handle = function(&rt, alloc, &mut table, si32, si64)?;
-    is_function(&rt, &table, handle, si32, si64);
+    let handle = function(rt, alloc, &mut table, si32, si64)?;
+    is_function(rt, &table, handle, si32, si64);
     Ok(())
+}
+
+#[test]
+fn test_function_types(rt: HostRuntime) -> Result<(), Fail> {
+    functions_tell_their_types::<SampleSet>(&rt, rt.alloc())
 }
 
 // An own type, once more where memory was refused: the table is as it was then.
@@ -153,14 +162,14 @@ fn makes_types_where_memory_is_refused(rt: HostRuntime) -> Result<(), Fail> {
 }
 
 // The text of an integer type.
-fn integer_has_text(
+fn integer_has_text<D: OpSet>(
     rt: &impl Abort,
     alloc: Global,
     width: u32,
     signedness: Signedness,
     want: &str,
 ) -> Result<(), Fail> {
-    let mut table = TypeTable::new(alloc);
+    let mut table: TypeTable<D> = TypeTable::new(alloc);
     let handle = integer(&mut table, width, signedness)?;
     has_text(rt, alloc, &table, handle, want)
 }
@@ -168,20 +177,24 @@ fn integer_has_text(
 #[test]
 fn writes_integer_types_where_memory_is_refused(rt: HostRuntime) -> Result<(), Fail> {
     let alloc = rt.alloc();
-    integer_has_text(&rt, alloc, 32, Signedness::Signed, "builtin.integer si32")?;
-    integer_has_text(&rt, alloc, 8, Signedness::Unsigned, "builtin.integer ui8")?;
-    integer_has_text(&rt, alloc, 0, Signedness::Signless, "builtin.integer i0")
+    integer_has_text::<SampleSet>(&rt, alloc, 32, Signedness::Signed, "builtin.integer si32")?;
+    integer_has_text::<SampleSet>(&rt, alloc, 8, Signedness::Unsigned, "builtin.integer ui8")?;
+    integer_has_text::<SampleSet>(&rt, alloc, 0, Signedness::Signless, "builtin.integer i0")
+}
+
+// The text of a type of functions.
+fn function_has_text<D: OpSet>(rt: &impl Abort, alloc: Global) -> Result<(), Fail> {
+    let mut table: TypeTable<D> = TypeTable::new(alloc);
+    let si32 = integer(&mut table, 32, Signedness::Signed)?;
+    let unit: TypedHandle<UnitType> = again!(UnitType::get(&mut table));
+    let function = function(rt, alloc, &mut table, si32, unit.into())?;
+    let want = "builtin.function <(builtin.integer si32)->(builtin.unit)>";
+    has_text(rt, alloc, &table, function, want)
 }
 
 #[test]
 fn writes_function_types_where_memory_is_refused(rt: HostRuntime) -> Result<(), Fail> {
-    let alloc = rt.alloc();
-    let mut table = TypeTable::new(alloc);
-    let si32 = integer(&mut table, 32, Signedness::Signed)?;
-    let unit: TypedHandle<UnitType> = again!(UnitType::get(&mut table));
-    let function = function(&rt, alloc, &mut table, si32, unit.into())?;
-    let want = "builtin.function <(builtin.integer si32)->(builtin.unit)>";
-    has_text(&rt, alloc, &table, function, want)
+    function_has_text::<SampleSet>(&rt, rt.alloc())
 }
 
 #[test]
@@ -194,14 +207,19 @@ fn writes_own_types_where_memory_is_refused(rt: HostRuntime) -> Result<(), Fail>
     has_text(&rt, alloc, &table, wide, "sample.type wide")
 }
 
-#[test]
-fn marks_types(rt: HostRuntime) -> Result<(), Fail> {
-    let mut table = TypeTable::new(rt.alloc());
+// The marks of a type tell its kind.
+fn integers_are_marked<D: OpSet>(rt: &impl Abort, alloc: Global) -> Result<(), Fail> {
+    let mut table: TypeTable<D> = TypeTable::new(alloc);
     let si32 = integer(&mut table, 32, Signedness::Signed)?;
     assert!(rt; table.is_live(si32));
     let ty = table.get(si32);
-    assert!(rt; <IntegerType as TypeMark<SampleSet>>::project(ty).is_some());
-    assert!(rt; <FunctionType as TypeMark<SampleSet>>::project(ty).is_none());
-    assert!(rt; !<FunctionTypeMark as TypeInterfaceMark<SampleSet>>::is_implemented_by(ty));
+    assert!(rt; <IntegerType as TypeMark<D>>::project(ty).is_some());
+    assert!(rt; <FunctionType as TypeMark<D>>::project(ty).is_none());
+    assert!(rt; !<FunctionTypeMark as TypeInterfaceMark<D>>::is_implemented_by(ty));
     Ok(())
+}
+
+#[test]
+fn marks_types(rt: HostRuntime) -> Result<(), Fail> {
+    integers_are_marked::<SampleSet>(&rt, rt.alloc())
 }

@@ -9,7 +9,7 @@ use plir_text::Fault;
 use std::alloc::Global;
 
 // Reads a text, and once more where it is refused for want of memory.
-fn read_again<D: OpSet>(
+pub(super) fn read_again<D: OpSet>(
     alloc: Global,
     ctx: &mut Context<D>,
     text: &str,
@@ -22,7 +22,7 @@ fn read_again<D: OpSet>(
 }
 
 // The text of an operation, asked for once more where memory is refused.
-fn text_of<D: OpSet>(alloc: Global, ctx: &Context<D>, op: Ptr<Operation>) -> Result<String, Stop> {
+pub(super) fn text_of<D: OpSet>(alloc: Global, ctx: &Context<D>, op: Ptr<Operation>) -> Result<String, Stop> {
     if !op.is_live(ctx) || !is_printable(ctx, op) {
         return Err(Stop::Refused);
     }

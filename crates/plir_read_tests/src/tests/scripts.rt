@@ -90,3 +90,11 @@ fn two_hundred_levels(rt: HostRuntime) -> Result<(), Mismatch> {
         nested 201 | builtin.module @m {^b():· | | } => TooDeep at 1:5001";
     play_in(rt.alloc(), 10_000, script)
 }
+
+#[test]
+fn a_hundred_thousand_functions(rt: HostRuntime) -> Result<(), Mismatch> {
+    let script = "
+        nested 100000 builtin.module @m {^b(): | builtin.func @f: builtin.unit {}; | builtin.func @f: builtin.unit {}} | => read
+        count => 200005";
+    play_in(rt.alloc(), 1_000_000, script)
+}

@@ -109,6 +109,23 @@ fn a_literal_of_a_thousand_digits(rt: HostRuntime) -> Result<(), Mismatch> {
 }
 
 #[test]
+fn a_million_digits_letters_and_attributes(rt: HostRuntime) -> Result<(), Mismatch> {
+    let script = "
+        nested-attr 1000000 builtin.integer < | 7 | : ui64> | => IntegerOutOfRange at 1:18
+        nested-attr 1000000 builtin.integer <- | 0 | 1: si8> | => read
+        nested-attr 1000000 builtin.identifier· | a | | => read
+        nested-attr 1000000 builtin.string \" | é | \" | => read
+        nested-attr 1000000 builtin.string \" | a | | => Unexpected at 1:1000017
+        nested-attr 1000000 builtin.vec [ | builtin.unit, | builtin.unit] | => read
+        nested-attr 1000000 builtin.vec [ | builtin.unit, | builtin.none] | => Unexpected at 1:13000014
+        nested-attr 100000 builtin.dict [ | a = builtin.unit, | a = builtin.unit] | => read
+        nested-attr 1000000 builtin.operand_segment_sizes [ | 4294967295, | 1] | => read
+        nested-attr 1000000 builtin.given_names [ | ?, | x] | => read
+        nested-type 1000000 builtin.function <( | builtin.unit, | builtin.unit)->()> | => read";
+    play_in(rt.alloc(), script)
+}
+
+#[test]
 fn test_integer_attribute_signs(rt: HostRuntime) -> Result<(), Mismatch> {
     let script = "
         attr builtin.integer <18446744073709551615: i64> => builtin.integer <-1: i64>

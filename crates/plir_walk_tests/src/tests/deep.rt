@@ -1,38 +1,19 @@
 //! Walks of a deep tree.
+ghost use Rattle.std.specs.Prelude.{IfSome};
+ghost use Rattle.plir_core.specs.Store.{IsLive};
+
 use super::changes::{Nest, Refusal, make_nest};
 use super::plan::Plan;
 use super::walking::{change, look_at};
-use plir_core::{Context, IRNode, NodeErr, Operation, Ptr};
-use plir_data::OpKind;
+use plir_core::{Context, IRNode, NodeErr};
+use plir_data::{OpKind, OpSet};
 use plir_scripts::SampleSet;
 use plir_walk::{CallLimit, WALKCONFIG_POSTORDER_REVERSE, WALKCONFIG_PREORDER_FORWARD, WalkConfig};
 use std::alloc::Global;
-use std::process::Abort;
 use std::test::Fail;
 
 /// How many modules stand in one another.
 const MODULES: usize = 10_000;
-
-/// Modules that stand in one another: the outermost, and all nodes, each before what is below it.
-#[derive(Drop)]
-struct Deep {
-    ctx: Context<SampleSet>,
-    root: Ptr<Operation>,
-    nodes: Vec<IRNode>,
-}
-
-impl Deep {
-    /// The modules, made from the outermost on.
-    fn new(alloc: Global) -> Result<Self, Refusal> {
-        let mut ctx = Context::new(alloc);
-        let mut nodes = Vec::new(alloc);
-        let outermost = make_nest(alloc, &mut ctx, OpKind::Module, None)?;
-        note(&mut nodes, outermost)?;
-        fill(alloc, &mut ctx, outermost, &mut nodes)?;
-        let root = outermost.op;
-        Ok(Deep { ctx, root, nodes })
-    }
-}
 
 /// Notes an operation, its region and the block in it.
 fn note(nodes: &mut Vec<IRNode>, nest: Nest) -> Result<(), Refusal> {
@@ -45,19 +26,23 @@ fn note(nodes: &mut Vec<IRNode>, nest: Nest) -> Result<(), Refusal> {
     Ok(())
 }
 
-/// Puts the other modules into one another, below `outermost`, and notes their nodes.
-fn fill(
-    alloc: Global,
-    ctx: &mut Context<SampleSet>,
-    outermost: Nest,
-    nodes: &mut Vec<IRNode>,
-) -> Result<(), Refusal> {
-    let mut inner = outermost;
+/// Makes modules that stand in one another; answers all nodes, each before what is below it.
+fn make_modules<D: OpSet>(alloc: Global, ctx: &mut Context<D>) -> Result<Vec<IRNode>, Refusal> {
+    let mut nodes = Vec::new(alloc);
+    let mut inner = make_nest(alloc, ctx, OpKind::Module, None)?;
+    note(&mut nodes, inner)?;
     for _ in 1..MODULES {
         inner = make_nest(alloc, ctx, OpKind::Module, Some(inner.block))?;
-        note(nodes, inner)?;
+        note(&mut nodes, inner)?;
     }
-    Ok(())
+    Ok(nodes)
+}
+
+/// The outermost of some nodes, if it is live.
+fn outermost<D: OpSet>(ctx: &Context<D>, nodes: &[IRNode]) -> Option<IRNode>
+    ensures { IfSome result (IsLive ctx.now) }
+{
+    nodes.first().copied().filter(|node| node.is_live(ctx))
 }
 
 /// A plan with no change, no skip and no break, and so many calls at most.
@@ -70,42 +55,59 @@ fn plain_plan(alloc: Global, limit: u64) -> Plan {
     }
 }
 
-/// A walk of the outermost module calls these nodes.
-fn expect_walk(rt: &impl Abort, alloc: Global, deep: &Deep, config: &WalkConfig, nodes: &[IRNode]) {
+/// Whether a walk from a live node is not broken and calls these nodes.
+fn calls<D: OpSet>(
+    alloc: Global,
+    ctx: &Context<D>,
+    config: &WalkConfig,
+    root: IRNode,
+    nodes: &[IRNode],
+) -> bool
+    requires { IsLive ctx.now root }
+{
     let mut called = Vec::new(alloc);
-    let root = IRNode::Operation(deep.root);
-    assert!(rt; root.is_live(&deep.ctx));
     let plan = plain_plan(alloc, 0);
-    let found = look_at(&deep.ctx, config, root, &plan, &mut called);
-    assert!(rt; found.is_continue());
-    assert_eq!(rt; called.as_slice(), nodes);
+    let found = look_at(ctx, config, root, &plan, &mut called);
+    found.is_continue() && called.as_slice() == nodes
+}
+
+// Whether walks down and up again call all nodes of modules that stand in one another.
+fn walk_down_and_up<D: OpSet>(alloc: Global, ctx: &mut Context<D>) -> Result<bool, Refusal> {
+    let mut nodes = make_modules(alloc, ctx)?;
+    let Some(root) = outermost(ctx, nodes.as_slice()) else {
+        return Ok(false);
+    };
+    let down = calls(alloc, ctx, &WALKCONFIG_PREORDER_FORWARD, root, nodes.as_slice());
+    nodes.reverse();
+    let up = calls(alloc, ctx, &WALKCONFIG_POSTORDER_REVERSE, root, nodes.as_slice());
+    Ok(nodes.len() == 30_000 && down && up)
+}
+
+// Whether a walk with one call less than there are nodes calls all but the last, and says so.
+fn walk_to_the_limit<D: OpSet>(alloc: Global, ctx: &mut Context<D>) -> Result<bool, Refusal> {
+    let nodes = make_modules(alloc, ctx)?;
+    let Some(root) = outermost(ctx, nodes.as_slice()) else {
+        return Ok(false);
+    };
+    let plan = plain_plan(alloc, 29_999);
+    let mut called = Vec::new(alloc);
+    let found = change(alloc, ctx, &WALKCONFIG_PREORDER_FORWARD, root, &plan, &mut called);
+    let ended = matches!(found, Err(CallLimit));
+    Ok(ended && called.len() == 29_999 && nodes.as_slice().starts_with(called.as_slice()))
 }
 
 #[test]
 fn a_walk_is_as_deep_as_its_tree(rt: HostRuntime) -> Result<(), Fail> {
     let alloc = rt.alloc();
-    let mut deep = Deep::new(alloc)?;
-    assert_eq!(rt; deep.nodes.len(), 30_000);
-    let config = WALKCONFIG_PREORDER_FORWARD;
-    expect_walk(&rt, alloc, &deep, &config, deep.nodes.as_slice());
-    deep.nodes.reverse();
-    let config = WALKCONFIG_POSTORDER_REVERSE;
-    expect_walk(&rt, alloc, &deep, &config, deep.nodes.as_slice());
+    let mut ctx: Context<SampleSet> = Context::new(alloc);
+    assert!(rt; walk_down_and_up(alloc, &mut ctx)?);
     Ok(())
 }
 
 #[test]
 fn a_deep_walk_ends_at_its_limit(rt: HostRuntime) -> Result<(), Fail> {
     let alloc = rt.alloc();
-    let mut deep = Deep::new(alloc)?;
-    let root = IRNode::Operation(deep.root);
-    assert!(rt; root.is_live(&deep.ctx));
-    let plan = plain_plan(alloc, 29_999);
-    let config = WALKCONFIG_PREORDER_FORWARD;
-    let mut called = Vec::new(alloc);
-    let found = change(alloc, &mut deep.ctx, &config, root, &plan, &mut called);
-    assert!(rt; matches!(found, Err(CallLimit)));
-    assert_eq!(rt; called.len(), 29_999);
-    assert!(rt; deep.nodes.as_slice().starts_with(called.as_slice()));
+    let mut ctx: Context<SampleSet> = Context::new(alloc);
+    assert!(rt; walk_to_the_limit(alloc, &mut ctx)?);
     Ok(())
 }
