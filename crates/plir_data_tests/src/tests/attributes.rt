@@ -139,9 +139,13 @@ fn copies_texts_and_lists_where_memory_is_refused(rt: HostRuntime) -> Result<(),
     let name = AttrObj::Identifier(IdentifierAttr::new(name));
     copies(&rt, alloc, name, "builtin.identifier")?;
     copies(&rt, alloc, text(alloc, "text")?, "builtin.string")?;
-    let list = AttrObj::Vec(two_texts(alloc, "a", "b")?);
-    copies(&rt, alloc, list, "builtin.vec")?;
-    Ok(())
+    let list = two_texts(alloc, "a", "b")?;
+    let copy = again!(list.try_clone(alloc));
+    are_texts(&rt, copy.0.as_slice(), "a", "b");
+    copies(&rt, alloc, AttrObj::Vec(list), "builtin.vec")?;
+    let sizes = OperandSegmentSizesAttr(again!(Vec::from_slice(alloc, &[1, 2, 3])));
+    let sizes = AttrObj::OperandSegmentSizes(sizes);
+    copies(&rt, alloc, sizes, "builtin.operand_segment_sizes")
 }
 
 // Two attributes differ, either way.

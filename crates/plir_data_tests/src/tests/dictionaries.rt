@@ -128,6 +128,14 @@ fn test_dictionary_attributes(rt: HostRuntime) -> Result<(), Fail> {
     stay_equal(&rt, alloc)
 }
 
+#[test]
+fn puts_texts_under_themselves_where_memory_is_refused(rt: HostRuntime) -> Result<(), Fail> {
+    let alloc = rt.alloc();
+    let dict = two_texts(&rt, alloc, "hello", "world")?;
+    is_under_itself(&rt, alloc, &dict, "hello")?;
+    is_under_itself(&rt, alloc, &dict, "world")
+}
+
 // The pairs of `b` with true, `a` with nothing, and `b` with false.
 fn repeated(alloc: Global) -> Result<Vec<(Identifier, AttrObj<SampleSet>)>, Fail> {
     let mut pairs = again!(Vec::with_capacity(alloc, 3));
