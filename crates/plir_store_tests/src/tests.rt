@@ -78,6 +78,34 @@ fn add_child(rt: &impl Abort, chains: &mut Chains) -> Result<(), Fail> {
     Ok(())
 }
 
+// One more list and one more child if they are needed, each once more where memory was refused.
+fn add_if(rt: &impl Abort, chains: &mut Chains, needed: bool) -> Result<(), Fail> {
+    let before = chains.num_lists();
+    assert!(rt; before < 100);
+    if chains.add_list_if(needed).is_err() {
+        assert_eq!(rt; chains.num_lists(), before);
+        chains.add_list_if(needed)?;
+    }
+    let before = chains.num_children();
+    assert!(rt; before < 100);
+    if chains.add_child_if(needed).is_err() {
+        assert_eq!(rt; chains.num_children(), before);
+        chains.add_child_if(needed)?;
+    }
+    Ok(())
+}
+
+#[test]
+fn adds_what_is_needed_where_memory_is_refused(rt: HostRuntime) -> Result<(), Fail> {
+    let mut chains = Chains::new(rt.alloc());
+    add_if(&rt, &mut chains, false)?;
+    assert_eq!(rt; (chains.num_lists(), chains.num_children()), (0, 0));
+    add_if(&rt, &mut chains, true)?;
+    add_if(&rt, &mut chains, true)?;
+    assert_eq!(rt; (chains.num_lists(), chains.num_children()), (2, 2));
+    Ok(())
+}
+
 // The list has these children, read from its start, and from its end.
 fn reads_on(rt: &impl Abort, chains: &Chains, list: u32, want: &[u32]) {
     assert!(rt; (list as usize) < chains.num_lists());

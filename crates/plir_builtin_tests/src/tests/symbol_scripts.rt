@@ -261,10 +261,14 @@ fn tables_and_operations_where_memory_is_refused(rt: HostRuntime) -> Result<(), 
         session insert o0 o1; insert o0 o5; lookup o0 f; nearest o1 k; remove o0 o1; lookup o0 f; erase o0 o5; lookup o0 k => done; done; o1; o5; done; -; done; -;
         lookup o0 f => -
         nearest-lookup o0 f => -
-        edits
+        edits insert o0 o1 => done;
+        lookup o0 f => o1
+        edits remove o0 o1 => done;
+        lookup o0 f => -
         declared o0 => holds
         declared o1 => holds
         declared o2 => holds
+        rule o4 => op5v1_res0 is a temporary Op during parsing. It must not exit in a well-formed program.
         declared o4 => op5v1_res0 is a temporary Op during parsing. It must not exit in a well-formed program.
         rule o3 => holds
         right o0 => holds
@@ -274,8 +278,10 @@ fn tables_and_operations_where_memory_is_refused(rt: HostRuntime) -> Result<(), 
         back o6 b0
         table o0 => Symbol redefined: f
         right o0 => Multiple definitions of Symbol f
+        declared o0 => Multiple definitions of Symbol f
         take o2 builtin_constant_value => builtin.integer
         set o2 builtin_constant_value builtin.integer <0: si32>
-        rule o2 => The value attribute is of type builtin.integer si32, but the constant is of type builtin.integer si64";
+        rule o2 => The value attribute is of type builtin.integer si32, but the constant is of type builtin.integer si64
+        declared o2 => The value attribute is of type builtin.integer si32, but the constant is of type builtin.integer si64";
     play_in(rt.alloc(), 100, script)
 }

@@ -78,7 +78,7 @@ fn edit<D: OpSet>(bench: &mut Bench<D>, line: Line<'_>) -> Result<(), Stop> {
     }
     let replies = make_edits(bench.alloc, &mut bench.ctx, edits)?;
     for reply in &replies {
-        put_reply(&mut bench.answer, reply);
+        put_reply(&mut bench.answer, reply)?;
     }
     Ok(())
 }
@@ -129,15 +129,17 @@ fn point_of(made: &Made, words: &str) -> Result<Option<OpInsertionPoint>, Stop> 
     }
 }
 
-fn put_reply(answer: &mut Answer, reply: &Result<(), SymbolEditErr>) {
+fn put_reply(answer: &mut Answer, reply: &Result<(), SymbolEditErr>) -> Result<(), Stop> {
     match reply {
         Ok(()) => answer.put(" done;"),
+        Err(SymbolEditErr::Table(SymbolTableErr::Memory)) => return Err(Stop::Memory),
         Err(refused) => {
             answer.put(" ");
             answer.put_shown(refused);
             answer.put(";");
         }
     }
+    Ok(())
 }
 
 fn hand<D: OpSet>(bench: &mut Bench<D>, line: Line<'_>) -> Result<(), Stop> {

@@ -147,8 +147,23 @@ fn copies_whole<D: OpSet>(rt: &impl Abort, alloc: Global) -> Result<(), Fail> {
     copies(rt, alloc, name, "builtin.identifier")?;
     let one: AttrObj<D> = text(alloc, "text")?;
     copies(rt, alloc, one, "builtin.string")?;
-    let list: AttrObj<D> = AttrObj::Vec(two_texts(alloc, "a", "b")?);
-    copies(rt, alloc, list, "builtin.vec")
+    copies_list::<D>(rt, alloc)?;
+    copies_sizes::<D>(rt, alloc)
+}
+
+// A list is copied, by itself and as an attribute.
+fn copies_list<D: OpSet>(rt: &impl Abort, alloc: Global) -> Result<(), Fail> {
+    let list: VecAttr<D> = two_texts(alloc, "a", "b")?;
+    let copy = again!(list.try_clone(alloc));
+    are_texts(rt, copy.0.as_slice(), "a", "b");
+    copies(rt, alloc, AttrObj::Vec(list), "builtin.vec")
+}
+
+// Sizes of segments are copied.
+fn copies_sizes<D: OpSet>(rt: &impl Abort, alloc: Global) -> Result<(), Fail> {
+    let sizes = OperandSegmentSizesAttr(again!(Vec::from_slice(alloc, &[1, 2, 3])));
+    let sizes: AttrObj<D> = AttrObj::OperandSegmentSizes(sizes);
+    copies(rt, alloc, sizes, "builtin.operand_segment_sizes")
 }
 
 #[test]

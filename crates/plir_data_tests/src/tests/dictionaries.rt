@@ -132,6 +132,11 @@ fn test_dictionary_attributes(rt: HostRuntime) -> Result<(), Fail> {
     stay_equal::<SampleSet>(&rt, rt.alloc())
 }
 
+#[test]
+fn puts_texts_under_themselves_where_memory_is_refused(rt: HostRuntime) -> Result<(), Fail> {
+    are_found::<SampleSet>(&rt, rt.alloc())
+}
+
 // The pairs of `b` with true, `a` with nothing, and `b` with false.
 fn repeated<D: OpSet>(alloc: Global) -> Result<Vec<(Identifier, AttrObj<D>)>, Fail> {
     let mut pairs = again!(Vec::with_capacity(alloc, 3));

@@ -2,6 +2,7 @@
 
 ghost use Rattle.std.specs.Prelude.{◌≡◌, ◌∷◌, [], IfOk};
 
+use plir_data::put::{put, put_comma, put_spaced};
 use plir_data::{
     FunctionType, FunctionTypeInterface, FunctionTypeMark, IntegerType, OpSet, Signedness, TypeHandle,
     TypeInterfaceMark, TypeMark, TypeObj, TypeStore, TypeTable, TypedHandle, UnitType, type_text,
@@ -205,6 +206,24 @@ fn writes_own_types_where_memory_is_refused(rt: HostRuntime) -> Result<(), Fail>
     has_text(&rt, alloc, &table, narrow, "sample.type")?;
     let wide = own(&rt, &mut table, true)?;
     has_text(&rt, alloc, &table, wide, "sample.type wide")
+}
+
+// Each part is put behind nothing, so that it needs room.
+#[test]
+fn puts_parts_of_texts_where_memory_is_refused(rt: HostRuntime) -> Result<(), Fail> {
+    let alloc = rt.alloc();
+    let mut out = String::new(alloc);
+    again!(put(&mut out, "a"));
+    assert_eq!(rt; out.as_str(), "a");
+    let mut out = String::new(alloc);
+    again!(put_comma(&mut out, true));
+    again!(put_comma(&mut out, false));
+    assert_eq!(rt; out.as_str(), ", ");
+    let mut out = String::new(alloc);
+    again!(put_spaced(&mut out, ""));
+    again!(put_spaced(&mut out, "a"));
+    assert_eq!(rt; out.as_str(), " a");
+    Ok(())
 }
 
 // The marks of a type tell its kind.

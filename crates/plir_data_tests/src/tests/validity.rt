@@ -142,6 +142,35 @@ fn tells_own_refusals_where_memory_is_refused(rt: HostRuntime) {
     }
 }
 
+// The verdict on a list, each of whose attributes names types of the table.
+fn verdict_on_items(
+    rt: &impl Abort,
+    alloc: Global,
+    table: &TypeTable<SampleSet>,
+    list: &VecAttr<SampleSet>,
+) -> Verdict {
+    assert!(rt; list.is_live(table));
+    list.verify(alloc, table)
+}
+
+#[test]
+fn tells_the_refusal_in_a_list_where_memory_is_refused(rt: HostRuntime) -> Result<(), Fail> {
+    let alloc = rt.alloc();
+    let table = TypeTable::new(alloc);
+    let mut items = again!(Vec::with_capacity(alloc, 2));
+    items.push(AttrObj::Own(SampleAttr(true)))?;
+    items.push(AttrObj::Own(SampleAttr(false)))?;
+    let list = VecAttr::new(items);
+    let not_marked = refused(AttrVerifyErr::Own(NotMarked));
+    let verdict = verdict_on_items(&rt, alloc, &table, &list);
+    if verdict == Err(VerifyErr::Memory) {
+        assert!(rt; verdict_on_items(&rt, alloc, &table, &list) == not_marked);
+    } else {
+        assert!(rt; verdict == not_marked);
+    }
+    Ok(())
+}
+
 // A verdict is told with this text.
 fn is_told(rt: &impl Abort, alloc: Global, verdict: Verdict, told: &str) -> Result<(), Fail> {
     let mut text = String::new(alloc);

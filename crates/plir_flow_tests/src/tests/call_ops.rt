@@ -35,13 +35,17 @@ impl CallOpInterface<SampleSet> for ValueCall {
 
     ghost arguments = { λ o s. (1, length (operands_of s o.op)) };
 
+    // A refusal takes memory here, for a text that isn't used.
     fn verify_call_layout(
         &self,
-        _alloc: Global,
+        alloc: Global,
         ctx: &Context<SampleSet>,
     ) -> Result<(), VerifyErr<NotMarked>> {
         if self.op.get_num_operands(ctx) > 0 {
             return Ok(());
+        }
+        if String::from_str(alloc, "not marked").is_err() {
+            return Err(VerifyErr::Memory);
         }
         Err(VerifyErr::Refused {
             loc: self.op.loc(ctx),

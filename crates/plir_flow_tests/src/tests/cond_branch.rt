@@ -52,14 +52,18 @@ impl BranchOpInterface<SampleSet> for CondBranch {
 
     ghost forwards = { λ o s i. segment_places s o.op (i + 1) };
 
+    // A refusal takes memory here, for a text that isn't used.
     fn verify_successor_operand_layout(
         &self,
-        _alloc: Global,
+        alloc: Global,
         ctx: &Context<SampleSet>,
     ) -> Result<(), VerifyErr<NotMarked>> {
         let has_segments = OperandSegmentInterface::<SampleSet>::verify(self, ctx).is_ok();
         if has_segments && self.op.get_num_successors(ctx) == 2 {
             return Ok(());
+        }
+        if String::from_str(alloc, "not marked").is_err() {
+            return Err(VerifyErr::Memory);
         }
         Err(VerifyErr::Refused {
             loc: self.op.loc(ctx),

@@ -137,13 +137,17 @@ impl RegionBranchOpInterface<SampleSet> for Edged<'_> {
 
     ghost edges = { λ o _. o.edges.now };
 
+    // A refusal takes memory here, for a text that isn't used.
     fn verify_region_edges_layout(
         &self,
-        _alloc: Global,
+        alloc: Global,
         ctx: &Context<SampleSet>,
     ) -> Result<(), VerifyErr<NotMarked>> {
         if are_edges_live(ctx, self.edges) {
             return Ok(());
+        }
+        if String::from_str(alloc, "not marked").is_err() {
+            return Err(VerifyErr::Memory);
         }
         Err(VerifyErr::Refused {
             loc: self.op.loc(ctx),

@@ -8,7 +8,7 @@ use super::edged::Edged;
 use super::grouping::{put_values, put_verdict};
 use super::looping::Loop;
 use plir_core::{Context, Ptr, Region, Use, Value};
-use plir_flow::{RegionBranchOpInterface, RegionBranchPoint, RegionEdge, RegionSuccessor};
+use plir_flow::{RegionBranchOpInterface, RegionBranchPoint, RegionEdge, RegionSuccessor, laws};
 use plir_scripts::{Answer, Made, SampleSet, Stop};
 use std::alloc::Global;
 
@@ -86,6 +86,7 @@ pub fn ask_region(
         "reached" => answer.put_number(op.reachable_regions(alloc, ctx, region)?.len()),
         "reachable" => put_regions(made, answer, &op.reachable_regions(alloc, ctx, region)?),
         "repetitive" => answer.put_truth(op.is_repetitive_region(alloc, ctx, region)?),
+        "cycle" => answer.put_truth(laws::repetitive_is_on_a_cycle(alloc, ctx, op, region)?),
         "successors" => put_regions(made, answer, &op.successor_regions(alloc, ctx, region)?),
         _ => put_uses(
             made,

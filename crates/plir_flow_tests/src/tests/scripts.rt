@@ -139,7 +139,15 @@ fn segments_are_edited_where_memory_is_refused(rt: HostRuntime) -> Result<(), Mi
         pop o1 1 => refused
         pop o1 3 => refused
         again o1 0 o0.3 => o0.3
-        held o1 => o0.0 o0.1 o0.2 / 2 0 1";
+        held o1 => o0.0 o0.1 o0.2 / 2 0 1
+        op constant 0 => o2
+        sizes o2 0 0
+        push o2 1 o0.3 => 0
+        held o2 => o0.3 / 0 1
+        op constant 0 => o3
+        sizes o3 0
+        again o3 0 o0.3 => o0.3
+        held o3 => / 0";
     play::<SampleSet, SegmentCalls>(rt.alloc(), 100, script)
 }
 
@@ -161,7 +169,11 @@ fn values_come_into_segments_where_memory_is_refused(rt: HostRuntime) -> Result<
         into o1 0 0 o0.0
         held o1 => o0.0 o0.1 o0.0 o0.0 / 3 1
         from o1 0 1 => o0.1
-        held o1 => o0.0 o0.0 o0.0 / 2 1";
+        held o1 => o0.0 o0.0 o0.0 / 2 1
+        op constant 0 => o2
+        sizes o2 0 0
+        into o2 1 0 o0.1
+        held o2 => o0.1 / 0 1";
     play::<SampleSet, SegmentCalls>(rt.alloc(), 100, script)
 }
 
@@ -289,7 +301,11 @@ fn values_are_forwarded_where_memory_is_refused(rt: HostRuntime) -> Result<(), M
         held o1 => o0.0 o0.3 / 1 1 0
         reset o1 0 1 o0.1 => refused
         reset o1 0 0 o0.1
-        held o1 => o0.0 o0.1 / 1 1 0";
+        held o1 => o0.0 o0.1 / 1 1 0
+        op yield 0 > b0 b1 => o2
+        sizes o2 0 0 0
+        add o2 1 o0.3 => 0
+        held o2 => o0.3 / 0 0 1";
     play::<SampleSet, BranchCalls>(rt.alloc(), 100, script)
 }
 

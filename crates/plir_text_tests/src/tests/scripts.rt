@@ -226,7 +226,8 @@ fn attributes_are_read_and_printed_where_memory_is_refused(
     let script = "
         attr builtin.dict [a = builtin.string \"b\\n\", c = builtin.vec [builtin.integer <-1: si8>], d = builtin.given_names [x, ?]] => builtin.dict [a = builtin.string \"b\\n\", c = builtin.vec [builtin.integer <-1: si8>], d = builtin.given_names [x, ?]]
         text t0 => refused
-        type builtin.integer si8 => t0";
+        type builtin.integer si8 => t0
+        attr builtin.operand_segment_sizes [1,2] => builtin.operand_segment_sizes [1, 2]";
     play_in(rt.alloc(), script)
 }
 

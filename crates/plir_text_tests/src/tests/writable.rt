@@ -7,6 +7,7 @@ use plir_data::{
 use plir_scripts::{SampleAttr, SampleSet, SampleType};
 use plir_text::laws::attr_is_read_back;
 use plir_text::{is_within_levels, is_writable, print_attr, read_attr};
+use std::alloc::Global;
 use std::process::Abort;
 use std::test::Fail;
 
@@ -73,4 +74,29 @@ fn own_attributes_and_types_have_texts(rt: HostRuntime) -> Result<(), Fail> {
         assert_eq!(&rt; text.as_str(), want);
     }
     Ok(())
+}
+
+// The text of an attribute of this op set's own, asked for once more where memory was refused.
+fn own_has_text(
+    rt: &impl Abort,
+    alloc: Global,
+    table: &Table,
+    is_marked: bool,
+    want: &str,
+) -> Result<(), Fail> {
+    let attr: Attr = AttrObj::Own(SampleAttr(is_marked));
+    let text = match print_attr(alloc, table, &attr) {
+        Ok(text) => text,
+        Err(_) => print_attr(alloc, table, &attr)?,
+    };
+    assert_eq!(rt; text.as_str(), want);
+    Ok(())
+}
+
+#[test]
+fn own_attributes_are_printed_where_memory_is_refused(rt: HostRuntime) -> Result<(), Fail> {
+    let alloc = rt.alloc();
+    let table: Table = TypeTable::new(alloc);
+    own_has_text(&rt, alloc, &table, true, "sample.attr marked")?;
+    own_has_text(&rt, alloc, &table, false, "sample.attr")
 }

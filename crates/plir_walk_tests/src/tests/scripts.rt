@@ -547,7 +547,20 @@ fn names_stay_where_memory_is_refused(rt: HostRuntime) -> Result<(), Mismatch> {
         set-name o0 2 c
         names o0 => a - c -
         insert-name o0 1 b
-        names o0 => a b - c";
+        names o0 => a b - c
+        block - t0 t0 t0 => b0
+        set-name b0 0 a
+        names b0 => a - - -
+        set-name b0 2 c
+        names b0 => a - c -
+        insert-name b0 1 b
+        names b0 => a b - c
+        op plain 0 t0 => o1
+        insert-name o1 0 x
+        names o1 => x - - -
+        block - t0 => b1
+        insert-name b1 0 x
+        names b1 => x - - -";
     play_in(rt.alloc(), script)
 }
 
