@@ -171,36 +171,22 @@ fn keeps_the_last_of_a_repeated_key_where_memory_is_refused(rt: HostRuntime) -> 
     keeps_the_last::<SampleSet>(&rt, rt.alloc())
 }
 
-// Puts a text under itself into a dictionary without attributes, once more where memory was refused.
-fn put_first<D: OpSet>(
-    rt: &impl Abort,
-    alloc: Global,
-    dict: &mut AttributeDict<D>,
-    key: &str,
-) -> Result<(), Fail> {
-    assert!(rt; dict.is_empty());
-    if dict.insert(name(alloc, key)?, text(alloc, key)?).is_err() {
-        assert!(rt; dict.is_empty());
-        dict.insert(name(alloc, key)?, text(alloc, key)?)?;
-    }
-    Ok(())
-}
-
-// What is put in is taken out, and nothing else.
-fn takes_out<D: OpSet>(rt: &impl Abort, alloc: Global) -> Result<(), Fail> {
-    let mut dict: AttributeDict<D> = AttributeDict::new(alloc);
-    put_first(rt, alloc, &mut dict, "a")?;
-    assert_eq!(rt; dict.len(), 1);
-    assert!(rt; dict.remove("b").is_none());
-    let taken = dict.remove("a").expect(rt, "the key is there");
-    is_text(rt, &taken, "a");
-    assert!(rt; dict.is_empty());
-    Ok(())
-}
-
 #[test]
 fn takes_entries_out_where_memory_is_refused(rt: HostRuntime) -> Result<(), Fail> {
-    takes_out::<SampleSet>(&rt, rt.alloc())
+    let alloc = rt.alloc();
+    let mut dict: AttributeDict<SampleSet> = AttributeDict::new(alloc);
+    assert!(rt; dict.is_empty());
+    let key = name(alloc, "a")?;
+    if dict.insert(key, text(alloc, "a")?).is_err() {
+        assert!(rt; dict.is_empty());
+        dict.insert(name(alloc, "a")?, text(alloc, "a")?)?;
+    }
+    assert_eq!(rt; dict.len(), 1);
+    assert!(rt; dict.remove("b").is_none());
+    let taken = dict.remove("a").expect(&rt, "the key is there");
+    is_text(&rt, &taken, "a");
+    assert!(rt; dict.is_empty());
+    Ok(())
 }
 
 // Where the key is there, its attribute becomes the one of no information; else nothing changes.

@@ -4,8 +4,9 @@ ghost use Rattle.std.specs.Prelude.{◌≡◌, ◌∷◌, [], IfOk};
 
 use plir_data::put::{put, put_comma, put_spaced};
 use plir_data::{
-    FunctionType, FunctionTypeInterface, FunctionTypeMark, IntegerType, OpSet, Signedness, TypeHandle,
-    TypeInterfaceMark, TypeMark, TypeObj, TypeStore, TypeTable, TypedHandle, UnitType, type_text,
+    FunctionType, FunctionTypeInterface, FunctionTypeMark, IntegerType, OpSet, Signedness,
+    TypeHandle, TypeInterfaceMark, TypeMark, TypeObj, TypeStore, TypeTable, TypedHandle, UnitType,
+    type_text,
 };
 use plir_scripts::{SampleSet, SampleType};
 use std::alloc::{AllocError, Global};

@@ -153,21 +153,32 @@ fn verdict_on_items(
     list.verify(alloc, table)
 }
 
-#[test]
-fn tells_the_refusal_in_a_list_where_memory_is_refused(rt: HostRuntime) -> Result<(), Fail> {
-    let alloc = rt.alloc();
+// The same, once more where memory was refused.
+fn verdict_again(
+    rt: &impl Abort,
+    alloc: Global,
+    table: &TypeTable<SampleSet>,
+    list: &VecAttr<SampleSet>,
+) -> Verdict {
+    match verdict_on_items(rt, alloc, table, list) {
+        Err(VerifyErr::Memory) => verdict_on_items(rt, alloc, table, list),
+        verdict => verdict,
+    }
+}
+
+// The verdict on a list of an own attribute that is marked and one that isn't.
+fn verdict_on_own_ones(rt: &impl Abort, alloc: Global) -> Result<Verdict, Fail> {
     let table = TypeTable::new(alloc);
     let mut items = again!(Vec::with_capacity(alloc, 2));
     items.push(AttrObj::Own(SampleAttr(true)))?;
     items.push(AttrObj::Own(SampleAttr(false)))?;
-    let list = VecAttr::new(items);
-    let not_marked = refused(AttrVerifyErr::Own(NotMarked));
-    let verdict = verdict_on_items(&rt, alloc, &table, &list);
-    if verdict == Err(VerifyErr::Memory) {
-        assert!(rt; verdict_on_items(&rt, alloc, &table, &list) == not_marked);
-    } else {
-        assert!(rt; verdict == not_marked);
-    }
+    Ok(verdict_again(rt, alloc, &table, &VecAttr::new(items)))
+}
+
+#[test]
+fn tells_the_refusal_in_a_list_where_memory_is_refused(rt: HostRuntime) -> Result<(), Fail> {
+    let verdict = verdict_on_own_ones(&rt, rt.alloc())?;
+    assert!(rt; verdict == refused(AttrVerifyErr::Own(NotMarked)));
     Ok(())
 }
 

@@ -19,8 +19,38 @@ const GOOD: [&'static str; 6] = [
 
 /// Words and signs of texts, and some that belong in none.
 const WORDS: [&'static str; 32] = [
-    "builtin", ".", "module", "func", "constant", "function", "integer", "unit", "dict", "vec", "string", "si32", " ", "@", "m",
-    "^b", "(", ")", "{", "}", "[", "]", "<", ">", "->", ":", ";", ",", "=", "\"", "\\u{", "99999999999999999999",
+    "builtin",
+    ".",
+    "module",
+    "func",
+    "constant",
+    "function",
+    "integer",
+    "unit",
+    "dict",
+    "vec",
+    "string",
+    "si32",
+    " ",
+    "@",
+    "m",
+    "^b",
+    "(",
+    ")",
+    "{",
+    "}",
+    "[",
+    "]",
+    "<",
+    ">",
+    "->",
+    ":",
+    ";",
+    ",",
+    "=",
+    "\"",
+    "\\u{",
+    "99999999999999999999",
 ];
 
 /// A fixed sequence of numbers, each from the one before by a product and a sum.
@@ -59,8 +89,12 @@ fn any_words(alloc: Global, numbers: &mut Sequence) -> Result<String, Stop> {
 // A good text in which up to three characters have made room for a word.
 fn changed(alloc: Global, numbers: &mut Sequence) -> Result<String, Stop> {
     let good = numbers.pick(&GOOD);
-    let (front, rest) = good.split_at_checked(numbers.below(good.len())).ok_or(Stop::Refused)?;
-    let (_, back) = rest.split_at_checked(numbers.below(4)).unwrap_or(("", rest));
+    let (front, rest) = good
+        .split_at_checked(numbers.below(good.len()))
+        .ok_or(Stop::Refused)?;
+    let (_, back) = rest
+        .split_at_checked(numbers.below(4))
+        .unwrap_or(("", rest));
     let mut text = String::from_str(alloc, front)?;
     text.push_str(numbers.pick(&WORDS))?;
     text.push_str(back)?;
@@ -92,7 +126,11 @@ fn read_each<D: OpSet>(alloc: Global, ctx: &mut Context<D>, text: &str, seen: &m
 
 // Hands a thousand texts to each reader; answers whether some were read, some refused, and an older operation has the text that it had.
 fn read_thousand<D: OpSet>(alloc: Global, ctx: &mut Context<D>, seed: u64) -> Result<bool, Stop> {
-    let older = read_again(alloc, ctx, "c = builtin.constant <builtin.string \"k\"> : builtin.unit")?;
+    let older = read_again(
+        alloc,
+        ctx,
+        "c = builtin.constant <builtin.string \"k\"> : builtin.unit",
+    )?;
     let before = text_of(alloc, ctx, older)?;
     let mut numbers = Sequence { last: seed };
     let mut seen = Seen {

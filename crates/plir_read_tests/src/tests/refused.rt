@@ -22,7 +22,11 @@ pub(super) fn read_again<D: OpSet>(
 }
 
 // The text of an operation, asked for once more where memory is refused.
-pub(super) fn text_of<D: OpSet>(alloc: Global, ctx: &Context<D>, op: Ptr<Operation>) -> Result<String, Stop> {
+pub(super) fn text_of<D: OpSet>(
+    alloc: Global,
+    ctx: &Context<D>,
+    op: Ptr<Operation>,
+) -> Result<String, Stop> {
     if !op.is_live(ctx) || !is_printable(ctx, op) {
         return Err(Stop::Refused);
     }

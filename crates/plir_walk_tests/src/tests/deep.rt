@@ -77,9 +77,21 @@ fn walk_down_and_up<D: OpSet>(alloc: Global, ctx: &mut Context<D>) -> Result<boo
     let Some(root) = outermost(ctx, nodes.as_slice()) else {
         return Ok(false);
     };
-    let down = calls(alloc, ctx, &WALKCONFIG_PREORDER_FORWARD, root, nodes.as_slice());
+    let down = calls(
+        alloc,
+        ctx,
+        &WALKCONFIG_PREORDER_FORWARD,
+        root,
+        nodes.as_slice(),
+    );
     nodes.reverse();
-    let up = calls(alloc, ctx, &WALKCONFIG_POSTORDER_REVERSE, root, nodes.as_slice());
+    let up = calls(
+        alloc,
+        ctx,
+        &WALKCONFIG_POSTORDER_REVERSE,
+        root,
+        nodes.as_slice(),
+    );
     Ok(nodes.len() == 30_000 && down && up)
 }
 
@@ -91,7 +103,14 @@ fn walk_to_the_limit<D: OpSet>(alloc: Global, ctx: &mut Context<D>) -> Result<bo
     };
     let plan = plain_plan(alloc, 29_999);
     let mut called = Vec::new(alloc);
-    let found = change(alloc, ctx, &WALKCONFIG_PREORDER_FORWARD, root, &plan, &mut called);
+    let found = change(
+        alloc,
+        ctx,
+        &WALKCONFIG_PREORDER_FORWARD,
+        root,
+        &plan,
+        &mut called,
+    );
     let ended = matches!(found, Err(CallLimit));
     Ok(ended && called.len() == 29_999 && nodes.as_slice().starts_with(called.as_slice()))
 }

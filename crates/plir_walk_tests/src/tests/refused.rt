@@ -78,7 +78,14 @@ fn append_in_walk<D: OpSet>(alloc: Global, ctx: &mut Context<D>, nest: Nest) -> 
         return false;
     }
     let mut called = Vec::new(alloc);
-    let answer = change(alloc, ctx, &WALKCONFIG_PREORDER_FORWARD, root, &plan, &mut called);
+    let answer = change(
+        alloc,
+        ctx,
+        &WALKCONFIG_PREORDER_FORWARD,
+        root,
+        &plan,
+        &mut called,
+    );
     if !nest.block.is_live(ctx) {
         return false;
     }

@@ -6,5 +6,5 @@ use Rattle.plir_data.specs.declared.attributes.AttrObj.{AttrObj}
 use Rattle.plir_data_tests.proofs.tests.dictionaries.put_unit.Goals as goal
 
 pub returns-in-Some-clause-found : goal.returns-in-Some-clause-found
-returns-in-Some-clause-found c = λ there.
+returns-in-Some-clause-found g c = λ there.
     subst (λ r. OnSome r (c.lookup_mut.follows.lender (AttrObj.Unit c.new.result) ≡ dict_put c.args.dict.now c.args.key.now (leaf unit))) c.in-Some.is (c.lookup_mut.follows.holds (AttrObj.Unit c.new.result))
