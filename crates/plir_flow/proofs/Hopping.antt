@@ -13,7 +13,7 @@ use Rattle.plir_core.specs.NodeLists.{Has}
 use Rattle.plir_flow.specs.declared.hops.Hop.{Hop}
 use Rattle.plir_core.specs.Store.{Store}
 use Rattle.plir_flow.specs.declared.edge_ends.RegionSuccessor.TheVariants.{Region as ToRegion}
-use Rattle.plir_flow.specs.RegionEdges.{EdgeView, IsFromRegion, IsStep}
+use Rattle.plir_flow.specs.RegionEdges.{EdgeView, IsFromRegion, IsStep, IsStepOn}
 use Rattle.plir_flow.specs.Hops.{IsHop, IsNoneFrom, IsLatest, AreLinked, AreHeads, IsReachedMore}
 use Rattle.plir_flow.proofs.TakenLists.{has-left, has-last, has-more, distinct-push, any-has}
 
@@ -190,14 +190,14 @@ module _ (hops : List Hop) (r : Ptr RegionKind) where
 
 -- an edge more
 module _ {K A T : Type 0} (s : Store K A T) (es : List EdgeView) (e : EdgeView) (a b : Ptr RegionKind) where
-  pub steps-more : (IsStep s es a b ⊎ (IsFromRegion s a e × (e.to ≡ ToRegion b))) ↔ IsStep s (es ++ e ∷ []) a b
+  pub steps-more : (IsStep s es a b ⊎ IsStepOn s e a b) ↔ IsStep s (es ++ e ∷ []) a b
   steps-more = (
     λ h. elim h [
-      | inl (d, (here, from, to)) ↦ (d, (has-left es (e ∷ []) d here, from, to))
-      | inr (from, to) ↦ (e, (has-last es e, from, to))
+      | inl (d, (here, (from, to))) ↦ (d, (has-left es (e ∷ []) d here, (from, to)))
+      | inr (from, to) ↦ (e, (has-last es e, (from, to)))
     ],
-    λ (d, (here, from, to)). elim (has-more es e d here) [
-      | inl before ↦ inl (d, (before, from, to))
+    λ (d, (here, (from, to))). elim (has-more es e d here) [
+      | inl before ↦ inl (d, (before, (from, to)))
       | inr same ↦ inr (subst (λ (z : EdgeView). IsFromRegion s a z) (sym same) from, ap (λ (z : EdgeView). z.to) same ∙ to)
     ],
   )

@@ -35,4 +35,4 @@ module _ {K A T : Type 0} (s : Store K A T) where
   reached-live es a rs live all = each-from-has (λ (r : Ptr RegionKind). IsLive s (Region r)) rs (λ b h.
       let l = led-by (IsStep s es) a b ((all b).0 h) in
       let e : EdgeView = l.1.0 in
-      subst (IsSuccessorLive s) l.1.1.2 ((each-has (IsEdgeLive s) es e live l.1.1.0).to))
+      subst (IsSuccessorLive s) l.1.1.1.1 ((each-has (IsEdgeLive s) es e live l.1.1.0).to))

@@ -4,6 +4,7 @@ use Rattle.plir_data.specs.Dictionary.{dict_get}
 use Rattle.plir_data.specs.Types.{TypeView, IsLive as IsTypeLive}
 use Rattle.plir_data.specs.TypeText.{type_text}
 use Rattle.plir_data.specs.declared.location.VerifyErr.{VerifyErr}
+use Rattle.plir_data.specs.declared.op_set.OpSet as op_set
 use Rattle.plir_data.specs.declared.location.VerifyErr.TheVariants.{Refused, Memory}
 use Rattle.plir_core.specs.declared.ptr.Ptr.{Ptr}
 use Rattle.plir_core.specs.declared.ptr.Operation.{Operation as OperationKind}
@@ -63,9 +64,13 @@ module _ {K A T : Type 0} where
   abbrev pub AgreesAt : Store K A T → Ptr OperationKind → (forwards : ℕ → Range) → ℕ → Type 0
   AgreesAt s op forwards i = (b : Ptr BasicBlockKind) → slice_get (successors_of s op) i ≡ Some b → types_within s op (forwards i) ≡ argument_types s b
 
-  -- The rule: the layout is right, and each successor gets values of the types of its arguments.
+  -- each successor gets values of the types of its arguments
+  abbrev pub AgreesThroughout : Store K A T → Ptr OperationKind → (forwards : ℕ → Range) → Type 0
+  AgreesThroughout s op forwards = (i : ℕ) → i < num_successors s op → AgreesAt s op forwards i
+
+  -- The rule: the layout is right, and this.
   abbrev pub HasBranchRule : (layout : Type 0) → Store K A T → Ptr OperationKind → (forwards : ℕ → Range) → Type 0
-  HasBranchRule layout s op forwards = layout × ((i : ℕ) → i < num_successors s op → AgreesAt s op forwards i)
+  HasBranchRule layout s op forwards = layout × AgreesThroughout s op forwards
 
   -- a successor is the first whose types do not agree, and this is how
   abbrev pub IsFirstMismatch : Store K A T → Ptr OperationKind → (forwards : ℕ → Range) → Mismatch → Type 0
@@ -120,7 +125,7 @@ module _ {K A T : Type 0} where
   abbrev pub IsOperandReplaced : (s t : Store K A T) → Ptr OperationKind → ℕ → Value → Type 0
   IsOperandReplaced s t op i v = t ≡ with_op_edit s op (λ o. record o { operands = slice_set o.operands i v })
 
-  -- the refusal of a branch, at the operation's location; or memory was refused
-  abbrev pub BreaksBranchRule : {E : Type 0} → (own_id : T → List ℕ) (own_body : List (TypeView T) → T → List ℕ) (layout : Store K A T → Type 0) (tells : Store K A T → E → Type 0)
-      → (forwards : Store K A T → ℕ → Range) → Store K A T → Ptr OperationKind → VerifyErr (BranchOpInterfaceVerifyErr E) → Type 0
-  BreaksBranchRule own_id own_body layout tells forwards s op = IsRefusalMemoryAside s op (IsBranchFault (layout s) (tells s) own_id own_body s op (forwards s))
+-- the refusal of a branch, at the operation's location; or memory was refused
+abbrev pub BreaksBranchRule : {D K A T E : Type 0} → op_set.Ghosts D K A T E → (layout : Store K A T → Type 0) (tells : Store K A T → E → Type 0)
+    → (forwards : Store K A T → ℕ → Range) → Store K A T → Ptr OperationKind → VerifyErr (BranchOpInterfaceVerifyErr E) → Type 0
+BreaksBranchRule o layout tells forwards s op = IsRefusalMemoryAside s op (IsBranchFault (layout s) (tells s) o.type_id o.type_body_text s op (forwards s))

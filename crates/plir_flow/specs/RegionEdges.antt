@@ -69,6 +69,10 @@ module _ {K A T : Type 0} (s : Store K A T) where
   abbrev pub IsFromRegion : Ptr RegionKind → EdgeView → Type 0
   IsFromRegion r e = IsPointIn r e.from
 
+  -- an edge leads from one region to another
+  abbrev pub IsStepOn : EdgeView → (a b : Ptr RegionKind) → Type 0
+  IsStepOn e a b = IsFromRegion a e × (e.to ≡ ToRegion b)
+
   -- a use is good where its operation is live and has an operand there
   abbrev pub IsUseLive : Use Value → Type 0
   IsUseLive u = IsLive s (Operation u.op) × (u.index < length (operands_of s u.op))
@@ -98,7 +102,7 @@ module _ {K A T : Type 0} (s : Store K A T) where
   module _ (es : List EdgeView) where
     -- an edge leads from region a to region b
     abbrev pub IsStep : (a b : Ptr RegionKind) → Type 0
-    IsStep a b = (e : EdgeView) × (Has es e × IsFromRegion a e × (e.to ≡ ToRegion b))
+    IsStep a b = (e : EdgeView) × (Has es e × IsStepOn e a b)
 
     -- a path of one edge or more leads from a to b
     abbrev pub Reach : (a b : Ptr RegionKind) → Type 0

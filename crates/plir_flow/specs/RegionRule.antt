@@ -3,6 +3,7 @@ use Rattle.std.specs.Prelude.{◌≡◌, ◌⊎◌, ◌↔◌, ℕ, List, [], �
 use Rattle.std.specs.HashMap.{HashMap, get}
 use Rattle.std.specs.Option.{option_eq}
 use Rattle.plir_data.specs.declared.location.VerifyErr.{VerifyErr}
+use Rattle.plir_data.specs.declared.op_set.OpSet as op_set
 use Rattle.plir_data.specs.declared.location.VerifyErr.TheVariants.{Refused, Memory}
 use Rattle.plir_data.specs.Types.{TypeView, IsLive as IsTypeLive}
 use Rattle.plir_data.specs.TypeText.{type_text}
@@ -197,7 +198,7 @@ module _ {K A T E : Type 0} (own_id : T → List ℕ) (own_body : List (TypeView
     IsEdgeRefusal layout layout_refusal e = layout × IsToldFault e
 
 -- the refusal of region edges, at the operation's location; or memory was refused
-abbrev pub BreaksEdgeRule : {K A T E : Type 0} → (own_id : T → List ℕ) (own_body : List (TypeView T) → T → List ℕ) (is_terminator : K → Bool) (layout : Store K A T → Type 0)
-    (tells : Store K A T → E → Type 0) (edges : Store K A T → List EdgeView) → Store K A T → Ptr OperationKind → VerifyErr (RegionBranchOpInterfaceVerifyErr E) → Type 0
-BreaksEdgeRule own_id own_body is_terminator layout tells edges s op =
-    IsRefusalMemoryAside s op (IsEdgeRefusal own_id own_body s is_terminator op (edges s) (layout s) (tells s))
+abbrev pub BreaksEdgeRule : {D K A T E : Type 0} → op_set.Ghosts D K A T E → (layout : Store K A T → Type 0) (tells : Store K A T → E → Type 0)
+    → (edges : Store K A T → List EdgeView) → Store K A T → Ptr OperationKind → VerifyErr (RegionBranchOpInterfaceVerifyErr E) → Type 0
+BreaksEdgeRule o layout tells edges s op =
+    IsRefusalMemoryAside s op (IsEdgeRefusal o.type_id o.type_body_text s o.is_terminator op (edges s) (layout s) (tells s))

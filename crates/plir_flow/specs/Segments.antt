@@ -1,5 +1,5 @@
 -- Operands in segments: a list of lists, whose lengths are the sizes and whose flattening is the operands.
-use Rattle.std.specs.Prelude.{◌≡◌, ℕ, zero, suc, ◌+◌, ◌-◌, List, [], ◌∷◌, insert, remove, length, map, take, drop, sum, slice_get, slice_index_or, slice_range, false, Option, Some, None, IsSome, unwrap_or, option_and_then, codes}
+use Rattle.std.specs.Prelude.{◌≡◌, ℕ, zero, suc, ◌+◌, ◌-◌, List, [], ◌∷◌, ◌++◌, insert, remove, length, map, take, drop, sum, slice_get, slice_index_or, slice_range, false, Option, Some, None, IsSome, unwrap_or, option_and_then, codes}
 use Rattle.std.specs.List.{flat_map}
 use Rattle.plir_data.specs.AttrView.{AttrView, leaf, operand_segment_sizes}
 use Rattle.plir_data.specs.Dictionary.{dict_get, dict_put, is_key}
@@ -31,6 +31,17 @@ module _ {V : Type 0} where
   edit_at i f [] = []
   edit_at zero f (seg ∷ segs) = f seg ∷ segs
   edit_at (suc i) f (seg ∷ segs) = seg ∷ edit_at i f segs
+
+  -- a segment with one more value at its end, and one without its last
+  abbrev pub put_last : V → List V → List V
+  put_last v xs = xs ++ v ∷ []
+
+  abbrev pub take_last : List V → List V
+  take_last xs = take (length xs - 1) xs
+
+-- an edit of the values in a segment
+abbrev pub SegmentEdit : Type 0
+SegmentEdit = List Value → List Value
 
 -- how many values stand before a segment
 abbrev pub start_in : List ℕ → ℕ → ℕ
@@ -101,6 +112,10 @@ module _ {K A T : Type 0} where
   -- an operation has come to have these segments
   abbrev pub with_segments : Store K A T → Ptr OperationKind → List (List Value) → Store K A T
   with_segments s op segs = with_op_edit s op (in_op segs)
+
+  -- a function of the context does not depend on the segments that an operation has
+  abbrev pub IsKeptBySegments : {X : Type 0} → (Store K A T → X) → Ptr OperationKind → Type 0
+  IsKeptBySegments f op = (s : Store K A T) (segs : List (List Value)) → f (with_segments s op segs) ≡ f s
 
   -- From s to t an operation has come to have these segments, and nothing else has changed.
   pub record IsResegmented (s t : Store K A T) (op : Ptr OperationKind) (segs : List (List Value)) : Type 0 where

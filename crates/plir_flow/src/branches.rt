@@ -138,7 +138,7 @@ pub trait BranchOpInterface<D: OpSet>: IsTerminatorInterface<D> {
     ) -> Result<(), VerifyErr<BranchOpInterfaceVerifyErr<D::Err>>>
         requires { IsLive ctx.now (IRNode.Operation (Self.pointer self.now)) }
         ensures ok { OnOk result (HasBranchRule (has_layout self.now ctx.now) ctx.now (Self.pointer self.now) (forwards self.now ctx.now)) }
-        ensures refused { IfErr result (BreaksBranchRule D.type_id D.type_body_text (has_layout self.now) (refuses_layout self.now) (forwards self.now) ctx.now (Self.pointer self.now)) }
+        ensures refused { IfErr result (BreaksBranchRule D.OpSet (has_layout self.now) (refuses_layout self.now) (forwards self.now) ctx.now (Self.pointer self.now)) }
         ensures whole { IsWhole D.attr_handles ctx.now }
     {
         let op = self.get_operation();

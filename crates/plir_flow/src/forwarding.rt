@@ -1,10 +1,10 @@
 //! The values that a branch forwards, beside the arguments of the block that gets them.
-ghost use Rattle.std.specs.Prelude.{◌≡◌, ◌↔◌, ◌<◌, ◌≤◌, ℕ, Some, IsNone, IfSome, length};
+ghost use Rattle.std.specs.Prelude.{◌≡◌, ◌↔◌, ◌≤◌, Some, IsNone, IfSome, length};
 ghost use Rattle.plir_core.specs.declared.ptr.IRNode.{IRNode};
 ghost use Rattle.plir_core.specs.Store.{IsLive, operands_of};
 ghost use Rattle.plir_core.specs.Whole.{IsWhole};
 ghost use Rattle.plir_iface.specs.Verdict.{IsRefusalMemoryAside};
-ghost use Rattle.plir_flow.specs.Branches.{types_within, argument_types, num_successors, AgreesAt, IsMismatch};
+ghost use Rattle.plir_flow.specs.Branches.{types_within, argument_types, AgreesThroughout, IsMismatch};
 ghost use Rattle.plir_flow.specs.Branches.{IsFirstMismatch, NamesLive, TellsMismatch, in_branch};
 
 use crate::branch_errors::{BranchOpInterfaceVerifyErr, Mismatch};
@@ -54,7 +54,7 @@ pub(crate) fn find_first_mismatch<D: OpSet, O: BranchOpInterface<D>>(
 ) -> Option<Mismatch>
     requires live { IsLive ctx.now (IRNode.Operation (O.pointer branch.now)) }
     requires layout { O.has_layout branch.now ctx.now }
-    ensures none { IsNone result ↔ ((i : ℕ) → i < num_successors ctx.now (O.pointer branch.now) → AgreesAt ctx.now (O.pointer branch.now) (O.forwards branch.now ctx.now) i) }
+    ensures none { IsNone result ↔ AgreesThroughout ctx.now (O.pointer branch.now) (O.forwards branch.now ctx.now) }
     ensures some { IfSome result (IsFirstMismatch ctx.now (O.pointer branch.now) (O.forwards branch.now ctx.now)) }
     ensures live { IfSome result (NamesLive ctx.now) }
     ensures whole { IsWhole D.attr_handles ctx.now }

@@ -6,8 +6,7 @@ ghost use Rattle.plir_core.specs.declared.ptr.Region.{Region as RegionKind};
 ghost use Rattle.plir_core.specs.NodeLists.{Has, Distinct};
 ghost use Rattle.plir_core.specs.Whole.{IsWhole};
 ghost use Rattle.plir_flow.specs.Paths.{LeadsTo};
-ghost use Rattle.plir_flow.specs.RegionEdges.{AreEdgesLive, IsFromRegion, IsStep, IsPointLive, Reach};
-ghost use Rattle.plir_flow.specs.declared.edge_ends.RegionSuccessor.{RegionSuccessor as Successor};
+ghost use Rattle.plir_flow.specs.RegionEdges.{AreEdgesLive, IsStep, IsStepOn, IsPointLive, Reach};
 ghost use Rattle.plir_flow.specs.Hops.{IsHop, AreLinked, AreHeads, IsReachedMore, same_region};
 
 use crate::edge_ends::{RegionBranchPoint, RegionEdge, RegionSuccessor};
@@ -68,7 +67,7 @@ fn add_hop(
 // The regions that an edge leads from and to, if it leads from one to one.
 fn step_of<D: OpSet>(ctx: &Context<D>, edge: &RegionEdge) -> Option<(Ptr<Region>, Ptr<Region>)>
     requires { IsPointLive ctx.now edge.now.from }
-    ensures value { (a b : PtrTo RegionKind) → (result ≡ Some (a, b)) ↔ (IsFromRegion ctx.now a edge.now × (edge.now.to ≡ Successor.Region b)) }
+    ensures value { (a b : PtrTo RegionKind) → (result ≡ Some (a, b)) ↔ IsStepOn ctx.now edge.now a b }
     ensures whole { IsWhole D.attr_handles ctx.now }
 {
     let _live = ctx.num_live();
@@ -95,7 +94,7 @@ fn add_edge<D: OpSet>(
     requires heads { AreHeads hops.old.items (get same_region heads.old) }
     ensures linked { OnOk result (AreLinked hops.new.items) }
     ensures heads { OnOk result (AreHeads hops.new.items (get same_region heads.new)) }
-    ensures more { OnOk result ((a b : PtrTo RegionKind) → IsHop hops.new.items a b ↔ (IsHop hops.old.items a b ⊎ (IsFromRegion ctx.now a edge.now × (edge.now.to ≡ Successor.Region b)))) }
+    ensures more { OnOk result ((a b : PtrTo RegionKind) → IsHop hops.new.items a b ↔ (IsHop hops.old.items a b ⊎ IsStepOn ctx.now edge.now a b)) }
     ensures whole { IsWhole D.attr_handles ctx.now }
 {
     match step_of(ctx, edge) {

@@ -1,12 +1,13 @@
 //! Laws of segments and of region edges: each function that takes no context does nothing, and its contract is the law.
-ghost use Rattle.std.specs.Prelude.{◌≡◌, ◌≢◌, ◌<◌, ◌≤◌, ◌-◌, ◌^◌, ◌∷◌, ◌++◌, ◌↔◌, ℕ, List, [], IsTrue, IfOk, OnOk};
-ghost use Rattle.std.specs.Prelude.{OnErr, length, map, take, sum, slice_range};
+ghost use Rattle.std.specs.Prelude.{◌≡◌, ◌≢◌, ◌<◌, ◌≤◌, ◌-◌, ◌^◌, ◌↔◌, ℕ, List, IsTrue, IfOk, OnOk};
+ghost use Rattle.std.specs.Prelude.{OnErr, length, map, sum};
 ghost use Rattle.plir_core.specs.declared.ptr.IRNode.{IRNode};
 ghost use Rattle.plir_core.specs.declared.value.Value.{Value as AnyValue};
 ghost use Rattle.plir_core.specs.Store.{IsLive, IsValueLive, operands_of};
 ghost use Rattle.plir_core.specs.Whole.{IsWhole};
+ghost use Rattle.plir_flow.specs.Branches.{operands_within};
 ghost use Rattle.plir_flow.specs.RegionEdges.{Reach};
-ghost use Rattle.plir_flow.specs.Segments.{in_segments, flatten, segment_at, edit_at, sizes_of, num_segments};
+ghost use Rattle.plir_flow.specs.Segments.{in_segments, flatten, segment_at, edit_at, SegmentEdit, put_last, take_last, sizes_of, num_segments};
 ghost use Rattle.plir_flow.specs.Segments.{segment_size, segment_places, segments_of, IsSegmented, HasSegments};
 
 use crate::region_branches::RegionBranchOpInterface;
@@ -26,22 +27,22 @@ pub fn segments_are_the_one_list()
 
 /// A value that is put at the end of a list and taken off leaves the same list; so it does in a segment.
 pub fn put_and_taken_off()
-    ensures list { (xs : List AnyValue) (v : AnyValue) → take (length (xs ++ v ∷ []) - 1) (xs ++ v ∷ []) ≡ xs }
-    ensures segment { (i : ℕ) (v : AnyValue) (segs : List (List AnyValue)) → edit_at i (λ xs. take (length xs - 1) xs) (edit_at i (λ xs. xs ++ v ∷ []) segs) ≡ segs }
+    ensures list { (xs : List AnyValue) (v : AnyValue) → take_last (put_last v xs) ≡ xs }
+    ensures segment { (i : ℕ) (v : AnyValue) (segs : List (List AnyValue)) → edit_at i take_last (edit_at i (put_last v) segs) ≡ segs }
 {}
 
 /// An edit of one segment changes that segment, and no other.
 pub fn edits_of_one_segment()
-    ensures count { (i : ℕ) (f : List AnyValue → List AnyValue) (segs : List (List AnyValue)) → length (edit_at i f segs) ≡ length segs }
-    ensures here { (i : ℕ) (f : List AnyValue → List AnyValue) (segs : List (List AnyValue)) → i < length segs → segment_at (edit_at i f segs) i ≡ f (segment_at segs i) }
-    ensures others { (i j : ℕ) (f : List AnyValue → List AnyValue) (segs : List (List AnyValue)) → j ≢ i → segment_at (edit_at i f segs) j ≡ segment_at segs j }
+    ensures count { (i : ℕ) (f : SegmentEdit) (segs : List (List AnyValue)) → length (edit_at i f segs) ≡ length segs }
+    ensures here { (i : ℕ) (f : SegmentEdit) (segs : List (List AnyValue)) → i < length segs → segment_at (edit_at i f segs) i ≡ f (segment_at segs i) }
+    ensures others { (i j : ℕ) (f : SegmentEdit) (segs : List (List AnyValue)) → j ≢ i → segment_at (edit_at i f segs) j ≡ segment_at segs j }
 {}
 
 /// The operands in a segment stand in a row among all operands.
 pub fn segments_stand_in_a_row<D: OpSet>(ctx: &Context<D>, op: Ptr<Operation>)
     requires live { IsLive ctx.now (IRNode.Operation op) }
     requires segmented { IsSegmented ctx.now op }
-    ensures within { (i : ℕ) → slice_range (operands_of ctx.now op) (segment_places ctx.now op i).0 (segment_places ctx.now op i).1 ≡ segment_at (segments_of ctx.now op) i }
+    ensures within { (i : ℕ) → operands_within ctx.now op (segment_places ctx.now op i) ≡ segment_at (segments_of ctx.now op) i }
     ensures sizes { (i : ℕ) → length (segment_at (segments_of ctx.now op) i) ≡ segment_size ctx.now op i }
     ensures inside { (i : ℕ) → (segment_places ctx.now op i).1 ≤ length (operands_of ctx.now op) }
     ensures count { length (segments_of ctx.now op) ≡ num_segments ctx.now op }

@@ -248,7 +248,7 @@ pub trait RegionBranchOpInterface<D: OpSet>: Op<D> {
         requires { IsLive ctx.now (IRNode.Operation (Self.pointer self.now)) }
         ensures layout { OnOk result (has_edges_layout self.now ctx.now) }
         ensures rule { OnOk result (HasEdgeRule D.is_terminator ctx.now (Self.pointer self.now) (edges self.now ctx.now)) }
-        ensures refused { IfErr result (BreaksEdgeRule D.type_id D.type_body_text D.is_terminator (has_edges_layout self.now) (refuses_edges_layout self.now) (edges self.now) ctx.now (Self.pointer self.now)) }
+        ensures refused { IfErr result (BreaksEdgeRule D.OpSet (has_edges_layout self.now) (refuses_edges_layout self.now) (edges self.now) ctx.now (Self.pointer self.now)) }
         ensures whole { IsWhole D.attr_handles ctx.now }
     {
         let op = self.get_operation();

@@ -6,12 +6,11 @@ ghost use Rattle.plir_core.specs.declared.value.Value.{Value as AnyValue};
 ghost use Rattle.plir_core.specs.Store.{IsLive, IsValueLive, operands_of};
 ghost use Rattle.plir_core.specs.Whole.{IsWhole};
 ghost use Rattle.plir_core.specs.Changes.{with_op_edit};
-ghost use Rattle.plir_iface.specs.Verdict.{IsRefusal};
 ghost use Rattle.plir_flow.specs.Segments.{flatten, segment_at, sizes_attr, with_sizes, sizes_of, num_segments};
 ghost use Rattle.plir_flow.specs.Segments.{segment_size, segment_places, segments_of};
 ghost use Rattle.plir_flow.specs.Segments.{IsSegmented, HasSegments, IsSegmentEdited, StandsInSegment};
 ghost use Rattle.plir_flow.specs.Segments.{IsOperandPutAt, IsOperandPutLast, IsOperandTakenAt, IsLastOperandTaken};
-ghost use Rattle.plir_flow.specs.SegmentRefusals.{IsSegmentFault};
+ghost use Rattle.plir_flow.specs.SegmentRefusals.{IsSegmentFault, BreaksSegments};
 
 use crate::operand_ranges::operands_in;
 use crate::segment_edits::{insert_at, pop_last, push_last, remove_at};
@@ -129,7 +128,7 @@ fn range_of<D: OpSet>(ctx: &Context<D>, op: Ptr<Operation>, seg: usize) -> Range
 pub trait OperandSegmentInterface<D: OpSet>: Op<D> {
     ghost use Rattle.std.specs.Prelude.{Option};
     ghost use Rattle.plir_core.specs.Store.{Store};
-    ghost use Rattle.plir_flow.specs.Segments.{with_segments};
+    ghost use Rattle.plir_flow.specs.Segments.{IsKeptBySegments};
 
     // How many segments the operation must have, if that is fixed.
     ghost expected: { Self → Store D.Kind D.Attr D.Ty → Option ℕ };
@@ -140,7 +139,7 @@ pub trait OperandSegmentInterface<D: OpSet>: Op<D> {
         ensures { result ≡ expected self.now ctx.now };
 
     // It doesn't depend on the segments that the operation has.
-    ghost expected_kept: { (o : Self) (s : Store D.Kind D.Attr D.Ty) (segs : List (List AnyValue)) → expected o (with_segments s (Self.pointer o) segs) ≡ expected o s };
+    ghost expected_kept: { (o : Self) → IsKeptBySegments (expected o) (Self.pointer o) };
 
     /// Accepts exactly where there is an attribute of sizes, the sum of the sizes, as a whole number, is the number of
     /// operands, and there are as many segments as are expected. The first of these that doesn't hold is told.
@@ -150,7 +149,7 @@ pub trait OperandSegmentInterface<D: OpSet>: Op<D> {
     ) -> Result<(), VerifyErr<OperandSegmentInterfaceVerifyErr>>
         requires { IsLive ctx.now (IRNode.Operation (Self.pointer self.now)) }
         ensures ok { IsOk result ↔ HasSegments (expected self.now ctx.now) ctx.now (Self.pointer self.now) }
-        ensures refused { IfErr result (IsRefusal ctx.now (Self.pointer self.now) (IsSegmentFault (expected self.now ctx.now) ctx.now (Self.pointer self.now))) }
+        ensures refused { IfErr result (BreaksSegments (expected self.now ctx.now) ctx.now (Self.pointer self.now)) }
         ensures whole { IsWhole D.attr_handles ctx.now }
     {
         let op = self.get_operation();

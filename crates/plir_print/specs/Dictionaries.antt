@@ -11,7 +11,7 @@ use Rattle.plir_data.specs.declared.op_set.OpSet as op_set
 use Rattle.plir_core.specs.declared.ptr.Ptr.{Ptr}
 use Rattle.plir_core.specs.declared.ptr.Operation.{Operation as OperationKind}
 use Rattle.plir_core.specs.Store.{Store, attributes_of, kind_of}
-use Rattle.plir_text.specs.AttrText.{attr_text, entry_text}
+use Rattle.plir_text.specs.OpSetTexts.{pair_text}
 use Rattle.plir_builtin.specs.BuiltinOps.{name_key, func_type_key}
 use Rattle.plir_print.specs.Lists.{parted}
 
@@ -35,16 +35,9 @@ module _ {D K A T E : Type 0} (o : op_set.Ghosts D K A T E) where
   shown s p = shown_of (kind_of s p) (attributes_of s p)
 
   module _ (types : List (TypeView T)) where
-    -- the text of an attribute, and of a key with its attribute
-    abbrev pub attribute_text : AttrView A → List ℕ
-    attribute_text a = attr_text o.attr_id o.attr_text o.type_id o.type_body_text types a
-
-    abbrev pub pair_text : List ℕ × AttrView A → List ℕ
-    pair_text e = entry_text o.attr_id o.attr_text o.type_id o.type_body_text types e
-
     -- keys with their attributes, as the text of an attribute has them
     abbrev pub entries_text : List (List ℕ × AttrView A) → List ℕ
-    entries_text es = parted (codes ", ") pair_text es
+    entries_text es = parted (codes ", ") (pair_text o types) es
 
     -- the entries of an operation of a kind that are shown
     abbrev pub shown_text : OpKind K → List (List ℕ × AttrView A) → List ℕ

@@ -14,7 +14,8 @@ use Rattle.plir_builtin.specs.Symbols.{name_held}
 use Rattle.plir_builtin.specs.BuiltinOps.{func_type_of, value_of}
 use Rattle.plir_print.specs.Lists.{parted}
 use Rattle.plir_print.specs.ValueNames.{block_name, value_name, results_of}
-use Rattle.plir_print.specs.Dictionaries.{attribute_text, dictionary}
+use Rattle.plir_text.specs.OpSetTexts.{attribute_text}
+use Rattle.plir_print.specs.Dictionaries.{dictionary}
 
 module _ {K A T : Type 0} (s : Store K A T) where
   -- the names of values, with a comma and a space between them

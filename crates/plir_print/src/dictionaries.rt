@@ -5,7 +5,8 @@ ghost use Rattle.plir_data.specs.AttrLive.{IsAttrLive, HandlesLive};
 ghost use Rattle.plir_core.specs.declared.ptr.IRNode.{IRNode as AnyNode};
 ghost use Rattle.plir_core.specs.Store.{IsLive};
 ghost use Rattle.plir_print.specs.Lists.{Puts};
-ghost use Rattle.plir_print.specs.Dictionaries.{attribute_text, dictionary, is_shown, is_told, shown_of, shown_text};
+ghost use Rattle.plir_text.specs.OpSetTexts.{attribute_text};
+ghost use Rattle.plir_print.specs.Dictionaries.{dictionary, is_shown, is_told, shown_of, shown_text};
 
 use crate::layout::put_between;
 use plir_builtin::{ATTR_KEY_BUILTIN_FUNC_TYPE, ATTR_KEY_SYM_NAME};

@@ -1,7 +1,7 @@
 -- Reading into a context, with the first fault that is met.
 use Rattle.std.specs.Borrow.{Bor}
 use Rattle.std.specs.Prelude.{◌≡◌, ◌≢◌, ℕ, List, Result, Ok, Err}
-use Rattle.plir_text.specs.Reading.{Ends, Reads}
+use Rattle.plir_text.specs.Reading.{Ends}
 use Rattle.plir_text.specs.declared.fault.Fault.{Fault}
 use Rattle.plir_text.specs.declared.fault.Fault.TheVariants.{Memory, TooManyNodes}
 use Rattle.plir_text.specs.declared.fault.Stop.{Stop}
@@ -17,9 +17,6 @@ ReadsOn means (Ok x) read = (y : _) × (read ≡ Ok y) × means x y
 ReadsOn means (Err stop) read = Stops stop read
 
 -- the same of what stands first in a text, where what stands behind it is answered beside it
-abbrev pub ReadsFirst : {X Y : Type 0} → (X → Y → Type 0) → Result (X × Bor (List ℕ)) Stop → Result (Y × List ℕ) Fault → Type 0
-ReadsFirst means result read = Reads (λ x y. means x.0 y.0 × (x.1.now ≡ y.1)) result read
-
 abbrev pub ReadsOnFirst : {X Y : Type 0} → (X → Y → Type 0) → Result (X × Bor (List ℕ)) Stop → Result (Y × List ℕ) Fault → Type 0
 ReadsOnFirst means result read = ReadsOn (λ x y. means x.0 y.0 × (x.1.now ≡ y.1)) result read
 

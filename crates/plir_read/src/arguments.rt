@@ -1,9 +1,9 @@
 //! Heads of blocks.
 ghost use Rattle.plir_text.specs.Lists.{items_at};
 ghost use Rattle.plir_text.specs.Names.{Grows};
+ghost use Rattle.plir_text.specs.Reading.{ReadsFirst};
 ghost use Rattle.plir_read.specs.Heads.{AreArguments, IsArgument, IsBlockHead};
 ghost use Rattle.plir_read.specs.OpReading.{argument_at, block_head_at};
-ghost use Rattle.plir_read.specs.Stopping.{ReadsFirst};
 
 use crate::names::{Suffix, given_name};
 use plir_data::{Identifier, OpSet, TypeHandle, TypeStore};

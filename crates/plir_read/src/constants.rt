@@ -4,13 +4,13 @@ ghost use Rattle.plir_data.specs.AttrSeen.{attr_view};
 ghost use Rattle.plir_core.specs.Made.{IsMade};
 ghost use Rattle.plir_core.specs.Whole.{IsWhole};
 ghost use Rattle.plir_core.specs.declared.ptr.IRNode.{IRNode};
-ghost use Rattle.plir_text.specs.Meaning.{IsMeant};
+ghost use Rattle.plir_text.specs.MeantBy.{IsMeantBy};
 ghost use Rattle.plir_text.specs.Names.{Grows};
+ghost use Rattle.plir_text.specs.Reading.{ReadsFirst};
 ghost use Rattle.plir_read.specs.Heads.{IsConstant};
 ghost use Rattle.plir_read.specs.Keeping.{KeepsOlder};
 ghost use Rattle.plir_read.specs.OpReading.{value_at, constant_at, named_constant_at};
 ghost use Rattle.plir_read.specs.OpsStanding.{ReadsConstant};
-ghost use Rattle.plir_read.specs.Stopping.{ReadsFirst};
 
 use crate::making::make_constant;
 use crate::openings::expect_names;
@@ -37,7 +37,7 @@ fn read_value<'a, D: OpSet, C: TypeStore<D>>(
     levels: usize,
     bytes: &'a [u8],
 ) -> Result<(AttrObj<D>, &'a [u8]), Stop>
-    ensures read { ReadsFirst (λ x y. IsMeant (C.types ctx.new) y (attr_view x)) result (value_at levels bytes.now) }
+    ensures read { ReadsFirst (IsMeantBy (C.types ctx.new)) result (value_at levels bytes.now) }
     ensures grown { Grows (C.types ctx.old) (C.types ctx.new) }
     ensures rest { C.same_besides ctx.old ctx.new }
 {

@@ -1,9 +1,9 @@
 //! Headers with their dictionaries.
 ghost use Rattle.plir_text.specs.Meaning.{IsDictMeant};
 ghost use Rattle.plir_text.specs.Names.{Grows};
+ghost use Rattle.plir_text.specs.Reading.{ReadsFirst};
 ghost use Rattle.plir_read.specs.Heads.{IsHeader};
 ghost use Rattle.plir_read.specs.OpReading.{dictionary_at, header_at};
-ghost use Rattle.plir_read.specs.Stopping.{ReadsFirst};
 
 use crate::heads::{BodyKind, HeadData, read_head};
 use plir_data::{AttributeDict, OpSet, TypeStore};

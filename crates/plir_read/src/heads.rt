@@ -1,10 +1,9 @@
 //! Headers of operations and blocks.
 ghost use Rattle.std.specs.Prelude.{◌≡◌, Ok};
 ghost use Rattle.plir_text.specs.Names.{Grows};
-ghost use Rattle.plir_text.specs.Reading.{Gives};
+ghost use Rattle.plir_text.specs.Reading.{ReadsFirst, Gives};
 ghost use Rattle.plir_read.specs.Heads.{IsHead};
 ghost use Rattle.plir_read.specs.OpReading.{op_kind, op_id, symbol_at, head_at, ends_block, semicolon_at, brace_at};
-ghost use Rattle.plir_read.specs.Stopping.{ReadsFirst};
 
 use plir_data::{Identifier, OpSet, TypeHandle, TypeStore};
 use plir_text::Fault;

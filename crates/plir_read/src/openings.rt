@@ -1,9 +1,8 @@
 //! What an operation begins with: names of its results, and its id.
 ghost use Rattle.std.specs.Prelude.{◌≡◌, length};
-ghost use Rattle.plir_text.specs.Reading.{Gives};
+ghost use Rattle.plir_text.specs.Reading.{ReadsFirst, Gives};
 ghost use Rattle.plir_read.specs.Heads.{IsOpening, result_names};
 ghost use Rattle.plir_read.specs.OpReading.{names_at, names_before, start_at, named};
-ghost use Rattle.plir_read.specs.Stopping.{ReadsFirst};
 
 use crate::heads::{HeadKind, read_op_id};
 use crate::names::{Suffix, given_name};

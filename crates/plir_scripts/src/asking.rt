@@ -14,14 +14,15 @@ use plir_core::{
     BasicBlock, Context, IRNode, Interface, OpInsertionPoint, Operation, Ptr, Use, kind_impls,
     op_impls,
 };
-use plir_data::OpSet;
+use plir_data::{GivenNamesAttr, OpSet};
 use std::alloc::Global;
 
-/// Writes what a line asks for: `show NODE`, `get NODE KEY`, `live NODE`, `count`, `number NODE`, `above NODE NODE`,
+/// Writes what a line asks for: `fresh`, `show NODE`, `get NODE KEY`, `live NODE`, `count`, `number NODE`, `above NODE NODE`,
 /// `unused NODE`, `interfaces OP`, `point SIDE NODE`, `use OP PLACE`, `text TYPE`, `typed VALUE` or `types NODE`.
 pub fn ask<D: OpSet>(bench: &mut Bench<D>, line: Line<'_>) -> Result<(), Stop> {
     let (alloc, ctx, made, answer) = (bench.alloc, &bench.ctx, &bench.made, &mut bench.answer);
     match line.command {
+        "fresh" => fresh::<D>(alloc, answer),
         "show" => show(alloc, ctx, made, answer, made.live(ctx, line.first)?),
         "get" => get(alloc, ctx, made, answer, line)?,
         "live" => answer.put_truth(made.node(line.first)?.is_live(ctx)),
@@ -43,6 +44,16 @@ pub fn ask<D: OpSet>(bench: &mut Bench<D>, line: Line<'_>) -> Result<(), Stop> {
         _ => return Err(Stop::Refused),
     }
     Ok(())
+}
+
+// How many nodes new contexts hold, and how many names a new list of names.
+fn fresh<D: OpSet>(alloc: Global, answer: &mut Answer) {
+    let (any, few) = (Context::<D>::new(alloc), Context::<D>::with_limit(alloc, 3));
+    answer.put_number(any.num_live() as usize);
+    answer.put(" ");
+    answer.put_number(few.num_live() as usize);
+    answer.put(" ");
+    answer.put_number(GivenNamesAttr::new(alloc).names().len());
 }
 
 // Writes the attribute under a key, or `none`.

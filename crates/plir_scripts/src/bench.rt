@@ -6,15 +6,20 @@ use crate::line::{Line, read_line};
 use crate::linking::link;
 use crate::made::Made;
 use crate::making::make;
+use crate::refusing::{grant_memory, refuse_memory};
 use crate::script_set::ScriptSet;
 use crate::showing::show;
 use crate::stop::Stop;
 use plir_core::{Context, IRNode};
 use plir_data::OpSet;
 use std::alloc::{AllocError, Global};
+use std::mem::replace;
 
 // The bytes that an answer takes at most. They are there before the call, so that no call is made twice.
 const MAX_ANSWER: usize = 256;
+
+// The nodes that a walk of a script calls at most without asking for memory.
+const MAX_CALLED: usize = 32;
 
 /// A context, the nodes that a script has made in it, and the answer of its last call.
 #[derive(Drop)]
@@ -23,6 +28,8 @@ pub struct Bench<D: OpSet> {
     pub ctx: Context<D>,
     pub made: Made,
     pub answer: Answer,
+    /// The list of nodes that was given back last.
+    pub spare: Vec<IRNode>,
 }
 
 /// The calls of a layer of the library.
@@ -44,6 +51,8 @@ impl<D: ScriptSet> Layer<D> for NodeCalls {
             "insert" | "remove" | "replace" | "set" | "swap" | "take" | "label" | "at" => {
                 change(bench, line)
             }
+            "refuse" => refuse_memory(bench.alloc),
+            "grant" => grant_memory(bench.alloc),
             _ => ask(bench, line),
         }
     }
@@ -79,7 +88,22 @@ impl<D: OpSet> Bench<D> {
             ctx: Context::with_limit(alloc, max_nodes),
             made: Made::new(alloc),
             answer: Answer::new(alloc),
+            spare: Vec::new(alloc),
         }
+    }
+
+    /// An empty list with room for the nodes that a walk calls. A list that was given back is used again, so that no memory
+    /// is taken twice.
+    pub fn take_list(&mut self) -> Result<Vec<IRNode>, Stop> {
+        let mut nodes = replace(&mut self.spare, Vec::new(self.alloc));
+        nodes.reserve(MAX_CALLED)?;
+        Ok(nodes)
+    }
+
+    /// Takes a list back.
+    pub fn give_back(&mut self, nodes: Vec<IRNode>) {
+        self.spare = nodes;
+        self.spare.clear();
     }
 
     // Carries a call out; refused only for want of memory.

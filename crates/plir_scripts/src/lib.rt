@@ -5,6 +5,7 @@
 //! its words, parted by single spaces. Nodes are named in the order in which the script has made them: `o0` is the
 //! first operation, `r0` the first region, `b0` the first block, `t0` the first type, `o0.1` the second result of `o0`
 //! and `b0.1` the second argument of `b0`. A call whose condition doesn't hold is answered by `refused`.
+//! Between the lines `refuse` and `grant` all memory is refused, if a library is preloaded that does so.
 #![tactic(auto)]
 
 mod answer;
@@ -15,6 +16,7 @@ mod line;
 mod linking;
 mod made;
 mod making;
+mod refusing;
 mod sample_set;
 mod script_set;
 mod showing;
@@ -26,6 +28,7 @@ pub use bench::{Bench, Layer, Mismatch, NodeCalls, play};
 pub use line::{Line, number, split_word};
 pub use made::Made;
 pub use making::{label_of, put_type_name};
+pub use refusing::{grant_memory, refuse_memory};
 pub use sample_set::{NotMarked, SampleAttr, SampleKind, SampleSet, SampleType};
 pub use script_set::{ScriptKind, ScriptSet};
 pub use showing::put_attr;

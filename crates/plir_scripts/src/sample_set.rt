@@ -140,7 +140,11 @@ impl OpSet for SampleSet {
         })
     }
 
-    fn clone_attr(_alloc: Global, attr: &SampleAttr) -> Result<SampleAttr, Memory> {
+    // A copy takes memory here, for a text that isn't used.
+    fn clone_attr(alloc: Global, attr: &SampleAttr) -> Result<SampleAttr, Memory> {
+        if String::from_str(alloc, "copied").is_err() {
+            return Err(Memory);
+        }
         Ok(*attr)
     }
 

@@ -5,12 +5,13 @@
 --   Terms                        types and attributes as they are written
 --   TypeGrammar, AttrGrammar     IsText: which tokens stand for a type, for an attribute
 --   Names, Parts                 the handles that written types name, and the types that others are made of
---   Meaning                      StandsFor: the attribute that a text stands for
+--   Meaning, MeantBy             StandsFor: the attribute that a text stands for; what a reader holds is meant by what is written
 --   Steps, Lists, Wholes         reading step by step, of lists, of whole texts
 --   TypeReading, AttrReading     type_at, attr_at: types and attributes as they are read, with the first fault that is met
 --   TypesIn                      which types are written in a text
 --   Reading                      Reads, Gives: what a reader answers, by what is read
 --   Written, AttrText            attr_text: the text of an attribute
+--   OpSetTexts                   attribute_text: the same by the answers of an op set
 --   Puts                         texts that are written one behind another
 --   Writable, AttrAnswer         attributes that texts can stand for; what the reader of attributes answers
 pub mod Bytes
@@ -30,10 +31,12 @@ pub mod AttrGrammar
 pub mod Written
 pub mod Puts
 pub mod AttrText
+pub mod OpSetTexts
 pub mod AttrReading
 pub mod TypesIn
 pub mod Parts
 pub mod Meaning
+pub mod MeantBy
 pub mod Writable
 pub mod AttrAnswer
 -- Laws of these words, proved beside them so that the crates above can cite them. No contract cites these modules.

@@ -1,5 +1,6 @@
 -- Reading from left to right, with the first fault that is met.
-use Rattle.std.specs.Prelude.{◌≡◌, Result, Ok, Err}
+use Rattle.std.specs.Borrow.{Bor}
+use Rattle.std.specs.Prelude.{◌≡◌, ℕ, List, Result, Ok, Err}
 use Rattle.plir_text.specs.declared.fault.Fault.{Fault}
 use Rattle.plir_text.specs.declared.fault.Fault.TheVariants.{Memory, TooManyNodes}
 use Rattle.plir_text.specs.declared.fault.Stop.{Stop}
@@ -24,6 +25,10 @@ Gives view (Err stop) read = Fails stop read
 abbrev pub Reads : {X Y : Type 0} → (X → Y → Type 0) → Result X Stop → Result Y Fault → Type 0
 Reads means (Ok x) read = (y : _) × (read ≡ Ok y) × means x y
 Reads means (Err stop) read = Fails stop read
+
+-- the same of what stands first in a text, where what stands behind it is answered beside it
+abbrev pub ReadsFirst : {X Y : Type 0} → (X → Y → Type 0) → Result (X × Bor (List ℕ)) Stop → Result (Y × List ℕ) Fault → Type 0
+ReadsFirst means result read = Reads (λ x y. means x.0 y.0 × (x.1.now ≡ y.1)) result read
 
 -- the fault of a stop
 abbrev pub fault_of : Stop → Fault

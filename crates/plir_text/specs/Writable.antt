@@ -1,5 +1,5 @@
 -- Attributes that texts can stand for, and how they are written.
-use Rattle.std.specs.Prelude.{◌≡◌, ℕ, ◌^◌, ◌<◌, ◌≤◌, List, [], ◌∷◌, All, true, Option, Some, None}
+use Rattle.std.specs.Prelude.{◌≡◌, ℕ, ◌^◌, ◌<◌, ◌≤◌, map, List, [], ◌∷◌, All, true, Option, Some, None}
 use Rattle.std.specs.Str.{IsUtf8}
 use Rattle.plir_data.specs.AttrVerify.{is_of_width}
 use Rattle.plir_data.specs.AttrView.{Leaf, identifier, string, bool, integer, unit, type_of, operand_segment_sizes, given_names, own, AttrView, leaf, dict, vec, Items, no_items, item, Entries, no_entries, entry}
@@ -7,11 +7,11 @@ use Rattle.plir_data.specs.Dictionary.{IsDictionary}
 use Rattle.plir_data.specs.Identifier.{is_identifier}
 use Rattle.plir_data.specs.Types as types
 use Rattle.plir_data.specs.Types.{TypeView, IsLive, type_at}
-use Rattle.plir_data.specs.TypeTree.{TypeTree, integer_tree, function_tree, unit_tree, own_tree, Trees, no_trees, tree, tree_of}
+use Rattle.plir_data.specs.TypeTree.{TypeTree, integer_tree, function_tree, unit_tree, own_tree, Trees, no_trees, tree, trees_of, tree_of}
 use Rattle.plir_data.specs.declared.types.Signedness.{Signedness}
 use Rattle.plir_data.specs.declared.types.Signedness.TheVariants.{Signless}
 use Rattle.plir_text.specs.Terms as terms
-use Rattle.plir_text.specs.Terms.{TypeTerm, integer_type, function_type, unit_type, TypeTerms, no_types, type_before, AttrTerm, AttrTerms, no_attrs, attr_before, EntryTerms, entry_before}
+use Rattle.plir_text.specs.Terms.{TypeTerm, integer_type, function_type, unit_type, TypeTerms, no_types, type_before, types_levels, AttrTerm, AttrTerms, no_attrs, attr_before, EntryTerms, entry_before}
 
 module _ {T : Type 0} where
   -- a type that is made of builtin types alone, with widths below two to the 32
@@ -37,6 +37,10 @@ module _ {T : Type 0} where
     pub type_terms : Trees T → TypeTerms
     type_terms no_trees = no_types
     type_terms (tree t ts) = type_before (type_term t) (type_terms ts)
+
+  -- how many levels there are in the types that handles of a table name, written out
+  abbrev pub handles_levels : List (TypeView T) → List ℕ → ℕ
+  handles_levels table hs = types_levels (type_terms (trees_of (map (tree_of table) hs)))
 
   -- how the integers of a type are signed
   abbrev pub signedness_of : Option (TypeView T) → Signedness

@@ -1,12 +1,12 @@
 //! From a text to an attribute.
 
-ghost use Rattle.std.specs.Prelude.{◌≡◌, map};
 ghost use Rattle.plir_data.specs.AttrSeen.{attr_view};
 ghost use Rattle.plir_data.specs.AttrView.{leaf, identifier, string, bool, operand_segment_sizes, given_names};
-ghost use Rattle.plir_text.specs.Terms.{attrs_of, entries_of};
+ghost use Rattle.plir_text.specs.Terms.{entries_of};
 ghost use Rattle.plir_text.specs.Names.{Adds};
-ghost use Rattle.plir_text.specs.Meaning.{IsMeant, AreMeant, IsDictMeant};
-ghost use Rattle.plir_text.specs.Reading.{Gives, Reads};
+ghost use Rattle.plir_text.specs.Meaning.{IsDictMeant};
+ghost use Rattle.plir_text.specs.MeantBy.{IsMeantBy, AreMeantBy, IsEntryMeantBy};
+ghost use Rattle.plir_text.specs.Reading.{Gives, ReadsFirst};
 ghost use Rattle.plir_text.specs.Steps.{read_as};
 ghost use Rattle.plir_text.specs.Lists.{items_at};
 ghost use Rattle.plir_text.specs.AttrReading.{name_at, text_at, bool_at, size_at, given_name_at, entry_at, attr_body, attr_at};
@@ -76,7 +76,7 @@ fn read_integer_attr<'a, D: OpSet, C: TypeStore<D>>(
     levels: usize,
     bytes: &'a [u8],
 ) -> Result<(AttrObj<D>, &'a [u8]), Stop>
-    ensures read { Reads (λ x y. IsMeant (C.types ctx.new) y.0 (attr_view x.0) × (x.1.now ≡ y.1)) result (attr_body levels (attr_at levels) AttrKind.Integer bytes.now) }
+    ensures read { ReadsFirst (IsMeantBy (C.types ctx.new)) result (attr_body levels (attr_at levels) AttrKind.Integer bytes.now) }
     ensures kept { Adds C.types C.same_besides (IsBehindId levels AttrKind.Integer bytes.now) ctx.old ctx.new }
 {
     let ((ty, value), rest) = read_value(levels, bytes)?;
@@ -91,7 +91,7 @@ fn read_type_attr<'a, D: OpSet, C: TypeStore<D>>(
     levels: usize,
     bytes: &'a [u8],
 ) -> Result<(AttrObj<D>, &'a [u8]), Stop>
-    ensures read { Reads (λ x y. IsMeant (C.types ctx.new) y.0 (attr_view x.0) × (x.1.now ≡ y.1)) result (attr_body levels (attr_at levels) AttrKind.TypeOf bytes.now) }
+    ensures read { ReadsFirst (IsMeantBy (C.types ctx.new)) result (attr_body levels (attr_at levels) AttrKind.TypeOf bytes.now) }
     ensures kept { Adds C.types C.same_besides (IsBehindId levels AttrKind.TypeOf bytes.now) ctx.old ctx.new }
 {
     match read_type_at(alloc, ctx, levels, bytes) {
@@ -109,7 +109,7 @@ fn read_entry<'a, D: OpSet, C: TypeStore<D>>(
     levels: usize,
     bytes: &'a [u8],
 ) -> Result<((Identifier, AttrObj<D>), &'a [u8]), Stop>
-    ensures read { Reads (λ x y. (x.0.0 ≡ y.0.0) × IsMeant (C.types ctx.new) y.0.1 (attr_view x.0.1) × (x.1.now ≡ y.1)) result (entry_at (attr_at levels) bytes.now) }
+    ensures read { ReadsFirst (IsEntryMeantBy (C.types ctx.new)) result (entry_at (attr_at levels) bytes.now) }
     ensures kept { Adds C.types C.same_besides (IsInEntry (IsInAttr levels) bytes.now) ctx.old ctx.new }
 {
     let (key, rest) = read_name(alloc, bytes)?;
@@ -128,7 +128,7 @@ pub fn read_entries<'a, D: OpSet, C: TypeStore<D>>(
     levels: usize,
     bytes: &'a [u8],
 ) -> Result<(AttributeDict<D>, &'a [u8]), Stop>
-    ensures read { Reads (λ x y. IsDictMeant (C.types ctx.new) (entries_of y.0) x.0 × (x.1.now ≡ y.1)) result (items_at 91 93 (entry_at (attr_at levels)) bytes.now) }
+    ensures read { ReadsFirst (λ es ts. IsDictMeant (C.types ctx.new) (entries_of ts) es) result (items_at 91 93 (entry_at (attr_at levels)) bytes.now) }
     ensures kept { Adds C.types C.same_besides (IsBehindId levels AttrKind.Dict bytes.now) ctx.old ctx.new }
 {
     let start = read_sign(bytes, b'[')?;
@@ -160,7 +160,7 @@ fn read_items<'a, D: OpSet, C: TypeStore<D>>(
     levels: usize,
     bytes: &'a [u8],
 ) -> Result<(Vec<AttrObj<D>>, &'a [u8]), Stop>
-    ensures read { Reads (λ x y. AreMeant (C.types ctx.new) (attrs_of y.0) (map attr_view x.0.items) × (x.1.now ≡ y.1)) result (items_at 91 93 (attr_at levels) bytes.now) }
+    ensures read { ReadsFirst (λ xs ts. AreMeantBy (C.types ctx.new) xs.items ts) result (items_at 91 93 (attr_at levels) bytes.now) }
     ensures kept { Adds C.types C.same_besides (IsBehindId levels AttrKind.Vec bytes.now) ctx.old ctx.new }
 {
     let start = read_sign(bytes, b'[')?;
@@ -192,7 +192,7 @@ fn read_dict_attr<'a, D: OpSet, C: TypeStore<D>>(
     levels: usize,
     bytes: &'a [u8],
 ) -> Result<(AttrObj<D>, &'a [u8]), Stop>
-    ensures read { Reads (λ x y. IsMeant (C.types ctx.new) y.0 (attr_view x.0) × (x.1.now ≡ y.1)) result (attr_body levels (attr_at levels) AttrKind.Dict bytes.now) }
+    ensures read { ReadsFirst (IsMeantBy (C.types ctx.new)) result (attr_body levels (attr_at levels) AttrKind.Dict bytes.now) }
     ensures kept { Adds C.types C.same_besides (IsBehindId levels AttrKind.Dict bytes.now) ctx.old ctx.new }
 {
     match read_entries(alloc, ctx, levels, bytes) {
@@ -209,7 +209,7 @@ fn read_list_attr<'a, D: OpSet, C: TypeStore<D>>(
     levels: usize,
     bytes: &'a [u8],
 ) -> Result<(AttrObj<D>, &'a [u8]), Stop>
-    ensures read { Reads (λ x y. IsMeant (C.types ctx.new) y.0 (attr_view x.0) × (x.1.now ≡ y.1)) result (attr_body levels (attr_at levels) AttrKind.Vec bytes.now) }
+    ensures read { ReadsFirst (IsMeantBy (C.types ctx.new)) result (attr_body levels (attr_at levels) AttrKind.Vec bytes.now) }
     ensures kept { Adds C.types C.same_besides (IsBehindId levels AttrKind.Vec bytes.now) ctx.old ctx.new }
 {
     match read_items(alloc, ctx, levels, bytes) {
@@ -227,7 +227,7 @@ pub fn read_attr_at<'a, D: OpSet, C: TypeStore<D>>(
     levels: usize,
     bytes: &'a [u8],
 ) -> Result<(AttrObj<D>, &'a [u8]), Stop>
-    ensures read { Reads (λ x y. IsMeant (C.types ctx.new) y.0 (attr_view x.0) × (x.1.now ≡ y.1)) result (attr_at levels bytes.now) }
+    ensures read { ReadsFirst (IsMeantBy (C.types ctx.new)) result (attr_at levels bytes.now) }
     ensures kept { Adds C.types C.same_besides (IsInAttr levels bytes.now) ctx.old ctx.new }
 {
     let (kind, rest) = read_attr_head(bytes)?;

@@ -4,10 +4,10 @@ ghost use Rattle.std.specs.Prelude.{◌↔◌, ◌≤◌, ◌++◌, IsTrue, map}
 ghost use Rattle.plir_data.specs.AttrLive.{IsAttrLive, AreItemsLive, AreEntriesLive};
 ghost use Rattle.plir_data.specs.AttrSeen.{attr_view};
 ghost use Rattle.plir_data.specs.AttrView.{items_of, entries_of};
-ghost use Rattle.plir_data.specs.TypeTree.{trees_of, tree_of};
+ghost use Rattle.plir_data.specs.TypeTree.{tree_of};
 ghost use Rattle.plir_data.specs.Types.{IsLive, AllLive};
-ghost use Rattle.plir_text.specs.Terms.{levels, attrs_levels, entries_levels, type_levels, types_levels};
-ghost use Rattle.plir_text.specs.Writable.{attr_term, attr_terms, entry_terms, type_term, type_terms};
+ghost use Rattle.plir_text.specs.Terms.{levels, attrs_levels, entries_levels, type_levels};
+ghost use Rattle.plir_text.specs.Writable.{attr_term, attr_terms, entry_terms, type_term, handles_levels};
 
 use plir_data::laws::tree_of_a_handle;
 use plir_data::{
@@ -88,7 +88,7 @@ fn is_type_within<D: OpSet>(types: &TypeTable<D>, handle: TypeHandle, most: usiz
 #[cycle(types_within)]
 fn is_function_within<D: OpSet>(types: &TypeTable<D>, ty: &FunctionType, most: usize) -> bool
     requires { AllLive types.now (ty.now.0.0 ++ ty.now.0.1) }
-    ensures { IsTrue result ↔ ((types_levels (type_terms (trees_of (map (tree_of types.now) ty.now.0.0))) ≤ most) × (types_levels (type_terms (trees_of (map (tree_of types.now) ty.now.0.1))) ≤ most)) }
+    ensures { IsTrue result ↔ ((handles_levels types.now ty.now.0.0 ≤ most) × (handles_levels types.now ty.now.0.1 ≤ most)) }
 {
     are_types_within(types, ty.arg_types(), most) && are_types_within(types, ty.res_types(), most)
 }
@@ -97,7 +97,7 @@ fn is_function_within<D: OpSet>(types: &TypeTable<D>, ty: &FunctionType, most: u
 #[cycle(types_within)]
 fn are_types_within<D: OpSet>(types: &TypeTable<D>, handles: &[TypeHandle], most: usize) -> bool
     requires { AllLive types.now handles.now }
-    ensures { IsTrue result ↔ (types_levels (type_terms (trees_of (map (tree_of types.now) handles.now))) ≤ most) }
+    ensures { IsTrue result ↔ (handles_levels types.now handles.now ≤ most) }
 {
     'handles: for handle in handles {
         if !is_type_within(types, *handle, most) {

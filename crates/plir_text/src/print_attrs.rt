@@ -1,13 +1,14 @@
 //! From an attribute to its text.
 
-ghost use Rattle.std.specs.Prelude.{◌≡◌, ◌++◌, IfOk, OnOk, codes, map, string_bytes};
+ghost use Rattle.std.specs.Prelude.{◌≡◌, IfOk, OnOk, map, string_bytes};
 ghost use Rattle.plir_data.specs.AttrLive.{IsAttrLive, AreItemsLive, AreEntriesLive};
 ghost use Rattle.plir_data.specs.AttrSeen.{attr_view};
-ghost use Rattle.plir_data.specs.AttrView.{integer, own, type_of, items_of, entries_of};
+ghost use Rattle.plir_data.specs.AttrView.{integer, own, type_of, dict as dict_view, vec, items_of, entries_of};
 ghost use Rattle.plir_data.specs.Integers.{literal};
 ghost use Rattle.plir_data.specs.Types.{IsLive, AllLive, type_at};
 ghost use Rattle.plir_data.specs.TypeText.{type_text};
-ghost use Rattle.plir_text.specs.AttrText.{is_signed, bare_text, leaf_text, attr_text, items_text, entries_text};
+ghost use Rattle.plir_text.specs.AttrText.{is_signed, bare_text};
+ghost use Rattle.plir_text.specs.OpSetTexts.{attribute_text, plain_text, attributes_text, pairs_text};
 ghost use Rattle.plir_text.specs.Puts.{Puts};
 
 use crate::put::{put_bool, put_given_names, put_identifier, put_segments, put_string};
@@ -26,7 +27,7 @@ pub fn print_attr<D: OpSet, C: TypeStore<D>>(
     attr: &AttrObj<D>,
 ) -> Result<String, Memory>
     requires { IsAttrLive D.attr_handles (C.types ctx.now) (attr_view attr.now) }
-    ensures { IfOk result (λ s. string_bytes s ≡ attr_text D.attr_id D.attr_text D.type_id D.type_body_text (C.types ctx.now) (attr_view attr.now)) }
+    ensures { IfOk result (λ s. string_bytes s ≡ attribute_text D.OpSet (C.types ctx.now) (attr_view attr.now)) }
 {
     let mut out = String::new(alloc);
     put_attr(&mut out, alloc, ctx.types(), attr)?;
@@ -41,7 +42,7 @@ fn put_attr<D: OpSet>(
     attr: &AttrObj<D>,
 ) -> Result<(), Memory>
     requires { IsAttrLive D.attr_handles types.now (attr_view attr.now) }
-    ensures { OnOk result (Puts out.old out.new (attr_text D.attr_id D.attr_text D.type_id D.type_body_text types.now (attr_view attr.now))) }
+    ensures { OnOk result (Puts out.old out.new (attribute_text D.OpSet types.now (attr_view attr.now))) }
 {
     match attr {
         AttrObj::Identifier(value) => put_identifier(out, value),
@@ -67,7 +68,7 @@ fn put_dict<D: OpSet>(
     dict: &AttributeDict<D>,
 ) -> Result<(), Memory>
     requires { AreEntriesLive D.attr_handles types.now (entries_of dict.now) }
-    ensures { OnOk result (Puts out.old out.new (codes "builtin.dict [" ++ (entries_text D.attr_id D.attr_text D.type_id D.type_body_text types.now (entries_of dict.now) ++ codes "]"))) }
+    ensures { OnOk result (Puts out.old out.new (attribute_text D.OpSet types.now (dict_view (entries_of dict.now)))) }
 {
     put(out, "builtin.dict [")?;
     put_entries(out, alloc, types, dict)?;
@@ -84,7 +85,7 @@ fn put_entries<D: OpSet>(
     dict: &AttributeDict<D>,
 ) -> Result<(), Memory>
     requires { AreEntriesLive D.attr_handles types.now (entries_of dict.now) }
-    ensures { OnOk result (Puts out.old out.new (entries_text D.attr_id D.attr_text D.type_id D.type_body_text types.now (entries_of dict.now))) }
+    ensures { OnOk result (Puts out.old out.new (pairs_text D.OpSet types.now (entries_of dict.now))) }
 {
     let mut is_first = true;
     'entries: for (key, value) in dict.iter() {
@@ -106,7 +107,7 @@ fn put_list<D: OpSet>(
     list: &Vec<AttrObj<D>>,
 ) -> Result<(), Memory>
     requires { AreItemsLive D.attr_handles types.now (items_of (map attr_view list.now.items)) }
-    ensures { OnOk result (Puts out.old out.new (codes "builtin.vec [" ++ (items_text D.attr_id D.attr_text D.type_id D.type_body_text types.now (items_of (map attr_view list.now.items)) ++ codes "]"))) }
+    ensures { OnOk result (Puts out.old out.new (attribute_text D.OpSet types.now (vec (items_of (map attr_view list.now.items))))) }
 {
     put(out, "builtin.vec [")?;
     put_items(out, alloc, types, list)?;
@@ -123,7 +124,7 @@ fn put_items<D: OpSet>(
     list: &Vec<AttrObj<D>>,
 ) -> Result<(), Memory>
     requires { AreItemsLive D.attr_handles types.now (items_of (map attr_view list.now.items)) }
-    ensures { OnOk result (Puts out.old out.new (items_text D.attr_id D.attr_text D.type_id D.type_body_text types.now (items_of (map attr_view list.now.items)))) }
+    ensures { OnOk result (Puts out.old out.new (attributes_text D.OpSet types.now (items_of (map attr_view list.now.items)))) }
 {
     let mut is_first = true;
     'items: for item in list {
@@ -189,7 +190,7 @@ fn put_integer<D: OpSet>(
     value: &IntegerAttr,
 ) -> Result<(), Memory>
     requires { IsLive types.now value.now.ty }
-    ensures { OnOk result (Puts out.old out.new (leaf_text D.attr_id D.attr_text D.type_id D.type_body_text types.now (integer value.now.ty value.now.value.width value.now.value.bits))) }
+    ensures { OnOk result (Puts out.old out.new (plain_text D.OpSet types.now (integer value.now.ty value.now.value.width value.now.value.bits))) }
 {
     let handle = value.get_type().into();
     put(out, "builtin.integer <")?;
@@ -208,7 +209,7 @@ fn put_type_attr<D: OpSet>(
     value: TypeAttr,
 ) -> Result<(), Memory>
     requires { IsLive types.now value.0 }
-    ensures { OnOk result (Puts out.old out.new (leaf_text D.attr_id D.attr_text D.type_id D.type_body_text types.now (type_of value.0))) }
+    ensures { OnOk result (Puts out.old out.new (plain_text D.OpSet types.now (type_of value.0))) }
 {
     put(out, "builtin.type ")?;
     put_type(out, alloc, types, value.get_type())?;
@@ -223,7 +224,7 @@ fn put_own<D: OpSet>(
     value: &D::Attr,
 ) -> Result<(), Memory>
     requires { AllLive types.now (D.attr_handles value.now) }
-    ensures { OnOk result (Puts out.old out.new (leaf_text D.attr_id D.attr_text D.type_id D.type_body_text types.now (own value.now))) }
+    ensures { OnOk result (Puts out.old out.new (plain_text D.OpSet types.now (own value.now))) }
 {
     let body = D::attr_text(alloc, value, types)?;
     put(out, D::attr_id(value))?;

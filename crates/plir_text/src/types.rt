@@ -4,7 +4,7 @@ ghost use Rattle.std.specs.Prelude.{◌≡◌, ◌++◌, ℕ, IfOk, OnErr};
 ghost use Rattle.plir_data.specs.Types.{AllLive, IsInstantiated, function, unit};
 ghost use Rattle.plir_text.specs.Terms.{TypeTerm, integer_type, function_type, types_of};
 ghost use Rattle.plir_text.specs.Names.{Adds, Names, NamesAll};
-ghost use Rattle.plir_text.specs.Reading.{Gives, Reads};
+ghost use Rattle.plir_text.specs.Reading.{Gives, ReadsFirst};
 ghost use Rattle.plir_text.specs.Lists.{items_at};
 ghost use Rattle.plir_text.specs.TypeReading.{integer_at, function_at, type_at};
 ghost use Rattle.plir_text.specs.TypesIn.{IsInInteger, IsInTypes, IsInFunction, IsInType};
@@ -24,7 +24,7 @@ pub fn read_integer_handle<'a, D: OpSet, C: TypeStore<D>>(
     ctx: &mut C,
     bytes: &'a [u8],
 ) -> Result<(TypeHandle, &'a [u8]), Stop>
-    ensures read { Reads (λ x y. Names (C.types ctx.new) x.0 (integer_type y.0.0 y.0.1) × (x.1.now ≡ y.1)) result (integer_at bytes.now) }
+    ensures read { ReadsFirst (λ h y. Names (C.types ctx.new) h (integer_type y.0 y.1)) result (integer_at bytes.now) }
     ensures kept { Adds C.types C.same_besides (IsInInteger bytes.now) ctx.old ctx.new }
 {
     let ((signedness, width), rest) = read_integer(bytes)?;
@@ -51,7 +51,7 @@ fn read_types<'a, D: OpSet, C: TypeStore<D>>(
     levels: usize,
     bytes: &'a [u8],
 ) -> Result<(Vec<TypeHandle>, &'a [u8]), Stop>
-    ensures read { Reads (λ x y. NamesAll (C.types ctx.new) x.0.items (types_of y.0) × (x.1.now ≡ y.1)) result (items_at 40 41 (type_at levels) bytes.now) }
+    ensures read { ReadsFirst (λ hs ts. NamesAll (C.types ctx.new) hs.items (types_of ts)) result (items_at 40 41 (type_at levels) bytes.now) }
     ensures kept { Adds C.types C.same_besides (IsInTypes levels bytes.now) ctx.old ctx.new }
 {
     let start = read_sign(bytes, b'(')?;
@@ -99,7 +99,7 @@ pub fn read_function<'a, D: OpSet, C: TypeStore<D>>(
     levels: usize,
     bytes: &'a [u8],
 ) -> Result<(TypeHandle, &'a [u8]), Stop>
-    ensures read { Reads (λ x y. Names (C.types ctx.new) x.0 (function_type y.0.0 y.0.1) × (x.1.now ≡ y.1)) result (function_at (type_at levels) bytes.now) }
+    ensures read { ReadsFirst (λ h y. Names (C.types ctx.new) h (function_type y.0 y.1)) result (function_at (type_at levels) bytes.now) }
     ensures kept { Adds C.types C.same_besides (IsInFunction levels bytes.now) ctx.old ctx.new }
 {
     let start = read_sign(bytes, b'<')?;
@@ -120,7 +120,7 @@ pub fn read_type_at<'a, D: OpSet, C: TypeStore<D>>(
     levels: usize,
     bytes: &'a [u8],
 ) -> Result<(TypeHandle, &'a [u8]), Stop>
-    ensures read { Reads (λ x y. Names (C.types ctx.new) x.0 y.0 × (x.1.now ≡ y.1)) result (type_at levels bytes.now) }
+    ensures read { ReadsFirst (Names (C.types ctx.new)) result (type_at levels bytes.now) }
     ensures kept { Adds C.types C.same_besides (IsInType levels bytes.now) ctx.old ctx.new }
 {
     let (kind, rest) = read_type_head(bytes)?;

@@ -1,15 +1,14 @@
 //! Whether a text can stand for an attribute.
 
-ghost use Rattle.std.specs.Prelude.{◌≡◌, ◌↔◌, ◌^◌, ◌<◌, ◌≤◌, All, IsTrue, map, true};
+ghost use Rattle.std.specs.Prelude.{◌≡◌, ◌↔◌, ◌^◌, ◌<◌, All, IsTrue, map, true};
 ghost use Rattle.std.specs.Str.{IsUtf8};
 ghost use Rattle.plir_data.specs.AttrLive.{IsAttrLive, AreItemsLive, AreEntriesLive};
 ghost use Rattle.plir_data.specs.AttrSeen.{attr_view};
-ghost use Rattle.plir_data.specs.AttrVerify.{is_of_width};
-ghost use Rattle.plir_data.specs.AttrView.{dict, items_of, entries_of};
+ghost use Rattle.plir_data.specs.AttrView.{dict, integer, items_of, entries_of};
 ghost use Rattle.plir_data.specs.Identifier.{is_identifier};
 ghost use Rattle.plir_data.specs.TypeTree.{trees_of, tree_of};
-ghost use Rattle.plir_data.specs.Types.{IsLive, AllLive, type_at};
-ghost use Rattle.plir_text.specs.Writable.{IsBuiltin, AreBuiltin, IsNameOrMark, IsWritable, AreItemsWritable};
+ghost use Rattle.plir_data.specs.Types.{IsLive, AllLive};
+ghost use Rattle.plir_text.specs.Writable.{IsBuiltin, AreBuiltin, IsNameOrMark, IsLeafWritable, IsWritable, AreItemsWritable};
 
 use plir_data::laws::tree_of_a_handle;
 use plir_data::{
@@ -76,7 +75,7 @@ fn are_items_writable<D: OpSet>(types: &TypeTable<D>, list: &Vec<AttrObj<D>>) ->
 // The type of an integer has the width of its value.
 fn is_integer_writable<D: OpSet>(types: &TypeTable<D>, value: &IntegerAttr) -> bool
     requires { IsLive types.now value.now.ty }
-    ensures { IsTrue result ↔ ((1 ≤ value.now.value.width) × (value.now.value.width ≤ 64) × (value.now.value.bits < 2 ^ value.now.value.width) × (is_of_width value.now.value.width (type_at types.now value.now.ty) ≡ true)) }
+    ensures { IsTrue result ↔ IsLeafWritable {A = D.Attr} types.now (integer value.now.ty value.now.value.width value.now.value.bits) }
 {
     let bits = value.value();
     match types.get(value.get_type().into()) {

@@ -285,3 +285,27 @@ fn tables_and_operations_where_memory_is_refused(rt: HostRuntime) -> Result<(), 
         declared o2 => The value attribute is of type builtin.integer si32, but the constant is of type builtin.integer si64";
     play_in(rt.alloc(), 100, script)
 }
+
+#[test]
+fn tables_are_walked_and_emptied_while_all_memory_is_refused(
+    rt: HostRuntime,
+) -> Result<(), Mismatch> {
+    let script = "
+        module m => o0
+        module n => o1
+        func f => o2
+        func g => o3
+        edits insert o0 o1; insert o1 o2; insert o0 o3 => done; done; done;
+        hand o0 => o1 o3 advance
+        refuse
+        hand o0 => o1 o3 advance
+        hand o0 o1 => o1 break
+        nearest o2 => o1
+        nearest o1 => o1
+        nearest o0 => o0
+        session grant => ;
+        session lookup o0 g; refuse; find o0 o1; remove o0 o3; find o0 o3; erase o0 o1; grant => o3;; o1; done; -; done;;
+        live o2 => no
+        hand o0 => advance";
+    play_in(rt.alloc(), 100, script)
+}

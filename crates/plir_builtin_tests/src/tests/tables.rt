@@ -143,19 +143,17 @@ fn put_reply(answer: &mut Answer, reply: &Result<(), SymbolEditErr>) -> Result<(
 }
 
 fn hand<D: OpSet>(bench: &mut Bench<D>, line: Line<'_>) -> Result<(), Stop> {
+    let mut handed = bench.take_list()?;
     let op = bench.made.op(&bench.ctx, line.first)?;
     let last = op_of(&bench.made, line.second).ok();
     if !op_impls(&bench.ctx, op, Interface::SymbolTable) || op.num_regions(&bench.ctx) != 1 {
         return Err(Stop::Refused);
     }
-    let mut handed = Vec::new(bench.alloc);
-    handed.reserve(32)?;
     let found = hand_over(&bench.ctx, op, last, &mut handed);
-    for op in &handed {
-        bench
-            .made
-            .put_node(&mut bench.answer, IRNode::Operation(*op));
+    for node in &handed {
+        bench.made.put_node(&mut bench.answer, *node);
     }
+    bench.give_back(handed);
     bench.answer.put(if found.is_break() {
         " break"
     } else {
@@ -169,16 +167,16 @@ fn hand_over<D: OpSet>(
     ctx: &Context<D>,
     op: Ptr<Operation>,
     last: Option<Ptr<Operation>>,
-    handed: &mut Vec<Ptr<Operation>>,
+    handed: &mut Vec<IRNode>,
 ) -> WalkResult<u32>
     requires live { IsLive ctx.now (AnyNode.Operation op) }
     requires table { is_table_at D.is_symbol_table ctx.now op ≡ true }
     requires one_region { length (kids ctx.now (AnyNode.Operation op)) ≡ 1 }
 {
-    let note = |_ctx: &Context<D>, handed: &mut Vec<Ptr<Operation>>, op: Ptr<
-        Operation,
-    >| -> WalkResult<u32> {
-        if handed.push(op).is_err() || last == Some(op) {
+    let note = |_ctx: &Context<D>, handed: &mut Vec<IRNode>, op: Ptr<Operation>| -> WalkResult<
+        u32,
+    > {
+        if handed.push(IRNode::Operation(op)).is_err() || last == Some(op) {
             return walk_break(1);
         }
         walk_advance()

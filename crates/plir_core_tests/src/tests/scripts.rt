@@ -311,6 +311,78 @@ fn lists_grow_where_memory_is_refused(rt: HostRuntime) -> Result<(), Mismatch> {
 }
 
 #[test]
+fn nodes_are_asked_linked_and_erased_while_all_memory_is_refused(
+    rt: HostRuntime,
+) -> Result<(), Mismatch> {
+    let script = "
+        type builtin.unit => t0
+        op module 2 => o0
+        block a t0 => b0
+        block => b1
+        block => b2
+        block => b3
+        op func 1 => o1
+        op plain 0 t0 t0 => o2
+        op plain 0 => o3
+        op yield 0 < o2.0 > b0 => o4
+        op plain 0 < o2.0 o2.1 b0.0 => o5
+        set o1 a builtin.bool true
+        set b0 a builtin.bool true
+        refuse
+        fresh => 0 0 0
+        count => 13
+        number b3 => block4v1
+        back b0 r0
+        front b1 r0
+        before b2 b0
+        after b3 b0
+        show r0 => in o0 at 0, between - r1, blocks b1 b2 b0 b3, from b1 to b3
+        back o4 b0
+        front o1 b0
+        before o2 o4
+        after o3 o2
+        show b3 => -, in r0 o0, between b0 -, operations to -, terminator -, arguments 0
+        show o2 => plain Unknown, in b0 r0 o0, between o1 o3, regions, from - to -, operands, successors, results 2
+        show o4 => yield Unknown, in b0 r0 o0, between o3 -, regions, from - to -, operands o2.0, successors b0, results 0
+        show r1 => in o0 at 1, between r0 -, blocks, from - to -
+        above o0 o4 => yes
+        above o1 o4 => no
+        unused o2 => no
+        unused o0 => no
+        unused o4 => yes
+        live o5 => yes
+        interfaces o4 => terminator
+        point after o2 => b0
+        use o4 0 => o4 0 o2.0
+        get o1 missing => none
+        swap o1 a builtin.bool false => was true
+        swap b0 a builtin.bool false => was true
+        take o1 a => false
+        take b0 a => false
+        at o1 2 3
+        label b0
+        replace o5 0 o2.1
+        remove o5 1 => o2.1
+        remove o5 1 => b0.0
+        show o5 => plain Unknown, in - - -, between - -, regions, from - to -, operands o2.1, successors, results 0
+        erase o5
+        unlink o3
+        unlink b3
+        erase o3
+        erase b3
+        erase r1
+        erase b1
+        show o1 => func SrcPos { line: 2, column: 3 }, in b0 r0 o0, between - o2, regions r2, from r2 to r2, operands, successors, results 0
+        erase o0
+        live o2 => no
+        count => 0
+        grant
+        op module 0 => o6
+        number o6 => op1v2";
+    play_in(rt.alloc(), 100, script)
+}
+
+#[test]
 fn kinds_implement_interfaces(rt: HostRuntime) -> Result<(), Mismatch> {
     let script = "
         op module 0 => o0

@@ -140,9 +140,7 @@ fn copies_leaves<D: OpSet>(rt: &impl Abort, alloc: Global) -> Result<(), Fail> {
 
 #[test]
 fn copies_small_ones(rt: HostRuntime) -> Result<(), Fail> {
-    copies_leaves::<SampleSet>(&rt, rt.alloc())?;
-    let own: AttrObj<SampleSet> = AttrObj::Own(SampleAttr(true));
-    copies(&rt, rt.alloc(), own, "sample.attr")
+    copies_leaves::<SampleSet>(&rt, rt.alloc())
 }
 
 // Names, texts and lists are copied.
@@ -175,7 +173,8 @@ fn copies_sizes<D: OpSet>(rt: &impl Abort, alloc: Global) -> Result<(), Fail> {
 
 #[test]
 fn copies_texts_and_lists_where_memory_is_refused(rt: HostRuntime) -> Result<(), Fail> {
-    copies_whole::<SampleSet>(&rt, rt.alloc())
+    copies_whole::<SampleSet>(&rt, rt.alloc())?;
+    copies(&rt, rt.alloc(), own(true), "sample.attr")
 }
 
 // Two attributes differ, either way.

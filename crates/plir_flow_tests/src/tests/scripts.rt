@@ -116,6 +116,27 @@ impl Layer<SampleSet> for CallCalls {
 }
 
 #[test]
+fn values_are_taken_from_segments_while_all_memory_is_refused(
+    rt: HostRuntime,
+) -> Result<(), Mismatch> {
+    let script = "
+        type builtin.unit => t0
+        op plain 0 t0 t0 t0 t0 => o0
+        op constant 0 < o0.0 o0.1 o0.2 o0.3 => o1
+        sizes o1 2 0 2
+        refuse
+        verify o1 - => ok
+        segments o1 => 3
+        segment o1 0 => 0 to 2: o0.0 o0.1
+        size o1 9 => 0
+        pop o1 2 => o0.3
+        from o1 0 0 => o0.0
+        held o1 => o0.1 o0.2 / 1 0 1
+        grant";
+    play::<SampleSet, SegmentCalls>(rt.alloc(), 100, script)
+}
+
+#[test]
 fn segments_are_edited_where_memory_is_refused(rt: HostRuntime) -> Result<(), Mismatch> {
     let script = "
         type builtin.unit => t0

@@ -74,6 +74,27 @@ fn numbers_are_accepted_and_refused(rt: HostRuntime) -> Result<(), Mismatch> {
 }
 
 #[test]
+fn numbers_are_asked_while_all_memory_is_refused(rt: HostRuntime) -> Result<(), Mismatch> {
+    let script = "
+        type builtin.unit => t0
+        op plain 0 t0 t0 => o0
+        op constant 0 t0 < o0.1 => o1
+        refuse
+        counts o1 NResults<2> => Expected 2 result(s), but found 1 results
+        counts o1 NOpds<2> => Expected 2 operand(s), but found 1
+        counts o1 OneResult => ok
+        counts o1 AtMostNOpds<2> => ok
+        counts o1 AtLeastNResults<2> => Expected at least 2 results, but found 1 results
+        counts o1 AtLeastNOpds<2> => Expected at least 2 operands, but found 1 operands
+        counted o1 OneResult.get_result => o1.0
+        counted o1 OneOpd.operand_type => t0
+        free o1 OptionalOpd.get_operand_opt => o0.1
+        free o1 verify_get_operand_n<2> => Op has only 1 operands, but expected at least 3
+        grant";
+    play_in(rt.alloc(), script)
+}
+
+#[test]
 fn results_and_operands_are_got(rt: HostRuntime) -> Result<(), Mismatch> {
     let script = "
         type builtin.unit => t0

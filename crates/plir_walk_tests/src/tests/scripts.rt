@@ -565,6 +565,55 @@ fn names_stay_where_memory_is_refused(rt: HostRuntime) -> Result<(), Mismatch> {
 }
 
 #[test]
+fn trees_are_walked_and_names_taken_out_while_all_memory_is_refused(
+    rt: HostRuntime,
+) -> Result<(), Mismatch> {
+    let script = "
+        type builtin.unit => t0
+        op module 1 => o0
+        block => b0
+        back b0 r0
+        op func 1 => o1
+        block body t0 t0 => b1
+        back b1 r1
+        back o1 b0
+        op plain 0 t0 t0 => o2
+        back o2 b1
+        set-name o2 0 x
+        set-name o2 1 y
+        set-name b1 0 a
+        set-name b1 1 b
+        look pre-fwd o0 => o0 r0 b0 o1 r1 b1 o2 advance
+        refuse
+        look post-fwd/pre-rev/pre-fwd o0 => r0 b0 r1 b1 o2 o1 o0 advance
+        look post-rev r0 => o2 b1 r1 o1 b0 r0 advance
+        look pre-fwd b0 break r1 => b0 o1 r1 break 7
+        plainly-look post-fwd o0 => o2 b1 r1 o1 b0 r0 o0 advance
+        plainly-look pre-rev r1 => r1 b1 o2 advance
+        plainly-look pre-fwd b1 => b1 o2 advance
+        change pre-fwd o0 limit 3 => o0 r0 b0 limit
+        change post-fwd r1 => o2 b1 r1 advance
+        change pre-rev b1 => b1 o2 advance
+        plainly-change post-rev o0 => o2 b1 r1 o1 b0 r0 o0 advance
+        plainly-change pre-fwd r1 => r1 b1 o2 advance
+        plainly-change pre-fwd b1 => b1 o2 advance
+        names o2 => x y - -
+        names b1 => a b - -
+        remove-name o2 0
+        names o2 => y - - -
+        remove-name b1 1
+        names b1 => a - - -
+        erase-names o0
+        names o2 => - - - -
+        names b1 => - - - -
+        show b1 => -, in r1 o1, between - -, operations o2 to o2, terminator -, arguments 2
+        grant
+        set-name o2 1 z
+        names o2 => - z - -";
+    play_in(rt.alloc(), script)
+}
+
+#[test]
 fn names_below_are_erased(rt: HostRuntime) -> Result<(), Mismatch> {
     let script = "
         op module 1 => o0

@@ -24,11 +24,10 @@ use std::ops::ControlFlow;
 /// only reads, `change SETTING ROOT PLAN` and `plainly-change SETTING ROOT PLAN` by one that follows the plan. Writes
 /// the called nodes and the walk's answer. Nodes that the walk has made are named as they are called.
 pub fn walk<D: OpSet>(bench: &mut Bench<D>, line: Line<'_>) -> Result<(), Stop> {
+    let mut called = bench.take_list()?;
     let config = config_of(line.first)?;
     let root = bench.made.live(&bench.ctx, line.second)?;
     let plan = read_plan(bench, line.tail)?;
-    let mut called = Vec::new(bench.alloc);
-    called.reserve(32)?;
     let found = match line.command {
         "look" => Ok(look_at(&bench.ctx, &config, root, &plan, &mut called)),
         "plainly-look" => {
@@ -54,6 +53,7 @@ pub fn walk<D: OpSet>(bench: &mut Bench<D>, line: Line<'_>) -> Result<(), Stop> 
     };
     name_new(&mut bench.made, called.as_slice())?;
     put_walk(&bench.made, &mut bench.answer, called.as_slice(), found);
+    bench.give_back(called);
     Ok(())
 }
 

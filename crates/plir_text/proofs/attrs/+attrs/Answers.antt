@@ -150,7 +150,7 @@ read_entry-returns-in_err-behind-clause-kept g t c = Adds-itself g.met.C.TypeSto
 pub read_entry-returns-in-Ok-clause-read : goal.read_entry-returns-in-Ok-clause-read
 read_entry-returns-in-Ok-clause-read g t c =
     let y = c.in-Ok.ensures.read in
-    (((c.in_ok-key.key, y.0.0), y.0.1), entry_again (attr_at c.args.levels) c.in_ok-key.key y.0.0 _ _ _ y.0.1 c.in_ok-key.ensures c.in_ok-behind.ensures y.1, (refl, y.2.0, y.2.1))
+    (((c.in_ok-key.key, y.0.0), y.0.1), entry_again (attr_at c.args.levels) c.in_ok-key.key y.0.0 _ _ _ y.0.1 c.in_ok-key.ensures c.in_ok-behind.ensures y.1, ((refl, y.2.0), y.2.1))
 
 pub read_entry-returns-in-Ok-clause-kept : goal.read_entry-returns-in-Ok-clause-kept
 read_entry-returns-in-Ok-clause-kept g t c = Adds-as (in_entry (IsInAttr c.args.levels) _ _ _ _ c.in_ok-key.ensures c.in_ok-behind.ensures) _ _ c.in-Ok.ensures.kept
@@ -188,7 +188,7 @@ pub read_entries-returns-in_err-goes_on-clause-read : goal.read_entries-returns-
 read_entries-returns-in_err-goes_on-clause-read g t c =
     let p = err_from_is_err_and c.from_residual-in_err-goes_on.result c.from_residual-in_err-goes_on.ensures.1 in
     let y = c.in-Ok.ensures.read in
-    rw (p.1, p.2) (fails_behind 91 93 (entry_at (attr_at c.args.levels)) (IsInEntry (IsInAttr c.args.levels)) DictFront c.args.bytes.now _ _ _ _ c.in_err-goes_on.field-0.0 y.0.0 c.in-Ok.read.1.now c.entries.invariant (behind_is _ y.0 c.in-Ok.read.1.now y.1 y.2.2) c.in_err-goes_on.ensures)
+    rw (p.1, p.2) (fails_behind 91 93 (entry_at (attr_at c.args.levels)) (IsInEntry (IsInAttr c.args.levels)) DictFront c.args.bytes.now _ _ _ _ c.in_err-goes_on.field-0.0 y.0.0 c.in-Ok.read.1.now c.entries.invariant (behind_is _ y.0 c.in-Ok.read.1.now y.1 y.2.1) c.in_err-goes_on.ensures)
 
 pub read_entries-returns-in_err-goes_on-clause-kept : goal.read_entries-returns-in_err-goes_on-clause-kept
 read_entries-returns-in_err-goes_on-clause-kept g t c = kept_on 91 93 (entry_at (attr_at c.args.levels)) (IsInEntry (IsInAttr c.args.levels)) DictFront c.args.bytes.now g.met.C.TypeStore.same_besides_on _ _ _ _ _ c.entries.invariant c.in-Ok.ensures.kept
@@ -196,17 +196,17 @@ read_entries-returns-in_err-goes_on-clause-kept g t c = kept_on 91 93 (entry_at 
 pub read_entries-entries-smaller : goal.read_entries-entries-smaller
 read_entries-entries-smaller g t c =
     let y = c.in-Ok.ensures.read in
-    omega (arith, entry_at-shorter c.args.levels c.entries.rest.now y.0 y.1, ap length y.2.2, separator_at-shorter 93 c.in-Ok.read.1.now (c.in_ok-goes_on.goes_on, c.in_ok-goes_on.behind.now) c.in_ok-goes_on.ensures)
+    omega (arith, entry_at-shorter c.args.levels c.entries.rest.now y.0 y.1, ap length y.2.1, separator_at-shorter 93 c.in-Ok.read.1.now (c.in_ok-goes_on.goes_on, c.in_ok-goes_on.behind.now) c.in_ok-goes_on.ensures)
 
 pub read_entries-entries-preserved : goal.read_entries-entries-preserved
 read_entries-entries-preserved g t c =
     let y = c.in-Ok.ensures.read in
-    one_more 91 93 (entry_at (attr_at c.args.levels)) (IsInEntry (IsInAttr c.args.levels)) DictFront c.args.bytes.now g.met.C.TypeStore.same_besides_on DictFront-grown _ _ _ _ _ c.entries.invariant c.in-Ok.ensures.kept y.0.0 c.in-Ok.read.1.now (behind_is _ y.0 c.in-Ok.read.1.now y.1 y.2.2) _ (λ front m. IsDictMeant-push _ _ _ front c.in-Ok.read.0.0 y.0.0.0 _ y.0.0.1 c.in_ok-insert.ensures.ok y.2.0 m y.2.1) c.in_ok-goes_on.behind.now (c.in_ok-goes_on.ensures ∙ ap (λ b. done (b, c.in_ok-goes_on.behind.now)) c.if-goes_on.true) (read_entries-entries-smaller g t c)
+    one_more 91 93 (entry_at (attr_at c.args.levels)) (IsInEntry (IsInAttr c.args.levels)) DictFront c.args.bytes.now g.met.C.TypeStore.same_besides_on DictFront-grown _ _ _ _ _ c.entries.invariant c.in-Ok.ensures.kept y.0.0 c.in-Ok.read.1.now (behind_is _ y.0 c.in-Ok.read.1.now y.1 y.2.1) _ (λ front m. IsDictMeant-push _ _ _ front c.in-Ok.read.0.0 y.0.0.0 _ y.0.0.1 c.in_ok-insert.ensures.ok y.2.0.0 m y.2.0.1) c.in_ok-goes_on.behind.now (c.in_ok-goes_on.ensures ∙ ap (λ b. done (b, c.in_ok-goes_on.behind.now)) c.if-goes_on.true) (read_entries-entries-smaller g t c)
 
 pub read_entries-returns-else-goes_on-clause-read : goal.read_entries-returns-else-goes_on-clause-read
 read_entries-returns-else-goes_on-clause-read g t c =
     let y = c.in-Ok.ensures.read in
-    gathered 91 93 (entry_at (attr_at c.args.levels)) (IsInEntry (IsInAttr c.args.levels)) DictFront c.args.bytes.now g.met.C.TypeStore.same_besides_on DictFront-grown _ _ _ _ _ c.entries.invariant c.in-Ok.ensures.kept y.0.0 c.in-Ok.read.1.now (behind_is _ y.0 c.in-Ok.read.1.now y.1 y.2.2) _ (λ front m. IsDictMeant-push _ _ _ front c.in-Ok.read.0.0 y.0.0.0 _ y.0.0.1 c.in_ok-insert.ensures.ok y.2.0 m y.2.1) c.in_ok-goes_on.behind.now (c.in_ok-goes_on.ensures ∙ ap (λ b. done (b, c.in_ok-goes_on.behind.now)) c.if-goes_on.false)
+    gathered 91 93 (entry_at (attr_at c.args.levels)) (IsInEntry (IsInAttr c.args.levels)) DictFront c.args.bytes.now g.met.C.TypeStore.same_besides_on DictFront-grown _ _ _ _ _ c.entries.invariant c.in-Ok.ensures.kept y.0.0 c.in-Ok.read.1.now (behind_is _ y.0 c.in-Ok.read.1.now y.1 y.2.1) _ (λ front m. IsDictMeant-push _ _ _ front c.in-Ok.read.0.0 y.0.0.0 _ y.0.0.1 c.in_ok-insert.ensures.ok y.2.0.0 m y.2.0.1) c.in_ok-goes_on.behind.now (c.in_ok-goes_on.ensures ∙ ap (λ b. done (b, c.in_ok-goes_on.behind.now)) c.if-goes_on.false)
 
 pub read_entries-returns-else-goes_on-clause-kept : goal.read_entries-returns-else-goes_on-clause-kept
 read_entries-returns-else-goes_on-clause-kept g t c = kept_on 91 93 (entry_at (attr_at c.args.levels)) (IsInEntry (IsInAttr c.args.levels)) DictFront c.args.bytes.now g.met.C.TypeStore.same_besides_on _ _ _ _ _ c.entries.invariant c.in-Ok.ensures.kept
