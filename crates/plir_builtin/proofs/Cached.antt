@@ -135,11 +135,13 @@ module _ {K A T : Type 0} (own own_table : K → Bool) (s : Store K A T) (c : Ta
       at None e = let m = made e in agree-new own own_table s c all p m.0 m.2 m.3 d m.1
       at (Some t) e = subst (AllAgree own own_table s) (sym (kept (subst IsSome (sym e) refl))) all
 
-  -- with the table that is lent in its place all tables agree
+  -- the table that is lent agrees, and so do all with it in its place
   pub brought-lent : (x : Table) → Some x ≡ get d p → AgreesAsLent own own_table s c p x
   brought-lent x has =
-      let f = brought-for in (
-        ap (λ (z : Table). z.op) (same_Some x f.0 (has ∙ f.1)) ∙ f.2,
+      let f = brought-for in
+      let it : x ≡ f.0 = same_Some x f.0 (has ∙ f.1) in (
+        ap (λ (z : Table). z.op) it ∙ f.2,
+        subst (Agrees own own_table s) (sym it) f.3,
         subst (AllAgree own own_table s) (sym (lent-put own own_table s c d p kept made x has)) brought-agree,
       )
 

@@ -27,9 +27,9 @@ module _ {K A T : Type 0} (own_symbol own_table : K → Bool) where
   abbrev pub KeepsAllAgree : Store K A T → Table → Store K A T → Table → Type 0
   KeepsAllAgree s t s' t' = (c : Tables) → AllAgree s (map.insert c t.op t) → AllAgree s' (map.insert c t.op t')
 
-  -- the table t is lent for p out of c: it is that operation's, and with it in its place all tables agree
+  -- the table t is lent for p out of c: it is that operation's, it agrees, and with it in its place all tables agree
   abbrev pub AgreesAsLent : Store K A T → Tables → Ptr OperationKind → Table → Type 0
-  AgreesAsLent s c p t = (t.op ≡ p) × AllAgree s (map.insert c p t)
+  AgreesAsLent s c p t = (t.op ≡ p) × Agrees s t × AllAgree s (map.insert c p t)
 
   -- a new table is cached for p, which agrees
   abbrev pub IsNewlyCached : Store K A T → Tables → Ptr OperationKind → Tables → Type 0

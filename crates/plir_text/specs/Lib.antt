@@ -47,6 +47,8 @@ pub mod AttrAnswer
 --   ListsAgain, TypesAgain, LeavesAgain, AttrsAgain   what stands there is read
 --   Fronts, TypeSteps, AttrSteps   reading step by step, as loops and readers do
 --   Growth, Meanings   what is named and meant in tables that grow
+--   Handles, SameNames, SameMeanings   what one text names and means is one handle, one attribute
+--   Printed, Runs, QuotedAgain, TypesShown, AttrsShown   printed names, numbers, strings, types and attributes are tokens that stand for them
 pub mod StepLaws
 pub mod Lexing
 pub mod Quoted
@@ -64,3 +66,11 @@ pub mod AttrSteps
 pub mod AttrsFound
 pub mod AttrsAgain
 pub mod Meanings
+pub mod Handles
+pub mod SameNames
+pub mod SameMeanings
+pub mod Printed
+pub mod Runs
+pub mod QuotedAgain
+pub mod TypesShown
+pub mod AttrsShown

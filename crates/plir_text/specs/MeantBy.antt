@@ -1,11 +1,10 @@
 -- That what a reader holds is meant by what is written.
-use Rattle.std.specs.Prelude.{◌≡◌, ℕ, map, List, Vec}
+use Rattle.std.specs.Prelude.{◌≡◌, ℕ, map, List}
 use Rattle.plir_data.specs.AttrSeen.{attr_view}
-use Rattle.plir_data.specs.AttrView.{AttrView}
 use Rattle.plir_data.specs.Types.{TypeView}
 use Rattle.plir_data.specs.declared.attributes.AttrObj.{AttrObj}
-use Rattle.plir_text.specs.Meaning.{IsMeant, AreMeant, IsDictMeant}
-use Rattle.plir_text.specs.Terms.{AttrTerm, attrs_of, entries_of}
+use Rattle.plir_text.specs.Meaning.{IsMeant, AreMeant}
+use Rattle.plir_text.specs.Terms.{AttrTerm, attrs_of}
 
 module _ {D K A T E : Type 0} (types : List (TypeView T)) where
   -- an attribute, and attributes in order

@@ -1,5 +1,5 @@
 -- The texts of attributes, by the answers of an op set as `D.OpSet` gives them.
-use Rattle.std.specs.Prelude.{ℕ, List, ◌++◌, codes}
+use Rattle.std.specs.Prelude.{ℕ, List}
 use Rattle.plir_data.specs.AttrView.{AttrView, Items, Entries, Leaf}
 use Rattle.plir_data.specs.Types.{TypeView}
 use Rattle.plir_data.specs.declared.op_set.OpSet as op_set

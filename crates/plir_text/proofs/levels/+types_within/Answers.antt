@@ -5,7 +5,7 @@ use Rattle.plir_data.specs.declared.types.TypeObj.TheVariants.{Function}
 use Rattle.plir_text.specs.Terms.{type_levels}
 use Rattle.plir_text.specs.Writable.{type_term}
 use Rattle.plir_text.proofs.Asked.{asked_as}
-use Rattle.plir_text.proofs.Handles.{all_right, held_below}
+use Rattle.plir_text.specs.Handles.{all_right, held_below}
 use Rattle.plir_text.proofs.TypeLevels.{some_level, one_level, function_levels}
 use Rattle.plir_text.proofs.levels.+types_within.Goals as goal
 

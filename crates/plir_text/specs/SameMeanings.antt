@@ -9,7 +9,7 @@ use Rattle.plir_text.specs.Terms as terms
 use Rattle.plir_text.specs.Terms.{AttrTerm, AttrTerms, no_attrs, attr_before, EntryTerms, no_entries, entry_before}
 use Rattle.plir_text.specs.Meaning.{IsMeant, AreMeant, AreEntriesMeant, StandsFor}
 use Rattle.plir_text.specs.AttrsAgain.{one_attr}
-use Rattle.plir_text.proofs.SameNames.{same_handle}
+use Rattle.plir_text.specs.SameNames.{same_handle}
 
 module _ {A T : Type 0} (own_handles : T → List ℕ) (table : List (TypeView T)) (whole : IsTypeTable own_handles table) where
   mutual

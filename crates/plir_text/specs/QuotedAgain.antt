@@ -11,8 +11,8 @@ use Rattle.plir_text.specs.AttrGrammar.{SpellsString}
 use Rattle.std.specs.Str.{IsUtf8}
 use Rattle.plir_text.specs.Written.{hex_digit, hex, is_control, escape, escaped, quotation}
 use Rattle.plir_text.specs.Quoted.{GoesOn, starts, ends, goes_on}
-use Rattle.plir_text.proofs.Printed.{front-run, past-run}
-use Rattle.plir_text.proofs.Runs.{Shown}
+use Rattle.plir_text.specs.Printed.{front-run, past-run}
+use Rattle.plir_text.specs.Runs.{Shown}
 use Rattle.plir_text.specs.StepLaws.{done}
 
 -- ---- hexadecimal digits

@@ -24,11 +24,11 @@ use Rattle.plir_text.specs.Terms.{levels}
 use Rattle.plir_text.specs.Tokens.{Token, word, digits, sign, look, Begins}
 use Rattle.plir_text.specs.Writable.{IsNameOrMark, pairs_of, IsLeafWritable, IsWritable, AreItemsWritable, AreEntriesWritable, leaf_term, attr_term, attr_terms, entry_terms, signedness_of}
 use Rattle.plir_text.specs.Written.{name_or_mark}
-use Rattle.plir_text.proofs.Printed.{Ends, IsValue, is_word, look-word, look-spaced, look-decimal, value_text, value_spelled, integer-begins}
-use Rattle.plir_text.proofs.QuotedAgain.{string-shown}
+use Rattle.plir_text.specs.Printed.{Ends, IsValue, is_word, look-word, look-spaced, look-decimal, value_text, value_spelled, integer-begins}
+use Rattle.plir_text.specs.QuotedAgain.{string-shown}
 use Rattle.plir_text.specs.Meanings.{IsMeant-grown}
-use Rattle.plir_text.proofs.Runs.{Run, Shown, Tail, Shown-as, Run-as, Tail-as, behind_id, word-shown, identifier_is_word, listed, nothing, behind_first, behind_comma, begins-spaced, several-shown}
-use Rattle.plir_text.proofs.TypesShown.{type-shown, type_named}
+use Rattle.plir_text.specs.Runs.{Run, Shown, Tail, Shown-as, Run-as, Tail-as, behind_id, word-shown, identifier_is_word, listed, nothing, behind_first, behind_comma, begins-spaced, several-shown}
+use Rattle.plir_text.specs.TypesShown.{type-shown, type_named}
 
 -- ---- leaves
 

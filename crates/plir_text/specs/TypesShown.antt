@@ -9,9 +9,9 @@ use Rattle.plir_text.specs.Tokens.{Token, word, sign, arrow, look, Begins}
 use Rattle.plir_text.specs.TypeGrammar.{enclosed, in_angles, SpellsInteger, SpellsType, SpellsTypes, SpellsMoreTypes}
 use Rattle.plir_text.specs.Writable.{IsBuiltin, AreBuiltin, type_term, type_terms}
 use Rattle.plir_text.specs.Begun.{Begins-append}
-use Rattle.plir_text.proofs.Handles.{all_left, all_right}
-use Rattle.plir_text.proofs.Printed.{look-type, type_spelled}
-use Rattle.plir_text.proofs.Runs.{Run, Shown, Tail, Shown-as, behind_id, word-shown, closed_by, nothing, behind_first, behind_comma}
+use Rattle.plir_text.specs.Handles.{all_left, all_right}
+use Rattle.plir_text.specs.Printed.{look-type, type_spelled}
+use Rattle.plir_text.specs.Runs.{Run, Shown, Tail, Shown-as, behind_id, word-shown, closed_by, nothing, behind_first, behind_comma}
 
 look-less : (rest : List ℕ) → look (60 ∷ rest) ≡ Ok (sign 60, rest)
 unfolding look

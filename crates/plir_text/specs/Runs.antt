@@ -7,7 +7,7 @@ use Rattle.plir_text.specs.Tokens.{Token, word, digits, signed, quoted, arrow, s
 use Rattle.plir_text.specs.TypeGrammar.{enclosed}
 use Rattle.plir_text.specs.Written.{joined, joined_on}
 use Rattle.plir_text.specs.Begun.{Begins-append}
-use Rattle.plir_text.proofs.Printed.{Ends, is_word, look-word, look-spaced}
+use Rattle.plir_text.specs.Printed.{Ends, is_word, look-word, look-spaced}
 use Rattle.plir_text.specs.TypesAgain.{parts}
 
 -- a text that is tokens which spell something, where no word goes on behind it
