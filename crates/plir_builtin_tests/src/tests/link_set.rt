@@ -1,15 +1,17 @@
 //! An op set whose operations are symbols, tables and users of symbols as their kinds say.
-ghost use Rattle.std.specs.Prelude.{◌≡◌, ◌↔◌, IsTrue, Some, option_map};
+ghost use Rattle.std.specs.Prelude.{◌≡◌, ◌↔◌, IfOk, IsTrue, Some, option_map};
 ghost use Rattle.plir_data.specs.AttrSeen.{attr_view};
 ghost use Rattle.plir_core.specs.Store.{IsLive};
 ghost use Rattle.plir_core.specs.declared.ptr.IRNode.{IRNode as AnyNode};
+ghost use Rattle.plir_builtin.specs.Agree.{AllAgree, AreGivenOut};
 ghost use Rattle.plir_builtin.specs.Symbols.{name_in};
 ghost use Rattle.plir_builtin_tests.specs.Links.{IsFoundIn, IsLinked, used_name};
 
 use crate::tests::around::Around;
 use crate::tests::many::new_func;
 use plir_builtin::{
-    SymbolTableCollection, SymbolTableInterface, SymbolUserOpInterface, SymbolUserSet,
+    SymbolTableCollection, SymbolTableErr, SymbolTableInterface, SymbolUserOpInterface,
+    SymbolUserSet,
 };
 use plir_core::{Context, Operation, Ptr};
 use plir_data::{
@@ -230,14 +232,39 @@ fn is_found_in<D: OpSet>(ctx: &Context<D>, table: Ptr<Operation>, name: &Identif
     SymbolTableInterface::<D>::lookup(&table, ctx, name).is_some()
 }
 
+// The same by the table that is cached for the operation, or its new one; where it can have none, by its body alone.
+fn is_recorded_in<D: OpSet>(
+    ctx: &Context<D>,
+    tables: &mut SymbolTableCollection,
+    table: Ptr<Operation>,
+    name: &Identifier,
+) -> Result<bool, Memory>
+    requires { IsLive ctx.now (AnyNode.Operation table) }
+    ensures found { AllAgree D.is_symbol D.is_symbol_table ctx.now tables.old → IfOk result (λ b. IsTrue b ↔ IsFoundIn D.is_symbol ctx.now table name.now) }
+    ensures agree { AllAgree D.is_symbol D.is_symbol_table ctx.now tables.old → AllAgree D.is_symbol D.is_symbol_table ctx.now tables.new }
+    ensures given { AreGivenOut ctx.now tables.old → AreGivenOut ctx.now tables.new }
+{
+    match tables.lookup_symbol_in_table(ctx, table, name) {
+        Ok(found) => Ok(found.is_some()),
+        Err(SymbolTableErr::Memory) => Err(Memory),
+        Err(_) => Ok(is_found_in(ctx, table, name)),
+    }
+}
+
 // Whether an operation names a symbol that stands in the body of its parent operation.
-fn is_linked<D: OpSet>(ctx: &Context<D>, op: Ptr<Operation>) -> bool
+fn is_linked<D: OpSet>(
+    ctx: &Context<D>,
+    tables: &mut SymbolTableCollection,
+    op: Ptr<Operation>,
+) -> Result<bool, Memory>
     requires { IsLive ctx.now (AnyNode.Operation op) }
-    ensures { IsTrue result ↔ IsLinked D.is_symbol ctx.now op }
+    ensures linked { AllAgree D.is_symbol D.is_symbol_table ctx.now tables.old → IfOk result (λ b. IsTrue b ↔ IsLinked D.is_symbol ctx.now op) }
+    ensures agree { AllAgree D.is_symbol D.is_symbol_table ctx.now tables.old → AllAgree D.is_symbol D.is_symbol_table ctx.now tables.new }
+    ensures given { AreGivenOut ctx.now tables.old → AreGivenOut ctx.now tables.new }
 {
     match (op.get_parent_op(ctx), used_symbol(ctx, op)) {
-        (Some(table), Some(name)) => is_found_in(ctx, table, name),
-        _ => false,
+        (Some(table), Some(name)) => is_recorded_in(ctx, tables, table, name),
+        _ => Ok(false),
     }
 }
 
@@ -265,15 +292,16 @@ impl SymbolUserOpInterface<LinkSet> for LinkOp {
     fn verify_symbol_uses(
         &self,
         ctx: &Context<LinkSet>,
-        _tables: &mut SymbolTableCollection,
+        tables: &mut SymbolTableCollection,
     ) -> Result<(), VerifyErr<NotLinked>> {
-        if is_linked(ctx, self.op) {
-            return Ok(());
+        match is_linked(ctx, tables, self.op) {
+            Ok(true) => Ok(()),
+            Ok(false) => Err(VerifyErr::Refused {
+                loc: self.op.loc(ctx),
+                err: NotLinked,
+            }),
+            Err(Memory) => Err(VerifyErr::Memory),
         }
-        Err(VerifyErr::Refused {
-            loc: self.op.loc(ctx),
-            err: NotLinked,
-        })
     }
 
     fn used_symbols(

@@ -282,7 +282,16 @@ fn tables_and_operations_where_memory_is_refused(rt: HostRuntime) -> Result<(), 
         take o2 builtin_constant_value => builtin.integer
         set o2 builtin_constant_value builtin.integer <0: si32>
         rule o2 => The value attribute is of type builtin.integer si32, but the constant is of type builtin.integer si64
-        declared o2 => The value attribute is of type builtin.integer si32, but the constant is of type builtin.integer si64";
+        declared o2 => The value attribute is of type builtin.integer si32, but the constant is of type builtin.integer si64
+        unlink o6
+        op u 0 => o7
+        set o7 link_uses builtin.identifier f
+        back o7 b0
+        right o0 => holds
+        declared o0 => holds
+        unlink o1
+        right o0 => not linked
+        declared o0 => not linked";
     play_in(rt.alloc(), 100, script)
 }
 
