@@ -1,7 +1,10 @@
 //! A script from a reader to a writer.
+ghost use Rattle.plir_run.specs.Right.{AreRight};
+
 use crate::lines::Lines;
 use crate::script::Script;
 use crate::stop::Stop;
+use plir_data::{BuiltinSet, OpSet};
 use std::alloc::Global;
 use std::io::{self, BufReader, BufWriter, Read, Write};
 
@@ -45,7 +48,9 @@ fn run_lines<R: Read + Drop, W: Write>(
     script: &mut Script,
     lines: &mut Lines<R>,
     writer: &mut W,
-) -> Result<(), Stop> {
+) -> Result<(), Stop>
+    requires agree { AreRight ⟦<BuiltinSet as OpSet>⟧ script.old.ctx script.old.tables }
+{
     for _ in 0..u64::MAX {
         match lines.next_line()? {
             None => return Ok(()),

@@ -2,15 +2,17 @@
 ghost use Rattle.std.specs.Prelude.{IfOk};
 ghost use Rattle.plir_core.specs.Store.{IsLive};
 ghost use Rattle.plir_core.specs.declared.ptr.IRNode.{IRNode as AnyNode};
+ghost use Rattle.plir_run.specs.Right.{AreRight};
 
 use crate::command::{Command, read_command};
 use crate::stop::Stop;
 use crate::tables::{erase, insert};
 use crate::walking::{print_symbols, print_walk};
 use crate::writing::{print_line, print_named};
+use plir_builtin::laws::{new_nodes_keep_agreement, no_tables_agree};
 use plir_builtin::{FuncOp, ModuleOp, SymbolTableCollection};
 use plir_core::{Context, Operation, Ptr};
-use plir_data::{BuiltinSet, FunctionType, Identifier};
+use plir_data::{BuiltinSet, FunctionType, Identifier, OpSet};
 use plir_iface::Op;
 use plir_print::{is_printable, print_op};
 use plir_walk::{Direction, Order};
@@ -30,10 +32,14 @@ pub struct Script {
 
 impl Script {
     /// Nothing built yet.
-    pub fn new(alloc: Global) -> Self {
+    pub fn new(alloc: Global) -> Self
+        ensures agree { AreRight ⟦<BuiltinSet as OpSet>⟧ result.ctx result.tables }
+    {
+        let ctx = Context::new(alloc);
+        no_tables_agree(&ctx);
         Script {
             alloc,
-            ctx: Context::new(alloc),
+            ctx,
             tables: SymbolTableCollection::new(alloc),
             root: None,
             open: Vec::new(alloc),
@@ -41,7 +47,10 @@ impl Script {
     }
 
     /// Does what a line says.
-    pub fn run_line<W: Write>(&mut self, line: &str, writer: &mut W) -> Result<(), Stop> {
+    pub fn run_line<W: Write>(&mut self, line: &str, writer: &mut W) -> Result<(), Stop>
+        requires agree { AreRight ⟦<BuiltinSet as OpSet>⟧ self.old.ctx self.old.tables }
+        ensures agree { AreRight ⟦<BuiltinSet as OpSet>⟧ self.new.ctx self.new.tables }
+    {
         match read_command(line) {
             None => Err(Stop::Refused),
             Some(Command::Nothing) => Ok(()),
@@ -57,41 +66,66 @@ impl Script {
     }
 
     // The root, if there is none yet, or an operation of the innermost open module; it becomes the innermost open one.
-    fn add_module(&mut self, name: &str) -> Result<(), Stop> {
+    fn add_module(&mut self, name: &str) -> Result<(), Stop>
+        requires agree { AreRight ⟦<BuiltinSet as OpSet>⟧ self.old.ctx self.old.tables }
+        ensures agree { AreRight ⟦<BuiltinSet as OpSet>⟧ self.new.ctx self.new.tables }
+    {
         if self.open.is_empty() && self.root.is_some() {
             return Err(Stop::Refused);
         }
         let name = Identifier::try_new(self.alloc, name)?;
         self.open.reserve(1)?;
-        let made = ModuleOp::new(self.alloc, &mut self.ctx, name)?;
-        let op = Op::<BuiltinSet>::get_operation(&made);
-        if self.root.is_none() {
-            self.root = Some(op);
-        } else {
-            self.insert(op)?;
-        }
+        let op = match self.root {
+            None => self.make_root(name)?,
+            Some(_) => self.make_module(name)?,
+        };
         self.open.push(op)?;
         Ok(())
     }
 
+    // The first module of all.
+    fn make_root(&mut self, name: Identifier) -> Result<Ptr<Operation>, Stop>
+        requires agree { AreRight ⟦<BuiltinSet as OpSet>⟧ self.old.ctx self.old.tables }
+        ensures agree { AreRight ⟦<BuiltinSet as OpSet>⟧ self.new.ctx self.new.tables }
+    {
+        let made = ModuleOp::new(self.alloc, &mut self.ctx, name);
+        new_nodes_keep_agreement(&self.ctx);
+        let op = Op::<BuiltinSet>::get_operation(&made?);
+        self.root = Some(op);
+        Ok(op)
+    }
+
+    // A module in the innermost open one.
+    fn make_module(&mut self, name: Identifier) -> Result<Ptr<Operation>, Stop>
+        requires agree { AreRight ⟦<BuiltinSet as OpSet>⟧ self.old.ctx self.old.tables }
+        ensures agree { AreRight ⟦<BuiltinSet as OpSet>⟧ self.new.ctx self.new.tables }
+    {
+        let target = self.innermost()?;
+        let made = ModuleOp::new(self.alloc, &mut self.ctx, name);
+        new_nodes_keep_agreement(&self.ctx);
+        let op = Op::<BuiltinSet>::get_operation(&made?);
+        insert(&mut self.ctx, &mut self.tables, target, op)?;
+        Ok(op)
+    }
+
     // A function without arguments and results, in the innermost open module.
-    fn add_func(&mut self, name: &str) -> Result<(), Stop> {
+    fn add_func(&mut self, name: &str) -> Result<(), Stop>
+        requires agree { AreRight ⟦<BuiltinSet as OpSet>⟧ self.old.ctx self.old.tables }
+        ensures agree { AreRight ⟦<BuiltinSet as OpSet>⟧ self.new.ctx self.new.tables }
+    {
         if self.open.is_empty() {
             return Err(Stop::Refused);
         }
         let name = Identifier::try_new(self.alloc, name)?;
+        let target = self.innermost()?;
         let arguments = Vec::new(self.alloc);
         let results = Vec::new(self.alloc);
-        let ty = FunctionType::get(&mut self.ctx, arguments, results)?;
-        let made = FuncOp::new(self.alloc, &mut self.ctx, name, ty)?;
-        self.insert(Op::<BuiltinSet>::get_operation(&made))
-    }
-
-    // Puts a new operation into the innermost open module.
-    fn insert(&mut self, op: Ptr<Operation>) -> Result<(), Stop>
-        requires { IsLive self.old.ctx (AnyNode.Operation op) }
-    {
-        let target = self.innermost()?;
+        let ty = FunctionType::get(&mut self.ctx, arguments, results);
+        new_nodes_keep_agreement(&self.ctx);
+        let ty = ty?;
+        let made = FuncOp::new(self.alloc, &mut self.ctx, name, ty);
+        new_nodes_keep_agreement(&self.ctx);
+        let op = Op::<BuiltinSet>::get_operation(&made?);
         insert(&mut self.ctx, &mut self.tables, target, op)
     }
 
@@ -134,7 +168,10 @@ impl Script {
     }
 
     // Looks a name up from the innermost open module, else from the root.
-    fn find(&mut self, name: &str) -> Result<Option<Ptr<Operation>>, Stop> {
+    fn find(&mut self, name: &str) -> Result<Option<Ptr<Operation>>, Stop>
+        requires agree { AreRight ⟦<BuiltinSet as OpSet>⟧ self.old.ctx self.old.tables }
+        ensures agree { AreRight ⟦<BuiltinSet as OpSet>⟧ self.new.ctx self.new.tables }
+    {
         let from = self.innermost()?;
         let name = Identifier::try_new(self.alloc, name)?;
         let found = self
@@ -143,7 +180,10 @@ impl Script {
         Ok(found)
     }
 
-    fn look_up<W: Write>(&mut self, name: &str, writer: &mut W) -> Result<(), Stop> {
+    fn look_up<W: Write>(&mut self, name: &str, writer: &mut W) -> Result<(), Stop>
+        requires agree { AreRight ⟦<BuiltinSet as OpSet>⟧ self.old.ctx self.old.tables }
+        ensures agree { AreRight ⟦<BuiltinSet as OpSet>⟧ self.new.ctx self.new.tables }
+    {
         match self.find(name)? {
             Some(_) => print_named(writer, "found", name),
             None => print_line(writer, "none"),
@@ -151,7 +191,10 @@ impl Script {
     }
 
     // Erases what has a name in the innermost open module, else in the root.
-    fn erase<W: Write>(&mut self, name: &str, writer: &mut W) -> Result<(), Stop> {
+    fn erase<W: Write>(&mut self, name: &str, writer: &mut W) -> Result<(), Stop>
+        requires agree { AreRight ⟦<BuiltinSet as OpSet>⟧ self.old.ctx self.old.tables }
+        ensures agree { AreRight ⟦<BuiltinSet as OpSet>⟧ self.new.ctx self.new.tables }
+    {
         let op = self.find(name)?.ok_or(Stop::Refused)?;
         let target = self.innermost()?;
         erase(&mut self.ctx, &mut self.tables, target, op)?;
@@ -162,7 +205,10 @@ impl Script {
         print_symbols(&self.ctx, self.innermost()?, writer)
     }
 
-    fn close_module(&mut self) -> Result<(), Stop> {
+    fn close_module(&mut self) -> Result<(), Stop>
+        requires agree { AreRight ⟦<BuiltinSet as OpSet>⟧ self.old.ctx self.old.tables }
+        ensures agree { AreRight ⟦<BuiltinSet as OpSet>⟧ self.new.ctx self.new.tables }
+    {
         match self.open.pop() {
             None => Err(Stop::Refused),
             Some(_) => Ok(()),

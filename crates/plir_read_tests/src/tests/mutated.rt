@@ -55,13 +55,13 @@ const WORDS: [&'static str; 32] = [
 
 /// A fixed sequence of numbers, each from the one before by a product and a sum.
 #[derive(Drop)]
-struct Sequence {
-    last: u64,
+pub struct Sequence {
+    pub last: u64,
 }
 
 impl Sequence {
-    // The next number, below `bound`.
-    fn below(&mut self, bound: usize) -> usize {
+    /// The next number, below `bound`.
+    pub fn below(&mut self, bound: usize) -> usize {
         self.last = self
             .last
             .wrapping_mul(6_364_136_223_846_793_005)
@@ -70,15 +70,15 @@ impl Sequence {
         number.checked_rem(bound).unwrap_or(0)
     }
 
-    // One of some texts.
-    fn pick(&mut self, texts: &[&'static str]) -> &'static str {
+    /// One of some texts.
+    pub fn pick(&mut self, texts: &[&'static str]) -> &'static str {
         let number = self.below(texts.len());
         texts.get(number).copied().unwrap_or("")
     }
 }
 
-// A text of up to twenty words in any order.
-fn any_words(alloc: Global, numbers: &mut Sequence) -> Result<String, Stop> {
+/// A text of up to twenty words in any order.
+pub fn any_words(alloc: Global, numbers: &mut Sequence) -> Result<String, Stop> {
     let mut text = String::new(alloc);
     for _ in 0..numbers.below(20) {
         text.push_str(numbers.pick(&WORDS))?;
@@ -103,9 +103,9 @@ fn changed(alloc: Global, numbers: &mut Sequence) -> Result<String, Stop> {
 
 /// What became of some texts.
 #[derive(Drop)]
-struct Seen {
-    some_read: bool,
-    some_refused: bool,
+pub struct Seen {
+    pub some_read: bool,
+    pub some_refused: bool,
 }
 
 impl Seen {
@@ -115,8 +115,8 @@ impl Seen {
     }
 }
 
-// Hands a text to each reader.
-fn read_each<D: OpSet>(alloc: Global, ctx: &mut Context<D>, text: &str, seen: &mut Seen) {
+/// Hands a text to each reader.
+pub fn read_each<D: OpSet>(alloc: Global, ctx: &mut Context<D>, text: &str, seen: &mut Seen) {
     seen.note(read_op(alloc, ctx, text).is_ok());
     seen.note(read_attr::<D, _>(alloc, ctx, text).is_ok());
     seen.note(read_type::<D, _>(alloc, ctx, text).is_ok());

@@ -84,6 +84,11 @@ fn beginnings_are_unexpected(rt: HostRuntime) -> Result<(), Mismatch> {
         beginnings-type builtin.function <( builtin.integer si32 ,builtin.unit ) -> ( )> => unexpected
         beginnings-attr builtin.dict [a = builtin.string \"\\u{7f}\", b = builtin.vec [builtin.integer <-1: si8>], c = builtin.given_names [x, ?]] => unexpected
         beginnings-attr builtin.integer <18446744073709551615: i64> => unexpected
+        beginnings-attr builtin.integer <255: ui8> => unexpected
+        beginnings-attr builtin.integer <1: i1> => unexpected
+        beginnings-attr builtin.integer <-128: ui8> => unexpected
+        beginnings-attr builtin.integer <1: si1> => unexpected
+        beginnings-attr builtin.integer <+42: si64> => unexpected
         beginnings-attr builtin.string \"a\\\\b\\nc\\td\\re\\0f\\u{7f}\" => unexpected";
     play_in(rt.alloc(), script)
 }
