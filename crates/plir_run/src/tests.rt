@@ -1,6 +1,6 @@
 //! Scripts and what they write.
 use crate::run::run_script;
-use std::alloc::Global;
+use std::alloc::{AllocError, Global};
 use std::io::{self, ErrorKind, Read, Write};
 use std::process::Abort;
 use std::test::Fail;
@@ -332,4 +332,22 @@ fn the_text_of_the_root_is_printed(rt: HostRuntime) {
         "builtin.module @m \n{\n  ^block1v1():\n    builtin.module @n \n    {\n      ^block2v1():\n    }\n}\nline 4: refused\n",
         1,
     );
+}
+
+// The script of so many modules in one another, whose text is asked for.
+fn deep_script(alloc: Global, modules: usize) -> Result<Vec<u8>, AllocError> {
+    let mut script = Vec::new(alloc);
+    for _ in 0..modules {
+        script.extend_from_slice(b"module m\n")?;
+    }
+    script.extend_from_slice(b"text")?;
+    Ok(script)
+}
+
+#[test]
+fn a_tree_of_too_many_levels_is_not_printed(rt: HostRuntime) -> Result<(), AllocError> {
+    let alloc = rt.alloc();
+    let script = deep_script(alloc, 1_001)?;
+    expect_run(&rt, alloc, script.as_slice(), "line 1002: refused\n", 1);
+    Ok(())
 }
