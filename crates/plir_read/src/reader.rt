@@ -10,6 +10,7 @@ ghost use Rattle.plir_read.specs.OpGrammar.{OpWithin};
 ghost use Rattle.plir_read.specs.OpReading.{op_at};
 ghost use Rattle.plir_read.specs.OpTerms.{OpTerm};
 ghost use Rattle.plir_read.specs.OpsStanding.{IsOpAt, StandsForOp};
+ghost use Rattle.plir_read.specs.Slots.{IsMadeInOrder};
 ghost use Rattle.plir_read.specs.Stopping.{ReadsOn, IsOfText};
 
 use crate::ops::read_op_at;
@@ -29,6 +30,7 @@ fn whole_op<D: OpSet>(
 ) -> Result<Ptr<Operation>, Stop>
     ensures read { ReadsOn (λ p w. IsOpAt ctx.new (IRNode.Operation p) w) result (whole (op_at 200) bytes.now) }
     ensures made { IfOk result (λ p. IsMade ctx.old.nodes ctx.new.nodes (IRNode.Operation p)) }
+    ensures slots { IfOk result (λ p. IsMadeInOrder ctx.old.nodes ctx.new.nodes (IRNode.Operation p)) }
     ensures kept { KeepsOlder ctx.old ctx.new }
     ensures whole { IsWhole D.attr_handles ctx.new }
 {
@@ -55,6 +57,7 @@ pub fn read_op<D: OpSet>(
 ) -> Result<Ptr<Operation>, ReadErr>
     ensures found { IfOk result (λ p. StandsForOp 200 ctx.new text.now (IRNode.Operation p)) }
     ensures made { IfOk result (λ p. IsMade ctx.old.nodes ctx.new.nodes (IRNode.Operation p)) }
+    ensures slots { IfOk result (λ p. IsMadeInOrder ctx.old.nodes ctx.new.nodes (IRNode.Operation p)) }
     ensures fault { IfErr result (λ e. IsOfText e.fault → whole (op_at 200) text.now ≡ Err e.fault) }
     ensures refused { IfErr result (λ e. IsOfText e.fault → (w : OpTerm) → IsText (OpWithin 200) text.now w → ⊥) }
     ensures kept { KeepsOlder ctx.old ctx.new }

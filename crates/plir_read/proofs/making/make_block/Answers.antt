@@ -1,11 +1,14 @@
-use Rattle.std.proofs.Common.{◌≡◌, false, is_none, ap, sym, subst, ◌∙◌}
+use Rattle.std.proofs.Common.{◌≡◌, false, [], ◌∷◌, is_none, ap, sym, subst, ◌∙◌}
 use Rattle.std.specs.List.{list_all}
 use Rattle.plir_data.specs.AttrView.{leaf, given_names}
 use Rattle.plir_data.specs.Dictionary.{dict_put}
 use Rattle.plir_core.specs.Contents.{BlockView}
 use Rattle.plir_core.specs.Held.{IsBlockEdited}
+use Rattle.plir_core.specs.declared.ptr.IRNode.TheVariants.{BasicBlock}
 use Rattle.plir_read.specs.Keys.{names_key}
+use Rattle.plir_read.specs.Slots.{node_slots, AreNext}
 use Rattle.plir_read.proofs.OpMade.{IsNewBlock-edited, named_block}
+use Rattle.plir_read.proofs.SlotLaws.{block_given, edited_slots}
 use Rattle.plir_read.proofs.making.make_block.Goals as goal
 
 pub returns-clause-made : goal.returns-clause-made
@@ -16,3 +19,15 @@ returns-clause-made g c =
     let set : list_all is_none c.args.head.arguments.names.items ≡ false = ap (list_all is_none) (sym c.as_slice.ensures.value) ∙ sym c.all_unset-unset.ensures ∙ c.if-unset.false in
     named_block c.args.ctx.now c.put_names.new.ctx c.in-Ok.block c.args.head set
     (IsNewBlock-edited c.args.ctx.now c.new.new.ctx c.put_names.new.ctx c.in-Ok.block _ f (record { made = b.made; held = b.held; empty = b.empty; types = ap (λ z. z.types) b.ok }) edited)
+
+pub returns-then-unset-clause-slots : goal.returns-then-unset-clause-slots
+returns-then-unset-clause-slots g c =
+    let b = c.in-Ok.ensures in
+    block_given c.args.ctx.now.nodes c.new.new.ctx.nodes c.num_live-before.ensures.whole.forest _ c.in-Ok.block (ap (λ z. z.nodes) b.ok) b.made.new b.made.root
+
+pub returns-clause-slots : goal.returns-clause-slots
+returns-clause-slots g c =
+    let b = c.in-Ok.ensures in
+    let given = block_given c.args.ctx.now.nodes c.new.new.ctx.nodes c.num_live-before.ensures.whole.forest _ c.in-Ok.block (ap (λ z. z.nodes) b.ok) b.made.new b.made.root in
+    let same = ap (λ z. node_slots z.nodes) c.in_ok-put_names.ensures.put ∙ edited_slots c.new.new.ctx c.in-Ok.block _ in
+    subst (λ z. AreNext (node_slots c.args.ctx.now.nodes) (BasicBlock c.in-Ok.block ∷ []) z) (sym same) given
