@@ -14,14 +14,13 @@ use Rattle.plir_core.specs.declared.ptr.Region.{Region as RegionKind}
 use Rattle.plir_core.specs.declared.ptr.BasicBlock.{BasicBlock as BlockKind}
 use Rattle.plir_core.specs.declared.ptr.IRNode.{IRNode}
 use Rattle.plir_core.specs.declared.ptr.IRNode.TheVariants.{Operation, Region, BasicBlock}
-use Rattle.plir_core.specs.Changes.{with_block_edit, block_edited}
-use Rattle.plir_core.specs.Contents.{BlockView}
-use Rattle.plir_core.specs.Edits.{with_new_op, with_new_block, with_new_regions}
+use Rattle.plir_core.specs.Changes.{with_op, with_block, with_block_edit, block_edited}
+use Rattle.plir_core.specs.Contents.{OpView, BlockView}
 use Rattle.plir_core.specs.Forest.{IsForest}
 use Rattle.plir_core.specs.Made.{IsMade, IsNewRegion, HasNewRegions}
 use Rattle.plir_core.specs.Nodes.{Nodes, is_node_live, node_kids, node_parent}
 use Rattle.plir_core.specs.Placed.{IsPlaced}
-use Rattle.plir_core.specs.Store.{Store, block_at}
+use Rattle.plir_core.specs.Store.{Store, is_live, IsLive, block_at}
 use Rattle.plir_read.specs.Slots.{KindSlots, kind_slots, next_number, next_pointer, with_next, with_next_in, NodeSlots, node_slots, with_one_like, AreNext, AreGivenOut}
 
 -- ---- one kind
@@ -73,31 +72,33 @@ pub AreNext-append : (s t u : NodeSlots) (ns ms : List IRNode) → AreNext s ns 
 AreNext-append s t u [] ms e h = subst (λ z. AreNext z ms u) e h
 AreNext-append s t u (n ∷ ns) ms e h = (e.0, AreNext-append (with_one_like s n) t u ns ms e.1 h)
 
-module _ {O B : Type 0} (s t : Nodes O B) (w : IsForest s) where
+module _ {K A T : Type 0} (s t : Store K A T) (w : IsForest s.nodes) where
   -- an operation without a region
-  pub leaf_given : (v : O) (p : Ptr OperationKind) → t ≡ with_new_op s v → is_node_live s (Operation p) ≡ false → is_node_live t (Operation p) ≡ true → AreGivenOut s (Operation p ∷ []) t
+  pub leaf_given : (v : OpView K A) (p : Ptr OperationKind) → t ≡ with_op s v 0 → is_live s (Operation p) ≡ false → IsLive t (Operation p) → AreGivenOut s.nodes (Operation p ∷ []) t.nodes
   leaf_given v p e old new = (
-    new_is_next s.ops v p w.op_slots old (subst (λ z. is_node_live z (Operation p) ≡ true) e new),
-    ap node_slots e ∙ ap (λ k. let z : NodeSlots = record { ops = k; regions = kind_slots s.regions; blocks = kind_slots s.blocks } in z) (kind_slots-with_new s.ops v),
+    new_is_next s.nodes.ops v p w.op_slots old (subst (λ z. IsLive z (Operation p)) e new),
+    ap (λ z. node_slots z.nodes) e
+    ∙ ap (λ k. let z : NodeSlots = record { ops = k; regions = kind_slots s.nodes.regions; blocks = kind_slots s.nodes.blocks } in z) (kind_slots-with_new s.nodes.ops v),
   )
 
   -- an operation with one region
-  pub op_given : (v : O) (o : ℕ) (p : Ptr OperationKind) (r : Ptr RegionKind) → t ≡ with_new_regions (with_new_op s v) o 1 → is_node_live s (Operation p) ≡ false → is_node_live t (Operation p) ≡ true → is_node_live s (Region r) ≡ false → is_node_live t (Region r) ≡ true → AreGivenOut s (Operation p ∷ Region r ∷ []) t
-  op_given v o p r e old new old_region new_region = (
-    new_is_next s.ops v p w.op_slots old (subst (λ z. is_node_live z (Operation p) ≡ true) e new),
+  pub op_given : (v : OpView K A) (p : Ptr OperationKind) (r : Ptr RegionKind) → t ≡ with_op s v 1 → is_live s (Operation p) ≡ false → IsLive t (Operation p) → is_live s (Region r) ≡ false → IsLive t (Region r) → AreGivenOut s.nodes (Operation p ∷ Region r ∷ []) t.nodes
+  op_given v p r e old new old_region new_region = (
+    new_is_next s.nodes.ops v p w.op_slots old (subst (λ z. IsLive z (Operation p)) e new),
     (
-      new_is_next s.regions (record {}) r w.region_slots old_region (subst (λ z. is_node_live z (Region r) ≡ true) e new_region),
-      ap node_slots e
-      ∙ ap (λ k. let z : NodeSlots = record { ops = k; regions = kind_slots (with_new s.regions (record {})); blocks = kind_slots s.blocks } in z) (kind_slots-with_new s.ops v)
-      ∙ ap (λ k. let z : NodeSlots = record { ops = with_next (kind_slots s.ops); regions = k; blocks = kind_slots s.blocks } in z) (kind_slots-with_new s.regions (record {})),
+      new_is_next s.nodes.regions (record {}) r w.region_slots old_region (subst (λ z. IsLive z (Region r)) e new_region),
+      ap (λ z. node_slots z.nodes) e
+      ∙ ap (λ k. let z : NodeSlots = record { ops = k; regions = kind_slots (with_new s.nodes.regions (record {})); blocks = kind_slots s.nodes.blocks } in z) (kind_slots-with_new s.nodes.ops v)
+      ∙ ap (λ k. let z : NodeSlots = record { ops = with_next (kind_slots s.nodes.ops); regions = k; blocks = kind_slots s.nodes.blocks } in z) (kind_slots-with_new s.nodes.regions (record {})),
     ),
   )
 
   -- a block
-  pub block_given : (v : B) (p : Ptr BlockKind) → t ≡ with_new_block s v → is_node_live s (BasicBlock p) ≡ false → is_node_live t (BasicBlock p) ≡ true → AreGivenOut s (BasicBlock p ∷ []) t
+  pub block_given : (v : BlockView A) (p : Ptr BlockKind) → t ≡ with_block s v → is_live s (BasicBlock p) ≡ false → IsLive t (BasicBlock p) → AreGivenOut s.nodes (BasicBlock p ∷ []) t.nodes
   block_given v p e old new = (
-    new_is_next s.blocks v p w.block_slots old (subst (λ z. is_node_live z (BasicBlock p) ≡ true) e new),
-    ap node_slots e ∙ ap (λ k. let z : NodeSlots = record { ops = kind_slots s.ops; regions = kind_slots s.regions; blocks = k } in z) (kind_slots-with_new s.blocks v),
+    new_is_next s.nodes.blocks v p w.block_slots old (subst (λ z. IsLive z (BasicBlock p)) e new),
+    ap (λ z. node_slots z.nodes) e
+    ∙ ap (λ k. let z : NodeSlots = record { ops = kind_slots s.nodes.ops; regions = kind_slots s.nodes.regions; blocks = k } in z) (kind_slots-with_new s.nodes.blocks v),
   )
 
 -- what is put under a node takes no slot
@@ -114,11 +115,12 @@ region_new s t o r m h e = at (is_node_live s r) refl
         absurd (m.apart r live (1, ap (λ z. node_parent t z) (sym (get_or_from_slice_get (node_kids t o) 0 r r e)) ∙ region.parent))
     at false dead = dead
 
--- MOCKCUT
--- what is written into a block takes no slot
-pub edited_slots : {K A T : Type 0} (s : Store K A T) (p : Ptr BlockKind) (f : BlockView A → BlockView A) → node_slots (with_block_edit s p f).nodes ≡ node_slots s.nodes
-edited_slots {A} s p f = at (block_at s p)
-  where
-    at : (o : Option (BlockView A)) → node_slots (block_edited s p.slot f o).nodes ≡ node_slots s.nodes
-    at None = refl
-    at (Some v) = ap (λ k. let z : NodeSlots = record { ops = kind_slots s.nodes.ops; regions = kind_slots s.nodes.regions; blocks = k } in z) (kind_slots-with_content s.nodes.blocks p.slot (f v))
+module _ {K A T : Type 0} where
+  edited_slots : (s : Store K A T) (i : ℕ) (f : BlockView A → BlockView A) (o : Option (BlockView A)) → node_slots (block_edited s i f o).nodes ≡ node_slots s.nodes
+  edited_slots s i f None = refl
+  edited_slots s i f (Some v) =
+      ap (λ k. let z : NodeSlots = record { ops = kind_slots s.nodes.ops; regions = kind_slots s.nodes.regions; blocks = k } in z) (kind_slots-with_content s.nodes.blocks i (f v))
+
+  -- what is written into a block takes no slot
+  pub given_edited : (s t u : Store K A T) (ns : List IRNode) (p : Ptr BlockKind) (f : BlockView A → BlockView A) → AreGivenOut s.nodes ns t.nodes → u ≡ with_block_edit t p f → AreGivenOut s.nodes ns u.nodes
+  given_edited s t u ns p f g e = subst (λ z. AreNext (node_slots s.nodes) ns z) (sym (ap (λ z. node_slots z.nodes) e ∙ edited_slots t p.slot f (block_at t p))) g

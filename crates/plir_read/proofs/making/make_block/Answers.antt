@@ -6,9 +6,8 @@ use Rattle.plir_core.specs.Contents.{BlockView}
 use Rattle.plir_core.specs.Held.{IsBlockEdited}
 use Rattle.plir_core.specs.declared.ptr.IRNode.TheVariants.{BasicBlock}
 use Rattle.plir_read.specs.Keys.{names_key}
-use Rattle.plir_read.specs.Slots.{node_slots, AreNext}
 use Rattle.plir_read.proofs.OpMade.{IsNewBlock-edited, named_block}
-use Rattle.plir_read.proofs.SlotLaws.{block_given, edited_slots}
+use Rattle.plir_read.proofs.SlotLaws.{block_given, given_edited}
 use Rattle.plir_read.proofs.making.make_block.Goals as goal
 
 pub returns-clause-made : goal.returns-clause-made
@@ -23,11 +22,13 @@ returns-clause-made g c =
 pub returns-then-unset-clause-slots : goal.returns-then-unset-clause-slots
 returns-then-unset-clause-slots g c =
     let b = c.in-Ok.ensures in
-    block_given c.args.ctx.now.nodes c.new.new.ctx.nodes c.num_live-before.ensures.whole.forest _ c.in-Ok.block (ap (λ z. z.nodes) b.ok) b.made.new b.made.root
+    let v : BlockView g.row.D-Attr.Denot = record { label = c.args.head.label; arg_types = c.args.head.arguments.types.items; attributes = [] } in
+    block_given c.args.ctx.now c.new.new.ctx c.num_live-before.ensures.whole.forest v c.in-Ok.block b.ok b.made.new b.made.root
 
 pub returns-clause-slots : goal.returns-clause-slots
 returns-clause-slots g c =
     let b = c.in-Ok.ensures in
-    let given = block_given c.args.ctx.now.nodes c.new.new.ctx.nodes c.num_live-before.ensures.whole.forest _ c.in-Ok.block (ap (λ z. z.nodes) b.ok) b.made.new b.made.root in
-    let same = ap (λ z. node_slots z.nodes) c.in_ok-put_names.ensures.put ∙ edited_slots c.new.new.ctx c.in-Ok.block _ in
-    subst (λ z. AreNext (node_slots c.args.ctx.now.nodes) (BasicBlock c.in-Ok.block ∷ []) z) (sym same) given
+    let v : BlockView g.row.D-Attr.Denot = record { label = c.args.head.label; arg_types = c.args.head.arguments.types.items; attributes = [] } in
+    let f : BlockView g.row.D-Attr.Denot → BlockView g.row.D-Attr.Denot = λ b. record b { attributes = dict_put b.attributes names_key (leaf (given_names c.args.head.arguments.names.items)) } in
+    let given = block_given c.args.ctx.now c.new.new.ctx c.num_live-before.ensures.whole.forest v c.in-Ok.block b.ok b.made.new b.made.root in
+    given_edited c.args.ctx.now c.new.new.ctx c.put_names.new.ctx (BasicBlock c.in-Ok.block ∷ []) c.in-Ok.block f given c.in_ok-put_names.ensures.put
