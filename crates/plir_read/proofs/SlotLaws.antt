@@ -78,7 +78,7 @@ module _ {K A T : Type 0} (s t : Store K A T) (w : IsForest s.nodes) where
   leaf_given v p e old new = (
     new_is_next s.nodes.ops v p w.op_slots old (subst (λ z. IsLive z (Operation p)) e new),
     ap (λ z. node_slots z.nodes) e
-    ∙ ap (λ k. let z : NodeSlots = record { ops = k; regions = kind_slots s.nodes.regions; blocks = kind_slots s.nodes.blocks } in z) (kind_slots-with_new s.nodes.ops v),
+        ∙ ap (λ k. let z : NodeSlots = record { ops = k; regions = kind_slots s.nodes.regions; blocks = kind_slots s.nodes.blocks } in z) (kind_slots-with_new s.nodes.ops v),
   )
 
   -- an operation with one region
@@ -88,8 +88,8 @@ module _ {K A T : Type 0} (s t : Store K A T) (w : IsForest s.nodes) where
     (
       new_is_next s.nodes.regions (record {}) r w.region_slots old_region (subst (λ z. IsLive z (Region r)) e new_region),
       ap (λ z. node_slots z.nodes) e
-      ∙ ap (λ k. let z : NodeSlots = record { ops = k; regions = kind_slots (with_new s.nodes.regions (record {})); blocks = kind_slots s.nodes.blocks } in z) (kind_slots-with_new s.nodes.ops v)
-      ∙ ap (λ k. let z : NodeSlots = record { ops = with_next (kind_slots s.nodes.ops); regions = k; blocks = kind_slots s.nodes.blocks } in z) (kind_slots-with_new s.nodes.regions (record {})),
+          ∙ ap (λ k. let z : NodeSlots = record { ops = k; regions = kind_slots (with_new s.nodes.regions (record {})); blocks = kind_slots s.nodes.blocks } in z) (kind_slots-with_new s.nodes.ops v)
+          ∙ ap (λ k. let z : NodeSlots = record { ops = with_next (kind_slots s.nodes.ops); regions = k; blocks = kind_slots s.nodes.blocks } in z) (kind_slots-with_new s.nodes.regions (record {})),
     ),
   )
 
@@ -98,7 +98,7 @@ module _ {K A T : Type 0} (s t : Store K A T) (w : IsForest s.nodes) where
   block_given v p e old new = (
     new_is_next s.nodes.blocks v p w.block_slots old (subst (λ z. IsLive z (BasicBlock p)) e new),
     ap (λ z. node_slots z.nodes) e
-    ∙ ap (λ k. let z : NodeSlots = record { ops = kind_slots s.nodes.ops; regions = kind_slots s.nodes.regions; blocks = k } in z) (kind_slots-with_new s.nodes.blocks v),
+        ∙ ap (λ k. let z : NodeSlots = record { ops = kind_slots s.nodes.ops; regions = kind_slots s.nodes.regions; blocks = k } in z) (kind_slots-with_new s.nodes.blocks v),
   )
 
 -- what is put under a node takes no slot

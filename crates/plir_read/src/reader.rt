@@ -42,9 +42,10 @@ fn whole_op<D: OpSet>(
     Ok(op)
 }
 
-/// The operation that a text stands for, made anew with all below it: a constant, a module or a function. The name and
-/// the type in a header win over those in its dictionary. A refused text may leave new nodes that stand nowhere, and
-/// types; what was there before is as it was.
+/// The operation that a text stands for, made anew with all below it: a constant, a module or a function. Nodes are made
+/// in the order of their first characters in the text, each in the next slot of its kind. The name and the type in a
+/// header win over those in its dictionary. A refused text may leave new nodes that stand nowhere, and types; what was
+/// there before is as it was.
 ///
 /// A fault stands at the text's end where the text ends within a token or before one, and at the first character of a
 /// token that can't stand there; the first character of a level that is one too many comes before any fault inside it.
