@@ -18,8 +18,10 @@ use Rattle.plir_text.specs.Names.{Grows}
 use Rattle.plir_text.specs.Growth.{Grows-itself, Grows-on}
 use Rattle.plir_text.specs.Fronts.{GoesOn, ends_at_item, closes, goes_on}
 use Rattle.plir_read.specs.Keeping.{KeepsBut, KeepsOlder}
+use Rattle.plir_read.specs.Slots.{IsMadeInOrder, IsGrownInOrder}
 use Rattle.plir_read.specs.Stopping.{Stops}
 use Rattle.plir_read.proofs.Frames.{IsFrame, frame_made, frame_placed, kid_below}
+use Rattle.plir_read.proofs.TreesInOrder.{next_in_order}
 
 module _ {O B : Type 0} where
   pub KeepsLive-itself : (s : Nodes O B) → KeepsLive s s
@@ -67,6 +69,7 @@ module _ {K A T : Type 0} where
       pub grown : IsGrown first.nodes s.nodes over
       pub types : Grows first.types s.types
       pub whole : IsWhole own s
+      pub in_order : IsGrownInOrder first.nodes s.nodes over
       pub front : List X
       pub stand : Many s (kids s over) front
       pub turns : GoesOn goes read front rest total
@@ -74,6 +77,7 @@ module _ {K A T : Type 0} where
     -- the node n is made, from s to t, and put under `over`, from t to u
     pub record Comes (s t u : Store K A T) (n over : IRNode) (x : X) : Type 0 where
       pub made : IsMade s.nodes t.nodes n
+      pub in_order : IsMadeInOrder s.nodes t.nodes n
       pub kept : KeepsOlder s t
       pub stands : One t n x
       pub there : IsWhole own t
@@ -110,6 +114,10 @@ module _ {K A T : Type 0} where
           let one : One u n x = one_kept t u (λ m. Reaches (parent_of t) over m → ⊥) second_frame n x (unlinked_apart first s t over n rest total g c.made) c.stands in
           subst (λ z. Many u z (g.front ++ x ∷ [])) (sym c.placed.kids_over) (push u (kids t over) g.front n x after one)
 
+      comes_in_order : (first s t u : Store K A T) (over n : IRNode) (x : X) (rest : List ℕ) (total : Result (List X × List ℕ) Fault) → Gathers first s over rest total → Comes s t u n over x → IsGrownInOrder first.nodes u.nodes over
+      comes_in_order first s t u over n x rest total g c =
+          next_in_order first s t u over n (standing s g.whole) (standing t c.there) (g.grown.keeps.live over g.live) c.made c.kept.types c.placed c.types g.in_order c.in_order
+
       pub one_more : (first s t u : Store K A T) (over n : IRNode) (x : X) (rest after behind : List ℕ) (total : Result (List X × List ℕ) Fault) → Growth first.nodes → Growth s.nodes → Gathers first s over rest total → Comes s t u n over x → IsWhole own u
           → read rest ≡ Ok (x, after) → goes after ≡ Ok (true, behind) → length behind < length rest → Gathers first u over behind total
       one_more first s t u over n x rest after behind total p q g c w e f lt = record {
@@ -117,6 +125,7 @@ module _ {K A T : Type 0} where
         grown = comes_grown first s t u over n x rest total p q g c;
         types = comes_types first s t u over n x rest total g c;
         whole = w;
+        in_order = comes_in_order first s t u over n x rest total g c;
         front = g.front ++ x ∷ [];
         stand = comes_stand first s t u over n x rest total g c;
         turns = goes_on goes read g.front rest total x after behind g.turns e f lt;
@@ -128,6 +137,7 @@ module _ {K A T : Type 0} where
         pub gives : total ≡ Ok (all, behind)
         pub stand : Many u (kids u over) all
         pub grown : IsGrown first.nodes u.nodes over
+        pub in_order : IsGrownInOrder first.nodes u.nodes over
         pub kept : KeepsBut first u (Some over)
 
       pub last_one : (first s t u : Store K A T) (over n : IRNode) (x : X) (rest after behind : List ℕ) (total : Result (List X × List ℕ) Fault) → Growth first.nodes → Growth s.nodes → Gathers first s over rest total → Comes s t u n over x
@@ -139,5 +149,6 @@ module _ {K A T : Type 0} where
             gives = closes goes read g.front rest total x after behind g.turns e f;
             stand = comes_stand first s t u over n x rest total g c;
             grown = grown;
+            in_order = comes_in_order first s t u over n x rest total g c;
             kept = KeepsBut-grown first u over grown (comes_types first s t u over n x rest total g c);
           }

@@ -1,4 +1,6 @@
 pub mod Frames
+pub mod SlotLaws
+pub mod TreesInOrder
 pub mod NamesGiven
 pub mod Gathered
 pub mod Loops

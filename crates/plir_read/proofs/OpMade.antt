@@ -178,6 +178,9 @@ module _ {K A T : Type 0} where
     pub op_made : Growth s.nodes → IsForest t.nodes → IsGrown t.nodes u.nodes (Region r) → IsMade a.nodes u.nodes (Operation p)
     op_made growth f g = subst (λ z. IsMade z u.nodes (Operation p)) same (growth.made t.nodes u.nodes (Operation p) (Region r) f n.made n.live (body_new s t p r v w n) g)
 
+    pub body_kept : KeepsBut t u (Some (Region r)) → kids u (Operation p) ≡ Region r ∷ []
+    body_kept k = k.kids (Operation p) n.made.root (λ q. let f = same_Some (Region r) (Operation p) q in cc) ∙ n.body
+
     head_stands : (h : HeadData) (entries : List (List ℕ × AttrView A)) (d : Head) → IsHead s.types h d → Grows s.types u.types → op_at u p ≡ Some (op_with h entries) → IsHeadAt u (Operation p) d entries
     head_stands (Module name) entries (module_head w) h g e = e ∙ ap (λ z. Some (op_with (Module z) entries)) h
     head_stands (Module name) entries (func_head w t) h g e = absurd h
@@ -189,7 +192,7 @@ module _ {K A T : Type 0} where
         let grown : Grows s.types u.types = subst (λ z. Grows z u.types) n.types k.types in (
           Region r,
           (entries, IsDictMeant-grown s.types u.types grown d.1 entries is.dictionary, head_stands h entries d.0 is.head_is grown (k.keeps.ops p n.made.root ∙ n.held ∙ ap (λ z. Some z) e)),
-          k.kids (Operation p) n.made.root (λ q. let f = same_Some (Region r) (Operation p) q in cc) ∙ n.body,
+          body_kept k,
           b,
         )
 

@@ -8,6 +8,7 @@
 --   Heads        what operations and blocks hold, by what is written before their bodies
 --   OpsStanding  IsOpAt: the written operation that a node of a context stands for; StandsForOp: the one that a text stands for
 --   Keeping      KeepsOlder: what reading leaves of a context as it was
+--   Slots        IsMadeInOrder: a tree's nodes come in the order of a text, each in the next slot of its kind
 --   Stopping     ReadsOn: reading into a context; IsOfText: faults of a text
 pub mod Keys
 pub mod Suffixes
@@ -18,3 +19,4 @@ pub mod Stopping
 pub mod Heads
 pub mod OpsStanding
 pub mod Keeping
+pub mod Slots

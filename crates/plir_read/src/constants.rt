@@ -11,6 +11,7 @@ ghost use Rattle.plir_read.specs.Heads.{IsConstant};
 ghost use Rattle.plir_read.specs.Keeping.{KeepsOlder};
 ghost use Rattle.plir_read.specs.OpReading.{value_at, constant_at, named_constant_at};
 ghost use Rattle.plir_read.specs.OpsStanding.{ReadsConstant};
+ghost use Rattle.plir_read.specs.Slots.{IsMadeInOrder};
 
 use crate::making::make_constant;
 use crate::openings::expect_names;
@@ -89,6 +90,7 @@ pub fn read_constant<'a, D: OpSet>(
 ) -> Result<(Ptr<Operation>, &'a [u8]), Stop>
     ensures read { ReadsConstant ctx.new names.items result (named_constant_at levels (length names.items) bytes.now) }
     ensures made { IfOk result (λ x. IsMade ctx.old.nodes ctx.new.nodes (IRNode.Operation x.0)) }
+    ensures slots { IfOk result (λ x. IsMadeInOrder ctx.old.nodes ctx.new.nodes (IRNode.Operation x.0)) }
     ensures kept { KeepsOlder ctx.old ctx.new }
     ensures whole { IsWhole D.attr_handles ctx.new }
 {

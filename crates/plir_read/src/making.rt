@@ -16,6 +16,7 @@ ghost use Rattle.plir_read.specs.Keys.{names_key};
 ghost use Rattle.plir_read.specs.Heads.{IsHeadLive, module_attributes, func_attributes, op_with, block_with};
 ghost use Rattle.plir_read.specs.Heads.{constant_attributes, constant_op};
 ghost use Rattle.plir_read.specs.Keeping.{IsNewOp, IsNewLeaf, IsNewBlock, KeepsOlder};
+ghost use Rattle.plir_read.specs.Slots.{AreGivenOut};
 ghost use Rattle.plir_read.specs.Stopping.{IsRefusal};
 
 use crate::arguments::{Arguments, BlockHeadData};
@@ -112,10 +113,12 @@ fn make_with<D: OpSet>(
 ) -> Result<(Ptr<Operation>, Ptr<Region>), Stop>
     requires { HandlesLive D.attr_handles ctx.old.types attributes }
     ensures made { IfOk result (λ x. IsNewOp ctx.old ctx.new x.0 x.1 (op_view kind [] [] [] attributes)) }
+    ensures slots { IfOk result (λ x. AreGivenOut ctx.old.nodes (IRNode.Operation x.0 ∷ IRNode.Region x.1 ∷ []) ctx.new.nodes) }
     ensures kept { OnErr result (KeepsOlder ctx.old ctx.new) }
     ensures refused { IfErr result IsRefusal }
     ensures whole { IsWhole D.attr_handles ctx.new }
 {
+    let _before = ctx.num_live();
     let results = Vec::new(alloc);
     let operands = Vec::new(alloc);
     let successors = Vec::new(alloc);
@@ -137,6 +140,7 @@ pub fn make_op<D: OpSet>(
     requires head_live { IsHeadLive ctx.old.types header.head }
     requires entries_live { HandlesLive D.attr_handles ctx.old.types header.entries }
     ensures made { IfOk result (λ x. IsNewOp ctx.old ctx.new x.0 x.1 (op_with header.head header.entries)) }
+    ensures slots { IfOk result (λ x. AreGivenOut ctx.old.nodes (IRNode.Operation x.0 ∷ IRNode.Region x.1 ∷ []) ctx.new.nodes) }
     ensures kept { OnErr result (KeepsOlder ctx.old ctx.new) }
     ensures refused { IfErr result IsRefusal }
     ensures whole { IsWhole D.attr_handles ctx.new }
@@ -203,6 +207,7 @@ pub fn make_constant<D: OpSet>(
     requires value_live { IsAttrLive D.attr_handles ctx.old.types (attr_view constant.value) }
     requires type_live { IsTypeLive ctx.old.types constant.ty }
     ensures made { IfOk result (λ p. IsNewLeaf ctx.old ctx.new p (constant_op names.items (attr_view constant.value) constant.ty)) }
+    ensures slots { IfOk result (λ p. AreGivenOut ctx.old.nodes (IRNode.Operation p ∷ []) ctx.new.nodes) }
     ensures kept { OnErr result (KeepsOlder ctx.old ctx.new) }
     ensures refused { IfErr result IsRefusal }
     ensures whole { IsWhole D.attr_handles ctx.new }
@@ -257,10 +262,12 @@ pub fn make_block<D: OpSet>(
 ) -> Result<Ptr<BasicBlock>, Stop>
     requires { AllLive ctx.old.types head.arguments.types.items }
     ensures made { IfOk result (λ p. IsNewBlock ctx.old ctx.new p (block_with head)) }
+    ensures slots { IfOk result (λ p. AreGivenOut ctx.old.nodes (IRNode.BasicBlock p ∷ []) ctx.new.nodes) }
     ensures kept { OnErr result (KeepsOlder ctx.old ctx.new) }
     ensures refused { IfErr result IsRefusal }
     ensures whole { IsWhole D.attr_handles ctx.new }
 {
+    let _before = ctx.num_live();
     let BlockHeadData { label, arguments } = head;
     let Arguments { types, names } = arguments;
     let unset = all_unset(names.as_slice());

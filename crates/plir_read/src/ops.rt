@@ -8,6 +8,7 @@ ghost use Rattle.plir_core.specs.declared.ptr.IRNode.{IRNode};
 ghost use Rattle.plir_read.specs.Keeping.{KeepsBut, KeepsOlder};
 ghost use Rattle.plir_read.specs.OpReading.{op_at, bodied_at, ops_at, block_at, blocks_at};
 ghost use Rattle.plir_read.specs.OpsStanding.{HasOps, HasBlocks, ReadsOp, ReadsBlock};
+ghost use Rattle.plir_read.specs.Slots.{IsMadeInOrder, IsGrownInOrder};
 ghost use Rattle.plir_read.specs.Stopping.{ReadsOnPast};
 
 use crate::arguments::read_block_head;
@@ -38,6 +39,7 @@ fn read_ops<'a, D: OpSet>(
     requires empty { kids ctx.old (IRNode.BasicBlock block) ≡ [] }
     ensures read { ReadsOnPast (HasOps ctx.new block) result (ops_at (op_at levels) bytes.now) }
     ensures grown { IfOk result (λ x. IsGrown ctx.old.nodes ctx.new.nodes (IRNode.BasicBlock block)) }
+    ensures slots { IfOk result (λ x. IsGrownInOrder ctx.old.nodes ctx.new.nodes (IRNode.BasicBlock block)) }
     ensures kept { KeepsBut ctx.old ctx.new (Some (IRNode.BasicBlock block)) }
     ensures whole { IsWhole D.attr_handles ctx.new }
 {
@@ -74,6 +76,7 @@ fn read_block<'a, D: OpSet>(
 ) -> Result<(Ptr<BasicBlock>, &'a [u8]), Stop>
     ensures read { ReadsBlock ctx.new result (block_at (op_at levels) levels bytes.now) }
     ensures made { IfOk result (λ x. IsMade ctx.old.nodes ctx.new.nodes (IRNode.BasicBlock x.0)) }
+    ensures slots { IfOk result (λ x. IsMadeInOrder ctx.old.nodes ctx.new.nodes (IRNode.BasicBlock x.0)) }
     ensures kept { KeepsOlder ctx.old ctx.new }
     ensures whole { IsWhole D.attr_handles ctx.new }
 {
@@ -103,6 +106,7 @@ fn read_body<'a, D: OpSet>(
     requires empty { kids ctx.old (IRNode.Region region) ≡ [] }
     ensures read { ReadsOnPast (HasBlocks ctx.new region) result (blocks_at (op_at levels) levels bytes.now) }
     ensures grown { IfOk result (λ x. IsGrown ctx.old.nodes ctx.new.nodes (IRNode.Region region)) }
+    ensures slots { IfOk result (λ x. IsGrownInOrder ctx.old.nodes ctx.new.nodes (IRNode.Region region)) }
     ensures kept { KeepsBut ctx.old ctx.new (Some (IRNode.Region region)) }
     ensures whole { IsWhole D.attr_handles ctx.new }
 {
@@ -144,6 +148,7 @@ fn read_bodied<'a, D: OpSet>(
 ) -> Result<(Ptr<Operation>, &'a [u8]), Stop>
     ensures read { ReadsOp ctx.new result (bodied_at (op_at levels) levels kind names bytes.now) }
     ensures made { IfOk result (λ x. IsMade ctx.old.nodes ctx.new.nodes (IRNode.Operation x.0)) }
+    ensures slots { IfOk result (λ x. IsMadeInOrder ctx.old.nodes ctx.new.nodes (IRNode.Operation x.0)) }
     ensures kept { KeepsOlder ctx.old ctx.new }
     ensures whole { IsWhole D.attr_handles ctx.new }
 {
@@ -172,6 +177,7 @@ pub fn read_op_at<'a, D: OpSet>(
 ) -> Result<(Ptr<Operation>, &'a [u8]), Stop>
     ensures read { ReadsOp ctx.new result (op_at levels bytes.now) }
     ensures made { IfOk result (λ x. IsMade ctx.old.nodes ctx.new.nodes (IRNode.Operation x.0)) }
+    ensures slots { IfOk result (λ x. IsMadeInOrder ctx.old.nodes ctx.new.nodes (IRNode.Operation x.0)) }
     ensures kept { KeepsOlder ctx.old ctx.new }
     ensures whole { IsWhole D.attr_handles ctx.new }
 {

@@ -10,6 +10,7 @@ ghost use Rattle.plir_read.specs.OpGrammar.{OpWithin};
 ghost use Rattle.plir_read.specs.OpReading.{op_at};
 ghost use Rattle.plir_read.specs.OpTerms.{OpTerm};
 ghost use Rattle.plir_read.specs.OpsStanding.{IsOpAt, StandsForOp};
+ghost use Rattle.plir_read.specs.Slots.{IsMadeInOrder};
 ghost use Rattle.plir_read.specs.Stopping.{ReadsOn, IsOfText};
 
 use crate::ops::read_op_at;
@@ -29,6 +30,7 @@ fn whole_op<D: OpSet>(
 ) -> Result<Ptr<Operation>, Stop>
     ensures read { ReadsOn (λ p w. IsOpAt ctx.new (IRNode.Operation p) w) result (whole (op_at 200) bytes.now) }
     ensures made { IfOk result (λ p. IsMade ctx.old.nodes ctx.new.nodes (IRNode.Operation p)) }
+    ensures slots { IfOk result (λ p. IsMadeInOrder ctx.old.nodes ctx.new.nodes (IRNode.Operation p)) }
     ensures kept { KeepsOlder ctx.old ctx.new }
     ensures whole { IsWhole D.attr_handles ctx.new }
 {
@@ -40,9 +42,10 @@ fn whole_op<D: OpSet>(
     Ok(op)
 }
 
-/// The operation that a text stands for, made anew with all below it: a constant, a module or a function. The name and
-/// the type in a header win over those in its dictionary. A refused text may leave new nodes that stand nowhere, and
-/// types; what was there before is as it was.
+/// The operation that a text stands for, made anew with all below it: a constant, a module or a function. Nodes are made
+/// in the order of their first characters in the text, each in the next slot of its kind. The name and the type in a
+/// header win over those in its dictionary. A refused text may leave new nodes that stand nowhere, and types; what was
+/// there before is as it was.
 ///
 /// A fault stands at the text's end where the text ends within a token or before one, and at the first character of a
 /// token that can't stand there; the first character of a level that is one too many comes before any fault inside it.
@@ -55,6 +58,7 @@ pub fn read_op<D: OpSet>(
 ) -> Result<Ptr<Operation>, ReadErr>
     ensures found { IfOk result (λ p. StandsForOp 200 ctx.new text.now (IRNode.Operation p)) }
     ensures made { IfOk result (λ p. IsMade ctx.old.nodes ctx.new.nodes (IRNode.Operation p)) }
+    ensures slots { IfOk result (λ p. IsMadeInOrder ctx.old.nodes ctx.new.nodes (IRNode.Operation p)) }
     ensures fault { IfErr result (λ e. IsOfText e.fault → whole (op_at 200) text.now ≡ Err e.fault) }
     ensures refused { IfErr result (λ e. IsOfText e.fault → (w : OpTerm) → IsText (OpWithin 200) text.now w → ⊥) }
     ensures kept { KeepsOlder ctx.old ctx.new }

@@ -1,4 +1,8 @@
+use Rattle.std.proofs.Common.{subst}
+use Rattle.plir_core.specs.declared.ptr.IRNode.TheVariants.{Operation}
+use Rattle.plir_read.specs.Slots.{IsMadeInOrder}
 use Rattle.plir_read.proofs.OpMade.{value_live, result_live, KeepsOlder-typed, KeepsOlder-on}
+use Rattle.plir_read.proofs.TreesInOrder.{leaf_in_order}
 use Rattle.plir_read.proofs.constants.read_constant.Goals as goal
 
 pub make_constant-requires-clause-value_live : goal.make_constant-requires-clause-value_live
@@ -13,3 +17,9 @@ make_constant-requires-clause-type_live g c =
 
 pub returns-in_err-op-clause-kept : goal.returns-in_err-op-clause-kept
 returns-in_err-op-clause-kept g c = KeepsOlder-on _ _ _ (KeepsOlder-typed c.args.ctx.now c.read_typed_value-read.new.ctx c.in_ok-constant.ensures.rest c.in_ok-constant.ensures.grown) c.in_err-op.ensures.kept
+
+pub returns-clause-slots : goal.returns-clause-slots
+returns-clause-slots g c =
+    let op = c.in_ok-op.op in
+    subst (λ z. IsMadeInOrder z c.make_constant.new.ctx.nodes (Operation op)) c.in_ok-constant.ensures.rest
+    (leaf_in_order c.read_typed_value-read.new.ctx c.make_constant.new.ctx (Operation op) c.in_ok-op.ensures.made.empty c.in_ok-op.ensures.slots)

@@ -2,8 +2,11 @@ use Rattle.std.proofs.Common.{[], refl, sym, subst}
 use Rattle.std.specs.Prelude.{All}
 use Rattle.std.proofs.lemmas.List.Elements.{All-nil, All-cons}
 use Rattle.plir_data.specs.Types.{AllLive, IsLive as IsTypeLive}
+use Rattle.plir_data.specs.declared.op_set.OpKind.TheVariants as kinds
+use Rattle.plir_core.specs.Contents.{op_view}
 use Rattle.plir_core.specs.Store.{IsLive, IsValueLive}
 use Rattle.plir_core.specs.declared.ptr.IRNode.TheVariants.{BasicBlock}
+use Rattle.plir_read.proofs.SlotLaws.{leaf_given}
 use Rattle.plir_read.proofs.making.make_constant.Goals as goal
 
 pub same-attributes : goal.same-attributes
@@ -22,3 +25,9 @@ with_attributes-requires-clause-successors_live g c = subst (All (λ b. IsLive c
 
 pub with_attributes-requires-clause-handles_live : goal.with_attributes-requires-clause-handles_live
 with_attributes-requires-clause-handles_live g c = c.in_ok-attributes.ensures.live _ c.requires.value_live
+
+pub returns-in-Ok-clause-slots : goal.returns-in-Ok-clause-slots
+returns-in-Ok-clause-slots g c =
+    let o = c.in-Ok.ensures in
+    let v = op_view kinds.Constant c.in_ok-results.results.items c.new-operands.result.items c.new-successors.result.items c.in_ok-attributes.attributes in
+    leaf_given c.args.ctx.now c.with_attributes.new.ctx c.num_live-before.ensures.whole.forest v c.in-Ok.op o.ok o.made.new o.made.root

@@ -1,16 +1,18 @@
-use Rattle.std.proofs.Common.{◌-◌, ◌∙◌, length, [], None, Ok, refl, sym, ap, arith}
+use Rattle.std.proofs.Common.{◌-◌, ◌∙◌, length, [], None, Ok, refl, sym, ap, subst, arith}
 use Rattle.std.proofs.lemmas.Result.{err_from_is_err_and}
 use Rattle.plir_core.specs.declared.ptr.IRNode.TheVariants.{Operation, Region, BasicBlock}
 use Rattle.plir_text.specs.Growth.{Grows-itself}
 use Rattle.plir_text.specs.TypeSteps.{behind_is}
 use Rattle.plir_read.specs.OpTerms.{op_term, blocks_of}
 use Rattle.plir_read.specs.OpReading.{op_at, bodied_at, block_at, semicolon_at, brace_at}
+use Rattle.plir_read.specs.Slots.{IsMadeInOrder}
 use Rattle.plir_read.proofs.EntriesLive.{meant_live}
 use Rattle.plir_read.proofs.Gathered as gathered
 use Rattle.plir_read.proofs.Gathered.{IsGrown-itself, KeepsBut-itself}
 use Rattle.plir_read.proofs.OpFound.{op_at-shorter, block_at-shorter, semicolon_at-shorter, brace_at-shorter}
-use Rattle.plir_read.proofs.OpMade.{arguments_live, block_kept, block_made, block_stands, op_kept, op_made, op_stands, head_live, KeepsOlder-typed, KeepsOlder-on}
+use Rattle.plir_read.proofs.OpMade.{arguments_live, block_kept, block_made, block_stands, op_kept, op_made, body_kept, op_stands, head_live, KeepsOlder-typed, KeepsOlder-on}
 use Rattle.plir_read.proofs.OpSteps.{from_start, ReadsOn-from, bodied_behind, constant_reads, no_start, no_head, no_body, bodied_read, no_operations, operations, no_block_head, no_block, block_read, no_brace, no_blocks_inside, blocks}
+use Rattle.plir_read.proofs.TreesInOrder.{none_in_order, root_in_order, op_in_order}
 use Rattle.plir_read.proofs.ops.+ops.Goals as goal
 
 -- ---- a block
@@ -43,6 +45,12 @@ read_block-returns-in-Ok-clause-made g t c = block_made c.args.ctx.now c.read_bl
 pub read_block-returns-in-Ok-clause-kept : goal.read_block-returns-in-Ok-clause-kept
 read_block-returns-in-Ok-clause-kept g t c = block_kept c.args.ctx.now c.read_block_head-read.new.ctx c.make_block.new.ctx c.read_ops.new.ctx c.in_ok-block.block c.in_ok-head.head c.in_ok-head.ensures.rest c.in_ok-head.ensures.grown c.in_ok-block.ensures.made c.in-Ok.ensures.kept
 
+pub read_block-returns-in-Ok-clause-slots : goal.read_block-returns-in-Ok-clause-slots
+read_block-returns-in-Ok-clause-slots g t c =
+    let u = c.read_ops.new.ctx in
+    subst (λ z. IsMadeInOrder z u.nodes (BasicBlock c.in_ok-block.block)) c.in_ok-head.ensures.rest
+    (root_in_order c.read_block_head-read.new.ctx c.make_block.new.ctx u (BasicBlock c.in_ok-block.block) (c.contexts_stand.ensures _ c.in-Ok.ensures.whole) c.in_ok-block.ensures.slots c.in-Ok.ensures.slots)
+
 pub read_block-returns-in-Err-clause-kept : goal.read_block-returns-in-Err-clause-kept
 read_block-returns-in-Err-clause-kept g t c = block_kept c.args.ctx.now c.read_block_head-read.new.ctx c.make_block.new.ctx c.read_ops.new.ctx c.in_ok-block.block c.in_ok-head.head c.in_ok-head.ensures.rest c.in_ok-head.ensures.grown c.in_ok-block.ensures.made c.in-Err.ensures.kept
 
@@ -64,6 +72,9 @@ read_body-returns-in_err-start-clause-kept g t c = KeepsBut-itself _ _
 pub read_body-returns-in-Some-clause-read : goal.read_body-returns-in-Some-clause-read
 read_body-returns-in-Some-clause-read g t c = (([], c.in-Some.rest.now), no_blocks_inside (op_at c.args.levels) c.args.levels _ _ _ c.in_ok-start.ensures (sym c.in-Some.ensures), (c.requires.empty, refl))
 
+pub read_body-returns-in-Some-clause-slots : goal.read_body-returns-in-Some-clause-slots
+read_body-returns-in-Some-clause-slots g t c = none_in_order c.args.ctx.now (Region c.args.region) c.requires.empty
+
 pub read_body-returns-in-Some-clause-kept : goal.read_body-returns-in-Some-clause-kept
 read_body-returns-in-Some-clause-kept g t c = KeepsBut-itself _ _
 
@@ -73,6 +84,7 @@ read_body-inner-init g t c = record {
   grown = IsGrown-itself _ _;
   types = Grows-itself _;
   whole = c.num_live-before.ensures.whole;
+  in_order = none_in_order c.args.ctx.now (Region c.args.region) c.requires.empty;
   front = [];
   stand = c.requires.empty;
   turns = from_start brace_at (block_at (op_at c.args.levels) c.args.levels) c.in_ok-start.start.now _ (blocks (op_at c.args.levels) c.args.levels _ _ c.in_ok-start.ensures (sym c.in_default.ensures));
@@ -101,21 +113,24 @@ pub read_body-inner-preserved : goal.read_body-inner-preserved
 read_body-inner-preserved g t c =
     let y = c.in-Ok.ensures.read in
     gathered.one_more _ _ _ _ _ _ _ _ c.contexts_stand.ensures c.args.ctx.now c.inner.ctx c.read_block.new.ctx c.insert_at_back.new.ctx (Region c.args.region) (BasicBlock c.in-Ok.read.0) y.0.0 c.inner.rest.now c.in-Ok.read.1.now c.past_brace-goes_on.result.1.now _ c.growth.ensures c.growth-in-inner.ensures c.inner.invariant
-    (record { made = c.in-Ok.ensures.made; kept = c.in-Ok.ensures.kept; stands = y.2.0; there = c.in-Ok.ensures.whole; placed = c.insert_at_back.ensures.placed; types = ap (λ z. z.types) c.insert_at_back.ensures.after })
+    (record { made = c.in-Ok.ensures.made; in_order = c.in-Ok.ensures.slots; kept = c.in-Ok.ensures.kept; stands = y.2.0; there = c.in-Ok.ensures.whole; placed = c.insert_at_back.ensures.placed; types = ap (λ z. z.types) c.insert_at_back.ensures.after })
     c.insert_at_back.ensures.whole (behind_is _ y.0 c.in-Ok.read.1.now y.1 y.2.1) (c.past_brace-goes_on.ensures ∙ ap (λ b. Ok (b, c.past_brace-goes_on.result.1.now)) c.if-goes_on.true) (read_body-inner-smaller g t c)
 
 pub read_body-returns-else-goes_on : goal.read_body-returns-else-goes_on
 read_body-returns-else-goes_on g t c =
     let y = c.in-Ok.ensures.read in
     let r = gathered.last_one _ _ _ _ _ _ _ _ c.contexts_stand.ensures c.args.ctx.now c.inner.ctx c.read_block.new.ctx c.insert_at_back.new.ctx (Region c.args.region) (BasicBlock c.in-Ok.read.0) y.0.0 c.inner.rest.now c.in-Ok.read.1.now c.past_brace-goes_on.result.1.now _ c.growth.ensures c.growth-in-inner.ensures c.inner.invariant
-    (record { made = c.in-Ok.ensures.made; kept = c.in-Ok.ensures.kept; stands = y.2.0; there = c.in-Ok.ensures.whole; placed = c.insert_at_back.ensures.placed; types = ap (λ z. z.types) c.insert_at_back.ensures.after })
+    (record { made = c.in-Ok.ensures.made; in_order = c.in-Ok.ensures.slots; kept = c.in-Ok.ensures.kept; stands = y.2.0; there = c.in-Ok.ensures.whole; placed = c.insert_at_back.ensures.placed; types = ap (λ z. z.types) c.insert_at_back.ensures.after })
     (behind_is _ y.0 c.in-Ok.read.1.now y.1 y.2.1) (c.past_brace-goes_on.ensures ∙ ap (λ b. Ok (b, c.past_brace-goes_on.result.1.now)) c.if-goes_on.false) in
-    record { read = ((r.all, c.past_brace-goes_on.result.1.now), r.gives, (r.stand, refl)); grown = r.grown; kept = r.kept; whole = c.insert_at_back.ensures.whole }
+    record { read = ((r.all, c.past_brace-goes_on.result.1.now), r.gives, (r.stand, refl)); grown = r.grown; slots = r.in_order; kept = r.kept; whole = c.insert_at_back.ensures.whole }
 
 -- ---- the operations of a block
 
 pub read_ops-returns-then-ends_block-clause-read : goal.read_ops-returns-then-ends_block-clause-read
 read_ops-returns-then-ends_block-clause-read g t c = (([], c.args.bytes.now), no_operations (op_at c.args.levels) _ (sym c.ends_block.ensures ∙ c.if-ends_block.true), (c.requires.empty, refl))
+
+pub read_ops-returns-then-ends_block-clause-slots : goal.read_ops-returns-then-ends_block-clause-slots
+read_ops-returns-then-ends_block-clause-slots g t c = none_in_order c.args.ctx.now (BasicBlock c.args.block) c.requires.empty
 
 pub read_ops-returns-then-ends_block-clause-kept : goal.read_ops-returns-then-ends_block-clause-kept
 read_ops-returns-then-ends_block-clause-kept g t c = KeepsBut-itself _ _
@@ -126,6 +141,7 @@ read_ops-ops-init g t c = record {
   grown = IsGrown-itself _ _;
   types = Grows-itself _;
   whole = c.num_live-before.ensures.whole;
+  in_order = none_in_order c.args.ctx.now (BasicBlock c.args.block) c.requires.empty;
   front = [];
   stand = c.requires.empty;
   turns = from_start semicolon_at (op_at c.args.levels) c.args.bytes.now _ (operations (op_at c.args.levels) _ (sym c.ends_block.ensures ∙ c.if-ends_block.false));
@@ -154,16 +170,16 @@ pub read_ops-ops-preserved : goal.read_ops-ops-preserved
 read_ops-ops-preserved g t c =
     let y = c.in-Ok.ensures.read in
     gathered.one_more _ _ _ _ _ _ _ _ c.contexts_stand.ensures c.args.ctx.now c.ops.ctx c.read_op_at.new.ctx c.insert_at_back.new.ctx (BasicBlock c.args.block) (Operation c.in-Ok.read.0) y.0.0 c.ops.rest.now c.in-Ok.read.1.now c.past_semicolon-goes_on.result.1.now _ c.growth.ensures c.growth-in-ops.ensures c.ops.invariant
-    (record { made = c.in-Ok.ensures.made; kept = c.in-Ok.ensures.kept; stands = y.2.0; there = c.in-Ok.ensures.whole; placed = c.insert_at_back.ensures.placed; types = ap (λ z. z.types) c.insert_at_back.ensures.after })
+    (record { made = c.in-Ok.ensures.made; in_order = c.in-Ok.ensures.slots; kept = c.in-Ok.ensures.kept; stands = y.2.0; there = c.in-Ok.ensures.whole; placed = c.insert_at_back.ensures.placed; types = ap (λ z. z.types) c.insert_at_back.ensures.after })
     c.insert_at_back.ensures.whole (behind_is _ y.0 c.in-Ok.read.1.now y.1 y.2.1) (c.past_semicolon-goes_on.ensures ∙ ap (λ b. Ok (b, c.past_semicolon-goes_on.result.1.now)) c.if-goes_on.true) (read_ops-ops-smaller g t c)
 
 pub read_ops-returns-else-goes_on : goal.read_ops-returns-else-goes_on
 read_ops-returns-else-goes_on g t c =
     let y = c.in-Ok.ensures.read in
     let r = gathered.last_one _ _ _ _ _ _ _ _ c.contexts_stand.ensures c.args.ctx.now c.ops.ctx c.read_op_at.new.ctx c.insert_at_back.new.ctx (BasicBlock c.args.block) (Operation c.in-Ok.read.0) y.0.0 c.ops.rest.now c.in-Ok.read.1.now c.past_semicolon-goes_on.result.1.now _ c.growth.ensures c.growth-in-ops.ensures c.ops.invariant
-    (record { made = c.in-Ok.ensures.made; kept = c.in-Ok.ensures.kept; stands = y.2.0; there = c.in-Ok.ensures.whole; placed = c.insert_at_back.ensures.placed; types = ap (λ z. z.types) c.insert_at_back.ensures.after })
+    (record { made = c.in-Ok.ensures.made; in_order = c.in-Ok.ensures.slots; kept = c.in-Ok.ensures.kept; stands = y.2.0; there = c.in-Ok.ensures.whole; placed = c.insert_at_back.ensures.placed; types = ap (λ z. z.types) c.insert_at_back.ensures.after })
     (behind_is _ y.0 c.in-Ok.read.1.now y.1 y.2.1) (c.past_semicolon-goes_on.ensures ∙ ap (λ b. Ok (b, c.past_semicolon-goes_on.result.1.now)) c.if-goes_on.false) in
-    record { read = ((r.all, c.past_semicolon-goes_on.result.1.now), r.gives, (r.stand, refl)); grown = r.grown; kept = r.kept; whole = c.insert_at_back.ensures.whole }
+    record { read = ((r.all, c.past_semicolon-goes_on.result.1.now), r.gives, (r.stand, refl)); grown = r.grown; slots = r.in_order; kept = r.kept; whole = c.insert_at_back.ensures.whole }
 
 -- ---- a module or a function
 
@@ -202,6 +218,15 @@ read_bodied-returns-in-Ok-clause-made g t c = op_made c.args.ctx.now c.read_head
 
 pub read_bodied-returns-in-Ok-clause-kept : goal.read_bodied-returns-in-Ok-clause-kept
 read_bodied-returns-in-Ok-clause-kept g t c = op_kept c.args.ctx.now c.read_header-read.new.ctx c.make_op.new.ctx c.read_body.new.ctx c.in_ok-op.op c.in_ok-op.region _ (c.contexts_stand.ensures _ c.in_ok-op.ensures.whole) c.in_ok-header.ensures.rest c.in_ok-header.ensures.grown c.in_ok-op.ensures.made c.in-Ok.ensures.kept
+
+pub read_bodied-returns-in-Ok-clause-slots : goal.read_bodied-returns-in-Ok-clause-slots
+read_bodied-returns-in-Ok-clause-slots g t c =
+    let s = c.read_header-read.new.ctx in
+    let m = c.make_op.new.ctx in
+    let u = c.read_body.new.ctx in
+    let body = body_kept c.args.ctx.now s m u c.in_ok-op.op c.in_ok-op.region _ (c.contexts_stand.ensures _ c.in_ok-op.ensures.whole) c.in_ok-header.ensures.rest c.in_ok-header.ensures.grown c.in_ok-op.ensures.made c.in-Ok.ensures.kept in
+    subst (λ z. IsMadeInOrder z u.nodes (Operation c.in_ok-op.op)) c.in_ok-header.ensures.rest
+    (op_in_order s m u c.in_ok-op.op c.in_ok-op.region (c.contexts_stand.ensures _ c.in-Ok.ensures.whole) body c.in_ok-op.ensures.slots c.in-Ok.ensures.slots)
 
 pub read_bodied-returns-in-Err-clause-kept : goal.read_bodied-returns-in-Err-clause-kept
 read_bodied-returns-in-Err-clause-kept g t c = op_kept c.args.ctx.now c.read_header-read.new.ctx c.make_op.new.ctx c.read_body.new.ctx c.in_ok-op.op c.in_ok-op.region _ (c.contexts_stand.ensures _ c.in_ok-op.ensures.whole) c.in_ok-header.ensures.rest c.in_ok-header.ensures.grown c.in_ok-op.ensures.made c.in-Err.ensures.kept
