@@ -6,6 +6,7 @@ mod arguments;
 mod constants;
 mod headers;
 mod heads;
+pub mod laws;
 mod making;
 mod names;
 mod openings;
