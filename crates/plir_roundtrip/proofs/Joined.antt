@@ -3,7 +3,7 @@ use Rattle.std.proofs.Common.{◌≡◌, ℕ, zero, suc, Bool, true, false, List
 use Rattle.plir_text.specs.Begun.{Begins-append}
 use Rattle.plir_text.specs.Bytes.{is_blank, is_in_word}
 use Rattle.plir_text.specs.Printed.{Ends}
-use Rattle.plir_text.specs.Runs.{Run, Shown, Tail}
+use Rattle.plir_text.specs.Runs.{Run, Shown, Tail, Shown-as}
 use Rattle.plir_text.specs.Tokens.{Token, word, digits, signed, quoted, arrow, sign, look, Takes, Begins}
 use Rattle.plir_text.specs.TypeGrammar.{enclosed}
 use Rattle.plir_print.specs.OpText.{line}
@@ -56,20 +56,20 @@ line-shown n p = blank-shown 10 refl (blanks-shown n p)
 abbrev pub Then : (E F : List Token → Type 0) → List Token → Type 0
 Then E F ts = (first others : List Token) × E first × F others × (ts ≡ first ++ others)
 
-module _ {E F : List Token → Type 0} {text more : List ℕ} (m : Tail F more) where
-  both-begun : (tokens : List Token) → ((rest : List ℕ) → Ends is_in_word rest → Begins (text ++ rest) tokens rest) → (rest : List ℕ) → Ends is_in_word rest → Begins ((text ++ more) ++ rest) (tokens ++ m.run.tokens) rest
-  both-begun tokens begun rest e =
+module _ {F : List Token → Type 0} {more : List ℕ} (m : Tail F more) where
+  both-begun : (text : List ℕ) (tokens : List Token) → ((rest : List ℕ) → Ends is_in_word rest → Begins (text ++ rest) tokens rest) → (rest : List ℕ) → Ends is_in_word rest → Begins ((text ++ more) ++ rest) (tokens ++ m.run.tokens) rest
+  both-begun text tokens begun rest e =
       subst (λ bytes. Begins bytes (tokens ++ m.run.tokens) rest) (sym (append_assoc text more rest)) (Begins-append tokens m.run.tokens (text ++ (more ++ rest)) (more ++ rest) rest (begun (more ++ rest) (m.ends rest e)) (m.run.begun rest e))
 
-  pub both-run : Run E text → Run (Then E F) (text ++ more)
-  both-run r = record { tokens = r.tokens ++ m.run.tokens; spelled = (r.tokens, m.run.tokens, r.spelled, m.run.spelled, refl); begun = both-begun r.tokens r.begun }
+  pub both-run : {E : List Token → Type 0} {text : List ℕ} → Run E text → Run (Then E F) (text ++ more)
+  both-run {E} {text} r = record { tokens = r.tokens ++ m.run.tokens; spelled = (r.tokens, m.run.tokens, r.spelled, m.run.spelled, refl); begun = both-begun text r.tokens r.begun }
 
-  pub both-shown : Shown E text → Shown (Then E F) (text ++ more)
-  both-shown p = record {
+  pub both-shown : {E : List Token → Type 0} {text : List ℕ} → Shown E text → Shown (Then E F) (text ++ more)
+  both-shown {E} {text} p = record {
     first = p.first;
     others = p.others ++ m.run.tokens;
     spelled = (p.first ∷ p.others, m.run.tokens, p.spelled, m.run.spelled, refl);
-    begun = both-begun (p.first ∷ p.others) p.begun;
+    begun = both-begun text (p.first ∷ p.others) p.begun;
   }
 
 -- ---- signs
@@ -138,18 +138,9 @@ look-unbrace rest = refl
 abbrev pub Between : (c d : ℕ) → (List Token → Type 0) → List Token → Type 0
 Between c d E ts = (inner : List Token) × E inner × (ts ≡ enclosed c inner d)
 
--- a list in braces, each of these on a line of its own
-module _ {E : List Token → Type 0} {text : List ℕ} (n : ℕ) where
-  closing : Tail (λ ts. ts ≡ sign 125 ∷ []) (line n ++ 125 ∷ [])
-  closing = tail-shown 10 refl (line-shown n (record { first = sign 125; others = []; spelled = refl; begun = λ rest e. (rest, look-unbrace rest, refl) }))
+-- a brace on a line of its own, and a list in two of these
+closing : (n : ℕ) → Tail (λ ts. ts ≡ sign 125 ∷ []) (line n ++ 125 ∷ [])
+closing n = tail-shown 10 refl (line-shown n (record { first = sign 125; others = []; spelled = refl; begun = λ rest e. (rest, look-unbrace rest, refl) }))
 
-  pub braced : Run E text → Shown (Between 123 125 E) (line n ++ (123 ∷ (text ++ (line n ++ 125 ∷ []))))
-  braced r = line-shown n (record {
-    first = sign 123;
-    others = r.tokens ++ sign 125 ∷ [];
-    spelled = (r.tokens, r.spelled, refl);
-    begun = λ rest e. ((text ++ (line n ++ 125 ∷ [])) ++ rest, look-brace ((text ++ (line n ++ 125 ∷ [])) ++ rest), inside rest e);
-  })
-    where
-      inside : (rest : List ℕ) → Ends is_in_word rest → Begins ((text ++ (line n ++ 125 ∷ [])) ++ rest) (r.tokens ++ sign 125 ∷ []) rest
-      inside rest e = subst (λ z. Begins ((text ++ (line n ++ 125 ∷ [])) ++ rest) (r.tokens ++ z) rest) closing.run.spelled (both-begun closing r.tokens r.begun rest e)
+pub braced : {E : List Token → Type 0} {text : List ℕ} (n : ℕ) → Run E text → Shown (Between 123 125 E) (line n ++ (123 ∷ (text ++ (line n ++ 125 ∷ []))))
+braced n r = line-shown n (Shown-as (λ ts s. let both = s.1 in (both.0, both.2, s.2 ∙ ap (λ l. sign 123 ∷ l) (both.4 ∙ ap (λ l. both.0 ++ l) both.3))) (sign-shown 123 look-brace (both-run (closing n) r)))

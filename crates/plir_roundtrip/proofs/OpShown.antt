@@ -32,7 +32,7 @@ use Rattle.plir_text.specs.TypesShown.{type-shown}
 use Rattle.plir_text.specs.Writable.{IsBuiltin, IsWritable, entry_terms}
 use Rattle.plir_builtin.specs.BuiltinOps.{func_type_of, type_in_attr, value_of, func_type_key}
 use Rattle.plir_builtin.specs.ResultNames.{result_name}
-use Rattle.plir_builtin.specs.Symbols.{name_held}
+use Rattle.plir_builtin.specs.Symbols.{symbol_key, name_held}
 use Rattle.plir_print.specs.Dictionaries.{shown}
 use Rattle.plir_print.specs.HeaderAttrs.{has_header_of}
 use Rattle.plir_print.specs.Headers.{names_text, some_type_text, some_attr_text, header_of}
@@ -41,8 +41,8 @@ use Rattle.plir_print.specs.OpText.{line, equals_behind, space_behind, line_of, 
 use Rattle.plir_print.specs.ValueNames.{arguments_of}
 use Rattle.plir_read.specs.OpGrammar.{SpellsHead, SpellsDictionary, SpellsArgument, SpellsBlockHead, SpellsOp, SpellsOps, SpellsMoreOps, SpellsBlocks}
 use Rattle.plir_read.specs.OpTerms.{Head, OpTerm, op_term, constant_term, BlockTerm, BlockTerms, ops_of, blocks_of}
-use Rattle.plir_roundtrip.specs.Readable.{AreValuesReadable, IsBodyReadable, IsConstantReadable, IsKindReadable, IsOpReadable, IsBlockReadable}
-use Rattle.plir_roundtrip.specs.Written.{some_type_term, some_attr_term, argument_term, block_head_term, block_term, blocks_under, symbol_of, term_of_kind, term_at}
+use Rattle.plir_roundtrip.specs.Readable.{IsTold, AreValuesReadable, IsBodyReadable, IsConstantReadable, IsKindReadable, IsOpReadable, IsBlockReadable}
+use Rattle.plir_roundtrip.specs.Written.{some_type_term, some_attr_term, argument_term, block_head_term, block_term, blocks_under, symbol_of, head_term, term_of_kind, term_at}
 use Rattle.plir_roundtrip.proofs.AttrsShown.{attr-shown}
 use Rattle.plir_roundtrip.proofs.Joined.{tail-shown, run-shown, line-shown, Then, both-shown, sign-shown, look-semicolon, Between, braced}
 use Rattle.plir_roundtrip.proofs.Kids.{kid_of_region, kid_of_block, only_region, AllReadable, kid_readable, op_readable, block_readable, HasRoom, some_room, kid_room, lower_room, in_row}
@@ -156,29 +156,29 @@ module _ {D K A T E : Type 0} (o : op_set.Ghosts D K A T E) (s : Store K A T) wh
 
   -- the name of a module or a function
   symbol_good : (p : Ptr OperationKind) → IsBodyReadable s p → is_some (name_held (op_at s p)) ≡ true → is_identifier (symbol_of s p) ≡ true
-  symbol_good p r e = (at_key _ (attributes_of s p) _ (leaf (views.identifier (symbol_of s p))) r.told (name_there _ e)).1
+  symbol_good p r e = (at_key (IsTold s.types) (attributes_of s p) symbol_key (leaf (views.identifier (symbol_of s p))) r.told (name_there (dict_get (attributes_of s p) symbol_key) e)).1
 
   -- the type of a function
-  pub func_type_there : (p : Ptr OperationKind) → IsBodyReadable s p → is_some (func_type_of s p) ≡ true → (h : ℕ) × (func_type_of s p ≡ Some h) × IsWritable s.types (leaf {A = A} (views.type_of h)) × (dict_get (attributes_of s p) func_type_key ≡ Some (leaf (views.type_of h)))
+  pub func_type_there : (p : Ptr OperationKind) → IsBodyReadable s p → is_some (func_type_of s p) ≡ true → (h : ℕ) × (func_type_of s p ≡ Some h) × IsWritable {A = A} s.types (leaf (views.type_of h)) × (dict_get (attributes_of s p) func_type_key ≡ Some (leaf (views.type_of h)))
   func_type_there p r e = by (dict_get (attributes_of s p) func_type_key) refl e
     where
-      by : (g : Option (AttrView A)) → dict_get (attributes_of s p) func_type_key ≡ g → is_some (option_and_then type_in_attr g) ≡ true → (h : ℕ) × (option_and_then type_in_attr g ≡ Some h) × IsWritable s.types (leaf {A = A} (views.type_of h)) × (g ≡ Some (leaf (views.type_of h)))
+      by : (g : Option (AttrView A)) → dict_get (attributes_of s p) func_type_key ≡ g → is_some (option_and_then type_in_attr g) ≡ true → (h : ℕ) × (option_and_then type_in_attr g ≡ Some h) × IsWritable {A = A} s.types (leaf (views.type_of h)) × (g ≡ Some (leaf (views.type_of h)))
       by None f e = absurd cc
       by (Some x) f e =
           let t = type_there x e in
           let is = ap (λ z. Some z) t.1 in
-          (t.0, ap (option_and_then type_in_attr) is, (at_key _ (attributes_of s p) func_type_key (leaf (views.type_of t.0)) r.told (f ∙ is)).1, is)
+          (t.0, ap (option_and_then type_in_attr) is, (at_key (IsTold s.types) (attributes_of s p) func_type_key (leaf (views.type_of t.0)) r.told (f ∙ is)).1, is)
 
   module _ (n : ℕ) (p : Ptr OperationKind) (bs : BlockTerms) (below : List ℕ) where
     module_shown : IsBodyReadable s p → Shown (Between 123 125 (SpellsBlocks bs)) below → Tail (Between 123 125 (SpellsBlocks bs)) below → AreWritable s.types (shown o s p) → has_header_of s (Some Module) p ≡ true → Shown (SpellsOp (term_of_kind o s (Some Module) bs p)) (text_by n below (Some Module) p)
     module_shown r q m w e =
-        subst (Shown (SpellsOp (term_of_kind o s (Some Module) bs p))) (sym (regroup n (header_of o s (Some Module) p) below p r.results)) (bodied-shown n _ (shown o s p) bs w (module-shown (symbol_of s p) (symbol_good p r e)) q m)
+        subst (Shown (SpellsOp (term_of_kind o s (Some Module) bs p))) (sym (regroup n (header_of o s (Some Module) p) below p r.results)) (bodied-shown n (head_term s (Some Module) p) (shown o s p) bs w (module-shown (symbol_of s p) (symbol_good p r e)) q m)
 
     function_shown : IsBodyReadable s p → Shown (Between 123 125 (SpellsBlocks bs)) below → Tail (Between 123 125 (SpellsBlocks bs)) below → AreWritable s.types (shown o s p) → has_header_of s (Some Func) p ≡ true → Shown (SpellsOp (term_of_kind o s (Some Func) bs p)) (text_by n below (Some Func) p)
     function_shown r q m w e =
         let ends = and_parts (is_some (name_held (op_at s p))) (is_some (func_type_of s p)) e in
         let type = func_type_there p r ends.1 in
-        subst (Shown (SpellsOp (term_of_kind o s (Some Func) bs p))) (sym (regroup n (header_of o s (Some Func) p) below p r.results)) (bodied-shown n _ (shown o s p) bs w (func-shown (symbol_of s p) _ (symbol_good p r ends.0) (some_type-shown (func_type_of s p) type.0 type.1 type.2.1)) q m)
+        subst (Shown (SpellsOp (term_of_kind o s (Some Func) bs p))) (sym (regroup n (header_of o s (Some Func) p) below p r.results)) (bodied-shown n (head_term s (Some Func) p) (shown o s p) bs w (func-shown (symbol_of s p) (some_type_term s.types (func_type_of s p)) (symbol_good p r ends.0) (some_type-shown (func_type_of s p) type.0 type.1 type.2.1)) q m)
 
     constant_shown : IsConstantReadable s p → AreValuesReadable s (Op p) → has_header_of s (Some Constant) p ≡ true → below ≡ [] → Shown (SpellsOp (term_of_kind o s (Some Constant) bs p)) (text_by n below (Some Constant) p)
     constant_shown r v e none =
@@ -272,9 +272,5 @@ module _ {D K A T E : Type 0} (o : op_set.Ghosts D K A T E) (s : Store K A T) (s
         let inner = ops-shown (term_at o s j) (text_at o s k (n + 2)) (n + 2) (kids s (BasicBlock b)) (λ y h.
         let up = subst (λ z. Has (kids s z) y) (sym is.1) h in
         let q = kid_of_block s b y h in
-        kid-shown k (n + 2) j y q (kid_room s st x y k up room) (lower_room s st x y j up enough) (kid_readable s x y up all)) in
+        subst (λ z. Shown (SpellsOp (term_at o s j z)) (text_at o s k (n + 2) z)) (sym q.1) (op-shown k (n + 2) j q.0 (subst (λ z. HasRoom s z k) q.1 (kid_room s st x y k up room)) (subst (λ z. HasRoom s z j) q.1 (lower_room s st x y j up enough)) (subst (AllReadable s) q.1 (kid_readable s x y up all)))) in
         subst (λ z. Shown (SpellsBlock (block_term s (term_at o s j) z)) (text_at o s (suc k) n z)) (sym is.1) (both-shown inner front)
-
-    kid-shown : (k n j : ℕ) (y : IRNode) → (p : Ptr OperationKind) × (y ≡ Operation p) → HasRoom s y k → HasRoom s y j → AllReadable s y → Shown (SpellsOp (term_at o s j y)) (text_at o s k n y)
-    kid-shown k n j y is room enough all =
-        subst (λ z. Shown (SpellsOp (term_at o s j z)) (text_at o s k n z)) (sym is.1) (op-shown k n j is.0 (subst (λ z. HasRoom s z k) is.1 room) (subst (λ z. HasRoom s z j) is.1 enough) (subst (AllReadable s) is.1 all))

@@ -93,7 +93,7 @@ func-shown w t h p =
     Shown-as (λ ts s. let both = s.1 in (both.3.0, h, both.3.1, s.2 ∙ ap (λ l. word (codes "builtin.func") ∷ l) (both.4 ∙ ap (λ l. l ++ both.1) both.2 ∙ ap (λ l. symbol w ++ l) both.3.2))) (behind_id (codes "builtin.func") refl (both-shown (typed-tail p) (symbol-shown w h)))
 
 -- a space, a dictionary on a line of its own, if it has entries, and what stands behind it
-pub behind_dictionary : {F : List Token → Type 0} {text entries more : List ℕ} (es : EntryTerms) (n : ℕ) → Run (SpellsEntries es) entries → (m : Tail F more) → Tail (Then (SpellsDictionary es) F) (32 ∷ ((line n ++ (91 ∷ (entries ++ 93 ∷ []))) ++ more))
+pub behind_dictionary : {F : List Token → Type 0} {entries more : List ℕ} (es : EntryTerms) (n : ℕ) → Run (SpellsEntries es) entries → (m : Tail F more) → Tail (Then (SpellsDictionary es) F) (32 ∷ ((line n ++ (91 ∷ (entries ++ 93 ∷ []))) ++ more))
 behind_dictionary es n r m = tail-shown 32 refl (blank-shown 32 refl (both-shown m (Shown-as (λ ts s. inr s) (line-shown n (bracketed r)))))
 
 pub behind_none : {F : List Token → Type 0} {more : List ℕ} → Shown F more → Tail (Then (SpellsDictionary no_entries) F) (32 ∷ more)

@@ -52,8 +52,8 @@ other_bytes k l e = by (bytes_eq k l) refl
         absurd (let g = same_key k in let z : ⊥ = cc (self, g) in z)
     by false f = refl
 
-pub no_told : {K : Type 0} (k : List ℕ) → is_key k name_key ≡ false → is_key k func_type_key ≡ false → is_told {K = K} (Some Func) k ≡ false
-no_told k e f = rw (other_bytes k name_key e, other_bytes k func_type_key f) refl
+pub no_told : (K : Type 0) (k : List ℕ) → is_key k name_key ≡ false → is_key k func_type_key ≡ false → is_told {K = K} (Some Func) k ≡ false
+no_told K k e f = rw (other_bytes k name_key e, other_bytes k func_type_key f) refl
 
 -- ---- entries
 
