@@ -6,3 +6,8 @@ pub mod PartsShown
 pub mod Kids
 pub mod Told
 pub mod OpShown
+pub mod MeantAgain
+pub mod NamesAgain
+pub mod OpSame
+pub mod TreeSame
+pub mod ReadBack

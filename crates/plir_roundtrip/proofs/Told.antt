@@ -42,7 +42,7 @@ key_is k l e = by (slice_cmp nat_cmp k l) refl e
     by Greater f e = absurd cc
 
 -- another key has other bytes
-other_bytes : (k l : List ℕ) → is_key k l ≡ false → bytes_eq k l ≡ false
+pub other_bytes : (k l : List ℕ) → is_key k l ≡ false → bytes_eq k l ≡ false
 other_bytes k l e = by (bytes_eq k l) refl
   where
     by : (t : Bool) → bytes_eq k l ≡ t → t ≡ false
@@ -51,9 +51,6 @@ other_bytes k l e = by (bytes_eq k l) refl
         let self : is_key k k ≡ false = subst (λ z. is_key k z ≡ false) (sym same) e in
         absurd (let g = same_key k in let z : ⊥ = cc (self, g) in z)
     by false f = refl
-
-pub no_told : (K : Type 0) (k : List ℕ) → is_key k name_key ≡ false → is_key k func_type_key ≡ false → is_told {K = K} (Some Func) k ≡ false
-no_told K k e f = rw (other_bytes k name_key e, other_bytes k func_type_key f) refl
 
 -- ---- entries
 
