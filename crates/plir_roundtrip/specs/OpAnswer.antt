@@ -22,6 +22,7 @@ use Rattle.plir_read.specs.OpsStanding.{StandsForOp}
 use Rattle.plir_read.specs.Stopping.{IsOfText}
 use Rattle.plir_roundtrip.specs.Readable.{IsReadable}
 use Rattle.plir_roundtrip.specs.SameTree.{IsSameTree}
+use Rattle.plir_roundtrip.specs.Written.{op_term_of}
 
 module _ {K A T : Type 0} where
   -- The answer to a text, read into the context `old`, which leaves the context `new`: an operation that the text stands for, made anew;
@@ -44,3 +45,7 @@ module _ {K A T : Type 0} where
 abbrev pub IsReadBack : {D K A T E : Type 0} → (o : op_set.Ghosts D K A T E) → (text : List ℕ) → Result (Ptr OperationKind) ReadErr → Type 0
 IsReadBack o text answer =
     (printed old new : Store _ _ _) (p : Ptr OperationKind) → IsWhole o.attr_handles printed → IsTypeTable o.type_handles new.types → IsReadable o printed p → text ≡ op_text o printed p → Grows printed.types old.types → IsOpRead old text answer new → IsSameOrRefused printed p new answer
+
+-- the text of each operation that can be read back stands for it, as it is written
+abbrev pub TextsStand : {D K A T E : Type 0} → op_set.Ghosts D K A T E → Type 0
+TextsStand o = (s : Store _ _ _) (p : Ptr OperationKind) → IsWhole o.attr_handles s → IsReadable o s p → IsText (OpWithin 200) (op_text o s p) (op_term_of o s p)
