@@ -1,5 +1,5 @@
 -- The text of an attribute is tokens that stand for it.
-use Rattle.std.proofs.Common.{◌≡◌, ℕ, ◌<◌, ◌≤◌, ◌^◌, Bool, true, false, ◌||◌, nat_eq, List, [], ◌∷◌, ◌++◌, Option, Some, None, Ok, codes, refl, sym, ap, subst, ◌∙◌, arith, append-nil, append_assoc}
+use Rattle.std.proofs.Common.{◌≡◌, ℕ, ◌<◌, ◌^◌, Bool, true, false, ◌||◌, nat_eq, List, [], ◌∷◌, ◌++◌, Option, Some, None, Ok, codes, refl, sym, ap, subst, ◌∙◌, arith, append_assoc}
 use Rattle.std.proofs.lemmas.Bool.Decides.{Decides-eqb}
 use Rattle.std.specs.Fmt.{decimal}
 use Rattle.plir_data.specs.AttrVerify.{is_of_width}
@@ -8,7 +8,6 @@ use Rattle.plir_data.specs.AttrView.{Leaf, AttrView, leaf, dict, vec, Items, no_
 use Rattle.plir_data.specs.Dictionary.{IsDictionary}
 use Rattle.plir_data.specs.Identifier.{is_identifier, is_letter, is_digit}
 use Rattle.plir_data.specs.Integers.{literal}
-use Rattle.plir_data.specs.Laws.{IsDictOfItself}
 use Rattle.plir_data.specs.TypeText.{type_text}
 use Rattle.plir_data.specs.Types as types
 use Rattle.plir_data.specs.Types.{TypeView, IsTypeTable, type_at, prints_as_signed}
@@ -17,8 +16,6 @@ use Rattle.plir_data.specs.declared.types.Signedness.{Signedness}
 use Rattle.plir_text.specs.AttrGrammar.{truth, SpellsIdentifier, SpellsSize, SpellsName, Spells, SpellsItems, SpellsMoreItems, SpellsEntries, SpellsMoreEntries}
 use Rattle.plir_text.specs.AttrText.{is_signed, bare_text, leaf_text, attr_text, items_text, more_items_text, entries_text, more_entries_text}
 use Rattle.plir_text.specs.Bytes.{is_in_word}
-use Rattle.plir_text.specs.Meaning.{IsMeant, AreMeant, AreEntriesMeant, StandsFor}
-use Rattle.plir_text.specs.Names.{Grows}
 use Rattle.plir_text.specs.Terms as terms
 use Rattle.plir_text.specs.Terms.{levels}
 use Rattle.plir_text.specs.Tokens.{Token, word, digits, sign, look, Begins}
@@ -26,9 +23,8 @@ use Rattle.plir_text.specs.Writable.{IsNameOrMark, pairs_of, IsLeafWritable, IsW
 use Rattle.plir_text.specs.Written.{name_or_mark}
 use Rattle.plir_text.specs.Printed.{Ends, IsValue, is_word, look-word, look-spaced, look-decimal, value_text, value_spelled, integer-begins}
 use Rattle.plir_text.specs.QuotedAgain.{string-shown}
-use Rattle.plir_text.specs.Meanings.{IsMeant-grown}
 use Rattle.plir_text.specs.Runs.{Run, Shown, Tail, Shown-as, Run-as, Tail-as, behind_id, word-shown, identifier_is_word, listed, nothing, behind_first, behind_comma, begins-spaced, several-shown}
-use Rattle.plir_text.specs.TypesShown.{type-shown, type_named}
+use Rattle.plir_text.specs.TypesShown.{type-shown}
 
 -- ---- leaves
 
@@ -149,4 +145,3 @@ module _ {A T : Type 0} (own_id : A → List ℕ) (own_body : List (TypeView T) 
     more_entries-shown : (es : Entries A) → IsDictionary (pairs_of es) → AreEntriesWritable table es → Tail (SpellsMoreEntries (entry_terms table es)) (more_entries_text own_id own_body type_id type_body table es)
     more_entries-shown no_entries d h = nothing
     more_entries-shown (entry k x es) d h = next_entry k d.0 (attr-shown x h.0) (more_entries-shown es d.2 h.1)
-

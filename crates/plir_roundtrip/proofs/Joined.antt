@@ -1,5 +1,5 @@
 -- Tokens of things that are printed on lines and between signs.
-use Rattle.std.proofs.Common.{◌≡◌, ℕ, zero, suc, Bool, true, false, List, [], ◌∷◌, ◌++◌, replicate, Ok, refl, sym, ap, subst, ◌∙◌, append_assoc}
+use Rattle.std.proofs.Common.{◌≡◌, ℕ, zero, suc, true, false, List, [], ◌∷◌, ◌++◌, replicate, Ok, refl, sym, ap, subst, ◌∙◌, append_assoc}
 use Rattle.plir_text.specs.Begun.{Begins-append}
 use Rattle.plir_text.specs.Bytes.{is_blank, is_in_word}
 use Rattle.plir_text.specs.Printed.{Ends}

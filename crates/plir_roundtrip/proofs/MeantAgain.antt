@@ -1,5 +1,5 @@
 -- What is meant by attributes and types that were written, in a table that has grown on.
-use Rattle.std.proofs.Common.{◌≡◌, ℕ, List, [], ◌∷◌, Option, Some, refl, sym, ap, subst, ◌∙◌, arith, append-nil, ◌≤◌}
+use Rattle.std.proofs.Common.{◌≡◌, ℕ, List, [], ◌∷◌, Option, Some, refl, ap, subst, ◌∙◌, arith, append-nil}
 use Rattle.plir_data.specs.AttrView as views
 use Rattle.plir_data.specs.AttrView.{AttrView}
 use Rattle.plir_data.specs.Dictionary.{IsDictionary, dict_of}
@@ -16,7 +16,7 @@ use Rattle.plir_text.specs.Names.{Grows, Names}
 use Rattle.plir_text.specs.Runs.{Shown}
 use Rattle.plir_text.specs.SameMeanings.{same_attr}
 use Rattle.plir_text.specs.SameNames.{same_handle}
-use Rattle.plir_text.specs.Terms.{TypeTerm, levels}
+use Rattle.plir_text.specs.Terms.{levels}
 use Rattle.plir_text.specs.Tokens.{Token, Begins}
 use Rattle.plir_text.specs.TypeGrammar.{IsText}
 use Rattle.plir_text.specs.TypesShown.{type_named}

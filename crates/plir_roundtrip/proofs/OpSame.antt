@@ -1,57 +1,38 @@
 -- What stands where the text of an operation was read is the same tree.
-use Rattle.std.proofs.Common.{◌≡◌, ◌⊎◌, ℕ, zero, suc, ◌+◌, ◌<◌, ◌||◌, Bool, true, false, ◌&&◌, List, [], ◌∷◌, length, map, inl, inr, All, Option, Some, None, is_some, get_or, flat_map, option_and_then, refl, sym, ap, subst, ◌∙◌, arith, append-nil}
+use Rattle.std.proofs.Common.{◌≡◌, ℕ, suc, ◌+◌, ◌<◌, Bool, true, false, List, [], ◌∷◌, length, map, Option, Some, is_some, refl, sym, ap, subst, ◌∙◌, arith}
 use Rattle.std.specs.List.{range_with_len}
 use Rattle.std.specs.Prelude.{slice_get}
-use Rattle.std.proofs.lemmas.Bool.{and_parts}
-use Rattle.std.proofs.lemmas.Option.{slice_get-get_or}
 use Rattle.plir_data.specs.AttrView as views
 use Rattle.plir_data.specs.AttrView.{AttrView, leaf}
 use Rattle.plir_data.specs.DictLaws.{get-put, get-other}
-use Rattle.plir_data.specs.Dictionary.{dict_get, dict_put, is_key, IsDictionary}
-use Rattle.plir_data.specs.Laws.{IsDictOfItself}
-use Rattle.plir_data.specs.TypeTree.{tree_of}
-use Rattle.plir_data.specs.Types.{IsTypeTable, AllLive, IsLive as IsTypeLive}
+use Rattle.plir_data.specs.Dictionary.{dict_get, is_key}
 use Rattle.plir_data.specs.declared.op_set.OpKind.{OpKind}
-use Rattle.plir_data.specs.declared.op_set.OpKind.TheVariants.{Module, Func, Constant, ForwardRef, Own}
+use Rattle.plir_data.specs.declared.op_set.OpKind.TheVariants.{Module, Func, Constant}
 use Rattle.plir_data.specs.declared.op_set.OpSet as op_set
 use Rattle.plir_core.specs.declared.ptr.Ptr.{Ptr}
 use Rattle.plir_core.specs.declared.ptr.Operation.{Operation as OperationKind}
-use Rattle.plir_core.specs.declared.ptr.Region.{Region as RegionKind}
 use Rattle.plir_core.specs.declared.ptr.BasicBlock.{BasicBlock as BlockKind}
 use Rattle.plir_core.specs.declared.ptr.IRNode.{IRNode}
 use Rattle.plir_core.specs.declared.ptr.IRNode.TheVariants.{Operation, Region, BasicBlock}
 use Rattle.plir_core.specs.declared.value.Value.{Value}
 use Rattle.plir_core.specs.declared.value.DefiningEntity.TheVariants.{Op, Block}
 use Rattle.plir_core.specs.Contents.{OpView, BlockView, op_view}
-use Rattle.plir_core.specs.NodeLists.{Has}
-use Rattle.plir_core.specs.Standing.{IsStanding}
-use Rattle.plir_core.specs.Store.{Store, kids, kind_of, kind_in, op_at, block_at, attributes_of, attributes_in, result_types_of, results_in, operands_in, successors_in, arg_types_of, arguments_in, label_of, label_in, block_attributes_of, block_attributes_in}
-use Rattle.plir_core.specs.Whole.{IsWhole}
-use Rattle.plir_text.specs.Names.{Grows, Names, NamesAll}
-use Rattle.plir_text.specs.SameNames.{same_handles}
-use Rattle.plir_text.specs.Writable.{IsBuiltin}
+use Rattle.plir_core.specs.Store.{Store, kind_of, kind_in, op_at, block_at, attributes_of, attributes_in, result_types_of, results_in, operands_in, successors_in, arg_types_of}
+use Rattle.plir_text.specs.Names.{Names, NamesAll}
 use Rattle.plir_walk.specs.GivenNames.{names_key, names_at, names_in, name_at}
-use Rattle.plir_walk.specs.Tree.{Place, node_at}
-use Rattle.plir_builtin.specs.BuiltinOps.{func_type_of, value_of, name_key, func_type_key, value_key}
+use Rattle.plir_builtin.specs.BuiltinOps.{value_of, name_key, func_type_key, value_key}
 use Rattle.plir_builtin.specs.ResultNames.{result_name}
 use Rattle.plir_builtin.specs.Symbols.{name_held}
-use Rattle.plir_print.specs.Dictionaries.{is_told, is_shown, shown}
-use Rattle.plir_print.specs.HeaderAttrs.{has_header_of}
-use Rattle.plir_print.specs.ValueNames.{argument_name, arguments_of}
-use Rattle.plir_read.specs.Heads.{module_attributes, func_attributes, module_op, func_op, constant_op, constant_attributes, names_attributes, argument_types, argument_names, result_names, written_block}
-use Rattle.plir_read.specs.OpTerms.{BlockTerms, ops_of, blocks_of}
-use Rattle.plir_read.specs.OpsStanding.{HoldsOp, HoldsBlock, IsBlockHeadAt, IsOpAt, AreBlocksAt, AreOpsAt}
-use Rattle.plir_read.specs.Suffixes.{given_name}
-use Rattle.plir_read.specs.declared.names.Suffix.TheVariants as kinds
-use Rattle.plir_roundtrip.specs.Readable.{IsBodyReadable, IsConstantReadable, IsKindReadable, IsOpReadable, IsBlockReadable}
-use Rattle.plir_roundtrip.specs.SameTree.{HoldSame, AreSameFrom, IsSameOp, IsSameBlock, IsSameNode, IsSameOrNone}
-use Rattle.plir_roundtrip.specs.Written.{some_type_term, argument_term, block_head_term, block_term, blocks_under, symbol_of, term_of_kind, term_at}
-use Rattle.plir_roundtrip.proofs.Kids.{kid_of_region, kid_of_block, only_region, AllReadable, kid_readable, op_readable, block_readable, HasRoom, some_room, lower_room, kid_room}
-use Rattle.plir_roundtrip.proofs.MeantAgain.{type_stays, handle_again, attr_again, dictionary_again}
-use Rattle.plir_roundtrip.proofs.NamesAgain.{names_again, no_others, constant_names_again, name_in_row}
-use Rattle.plir_roundtrip.proofs.OpShown.{HoldsConstant, constant_there, at_first, func_type_there}
-use Rattle.plir_roundtrip.proofs.PrintedNames.{block_name_given, argument_name_given, result_name_given}
-use Rattle.plir_roundtrip.proofs.Told.{key_is, other_bytes, name_there, filter_dictionary, shown_writable, shown_there}
+use Rattle.plir_print.specs.Dictionaries.{is_told, shown}
+use Rattle.plir_read.specs.Heads.{module_attributes, func_attributes, constant_op, constant_attributes, names_attributes, argument_types, result_names}
+use Rattle.plir_read.specs.OpsStanding.{HoldsOp, HoldsBlock}
+use Rattle.plir_roundtrip.specs.Readable.{IsBodyReadable, IsConstantReadable, IsOpReadable}
+use Rattle.plir_roundtrip.specs.SameTree.{HoldSame, IsSameOp}
+use Rattle.plir_roundtrip.specs.Written.{some_type_term, argument_term, symbol_of}
+use Rattle.plir_roundtrip.proofs.NamesAgain.{no_others, constant_names_again}
+use Rattle.plir_roundtrip.proofs.OpShown.{HoldsConstant}
+use Rattle.plir_roundtrip.proofs.PrintedNames.{result_name_given}
+use Rattle.plir_roundtrip.proofs.Told.{key_is, other_bytes, name_there, shown_there}
 
 -- ---- which node it is
 

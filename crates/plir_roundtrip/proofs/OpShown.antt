@@ -1,5 +1,5 @@
 -- The text of an operation is tokens that stand for it.
-use Rattle.std.proofs.Common.{◌≡◌, ℕ, zero, suc, ◌+◌, ◌<◌, ◌≤◌, Bool, true, false, ◌&&◌, List, [], ◌∷◌, ◌++◌, codes, length, map, inl, inr, Option, Some, None, is_some, refl, sym, ap, subst, ◌∙◌, arith, append_assoc, append-nil, get_or, flat_map, option_and_then, All}
+use Rattle.std.proofs.Common.{◌≡◌, ℕ, zero, suc, ◌+◌, ◌<◌, true, false, List, [], ◌∷◌, ◌++◌, codes, length, map, inl, inr, Option, Some, None, is_some, refl, sym, ap, subst, ◌∙◌, arith, append_assoc, append-nil, get_or, flat_map, option_and_then, All}
 use Rattle.std.specs.List.{range_with_len}
 use Rattle.std.specs.Prelude.{slice_get, nat_eq}
 use Rattle.std.proofs.lemmas.Bool.{and_parts, eqb-true}
@@ -23,9 +23,8 @@ use Rattle.plir_core.specs.declared.value.DefiningEntity.TheVariants.{Op, Block}
 use Rattle.plir_core.specs.NodeLists.{Has}
 use Rattle.plir_core.specs.Standing.{IsStanding}
 use Rattle.plir_core.specs.Store.{Store, kids, kind_of, op_at, attributes_of, result_types_of, arg_types_of}
-use Rattle.plir_text.specs.AttrGrammar.{Spells, SpellsEntries}
-use Rattle.plir_text.specs.Runs.{Run, Shown, Tail, Shown-as, Tail-as, nothing}
-use Rattle.plir_text.specs.Terms.{EntryTerms}
+use Rattle.plir_text.specs.AttrGrammar.{Spells}
+use Rattle.plir_text.specs.Runs.{Shown, Tail, Shown-as, Tail-as, nothing}
 use Rattle.plir_text.specs.Tokens.{Token, sign}
 use Rattle.plir_text.specs.TypeGrammar.{enclosed, SpellsType}
 use Rattle.plir_text.specs.TypesShown.{type-shown}
@@ -40,7 +39,7 @@ use Rattle.plir_print.specs.Lists.{parted, parted_from}
 use Rattle.plir_print.specs.OpText.{line, equals_behind, space_behind, line_of, dictionary_of, results_text, argument_text, block_front, text_at}
 use Rattle.plir_print.specs.ValueNames.{arguments_of}
 use Rattle.plir_read.specs.OpGrammar.{SpellsHead, SpellsDictionary, SpellsArgument, SpellsBlockHead, SpellsOp, SpellsOps, SpellsMoreOps, SpellsBlocks}
-use Rattle.plir_read.specs.OpTerms.{Head, OpTerm, op_term, constant_term, BlockTerm, BlockTerms, ops_of, blocks_of}
+use Rattle.plir_read.specs.OpTerms.{Head, OpTerm, op_term, BlockTerm, BlockTerms, ops_of, blocks_of}
 use Rattle.plir_roundtrip.specs.Readable.{IsTold, AreValuesReadable, IsBodyReadable, IsConstantReadable, IsKindReadable, IsOpReadable, IsBlockReadable}
 use Rattle.plir_roundtrip.specs.Written.{some_type_term, some_attr_term, argument_term, block_head_term, block_term, blocks_under, symbol_of, head_term, term_of_kind, term_at}
 use Rattle.plir_roundtrip.proofs.AttrsShown.{attr-shown}
@@ -189,11 +188,11 @@ module _ {D K A T E : Type 0} (o : op_set.Ghosts D K A T E) (s : Store K A T) wh
         let made = constant-shown (result_name s p 0) _ _ name (some_attr-shown (value_of s p) c.value c.held (r.value c.value c.held)) (some_type-shown (slice_get (result_types_of s p) 0) c.handle first builtin) in
         let header = header_of o s (Some Constant) p in
         let text : text_by n below (Some Constant) p ≡ result_name s p 0 ++ (32 ∷ 61 ∷ 32 ∷ header) =
-            ap (λ z. (results_text s p ++ (header ++ [])) ++ z) none
-            ∙ append-nil (results_text s p ++ (header ++ []))
-            ∙ ap (λ z. results_text s p ++ z) (append-nil header)
-            ∙ ap (λ z. z ++ header) (one_result p c.handle c.result)
-            ∙ append_assoc (result_name s p 0) (codes " = ") header in
+        ap (λ z. (results_text s p ++ (header ++ [])) ++ z) none
+        ∙ append-nil (results_text s p ++ (header ++ []))
+        ∙ ap (λ z. results_text s p ++ z) (append-nil header)
+        ∙ ap (λ z. z ++ header) (one_result p c.handle c.result)
+        ∙ append_assoc (result_name s p 0) (codes " = ") header in
         subst (Shown (SpellsOp (term_of_kind o s (Some Constant) bs p))) (sym text) made
 
 -- ---- an operation with all below it

@@ -1,20 +1,20 @@
 -- Dictionaries, heads of blocks, headers and constants, as they are printed.
-use Rattle.std.proofs.Common.{◌≡◌, ℕ, suc, ◌+◌, ◌<◌, Bool, true, false, List, [], ◌∷◌, ◌++◌, codes, map, inl, inr, refl, sym, ap, subst, ◌∙◌, arith, append_assoc, append-nil}
+use Rattle.std.proofs.Common.{◌≡◌, ℕ, true, false, List, [], ◌∷◌, ◌++◌, codes, map, inl, inr, refl, sym, ap, ◌∙◌, append_assoc}
 use Rattle.plir_data.specs.AttrView as views
 use Rattle.plir_data.specs.AttrView.{AttrView}
 use Rattle.plir_data.specs.Identifier.{is_identifier}
 use Rattle.plir_data.specs.Types.{TypeView}
 use Rattle.plir_core.specs.NodeLists.{Has}
 use Rattle.plir_text.specs.AttrGrammar.{Spells, SpellsMore, SpellsSeveral, SpellsEntries, SpellsMoreEntries}
-use Rattle.plir_text.specs.AttrText.{attr_text, entry_text}
+use Rattle.plir_text.specs.AttrText.{entry_text}
 use Rattle.plir_text.specs.Runs.{Run, Shown, Tail, Shown-as, Run-as, Tail-as, behind_id, word-shown, identifier_is_word, nothing, behind_first, behind_comma}
 use Rattle.plir_text.specs.Terms.{TypeTerm, AttrTerm, EntryTerms, no_entries}
 use Rattle.plir_text.specs.Tokens.{Token, word, sign}
 use Rattle.plir_text.specs.TypeGrammar.{enclosed, SpellsType}
-use Rattle.plir_text.specs.Writable.{IsWritable, attr_term, entry_terms}
+use Rattle.plir_text.specs.Writable.{IsWritable, entry_terms}
 use Rattle.plir_print.specs.Lists.{parted, parted_from}
 use Rattle.plir_print.specs.OpText.{line}
-use Rattle.plir_read.specs.OpGrammar.{symbol, typed_value, SpellsHead, SpellsDictionary, SpellsArgument, SpellsBlockHead, SpellsConstant}
+use Rattle.plir_read.specs.OpGrammar.{symbol, SpellsHead, SpellsDictionary, SpellsArgument, SpellsBlockHead, SpellsConstant}
 use Rattle.plir_read.specs.OpTerms.{module_head, func_head, Argument}
 use Rattle.plir_roundtrip.proofs.AttrsShown.{attr-shown, entry-shown}
 use Rattle.plir_roundtrip.proofs.Joined.{blank-shown, tail-shown, run-shown, line-shown, Then, both-run, both-shown, Behind, sign-shown, look-at, look-colon, look-caret, look-open, look-close, look-less, look-greater, look-bracket, look-end}
@@ -75,9 +75,9 @@ block_head-shown w as_ h r =
       h,
       inner.2,
       s.2
-      ∙ ap (λ l. sign 94 ∷ l) (name.4 ∙ ap (λ l. l ++ name.1) name.2)
-      ∙ ap (λ l. sign 94 ∷ word w ∷ l) (name.3.2 ∙ ap (λ l. sign 40 ∷ l) (inner.4 ∙ ap (λ l. inner.0 ++ l) (close.2 ∙ ap (λ l. sign 41 ∷ l) (close.1.2 ∙ ap (λ l. sign 58 ∷ l) close.1.1))))
-      ∙ ap (λ l. sign 94 ∷ word w ∷ sign 40 ∷ l) (sym (append_assoc inner.0 (sign 41 ∷ []) (sign 58 ∷ []))),
+          ∙ ap (λ l. sign 94 ∷ l) (name.4 ∙ ap (λ l. l ++ name.1) name.2)
+          ∙ ap (λ l. sign 94 ∷ word w ∷ l) (name.3.2 ∙ ap (λ l. sign 40 ∷ l) (inner.4 ∙ ap (λ l. inner.0 ++ l) (close.2 ∙ ap (λ l. sign 41 ∷ l) (close.1.2 ∙ ap (λ l. sign 58 ∷ l) close.1.1))))
+          ∙ ap (λ l. sign 94 ∷ word w ∷ sign 40 ∷ l) (sym (append_assoc inner.0 (sign 41 ∷ []) (sign 58 ∷ []))),
     )) (sign-shown 94 look-caret (run-shown (both-shown list (word-shown w (identifier_is_word w h)))))
 
 -- ---- headers
@@ -112,6 +112,6 @@ constant-shown w a t h p q =
       both.2,
       close.1.1,
       s.3
-      ∙ ap (λ l. word w ∷ sign 61 ∷ l) (id.2 ∙ ap (λ l. word (codes "builtin.constant") ∷ l) (open_.2 ∙ ap (λ l. sign 60 ∷ l) (both.4 ∙ ap (λ l. both.0 ++ l) (close.2 ∙ ap (λ l. sign 62 ∷ l) close.1.2))))
-      ∙ ap (λ l. word w ∷ sign 61 ∷ word (codes "builtin.constant") ∷ sign 60 ∷ l) (sym (append_assoc both.0 (sign 62 ∷ []) (sign 58 ∷ close.1.0))),
+          ∙ ap (λ l. word w ∷ sign 61 ∷ l) (id.2 ∙ ap (λ l. word (codes "builtin.constant") ∷ l) (open_.2 ∙ ap (λ l. sign 60 ∷ l) (both.4 ∙ ap (λ l. both.0 ++ l) (close.2 ∙ ap (λ l. sign 62 ∷ l) close.1.2))))
+          ∙ ap (λ l. word w ∷ sign 61 ∷ word (codes "builtin.constant") ∷ sign 60 ∷ l) (sym (append_assoc both.0 (sign 62 ∷ []) (sign 58 ∷ close.1.0))),
     )) (entry-shown w h (behind_id (codes "builtin.constant") refl inside))

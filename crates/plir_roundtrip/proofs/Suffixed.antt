@@ -1,17 +1,17 @@
 -- A name with a suffix is given back without it.
-use Rattle.std.proofs.Common.{◌≡◌, ℕ, zero, suc, ◌+◌, ◌/◌, ◌%◌, ◌==◌, Bool, true, false, cond, nat_eq, List, [], ◌∷◌, ◌++◌, length, take, drop, codes, decimal, Option, Some, None, option_and_then, bytes_eq, refl, sym, ap, subst, ◌∙◌, arith, append_assoc, append-nil, take-append-drop}
+use Rattle.std.proofs.Common.{◌≡◌, ℕ, zero, suc, ◌+◌, ◌/◌, ◌%◌, ◌==◌, Bool, true, false, cond, nat_eq, List, [], ◌∷◌, ◌++◌, length, take, drop, codes, decimal, Option, Some, None, option_and_then, bytes_eq, refl, sym, ap, ◌∙◌, arith, append_assoc, append-nil, take-append-drop}
 use Rattle.std.specs.Fmt.{digit_glyph, digits, digits_onto}
 use Rattle.std.proofs.Math.Seq.{take-append_seam, drop-append_seam}
-use Rattle.std.proofs.lemmas.Bool.{lt-ltb, le-leb, and_from, and_parts, and_right, eqb-true}
+use Rattle.std.proofs.lemmas.Bool.{lt-ltb, le-leb, and_parts, and_right}
 use Rattle.std.proofs.lemmas.Bool.Decides.{nat_tests}
 use Rattle.std.proofs.lemmas.Option.{same_Some, none-some}
 use Rattle.std.proofs.lemmas.Slice.Eq.{bytes_eq-Decides}
 use Rattle.plir_data.specs.Identifier.{is_digit, is_letter, all_in_identifier, is_identifier}
-use Rattle.plir_text.specs.Bytes.{begins, past, front, all_pass, is_digits}
+use Rattle.plir_text.specs.Bytes.{begins, past, all_pass, is_digits}
 use Rattle.plir_text.specs.Printed.{Ends, past-run}
 use Rattle.plir_text.specs.Writable.{IsNameOrMark}
 use Rattle.plir_builtin.specs.ResultNames.{given_first}
-use Rattle.plir_read.specs.Suffixes.{behind_letters, behind_digits, behind_number, behind_pointer, behind_place, is_nothing, is_suffix, is_joined_suffix, before_suffix, unless_empty, without_suffix, given_name}
+use Rattle.plir_read.specs.Suffixes.{behind_letters, behind_digits, behind_number, behind_pointer, behind_place, is_nothing, is_suffix, before_suffix, without_suffix, given_name}
 use Rattle.plir_read.specs.declared.names.Suffix.{Suffix}
 use Rattle.plir_read.specs.declared.names.Suffix.TheVariants.{Block, Argument, OpResult}
 

@@ -1,6 +1,5 @@
 -- What is told of the attributes of an operation, and what its text shows of them.
-use Rattle.std.proofs.Common.{◌≡◌, ℕ, zero, suc, ◌<◌, Bool, true, false, cond, not, ◌||◌, ◌&&◌, bytes_eq, List, [], ◌∷◌, All, Ordering, Less, Equal, Greater, Option, Some, None, nat_cmp, filter, get_or, is_some, unwrap_or, refl, sym, ap, subst, ◌∙◌, arith}
-use Rattle.std.proofs.lemmas.Bool.{and_parts}
+use Rattle.std.proofs.Common.{◌≡◌, ℕ, suc, Bool, true, false, cond, not, ◌||◌, bytes_eq, List, [], ◌∷◌, All, Ordering, Less, Equal, Greater, Option, Some, None, nat_cmp, filter, get_or, is_some, unwrap_or, refl, sym, ap, subst, ◌∙◌, arith}
 use Rattle.std.proofs.lemmas.Cmp.{nat_list_cmp_total}
 use Rattle.std.proofs.lemmas.Map.Lookups.{exact_bytes}
 use Rattle.std.proofs.lemmas.Option.{same_Some, none-some}
@@ -13,11 +12,10 @@ use Rattle.plir_data.specs.AttrView.{AttrView, leaf, dict, vec}
 use Rattle.plir_data.specs.Dictionary.{dict_get, is_key, IsBelowAll, IsDictionary}
 use Rattle.plir_data.specs.Types.{TypeView}
 use Rattle.plir_data.specs.declared.op_set.OpKind.{OpKind}
-use Rattle.plir_data.specs.declared.op_set.OpKind.TheVariants.{Module, Func}
 use Rattle.plir_data.specs.declared.op_set.OpSet as op_set
 use Rattle.plir_text.specs.Writable.{IsWritable}
 use Rattle.plir_walk.specs.GivenNames.{names_key}
-use Rattle.plir_builtin.specs.BuiltinOps.{type_in_attr, name_key, func_type_key}
+use Rattle.plir_builtin.specs.BuiltinOps.{type_in_attr}
 use Rattle.plir_builtin.specs.Symbols.{name_in}
 use Rattle.plir_print.specs.Dictionaries.{is_told, is_shown, shown_of}
 use Rattle.plir_roundtrip.specs.Readable.{IsTold}
@@ -170,8 +168,8 @@ module _ {D K A T E : Type 0} (o : op_set.Ghosts D K A T E) (types : List (TypeV
   -- where the header tells nothing of a key, and it is not that of names, what stands under it is shown
   pub shown_there : (es : List (List ℕ × AttrView A)) (k : List ℕ) → All (λ e. IsTold types e.0 e.1) es → is_told kind k ≡ false → is_key k names_key ≡ false → dict_get (shown_of o kind es) k ≡ dict_get es k
   shown_there es k all e f = get-filter (is_shown o kind) es k (λ i d lt same.
-    let a = all i d lt in
-    at (get_or es i d) a same)
+      let a = all i d lt in
+      at (get_or es i d) a same)
     where
       at : (a : List ℕ × AttrView A) → IsTold types a.0 a.1 → is_key k a.0 ≡ true → is_shown o kind a ≡ true
       at a h same =

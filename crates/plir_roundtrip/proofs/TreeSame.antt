@@ -1,11 +1,10 @@
 -- A tree that stands where the text of another was read is the same.
-use Rattle.std.proofs.Common.{◌≡◌, ◌⊎◌, ℕ, zero, suc, ◌+◌, ◌<◌, Bool, true, false, ◌&&◌, List, [], ◌∷◌, length, map, inl, inr, Option, Some, None, is_some, get_or, flat_map, option_and_then, refl, sym, ap, subst, ◌∙◌, arith, append-nil}
-use Rattle.std.specs.List.{range_with_len}
+use Rattle.std.proofs.Common.{◌≡◌, ◌⊎◌, ℕ, zero, suc, ◌+◌, ◌<◌, true, List, [], ◌∷◌, length, map, inl, inr, Option, Some, None, is_some, flat_map, option_and_then, refl, sym, ap, subst, ◌∙◌, arith, append-nil}
 use Rattle.std.specs.Prelude.{slice_get}
 use Rattle.std.proofs.lemmas.Bool.{and_parts}
 use Rattle.std.proofs.lemmas.Option.{slice_get_within, get_or_from_slice_get}
 use Rattle.plir_data.specs.AttrView.{AttrView}
-use Rattle.plir_data.specs.Dictionary.{dict_get, IsDictionary}
+use Rattle.plir_data.specs.Dictionary.{dict_get}
 use Rattle.plir_data.specs.Laws.{IsDictOfItself}
 use Rattle.plir_data.specs.TypeTree.{tree_of}
 use Rattle.plir_data.specs.Types.{IsTypeTable, AllLive, IsLive as IsTypeLive}
@@ -18,11 +17,11 @@ use Rattle.plir_core.specs.declared.ptr.Region.{Region as RegionKind}
 use Rattle.plir_core.specs.declared.ptr.BasicBlock.{BasicBlock as BlockKind}
 use Rattle.plir_core.specs.declared.ptr.IRNode.{IRNode}
 use Rattle.plir_core.specs.declared.ptr.IRNode.TheVariants.{Operation, Region, BasicBlock}
-use Rattle.plir_core.specs.declared.value.DefiningEntity.TheVariants.{Op, Block}
+use Rattle.plir_core.specs.declared.value.DefiningEntity.TheVariants.{Block}
 use Rattle.plir_core.specs.Contents.{OpView, BlockView}
 use Rattle.plir_core.specs.NodeLists.{Has}
 use Rattle.plir_core.specs.Standing.{IsStanding}
-use Rattle.plir_core.specs.Store.{Store, kids, kind_of, op_at, block_at, attributes_of, result_types_of, results_in, arg_types_of, arguments_in, label_of, label_in, block_attributes_of, block_attributes_in}
+use Rattle.plir_core.specs.Store.{Store, kids, kind_of, op_at, block_at, attributes_of, result_types_of, results_in, arg_types_of, arguments_in, label_in, block_attributes_in}
 use Rattle.plir_core.specs.Whole.{IsWhole}
 use Rattle.plir_text.specs.Meaning.{IsDictMeant}
 use Rattle.plir_text.specs.Names.{Grows, Names}
@@ -35,7 +34,7 @@ use Rattle.plir_builtin.specs.ResultNames.{result_name}
 use Rattle.plir_builtin.specs.Symbols.{name_held}
 use Rattle.plir_print.specs.Dictionaries.{is_shown, shown}
 use Rattle.plir_print.specs.HeaderAttrs.{has_header_of}
-use Rattle.plir_print.specs.ValueNames.{argument_name, arguments_of}
+use Rattle.plir_print.specs.ValueNames.{arguments_of}
 use Rattle.plir_read.specs.Heads.{module_attributes, func_attributes, module_op, func_op, constant_op, result_names, argument_types, argument_names, written_block}
 use Rattle.plir_read.specs.OpTerms.{Argument, OpTerm, BlockTerms, ops_of, blocks_of}
 use Rattle.plir_read.specs.OpsStanding.{IsBlockHeadAt, IsOpAt, AreBlocksAt, AreOpsAt}

@@ -25,8 +25,9 @@ use Rattle.plir_roundtrip.specs.SameTree.{IsSameTree}
 use Rattle.plir_roundtrip.specs.Written.{op_term_of}
 
 module _ {K A T : Type 0} where
-  -- The answer to a text, read into the context `old`, which leaves the context `new`: an operation that the text stands for, made anew;
-  -- or memory or room was wanting, or the fault that is met first, and then the text stands for no operation. What was there is as it was.
+  -- The answer to a text, read into the context `old`, which leaves the context `new`: an operation that the text stands for, made
+  -- anew; or memory or room was wanting, or the fault that is met first, and then the text stands for no operation. What was there
+  -- is as it was.
   pub record IsOpRead (old : Store K A T) (text : List ℕ) (answer : Result (Ptr OperationKind) ReadErr) (new : Store K A T) : Type 0 where
     pub found : IfOk answer (λ p. StandsForOp 200 new text (Operation p))
     pub made : IfOk answer (λ p. IsMade old.nodes new.nodes (Operation p))
@@ -39,13 +40,15 @@ module _ {K A T : Type 0} where
   IsSameOrRefused s p new answer =
       MatchResult answer (λ q. IsSameTree s new (Operation p) (Operation q)) (λ e. (e.fault ≡ Memory) ⊎ (e.fault ≡ TooManyNodes))
 
--- Where the text is that of an operation p that can be read back, printed from the context `printed`, and this is the answer to it, read into a
--- context `old` whose types have grown from those, the answer is the root of the same tree, or memory or room was wanting. `new` is the
--- context that the reader left.
+-- Where the text is that of an operation p that can be read back, printed from the context `printed`, and this is the answer to it,
+-- read into a context `old` whose types have grown from those, the answer is the root of the same tree, or memory or room was
+-- wanting. `new` is the context that the reader left.
 abbrev pub IsReadBack : {D K A T E : Type 0} → (o : op_set.Ghosts D K A T E) → (text : List ℕ) → Result (Ptr OperationKind) ReadErr → Type 0
 IsReadBack o text answer =
-    (printed old new : Store _ _ _) (p : Ptr OperationKind) → IsWhole o.attr_handles printed → IsTypeTable o.type_handles new.types → IsReadable o printed p → text ≡ op_text o printed p → Grows printed.types old.types → IsOpRead old text answer new → IsSameOrRefused printed p new answer
+    (printed old new : Store _ _ _) (p : Ptr OperationKind) → IsWhole o.attr_handles printed → IsTypeTable o.type_handles new.types → IsReadable o printed p
+    → text ≡ op_text o printed p → Grows printed.types old.types → IsOpRead old text answer new → IsSameOrRefused printed p new answer
 
 -- the text of each operation that can be read back stands for it, as it is written
 abbrev pub TextsStand : {D K A T E : Type 0} → op_set.Ghosts D K A T E → Type 0
-TextsStand o = (s : Store _ _ _) (p : Ptr OperationKind) → IsWhole o.attr_handles s → IsReadable o s p → IsText (OpWithin 200) (op_text o s p) (op_term_of o s p)
+TextsStand o =
+    (s : Store _ _ _) (p : Ptr OperationKind) → IsWhole o.attr_handles s → IsReadable o s p → IsText (OpWithin 200) (op_text o s p) (op_term_of o s p)

@@ -24,7 +24,7 @@ use Rattle.plir_print.specs.HeaderAttrs.{HasHeader}
 use Rattle.plir_read.specs.OpTerms.{op_levels}
 use Rattle.plir_roundtrip.specs.Written.{op_term_of}
 
--- What the text of a module or a function tells of an attribute: all, where it can be written; names stand under their key alone.
+-- The text of a module or a function tells an attribute that can be written. Names are not told, so they stand under their key alone.
 abbrev pub IsTold : {A T : Type 0} → List (TypeView T) → (key : List ℕ) → AttrView A → Type 0
 IsTold types key (leaf (given_names ns)) = key ≡ names_key
 IsTold types key x = IsWritable types x

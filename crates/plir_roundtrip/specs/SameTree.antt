@@ -19,7 +19,7 @@ HoldSame es fs = (k : List ℕ) → is_key k names_key ≡ false → dict_get es
 
 -- The contexts s and t: of t the table of types has grown from that of s, so a handle of s names the same type in both.
 module _ {K A T : Type 0} (s t : Store K A T) where
-  -- Results or arguments have the same types and the same given names, and where they come from the same attributes stand.
+  -- Results or arguments have the same types and given names, and what they come from has the same attributes.
   pub record AreSameFrom (e f : DefiningEntity) : Type 0 where
     pub types : types_from s e ≡ types_from t f
     pub names : (i : ℕ) → i < length (types_from s e) → name_at (names_at s e) i ≡ name_at (names_at t f) i
@@ -56,6 +56,7 @@ module _ {K A T : Type 0} (s t : Store K A T) where
   IsSameOrNone (Some x) None = ⊥
   IsSameOrNone (Some x) (Some y) = IsSameNode x y
 
-  -- The tree under x in s is that under y in t, but for slots, versions and locations: the same stands at each place under the two.
+  -- The tree under x in s is that under y in t, but for slots, versions and locations: at each place under the two stands the same
+  -- node, or none in both.
   abbrev pub IsSameTree : IRNode → IRNode → Type 0
   IsSameTree x y = (place : Place) → IsSameOrNone (node_at (kids s) x place) (node_at (kids t) y place)

@@ -3,6 +3,5 @@
 #![tactic(auto)]
 
 pub mod copying;
-
 #[cfg(test)]
 mod tests;

@@ -8,7 +8,8 @@ use plir_scripts::{SampleSet, Stop};
 use std::alloc::Global;
 
 // A module with a dictionary, a function with blocks, labels and arguments, and constants.
-const MODULE: &str = "builtin.module @m [a = builtin.unit, b = builtin.vec [builtin.bool true]] {^top(): builtin.func @f: builtin.function <(builtin.integer si8)->()> [c = builtin.string \"x\"] {^entry(n: builtin.integer si8): y = builtin.constant <builtin.integer <-3: si8>> : builtin.integer si8; op1v1_res0 = builtin.constant <builtin.unit> : builtin.unit ^last(block1v1_arg0: builtin.unit):}}";
+const MODULE: &str =
+    "builtin.module @m [a = builtin.unit, b = builtin.vec [builtin.bool true]] {^top(): builtin.func @f: builtin.function <(builtin.integer si8)->()> [c = builtin.string \"x\"] {^entry(n: builtin.integer si8): y = builtin.constant <builtin.integer <-3: si8>> : builtin.integer si8; op1v1_res0 = builtin.constant <builtin.unit> : builtin.unit ^last(block1v1_arg0: builtin.unit):}}";
 
 // The text of an operation.
 fn text_of<D: OpSet>(alloc: Global, ctx: &Context<D>, op: Ptr<Operation>) -> Result<String, Stop> {
@@ -20,10 +21,8 @@ fn text_of<D: OpSet>(alloc: Global, ctx: &Context<D>, op: Ptr<Operation>) -> Res
 
 // Whether two texts differ in digits alone.
 fn differ_in_digits(one: &str, other: &str) -> bool {
-    let same = one
-        .bytes()
-        .zip(other.bytes())
-        .all(|(a, b)| a == b || (a.is_ascii_digit() && b.is_ascii_digit()));
+    let same = one.bytes().zip(other.bytes()).all(|(a, b)| a == b
+        || (a.is_ascii_digit() && b.is_ascii_digit()));
     one.len() == other.len() && same
 }
 
