@@ -11,3 +11,4 @@ pub mod NamesAgain
 pub mod OpSame
 pub mod TreeSame
 pub mod ReadBack
+pub mod NewModule

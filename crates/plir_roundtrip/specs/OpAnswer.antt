@@ -1,5 +1,6 @@
 -- What the reader of operations answers, and that it reads back what was printed.
-use Rattle.std.specs.Prelude.{◌≡◌, ◌⊎◌, ℕ, List, Result, Err, IfOk, IfErr, MatchResult}
+use Rattle.std.specs.Prelude.{◌≡◌, ◌⊎◌, ℕ, true, List, Result, Err, IfOk, IfErr, MatchResult}
+use Rattle.plir_data.specs.Identifier.{is_identifier}
 use Rattle.plir_data.specs.Types.{IsTypeTable}
 use Rattle.plir_data.specs.declared.op_set.OpSet as op_set
 use Rattle.plir_core.specs.declared.ptr.Ptr.{Ptr}
@@ -13,6 +14,7 @@ use Rattle.plir_text.specs.TypeGrammar.{IsText}
 use Rattle.plir_text.specs.Wholes.{whole}
 use Rattle.plir_text.specs.declared.fault.Fault.TheVariants.{Memory, TooManyNodes}
 use Rattle.plir_text.specs.declared.fault.ReadErr.{ReadErr}
+use Rattle.plir_builtin.specs.BuiltinOps.{IsNewModule}
 use Rattle.plir_print.specs.OpText.{op_text}
 use Rattle.plir_read.specs.Keeping.{KeepsOlder}
 use Rattle.plir_read.specs.OpGrammar.{OpWithin}
@@ -52,3 +54,8 @@ IsReadBack o text answer =
 abbrev pub TextsStand : {D K A T E : Type 0} → op_set.Ghosts D K A T E → Type 0
 TextsStand o =
     (s : Store _ _ _) (p : Ptr OperationKind) → IsWhole o.attr_handles s → IsReadable o s p → IsText (OpWithin 200) (op_text o s p) (op_term_of o s p)
+
+-- each new module whose name is an identifier can be read back
+abbrev pub NewModulesReadable : {D K A T E : Type 0} → op_set.Ghosts D K A T E → Type 0
+NewModulesReadable o =
+    (s : Store _ _ _) (p : Ptr OperationKind) (name : List ℕ) → IsWhole o.attr_handles s → is_identifier name ≡ true → IsNewModule s p name → IsReadable o s p

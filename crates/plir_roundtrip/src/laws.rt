@@ -1,5 +1,5 @@
 //! Laws of texts of operations.
-ghost use Rattle.plir_roundtrip.specs.OpAnswer.{IsReadBack, TextsStand};
+ghost use Rattle.plir_roundtrip.specs.OpAnswer.{IsReadBack, NewModulesReadable, TextsStand};
 
 use plir_core::laws::contexts_stand;
 use plir_core::{Operation, Ptr};
@@ -11,6 +11,13 @@ use plir_text::ReadErr;
 /// The text of an operation that can be read back stands for it, as it is written.
 pub fn text_stands_for_its_operation<D: OpSet>()
     ensures { TextsStand D.OpSet }
+{
+    contexts_stand::<D>();
+}
+
+/// A new module can be read back from its text.
+pub fn new_modules_can_be_read_back<D: OpSet>()
+    ensures { NewModulesReadable D.OpSet }
 {
     contexts_stand::<D>();
 }

@@ -3,14 +3,15 @@ ghost use Rattle.std.specs.Prelude.{IfOk};
 ghost use Rattle.plir_core.specs.declared.ptr.IRNode.{IRNode as AnyNode};
 ghost use Rattle.plir_core.specs.Store.{IsLive};
 ghost use Rattle.plir_text.specs.Names.{Grows};
+ghost use Rattle.plir_builtin.specs.BuiltinOps.{IsNewModule};
 ghost use Rattle.plir_roundtrip.specs.Readable.{IsReadable};
 ghost use Rattle.plir_roundtrip.specs.SameTree.{IsSameTree};
 
 use plir_core::{Context, Operation, Ptr};
-use plir_data::{OpSet, TypeStore};
+use plir_data::{Identifier, OpSet, TypeStore};
 use plir_print::print_op;
 use plir_read::read_op;
-use plir_roundtrip::laws::op_is_read_back;
+use plir_roundtrip::laws::{new_modules_can_be_read_back, op_is_read_back};
 use plir_scripts::Stop;
 use std::alloc::Global;
 
@@ -34,4 +35,23 @@ pub fn copy_by_text<D: OpSet>(
         Ok(copy) => Ok(copy),
         Err(found) => Err(Stop::from(found)),
     }
+}
+
+/// Copies a new module: of that nothing else is asked.
+pub fn copy_new_module<D: OpSet>(
+    alloc: Global,
+    from: &Context<D>,
+    module: Ptr<Operation>,
+    name: &Identifier,
+    into: &mut Context<D>,
+) -> Result<Ptr<Operation>, Stop>
+    requires live { IsLive from.now (AnyNode.Operation module) }
+    requires module { IsNewModule from.now module name.now }
+    requires types { Grows from.now.types into.old.types }
+    ensures same { IfOk result (λ q. IsSameTree from.now into.new (AnyNode.Operation module) (AnyNode.Operation q)) }
+{
+    let _name = name.as_str();
+    let _live = from.num_live();
+    new_modules_can_be_read_back::<D>();
+    copy_by_text(alloc, from, module, into)
 }
