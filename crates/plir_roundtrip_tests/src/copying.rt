@@ -41,17 +41,17 @@ pub fn copy_by_text<D: OpSet>(
 pub fn copy_new_module<D: OpSet>(
     alloc: Global,
     from: &Context<D>,
-    module: Ptr<Operation>,
+    op: Ptr<Operation>,
     name: &Identifier,
     into: &mut Context<D>,
 ) -> Result<Ptr<Operation>, Stop>
-    requires live { IsLive from.now (AnyNode.Operation module) }
-    requires module { IsNewModule from.now module name.now }
+    requires live { IsLive from.now (AnyNode.Operation op) }
+    requires new { IsNewModule from.now op name.now }
     requires types { Grows from.now.types into.old.types }
-    ensures same { IfOk result (λ q. IsSameTree from.now into.new (AnyNode.Operation module) (AnyNode.Operation q)) }
+    ensures same { IfOk result (λ q. IsSameTree from.now into.new (AnyNode.Operation op) (AnyNode.Operation q)) }
 {
     let _name = name.as_str();
     let _live = from.num_live();
     new_modules_can_be_read_back::<D>();
-    copy_by_text(alloc, from, module, into)
+    copy_by_text(alloc, from, op, into)
 }
