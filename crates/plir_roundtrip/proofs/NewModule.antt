@@ -3,10 +3,9 @@ use Rattle.std.proofs.Common.{◌≡◌, ◌⊎◌, ℕ, zero, suc, ◌+◌, ◌
 use Rattle.std.specs.List.{range_with_len}
 use Rattle.std.specs.Prelude.{slice_get}
 use Rattle.std.proofs.lemmas.Option.{same_Some, none-some}
-use Rattle.plir_data.specs.AttrView.{AttrView, entries_of}
+use Rattle.plir_data.specs.AttrView.{entries_of}
 use Rattle.plir_data.specs.Dictionary.{dict_get, IsDictionary}
 use Rattle.plir_data.specs.Identifier.{is_identifier}
-use Rattle.plir_data.specs.declared.op_set.OpKind.{OpKind}
 use Rattle.plir_data.specs.declared.op_set.OpKind.TheVariants.{Module}
 use Rattle.plir_data.specs.declared.op_set.OpSet as op_set
 use Rattle.plir_core.specs.declared.ptr.Ptr.{Ptr}
@@ -16,20 +15,19 @@ use Rattle.plir_core.specs.declared.ptr.IRNode.{IRNode}
 use Rattle.plir_core.specs.declared.ptr.IRNode.TheVariants.{Operation, Region, BasicBlock}
 use Rattle.plir_core.specs.declared.value.DefiningEntity.TheVariants.{Op, Block}
 use Rattle.plir_core.specs.Standing.{IsStanding}
-use Rattle.plir_core.specs.Store.{Store, kids, kind_of, kind_in, op_at, attributes_of, attributes_in, results_in, operands_in, successors_in, arguments_in, label_in, block_attributes_in, depth, limit}
+use Rattle.plir_core.specs.Store.{Store, kids, kind_of, kind_in, attributes_of, attributes_in, results_in, operands_in, successors_in, arguments_in, label_in, block_attributes_in, depth, limit}
 use Rattle.plir_text.specs.Terms.{entries_levels}
 use Rattle.plir_text.specs.Writable.{entry_terms, IsNameOrMark}
-use Rattle.plir_walk.specs.GivenNames.{names_under}
 use Rattle.plir_walk.specs.Tree.{Place, node_at}
 use Rattle.plir_builtin.specs.BuiltinOps.{IsNewModule, module_attributes}
 use Rattle.plir_builtin.specs.Symbols.{name_held}
 use Rattle.plir_print.specs.Dictionaries.{shown, shown_of}
-use Rattle.plir_print.specs.HeaderAttrs.{HasHeader, has_header_of}
+use Rattle.plir_print.specs.HeaderAttrs.{has_header_of}
 use Rattle.plir_print.specs.OpText.{room}
 use Rattle.plir_print.specs.ValueNames.{arguments_of}
 use Rattle.plir_read.specs.OpTerms.{OpTerm, ops_of, blocks_of, arguments_levels, op_levels, ops_levels, blocks_levels}
-use Rattle.plir_roundtrip.specs.Readable.{IsTold, AreValuesReadable, IsBodyReadable, IsKindReadable, IsOpReadable, IsBlockReadable, IsReadable}
-use Rattle.plir_roundtrip.specs.Written.{argument_term, block_term, blocks_under, dictionary_term, term_of_kind, term_at, op_term_of}
+use Rattle.plir_roundtrip.specs.Readable.{IsTold, AreValuesReadable, IsKindReadable, IsOpReadable, IsBlockReadable, IsReadable}
+use Rattle.plir_roundtrip.specs.Written.{argument_term, block_term, blocks_under, dictionary_term, term_of_kind, term_at}
 
 -- ---- the nodes of a new module
 
