@@ -1,9 +1,9 @@
 -- Readers of whole texts of operations, and what they refuse.
-use Rattle.std.proofs.Common.{◌≡◌, ℕ, List, Result, Ok, Err, refl, sym, ap, ◌∙◌}
+use Rattle.std.proofs.Common.{◌≡◌, ◌≤◌, ◌+◌, ℕ, List, Result, Ok, Err, refl, sym, ap, arith, ◌∙◌}
 use Rattle.plir_text.specs.declared.fault.Fault.{Fault}
 use Rattle.plir_text.specs.declared.fault.Stop.{Stop}
 use Rattle.plir_text.specs.declared.fault.Stop.TheVariants.{Wanting, Crowded, At}
-use Rattle.plir_text.specs.ListsAgain.{refused}
+use Rattle.plir_text.specs.ListsAgain.{refused, only_one}
 use Rattle.plir_text.specs.ListsFound.{whole_found}
 use Rattle.plir_text.specs.Reading.{Fails, fault_of}
 use Rattle.plir_text.specs.StepLaws.{done}
@@ -44,3 +44,10 @@ module _ {A : Type 0} (read : List ℕ → Result (A × List ℕ) Fault) (bytes 
   pub whole_read : (x : A) (rest : List ℕ) (u : Unit {0}) → read bytes ≡ Ok (x, rest) → end_at rest ≡ Ok u → whole read bytes ≡ Ok x
   unfolding whole
   whole_read x rest u p q = rw (p, q) refl
+
+wider : (m n : ℕ) (bytes : List ℕ) (w : OpTerm) → m ≤ n → IsText (OpWithin m) bytes w → IsText (OpWithin n) bytes w
+wider m n bytes w le s = record { tokens = s.tokens; are_tokens = s.are_tokens; spelled = (s.spelled.0, omega (arith, le, s.spelled.1)) }
+
+-- a text stands for one operation, as it is written, at most
+pub one_op : (m n : ℕ) (bytes : List ℕ) (v w : OpTerm) → IsText (OpWithin m) bytes v → IsText (OpWithin n) bytes w → v ≡ w
+one_op m n bytes v w s r = only_one (op_at (m + n)) (OpWithin (m + n)) (op_within_again (m + n)) bytes v w (wider m (m + n) bytes v (omega arith) s) (wider n (m + n) bytes w (omega arith) r)

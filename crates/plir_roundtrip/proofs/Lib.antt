@@ -1,0 +1,14 @@
+pub mod Suffixed
+pub mod PrintedNames
+pub mod AttrsShown
+pub mod Joined
+pub mod PartsShown
+pub mod Kids
+pub mod Told
+pub mod OpShown
+pub mod MeantAgain
+pub mod NamesAgain
+pub mod OpSame
+pub mod TreeSame
+pub mod ReadBack
+pub mod NewModule

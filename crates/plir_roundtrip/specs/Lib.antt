@@ -1,0 +1,10 @@
+-- What the law of the round trip cites.
+--
+--   Written      op_term_of: an operation as it is written
+--   Readable     IsReadable: what a text tells of an operation is all that it holds, and can be read
+--   SameTree     IsSameTree: two trees are the same but for the numbers of their nodes
+--   OpAnswer     IsOpRead: what the reader answers; IsReadBack: that it reads back what was printed; NewModulesReadable
+pub mod Written
+pub mod Readable
+pub mod SameTree
+pub mod OpAnswer

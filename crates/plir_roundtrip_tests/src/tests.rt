@@ -1,0 +1,2 @@
+//! Operations that are printed and read back.
+mod reading_back;
