@@ -4,7 +4,7 @@ pub mod AttrsShown
 pub mod Joined
 pub mod PartsShown
 pub mod Kids
-pub mod Told
+pub mod EntriesShown
 pub mod OpShown
 pub mod MeantAgain
 pub mod NamesAgain

@@ -26,7 +26,7 @@ use Rattle.plir_print.specs.HeaderAttrs.{has_header_of}
 use Rattle.plir_print.specs.OpText.{room}
 use Rattle.plir_print.specs.ValueNames.{arguments_of}
 use Rattle.plir_read.specs.OpTerms.{OpTerm, ops_of, blocks_of, arguments_levels, op_levels, ops_levels, blocks_levels}
-use Rattle.plir_roundtrip.specs.Readable.{IsTold, AreValuesReadable, IsKindReadable, IsOpReadable, IsBlockReadable, IsReadable}
+use Rattle.plir_roundtrip.specs.Readable.{IsEntryReadable, AreValuesReadable, IsKindReadable, IsOpReadable, IsBlockReadable, IsReadable}
 use Rattle.plir_roundtrip.specs.Written.{argument_term, block_term, blocks_under, dictionary_term, term_of_kind, term_at}
 
 -- ---- the nodes of a new module
@@ -77,9 +77,9 @@ module _ {D K A T E : Type 0} (o : op_set.Ghosts D K A T E) (s : Store K A T) (s
     names = λ i lt. absurd (let none : i < 0 = subst (λ (l : List ℕ). i < length l) (ap results_in new.holds) lt in omega (arith, none));
   }
 
-  name_told : All (λ e. IsTold s.types e.0 e.1) (module_attributes {A = A} name)
-  name_told zero d lt = good
-  name_told (suc k) d lt = absurd (omega (arith, lt))
+  name_readable : All (λ e. IsEntryReadable s.types e.0 e.1) (module_attributes {A = A} name)
+  name_readable zero d lt = good
+  name_readable (suc k) d lt = absurd (omega (arith, lt))
 
   op_good : IsOpReadable s p
   op_good = record {
@@ -89,7 +89,7 @@ module _ {D K A T E : Type 0} (o : op_set.Ghosts D K A T E) (s : Store K A T) (s
       region = Region new.region;
       body = new.regions;
       dictionary = subst IsDictionary (sym attributes_are) (refl, tt, tt);
-      told = subst (All (λ e. IsTold s.types e.0 e.1)) (sym attributes_are) name_told;
+      entries = subst (All (λ e. IsEntryReadable s.types e.0 e.1)) (sym attributes_are) name_readable;
     });
     results = no_values;
     operands = ap operands_in new.holds;

@@ -32,7 +32,7 @@ use Rattle.plir_roundtrip.specs.Written.{some_type_term, argument_term, symbol_o
 use Rattle.plir_roundtrip.proofs.NamesAgain.{no_others, constant_names_again}
 use Rattle.plir_roundtrip.proofs.OpShown.{HoldsConstant}
 use Rattle.plir_roundtrip.proofs.PrintedNames.{result_name_given}
-use Rattle.plir_roundtrip.proofs.Told.{key_is, other_bytes, name_there, shown_there}
+use Rattle.plir_roundtrip.proofs.EntriesShown.{key_is, other_bytes, name_there, shown_there}
 
 -- ---- which node it is
 
@@ -52,7 +52,7 @@ module _ {K A T : Type 0} (t : Store K A T) where
 module _ {D K A T E : Type 0} (o : op_set.Ghosts D K A T E) (s : Store K A T) (p : Ptr OperationKind) (b : IsBodyReadable s p) where
   -- what is shown of an operation whose header tells no more than two keys
   shown_same : (k : List ℕ) → is_told (kind_of s p) k ≡ false → is_key k names_key ≡ false → dict_get (attributes_of s p) k ≡ dict_get (shown o s p) k
-  shown_same k e f = sym (shown_there o s.types (kind_of s p) (attributes_of s p) k b.told e f)
+  shown_same k e f = sym (shown_there o s.types (kind_of s p) (attributes_of s p) k b.entries e f)
 
   name_same : is_some (name_held (op_at s p)) ≡ true → (k : List ℕ) → is_key k name_key ≡ true → dict_get (attributes_of s p) k ≡ dict_get (module_attributes (symbol_of s p) (shown o s p)) k
   name_same e k is =

@@ -40,14 +40,14 @@ use Rattle.plir_print.specs.OpText.{line, equals_behind, space_behind, line_of, 
 use Rattle.plir_print.specs.ValueNames.{arguments_of}
 use Rattle.plir_read.specs.OpGrammar.{SpellsHead, SpellsDictionary, SpellsArgument, SpellsBlockHead, SpellsOp, SpellsOps, SpellsMoreOps, SpellsBlocks}
 use Rattle.plir_read.specs.OpTerms.{Head, OpTerm, op_term, BlockTerm, BlockTerms, ops_of, blocks_of}
-use Rattle.plir_roundtrip.specs.Readable.{IsTold, AreValuesReadable, IsBodyReadable, IsConstantReadable, IsKindReadable, IsOpReadable, IsBlockReadable}
+use Rattle.plir_roundtrip.specs.Readable.{IsEntryReadable, AreValuesReadable, IsBodyReadable, IsConstantReadable, IsKindReadable, IsOpReadable, IsBlockReadable}
 use Rattle.plir_roundtrip.specs.Written.{some_type_term, some_attr_term, argument_term, block_head_term, block_term, blocks_under, symbol_of, head_term, term_of_kind, term_at}
 use Rattle.plir_roundtrip.proofs.AttrsShown.{attr-shown}
 use Rattle.plir_roundtrip.proofs.Joined.{tail-shown, run-shown, line-shown, Then, both-shown, sign-shown, look-semicolon, Between, braced}
 use Rattle.plir_roundtrip.proofs.Kids.{kid_of_region, kid_of_block, only_region, AllReadable, kid_readable, op_readable, block_readable, HasRoom, some_room, kid_room, lower_room, in_row}
 use Rattle.plir_roundtrip.proofs.PartsShown.{AreWritable, entries-shown, argument-shown, arguments-shown, block_head-shown, module-shown, func-shown, behind_dictionary, behind_none, constant-shown}
 use Rattle.plir_roundtrip.proofs.PrintedNames.{block_name_good, argument_name_good, result_name_good}
-use Rattle.plir_roundtrip.proofs.Told.{at_key, name_there, type_there, shown_writable}
+use Rattle.plir_roundtrip.proofs.EntriesShown.{at_key, name_there, type_there, shown_writable}
 
 -- ---- operations and blocks in a row
 
@@ -155,7 +155,7 @@ module _ {D K A T E : Type 0} (o : op_set.Ghosts D K A T E) (s : Store K A T) wh
 
   -- the name of a module or a function
   symbol_good : (p : Ptr OperationKind) → IsBodyReadable s p → is_some (name_held (op_at s p)) ≡ true → is_identifier (symbol_of s p) ≡ true
-  symbol_good p r e = (at_key (IsTold s.types) (attributes_of s p) symbol_key (leaf (views.identifier (symbol_of s p))) r.told (name_there (dict_get (attributes_of s p) symbol_key) e)).1
+  symbol_good p r e = (at_key (IsEntryReadable s.types) (attributes_of s p) symbol_key (leaf (views.identifier (symbol_of s p))) r.entries (name_there (dict_get (attributes_of s p) symbol_key) e)).1
 
   -- the type of a function
   pub func_type_there : (p : Ptr OperationKind) → IsBodyReadable s p → is_some (func_type_of s p) ≡ true → (h : ℕ) × (func_type_of s p ≡ Some h) × IsWritable {A = A} s.types (leaf (views.type_of h)) × (dict_get (attributes_of s p) func_type_key ≡ Some (leaf (views.type_of h)))
@@ -166,7 +166,7 @@ module _ {D K A T E : Type 0} (o : op_set.Ghosts D K A T E) (s : Store K A T) wh
       by (Some x) f e =
           let t = type_there x e in
           let is = ap (λ z. Some z) t.1 in
-          (t.0, ap (option_and_then type_in_attr) is, (at_key (IsTold s.types) (attributes_of s p) func_type_key (leaf (views.type_of t.0)) r.told (f ∙ is)).1, is)
+          (t.0, ap (option_and_then type_in_attr) is, (at_key (IsEntryReadable s.types) (attributes_of s p) func_type_key (leaf (views.type_of t.0)) r.entries (f ∙ is)).1, is)
 
   module _ (n : ℕ) (p : Ptr OperationKind) (bs : BlockTerms) (below : List ℕ) where
     module_shown : IsBodyReadable s p → Shown (Between 123 125 (SpellsBlocks bs)) below → Tail (Between 123 125 (SpellsBlocks bs)) below → AreWritable s.types (shown o s p) → has_header_of s (Some Module) p ≡ true → Shown (SpellsOp (term_of_kind o s (Some Module) bs p)) (text_by n below (Some Module) p)
@@ -237,7 +237,7 @@ module _ {D K A T E : Type 0} (o : op_set.Ghosts D K A T E) (s : Store K A T) (s
           )
 
       writable : (b : IsBodyReadable s p) → AreWritable s.types (shown o s p)
-      writable b = shown_writable o s.types (kind_of s p) (attributes_of s p) b.dictionary b.told
+      writable b = shown_writable o s.types (kind_of s p) (attributes_of s p) b.dictionary b.entries
 
       at : (kind : Option (OpKind K)) → kind_of s p ≡ kind → IsKindReadable s kind p → has_header_of s kind p ≡ true → Shown (SpellsOp (term_of_kind o s kind bs p)) (text_by o s n below kind p)
       at (Some Module) is b e = let q = body b in module_shown o s n p bs below b q.0 q.1 (writable b) e

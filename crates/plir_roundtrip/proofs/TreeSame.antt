@@ -49,7 +49,7 @@ use Rattle.plir_roundtrip.proofs.NamesAgain.{names_again, no_others, name_in_row
 use Rattle.plir_roundtrip.proofs.OpSame.{op_held, block_held, module_holds_same, func_holds_same, body_same, constant_same, value_of_place, typed}
 use Rattle.plir_roundtrip.proofs.OpShown.{constant_there, at_first, func_type_there}
 use Rattle.plir_roundtrip.proofs.PrintedNames.{block_name_given, argument_name_given}
-use Rattle.plir_roundtrip.proofs.Told.{filter_dictionary, shown_writable}
+use Rattle.plir_roundtrip.proofs.EntriesShown.{filter_dictionary, shown_writable}
 
 -- ---- lists of nodes
 
@@ -157,7 +157,7 @@ module _ {D K A T E : Type 0} (o : op_set.Ghosts D K A T E) (s t : Store K A T) 
 
   entries_are : (p : Ptr OperationKind) (b : IsBodyReadable s p) (entries : List (List ℕ × AttrView A)) → IsDictMeant t.types (dictionary_term o s p) entries → entries ≡ shown o s p
   entries_are p b entries m =
-      dictionary_again o.type_handles s.types t.types g table itself o.attr_id o.attr_text o.type_id o.type_body_text (shown o s p) entries (filter_dictionary (is_shown o (kind_of s p)) (attributes_of s p) b.dictionary) (shown_writable o s.types (kind_of s p) (attributes_of s p) b.dictionary b.told) m
+      dictionary_again o.type_handles s.types t.types g table itself o.attr_id o.attr_text o.type_id o.type_body_text (shown o s p) entries (filter_dictionary (is_shown o (kind_of s p)) (attributes_of s p) b.dictionary) (shown_writable o s.types (kind_of s p) (attributes_of s p) b.dictionary b.entries) m
 
   module _ (j : ℕ) (p : Ptr OperationKind) (y : IRNode) (readable : IsOpReadable s p) where
     abbrev bs : BlockTerms

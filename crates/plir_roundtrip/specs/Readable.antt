@@ -1,4 +1,4 @@
--- Operations of which a text tells all that they hold, and can be read.
+-- Operations whose texts can be read, and tell all that they hold.
 use Rattle.std.specs.Prelude.{◌≡◌, ℕ, ◌<◌, ◌≤◌, List, [], ◌∷◌, length, All, false, Option, Some, None}
 use Rattle.std.specs.List.{list_any}
 use Rattle.plir_data.specs.AttrView.{AttrView, leaf, given_names}
@@ -24,10 +24,10 @@ use Rattle.plir_print.specs.HeaderAttrs.{HasHeader}
 use Rattle.plir_read.specs.OpTerms.{op_levels}
 use Rattle.plir_roundtrip.specs.Written.{op_term_of}
 
--- The text of a module or a function tells an attribute that can be written. Names are not told, so they stand under their key alone.
-abbrev pub IsTold : {A T : Type 0} → List (TypeView T) → (key : List ℕ) → AttrView A → Type 0
-IsTold types key (leaf (given_names ns)) = key ≡ names_key
-IsTold types key x = IsWritable types x
+-- An attribute of a module or a function can be written; names are left out of the text, so they stand under their key alone.
+abbrev pub IsEntryReadable : {A T : Type 0} → List (TypeView T) → (key : List ℕ) → AttrView A → Type 0
+IsEntryReadable types key (leaf (given_names ns)) = key ≡ names_key
+IsEntryReadable types key x = IsWritable types x
 
 -- nothing stands under other keys than these
 abbrev pub HoldsOnly : {A : Type 0} → (keys : List (List ℕ)) → List (List ℕ × AttrView A) → Type 0
@@ -39,13 +39,13 @@ module _ {K A T : Type 0} (s : Store K A T) where
     pub types : All (λ handle. IsBuiltin (tree_of s.types handle)) (types_from s e)
     pub names : (i : ℕ) → i < length (types_from s e) → IsNameOrMark (name_at (names_at s e) i)
 
-  -- A module or a function: it has no results and one region, and its text tells all its attributes.
+  -- A module or a function: it has no results and one region, and its text has all its attributes but names.
   pub record IsBodyReadable (p : Ptr OperationKind) : Type 0 where
     pub results : result_types_of s p ≡ []
     pub region : IRNode
     pub body : kids s (Operation p) ≡ region ∷ []
     pub dictionary : IsDictionary (attributes_of s p)
-    pub told : All (λ e. IsTold s.types e.0 e.1) (attributes_of s p)
+    pub entries : All (λ e. IsEntryReadable s.types e.0 e.1) (attributes_of s p)
 
   -- A constant: it has no region, and holds a value that can be written and the name of its result.
   pub record IsConstantReadable (p : Ptr OperationKind) : Type 0 where

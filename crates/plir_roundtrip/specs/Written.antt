@@ -24,6 +24,13 @@ use Rattle.plir_print.specs.OpText.{room}
 use Rattle.plir_print.specs.ValueNames.{block_name, value_name, arguments_of}
 use Rattle.plir_read.specs.OpTerms.{Head, module_head, func_head, Header, Argument, BlockHead, OpTerm, op_term, constant_term, BlockTerm, BlockTerms, no_blocks, blocks_of}
 
+-- what stands for an operation, or a block, where there is none: anything
+abbrev pub no_op : OpTerm
+no_op = op_term (module_head [], no_entries) no_blocks
+
+abbrev pub no_block : BlockTerm
+no_block = (([], []), [])
+
 -- a type and an attribute, where there is one; else anything
 module _ {T : Type 0} (types : List (TypeView T)) where
   abbrev pub some_type_term : Option ℕ → TypeTerm
@@ -41,7 +48,7 @@ module _ {K A T : Type 0} (s : Store K A T) where
 
   -- what stands before the operations of a block
   abbrev pub block_head_term : Ptr BlockKind → BlockHead
-  block_head_term b = (block_name s b, map (argument_term) (arguments_of s b))
+  block_head_term b = (block_name s b, map argument_term (arguments_of s b))
 
   -- the name of a module or a function
   abbrev pub symbol_of : Ptr OperationKind → List ℕ
@@ -59,8 +66,8 @@ module _ {K A T : Type 0} (s : Store K A T) where
   -- a block, where `write` gives its operations
   abbrev pub block_term : (write : IRNode → OpTerm) → IRNode → BlockTerm
   block_term write (BasicBlock b) = (block_head_term b, map write (kids s (BasicBlock b)))
-  block_term write (Operation p) = (([], []), [])
-  block_term write (Region r) = (([], []), [])
+  block_term write (Operation p) = no_block
+  block_term write (Region r) = no_block
 
   -- the blocks of all regions of an operation
   abbrev pub blocks_under : Ptr OperationKind → List IRNode
@@ -81,10 +88,10 @@ module _ {D K A T E : Type 0} (o : op_set.Ghosts D K A T E) (s : Store K A T) wh
 
   -- the operation at a node, with at most k operations above one another
   abbrev pub term_at : (k : ℕ) → IRNode → OpTerm
-  term_at zero x = op_term (module_head [], no_entries) no_blocks
+  term_at zero x = no_op
   term_at (suc k) (Operation p) = term_of_kind (kind_of s p) (blocks_of (map (block_term s (term_at k)) (blocks_under s p))) p
-  term_at (suc k) (Region r) = op_term (module_head [], no_entries) no_blocks
-  term_at (suc k) (BasicBlock b) = op_term (module_head [], no_entries) no_blocks
+  term_at (suc k) (Region r) = no_op
+  term_at (suc k) (BasicBlock b) = no_op
 
   -- an operation with all below it, as it is written
   abbrev pub op_term_of : Ptr OperationKind → OpTerm

@@ -1,4 +1,4 @@
--- What is told of the attributes of an operation, and what its text shows of them.
+-- What the text of an operation shows of its attributes.
 use Rattle.std.proofs.Common.{◌≡◌, ℕ, suc, Bool, true, false, cond, not, ◌||◌, bytes_eq, List, [], ◌∷◌, All, Ordering, Less, Equal, Greater, Option, Some, None, nat_cmp, filter, get_or, is_some, unwrap_or, refl, sym, ap, subst, ◌∙◌, arith}
 use Rattle.std.proofs.lemmas.Cmp.{nat_list_cmp_total}
 use Rattle.std.proofs.lemmas.Map.Lookups.{exact_bytes}
@@ -18,7 +18,7 @@ use Rattle.plir_walk.specs.GivenNames.{names_key}
 use Rattle.plir_builtin.specs.BuiltinOps.{type_in_attr}
 use Rattle.plir_builtin.specs.Symbols.{name_in}
 use Rattle.plir_print.specs.Dictionaries.{is_told, is_shown, shown_of}
-use Rattle.plir_roundtrip.specs.Readable.{IsTold}
+use Rattle.plir_roundtrip.specs.Readable.{IsEntryReadable}
 use Rattle.plir_roundtrip.proofs.PartsShown.{AreWritable}
 
 -- ---- keys
@@ -120,35 +120,35 @@ module _ {A : Type 0} where
 -- ---- what is shown
 
 module _ {A T : Type 0} (types : List (TypeView T)) (own : A → Bool) where
-  -- what is told and not outlined can be written
-  told_writable : (k : List ℕ) (x : AttrView A) → IsTold types k x → is_outlined own x ≡ false → IsWritable types x
-  told_writable k (leaf (views.identifier w)) h e = h
-  told_writable k (leaf (views.string s)) h e = h
-  told_writable k (leaf (views.bool b)) h e = h
-  told_writable k (leaf (views.integer t w b)) h e = h
-  told_writable k (leaf views.unit) h e = h
-  told_writable k (leaf (views.type_of t)) h e = h
-  told_writable k (leaf (views.operand_segment_sizes ns)) h e = h
-  told_writable k (leaf (views.given_names ns)) h e = absurd cc
-  told_writable k (leaf (views.own a)) h e = h
-  told_writable k (dict es) h e = h
-  told_writable k (vec xs) h e = h
+  -- what is not outlined can be written
+  entry_writable : (k : List ℕ) (x : AttrView A) → IsEntryReadable types k x → is_outlined own x ≡ false → IsWritable types x
+  entry_writable k (leaf (views.identifier w)) h e = h
+  entry_writable k (leaf (views.string s)) h e = h
+  entry_writable k (leaf (views.bool b)) h e = h
+  entry_writable k (leaf (views.integer t w b)) h e = h
+  entry_writable k (leaf views.unit) h e = h
+  entry_writable k (leaf (views.type_of t)) h e = h
+  entry_writable k (leaf (views.operand_segment_sizes ns)) h e = h
+  entry_writable k (leaf (views.given_names ns)) h e = absurd cc
+  entry_writable k (leaf (views.own a)) h e = h
+  entry_writable k (dict es) h e = h
+  entry_writable k (vec xs) h e = h
 
-  -- what is told under another key than that of names is not outlined
-  told_shown : (k : List ℕ) (x : AttrView A) → IsTold types k x → is_key k names_key ≡ false → is_outlined own x ≡ false
-  told_shown k (leaf (views.identifier w)) h e = refl
-  told_shown k (leaf (views.string s)) h e = refl
-  told_shown k (leaf (views.bool b)) h e = refl
-  told_shown k (leaf (views.integer t w b)) h e = refl
-  told_shown k (leaf views.unit) h e = refl
-  told_shown k (leaf (views.type_of t)) h e = refl
-  told_shown k (leaf (views.operand_segment_sizes ns)) h e = refl
-  told_shown k (leaf (views.given_names ns)) h e =
+  -- what stands under another key than that of names is not outlined
+  entry_kept : (k : List ℕ) (x : AttrView A) → IsEntryReadable types k x → is_key k names_key ≡ false → is_outlined own x ≡ false
+  entry_kept k (leaf (views.identifier w)) h e = refl
+  entry_kept k (leaf (views.string s)) h e = refl
+  entry_kept k (leaf (views.bool b)) h e = refl
+  entry_kept k (leaf (views.integer t w b)) h e = refl
+  entry_kept k (leaf views.unit) h e = refl
+  entry_kept k (leaf (views.type_of t)) h e = refl
+  entry_kept k (leaf (views.operand_segment_sizes ns)) h e = refl
+  entry_kept k (leaf (views.given_names ns)) h e =
       let self : is_key k k ≡ false = subst (λ z. is_key k z ≡ false) (sym h) e in
       absurd (let g = same_key k in let z : ⊥ = cc (self, g) in z)
-  told_shown k (leaf (views.own a)) h e = absurd h
-  told_shown k (dict es) h e = refl
-  told_shown k (vec xs) h e = refl
+  entry_kept k (leaf (views.own a)) h e = absurd h
+  entry_kept k (dict es) h e = refl
+  entry_kept k (vec xs) h e = refl
 
 not_or : (a b : Bool) → not (a || b) ≡ true → b ≡ false
 not_or true b e = absurd cc
@@ -157,23 +157,23 @@ not_or false false e = refl
 
 module _ {D K A T E : Type 0} (o : op_set.Ghosts D K A T E) (types : List (TypeView T)) (kind : Option (OpKind K)) where
   -- each entry that is shown can be written
-  pub shown_writable : (es : List (List ℕ × AttrView A)) → IsDictionary es → All (λ e. IsTold types e.0 e.1) es → AreWritable types (shown_of o kind es)
+  pub shown_writable : (es : List (List ℕ × AttrView A)) → IsDictionary es → All (λ e. IsEntryReadable types e.0 e.1) es → AreWritable types (shown_of o kind es)
   shown_writable [] d all = tt
   shown_writable (a ∷ es) d all = by (is_shown o kind a) refl (shown_writable es d.2 (λ i e lt. all (suc i) e (omega (arith, lt))))
     where
       by : (t : Bool) → is_shown o kind a ≡ t → AreWritable types (shown_of o kind es) → AreWritable types (cond t (a ∷ shown_of o kind es) (shown_of o kind es))
-      by true e rest = (d.0, told_writable types o.attr_outlined a.0 a.1 (all 0 a (omega arith)) (not_or (is_told kind a.0) (is_outlined o.attr_outlined a.1) e), rest)
+      by true e rest = (d.0, entry_writable types o.attr_outlined a.0 a.1 (all 0 a (omega arith)) (not_or (is_told kind a.0) (is_outlined o.attr_outlined a.1) e), rest)
       by false e rest = rest
 
   -- where the header tells nothing of a key, and it is not that of names, what stands under it is shown
-  pub shown_there : (es : List (List ℕ × AttrView A)) (k : List ℕ) → All (λ e. IsTold types e.0 e.1) es → is_told kind k ≡ false → is_key k names_key ≡ false → dict_get (shown_of o kind es) k ≡ dict_get es k
+  pub shown_there : (es : List (List ℕ × AttrView A)) (k : List ℕ) → All (λ e. IsEntryReadable types e.0 e.1) es → is_told kind k ≡ false → is_key k names_key ≡ false → dict_get (shown_of o kind es) k ≡ dict_get es k
   shown_there es k all e f = get-filter (is_shown o kind) es k (λ i d lt same.
       let a = all i d lt in
       at (get_or es i d) a same)
     where
-      at : (a : List ℕ × AttrView A) → IsTold types a.0 a.1 → is_key k a.0 ≡ true → is_shown o kind a ≡ true
+      at : (a : List ℕ × AttrView A) → IsEntryReadable types a.0 a.1 → is_key k a.0 ≡ true → is_shown o kind a ≡ true
       at a h same =
           let is : k ≡ a.0 = key_is k a.0 same in
           let told : is_told kind a.0 ≡ false = subst (λ z. is_told kind z ≡ false) is e in
-          let outlined : is_outlined o.attr_outlined a.1 ≡ false = told_shown types o.attr_outlined a.0 a.1 h (subst (λ z. is_key z names_key ≡ false) is f) in
+          let outlined : is_outlined o.attr_outlined a.1 ≡ false = entry_kept types o.attr_outlined a.0 a.1 h (subst (λ z. is_key z names_key ≡ false) is f) in
           rw (told, outlined) refl
