@@ -16,21 +16,25 @@ one_only [] some = absurd (true≢false (sym some))
 one_only (x ∷ []) some = refl
 one_only (x ∷ y ∷ xs) some = absurd (true≢false (sym some))
 
+-- what holds of one thing holds of the list of it alone
+alone : {X : Type 0} {P : X → Type 0} (x : X) → P x → All P (x ∷ [])
+alone x p zero d lt = p
+alone x p (suc k) d lt = absurd (omega (arith, lt))
+
 -- an operation with a body has one region, and that has one block
 module _ {K A T : Type 0} (s : Store K A T) (t : Ptr OperationKind) (has : IsSome (body s t)) where
   pub one_region : HasNRegions 1 s t
-
-  pub single_blocks : HasSingleBlocks s t
   one_region = at (kids s (Operation t)) has
     where
       at : (rs : List IRNode) → IsSome (option_and_then (λ r. only (kids s r)) (only rs)) → length rs ≡ 1
       at [] some = absurd (true≢false (sym some))
       at (r ∷ []) some = refl
       at (r ∷ q ∷ rs) some = absurd (true≢false (sym some))
+
+  pub single_blocks : HasSingleBlocks s t
   single_blocks = at (kids s (Operation t)) has
     where
       at : (rs : List IRNode) → IsSome (option_and_then (λ r. only (kids s r)) (only rs)) → All (HasOneBlock s) rs
       at [] some = absurd (true≢false (sym some))
-      at (r ∷ []) some zero d lt = one_only (kids s r) some
-      at (r ∷ []) some (suc k) d lt = absurd (omega (arith, lt))
+      at (r ∷ []) some = alone r (one_only (kids s r) some)
       at (r ∷ q ∷ rs) some = absurd (true≢false (sym some))
