@@ -17,9 +17,9 @@ one_only (x ∷ []) some = refl
 one_only (x ∷ y ∷ xs) some = absurd (true≢false (sym some))
 
 -- what holds of one thing holds of the list of it alone
-alone : {X : Type 0} {P : X → Type 0} (x : X) → P x → All P (x ∷ [])
-alone x p zero d lt = p
-alone x p (suc k) d lt = absurd (omega (arith, lt))
+alone : {X : Type 0} (P : X → Type 0) (x : X) → P x → All P (x ∷ [])
+alone P x p zero d lt = p
+alone P x p (suc k) d lt = absurd (omega (arith, lt))
 
 -- an operation with a body has one region, and that has one block
 module _ {K A T : Type 0} (s : Store K A T) (t : Ptr OperationKind) (has : IsSome (body s t)) where
@@ -36,5 +36,5 @@ module _ {K A T : Type 0} (s : Store K A T) (t : Ptr OperationKind) (has : IsSom
     where
       at : (rs : List IRNode) → IsSome (option_and_then (λ r. only (kids s r)) (only rs)) → All (HasOneBlock s) rs
       at [] some = absurd (true≢false (sym some))
-      at (r ∷ []) some = alone r (one_only (kids s r) some)
+      at (r ∷ []) some = alone (HasOneBlock s) r (one_only (kids s r) some)
       at (r ∷ q ∷ rs) some = absurd (true≢false (sym some))

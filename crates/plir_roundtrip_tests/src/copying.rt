@@ -27,9 +27,10 @@ pub fn copy_by_text<D: OpSet>(
     requires types { Grows from.now.types into.old.types }
     ensures same { IfOk result (λ q. IsSameTree from.now into.new (AnyNode.Operation op) (AnyNode.Operation q)) }
 {
-    let text = print_op(alloc, from, op)?;
-    let read = read_op(alloc, into, text.as_str());
-    op_is_read_back::<D>(text.as_str(), &read);
+    let printed = print_op(alloc, from, op)?;
+    let text = printed.as_str();
+    let read = read_op(alloc, into, text);
+    op_is_read_back::<D>(text, &read);
     let _types = into.types();
     match read {
         Ok(copy) => Ok(copy),
