@@ -95,6 +95,7 @@ impl Script {
         requires agree { AreRight ⟦<BuiltinSet as OpSet>⟧ self.old.ctx self.old.tables }
         ensures agree { AreRight ⟦<BuiltinSet as OpSet>⟧ self.new.ctx self.new.tables }
     {
+        let _before = self.ctx.num_live();
         let made = ModuleOp::new(self.alloc, &mut self.ctx, name);
         new_nodes_keep_agreement(&self.ctx);
         let op = Op::<BuiltinSet>::get_operation(&made?);
@@ -108,6 +109,7 @@ impl Script {
         ensures agree { AreRight ⟦<BuiltinSet as OpSet>⟧ self.new.ctx self.new.tables }
     {
         let target = self.innermost()?;
+        let _before = self.ctx.num_live();
         let made = ModuleOp::new(self.alloc, &mut self.ctx, name);
         new_nodes_keep_agreement(&self.ctx);
         let op = Op::<BuiltinSet>::get_operation(&made?);
@@ -127,7 +129,9 @@ impl Script {
         let target = self.innermost()?;
         let arguments = Vec::new(self.alloc);
         let results = Vec::new(self.alloc);
+        let _before = self.ctx.num_live();
         let ty = FunctionType::get(&mut self.ctx, arguments, results);
+        let _typed = self.ctx.num_live();
         new_nodes_keep_agreement(&self.ctx);
         let ty = ty?;
         let made = FuncOp::new(self.alloc, &mut self.ctx, name, ty);
