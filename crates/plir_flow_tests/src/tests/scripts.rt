@@ -127,7 +127,7 @@ fn values_are_taken_from_segments_while_all_memory_is_refused(
         refuse
         verify o1 - => ok
         segments o1 => 3
-        segment o1 0 => 0 to 2: o0.0 o0.1
+        size o1 0 => 2
         size o1 9 => 0
         pop o1 2 => o0.3
         from o1 0 0 => o0.0
