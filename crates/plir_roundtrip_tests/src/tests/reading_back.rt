@@ -19,7 +19,7 @@ fn text_of<D: OpSet>(alloc: Global, ctx: &Context<D>, op: Ptr<Operation>) -> Res
     Ok(print_op(alloc, ctx, op)?)
 }
 
-// Reads the text of an operation back, under the law.
+// Reads the text of an operation, and takes the law of what was read.
 fn read_back<D: OpSet>(
     alloc: Global,
     ctx: &mut Context<D>,
@@ -34,7 +34,7 @@ fn read_back<D: OpSet>(
 // others, and in an empty one, where they are the same.
 fn texts<D: OpSet>(alloc: Global) -> Result<(String, String, String), Stop> {
     let mut ctx: Context<D> = Context::new(alloc);
-    let module = read_op(alloc, &mut ctx, MODULE)?;
+    let module = read_back(alloc, &mut ctx, MODULE)?;
     let printed = text_of(alloc, &ctx, module)?;
     let again = read_back(alloc, &mut ctx, printed.as_str())?;
     let again = text_of(alloc, &ctx, again)?;
