@@ -19,7 +19,7 @@ fn text_of<D: OpSet>(alloc: Global, ctx: &Context<D>, op: Ptr<Operation>) -> Res
     Ok(print_op(alloc, ctx, op)?)
 }
 
-// Reads the text of an operation back, under the law.
+// Reads the text of an operation, and takes the law of what was read.
 fn read_back<D: OpSet>(
     alloc: Global,
     ctx: &mut Context<D>,
@@ -30,25 +30,24 @@ fn read_back<D: OpSet>(
     Ok(read?)
 }
 
-// The text of a module that is read, and those of what it is read back as: in the same context, where the numbers of nodes are
-// others, and in an empty one, where they are the same.
-fn texts<D: OpSet>(alloc: Global) -> Result<(String, String, String), Stop> {
-    let mut ctx: Context<D> = Context::new(alloc);
-    let module = read_op(alloc, &mut ctx, MODULE)?;
-    let printed = text_of(alloc, &ctx, module)?;
-    let again = read_back(alloc, &mut ctx, printed.as_str())?;
-    let again = text_of(alloc, &ctx, again)?;
-    let mut empty: Context<D> = Context::new(alloc);
-    let alone = read_back(alloc, &mut empty, printed.as_str())?;
-    let alone = text_of(alloc, &empty, alone)?;
-    Ok((printed, again, alone))
+// The text that an operation is printed as when its text was read.
+fn printed<D: OpSet>(alloc: Global, ctx: &mut Context<D>, text: &str) -> Result<String, Stop> {
+    let op = read_back(alloc, ctx, text)?;
+    text_of(alloc, ctx, op)
 }
 
 #[test]
 fn a_module_is_read_back(rt: HostRuntime) -> Result<(), Stop> {
-    let (printed, again, alone) = texts::<SampleSet>(rt.alloc())?;
-    assert!(rt; again.as_str() != printed.as_str());
-    assert_eq!(rt; again.as_str().len(), printed.as_str().len());
-    assert_eq!(rt; alone.as_str(), printed.as_str());
+    let alloc = rt.alloc();
+    let mut ctx: Context<SampleSet> = Context::new(alloc);
+    let first = printed(alloc, &mut ctx, MODULE)?;
+    // In the same context its nodes have other numbers.
+    let again = printed(alloc, &mut ctx, first.as_str())?;
+    assert!(rt; again.as_str() != first.as_str());
+    assert_eq!(rt; again.as_str().len(), first.as_str().len());
+    // In an empty context they have the same.
+    let mut empty: Context<SampleSet> = Context::new(alloc);
+    let alone = printed(alloc, &mut empty, first.as_str())?;
+    assert_eq!(rt; alone.as_str(), first.as_str());
     Ok(())
 }
