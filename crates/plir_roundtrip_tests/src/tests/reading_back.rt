@@ -36,18 +36,29 @@ fn printed<D: OpSet>(alloc: Global, ctx: &mut Context<D>, text: &str) -> Result<
     text_of(alloc, ctx, op)
 }
 
+// Whether the text of a module is read back: printed once more, with other numbers in the context that it was read into, and
+// with the same in an empty one.
+fn is_read_back<D: OpSet>(
+    alloc: Global,
+    ctx: &mut Context<D>,
+    empty: &mut Context<D>,
+) -> Result<bool, Stop> {
+    let first = printed(alloc, ctx, MODULE)?;
+    let again = printed(alloc, ctx, first.as_str())?;
+    let alone = printed(alloc, empty, first.as_str())?;
+    let has_other_numbers = again.as_str() != first.as_str();
+    Ok(
+        has_other_numbers
+            && again.as_str().len() == first.as_str().len()
+            && alone.as_str() == first.as_str(),
+    )
+}
+
 #[test]
 fn a_module_is_read_back(rt: HostRuntime) -> Result<(), Stop> {
     let alloc = rt.alloc();
     let mut ctx: Context<SampleSet> = Context::new(alloc);
-    let first = printed(alloc, &mut ctx, MODULE)?;
-    // In the same context its nodes have other numbers.
-    let again = printed(alloc, &mut ctx, first.as_str())?;
-    assert!(rt; again.as_str() != first.as_str());
-    assert_eq!(rt; again.as_str().len(), first.as_str().len());
-    // In an empty context they have the same.
     let mut empty: Context<SampleSet> = Context::new(alloc);
-    let alone = printed(alloc, &mut empty, first.as_str())?;
-    assert_eq!(rt; alone.as_str(), first.as_str());
+    assert!(rt; is_read_back(alloc, &mut ctx, &mut empty)?);
     Ok(())
 }
