@@ -58,8 +58,8 @@ module _ {K A T : Type 0} (s : Store K A T) where
   module _ (w : IsStanding s) where
     pub body-parent : (t : Ptr OperationKind) (b : IRNode) (i : IsBody s t b) → (parent_of s b ≡ Some (Region i.region)) × (parent_of s (Region i.region) ≡ Some (Operation t))
     body-parent t b i = (
-      ap (parent_of s) i.is ∙ w.kid_parent (Region i.region) (BasicBlock i.block) (only-Has _ _ i.one_block),
-      w.kid_parent (Operation t) (Region i.region) (only-Has _ _ i.one_region),
+      ap (parent_of s) i.is ∙ w.forest.kid_parent (Region i.region) (BasicBlock i.block) (only-Has _ _ i.one_block),
+      w.forest.kid_parent (Operation t) (Region i.region) (only-Has _ _ i.one_region),
     )
 
     -- a block is the body of one operation at most

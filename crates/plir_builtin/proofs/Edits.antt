@@ -8,7 +8,7 @@ use Rattle.plir_core.specs.declared.ptr.Ptr.{Ptr}
 use Rattle.plir_core.specs.declared.ptr.Operation.{Operation as OperationKind}
 use Rattle.plir_core.specs.declared.ptr.IRNode.{IRNode}
 use Rattle.plir_core.specs.declared.ptr.IRNode.TheVariants.{Operation, Region, BasicBlock}
-use Rattle.plir_core.specs.NodeLists.{Has}
+use Rattle.plir_store.specs.Members.{Has}
 use Rattle.plir_core.specs.Above.{Reaches}
 use Rattle.plir_core.specs.Store.{Store, is_live, kids, parent_of, op_at}
 use Rattle.plir_core.specs.Placed.{IsPlaced, IsUnlinked}
@@ -39,17 +39,17 @@ module _ {K A T : Type 0} (s t : Store K A T) (ws : IsStanding s) (wt : IsStandi
   keeps_with p c ls live at_c kids_c =
       let i = body-is s p c at_c in
       let regions = e.kids (Operation p) live (not_op p) in
-      let region_live = wt.kid_live (Operation p) (Region i.region) (only-Has _ _ (ap only regions ∙ i.one_region)) in
+      let region_live = wt.forest.kid_live (Operation p) (Region i.region) (only-Has _ _ (ap only regions ∙ i.one_region)) in
       let not_b : Region i.region ≡ b → ⊥ = λ h. let j = body-is s o b at_body in not_region_block j.block i.region (sym (h ∙ j.is)) in
       let blocks = e.kids (Region i.region) region_live not_b in
-      let block_live = wt.kid_live (Region i.region) (BasicBlock i.block) (only-Has _ _ (ap only blocks ∙ i.one_block)) in
+      let block_live = wt.forest.kid_live (Region i.region) (BasicBlock i.block) (only-Has _ _ (ap only blocks ∙ i.one_block)) in
       let now = kids_c (subst (λ n. is_live t n ≡ true) (sym i.is) block_live) in
       record {
         holds = e.holds p live;
         regions = regions;
         blocks = λ r h. let same = same_Some (Region i.region) r (sym i.one_region ∙ h) in subst (λ n. kids t n ≡ kids s n) same blocks;
         kids = λ d h. ap (kids t) (same_Some d c (sym h ∙ at_c)) ∙ now;
-        contents = λ d q h has. e.holds q (wt.kid_live c (Operation q) (subst (λ l. Has l (Operation q)) (sym now) has));
+        contents = λ d q h has. e.holds q (wt.forest.kid_live c (Operation q) (subst (λ l. Has l (Operation q)) (sym now) has));
       }
 
   -- the body of the operation itself has become ks

@@ -8,7 +8,7 @@ use Rattle.plir_core.specs.declared.ptr.Operation.{Operation as OperationKind}
 use Rattle.plir_core.specs.declared.ptr.BasicBlock.{BasicBlock as BlockKind}
 use Rattle.plir_core.specs.declared.ptr.IRNode.{IRNode}
 use Rattle.plir_core.specs.declared.ptr.IRNode.TheVariants.{Operation, BasicBlock}
-use Rattle.plir_core.specs.NodeLists.{head}
+use Rattle.plir_store.specs.Members.{head}
 use Rattle.plir_core.specs.Standing.{IsStanding}
 use Rattle.plir_core.specs.Store.{Store, kids, is_live, op_at, kind_in, first_kid, next_sibling}
 use Rattle.plir_builtin.specs.Symbols.{Symbols, symbols_among, symbols_of, is_symbol_kind, name_held, is_named, find_named, symbols_in}

@@ -7,11 +7,12 @@ use Rattle.plir_core.specs.declared.ptr.Ptr.{Ptr}
 use Rattle.plir_core.specs.declared.ptr.Operation.{Operation as OperationKind}
 use Rattle.plir_core.specs.declared.ptr.IRNode.{IRNode}
 use Rattle.plir_core.specs.declared.ptr.IRNode.TheVariants.{Operation, Region, BasicBlock}
-use Rattle.plir_core.specs.NodeLists.{Has}
+use Rattle.plir_core.specs.Forest.{Shape, IsForest}
+use Rattle.plir_walk.specs.Lawful.{StandsUnder}
+use Rattle.plir_store.specs.Members.{Has}
 use Rattle.plir_walk.specs.declared.interruptible.WalkContinue.{WalkContinue}
 use Rattle.plir_walk.specs.declared.interruptible.WalkContinue.TheVariants.{Advance, Skip}
 use Rattle.plir_walk.specs.Lists.{Pairs}
-use Rattle.plir_walk.specs.Forest.{Shape, IsForest, StandsUnder}
 use Rattle.plir_walk.specs.Calls.{Call, Relation, Chain, nodes_of, NoBreak}
 use Rattle.plir_walk.specs.ShutOut.{IsSkipped}
 use Rattle.plir_walk.specs.Walked.{IsCallUnder}

@@ -7,11 +7,12 @@ use Rattle.plir_core.specs.declared.ptr.Operation.{Operation as OperationKind}
 use Rattle.plir_core.specs.declared.ptr.Region.{Region as RegionKind}
 use Rattle.plir_core.specs.declared.ptr.IRNode.{IRNode}
 use Rattle.plir_core.specs.declared.ptr.IRNode.TheVariants.{Operation, Region}
-use Rattle.plir_core.specs.NodeLists.{Has}
+use Rattle.plir_core.specs.Forest.{Shape}
+use Rattle.plir_walk.specs.Lawful.{StandsUnder}
+use Rattle.plir_store.specs.Members.{Has}
 use Rattle.plir_walk.specs.declared.config.TheConstants.{WALKCONFIG_PREORDER_FORWARD as pre_forward}
 use Rattle.plir_walk.specs.declared.interruptible.WalkContinue.{WalkContinue}
 use Rattle.plir_walk.specs.Tree.{Tree, IsUnder, IsProperlyUnder, NodeBefore}
-use Rattle.plir_walk.specs.Forest.{Shape, StandsUnder}
 use Rattle.plir_walk.specs.Calls.{Call, Relation, nodes_of, NoBreak}
 use Rattle.plir_walk.specs.ShutOut.{IsSkipped}
 use Rattle.plir_walk.specs.Walk.{InOrder, IsDue, IsDueUpTo, CallsAllDue, CallsUpToLast, Answers}

@@ -24,8 +24,8 @@ module _ {K A T : Type 0} (s t : Store K A T) (w : IsStanding s) (kids_kept : (m
   keeps-old : (p : Ptr OperationKind) (c : IRNode) → is_live s (Operation p) ≡ true → body s p ≡ Some c → KeepsBody s t p (kids s c)
   keeps-old p c live at_c =
       let i = body-is s p c at_c in
-      let region_live = w.kid_live (Operation p) (Region i.region) (only-Has _ _ i.one_region) in
-      let block_live = w.kid_live (Region i.region) (BasicBlock i.block) (only-Has _ _ i.one_block) in
+      let region_live = w.forest.kid_live (Operation p) (Region i.region) (only-Has _ _ i.one_region) in
+      let block_live = w.forest.kid_live (Region i.region) (BasicBlock i.block) (only-Has _ _ i.one_block) in
       let blocks = kids_kept (Region i.region) region_live in
       let now = kids_kept c (subst (λ z. is_live s z ≡ true) (sym i.is) block_live) in
       record {
@@ -33,7 +33,7 @@ module _ {K A T : Type 0} (s t : Store K A T) (w : IsStanding s) (kids_kept : (m
         regions = kids_kept (Operation p) live;
         blocks = λ r h. let same = same_Some (Region i.region) r (sym i.one_region ∙ h) in subst (λ m. kids t m ≡ kids s m) same blocks;
         kids = λ d h. ap (kids t) (same_Some d c (sym h ∙ at_c)) ∙ now;
-        contents = λ d q h has. held q (w.kid_live c (Operation q) has);
+        contents = λ d q h has. held q (w.forest.kid_live c (Operation q) has);
       }
 
   -- where no table is cached for what has become live since, or is its, all tables agree as before

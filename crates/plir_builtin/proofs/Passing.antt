@@ -8,14 +8,15 @@ use Rattle.plir_core.specs.declared.ptr.Operation.{Operation as OperationKind}
 use Rattle.plir_core.specs.declared.ptr.BasicBlock.{BasicBlock as BlockKind}
 use Rattle.plir_core.specs.declared.ptr.IRNode.{IRNode}
 use Rattle.plir_core.specs.declared.ptr.IRNode.TheVariants.{Operation, Region, BasicBlock}
-use Rattle.plir_core.specs.NodeLists.{Has, Distinct, head}
+use Rattle.plir_store.specs.Members.{Has, Distinct, head}
 use Rattle.plir_core.specs.Standing.{IsStanding}
 use Rattle.plir_core.specs.Store.{Store, kids, is_live, op_at, first_kid, next_sibling}
+use Rattle.plir_store.specs.MemberLaws.{Has-mid}
 use Rattle.plir_builtin.specs.Maps.{ptr_cmp}
 use Rattle.plir_builtin.specs.Symbols.{Symbols, symbols_among, symbols_of}
 use Rattle.plir_builtin.specs.Left.{left_in}
 use Rattle.plir_builtin.proofs.MapViews.{ptr_same, ptr_reflects}
-use Rattle.plir_builtin.proofs.SymbolLists.{Has-mid, symbols-append}
+use Rattle.plir_builtin.proofs.SymbolLists.{symbols-append}
 
 -- how many there are from an operation on, where it stands
 left-at : (xs : List IRNode) (p : Ptr OperationKind) (ys : List IRNode) → Distinct (xs ++ Operation p ∷ ys) → left_in (xs ++ Operation p ∷ ys) (Some p) ≡ suc (length ys)
@@ -63,7 +64,7 @@ module _ {K A T : Type 0} (own : K → Bool) (s : Store K A T) (b : Ptr BlockKin
     passing-has = subst (λ z. Has z (Operation p)) (sym whole_at) (Has-mid before zs_at.0 (Operation p))
 
     pub passing-live : is_live s (Operation p) ≡ true
-    passing-live = w.kid_live block (Operation p) passing-has
+    passing-live = w.forest.kid_live block (Operation p) passing-has
 
     pub symbols-cut : (rest : Symbols) × (symbols_among own (op_at s) (kids s block) ≡ (symbols_among own (op_at s) before ++ symbols_of own s p) ++ rest)
     symbols-cut = (
@@ -81,7 +82,7 @@ module _ {K A T : Type 0} (own : K → Bool) (s : Store K A T) (b : Ptr BlockKin
       passing-more = record { behind = zs_at.0; cut = whole_at ∙ sym (append_assoc before (Operation p ∷ []) zs_at.0); here = next_is }
 
       now_left : left_in (kids s block) at ≡ suc (length zs_at.0)
-      now_left = ap (left_in (kids s block)) is ∙ ap (λ z. left_in z (Some p)) whole_at ∙ left-at before p zs_at.0 (subst Distinct whole_at (w.once block))
+      now_left = ap (left_in (kids s block)) is ∙ ap (λ z. left_in z (Some p)) whole_at ∙ left-at before p zs_at.0 (subst Distinct whole_at (w.forest.once block))
 
       none_left : (xs : List IRNode) → left_in xs None ≡ 0
       none_left [] = refl
@@ -94,7 +95,7 @@ module _ {K A T : Type 0} (own : K → Bool) (s : Store K A T) (b : Ptr BlockKin
       next_left (z ∷ zs) (Some q) c h =
           let same : z ≡ Operation q = sym (same_Some (Operation q) z h) in
           let d : kids s block ≡ (before ++ Operation p ∷ []) ++ Operation q ∷ zs = c ∙ ap (λ y. (before ++ Operation p ∷ []) ++ y ∷ zs) same in
-          ap (λ ks. left_in ks (Some q)) d ∙ left-at (before ++ Operation p ∷ []) q zs (subst Distinct d (w.once block))
+          ap (λ ks. left_in ks (Some q)) d ∙ left-at (before ++ Operation p ∷ []) q zs (subst Distinct d (w.forest.once block))
 
       pub passing-falls : left_in (kids s block) next < left_in (kids s block) at
       passing-falls =

@@ -24,13 +24,13 @@ module _ {K A T : Type 0} (s t : Store K A T) (o : Ptr OperationKind) (block : P
   pub put-before : IsStanding s → (m : Ptr OperationKind) → point ≡ BeforeOperation m → ((n : IRNode) (xs ys : List IRNode) → kids s n ≡ xs ++ Operation m ∷ ys → IsPlaced s.nodes t.nodes (Operation o) n (xs ++ Operation o ∷ Operation m ∷ ys)) → IsPutInto s t o (BasicBlock block)
   put-before w m e p =
       let over : parent_of s (Operation m) ≡ Some (BasicBlock block) = ap (insertion_block s) (sym e) ∙ into in
-      let c = Has-cut (kids s (BasicBlock block)) (Operation m) (w.parent_kid (BasicBlock block) (Operation m) over) in
+      let c = Has-cut (kids s (BasicBlock block)) (Operation m) (w.forest.parent_kid (BasicBlock block) (Operation m) over) in
       record { before = c.0; behind = Operation m ∷ c.1; cut = c.2; placed = p (BasicBlock block) c.0 c.1 c.2 }
 
   pub put-after : IsStanding s → (m : Ptr OperationKind) → point ≡ AfterOperation m → ((n : IRNode) (xs ys : List IRNode) → kids s n ≡ xs ++ Operation m ∷ ys → IsPlaced s.nodes t.nodes (Operation o) n (xs ++ Operation m ∷ Operation o ∷ ys)) → IsPutInto s t o (BasicBlock block)
   put-after w m e p =
       let over : parent_of s (Operation m) ≡ Some (BasicBlock block) = ap (insertion_block s) (sym e) ∙ into in
-      let c = Has-cut (kids s (BasicBlock block)) (Operation m) (w.parent_kid (BasicBlock block) (Operation m) over) in
+      let c = Has-cut (kids s (BasicBlock block)) (Operation m) (w.forest.parent_kid (BasicBlock block) (Operation m) over) in
       record {
         before = c.0 ++ Operation m ∷ [];
         behind = c.1;

@@ -8,8 +8,9 @@ use Rattle.plir_core.specs.declared.ptr.Operation.{Operation as OperationKind}
 use Rattle.plir_core.specs.declared.ptr.IRNode.{IRNode}
 use Rattle.plir_core.specs.declared.ptr.IRNode.TheVariants.{Operation, Region, BasicBlock}
 use Rattle.plir_core.specs.Above.{climb}
-use Rattle.plir_core.specs.Store.{Store, parent_of, is_live, op_above, op_at, kind_in, depth}
+use Rattle.plir_core.specs.Store.{Store, parent_of, is_live, op_above, op_at, kind_in}
 use Rattle.plir_core.specs.Standing.{IsStanding}
+use Rattle.plir_core.specs.Measures.{depth}
 use Rattle.plir_builtin.specs.Symbols.{is_table_kind}
 use Rattle.plir_builtin.specs.Nearest.{as_op, op_over, IsNearest, levels_up}
 
@@ -64,7 +65,7 @@ module _ {K A T : Type 0} (own : K → Bool) (s : Store K A T) (n : Ptr Operatio
 
   module _ (w : IsStanding s) where
     climb-live : (k : ℕ) (m q : IRNode) → climb (parent_of s) (suc k) (Some m) ≡ Some q → is_live s q ≡ true
-    climb-live zero m q e = w.parent_live q m e
+    climb-live zero m q e = w.forest.parent_live q m e
     climb-live (suc k) m q e = at (λ a h. climb-live k a q h) (parent_of s m) e
       where
         at : ((a : IRNode) → climb (parent_of s) (suc k) (Some a) ≡ Some q → is_live s q ≡ true) → (o : Option IRNode) → climb (parent_of s) (suc k) o ≡ Some q → is_live s q ≡ true
@@ -77,7 +78,7 @@ module _ {K A T : Type 0} (own : K → Bool) (s : Store K A T) (n : Ptr Operatio
       where
         at : ((a : IRNode) → climb (parent_of s) k (Some a) ≡ Some q → depth s q + k ≡ depth s a) → (o : Option IRNode) → parent_of s m ≡ o → climb (parent_of s) k o ≡ Some q → depth s q + suc k ≡ depth s m
         at rest None f h = absurd (none-some q (sym (nothing (parent_of s) k) ∙ h))
-        at rest (Some a) f h = let i = rest a h in let d = w.deeper a m f in omega (arith, i, d)
+        at rest (Some a) f h = let i = rest a h in let d = w.measured.deeper a m f in omega (arith, i, d)
 
     module _ (at : Option (Ptr OperationKind)) (r : IsSeeking at) (p : Ptr OperationKind) (is : at ≡ Some p) (next : Option (Ptr OperationKind)) (e : option_map Operation next ≡ op_above s (Operation p)) where
       next_is : next ≡ op_over s p

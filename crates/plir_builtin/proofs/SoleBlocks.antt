@@ -6,7 +6,7 @@ use Rattle.plir_core.specs.declared.ptr.Ptr.{Ptr}
 use Rattle.plir_core.specs.declared.ptr.Operation.{Operation as OperationKind}
 use Rattle.plir_core.specs.declared.ptr.IRNode.{IRNode}
 use Rattle.plir_core.specs.declared.ptr.IRNode.TheVariants.{Operation}
-use Rattle.plir_core.specs.NodeLists.{head}
+use Rattle.plir_store.specs.Members.{head}
 use Rattle.plir_core.specs.Store.{Store, kids}
 use Rattle.plir_iface.specs.Counts.{HasNRegions}
 use Rattle.plir_iface.specs.Regions.{HasOneBlock, HasSingleBlocks, body_of}

@@ -12,13 +12,14 @@ use Rattle.plir_core.specs.declared.ptr.BasicBlock.{BasicBlock as BlockKind}
 use Rattle.plir_core.specs.declared.ptr.IRNode.{IRNode}
 use Rattle.plir_core.specs.declared.ptr.IRNode.TheVariants.{Operation, Region, BasicBlock}
 use Rattle.plir_core.specs.declared.insertion_point.OpInsertionPoint.{OpInsertionPoint}
-use Rattle.plir_core.specs.NodeLists.{Has}
+use Rattle.plir_store.specs.Members.{Has}
 use Rattle.plir_core.specs.Contents.{OpView}
 use Rattle.plir_core.specs.Above.{climb, Reaches}
-use Rattle.plir_core.specs.Store.{Store, is_live, kids, parent_of, op_at, kind_in, IsAncestor, depth}
+use Rattle.plir_core.specs.Store.{Store, is_live, kids, parent_of, op_at, kind_in, IsAncestor}
 use Rattle.plir_core.specs.Placed.{IsUnlinked}
 use Rattle.plir_core.specs.Erase.{IsErased}
 use Rattle.plir_core.specs.Standing.{IsStanding}
+use Rattle.plir_core.specs.Measures.{depth}
 use Rattle.plir_builtin.specs.Table.{Table, Tables}
 use Rattle.plir_builtin.specs.Symbols.{Symbols, body, kids_in, scan, symbols_among, is_symbol_kind, name_held, find_named, is_named}
 use Rattle.plir_builtin.specs.Agree.{Agrees, AllAgree}
@@ -58,7 +59,7 @@ module _ {K A T : Type 0} (own own_table : K → Bool) (s : Store K A T) (w : Is
   -- what stands in the body is found by its name
   scanned : (x : List ℕ) → IsSymbolNamed own s o x → parent_of s (Operation o) ≡ Some b → scan own s tab.op x ≡ None → ⊥
   scanned x named over none =
-      let c = Has-cut (kids s b) (Operation o) (w.parent_kid b (Operation o) over) in
+      let c = Has-cut (kids s b) (Operation o) (w.forest.parent_kid b (Operation o) over) in
       found-mid (symbols_among own (op_at s) c.0) (symbols_among own (op_at s) c.1) o x
       (sym (ap (find_named x) (ap (λ z. symbols_among own (op_at s) (kids_in s z)) at_body ∙ ap (symbols_among own (op_at s)) c.2 ∙ symbols-mid own (op_at s) c.0 c.1 o x named.symbol named.name)) ∙ none)
 
@@ -71,7 +72,7 @@ module _ {K A T : Type 0} (own own_table : K → Bool) (s : Store K A T) (w : Is
       at (Some q) e =
           let same : q ≡ o = free q (a.names x ∙ e) in
           let listed = found-Has own (op_at s) x (kids s b) q (ap (λ z. find_named x (symbols_among own (op_at s) (kids_in s z))) (sym at_body) ∙ e) in
-          absurd (none-some b (sym alone ∙ ap (λ p. parent_of s (Operation p)) (sym same) ∙ w.kid_parent b (Operation q) listed))
+          absurd (none-some b (sym alone ∙ ap (λ p. parent_of s (Operation p)) (sym same) ∙ w.forest.kid_parent b (Operation q) listed))
 
   -- to record what stands there already changes no name
   agrees-stays : (x : List ℕ) → IsSymbolNamed own s o x → IsNotOthers own s (get tab.names) o x → parent_of s (Operation o) ≡ Some b → Agrees own own_table s tab → Agrees own own_table s (with_name tab x o)
@@ -135,7 +136,7 @@ module _ {K A T : Type 0} (is_terminator own own_table : K → Bool) (s t : Stor
 -- A removal: s became t where the operation o left the body b.
 module _ {K A T : Type 0} (own own_table : K → Bool) (s t : Store K A T) (ws : IsStanding s) (wt : IsStanding t) (tab : Table) (o : Ptr OperationKind) (x : List ℕ) (b : IRNode) (at_body : body s tab.op ≡ Some b) (over : parent_of s (Operation o) ≡ Some b) (named : IsSymbolNamed own s o x) where
   abbrev cut_at : (xs : List IRNode) × (ys : List IRNode) × (kids s b ≡ xs ++ Operation o ∷ ys)
-  cut_at = Has-cut (kids s b) (Operation o) (ws.parent_kid b (Operation o) over)
+  cut_at = Has-cut (kids s b) (Operation o) (ws.forest.parent_kid b (Operation o) over)
 
   module _ (e : EditsBlock s t b (cut_at.0 ++ cut_at.1)) (u : Table) (is : u ≡ without_name tab x) where
     pub remove-agrees : is_live t (Operation tab.op) ≡ true → Agrees own own_table s tab → Agrees own own_table t u
@@ -168,16 +169,16 @@ module _ {K A T : Type 0} (own own_table : K → Bool) (s t : Store K A T) (ws :
 
       at : ((a : IRNode) → climb (parent_of s) k (Some a) ≡ Some n → depth s n ≤ depth s a) → (p : Option IRNode) → parent_of s m ≡ p → climb (parent_of s) k p ≡ Some n → depth s n ≤ depth s m
       at rest None f g = absurd (none-some n (sym (nothing k) ∙ g))
-      at rest (Some a) f g = let i = rest a g in let d = ws.deeper a m f in omega (arith, i, d)
+      at rest (Some a) f g = let i = rest a g in let d = ws.measured.deeper a m f in omega (arith, i, d)
 
   -- a table is not below what is in its body
   not_below : Reaches (parent_of s) (Operation tab.op) (Operation o) → ⊥
   not_below r =
       let i = body-is s tab.op b at_body in
       let p = body-parent s ws tab.op b i in
-      let d0 = ws.deeper b (Operation o) over in
-      let d1 = ws.deeper (Region i.region) b p.0 in
-      let d2 = ws.deeper (Operation tab.op) (Region i.region) p.1 in
+      let d0 = ws.measured.deeper b (Operation o) over in
+      let d1 = ws.measured.deeper (Region i.region) b p.0 in
+      let d2 = ws.measured.deeper (Operation tab.op) (Region i.region) p.1 in
       let d3 = shallower r.0 (Operation tab.op) (Operation o) r.1 in
       let z : ⊥ = omega (arith, d0, d1, d2, d3) in z
 

@@ -7,17 +7,17 @@ use Rattle.plir_core.specs.declared.ptr.Operation.{Operation as OperationKind}
 use Rattle.plir_core.specs.declared.ptr.Region.{Region as RegionKind}
 use Rattle.plir_core.specs.declared.ptr.IRNode.{IRNode}
 use Rattle.plir_core.specs.declared.ptr.IRNode.TheVariants.{Operation, Region, BasicBlock}
-use Rattle.plir_core.specs.NodeLists.{Has}
+use Rattle.plir_core.specs.Forest.{Shape}
+use Rattle.plir_store.specs.MemberLaws.{Has-mid}
+use Rattle.plir_store.specs.Members.{Has}
 use Rattle.plir_walk.specs.declared.interruptible.WalkContinue.{WalkContinue}
 use Rattle.plir_walk.specs.declared.interruptible.WalkContinue.TheVariants.{Advance, Skip}
-use Rattle.plir_walk.specs.Forest.{Shape}
 use Rattle.plir_walk.specs.Tree.{IsProperlyUnder}
 use Rattle.plir_walk.specs.Calls.{Call, Chain, nodes_of}
 use Rattle.plir_walk.specs.Walked.{IsCallUnder}
 use Rattle.plir_builtin.specs.Handed.{OpRelation, AtOps, IsToHand, HandedOver, HandsUpToBreak}
 use Rattle.plir_builtin.specs.SymbolUses.{IsHanded}
 use Rattle.plir_builtin.proofs.HandedCalls.{call-of, node-called, none-breaks, one_op}
-use Rattle.plir_builtin.proofs.SymbolLists.{Has-mid}
 
 same_region : (r q : Ptr RegionKind) → Region q ∷ [] ≡ Region r ∷ [] → q ≡ r
 same_region r q e = cc

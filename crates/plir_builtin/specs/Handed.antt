@@ -7,14 +7,14 @@ use Rattle.plir_core.specs.declared.ptr.Operation.{Operation as OperationKind}
 use Rattle.plir_core.specs.declared.ptr.Region.{Region as RegionKind}
 use Rattle.plir_core.specs.declared.ptr.IRNode.{IRNode}
 use Rattle.plir_core.specs.declared.ptr.IRNode.TheVariants.{Operation, Region, BasicBlock}
-use Rattle.plir_core.specs.NodeLists.{Has}
+use Rattle.plir_store.specs.Members.{Has}
 use Rattle.plir_core.specs.Store.{Store, kind_of}
+use Rattle.plir_core.specs.Forest.{Shape}
 use Rattle.plir_walk.specs.declared.config.TheConstants.{WALKCONFIG_PREORDER_FORWARD as pre_forward}
 use Rattle.plir_walk.specs.declared.interruptible.WalkContinue.{WalkContinue}
 use Rattle.plir_walk.specs.declared.interruptible.WalkContinue.TheVariants.{Advance, Skip}
 use Rattle.plir_walk.specs.Lists.{Pairs}
 use Rattle.plir_walk.specs.Tree.{Tree, IsProperlyUnder, HasOnePlaceEach, NodeBefore}
-use Rattle.plir_walk.specs.Forest.{Shape}
 use Rattle.plir_walk.specs.Calls.{Call, Relation, Chain, nodes_of, NoBreak}
 use Rattle.plir_walk.specs.ShutOut.{IsSkipped}
 use Rattle.plir_walk.specs.Walked.{IsCallUnder}

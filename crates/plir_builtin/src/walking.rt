@@ -3,8 +3,8 @@ ghost use Rattle.std.specs.Prelude.{◌≡◌, true, length};
 ghost use Rattle.plir_core.specs.declared.ptr.Operation.{Operation as OperationKind};
 ghost use Rattle.plir_core.specs.declared.ptr.Ptr.{Ptr as AnyPtr};
 ghost use Rattle.plir_core.specs.declared.ptr.IRNode.{IRNode as AnyNode};
+ghost use Rattle.plir_walk.specs.Lawful.{StandsUnder};
 ghost use Rattle.plir_walk.specs.Calls.{ReadsBack};
-ghost use Rattle.plir_walk.specs.Forest.{StandsUnder};
 ghost use Rattle.plir_builtin.specs.Handed.{HandedOver, PassesOn};
 
 use crate::table_links::TableLinks;

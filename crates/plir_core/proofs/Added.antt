@@ -3,7 +3,7 @@ use Rattle.std.proofs.Common.{◌≡◌, ℕ, zero, suc, ◌+◌, ◌<◌, ◌�
 use Rattle.std.specs.Prelude.{option_map}
 use Rattle.std.proofs.lemmas.Bool.{cases_eq}
 use Rattle.std.proofs.lemmas.Option.{same_Some, none-some}
-use Rattle.plir_store.specs.Lists.{Lists, In, IsAgreed, kids_at, parent_at, with_last}
+use Rattle.plir_store.specs.Lists.{Lists, IsAgreed, kids_at, parent_at, with_last}
 use Rattle.plir_store.specs.Table.{Table, Cell, IsTable, cell_at, content_at, version_at, is_live_at, next_slot, with_new}
 use Rattle.plir_store.specs.TableLaws.{cell_at-with_new, cell_at-with_new_other, content_at-next_slot}
 use Rattle.plir_core.specs.declared.ptr.Ptr.{Ptr}
@@ -14,9 +14,10 @@ use Rattle.plir_core.specs.declared.ptr.IRNode.{IRNode}
 use Rattle.plir_core.specs.declared.ptr.IRNode.TheVariants.{Operation, Region, BasicBlock}
 use Rattle.plir_core.specs.Above.{climb, Reaches}
 use Rattle.plir_core.specs.Nodes.{Nodes, ptr_at, is_given_out, op_node, region_node, block_node, is_node_live, was_given_out, node_kids, node_parent}
-use Rattle.plir_core.specs.Forest.{IsListing, IsForest}
+use Rattle.plir_core.specs.Stored.{IsListing, IsStored}
 use Rattle.std.proofs.Common.{set, length-set}
 use Rattle.std.proofs.lemmas.List.{get_or-set_same, get_or-set_other, map-append}
+use Rattle.plir_store.specs.Members.{Has}
 use Rattle.plir_core.specs.Erase.{IsErased}
 use Rattle.plir_core.proofs.Facts.{parent-live}
 use Rattle.plir_core.specs.Edits.{SameNodes, room_child, room_list, with_new_op, with_new_block, with_new_region}
@@ -26,7 +27,7 @@ use Rattle.plir_core.proofs.Listing.{within_content, parent_at-room_child, paren
 use Rattle.plir_core.proofs.Seats.{live_some, live_version, some_live, same_ptr}
 
 -- a map whose function changes at no element
-map_on : {A : Type 0} (f g : ℕ → A) (xs : List ℕ) → ((i : ℕ) → In i xs → f i ≡ g i) → map f xs ≡ map g xs
+map_on : {A : Type 0} (f g : ℕ → A) (xs : List ℕ) → ((i : ℕ) → Has xs i → f i ≡ g i) → map f xs ≡ map g xs
 map_on f g [] e = refl
 map_on f g (x ∷ xs) e = rw (e x (inl refl), map_on f g xs (λ i j. e i (inr j))) refl
 
@@ -110,7 +111,7 @@ module _ {C P : Type 0} (l : Lists) (t : Table C) (u : Table P) (w : IsListing l
   over_grown : {A X : Type 0} (f : Ptr X → A) (v : P) → IsTable u → (c : ℕ) → option_map (λ i. f (ptr_at (with_new u v) i)) (parent_at l c) ≡ option_map (λ i. f (ptr_at u i)) (parent_at l c)
   over_grown f v s c = over_in f v s c (parent_at l c) refl
 
-module _ {O B : Type 0} (s : Nodes O B) (w : IsForest s) where
+module _ {O B : Type 0} (s : Nodes O B) (w : IsStored s) where
   pub IsAdded-op : (v : O) (p : Ptr OperationKind) → p ≡ ptr_at (with_new s.ops v) (next_slot s.ops) → IsAdded s (with_new_op s v) (Operation p) None
   IsAdded-op v p is =
       let t = with_new_op s v in
@@ -205,7 +206,7 @@ module _ {O B : Type 0} (s : Nodes O B) (w : IsForest s) where
   unfolding region_lists
   region_kids_other o p n = get_or-set_other (room_child s.regions_in_op s.regions.free).kids o p _ [] n ∙ kids_at-room_child s.regions_in_op s.regions.free p
 
-  pub IsAdded-region : (o : Ptr OperationKind) (p : Ptr RegionKind) → is_node_live s (Operation o) ≡ true → IsForest (with_new_region s o.slot) → p ≡ ptr_at (with_new s.regions (record {})) (next_slot s.regions) → IsAdded s (with_new_region s o.slot) (Region p) (Some (Operation o))
+  pub IsAdded-region : (o : Ptr OperationKind) (p : Ptr RegionKind) → is_node_live s (Operation o) ≡ true → IsStored (with_new_region s o.slot) → p ≡ ptr_at (with_new s.regions (record {})) (next_slot s.regions) → IsAdded s (with_new_region s o.slot) (Region p) (Some (Operation o))
   unfolding region_lists
   IsAdded-region o p live f is =
       let t = with_new_region s o.slot in
@@ -269,11 +270,11 @@ module _ {O B : Type 0} (s : Nodes O B) (w : IsForest s) where
       ∙ ap (λ z. map (region_node s) (kids_at s.regions_in_op o.slot) ++ Region z ∷ []) (sym is))
 
 -- a region is made: t is what the nodes are then
-pub IsRegionAdded-made : {O B : Type 0} (s t : Nodes O B) → IsForest s → (o : Ptr OperationKind) (p : Ptr RegionKind) → is_node_live s (Operation o) ≡ true → t ≡ with_new_region s o.slot → IsForest t → p ≡ ptr_at t.regions (next_slot s.regions) → IsRegionAdded s t (Operation o) (Region p)
+pub IsRegionAdded-made : {O B : Type 0} (s t : Nodes O B) → IsStored s → (o : Ptr OperationKind) (p : Ptr RegionKind) → is_node_live s (Operation o) ≡ true → t ≡ with_new_region s o.slot → IsStored t → p ≡ ptr_at t.regions (next_slot s.regions) → IsRegionAdded s t (Operation o) (Region p)
 IsRegionAdded-made {O} {B} s t w o p live e f is =
     let here : p ≡ ptr_at (with_new s.regions (record {})) (next_slot s.regions) = is ∙ ap (λ (z : Nodes O B). ptr_at z.regions (next_slot s.regions)) e in
     subst (λ z. IsRegionAdded s z (Operation o) (Region p)) (sym e) (record {
-      added = IsAdded-region s w o p live (subst IsForest e f) here;
+      added = IsAdded-region s w o p live (subst IsStored e f) here;
       last = region_last s w o p live here;
     })
 
@@ -301,7 +302,7 @@ module _ {O B : Type 0} where
   dead_over : (s : Nodes O B) (n : IRNode) → is_node_live s n ≡ false → node_parent s n ≡ None
   dead_over s n e = rw e refl
 
-  pub IsMade-first : (s t : Nodes O B) → IsForest s → (n : IRNode) → IsAdded s t n None → IsMade s t n
+  pub IsMade-first : (s t : Nodes O B) → IsStored s → (n : IRNode) → IsAdded s t n None → IsMade s t n
   IsMade-first s t w n a = record {
     keeps = a.keeps;
     kids = λ m e. a.kids m e (λ q. none-some m q);
@@ -314,12 +315,12 @@ module _ {O B : Type 0} where
   }
 
   -- a block is made: t is what the nodes are then
-  pub IsAdded-made_block : (s t : Nodes O B) → IsForest s → (v : B) (p : Ptr BasicBlockKind) → t ≡ with_new_block s v → p ≡ ptr_at t.blocks (next_slot s.blocks) → IsAdded s t (BasicBlock p) None
+  pub IsAdded-made_block : (s t : Nodes O B) → IsStored s → (v : B) (p : Ptr BasicBlockKind) → t ≡ with_new_block s v → p ≡ ptr_at t.blocks (next_slot s.blocks) → IsAdded s t (BasicBlock p) None
   IsAdded-made_block s t w v p e is =
       subst (λ z. IsAdded s z (BasicBlock p) None) (sym e) (IsAdded-block s w v p (is ∙ ap (λ (z : Nodes O B). ptr_at z.blocks (next_slot s.blocks)) e))
 
   -- what is reached stays reached
-  pub climb_kept : (t u : Nodes O B) → IsForest t → KeepsLive t u → (k : ℕ) (m n : IRNode) → is_node_live t m ≡ true → climb (node_parent t) k (Some m) ≡ Some n → climb (node_parent u) k (Some m) ≡ Some n
+  pub climb_kept : (t u : Nodes O B) → IsStored t → KeepsLive t u → (k : ℕ) (m n : IRNode) → is_node_live t m ≡ true → climb (node_parent t) k (Some m) ≡ Some n → climb (node_parent u) k (Some m) ≡ Some n
   climb_kept t u w x zero m n e c = c
   climb_kept t u w x (suc k) m n e c = rw (x.parents m e) (climb_from (node_parent t) (node_parent u) k (node_parent t m) n (λ b q d. climb_kept t u w x k b n (parent-live t w b m q) d) c)
 
@@ -335,7 +336,7 @@ module _ {O B : Type 0} where
   }
 
   -- one more node under the root
-  pub IsMade-more : (s t u : Nodes O B) → IsForest s → IsForest t → (n r : IRNode) → IsMade s t n → IsAdded t u r (Some n) → IsMade s u n
+  pub IsMade-more : (s t u : Nodes O B) → IsStored s → IsStored t → (n r : IRNode) → IsMade s t n → IsAdded t u r (Some n) → IsMade s u n
   IsMade-more s t u v w n r m a = record {
     keeps = KeepsLive-on s t u m.keeps a.keeps;
     kids = λ x e. a.kids x (m.keeps.live x e) (λ q. true_false e (subst (λ z. is_node_live s z ≡ false) (same_Some n x q) m.new)) ∙ m.kids x e;
@@ -354,7 +355,7 @@ module _ {O B : Type 0} where
   }
 
   -- A tree that was made and is erased again: no live node has changed.
-  module _ (s t u : Nodes O B) (v : IsForest s) (n : IRNode) (m : IsMade s t n) (x : IsErased t u n) where
+  module _ (s t u : Nodes O B) (v : IsStored s) (n : IRNode) (m : IsMade s t n) (x : IsErased t u n) where
     dead_apart : (y : IRNode) → is_node_live t y ≡ false → Reaches (node_parent t) y n → ⊥
     dead_apart y e r = dead_climb r.0 r.1
       where

@@ -5,12 +5,13 @@ use Rattle.std.proofs.lemmas.Bool.{cases_lt}
 use Rattle.std.proofs.lemmas.List.{get_or_default}
 use Rattle.std.proofs.lemmas.Option.{same_Some, none-some}
 use Rattle.plir_core.specs.declared.ptr.IRNode.{IRNode}
-use Rattle.plir_core.specs.Above.{climb, depth, Reaches}
+use Rattle.plir_core.specs.Above.{climb, Reaches}
 use Rattle.plir_core.specs.Nodes.{Nodes, is_node_live, node_parent}
-use Rattle.plir_core.specs.Forest.{seat_of, up, most_steps, depth_of, IsForest}
+use Rattle.plir_core.specs.Stored.{seat_of, up, IsStored}
 use Rattle.plir_core.proofs.Facts.{parent-live}
 use Rattle.plir_core.proofs.Depths.{depth-kid, depth_falls}
 use Rattle.plir_core.proofs.Trees.{climb_nothing, climb_step}
+use Rattle.plir_core.specs.Measures.{depth_from, most_steps, depth_of}
 
 -- the node `at` is come by from `node`, and the ancestor, if it is one, is at `at` or above it
 pub record IsClimbing {O B : Type 0} (s : Nodes O B) (node ancestor : IRNode) (at : Option IRNode) : Type 0 where
@@ -21,7 +22,7 @@ pub record IsClimbing {O B : Type 0} (s : Nodes O B) (node ancestor : IRNode) (a
 
 -- how many nodes are left to look at
 abbrev pub levels_left : {O B : Type 0} → Nodes O B → Option IRNode → ℕ
-levels_left s at = depth (up s) (most_steps s) (option_map seat_of at)
+levels_left s at = depth_from (up s) (most_steps s) (option_map seat_of at)
 
 module _ {O B : Type 0} (s : Nodes O B) (node ancestor : IRNode) where
   pub IsClimbing-start : is_node_live s node ≡ true → IsClimbing s node ancestor (Some node)
@@ -36,7 +37,7 @@ module _ {O B : Type 0} (s : Nodes O B) (node ancestor : IRNode) where
   beyond current zero ne e = absurd (ne (same_Some current ancestor e))
   beyond current (suc k) ne e = (k, e)
 
-  pub IsClimbing-more : IsForest s → (current : IRNode) (at next : Option IRNode) → at ≡ Some current → IsClimbing s node ancestor at → (current ≡ ancestor → ⊥) → next ≡ node_parent s current → IsClimbing s node ancestor next
+  pub IsClimbing-more : IsStored s → (current : IRNode) (at next : Option IRNode) → at ≡ Some current → IsClimbing s node ancestor at → (current ≡ ancestor → ⊥) → next ≡ node_parent s current → IsClimbing s node ancestor next
   IsClimbing-more w current at next is c ne e = record {
     steps = suc c.steps;
     come = climb_step (node_parent s) c.steps (Some node) current (c.come ∙ is) ∙ sym e;
@@ -55,18 +56,18 @@ module _ {O B : Type 0} (s : Nodes O B) (node ancestor : IRNode) where
       let x = c.ahead r.0 r.1 in
       none-some ancestor (sym (climb_nothing (node_parent s) x.0) ∙ ap (climb (node_parent s) x.0) (sym none) ∙ x.1)
 
-  falls_in : IsForest s → (current : IRNode) (o : Option IRNode) → node_parent s current ≡ o → levels_left s o < levels_left s (Some current)
+  falls_in : IsStored s → (current : IRNode) (o : Option IRNode) → node_parent s current ≡ o → levels_left s o < levels_left s (Some current)
   falls_in w current None e =
       let d = depth_falls s w (seat_of current) in
       let none : levels_left s None ≡ 0 = nothing (most_steps s) in
       omega arith
     where
-      nothing : (k : ℕ) → depth (up s) k None ≡ 0
+      nothing : (k : ℕ) → depth_from (up s) k None ≡ 0
       nothing zero = refl
       nothing (suc k) = refl
   falls_in w current (Some p) e = let d = depth-kid s w p current e in omega arith
 
-  pub levels-fall : IsForest s → (current : IRNode) (at next : Option IRNode) → at ≡ Some current → next ≡ node_parent s current → levels_left s next < levels_left s at
+  pub levels-fall : IsStored s → (current : IRNode) (at next : Option IRNode) → at ≡ Some current → next ≡ node_parent s current → levels_left s next < levels_left s at
   levels-fall w current at next is e = rw (is, e) (falls_in w current (node_parent s current) refl)
 
 -- P holds of the first n elements

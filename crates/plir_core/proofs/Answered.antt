@@ -2,19 +2,20 @@
 use Rattle.std.proofs.Common.{◌≡◌, ℕ, Bool, true, false, cond, eqb, List, [], ◌∷◌, map, Option, Some, None, ◌⊎◌, inl, inr, refl, sym, ◌∙◌, ap, subst}
 use Rattle.std.specs.Prelude.{option_map, slice_get, IfSome}
 use Rattle.std.proofs.lemmas.Option.{same_Some, none-some}
-use Rattle.plir_store.specs.Lists.{Lists, In, kids_at, parent_at, first_of, last_from, last_of, next_in, next_under, prev_in, prev_under}
+use Rattle.plir_store.specs.Lists.{Lists, kids_at, parent_at, last_from, last_of, next_in, next_under, prev_in, prev_under}
 use Rattle.plir_store.specs.Table.{Table, version_at, is_live_at}
 use Rattle.plir_core.specs.declared.ptr.Ptr.{Ptr}
 use Rattle.plir_core.specs.declared.ptr.IRNode.{IRNode}
 use Rattle.plir_core.specs.declared.ptr.IRNode.TheVariants.{Operation, Region, BasicBlock}
-use Rattle.plir_core.specs.NodeLists.{Has}
+use Rattle.plir_store.specs.Members.{Has, head}
 use Rattle.plir_core.specs.Nodes.{Nodes, ptr_at, op_node, region_node, block_node, is_node_live, node_kids, node_parent, node_first, node_last, node_next, node_prev}
-use Rattle.plir_core.specs.Forest.{IsListing, IsForest}
+use Rattle.plir_core.specs.Stored.{IsListing, IsStored}
 use Rattle.plir_core.specs.Store.{Store, IsLive, kids, parent_of, first_kid, last_kid, next_sibling, prev_sibling}
 use Rattle.plir_core.specs.Whole.{IsWhole}
-use Rattle.plir_core.proofs.Facts.{map-Has, kid-live, kid-parent, parent-live, live_at}
+use Rattle.plir_core.proofs.Facts.{kid-live, kid-parent, parent-live, live_at}
 use Rattle.plir_core.specs.Unused.{kid_at}
-use Rattle.plir_core.proofs.KidAt.{Has_get, kid_at-is}
+use Rattle.plir_core.proofs.KidAt.{kid_at-is}
+use Rattle.plir_store.specs.MemberLaws.{map-Has, Has-at}
 
 -- what is said of each answer that there may be
 pub answered : {X : Type 0} (f : X → IRNode) (P : IRNode → Type 0) (r : Option X) (o : Option IRNode) → option_map f r ≡ o → ((x : IRNode) → o ≡ Some x → P x) → IfSome r (λ x. P (f x))
@@ -22,42 +23,42 @@ answered f P None o e h = tt
 answered f P (Some x) o e h = h (f x) (sym e)
 
 -- the first of a list, and what follows or stands before a child in it, are in it
-first_In : (xs : List ℕ) (i : ℕ) → first_of xs ≡ Some i → In i xs
-first_In [] i e = absurd (none-some i e)
-first_In (x ∷ xs) i e = inl (sym (same_Some x i e))
+first_Has : (xs : List ℕ) (i : ℕ) → head xs ≡ Some i → Has xs i
+first_Has [] i e = absurd (none-some i e)
+first_Has (x ∷ xs) i e = inl (same_Some x i e)
 
-last_In : (a : Option ℕ) (xs : List ℕ) (i : ℕ) → last_from a xs ≡ Some i → (a ≡ Some i) ⊎ In i xs
-last_In a [] i e = inl e
-last_In a (x ∷ xs) i e = elim (last_In (Some x) xs i e) [
-  | inl f ↦ inr (inl (sym (same_Some x i f)))
+last_Has : (a : Option ℕ) (xs : List ℕ) (i : ℕ) → last_from a xs ≡ Some i → (a ≡ Some i) ⊎ Has xs i
+last_Has a [] i e = inl e
+last_Has a (x ∷ xs) i e = elim (last_Has (Some x) xs i e) [
+  | inl f ↦ inr (inl (same_Some x i f))
   | inr k ↦ inr (inr k)
 ]
 
-tail_In : (xs : List ℕ) (i : ℕ) → last_of xs ≡ Some i → In i xs
-tail_In xs i e = elim (last_In None xs i e) [ inl q ↦ absurd (none-some i q) | inr k ↦ k ]
+tail_Has : (xs : List ℕ) (i : ℕ) → last_of xs ≡ Some i → Has xs i
+tail_Has xs i e = elim (last_Has None xs i e) [ inl q ↦ absurd (none-some i q) | inr k ↦ k ]
 
-next_In : (xs : List ℕ) (c i : ℕ) → next_in xs c ≡ Some i → In i xs
-next_In [] c i e = absurd (none-some i e)
-next_In (x ∷ xs) c i e = elim (eqb x c) as (λ b. cond b (first_of xs) (next_in xs c) ≡ Some i → In i (x ∷ xs)) [
-  | true ↦ λ q. inr (first_In xs i q)
-  | false ↦ λ q. inr (next_In xs c i q)
+next_Has : (xs : List ℕ) (c i : ℕ) → next_in xs c ≡ Some i → Has xs i
+next_Has [] c i e = absurd (none-some i e)
+next_Has (x ∷ xs) c i e = elim (eqb x c) as (λ b. cond b (head xs) (next_in xs c) ≡ Some i → Has (x ∷ xs) i) [
+  | true ↦ λ q. inr (first_Has xs i q)
+  | false ↦ λ q. inr (next_Has xs c i q)
 ] e
 
-prev_In : (a : Option ℕ) (xs : List ℕ) (c i : ℕ) → prev_in a xs c ≡ Some i → (a ≡ Some i) ⊎ In i xs
-prev_In a [] c i e = absurd (none-some i e)
-prev_In a (x ∷ xs) c i e = elim (eqb x c) as (λ b. cond b a (prev_in (Some x) xs c) ≡ Some i → (a ≡ Some i) ⊎ In i (x ∷ xs)) [
+prev_Has : (a : Option ℕ) (xs : List ℕ) (c i : ℕ) → prev_in a xs c ≡ Some i → (a ≡ Some i) ⊎ Has xs i
+prev_Has a [] c i e = absurd (none-some i e)
+prev_Has a (x ∷ xs) c i e = elim (eqb x c) as (λ b. cond b a (prev_in (Some x) xs c) ≡ Some i → (a ≡ Some i) ⊎ Has (x ∷ xs) i) [
   | true ↦ λ q. inl q
-  | false ↦ λ q. elim (prev_In (Some x) xs c i q) [ inl k ↦ inr (inl (sym (same_Some x i k))) | inr k ↦ inr (inr k) ]
+  | false ↦ λ q. elim (prev_Has (Some x) xs c i q) [ inl k ↦ inr (inl (same_Some x i k)) | inr k ↦ inr (inr k) ]
 ] e
 
 -- a child that is picked of a list is a kid
-picked : (f : ℕ → IRNode) (b : Bool) (xs : List ℕ) (o : Option ℕ) (x : IRNode) → ((i : ℕ) → o ≡ Some i → In i xs) → cond b (option_map f o) None ≡ Some x → Has (cond b (map f xs) []) x
+picked : (f : ℕ → IRNode) (b : Bool) (xs : List ℕ) (o : Option ℕ) (x : IRNode) → ((i : ℕ) → o ≡ Some i → Has xs i) → cond b (option_map f o) None ≡ Some x → Has (cond b (map f xs) []) x
 picked f true xs None x h e = absurd (none-some x e)
 picked f true xs (Some i) x h e = subst (Has (map f xs)) (same_Some (f i) x e) (map-Has f xs i (h i refl))
 picked f false xs o x h e = absurd (none-some x e)
 
 -- One of the three kinds of lists: `pick` gives what stands beside a child in the list of a parent.
-module _ {C P X Y : Type 0} (l : Lists) (t : Table C) (u : Table P) (w : IsListing l t u) (child : Ptr X → IRNode) (over : Ptr Y → IRNode) (pick : Option ℕ → Option ℕ) (none : pick None ≡ None) (in_list : (p i : ℕ) → pick (Some p) ≡ Some i → In i (kids_at l p)) where
+module _ {C P X Y : Type 0} (l : Lists) (t : Table C) (u : Table P) (w : IsListing l t u) (child : Ptr X → IRNode) (over : Ptr Y → IRNode) (pick : Option ℕ → Option ℕ) (none : pick None ≡ None) (in_list : (p i : ℕ) → pick (Some p) ≡ Some i → Has (kids_at l p) i) where
   record IsBesideIn (parent : Option IRNode) (x : IRNode) : Type 0 where
     above : Ptr Y
     is : parent ≡ Some (over above)
@@ -80,16 +81,16 @@ module _ {C P X Y : Type 0} (l : Lists) (t : Table C) (u : Table P) (w : IsListi
 module _ {O B : Type 0} (s : Nodes O B) where
   -- the first and the last kid are kids
   pub first-Has : (a x : IRNode) → node_first s a ≡ Some x → Has (node_kids s a) x
-  first-Has (Operation p) x e = picked (region_node s) (is_node_live s (Operation p)) (kids_at s.regions_in_op p.slot) (first_of (kids_at s.regions_in_op p.slot)) x (first_In (kids_at s.regions_in_op p.slot)) e
-  first-Has (Region p) x e = picked (block_node s) (is_node_live s (Region p)) (kids_at s.blocks_in_region p.slot) (first_of (kids_at s.blocks_in_region p.slot)) x (first_In (kids_at s.blocks_in_region p.slot)) e
-  first-Has (BasicBlock p) x e = picked (op_node s) (is_node_live s (BasicBlock p)) (kids_at s.ops_in_block p.slot) (first_of (kids_at s.ops_in_block p.slot)) x (first_In (kids_at s.ops_in_block p.slot)) e
+  first-Has (Operation p) x e = picked (region_node s) (is_node_live s (Operation p)) (kids_at s.regions_in_op p.slot) (head (kids_at s.regions_in_op p.slot)) x (first_Has (kids_at s.regions_in_op p.slot)) e
+  first-Has (Region p) x e = picked (block_node s) (is_node_live s (Region p)) (kids_at s.blocks_in_region p.slot) (head (kids_at s.blocks_in_region p.slot)) x (first_Has (kids_at s.blocks_in_region p.slot)) e
+  first-Has (BasicBlock p) x e = picked (op_node s) (is_node_live s (BasicBlock p)) (kids_at s.ops_in_block p.slot) (head (kids_at s.ops_in_block p.slot)) x (first_Has (kids_at s.ops_in_block p.slot)) e
 
   pub last-Has : (a x : IRNode) → node_last s a ≡ Some x → Has (node_kids s a) x
-  last-Has (Operation p) x e = picked (region_node s) (is_node_live s (Operation p)) (kids_at s.regions_in_op p.slot) (last_of (kids_at s.regions_in_op p.slot)) x (tail_In (kids_at s.regions_in_op p.slot)) e
-  last-Has (Region p) x e = picked (block_node s) (is_node_live s (Region p)) (kids_at s.blocks_in_region p.slot) (last_of (kids_at s.blocks_in_region p.slot)) x (tail_In (kids_at s.blocks_in_region p.slot)) e
-  last-Has (BasicBlock p) x e = picked (op_node s) (is_node_live s (BasicBlock p)) (kids_at s.ops_in_block p.slot) (last_of (kids_at s.ops_in_block p.slot)) x (tail_In (kids_at s.ops_in_block p.slot)) e
+  last-Has (Operation p) x e = picked (region_node s) (is_node_live s (Operation p)) (kids_at s.regions_in_op p.slot) (last_of (kids_at s.regions_in_op p.slot)) x (tail_Has (kids_at s.regions_in_op p.slot)) e
+  last-Has (Region p) x e = picked (block_node s) (is_node_live s (Region p)) (kids_at s.blocks_in_region p.slot) (last_of (kids_at s.blocks_in_region p.slot)) x (tail_Has (kids_at s.blocks_in_region p.slot)) e
+  last-Has (BasicBlock p) x e = picked (op_node s) (is_node_live s (BasicBlock p)) (kids_at s.ops_in_block p.slot) (last_of (kids_at s.ops_in_block p.slot)) x (tail_Has (kids_at s.ops_in_block p.slot)) e
 
-module _ {O B : Type 0} (s : Nodes O B) (w : IsForest s) where
+module _ {O B : Type 0} (s : Nodes O B) (w : IsStored s) where
   -- x stands in the same list as n
   pub record IsBeside (n x : IRNode) : Type 0 where
     pub above : IRNode
@@ -97,17 +98,17 @@ module _ {O B : Type 0} (s : Nodes O B) (w : IsForest s) where
     pub kid : Has (node_kids s above) x
 
   pub next-beside : (n x : IRNode) → node_next s n ≡ Some x → IsBeside n x
-  next-beside (Operation p) x e = let r = beside_in s.ops_in_block s.ops s.blocks w.ops_listed Operation BasicBlock (next_under s.ops_in_block p.slot) refl (λ q i. next_In (kids_at s.ops_in_block q) p.slot i) (is_node_live s (Operation p)) p.slot x e in record { above = BasicBlock r.above; parent = r.is; kid = r.kid }
-  next-beside (Region p) x e = let r = beside_in s.regions_in_op s.regions s.ops w.regions_listed Region Operation (next_under s.regions_in_op p.slot) refl (λ q i. next_In (kids_at s.regions_in_op q) p.slot i) (is_node_live s (Region p)) p.slot x e in record { above = Operation r.above; parent = r.is; kid = r.kid }
-  next-beside (BasicBlock p) x e = let r = beside_in s.blocks_in_region s.blocks s.regions w.blocks_listed BasicBlock Region (next_under s.blocks_in_region p.slot) refl (λ q i. next_In (kids_at s.blocks_in_region q) p.slot i) (is_node_live s (BasicBlock p)) p.slot x e in record { above = Region r.above; parent = r.is; kid = r.kid }
+  next-beside (Operation p) x e = let r = beside_in s.ops_in_block s.ops s.blocks w.ops_listed Operation BasicBlock (next_under s.ops_in_block p.slot) refl (λ q i. next_Has (kids_at s.ops_in_block q) p.slot i) (is_node_live s (Operation p)) p.slot x e in record { above = BasicBlock r.above; parent = r.is; kid = r.kid }
+  next-beside (Region p) x e = let r = beside_in s.regions_in_op s.regions s.ops w.regions_listed Region Operation (next_under s.regions_in_op p.slot) refl (λ q i. next_Has (kids_at s.regions_in_op q) p.slot i) (is_node_live s (Region p)) p.slot x e in record { above = Operation r.above; parent = r.is; kid = r.kid }
+  next-beside (BasicBlock p) x e = let r = beside_in s.blocks_in_region s.blocks s.regions w.blocks_listed BasicBlock Region (next_under s.blocks_in_region p.slot) refl (λ q i. next_Has (kids_at s.blocks_in_region q) p.slot i) (is_node_live s (BasicBlock p)) p.slot x e in record { above = Region r.above; parent = r.is; kid = r.kid }
 
-  before_In : (l : Lists) (c q i : ℕ) → prev_under l c (Some q) ≡ Some i → In i (kids_at l q)
-  before_In l c q i e = elim (prev_In None (kids_at l q) c i e) [ inl f ↦ absurd (none-some i f) | inr k ↦ k ]
+  before_Has : (l : Lists) (c q i : ℕ) → prev_under l c (Some q) ≡ Some i → Has (kids_at l q) i
+  before_Has l c q i e = elim (prev_Has None (kids_at l q) c i e) [ inl f ↦ absurd (none-some i f) | inr k ↦ k ]
 
   pub prev-beside : (n x : IRNode) → node_prev s n ≡ Some x → IsBeside n x
-  prev-beside (Operation p) x e = let r = beside_in s.ops_in_block s.ops s.blocks w.ops_listed Operation BasicBlock (prev_under s.ops_in_block p.slot) refl (before_In s.ops_in_block p.slot) (is_node_live s (Operation p)) p.slot x e in record { above = BasicBlock r.above; parent = r.is; kid = r.kid }
-  prev-beside (Region p) x e = let r = beside_in s.regions_in_op s.regions s.ops w.regions_listed Region Operation (prev_under s.regions_in_op p.slot) refl (before_In s.regions_in_op p.slot) (is_node_live s (Region p)) p.slot x e in record { above = Operation r.above; parent = r.is; kid = r.kid }
-  prev-beside (BasicBlock p) x e = let r = beside_in s.blocks_in_region s.blocks s.regions w.blocks_listed BasicBlock Region (prev_under s.blocks_in_region p.slot) refl (before_In s.blocks_in_region p.slot) (is_node_live s (BasicBlock p)) p.slot x e in record { above = Region r.above; parent = r.is; kid = r.kid }
+  prev-beside (Operation p) x e = let r = beside_in s.ops_in_block s.ops s.blocks w.ops_listed Operation BasicBlock (prev_under s.ops_in_block p.slot) refl (before_Has s.ops_in_block p.slot) (is_node_live s (Operation p)) p.slot x e in record { above = BasicBlock r.above; parent = r.is; kid = r.kid }
+  prev-beside (Region p) x e = let r = beside_in s.regions_in_op s.regions s.ops w.regions_listed Region Operation (prev_under s.regions_in_op p.slot) refl (before_Has s.regions_in_op p.slot) (is_node_live s (Region p)) p.slot x e in record { above = Operation r.above; parent = r.is; kid = r.kid }
+  prev-beside (BasicBlock p) x e = let r = beside_in s.blocks_in_region s.blocks s.regions w.blocks_listed BasicBlock Region (prev_under s.blocks_in_region p.slot) refl (before_Has s.blocks_in_region p.slot) (is_node_live s (BasicBlock p)) p.slot x e in record { above = Region r.above; parent = r.is; kid = r.kid }
 
   -- what a link answers is live
   pub first-live : (a x : IRNode) → node_first s a ≡ Some x → is_node_live s x ≡ true
@@ -141,26 +142,26 @@ module _ {K A T X : Type 0} (own : A → List ℕ) (s t : Store K A T) (view : s
   Stands z x = parent_of z x ≡ Some n
 
   pub over_told : option_map f r ≡ parent_of s n → IfSome r (λ x. IsLive t (f x))
-  over_told e = told IsLive (λ x q. over-live s.nodes w.forest n x (sym e ∙ q))
+  over_told e = told IsLive (λ x q. over-live s.nodes w.stored n x (sym e ∙ q))
 
   pub next_told : option_map f r ≡ next_sibling s n → IfSome r (λ x. IsLive t (f x))
-  next_told e = told IsLive (λ x q. next-live s.nodes w.forest n x (sym e ∙ q))
+  next_told e = told IsLive (λ x q. next-live s.nodes w.stored n x (sym e ∙ q))
 
   pub prev_told : option_map f r ≡ prev_sibling s n → IfSome r (λ x. IsLive t (f x))
-  prev_told e = told IsLive (λ x q. prev-live s.nodes w.forest n x (sym e ∙ q))
+  prev_told e = told IsLive (λ x q. prev-live s.nodes w.stored n x (sym e ∙ q))
 
   pub first_told : option_map f r ≡ first_kid s n → IfSome r (λ x. IsLive t (f x))
-  first_told e = told IsLive (λ x q. first-live s.nodes w.forest n x (sym e ∙ q))
+  first_told e = told IsLive (λ x q. first-live s.nodes w.stored n x (sym e ∙ q))
 
   pub last_told : option_map f r ≡ last_kid s n → IfSome r (λ x. IsLive t (f x))
-  last_told e = told IsLive (λ x q. last-live s.nodes w.forest n x (sym e ∙ q))
+  last_told e = told IsLive (λ x q. last-live s.nodes w.stored n x (sym e ∙ q))
 
   pub first_stands : option_map f r ≡ first_kid s n → IfSome r (λ x. parent_of t (f x) ≡ Some n)
-  first_stands e = told Stands (λ x q. first-here s.nodes w.forest n x (sym e ∙ q))
+  first_stands e = told Stands (λ x q. first-here s.nodes w.stored n x (sym e ∙ q))
 
   pub last_stands : option_map f r ≡ last_kid s n → IfSome r (λ x. parent_of t (f x) ≡ Some n)
-  last_stands e = told Stands (λ x q. last-here s.nodes w.forest n x (sym e ∙ q))
+  last_stands e = told Stands (λ x q. last-here s.nodes w.stored n x (sym e ∙ q))
 
 -- the kid at a place is live, and the word of the place is that kid
 pub place_told : {K A T : Type 0} (own : A → List ℕ) (s t : Store K A T) → s ≡ t → IsWhole own s → (n x : IRNode) (i : ℕ) → slice_get (kids s n) i ≡ Some x → IsLive t x × (x ≡ kid_at t n i)
-place_told own s t view w n x i e = subst (λ z. IsLive z x × (x ≡ kid_at z n i)) view (kid-live s.nodes w.forest n x (Has_get (kids s n) i x e), sym (kid_at-is s n x i e))
+place_told own s t view w n x i e = subst (λ z. IsLive z x × (x ≡ kid_at z n i)) view (kid-live s.nodes w.stored n x (Has-at (kids s n) i x e), sym (kid_at-is s n x i e))

@@ -10,14 +10,14 @@ use Rattle.plir_store.specs.Table.{Table, Cell, no_cell, IsTable, content_at, ve
 use Rattle.plir_core.specs.declared.ptr.Region.{Region as RegionKind}
 use Rattle.plir_core.specs.Above.{climb, Reaches, IsGrounded}
 use Rattle.plir_core.specs.Nodes.{Nodes, num_nodes}
-use Rattle.plir_core.specs.Forest.{Seat, op, region, block, up, IsListing, IsForest}
+use Rattle.plir_core.specs.Stored.{Seat, op, region, block, up, IsListing, IsStored}
 use Rattle.plir_core.specs.Edits.{IsFilled, room_child, room_list, with_new_op, with_new_block, with_new_region}
 use Rattle.plir_core.proofs.Climbs.{climb_to, IsGrounded-cut, IsGrounded-same, IsGrounded-link}
 use Rattle.plir_core.proofs.Listing.{IsMoved, IsMoved-last, IsListing-child, IsListing-parent, IsListing-link, IsListing-unlink, IsListing-free_child, IsListing-free_parent, parent_at-room_child, parent_at-room_list, some_none, some_kept, not_next, content_new_other, content_without, loose, within_content}
 
 module _ {O B : Type 0} where
-  pub IsForest-empty : (n : ℕ) → n < 2 ^ 32 → IsForest {O = O} {B = B} (record { ops = record { slots = []; free = [] }; regions = record { slots = []; free = [] }; blocks = record { slots = []; free = [] }; regions_in_op = record { kids = []; parents = [] }; blocks_in_region = record { kids = []; parents = [] }; ops_in_block = record { kids = []; parents = [] }; limit = n })
-  IsForest-empty n h = record {
+  pub IsStored-empty : (n : ℕ) → n < 2 ^ 32 → IsStored {O = O} {B = B} (record { ops = record { slots = []; free = [] }; regions = record { slots = []; free = [] }; blocks = record { slots = []; free = [] }; regions_in_op = record { kids = []; parents = [] }; blocks_in_region = record { kids = []; parents = [] }; ops_in_block = record { kids = []; parents = [] }; limit = n })
+  IsStored-empty n h = record {
     regions_listed = nothing;
     blocks_listed = nothing;
     ops_listed = nothing;
@@ -48,7 +48,7 @@ module _ {O B : Type 0} where
         num_values = omega arith;
       }
 
-  module _ (s : Nodes O B) (w : IsForest s) where
+  module _ (s : Nodes O B) (w : IsStored s) where
     -- a region that is not live is above nothing
     region_in : (r i : ℕ) (p : Option ℕ) → content_at s.regions r ≡ None → parent_at s.blocks_in_region i ≡ p → option_map region p ≡ Some (region r) → ⊥
     region_in r i None none f e = none-some (region r) e
@@ -72,9 +72,9 @@ module _ {O B : Type 0} where
     region_apart : (r o : ℕ) → content_at s.regions r ≡ None → Reaches (up s) (op o) (region r) → ⊥
     region_apart r o none x = let e = climb_to (up s) (region r) (never_over r none) x.0 (Some (op o)) x.1 in cc
 
-    pub IsForest-new_op : (t : Table O) (l m : Lists) (v : O) → IsFilled s.ops t v → l ≡ room_child s.ops_in_block s.ops.free → m ≡ room_list s.regions_in_op s.ops.free → IsAgreed l → IsAgreed m → num_nodes s < s.limit → IsForest (record s { ops = t; ops_in_block = l; regions_in_op = m })
-    IsForest-new_op t l m v x le me la ma room =
-        subst (λ (z : Nodes O B). IsForest z) (let q : record s { ops = with_new s.ops v; ops_in_block = room_child s.ops_in_block s.ops.free; regions_in_op = room_list s.regions_in_op s.ops.free } ≡ record s { ops = t; ops_in_block = l; regions_in_op = m } = rw (x.is, le, me) refl in q) whole
+    pub IsStored-new_op : (t : Table O) (l m : Lists) (v : O) → IsFilled s.ops t v → l ≡ room_child s.ops_in_block s.ops.free → m ≡ room_list s.regions_in_op s.ops.free → IsAgreed l → IsAgreed m → num_nodes s < s.limit → IsStored (record s { ops = t; ops_in_block = l; regions_in_op = m })
+    IsStored-new_op t l m v x le me la ma room =
+        subst (λ (z : Nodes O B). IsStored z) (let q : record s { ops = with_new s.ops v; ops_in_block = room_child s.ops_in_block s.ops.free; regions_in_op = room_list s.regions_in_op s.ops.free } ≡ record s { ops = t; ops_in_block = l; regions_in_op = m } = rw (x.is, le, me) refl in q) whole
       where
         same : (n : Seat) → up (with_new_op s v) n ≡ up s n
         same = elim [
@@ -83,7 +83,7 @@ module _ {O B : Type 0} where
           | block i ↦ refl
         ]
 
-        whole : IsForest (with_new_op s v)
+        whole : IsStored (with_new_op s v)
         whole = record {
           regions_listed = IsListing-parent s.regions_in_op s.regions s.ops w.regions_listed v x.vacant (subst IsAgreed me ma);
           blocks_listed = w.blocks_listed;
@@ -97,9 +97,9 @@ module _ {O B : Type 0} where
           limit_fits = w.limit_fits;
         }
 
-    pub IsForest-new_block : (t : Table B) (l m : Lists) (v : B) → IsFilled s.blocks t v → l ≡ room_child s.blocks_in_region s.blocks.free → m ≡ room_list s.ops_in_block s.blocks.free → IsAgreed l → IsAgreed m → num_nodes s < s.limit → IsForest (record s { blocks = t; blocks_in_region = l; ops_in_block = m })
-    IsForest-new_block t l m v x le me la ma room =
-        subst (λ (z : Nodes O B). IsForest z) (let q : with_new_block s v ≡ record s { blocks = t; blocks_in_region = l; ops_in_block = m } = rw (x.is, le, me) refl in q) whole
+    pub IsStored-new_block : (t : Table B) (l m : Lists) (v : B) → IsFilled s.blocks t v → l ≡ room_child s.blocks_in_region s.blocks.free → m ≡ room_list s.ops_in_block s.blocks.free → IsAgreed l → IsAgreed m → num_nodes s < s.limit → IsStored (record s { blocks = t; blocks_in_region = l; ops_in_block = m })
+    IsStored-new_block t l m v x le me la ma room =
+        subst (λ (z : Nodes O B). IsStored z) (let q : with_new_block s v ≡ record s { blocks = t; blocks_in_region = l; ops_in_block = m } = rw (x.is, le, me) refl in q) whole
       where
         same : (n : Seat) → up (with_new_block s v) n ≡ up s n
         same = elim [
@@ -108,7 +108,7 @@ module _ {O B : Type 0} where
           | block i ↦ ap (option_map region) (parent_at-room_child s.blocks_in_region s.blocks.free i)
         ]
 
-        whole : IsForest (with_new_block s v)
+        whole : IsStored (with_new_block s v)
         whole = record {
           regions_listed = w.regions_listed;
           blocks_listed = IsListing-child s.blocks_in_region s.blocks s.regions w.blocks_listed v x.vacant (subst IsAgreed le la);
@@ -123,9 +123,9 @@ module _ {O B : Type 0} where
         }
 
     -- a region is made: there is room for it, and it is put under a live operation
-    pub IsForest-new_region : (t : Table RegionKind) (l m n : Lists) (o : ℕ) → IsFilled s.regions t (record {}) → l ≡ room_list s.blocks_in_region s.regions.free → m ≡ room_child s.regions_in_op s.regions.free → n ≡ with_last m o (next_slot s.regions) → IsAgreed l → IsAgreed m → IsAgreed n → num_nodes s < s.limit → IsSome (content_at s.ops o) → IsForest (record s { regions = t; blocks_in_region = l; regions_in_op = n })
-    IsForest-new_region t l m n o x le me ne la ma na room live =
-        subst (λ (z : Nodes O B). IsForest z) (let q : with_new_region s o ≡ record s { regions = t; blocks_in_region = l; regions_in_op = n } = rw (x.is, le, ne, me) refl in q) whole
+    pub IsStored-new_region : (t : Table RegionKind) (l m n : Lists) (o : ℕ) → IsFilled s.regions t (record {}) → l ≡ room_list s.blocks_in_region s.regions.free → m ≡ room_child s.regions_in_op s.regions.free → n ≡ with_last m o (next_slot s.regions) → IsAgreed l → IsAgreed m → IsAgreed n → num_nodes s < s.limit → IsSome (content_at s.ops o) → IsStored (record s { regions = t; blocks_in_region = l; regions_in_op = n })
+    IsStored-new_region t l m n o x le me ne la ma na room live =
+        subst (λ (z : Nodes O B). IsStored z) (let q : with_new_region s o ≡ record s { regions = t; blocks_in_region = l; regions_in_op = n } = rw (x.is, le, ne, me) refl in q) whole
       where
         wide : IsListing (room_child s.regions_in_op s.regions.free) (with_new s.regions (record {})) s.ops
         wide = IsListing-child s.regions_in_op s.regions s.ops w.regions_listed (record {}) x.vacant (subst IsAgreed me ma)
@@ -146,7 +146,7 @@ module _ {O B : Type 0} where
         agreed : IsAgreed (with_last (room_child s.regions_in_op s.regions.free) o (next_slot s.regions))
         agreed = subst IsAgreed (ne ∙ ap (λ z. with_last z o (next_slot s.regions)) me) na
 
-        whole : IsForest (with_new_region s o)
+        whole : IsStored (with_new_region s o)
         whole = record {
           regions_listed = IsListing-link (room_child s.regions_in_op s.regions.free) (with_new s.regions (record {})) s.ops wide (with_last (room_child s.regions_in_op s.regions.free) o (next_slot s.regions)) (next_slot s.regions) o moved agreed filled live;
           blocks_listed = IsListing-parent s.blocks_in_region s.blocks s.regions w.blocks_listed (record {}) x.vacant (subst IsAgreed le la);
@@ -164,8 +164,8 @@ module _ {O B : Type 0} where
         }
 
     -- an operation is put into a block, and taken out
-    pub IsForest-link_op : (l : Lists) (o b : ℕ) → IsMoved s.ops_in_block l o (Some b) → IsAgreed l → IsSome (content_at s.ops o) → IsSome (content_at s.blocks b) → (Reaches (up s) (block b) (op o) → ⊥) → IsForest (record s { ops_in_block = l })
-    IsForest-link_op l o b v a live_o live_b away = record {
+    pub IsStored-link_op : (l : Lists) (o b : ℕ) → IsMoved s.ops_in_block l o (Some b) → IsAgreed l → IsSome (content_at s.ops o) → IsSome (content_at s.blocks b) → (Reaches (up s) (block b) (op o) → ⊥) → IsStored (record s { ops_in_block = l })
+    IsStored-link_op l o b v a live_o live_b away = record {
       regions_listed = w.regions_listed;
       blocks_listed = w.blocks_listed;
       ops_listed = IsListing-link s.ops_in_block s.ops s.blocks w.ops_listed l o b v a live_o live_b;
@@ -181,8 +181,8 @@ module _ {O B : Type 0} where
         same : (x : Seat) → (x ≡ op o → ⊥) → up (record s { ops_in_block = l }) x ≡ up s x
         same = elim [ op i ↦ λ q. ap (option_map block) (v.other i (λ e. q (ap op e))) | region i ↦ λ q. refl | block i ↦ λ q. refl ]
 
-    pub IsForest-unlink_op : (l : Lists) (o : ℕ) → IsMoved s.ops_in_block l o None → IsAgreed l → IsForest (record s { ops_in_block = l })
-    IsForest-unlink_op l o v a = record {
+    pub IsStored-unlink_op : (l : Lists) (o : ℕ) → IsMoved s.ops_in_block l o None → IsAgreed l → IsStored (record s { ops_in_block = l })
+    IsStored-unlink_op l o v a = record {
       regions_listed = w.regions_listed;
       blocks_listed = w.blocks_listed;
       ops_listed = IsListing-unlink s.ops_in_block s.ops s.blocks w.ops_listed l o v a;
@@ -203,8 +203,8 @@ module _ {O B : Type 0} where
         ]
 
     -- a block is put into a region, and taken out
-    pub IsForest-link_block : (l : Lists) (b r : ℕ) → IsMoved s.blocks_in_region l b (Some r) → IsAgreed l → IsSome (content_at s.blocks b) → IsSome (content_at s.regions r) → (Reaches (up s) (region r) (block b) → ⊥) → IsForest (record s { blocks_in_region = l })
-    IsForest-link_block l b r v a live_b live_r away = record {
+    pub IsStored-link_block : (l : Lists) (b r : ℕ) → IsMoved s.blocks_in_region l b (Some r) → IsAgreed l → IsSome (content_at s.blocks b) → IsSome (content_at s.regions r) → (Reaches (up s) (region r) (block b) → ⊥) → IsStored (record s { blocks_in_region = l })
+    IsStored-link_block l b r v a live_b live_r away = record {
       regions_listed = w.regions_listed;
       blocks_listed = IsListing-link s.blocks_in_region s.blocks s.regions w.blocks_listed l b r v a live_b live_r;
       ops_listed = w.ops_listed;
@@ -220,8 +220,8 @@ module _ {O B : Type 0} where
         same : (x : Seat) → (x ≡ block b → ⊥) → up (record s { blocks_in_region = l }) x ≡ up s x
         same = elim [ op i ↦ λ q. refl | region i ↦ λ q. refl | block i ↦ λ q. ap (option_map region) (v.other i (λ e. q (ap block e))) ]
 
-    pub IsForest-unlink_block : (l : Lists) (b : ℕ) → IsMoved s.blocks_in_region l b None → IsAgreed l → IsForest (record s { blocks_in_region = l })
-    IsForest-unlink_block l b v a = record {
+    pub IsStored-unlink_block : (l : Lists) (b : ℕ) → IsMoved s.blocks_in_region l b None → IsAgreed l → IsStored (record s { blocks_in_region = l })
+    IsStored-unlink_block l b v a = record {
       regions_listed = w.regions_listed;
       blocks_listed = IsListing-unlink s.blocks_in_region s.blocks s.regions w.blocks_listed l b v a;
       ops_listed = w.ops_listed;
@@ -265,9 +265,9 @@ IsListing-held_parent l t u i v some w = record {
   linked_live = λ c p e. let x = w.linked_live c p e in (x.0, content_held u i v some p x.1);
 }
 
-module _ {O B : Type 0} (s : Nodes O B) (w : IsForest s) where
-  pub IsForest-held_op : (i : ℕ) (v : O) → IsSome (content_at s.ops i) → IsForest (record s { ops = with_content s.ops i v })
-  IsForest-held_op i v some = record {
+module _ {O B : Type 0} (s : Nodes O B) (w : IsStored s) where
+  pub IsStored-held_op : (i : ℕ) (v : O) → IsSome (content_at s.ops i) → IsStored (record s { ops = with_content s.ops i v })
+  IsStored-held_op i v some = record {
     regions_listed = IsListing-held_parent s.regions_in_op s.regions s.ops i v some w.regions_listed;
     blocks_listed = w.blocks_listed;
     ops_listed = IsListing-held_child s.ops_in_block s.ops s.blocks i v some w.ops_listed;
@@ -280,8 +280,8 @@ module _ {O B : Type 0} (s : Nodes O B) (w : IsForest s) where
     limit_fits = w.limit_fits;
   }
 
-  pub IsForest-held_block : (i : ℕ) (v : B) → IsSome (content_at s.blocks i) → IsForest (record s { blocks = with_content s.blocks i v })
-  IsForest-held_block i v some = record {
+  pub IsStored-held_block : (i : ℕ) (v : B) → IsSome (content_at s.blocks i) → IsStored (record s { blocks = with_content s.blocks i v })
+  IsStored-held_block i v some = record {
     regions_listed = w.regions_listed;
     blocks_listed = IsListing-held_child s.blocks_in_region s.blocks s.regions i v some w.blocks_listed;
     ops_listed = IsListing-held_parent s.ops_in_block s.ops s.blocks i v some w.ops_listed;

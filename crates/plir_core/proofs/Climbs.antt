@@ -2,7 +2,7 @@
 use Rattle.std.proofs.Common.{◌≡◌, ℕ, zero, suc, ◌+◌, ◌≤◌, Option, Some, None, ◌⊎◌, inl, inr, refl, ◌∙◌, ap, arith}
 use Rattle.std.proofs.lemmas.Bool.{cases_eq}
 use Rattle.plir_core.specs.Above.{climb, Reaches, IsGrounded}
-use Rattle.plir_core.specs.Forest.{Seat, op, region, block}
+use Rattle.plir_core.specs.Stored.{Seat, op, region, block}
 
 -- two seats are one or not
 pub seat_cases : (a b : Seat) → (a ≡ b) ⊎ (a ≡ b → ⊥)

@@ -5,17 +5,18 @@ use Rattle.std.proofs.lemmas.Option.{same_Some, none-some}
 use Rattle.std.proofs.lemmas.List.Sums.{sum_by-set, count_by-le-length}
 use Rattle.plir_store.specs.Lists.{parent_at}
 use Rattle.plir_store.specs.Table.{Table, Cell, no_cell, cell_at, content_at, version_at, is_live_at, num_full, without_slot}
-use Rattle.plir_core.specs.Above.{climb, depth, IsGrounded}
+use Rattle.plir_core.specs.Above.{climb, IsGrounded}
 use Rattle.plir_core.specs.declared.ptr.IRNode.{IRNode}
 use Rattle.plir_core.specs.declared.ptr.IRNode.TheVariants.{Operation, Region, BasicBlock}
-use Rattle.plir_core.specs.NodeLists.{Has, Distinct}
+use Rattle.plir_store.specs.Members.{Has, Distinct}
 use Rattle.plir_core.specs.Nodes.{Nodes, num_nodes, node_parent, block_node, op_node, region_node}
-use Rattle.plir_core.specs.Forest.{Seat, op, region, block, seat_of, up, most_steps, depth_of, IsForest}
+use Rattle.plir_core.specs.Stored.{Seat, op, region, block, seat_of, up, IsStored}
 use Rattle.plir_core.proofs.Climbs.{climb_none}
 use Rattle.plir_core.proofs.Listing.{within_content, content_without}
+use Rattle.plir_core.specs.Measures.{depth_from, most_steps, depth_of}
 
 -- past the end of a climb the depth stays
-pub depth_later : (up : Seat → Option Seat) (k m : ℕ) (o : Option Seat) → k ≤ m → climb up k o ≡ None → depth up m o ≡ depth up k o
+pub depth_later : (up : Seat → Option Seat) (k m : ℕ) (o : Option Seat) → k ≤ m → climb up k o ≡ None → depth_from up m o ≡ depth_from up k o
 depth_later up zero zero o h e = refl
 depth_later up zero (suc m) o h e = rw e refl
 depth_later up (suc k) zero o h e = absurd (omega arith)
@@ -23,12 +24,12 @@ depth_later up (suc k) (suc m) None h e = refl
 depth_later up (suc k) (suc m) (Some n) h e = ap suc (depth_later up k m (up n) (omega arith) e)
 
 -- one step up is one node less
-pub depth_up : (up : Seat → Option Seat) (f : ℕ) (n : Seat) → climb up f (Some n) ≡ None → depth up f (Some n) ≡ depth up f (up n) + 1
+pub depth_up : (up : Seat → Option Seat) (f : ℕ) (n : Seat) → climb up f (Some n) ≡ None → depth_from up f (Some n) ≡ depth_from up f (up n) + 1
 depth_up up zero n e = absurd (none-some n (sym e))
 depth_up up (suc f) n e = let d = depth_later up f (suc f) (up n) (omega arith) e in omega arith
 
 -- where only the step from c is another, and c is not come by
-pub depth-frame : (up up' : Seat → Option Seat) (c : Seat) → ((n : Seat) → (n ≡ c → ⊥) → up' n ≡ up n) → (k : ℕ) (o : Option Seat) → ((j : ℕ) → climb up j o ≡ Some c → ⊥) → depth up' k o ≡ depth up k o
+pub depth-frame : (up up' : Seat → Option Seat) (c : Seat) → ((n : Seat) → (n ≡ c → ⊥) → up' n ≡ up n) → (k : ℕ) (o : Option Seat) → ((j : ℕ) → climb up j o ≡ Some c → ⊥) → depth_from up' k o ≡ depth_from up k o
 depth-frame up up' c same zero o away = refl
 depth-frame up up' c same (suc k) None away = refl
 depth-frame up up' c same (suc k) (Some n) away =
@@ -42,21 +43,21 @@ trail up (suc k) None = []
 trail up (suc k) (Some n) = n ∷ trail up k (up n)
 
 module _ (up : Seat → Option Seat) where
-  length-trail : (k : ℕ) (o : Option Seat) → length (trail up k o) ≡ depth up k o
+  length-trail : (k : ℕ) (o : Option Seat) → length (trail up k o) ≡ depth_from up k o
   unfolding trail
   length-trail zero o = refl
   length-trail (suc k) None = refl
   length-trail (suc k) (Some n) = ap suc (length-trail k (up n))
 
   -- a climb that has not ended is as long as its trail
-  depth_long : (k : ℕ) (o : Option Seat) (m : Seat) → climb up k o ≡ Some m → depth up k o ≡ k
+  depth_long : (k : ℕ) (o : Option Seat) (m : Seat) → climb up k o ≡ Some m → depth_from up k o ≡ k
   depth_long zero o m e = refl
   depth_long (suc k) None m e = absurd (none-some m e)
   depth_long (suc k) (Some n) m e = ap suc (depth_long k (up n) m e)
 
   module _ (g : IsGrounded up) where
     abbrev high : Option Seat → ℕ
-    high o = depth up g.height o
+    high o = depth_from up g.height o
 
     high_up : (n : Seat) → high (Some n) ≡ high (up n) + 1
     high_up n = depth_up up g.height n (g.ends n)
@@ -134,7 +135,7 @@ module _ {O B : Type 0} where
       let r = length-le_seated ns (emptied s n) d.1 (λ m h. emptied_other s n m (λ e. d.0 (subst (λ z. Has ns z) (sym e) h)) (held m (inr h))) in
       omega arith
 
-module _ {O B : Type 0} (s : Nodes O B) (w : IsForest s) where
+module _ {O B : Type 0} (s : Nodes O B) (w : IsStored s) where
   over_seated : (f : ℕ → Seat) (o : Option ℕ) (m : Seat) → ((i : ℕ) → o ≡ Some i → IsSeated s (f i)) → option_map f o ≡ Some m → IsSeated s m
   over_seated f None m each e = absurd (none-some m e)
   over_seated f (Some i) m each e = subst (IsSeated s) (same_Some (f i) m e) (each i refl)
@@ -154,7 +155,7 @@ module _ {O B : Type 0} (s : Nodes O B) (w : IsForest s) where
   ]
 
   -- from the node above a seat there are no more nodes than are live
-  depth_over : (k : ℕ) (n : Seat) → depth (up s) k (up s n) ≤ num_nodes s
+  depth_over : (k : ℕ) (n : Seat) → depth_from (up s) k (up s n) ≤ num_nodes s
   depth_over k n =
       let h = length-le_seated (trail (up s) k (up s n)) s (Distinct-trail (up s) w.grounded k (up s n)) (trail_seated k (up s n) (up_seated n)) in
       let e = length-trail (up s) k (up s n) in
@@ -174,17 +175,17 @@ module _ {O B : Type 0} (s : Nodes O B) (w : IsForest s) where
       let e : most_steps s ≡ suc size = omega arith in
       rw e (ended size n (climb (up s) size (up s n)) refl (omega arith))
 
-  pub depth_falls : (n : Seat) → depth (up s) (most_steps s) (Some n) ≡ depth (up s) (most_steps s) (up s n) + 1
+  pub depth_falls : (n : Seat) → depth_from (up s) (most_steps s) (Some n) ≡ depth_from (up s) (most_steps s) (up s n) + 1
   depth_falls n = depth_up (up s) (most_steps s) n (climb_most n)
 
   -- k steps up are k levels
-  pub depth-seats : (k : ℕ) (n a : Seat) → climb (up s) k (Some n) ≡ Some a → depth (up s) (most_steps s) (Some n) ≡ depth (up s) (most_steps s) (Some a) + k
-  depth-seats zero n a e = let q = ap (depth (up s) (most_steps s)) e in omega arith
-  depth-seats (suc k) n a e = elim (up s n) as (λ o. up s n ≡ o → climb (up s) k o ≡ Some a → depth (up s) (most_steps s) (Some n) ≡ depth (up s) (most_steps s) (Some a) + suc k) [
+  pub depth-seats : (k : ℕ) (n a : Seat) → climb (up s) k (Some n) ≡ Some a → depth_from (up s) (most_steps s) (Some n) ≡ depth_from (up s) (most_steps s) (Some a) + k
+  depth-seats zero n a e = let q = ap (depth_from (up s) (most_steps s)) e in omega arith
+  depth-seats (suc k) n a e = elim (up s n) as (λ o. up s n ≡ o → climb (up s) k o ≡ Some a → depth_from (up s) (most_steps s) (Some n) ≡ depth_from (up s) (most_steps s) (Some a) + suc k) [
     | None ↦ λ f g. absurd (none-some a (sym (climb_none (up s) k) ∙ g))
     | Some b ↦ λ f g.
         let d = depth_falls n in
-        let q = ap (depth (up s) (most_steps s)) f in
+        let q = ap (depth_from (up s) (most_steps s)) f in
         let r = depth-seats k b a g in
         omega arith
   ] refl e
@@ -202,7 +203,7 @@ module _ {O B : Type 0} (s : Nodes O B) (w : IsForest s) where
 
   -- a kid stands one level deeper than its parent
   pub depth-kid : (a x : IRNode) → node_parent s x ≡ Some a → depth_of s x ≡ depth_of s a + 1
-  depth-kid a x e = depth_falls (seat_of x) ∙ ap (λ o. depth (up s) (most_steps s) o + 1) (up_parent a x e)
+  depth-kid a x e = depth_falls (seat_of x) ∙ ap (λ o. depth_from (up s) (most_steps s) o + 1) (up_parent a x e)
 
   -- no node stands deeper than there may be nodes, and one more for a node that is not live
   pub depth-le : (x : IRNode) → depth_of s x ≤ s.limit + 1

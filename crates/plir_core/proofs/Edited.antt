@@ -13,7 +13,7 @@ use Rattle.plir_core.specs.Contents.{OpView, BlockView}
 use Rattle.plir_core.specs.Store.{Store, IsValueLive}
 use Rattle.plir_core.specs.Whole.{OpHoldsLive, BlockHoldsLive, IsWhole}
 use Rattle.plir_core.specs.Changes.{with_op_content, with_block_content}
-use Rattle.plir_core.proofs.Changes.{IsForest-held_op, IsForest-held_block}
+use Rattle.plir_core.proofs.Changes.{IsStored-held_op, IsStored-held_block}
 use Rattle.plir_core.proofs.Holds.{op_replaced, block_replaced}
 
 -- lists with an element more, fewer or changed
@@ -41,11 +41,11 @@ either_way (Err y) p q = inr q
 module _ {K A T : Type 0} (own : A → List ℕ) (s t : Store K A T) (view : s ≡ t) (w : IsWhole own s) where
   -- of an operation all but the types of the results may change
   pub op_edited : (i : ℕ) (u v : OpView K A) → content_at s.nodes.ops i ≡ Some u → v.result_types ≡ u.result_types → (OpHoldsLive own s u → OpHoldsLive own s v) → IsWhole own (with_op_content s i v)
-  op_edited i u v was same keeps = op_replaced own s w (record s.nodes { ops = with_content s.nodes.ops i v }) i u v refl (IsForest-held_op s.nodes w.forest i v (rw was refl)) was same (keeps (w.holds.ops i u was))
+  op_edited i u v was same keeps = op_replaced own s w (record s.nodes { ops = with_content s.nodes.ops i v }) i u v refl (IsStored-held_op s.nodes w.stored i v (rw was refl)) was same (keeps (w.holds.ops i u was))
 
   -- of a block all but the types of the arguments may change
   pub block_edited : (i : ℕ) (u v : BlockView A) → content_at s.nodes.blocks i ≡ Some u → v.arg_types ≡ u.arg_types → (BlockHoldsLive own s u → BlockHoldsLive own s v) → IsWhole own (with_block_content s i v)
-  block_edited i u v was same keeps = block_replaced own s w (record s.nodes { blocks = with_content s.nodes.blocks i v }) i u v refl (IsForest-held_block s.nodes w.forest i v (rw was refl)) was same (keeps (w.holds.blocks i u was))
+  block_edited i u v was same keeps = block_replaced own s w (record s.nodes { blocks = with_content s.nodes.blocks i v }) i u v refl (IsStored-held_block s.nodes w.stored i v (rw was refl)) was same (keeps (w.holds.blocks i u was))
 
   operands_edited : (i : ℕ) (u : OpView K A) (xs : List Value) → content_at s.nodes.ops i ≡ Some u → (All (IsValueLive s) u.operands → All (IsValueLive s) xs) → IsWhole own (with_op_content s i (record u { operands = xs }))
   operands_edited i u xs was keeps = op_edited i u (record u { operands = xs }) was refl (λ h. record {

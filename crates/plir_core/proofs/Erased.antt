@@ -1,16 +1,17 @@
 -- A tree is erased from its first leaf on.
-use Rattle.std.proofs.Common.{◌≡◌, ℕ, zero, suc, ◌+◌, ◌*◌, ◌<◌, ◌≤◌, Bool, true, false, List, [], ◌∷◌, ◌++◌, length, Option, Some, None, ◌⊎◌, inl, inr, refl, sym, ◌∙◌, ap, subst, arith}
+use Rattle.std.proofs.Common.{◌≡◌, ℕ, zero, suc, ◌+◌, ◌≤◌, true, List, [], ◌∷◌, Option, Some, inl, refl, sym, ◌∙◌, ap, subst, arith}
 use Rattle.std.proofs.lemmas.Option.{same_Some, none-some}
 use Rattle.plir_core.specs.declared.ptr.IRNode.{IRNode}
-use Rattle.plir_core.specs.Above.{climb, Reaches}
-use Rattle.plir_core.specs.NodeLists.{Has, Distinct, head}
-use Rattle.plir_core.specs.Nodes.{Nodes, is_node_live, was_given_out, node_kids, node_parent, num_nodes}
-use Rattle.plir_core.specs.Forest.{Seat, seat_of, most_steps, depth_of, IsForest}
+use Rattle.plir_core.specs.Above.{climb}
+use Rattle.plir_store.specs.Members.{Has, head}
+use Rattle.plir_core.specs.Nodes.{Nodes, is_node_live, node_kids, node_parent, num_nodes}
+use Rattle.plir_core.specs.Stored.{seat_of, IsStored}
 use Rattle.plir_core.specs.Erase.{post_order, without_node, without_nodes, tree_of, erased}
-use Rattle.plir_core.proofs.Facts.{kid-parent, parent-kid, kids-once, kid-live, parent-live}
-use Rattle.plir_core.proofs.Depths.{depth-kid, depth-le, depth-le_most, depth_falls, depth-le_nodes}
+use Rattle.plir_core.proofs.Facts.{kid-parent, parent-kid, kids-once, kid-live}
+use Rattle.plir_core.proofs.Depths.{depth-kid, depth-le, depth-le_most, depth_falls}
 use Rattle.plir_core.proofs.Trees.{IsTree, climb_step, climb_last, down-up, depth-climb, post_order-first, down-frame}
-use Rattle.plir_core.proofs.FreedNode.{freed-live, freed-kids_here, freed-kids, freed-most, freed-forest, freed-count}
+use Rattle.plir_core.proofs.FreedNode.{freed-live, freed-kids_here, freed-kids, freed-most, freed-stored, freed-count}
+use Rattle.plir_core.specs.Measures.{most_steps, depth_of}
 
 pub head-Has : (ns : List IRNode) (n : IRNode) → head ns ≡ Some n → Has ns n
 head-Has [] n e = absurd (none-some n e)
@@ -21,8 +22,8 @@ module _ {O B : Type 0} where
   abbrev pub first_kid : Nodes O B → IRNode → Option IRNode
   first_kid s n = head (node_kids s n)
 
-  pub IsTree-forest : (s : Nodes O B) → IsForest s → IsTree (node_kids s) (node_parent s) (depth_of s)
-  IsTree-forest s w = record {
+  pub IsTree-stored : (s : Nodes O B) → IsStored s → IsTree (node_kids s) (node_parent s) (depth_of s)
+  IsTree-stored s w = record {
     kid_parent = kid-parent s w;
     parent_kid = parent-kid s w;
     once = kids-once s w;
@@ -30,13 +31,13 @@ module _ {O B : Type 0} where
   }
 
   -- what is reached by first kids is live
-  way-live : (s : Nodes O B) (w : IsForest s) (k : ℕ) (n x : IRNode) → is_node_live s n ≡ true → climb (first_kid s) k (Some n) ≡ Some x → is_node_live s x ≡ true
+  way-live : (s : Nodes O B) (w : IsStored s) (k : ℕ) (n x : IRNode) → is_node_live s n ≡ true → climb (first_kid s) k (Some n) ≡ Some x → is_node_live s x ≡ true
   way-live s w zero n x live e = subst (λ z. is_node_live s z ≡ true) (same_Some n x e) live
   way-live s w (suc k) n x live e =
       let r = climb_last (first_kid s) k (Some n) x e in
       kid-live s w r.0 x (head-Has (node_kids s r.0) x r.1.1)
 
-  pub depth-some : (s : Nodes O B) → IsForest s → (n : IRNode) → 1 ≤ depth_of s n
+  pub depth-some : (s : Nodes O B) → IsStored s → (n : IRNode) → 1 ≤ depth_of s n
   depth-some s w n = let d = depth_falls s w (seat_of n) in omega arith
 
   -- the tree of a node without kids
@@ -48,9 +49,9 @@ module _ {O B : Type 0} where
       enough (suc f) h = rw none refl
 
   -- A node without kids is reached from n by k + 1 first kids, and freed.
-  module _ (s : Nodes O B) (w : IsForest s) (n x : IRNode) (k : ℕ) (live : is_node_live s n ≡ true) (way : climb (first_kid s) (suc k) (Some n) ≡ Some x) (none : node_kids s x ≡ []) where
+  module _ (s : Nodes O B) (w : IsStored s) (n x : IRNode) (k : ℕ) (live : is_node_live s n ≡ true) (way : climb (first_kid s) (suc k) (Some n) ≡ Some x) (none : node_kids s x ≡ []) where
     abbrev tree : IsTree (node_kids s) (node_parent s) (depth_of s)
-    tree = IsTree-forest s w
+    tree = IsTree-stored s w
 
     pub leaf_live : is_node_live s x ≡ true
     leaf_live = way-live s w (suc k) n x live way
@@ -64,8 +65,8 @@ module _ {O B : Type 0} where
     pub root_live : is_node_live (without_node s x) n ≡ true
     root_live = freed-live s x n leaf_live root_other w ∙ live
 
-    pub less_forest : IsForest (without_node s x)
-    less_forest = freed-forest s x leaf_live none w
+    pub less_stored : IsStored (without_node s x)
+    less_stored = freed-stored s x leaf_live none w
 
     -- p is the parent of the leaf, with the leaf as its first kid
     module _ (p : IRNode) (rest : List IRNode) (to : climb (first_kid s) k (Some n) ≡ Some p) (was : node_kids s p ≡ x ∷ rest) where
@@ -109,7 +110,7 @@ module _ {O B : Type 0} where
 
     -- which is live still
     pub way-over : (p : IRNode) → node_parent s x ≡ Some p → is_node_live (without_node s x) p ≡ true
-    way-over p e = way-live (without_node s x) less_forest k n p root_live (way-parent p e)
+    way-over p e = way-live (without_node s x) less_stored k n p root_live (way-parent p e)
 
     pub erased-first : erased s n ≡ erased (without_node s x) n
     erased-first = ap (without_nodes s) tree-first
@@ -121,7 +122,7 @@ module _ {O B : Type 0} where
     pub way : climb (first_kid s) steps (Some n) ≡ Some leaf
     pub none : node_kids s leaf ≡ []
 
-  leaf_from : (s : Nodes O B) (w : IsForest s) (n : IRNode) (g k : ℕ) (x : IRNode) → climb (first_kid s) k (Some n) ≡ Some x → s.limit + 2 ≤ depth_of s x + g → FirstLeaf s n
+  leaf_from : (s : Nodes O B) (w : IsStored s) (n : IRNode) (g k : ℕ) (x : IRNode) → climb (first_kid s) k (Some n) ≡ Some x → s.limit + 2 ≤ depth_of s x + g → FirstLeaf s n
   leaf_from s w n zero k x way h = let d = depth-le s w x in absurd (omega arith)
   leaf_from s w n (suc g) k x way h = elim (node_kids s x) as (λ ks. node_kids s x ≡ ks → FirstLeaf s n) [
     | [] ↦ λ e. record { steps = k; leaf = x; way = way; none = e }
@@ -130,7 +131,7 @@ module _ {O B : Type 0} where
         leaf_from s w n g (suc k) c (climb_step (first_kid s) k (Some n) x way ∙ ap head e) (omega arith)
   ] refl
 
-  pub first_leaf : (s : Nodes O B) (w : IsForest s) (n : IRNode) → FirstLeaf s n
+  pub first_leaf : (s : Nodes O B) (w : IsStored s) (n : IRNode) → FirstLeaf s n
   first_leaf s w n = leaf_from s w n (s.limit + 2) 0 n refl (omega arith)
 
   -- each of the nodes is live and without kids when its turn comes
@@ -138,7 +139,7 @@ module _ {O B : Type 0} where
   IsPeeled s [] = Unit {0}
   IsPeeled s (n ∷ ns) = (is_node_live s n ≡ true) × (node_kids s n ≡ []) × IsPeeled (without_node s n) ns
 
-  IsPeeled-tree_in : (size : ℕ) (s : Nodes O B) (w : IsForest s) (n : IRNode) → is_node_live s n ≡ true → num_nodes s ≤ size → IsPeeled s (tree_of s n)
+  IsPeeled-tree_in : (size : ℕ) (s : Nodes O B) (w : IsStored s) (n : IRNode) → is_node_live s n ≡ true → num_nodes s ≤ size → IsPeeled s (tree_of s n)
   IsPeeled-tree_in zero s w n live h = let c = freed-count s n live in absurd (omega arith)
   IsPeeled-tree_in (suc size) s w n live h =
       let l = first_leaf s w n in
@@ -152,9 +153,9 @@ module _ {O B : Type 0} where
             subst (IsPeeled s) (sym (tree-first s w n l.leaf k live way l.none)) (
               leaf_live s w n l.leaf k live way l.none,
               l.none,
-              IsPeeled-tree_in size (without_node s l.leaf) (less_forest s w n l.leaf k live way l.none) n (root_live s w n l.leaf k live way l.none) (omega arith),
+              IsPeeled-tree_in size (without_node s l.leaf) (less_stored s w n l.leaf k live way l.none) n (root_live s w n l.leaf k live way l.none) (omega arith),
             )
       ] l.way
 
-  pub IsPeeled-tree : (s : Nodes O B) (w : IsForest s) (n : IRNode) → is_node_live s n ≡ true → IsPeeled s (tree_of s n)
+  pub IsPeeled-tree : (s : Nodes O B) (w : IsStored s) (n : IRNode) → is_node_live s n ≡ true → IsPeeled s (tree_of s n)
   IsPeeled-tree s w n live = IsPeeled-tree_in (num_nodes s) s w n live (omega arith)

@@ -9,16 +9,17 @@ use Rattle.plir_core.specs.declared.ptr.Region.{Region as RegionKind}
 use Rattle.plir_core.specs.declared.ptr.BasicBlock.{BasicBlock as BlockKind}
 use Rattle.plir_core.specs.declared.ptr.IRNode.{IRNode}
 use Rattle.plir_core.specs.declared.ptr.IRNode.TheVariants.{Operation, Region, BasicBlock}
-use Rattle.plir_core.specs.Above.{climb, depth}
-use Rattle.plir_core.specs.NodeLists.{Has, head}
+use Rattle.plir_core.specs.Above.{climb}
+use Rattle.plir_store.specs.Members.{Has, head}
 use Rattle.plir_core.specs.Nodes.{Nodes, is_node_live, node_kids, node_parent, num_nodes}
-use Rattle.plir_core.specs.Forest.{Seat, seat_of, up, most_steps, depth_of, IsForest}
+use Rattle.plir_core.specs.Stored.{Seat, seat_of, up, IsStored}
 use Rattle.plir_core.specs.Erase.{without_node, without_nodes, erased}
 use Rattle.plir_core.proofs.Facts.{kid-parent, kid-live, parent-live}
 use Rattle.plir_core.proofs.Depths.{depth-kid, depth-le_nodes, depth-frame, depth-seats}
 use Rattle.plir_core.proofs.Trees.{climb_step, climb_last}
-use Rattle.plir_core.proofs.FreedNode.{freed-count, freed-parent, freed-most, freed-up, freed-forest}
-use Rattle.plir_core.proofs.Erased.{first_kid, head-Has, tree-leaf, leaf_live, root_live, less_forest, way-parent, way-over, erased-first}
+use Rattle.plir_core.proofs.FreedNode.{freed-count, freed-parent, freed-most, freed-up, freed-stored}
+use Rattle.plir_core.proofs.Erased.{first_kid, head-Has, tree-leaf, leaf_live, root_live, less_stored, way-parent, way-over, erased-first}
+use Rattle.plir_core.specs.Measures.{depth_from, most_steps, depth_of}
 
 no_head : (ks : List IRNode) → head ks ≡ None → ks ≡ []
 no_head [] e = refl
@@ -27,22 +28,22 @@ no_head (k ∷ ks) e = absurd (none-some k (sym e))
 module _ {O B : Type 0} where
   -- the tree under n was to be erased in `old`, and what is left of it in `now` is to be erased still
   pub record IsErasing (old now : Nodes O B) (n at : IRNode) : Type 0 where
-    pub forest : IsForest now
+    pub stored : IsStored now
     pub live : is_node_live now n ≡ true
     pub here : is_node_live now at ≡ true
     pub steps : ℕ
     pub way : climb (first_kid now) steps (Some n) ≡ Some at
     pub same : erased now n ≡ erased old n
 
-  pub IsErasing-start : (s : Nodes O B) (n : IRNode) → IsForest s → is_node_live s n ≡ true → IsErasing s s n n
-  IsErasing-start s n w live = record { forest = w; live = live; here = live; steps = 0; way = refl; same = refl }
+  pub IsErasing-start : (s : Nodes O B) (n : IRNode) → IsStored s → is_node_live s n ≡ true → IsErasing s s n n
+  IsErasing-start s n w live = record { stored = w; live = live; here = live; steps = 0; way = refl; same = refl }
 
   -- on to the first kid
   pub IsErasing-down : (old now : Nodes O B) (n at kid : IRNode) → IsErasing old now n at → head (node_kids now at) ≡ Some kid → IsErasing old now n kid
   IsErasing-down old now n at kid e h = record {
-    forest = e.forest;
+    stored = e.stored;
     live = e.live;
-    here = kid-live now e.forest at kid (head-Has (node_kids now at) kid h);
+    here = kid-live now e.stored at kid (head-Has (node_kids now at) kid h);
     steps = suc e.steps;
     way = climb_step (first_kid now) e.steps (Some n) at e.way ∙ h;
     same = e.same;
@@ -55,14 +56,14 @@ module _ {O B : Type 0} where
   up_in : (old now : Nodes O B) (n at p : IRNode) (k : ℕ) → IsErasing old now n at → climb (first_kid now) k (Some n) ≡ Some at → node_kids now at ≡ [] → (at ≡ n → ⊥) → node_parent now at ≡ Some p → IsErasing old (without_node now at) n p
   up_in old now n at p zero e way none ne over = absurd (ne (sym (same_Some n at way)))
   up_in old now n at p (suc k) e way none ne over =
-      let w' = less_forest now e.forest n at k e.live way none in
+      let w' = less_stored now e.stored n at k e.live way none in
       record {
-        forest = w';
-        live = root_live now e.forest n at k e.live way none;
-        here = way-over now e.forest n at k e.live way none p over;
+        stored = w';
+        live = root_live now e.stored n at k e.live way none;
+        here = way-over now e.stored n at k e.live way none p over;
         steps = k;
-        way = way-parent now e.forest n at k e.live way none p over;
-        same = sym (erased-first now e.forest n at k e.live way none) ∙ e.same;
+        way = way-parent now e.stored n at k e.live way none p over;
+        same = sym (erased-first now e.stored n at k e.live way none) ∙ e.same;
       }
 
   pub IsErasing-up : (old now : Nodes O B) (n at p : IRNode) → IsErasing old now n at → head (node_kids now at) ≡ None → (at ≡ n → ⊥) → node_parent now at ≡ Some p → IsErasing old (without_node now at) n p
@@ -74,7 +75,7 @@ module _ {O B : Type 0} where
     | zero ↦ λ way. ne (sym (same_Some n at way))
     | suc k ↦ λ way.
         let r = climb_last (first_kid now) k (Some n) at way in
-        none-some r.0 (sym none ∙ kid-parent now e.forest r.0 at (head-Has (node_kids now r.0) at r.1.1))
+        none-some r.0 (sym none ∙ kid-parent now e.stored r.0 at (head-Has (node_kids now r.0) at r.1.1))
   ] e.way
 
   -- the root is freed last
@@ -90,14 +91,14 @@ module _ {O B : Type 0} where
 
   pub work-down : (old now : Nodes O B) (n at kid : IRNode) → IsErasing old now n at → head (node_kids now at) ≡ Some kid → work_left now kid < work_left now at
   work-down old now n at kid e h =
-      let d = depth-kid now e.forest at kid (kid-parent now e.forest at kid (head-Has (node_kids now at) kid h)) in
-      let b = depth-le_nodes now e.forest kid in
+      let d = depth-kid now e.stored at kid (kid-parent now e.stored at kid (head-Has (node_kids now at) kid h)) in
+      let b = depth-le_nodes now e.stored kid in
       omega arith
 
   -- the depth of the parent is as it was
-  depth-stays : (s : Nodes O B) (w : IsForest s) (n p : IRNode) → is_node_live s n ≡ true → node_parent s n ≡ Some p → depth_of (without_node s n) p ≡ depth_of s p
+  depth-stays : (s : Nodes O B) (w : IsStored s) (n p : IRNode) → is_node_live s n ≡ true → node_parent s n ≡ Some p → depth_of (without_node s n) p ≡ depth_of s p
   depth-stays s w n p live over =
-      ap (λ k. depth (up (without_node s n)) k (Some (seat_of p))) (freed-most s n)
+      ap (λ k. depth_from (up (without_node s n)) k (Some (seat_of p))) (freed-most s n)
       ∙ depth-frame (up s) (up (without_node s n)) (seat_of n) (λ x ne. freed-up s w n x live ne) (most_steps s) (Some (seat_of p)) (λ j e.
       let d = depth-seats s w j (seat_of p) (seat_of n) e in
       let f = depth-kid s w p n over in
@@ -107,25 +108,25 @@ module _ {O B : Type 0} where
   pub work-up : (old now : Nodes O B) (n at p : IRNode) → IsErasing old now n at → head (node_kids now at) ≡ None → (at ≡ n → ⊥) → node_parent now at ≡ Some p → work_left (without_node now at) p < work_left now at
   work-up old now n at p e none ne over =
       let c = freed-count now at e.here in
-      let f = depth-kid now e.forest p at over in
-      let b = depth-le_nodes now e.forest at in
-      let d = depth-stays now e.forest at p e.here over in
+      let f = depth-kid now e.stored p at over in
+      let b = depth-le_nodes now e.stored at in
+      let d = depth-stays now e.stored at p e.here over in
       omega arith
 
 -- A node is freed by its two parts: s is made of the fields, and t is the value.
-module _ {O B : Type 0} (s t : Nodes O B) (view : s ≡ t) (w : IsForest s) (n : IRNode) (live : is_node_live t n ≡ true) (none : node_kids t n ≡ []) where
-  left_after : (m : IRNode) → n ≡ m → IsForest (without_node s m)
+module _ {O B : Type 0} (s t : Nodes O B) (view : s ≡ t) (w : IsStored s) (n : IRNode) (live : is_node_live t n ≡ true) (none : node_kids t n ≡ []) where
+  left_after : (m : IRNode) → n ≡ m → IsStored (without_node s m)
   left_after m e =
-      freed-forest s m
+      freed-stored s m
       (subst (λ z. is_node_live s z ≡ true) e (subst (λ z. is_node_live z n ≡ true) (sym view) live))
       (subst (λ z. node_kids s z ≡ []) e (subst (λ z. node_kids z n ≡ []) (sym view) none))
       w
 
-  pub op_freed : (p : Ptr OperationKind) (x : Table O) (l : Lists) → n ≡ Operation p → x ≡ without_slot s.ops p.slot → l ≡ without_child s.ops_in_block p.slot → IsForest (record s { ops = x; ops_in_block = l })
+  pub op_freed : (p : Ptr OperationKind) (x : Table O) (l : Lists) → n ≡ Operation p → x ≡ without_slot s.ops p.slot → l ≡ without_child s.ops_in_block p.slot → IsStored (record s { ops = x; ops_in_block = l })
   op_freed p x l e f g = rw (f, g) (left_after (Operation p) e)
 
-  pub region_freed : (p : Ptr RegionKind) (x : Table RegionKind) (l : Lists) → n ≡ Region p → x ≡ without_slot s.regions p.slot → l ≡ without_child s.regions_in_op p.slot → IsForest (record s { regions = x; regions_in_op = l })
+  pub region_freed : (p : Ptr RegionKind) (x : Table RegionKind) (l : Lists) → n ≡ Region p → x ≡ without_slot s.regions p.slot → l ≡ without_child s.regions_in_op p.slot → IsStored (record s { regions = x; regions_in_op = l })
   region_freed p x l e f g = rw (f, g) (left_after (Region p) e)
 
-  pub block_freed : (p : Ptr BlockKind) (x : Table B) (l : Lists) → n ≡ BasicBlock p → x ≡ without_slot s.blocks p.slot → l ≡ without_child s.blocks_in_region p.slot → IsForest (record s { blocks = x; blocks_in_region = l })
+  pub block_freed : (p : Ptr BlockKind) (x : Table B) (l : Lists) → n ≡ BasicBlock p → x ≡ without_slot s.blocks p.slot → l ≡ without_child s.blocks_in_region p.slot → IsStored (record s { blocks = x; blocks_in_region = l })
   block_freed p x l e f g = rw (f, g) (left_after (BasicBlock p) e)

@@ -1,37 +1,19 @@
 -- What holds of the nodes of every forest: kids and parents agree, kids stand once, what is linked is live, and what is
 -- live was given out.
-use Rattle.std.proofs.Common.{◌≡◌, ℕ, ◌<◌, true, false, cond, List, [], ◌∷◌, map, Option, Some, None, IsSome, is_some, inl, inr, refl, sym, ap, subst, arith, eqb, eq-eqb}
+use Rattle.std.proofs.Common.{◌≡◌, ℕ, ◌<◌, true, false, cond, List, [], map, Option, Some, None, IsSome, is_some, refl, sym, ap, subst, arith, eqb, eq-eqb}
 use Rattle.std.specs.Prelude.{option_map, nat_lt, nat_le}
 use Rattle.std.proofs.lemmas.Bool.{eqb-true, and_parts, and_from}
 use Rattle.std.proofs.lemmas.Option.{same_Some, none-some}
-use Rattle.plir_store.specs.Lists.{Lists, In, Apart, kids_at, parent_at}
+use Rattle.plir_store.specs.Lists.{Lists, kids_at, parent_at}
 use Rattle.plir_store.specs.Table.{Table, IsTable, content_at, version_at, is_live_at}
 use Rattle.plir_core.specs.declared.ptr.Ptr.{Ptr}
 use Rattle.plir_core.specs.declared.ptr.IRNode.{IRNode}
 use Rattle.plir_core.specs.declared.ptr.IRNode.TheVariants.{Operation, Region, BasicBlock}
-use Rattle.plir_core.specs.NodeLists.{Has, Distinct}
+use Rattle.plir_store.specs.MemberLaws.{Has-map, map-Has, Distinct-map}
+use Rattle.plir_store.specs.Members.{Has, Distinct}
 use Rattle.plir_core.specs.Nodes.{Nodes, ptr_at, is_given_out, is_node_live, was_given_out, node_kids, node_parent}
-use Rattle.plir_core.specs.Forest.{IsListing, IsForest}
+use Rattle.plir_core.specs.Stored.{IsListing, IsStored}
 use Rattle.plir_core.proofs.Listing.{within_content}
-
--- an element of a list of images
-pub Has-map : {A : Type 0} (f : ℕ → A) (xs : List ℕ) (a : A) → Has (map f xs) a → (i : ℕ) × (In i xs × (f i ≡ a))
-Has-map f [] a h = absurd h
-Has-map f (x ∷ xs) a h = elim h [
-  | inl e ↦ (x, (inl refl, e))
-  | inr k ↦ let r = Has-map f xs a k in (r.0, (inr r.1.0, r.1.1))
-]
-
-pub map-Has : {A : Type 0} (f : ℕ → A) (xs : List ℕ) (i : ℕ) → In i xs → Has (map f xs) (f i)
-map-Has f [] i k = absurd k
-map-Has f (x ∷ xs) i k = elim k [ inl e ↦ inl (ap f (sym e)) | inr j ↦ inr (map-Has f xs i j) ]
-
-pub Distinct-map : {A : Type 0} (f : ℕ → A) → ((i j : ℕ) → f i ≡ f j → i ≡ j) → (xs : List ℕ) → Apart xs → Distinct (map f xs)
-Distinct-map f one [] a = tt
-Distinct-map f one (x ∷ xs) a = (
-  λ h. let r = Has-map f xs (f x) h in a.0 (subst (λ z. In z xs) (one r.0 x r.1.1) r.1.0),
-  Distinct-map f one xs a.1,
-)
 
 pub live_parts : {C : Type 0} (t : Table C) (i v : ℕ) → is_live_at t i v ≡ true → IsSome (content_at t i) × (version_at t i ≡ v)
 live_parts t i v e = let r = and_parts (is_some (content_at t i)) (eqb (version_at t i) v) e in (r.0, eqb-true (version_at t i) v r.1)
@@ -115,7 +97,7 @@ given_in t w p e =
     let pos : 0 < version_at t p.slot = w.used p.slot (within_content t p.slot r.0) in
     and_from (nat_lt 0 p.version) (nat_le p.version (version_at t p.slot)) (grind arith) (grind arith)
 
-module _ {O B : Type 0} (s : Nodes O B) (w : IsForest s) where
+module _ {O B : Type 0} (s : Nodes O B) (w : IsStored s) where
   -- a kid's parent is the node
   pub kid-parent : (a x : IRNode) → Has (node_kids s a) x → node_parent s x ≡ Some a
   kid-parent (Operation p) x h = let k = is_kid s.regions_in_op s.regions s.ops w.regions_listed Region Operation p x h in rw k.is k.parent

@@ -1,23 +1,18 @@
 -- One node without kids is freed: what is live, who is whose kid, and that the rest is still a forest.
-use Rattle.std.proofs.Common.{◌≡◌, ℕ, ◌+◌, ◌*◌, ◌<◌, ◌≤◌, Bool, true, false, cond, List, [], ◌∷◌, ◌++◌, map, length, Option, Some, None, IsSome, is_some, ◌⊎◌, inl, inr, refl, sym, ◌∙◌, ap, subst, set, arith, eqb, length-set}
+use Rattle.std.proofs.Common.{◌≡◌, ℕ, Bool, true, false, cond, List, [], ◌∷◌, ◌++◌, map, length, Option, Some, None, IsSome, is_some, ◌⊎◌, inl, inr, refl, sym, ◌∙◌, ap, eqb, length-set}
 use Rattle.std.specs.Prelude.{option_map}
 use Rattle.std.proofs.lemmas.Bool.{cases_eq, and_left}
-use Rattle.std.proofs.lemmas.Option.{same_Some, none-some}
-use Rattle.plir_store.specs.Lists.{Lists, In, IsAgreed, kids_at, parent_at, without, without_child, without_under}
-use Rattle.plir_store.specs.Table.{Table, content_at, version_at, is_live_at, num_full, without_slot}
+use Rattle.plir_store.specs.Lists.{Lists, kids_at, parent_at, without_child}
+use Rattle.plir_store.specs.Table.{Table, content_at, version_at, is_live_at, without_slot}
 use Rattle.plir_core.specs.declared.ptr.Ptr.{Ptr}
 use Rattle.plir_core.specs.declared.ptr.IRNode.{IRNode}
-use Rattle.plir_core.specs.declared.ptr.IRNode.TheVariants.{Operation, Region, BasicBlock}
-use Rattle.plir_core.specs.NodeLists.{Has, Distinct, head}
-use Rattle.plir_core.specs.Above.{IsGrounded}
-use Rattle.plir_core.specs.Nodes.{Nodes, ptr_at, is_given_out, is_node_live, was_given_out, node_kids, node_parent, nodes_under, node_over, num_nodes, op_node, block_node, region_node}
-use Rattle.plir_core.specs.Forest.{Seat, op, region, block, up, most_steps, IsListing, IsForest}
-use Rattle.plir_core.specs.Erase.{without_node}
-use Rattle.plir_core.proofs.Climbs.{IsGrounded-cut}
-use Rattle.plir_core.proofs.Facts.{live_parts, live_at, ptr_is, Has-map, kid-parent, slot_of}
-use Rattle.plir_core.proofs.Depths.{count_without}
-use Rattle.plir_core.proofs.Listing.{IsMoved, IsListing-unlink, IsListing-free_child, IsListing-free_parent, content_without, content_gone, version_without}
+use Rattle.plir_store.specs.Members.{Has}
+use Rattle.plir_core.specs.Nodes.{ptr_at, is_given_out}
+use Rattle.plir_core.specs.Stored.{IsListing}
+use Rattle.plir_core.proofs.Facts.{live_parts, ptr_is}
+use Rattle.plir_core.proofs.Listing.{IsMoved, IsListing-unlink, IsListing-free_child, content_without, content_gone, version_without}
 use Rattle.plir_core.proofs.Removal.{kids_at-without_here, kids_at-without_other, parent_at-without_here, parent_at-without_other, IsAgreed-without, length-parents_without, length-kids_without, map-without, among}
+use Rattle.plir_store.specs.MemberLaws.{Has-map}
 
 -- equal functions on a list, and on an option
 pub map-same : {A : Type 0} (f g : ℕ → A) → ((i : ℕ) → f i ≡ g i) → (xs : List ℕ) → map f xs ≡ map g xs
@@ -62,10 +57,6 @@ wrong_kid true f ks n wrong h = let r = Has-map f ks n h in wrong r.0 r.1.1
 pub map-nil : {A : Type 0} (f : ℕ → A) (ks : List ℕ) → map f ks ≡ [] → ks ≡ []
 map-nil f [] e = refl
 map-nil f (k ∷ ks) e = cc
-
-pub mid_Has : (xs ys : List IRNode) (n : IRNode) → Has (xs ++ n ∷ ys) n
-mid_Has [] ys n = inl refl
-mid_Has (x ∷ xs) ys n = inr (mid_Has xs ys n)
 
 -- a list of kids by first making nodes of other pointers
 pub kids-made : (b : Bool) (f g : ℕ → IRNode) (ks : List ℕ) → ((i : ℕ) → f i ≡ g i) → cond b (map f ks) [] ≡ cond b (map g ks) []

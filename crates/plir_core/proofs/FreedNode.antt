@@ -1,24 +1,25 @@
 -- A live node without kids is freed: every other node is as live as it was and has the parent that it had, its parent's
 -- list is without it, all other lists of kids are as they were, and the nodes left are a forest.
-use Rattle.std.proofs.Common.{◌≡◌, ℕ, ◌+◌, ◌*◌, ◌≤◌, Bool, true, false, cond, List, [], ◌∷◌, ◌++◌, map, length, Option, Some, None, IsSome, ◌⊎◌, inl, inr, refl, sym, ◌∙◌, ap, subst, arith}
+use Rattle.std.proofs.Common.{◌≡◌, ℕ, ◌+◌, Bool, true, false, cond, List, [], ◌∷◌, ◌++◌, map, Some, None, IsSome, ◌⊎◌, inl, inr, refl, sym, ◌∙◌, ap, subst, arith}
 use Rattle.std.specs.Prelude.{option_map}
 use Rattle.std.proofs.lemmas.Bool.{cases_eq}
-use Rattle.std.proofs.lemmas.Option.{none-some}
 use Rattle.plir_store.specs.Lists.{kids_at, parent_at, without_child}
-use Rattle.plir_store.specs.Table.{Table, content_at, version_at, is_live_at, num_full, without_slot}
+use Rattle.plir_store.specs.Table.{content_at, is_live_at, without_slot}
 use Rattle.plir_store.specs.TableLaws.{IsTable-without_slot}
 use Rattle.plir_core.specs.declared.ptr.IRNode.{IRNode}
 use Rattle.plir_core.specs.declared.ptr.IRNode.TheVariants.{Operation, Region, BasicBlock}
-use Rattle.plir_core.specs.NodeLists.{Has}
-use Rattle.plir_core.specs.Nodes.{Nodes, ptr_at, is_node_live, was_given_out, node_kids, node_parent, num_nodes, op_node, block_node, region_node}
-use Rattle.plir_core.specs.Forest.{Seat, op, region, block, seat_of, up, most_steps, IsForest}
+use Rattle.plir_store.specs.Members.{Has}
+use Rattle.plir_core.specs.Nodes.{Nodes, is_node_live, was_given_out, node_kids, node_parent, num_nodes, op_node, block_node, region_node}
+use Rattle.plir_core.specs.Stored.{Seat, op, region, block, seat_of, up, IsStored}
 use Rattle.plir_core.specs.Erase.{without_node}
 use Rattle.plir_core.proofs.Climbs.{IsGrounded-cut}
 use Rattle.plir_core.proofs.Facts.{live_parts, slot_of}
 use Rattle.plir_core.proofs.Depths.{count_without}
 use Rattle.plir_core.proofs.Listing.{IsMoved, IsListing-free_parent, content_without, some_none, content_gone}
 use Rattle.plir_core.proofs.Removal.{parent_at-without_other}
-use Rattle.plir_core.proofs.Freed.{ptr_without, given_without, most_without, live_same, live_none, parent_same, parent-made, kids-made, kids_below, kids_here, kids_other, kids_away, wrong_kid, map-nil, mid_Has, IsListing-without, moved_out}
+use Rattle.plir_core.proofs.Freed.{ptr_without, given_without, most_without, live_same, live_none, parent_same, parent-made, kids_below, kids_here, kids_away, wrong_kid, map-nil, IsListing-without, moved_out}
+use Rattle.plir_core.specs.Measures.{most_steps}
+use Rattle.plir_store.specs.MemberLaws.{Has-mid}
 
 -- what a live node without kids has under it
 under_nil : (b : Bool) (f : ℕ → IRNode) (ks : List ℕ) → b ≡ true → cond b (map f ks) [] ≡ [] → ks ≡ []
@@ -27,7 +28,7 @@ under_nil true f ks e q = map-nil f ks q
 
 module _ {O B : Type 0} where
   -- whether a node is live
-  pub freed-live : (s : Nodes O B) (n m : IRNode) → is_node_live s n ≡ true → (m ≡ n → ⊥) → IsForest s → is_node_live (without_node s n) m ≡ is_node_live s m
+  pub freed-live : (s : Nodes O B) (n m : IRNode) → is_node_live s n ≡ true → (m ≡ n → ⊥) → IsStored s → is_node_live (without_node s n) m ≡ is_node_live s m
   freed-live s (Operation p) (Operation q) e ne w = live_same s.ops_in_block s.ops s.blocks w.ops_listed p e q (λ z. ne (ap Operation z))
   freed-live s (Operation p) (Region q) e ne w = refl
   freed-live s (Operation p) (BasicBlock q) e ne w = refl
@@ -39,7 +40,7 @@ module _ {O B : Type 0} where
   freed-live s (BasicBlock p) (BasicBlock q) e ne w = live_same s.blocks_in_region s.blocks s.regions w.blocks_listed p e q (λ z. ne (ap BasicBlock z))
 
   -- it is no longer live
-  pub freed-dead : (s : Nodes O B) (n : IRNode) → is_node_live s n ≡ true → IsForest s → is_node_live (without_node s n) n ≡ false
+  pub freed-dead : (s : Nodes O B) (n : IRNode) → is_node_live s n ≡ true → IsStored s → is_node_live (without_node s n) n ≡ false
   freed-dead s (Operation p) e w = live_none s.ops_in_block s.ops s.blocks w.ops_listed p e
   freed-dead s (Region p) e w = live_none s.regions_in_op s.regions s.ops w.regions_listed p e
   freed-dead s (BasicBlock p) e w = live_none s.blocks_in_region s.blocks s.regions w.blocks_listed p e
@@ -57,7 +58,7 @@ module _ {O B : Type 0} where
   freed-given s (BasicBlock p) (BasicBlock q) = given_without s.blocks p.slot q
 
   -- parents stay
-  pub freed-parent : (s : Nodes O B) (n m : IRNode) → is_node_live s n ≡ true → (m ≡ n → ⊥) → IsForest s → node_parent (without_node s n) m ≡ node_parent s m
+  pub freed-parent : (s : Nodes O B) (n m : IRNode) → is_node_live s n ≡ true → (m ≡ n → ⊥) → IsStored s → node_parent (without_node s n) m ≡ node_parent s m
   freed-parent s (Operation p) (Operation q) e ne w = parent_same s.ops_in_block s.ops s.blocks w.ops_listed p e (block_node s) q (λ z. ne (ap Operation z))
   freed-parent s (Operation p) (Region q) e ne w = parent-made (is_live_at s.regions q.slot q.version) (op_node (without_node s (Operation p))) (op_node s) (parent_at s.regions_in_op q.slot) (λ i. ap Operation (ptr_without s.ops p.slot i))
   freed-parent s (Operation p) (BasicBlock q) e ne w = refl
@@ -69,19 +70,19 @@ module _ {O B : Type 0} where
   freed-parent s (BasicBlock p) (BasicBlock q) e ne w = parent_same s.blocks_in_region s.blocks s.regions w.blocks_listed p e (region_node s) q (λ z. ne (ap BasicBlock z))
 
   -- the parent's list is without it
-  pub freed-kids_here : (s : Nodes O B) (n m : IRNode) (xs ys : List IRNode) → is_node_live s n ≡ true → IsForest s → node_kids s m ≡ xs ++ n ∷ ys → node_kids (without_node s n) m ≡ xs ++ ys
-  freed-kids_here s (Operation p) (Operation q) xs ys e w k = absurd (wrong_kid (is_node_live s (Operation q)) (region_node s) (kids_at s.regions_in_op q.slot) (Operation p) (λ i z. cc) (subst (λ z. Has z (Operation p)) (sym k) (mid_Has xs ys (Operation p))))
-  freed-kids_here s (Operation p) (Region q) xs ys e w k = absurd (wrong_kid (is_node_live s (Region q)) (block_node s) (kids_at s.blocks_in_region q.slot) (Operation p) (λ i z. cc) (subst (λ z. Has z (Operation p)) (sym k) (mid_Has xs ys (Operation p))))
+  pub freed-kids_here : (s : Nodes O B) (n m : IRNode) (xs ys : List IRNode) → is_node_live s n ≡ true → IsStored s → node_kids s m ≡ xs ++ n ∷ ys → node_kids (without_node s n) m ≡ xs ++ ys
+  freed-kids_here s (Operation p) (Operation q) xs ys e w k = absurd (wrong_kid (is_node_live s (Operation q)) (region_node s) (kids_at s.regions_in_op q.slot) (Operation p) (λ i z. cc) (subst (λ z. Has z (Operation p)) (sym k) (Has-mid xs ys (Operation p))))
+  freed-kids_here s (Operation p) (Region q) xs ys e w k = absurd (wrong_kid (is_node_live s (Region q)) (block_node s) (kids_at s.blocks_in_region q.slot) (Operation p) (λ i z. cc) (subst (λ z. Has z (Operation p)) (sym k) (Has-mid xs ys (Operation p))))
   freed-kids_here s (Operation p) (BasicBlock q) xs ys e w k = kids_here s.ops_in_block s.ops s.blocks w.ops_listed p e Operation (λ i j z. ap slot_of z) (is_live_at s.blocks q.slot q.version) q.slot xs ys k
   freed-kids_here s (Region p) (Operation q) xs ys e w k = kids_here s.regions_in_op s.regions s.ops w.regions_listed p e Region (λ i j z. ap slot_of z) (is_live_at s.ops q.slot q.version) q.slot xs ys k
-  freed-kids_here s (Region p) (Region q) xs ys e w k = absurd (wrong_kid (is_node_live s (Region q)) (block_node s) (kids_at s.blocks_in_region q.slot) (Region p) (λ i z. cc) (subst (λ z. Has z (Region p)) (sym k) (mid_Has xs ys (Region p))))
-  freed-kids_here s (Region p) (BasicBlock q) xs ys e w k = absurd (wrong_kid (is_node_live s (BasicBlock q)) (op_node s) (kids_at s.ops_in_block q.slot) (Region p) (λ i z. cc) (subst (λ z. Has z (Region p)) (sym k) (mid_Has xs ys (Region p))))
-  freed-kids_here s (BasicBlock p) (Operation q) xs ys e w k = absurd (wrong_kid (is_node_live s (Operation q)) (region_node s) (kids_at s.regions_in_op q.slot) (BasicBlock p) (λ i z. cc) (subst (λ z. Has z (BasicBlock p)) (sym k) (mid_Has xs ys (BasicBlock p))))
+  freed-kids_here s (Region p) (Region q) xs ys e w k = absurd (wrong_kid (is_node_live s (Region q)) (block_node s) (kids_at s.blocks_in_region q.slot) (Region p) (λ i z. cc) (subst (λ z. Has z (Region p)) (sym k) (Has-mid xs ys (Region p))))
+  freed-kids_here s (Region p) (BasicBlock q) xs ys e w k = absurd (wrong_kid (is_node_live s (BasicBlock q)) (op_node s) (kids_at s.ops_in_block q.slot) (Region p) (λ i z. cc) (subst (λ z. Has z (Region p)) (sym k) (Has-mid xs ys (Region p))))
+  freed-kids_here s (BasicBlock p) (Operation q) xs ys e w k = absurd (wrong_kid (is_node_live s (Operation q)) (region_node s) (kids_at s.regions_in_op q.slot) (BasicBlock p) (λ i z. cc) (subst (λ z. Has z (BasicBlock p)) (sym k) (Has-mid xs ys (BasicBlock p))))
   freed-kids_here s (BasicBlock p) (Region q) xs ys e w k = kids_here s.blocks_in_region s.blocks s.regions w.blocks_listed p e BasicBlock (λ i j z. ap slot_of z) (is_live_at s.regions q.slot q.version) q.slot xs ys k
-  freed-kids_here s (BasicBlock p) (BasicBlock q) xs ys e w k = absurd (wrong_kid (is_node_live s (BasicBlock q)) (op_node s) (kids_at s.ops_in_block q.slot) (BasicBlock p) (λ i z. cc) (subst (λ z. Has z (BasicBlock p)) (sym k) (mid_Has xs ys (BasicBlock p))))
+  freed-kids_here s (BasicBlock p) (BasicBlock q) xs ys e w k = absurd (wrong_kid (is_node_live s (BasicBlock q)) (op_node s) (kids_at s.ops_in_block q.slot) (BasicBlock p) (λ i z. cc) (subst (λ z. Has z (BasicBlock p)) (sym k) (Has-mid xs ys (BasicBlock p))))
 
   -- every other list of kids stays
-  pub freed-kids : (s : Nodes O B) (n m : IRNode) → is_node_live s n ≡ true → node_kids s n ≡ [] → IsForest s → (node_parent s n ≡ Some m → ⊥) → node_kids (without_node s n) m ≡ node_kids s m
+  pub freed-kids : (s : Nodes O B) (n m : IRNode) → is_node_live s n ≡ true → node_kids s n ≡ [] → IsStored s → (node_parent s n ≡ Some m → ⊥) → node_kids (without_node s n) m ≡ node_kids s m
   freed-kids s (Operation p) (Operation q) e none w away = kids_below s.ops_in_block s.ops s.blocks w.ops_listed p e (λ i. map (region_node s) (kids_at s.regions_in_op i)) (ap (map (region_node s)) (under_nil (is_node_live s (Operation p)) (region_node s) (kids_at s.regions_in_op p.slot) e none)) q
   freed-kids s (Operation p) (Region q) e none w away = refl
   freed-kids s (Operation p) (BasicBlock q) e none w away = kids_away s.ops_in_block s.ops s.blocks w.ops_listed p e Operation (λ i j z. ap slot_of z) BasicBlock q away
@@ -105,7 +106,7 @@ module _ {O B : Type 0} where
   freed-most s (BasicBlock p) = rw (most_without s.blocks p.slot) refl
 
   -- what is right above another seat
-  pub freed-up : (s : Nodes O B) (w : IsForest s) (n : IRNode) (x : Seat) → is_node_live s n ≡ true → (x ≡ seat_of n → ⊥) → up (without_node s n) x ≡ up s x
+  pub freed-up : (s : Nodes O B) (w : IsStored s) (n : IRNode) (x : Seat) → is_node_live s n ≡ true → (x ≡ seat_of n → ⊥) → up (without_node s n) x ≡ up s x
   freed-up s w (Operation p) (op i) live ne = ap (option_map block) (parent_at-without_other s.ops_in_block w.ops_listed.agreed p.slot i (λ e. ne (ap op e)))
   freed-up s w (Operation p) (region i) live ne = refl
   freed-up s w (Operation p) (block i) live ne = refl
@@ -122,8 +123,8 @@ module _ {O B : Type 0} where
   freed-limit s (BasicBlock p) = refl
 
   -- the nodes left are a forest
-  pub freed-forest : (s : Nodes O B) (n : IRNode) → is_node_live s n ≡ true → node_kids s n ≡ [] → IsForest s → IsForest (without_node s n)
-  freed-forest s (Operation p) e none w = record {
+  pub freed-stored : (s : Nodes O B) (n : IRNode) → is_node_live s n ≡ true → node_kids s n ≡ [] → IsStored s → IsStored (without_node s n)
+  freed-stored s (Operation p) e none w = record {
     regions_listed = IsListing-free_parent s.regions_in_op s.regions s.ops w.regions_listed p.slot (under_nil (is_node_live s (Operation p)) (region_node s) (kids_at s.regions_in_op p.slot) e none);
     blocks_listed = w.blocks_listed;
     ops_listed = IsListing-without s.ops_in_block s.ops s.blocks w.ops_listed p e;
@@ -148,7 +149,7 @@ module _ {O B : Type 0} where
         | region i ↦ inl refl
         | block i ↦ inl refl
       ]
-  freed-forest s (Region p) e none w = record {
+  freed-stored s (Region p) e none w = record {
     regions_listed = IsListing-without s.regions_in_op s.regions s.ops w.regions_listed p e;
     blocks_listed = IsListing-free_parent s.blocks_in_region s.blocks s.regions w.blocks_listed p.slot (under_nil (is_node_live s (Region p)) (block_node s) (kids_at s.blocks_in_region p.slot) e none);
     ops_listed = w.ops_listed;
@@ -176,7 +177,7 @@ module _ {O B : Type 0} where
         ]
         | block i ↦ inl refl
       ]
-  freed-forest s (BasicBlock p) e none w = record {
+  freed-stored s (BasicBlock p) e none w = record {
     regions_listed = w.regions_listed;
     blocks_listed = IsListing-without s.blocks_in_region s.blocks s.regions w.blocks_listed p e;
     ops_listed = IsListing-free_parent s.ops_in_block s.ops s.blocks w.ops_listed p.slot (under_nil (is_node_live s (BasicBlock p)) (op_node s) (kids_at s.ops_in_block p.slot) e none);

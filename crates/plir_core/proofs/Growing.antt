@@ -5,7 +5,7 @@ use Rattle.plir_core.specs.declared.ptr.IRNode.{IRNode}
 use Rattle.plir_core.specs.declared.ptr.IRNode.TheVariants.{Operation, Region, BasicBlock}
 use Rattle.plir_core.specs.Above.{climb, Reaches}
 use Rattle.plir_core.specs.Nodes.{Nodes, is_node_live, was_given_out, node_parent}
-use Rattle.plir_core.specs.Forest.{IsForest}
+use Rattle.plir_core.specs.Stored.{IsStored}
 use Rattle.plir_core.specs.Made.{KeepsLive}
 use Rattle.plir_core.specs.Placed.{MovesOnly}
 use Rattle.plir_core.specs.Grown.{PlacedIsGrown, RegionIsGrown, GrownTwice, MadeAndGrown, Growth}
@@ -79,7 +79,7 @@ module _ {O B : Type 0} where
   }
 
   -- what is reached stays reached
-  kept_reached : (s t : Nodes O B) → IsForest s → KeepsLive s t → (m n : IRNode) → is_node_live s m ≡ true → Reaches (node_parent s) m n → Reaches (node_parent t) m n
+  kept_reached : (s t : Nodes O B) → IsStored s → KeepsLive s t → (m n : IRNode) → is_node_live s m ≡ true → Reaches (node_parent s) m n → Reaches (node_parent t) m n
   kept_reached s t w k m n e r = (r.0, climb_kept s t w k r.0 m n e r.1)
 
   not_given_before : (s t : Nodes O B) → KeepsLive s t → (m : IRNode) → was_given_out t m ≡ false → was_given_out s m ≡ false
@@ -102,7 +102,7 @@ module _ {O B : Type 0} where
     ];
   }
 
-  pub made_grown : (s : Nodes O B) → IsForest s → MadeAndGrown s
+  pub made_grown : (s : Nodes O B) → IsStored s → MadeAndGrown s
   made_grown s v t u n over w m here new x = record {
     keeps = KeepsLive-on s t u m.keeps x.keeps;
     kids = λ y e. x.kids y (m.keeps.live y e) (differs s y over e new) ∙ m.kids y e;
@@ -120,5 +120,5 @@ module _ {O B : Type 0} where
     apart = apart_new s u v (KeepsLive-on s t u m.keeps x.keeps) n m.new;
   }
 
-  pub growth : (s : Nodes O B) → IsForest s → Growth s
+  pub growth : (s : Nodes O B) → IsStored s → Growth s
   growth s w = record { placed = placed_grown s; region = region_grown s; twice = grown_twice s; made = made_grown s w; unmade = λ t u n m x. SameNodes-unmade s t u w n m x }

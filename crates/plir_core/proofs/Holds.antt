@@ -27,13 +27,13 @@ use Rattle.plir_data.specs.AttrView.{AttrView, leaf, dict, vec, Items, no_items,
 use Rattle.plir_data.specs.AttrLive.{leaf_handles, IsAttrLive, HandlesLive, AreItemsLive, AreEntriesLive}
 use Rattle.plir_core.specs.Contents.{OpView, BlockView}
 use Rattle.plir_core.specs.Nodes.{Nodes, ptr_at, is_node_live}
-use Rattle.plir_core.specs.Forest.{IsForest}
+use Rattle.plir_core.specs.Stored.{IsStored}
 use Rattle.plir_core.specs.Edits.{empty, SameNodes, with_new_op, with_new_block, with_new_region, with_new_regions}
 use Rattle.plir_core.specs.Store.{Store, IsLive, IsValueLive, is_live, entity_node, types_from, result_types_of, arg_types_of}
 use Rattle.plir_core.specs.Whole.{OpHoldsLive, BlockHoldsLive, HoldsLive, IsWhole}
 use Rattle.plir_core.proofs.Listing.{within_content, content_new_other, version_new_other, not_next, some_none}
 use Rattle.plir_core.proofs.Seats.{live_some, live_version, some_live}
-use Rattle.plir_core.proofs.Changes.{content_held, IsForest-held_op, IsForest-held_block}
+use Rattle.plir_core.proofs.Changes.{content_held, IsStored-held_op, IsStored-held_block}
 use Rattle.plir_store.specs.TableLaws.{cell_at-with_new, cell_at-with_content, cell_at-with_content_other}
 use Rattle.plir_core.specs.Changes.{with_op_content, with_block_content}
 
@@ -173,48 +173,48 @@ module _ {K A T : Type 0} where
         holds_kept s s' k h (λ o v e. inl (rw eo at e)) (λ b v e. inl (rw eb at e))
 
     -- The changes of a context, where s is made of the fields.
-    pub whole_linked : (s : Store K A T) → IsWhole own s → (n : Nodes (OpView K A) (BlockView A)) → n.ops ≡ s.nodes.ops → n.blocks ≡ s.nodes.blocks → IsForest n → IsWhole own (record s { nodes = n })
-    whole_linked s w n eo eb f = record { forest = f; holds = holds_linked s n eo eb w.holds }
+    pub whole_linked : (s : Store K A T) → IsWhole own s → (n : Nodes (OpView K A) (BlockView A)) → n.ops ≡ s.nodes.ops → n.blocks ≡ s.nodes.blocks → IsStored n → IsWhole own (record s { nodes = n })
+    whole_linked s w n eo eb f = record { stored = f; holds = holds_linked s n eo eb w.holds }
 
-    pub op_linked : (s : Store K A T) → IsWhole own s → (n : Nodes (OpView K A) (BlockView A)) (l : Lists) → n ≡ record s.nodes { ops_in_block = l } → IsForest n → IsWhole own (record s { nodes = n })
+    pub op_linked : (s : Store K A T) → IsWhole own s → (n : Nodes (OpView K A) (BlockView A)) (l : Lists) → n ≡ record s.nodes { ops_in_block = l } → IsStored n → IsWhole own (record s { nodes = n })
     op_linked s w n l e f = whole_linked s w n (ap (λ (z : Nodes (OpView K A) (BlockView A)). z.ops) e) (ap (λ (z : Nodes (OpView K A) (BlockView A)). z.blocks) e) f
 
-    pub block_linked : (s : Store K A T) → IsWhole own s → (n : Nodes (OpView K A) (BlockView A)) (l : Lists) → n ≡ record s.nodes { blocks_in_region = l } → IsForest n → IsWhole own (record s { nodes = n })
+    pub block_linked : (s : Store K A T) → IsWhole own s → (n : Nodes (OpView K A) (BlockView A)) (l : Lists) → n ≡ record s.nodes { blocks_in_region = l } → IsStored n → IsWhole own (record s { nodes = n })
     block_linked s w n l e f = whole_linked s w n (ap (λ (z : Nodes (OpView K A) (BlockView A)). z.ops) e) (ap (λ (z : Nodes (OpView K A) (BlockView A)). z.blocks) e) f
 
     -- a new region
-    pub region_added : (s : Store K A T) → IsWhole own s → (n : Nodes (OpView K A) (BlockView A)) (o : ℕ) → n ≡ with_new_region s.nodes o → IsForest n → IsWhole own (record s { nodes = n })
+    pub region_added : (s : Store K A T) → IsWhole own s → (n : Nodes (OpView K A) (BlockView A)) (o : ℕ) → n ≡ with_new_region s.nodes o → IsStored n → IsWhole own (record s { nodes = n })
     region_added s w n o e f = whole_linked s w n (ap (λ (z : Nodes (OpView K A) (BlockView A)). z.ops) e) (ap (λ (z : Nodes (OpView K A) (BlockView A)). z.blocks) e) f
 
-    pub block_made : (s : Store K A T) → IsWhole own s → (n : Nodes (OpView K A) (BlockView A)) (v : BlockView A) → n ≡ with_new_block s.nodes v → IsForest n → content_at (with_new s.nodes.blocks v) (next_slot s.nodes.blocks) ≡ Some v → BlockHoldsLive own s v → IsWhole own (record s { nodes = n })
+    pub block_made : (s : Store K A T) → IsWhole own s → (n : Nodes (OpView K A) (BlockView A)) (v : BlockView A) → n ≡ with_new_block s.nodes v → IsStored n → content_at (with_new s.nodes.blocks v) (next_slot s.nodes.blocks) ≡ Some v → BlockHoldsLive own s v → IsWhole own (record s { nodes = n })
     block_made s w n v e f here h =
         let s' : Store K A T = record s { nodes = n } in
         let k : IsKept s s' = record {
           ops = λ p q. rw e (q, omega arith);
-          blocks = λ p q. let x = live_new s.nodes.blocks v w.forest.block_slots p.slot p.version q in rw e (x.1, rw x.0 (omega arith));
+          blocks = λ p q. let x = live_new s.nodes.blocks v w.stored.block_slots p.slot p.version q in rw e (x.1, rw x.0 (omega arith));
           types = λ t q. q;
         } in
         record {
-          forest = f;
+          stored = f;
           holds = holds_kept s s' k w.holds (λ o u q. inl (rw e at q)) (λ b u q. elim (content_new s.nodes.blocks v b u here (rw e at q)) [
             | inl x ↦ inl x
             | inr x ↦ inr (subst (BlockHoldsLive own s') x (block_kept s s' k v h))
           ]);
         }
 
-    pub op_made : (s : Store K A T) → IsWhole own s → (n : Nodes (OpView K A) (BlockView A)) (v : OpView K A) (o k : ℕ) → n ≡ with_new_regions (with_new_op s.nodes v) o k → IsForest n → OpHoldsLive own s v → IsWhole own (record s { nodes = n })
+    pub op_made : (s : Store K A T) → IsWhole own s → (n : Nodes (OpView K A) (BlockView A)) (v : OpView K A) (o k : ℕ) → n ≡ with_new_regions (with_new_op s.nodes v) o k → IsStored n → OpHoldsLive own s v → IsWhole own (record s { nodes = n })
     op_made s w n v o k e f h =
         let s' : Store K A T = record s { nodes = n } in
         let eo : n.ops ≡ with_new s.nodes.ops v = ap (λ (z : Nodes (OpView K A) (BlockView A)). z.ops) e ∙ ops-with_new_regions (with_new_op s.nodes v) o k in
         let eb : n.blocks ≡ s.nodes.blocks = ap (λ (z : Nodes (OpView K A) (BlockView A)). z.blocks) e ∙ blocks-with_new_regions (with_new_op s.nodes v) o k in
-        let here : content_at (with_new s.nodes.ops v) (next_slot s.nodes.ops) ≡ Some v = ap (λ (z : Cell (OpView K A)). z.content) (cell_at-with_new s.nodes.ops v w.forest.op_slots) in
+        let here : content_at (with_new s.nodes.ops v) (next_slot s.nodes.ops) ≡ Some v = ap (λ (z : Cell (OpView K A)). z.content) (cell_at-with_new s.nodes.ops v w.stored.op_slots) in
         let k : IsKept s s' = record {
-          ops = λ p q. let x = live_new s.nodes.ops v w.forest.op_slots p.slot p.version q in rw eo (x.1, rw x.0 (omega arith));
+          ops = λ p q. let x = live_new s.nodes.ops v w.stored.op_slots p.slot p.version q in rw eo (x.1, rw x.0 (omega arith));
           blocks = λ p q. rw eb (q, omega arith);
           types = λ t q. q;
         } in
         record {
-          forest = f;
+          stored = f;
           holds = holds_kept s s' k w.holds (λ b u q. elim (content_new s.nodes.ops v b u here (rw eo at q)) [
             | inl x ↦ inl x
             | inr x ↦ inr (subst (OpHoldsLive own s') x (op_kept s s' k v h))
@@ -222,7 +222,7 @@ module _ {K A T : Type 0} where
         }
 
     -- no live node has changed
-    pub whole_same : (s : Store K A T) → IsWhole own s → (n : Nodes (OpView K A) (BlockView A)) → SameNodes s.nodes n → IsForest n → IsWhole own (record s { nodes = n })
+    pub whole_same : (s : Store K A T) → IsWhole own s → (n : Nodes (OpView K A) (BlockView A)) → SameNodes s.nodes n → IsStored n → IsWhole own (record s { nodes = n })
     whole_same s w n x f =
         let s' : Store K A T = record s { nodes = n } in
         let k : IsKept s s' = record {
@@ -231,7 +231,7 @@ module _ {K A T : Type 0} where
           types = λ t q. q;
         } in
         record {
-          forest = f;
+          stored = f;
           holds = holds_kept s s' k w.holds (λ o u q. inl (old_op o u q)) (λ b u q. inl (old_block b u q));
         }
       where
@@ -246,8 +246,8 @@ module _ {K A T : Type 0} where
             sym (x.blocks (ptr_at n.blocks b) (sym (x.live (BasicBlock (ptr_at n.blocks b))) ∙ live)) ∙ q
 
     -- what an operation or a block holds is replaced
-    pub op_replaced : (s : Store K A T) → IsWhole own s → (n : Nodes (OpView K A) (BlockView A)) (i : ℕ) (u v : OpView K A) → n ≡ record s.nodes { ops = with_content s.nodes.ops i v } → IsForest n → content_at s.nodes.ops i ≡ Some u → v.result_types ≡ u.result_types → OpHoldsLive own s v → IsWhole own (record s { nodes = n })
-    op_replaced s w n i u v e f was same h = rw e (record { forest = rw e at f; holds = holds })
+    pub op_replaced : (s : Store K A T) → IsWhole own s → (n : Nodes (OpView K A) (BlockView A)) (i : ℕ) (u v : OpView K A) → n ≡ record s.nodes { ops = with_content s.nodes.ops i v } → IsStored n → content_at s.nodes.ops i ≡ Some u → v.result_types ≡ u.result_types → OpHoldsLive own s v → IsWhole own (record s { nodes = n })
+    op_replaced s w n i u v e f was same h = rw e (record { stored = rw e at f; holds = holds })
       where
         some : IsSome (content_at s.nodes.ops i)
         some = rw was refl
@@ -265,8 +265,8 @@ module _ {K A T : Type 0} where
           | inr g ↦ inl (sym g ∙ q)
         ]) (λ b z q. inl q)
 
-    pub block_replaced : (s : Store K A T) → IsWhole own s → (n : Nodes (OpView K A) (BlockView A)) (i : ℕ) (u v : BlockView A) → n ≡ record s.nodes { blocks = with_content s.nodes.blocks i v } → IsForest n → content_at s.nodes.blocks i ≡ Some u → v.arg_types ≡ u.arg_types → BlockHoldsLive own s v → IsWhole own (record s { nodes = n })
-    block_replaced s w n i u v e f was same h = rw e (record { forest = rw e at f; holds = holds })
+    pub block_replaced : (s : Store K A T) → IsWhole own s → (n : Nodes (OpView K A) (BlockView A)) (i : ℕ) (u v : BlockView A) → n ≡ record s.nodes { blocks = with_content s.nodes.blocks i v } → IsStored n → content_at s.nodes.blocks i ≡ Some u → v.arg_types ≡ u.arg_types → BlockHoldsLive own s v → IsWhole own (record s { nodes = n })
+    block_replaced s w n i u v e f was same h = rw e (record { stored = rw e at f; holds = holds })
       where
         some : IsSome (content_at s.nodes.blocks i)
         some = rw was refl
@@ -285,9 +285,9 @@ module _ {K A T : Type 0} where
         ])
 
     -- no nodes
-    pub whole_empty : (n : Nodes (OpView K A) (BlockView A)) (ts : List (TypeView T)) (m : ℕ) → n ≡ empty m → IsForest n → IsWhole own (record { nodes = n; types = ts })
+    pub whole_empty : (n : Nodes (OpView K A) (BlockView A)) (ts : List (TypeView T)) (m : ℕ) → n ≡ empty m → IsStored n → IsWhole own (record { nodes = n; types = ts })
     whole_empty n ts m e f = record {
-      forest = f;
+      stored = f;
       holds = record {
         ops = λ o v q. absurd (none-some v (ap (λ (z : Nodes (OpView K A) (BlockView A)). content_at z.ops o) (sym e) ∙ q));
         blocks = λ b v q. absurd (none-some v (ap (λ (z : Nodes (OpView K A) (BlockView A)). content_at z.blocks b) (sym e) ∙ q));
@@ -299,7 +299,7 @@ module _ {K A T : Type 0} where
     whole_typed s w ts more =
         let s' : Store K A T = record { nodes = s.nodes; types = ts } in
         let k : IsKept s s' = record { ops = λ p e. (e, omega arith); blocks = λ p e. (e, omega arith); types = more } in
-        record { forest = w.forest; holds = holds_kept s s' k w.holds (λ o v e. inl e) (λ b v e. inl e) }
+        record { stored = w.stored; holds = holds_kept s s' k w.holds (λ o v e. inl e) (λ b v e. inl e) }
 
     pub whole_instantiated : (s : Store K A T) → IsWhole own s → (ts : List (TypeView T)) (ty : TypeView T) (h : ℕ) → IsInstantiated s.types ty h ts → IsWhole own (record { nodes = s.nodes; types = ts })
     whole_instantiated s w ts ty h i = whole_typed s w ts (λ k l. types_grown_in s.types ts ty k l i.grown)
@@ -309,14 +309,14 @@ module _ {K A T : Type 0} where
       handles_live : (hs : List ℕ) → AllLive t.types hs → AllLive s.types hs
       handles_live hs a = subst (λ (z : Store K A T). AllLive z.types hs) (sym view) a
 
-      pub block_new : (n : Nodes (OpView K A) (BlockView A)) (l : Option (List ℕ)) (ts : List ℕ) (es : List (List ℕ × AttrView A)) → n ≡ with_new_block s.nodes (record { label = l; arg_types = ts; attributes = es }) → es ≡ [] → IsForest n → AllLive t.types ts → IsWhole own (record s { nodes = n })
+      pub block_new : (n : Nodes (OpView K A) (BlockView A)) (l : Option (List ℕ)) (ts : List ℕ) (es : List (List ℕ × AttrView A)) → n ≡ with_new_block s.nodes (record { label = l; arg_types = ts; attributes = es }) → es ≡ [] → IsStored n → AllLive t.types ts → IsWhole own (record s { nodes = n })
       block_new n l ts es e q f a =
-          block_made s w n (record { label = l; arg_types = ts; attributes = es }) e f (ap (λ (z : Cell (BlockView A)). z.content) (cell_at-with_new s.nodes.blocks _ w.forest.block_slots)) (record {
+          block_made s w n (record { label = l; arg_types = ts; attributes = es }) e f (ap (λ (z : Cell (BlockView A)). z.content) (cell_at-with_new s.nodes.blocks _ w.stored.block_slots)) (record {
             arg_types = handles_live ts a;
             attributes = rw q (All-nil (λ x. IsAttrLive own s.types x.1));
           })
 
-      pub op_new : (n : Nodes (OpView K A) (BlockView A)) (k : OpKind K) (rs : List ℕ) (us : List Value) (bs : List (Ptr BasicBlockKind)) (es : List (List ℕ × AttrView A)) (l : Location) (o m : ℕ) → n ≡ with_new_regions (with_new_op s.nodes (record { kind = k; result_types = rs; operands = us; successors = bs; attributes = es; location = l })) o m → HandlesLive own t.types es → IsForest n → AllLive t.types rs → All (IsValueLive t) us → All (λ b. IsLive t (BasicBlock b)) bs → IsWhole own (record s { nodes = n })
+      pub op_new : (n : Nodes (OpView K A) (BlockView A)) (k : OpKind K) (rs : List ℕ) (us : List Value) (bs : List (Ptr BasicBlockKind)) (es : List (List ℕ × AttrView A)) (l : Location) (o m : ℕ) → n ≡ with_new_regions (with_new_op s.nodes (record { kind = k; result_types = rs; operands = us; successors = bs; attributes = es; location = l })) o m → HandlesLive own t.types es → IsStored n → AllLive t.types rs → All (IsValueLive t) us → All (λ b. IsLive t (BasicBlock b)) bs → IsWhole own (record s { nodes = n })
       op_new n k rs us bs es l o m e q f ra ua ba =
           op_made s w n (record { kind = k; result_types = rs; operands = us; successors = bs; attributes = es; location = l }) o m e f (record {
             operands = subst (λ (z : Store K A T). All (IsValueLive z) us) (sym view) ua;
@@ -332,7 +332,7 @@ module _ {K A T : Type 0} where
       pub op_attr_set : (p : Ptr OperationKind) (u : OpView K A) (fs : List (List ℕ × AttrView A)) (k : List ℕ) (v : AttrView A) → IsLive t (Operation p) → content_at s.nodes.ops p.slot ≡ Some u → (fs ≡ dict_put u.attributes k v) ⊎ (fs ≡ u.attributes) → IsAttrLive own t.types v → IsWhole own (record s { nodes = record s.nodes { ops = with_content s.nodes.ops p.slot (record u { attributes = fs }) } })
       op_attr_set p u fs k v live was put h =
           let x = w.holds.ops p.slot u was in
-          op_replaced s w (record s.nodes { ops = with_content s.nodes.ops p.slot (record u { attributes = fs }) }) p.slot u (record u { attributes = fs }) refl (IsForest-held_op s.nodes w.forest p.slot (record u { attributes = fs }) (rw was refl)) was refl (record {
+          op_replaced s w (record s.nodes { ops = with_content s.nodes.ops p.slot (record u { attributes = fs }) }) p.slot u (record u { attributes = fs }) refl (IsStored-held_op s.nodes w.stored p.slot (record u { attributes = fs }) (rw was refl)) was refl (record {
             operands = x.operands;
             successors = x.successors;
             result_types = x.result_types;
@@ -342,7 +342,7 @@ module _ {K A T : Type 0} where
       pub block_attr_set : (p : Ptr BasicBlockKind) (u : BlockView A) (fs : List (List ℕ × AttrView A)) (k : List ℕ) (v : AttrView A) → IsLive t (BasicBlock p) → content_at s.nodes.blocks p.slot ≡ Some u → (fs ≡ dict_put u.attributes k v) ⊎ (fs ≡ u.attributes) → IsAttrLive own t.types v → IsWhole own (record s { nodes = record s.nodes { blocks = with_content s.nodes.blocks p.slot (record u { attributes = fs }) } })
       block_attr_set p u fs k v live was put h =
           let x = w.holds.blocks p.slot u was in
-          block_replaced s w (record s.nodes { blocks = with_content s.nodes.blocks p.slot (record u { attributes = fs }) }) p.slot u (record u { attributes = fs }) refl (IsForest-held_block s.nodes w.forest p.slot (record u { attributes = fs }) (rw was refl)) was refl (record {
+          block_replaced s w (record s.nodes { blocks = with_content s.nodes.blocks p.slot (record u { attributes = fs }) }) p.slot u (record u { attributes = fs }) refl (IsStored-held_block s.nodes w.stored p.slot (record u { attributes = fs }) (rw was refl)) was refl (record {
             arg_types = x.arg_types;
             attributes = put_live u.attributes fs k v put h x.attributes;
           })

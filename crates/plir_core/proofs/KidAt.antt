@@ -5,15 +5,9 @@ use Rattle.std.proofs.lemmas.List.{take-append-drop}
 use Rattle.std.proofs.lemmas.Option.{same_Some, none-some, get_or_from_slice_get, slice_get_within}
 use Rattle.std.proofs.Math.Seq.{drop-cons}
 use Rattle.plir_core.specs.declared.ptr.IRNode.{IRNode}
-use Rattle.plir_core.specs.NodeLists.{Has}
+use Rattle.plir_store.specs.Members.{Has}
 use Rattle.plir_core.specs.Store.{Store, kids}
 use Rattle.plir_core.specs.Unused.{kid_at}
-
--- what stands at a place of a list is in it
-pub Has_get : {A : Type 0} (xs : List A) (i : ℕ) (x : A) → slice_get xs i ≡ Some x → Has xs x
-Has_get [] i x e = absurd (none-some x e)
-Has_get (y ∷ ys) zero x e = inl (same_Some y x e)
-Has_get (y ∷ ys) (suc i) x e = inr (Has_get ys i x e)
 
 -- a list is what stands before a place, at it and after it
 pub parted_at : {A : Type 0} (xs : List A) (i : ℕ) (x : A) → slice_get xs i ≡ Some x → xs ≡ take i xs ++ x ∷ drop (suc i) xs

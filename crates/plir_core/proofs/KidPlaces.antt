@@ -2,16 +2,17 @@
 use Rattle.std.proofs.Common.{◌≡◌, ℕ, zero, suc, ◌+◌, Bool, true, false, cond, List, [], ◌∷◌, ◌++◌, map, length, Option, Some, None, refl, sym, ◌∙◌, ap, subst, add-one}
 use Rattle.std.specs.Prelude.{option_map, slice_get}
 use Rattle.std.proofs.lemmas.Option.{same_Some, none-some}
-use Rattle.plir_store.specs.Lists.{Lists, kids_at, first_of, next_of}
+use Rattle.plir_store.specs.Lists.{Lists, kids_at, next_of}
 use Rattle.plir_store.specs.Table.{Table, version_at, is_live_at}
 use Rattle.plir_core.specs.declared.ptr.Ptr.{Ptr}
 use Rattle.plir_core.specs.declared.ptr.IRNode.{IRNode}
 use Rattle.plir_core.specs.declared.ptr.IRNode.TheVariants.{Operation, Region, BasicBlock}
-use Rattle.plir_core.specs.NodeLists.{head}
+use Rattle.plir_store.specs.Members.{head}
 use Rattle.plir_core.specs.Nodes.{Nodes, ptr_at, op_node, region_node, block_node, is_node_live, node_kids, node_first, node_next}
-use Rattle.plir_core.specs.Forest.{IsListing, IsForest}
+use Rattle.plir_core.specs.Stored.{IsListing, IsStored}
 use Rattle.plir_core.proofs.Facts.{live_at}
-use Rattle.plir_core.proofs.Siblings.{In_get, next_at}
+use Rattle.plir_core.proofs.Siblings.{next_at}
+use Rattle.plir_store.specs.MemberLaws.{Has-at}
 
 map_get : {A : Type 0} (f : ℕ → A) (xs : List ℕ) (i : ℕ) → slice_get (map f xs) i ≡ option_map f (slice_get xs i)
 map_get f [] i = refl
@@ -29,10 +30,10 @@ module _ {C P X : Type 0} (l : Lists) (t : Table C) (u : Table P) (w : IsListing
   after_in true p i x e =
       let f : ℕ → IRNode = λ j. child (ptr_at t j) in
       let r = map_got f (slice_get (kids_at l p) i) x (sym (map_get f (kids_at l p) i) ∙ e) in
-      let live = live_at t r.0 ((w.linked_live r.0 p (w.agreed.owned p r.0 (In_get (kids_at l p) i r.0 r.1.0))).0) in
+      let live = live_at t r.0 ((w.linked_live r.0 p (w.agreed.owned p r.0 (Has-at (kids_at l p) i r.0 r.1.0))).0) in
       (r.0, (r.1.1, (live, ap (option_map f) (next_at l w.agreed p i r.0 r.1.0) ∙ sym (map_get f (kids_at l p) (i + 1)))))
 
-module _ {O B : Type 0} (s : Nodes O B) (w : IsForest s) where
+module _ {O B : Type 0} (s : Nodes O B) (w : IsStored s) where
   -- what follows the kid at a place is the kid at the next place
   pub next-place : (a x : IRNode) (i : ℕ) → slice_get (node_kids s a) i ≡ Some x → node_next s x ≡ slice_get (node_kids s a) (i + 1)
   next-place (Operation p) x i e =
@@ -55,7 +56,7 @@ get_behind [] [] x = refl
 get_behind [] (y ∷ ys) x = refl
 get_behind (z ∷ zs) ys x = get_behind zs ys x
 
-module _ {O B : Type 0} (s : Nodes O B) (w : IsForest s) where
+module _ {O B : Type 0} (s : Nodes O B) (w : IsStored s) where
   pub next-behind : (a x : IRNode) (xs ys : List IRNode) → node_kids s a ≡ xs ++ x ∷ ys → node_next s x ≡ head ys
   next-behind a x xs ys e =
       next-place s w a x (length xs) (ap (λ z. slice_get z (length xs)) e ∙ get_mid xs ys x)
@@ -68,7 +69,7 @@ front : {A : Type 0} (xs : List A) → head xs ≡ slice_get xs 0
 front [] = refl
 front (x ∷ xs) = refl
 
-first_in : (f : ℕ → IRNode) (b : Bool) (xs : List ℕ) → cond b (option_map f (first_of xs)) None ≡ head (cond b (map f xs) [])
+first_in : (f : ℕ → IRNode) (b : Bool) (xs : List ℕ) → cond b (option_map f (head xs)) None ≡ head (cond b (map f xs) [])
 first_in f true [] = refl
 first_in f true (x ∷ xs) = refl
 first_in f false xs = refl

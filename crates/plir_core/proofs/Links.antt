@@ -4,7 +4,7 @@ use Rattle.std.specs.Prelude.{option_map}
 use Rattle.std.proofs.lemmas.Bool.{cases_eq, ne_eqb}
 use Rattle.std.proofs.lemmas.List.{get_or-set_same, get_or-set_other, map-append}
 use Rattle.std.proofs.lemmas.Option.{same_Some, none-some}
-use Rattle.plir_store.specs.Lists.{Lists, In, Apart, kids_at, parent_at, put_in, put_in_after, without, with_first, with_last, with_before, with_after, with_before_under, with_after_under, without_child}
+use Rattle.plir_store.specs.Lists.{Lists, kids_at, parent_at, put_in, put_in_after, without, with_first, with_last, with_before, with_after, with_before_under, with_after_under, without_child}
 use Rattle.plir_store.specs.Table.{Table, content_at, is_live_at}
 use Rattle.plir_core.specs.declared.ptr.Ptr.{Ptr}
 use Rattle.plir_core.specs.declared.ptr.Operation.{Operation as OperationKind}
@@ -12,19 +12,20 @@ use Rattle.plir_core.specs.declared.ptr.Region.{Region as RegionKind}
 use Rattle.plir_core.specs.declared.ptr.BasicBlock.{BasicBlock as BlockKind}
 use Rattle.plir_core.specs.declared.ptr.IRNode.{IRNode}
 use Rattle.plir_core.specs.declared.ptr.IRNode.TheVariants.{Operation, Region, BasicBlock}
-use Rattle.plir_core.specs.NodeLists.{Has}
+use Rattle.plir_store.specs.Members.{Has, Distinct}
 use Rattle.plir_core.specs.Nodes.{Nodes, ptr_at, is_node_live, node_kids, node_parent, op_node, block_node, region_node}
-use Rattle.plir_core.specs.Forest.{IsListing, IsForest}
+use Rattle.plir_core.specs.Stored.{IsListing, IsStored}
 use Rattle.plir_core.specs.Placed.{IsPlaced, IsUnlinked}
 use Rattle.plir_core.proofs.Facts.{live_parts, ptr_is, kid-parent, parent-live, slot_of}
-use Rattle.plir_core.proofs.Freed.{bool_cases, ptr_one, wrong_kid, mid_Has}
+use Rattle.plir_core.proofs.Freed.{bool_cases, ptr_one, wrong_kid}
 use Rattle.plir_core.proofs.Listing.{within_content}
 use Rattle.plir_core.proofs.Removal.{among, map-without, kids_at-without_here, kids_at-without_other, parent_at-without_here, parent_at-without_other}
+use Rattle.plir_store.specs.MemberLaws.{Has-mid}
 
 -- f gives each number an image of its own
 module _ {A : Type 0} (f : ℕ → A) (one : (i j : ℕ) → f i ≡ f j → i ≡ j) (c m : ℕ) where
   -- the images of a list with c before m, and after m
-  pub map-put_in : (ks : List ℕ) (xs ys : List A) → Apart ks → map f ks ≡ xs ++ f m ∷ ys → map f (put_in c m ks) ≡ xs ++ f c ∷ f m ∷ ys
+  pub map-put_in : (ks : List ℕ) (xs ys : List A) → Distinct ks → map f ks ≡ xs ++ f m ∷ ys → map f (put_in c m ks) ≡ xs ++ f c ∷ f m ∷ ys
   map-put_in [] [] ys a e = cc
   map-put_in [] (x ∷ xs) ys a e = cc
   map-put_in (k ∷ ks) [] ys a e =
@@ -34,11 +35,11 @@ module _ {A : Type 0} (f : ℕ → A) (one : (i j : ℕ) → f i ≡ f j → i �
       let h : f k ≡ x = cc in
       let t : map f ks ≡ xs ++ f m ∷ ys = cc in
       elim (cases_eq k m) [
-        | inl q ↦ absurd (a.0 (subst (λ z. In z ks) (sym q) (among f one m ks xs ys t)))
+        | inl q ↦ absurd (a.0 (subst (λ z. Has ks z) (sym q) (among f one m ks xs ys t)))
         | inr n ↦ rw (ne_eqb k m n, h, map-put_in ks xs ys a.1 t) refl
       ]
 
-  pub map-put_in_after : (ks : List ℕ) (xs ys : List A) → Apart ks → map f ks ≡ xs ++ f m ∷ ys → map f (put_in_after c m ks) ≡ xs ++ f m ∷ f c ∷ ys
+  pub map-put_in_after : (ks : List ℕ) (xs ys : List A) → Distinct ks → map f ks ≡ xs ++ f m ∷ ys → map f (put_in_after c m ks) ≡ xs ++ f m ∷ f c ∷ ys
   map-put_in_after [] [] ys a e = cc
   map-put_in_after [] (x ∷ xs) ys a e = cc
   map-put_in_after (k ∷ ks) [] ys a e =
@@ -49,7 +50,7 @@ module _ {A : Type 0} (f : ℕ → A) (one : (i j : ℕ) → f i ≡ f j → i �
       let h : f k ≡ x = cc in
       let t : map f ks ≡ xs ++ f m ∷ ys = cc in
       elim (cases_eq k m) [
-        | inl q ↦ absurd (a.0 (subst (λ z. In z ks) (sym q) (among f one m ks xs ys t)))
+        | inl q ↦ absurd (a.0 (subst (λ z. Has ks z) (sym q) (among f one m ks xs ys t)))
         | inr n ↦ rw (ne_eqb k m n, h, map-put_in_after ks xs ys a.1 t) refl
       ]
 
@@ -164,7 +165,7 @@ module _ {C P X Y : Type 0} (l : Lists) (t : Table C) (u : Table P) (w : IsListi
     | inr f ↦ rw f refl
   ]
 
-module _ {O B : Type 0} (s : Nodes O B) (w : IsForest s) where
+module _ {O B : Type 0} (s : Nodes O B) (w : IsStored s) where
   op_within : (o : Ptr OperationKind) → is_node_live s (Operation o) ≡ true → o.slot < length s.ops_in_block.parents
   op_within o live = let h = within_content s.ops o.slot ((live_parts s.ops o.slot o.version live).0) in omega (arith, w.ops_listed.child_places)
 
@@ -237,8 +238,8 @@ module _ {O B : Type 0} (s : Nodes O B) (w : IsForest s) where
     };
     parent = rw (live, parent_at-without_here s.ops_in_block w.ops_listed.agreed o.slot) refl;
     kids_over = elim [
-      | Operation q ↦ λ xs ys e. absurd (wrong_kid (is_node_live s (Operation q)) (region_node s) (kids_at s.regions_in_op q.slot) (Operation o) (λ i f. cc) (subst (λ z. Has z (Operation o)) (sym e) (mid_Has xs ys (Operation o))))
-      | Region q ↦ λ xs ys e. absurd (wrong_kid (is_node_live s (Region q)) (block_node s) (kids_at s.blocks_in_region q.slot) (Operation o) (λ i f. cc) (subst (λ z. Has z (Operation o)) (sym e) (mid_Has xs ys (Operation o))))
+      | Operation q ↦ λ xs ys e. absurd (wrong_kid (is_node_live s (Operation q)) (region_node s) (kids_at s.regions_in_op q.slot) (Operation o) (λ i f. cc) (subst (λ z. Has z (Operation o)) (sym e) (Has-mid xs ys (Operation o))))
+      | Region q ↦ λ xs ys e. absurd (wrong_kid (is_node_live s (Region q)) (block_node s) (kids_at s.blocks_in_region q.slot) (Operation o) (λ i f. cc) (subst (λ z. Has z (Operation o)) (sym e) (Has-mid xs ys (Operation o))))
       | BasicBlock q ↦ λ xs ys e. kids_taken s.ops_in_block s.ops s.blocks w.ops_listed Operation BasicBlock (λ i j f. ap slot_of f) o live (is_node_live s (BasicBlock q)) q.slot xs ys e
     ];
     kids = elim [
@@ -263,9 +264,9 @@ module _ {O B : Type 0} (s : Nodes O B) (w : IsForest s) where
     };
     parent = rw (live, parent_at-without_here s.blocks_in_region w.blocks_listed.agreed b.slot) refl;
     kids_over = elim [
-      | Operation q ↦ λ xs ys e. absurd (wrong_kid (is_node_live s (Operation q)) (region_node s) (kids_at s.regions_in_op q.slot) (BasicBlock b) (λ i f. cc) (subst (λ z. Has z (BasicBlock b)) (sym e) (mid_Has xs ys (BasicBlock b))))
+      | Operation q ↦ λ xs ys e. absurd (wrong_kid (is_node_live s (Operation q)) (region_node s) (kids_at s.regions_in_op q.slot) (BasicBlock b) (λ i f. cc) (subst (λ z. Has z (BasicBlock b)) (sym e) (Has-mid xs ys (BasicBlock b))))
       | Region q ↦ λ xs ys e. kids_taken s.blocks_in_region s.blocks s.regions w.blocks_listed BasicBlock Region (λ i j f. ap slot_of f) b live (is_node_live s (Region q)) q.slot xs ys e
-      | BasicBlock q ↦ λ xs ys e. absurd (wrong_kid (is_node_live s (BasicBlock q)) (op_node s) (kids_at s.ops_in_block q.slot) (BasicBlock b) (λ i f. cc) (subst (λ z. Has z (BasicBlock b)) (sym e) (mid_Has xs ys (BasicBlock b))))
+      | BasicBlock q ↦ λ xs ys e. absurd (wrong_kid (is_node_live s (BasicBlock q)) (op_node s) (kids_at s.ops_in_block q.slot) (BasicBlock b) (λ i f. cc) (subst (λ z. Has z (BasicBlock b)) (sym e) (Has-mid xs ys (BasicBlock b))))
     ];
     kids = elim [
       | Operation q ↦ λ ne. refl
@@ -275,7 +276,7 @@ module _ {O B : Type 0} (s : Nodes O B) (w : IsForest s) where
   }
 
 -- The changes as the functions have them: s is made of the fields, t is the value, and n what the nodes are afterwards.
-module _ {O B : Type 0} (s t : Nodes O B) (view : s ≡ t) (w : IsForest s) where
+module _ {O B : Type 0} (s t : Nodes O B) (view : s ≡ t) (w : IsStored s) where
   live_here : (m : IRNode) → is_node_live t m ≡ true → is_node_live s m ≡ true
   live_here m e = subst (λ z. is_node_live z m ≡ true) (sym view) e
 
@@ -313,14 +314,14 @@ module _ {O B : Type 0} (s t : Nodes O B) (view : s ≡ t) (w : IsForest s) wher
 
   -- whose kid an operation and a block can be
   over_op : (a : IRNode) (xs ys : List IRNode) (m : Ptr OperationKind) → node_kids s a ≡ xs ++ Operation m ∷ ys → (b : Ptr BlockKind) × ((a ≡ BasicBlock b) × (is_node_live s (BasicBlock b) ≡ true))
-  over_op (Operation q) xs ys m e = absurd (wrong_kid (is_node_live s (Operation q)) (region_node s) (kids_at s.regions_in_op q.slot) (Operation m) (λ i f. cc) (subst (λ z. Has z (Operation m)) (sym e) (mid_Has xs ys (Operation m))))
-  over_op (Region q) xs ys m e = absurd (wrong_kid (is_node_live s (Region q)) (block_node s) (kids_at s.blocks_in_region q.slot) (Operation m) (λ i f. cc) (subst (λ z. Has z (Operation m)) (sym e) (mid_Has xs ys (Operation m))))
-  over_op (BasicBlock q) xs ys m e = (q, (refl, parent-live s w (BasicBlock q) (Operation m) (kid-parent s w (BasicBlock q) (Operation m) (subst (λ z. Has z (Operation m)) (sym e) (mid_Has xs ys (Operation m))))))
+  over_op (Operation q) xs ys m e = absurd (wrong_kid (is_node_live s (Operation q)) (region_node s) (kids_at s.regions_in_op q.slot) (Operation m) (λ i f. cc) (subst (λ z. Has z (Operation m)) (sym e) (Has-mid xs ys (Operation m))))
+  over_op (Region q) xs ys m e = absurd (wrong_kid (is_node_live s (Region q)) (block_node s) (kids_at s.blocks_in_region q.slot) (Operation m) (λ i f. cc) (subst (λ z. Has z (Operation m)) (sym e) (Has-mid xs ys (Operation m))))
+  over_op (BasicBlock q) xs ys m e = (q, (refl, parent-live s w (BasicBlock q) (Operation m) (kid-parent s w (BasicBlock q) (Operation m) (subst (λ z. Has z (Operation m)) (sym e) (Has-mid xs ys (Operation m))))))
 
   over_block : (a : IRNode) (xs ys : List IRNode) (m : Ptr BlockKind) → node_kids s a ≡ xs ++ BasicBlock m ∷ ys → (r : Ptr RegionKind) × ((a ≡ Region r) × (is_node_live s (Region r) ≡ true))
-  over_block (Operation q) xs ys m e = absurd (wrong_kid (is_node_live s (Operation q)) (region_node s) (kids_at s.regions_in_op q.slot) (BasicBlock m) (λ i f. cc) (subst (λ z. Has z (BasicBlock m)) (sym e) (mid_Has xs ys (BasicBlock m))))
-  over_block (Region q) xs ys m e = (q, (refl, parent-live s w (Region q) (BasicBlock m) (kid-parent s w (Region q) (BasicBlock m) (subst (λ z. Has z (BasicBlock m)) (sym e) (mid_Has xs ys (BasicBlock m))))))
-  over_block (BasicBlock q) xs ys m e = absurd (wrong_kid (is_node_live s (BasicBlock q)) (op_node s) (kids_at s.ops_in_block q.slot) (BasicBlock m) (λ i f. cc) (subst (λ z. Has z (BasicBlock m)) (sym e) (mid_Has xs ys (BasicBlock m))))
+  over_block (Operation q) xs ys m e = absurd (wrong_kid (is_node_live s (Operation q)) (region_node s) (kids_at s.regions_in_op q.slot) (BasicBlock m) (λ i f. cc) (subst (λ z. Has z (BasicBlock m)) (sym e) (Has-mid xs ys (BasicBlock m))))
+  over_block (Region q) xs ys m e = (q, (refl, parent-live s w (Region q) (BasicBlock m) (kid-parent s w (Region q) (BasicBlock m) (subst (λ z. Has z (BasicBlock m)) (sym e) (Has-mid xs ys (BasicBlock m))))))
+  over_block (BasicBlock q) xs ys m e = absurd (wrong_kid (is_node_live s (BasicBlock q)) (op_node s) (kids_at s.ops_in_block q.slot) (BasicBlock m) (λ i f. cc) (subst (λ z. Has z (BasicBlock m)) (sym e) (Has-mid xs ys (BasicBlock m))))
 
   -- beside a mark m
   pub op_before : (n : Nodes O B) (o m : Ptr OperationKind) → is_node_live t (Operation o) ≡ true → is_node_live t (Operation m) ≡ true → n ≡ record s { ops_in_block = with_before s.ops_in_block o.slot m.slot } → (a : IRNode) (xs ys : List IRNode) → node_kids t a ≡ xs ++ Operation m ∷ ys → IsPlaced t n (Operation o) a (xs ++ Operation o ∷ Operation m ∷ ys)

@@ -3,10 +3,11 @@ use Rattle.std.proofs.Common.{◌≡◌, ℕ, ◌+◌, ◌<◌, ◌≤◌, List,
 use Rattle.std.proofs.lemmas.Bool.{cases_eq, cases_lt}
 use Rattle.std.proofs.lemmas.List.{get_or_past, get_or-set_same, get_or-set_other, get_or_append_left, length-append}
 use Rattle.std.proofs.lemmas.Option.{same_Some, none-some}
-use Rattle.plir_store.specs.Lists.{Lists, In, IsAgreed, kids_at, parent_at, put_in, put_in_after, without, with_first, with_last, with_before, with_before_under, with_after, with_after_under, without_child, without_under}
-use Rattle.plir_store.specs.Table.{Table, Cell, no_cell, cell_at, content_at, version_at, num_full, slot_after, next_slot, with_new, with_new_in, without_slot}
+use Rattle.plir_store.specs.Members.{Has}
+use Rattle.plir_store.specs.Lists.{Lists, IsAgreed, kids_at, parent_at, put_in, put_in_after, without, with_first, with_last, with_before, with_before_under, with_after, with_after_under, without_child, without_under}
+use Rattle.plir_store.specs.Table.{Table, Cell, no_cell, cell_at, content_at, version_at, slot_after, next_slot, with_new, with_new_in, without_slot}
 use Rattle.plir_store.specs.ListLaws.{get_or-push_default}
-use Rattle.plir_core.specs.Forest.{IsListing}
+use Rattle.plir_core.specs.Stored.{IsListing}
 use Rattle.plir_core.specs.Edits.{room_child, room_list}
 
 pub some_none : {T : Type 0} (o : Option T) → IsSome o → o ≡ None → ⊥
@@ -228,6 +229,6 @@ module _ {C P : Type 0} (l : Lists) (t : Table C) (u : Table P) (w : IsListing l
     agreed = w.agreed;
     linked_live = λ c p e.
         let x = w.linked_live c p e in
-        let k : In c (kids_at l p) = w.agreed.held p c e in
-        (x.0, rw (content_without u i p (λ q. subst (λ (xs : List ℕ). In c xs) (ap (kids_at l) q ∙ none) k)) x.1);
+        let k : Has (kids_at l p) c = w.agreed.held p c e in
+        (x.0, rw (content_without u i p (λ q. subst (λ (xs : List ℕ). Has xs c) (ap (kids_at l) q ∙ none) k)) x.1);
   }

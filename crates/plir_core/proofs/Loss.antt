@@ -11,21 +11,23 @@ use Rattle.plir_core.specs.declared.ptr.BasicBlock.{BasicBlock as BlockKind}
 use Rattle.plir_core.specs.declared.ptr.IRNode.{IRNode}
 use Rattle.plir_core.specs.declared.ptr.IRNode.TheVariants.{Operation, Region, BasicBlock}
 use Rattle.plir_core.specs.Above.{climb, Reaches}
-use Rattle.plir_core.specs.NodeLists.{Has}
+use Rattle.plir_store.specs.Members.{Has}
 use Rattle.plir_core.specs.Nodes.{Nodes, is_node_live, was_given_out, node_kids, node_parent, num_nodes}
-use Rattle.plir_core.specs.Forest.{most_steps, depth_of, IsForest}
+use Rattle.plir_core.specs.Stored.{IsStored}
 use Rattle.plir_core.specs.Erase.{post_order, without_node, without_nodes, tree_of, erased, IsErased}
 use Rattle.plir_core.proofs.Facts.{kid-parent, parent-live}
 use Rattle.plir_core.proofs.Listing.{content_without}
 use Rattle.plir_core.proofs.Freed.{ptr_one}
 use Rattle.plir_core.proofs.Depths.{depth-kid, depth-le_most, depth_falls}
-use Rattle.plir_core.proofs.Trees.{IsTree, tree-below, below-tree, Has-append_left, Has-append_right, Has-append_cases, Has-flat_map, Reaches-more, depth-climb}
-use Rattle.plir_core.proofs.FreedNode.{freed-live, freed-dead, freed-given, freed-parent, freed-kids_here, freed-kids, freed-most, freed-limit, freed-forest, freed-count}
-use Rattle.plir_core.proofs.Erased.{IsPeeled, IsPeeled-tree, IsTree-forest, depth-some}
+use Rattle.plir_store.specs.MemberLaws.{Has-mid, Has-append_left, Has-append_right, Has-append_cases}
+use Rattle.plir_core.proofs.Trees.{IsTree, tree-below, below-tree, Has-flat_map, Reaches-more, depth-climb}
+use Rattle.plir_core.proofs.FreedNode.{freed-live, freed-dead, freed-given, freed-parent, freed-kids_here, freed-kids, freed-most, freed-limit, freed-stored, freed-count}
+use Rattle.plir_core.proofs.Erased.{IsPeeled, IsPeeled-tree, IsTree-stored, depth-some}
+use Rattle.plir_core.specs.Measures.{most_steps, depth_of}
 
 module _ {O B : Type 0} where
   -- A dead node stays dead.
-  dead-stays : (s : Nodes O B) (w : IsForest s) (n m : IRNode) → is_node_live s n ≡ true → is_node_live s m ≡ false → is_node_live (without_node s n) m ≡ false
+  dead-stays : (s : Nodes O B) (w : IsStored s) (n m : IRNode) → is_node_live s n ≡ true → is_node_live s m ≡ false → is_node_live (without_node s n) m ≡ false
   dead-stays s w n m live dead =
       let other : m ≡ n → ⊥ = λ e. let a = ap (is_node_live s) e in let b : ⊥ = cc in b in
       freed-live s n m live other w ∙ dead
@@ -34,19 +36,19 @@ module _ {O B : Type 0} where
   dead-parent s m e = rw e refl
 
   -- what a live operation holds, as another node is freed
-  freed-ops : (s : Nodes O B) (w : IsForest s) (n : IRNode) (p : Ptr OperationKind) → is_node_live s n ≡ true → (Operation p ≡ n → ⊥) → is_node_live s (Operation p) ≡ true → content_at (without_node s n).ops p.slot ≡ content_at s.ops p.slot
+  freed-ops : (s : Nodes O B) (w : IsStored s) (n : IRNode) (p : Ptr OperationKind) → is_node_live s n ≡ true → (Operation p ≡ n → ⊥) → is_node_live s (Operation p) ≡ true → content_at (without_node s n).ops p.slot ≡ content_at s.ops p.slot
   freed-ops s w (Operation q) p live ne here = content_without s.ops q.slot p.slot (λ e. ne (ap Operation (ptr_one s.ops q p live here e)))
   freed-ops s w (Region q) p live ne here = refl
   freed-ops s w (BasicBlock q) p live ne here = refl
 
-  freed-blocks : (s : Nodes O B) (w : IsForest s) (n : IRNode) (p : Ptr BlockKind) → is_node_live s n ≡ true → (BasicBlock p ≡ n → ⊥) → is_node_live s (BasicBlock p) ≡ true → content_at (without_node s n).blocks p.slot ≡ content_at s.blocks p.slot
+  freed-blocks : (s : Nodes O B) (w : IsStored s) (n : IRNode) (p : Ptr BlockKind) → is_node_live s n ≡ true → (BasicBlock p ≡ n → ⊥) → is_node_live s (BasicBlock p) ≡ true → content_at (without_node s n).blocks p.slot ≡ content_at s.blocks p.slot
   freed-blocks s w (Operation q) p live ne here = refl
   freed-blocks s w (Region q) p live ne here = refl
   freed-blocks s w (BasicBlock q) p live ne here = content_without s.blocks q.slot p.slot (λ e. ne (ap BasicBlock (ptr_one s.blocks q p live here e)))
 
   -- The nodes ns are freed from s to t.
   pub record IsLess (s t : Nodes O B) (ns : List IRNode) : Type 0 where
-    pub forest : IsForest t
+    pub stored : IsStored t
     pub gone : (m : IRNode) → Has ns m → is_node_live t m ≡ false
     pub dead : (m : IRNode) → is_node_live s m ≡ false → is_node_live t m ≡ false
     pub live : (m : IRNode) → (Has ns m → ⊥) → is_node_live t m ≡ is_node_live s m
@@ -58,9 +60,9 @@ module _ {O B : Type 0} where
     pub count : num_nodes t + length ns ≡ num_nodes s
     pub limit : t.limit ≡ s.limit
 
-  pub IsLess-peeled : (ns : List IRNode) (s : Nodes O B) → IsForest s → IsPeeled s ns → IsLess s (without_nodes s ns) ns
+  pub IsLess-peeled : (ns : List IRNode) (s : Nodes O B) → IsStored s → IsPeeled s ns → IsLess s (without_nodes s ns) ns
   IsLess-peeled [] s w p = record {
-    forest = w;
+    stored = w;
     gone = λ m h. absurd h;
     dead = λ m e. e;
     live = λ m h. refl;
@@ -73,11 +75,11 @@ module _ {O B : Type 0} where
     limit = refl;
   }
   IsLess-peeled (n ∷ ns) s w p =
-      let w' = freed-forest s n p.0 p.1 w in
+      let w' = freed-stored s n p.0 p.1 w in
       let r = IsLess-peeled ns (without_node s n) w' p.2 in
       let away : (m : IRNode) → (Has (n ∷ ns) m → ⊥) → m ≡ n → ⊥ = λ m h e. h (inl (sym e)) in
       record {
-        forest = r.forest;
+        stored = r.stored;
         gone = λ m h. elim h [
           | inl e ↦ r.dead m (subst (λ z. is_node_live (without_node s n) z ≡ false) e (freed-dead s n p.0 w))
           | inr j ↦ r.gone m j
@@ -93,7 +95,7 @@ module _ {O B : Type 0} where
         limit = r.limit ∙ freed-limit s n;
       }
     where
-      later : (n : IRNode) (ns : List IRNode) (s : Nodes O B) (w : IsForest s) → IsPeeled s (n ∷ ns) → (m : IRNode) → ((x : IRNode) → Has (n ∷ ns) x → node_parent s x ≡ Some m → ⊥) → (x : IRNode) → Has ns x → node_parent (without_node s n) x ≡ Some m → ⊥
+      later : (n : IRNode) (ns : List IRNode) (s : Nodes O B) (w : IsStored s) → IsPeeled s (n ∷ ns) → (m : IRNode) → ((x : IRNode) → Has (n ∷ ns) x → node_parent s x ≡ Some m → ⊥) → (x : IRNode) → Has ns x → node_parent (without_node s n) x ≡ Some m → ⊥
       later n ns s w p m h x j e =
           let gone : x ≡ n → ⊥ = λ q. none-some m (sym (dead-parent (without_node s n) x (subst (λ z. is_node_live (without_node s n) z ≡ false) (sym q) (freed-dead s n p.0 w))) ∙ e) in
           h x (inr j) (sym (freed-parent s n x p.0 gone w) ∙ e)
@@ -111,9 +113,9 @@ module _ {O B : Type 0} where
   IsPeeled-back [] ys s p = p
   IsPeeled-back (x ∷ xs) ys s p = IsPeeled-back xs ys (without_node s x) p.2
 
-  module _ (s : Nodes O B) (w : IsForest s) (n : IRNode) (live : is_node_live s n ≡ true) where
+  module _ (s : Nodes O B) (w : IsStored s) (n : IRNode) (live : is_node_live s n ≡ true) where
     abbrev tree : IsTree (node_kids s) (node_parent s) (depth_of s)
-    tree = IsTree-forest s w
+    tree = IsTree-stored s w
 
     less : IsLess s (erased s n) (tree_of s n)
     less = IsLess-peeled (tree_of s n) s w (IsPeeled-tree s w n live)
@@ -161,17 +163,13 @@ module _ {O B : Type 0} where
         let peeled : IsPeeled s (front ++ n ∷ []) = subst (IsPeeled s) shape (IsPeeled-tree s w n live) in
         let first = IsLess-peeled front s w (IsPeeled-front front (n ∷ []) s peeled) in
         let last = IsPeeled-back front (n ∷ []) s peeled in
-        let over : node_parent s n ≡ Some m = kid-parent s w m n (subst (λ z. Has z n) (sym e) (mid xs ys)) in
+        let over : node_parent s n ≡ Some m = kid-parent s w m n (subst (λ z. Has z n) (sym e) (Has-mid xs ys n)) in
         let kept : node_kids (without_nodes s front) m ≡ node_kids s m = first.kids m (λ x h q.
         let r = front_in f x h in
         outside m over (below_kid x m r.0 r.1.0 r.1.1 q)) in
         ap (λ z. node_kids z m) (ap (without_nodes s) shape ∙ without_nodes-append front (n ∷ []) s)
-        ∙ freed-kids_here (without_nodes s front) n m xs ys last.0 first.forest (kept ∙ e)
+        ∙ freed-kids_here (without_nodes s front) n m xs ys last.0 first.stored (kept ∙ e)
       where
-        mid : (xs ys : List IRNode) → Has (xs ++ n ∷ ys) n
-        mid [] ys = inl refl
-        mid (x ∷ xs) ys = inr (mid xs ys)
-
         -- a node's parent is not in the node's tree
         outside : (m : IRNode) → node_parent s n ≡ Some m → Reaches (node_parent s) m n → ⊥
         outside m over r =
@@ -196,7 +194,7 @@ module _ {O B : Type 0} where
 
     pub IsErased-tree : IsErased s (erased s n) n
     IsErased-tree = record {
-      forest = less.forest;
+      stored = less.stored;
       gone = λ m r. less.gone m (tree-in m r);
       live = λ m out. less.live m (away m out);
       ops = λ p e. let out = left (Operation p) e in less.ops p out (sym (less.live (Operation p) out) ∙ e);

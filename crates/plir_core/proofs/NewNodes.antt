@@ -4,11 +4,11 @@ use Rattle.std.proofs.lemmas.Option.{same_Some, none-some}
 use Rattle.plir_core.specs.declared.ptr.IRNode.{IRNode}
 use Rattle.plir_core.specs.Above.{climb, Reaches}
 use Rattle.plir_core.specs.Nodes.{Nodes, is_node_live, node_parent}
-use Rattle.plir_core.specs.Forest.{IsForest}
+use Rattle.plir_core.specs.Stored.{IsStored}
 use Rattle.plir_core.specs.Made.{KeepsLive}
 use Rattle.plir_core.proofs.Facts.{parent-live}
 
-module _ {O B : Type 0} (s t : Nodes O B) (w : IsForest s) (kept : KeepsLive s t) where
+module _ {O B : Type 0} (s t : Nodes O B) (w : IsStored s) (kept : KeepsLive s t) where
   -- whatever stands above what was live was live
   climbs_live : (k : ℕ) (o : Option IRNode) (a : IRNode) → ((b : IRNode) → o ≡ Some b → is_node_live s b ≡ true) → climb (node_parent t) k o ≡ Some a → is_node_live s a ≡ true
   climbs_live zero o a live e = live a e

@@ -11,9 +11,9 @@ use Rattle.plir_core.specs.declared.ptr.Operation.{Operation as OperationKind}
 use Rattle.plir_core.specs.declared.ptr.Region.{Region as RegionKind}
 use Rattle.plir_core.specs.declared.ptr.IRNode.{IRNode}
 use Rattle.plir_core.specs.declared.ptr.IRNode.TheVariants.{Operation, Region, BasicBlock}
-use Rattle.plir_core.specs.NodeLists.{Has}
+use Rattle.plir_store.specs.Members.{Has}
 use Rattle.plir_core.specs.Nodes.{Nodes, ptr_at, num_nodes, is_node_live, node_kids}
-use Rattle.plir_core.specs.Forest.{IsForest}
+use Rattle.plir_core.specs.Stored.{IsStored}
 use Rattle.plir_core.specs.Edits.{with_new_op, with_new_region, with_new_regions}
 use Rattle.plir_core.specs.Made.{IsRegionAdded, IsMade, IsNewRegion, HasNewRegions}
 use Rattle.plir_core.specs.Erase.{erased}
@@ -41,7 +41,7 @@ module _ {O B : Type 0} where
     pub slot : p.slot ≡ next_slot b.ops
     pub pointer : p ≡ ptr_at s.ops (next_slot b.ops)
     pub made : IsMade b s (Operation p)
-    pub forest : IsForest s
+    pub stored : IsStored s
     pub count : num_nodes s ≡ num_nodes b + 1 + n
     pub slots : length s.regions.slots + length b.regions.free ≡ length b.regions.slots + length s.regions.free + n
     pub ops : s.ops ≡ with_new b.ops v
@@ -49,7 +49,7 @@ module _ {O B : Type 0} where
     pub regions : HasNewRegions s (Operation p) n
 
   -- an operation gets one more region
-  HasNewRegions-more : (s t : Nodes O B) (o r : IRNode) (n : ℕ) → IsForest s → HasNewRegions s o n → IsRegionAdded s t o r → HasNewRegions t o (n + 1)
+  HasNewRegions-more : (s t : Nodes O B) (o r : IRNode) (n : ℕ) → IsStored s → HasNewRegions s o n → IsRegionAdded s t o r → HasNewRegions t o (n + 1)
   HasNewRegions-more s t o r n w h x = record {
     count = ap length x.last ∙ (let e = length-append (node_kids s o) (r ∷ []) in let c = h.count in omega arith);
     each = rw x.last (All-append (IsNewRegion t o) (node_kids s o) (r ∷ []) (All-weaker (IsNewRegion s o) (IsNewRegion t o) stays (node_kids s o) h.each) (All-cons (IsNewRegion t o) r [] last (All-nil (IsNewRegion t o))));
@@ -65,13 +65,13 @@ module _ {O B : Type 0} where
       last : IsNewRegion t o r
       last = record { live = x.added.added; parent = x.added.placed; empty = x.added.leaf }
 
-  pub IsMaking-start : (b s : Nodes O B) (v : O) (p : Ptr OperationKind) → IsForest b → s ≡ with_new_op b v → p ≡ ptr_at s.ops (next_slot b.ops) → IsForest s → IsMaking b v p 0 s
+  pub IsMaking-start : (b s : Nodes O B) (v : O) (p : Ptr OperationKind) → IsStored b → s ≡ with_new_op b v → p ≡ ptr_at s.ops (next_slot b.ops) → IsStored s → IsMaking b v p 0 s
   IsMaking-start b s v p w e q f = record {
     is = e;
     slot = ap (λ z. z.slot) q;
     pointer = q;
     made = subst (λ z. IsMade b z (Operation p)) (sym e) (IsMade-first b (with_new_op b v) w (Operation p) (IsAdded-op b w v p (q ∙ ap (λ (z : Nodes O B). ptr_at z.ops (next_slot b.ops)) e)));
-    forest = f;
+    stored = f;
     count = ap num_nodes e ∙ (let c = num_full-with_new b.ops v w.op_slots in omega arith);
     slots = let d : length s.regions.slots ≡ length b.regions.slots = ap (λ (z : Nodes O B). length z.regions.slots) e in let g : length s.regions.free ≡ length b.regions.free = ap (λ (z : Nodes O B). length z.regions.free) e in omega arith;
     ops = ap (λ (z : Nodes O B). z.ops) e;
@@ -79,18 +79,18 @@ module _ {O B : Type 0} where
     regions = let none : node_kids s (Operation p) ≡ [] = subst (λ z. node_kids z (Operation p) ≡ []) (sym e) ((IsAdded-op b w v p (q ∙ ap (λ (z : Nodes O B). ptr_at z.ops (next_slot b.ops)) e)).leaf) in record { count = ap length none; each = rw none (All-nil (IsNewRegion s (Operation p))) };
   }
 
-  pub IsMaking-more : (b s t : Nodes O B) (v : O) (p : Ptr OperationKind) (r : Ptr RegionKind) (n : ℕ) → IsForest b → IsMaking b v p n s → t ≡ with_new_region s p.slot → r ≡ ptr_at t.regions (next_slot s.regions) → IsForest t → IsMaking b v p (n + 1) t
+  pub IsMaking-more : (b s t : Nodes O B) (v : O) (p : Ptr OperationKind) (r : Ptr RegionKind) (n : ℕ) → IsStored b → IsMaking b v p n s → t ≡ with_new_region s p.slot → r ≡ ptr_at t.regions (next_slot s.regions) → IsStored t → IsMaking b v p (n + 1) t
   IsMaking-more b s t v p r n w m e q f =
       let u = with_new_region s p.slot in
-      let g : IsForest u = subst (λ (z : Nodes O B). IsForest z) e f in
-      let a = IsAdded-region s m.forest p r m.made.root g (q ∙ ap (λ (z : Nodes O B). ptr_at z.regions (next_slot s.regions)) e) in
+      let g : IsStored u = subst (λ (z : Nodes O B). IsStored z) e f in
+      let a = IsAdded-region s m.stored p r m.made.root g (q ∙ ap (λ (z : Nodes O B). ptr_at z.regions (next_slot s.regions)) e) in
       record {
         is = rw add-one (e ∙ ap (with_new_region s) m.slot ∙ ap (λ z. with_new_region z (next_slot b.ops)) m.is);
         slot = m.slot;
         pointer = m.pointer ∙ ap (λ (z : Nodes O B). ptr_at z.ops (next_slot b.ops)) (sym e);
-        made = subst (λ z. IsMade b z (Operation p)) (sym e) (IsMade-more b s u w m.forest (Operation p) (Region r) m.made a);
-        forest = f;
-        count = ap num_nodes e ∙ (let c = num_full-with_new s.regions (record {}) m.forest.region_slots in omega (arith, m.count));
+        made = subst (λ z. IsMade b z (Operation p)) (sym e) (IsMade-more b s u w m.stored (Operation p) (Region r) m.made a);
+        stored = f;
+        count = ap num_nodes e ∙ (let c = num_full-with_new s.regions (record {}) m.stored.region_slots in omega (arith, m.count));
         slots =
             let x = slots_with_new s.regions (record {}) in
             let d : length t.regions.slots ≡ length (with_new s.regions (record {})).slots = ap (λ (z : Nodes O B). length z.regions.slots) e in
@@ -98,7 +98,7 @@ module _ {O B : Type 0} where
             omega (arith, m.slots);
         ops = ap (λ (z : Nodes O B). z.ops) e ∙ m.ops;
         held = ap (λ (z : Nodes O B). content_at z.ops p.slot) e ∙ m.held;
-        regions = HasNewRegions-more s t (Operation p) (Region r) n m.forest m.regions (IsRegionAdded-made s t m.forest p r m.made.root e f q);
+        regions = HasNewRegions-more s t (Operation p) (Region r) n m.stored m.regions (IsRegionAdded-made s t m.stored p r m.made.root e f q);
       }
 
   -- where no further region is made, all is freed again
@@ -111,6 +111,6 @@ module _ {O B : Type 0} where
   pub spent_refusal : (b : Nodes O B) (v : O) (p : Ptr OperationKind) (n m : ℕ) (s : Nodes O B) → IsMaking b v p n s → n < m → num_nodes b + 1 + m ≤ b.limit → (num_nodes s ≡ s.limit) ⊎ (2 ^ 32 - 1 ≤ next_slot s.regions) → 2 ^ 32 - 1 + length b.regions.free < length b.regions.slots + m
   spent_refusal b v p n m s k h fits (inl full) = let l = k.made.keeps.limit in absurd (omega (arith, k.count))
   spent_refusal b v p n m s k h fits (inr spent) =
-      let few : length s.regions.slots ≤ 2 ^ 32 - 1 = let x = k.forest.region_slots.num_slots in omega arith in
-      let x = spent_in s.regions s.regions.free (2 ^ 32 - 1) k.forest.region_slots refl few spent in
+      let few : length s.regions.slots ≤ 2 ^ 32 - 1 = let x = k.stored.region_slots.num_slots in omega arith in
+      let x = spent_in s.regions s.regions.free (2 ^ 32 - 1) k.stored.region_slots refl few spent in
       omega (arith, k.slots)

@@ -1,12 +1,12 @@
 -- A child is taken out of its list.
-use Rattle.std.proofs.Common.{◌≡◌, ℕ, ◌<◌, List, [], ◌∷◌, ◌++◌, map, length, Option, Some, None, ◌⊎◌, inl, inr, refl, sym, ◌∙◌, ap, subst, set, length-set, eqb, eq-eqb, arith}
+use Rattle.std.proofs.Common.{◌≡◌, ℕ, ◌<◌, List, [], ◌∷◌, ◌++◌, map, length, Option, Some, None, ◌⊎◌, inl, inr, refl, sym, ◌∙◌, ap, subst, length-set, eq-eqb, arith}
 use Rattle.std.proofs.lemmas.Bool.{cases_eq, ne_eqb}
 use Rattle.std.proofs.lemmas.List.{get_or-set_same, get_or-set_other}
 use Rattle.std.proofs.lemmas.Option.{same_Some, none-some}
-use Rattle.plir_store.specs.Lists.{Lists, In, Apart, IsAgreed, kids_at, parent_at, without, without_child, without_under}
+use Rattle.plir_store.specs.Lists.{Lists, IsAgreed, kids_at, parent_at, without, without_child, without_under}
 use Rattle.plir_store.specs.ListLaws.{within_from_parent_at, within_from_kid}
-use Rattle.plir_core.specs.NodeLists.{Has}
-use Rattle.plir_core.proofs.Facts.{Has-map}
+use Rattle.plir_store.specs.Members.{Has, Distinct}
+use Rattle.plir_store.specs.MemberLaws.{Has-mid, Has-map}
 
 without-here : (c x : ℕ) (xs : List ℕ) → x ≡ c → without c (x ∷ xs) ≡ xs
 without-here c x xs e = rw (eq-eqb x c e) refl
@@ -14,32 +14,32 @@ without-here c x xs e = rw (eq-eqb x c e) refl
 without-past : (c x : ℕ) (xs : List ℕ) → (x ≡ c → ⊥) → without c (x ∷ xs) ≡ x ∷ without c xs
 without-past c x xs n = rw (ne_eqb x c n) refl
 
-In-without : (c x : ℕ) (xs : List ℕ) → In x (without c xs) → In x xs
-In-without c x [] i = i
-In-without c x (y ∷ ys) i = elim (cases_eq y c) [
-  | inl e ↦ inr (subst (In x) (without-here c y ys e) i)
-  | inr n ↦ elim (subst (In x) (without-past c y ys n) i) [ inl e ↦ inl e | inr j ↦ inr (In-without c x ys j) ]
+Has-without : (c x : ℕ) (xs : List ℕ) → Has (without c xs) x → Has xs x
+Has-without c x [] i = i
+Has-without c x (y ∷ ys) i = elim (cases_eq y c) [
+  | inl e ↦ inr (subst (λ z. Has z x) (without-here c y ys e) i)
+  | inr n ↦ elim (subst (λ z. Has z x) (without-past c y ys n) i) [ inl e ↦ inl e | inr j ↦ inr (Has-without c x ys j) ]
 ]
 
-without-In : (c x : ℕ) (xs : List ℕ) → (x ≡ c → ⊥) → In x xs → In x (without c xs)
-without-In c x [] n i = i
-without-In c x (y ∷ ys) n i = elim (cases_eq y c) [
-  | inl e ↦ subst (In x) (sym (without-here c y ys e)) (elim i [ inl q ↦ absurd (n (q ∙ e)) | inr j ↦ j ])
-  | inr m ↦ subst (In x) (sym (without-past c y ys m)) (elim i [ inl q ↦ inl q | inr j ↦ inr (without-In c x ys n j) ])
+without-Has : (c x : ℕ) (xs : List ℕ) → (x ≡ c → ⊥) → Has xs x → Has (without c xs) x
+without-Has c x [] n i = i
+without-Has c x (y ∷ ys) n i = elim (cases_eq y c) [
+  | inl e ↦ subst (λ z. Has z x) (sym (without-here c y ys e)) (elim i [ inl q ↦ absurd (n (sym q ∙ e)) | inr j ↦ j ])
+  | inr m ↦ subst (λ z. Has z x) (sym (without-past c y ys m)) (elim i [ inl q ↦ inl q | inr j ↦ inr (without-Has c x ys n j) ])
 ]
 
-without-gone : (c : ℕ) (xs : List ℕ) → Apart xs → In c (without c xs) → ⊥
+without-gone : (c : ℕ) (xs : List ℕ) → Distinct xs → Has (without c xs) c → ⊥
 without-gone c [] a i = i
 without-gone c (y ∷ ys) a i = elim (cases_eq y c) [
-  | inl e ↦ a.0 (subst (λ z. In z ys) (sym e) (subst (In c) (without-here c y ys e) i))
-  | inr n ↦ elim (subst (In c) (without-past c y ys n) i) [ inl e ↦ n (sym e) | inr j ↦ without-gone c ys a.1 j ]
+  | inl e ↦ a.0 (subst (λ z. Has ys z) (sym e) (subst (λ z. Has z c) (without-here c y ys e) i))
+  | inr n ↦ elim (subst (λ z. Has z c) (without-past c y ys n) i) [ inl e ↦ n e | inr j ↦ without-gone c ys a.1 j ]
 ]
 
-Apart-without : (c : ℕ) (xs : List ℕ) → Apart xs → Apart (without c xs)
-Apart-without c [] a = a
-Apart-without c (y ∷ ys) a = elim (cases_eq y c) [
-  | inl e ↦ subst Apart (sym (without-here c y ys e)) a.1
-  | inr n ↦ subst Apart (sym (without-past c y ys n)) (λ i. a.0 (In-without c y ys i), Apart-without c ys a.1)
+Distinct-without : (c : ℕ) (xs : List ℕ) → Distinct xs → Distinct (without c xs)
+Distinct-without c [] a = a
+Distinct-without c (y ∷ ys) a = elim (cases_eq y c) [
+  | inl e ↦ subst Distinct (sym (without-here c y ys e)) a.1
+  | inr n ↦ subst Distinct (sym (without-past c y ys n)) (λ i. a.0 (Has-without c y ys i), Distinct-without c ys a.1)
 ]
 
 module _ (l : Lists) (a : IsAgreed l) where
@@ -80,20 +80,20 @@ module _ (l : Lists) (a : IsAgreed l) where
   option_cases None p = inr (λ e. none-some p e)
   option_cases (Some q) p = elim (cases_eq q p) [ inl e ↦ inl (ap (λ z. Some z) e) | inr n ↦ inr (λ e. n (same_Some q p e)) ]
 
-  kid_of : (c p x : ℕ) → In x (kids_at (without_child l c) p) → In x (kids_at l p) × (x ≡ c → ⊥)
+  kid_of : (c p x : ℕ) → Has (kids_at (without_child l c) p) x → Has (kids_at l p) x × (x ≡ c → ⊥)
   kid_of c p x i = elim (option_cases (parent_at l c) p) [
     | inl e ↦
-        let j : In x (without c (kids_at l p)) = subst (In x) (kids_at-without_here c p e) i in
-        (In-without c x (kids_at l p) j, λ q. without-gone c (kids_at l p) (a.apart p) (subst (λ z. In z (without c (kids_at l p))) q j))
+        let j : Has (without c (kids_at l p)) x = subst (λ z. Has z x) (kids_at-without_here c p e) i in
+        (Has-without c x (kids_at l p) j, λ q. without-gone c (kids_at l p) (a.apart p) (subst (λ z. Has (without c (kids_at l p)) z) q j))
     | inr n ↦
-        let j : In x (kids_at l p) = subst (In x) (kids_at-without_other c p n) i in
-        (j, λ q. n (a.owned p c (subst (λ z. In z (kids_at l p)) q j)))
+        let j : Has (kids_at l p) x = subst (λ z. Has z x) (kids_at-without_other c p n) i in
+        (j, λ q. n (a.owned p c (subst (λ z. Has (kids_at l p) z) q j)))
   ]
 
-  of_kid : (c p x : ℕ) → In x (kids_at l p) → (x ≡ c → ⊥) → In x (kids_at (without_child l c) p)
+  of_kid : (c p x : ℕ) → Has (kids_at l p) x → (x ≡ c → ⊥) → Has (kids_at (without_child l c) p) x
   of_kid c p x i ne = elim (option_cases (parent_at l c) p) [
-    | inl e ↦ subst (In x) (sym (kids_at-without_here c p e)) (without-In c x (kids_at l p) ne i)
-    | inr n ↦ subst (In x) (sym (kids_at-without_other c p n)) i
+    | inl e ↦ subst (λ z. Has z x) (sym (kids_at-without_here c p e)) (without-Has c x (kids_at l p) ne i)
+    | inr n ↦ subst (λ z. Has z x) (sym (kids_at-without_other c p n)) i
   ]
 
   num_parents : (c : ℕ) (o : Option ℕ) → length (without_under l c o).parents ≡ length l.parents
@@ -113,8 +113,8 @@ module _ (l : Lists) (a : IsAgreed l) where
   pub IsAgreed-without : (c : ℕ) → IsAgreed (without_child l c)
   IsAgreed-without c = record {
     apart = λ p. elim (option_cases (parent_at l c) p) [
-      | inl e ↦ subst Apart (sym (kids_at-without_here c p e)) (Apart-without c (kids_at l p) (a.apart p))
-      | inr n ↦ subst Apart (sym (kids_at-without_other c p n)) (a.apart p)
+      | inl e ↦ subst Distinct (sym (kids_at-without_here c p e)) (Distinct-without c (kids_at l p) (a.apart p))
+      | inr n ↦ subst Distinct (sym (kids_at-without_other c p n)) (a.apart p)
     ];
     owned = λ p x i. let r = kid_of c p x i in parent_at-without_other c x r.1 ∙ a.owned p x r.0;
     held = λ p x e. elim (cases_eq x c) [
@@ -128,15 +128,11 @@ module _ (l : Lists) (a : IsAgreed l) where
 
 -- f gives each number an image of its own
 module _ {A : Type 0} (f : ℕ → A) (one : (i j : ℕ) → f i ≡ f j → i ≡ j) (c : ℕ) where
-  mid : (xs ys : List A) → Has (xs ++ f c ∷ ys) (f c)
-  mid [] ys = inl refl
-  mid (x ∷ xs) ys = inr (mid xs ys)
-
-  pub among : (ks : List ℕ) (xs ys : List A) → map f ks ≡ xs ++ f c ∷ ys → In c ks
-  among ks xs ys t = let r = Has-map f ks (f c) (subst (λ z. Has z (f c)) (sym t) (mid xs ys)) in subst (λ z. In z ks) (one r.0 c r.1.1) r.1.0
+  pub among : (ks : List ℕ) (xs ys : List A) → map f ks ≡ xs ++ f c ∷ ys → Has ks c
+  among ks xs ys t = let r = Has-map f ks (f c) (subst (λ z. Has z (f c)) (sym t) (Has-mid xs ys (f c))) in subst (λ z. Has ks z) (one r.0 c r.1.1) r.1.0
 
   -- the images of a list without c, where the image of c stood between xs and ys
-  pub map-without : (ks : List ℕ) (xs ys : List A) → Apart ks → map f ks ≡ xs ++ f c ∷ ys → map f (without c ks) ≡ xs ++ ys
+  pub map-without : (ks : List ℕ) (xs ys : List A) → Distinct ks → map f ks ≡ xs ++ f c ∷ ys → map f (without c ks) ≡ xs ++ ys
   map-without [] [] ys a e = cc
   map-without [] (x ∷ xs) ys a e = cc
   map-without (k ∷ ks) [] ys a e =
@@ -147,6 +143,6 @@ module _ {A : Type 0} (f : ℕ → A) (one : (i j : ℕ) → f i ≡ f j → i �
       let h : f k ≡ x = cc in
       let t : map f ks ≡ xs ++ f c ∷ ys = cc in
       elim (cases_eq k c) [
-        | inl q ↦ absurd (a.0 (subst (λ z. In z ks) (sym q) (among ks xs ys t)))
+        | inl q ↦ absurd (a.0 (subst (λ z. Has ks z) (sym q) (among ks xs ys t)))
         | inr n ↦ ap (map f) (without-past c k ks n) ∙ rw (h, map-without ks xs ys a.1 t) refl
       ]

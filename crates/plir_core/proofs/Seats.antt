@@ -1,16 +1,16 @@
 -- Climbing from a live node is climbing from its seat.
-use Rattle.std.proofs.Common.{◌≡◌, ℕ, zero, suc, Bool, true, false, cond, ◌&&◌, Option, Some, None, is_some, IsSome, refl, sym, ◌∙◌, ap, subst, eqb, eq-eqb}
+use Rattle.std.proofs.Common.{◌≡◌, ℕ, zero, suc, Bool, true, false, ◌&&◌, Option, Some, None, is_some, IsSome, refl, sym, ◌∙◌, ap, subst, eqb, eq-eqb}
 use Rattle.std.specs.Prelude.{option_map}
 use borrow.Author.Tests.{eqb-true}
 use Rattle.std.proofs.lemmas.Option.{same_Some, none-some}
-use Rattle.plir_store.specs.Lists.{Lists, parent_at}
+use Rattle.plir_store.specs.Lists.{parent_at}
 use Rattle.plir_store.specs.Table.{Table, content_at, version_at, is_live_at}
 use Rattle.plir_core.specs.declared.ptr.Ptr.{Ptr}
 use Rattle.plir_core.specs.declared.ptr.IRNode.{IRNode}
 use Rattle.plir_core.specs.declared.ptr.IRNode.TheVariants.{Operation, Region, BasicBlock}
 use Rattle.plir_core.specs.Above.{climb, Reaches}
-use Rattle.plir_core.specs.Nodes.{Nodes, ptr_at, op_node, region_node, block_node, is_node_live, node_over, node_parent}
-use Rattle.plir_core.specs.Forest.{Seat, op, region, block, seat_of, up, IsForest}
+use Rattle.plir_core.specs.Nodes.{Nodes, op_node, region_node, block_node, is_node_live, node_over, node_parent}
+use Rattle.plir_core.specs.Stored.{op, region, block, seat_of, up, IsStored}
 use Rattle.plir_core.proofs.Climbs.{climb_none}
 
 and_left : (a b : Bool) → (a && b) ≡ true → a ≡ true
@@ -81,7 +81,7 @@ module _ {O B : Type 0} (s : Nodes O B) where
   pub parent_over : (n : IRNode) → is_node_live s n ≡ true → node_parent s n ≡ node_over s n
   parent_over n e = rw e refl
 
-  module _ (w : IsForest s) where
+  module _ (w : IsStored s) where
     -- the node above is live
     block_over : (i : ℕ) (o : Option ℕ) (a : IRNode) → parent_at s.ops_in_block i ≡ o → option_map (block_node s) o ≡ Some a → is_node_live s a ≡ true
     block_over i None a e f = absurd (none-some a f)

@@ -3,49 +3,39 @@ use Rattle.std.proofs.Common.{◌≡◌, ℕ, zero, suc, ◌+◌, ◌<◌, true,
 use Rattle.std.specs.Prelude.{slice_get}
 use Rattle.std.proofs.lemmas.Bool.{ne_eqb}
 use Rattle.std.proofs.lemmas.Option.{same_Some, none-some, slice_get_within}
-use Rattle.plir_store.specs.ListLaws.{length-le_from_Apart}
-use Rattle.plir_store.specs.Lists.{Lists, In, Apart, IsAgreed, kids_at, parent_at, first_of, next_in, next_of, next_under}
+use Rattle.plir_store.specs.MemberLaws.{Has-at, at-Has}
+use Rattle.plir_store.specs.Members.{Has, Distinct, head}
+use Rattle.plir_store.specs.ListLaws.{length-le_from_Distinct}
+use Rattle.plir_store.specs.Lists.{Lists, IsAgreed, kids_at, parent_at, next_in, next_of, next_under}
 
-pub first_get : (xs : List ℕ) → first_of xs ≡ slice_get xs 0
+pub first_get : (xs : List ℕ) → head xs ≡ slice_get xs 0
 first_get [] = refl
 first_get (x ∷ xs) = refl
 
-pub In_get : (xs : List ℕ) (i c : ℕ) → slice_get xs i ≡ Some c → In c xs
-In_get [] i c e = absurd (none-some c e)
-In_get (x ∷ xs) zero c e = inl (sym (same_Some x c e))
-In_get (x ∷ xs) (suc i) c e = inr (In_get xs i c e)
-
-next_get : (xs : List ℕ) (c i : ℕ) → Apart xs → slice_get xs i ≡ Some c → next_in xs c ≡ slice_get xs (suc i)
+next_get : (xs : List ℕ) (c i : ℕ) → Distinct xs → slice_get xs i ≡ Some c → next_in xs c ≡ slice_get xs (suc i)
 next_get [] c i a e = absurd (none-some c e)
 next_get (x ∷ xs) c zero a e = rw (eq-eqb x c (same_Some x c e)) (first_get xs)
 next_get (x ∷ xs) c (suc i) a e =
-    let n : x ≡ c → ⊥ = λ q. a.0 (subst (λ z. In z xs) (sym q) (In_get xs i c e)) in
+    let n : x ≡ c → ⊥ = λ q. a.0 (subst (λ z. Has xs z) (sym q) (Has-at xs i c e)) in
     rw (ne_eqb x c n) (next_get xs c i a.1 e)
 
 -- what follows the child at a place is the child at the next place
 pub next_at : (s : Lists) → IsAgreed s → (p i c : ℕ) → slice_get (kids_at s p) i ≡ Some c → next_of s c ≡ slice_get (kids_at s p) (i + 1)
-next_at s a p i c e = rw (a.owned p c (In_get (kids_at s p) i c e), add-one) (next_get (kids_at s p) c i (a.apart p) e)
+next_at s a p i c e = rw (a.owned p c (Has-at (kids_at s p) i c e), add-one) (next_get (kids_at s p) c i (a.apart p) e)
 
 -- where a place holds a child, it is within
 pub child_in : (s : Lists) → IsAgreed s → (p i c : ℕ) → slice_get (kids_at s p) i ≡ Some c → c < length s.parents
-child_in s a p i c e = a.within p c (In_get (kids_at s p) i c e)
+child_in s a p i c e = a.within p c (Has-at (kids_at s p) i c e)
 
 -- a list has fewer than 2 ^ 32 children
 pub kids_few : (s : Lists) → IsAgreed s → (p : ℕ) → length (kids_at s p) < 2 ^ 32
-kids_few s a p = let h = length-le_from_Apart (kids_at s p) (length s.parents) (a.apart p) (λ c i. a.within p c i) in omega (arith, a.num_children)
+kids_few s a p = let h = length-le_from_Distinct (kids_at s p) (length s.parents) (a.apart p) (λ c i. a.within p c i) in omega (arith, a.num_children)
 
 -- a place that holds none is past the end
 pub none_past : (xs : List ℕ) (i : ℕ) → slice_get xs i ≡ None → length xs ≤ i
 none_past [] i e = omega arith
 none_past (x ∷ xs) zero e = absurd (none-some x (sym e))
 none_past (x ∷ xs) (suc i) e = let h = none_past xs i e in omega arith
-
-pub get_In : (xs : List ℕ) (c : ℕ) → In c xs → (i : ℕ) × (slice_get xs i ≡ Some c)
-get_In [] c k = absurd k
-get_In (x ∷ xs) c k = elim k [
-  | inl e ↦ (0, ap (λ z. Some z) (sym e))
-  | inr j ↦ let r = get_In xs c j in (suc r.0, r.1)
-]
 
 -- c is sought in a list, of which `at` stands at `place`: it is not before that place
 pub record IsSeeking (xs : List ℕ) (c place : ℕ) (at : Option ℕ) : Type 0 where
@@ -54,8 +44,8 @@ pub record IsSeeking (xs : List ℕ) (c place : ℕ) (at : Option ℕ) : Type 0 
   pub ahead : place ≤ index
   pub here : slice_get xs index ≡ Some c
 
-pub IsSeeking-start : (xs : List ℕ) (c : ℕ) → In c xs → IsSeeking xs c 0 (first_of xs)
-IsSeeking-start xs c k = let r = get_In xs c k in record { at_place = first_get xs; index = r.0; ahead = omega arith; here = r.1 }
+pub IsSeeking-start : (xs : List ℕ) (c : ℕ) → Has xs c → IsSeeking xs c 0 (head xs)
+IsSeeking-start xs c k = let r = at-Has xs c k in record { at_place = first_get xs; index = r.0; ahead = omega arith; here = r.1 }
 
 -- another child stands at the place
 pub IsSeeking-more : (xs : List ℕ) (c place x : ℕ) (at next : Option ℕ) → IsSeeking xs c place at → at ≡ Some x → (x ≡ c → ⊥) → next ≡ slice_get xs (place + 1) → IsSeeking xs c (place + 1) next

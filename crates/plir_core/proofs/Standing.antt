@@ -1,13 +1,19 @@
 -- What every whole context keeps of the nodes that stand in it.
-use Rattle.std.proofs.Common.{◌≡◌, ℕ, suc, ◌≤◌, List, [], ◌∷◌, map, length, inl, inr, refl, sym, ap, subst, ◌∙◌}
+use Rattle.std.proofs.Common.{◌≡◌, ℕ, suc, ◌+◌, ◌<◌, ◌≤◌, ◌^◌, List, [], ◌∷◌, map, length, Option, Some, None, inl, inr, refl, ap, subst, arith}
 use Rattle.plir_core.specs.declared.ptr.IRNode.{IRNode}
 use Rattle.plir_core.specs.declared.ptr.IRNode.TheVariants.{Operation, Region, BasicBlock}
-use Rattle.plir_core.specs.NodeLists.{Has, Distinct}
-use Rattle.plir_core.specs.Forest.{Seat, seat_of}
+use Rattle.plir_store.specs.Members.{Has, Distinct}
+use Rattle.plir_core.specs.Above.{climb}
+use Rattle.plir_core.specs.Forest.{look, IsForest}
+use Rattle.plir_core.specs.Measures.{depth_of}
+use Rattle.plir_core.specs.Nodes.{node_kids, node_parent}
 use Rattle.plir_core.specs.Standing.{IsStanding}
-use Rattle.plir_core.specs.Store.{Store, IsLive, num_live}
+use Rattle.plir_core.specs.Store.{Store, IsLive, parent_of, limit, num_live}
+use Rattle.plir_core.specs.Stored.{Seat, seat_of, IsStored}
 use Rattle.plir_core.specs.Whole.{IsWhole}
 use Rattle.plir_core.proofs.Depths.{IsSeated, depth-kid, depth-le, length-le_seated}
+use Rattle.plir_core.proofs.Erased.{IsTree-stored}
+use Rattle.plir_core.proofs.Trees.{depth-climb}
 use Rattle.plir_core.proofs.Facts.{kid-parent, kid-live, parent-kid, parent-live, kids-once, live-given}
 use Rattle.plir_core.proofs.Seats.{live_some, same_seat}
 
@@ -39,17 +45,34 @@ module _ {K A T : Type 0} (s : Store K A T) where
       let most = length-le_seated (map seat_of ns) s.nodes apart (λ x h. (let r = seats_of ns x h in subst (IsSeated s.nodes) r.2 (seated r.0 (live r.0 r.1)))) in
       subst (λ z. z ≤ num_live s) (length_seats ns) most
 
+  module _ (w : IsStored s.nodes) where
+    -- no node stands deeper than the limit allows, so each climb ends
+    climb-ends : (k : ℕ) → limit s + 1 < k → (x : IRNode) → climb (parent_of s) k (Some x) ≡ None
+    climb-ends k more x = go (climb (parent_of s) k (Some x)) refl
+      where
+        go : (o : Option IRNode) → climb (parent_of s) k (Some x) ≡ o → o ≡ None
+        go None e = refl
+        go (Some a) e = absurd (let p = depth-climb (node_kids s.nodes) (node_parent s.nodes) (depth_of s.nodes) (IsTree-stored s.nodes w) k x a e in let q = depth-le s.nodes w x in omega (arith, p, q, more))
+
+    forest : IsForest (look s)
+    forest = record {
+      kid_parent = kid-parent s.nodes w;
+      parent_kid = parent-kid s.nodes w;
+      once = kids-once s.nodes w;
+      kid_live = kid-live s.nodes w;
+      parent_live = parent-live s.nodes w;
+      live_given = live-given s.nodes w;
+      ends = climb-ends (2 ^ 40) (let p = w.limit_fits in omega (arith, p));
+    }
+
   pub standing : (own : A → List ℕ) → IsWhole own s → IsStanding s
   standing own w = record {
-    kid_parent = kid-parent s.nodes w.forest;
-    parent_kid = parent-kid s.nodes w.forest;
-    once = kids-once s.nodes w.forest;
-    kid_live = kid-live s.nodes w.forest;
-    parent_live = parent-live s.nodes w.forest;
-    live_given = live-given s.nodes w.forest;
-    deeper = depth-kid s.nodes w.forest;
-    deepest = depth-le s.nodes w.forest;
-    counted = counted;
-    within = w.forest.within;
-    limit_fits = w.forest.limit_fits;
+    forest = forest w.stored;
+    within = w.stored.within;
+    limit_fits = w.stored.limit_fits;
+    measured = record {
+      deeper = depth-kid s.nodes w.stored;
+      deepest = depth-le s.nodes w.stored;
+      counted = counted;
+    };
   }

@@ -2,9 +2,10 @@
 use Rattle.std.proofs.Common.{◌≡◌, ℕ, Bool, true, false, cond, List, [], ◌∷◌, Option, Some, None, ◌⊎◌, inl, inr, refl, sym, ◌∙◌, ap, subst}
 use Rattle.std.specs.Prelude.{option_map, IfSome}
 use Rattle.std.proofs.lemmas.Option.{same_Some, none-some}
+use Rattle.plir_store.specs.Members.{Has}
 use Rattle.plir_data.specs.declared.op_set.OpKind.{OpKind}
 use Rattle.plir_data.specs.declared.op_set.OpKind.TheVariants.{Module, Func, Constant, ForwardRef, Own}
-use Rattle.plir_store.specs.Lists.{In, kids_at, last_from, last_of}
+use Rattle.plir_store.specs.Lists.{kids_at, last_from, last_of}
 use Rattle.plir_core.specs.declared.ptr.Ptr.{Ptr}
 use Rattle.plir_core.specs.declared.ptr.Operation.{Operation as OperationKind}
 use Rattle.plir_core.specs.declared.ptr.BasicBlock.{BasicBlock as BasicBlockKind}
@@ -12,7 +13,7 @@ use Rattle.plir_core.specs.declared.ptr.IRNode.{IRNode}
 use Rattle.plir_core.specs.declared.ptr.IRNode.TheVariants.{Operation, BasicBlock}
 use Rattle.plir_core.specs.declared.interface.Interface.TheVariants.{Terminator}
 use Rattle.plir_core.specs.Nodes.{Nodes, op_node, is_node_live, node_last}
-use Rattle.plir_core.specs.Forest.{IsForest}
+use Rattle.plir_core.specs.Stored.{IsStored}
 use Rattle.plir_core.specs.Interfaces.{implements}
 use Rattle.plir_core.specs.Contents.{OpView}
 use Rattle.plir_core.specs.Store.{Store, IsLive, op_at, kind_in, kind_of, last_kid}

@@ -1,27 +1,13 @@
 -- Trees by their post-order, over kids, parents and depths that agree.
-use Rattle.std.proofs.Common.{◌≡◌, ℕ, zero, suc, ◌+◌, ◌<◌, ◌≤◌, List, [], ◌∷◌, ◌++◌, Option, Some, None, ◌⊎◌, inl, inr, refl, sym, ◌∙◌, ap, subst, arith}
+use Rattle.std.proofs.Common.{◌≡◌, ℕ, zero, suc, ◌+◌, ◌<◌, ◌≤◌, List, [], ◌∷◌, ◌++◌, Option, Some, None, inl, inr, refl, sym, ◌∙◌, ap, subst, arith}
 use Rattle.std.specs.List.{flat_map}
 use Rattle.std.proofs.lemmas.Option.{same_Some, none-some}
 use Rattle.plir_core.specs.Above.{climb, Reaches}
-use Rattle.plir_core.specs.NodeLists.{Has, Distinct, head}
+use Rattle.plir_store.specs.MemberLaws.{Has-append_left, Has-append_right, Has-append_cases}
+use Rattle.plir_store.specs.Members.{Has, Distinct, head}
 use Rattle.plir_core.specs.Erase.{post_order}
 
 module _ {N : Type 0} where
-  pub Has-append_left : (xs ys : List N) (a : N) → Has xs a → Has (xs ++ ys) a
-  Has-append_left [] ys a h = absurd h
-  Has-append_left (x ∷ xs) ys a h = elim h [ inl e ↦ inl e | inr j ↦ inr (Has-append_left xs ys a j) ]
-
-  pub Has-append_right : (xs ys : List N) (a : N) → Has ys a → Has (xs ++ ys) a
-  Has-append_right [] ys a h = h
-  Has-append_right (x ∷ xs) ys a h = inr (Has-append_right xs ys a h)
-
-  pub Has-append_cases : (xs ys : List N) (a : N) → Has (xs ++ ys) a → Has xs a ⊎ Has ys a
-  Has-append_cases [] ys a h = inr h
-  Has-append_cases (x ∷ xs) ys a h = elim h [
-    | inl e ↦ inl (inl e)
-    | inr j ↦ elim (Has-append_cases xs ys a j) [ inl k ↦ inl (inr k) | inr k ↦ inr k ]
-  ]
-
   pub Has-flat_map : (f : N → List N) (ms : List N) (a : N) → Has (flat_map f ms) a → (m : N) × (Has ms m × Has (f m) a)
   Has-flat_map f [] a h = absurd h
   Has-flat_map f (m ∷ ms) a h = elim (Has-append_cases (f m) (flat_map f ms) a h) [

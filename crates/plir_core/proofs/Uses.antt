@@ -69,4 +69,4 @@ module _ {K A T : Type 0} (own : A → List ℕ) (s : Store K A T) (t : Nodes (O
       record { arg_types = h.arg_types; attributes = h.attributes }
 
   pub IsWhole-erased : IsWhole own after
-  IsWhole-erased = record { forest = e.forest; holds = record { ops = op_holds; blocks = block_holds } }
+  IsWhole-erased = record { stored = e.stored; holds = record { ops = op_holds; blocks = block_holds } }

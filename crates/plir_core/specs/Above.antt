@@ -16,9 +16,3 @@ module _ {N : Type 0} where
   pub record IsGrounded (up : N → Option N) : Type 0 where
     pub height : ℕ
     pub ends : (n : N) → climb up height (Some n) ≡ None
-
-  -- how many things there are from n up, of k at most
-  abbrev pub depth : (N → Option N) → ℕ → Option N → ℕ
-  depth up zero n = 0
-  depth up (suc k) None = 0
-  depth up (suc k) (Some n) = suc (depth up k (up n))

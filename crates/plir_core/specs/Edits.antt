@@ -2,7 +2,6 @@
 use Rattle.std.specs.Prelude.{◌≡◌, ℕ, ◌+◌, true, zero, suc, cond, List, [], Some, None}
 use Rattle.plir_store.specs.Lists.{Lists, with_child, with_list, with_last}
 use Rattle.plir_store.specs.Table.{Table, IsTable, content_at, num_full, is_nil, next_slot, with_new}
-use Rattle.plir_core.specs.declared.ptr.Region.{Region as RegionKind}
 use Rattle.plir_core.specs.declared.ptr.Ptr.{Ptr}
 use Rattle.plir_core.specs.declared.ptr.Operation.{Operation as OperationKind}
 use Rattle.plir_core.specs.declared.ptr.BasicBlock.{BasicBlock as BasicBlockKind}

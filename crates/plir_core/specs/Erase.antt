@@ -1,5 +1,5 @@
 -- What is left when a tree of nodes is erased.
-use Rattle.std.specs.Prelude.{◌≡◌, ℕ, zero, suc, ◌+◌, Bool, true, false, List, [], ◌∷◌, ◌++◌, length, Option, Some}
+use Rattle.std.specs.Prelude.{◌≡◌, ℕ, zero, suc, ◌+◌, true, false, List, [], ◌∷◌, ◌++◌, length, Some}
 use Rattle.std.specs.List.{flat_map}
 use Rattle.plir_store.specs.Lists.{without_child}
 use Rattle.plir_store.specs.Table.{content_at, without_slot}
@@ -10,7 +10,8 @@ use Rattle.plir_core.specs.declared.ptr.IRNode.{IRNode}
 use Rattle.plir_core.specs.declared.ptr.IRNode.TheVariants.{Operation, Region, BasicBlock}
 use Rattle.plir_core.specs.Above.{Reaches}
 use Rattle.plir_core.specs.Nodes.{Nodes, node_kids, node_parent, is_node_live, was_given_out, num_nodes}
-use Rattle.plir_core.specs.Forest.{IsForest, most_steps}
+use Rattle.plir_core.specs.Stored.{IsStored}
+use Rattle.plir_core.specs.Measures.{most_steps}
 
 -- the nodes from n down, each after those below it, kids in order, to k levels
 abbrev pub post_order : {N : Type 0} → (N → List N) → ℕ → N → List N
@@ -39,7 +40,7 @@ module _ {O B : Type 0} where
 
   -- An operation, region or block n and all below it are gone from s to t, and nothing else is changed.
   pub record IsErased (s t : Nodes O B) (n : IRNode) : Type 0 where
-    pub forest : IsForest t
+    pub stored : IsStored t
     -- n and what is below it is no longer live, all other nodes are as live as they were
     pub gone : (m : IRNode) → Reaches (node_parent s) m n → is_node_live t m ≡ false
     pub live : (m : IRNode) → (Reaches (node_parent s) m n → ⊥) → is_node_live t m ≡ is_node_live s m

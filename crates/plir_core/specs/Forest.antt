@@ -1,60 +1,38 @@
--- The live nodes form a forest.
-use Rattle.std.specs.Prelude.{◌≡◌, ℕ, ◌+◌, ◌*◌, ◌<◌, ◌≤◌, ◌^◌, length, Option, Some, None, IsSome, option_map}
-use Rattle.plir_store.specs.Lists.{Lists, IsAgreed, parent_at}
-use Rattle.plir_store.specs.Table.{Table, IsTable, content_at}
-use Rattle.plir_core.specs.Above.{IsGrounded, depth}
-use Rattle.plir_core.specs.Nodes.{Nodes, num_nodes}
+-- What can be seen of the nodes of a context, and what holds of it: they make a forest.
+use Rattle.std.specs.Prelude.{◌≡◌, ℕ, suc, ◌^◌, Bool, true, List, Option, Some, None}
+use Rattle.plir_store.specs.Members.{Has, Distinct}
 use Rattle.plir_core.specs.declared.ptr.IRNode.{IRNode}
-use Rattle.plir_core.specs.declared.ptr.IRNode.TheVariants.{Operation, Region, BasicBlock}
+use Rattle.plir_core.specs.Above.{climb}
+use Rattle.plir_core.specs.Store.{Store, kids, parent_of, is_live, given_out}
 
--- Where a node sits: a slot of one of the three kinds.
-pub data Seat : Type 0 where
-  op : ℕ → Seat
-  region : ℕ → Seat
-  block : ℕ → Seat
+-- What can be seen of the nodes: the kids of each node in order (none, if it is dead), the node right above it, whether it is
+-- live, and whether it was ever given out.
+pub record Shape : Type 0 where
+  pub kids : IRNode → List IRNode
+  pub parent : IRNode → Option IRNode
+  pub live : IRNode → Bool
+  pub given : IRNode → Bool
 
--- the seat of a node
-abbrev pub seat_of : IRNode → Seat
-seat_of (Operation p) = op p.slot
-seat_of (Region p) = region p.slot
-seat_of (BasicBlock p) = block p.slot
+-- the shape of a context
+abbrev pub look : {K A T : Type 0} → Store K A T → Shape
+look s = record {
+  kids = kids s;
+  parent = parent_of s;
+  live = is_live s;
+  given = given_out s;
+}
 
--- The lists give children (slots of one table) to parents (slots of another): there is a place for each slot, each
--- child that is listed has the list's owner as its parent and stands there once, and only live nodes are linked.
-pub record IsListing {C P : Type 0} (l : Lists) (children : Table C) (parents : Table P) : Type 0 where
-  pub child_places : length l.parents ≡ length children.slots
-  pub parent_places : length l.kids ≡ length parents.slots
-  pub agreed : IsAgreed l
-  pub linked_live : (c p : ℕ) → parent_at l c ≡ Some p → IsSome (content_at children c) × IsSome (content_at parents p)
+-- x is below a
+abbrev pub IsBelow : Shape → IRNode → IRNode → Type 0
+IsBelow s a x = (k : ℕ) × (climb s.parent (suc k) (Some x) ≡ Some a)
 
-module _ {O B : Type 0} where
-  -- the seat right above a seat
-  abbrev pub up : Nodes O B → Seat → Option Seat
-  up s (op i) = option_map block (parent_at s.ops_in_block i)
-  up s (region i) = option_map op (parent_at s.regions_in_op i)
-  up s (block i) = option_map region (parent_at s.blocks_in_region i)
-
-  pub record IsForest (s : Nodes O B) : Type 0 where
-    -- what is listed where, each node in one list at most and once
-    pub regions_listed : IsListing s.regions_in_op s.regions s.ops
-    pub blocks_listed : IsListing s.blocks_in_region s.blocks s.regions
-    pub ops_listed : IsListing s.ops_in_block s.ops s.blocks
-    -- each region has a parent
-    pub regions_owned : (r : ℕ) → IsSome (content_at s.regions r) → IsSome (parent_at s.regions_in_op r)
-    -- no node is above itself
-    pub grounded : IsGrounded (up s)
-    -- slots have versions from 1, and those that are free are vacant
-    pub op_slots : IsTable s.ops
-    pub region_slots : IsTable s.regions
-    pub block_slots : IsTable s.blocks
-    -- there are no more nodes than there may be
-    pub within : num_nodes s ≤ s.limit
-    pub limit_fits : s.limit < 2 ^ 32
-
-  -- more than any climb has steps
-  abbrev pub most_steps : Nodes O B → ℕ
-  most_steps s = 3 * (length s.ops.slots + length s.regions.slots + length s.blocks.slots) + 2
-
-  -- how many nodes there are from a node up
-  abbrev pub depth_of : Nodes O B → IRNode → ℕ
-  depth_of s n = depth (up s) (most_steps s) (Some (seat_of n))
+-- The live nodes make a forest: the kids of a node are live and are those that have it as their parent, each once; live nodes
+-- were given out; and each climb ends, within more steps than there can be nodes, so that no node is above itself.
+pub record IsForest (s : Shape) : Type 0 where
+  pub kid_parent : (a x : IRNode) → Has (s.kids a) x → s.parent x ≡ Some a
+  pub parent_kid : (a x : IRNode) → s.parent x ≡ Some a → Has (s.kids a) x
+  pub once : (a : IRNode) → Distinct (s.kids a)
+  pub kid_live : (a x : IRNode) → Has (s.kids a) x → s.live x ≡ true
+  pub parent_live : (a x : IRNode) → s.parent x ≡ Some a → s.live a ≡ true
+  pub live_given : (x : IRNode) → s.live x ≡ true → s.given x ≡ true
+  pub ends : (x : IRNode) → climb s.parent (2 ^ 40) (Some x) ≡ None

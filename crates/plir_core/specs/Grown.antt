@@ -3,7 +3,7 @@ use Rattle.std.specs.Prelude.{◌≡◌, true, false, List}
 use Rattle.plir_core.specs.declared.ptr.IRNode.{IRNode}
 use Rattle.plir_core.specs.Above.{Reaches}
 use Rattle.plir_core.specs.Nodes.{Nodes, is_node_live, was_given_out, node_kids, node_parent}
-use Rattle.plir_core.specs.Forest.{IsForest}
+use Rattle.plir_core.specs.Stored.{IsStored}
 use Rattle.plir_core.specs.Made.{KeepsLive, IsRegionAdded, IsMade}
 use Rattle.plir_core.specs.Placed.{IsPlaced}
 use Rattle.plir_core.specs.Edits.{SameNodes}
@@ -28,11 +28,11 @@ module _ {O B : Type 0} where
 
   -- what has grown twice has grown
   abbrev pub GrownTwice : Nodes O B → Type 0
-  GrownTwice s = (t u : Nodes O B) (over : IRNode) → IsForest t → IsGrown s t over → IsGrown t u over → IsGrown s u over
+  GrownTwice s = (t u : Nodes O B) (over : IRNode) → IsStored t → IsGrown s t over → IsGrown t u over → IsGrown s u over
 
   -- a tree that was made and in which a new node has grown was made
   abbrev pub MadeAndGrown : Nodes O B → Type 0
-  MadeAndGrown s = (t u : Nodes O B) (n over : IRNode) → IsForest t → IsMade s t n → is_node_live t over ≡ true → is_node_live s over ≡ false → IsGrown t u over → IsMade s u n
+  MadeAndGrown s = (t u : Nodes O B) (n over : IRNode) → IsStored t → IsMade s t n → is_node_live t over ≡ true → is_node_live s over ≡ false → IsGrown t u over → IsMade s u n
 
   -- where a tree that was made is erased again, no live node has changed
   abbrev pub MadeAndErased : Nodes O B → Type 0

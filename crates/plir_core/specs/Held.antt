@@ -1,10 +1,11 @@
 -- What an edit of what an operation or a block holds leaves as it was.
-use Rattle.std.specs.Prelude.{◌≡◌, option_map}
+use Rattle.std.specs.Prelude.{◌≡◌, Some, option_map}
 use Rattle.plir_core.specs.declared.ptr.Ptr.{Ptr}
 use Rattle.plir_core.specs.declared.ptr.Operation.{Operation as OperationKind}
 use Rattle.plir_core.specs.declared.ptr.BasicBlock.{BasicBlock as BasicBlockKind}
 use Rattle.plir_core.specs.declared.ptr.IRNode.{IRNode}
 use Rattle.plir_core.specs.declared.ptr.IRNode.TheVariants.{Operation, BasicBlock}
+use Rattle.plir_core.specs.Changes.{with_op_edit}
 use Rattle.plir_core.specs.Contents.{OpView, BlockView}
 use Rattle.plir_core.specs.Store.{Store, IsLive, is_live, given_out, limit, kids, parent_of, op_at, block_at}
 
@@ -31,3 +32,11 @@ module _ {K A T : Type 0} where
     pub held : block_at t p ≡ option_map f (block_at s p)
     pub blocks : (q : Ptr BasicBlockKind) → IsLive s (BasicBlock q) → (q ≡ p → ⊥) → block_at t q ≡ block_at s q
     pub ops : (o : Ptr OperationKind) → op_at t o ≡ op_at s o
+
+  -- two edits of what an operation holds are one: the second of what the first made
+  abbrev pub OpEditsJoin : Store K A T → Ptr OperationKind → Type 0
+  OpEditsJoin s p = (f g : OpView K A → OpView K A) → with_op_edit (with_op_edit s p f) p g ≡ with_op_edit s p (λ o. g (f o))
+
+  -- edits that make the same of what an operation holds are the same
+  abbrev pub OpEditsAgree : Store K A T → Ptr OperationKind → Type 0
+  OpEditsAgree s p = (f g : OpView K A → OpView K A) → ((o : OpView K A) → op_at s p ≡ Some o → f o ≡ g o) → with_op_edit s p f ≡ with_op_edit s p g

@@ -1,18 +1,20 @@
 -- What the contracts of this crate cite.
 --
 --   Store        Store K A T: what contracts see of a context; is_live, given_out, num_live, kids, parent_of, first_kid,
---                last_kid, next_sibling, prev_sibling, IsAncestor, depth; op_at, block_at and the parts of what they hold;
+--                last_kid, next_sibling, prev_sibling, IsAncestor; op_at, block_at and the parts of what they hold;
 --                is_value_live, type_of_value
 --   Contents     OpView K A, BlockView A: what operations and blocks hold; op_view: an operation without a location
 --   Texts        pointer_text, node_text: pointers as texts write them, as op3v1
 --   Whole        IsWhole: what holds of every context
---   Standing     IsStanding: what every context keeps of its nodes, in the words of kids and parents
+--   Forest       Shape, look: what can be seen of a context's nodes; IsBelow; IsForest: the live nodes make a forest
+--   Standing     IsStanding: what every context keeps of its nodes
+--   Measures     depth; IsMeasured: how deep nodes stand and how many are live, for loops and recursions
 --   Interfaces   implements: which interfaces a kind of operations implements
 --   Changes      what the calls that change a context make of it; SameLive: no live node has changed
 --   Edits        what they make of the nodes
 --   Nodes        the nodes with their slots, and the words of Store over them
---   Forest       IsForest: the live nodes form a forest
---   Above        climb, Reaches, depth: what stands above what
+--   Stored       IsStored: what holds of the slots and lists in which the nodes are kept
+--   Above        climb, Reaches: what stands above what
 --   Made         IsMade: a tree is new, and nothing else has changed; IsRegionAdded: one region is;
 --                HasNewRegions: the regions of a new operation
 --   Room         IsFullForOp and its kin: when there is no room for a new node
@@ -26,14 +28,15 @@
 --   Unused       IsUnusedOutside: nothing outside a tree uses a value or a block of it
 --   Terminator   terminator_of: the operation that ends a block
 --   InsertionPoint  insertion_block: the block that an insertion point is in
---   NodeLists    Has, Distinct, head: lists of nodes
 pub mod Above
 pub mod Nodes
-pub mod Forest
+pub mod Stored
 pub mod Edits
 pub mod Lends
 pub mod Contents
 pub mod Store
+pub mod Measures
+pub mod Forest
 pub mod Texts
 pub mod Whole
 pub mod Standing
@@ -44,7 +47,6 @@ pub mod Room
 pub mod Placed
 pub mod Held
 pub mod Grown
-pub mod NodeLists
 pub mod Erase
 pub mod Refused
 pub mod Unused

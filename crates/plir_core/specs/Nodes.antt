@@ -1,6 +1,7 @@
 -- The nodes of a context: what they hold, which of them are live, and what stands under what.
-use Rattle.std.specs.Prelude.{◌≡◌, ℕ, ◌+◌, ◌-◌, ◌^◌, min, Bool, true, ◌&&◌, nat_lt, nat_le, cond, map, List, [], Option, Some, None, option_map}
-use Rattle.plir_store.specs.Lists.{Lists, parent_at, kids_at, first_of, last_of, next_of, prev_of}
+use Rattle.std.specs.Prelude.{ℕ, ◌+◌, ◌-◌, ◌^◌, min, Bool, ◌&&◌, nat_lt, nat_le, cond, map, List, [], Option, None, option_map}
+use Rattle.plir_store.specs.Members.{head}
+use Rattle.plir_store.specs.Lists.{Lists, parent_at, kids_at, last_of, next_of, prev_of}
 use Rattle.plir_store.specs.Table.{Table, version_at, is_live_at, num_full}
 use Rattle.plir_core.specs.declared.ptr.Ptr.{Ptr}
 use Rattle.plir_core.specs.declared.ptr.Region.{Region as RegionKind}
@@ -78,9 +79,9 @@ module _ {O B : Type 0} where
 
   -- the first and the last kid of what a slot holds, and what stands right after and right before it
   abbrev pub first_under : Nodes O B → IRNode → Option IRNode
-  first_under s (Operation p) = option_map (region_node s) (first_of (kids_at s.regions_in_op p.slot))
-  first_under s (Region p) = option_map (block_node s) (first_of (kids_at s.blocks_in_region p.slot))
-  first_under s (BasicBlock p) = option_map (op_node s) (first_of (kids_at s.ops_in_block p.slot))
+  first_under s (Operation p) = option_map (region_node s) (head (kids_at s.regions_in_op p.slot))
+  first_under s (Region p) = option_map (block_node s) (head (kids_at s.blocks_in_region p.slot))
+  first_under s (BasicBlock p) = option_map (op_node s) (head (kids_at s.ops_in_block p.slot))
 
   abbrev pub last_under : Nodes O B → IRNode → Option IRNode
   last_under s (Operation p) = option_map (region_node s) (last_of (kids_at s.regions_in_op p.slot))

@@ -16,7 +16,6 @@ use Rattle.plir_core.specs.declared.value.DefiningEntity.{DefiningEntity}
 use Rattle.plir_core.specs.declared.value.DefiningEntity.TheVariants.{Op, Block}
 use Rattle.plir_core.specs.Above.{climb, Reaches}
 use Rattle.plir_core.specs.Nodes.{Nodes, index_of, is_node_live, was_given_out, num_nodes, node_kids, node_parent, node_first, node_last, node_next, node_prev}
-use Rattle.plir_core.specs.Forest.{depth_of}
 use Rattle.plir_core.specs.Contents.{OpView, BlockView}
 
 -- The nodes with what they hold, and the types. K, A and T are the kinds of operations, the attributes and the types
@@ -78,10 +77,6 @@ module _ {K A T : Type 0} where
   -- the region that the block of an operation stands in
   abbrev pub region_above : Store K A T → Ptr OperationKind → Option IRNode
   region_above s p = climb (parent_of s) 2 (Some (Operation p))
-
-  -- how many nodes there are from a node up
-  abbrev pub depth : Store K A T → IRNode → ℕ
-  depth s n = depth_of s.nodes n
 
   -- what a live operation and a live block hold
   abbrev pub op_at : Store K A T → Ptr OperationKind → Option (OpView K A)

@@ -1,11 +1,10 @@
 -- What holds of every context.
-use Rattle.std.specs.Prelude.{◌≡◌, ℕ, List, [], ◌∷◌, Some, All}
+use Rattle.std.specs.Prelude.{◌≡◌, ℕ, List, Some, All}
 use Rattle.plir_store.specs.Table.{content_at}
 use Rattle.plir_data.specs.AttrLive.{HandlesLive}
-use Rattle.plir_data.specs.AttrView.{AttrView}
 use Rattle.plir_data.specs.Types.{AllLive}
-use Rattle.plir_core.specs.declared.ptr.IRNode.TheVariants.{Operation, Region, BasicBlock}
-use Rattle.plir_core.specs.Forest.{IsForest}
+use Rattle.plir_core.specs.declared.ptr.IRNode.TheVariants.{BasicBlock}
+use Rattle.plir_core.specs.Stored.{IsStored}
 use Rattle.plir_core.specs.Contents.{OpView, BlockView}
 use Rattle.plir_core.specs.Store.{Store, IsLive, IsValueLive}
 
@@ -27,5 +26,5 @@ module _ {K A T : Type 0} (own_handles : A → List ℕ) (s : Store K A T) where
 
 -- The live nodes form a forest, and what they hold is live.
 pub record IsWhole {K A T : Type 0} (own_handles : A → List ℕ) (s : Store K A T) : Type 0 where
-  pub forest : IsForest s.nodes
+  pub stored : IsStored s.nodes
   pub holds : HoldsLive own_handles s

@@ -4,7 +4,7 @@ ghost use Rattle.plir_store.specs.Lists.{kids_at};
 ghost use Rattle.plir_store.specs.Table.{content_at};
 ghost use Rattle.plir_core.specs.Nodes.{Nodes, num_nodes, is_node_live, node_kids, node_parent, node_first, node_last};
 ghost use Rattle.plir_core.specs.Nodes.{node_next, node_prev};
-ghost use Rattle.plir_core.specs.Forest.{IsForest};
+ghost use Rattle.plir_core.specs.Stored.{IsStored};
 ghost use Rattle.plir_core.specs.Lends.{LendsOp, LendsBlock};
 ghost use Rattle.std.specs.Borrow.{sem};
 ghost use Rattle.plir_core.specs.Edits.{empty};
@@ -30,7 +30,7 @@ pub(crate) struct Arena<O, B> {
 
 impl<O, B> Model for Arena<O, B> {
     ghost use Rattle.plir_core.specs.Nodes.{Nodes};
-    ghost use Rattle.plir_core.specs.Forest.{IsForest};
+    ghost use Rattle.plir_core.specs.Stored.{IsStored};
 
     ghost Value = { Nodes O B };
 
@@ -44,7 +44,7 @@ impl<O, B> Model for Arena<O, B> {
       limit = c.limit;
     } };
 
-    ghost invariant = { λ c. IsForest (record {
+    ghost invariant = { λ c. IsStored (record {
       ops = c.ops;
       regions = c.regions;
       blocks = c.blocks;
@@ -59,7 +59,7 @@ impl<O, B> Arena<O, B> {
     /// No nodes, and room for as many as `limit`.
     pub(crate) fn new(alloc: Global, limit: u32) -> Self
         ensures empty { result ≡ empty limit }
-        ensures forest { IsForest result }
+        ensures stored { IsStored result }
     {
         Arena {
             ops: Slots::new(alloc),
@@ -75,7 +75,7 @@ impl<O, B> Arena<O, B> {
     /// How many nodes are live.
     pub(crate) fn num_live(&self) -> u32
         ensures value { result ≡ num_nodes self.now }
-        ensures forest { IsForest self.now }
+        ensures stored { IsStored self.now }
     {
         self.ops.live() + self.regions.live() + self.blocks.live()
     }
@@ -83,7 +83,7 @@ impl<O, B> Arena<O, B> {
     /// Whether a node is live.
     pub(crate) fn is_live(&self, node: IRNode) -> bool
         ensures value { result ≡ is_node_live self.now node }
-        ensures forest { IsForest self.now }
+        ensures stored { IsStored self.now }
     {
         match node {
             IRNode::Operation(op) => self.ops.is_live(op.slot, op.version),

@@ -1,9 +1,9 @@
 //! How a tree of nodes is erased, and what stands above what.
 ghost use Rattle.std.specs.Prelude.{◌≡◌, [], Option, Some, None, IsTrue, ◌↔◌, true};
 ghost use Rattle.plir_core.specs.Above.{Reaches};
-ghost use Rattle.plir_core.specs.NodeLists.{head};
+ghost use Rattle.plir_store.specs.Members.{head};
 ghost use Rattle.plir_core.specs.Nodes.{is_node_live, node_kids, node_parent};
-ghost use Rattle.plir_core.specs.Forest.{IsForest};
+ghost use Rattle.plir_core.specs.Stored.{IsStored};
 ghost use Rattle.plir_core.specs.Erase.{without_node, erased, IsErased};
 
 use crate::arena::Arena;
@@ -57,7 +57,7 @@ impl<O: Drop, B: Drop> Arena<O, B> {
         requires live { is_node_live self.old node ≡ true }
         requires leaf { node_kids self.old node ≡ [] }
         ensures after { self.new ≡ without_node self.old node }
-        ensures forest { IsForest self.new }
+        ensures stored { IsStored self.new }
     {
         match node {
             IRNode::Operation(op) => {

@@ -1,16 +1,17 @@
 //! Laws of contexts: each function does nothing, and its contract is the law.
 ghost use Rattle.std.specs.Prelude.{◌≡◌, ◌∷◌, ◌++◌, ◌+◌, List, Some, slice_get};
 ghost use Rattle.plir_core.specs.Contents.{OpView, BlockView};
-ghost use Rattle.plir_core.specs.NodeLists.{head};
-ghost use Rattle.plir_core.specs.Store.{Store, IsLive, op_at, kids, parent_of, first_kid, next_sibling, depth, IsIndexed};
+ghost use Rattle.plir_store.specs.Members.{head};
+ghost use Rattle.plir_core.specs.Store.{Store, IsLive, kids, parent_of, first_kid, next_sibling, IsIndexed};
 ghost use Rattle.plir_core.specs.Whole.{IsWhole};
 ghost use Rattle.plir_core.specs.Standing.{IsStanding};
 ghost use Rattle.plir_core.specs.Changes.{with_op_edit, with_block_edit};
-ghost use Rattle.plir_core.specs.Held.{IsOpEdited, IsBlockEdited};
+ghost use Rattle.plir_core.specs.Held.{IsOpEdited, IsBlockEdited, OpEditsJoin, OpEditsAgree};
 ghost use Rattle.plir_core.specs.Grown.{Growth};
 ghost use Rattle.plir_core.specs.Made.{IsMade};
 ghost use Rattle.plir_core.specs.Unused.{IsUnusedOutside};
 ghost use Rattle.plir_core.specs.declared.ptr.IRNode.{IRNode as AnyNode};
+ghost use Rattle.plir_core.specs.Measures.{depth};
 
 use crate::context::Context;
 use crate::ptr::{BasicBlock, IRNode, Operation, Ptr};
@@ -53,8 +54,8 @@ pub fn op_edits_keep_the_rest<D: OpSet>(ctx: &Context<D>, op: Ptr<Operation>)
 /// Two edits of what an operation holds are one: the second of what the first made. An edit is what it makes of what the
 /// operation holds.
 pub fn op_edits_join<D: OpSet>(ctx: &Context<D>, op: Ptr<Operation>)
-    ensures join { (f g : OpView D.Kind D.Attr → OpView D.Kind D.Attr) → with_op_edit (with_op_edit ctx.now op f) op g ≡ with_op_edit ctx.now op (λ o. g (f o)) }
-    ensures same { (f g : OpView D.Kind D.Attr → OpView D.Kind D.Attr) → ((o : OpView D.Kind D.Attr) → op_at ctx.now op ≡ Some o → f o ≡ g o) → with_op_edit ctx.now op f ≡ with_op_edit ctx.now op g }
+    ensures join { OpEditsJoin ctx.now op }
+    ensures same { OpEditsAgree ctx.now op }
 {
     let _count = ctx.num_live();
 }

@@ -4,7 +4,7 @@ ghost use Rattle.plir_store.specs.Lists.{IsAgreed};
 ghost use Rattle.plir_store.specs.Table.{content_at, num_full, next_slot};
 ghost use Rattle.plir_core.specs.Room.{IsFullForOp, IsFullForBlock, IsFullForRegion};
 ghost use Rattle.plir_core.specs.Nodes.{num_nodes, is_node_live, was_given_out, ptr_at};
-ghost use Rattle.plir_core.specs.Forest.{IsForest};
+ghost use Rattle.plir_core.specs.Stored.{IsStored};
 ghost use Rattle.plir_core.specs.Edits.{IsFilled, SameNodes, room_child, room_list, with_new_op, with_new_block};
 ghost use Rattle.plir_core.specs.Edits.{with_new_region, with_new_regions};
 ghost use Rattle.plir_core.specs.Made.{IsMade, HasNewRegions};
@@ -85,7 +85,7 @@ impl<O, B> Arena<O, B> {
         ensures given { (n : IRNode) → was_given_out self.old n ≡ true → was_given_out self.new n ≡ true }
         ensures err { OnErr result (self.new ≡ self.old) }
         ensures too_many { (result ≡ Err NodeErr.TooManyNodes) ↔ IsFullForRegion self.old }
-        ensures forest { IsForest self.new }
+        ensures stored { IsStored self.new }
     {
         if self.num_live() == self.limit || self.regions.next_slot() >= u32::MAX as usize {
             return Err(NodeErr::TooManyNodes);
@@ -111,7 +111,7 @@ impl<O: Drop, B: Drop> Arena<O, B> {
         ensures given { (n : IRNode) → was_given_out self.old n ≡ true → was_given_out self.new n ≡ true }
         ensures err { OnErr result (self.new ≡ self.old) }
         ensures too_many { (result ≡ Err NodeErr.TooManyNodes) ↔ ((num_nodes self.old ≡ self.old.limit) ⊎ (2 ^ 32 - 1 ≤ next_slot self.old.ops)) }
-        ensures forest { IsForest self.new }
+        ensures stored { IsStored self.new }
     {
         if self.num_live() == self.limit || self.ops.next_slot() >= u32::MAX as usize {
             return Err(NodeErr::TooManyNodes);
@@ -135,7 +135,7 @@ impl<O: Drop, B: Drop> Arena<O, B> {
         ensures given { (n : IRNode) → was_given_out self.old n ≡ true → was_given_out self.new n ≡ true }
         ensures err { OnErr result (self.new ≡ self.old) }
         ensures too_many { (result ≡ Err NodeErr.TooManyNodes) ↔ IsFullForBlock self.old }
-        ensures forest { IsForest self.new }
+        ensures stored { IsStored self.new }
     {
         if self.num_live() == self.limit || self.blocks.next_slot() >= u32::MAX as usize {
             return Err(NodeErr::TooManyNodes);
@@ -168,7 +168,7 @@ impl<O: Drop, B: Drop> Arena<O, B> {
         ensures slots { OnErr result (IsUnmade self.old self.new value count) }
         ensures too_many { self.old.limit < num_nodes self.old + 1 + count → result ≡ Err NodeErr.TooManyNodes }
         ensures too_many_only { result ≡ Err NodeErr.TooManyNodes → IsFullForOp self.old count }
-        ensures forest { IsForest self.new }
+        ensures stored { IsStored self.new }
     {
         let live = self.num_live();
         if live == self.limit || count >= (self.limit - live) as usize {

@@ -3,7 +3,7 @@ ghost use Rattle.std.specs.Prelude.{◌≡◌, None, IsSome, true};
 ghost use Rattle.plir_store.specs.Lists.{with_first, with_last, with_before, with_after, without_child};
 ghost use Rattle.plir_core.specs.Above.{Reaches};
 ghost use Rattle.plir_core.specs.Nodes.{is_node_live, node_parent};
-ghost use Rattle.plir_core.specs.Forest.{IsForest};
+ghost use Rattle.plir_core.specs.Stored.{IsStored};
 ghost use Rattle.plir_core.specs.declared.ptr.IRNode.{IRNode};
 
 use crate::arena::Arena;
@@ -17,7 +17,7 @@ impl<O, B> Arena<O, B> {
         requires unlinked { node_parent self.old (IRNode.Operation op) ≡ None }
         requires not_above { Reaches (node_parent self.old) (IRNode.BasicBlock target) (IRNode.Operation op) → ⊥ }
         ensures after { self.new ≡ record self.old { ops_in_block = with_last self.old.ops_in_block target.slot op.slot } }
-        ensures forest { IsForest self.new }
+        ensures stored { IsStored self.new }
     {
         self.ops_in_block.push_back(target.slot, op.slot);
     }
@@ -29,7 +29,7 @@ impl<O, B> Arena<O, B> {
         requires unlinked { node_parent self.old (IRNode.BasicBlock block) ≡ None }
         requires not_above { Reaches (node_parent self.old) (IRNode.Region target) (IRNode.BasicBlock block) → ⊥ }
         ensures after { self.new ≡ record self.old { blocks_in_region = with_last self.old.blocks_in_region target.slot block.slot } }
-        ensures forest { IsForest self.new }
+        ensures stored { IsStored self.new }
     {
         self.blocks_in_region.push_back(target.slot, block.slot);
     }
@@ -41,7 +41,7 @@ impl<O, B> Arena<O, B> {
         requires unlinked { node_parent self.old (IRNode.Operation op) ≡ None }
         requires not_above { Reaches (node_parent self.old) (IRNode.BasicBlock target) (IRNode.Operation op) → ⊥ }
         ensures after { self.new ≡ record self.old { ops_in_block = with_first self.old.ops_in_block target.slot op.slot } }
-        ensures forest { IsForest self.new }
+        ensures stored { IsStored self.new }
     {
         self.ops_in_block.push_front(target.slot, op.slot);
     }
@@ -53,7 +53,7 @@ impl<O, B> Arena<O, B> {
         requires unlinked { node_parent self.old (IRNode.BasicBlock block) ≡ None }
         requires not_above { Reaches (node_parent self.old) (IRNode.Region target) (IRNode.BasicBlock block) → ⊥ }
         ensures after { self.new ≡ record self.old { blocks_in_region = with_first self.old.blocks_in_region target.slot block.slot } }
-        ensures forest { IsForest self.new }
+        ensures stored { IsStored self.new }
     {
         self.blocks_in_region.push_front(target.slot, block.slot);
     }
@@ -66,7 +66,7 @@ impl<O, B> Arena<O, B> {
         requires linked { IsSome (node_parent self.old (IRNode.Operation mark)) }
         requires not_above { Reaches (node_parent self.old) (IRNode.Operation mark) (IRNode.Operation op) → ⊥ }
         ensures after { self.new ≡ record self.old { ops_in_block = with_before self.old.ops_in_block op.slot mark.slot } }
-        ensures forest { IsForest self.new }
+        ensures stored { IsStored self.new }
     {
         self.ops_in_block.insert_before(op.slot, mark.slot);
     }
@@ -79,7 +79,7 @@ impl<O, B> Arena<O, B> {
         requires linked { IsSome (node_parent self.old (IRNode.BasicBlock mark)) }
         requires not_above { Reaches (node_parent self.old) (IRNode.BasicBlock mark) (IRNode.BasicBlock block) → ⊥ }
         ensures after { self.new ≡ record self.old { blocks_in_region = with_before self.old.blocks_in_region block.slot mark.slot } }
-        ensures forest { IsForest self.new }
+        ensures stored { IsStored self.new }
     {
         self.blocks_in_region.insert_before(block.slot, mark.slot);
     }
@@ -92,7 +92,7 @@ impl<O, B> Arena<O, B> {
         requires linked { IsSome (node_parent self.old (IRNode.Operation mark)) }
         requires not_above { Reaches (node_parent self.old) (IRNode.Operation mark) (IRNode.Operation op) → ⊥ }
         ensures after { self.new ≡ record self.old { ops_in_block = with_after self.old.ops_in_block op.slot mark.slot } }
-        ensures forest { IsForest self.new }
+        ensures stored { IsStored self.new }
     {
         self.ops_in_block.insert_after(op.slot, mark.slot);
     }
@@ -105,7 +105,7 @@ impl<O, B> Arena<O, B> {
         requires linked { IsSome (node_parent self.old (IRNode.BasicBlock mark)) }
         requires not_above { Reaches (node_parent self.old) (IRNode.BasicBlock mark) (IRNode.BasicBlock block) → ⊥ }
         ensures after { self.new ≡ record self.old { blocks_in_region = with_after self.old.blocks_in_region block.slot mark.slot } }
-        ensures forest { IsForest self.new }
+        ensures stored { IsStored self.new }
     {
         self.blocks_in_region.insert_after(block.slot, mark.slot);
     }
@@ -114,7 +114,7 @@ impl<O, B> Arena<O, B> {
     pub(crate) fn unlink_op(&mut self, op: Ptr<Operation>)
         requires { is_node_live self.old (IRNode.Operation op) ≡ true }
         ensures after { self.new ≡ record self.old { ops_in_block = without_child self.old.ops_in_block op.slot } }
-        ensures forest { IsForest self.new }
+        ensures stored { IsStored self.new }
     {
         self.ops_in_block.remove(op.slot);
     }
@@ -123,7 +123,7 @@ impl<O, B> Arena<O, B> {
     pub(crate) fn unlink_block(&mut self, block: Ptr<BasicBlock>)
         requires { is_node_live self.old (IRNode.BasicBlock block) ≡ true }
         ensures after { self.new ≡ record self.old { blocks_in_region = without_child self.old.blocks_in_region block.slot } }
-        ensures forest { IsForest self.new }
+        ensures stored { IsStored self.new }
     {
         self.blocks_in_region.remove(block.slot);
     }

@@ -10,7 +10,7 @@ use Rattle.std.proofs.lemmas.Option.{same_Some, slice_get-get_or}
 use Rattle.plir_core.specs.declared.ptr.Ptr.{Ptr}
 use Rattle.plir_core.specs.declared.ptr.Operation.{Operation as OperationKind}
 use Rattle.plir_core.specs.declared.value.Value.{Value}
-use Rattle.plir_core.specs.NodeLists.{Has, Distinct}
+use Rattle.plir_store.specs.Members.{Has, Distinct}
 use Rattle.plir_core.specs.Store.{Store}
 use Rattle.plir_flow.specs.declared.edge_ends.RegionBranchPoint.{RegionBranchPoint}
 use Rattle.plir_flow.specs.declared.edge_ends.RegionSuccessor.{RegionSuccessor}

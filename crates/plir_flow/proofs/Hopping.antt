@@ -9,13 +9,14 @@ use Rattle.std.proofs.lemmas.Option.{same_Some}
 use Rattle.indexmap.specs.IndexSet.{insert_key}
 use Rattle.plir_core.specs.declared.ptr.Ptr.{Ptr}
 use Rattle.plir_core.specs.declared.ptr.Region.{Region as RegionKind}
-use Rattle.plir_core.specs.NodeLists.{Has}
+use Rattle.plir_store.specs.Members.{Has}
 use Rattle.plir_flow.specs.declared.hops.Hop.{Hop}
 use Rattle.plir_core.specs.Store.{Store}
+use Rattle.plir_store.specs.MemberLaws.{Has-append_left}
 use Rattle.plir_flow.specs.declared.edge_ends.RegionSuccessor.TheVariants.{Region as ToRegion}
 use Rattle.plir_flow.specs.RegionEdges.{EdgeView, IsFromRegion, IsStep, IsStepOn}
 use Rattle.plir_flow.specs.Hops.{IsHop, IsNoneFrom, IsLatest, AreLinked, AreHeads, IsReachedMore}
-use Rattle.plir_flow.proofs.TakenLists.{has-left, has-last, has-more, distinct-push, any-has}
+use Rattle.plir_flow.proofs.TakenLists.{has-last, has-more, distinct-push, any-has}
 
 module _ {N : Type 0} where
   -- nothing has come yet
@@ -57,8 +58,8 @@ module _ {N : Type 0} where
         all = λ x. (
           λ h. elim (has-more ys y x h) [ inl a ↦ elim ((w.all x).0 a) [ inl b ↦ inl b | inr p ↦ inr (inl p) ] | inr same ↦ inr (inr same) ],
           λ h. elim h [
-            | inl a ↦ has-left ys (y ∷ []) x ((w.all x).1 (inl a))
-            | inr q ↦ elim q [ inl p ↦ has-left ys (y ∷ []) x ((w.all x).1 (inr p)) | inr same ↦ subst (Has (ys ++ y ∷ [])) same (has-last ys y) ]
+            | inl a ↦ Has-append_left ys (y ∷ []) x ((w.all x).1 (inl a))
+            | inr q ↦ elim q [ inl p ↦ Has-append_left ys (y ∷ []) x ((w.all x).1 (inr p)) | inr same ↦ subst (Has (ys ++ y ∷ [])) same (has-last ys y) ]
           ],
         );
         once = λ d. distinct-push ys y (w.once d) (λ h. let t : list_any (eq y) ys ≡ true = (any-has eq exact y ys).1 h in cc);
@@ -193,7 +194,7 @@ module _ {K A T : Type 0} (s : Store K A T) (es : List EdgeView) (e : EdgeView) 
   pub steps-more : (IsStep s es a b ⊎ IsStepOn s e a b) ↔ IsStep s (es ++ e ∷ []) a b
   steps-more = (
     λ h. elim h [
-      | inl (d, (here, (from, to))) ↦ (d, (has-left es (e ∷ []) d here, (from, to)))
+      | inl (d, (here, (from, to))) ↦ (d, (Has-append_left es (e ∷ []) d here, (from, to)))
       | inr (from, to) ↦ (e, (has-last es e, (from, to)))
     ],
     λ (d, (here, (from, to))). elim (has-more es e d here) [

@@ -5,7 +5,7 @@ use Rattle.std.proofs.lemmas.Option.{get_or_from_slice_get, same_Some}
 use Rattle.std.proofs.lemmas.List.{take_more, take_all, length-map}
 use Rattle.plir_core.specs.declared.ptr.Ptr.{Ptr}
 use Rattle.plir_core.specs.declared.ptr.Region.{Region as RegionKind}
-use Rattle.plir_core.specs.NodeLists.{Has, Distinct}
+use Rattle.plir_store.specs.Members.{Has, Distinct}
 use Rattle.plir_flow.specs.Paths.{IsPath, LeadsTo}
 use Rattle.plir_flow.specs.declared.hops.Hop.{Hop}
 use Rattle.plir_flow.specs.Hops.{IsHop, IsReachedMore}

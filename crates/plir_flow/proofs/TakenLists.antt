@@ -10,29 +10,16 @@ use Rattle.std.proofs.lemmas.Bool.{cases_lt}
 use Rattle.std.proofs.Math.Seq.{take-length}
 use Rattle.std.proofs.lemmas.List.Elements.{All-tail, All-head, All-cons, All-map, All-weaker}
 use Rattle.indexmap.specs.IndexSet.{insert_key}
-use Rattle.plir_core.specs.NodeLists.{Has, Distinct}
+use Rattle.plir_store.specs.MemberLaws.{Has-append_left, Has-append_right, Has-append_cases}
+use Rattle.plir_store.specs.Members.{Has, Distinct}
 use Rattle.plir_flow.specs.Taken.{AreThose, IsOnceEach, AreTakenOnce}
 
 module _ {A : Type 0} where
-  pub has-left : (xs ys : List A) (x : A) → Has xs x → Has (xs ++ ys) x
-  has-left [] ys x h = absurd h
-  has-left (z ∷ xs) ys x (inl e) = inl e
-  has-left (z ∷ xs) ys x (inr h) = inr (has-left xs ys x h)
-
-  pub has-right : (xs ys : List A) (x : A) → Has ys x → Has (xs ++ ys) x
-  has-right [] ys x h = h
-  has-right (z ∷ xs) ys x h = inr (has-right xs ys x h)
-
-  pub has-cases : (xs ys : List A) (x : A) → Has (xs ++ ys) x → Has xs x ⊎ Has ys x
-  has-cases [] ys x h = inr h
-  has-cases (z ∷ xs) ys x (inl e) = inl (inl e)
-  has-cases (z ∷ xs) ys x (inr h) = elim (has-cases xs ys x h) [ inl a ↦ inl (inr a) | inr b ↦ inr b ]
-
   pub has-last : (xs : List A) (x : A) → Has (xs ++ x ∷ []) x
-  has-last xs x = has-right xs (x ∷ []) x (inl refl)
+  has-last xs x = Has-append_right xs (x ∷ []) x (inl refl)
 
   pub has-more : (xs : List A) (y x : A) → Has (xs ++ y ∷ []) x → Has xs x ⊎ (y ≡ x)
-  has-more xs y x h = elim (has-cases xs (y ∷ []) x h) [ inl a ↦ inl a | inr b ↦ elim b [ inl e ↦ inr e | inr n ↦ absurd n ] ]
+  has-more xs y x h = elim (Has-append_cases xs (y ∷ []) x h) [ inl a ↦ inl a | inr b ↦ elim b [ inl e ↦ inr e | inr n ↦ absurd n ] ]
 
   pub distinct-push : (ys : List A) (x : A) → Distinct ys → (Has ys x → ⊥) → Distinct (ys ++ x ∷ [])
   distinct-push [] x d n = (λ h. h, tt)
@@ -136,14 +123,14 @@ module _ {A : Type 0} where
       where
         there : Has ys x → (y : A) → Has ys y ↔ Has (xs ++ x ∷ []) y
         there h y = (
-          λ k. has-left xs (x ∷ []) y ((w.same y).0 k),
+          λ k. Has-append_left xs (x ∷ []) y ((w.same y).0 k),
           λ k. elim (has-more xs x y k) [ inl a ↦ (w.same y).1 a | inr e ↦ subst (Has ys) e h ],
         )
 
         new : (y : A) → Has (ys ++ x ∷ []) y ↔ Has (xs ++ x ∷ []) y
         new y = (
-          λ k. elim (has-more ys x y k) [ inl a ↦ has-left xs (x ∷ []) y ((w.same y).0 a) | inr e ↦ subst (Has (xs ++ x ∷ [])) e (has-last xs x) ],
-          λ k. elim (has-more xs x y k) [ inl a ↦ has-left ys (x ∷ []) y ((w.same y).1 a) | inr e ↦ subst (Has (ys ++ x ∷ [])) e (has-last ys x) ],
+          λ k. elim (has-more ys x y k) [ inl a ↦ Has-append_left xs (x ∷ []) y ((w.same y).0 a) | inr e ↦ subst (Has (xs ++ x ∷ [])) e (has-last xs x) ],
+          λ k. elim (has-more xs x y k) [ inl a ↦ Has-append_left ys (x ∷ []) y ((w.same y).1 a) | inr e ↦ subst (Has (ys ++ x ∷ [])) e (has-last ys x) ],
         )
 
         -- what stands in a beginning of xs with x behind it, by what stands in one of xs
@@ -204,7 +191,7 @@ mapped-at f us xs i d h =
 module _ {A B : Type 0} (f : A → List B) (R : A → Type 0) (Q : B → Type 0) (on : (x : A) → R x → All Q (f x)) where
   joined-has : (xs : List A) → ((x : A) → Has xs x → R x) → (y : B) → Has (flat_map f xs) y → Q y
   joined-has [] r y h = absurd h
-  joined-has (x ∷ xs) r y h = elim (has-cases (f x) (flat_map f xs) y h) [
+  joined-has (x ∷ xs) r y h = elim (Has-append_cases (f x) (flat_map f xs) y h) [
     | inl a ↦ each-has Q (f x) y (on x (r x (inl refl))) a
     | inr b ↦ joined-has xs (λ z k. r z (inr k)) y b
   ]

@@ -2,7 +2,7 @@
 use Rattle.std.specs.Prelude.{◌≡◌, ◌<◌, ◌+◌, ◌⊎◌, ◌↔◌, ◌≤◌, ℕ, List, take, length, Option, Some, None, slice_get, Bool, true, ◌&&◌, nat_eq}
 use Rattle.plir_core.specs.declared.ptr.Ptr.{Ptr}
 use Rattle.plir_core.specs.declared.ptr.Region.{Region as RegionKind}
-use Rattle.plir_core.specs.NodeLists.{Has, Distinct}
+use Rattle.plir_store.specs.Members.{Has, Distinct}
 use Rattle.plir_flow.specs.declared.hops.Hop.{Hop}
 
 module _ (hops : List Hop) where

@@ -6,7 +6,7 @@ use Rattle.plir_core.specs.declared.ptr.Region.{Region as RegionKind}
 use Rattle.plir_core.specs.declared.ptr.IRNode.TheVariants.{Operation, Region}
 use Rattle.plir_core.specs.declared.value.Value.{Value}
 use Rattle.plir_core.specs.declared.operand_uses.Use.{Use}
-use Rattle.plir_core.specs.NodeLists.{Has}
+use Rattle.plir_store.specs.Members.{Has}
 use Rattle.plir_core.specs.Store.{Store, IsLive, IsValueLive, operands_of, region_above}
 use Rattle.plir_flow.specs.Paths.{LeadsTo}
 use Rattle.plir_flow.specs.Taken.{AreThose}

@@ -15,7 +15,7 @@ use Rattle.plir_core.specs.declared.value.Value.{Value}
 use Rattle.plir_core.specs.declared.value.DefiningEntity.{DefiningEntity}
 use Rattle.plir_core.specs.declared.value.DefiningEntity.TheVariants.{Op, Block}
 use Rattle.plir_core.specs.declared.operand_uses.Use.{Use}
-use Rattle.plir_core.specs.NodeLists.{Has, Distinct}
+use Rattle.plir_store.specs.Members.{Has, Distinct}
 use Rattle.plir_core.specs.Store.{Store, entity_node, first_kid, kind_of, op_above, operands_of, parent_of, type_of_value}
 use Rattle.plir_core.specs.Terminator.{is_terminator_kind}
 use Rattle.plir_flow.specs.declared.edge_ends.RegionBranchPoint.{RegionBranchPoint}

@@ -1,7 +1,7 @@
 -- Lists that are taken from other lists.
 use Rattle.std.specs.Prelude.{◌≡◌, ◌↔◌, ◌≤◌, ◌⊎◌, ℕ, List, [], ◌∷◌, length, take}
 use Rattle.std.specs.List.{flat_map}
-use Rattle.plir_core.specs.NodeLists.{Has, Distinct}
+use Rattle.plir_store.specs.Members.{Has, Distinct}
 
 -- ys are those of xs that P holds for, in order
 abbrev pub AreThose : {A : Type 0} → (P : A → Type 0) → (xs ys : List A) → Type 0

@@ -3,7 +3,7 @@ ghost use Rattle.std.specs.Prelude.{◌≡◌, ◌↔◌, ◌⊎◌, [], IfOk, O
 ghost use Rattle.std.specs.HashMap.{get};
 ghost use Rattle.plir_core.specs.declared.ptr.Ptr.{Ptr as PtrTo};
 ghost use Rattle.plir_core.specs.declared.ptr.Region.{Region as RegionKind};
-ghost use Rattle.plir_core.specs.NodeLists.{Has, Distinct};
+ghost use Rattle.plir_store.specs.Members.{Has, Distinct};
 ghost use Rattle.plir_core.specs.Whole.{IsWhole};
 ghost use Rattle.plir_flow.specs.Paths.{LeadsTo};
 ghost use Rattle.plir_flow.specs.RegionEdges.{AreEdgesLive, IsStep, IsStepOn, IsPointLive, Reach};

@@ -1,7 +1,7 @@
 //! Lists that have each of their elements once.
 ghost use Rattle.std.specs.Prelude.{◌≡◌, ◌↔◌, ◌∷◌, ◌++◌, List, [], IsTrue, IfOk, OnOk, true, false};
 ghost use Rattle.std.specs.Bool.{Decides};
-ghost use Rattle.plir_core.specs.NodeLists.{Has};
+ghost use Rattle.plir_store.specs.Members.{Has};
 ghost use Rattle.plir_flow.specs.Taken.{IsOnceEach};
 
 use indexmap::IndexSet;

@@ -1,6 +1,6 @@
 //! Whether edges with one target have one set of receivers.
 ghost use Rattle.std.specs.Prelude.{◌≡◌, ◌↔◌, ◌<◌, ◌+◌, All, IsTrue, IfOk, length, map};
-ghost use Rattle.plir_core.specs.NodeLists.{Has};
+ghost use Rattle.plir_store.specs.Members.{Has};
 ghost use Rattle.plir_flow.specs.RegionRule.{SameReceivers, HaveOtherReceivers, AreFirsts, target_region, first_place};
 
 use crate::edge_ends::{RegionEdge, RegionSuccessor};

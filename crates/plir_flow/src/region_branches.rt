@@ -4,7 +4,7 @@ ghost use Rattle.std.specs.List.{flat_map};
 ghost use Rattle.plir_core.specs.declared.ptr.Ptr.{Ptr as PtrTo};
 ghost use Rattle.plir_core.specs.declared.ptr.Region.{Region as RegionKind};
 ghost use Rattle.plir_core.specs.declared.ptr.IRNode.{IRNode};
-ghost use Rattle.plir_core.specs.NodeLists.{Has, Distinct};
+ghost use Rattle.plir_store.specs.Members.{Has, Distinct};
 ghost use Rattle.plir_core.specs.Store.{IsLive, IsValueLive};
 ghost use Rattle.plir_core.specs.Whole.{IsWhole};
 ghost use Rattle.plir_flow.specs.Taken.{AreThose, AreTakenOnce};

@@ -2,34 +2,35 @@
 use Rattle.std.proofs.Common.{◌≡◌, ◌↔◌, ℕ, suc, Bool, true, List, [], ◌∷◌, length, map, Some, None, inl, inr, refl, sym, ap, subst, ◌∙◌, arith, ◌&&◌, eqb}
 use Rattle.std.specs.Prelude.{option_map, IsTrue}
 use Rattle.std.proofs.lemmas.Option.{same_Some, none-some}
-use Rattle.plir_store.specs.Lists.{In, Apart, kids_at, first_of, last_from, last_of}
+use Rattle.plir_store.specs.Members.{Has, Distinct, head}
+use Rattle.plir_store.specs.Lists.{kids_at, last_from, last_of}
 use Rattle.plir_core.specs.declared.ptr.Ptr.{Ptr}
 use Rattle.plir_core.specs.declared.ptr.Region.{Region as RegionKind}
 use Rattle.plir_core.specs.declared.ptr.BasicBlock.{BasicBlock as BasicBlockKind}
 use Rattle.plir_core.specs.declared.ptr.IRNode.{IRNode}
 use Rattle.plir_core.specs.declared.ptr.IRNode.TheVariants.{Operation, Region, BasicBlock}
 use Rattle.plir_core.specs.Nodes.{Nodes, block_node, is_node_live, node_kids, node_first, node_last}
-use Rattle.plir_core.specs.Forest.{IsForest}
+use Rattle.plir_core.specs.Stored.{IsStored}
 
-last-in : (y : ℕ) (ys : List ℕ) → (z : ℕ) × (In z (y ∷ ys) × (last_from (Some y) ys ≡ Some z))
+last-in : (y : ℕ) (ys : List ℕ) → (z : ℕ) × (Has (y ∷ ys) z × (last_from (Some y) ys ≡ Some z))
 last-in y [] = (y, (inl refl, refl))
 last-in y (x ∷ xs) = let r = last-in x xs in (r.0, (inr r.1.0, r.1.1))
 
 module _ {A : Type 0} (f : ℕ → A) (one : (i j : ℕ) → f i ≡ f j → i ≡ j) (a b : A) where
-  pub same-ends : (xs : List ℕ) → Apart xs → Some a ≡ option_map f (first_of xs) → Some b ≡ option_map f (last_of xs) → (a ≡ b) ↔ (length (map f xs) ≡ 1)
+  pub same-ends : (xs : List ℕ) → Distinct xs → Some a ≡ option_map f (head xs) → Some b ≡ option_map f (last_of xs) → (a ≡ b) ↔ (length (map f xs) ≡ 1)
   same-ends [] d e g = absurd (none-some a (sym e))
   same-ends (x ∷ []) d e g = (λ p. refl, λ p. same_Some a (f x) e ∙ sym (same_Some b (f x) g))
   same-ends (x ∷ y ∷ ys) d e g =
       let r = last-in y ys in
       let z : b ≡ f r.0 = same_Some b (f r.0) (g ∙ ap (option_map f) r.1.1) in (
-        λ p. absurd (d.0 (subst (λ v. In v (y ∷ ys)) (sym (one x r.0 (sym (same_Some a (f x) e) ∙ (p ∙ z)))) r.1.0)),
+        λ p. absurd (d.0 (subst (λ v. Has (y ∷ ys) v) (sym (one x r.0 (sym (same_Some a (f x) e) ∙ (p ∙ z)))) r.1.0)),
         λ p. absurd (two (length (map f ys)) p),
       )
     where
       two : (n : ℕ) → suc (suc n) ≡ 1 → ⊥
       two n p = omega arith
 
-pub no-ends : {A : Type 0} (f : ℕ → A) (xs : List ℕ) → None ≡ option_map f (first_of xs) → length (map f xs) ≡ 1 → ⊥
+pub no-ends : {A : Type 0} (f : ℕ → A) (xs : List ℕ) → None ≡ option_map f (head xs) → length (map f xs) ≡ 1 → ⊥
 no-ends f [] e p = omega arith
 no-ends f (x ∷ xs) e p = none-some (f x) e
 
@@ -42,14 +43,14 @@ slot_of (Operation p) = p.slot
 slot_of (Region p) = p.slot
 slot_of (BasicBlock p) = p.slot
 
-module _ {O B : Type 0} (s : Nodes O B) (w : IsForest s) (r : Ptr RegionKind) (live : is_node_live s (Region r) ≡ true) where
+module _ {O B : Type 0} (s : Nodes O B) (w : IsStored s) (r : Ptr RegionKind) (live : is_node_live s (Region r) ≡ true) where
   -- a region has one block exactly where its first block is its last
   pub one-block : (a b : Ptr BasicBlockKind) → Some (BasicBlock a) ≡ node_first s (Region r) → Some (BasicBlock b) ≡ node_last s (Region r)
       → (a ≡ b) ↔ (length (node_kids s (Region r)) ≡ 1)
   one-block a b e g =
       let xs : List ℕ = kids_at s.blocks_in_region r.slot in
       let at : ℕ → IRNode = block_node s in
-      let p : Some (BasicBlock a) ≡ option_map at (first_of xs) = e ∙ rw live refl in
+      let p : Some (BasicBlock a) ≡ option_map at (head xs) = e ∙ rw live refl in
       let q : Some (BasicBlock b) ≡ option_map at (last_of xs) = g ∙ rw live refl in
       let k : (BasicBlock a ≡ BasicBlock b) ↔ (length (map at xs) ≡ 1) = same-ends at (λ i j h. ap slot_of h) (BasicBlock a) (BasicBlock b) xs (w.blocks_listed.agreed.apart r.slot) p q in
       rw live (λ h. k.0 (ap BasicBlock h), λ h. let same : BasicBlock a ≡ BasicBlock b = k.1 h in cc)

@@ -6,7 +6,7 @@ use Rattle.plir_core.specs.declared.ptr.BasicBlock.{BasicBlock as BlockKind}
 use Rattle.plir_core.specs.declared.ptr.IRNode.{IRNode}
 use Rattle.plir_core.specs.declared.ptr.IRNode.TheVariants.{Operation, BasicBlock}
 use Rattle.plir_core.specs.Changes.{with_op_last}
-use Rattle.plir_core.specs.NodeLists.{head}
+use Rattle.plir_store.specs.Members.{head}
 use Rattle.plir_core.specs.Store.{Store, kids, kind_of, IsAncestor}
 use Rattle.plir_data.specs.declared.location.VerifyErr.{VerifyErr}
 use Rattle.plir_iface.specs.Counts.{regions_of}

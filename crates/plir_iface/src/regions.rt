@@ -1,6 +1,6 @@
 //! Interfaces of operations by their regions.
 ghost use Rattle.std.specs.Prelude.{◌≡◌, ◌↔◌, Some, Ok, IsOk, IfErr, slice_get, option_map};
-ghost use Rattle.plir_core.specs.NodeLists.{head};
+ghost use Rattle.plir_store.specs.Members.{head};
 ghost use Rattle.plir_core.specs.Store.{IsLive};
 ghost use Rattle.plir_core.specs.Whole.{IsWhole};
 ghost use Rattle.plir_core.specs.declared.ptr.IRNode.{IRNode};

@@ -6,13 +6,13 @@ use Rattle.plir_core.specs.declared.ptr.Ptr.{Ptr}
 use Rattle.plir_core.specs.declared.ptr.Operation.{Operation as OperationKind}
 use Rattle.plir_core.specs.declared.ptr.IRNode.{IRNode}
 use Rattle.plir_core.specs.declared.ptr.IRNode.TheVariants.{Operation, Region, BasicBlock}
-use Rattle.plir_core.specs.NodeLists.{Has}
+use Rattle.plir_store.specs.Members.{Has}
 use Rattle.plir_core.specs.Store.{Store}
+use Rattle.plir_core.specs.Forest.{look}
 use Rattle.plir_walk.specs.declared.config.WalkConfig.{WalkConfig}
 use Rattle.plir_walk.specs.declared.interruptible.WalkContinue.{WalkContinue}
 use Rattle.plir_walk.specs.declared.interruptible.WalkContinue.TheVariants.{Skip}
 use Rattle.plir_walk.specs.Calls.{Call, Relation, Chain, nodes_of, NoBreak}
-use Rattle.plir_walk.specs.View.{look}
 use Rattle.plir_walk.specs.Walked.{IsCallUnder, WalkedOver}
 use Rattle.plir_print.specs.HeaderAttrs.{has_header, IsPrintable}
 use Rattle.plir_print.specs.HeaderWalk.{answer_for, header_answer}

@@ -8,9 +8,10 @@ use Rattle.plir_core.specs.declared.ptr.Region.{Region as RegionKind}
 use Rattle.plir_core.specs.declared.ptr.BasicBlock.{BasicBlock as BasicBlockKind}
 use Rattle.plir_core.specs.declared.ptr.IRNode.{IRNode}
 use Rattle.plir_core.specs.declared.ptr.IRNode.TheVariants.{Operation, Region, BasicBlock}
-use Rattle.plir_core.specs.NodeLists.{Has}
+use Rattle.plir_store.specs.Members.{Has}
 use Rattle.plir_core.specs.Standing.{IsStanding}
-use Rattle.plir_core.specs.Store.{Store, kids, depth, limit}
+use Rattle.plir_core.specs.Store.{Store, kids, limit}
+use Rattle.plir_core.specs.Measures.{depth}
 use Rattle.plir_print.specs.Lists.{before, parted_from}
 use Rattle.plir_print.specs.OpText.{line, op_front, block_front, room, text_at, text_of, regions_text, blocks_text, ops_text}
 
@@ -24,10 +25,10 @@ parted_same b between f g (x ∷ xs) h = ap (λ z. before b between ++ (z ++ par
 
 module _ {D K A T E : Type 0} (o : op_set.Ghosts D K A T E) (s : Store K A T) (st : IsStanding s) where
   room_is : (x : IRNode) → room s x ≡ suc (limit s + 1 - depth s x)
-  room_is x = let d = st.deepest x in omega arith
+  room_is x = let d = st.measured.deepest x in omega arith
 
   kid_room : (a x : IRNode) → Has (kids s a) x → room s x ≡ limit s + 1 - depth s a
-  kid_room a x h = let d = st.deeper a x (st.kid_parent a x h) in omega arith
+  kid_room a x h = let d = st.measured.deeper a x (st.forest.kid_parent a x h) in omega arith
 
   kid_text : (n : ℕ) (a x : IRNode) → Has (kids s a) x → text_at o s (limit s + 1 - depth s a) n x ≡ text_of o s n x
   kid_text n a x h = ap (λ k. text_at o s k n x) (sym (kid_room a x h))

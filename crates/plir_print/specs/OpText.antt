@@ -13,7 +13,8 @@ use Rattle.plir_core.specs.declared.ptr.BasicBlock.{BasicBlock as BasicBlockKind
 use Rattle.plir_core.specs.declared.ptr.IRNode.{IRNode}
 use Rattle.plir_core.specs.declared.ptr.IRNode.TheVariants.{Operation, Region, BasicBlock}
 use Rattle.plir_core.specs.declared.value.Value.{Value}
-use Rattle.plir_core.specs.Store.{Store, depth, kids, kind_of, limit}
+use Rattle.plir_core.specs.Store.{Store, kids, kind_of, limit}
+use Rattle.plir_core.specs.Measures.{depth}
 use Rattle.plir_print.specs.Lists.{parted}
 use Rattle.plir_print.specs.ValueNames.{block_name, value_name, results_of, arguments_of}
 use Rattle.plir_print.specs.Dictionaries.{dictionary_text, shown}

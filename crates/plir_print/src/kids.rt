@@ -1,7 +1,8 @@
 //! What is known of the kid of a node at a place, as the printer comes to it.
 ghost use Rattle.std.specs.Prelude.{◌≡◌, ◌+◌, ◌<◌, ◌≤◌, ◌^◌, ◌∷◌, Some, drop, length, slice_get};
 ghost use Rattle.plir_core.specs.Standing.{IsStanding};
-ghost use Rattle.plir_core.specs.Store.{IsLive, depth, kids, limit, next_sibling};
+ghost use Rattle.plir_core.specs.Store.{IsLive, kids, limit, next_sibling};
+ghost use Rattle.plir_core.specs.Measures.{depth};
 ghost use Rattle.plir_print.specs.HeaderAttrs.{IsPrintable};
 
 use plir_core::laws::{contexts_stand, kid_at};

@@ -1,8 +1,9 @@
 //! From an operation with all below it to its text.
 ghost use Rattle.std.specs.Prelude.{◌≡◌, ◌*◌, ◌^◌, ◌<◌, ◌≤◌, IfOk, OnOk, string_bytes};
 ghost use Rattle.plir_core.specs.declared.ptr.IRNode.{IRNode as AnyNode};
-ghost use Rattle.plir_core.specs.Store.{IsLive, IsValueLive, depth, kids, kind_of};
+ghost use Rattle.plir_core.specs.Store.{IsLive, IsValueLive, kids, kind_of};
 ghost use Rattle.plir_core.specs.Whole.{IsWhole};
+ghost use Rattle.plir_core.specs.Measures.{depth};
 ghost use Rattle.plir_print.specs.Lists.{Puts};
 ghost use Rattle.plir_print.specs.Dictionaries.{shown};
 ghost use Rattle.plir_print.specs.HeaderAttrs.{HasHeader, IsPrintable};

@@ -11,10 +11,11 @@ use Rattle.plir_core.specs.declared.ptr.IRNode.TheVariants.{Operation, Region, B
 use Rattle.plir_core.specs.Above.{climb, Reaches}
 use Rattle.plir_core.specs.Contents.{OpView, BlockView}
 use Rattle.plir_core.specs.Made.{IsMade}
-use Rattle.plir_core.specs.NodeLists.{Has}
+use Rattle.plir_store.specs.Members.{Has}
 use Rattle.plir_core.specs.Placed.{IsPlaced}
 use Rattle.plir_core.specs.Standing.{IsStanding}
-use Rattle.plir_core.specs.Store.{Store, IsLive, kids, parent_of, depth, op_at, block_at}
+use Rattle.plir_core.specs.Store.{Store, IsLive, kids, parent_of, op_at, block_at}
+use Rattle.plir_core.specs.Measures.{depth}
 use Rattle.plir_text.specs.Names.{Grows}
 use Rattle.plir_text.specs.Growth.{Grows-itself, Names-grown, NamesAll-grown}
 use Rattle.plir_text.specs.Meanings.{IsMeant-grown, IsDictMeant-grown}
@@ -122,12 +123,12 @@ module _ {K A T : Type 0} where
     where
       at : ((b : IRNode) → climb (parent_of s) k (Some b) ≡ Some a → depth s b ≡ depth s a + k) → (o : Option IRNode) → parent_of s m ≡ o → depth s m ≡ depth s a + suc k
       at rec None f = absurd (none-some a (sym (climb_nothing s k) ∙ ap (climb (parent_of s) k) (sym f) ∙ e))
-      at rec (Some b) f = let d = w.deeper b m f in let r = rec b (ap (climb (parent_of s) k) (sym f) ∙ e) in omega (arith, d, r)
+      at rec (Some b) f = let d = w.measured.deeper b m f in let r = rec b (ap (climb (parent_of s) k) (sym f) ∙ e) in omega (arith, d, r)
 
   -- a node is not below its kid
   pub kid_below : (s : Store K A T) → IsStanding s → (a x : IRNode) → Has (kids s a) x → Reaches (parent_of s) a x → ⊥
   kid_below s w a x h r =
-      let d = w.deeper a x (w.kid_parent a x h) in
+      let d = w.measured.deeper a x (w.forest.kid_parent a x h) in
       let e = depth_climbed s w r.0 a x r.1 in
       omega (arith, d, e)
 
@@ -137,7 +138,7 @@ module _ {K A T : Type 0} where
     same = λ x e. m.kids x e;
     ops = λ p e. m.keeps.ops p e;
     blocks = λ p e. m.keeps.blocks p e;
-    down = λ a x e h. w.kid_live a x h;
+    down = λ a x e h. w.forest.kid_live a x h;
     types = g;
   }
 
@@ -147,6 +148,6 @@ module _ {K A T : Type 0} where
     same = λ x away. p.kids x (λ q. away (0, ap (λ z. Some z) (sym q)));
     ops = λ x away. ap (λ z. content_at z x.slot) p.moved.ops;
     blocks = λ x away. ap (λ z. content_at z x.slot) p.moved.blocks;
-    down = λ a x away h r. away (climb_on s r.0 (Some over) x a r.1 (1, w.kid_parent a x h));
+    down = λ a x away h r. away (climb_on s r.0 (Some over) x a r.1 (1, w.forest.kid_parent a x h));
     types = subst (Grows s.types) (sym e) (Grows-itself s.types);
   }

@@ -6,7 +6,7 @@ use Rattle.plir_core.specs.declared.ptr.IRNode.TheVariants.{Operation, BasicBloc
 use Rattle.plir_core.specs.Above.{Reaches}
 use Rattle.plir_core.specs.Grown.{IsGrown, Growth}
 use Rattle.plir_core.specs.Made.{KeepsLive, IsMade}
-use Rattle.plir_core.specs.NodeLists.{Has}
+use Rattle.plir_store.specs.Members.{Has}
 use Rattle.plir_core.specs.Nodes.{Nodes}
 use Rattle.plir_core.specs.Placed.{IsPlaced}
 use Rattle.plir_core.specs.Standing.{IsStanding}
@@ -96,7 +96,7 @@ module _ {K A T : Type 0} where
 
     module _ (standing : (s : Store K A T) → IsWhole own s → IsStanding s) where
       comes_grown : (first s t u : Store K A T) (over n : IRNode) (x : X) (rest : List ℕ) (total : Result (List X × List ℕ) Fault) → Growth first.nodes → Growth s.nodes → Gathers first s over rest total → Comes s t u n over x → IsGrown first.nodes u.nodes over
-      comes_grown first s t u over n x rest total w v g c = w.twice s.nodes u.nodes over g.whole.forest g.grown (v.placed t.nodes u.nodes n over (kids t over ++ n ∷ []) c.made c.placed)
+      comes_grown first s t u over n x rest total w v g c = w.twice s.nodes u.nodes over g.whole.stored g.grown (v.placed t.nodes u.nodes n over (kids t over ++ n ∷ []) c.made c.placed)
 
       comes_types : (first s t u : Store K A T) (over n : IRNode) (x : X) (rest : List ℕ) (total : Result (List X × List ℕ) Fault) → Gathers first s over rest total → Comes s t u n over x → Grows first.types u.types
       comes_types first s t u over n x rest total g c = subst (Grows first.types) (sym c.types) (Grows-on first.types s.types t.types g.types c.kept.types)
@@ -109,7 +109,7 @@ module _ {K A T : Type 0} where
           let first_frame = frame_made s t n before c.made c.kept.types in
           let second_frame = frame_placed t u n over (kids t over ++ n ∷ []) now c.placed c.types in
           let same : kids t over ≡ kids s over = c.made.kids over live in
-          let here : Many t (kids t over) g.front = subst (λ z. Many t z g.front) (sym same) (many_kept s t (λ m. IsLive s m) first_frame (kids s over) g.front (λ m h. before.kid_live over m h) g.stand) in
+          let here : Many t (kids t over) g.front = subst (λ z. Many t z g.front) (sym same) (many_kept s t (λ m. IsLive s m) first_frame (kids s over) g.front (λ m h. before.forest.kid_live over m h) g.stand) in
           let after : Many u (kids t over) g.front = many_kept t u (λ m. Reaches (parent_of t) over m → ⊥) second_frame (kids t over) g.front (λ m h. kid_below t now over m h) here in
           let one : One u n x = one_kept t u (λ m. Reaches (parent_of t) over m → ⊥) second_frame n x (unlinked_apart first s t over n rest total g c.made) c.stands in
           subst (λ z. Many u z (g.front ++ x ∷ [])) (sym c.placed.kids_over) (push u (kids t over) g.front n x after one)

@@ -18,9 +18,9 @@ use Rattle.plir_core.specs.Contents.{OpView, BlockView}
 use Rattle.plir_core.specs.Held.{IsBlockEdited}
 use Rattle.plir_core.specs.Grown.{IsGrown, Growth}
 use Rattle.plir_core.specs.Made.{KeepsLive, IsMade}
-use Rattle.plir_core.specs.NodeLists.{Has}
+use Rattle.plir_store.specs.Members.{Has}
 use Rattle.plir_core.specs.Nodes.{is_node_live, node_kids}
-use Rattle.plir_core.specs.Forest.{IsForest}
+use Rattle.plir_core.specs.Stored.{IsStored}
 use Rattle.plir_core.specs.Standing.{IsStanding}
 use Rattle.plir_core.specs.Store.{Store, IsLive, given_out, kids, parent_of, op_at}
 use Rattle.plir_text.specs.Growth.{Grows-itself, Names-grown, NamesAll-grown, Names-live, both_live}
@@ -80,7 +80,7 @@ module _ {K A T : Type 0} where
   part_kept s t u n o m new e k = KeepsBut-on s t u None (Some o) (λ x f h q. new_apart s o x new f q) (KeepsOlder-made s t n m e) k
 
   -- a tree that was made, and what came under its root
-  pub root_grown : (s t u : Store K A T) (n : IRNode) → Growth s.nodes → IsForest t.nodes → IsMade s.nodes t.nodes n → IsGrown t.nodes u.nodes n → IsMade s.nodes u.nodes n
+  pub root_grown : (s t u : Store K A T) (n : IRNode) → Growth s.nodes → IsStored t.nodes → IsMade s.nodes t.nodes n → IsGrown t.nodes u.nodes n → IsMade s.nodes u.nodes n
   root_grown s t u n w f m g = w.made t.nodes u.nodes n n f m m.root m.new g
 
   -- ---- a block
@@ -90,7 +90,7 @@ module _ {K A T : Type 0} where
     pub block_kept : KeepsBut t u (Some (BasicBlock p)) → KeepsOlder a u
     block_kept k = KeepsOlder-on a s u (KeepsOlder-typed a s same types) (part_kept s t u (BasicBlock p) (BasicBlock p) n.made n.made.new n.types k)
 
-    pub block_made : Growth s.nodes → IsForest t.nodes → IsGrown t.nodes u.nodes (BasicBlock p) → IsMade a.nodes u.nodes (BasicBlock p)
+    pub block_made : Growth s.nodes → IsStored t.nodes → IsGrown t.nodes u.nodes (BasicBlock p) → IsMade a.nodes u.nodes (BasicBlock p)
     block_made growth f g = subst (λ z. IsMade z u.nodes (BasicBlock p)) same (root_grown s t u (BasicBlock p) growth f n.made g)
 
     pub block_stands : (b : BlockHead) → IsBlockHead s.types h b → KeepsBut t u (Some (BasicBlock p)) → IsBlockHeadAt u (BasicBlock p) b
@@ -161,7 +161,7 @@ module _ {K A T : Type 0} where
   -- ---- an operation
 
   pub body_above : (t : Store K A T) (p : Ptr OperationKind) (r : Ptr RegionKind) → IsStanding t → kids t (Operation p) ≡ Region r ∷ [] → parent_of t (Region r) ≡ Some (Operation p)
-  body_above t p r w e = w.kid_parent (Operation p) (Region r) (subst (λ z. Has z (Region r)) (sym e) (inl refl))
+  body_above t p r w e = w.forest.kid_parent (Operation p) (Region r) (subst (λ z. Has z (Region r)) (sym e) (inl refl))
 
   pub body_new : (s t : Store K A T) (p : Ptr OperationKind) (r : Ptr RegionKind) (v : OpView K A) → IsStanding t → IsNewOp s t p r v → is_node_live s.nodes (Region r) ≡ false
   body_new s t p r v w n = at (is_node_live s.nodes (Region r)) refl
@@ -175,7 +175,7 @@ module _ {K A T : Type 0} where
     pub op_kept : KeepsBut t u (Some (Region r)) → KeepsOlder a u
     op_kept k = KeepsOlder-on a s u (KeepsOlder-typed a s same types) (part_kept s t u (Operation p) (Region r) n.made (body_new s t p r v w n) n.types k)
 
-    pub op_made : Growth s.nodes → IsForest t.nodes → IsGrown t.nodes u.nodes (Region r) → IsMade a.nodes u.nodes (Operation p)
+    pub op_made : Growth s.nodes → IsStored t.nodes → IsGrown t.nodes u.nodes (Region r) → IsMade a.nodes u.nodes (Operation p)
     op_made growth f g = subst (λ z. IsMade z u.nodes (Operation p)) same (growth.made t.nodes u.nodes (Operation p) (Region r) f n.made n.live (body_new s t p r v w n) g)
 
     pub body_kept : KeepsBut t u (Some (Region r)) → kids u (Operation p) ≡ Region r ∷ []

@@ -16,7 +16,7 @@ use Rattle.plir_core.specs.declared.ptr.IRNode.{IRNode}
 use Rattle.plir_core.specs.declared.ptr.IRNode.TheVariants.{Operation, Region, BasicBlock}
 use Rattle.plir_core.specs.Changes.{with_op, with_block, with_block_edit, block_edited}
 use Rattle.plir_core.specs.Contents.{OpView, BlockView}
-use Rattle.plir_core.specs.Forest.{IsForest}
+use Rattle.plir_core.specs.Stored.{IsStored}
 use Rattle.plir_core.specs.Made.{IsMade, IsNewRegion, HasNewRegions}
 use Rattle.plir_core.specs.Nodes.{Nodes, is_node_live, node_kids, node_parent}
 use Rattle.plir_core.specs.Placed.{IsPlaced}
@@ -72,7 +72,7 @@ pub AreNext-append : (s t u : NodeSlots) (ns ms : List IRNode) → AreNext s ns 
 AreNext-append s t u [] ms e h = subst (λ z. AreNext z ms u) e h
 AreNext-append s t u (n ∷ ns) ms e h = (e.0, AreNext-append (with_one_like s n) t u ns ms e.1 h)
 
-module _ {K A T : Type 0} (s t : Store K A T) (w : IsForest s.nodes) where
+module _ {K A T : Type 0} (s t : Store K A T) (w : IsStored s.nodes) where
   -- an operation without a region
   pub leaf_given : (v : OpView K A) (p : Ptr OperationKind) → t ≡ with_op s v 0 → is_live s (Operation p) ≡ false → IsLive t (Operation p) → AreGivenOut s.nodes (Operation p ∷ []) t.nodes
   leaf_given v p e old new = (

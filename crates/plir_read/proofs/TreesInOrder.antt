@@ -6,13 +6,14 @@ use Rattle.plir_core.specs.declared.ptr.Operation.{Operation as OperationKind}
 use Rattle.plir_core.specs.declared.ptr.Region.{Region as RegionKind}
 use Rattle.plir_core.specs.declared.ptr.IRNode.{IRNode}
 use Rattle.plir_core.specs.declared.ptr.IRNode.TheVariants.{Operation, Region}
-use Rattle.plir_core.specs.Above.{Reaches, depth}
-use Rattle.plir_core.specs.Forest.{most_steps, up, seat_of}
+use Rattle.plir_core.specs.Above.{Reaches}
+use Rattle.plir_core.specs.Stored.{up, seat_of}
 use Rattle.plir_core.specs.Made.{IsMade}
-use Rattle.plir_core.specs.NodeLists.{Has}
+use Rattle.plir_store.specs.Members.{Has}
 use Rattle.plir_core.specs.Placed.{IsPlaced}
 use Rattle.plir_core.specs.Standing.{IsStanding}
-use Rattle.plir_core.specs.Store.{Store, IsLive, kids, parent_of, depth as depth_in}
+use Rattle.plir_core.specs.Store.{Store, IsLive, kids, parent_of}
+use Rattle.plir_core.specs.Measures.{depth_from, most_steps, depth as depth_in}
 use Rattle.plir_text.specs.Names.{Grows}
 use Rattle.plir_read.specs.Slots.{pre_order, node_slots, AreNext, AreGivenOut, tree_in_order, below_in_order, IsMadeInOrder, IsGrownInOrder}
 use Rattle.plir_read.proofs.Frames.{IsFrame, frame_made, frame_placed, kid_below}
@@ -39,7 +40,7 @@ module _ {N : Type 0} where
   enough_levels K level most deeper deepest (suc k) (suc j) n h g =
       ap (λ ms. n ∷ ms) (flat_map-same (pre_order K k) (pre_order K j) (K n) (λ x m. let d = deeper n x m in enough_levels K level most deeper deepest k j x (omega arith) (omega arith)))
 
-  some_depth : (above : N → Option N) (k : ℕ) (n : N) → 0 < k → 0 < depth above k (Some n)
+  some_depth : (above : N → Option N) (k : ℕ) (n : N) → 0 < k → 0 < depth_from above k (Some n)
   some_depth above zero n h = absurd (omega arith)
   some_depth above (suc k) n h = omega arith
 
@@ -48,10 +49,10 @@ module _ {K A T : Type 0} where
   pub tree_is : (s : Store K A T) → IsStanding s → (n : IRNode) → tree_in_order s.nodes n ≡ n ∷ below_in_order s.nodes n
   tree_is s w n =
       let here : 0 < depth_in s n = some_depth (up s.nodes) (most_steps s.nodes) (seat_of n) (omega arith) in
-      let deeper = λ (a x : IRNode) (h : Has (kids s a) x). w.deeper a x (w.kid_parent a x h) in
+      let deeper = λ (a x : IRNode) (h : Has (kids s a) x). w.measured.deeper a x (w.forest.kid_parent a x h) in
       ap (λ ms. n ∷ ms) (flat_map-same (pre_order (kids s) s.nodes.limit) (tree_in_order s.nodes) (kids s n) (λ x h.
       let d = deeper n x h in
-      enough_levels (kids s) (depth_in s) (s.nodes.limit + 2) deeper (λ m. let b = w.deepest m in omega arith) s.nodes.limit (suc s.nodes.limit) x (omega arith) (omega arith)))
+      enough_levels (kids s) (depth_in s) (s.nodes.limit + 2) deeper (λ m. let b = w.measured.deepest m in omega arith) s.nodes.limit (suc s.nodes.limit) x (omega arith) (omega arith)))
 
   module _ (s t : Store K A T) (P : IRNode → Type 0) (f : IsFrame s t P) (limit : t.nodes.limit ≡ s.nodes.limit) where
     tree_kept : (n : IRNode) → P n → tree_in_order t.nodes n ≡ tree_in_order s.nodes n
@@ -90,7 +91,7 @@ module _ {K A T : Type 0} where
         let kept : flat_map (tree_in_order u.nodes) (kids t over) ≡ below_in_order s.nodes over =
         trees_kept t u (λ m. Reaches (parent_of t) over m → ⊥) beside placed.moved.limit (kids t over) (λ m k. kid_below t now over m k)
         ∙ ap (flat_map (tree_in_order t.nodes)) (made.kids over live)
-        ∙ trees_kept s t (λ m. IsLive s m) older made.keeps.limit (kids s over) (λ m k. before.kid_live over m k) in
+        ∙ trees_kept s t (λ m. IsLive s m) older made.keeps.limit (kids s over) (λ m k. before.forest.kid_live over m k) in
         let last : flat_map (tree_in_order u.nodes) (n ∷ []) ≡ tree_in_order t.nodes n = append-nil (tree_in_order u.nodes n) ∙ tree_kept t u (λ m. Reaches (parent_of t) over m → ⊥) beside placed.moved.limit n apart in
         let all : below_in_order u.nodes over ≡ below_in_order s.nodes over ++ tree_in_order t.nodes n =
         ap (flat_map (tree_in_order u.nodes)) placed.kids_over ∙ flat_map-append (tree_in_order u.nodes) (kids t over) (n ∷ []) ∙ ap₂ (λ xs ys. xs ++ ys) kept last in

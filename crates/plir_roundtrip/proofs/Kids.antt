@@ -10,9 +10,10 @@ use Rattle.plir_core.specs.declared.ptr.IRNode.{IRNode}
 use Rattle.plir_core.specs.declared.ptr.IRNode.TheVariants.{Operation, Region, BasicBlock}
 use Rattle.plir_store.specs.Lists.{kids_at}
 use Rattle.plir_core.specs.Nodes.{ptr_at, op_node, region_node, block_node}
-use Rattle.plir_core.specs.NodeLists.{Has}
+use Rattle.plir_store.specs.Members.{Has}
 use Rattle.plir_core.specs.Standing.{IsStanding}
-use Rattle.plir_core.specs.Store.{Store, is_live, kids, depth, limit}
+use Rattle.plir_core.specs.Store.{Store, is_live, kids, limit}
+use Rattle.plir_core.specs.Measures.{depth}
 use Rattle.plir_walk.specs.Tree.{IsUnder, node_at}
 use Rattle.plir_roundtrip.specs.Readable.{IsOpReadable, IsBlockReadable}
 
@@ -86,14 +87,14 @@ module _ {K A T : Type 0} (s : Store K A T) where
 
   module _ (st : IsStanding s) where
     pub some_room : (x : IRNode) → HasRoom x 0 → ⊥
-    some_room x h = let d = st.deepest x in omega (arith, h, d)
+    some_room x h = let d = st.measured.deepest x in omega (arith, h, d)
 
     pub kid_room : (a x : IRNode) (k : ℕ) → Has (kids s a) x → HasRoom a (suc k) → HasRoom x k
-    kid_room a x k h room = let d = st.deeper a x (st.kid_parent a x h) in omega (arith, room, d)
+    kid_room a x k h room = let d = st.measured.deeper a x (st.forest.kid_parent a x h) in omega (arith, room, d)
 
     -- more levels are room too
     pub lower_room : (a x : IRNode) (k : ℕ) → Has (kids s a) x → HasRoom a k → HasRoom x k
-    lower_room a x k h room = let d = st.deeper a x (st.kid_parent a x h) in omega (arith, room, d)
+    lower_room a x k h room = let d = st.measured.deeper a x (st.forest.kid_parent a x h) in omega (arith, room, d)
 
 -- ---- numbers in a row
 

@@ -1,6 +1,5 @@
 pub mod Suffixed
 pub mod PrintedNames
-pub mod AttrsShown
 pub mod Joined
 pub mod PartsShown
 pub mod Kids

@@ -1,28 +1,24 @@
 -- What is meant by attributes and types that were written, in a table that has grown on.
-use Rattle.std.proofs.Common.{◌≡◌, ℕ, List, [], ◌∷◌, Option, Some, refl, ap, subst, ◌∙◌, arith, append-nil}
+use Rattle.std.proofs.Common.{◌≡◌, ℕ, List, [], ◌∷◌, Option, Some, refl, ap, subst, ◌∙◌, append-nil}
 use Rattle.plir_data.specs.AttrView as views
 use Rattle.plir_data.specs.AttrView.{AttrView}
 use Rattle.plir_data.specs.Dictionary.{IsDictionary, dict_of}
 use Rattle.plir_data.specs.Laws.{IsDictOfItself}
 use Rattle.plir_data.specs.TypeTree.{tree_of}
 use Rattle.plir_data.specs.Types.{TypeView, IsTypeTable, IsLive}
-use Rattle.plir_text.specs.AttrGrammar.{AttrWithin}
-use Rattle.plir_text.specs.AttrText.{attr_text}
-use Rattle.plir_text.specs.AttrsAgain.{one_attr}
-use Rattle.plir_text.specs.AttrsShown.{text_stands}
+use Rattle.plir_text.specs.AttrsShown.{attr_meant}
 use Rattle.plir_text.specs.Growth.{at_grown, Names-grown}
 use Rattle.plir_text.specs.Meaning.{IsMeant, AreEntriesMeant, IsDictMeant}
+use Rattle.plir_text.specs.Meanings.{IsMeant-grown}
 use Rattle.plir_text.specs.Names.{Grows, Names}
 use Rattle.plir_text.specs.Runs.{Shown}
 use Rattle.plir_text.specs.SameMeanings.{same_attr}
 use Rattle.plir_text.specs.SameNames.{same_handle}
-use Rattle.plir_text.specs.Terms.{levels}
 use Rattle.plir_text.specs.Tokens.{Token, Begins}
 use Rattle.plir_text.specs.TypeGrammar.{IsText}
 use Rattle.plir_text.specs.TypesShown.{type_named}
 use Rattle.plir_text.specs.Writable.{IsBuiltin, IsWritable, type_term, attr_term, entry_terms}
 use Rattle.plir_roundtrip.specs.Written.{some_type_term, some_attr_term}
-use Rattle.plir_roundtrip.proofs.AttrsShown.{attr-shown}
 use Rattle.plir_roundtrip.proofs.PartsShown.{AreWritable}
 
 -- a text that is tokens which spell something stands for it
@@ -45,16 +41,10 @@ module _ {T : Type 0} (own_handles : T → List ℕ) (old new : List (TypeView T
   pub handle_again : (x : Option ℕ) (h k : ℕ) → x ≡ Some h → IsLive old h → IsBuiltin (tree_of old h) → Names new k (some_type_term old x) → k ≡ h
   handle_again x h k e live b n = same_handle own_handles new table (type_term (tree_of old h)) k h (subst (λ z. Names new k (some_type_term old z)) e n) (type_stays h live b)
 
-  module _ {A : Type 0} (itself : IsDictOfItself (AttrView A)) (own_id : A → List ℕ) (own_body : List (TypeView T) → A → List ℕ) (type_id : T → List ℕ) (type_body : List (TypeView T) → T → List ℕ) where
+  module _ {A : Type 0} (itself : IsDictOfItself (AttrView A)) where
     -- an attribute that was written is meant by its term
     attr_stays : (x : AttrView A) → IsWritable old x → IsMeant new (attr_term old x) x
-    attr_stays x w =
-        let n = levels (attr_term old x) in
-        let text = attr_text own_id own_body type_id type_body old x in
-        let shown = attr-shown own_id own_body type_id type_body old x w in
-        let ours : IsText (AttrWithin n) text (attr_term old x) = whole_text (AttrWithin n) (attr_term old x) text (record { first = shown.first; others = shown.others; spelled = (shown.spelled, omega arith); begun = shown.begun }) in
-        let theirs = text_stands itself own_handles old table_before own_id own_body type_id type_body n new g x w (omega arith) in
-        subst (λ t. IsMeant new t x) (one_attr n n text theirs.0 (attr_term old x) theirs.1 ours) theirs.2
+    attr_stays x w = IsMeant-grown old new g (attr_term old x) x (attr_meant itself own_handles old table_before x w)
 
     pub attr_again : (x : Option (AttrView A)) (a y : AttrView A) → x ≡ Some a → IsWritable old a → IsMeant new (some_attr_term old x) y → y ≡ a
     attr_again x a y e w m = same_attr own_handles new table (attr_term old a) y a (subst (λ z. IsMeant new (some_attr_term old z) y) e m) (attr_stays a w)

@@ -15,7 +15,8 @@ use Rattle.plir_core.specs.declared.ptr.IRNode.{IRNode}
 use Rattle.plir_core.specs.declared.ptr.IRNode.TheVariants.{Operation, Region, BasicBlock}
 use Rattle.plir_core.specs.declared.value.DefiningEntity.TheVariants.{Op, Block}
 use Rattle.plir_core.specs.Standing.{IsStanding}
-use Rattle.plir_core.specs.Store.{Store, kids, kind_of, kind_in, attributes_of, attributes_in, results_in, operands_in, successors_in, arguments_in, label_in, block_attributes_in, depth, limit}
+use Rattle.plir_core.specs.Store.{Store, kids, kind_of, kind_in, attributes_of, attributes_in, results_in, operands_in, successors_in, arguments_in, label_in, block_attributes_in, limit}
+use Rattle.plir_core.specs.Measures.{depth}
 use Rattle.plir_text.specs.Terms.{entries_levels}
 use Rattle.plir_text.specs.Writable.{entry_terms, IsNameOrMark}
 use Rattle.plir_walk.specs.Tree.{Place, node_at}
@@ -150,7 +151,7 @@ module _ {D K A T E : Type 0} (o : op_set.Ghosts D K A T E) (s : Store K A T) (s
       ]
     ];
     levels =
-        let d = st.deepest (Operation p) in
+        let d = st.measured.deepest (Operation p) in
         let is : room s (Operation p) ≡ suc (limit s + 1 - depth s (Operation p)) = omega (arith, d) in
         subst (λ k. op_levels (term_at o s k (Operation p)) ≤ 200) (sym is) (level (limit s + 1 - depth s (Operation p)));
   }

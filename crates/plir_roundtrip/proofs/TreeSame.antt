@@ -19,7 +19,7 @@ use Rattle.plir_core.specs.declared.ptr.IRNode.{IRNode}
 use Rattle.plir_core.specs.declared.ptr.IRNode.TheVariants.{Operation, Region, BasicBlock}
 use Rattle.plir_core.specs.declared.value.DefiningEntity.TheVariants.{Block}
 use Rattle.plir_core.specs.Contents.{OpView, BlockView}
-use Rattle.plir_core.specs.NodeLists.{Has}
+use Rattle.plir_store.specs.Members.{Has}
 use Rattle.plir_core.specs.Standing.{IsStanding}
 use Rattle.plir_core.specs.Store.{Store, kids, kind_of, op_at, block_at, attributes_of, result_types_of, results_in, arg_types_of, arguments_in, label_in, block_attributes_in}
 use Rattle.plir_core.specs.Whole.{IsWhole}
@@ -157,7 +157,7 @@ module _ {D K A T E : Type 0} (o : op_set.Ghosts D K A T E) (s t : Store K A T) 
 
   entries_are : (p : Ptr OperationKind) (b : IsBodyReadable s p) (entries : List (List ℕ × AttrView A)) → IsDictMeant t.types (dictionary_term o s p) entries → entries ≡ shown o s p
   entries_are p b entries m =
-      dictionary_again o.type_handles s.types t.types g table itself o.attr_id o.attr_text o.type_id o.type_body_text (shown o s p) entries (filter_dictionary (is_shown o (kind_of s p)) (attributes_of s p) b.dictionary) (shown_writable o s.types (kind_of s p) (attributes_of s p) b.dictionary b.entries) m
+      dictionary_again o.type_handles s.types t.types g table itself (shown o s p) entries (filter_dictionary (is_shown o (kind_of s p)) (attributes_of s p) b.dictionary) (shown_writable o s.types (kind_of s p) (attributes_of s p) b.dictionary b.entries) m
 
   module _ (j : ℕ) (p : Ptr OperationKind) (y : IRNode) (readable : IsOpReadable s p) where
     abbrev bs : BlockTerms
@@ -198,7 +198,7 @@ module _ {D K A T E : Type 0} (o : op_set.Ghosts D K A T E) (s t : Store K A T) 
         let live = at_first (IsTypeLive s.types) (result_types_of s p) c.handle c.result (results_live p) in
         let builtin : IsBuiltin (tree_of s.types c.handle) = at_first (λ h. IsBuiltin (tree_of s.types h)) (result_types_of s p) c.handle c.result readable.results.types in
         let handle : h.1 ≡ c.handle = handle_again o.type_handles s.types t.types g table (slice_get (result_types_of s p) 0) c.handle h.1 first live builtin h.2.typed in
-        let value : h.0 ≡ c.value = attr_again o.type_handles s.types t.types g table itself o.attr_id o.attr_text o.type_id o.type_body_text (value_of s p) c.value h.0 c.held (r.value c.value c.held) h.2.meant in
+        let value : h.0 ≡ c.value = attr_again o.type_handles s.types t.types g table itself (value_of s p) c.value h.0 c.held (r.value c.value c.held) h.2.meant in
         let names = result_names (result_name s p 0 ∷ []) in
         let held = op_held t y (constant_op names h.0 h.1) h.3 in
         let same = subst (λ z. op_at t held.0 ≡ Some (constant_op names c.value z)) handle (subst (λ z. op_at t held.0 ≡ Some (constant_op names z h.1)) value held.2) in

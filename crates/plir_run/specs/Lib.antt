@@ -1,4 +1,4 @@
 -- What the contracts of this crate cite.
 --
---   Right   AreRight: tables that agree with a context
-pub mod Right
+--   Agreement   TablesAgree: all tables agree with a context
+pub mod Agreement

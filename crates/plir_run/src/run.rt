@@ -1,5 +1,5 @@
 //! A script from a reader to a writer.
-ghost use Rattle.plir_run.specs.Right.{AreRight};
+ghost use Rattle.plir_run.specs.Agreement.{TablesAgree};
 
 use crate::lines::Lines;
 use crate::script::Script;
@@ -49,7 +49,7 @@ fn run_lines<R: Read + Drop, W: Write>(
     lines: &mut Lines<R>,
     writer: &mut W,
 ) -> Result<(), Stop>
-    requires agree { AreRight ⟦<BuiltinSet as OpSet>⟧ script.old.ctx script.old.tables }
+    requires agree { TablesAgree ⟦<BuiltinSet as OpSet>⟧ script.old.ctx script.old.tables }
 {
     for _ in 0..u64::MAX {
         match lines.next_line()? {

@@ -2,7 +2,7 @@
 ghost use Rattle.std.specs.Prelude.{IfOk};
 ghost use Rattle.plir_core.specs.Store.{IsLive};
 ghost use Rattle.plir_core.specs.declared.ptr.IRNode.{IRNode as AnyNode};
-ghost use Rattle.plir_run.specs.Right.{AreRight};
+ghost use Rattle.plir_run.specs.Agreement.{TablesAgree};
 
 use crate::command::{Command, read_command};
 use crate::stop::Stop;
@@ -38,7 +38,7 @@ pub struct Script {
 impl Script {
     /// Nothing built yet.
     pub fn new(alloc: Global) -> Self
-        ensures agree { AreRight ⟦<BuiltinSet as OpSet>⟧ result.ctx result.tables }
+        ensures agree { TablesAgree ⟦<BuiltinSet as OpSet>⟧ result.ctx result.tables }
     {
         let ctx = Context::new(alloc);
         no_tables_agree(&ctx);
@@ -54,8 +54,8 @@ impl Script {
 
     /// Does what a line says.
     pub fn run_line<W: Write>(&mut self, line: &str, writer: &mut W) -> Result<(), Stop>
-        requires agree { AreRight ⟦<BuiltinSet as OpSet>⟧ self.old.ctx self.old.tables }
-        ensures agree { AreRight ⟦<BuiltinSet as OpSet>⟧ self.new.ctx self.new.tables }
+        requires agree { TablesAgree ⟦<BuiltinSet as OpSet>⟧ self.old.ctx self.old.tables }
+        ensures agree { TablesAgree ⟦<BuiltinSet as OpSet>⟧ self.new.ctx self.new.tables }
     {
         match read_command(line) {
             None => Err(Stop::Refused),
@@ -73,8 +73,8 @@ impl Script {
 
     // The root, if there is none yet, or an operation of the innermost open module; it becomes the innermost open one.
     fn add_module(&mut self, name: &str) -> Result<(), Stop>
-        requires agree { AreRight ⟦<BuiltinSet as OpSet>⟧ self.old.ctx self.old.tables }
-        ensures agree { AreRight ⟦<BuiltinSet as OpSet>⟧ self.new.ctx self.new.tables }
+        requires agree { TablesAgree ⟦<BuiltinSet as OpSet>⟧ self.old.ctx self.old.tables }
+        ensures agree { TablesAgree ⟦<BuiltinSet as OpSet>⟧ self.new.ctx self.new.tables }
     {
         if self.open.is_empty() && self.root.is_some() {
             return Err(Stop::Refused);
@@ -92,8 +92,8 @@ impl Script {
 
     // The first module of all.
     fn make_root(&mut self, name: Identifier) -> Result<Ptr<Operation>, Stop>
-        requires agree { AreRight ⟦<BuiltinSet as OpSet>⟧ self.old.ctx self.old.tables }
-        ensures agree { AreRight ⟦<BuiltinSet as OpSet>⟧ self.new.ctx self.new.tables }
+        requires agree { TablesAgree ⟦<BuiltinSet as OpSet>⟧ self.old.ctx self.old.tables }
+        ensures agree { TablesAgree ⟦<BuiltinSet as OpSet>⟧ self.new.ctx self.new.tables }
     {
         let _before = self.ctx.num_live();
         let made = ModuleOp::new(self.alloc, &mut self.ctx, name);
@@ -105,8 +105,8 @@ impl Script {
 
     // A module in the innermost open one.
     fn make_module(&mut self, name: Identifier) -> Result<Ptr<Operation>, Stop>
-        requires agree { AreRight ⟦<BuiltinSet as OpSet>⟧ self.old.ctx self.old.tables }
-        ensures agree { AreRight ⟦<BuiltinSet as OpSet>⟧ self.new.ctx self.new.tables }
+        requires agree { TablesAgree ⟦<BuiltinSet as OpSet>⟧ self.old.ctx self.old.tables }
+        ensures agree { TablesAgree ⟦<BuiltinSet as OpSet>⟧ self.new.ctx self.new.tables }
     {
         let target = self.innermost()?;
         let _before = self.ctx.num_live();
@@ -119,8 +119,8 @@ impl Script {
 
     // A function without arguments and results, in the innermost open module.
     fn add_func(&mut self, name: &str) -> Result<(), Stop>
-        requires agree { AreRight ⟦<BuiltinSet as OpSet>⟧ self.old.ctx self.old.tables }
-        ensures agree { AreRight ⟦<BuiltinSet as OpSet>⟧ self.new.ctx self.new.tables }
+        requires agree { TablesAgree ⟦<BuiltinSet as OpSet>⟧ self.old.ctx self.old.tables }
+        ensures agree { TablesAgree ⟦<BuiltinSet as OpSet>⟧ self.new.ctx self.new.tables }
     {
         if self.open.is_empty() {
             return Err(Stop::Refused);
@@ -181,8 +181,8 @@ impl Script {
 
     // Looks a name up from the innermost open module, else from the root.
     fn find(&mut self, name: &str) -> Result<Option<Ptr<Operation>>, Stop>
-        requires agree { AreRight ⟦<BuiltinSet as OpSet>⟧ self.old.ctx self.old.tables }
-        ensures agree { AreRight ⟦<BuiltinSet as OpSet>⟧ self.new.ctx self.new.tables }
+        requires agree { TablesAgree ⟦<BuiltinSet as OpSet>⟧ self.old.ctx self.old.tables }
+        ensures agree { TablesAgree ⟦<BuiltinSet as OpSet>⟧ self.new.ctx self.new.tables }
     {
         let from = self.innermost()?;
         let name = Identifier::try_new(self.alloc, name)?;
@@ -193,8 +193,8 @@ impl Script {
     }
 
     fn look_up<W: Write>(&mut self, name: &str, writer: &mut W) -> Result<(), Stop>
-        requires agree { AreRight ⟦<BuiltinSet as OpSet>⟧ self.old.ctx self.old.tables }
-        ensures agree { AreRight ⟦<BuiltinSet as OpSet>⟧ self.new.ctx self.new.tables }
+        requires agree { TablesAgree ⟦<BuiltinSet as OpSet>⟧ self.old.ctx self.old.tables }
+        ensures agree { TablesAgree ⟦<BuiltinSet as OpSet>⟧ self.new.ctx self.new.tables }
     {
         match self.find(name)? {
             Some(_) => print_named(writer, "found", name),
@@ -204,8 +204,8 @@ impl Script {
 
     // Erases what has a name in the innermost open module, else in the root.
     fn erase<W: Write>(&mut self, name: &str, writer: &mut W) -> Result<(), Stop>
-        requires agree { AreRight ⟦<BuiltinSet as OpSet>⟧ self.old.ctx self.old.tables }
-        ensures agree { AreRight ⟦<BuiltinSet as OpSet>⟧ self.new.ctx self.new.tables }
+        requires agree { TablesAgree ⟦<BuiltinSet as OpSet>⟧ self.old.ctx self.old.tables }
+        ensures agree { TablesAgree ⟦<BuiltinSet as OpSet>⟧ self.new.ctx self.new.tables }
     {
         let op = self.find(name)?.ok_or(Stop::Refused)?;
         let target = self.innermost()?;
@@ -218,8 +218,8 @@ impl Script {
     }
 
     fn close_module(&mut self) -> Result<(), Stop>
-        requires agree { AreRight ⟦<BuiltinSet as OpSet>⟧ self.old.ctx self.old.tables }
-        ensures agree { AreRight ⟦<BuiltinSet as OpSet>⟧ self.new.ctx self.new.tables }
+        requires agree { TablesAgree ⟦<BuiltinSet as OpSet>⟧ self.old.ctx self.old.tables }
+        ensures agree { TablesAgree ⟦<BuiltinSet as OpSet>⟧ self.new.ctx self.new.tables }
     {
         match self.open.pop() {
             None => Err(Stop::Refused),

@@ -3,7 +3,7 @@ ghost use Rattle.std.specs.Prelude.{IsTrue};
 ghost use Rattle.plir_core.specs.Store.{IsLive, IsAncestor};
 ghost use Rattle.plir_core.specs.Unused.{IsUnusedOutside};
 ghost use Rattle.plir_core.specs.declared.ptr.IRNode.{IRNode as AnyNode};
-ghost use Rattle.plir_run.specs.Right.{AreRight};
+ghost use Rattle.plir_run.specs.Agreement.{TablesAgree};
 
 use crate::stop::Stop;
 use plir_builtin::SymbolTableCollection;
@@ -20,8 +20,8 @@ pub fn insert<D: OpSet>(
     requires target_live { IsLive ctx.old (AnyNode.Operation target) }
     requires op_live { IsLive ctx.old (AnyNode.Operation op) }
     requires not_above { IsAncestor ctx.old (AnyNode.Operation op) (AnyNode.Operation target) → ⊥ }
-    requires agree { AreRight D.OpSet ctx.old tables.old }
-    ensures agree { AreRight D.OpSet ctx.new tables.new }
+    requires agree { TablesAgree D.OpSet ctx.old tables.old }
+    ensures agree { TablesAgree D.OpSet ctx.new tables.new }
 {
     let table = tables.get_symbol_table(ctx, target)?;
     table.insert(ctx, op, None)?;
@@ -36,8 +36,8 @@ pub fn erase<D: OpSet>(
     op: Ptr<Operation>,
 ) -> Result<(), Stop>
     requires target_live { IsLive ctx.old (AnyNode.Operation target) }
-    requires agree { AreRight D.OpSet ctx.old tables.old }
-    ensures agree { AreRight D.OpSet ctx.new tables.new }
+    requires agree { TablesAgree D.OpSet ctx.old tables.old }
+    ensures agree { TablesAgree D.OpSet ctx.new tables.new }
 {
     if !is_erasable(ctx, op) {
         return Err(Stop::Refused);

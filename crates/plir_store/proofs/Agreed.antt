@@ -1,24 +1,25 @@
 -- Lists that agree with the parents of their children.
 use Rattle.std.proofs.Common.{◌≡◌, ℕ, ◌<◌, true, false, cond, eqb, List, [], ◌∷◌, length, Option, Some, None, IfSome, inl, inr, refl}
+use Rattle.plir_store.specs.Members.{Has, head}
 use Rattle.plir_store.specs.ListLaws.{within_from_kid}
-use Rattle.plir_store.specs.Lists.{Lists, In, IsAgreed, kids_at, parent_at, first_of, last_of, last_from, next_in, prev_in, next_of, prev_of, next_under, prev_under}
+use Rattle.plir_store.specs.Lists.{Lists, IsAgreed, kids_at, parent_at, last_of, last_from, next_in, prev_in, next_of, prev_of, next_under, prev_under}
 
-first_within_in : (n : ℕ) (xs : List ℕ) → ((x : ℕ) → In x xs → x < n) → IfSome (first_of xs) (λ j. j < n)
+first_within_in : (n : ℕ) (xs : List ℕ) → ((x : ℕ) → Has xs x → x < n) → IfSome (head xs) (λ j. j < n)
 first_within_in n [] h = tt
 first_within_in n (x ∷ xs) h = h x (inl refl)
 
-last_within_in : (n : ℕ) (a : Option ℕ) (xs : List ℕ) → IfSome a (λ j. j < n) → ((x : ℕ) → In x xs → x < n) → IfSome (last_from a xs) (λ j. j < n)
+last_within_in : (n : ℕ) (a : Option ℕ) (xs : List ℕ) → IfSome a (λ j. j < n) → ((x : ℕ) → Has xs x → x < n) → IfSome (last_from a xs) (λ j. j < n)
 last_within_in n a [] g h = g
 last_within_in n a (x ∷ xs) g h = last_within_in n (Some x) xs (h x (inl refl)) (λ y i. h y (inr i))
 
-next_within_in : (n : ℕ) (xs : List ℕ) (c : ℕ) → ((x : ℕ) → In x xs → x < n) → IfSome (next_in xs c) (λ j. j < n)
+next_within_in : (n : ℕ) (xs : List ℕ) (c : ℕ) → ((x : ℕ) → Has xs x → x < n) → IfSome (next_in xs c) (λ j. j < n)
 next_within_in n [] c h = tt
-next_within_in n (x ∷ xs) c h = elim (eqb x c) as (λ b. IfSome (cond b (first_of xs) (next_in xs c)) (λ j. j < n)) [
+next_within_in n (x ∷ xs) c h = elim (eqb x c) as (λ b. IfSome (cond b (head xs) (next_in xs c)) (λ j. j < n)) [
   | true ↦ first_within_in n xs (λ y i. h y (inr i))
   | false ↦ next_within_in n xs c (λ y i. h y (inr i))
 ]
 
-prev_within_in : (n : ℕ) (a : Option ℕ) (xs : List ℕ) (c : ℕ) → IfSome a (λ j. j < n) → ((x : ℕ) → In x xs → x < n) → IfSome (prev_in a xs c) (λ j. j < n)
+prev_within_in : (n : ℕ) (a : Option ℕ) (xs : List ℕ) (c : ℕ) → IfSome a (λ j. j < n) → ((x : ℕ) → Has xs x → x < n) → IfSome (prev_in a xs c) (λ j. j < n)
 prev_within_in n a [] c g h = tt
 prev_within_in n a (x ∷ xs) c g h = elim (eqb x c) as (λ b. IfSome (cond b a (prev_in (Some x) xs c)) (λ j. j < n)) [
   | true ↦ g
@@ -26,10 +27,10 @@ prev_within_in n a (x ∷ xs) c g h = elim (eqb x c) as (λ b. IfSome (cond b a 
 ]
 
 module _ (s : Lists) (a : IsAgreed s) where
-  kid_within : (p c : ℕ) → In c (kids_at s p) → c < length s.parents
+  kid_within : (p c : ℕ) → Has (kids_at s p) c → c < length s.parents
   kid_within p c i = a.within p c i
 
-  pub first_of_within : (p : ℕ) → IfSome (first_of (kids_at s p)) (λ c. c < length s.parents)
+  pub first_of_within : (p : ℕ) → IfSome (head (kids_at s p)) (λ c. c < length s.parents)
   first_of_within p = first_within_in (length s.parents) (kids_at s p) (kid_within p)
 
   pub last_of_within : (p : ℕ) → IfSome (last_of (kids_at s p)) (λ c. c < length s.parents)

@@ -3,12 +3,13 @@ use Rattle.std.proofs.Common.{◌≡◌, ℕ, ◌+◌, ◌<◌, ◌^◌, List, [
 use Rattle.std.proofs.lemmas.Bool.{cases_lt}
 use Rattle.std.proofs.lemmas.List.{take_more, take_all, length-take-le, take-map, append-nil, map-append, map-set, set-get_or, get_or_past, length-map, get_or-map, length-append, get_or_read}
 use Rattle.std.proofs.lemmas.Option.{none-some}
+use Rattle.plir_store.specs.Members.{Distinct, head}
 use Rattle.plir_store.specs.ListLaws.{get_or-push_default}
 use Rattle.plir_store.specs.declared.chains.Link.{Link}
 use Rattle.plir_store.specs.declared.chains.Ends.{Ends}
-use Rattle.plir_store.specs.Lists.{Lists, kids_at, parent_at, first_of, last_of, next_of, prev_of, next_under, prev_under, put_in, put_in_after, without, with_before, with_before_under, with_after, with_after_under, without_child, without_under, with_list, with_child, without_last_list, without_last_child, IsAgreed}
-use Rattle.plir_store.specs.Links.{no_link, no_ends, link_at, ends_at, after, before, put_next, put_prev, ends_in, links_in, ends_out, links_out, Apart, Joined, kids_of, parents_of, lists_of, IsLinked}
-use Rattle.plir_store.proofs.Members.{cut, put_in-cut, put_in_after-cut, without-cut, Apart-mid_left}
+use Rattle.plir_store.specs.Lists.{Lists, kids_at, parent_at, last_of, next_of, prev_of, next_under, prev_under, put_in, put_in_after, without, with_before, with_before_under, with_after, with_after_under, without_child, without_under, with_list, with_child, without_last_list, without_last_child, IsAgreed}
+use Rattle.plir_store.specs.Links.{no_link, no_ends, link_at, ends_at, after, before, put_next, put_prev, ends_in, links_in, ends_out, links_out, Joined, kids_of, parents_of, lists_of, IsLinked}
+use Rattle.plir_store.proofs.Members.{cut, put_in-cut, put_in_after-cut, without-cut, Distinct-mid_left}
 use Rattle.plir_store.proofs.Writes.{within_from_parent}
 use Rattle.plir_store.proofs.Joined.{back_is, front_is, next_is, prev_is, Joined-cut, Joined-frame, last_from-push}
 use Rattle.plir_store.proofs.Steps.{kids_of_is, held_within, gap_l_in, gap_r_in, IsLinked-insert, IsLinked-remove, IfSome-within, remove_l_in, remove_r_in}
@@ -31,7 +32,7 @@ pub record IsGap (es : List Ends) (ls : List Link) (xs : List ℕ) (grown : ℕ 
   pub back : List ℕ
   pub whole : xs ≡ front ++ back
   pub grows : (c : ℕ) → grown c ≡ front ++ c ∷ back
-  pub right : r ≡ first_of back
+  pub right : r ≡ head back
   pub left : l ≡ before es ls p r
 
 parents_of-set : (ls : List Link) (c : ℕ) (l : Link) → parents_of (set ls c l) ≡ set (parents_of ls) c l.parent
@@ -63,7 +64,7 @@ module _ (es : List Ends) (ls : List Link) (k : IsLinked es ls (kids_of es ls)) 
   abbrev now : Lists
   now = lists_of es ls
 
-  pub first_is : (p : ℕ) → (ends_at es p).first ≡ first_of (kids_at now p)
+  pub first_is : (p : ℕ) → (ends_at es p).first ≡ head (kids_at now p)
   first_is p = front_is (after es ls p) (before es ls p) None None (kids_at now p) (k.joined p)
 
   pub last_is : (p : ℕ) → (ends_at es p).last ≡ last_of (kids_at now p)
@@ -129,7 +130,7 @@ module _ (es : List Ends) (ls : List Link) (k : IsLinked es ls (kids_of es ls)) 
         front = t.front;
         back = m ∷ t.back;
         whole = t.whole;
-        grows = λ c. ap (put_in c m) t.whole ∙ put_in-cut c m t.front t.back (Apart-mid_left m t.front t.back (subst Apart t.whole (k.apart p)));
+        grows = λ c. ap (put_in c m) t.whole ∙ put_in-cut c m t.front t.back (Distinct-mid_left m t.front t.back (subst Distinct t.whole (k.apart p)));
         right = refl;
         left = refl;
       }
@@ -142,14 +143,14 @@ module _ (es : List Ends) (ls : List Link) (k : IsLinked es ls (kids_of es ls)) 
       subst (λ xs. Joined (after es ls p) (before es ls p) None xs None) whole (k.joined p) in
       let u = Joined-cut (after es ls p) (before es ls p) None (t.front ++ m ∷ []) t.back joined in
       let v = Joined-cut (after es ls p) (before es ls p) None t.front (m ∷ t.back) (subst (λ xs. Joined (after es ls p) (before es ls p) None xs None) t.whole (k.joined p)) in
-      let next : (link_at ls m).next ≡ first_of t.back = front_is (after es ls p) (before es ls p) (Some m) None t.back v.1 in
+      let next : (link_at ls m).next ≡ head t.back = front_is (after es ls p) (before es ls p) (Some m) None t.back v.1 in
       record {
         front = t.front ++ m ∷ [];
         back = t.back;
         whole = whole;
-        grows = λ c. ap (put_in_after c m) t.whole ∙ put_in_after-cut c m t.front t.back (Apart-mid_left m t.front t.back (subst Apart t.whole (k.apart p)));
+        grows = λ c. ap (put_in_after c m) t.whole ∙ put_in_after-cut c m t.front t.back (Distinct-mid_left m t.front t.back (subst Distinct t.whole (k.apart p)));
         right = next;
-        left = sym (ap (before es ls p) next ∙ back_is (after es ls p) (before es ls p) None (first_of t.back) (t.front ++ m ∷ []) u.0 ∙ last_from-push None t.front m);
+        left = sym (ap (before es ls p) next ∙ back_is (after es ls p) (before es ls p) None (head t.back) (t.front ++ m ∷ []) u.0 ∙ last_from-push None t.front m);
       }
 
   gap_left_is : (p : ℕ) (l r : Option ℕ) (grown : ℕ → List ℕ) → IsGap es ls (kids_at now p) grown p l r → IfSome l (λ x. x < length ls)
@@ -166,7 +167,7 @@ module _ (es : List Ends) (ls : List Link) (k : IsLinked es ls (kids_of es ls)) 
       let r = (link_at ls c).next in
       let t = cut c (kids_at now p) (k.held p c linked) in
       let new : without c (kids_at now p) ≡ t.front ++ t.back =
-      ap (without c) t.whole ∙ without-cut c t.front t.back (Apart-mid_left c t.front t.back (subst Apart t.whole (k.apart p))) in
+      ap (without c) t.whole ∙ without-cut c t.front t.back (Distinct-mid_left c t.front t.back (subst Distinct t.whole (k.apart p))) in
       let s = without_under now c (Some p) in
       let parent : parent_at now c ≡ Some p = at_parents ls c ∙ linked in
       let kept = IsLinked-remove es ls (kids_of es ls) p c t.front t.back k t.whole linked in
@@ -247,10 +248,10 @@ module _ (es : List Ends) (ls : List Link) (s : Lists) (k : IsLinked es ls (kids
   pub parent_read : (c : ℕ) (o : Option ℕ) → parent_at s c ≡ o → (link_at ls c).parent ≡ o
   parent_read c o e = sym (parent_at_is es ls c) ∙ ap (λ z. parent_at z c) view ∙ e
 
-  pub first_done : (p : ℕ) (x : Ends) → p < length s.kids → x ≡ get_or es p x → x.first ≡ first_of (kids_at s p)
-  first_done p x h e = ap (λ z. z.first) (ends_read p x h e) ∙ first_is es ls k p ∙ ap (λ z. first_of (kids_at z p)) view
+  pub first_done : (p : ℕ) (x : Ends) → p < length s.kids → x ≡ get_or es p x → x.first ≡ head (kids_at s p)
+  first_done p x h e = ap (λ z. z.first) (ends_read p x h e) ∙ first_is es ls k p ∙ ap (λ z. head (kids_at z p)) view
 
-  first_none : (xs : List ℕ) → first_of xs ≡ None → xs ≡ []
+  first_none : (xs : List ℕ) → head xs ≡ None → xs ≡ []
   first_none [] e = refl
   first_none (x ∷ xs) e = absurd (none-some x (sym e))
 
@@ -258,7 +259,7 @@ module _ (es : List Ends) (ls : List Link) (s : Lists) (k : IsLinked es ls (kids
   empty_done p x h e none = first_none (kids_at s p) (sym (first_done p x h e) ∙ none)
 
   pub filled_done : (p c : ℕ) (x : Ends) → p < length s.kids → x ≡ get_or es p x → x.first ≡ Some c → kids_at s p ≡ [] → ⊥
-  filled_done p c x h e some empty = none-some c (ap first_of (sym empty) ∙ sym (first_done p x h e) ∙ some)
+  filled_done p c x h e some empty = none-some c (ap head (sym empty) ∙ sym (first_done p x h e) ∙ some)
 
   pub parent_done : (c : ℕ) (x : Link) → c < length s.parents → x ≡ get_or ls c x → x.parent ≡ parent_at s c
   parent_done c x h e = ap (λ z. z.parent) (link_read c x h e) ∙ parent_read c (parent_at s c) refl
@@ -381,7 +382,7 @@ module _ (es : List Ends) (ls : List Link) (s : Lists) (k : IsLinked es ls (kids
       let es' = take i es in
       let ks = kids_of es ls in
       let none' : kids_at (lists_of es ls) i ≡ [] = ap (λ z. kids_at z i) view ∙ subst (λ (m : ℕ). kids_at s (m - 1) ≡ []) n none in
-      let first : (ends_at es i).first ≡ None = first_is es ls k i ∙ ap first_of none' in
+      let first : (ends_at es i).first ≡ None = first_is es ls k i ∙ ap head none' in
       let final : (ends_at es i).last ≡ None = last_is es ls k i ∙ ap last_of none' in
       let last : ends_at es i ≡ no_ends = ends_none (ends_at es i) first final in
       let whole : es ≡ es' ++ no_ends ∷ [] = front_last es no_ends (omega (arith, n)) ∙ ap (λ z. es' ++ z ∷ []) last in

@@ -3,16 +3,16 @@ use Rattle.std.proofs.Common.{◌≡◌, ℕ, zero, suc, ◌+◌, ◌-◌, ◌<�
 use Rattle.std.proofs.lemmas.List.{get_or-set_same, get_or-set_other, get_or_read, get_or_past, length_push}
 use Rattle.std.proofs.lemmas.Option.{same_Some, none-some}
 use Rattle.std.proofs.lemmas.Bool.{ne_eqb}
-use Rattle.plir_store.specs.Lists.{In, Apart}
+use Rattle.plir_store.specs.Members.{Has, Distinct}
 use Rattle.plir_store.specs.Links.{walk}
 use Rattle.plir_store.specs.declared.slots.Place.{Place}
 use Rattle.plir_store.specs.declared.slots.Place.TheVariants.{Vacant, Full}
 use Rattle.plir_store.specs.Table.{Table, Cell, no_cell, cell_at, content_at, version_at, is_live_at, num_full, next_slot, slot_after, with_new, with_new_in, without_slot, with_content, IsTable, MAX_VERSION}
 use Rattle.plir_store.specs.Places.{Leads, content_of, link_of, place_at, cells_of, next_free, free_of, table_of, IsSound}
-use Rattle.plir_store.specs.ListLaws.{length-le_from_Apart}
+use Rattle.plir_store.specs.ListLaws.{length-le_from_Distinct}
 use Rattle.plir_store.specs.TableLaws.{within_from_content, free-vacant, num_full-with_new, num_full-without_slot, num_full-with_content, IsTable-with_new, IsTable-freed, IsTable-retired, IsTable-with_content}
 
-Leads-frame : (next next' : ℕ → Option ℕ) (a : Option ℕ) (xs : List ℕ) → ((x : ℕ) → In x xs → next' x ≡ next x) → Leads next a xs → Leads next' a xs
+Leads-frame : (next next' : ℕ → Option ℕ) (a : Option ℕ) (xs : List ℕ) → ((x : ℕ) → Has xs x → next' x ≡ next x) → Leads next a xs → Leads next' a xs
 Leads-frame next next' a [] same l = l
 Leads-frame next next' a (x ∷ xs) same l =
     (l.0, subst (λ o. Leads next' o xs) (sym (same x (inl refl))) (Leads-frame next next' (next x) xs (λ y i. same y (inr i)) l.1))
@@ -82,7 +82,7 @@ module _ {T : Type 0} where
   IsSlots-from vs ps head live t many l slots w count =
       let n : length t.slots ≡ length ps = ap length (sym slots) ∙ length-cells_of vs ps many in
       let e : free_of ps head ≡ t.free =
-      Leads-walk (next_free ps) (length ps) head t.free l (length-le_from_Apart t.free (length ps) w.apart (λ x i. let h = (w.free_slots x i).within in omega (arith, n))) in
+      Leads-walk (next_free ps) (length ps) head t.free l (length-le_from_Distinct t.free (length ps) w.apart (λ x i. let h = (w.free_slots x i).within in omega (arith, n))) in
       let view : table_of vs ps head ≡ t = rw (slots, e) refl in
       record {
         sound = record { as_many = many; leads = rw e l; whole = subst IsTable (sym view) w; counted = count ∙ ap num_full (sym view) };
@@ -174,12 +174,12 @@ module _ {T : Type 0} where
         let h = free_headed f e in
         let new : with_new t v ≡ with_new_in t v (f ∷ h.rest) = ap (with_new_in t v) h.whole in
         let whole : IsTable (with_new_in t v (f ∷ h.rest)) = subst IsTable new (IsTable-with_new t v whole_now room count) in
-        let apart : Apart (f ∷ h.rest) = subst Apart h.whole whole_now.apart in
+        let apart : Distinct (f ∷ h.rest) = subst Distinct h.whole whole_now.apart in
         let slots : cells_of (set vs f (get_or vs f 0 + 1)) (set ps f (Full v)) ≡ set t.slots f (record { version = version_at t f + 1; content = Some v }) =
         cells_of-set vs ps f (get_or vs f 0 + 1) (Full v) ∙ ap (λ z. set z f (record { version = get_or vs f 0 + 1; content = Some v })) slots_now ∙ ap (λ (n : ℕ). set t.slots f (record { version = n + 1; content = Some v })) (sym (version_now f)) in
         let l : Leads (next_free (set ps f (Full v))) next h.rest =
         subst (λ o. Leads (next_free (set ps f (Full v))) o h.rest) (sym link)
-        (Leads-frame (next_free ps) (next_free (set ps f (Full v))) (next_free ps f) h.rest (λ y i. ap link_of (get_or-set_other ps f y (Full v) (Vacant None) (λ q. apart.0 (subst (λ z. In z h.rest) q i)))) h.leads) in
+        (Leads-frame (next_free ps) (next_free (set ps f (Full v))) (next_free ps f) h.rest (λ y i. ap link_of (get_or-set_other ps f y (Full v) (Vacant None) (λ q. apart.0 (subst (λ z. Has h.rest z) q i)))) h.leads) in
         subst (λ z. IsSlots (set vs f (get_or vs f 0 + 1)) (set ps f (Full v)) next (live + 1) z) (sym new)
         (IsSlots-from (set vs f (get_or vs f 0 + 1)) (set ps f (Full v)) next (live + 1) (with_new_in t v (f ∷ h.rest)) (length-set vs f _ ∙ k.as_many ∙ sym (length-set ps f _)) l slots whole
         (omega (arith, counted_now, num_full-with_new t v whole_now, ap num_full new)))
@@ -207,8 +207,8 @@ module _ {T : Type 0} where
       pub place_full : (p : Place T) → p ≡ get_or ps i p → IsSome (content_of p)
       place_full p e = subst IsSome (content_read i p slot_within e) some
 
-      off_free : (p : Place T) (x : ℕ) → In x t.free → next_free (set ps i p) x ≡ next_free ps x
-      off_free p x j = ap link_of (get_or-set_other ps i x p (Vacant None) (λ q. free-vacant t i some whole_now (subst (λ z. In z t.free) q j)))
+      off_free : (p : Place T) (x : ℕ) → Has t.free x → next_free (set ps i p) x ≡ next_free ps x
+      off_free p x j = ap link_of (get_or-set_other ps i x p (Vacant None) (λ q. free-vacant t i some whole_now (subst (λ z. Has t.free z) q j)))
 
       leads_past : (p : Place T) → Leads (next_free (set ps i p)) head t.free
       leads_past p = Leads-frame (next_free ps) (next_free (set ps i p)) head t.free (off_free p) leads_now

@@ -1,3 +1,4 @@
+pub mod Members
 pub mod Lists
 pub mod Links
 pub mod Table
@@ -5,4 +6,5 @@ pub mod Places
 pub mod Lends
 pub mod Hops
 pub mod TableLaws
+pub mod MemberLaws
 pub mod ListLaws

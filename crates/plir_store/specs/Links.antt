@@ -1,6 +1,6 @@
 -- How `Chains` lays out its lists. No public clause cites this module.
 use Rattle.std.specs.Prelude.{◌≡◌, ℕ, ◌<◌, ◌^◌, zero, suc, List, [], ◌∷◌, map, length, Option, Some, None, slice_index_or, slice_set}
-pub use Rattle.plir_store.specs.Lists.{In, Apart}
+use Rattle.plir_store.specs.Members.{Has, Distinct}
 use Rattle.plir_store.specs.Lists.{Lists}
 use Rattle.plir_store.specs.declared.chains.Link.{Link}
 use Rattle.plir_store.specs.declared.chains.Ends.{Ends}
@@ -85,9 +85,9 @@ lists_of es ls = record { kids = kids_of es ls; parents = parents_of ls }
 pub record IsLinked (es : List Ends) (ls : List Link) (ks : List (List ℕ)) : Type 0 where
   pub as_many : length ks ≡ length es
   pub joined : (p : ℕ) → Joined (after es ls p) (before es ls p) None (slice_index_or ks p []) None
-  pub apart : (p : ℕ) → Apart (slice_index_or ks p [])
-  pub owned : (p c : ℕ) → In c (slice_index_or ks p []) → (link_at ls c).parent ≡ Some p
-  pub held : (p c : ℕ) → (link_at ls c).parent ≡ Some p → In c (slice_index_or ks p [])
+  pub apart : (p : ℕ) → Distinct (slice_index_or ks p [])
+  pub owned : (p c : ℕ) → Has (slice_index_or ks p []) c → (link_at ls c).parent ≡ Some p
+  pub held : (p c : ℕ) → (link_at ls c).parent ≡ Some p → Has (slice_index_or ks p []) c
   pub loose_next : (c : ℕ) → (link_at ls c).parent ≡ None → (link_at ls c).next ≡ None
   pub loose_prev : (c : ℕ) → (link_at ls c).parent ≡ None → (link_at ls c).prev ≡ None
   pub num_lists : length es < 2 ^ 32

@@ -5,7 +5,8 @@ use Rattle.std.proofs.lemmas.Bool.{cases_eq, cases_lt, ne_eqb}
 use Rattle.std.proofs.lemmas.List.{get_or_past}
 use Rattle.std.proofs.lemmas.Map.Steps.{length-le_from_distinct_below}
 use Rattle.std.proofs.lemmas.Option.{none-some}
-use Rattle.plir_store.specs.Lists.{Lists, In, Apart, kids_at, parent_at}
+use Rattle.plir_store.specs.Members.{Has, Distinct}
+use Rattle.plir_store.specs.Lists.{Lists, kids_at, parent_at}
 
 -- what has a parent, and what is a parent, is within
 pub within_from_parent_at : (s : Lists) (c p : ℕ) → parent_at s c ≡ Some p → c < length s.parents
@@ -14,10 +15,10 @@ within_from_parent_at s c p e = elim (cases_lt c (length s.parents)) [
   | inr h ↦ absurd (none-some p (sym (get_or_past s.parents c None h) ∙ e))
 ]
 
-pub within_from_kid : (s : Lists) (p c : ℕ) → In c (kids_at s p) → p < length s.kids
+pub within_from_kid : (s : Lists) (p c : ℕ) → Has (kids_at s p) c → p < length s.kids
 within_from_kid s p c i = elim (cases_lt p (length s.kids)) [
   | inl h ↦ h
-  | inr h ↦ absurd (subst (λ xs. In c xs) (get_or_past s.kids p [] h) i)
+  | inr h ↦ absurd (subst (λ xs. Has xs c) (get_or_past s.kids p [] h) i)
 ]
 
 -- the default at the end of a list changes no read
@@ -28,21 +29,21 @@ get_or-push_default (x ∷ xs) d zero = refl
 get_or-push_default (x ∷ xs) d (suc i) = get_or-push_default xs d i
 
 -- numbers below n, no two equal, are at most n
-AllByRecursion-from_not_in : (x : ℕ) (xs : List ℕ) → (In x xs → ⊥) → AllByRecursion (λ y. eqb x y ≡ false) xs
+AllByRecursion-from_not_in : (x : ℕ) (xs : List ℕ) → (Has xs x → ⊥) → AllByRecursion (λ y. eqb x y ≡ false) xs
 AllByRecursion-from_not_in x [] n = tt
-AllByRecursion-from_not_in x (y ∷ ys) n = (ne_eqb x y (λ e. n (inl e)), AllByRecursion-from_not_in x ys (λ i. n (inr i)))
+AllByRecursion-from_not_in x (y ∷ ys) n = (ne_eqb x y (λ e. n (inl (sym e))), AllByRecursion-from_not_in x ys (λ i. n (inr i)))
 
-IsDistinct-from_Apart : (xs : List ℕ) → Apart xs → IsDistinct eqb xs
+IsDistinct-from : (xs : List ℕ) → Distinct xs → IsDistinct eqb xs
 unfolding IsDistinct
-IsDistinct-from_Apart [] a = tt
-IsDistinct-from_Apart (x ∷ xs) a = (AllByRecursion-from_not_in x xs a.0, IsDistinct-from_Apart xs a.1)
+IsDistinct-from [] a = tt
+IsDistinct-from (x ∷ xs) a = (AllByRecursion-from_not_in x xs a.0, IsDistinct-from xs a.1)
 
-In-from_list_any : (q : ℕ) (xs : List ℕ) → list_any (eqb q) xs ≡ true → In q xs
-In-from_list_any q [] e = cc
-In-from_list_any q (x ∷ xs) e = elim (cases_eq q x) [
-  | inl s ↦ inl s
-  | inr n ↦ inr (In-from_list_any q xs (rw (ne_eqb q x n) at e))
+Has-from_list_any : (q : ℕ) (xs : List ℕ) → list_any (eqb q) xs ≡ true → Has xs q
+Has-from_list_any q [] e = cc
+Has-from_list_any q (x ∷ xs) e = elim (cases_eq q x) [
+  | inl s ↦ inl (sym s)
+  | inr n ↦ inr (Has-from_list_any q xs (rw (ne_eqb q x n) at e))
 ]
 
-pub length-le_from_Apart : (xs : List ℕ) (n : ℕ) → Apart xs → ((x : ℕ) → In x xs → x < n) → length xs ≤ n
-length-le_from_Apart xs n a below = length-le_from_distinct_below xs n (IsDistinct-from_Apart xs a) (λ q e. below q (In-from_list_any q xs e))
+pub length-le_from_Distinct : (xs : List ℕ) (n : ℕ) → Distinct xs → ((x : ℕ) → Has xs x → x < n) → length xs ≤ n
+length-le_from_Distinct xs n a below = length-le_from_distinct_below xs n (IsDistinct-from xs a) (λ q e. below q (Has-from_list_any q xs e))

@@ -1,5 +1,6 @@
 -- What a contract sees of `Chains`: the children of each parent in order, and the parent of each child.
-use Rattle.std.specs.Prelude.{◌≡◌, ℕ, ◌-◌, ◌<◌, ◌^◌, take, cond, ◌==◌, List, [], ◌∷◌, ◌++◌, length, Option, Some, None, slice_index_or, slice_set, ◌⊎◌}
+use Rattle.std.specs.Prelude.{◌≡◌, ℕ, ◌-◌, ◌<◌, ◌^◌, take, cond, ◌==◌, List, [], ◌∷◌, ◌++◌, length, Option, Some, None, slice_index_or, slice_set}
+use Rattle.plir_store.specs.Members.{Has, Distinct, head}
 
 -- The list of each parent, and the parent of each child, if it has one.
 pub record Lists : Type 0 where
@@ -14,11 +15,6 @@ kids_at s p = slice_index_or s.kids p []
 abbrev pub parent_at : Lists → ℕ → Option ℕ
 parent_at s c = slice_index_or s.parents c None
 
--- the first element of a list
-abbrev pub first_of : List ℕ → Option ℕ
-first_of [] = None
-first_of (x ∷ xs) = Some x
-
 -- the last element of a list, whose first element has `a` before it
 abbrev pub last_from : Option ℕ → List ℕ → Option ℕ
 last_from a [] = a
@@ -31,7 +27,7 @@ last_of xs = last_from None xs
 -- what follows c in a list
 abbrev pub next_in : List ℕ → ℕ → Option ℕ
 next_in [] c = None
-next_in (x ∷ xs) c = cond (x == c) (first_of xs) (next_in xs c)
+next_in (x ∷ xs) c = cond (x == c) (head xs) (next_in xs c)
 
 -- what stands before c in a list, whose first element has `a` before it
 abbrev pub prev_in : Option ℕ → List ℕ → ℕ → Option ℕ
@@ -132,22 +128,12 @@ without_under s c (Some p) = record {
 abbrev pub without_child : Lists → ℕ → Lists
 without_child s c = without_under s c (parent_at s c)
 
--- x is an element of the list
-abbrev pub In : ℕ → List ℕ → Type 0
-In x [] = ⊥
-In x (y ∷ ys) = (x ≡ y) ⊎ In x ys
-
--- no element twice
-abbrev pub Apart : List ℕ → Type 0
-Apart [] = Unit {0}
-Apart (x ∷ xs) = (In x xs → ⊥) × Apart xs
-
 -- What holds of all lists that `Chains` keeps: a child stands in the list of p exactly where p is its
 -- parent, none stands there twice, and the numbers of parents and of children fit 32 bits.
 pub record IsAgreed (s : Lists) : Type 0 where
-  pub apart : (p : ℕ) → Apart (kids_at s p)
-  pub owned : (p c : ℕ) → In c (kids_at s p) → parent_at s c ≡ Some p
-  pub held : (p c : ℕ) → parent_at s c ≡ Some p → In c (kids_at s p)
-  pub within : (p c : ℕ) → In c (kids_at s p) → c < length s.parents
+  pub apart : (p : ℕ) → Distinct (kids_at s p)
+  pub owned : (p c : ℕ) → Has (kids_at s p) c → parent_at s c ≡ Some p
+  pub held : (p c : ℕ) → parent_at s c ≡ Some p → Has (kids_at s p) c
+  pub within : (p c : ℕ) → Has (kids_at s p) c → c < length s.parents
   pub num_lists : length s.kids < 2 ^ 32
   pub num_children : length s.parents < 2 ^ 32

@@ -1,6 +1,6 @@
 -- What a contract sees of `Slots`.
 use Rattle.std.specs.Prelude.{◌≡◌, ℕ, ◌+◌, ◌-◌, ◌<◌, ◌≤◌, ◌^◌, Bool, true, false, cond, ◌==◌, ◌&&◌, List, [], ◌∷◌, ◌++◌, length, Option, Some, None, is_some, count_by, slice_index_or, slice_set}
-use Rattle.plir_store.specs.Lists.{In, Apart}
+use Rattle.plir_store.specs.Members.{Has, Distinct}
 
 -- A slot: how many values it has held, and the one that it holds.
 pub record Cell (T : Type 0) : Type 0 where
@@ -89,8 +89,8 @@ module _ {T : Type 0} where
   -- What holds of every table that `Slots` keeps: no free slot stands twice, each is free indeed, each
   -- slot has held a value under a version of 32 bits, and the numbers of slots and of values fit 32 bits.
   pub record IsTable (t : Table T) : Type 0 where
-    pub apart : Apart t.free
-    pub free_slots : (i : ℕ) → In i t.free → IsFreeSlot t i
+    pub apart : Distinct t.free
+    pub free_slots : (i : ℕ) → Has t.free i → IsFreeSlot t i
     pub used : (i : ℕ) → i < length t.slots → 0 < version_at t i
     pub bounded : (i : ℕ) → i < length t.slots → version_at t i ≤ MAX_VERSION
     pub num_slots : length t.slots < 2 ^ 32

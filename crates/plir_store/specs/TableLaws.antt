@@ -5,7 +5,7 @@ use Rattle.std.proofs.lemmas.Bool.{cases_eq, cases_lt, ne_eqb}
 use Rattle.std.proofs.lemmas.List.{get_or-set_same, get_or-set_other, get_or_past, length-append, get_or_append_left, get_or_push}
 use Rattle.std.proofs.lemmas.List.Sums.{sum_by-set, sum_by_push}
 use Rattle.std.proofs.lemmas.Option.{none-some}
-use Rattle.plir_store.specs.Lists.{In, Apart}
+use Rattle.plir_store.specs.Members.{Has, Distinct}
 use Rattle.plir_store.specs.Table.{Table, Cell, no_cell, cell_at, content_at, version_at, num_full, next_slot, slot_after, with_new, with_new_in, without_slot, with_content, IsFreeSlot, IsTable, MAX_VERSION}
 
 module _ {T : Type 0} where
@@ -48,7 +48,7 @@ module _ {T : Type 0} where
         ]
 
     module _ (v : T) where
-      new_cell : (fs : List ℕ) → ((i : ℕ) → In i fs → IsFreeSlot t i) → cell_at (with_new_in t v fs) (slot_after (length t.slots) fs) ≡ record { version = version_at t (slot_after (length t.slots) fs) + 1; content = Some v }
+      new_cell : (fs : List ℕ) → ((i : ℕ) → Has fs i → IsFreeSlot t i) → cell_at (with_new_in t v fs) (slot_after (length t.slots) fs) ≡ record { version = version_at t (slot_after (length t.slots) fs) + 1; content = Some v }
       new_cell [] each =
           get_or_push t.slots (record { version = 1; content = Some v }) no_cell (length t.slots) refl ∙ ap (λ (c : Cell T). record { version = c.version + 1; content = Some v }) (sym (get_or_past t.slots (length t.slots) no_cell (omega arith)))
       new_cell (f ∷ fs) each =
@@ -68,7 +68,7 @@ module _ {T : Type 0} where
       ]
       other_cell (f ∷ fs) j n = get_or-set_other t.slots f j (record { version = version_at t f + 1; content = Some v }) no_cell n
 
-      count_in : (fs : List ℕ) → ((i : ℕ) → In i fs → IsFreeSlot t i) → num_full (with_new_in t v fs) ≡ num_full t + 1
+      count_in : (fs : List ℕ) → ((i : ℕ) → Has fs i → IsFreeSlot t i) → num_full (with_new_in t v fs) ≡ num_full t + 1
       count_in [] each = sum_by_push full t.slots (record { version = 1; content = Some v })
       count_in (f ∷ fs) each =
           let was = each f (inl refl) in
@@ -81,7 +81,7 @@ module _ {T : Type 0} where
         | inr n ↦ subst (λ (z : Cell T). P z.version) (sym (other_cell [] x n)) (all x (omega (arith, n, length-append t.slots (record { version = 1; content = Some v } ∷ []))))
       ]
 
-      whole_in : (fs : List ℕ) → Apart fs → ((i : ℕ) → In i fs → IsFreeSlot t i) → IsTable t → slot_after (length t.slots) fs < 2 ^ 32 - 1 → num_full t < 2 ^ 32 - 1 → IsTable (with_new_in t v fs)
+      whole_in : (fs : List ℕ) → Distinct fs → ((i : ℕ) → Has fs i → IsFreeSlot t i) → IsTable t → slot_after (length t.slots) fs < 2 ^ 32 - 1 → num_full t < 2 ^ 32 - 1 → IsTable (with_new_in t v fs)
       whole_in [] a each w room count =
           let c : Cell T = record { version = 1; content = Some v } in
           record {
@@ -96,18 +96,18 @@ module _ {T : Type 0} where
           let c : Cell T = record { version = version_at t f + 1; content = Some v } in
           record {
             apart = a.1;
-            free_slots = λ i j. IsFreeSlot-set f i c fs (λ q. a.0 (subst (λ z. In z fs) q j)) (each i (inr j));
+            free_slots = λ i j. IsFreeSlot-set f i c fs (λ q. a.0 (subst (λ z. Has fs z) q j)) (each i (inr j));
             used = versions_set (λ n. 0 < n) f c (omega arith) w.used;
             bounded = versions_set (λ n. n ≤ MAX_VERSION) f c (omega (arith, (each f (inl refl)).usable)) w.bounded;
             num_slots = rw (length-set t.slots f c) w.num_slots;
             num_values = omega (arith, count_in (f ∷ fs) each);
           }
 
-    next_vacant : (fs : List ℕ) → ((i : ℕ) → In i fs → IsFreeSlot t i) → content_at t (slot_after (length t.slots) fs) ≡ None
+    next_vacant : (fs : List ℕ) → ((i : ℕ) → Has fs i → IsFreeSlot t i) → content_at t (slot_after (length t.slots) fs) ≡ None
     next_vacant [] each = ap (λ (c : Cell T). c.content) (get_or_past t.slots (length t.slots) no_cell (omega arith))
     next_vacant (f ∷ fs) each = (each f (inl refl)).vacant
 
-    next_in : (fs : List ℕ) → ((i : ℕ) → In i fs → IsFreeSlot t i) → slot_after (length t.slots) fs ≤ length t.slots
+    next_in : (fs : List ℕ) → ((i : ℕ) → Has fs i → IsFreeSlot t i) → slot_after (length t.slots) fs ≤ length t.slots
     next_in [] each = omega arith
     next_in (f ∷ fs) each = omega (arith, (each f (inl refl)).within)
 
@@ -144,10 +144,10 @@ module _ {T : Type 0} where
           omega (arith, set_count i emptied (within_from_content i some), here)
 
       -- no free slot holds a value
-      pub free-vacant : IsTable t → In i t.free → ⊥
+      pub free-vacant : IsTable t → Has t.free i → ⊥
       free-vacant w j = some_none (content_at t i) some (w.free_slots i j).vacant
 
-      IsTable-emptied : (fs : List ℕ) → Apart fs → ((x : ℕ) → In x fs → IsFreeSlot (record { slots = set t.slots i emptied; free = fs }) x) → IsTable t → IsTable (record { slots = set t.slots i emptied; free = fs })
+      IsTable-emptied : (fs : List ℕ) → Distinct fs → ((x : ℕ) → Has fs x → IsFreeSlot (record { slots = set t.slots i emptied; free = fs }) x) → IsTable t → IsTable (record { slots = set t.slots i emptied; free = fs })
       IsTable-emptied fs a each w = record {
         apart = a;
         free_slots = each;
@@ -157,8 +157,8 @@ module _ {T : Type 0} where
         num_values = omega (arith, num_full-without_slot, w.num_values);
       }
 
-      others_free : IsTable t → (fs : List ℕ) (x : ℕ) → In x t.free → IsFreeSlot (record { slots = set t.slots i emptied; free = fs }) x
-      others_free w fs x j = IsFreeSlot-set i x emptied fs (λ q. free-vacant w (subst (λ z. In z t.free) q j)) (w.free_slots x j)
+      others_free : IsTable t → (fs : List ℕ) (x : ℕ) → Has t.free x → IsFreeSlot (record { slots = set t.slots i emptied; free = fs }) x
+      others_free w fs x j = IsFreeSlot-set i x emptied fs (λ q. free-vacant w (subst (λ z. Has t.free z) q j)) (w.free_slots x j)
 
       -- whether its last version is used up
       pub IsTable-freed : IsTable t → version_at t i < MAX_VERSION → IsTable (record { slots = set t.slots i emptied; free = i ∷ t.free })
@@ -169,7 +169,7 @@ module _ {T : Type 0} where
             usable = subst (λ (z : Cell T). z.version < MAX_VERSION) (sym cell_at-without_slot) small;
           } in
           IsTable-emptied (i ∷ t.free) (free-vacant w, w.apart) (λ x j. elim j [
-            | inl e ↦ subst (λ z. IsFreeSlot (record { slots = set t.slots i emptied; free = i ∷ t.free }) z) (sym e) here
+            | inl e ↦ subst (λ z. IsFreeSlot (record { slots = set t.slots i emptied; free = i ∷ t.free }) z) e here
             | inr k ↦ others_free w (i ∷ t.free) x k
           ]) w
 
@@ -196,7 +196,7 @@ module _ {T : Type 0} where
         let c : Cell T = record { version = version_at t i; content = Some v } in
         record {
           apart = w.apart;
-          free_slots = λ x j. IsFreeSlot-set i x c t.free (λ q. free-vacant i some w (subst (λ z. In z t.free) q j)) (w.free_slots x j);
+          free_slots = λ x j. IsFreeSlot-set i x c t.free (λ q. free-vacant i some w (subst (λ z. Has t.free z) q j)) (w.free_slots x j);
           used = versions_set (λ n. 0 < n) i c (w.used i (within_from_content i some)) w.used;
           bounded = versions_set (λ n. n ≤ MAX_VERSION) i c (w.bounded i (within_from_content i some)) w.bounded;
           num_slots = rw (length-set t.slots i c) w.num_slots;

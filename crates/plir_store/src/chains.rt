@@ -1,6 +1,7 @@
 //! Doubly linked lists of numbered children under numbered parents, whose links lie in two vectors.
 ghost use Rattle.std.specs.Prelude.{◌≡◌, ℕ, ◌+◌, ◌-◌, ◌<◌, ◌^◌, List, [], length, cond, None, IfSome, IsTrue, ◌↔◌, slice_set, OnOk, OnErr};
-ghost use Rattle.plir_store.specs.Lists.{Lists, kids_at, parent_at, first_of, last_of, next_of, prev_of, with_first, with_last, with_before, with_after, without_child, with_list, with_child, without_last_list, without_last_child, IsAgreed};
+ghost use Rattle.plir_store.specs.Members.{head};
+ghost use Rattle.plir_store.specs.Lists.{Lists, kids_at, parent_at, last_of, next_of, prev_of, with_first, with_last, with_before, with_after, without_child, with_list, with_child, without_last_list, without_last_child, IsAgreed};
 ghost use Rattle.plir_store.specs.Links.{put_first, put_last, put_next, put_prev, no_link, no_ends, ends_in, links_in, ends_out, links_out};
 
 use crate::hop::Hop;
@@ -214,7 +215,7 @@ impl Chains {
     /// The first child of a list.
     pub fn first(&self, list: u32) -> Option<u32>
         requires { list < length self.now.kids }
-        ensures value { result ≡ first_of (kids_at self.now list) }
+        ensures value { result ≡ head (kids_at self.now list) }
         ensures within { IfSome result (λ c. c < length self.now.parents) }
         ensures agreed { IsAgreed self.now }
     {

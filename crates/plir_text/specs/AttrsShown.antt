@@ -100,7 +100,7 @@ look-equals : (rest : List ℕ) → look (61 ∷ rest) ≡ Ok (sign 61, rest)
 unfolding look
 look-equals rest = refl
 
-entry-shown : {E : List Token → Type 0} {text : List ℕ} (k : List ℕ) → is_identifier k ≡ true → Shown E text → Shown (λ ts. (behind : List Token) × (is_identifier k ≡ true) × E behind × (ts ≡ word k ∷ sign 61 ∷ behind)) (k ++ 32 ∷ 61 ∷ 32 ∷ text)
+pub entry-shown : {E : List Token → Type 0} {text : List ℕ} (k : List ℕ) → is_identifier k ≡ true → Shown E text → Shown (λ ts. (behind : List Token) × (is_identifier k ≡ true) × E behind × (ts ≡ word k ∷ sign 61 ∷ behind)) (k ++ 32 ∷ 61 ∷ 32 ∷ text)
 entry-shown {E} {text} k h p = record {
   first = word k;
   others = sign 61 ∷ p.first ∷ p.others;
@@ -129,7 +129,7 @@ module _ {E F : List Token → Type 0} {text more : List ℕ} (k : List ℕ) (h 
 
 module _ {A T : Type 0} (own_id : A → List ℕ) (own_body : List (TypeView T) → A → List ℕ) (type_id : T → List ℕ) (type_body : List (TypeView T) → T → List ℕ) (table : List (TypeView T)) where
   mutual
-    attr-shown : (x : AttrView A) → IsWritable table x → Shown (Spells (attr_term table x)) (attr_text own_id own_body type_id type_body table x)
+    pub attr-shown : (x : AttrView A) → IsWritable table x → Shown (Spells (attr_term table x)) (attr_text own_id own_body type_id type_body table x)
     attr-shown (leaf x) h = leaf-shown own_id own_body type_id type_body table x h
     attr-shown (dict es) h = listed (codes "builtin.dict") refl (entries-shown es h.0 h.1)
     attr-shown (vec xs) h = listed (codes "builtin.vec") refl (items-shown xs h)
@@ -181,7 +181,7 @@ module _ {A T : Type 0} (itself : IsDictOfItself (AttrView A)) (own_handles : T 
   leaf_meant (views.own a) h = absurd h
 
   mutual
-    attr_meant : (x : AttrView A) → IsWritable table x → IsMeant table (attr_term table x) x
+    pub attr_meant : (x : AttrView A) → IsWritable table x → IsMeant table (attr_term table x) x
     attr_meant (leaf x) h = leaf_meant x h
     attr_meant (dict es) h = (pairs_of es, entries_meant es h.1, ap dict (sym (ap entries_of (itself (pairs_of es) h.0) ∙ entries_again es)))
     attr_meant (vec xs) h = (items_in xs, items_meant xs h, ap vec (sym (items_again xs)))

@@ -39,6 +39,7 @@ pub mod Meaning
 pub mod MeantBy
 pub mod Writable
 pub mod AttrAnswer
+pub mod TextLaws
 -- Laws of these words, proved beside them so that the crates above can cite them. No contract cites these modules.
 --
 --   StepLaws     steps that did not fail, and choices

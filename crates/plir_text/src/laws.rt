@@ -1,19 +1,16 @@
 //! Laws of texts.
 
-ghost use Rattle.std.specs.Prelude.{◌≡◌, ◌≤◌, ℕ, List};
+ghost use Rattle.std.specs.Prelude.{◌≡◌, ℕ, List};
 ghost use Rattle.plir_data.specs.AttrSeen.{attr_view};
-ghost use Rattle.plir_data.specs.AttrView.{AttrView};
 ghost use Rattle.plir_data.specs.Types.{TypeView, IsTypeTable};
 ghost use Rattle.plir_text.specs.AttrAnswer.{IsReadBack};
-ghost use Rattle.plir_text.specs.AttrText.{attr_text};
 ghost use Rattle.plir_text.specs.AttrGrammar.{AttrWithin};
 ghost use Rattle.plir_text.specs.Parts.{IsPartOf, IsHeldBy};
-ghost use Rattle.plir_text.specs.Terms.{TypeTerm, AttrTerm, levels};
+ghost use Rattle.plir_text.specs.Terms.{TypeTerm, AttrTerm};
 ghost use Rattle.plir_text.specs.TypesIn.{IsInType, IsInAttr};
 ghost use Rattle.plir_text.specs.TypeGrammar.{IsText, TypeWithin};
-ghost use Rattle.plir_text.specs.Meaning.{StandsFor};
-ghost use Rattle.plir_text.specs.Names.{Names, Grows};
-ghost use Rattle.plir_text.specs.Writable.{IsWritable, attr_term};
+ghost use Rattle.plir_text.specs.Names.{Names};
+ghost use Rattle.plir_text.specs.TextLaws.{IsOfOneAttr, TextStands};
 
 use crate::fault::ReadErr;
 use plir_data::laws::dictionary_is_that_of_its_entries;
@@ -41,12 +38,12 @@ pub fn written_type_has_one_handle<D: OpSet>()
 
 /// A text stands for one attribute at most.
 pub fn text_stands_for_one_attribute<D: OpSet>()
-    ensures { (m n : ℕ) (types : List (TypeView D.Ty)) → IsTypeTable D.type_handles types → (bytes : List ℕ) (x y : AttrView D.Attr) → StandsFor m types bytes x → StandsFor n types bytes y → x ≡ y }
+    ensures { IsOfOneAttr D.Attr D.type_handles }
 {}
 
 /// The text of an attribute stands for it, with as many levels as it has, also in a table that has grown on.
 pub fn text_stands_for_its_attribute<D: OpSet>()
-    ensures { (n : ℕ) (old new : List (TypeView D.Ty)) → IsTypeTable D.type_handles old → Grows old new → (x : AttrView D.Attr) → IsWritable old x → levels (attr_term old x) ≤ n → StandsFor n new (attr_text D.attr_id D.attr_text D.type_id D.type_body_text old x) x }
+    ensures { TextStands D.attr_id D.attr_text D.type_id D.type_body_text D.type_handles }
 {
     dictionary_is_that_of_its_entries::<D>();
 }

@@ -6,7 +6,6 @@ use Rattle.std.specs.declared.ops.ControlFlow.{ControlFlow}
 use Rattle.std.specs.declared.ops.ControlFlow.TheVariants.{Break, Continue}
 use Rattle.plir_walk.specs.AsRead.{tree_read}
 use Rattle.plir_walk.specs.Calls.{Advancing, Call, CallsBack, Chain, ReadsBack, Relation}
-use Rattle.plir_walk.specs.Forest.{Shape}
 use Rattle.plir_walk.specs.Tree.{Tree}
 use Rattle.plir_walk.specs.Walk.{Answers, IsWalkWithin}
 use Rattle.plir_walk.specs.Walked.{IsCallUnder, KeepsShape, Walked, WalkedOver}
@@ -15,6 +14,7 @@ use Rattle.plir_walk.specs.declared.interruptible.WalkContinue.{WalkContinue}
 use Rattle.plir_walk.specs.declared.interruptible.WalkContinue.TheVariants.{Advance}
 use Rattle.plir_walk.specs.declared.limit.CallLimit.{CallLimit}
 use Rattle.plir_core.specs.declared.ptr.IRNode.{IRNode}
+use Rattle.plir_core.specs.Forest.{Shape}
 
 -- a wider relation
 pub Chain-map : {C S B : Type 0} (P Q : Relation C S B) → ((c : C) (s : S) (n : IRNode) (a : ControlFlow B WalkContinue) (c' : C) (s' : S) → P c s n a c' s' → Q c s n a c' s')

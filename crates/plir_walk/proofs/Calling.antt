@@ -5,9 +5,8 @@ use Rattle.std.specs.declared.ops.ControlFlow.TheVariants.{Continue}
 use Rattle.plir_walk.specs.AsRead.{kids_by, tree_read, unless_skip}
 use Rattle.plir_walk.specs.Calls.{Call, nodes_of}
 use Rattle.plir_walk.specs.Config.{direction_of, order_of}
-use Rattle.plir_walk.specs.Forest.{IsBelow, IsForest, Lawful, Shape}
-use Rattle.plir_core.specs.NodeLists.{Distinct, Has}
-use Rattle.plir_walk.specs.Tree.{Tree, taken}
+use Rattle.plir_store.specs.Members.{Distinct, Has}
+use Rattle.plir_walk.specs.Tree.{Tree}
 use Rattle.plir_walk.specs.declared.config.Direction.{Direction}
 use Rattle.plir_walk.specs.declared.config.Direction.TheVariants.{Forward, Reverse}
 use Rattle.plir_walk.specs.declared.config.Order.{Order}
@@ -15,10 +14,14 @@ use Rattle.plir_walk.specs.declared.config.Order.TheVariants.{PostOrder, PreOrde
 use Rattle.plir_walk.specs.declared.config.WalkConfig.{WalkConfig}
 use Rattle.plir_walk.specs.declared.interruptible.WalkContinue.{WalkContinue}
 use Rattle.plir_walk.specs.declared.interruptible.WalkContinue.TheVariants.{Skip}
+use Rattle.plir_core.specs.Above.{Reaches}
 use Rattle.plir_core.specs.declared.ptr.IRNode.{IRNode}
-use Rattle.plir_walk.proofs.Climbs.{IsBelow-AtOrBelow, not-below-itself}
+use Rattle.plir_core.specs.Forest.{IsBelow, IsForest, Shape}
+use Rattle.plir_store.specs.MemberLaws.{Distinct-append, Distinct-one, Has-append_cases, Has-append_left, Has-append_right}
+use Rattle.plir_walk.specs.Step.{taken}
+use Rattle.plir_walk.specs.Lawful.{Lawful}
+use Rattle.plir_walk.proofs.Climbs.{IsBelow-Reaches, not-below-itself}
 use Rattle.plir_walk.proofs.Groves.{Reads-same, first, flat, last, leaf, no-both}
-use Rattle.plir_walk.proofs.ListLemmas.{Distinct-append, Distinct-one, Has-append_cases, Has-append_left, Has-append_right}
 use Rattle.plir_walk.proofs.Nodes.{post-at}
 use Rattle.plir_walk.proofs.Stages.{Closing, Entering, Leaving, Opening, nodes-append, read-called, read-fresh, read-new}
 use Rattle.plir_walk.proofs.Steps.{Fits, Path, path-keep, so_far}
@@ -92,7 +95,7 @@ module _ {C S B : Type 0} (look : C → Shape) (w : WalkConfig) (base : Tree)
         live = kept.0;
         fresh = λ y b k. elim (Has-more xs x y k) [
           | inl g ↦ elim (l.below y b) [
-            | inl i ↦ h.fresh y (IsBelow-AtOrBelow (look e) c y i) g
+            | inl i ↦ h.fresh y (IsBelow-Reaches (look e) c y i) g
             | inr i ↦ (let p = h.given y g in let z : ⊥ = cc (p, i) in z)
           ]
           | inr g ↦ not-below-itself (look e') f' c (subst (λ (v : IRNode). IsBelow (look e') c v) (sym g) b)

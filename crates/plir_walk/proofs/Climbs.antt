@@ -1,15 +1,12 @@
 -- The way up from a node, and what a lawful call leaves of it.
 use Rattle.std.proofs.Common.{◌≡◌, ℕ, zero, suc, ◌+◌, true, List, Option, Some, None, ◌⊎◌, inl, inr, refl, sym, ap, subst, arith, ◌∙◌, option_and_then}
 use Rattle.plir_core.specs.Above.{climb, Reaches}
-use Rattle.plir_core.specs.NodeLists.{Has}
+use Rattle.plir_store.specs.Members.{Has}
 use Rattle.plir_core.specs.declared.ptr.IRNode.{IRNode}
-use Rattle.plir_walk.specs.Forest.{IsBelow, IsForest, Lawful, Shape}
+use Rattle.plir_core.specs.Forest.{IsBelow, IsForest, Shape}
+use Rattle.plir_walk.specs.Lawful.{Lawful}
 use Rattle.plir_walk.proofs.Groves.{and_then-some}
 use Rattle.plir_walk.proofs.Heights.{deeper, depth_in}
-
--- x is a or below it
-abbrev pub AtOrBelow : Shape → IRNode → IRNode → Type 0
-AtOrBelow s a x = Reaches s.parent x a
 
 -- the last step of a climb
 pub climb-and : (up : IRNode → Option IRNode) (k : ℕ) (o : Option IRNode) → climb up (suc k) o ≡ option_and_then up (climb up k o)
@@ -38,15 +35,15 @@ climb-depth s f (suc k) x a e =
 pub not-below-itself : (s : Shape) (f : IsForest s) (x : IRNode) → IsBelow s x x → ⊥
 not-below-itself s f x h = omega (arith, climb-depth s f (suc h.0) x x h.1)
 
-pub IsBelow-AtOrBelow : (s : Shape) (a x : IRNode) → IsBelow s a x → AtOrBelow s a x
-IsBelow-AtOrBelow s a x h = (suc h.0, h.1)
+pub IsBelow-Reaches : (s : Shape) (a x : IRNode) → IsBelow s a x → Reaches s.parent x a
+IsBelow-Reaches s a x h = (suc h.0, h.1)
 
 -- at or below a child is below the parent
-pub kid-below : (s : Shape) (a c x : IRNode) → s.parent c ≡ Some a → AtOrBelow s c x → IsBelow s a x
+pub kid-below : (s : Shape) (a c x : IRNode) → s.parent c ≡ Some a → Reaches s.parent x c → IsBelow s a x
 kid-below s a c x e h = (h.0, climb-top s h.0 x c a h.1 e)
 
 -- of two nodes of one depth with a node at or below both, each is the other
-pub same-branch : (s : Shape) (f : IsForest s) (a b x : IRNode) → depth_in s a ≡ depth_in s b → AtOrBelow s a x → AtOrBelow s b x → a ≡ b
+pub same-branch : (s : Shape) (f : IsForest s) (a b x : IRNode) → depth_in s a ≡ depth_in s b → Reaches s.parent x a → Reaches s.parent x b → a ≡ b
 same-branch s f a b x d h k =
     let e : h.0 ≡ k.0 = omega (arith, climb-depth s f h.0 x a h.1, climb-depth s f k.0 x b k.1) in
     let g : climb s.parent k.0 (Some x) ≡ Some a = subst (λ (v : ℕ). climb s.parent v (Some x) ≡ Some a) e h.1 in
@@ -54,7 +51,7 @@ same-branch s f a b x d h k =
     cc (g, g')
 
 -- a node b of the depth of a, where n is at or below a, is not at or below n unless it is a
-pub beside-branch : (s : Shape) (f : IsForest s) (a b n : IRNode) → depth_in s a ≡ depth_in s b → AtOrBelow s a n → AtOrBelow s n b → a ≡ b
+pub beside-branch : (s : Shape) (f : IsForest s) (a b n : IRNode) → depth_in s a ≡ depth_in s b → Reaches s.parent n a → Reaches s.parent b n → a ≡ b
 beside-branch s f a b n d h k =
     let p = climb-depth s f h.0 n a h.1 in
     let q = climb-depth s f k.0 b n k.1 in
@@ -66,12 +63,12 @@ beside-branch s f a b n d h k =
 
 -- What stands under a node that is apart from n stood there before a lawful call at n.
 pub apart-kept : (s s' : Shape) (n : IRNode) (f : IsForest s) (f' : IsForest s') (l : Lawful s n s') (k : ℕ) (x d : IRNode)
-    → climb s'.parent k (Some x) ≡ Some d → s.live d ≡ true → (AtOrBelow s n d → ⊥) → (AtOrBelow s d n → ⊥) → climb s.parent k (Some x) ≡ Some d
+    → climb s'.parent k (Some x) ≡ Some d → s.live d ≡ true → (Reaches s.parent d n → ⊥) → (Reaches s.parent n d → ⊥) → climb s.parent k (Some x) ≡ Some d
 apart-kept s s' n f f' l zero x d e v p q = e
 apart-kept s s' n f f' l (suc k) x d e v p q =
     let r = climb-split s' k x d e in
     let y : IRNode = r.0 in
-    let same : s'.kids d ≡ s.kids d = (l.kept d v (λ h. p (IsBelow-AtOrBelow s n d h))).2 (λ h. p (zero, ap Some h)) in
+    let same : s'.kids d ≡ s.kids d = (l.kept d v (λ h. p (IsBelow-Reaches s n d h))).2 (λ h. p (zero, ap Some h)) in
     let has : Has (s.kids d) y = subst (λ (z : List IRNode). Has z y) same (f'.parent_kid d y r.2) in
     let up : s.parent y ≡ Some d = f.kid_parent d y has in
     climb-top s k x y d
@@ -80,15 +77,15 @@ apart-kept s s' n f f' l (suc k) x d e v p q =
     (λ h. q (suc h.0, climb-top s h.0 n y d h.1 up)))
     up
   where
-    apart-up : (s : Shape) (n y d : IRNode) → s.parent y ≡ Some d → AtOrBelow s n y → (AtOrBelow s n d → ⊥) → (AtOrBelow s d n → ⊥) → ⊥
+    apart-up : (s : Shape) (n y d : IRNode) → s.parent y ≡ Some d → Reaches s.parent y n → (Reaches s.parent d n → ⊥) → (Reaches s.parent n d → ⊥) → ⊥
     apart-up s n y d up (zero, e) p q = q (suc zero, (let h : y ≡ n = cc in rw (← h) up))
     apart-up s n y d up (suc j, e) p q = p (j, sym (climb-bottom s j y d up) ∙ e)
 
 -- of two nodes above x, one is above the other
-pub two-above : (s : Shape) (e n x : IRNode) → AtOrBelow s e x → AtOrBelow s n x → AtOrBelow s n e ⊎ AtOrBelow s e n
+pub two-above : (s : Shape) (e n x : IRNode) → Reaches s.parent x e → Reaches s.parent x n → Reaches s.parent e n ⊎ Reaches s.parent n e
 two-above s e n x (k, h) (j, g) = go k j e n h g
   where
-    go : (k j : ℕ) (e n : IRNode) → climb s.parent k (Some x) ≡ Some e → climb s.parent j (Some x) ≡ Some n → AtOrBelow s n e ⊎ AtOrBelow s e n
+    go : (k j : ℕ) (e n : IRNode) → climb s.parent k (Some x) ≡ Some e → climb s.parent j (Some x) ≡ Some n → Reaches s.parent e n ⊎ Reaches s.parent n e
     go zero j e n h g = inl (j, (let p : x ≡ e = cc in subst (λ (v : IRNode). climb s.parent j (Some v) ≡ Some n) p g))
     go (suc k) zero e n h g = inr (suc k, (let p : x ≡ n = cc in subst (λ (v : IRNode). climb s.parent (suc k) (Some v) ≡ Some e) p h))
     go (suc k) (suc j) e n h g =
@@ -100,11 +97,11 @@ two-above s e n x (k, h) (j, g) = go k j e n h g
         ]
       where
         -- from a at or below b to their parents
-        up-one : (s : Shape) (a a' b b' : IRNode) → s.parent a ≡ Some a' → s.parent b ≡ Some b' → (i : ℕ) → climb s.parent i (Some a) ≡ Some b → AtOrBelow s b' a' ⊎ AtOrBelow s a' b'
+        up-one : (s : Shape) (a a' b b' : IRNode) → s.parent a ≡ Some a' → s.parent b ≡ Some b' → (i : ℕ) → climb s.parent i (Some a) ≡ Some b → Reaches s.parent a' b' ⊎ Reaches s.parent b' a'
         up-one s a a' b b' u v zero h = inl (zero, (let p : a ≡ b = cc in let z : Some a' ≡ Some b' = sym u ∙ (ap s.parent p ∙ v) in z))
         up-one s a a' b b' u v (suc i) h = inl (suc i, climb-top s i a' b b' (sym (climb-bottom s i a a' u) ∙ h) v)
 
-pub below-live : (s : Shape) (f : IsForest s) (e x : IRNode) → s.live e ≡ true → AtOrBelow s e x → s.live x ≡ true
+pub below-live : (s : Shape) (f : IsForest s) (e x : IRNode) → s.live e ≡ true → Reaches s.parent x e → s.live x ≡ true
 below-live s f e x v (k, h) = go k e v h
   where
     go : (k : ℕ) (e : IRNode) → s.live e ≡ true → climb s.parent k (Some x) ≡ Some e → s.live x ≡ true

@@ -5,10 +5,9 @@ use Rattle.std.specs.declared.ops.ControlFlow.TheVariants.{Break, Continue}
 use Rattle.plir_walk.specs.AsRead.{kids_by, tree_read}
 use Rattle.plir_walk.specs.Calls.{Call, Chain, Relation, nodes_of}
 use Rattle.plir_walk.specs.Config.{AllPost, AllPre, order_of}
-use Rattle.plir_walk.specs.Forest.{IsBelow, IsForest, Shape}
 use Rattle.plir_walk.specs.Lists.{Pairs}
-use Rattle.plir_core.specs.NodeLists.{Has}
-use Rattle.plir_walk.specs.Tree.{HasOnePlaceEach, IsUnder, NodeBefore, Place, Tree, after, node_at, same}
+use Rattle.plir_store.specs.Members.{Has}
+use Rattle.plir_walk.specs.Tree.{HasOnePlaceEach, IsUnder, NodeBefore, Place, Tree, node_at, same}
 use Rattle.plir_walk.specs.Walk.{Answers, AnswersWithin, CallsAllDue, CallsUpToLast, InOrder, IsWalkWithin}
 use Rattle.plir_walk.specs.Walked.{IsCallUnder, KeepsShape, Walked}
 use Rattle.plir_walk.specs.declared.config.Order.{Order}
@@ -16,12 +15,15 @@ use Rattle.plir_walk.specs.declared.config.WalkConfig.{WalkConfig}
 use Rattle.plir_walk.specs.declared.interruptible.WalkContinue.{WalkContinue}
 use Rattle.plir_walk.specs.declared.limit.CallLimit.{CallLimit}
 use Rattle.plir_core.specs.declared.ptr.IRNode.{IRNode}
+use Rattle.plir_core.specs.Forest.{IsBelow, IsForest, Shape}
+use Rattle.plir_store.specs.MemberLaws.{Has-append_cases, Has-append_right, Has-at}
+use Rattle.plir_walk.specs.Step.{after}
 use Rattle.plir_walk.proofs.Climbs.{not-below-itself, same-branch}
 use Rattle.plir_walk.proofs.Corollaries.{Ends, EndsWithin, ends-same, node-before-asym, visits-same}
 use Rattle.plir_walk.proofs.Cuts.{cut-node-before, cut-post, cut-read, due-under-cut, under-due}
 use Rattle.plir_walk.proofs.Endings.{place-below, place-below-kid}
 use Rattle.plir_walk.proofs.Groves.{and_then-some}
-use Rattle.plir_walk.proofs.ListLemmas.{Has-append_cases, Has-append_right, Has-at, Pairs-cross, Pairs-map}
+use Rattle.plir_walk.proofs.ListLemmas.{Pairs-cross, Pairs-map}
 use Rattle.plir_walk.proofs.Nodes.{same_tells}
 use Rattle.plir_walk.proofs.Places.{index-once}
 use Rattle.plir_walk.proofs.Results.{Visits}

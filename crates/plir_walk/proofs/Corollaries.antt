@@ -5,8 +5,7 @@ use Rattle.std.specs.declared.ops.ControlFlow.{ControlFlow}
 use Rattle.std.specs.declared.ops.ControlFlow.TheVariants.{Break, Continue}
 use Rattle.plir_walk.specs.Calls.{Call, NoBreak, nodes_of}
 use Rattle.plir_walk.specs.Config.{direction_of, order_of}
-use Rattle.plir_walk.specs.Forest.{Lawful, Shape}
-use Rattle.plir_core.specs.NodeLists.{Has}
+use Rattle.plir_store.specs.Members.{Has}
 use Rattle.plir_walk.specs.Tree.{Before, Earlier, HasOnePlaceEach, IsUnder, NodeBefore, Place, Tree, node_at}
 use Rattle.plir_walk.specs.Walk.{LastBreaks}
 use Rattle.plir_walk.specs.declared.config.Direction.{Direction}
@@ -16,6 +15,8 @@ use Rattle.plir_walk.specs.declared.interruptible.WalkContinue.{WalkContinue}
 use Rattle.plir_walk.specs.declared.interruptible.WalkContinue.TheVariants.{Advance}
 use Rattle.plir_walk.specs.declared.limit.CallLimit.{CallLimit}
 use Rattle.plir_core.specs.declared.ptr.IRNode.{IRNode}
+use Rattle.plir_core.specs.Forest.{Shape}
+use Rattle.plir_walk.specs.Lawful.{Lawful}
 use Rattle.plir_walk.proofs.Groves.{no-both, step-down}
 use Rattle.plir_walk.proofs.ListLemmas.{Pairs-map}
 use Rattle.plir_walk.proofs.Results.{Visits}

@@ -6,8 +6,7 @@ use Rattle.std.specs.declared.ops.ControlFlow.TheVariants.{Break, Continue}
 use Rattle.plir_walk.specs.AsRead.{kids_at, kids_by, tree_read}
 use Rattle.plir_walk.specs.Calls.{Call, nodes_of}
 use Rattle.plir_walk.specs.Config.{AllPost, order_of}
-use Rattle.plir_walk.specs.Forest.{Shape}
-use Rattle.plir_core.specs.NodeLists.{Distinct, Has}
+use Rattle.plir_store.specs.Members.{Distinct, Has}
 use Rattle.plir_walk.specs.ShutOut.{IsSkipped}
 use Rattle.plir_walk.specs.Tree.{Before, HasOnePlaceEach, IsUnder, NodeBefore, Place, Tree, node_at}
 use Rattle.plir_walk.specs.Walk.{IsDue}
@@ -17,6 +16,7 @@ use Rattle.plir_walk.specs.declared.config.WalkConfig.{WalkConfig}
 use Rattle.plir_walk.specs.declared.interruptible.WalkContinue.{WalkContinue}
 use Rattle.plir_walk.specs.declared.interruptible.WalkContinue.TheVariants.{Advance, Skip}
 use Rattle.plir_core.specs.declared.ptr.IRNode.{IRNode}
+use Rattle.plir_core.specs.Forest.{Shape}
 use Rattle.plir_walk.proofs.Groves.{and_then-some, step-down}
 use Rattle.plir_walk.proofs.Nodes.{post-at, same_tells}
 use Rattle.plir_walk.proofs.Stages.{cut, cut-same}

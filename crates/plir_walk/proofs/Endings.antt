@@ -3,16 +3,18 @@ use Rattle.std.proofs.lemmas.List.{append-nil}
 use Rattle.plir_walk.specs.AsRead.{tree_read}
 use Rattle.plir_walk.specs.Calls.{Call, nodes_of}
 use Rattle.plir_walk.specs.Config.{AllPost, direction_of, order_of}
-use Rattle.plir_walk.specs.Forest.{IsBelow, IsForest, Shape}
-use Rattle.plir_core.specs.NodeLists.{Distinct, Has}
-use Rattle.plir_walk.specs.Tree.{Place, Tree, node_at, taken}
+use Rattle.plir_store.specs.Members.{Distinct, Has}
+use Rattle.plir_walk.specs.Tree.{Place, Tree, node_at}
 use Rattle.plir_walk.specs.declared.config.Order.{Order}
 use Rattle.plir_walk.specs.declared.config.Order.TheVariants.{PostOrder, PreOrder}
 use Rattle.plir_walk.specs.declared.config.WalkConfig.{WalkConfig}
+use Rattle.plir_core.specs.Above.{Reaches}
 use Rattle.plir_core.specs.declared.ptr.IRNode.{IRNode}
-use Rattle.plir_walk.proofs.Climbs.{AtOrBelow, IsBelow-AtOrBelow, climb-top, kid-below, not-below-itself, same-branch}
+use Rattle.plir_core.specs.Forest.{IsBelow, IsForest, Shape}
+use Rattle.plir_store.specs.MemberLaws.{Distinct-append, Distinct-one, Distinct-right, Has-append_cases, Has-append_left, Has-append_right, Has-at}
+use Rattle.plir_walk.specs.Step.{taken}
+use Rattle.plir_walk.proofs.Climbs.{IsBelow-Reaches, climb-top, kid-below, not-below-itself, same-branch}
 use Rattle.plir_walk.proofs.Groves.{Grove, Has-taken, Reads, Reads-beside, Reads-same, and_then-some, beside, first, flat, flat-beside, flat-cases, flat-root, flat-under, grow, last, last-is, leaf, no-both, roots, roots-beside}
-use Rattle.plir_walk.proofs.ListLemmas.{Distinct-append, Distinct-one, Distinct-right, Has-append_cases, Has-append_left, Has-append_right, Has-at}
 use Rattle.plir_walk.proofs.Stages.{Closing, Entering, Leaving, Opening, read-fresh}
 use Rattle.plir_walk.proofs.Steps.{Distinct-taken, Fits, Frame, Path, ahead-of, base-of, frame-distinct, frame-kid, frame-parent, path-depth, so_far, todo_of, top, under}
 use Rattle.plir_walk.proofs.Heights.{bounded, deepest, deeper, depth_in}
@@ -56,7 +58,7 @@ unread-reads w s f (suc k) xs h = row-reads w s (unread w s k) xs (λ x z.
     (unread-roots w s f k (taken (direction_of w x) (s.kids x)) deep, unread-reads w s f k (taken (direction_of w x) (s.kids x)) deep)))
 
 -- a place in a context's tree is at or below its root
-pub place-below : (s : Shape) (f : IsForest s) (c n : IRNode) (p : Place) → node_at s.kids c p ≡ Some n → AtOrBelow s c n
+pub place-below : (s : Shape) (f : IsForest s) (c n : IRNode) (p : Place) → node_at s.kids c p ≡ Some n → Reaches s.parent n c
 place-below s f c n [] e = (zero, (let g : c ≡ n = cc in ap Some (sym g)))
 place-below s f c n (i ∷ p) e =
     let d = and_then-some (λ c. node_at s.kids c p) (slice_get (s.kids c) i) n e in
@@ -77,7 +79,7 @@ pub rest-roots : (w : WalkConfig) (s : Shape) (f : IsForest s) (xs : List IRNode
 rest-roots w s f xs = unread-roots w s f (suc deepest) xs (λ x h. omega arith)
 
 pub rest-reads : (w : WalkConfig) (s : Shape) (f : IsForest s) (t : Tree) (ns : List IRNode) (xs : List IRNode)
-    → ((m : IRNode) → (Has ns m → ⊥) → t m ≡ s.kids m) → ((c x : IRNode) → Has xs c → AtOrBelow s c x → Has ns x → ⊥) → Reads w t (rest_of w s xs)
+    → ((m : IRNode) → (Has ns m → ⊥) → t m ≡ s.kids m) → ((c x : IRNode) → Has xs c → Reaches s.parent x c → Has ns x → ⊥) → Reads w t (rest_of w s xs)
 rest-reads w s f t ns xs new un =
     let g : Grove = rest_of w s xs in
     let rd : Reads w s.kids g = unread-reads w s f (suc deepest) xs (λ x h. omega arith) in
@@ -87,14 +89,14 @@ rest-reads w s f t ns xs new un =
     rd
 
 pub rest-base : (w : WalkConfig) (s : Shape) (f : IsForest s) (t : Tree) (ns : List IRNode) (base : Tree) (xs : List IRNode)
-    → ((m : IRNode) → (Has ns m → ⊥) → t m ≡ s.kids m) → ((c x : IRNode) → Has xs c → AtOrBelow s c x → Has ns x → ⊥)
-    → ((c x : IRNode) → Has xs c → AtOrBelow s c x → s.kids x ≡ base x) → (n : IRNode) → Has (flat (rest_of w s xs)) n → t n ≡ base n
+    → ((m : IRNode) → (Has ns m → ⊥) → t m ≡ s.kids m) → ((c x : IRNode) → Has xs c → Reaches s.parent x c → Has ns x → ⊥)
+    → ((c x : IRNode) → Has xs c → Reaches s.parent x c → s.kids x ≡ base x) → (n : IRNode) → Has (flat (rest_of w s xs)) n → t n ≡ base n
 rest-base w s f t ns base xs new un is n h =
     let g : Grove = rest_of w s xs in
     let rd : Reads w s.kids g = unread-reads w s f (suc deepest) xs (λ x h. omega arith) in
     let u = flat-under w s.kids g n rd h in
     let c_in : Has xs u.0 = subst (λ (v : List IRNode). Has v u.0) (rest-roots w s f xs) u.1 in
-    let b : AtOrBelow s u.0 n = place-below s f u.0 n u.2.0 u.2.1 in
+    let b : Reaches s.parent n u.0 = place-below s f u.0 n u.2.0 u.2.1 in
     new n (un u.0 n c_in b) ∙ is u.0 n c_in b
 
 pub grow-base : (t base : Tree) (m : IRNode) (o : Order) (b x : Grove) → t m ≡ base m → ((n : IRNode) → Has (flat b) n → t n ≡ base n) → ((n : IRNode) → Has (flat x) n → t n ≡ base n)
@@ -121,25 +123,25 @@ last-distinct PreOrder m = tt
 last-distinct PostOrder m = Distinct-one m
 
 pub row-under : (w : WalkConfig) (s : Shape) (f : IsForest s) (g : List IRNode → Grove) (xs : List IRNode)
-    → ((ys : List IRNode) (n : IRNode) → Has (flat (g ys)) n → (c : IRNode) × Has ys c × AtOrBelow s c n)
-    → (n : IRNode) → Has (flat (row w s g xs)) n → (c : IRNode) × Has xs c × AtOrBelow s c n
+    → ((ys : List IRNode) (n : IRNode) → Has (flat (g ys)) n → (c : IRNode) × Has ys c × Reaches s.parent n c)
+    → (n : IRNode) → Has (flat (row w s g xs)) n → (c : IRNode) × Has xs c × Reaches s.parent n c
 row-under w s f g [] h n k = absurd k
 row-under w s f g (x ∷ xs) h n k =
     let ks : List IRNode = taken (direction_of w x) (s.kids x) in
     elim (flat-cases x (order_of w x) (g ks) (row w s g xs) n k) [
       | inl e ↦ (x, inl refl, (zero, ap Some (sym e)))
       | inr a ↦ elim a [
-        | inl z ↦ (let r = h ks n z in (x, inl refl, IsBelow-AtOrBelow s x n (kid-below s x r.0 n (f.kid_parent x r.0 (Has-taken (direction_of w x) (s.kids x) r.0 r.1)) r.2)))
+        | inl z ↦ (let r = h ks n z in (x, inl refl, IsBelow-Reaches s x n (kid-below s x r.0 n (f.kid_parent x r.0 (Has-taken (direction_of w x) (s.kids x) r.0 r.1)) r.2)))
         | inr z ↦ (let r = row-under w s f g xs h n z in (r.0, inr r.1, r.2))
       ]
     ]
 
-pub unread-under : (w : WalkConfig) (s : Shape) (f : IsForest s) (k : ℕ) (xs : List IRNode) (n : IRNode) → Has (flat (unread w s k xs)) n → (c : IRNode) × Has xs c × AtOrBelow s c n
+pub unread-under : (w : WalkConfig) (s : Shape) (f : IsForest s) (k : ℕ) (xs : List IRNode) (n : IRNode) → Has (flat (unread w s k xs)) n → (c : IRNode) × Has xs c × Reaches s.parent n c
 unread-under w s f zero xs n h = absurd h
 unread-under w s f (suc k) xs n h = row-under w s f (unread w s k) xs (λ ys m z. unread-under w s f k ys m z) n h
 
 pub row-distinct : (w : WalkConfig) (s : Shape) (f : IsForest s) (g : List IRNode → Grove) (xs : List IRNode)
-    → ((ys : List IRNode) (n : IRNode) → Has (flat (g ys)) n → (c : IRNode) × Has ys c × AtOrBelow s c n)
+    → ((ys : List IRNode) (n : IRNode) → Has (flat (g ys)) n → (c : IRNode) × Has ys c × Reaches s.parent n c)
     → ((ys : List IRNode) → Distinct ys → ((a b : IRNode) → Has ys a → Has ys b → depth_in s a ≡ depth_in s b) → Distinct (flat (g ys)))
     → Distinct xs → ((a b : IRNode) → Has xs a → Has xs b → depth_in s a ≡ depth_in s b) → Distinct (flat (row w s g xs))
 row-distinct w s f g [] hu hd d e = tt
@@ -147,7 +149,7 @@ row-distinct w s f g (x ∷ xs) hu hd d e =
     let ks : List IRNode = taken (direction_of w x) (s.kids x) in
     let up = λ (y : IRNode) (z : Has ks y). f.kid_parent x y (Has-taken (direction_of w x) (s.kids x) y z) in
     let under-x = λ (n : IRNode) (z : Has (flat (g ks)) n). (let r = hu ks n z in kid-below s x r.0 n (up r.0 r.1) r.2) in
-    let apart = λ (n : IRNode) (b : AtOrBelow s x n) (z : Has (flat (row w s g xs)) n).
+    let apart = λ (n : IRNode) (b : Reaches s.parent n x) (z : Has (flat (row w s g xs)) n).
     (let r = row-under w s f g xs hu n z in
     d.0 (subst (λ (v : IRNode). Has xs v) (sym (same-branch s f x r.0 n (e x r.0 (inl refl) (inr r.1)) b r.2)) r.1)) in
     grow-distinct x (order_of w x) (g ks) (row w s g xs)
@@ -155,7 +157,7 @@ row-distinct w s f g (x ∷ xs) hu hd d e =
     (row-distinct w s f g xs hu hd d.1 (λ a b i j. e a b (inr i) (inr j)))
     (λ z. not-below-itself s f x (under-x x z))
     (λ z. apart x (zero, refl) z)
-    (λ n i j. apart n (IsBelow-AtOrBelow s x n (under-x n i)) j)
+    (λ n i j. apart n (IsBelow-Reaches s x n (under-x n i)) j)
 
 pub unread-distinct : (w : WalkConfig) (s : Shape) (f : IsForest s) (k : ℕ) (xs : List IRNode) → Distinct xs → ((a b : IRNode) → Has xs a → Has xs b → depth_in s a ≡ depth_in s b) → Distinct (flat (unread w s k xs))
 unread-distinct w s f zero xs d e = tt
@@ -188,7 +190,7 @@ todo-distinct w s f base t r ns path c h =
 
 -- what is still to be walked beside the cursor is not at or below it
 pub todo-apart : (w : WalkConfig) (s : Shape) (f : IsForest s) (base : Tree) (t : Tree) (r : IRNode) (ns : List IRNode) (path : Path) (c : IRNode) → Fits w s base t r ns path c
-    → (x : IRNode) → AtOrBelow s c x → Has (flat (rest_of w s (todo_of path))) x → ⊥
+    → (x : IRNode) → Reaches s.parent x c → Has (flat (rest_of w s (todo_of path))) x → ⊥
 todo-apart w s f base t r ns path c h x b k =
     let z = todo-beside w s f base t r ns path c h in
     let u = unread-under w s f (suc deepest) (todo_of path) x k in
@@ -198,7 +200,7 @@ todo-apart w s f base t r ns path c h x b k =
 pub record Behind (s : Shape) (ns : List IRNode) (front : List IRNode) (rest : List IRNode) : Type 0 where
   pub once : Distinct rest
   pub uncalled : (x : IRNode) → Has rest x → Has ns x → ⊥
-  pub outside : (x e : IRNode) → Has rest x → Has front e → AtOrBelow s e x → ⊥
+  pub outside : (x e : IRNode) → Has rest x → Has front e → Reaches s.parent x e → ⊥
 
 pub behind-up : (w : WalkConfig) (s : Shape) (f : IsForest s) (base : Tree) (t : Tree) (r : IRNode) (ns : List IRNode)
     (a : IRNode) (o : Order) (d : Grove) (td : List IRNode) (u : Path) (c : IRNode) → Fits w s base t r ns (under a o d td u) c → (rest : List IRNode) → Behind s ns (a ∷ todo_of u) rest
@@ -228,8 +230,8 @@ behind-up w s f base t r ns a o d td u c h rest b =
           elim (where-is x k) [
             | inl i ↦ not-below-itself s f a (subst (λ (v : IRNode). IsBelow s a v) (sym (last-is o a x i).0) below)
             | inr v ↦ elim v [
-              | inl i ↦ todo-apart w s f base t r ns u a h.1 x (IsBelow-AtOrBelow s a x below) i
-              | inr i ↦ b.outside x a i (inl refl) (IsBelow-AtOrBelow s a x below)
+              | inl i ↦ todo-apart w s f base t r ns u a h.1 x (IsBelow-Reaches s a x below) i
+              | inr i ↦ b.outside x a i (inl refl) (IsBelow-Reaches s a x below)
             ]
           ]);
     }
@@ -241,7 +243,7 @@ behind-up w s f base t r ns a o d td u c h rest b =
     ]
 
 -- the calls, what is left of the cursor's trees, and what comes behind them, are apart
-pub all-apart : (s : Shape) (ns front y rest : List IRNode) → Distinct ns → Distinct y → ((x : IRNode) → Has y x → Has ns x → ⊥) → ((x : IRNode) → Has y x → (e : IRNode) × Has front e × AtOrBelow s e x) → Behind s ns front rest
+pub all-apart : (s : Shape) (ns front y rest : List IRNode) → Distinct ns → Distinct y → ((x : IRNode) → Has y x → Has ns x → ⊥) → ((x : IRNode) → Has y x → (e : IRNode) × Has front e × Reaches s.parent x e) → Behind s ns front rest
     → Distinct (ns ++ (y ++ rest))
 all-apart s ns front y rest d dy un low b =
     Distinct-append ns (y ++ rest) d
@@ -306,16 +308,16 @@ module _ {C S B : Type 0} (look : C → Shape) (w : WalkConfig) (base : Tree)
       let td : List IRNode = todo_of h.path in
       let g : Grove = rest_of w s (c ∷ td) in
       let rd : Reads w t g = rest-reads w s f t ns (c ∷ td) new (λ y x k b q. elim k [
-        | inl i ↦ h.fresh x (subst (λ (v : IRNode). AtOrBelow s v x) (sym i) b) q
+        | inl i ↦ h.fresh x (subst (λ (v : IRNode). Reaches s.parent x v) (sym i) b) q
         | inr i ↦ ahead-of w s base t r ns h.path c h.fits y x i b q
       ]) in
       let z = close w s f base t r ns new h.base_done h.path c g h.fits (rest-roots w s f (c ∷ td)) rd (λ m k. subst (λ (v : List IRNode). Has v m) h.told k)
       (λ all. rest-base w s f t ns base (c ∷ td) new (λ y x k b q. elim k [
-        | inl i ↦ h.fresh x (subst (λ (v : IRNode). AtOrBelow s v x) (sym i) b) q
+        | inl i ↦ h.fresh x (subst (λ (v : IRNode). Reaches s.parent x v) (sym i) b) q
         | inr i ↦ ahead-of w s base t r ns h.path c h.fits y x i b q
       ])
       (λ y x k b. elim k [
-        | inl i ↦ h.base_here all x (subst (λ (v : IRNode). AtOrBelow s v x) (sym i) b)
+        | inl i ↦ h.base_here all x (subst (λ (v : IRNode). Reaches s.parent x v) (sym i) b)
         | inr i ↦ base-of w s base t r ns h.path c h.fits all y x i b
       ])) in (
         record {
@@ -328,7 +330,7 @@ module _ {C S B : Type 0} (look : C → Shape) (w : WalkConfig) (base : Tree)
           once = subst (λ (v : List IRNode). Distinct v) (sym (z.4 ∙ ap (λ v. v ++ (flat g ++ z.3)) h.told))
               (all-apart s ns (c ∷ td) (flat g) z.3 h.distinct (rest-distinct w s f base t r ns h.path c h.fits)
               (λ x k q. (let u = unread-under w s f (suc deepest) (c ∷ td) x k in elim u.1 [
-                | inl i ↦ h.fresh x (subst (λ (v : IRNode). AtOrBelow s v x) (sym i) u.2) q
+                | inl i ↦ h.fresh x (subst (λ (v : IRNode). Reaches s.parent x v) (sym i) u.2) q
                 | inr i ↦ ahead-of w s base t r ns h.path c h.fits u.0 x i u.2 q
               ]))
               (λ x k. unread-under w s f (suc deepest) (c ∷ td) x k) z.6);
@@ -360,7 +362,7 @@ module _ {C S B : Type 0} (look : C → Shape) (w : WalkConfig) (base : Tree)
       let z = close w s f base t r ns new h.base_done h.path c g h.fits (ap (λ v. c ∷ v) (rest-roots w s f td)) rd (λ m k. subst (λ (v : List IRNode). Has v m) h.told (Has-append_left (so_far h.path) (first h.o c) m k))
       (λ all. grow-base t base c h.o U V (sym h.now ∙ h.base_here all c (zero, refl))
       (rest-base w s f t ns base ks new (λ y x k b q. h.fresh x (kid-below s c y x (f.kid_parent c y (Has-taken (direction_of w c) (s.kids c) y k)) b) q)
-      (λ y x k b. h.base_here all x (IsBelow-AtOrBelow s c x (kid-below s c y x (f.kid_parent c y (Has-taken (direction_of w c) (s.kids c) y k)) b))))
+      (λ y x k b. h.base_here all x (IsBelow-Reaches s c x (kid-below s c y x (f.kid_parent c y (Has-taken (direction_of w c) (s.kids c) y k)) b))))
       (rest-base w s f t ns base td new (λ y x k b q. ahead-of w s base t r ns h.path c h.fits y x k b q) (λ y x k b. base-of w s base t r ns h.path c h.fits all y x k b))) in
       record {
         grove = z.0;
@@ -377,7 +379,7 @@ module _ {C S B : Type 0} (look : C → Shape) (w : WalkConfig) (base : Tree)
             tail-distinct
             (λ n i j. elim (Has-append_cases (last h.o c) (flat V) n j) [
               | inl k ↦ not-below-itself s f c (subst (λ (v : IRNode). IsBelow s c v) (sym (last-is h.o c n k).0) (kid-under n i))
-              | inr k ↦ todo-apart w s f base t r ns h.path c h.fits n (IsBelow-AtOrBelow s c n (kid-under n i)) k
+              | inr k ↦ todo-apart w s f base t r ns h.path c h.fits n (IsBelow-Reaches s c n (kid-under n i)) k
             ]))
             (λ x k q. elim (Has-append_cases (flat U) (last h.o c ++ flat V) x k) [
               | inl i ↦ h.fresh x (kid-under x i) q
@@ -387,7 +389,7 @@ module _ {C S B : Type 0} (look : C → Shape) (w : WalkConfig) (base : Tree)
               ]
             ])
             (λ x k. elim (Has-append_cases (flat U) (last h.o c ++ flat V) x k) [
-              | inl i ↦ (c, inl refl, IsBelow-AtOrBelow s c x (kid-under x i))
+              | inl i ↦ (c, inl refl, IsBelow-Reaches s c x (kid-under x i))
               | inr i ↦ elim (Has-append_cases (last h.o c) (flat V) x i) [
                 | inl j ↦ (c, inl refl, (zero, ap Some (sym (last-is h.o c x j).0)))
                 | inr j ↦ (let y = unread-under w s f (suc deepest) td x j in (y.0, inr y.1, y.2))

@@ -4,15 +4,17 @@ use Rattle.std.proofs.lemmas.List.{reverse-append, reverse-reverse, length-rever
 use Rattle.std.proofs.lemmas.Option.{slice_get_within, slice_get-get_or, get_or_from_slice_get}
 use Rattle.plir_walk.specs.Config.{direction_of, order_of}
 use Rattle.plir_walk.specs.Lists.{Pairs}
-use Rattle.plir_core.specs.NodeLists.{Has}
-use Rattle.plir_walk.specs.Tree.{Before, Earlier, IsUnder, NodeBefore, Place, Tree, node_at, same, taken}
+use Rattle.plir_store.specs.Members.{Has}
+use Rattle.plir_walk.specs.Tree.{Before, Earlier, IsUnder, NodeBefore, Place, Tree, node_at, same}
 use Rattle.plir_walk.specs.declared.config.Direction.{Direction}
 use Rattle.plir_walk.specs.declared.config.Direction.TheVariants.{Forward, Reverse}
 use Rattle.plir_walk.specs.declared.config.Order.{Order}
 use Rattle.plir_walk.specs.declared.config.Order.TheVariants.{PostOrder, PreOrder}
 use Rattle.plir_walk.specs.declared.config.WalkConfig.{WalkConfig}
 use Rattle.plir_core.specs.declared.ptr.IRNode.{IRNode}
-use Rattle.plir_walk.proofs.ListLemmas.{Has-append_cases, Has-append_left, Has-append_right, Has-at, Pairs-append, Pairs-map, at-Has}
+use Rattle.plir_store.specs.MemberLaws.{Has-append_cases, Has-append_left, Has-append_right, Has-at, at-Has}
+use Rattle.plir_walk.specs.Step.{taken}
+use Rattle.plir_walk.proofs.ListLemmas.{Pairs-append, Pairs-map}
 
 -- Trees that stand side by side: the first one's node, how it is called, the trees below it, and the trees beside it.
 pub data Grove : Type 0 where

@@ -15,9 +15,9 @@ use Rattle.plir_core.specs.Changes.{SameLive, with_op_edit, with_block_edit}
 use Rattle.plir_core.specs.Erase.{IsErased}
 use Rattle.plir_core.specs.Made.{IsRegionAdded, IsMade}
 use Rattle.plir_core.specs.Placed.{MovesOnly, IsPlaced}
-use Rattle.plir_walk.specs.Forest.{Shape, IsBelow, IsForest, Lawful, SameShape}
-use Rattle.plir_walk.specs.View.{look}
-use Rattle.plir_walk.proofs.Climbs.{AtOrBelow, climb-bottom, climb-split, climb-top, not-below-itself}
+use Rattle.plir_core.specs.Forest.{Shape, IsBelow, IsForest, look}
+use Rattle.plir_walk.specs.Lawful.{Lawful, SameShape}
+use Rattle.plir_walk.proofs.Climbs.{climb-bottom, climb-split, climb-top, not-below-itself}
 use Rattle.plir_walk.proofs.NamedStores.{op-edit-is, block-edit-is}
 use Rattle.plir_walk.proofs.Nodes.{same_tells}
 use Rattle.plir_walk.proofs.Refilled.{SameSlots, edited-slots, refilled-given, refilled-kids, refilled-live, refilled-parents}
@@ -122,7 +122,7 @@ module _ {K A T : Type 0} (s t : Store K A T) where
   }
     where
       -- what is at or below x is below n
-      deep : (m : IRNode) → AtOrBelow (look s) x m → IsBelow (look s) n m
+      deep : (m : IRNode) → Reaches (look s).parent m x → IsBelow (look s) n m
       deep m r = (b.0 + r.0, climb-plus (look s) (suc b.0) r.0 (suc (b.0 + r.0)) m x n (omega arith) r.1 b.1)
 
       over : (m : IRNode) → m ≢ n → (IsBelow (look s) n m → ⊥) → node_parent s.nodes x ≡ Some m → ⊥

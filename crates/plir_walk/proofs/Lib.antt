@@ -2,7 +2,6 @@ pub mod ListLemmas
 pub mod Nodes
 pub mod Groves
 pub mod Slots
-pub mod View
 pub mod ListLinks
 pub mod Heights
 pub mod Climbs

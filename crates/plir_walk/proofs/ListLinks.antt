@@ -3,15 +3,16 @@ use Rattle.std.proofs.Common.{◌≡◌, ℕ, Bool, true, false, cond, List, [],
 use Rattle.std.specs.Prelude.{option_map, option_and_then}
 use Rattle.std.proofs.lemmas.Bool.Decides.{eqb_tells}
 use Rattle.std.proofs.lemmas.List.{reverse-append, map-append}
-use Rattle.plir_store.specs.Lists.{Lists, In, Apart, first_of, last_from, last_of, next_in, prev_in, next_of, prev_of, next_under, prev_under, kids_at, parent_at}
+use Rattle.plir_store.specs.Lists.{Lists, last_from, last_of, next_in, prev_in, next_of, prev_of, next_under, prev_under, kids_at, parent_at}
 use Rattle.plir_store.specs.Table.{Table, is_live_at}
 use Rattle.plir_core.specs.declared.ptr.Ptr.{Ptr}
 use Rattle.plir_core.specs.declared.ptr.IRNode.{IRNode}
 use Rattle.plir_core.specs.declared.ptr.IRNode.TheVariants.{Operation, Region, BasicBlock}
-use Rattle.plir_core.specs.NodeLists.{Has, Distinct, head}
+use Rattle.plir_store.specs.MemberLaws.{Distinct-cross, Distinct-map}
+use Rattle.plir_store.specs.Members.{Has, Distinct, head}
 use Rattle.plir_core.specs.Nodes.{Nodes, ptr_at, is_node_live, node_kids, node_parent, node_first, node_last, node_next, node_prev, op_node, block_node, region_node}
-use Rattle.plir_core.specs.Forest.{IsListing, IsForest}
-use Rattle.plir_walk.specs.Tree.{after}
+use Rattle.plir_core.specs.Stored.{IsListing, IsStored}
+use Rattle.plir_walk.specs.Step.{after}
 use Rattle.plir_walk.proofs.Nodes.{same_tells, after-at}
 use Rattle.plir_walk.proofs.Slots.{live_at, ptr_is}
 use Rattle.plir_walk.proofs.Steps.{Distinct-reverse}
@@ -22,40 +23,17 @@ record Cut (x : ℕ) (xs : List ℕ) : Type 0 where
   back : List ℕ
   whole : xs ≡ front ++ x ∷ back
 
-cut : (x : ℕ) (xs : List ℕ) → In x xs → Cut x xs
+cut : (x : ℕ) (xs : List ℕ) → Has xs x → Cut x xs
 cut x [] i = absurd i
-cut x (z ∷ zs) (inl e) = record { front = []; back = zs; whole = ap (λ w. w ∷ zs) (sym e) }
+cut x (z ∷ zs) (inl e) = record { front = []; back = zs; whole = ap (λ w. w ∷ zs) e }
 cut x (z ∷ zs) (inr j) = (let t = cut x zs j in record { front = z ∷ t.front; back = t.back; whole = ap (λ ws. z ∷ ws) t.whole })
-
--- what stands once does not stand before itself
-not-before : (c : ℕ) (xs ys : List ℕ) → Apart (xs ++ c ∷ ys) → In c xs → ⊥
-not-before c [] ys a i = i
-not-before c (x ∷ xs) ys a (inl e) = a.0 (subst (λ z. In z (xs ++ c ∷ ys)) e (mid xs))
-  where
-    mid : (zs : List ℕ) → In c (zs ++ c ∷ ys)
-    mid [] = inl refl
-    mid (z ∷ zs) = inr (mid zs)
-not-before c (x ∷ xs) ys a (inr i) = not-before c xs ys a.1 i
-
--- the images of different numbers
-Has-map : {A : Type 0} (f : ℕ → A) (xs : List ℕ) (a : A) → Has (map f xs) a → (i : ℕ) × In i xs × (f i ≡ a)
-Has-map f [] a h = absurd h
-Has-map f (x ∷ xs) a (inl e) = (x, inl refl, e)
-Has-map f (x ∷ xs) a (inr k) = (let r = Has-map f xs a k in (r.0, inr r.1, r.2))
-
-Distinct-map : {A : Type 0} (f : ℕ → A) → ((i j : ℕ) → f i ≡ f j → i ≡ j) → (xs : List ℕ) → Apart xs → Distinct (map f xs)
-Distinct-map f one [] a = tt
-Distinct-map f one (x ∷ xs) a = (
-  λ h. (let r = Has-map f xs (f x) h in a.0 (subst (λ z. In z xs) (one r.0 x r.2) r.1)),
-  Distinct-map f one xs a.1,
-)
 
 -- the first of the two that is there
 abbrev pub first_or : {A : Type 0} → Option A → Option A → Option A
 first_or None d = d
 first_or (Some a) d = Some a
 
-pub head-map : {A : Type 0} (f : ℕ → A) (xs : List ℕ) → head (map f xs) ≡ option_map f (first_of xs)
+pub head-map : {A : Type 0} (f : ℕ → A) (xs : List ℕ) → head (map f xs) ≡ option_map f (head xs)
 head-map f [] = refl
 head-map f (x ∷ xs) = refl
 
@@ -74,10 +52,10 @@ or-none (Some a) = refl
 pub last-map : {A : Type 0} (f : ℕ → A) (xs : List ℕ) → head (reverse (map f xs)) ≡ option_map f (last_of xs)
 last-map f xs = sym (or-none (head (reverse (map f xs)))) ∙ last-or f xs None
 
-pub prev-cut : (c : ℕ) (front back : List ℕ) (a : Option ℕ) → (In c front → ⊥) → prev_in a (front ++ c ∷ back) c ≡ last_from a front
+pub prev-cut : (c : ℕ) (front back : List ℕ) (a : Option ℕ) → (Has front c → ⊥) → prev_in a (front ++ c ∷ back) c ≡ last_from a front
 prev-cut c [] back a n = elim (eqb_tells c c) [ inl e ↦ rw e.0 refl | inr e ↦ absurd (e.1 refl) ]
 prev-cut c (x ∷ front) back a n = elim (eqb_tells x c) [
-  | inl e ↦ absurd (n (inl (sym e.1)))
+  | inl e ↦ absurd (n (inl e.1))
   | inr e ↦ rw e.0 (prev-cut c front back (Some x) (λ i. n (inr i)))
 ]
 
@@ -89,7 +67,7 @@ module _ (f : ℕ → IRNode) (one : (i j : ℕ) → f i ≡ f j → i ≡ j) wh
     | inr e ↦ elim (eqb_tells x c) [ inl g ↦ absurd (e.1 (ap f g.1)) | inr g ↦ rw (e.0, g.0) (after-map xs c) ]
   ]
 
-  pub before-map : (xs : List ℕ) (c : ℕ) → Apart xs → In c xs → after (f c) (reverse (map f xs)) ≡ option_map f (prev_in None xs c)
+  pub before-map : (xs : List ℕ) (c : ℕ) → Distinct xs → Has xs c → after (f c) (reverse (map f xs)) ≡ option_map f (prev_in None xs c)
   before-map xs c d i =
       let k : Cut c xs = cut c xs i in
       let fs : List IRNode = map f k.front in
@@ -97,9 +75,9 @@ module _ (f : ℕ → IRNode) (one : (i j : ℕ) → f i ≡ f j → i ≡ j) wh
       let split : map f xs ≡ fs ++ f c ∷ bs = ap (map f) k.whole ∙ map-append f k.front (c ∷ k.back) in
       let turned : reverse (map f xs) ≡ reverse bs ++ f c ∷ reverse fs = ap reverse split ∙ turn fs (f c) bs in
       let apart : Distinct (reverse bs ++ f c ∷ reverse fs) = subst (λ (v : List IRNode). Distinct v) turned (Distinct-reverse (map f xs) (Distinct-map f one xs d)) in
-      let d' : Apart (k.front ++ c ∷ k.back) = subst (λ (v : List ℕ). Apart v) k.whole d in
+      let d' : Distinct (k.front ++ c ∷ k.back) = subst (λ (v : List ℕ). Distinct v) k.whole d in
       ap (after (f c)) turned ∙ (after-at (reverse bs) (f c) (reverse fs) apart
-      ∙ (last-map f k.front ∙ sym (ap (option_map f) (ap (λ (v : List ℕ). prev_in None v c) k.whole ∙ prev-cut c k.front k.back None (not-before c k.front k.back d')))))
+      ∙ (last-map f k.front ∙ sym (ap (option_map f) (ap (λ (v : List ℕ). prev_in None v c) k.whole ∙ prev-cut c k.front k.back None (λ i. Distinct-cross k.front (c ∷ k.back) d' c i (inl refl))))))
     where
       turn : (fs : List IRNode) (c : IRNode) (bs : List IRNode) → reverse (fs ++ c ∷ bs) ≡ reverse bs ++ c ∷ reverse fs
       turn fs c bs = reverse-append fs (c ∷ bs) ∙ (ap (λ (v : List IRNode). v ++ reverse fs) (reverse-append (c ∷ []) bs) ∙ append_assoc (reverse bs) (c ∷ []) (reverse fs))
@@ -137,7 +115,7 @@ slot_of (Operation p) = p.slot
 slot_of (Region p) = p.slot
 slot_of (BasicBlock p) = p.slot
 
-pub head-cond : {A : Type 0} (b : Bool) (f : ℕ → A) (xs : List ℕ) → cond b (option_map f (first_of xs)) None ≡ head (cond b (map f xs) [])
+pub head-cond : {A : Type 0} (b : Bool) (f : ℕ → A) (xs : List ℕ) → cond b (option_map f (head xs)) None ≡ head (cond b (map f xs) [])
 head-cond true f xs = sym (head-map f xs)
 head-cond false f xs = refl
 
@@ -156,7 +134,7 @@ module _ {O B : Type 0} (s : Nodes O B) where
   last-is (Region p) = last-cond (is_live_at s.regions p.slot p.version) (block_node s) (kids_at s.blocks_in_region p.slot)
   last-is (BasicBlock p) = last-cond (is_live_at s.blocks p.slot p.version) (op_node s) (kids_at s.ops_in_block p.slot)
 
-module _ {O B : Type 0} (s : Nodes O B) (w : IsForest s) where
+module _ {O B : Type 0} (s : Nodes O B) (w : IsStored s) where
   pub next-is : (n : IRNode) → is_node_live s n ≡ true → node_next s n ≡ option_and_then (λ a. after n (node_kids s a)) (node_parent s n)
   next-is (Operation p) e = next-word s.ops_in_block s.ops s.blocks w.ops_listed Operation BasicBlock (λ i j g. ap slot_of g) (node_kids s) (λ q. refl) p e
   next-is (Region p) e = next-word s.regions_in_op s.regions s.ops w.regions_listed Region Operation (λ i j g. ap slot_of g) (node_kids s) (λ q. refl) p e

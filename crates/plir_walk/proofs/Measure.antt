@@ -1,13 +1,12 @@
 use Rattle.std.proofs.Common.{◌≡◌, ℕ, ◌+◌, ◌-◌, ◌*◌, ◌^◌, ◌<◌, ◌≤◌, Bool, true, false, List, [], ◌∷◌, Option, Some, None, inl, inr, refl, sym, subst, arith, option_map}
 use Rattle.plir_walk.specs.Config.{direction_of, order_of}
-use Rattle.plir_walk.specs.Forest.{IsForest, Shape}
-use Rattle.plir_core.specs.NodeLists.{Has, head}
-use Rattle.plir_walk.specs.Step.{due_at, enter_or_leave, first_of, next_of, step_of}
-use Rattle.plir_walk.specs.Tree.{after, taken}
+use Rattle.plir_store.specs.Members.{Has, head}
+use Rattle.plir_walk.specs.Step.{due_at, enter_or_leave, first_of, next_of, step_of, after, taken}
 use Rattle.plir_walk.specs.declared.config.Order.{Order}
 use Rattle.plir_walk.specs.declared.config.Order.TheVariants.{PostOrder, PreOrder}
 use Rattle.plir_walk.specs.declared.config.WalkConfig.{WalkConfig}
 use Rattle.plir_core.specs.declared.ptr.IRNode.{IRNode}
+use Rattle.plir_core.specs.Forest.{IsForest, Shape}
 use Rattle.plir_walk.proofs.Groves.{Has-taken}
 use Rattle.plir_walk.proofs.Nodes.{same_tells}
 use Rattle.plir_walk.proofs.Heights.{bounded, deepest-is, deeper, depth_in}

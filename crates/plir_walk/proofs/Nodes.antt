@@ -4,12 +4,13 @@ use Rattle.std.proofs.lemmas.Bool.Decides.{eqb_tells}
 use Rattle.plir_core.specs.declared.ptr.Ptr.{Ptr}
 use Rattle.plir_core.specs.declared.ptr.IRNode.{IRNode}
 use Rattle.plir_core.specs.declared.ptr.IRNode.TheVariants.{Operation, BasicBlock, Region}
+use Rattle.plir_store.specs.MemberLaws.{Has-append_right}
+use Rattle.plir_walk.specs.Step.{after}
 use Rattle.plir_walk.specs.declared.config.Order.TheVariants.{PreOrder, PostOrder}
 use Rattle.plir_walk.specs.declared.config.WalkConfig.{WalkConfig}
 use Rattle.plir_walk.specs.Config.{order_of, AllPre, AllPost}
-use Rattle.plir_walk.specs.Tree.{same, same_ptr, after}
-use Rattle.plir_core.specs.NodeLists.{Has, Distinct, head}
-use Rattle.plir_walk.proofs.ListLemmas.{Has-append_right}
+use Rattle.plir_walk.specs.Tree.{same, same_ptr}
+use Rattle.plir_store.specs.Members.{Has, Distinct, head}
 
 pub same_ptr_tells : {T : Type 0} (p q : Ptr T) → ((same_ptr p q ≡ true) × (p ≡ q)) ⊎ ((same_ptr p q ≡ false) × (p ≢ q))
 same_ptr_tells p q = elim (eqb_tells p.slot q.slot) [

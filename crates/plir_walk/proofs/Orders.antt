@@ -6,10 +6,9 @@ use Rattle.std.specs.declared.ops.ControlFlow.TheVariants.{Continue}
 use Rattle.plir_walk.specs.declared.config.TheConstants.{WALKCONFIG_PREORDER_FORWARD as pre_forward, WALKCONFIG_POSTORDER_REVERSE as post_reverse}
 use Rattle.plir_walk.specs.Calls.{Advancing, Call, Chain, Relation, nodes_of}
 use Rattle.plir_walk.specs.Config.{direction_of, order_of}
-use Rattle.plir_walk.specs.Forest.{Shape}
 use Rattle.plir_walk.specs.Laws.{BeforeOrders, PostReverseIsPreForwardReversed, WalkedOnce}
 use Rattle.plir_walk.specs.Lists.{Pairs}
-use Rattle.plir_core.specs.NodeLists.{Distinct, Has}
+use Rattle.plir_store.specs.Members.{Distinct, Has}
 use Rattle.plir_walk.specs.Tree.{Before, Earlier, NodeBefore, Place, Tree, node_at}
 use Rattle.plir_walk.specs.Walked.{IsCallUnder, WalkedOver}
 use Rattle.plir_walk.specs.declared.config.Direction.{Direction}
@@ -20,6 +19,7 @@ use Rattle.plir_walk.specs.declared.config.WalkConfig.{WalkConfig}
 use Rattle.plir_walk.specs.declared.interruptible.WalkContinue.TheVariants.{Advance}
 use Rattle.plir_core.specs.declared.ptr.IRNode.{IRNode}
 use Rattle.plir_core.specs.declared.ptr.IRNode.TheVariants.{BasicBlock, Operation, Region}
+use Rattle.plir_core.specs.Forest.{Shape}
 use Rattle.plir_walk.proofs.Corollaries.{node-before-asym}
 use Rattle.plir_walk.proofs.Groves.{Has-reverse, and_then-some, no-both, reverse-Has}
 use Rattle.plir_walk.proofs.ListLemmas.{Pairs-append, Pairs-map}

@@ -1,6 +1,6 @@
 -- What is picked of the elements of a list.
 use Rattle.std.proofs.Common.{◌≡◌, suc, List, [], ◌∷◌, length, Option, Some, None, inl, inr, refl, sym, ap, subst, ◌∙◌}
-use Rattle.plir_core.specs.NodeLists.{Has, Distinct}
+use Rattle.plir_store.specs.Members.{Has, Distinct}
 
 abbrev add : {X : Type 0} → Option X → List X → List X
 add None xs = xs

@@ -1,16 +1,17 @@
 use Rattle.std.proofs.Common.{◌≡◌, ℕ, zero, suc, List, [], ◌∷◌, ◌++◌, Some, slice_get, inl, inr, reverse, refl, sym, ap, subst, ◌∙◌}
 use Rattle.std.proofs.lemmas.List.{reverse-reverse}
 use Rattle.plir_walk.specs.Config.{direction_of}
-use Rattle.plir_core.specs.NodeLists.{Distinct, Has}
-use Rattle.plir_walk.specs.Tree.{Place, Tree, node_at, taken}
+use Rattle.plir_store.specs.Members.{Distinct, Has}
+use Rattle.plir_walk.specs.Tree.{Place, Tree, node_at}
 use Rattle.plir_walk.specs.declared.config.Direction.{Direction}
 use Rattle.plir_walk.specs.declared.config.Direction.TheVariants.{Forward, Reverse}
 use Rattle.plir_walk.specs.declared.config.Order.{Order}
 use Rattle.plir_walk.specs.declared.config.Order.TheVariants.{PostOrder, PreOrder}
 use Rattle.plir_walk.specs.declared.config.WalkConfig.{WalkConfig}
 use Rattle.plir_core.specs.declared.ptr.IRNode.{IRNode}
+use Rattle.plir_store.specs.MemberLaws.{Distinct-cross, Distinct-left, Distinct-right, Has-append_left, Has-append_right, Has-at}
+use Rattle.plir_walk.specs.Step.{taken}
 use Rattle.plir_walk.proofs.Groves.{Grove, Reads, and_then-some, first, flat, flat-root, grow, last, leaf, roots, taken-Has, under-flat}
-use Rattle.plir_walk.proofs.ListLemmas.{Distinct-cross, Distinct-left, Distinct-right, Has-append_left, Has-append_right, Has-at}
 use Rattle.plir_walk.proofs.Steps.{Distinct-taken}
 
 -- Where no node stands twice in the trees, each node has one place.

@@ -4,11 +4,11 @@ use Rattle.std.specs.Borrow.{Bor, MutBor}
 use Rattle.std.specs.Fn.{Shared}
 use Rattle.std.specs.declared.ops.ControlFlow.{ControlFlow}
 use Rattle.plir_walk.specs.Calls.{ReadsBack}
-use Rattle.plir_walk.specs.Forest.{Shape}
 use Rattle.plir_walk.specs.Walked.{IsLawful, Walked, WalkedOver}
 use Rattle.plir_walk.specs.declared.config.WalkConfig.{WalkConfig}
 use Rattle.plir_walk.specs.declared.interruptible.WalkContinue.{WalkContinue}
 use Rattle.plir_core.specs.declared.ptr.IRNode.{IRNode}
+use Rattle.plir_core.specs.Forest.{Shape}
 use Rattle.plir_walk.proofs.Corollaries.{unchanged-lawful}
 
 module _ {F C S B : Type 0} (look : C → Shape) (w : WalkConfig) (g : Shared F (Bor C × (MutBor S × (IRNode × Unit {0}))) (ControlFlow B WalkContinue × (MutBor S × Unit {0}))) (f : F) where

@@ -1,11 +1,11 @@
 use Rattle.std.proofs.Common.{◌≡◌, ℕ, zero, suc, ◌+◌, ◌<◌, Bool, true, false, cond, List, [], ◌∷◌, Option, Some, None, ◌⊎◌, inl, inr, refl, sym, ap, subst, arith, ◌∙◌, option_map}
 use Rattle.plir_walk.specs.Config.{direction_of}
-use Rattle.plir_walk.specs.Forest.{IsForest, Shape}
-use Rattle.plir_core.specs.NodeLists.{Distinct, Has, head}
-use Rattle.plir_walk.specs.Step.{enter_or_leave, next_of, step_of}
-use Rattle.plir_walk.specs.Tree.{after, same, taken}
+use Rattle.plir_store.specs.Members.{Distinct, Has, head}
+use Rattle.plir_walk.specs.Step.{enter_or_leave, next_of, step_of, after, taken}
+use Rattle.plir_walk.specs.Tree.{same}
 use Rattle.plir_walk.specs.declared.config.WalkConfig.{WalkConfig}
 use Rattle.plir_core.specs.declared.ptr.IRNode.{IRNode}
+use Rattle.plir_core.specs.Forest.{IsForest, Shape}
 use Rattle.plir_walk.proofs.Endings.{rest_of, row, unread}
 use Rattle.plir_walk.proofs.Groves.{Grove, Has-taken, grow, leaf}
 use Rattle.plir_walk.proofs.Nodes.{same_tells}

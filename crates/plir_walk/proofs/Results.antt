@@ -1,12 +1,13 @@
 use Rattle.std.proofs.Common.{◌≡◌, ℕ, zero, suc, List, [], ◌∷◌, ◌++◌, Some, slice_get, inl, inr, refl, sym, subst, arith, ◌⊎◌}
 use Rattle.plir_walk.specs.Lists.{Pairs}
-use Rattle.plir_core.specs.NodeLists.{Distinct, Has}
+use Rattle.plir_store.specs.Members.{Distinct, Has}
 use Rattle.plir_walk.specs.Tree.{HasOnePlaceEach, IsUnder, NodeBefore, Tree}
 use Rattle.plir_walk.specs.declared.config.WalkConfig.{WalkConfig}
 use Rattle.plir_core.specs.declared.ptr.IRNode.{IRNode}
+use Rattle.plir_store.specs.MemberLaws.{Has-append_cases, Has-append_left, Has-append_right}
 use Rattle.plir_walk.proofs.Endings.{Told}
 use Rattle.plir_walk.proofs.Groves.{Sib, flat, flat-pairs, flat-under, under-flat}
-use Rattle.plir_walk.proofs.ListLemmas.{Has-append_cases, Has-append_left, Has-append_right, Pairs-cross, Pairs-left, Pairs-map}
+use Rattle.plir_walk.proofs.ListLemmas.{Pairs-cross, Pairs-left, Pairs-map}
 use Rattle.plir_walk.proofs.Places.{one-place}
 
 -- Called nodes ns, as far as they went: each node under r has one place, the called ones stand in the order of their

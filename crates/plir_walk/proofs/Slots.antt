@@ -1,12 +1,10 @@
 -- One slot of a table: what is live in it, and what is left where its content is another.
-use Rattle.std.proofs.Common.{◌≡◌, ℕ, ◌<◌, ◌&&◌, true, length, List, Option, Some, None, IsSome, is_some, ◌⊎◌, inl, inr, refl, sym, ap, subst, ◌∙◌, eqb, eq-eqb}
+use Rattle.std.proofs.Common.{◌≡◌, ℕ, ◌<◌, true, length, Option, Some, None, IsSome, is_some, inl, inr, refl, sym, ap, ◌∙◌, eqb, eq-eqb}
 use Rattle.std.proofs.lemmas.Bool.{cases_eq, cases_lt, and_parts, and_from, eqb-true}
 use Rattle.std.proofs.lemmas.List.{get_or_past, get_or-set_same, get_or-set_other}
 use Rattle.plir_store.specs.Table.{Table, Cell, no_cell, cell_at, content_at, version_at, is_live_at, with_content}
 use Rattle.plir_core.specs.declared.ptr.Ptr.{Ptr}
-use Rattle.plir_core.specs.declared.ptr.IRNode.{IRNode}
-use Rattle.plir_core.specs.declared.ptr.IRNode.TheVariants.{Operation, Region, BasicBlock}
-use Rattle.plir_core.specs.Nodes.{Nodes, ptr_at, is_node_live}
+use Rattle.plir_core.specs.Nodes.{ptr_at}
 
 module _ {C : Type 0} (t : Table C) where
   none_some : (o : Option C) → IsSome o → o ≡ None → ⊥

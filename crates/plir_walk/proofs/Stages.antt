@@ -3,16 +3,18 @@ use Rattle.std.proofs.lemmas.List.{append-nil}
 use Rattle.plir_walk.specs.AsRead.{kids_at, kids_by, tree_read}
 use Rattle.plir_walk.specs.Calls.{Call, nodes_of}
 use Rattle.plir_walk.specs.Config.{AllPost, direction_of, order_of}
-use Rattle.plir_walk.specs.Forest.{IsBelow, IsForest, Shape}
-use Rattle.plir_core.specs.NodeLists.{Distinct, Has, head}
-use Rattle.plir_walk.specs.Tree.{Tree, after, same, taken}
+use Rattle.plir_store.specs.Members.{Distinct, Has, head}
+use Rattle.plir_walk.specs.Tree.{Tree, same}
 use Rattle.plir_walk.specs.declared.config.Order.{Order}
 use Rattle.plir_walk.specs.declared.config.Order.TheVariants.{PostOrder, PreOrder}
 use Rattle.plir_walk.specs.declared.config.WalkConfig.{WalkConfig}
+use Rattle.plir_core.specs.Above.{Reaches}
 use Rattle.plir_core.specs.declared.ptr.IRNode.{IRNode}
-use Rattle.plir_walk.proofs.Climbs.{AtOrBelow, IsBelow-AtOrBelow, kid-below}
+use Rattle.plir_core.specs.Forest.{IsBelow, IsForest, Shape}
+use Rattle.plir_store.specs.MemberLaws.{Has-append_right}
+use Rattle.plir_walk.specs.Step.{after, taken}
+use Rattle.plir_walk.proofs.Climbs.{IsBelow-Reaches, kid-below}
 use Rattle.plir_walk.proofs.Groves.{Grove, Has-taken, Reads, Reads-beside, beside, first, flat, flat-beside, grow, last, leaf, no-both, roots}
-use Rattle.plir_walk.proofs.ListLemmas.{Has-append_right}
 use Rattle.plir_walk.proofs.Nodes.{after-at, same_tells}
 use Rattle.plir_walk.proofs.Steps.{Fits, Frame, Path, frame-distinct, frame-kid, frame-parent, so_far, top, under}
 
@@ -93,11 +95,11 @@ module _ {C S B : Type 0} (look : C → Shape) (w : WalkConfig) (base : Tree) wh
     pub fits : Fits w (look e) base (tree_read look w xs e) r (nodes_of xs) path c
     pub told : so_far path ≡ nodes_of xs
     pub live : (look e).live c ≡ true
-    pub fresh : (x : IRNode) → AtOrBelow (look e) c x → Has (nodes_of xs) x → ⊥
+    pub fresh : (x : IRNode) → Reaches (look e).parent x c → Has (nodes_of xs) x → ⊥
     pub given : (x : IRNode) → Has (nodes_of xs) x → (look e).given x ≡ true
     pub distinct : Distinct (nodes_of xs)
     pub base_done : AllPost w → (x : IRNode) → Has (nodes_of xs) x → tree_read look w xs e x ≡ base x
-    pub base_here : AllPost w → (x : IRNode) → AtOrBelow (look e) c x → (look e).kids x ≡ base x
+    pub base_here : AllPost w → (x : IRNode) → Reaches (look e).parent x c → (look e).kids x ≡ base x
 
   -- the cursor was entered, and its children come next
   pub record Opening (xs : List (Call C S B)) (e : C) (r c : IRNode) : Type 0 where
@@ -113,7 +115,7 @@ module _ {C S B : Type 0} (look : C → Shape) (w : WalkConfig) (base : Tree) wh
     pub given : (x : IRNode) → Has (nodes_of xs) x → (look e).given x ≡ true
     pub distinct : Distinct (nodes_of xs)
     pub base_done : AllPost w → (x : IRNode) → Has (nodes_of xs) x → tree_read look w xs e x ≡ base x
-    pub base_here : AllPost w → (x : IRNode) → AtOrBelow (look e) c x → (look e).kids x ≡ base x
+    pub base_here : AllPost w → (x : IRNode) → Reaches (look e).parent x c → (look e).kids x ≡ base x
 
   -- what is below the cursor was walked
   pub record Leaving (xs : List (Call C S B)) (e : C) (r c : IRNode) : Type 0 where
@@ -163,7 +165,7 @@ module _ {C S B : Type 0} (look : C → Shape) (w : WalkConfig) (base : Tree) wh
         now = sym k;
         told = append-nil (so_far h.path) ∙ h.told;
         live = h.live;
-        fresh = λ x b z. h.fresh x (IsBelow-AtOrBelow (look e) c x b) z;
+        fresh = λ x b z. h.fresh x (IsBelow-Reaches (look e) c x b) z;
         post_fresh = λ z. un;
         given = h.given;
         distinct = h.distinct;
@@ -209,7 +211,7 @@ module _ {C S B : Type 0} (look : C → Shape) (w : WalkConfig) (base : Tree) wh
             fresh = h.post_fresh;
             ahead = λ y x z b u. h.fresh x (kid-below s c y x (f.kid_parent c y (kid y (inr z))) b) u;
             base_at = λ all. h.base_here all c (zero, refl);
-            base_ahead = λ all y x z b. h.base_here all x (IsBelow-AtOrBelow s c x (kid-below s c y x (f.kid_parent c y (kid y (inr z))) b));
+            base_ahead = λ all y x z b. h.base_here all x (IsBelow-Reaches s c x (kid-below s c y x (f.kid_parent c y (kid y (inr z))) b));
           },
           h.fits,
         );
@@ -219,7 +221,7 @@ module _ {C S B : Type 0} (look : C → Shape) (w : WalkConfig) (base : Tree) wh
         given = h.given;
         distinct = h.distinct;
         base_done = h.base_done;
-        base_here = λ all x b. h.base_here all x (IsBelow-AtOrBelow s c x (kid-below s c k x (f.kid_parent c k (kid k (inl refl))) b));
+        base_here = λ all x b. h.base_here all x (IsBelow-Reaches s c x (kid-below s c k x (f.kid_parent c k (kid k (inl refl))) b));
       }
 
   pub bottom : (xs : List (Call C S B)) (e : C) (r c : IRNode) → Opening xs e r c

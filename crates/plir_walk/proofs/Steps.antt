@@ -1,18 +1,21 @@
 use Rattle.std.proofs.Common.{◌≡◌, ◌≢◌, zero, suc, ◌≤◌, true, List, [], ◌∷◌, ◌++◌, Some, inl, inr, reverse, refl, sym, ap, subst, arith, ◌∙◌}
 use Rattle.std.proofs.lemmas.List.{reverse-append}
 use Rattle.plir_walk.specs.Config.{AllPost, direction_of, order_of}
-use Rattle.plir_walk.specs.Forest.{IsBelow, IsForest, Lawful, Shape}
-use Rattle.plir_core.specs.NodeLists.{Distinct, Has}
-use Rattle.plir_walk.specs.Tree.{Tree, same, taken}
+use Rattle.plir_store.specs.Members.{Distinct, Has}
+use Rattle.plir_walk.specs.Tree.{Tree, same}
 use Rattle.plir_walk.specs.declared.config.Direction.{Direction}
 use Rattle.plir_walk.specs.declared.config.Direction.TheVariants.{Forward, Reverse}
 use Rattle.plir_walk.specs.declared.config.Order.{Order}
 use Rattle.plir_walk.specs.declared.config.Order.TheVariants.{PostOrder, PreOrder}
 use Rattle.plir_walk.specs.declared.config.WalkConfig.{WalkConfig}
+use Rattle.plir_core.specs.Above.{Reaches}
 use Rattle.plir_core.specs.declared.ptr.IRNode.{IRNode}
-use Rattle.plir_walk.proofs.Climbs.{AtOrBelow, IsBelow-AtOrBelow, apart-kept, below-live, beside-branch, climb-bottom, climb-depth, kid-below, not-below-itself, same-branch, two-above}
+use Rattle.plir_core.specs.Forest.{IsBelow, IsForest, Shape}
+use Rattle.plir_store.specs.MemberLaws.{Distinct-append, Distinct-one, Distinct-right, Has-append_cases, Has-append_left, Has-append_right}
+use Rattle.plir_walk.specs.Step.{taken}
+use Rattle.plir_walk.specs.Lawful.{Lawful}
+use Rattle.plir_walk.proofs.Climbs.{IsBelow-Reaches, apart-kept, below-live, beside-branch, climb-bottom, climb-depth, kid-below, not-below-itself, same-branch, two-above}
 use Rattle.plir_walk.proofs.Groves.{Grove, Has-reverse, Has-taken, Reads, Reads-same, first, flat, roots}
-use Rattle.plir_walk.proofs.ListLemmas.{Distinct-append, Distinct-one, Distinct-right, Has-append_cases, Has-append_left, Has-append_right}
 use Rattle.plir_walk.proofs.Heights.{deeper, depth_in}
 
 -- The way from the root to the cursor, the innermost first: an ancestor of the cursor, its order, the trees below it
@@ -37,9 +40,9 @@ pub record Frame (w : WalkConfig) (s : Shape) (base : Tree) (t : Tree) (ns : Lis
   pub now : s.kids a ≡ t a
   pub live : s.live a ≡ true
   pub fresh : o ≡ PostOrder → Has ns a → ⊥
-  pub ahead : (e x : IRNode) → Has td e → AtOrBelow s e x → Has ns x → ⊥
+  pub ahead : (e x : IRNode) → Has td e → Reaches s.parent x e → Has ns x → ⊥
   pub base_at : AllPost w → s.kids a ≡ base a
-  pub base_ahead : AllPost w → (e x : IRNode) → Has td e → AtOrBelow s e x → s.kids x ≡ base x
+  pub base_ahead : AllPost w → (e x : IRNode) → Has td e → Reaches s.parent x e → s.kids x ≡ base x
 
 abbrev pub Fits : WalkConfig → Shape → Tree → Tree → IRNode → List IRNode → Path → IRNode → Type 0
 Fits w s base t r ns top c = c ≡ r
@@ -79,12 +82,12 @@ frame-distinct w s f base t ns a o d td c h =
 
 -- what is still to do in a frame was not called
 pub ahead-of : (w : WalkConfig) (s : Shape) (base : Tree) (t : Tree) (r : IRNode) (ns : List IRNode) (path : Path) (c : IRNode) → Fits w s base t r ns path c
-    → (e x : IRNode) → Has (todo_of path) e → AtOrBelow s e x → Has ns x → ⊥
+    → (e x : IRNode) → Has (todo_of path) e → Reaches s.parent x e → Has ns x → ⊥
 ahead-of w s base t r ns top c h e x k b z = k
 ahead-of w s base t r ns (under a o d td u) c h e x k b z = h.0.ahead e x k b z
 
 pub base-of : (w : WalkConfig) (s : Shape) (base : Tree) (t : Tree) (r : IRNode) (ns : List IRNode) (path : Path) (c : IRNode) → Fits w s base t r ns path c
-    → AllPost w → (e x : IRNode) → Has (todo_of path) e → AtOrBelow s e x → s.kids x ≡ base x
+    → AllPost w → (e x : IRNode) → Has (todo_of path) e → Reaches s.parent x e → s.kids x ≡ base x
 base-of w s base t r ns top c h all e x k b = absurd k
 base-of w s base t r ns (under a o d td u) c h all e x k b = h.0.base_ahead all e x k b
 
@@ -95,7 +98,7 @@ path-depth w s f base t r ns (under a o d td u) c h =
     omega (arith, path-depth w s f base t r ns u a h.1, deeper s f a c (frame-parent w s f base t ns a o d td c h.0))
 
 -- the cursor is the root, or below it
-pub path-under : (w : WalkConfig) (s : Shape) (f : IsForest s) (base : Tree) (t : Tree) (r : IRNode) (ns : List IRNode) (path : Path) (c : IRNode) → Fits w s base t r ns path c → AtOrBelow s r c
+pub path-under : (w : WalkConfig) (s : Shape) (f : IsForest s) (base : Tree) (t : Tree) (r : IRNode) (ns : List IRNode) (path : Path) (c : IRNode) → Fits w s base t r ns path c → Reaches s.parent c r
 path-under w s f base t r ns top c h = (zero, ap Some h)
 path-under w s f base t r ns (under a o d td u) c h =
     let z = path-under w s f base t r ns u a h.1 in
@@ -107,7 +110,7 @@ pub frame-keep : (w : WalkConfig) (s s' : Shape) (f : IsForest s) (f' : IsForest
     → ((m : IRNode) → (Has ns m → ⊥) → m ≢ n → t' m ≡ s'.kids m)
     → (a : IRNode) (o : Order) (d : Grove) (td : List IRNode) (c : IRNode)
     → ((m : IRNode) → Has (first o a ++ flat d) m → Has ns m)
-    → AtOrBelow s c n
+    → Reaches s.parent n c
     → Frame w s base t ns a o d td c → Frame w s' base t' (ns ++ n ∷ []) a o d td c
 frame-keep w s s' f f' n l base t t' ns same new a o d td c called b h =
     let up : s.parent c ≡ Some a = frame-parent w s f base t ns a o d td c h in
@@ -132,12 +135,12 @@ frame-keep w s s' f f' n l base t t' ns same new a o d td c called b h =
           let c_e : c ≢ e = λ (g : c ≡ e). (Distinct-right (roots d) (c ∷ td) dis).0 (subst (λ (v : IRNode). Has td v) (sym g) k) in
           let e_kid : Has (s.kids a) e = frame-kid w s base t ns a o d td c h e (Has-append_right (roots d) (c ∷ td) e (inr k)) in
           let depths : depth_in s c ≡ depth_in s e = omega (arith, deeper s f a c up, deeper s f a e (f.kid_parent a e e_kid)) in
-          let n_e = λ (g : AtOrBelow s n e). c_e (beside-branch s f c e n depths b g) in
-          let e_n = λ (g : AtOrBelow s e n). c_e (same-branch s f c e n depths b g) in
-          let was : AtOrBelow s e x = (z.0, apart-kept s s' n f f' l z.0 x e z.1 (f.kid_live a e e_kid) n_e e_n) in
+          let n_e = λ (g : Reaches s.parent e n). c_e (beside-branch s f c e n depths b g) in
+          let e_n = λ (g : Reaches s.parent n e). c_e (same-branch s f c e n depths b g) in
+          let was : Reaches s.parent x e = (z.0, apart-kept s s' n f f' l z.0 x e z.1 (f.kid_live a e e_kid) n_e e_n) in
           elim (Has-append_cases ns (n ∷ []) x y) [
             | inl g ↦ h.ahead e x k was g
-            | inr g ↦ elim g [ inl g' ↦ e_n (subst (λ (v : IRNode). AtOrBelow s e v) (sym g') was) | inr g' ↦ g' ]
+            | inr g ↦ elim g [ inl g' ↦ e_n (subst (λ (v : IRNode). Reaches s.parent v e) (sym g') was) | inr g' ↦ g' ]
           ]);
       base_at = λ all. stays ∙ h.base_at all;
       base_ahead = λ all e x k z.
@@ -145,12 +148,12 @@ frame-keep w s s' f f' n l base t t' ns same new a o d td c called b h =
           let c_e : c ≢ e = λ (g : c ≡ e). (Distinct-right (roots d) (c ∷ td) dis).0 (subst (λ (v : IRNode). Has td v) (sym g) k) in
           let e_kid : Has (s.kids a) e = frame-kid w s base t ns a o d td c h e (Has-append_right (roots d) (c ∷ td) e (inr k)) in
           let depths : depth_in s c ≡ depth_in s e = omega (arith, deeper s f a c up, deeper s f a e (f.kid_parent a e e_kid)) in
-          let n_e = λ (g : AtOrBelow s n e). c_e (beside-branch s f c e n depths b g) in
-          let e_n = λ (g : AtOrBelow s e n). c_e (same-branch s f c e n depths b g) in
+          let n_e = λ (g : Reaches s.parent e n). c_e (beside-branch s f c e n depths b g) in
+          let e_n = λ (g : Reaches s.parent n e). c_e (same-branch s f c e n depths b g) in
           let e_live : s.live e ≡ true = f.kid_live a e e_kid in
-          let was : AtOrBelow s e x = (z.0, apart-kept s s' n f f' l z.0 x e z.1 e_live n_e e_n) in
-          let x_kept = l.kept x (below-live s f e x e_live was) (λ g. elim (two-above s e n x was (IsBelow-AtOrBelow s n x g)) [ inl q ↦ n_e q | inr q ↦ e_n q ]) in
-          let x_n : x ≢ n = λ (g : x ≡ n). e_n (subst (λ (v : IRNode). AtOrBelow s e v) g was) in
+          let was : Reaches s.parent x e = (z.0, apart-kept s s' n f f' l z.0 x e z.1 e_live n_e e_n) in
+          let x_kept = l.kept x (below-live s f e x e_live was) (λ g. elim (two-above s e n x was (IsBelow-Reaches s n x g)) [ inl q ↦ n_e q | inr q ↦ e_n q ]) in
+          let x_n : x ≢ n = λ (g : x ≡ n). e_n (subst (λ (v : IRNode). Reaches s.parent v e) g was) in
           let x_stays : s'.kids x ≡ s.kids x = x_kept.2 x_n in
           x_stays ∙ h.base_ahead all e x k was);
     }
@@ -165,11 +168,11 @@ pub path-keep : (w : WalkConfig) (s s' : Shape) (f : IsForest s) (f' : IsForest 
     → ((m : IRNode) → (Has ns m → ⊥) → m ≢ n → t' m ≡ s'.kids m)
     → (path : Path) (c : IRNode)
     → ((m : IRNode) → Has (so_far path) m → Has ns m)
-    → AtOrBelow s c n
+    → Reaches s.parent n c
     → Fits w s base t r ns path c → Fits w s' base t' r (ns ++ n ∷ []) path c
 path-keep w s s' f f' n l base t t' r ns same new top c called b h = h
 path-keep w s s' f f' n l base t t' r ns same new (under a o d td u) c called b h = (
   frame-keep w s s' f f' n l base t t' ns same new a o d td c (λ m k. called m (Has-append_right (so_far u) (first o a ++ flat d) m k)) b h.0,
   path-keep w s s' f f' n l base t t' r ns same new u a (λ m k. called m (Has-append_left (so_far u) (first o a ++ flat d) m k))
-      (IsBelow-AtOrBelow s a n (kid-below s a c n (frame-parent w s f base t ns a o d td c h.0) b)) h.1,
+      (IsBelow-Reaches s a n (kid-below s a c n (frame-parent w s f base t ns a o d td c h.0) b)) h.1,
 )

@@ -6,25 +6,24 @@ use Rattle.plir_core.specs.declared.ptr.Ptr.{Ptr}
 use Rattle.plir_core.specs.declared.ptr.BasicBlock.{BasicBlock as BasicBlockKind}
 use Rattle.plir_core.specs.declared.ptr.IRNode.{IRNode}
 use Rattle.plir_core.specs.declared.ptr.IRNode.TheVariants.{Operation, Region, BasicBlock}
-use Rattle.plir_core.specs.NodeLists.{Has, Distinct}
+use Rattle.plir_store.specs.Members.{Has, Distinct}
 use Rattle.plir_core.specs.Changes.{with_block_edit}
 use Rattle.plir_core.specs.Contents.{BlockView}
-use Rattle.plir_core.specs.Forest.{Seat, op, block, seat_of}
+use Rattle.plir_core.specs.Stored.{Seat, op, block, seat_of}
 use Rattle.plir_core.specs.Store.{Store, IsLive, is_live, given_out, kids, parent_of, num_live}
 use Rattle.plir_core.specs.Standing.{IsStanding}
+use Rattle.plir_core.specs.Forest.{IsForest, look}
+use Rattle.plir_store.specs.MemberLaws.{Has-at}
+use Rattle.plir_walk.specs.Lawful.{Lawful, SameShape}
 use Rattle.plir_walk.specs.declared.limit.CallLimit.{CallLimit}
 use Rattle.plir_walk.specs.declared.config.WalkConfig.{WalkConfig}
 use Rattle.plir_walk.specs.declared.interruptible.WalkContinue.TheVariants.{Advance}
 use Rattle.plir_walk.specs.Tree.{IsUnder, NodeBefore, node_at, Place}
-use Rattle.plir_walk.specs.Forest.{IsForest, Lawful, SameShape}
 use Rattle.plir_walk.specs.Calls.{Call, Relation, Chain, nodes_of}
 use Rattle.plir_walk.specs.ShutOut.{IsShutOut}
 use Rattle.plir_walk.specs.Walk.{IsWalkWithin}
 use Rattle.plir_walk.specs.Walked.{IsCallUnder, Walked, plain_answer}
-use Rattle.plir_walk.specs.View.{look}
 use Rattle.plir_walk.specs.Unnamed.{unnamed, op_unnamed, block_unnamed, without_names, IsUnnamed}
-use Rattle.plir_walk.proofs.ListLemmas.{Has-at}
-use Rattle.plir_walk.proofs.View.{forest-of}
 use Rattle.plir_walk.proofs.Slots.{live_parts, ptr_one}
 use Rattle.plir_walk.proofs.Groves.{and_then-some}
 use Rattle.plir_walk.proofs.Lawfulness.{lawful-same}
@@ -168,7 +167,7 @@ pub walk-unnamed : {K A T S : Type 0} (w : WalkConfig) (post : Relation (Store K
 walk-unnamed w post c s r c' s' limit result h each enough stands live = go result walk
   where
     forest : IsForest (look c)
-    forest = forest-of c stands
+    forest = stands.forest
 
     walk : IsWalkWithin w (kids c) r limit h.calls (plain_answer result)
     walk = h.unchanged (λ d t n a d' t' p. unnamed-shape d d' n (each d t n a d' t' p.made).1)
@@ -191,7 +190,7 @@ walk-unnamed w post c s r c' s' limit result h each enough stands live = go resu
     go (Ok u) v = subst (λ z. IsUnnamed c z r) (sym left) (unnamed-once c forest r live (nodes_of h.calls) once (λ n. (v.in_order.under_root n, λ under. (v.answers.2 n).1 (under, not-shut n))))
     go (Err x) v =
         let missed = v.answers.3 in
-        let more = stands.counted (missed.0 ∷ nodes_of h.calls) (missed.2, once) (λ n k. elim k [
+        let more = stands.measured.counted (missed.0 ∷ nodes_of h.calls) (missed.2, once) (λ n k. elim k [
           | inl e ↦ subst (IsLive c) e (under-live c missed.1.0.0 r missed.0 forest live missed.1.0.1)
           | inr i ↦ (let u = v.in_order.under_root n i in under-live c u.0 r n forest live u.1)
         ]) in

@@ -4,10 +4,9 @@ use Rattle.std.specs.declared.ops.ControlFlow.TheVariants.{Break, Continue}
 use Rattle.plir_walk.specs.AsRead.{kids_by, tree_read}
 use Rattle.plir_walk.specs.Calls.{Call, Chain, NoBreak, Relation, nodes_of}
 use Rattle.plir_walk.specs.Config.{AllPost, AllPre, direction_of, order_of}
-use Rattle.plir_walk.specs.Forest.{IsForest, Lawful, Shape, StandsUnder}
-use Rattle.plir_core.specs.NodeLists.{Distinct, Has, head}
-use Rattle.plir_walk.specs.Step.{due_at, enter_or_leave, goes_on, step_of}
-use Rattle.plir_walk.specs.Tree.{Tree, taken}
+use Rattle.plir_store.specs.Members.{Distinct, Has, head}
+use Rattle.plir_walk.specs.Step.{due_at, enter_or_leave, goes_on, step_of, taken}
+use Rattle.plir_walk.specs.Tree.{Tree}
 use Rattle.plir_walk.specs.Walked.{IsCallUnder, IsLawful, Walked}
 use Rattle.plir_walk.specs.declared.config.Order.{Order}
 use Rattle.plir_walk.specs.declared.config.Order.TheVariants.{PostOrder, PreOrder}
@@ -15,9 +14,12 @@ use Rattle.plir_walk.specs.declared.config.WalkConfig.{WalkConfig}
 use Rattle.plir_walk.specs.declared.interruptible.WalkContinue.{WalkContinue}
 use Rattle.plir_walk.specs.declared.interruptible.WalkContinue.TheVariants.{Advance, Skip}
 use Rattle.plir_walk.specs.declared.limit.CallLimit.{CallLimit}
+use Rattle.plir_core.specs.Above.{Reaches}
 use Rattle.plir_core.specs.declared.ptr.IRNode.{IRNode}
+use Rattle.plir_core.specs.Forest.{IsForest, Shape}
+use Rattle.plir_walk.specs.Lawful.{Lawful, StandsUnder}
 use Rattle.plir_walk.proofs.Calling.{Has-more, call-close, call-open, call-skip, call_of, called-spot}
-use Rattle.plir_walk.proofs.Climbs.{AtOrBelow, IsBelow-AtOrBelow, not-below-itself}
+use Rattle.plir_walk.proofs.Climbs.{IsBelow-Reaches, not-below-itself}
 use Rattle.plir_walk.proofs.Conclusions.{walked-of}
 use Rattle.plir_walk.proofs.Endings.{Told, closing-told, entering-told, finished-told, leaving-told, opening-told}
 use Rattle.plir_walk.proofs.Nodes.{Has-or-not, pre-at, same_tells}
@@ -95,7 +97,7 @@ module _ {C S B : Type 0} (look : C → Shape) (w : WalkConfig)
   walking-live e st c en left h = stage-live h.calls e c en h.stage
 
   -- and it stands under the root
-  stage-under : (xs : List (Call C S B)) (e : C) (f : IsForest (look e)) (c : IRNode) (en : Bool) → Stage xs e c en → AtOrBelow (look e) r c
+  stage-under : (xs : List (Call C S B)) (e : C) (f : IsForest (look e)) (c : IRNode) (en : Bool) → Stage xs e c en → Reaches (look e).parent c r
   stage-under xs e f c true h = path-under w (look e) f (look c0).kids (tree_read look w xs e) r (nodes_of xs) h.path c h.fits
   stage-under xs e f c false h = path-under w (look e) f (look c0).kids (tree_read look w xs e) r (nodes_of xs) h.path c h.fits
 
@@ -153,7 +155,7 @@ module _ {C S B : Type 0} (look : C → Shape) (w : WalkConfig)
       let u' : Tree = (look e').kids in
       elim (Has-more xs x m h) [
         | inl i ↦ (let k = kept all m i in
-            let kp = l.kept m k.0 (λ b. s.fresh m (IsBelow-AtOrBelow (look e) c m b) i) in
+            let kp = l.kept m k.0 (λ b. s.fresh m (IsBelow-Reaches (look e) c m b) i) in
             let ne : m ≢ c = λ (q : m ≡ c). un (subst (λ (v : IRNode). Has (nodes_of xs) v) q i) in
             let stays : u m ≡ u' m = sym (kp.2 ne) in
             (kp.0, read-called look w xs (x ∷ []) e e' m i ∙ (k.1 ∙ (cut-same w xs u u' m stays ∙ sym (cut-called w xs (x ∷ []) u' m i)))))

@@ -5,12 +5,12 @@ use Rattle.std.specs.declared.ops.ControlFlow.TheVariants.{Continue, Break}
 use Rattle.plir_walk.specs.declared.interruptible.WalkContinue.{WalkContinue}
 use Rattle.plir_walk.specs.declared.interruptible.WalkContinue.TheVariants.{Advance, Skip}
 use Rattle.plir_core.specs.declared.ptr.IRNode.{IRNode}
+use Rattle.plir_core.specs.Forest.{Shape}
 use Rattle.plir_walk.specs.declared.config.Order.{Order}
 use Rattle.plir_walk.specs.declared.config.Order.TheVariants.{PreOrder, PostOrder}
 use Rattle.plir_walk.specs.declared.config.WalkConfig.{WalkConfig}
 use Rattle.plir_walk.specs.Config.{order_of}
 use Rattle.plir_walk.specs.Tree.{Tree, same}
-use Rattle.plir_walk.specs.Forest.{Shape}
 use Rattle.plir_walk.specs.Calls.{Call}
 
 -- no children after the answer Skip

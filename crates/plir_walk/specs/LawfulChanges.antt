@@ -11,8 +11,8 @@ use Rattle.plir_core.specs.Changes.{SameLive, with_op_edit, with_block_edit}
 use Rattle.plir_core.specs.Erase.{IsErased}
 use Rattle.plir_core.specs.Made.{IsRegionAdded, IsMade}
 use Rattle.plir_core.specs.Placed.{IsPlaced}
-use Rattle.plir_walk.specs.Forest.{IsBelow, IsForest, Lawful, SameShape}
-use Rattle.plir_walk.specs.View.{look}
+use Rattle.plir_core.specs.Forest.{IsBelow, IsForest, look}
+use Rattle.plir_walk.specs.Lawful.{Lawful, SameShape}
 
 -- Which changes of a context are lawful calls at a node n. Each is said in the words of the node calls that make it, so that
 -- a callback that makes one is lawful by that call's own contract. `own_handles` gives the type handles of the user's own

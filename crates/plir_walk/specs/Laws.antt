@@ -3,14 +3,14 @@ use Rattle.std.specs.Prelude.{◌≡◌, ◌≢◌, ◌⊎◌, List, reverse}
 use Rattle.std.specs.declared.ops.ControlFlow.TheVariants.{Continue}
 use Rattle.plir_walk.specs.declared.interruptible.WalkContinue.TheVariants.{Skip}
 use Rattle.plir_core.specs.declared.ptr.IRNode.{IRNode}
+use Rattle.plir_core.specs.Forest.{Shape}
 use Rattle.plir_walk.specs.declared.config.Order.TheVariants.{PostOrder}
 use Rattle.plir_walk.specs.declared.config.WalkConfig.{WalkConfig}
 use Rattle.plir_walk.specs.declared.config.TheConstants.{WALKCONFIG_PREORDER_FORWARD as pre_forward, WALKCONFIG_POSTORDER_REVERSE as post_reverse}
 use Rattle.plir_walk.specs.Lists.{Pairs}
-use Rattle.plir_core.specs.NodeLists.{Has, Distinct}
+use Rattle.plir_store.specs.Members.{Has, Distinct}
 use Rattle.plir_walk.specs.Config.{order_of}
 use Rattle.plir_walk.specs.Tree.{Tree, IsUnder, HasOnePlaceEach, NodeBefore}
-use Rattle.plir_walk.specs.Forest.{Shape}
 use Rattle.plir_walk.specs.Calls.{Call, Relation, Chain, nodes_of}
 use Rattle.plir_walk.specs.ShutOut.{IsShutOut}
 use Rattle.plir_walk.specs.Walked.{IsCallUnder}

@@ -1,16 +1,15 @@
--- What the walks promise, from the ground up: settings and trees, places and their order, forests and lawful calls, lists
--- of calls, what a skip shuts out, the walk, the tree as read, and the two contracts; what a callback may do to a context;
+-- What the walks promise, from the ground up: settings and trees, places and their order, lawful calls, lists of
+-- calls, what a skip shuts out, the walk, the tree as read, and the two contracts; what a callback may do to a context;
 -- then the names that are given to results and arguments.
 pub mod Lists
 pub mod Config
 pub mod Tree
-pub mod Forest
+pub mod Lawful
 pub mod Calls
 pub mod ShutOut
 pub mod Walk
 pub mod AsRead
 pub mod Walked
-pub mod View
 pub mod LawfulChanges
 pub mod Step
 pub mod Laws

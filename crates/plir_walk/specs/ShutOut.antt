@@ -5,7 +5,7 @@ use Rattle.plir_walk.specs.declared.interruptible.WalkContinue.TheVariants.{Skip
 use Rattle.plir_core.specs.declared.ptr.IRNode.{IRNode}
 use Rattle.plir_walk.specs.declared.config.Order.TheVariants.{PreOrder}
 use Rattle.plir_walk.specs.declared.config.WalkConfig.{WalkConfig}
-use Rattle.plir_core.specs.NodeLists.{Has}
+use Rattle.plir_store.specs.Members.{Has}
 use Rattle.plir_walk.specs.Config.{order_of}
 use Rattle.plir_walk.specs.Tree.{Tree, IsUnder, IsProperlyUnder}
 use Rattle.plir_walk.specs.Calls.{Call}

@@ -1,15 +1,28 @@
--- One step of a walk's cursor: a node, and whether it is entered or left.
-use Rattle.std.specs.Prelude.{Bool, true, false, not, cond, Option, Some, None, option_and_then, option_map}
+-- One step of a walk's cursor: a node, and whether it is entered or left. The walkers' loops go by it; the contracts of walks
+-- cite nothing of it.
+use Rattle.std.specs.Prelude.{Bool, true, false, not, cond, List, [], ◌∷◌, reverse, Option, Some, None, option_and_then, option_map}
 use Rattle.plir_core.specs.declared.ptr.IRNode.{IRNode}
+use Rattle.plir_core.specs.Forest.{Shape}
+use Rattle.plir_walk.specs.declared.config.Direction.{Direction}
+use Rattle.plir_walk.specs.declared.config.Direction.TheVariants.{Forward, Reverse}
 use Rattle.plir_walk.specs.declared.config.Order.{Order}
 use Rattle.plir_walk.specs.declared.config.Order.TheVariants.{PreOrder, PostOrder}
 use Rattle.plir_walk.specs.declared.config.WalkConfig.{WalkConfig}
 use Rattle.plir_walk.specs.declared.interruptible.WalkContinue.{WalkContinue}
 use Rattle.plir_walk.specs.declared.interruptible.WalkContinue.TheVariants.{Advance, Skip}
-use Rattle.plir_core.specs.NodeLists.{head}
+use Rattle.plir_store.specs.Members.{head}
 use Rattle.plir_walk.specs.Config.{direction_of}
-use Rattle.plir_walk.specs.Tree.{same, after, taken}
-use Rattle.plir_walk.specs.Forest.{Shape}
+use Rattle.plir_walk.specs.Tree.{same}
+
+-- the node that follows n in a list
+abbrev pub after : IRNode → List IRNode → Option IRNode
+after n [] = None
+after n (x ∷ xs) = cond (same x n) (head xs) (after n xs)
+
+-- the children in the order in which a walk takes them
+abbrev pub taken : Direction → List IRNode → List IRNode
+taken Forward xs = xs
+taken Reverse xs = reverse xs
 
 -- whether a node of this order is called as it is entered, or left
 abbrev pub due_at : Order → Bool → Bool

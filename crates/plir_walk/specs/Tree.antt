@@ -1,5 +1,5 @@
 -- Trees, places in them, and the order of places.
-use Rattle.std.specs.Prelude.{◌≡◌, ◌≢◌, ℕ, ◌<◌, Bool, false, ◌&&◌, ◌==◌, List, [], ◌∷◌, Option, Some, None, cond, slice_get, option_and_then, MatchOption, ◌⊎◌, reverse}
+use Rattle.std.specs.Prelude.{◌≡◌, ◌≢◌, ℕ, ◌<◌, Bool, false, ◌&&◌, ◌==◌, List, [], ◌∷◌, Option, Some, slice_get, option_and_then, MatchOption, ◌⊎◌}
 use Rattle.plir_core.specs.declared.ptr.Ptr.{Ptr}
 use Rattle.plir_core.specs.declared.ptr.IRNode.{IRNode}
 use Rattle.plir_core.specs.declared.ptr.IRNode.TheVariants.{Operation, BasicBlock, Region}
@@ -7,7 +7,6 @@ use Rattle.plir_walk.specs.declared.config.Order.TheVariants.{PreOrder, PostOrde
 use Rattle.plir_walk.specs.declared.config.Direction.{Direction}
 use Rattle.plir_walk.specs.declared.config.Direction.TheVariants.{Forward, Reverse}
 use Rattle.plir_walk.specs.declared.config.WalkConfig.{WalkConfig}
-use Rattle.plir_core.specs.NodeLists.{head}
 use Rattle.plir_walk.specs.Config.{order_of, direction_of}
 
 -- A tree gives the children of each node.
@@ -29,16 +28,6 @@ same (BasicBlock p) (Region q) = false
 same (Region p) (Operation q) = false
 same (Region p) (BasicBlock q) = false
 same (Region p) (Region q) = same_ptr p q
-
--- the node that follows n in a list
-abbrev pub after : IRNode → List IRNode → Option IRNode
-after n [] = None
-after n (x ∷ xs) = cond (same x n) (head xs) (after n xs)
-
--- the children in the order in which a walk takes them
-abbrev pub taken : Direction → List IRNode → List IRNode
-taken Forward xs = xs
-taken Reverse xs = reverse xs
 
 -- A place under a node is the list of child positions on the way from it.
 abbrev pub Place : Type 0

@@ -6,9 +6,10 @@ use Rattle.plir_walk.specs.declared.interruptible.WalkContinue.{WalkContinue}
 use Rattle.plir_walk.specs.declared.interruptible.WalkContinue.TheVariants.{Advance}
 use Rattle.plir_walk.specs.declared.limit.CallLimit.{CallLimit}
 use Rattle.plir_core.specs.declared.ptr.IRNode.{IRNode}
+use Rattle.plir_core.specs.Forest.{Shape, IsForest}
+use Rattle.plir_walk.specs.Lawful.{StandsUnder, Lawful, SameShape}
 use Rattle.plir_walk.specs.declared.config.WalkConfig.{WalkConfig}
 use Rattle.plir_walk.specs.Config.{AllPre, AllPost}
-use Rattle.plir_walk.specs.Forest.{Shape, IsForest, StandsUnder, Lawful, SameShape}
 use Rattle.plir_walk.specs.Calls.{Call, Relation, Chain}
 use Rattle.plir_walk.specs.Walk.{IsWalk, IsWalkWithin}
 use Rattle.plir_walk.specs.AsRead.{tree_read}

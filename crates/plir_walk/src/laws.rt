@@ -11,8 +11,8 @@ ghost use Rattle.plir_walk.specs.declared.config.TheConstants.{WALKCONFIG_PREORD
 ghost use Rattle.plir_walk.specs.declared.config.TheConstants.{WALKCONFIG_POSTORDER_REVERSE as post_reverse};
 ghost use Rattle.plir_walk.specs.declared.config.WalkConfig.{WalkConfig as AnyConfig};
 ghost use Rattle.plir_core.specs.declared.ptr.IRNode.{IRNode as AnyNode};
+ghost use Rattle.plir_walk.specs.Lawful.{StandsUnder};
 ghost use Rattle.plir_walk.specs.Tree.{HasOnePlaceEach};
-ghost use Rattle.plir_walk.specs.Forest.{StandsUnder};
 ghost use Rattle.plir_walk.specs.Calls.{Advancing, Call, ReadsBack};
 ghost use Rattle.plir_walk.specs.LawfulChanges.{LawfulChanges};
 ghost use Rattle.plir_walk.specs.Laws.{BeforeOrders, PostReverseIsPreForwardReversed, SkipsAtPostOrder, ShutsOutNothing, WalkedOnce};

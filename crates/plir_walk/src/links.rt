@@ -2,11 +2,11 @@
 #![tactic(auto)]
 
 ghost use Rattle.std.specs.Prelude.{◌≡◌, true, reverse, option_and_then};
-ghost use Rattle.plir_core.specs.NodeLists.{head};
+ghost use Rattle.plir_store.specs.Members.{head};
 ghost use Rattle.plir_core.specs.Store.{IsLive, last_kid, next_sibling, prev_sibling};
 ghost use Rattle.plir_core.specs.Whole.{IsWhole};
-ghost use Rattle.plir_walk.specs.Tree.{after};
-ghost use Rattle.plir_walk.specs.Forest.{Shape, IsForest};
+ghost use Rattle.plir_core.specs.Forest.{Shape, IsForest};
+ghost use Rattle.plir_walk.specs.Step.{after};
 
 use plir_core::laws::contexts_stand;
 use plir_core::{Context, IRNode};
@@ -48,7 +48,7 @@ pub trait NodeLinks {
 }
 
 impl<D: OpSet> NodeLinks for Context<D> {
-    ghost use Rattle.plir_walk.specs.View.{look as look_at};
+    ghost use Rattle.plir_core.specs.Forest.{look as look_at};
 
     ghost look = { λ s. look_at s };
 

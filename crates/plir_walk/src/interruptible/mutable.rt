@@ -3,8 +3,8 @@
 
 ghost use Rattle.std.specs.Prelude.{◌≡◌, true};
 ghost use Rattle.plir_core.specs.declared.ptr.IRNode.{IRNode as AnyNode};
+ghost use Rattle.plir_walk.specs.Lawful.{StandsUnder};
 ghost use Rattle.plir_walk.specs.Calls.{CallsBack};
-ghost use Rattle.plir_walk.specs.Forest.{StandsUnder};
 ghost use Rattle.plir_walk.specs.Walked.{IsLawful, Walked};
 
 use crate::config::WalkConfig;

@@ -4,9 +4,9 @@
 ghost use Rattle.std.specs.Prelude.{◌≡◌, true};
 ghost use Rattle.std.specs.declared.ops.ControlFlow.TheVariants.{Continue};
 ghost use Rattle.plir_core.specs.declared.ptr.IRNode.{IRNode as AnyNode};
+ghost use Rattle.plir_walk.specs.Lawful.{StandsUnder};
 ghost use Rattle.plir_walk.specs.declared.interruptible.WalkContinue.TheVariants.{Advance};
 ghost use Rattle.plir_walk.specs.Calls.{Advancing, ReadsBack};
-ghost use Rattle.plir_walk.specs.Forest.{StandsUnder};
 ghost use Rattle.plir_walk.specs.Walked.{WalkedOver};
 
 use crate::config::WalkConfig;

@@ -2,8 +2,8 @@
 ghost use Rattle.std.specs.Prelude.{◌≡◌, Some, IfOk};
 ghost use Rattle.plir_core.specs.Store.{IsLive, parent_of};
 ghost use Rattle.plir_core.specs.declared.ptr.IRNode.{IRNode as AnyNode};
-ghost use Rattle.plir_walk.specs.Forest.{Lawful};
-ghost use Rattle.plir_walk.specs.View.{look};
+ghost use Rattle.plir_core.specs.Forest.{look};
+ghost use Rattle.plir_walk.specs.Lawful.{Lawful};
 
 use super::plan::{Change, Plan};
 use plir_core::laws::{first_kid_is_front, kid_at};

@@ -4,8 +4,8 @@ ghost use Rattle.std.specs.Prelude.{IfOk, IsSome, codes};
 ghost use Rattle.plir_data.specs.Dictionary.{dict_get};
 ghost use Rattle.plir_core.specs.Store.{IsAncestor, IsLive, attributes_of};
 ghost use Rattle.plir_core.specs.declared.ptr.IRNode.{IRNode as AnyNode};
-ghost use Rattle.plir_walk.specs.Forest.{Lawful};
-ghost use Rattle.plir_walk.specs.View.{look};
+ghost use Rattle.plir_core.specs.Forest.{look};
+ghost use Rattle.plir_walk.specs.Lawful.{Lawful};
 
 use super::changes::NOT_DONE;
 use plir_core::laws::{growth, kid_at, op_edits_keep_the_rest};

@@ -1,8 +1,8 @@
 //! The calls that walk a tree.
 ghost use Rattle.plir_core.specs.Store.{IsLive};
 ghost use Rattle.plir_core.specs.declared.ptr.IRNode.{IRNode as AnyNode};
-ghost use Rattle.plir_walk.specs.Forest.{Lawful};
-ghost use Rattle.plir_walk.specs.View.{look};
+ghost use Rattle.plir_core.specs.Forest.{look};
+ghost use Rattle.plir_walk.specs.Lawful.{Lawful};
 
 use super::changes::{NOT_DONE, visit};
 use super::growing::{grow, unlabel};

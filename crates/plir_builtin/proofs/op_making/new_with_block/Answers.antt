@@ -24,7 +24,7 @@ returns-in-Ok-clause-made g c =
     let region = Region added.region in
     let made = c.in_ok-op.ensures.made in
     let new = not_true (is_node_live s.nodes region) (λ old. made.apart region old (suc zero, added.over)) in
-    c.growth.ensures.made c.with_attributes.new.ctx.nodes c.add_block.new.ctx.nodes op region c.in_ok-op.ensures.whole.forest made added.region_live new added.grown
+    c.growth.ensures.made c.with_attributes.new.ctx.nodes c.add_block.new.ctx.nodes op region c.in_ok-op.ensures.whole.stored made added.region_live new added.grown
 
 pub returns-in-Err-clause-err : goal.returns-in-Err-clause-err
 returns-in-Err-clause-err g c =

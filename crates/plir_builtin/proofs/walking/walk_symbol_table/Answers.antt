@@ -1,8 +1,8 @@
 use Rattle.std.proofs.Common.{inl, refl, sym, ap, subst, ◌∙◌}
-use Rattle.plir_core.specs.NodeLists.{Has}
+use Rattle.plir_store.specs.Members.{Has}
 use Rattle.plir_core.specs.declared.ptr.IRNode.TheVariants.{Operation, Region}
+use Rattle.plir_walk.specs.Lawful.{StandsUnder}
 use Rattle.plir_walk.specs.Calls.{ReadsBack}
-use Rattle.plir_walk.specs.Forest.{StandsUnder}
 use Rattle.plir_builtin.proofs.Handing.{under-region, passes-again, handed-over}
 use Rattle.plir_builtin.proofs.walking.walk_symbol_table.Goals as goal
 

@@ -1,6 +1,6 @@
 use Rattle.std.proofs.Common.{◌≡◌, take, map}
 use Rattle.std.specs.Prelude.{All}
-use Rattle.plir_core.specs.NodeLists.{Distinct}
+use Rattle.plir_store.specs.Members.{Distinct}
 use Rattle.plir_flow.specs.RegionEdges.{Flow}
 use Rattle.plir_flow.specs.RegionRule.{IsFlowRight}
 use Rattle.plir_flow.proofs.edge_rule.find_flows_fault.Given as goal

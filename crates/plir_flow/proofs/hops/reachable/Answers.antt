@@ -1,6 +1,6 @@
 use Rattle.std.proofs.Common.{subst, ◌↔◌}
 use Rattle.std.proofs.lemmas.Result.{IfOk-weaker}
-use Rattle.plir_core.specs.NodeLists.{Has}
+use Rattle.plir_store.specs.Members.{Has}
 use Rattle.plir_flow.specs.Paths.{LeadsTo}
 use Rattle.plir_flow.specs.RegionEdges.{IsStep}
 use Rattle.plir_flow.specs.Hops.{IsHop}

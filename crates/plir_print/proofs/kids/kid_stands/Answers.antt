@@ -14,7 +14,7 @@ returns-clause-within g c = slice_get_within (kids c.args.ctx.now c.args.over) c
 pub returns-clause-few : goal.returns-clause-few
 returns-clause-few g c =
     let st = c.stands.ensures in
-    let n = st.counted (kids c.args.ctx.now c.args.over) (st.once c.args.over) (λ x h. st.kid_live c.args.over x h) in
+    let n = st.measured.counted (kids c.args.ctx.now c.args.over) (st.forest.once c.args.over) (λ x h. st.forest.kid_live c.args.over x h) in
     let w = st.within in
     let f = st.limit_fits in
     omega arith

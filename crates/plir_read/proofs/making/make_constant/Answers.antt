@@ -30,4 +30,4 @@ pub returns-in-Ok-clause-slots : goal.returns-in-Ok-clause-slots
 returns-in-Ok-clause-slots g c =
     let o = c.in-Ok.ensures in
     let v = op_view kinds.Constant c.in_ok-results.results.items c.new-operands.result.items c.new-successors.result.items c.in_ok-attributes.attributes in
-    leaf_given c.args.ctx.now c.with_attributes.new.ctx c.num_live-before.ensures.whole.forest v c.in-Ok.op o.ok o.made.new o.made.root
+    leaf_given c.args.ctx.now c.with_attributes.new.ctx c.num_live-before.ensures.whole.stored v c.in-Ok.op o.ok o.made.new o.made.root

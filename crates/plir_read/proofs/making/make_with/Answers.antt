@@ -8,5 +8,5 @@ returns-in-Ok-clause-slots g c =
     let o = c.in-Ok.ensures in
     let r = c.get_region-region in
     let v = op_view c.args.kind c.new-results.result.items c.new-operands.result.items c.new-successors.result.items c.args.attributes in
-    op_given c.args.ctx.now c.with_attributes.new.ctx c.num_live-before.ensures.whole.forest v c.in-Ok.op r.result o.ok o.made.new o.made.root
+    op_given c.args.ctx.now c.with_attributes.new.ctx c.num_live-before.ensures.whole.stored v c.in-Ok.op r.result o.ok o.made.new o.made.root
     (region_new c.args.ctx.now.nodes c.with_attributes.new.ctx.nodes (Operation c.in-Ok.op) (Region r.result) o.made o.regions r.ensures.value) r.ensures.live

@@ -40,7 +40,7 @@ read_block-returns-in-Ok-clause-read g t c =
     )
 
 pub read_block-returns-in-Ok-clause-made : goal.read_block-returns-in-Ok-clause-made
-read_block-returns-in-Ok-clause-made g t c = block_made c.args.ctx.now c.read_block_head-read.new.ctx c.make_block.new.ctx c.read_ops.new.ctx c.in_ok-block.block c.in_ok-head.head c.in_ok-head.ensures.rest c.in_ok-head.ensures.grown c.in_ok-block.ensures.made c.growth.ensures c.in_ok-block.ensures.whole.forest c.in-Ok.ensures.grown
+read_block-returns-in-Ok-clause-made g t c = block_made c.args.ctx.now c.read_block_head-read.new.ctx c.make_block.new.ctx c.read_ops.new.ctx c.in_ok-block.block c.in_ok-head.head c.in_ok-head.ensures.rest c.in_ok-head.ensures.grown c.in_ok-block.ensures.made c.growth.ensures c.in_ok-block.ensures.whole.stored c.in-Ok.ensures.grown
 
 pub read_block-returns-in-Ok-clause-kept : goal.read_block-returns-in-Ok-clause-kept
 read_block-returns-in-Ok-clause-kept g t c = block_kept c.args.ctx.now c.read_block_head-read.new.ctx c.make_block.new.ctx c.read_ops.new.ctx c.in_ok-block.block c.in_ok-head.head c.in_ok-head.ensures.rest c.in_ok-head.ensures.grown c.in_ok-block.ensures.made c.in-Ok.ensures.kept
@@ -214,7 +214,7 @@ read_bodied-returns-in-Ok-clause-read g t c =
     )
 
 pub read_bodied-returns-in-Ok-clause-made : goal.read_bodied-returns-in-Ok-clause-made
-read_bodied-returns-in-Ok-clause-made g t c = op_made c.args.ctx.now c.read_header-read.new.ctx c.make_op.new.ctx c.read_body.new.ctx c.in_ok-op.op c.in_ok-op.region _ (c.contexts_stand.ensures _ c.in_ok-op.ensures.whole) c.in_ok-header.ensures.rest c.in_ok-header.ensures.grown c.in_ok-op.ensures.made c.growth.ensures c.in_ok-op.ensures.whole.forest c.in-Ok.ensures.grown
+read_bodied-returns-in-Ok-clause-made g t c = op_made c.args.ctx.now c.read_header-read.new.ctx c.make_op.new.ctx c.read_body.new.ctx c.in_ok-op.op c.in_ok-op.region _ (c.contexts_stand.ensures _ c.in_ok-op.ensures.whole) c.in_ok-header.ensures.rest c.in_ok-header.ensures.grown c.in_ok-op.ensures.made c.growth.ensures c.in_ok-op.ensures.whole.stored c.in-Ok.ensures.grown
 
 pub read_bodied-returns-in-Ok-clause-kept : goal.read_bodied-returns-in-Ok-clause-kept
 read_bodied-returns-in-Ok-clause-kept g t c = op_kept c.args.ctx.now c.read_header-read.new.ctx c.make_op.new.ctx c.read_body.new.ctx c.in_ok-op.op c.in_ok-op.region _ (c.contexts_stand.ensures _ c.in_ok-op.ensures.whole) c.in_ok-header.ensures.rest c.in_ok-header.ensures.grown c.in_ok-op.ensures.made c.in-Ok.ensures.kept

@@ -1,11 +1,10 @@
-use Rattle.plir_walk.specs.View.{look}
-use Rattle.plir_walk.proofs.View.{forest-of}
 use Rattle.plir_walk.proofs.Lawfulness.{lawful-none, lawful-then, lawful-stays, lawful-refused, lawful-placed, lawful-region, lawful-erased, op-edit-lawful, block-edit-lawful, op-edit-shape, block-edit-shape}
 use Rattle.plir_walk.proofs.laws.lawful_changes.Goals as goal
+use Rattle.plir_core.specs.Forest.{look}
 
 pub returns : goal.returns
 returns g c = record {
-  forest = λ s w. forest-of s (c.contexts_stand.ensures s w);
+  forest = λ s w. (c.contexts_stand.ensures s w).forest;
   none = λ s n. lawful-none (look s) n;
   both = λ s t u n w f l. lawful-then (look s) (look t) (look u) n w f l;
   stays = λ s t n w f l. lawful-stays (look s) (look t) n w f l;

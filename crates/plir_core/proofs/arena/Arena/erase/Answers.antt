@@ -1,12 +1,12 @@
 use Rattle.std.proofs.Common.{◌≡◌, sym, ◌∙◌, subst, rules}
-use Rattle.plir_core.specs.Forest.{IsForest}
+use Rattle.plir_core.specs.Stored.{IsStored}
 use Rattle.plir_core.specs.Erase.{erased, IsErased}
 use Rattle.plir_core.proofs.arena.Arena.erase.Goals as goal
 use Rattle.plir_core.proofs.Erasing.{IsErasing, IsErasing-start, IsErasing-down, IsErasing-up, IsErasing-over, IsErasing-end, work-down, work-up, work_left}
 use Rattle.plir_core.proofs.Loss.{IsErased-tree}
 
 pub loop-kid-init : goal.loop-kid-init
-loop-kid-init g c = IsErasing-start c.args.self.now c.args.root (subst IsForest c.self.view_is c.self.invariant) c.requires
+loop-kid-init g c = IsErasing-start c.args.self.now c.args.root (subst IsStored c.self.view_is c.self.invariant) c.requires
 
 pub loop-kid-smaller-in-Some : goal.loop-kid-smaller-in-Some
 loop-kid-smaller-in-Some g c =
@@ -23,7 +23,7 @@ returns-then-eq-clause-after g c =
 
 pub returns-then-eq-clause-tree : goal.returns-then-eq-clause-tree
 returns-then-eq-clause-tree g c =
-    subst (λ t. IsErased c.args.self.now t c.args.root) (sym (returns-then-eq-clause-after g c)) (IsErased-tree c.args.self.now (subst IsForest c.self.view_is c.self.invariant) c.args.root c.requires)
+    subst (λ t. IsErased c.args.self.now t c.args.root) (sym (returns-then-eq-clause-after g c)) (IsErased-tree c.args.self.now (subst IsStored c.self.view_is c.self.invariant) c.args.root c.requires)
 
 pub loop-kid-smaller : goal.loop-kid-smaller
 loop-kid-smaller g c =

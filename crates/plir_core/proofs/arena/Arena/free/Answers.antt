@@ -13,11 +13,11 @@ pub invariant_of-self-in-BasicBlock : goal.invariant_of-self-in-BasicBlock
 invariant_of-self-in-BasicBlock g c =
     block_freed _ c.args.self.now c.self.view_is c.self.invariant c.args.node c.requires.live c.requires.leaf c.in-BasicBlock.block _ _ c.in-BasicBlock.is c.remove-in-BasicBlock-2.ensures.after c.remove-in-BasicBlock.ensures.after
 
-pub returns-in-Operation-clause-forest : goal.returns-in-Operation-clause-forest
-returns-in-Operation-clause-forest g c = invariant_of-self g c
+pub returns-in-Operation-clause-stored : goal.returns-in-Operation-clause-stored
+returns-in-Operation-clause-stored g c = invariant_of-self g c
 
-pub returns-in-Region-clause-forest : goal.returns-in-Region-clause-forest
-returns-in-Region-clause-forest g c = invariant_of-self-in-Region g c
+pub returns-in-Region-clause-stored : goal.returns-in-Region-clause-stored
+returns-in-Region-clause-stored g c = invariant_of-self-in-Region g c
 
-pub returns-in-BasicBlock-clause-forest : goal.returns-in-BasicBlock-clause-forest
-returns-in-BasicBlock-clause-forest g c = invariant_of-self-in-BasicBlock g c
+pub returns-in-BasicBlock-clause-stored : goal.returns-in-BasicBlock-clause-stored
+returns-in-BasicBlock-clause-stored g c = invariant_of-self-in-BasicBlock g c

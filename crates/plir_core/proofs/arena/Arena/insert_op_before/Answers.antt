@@ -7,5 +7,5 @@ pub invariant_of-self : goal.invariant_of-self
 invariant_of-self g c =
     op_put_beside _ c.args.self.now c.self.view_is c.self.invariant with_before IsMoved-before c.args.op c.args.mark _ c.requires.op_live c.requires.mark_live c.requires.linked c.requires.not_above c.insert_before.ensures.after c.insert_before.ensures.agreed
 
-pub returns-clause-forest : goal.returns-clause-forest
-returns-clause-forest g c = invariant_of-self g c
+pub returns-clause-stored : goal.returns-clause-stored
+returns-clause-stored g c = invariant_of-self g c

@@ -16,8 +16,8 @@ invariant_of-self-2 g c =
     region_made _ _ c.self.view_is c.self.invariant _ _ _ _ c.args.op c.in_ok-slot.slot c.requires c.in_ok-slot.ensures.slot c.in_ok-slot.ensures.filled c.in_ok-slot.ensures.below c.in_ok-slot.ensures.beside c.push_back.ensures.after c.in_ok-slot.ensures.below_agreed c.in_ok-slot.ensures.beside_agreed c.push_back.ensures.agreed
     (omega (arith, c.self.invariant.within, c.num_live.ensures.value, ap num_nodes c.self.view_is))
 
-pub returns-clause-forest : goal.returns-clause-forest
-returns-clause-forest g c = invariant_of-self-2 g c
+pub returns-clause-stored : goal.returns-clause-stored
+returns-clause-stored g c = invariant_of-self-2 g c
 
 pub returns-clause-fresh : goal.returns-clause-fresh
 returns-clause-fresh g c =

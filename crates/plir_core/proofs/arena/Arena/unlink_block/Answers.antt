@@ -5,5 +5,5 @@ pub invariant_of-self : goal.invariant_of-self
 invariant_of-self g c =
     block_unlinked _ c.args.self.now c.self.view_is c.self.invariant c.args.block _ c.requires c.remove.ensures.after c.remove.ensures.agreed
 
-pub returns-clause-forest : goal.returns-clause-forest
-returns-clause-forest g c = invariant_of-self g c
+pub returns-clause-stored : goal.returns-clause-stored
+returns-clause-stored g c = invariant_of-self g c

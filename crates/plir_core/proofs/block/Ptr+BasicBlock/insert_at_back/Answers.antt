@@ -5,11 +5,11 @@ use Rattle.plir_core.proofs.Holds.{block_linked}
 use Rattle.plir_core.proofs.Links.{block_last}
 
 pub invariant_of-ctx : goal.invariant_of-ctx
-invariant_of-ctx g c = block_linked _ _ c.ctx.invariant c.push_block.new.self _ c.push_block.ensures.after c.push_block.ensures.forest
+invariant_of-ctx g c = block_linked _ _ c.ctx.invariant c.push_block.new.self _ c.push_block.ensures.after c.push_block.ensures.stored
 
 pub returns-clause-whole : goal.returns-clause-whole
 returns-clause-whole g c = invariant_of-ctx g c
 
 pub returns-clause-placed : goal.returns-clause-placed
 returns-clause-placed g c =
-    block_last c.ctx.inside.nodes c.args.ctx.now.nodes (ap (λ (z : Store g.row.D-Kind.Denot g.row.D-Attr.Denot g.row.D-Ty.Denot). z.nodes) c.ctx.view_is) c.ctx.invariant.forest c.push_block.new.self c.args.self c.args.region c.requires.live c.requires.target_live c.push_block.ensures.after
+    block_last c.ctx.inside.nodes c.args.ctx.now.nodes (ap (λ (z : Store g.row.D-Kind.Denot g.row.D-Attr.Denot g.row.D-Ty.Denot). z.nodes) c.ctx.view_is) c.ctx.invariant.stored c.push_block.new.self c.args.self c.args.region c.requires.live c.requires.target_live c.push_block.ensures.after

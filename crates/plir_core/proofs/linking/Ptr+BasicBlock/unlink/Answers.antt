@@ -5,11 +5,11 @@ use Rattle.plir_core.proofs.Holds.{block_linked}
 use Rattle.plir_core.proofs.Links.{block_alone}
 
 pub invariant_of-ctx : goal.invariant_of-ctx
-invariant_of-ctx g c = block_linked _ _ c.ctx.invariant c.unlink_block.new.self _ c.unlink_block.ensures.after c.unlink_block.ensures.forest
+invariant_of-ctx g c = block_linked _ _ c.ctx.invariant c.unlink_block.new.self _ c.unlink_block.ensures.after c.unlink_block.ensures.stored
 
 pub returns-clause-whole : goal.returns-clause-whole
 returns-clause-whole g c = invariant_of-ctx g c
 
 pub returns-clause-unlinked : goal.returns-clause-unlinked
 returns-clause-unlinked g c =
-    block_alone c.ctx.inside.nodes c.args.ctx.now.nodes (ap (λ (z : Store g.row.D-Kind.Denot g.row.D-Attr.Denot g.row.D-Ty.Denot). z.nodes) c.ctx.view_is) c.ctx.invariant.forest c.unlink_block.new.self c.args.self c.requires c.unlink_block.ensures.after
+    block_alone c.ctx.inside.nodes c.args.ctx.now.nodes (ap (λ (z : Store g.row.D-Kind.Denot g.row.D-Attr.Denot g.row.D-Ty.Denot). z.nodes) c.ctx.view_is) c.ctx.invariant.stored c.unlink_block.new.self c.args.self c.requires c.unlink_block.ensures.after

@@ -5,11 +5,11 @@ use Rattle.plir_core.proofs.Holds.{op_linked}
 use Rattle.plir_core.proofs.Links.{op_first}
 
 pub invariant_of-ctx : goal.invariant_of-ctx
-invariant_of-ctx g c = op_linked _ _ c.ctx.invariant c.push_op_front.new.self _ c.push_op_front.ensures.after c.push_op_front.ensures.forest
+invariant_of-ctx g c = op_linked _ _ c.ctx.invariant c.push_op_front.new.self _ c.push_op_front.ensures.after c.push_op_front.ensures.stored
 
 pub returns-clause-whole : goal.returns-clause-whole
 returns-clause-whole g c = invariant_of-ctx g c
 
 pub returns-clause-placed : goal.returns-clause-placed
 returns-clause-placed g c =
-    op_first c.ctx.inside.nodes c.args.ctx.now.nodes (ap (λ (z : Store g.row.D-Kind.Denot g.row.D-Attr.Denot g.row.D-Ty.Denot). z.nodes) c.ctx.view_is) c.ctx.invariant.forest c.push_op_front.new.self c.args.self c.args.block c.requires.live c.requires.target_live c.push_op_front.ensures.after
+    op_first c.ctx.inside.nodes c.args.ctx.now.nodes (ap (λ (z : Store g.row.D-Kind.Denot g.row.D-Attr.Denot g.row.D-Ty.Denot). z.nodes) c.ctx.view_is) c.ctx.invariant.stored c.push_op_front.new.self c.args.self c.args.block c.requires.live c.requires.target_live c.push_op_front.ensures.after

@@ -10,16 +10,16 @@ use Rattle.plir_core.proofs.Holds.{block_new}
 
 pub invariant_of-ctx-2 : goal.invariant_of-ctx-2
 invariant_of-ctx-2 g c =
-    block_new g.D.OpSet.attr_handles _ c.args.ctx.now c.ctx.view_is c.ctx.invariant c.make_block.new.self c.args.label c.args.arg_types.items c.new.result c.in_ok-block.ensures.ok c.new.ensures c.make_block.ensures.forest c.requires
+    block_new g.D.OpSet.attr_handles _ c.args.ctx.now c.ctx.view_is c.ctx.invariant c.make_block.new.self c.args.label c.args.arg_types.items c.new.result c.in_ok-block.ensures.ok c.new.ensures c.make_block.ensures.stored c.requires
 
 pub returns-clause-whole : goal.returns-clause-whole
 returns-clause-whole g c = invariant_of-ctx-2 g c
 
 pub returns-clause-made : goal.returns-clause-made
 returns-clause-made g c =
-    let forest = c.ctx.invariant.forest in
+    let stored = c.ctx.invariant.stored in
     subst (λ (z : Nodes (OpView g.row.D-Kind.Denot g.row.D-Attr.Denot) (BlockView g.row.D-Attr.Denot)). IsMade z c.make_block.new.self (BasicBlock c.in_ok-block.block)) (ap (λ (z : Store g.row.D-Kind.Denot g.row.D-Attr.Denot g.row.D-Ty.Denot). z.nodes) c.ctx.view_is)
-    (IsMade-first c.ctx.inside.nodes c.make_block.new.self forest (BasicBlock c.in_ok-block.block) (IsAdded-made_block c.ctx.inside.nodes c.make_block.new.self forest _ c.in_ok-block.block c.in_ok-block.ensures.ok c.in_ok-block.ensures.pointer))
+    (IsMade-first c.ctx.inside.nodes c.make_block.new.self stored (BasicBlock c.in_ok-block.block) (IsAdded-made_block c.ctx.inside.nodes c.make_block.new.self stored _ c.in_ok-block.block c.in_ok-block.ensures.ok c.in_ok-block.ensures.pointer))
 
 pub returns-clause-empty : goal.returns-clause-empty
-returns-clause-empty g c = (IsAdded-made_block c.ctx.inside.nodes c.make_block.new.self c.ctx.invariant.forest _ c.in_ok-block.block c.in_ok-block.ensures.ok c.in_ok-block.ensures.pointer).leaf
+returns-clause-empty g c = (IsAdded-made_block c.ctx.inside.nodes c.make_block.new.self c.ctx.invariant.stored _ c.in_ok-block.block c.in_ok-block.ensures.ok c.in_ok-block.ensures.pointer).leaf

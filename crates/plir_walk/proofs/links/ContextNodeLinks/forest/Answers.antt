@@ -1,5 +1,4 @@
-use Rattle.plir_walk.proofs.View.{forest-of}
 use Rattle.plir_walk.proofs.links.ContextNodeLinks.forest.Goals as goal
 
 pub returns : goal.returns
-returns g c = forest-of c.args.self.now (c.contexts_stand.ensures c.args.self.now c.num_live-count.ensures.whole)
+returns g c = (c.contexts_stand.ensures c.args.self.now c.num_live-count.ensures.whole).forest

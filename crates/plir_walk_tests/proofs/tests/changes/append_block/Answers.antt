@@ -1,7 +1,7 @@
 use Rattle.std.proofs.Common.{zero, sym, refl, subst}
 use Rattle.plir_core.specs.declared.ptr.IRNode.TheVariants.{Region, BasicBlock}
-use Rattle.plir_walk.specs.Forest.{Lawful}
-use Rattle.plir_walk.specs.View.{look}
+use Rattle.plir_core.specs.Forest.{look}
+use Rattle.plir_walk.specs.Lawful.{Lawful}
 use Rattle.plir_walk_tests.proofs.tests.changes.append_block.Goals as goal
 
 pub insert_at_back-requires-clause-not_above : goal.insert_at_back-requires-clause-not_above

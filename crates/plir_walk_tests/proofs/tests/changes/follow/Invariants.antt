@@ -1,6 +1,6 @@
 use Rattle.plir_core.specs.Store.{IsLive}
-use Rattle.plir_walk.specs.Forest.{Lawful}
-use Rattle.plir_walk.specs.View.{look}
+use Rattle.plir_core.specs.Forest.{look}
+use Rattle.plir_walk.specs.Lawful.{Lawful}
 use Rattle.plir_walk_tests.proofs.tests.changes.follow.Given as goal
 
 abbrev pub invariant-loop-at : goal.invariant-loop-at

@@ -1,7 +1,7 @@
 use Rattle.std.proofs.Common.{sym, subst}
 use Rattle.plir_core.specs.declared.ptr.IRNode.TheVariants.{BasicBlock}
-use Rattle.plir_walk.specs.Forest.{Lawful}
-use Rattle.plir_walk.specs.View.{look}
+use Rattle.plir_core.specs.Forest.{look}
+use Rattle.plir_walk.specs.Lawful.{Lawful}
 use Rattle.plir_walk_tests.proofs.tests.changes.label.Goals as goal
 
 pub returns : goal.returns

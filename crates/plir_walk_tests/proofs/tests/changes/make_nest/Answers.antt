@@ -3,7 +3,7 @@ use Rattle.std.specs.Prelude.{option_map}
 use Rattle.plir_core.specs.Above.{climb, Reaches}
 use Rattle.plir_core.specs.Store.{parent_of}
 use Rattle.plir_core.specs.declared.ptr.IRNode.TheVariants.{Operation, Region, BasicBlock}
-use Rattle.plir_walk.specs.View.{look}
+use Rattle.plir_core.specs.Forest.{look}
 use Rattle.plir_walk_tests.proofs.tests.changes.make_nest.Goals as goal
 
 pub kid_at-requires : goal.kid_at-requires

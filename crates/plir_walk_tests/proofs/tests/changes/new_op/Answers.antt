@@ -1,8 +1,8 @@
 use Rattle.std.proofs.Common.{zero, sym, refl, subst, ◌∙◌}
 use Rattle.std.proofs.lemmas.Option.{same_Some}
 use Rattle.plir_core.specs.declared.ptr.IRNode.TheVariants.{Operation, BasicBlock}
-use Rattle.plir_walk.specs.Forest.{Lawful}
-use Rattle.plir_walk.specs.View.{look}
+use Rattle.plir_core.specs.Forest.{look}
+use Rattle.plir_walk.specs.Lawful.{Lawful}
 use Rattle.plir_walk_tests.proofs.tests.changes.new_op.Goals as goal
 
 pub returns-in_err-op-in-Some-clause-lawful : goal.returns-in_err-op-in-Some-clause-lawful

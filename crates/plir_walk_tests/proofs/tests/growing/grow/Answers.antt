@@ -1,7 +1,7 @@
 use Rattle.std.proofs.Common.{sym, subst, inl, inr}
-use Rattle.plir_walk.specs.Forest.{IsForest, Lawful}
-use Rattle.plir_walk.specs.View.{look}
 use Rattle.plir_walk_tests.proofs.tests.growing.grow.Goals as goal
+use Rattle.plir_core.specs.Forest.{IsForest, look}
+use Rattle.plir_walk.specs.Lawful.{Lawful}
 
 pub walk_op-requires-clause-lawful : goal.walk_op-requires-clause-lawful
 walk_op-requires-clause-lawful g c = λ d t n a d' t' p.

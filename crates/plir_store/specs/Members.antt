@@ -1,4 +1,4 @@
--- Lists of nodes, and of anything else.
+-- Membership in lists, of numbers, of nodes and of anything else.
 use Rattle.std.specs.Prelude.{◌≡◌, List, [], ◌∷◌, ◌⊎◌, Option, Some, None}
 
 -- a is an element of the list
