@@ -6,9 +6,12 @@ pub mod Gathered
 pub mod Loops
 pub mod EntriesLive
 pub mod HeadsGrown
+pub mod Ends
+pub mod TypesNamed
 pub mod Dictionaries
 pub mod StartFound
 pub mod OpFound
+pub mod OpEnds
 pub mod StartAgain
 pub mod OpAgain
 pub mod OpSteps

@@ -9,11 +9,13 @@ use Rattle.plir_text.specs.AttrReading.{name_at}
 use Rattle.plir_text.specs.Fronts.{GoesOn}
 use Rattle.plir_text.specs.LeavesFound.{found-shorter, name_found}
 use Rattle.plir_text.specs.Lists.{separator_at, items_at}
-use Rattle.plir_text.specs.Names.{Grows, Names, NamesAll}
+use Rattle.plir_text.specs.Names.{Grows, Names, NamesAll, AreNamed}
 use Rattle.plir_read.specs.Heads.{argument_types, argument_names, result_names}
 use Rattle.plir_read.specs.OpReading.{argument_at, names_at}
 use Rattle.plir_read.specs.OpTerms.{Argument}
+use Rattle.plir_read.specs.TextTypes.{IsInText}
 use Rattle.plir_read.specs.Suffixes.{is_joined_suffix, before_suffix, given_name}
+use Rattle.plir_read.proofs.Ends.{IsEnd}
 use Rattle.plir_read.proofs.OpSteps.{from_start}
 use Rattle.plir_read.specs.declared.names.Suffix.{Suffix}
 use Rattle.plir_read.specs.declared.names.Suffix.TheVariants as kinds
@@ -108,6 +110,8 @@ pub record Holds {S T : Type 0} (types : S → List (TypeView T)) (same : S → 
   pub typed : NamesAll (types now) handles (argument_types front)
   pub named : names ≡ argument_names front
   pub grown : Grows (types first) (types now)
+  pub written : AreNamed (IsInText bytes) (types first) (types now)
+  pub behind : IsEnd bytes rest
   pub kept : same first now
   pub going : GoesOn (separator_at 41) (argument_at n) front rest (items_at 40 41 (argument_at n) bytes)
 

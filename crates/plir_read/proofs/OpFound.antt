@@ -36,7 +36,7 @@ abbrev pub by_brace : Bool → List Token
 by_brace true = []
 by_brace false = sign 125 ∷ []
 
-semicolon_found : (bytes : List ℕ) (s : Bool × List ℕ) → semicolon_at bytes ≡ Ok s → Begins bytes (by_semicolon s.0) s.1
+pub semicolon_found : (bytes : List ℕ) (s : Bool × List ℕ) → semicolon_at bytes ≡ Ok s → Begins bytes (by_semicolon s.0) s.1
 unfolding semicolon_at
 semicolon_found bytes s e = subst (λ (y : Bool × List ℕ). Begins bytes (by_semicolon y.0) y.1) (ok_is _ s e) (at (past_sign 59 bytes) refl)
   where
@@ -44,7 +44,7 @@ semicolon_found bytes s e = subst (λ (y : Bool × List ℕ). Begins bytes (by_s
     at (Some rest) e = (rest, past_sign_found 59 bytes rest e, refl)
     at None e = refl
 
-brace_found : (bytes : List ℕ) (s : Bool × List ℕ) → brace_at bytes ≡ Ok s → Begins bytes (by_brace s.0) s.1
+pub brace_found : (bytes : List ℕ) (s : Bool × List ℕ) → brace_at bytes ≡ Ok s → Begins bytes (by_brace s.0) s.1
 unfolding brace_at
 brace_found bytes s e = subst (λ (y : Bool × List ℕ). Begins bytes (by_brace y.0) y.1) (ok_is _ s e) (at (past_sign 125 bytes) refl)
   where
@@ -74,10 +74,10 @@ symbol_found bytes x e =
     named_found 64 bytes a.0 x a.1 a.2
 
 -- an argument
-abbrev ArgumentWithin : ℕ → Argument → List Token → Type 0
+abbrev pub ArgumentWithin : ℕ → Argument → List Token → Type 0
 ArgumentWithin n a ts = SpellsArgument a ts × (type_levels a.1 ≤ n)
 
-argument_found : (n : ℕ) → IsSound (ArgumentWithin n) (argument_at n)
+pub argument_found : (n : ℕ) → IsSound (ArgumentWithin n) (argument_at n)
 unfolding argument_at
 argument_found n bytes x e =
     let a = bind_ok (name_at bytes) (λ w. sign_at 58 w.1 >>= λ colon. type_at n colon >>= λ t. Ok ((w.0, t.0), t.1)) x e in
@@ -106,7 +106,7 @@ argument_at-shorter n bytes x e =
 abbrev pub BlockHeadWithin : ℕ → BlockHead → List Token → Type 0
 BlockHeadWithin n b ts = SpellsBlockHead b ts × (block_levels b ≤ n)
 
-block_head_found : (n : ℕ) → IsSound (BlockHeadWithin n) (block_head_at n)
+pub block_head_found : (n : ℕ) → IsSound (BlockHeadWithin n) (block_head_at n)
 unfolding block_head_at
 block_head_found n bytes x e =
     let a = bind_ok (sign_at 94 bytes) (λ start. name_at start >>= λ w. items_at 40 41 (argument_at n) w.1 >>= λ as_. sign_at 58 as_.1 >>= λ end. Ok ((w.0, as_.0), end)) x e in

@@ -96,11 +96,11 @@ before_found bytes x e = at (name_at bytes) e
 
 -- names of results, and an id behind them
 pub record Opened (bytes : List ℕ) (ws : List (List ℕ)) (k : HeadKind) (rest : List ℕ) : Type 0 where
-  names : List Token
-  behind : List ℕ
-  begins : Begins bytes names behind
+  pub names : List Token
+  pub behind : List ℕ
+  pub begins : Begins bytes names behind
   spelled : NamesBefore ws names
-  id : look behind ≡ Ok (word (id_of k), rest)
+  pub id : look behind ≡ Ok (word (id_of k), rest)
 
 pub start_found : (bytes : List ℕ) (x : (List (List ℕ) × HeadKind) × List ℕ) → start_at bytes ≡ Ok x → Opened bytes x.0.0 x.0.1 x.1
 unfolding start_at
@@ -138,10 +138,10 @@ named_id bytes (v ∷ w ∷ ws) k rest o e = absurd (omega (arith, e))
 -- ---- constants
 
 -- a value in angle brackets, with at most n levels in it
-abbrev ValueWithin : ℕ → AttrTerm → List Token → Type 0
+abbrev pub ValueWithin : ℕ → AttrTerm → List Token → Type 0
 ValueWithin n a ts = (attr : List Token) × AttrWithin n a attr × (ts ≡ enclosed 60 attr 62)
 
-value_found : (n : ℕ) → IsSound (ValueWithin n) (value_at n)
+pub value_found : (n : ℕ) → IsSound (ValueWithin n) (value_at n)
 unfolding value_at
 value_found n bytes x e =
     let a = bind_ok (sign_at 60 bytes) (λ start. attr_at n start >>= λ y. sign_at 62 y.1 >>= λ end. Ok (y.0, end)) x e in

@@ -10,6 +10,7 @@
 --   Keeping      KeepsOlder: what reading leaves of a context as it was
 --   Slots        IsMadeInOrder: a tree's nodes come in the order of a text, each in the next slot of its kind
 --   Stopping     ReadsOn: reading into a context; IsOfText: faults of a text
+--   TextTypes    IsInText: the types that are written in the text of an operation
 pub mod Keys
 pub mod Suffixes
 pub mod OpTerms
@@ -20,3 +21,4 @@ pub mod Heads
 pub mod OpsStanding
 pub mod Keeping
 pub mod Slots
+pub mod TextTypes

@@ -5,13 +5,14 @@ ghost use Rattle.plir_core.specs.Made.{IsMade};
 ghost use Rattle.plir_core.specs.Whole.{IsWhole};
 ghost use Rattle.plir_core.specs.declared.ptr.IRNode.{IRNode};
 ghost use Rattle.plir_text.specs.MeantBy.{IsMeantBy};
-ghost use Rattle.plir_text.specs.Names.{Grows};
+ghost use Rattle.plir_text.specs.Names.{AreNamed, Grows};
 ghost use Rattle.plir_text.specs.Reading.{ReadsFirst};
 ghost use Rattle.plir_read.specs.Heads.{IsConstant};
 ghost use Rattle.plir_read.specs.Keeping.{KeepsOlder};
 ghost use Rattle.plir_read.specs.OpReading.{value_at, constant_at, named_constant_at};
 ghost use Rattle.plir_read.specs.OpsStanding.{ReadsConstant};
 ghost use Rattle.plir_read.specs.Slots.{IsMadeInOrder};
+ghost use Rattle.plir_read.specs.TextTypes.{IsInText};
 
 use crate::making::make_constant;
 use crate::openings::expect_names;
@@ -40,6 +41,7 @@ fn read_value<'a, D: OpSet, C: TypeStore<D>>(
 ) -> Result<(AttrObj<D>, &'a [u8]), Stop>
     ensures read { ReadsFirst (IsMeantBy (C.types ctx.new)) result (value_at levels bytes.now) }
     ensures grown { Grows (C.types ctx.old) (C.types ctx.new) }
+    ensures named { AreNamed (IsInText bytes.now) (C.types ctx.old) (C.types ctx.new) }
     ensures rest { C.same_besides ctx.old ctx.new }
 {
     let start = read_sign(bytes, b'<')?;
@@ -62,6 +64,7 @@ fn read_typed_value<'a, D: OpSet, C: TypeStore<D>>(
 ) -> Result<(ConstantData<D>, &'a [u8]), Stop>
     ensures read { ReadsFirst (λ x. IsConstant (C.types ctx.new) (attr_view x.value) x.ty) result (constant_at levels bytes.now) }
     ensures grown { Grows (C.types ctx.old) (C.types ctx.new) }
+    ensures named { AreNamed (IsInText bytes.now) (C.types ctx.old) (C.types ctx.new) }
     ensures rest { C.same_besides ctx.old ctx.new }
 {
     let (value, rest) = match read_value(alloc, ctx, levels, bytes) {
@@ -92,6 +95,7 @@ pub fn read_constant<'a, D: OpSet>(
     ensures made { IfOk result (λ x. IsMade ctx.old.nodes ctx.new.nodes (IRNode.Operation x.0)) }
     ensures slots { IfOk result (λ x. IsMadeInOrder ctx.old.nodes ctx.new.nodes (IRNode.Operation x.0)) }
     ensures kept { KeepsOlder ctx.old ctx.new }
+    ensures named { AreNamed (IsInText bytes.now) ctx.old.types ctx.new.types }
     ensures whole { IsWhole D.attr_handles ctx.new }
 {
     let _before = ctx.num_live();

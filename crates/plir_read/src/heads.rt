@@ -1,9 +1,10 @@
 //! Headers of operations and blocks.
 ghost use Rattle.std.specs.Prelude.{◌≡◌, Ok};
-ghost use Rattle.plir_text.specs.Names.{Grows};
+ghost use Rattle.plir_text.specs.Names.{AreNamed, Grows};
 ghost use Rattle.plir_text.specs.Reading.{ReadsFirst, Gives};
 ghost use Rattle.plir_read.specs.Heads.{IsHead};
 ghost use Rattle.plir_read.specs.OpReading.{op_kind, op_id, symbol_at, head_at, ends_block, semicolon_at, brace_at};
+ghost use Rattle.plir_read.specs.TextTypes.{IsInText};
 
 use plir_data::{Identifier, OpSet, TypeHandle, TypeStore};
 use plir_text::Fault;
@@ -114,6 +115,7 @@ pub fn read_head<'a, D: OpSet, C: TypeStore<D>>(
 ) -> Result<(HeadData, &'a [u8]), Stop>
     ensures read { ReadsFirst (IsHead (C.types ctx.new)) result (head_at levels kind bytes.now) }
     ensures grown { Grows (C.types ctx.old) (C.types ctx.new) }
+    ensures named { AreNamed (IsInText bytes.now) (C.types ctx.old) (C.types ctx.new) }
     ensures rest { C.same_besides ctx.old ctx.new }
 {
     match kind {

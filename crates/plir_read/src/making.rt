@@ -115,6 +115,7 @@ fn make_with<D: OpSet>(
     ensures made { IfOk result (λ x. IsNewOp ctx.old ctx.new x.0 x.1 (op_view kind [] [] [] attributes)) }
     ensures slots { IfOk result (λ x. AreGivenOut ctx.old.nodes (IRNode.Operation x.0 ∷ IRNode.Region x.1 ∷ []) ctx.new.nodes) }
     ensures kept { OnErr result (KeepsOlder ctx.old ctx.new) }
+    ensures types { OnErr result (ctx.new.types ≡ ctx.old.types) }
     ensures refused { IfErr result IsRefusal }
     ensures whole { IsWhole D.attr_handles ctx.new }
 {
@@ -142,6 +143,7 @@ pub fn make_op<D: OpSet>(
     ensures made { IfOk result (λ x. IsNewOp ctx.old ctx.new x.0 x.1 (op_with header.head header.entries)) }
     ensures slots { IfOk result (λ x. AreGivenOut ctx.old.nodes (IRNode.Operation x.0 ∷ IRNode.Region x.1 ∷ []) ctx.new.nodes) }
     ensures kept { OnErr result (KeepsOlder ctx.old ctx.new) }
+    ensures types { OnErr result (ctx.new.types ≡ ctx.old.types) }
     ensures refused { IfErr result IsRefusal }
     ensures whole { IsWhole D.attr_handles ctx.new }
 {
@@ -209,6 +211,7 @@ pub fn make_constant<D: OpSet>(
     ensures made { IfOk result (λ p. IsNewLeaf ctx.old ctx.new p (constant_op names.items (attr_view constant.value) constant.ty)) }
     ensures slots { IfOk result (λ p. AreGivenOut ctx.old.nodes (IRNode.Operation p ∷ []) ctx.new.nodes) }
     ensures kept { OnErr result (KeepsOlder ctx.old ctx.new) }
+    ensures types { OnErr result (ctx.new.types ≡ ctx.old.types) }
     ensures refused { IfErr result IsRefusal }
     ensures whole { IsWhole D.attr_handles ctx.new }
 {
@@ -264,6 +267,7 @@ pub fn make_block<D: OpSet>(
     ensures made { IfOk result (λ p. IsNewBlock ctx.old ctx.new p (block_with head)) }
     ensures slots { IfOk result (λ p. AreGivenOut ctx.old.nodes (IRNode.BasicBlock p ∷ []) ctx.new.nodes) }
     ensures kept { OnErr result (KeepsOlder ctx.old ctx.new) }
+    ensures types { OnErr result (ctx.new.types ≡ ctx.old.types) }
     ensures refused { IfErr result IsRefusal }
     ensures whole { IsWhole D.attr_handles ctx.new }
 {

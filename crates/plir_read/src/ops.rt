@@ -5,11 +5,13 @@ ghost use Rattle.plir_core.specs.Made.{IsMade};
 ghost use Rattle.plir_core.specs.Store.{IsLive, kids};
 ghost use Rattle.plir_core.specs.Whole.{IsWhole};
 ghost use Rattle.plir_core.specs.declared.ptr.IRNode.{IRNode};
+ghost use Rattle.plir_text.specs.Names.{AreNamed};
 ghost use Rattle.plir_read.specs.Keeping.{KeepsBut, KeepsOlder};
 ghost use Rattle.plir_read.specs.OpReading.{op_at, bodied_at, ops_at, block_at, blocks_at};
 ghost use Rattle.plir_read.specs.OpsStanding.{HasOps, HasBlocks, ReadsOp, ReadsBlock};
 ghost use Rattle.plir_read.specs.Slots.{IsMadeInOrder, IsGrownInOrder};
 ghost use Rattle.plir_read.specs.Stopping.{ReadsOnPast};
+ghost use Rattle.plir_read.specs.TextTypes.{IsInText};
 
 use crate::arguments::read_block_head;
 use crate::constants::read_constant;
@@ -41,6 +43,7 @@ fn read_ops<'a, D: OpSet>(
     ensures grown { IfOk result (λ x. IsGrown ctx.old.nodes ctx.new.nodes (IRNode.BasicBlock block)) }
     ensures slots { IfOk result (λ x. IsGrownInOrder ctx.old.nodes ctx.new.nodes (IRNode.BasicBlock block)) }
     ensures kept { KeepsBut ctx.old ctx.new (Some (IRNode.BasicBlock block)) }
+    ensures named { AreNamed (IsInText bytes.now) ctx.old.types ctx.new.types }
     ensures whole { IsWhole D.attr_handles ctx.new }
 {
     contexts_stand::<D>();
@@ -78,6 +81,7 @@ fn read_block<'a, D: OpSet>(
     ensures made { IfOk result (λ x. IsMade ctx.old.nodes ctx.new.nodes (IRNode.BasicBlock x.0)) }
     ensures slots { IfOk result (λ x. IsMadeInOrder ctx.old.nodes ctx.new.nodes (IRNode.BasicBlock x.0)) }
     ensures kept { KeepsOlder ctx.old ctx.new }
+    ensures named { AreNamed (IsInText bytes.now) ctx.old.types ctx.new.types }
     ensures whole { IsWhole D.attr_handles ctx.new }
 {
     contexts_stand::<D>();
@@ -108,6 +112,7 @@ fn read_body<'a, D: OpSet>(
     ensures grown { IfOk result (λ x. IsGrown ctx.old.nodes ctx.new.nodes (IRNode.Region region)) }
     ensures slots { IfOk result (λ x. IsGrownInOrder ctx.old.nodes ctx.new.nodes (IRNode.Region region)) }
     ensures kept { KeepsBut ctx.old ctx.new (Some (IRNode.Region region)) }
+    ensures named { AreNamed (IsInText bytes.now) ctx.old.types ctx.new.types }
     ensures whole { IsWhole D.attr_handles ctx.new }
 {
     contexts_stand::<D>();
@@ -150,6 +155,7 @@ fn read_bodied<'a, D: OpSet>(
     ensures made { IfOk result (λ x. IsMade ctx.old.nodes ctx.new.nodes (IRNode.Operation x.0)) }
     ensures slots { IfOk result (λ x. IsMadeInOrder ctx.old.nodes ctx.new.nodes (IRNode.Operation x.0)) }
     ensures kept { KeepsOlder ctx.old ctx.new }
+    ensures named { AreNamed (IsInText bytes.now) ctx.old.types ctx.new.types }
     ensures whole { IsWhole D.attr_handles ctx.new }
 {
     contexts_stand::<D>();
@@ -179,6 +185,7 @@ pub fn read_op_at<'a, D: OpSet>(
     ensures made { IfOk result (λ x. IsMade ctx.old.nodes ctx.new.nodes (IRNode.Operation x.0)) }
     ensures slots { IfOk result (λ x. IsMadeInOrder ctx.old.nodes ctx.new.nodes (IRNode.Operation x.0)) }
     ensures kept { KeepsOlder ctx.old ctx.new }
+    ensures named { AreNamed (IsInText bytes.now) ctx.old.types ctx.new.types }
     ensures whole { IsWhole D.attr_handles ctx.new }
 {
     let _before = ctx.num_live();

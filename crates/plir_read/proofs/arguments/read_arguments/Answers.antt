@@ -11,6 +11,9 @@ use Rattle.plir_read.specs.Heads.{argument_types, argument_names}
 use Rattle.plir_read.specs.OpReading.{argument_at}
 use Rattle.plir_read.proofs.NamesGiven.{typed_push, named_push}
 use Rattle.plir_read.proofs.OpFound.{argument_at-shorter}
+use Rattle.plir_read.proofs.Ends.{end_on, sign_end}
+use Rattle.plir_read.proofs.OpEnds.{argument_end, separator_end}
+use Rattle.plir_read.proofs.TypesNamed.{named_itself, named_on, behind_named}
 use Rattle.plir_read.proofs.arguments.read_arguments.Goals as goal
 
 pub returns-in_err-start-clause-read : goal.returns-in_err-start-clause-read
@@ -28,6 +31,8 @@ arguments-init g c =
       typed = c.new-types.ensures.items;
       named = c.new-names.ensures.items;
       grown = Grows-itself _;
+      written = named_itself _ _;
+      behind = sign_end 40 _ _ c.in_ok-start.ensures;
       kept = g.met.C.TypeStore.same_besides_itself _;
       going = starts 40 41 (argument_at c.args.levels) _ _ c.in_ok-start.ensures (sym c.in_default.ensures);
     }
@@ -94,6 +99,23 @@ arguments-preserved g c =
       typed = subst (λ z. NamesAll (g.C.TypeStore.types c.read_argument.new.ctx) z (argument_types (i.front ++ y.0.0 ∷ []))) (sym c.in_ok-push-2.ensures.items) (typed_push _ _ i.front _ y.0.0 (NamesAll-grown _ _ _ (argument_types i.front) c.in-Ok.ensures.grown i.typed) y.2.0.1);
       named = c.in_ok-push.ensures.items ∙ ap (λ l. l ++ c.in-Ok.read.0.0 ∷ []) i.named ∙ ap (λ x. argument_names i.front ++ x ∷ []) y.2.0.0 ∙ sym (named_push i.front y.0.0);
       grown = Grows-on _ _ _ i.grown c.in-Ok.ensures.grown;
+      written = named_on _ _ _ _ c.in-Ok.ensures.grown i.written (behind_named _ _ _ _ i.behind c.in-Ok.ensures.named);
+      behind = end_on _ _ _ i.behind (end_on _ _ _ (argument_end c.args.levels c.arguments.rest.now y.0.0 c.in-Ok.read.1.now (behind_is _ y.0 c.in-Ok.read.1.now y.1 y.2.1)) (separator_end 41 c.in-Ok.read.1.now c.in_ok-goes_on.goes_on c.in_ok-goes_on.behind.now c.in_ok-goes_on.ensures));
       kept = g.met.C.TypeStore.same_besides_on _ _ _ i.kept c.in-Ok.ensures.rest;
       going = goes_on (separator_at 41) (argument_at c.args.levels) i.front _ _ y.0.0 c.in-Ok.read.1.now c.in_ok-goes_on.behind.now i.going (behind_is _ y.0 c.in-Ok.read.1.now y.1 y.2.1) (c.in_ok-goes_on.ensures ∙ ap (λ b. done (b, c.in_ok-goes_on.behind.now)) c.if-goes_on.true) (arguments-smaller g c);
     }
+
+pub returns-in-Err-clause-named : goal.returns-in-Err-clause-named
+returns-in-Err-clause-named g c = let i = c.arguments.invariant in named_on _ _ _ _ c.in-Err.ensures.grown i.written (behind_named _ _ _ _ i.behind c.in-Err.ensures.named)
+
+pub returns-in_err-push-clause-named : goal.returns-in_err-push-clause-named
+returns-in_err-push-clause-named g c = let i = c.arguments.invariant in named_on _ _ _ _ c.in-Ok.ensures.grown i.written (behind_named _ _ _ _ i.behind c.in-Ok.ensures.named)
+
+pub returns-in_err-push-2-clause-named : goal.returns-in_err-push-2-clause-named
+returns-in_err-push-2-clause-named g c = let i = c.arguments.invariant in named_on _ _ _ _ c.in-Ok.ensures.grown i.written (behind_named _ _ _ _ i.behind c.in-Ok.ensures.named)
+
+pub returns-in_err-goes_on-clause-named : goal.returns-in_err-goes_on-clause-named
+returns-in_err-goes_on-clause-named g c = let i = c.arguments.invariant in named_on _ _ _ _ c.in-Ok.ensures.grown i.written (behind_named _ _ _ _ i.behind c.in-Ok.ensures.named)
+
+pub returns-else-goes_on-clause-named : goal.returns-else-goes_on-clause-named
+returns-else-goes_on-clause-named g c = let i = c.arguments.invariant in named_on _ _ _ _ c.in-Ok.ensures.grown i.written (behind_named _ _ _ _ i.behind c.in-Ok.ensures.named)

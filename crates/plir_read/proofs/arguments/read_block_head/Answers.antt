@@ -1,6 +1,8 @@
 use Rattle.std.proofs.Common.{refl}
 use Rattle.plir_text.specs.TypeSteps.{behind_is}
 use Rattle.plir_read.proofs.OpSteps.{block_head_is}
+use Rattle.plir_read.proofs.OpEnds.{arguments_start}
+use Rattle.plir_read.proofs.TypesNamed.{behind_named}
 use Rattle.plir_read.proofs.arguments.read_block_head.Goals as goal
 
 pub returns-in_ok-label-in-Ok-clause-read : goal.returns-in_ok-label-in-Ok-clause-read
@@ -10,3 +12,15 @@ returns-in_ok-label-in-Ok-clause-read g c =
       block_head_is c.args.levels _ _ _ _ _ _ y.0.0 c.in_ok-start.ensures c.in_ok-name.ensures (behind_is _ y.0 c.in-Ok.read.1.now y.1 y.2.1) c.in_ok-end-in-Ok.ensures,
       (record { label = c.in_ok-label-in-Ok.ensures.given; arguments = y.2.0 }, refl),
     )
+
+pub returns-in_ok-label-in-Ok-clause-named : goal.returns-in_ok-label-in-Ok-clause-named
+returns-in_ok-label-in-Ok-clause-named g c = behind_named _ _ _ _ (arguments_start _ _ _ _ c.in_ok-start.ensures c.in_ok-name.ensures) c.in-Ok.ensures.named
+
+pub returns-in_err-label-in-Ok-clause-named : goal.returns-in_err-label-in-Ok-clause-named
+returns-in_err-label-in-Ok-clause-named g c = behind_named _ _ _ _ (arguments_start _ _ _ _ c.in_ok-start.ensures c.in_ok-name.ensures) c.in-Ok.ensures.named
+
+pub returns-in_err-end-in-Ok-clause-named : goal.returns-in_err-end-in-Ok-clause-named
+returns-in_err-end-in-Ok-clause-named g c = behind_named _ _ _ _ (arguments_start _ _ _ _ c.in_ok-start.ensures c.in_ok-name.ensures) c.in-Ok.ensures.named
+
+pub returns-in-Err-clause-named : goal.returns-in-Err-clause-named
+returns-in-Err-clause-named g c = behind_named _ _ _ _ (arguments_start _ _ _ _ c.in_ok-start.ensures c.in_ok-name.ensures) c.in-Err.ensures.named

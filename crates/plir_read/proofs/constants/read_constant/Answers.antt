@@ -3,6 +3,7 @@ use Rattle.plir_core.specs.declared.ptr.IRNode.TheVariants.{Operation}
 use Rattle.plir_read.specs.Slots.{IsMadeInOrder}
 use Rattle.plir_read.proofs.OpMade.{value_live, result_live, KeepsOlder-typed, KeepsOlder-on}
 use Rattle.plir_read.proofs.TreesInOrder.{leaf_in_order}
+use Rattle.plir_read.proofs.TypesNamed.{named_still}
 use Rattle.plir_read.proofs.constants.read_constant.Goals as goal
 
 pub make_constant-requires-clause-value_live : goal.make_constant-requires-clause-value_live
@@ -23,3 +24,9 @@ returns-clause-slots g c =
     let op = c.in_ok-op.op in
     subst (λ z. IsMadeInOrder z c.make_constant.new.ctx.nodes (Operation op)) c.in_ok-constant.ensures.rest
     (leaf_in_order c.read_typed_value-read.new.ctx c.make_constant.new.ctx (Operation op) c.in_ok-op.ensures.made.empty c.in_ok-op.ensures.slots)
+
+pub returns-in_err-op-clause-named : goal.returns-in_err-op-clause-named
+returns-in_err-op-clause-named g c = named_still _ _ _ _ c.in_err-op.ensures.types c.in_ok-constant.ensures.named
+
+pub returns-clause-named : goal.returns-clause-named
+returns-clause-named g c = named_still _ _ _ _ c.in_ok-op.ensures.made.types c.in_ok-constant.ensures.named

@@ -2,6 +2,8 @@ use Rattle.std.proofs.Common.{refl}
 use Rattle.plir_text.specs.Meanings.{IsMeant-grown}
 use Rattle.plir_text.specs.TypeSteps.{behind_is}
 use Rattle.plir_read.proofs.OpSteps.{constant_is}
+use Rattle.plir_read.proofs.OpEnds.{constant_type_start}
+use Rattle.plir_read.proofs.TypesNamed.{type_named, named_on}
 use Rattle.plir_read.proofs.constants.read_typed_value.Goals as goal
 
 pub returns-in-Ok-read_type_at-clause-read : goal.returns-in-Ok-read_type_at-clause-read
@@ -12,3 +14,15 @@ returns-in-Ok-read_type_at-clause-read g c =
       constant_is c.args.levels _ _ _ _ v.0.0 t.0.0 (behind_is _ v.0 c.in-Ok.read.1.now v.1 v.2.1) c.in_ok-colon.ensures (behind_is _ t.0 c.in-Ok-read_type_at.read.1.now t.1 t.2.1),
       (record { meant = IsMeant-grown _ _ c.in-Ok-read_type_at.ensures.kept.grown v.0.0 _ v.2.0; typed = t.2.0 }, refl),
     )
+
+pub returns-in-Ok-read_type_at-clause-named : goal.returns-in-Ok-read_type_at-clause-named
+returns-in-Ok-read_type_at-clause-named g c =
+    let v = c.in-Ok.ensures.read in
+    let t = c.in-Ok-read_type_at.ensures.kept in
+    named_on _ _ _ _ t.grown c.in-Ok.ensures.named (type_named c.args.levels _ _ _ _ (constant_type_start c.args.levels _ v.0.0 _ _ (behind_is _ v.0 c.in-Ok.read.1.now v.1 v.2.1) c.in_ok-colon.ensures) t.named)
+
+pub returns-in-Err-read_type_at-clause-named : goal.returns-in-Err-read_type_at-clause-named
+returns-in-Err-read_type_at-clause-named g c =
+    let v = c.in-Ok.ensures.read in
+    let t = c.in-Err-read_type_at.ensures.kept in
+    named_on _ _ _ _ t.grown c.in-Ok.ensures.named (type_named c.args.levels _ _ _ _ (constant_type_start c.args.levels _ v.0.0 _ _ (behind_is _ v.0 c.in-Ok.read.1.now v.1 v.2.1) c.in_ok-colon.ensures) t.named)

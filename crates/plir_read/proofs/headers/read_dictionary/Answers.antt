@@ -2,6 +2,7 @@ use Rattle.std.proofs.Common.{[], refl, sym}
 use Rattle.plir_text.specs.Terms.{no_entries, entries_of}
 use Rattle.plir_text.specs.TypeSteps.{behind_is}
 use Rattle.plir_read.proofs.OpSteps.{no_dictionary, dictionary_is}
+use Rattle.plir_read.proofs.TypesNamed.{entries_named}
 use Rattle.plir_read.proofs.headers.read_dictionary.Goals as goal
 
 pub returns-in-None-clause-read : goal.returns-in-None-clause-read
@@ -11,3 +12,9 @@ pub returns-in-Ok-clause-read : goal.returns-in-Ok-clause-read
 returns-in-Ok-clause-read g c =
     let y = c.in-Ok.ensures.read in
     ((entries_of y.0.0, c.in-Ok.read.1.now), dictionary_is c.args.levels _ _ _ y.0.0 (sym c.in-Some.ensures) (behind_is _ y.0 c.in-Ok.read.1.now y.1 y.2.1), (y.2.0, refl))
+
+pub returns-in-Ok-clause-named : goal.returns-in-Ok-clause-named
+returns-in-Ok-clause-named g c = entries_named c.args.levels _ _ _ c.in-Ok.ensures.kept.named
+
+pub returns-in-Err-clause-named : goal.returns-in-Err-clause-named
+returns-in-Err-clause-named g c = entries_named c.args.levels _ _ _ c.in-Err.ensures.kept.named

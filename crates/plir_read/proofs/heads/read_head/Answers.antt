@@ -2,6 +2,8 @@ use Rattle.std.proofs.Common.{refl, ap, ◌∙◌}
 use Rattle.plir_text.specs.TypeSteps.{behind_is}
 use Rattle.plir_read.specs.OpTerms.{module_head, func_head}
 use Rattle.plir_read.specs.OpReading.{head_at}
+use Rattle.plir_read.proofs.OpEnds.{func_start}
+use Rattle.plir_read.proofs.TypesNamed.{type_named}
 use Rattle.plir_read.proofs.OpSteps.{module_read, func_read}
 use Rattle.plir_read.proofs.heads.read_head.Goals as goal
 
@@ -13,3 +15,9 @@ pub returns-in-Ok-clause-read : goal.returns-in-Ok-clause-read
 returns-in-Ok-clause-read g c =
     let y = c.in-Ok.ensures.read in
     ((func_head c.in_ok-name-in-Func.name y.0.0, c.in-Ok.read.1.now), ap (λ k. head_at c.args.levels k c.args.bytes.now) c.in-Func.is ∙ func_read c.args.levels _ _ _ _ _ y.0.0 c.in_ok-name-in-Func.ensures c.in_ok-colon-in-Func.ensures (behind_is _ y.0 c.in-Ok.read.1.now y.1 y.2.1), ((refl, y.2.0), refl))
+
+pub returns-in-Ok-clause-named : goal.returns-in-Ok-clause-named
+returns-in-Ok-clause-named g c = type_named c.args.levels _ _ _ _ (func_start _ _ _ _ c.in_ok-name-in-Func.ensures c.in_ok-colon-in-Func.ensures) c.in-Ok.ensures.kept.named
+
+pub returns-in-Err-clause-named : goal.returns-in-Err-clause-named
+returns-in-Err-clause-named g c = type_named c.args.levels _ _ _ _ (func_start _ _ _ _ c.in_ok-name-in-Func.ensures c.in_ok-colon-in-Func.ensures) c.in-Err.ensures.kept.named

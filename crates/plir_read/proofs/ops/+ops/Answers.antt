@@ -11,8 +11,11 @@ use Rattle.plir_read.proofs.Gathered as gathered
 use Rattle.plir_read.proofs.Gathered.{IsGrown-itself, KeepsBut-itself}
 use Rattle.plir_read.proofs.OpFound.{op_at-shorter, block_at-shorter, semicolon_at-shorter, brace_at-shorter}
 use Rattle.plir_read.proofs.OpMade.{arguments_live, block_kept, block_made, block_stands, op_kept, op_made, body_kept, op_stands, head_live, KeepsOlder-typed, KeepsOlder-on}
+use Rattle.plir_read.proofs.Ends.{end_itself, end_on, sign_end}
+use Rattle.plir_read.proofs.OpEnds.{block_head_end, header_end, start_end, op_end, block_end, semicolon_end, brace_end}
 use Rattle.plir_read.proofs.OpSteps.{from_start, ReadsOn-from, bodied_behind, constant_reads, no_start, no_head, no_body, bodied_read, no_operations, operations, no_block_head, no_block, block_read, no_brace, no_blocks_inside, blocks}
 use Rattle.plir_read.proofs.TreesInOrder.{none_in_order, root_in_order, op_in_order}
+use Rattle.plir_read.proofs.TypesNamed.{named_itself, named_still, behind_named, inside_named, so_far_on, so_far_next}
 use Rattle.plir_read.proofs.ops.+ops.Goals as goal
 
 -- ---- a block
@@ -59,6 +62,19 @@ read_block-returns-in-Err-clause-read g t c =
     let h = c.in_ok-head.ensures.read in
     no_block (op_at c.args.levels) c.args.levels c.in-Err.stop _ h.0.0 _ (behind_is _ h.0 c.in_ok-head.rest.now h.1 h.2.1) c.in-Err.ensures.read
 
+pub read_block-returns-in_err-block-clause-named : goal.read_block-returns-in_err-block-clause-named
+read_block-returns-in_err-block-clause-named g t c = named_still _ _ _ _ c.in_err-block.ensures.types c.in_ok-head.ensures.named
+
+pub read_block-returns-in-Ok-clause-named : goal.read_block-returns-in-Ok-clause-named
+read_block-returns-in-Ok-clause-named g t c =
+    let h = c.in_ok-head.ensures.read in
+    inside_named _ _ _ _ _ _ (block_head_end c.args.levels c.args.bytes.now h.0.0 c.in_ok-head.rest.now (behind_is _ h.0 c.in_ok-head.rest.now h.1 h.2.1)) c.in_ok-head.ensures.named c.in_ok-block.ensures.made.types c.in-Ok.ensures.kept.types c.in-Ok.ensures.named
+
+pub read_block-returns-in-Err-clause-named : goal.read_block-returns-in-Err-clause-named
+read_block-returns-in-Err-clause-named g t c =
+    let h = c.in_ok-head.ensures.read in
+    inside_named _ _ _ _ _ _ (block_head_end c.args.levels c.args.bytes.now h.0.0 c.in_ok-head.rest.now (behind_is _ h.0 c.in_ok-head.rest.now h.1 h.2.1)) c.in_ok-head.ensures.named c.in_ok-block.ensures.made.types c.in-Err.ensures.kept.types c.in-Err.ensures.named
+
 -- ---- the blocks of a region
 
 pub read_body-returns-in_err-start-clause-read : goal.read_body-returns-in_err-start-clause-read
@@ -79,30 +95,36 @@ pub read_body-returns-in-Some-clause-kept : goal.read_body-returns-in-Some-claus
 read_body-returns-in-Some-clause-kept g t c = KeepsBut-itself _ _
 
 pub read_body-inner-init : goal.read_body-inner-init
-read_body-inner-init g t c = record {
-  live = c.requires.live;
-  grown = IsGrown-itself _ _;
-  types = Grows-itself _;
-  whole = c.num_live-before.ensures.whole;
-  in_order = none_in_order c.args.ctx.now (Region c.args.region) c.requires.empty;
-  front = [];
-  stand = c.requires.empty;
-  turns = from_start brace_at (block_at (op_at c.args.levels) c.args.levels) c.in_ok-start.start.now _ (blocks (op_at c.args.levels) c.args.levels _ _ c.in_ok-start.ensures (sym c.in_default.ensures));
-}
+read_body-inner-init g t c = (
+  record {
+    live = c.requires.live;
+    grown = IsGrown-itself _ _;
+    types = Grows-itself _;
+    whole = c.num_live-before.ensures.whole;
+    in_order = none_in_order c.args.ctx.now (Region c.args.region) c.requires.empty;
+    front = [];
+    stand = c.requires.empty;
+    turns = from_start brace_at (block_at (op_at c.args.levels) c.args.levels) c.in_ok-start.start.now _ (blocks (op_at c.args.levels) c.args.levels _ _ c.in_ok-start.ensures (sym c.in_default.ensures));
+  },
+  record { named = named_itself _ _; behind = sign_end 123 _ _ c.in_ok-start.ensures },
+)
 
 pub read_body-returns-in-Err-clause-read : goal.read_body-returns-in-Err-clause-read
-read_body-returns-in-Err-clause-read g t c = gathered.not_read _ _ _ _ _ _ _ _ _ _ _ _ _ c.in-Err.stop c.inner.invariant c.in-Err.ensures.read
+read_body-returns-in-Err-clause-read g t c = gathered.not_read _ _ _ _ _ _ _ _ _ _ _ _ _ c.in-Err.stop c.inner.invariant.0 c.in-Err.ensures.read
+
+pub read_body-returns-in-Err-clause-named : goal.read_body-returns-in-Err-clause-named
+read_body-returns-in-Err-clause-named g t c = so_far_on _ _ _ _ _ c.inner.invariant.1 c.in-Err.ensures.kept.types c.in-Err.ensures.named
 
 pub read_body-returns-in-Err-clause-kept : goal.read_body-returns-in-Err-clause-kept
-read_body-returns-in-Err-clause-kept g t c = gathered.not_one _ _ _ _ _ _ _ _ _ _ _ _ _ _ c.inner.invariant c.in-Err.ensures.kept
+read_body-returns-in-Err-clause-kept g t c = gathered.not_one _ _ _ _ _ _ _ _ _ _ _ _ _ _ c.inner.invariant.0 c.in-Err.ensures.kept
 
 pub read_body-insert_at_back-requires-clause-target_live : goal.read_body-insert_at_back-requires-clause-target_live
 read_body-insert_at_back-requires-clause-target_live g t c =
-    let i = c.inner.invariant in
+    let i = c.inner.invariant.0 in
     c.in-Ok.ensures.kept.keeps.live (Region c.args.region) (i.grown.keeps.live (Region c.args.region) i.live)
 
 pub read_body-insert_at_back-requires-clause-not_above : goal.read_body-insert_at_back-requires-clause-not_above
-read_body-insert_at_back-requires-clause-not_above g t c = gathered.unlinked_apart _ _ _ _ _ _ _ _ c.args.ctx.now c.inner.ctx c.read_block.new.ctx (Region c.args.region) (BasicBlock c.in-Ok.read.0) _ _ c.inner.invariant c.in-Ok.ensures.made
+read_body-insert_at_back-requires-clause-not_above g t c = gathered.unlinked_apart _ _ _ _ _ _ _ _ c.args.ctx.now c.inner.ctx c.read_block.new.ctx (Region c.args.region) (BasicBlock c.in-Ok.read.0) _ _ c.inner.invariant.0 c.in-Ok.ensures.made
 
 pub read_body-inner-smaller : goal.read_body-inner-smaller
 read_body-inner-smaller g t c =
@@ -112,17 +134,18 @@ read_body-inner-smaller g t c =
 pub read_body-inner-preserved : goal.read_body-inner-preserved
 read_body-inner-preserved g t c =
     let y = c.in-Ok.ensures.read in
-    gathered.one_more _ _ _ _ _ _ _ _ c.contexts_stand.ensures c.args.ctx.now c.inner.ctx c.read_block.new.ctx c.insert_at_back.new.ctx (Region c.args.region) (BasicBlock c.in-Ok.read.0) y.0.0 c.inner.rest.now c.in-Ok.read.1.now c.past_brace-goes_on.result.1.now _ c.growth.ensures c.growth-in-inner.ensures c.inner.invariant
+    let gathers = gathered.one_more _ _ _ _ _ _ _ _ c.contexts_stand.ensures c.args.ctx.now c.inner.ctx c.read_block.new.ctx c.insert_at_back.new.ctx (Region c.args.region) (BasicBlock c.in-Ok.read.0) y.0.0 c.inner.rest.now c.in-Ok.read.1.now c.past_brace-goes_on.result.1.now _ c.growth.ensures c.growth-in-inner.ensures c.inner.invariant.0
     (record { made = c.in-Ok.ensures.made; in_order = c.in-Ok.ensures.slots; kept = c.in-Ok.ensures.kept; stands = y.2.0; there = c.in-Ok.ensures.whole; placed = c.insert_at_back.ensures.placed; types = ap (λ z. z.types) c.insert_at_back.ensures.after })
-    c.insert_at_back.ensures.whole (behind_is _ y.0 c.in-Ok.read.1.now y.1 y.2.1) (c.past_brace-goes_on.ensures ∙ ap (λ b. Ok (b, c.past_brace-goes_on.result.1.now)) c.if-goes_on.true) (read_body-inner-smaller g t c)
+    c.insert_at_back.ensures.whole (behind_is _ y.0 c.in-Ok.read.1.now y.1 y.2.1) (c.past_brace-goes_on.ensures ∙ ap (λ b. Ok (b, c.past_brace-goes_on.result.1.now)) c.if-goes_on.true) (read_body-inner-smaller g t c) in
+    (gathers, so_far_next _ _ _ _ _ _ _ c.inner.invariant.1 c.in-Ok.ensures.kept.types c.in-Ok.ensures.named (ap (λ z. z.types) c.insert_at_back.ensures.after) (end_on _ _ _ (block_end c.args.levels c.inner.rest.now y.0.0 c.in-Ok.read.1.now (behind_is _ y.0 c.in-Ok.read.1.now y.1 y.2.1)) (brace_end _ _ _ c.past_brace-goes_on.ensures)))
 
 pub read_body-returns-else-goes_on : goal.read_body-returns-else-goes_on
 read_body-returns-else-goes_on g t c =
     let y = c.in-Ok.ensures.read in
-    let r = gathered.last_one _ _ _ _ _ _ _ _ c.contexts_stand.ensures c.args.ctx.now c.inner.ctx c.read_block.new.ctx c.insert_at_back.new.ctx (Region c.args.region) (BasicBlock c.in-Ok.read.0) y.0.0 c.inner.rest.now c.in-Ok.read.1.now c.past_brace-goes_on.result.1.now _ c.growth.ensures c.growth-in-inner.ensures c.inner.invariant
+    let r = gathered.last_one _ _ _ _ _ _ _ _ c.contexts_stand.ensures c.args.ctx.now c.inner.ctx c.read_block.new.ctx c.insert_at_back.new.ctx (Region c.args.region) (BasicBlock c.in-Ok.read.0) y.0.0 c.inner.rest.now c.in-Ok.read.1.now c.past_brace-goes_on.result.1.now _ c.growth.ensures c.growth-in-inner.ensures c.inner.invariant.0
     (record { made = c.in-Ok.ensures.made; in_order = c.in-Ok.ensures.slots; kept = c.in-Ok.ensures.kept; stands = y.2.0; there = c.in-Ok.ensures.whole; placed = c.insert_at_back.ensures.placed; types = ap (λ z. z.types) c.insert_at_back.ensures.after })
     (behind_is _ y.0 c.in-Ok.read.1.now y.1 y.2.1) (c.past_brace-goes_on.ensures ∙ ap (λ b. Ok (b, c.past_brace-goes_on.result.1.now)) c.if-goes_on.false) in
-    record { read = ((r.all, c.past_brace-goes_on.result.1.now), r.gives, (r.stand, refl)); grown = r.grown; slots = r.in_order; kept = r.kept; whole = c.insert_at_back.ensures.whole }
+    record { read = ((r.all, c.past_brace-goes_on.result.1.now), r.gives, (r.stand, refl)); grown = r.grown; slots = r.in_order; kept = r.kept; named = named_still _ _ _ _ (ap (λ z. z.types) c.insert_at_back.ensures.after) (so_far_on _ _ _ _ _ c.inner.invariant.1 c.in-Ok.ensures.kept.types c.in-Ok.ensures.named); whole = c.insert_at_back.ensures.whole }
 
 -- ---- the operations of a block
 
@@ -136,30 +159,36 @@ pub read_ops-returns-then-ends_block-clause-kept : goal.read_ops-returns-then-en
 read_ops-returns-then-ends_block-clause-kept g t c = KeepsBut-itself _ _
 
 pub read_ops-ops-init : goal.read_ops-ops-init
-read_ops-ops-init g t c = record {
-  live = c.requires.live;
-  grown = IsGrown-itself _ _;
-  types = Grows-itself _;
-  whole = c.num_live-before.ensures.whole;
-  in_order = none_in_order c.args.ctx.now (BasicBlock c.args.block) c.requires.empty;
-  front = [];
-  stand = c.requires.empty;
-  turns = from_start semicolon_at (op_at c.args.levels) c.args.bytes.now _ (operations (op_at c.args.levels) _ (sym c.ends_block.ensures ∙ c.if-ends_block.false));
-}
+read_ops-ops-init g t c = (
+  record {
+    live = c.requires.live;
+    grown = IsGrown-itself _ _;
+    types = Grows-itself _;
+    whole = c.num_live-before.ensures.whole;
+    in_order = none_in_order c.args.ctx.now (BasicBlock c.args.block) c.requires.empty;
+    front = [];
+    stand = c.requires.empty;
+    turns = from_start semicolon_at (op_at c.args.levels) c.args.bytes.now _ (operations (op_at c.args.levels) _ (sym c.ends_block.ensures ∙ c.if-ends_block.false));
+  },
+  record { named = named_itself _ _; behind = end_itself _ },
+)
 
 pub read_ops-returns-in-Err-clause-read : goal.read_ops-returns-in-Err-clause-read
-read_ops-returns-in-Err-clause-read g t c = gathered.not_read _ _ _ _ _ _ _ _ _ _ _ _ _ c.in-Err.stop c.ops.invariant c.in-Err.ensures.read
+read_ops-returns-in-Err-clause-read g t c = gathered.not_read _ _ _ _ _ _ _ _ _ _ _ _ _ c.in-Err.stop c.ops.invariant.0 c.in-Err.ensures.read
+
+pub read_ops-returns-in-Err-clause-named : goal.read_ops-returns-in-Err-clause-named
+read_ops-returns-in-Err-clause-named g t c = so_far_on _ _ _ _ _ c.ops.invariant.1 c.in-Err.ensures.kept.types c.in-Err.ensures.named
 
 pub read_ops-returns-in-Err-clause-kept : goal.read_ops-returns-in-Err-clause-kept
-read_ops-returns-in-Err-clause-kept g t c = gathered.not_one _ _ _ _ _ _ _ _ _ _ _ _ _ _ c.ops.invariant c.in-Err.ensures.kept
+read_ops-returns-in-Err-clause-kept g t c = gathered.not_one _ _ _ _ _ _ _ _ _ _ _ _ _ _ c.ops.invariant.0 c.in-Err.ensures.kept
 
 pub read_ops-insert_at_back-requires-clause-target_live : goal.read_ops-insert_at_back-requires-clause-target_live
 read_ops-insert_at_back-requires-clause-target_live g t c =
-    let i = c.ops.invariant in
+    let i = c.ops.invariant.0 in
     c.in-Ok.ensures.kept.keeps.live (BasicBlock c.args.block) (i.grown.keeps.live (BasicBlock c.args.block) i.live)
 
 pub read_ops-insert_at_back-requires-clause-not_above : goal.read_ops-insert_at_back-requires-clause-not_above
-read_ops-insert_at_back-requires-clause-not_above g t c = gathered.unlinked_apart _ _ _ _ _ _ _ _ c.args.ctx.now c.ops.ctx c.read_op_at.new.ctx (BasicBlock c.args.block) (Operation c.in-Ok.read.0) _ _ c.ops.invariant c.in-Ok.ensures.made
+read_ops-insert_at_back-requires-clause-not_above g t c = gathered.unlinked_apart _ _ _ _ _ _ _ _ c.args.ctx.now c.ops.ctx c.read_op_at.new.ctx (BasicBlock c.args.block) (Operation c.in-Ok.read.0) _ _ c.ops.invariant.0 c.in-Ok.ensures.made
 
 pub read_ops-ops-smaller : goal.read_ops-ops-smaller
 read_ops-ops-smaller g t c =
@@ -169,17 +198,18 @@ read_ops-ops-smaller g t c =
 pub read_ops-ops-preserved : goal.read_ops-ops-preserved
 read_ops-ops-preserved g t c =
     let y = c.in-Ok.ensures.read in
-    gathered.one_more _ _ _ _ _ _ _ _ c.contexts_stand.ensures c.args.ctx.now c.ops.ctx c.read_op_at.new.ctx c.insert_at_back.new.ctx (BasicBlock c.args.block) (Operation c.in-Ok.read.0) y.0.0 c.ops.rest.now c.in-Ok.read.1.now c.past_semicolon-goes_on.result.1.now _ c.growth.ensures c.growth-in-ops.ensures c.ops.invariant
+    let gathers = gathered.one_more _ _ _ _ _ _ _ _ c.contexts_stand.ensures c.args.ctx.now c.ops.ctx c.read_op_at.new.ctx c.insert_at_back.new.ctx (BasicBlock c.args.block) (Operation c.in-Ok.read.0) y.0.0 c.ops.rest.now c.in-Ok.read.1.now c.past_semicolon-goes_on.result.1.now _ c.growth.ensures c.growth-in-ops.ensures c.ops.invariant.0
     (record { made = c.in-Ok.ensures.made; in_order = c.in-Ok.ensures.slots; kept = c.in-Ok.ensures.kept; stands = y.2.0; there = c.in-Ok.ensures.whole; placed = c.insert_at_back.ensures.placed; types = ap (λ z. z.types) c.insert_at_back.ensures.after })
-    c.insert_at_back.ensures.whole (behind_is _ y.0 c.in-Ok.read.1.now y.1 y.2.1) (c.past_semicolon-goes_on.ensures ∙ ap (λ b. Ok (b, c.past_semicolon-goes_on.result.1.now)) c.if-goes_on.true) (read_ops-ops-smaller g t c)
+    c.insert_at_back.ensures.whole (behind_is _ y.0 c.in-Ok.read.1.now y.1 y.2.1) (c.past_semicolon-goes_on.ensures ∙ ap (λ b. Ok (b, c.past_semicolon-goes_on.result.1.now)) c.if-goes_on.true) (read_ops-ops-smaller g t c) in
+    (gathers, so_far_next _ _ _ _ _ _ _ c.ops.invariant.1 c.in-Ok.ensures.kept.types c.in-Ok.ensures.named (ap (λ z. z.types) c.insert_at_back.ensures.after) (end_on _ _ _ (op_end c.args.levels c.ops.rest.now y.0.0 c.in-Ok.read.1.now (behind_is _ y.0 c.in-Ok.read.1.now y.1 y.2.1)) (semicolon_end _ _ _ c.past_semicolon-goes_on.ensures)))
 
 pub read_ops-returns-else-goes_on : goal.read_ops-returns-else-goes_on
 read_ops-returns-else-goes_on g t c =
     let y = c.in-Ok.ensures.read in
-    let r = gathered.last_one _ _ _ _ _ _ _ _ c.contexts_stand.ensures c.args.ctx.now c.ops.ctx c.read_op_at.new.ctx c.insert_at_back.new.ctx (BasicBlock c.args.block) (Operation c.in-Ok.read.0) y.0.0 c.ops.rest.now c.in-Ok.read.1.now c.past_semicolon-goes_on.result.1.now _ c.growth.ensures c.growth-in-ops.ensures c.ops.invariant
+    let r = gathered.last_one _ _ _ _ _ _ _ _ c.contexts_stand.ensures c.args.ctx.now c.ops.ctx c.read_op_at.new.ctx c.insert_at_back.new.ctx (BasicBlock c.args.block) (Operation c.in-Ok.read.0) y.0.0 c.ops.rest.now c.in-Ok.read.1.now c.past_semicolon-goes_on.result.1.now _ c.growth.ensures c.growth-in-ops.ensures c.ops.invariant.0
     (record { made = c.in-Ok.ensures.made; in_order = c.in-Ok.ensures.slots; kept = c.in-Ok.ensures.kept; stands = y.2.0; there = c.in-Ok.ensures.whole; placed = c.insert_at_back.ensures.placed; types = ap (λ z. z.types) c.insert_at_back.ensures.after })
     (behind_is _ y.0 c.in-Ok.read.1.now y.1 y.2.1) (c.past_semicolon-goes_on.ensures ∙ ap (λ b. Ok (b, c.past_semicolon-goes_on.result.1.now)) c.if-goes_on.false) in
-    record { read = ((r.all, c.past_semicolon-goes_on.result.1.now), r.gives, (r.stand, refl)); grown = r.grown; slots = r.in_order; kept = r.kept; whole = c.insert_at_back.ensures.whole }
+    record { read = ((r.all, c.past_semicolon-goes_on.result.1.now), r.gives, (r.stand, refl)); grown = r.grown; slots = r.in_order; kept = r.kept; named = named_still _ _ _ _ (ap (λ z. z.types) c.insert_at_back.ensures.after) (so_far_on _ _ _ _ _ c.ops.invariant.1 c.in-Ok.ensures.kept.types c.in-Ok.ensures.named); whole = c.insert_at_back.ensures.whole }
 
 -- ---- a module or a function
 
@@ -236,6 +266,19 @@ read_bodied-returns-in-Err-clause-read g t c =
     let h = c.in_ok-header.ensures.read in
     no_body (op_at c.args.levels) c.args.levels c.args.kind c.args.names c.in-Err.stop _ c.args.bytes.now _ h.0.0 c.in_ok-expect_names.ensures (behind_is _ h.0 c.in_ok-header.behind.now h.1 h.2.1) c.in-Err.ensures.read
 
+pub read_bodied-returns-in_err-op-clause-named : goal.read_bodied-returns-in_err-op-clause-named
+read_bodied-returns-in_err-op-clause-named g t c = named_still _ _ _ _ c.in_err-op.ensures.types c.in_ok-header.ensures.named
+
+pub read_bodied-returns-in-Ok-clause-named : goal.read_bodied-returns-in-Ok-clause-named
+read_bodied-returns-in-Ok-clause-named g t c =
+    let h = c.in_ok-header.ensures.read in
+    inside_named _ _ _ _ _ _ (header_end c.args.levels c.args.kind c.args.bytes.now h.0.0 c.in_ok-header.behind.now (behind_is _ h.0 c.in_ok-header.behind.now h.1 h.2.1)) c.in_ok-header.ensures.named c.in_ok-op.ensures.made.types c.in-Ok.ensures.kept.types c.in-Ok.ensures.named
+
+pub read_bodied-returns-in-Err-clause-named : goal.read_bodied-returns-in-Err-clause-named
+read_bodied-returns-in-Err-clause-named g t c =
+    let h = c.in_ok-header.ensures.read in
+    inside_named _ _ _ _ _ _ (header_end c.args.levels c.args.kind c.args.bytes.now h.0.0 c.in_ok-header.behind.now (behind_is _ h.0 c.in_ok-header.behind.now h.1 h.2.1)) c.in_ok-header.ensures.named c.in_ok-op.ensures.made.types c.in-Err.ensures.kept.types c.in-Err.ensures.named
+
 -- ---- an operation
 
 pub read_op_at-returns-in_err-opening-clause-kept : goal.read_op_at-returns-in_err-opening-clause-kept
@@ -262,6 +305,16 @@ read_op_at-returns-in-Constant-clause-read g t c =
     let y = c.in_ok-opening.ensures in
     let start = behind_is _ y.0 c.in_ok-opening.rest.now y.1 y.2.1 in
     constant_reads _ (λ x. Operation x.0) (λ x. x.1.now) c.args.levels c.args.bytes.now c.in_ok-opening.rest.now y.0.0.0 c.in_ok-opening.opening.names.items y.2.0.names c.read_constant.result y.0.0.1 (omega (arith, c.if-levels-eq0.false)) start (sym y.2.0.kind ∙ c.in-Constant.is) c.read_constant.ensures.read
+
+pub read_op_at-returns-in-Bodied-clause-named : goal.read_op_at-returns-in-Bodied-clause-named
+read_op_at-returns-in-Bodied-clause-named g t c =
+    let y = c.in_ok-opening.ensures in
+    behind_named _ _ _ _ (start_end c.args.bytes.now y.0.0 c.in_ok-opening.rest.now (behind_is _ y.0 c.in_ok-opening.rest.now y.1 y.2.1)) c.read_bodied.ensures.named
+
+pub read_op_at-returns-in-Constant-clause-named : goal.read_op_at-returns-in-Constant-clause-named
+read_op_at-returns-in-Constant-clause-named g t c =
+    let y = c.in_ok-opening.ensures in
+    behind_named _ _ _ _ (start_end c.args.bytes.now y.0.0 c.in_ok-opening.rest.now (behind_is _ y.0 c.in_ok-opening.rest.now y.1 y.2.1)) c.read_constant.ensures.named
 
 pub read_op_at-returns-clause-kept : goal.read_op_at-returns-clause-kept
 read_op_at-returns-clause-kept g t c = KeepsBut-itself _ None

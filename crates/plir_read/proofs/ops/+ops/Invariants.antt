@@ -2,6 +2,7 @@ use Rattle.std.proofs.Common.{◌+◌, ◌*◌, length}
 use Rattle.plir_core.specs.declared.ptr.IRNode.TheVariants.{Region, BasicBlock}
 use Rattle.plir_read.specs.OpReading.{op_at, ops_at, blocks_at}
 use Rattle.plir_read.proofs.Loops.{OpsGather, BlocksGather}
+use Rattle.plir_read.proofs.TypesNamed.{AreNamedSoFar}
 use Rattle.plir_read.proofs.ops.+ops.Given as goal
 
 abbrev pub decreases-read_op_at : goal.decreases-read_op_at
@@ -26,7 +27,7 @@ abbrev pub decreases-read_body-inner : goal.decreases-read_body-inner
 decreases-read_body-inner g l = length l.rest
 
 abbrev pub invariant-read_ops-ops : goal.invariant-read_ops-ops
-invariant-read_ops-ops g l = OpsGather g.D.OpSet.attr_handles (op_at l.levels) l.initial.ctx l.ctx (BasicBlock l.block) l.rest (ops_at (op_at l.levels) l.bytes)
+invariant-read_ops-ops g l = OpsGather g.D.OpSet.attr_handles (op_at l.levels) l.initial.ctx l.ctx (BasicBlock l.block) l.rest (ops_at (op_at l.levels) l.bytes) × AreNamedSoFar l.bytes l.initial.ctx.types l.ctx.types l.rest
 
 abbrev pub invariant-read_body-inner : goal.invariant-read_body-inner
-invariant-read_body-inner g l = BlocksGather g.D.OpSet.attr_handles (op_at l.levels) l.levels l.initial.ctx l.ctx (Region l.region) l.rest (blocks_at (op_at l.levels) l.levels l.bytes)
+invariant-read_body-inner g l = BlocksGather g.D.OpSet.attr_handles (op_at l.levels) l.levels l.initial.ctx l.ctx (Region l.region) l.rest (blocks_at (op_at l.levels) l.levels l.bytes) × AreNamedSoFar l.bytes l.initial.ctx.types l.ctx.types l.rest

@@ -1,7 +1,8 @@
-use Rattle.std.proofs.Common.{ap, sym, ◌∙◌}
+use Rattle.std.proofs.Common.{[], ap, sym, ◌∙◌}
 use Rattle.plir_text.specs.Wholes.{whole}
 use Rattle.plir_read.specs.OpReading.{op_at}
 use Rattle.plir_read.proofs.OpWhole.{told, op_text_found, op_text_refused}
+use Rattle.plir_read.proofs.TypesNamed.{behind_named}
 use Rattle.plir_read.proofs.reader.read_op.Goals as goal
 
 pub returns-in-Ok-clause-found : goal.returns-in-Ok-clause-found
@@ -14,3 +15,9 @@ returns-in-Err-clause-fault g c = λ is. ap (whole (op_at 200)) (sym c.as_bytes-
 
 pub returns-in-Err-clause-refused : goal.returns-in-Err-clause-refused
 returns-in-Err-clause-refused g c = λ is w s. op_text_refused 200 _ _ (returns-in-Err-clause-fault g c is) w s
+
+pub returns-in-Ok-clause-named : goal.returns-in-Ok-clause-named
+returns-in-Ok-clause-named g c = behind_named _ _ _ _ ([], sym c.as_bytes-bytes.ensures.value) c.in-Ok.ensures.named
+
+pub returns-in-Err-clause-named : goal.returns-in-Err-clause-named
+returns-in-Err-clause-named g c = behind_named _ _ _ _ ([], sym c.as_bytes-bytes.ensures.value) c.in-Err.ensures.named
