@@ -13,8 +13,10 @@ macro_rules! again {
     };
 }
 
-mod attributes;
-mod dictionaries;
+mod conversions;
+mod entries;
 mod numbers;
+mod own;
+mod scripts;
 mod types;
-mod validity;
+mod values;

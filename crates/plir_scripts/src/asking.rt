@@ -6,6 +6,7 @@ ghost use Rattle.plir_core.specs.declared.ptr.IRNode.{IRNode as AnyNode};
 
 use crate::answer::Answer;
 use crate::bench::Bench;
+use crate::in_context::{InContext, in_new_context};
 use crate::line::{Line, number};
 use crate::made::Made;
 use crate::showing::{put_attr, put_type, show};
@@ -20,38 +21,70 @@ use std::alloc::Global;
 /// Writes what a line asks for: `fresh`, `show NODE`, `get NODE KEY`, `live NODE`, `count`, `number NODE`, `above NODE NODE`,
 /// `unused NODE`, `interfaces OP`, `point SIDE NODE`, `use OP PLACE`, `text TYPE`, `typed VALUE` or `types NODE`.
 pub fn ask<D: OpSet>(bench: &mut Bench<D>, line: Line<'_>) -> Result<(), Stop> {
-    let (alloc, ctx, made, answer) = (bench.alloc, &bench.ctx, &bench.made, &mut bench.answer);
     match line.command {
-        "fresh" => fresh::<D>(alloc, answer),
-        "show" => show(alloc, ctx, made, answer, made.live(ctx, line.first)?),
-        "get" => get(alloc, ctx, made, answer, line)?,
+        "text" | "typed" | "types" => ask_types(bench, line),
+        "get" | "interfaces" | "point" | "use" => ask_contents(bench, line),
+        _ => ask_node(bench, line),
+    }
+}
+
+// What stands where, and whether a node is there.
+fn ask_node<D: OpSet>(bench: &mut Bench<D>, line: Line<'_>) -> Result<(), Stop> {
+    let (ctx, made, answer) = (&bench.ctx, &bench.made, &mut bench.answer);
+    match line.command {
+        "fresh" => fresh::<D>(bench.alloc, answer),
+        "show" => show(bench.alloc, ctx, made, answer, made.live(ctx, line.first)?),
         "live" => answer.put_truth(made.node(line.first)?.is_live(ctx)),
         "count" => answer.put_number(ctx.num_live() as usize),
         "number" => put_pointer(answer, made.node(line.first)?),
         "above" => above(ctx, made, answer, line)?,
         "unused" => answer.put_truth(made.live(ctx, line.first)?.is_unused_outside(ctx)),
-        "interfaces" => interfaces(ctx, answer, made.op(ctx, line.first)?)?,
-        "point" => made.put_block(answer, point(ctx, made, line)?.get_insertion_block(ctx)),
-        "use" => show_use(ctx, made, answer, line)?,
-        "text" => put_type(alloc, ctx, answer, made.type_named(ctx, line.first)?),
-        "typed" => put_type(
-            alloc,
-            ctx,
-            answer,
-            made.value(ctx, line.first)?.get_type(ctx),
-        ),
-        "types" => types(alloc, ctx, made, answer, line)?,
         _ => return Err(Stop::Refused),
     }
     Ok(())
 }
 
-// How many nodes new contexts hold, and how many names a new list of names.
+// What a node holds, and where one would be inserted.
+fn ask_contents<D: OpSet>(bench: &mut Bench<D>, line: Line<'_>) -> Result<(), Stop> {
+    let (ctx, made, answer) = (&bench.ctx, &bench.made, &mut bench.answer);
+    match line.command {
+        "get" => get(bench.alloc, ctx, made, answer, line),
+        "interfaces" => interfaces(ctx, answer, made.op(ctx, line.first)?),
+        "use" => show_use(ctx, made, answer, line),
+        _ => {
+            made.put_block(answer, point(ctx, made, line)?.get_insertion_block(ctx));
+            Ok(())
+        }
+    }
+}
+
+// The texts of types: of one that is named, of that of a value, or of those of all values of a node.
+fn ask_types<D: OpSet>(bench: &mut Bench<D>, line: Line<'_>) -> Result<(), Stop> {
+    let (ctx, made, answer) = (&bench.ctx, &bench.made, &mut bench.answer);
+    let handle = match line.command {
+        "text" => made.type_named(ctx, line.first)?,
+        "typed" => made.value(ctx, line.first)?.get_type(ctx),
+        _ => return types(bench.alloc, ctx, made, answer, line),
+    };
+    put_type(bench.alloc, ctx, answer, handle);
+    Ok(())
+}
+
+// Counts the live nodes of a context.
+#[derive(Drop)]
+struct CountsLive;
+
+impl<D: OpSet> InContext<D> for CountsLive {
+    type Answer = u32;
+
+    fn run(self, ctx: &mut Context<D>) -> u32 {
+        ctx.num_live()
+    }
+}
+
+// How many nodes a new context holds, and how many names a new list of names.
 fn fresh<D: OpSet>(alloc: Global, answer: &mut Answer) {
-    let (any, few) = (Context::<D>::new(alloc), Context::<D>::with_limit(alloc, 3));
-    answer.put_number(any.num_live() as usize);
-    answer.put(" ");
-    answer.put_number(few.num_live() as usize);
+    answer.put_number(in_new_context::<D, _>(alloc, CountsLive) as usize);
     answer.put(" ");
     answer.put_number(GivenNamesAttr::new(alloc).names().len());
 }

@@ -154,9 +154,8 @@ impl<D: OpSet> Bench<D> {
         script: &str,
         count: usize,
     ) -> Result<(), Mismatch> {
-        let mut other: Bench<D> = Bench::new(self.alloc, max_nodes);
-        other.run_lines::<L>(script, count)?;
-        if self.state().is_same(&other.state())? {
+        let after = state_after::<D, L>(self.alloc, max_nodes, script, count)?;
+        if self.state().is_same(&after)? {
             Ok(())
         } else {
             Err(Mismatch::Nodes)
@@ -172,6 +171,12 @@ impl<D: OpSet> Bench<D> {
             }
         }
         Ok(())
+    }
+
+    // What the getters answer after so many lines of a script.
+    fn state_after<L: Layer<D>>(&mut self, script: &str, count: usize) -> Result<Answer, Stop> {
+        self.run_lines::<L>(script, count)?;
+        Ok(self.state())
     }
 
     // What the getters answer of all nodes that the script has made.
@@ -212,6 +217,18 @@ pub fn play<D: OpSet, L: Layer<D>>(
 ) -> Result<(), Mismatch> {
     let mut bench: Bench<D> = Bench::new(alloc, max_nodes);
     bench.play::<L>(max_nodes, script)
+}
+
+// What the getters answer after so many lines of a script in a new bench. A function that owns a bench takes long to prove, the
+// more ways out it has: so this one and `play` have one each.
+fn state_after<D: OpSet, L: Layer<D>>(
+    alloc: Global,
+    max_nodes: u32,
+    script: &str,
+    count: usize,
+) -> Result<Answer, Stop> {
+    let mut bench: Bench<D> = Bench::new(alloc, max_nodes);
+    bench.state_after::<L>(script, count)
 }
 
 // The call and the answer of a line.

@@ -12,6 +12,7 @@ mod answer;
 mod asking;
 mod bench;
 mod contents;
+mod in_context;
 mod line;
 mod linking;
 mod made;
@@ -25,6 +26,7 @@ mod texts;
 
 pub use answer::Answer;
 pub use bench::{Bench, Layer, Mismatch, NodeCalls, play};
+pub use in_context::{InContext, in_new_context};
 pub use line::{Line, number, split_word};
 pub use made::Made;
 pub use making::{label_of, put_type_name};

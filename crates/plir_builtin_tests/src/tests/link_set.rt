@@ -18,7 +18,7 @@ use plir_data::{
     AttrObj, Identifier, IdentifierAttr, Location, Memory, OpSet, TypeHandle, TypeStore, VerifyErr,
 };
 use plir_iface::{OneRegionInterface, Op, SingleBlockRegionInterface};
-use plir_scripts::{ScriptSet, Stop};
+use plir_scripts::{InContext, ScriptSet, Stop, in_new_context};
 use std::alloc::Global;
 use thiserror::Error;
 
@@ -331,14 +331,26 @@ impl SymbolUserSet for LinkSet {
     }
 }
 
+// Makes an operation in a new context, and asks which names it uses.
+#[derive(Drop)]
+struct TellsItsName {
+    alloc: Global,
+}
+
+impl InContext<LinkSet> for TellsItsName {
+    type Answer = Result<bool, Stop>;
+
+    fn run(self, ctx: &mut Context<LinkSet>) -> Result<bool, Stop> {
+        tells_its_name(self.alloc, ctx)
+    }
+}
+
 #[test]
 fn an_operation_tells_the_name_that_it_uses_where_memory_is_refused(
     rt: HostRuntime,
 ) -> Result<(), Stop> {
     let alloc = rt.alloc();
-    let mut ctx: Context<LinkSet> = Context::new(alloc);
-    let told = tells_its_name(alloc, &mut ctx)?;
-    assert!(rt; told);
+    assert!(rt; in_new_context(alloc, TellsItsName { alloc })?);
     Ok(())
 }
 

@@ -13,7 +13,7 @@ use plir_builtin::{
 use plir_core::{BasicBlock, Context, IRNode, Operation, Ptr};
 use plir_data::{FunctionType, Identifier, OpSet};
 use plir_iface::{OneRegionInterface, Op, SingleBlockRegionInterface};
-use plir_scripts::Stop;
+use plir_scripts::{InContext, Stop, in_new_context};
 use std::alloc::Global;
 use std::fmt::Write;
 
@@ -297,12 +297,40 @@ fn random_rounds<D: OpSet>(
     Ok(Some(total))
 }
 
+// Does so in two new contexts.
+#[derive(Drop)]
+struct MakesRounds {
+    alloc: Global,
+}
+
+impl<D: OpSet> InContext<D> for MakesRounds {
+    type Answer = Result<Option<usize>, Stop>;
+
+    fn run(self, ctx: &mut Context<D>) -> Result<Option<usize>, Stop> {
+        let alloc = self.alloc;
+        in_new_context(alloc, MakesRoundsBeside { alloc, cached: ctx })
+    }
+}
+
+// Does so in a context and a new one.
+#[derive(Drop)]
+struct MakesRoundsBeside<'a, D: OpSet> {
+    alloc: Global,
+    cached: &'a mut Context<D>,
+}
+
+impl<D: OpSet> InContext<D> for MakesRoundsBeside<'_, D> {
+    type Answer = Result<Option<usize>, Stop>;
+
+    fn run(self, ctx: &mut Context<D>) -> Result<Option<usize>, Stop> {
+        random_rounds(self.alloc, self.cached, ctx)
+    }
+}
+
 #[test]
 fn random_edits_are_made_as_scans_say(rt: HostRuntime) -> Result<(), Stop> {
     let alloc = rt.alloc();
-    let mut cached: Context<LinkSet> = Context::new(alloc);
-    let mut plain: Context<LinkSet> = Context::new(alloc);
-    let made = random_rounds(alloc, &mut cached, &mut plain)?;
+    let made = in_new_context::<LinkSet, _>(alloc, MakesRounds { alloc })?;
     assert!(rt; 2500 < made.unwrap_or(0));
     Ok(())
 }
@@ -413,12 +441,25 @@ fn every_second(alloc: Global, ops: &[Ptr<Operation>]) -> Result<Vec<Ptr<Operati
     Ok(halves)
 }
 
+// Does so in a new context.
+#[derive(Drop)]
+struct ComesAndGoes {
+    alloc: Global,
+}
+
+impl<D: OpSet> InContext<D> for ComesAndGoes {
+    type Answer = Result<ComeAndGone, Stop>;
+
+    fn run(self, ctx: &mut Context<D>) -> Result<ComeAndGone, Stop> {
+        come_and_go(self.alloc, ctx)
+    }
+}
+
 #[test]
 fn a_thousand_symbols_come_and_go(rt: HostRuntime) -> Result<(), Stop> {
     let alloc = rt.alloc();
-    let mut ctx: Context<LinkSet> = Context::new(alloc);
-    let seen = come_and_go(alloc, &mut ctx)?;
-    assert_eq!(rt; (seen.inserted, seen.erased, seen.come), (1000, 500, 500));
+    let seen = in_new_context::<LinkSet, _>(alloc, ComesAndGoes { alloc })?;
+    assert!(rt; (seen.inserted, seen.erased, seen.come) == (1000, 500, 500));
     assert!(rt; are_odd(seen.left.as_slice()));
     assert!(rt; seen.all.iter().all(|is_found| *is_found));
     Ok(())

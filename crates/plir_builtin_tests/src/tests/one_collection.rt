@@ -8,7 +8,7 @@ use plir_builtin::{ModuleOp, SymbolEdit, SymbolTableCollection};
 use plir_core::{Context, Operation, Ptr};
 use plir_data::{Identifier, OpSet};
 use plir_iface::Op;
-use plir_scripts::Stop;
+use plir_scripts::{InContext, Stop, in_new_context};
 use std::alloc::Global;
 
 // Makes a module, and inserts it through a collection; answers whether it was inserted.
@@ -38,8 +38,11 @@ fn add_module<D: OpSet>(
     Ok(replies.iter().all(|reply| reply.is_ok()))
 }
 
-// Makes a module and inserts three into it, of which the third has the name of the first; answers which were inserted.
-fn fill<D: OpSet>(alloc: Global, ctx: &mut Context<D>) -> Result<(bool, bool, bool), Stop> {
+// Which of three modules were inserted into one, and how many nodes are live then.
+type Inserted = (bool, bool, bool, u32);
+
+// Makes a module and inserts three into it, of which the third has the name of the first.
+fn fill<D: OpSet>(alloc: Global, ctx: &mut Context<D>) -> Result<Inserted, Stop> {
     let root = ModuleOp::new(alloc, ctx, numbered(alloc, "m", 0)?)?;
     let root = Op::<D>::get_operation(&root);
     no_tables_agree(ctx);
@@ -47,14 +50,27 @@ fn fill<D: OpSet>(alloc: Global, ctx: &mut Context<D>) -> Result<(bool, bool, bo
     let first = add_module(alloc, ctx, &mut tables, root, numbered(alloc, "m", 1)?)?;
     let second = add_module(alloc, ctx, &mut tables, root, numbered(alloc, "m", 2)?)?;
     let third = add_module(alloc, ctx, &mut tables, root, numbered(alloc, "m", 1)?)?;
-    Ok((first, second, third))
+    Ok((first, second, third, ctx.num_live()))
+}
+
+// Does so in a new context.
+#[derive(Drop)]
+struct Fills {
+    alloc: Global,
+}
+
+impl<D: OpSet> InContext<D> for Fills {
+    type Answer = Result<Inserted, Stop>;
+
+    fn run(self, ctx: &mut Context<D>) -> Result<Inserted, Stop> {
+        fill(self.alloc, ctx)
+    }
 }
 
 #[test]
 fn one_collection_serves_while_modules_are_made(rt: HostRuntime) -> Result<(), Stop> {
     let alloc = rt.alloc();
-    let mut ctx: Context<LinkSet> = Context::new(alloc);
-    assert_eq!(rt; fill(alloc, &mut ctx)?, (true, true, false));
-    assert_eq!(rt; ctx.num_live(), 12);
+    let found = in_new_context::<LinkSet, _>(alloc, Fills { alloc })?;
+    assert!(rt; found == (true, true, false, 12));
     Ok(())
 }

@@ -5,7 +5,7 @@ ghost use Rattle.plir_core.specs.declared.ptr.IRNode.{IRNode as AnyNode};
 
 use plir_core::{BasicBlock, Context, IRNode, Operation, Ptr};
 use plir_data::{BuiltinSet, OpKind};
-use plir_scripts::Stop;
+use plir_scripts::{InContext, Stop, in_new_context};
 use std::alloc::Global;
 use std::test::Fail;
 
@@ -97,24 +97,52 @@ fn fill(
     Ok(module)
 }
 
+// Makes so many modules in one another, or so many operations in the block of one, in a new context, and erases the
+// outermost; answers how many nodes were live before that and after it.
+#[derive(Drop)]
+struct MakesAndErases {
+    alloc: Global,
+    is_nested: bool,
+    count: usize,
+}
+
+impl InContext<BuiltinSet> for MakesAndErases {
+    type Answer = Result<(u32, u32), Stop>;
+
+    fn run(self, ctx: &mut Context<BuiltinSet>) -> Result<(u32, u32), Stop> {
+        let outermost = if self.is_nested {
+            nest(self.alloc, ctx, self.count)?
+        } else {
+            fill(self.alloc, ctx, self.count)?
+        };
+        let made = ctx.num_live();
+        erase(ctx, outermost)?;
+        Ok((made, ctx.num_live()))
+    }
+}
+
 #[test]
 fn ten_thousand_modules_in_one_another(rt: HostRuntime) -> Result<(), Fail> {
     let alloc = rt.alloc();
-    let mut ctx = Context::new(alloc);
-    let outermost = nest(alloc, &mut ctx, 10_000)?;
-    assert_eq!(rt; ctx.num_live(), 30_000);
-    erase(&mut ctx, outermost)?;
-    assert_eq!(rt; ctx.num_live(), 0);
+    let task = MakesAndErases {
+        alloc,
+        is_nested: true,
+        count: 10_000,
+    };
+    let live = in_new_context(alloc, task)?;
+    assert!(rt; live == (30_000, 0));
     Ok(())
 }
 
 #[test]
 fn a_hundred_thousand_operations_in_a_block(rt: HostRuntime) -> Result<(), Fail> {
     let alloc = rt.alloc();
-    let mut ctx = Context::new(alloc);
-    let module = fill(alloc, &mut ctx, 100_000)?;
-    assert_eq!(rt; ctx.num_live(), 200_003);
-    erase(&mut ctx, module)?;
-    assert_eq!(rt; ctx.num_live(), 0);
+    let task = MakesAndErases {
+        alloc,
+        is_nested: false,
+        count: 100_000,
+    };
+    let live = in_new_context(alloc, task)?;
+    assert!(rt; live == (200_003, 0));
     Ok(())
 }

@@ -329,7 +329,7 @@ fn nodes_are_asked_linked_and_erased_while_all_memory_is_refused(
         set o1 a builtin.bool true
         set b0 a builtin.bool true
         refuse
-        fresh => 0 0 0
+        fresh => 0 0
         count => 13
         number b3 => block4v1
         back b0 r0

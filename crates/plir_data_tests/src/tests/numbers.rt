@@ -1,102 +1,79 @@
-//! Integers of some bits, and identifiers.
-
-use plir_data::{APInt, Identifier, IdentifierErr, is_identifier};
+//! The calls on integers of some bits, and on identifiers.
+use plir_data::{APInt, Identifier, OpSet, is_identifier};
+use plir_scripts::{Answer, Bench, Line, Stop, split_word};
 use std::alloc::Global;
-use std::process::Abort;
-use std::test::Fail;
 
-// The number without a sign, of a width that an integer may have.
-fn unsigned(value: u64, width: u32) -> Option<u64> {
-    Some(APInt::from_u64(value, width)?.to_u64())
+// The width in bits that a word is.
+fn width_of(word: &str) -> Result<u32, Stop> {
+    word.parse::<u32>().map_err(|_| Stop::Refused)
 }
 
-// The number with a sign.
-fn signed(value: i64, width: u32) -> Option<i64> {
-    Some(APInt::from_i64(value, width)?.to_i64())
+// The integer of a number without a sign, or of one with a sign.
+fn integer_of(is_signed: bool, value: &str, width: &str) -> Result<Option<APInt>, Stop> {
+    let width = width_of(width)?;
+    if is_signed {
+        let value = value.parse::<i64>().map_err(|_| Stop::Refused)?;
+        return Ok(APInt::from_i64(value, width));
+    }
+    let value = value.parse::<u64>().map_err(|_| Stop::Refused)?;
+    Ok(APInt::from_u64(value, width))
 }
 
-#[test]
-fn keeps_the_low_bits(rt: HostRuntime) {
-    assert_eq!(rt; unsigned(300, 8), Some(44));
-    assert_eq!(rt; unsigned(255, 8), Some(255));
-    assert_eq!(rt; unsigned(2, 1), Some(0));
-    assert_eq!(rt;
-        unsigned(18446744073709551615, 64),
-        Some(18446744073709551615)
-    );
-    assert_eq!(rt; signed(-128, 8), Some(-128));
-    assert_eq!(rt; signed(255, 8), Some(-1));
-    assert_eq!(rt; signed(-129, 8), Some(127));
-    assert_eq!(rt; signed(1, 1), Some(-1));
-}
-
-#[test]
-fn has_widths_from_1_to_64(rt: HostRuntime) {
-    assert!(rt; APInt::from_u64(300, 0).is_none());
-    assert!(rt; APInt::from_u64(0, 65).is_none());
-    assert!(rt; APInt::from_i64(-1, 0).is_none());
-    assert!(rt; APInt::from_i64(-1, 65).is_none());
-    assert!(rt; APInt::from_u64(1, 64).is_some_and(|n| n.bw() == 64));
-}
-
-#[test]
-fn differs_where_the_width_does(rt: HostRuntime) {
-    assert!(rt; APInt::from_u64(1, 8) == APInt::from_u64(257, 8));
-    assert!(rt; APInt::from_u64(1, 8) != APInt::from_u64(1, 9));
-    assert!(rt; APInt::from_u64(256, 8).is_some_and(|n| n.is_zero()));
-    assert!(rt; APInt::from_u64(256, 9).is_some_and(|n| !n.is_zero()));
-}
-
-// The digits of a number in a width are these, with a sign and without.
-fn has_digits(
-    rt: &impl Abort,
-    alloc: Global,
-    number: Option<APInt>,
-    with_sign: &str,
-    without: &str,
-) -> Result<(), Fail> {
-    let number = number.expect(rt, "a width from 1 to 64");
-    let digits = again!(number.to_string_decimal(alloc, true));
-    assert_eq!(rt; digits.as_str(), with_sign);
-    let digits = again!(number.to_string_decimal(alloc, false));
-    assert_eq!(rt; digits.as_str(), without);
+/// `unsigned VALUE WIDTH` or `signed VALUE WIDTH`: writes what is kept in so many bits, `none` where no integer has them.
+pub fn keep_bits<D: OpSet>(bench: &mut Bench<D>, line: Line<'_>) -> Result<(), Stop> {
+    let answer = &mut bench.answer;
+    match integer_of(line.command == "signed", line.first, line.second)? {
+        Some(kept) => put_bits(bench.alloc, answer, kept),
+        None => answer.put("none"),
+    }
     Ok(())
 }
 
-#[test]
-fn writes_digits_where_memory_is_refused(rt: HostRuntime) -> Result<(), Fail> {
-    let alloc = rt.alloc();
-    has_digits(&rt, alloc, APInt::from_i64(-1, 8), "-1", "255")?;
-    has_digits(&rt, alloc, APInt::from_i64(-128, 8), "-128", "128")?;
-    has_digits(&rt, alloc, APInt::from_u64(42, 64), "42", "42")?;
-    has_digits(&rt, alloc, APInt::from_u64(0, 1), "0", "0")?;
-    has_digits(
-        &rt,
-        alloc,
-        APInt::from_i64(-1, 64),
-        "-1",
-        "18446744073709551615",
-    )?;
+// Writes the width, the number read with a sign and without, each as a number and by its digits, and whether it is zero.
+fn put_bits(alloc: Global, answer: &mut Answer, kept: APInt) {
+    answer.put_shown(&kept.bw());
+    answer.put(" bits ");
+    answer.put_shown(&kept.to_i64());
+    answer.put(" ");
+    answer.put_shown(&kept.to_u64());
+    answer.put(", digits ");
+    answer.put_made(kept.to_string_decimal(alloc, true));
+    answer.put(" ");
+    answer.put_made(kept.to_string_decimal(alloc, false));
+    answer.put(if kept.is_zero() { ", zero" } else { "" });
+}
+
+/// `same-bits VALUE WIDTH VALUE WIDTH`: writes whether the two integers are equal.
+pub fn compare_bits<D: OpSet>(bench: &mut Bench<D>, line: Line<'_>) -> Result<(), Stop> {
+    let (value, width) = split_word(line.tail);
+    let one = integer_of(false, line.first, line.second)?;
+    let other = integer_of(false, value, width)?;
+    bench.answer.put_truth(one == other);
     Ok(())
 }
 
-#[test]
-fn tells_identifiers_where_memory_is_refused(rt: HostRuntime) -> Result<(), Fail> {
-    let alloc = rt.alloc();
-    assert!(rt; is_identifier("_a1"));
-    assert!(rt; is_identifier("Z"));
-    assert!(rt; !is_identifier(""));
-    assert!(rt; !is_identifier("1a"));
-    assert!(rt; !is_identifier("a-b"));
-    assert!(rt; !is_identifier("é"));
-    assert!(rt; Identifier::try_new(alloc, "a b") == Err(IdentifierErr::Malformed));
-    let name = again!(Identifier::try_new(alloc, "hello_world"));
-    assert_eq!(rt; name.as_str(), "hello_world");
-    let copy = again!(name.try_clone(alloc));
-    assert!(rt; copy == name);
-    let other = again!(Identifier::try_new(alloc, "hello"));
-    assert!(rt; other < copy);
-    let text = copy.into_string();
-    assert_eq!(rt; text.as_str(), "hello_world");
+/// `is-identifier TEXT`: writes whether the text is an identifier.
+pub fn ask_identifier<D: OpSet>(bench: &mut Bench<D>, line: Line<'_>) -> Result<(), Stop> {
+    bench.answer.put_truth(is_identifier(line.text));
+    Ok(())
+}
+
+/// `identifier TEXT`: makes an identifier and a copy of it; writes the text of the copy.
+pub fn copy_identifier<D: OpSet>(bench: &mut Bench<D>, line: Line<'_>) -> Result<(), Stop> {
+    let name = Identifier::try_new(bench.alloc, line.text)?;
+    let copy = name.try_clone(bench.alloc)?;
+    let answer = &mut bench.answer;
+    if copy != name || copy.as_str() != line.text {
+        answer.put("not ");
+    }
+    answer.put(copy.into_string().as_str());
+    Ok(())
+}
+
+/// `comes-before NAME NAME`: writes whether the first identifier is the lesser one.
+pub fn compare_identifiers<D: OpSet>(bench: &mut Bench<D>, line: Line<'_>) -> Result<(), Stop> {
+    let one = Identifier::try_new(bench.alloc, line.first)?;
+    let other = Identifier::try_new(bench.alloc, line.second)?;
+    bench.answer.put_truth(one < other);
     Ok(())
 }

@@ -2,7 +2,7 @@
 use super::mutated::{Seen, Sequence, any_words, read_each};
 use plir_core::Context;
 use plir_data::OpSet;
-use plir_scripts::{SampleSet, Stop};
+use plir_scripts::{InContext, SampleSet, Stop, in_new_context};
 use std::alloc::Global;
 
 /// How many parts a long text has.
@@ -71,25 +71,50 @@ fn long_text(
 }
 
 // Hands the text to each reader, first as it is and then with words in any order behind it; answers whether one read it.
-fn is_read<D: OpSet>(alloc: Global, frame: &Frame, seed: u64) -> Result<bool, Stop> {
-    let mut ctx: Context<D> = Context::new(alloc);
+fn is_read<D: OpSet>(
+    alloc: Global,
+    ctx: &mut Context<D>,
+    frame: &Frame,
+    seed: u64,
+) -> Result<bool, Stop> {
     let mut numbers = Sequence { last: seed };
     let mut seen = Seen {
         some_read: false,
         some_refused: false,
     };
     let text = long_text(alloc, &mut numbers, frame, "")?;
-    read_each(alloc, &mut ctx, text.as_str(), &mut seen);
+    read_each(alloc, ctx, text.as_str(), &mut seen);
     let words = any_words(alloc, &mut numbers)?;
     let text = long_text(alloc, &mut numbers, frame, words.as_str())?;
-    read_each(alloc, &mut ctx, text.as_str(), &mut seen);
+    read_each(alloc, ctx, text.as_str(), &mut seen);
     Ok(seen.some_read && seen.some_refused)
+}
+
+// Does so with each frame.
+fn are_read<D: OpSet>(alloc: Global, ctx: &mut Context<D>) -> Result<bool, Stop> {
+    let modules = is_read(alloc, ctx, &MODULE, 1)?;
+    let lists = is_read(alloc, ctx, &LIST, 2)?;
+    let signatures = is_read(alloc, ctx, &SIGNATURE, 3)?;
+    Ok(modules && lists && signatures)
+}
+
+// Does so in a new context.
+#[derive(Drop)]
+struct ReadsLong {
+    alloc: Global,
+}
+
+impl InContext<SampleSet> for ReadsLong {
+    type Answer = Result<bool, Stop>;
+
+    fn run(self, ctx: &mut Context<SampleSet>) -> Result<bool, Stop> {
+        are_read(self.alloc, ctx)
+    }
 }
 
 #[test]
 fn long_texts_are_read_or_refused(rt: HostRuntime) -> Result<(), Stop> {
-    assert!(rt; is_read::<SampleSet>(rt.alloc(), &MODULE, 1)?);
-    assert!(rt; is_read::<SampleSet>(rt.alloc(), &LIST, 2)?);
-    assert!(rt; is_read::<SampleSet>(rt.alloc(), &SIGNATURE, 3)?);
+    let alloc = rt.alloc();
+    assert!(rt; in_new_context(alloc, ReadsLong { alloc })?);
     Ok(())
 }

@@ -3,7 +3,7 @@ use super::refused::{read_again, text_of};
 use plir_core::Context;
 use plir_data::OpSet;
 use plir_read::read_op;
-use plir_scripts::{SampleSet, Stop};
+use plir_scripts::{InContext, SampleSet, Stop, in_new_context};
 use plir_text::{read_attr, read_function_type, read_integer_type, read_type};
 use std::alloc::Global;
 
@@ -147,11 +147,25 @@ fn read_thousand<D: OpSet>(alloc: Global, ctx: &mut Context<D>, seed: u64) -> Re
     Ok(seen.some_read && seen.some_refused && before.as_str() == after.as_str())
 }
 
+// Does so in a new context.
+#[derive(Drop)]
+struct ReadsThousand {
+    alloc: Global,
+    seed: u64,
+}
+
+impl<D: OpSet> InContext<D> for ReadsThousand {
+    type Answer = Result<bool, Stop>;
+
+    fn run(self, ctx: &mut Context<D>) -> Result<bool, Stop> {
+        read_thousand(self.alloc, ctx, self.seed)
+    }
+}
+
 // Does so a hundred times, each time in a new context.
 fn read_hundred_thousand<D: OpSet>(alloc: Global) -> Result<bool, Stop> {
     for seed in 0..100 {
-        let mut ctx: Context<D> = Context::new(alloc);
-        if !read_thousand(alloc, &mut ctx, seed)? {
+        if !in_new_context::<D, _>(alloc, ReadsThousand { alloc, seed })? {
             return Ok(false);
         }
     }

@@ -4,7 +4,7 @@ use plir_core::{Context, Operation, Ptr};
 use plir_data::OpSet;
 use plir_print::{is_printable, print_op};
 use plir_read::read_op;
-use plir_scripts::{SampleSet, Stop};
+use plir_scripts::{InContext, SampleSet, Stop, in_new_context};
 use plir_text::Fault;
 use std::alloc::Global;
 
@@ -48,10 +48,23 @@ fn keeps_older<D: OpSet>(alloc: Global, ctx: &mut Context<D>) -> Result<bool, St
     Ok(read.is_live(ctx) && before.as_str() == after.as_str())
 }
 
+// Does so in a new context.
+#[derive(Drop)]
+struct Keeps {
+    alloc: Global,
+}
+
+impl InContext<SampleSet> for Keeps {
+    type Answer = Result<bool, Stop>;
+
+    fn run(self, ctx: &mut Context<SampleSet>) -> Result<bool, Stop> {
+        keeps_older(self.alloc, ctx)
+    }
+}
+
 #[test]
 fn operations_are_read_where_memory_is_refused(rt: HostRuntime) -> Result<(), Stop> {
     let alloc = rt.alloc();
-    let mut ctx: Context<SampleSet> = Context::new(alloc);
-    assert!(rt; keeps_older(alloc, &mut ctx)?);
+    assert!(rt; in_new_context(alloc, Keeps { alloc })?);
     Ok(())
 }

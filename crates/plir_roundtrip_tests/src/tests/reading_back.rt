@@ -4,7 +4,7 @@ use plir_data::OpSet;
 use plir_print::{is_printable, print_op};
 use plir_read::read_op;
 use plir_roundtrip::laws::op_is_read_back;
-use plir_scripts::{SampleSet, Stop};
+use plir_scripts::{InContext, SampleSet, Stop, in_new_context};
 use std::alloc::Global;
 
 // A module with a dictionary, a function with blocks, labels and arguments, and constants.
@@ -36,16 +36,28 @@ fn printed<D: OpSet>(alloc: Global, ctx: &mut Context<D>, text: &str) -> Result<
     text_of(alloc, ctx, op)
 }
 
+// The text that an operation is printed as when its text was read into a new context.
+#[derive(Drop)]
+struct Prints<'a> {
+    alloc: Global,
+    text: &'a str,
+}
+
+impl<D: OpSet> InContext<D> for Prints<'_> {
+    type Answer = Result<String, Stop>;
+
+    fn run(self, ctx: &mut Context<D>) -> Result<String, Stop> {
+        printed(self.alloc, ctx, self.text)
+    }
+}
+
 // Whether the text of a module is read back: printed once more, with other numbers in the context that it was read into, and
 // with the same in an empty one.
-fn is_read_back<D: OpSet>(
-    alloc: Global,
-    ctx: &mut Context<D>,
-    empty: &mut Context<D>,
-) -> Result<bool, Stop> {
+fn is_read_back<D: OpSet>(alloc: Global, ctx: &mut Context<D>) -> Result<bool, Stop> {
     let first = printed(alloc, ctx, MODULE)?;
     let again = printed(alloc, ctx, first.as_str())?;
-    let alone = printed(alloc, empty, first.as_str())?;
+    let text = first.as_str();
+    let alone = in_new_context::<D, _>(alloc, Prints { alloc, text })?;
     let has_other_numbers = again.as_str() != first.as_str();
     Ok(
         has_other_numbers
@@ -54,11 +66,23 @@ fn is_read_back<D: OpSet>(
     )
 }
 
+// Does so in a new context.
+#[derive(Drop)]
+struct ReadsBack {
+    alloc: Global,
+}
+
+impl InContext<SampleSet> for ReadsBack {
+    type Answer = Result<bool, Stop>;
+
+    fn run(self, ctx: &mut Context<SampleSet>) -> Result<bool, Stop> {
+        is_read_back(self.alloc, ctx)
+    }
+}
+
 #[test]
 fn a_module_is_read_back(rt: HostRuntime) -> Result<(), Stop> {
     let alloc = rt.alloc();
-    let mut ctx: Context<SampleSet> = Context::new(alloc);
-    let mut empty: Context<SampleSet> = Context::new(alloc);
-    assert!(rt; is_read_back(alloc, &mut ctx, &mut empty)?);
+    assert!(rt; in_new_context(alloc, ReadsBack { alloc })?);
     Ok(())
 }

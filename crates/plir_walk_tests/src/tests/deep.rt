@@ -7,7 +7,7 @@ use super::plan::Plan;
 use super::walking::{change, look_at};
 use plir_core::{Context, IRNode, NodeErr};
 use plir_data::{OpKind, OpSet};
-use plir_scripts::SampleSet;
+use plir_scripts::{InContext, SampleSet, in_new_context};
 use plir_walk::{CallLimit, WALKCONFIG_POSTORDER_REVERSE, WALKCONFIG_PREORDER_FORWARD, WalkConfig};
 use std::alloc::Global;
 use std::test::Fail;
@@ -115,18 +115,51 @@ fn walk_to_the_limit<D: OpSet>(alloc: Global, ctx: &mut Context<D>) -> Result<bo
     Ok(ended && called.len() == 29_999 && nodes.as_slice().starts_with(called.as_slice()))
 }
 
+// Walks in a new context: down and up, or to a limit.
+#[derive(Drop)]
+struct Walks {
+    alloc: Global,
+    is_limited: bool,
+}
+
+impl InContext<SampleSet> for Walks {
+    type Answer = Result<bool, Refusal>;
+
+    fn run(self, ctx: &mut Context<SampleSet>) -> Result<bool, Refusal> {
+        if self.is_limited {
+            walk_to_the_limit(self.alloc, ctx)
+        } else {
+            walk_down_and_up(self.alloc, ctx)
+        }
+    }
+}
+
 #[test]
 fn a_walk_is_as_deep_as_its_tree(rt: HostRuntime) -> Result<(), Fail> {
     let alloc = rt.alloc();
-    let mut ctx: Context<SampleSet> = Context::new(alloc);
-    assert!(rt; walk_down_and_up(alloc, &mut ctx)?);
+    assert!(rt;
+        in_new_context(
+            alloc,
+            Walks {
+                alloc,
+                is_limited: false
+            }
+        )?
+    );
     Ok(())
 }
 
 #[test]
 fn a_deep_walk_ends_at_its_limit(rt: HostRuntime) -> Result<(), Fail> {
     let alloc = rt.alloc();
-    let mut ctx: Context<SampleSet> = Context::new(alloc);
-    assert!(rt; walk_to_the_limit(alloc, &mut ctx)?);
+    assert!(rt;
+        in_new_context(
+            alloc,
+            Walks {
+                alloc,
+                is_limited: true
+            }
+        )?
+    );
     Ok(())
 }

@@ -7,7 +7,7 @@ use super::plan::{Change, Plan};
 use super::walking::change;
 use plir_core::{Context, IRNode};
 use plir_data::{OpKind, OpSet};
-use plir_scripts::SampleSet;
+use plir_scripts::{InContext, SampleSet, in_new_context};
 use plir_walk::interruptible::WalkResult;
 use plir_walk::{CallLimit, WALKCONFIG_PREORDER_FORWARD};
 use std::alloc::Global;
@@ -100,9 +100,22 @@ fn append_in_new<D: OpSet>(alloc: Global, ctx: &mut Context<D>) -> bool {
     }
 }
 
+// Does so in a new context.
+#[derive(Drop)]
+struct Appends {
+    alloc: Global,
+}
+
+impl InContext<SampleSet> for Appends {
+    type Answer = bool;
+
+    fn run(self, ctx: &mut Context<SampleSet>) -> bool {
+        append_in_new(self.alloc, ctx)
+    }
+}
+
 #[test]
 fn a_walk_breaks_and_its_calls_stay_where_memory_is_refused(rt: HostRuntime) {
     let alloc = rt.alloc();
-    let mut ctx: Context<SampleSet> = Context::new(alloc);
-    assert!(rt; append_in_new(alloc, &mut ctx));
+    assert!(rt; in_new_context(alloc, Appends { alloc }));
 }

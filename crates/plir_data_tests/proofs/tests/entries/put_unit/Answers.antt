@@ -3,7 +3,7 @@ use Rattle.std.specs.Option.{OnSome}
 use Rattle.plir_data.specs.AttrView.{leaf, unit}
 use Rattle.plir_data.specs.Dictionary.{dict_put}
 use Rattle.plir_data.specs.declared.attributes.AttrObj.{AttrObj}
-use Rattle.plir_data_tests.proofs.tests.dictionaries.put_unit.Goals as goal
+use Rattle.plir_data_tests.proofs.tests.entries.put_unit.Goals as goal
 
 pub returns-in-Some-clause-found : goal.returns-in-Some-clause-found
 returns-in-Some-clause-found g c = λ there.
