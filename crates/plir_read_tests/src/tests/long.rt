@@ -104,10 +104,10 @@ struct ReadsLong {
     alloc: Global,
 }
 
-impl InContext<SampleSet> for ReadsLong {
+impl<D: OpSet> InContext<D> for ReadsLong {
     type Answer = Result<bool, Stop>;
 
-    fn run(self, ctx: &mut Context<SampleSet>) -> Result<bool, Stop> {
+    fn run(self, ctx: &mut Context<D>) -> Result<bool, Stop> {
         are_read(self.alloc, ctx)
     }
 }
@@ -115,6 +115,6 @@ impl InContext<SampleSet> for ReadsLong {
 #[test]
 fn long_texts_are_read_or_refused(rt: HostRuntime) -> Result<(), Stop> {
     let alloc = rt.alloc();
-    assert!(rt; in_new_context(alloc, ReadsLong { alloc })?);
+    assert!(rt; in_new_context::<SampleSet, _>(alloc, ReadsLong { alloc })?);
     Ok(())
 }

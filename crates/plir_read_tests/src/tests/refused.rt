@@ -54,10 +54,10 @@ struct Keeps {
     alloc: Global,
 }
 
-impl InContext<SampleSet> for Keeps {
+impl<D: OpSet> InContext<D> for Keeps {
     type Answer = Result<bool, Stop>;
 
-    fn run(self, ctx: &mut Context<SampleSet>) -> Result<bool, Stop> {
+    fn run(self, ctx: &mut Context<D>) -> Result<bool, Stop> {
         keeps_older(self.alloc, ctx)
     }
 }
@@ -65,6 +65,6 @@ impl InContext<SampleSet> for Keeps {
 #[test]
 fn operations_are_read_where_memory_is_refused(rt: HostRuntime) -> Result<(), Stop> {
     let alloc = rt.alloc();
-    assert!(rt; in_new_context(alloc, Keeps { alloc })?);
+    assert!(rt; in_new_context::<SampleSet, _>(alloc, Keeps { alloc })?);
     Ok(())
 }

@@ -72,10 +72,10 @@ struct ReadsBack {
     alloc: Global,
 }
 
-impl InContext<SampleSet> for ReadsBack {
+impl<D: OpSet> InContext<D> for ReadsBack {
     type Answer = Result<bool, Stop>;
 
-    fn run(self, ctx: &mut Context<SampleSet>) -> Result<bool, Stop> {
+    fn run(self, ctx: &mut Context<D>) -> Result<bool, Stop> {
         is_read_back(self.alloc, ctx)
     }
 }
@@ -83,6 +83,6 @@ impl InContext<SampleSet> for ReadsBack {
 #[test]
 fn a_module_is_read_back(rt: HostRuntime) -> Result<(), Stop> {
     let alloc = rt.alloc();
-    assert!(rt; in_new_context(alloc, ReadsBack { alloc })?);
+    assert!(rt; in_new_context::<SampleSet, _>(alloc, ReadsBack { alloc })?);
     Ok(())
 }

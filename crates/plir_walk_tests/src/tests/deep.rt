@@ -122,10 +122,10 @@ struct Walks {
     is_limited: bool,
 }
 
-impl InContext<SampleSet> for Walks {
+impl<D: OpSet> InContext<D> for Walks {
     type Answer = Result<bool, Refusal>;
 
-    fn run(self, ctx: &mut Context<SampleSet>) -> Result<bool, Refusal> {
+    fn run(self, ctx: &mut Context<D>) -> Result<bool, Refusal> {
         if self.is_limited {
             walk_to_the_limit(self.alloc, ctx)
         } else {
@@ -138,7 +138,7 @@ impl InContext<SampleSet> for Walks {
 fn a_walk_is_as_deep_as_its_tree(rt: HostRuntime) -> Result<(), Fail> {
     let alloc = rt.alloc();
     assert!(rt;
-        in_new_context(
+        in_new_context::<SampleSet, _>(
             alloc,
             Walks {
                 alloc,
@@ -153,7 +153,7 @@ fn a_walk_is_as_deep_as_its_tree(rt: HostRuntime) -> Result<(), Fail> {
 fn a_deep_walk_ends_at_its_limit(rt: HostRuntime) -> Result<(), Fail> {
     let alloc = rt.alloc();
     assert!(rt;
-        in_new_context(
+        in_new_context::<SampleSet, _>(
             alloc,
             Walks {
                 alloc,

@@ -106,10 +106,10 @@ struct Appends {
     alloc: Global,
 }
 
-impl InContext<SampleSet> for Appends {
+impl<D: OpSet> InContext<D> for Appends {
     type Answer = bool;
 
-    fn run(self, ctx: &mut Context<SampleSet>) -> bool {
+    fn run(self, ctx: &mut Context<D>) -> bool {
         append_in_new(self.alloc, ctx)
     }
 }
@@ -117,5 +117,5 @@ impl InContext<SampleSet> for Appends {
 #[test]
 fn a_walk_breaks_and_its_calls_stay_where_memory_is_refused(rt: HostRuntime) {
     let alloc = rt.alloc();
-    assert!(rt; in_new_context(alloc, Appends { alloc }));
+    assert!(rt; in_new_context::<SampleSet, _>(alloc, Appends { alloc }));
 }
