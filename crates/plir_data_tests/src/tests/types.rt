@@ -11,6 +11,9 @@ use plir_scripts::{Bench, Line, Stop, put_type_name};
 pub fn make_own<D: OwnSet>(bench: &mut Bench<D>, line: Line<'_>) -> Result<(), Stop> {
     bench.made.types.reserve(1)?;
     let value = TypeObj::Own(D::own_type(line.first == "wide"));
+    if !value.is_live(&bench.ctx) {
+        return Err(Stop::Refused);
+    }
     let handle = bench.ctx.instantiate(value)?;
     put_type_name(&mut bench.made, &mut bench.answer, handle)
 }
