@@ -14,6 +14,7 @@ macro_rules! again {
 }
 
 mod conversions;
+mod copies;
 mod entries;
 mod numbers;
 mod own;

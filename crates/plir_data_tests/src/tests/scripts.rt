@@ -343,9 +343,7 @@ fn puts_texts_under_themselves_where_memory_is_refused(rt: HostRuntime) -> Resul
 }
 
 #[test]
-fn keeps_the_last_of_a_repeated_key_where_memory_is_refused(
-    rt: HostRuntime,
-) -> Result<(), Mismatch> {
+fn a_repeated_key_has_its_last_attribute(rt: HostRuntime) -> Result<(), Mismatch> {
     let script = "
         copy builtin.dict [b = builtin.bool true, a = builtin.unit, b = builtin.bool false] => builtin.dict [a = builtin.unit, b = builtin.bool false] of builtin.dict";
     play_in(rt.alloc(), script)
