@@ -1,5 +1,5 @@
 -- Attributes as contracts see them.
-use Rattle.std.specs.Prelude.{ℕ, Bool, List, [], ◌∷◌, Option}
+use Rattle.std.specs.Prelude.{ℕ, Bool, true, false, List, [], ◌∷◌, Option}
 
 -- An attribute that holds no other: a name, a text by its bytes, a truth value, an integer by its type's handle and the width and bits of its value,
 -- nothing, a type by its handle, sizes of operand segments, names that may be unset, or one of the user's own, A.
@@ -37,3 +37,8 @@ module _ {A : Type 0} where
   abbrev pub entries_of : List (List ℕ × AttrView A) → Entries A
   entries_of [] = no_entries
   entries_of (e ∷ es) = entry e.0 e.1 (entries_of es)
+
+  -- an attribute that holds no others
+  abbrev pub is_leaf : AttrView A → Bool
+  is_leaf (leaf x) = true
+  is_leaf _ = false

@@ -1,7 +1,8 @@
 //! Copies of attributes.
 
-ghost use Rattle.std.specs.Prelude.{◌≡◌, IfOk, OnOk, map};
+ghost use Rattle.std.specs.Prelude.{◌≡◌, IfOk, OnOk, map, true};
 ghost use Rattle.plir_data.specs.AttrSeen.{attr_view};
+ghost use Rattle.plir_data.specs.AttrView.{is_leaf};
 ghost use Rattle.plir_data.specs.DictSeen.{dict_view};
 ghost use Rattle.plir_data.specs.Dictionary.{dict_of, dict_put};
 
@@ -53,12 +54,23 @@ fn copy_of<D: OpSet>(alloc: Global, attr: &AttrObj<D>) -> Result<AttrObj<D>, Mem
     ensures { IfOk result (λ a. attr_view a ≡ attr_view attr.now) }
 {
     match attr {
+        AttrObj::Dict(value) => Ok(AttrObj::Dict(DictAttr(copy_of_dict(alloc, &value.0)?))),
+        AttrObj::Vec(value) => Ok(AttrObj::Vec(VecAttr(copy_of_items(alloc, &value.0)?))),
+        _ => copy_of_leaf(alloc, attr),
+    }
+}
+
+// The same of an attribute that holds no others.
+fn copy_of_leaf<D: OpSet>(alloc: Global, attr: &AttrObj<D>) -> Result<AttrObj<D>, Memory>
+    requires { is_leaf (attr_view attr.now) ≡ true }
+    ensures { IfOk result (λ a. attr_view a ≡ attr_view attr.now) }
+{
+    match attr {
         AttrObj::Identifier(value) => Ok(AttrObj::Identifier(value.try_clone(alloc)?)),
         AttrObj::String(value) => Ok(AttrObj::String(value.try_clone(alloc)?)),
         AttrObj::Bool(value) => Ok(AttrObj::Bool(*value)),
         AttrObj::Integer(value) => Ok(AttrObj::Integer(*value)),
-        AttrObj::Dict(value) => Ok(AttrObj::Dict(DictAttr(copy_of_dict(alloc, &value.0)?))),
-        AttrObj::Vec(value) => Ok(AttrObj::Vec(VecAttr(copy_of_items(alloc, &value.0)?))),
+        AttrObj::Dict(_) | AttrObj::Vec(_) => unreachable!(),
         AttrObj::Unit(value) => Ok(AttrObj::Unit(*value)),
         AttrObj::Type(value) => Ok(AttrObj::Type(*value)),
         AttrObj::OperandSegmentSizes(value) => {

@@ -1,9 +1,9 @@
 //! From an attribute to its text.
 
-ghost use Rattle.std.specs.Prelude.{◌≡◌, IfOk, OnOk, map, string_bytes};
+ghost use Rattle.std.specs.Prelude.{◌≡◌, IfOk, OnOk, map, string_bytes, true};
 ghost use Rattle.plir_data.specs.AttrLive.{IsAttrLive, AreItemsLive, AreEntriesLive};
 ghost use Rattle.plir_data.specs.AttrSeen.{attr_view};
-ghost use Rattle.plir_data.specs.AttrView.{integer, own, type_of, dict as dict_view, vec, items_of, entries_of};
+ghost use Rattle.plir_data.specs.AttrView.{integer, own, type_of, dict as dict_view, vec, items_of, entries_of, is_leaf};
 ghost use Rattle.plir_data.specs.Integers.{literal};
 ghost use Rattle.plir_data.specs.Types.{IsLive, AllLive, type_at};
 ghost use Rattle.plir_data.specs.TypeText.{type_text};
@@ -45,12 +45,29 @@ fn put_attr<D: OpSet>(
     ensures { OnOk result (Puts out.old out.new (attribute_text D.OpSet types.now (attr_view attr.now))) }
 {
     match attr {
+        AttrObj::Dict(value) => put_dict(out, alloc, types, &value.0),
+        AttrObj::Vec(value) => put_list(out, alloc, types, &value.0),
+        _ => put_leaf(out, alloc, types, attr),
+    }
+}
+
+// An attribute that holds no others.
+fn put_leaf<D: OpSet>(
+    out: &mut String,
+    alloc: Global,
+    types: &TypeTable<D>,
+    attr: &AttrObj<D>,
+) -> Result<(), Memory>
+    requires leaf { is_leaf (attr_view attr.now) ≡ true }
+    requires live { IsAttrLive D.attr_handles types.now (attr_view attr.now) }
+    ensures { OnOk result (Puts out.old out.new (attribute_text D.OpSet types.now (attr_view attr.now))) }
+{
+    match attr {
         AttrObj::Identifier(value) => put_identifier(out, value),
         AttrObj::String(value) => put_string(out, value),
         AttrObj::Bool(value) => put_bool(out, *value),
         AttrObj::Integer(value) => put_integer(out, alloc, types, value),
-        AttrObj::Dict(value) => put_dict(out, alloc, types, &value.0),
-        AttrObj::Vec(value) => put_list(out, alloc, types, &value.0),
+        AttrObj::Dict(_) | AttrObj::Vec(_) => unreachable!(),
         AttrObj::Unit(_) => put(out, "builtin.unit"),
         AttrObj::Type(value) => put_type_attr(out, alloc, types, *value),
         AttrObj::OperandSegmentSizes(value) => put_segments(out, value),

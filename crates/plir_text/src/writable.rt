@@ -4,7 +4,7 @@ ghost use Rattle.std.specs.Prelude.{◌≡◌, ◌↔◌, ◌^◌, ◌<◌, All,
 ghost use Rattle.std.specs.Str.{IsUtf8};
 ghost use Rattle.plir_data.specs.AttrLive.{IsAttrLive, AreItemsLive, AreEntriesLive};
 ghost use Rattle.plir_data.specs.AttrSeen.{attr_view};
-ghost use Rattle.plir_data.specs.AttrView.{dict, integer, items_of, entries_of};
+ghost use Rattle.plir_data.specs.AttrView.{dict, integer, items_of, entries_of, is_leaf};
 ghost use Rattle.plir_data.specs.Identifier.{is_identifier};
 ghost use Rattle.plir_data.specs.TypeTree.{trees_of, tree_of};
 ghost use Rattle.plir_data.specs.Types.{IsLive, AllLive};
@@ -31,12 +31,24 @@ fn is_attr_writable<D: OpSet>(types: &TypeTable<D>, attr: &AttrObj<D>) -> bool
     ensures { IsTrue result ↔ IsWritable types.now (attr_view attr.now) }
 {
     match attr {
+        AttrObj::Dict(value) => is_dict_writable(types, &value.0),
+        AttrObj::Vec(value) => are_items_writable(types, &value.0),
+        _ => is_leaf_writable(types, attr),
+    }
+}
+
+// The same of an attribute that holds no others.
+fn is_leaf_writable<D: OpSet>(types: &TypeTable<D>, attr: &AttrObj<D>) -> bool
+    requires leaf { is_leaf (attr_view attr.now) ≡ true }
+    requires live { IsAttrLive D.attr_handles types.now (attr_view attr.now) }
+    ensures { IsTrue result ↔ IsWritable types.now (attr_view attr.now) }
+{
+    match attr {
         AttrObj::Identifier(value) => is_name(value.as_ref()),
         AttrObj::String(value) => is_text(value),
         AttrObj::Bool(_) | AttrObj::Unit(_) => true,
         AttrObj::Integer(value) => is_integer_writable(types, value),
-        AttrObj::Dict(value) => is_dict_writable(types, &value.0),
-        AttrObj::Vec(value) => are_items_writable(types, &value.0),
+        AttrObj::Dict(_) | AttrObj::Vec(_) => unreachable!(),
         AttrObj::Type(value) => is_builtin(types, value.get_type()),
         AttrObj::OperandSegmentSizes(value) => are_sizes(value),
         AttrObj::GivenNames(value) => are_names(value.names()),

@@ -7,17 +7,14 @@ ghost use Rattle.plir_builtin.specs.Agree.{AllAgree, AreGivenOut};
 ghost use Rattle.plir_builtin.specs.Symbols.{name_in};
 ghost use Rattle.plir_builtin_tests.specs.Links.{IsFoundIn, IsLinked, used_name};
 
-use crate::tests::around::Around;
+use crate::tests::around::scan;
 use crate::tests::many::new_func;
-use plir_builtin::{
-    SymbolTableCollection, SymbolTableErr, SymbolTableInterface, SymbolUserOpInterface,
-    SymbolUserSet,
-};
+use plir_builtin::{SymbolTableCollection, SymbolTableErr, SymbolUserOpInterface, SymbolUserSet};
 use plir_core::{Context, Operation, Ptr};
 use plir_data::{
     AttrObj, Identifier, IdentifierAttr, Location, Memory, OpSet, TypeHandle, TypeStore, VerifyErr,
 };
-use plir_iface::{OneRegionInterface, Op, SingleBlockRegionInterface};
+use plir_iface::Op;
 use plir_scripts::{InContext, ScriptSet, Stop, in_new_context};
 use std::alloc::Global;
 use thiserror::Error;
@@ -222,14 +219,7 @@ fn is_found_in<D: OpSet>(ctx: &Context<D>, table: Ptr<Operation>, name: &Identif
     requires { IsLive ctx.now (AnyNode.Operation table) }
     ensures { IsTrue result ↔ IsFoundIn D.is_symbol ctx.now table name.now }
 {
-    let table = Around { op: table };
-    if OneRegionInterface::<D>::verify(&table, ctx).is_err() {
-        return false;
-    }
-    if SingleBlockRegionInterface::<D>::verify(&table, ctx).is_err() {
-        return false;
-    }
-    SymbolTableInterface::<D>::lookup(&table, ctx, name).is_some()
+    scan(ctx, table, name).is_some()
 }
 
 // The same by the table that is cached for the operation, or its new one; where it can have none, by its body alone.

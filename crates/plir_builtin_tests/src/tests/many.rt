@@ -3,16 +3,14 @@ ghost use Rattle.std.specs.Prelude.{IfOk, IfSome};
 ghost use Rattle.plir_core.specs.Store.{IsLive};
 ghost use Rattle.plir_core.specs.declared.ptr.IRNode.{IRNode as AnyNode};
 
-use super::around::Around;
+use super::around::{scan, symbol_name};
 use super::link_set::LinkSet;
 use super::sessions::is_unused;
 use super::tables::make_edits;
-use plir_builtin::{
-    FuncOp, ModuleOp, SymbolEdit, SymbolOpInterface, SymbolTableCollection, SymbolTableInterface,
-};
+use plir_builtin::{FuncOp, ModuleOp, SymbolEdit, SymbolTableCollection};
 use plir_core::{BasicBlock, Context, IRNode, Operation, Ptr};
 use plir_data::{FunctionType, Identifier, OpSet};
-use plir_iface::{OneRegionInterface, Op, SingleBlockRegionInterface};
+use plir_iface::Op;
 use plir_scripts::{InContext, Stop, in_new_context};
 use std::alloc::Global;
 use std::fmt::Write;
@@ -65,34 +63,16 @@ fn body<D: OpSet>(ctx: &Context<D>, table: Ptr<Operation>) -> Option<Ptr<BasicBl
     table.first_region(ctx)?.get_head(ctx)
 }
 
-// The first symbol of a name in the body of a live operation.
-fn scan<D: OpSet>(
-    ctx: &Context<D>,
-    table: Ptr<Operation>,
-    name: &Identifier,
-) -> Option<Ptr<Operation>> {
-    if !table.is_live(ctx) {
-        return None;
-    }
-    let table = Around { op: table };
-    if OneRegionInterface::<D>::verify(&table, ctx).is_err() {
-        return None;
-    }
-    if SingleBlockRegionInterface::<D>::verify(&table, ctx).is_err() {
-        return None;
-    }
-    SymbolTableInterface::<D>::lookup(&table, ctx, name)
-}
-
-// Whether a scan of a table finds no other symbol with the name of this one.
+// Whether a scan of a table, if it is live, finds no other symbol with the name of this one.
 fn is_free<D: OpSet>(ctx: &Context<D>, table: Ptr<Operation>, op: Ptr<Operation>) -> bool
     requires { IsLive ctx.now (AnyNode.Operation op) }
 {
-    let symbol = Around { op };
-    if SymbolOpInterface::<D>::verify(&symbol, ctx).is_err() {
+    let Some(name) = symbol_name(ctx, op) else {
         return false;
+    };
+    if !table.is_live(ctx) {
+        return true;
     }
-    let name = SymbolOpInterface::<D>::get_symbol_name(&symbol, ctx);
     match scan(ctx, table, name) {
         Some(found) => found == op,
         None => true,

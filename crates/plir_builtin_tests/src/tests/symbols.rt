@@ -6,14 +6,13 @@ ghost use Rattle.plir_builtin.specs.Symbols.{is_table_kind};
 ghost use Rattle.plir_iface.specs.Counts.{HasNRegions};
 ghost use Rattle.plir_iface.specs.Regions.{HasSingleBlocks};
 
-use crate::tests::around::Around;
+use crate::tests::around::{Around, symbol_name, with_body};
 use plir_builtin::{
     ConstantOp, ForwardRefOp, FuncOp, ModuleOp, SymbolOpInterface, SymbolTable,
     SymbolTableInterface, SymbolUserSet,
 };
 use plir_core::{Context, IRNode, Interface, Operation, Ptr, op_impls};
 use plir_data::{Identifier, Location, OpSet, VerifyErr};
-use plir_iface::{OneRegionInterface, SingleBlockRegionInterface};
 use plir_scripts::{Answer, Bench, Line, Stop};
 use std::alloc::Global;
 use std::fmt::Display;
@@ -61,14 +60,7 @@ fn op_with_body<D: OpSet>(bench: &Bench<D>, name: &str) -> Result<Around, Stop>
     ensures single_blocks { IfOk result (λ a. HasSingleBlocks bench.now.ctx a.op) }
 {
     let op = bench.made.op(&bench.ctx, name)?;
-    let around = Around { op };
-    if OneRegionInterface::<D>::verify(&around, &bench.ctx).is_err() {
-        return Err(Stop::Refused);
-    }
-    if SingleBlockRegionInterface::<D>::verify(&around, &bench.ctx).is_err() {
-        return Err(Stop::Refused);
-    }
-    Ok(around)
+    with_body(&bench.ctx, op).ok_or(Stop::Refused)
 }
 
 fn scan<D: OpSet>(bench: &mut Bench<D>, line: Line<'_>) -> Result<(), Stop> {
@@ -165,11 +157,7 @@ fn name_of<D: OpSet>(
 ) -> Result<Identifier, Stop>
     requires { IsLive ctx.now (AnyNode.Operation op) }
 {
-    let symbol = Around { op };
-    if SymbolOpInterface::<D>::verify(&symbol, ctx).is_err() {
-        return Err(Stop::Refused);
-    }
-    let name = SymbolOpInterface::<D>::get_symbol_name(&symbol, ctx);
+    let name = symbol_name(ctx, op).ok_or(Stop::Refused)?;
     Ok(name.try_clone(alloc)?)
 }
 

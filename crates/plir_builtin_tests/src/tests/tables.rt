@@ -1,12 +1,10 @@
 //! The calls on symbol tables.
 ghost use Rattle.std.specs.Prelude.{◌≡◌, true, length};
-ghost use Rattle.plir_core.specs.Store.{IsLive, kids};
 ghost use Rattle.plir_core.specs.declared.ptr.IRNode.{IRNode as AnyNode};
-ghost use Rattle.plir_builtin.specs.Handed.{is_table_at};
 
 use plir_builtin::laws::no_tables_agree;
 use plir_builtin::{
-    SymbolEdit, SymbolEditErr, SymbolTable, SymbolTableCollection, SymbolTableErr,
+    SymbolEdit, SymbolEditErr, SymbolTable, SymbolTableCollection, SymbolTableErr, TableLinks,
     nearest_symbol_table, walk_symbol_table,
 };
 use plir_core::{Context, IRNode, Interface, OpInsertionPoint, Operation, Ptr, op_impls};
@@ -163,19 +161,17 @@ fn hand<D: OpSet>(bench: &mut Bench<D>, line: Line<'_>) -> Result<(), Stop> {
 }
 
 // Walks a table and notes what is handed over; breaks the walk at `last`, or for want of memory.
-fn hand_over<D: OpSet>(
-    ctx: &Context<D>,
+fn hand_over<C: TableLinks>(
+    ctx: &C,
     op: Ptr<Operation>,
     last: Option<Ptr<Operation>>,
     handed: &mut Vec<IRNode>,
 ) -> WalkResult<u32>
-    requires live { IsLive ctx.now (AnyNode.Operation op) }
-    requires table { is_table_at D.is_symbol_table ctx.now op ≡ true }
-    requires one_region { length (kids ctx.now (AnyNode.Operation op)) ≡ 1 }
+    requires live { (C.look ctx.now).live (AnyNode.Operation op) ≡ true }
+    requires table { C.is_table_of ctx.now op ≡ true }
+    requires one_region { length ((C.look ctx.now).kids (AnyNode.Operation op)) ≡ 1 }
 {
-    let note = |_ctx: &Context<D>, handed: &mut Vec<IRNode>, op: Ptr<Operation>| -> WalkResult<
-        u32,
-    > {
+    let note = |_ctx: &C, handed: &mut Vec<IRNode>, op: Ptr<Operation>| -> WalkResult<u32> {
         if handed.push(IRNode::Operation(op)).is_err() || last == Some(op) {
             return walk_break(1);
         }

@@ -5,6 +5,7 @@ ghost use Rattle.plir_core.specs.declared.ptr.IRNode.{IRNode as AnyNode};
 use super::cond_branch::CondBranch;
 use super::grouping::{put_values, put_verdict};
 use plir_core::{Context, LessThanN};
+use plir_data::OpSet;
 use plir_flow::{BranchOpInterface, NSuccsInterface, OneSuccInterface};
 use plir_scripts::{Answer, Line, Made, SampleSet, Stop, number};
 use std::alloc::Global;
@@ -54,18 +55,18 @@ pub fn ask_successor(
 }
 
 /// `forwarded OP SUCCESSOR` writes the places of the values that a successor gets, and the values.
-pub fn ask_forwarded(
+pub fn ask_forwarded<D: OpSet, B: BranchOpInterface<D>>(
     alloc: Global,
-    ctx: &Context<SampleSet>,
+    ctx: &Context<D>,
     made: &Made,
     answer: &mut Answer,
-    op: &CondBranch,
+    op: &B,
     succ: usize,
 ) -> Result<(), Stop>
-    requires { IsLive ctx.now (AnyNode.Operation op.now.op) }
+    requires { IsLive ctx.now (AnyNode.Operation (B.pointer op.now)) }
 {
     if op.verify_successor_operand_layout(alloc, ctx).is_err()
-        || succ >= op.op.get_num_successors(ctx)
+        || succ >= op.get_operation().get_num_successors(ctx)
     {
         return Err(Stop::Refused);
     }
@@ -81,19 +82,19 @@ pub fn ask_forwarded(
 }
 
 /// `add OP SUCCESSOR VALUE` writes the place.
-pub fn add(
+pub fn add<D: OpSet, B: BranchOpInterface<D>>(
     alloc: Global,
-    ctx: &mut Context<SampleSet>,
+    ctx: &mut Context<D>,
     made: &Made,
     answer: &mut Answer,
-    op: &CondBranch,
+    op: &B,
     line: Line<'_>,
 ) -> Result<(), Stop>
-    requires { IsLive ctx.old (AnyNode.Operation op.now.op) }
+    requires { IsLive ctx.old (AnyNode.Operation (B.pointer op.now)) }
 {
     let (succ, value) = (number(line.second)?, made.value(ctx, line.third)?);
     if op.verify_successor_operand_layout(alloc, ctx).is_err()
-        || succ >= op.op.get_num_successors(ctx)
+        || succ >= op.get_operation().get_num_successors(ctx)
         || op.successor_operands(alloc, ctx, succ)?.len() >= 1000
     {
         return Err(Stop::Refused);
@@ -104,19 +105,19 @@ pub fn add(
 }
 
 /// `drop OP SUCCESSOR ARGUMENT` writes the value that is taken out.
-pub fn take_out(
+pub fn take_out<D: OpSet, B: BranchOpInterface<D>>(
     alloc: Global,
-    ctx: &mut Context<SampleSet>,
+    ctx: &mut Context<D>,
     made: &Made,
     answer: &mut Answer,
-    op: &CondBranch,
+    op: &B,
     line: Line<'_>,
 ) -> Result<(), Stop>
-    requires { IsLive ctx.old (AnyNode.Operation op.now.op) }
+    requires { IsLive ctx.old (AnyNode.Operation (B.pointer op.now)) }
 {
     let (succ, arg) = (number(line.second)?, number(line.third)?);
     if op.verify_successor_operand_layout(alloc, ctx).is_err()
-        || succ >= op.op.get_num_successors(ctx)
+        || succ >= op.get_operation().get_num_successors(ctx)
         || arg >= op.successor_operands(alloc, ctx, succ)?.len()
     {
         return Err(Stop::Refused);
@@ -127,14 +128,14 @@ pub fn take_out(
 }
 
 /// `reset OP SUCCESSOR ARGUMENT VALUE`.
-pub fn reset(
+pub fn reset<D: OpSet, B: BranchOpInterface<D>>(
     alloc: Global,
-    ctx: &mut Context<SampleSet>,
+    ctx: &mut Context<D>,
     made: &Made,
-    op: &CondBranch,
+    op: &B,
     line: Line<'_>,
 ) -> Result<(), Stop>
-    requires { IsLive ctx.old (AnyNode.Operation op.now.op) }
+    requires { IsLive ctx.old (AnyNode.Operation (B.pointer op.now)) }
 {
     let (_, last) = line.tail.split_once(' ').unwrap_or((line.tail, ""));
     let (succ, arg, value) = (
@@ -143,7 +144,7 @@ pub fn reset(
         made.value(ctx, last)?,
     );
     if op.verify_successor_operand_layout(alloc, ctx).is_err()
-        || succ >= op.op.get_num_successors(ctx)
+        || succ >= op.get_operation().get_num_successors(ctx)
     {
         return Err(Stop::Refused);
     }

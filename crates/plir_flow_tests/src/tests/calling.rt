@@ -5,14 +5,15 @@ ghost use Rattle.plir_core.specs.declared.ptr.IRNode.{IRNode as AnyNode};
 use super::call_ops::{NamedCall, ValueCall};
 use super::grouping::{put_values, put_verdict};
 use plir_core::{Context, Operation, Ptr};
+use plir_data::OpSet;
 use plir_flow::{CallOpCallable, CallOpInterface};
 use plir_scripts::{Answer, Bench, Line, Made, SampleSet, Stop, put_type_name};
 use std::alloc::Global;
 
 /// `layout OP KIND`, `call OP KIND` and `args OP KIND`: the kind is `value` or `name`.
-pub fn ask_call<C: CallOpInterface<SampleSet> + Drop>(
+pub fn ask_call<D: OpSet, C: CallOpInterface<D> + Drop>(
     alloc: Global,
-    ctx: &Context<SampleSet>,
+    ctx: &Context<D>,
     made: &Made,
     answer: &mut Answer,
     op: &C,
@@ -57,8 +58,8 @@ pub fn ask_kind(
 }
 
 /// `callee-type OP`.
-pub fn ask_type(bench: &mut Bench<SampleSet>, op: ValueCall) -> Result<(), Stop>
-    requires { IsLive bench.old.ctx (AnyNode.Operation op.op) }
+pub fn ask_type<D: OpSet, C: CallOpInterface<D>>(bench: &mut Bench<D>, op: &C) -> Result<(), Stop>
+    requires { IsLive bench.old.ctx (AnyNode.Operation (C.pointer op.now)) }
 {
     if op.verify(&bench.ctx).is_err() {
         return Err(Stop::Refused);
@@ -68,8 +69,12 @@ pub fn ask_type(bench: &mut Bench<SampleSet>, op: ValueCall) -> Result<(), Stop>
 }
 
 /// `set-callee OP TYPE`.
-pub fn set_type(bench: &mut Bench<SampleSet>, op: ValueCall, line: Line<'_>) -> Result<(), Stop>
-    requires { IsLive bench.old.ctx (AnyNode.Operation op.op) }
+pub fn set_type<D: OpSet, C: CallOpInterface<D>>(
+    bench: &mut Bench<D>,
+    op: &C,
+    line: Line<'_>,
+) -> Result<(), Stop>
+    requires { IsLive bench.old.ctx (AnyNode.Operation (C.pointer op.now)) }
 {
     let ty = bench.made.type_named(&bench.ctx, line.second)?;
     op.set_callee_type(bench.alloc, &mut bench.ctx, ty)?;

@@ -1,9 +1,8 @@
 //! The scripts of region edges, with their answers.
 use super::edge_reading::{edges_of, region_of};
 use super::edged::Edged;
-use super::edging::{ask_end, ask_flows, ask_region, verify_edges, verify_loop};
+use super::edging::{ask_edges, verify_loop};
 use super::looping::Loop;
-use plir_flow::RegionBranchOpInterface;
 use plir_scripts::{Bench, Layer, Line, Mismatch, NodeCalls, SampleSet, Stop, play, split_word};
 use std::fmt::Write;
 
@@ -23,20 +22,7 @@ impl Layer<SampleSet> for EdgeCalls {
         let (_, written) = line.text.split_once(" | ").ok_or(Stop::Refused)?;
         let edges = edges_of(alloc, ctx, made, written)?;
         let any = Edged { op, edges: &edges };
-        if line.second == "verify" {
-            return verify_edges(alloc, ctx, answer, &any);
-        }
-        if any.verify_region_edges_layout(alloc, ctx).is_err() {
-            return Err(Stop::Refused);
-        }
-        let (name, _) = split_word(line.tail);
-        match line.second {
-            "reachable" | "reached" | "repetitive" | "cycle" | "successors" | "reads" => {
-                ask_region(alloc, ctx, made, answer, &any, line.second, name)
-            }
-            "flows" | "incoming" => ask_flows(alloc, ctx, made, answer, &any, line.second, name),
-            _ => ask_end(alloc, ctx, made, answer, &any, line.second, name),
-        }
+        ask_edges(alloc, ctx, made, answer, &any, line)
     }
 }
 
@@ -50,7 +36,7 @@ fn ask_loop(bench: &mut Bench<SampleSet>, line: Line<'_>) -> Result<(), Stop> {
         body: made.block(ctx, line.third)?,
         end: made.op(ctx, end)?,
     };
-    verify_loop(bench.alloc, ctx, made, answer, any)
+    verify_loop(bench.alloc, ctx, made, answer, &any)
 }
 
 #[test]

@@ -1,15 +1,13 @@
 //! The calls on region edges.
 ghost use Rattle.plir_core.specs.Store.{IsLive};
 ghost use Rattle.plir_core.specs.declared.ptr.IRNode.{IRNode as AnyNode};
-ghost use Rattle.plir_flow.specs.RegionEdges.{AreEdgesLive};
 
 use super::edge_reading::{point_of, region_of, successor_of};
-use super::edged::Edged;
 use super::grouping::{put_values, put_verdict};
-use super::looping::Loop;
 use plir_core::{Context, Ptr, Region, Use, Value};
+use plir_data::OpSet;
 use plir_flow::{RegionBranchOpInterface, RegionBranchPoint, RegionEdge, RegionSuccessor, laws};
-use plir_scripts::{Answer, Made, SampleSet, Stop};
+use plir_scripts::{Answer, Line, Made, Stop, split_word};
 use std::alloc::Global;
 
 // Writes the name of an operand's operation, and the operand's place.
@@ -55,31 +53,47 @@ fn put_edges(made: &Made, answer: &mut Answer, edges: &[RegionEdge]) {
     }
 }
 
-/// `verify`.
-pub fn verify_edges(
+/// The questions about region edges: `verify`, and those about a region, what flows, or one end of edges.
+pub fn ask_edges<D: OpSet, O: RegionBranchOpInterface<D>>(
     alloc: Global,
-    ctx: &Context<SampleSet>,
-    answer: &mut Answer,
-    op: &Edged<'_>,
-) -> Result<(), Stop>
-    requires { IsLive ctx.now (AnyNode.Operation op.now.op) }
-{
-    put_verdict(answer, op.verify(alloc, ctx));
-    Ok(())
-}
-
-/// The questions about one region.
-pub fn ask_region(
-    alloc: Global,
-    ctx: &Context<SampleSet>,
+    ctx: &Context<D>,
     made: &Made,
     answer: &mut Answer,
-    op: &Edged<'_>,
+    op: &O,
+    line: Line<'_>,
+) -> Result<(), Stop>
+    requires { IsLive ctx.now (AnyNode.Operation (O.pointer op.now)) }
+{
+    let question = line.second;
+    if question == "verify" {
+        put_verdict(answer, op.verify(alloc, ctx));
+        return Ok(());
+    }
+    if op.verify_region_edges_layout(alloc, ctx).is_err() {
+        return Err(Stop::Refused);
+    }
+    let (name, _) = split_word(line.tail);
+    match question {
+        "reachable" | "reached" | "repetitive" | "cycle" | "successors" | "reads" => {
+            ask_region(alloc, ctx, made, answer, op, question, name)
+        }
+        "flows" | "incoming" => ask_flows(alloc, ctx, made, answer, op, question, name),
+        _ => ask_end(alloc, ctx, made, answer, op, question, name),
+    }
+}
+
+// The questions about one region.
+fn ask_region<D: OpSet, O: RegionBranchOpInterface<D>>(
+    alloc: Global,
+    ctx: &Context<D>,
+    made: &Made,
+    answer: &mut Answer,
+    op: &O,
     question: &str,
     name: &str,
 ) -> Result<(), Stop>
-    requires live { IsLive ctx.now (AnyNode.Operation op.now.op) }
-    requires layout { AreEdgesLive ctx.now op.now.edges.now }
+    requires live { IsLive ctx.now (AnyNode.Operation (O.pointer op.now)) }
+    requires layout { O.has_edges_layout op.now ctx.now }
 {
     let region = region_of(made, name)?;
     match question {
@@ -97,18 +111,18 @@ pub fn ask_region(
     Ok(())
 }
 
-/// The questions about edges from a point, or to a successor.
-pub fn ask_end(
+// The questions about edges from a point, or to a successor.
+fn ask_end<D: OpSet, O: RegionBranchOpInterface<D>>(
     alloc: Global,
-    ctx: &Context<SampleSet>,
+    ctx: &Context<D>,
     made: &Made,
     answer: &mut Answer,
-    op: &Edged<'_>,
+    op: &O,
     question: &str,
     name: &str,
 ) -> Result<(), Stop>
-    requires live { IsLive ctx.now (AnyNode.Operation op.now.op) }
-    requires layout { AreEdgesLive ctx.now op.now.edges.now }
+    requires live { IsLive ctx.now (AnyNode.Operation (O.pointer op.now)) }
+    requires layout { O.has_edges_layout op.now ctx.now }
 {
     match question {
         "from" => put_edges(
@@ -137,18 +151,18 @@ pub fn ask_end(
     Ok(())
 }
 
-/// The questions about what flows: all of it, or into one value.
-pub fn ask_flows(
+// The questions about what flows: all of it, or into one value.
+fn ask_flows<D: OpSet, O: RegionBranchOpInterface<D>>(
     alloc: Global,
-    ctx: &Context<SampleSet>,
+    ctx: &Context<D>,
     made: &Made,
     answer: &mut Answer,
-    op: &Edged<'_>,
+    op: &O,
     question: &str,
     name: &str,
 ) -> Result<(), Stop>
-    requires live { IsLive ctx.now (AnyNode.Operation op.now.op) }
-    requires layout { AreEdgesLive ctx.now op.now.edges.now }
+    requires live { IsLive ctx.now (AnyNode.Operation (O.pointer op.now)) }
+    requires layout { O.has_edges_layout op.now ctx.now }
 {
     if question == "flows" {
         put_flows(made, answer, &op.region_flows(alloc, ctx)?);
@@ -160,14 +174,14 @@ pub fn ask_flows(
 }
 
 /// `loop OP REGION BLOCK END` verifies a loop, and writes its edges where it stands as they want it.
-pub fn verify_loop(
+pub fn verify_loop<D: OpSet, O: RegionBranchOpInterface<D>>(
     alloc: Global,
-    ctx: &Context<SampleSet>,
+    ctx: &Context<D>,
     made: &Made,
     answer: &mut Answer,
-    any: Loop,
+    any: &O,
 ) -> Result<(), Stop>
-    requires { IsLive ctx.now (AnyNode.Operation any.op) }
+    requires { IsLive ctx.now (AnyNode.Operation (O.pointer any.now)) }
 {
     put_verdict(answer, any.verify(alloc, ctx));
     if any.verify_region_edges_layout(alloc, ctx).is_ok() {

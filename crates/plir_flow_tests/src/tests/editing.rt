@@ -2,21 +2,21 @@
 ghost use Rattle.plir_core.specs.Store.{IsLive};
 ghost use Rattle.plir_core.specs.declared.ptr.IRNode.{IRNode as AnyNode};
 
-use super::grouped::Grouped;
 use plir_core::Context;
+use plir_data::OpSet;
 use plir_flow::{OperandSegmentInterface, laws};
-use plir_scripts::{Answer, Line, Made, SampleSet, Stop, number};
+use plir_scripts::{Answer, Line, Made, Stop, number};
 
 /// `push OP SEGMENT VALUE` writes the place, `into OP SEGMENT PLACE VALUE`, `pop OP SEGMENT` and `from OP SEGMENT PLACE`
 /// write the value, and so does `again OP SEGMENT VALUE`, which pushes a value and pops it.
-pub fn edit(
-    ctx: &mut Context<SampleSet>,
+pub fn edit<D: OpSet, O: OperandSegmentInterface<D>>(
+    ctx: &mut Context<D>,
     made: &Made,
     answer: &mut Answer,
-    op: &Grouped,
+    op: &O,
     line: Line<'_>,
 ) -> Result<(), Stop>
-    requires { IsLive ctx.old (AnyNode.Operation op.now.op) }
+    requires { IsLive ctx.old (AnyNode.Operation (O.pointer op.now)) }
 {
     match line.command {
         "push" => push(ctx, made, answer, op, line),
@@ -27,17 +27,17 @@ pub fn edit(
     }
 }
 
-fn push(
-    ctx: &mut Context<SampleSet>,
+fn push<D: OpSet, O: OperandSegmentInterface<D>>(
+    ctx: &mut Context<D>,
     made: &Made,
     answer: &mut Answer,
-    op: &Grouped,
+    op: &O,
     line: Line<'_>,
 ) -> Result<(), Stop>
-    requires { IsLive ctx.old (AnyNode.Operation op.now.op) }
+    requires { IsLive ctx.old (AnyNode.Operation (O.pointer op.now)) }
 {
     let (seg, value) = (number(line.second)?, made.value(ctx, line.third)?);
-    if OperandSegmentInterface::<SampleSet>::verify(op, ctx).is_err()
+    if OperandSegmentInterface::<D>::verify(op, ctx).is_err()
         || seg >= op.num_segments(ctx)
         || op.segment_size(ctx, seg) == u32::MAX
     {
@@ -48,8 +48,13 @@ fn push(
     Ok(())
 }
 
-fn into(ctx: &mut Context<SampleSet>, made: &Made, op: &Grouped, line: Line<'_>) -> Result<(), Stop>
-    requires { IsLive ctx.old (AnyNode.Operation op.now.op) }
+fn into<D: OpSet, O: OperandSegmentInterface<D>>(
+    ctx: &mut Context<D>,
+    made: &Made,
+    op: &O,
+    line: Line<'_>,
+) -> Result<(), Stop>
+    requires { IsLive ctx.old (AnyNode.Operation (O.pointer op.now)) }
 {
     let (_, last) = line.tail.split_once(' ').unwrap_or((line.tail, ""));
     let (seg, place, value) = (
@@ -57,7 +62,7 @@ fn into(ctx: &mut Context<SampleSet>, made: &Made, op: &Grouped, line: Line<'_>)
         number(line.third)?,
         made.value(ctx, last)?,
     );
-    if OperandSegmentInterface::<SampleSet>::verify(op, ctx).is_err()
+    if OperandSegmentInterface::<D>::verify(op, ctx).is_err()
         || seg >= op.num_segments(ctx)
         || place > op.segment_size(ctx, seg) as usize
         || op.segment_size(ctx, seg) == u32::MAX
@@ -68,17 +73,17 @@ fn into(ctx: &mut Context<SampleSet>, made: &Made, op: &Grouped, line: Line<'_>)
     Ok(())
 }
 
-fn pop(
-    ctx: &mut Context<SampleSet>,
+fn pop<D: OpSet, O: OperandSegmentInterface<D>>(
+    ctx: &mut Context<D>,
     made: &Made,
     answer: &mut Answer,
-    op: &Grouped,
+    op: &O,
     line: Line<'_>,
 ) -> Result<(), Stop>
-    requires { IsLive ctx.old (AnyNode.Operation op.now.op) }
+    requires { IsLive ctx.old (AnyNode.Operation (O.pointer op.now)) }
 {
     let seg = number(line.second)?;
-    if OperandSegmentInterface::<SampleSet>::verify(op, ctx).is_err()
+    if OperandSegmentInterface::<D>::verify(op, ctx).is_err()
         || seg >= op.num_segments(ctx)
         || op.segment_size(ctx, seg) == 0
     {
@@ -89,17 +94,17 @@ fn pop(
     Ok(())
 }
 
-fn from(
-    ctx: &mut Context<SampleSet>,
+fn from<D: OpSet, O: OperandSegmentInterface<D>>(
+    ctx: &mut Context<D>,
     made: &Made,
     answer: &mut Answer,
-    op: &Grouped,
+    op: &O,
     line: Line<'_>,
 ) -> Result<(), Stop>
-    requires { IsLive ctx.old (AnyNode.Operation op.now.op) }
+    requires { IsLive ctx.old (AnyNode.Operation (O.pointer op.now)) }
 {
     let (seg, place) = (number(line.second)?, number(line.third)?);
-    if OperandSegmentInterface::<SampleSet>::verify(op, ctx).is_err()
+    if OperandSegmentInterface::<D>::verify(op, ctx).is_err()
         || seg >= op.num_segments(ctx)
         || place >= op.segment_size(ctx, seg) as usize
     {
@@ -110,17 +115,17 @@ fn from(
     Ok(())
 }
 
-fn again(
-    ctx: &mut Context<SampleSet>,
+fn again<D: OpSet, O: OperandSegmentInterface<D>>(
+    ctx: &mut Context<D>,
     made: &Made,
     answer: &mut Answer,
-    op: &Grouped,
+    op: &O,
     line: Line<'_>,
 ) -> Result<(), Stop>
-    requires { IsLive ctx.old (AnyNode.Operation op.now.op) }
+    requires { IsLive ctx.old (AnyNode.Operation (O.pointer op.now)) }
 {
     let (seg, value) = (number(line.second)?, made.value(ctx, line.third)?);
-    if OperandSegmentInterface::<SampleSet>::verify(op, ctx).is_err()
+    if OperandSegmentInterface::<D>::verify(op, ctx).is_err()
         || seg >= op.num_segments(ctx)
         || op.segment_size(ctx, seg) == u32::MAX
     {

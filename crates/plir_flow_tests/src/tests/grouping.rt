@@ -5,7 +5,7 @@ ghost use Rattle.plir_core.specs.declared.ptr.IRNode.{IRNode as AnyNode};
 
 use super::grouped::Grouped;
 use plir_core::{Context, Value};
-use plir_data::{FunctionTypeMark, Memory, OperandSegmentSizesAttr, UnitType, VerifyErr};
+use plir_data::{FunctionTypeMark, Memory, OpSet, OperandSegmentSizesAttr, UnitType, VerifyErr};
 use plir_flow::{OperandSegmentInterface, SegmentNImplsTy, SegmentNOfType};
 use plir_scripts::{Answer, Bench, Line, Made, SampleSet, Stop, number, split_word};
 use std::alloc::Global;
@@ -36,13 +36,14 @@ fn put_sizes(answer: &mut Answer, sizes: &OperandSegmentSizesAttr) {
 }
 
 /// `verify OP COUNT`, where `-` expects no number of segments.
-pub fn verify(ctx: &Context<SampleSet>, answer: &mut Answer, op: &Grouped) -> Result<(), Stop>
-    requires { IsLive ctx.now (AnyNode.Operation op.now.op) }
+pub fn verify<D: OpSet, O: OperandSegmentInterface<D>>(
+    ctx: &Context<D>,
+    answer: &mut Answer,
+    op: &O,
+) -> Result<(), Stop>
+    requires { IsLive ctx.now (AnyNode.Operation (O.pointer op.now)) }
 {
-    put_verdict(
-        answer,
-        OperandSegmentInterface::<SampleSet>::verify(op, ctx),
-    );
+    put_verdict(answer, OperandSegmentInterface::<D>::verify(op, ctx));
     Ok(())
 }
 
@@ -78,16 +79,16 @@ pub fn verify_types(
 }
 
 /// `segments OP` writes how many segments there are, `held OP` the operands and the sizes.
-pub fn ask_all(
-    ctx: &Context<SampleSet>,
+pub fn ask_all<D: OpSet, O: OperandSegmentInterface<D>>(
+    ctx: &Context<D>,
     made: &Made,
     answer: &mut Answer,
-    op: &Grouped,
+    op: &O,
     what: &str,
 ) -> Result<(), Stop>
-    requires { IsLive ctx.now (AnyNode.Operation op.now.op) }
+    requires { IsLive ctx.now (AnyNode.Operation (O.pointer op.now)) }
 {
-    if OperandSegmentInterface::<SampleSet>::verify(op, ctx).is_err() {
+    if OperandSegmentInterface::<D>::verify(op, ctx).is_err() {
         return Err(Stop::Refused);
     }
     if what == "segments" {
@@ -95,8 +96,9 @@ pub fn ask_all(
         answer.put_number(count as usize);
         return Ok(());
     }
-    for place in 0..op.op.get_num_operands(ctx) {
-        made.put_value(answer, op.op.get_operand(ctx, place));
+    let held = op.get_operation();
+    for place in 0..held.get_num_operands(ctx) {
+        made.put_value(answer, held.get_operand(ctx, place));
     }
     answer.put(" /");
     put_sizes(answer, op.get_operand_segment_sizes(ctx));
@@ -104,15 +106,15 @@ pub fn ask_all(
 }
 
 /// `size OP SEGMENT`.
-pub fn ask_size(
-    ctx: &Context<SampleSet>,
+pub fn ask_size<D: OpSet, O: OperandSegmentInterface<D>>(
+    ctx: &Context<D>,
     answer: &mut Answer,
-    op: &Grouped,
+    op: &O,
     seg: usize,
 ) -> Result<(), Stop>
-    requires { IsLive ctx.now (AnyNode.Operation op.now.op) }
+    requires { IsLive ctx.now (AnyNode.Operation (O.pointer op.now)) }
 {
-    if OperandSegmentInterface::<SampleSet>::verify(op, ctx).is_err() {
+    if OperandSegmentInterface::<D>::verify(op, ctx).is_err() {
         return Err(Stop::Refused);
     }
     let size = op.segment_size(ctx, seg);
@@ -121,19 +123,17 @@ pub fn ask_size(
 }
 
 /// `segment OP SEGMENT` writes the places of a segment and its operands.
-pub fn ask_segment(
+pub fn ask_segment<D: OpSet, O: OperandSegmentInterface<D>>(
     alloc: Global,
-    ctx: &Context<SampleSet>,
+    ctx: &Context<D>,
     made: &Made,
     answer: &mut Answer,
-    op: &Grouped,
+    op: &O,
     seg: usize,
 ) -> Result<(), Stop>
-    requires { IsLive ctx.now (AnyNode.Operation op.now.op) }
+    requires { IsLive ctx.now (AnyNode.Operation (O.pointer op.now)) }
 {
-    if OperandSegmentInterface::<SampleSet>::verify(op, ctx).is_err()
-        || seg >= op.num_segments(ctx)
-    {
+    if OperandSegmentInterface::<D>::verify(op, ctx).is_err() || seg >= op.num_segments(ctx) {
         return Err(Stop::Refused);
     }
     let values = op.get_segment(alloc, ctx, seg)?;
@@ -175,8 +175,12 @@ fn flat(
 }
 
 /// `sizes OP SIZES` puts sizes under their key.
-pub fn set_sizes(bench: &mut Bench<SampleSet>, op: &Grouped, line: Line<'_>) -> Result<(), Stop>
-    requires { IsLive bench.old.ctx (AnyNode.Operation op.now.op) }
+pub fn set_sizes<D: OpSet, O: OperandSegmentInterface<D>>(
+    bench: &mut Bench<D>,
+    op: &O,
+    line: Line<'_>,
+) -> Result<(), Stop>
+    requires { IsLive bench.old.ctx (AnyNode.Operation (O.pointer op.now)) }
 {
     let alloc = bench.alloc;
     let mut sizes = Vec::new(alloc);

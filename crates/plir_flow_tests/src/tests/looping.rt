@@ -5,7 +5,7 @@ ghost use Rattle.plir_core.specs.declared.ptr.IRNode.{IRNode as AnyNode};
 ghost use Rattle.plir_flow_tests.specs.Loops.{AreNested, IsLoop};
 
 use plir_core::{BasicBlock, Context, Operation, Ptr, Region, Use, Value};
-use plir_data::{Memory, VerifyErr};
+use plir_data::{Memory, OpSet, VerifyErr};
 use plir_flow::{RegionBranchOpInterface, RegionBranchPoint, RegionEdge, RegionSuccessor};
 use plir_iface::Op;
 use plir_scripts::{NotMarked, SampleSet};
@@ -31,7 +31,7 @@ impl Op<SampleSet> for Loop {
 
 impl Loop {
     // Whether its parts stand in one another.
-    fn is_nested(self, ctx: &Context<SampleSet>) -> bool
+    fn is_nested<D: OpSet>(self, ctx: &Context<D>) -> bool
         ensures { IsTrue result ↔ AreNested ctx.now self.op self.region self.body self.end }
     {
         self.region.is_live(ctx)
@@ -43,7 +43,7 @@ impl Loop {
     }
 
     // Whether it is a loop.
-    fn is_loop(self, ctx: &Context<SampleSet>) -> bool
+    fn is_loop<D: OpSet>(self, ctx: &Context<D>) -> bool
         requires { IsLive ctx.now (AnyNode.Operation self.op) }
         ensures { IsTrue result ↔ IsLoop ctx.now self.op self.region self.body self.end }
     {

@@ -1,4 +1,7 @@
 //! The scripts of segments, branches and calls, with their answers.
+ghost use Rattle.plir_core.specs.Store.{IsLive};
+ghost use Rattle.plir_core.specs.declared.ptr.IRNode.{IRNode as AnyNode};
+
 use super::branching::{add, ask_forwarded, ask_successor, reset, take_out, verify_branch};
 use super::call_ops::ValueCall;
 use super::calling::{ask_kind, ask_type, set_type};
@@ -8,6 +11,8 @@ use super::grouped::Grouped;
 use super::grouping::{
     ask_all, ask_segment, ask_size, expected_of, flatten, set_sizes, verify, verify_types,
 };
+use plir_data::OpSet;
+use plir_flow::{BranchOpInterface, OperandSegmentInterface};
 use plir_scripts::{Bench, Layer, Line, Mismatch, NodeCalls, SampleSet, Stop, number, play};
 
 /// The calls on segments, and those on nodes.
@@ -15,51 +20,58 @@ struct SegmentCalls;
 
 impl Layer<SampleSet> for SegmentCalls {
     fn run(bench: &mut Bench<SampleSet>, line: Line<'_>) -> Result<(), Stop> {
-        if line.command == "flatten" {
-            return flatten(bench, line);
-        }
-        if !matches!(
-            line.command,
+        match line.command {
+            "flatten" => return flatten(bench, line),
             "verify"
-                | "segment-types"
-                | "segments"
-                | "held"
-                | "size"
-                | "segment"
-                | "sizes"
-                | "push"
-                | "into"
-                | "pop"
-                | "from"
-                | "again"
-        ) {
-            return NodeCalls::run(bench, line);
+            | "segment-types"
+            | "segments"
+            | "held"
+            | "size"
+            | "segment"
+            | "sizes"
+            | "push"
+            | "into"
+            | "pop"
+            | "from"
+            | "again" => {}
+            _ => return NodeCalls::run(bench, line),
         }
         let op = bench.made.op(&bench.ctx, line.first)?;
-        let any = Grouped { op, expected: None };
-        if line.command == "sizes" {
-            return set_sizes(bench, &any, line);
+        let expected = if line.command == "verify" {
+            expected_of(line.second)?
+        } else {
+            None
+        };
+        let any = Grouped { op, expected };
+        if line.command == "segment-types" {
+            let (_, rule) = line.text.split_once(' ').unwrap_or((line.text, ""));
+            return verify_types(bench.alloc, &bench.ctx, &mut bench.answer, &any, rule);
         }
-        if matches!(line.command, "push" | "into" | "pop" | "from" | "again") {
-            return edit(&mut bench.ctx, &bench.made, &mut bench.answer, &any, line);
+        call_segments(bench, &any, line)
+    }
+}
+
+// The calls on the segments of an operation.
+fn call_segments<D: OpSet, O: OperandSegmentInterface<D>>(
+    bench: &mut Bench<D>,
+    op: &O,
+    line: Line<'_>,
+) -> Result<(), Stop>
+    requires { IsLive bench.old.ctx (AnyNode.Operation (O.pointer op.now)) }
+{
+    match line.command {
+        "sizes" => return set_sizes(bench, op, line),
+        "push" | "into" | "pop" | "from" | "again" => {
+            return edit(&mut bench.ctx, &bench.made, &mut bench.answer, op, line);
         }
-        let (alloc, ctx, made, answer) = (bench.alloc, &bench.ctx, &bench.made, &mut bench.answer);
-        match line.command {
-            "verify" => {
-                let expected = expected_of(line.second)?;
-                verify(ctx, answer, &Grouped { op, expected })
-            }
-            "segment-types" => verify_types(
-                alloc,
-                ctx,
-                answer,
-                &any,
-                line.text.split_once(' ').unwrap_or((line.text, "")).1,
-            ),
-            "size" => ask_size(ctx, answer, &any, number(line.second)?),
-            "segment" => ask_segment(alloc, ctx, made, answer, &any, number(line.second)?),
-            _ => ask_all(ctx, made, answer, &any, line.command),
-        }
+        _ => {}
+    }
+    let (alloc, ctx, made, answer) = (bench.alloc, &bench.ctx, &bench.made, &mut bench.answer);
+    match line.command {
+        "verify" => verify(ctx, answer, op),
+        "size" => ask_size(ctx, answer, op, number(line.second)?),
+        "segment" => ask_segment(alloc, ctx, made, answer, op, number(line.second)?),
+        _ => ask_all(ctx, made, answer, op, line.command),
     }
 }
 
@@ -76,15 +88,29 @@ impl Layer<SampleSet> for BranchCalls {
         }
         let op = bench.made.op(&bench.ctx, line.first)?;
         let op = CondBranch { op };
-        let (alloc, made, answer) = (bench.alloc, &bench.made, &mut bench.answer);
+        let (alloc, ctx, answer) = (bench.alloc, &bench.ctx, &mut bench.answer);
         match line.command {
-            "add" => add(alloc, &mut bench.ctx, made, answer, &op, line),
-            "drop" => take_out(alloc, &mut bench.ctx, made, answer, &op, line),
-            "reset" => reset(alloc, &mut bench.ctx, made, &op, line),
-            "branch" => verify_branch(alloc, &bench.ctx, answer, &op, line.second),
-            "successor" => ask_successor(&bench.ctx, made, answer, &op),
-            _ => ask_forwarded(alloc, &bench.ctx, made, answer, &op, number(line.second)?),
+            "branch" => verify_branch(alloc, ctx, answer, &op, line.second),
+            "successor" => ask_successor(ctx, &bench.made, answer, &op),
+            _ => call_forwarded(bench, &op, line),
         }
+    }
+}
+
+// The calls on what a branch forwards.
+fn call_forwarded<D: OpSet, B: BranchOpInterface<D>>(
+    bench: &mut Bench<D>,
+    op: &B,
+    line: Line<'_>,
+) -> Result<(), Stop>
+    requires { IsLive bench.old.ctx (AnyNode.Operation (B.pointer op.now)) }
+{
+    let (alloc, ctx, made, answer) = (bench.alloc, &mut bench.ctx, &bench.made, &mut bench.answer);
+    match line.command {
+        "add" => add(alloc, ctx, made, answer, op, line),
+        "drop" => take_out(alloc, ctx, made, answer, op, line),
+        "reset" => reset(alloc, ctx, made, op, line),
+        _ => ask_forwarded(alloc, ctx, made, answer, op, number(line.second)?),
     }
 }
 
@@ -101,8 +127,8 @@ impl Layer<SampleSet> for CallCalls {
         }
         let op = bench.made.op(&bench.ctx, line.first)?;
         match line.command {
-            "callee-type" => ask_type(bench, ValueCall { op }),
-            "set-callee" => set_type(bench, ValueCall { op }, line),
+            "callee-type" => ask_type(bench, &ValueCall { op }),
+            "set-callee" => set_type(bench, &ValueCall { op }, line),
             _ => ask_kind(
                 bench.alloc,
                 &bench.ctx,

@@ -1,10 +1,12 @@
 //! The calls that walk a tree.
+ghost use Rattle.std.specs.Prelude.{◌≡◌, true};
 ghost use Rattle.plir_core.specs.Store.{IsLive};
 ghost use Rattle.plir_core.specs.declared.ptr.IRNode.{IRNode as AnyNode};
 ghost use Rattle.plir_core.specs.Forest.{look};
 ghost use Rattle.plir_walk.specs.Lawful.{Lawful};
 
 use super::changes::{NOT_DONE, visit};
+use super::from_any::{changing, changing_plainly};
 use super::growing::{grow, unlabel};
 use super::pass::{module_with_function, note, reshape};
 use super::plan::{Plan, read_plan};
@@ -13,9 +15,9 @@ use plir_data::OpSet;
 use plir_scripts::{Answer, Bench, Line, Made, ScriptSet, Stop};
 use plir_walk::interruptible::{WalkResult, walk_advance, walk_break};
 use plir_walk::{
-    CallLimit, Direction, Order, WALKCONFIG_POSTORDER_FORWARD, WALKCONFIG_POSTORDER_REVERSE,
-    WALKCONFIG_PREORDER_FORWARD, WALKCONFIG_PREORDER_REVERSE, WalkConfig, interruptible,
-    uninterruptible,
+    CallLimit, Direction, NodeLinks, Order, WALKCONFIG_POSTORDER_FORWARD,
+    WALKCONFIG_POSTORDER_REVERSE, WALKCONFIG_PREORDER_FORWARD, WALKCONFIG_PREORDER_REVERSE,
+    WalkConfig, interruptible, uninterruptible,
 };
 use std::alloc::Global;
 use std::ops::ControlFlow;
@@ -103,17 +105,17 @@ pub fn walk_plainly<D: OpSet>(bench: &mut Bench<D>, line: Line<'_>) -> Result<()
 }
 
 /// Walks with a callback that notes its node and answers by the plan.
-pub fn look_at<D: OpSet>(
-    ctx: &Context<D>,
+pub fn look_at<C: NodeLinks>(
+    ctx: &C,
     config: &WalkConfig,
     root: IRNode,
     plan: &Plan,
     called: &mut Vec<IRNode>,
 ) -> WalkResult<u32>
-    requires { IsLive ctx.now root }
+    requires { (C.look ctx.now).live root ≡ true }
 {
     use interruptible::immutable::{walk_block, walk_op, walk_region};
-    let note = |_ctx: &Context<D>, called: &mut Vec<IRNode>, node: IRNode| -> WalkResult<u32> {
+    let note = |_ctx: &C, called: &mut Vec<IRNode>, node: IRNode| -> WalkResult<u32> {
         match called.push(node) {
             Ok(()) => plan.answer(node),
             Err(_) => walk_break(NOT_DONE),
@@ -127,16 +129,11 @@ pub fn look_at<D: OpSet>(
 }
 
 // The same with a callback that always advances.
-fn look_plainly<D: OpSet>(
-    ctx: &Context<D>,
-    config: &WalkConfig,
-    root: IRNode,
-    called: &mut Vec<IRNode>,
-)
-    requires { IsLive ctx.now root }
+fn look_plainly<C: NodeLinks>(ctx: &C, config: &WalkConfig, root: IRNode, called: &mut Vec<IRNode>)
+    requires { (C.look ctx.now).live root ≡ true }
 {
     use uninterruptible::immutable::{walk_block, walk_op, walk_region};
-    let note = |_ctx: &Context<D>, called: &mut Vec<IRNode>, node: IRNode| {
+    let note = |_ctx: &C, called: &mut Vec<IRNode>, node: IRNode| {
         let _noted = called.push(node);
     };
     match root {
@@ -157,17 +154,11 @@ pub fn change<D: OpSet>(
 ) -> Result<WalkResult<u32>, CallLimit>
     requires { IsLive ctx.old root }
 {
-    use interruptible::mutable::{walk_block, walk_op, walk_region};
     let follow = |ctx: &mut Context<D>, called: &mut Vec<IRNode>, node: IRNode| -> WalkResult<u32>
         requires { IsLive ctx.old node }
         ensures { Lawful (look ctx.old) node (look ctx.new) }
     { visit(alloc, ctx, called, plan, node) };
-    let limit = plan.limit;
-    match root {
-        IRNode::Operation(op) => walk_op(ctx, called, config, op, limit, follow),
-        IRNode::Region(region) => walk_region(ctx, called, config, region, limit, follow),
-        IRNode::BasicBlock(block) => walk_block(ctx, called, config, block, limit, follow),
-    }
+    changing(ctx, called, config, root, plan.limit, follow)
 }
 
 // The same with a callback that always advances.
@@ -181,19 +172,13 @@ fn change_plainly<D: OpSet>(
 ) -> Result<WalkResult<u32>, CallLimit>
     requires { IsLive ctx.old root }
 {
-    use uninterruptible::mutable::{walk_block, walk_op, walk_region};
     let follow = |ctx: &mut Context<D>, called: &mut Vec<IRNode>, node: IRNode|
         requires { IsLive ctx.old node }
         ensures { Lawful (look ctx.old) node (look ctx.new) }
     {
         let _answer = visit(alloc, ctx, called, plan, node);
     };
-    let limit = plan.limit;
-    let found = match root {
-        IRNode::Operation(op) => walk_op(ctx, called, config, op, limit, follow),
-        IRNode::Region(region) => walk_region(ctx, called, config, region, limit, follow),
-        IRNode::BasicBlock(block) => walk_block(ctx, called, config, block, limit, follow),
-    };
+    let found = changing_plainly(ctx, called, config, root, plan.limit, follow);
     found.map(|()| walk_advance())
 }
 
