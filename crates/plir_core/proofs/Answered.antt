@@ -110,6 +110,16 @@ module _ {O B : Type 0} (s : Nodes O B) (w : IsStored s) where
   prev-beside (Region p) x e = let r = beside_in s.regions_in_op s.regions s.ops w.regions_listed Region Operation (prev_under s.regions_in_op p.slot) refl (before_Has s.regions_in_op p.slot) (is_node_live s (Region p)) p.slot x e in record { above = Operation r.above; parent = r.is; kid = r.kid }
   prev-beside (BasicBlock p) x e = let r = beside_in s.blocks_in_region s.blocks s.regions w.blocks_listed BasicBlock Region (prev_under s.blocks_in_region p.slot) refl (before_Has s.blocks_in_region p.slot) (is_node_live s (BasicBlock p)) p.slot x e in record { above = Region r.above; parent = r.is; kid = r.kid }
 
+  -- what stands in the same list has the same parent
+  beside-shares : (n x : IRNode) → IsBeside n x → node_parent s x ≡ node_parent s n
+  beside-shares n x b = kid-parent s w b.above x b.kid ∙ sym b.parent
+
+  pub next-shares : (n x : IRNode) → node_next s n ≡ Some x → node_parent s x ≡ node_parent s n
+  next-shares n x e = beside-shares n x (next-beside n x e)
+
+  pub prev-shares : (n x : IRNode) → node_prev s n ≡ Some x → node_parent s x ≡ node_parent s n
+  prev-shares n x e = beside-shares n x (prev-beside n x e)
+
   -- what a link answers is live
   pub first-live : (a x : IRNode) → node_first s a ≡ Some x → is_node_live s x ≡ true
   first-live a x e = kid-live s w a x (first-Has s a x e)
@@ -140,6 +150,15 @@ module _ {K A T X : Type 0} (own : A → List ℕ) (s t : Store K A T) (view : s
 
   abbrev Stands : Store K A T → IRNode → Type 0
   Stands z x = parent_of z x ≡ Some n
+
+  abbrev SharesParent : Store K A T → IRNode → Type 0
+  SharesParent z x = parent_of z x ≡ parent_of z n
+
+  pub next_shares : option_map f r ≡ next_sibling s n → IfSome r (λ x. parent_of t (f x) ≡ parent_of t n)
+  next_shares e = told SharesParent (λ x q. next-shares s.nodes w.stored n x (sym e ∙ q))
+
+  pub prev_shares : option_map f r ≡ prev_sibling s n → IfSome r (λ x. parent_of t (f x) ≡ parent_of t n)
+  prev_shares e = told SharesParent (λ x q. prev-shares s.nodes w.stored n x (sym e ∙ q))
 
   pub over_told : option_map f r ≡ parent_of s n → IfSome r (λ x. IsLive t (f x))
   over_told e = told IsLive (λ x q. over-live s.nodes w.stored n x (sym e ∙ q))

@@ -1,20 +1,22 @@
 -- What an operation or a block holds is edited.
-use Rattle.std.proofs.Common.{◌≡◌, ℕ, suc, true, false, cond, List, [], ◌∷◌, take, drop, Option, Some, Result, Ok, Err, OnOk, OnErr, refl, sym, subst, slice_set, ◌⊎◌, inl, inr}
-use Rattle.std.specs.Prelude.{All, insert, remove}
-use Rattle.std.proofs.lemmas.List.Elements.{All-append, All-cons, All-head, All-tail, All-take, All-drop, All-set}
+use Rattle.std.proofs.Common.{◌≡◌, ◌<◌, ℕ, suc, length, get_or, true, false, cond, List, [], ◌∷◌, take, drop, Option, Some, None, Result, Ok, Err, OnOk, OnErr, refl, sym, subst, slice_set, ◌⊎◌, inl, inr}
+use Rattle.std.specs.Prelude.{All, IfOk, IfSome, insert, remove}
+use Rattle.std.proofs.lemmas.List.Elements.{All-get_or, All-append, All-cons, All-head, All-tail, All-take, All-drop, All-set}
 use Rattle.plir_data.specs.AttrView.{AttrView}
 use Rattle.plir_data.specs.declared.location.Location.{Location}
 use Rattle.plir_data.specs.Types.{AllLive}
 use Rattle.plir_data.specs.Dictionary.{is_key, dict_without}
 use Rattle.plir_store.specs.Table.{content_at, with_content}
 use Rattle.plir_core.specs.declared.value.Value.{Value}
-use Rattle.plir_data.specs.AttrLive.{IsAttrLive}
+use Rattle.plir_data.specs.AttrLive.{IsAttrLive, IsLiveWith}
 use Rattle.plir_core.specs.Contents.{OpView, BlockView}
-use Rattle.plir_core.specs.Store.{Store, IsValueLive}
+use Rattle.plir_core.specs.declared.ptr.Ptr.{Ptr}
+use Rattle.plir_core.specs.declared.ptr.Operation.{Operation as OperationKind}
+use Rattle.plir_core.specs.Store.{Store, IsValueLive, operands_of}
 use Rattle.plir_core.specs.Whole.{OpHoldsLive, BlockHoldsLive, IsWhole}
 use Rattle.plir_core.specs.Changes.{with_op_content, with_block_content}
 use Rattle.plir_core.proofs.Changes.{IsStored-held_op, IsStored-held_block}
-use Rattle.plir_core.proofs.Holds.{op_replaced, block_replaced}
+use Rattle.plir_core.proofs.Holds.{op_replaced, block_replaced, op_content_keeps, value_kept}
 
 -- lists with an element more, fewer or changed
 module _ {X : Type 0} (P : X → Type 0) (xs : List X) (i : ℕ) where
@@ -63,6 +65,30 @@ module _ {K A T : Type 0} (own : A → List ℕ) (s t : Store K A T) (view : s �
 
   pub operand_removed : (i n : ℕ) (u : OpView K A) (xs : List Value) → content_at s.nodes.ops i ≡ Some u → xs ≡ remove u.operands n → IsWhole own (with_op_content s i (record u { operands = xs }))
   operand_removed i n u xs was e = operands_edited i u xs was (λ a. subst (All (IsValueLive s)) (sym e) (All-remove (IsValueLive s) u.operands n a))
+
+  -- an operand is live once it is taken out
+  pub operand_taken : (p : Ptr OperationKind) (n : ℕ) (u : OpView K A) (x : Value) (xs : List Value) → content_at s.nodes.ops p.slot ≡ Some u → n < length (operands_of t p) → x ≡ get_or u.operands n x → IsValueLive (with_op_content s p.slot (record u { operands = xs })) x
+  operand_taken p n u x xs was below is =
+      let same : operands_of s p ≡ u.operands = rw was refl in
+      let within : n < length u.operands = subst (λ zs. n < length zs) same (subst (λ z. n < length (operands_of z p)) (sym view) below) in
+      value_kept s (with_op_content s p.slot (record u { operands = xs })) (op_content_keeps s p.slot u (record u { operands = xs }) was refl) x (subst (IsValueLive s) (sym is) (All-get_or (IsValueLive s) u.operands n x within (w.holds.ops p.slot u was).operands))
+
+  -- and so is an attribute
+  pub op_attr_taken : {X : Type 0} (see : X → AttrView A) (r : Option X) (i : ℕ) (u : OpView K A) → content_at s.nodes.ops i ≡ Some u → IfSome r (λ x. IsLiveWith T u.attributes (see x)) → IfSome r (λ x. IsAttrLive own s.types (see x))
+  op_attr_taken see None i u was h = tt
+  op_attr_taken see (Some x) i u was h = h own s.types (w.holds.ops i u was).attributes
+
+  pub op_attr_swapped : {X Y : Type 0} (see : X → AttrView A) (r : Result X Y) (i : ℕ) (u : OpView K A) → content_at s.nodes.ops i ≡ Some u → IfOk r (λ x. IsLiveWith T u.attributes (see x)) → IfOk r (λ x. IsAttrLive own s.types (see x))
+  op_attr_swapped see (Err y) i u was h = tt
+  op_attr_swapped see (Ok x) i u was h = h own s.types (w.holds.ops i u was).attributes
+
+  pub block_attr_taken : {X : Type 0} (see : X → AttrView A) (r : Option X) (i : ℕ) (u : BlockView A) → content_at s.nodes.blocks i ≡ Some u → IfSome r (λ x. IsLiveWith T u.attributes (see x)) → IfSome r (λ x. IsAttrLive own s.types (see x))
+  block_attr_taken see None i u was h = tt
+  block_attr_taken see (Some x) i u was h = h own s.types (w.holds.blocks i u was).attributes
+
+  pub block_attr_swapped : {X Y : Type 0} (see : X → AttrView A) (r : Result X Y) (i : ℕ) (u : BlockView A) → content_at s.nodes.blocks i ≡ Some u → IfOk r (λ x. IsLiveWith T u.attributes (see x)) → IfOk r (λ x. IsAttrLive own s.types (see x))
+  block_attr_swapped see (Err y) i u was h = tt
+  block_attr_swapped see (Ok x) i u was h = h own s.types (w.holds.blocks i u was).attributes
 
   pub operand_replaced : (i n : ℕ) (u : OpView K A) (x : Value) (xs : List Value) → content_at s.nodes.ops i ≡ Some u → xs ≡ slice_set u.operands n x → IsValueLive t x → IsWhole own (with_op_content s i (record u { operands = xs }))
   operand_replaced i n u x xs was e l = operands_edited i u xs was (λ a. subst (All (IsValueLive s)) (sym e) (All-set (IsValueLive s) u.operands n x (value_live x l) a))

@@ -136,6 +136,17 @@ module _ {K A T : Type 0} where
       value_in (Op p) i e = both_kept (is_live s (Operation p)) (is_live s' (Operation p)) i (length (result_types_of s p)) (length (result_types_of s' p)) (k.ops p) e
       value_in (Block p) i e = both_kept (is_live s (BasicBlock p)) (is_live s' (BasicBlock p)) i (length (arg_types_of s p)) (length (arg_types_of s' p)) (k.blocks p) e
 
+  -- where an operation comes to hold something else, with results of the same types, what was live is live
+  pub op_content_keeps : (s : Store K A T) (i : ℕ) (u v : OpView K A) → content_at s.nodes.ops i ≡ Some u → v.result_types ≡ u.result_types → IsKept s (with_op_content s i v)
+  op_content_keeps s i u v was same = record {
+    ops = λ p q. (live_held s.nodes.ops i v some p.slot p.version q, elim (held_cases s.nodes.ops i v some p.slot) [ inl g ↦ (let d = ap (content_at s.nodes.ops) g.0 ∙ was in rw (g.1, d, same) (omega arith)) | inr g ↦ rw g (omega arith) ]);
+    blocks = λ p q. (q, omega arith);
+    types = λ t q. q;
+  }
+    where
+      some : IsSome (content_at s.nodes.ops i)
+      some = rw was refl
+
   module _ (own : A → List ℕ) where
     attributes_kept : (s s' : Store K A T) → IsKept s s' → (es : List (List ℕ × AttrView A)) → All (λ e. IsAttrLive own s.types e.1) es → All (λ e. IsAttrLive own s'.types e.1) es
     attributes_kept s s' k es a = All-weaker (λ e. IsAttrLive own s.types e.1) (λ e. IsAttrLive own s'.types e.1) (λ e x. attr_kept own s.types s'.types k.types e.1 x) es a
@@ -253,11 +264,7 @@ module _ {K A T : Type 0} where
         some = rw was refl
 
         kept : IsKept s (with_op_content s i v)
-        kept = record {
-          ops = λ p q. (live_held s.nodes.ops i v some p.slot p.version q, elim (held_cases s.nodes.ops i v some p.slot) [ inl g ↦ (let d = ap (content_at s.nodes.ops) g.0 ∙ was in rw (g.1, d, same) (omega arith)) | inr g ↦ rw g (omega arith) ]);
-          blocks = λ p q. (q, omega arith);
-          types = λ t q. q;
-        }
+        kept = op_content_keeps s i u v was same
 
         holds : HoldsLive own (with_op_content s i v)
         holds = holds_kept s (with_op_content s i v) kept w.holds (λ o z q. elim (held_cases s.nodes.ops i v some o) [

@@ -1,5 +1,5 @@
 //! Calls that take attributes of operations and blocks out or put others in their place, without memory.
-ghost use Rattle.std.specs.Prelude.{◌≡◌, Some, None, IfOk, IfErr, OnOk, OnErr, option_map};
+ghost use Rattle.std.specs.Prelude.{◌≡◌, Some, None, IfOk, IfErr, IfSome, OnOk, OnErr, option_map};
 ghost use Rattle.plir_data.specs.AttrLive.{IsAttrLive};
 ghost use Rattle.plir_data.specs.AttrSeen.{attr_view};
 ghost use Rattle.plir_data.specs.Dictionary.{dict_get, dict_put, dict_without};
@@ -17,6 +17,7 @@ impl Ptr<Operation> {
     pub fn remove_attr<D: OpSet>(self, ctx: &mut Context<D>, key: &str) -> Option<AttrObj<D>>
         requires { IsLive ctx.old (IRNode.Operation self) }
         ensures taken { option_map attr_view result ≡ dict_get (attributes_of ctx.old self) key.now }
+        ensures live { IfSome result (λ a. IsAttrLive D.attr_handles ctx.new.types (attr_view a)) }
         ensures after { ctx.new ≡ with_op_edit ctx.old self (λ o. record o { attributes = dict_without o.attributes key.now }) }
         ensures whole { IsWhole D.attr_handles ctx.new }
     {
@@ -34,6 +35,7 @@ impl Ptr<Operation> {
         requires live { IsLive ctx.old (IRNode.Operation self) }
         requires handles { IsAttrLive D.attr_handles ctx.old.types (attr_view value) }
         ensures found { IfOk result (λ a. dict_get (attributes_of ctx.old self) key.now ≡ Some (attr_view a)) }
+        ensures live { IfOk result (λ a. IsAttrLive D.attr_handles ctx.new.types (attr_view a)) }
         ensures put { OnOk result (ctx.new ≡ with_op_edit ctx.old self (λ o. record o { attributes = dict_put o.attributes key.now (attr_view value) })) }
         ensures absent { OnErr result (dict_get (attributes_of ctx.old self) key.now ≡ None) }
         ensures handed_back { IfErr result (λ a. a ≡ value) }
@@ -49,6 +51,7 @@ impl Ptr<BasicBlock> {
     pub fn remove_attr<D: OpSet>(self, ctx: &mut Context<D>, key: &str) -> Option<AttrObj<D>>
         requires { IsLive ctx.old (IRNode.BasicBlock self) }
         ensures taken { option_map attr_view result ≡ dict_get (block_attributes_of ctx.old self) key.now }
+        ensures live { IfSome result (λ a. IsAttrLive D.attr_handles ctx.new.types (attr_view a)) }
         ensures after { ctx.new ≡ with_block_edit ctx.old self (λ b. record b { attributes = dict_without b.attributes key.now }) }
         ensures whole { IsWhole D.attr_handles ctx.new }
     {
@@ -66,6 +69,7 @@ impl Ptr<BasicBlock> {
         requires live { IsLive ctx.old (IRNode.BasicBlock self) }
         requires handles { IsAttrLive D.attr_handles ctx.old.types (attr_view value) }
         ensures found { IfOk result (λ a. dict_get (block_attributes_of ctx.old self) key.now ≡ Some (attr_view a)) }
+        ensures live { IfOk result (λ a. IsAttrLive D.attr_handles ctx.new.types (attr_view a)) }
         ensures put { OnOk result (ctx.new ≡ with_block_edit ctx.old self (λ b. record b { attributes = dict_put b.attributes key.now (attr_view value) })) }
         ensures absent { OnErr result (dict_get (block_attributes_of ctx.old self) key.now ≡ None) }
         ensures handed_back { IfErr result (λ a. a ≡ value) }

@@ -97,6 +97,7 @@ impl Ptr<BasicBlock> {
         requires { IsLive ctx.now (IRNode.BasicBlock self) }
         ensures value { option_map IRNode.BasicBlock result ≡ next_sibling ctx.now (IRNode.BasicBlock self) }
         ensures live { IfSome result (λ block. IsLive ctx.now (IRNode.BasicBlock block)) }
+        ensures beside { IfSome result (λ block. parent_of ctx.now (IRNode.BasicBlock block) ≡ parent_of ctx.now (IRNode.BasicBlock self)) }
         ensures whole { IsWhole D.attr_handles ctx.now }
     {
         ctx.nodes.next_block(self)
@@ -107,6 +108,7 @@ impl Ptr<BasicBlock> {
         requires { IsLive ctx.now (IRNode.BasicBlock self) }
         ensures value { option_map IRNode.BasicBlock result ≡ prev_sibling ctx.now (IRNode.BasicBlock self) }
         ensures live { IfSome result (λ block. IsLive ctx.now (IRNode.BasicBlock block)) }
+        ensures beside { IfSome result (λ block. parent_of ctx.now (IRNode.BasicBlock block) ≡ parent_of ctx.now (IRNode.BasicBlock self)) }
         ensures whole { IsWhole D.attr_handles ctx.now }
     {
         ctx.nodes.prev_block(self)

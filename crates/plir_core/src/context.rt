@@ -3,6 +3,7 @@ ghost use Rattle.std.specs.Prelude.{◌≡◌, ◌↔◌, ◌-◌, ◌^◌, [], 
 ghost use Rattle.plir_data.specs.Types.{IsLive as IsTypeLive, AllLive, IsInstantiated, IsTypeTable, handles_of};
 ghost use Rattle.plir_data.specs.TypeSeen.{type_view};
 ghost use Rattle.plir_core.specs.Store.{Store, num_live, is_live};
+ghost use Rattle.plir_core.specs.Standing.{IsStanding};
 ghost use Rattle.plir_core.specs.Whole.{IsWhole};
 ghost use Rattle.plir_core.specs.Edits.{empty};
 
@@ -62,6 +63,14 @@ impl<D: OpSet> Context<D> {
         ensures whole { IsWhole D.attr_handles self.now }
     {
         self.nodes.num_live()
+    }
+
+    /// Does nothing: it tells a proof that the context is whole, and so that its nodes make a forest.
+    pub fn stands(&self)
+        ensures whole { IsWhole D.attr_handles self.now }
+        ensures standing { IsStanding self.now }
+    {
+        let _count = self.num_live();
     }
 
     /// Whether a type handle names a type of this context.

@@ -1,5 +1,5 @@
 //! Where an operation is to be put.
-ghost use Rattle.std.specs.Prelude.{◌≡◌, IfSome, option_map};
+ghost use Rattle.std.specs.Prelude.{◌≡◌, ◌↔◌, IfSome, IsTrue, option_map};
 ghost use Rattle.plir_core.specs.Store.{IsLive};
 ghost use Rattle.plir_core.specs.Whole.{IsWhole};
 ghost use Rattle.plir_core.specs.declared.ptr.IRNode.{IRNode};
@@ -25,6 +25,23 @@ pub enum OpInsertionPoint {
 
 impl OpInsertionPoint {
     ghost use Rattle.plir_core.specs.InsertionPoint.{IsPointLive, insertion_block};
+
+    /// Whether what the point names, if it names anything, is live.
+    pub fn is_live<D: OpSet>(self, ctx: &Context<D>) -> bool
+        ensures value { IsTrue result ↔ IsPointLive ctx.now self }
+        ensures whole { IsWhole D.attr_handles ctx.now }
+    {
+        ctx.stands();
+        match self {
+            OpInsertionPoint::Unset => true,
+            OpInsertionPoint::AtBlockStart(block) | OpInsertionPoint::AtBlockEnd(block) => {
+                block.is_live(ctx)
+            }
+            OpInsertionPoint::BeforeOperation(op) | OpInsertionPoint::AfterOperation(op) => {
+                op.is_live(ctx)
+            }
+        }
+    }
 
     /// The block that an operation which is put there comes to stand in.
     pub fn get_insertion_block<D: OpSet>(self, ctx: &Context<D>) -> Option<Ptr<BasicBlock>>

@@ -1,5 +1,6 @@
 //! Laws of contexts: each function does nothing, and its contract is the law.
-ghost use Rattle.std.specs.Prelude.{◌≡◌, ◌∷◌, ◌++◌, ◌+◌, List, Some, slice_get};
+ghost use Rattle.std.specs.Prelude.{◌≡◌, ◌⊎◌, [], ◌∷◌, ◌++◌, ◌+◌, List, Some, slice_get};
+ghost use Rattle.plir_core.specs.Above.{Reaches};
 ghost use Rattle.plir_core.specs.Contents.{OpView, BlockView};
 ghost use Rattle.plir_store.specs.Members.{head};
 ghost use Rattle.plir_core.specs.Store.{Store, IsLive, kids, parent_of, first_kid, next_sibling, IsIndexed};
@@ -25,7 +26,7 @@ pub fn kid_at<D: OpSet>(ctx: &Context<D>, over: IRNode, kid: IRNode, place: usiz
     ensures deeper { depth ctx.now kid ≡ depth ctx.now over + 1 }
     ensures next { next_sibling ctx.now kid ≡ slice_get (kids ctx.now over) (place + 1) }
 {
-    let _count = ctx.num_live();
+    ctx.stands();
 }
 
 /// The first kid of a node is the one at the place 0.
@@ -40,15 +41,28 @@ pub fn first_kid_is_front<D: OpSet>(ctx: &Context<D>, over: IRNode)
 pub fn next_is_behind<D: OpSet>(ctx: &Context<D>, kid: IRNode)
     ensures { (over : AnyNode) (xs ys : List AnyNode) → kids ctx.now over ≡ xs ++ kid ∷ ys → next_sibling ctx.now kid ≡ head ys }
 {
-    let _count = ctx.num_live();
+    ctx.stands();
 }
+
+/// Nothing stands below a node without kids: who climbs to it began there.
+pub fn nothing_stands_below_a_leaf<D: OpSet>(ctx: &Context<D>, leaf: IRNode)
+    requires { kids ctx.now leaf ≡ [] }
+    ensures { (n : AnyNode) → Reaches (parent_of ctx.now) n leaf → n ≡ leaf }
+{
+    ctx.stands();
+}
+
+/// Two nodes are the same or not: a proof goes by these cases.
+pub fn nodes_are_told_apart()
+    ensures { (a b : AnyNode) → (a ≡ b) ⊎ (a ≡ b → ⊥) }
+{}
 
 /// An edit of what an operation holds changes nothing else.
 pub fn op_edits_keep_the_rest<D: OpSet>(ctx: &Context<D>, op: Ptr<Operation>)
     requires { IsLive ctx.now (AnyNode.Operation op) }
     ensures { (f : OpView D.Kind D.Attr → OpView D.Kind D.Attr) → IsOpEdited ctx.now (with_op_edit ctx.now op f) op f }
 {
-    let _count = ctx.num_live();
+    ctx.stands();
 }
 
 /// Two edits of what an operation holds are one: the second of what the first made. An edit is what it makes of what the
@@ -57,7 +71,7 @@ pub fn op_edits_join<D: OpSet>(ctx: &Context<D>, op: Ptr<Operation>)
     ensures join { OpEditsJoin ctx.now op }
     ensures same { OpEditsAgree ctx.now op }
 {
-    let _count = ctx.num_live();
+    ctx.stands();
 }
 
 /// An edit of what a block holds changes nothing else.
@@ -65,14 +79,14 @@ pub fn block_edits_keep_the_rest<D: OpSet>(ctx: &Context<D>, block: Ptr<BasicBlo
     requires { IsLive ctx.now (AnyNode.BasicBlock block) }
     ensures { (f : BlockView D.Attr → BlockView D.Attr) → IsBlockEdited ctx.now (with_block_edit ctx.now block f) block f }
 {
-    let _count = ctx.num_live();
+    ctx.stands();
 }
 
 /// What was made is used by nothing outside it: a refusal in the midst of a larger make can erase it.
 pub fn what_was_made_is_unused<D: OpSet>(ctx: &Context<D>)
     ensures { (made : Store D.Kind D.Attr D.Ty) (root : AnyNode) → IsMade ctx.now.nodes made.nodes root → IsUnusedOutside made root }
 {
-    let _count = ctx.num_live();
+    ctx.stands();
 }
 
 /// How trees grow from a context on: what is made and put below a node, what is made in many steps, and what is made and erased
@@ -80,14 +94,14 @@ pub fn what_was_made_is_unused<D: OpSet>(ctx: &Context<D>)
 pub fn growth<D: OpSet>(ctx: &Context<D>)
     ensures { Growth ctx.now.nodes }
 {
-    let _count = ctx.num_live();
+    ctx.stands();
 }
 
 /// The index of a pointer that was given out is its slot and 1.
 pub fn index_is_slot_and_one<D: OpSet>(ctx: &Context<D>)
     ensures { IsIndexed ctx.now }
 {
-    let _count = ctx.num_live();
+    ctx.stands();
 }
 
 /// What every context keeps of the nodes that stand in it, in the words of kids and parents.

@@ -13,8 +13,10 @@ ghost use Rattle.plir_core.specs.declared.ptr.IRNode.{IRNode};
 
 use crate::arena::Arena;
 use crate::ptr::{BasicBlock, IRNode, Operation, Ptr, Region};
+use plir_data::Memory;
 use plir_store::chains::Chains;
 use plir_store::slots::Slots;
+use std::alloc::{AllocError, AllocFailed};
 use thiserror::Error;
 
 /// Why a node was not made.
@@ -26,6 +28,36 @@ pub enum NodeErr {
     /// The limit of live nodes would be passed, or the slot numbers of a kind are spent.
     #[error("too many nodes")]
     TooManyNodes,
+}
+
+impl From<Memory> for NodeErr {
+    ghost use Rattle.plir_core.specs.declared.making.NodeErr.TheVariants as Variants;
+
+    ghost from_gives = { λ _ e. e ≡ Variants.Memory };
+
+    fn from(_refused: Memory) -> NodeErr {
+        NodeErr::Memory
+    }
+}
+
+impl From<AllocError> for NodeErr {
+    ghost use Rattle.plir_core.specs.declared.making.NodeErr.TheVariants as Variants;
+
+    ghost from_gives = { λ _ e. e ≡ Variants.Memory };
+
+    fn from(_refused: AllocError) -> NodeErr {
+        NodeErr::Memory
+    }
+}
+
+impl<T: Drop> From<AllocFailed<T>> for NodeErr {
+    ghost use Rattle.plir_core.specs.declared.making.NodeErr.TheVariants as Variants;
+
+    ghost from_gives = { λ _ e. e ≡ Variants.Memory };
+
+    fn from(_refused: AllocFailed<T>) -> NodeErr {
+        NodeErr::Memory
+    }
 }
 
 // Puts a value into a table whose slots are the parents in `below` and the children in `beside`, or changes nothing.

@@ -34,6 +34,7 @@ impl Ptr<Operation> {
         requires live { IsLive ctx.old (IRNode.Operation self) }
         requires below { i < length (operands_of ctx.old self) }
         ensures value { slice_get (operands_of ctx.old self) i ≡ Some result }
+        ensures live { IsValueLive ctx.new result }
         ensures after { ctx.new ≡ with_op_edit ctx.old self (λ o. record o { operands = remove o.operands i }) }
         ensures whole { IsWhole D.attr_handles ctx.new }
     {

@@ -163,6 +163,7 @@ impl Ptr<Operation> {
         requires { IsLive ctx.now (IRNode.Operation self) }
         ensures value { option_map IRNode.Operation result ≡ next_sibling ctx.now (IRNode.Operation self) }
         ensures live { IfSome result (λ op. IsLive ctx.now (IRNode.Operation op)) }
+        ensures beside { IfSome result (λ op. parent_of ctx.now (IRNode.Operation op) ≡ parent_of ctx.now (IRNode.Operation self)) }
         ensures whole { IsWhole D.attr_handles ctx.now }
     {
         ctx.nodes.next_op(self)
@@ -173,6 +174,7 @@ impl Ptr<Operation> {
         requires { IsLive ctx.now (IRNode.Operation self) }
         ensures value { option_map IRNode.Operation result ≡ prev_sibling ctx.now (IRNode.Operation self) }
         ensures live { IfSome result (λ op. IsLive ctx.now (IRNode.Operation op)) }
+        ensures beside { IfSome result (λ op. parent_of ctx.now (IRNode.Operation op) ≡ parent_of ctx.now (IRNode.Operation self)) }
         ensures whole { IsWhole D.attr_handles ctx.now }
     {
         ctx.nodes.prev_op(self)
@@ -183,6 +185,7 @@ impl Ptr<Operation> {
         requires { IsLive ctx.now (IRNode.Operation self) }
         ensures value { option_map IRNode.Region result ≡ first_kid ctx.now (IRNode.Operation self) }
         ensures live { IfSome result (λ region. IsLive ctx.now (IRNode.Region region)) }
+        ensures here { IfSome result (λ region. parent_of ctx.now (IRNode.Region region) ≡ Some (IRNode.Operation self)) }
         ensures whole { IsWhole D.attr_handles ctx.now }
     {
         ctx.nodes.first_region(self)
@@ -193,6 +196,7 @@ impl Ptr<Operation> {
         requires { IsLive ctx.now (IRNode.Operation self) }
         ensures value { option_map IRNode.Region result ≡ last_kid ctx.now (IRNode.Operation self) }
         ensures live { IfSome result (λ region. IsLive ctx.now (IRNode.Region region)) }
+        ensures here { IfSome result (λ region. parent_of ctx.now (IRNode.Region region) ≡ Some (IRNode.Operation self)) }
         ensures whole { IsWhole D.attr_handles ctx.now }
     {
         ctx.nodes.last_region(self)

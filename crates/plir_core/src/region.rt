@@ -41,6 +41,7 @@ impl Ptr<Region> {
         requires { IsLive ctx.now (IRNode.Region self) }
         ensures value { option_map IRNode.Region result ≡ next_sibling ctx.now (IRNode.Region self) }
         ensures live { IfSome result (λ region. IsLive ctx.now (IRNode.Region region)) }
+        ensures beside { IfSome result (λ region. parent_of ctx.now (IRNode.Region region) ≡ parent_of ctx.now (IRNode.Region self)) }
         ensures whole { IsWhole D.attr_handles ctx.now }
     {
         ctx.nodes.next_region(self)
@@ -51,6 +52,7 @@ impl Ptr<Region> {
         requires { IsLive ctx.now (IRNode.Region self) }
         ensures value { option_map IRNode.Region result ≡ prev_sibling ctx.now (IRNode.Region self) }
         ensures live { IfSome result (λ region. IsLive ctx.now (IRNode.Region region)) }
+        ensures beside { IfSome result (λ region. parent_of ctx.now (IRNode.Region region) ≡ parent_of ctx.now (IRNode.Region self)) }
         ensures whole { IsWhole D.attr_handles ctx.now }
     {
         ctx.nodes.prev_region(self)
@@ -61,6 +63,7 @@ impl Ptr<Region> {
         requires { IsLive ctx.now (IRNode.Region self) }
         ensures value { option_map IRNode.BasicBlock result ≡ first_kid ctx.now (IRNode.Region self) }
         ensures live { IfSome result (λ block. IsLive ctx.now (IRNode.BasicBlock block)) }
+        ensures here { IfSome result (λ block. parent_of ctx.now (IRNode.BasicBlock block) ≡ Some (IRNode.Region self)) }
         ensures whole { IsWhole D.attr_handles ctx.now }
     {
         ctx.nodes.first_block(self)
@@ -71,6 +74,7 @@ impl Ptr<Region> {
         requires { IsLive ctx.now (IRNode.Region self) }
         ensures value { option_map IRNode.BasicBlock result ≡ last_kid ctx.now (IRNode.Region self) }
         ensures live { IfSome result (λ block. IsLive ctx.now (IRNode.BasicBlock block)) }
+        ensures here { IfSome result (λ block. parent_of ctx.now (IRNode.BasicBlock block) ≡ Some (IRNode.Region self)) }
         ensures whole { IsWhole D.attr_handles ctx.now }
     {
         ctx.nodes.last_block(self)
@@ -81,6 +85,7 @@ impl Ptr<Region> {
         requires { IsLive ctx.now (IRNode.Region self) }
         ensures value { option_map IRNode.BasicBlock result ≡ first_kid ctx.now (IRNode.Region self) }
         ensures live { IfSome result (λ block. IsLive ctx.now (IRNode.BasicBlock block)) }
+        ensures here { IfSome result (λ block. parent_of ctx.now (IRNode.BasicBlock block) ≡ Some (IRNode.Region self)) }
         ensures whole { IsWhole D.attr_handles ctx.now }
     {
         self.get_head(ctx)

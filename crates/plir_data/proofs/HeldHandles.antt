@@ -1,8 +1,8 @@
 -- Whether handles name types of a table, asked of their parts.
 use Rattle.std.proofs.Common.{◌≡◌, ◌↔◌, ℕ, Bool, true, false, cond, List, [], ◌∷◌, ◌++◌, Option, Some, None, IsTrue, option_map, refl, sym, subst}
 use Rattle.std.specs.Prelude.{All, IfSome}
-use Rattle.std.proofs.lemmas.List.Elements.{All-append, All-head, All-tail}
-use Rattle.plir_data.specs.AttrLive.{IsAttrLive, AreEntriesLive, IsLiveWith}
+use Rattle.std.proofs.lemmas.List.Elements.{All-append, All-cons, All-head, All-nil, All-tail}
+use Rattle.plir_data.specs.AttrLive.{IsAttrLive, AreEntriesLive, HandlesLive, IsLiveWith}
 use Rattle.plir_data.specs.Dictionary.{dict_get, is_key}
 use Rattle.plir_data.specs.AttrView.{AttrView, entries_of}
 use Rattle.plir_data.specs.Types.{TypeView, IsLive, AllLive}
@@ -27,6 +27,19 @@ module _ {A T : Type 0} (own_handles : A → List ℕ) (types : List (TypeView T
   entry_dead is first all r =
       let h : (IsAttrLive own_handles types e.1 × AreEntriesLive own_handles types (entries_of fs)) ↔ R = subst (λ l. AreEntriesLive own_handles types (entries_of l) ↔ R) is all in
       first (h.1 r).0
+
+-- the attributes of a dictionary are live one by one exactly where all of them are
+module _ {A T : Type 0} (own_handles : A → List ℕ) (types : List (TypeView T)) where
+  abbrev IsEntryLive : List ℕ × AttrView A → Type 0
+  IsEntryLive e = IsAttrLive own_handles types e.1
+
+  pub listed_live : (es : List (List ℕ × AttrView A)) → AreEntriesLive own_handles types (entries_of es) → HandlesLive own_handles types es
+  listed_live [] h = All-nil IsEntryLive
+  listed_live (e ∷ es) h = All-cons IsEntryLive e es h.0 (listed_live es h.1)
+
+  pub live_listed : (es : List (List ℕ × AttrView A)) → HandlesLive own_handles types es → AreEntriesLive own_handles types (entries_of es)
+  live_listed [] h = tt
+  live_listed (e ∷ es) h = (All-head IsEntryLive e es h, live_listed es (All-tail IsEntryLive e es h))
 
 -- what holds of all values of a dictionary holds of the one at a key
 module _ {V : Type 0} (P : V → Type 0) (k : List ℕ) where

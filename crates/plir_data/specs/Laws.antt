@@ -1,5 +1,7 @@
 -- Laws of dictionaries and types.
-use Rattle.std.specs.Prelude.{◌≡◌, ℕ, zero, suc, List, ◌∷◌, ◌++◌, Some, false}
+use Rattle.std.specs.Prelude.{◌≡◌, ◌↔◌, ℕ, zero, suc, List, ◌∷◌, ◌++◌, Some, false}
+use Rattle.plir_data.specs.AttrLive.{IsAttrLive, HandlesLive}
+use Rattle.plir_data.specs.AttrView.{AttrView, dict, entries_of}
 use Rattle.plir_data.specs.Dictionary.{IsDictionary, dict_of, is_key}
 use Rattle.plir_data.specs.TypeTree.{tree_over, tree_of}
 use Rattle.plir_data.specs.Types.{TypeView, type_at}
@@ -11,6 +13,10 @@ module _ {V : Type 0} where
   IsReordered zero ps qs = ps ≡ qs
   IsReordered (suc n) ps qs =
       (front : List (List ℕ × V)) × (p : List ℕ × V) × (q : List ℕ × V) × (back : List (List ℕ × V)) × (is_key p.0 q.0 ≡ false) × (ps ≡ front ++ p ∷ q ∷ back) × IsReordered n (front ++ q ∷ p ∷ back) qs
+
+-- a dictionary is live as an attribute exactly where the attributes in it are
+abbrev pub AreLiveByEntries : {A T : Type 0} → (A → List ℕ) → List (TypeView T) → Type 0
+AreLiveByEntries {A} own_handles types = (es : List (List ℕ × AttrView A)) → IsAttrLive own_handles types (dict (entries_of es)) ↔ HandlesLive own_handles types es
 
 -- the order in which pairs of different keys come isn't seen in their dictionary
 abbrev pub OrderIsNotSeen : Type 0 → Type 0

@@ -6,7 +6,7 @@ ghost use Rattle.plir_data.specs.AttrSeen.{attr_view};
 ghost use Rattle.plir_data.specs.AttrVerify.{is_of_width, attr_is_valid, items_are_valid, IsLeafRefusal, IsRefusal, IsFirstRefusal};
 ghost use Rattle.plir_data.specs.AttrView.{items_of, own};
 ghost use Rattle.plir_data.specs.Types.{IsLive, AllLive, type_at};
-ghost use Rattle.plir_data.specs.Verify.{IsVerdict};
+ghost use Rattle.plir_data.specs.Verify.{IsVerdict, IsSureVerdict};
 ghost use Rattle.plir_data.specs.declared.attr_verify.AttrVerifyErr.TheVariants.{IntegerAttrBitwidth};
 
 use crate::attributes::{AttrObj, DictAttr, GivenNamesAttr, OperandSegmentSizesAttr, VecAttr};
@@ -41,7 +41,7 @@ impl IntegerAttr {
         ctx: &C,
     ) -> Result<(), VerifyErr<IntegerAttrBitwidthErr>>
         requires { IsLive (C.types ctx.now) self.now.ty }
-        ensures { IsVerdict (is_of_width self.now.value.width (type_at (C.types ctx.now) self.now.ty)) (λ _. ⊤) result }
+        ensures { IsSureVerdict (is_of_width self.now.value.width (type_at (C.types ctx.now) self.now.ty)) (λ _. ⊤) result }
     {
         if self.is_of_type_width(ctx) {
             return Ok(());

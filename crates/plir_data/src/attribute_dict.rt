@@ -109,6 +109,7 @@ impl<D: OpSet> AttributeDict<D> {
         ensures absent { OnErr result (dict_get self.old key.now ≡ None) }
         ensures handed_back { IfErr result (λ a. a ≡ value) }
         ensures same { OnErr result (self.new ≡ self.old) }
+        ensures live { IfOk result (λ a. IsLiveWith D.Ty self.old (attr_view a)) }
     {
         let Some(place) = self.entries.get_mut(key) else {
             return Err(value);
@@ -120,6 +121,7 @@ impl<D: OpSet> AttributeDict<D> {
     pub fn remove(&mut self, key: &str) -> Option<AttrObj<D>>
         ensures taken { option_map (λ a. attr_view a) result ≡ dict_get self.old key.now }
         ensures left { self.new ≡ dict_without self.old key.now }
+        ensures live { IfSome result (λ a. IsLiveWith D.Ty self.old (attr_view a)) }
     {
         self.entries.remove(key)
     }

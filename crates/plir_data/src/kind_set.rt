@@ -8,11 +8,15 @@ use crate::op_set::OpSet;
 use crate::type_store::TypeStore;
 use crate::types::TypeHandle;
 use std::alloc::Global;
+use std::error::Error as StdError;
 use std::marker::PhantomData;
 use thiserror::Error;
 
 /// Kinds of operations of a user's own: [`KindSet`] makes an op set of them.
 pub trait OwnKind: Copy {
+    /// Refusals of the kinds' own verifiers: [`NeverRefused`], where they never refuse.
+    type Err: StdError;
+
     // What each query answers.
     ghost is_terminator: { Self → Bool };
 
@@ -49,7 +53,7 @@ pub trait OwnKind: Copy {
 #[derive(Clone, Copy, PartialEq, Eq, Hash, Debug)]
 pub struct NoMeaning;
 
-/// The refusal of own verifiers, which these sets' never give.
+/// The refusal of own verifiers that never refuse.
 #[derive(Clone, Copy, PartialEq, Eq, Debug, Error)]
 #[error("never given")]
 pub struct NeverRefused;
@@ -64,6 +68,8 @@ pub type BuiltinSet = KindSet<NoMeaning>;
 
 impl OwnKind for NoMeaning {
     ghost use Rattle.std.specs.Prelude.{false, codes};
+
+    type Err = NeverRefused;
 
     ghost is_terminator = { λ _. false };
 
@@ -105,7 +111,7 @@ impl<K: OwnKind> OpSet for KindSet<K> {
 
     type Ty = NoMeaning;
 
-    type Err = NeverRefused;
+    type Err = K::Err;
 
     ghost is_terminator = { K.is_terminator };
 
@@ -183,7 +189,7 @@ impl<K: OwnKind> OpSet for KindSet<K> {
         _alloc: Global,
         _attr: &NoMeaning,
         _ctx: &C,
-    ) -> Result<(), VerifyErr<NeverRefused>> {
+    ) -> Result<(), VerifyErr<K::Err>> {
         Ok(())
     }
 

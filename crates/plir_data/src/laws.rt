@@ -4,7 +4,7 @@ ghost use Rattle.std.specs.Prelude.{◌≡◌, ◌↔◌, IsTrue, List};
 ghost use Rattle.std.specs.List.{fold};
 ghost use Rattle.plir_data.specs.AttrHash.{entries_words};
 ghost use Rattle.plir_data.specs.AttrView.{AttrView, entries_of};
-ghost use Rattle.plir_data.specs.Laws.{OrderIsNotSeen, IsDictOfItself, IsMadeOfTrees};
+ghost use Rattle.plir_data.specs.Laws.{OrderIsNotSeen, IsDictOfItself, IsMadeOfTrees, AreLiveByEntries};
 ghost use Rattle.plir_data.specs.Types.{TypeView, IsTypeTable};
 
 use crate::attributes::DictAttr;
@@ -38,6 +38,12 @@ pub fn equal_dictionaries_hash_alike<D: OpSet, H: Hasher>(
 /// A dictionary of attributes is that of its own entries, put one after the other.
 pub fn dictionary_is_that_of_its_entries<D: OpSet>()
     ensures { IsDictOfItself (AttrView D.Attr) }
+{}
+
+/// A dictionary is live as an attribute exactly where the attributes in it are: one wants it where a dictionary that is tested
+/// as a part of an attribute is handed to what asks its entries, or the other way round.
+pub fn dictionaries_are_live_by_their_entries<D: OpSet>()
+    ensures { (types : List (TypeView D.Ty)) → AreLiveByEntries D.attr_handles types }
 {}
 
 /// The tree of a handle is that of its type, over the trees of the handles that the type holds.

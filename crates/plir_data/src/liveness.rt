@@ -1,7 +1,7 @@
 //! Whether the type handles in attributes and types name types of a table.
 
 ghost use Rattle.std.specs.Prelude.{◌↔◌, ◌++◌, IsTrue};
-ghost use Rattle.plir_data.specs.AttrLive.{IsAttrLive, AreItemsLive, AreEntriesLive};
+ghost use Rattle.plir_data.specs.AttrLive.{IsAttrLive, AreItemsLive, AreEntriesLive, HandlesLive};
 ghost use Rattle.plir_data.specs.AttrSeen.{attr_view};
 ghost use Rattle.plir_data.specs.AttrView.{items_of, entries_of};
 ghost use Rattle.plir_data.specs.TypeSeen.{type_view};
@@ -42,7 +42,7 @@ impl<D: OpSet> AttrObj<D> {
         match self {
             AttrObj::Integer(value) => ctx.types().is_live(value.get_type().into()),
             AttrObj::Type(value) => ctx.types().is_live(value.get_type()),
-            AttrObj::Dict(value) => value.0.is_live(ctx),
+            AttrObj::Dict(value) => value.0.holds_live(ctx),
             AttrObj::Vec(value) => value.is_live(ctx),
             AttrObj::Own(value) => D::is_attr_live(value, ctx),
             _ => true,
@@ -68,8 +68,15 @@ impl<D: OpSet> VecAttr<D> {
 
 impl<D: OpSet> AttributeDict<D> {
     /// Whether all type handles in the attributes of the dictionary name types of the context.
-    #[cycle(live)]
     pub fn is_live<C: TypeStore<D>>(&self, ctx: &C) -> bool
+        ensures { IsTrue result ↔ HandlesLive D.attr_handles (C.types ctx.now) self.now }
+    {
+        self.holds_live(ctx)
+    }
+
+    /// The same, entry by entry.
+    #[cycle(live)]
+    fn holds_live<C: TypeStore<D>>(&self, ctx: &C) -> bool
         ensures { IsTrue result ↔ AreEntriesLive D.attr_handles (C.types ctx.now) (entries_of self.now) }
     {
         'entries: for (_, value) in self.entries.iter() {

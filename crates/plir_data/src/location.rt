@@ -26,6 +26,11 @@ pub enum VerifyErr<E> {
 }
 
 impl<E> From<Memory> for VerifyErr<E> {
+    ghost use Rattle.std.specs.Prelude.{◌≡◌};
+    ghost use Rattle.plir_data.specs.declared.location.VerifyErr.TheVariants as Variants;
+
+    ghost from_gives = { λ _ e. e ≡ Variants.Memory };
+
     fn from(_refused: Memory) -> VerifyErr<E> {
         VerifyErr::Memory
     }

@@ -10,7 +10,7 @@ use plir_data::{Identifier, OpSet, TypeHandle, TypeStore};
 use plir_text::Fault;
 use plir_text::attr_words::read_name;
 use plir_text::fault::Stop;
-use plir_text::tokens::left_at;
+use plir_text::tokens::{left_at, unread_id_at};
 use plir_text::types::read_type_at;
 use plir_text::words::{past_sign, read_sign, read_word};
 use std::alloc::Global;
@@ -37,6 +37,14 @@ pub enum HeadData {
     Func(Identifier, TypeHandle),
 }
 
+// The ids that begin an operation.
+const OP_IDS: [&str; 4] = [
+    "builtin.module",
+    "builtin.func",
+    "builtin.constant",
+    "builtin.forward_ref",
+];
+
 // What the id of an operation names, with this many bytes left where it stands.
 #[tactic(auto, unfolding(crate::specs::OpReading::op_kind))]
 fn op_kind(word: &[u8], left: usize) -> Result<HeadKind, Stop>
@@ -51,7 +59,7 @@ fn op_kind(word: &[u8], left: usize) -> Result<HeadKind, Stop>
     } else if word == b"builtin.forward_ref".as_slice() {
         Ok(HeadKind::ForwardRef)
     } else {
-        Err(Stop::At(Fault::Unexpected, left))
+        Err(Stop::At(Fault::Unexpected, unread_id_at(word, left, &OP_IDS)))
     }
 }
 

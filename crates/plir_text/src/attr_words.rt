@@ -11,7 +11,7 @@ ghost use Rattle.plir_text.specs.AttrReading.{literal_at, bits_of, value_of, if_
 
 use crate::fault::{Fault, Stop};
 use crate::strings::{read_quoted, text_of};
-use crate::tokens::{Piece, left_at, look, magnitude};
+use crate::tokens::{Piece, left_at, look, magnitude, unread_id_at};
 use crate::words::{past_sign, read_integer, read_separator, read_sign, read_word};
 use plir_data::{APInt, Identifier, IdentifierErr, Signedness};
 use std::alloc::Global;
@@ -30,6 +30,20 @@ pub enum AttrKind {
     OperandSegmentSizes,
     GivenNames,
 }
+
+// The ids that begin an attribute.
+const ATTR_IDS: [&str; 10] = [
+    "builtin.identifier",
+    "builtin.string",
+    "builtin.bool",
+    "builtin.integer",
+    "builtin.dict",
+    "builtin.vec",
+    "builtin.unit",
+    "builtin.type",
+    "builtin.operand_segment_sizes",
+    "builtin.given_names",
+];
 
 // What the id of an attribute names, with this many bytes left where it stands.
 #[tactic(auto, unfolding(crate::specs::AttrReading::attr_kind))]
@@ -57,7 +71,7 @@ fn attr_kind(word: &[u8], left: usize) -> Result<AttrKind, Stop>
     } else if word == b"builtin.given_names".as_slice() {
         Ok(AttrKind::GivenNames)
     } else {
-        Err(Stop::At(Fault::Unexpected, left))
+        Err(Stop::At(Fault::Unexpected, unread_id_at(word, left, &ATTR_IDS)))
     }
 }
 

@@ -121,6 +121,63 @@ pub fn left_at(bytes: &[u8]) -> usize {
     past_blank(bytes).len()
 }
 
+// A word up to its second point: an id has one.
+fn id_of(word: &[u8]) -> &[u8] {
+    let mut has_point = false;
+    for (place, byte) in word.iter().enumerate() {
+        if *byte == b'.' {
+            if has_point {
+                return word.get(..place).unwrap_or(word);
+            }
+            has_point = true;
+        }
+    }
+    word
+}
+
+// Whether these are the bytes of one of the ids.
+fn is_one_of(bytes: &[u8], ids: &[&str]) -> bool {
+    for id in ids {
+        if bytes == id.as_bytes() {
+            return true;
+        }
+    }
+    false
+}
+
+// Whether a point stands in these bytes, and something behind it.
+fn is_whole_id(bytes: &[u8]) -> bool {
+    match bytes {
+        [.., b'.'] => false,
+        _ => bytes.contains(&b'.'),
+    }
+}
+
+// How many bytes are left where a word has its fault that is none of these ids, with `left` where it stands. The fault stands at
+// the first character of the token that can't be read: behind one of the ids that is its second point. Where the text is cut in
+// the token, it stands at the text's end.
+pub fn unread_id_at(word: &[u8], left: usize, ids: &[&str]) -> usize {
+    let id = id_of(word);
+    if id.len() < word.len() {
+        if is_one_of(id, ids) {
+            return left.saturating_sub(id.len());
+        }
+    } else if word.len() == left && !is_whole_id(word) {
+        return 0;
+    }
+    left
+}
+
+// How many bytes are left where a token has its fault that is no `->`: at the text's end, if that is cut behind the `-`.
+pub fn unread_arrow_at(bytes: &[u8]) -> usize {
+    let rest = past_blank(bytes);
+    if rest == b"-".as_slice() {
+        0
+    } else {
+        rest.len()
+    }
+}
+
 // The first token, and what stands behind it.
 #[tactic(auto, unfolding(crate::specs::Tokens::look))]
 pub fn look(bytes: &[u8]) -> Result<(Piece<'_>, &[u8]), Stop>

@@ -7,7 +7,10 @@ ghost use Rattle.plir_text.specs.Lists.{is_sign, sign_at, past_sign, separator_a
 ghost use Rattle.plir_text.specs.TypeReading.{word_at, arrow_at, type_kind, width_of, integer_of, integer_at, type_head};
 
 use crate::fault::{Fault, Stop};
-use crate::tokens::{Piece, all_digits, begins_digit, front_digits, left_at, look, magnitude};
+use crate::tokens::{
+    Piece, all_digits, begins_digit, front_digits, left_at, look, magnitude, unread_arrow_at,
+    unread_id_at,
+};
 use plir_data::Signedness;
 
 // What the id of a type names.
@@ -59,7 +62,7 @@ pub fn read_arrow(bytes: &[u8]) -> Result<&[u8], Stop>
     let (piece, rest) = look(bytes)?;
     match piece {
         Piece::Arrow => Ok(rest),
-        _ => Err(Stop::At(Fault::Unexpected, left_at(bytes))),
+        _ => Err(Stop::At(Fault::Unexpected, unread_arrow_at(bytes))),
     }
 }
 
@@ -95,6 +98,9 @@ pub fn read_separator(bytes: &[u8], close: u8) -> Result<(bool, &[u8]), Stop>
     }
 }
 
+// The ids that begin a type.
+const TYPE_IDS: [&str; 3] = ["builtin.integer", "builtin.function", "builtin.unit"];
+
 // What the id of a type names, with this many bytes left where it stands.
 #[tactic(auto, unfolding(crate::specs::TypeReading::type_kind))]
 fn type_kind(word: &[u8], left: usize) -> Result<TypeKind, Stop>
@@ -107,7 +113,7 @@ fn type_kind(word: &[u8], left: usize) -> Result<TypeKind, Stop>
     } else if word == b"builtin.unit".as_slice() {
         Ok(TypeKind::Unit)
     } else {
-        Err(Stop::At(Fault::Unexpected, left))
+        Err(Stop::At(Fault::Unexpected, unread_id_at(word, left, &TYPE_IDS)))
     }
 }
 
@@ -149,10 +155,7 @@ fn integer_of(word: &[u8], left: usize) -> Result<(Signedness, u32), Stop>
 {
     match word {
         [] => Err(Stop::At(Fault::Unexpected, left)),
-        [letter] => Err(Stop::At(
-            Fault::Unexpected,
-            left.saturating_sub(letters_before(*letter)),
-        )),
+        [letter] => Err(Stop::At(Fault::Unexpected, unread_letter_at(*letter, left))),
         [first, second, digits @ ..] => {
             if *first == b'i' {
                 width_of(Signedness::Signless, &word[1..], left.saturating_sub(1))
@@ -169,9 +172,14 @@ fn integer_of(word: &[u8], left: usize) -> Result<(Signedness, u32), Stop>
     }
 }
 
-// How many letters of an integer type one letter alone is.
-fn letters_before(letter: u8) -> usize {
-    if letter == b'i' { 1 } else { 0 }
+// How many bytes are left where an integer type has its fault that is one letter alone, with `left` where it stands: behind an
+// `i`, where its digits are wanting; at the text's end, if that is cut in `si` or `ui`.
+fn unread_letter_at(letter: u8, left: usize) -> usize {
+    if letter == b'i' || (left == 1 && (letter == b's' || letter == b'u')) {
+        left.saturating_sub(1)
+    } else {
+        left
+    }
 }
 
 // An integer type without its id.

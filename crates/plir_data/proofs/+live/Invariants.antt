@@ -5,9 +5,9 @@ use Rattle.plir_data.specs.AttrView.{items_of, entries_of}
 use Rattle.plir_data.specs.DictSeen.{pairs_view}
 use Rattle.plir_data.proofs.+live.Given as goal
 
-abbrev pub invariant-attribute_dict::AttributeDict::is_live-entries :
-    goal.invariant-attribute_dict::AttributeDict::is_live-entries
-invariant-attribute_dict::AttributeDict::is_live-entries g l =
+abbrev pub invariant-attribute_dict::AttributeDict::holds_live-entries :
+    goal.invariant-attribute_dict::AttributeDict::holds_live-entries
+invariant-attribute_dict::AttributeDict::holds_live-entries g l =
     let types = g.C.TypeStore.types l.ctx in
     AreEntriesLive g.D.OpSet.attr_handles types (entries_of (pairs_view l.value-iterator)) ↔ AreEntriesLive g.D.OpSet.attr_handles types (entries_of l.self)
 

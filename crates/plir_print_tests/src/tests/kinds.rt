@@ -1,5 +1,5 @@
 //! The kinds of operations of these tests.
-use plir_data::OwnKind;
+use plir_data::{NeverRefused, OwnKind};
 use plir_scripts::ScriptKind;
 
 /// A kind of operations: its id, and whether it ends its block.
@@ -11,6 +11,8 @@ pub struct TestKind {
 
 impl OwnKind for TestKind {
     ghost use Rattle.std.specs.Prelude.{false};
+
+    type Err = NeverRefused;
 
     ghost is_terminator = { λ k. k.ends_block };
 

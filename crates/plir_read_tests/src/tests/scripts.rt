@@ -68,11 +68,22 @@ fn texts_that_stand_for_no_operation(rt: HostRuntime) -> Result<(), Mismatch> {
         read x = builtin.module @m {} => NResultsVerifyErr(0, 1) at 1:5
         read x, y = builtin.constant <builtin.unit> : builtin.unit => NResultsVerifyErr(1, 2) at 1:8
         read x => Unexpected at 1:2
+        read a = b => Unexpected at 1:6
+        read builtin. => Unexpected at 1:9
+        read builtin.module.x @m {} => Unexpected at 1:15
         read => Unexpected at 1:1
         read builtin.module @m {^b(): builtin.func @f: builtin.unit {}; } => Unexpected at 1:60
         read builtin.constant <builtin.unit> : builtin.unit => NResultsVerifyErr(1, 0) at 1:1
         read sample.mark () [] []: <()->()> => Unexpected at 1:1
         read builtin.module @m {} x => Unexpected at 1:22";
+    play_in(rt.alloc(), 100, script)
+}
+
+#[test]
+fn names_with_nothing_before_their_suffix_give_none(rt: HostRuntime) -> Result<(), Mismatch> {
+    let script = "
+        read _op1v1_res0 = builtin.constant <builtin.integer <0: si64>> : builtin.integer si64 => o0 op1v1_res0 = builtin.constant <builtin.integer <0: si64>> : builtin.integer si64
+        read builtin.module @m {^_block7v7():} => o1 builtin.module @m ¶{¶  ^block1v1():¶}";
     play_in(rt.alloc(), 100, script)
 }
 

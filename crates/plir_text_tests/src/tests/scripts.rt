@@ -71,6 +71,22 @@ fn faults_stand_at_their_tokens(rt: HostRuntime) -> Result<(), Mismatch> {
 }
 
 #[test]
+fn cut_tokens_have_their_faults_at_the_end(rt: HostRuntime) -> Result<(), Mismatch> {
+    let script = "
+        read-type b => Unexpected at 1:2
+        read-type b x => Unexpected at 1:1
+        read-type builtin. => Unexpected at 1:9
+        read-type builtin.unit. => Unexpected at 1:13
+        read-type builtin.none.unit => Unexpected at 1:1
+        read-function <()- => Unexpected at 1:5
+        read-integer s => Unexpected at 1:2
+        attr b => Unexpected at 1:2
+        attr builtin.unit. => Unexpected at 1:13
+        attr builtin.vec [builtin. => Unexpected at 1:22";
+    play_in(rt.alloc(), script)
+}
+
+#[test]
 fn faults_of_operations_have_texts(rt: HostRuntime) -> Result<(), Mismatch> {
     let script = "
         fault forward-ref => builtin.forward_ref is a temporary Op during parsing. It must not exit in a well-formed program.

@@ -1,7 +1,7 @@
 use Rattle.std.proofs.Common.{◌∙◌, ap, sym, Some}
 use Rattle.plir_data.specs.AttrSeen.{attr_view}
 use Rattle.plir_core.proofs.attributes.Ptr+Operation.swap_attr.Goals as goal
-use Rattle.plir_core.proofs.Edited.{either_way}
+use Rattle.plir_core.proofs.Edited.{either_way, op_attr_swapped}
 use Rattle.plir_core.proofs.Holds.{op_attr_set}
 
 pub invariant_of-ctx : goal.invariant_of-ctx
@@ -10,3 +10,6 @@ invariant_of-ctx g c =
 
 pub returns-clause-whole : goal.returns-clause-whole
 returns-clause-whole g c = invariant_of-ctx g c
+
+pub returns-clause-live : goal.returns-clause-live
+returns-clause-live g c = op_attr_swapped g.D.OpSet.attr_handles _ c.args.ctx.now c.ctx.view_is c.ctx.invariant attr_view c.replace.result c.args.self.slot (record { kind = c.behind-ctx.inside.kind; result_types = c.behind-ctx.inside.result_types.items; operands = c.behind-ctx.inside.operands.items; successors = c.behind-ctx.inside.successors.items; attributes = c.behind-ctx.inside.attributes; location = c.behind-ctx.inside.location }) (c.op_mut.ensures.value ∙ ap (λ z. Some z) (sym c.behind-ctx.view_is)) c.replace.ensures.live
