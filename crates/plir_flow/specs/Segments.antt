@@ -1,5 +1,5 @@
 -- Operands in segments: a list of lists, whose lengths are the sizes and whose flattening is the operands.
-use Rattle.std.specs.Prelude.{◌≡◌, ℕ, zero, suc, ◌+◌, ◌-◌, List, [], ◌∷◌, ◌++◌, insert, remove, length, map, take, drop, sum, slice_get, slice_index_or, slice_range, false, Option, Some, None, IsSome, unwrap_or, option_and_then, codes}
+use Rattle.std.specs.Prelude.{◌≡◌, ℕ, zero, suc, ◌+◌, ◌-◌, ◌<◌, List, [], ◌∷◌, ◌++◌, insert, remove, length, map, take, drop, sum, slice_get, slice_index_or, slice_range, false, Option, Some, None, IsSome, unwrap_or, option_and_then, codes}
 use Rattle.std.specs.List.{flat_map}
 use Rattle.plir_data.specs.AttrView.{AttrView, leaf, operand_segment_sizes}
 use Rattle.plir_data.specs.Dictionary.{dict_get, dict_put, is_key}
@@ -156,3 +156,29 @@ module _ {K A T : Type 0} where
 
     abbrev pub IsLastOperandTaken : Type 0
     IsLastOperandTaken = operands_of t op ≡ remove (operands_of s op) ((segment_places s op seg).1 - 1)
+
+module _ {K A T : Type 0} where
+  -- from s to t a value is pushed to a segment, which there is
+  pub record IsPushed (s t : Store K A T) (op : Ptr OperationKind) (seg : ℕ) (v : Value) : Type 0 where
+    pub segmented : IsSegmented s op
+    pub below : seg < num_segments s op
+    pub edited : IsSegmentEdited s t op seg (λ xs. xs ++ v ∷ [])
+
+  -- from s to t the value that stood last in a segment is popped
+  pub record IsPopped (s t : Store K A T) (op : Ptr OperationKind) (seg : ℕ) (v : Value) : Type 0 where
+    pub value : StandsInSegment s op seg (segment_size s op seg - 1) v
+    pub edited : IsSegmentEdited s t op seg (λ xs. take (length xs - 1) xs)
+
+  -- the operation has the same segments in s and in t
+  pub record HasSameSegments (s t : Store K A T) (op : Ptr OperationKind) : Type 0 where
+    pub segments : segments_of t op ≡ segments_of s op
+    pub sizes : sizes_of t op ≡ sizes_of s op
+    pub operands : operands_of t op ≡ operands_of s op
+
+  -- once a value is pushed to a segment, the segment is there and not empty
+  abbrev pub CanBePopped : (s t : Store K A T) → Ptr OperationKind → Type 0
+  CanBePopped s t op = (seg : ℕ) (v : Value) → IsPushed s t op seg v → (seg < num_segments t op) × (0 < segment_size t op seg)
+
+  -- the value that is popped from a segment is the one that was pushed right before, and the segments are those before the push
+  abbrev pub PopsWhatWasPushed : (s t u : Store K A T) → Ptr OperationKind → Type 0
+  PopsWhatWasPushed s t u op = (seg : ℕ) (v w : Value) → IsPushed s t op seg v → IsPopped t u op seg w → (w ≡ v) × HasSameSegments s u op

@@ -1,18 +1,18 @@
 //! Laws of segments and of region edges: each function that takes no context does nothing, and its contract is the law.
-ghost use Rattle.std.specs.Prelude.{◌≡◌, ◌≢◌, ◌<◌, ◌≤◌, ◌-◌, ◌^◌, ◌↔◌, ℕ, List, IsTrue, IfOk, OnOk};
-ghost use Rattle.std.specs.Prelude.{OnErr, length, map, sum};
+ghost use Rattle.std.specs.Prelude.{◌≡◌, ◌≢◌, ◌<◌, ◌≤◌, ◌↔◌, ℕ, List, IsTrue, IfOk, length, map, sum};
 ghost use Rattle.plir_core.specs.declared.ptr.IRNode.{IRNode};
+ghost use Rattle.plir_core.specs.declared.ptr.Operation.{Operation as OperationKind};
+ghost use Rattle.plir_core.specs.declared.ptr.Ptr.{Ptr as AnyPtr};
 ghost use Rattle.plir_core.specs.declared.value.Value.{Value as AnyValue};
-ghost use Rattle.plir_core.specs.Store.{IsLive, IsValueLive, operands_of};
-ghost use Rattle.plir_core.specs.Whole.{IsWhole};
+ghost use Rattle.plir_core.specs.Store.{Store, IsLive, operands_of};
 ghost use Rattle.plir_flow.specs.Branches.{operands_within};
 ghost use Rattle.plir_flow.specs.RegionEdges.{Reach};
-ghost use Rattle.plir_flow.specs.Segments.{in_segments, flatten, segment_at, edit_at, SegmentEdit, put_last, take_last, sizes_of, num_segments};
-ghost use Rattle.plir_flow.specs.Segments.{segment_size, segment_places, segments_of, IsSegmented, HasSegments};
+ghost use Rattle.plir_flow.specs.Segments.{in_segments, flatten, segment_at, edit_at, SegmentEdit, put_last, take_last, num_segments};
+ghost use Rattle.plir_flow.specs.Segments.{segment_size, segment_places, segments_of, IsSegmented};
+ghost use Rattle.plir_flow.specs.Segments.{CanBePopped, PopsWhatWasPushed};
 
 use crate::region_branches::RegionBranchOpInterface;
-use crate::segments::OperandSegmentInterface;
-use plir_core::{Context, Operation, Ptr, Region, Value};
+use plir_core::{Context, Operation, Ptr, Region};
 use plir_data::{Memory, OpSet};
 use std::alloc::Global;
 
@@ -50,30 +50,13 @@ pub fn segments_stand_in_a_row<D: OpSet>(ctx: &Context<D>, op: Ptr<Operation>)
     let _live = ctx.num_live();
 }
 
-/// Pushes a value to a segment and pops it: that gives the value, and the operation's segments and operands are as
-/// before. Where the push is refused, all is as before.
-pub fn push_then_pop<D: OpSet, O: OperandSegmentInterface<D>>(
-    ctx: &mut Context<D>,
-    op: &O,
-    seg: usize,
-    operand: Value,
-) -> Result<Value, Memory>
-    requires live { IsLive ctx.old (IRNode.Operation (O.pointer op.now)) }
-    requires rule { HasSegments (O.expected op.now ctx.old) ctx.old (O.pointer op.now) }
-    requires below { seg < num_segments ctx.old (O.pointer op.now) }
-    requires room { segment_size ctx.old (O.pointer op.now) seg < 2 ^ 32 - 1 }
-    requires operand_live { IsValueLive ctx.old operand }
-    ensures value { IfOk result (λ v. v ≡ operand) }
-    ensures segments { OnOk result (segments_of ctx.new (O.pointer op.now) ≡ segments_of ctx.old (O.pointer op.now)) }
-    ensures sizes { OnOk result (sizes_of ctx.new (O.pointer op.now) ≡ sizes_of ctx.old (O.pointer op.now)) }
-    ensures operands { OnOk result (operands_of ctx.new (O.pointer op.now) ≡ operands_of ctx.old (O.pointer op.now)) }
-    ensures rule { OnOk result (HasSegments (O.expected op.now ctx.new) ctx.new (O.pointer op.now)) }
-    ensures err { OnErr result (ctx.new ≡ ctx.old) }
-    ensures whole { IsWhole D.attr_handles ctx.new }
-{
-    op.push_to_segment(ctx, seg, operand)?;
-    Ok(op.pop_from_segment(ctx, seg))
-}
+/// What is pushed to a segment is what is popped from it next, and then segments, sizes and operands are as before the push. One
+/// wants it where the clause `ok` of `push_to_segment` leads from one state to a second, and the clauses `value` and `after` of
+/// `pop_from_segment` from there to a third. What was pushed to can be popped from.
+pub fn push_then_pop<D: OpSet>()
+    ensures filled { (s t : Store D.Kind D.Attr D.Ty) (op : AnyPtr OperationKind) → CanBePopped s t op }
+    ensures back { (s t u : Store D.Kind D.Attr D.Ty) (op : AnyPtr OperationKind) → PopsWhatWasPushed s t u op }
+{}
 
 /// A region is repetitive exactly if a path of one edge or more between regions leads from it back to it.
 pub fn repetitive_is_on_a_cycle<D: OpSet, O: RegionBranchOpInterface<D>>(

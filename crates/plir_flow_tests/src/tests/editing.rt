@@ -4,11 +4,11 @@ ghost use Rattle.plir_core.specs.declared.ptr.IRNode.{IRNode as AnyNode};
 
 use plir_core::Context;
 use plir_data::OpSet;
-use plir_flow::{OperandSegmentInterface, laws};
+use plir_flow::OperandSegmentInterface;
 use plir_scripts::{Answer, Line, Made, Stop, number};
 
 /// `push OP SEGMENT VALUE` writes the place, `into OP SEGMENT PLACE VALUE`, `pop OP SEGMENT` and `from OP SEGMENT PLACE`
-/// write the value, and so does `again OP SEGMENT VALUE`, which pushes a value and pops it.
+/// write the value.
 pub fn edit<D: OpSet, O: OperandSegmentInterface<D>>(
     ctx: &mut Context<D>,
     made: &Made,
@@ -22,8 +22,7 @@ pub fn edit<D: OpSet, O: OperandSegmentInterface<D>>(
         "push" => push(ctx, made, answer, op, line),
         "into" => into(ctx, made, op, line),
         "pop" => pop(ctx, made, answer, op, line),
-        "from" => from(ctx, made, answer, op, line),
-        _ => again(ctx, made, answer, op, line),
+        _ => from(ctx, made, answer, op, line),
     }
 }
 
@@ -112,26 +111,5 @@ fn from<D: OpSet, O: OperandSegmentInterface<D>>(
     }
     let value = op.remove_from_segment(ctx, seg, place);
     made.put_value(answer, value);
-    Ok(())
-}
-
-fn again<D: OpSet, O: OperandSegmentInterface<D>>(
-    ctx: &mut Context<D>,
-    made: &Made,
-    answer: &mut Answer,
-    op: &O,
-    line: Line<'_>,
-) -> Result<(), Stop>
-    requires { IsLive ctx.old (AnyNode.Operation (O.pointer op.now)) }
-{
-    let (seg, value) = (number(line.second)?, made.value(ctx, line.third)?);
-    if OperandSegmentInterface::<D>::verify(op, ctx).is_err()
-        || seg >= op.num_segments(ctx)
-        || op.segment_size(ctx, seg) == u32::MAX
-    {
-        return Err(Stop::Refused);
-    }
-    let back = laws::push_then_pop(ctx, op, seg, value)?;
-    made.put_value(answer, back);
     Ok(())
 }

@@ -12,7 +12,7 @@ use super::grouping::{
     ask_all, ask_segment, ask_size, expected_of, flatten, set_sizes, verify, verify_types,
 };
 use plir_data::OpSet;
-use plir_flow::{BranchOpInterface, OperandSegmentInterface};
+use plir_flow::{BranchOpInterface, OperandSegmentInterface, laws};
 use plir_scripts::{Bench, Layer, Line, Mismatch, NodeCalls, SampleSet, Stop, number, play};
 
 /// The calls on segments, and those on nodes.
@@ -32,8 +32,7 @@ impl Layer<SampleSet> for SegmentCalls {
             | "push"
             | "into"
             | "pop"
-            | "from"
-            | "again" => {}
+            | "from" => {}
             _ => return NodeCalls::run(bench, line),
         }
         let op = bench.made.op(&bench.ctx, line.first)?;
@@ -61,7 +60,7 @@ fn call_segments<D: OpSet, O: OperandSegmentInterface<D>>(
 {
     match line.command {
         "sizes" => return set_sizes(bench, op, line),
-        "push" | "into" | "pop" | "from" | "again" => {
+        "push" | "into" | "pop" | "from" => {
             return edit(&mut bench.ctx, &bench.made, &mut bench.answer, op, line);
         }
         _ => {}
@@ -185,7 +184,8 @@ fn segments_are_edited_where_memory_is_refused(rt: HostRuntime) -> Result<(), Mi
         size o1 9 => 0
         pop o1 1 => refused
         pop o1 3 => refused
-        again o1 0 o0.3 => o0.3
+        push o1 0 o0.3 => 2
+        pop o1 0 => o0.3
         held o1 => o0.0 o0.1 o0.2 / 2 0 1
         op constant 0 => o2
         sizes o2 0 0
@@ -193,8 +193,10 @@ fn segments_are_edited_where_memory_is_refused(rt: HostRuntime) -> Result<(), Mi
         held o2 => o0.3 / 0 1
         op constant 0 => o3
         sizes o3 0
-        again o3 0 o0.3 => o0.3
+        push o3 0 o0.3 => 0
+        pop o3 0 => o0.3
         held o3 => / 0";
+    laws::push_then_pop::<SampleSet>();
     play::<SampleSet, SegmentCalls>(rt.alloc(), 100, script)
 }
 

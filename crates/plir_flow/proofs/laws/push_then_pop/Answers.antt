@@ -1,20 +1,15 @@
 use Rattle.plir_flow.proofs.Popping.{still-below, not-empty, value-back, segments-back, sizes-back, operands-back}
 use Rattle.plir_flow.proofs.laws.push_then_pop.Goals as goal
 
-pub pop_from_segment-requires-clause-below : goal.pop_from_segment-requires-clause-below
-pop_from_segment-requires-clause-below g c = still-below c.args.ctx.now c.push_to_segment.new.ctx (g.O.Op.pointer c.args.op.now) c.args.seg c.args.operand c.requires.rule.segmented c.requires.below c.in_ok-push_to_segment.ensures.ok
+pub returns-clause-filled : goal.returns-clause-filled
+returns-clause-filled g c = λ s t op seg v p. (still-below s t op seg v p.segmented p.below p.edited, not-empty s t op seg v p.segmented p.below p.edited)
 
-pub pop_from_segment-requires-clause-filled : goal.pop_from_segment-requires-clause-filled
-pop_from_segment-requires-clause-filled g c = not-empty c.args.ctx.now c.push_to_segment.new.ctx (g.O.Op.pointer c.args.op.now) c.args.seg c.args.operand c.requires.rule.segmented c.requires.below c.in_ok-push_to_segment.ensures.ok
-
-pub returns-clause-value : goal.returns-clause-value
-returns-clause-value g c = value-back c.args.ctx.now c.push_to_segment.new.ctx (g.O.Op.pointer c.args.op.now) c.args.seg c.args.operand c.requires.rule.segmented c.requires.below c.in_ok-push_to_segment.ensures.ok c.pop_from_segment.result c.pop_from_segment.ensures.value
-
-pub returns-clause-segments : goal.returns-clause-segments
-returns-clause-segments g c = segments-back c.args.ctx.now c.push_to_segment.new.ctx (g.O.Op.pointer c.args.op.now) c.args.seg c.args.operand c.requires.rule.segmented c.requires.below c.in_ok-push_to_segment.ensures.ok c.pop_from_segment.new.ctx c.pop_from_segment.ensures.after
-
-pub returns-clause-sizes : goal.returns-clause-sizes
-returns-clause-sizes g c = sizes-back c.args.ctx.now c.push_to_segment.new.ctx (g.O.Op.pointer c.args.op.now) c.args.seg c.args.operand c.requires.rule.segmented c.requires.below c.in_ok-push_to_segment.ensures.ok c.pop_from_segment.new.ctx c.pop_from_segment.ensures.after
-
-pub returns-clause-operands : goal.returns-clause-operands
-returns-clause-operands g c = operands-back c.args.ctx.now c.push_to_segment.new.ctx (g.O.Op.pointer c.args.op.now) c.args.seg c.args.operand c.requires.rule.segmented c.requires.below c.in_ok-push_to_segment.ensures.ok c.pop_from_segment.new.ctx c.pop_from_segment.ensures.after
+pub returns-clause-back : goal.returns-clause-back
+returns-clause-back g c = λ s t u op seg v w p q. (
+  value-back s t op seg v p.segmented p.below p.edited w q.value,
+  record {
+    segments = segments-back s t op seg v p.segmented p.below p.edited u q.edited;
+    sizes = sizes-back s t op seg v p.segmented p.below p.edited u q.edited;
+    operands = operands-back s t op seg v p.segmented p.below p.edited u q.edited;
+  },
+)
