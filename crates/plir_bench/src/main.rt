@@ -1,5 +1,6 @@
-//! Does what commands say, a line each, to measure what calls of the library cost: `COMMAND WORD ROUNDS`, of which the word
-//! and the rounds may be left out. It writes what each has counted, and to the standard error the least time of its rounds.
+//! Does what commands say, a line each, to measure what calls of the library cost: `COMMAND WORD ROUNDS`, of which the
+//! word and the rounds may be left out. It writes what each has counted, and to the standard error the least time of its
+//! rounds.
 #![tactic(auto)]
 
 mod building;

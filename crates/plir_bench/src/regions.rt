@@ -24,11 +24,11 @@ pub fn read_regions<D: OpSet>(session: &Session, ctx: &Context<D>) -> Option<u64
     if !root.is_live(ctx) {
         return None;
     }
-    let mut live = 0;
+    let mut live: u64 = 0;
     for index in 0..root.num_regions(ctx) {
         let region = root.get_region(ctx, index);
         if region.is_live(ctx) {
-            live += 1;
+            live = live.saturating_add(1);
         }
     }
     Some(live)

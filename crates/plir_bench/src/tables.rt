@@ -19,10 +19,10 @@ pub fn make_table<D: OpSet>(session: &mut Session, ctx: &Context<D>) -> Option<u
 
 /// Counts the listed names that the table has.
 pub fn look_up(session: &Session) -> Option<u64> {
-    let mut found = 0;
+    let mut found: u64 = 0;
     for name in &session.names {
         match &session.table {
-            Some(table) if table.lookup(name).is_some() => found += 1,
+            Some(table) if table.lookup(name).is_some() => found = found.saturating_add(1),
             _ => {}
         }
     }
@@ -73,10 +73,10 @@ fn count_done<D: OpSet>(
     no_tables_agree(ctx);
     let mut tables = SymbolTableCollection::new(session.alloc);
     let replies = tables.apply_all(ctx, edits).ok()?;
-    let mut done = 0;
+    let mut done: u64 = 0;
     for reply in &replies {
         if reply.is_ok() {
-            done += 1;
+            done = done.saturating_add(1);
         }
     }
     Some(done)

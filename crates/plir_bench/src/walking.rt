@@ -24,7 +24,7 @@ pub fn walk<D: OpSet>(session: &Session, ctx: &Context<D>, config: &WalkConfig) 
     if !root.is_live(ctx) {
         return None;
     }
-    let mut count = 0;
+    let mut count: u64 = 0;
     let visit = |_ctx: &Context<D>, count: &mut u64, _node: IRNode| -> WalkResult<()> {
         *count = count.wrapping_add(1);
         walk_advance()
@@ -43,7 +43,7 @@ pub fn walk_operations<D: OpSet>(
     if !root.is_live(ctx) {
         return None;
     }
-    let mut count = 0;
+    let mut count: u64 = 0;
     let visit = |_ctx: &Context<D>, count: &mut u64, node: IRNode| -> WalkResult<()> {
         if let IRNode::Operation(_) = node {
             *count = count.wrapping_add(1);
@@ -64,7 +64,7 @@ pub fn walk_mutably<D: OpSet>(
     if !root.is_live(ctx) {
         return None;
     }
-    let mut count = 0;
+    let mut count: u64 = 0;
     let visit = |_ctx: &mut Context<D>, count: &mut u64, _node: IRNode| -> WalkResult<()> {
         *count = count.wrapping_add(1);
         walk_advance()
@@ -75,10 +75,10 @@ pub fn walk_mutably<D: OpSet>(
 
 /// Counts the listed operations of which nothing is used outside them.
 pub fn count_unused<D: OpSet>(session: &Session, ctx: &Context<D>) -> Option<u64> {
-    let mut count = 0;
+    let mut count: u64 = 0;
     for op in &session.ops {
         if op.is_live(ctx) && IRNode::Operation(*op).is_unused_outside(ctx) {
-            count += 1;
+            count = count.saturating_add(1);
         }
     }
     Some(count)
