@@ -1,11 +1,8 @@
-//! The commands on operations with many regions, and on values with many uses.
-ghost use Rattle.plir_core.specs.Store.{IsLive};
-ghost use Rattle.plir_core.specs.declared.ptr.IRNode.{IRNode as AnyNode};
-
-use crate::building::{body_of, make_module, make_plain, put_last};
+//! The commands on operations with many regions.
+use crate::building::make_plain;
 use crate::session::Session;
-use plir_core::{BasicBlock, Context, IRNode, Operation, Ptr, Value};
-use plir_data::{OpKind, OpSet, UnitType};
+use plir_core::Context;
+use plir_data::OpSet;
 
 /// A new root that has as many empty regions.
 pub fn make_regions<D: OpSet>(
