@@ -1,5 +1,5 @@
 -- Tables that agree with the bodies that they stand for.
-use Rattle.std.specs.Prelude.{◌≡◌, ℕ, Bool, true, List, Some, ◌⊎◌}
+use Rattle.std.specs.Prelude.{◌≡◌, ℕ, Bool, true, List, Some, None, IsSome, ◌⊎◌}
 use Rattle.std.specs.FinMap as map
 use Rattle.plir_core.specs.declared.ptr.Ptr.{Ptr}
 use Rattle.plir_core.specs.declared.ptr.Operation.{Operation as OperationKind}
@@ -34,6 +34,10 @@ module _ {K A T : Type 0} (own_symbol own_table : K → Bool) where
   -- a new table is cached for p, which agrees
   abbrev pub IsNewlyCached : Store K A T → Tables → Ptr OperationKind → Tables → Type 0
   IsNewlyCached s c p c' = (t : Table) × (c' ≡ map.insert c p t) × (t.op ≡ p) × Agrees s t
+
+  -- a table is cached for p: the one that was, else a new one, which agrees; all else is cached as it was
+  abbrev pub IsBrought : Store K A T → Tables → Ptr OperationKind → Tables → Type 0
+  IsBrought s c p c' = (IsSome (map.get c p) → c' ≡ c) × (map.get c p ≡ None → IsNewlyCached s c p c')
 
   -- the table that is cached for p belongs to p, and agrees
   abbrev pub IsCachedFor : Store K A T → Tables → Ptr OperationKind → Type 0
