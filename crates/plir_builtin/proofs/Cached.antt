@@ -1,6 +1,6 @@
 -- Calls on a table that is cached in a collection that agrees.
 use Rattle.std.proofs.Common.{◌≡◌, ℕ, List, Bool, true, Option, Some, None, IsSome, Result, Ok, Err, OnOk, OnErr, MutBor, inr, refl, sym, ap, subst, ◌∙◌}
-use Rattle.std.specs.Prelude.{IfErr, IfSome}
+use Rattle.std.specs.Prelude.{IfErr, IfSome, option_map}
 use Rattle.std.specs.Option.{OnSome}
 use Rattle.std.specs.FinMap.{get, insert}
 use Rattle.plir_core.specs.declared.ptr.Ptr.{Ptr}
@@ -11,86 +11,124 @@ use Rattle.plir_core.specs.Store.{Store, is_live, IsAncestor}
 use Rattle.plir_core.specs.Changes.{with_op_unlinked}
 use Rattle.plir_core.specs.Unused.{IsUnusedOutside, without_tree}
 use Rattle.plir_builtin.specs.declared.symbol_table_err.SymbolTableErr.{SymbolTableErr}
+use Rattle.plir_builtin.specs.declared.symbol_edits.SymbolEdit.{SymbolEdit}
 use Rattle.plir_builtin.specs.declared.symbol_edits.SymbolEdit.TheVariants.{Insert, Remove, Erase}
 use Rattle.plir_builtin.specs.Table.{Table, Tables}
 use Rattle.plir_builtin.specs.Symbols.{body, scan}
-use Rattle.plir_builtin.specs.Agree.{Agrees, AllAgree, AgreesAsLent, IsNewlyCached, IsCachedFor}
+use Rattle.plir_builtin.specs.Agree.{Agrees, AllAgree, AgreesAsLent, IsNewlyCached, IsCachedFor, IsReady}
 use Rattle.plir_builtin.specs.Insertion.{inserted}
-use Rattle.plir_builtin.specs.Refusals.{Refusal, told, InsertRefused, RemoveRefused, IsPlaceable}
+use Rattle.plir_builtin.specs.Refusals.{Refusal, told, told_or, TellsOnly, TellsOr, IsInsertErr, IsInsertGrowth, InsertRefused, RemoveRefused, IsPlaceable}
 use Rattle.plir_builtin.specs.TableEdits.{IsRecorded, IsForgotten}
-use Rattle.plir_builtin.specs.SymbolEdits.{IsMadeEdit}
+use Rattle.plir_builtin.specs.SymbolEdits.{table_of, IsMember, IsMadeEdit, IsCallGrowth, IsCallRefused}
+use Rattle.plir_builtin.specs.Applied.{IsCalled}
 use Rattle.std.proofs.Common.{cond, false}
 use Rattle.std.specs.FinMap.{get-insert}
 use Rattle.std.specs.Ordering.{eq_by_cmp}
-use Rattle.std.proofs.lemmas.Option.{same_Some}
+use Rattle.std.proofs.lemmas.Option.{same_Some, none-some}
 use Rattle.plir_builtin.specs.Maps.{ptr_cmp}
 use Rattle.plir_builtin.specs.Symbols.{IsGood}
 use Rattle.plir_builtin.proofs.Brought.{lent-put}
 use Rattle.plir_builtin.proofs.Frames.{some-is}
 use Rattle.plir_builtin.proofs.MapViews.{insert-has, ptr_total, ptr_same, ptr_reflects}
 
--- what is told satisfies what is said of it
-told_so : (P : Refusal → Type 0) (o : Option Refusal) (r : Refusal) → o ≡ Some r → P r → IfSome o P
-told_so P o r e p = subst (λ z. IfSome z P) (sym e) p
+-- A table that is cached for an operation, which may be edited.
+module _ {K A T : Type 0} (s : Store K A T) (c : Tables) (table : Ptr OperationKind) (ready : IsReady s c table) where
+  pub ready-there : None ≡ get c table → ⊥
+  ready-there none = none-some table (ap (option_map (λ (t : Table). t.op)) none ∙ ready.0)
 
-module _ {K A T : Type 0} (own own_table : K → Bool) (s : Store K A T) (c : Tables) (all : AllAgree own own_table s c) (table : Ptr OperationKind) (live : is_live s (Operation table) ≡ true) (tab : Table) (has : Some tab ≡ get c table) where
+  module _ (tab : Table) (has : Some tab ≡ get c table) where
+    pub ready-op : tab.op ≡ table
+    ready-op = same_Some tab.op table (ap (option_map (λ (t : Table). t.op)) has ∙ ready.0)
+
+    pub ready-live : is_live s (Operation table) ≡ true → is_live s (Operation tab.op) ≡ true
+    ready-live live = subst (λ z. is_live s (Operation z) ≡ true) (sym ready-op) live
+
+    pub ready-body : IsSome (body s tab.op)
+    ready-body = subst (λ z. IsSome (body s z)) (sym ready-op) ready.1
+
+    pub ready-away : (o : Ptr OperationKind) → (IsAncestor s (Operation o) (Operation table) → ⊥) → IsAncestor s (Operation o) (Operation tab.op) → ⊥
+    ready-away o away = subst (λ z. IsAncestor s (Operation o) (Operation z) → ⊥) (sym ready-op) away
+
+    -- the collection afterwards, where the table ends as u
+    pub put-after : (u : Table) (n : Tables) (res : Option (MutBor Table)) (lent : MutBor Table) → res ≡ Some lent → OnSome res (n ≡ insert c table u) → n ≡ insert c table u
+    put-after u n res lent e put = subst (λ z. OnSome z (n ≡ insert c table u)) e put
+
+    -- of which P holds: that all its tables agree, or that they are cached for what was given out
+    pub kept-after : (P : Store K A T → Tables → Type 0) → P s c → (r : Result (Unit {0}) SymbolTableErr) (t : Store K A T) (u : Table) (n : Tables) (res : Option (MutBor Table)) (lent : MutBor Table) → res ≡ Some lent → OnSome res (n ≡ insert c table u)
+        → OnOk r ((d : Tables) → P s (insert d tab.op tab) → P t (insert d tab.op u)) → OnErr r ((t ≡ s) × (u ≡ tab)) → P t n
+    kept-after P h r t u n res lent e put ok err = subst (P t) (sym (put-after u n res lent e put)) (at r ok err)
+      where
+        at : (r : Result (Unit {0}) SymbolTableErr) → OnOk r ((d : Tables) → P s (insert d tab.op tab) → P t (insert d tab.op u)) → OnErr r ((t ≡ s) × (u ≡ tab)) → P t (insert c table u)
+        at (Ok v) f k = subst (λ z. P t (insert c z u)) ready-op (f c (subst (P s) (sym (insert-has c tab.op tab (ap (get c) ready-op ∙ sym has))) h))
+        at (Err x) f k = subst (λ z. P z (insert c table u)) (sym k.0) (subst (P s) (sym (ap (insert c table) k.1 ∙ insert-has c table tab (sym has))) h)
+
+-- what is told, and what stands for it where memory was refused, said in other words
+pub told-map : (M N : Type 0) (P Q : Refusal → Type 0) (o : Option Refusal) → (M → N) → ((r : Refusal) → P r → Q r) → told_or M P o → told_or N Q o
+told-map M N P Q None m f h = m h
+told-map M N P Q (Some r) m f h = f r h
+
+-- what is told alone, and never that memory was refused
+pub told-only : (N : Type 0) (P : Refusal → Type 0) (o : Option Refusal) → ((r : Refusal) × (o ≡ Some r) × P r) → told_or N P o
+told-only N P o h = subst (told_or N P) (sym h.1) h.2
+
+-- The same where all tables agree.
+module _ {K A T : Type 0} (w own own_table : K → Bool) (s : Store K A T) (c : Tables) (all : AllAgree own own_table s c) (table : Ptr OperationKind) (live : is_live s (Operation table) ≡ true) (tab : Table) (has : Some tab ≡ get c table) where
   cached_at : (tab.op ≡ table) × Agrees own own_table s tab
   cached_at = all table tab (sym has) (inr live)
-
-  pub cached-live : is_live s (Operation tab.op) ≡ true
-  cached-live = subst (λ z. is_live s (Operation z) ≡ true) (sym cached_at.0) live
-
-  pub cached-body : IsSome (body s tab.op)
-  cached-body = cached_at.1.good.body
-
-  pub cached-away : (o : Ptr OperationKind) → (IsAncestor s (Operation o) (Operation table) → ⊥) → IsAncestor s (Operation o) (Operation tab.op) → ⊥
-  cached-away o away = subst (λ z. IsAncestor s (Operation o) (Operation z) → ⊥) (sym cached_at.0) away
 
   names_same : get tab.names ≡ scan own s tab.op
   names_same = λ i x. cached_at.1.names x i
 
-  pub insert-refused : (r : Result (Unit {0}) SymbolTableErr) (o : Ptr OperationKind) (p : Option OpInsertionPoint) → IfErr r (λ e. IfSome (told e) (InsertRefused own s (get tab.names) tab.op o p)) → IfErr r (λ e. IfSome (told e) (InsertRefused own s (scan own s table) table o p))
-  insert-refused r o p h =
-      subst (λ t. IfErr r (λ e. IfSome (told e) (InsertRefused own s (scan own s t) t o p))) cached_at.0
-      (subst (λ f. IfErr r (λ e. IfSome (told e) (InsertRefused own s f tab.op o p))) names_same h)
+  -- what a call on the table leaves and answers
+  called_so : (e : SymbolEdit) → table_of e ≡ table → (r : Result (Unit {0}) SymbolTableErr) (t : Store K A T) (u : Table) (n : Tables) → n ≡ insert c table u → AllAgree own own_table t n
+      → OnOk r (IsMadeEdit w own own_table s e t) → IfErr r (TellsOr (IsCallGrowth w own own_table s e) (IsCallRefused w own own_table s e)) → OnErr r ((t ≡ s) × (u ≡ tab)) → IsCalled w own own_table s c e r t n
+  called_so e of (Ok v) t u n put agree made refused same = (made, (u, subst (λ z. n ≡ insert c z u) (sym of) put), agree)
+  called_so e of (Err x) t u n put agree made refused same = (same.0, put ∙ ap (insert c table) same.1 ∙ insert-has c table tab (sym has), refused)
 
-  pub remove-refused : (r : Result (Unit {0}) SymbolTableErr) (o : Ptr OperationKind) → IfErr r (λ e. (f : Refusal) × (told e ≡ Some f) × RemoveRefused own s tab.op o f) → IfErr r (λ e. IfSome (told e) (RemoveRefused own s table o))
-  remove-refused (Ok u) o h = tt
-  remove-refused (Err e) o h = subst (λ t. IfSome (told e) (RemoveRefused own s t o)) cached_at.0 (told_so (RemoveRefused own s tab.op o) (told e) h.0 h.1 h.2)
+  module _ (o : Ptr OperationKind) (r : Result (Unit {0}) SymbolTableErr) (t : Store K A T) (u : Table) (n : Tables) (put : n ≡ insert c table u) (agree : AllAgree own own_table t n) (same : OnErr r ((t ≡ s) × (u ≡ tab))) where
+    pub insert-called : (p : Option OpInsertionPoint) → (IsAncestor s (Operation o) (Operation table) → ⊥)
+        → OnOk r (IsRecorded own s tab o u) → OnOk r (t ≡ inserted w s tab.op o p) → OnOk r (IsPlaceable own s tab.op o p) → IfErr r (IsInsertErr own s (get tab.names) tab.op o p) → IsCalled w own own_table s c (Insert table o p) r t n
+    insert-called p away recorded after placeable refused = called_so (Insert table o p) refl r t u n put agree (made r recorded after placeable) (why r refused) same
+      where
+        made : (q : Result (Unit {0}) SymbolTableErr) → OnOk q (IsRecorded own s tab o u) → OnOk q (t ≡ inserted w s tab.op o p) → OnOk q (IsPlaceable own s tab.op o p) → OnOk q (IsMadeEdit w own own_table s (Insert table o p) t)
+        made (Ok v) a b d = (
+          away,
+          (a.name, a.named, subst (λ z. (q : Ptr OperationKind) → scan own s z a.name ≡ Some q → q ≡ o) cached_at.0 (λ q e. a.free q (cached_at.1.names a.name ∙ e))),
+          subst (λ z. IsPlaceable own s z o p) cached_at.0 d,
+          b ∙ ap (λ z. inserted w s z o p) cached_at.0,
+        )
+        made (Err x) a b d = tt
 
-  pub insert-made : (is_terminator : K → Bool) (r : Result (Unit {0}) SymbolTableErr) (o : Ptr OperationKind) (p : Option OpInsertionPoint) (t : Store K A T) (u : Table) → (IsAncestor s (Operation o) (Operation table) → ⊥)
-      → OnOk r (IsRecorded own s tab o u) → OnOk r (t ≡ inserted is_terminator s tab.op o p) → OnOk r (IsPlaceable own s tab.op o p) → OnOk r (IsMadeEdit is_terminator own own_table s (Insert table o p) t)
-  insert-made w (Ok v) o p t u away a b d = (
-    away,
-    (a.name, a.named, subst (λ z. (q : Ptr OperationKind) → scan own s z a.name ≡ Some q → q ≡ o) cached_at.0 (λ q e. a.free q (cached_at.1.names a.name ∙ e))),
-    subst (λ z. IsPlaceable own s z o p) cached_at.0 d,
-    b ∙ ap (λ z. inserted w s z o p) cached_at.0,
-  )
-  insert-made w (Err e) o p t u away a b d = tt
+        why : (q : Result (Unit {0}) SymbolTableErr) → IfErr q (IsInsertErr own s (get tab.names) tab.op o p) → IfErr q (TellsOr (IsCallGrowth w own own_table s (Insert table o p)) (IsCallRefused w own own_table s (Insert table o p)))
+        why (Ok v) h = tt
+        why (Err x) h =
+            told-map (IsInsertGrowth own s (scan own s table) table o p) (IsCallGrowth w own own_table s (Insert table o p)) (InsertRefused own s (scan own s table) table o p) (IsCallRefused w own own_table s (Insert table o p)) (told x) (λ m. (away, m)) (λ f m. (away, m))
+            (subst (λ z. IsInsertErr own s (scan own s z) z o p x) cached_at.0 (subst (λ f. IsInsertErr own s f tab.op o p x) names_same h))
 
-  pub remove-made : (is_terminator : K → Bool) (r : Result (Unit {0}) SymbolTableErr) (o : Ptr OperationKind) (t : Store K A T) (u : Table)
-      → OnOk r (IsForgotten own s tab o u) → OnOk r (t ≡ with_op_unlinked s o) → OnOk r (IsMadeEdit is_terminator own own_table s (Remove table o) t)
-  remove-made w (Ok v) o t u a b = (((a.name, a.named), a.member ∙ ap (body s) cached_at.0), b)
-  remove-made w (Err e) o t u a b = tt
+    member_so : (q : Result (Unit {0}) SymbolTableErr) → OnOk q (IsForgotten own s tab o u) → OnOk q (IsMember w own own_table s table o)
+    member_so (Ok v) a = ((a.name, a.named), a.member ∙ ap (body s) cached_at.0)
+    member_so (Err x) a = tt
 
-  pub erase-made : (is_terminator : K → Bool) (r : Result (Unit {0}) SymbolTableErr) (o : Ptr OperationKind) (t : Store K A T) (u : Table) → IsUnusedOutside s (Operation o)
-      → OnOk r (IsForgotten own s tab o u) → OnOk r (t ≡ without_tree s (Operation o)) → OnOk r (IsMadeEdit is_terminator own own_table s (Erase table o) t)
-  erase-made w (Ok v) o t u unused a b = (((a.name, a.named), a.member ∙ ap (body s) cached_at.0), unused, b)
-  erase-made w (Err e) o t u unused a b = tt
+    refused_so : (N : Type 0) (q : Result (Unit {0}) SymbolTableErr) → IfErr q (TellsOnly (RemoveRefused own s tab.op o)) → IfErr q (TellsOr N (RemoveRefused own s table o))
+    refused_so N (Ok v) h = tt
+    refused_so N (Err x) h = told-only N (RemoveRefused own s table o) (told x) (subst (λ z. TellsOnly (RemoveRefused own s z o) x) cached_at.0 h)
 
-  -- the collection afterwards, of which P holds: that all its tables agree, or that they are cached for what was given out
-  pub kept-after : (P : Store K A T → Tables → Type 0) → P s c → (r : Result (Unit {0}) SymbolTableErr) (t : Store K A T) (u : Table) (n : Tables) (res : Option (MutBor Table)) (lent : MutBor Table) → res ≡ Some lent → OnSome res (n ≡ insert c table u)
-      → OnOk r ((d : Tables) → P s (insert d tab.op tab) → P t (insert d tab.op u)) → OnErr r ((t ≡ s) × (u ≡ tab)) → P t n
-  kept-after P h r t u n res lent e put ok err = subst (P t) (sym (subst (λ z. OnSome z (n ≡ insert c table u)) e put)) (at r ok err)
-    where
-      at : (r : Result (Unit {0}) SymbolTableErr) → OnOk r ((d : Tables) → P s (insert d tab.op tab) → P t (insert d tab.op u)) → OnErr r ((t ≡ s) × (u ≡ tab)) → P t (insert c table u)
-      at (Ok v) f k = subst (λ z. P t (insert c z u)) cached_at.0 (f c (subst (P s) (sym (insert-has c tab.op tab (ap (get c) cached_at.0 ∙ sym has))) h))
-      at (Err x) f k = subst (λ z. P z (insert c table u)) (sym k.0) (subst (P s) (sym (ap (insert c table) k.1 ∙ insert-has c table tab (sym has))) h)
+    both : (P Q : Type 0) (q : Result (Unit {0}) SymbolTableErr) → OnOk q P → OnOk q Q → OnOk q (P × Q)
+    both P Q (Ok v) a b = (a, b)
+    both P Q (Err x) a b = tt
 
--- what is said of what is told, if it is told
-pub if_told : (P Q : Refusal → Type 0) (o : Option Refusal) → ((r : Refusal) → P r → Q r) → IfSome o P → IfSome o Q
-if_told P Q None f h = tt
-if_told P Q (Some r) f h = f r h
+    pub remove-called : OnOk r (IsForgotten own s tab o u) → OnOk r (t ≡ with_op_unlinked s o) → IfErr r (TellsOnly (RemoveRefused own s tab.op o)) → IsCalled w own own_table s c (Remove table o) r t n
+    remove-called forgotten after refused =
+        called_so (Remove table o) refl r t u n put agree (both (IsMember w own own_table s table o) (t ≡ with_op_unlinked s o) r (member_so r forgotten) after)
+        (refused_so ⊥ r refused) same
+
+    pub erase-called : IsUnusedOutside s (Operation o) → OnOk r (IsForgotten own s tab o u) → OnOk r (t ≡ without_tree s (Operation o)) → IfErr r (TellsOnly (RemoveRefused own s tab.op o)) → IsCalled w own own_table s c (Erase table o) r t n
+    erase-called unused forgotten after refused =
+        called_so (Erase table o) refl r t u n put agree (made r forgotten after) (refused_so ⊥ r refused) same
+      where
+        made : (q : Result (Unit {0}) SymbolTableErr) → OnOk q (IsForgotten own s tab o u) → OnOk q (t ≡ without_tree s (Operation o)) → OnOk q (IsMadeEdit w own own_table s (Erase table o) t)
+        made (Ok v) a b = (((a.name, a.named), a.member ∙ ap (body s) cached_at.0), unused, b)
+        made (Err x) a b = tt
 
 module _ {K A T : Type 0} (own own_table : K → Bool) (s : Store K A T) (c : Tables) (all : AllAgree own own_table s c) (table : Ptr OperationKind) where
   -- the table that is cached
@@ -155,15 +193,9 @@ module _ {K A T : Type 0} (own own_table : K → Bool) (s : Store K A T) (c : Ta
   pub brought-good : IsGood own own_table s p
   brought-good = subst (IsGood own own_table s) brought-for.2 brought-for.3.good
 
--- The same of an attempt, which left the collection as it was where it was refused.
-module _ {K A T : Type 0} (own own_table : K → Bool) (s : Store K A T) (c : Tables) (p : Ptr OperationKind) (live : is_live s (Operation p) ≡ true) (all : AllAgree own own_table s c) (d : Tables) where
-  pub seen-for : (r : Result (Unit {0}) SymbolTableErr) → OnOk r (IsSome (get c p) → d ≡ c) → OnOk r (get c p ≡ None → IsNewlyCached own own_table s c p d) → OnOk r (IsCachedFor own own_table s d p)
-  seen-for (Ok u) kept made = brought-for own own_table s c p live d kept made all
-  seen-for (Err e) kept made = tt
-
-  pub seen-agree : (r : Result (Unit {0}) SymbolTableErr) → OnOk r (IsSome (get c p) → d ≡ c) → OnOk r (get c p ≡ None → IsNewlyCached own own_table s c p d) → OnErr r (d ≡ c) → AllAgree own own_table s d
-  seen-agree (Ok u) kept made same = brought-agree own own_table s c p live d kept made all
-  seen-agree (Err e) kept made same = subst (AllAgree own own_table s) (sym same) all
+-- what is cached for p may be edited, if it agrees
+pub ready-for : {K A T : Type 0} (own own_table : K → Bool) (s : Store K A T) (c : Tables) (p : Ptr OperationKind) → IsCachedFor own own_table s c p → IsReady s c p
+ready-for own own_table s c p h = (ap (option_map (λ (t : Table). t.op)) h.1 ∙ ap Some h.2, subst (λ z. IsSome (body s z)) h.2 h.3.good.body)
 
 -- a table that agrees is good, and so is its operation under another name
 pub good-at : {K A T : Type 0} (own own_table : K → Bool) (s : Store K A T) (t : Table) (table : Ptr OperationKind) → t.op ≡ table → Agrees own own_table s t → IsGood own own_table s table

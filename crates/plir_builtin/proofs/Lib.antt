@@ -7,6 +7,8 @@ pub mod Edits
 pub mod Puts
 pub mod TableEdits
 pub mod Cached
+pub mod EditSteps
+pub mod Inserts
 pub mod ReadTables
 pub mod Passing
 pub mod ReadLoop

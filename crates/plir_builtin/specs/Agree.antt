@@ -1,12 +1,12 @@
 -- Tables that agree with the bodies that they stand for.
-use Rattle.std.specs.Prelude.{◌≡◌, ℕ, Bool, true, List, Some, ◌⊎◌}
+use Rattle.std.specs.Prelude.{◌≡◌, ℕ, Bool, true, List, Some, None, IsSome, option_map, ◌⊎◌}
 use Rattle.std.specs.FinMap as map
 use Rattle.plir_core.specs.declared.ptr.Ptr.{Ptr}
 use Rattle.plir_core.specs.declared.ptr.Operation.{Operation as OperationKind}
 use Rattle.plir_core.specs.declared.ptr.IRNode.TheVariants.{Operation}
 use Rattle.plir_core.specs.Store.{Store, IsLive, given_out}
 use Rattle.plir_builtin.specs.Table.{Table, Tables}
-use Rattle.plir_builtin.specs.Symbols.{IsGood, scan}
+use Rattle.plir_builtin.specs.Symbols.{IsGood, body, scan}
 
 module _ {K A T : Type 0} (own_symbol own_table : K → Bool) where
   -- the table's operation is good, and the table has each name as a scan of the body finds it
@@ -35,11 +35,19 @@ module _ {K A T : Type 0} (own_symbol own_table : K → Bool) where
   abbrev pub IsNewlyCached : Store K A T → Tables → Ptr OperationKind → Tables → Type 0
   IsNewlyCached s c p c' = (t : Table) × (c' ≡ map.insert c p t) × (t.op ≡ p) × Agrees s t
 
+  -- a table is cached for p: the one that was, else a new one, which agrees; all else is cached as it was
+  abbrev pub IsBrought : Store K A T → Tables → Ptr OperationKind → Tables → Type 0
+  IsBrought s c p c' = (IsSome (map.get c p) → c' ≡ c) × (map.get c p ≡ None → IsNewlyCached s c p c')
+
   -- the table that is cached for p belongs to p, and agrees
   abbrev pub IsCachedFor : Store K A T → Tables → Ptr OperationKind → Type 0
   IsCachedFor s c p = (t : Table) × (map.get c p ≡ Some t) × (t.op ≡ p) × Agrees s t
 
 module _ {K A T : Type 0} where
+  -- the table that is cached for p is p's own, and p has a body
+  abbrev pub IsReady : Store K A T → Tables → Ptr OperationKind → Type 0
+  IsReady s c p = (option_map (λ t. t.op) (map.get c p) ≡ Some p) × IsSome (body s p)
+
   -- Each cached table is cached for an operation that was given out, and so was its own operation. (A table that is cached
   -- for a pointer that is still to be given out would speak of an operation that is still to be made.)
   abbrev pub AreGivenOut : Store K A T → Tables → Type 0

@@ -1,5 +1,6 @@
 -- The nearest table at or above an operation.
-use Rattle.std.specs.Prelude.{◌≡◌, ℕ, suc, ◌<◌, Bool, true, false, List, Option, Some, None, option_and_then}
+use Rattle.std.specs.Prelude.{◌≡◌, ℕ, suc, ◌<◌, Bool, true, false, List, Option, Some, None, IfSome, option_and_then}
+use Rattle.std.specs.FinMap as map
 use Rattle.plir_core.specs.declared.ptr.Ptr.{Ptr}
 use Rattle.plir_core.specs.declared.ptr.Operation.{Operation as OperationKind}
 use Rattle.plir_core.specs.declared.ptr.IRNode.{IRNode}
@@ -7,7 +8,9 @@ use Rattle.plir_core.specs.declared.ptr.IRNode.TheVariants.{Operation, Region, B
 use Rattle.plir_core.specs.Above.{climb}
 use Rattle.plir_core.specs.Store.{Store, op_above, op_at, kind_in}
 use Rattle.plir_builtin.specs.declared.symbol_table_err.SymbolTableErr.{SymbolTableErr}
-use Rattle.plir_builtin.specs.Symbols.{is_table_kind, scan}
+use Rattle.plir_builtin.specs.Table.{Tables}
+use Rattle.plir_builtin.specs.Symbols.{IsGood, is_table_kind, scan}
+use Rattle.plir_builtin.specs.Agree.{IsBrought}
 use Rattle.plir_builtin.specs.Refusals.{Tells, TableRefused}
 
 -- the node, if it is an operation
@@ -34,10 +37,25 @@ abbrev pub levels_up : (IRNode → ℕ) → Option (Ptr OperationKind) → ℕ
 levels_up depth None = 0
 levels_up depth (Some p) = suc (depth (Operation p))
 
--- what is found under the name x in the nearest table
-abbrev pub IsFoundNearest : {K A T : Type 0} → (own_symbol own_table : K → Bool) → Store K A T → Ptr OperationKind → List ℕ → Option (Ptr OperationKind) → Type 0
-IsFoundNearest own_symbol own_table s n x r = (t : Option (Ptr OperationKind)) × IsNearest own_table s n t × (r ≡ option_and_then (λ p. scan own_symbol s p x) t)
+module _ {K A T : Type 0} (own_symbol own_table : K → Bool) (s : Store K A T) where
+  -- what is found under the name x in the nearest table, which is good
+  abbrev pub IsFoundNearest : Ptr OperationKind → List ℕ → Option (Ptr OperationKind) → Type 0
+  IsFoundNearest n x r =
+      (t : Option (Ptr OperationKind)) × IsNearest own_table s n t × IfSome t (IsGood own_symbol own_table s)
+      × (r ≡ option_and_then (λ p. scan own_symbol s p x) t)
 
--- the nearest table is refused
-abbrev pub NearestRefused : {K A T : Type 0} → (own_symbol own_table : K → Bool) → Store K A T → Ptr OperationKind → SymbolTableErr → Type 0
-NearestRefused own_symbol own_table s n e = (t : Ptr OperationKind) × IsNearest own_table s n (Some t) × Tells (TableRefused own_symbol own_table s t) e
+  -- what a look-up of the name x in that table answers, and the cached tables before and afterwards: the table is cached, as
+  -- it was or newly, and what it has recorded under the name is answered; without a table nothing is found, nor changed
+  abbrev pub IsAnswerOf : (c c' : Tables) → List ℕ → Option (Ptr OperationKind) → Option (Ptr OperationKind) → Type 0
+  IsAnswerOf c c' x None r = (r ≡ None) × (c' ≡ c)
+  IsAnswerOf c c' x (Some p) r = IsBrought own_symbol own_table s c p c' × IfSome (map.get c' p) (λ t. r ≡ map.get t.names x)
+
+  -- the same for the nearest table of n
+  abbrev pub IsAnsweredNearest : (c c' : Tables) → Ptr OperationKind → List ℕ → Option (Ptr OperationKind) → Type 0
+  IsAnsweredNearest c c' n x r = (t : Option (Ptr OperationKind)) × IsNearest own_table s n t × IsAnswerOf c c' x t r
+
+  -- none is cached for the nearest table, which is refused
+  abbrev pub NearestRefused : Tables → Ptr OperationKind → SymbolTableErr → Type 0
+  NearestRefused c n e =
+      (t : Ptr OperationKind) × IsNearest own_table s n (Some t) × (map.get c t ≡ None)
+      × Tells (TableRefused own_symbol own_table s t) e

@@ -39,6 +39,14 @@ told E.Memory = None
 abbrev pub Tells : (Refusal → Type 0) → SymbolTableErr → Type 0
 Tells P e = IfSome (told e) P
 
+-- P holds of what is told; where memory was refused in its place, M does
+abbrev pub told_or : Type 0 → (Refusal → Type 0) → Option Refusal → Type 0
+told_or M P (Some r) = P r
+told_or M P None = M
+
+abbrev pub TellsOr : Type 0 → (Refusal → Type 0) → SymbolTableErr → Type 0
+TellsOr M P e = told_or M P (told e)
+
 abbrev pub TellsOnly : (Refusal → Type 0) → SymbolTableErr → Type 0
 TellsOnly P e = (r : Refusal) × (told e ≡ Some r) × P r
 
@@ -67,6 +75,17 @@ module _ {K A T : Type 0} (own_symbol : K → Bool) (s : Store K A T) where
   -- it stands in the body, or in no block and is put at a point there
   abbrev pub IsPlaceable : (t o : Ptr OperationKind) → Option OpInsertionPoint → Type 0
   IsPlaceable t o p = (parent_of s (Operation o) ≡ body s t) ⊎ ((parent_of s (Operation o) ≡ None) × ((q : OpInsertionPoint) → p ≡ Some q → insertion_block s q ≡ body s t))
+
+  -- An insertion into the body of t needs memory: the operation is a symbol with a name, and either its refusal tells that name,
+  -- or nothing refuses it, and the name is recorded.
+  abbrev pub IsInsertGrowth : (find : List ℕ → Option (Ptr OperationKind)) (t o : Ptr OperationKind) → Option OpInsertionPoint → Type 0
+  IsInsertGrowth find t o p =
+      (x : List ℕ) × IsSymbolNamed o x
+      × (InsertRefused find t o p (redefined x) ⊎ (InsertRefused find t o p (elsewhere x) ⊎ (IsNotOthers find o x × IsPlaceable t o p)))
+
+  -- an insertion is refused: as its order says, or for want of memory where it needs some
+  abbrev pub IsInsertErr : (find : List ℕ → Option (Ptr OperationKind)) (t o : Ptr OperationKind) → Option OpInsertionPoint → SymbolTableErr → Type 0
+  IsInsertErr find t o p = TellsOr (IsInsertGrowth find t o p) (InsertRefused find t o p)
 
   -- a removal from the body of t is refused
   abbrev pub RemoveRefused : (t o : Ptr OperationKind) → Refusal → Type 0

@@ -1,5 +1,6 @@
--- What an edit of symbols answers, and the context afterwards: by scans of the bodies, without any cached table.
-use Rattle.std.specs.Prelude.{◌≡◌, ℕ, Bool, List, [], ◌∷◌, Result, Ok, Err, IfSome, ◌⊎◌}
+-- What an edit of symbols answers, and the context afterwards, by scans of the bodies; and which tables are then cached.
+use Rattle.std.specs.Prelude.{◌≡◌, ℕ, Bool, List, [], ◌∷◌, Option, Some, None, Result, Ok, Err, IfSome, ◌⊎◌}
+use Rattle.std.specs.FinMap as map
 use Rattle.plir_core.specs.declared.ptr.Ptr.{Ptr}
 use Rattle.plir_core.specs.declared.ptr.Operation.{Operation as OperationKind}
 use Rattle.plir_core.specs.declared.ptr.IRNode.TheVariants.{Operation}
@@ -11,11 +12,11 @@ use Rattle.plir_builtin.specs.declared.symbol_edits.SymbolEdit.{SymbolEdit}
 use Rattle.plir_builtin.specs.declared.symbol_edits.SymbolEdit.TheVariants.{Insert, Remove, Erase}
 use Rattle.plir_builtin.specs.declared.symbol_edits.SymbolEditErr.{SymbolEditErr}
 use Rattle.plir_builtin.specs.declared.symbol_edits.SymbolEditErr.TheVariants.{DeadPointer, WouldNest, StillUsed, Table}
-use Rattle.plir_builtin.specs.Table.{Tables}
+use Rattle.plir_builtin.specs.Table.{Tables, Table as CachedTable}
 use Rattle.plir_builtin.specs.Symbols.{IsGood, body, scan}
-use Rattle.plir_builtin.specs.Agree.{AllAgree}
+use Rattle.plir_builtin.specs.Agree.{AllAgree, IsBrought}
 use Rattle.plir_builtin.specs.Insertion.{inserted}
-use Rattle.plir_builtin.specs.Refusals.{Refusal, Tells, IsSymbolNamed, IsNotOthers, IsPlaceable, InsertRefused, RemoveRefused, TableRefused}
+use Rattle.plir_builtin.specs.Refusals.{Refusal, told, IsSymbolNamed, IsNotOthers, IsPlaceable, IsInsertGrowth, InsertRefused, RemoveRefused, TableRefused}
 
 -- the operation of the table that is edited
 abbrev pub table_of : SymbolEdit → Ptr OperationKind
@@ -59,22 +60,52 @@ module _ {K A T : Type 0} (is_terminator own_symbol own_table : K → Bool) (s :
   IsStillUsed (Remove t o) = ⊥
   IsStillUsed (Erase t o) = IsMember t o × (IsUnusedOutside s (Operation o) → ⊥)
 
-  -- Why an edit is refused: something that it names is dead; else the table is not good; else it would nest; else the call
-  -- on the table refuses; else the operation is still used. Memory may be refused in place of any of them.
-  abbrev pub IsRefusedEdit : SymbolEdit → SymbolEditErr → Type 0
-  IsRefusedEdit e DeadPointer = IsEditLive e → ⊥
-  IsRefusedEdit e WouldNest = IsEditLive e × IsGood own_symbol own_table s (table_of e) × IsNesting e
-  IsRefusedEdit e StillUsed = IsEditLive e × IsGood own_symbol own_table s (table_of e) × IsStillUsed e
-  IsRefusedEdit e (Table x) = Tells (λ r. IsEditLive e × (TableRefused own_symbol own_table s (table_of e) r ⊎ (IsGood own_symbol own_table s (table_of e) × IsCallRefused e r))) x
+  -- the call on the table needs memory: an insertion alone does
+  abbrev pub IsCallGrowth : SymbolEdit → Type 0
+  IsCallGrowth (Insert t o p) = (IsAncestor s (Operation o) (Operation t) → ⊥) × IsInsertGrowth own_symbol s (scan own_symbol s t) t o p
+  IsCallGrowth (Remove t o) = ⊥
+  IsCallGrowth (Erase t o) = ⊥
 
-  -- what an edit answers, and the context afterwards
-  abbrev pub IsEdited : SymbolEdit → Result (Unit {0}) SymbolEditErr → Store K A T → Type 0
-  IsEdited e (Ok u) s' = IsEditLive e × IsGood own_symbol own_table s (table_of e) × IsMadeEdit e s'
-  IsEdited e (Err x) s' = (s' ≡ s) × IsRefusedEdit e x
+  module _ (c : Tables) where
+    -- what a table tells that refuses an edit: that it is not good, or what the call refuses; it is refused memory where no table
+    -- was cached, or where the call needs some
+    abbrev pub IsTableToldFor : SymbolEdit → Option Refusal → Type 0
+    IsTableToldFor e (Some r) =
+        TableRefused own_symbol own_table s (table_of e) r
+        ⊎ (IsGood own_symbol own_table s (table_of e) × IsCallRefused e r)
+    IsTableToldFor e None =
+        (map.get c (table_of e) ≡ None) ⊎ (IsGood own_symbol own_table s (table_of e) × IsCallGrowth e)
 
--- the answers to edits one after another, and the context and the cached tables afterwards; after each edit all tables agree
-abbrev pub AreEdited : {K A T : Type 0} → (is_terminator own_symbol own_table : K → Bool) → Store K A T → List SymbolEdit → List (Result (Unit {0}) SymbolEditErr) → Store K A T → Tables → Type 0
-AreEdited {K} {A} {T} w f g s [] [] s' c' = (s' ≡ s) × AllAgree f g s c'
-AreEdited {K} {A} {T} w f g s [] (r ∷ rs) s' c' = ⊥
-AreEdited {K} {A} {T} w f g s (e ∷ es) [] s' c' = ⊥
-AreEdited {K} {A} {T} w f g s (e ∷ es) (r ∷ rs) s' c' = (m : Store K A T) × (c : Tables) × IsEdited w f g s e r m × AllAgree f g m c × AreEdited w f g m es rs s' c'
+    -- Why an edit is refused: something that it names is dead; else the table is not good; else it would nest; else the call
+    -- on the table refuses; else the operation is still used.
+    abbrev pub IsRefusedEdit : SymbolEdit → SymbolEditErr → Type 0
+    IsRefusedEdit e DeadPointer = IsEditLive e → ⊥
+    IsRefusedEdit e WouldNest = IsEditLive e × IsGood own_symbol own_table s (table_of e) × IsNesting e
+    IsRefusedEdit e StillUsed = IsEditLive e × IsGood own_symbol own_table s (table_of e) × IsStillUsed e
+    IsRefusedEdit e (Table x) = IsEditLive e × IsTableToldFor e (told x)
+
+    -- Where an edit is refused, each table that was cached stays as it was; for the edited one a new table may be cached.
+    abbrev pub IsAtMostBrought : SymbolEdit → Tables → Type 0
+    IsAtMostBrought e c' = (c' ≡ c) ⊎ IsBrought own_symbol own_table s c (table_of e) c'
+
+    -- what an edit answers, and the context and the cached tables afterwards: where it is made, the edited table is cached, and
+    -- all else is cached as it was
+    abbrev pub IsEdited : SymbolEdit → Result (Unit {0}) SymbolEditErr → Store K A T → Tables → Type 0
+    IsEdited e (Ok u) s' c' =
+        IsEditLive e × IsGood own_symbol own_table s (table_of e) × IsMadeEdit e s'
+        × ((t : CachedTable) × (c' ≡ map.insert c (table_of e) t))
+    IsEdited e (Err x) s' c' = (s' ≡ s) × IsRefusedEdit e x × IsAtMostBrought e c'
+
+    -- the same, and all tables agree afterwards
+    abbrev pub IsStep : SymbolEdit → Result (Unit {0}) SymbolEditErr → Store K A T → Tables → Type 0
+    IsStep e r s' c' = IsEdited e r s' c' × AllAgree own_symbol own_table s' c'
+
+module _ {K A T : Type 0} (is_terminator own_symbol own_table : K → Bool) where
+  -- The answers to edits one after another, from a context and its cached tables to those afterwards: each edit goes on from
+  -- what the one before it left, and after each of them all tables agree.
+  abbrev pub AreEdited : Store K A T → Tables → List SymbolEdit → List (Result (Unit {0}) SymbolEditErr) → Store K A T → Tables → Type 0
+  AreEdited s c [] [] s' c' = (s' ≡ s) × (c' ≡ c)
+  AreEdited s c [] (r ∷ rs) s' c' = ⊥
+  AreEdited s c (e ∷ es) [] s' c' = ⊥
+  AreEdited s c (e ∷ es) (r ∷ rs) s' c' =
+      (m : Store K A T) × (d : Tables) × IsStep is_terminator own_symbol own_table s c e r m d × AreEdited m d es rs s' c'

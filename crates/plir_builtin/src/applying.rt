@@ -1,40 +1,53 @@
 //! Edits of symbols over cached tables, one after another.
-ghost use Rattle.std.specs.Prelude.{◌≡◌, Some, None, IfOk, IfErr, IfSome, IsSome, OnOk, OnErr, true, false};
+ghost use Rattle.std.specs.Prelude.{◌≡◌, Some, None, IfOk, IfErr, IfSome, IsSome, IsTrue, OnOk, OnErr, ◌↔◌, true, false};
 ghost use Rattle.std.specs.FinMap as map;
 ghost use Rattle.plir_core.specs.declared.ptr.IRNode.{IRNode as AnyNode};
 ghost use Rattle.plir_core.specs.InsertionPoint.{IsPointLive};
-ghost use Rattle.plir_core.specs.Store.{IsLive, IsAncestor, parent_of};
-ghost use Rattle.plir_core.specs.Changes.{with_op_unlinked};
-ghost use Rattle.plir_core.specs.Unused.{IsUnusedOutside, without_tree};
-ghost use Rattle.plir_builtin.specs.Symbols.{IsGood, scan};
-ghost use Rattle.plir_builtin.specs.Agree.{AllAgree, AreGivenOut, IsCachedFor};
-ghost use Rattle.plir_builtin.specs.Refusals.{Tells, InsertRefused, RemoveRefused, TableRefused};
-ghost use Rattle.plir_builtin.specs.SymbolEdits.{IsMadeEdit, IsMember, IsEdited, AreEdited};
+ghost use Rattle.plir_core.specs.Store.{IsLive, IsAncestor};
+ghost use Rattle.plir_core.specs.Unused.{IsUnusedOutside};
+ghost use Rattle.plir_builtin.specs.Agree.{AllAgree, AreGivenOut, IsBrought, IsReady};
+ghost use Rattle.plir_builtin.specs.Applied.{IsCalled, IsSeenTo};
+ghost use Rattle.plir_builtin.specs.SymbolEdits.{IsStep, AreEdited};
 ghost use Rattle.plir_builtin.specs.declared.symbol_edits.SymbolEdit.{SymbolEdit as Edit};
 
 use crate::collection::SymbolTableCollection;
 use crate::symbol_edits::{SymbolEdit, SymbolEditErr};
 use crate::symbol_table::is_member;
 use crate::symbol_table_err::SymbolTableErr;
+use crate::table_body::has_body;
 use plir_core::{Context, IRNode, OpInsertionPoint, Operation, Ptr};
 use plir_data::{Memory, OpSet};
 
 impl SymbolTableCollection {
-    /// Sees to it that a table is cached for an operation, where all tables agree.
+    /// Whether the table that is cached for an operation is its own, and the operation has a body. Where all tables agree, that is
+    /// so for each that is cached for a live operation.
+    fn is_ready<D: OpSet>(&self, ctx: &Context<D>, op: Ptr<Operation>) -> bool
+        requires { IsLive ctx.now (AnyNode.Operation op) }
+        ensures { IsTrue result ↔ IsReady ctx.now self.now op }
+    {
+        match self.owner(op) {
+            Some(owner) => owner == op && has_body(ctx, op),
+            None => false,
+        }
+    }
+
+    /// Sees to it that a table is cached for an operation, which may be edited.
     fn see_to<D: OpSet>(
         &mut self,
         ctx: &Context<D>,
         op: Ptr<Operation>,
     ) -> Result<(), SymbolTableErr>
-        requires live { IsLive ctx.now (AnyNode.Operation op) }
-        requires agree { AllAgree D.is_symbol D.is_symbol_table ctx.now self.old }
-        ensures cached { OnOk result (IsCachedFor D.is_symbol D.is_symbol_table ctx.now self.new op) }
-        ensures agree { AllAgree D.is_symbol D.is_symbol_table ctx.now self.new }
+        requires { IsLive ctx.now (AnyNode.Operation op) }
+        ensures ready { OnOk result (IsReady ctx.now self.new op) }
+        ensures brought { OnOk result (IsBrought D.is_symbol D.is_symbol_table ctx.now self.old op self.new) }
+        ensures seen { AllAgree D.is_symbol D.is_symbol_table ctx.now self.old → IsSeenTo D.is_terminator D.is_symbol D.is_symbol_table ctx.now self.old op result self.new }
         ensures given { AreGivenOut ctx.now self.old → AreGivenOut ctx.now self.new }
-        ensures refused { IfErr result (Tells (TableRefused D.is_symbol D.is_symbol_table ctx.now op)) }
-        ensures same { OnErr result (self.new ≡ self.old) }
     {
-        self.bring(ctx, op)
+        self.bring(ctx, op)?;
+        if !self.is_ready(ctx, op) {
+            return Err(SymbolTableErr::DoesNotImplementSymbolTableInterface);
+        }
+        Ok(())
     }
 
     /// Inserts an operation through the table that is cached.
@@ -48,13 +61,9 @@ impl SymbolTableCollection {
         requires table_live { IsLive ctx.old (AnyNode.Operation table) }
         requires op_live { IsLive ctx.old (AnyNode.Operation op) }
         requires point_live { IfSome point (IsPointLive ctx.old) }
-        requires cached { IsSome (map.get self.old table) }
-        requires agree { AllAgree D.is_symbol D.is_symbol_table ctx.old self.old }
+        requires ready { IsReady ctx.old self.old table }
         requires not_above { IsAncestor ctx.old (AnyNode.Operation op) (AnyNode.Operation table) → ⊥ }
-        ensures made { OnOk result (IsMadeEdit D.is_terminator D.is_symbol D.is_symbol_table ctx.old (Edit.Insert table op point) ctx.new) }
-        ensures refused { IfErr result (Tells (InsertRefused D.is_symbol ctx.old (scan D.is_symbol ctx.old table) table op point)) }
-        ensures same { OnErr result (ctx.new ≡ ctx.old) }
-        ensures agree { AllAgree D.is_symbol D.is_symbol_table ctx.new self.new }
+        ensures called { AllAgree D.is_symbol D.is_symbol_table ctx.old self.old → IsCalled D.is_terminator D.is_symbol D.is_symbol_table ctx.old self.old (Edit.Insert table op point) result ctx.new self.new }
         ensures given { AreGivenOut ctx.old self.old → AreGivenOut ctx.new self.new }
     {
         match self.cached(table) {
@@ -72,12 +81,8 @@ impl SymbolTableCollection {
     ) -> Result<(), SymbolTableErr>
         requires table_live { IsLive ctx.old (AnyNode.Operation table) }
         requires op_live { IsLive ctx.old (AnyNode.Operation op) }
-        requires cached { IsSome (map.get self.old table) }
-        requires agree { AllAgree D.is_symbol D.is_symbol_table ctx.old self.old }
-        ensures made { OnOk result (IsMadeEdit D.is_terminator D.is_symbol D.is_symbol_table ctx.old (Edit.Remove table op) ctx.new) }
-        ensures refused { IfErr result (Tells (RemoveRefused D.is_symbol ctx.old table op)) }
-        ensures same { OnErr result (ctx.new ≡ ctx.old) }
-        ensures agree { AllAgree D.is_symbol D.is_symbol_table ctx.new self.new }
+        requires ready { IsReady ctx.old self.old table }
+        ensures called { AllAgree D.is_symbol D.is_symbol_table ctx.old self.old → IsCalled D.is_terminator D.is_symbol D.is_symbol_table ctx.old self.old (Edit.Remove table op) result ctx.new self.new }
         ensures given { AreGivenOut ctx.old self.old → AreGivenOut ctx.new self.new }
     {
         match self.cached(table) {
@@ -95,13 +100,9 @@ impl SymbolTableCollection {
     ) -> Result<(), SymbolTableErr>
         requires table_live { IsLive ctx.old (AnyNode.Operation table) }
         requires op_live { IsLive ctx.old (AnyNode.Operation op) }
-        requires cached { IsSome (map.get self.old table) }
-        requires agree { AllAgree D.is_symbol D.is_symbol_table ctx.old self.old }
+        requires ready { IsReady ctx.old self.old table }
         requires unused { IsUnusedOutside ctx.old (AnyNode.Operation op) }
-        ensures made { OnOk result (IsMadeEdit D.is_terminator D.is_symbol D.is_symbol_table ctx.old (Edit.Erase table op) ctx.new) }
-        ensures refused { IfErr result (Tells (RemoveRefused D.is_symbol ctx.old table op)) }
-        ensures same { OnErr result (ctx.new ≡ ctx.old) }
-        ensures agree { AllAgree D.is_symbol D.is_symbol_table ctx.new self.new }
+        ensures called { AllAgree D.is_symbol D.is_symbol_table ctx.old self.old → IsCalled D.is_terminator D.is_symbol D.is_symbol_table ctx.old self.old (Edit.Erase table op) result ctx.new self.new }
         ensures given { AreGivenOut ctx.old self.old → AreGivenOut ctx.new self.new }
     {
         match self.cached(table) {
@@ -142,9 +143,7 @@ impl SymbolTableCollection {
         op: Ptr<Operation>,
         point: Option<OpInsertionPoint>,
     ) -> Result<(), SymbolEditErr>
-        requires { AllAgree D.is_symbol D.is_symbol_table ctx.old self.old }
-        ensures edited { IsEdited D.is_terminator D.is_symbol D.is_symbol_table ctx.old (Edit.Insert table op point) result ctx.new }
-        ensures agree { AllAgree D.is_symbol D.is_symbol_table ctx.new self.new }
+        ensures step { AllAgree D.is_symbol D.is_symbol_table ctx.old self.old → IsStep D.is_terminator D.is_symbol D.is_symbol_table ctx.old self.old (Edit.Insert table op point) result ctx.new self.new }
         ensures given { AreGivenOut ctx.old self.old → AreGivenOut ctx.new self.new }
     {
         if !are_live(ctx, table, op) {
@@ -171,9 +170,7 @@ impl SymbolTableCollection {
         table: Ptr<Operation>,
         op: Ptr<Operation>,
     ) -> Result<(), SymbolEditErr>
-        requires { AllAgree D.is_symbol D.is_symbol_table ctx.old self.old }
-        ensures edited { IsEdited D.is_terminator D.is_symbol D.is_symbol_table ctx.old (Edit.Remove table op) result ctx.new }
-        ensures agree { AllAgree D.is_symbol D.is_symbol_table ctx.new self.new }
+        ensures step { AllAgree D.is_symbol D.is_symbol_table ctx.old self.old → IsStep D.is_terminator D.is_symbol D.is_symbol_table ctx.old self.old (Edit.Remove table op) result ctx.new self.new }
         ensures given { AreGivenOut ctx.old self.old → AreGivenOut ctx.new self.new }
     {
         if !are_live(ctx, table, op) {
@@ -194,9 +191,7 @@ impl SymbolTableCollection {
         table: Ptr<Operation>,
         op: Ptr<Operation>,
     ) -> Result<(), SymbolEditErr>
-        requires { AllAgree D.is_symbol D.is_symbol_table ctx.old self.old }
-        ensures edited { IsEdited D.is_terminator D.is_symbol D.is_symbol_table ctx.old (Edit.Erase table op) result ctx.new }
-        ensures agree { AllAgree D.is_symbol D.is_symbol_table ctx.new self.new }
+        ensures step { AllAgree D.is_symbol D.is_symbol_table ctx.old self.old → IsStep D.is_terminator D.is_symbol D.is_symbol_table ctx.old self.old (Edit.Erase table op) result ctx.new self.new }
         ensures given { AreGivenOut ctx.old self.old → AreGivenOut ctx.new self.new }
     {
         if !are_live(ctx, table, op) {
@@ -223,9 +218,7 @@ impl SymbolTableCollection {
         ctx: &mut Context<D>,
         edit: SymbolEdit,
     ) -> Result<(), SymbolEditErr>
-        requires { AllAgree D.is_symbol D.is_symbol_table ctx.old self.old }
-        ensures edited { IsEdited D.is_terminator D.is_symbol D.is_symbol_table ctx.old edit result ctx.new }
-        ensures agree { AllAgree D.is_symbol D.is_symbol_table ctx.new self.new }
+        ensures step { AllAgree D.is_symbol D.is_symbol_table ctx.old self.old → IsStep D.is_terminator D.is_symbol D.is_symbol_table ctx.old self.old edit result ctx.new self.new }
         ensures given { AreGivenOut ctx.old self.old → AreGivenOut ctx.new self.new }
     {
         match edit {
@@ -235,15 +228,16 @@ impl SymbolTableCollection {
         }
     }
 
-    /// Makes edits one after another and answers each. `Memory` comes before the first edit. After each edit all tables agree.
+    /// Makes edits one after another and answers each. `Memory` comes before the first edit. While all tables agree, each edit is
+    /// answered and made as scans of the bodies say, whatever is cached, and all tables agree after it. A refused edit changes no
+    /// node and no table that was cached; its own table may have been newly cached.
     pub fn apply_all<D: OpSet>(
         &mut self,
         ctx: &mut Context<D>,
         edits: Vec<SymbolEdit>,
     ) -> Result<Vec<Result<(), SymbolEditErr>>, Memory>
-        requires { AllAgree D.is_symbol D.is_symbol_table ctx.old self.old }
-        ensures edited { IfOk result (λ rs. AreEdited D.is_terminator D.is_symbol D.is_symbol_table ctx.old edits.items rs.items ctx.new self.new) }
-        ensures agree { AllAgree D.is_symbol D.is_symbol_table ctx.new self.new }
+        ensures edited { AllAgree D.is_symbol D.is_symbol_table ctx.old self.old → IfOk result (λ rs. AreEdited D.is_terminator D.is_symbol D.is_symbol_table ctx.old self.old edits.items rs.items ctx.new self.new) }
+        ensures agree { AllAgree D.is_symbol D.is_symbol_table ctx.old self.old → AllAgree D.is_symbol D.is_symbol_table ctx.new self.new }
         ensures given { AreGivenOut ctx.old self.old → AreGivenOut ctx.new self.new }
         ensures same { OnErr result ((ctx.new ≡ ctx.old) × (self.new ≡ self.old)) }
     {

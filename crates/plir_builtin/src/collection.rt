@@ -67,6 +67,16 @@ impl SymbolTableCollection {
         }
     }
 
+    /// The operation whose table is cached for an operation.
+    pub(crate) fn owner(&self, op: Ptr<Operation>) -> Option<Ptr<Operation>>
+        ensures { result ≡ option_map (λ t. t.op) (map.get self.now op) }
+    {
+        match self.tables.get(&op) {
+            Some(table) => Some(table.get_operation()),
+            None => None,
+        }
+    }
+
     /// The table that is cached for an operation.
     pub(crate) fn cached(&mut self, op: Ptr<Operation>) -> Option<&mut SymbolTable>
         ensures* writes_back { sem 𝓛 (LendsCached self.entry op result) }

@@ -8,7 +8,7 @@ ghost use Rattle.plir_core.specs.InsertionPoint.{IsPointLive, insertion_block};
 ghost use Rattle.plir_core.specs.Terminator.{terminator_of};
 ghost use Rattle.plir_builtin.specs.Symbols.{body};
 ghost use Rattle.plir_builtin.specs.Insertion.{put_at, before_or_last, IsPutInto};
-ghost use Rattle.plir_builtin.specs.Refusals.{Tells, elsewhere, IsSymbolNamed, IsNotOthers, InsertRefused};
+ghost use Rattle.plir_builtin.specs.Refusals.{Tells, elsewhere, IsSymbolNamed, IsNotOthers, IsInsertErr};
 ghost use Rattle.plir_builtin.specs.Plan.{IsPlace, IsPlanned};
 
 use crate::reading::redefined;
@@ -108,7 +108,7 @@ impl SymbolTable {
         requires point_live { IfSome point (IsPointLive ctx.now) }
         ensures free { OnOk result (IsNotOthers D.is_symbol ctx.now (map.get self.now.names) op name.now) }
         ensures place { IfOk result (IsPlace D.is_terminator ctx.now self.now.op op point block) }
-        ensures refused { IfErr result (Tells (InsertRefused D.is_symbol ctx.now (map.get self.now.names) self.now.op op point)) }
+        ensures refused { IfErr result (IsInsertErr D.is_symbol ctx.now (map.get self.now.names) self.now.op op point) }
     {
         if self.has_other(name, op) {
             return Err(redefined(self.alloc, name));
@@ -140,7 +140,7 @@ impl SymbolTable {
         requires op_live { IsLive ctx.now (AnyNode.Operation op) }
         requires point_live { IfSome point (IsPointLive ctx.now) }
         ensures ok { IfOk result (λ p. IsPlanned D.is_terminator D.is_symbol ctx.now (map.get self.now.names) self.now.op op point p.name p.body p.place) }
-        ensures refused { IfErr result (Tells (InsertRefused D.is_symbol ctx.now (map.get self.now.names) self.now.op op point)) }
+        ensures refused { IfErr result (IsInsertErr D.is_symbol ctx.now (map.get self.now.names) self.now.op op point) }
     {
         if !is_symbol(ctx, op) {
             return Err(SymbolTableErr::DoesNotImplementSymbolOpInterface);

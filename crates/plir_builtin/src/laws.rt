@@ -16,8 +16,8 @@ use plir_core::Context;
 use plir_core::laws::contexts_stand;
 use plir_data::OpSet;
 
-/// A collection that caches no table agrees with every context: what `SymbolTableCollection::new` answers may be handed to
-/// `SymbolTableCollection::apply_all`.
+/// A collection that caches no table agrees with every context: so what the calls of a collection say of one that agrees holds
+/// of what `SymbolTableCollection::new` answers.
 pub fn no_tables_agree<D: OpSet>(ctx: &Context<D>)
     ensures agree { AllAgree D.is_symbol D.is_symbol_table ctx.now map.empty }
     ensures given { AreGivenOut ctx.now map.empty }

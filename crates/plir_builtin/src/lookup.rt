@@ -4,8 +4,8 @@ ghost use Rattle.std.specs.FinMap as map;
 ghost use Rattle.plir_core.specs.declared.ptr.IRNode.{IRNode as AnyNode};
 ghost use Rattle.plir_core.specs.Store.{IsLive};
 ghost use Rattle.plir_builtin.specs.Symbols.{IsGood, scan};
-ghost use Rattle.plir_builtin.specs.Agree.{Agrees, AgreesAsLent, AllAgree, AreGivenOut, IsNewlyCached};
-ghost use Rattle.plir_builtin.specs.Nearest.{IsFoundNearest, NearestRefused};
+ghost use Rattle.plir_builtin.specs.Agree.{Agrees, AgreesAsLent, AllAgree, AreGivenOut, IsBrought, IsNewlyCached};
+ghost use Rattle.plir_builtin.specs.Nearest.{IsAnsweredNearest, IsFoundNearest, NearestRefused};
 ghost use Rattle.plir_builtin.specs.Refusals.{Tells, TableRefused};
 
 use crate::collection::SymbolTableCollection;
@@ -84,6 +84,7 @@ impl SymbolTableCollection {
         ensures given { AreGivenOut ctx.now self.old → AreGivenOut ctx.now self.new }
         ensures recorded { IfOk result (λ r. IfSome (map.get self.new table) (λ t. r ≡ map.get t.names name.now)) }
         ensures kept { IsSome (map.get self.old table) → self.new ≡ self.old }
+        ensures brought { OnOk result (IsBrought D.is_symbol D.is_symbol_table ctx.now self.old table self.new) }
         ensures refused { IfErr result (Tells (TableRefused D.is_symbol D.is_symbol_table ctx.now table)) }
         ensures same { OnErr result ((self.new ≡ self.old) × (map.get self.old table ≡ None)) }
     {
@@ -94,7 +95,8 @@ impl SymbolTableCollection {
     }
 
     /// The operation that is recorded under a name in the nearest table at or above an operation, none if there is no such
-    /// table: [`SymbolTableCollection::lookup_symbol_in_table`] with that table. After a refusal all is as before.
+    /// table: [`SymbolTableCollection::lookup_symbol_in_table`] with that table, which is now cached. Refused exactly as
+    /// [`SymbolTable::new`] for that table, and only where it is not cached; after a refusal all is as before.
     pub fn lookup_symbol_in_nearest_table<D: OpSet>(
         &mut self,
         ctx: &Context<D>,
@@ -105,7 +107,8 @@ impl SymbolTableCollection {
         ensures found { AllAgree D.is_symbol D.is_symbol_table ctx.now self.old → IfOk result (IsFoundNearest D.is_symbol D.is_symbol_table ctx.now from name.now) }
         ensures agree { AllAgree D.is_symbol D.is_symbol_table ctx.now self.old → AllAgree D.is_symbol D.is_symbol_table ctx.now self.new }
         ensures given { AreGivenOut ctx.now self.old → AreGivenOut ctx.now self.new }
-        ensures refused { IfErr result (NearestRefused D.is_symbol D.is_symbol_table ctx.now from) }
+        ensures answered { IfOk result (IsAnsweredNearest D.is_symbol D.is_symbol_table ctx.now self.old self.new from name.now) }
+        ensures refused { IfErr result (NearestRefused D.is_symbol D.is_symbol_table ctx.now self.old from) }
         ensures same { OnErr result (self.new ≡ self.old) }
     {
         match nearest_symbol_table(ctx, from) {

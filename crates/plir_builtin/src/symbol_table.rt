@@ -10,7 +10,7 @@ ghost use Rattle.plir_core.specs.Unused.{IsUnusedOutside, without_tree};
 ghost use Rattle.plir_builtin.specs.Symbols.{body};
 ghost use Rattle.plir_builtin.specs.Agree.{Agrees, KeepsAgreement, KeepsAllAgree, KeepsGivenOut};
 ghost use Rattle.plir_builtin.specs.Insertion.{inserted};
-ghost use Rattle.plir_builtin.specs.Refusals.{Tells, TellsOnly, IsSymbolNamed, IsPlaceable, InsertRefused, RemoveRefused, TableRefused};
+ghost use Rattle.plir_builtin.specs.Refusals.{Tells, TellsOnly, IsSymbolNamed, IsPlaceable, IsInsertErr, RemoveRefused, TableRefused};
 ghost use Rattle.plir_builtin.specs.Reading.{IsRead};
 ghost use Rattle.plir_builtin.specs.TableEdits.{IsRecorded, IsForgotten};
 
@@ -117,7 +117,7 @@ pub(crate) fn is_member<D: OpSet>(
     requires op_live { IsLive ctx.now (AnyNode.Operation op) }
     ensures named { OnOk result ((x : _) × IsSymbolNamed D.is_symbol ctx.now op x) }
     ensures member { OnOk result (parent_of ctx.now (AnyNode.Operation op) ≡ body ctx.now table) }
-    ensures refused { IfErr result (Tells (RemoveRefused D.is_symbol ctx.now table op)) }
+    ensures refused { IfErr result (TellsOnly (RemoveRefused D.is_symbol ctx.now table op)) }
 {
     match member_name(ctx, table, op) {
         Ok(_name) => Ok(()),
@@ -168,7 +168,7 @@ impl SymbolTable {
     /// in this order: `DoesNotImplementSymbolOpInterface`; `Unnamed`; `SymbolRedefined`, where the name is recorded for another
     /// operation; `SymbolOpAlreadyInAnotherTable`, where it stands in a block that is not the body;
     /// `InsertionPointNotInSameTable`, where it stands in no block and the point is not in the body. `Memory` may come in place
-    /// of any of them. After a refusal all is as before.
+    /// of the two that tell the name, and after all of them, where the name is recorded. After a refusal all is as before.
     pub fn insert<D: OpSet>(
         &mut self,
         ctx: &mut Context<D>,
@@ -183,7 +183,7 @@ impl SymbolTable {
         ensures recorded { OnOk result (IsRecorded D.is_symbol ctx.old self.old op self.new) }
         ensures after { OnOk result (ctx.new ≡ inserted D.is_terminator ctx.old self.old.op op point) }
         ensures placeable { OnOk result (IsPlaceable D.is_symbol ctx.old self.old.op op point) }
-        ensures refused { IfErr result (Tells (InsertRefused D.is_symbol ctx.old (map.get self.old.names) self.old.op op point)) }
+        ensures refused { IfErr result (IsInsertErr D.is_symbol ctx.old (map.get self.old.names) self.old.op op point) }
         ensures same { OnErr result ((ctx.new ≡ ctx.old) × (self.new ≡ self.old)) }
         ensures agrees { OnOk result (KeepsAgreement D.is_symbol D.is_symbol_table ctx.old self.old ctx.new self.new) }
         ensures all_agree { OnOk result (KeepsAllAgree D.is_symbol D.is_symbol_table ctx.old self.old ctx.new self.new) }

@@ -63,7 +63,7 @@ pub(crate) fn find_body<D: OpSet>(
 }
 
 /// Whether an operation has a body.
-fn has_body<D: OpSet>(ctx: &Context<D>, op: Ptr<Operation>) -> bool
+pub(crate) fn has_body<D: OpSet>(ctx: &Context<D>, op: Ptr<Operation>) -> bool
     requires { IsLive ctx.now (AnyNode.Operation op) }
     ensures { IsTrue result ↔ IsSome (body ctx.now op) }
 {

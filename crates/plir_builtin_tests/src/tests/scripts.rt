@@ -107,13 +107,16 @@ fn tables_that_are_not_right_are_refused(rt: HostRuntime) -> Result<(), Mismatch
         back o2 b0
         table o0 => Symbol redefined: f1
         lookup o0 f1 => Symbol redefined: f1
+        nearest-lookup o0 f1 => Symbol redefined: f1
+        nearest-lookup o1 f1 => Symbol redefined: f1
         op func 1 => o3
         back o3 b0
         table o0 => Symbol redefined: f1
         unlink o2
         table o0 => Op implementing SymbolOpInterface does not have a symbol defined
         op module 0 => o4
-        table o4 => Expected 1 regions, found 0";
+        table o4 => Expected 1 regions, found 0
+        nearest-lookup o4 f1 => Expected 1 regions, found 0";
     play_in(rt.alloc(), 100, script)
 }
 

@@ -2,7 +2,6 @@
 ghost use Rattle.std.specs.Prelude.{◌≡◌, true, length};
 ghost use Rattle.plir_core.specs.declared.ptr.IRNode.{IRNode as AnyNode};
 
-use plir_builtin::laws::no_tables_agree;
 use plir_builtin::{
     SymbolEdit, SymbolEditErr, SymbolTable, SymbolTableCollection, SymbolTableErr, TableLinks,
     nearest_symbol_table, walk_symbol_table,
@@ -87,7 +86,6 @@ pub fn make_edits<D: OpSet>(
     ctx: &mut Context<D>,
     edits: Vec<SymbolEdit>,
 ) -> Result<Vec<Result<(), SymbolEditErr>>, Stop> {
-    no_tables_agree(ctx);
     let mut tables = SymbolTableCollection::new(alloc);
     Ok(tables.apply_all(ctx, edits)?)
 }

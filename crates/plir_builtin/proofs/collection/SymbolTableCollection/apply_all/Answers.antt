@@ -16,13 +16,13 @@ loop-edit-preserved g c =
     let put = c.push_reserved.ensures.items in
     record {
       given = λ h. c.apply-reply.ensures.given (c.loop-edit.invariant.given h);
-      agree = c.apply-reply.ensures.agree;
-      edited =
-          subst (λ es. AreEdited g.D.OpSet.is_terminator g.D.OpSet.is_symbol g.D.OpSet.is_symbol_table c.args.ctx.now es c.push_reserved.new.self.items c.apply-reply.new.ctx c.apply-reply.new.self) (sym more)
-          (subst (λ rs. AreEdited g.D.OpSet.is_terminator g.D.OpSet.is_symbol g.D.OpSet.is_symbol_table c.args.ctx.now (take c.loop-edit.edit-index c.deref-edit-items.result.now ++ get_or c.deref-edit-items.result.now c.loop-edit.edit-index no_edit ∷ []) rs c.apply-reply.new.ctx c.apply-reply.new.self) (sym put)
-          (edited-more g.D.OpSet.is_terminator g.D.OpSet.is_symbol g.D.OpSet.is_symbol_table c.args.ctx.now c.loop-edit.ctx c.apply-reply.new.ctx c.loop-edit.self c.apply-reply.new.self
+      agree = λ all. (c.apply-reply.ensures.step (c.loop-edit.invariant.agree all)).1;
+      edited = λ all.
+          subst (λ es. AreEdited g.D.OpSet.is_terminator g.D.OpSet.is_symbol g.D.OpSet.is_symbol_table c.args.ctx.now c.args.self.now es c.push_reserved.new.self.items c.apply-reply.new.ctx c.apply-reply.new.self) (sym more)
+          (subst (λ rs. AreEdited g.D.OpSet.is_terminator g.D.OpSet.is_symbol g.D.OpSet.is_symbol_table c.args.ctx.now c.args.self.now (take c.loop-edit.edit-index c.deref-edit-items.result.now ++ get_or c.deref-edit-items.result.now c.loop-edit.edit-index no_edit ∷ []) rs c.apply-reply.new.ctx c.apply-reply.new.self) (sym put)
+          (edited-more g.D.OpSet.is_terminator g.D.OpSet.is_symbol g.D.OpSet.is_symbol_table c.args.ctx.now c.loop-edit.ctx c.apply-reply.new.ctx c.args.self.now c.loop-edit.self c.apply-reply.new.self
           (take c.loop-edit.edit-index c.deref-edit-items.result.now) c.loop-edit.replies.items (get_or c.deref-edit-items.result.now c.loop-edit.edit-index no_edit) c.apply-reply.result
-          c.loop-edit.invariant.edited c.apply-reply.ensures.edited c.apply-reply.ensures.agree));
+          (c.loop-edit.invariant.edited all) (c.apply-reply.ensures.step (c.loop-edit.invariant.agree all))));
       count = ap length put ∙ length-append c.loop-edit.replies.items (c.apply-reply.result ∷ []) ∙ ap (λ n. n + 1) c.loop-edit.invariant.count;
       room = omega (arith, c.push_reserved.ensures.capacity, c.loop-edit.invariant.room);
     }

@@ -1,8 +1,19 @@
-use Rattle.plir_builtin.proofs.Cached.{seen-for, seen-agree}
+use Rattle.std.proofs.Common.{true≢false, sym, ◌∙◌}
+use Rattle.plir_builtin.proofs.Cached.{brought-for, brought-agree, ready-for}
 use Rattle.plir_builtin.proofs.collection.SymbolTableCollection.see_to.Goals as goal
 
-pub returns-clause-cached : goal.returns-clause-cached
-returns-clause-cached g c = seen-for g.D.OpSet.is_symbol g.D.OpSet.is_symbol_table c.args.ctx.now c.args.self.now c.args.op c.requires.live c.requires.agree c.bring.new.self c.bring.result c.bring.ensures.kept c.bring.ensures.made
+pub returns-clause-ready : goal.returns-clause-ready
+returns-clause-ready g c = c.is_ready.ensures.0 c.if-not-is_ready.false
 
-pub returns-clause-agree : goal.returns-clause-agree
-returns-clause-agree g c = seen-agree g.D.OpSet.is_symbol g.D.OpSet.is_symbol_table c.args.ctx.now c.args.self.now c.args.op c.requires.live c.requires.agree c.bring.new.self c.bring.result c.bring.ensures.kept c.bring.ensures.made c.bring.ensures.same
+pub returns-then-not-is_ready-clause-seen : goal.returns-then-not-is_ready-clause-seen
+returns-then-not-is_ready-clause-seen g c = λ all.
+    absurd (true≢false (sym (c.is_ready.ensures.1
+    (ready-for g.D.OpSet.is_symbol g.D.OpSet.is_symbol_table c.args.ctx.now c.bring.new.self c.args.op
+    (brought-for g.D.OpSet.is_symbol g.D.OpSet.is_symbol_table c.args.ctx.now c.args.self.now c.args.op c.requires c.bring.new.self c.in_ok-bring.ensures.kept c.in_ok-bring.ensures.made all)))
+    ∙ c.if-not-is_ready.true))
+
+pub returns-clause-seen : goal.returns-clause-seen
+returns-clause-seen g c = λ all. (
+  brought-for g.D.OpSet.is_symbol g.D.OpSet.is_symbol_table c.args.ctx.now c.args.self.now c.args.op c.requires c.bring.new.self c.in_ok-bring.ensures.kept c.in_ok-bring.ensures.made all,
+  brought-agree g.D.OpSet.is_symbol g.D.OpSet.is_symbol_table c.args.ctx.now c.args.self.now c.args.op c.requires c.bring.new.self c.in_ok-bring.ensures.kept c.in_ok-bring.ensures.made all,
+)
