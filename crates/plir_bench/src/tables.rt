@@ -1,6 +1,5 @@
 //! The commands on symbol tables and on texts.
 use crate::session::Session;
-use plir_builtin::laws::no_tables_agree;
 use plir_builtin::{ModuleOp, SymbolEdit, SymbolTable, SymbolTableCollection, SymbolUserSet};
 use plir_core::Context;
 use plir_data::OpSet;
@@ -70,7 +69,6 @@ fn count_done<D: OpSet>(
     ctx: &mut Context<D>,
     edits: Vec<SymbolEdit>,
 ) -> Option<u64> {
-    no_tables_agree(ctx);
     let mut tables = SymbolTableCollection::new(session.alloc);
     let replies = tables.apply_all(ctx, edits).ok()?;
     let mut done: u64 = 0;
