@@ -1,5 +1,6 @@
 -- What the builtin operations hold, and the trees that their constructors make.
 use Rattle.std.specs.Prelude.{◌≡◌, ℕ, List, [], ◌∷◌, Option, None, Some, codes, option_and_then, MatchOption, slice_get}
+use Rattle.std.specs.Prelude.{◌+◌, ◌-◌, ◌<◌, ◌≤◌, ◌^◌, ◌⊎◌}
 use Rattle.plir_data.specs.AttrView.{AttrView, leaf, identifier, type_of}
 use Rattle.plir_data.specs.AttrCalls.{attr_type}
 use Rattle.plir_data.specs.Dictionary.{dict_get, dict_put}
@@ -15,7 +16,9 @@ use Rattle.plir_store.specs.Table.{next_slot}
 use Rattle.plir_core.specs.Changes.{with_op, with_block, with_block_last}
 use Rattle.plir_core.specs.Contents.{OpView, BlockView, op_view}
 use Rattle.plir_core.specs.Nodes.{ptr_at}
+use Rattle.plir_core.specs.Room.{IsFullForOp}
 use Rattle.plir_core.specs.Store.{Store, attributes_of, result_types_of, first_kid, kids, op_at, block_at}
+use Rattle.plir_core.specs.Store.{limit, num_live}
 
 -- the keys that a symbol's name, a function's type and a constant's value stand under
 abbrev pub name_key : List ℕ
@@ -44,6 +47,10 @@ module_block = block_view None []
 
 abbrev pub func_block : {A : Type 0} → (arguments : List ℕ) → BlockView A
 func_block arguments = block_view (Some (codes "entry")) arguments
+
+-- no room for an operation with one region that holds one block: the limit would be passed, or slot numbers are spent
+abbrev pub IsFullForOneBlock : {K A T : Type 0} → Store K A T → Type 0
+IsFullForOneBlock s = (limit s < num_live s + 3) ⊎ (IsFullForOp s.nodes 1 ⊎ (2 ^ 32 - 1 ≤ next_slot s.nodes.blocks))
 
 -- a handle names a type of functions, with arguments of these types
 abbrev pub HasArguments : {T : Type 0} → List (TypeView T) → ℕ → List ℕ → Type 0

@@ -1,5 +1,6 @@
 //! Constants.
 ghost use Rattle.std.specs.Prelude.{◌≡◌, ◌↔◌, true, Some, OnOk, OnErr, IfErr, IfOk, IfSome, IsSome};
+ghost use Rattle.std.specs.Prelude.{◌<◌, ◌+◌, Err, IsErr};
 ghost use Rattle.plir_store.specs.Table.{next_slot};
 ghost use Rattle.plir_data.specs.declared.op_set.OpKind.{OpKind as AnyKind};
 ghost use Rattle.plir_data.specs.AttrCalls.{attr_type};
@@ -8,7 +9,8 @@ ghost use Rattle.plir_data.specs.AttrSeen.{attr_view};
 ghost use Rattle.plir_core.specs.Changes.{SameLive};
 ghost use Rattle.plir_core.specs.Made.{IsMade};
 ghost use Rattle.plir_core.specs.Nodes.{ptr_at};
-ghost use Rattle.plir_core.specs.Store.{IsLive, given_out, kind_of};
+ghost use Rattle.plir_core.specs.Room.{IsFullForOp};
+ghost use Rattle.plir_core.specs.Store.{IsLive, given_out, kind_of, limit, num_live};
 ghost use Rattle.plir_core.specs.Whole.{IsWhole};
 ghost use Rattle.plir_core.specs.declared.ptr.IRNode.{IRNode as AnyNode};
 ghost use Rattle.plir_builtin.specs.BuiltinOps.{HasConstantValue, IsNewConstant, value_of};
@@ -49,8 +51,8 @@ pub struct ConstantOp {
 }
 
 impl ConstantOp {
-    /// A new constant of a value that has a type (`AttrObj::typed` is the test), in no block. After a refusal no live node has
-    /// changed.
+    /// A new constant of a value that has a type (`AttrObj::typed` is the test), in no block. `TooManyNodes` comes only
+    /// where there is no room for it. After a refusal no live node has changed.
     pub fn new<D: OpSet>(
         alloc: Global,
         ctx: &mut Context<D>,
@@ -64,6 +66,8 @@ impl ConstantOp {
         ensures types { ctx.new.types ≡ ctx.old.types }
         ensures given { (n : AnyNode) → given_out ctx.old n ≡ true → given_out ctx.new n ≡ true }
         ensures err { OnErr result (SameLive ctx.old ctx.new) }
+        ensures too_many { limit ctx.old < num_live ctx.old + 1 → IsErr result }
+        ensures too_many_only { result ≡ Err NodeErr.TooManyNodes → IsFullForOp ctx.old.nodes 0 }
         ensures whole { IsWhole D.attr_handles ctx.new }
     {
         let _live = ctx.num_live();

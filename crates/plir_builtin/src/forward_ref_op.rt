@@ -1,12 +1,14 @@
 //! Forward references.
 ghost use Rattle.std.specs.Prelude.{◌≡◌, ◌↔◌, ◌⊎◌, ◌++◌, true, Some, OnOk, OnErr, IsErr, IfErr, codes, string_bytes, IfOk, IfSome, IsSome};
+ghost use Rattle.std.specs.Prelude.{◌<◌, ◌+◌, Err};
 ghost use Rattle.plir_store.specs.Table.{next_slot};
 ghost use Rattle.plir_data.specs.declared.op_set.OpKind.{OpKind as AnyKind};
 ghost use Rattle.plir_data.specs.Types.{IsGrown, unit};
 ghost use Rattle.plir_core.specs.Edits.{SameNodes};
 ghost use Rattle.plir_core.specs.Made.{IsMade};
 ghost use Rattle.plir_core.specs.Nodes.{ptr_at};
-ghost use Rattle.plir_core.specs.Store.{IsLive, given_out, kind_of};
+ghost use Rattle.plir_core.specs.Room.{IsFullForOp};
+ghost use Rattle.plir_core.specs.Store.{IsLive, given_out, kind_of, limit, num_live};
 ghost use Rattle.plir_core.specs.Whole.{IsWhole};
 ghost use Rattle.plir_core.specs.declared.ptr.IRNode.{IRNode as AnyNode};
 ghost use Rattle.plir_builtin.specs.BuiltinOps.{IsNewForwardRef};
@@ -42,7 +44,8 @@ pub struct ForwardRefOp {
 
 impl ForwardRefOp {
     /// A new forward reference, in no block. The unit type comes into the table, if it isn't there, also where the operation is
-    /// refused. After a refusal no live node has changed.
+    /// refused. `TooManyNodes` comes only where there is no room for the operation. After a refusal no live node has
+    /// changed.
     pub fn new<D: OpSet>(alloc: Global, ctx: &mut Context<D>) -> Result<ForwardRefOp, NodeErr>
         ensures made { IfOk result (λ r. IsMade ctx.old.nodes ctx.new.nodes (AnyNode.Operation r.op)) }
         ensures pointer { IfOk result (λ r. r.op ≡ ptr_at ctx.new.nodes.ops (next_slot ctx.old.nodes.ops)) }
@@ -50,6 +53,8 @@ impl ForwardRefOp {
         ensures types { IsGrown ctx.old.types unit ctx.new.types ⊎ (ctx.new.types ≡ ctx.old.types) }
         ensures given { (n : AnyNode) → given_out ctx.old n ≡ true → given_out ctx.new n ≡ true }
         ensures err { OnErr result (SameNodes ctx.old.nodes ctx.new.nodes) }
+        ensures too_many { limit ctx.old < num_live ctx.old + 1 → IsErr result }
+        ensures too_many_only { result ≡ Err NodeErr.TooManyNodes → IsFullForOp ctx.old.nodes 0 }
         ensures whole { IsWhole D.attr_handles ctx.new }
     {
         let _live = ctx.num_live();

@@ -1,15 +1,17 @@
 //! Functions.
 ghost use Rattle.std.specs.Prelude.{⊤, ◌≡◌, ◌↔◌, true, Some, OnOk, OnErr, IsOk, IfErr, IfOk, IfSome, IsSome};
+ghost use Rattle.std.specs.Prelude.{◌<◌, ◌+◌, Err, IsErr};
 ghost use Rattle.plir_store.specs.Table.{next_slot};
 ghost use Rattle.plir_data.specs.declared.op_set.OpKind.{OpKind as AnyKind};
 ghost use Rattle.plir_data.specs.Types.{AllLive, IsLive as IsTypeLive, IsMarked, is_function};
 ghost use Rattle.plir_core.specs.Changes.{SameLive};
 ghost use Rattle.plir_core.specs.Made.{IsMade};
 ghost use Rattle.plir_core.specs.Nodes.{ptr_at};
-ghost use Rattle.plir_core.specs.Store.{IsLive, given_out, kind_of};
+ghost use Rattle.plir_core.specs.Store.{IsLive, given_out, kind_of, limit, num_live};
 ghost use Rattle.plir_core.specs.Whole.{IsWhole};
 ghost use Rattle.plir_core.specs.declared.ptr.IRNode.{IRNode as AnyNode};
 ghost use Rattle.plir_builtin.specs.BuiltinOps.{HasArguments, HasFuncType, IsFuncMade, IsNewFunc, entry_of, func_type_of, type_in_attr};
+ghost use Rattle.plir_builtin.specs.BuiltinOps.{IsFullForOneBlock};
 ghost use Rattle.plir_builtin.specs.OpRules.{HasFuncRules};
 ghost use Rattle.plir_builtin.specs.OpFaults.{IsFuncFault};
 ghost use Rattle.plir_iface.specs.Counts.{HasNRegions};
@@ -44,7 +46,8 @@ pub struct FuncOp {
 
 impl FuncOp {
     /// A new function of a name and a type, in no block; its entry block, labelled `entry`, has arguments of the type's arguments.
-    /// After a refusal no live node has changed.
+    /// `TooManyNodes` comes only where there is no room for the function, its region and its block. After a refusal no
+    /// live node has changed.
     pub fn new<D: OpSet>(
         alloc: Global,
         ctx: &mut Context<D>,
@@ -60,6 +63,8 @@ impl FuncOp {
         ensures types { ctx.new.types ≡ ctx.old.types }
         ensures given { (n : AnyNode) → given_out ctx.old n ≡ true → given_out ctx.new n ≡ true }
         ensures err { OnErr result (SameLive ctx.old ctx.new) }
+        ensures too_many { limit ctx.old < num_live ctx.old + 3 → IsErr result }
+        ensures too_many_only { result ≡ Err NodeErr.TooManyNodes → IsFullForOneBlock ctx.old }
         ensures whole { IsWhole D.attr_handles ctx.new }
     {
         let arg_types = argument_types(alloc, ctx, ty)?;
@@ -202,6 +207,7 @@ fn argument_types<D: OpSet>(
     requires of_functions { IsMarked is_function ctx.now.types ty }
     ensures value { IfOk result (λ ts. HasArguments ctx.now.types ty ts.items) }
     ensures live { IfOk result (λ ts. AllLive ctx.now.types ts.items) }
+    ensures memory { IfErr result (λ e. e ≡ NodeErr.Memory) }
     ensures whole { IsWhole D.attr_handles ctx.now }
 {
     let _live = ctx.num_live();

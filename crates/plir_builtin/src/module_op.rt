@@ -8,15 +8,16 @@
 //! 5. The rules of all of these as a record (`specs/OpRules.antt`), how the first that is broken is told (`specs/OpFaults.antt`), and
 //!    `verify_interfaces`, which verifies them in that order; a law says that so each call that it offers may be made (`laws.rt`).
 ghost use Rattle.std.specs.Prelude.{◌≡◌, ◌↔◌, true, Some, Ok, OnOk, OnErr, IfOk, IfErr, IfSome, IsSome};
+ghost use Rattle.std.specs.Prelude.{◌<◌, ◌+◌, Err, IsErr};
 ghost use Rattle.plir_store.specs.Table.{next_slot};
 ghost use Rattle.plir_data.specs.declared.op_set.OpKind.{OpKind as AnyKind};
 ghost use Rattle.plir_core.specs.Changes.{SameLive};
 ghost use Rattle.plir_core.specs.Made.{IsMade};
 ghost use Rattle.plir_core.specs.Nodes.{ptr_at};
-ghost use Rattle.plir_core.specs.Store.{IsLive, given_out, kind_of};
+ghost use Rattle.plir_core.specs.Store.{IsLive, given_out, kind_of, limit, num_live};
 ghost use Rattle.plir_core.specs.Whole.{IsWhole};
 ghost use Rattle.plir_core.specs.declared.ptr.IRNode.{IRNode as AnyNode};
-ghost use Rattle.plir_builtin.specs.BuiltinOps.{IsModuleMade, IsNewModule};
+ghost use Rattle.plir_builtin.specs.BuiltinOps.{IsFullForOneBlock, IsModuleMade, IsNewModule};
 ghost use Rattle.plir_builtin.specs.OpRules.{HasModuleRules};
 ghost use Rattle.plir_builtin.specs.OpFaults.{IsModuleFault};
 
@@ -40,7 +41,8 @@ pub struct ModuleOp {
 }
 
 impl ModuleOp {
-    /// A new module of a name, in no block. After a refusal no live node has changed.
+    /// A new module of a name, in no block. `TooManyNodes` comes only where there is no room for the module, its
+    /// region and its block. After a refusal no live node has changed.
     pub fn new<D: OpSet>(
         alloc: Global,
         ctx: &mut Context<D>,
@@ -53,6 +55,8 @@ impl ModuleOp {
         ensures types { ctx.new.types ≡ ctx.old.types }
         ensures given { (n : AnyNode) → given_out ctx.old n ≡ true → given_out ctx.new n ≡ true }
         ensures err { OnErr result (SameLive ctx.old ctx.new) }
+        ensures too_many { limit ctx.old < num_live ctx.old + 3 → IsErr result }
+        ensures too_many_only { result ≡ Err NodeErr.TooManyNodes → IsFullForOneBlock ctx.old }
         ensures whole { IsWhole D.attr_handles ctx.new }
     {
         let _live = ctx.num_live();

@@ -1,5 +1,6 @@
 //! What the constructors of builtin operations share.
 ghost use Rattle.std.specs.Prelude.{◌≡◌, true, List, [], ◌∷◌, OnOk, OnErr, IfOk};
+ghost use Rattle.std.specs.Prelude.{◌↔◌, ◌<◌, ◌+◌, Err, IsErr, IfErr};
 ghost use Rattle.plir_store.specs.Table.{next_slot};
 ghost use Rattle.plir_data.specs.AttrLive.{HandlesLive, IsAttrLive};
 ghost use Rattle.plir_data.specs.AttrSeen.{attr_view};
@@ -11,10 +12,12 @@ ghost use Rattle.plir_core.specs.Changes.{SameLive};
 ghost use Rattle.plir_core.specs.Contents.{op_view};
 ghost use Rattle.plir_core.specs.Made.{IsMade, HasNewRegions};
 ghost use Rattle.plir_core.specs.Nodes.{ptr_at};
-ghost use Rattle.plir_core.specs.Store.{IsLive, given_out};
+ghost use Rattle.plir_core.specs.Room.{IsFullForBlock};
+ghost use Rattle.plir_core.specs.Store.{IsLive, given_out, limit, num_live};
 ghost use Rattle.plir_core.specs.Whole.{IsWhole};
 ghost use Rattle.plir_core.specs.declared.ptr.IRNode.{IRNode as AnyNode};
 ghost use Rattle.plir_builtin.specs.BuiltinOps.{HoldsOneBlock, IsMadeWithBlock, block_view, func_attributes, module_attributes, value_key};
+ghost use Rattle.plir_builtin.specs.BuiltinOps.{IsFullForOneBlock};
 ghost use Rattle.plir_builtin.specs.OpMaking.{GivesBlock};
 
 use crate::{ATTR_KEY_BUILTIN_FUNC_TYPE, ATTR_KEY_CONSTANT_VALUE, ATTR_KEY_SYM_NAME};
@@ -35,6 +38,7 @@ pub(crate) fn put_under<D: OpSet>(
     requires { IsIdentifier key.now ≡ true }
     ensures ok { OnOk result (attributes.new ≡ dict_put attributes.old key.now (attr_view value)) }
     ensures err { OnErr result (attributes.new ≡ attributes.old) }
+    ensures memory { IfErr result (λ e. e ≡ NodeErr.Memory) }
 {
     let Ok(key) = Identifier::try_new(alloc, key) else {
         return Err(NodeErr::Memory);
@@ -48,6 +52,7 @@ pub(crate) fn put_under<D: OpSet>(
 /// A dictionary with a name and nothing else.
 pub(crate) fn named<D: OpSet>(alloc: Global, name: Identifier) -> Result<AttributeDict<D>, NodeErr>
     ensures value { IfOk result (λ es. es ≡ module_attributes name) }
+    ensures memory { IfErr result (λ e. e ≡ NodeErr.Memory) }
     ensures live { IfOk result (λ es. (types : List (TypeView D.Ty)) → HandlesLive D.attr_handles types es) }
 {
     let mut attributes = AttributeDict::new(alloc);
@@ -63,6 +68,7 @@ pub(crate) fn named_and_typed<D: OpSet>(
     ty: TypeHandle,
 ) -> Result<AttributeDict<D>, NodeErr>
     ensures value { IfOk result (λ es. es ≡ func_attributes name ty) }
+    ensures memory { IfErr result (λ e. e ≡ NodeErr.Memory) }
     ensures live { IfOk result (λ es. (types : List (TypeView D.Ty)) → IsTypeLive types ty → HandlesLive D.attr_handles types es) }
 {
     let mut attributes = named(alloc, name)?;
@@ -77,6 +83,7 @@ pub(crate) fn valued<D: OpSet>(
     value: AttrObj<D>,
 ) -> Result<AttributeDict<D>, NodeErr>
     ensures value { IfOk result (λ es. es ≡ dict_put [] value_key (attr_view value)) }
+    ensures memory { IfErr result (λ e. e ≡ NodeErr.Memory) }
     ensures live { IfOk result (λ es. (types : List (TypeView D.Ty)) → IsAttrLive D.attr_handles types (attr_view value) → HandlesLive D.attr_handles types es) }
 {
     let mut attributes = AttributeDict::new(alloc);
@@ -86,7 +93,8 @@ pub(crate) fn valued<D: OpSet>(
 
 /// A list of one type.
 pub(crate) fn one_type(alloc: Global, ty: TypeHandle) -> Result<Vec<TypeHandle>, NodeErr>
-    ensures { IfOk result (λ ts. ts.items ≡ ty ∷ []) }
+    ensures value { IfOk result (λ ts. ts.items ≡ ty ∷ []) }
+    ensures memory { IfErr result (λ e. e ≡ NodeErr.Memory) }
 {
     let mut types = Vec::new(alloc);
     match types.push(ty) {
@@ -96,7 +104,8 @@ pub(crate) fn one_type(alloc: Global, ty: TypeHandle) -> Result<Vec<TypeHandle>,
 }
 
 /// A new operation with these attributes and one region, which holds one new block with a label, if it has one, and arguments
-/// of these types. After a refusal no live node has changed.
+/// of these types. `TooManyNodes` comes only where there is no room for the three. After a refusal no live node has
+/// changed.
 pub(crate) fn new_with_block<D: OpSet>(
     alloc: Global,
     ctx: &mut Context<D>,
@@ -114,8 +123,11 @@ pub(crate) fn new_with_block<D: OpSet>(
     ensures types { ctx.new.types ≡ ctx.old.types }
     ensures given { (n : AnyNode) → given_out ctx.old n ≡ true → given_out ctx.new n ≡ true }
     ensures err { OnErr result (SameLive ctx.old ctx.new) }
+    ensures too_many { limit ctx.old < num_live ctx.old + 3 → IsErr result }
+    ensures too_many_only { result ≡ Err NodeErr.TooManyNodes → IsFullForOneBlock ctx.old }
     ensures whole { IsWhole D.attr_handles ctx.new }
 {
+    let _live = ctx.num_live();
     what_was_made_is_unused(ctx);
     growth(ctx);
     let results = Vec::new(alloc);
@@ -146,6 +158,7 @@ fn add_block<D: OpSet>(
     ensures types { ctx.new.types ≡ ctx.old.types }
     ensures given { (n : AnyNode) → given_out ctx.old n ≡ true → given_out ctx.new n ≡ true }
     ensures err { OnErr result (ctx.new ≡ ctx.old) }
+    ensures too_many { (result ≡ Err NodeErr.TooManyNodes) ↔ IsFullForBlock ctx.old.nodes }
     ensures whole { IsWhole D.attr_handles ctx.new }
 {
     growth(ctx);
