@@ -23,7 +23,7 @@ pub trait Op<D: OpSet> {
         ensures { result ≡ pointer self.now };
 
     /// Where the operation stands in a source text.
-    fn loc(&self, ctx: &Context<D>) -> Location
+    final fn loc(&self, ctx: &Context<D>) -> Location
         requires { IsLive ctx.now (AnyNode.Operation (pointer self.now)) }
         ensures { location_of ctx.now (pointer self.now) ≡ Some result }
     {
