@@ -2,5 +2,6 @@
 mod edges;
 mod kinds;
 mod making;
+mod own_attrs;
 mod printing;
 mod scripts;

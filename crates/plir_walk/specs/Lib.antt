@@ -13,6 +13,7 @@ pub mod Walked
 pub mod LawfulChanges
 pub mod Step
 pub mod Laws
+pub mod CallLaws
 pub mod GivenNames
 pub mod Placing
 pub mod Unnamed

@@ -1,9 +1,10 @@
 //! The scripts of printed operations and edges, with their answers.
 use super::kinds::TestKind;
 use super::making::{make, name};
+use super::own_attrs::{MarkedSet, set_own};
 use super::printing::{print_edge_of, print_line};
 use plir_data::KindSet;
-use plir_scripts::{Bench, Layer, Line, Mismatch, NodeCalls, ScriptSet, Stop, play};
+use plir_scripts::{Bench, Layer, Line, Mismatch, NodeCalls, SampleSet, ScriptSet, Stop, play};
 use std::alloc::Global;
 
 /// The calls of this crate, and those on nodes.
@@ -17,6 +18,18 @@ impl<D: ScriptSet> Layer<D> for PrintCalls {
             "line" => print_line(bench, line),
             "edge" => print_edge_of(bench, line),
             _ => NodeCalls::run(bench, line),
+        }
+    }
+}
+
+/// The same, and attributes of the user's own.
+struct OwnCalls;
+
+impl<D: MarkedSet> Layer<D> for OwnCalls {
+    fn run(bench: &mut Bench<D>, line: Line<'_>) -> Result<(), Stop> {
+        match line.command {
+            "own" => set_own(bench, line),
+            _ => PrintCalls::run(bench, line),
         }
     }
 }
@@ -149,6 +162,28 @@ fn attributes_that_no_header_tells(rt: HostRuntime) -> Result<(), Mismatch> {
         line o0 15 => |}|
         line o0 16 => none";
     play_in(rt.alloc(), script)
+}
+
+#[test]
+fn own_attributes_stand_in_dictionaries_or_are_left_out(rt: HostRuntime) -> Result<(), Mismatch> {
+    let script = "
+        module m => o0
+        own o0 b
+        own o0 c marked
+        set o0 a builtin.unit
+        line o0 1 => |builtin.module @m |
+        line o0 2 => |  [a = builtin.unit, b = sample.attr]|
+        line o0 3 => |{|
+        module n => o1
+        own o1 c marked
+        line o1 1 => |builtin.module @n |
+        line o1 2 => |{|
+        op plain 0 => o2
+        own o2 b
+        own o2 c marked
+        line o2 1 => |sample.plain () [] [b = sample.attr]: <()->()>|
+        line o2 2 => none";
+    play::<SampleSet, OwnCalls>(rt.alloc(), 100, script)
 }
 
 #[test]

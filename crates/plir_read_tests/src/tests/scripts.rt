@@ -27,12 +27,22 @@ fn a_function_in_a_module(rt: HostRuntime) -> Result<(), Mismatch> {
     let script = "
         read builtin.module @m {^b(): builtin.func @f: builtin.function <()->()> {^entry():}} => o0 builtin.module @m ¶{¶  ^b_block1v1():¶    builtin.func @f: builtin.function <()->()> ¶    {¶      ^entry_block2v1():¶    }¶}
         count => 6";
-    play_in(rt.alloc(), 100, script)?;
-    let script = "
+    play_in(rt.alloc(), 100, script)
+}
+
+#[test]
+fn a_text_of_six_nodes_is_read_where_six_have_room(rt: HostRuntime) -> Result<(), Mismatch> {
+    let refused = "
         read builtin.module @m {^b(): builtin.func @f: builtin.function <()->()> {^entry():}} => TooManyNodes at 0:0";
-    play_in(rt.alloc(), 5, script)?;
+    for limit in 0..6 {
+        play_in(rt.alloc(), limit, refused)?;
+    }
     let script = "
-        read builtin.module @m {^b(): builtin.func @f: builtin.function <()->()> {^entry():}} => o0 builtin.module @m ¶{¶  ^b_block1v1():¶    builtin.func @f: builtin.function <()->()> ¶    {¶      ^entry_block2v1():¶    }¶}";
+        read builtin.module @m {^b(): builtin.func @f: builtin.function <()->()> {^entry():}} => o0 builtin.module @m ¶{¶  ^b_block1v1():¶    builtin.func @f: builtin.function <()->()> ¶    {¶      ^entry_block2v1():¶    }¶}
+        count => 6
+        read builtin.constant <builtin.unit> : builtin.unit => NResultsVerifyErr(1, 0) at 1:1
+        read c = builtin.constant <builtin.unit> : builtin.unit => TooManyNodes at 0:0
+        count => 6";
     play_in(rt.alloc(), 6, script)
 }
 
