@@ -81,7 +81,7 @@ impl ScriptKind for CallKind {
 }
 
 #[test]
-fn own_kinds_use_symbols(rt: HostRuntime) -> Result<(), Mismatch> {
+fn own_kinds_use_symbols_where_memory_is_refused(rt: HostRuntime) -> Result<(), Mismatch> {
     let script = "
         module m => o0
         op call 0 => o1
