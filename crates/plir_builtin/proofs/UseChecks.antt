@@ -24,18 +24,23 @@ use Rattle.plir_builtin.specs.declared.symbol_table_op.SymbolTableInterfaceErr.{
 pub agree-empty : {K A T : Type 0} (own own_table : K → Bool) (s : Store K A T) (c : Tables) → c ≡ map.empty → AllAgree own own_table s c
 agree-empty own own_table s c e p t h live = absurd (none-some t (sym (ap (λ (z : Tables). get z p) e ∙ get-empty ptr_cmp p) ∙ h))
 
-module _ {K A T E B : Type 0} (own own_table user : K → Bool) (holds : UseRule K A T) (refusal : UseRefusal K A T E) (told : B → VerifyErr E) where
+module _ {K A T E B : Type 0} (own own_table user : K → Bool) (holds : UseRule K A T)
+    (refusal : UseRefusal K A T E) (told : B → VerifyErr E) where
   -- the same call, as the walk sees it
-  pub use-again : {e d : Store K A T} {u s u' s' : Tables} (p : Ptr OperationKind) (a : ControlFlow B WalkContinue) → (e ≡ d) × (u ≡ s) → u' ≡ s'
-      → IsUseCheck own own_table user holds refusal told e u p a u' → IsUseCheck own own_table user holds refusal told d s p a s'
+  pub use-again : {e d : Store K A T} {u s u' s' : Tables} (p : Ptr OperationKind) (a : ControlFlow B WalkContinue)
+      → (e ≡ d) × (u ≡ s) → u' ≡ s'
+      → IsUseCheck own own_table user holds refusal told e u p a u'
+      → IsUseCheck own own_table user holds refusal told d s p a s'
   use-again {e} {d} {u} {s} {u'} {s'} p a shows leaves h =
       subst (λ z. IsUseCheck own own_table user holds refusal told d s p a z) leaves
       (subst (λ z. IsUseCheck own own_table user holds refusal told d z p a u') shows.1
       (subst (λ z. IsUseCheck own own_table user holds refusal told z u p a u') shows.0 h))
 
-module _ {K A T E : Type 0} (own_table user : K → Bool) (holds : UseRule K A T) (refusal : UseRefusal K A T E) (s : Store K A T) (t : Ptr OperationKind) where
+module _ {K A T E : Type 0} (own_table user : K → Bool) (holds : UseRule K A T)
+    (refusal : UseRefusal K A T E) (s : Store K A T) (t : Ptr OperationKind) where
   -- what is told of the first user whose uses don't hold
-  pub first-told : (e : VerifyErr E) (p : Ptr OperationKind) (u : IsHandedUser own_table s user t p) → IsUseRefused (holds s p) (refusal s p) e
+  pub first-told : (e : VerifyErr E) (p : Ptr OperationKind) (u : IsHandedUser own_table s user t p)
+      → IsUseRefused (holds s p) (refusal s p) e
       → ((q : Ptr OperationKind) → IsHandedUser own_table s user t q
       → NodeBefore pre_forward (kids s) (Region u.handed.region) (Operation q) (Operation p) → holds s q)
       → IsUsesRefusal own_table user holds refusal s t e
@@ -47,6 +52,7 @@ module _ {K A T E : Type 0} (own_table user : K → Bool) (holds : UseRule K A T
       → IsUsesRefusal own_table user holds refusal s t e → IsUseFault own_table user holds refusal s t f
   use-fault e f is h = subst (IsUseFault own_table user holds refusal s t) (sym is) (at e h)
     where
-      at : (e : VerifyErr E) → IsUsesRefusal own_table user holds refusal s t e → IsUseFault own_table user holds refusal s t (use_told e)
+      at : (e : VerifyErr E) → IsUsesRefusal own_table user holds refusal s t e
+          → IsUseFault own_table user holds refusal s t (use_told e)
       at (Refused loc err) h = h
       at Memory h = tt

@@ -53,10 +53,13 @@ module _ {C S B : Type 0} (look : C → Shape) (post : OpRelation C S B) (c0 : C
       let m = made-at y.node y refl (h.0 ∙ e) (subst Inv (sym h.1) i) h.2.made in
       elim has [ inl q ↦ subst IsMade q m.0 | inr k ↦ each-made root xs y.after y.left c' s' m.1 m.2 h.3 x k ]
 
-  module _ (is_table : C → Ptr OperationKind → Bool) (s : S) (i : Inv s) (t : Ptr OperationKind) (s' : S) (user : Ptr OperationKind → Bool)
+  module _ (is_table : C → Ptr OperationKind → Bool) (s : S) (i : Inv s) (t : Ptr OperationKind) (s' : S)
+      (user : Ptr OperationKind → Bool)
       (holds : Ptr OperationKind → Type 0) (Refuses : Ptr OperationKind → B → Type 0)
-      (never : (s : S) (p : Ptr OperationKind) (a : ControlFlow B WalkContinue) (s' : S) → post c0 s p a c0 s' → a ≡ Continue Skip → ⊥)
-      (advances : (s : S) (p : Ptr OperationKind) (a : ControlFlow B WalkContinue) (s' : S) → post c0 s p a c0 s' → Inv s
+      (never : (s : S) (p : Ptr OperationKind) (a : ControlFlow B WalkContinue) (s' : S)
+      → post c0 s p a c0 s' → a ≡ Continue Skip → ⊥)
+      (advances : (s : S) (p : Ptr OperationKind) (a : ControlFlow B WalkContinue) (s' : S)
+      → post c0 s p a c0 s' → Inv s
       → a ≡ Continue Advance → user p ≡ true → holds p)
       (breaks : (s : S) (p : Ptr OperationKind) (a : ControlFlow B WalkContinue) (s' : S) → post c0 s p a c0 s' → Inv s
       → (b : B) → a ≡ Break b → (user p ≡ true) × Refuses p b) where
@@ -64,7 +67,8 @@ module _ {C S B : Type 0} (look : C → Shape) (post : OpRelation C S B) (c0 : C
     to-hand : (a : ControlFlow B WalkContinue) (h : HandedOver look is_table post c0 s t a s') (p : Ptr OperationKind)
         → IsHanded (look c0).kids (is_table c0) t p → IsToHand (is_table c0) (look c0).kids (Region h.region) h.calls p
     to-hand a h p o =
-        let same : Region o.region ≡ Region h.region = ap Region (sym (same_region o.region h.region (sym h.one_region ∙ o.one_region))) in
+        let same : Region o.region ≡ Region h.region =
+        ap Region (sym (same_region o.region h.region (sym h.one_region ∙ o.one_region))) in
         record {
           below = subst (λ z. IsProperlyUnder (look c0).kids z (Operation p)) same o.below;
           no_table = λ q v w. o.no_table q (subst (λ z. IsProperlyUnder (look c0).kids z (Operation q)) (sym same) v) w;
@@ -74,8 +78,9 @@ module _ {C S B : Type 0} (look : C → Shape) (post : OpRelation C S B) (c0 : C
         }
 
     -- the uses of an operation hold whose call did not break
-    past : (a : ControlFlow B WalkContinue) (h : HandedOver look is_table post c0 s t a s') (p : Ptr OperationKind) (x : Call C S B)
-        → Has h.calls x → x.node ≡ Operation p → ((b : B) → x.answer ≡ Break b → ⊥) → user p ≡ true → holds p
+    past : (a : ControlFlow B WalkContinue) (h : HandedOver look is_table post c0 s t a s') (p : Ptr OperationKind)
+        (x : Call C S B) → Has h.calls x → x.node ≡ Operation p
+        → ((b : B) → x.answer ≡ Break b → ⊥) → user p ≡ true → holds p
     past a h p x has node quiet u =
         let m = each-made (Region h.region) h.calls c0 s c0 s' refl i h.chain x has in
         let here : m.op ≡ p = one_op m.op p (sym m.node ∙ node) in
@@ -99,14 +104,16 @@ module _ {C S B : Type 0} (look : C → Shape) (post : OpRelation C S B) (c0 : C
 
     -- before the operation of the last call, all uses hold
     holds-before : (b : B) (h : HandedOver look is_table post c0 s t (Break b) s')
-        → IsTotalOrder pre_forward (look c0).kids (Region h.region) → (p : Ptr OperationKind) → h.handing.answers.end.node ≡ Operation p
+        → IsTotalOrder pre_forward (look c0).kids (Region h.region) → (p : Ptr OperationKind)
+        → h.handing.answers.end.node ≡ Operation p
         → (q : Ptr OperationKind) → IsHanded (look c0).kids (is_table c0) t q → user q ≡ true
         → NodeBefore pre_forward (look c0).kids (Region h.region) (Operation q) (Operation p) → holds q
     holds-before b h order p at q o u lt =
         let k : HandsUpToBreak (is_table c0) (look c0).kids (Region h.region) h.calls b = h.handing.answers in
         let Less : IRNode → IRNode → Type 0 = NodeBefore pre_forward (look c0).kids (Region h.region) in
         let within : Less k.end.node (Operation q) → ⊥ =
-        λ e. order.irreflexive (Operation q) (order.transitive (Operation q) (Operation p) (Operation q) lt (subst (λ n. Less n (Operation q)) at e)) in
+        λ e. order.irreflexive (Operation q)
+        (order.transitive (Operation q) (Operation p) (Operation q) lt (subst (λ n. Less n (Operation q)) at e)) in
         let x = call-of h.calls (Operation q) ((k.exactly q).1 (to-hand (Break b) h q o, within)) in
         let quiet : (d : B) → x.0.answer ≡ Break d → ⊥ = λ d e.
         let last : k.end ≡ x.0 = last-breaks k.front k.end k.none_before x.0 (subst (λ z. Has z x.0) k.are x.1) d e in
@@ -119,7 +126,8 @@ module _ {C S B : Type 0} (look : C → Shape) (post : OpRelation C S B) (c0 : C
         let k : HandsUpToBreak (is_table c0) (look c0).kids (Region h.region) h.calls b = h.handing.answers in
         let has : Has h.calls k.end = subst (λ z. Has z k.end) (sym k.are) (Has-mid k.front [] k.end) in
         let m = each-made (Region h.region) h.calls c0 s c0 s' refl i h.chain k.end has in
-        let to = ((k.exactly m.op).0 (subst (λ z. Has (nodes_of h.calls) z) m.node (node-called h.calls k.end has))).0 in
+        let to = ((k.exactly m.op).0
+        (subst (λ z. Has (nodes_of h.calls) z) m.node (node-called h.calls k.end has))).0 in
         let r = breaks k.end.state m.op k.end.answer k.end.left m.met m.inv b k.broke in
         let order = orders pre_forward (look c0).kids (Region h.region) h.handing.one_place in
         record {
@@ -131,9 +139,11 @@ module _ {C S B : Type 0} (look : C → Shape) (post : OpRelation C S B) (c0 : C
         }
 
     -- where the walk broke nowhere, all uses hold; where it broke, the first is told that does not
-    pub all-hold : (a : ControlFlow B WalkContinue) (k : WalkContinue) → a ≡ Continue k → HandedOver look is_table post c0 s t a s'
+    pub all-hold : (a : ControlFlow B WalkContinue) (k : WalkContinue) → a ≡ Continue k
+        → HandedOver look is_table post c0 s t a s'
         → (p : Ptr OperationKind) → IsHanded (look c0).kids (is_table c0) t p → user p ≡ true → holds p
     all-hold a k e h = holds-all k (subst (λ z. HandedOver look is_table post c0 s t z s') e h)
 
-    pub first-fails : (a : ControlFlow B WalkContinue) (b : B) → a ≡ Break b → BeforeOrders → HandedOver look is_table post c0 s t a s' → IsFirst b
+    pub first-fails : (a : ControlFlow B WalkContinue) (b : B) → a ≡ Break b → BeforeOrders
+        → HandedOver look is_table post c0 s t a s' → IsFirst b
     first-fails a b e orders h = fails-one b orders (subst (λ z. HandedOver look is_table post c0 s t z s') e h)

@@ -29,8 +29,8 @@ abbrev pub is_user_kind : {K : Type 0} → (own : K → Bool) → Option (OpKind
 is_user_kind own (Some (Own k)) = own k
 is_user_kind own _ = false
 
--- Whether the uses of an operation are right, as an op set says; and what may be told of those that are not: a location, and
--- an error.
+-- Whether the uses of an operation are right, as an op set says; and what may be told of those that are not: a
+-- location, and an error.
 abbrev pub UseRule : Type 0 → Type 0 → Type 0 → Type 1
 UseRule K A T = Store K A T → Ptr OperationKind → Type 0
 
@@ -42,18 +42,20 @@ abbrev pub IsUseRefused : {E : Type 0} → Type 0 → (Location → E → Type 0
 IsUseRefused holds refusal (Refused loc err) = (holds → ⊥) × refusal loc err
 IsUseRefused holds refusal Memory = Unit {0}
 
--- p is handed over as the table of op is walked to its end without a skip: it is below the one region of op, and no table
--- below that region is above it.
+-- p is handed over as the table of op is walked to its end without a skip: it is below the one region of op, and no
+-- table below that region is above it.
 pub record IsHanded (t : Tree) (is_table : Ptr OperationKind → Bool) (op p : Ptr OperationKind) : Type 0 where
   pub region : Ptr RegionKind
   pub one_region : t (Operation op) ≡ Region region ∷ []
   pub below : IsProperlyUnder t (Region region) (Operation p)
-  pub no_table : (q : Ptr OperationKind) → IsProperlyUnder t (Region region) (Operation q) → IsProperlyUnder t (Operation q) (Operation p) → is_table q ≡ false
+  pub no_table : (q : Ptr OperationKind) → IsProperlyUnder t (Region region) (Operation q)
+      → IsProperlyUnder t (Operation q) (Operation p) → is_table q ≡ false
 
 module _ {K A T E : Type 0} (own_symbol own_table own_user : K → Bool) (holds : UseRule K A T)
     (refusal : UseRefusal K A T E) where
-  -- A call that checks one operation, from the tables c to c': it never skips. Where the tables agree, they agree afterwards; it
-  -- advances only past uses that hold, and breaks only at a symbol user whose uses are refused, with what is told of them.
+  -- A call that checks one operation, from the tables c to c': it never skips. Where the tables agree, they agree
+  -- afterwards; it advances only past uses that hold, and breaks only at a symbol user whose uses are refused, with
+  -- what is told of them.
   pub record IsUseCheck {B : Type 0} (told : B → VerifyErr E) (s : Store K A T) (c : Tables) (p : Ptr OperationKind)
       (a : ControlFlow B WalkContinue) (c' : Tables) : Type 0 where
     pub never_skips : a ≡ Continue Skip → ⊥
@@ -85,14 +87,15 @@ abbrev pub IsSymbolFault : {K A T E : Type 0} → (own_symbol : K → Bool) → 
     → VerifyErr (SymbolTableInterfaceErr E) → Type 0
 IsSymbolFault own_symbol s t (Refused loc (SymbolRedefined n)) =
     (o : Ptr OperationKind) × IsRepeatedAt (string_bytes n) o (symbols own_symbol s t) × (location_of s o ≡ Some loc)
-IsSymbolFault own_symbol s t (Refused loc (Unnamed e)) = IsUnnamedFirst (symbols own_symbol s t) × (location_of s t ≡ Some loc)
+IsSymbolFault own_symbol s t (Refused loc (Unnamed e)) =
+    IsUnnamedFirst (symbols own_symbol s t) × (location_of s t ≡ Some loc)
 IsSymbolFault own_symbol s t (Refused loc (Use e)) = ⊥
 IsSymbolFault own_symbol s t Memory = Unit {0}
 
 module _ {K A T E : Type 0} (own_table own_user : K → Bool) (holds : UseRule K A T)
     (refusal : UseRefusal K A T E) (s : Store K A T) (t : Ptr OperationKind) where
-  -- Of the symbol users that are handed over as the table of t is walked, op is the first one, in the order of that walk, whose
-  -- uses don't hold; and this location and this error are what may be told of them.
+  -- Of the symbol users that are handed over as the table of t is walked, op is the first one, in the order of that
+  -- walk, whose uses don't hold; and this location and this error may be told of them.
   pub record IsFirstRefusedUse (loc : Location) (err : E) : Type 0 where
     pub op : Ptr OperationKind
     pub is_user : IsHandedUser own_table s own_user t op
@@ -123,4 +126,6 @@ module _ {K A T E : Type 0} (own_symbol own_table own_user : K → Bool) (holds 
   -- Of a table: that, or the symbols are right, and the first use that does not hold is told.
   abbrev pub IsTableFault : VerifyErr (SymbolTableInterfaceErr E) → Type 0
   IsTableFault e =
-      IsSymbolFault own_symbol s t e ⊎ (IsGood own_symbol own_table s t × IsUseFault own_table own_user holds refusal s t e)
+      IsSymbolFault own_symbol s t e
+      ⊎ (IsGood own_symbol own_table s t
+      × IsUseFault own_table own_user holds refusal s t e)

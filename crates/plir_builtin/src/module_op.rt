@@ -131,7 +131,8 @@ impl ModuleOp {
         requires live { IsLive ctx.now (AnyNode.Operation self.now.op) }
         requires module_kind { kind_of ctx.now self.now.op ≡ Some AnyKind.Module }
         ensures ok { OnOk result (HasModuleRules D.is_symbol D.is_symbol_table D.is_symbol_user D.uses_hold ctx.now self.now.op) }
-        ensures refused { IfErr result (IsModuleFault ctx.now self.now.op D.kind_id D.is_symbol D.is_symbol_table D.is_symbol_user D.uses_hold D.use_refusal) }
+        ensures refused { IfErr result (IsModuleFault ctx.now self.now.op D.kind_id
+            D.is_symbol D.is_symbol_table D.is_symbol_user D.uses_hold D.use_refusal) }
         ensures whole { IsWhole D.attr_handles ctx.now }
     {
         let _live = ctx.num_live();

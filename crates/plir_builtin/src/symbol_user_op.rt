@@ -31,9 +31,12 @@ pub trait SymbolUserOpInterface<D: OpSet>: Op<D> {
         tables: &mut SymbolTableCollection,
     ) -> Result<(), VerifyErr<D::Err>>
         requires { IsLive ctx.now (AnyNode.Operation (Self.pointer self.now)) }
-        ensures ok { AllAgree D.is_symbol D.is_symbol_table ctx.now tables.old → OnOk result (has_right_uses self.now ctx.now) }
-        ensures refused { AllAgree D.is_symbol D.is_symbol_table ctx.now tables.old → IfErr result (IsUseRefused (has_right_uses self.now ctx.now) (use_refusal self.now ctx.now)) }
-        ensures agree { AllAgree D.is_symbol D.is_symbol_table ctx.now tables.old → AllAgree D.is_symbol D.is_symbol_table ctx.now tables.new }
+        ensures ok { AllAgree D.is_symbol D.is_symbol_table ctx.now tables.old
+            → OnOk result (has_right_uses self.now ctx.now) }
+        ensures refused { AllAgree D.is_symbol D.is_symbol_table ctx.now tables.old
+            → IfErr result (IsUseRefused (has_right_uses self.now ctx.now) (use_refusal self.now ctx.now)) }
+        ensures agree { AllAgree D.is_symbol D.is_symbol_table ctx.now tables.old
+            → AllAgree D.is_symbol D.is_symbol_table ctx.now tables.new }
         ensures given { AreGivenOut ctx.now tables.old → AreGivenOut ctx.now tables.new };
 
     /// The names that the operation uses.

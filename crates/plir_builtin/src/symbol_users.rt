@@ -35,9 +35,12 @@ pub trait SymbolUserSet: OpSet {
         tables: &mut SymbolTableCollection,
     ) -> Result<(), VerifyErr<Self::Err>>
         requires { IsLive ctx.now (AnyNode.Operation op) }
-        ensures ok { AllAgree Self.is_symbol Self.is_symbol_table ctx.now tables.old → OnOk result (uses_hold ctx.now op) }
-        ensures refused { AllAgree Self.is_symbol Self.is_symbol_table ctx.now tables.old → IfErr result (IsUseRefused (uses_hold ctx.now op) (use_refusal ctx.now op)) }
-        ensures agree { AllAgree Self.is_symbol Self.is_symbol_table ctx.now tables.old → AllAgree Self.is_symbol Self.is_symbol_table ctx.now tables.new }
+        ensures ok { AllAgree Self.is_symbol Self.is_symbol_table ctx.now tables.old
+            → OnOk result (uses_hold ctx.now op) }
+        ensures refused { AllAgree Self.is_symbol Self.is_symbol_table ctx.now tables.old
+            → IfErr result (IsUseRefused (uses_hold ctx.now op) (use_refusal ctx.now op)) }
+        ensures agree { AllAgree Self.is_symbol Self.is_symbol_table ctx.now tables.old
+            → AllAgree Self.is_symbol Self.is_symbol_table ctx.now tables.new }
         ensures given { AreGivenOut ctx.now tables.old → AreGivenOut ctx.now tables.new };
 }
 
@@ -59,9 +62,12 @@ pub trait SymbolUses: OwnKind {
         tables: &mut SymbolTableCollection,
     ) -> Result<(), VerifyErr<Self::Err>>
         requires { IsLive ctx.now (AnyNode.Operation op) }
-        ensures ok { AllAgree Self.is_symbol Self.is_symbol_table ctx.now tables.old → OnOk result (uses_hold ctx.now op) }
-        ensures refused { AllAgree Self.is_symbol Self.is_symbol_table ctx.now tables.old → IfErr result (IsUseRefused (uses_hold ctx.now op) (use_refusal ctx.now op)) }
-        ensures agree { AllAgree Self.is_symbol Self.is_symbol_table ctx.now tables.old → AllAgree Self.is_symbol Self.is_symbol_table ctx.now tables.new }
+        ensures ok { AllAgree Self.is_symbol Self.is_symbol_table ctx.now tables.old
+            → OnOk result (uses_hold ctx.now op) }
+        ensures refused { AllAgree Self.is_symbol Self.is_symbol_table ctx.now tables.old
+            → IfErr result (IsUseRefused (uses_hold ctx.now op) (use_refusal ctx.now op)) }
+        ensures agree { AllAgree Self.is_symbol Self.is_symbol_table ctx.now tables.old
+            → AllAgree Self.is_symbol Self.is_symbol_table ctx.now tables.new }
         ensures given { AreGivenOut ctx.now tables.old → AreGivenOut ctx.now tables.new };
 }
 
@@ -118,7 +124,8 @@ fn check_use<D: SymbolUserSet>(
     tables: &mut SymbolTableCollection,
 ) -> WalkResult<RefusedUse<D>>
     requires { IsLive ctx.now (AnyNode.Operation op) }
-    ensures { IsUseCheck D.is_symbol D.is_symbol_table D.is_symbol_user D.uses_hold D.use_refusal (λ r. r.why) ctx.now tables.old op result tables.new }
+    ensures { IsUseCheck D.is_symbol D.is_symbol_table D.is_symbol_user D.uses_hold
+        D.use_refusal (λ r. r.why) ctx.now tables.old op result tables.new }
 {
     if !is_user(ctx, op) {
         return walk_advance();
@@ -140,7 +147,8 @@ pub(crate) fn verify_uses<D: SymbolUserSet>(
     requires table { is_table_at D.is_symbol_table ctx.now op ≡ true }
     requires one_region { length (kids ctx.now (AnyNode.Operation op)) ≡ 1 }
     ensures ok { OnOk result (AllUsesHold D.is_symbol_table ctx.now D.is_symbol_user D.uses_hold op) }
-    ensures refused { IfErr result (IsUsesRefusal D.is_symbol_table D.is_symbol_user D.uses_hold D.use_refusal ctx.now op) }
+    ensures refused { IfErr result (IsUsesRefusal D.is_symbol_table D.is_symbol_user D.uses_hold
+        D.use_refusal ctx.now op) }
 {
     before_is_a_total_order();
     let mut tables = SymbolTableCollection::new(alloc);
@@ -148,7 +156,8 @@ pub(crate) fn verify_uses<D: SymbolUserSet>(
         RefusedUse<D>,
     >
         requires { IsLive c.now (AnyNode.Operation p) }
-        ensures { IsUseCheck D.is_symbol D.is_symbol_table D.is_symbol_user D.uses_hold D.use_refusal (λ r. r.why) c.now t.old p result t.new }
+        ensures { IsUseCheck D.is_symbol D.is_symbol_table D.is_symbol_user D.uses_hold
+            D.use_refusal (λ r. r.why) c.now t.old p result t.new }
     { check_use(c, p, t) };
     match walk_symbol_table(op, ctx, &mut tables, check) {
         ControlFlow::Break(RefusedUse { why }) => Err(why),
