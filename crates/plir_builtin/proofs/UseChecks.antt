@@ -8,35 +8,51 @@ use Rattle.plir_data.specs.declared.location.VerifyErr.{VerifyErr}
 use Rattle.plir_data.specs.declared.location.VerifyErr.TheVariants.{Refused, Memory}
 use Rattle.plir_core.specs.declared.ptr.Ptr.{Ptr}
 use Rattle.plir_core.specs.declared.ptr.Operation.{Operation as OperationKind}
-use Rattle.plir_core.specs.Store.{Store}
+use Rattle.plir_core.specs.declared.ptr.IRNode.TheVariants.{Operation, Region}
+use Rattle.plir_core.specs.Store.{Store, kids}
 use Rattle.plir_walk.specs.declared.interruptible.WalkContinue.{WalkContinue}
 use Rattle.plir_builtin.specs.Maps.{ptr_cmp}
 use Rattle.plir_builtin.specs.Table.{Tables}
 use Rattle.plir_builtin.specs.Agree.{AllAgree}
-use Rattle.plir_builtin.specs.SymbolUses.{IsUseCheck, IsUseRefused, IsUseFault, use_told}
+use Rattle.plir_builtin.specs.SymbolUses.{UseRule, UseRefusal, IsHandedUser, IsUseCheck, IsUseRefused}
+use Rattle.plir_builtin.specs.SymbolUses.{IsUsesRefusal, IsUseFault, use_told}
+use Rattle.plir_walk.specs.declared.config.TheConstants.{WALKCONFIG_PREORDER_FORWARD as pre_forward}
+use Rattle.plir_walk.specs.Tree.{NodeBefore}
 use Rattle.plir_builtin.specs.declared.symbol_table_op.SymbolTableInterfaceErr.{SymbolTableInterfaceErr}
 
 -- where no table is cached, all agree
 pub agree-empty : {K A T : Type 0} (own own_table : K → Bool) (s : Store K A T) (c : Tables) → c ≡ map.empty → AllAgree own own_table s c
 agree-empty own own_table s c e p t h live = absurd (none-some t (sym (ap (λ (z : Tables). get z p) e ∙ get-empty ptr_cmp p) ∙ h))
 
--- a refusal of one is a refusal of all
-pub refused-all : {E : Type 0} (e : VerifyErr E) (one all : Type 0) → (all → one) → IsUseRefused one e → IsUseRefused all e
-refused-all (Refused loc err) one all f h = λ q. h (f q)
-refused-all Memory one all f h = tt
-
-module _ {K A T E B : Type 0} (own own_table user : K → Bool) (holds : Store K A T → Ptr OperationKind → Type 0) (told : B → VerifyErr E) where
+module _ {K A T E B : Type 0} (own own_table user : K → Bool) (holds : UseRule K A T)
+    (refusal : UseRefusal K A T E) (told : B → VerifyErr E) where
   -- the same call, as the walk sees it
-  pub use-again : {e d : Store K A T} {u s u' s' : Tables} (p : Ptr OperationKind) (a : ControlFlow B WalkContinue) → (e ≡ d) × (u ≡ s) → u' ≡ s' → IsUseCheck own own_table user holds told e u p a u' → IsUseCheck own own_table user holds told d s p a s'
+  pub use-again : {e d : Store K A T} {u s u' s' : Tables} (p : Ptr OperationKind) (a : ControlFlow B WalkContinue)
+      → (e ≡ d) × (u ≡ s) → u' ≡ s'
+      → IsUseCheck own own_table user holds refusal told e u p a u'
+      → IsUseCheck own own_table user holds refusal told d s p a s'
   use-again {e} {d} {u} {s} {u'} {s'} p a shows leaves h =
-      subst (λ z. IsUseCheck own own_table user holds told d s p a z) leaves
-      (subst (λ z. IsUseCheck own own_table user holds told d z p a u') shows.1
-      (subst (λ z. IsUseCheck own own_table user holds told z u p a u') shows.0 h))
+      subst (λ z. IsUseCheck own own_table user holds refusal told d s p a z) leaves
+      (subst (λ z. IsUseCheck own own_table user holds refusal told d z p a u') shows.1
+      (subst (λ z. IsUseCheck own own_table user holds refusal told z u p a u') shows.0 h))
 
--- the refusal of a use, as it is told
-pub use-fault : {E : Type 0} (e : VerifyErr E) (f : VerifyErr (SymbolTableInterfaceErr E)) (holds : Type 0) → f ≡ use_told e → IsUseRefused holds e → IsUseFault holds f
-use-fault {E = E} e f holds is h = subst (IsUseFault holds) (sym is) (at e h)
-  where
-    at : (e : VerifyErr E) → IsUseRefused holds e → IsUseFault holds (use_told e)
-    at (Refused loc err) h = h
-    at Memory h = tt
+module _ {K A T E : Type 0} (own_table user : K → Bool) (holds : UseRule K A T)
+    (refusal : UseRefusal K A T E) (s : Store K A T) (t : Ptr OperationKind) where
+  -- what is told of the first user whose uses don't hold
+  pub first-told : (e : VerifyErr E) (p : Ptr OperationKind) (u : IsHandedUser own_table s user t p)
+      → IsUseRefused (holds s p) (refusal s p) e
+      → ((q : Ptr OperationKind) → IsHandedUser own_table s user t q
+      → NodeBefore pre_forward (kids s) (Region u.handed.region) (Operation q) (Operation p) → holds s q)
+      → IsUsesRefusal own_table user holds refusal s t e
+  first-told (Refused loc err) p u r f = record { op = p; is_user = u; fails = r.0; told = r.1; before = f }
+  first-told Memory p u r f = tt
+
+  -- the refusal of a use, as it is told
+  pub use-fault : (e : VerifyErr E) (f : VerifyErr (SymbolTableInterfaceErr E)) → f ≡ use_told e
+      → IsUsesRefusal own_table user holds refusal s t e → IsUseFault own_table user holds refusal s t f
+  use-fault e f is h = subst (IsUseFault own_table user holds refusal s t) (sym is) (at e h)
+    where
+      at : (e : VerifyErr E) → IsUsesRefusal own_table user holds refusal s t e
+          → IsUseFault own_table user holds refusal s t (use_told e)
+      at (Refused loc err) h = h
+      at Memory h = tt

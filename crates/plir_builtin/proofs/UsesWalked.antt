@@ -12,12 +12,14 @@ use Rattle.plir_store.specs.MemberLaws.{Has-mid}
 use Rattle.plir_store.specs.Members.{Has}
 use Rattle.plir_walk.specs.declared.interruptible.WalkContinue.{WalkContinue}
 use Rattle.plir_walk.specs.declared.interruptible.WalkContinue.TheVariants.{Advance, Skip}
-use Rattle.plir_walk.specs.Tree.{IsProperlyUnder}
+use Rattle.plir_walk.specs.declared.config.TheConstants.{WALKCONFIG_PREORDER_FORWARD as pre_forward}
+use Rattle.plir_walk.specs.Laws.{BeforeOrders, IsTotalOrder}
+use Rattle.plir_walk.specs.Tree.{IsProperlyUnder, NodeBefore}
 use Rattle.plir_walk.specs.Calls.{Call, Chain, nodes_of}
 use Rattle.plir_walk.specs.Walked.{IsCallUnder}
 use Rattle.plir_builtin.specs.Handed.{OpRelation, AtOps, IsToHand, HandedOver, HandsUpToBreak}
 use Rattle.plir_builtin.specs.SymbolUses.{IsHanded}
-use Rattle.plir_builtin.proofs.HandedCalls.{call-of, node-called, none-breaks, one_op}
+use Rattle.plir_builtin.proofs.HandedCalls.{call-of, last-breaks, node-called, none-breaks, one_op}
 
 same_region : (r q : Ptr RegionKind) → Region q ∷ [] ≡ Region r ∷ [] → q ≡ r
 same_region r q e = cc
@@ -51,36 +53,97 @@ module _ {C S B : Type 0} (look : C → Shape) (post : OpRelation C S B) (c0 : C
       let m = made-at y.node y refl (h.0 ∙ e) (subst Inv (sym h.1) i) h.2.made in
       elim has [ inl q ↦ subst IsMade q m.0 | inr k ↦ each-made root xs y.after y.left c' s' m.1 m.2 h.3 x k ]
 
-  module _ (is_table : C → Ptr OperationKind → Bool) (s : S) (i : Inv s) (t : Ptr OperationKind) (s' : S) (user : Ptr OperationKind → Bool) (holds : Ptr OperationKind → Type 0) (Refuses : Type 0 → B → Type 0)
-      (never : (s : S) (p : Ptr OperationKind) (a : ControlFlow B WalkContinue) (s' : S) → post c0 s p a c0 s' → a ≡ Continue Skip → ⊥)
-      (advances : (s : S) (p : Ptr OperationKind) (a : ControlFlow B WalkContinue) (s' : S) → post c0 s p a c0 s' → Inv s → a ≡ Continue Advance → user p ≡ true → holds p)
-      (breaks : (s : S) (p : Ptr OperationKind) (a : ControlFlow B WalkContinue) (s' : S) → post c0 s p a c0 s' → Inv s → (b : B) → a ≡ Break b → (user p ≡ true) × Refuses (holds p) b) where
-    holds-all : (k : WalkContinue) → HandedOver look is_table post c0 s t (Continue k) s' → (p : Ptr OperationKind) → IsHanded (look c0).kids (is_table c0) t p → user p ≡ true → holds p
-    holds-all k h p o u =
-        let same : Region o.region ≡ Region h.region = ap Region (sym (same_region o.region h.region (sym h.one_region ∙ o.one_region))) in
-        let to : IsToHand (is_table c0) (look c0).kids (Region h.region) h.calls p = record {
+  module _ (is_table : C → Ptr OperationKind → Bool) (s : S) (i : Inv s) (t : Ptr OperationKind) (s' : S)
+      (user : Ptr OperationKind → Bool)
+      (holds : Ptr OperationKind → Type 0) (Refuses : Ptr OperationKind → B → Type 0)
+      (never : (s : S) (p : Ptr OperationKind) (a : ControlFlow B WalkContinue) (s' : S)
+      → post c0 s p a c0 s' → a ≡ Continue Skip → ⊥)
+      (advances : (s : S) (p : Ptr OperationKind) (a : ControlFlow B WalkContinue) (s' : S)
+      → post c0 s p a c0 s' → Inv s
+      → a ≡ Continue Advance → user p ≡ true → holds p)
+      (breaks : (s : S) (p : Ptr OperationKind) (a : ControlFlow B WalkContinue) (s' : S) → post c0 s p a c0 s' → Inv s
+      → (b : B) → a ≡ Break b → (user p ≡ true) × Refuses p b) where
+    -- what is handed over at the end is to be handed over by the calls
+    to-hand : (a : ControlFlow B WalkContinue) (h : HandedOver look is_table post c0 s t a s') (p : Ptr OperationKind)
+        → IsHanded (look c0).kids (is_table c0) t p → IsToHand (is_table c0) (look c0).kids (Region h.region) h.calls p
+    to-hand a h p o =
+        let same : Region o.region ≡ Region h.region =
+        ap Region (sym (same_region o.region h.region (sym h.one_region ∙ o.one_region))) in
+        record {
           below = subst (λ z. IsProperlyUnder (look c0).kids z (Operation p)) same o.below;
           no_table = λ q v w. o.no_table q (subst (λ z. IsProperlyUnder (look c0).kids z (Operation q)) (sym same) v) w;
-          no_skip = λ a y v. let m = each-made (Region h.region) h.calls c0 s c0 s' refl i h.chain y.0 y.1 in never y.0.state m.op y.0.answer y.0.left m.met y.3;
-        } in
-        let x = call-of h.calls (Operation p) ((h.handing.answers.2 p).1 to) in
-        let m = each-made (Region h.region) h.calls c0 s c0 s' refl i h.chain x.0 x.1 in
-        let here : m.op ≡ p = one_op m.op p (sym m.node ∙ x.2) in
-        let met : post c0 x.0.state p x.0.answer c0 x.0.left = subst (λ q. post c0 x.0.state q x.0.answer c0 x.0.left) here m.met in
-        advances x.0.state p x.0.answer x.0.left met m.inv (plain x.0.answer (never x.0.state p x.0.answer x.0.left met) (none-breaks h.calls h.handing.answers.1 x.0 x.1)) u
+          no_skip = λ a y v.
+              let m = each-made (Region h.region) h.calls c0 s c0 s' refl i h.chain y.0 y.1 in
+              never y.0.state m.op y.0.answer y.0.left m.met y.3;
+        }
 
-    fails-one : (b : B) → HandedOver look is_table post c0 s t (Break b) s' → (p : Ptr OperationKind) × IsHanded (look c0).kids (is_table c0) t p × (user p ≡ true) × Refuses (holds p) b
-    fails-one b h =
+    -- the uses of an operation hold whose call did not break
+    past : (a : ControlFlow B WalkContinue) (h : HandedOver look is_table post c0 s t a s') (p : Ptr OperationKind)
+        (x : Call C S B) → Has h.calls x → x.node ≡ Operation p
+        → ((b : B) → x.answer ≡ Break b → ⊥) → user p ≡ true → holds p
+    past a h p x has node quiet u =
+        let m = each-made (Region h.region) h.calls c0 s c0 s' refl i h.chain x has in
+        let here : m.op ≡ p = one_op m.op p (sym m.node ∙ node) in
+        let met : post c0 x.state p x.answer c0 x.left = subst (λ q. post c0 x.state q x.answer c0 x.left) here m.met in
+        advances x.state p x.answer x.left met m.inv (plain x.answer (never x.state p x.answer x.left met) quiet) u
+
+    holds-all : (k : WalkContinue) → HandedOver look is_table post c0 s t (Continue k) s' → (p : Ptr OperationKind)
+        → IsHanded (look c0).kids (is_table c0) t p → user p ≡ true → holds p
+    holds-all k h p o u =
+        let x = call-of h.calls (Operation p) ((h.handing.answers.2 p).1 (to-hand (Continue k) h p o)) in
+        past (Continue k) h p x.0 x.1 x.2 (none-breaks h.calls h.handing.answers.1 x.0 x.1) u
+
+    -- the first operation that is handed over whose uses are refused, and how
+    pub record IsFirst (b : B) : Type 0 where
+      pub op : Ptr OperationKind
+      pub handed : IsHanded (look c0).kids (is_table c0) t op
+      pub is_user : user op ≡ true
+      pub refused : Refuses op b
+      pub before : (q : Ptr OperationKind) → IsHanded (look c0).kids (is_table c0) t q → user q ≡ true
+          → NodeBefore pre_forward (look c0).kids (Region handed.region) (Operation q) (Operation op) → holds q
+
+    -- before the operation of the last call, all uses hold
+    holds-before : (b : B) (h : HandedOver look is_table post c0 s t (Break b) s')
+        → IsTotalOrder pre_forward (look c0).kids (Region h.region) → (p : Ptr OperationKind)
+        → h.handing.answers.end.node ≡ Operation p
+        → (q : Ptr OperationKind) → IsHanded (look c0).kids (is_table c0) t q → user q ≡ true
+        → NodeBefore pre_forward (look c0).kids (Region h.region) (Operation q) (Operation p) → holds q
+    holds-before b h order p at q o u lt =
+        let k : HandsUpToBreak (is_table c0) (look c0).kids (Region h.region) h.calls b = h.handing.answers in
+        let Less : IRNode → IRNode → Type 0 = NodeBefore pre_forward (look c0).kids (Region h.region) in
+        let within : Less k.end.node (Operation q) → ⊥ =
+        λ e. order.irreflexive (Operation q)
+        (order.transitive (Operation q) (Operation p) (Operation q) lt (subst (λ n. Less n (Operation q)) at e)) in
+        let x = call-of h.calls (Operation q) ((k.exactly q).1 (to-hand (Break b) h q o, within)) in
+        let quiet : (d : B) → x.0.answer ≡ Break d → ⊥ = λ d e.
+        let last : k.end ≡ x.0 = last-breaks k.front k.end k.none_before x.0 (subst (λ z. Has z x.0) k.are x.1) d e in
+        let here : Operation q ≡ Operation p = sym x.2 ∙ (sym (ap (λ z. z.node) last) ∙ at) in
+        order.irreflexive (Operation p) (subst (λ n. Less n (Operation p)) here lt) in
+        past (Break b) h q x.0 x.1 x.2 quiet u
+
+    fails-one : (b : B) → BeforeOrders → HandedOver look is_table post c0 s t (Break b) s' → IsFirst b
+    fails-one b orders h =
         let k : HandsUpToBreak (is_table c0) (look c0).kids (Region h.region) h.calls b = h.handing.answers in
         let has : Has h.calls k.end = subst (λ z. Has z k.end) (sym k.are) (Has-mid k.front [] k.end) in
         let m = each-made (Region h.region) h.calls c0 s c0 s' refl i h.chain k.end has in
-        let to = ((k.exactly m.op).0 (subst (λ z. Has (nodes_of h.calls) z) m.node (node-called h.calls k.end has))).0 in
+        let to = ((k.exactly m.op).0
+        (subst (λ z. Has (nodes_of h.calls) z) m.node (node-called h.calls k.end has))).0 in
         let r = breaks k.end.state m.op k.end.answer k.end.left m.met m.inv b k.broke in
-        (m.op, record { region = h.region; one_region = h.one_region; below = to.below; no_table = to.no_table }, r.0, r.1)
+        let order = orders pre_forward (look c0).kids (Region h.region) h.handing.one_place in
+        record {
+          op = m.op;
+          handed = record { region = h.region; one_region = h.one_region; below = to.below; no_table = to.no_table };
+          is_user = r.0;
+          refused = r.1;
+          before = holds-before b h order m.op m.node;
+        }
 
-    -- where the walk broke nowhere, all uses hold; where it broke, one is refused
-    pub all-hold : (a : ControlFlow B WalkContinue) (k : WalkContinue) → a ≡ Continue k → HandedOver look is_table post c0 s t a s' → (p : Ptr OperationKind) → IsHanded (look c0).kids (is_table c0) t p → user p ≡ true → holds p
+    -- where the walk broke nowhere, all uses hold; where it broke, the first is told that does not
+    pub all-hold : (a : ControlFlow B WalkContinue) (k : WalkContinue) → a ≡ Continue k
+        → HandedOver look is_table post c0 s t a s'
+        → (p : Ptr OperationKind) → IsHanded (look c0).kids (is_table c0) t p → user p ≡ true → holds p
     all-hold a k e h = holds-all k (subst (λ z. HandedOver look is_table post c0 s t z s') e h)
 
-    pub one-fails : (a : ControlFlow B WalkContinue) (b : B) → a ≡ Break b → HandedOver look is_table post c0 s t a s' → (p : Ptr OperationKind) × IsHanded (look c0).kids (is_table c0) t p × (user p ≡ true) × Refuses (holds p) b
-    one-fails a b e h = fails-one b (subst (λ z. HandedOver look is_table post c0 s t z s') e h)
+    pub first-fails : (a : ControlFlow B WalkContinue) (b : B) → a ≡ Break b → BeforeOrders
+        → HandedOver look is_table post c0 s t a s' → IsFirst b
+    first-fails a b e orders h = fails-one b orders (subst (λ z. HandedOver look is_table post c0 s t z s') e h)

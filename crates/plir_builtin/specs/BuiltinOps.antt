@@ -1,5 +1,5 @@
 -- What the builtin operations hold, and the trees that their constructors make.
-use Rattle.std.specs.Prelude.{◌≡◌, ℕ, List, [], ◌∷◌, Option, None, Some, codes, option_and_then, MatchOption, slice_get}
+use Rattle.std.specs.Prelude.{◌≡◌, ℕ, List, [], ◌∷◌, Option, None, Some, codes, option_and_then, unwrap_or, MatchOption, slice_get}
 use Rattle.std.specs.Prelude.{◌+◌, ◌-◌, ◌<◌, ◌≤◌, ◌^◌, ◌⊎◌}
 use Rattle.plir_data.specs.AttrView.{AttrView, leaf, identifier, type_of}
 use Rattle.plir_data.specs.AttrCalls.{attr_type}
@@ -118,6 +118,10 @@ module _ {K A T : Type 0} where
   -- the type under a function's key, if an attribute of a type stands there
   abbrev pub func_type_of : Store K A T → Ptr OperationKind → Option ℕ
   func_type_of s op = option_and_then type_in_attr (dict_get (attributes_of s op) func_type_key)
+
+  -- that type; 0, if there is none
+  abbrev pub func_type : Store K A T → Ptr OperationKind → ℕ
+  func_type s op = unwrap_or (func_type_of s op) 0
 
   -- The rule of functions: an attribute of a type stands under the key, and the type is one that `FunctionType` makes.
   abbrev pub HasFuncType : Store K A T → Ptr OperationKind → Type 0

@@ -14,7 +14,7 @@ use Rattle.plir_iface.specs.Verdict.{IsRefusal}
 use Rattle.plir_builtin.specs.BuiltinOps.{HasFuncType}
 use Rattle.plir_builtin.specs.ConstantFaults.{IsConstantFault}
 use Rattle.plir_builtin.specs.ResultNames.{result_name}
-use Rattle.plir_builtin.specs.SymbolUses.{HasTableRule, IsTableFault}
+use Rattle.plir_builtin.specs.SymbolUses.{HasTableRule, IsTableFault, UseRule, UseRefusal}
 use Rattle.plir_builtin.specs.Symbols.{HasSymbolName}
 use Rattle.plir_iface.specs.declared.counts.NRegionsVerifyErr.{NRegionsVerifyErr}
 use Rattle.plir_iface.specs.declared.counts.NOpdsVerifyErr.{NOpdsVerifyErr}
@@ -46,13 +46,13 @@ module _ {K A T : Type 0} (s : Store K A T) (op : Ptr OperationKind) where
   abbrev pub FuncTypeBroken : VerifyErr FuncOpTypeErr → Type 0
   FuncTypeBroken v = (HasFuncType s op → ⊥) × IsRefusal s op (λ e. ⊤) v
 
-  module _ {E : Type 0} (own_id : K → List ℕ) (own_symbol own_table own_user : K → Bool) (uses_hold : Store K A T → Ptr OperationKind → Type 0) where
+  module _ {E : Type 0} (own_id : K → List ℕ) (own_symbol own_table own_user : K → Bool) (uses_hold : UseRule K A T) (use_refusal : UseRefusal K A T E) where
     -- of a module
     abbrev pub IsModuleFault : VerifyErr (OpVerifyErr E) → Type 0
     IsModuleFault (Refused l (NRegions e)) = RegionsBroken 1 (Refused l e)
     IsModuleFault (Refused l (SingleBlockRegion e)) = HasNRegions 1 s op × BlocksBroken own_id (Refused l e)
     IsModuleFault (Refused l (SymbolTable e)) =
-        HasNRegions 1 s op × HasSingleBlocks s op × IsTableFault own_symbol own_table own_user uses_hold s op (Refused l e)
+        HasNRegions 1 s op × HasSingleBlocks s op × IsTableFault own_symbol own_table own_user uses_hold use_refusal s op (Refused l e)
     IsModuleFault (Refused l (SymbolOp e)) =
         HasNRegions 1 s op × HasSingleBlocks s op × HasTableRule own_symbol own_table own_user uses_hold s op × NameBroken (Refused l e)
     IsModuleFault (Refused l (NOpds e)) =

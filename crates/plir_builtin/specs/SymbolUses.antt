@@ -2,6 +2,7 @@
 use Rattle.std.specs.Prelude.{◌≡◌, Bool, true, false, [], ◌∷◌, Option, Some, ◌⊎◌, string_bytes}
 use Rattle.plir_data.specs.declared.op_set.OpKind.{OpKind}
 use Rattle.plir_data.specs.declared.op_set.OpKind.TheVariants.{Own}
+use Rattle.plir_data.specs.declared.location.Location.{Location}
 use Rattle.plir_data.specs.declared.location.VerifyErr.{VerifyErr}
 use Rattle.plir_data.specs.declared.location.VerifyErr.TheVariants.{Refused, Memory}
 use Rattle.plir_core.specs.declared.ptr.Ptr.{Ptr}
@@ -9,7 +10,8 @@ use Rattle.plir_core.specs.declared.ptr.Operation.{Operation as OperationKind}
 use Rattle.plir_core.specs.declared.ptr.Region.{Region as RegionKind}
 use Rattle.plir_core.specs.declared.ptr.IRNode.TheVariants.{Operation, Region}
 use Rattle.plir_core.specs.Store.{Store, kids, kind_of, location_of}
-use Rattle.plir_walk.specs.Tree.{Tree, IsProperlyUnder}
+use Rattle.plir_walk.specs.declared.config.TheConstants.{WALKCONFIG_PREORDER_FORWARD as pre_forward}
+use Rattle.plir_walk.specs.Tree.{Tree, IsProperlyUnder, NodeBefore}
 use Rattle.plir_builtin.specs.declared.symbol_table_op.SymbolTableInterfaceErr.{SymbolTableInterfaceErr}
 use Rattle.plir_builtin.specs.declared.symbol_table_op.SymbolTableInterfaceErr.TheVariants.{SymbolRedefined, Unnamed, Use}
 use Rattle.plir_builtin.specs.Symbols.{IsGood, symbols}
@@ -27,57 +29,103 @@ abbrev pub is_user_kind : {K : Type 0} → (own : K → Bool) → Option (OpKind
 is_user_kind own (Some (Own k)) = own k
 is_user_kind own _ = false
 
--- a use is refused only where it does not hold, memory aside
-abbrev pub IsUseRefused : {E : Type 0} → Type 0 → VerifyErr E → Type 0
-IsUseRefused holds (Refused loc err) = holds → ⊥
-IsUseRefused holds Memory = Unit {0}
+-- Whether the uses of an operation are right, as an op set says; and what may be told of those that are not: a
+-- location, and an error.
+abbrev pub UseRule : Type 0 → Type 0 → Type 0 → Type 1
+UseRule K A T = Store K A T → Ptr OperationKind → Type 0
 
--- p is handed over as the table of op is walked to its end without a skip: it is below the one region of op, and no table
--- below that region is above it.
+abbrev pub UseRefusal : Type 0 → Type 0 → Type 0 → Type 0 → Type 1
+UseRefusal K A T E = Store K A T → Ptr OperationKind → Location → E → Type 0
+
+-- uses are refused only where they do not hold, and by what may be told of them, memory aside
+abbrev pub IsUseRefused : {E : Type 0} → Type 0 → (Location → E → Type 0) → VerifyErr E → Type 0
+IsUseRefused holds refusal (Refused loc err) = (holds → ⊥) × refusal loc err
+IsUseRefused holds refusal Memory = Unit {0}
+
+-- p is handed over as the table of op is walked to its end without a skip: it is below the one region of op, and no
+-- table below that region is above it.
 pub record IsHanded (t : Tree) (is_table : Ptr OperationKind → Bool) (op p : Ptr OperationKind) : Type 0 where
   pub region : Ptr RegionKind
   pub one_region : t (Operation op) ≡ Region region ∷ []
   pub below : IsProperlyUnder t (Region region) (Operation p)
-  pub no_table : (q : Ptr OperationKind) → IsProperlyUnder t (Region region) (Operation q) → IsProperlyUnder t (Operation q) (Operation p) → is_table q ≡ false
+  pub no_table : (q : Ptr OperationKind) → IsProperlyUnder t (Region region) (Operation q)
+      → IsProperlyUnder t (Operation q) (Operation p) → is_table q ≡ false
 
--- A call that checks one operation, from the tables c to c': it never skips. Where the tables agree, they agree afterwards; it
--- advances only past uses that hold, and breaks only at a symbol user whose uses are refused, with what it tells.
-pub record IsUseCheck {K A T E B : Type 0} (own_symbol own_table own_user : K → Bool) (holds : Store K A T → Ptr OperationKind → Type 0) (told : B → VerifyErr E) (s : Store K A T) (c : Tables) (p : Ptr OperationKind) (a : ControlFlow B WalkContinue) (c' : Tables) : Type 0 where
-  pub never_skips : a ≡ Continue Skip → ⊥
-  pub agree : AllAgree own_symbol own_table s c → AllAgree own_symbol own_table s c'
-  pub advances : AllAgree own_symbol own_table s c → a ≡ Continue Advance → is_user_kind own_user (kind_of s p) ≡ true → holds s p
-  pub breaks : AllAgree own_symbol own_table s c → (b : B) → a ≡ Break b → (is_user_kind own_user (kind_of s p) ≡ true) × IsUseRefused (holds s p) (told b)
+module _ {K A T E : Type 0} (own_symbol own_table own_user : K → Bool) (holds : UseRule K A T)
+    (refusal : UseRefusal K A T E) where
+  -- A call that checks one operation, from the tables c to c': it never skips. Where the tables agree, they agree
+  -- afterwards; it advances only past uses that hold, and breaks only at a symbol user whose uses are refused, with
+  -- what is told of them.
+  pub record IsUseCheck {B : Type 0} (told : B → VerifyErr E) (s : Store K A T) (c : Tables) (p : Ptr OperationKind)
+      (a : ControlFlow B WalkContinue) (c' : Tables) : Type 0 where
+    pub never_skips : a ≡ Continue Skip → ⊥
+    pub agree : AllAgree own_symbol own_table s c → AllAgree own_symbol own_table s c'
+    pub advances : AllAgree own_symbol own_table s c → a ≡ Continue Advance
+        → is_user_kind own_user (kind_of s p) ≡ true → holds s p
+    pub breaks : AllAgree own_symbol own_table s c → (b : B) → a ≡ Break b
+        → (is_user_kind own_user (kind_of s p) ≡ true) × IsUseRefused (holds s p) (refusal s p) (told b)
 
 module _ {K A T : Type 0} (own_table : K → Bool) (s : Store K A T) where
-  -- the uses of every symbol user that is handed over hold
-  abbrev pub AllUsesHold : (own_user : K → Bool) → (holds : Store K A T → Ptr OperationKind → Type 0) → Ptr OperationKind → Type 0
-  AllUsesHold own_user holds t = (p : Ptr OperationKind) → IsHanded (kids s) (is_table_at own_table s) t p → is_user_kind own_user (kind_of s p) ≡ true → holds s p
+  -- a symbol user that is handed over as the table of t is walked
+  pub record IsHandedUser (own_user : K → Bool) (t p : Ptr OperationKind) : Type 0 where
+    pub handed : IsHanded (kids s) (is_table_at own_table s) t p
+    pub user : is_user_kind own_user (kind_of s p) ≡ true
 
-module _ {K A T : Type 0} (own_symbol own_table own_user : K → Bool) (holds : Store K A T → Ptr OperationKind → Type 0) (s : Store K A T) (t : Ptr OperationKind) where
+  -- the uses of every symbol user that is handed over hold
+  abbrev pub AllUsesHold : (own_user : K → Bool) → UseRule K A T → Ptr OperationKind → Type 0
+  AllUsesHold own_user holds t = (p : Ptr OperationKind) → IsHandedUser own_user t p → holds s p
+
+module _ {K A T : Type 0} (own_symbol own_table own_user : K → Bool) (holds : UseRule K A T) (s : Store K A T)
+    (t : Ptr OperationKind) where
   -- the rule of a symbol table
   pub record HasTableRule : Type 0 where
     pub good : IsGood own_symbol own_table s t
     pub uses : AllUsesHold own_table s own_user holds t
 
 -- What a refusal tells: a symbol repeats the name of an earlier one, and it stands there; or a symbol has no name.
-abbrev pub IsSymbolFault : {K A T E : Type 0} → (own_symbol : K → Bool) → Store K A T → Ptr OperationKind → VerifyErr (SymbolTableInterfaceErr E) → Type 0
-IsSymbolFault own_symbol s t (Refused loc (SymbolRedefined n)) = (o : Ptr OperationKind) × IsRepeatedAt (string_bytes n) o (symbols own_symbol s t) × (location_of s o ≡ Some loc)
-IsSymbolFault own_symbol s t (Refused loc (Unnamed e)) = IsUnnamedFirst (symbols own_symbol s t) × (location_of s t ≡ Some loc)
+abbrev pub IsSymbolFault : {K A T E : Type 0} → (own_symbol : K → Bool) → Store K A T → Ptr OperationKind
+    → VerifyErr (SymbolTableInterfaceErr E) → Type 0
+IsSymbolFault own_symbol s t (Refused loc (SymbolRedefined n)) =
+    (o : Ptr OperationKind) × IsRepeatedAt (string_bytes n) o (symbols own_symbol s t) × (location_of s o ≡ Some loc)
+IsSymbolFault own_symbol s t (Refused loc (Unnamed e)) =
+    IsUnnamedFirst (symbols own_symbol s t) × (location_of s t ≡ Some loc)
 IsSymbolFault own_symbol s t (Refused loc (Use e)) = ⊥
 IsSymbolFault own_symbol s t Memory = Unit {0}
 
--- a use is told that does not hold
-abbrev pub IsUseFault : {E : Type 0} → Type 0 → VerifyErr (SymbolTableInterfaceErr E) → Type 0
-IsUseFault holds (Refused loc (Use e)) = holds → ⊥
-IsUseFault holds (Refused loc (SymbolRedefined n)) = ⊥
-IsUseFault holds (Refused loc (Unnamed e)) = ⊥
-IsUseFault holds Memory = Unit {0}
+module _ {K A T E : Type 0} (own_table own_user : K → Bool) (holds : UseRule K A T)
+    (refusal : UseRefusal K A T E) (s : Store K A T) (t : Ptr OperationKind) where
+  -- Of the symbol users that are handed over as the table of t is walked, op is the first one, in the order of that
+  -- walk, whose uses don't hold; and this location and this error may be told of them.
+  pub record IsFirstRefusedUse (loc : Location) (err : E) : Type 0 where
+    pub op : Ptr OperationKind
+    pub is_user : IsHandedUser own_table s own_user t op
+    pub fails : holds s op → ⊥
+    pub told : refusal s op loc err
+    pub before : (q : Ptr OperationKind) → IsHandedUser own_table s own_user t q
+        → NodeBefore pre_forward (kids s) (Region is_user.handed.region) (Operation q) (Operation op) → holds s q
+
+  -- it is told, memory aside
+  abbrev pub IsUsesRefusal : VerifyErr E → Type 0
+  IsUsesRefusal (Refused loc err) = IsFirstRefusedUse loc err
+  IsUsesRefusal Memory = Unit {0}
+
+  -- the same, as a table tells it
+  abbrev pub IsUseFault : VerifyErr (SymbolTableInterfaceErr E) → Type 0
+  IsUseFault (Refused loc (Use err)) = IsFirstRefusedUse loc err
+  IsUseFault (Refused loc (SymbolRedefined n)) = ⊥
+  IsUseFault (Refused loc (Unnamed e)) = ⊥
+  IsUseFault Memory = Unit {0}
 
 -- what the refusal of a use is told as
 abbrev pub use_told : {E : Type 0} → VerifyErr E → VerifyErr (SymbolTableInterfaceErr E)
 use_told (Refused loc err) = Refused loc (Use err)
 use_told Memory = Memory
 
--- Of a table: that, or the symbols are right and some use does not hold.
-abbrev pub IsTableFault : {K A T E : Type 0} → (own_symbol own_table own_user : K → Bool) (holds : Store K A T → Ptr OperationKind → Type 0) → Store K A T → Ptr OperationKind → VerifyErr (SymbolTableInterfaceErr E) → Type 0
-IsTableFault own_symbol own_table own_user holds s t e = IsSymbolFault own_symbol s t e ⊎ (IsGood own_symbol own_table s t × IsUseFault (AllUsesHold own_table s own_user holds t) e)
+module _ {K A T E : Type 0} (own_symbol own_table own_user : K → Bool) (holds : UseRule K A T)
+    (refusal : UseRefusal K A T E) (s : Store K A T) (t : Ptr OperationKind) where
+  -- Of a table: that, or the symbols are right, and the first use that does not hold is told.
+  abbrev pub IsTableFault : VerifyErr (SymbolTableInterfaceErr E) → Type 0
+  IsTableFault e =
+      IsSymbolFault own_symbol s t e
+      ⊎ (IsGood own_symbol own_table s t
+      × IsUseFault own_table own_user holds refusal s t e)

@@ -10,7 +10,7 @@ ghost use Rattle.plir_core.specs.Nodes.{ptr_at};
 ghost use Rattle.plir_core.specs.Store.{IsLive, given_out, kind_of, limit, num_live};
 ghost use Rattle.plir_core.specs.Whole.{IsWhole};
 ghost use Rattle.plir_core.specs.declared.ptr.IRNode.{IRNode as AnyNode};
-ghost use Rattle.plir_builtin.specs.BuiltinOps.{HasArguments, HasFuncType, IsFuncMade, IsNewFunc, entry_of, func_type_of, type_in_attr};
+ghost use Rattle.plir_builtin.specs.BuiltinOps.{HasArguments, HasFuncType, IsFuncMade, IsNewFunc, entry_of, func_type, func_type_of, type_in_attr};
 ghost use Rattle.plir_builtin.specs.BuiltinOps.{IsFullForOneBlock};
 ghost use Rattle.plir_builtin.specs.OpRules.{HasFuncRules};
 ghost use Rattle.plir_builtin.specs.OpFaults.{IsFuncFault};
@@ -25,7 +25,7 @@ use crate::symbol_op::SymbolOpInterface;
 use plir_core::{BasicBlock, Context, NodeErr, Operation, Ptr};
 use plir_data::{
     AttrObj, FunctionType, FunctionTypeInterface, Identifier, OpKind, OpSet, TypeHandle, TypeStore,
-    TypedHandle, VerifyErr,
+    Typed, TypedHandle, VerifyErr,
 };
 use plir_iface::{
     IsolatedFromAboveInterface, NOpdsInterface, NResultsInterface, OneRegionInterface, Op, refusal,
@@ -163,6 +163,17 @@ impl FuncOp {
         told(NOpdsInterface::<D, 0>::verify(self, ctx))?;
         told(NResultsInterface::<D, 0>::verify(self, ctx))?;
         told(self.verify(ctx))
+    }
+}
+
+impl<D: OpSet> Typed<Context<D>> for FuncOp {
+    ghost has_type = { λ s f. IsLive s (AnyNode.Operation f.op) × HasFuncType s f.op };
+
+    ghost type_of = { λ s f. func_type s f.op };
+
+    /// The type of the function.
+    fn get_type(&self, ctx: &Context<D>) -> TypeHandle {
+        FuncOp::get_type(self, ctx).into()
     }
 }
 

@@ -43,7 +43,7 @@ pub use symbol_table::SymbolTable;
 pub use symbol_table_err::SymbolTableErr;
 pub use symbol_table_op::{SymbolTableInterface, SymbolTableInterfaceErr};
 pub use symbol_user_op::SymbolUserOpInterface;
-pub use symbol_users::SymbolUserSet;
+pub use symbol_users::{SymbolUserSet, SymbolUses};
 pub use symbols::{ATTR_KEY_SYM_NAME, SymbolOpInterfaceErr};
 pub use table_links::TableLinks;
 pub use walking::{SymbolTableWalkerCallback, walk_symbol_table};

@@ -27,7 +27,7 @@ use crate::symbol_op::SymbolOpInterface;
 use crate::symbol_table_op::SymbolTableInterface;
 use crate::symbol_users::SymbolUserSet;
 use plir_core::{Context, NodeErr, Operation, Ptr};
-use plir_data::{Identifier, OpKind, OpSet, VerifyErr};
+use plir_data::{Identifier, Memory, OpKind, OpSet, VerifyErr};
 use plir_iface::{
     IsolatedFromAboveInterface, NOpdsInterface, NResultsInterface, NoTerminatorInterface,
     OneRegionInterface, Op, RegionKind, RegionKindInterface, SingleBlockRegionInterface,
@@ -114,6 +114,13 @@ impl<D: OpSet> RegionKindInterface<D> for ModuleOp {
 }
 
 impl ModuleOp {
+    /// Accepts always: a module has no rule but those of its interfaces.
+    pub fn verify<D: OpSet>(&self, _ctx: &Context<D>) -> Result<(), Memory>
+        ensures { result ≡ Ok tt }
+    {
+        Ok(())
+    }
+
     /// Accepts exactly where the rules of all interfaces that a module declares hold, memory aside: one region, of one block, a
     /// symbol table that is right, a name, no operand and no result. Else tells the refusal of the first, in this order.
     pub fn verify_interfaces<D: SymbolUserSet>(
@@ -124,7 +131,8 @@ impl ModuleOp {
         requires live { IsLive ctx.now (AnyNode.Operation self.now.op) }
         requires module_kind { kind_of ctx.now self.now.op ≡ Some AnyKind.Module }
         ensures ok { OnOk result (HasModuleRules D.is_symbol D.is_symbol_table D.is_symbol_user D.uses_hold ctx.now self.now.op) }
-        ensures refused { IfErr result (IsModuleFault ctx.now self.now.op D.kind_id D.is_symbol D.is_symbol_table D.is_symbol_user D.uses_hold) }
+        ensures refused { IfErr result (IsModuleFault ctx.now self.now.op D.kind_id
+            D.is_symbol D.is_symbol_table D.is_symbol_user D.uses_hold D.use_refusal) }
         ensures whole { IsWhole D.attr_handles ctx.now }
     {
         let _live = ctx.num_live();

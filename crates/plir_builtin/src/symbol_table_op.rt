@@ -106,7 +106,8 @@ fn verify_table<D: SymbolUserSet>(
     requires one_region { HasNRegions 1 ctx.now op }
     requires single_blocks { HasSingleBlocks ctx.now op }
     ensures ok { OnOk result (HasTableRule D.is_symbol D.is_symbol_table D.is_symbol_user D.uses_hold ctx.now op) }
-    ensures refused { IfErr result (IsTableFault D.is_symbol D.is_symbol_table D.is_symbol_user D.uses_hold ctx.now op) }
+    ensures refused { IfErr result (IsTableFault D.is_symbol D.is_symbol_table D.is_symbol_user D.uses_hold
+        D.use_refusal ctx.now op) }
 {
     if let Err(refused) = verify_symbols(alloc, ctx, op) {
         return Err(refused);
@@ -145,7 +146,8 @@ pub trait SymbolTableInterface<D: OpSet>: SingleBlockRegionInterface<D> + OneReg
         requires one_region { HasNRegions 1 ctx.now (Self.pointer self.now) }
         requires single_blocks { HasSingleBlocks ctx.now (Self.pointer self.now) }
         ensures ok { OnOk result (HasTableRule D.is_symbol D.is_symbol_table D.is_symbol_user D.uses_hold ctx.now (Self.pointer self.now)) }
-        ensures refused { IfErr result (IsTableFault D.is_symbol D.is_symbol_table D.is_symbol_user D.uses_hold ctx.now (Self.pointer self.now)) }
+        ensures refused { IfErr result (IsTableFault D.is_symbol D.is_symbol_table D.is_symbol_user D.uses_hold
+            D.use_refusal ctx.now (Self.pointer self.now)) }
     {
         verify_table(alloc, ctx, self.get_operation())
     }

@@ -4,6 +4,7 @@ ghost use Rattle.plir_core.specs.declared.ptr.IRNode.{IRNode as AnyNode};
 ghost use Rattle.plir_core.specs.Store.{Store, IsLive};
 ghost use Rattle.plir_builtin.specs.Agree.{AllAgree, AreGivenOut};
 ghost use Rattle.plir_builtin.specs.SymbolUses.{IsUseRefused};
+ghost use Rattle.plir_data.specs.declared.location.Location.{Location as AnyLocation};
 
 use crate::collection::SymbolTableCollection;
 use plir_core::Context;
@@ -19,17 +20,23 @@ pub trait SymbolUserOpInterface<D: OpSet>: Op<D> {
     // The uses of the operation are right.
     ghost has_right_uses: { Self → Store D.Kind D.Attr D.Ty → Type 0 };
 
+    // What may be told of uses that are not right: a location, and an error.
+    ghost use_refusal: { Self → Store D.Kind D.Attr D.Ty → AnyLocation → D.Err → Type 0 };
+
     /// Accepts exactly where the uses are right, where all tables of the collection agree, memory aside; they agree
-    /// afterwards.
+    /// afterwards. Else tells what may be told of these uses.
     fn verify_symbol_uses(
         &self,
         ctx: &Context<D>,
         tables: &mut SymbolTableCollection,
     ) -> Result<(), VerifyErr<D::Err>>
         requires { IsLive ctx.now (AnyNode.Operation (Self.pointer self.now)) }
-        ensures ok { AllAgree D.is_symbol D.is_symbol_table ctx.now tables.old → OnOk result (has_right_uses self.now ctx.now) }
-        ensures refused { AllAgree D.is_symbol D.is_symbol_table ctx.now tables.old → IfErr result (IsUseRefused (has_right_uses self.now ctx.now)) }
-        ensures agree { AllAgree D.is_symbol D.is_symbol_table ctx.now tables.old → AllAgree D.is_symbol D.is_symbol_table ctx.now tables.new }
+        ensures ok { AllAgree D.is_symbol D.is_symbol_table ctx.now tables.old
+            → OnOk result (has_right_uses self.now ctx.now) }
+        ensures refused { AllAgree D.is_symbol D.is_symbol_table ctx.now tables.old
+            → IfErr result (IsUseRefused (has_right_uses self.now ctx.now) (use_refusal self.now ctx.now)) }
+        ensures agree { AllAgree D.is_symbol D.is_symbol_table ctx.now tables.old
+            → AllAgree D.is_symbol D.is_symbol_table ctx.now tables.new }
         ensures given { AreGivenOut ctx.now tables.old → AreGivenOut ctx.now tables.new };
 
     /// The names that the operation uses.

@@ -6,13 +6,15 @@ ghost use Rattle.plir_core.specs.declared.ptr.IRNode.{IRNode as AnyNode};
 ghost use Rattle.plir_core.specs.Store.{Store, IsLive, kids, kind_of};
 ghost use Rattle.plir_builtin.specs.Agree.{AllAgree, AreGivenOut};
 ghost use Rattle.plir_builtin.specs.Handed.{is_table_at};
-ghost use Rattle.plir_builtin.specs.SymbolUses.{is_user_kind, AllUsesHold, IsUseCheck, IsUseRefused};
+ghost use Rattle.plir_builtin.specs.SymbolUses.{is_user_kind, AllUsesHold, IsUseCheck, IsUseRefused, IsUsesRefusal};
+ghost use Rattle.plir_data.specs.declared.location.Location.{Location as AnyLocation};
 
 use crate::collection::SymbolTableCollection;
 use crate::walking::walk_symbol_table;
 use plir_core::{Context, Interface, Operation, Ptr, kind_impls};
-use plir_data::{BuiltinSet, OpSet, VerifyErr};
+use plir_data::{BuiltinSet, KindSet, NeverRefused, NoMeaning, OpSet, OwnKind, VerifyErr};
 use plir_walk::interruptible::{WalkResult, walk_advance, walk_break};
+use plir_walk::laws::before_is_a_total_order;
 use std::alloc::Global;
 use std::ops::ControlFlow;
 
@@ -21,32 +23,83 @@ pub trait SymbolUserSet: OpSet {
     // The uses of an operation are right.
     ghost uses_hold: { Store Self.Kind Self.Attr Self.Ty → AnyPtr OperationKind → Type 0 };
 
+    // What may be told of uses that are not right: a location, and an error.
+    ghost use_refusal: { Store Self.Kind Self.Attr Self.Ty → AnyPtr OperationKind → AnyLocation → Self.Err → Type 0 };
+
     /// Accepts exactly where the uses of an operation are right, where all tables of the collection agree, memory aside;
-    /// they agree afterwards. The verifier of tables asks it of symbol users alone.
+    /// they agree afterwards. Else tells what the set may tell of these uses. The verifier of tables asks it of symbol
+    /// users alone.
     fn verify_symbol_uses(
         ctx: &Context<Self>,
         op: Ptr<Operation>,
         tables: &mut SymbolTableCollection,
     ) -> Result<(), VerifyErr<Self::Err>>
         requires { IsLive ctx.now (AnyNode.Operation op) }
-        ensures ok { AllAgree Self.is_symbol Self.is_symbol_table ctx.now tables.old → OnOk result (uses_hold ctx.now op) }
-        ensures refused { AllAgree Self.is_symbol Self.is_symbol_table ctx.now tables.old → IfErr result (IsUseRefused (uses_hold ctx.now op)) }
-        ensures agree { AllAgree Self.is_symbol Self.is_symbol_table ctx.now tables.old → AllAgree Self.is_symbol Self.is_symbol_table ctx.now tables.new }
+        ensures ok { AllAgree Self.is_symbol Self.is_symbol_table ctx.now tables.old
+            → OnOk result (uses_hold ctx.now op) }
+        ensures refused { AllAgree Self.is_symbol Self.is_symbol_table ctx.now tables.old
+            → IfErr result (IsUseRefused (uses_hold ctx.now op) (use_refusal ctx.now op)) }
+        ensures agree { AllAgree Self.is_symbol Self.is_symbol_table ctx.now tables.old
+            → AllAgree Self.is_symbol Self.is_symbol_table ctx.now tables.new }
         ensures given { AreGivenOut ctx.now tables.old → AreGivenOut ctx.now tables.new };
 }
 
-impl SymbolUserSet for BuiltinSet {
+/// Own kinds of operations that say which uses of symbols are right: what [`SymbolUserSet`] is for an op set of such kinds
+/// alone, [`KindSet`]. Kinds that use no symbols accept; their [`OwnKind::Err`] may be `NeverRefused`.
+pub trait SymbolUses: OwnKind {
+    // The uses of an operation are right.
+    ghost uses_hold: { Store Self NoMeaning NoMeaning → AnyPtr OperationKind → Type 0 };
+
+    // What may be told of uses that are not right: a location, and an error.
+    ghost use_refusal: { Store Self NoMeaning NoMeaning → AnyPtr OperationKind → AnyLocation → Self.Err → Type 0 };
+
+    /// Accepts exactly where the uses of an operation are right, where all tables of the collection agree, memory aside;
+    /// they agree afterwards. Else tells what the kinds may tell of these uses. The verifier of tables asks it of symbol
+    /// users alone.
+    fn verify_symbol_uses(
+        ctx: &Context<KindSet<Self>>,
+        op: Ptr<Operation>,
+        tables: &mut SymbolTableCollection,
+    ) -> Result<(), VerifyErr<Self::Err>>
+        requires { IsLive ctx.now (AnyNode.Operation op) }
+        ensures ok { AllAgree Self.is_symbol Self.is_symbol_table ctx.now tables.old
+            → OnOk result (uses_hold ctx.now op) }
+        ensures refused { AllAgree Self.is_symbol Self.is_symbol_table ctx.now tables.old
+            → IfErr result (IsUseRefused (uses_hold ctx.now op) (use_refusal ctx.now op)) }
+        ensures agree { AllAgree Self.is_symbol Self.is_symbol_table ctx.now tables.old
+            → AllAgree Self.is_symbol Self.is_symbol_table ctx.now tables.new }
+        ensures given { AreGivenOut ctx.now tables.old → AreGivenOut ctx.now tables.new };
+}
+
+impl SymbolUses for NoMeaning {
     ghost use Rattle.std.specs.Prelude.{⊤};
 
     ghost uses_hold = { λ _ _. ⊤ };
 
+    ghost use_refusal = { λ _ _ _ _. ⊥ };
+
     /// Accepts: no builtin operation uses symbols.
     fn verify_symbol_uses(
-        _ctx: &Context<Self>,
+        _ctx: &Context<BuiltinSet>,
         _op: Ptr<Operation>,
         _tables: &mut SymbolTableCollection,
-    ) -> Result<(), VerifyErr<Self::Err>> {
+    ) -> Result<(), VerifyErr<NeverRefused>> {
         Ok(())
+    }
+}
+
+impl<K: SymbolUses> SymbolUserSet for KindSet<K> {
+    ghost uses_hold = { K.uses_hold };
+
+    ghost use_refusal = { K.use_refusal };
+
+    /// As the kinds say.
+    fn verify_symbol_uses(
+        ctx: &Context<Self>,
+        op: Ptr<Operation>,
+        tables: &mut SymbolTableCollection,
+    ) -> Result<(), VerifyErr<K::Err>> {
+        K::verify_symbol_uses(ctx, op, tables)
     }
 }
 
@@ -71,7 +124,8 @@ fn check_use<D: SymbolUserSet>(
     tables: &mut SymbolTableCollection,
 ) -> WalkResult<RefusedUse<D>>
     requires { IsLive ctx.now (AnyNode.Operation op) }
-    ensures { IsUseCheck D.is_symbol D.is_symbol_table D.is_symbol_user D.uses_hold (λ r. r.why) ctx.now tables.old op result tables.new }
+    ensures { IsUseCheck D.is_symbol D.is_symbol_table D.is_symbol_user D.uses_hold
+        D.use_refusal (λ r. r.why) ctx.now tables.old op result tables.new }
 {
     if !is_user(ctx, op) {
         return walk_advance();
@@ -82,7 +136,8 @@ fn check_use<D: SymbolUserSet>(
     }
 }
 
-/// Accepts exactly where the uses of every symbol user hold that the walk of a table hands over.
+/// Accepts exactly where the uses of every symbol user hold that the walk of a table hands over; else tells what is told of
+/// the first whose uses don't.
 pub(crate) fn verify_uses<D: SymbolUserSet>(
     alloc: Global,
     ctx: &Context<D>,
@@ -92,14 +147,17 @@ pub(crate) fn verify_uses<D: SymbolUserSet>(
     requires table { is_table_at D.is_symbol_table ctx.now op ≡ true }
     requires one_region { length (kids ctx.now (AnyNode.Operation op)) ≡ 1 }
     ensures ok { OnOk result (AllUsesHold D.is_symbol_table ctx.now D.is_symbol_user D.uses_hold op) }
-    ensures refused { IfErr result (IsUseRefused (AllUsesHold D.is_symbol_table ctx.now D.is_symbol_user D.uses_hold op)) }
+    ensures refused { IfErr result (IsUsesRefusal D.is_symbol_table D.is_symbol_user D.uses_hold
+        D.use_refusal ctx.now op) }
 {
+    before_is_a_total_order();
     let mut tables = SymbolTableCollection::new(alloc);
     let check = |c: &Context<D>, t: &mut SymbolTableCollection, p: Ptr<Operation>| -> WalkResult<
         RefusedUse<D>,
     >
         requires { IsLive c.now (AnyNode.Operation p) }
-        ensures { IsUseCheck D.is_symbol D.is_symbol_table D.is_symbol_user D.uses_hold (λ r. r.why) c.now t.old p result t.new }
+        ensures { IsUseCheck D.is_symbol D.is_symbol_table D.is_symbol_user D.uses_hold
+            D.use_refusal (λ r. r.why) c.now t.old p result t.new }
     { check_use(c, p, t) };
     match walk_symbol_table(op, ctx, &mut tables, check) {
         ControlFlow::Break(RefusedUse { why }) => Err(why),

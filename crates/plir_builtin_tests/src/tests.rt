@@ -4,6 +4,7 @@ mod link_set;
 mod many;
 mod one_collection;
 mod operations;
+mod own_users;
 mod scripts;
 mod sessions;
 mod symbol_scripts;

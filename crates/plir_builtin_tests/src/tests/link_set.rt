@@ -241,8 +241,8 @@ fn is_recorded_in<D: OpSet>(
     }
 }
 
-// Whether an operation names a symbol that stands in the body of its parent operation.
-fn is_linked<D: OpSet>(
+/// Whether an operation names a symbol that stands in the body of its parent operation.
+pub fn is_linked<D: OpSet>(
     ctx: &Context<D>,
     tables: &mut SymbolTableCollection,
     op: Ptr<Operation>,
@@ -273,11 +273,14 @@ impl<D: OpSet> Op<D> for LinkOp {
 }
 
 impl SymbolUserOpInterface<LinkSet> for LinkOp {
+    ghost use Rattle.plir_core.specs.Store.{location_of};
     ghost use Rattle.plir_builtin_tests.specs.Links.{IsLinked, names_in_use};
 
     ghost names_used = { λ o s. names_in_use s o.op };
 
     ghost has_right_uses = { λ o s. IsLinked (λ k. k.symbol) s o.op };
+
+    ghost use_refusal = { λ o s loc e. location_of s o.op ≡ Some loc };
 
     fn verify_symbol_uses(
         &self,
@@ -308,9 +311,12 @@ impl SymbolUserOpInterface<LinkSet> for LinkOp {
 }
 
 impl SymbolUserSet for LinkSet {
+    ghost use Rattle.plir_core.specs.Store.{location_of};
     ghost use Rattle.plir_builtin_tests.specs.Links.{IsLinked};
 
     ghost uses_hold = { λ s op. IsLinked (λ k. k.symbol) s op };
+
+    ghost use_refusal = { λ s op loc e. location_of s op ≡ Some loc };
 
     fn verify_symbol_uses(
         ctx: &Context<LinkSet>,

@@ -9,13 +9,14 @@ ghost use Rattle.plir_core.specs.declared.ptr.IRNode.{IRNode as AnyNode};
 use super::symbols::put_verdict;
 use plir_builtin::{ConstantOp, ForwardRefOp, FuncOp, MaterializableAttr, ModuleOp};
 use plir_core::{Operation, Ptr};
-use plir_data::{AttrObj, FunctionType, Identifier, IntegerAttr, OpSet};
+use plir_data::{AttrObj, FunctionType, Identifier, IntegerAttr, OpSet, TypeHandle, Typed};
 use plir_iface::Op;
 use plir_scripts::{Bench, Line, Stop};
 use plir_text::read_attr;
 
 /// Does what a line says of builtin operations: `module NAME`, `func NAME`, `constant TEXT`, `materialize TEXT` and
-/// `forward-ref` make one, `rule OP` tells whether its own rule holds.
+/// `forward-ref` make one, `rule OP` tells whether its own rule holds, and `typed OP` whether a function has one type, however it
+/// is asked for.
 pub fn operation<D: OpSet>(bench: &mut Bench<D>, line: Line<'_>) -> Result<(), Stop> {
     match line.command {
         "module" => make_module(bench, line.first),
@@ -23,6 +24,7 @@ pub fn operation<D: OpSet>(bench: &mut Bench<D>, line: Line<'_>) -> Result<(), S
         "constant" => make_constant(bench, line),
         "materialize" => materialize(bench, line),
         "forward-ref" => make_forward_ref(bench),
+        "typed" => tell_typed(bench, line),
         _ => verify(bench, line),
     }
 }
@@ -59,6 +61,7 @@ fn materialize<D: OpSet>(bench: &mut Bench<D>, line: Line<'_>) -> Result<(), Sto
     make_room(bench)?;
     let value = attribute(bench, line)?;
     let integer = integer_in(&value).ok_or(Stop::Refused)?;
+    MaterializableAttr::<D>::verify(&integer, &bench.ctx)?;
     let op = integer.materialize(bench.alloc, &mut bench.ctx)?;
     put_tree(bench, op)
 }
@@ -113,9 +116,26 @@ fn put_tree<D: OpSet>(bench: &mut Bench<D>, op: Ptr<Operation>) -> Result<(), St
     Ok(())
 }
 
+fn tell_typed<D: OpSet>(bench: &mut Bench<D>, line: Line<'_>) -> Result<(), Stop> {
+    let (ctx, answer) = (&bench.ctx, &mut bench.answer);
+    let op = bench.made.op(ctx, line.first)?;
+    let func = FuncOp::from_operation(ctx, op).ok_or(Stop::Refused)?;
+    if func.verify(ctx).is_err() {
+        return Err(Stop::Refused);
+    }
+    let ty: TypeHandle = func.get_type(ctx).into();
+    answer.put_truth(Typed::get_type(&func, ctx) == ty);
+    Ok(())
+}
+
 fn verify<D: OpSet>(bench: &mut Bench<D>, line: Line<'_>) -> Result<(), Stop> {
     let (alloc, ctx, answer) = (bench.alloc, &bench.ctx, &mut bench.answer);
     let op = bench.made.op(ctx, line.first)?;
+    if let Some(module) = ModuleOp::from_operation(ctx, op) {
+        module.verify(ctx)?;
+        answer.put("holds");
+        return Ok(());
+    }
     if let Some(func) = FuncOp::from_operation(ctx, op) {
         return put_verdict(answer, func.verify(ctx));
     }

@@ -9,7 +9,7 @@ use plir_scripts::{Bench, Layer, Line, Mismatch, NodeCalls, ScriptSet, Stop, pla
 use std::alloc::Global;
 
 /// The calls of this crate, and those on nodes.
-struct BuiltinCalls;
+pub struct BuiltinCalls;
 
 impl<D: ScriptSet + SymbolUserSet> Layer<D> for BuiltinCalls {
     fn run(bench: &mut Bench<D>, line: Line<'_>) -> Result<(), Stop> {
@@ -17,7 +17,7 @@ impl<D: ScriptSet + SymbolUserSet> Layer<D> for BuiltinCalls {
             "table" | "lookup" | "nearest" | "nearest-lookup" | "edits" | "hand" => {
                 table(bench, line)
             }
-            "module" | "func" | "constant" | "materialize" | "forward-ref" | "rule" => {
+            "module" | "func" | "constant" | "materialize" | "forward-ref" | "rule" | "typed" => {
                 operation(bench, line)
             }
             "symbol" | "name" | "scan" | "right" | "declared" | "past" => symbol(bench, line),

@@ -134,6 +134,44 @@ fn users_of_symbols_are_verified_by_the_table_around_them(rt: HostRuntime) -> Re
 }
 
 #[test]
+fn the_first_use_that_does_not_hold_is_told(rt: HostRuntime) -> Result<(), Mismatch> {
+    let script = "
+        module m => o0
+        op - 1 => o1
+        block - => b1
+        back b1 r1
+        op u 1 => o2
+        block - => b2
+        back b2 r2
+        op u 0 => o3
+        op tu 0 => o4
+        at o2 2 2
+        at o3 3 3
+        at o4 4 4
+        back o3 b2
+        back o2 b1
+        back o1 b0
+        back o4 b0
+        right o0 => 2:2 not linked
+        declared o0 => 2:2 not linked
+        unlink o1
+        back o1 b0
+        right o0 => 4:4 not linked
+        declared o0 => 4:4 not linked
+        unlink o4
+        back o4 b0
+        set o2 link_uses builtin.identifier f
+        func f => o5
+        back o5 b1
+        right o0 => 3:3 not linked
+        unlink o3
+        right o0 => 4:4 not linked
+        unlink o4
+        right o0 => holds";
+    play_in(rt.alloc(), 100, script)
+}
+
+#[test]
 fn agreement_is_a_premise(rt: HostRuntime) -> Result<(), Mismatch> {
     let script = "
         module m => o0
@@ -168,6 +206,7 @@ fn modules_declare_their_interfaces(rt: HostRuntime) -> Result<(), Mismatch> {
     let script = "
         type builtin.unit => t0
         module m => o0
+        rule o0 => holds
         declared o0 => holds
         op - 0 t0 => o1
         op module 0 t0 < o1.0 => o2
@@ -201,7 +240,9 @@ fn other_operations_declare_their_interfaces(rt: HostRuntime) -> Result<(), Mism
         type builtin.unit => t0
         func f => o0
         declared o0 => holds
+        typed o0 => yes
         op func 0 => o1
+        typed o1 => refused
         declared o1 => Expected 1 regions, found 0
         region o1 => r1
         declared o1 => Op implementing SymbolOpInterface does not have a symbol defined

@@ -7,4 +7,11 @@ pub verify_symbols-requires-clause-at_body : goal.verify_symbols-requires-clause
 verify_symbols-requires-clause-at_body g c = sole-some c.args.ctx.now c.args.op c.requires.one_region c.requires.single_blocks
 
 pub returns-in-Err-verify_uses-clause-refused : goal.returns-in-Err-verify_uses-clause-refused
-returns-in-Err-verify_uses-clause-refused g c = inr (c.in_default.ensures.ok, use-fault c.in-Err-verify_uses.refused c.tell_use.result _ c.tell_use.ensures c.in-Err-verify_uses.ensures.refused)
+returns-in-Err-verify_uses-clause-refused g c =
+    let S = g.D.OpSet in
+    let U = g.D.SymbolUserSet in
+    inr (
+      c.in_default.ensures.ok,
+      use-fault S.is_symbol_table S.is_symbol_user U.uses_hold U.use_refusal c.args.ctx.now c.args.op
+          c.in-Err-verify_uses.refused c.tell_use.result c.tell_use.ensures c.in-Err-verify_uses.ensures.refused,
+    )
