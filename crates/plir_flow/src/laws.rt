@@ -6,7 +6,8 @@ ghost use Rattle.plir_core.specs.declared.ptr.Ptr.{Ptr as AnyPtr};
 ghost use Rattle.plir_core.specs.declared.value.Value.{Value as AnyValue};
 ghost use Rattle.plir_core.specs.Store.{Store, IsLive, operands_of, successors_of};
 ghost use Rattle.plir_flow.specs.Branches.{num_successors, operands_within};
-ghost use Rattle.plir_flow.specs.RegionEdges.{Reach};
+ghost use Rattle.plir_flow.specs.EdgeEquality.{same_edge};
+ghost use Rattle.plir_flow.specs.RegionEdges.{EdgeView, Reach};
 ghost use Rattle.plir_flow.specs.Segments.{in_segments, flatten, segment_at, edit_at, SegmentEdit, put_last, take_last, num_segments};
 ghost use Rattle.plir_flow.specs.Segments.{segment_size, segment_places, segments_of, IsSegmented};
 ghost use Rattle.plir_flow.specs.Segments.{CanBePopped, IsKeptBySegments, PopsWhatWasPushed};
@@ -63,6 +64,11 @@ pub fn segments_stand_in_a_row<D: OpSet>(ctx: &Context<D>, op: Ptr<Operation>)
 pub fn push_then_pop<D: OpSet>()
     ensures filled { (s t : Store D.Kind D.Attr D.Ty) (op : AnyPtr OperationKind) → CanBePopped s t op }
     ensures back { (s t u : Store D.Kind D.Attr D.Ty) (op : AnyPtr OperationKind) → PopsWhatWasPushed s t u op }
+{}
+
+/// Edges are equal exactly if they are the same.
+pub fn equal_edges_are_the_same()
+    ensures { (d e : EdgeView) → IsTrue (same_edge d e) ↔ (d ≡ e) }
 {}
 
 /// A region is repetitive exactly if a path of one edge or more between regions leads from it back to it.

@@ -343,6 +343,30 @@ fn branches_are_accepted_and_refused_where_memory_is_refused(
 }
 
 #[test]
+fn successors_are_counted_and_answered_while_all_memory_is_refused(
+    rt: HostRuntime,
+) -> Result<(), Mismatch> {
+    let script = "
+        block - => b0
+        block - => b1
+        op yield 0 > b0 b1 => o0
+        op yield 0 > b1 => o1
+        op yield 0 => o2
+        refuse
+        branch o0 NSuccs<2> => ok
+        successor o0 => b1
+        branch o0 OneSucc => Expected 1 successor(s), but found 2
+        branch o1 OneSucc => ok
+        successor o1 => b1
+        branch o1 NSuccs<2> => Expected 2 successor(s), but found 1
+        branch o2 NSuccs<2> => Expected 2 successor(s), but found 0
+        branch o2 OneSucc => Expected 1 successor(s), but found 0
+        successor o2 => refused
+        grant";
+    play::<SampleSet, BranchCalls>(rt.alloc(), 100, script)
+}
+
+#[test]
 fn values_are_forwarded_where_memory_is_refused(rt: HostRuntime) -> Result<(), Mismatch> {
     let script = "
         type builtin.unit => t0

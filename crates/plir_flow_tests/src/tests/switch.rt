@@ -100,11 +100,7 @@ impl BranchOpInterface<SampleSet> for Switch {
 }
 
 /// `switch OP`, and what a branch is asked and edited by: `forwarded`, `add`, `drop` and `reset`.
-pub fn call_switch(
-    bench: &mut Bench<SampleSet>,
-    op: &Switch,
-    line: Line<'_>,
-) -> Result<(), Stop>
+pub fn call_switch(bench: &mut Bench<SampleSet>, op: &Switch, line: Line<'_>) -> Result<(), Stop>
     requires { IsLive bench.old.ctx (AnyNode.Operation op.now.op) }
 {
     let (alloc, ctx, made, answer) = (bench.alloc, &mut bench.ctx, &bench.made, &mut bench.answer);
