@@ -141,11 +141,11 @@ module _ {K A T : Type 0} (s : Store K A T) (op : Ptr OperationKind) where
 
 -- The rule holds after an edit of a segment, if the number that is expected doesn't depend on the segments.
 module _ {K A T : Type 0} (s t : Store K A T) (op : Ptr OperationKind) (expected : Store K A T → Option ℕ) where
-  pub rule-kept : ((segs : List (List Value)) → expected (with_segments s op segs) ≡ expected s) → HasSegments (expected s) s op
+  pub rule-kept : ((segs : List (List Value)) → IsResegmented s t op segs → expected t ≡ expected s) → HasSegments (expected s) s op
       → (i : ℕ) (f : List Value → List Value) → IsResegmented s t op (edit_at i f (segments_of s op)) → HasSegments (expected t) t op
   rule-kept kept rule i f r =
       let segs : List (List Value) = edit_at i f (segments_of s op) in
-      let same : expected t ≡ expected s = ap expected r.after ∙ kept segs in
+      let same : expected t ≡ expected s = kept segs r in
       let count : num_segments t op ≡ num_segments s op = ap length r.sizes ∙ length-map segs length ∙ count-edit i f (segments_of s op) ∙ count-is s op rule.segmented in
       record {
         segmented = r.segmented;

@@ -1,6 +1,6 @@
 -- The rules of branches and of successors, and how they are refused.
-use Rattle.std.specs.Prelude.{◌≡◌, ◌≢◌, ◌<◌, ◌+◌, ◌-◌, ℕ, List, [], ◌∷◌, ◌++◌, insert, remove, length, map, slice_get, slice_range, slice_set, Bool, false, Option, Some, string_bytes}
-use Rattle.plir_data.specs.Dictionary.{dict_get}
+use Rattle.std.specs.Prelude.{◌≡◌, ◌≢◌, ◌<◌, ◌+◌, ◌-◌, ℕ, List, [], ◌∷◌, ◌++◌, insert, remove, length, map, slice_get, slice_range, slice_set, Bool, true, false, ◌||◌, Option, Some, string_bytes}
+use Rattle.plir_data.specs.Dictionary.{dict_get, is_key}
 use Rattle.plir_data.specs.Types.{TypeView, IsLive as IsTypeLive}
 use Rattle.plir_data.specs.TypeText.{type_text}
 use Rattle.plir_data.specs.declared.location.VerifyErr.{VerifyErr}
@@ -16,6 +16,7 @@ use Rattle.plir_core.specs.Changes.{with_op_edit}
 use Rattle.plir_core.specs.Held.{KeepsNodes}
 use Rattle.plir_iface.specs.Verdict.{IsRefusal, IsRefusalMemoryAside}
 use Rattle.plir_iface.specs.Sides.{type_in}
+use Rattle.plir_flow.specs.Segments.{sizes_key}
 use Rattle.plir_flow.specs.declared.branch_errors.BranchOpInterfaceVerifyErr.{BranchOpInterfaceVerifyErr}
 use Rattle.plir_flow.specs.declared.branch_errors.BranchOpInterfaceVerifyErr.TheVariants.{Layout, SuccessorOperandsMismatch, SuccessorOperandTypeMismatch}
 use Rattle.plir_flow.specs.declared.branch_errors.NSuccsVerifyErr.{NSuccsVerifyErr}
@@ -30,6 +31,15 @@ in_branch Memory = Memory
 -- a range of places: its first, and the one behind its last
 abbrev pub Range : Type 0
 Range = ℕ × ℕ
+
+-- whether a key is among some
+abbrev pub is_key_among : List (List ℕ) → List ℕ → Bool
+is_key_among [] k = false
+is_key_among (j ∷ js) k = is_key_among js k || is_key k j
+
+-- the key of the sizes of segments is among some
+abbrev pub KeepsSizes : List (List ℕ) → Type 0
+KeepsSizes keys = is_key_among keys sizes_key ≡ true
 
 -- Two lists of types are not the same: they have other lengths; or else this is the first place where they differ, with the types there.
 abbrev pub IsMismatch : (given wanted : List (Option ℕ)) → Mismatch → Type 0
@@ -96,8 +106,8 @@ module _ {K A T : Type 0} where
   IsBranchFault layout layout_refusal own_id own_body s op forwards e = layout × ((m : Mismatch) × (IsFirstMismatch s op forwards m × TellsMismatch own_id own_body s m e))
 
   -- From s to t an operation has come to have these operands; what its successor i gets has become `values`, what the others
-  -- get is the same, and beside attributes that tell of the layout nothing else has changed.
-  pub record IsReforwarded (s t : Store K A T) (op : Ptr OperationKind) (tells_layout : List ℕ → Bool) (old new : ℕ → Range) (i : ℕ) (operands values : List Value) : Type 0 where
+  -- get is the same, and beside the attributes under these keys, which tell of the layout, nothing else has changed.
+  pub record IsReforwarded (s t : Store K A T) (op : Ptr OperationKind) (keys : List (List ℕ)) (old new : ℕ → Range) (i : ℕ) (operands values : List Value) : Type 0 where
     pub keeps : KeepsNodes s t
     pub ops : (q : Ptr OperationKind) → IsLive s (Operation q) → (q ≡ op → ⊥) → op_at t q ≡ op_at s q
     pub blocks : (b : Ptr BasicBlockKind) → block_at t b ≡ block_at s b
@@ -105,21 +115,21 @@ module _ {K A T : Type 0} where
     pub result_types : result_types_of t op ≡ result_types_of s op
     pub successors : successors_of t op ≡ successors_of s op
     pub location : location_of t op ≡ location_of s op
-    pub attributes : (k : List ℕ) → tells_layout k ≡ false → dict_get (attributes_of t op) k ≡ dict_get (attributes_of s op) k
+    pub attributes : (k : List ℕ) → is_key_among keys k ≡ false → dict_get (attributes_of t op) k ≡ dict_get (attributes_of s op) k
     pub operands_now : operands_of t op ≡ operands
     pub here : operands_within t op (new i) ≡ values
     pub others : (j : ℕ) → j < num_successors s op → j ≢ i → operands_within t op (new j) ≡ operands_within s op (old j)
 
   -- Its successor i gets one more value, behind the others; or one less, that for its argument at a place. What it forwards is a
   -- function of the context.
-  module _ (tells_layout : List ℕ → Bool) (forwards : Store K A T → ℕ → Range) (s t : Store K A T) (op : Ptr OperationKind) (i : ℕ) where
+  module _ (keys : List (List ℕ)) (forwards : Store K A T → ℕ → Range) (s t : Store K A T) (op : Ptr OperationKind) (i : ℕ) where
     abbrev pub IsForwardedMore : Value → Type 0
     IsForwardedMore v =
-        IsReforwarded s t op tells_layout (forwards s) (forwards t) i (insert (operands_of s op) (forwards s i).1 v) (operands_within s op (forwards s i) ++ v ∷ [])
+        IsReforwarded s t op keys (forwards s) (forwards t) i (insert (operands_of s op) (forwards s i).1 v) (operands_within s op (forwards s i) ++ v ∷ [])
 
     abbrev pub IsForwardedLess : (place : ℕ) → Type 0
     IsForwardedLess place =
-        IsReforwarded s t op tells_layout (forwards s) (forwards t) i (remove (operands_of s op) ((forwards s i).0 + place)) (remove (operands_within s op (forwards s i)) place)
+        IsReforwarded s t op keys (forwards s) (forwards t) i (remove (operands_of s op) ((forwards s i).0 + place)) (remove (operands_within s op (forwards s i)) place)
 
   -- from s to t another value has come in the place of an operand, and nothing else has changed
   abbrev pub IsOperandReplaced : (s t : Store K A T) → Ptr OperationKind → ℕ → Value → Type 0

@@ -9,6 +9,7 @@
 --   Taken            AreThose, IsOnceEach, AreTakenOnce: lists that are taken from other lists
 --   Paths            LeadsTo: paths of steps
 --   RegionEdges      EdgeView: an edge between an operation and its regions; Reach: which regions paths of edges lead to
+--   EdgeEquality     same_edge: when two edges are equal
 --   RegionRule       HasEdgeRule: the rule of region edges, and how it is refused
 --   Hops             how the steps between regions are kept, while those that are reached are looked for
 pub mod Segments
@@ -20,5 +21,6 @@ pub mod Calls
 pub mod Taken
 pub mod Paths
 pub mod RegionEdges
+pub mod EdgeEquality
 pub mod RegionRule
 pub mod Hops

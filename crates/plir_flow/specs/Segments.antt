@@ -113,10 +113,6 @@ module _ {K A T : Type 0} where
   abbrev pub with_segments : Store K A T → Ptr OperationKind → List (List Value) → Store K A T
   with_segments s op segs = with_op_edit s op (in_op segs)
 
-  -- a function of the context does not depend on the segments that an operation has
-  abbrev pub IsKeptBySegments : {X : Type 0} → (Store K A T → X) → Ptr OperationKind → Type 0
-  IsKeptBySegments f op = (s : Store K A T) (segs : List (List Value)) → f (with_segments s op segs) ≡ f s
-
   -- From s to t an operation has come to have these segments, and nothing else has changed.
   pub record IsResegmented (s t : Store K A T) (op : Ptr OperationKind) (segs : List (List Value)) : Type 0 where
     pub after : t ≡ with_segments s op segs
@@ -134,6 +130,10 @@ module _ {K A T : Type 0} where
     pub successors : successors_of t op ≡ successors_of s op
     pub location : location_of t op ≡ location_of s op
     pub attributes : (k : List ℕ) → is_key k sizes_key ≡ false → dict_get (attributes_of t op) k ≡ dict_get (attributes_of s op) k
+
+  -- a function of the context does not depend on the segments that an operation has, as long as the operation is live
+  abbrev pub IsKeptBySegments : {X : Type 0} → (Store K A T → X) → Ptr OperationKind → Type 0
+  IsKeptBySegments f op = (s t : Store K A T) (segs : List (List Value)) → IsLive s (Operation op) → IsResegmented s t op segs → f t ≡ f s
 
   -- From s to t one segment of an operation has been edited, and beside the sizes nothing else has changed.
   abbrev pub IsSegmentEdited : (s t : Store K A T) → Ptr OperationKind → ℕ → (List Value → List Value) → Type 0

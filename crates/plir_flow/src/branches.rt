@@ -5,7 +5,7 @@ ghost use Rattle.plir_core.specs.declared.ptr.IRNode.{IRNode};
 ghost use Rattle.plir_core.specs.Store.{IsLive, IsValueLive, operands_of, successors_of};
 ghost use Rattle.plir_core.specs.Whole.{IsWhole};
 ghost use Rattle.plir_flow.specs.Layout.{IsLayoutRefusal};
-ghost use Rattle.plir_flow.specs.Branches.{num_successors, HasNSuccs, BreaksNSuccs, operands_within};
+ghost use Rattle.plir_flow.specs.Branches.{num_successors, HasNSuccs, BreaksNSuccs, KeepsSizes, operands_within};
 ghost use Rattle.plir_flow.specs.Branches.{HasBranchRule, BreaksBranchRule, IsForwardedMore, IsForwardedLess, IsOperandReplaced};
 
 use crate::branch_errors::{BranchOpInterfaceVerifyErr, NSuccsVerifyErr};
@@ -24,7 +24,7 @@ use std::ops::Range;
 /// the layout accepts exactly where a predicate of the context and the operation holds, memory aside, and the ranges of
 /// operands that are forwarded are a function of these two.
 pub trait BranchOpInterface<D: OpSet>: IsTerminatorInterface<D> {
-    ghost use Rattle.std.specs.Prelude.{List, Bool};
+    ghost use Rattle.std.specs.Prelude.{List};
     ghost use Rattle.plir_core.specs.Store.{Store};
     ghost use Rattle.plir_flow.specs.Branches.{Range as Places};
 
@@ -33,8 +33,9 @@ pub trait BranchOpInterface<D: OpSet>: IsTerminatorInterface<D> {
 
     ghost refuses_layout: { Self → Store D.Kind D.Attr D.Ty → D.Err → Type 0 };
 
-    // The keys of the attributes that tell of the layout: these change as values are added and taken out.
-    ghost tells_layout: { Self → List ℕ → Bool };
+    // The keys of the attributes that tell of the layout, as that of the sizes of segments, where they are kept: what stands under
+    // these changes as values are added and taken out, and what stands under any other key doesn't.
+    ghost layout_keys: { Self → List (List ℕ) };
 
     // The places of the operands that are forwarded to a successor.
     ghost forwards: { Self → Store D.Kind D.Attr D.Ty → ℕ → Places };
@@ -59,8 +60,8 @@ pub trait BranchOpInterface<D: OpSet>: IsTerminatorInterface<D> {
         ensures ordered { result.start ≤ result.end }
         ensures inside { result.end ≤ length (operands_of ctx.now (Self.pointer self.now)) };
 
-    /// Forwards one more value to a successor, from 0, behind those that it gets, which have to be fewer than 4294967295,
-    /// and answers its place among them. After a refusal all is as before.
+    /// Forwards one more value to a successor, from 0, behind those that it gets, and answers its place among them. Where
+    /// sizes of segments are kept, it has to get fewer than 4294967295. After a refusal all is as before.
     fn add_successor_operand(
         &self,
         ctx: &mut Context<D>,
@@ -70,10 +71,10 @@ pub trait BranchOpInterface<D: OpSet>: IsTerminatorInterface<D> {
         requires live { IsLive ctx.old (IRNode.Operation (Self.pointer self.now)) }
         requires layout { has_layout self.now ctx.old }
         requires below { succ < num_successors ctx.old (Self.pointer self.now) }
-        requires room { length (operands_within ctx.old (Self.pointer self.now) (forwards self.now ctx.old succ)) < 2 ^ 32 - 1 }
+        requires room { KeepsSizes (layout_keys self.now) → length (operands_within ctx.old (Self.pointer self.now) (forwards self.now ctx.old succ)) < 2 ^ 32 - 1 }
         requires operand_live { IsValueLive ctx.old operand }
         ensures index { IfOk result (λ i. i ≡ length (operands_within ctx.old (Self.pointer self.now) (forwards self.now ctx.old succ))) }
-        ensures ok { OnOk result (IsForwardedMore (tells_layout self.now) (forwards self.now) ctx.old ctx.new (Self.pointer self.now) succ operand) }
+        ensures ok { OnOk result (IsForwardedMore (layout_keys self.now) (forwards self.now) ctx.old ctx.new (Self.pointer self.now) succ operand) }
         ensures layout { OnOk result (has_layout self.now ctx.new) }
         ensures err { OnErr result (ctx.new ≡ ctx.old) }
         ensures whole { IsWhole D.attr_handles ctx.new };
@@ -85,7 +86,7 @@ pub trait BranchOpInterface<D: OpSet>: IsTerminatorInterface<D> {
         requires below { succ < num_successors ctx.old (Self.pointer self.now) }
         requires within { arg < length (operands_within ctx.old (Self.pointer self.now) (forwards self.now ctx.old succ)) }
         ensures value { slice_get (operands_within ctx.old (Self.pointer self.now) (forwards self.now ctx.old succ)) arg ≡ Some result }
-        ensures after { IsForwardedLess (tells_layout self.now) (forwards self.now) ctx.old ctx.new (Self.pointer self.now) succ arg }
+        ensures after { IsForwardedLess (layout_keys self.now) (forwards self.now) ctx.old ctx.new (Self.pointer self.now) succ arg }
         ensures layout { has_layout self.now ctx.new }
         ensures whole { IsWhole D.attr_handles ctx.new };
 

@@ -30,6 +30,18 @@ pub enum CallOpCallable {
     Indirect(Value),
 }
 
+impl CallOpCallable {
+    /// The same callable.
+    pub fn try_clone(&self, alloc: Global) -> Result<CallOpCallable, Memory>
+        ensures { IfOk result (λ c. c ≡ self.now) }
+    {
+        match self {
+            CallOpCallable::Direct(name) => Ok(CallOpCallable::Direct(name.try_clone(alloc)?)),
+            CallOpCallable::Indirect(value) => Ok(CallOpCallable::Indirect(*value)),
+        }
+    }
+}
+
 /// How the type of what is called is not one of functions.
 #[derive(Clone, Copy, PartialEq, Eq, Debug, Error)]
 pub enum CallOpInterfaceErr {

@@ -1,5 +1,9 @@
 //! Edges along which control passes between an operation and its regions.
+ghost use Rattle.std.specs.Prelude.{◌≡◌, ◌↔◌, IsTrue, IfOk};
+
 use plir_core::{Operation, Ptr, Region, Use, Value};
+use plir_data::Memory;
+use std::alloc::Global;
 use std::marker::Model;
 
 /// Where an edge starts.
@@ -48,4 +52,57 @@ impl Model for RegionEdge {
       flows = e.flows.items;
       reads = e.reads.items;
     } };
+}
+
+impl PartialEq for RegionEdge {
+    ghost use Rattle.std.specs.Cmp as Cmp;
+    ghost use Rattle.plir_flow.specs.EdgeEquality.{same_edge, edge-equiv};
+
+    ghost eq = { same_edge };
+
+    ghost laws = { Cmp.partial_equiv_from_equiv edge-equiv };
+
+    fn eq(&self, other: &Self) -> bool {
+        if self.from != other.from || self.to != other.to {
+            return false;
+        }
+        are_same_flows(self.flows.as_slice(), other.flows.as_slice())
+            && are_same_reads(self.reads.as_slice(), other.reads.as_slice())
+    }
+}
+
+impl Eq for RegionEdge {
+    ghost use Rattle.plir_flow.specs.EdgeEquality.{edge-equiv};
+
+    ghost laws = { edge-equiv };
+}
+
+// Whether the same flows, in the same order.
+fn are_same_flows(flows: &[(Use<Value>, Value)], others: &[(Use<Value>, Value)]) -> bool
+    ensures { IsTrue result ↔ (flows.now ≡ others.now) }
+{
+    flows == others
+}
+
+// Whether the same is read, in the same order.
+fn are_same_reads(reads: &[Use<Value>], others: &[Use<Value>]) -> bool
+    ensures { IsTrue result ↔ (reads.now ≡ others.now) }
+{
+    reads == others
+}
+
+impl RegionEdge {
+    /// An equal edge.
+    pub fn try_clone(&self, alloc: Global) -> Result<RegionEdge, Memory>
+        ensures { IfOk result (λ e. e ≡ self.now) }
+    {
+        let flows = Vec::from_slice(alloc, self.flows.as_slice())?;
+        let reads = Vec::from_slice(alloc, self.reads.as_slice())?;
+        Ok(RegionEdge {
+            from: self.from,
+            to: self.to,
+            flows,
+            reads,
+        })
+    }
 }

@@ -1,15 +1,16 @@
 //! Laws of segments and of region edges: each function that takes no context does nothing, and its contract is the law.
-ghost use Rattle.std.specs.Prelude.{◌≡◌, ◌≢◌, ◌<◌, ◌≤◌, ◌↔◌, ℕ, List, IsTrue, IfOk, length, map, sum};
+ghost use Rattle.std.specs.Prelude.{◌≡◌, ◌≢◌, ◌<◌, ◌≤◌, ◌↔◌, ◌+◌, ℕ, List, Some, IsTrue, IfOk, length, map, sum};
 ghost use Rattle.plir_core.specs.declared.ptr.IRNode.{IRNode};
 ghost use Rattle.plir_core.specs.declared.ptr.Operation.{Operation as OperationKind};
 ghost use Rattle.plir_core.specs.declared.ptr.Ptr.{Ptr as AnyPtr};
 ghost use Rattle.plir_core.specs.declared.value.Value.{Value as AnyValue};
-ghost use Rattle.plir_core.specs.Store.{Store, IsLive, operands_of};
-ghost use Rattle.plir_flow.specs.Branches.{operands_within};
-ghost use Rattle.plir_flow.specs.RegionEdges.{Reach};
+ghost use Rattle.plir_core.specs.Store.{Store, IsLive, operands_of, successors_of};
+ghost use Rattle.plir_flow.specs.Branches.{num_successors, operands_within};
+ghost use Rattle.plir_flow.specs.EdgeEquality.{same_edge};
+ghost use Rattle.plir_flow.specs.RegionEdges.{EdgeView, Reach};
 ghost use Rattle.plir_flow.specs.Segments.{in_segments, flatten, segment_at, edit_at, SegmentEdit, put_last, take_last, num_segments};
 ghost use Rattle.plir_flow.specs.Segments.{segment_size, segment_places, segments_of, IsSegmented};
-ghost use Rattle.plir_flow.specs.Segments.{CanBePopped, PopsWhatWasPushed};
+ghost use Rattle.plir_flow.specs.Segments.{CanBePopped, IsKeptBySegments, PopsWhatWasPushed};
 
 use crate::region_branches::RegionBranchOpInterface;
 use plir_core::{Context, Operation, Ptr, Region};
@@ -38,6 +39,13 @@ pub fn edits_of_one_segment()
     ensures others { (i j : ℕ) (f : SegmentEdit) (segs : List (List AnyValue)) → j ≢ i → segment_at (edit_at i f segs) j ≡ segment_at segs j }
 {}
 
+/// What depends on an operation's successors alone, as the number of segments that a switch expects, one for each successor
+/// and some more, doesn't depend on its segments. So an implementer of [`crate::OperandSegmentInterface`] may expect it.
+pub fn segments_keep_successors<D: OpSet>()
+    ensures successors { (op : AnyPtr OperationKind) → IsKeptBySegments (λ (s : Store D.Kind D.Attr D.Ty). successors_of s op) op }
+    ensures one_for_each { (n : ℕ) (op : AnyPtr OperationKind) → IsKeptBySegments (λ (s : Store D.Kind D.Attr D.Ty). Some (num_successors s op + n)) op }
+{}
+
 /// The operands in a segment stand in a row among all operands.
 pub fn segments_stand_in_a_row<D: OpSet>(ctx: &Context<D>, op: Ptr<Operation>)
     requires live { IsLive ctx.now (IRNode.Operation op) }
@@ -56,6 +64,11 @@ pub fn segments_stand_in_a_row<D: OpSet>(ctx: &Context<D>, op: Ptr<Operation>)
 pub fn push_then_pop<D: OpSet>()
     ensures filled { (s t : Store D.Kind D.Attr D.Ty) (op : AnyPtr OperationKind) → CanBePopped s t op }
     ensures back { (s t u : Store D.Kind D.Attr D.Ty) (op : AnyPtr OperationKind) → PopsWhatWasPushed s t u op }
+{}
+
+/// Edges are equal exactly if they are the same.
+pub fn equal_edges_are_the_same()
+    ensures { (d e : EdgeView) → IsTrue (same_edge d e) ↔ (d ≡ e) }
 {}
 
 /// A region is repetitive exactly if a path of one edge or more between regions leads from it back to it.

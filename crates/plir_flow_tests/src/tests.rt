@@ -12,3 +12,4 @@ mod grouped;
 mod grouping;
 mod looping;
 mod scripts;
+mod switch;

@@ -20,7 +20,8 @@ use Rattle.plir_walk.specs.Lawful.{Lawful, SameShape}
 use Rattle.plir_walk.proofs.Climbs.{climb-bottom, climb-split, climb-top, not-below-itself}
 use Rattle.plir_walk.proofs.NamedStores.{op-edit-is, block-edit-is}
 use Rattle.plir_walk.proofs.Nodes.{same_tells}
-use Rattle.plir_walk.proofs.Refilled.{SameSlots, edited-slots, refilled-given, refilled-kids, refilled-live, refilled-parents}
+use Rattle.plir_walk.specs.Unnamed.{SameSlots}
+use Rattle.plir_walk.proofs.Refilled.{edited-slots, refilled-given, refilled-kids, refilled-live, refilled-parents}
 
 -- nothing done is lawful
 pub lawful-none : (s : Shape) (n : IRNode) → Lawful s n s
@@ -190,7 +191,7 @@ lawful-placed s t u n x a ks w under made placed =
 -- an edit of what an operation or a block holds: a walk sees nothing of it
 module _ {K A T : Type 0} (s : Store K A T) where
   same_slots : {C : Type 0} (t : Table C) → SameSlots t t
-  same_slots t = record { versions = λ j. refl; full = λ j. refl }
+  same_slots t = record { number = refl; full = λ j. refl; versions = λ j. refl; free = refl }
 
   record SeesTheSame (t : Store K A T) : Type 0 where
     live : (m : IRNode) → is_live t m ≡ is_live s m

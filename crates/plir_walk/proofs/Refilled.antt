@@ -1,5 +1,5 @@
 -- Tables of which some contents have changed, and what a walk sees of their nodes.
-use Rattle.std.proofs.Common.{◌≡◌, ℕ, cond, ◌&&◌, nat_lt, nat_le, List, [], ◌∷◌, map, Option, Some, None, IsSome, is_some, inl, inr, refl, sym, ap, subst, ◌∙◌}
+use Rattle.std.proofs.Common.{◌≡◌, ℕ, cond, ◌&&◌, nat_lt, nat_le, List, [], ◌∷◌, map, Option, Some, None, IsSome, inl, inr, refl, sym, ap, subst, ◌∙◌, length-set}
 use Rattle.std.specs.Prelude.{option_map}
 use Rattle.plir_store.specs.Lists.{kids_at, parent_at}
 use Rattle.plir_store.specs.Table.{Table, content_at, version_at, is_live_at, with_content}
@@ -12,13 +12,9 @@ use Rattle.plir_store.specs.Members.{Has, Distinct}
 use Rattle.plir_core.specs.Contents.{OpView, BlockView}
 use Rattle.plir_core.specs.Nodes.{region_node}
 use Rattle.plir_core.specs.Store.{Store, is_live, given_out, kids, parent_of}
+use Rattle.plir_walk.specs.Unnamed.{SameSlots}
 use Rattle.plir_walk.proofs.NamedStores.{edit_in, edited}
 use Rattle.plir_walk.proofs.Slots.{content-here, content-other, version-kept, full-kept}
-
--- the same slots hold something, under the same versions
-pub record SameSlots {C : Type 0} (t u : Table C) : Type 0 where
-  pub versions : (j : ℕ) → version_at u j ≡ version_at t j
-  pub full : (j : ℕ) → is_some (content_at u j) ≡ is_some (content_at t j)
 
 module _ {C : Type 0} (t : Table C) (i : ℕ) (f : C → C) where
   some-content : (v : C) → content_at t i ≡ Some v → IsSome (content_at t i)
@@ -28,8 +24,13 @@ module _ {C : Type 0} (t : Table C) (i : ℕ) (f : C → C) where
   edited-slots = go (content_at t i) refl
     where
       go : (o : Option C) → content_at t i ≡ o → SameSlots t (edit_in t i f o)
-      go None e = record { versions = λ j. refl; full = λ j. refl }
-      go (Some v) e = record { versions = version-kept t i (f v) (some-content v e); full = full-kept t i (f v) (some-content v e) }
+      go None e = record { number = refl; full = λ j. refl; versions = λ j. refl; free = refl }
+      go (Some v) e = record {
+        number = length-set t.slots i (record { version = version_at t i; content = Some (f v) });
+        full = full-kept t i (f v) (some-content v e);
+        versions = version-kept t i (f v) (some-content v e);
+        free = refl;
+      }
 
   edited-here : content_at (edited t i f) i ≡ option_map f (content_at t i)
   edited-here = go (content_at t i) refl
@@ -53,11 +54,16 @@ refilled t f (i ∷ is) = refilled (edited t i f) f is
 module _ {C : Type 0} (f : C → C) where
   pub refilled-slots : (is : List ℕ) (t : Table C) → SameSlots t (refilled t f is)
   unfolding refilled
-  refilled-slots [] t = record { versions = λ j. refl; full = λ j. refl }
+  refilled-slots [] t = record { number = refl; full = λ j. refl; versions = λ j. refl; free = refl }
   refilled-slots (i ∷ is) t =
       let a = edited-slots t i f in
       let b = refilled-slots is (edited t i f) in
-      record { versions = λ j. b.versions j ∙ a.versions j; full = λ j. b.full j ∙ a.full j }
+      record {
+        number = b.number ∙ a.number;
+        full = λ j. b.full j ∙ a.full j;
+        versions = λ j. b.versions j ∙ a.versions j;
+        free = b.free ∙ a.free;
+      }
 
   pub refilled-apart : (is : List ℕ) (t : Table C) (j : ℕ) → (Has is j → ⊥) → content_at (refilled t f is) j ≡ content_at t j
   unfolding refilled

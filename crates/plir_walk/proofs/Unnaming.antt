@@ -23,14 +23,14 @@ use Rattle.plir_walk.specs.Calls.{Call, Relation, Chain, nodes_of}
 use Rattle.plir_walk.specs.ShutOut.{IsShutOut}
 use Rattle.plir_walk.specs.Walk.{IsWalkWithin}
 use Rattle.plir_walk.specs.Walked.{IsCallUnder, Walked, plain_answer}
-use Rattle.plir_walk.specs.Unnamed.{unnamed, op_unnamed, block_unnamed, without_names, IsUnnamed}
+use Rattle.plir_walk.specs.Unnamed.{unnamed, op_unnamed, block_unnamed, without_names, SameSlots, IsUnnamed}
 use Rattle.plir_walk.proofs.Slots.{live_parts, ptr_one}
 use Rattle.plir_walk.proofs.Groves.{and_then-some}
 use Rattle.plir_walk.proofs.Lawfulness.{lawful-same}
 use Rattle.plir_walk.proofs.NamedStores.{op-edit-is, block-edit-is, edited, edit-then}
 use Rattle.plir_walk.proofs.Orders.{total-order, Pairs-distinct, Chain-each}
 use Rattle.plir_walk.proofs.Picked.{picked, Has-picked, picked-Has, Distinct-picked, length-picked}
-use Rattle.plir_walk.proofs.Refilled.{SameSlots, refilled, refilled-slots, refilled-apart, refilled-here, refilled-live, refilled-given, refilled-kids, refilled-parents}
+use Rattle.plir_walk.proofs.Refilled.{refilled, refilled-slots, refilled-apart, refilled-here, refilled-live, refilled-given, refilled-kids, refilled-parents}
 
 -- the slot of an operation, and of a block
 abbrev op_slot : IRNode → Option ℕ
@@ -158,6 +158,9 @@ module _ {K A T : Type 0} (s : Store K A T) (w : IsForest (look s)) (r : IRNode)
     given = at_once-given s ns;
     limit = refl;
     types = refl;
+    op_slots = os s ns;
+    block_slots = bs s ns;
+    rest = refl;
   }
 
 -- What a walk leaves whose callback takes the names of each node.

@@ -1,5 +1,6 @@
 -- What is left where all names under a node are erased.
-use Rattle.std.specs.Prelude.{◌≡◌, ℕ, cond, List, None, option_map}
+use Rattle.std.specs.Prelude.{◌≡◌, ℕ, cond, List, length, None, is_some, option_map}
+use Rattle.plir_store.specs.Table.{Table, content_at, version_at}
 use Rattle.plir_data.specs.AttrView.{AttrView}
 use Rattle.plir_data.specs.Dictionary.{dict_without}
 use Rattle.plir_core.specs.declared.ptr.Ptr.{Ptr}
@@ -25,7 +26,19 @@ op_unnamed o = record o { attributes = unnamed o.attributes }
 abbrev pub block_unnamed : {A : Type 0} → BlockView A → BlockView A
 block_unnamed b = record b { label = None; attributes = unnamed b.attributes }
 
+-- From t to u there are as many slots, the same of them hold something, each has the version that it had, and the same are free,
+-- in the same order: so the next nodes get the slots that they would have got.
+pub record SameSlots {C : Type 0} (t u : Table C) : Type 0 where
+  pub number : length u.slots ≡ length t.slots
+  pub full : (j : ℕ) → is_some (content_at u j) ≡ is_some (content_at t j)
+  pub versions : (j : ℕ) → version_at u j ≡ version_at t j
+  pub free : u.free ≡ t.free
+
 module _ {K A T : Type 0} where
+  -- the store s with what operations and blocks hold in t
+  abbrev pub with_contents_of : Store K A T → Store K A T → Store K A T
+  with_contents_of t s = record s { nodes = record s.nodes { ops = t.nodes.ops; blocks = t.nodes.blocks } }
+
   -- one node without its names
   abbrev pub without_names : Store K A T → IRNode → Store K A T
   without_names s (Operation p) = with_op_edit s p op_unnamed
@@ -48,3 +61,7 @@ module _ {K A T : Type 0} where
     pub given : (n : IRNode) → given_out t n ≡ given_out s n
     pub limit : limit t ≡ limit s
     pub types : t.types ≡ s.types
+    -- and so do the slots, the free ones too; regions, lists of kids and all else are the same
+    pub op_slots : SameSlots s.nodes.ops t.nodes.ops
+    pub block_slots : SameSlots s.nodes.blocks t.nodes.blocks
+    pub rest : t ≡ with_contents_of t s

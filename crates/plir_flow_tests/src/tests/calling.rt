@@ -28,7 +28,8 @@ pub fn ask_call<D: OpSet, C: CallOpInterface<D> + Drop>(
             if op.verify_call_layout(alloc, ctx).is_err() {
                 return Err(Stop::Refused);
             }
-            match op.callee(alloc, ctx)? {
+            let callee = op.callee(alloc, ctx)?;
+            match callee.try_clone(alloc)? {
                 CallOpCallable::Direct(name) => answer.put(name.as_str()),
                 CallOpCallable::Indirect(value) => made.put_value(answer, value),
             }

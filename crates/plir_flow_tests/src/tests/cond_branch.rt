@@ -35,12 +35,11 @@ impl OperandSegmentInterface<SampleSet> for CondBranch {
         Some(3)
     }
 
-    ghost expected_kept = { λ o s segs. refl };
+    ghost expected_kept = { λ o s t segs live edited. refl };
 }
 
 impl BranchOpInterface<SampleSet> for CondBranch {
-    ghost use Rattle.std.specs.Prelude.{Some, ◌+◌};
-    ghost use Rattle.plir_data.specs.Dictionary.{is_key};
+    ghost use Rattle.std.specs.Prelude.{Some, [], ◌∷◌, ◌+◌};
     ghost use Rattle.plir_flow.specs.Segments.{HasSegments, segment_places, sizes_key};
     ghost use Rattle.plir_flow.specs.Branches.{HasNSuccs};
 
@@ -48,7 +47,7 @@ impl BranchOpInterface<SampleSet> for CondBranch {
 
     ghost refuses_layout = { λ _ _ _. Unit {0} };
 
-    ghost tells_layout = { λ _ k. is_key k sizes_key };
+    ghost layout_keys = { λ _. sizes_key ∷ [] };
 
     ghost forwards = { λ o s i. segment_places s o.op (i + 1) };
 

@@ -1,7 +1,7 @@
 //! The scripts of region edges, with their answers.
 use super::edge_reading::{edges_of, region_of};
 use super::edged::Edged;
-use super::edging::{ask_edges, verify_loop};
+use super::edging::{ask_edges, put_same, verify_loop};
 use super::looping::Loop;
 use plir_scripts::{Bench, Layer, Line, Mismatch, NodeCalls, SampleSet, Stop, play, split_word};
 use std::fmt::Write;
@@ -21,6 +21,9 @@ impl Layer<SampleSet> for EdgeCalls {
         let op = made.op(ctx, line.first)?;
         let (_, written) = line.text.split_once(" | ").ok_or(Stop::Refused)?;
         let edges = edges_of(alloc, ctx, made, written)?;
+        if line.second == "same" {
+            return put_same(alloc, answer, &edges);
+        }
         let any = Edged { op, edges: &edges };
         ask_edges(alloc, ctx, made, answer, &any, line)
     }
@@ -81,6 +84,24 @@ fn edges_are_listed_and_followed_where_memory_is_refused(rt: HostRuntime) -> Res
     play::<SampleSet, EdgeCalls>(rt.alloc(), 100, script)
 }
 
+// An edge is equal to its copy, and to no edge with another end, or with other operands that flow or are read.
+#[test]
+fn edges_are_copied_and_compared_where_memory_is_refused(rt: HostRuntime) -> Result<(), Mismatch> {
+    let script = "
+        type builtin.unit => t0
+        op plain 2 t0 => o0
+        block - t0 t0 => b0
+        back b0 r0
+        op yield 0 < b0.0 b0.1 => o1
+        back o1 b0
+        edges o0 same | o1 r0 o1/0>b0.0,o1/1>b0.1 o1/0,o1/1; o1 r0 o1/0>b0.0,o1/1>b0.1 o1/0,o1/1 => yes yes
+        edges o0 same | parent r0 - -; o1 r0 - -; parent r1 - -; parent after - -; parent r0 - - => yes no no no yes
+        edges o0 same | o1 after o1/0>b0.0 -; o1 after o1/1>b0.0 -; o1 after o1/0>b0.1 -; o1 after o1/0>o0.0 -; o1 after - - => yes no no no no
+        edges o0 same | o1 r0 - o1/0,o1/1; o1 r0 - o1/1,o1/0; o1 r0 - o1/0; o1 r0 - - => yes no no no
+        edges o0 same | o1 r0 o1/0>b0.0,o1/1>b0.1 -; o1 r0 o1/1>b0.1,o1/0>b0.0 - => yes no";
+    play::<SampleSet, EdgeCalls>(rt.alloc(), 200, script)
+}
+
 #[test]
 fn edges_are_refused_where_memory_is_refused(rt: HostRuntime) -> Result<(), Mismatch> {
     let script = "
@@ -119,6 +140,66 @@ fn edges_are_refused_where_memory_is_refused(rt: HostRuntime) -> Result<(), Mism
         edges o1 verify | o6 after - - => not marked
         edges o1 reachable r0 | o6 after - - => refused
         edges o1 verify | parent r0 o1/1>b0.0 - => not marked";
+    play::<SampleSet, EdgeCalls>(rt.alloc(), 200, script)
+}
+
+// Of several points that edges break, the first edge's is told, and of its points the first.
+#[test]
+fn the_first_point_that_edges_break_is_told(rt: HostRuntime) -> Result<(), Mismatch> {
+    let script = "
+        type builtin.integer si64 => t0
+        type builtin.integer si32 => t1
+        op plain 0 t0 t1 => o0
+        op plain 3 t0 < o0.0 o0.1 => o1
+        block - t0 => b0
+        back b0 r0
+        block - t1 => b1
+        back b1 r1
+        op yield 0 < b0.0 => o2
+        back o2 b0
+        op plain 0 < b1.0 => o3
+        back o3 b1
+        op plain 1 => o4
+        edges o1 verify | parent r0 o1/0>b0.0 -; o3 r0 - - => region_edges must pass operands to the same receivers on all edges into a successor
+        edges o1 verify | o3 r0 - o2/0 => region_edges must only start at terminators in the regions of the op itself
+        edges o1 verify | parent r3 - o2/0 => region_edges must only list operands of the op itself, or of the operation at the edge's source, as reads
+        edges o1 verify | parent r3 o2/0>b0.0 - => region_edges must only target regions of the op itself
+        edges o1 verify | parent r0 o2/0>b1.0 - => region_edges must only use operands of the operation at the edge's source as flow operands
+        edges o1 verify | parent r0 o1/1>b1.0 - => region_edges must only use entry block arguments of the target region as receivers
+        edges o1 verify | parent r0 o1/0>b0.0,o1/1>b0.0 - => region_edges must not pass two operands of an edge to the same receiver
+        edges o1 verify | parent r0 o1/1>b0.0,o2/0>b1.0 - => region_edges must pass operands to receivers of the same type, but builtin.integer si32 flows into builtin.integer si64
+        edges o1 verify | parent r0 o2/0>b0.0 -; o3 r1 - - => region_edges must only use operands of the operation at the edge's source as flow operands
+        edges o1 verify | o3 r1 - -; parent r0 o2/0>b0.0 - => region_edges must only start at terminators in the regions of the op itself";
+    play::<SampleSet, EdgeCalls>(rt.alloc(), 200, script)
+}
+
+// What an edge out of the operation passes goes to its own results, and what an edge into a region passes to arguments of its
+// entry block, of which an empty region has none. Receivers are one set, in whatever order they come.
+#[test]
+fn receivers_are_those_of_the_successor(rt: HostRuntime) -> Result<(), Mismatch> {
+    let script = "
+        type builtin.integer si64 => t0
+        op plain 0 t0 => o0
+        op plain 3 t0 < o0.0 o0.0 => o1
+        block - t0 t0 => b0
+        back b0 r0
+        block - t0 => b1
+        back b1 r1
+        op yield 0 < b0.0 b0.1 => o2
+        back o2 b0
+        op yield 0 < b1.0 => o3
+        back o3 b1
+        edges o1 verify | o2 after o2/0>o0.0 - => region_edges must only use results of the target op as receivers
+        edges o1 verify | o2 after o2/0>o1.0 - => ok
+        edges o1 verify | parent r2 o1/0>b0.0 - => region_edges must only use entry block arguments of the target region as receivers
+        edges o1 verify | parent r2 - o1/0 => ok
+        edges o1 verify | parent r0 o1/0>b0.0,o1/1>b0.1 -; o2 r0 o2/0>b0.1,o2/1>b0.0 - => ok
+        edges o1 verify | parent r0 o1/0>b0.0,o1/1>b0.1 -; o2 r0 o2/0>b0.1 - => region_edges must pass operands to the same receivers on all edges into a successor
+        edges o1 verify | parent r0 o1/0>b0.1 -; o2 r1 o2/0>b1.0 -; o3 r1 o3/0>b1.0 - => ok
+        edges o1 reachable r0 | parent r0 o1/0>b0.1 -; o2 r1 o2/0>b1.0 -; o3 r1 o3/0>b1.0 - => r1
+        edges o1 repetitive r0 | parent r0 o1/0>b0.1 -; o2 r1 o2/0>b1.0 -; o3 r1 o3/0>b1.0 - => no
+        edges o1 repetitive r1 | parent r0 o1/0>b0.1 -; o2 r1 o2/0>b1.0 -; o3 r1 o3/0>b1.0 - => yes
+        edges o1 verify | parent r0 o1/0>b0.1 -; o2 r1 o2/0>b1.0 -; o3 r1 - - => region_edges must pass operands to the same receivers on all edges into a successor";
     play::<SampleSet, EdgeCalls>(rt.alloc(), 200, script)
 }
 

@@ -103,27 +103,13 @@ fn are_edges_live(ctx: &Context<SampleSet>, edges: &[RegionEdge]) -> bool
     edges.iter().all(|edge| is_edge_live(ctx, edge))
 }
 
-// An edge like this one.
-fn copy_edge(alloc: Global, edge: &RegionEdge) -> Result<RegionEdge, Memory>
-    ensures { IfOk result (λ e. e ≡ edge.now) }
-{
-    let flows = Vec::from_slice(alloc, edge.flows.as_slice())?;
-    let reads = Vec::from_slice(alloc, edge.reads.as_slice())?;
-    Ok(RegionEdge {
-        from: edge.from,
-        to: edge.to,
-        flows,
-        reads,
-    })
-}
-
 // Edges like these.
 fn copy_edges(alloc: Global, edges: &[RegionEdge]) -> Result<Vec<RegionEdge>, Memory>
     ensures { IfOk result (λ es. es.items ≡ edges.now) }
 {
     let mut copies = Vec::new(alloc);
     for edge in edges {
-        copies.push(copy_edge(alloc, edge)?)?;
+        copies.push(edge.try_clone(alloc)?)?;
     }
     Ok(copies)
 }

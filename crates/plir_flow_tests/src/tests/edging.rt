@@ -53,6 +53,18 @@ fn put_edges(made: &Made, answer: &mut Answer, edges: &[RegionEdge]) {
     }
 }
 
+/// `edges OP same` writes for each edge whether a copy of it is equal to the first.
+pub fn put_same(alloc: Global, answer: &mut Answer, edges: &[RegionEdge]) -> Result<(), Stop> {
+    let Some(first) = edges.first() else {
+        return Err(Stop::Refused);
+    };
+    for edge in edges {
+        let copy = edge.try_clone(alloc)?;
+        answer.put(if copy == *first { " yes" } else { " no" });
+    }
+    Ok(())
+}
+
 /// The questions about region edges: `verify`, and those about a region, what flows, or one end of edges.
 pub fn ask_edges<D: OpSet, O: RegionBranchOpInterface<D>>(
     alloc: Global,

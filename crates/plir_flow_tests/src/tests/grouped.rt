@@ -29,7 +29,7 @@ impl OperandSegmentInterface<SampleSet> for Grouped {
         self.expected
     }
 
-    ghost expected_kept = { λ o s segs. refl };
+    ghost expected_kept = { λ o s t segs live edited. refl };
 }
 
 impl SegmentNOfType<SampleSet, 2, UnitType> for Grouped {}

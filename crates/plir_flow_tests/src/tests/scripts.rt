@@ -11,6 +11,7 @@ use super::grouped::Grouped;
 use super::grouping::{
     ask_all, ask_segment, ask_size, expected_of, flatten, set_sizes, verify, verify_types,
 };
+use super::switch::{Switch, call_switch};
 use plir_data::OpSet;
 use plir_flow::{BranchOpInterface, OperandSegmentInterface, laws};
 use plir_scripts::{Bench, Layer, Line, Mismatch, NodeCalls, SampleSet, Stop, number, play};
@@ -110,6 +111,22 @@ fn call_forwarded<D: OpSet, B: BranchOpInterface<D>>(
         "drop" => take_out(alloc, ctx, made, answer, op, line),
         "reset" => reset(alloc, ctx, made, op, line),
         _ => ask_forwarded(alloc, ctx, made, answer, op, number(line.second)?),
+    }
+}
+
+/// The calls on switches, and those on segments.
+struct SwitchCalls;
+
+impl Layer<SampleSet> for SwitchCalls {
+    fn run(bench: &mut Bench<SampleSet>, line: Line<'_>) -> Result<(), Stop> {
+        if !matches!(
+            line.command,
+            "switch" | "forwarded" | "add" | "drop" | "reset"
+        ) {
+            return SegmentCalls::run(bench, line);
+        }
+        let op = bench.made.op(&bench.ctx, line.first)?;
+        call_switch(bench, &Switch { op }, line)
     }
 }
 
@@ -326,6 +343,30 @@ fn branches_are_accepted_and_refused_where_memory_is_refused(
 }
 
 #[test]
+fn successors_are_counted_and_answered_while_all_memory_is_refused(
+    rt: HostRuntime,
+) -> Result<(), Mismatch> {
+    let script = "
+        block - => b0
+        block - => b1
+        op yield 0 > b0 b1 => o0
+        op yield 0 > b1 => o1
+        op yield 0 => o2
+        refuse
+        branch o0 NSuccs<2> => ok
+        successor o0 => b1
+        branch o0 OneSucc => Expected 1 successor(s), but found 2
+        branch o1 OneSucc => ok
+        successor o1 => b1
+        branch o1 NSuccs<2> => Expected 2 successor(s), but found 1
+        branch o2 NSuccs<2> => Expected 2 successor(s), but found 0
+        branch o2 OneSucc => Expected 1 successor(s), but found 0
+        successor o2 => refused
+        grant";
+    play::<SampleSet, BranchCalls>(rt.alloc(), 100, script)
+}
+
+#[test]
 fn values_are_forwarded_where_memory_is_refused(rt: HostRuntime) -> Result<(), Mismatch> {
     let script = "
         type builtin.unit => t0
@@ -356,6 +397,43 @@ fn values_are_forwarded_where_memory_is_refused(rt: HostRuntime) -> Result<(), M
         add o2 1 o0.3 => 0
         held o2 => o0.3 / 0 0 1";
     play::<SampleSet, BranchCalls>(rt.alloc(), 100, script)
+}
+
+// A switch has one segment more than successors, however many these are.
+#[test]
+fn a_switch_forwards_to_each_successor_where_memory_is_refused(
+    rt: HostRuntime,
+) -> Result<(), Mismatch> {
+    let script = "
+        type builtin.unit => t0
+        op plain 0 t0 t0 t0 t0 => o0
+        block - t0 => b0
+        block - => b1
+        op yield 0 < o0.0 o0.1 > b0 b1 b1 => o1
+        set o1 mark builtin.string \"kept\"
+        switch o1 => not marked
+        sizes o1 1 1 0
+        switch o1 => not marked
+        sizes o1 1 1 0 0
+        switch o1 => ok
+        forwarded o1 0 => 1 to 2: o0.1
+        forwarded o1 2 => 2 to 2:
+        forwarded o1 3 => refused
+        add o1 2 o0.2 => 0
+        held o1 => o0.0 o0.1 o0.2 / 1 1 0 1
+        switch o1 => Branch Op is passing 1 arguments, but target block expects 0
+        get o1 mark => builtin.string \"kept\"
+        drop o1 2 0 => o0.2
+        drop o1 2 0 => refused
+        reset o1 0 0 o0.3
+        held o1 => o0.0 o0.3 / 1 1 0 0
+        switch o1 => ok
+        op yield 0 < o0.0 => o2
+        sizes o2 1
+        switch o2 => ok
+        sizes o2 0 1
+        switch o2 => not marked";
+    play::<SampleSet, SwitchCalls>(rt.alloc(), 100, script)
 }
 
 #[test]
