@@ -6,12 +6,14 @@ mod edges;
 mod header_attrs;
 mod headers;
 mod kids;
+pub mod laws;
 mod layout;
 mod names;
 mod ops;
 mod printable;
 mod values;
 
+pub use dictionaries::is_shown;
 pub use edges::print_edge;
 pub use header_attrs::has_header;
 pub use ops::print_op;
