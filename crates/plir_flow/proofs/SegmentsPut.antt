@@ -14,7 +14,8 @@ use Rattle.plir_core.specs.Contents.{OpView}
 use Rattle.plir_core.specs.Store.{Store, IsLive, is_live, op_at, kind_in, results_in, successors_in, location_in, operands_in, operands_of, attributes_in, attributes_of}
 use Rattle.plir_core.specs.Changes.{with_op_edit}
 use Rattle.plir_core.specs.Held.{IsOpEdited}
-use Rattle.plir_flow.specs.Segments.{in_segments, flatten, segment_at, edit_at, start_in, sizes_in, sizes_key, sizes_attr, with_sizes, sizes_under, sizes_of, segments_of, segment_size, num_segments, in_op, with_segments, IsCount, IsSegmented, HasSegments, IsResegmented}
+use Rattle.plir_flow.specs.Segments.{in_segments, flatten, segment_at, edit_at, start_in, sizes_in, sizes_key, sizes_attr, with_sizes, sizes_under, sizes_of, segments_of, segment_size}
+use Rattle.plir_flow.specs.Segments.{num_segments, in_op, with_segments, IsCount, IsSegmented, HasSegments, IsKeptBySegments, IsResegmented}
 use Rattle.plir_flow.proofs.SegmentLists.{sum-cons, flatten-in, sizes-in, in-flatten, size-at, sizes-edit, count-edit, count-in, value-at, segment-range, flatten-insert, flatten-remove}
 use Rattle.plir_data.specs.DictLaws.{get-put, get-other}
 use Rattle.plir_flow.proofs.SizesPut.{Join, Same}
@@ -151,3 +152,10 @@ module _ {K A T : Type 0} (s t : Store K A T) (op : Ptr OperationKind) (expected
         segmented = r.segmented;
         count = subst (λ x. IsCount x (num_segments t op)) (sym same) (subst (IsCount (expected s)) (sym count) rule.count);
       }
+
+-- The same, over an operation that is named otherwise.
+module _ {K A T : Type 0} (s : Store K A T) (op : Ptr OperationKind) (expected : Store K A T → Option ℕ) (kept : IsKeptBySegments expected op) where
+  pub rule-after : IsLive s (Operation op) → HasSegments (expected s) s op → (i : ℕ) (f : List Value → List Value) (t : Store K A T) (o : Ptr OperationKind) → o ≡ op
+      → IsResegmented s t o (edit_at i f (segments_of s o)) → HasSegments (expected t) t op
+  rule-after live rule i f t o e r =
+      rule-kept s t op expected (λ segs edited. kept s t segs live edited) rule i f (subst (λ z. IsResegmented s t z (edit_at i f (segments_of s z))) e r)
