@@ -114,3 +114,17 @@ fn a_walk_of_a_table_breaks_at_a_nested_table(rt: HostRuntime) -> Result<(), Mis
         hand o0 o4 => o1 o2 o4 break";
     play_in(rt.alloc(), 100, script)
 }
+
+// The edits of a list stand apart from each other, so that the order in which they are made changes no answer.
+#[test]
+fn lists_of_edits_where_memory_is_refused(rt: HostRuntime) -> Result<(), Mismatch> {
+    let script = "
+        module m => o0
+        func f => o1
+        func g => o2
+        func f => o3
+        module n => o4
+        session list insert o0 o1, insert o0 o2, insert o0 o4; list insert o0 o3, insert o4 o3; lookup o0 f; lookup o4 f; list remove o0 o1, erase o0 o2; lookup o0 f; lookup o0 g; lookup o0 n => done; done; done;; Symbol redefined: f; done;; o1; o3; done; done;; -; -; o4;
+        live o2 => no";
+    play_in(rt.alloc(), 100, script)
+}
