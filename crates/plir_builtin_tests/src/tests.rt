@@ -1,5 +1,6 @@
 //! Symbol tables and builtin operations, as scripts.
 mod around;
+mod edit_scripts;
 mod link_set;
 mod many;
 mod one_collection;

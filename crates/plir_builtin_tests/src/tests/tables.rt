@@ -90,8 +90,8 @@ pub fn make_edits<D: OpSet>(
     Ok(tables.apply_all(ctx, edits)?)
 }
 
-// The edit that some words say: `insert OP OP`, with `before OP` behind it or not, `remove OP OP` or `erase OP OP`.
-fn edit_of(made: &Made, words: &str) -> Result<SymbolEdit, Stop> {
+/// The edit that some words say: `insert OP OP`, with `before OP` behind it or not, `remove OP OP` or `erase OP OP`.
+pub fn edit_of(made: &Made, words: &str) -> Result<SymbolEdit, Stop> {
     let (command, rest) = split_word(words);
     let (first, rest) = split_word(rest);
     let (second, point) = split_word(rest);
@@ -116,7 +116,8 @@ fn op_of(made: &Made, name: &str) -> Result<Ptr<Operation>, Stop> {
     }
 }
 
-fn point_of(made: &Made, words: &str) -> Result<Option<OpInsertionPoint>, Stop> {
+/// The insertion point that some words say: none, `unset` or `before OP`.
+pub fn point_of(made: &Made, words: &str) -> Result<Option<OpInsertionPoint>, Stop> {
     match split_word(words) {
         ("", _) => Ok(None),
         ("unset", _) => Ok(Some(OpInsertionPoint::Unset)),
@@ -125,7 +126,8 @@ fn point_of(made: &Made, words: &str) -> Result<Option<OpInsertionPoint>, Stop> 
     }
 }
 
-fn put_reply(answer: &mut Answer, reply: &Result<(), SymbolEditErr>) -> Result<(), Stop> {
+/// Writes what an edit was answered.
+pub fn put_reply(answer: &mut Answer, reply: &Result<(), SymbolEditErr>) -> Result<(), Stop> {
     match reply {
         Ok(()) => answer.put(" done;"),
         Err(SymbolEditErr::Table(SymbolTableErr::Memory)) => return Err(Stop::Memory),
