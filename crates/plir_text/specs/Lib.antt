@@ -8,6 +8,7 @@
 --   Meaning, MeantBy             StandsFor: the attribute that a text stands for; what a reader holds is meant by what is written
 --   Steps, Lists, Wholes         reading step by step, of lists, of whole texts
 --   TypeReading, AttrReading     type_at, attr_at: types and attributes as they are read, with the first fault that is met
+--   Levels                       level_at: where a level begins
 --   TypesIn                      which types are written in a text
 --   Reading                      Reads, Gives: what a reader answers, by what is read
 --   Written, AttrText            attr_text: the text of an attribute
@@ -25,6 +26,7 @@ pub mod TypeGrammar
 pub mod Names
 pub mod Lists
 pub mod TypeReading
+pub mod Levels
 pub mod Wholes
 pub mod Reading
 pub mod AttrGrammar
