@@ -49,6 +49,7 @@ pub mod TextLaws
 --   ListsFound, TypesFound, LeavesFound, AttrsFound   what is read stands there
 --   ListsAgain, TypesAgain, LeavesAgain, AttrsAgain   what stands there is read
 --   Fronts, TypeSteps, AttrSteps   reading step by step, as loops and readers do
+--   PartsFound   the types that are written in a text are held by what the text stands for
 --   Growth, Meanings   what is named and meant in tables that grow
 --   Handles, SameNames, SameMeanings   what one text names and means is one handle, one attribute
 --   Printed, Runs, QuotedAgain, TypesShown, AttrsShown   printed names, numbers, strings, types and attributes are tokens that stand for them
@@ -77,3 +78,4 @@ pub mod Runs
 pub mod QuotedAgain
 pub mod TypesShown
 pub mod AttrsShown
+pub mod PartsFound
