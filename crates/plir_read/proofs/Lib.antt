@@ -8,6 +8,7 @@ pub mod EntriesLive
 pub mod HeadsGrown
 pub mod Ends
 pub mod TypesNamed
+pub mod Held
 pub mod Dictionaries
 pub mod StartFound
 pub mod OpFound

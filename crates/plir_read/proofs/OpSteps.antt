@@ -112,6 +112,12 @@ pub constant_is : (n : ℕ) (bytes rest colon end : List ℕ) (a : AttrTerm) (t 
 unfolding constant_at
 constant_is n bytes rest colon end a t p q r = rw (p, q, r) refl
 
+-- behind as many names as there are results
+pub named_constant_is : (n names : ℕ) (bytes : List ℕ) (c : (AttrTerm × TypeTerm) × List ℕ)
+    → named_constant_at n names bytes ≡ Ok c → constant_at n bytes ≡ Ok c
+unfolding named_constant_at
+named_constant_is n names bytes c e = let u = bind_ok (named 1 names) (λ u. constant_at n bytes) c e in u.2
+
 -- ---- an operation
 
 pub op_at-behind : (n : ℕ) (bytes rest : List ℕ) (ws : List (List ℕ)) (k : HeadKind) → 0 < n → start_at bytes ≡ Ok ((ws, k), rest) → op_at n bytes ≡ behind_id (op_at (n - 1)) (n - 1) ws k rest
@@ -142,6 +148,14 @@ pub bodied_behind : (n : ℕ) (bytes rest : List ℕ) (ws : List (List ℕ)) (na
 bodied_behind n bytes rest ws names k b lt e is given =
     op_at-behind n bytes rest ws k lt e ∙ ap (λ (z : HeadKind). behind_id (op_at (n - 1)) (n - 1) ws z rest) is ∙ ap (λ m. bodied_at (op_at (n - 1)) (n - 1) b m rest) (as_many ws names given)
 
+-- and a constant
+pub constant_at_id : (n : ℕ) (bytes rest : List ℕ) (ws : List (List ℕ)) (names : List (Option (List ℕ)))
+    (k : HeadKind) → 0 < n → start_at bytes ≡ Ok ((ws, k), rest) → k ≡ Constant → names ≡ result_names ws
+    → op_at n bytes ≡ (named_constant_at (n - 1) (length names) rest >>= λ c. done (constant_term (first_name ws) c.0.0 c.0.1, c.1))
+constant_at_id n bytes rest ws names k lt e is given =
+    op_at-behind n bytes rest ws k lt e ∙ ap (λ (z : HeadKind). behind_id (op_at (n - 1)) (n - 1) ws z rest) is
+    ∙ ap (λ m. named_constant_at (n - 1) m rest >>= λ c. done (constant_term (first_name ws) c.0.0 c.0.1, c.1)) (as_many ws names given)
+
 pub ReadsOn-from : {X Y : Type 0} (means : X → Y → Type 0) (r : Result X Stop) (read total : Result Y Fault) → total ≡ read → ReadsOn means r read → ReadsOn means r total
 ReadsOn-from means (Ok x) read total e h = (h.0, e ∙ h.1, h.2)
 ReadsOn-from means (Err stop) read total e h = Stops-from stop read total (sym e) h
@@ -152,9 +166,7 @@ module _ {K A T X : Type 0} (s : Store K A T) (node : X → IRNode) (after : X �
   as_constant c = (constant_term (first_name ws) c.0.0 c.0.1, c.1)
 
   constant_behind : (k : HeadKind) → 0 < n → start_at bytes ≡ Ok ((ws, k), rest) → k ≡ Constant → op_at n bytes ≡ (named_constant_at (n - 1) (length names) rest >>= λ c. done (as_constant c))
-  constant_behind k lt e is =
-      op_at-behind n bytes rest ws k lt e ∙ ap (λ (z : HeadKind). behind_id (op_at (n - 1)) (n - 1) ws z rest) is
-      ∙ ap (λ m. named_constant_at (n - 1) m rest >>= λ c. done (as_constant c)) (as_many ws names given)
+  constant_behind k lt e is = constant_at_id n bytes rest ws names k lt e is given
 
   one_name_given : (c : (AttrTerm × TypeTerm) × List ℕ) → named_constant_at (n - 1) (length names) rest ≡ Ok c → names ≡ result_names (first_name ws ∷ [])
   unfolding named_constant_at

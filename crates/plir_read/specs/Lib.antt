@@ -11,6 +11,7 @@
 --   Slots        IsMadeInOrder: a tree's nodes come in the order of a text, each in the next slot of its kind
 --   Stopping     ReadsOn: reading into a context; IsOfText: faults of a text
 --   TextTypes    IsInText: the types that are written in the text of an operation
+--   HeldTypes    IsHeldByOp: the types that an operation holds
 pub mod Keys
 pub mod Suffixes
 pub mod OpTerms
@@ -22,3 +23,4 @@ pub mod OpsStanding
 pub mod Keeping
 pub mod Slots
 pub mod TextTypes
+pub mod HeldTypes

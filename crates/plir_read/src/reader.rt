@@ -1,11 +1,12 @@
 //! The reader of texts of operations.
-ghost use Rattle.std.specs.Prelude.{◌≡◌, Err, IfOk, IfErr};
+ghost use Rattle.std.specs.Prelude.{◌≡◌, Ok, Err, IfOk, IfErr};
 ghost use Rattle.plir_core.specs.Made.{IsMade};
 ghost use Rattle.plir_core.specs.Whole.{IsWhole};
 ghost use Rattle.plir_core.specs.declared.ptr.IRNode.{IRNode};
 ghost use Rattle.plir_text.specs.Names.{AreNamed};
 ghost use Rattle.plir_text.specs.TypeGrammar.{IsText};
 ghost use Rattle.plir_text.specs.Wholes.{whole};
+ghost use Rattle.plir_read.specs.HeldTypes.{IsHeldByOp};
 ghost use Rattle.plir_read.specs.Keeping.{KeepsOlder};
 ghost use Rattle.plir_read.specs.OpGrammar.{OpWithin};
 ghost use Rattle.plir_read.specs.OpReading.{op_at};
@@ -35,6 +36,7 @@ fn whole_op<D: OpSet>(
     ensures slots { IfOk result (λ p. IsMadeInOrder ctx.old.nodes ctx.new.nodes (IRNode.Operation p)) }
     ensures kept { KeepsOlder ctx.old ctx.new }
     ensures named { AreNamed (IsInText bytes.now) ctx.old.types ctx.new.types }
+    ensures held { IfOk result (λ p. (w : OpTerm) → whole (op_at 200) bytes.now ≡ Ok w → AreNamed (λ t. IsHeldByOp t w) ctx.old.types ctx.new.types) }
     ensures whole { IsWhole D.attr_handles ctx.new }
 {
     let (op, rest) = match read_op_at(alloc, ctx, MAX_LEVELS, bytes) {
@@ -48,7 +50,8 @@ fn whole_op<D: OpSet>(
 /// The operation that a text stands for, made anew with all below it: a constant, a module or a function. Nodes are made
 /// in the order of their first characters in the text, each in the next slot of its kind. The name and the type in a
 /// header win over those in its dictionary. A refused text may leave new nodes that stand nowhere, and types; what was
-/// there before is as it was. Types that are new are written in the text, also where it is refused.
+/// there before is as it was. Types that are new are held by the operation that was read; where the text is refused,
+/// they are written in it.
 ///
 /// A fault stands at the text's end where the text ends within a token or before one, and at the first character of a
 /// token that can't stand there; the first character of a level that is one too many comes before any fault inside it.
@@ -66,6 +69,7 @@ pub fn read_op<D: OpSet>(
     ensures refused { IfErr result (λ e. IsOfText e.fault → (w : OpTerm) → IsText (OpWithin 200) text.now w → ⊥) }
     ensures kept { KeepsOlder ctx.old ctx.new }
     ensures named { AreNamed (IsInText text.now) ctx.old.types ctx.new.types }
+    ensures held { IfOk result (λ p. (w : OpTerm) → IsText (OpWithin 200) text.now w → AreNamed (λ t. IsHeldByOp t w) ctx.old.types ctx.new.types) }
     ensures whole { IsWhole D.attr_handles ctx.new }
 {
     let bytes = text.as_bytes();

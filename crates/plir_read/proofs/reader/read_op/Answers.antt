@@ -3,6 +3,9 @@ use Rattle.plir_text.specs.Wholes.{whole}
 use Rattle.plir_read.specs.OpReading.{op_at}
 use Rattle.plir_read.proofs.OpWhole.{told, op_text_found, op_text_refused}
 use Rattle.plir_read.proofs.TypesNamed.{behind_named}
+use Rattle.plir_text.specs.ListsAgain.{whole_again}
+use Rattle.plir_read.specs.OpGrammar.{OpWithin}
+use Rattle.plir_read.proofs.OpAgain.{op_within_again}
 use Rattle.plir_read.proofs.reader.read_op.Goals as goal
 
 pub returns-in-Ok-clause-found : goal.returns-in-Ok-clause-found
@@ -21,3 +24,6 @@ returns-in-Ok-clause-named g c = behind_named _ _ _ _ ([], sym c.as_bytes-bytes.
 
 pub returns-in-Err-clause-named : goal.returns-in-Err-clause-named
 returns-in-Err-clause-named g c = behind_named _ _ _ _ ([], sym c.as_bytes-bytes.ensures.value) c.in-Err.ensures.named
+
+pub returns-in-Ok-clause-held : goal.returns-in-Ok-clause-held
+returns-in-Ok-clause-held g c = λ w s. c.in-Ok.ensures.held w (ap (whole (op_at 200)) c.as_bytes-bytes.ensures.value ∙ whole_again (op_at 200) (OpWithin 200) (op_within_again 200) _ w s)
