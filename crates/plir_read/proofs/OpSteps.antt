@@ -12,7 +12,8 @@ use Rattle.plir_text.specs.Reading.{Ends, Fails}
 use Rattle.plir_text.specs.Terms.{AttrTerm, TypeTerm, EntryTerms, no_entries, entries_of}
 use Rattle.plir_text.specs.Lists.{sign_at, past_sign, more_at, items_at}
 use Rattle.plir_text.specs.AttrReading.{name_at, entry_at, attr_at}
-use Rattle.plir_text.specs.TypeReading.{type_at}
+use Rattle.plir_text.specs.TypeReading.{word_at, level_at, type_at}
+use Rattle.plir_text.specs.TypeSteps.{level-word, level-deep}
 use Rattle.plir_text.specs.Fronts.{GoesOn, with_front}
 use Rattle.plir_text.specs.StepLaws.{done, bind_ok, Ends-bind, Ends-from}
 use Rattle.plir_read.specs.OpTerms.{Head, module_head, func_head, Header, Argument, BlockHead, OpTerm, op_term, constant_term, BlockTerm, blocks_of}
@@ -118,15 +119,23 @@ unfolding op_at
 op_at-behind zero bytes rest ws k lt e = absurd (omega arith)
 op_at-behind (suc n) bytes rest ws k lt e = let m : suc n - 1 ≡ n = omega arith in rw (e, m) refl
 
-pub no_start : (P : Type 0) (n : ℕ) (e : Stop) (bytes : List ℕ) → Fails e (start_at bytes) → Ends P e (op_at n bytes)
+pub no_start : (P : Type 0) (n : ℕ) (e : Stop) (bytes : List ℕ) → 0 < n → Fails e (start_at bytes) → Ends P e (op_at n bytes)
 unfolding op_at
-no_start P zero e bytes h = Ends-bind P e (start_at bytes) (λ s. Err _) (Ends-of P e (start_at bytes) h)
-no_start P (suc n) e bytes h = Ends-bind P e (start_at bytes) (λ s. behind_id (op_at n) n s.0.0 s.0.1 s.1) (Ends-of P e (start_at bytes) h)
+no_start P zero e bytes lt h = absurd (omega (arith, lt))
+no_start P (suc n) e bytes lt h = Ends-bind P e (start_at bytes) (λ s. behind_id (op_at n) n s.0.0 s.0.1 s.1) (Ends-of P e (start_at bytes) h)
 
-pub too_deep : (n : ℕ) (bytes : List ℕ) (x : (List (List ℕ) × HeadKind) × List ℕ) → n ≡ 0 → start_at bytes ≡ Ok x → op_at n bytes ≡ Err TooDeep
+-- an operation begins with a word: a name, or its id
+start_word : (e : Stop) (bytes : List ℕ) → Fails e (word_at bytes) → Fails e (start_at bytes)
+unfolding start_at names_before name_at op_id
+start_word Wanting bytes h = tt
+start_word Crowded bytes h = h
+start_word (At d left) bytes h = (rw (h.0) refl, h.1)
+
+-- where no level begins, the fault of that is one of the operation
+pub no_level : (P : Type 0) (n : ℕ) (e : Stop) (bytes : List ℕ) → Fails e (level_at n bytes) → Ends P e (op_at n bytes)
 unfolding op_at
-too_deep zero bytes x z e = rw e refl
-too_deep (suc n) bytes x z e = absurd (omega arith)
+no_level P zero e bytes h = Ends-of P e (word_at bytes >>= λ w. Err TooDeep) (level-deep e bytes h)
+no_level P (suc n) e bytes h = Ends-bind P e (start_at bytes) (λ s. behind_id (op_at n) n s.0.0 s.0.1 s.1) (Ends-of P e (start_at bytes) (start_word e bytes (level-word e (suc n) bytes (omega arith) h)))
 
 -- a module or a function is read behind its id
 pub bodied_behind : (n : ℕ) (bytes rest : List ℕ) (ws : List (List ℕ)) (names : List (Option (List ℕ))) (k : HeadKind) (b : BodyKind) → 0 < n → start_at bytes ≡ Ok ((ws, k), rest) → k ≡ Bodied b → names ≡ result_names ws → op_at n bytes ≡ bodied_at (op_at (n - 1)) (n - 1) b (length names) rest

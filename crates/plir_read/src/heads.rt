@@ -37,14 +37,6 @@ pub enum HeadData {
     Func(Identifier, TypeHandle),
 }
 
-// The ids that begin an operation.
-const OP_IDS: [&str; 4] = [
-    "builtin.module",
-    "builtin.func",
-    "builtin.constant",
-    "builtin.forward_ref",
-];
-
 // What the id of an operation names, with this many bytes left where it stands.
 #[tactic(auto, unfolding(crate::specs::OpReading::op_kind))]
 fn op_kind(word: &[u8], left: usize) -> Result<HeadKind, Stop>
@@ -59,7 +51,7 @@ fn op_kind(word: &[u8], left: usize) -> Result<HeadKind, Stop>
     } else if word == b"builtin.forward_ref".as_slice() {
         Ok(HeadKind::ForwardRef)
     } else {
-        Err(Stop::At(Fault::Unexpected, unread_id_at(word, left, &OP_IDS)))
+        Err(Stop::At(Fault::Unexpected, unread_id_at(word, left)))
     }
 }
 

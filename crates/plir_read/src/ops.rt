@@ -25,8 +25,7 @@ use plir_core::{BasicBlock, Context, Operation, Ptr, Region};
 use plir_data::OpSet;
 use plir_text::Fault;
 use plir_text::fault::Stop;
-use plir_text::tokens::left_at;
-use plir_text::words::{past_sign, read_sign};
+use plir_text::words::{begin_level, past_sign, read_sign};
 use std::alloc::Global;
 
 // The operations of a block that has none.
@@ -190,10 +189,8 @@ pub fn read_op_at<'a, D: OpSet>(
     ensures whole { IsWhole D.attr_handles ctx.new }
 {
     let _before = ctx.num_live();
+    begin_level(levels, bytes)?;
     let (opening, rest) = read_opening(alloc, bytes)?;
-    if levels == 0 {
-        return Err(Stop::At(Fault::TooDeep, left_at(bytes)));
-    }
     let Opening { names, kind, left } = opening;
     match kind {
         HeadKind::Bodied(body) => {

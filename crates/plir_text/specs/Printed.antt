@@ -12,7 +12,7 @@ use Rattle.plir_data.specs.TypeText.{letters, integer_text}
 use Rattle.plir_data.specs.declared.types.Signedness.{Signedness}
 use Rattle.plir_data.specs.declared.types.Signedness.TheVariants.{Signed, Unsigned, Signless}
 use Rattle.plir_text.specs.AttrGrammar.{SpellsValue}
-use Rattle.plir_text.specs.Bytes.{is_blank, is_in_word, front, past, all_pass, is_digits, value_after}
+use Rattle.plir_text.specs.Bytes.{is_blank, is_in_name, is_in_word, front, past, word_front, word_past, all_pass, is_digits, value_after}
 use Rattle.plir_text.specs.Tokens.{Token, word, digits, signed, sign, number_of, token_at, look, Begins}
 use Rattle.plir_text.specs.TypeGrammar.{SpellsInteger}
 use Rattle.plir_text.specs.StepLaws.{done}
@@ -44,17 +44,57 @@ digit_no_blank b h = grind (arith, nat_tests)
 
 -- ---- words
 
+-- letters, digits and `_`, and one `.` among them or none
+abbrev pub has_one_point : List ℕ → Bool
+has_one_point [] = true
+has_one_point (b ∷ bs) = if is_in_name b then has_one_point bs else (nat_eq b 46 && all_pass is_in_name bs)
+
 -- a word that begins with a letter
 abbrev pub is_word : List ℕ → Bool
 is_word [] = false
-is_word (b ∷ bs) = is_letter b && all_pass is_in_word bs
+is_word (b ∷ bs) = is_letter b && has_one_point bs
+
+name_ends : (rest : List ℕ) → Ends is_in_word rest → Ends is_in_name rest
+name_ends [] e = tt
+name_ends (b ∷ bs) e = at (is_letter b) (is_digit b) (nat_eq b 46) e
+  where
+    at : (l d p : Bool) → (l || (d || p)) ≡ false → (l || d) ≡ false
+    at true d p h = absurd cc
+    at false true p h = absurd cc
+    at false false p h = refl
+
+point_ends : (b : ℕ) → is_in_word b ≡ false → nat_eq b 46 ≡ false
+point_ends b e = at (is_letter b) (is_digit b) (nat_eq b 46) e
+  where
+    at : (l d p : Bool) → (l || (d || p)) ≡ false → p ≡ false
+    at true d p h = absurd cc
+    at false true p h = absurd cc
+    at false false p h = h
+
+-- no word goes on here
+word_ended : (rest : List ℕ) → Ends is_in_word rest → (word_front rest ≡ []) × (word_past rest ≡ rest)
+word_ended [] e = (refl, refl)
+word_ended (b ∷ bs) e =
+    let name : is_in_name b ≡ false = name_ends (b ∷ bs) e in
+    (rw (name, point_ends b e) refl, rw (name, point_ends b e) refl)
+
+word-run : (w rest : List ℕ) → has_one_point w ≡ true → Ends is_in_word rest → (word_front (w ++ rest) ≡ w) × (word_past (w ++ rest) ≡ rest)
+word-run [] rest h e = word_ended rest e
+word-run (b ∷ w) rest h e = at (is_in_name b) (nat_eq b 46) (λ k. word-run w rest k e) h
+  where
+    at : (t u : Bool) → (has_one_point w ≡ true → (word_front (w ++ rest) ≡ w) × (word_past (w ++ rest) ≡ rest)) → cond t (has_one_point w) (u && all_pass is_in_name w) ≡ true
+        → (cond t (b ∷ word_front (w ++ rest)) (cond u (b ∷ front is_in_name (w ++ rest)) []) ≡ b ∷ w) × (cond t (word_past (w ++ rest)) (cond u (past is_in_name (w ++ rest)) (b ∷ (w ++ rest))) ≡ rest)
+    at true u rec k = let r = rec k in (ap (λ (l : List ℕ). b ∷ l) r.0, r.1)
+    at false true rec k = (ap (λ (l : List ℕ). b ∷ l) (front-run is_in_name w rest k (name_ends rest e)), past-run is_in_name w rest k (name_ends rest e))
+    at false false rec k = absurd cc
 
 pub look-word : (w rest : List ℕ) → is_word w ≡ true → Ends is_in_word rest → look (w ++ rest) ≡ Ok (word w, rest)
 unfolding look
 look-word [] rest h e = absurd cc
 look-word (b ∷ w) rest h e =
-    let g = parts (is_letter b) (all_pass is_in_word w) h in
-    rw (letter_no_blank b g.0, g.0, front-run is_in_word w rest g.1 e, past-run is_in_word w rest g.1 e) refl
+    let g = parts (is_letter b) (has_one_point w) h in
+    let r = word-run w rest g.1 e in
+    rw (letter_no_blank b g.0, g.0, r.0, r.1) refl
 
 pub look-spaced : (bytes : List ℕ) → look (32 ∷ bytes) ≡ look bytes
 unfolding look
@@ -132,14 +172,14 @@ pub record IsValue (w b : ℕ) : Type 0 where
 small_power : (w : ℕ) → w ≤ 64 → 2 ^ w ≤ 2 ^ 64
 small_power w le = pow-le-pow_right {n = 2} (omega arith) le
 
-digits_in_word : (ds : List ℕ) → all_pass is_digit ds ≡ true → all_pass is_in_word ds ≡ true
+digits_in_word : (ds : List ℕ) → all_pass is_digit ds ≡ true → has_one_point ds ≡ true
 digits_in_word [] h = refl
 digits_in_word (d ∷ ds) h =
     let g = parts (is_digit d) (all_pass is_digit ds) h in
-    let here : is_in_word d ≡ true = rw (digit_no_letter d g.0, g.0) refl in
+    let here : is_in_name d ≡ true = rw (digit_no_letter d g.0, g.0) refl in
     rw (here, digits_in_word ds g.1) refl
 
-type_is_word : (s : Signedness) (ds : List ℕ) → all_pass is_in_word ds ≡ true → is_word (letters s ++ ds) ≡ true
+type_is_word : (s : Signedness) (ds : List ℕ) → has_one_point ds ≡ true → is_word (letters s ++ ds) ≡ true
 type_is_word Signed ds h = h
 type_is_word Unsigned ds h = h
 type_is_word Signless ds h = h

@@ -1,5 +1,5 @@
 -- Types as they are read.
-use Rattle.std.specs.Prelude.{ℕ, zero, suc, ◌^◌, List, [], ◌∷◌, Result, Ok, Err, codes, nat_eq, nat_lt, if◌then◌else◌}
+use Rattle.std.specs.Prelude.{ℕ, zero, suc, ◌^◌, List, [], ◌∷◌, Result, Ok, Err, codes, nat_eq, nat_le, nat_lt, if◌then◌else◌}
 use Rattle.std.specs.Str.{bytes_eq}
 use Rattle.plir_data.specs.Identifier.{is_digit}
 use Rattle.plir_data.specs.declared.types.Signedness.{Signedness}
@@ -35,6 +35,14 @@ as_arrow (sign b) rest = Err Unexpected
 
 unfoldable pub arrow_at : List ℕ → Result (List ℕ) Fault
 arrow_at bytes = look bytes >>= λ t. as_arrow t.0 t.1
+
+-- one level more is left
+unfoldable pub if_level : ℕ → Result (Unit {0}) Fault
+if_level n = if nat_le 1 n then Ok tt else Err TooDeep
+
+-- a word comes, with which a level begins, and one level more is left
+unfoldable pub level_at : (n : ℕ) → List ℕ → Result (Unit {0}) Fault
+level_at n bytes = word_at bytes >>= λ w. if_level n
 
 -- the kind of type that an id names
 unfoldable pub type_kind : List ℕ → Result TypeKind Fault
@@ -73,7 +81,7 @@ type_body read Integer bytes = integer_at bytes >>= λ x. Ok (integer_type x.0.0
 type_body read Function bytes = function_at read bytes >>= λ x. Ok (function_type x.0.0 x.0.1, x.1)
 type_body read Unit bytes = Ok (unit_type, bytes)
 
--- a type, with at most n levels open
+-- a type, with at most n levels open: a word that comes where no level is left begins one that is too deep
 unfoldable pub type_at : (n : ℕ) → List ℕ → Result (TypeTerm × List ℕ) Fault
-type_at zero bytes = type_head bytes >>= λ h. Err TooDeep
+type_at zero bytes = word_at bytes >>= λ w. Err TooDeep
 type_at (suc n) bytes = type_head bytes >>= λ h. type_body (type_at n) h.0 h.1

@@ -13,7 +13,7 @@ use Rattle.plir_read.proofs.OpFound.{op_at-shorter, block_at-shorter, semicolon_
 use Rattle.plir_read.proofs.OpMade.{arguments_live, block_kept, block_made, block_stands, op_kept, op_made, body_kept, op_stands, head_live, KeepsOlder-typed, KeepsOlder-on}
 use Rattle.plir_read.proofs.Ends.{end_itself, end_on, sign_end}
 use Rattle.plir_read.proofs.OpEnds.{block_head_end, header_end, start_end, op_end, block_end, semicolon_end, brace_end}
-use Rattle.plir_read.proofs.OpSteps.{from_start, ReadsOn-from, bodied_behind, constant_reads, no_start, no_head, no_body, bodied_read, no_operations, operations, no_block_head, no_block, block_read, no_brace, no_blocks_inside, blocks}
+use Rattle.plir_read.proofs.OpSteps.{from_start, ReadsOn-from, bodied_behind, constant_reads, no_start, no_level, no_head, no_body, bodied_read, no_operations, operations, no_block_head, no_block, block_read, no_brace, no_blocks_inside, blocks}
 use Rattle.plir_read.proofs.TreesInOrder.{none_in_order, root_in_order, op_in_order}
 use Rattle.plir_read.proofs.TypesNamed.{named_itself, named_still, behind_named, inside_named, so_far_on, so_far_next}
 use Rattle.plir_read.proofs.ops.+ops.Goals as goal
@@ -284,19 +284,24 @@ read_bodied-returns-in-Err-clause-named g t c =
 pub read_op_at-returns-in_err-opening-clause-kept : goal.read_op_at-returns-in_err-opening-clause-kept
 read_op_at-returns-in_err-opening-clause-kept g t c = KeepsBut-itself _ None
 
-pub read_op_at-returns-then-levels-eq0-clause-kept : goal.read_op_at-returns-then-levels-eq0-clause-kept
-read_op_at-returns-then-levels-eq0-clause-kept g t c = KeepsBut-itself _ None
+pub read_op_at-returns-in_err-begin_level-clause-kept : goal.read_op_at-returns-in_err-begin_level-clause-kept
+read_op_at-returns-in_err-begin_level-clause-kept g t c = KeepsBut-itself _ None
+
+pub read_op_at-returns-in_err-begin_level-clause-read : goal.read_op_at-returns-in_err-begin_level-clause-read
+read_op_at-returns-in_err-begin_level-clause-read g t c =
+    let p = err_from_is_err_and c.from_residual.result c.from_residual.ensures.1 in
+    rw (p.1, p.2) (no_level _ c.args.levels c.in_err-begin_level.field-0.0 c.args.bytes.now c.in_err-begin_level.ensures.read)
 
 pub read_op_at-returns-in_err-opening-clause-read : goal.read_op_at-returns-in_err-opening-clause-read
 read_op_at-returns-in_err-opening-clause-read g t c =
-    let p = err_from_is_err_and c.from_residual.result c.from_residual.ensures.1 in
-    rw (p.1, p.2) (no_start _ c.args.levels c.in_err-opening.field-0.0 c.args.bytes.now c.in_err-opening.ensures)
+    let p = err_from_is_err_and c.from_residual-in_err-opening.result c.from_residual-in_err-opening.ensures.1 in
+    rw (p.1, p.2) (no_start _ c.args.levels c.in_err-opening.field-0.0 c.args.bytes.now (omega (arith, c.in_ok-begin_level.ensures.some)) c.in_err-opening.ensures)
 
 pub read_op_at-returns-in-Bodied-clause-read : goal.read_op_at-returns-in-Bodied-clause-read
 read_op_at-returns-in-Bodied-clause-read g t c =
     let y = c.in_ok-opening.ensures in
     let start = behind_is _ y.0 c.in_ok-opening.rest.now y.1 y.2.1 in
-    let behind = bodied_behind c.args.levels c.args.bytes.now c.in_ok-opening.rest.now y.0.0.0 c.in_ok-opening.opening.names.items y.0.0.1 c.in-Bodied.body (omega (arith, c.if-levels-eq0.false)) start (sym y.2.0.kind ∙ c.in-Bodied.is) y.2.0.names in
+    let behind = bodied_behind c.args.levels c.args.bytes.now c.in_ok-opening.rest.now y.0.0.0 c.in_ok-opening.opening.names.items y.0.0.1 c.in-Bodied.body (omega (arith, c.in_ok-begin_level.ensures.some)) start (sym y.2.0.kind ∙ c.in-Bodied.is) y.2.0.names in
     let same = ap (λ m. bodied_at (op_at (c.args.levels - 1)) (c.args.levels - 1) c.in-Bodied.body m c.in_ok-opening.rest.now) (sym (c.len.ensures ∙ c.in_ok-opening.opening.names.ok.0)) in
     ReadsOn-from _ _ c.read_bodied.result _ _ (behind ∙ same) c.read_bodied.ensures.read
 
@@ -304,7 +309,7 @@ pub read_op_at-returns-in-Constant-clause-read : goal.read_op_at-returns-in-Cons
 read_op_at-returns-in-Constant-clause-read g t c =
     let y = c.in_ok-opening.ensures in
     let start = behind_is _ y.0 c.in_ok-opening.rest.now y.1 y.2.1 in
-    constant_reads _ (λ x. Operation x.0) (λ x. x.1.now) c.args.levels c.args.bytes.now c.in_ok-opening.rest.now y.0.0.0 c.in_ok-opening.opening.names.items y.2.0.names c.read_constant.result y.0.0.1 (omega (arith, c.if-levels-eq0.false)) start (sym y.2.0.kind ∙ c.in-Constant.is) c.read_constant.ensures.read
+    constant_reads _ (λ x. Operation x.0) (λ x. x.1.now) c.args.levels c.args.bytes.now c.in_ok-opening.rest.now y.0.0.0 c.in_ok-opening.opening.names.items y.2.0.names c.read_constant.result y.0.0.1 (omega (arith, c.in_ok-begin_level.ensures.some)) start (sym y.2.0.kind ∙ c.in-Constant.is) c.read_constant.ensures.read
 
 pub read_op_at-returns-in-Bodied-clause-named : goal.read_op_at-returns-in-Bodied-clause-named
 read_op_at-returns-in-Bodied-clause-named g t c =
