@@ -2,6 +2,7 @@ pub mod Frames
 pub mod SlotLaws
 pub mod TreesInOrder
 pub mod NamesGiven
+pub mod Crowded
 pub mod Gathered
 pub mod Loops
 pub mod EntriesLive

@@ -9,6 +9,7 @@
 --   OpsStanding  IsOpAt: the written operation that a node of a context stands for; StandsForOp: the one that a text stands for
 --   Keeping      KeepsOlder: what reading leaves of a context as it was
 --   Slots        IsMadeInOrder: a tree's nodes come in the order of a text, each in the next slot of its kind
+--   Room         HasNoRoom: when there is no room for what a text needs next
 --   Stopping     ReadsOn: reading into a context; IsOfText: faults of a text
 --   TextTypes    IsInText: the types that are written in the text of an operation
 --   HeldTypes    IsHeldByOp: the types that an operation holds
@@ -17,6 +18,7 @@ pub mod Suffixes
 pub mod OpTerms
 pub mod OpGrammar
 pub mod OpReading
+pub mod Room
 pub mod Stopping
 pub mod Heads
 pub mod OpsStanding

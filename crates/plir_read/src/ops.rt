@@ -11,6 +11,7 @@ ghost use Rattle.plir_read.specs.Keeping.{KeepsBut, KeepsOlder};
 ghost use Rattle.plir_read.specs.OpReading.{op_at, bodied_at, ops_at, block_at, blocks_at};
 ghost use Rattle.plir_read.specs.OpTerms.{ops_of, blocks_of};
 ghost use Rattle.plir_read.specs.OpsStanding.{HasOps, HasBlocks, ReadsOp, ReadsBlock};
+ghost use Rattle.plir_read.specs.Room.{HasNoRoom};
 ghost use Rattle.plir_read.specs.Slots.{IsMadeInOrder, IsGrownInOrder};
 ghost use Rattle.plir_read.specs.Stopping.{ReadsOnPast};
 ghost use Rattle.plir_read.specs.TextTypes.{IsInText};
@@ -40,7 +41,7 @@ fn read_ops<'a, D: OpSet>(
 ) -> Result<&'a [u8], Stop>
     requires live { IsLive ctx.old (IRNode.BasicBlock block) }
     requires empty { kids ctx.old (IRNode.BasicBlock block) ≡ [] }
-    ensures read { ReadsOnPast (HasOps ctx.new block) result (ops_at (op_at levels) bytes.now) }
+    ensures read { ReadsOnPast (HasNoRoom ctx.new) (HasOps ctx.new block) result (ops_at (op_at levels) bytes.now) }
     ensures grown { IfOk result (λ x. IsGrown ctx.old.nodes ctx.new.nodes (IRNode.BasicBlock block)) }
     ensures slots { IfOk result (λ x. IsGrownInOrder ctx.old.nodes ctx.new.nodes (IRNode.BasicBlock block)) }
     ensures kept { KeepsBut ctx.old ctx.new (Some (IRNode.BasicBlock block)) }
@@ -111,7 +112,7 @@ fn read_body<'a, D: OpSet>(
 ) -> Result<&'a [u8], Stop>
     requires live { IsLive ctx.old (IRNode.Region region) }
     requires empty { kids ctx.old (IRNode.Region region) ≡ [] }
-    ensures read { ReadsOnPast (HasBlocks ctx.new region) result (blocks_at (op_at levels) levels bytes.now) }
+    ensures read { ReadsOnPast (HasNoRoom ctx.new) (HasBlocks ctx.new region) result (blocks_at (op_at levels) levels bytes.now) }
     ensures grown { IfOk result (λ x. IsGrown ctx.old.nodes ctx.new.nodes (IRNode.Region region)) }
     ensures slots { IfOk result (λ x. IsGrownInOrder ctx.old.nodes ctx.new.nodes (IRNode.Region region)) }
     ensures kept { KeepsBut ctx.old ctx.new (Some (IRNode.Region region)) }

@@ -33,7 +33,7 @@ Gives-meant see means view term h (Ok x) read total e p =
     (term a.0, e ∙ ap (λ q. q >>= λ w. done (term w)) a.1, h x a.0 (sym (ok_is (view a.0) (see x) a.2)))
 Gives-meant see means view term h (Err Wanting) read total e p = tt
 Gives-meant see means view term h (Err Crowded) read total e p = p
-Gives-meant see means view term h (Err (At f left)) read total e p = e ∙ ap (λ q. q >>= λ w. done (term w)) (err_is f read view p)
+Gives-meant see means view term h (Err (At f left)) read total e p = (e ∙ ap (λ q. q >>= λ w. done (term w)) (err_is f read view p.0), p.1)
 
 -- where no level begins, the fault of that is one of the attribute
 pub attr_at-level-fails : (e : Stop) (n : ℕ) (bytes : List ℕ) → Fails e (level_at n bytes) → Fails e (attr_at n bytes)

@@ -25,16 +25,16 @@ type_at-body (suc n) bytes rest k lt e = let m : suc n - 1 ≡ n = omega arith i
 pub Fails-first : {A B : Type 0} (e : Stop) (r : Result A Fault) (view : A → B) → Fails e (r >>= λ x. done (view x)) → Fails e r
 Fails-first Wanting r view h = tt
 Fails-first Crowded r view h = h
-Fails-first (At d left) (Ok x) view h = absurd cc
-Fails-first (At d left) (Err g) view h = let k : g ≡ d = cc in ap (λ f. Err f) k
+Fails-first (At d left) (Ok x) view h = let e = h.0 in absurd cc
+Fails-first (At d left) (Err g) view h = let e = h.0 in let k : g ≡ d = cc in (ap (λ f. Err f) k, h.1)
 
 -- the same fault of whatever would be read
 pub Fails-either : {A : Type 0} (B C : Type 0) (e : Stop) (r : Result A Fault) (f : Fault)
     → Fails {Y = B} e (r >>= λ x. Err f) → Fails {Y = C} e (r >>= λ x. Err f)
 Fails-either B C Wanting r f h = tt
 Fails-either B C Crowded r f h = h
-Fails-either B C (At d left) (Ok x) f h = let k : f ≡ d = cc in ap (λ g. Err g) k
-Fails-either B C (At d left) (Err g) f h = let k : g ≡ d = cc in ap (λ g. Err g) k
+Fails-either B C (At d left) (Ok x) f h = let e = h.0 in let k : f ≡ d = cc in (ap (λ g. Err g) k, h.1)
+Fails-either B C (At d left) (Err g) f h = let e = h.0 in let k : g ≡ d = cc in (ap (λ g. Err g) k, h.1)
 
 -- where a level is left, what fails is that no word comes
 pub level-word : (e : Stop) (n : ℕ) (bytes : List ℕ) → 0 < n → Fails e (level_at n bytes) → Fails e (word_at bytes)

@@ -25,7 +25,7 @@ use Rattle.plir_read.proofs.ops.+ops.Goals as goal
 pub read_block-returns-in_err-head-clause-read : goal.read_block-returns-in_err-head-clause-read
 read_block-returns-in_err-head-clause-read g t c =
     let p = err_from_is_err_and c.from_residual.result c.from_residual.ensures.1 in
-    rw (p.1, p.2) (no_block_head (op_at c.args.levels) c.args.levels c.in_err-head.field-0.0 c.args.bytes.now c.in_err-head.ensures.read)
+    rw (p.1, p.2) (no_block_head (op_at c.args.levels) _ c.args.levels c.in_err-head.field-0.0 c.args.bytes.now c.in_err-head.ensures.read)
 
 pub read_block-make_block-requires : goal.read_block-make_block-requires
 read_block-make_block-requires g t c =
@@ -62,7 +62,7 @@ read_block-returns-in-Err-clause-kept g t c = block_kept c.args.ctx.now c.read_b
 pub read_block-returns-in-Err-clause-read : goal.read_block-returns-in-Err-clause-read
 read_block-returns-in-Err-clause-read g t c =
     let h = c.in_ok-head.ensures.read in
-    no_block (op_at c.args.levels) c.args.levels c.in-Err.stop _ h.0.0 _ (behind_is _ h.0 c.in_ok-head.rest.now h.1 h.2.1) c.in-Err.ensures.read
+    no_block (op_at c.args.levels) _ c.args.levels c.in-Err.stop _ h.0.0 _ (behind_is _ h.0 c.in_ok-head.rest.now h.1 h.2.1) c.in-Err.ensures.read
 
 pub read_block-returns-in_err-block-clause-named : goal.read_block-returns-in_err-block-clause-named
 read_block-returns-in_err-block-clause-named g t c = named_still _ _ _ _ c.in_err-block.ensures.types c.in_ok-head.ensures.named
@@ -92,7 +92,7 @@ read_block-returns-in-Err-clause-named g t c =
 pub read_body-returns-in_err-start-clause-read : goal.read_body-returns-in_err-start-clause-read
 read_body-returns-in_err-start-clause-read g t c =
     let p = err_from_is_err_and c.from_residual.result c.from_residual.ensures.1 in
-    rw (p.1, p.2) (no_brace (op_at c.args.levels) c.args.levels c.in_err-start.field-0.0 c.args.bytes.now c.in_err-start.ensures)
+    rw (p.1, p.2) (no_brace (op_at c.args.levels) _ c.args.levels c.in_err-start.field-0.0 c.args.bytes.now c.in_err-start.ensures)
 
 pub read_body-returns-in_err-start-clause-kept : goal.read_body-returns-in_err-start-clause-kept
 read_body-returns-in_err-start-clause-kept g t c = KeepsBut-itself _ _
@@ -126,7 +126,7 @@ read_body-inner-init g t c = (
 )
 
 pub read_body-returns-in-Err-clause-read : goal.read_body-returns-in-Err-clause-read
-read_body-returns-in-Err-clause-read g t c = gathered.not_read _ _ _ _ _ _ _ _ _ _ _ _ _ c.in-Err.stop c.inner.invariant.0 c.in-Err.ensures.read
+read_body-returns-in-Err-clause-read g t c = gathered.not_read _ _ _ _ _ _ _ _ _ _ _ _ _ _ c.in-Err.stop c.inner.invariant.0 c.in-Err.ensures.read
 
 pub read_body-returns-in-Err-clause-named : goal.read_body-returns-in-Err-clause-named
 read_body-returns-in-Err-clause-named g t c = so_far_on _ _ _ _ _ c.inner.invariant.1 c.in-Err.ensures.kept.types c.in-Err.ensures.named
@@ -205,7 +205,7 @@ read_ops-ops-init g t c = (
 )
 
 pub read_ops-returns-in-Err-clause-read : goal.read_ops-returns-in-Err-clause-read
-read_ops-returns-in-Err-clause-read g t c = gathered.not_read _ _ _ _ _ _ _ _ _ _ _ _ _ c.in-Err.stop c.ops.invariant.0 c.in-Err.ensures.read
+read_ops-returns-in-Err-clause-read g t c = gathered.not_read _ _ _ _ _ _ _ _ _ _ _ _ _ _ c.in-Err.stop c.ops.invariant.0 c.in-Err.ensures.read
 
 pub read_ops-returns-in-Err-clause-named : goal.read_ops-returns-in-Err-clause-named
 read_ops-returns-in-Err-clause-named g t c = so_far_on _ _ _ _ _ c.ops.invariant.1 c.in-Err.ensures.kept.types c.in-Err.ensures.named
@@ -271,7 +271,7 @@ read_bodied-make_op-requires-clause-entries_live g t c =
 pub read_bodied-returns-in_err-header-clause-read : goal.read_bodied-returns-in_err-header-clause-read
 read_bodied-returns-in_err-header-clause-read g t c =
     let p = err_from_is_err_and c.from_residual-in_err-header.result c.from_residual-in_err-header.ensures.1 in
-    rw (p.1, p.2) (no_head (op_at c.args.levels) c.args.levels c.args.kind c.args.names c.in_err-header.field-0.0 _ c.args.bytes.now c.in_ok-expect_names.ensures c.in_err-header.ensures.read)
+    rw (p.1, p.2) (no_head (op_at c.args.levels) c.args.levels c.args.kind c.args.names _ c.in_err-header.field-0.0 _ c.args.bytes.now c.in_ok-expect_names.ensures c.in_err-header.ensures.read)
 
 pub read_bodied-returns-in_err-op-clause-kept : goal.read_bodied-returns-in_err-op-clause-kept
 read_bodied-returns-in_err-op-clause-kept g t c = KeepsOlder-on _ _ _ (KeepsOlder-typed c.args.ctx.now c.read_header-read.new.ctx c.in_ok-header.ensures.rest c.in_ok-header.ensures.grown) c.in_err-op.ensures.kept
@@ -306,7 +306,7 @@ read_bodied-returns-in-Err-clause-kept g t c = op_kept c.args.ctx.now c.read_hea
 pub read_bodied-returns-in-Err-clause-read : goal.read_bodied-returns-in-Err-clause-read
 read_bodied-returns-in-Err-clause-read g t c =
     let h = c.in_ok-header.ensures.read in
-    no_body (op_at c.args.levels) c.args.levels c.args.kind c.args.names c.in-Err.stop _ c.args.bytes.now _ h.0.0 c.in_ok-expect_names.ensures (behind_is _ h.0 c.in_ok-header.behind.now h.1 h.2.1) c.in-Err.ensures.read
+    no_body (op_at c.args.levels) c.args.levels c.args.kind c.args.names _ c.in-Err.stop _ c.args.bytes.now _ h.0.0 c.in_ok-expect_names.ensures (behind_is _ h.0 c.in_ok-header.behind.now h.1 h.2.1) c.in-Err.ensures.read
 
 pub read_bodied-returns-in_err-op-clause-named : goal.read_bodied-returns-in_err-op-clause-named
 read_bodied-returns-in_err-op-clause-named g t c = named_still _ _ _ _ c.in_err-op.ensures.types c.in_ok-header.ensures.named
@@ -342,12 +342,12 @@ read_op_at-returns-in_err-begin_level-clause-kept g t c = KeepsBut-itself _ None
 pub read_op_at-returns-in_err-begin_level-clause-read : goal.read_op_at-returns-in_err-begin_level-clause-read
 read_op_at-returns-in_err-begin_level-clause-read g t c =
     let p = err_from_is_err_and c.from_residual.result c.from_residual.ensures.1 in
-    rw (p.1, p.2) (no_level c.args.levels c.in_err-begin_level.field-0.0 c.args.bytes.now c.in_err-begin_level.ensures.read)
+    rw (p.1, p.2) (no_level _ c.args.levels c.in_err-begin_level.field-0.0 c.args.bytes.now c.in_err-begin_level.ensures.read)
 
 pub read_op_at-returns-in_err-opening-clause-read : goal.read_op_at-returns-in_err-opening-clause-read
 read_op_at-returns-in_err-opening-clause-read g t c =
     let p = err_from_is_err_and c.from_residual-in_err-opening.result c.from_residual-in_err-opening.ensures.1 in
-    rw (p.1, p.2) (no_start c.args.levels c.in_err-opening.field-0.0 c.args.bytes.now (omega (arith, c.in_ok-begin_level.ensures.some)) c.in_err-opening.ensures)
+    rw (p.1, p.2) (no_start _ c.args.levels c.in_err-opening.field-0.0 c.args.bytes.now (omega (arith, c.in_ok-begin_level.ensures.some)) c.in_err-opening.ensures)
 
 pub read_op_at-returns-in-Bodied-clause-read : goal.read_op_at-returns-in-Bodied-clause-read
 read_op_at-returns-in-Bodied-clause-read g t c =
@@ -355,7 +355,7 @@ read_op_at-returns-in-Bodied-clause-read g t c =
     let start = behind_is _ y.0 c.in_ok-opening.rest.now y.1 y.2.1 in
     let behind = bodied_behind c.args.levels c.args.bytes.now c.in_ok-opening.rest.now y.0.0.0 c.in_ok-opening.opening.names.items y.0.0.1 c.in-Bodied.body (omega (arith, c.in_ok-begin_level.ensures.some)) start (sym y.2.0.kind ∙ c.in-Bodied.is) y.2.0.names in
     let same = ap (λ m. bodied_at (op_at (c.args.levels - 1)) (c.args.levels - 1) c.in-Bodied.body m c.in_ok-opening.rest.now) (sym (c.len.ensures ∙ c.in_ok-opening.opening.names.ok.0)) in
-    ReadsOn-from _ c.read_bodied.result _ _ (behind ∙ same) c.read_bodied.ensures.read
+    ReadsOn-from _ _ c.read_bodied.result _ _ (behind ∙ same) c.read_bodied.ensures.read
 
 pub read_op_at-returns-in-Constant-clause-read : goal.read_op_at-returns-in-Constant-clause-read
 read_op_at-returns-in-Constant-clause-read g t c =

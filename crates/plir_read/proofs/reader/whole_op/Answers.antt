@@ -9,13 +9,13 @@ use Rattle.plir_read.specs.HeldTypes.{IsHeldByOp}
 use Rattle.plir_read.proofs.reader.whole_op.Goals as goal
 
 pub returns-in-Err-clause-read : goal.returns-in-Err-clause-read
-returns-in-Err-clause-read g c = whole_stops (op_at 200) _ c.in-Err.stop c.in-Err.ensures.read
+returns-in-Err-clause-read g c = whole_stops (op_at 200) _ _ c.in-Err.stop c.in-Err.ensures.read
 
 pub returns-in_err-read_end-clause-read : goal.returns-in_err-read_end-clause-read
 returns-in_err-read_end-clause-read g c =
     let p = err_from_is_err_and c.from_residual.result c.from_residual.ensures.1 in
     let y = c.in-Ok.ensures.read in
-    rw (p.1, p.2) (whole_stops_behind (op_at 200) _ c.in_err-read_end.field-0.0 y.0.0 c.in-Ok.read.1.now (behind_is _ y.0 c.in-Ok.read.1.now y.1 y.2.1) c.in_err-read_end.ensures)
+    rw (p.1, p.2) (whole_stops_behind (op_at 200) _ _ c.in_err-read_end.field-0.0 y.0.0 c.in-Ok.read.1.now (behind_is _ y.0 c.in-Ok.read.1.now y.1 y.2.1) c.in_err-read_end.ensures)
 
 pub returns-clause-read : goal.returns-clause-read
 returns-clause-read g c =
