@@ -3,7 +3,7 @@ use Rattle.std.proofs.Common.{◌≡◌, ◌⊎◌, ℕ, zero, suc, Bool, true, 
 use Rattle.std.specs.Prelude.{encode_utf8}
 use Rattle.plir_data.specs.Identifier.{is_letter, is_digit}
 use Rattle.plir_text.specs.declared.fault.Fault.{Fault}
-use Rattle.plir_text.specs.Bytes.{is_blank, is_in_word, is_hex, front, past, begins, tail_of}
+use Rattle.plir_text.specs.Bytes.{is_blank, is_in_name, is_hex, front, past, word_past, begins, tail_of}
 use Rattle.plir_text.specs.Strings.{is_code, closed_code, code_at, escape_at, unit_at, behind, onward, content_at, string_at}
 use Rattle.plir_text.specs.Tokens.{Token, word, digits, signed, quoted, arrow, sign, is_mark, token_at, look, Takes, Begins}
 use Rattle.plir_text.specs.Lists.{sign_at}
@@ -34,6 +34,12 @@ past_end : (p : ℕ → Bool) (bytes : List ℕ) → IsEnd bytes (past p bytes)
 past_end p [] = end_itself []
 past_end p (b ∷ bs) = end_choice (p b) (b ∷ bs) (past p bs) (b ∷ bs) (end_first b bs (past p bs) (past_end p bs)) (end_itself (b ∷ bs))
 
+word_end : (bytes : List ℕ) → IsEnd bytes (word_past bytes)
+word_end [] = end_itself []
+word_end (b ∷ bs) =
+    let id = end_choice (nat_eq b 46) (b ∷ bs) (past is_in_name bs) (b ∷ bs) (end_first b bs (past is_in_name bs) (past_end is_in_name bs)) (end_itself (b ∷ bs)) in
+    end_choice (is_in_name b) (b ∷ bs) (word_past bs) _ (end_first b bs (word_past bs) (word_end bs)) id
+
 tail_end : (bytes : List ℕ) → IsEnd bytes (tail_of bytes)
 tail_end [] = end_itself []
 tail_end (b ∷ bs) = end_first b bs bs (end_itself bs)
@@ -45,7 +51,7 @@ token_at_end [] x e = absurd cc
 token_at_end (b ∷ bs) x e =
     let P : Token × List ℕ → Type 0 = λ y. IsEnd (b ∷ bs) y.1 in
     elim (chosen (is_letter b) _ _ _ e) [
-      | inl w ↦ subst P (ok_is _ x w.1) (end_first b bs _ (past_end is_in_word bs))
+      | inl w ↦ subst P (ok_is _ x w.1) (end_first b bs _ (word_end bs))
       | inr e1 ↦ elim (chosen (is_digit b) _ _ _ e1.1) [
         | inl w ↦ subst P (ok_is _ x w.1) (past_end is_digit (b ∷ bs))
         | inr e2 ↦ elim (chosen (is_mark b && begins is_digit bs) _ _ _ e2.1) [

@@ -13,13 +13,13 @@ use Rattle.plir_core.specs.Standing.{IsStanding}
 use Rattle.plir_core.specs.Store.{Store, IsLive, kids, parent_of}
 use Rattle.plir_core.specs.Whole.{IsWhole}
 use Rattle.plir_text.specs.declared.fault.Fault.{Fault}
+use Rattle.plir_text.specs.Reading.{Ends}
 use Rattle.plir_text.specs.declared.fault.Stop.{Stop}
 use Rattle.plir_text.specs.Names.{Grows}
 use Rattle.plir_text.specs.Growth.{Grows-itself, Grows-on}
 use Rattle.plir_text.specs.Fronts.{GoesOn, ends_at_item, closes, goes_on}
 use Rattle.plir_read.specs.Keeping.{KeepsBut, KeepsOlder}
 use Rattle.plir_read.specs.Slots.{IsMadeInOrder, IsGrownInOrder}
-use Rattle.plir_read.specs.Stopping.{Stops}
 use Rattle.plir_read.proofs.Frames.{IsFrame, frame_made, frame_placed, kid_below}
 use Rattle.plir_read.proofs.TreesInOrder.{next_in_order}
 
@@ -91,8 +91,8 @@ module _ {K A T : Type 0} where
     pub not_one : (first s t : Store K A T) (over : IRNode) (rest : List ℕ) (total : Result (List X × List ℕ) Fault) → Gathers first s over rest total → KeepsOlder s t → KeepsBut first t (Some over)
     not_one first s t over rest total g k = KeepsBut-on first s t (Some over) None (λ m e h q. none-some m q) (KeepsBut-grown first s over g.grown g.types) k
 
-    pub not_read : (first s : Store K A T) (over : IRNode) (rest : List ℕ) (total : Result (List X × List ℕ) Fault) (e : Stop) → Gathers first s over rest total → Stops e (read rest) → Stops e total
-    not_read first s over rest total e g h = ends_at_item goes read g.front rest total (Unit {0}) e g.turns h
+    pub not_read : (first s : Store K A T) (over : IRNode) (rest : List ℕ) (total : Result (List X × List ℕ) Fault) (P : Type 0) (e : Stop) → Gathers first s over rest total → Ends P e (read rest) → Ends P e total
+    not_read first s over rest total P e g h = ends_at_item goes read g.front rest total P e g.turns h
 
     module _ (standing : (s : Store K A T) → IsWhole own s → IsStanding s) where
       comes_grown : (first s t u : Store K A T) (over n : IRNode) (x : X) (rest : List ℕ) (total : Result (List X × List ℕ) Fault) → Growth first.nodes → Growth s.nodes → Gathers first s over rest total → Comes s t u n over x → IsGrown first.nodes u.nodes over

@@ -2,12 +2,14 @@ pub mod Frames
 pub mod SlotLaws
 pub mod TreesInOrder
 pub mod NamesGiven
+pub mod Crowded
 pub mod Gathered
 pub mod Loops
 pub mod EntriesLive
 pub mod HeadsGrown
 pub mod Ends
 pub mod TypesNamed
+pub mod Held
 pub mod Dictionaries
 pub mod StartFound
 pub mod OpFound

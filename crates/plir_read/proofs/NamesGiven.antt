@@ -14,6 +14,7 @@ use Rattle.plir_read.specs.Heads.{argument_types, argument_names, result_names}
 use Rattle.plir_read.specs.OpReading.{argument_at, names_at}
 use Rattle.plir_read.specs.OpTerms.{Argument}
 use Rattle.plir_read.specs.TextTypes.{IsInText}
+use Rattle.plir_read.specs.HeldTypes.{IsHeldByArgument}
 use Rattle.plir_read.specs.Suffixes.{is_joined_suffix, before_suffix, given_name}
 use Rattle.plir_read.proofs.Ends.{IsEnd}
 use Rattle.plir_read.proofs.OpSteps.{from_start}
@@ -111,6 +112,7 @@ pub record Holds {S T : Type 0} (types : S → List (TypeView T)) (same : S → 
   pub named : names ≡ argument_names front
   pub grown : Grows (types first) (types now)
   pub written : AreNamed (IsInText bytes) (types first) (types now)
+  pub held : AreNamed (λ t. IsHeldByArgument t front) (types first) (types now)
   pub behind : IsEnd bytes rest
   pub kept : same first now
   pub going : GoesOn (separator_at 41) (argument_at n) front rest (items_at 40 41 (argument_at n) bytes)

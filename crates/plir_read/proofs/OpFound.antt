@@ -9,7 +9,7 @@ use Rattle.plir_text.specs.Tokens.{Token, word, sign, look, Begins}
 use Rattle.plir_text.specs.AttrGrammar.{SpellsMore, SpellsSeveral}
 use Rattle.plir_text.specs.TypeGrammar.{enclosed}
 use Rattle.plir_text.specs.Lists.{sign_at, past_sign, more_at, unless_closed, items_at}
-use Rattle.plir_text.specs.TypeReading.{type_at}
+use Rattle.plir_text.specs.TypeReading.{word_at, type_at}
 use Rattle.plir_text.specs.AttrReading.{name_at}
 use Rattle.plir_text.specs.StepLaws.{chosen, bind_ok, done, ok_is}
 use Rattle.plir_text.specs.Begun.{Begins-append, Begins-length, sign_found, past_sign_found}
@@ -300,7 +300,7 @@ no_op bytes x e = cc
 
 pub op_found : (n : ℕ) → IsSound (OpWithin n) (op_at n)
 unfolding op_at
-op_found zero bytes x e = let a = bind_ok (start_at bytes) (λ s. Err TooDeep) x e in absurd (no_op bytes x a.2)
+op_found zero bytes x e = let a = bind_ok (word_at bytes) (λ w. Err TooDeep) x e in absurd (no_op bytes x a.2)
 op_found (suc n) bytes x e =
     let a = bind_ok (start_at bytes) (λ s. behind_id (op_at n) n s.0.0 s.0.1 s.1) x e in
     behind_found n (op_at n) (op_found n) a.0.0.1 a.0.0.0 bytes a.0.1 x (start_found bytes a.0 a.1) a.2

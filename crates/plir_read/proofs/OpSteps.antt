@@ -8,18 +8,21 @@ use Rattle.plir_text.specs.declared.fault.Fault.TheVariants.{TooDeep}
 use Rattle.plir_text.specs.declared.fault.Stop.{Stop}
 use Rattle.plir_text.specs.declared.fault.Stop.TheVariants.{Wanting, Crowded, At}
 use Rattle.plir_text.specs.Steps.{◌>>=◌}
-use Rattle.plir_text.specs.Reading.{Fails}
+use Rattle.plir_text.specs.Reading.{Ends, Fails}
 use Rattle.plir_text.specs.Terms.{AttrTerm, TypeTerm, EntryTerms, no_entries, entries_of}
 use Rattle.plir_text.specs.Lists.{sign_at, past_sign, more_at, items_at}
 use Rattle.plir_text.specs.AttrReading.{name_at, entry_at, attr_at}
-use Rattle.plir_text.specs.TypeReading.{type_at}
+use Rattle.plir_text.specs.TypeReading.{word_at, type_at}
+use Rattle.plir_text.specs.Levels.{level_at}
+use Rattle.plir_text.specs.TypeSteps.{level-word, level-deep}
 use Rattle.plir_text.specs.Fronts.{GoesOn, with_front}
 use Rattle.plir_text.specs.StepLaws.{done, bind_ok, Ends-bind, Ends-from}
 use Rattle.plir_read.specs.OpTerms.{Head, module_head, func_head, Header, Argument, BlockHead, OpTerm, op_term, constant_term, BlockTerm, blocks_of}
 use Rattle.plir_read.specs.OpReading.{op_id, names_before, start_at, named, first_name, symbol_at, argument_at, block_head_at, head_at, dictionary_at, header_at, ends_block, ops_at, block_at, blocks_at, value_at, constant_at, named_constant_at, bodied_at, behind_id, op_at, semicolon_at, brace_at}
 use Rattle.plir_read.specs.Heads.{result_names}
 use Rattle.plir_read.specs.OpsStanding.{IsConstantAt, IsOpAt}
-use Rattle.plir_read.specs.Stopping.{Stops, ReadsOn, IsRefusal}
+use Rattle.plir_read.specs.Room.{HasNoRoom}
+use Rattle.plir_read.specs.Stopping.{ReadsOn, IsRefusal}
 use Rattle.plir_read.specs.Suffixes.{given_name}
 use Rattle.plir_read.specs.declared.names.Suffix.TheVariants as kinds
 use Rattle.plir_read.specs.declared.heads.HeadKind.{HeadKind}
@@ -29,22 +32,22 @@ use Rattle.plir_read.specs.declared.heads.BodyKind.TheVariants.{Module, Func}
 use Rattle.plir_read.proofs.StartFound.{named_is}
 
 -- a fault of the readers below is a fault here
-pub Stops-of : {A : Type 0} (stop : Stop) (r : Result A Fault) → Fails stop r → Stops stop r
-Stops-of Wanting r h = tt
-Stops-of Crowded r h = tt
-Stops-of (At d left) r h = h
+pub Ends-of : {A : Type 0} (P : Type 0) (stop : Stop) (r : Result A Fault) → Fails stop r → Ends P stop r
+Ends-of P Wanting r h = tt
+Ends-of P Crowded r h = absurd h
+Ends-of P (At d left) r h = h
 
 -- a refusal is no fault of the text
-pub Stops-refused : {A : Type 0} (e : Stop) (r : Result A Fault) → IsRefusal e → Stops e r
-Stops-refused Wanting r h = tt
-Stops-refused Crowded r h = tt
-Stops-refused (At f l) r h = absurd h
+pub Ends-refused : {A : Type 0} (P : Type 0) (e : Stop) (r : Result A Fault) → IsRefusal P e → Ends P e r
+Ends-refused P Wanting r h = tt
+Ends-refused P Crowded r h = h
+Ends-refused P (At f l) r h = absurd h
 
-pub Stops-bind : {A B : Type 0} (e : Stop) (r : Result A Fault) (f : A → Result B Fault) → Stops e r → Stops e (r >>= f)
-Stops-bind e r f h = Ends-bind (Unit {0}) e r f h
-
-pub Stops-from : {A : Type 0} (e : Stop) (r s : Result A Fault) → r ≡ s → Stops e r → Stops e s
-Stops-from e r s p h = Ends-from (Unit {0}) e r s p h
+-- a refusal for one want of room is one for another that follows from it
+pub refused_as : (P Q : Type 0) (e : Stop) → (P → Q) → IsRefusal P e → IsRefusal Q e
+refused_as P Q Wanting f h = tt
+refused_as P Q Crowded f h = f h
+refused_as P Q (At g l) f h = h
 
 -- reading goes on from where it begins
 pub from_start : {A : Type 0} (goes : List ℕ → Result (Bool × List ℕ) Fault) (read : List ℕ → Result (A × List ℕ) Fault) (bytes : List ℕ) (total : Result (List A × List ℕ) Fault) → total ≡ more_at goes read (suc (length bytes)) bytes → GoesOn goes read [] bytes total
@@ -110,6 +113,12 @@ pub constant_is : (n : ℕ) (bytes rest colon end : List ℕ) (a : AttrTerm) (t 
 unfolding constant_at
 constant_is n bytes rest colon end a t p q r = rw (p, q, r) refl
 
+-- behind as many names as there are results
+pub named_constant_is : (n names : ℕ) (bytes : List ℕ) (c : (AttrTerm × TypeTerm) × List ℕ)
+    → named_constant_at n names bytes ≡ Ok c → constant_at n bytes ≡ Ok c
+unfolding named_constant_at
+named_constant_is n names bytes c e = let u = bind_ok (named 1 names) (λ u. constant_at n bytes) c e in u.2
+
 -- ---- an operation
 
 pub op_at-behind : (n : ℕ) (bytes rest : List ℕ) (ws : List (List ℕ)) (k : HeadKind) → 0 < n → start_at bytes ≡ Ok ((ws, k), rest) → op_at n bytes ≡ behind_id (op_at (n - 1)) (n - 1) ws k rest
@@ -117,24 +126,40 @@ unfolding op_at
 op_at-behind zero bytes rest ws k lt e = absurd (omega arith)
 op_at-behind (suc n) bytes rest ws k lt e = let m : suc n - 1 ≡ n = omega arith in rw (e, m) refl
 
-pub no_start : (n : ℕ) (e : Stop) (bytes : List ℕ) → Fails e (start_at bytes) → Stops e (op_at n bytes)
+pub no_start : (P : Type 0) (n : ℕ) (e : Stop) (bytes : List ℕ) → 0 < n → Fails e (start_at bytes) → Ends P e (op_at n bytes)
 unfolding op_at
-no_start zero e bytes h = Stops-bind e (start_at bytes) (λ s. Err _) (Stops-of e (start_at bytes) h)
-no_start (suc n) e bytes h = Stops-bind e (start_at bytes) (λ s. behind_id (op_at n) n s.0.0 s.0.1 s.1) (Stops-of e (start_at bytes) h)
+no_start P zero e bytes lt h = absurd (omega (arith, lt))
+no_start P (suc n) e bytes lt h = Ends-bind P e (start_at bytes) (λ s. behind_id (op_at n) n s.0.0 s.0.1 s.1) (Ends-of P e (start_at bytes) h)
 
-pub too_deep : (n : ℕ) (bytes : List ℕ) (x : (List (List ℕ) × HeadKind) × List ℕ) → n ≡ 0 → start_at bytes ≡ Ok x → op_at n bytes ≡ Err TooDeep
+-- an operation begins with a word: a name, or its id
+start_word : (e : Stop) (bytes : List ℕ) → Fails e (word_at bytes) → Fails e (start_at bytes)
+unfolding start_at names_before name_at op_id
+start_word Wanting bytes h = tt
+start_word Crowded bytes h = h
+start_word (At d left) bytes h = (rw (h.0) refl, h.1)
+
+-- where no level begins, the fault of that is one of the operation
+pub no_level : (P : Type 0) (n : ℕ) (e : Stop) (bytes : List ℕ) → Fails e (level_at n bytes) → Ends P e (op_at n bytes)
 unfolding op_at
-too_deep zero bytes x z e = rw e refl
-too_deep (suc n) bytes x z e = absurd (omega arith)
+no_level P zero e bytes h = Ends-of P e (word_at bytes >>= λ w. Err TooDeep) (level-deep _ e bytes h)
+no_level P (suc n) e bytes h = Ends-bind P e (start_at bytes) (λ s. behind_id (op_at n) n s.0.0 s.0.1 s.1) (Ends-of P e (start_at bytes) (start_word e bytes (level-word e (suc n) bytes (omega arith) h)))
 
 -- a module or a function is read behind its id
 pub bodied_behind : (n : ℕ) (bytes rest : List ℕ) (ws : List (List ℕ)) (names : List (Option (List ℕ))) (k : HeadKind) (b : BodyKind) → 0 < n → start_at bytes ≡ Ok ((ws, k), rest) → k ≡ Bodied b → names ≡ result_names ws → op_at n bytes ≡ bodied_at (op_at (n - 1)) (n - 1) b (length names) rest
 bodied_behind n bytes rest ws names k b lt e is given =
     op_at-behind n bytes rest ws k lt e ∙ ap (λ (z : HeadKind). behind_id (op_at (n - 1)) (n - 1) ws z rest) is ∙ ap (λ m. bodied_at (op_at (n - 1)) (n - 1) b m rest) (as_many ws names given)
 
-pub ReadsOn-from : {X Y : Type 0} (means : X → Y → Type 0) (r : Result X Stop) (read total : Result Y Fault) → total ≡ read → ReadsOn means r read → ReadsOn means r total
-ReadsOn-from means (Ok x) read total e h = (h.0, e ∙ h.1, h.2)
-ReadsOn-from means (Err stop) read total e h = Stops-from stop read total (sym e) h
+-- and a constant
+pub constant_at_id : (n : ℕ) (bytes rest : List ℕ) (ws : List (List ℕ)) (names : List (Option (List ℕ)))
+    (k : HeadKind) → 0 < n → start_at bytes ≡ Ok ((ws, k), rest) → k ≡ Constant → names ≡ result_names ws
+    → op_at n bytes ≡ (named_constant_at (n - 1) (length names) rest >>= λ c. done (constant_term (first_name ws) c.0.0 c.0.1, c.1))
+constant_at_id n bytes rest ws names k lt e is given =
+    op_at-behind n bytes rest ws k lt e ∙ ap (λ (z : HeadKind). behind_id (op_at (n - 1)) (n - 1) ws z rest) is
+    ∙ ap (λ m. named_constant_at (n - 1) m rest >>= λ c. done (constant_term (first_name ws) c.0.0 c.0.1, c.1)) (as_many ws names given)
+
+pub ReadsOn-from : {X Y : Type 0} (P : Type 0) (means : X → Y → Type 0) (r : Result X Stop) (read total : Result Y Fault) → total ≡ read → ReadsOn P means r read → ReadsOn P means r total
+ReadsOn-from P means (Ok x) read total e h = (h.0, e ∙ h.1, h.2)
+ReadsOn-from P means (Err stop) read total e h = Ends-from P stop read total (sym e) h
 
 -- a constant is read behind its id, with the one name that stands before that
 module _ {K A T X : Type 0} (s : Store K A T) (node : X → IRNode) (after : X → List ℕ) (n : ℕ) (bytes rest : List ℕ) (ws : List (List ℕ)) (names : List (Option (List ℕ))) (given : names ≡ result_names ws) where
@@ -142,37 +167,35 @@ module _ {K A T X : Type 0} (s : Store K A T) (node : X → IRNode) (after : X �
   as_constant c = (constant_term (first_name ws) c.0.0 c.0.1, c.1)
 
   constant_behind : (k : HeadKind) → 0 < n → start_at bytes ≡ Ok ((ws, k), rest) → k ≡ Constant → op_at n bytes ≡ (named_constant_at (n - 1) (length names) rest >>= λ c. done (as_constant c))
-  constant_behind k lt e is =
-      op_at-behind n bytes rest ws k lt e ∙ ap (λ (z : HeadKind). behind_id (op_at (n - 1)) (n - 1) ws z rest) is
-      ∙ ap (λ m. named_constant_at (n - 1) m rest >>= λ c. done (as_constant c)) (as_many ws names given)
+  constant_behind k lt e is = constant_at_id n bytes rest ws names k lt e is given
 
   one_name_given : (c : (AttrTerm × TypeTerm) × List ℕ) → named_constant_at (n - 1) (length names) rest ≡ Ok c → names ≡ result_names (first_name ws ∷ [])
   unfolding named_constant_at
   one_name_given c e = let u = bind_ok (named 1 (length names)) (λ u. constant_at (n - 1) rest) c e in one_given ws names given (named_is 1 (length names) u.0 u.1)
 
   pub constant_reads : (r : Result X Stop) (k : HeadKind) → 0 < n → start_at bytes ≡ Ok ((ws, k), rest) → k ≡ Constant
-      → ReadsOn (λ x y. IsConstantAt s (node x) names y.0 × (after x ≡ y.1)) r (named_constant_at (n - 1) (length names) rest) → ReadsOn (λ x y. IsOpAt s (node x) y.0 × (after x ≡ y.1)) r (op_at n bytes)
+      → ReadsOn (HasNoRoom s) (λ x y. IsConstantAt s (node x) names y.0 × (after x ≡ y.1)) r (named_constant_at (n - 1) (length names) rest) → ReadsOn (HasNoRoom s) (λ x y. IsOpAt s (node x) y.0 × (after x ≡ y.1)) r (op_at n bytes)
   constant_reads (Ok x) k lt e is h =
       let total = constant_behind k lt e is in
       (as_constant h.0, total ∙ rw (h.1) refl, (subst (λ z. IsConstantAt s (node x) z h.0.0) (one_name_given h.0 h.1) h.2.0, h.2.1))
-  constant_reads (Err stop) k lt e is h = Stops-from stop _ _ (sym (constant_behind k lt e is)) (Stops-bind stop _ (λ c. done (as_constant c)) h)
+  constant_reads (Err stop) k lt e is h = Ends-from (HasNoRoom s) stop _ _ (sym (constant_behind k lt e is)) (Ends-bind (HasNoRoom s) stop _ (λ c. done (as_constant c)) h)
 
 module _ (read : List ℕ → Result (OpTerm × List ℕ) Fault) (n : ℕ) (k : BodyKind) (names : ℕ) where
   -- what is read behind the id of a module or a function
   abbrev behind_names : List ℕ → Result (OpTerm × List ℕ) Fault
   behind_names bytes = header_at n k bytes >>= λ h. blocks_at read n h.1 >>= λ bs. Ok (op_term h.0 (blocks_of bs.0), bs.1)
 
-  pub no_head : (e : Stop) (u : Unit {0}) (bytes : List ℕ) → named 0 names ≡ Ok u → Fails e (header_at n k bytes) → Stops e (bodied_at read n k names bytes)
+  pub no_head : (P : Type 0) (e : Stop) (u : Unit {0}) (bytes : List ℕ) → named 0 names ≡ Ok u → Fails e (header_at n k bytes) → Ends P e (bodied_at read n k names bytes)
   unfolding bodied_at
-  no_head e u bytes p h =
+  no_head P e u bytes p h =
       let is : behind_names bytes ≡ bodied_at read n k names bytes = rw p refl in
-      Stops-from e _ _ is (Stops-bind e (header_at n k bytes) (λ h. blocks_at read n h.1 >>= λ bs. Ok (op_term h.0 (blocks_of bs.0), bs.1)) (Stops-of e (header_at n k bytes) h))
+      Ends-from P e _ _ is (Ends-bind P e (header_at n k bytes) (λ h. blocks_at read n h.1 >>= λ bs. Ok (op_term h.0 (blocks_of bs.0), bs.1)) (Ends-of P e (header_at n k bytes) h))
 
-  pub no_body : (e : Stop) (u : Unit {0}) (bytes rest : List ℕ) (h : Header) → named 0 names ≡ Ok u → header_at n k bytes ≡ Ok (h, rest) → Stops e (blocks_at read n rest) → Stops e (bodied_at read n k names bytes)
+  pub no_body : (P : Type 0) (e : Stop) (u : Unit {0}) (bytes rest : List ℕ) (h : Header) → named 0 names ≡ Ok u → header_at n k bytes ≡ Ok (h, rest) → Ends P e (blocks_at read n rest) → Ends P e (bodied_at read n k names bytes)
   unfolding bodied_at
-  no_body e u bytes rest h p q r =
+  no_body P e u bytes rest h p q r =
       let is : (blocks_at read n rest >>= λ bs. done (op_term h (blocks_of bs.0), bs.1)) ≡ bodied_at read n k names bytes = rw (p, q) refl in
-      Stops-from e _ _ is (Stops-bind e (blocks_at read n rest) (λ bs. done (op_term h (blocks_of bs.0), bs.1)) r)
+      Ends-from P e _ _ is (Ends-bind P e (blocks_at read n rest) (λ bs. done (op_term h (blocks_of bs.0), bs.1)) r)
 
   pub bodied_read : (u : Unit {0}) (bytes rest end : List ℕ) (h : Header) (bs : List BlockTerm) → named 0 names ≡ Ok u → header_at n k bytes ≡ Ok (h, rest) → blocks_at read n rest ≡ Ok (bs, end) → bodied_at read n k names bytes ≡ Ok (op_term h (blocks_of bs), end)
   unfolding bodied_at
@@ -189,23 +212,23 @@ module _ (read : List ℕ → Result (OpTerm × List ℕ) Fault) where
   unfolding ops_at
   operations bytes e = rw e refl
 
-  pub no_block_head : (n : ℕ) (e : Stop) (bytes : List ℕ) → Fails e (block_head_at n bytes) → Stops e (block_at read n bytes)
+  pub no_block_head : (P : Type 0) (n : ℕ) (e : Stop) (bytes : List ℕ) → Fails e (block_head_at n bytes) → Ends P e (block_at read n bytes)
   unfolding block_at
-  no_block_head n e bytes h = Stops-bind e (block_head_at n bytes) (λ w. ops_at read w.1 >>= λ os. Ok ((w.0, os.0), os.1)) (Stops-of e (block_head_at n bytes) h)
+  no_block_head P n e bytes h = Ends-bind P e (block_head_at n bytes) (λ w. ops_at read w.1 >>= λ os. Ok ((w.0, os.0), os.1)) (Ends-of P e (block_head_at n bytes) h)
 
-  pub no_block : (n : ℕ) (e : Stop) (bytes : List ℕ) (w : BlockHead) (rest : List ℕ) → block_head_at n bytes ≡ Ok (w, rest) → Stops e (ops_at read rest) → Stops e (block_at read n bytes)
+  pub no_block : (P : Type 0) (n : ℕ) (e : Stop) (bytes : List ℕ) (w : BlockHead) (rest : List ℕ) → block_head_at n bytes ≡ Ok (w, rest) → Ends P e (ops_at read rest) → Ends P e (block_at read n bytes)
   unfolding block_at
-  no_block n e bytes w rest p q =
+  no_block P n e bytes w rest p q =
       let is : (ops_at read rest >>= λ os. done ((w, os.0), os.1)) ≡ block_at read n bytes = rw p refl in
-      Stops-from e _ _ is (Stops-bind e (ops_at read rest) (λ os. done ((w, os.0), os.1)) q)
+      Ends-from P e _ _ is (Ends-bind P e (ops_at read rest) (λ os. done ((w, os.0), os.1)) q)
 
   pub block_read : (n : ℕ) (bytes : List ℕ) (w : BlockHead) (rest end : List ℕ) (os : List OpTerm) → block_head_at n bytes ≡ Ok (w, rest) → ops_at read rest ≡ Ok (os, end) → block_at read n bytes ≡ Ok ((w, os), end)
   unfolding block_at
   block_read n bytes w rest end os p q = rw (p, q) refl
 
-  pub no_brace : (n : ℕ) (e : Stop) (bytes : List ℕ) → Fails e (sign_at 123 bytes) → Stops e (blocks_at read n bytes)
+  pub no_brace : (P : Type 0) (n : ℕ) (e : Stop) (bytes : List ℕ) → Fails e (sign_at 123 bytes) → Ends P e (blocks_at read n bytes)
   unfolding blocks_at
-  no_brace n e bytes h = Stops-bind e (sign_at 123 bytes) _ (Stops-of e (sign_at 123 bytes) h)
+  no_brace P n e bytes h = Ends-bind P e (sign_at 123 bytes) _ (Ends-of P e (sign_at 123 bytes) h)
 
   pub no_blocks_inside : (n : ℕ) (bytes start rest : List ℕ) → sign_at 123 bytes ≡ Ok start → past_sign 125 start ≡ Some rest → blocks_at read n bytes ≡ Ok ([], rest)
   unfolding blocks_at

@@ -1,22 +1,24 @@
 -- Readers of whole texts of operations, and what they refuse.
-use Rattle.std.proofs.Common.{◌≡◌, ◌≤◌, ◌+◌, ℕ, List, Result, Ok, Err, refl, sym, ap, arith, ◌∙◌}
+use Rattle.std.proofs.Common.{◌≡◌, ◌⊎◌, inl, inr, ◌≤◌, ◌+◌, ℕ, Bool, true, false, true≢false, List, Result, Ok, Err, refl, sym, ap, arith, ◌∙◌}
 use Rattle.plir_text.specs.declared.fault.Fault.{Fault}
+use Rattle.plir_text.specs.declared.fault.Fault.TheVariants.{Memory, TooManyNodes}
+use Rattle.plir_text.specs.declared.fault.ReadErr.{ReadErr}
 use Rattle.plir_text.specs.declared.fault.Stop.{Stop}
 use Rattle.plir_text.specs.declared.fault.Stop.TheVariants.{Wanting, Crowded, At}
 use Rattle.plir_text.specs.ListsAgain.{refused, only_one}
 use Rattle.plir_text.specs.ListsFound.{whole_found}
-use Rattle.plir_text.specs.Reading.{Fails, fault_of}
-use Rattle.plir_text.specs.StepLaws.{done}
+use Rattle.plir_text.specs.Reading.{Ends, Fails, TellsNoPlace, is_of_text, fault_of}
+use Rattle.plir_text.specs.StepLaws.{done, Ends-bind, Ends-from}
 use Rattle.plir_text.specs.Steps.{◌>>=◌}
 use Rattle.plir_text.specs.TypeGrammar.{IsText}
 use Rattle.plir_text.specs.Wholes.{end_at, whole}
 use Rattle.plir_read.specs.OpGrammar.{OpWithin}
 use Rattle.plir_read.specs.OpReading.{op_at}
 use Rattle.plir_read.specs.OpTerms.{OpTerm}
-use Rattle.plir_read.specs.Stopping.{Stops, IsOfText}
+use Rattle.plir_read.specs.Stopping.{IsOfText}
 use Rattle.plir_read.proofs.OpAgain.{op_within_again}
 use Rattle.plir_read.proofs.OpFound.{op_found}
-use Rattle.plir_read.proofs.OpSteps.{Stops-of, Stops-bind, Stops-from}
+use Rattle.plir_read.proofs.OpSteps.{Ends-of}
 
 pub op_text_found : (n : ℕ) (bytes : List ℕ) (w : OpTerm) → whole (op_at n) bytes ≡ Ok w → IsText (OpWithin n) bytes w
 op_text_found n bytes w e = whole_found (OpWithin n) 41 (op_at n) (op_found n) bytes w e
@@ -25,21 +27,37 @@ pub op_text_refused : (n : ℕ) (bytes : List ℕ) (f : Fault) → whole (op_at 
 op_text_refused n bytes f e w s = refused (op_at n) (OpWithin n) (op_within_again n) bytes f e w s
 
 -- a fault that is told is the one that was met
-pub told : {X : Type 0} (stop : Stop) (f : Fault) (read : Result X Fault) → f ≡ fault_of stop → Stops stop read → IsOfText f → read ≡ Err f
-told Wanting f read e h is = absurd (is.0 e)
-told Crowded f read e h is = absurd (is.1 e)
-told (At g left) f read e h is = h ∙ ap (λ k. Err k) (sym e)
+pub told : {X : Type 0} (P : Type 0) (stop : Stop) (f : Fault) (read : Result X Fault) → f ≡ fault_of stop → Ends P stop read → IsOfText f → read ≡ Err f
+told P Wanting f read e h is = absurd (is.0 e)
+told P Crowded f read e h is = absurd (is.1 e)
+told P (At g left) f read e h is = h.0 ∙ ap (λ k. Err k) (sym e)
+
+-- no place is told where memory or room was wanting
+pub no_place : {X : Type 0} (P : Type 0) (stop : Stop) (e : ReadErr) (read : Result X Fault) → e.fault ≡ fault_of stop → ((stop ≡ Wanting) ⊎ (stop ≡ Crowded) → (e.line ≡ 0) × (e.column ≡ 0)) → Ends P stop read → TellsNoPlace e
+no_place P Wanting e read is nowhere h = λ none. nowhere (inl refl)
+no_place P Crowded e read is nowhere h = λ none. nowhere (inr refl)
+no_place P (At f left) e read is nowhere h = λ none. absurd (true≢false (sym h.1 ∙ ap is_of_text (sym is) ∙ none))
+
+-- there are too many nodes only where there is no room
+pub no_room : {X : Type 0} (P : Type 0) (stop : Stop) (f : Fault) (read : Result X Fault) → f ≡ fault_of stop → Ends P stop read → f ≡ TooManyNodes → P
+no_room P Wanting f read is h e = absurd (true≢false (sym (ap wants_memory is) ∙ ap wants_memory e))
+  where
+    wants_memory : Fault → Bool
+    wants_memory Memory = true
+    wants_memory _ = false
+no_room P Crowded f read is h e = h
+no_room P (At g left) f read is h e = absurd (true≢false (sym h.1 ∙ ap is_of_text (sym is ∙ e)))
 
 module _ {A : Type 0} (read : List ℕ → Result (A × List ℕ) Fault) (bytes : List ℕ) where
-  pub whole_stops : (e : Stop) → Stops e (read bytes) → Stops e (whole read bytes)
+  pub whole_stops : (P : Type 0) (e : Stop) → Ends P e (read bytes) → Ends P e (whole read bytes)
   unfolding whole
-  whole_stops e h = Stops-bind e (read bytes) (λ x. end_at x.1 >>= λ u. Ok x.0) h
+  whole_stops P e h = Ends-bind P e (read bytes) (λ x. end_at x.1 >>= λ u. Ok x.0) h
 
-  pub whole_stops_behind : (e : Stop) (x : A) (rest : List ℕ) → read bytes ≡ Ok (x, rest) → Fails e (end_at rest) → Stops e (whole read bytes)
+  pub whole_stops_behind : (P : Type 0) (e : Stop) (x : A) (rest : List ℕ) → read bytes ≡ Ok (x, rest) → Fails e (end_at rest) → Ends P e (whole read bytes)
   unfolding whole
-  whole_stops_behind e x rest p h =
+  whole_stops_behind P e x rest p h =
       let q : (end_at rest >>= λ u. done x) ≡ whole read bytes = rw p refl in
-      Stops-from e _ _ q (Stops-bind e (end_at rest) (λ u. done x) (Stops-of e (end_at rest) h))
+      Ends-from P e _ _ q (Ends-bind P e (end_at rest) (λ u. done x) (Ends-of P e (end_at rest) h))
 
   pub whole_read : (x : A) (rest : List ℕ) (u : Unit {0}) → read bytes ≡ Ok (x, rest) → end_at rest ≡ Ok u → whole read bytes ≡ Ok x
   unfolding whole

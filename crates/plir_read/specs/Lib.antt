@@ -9,16 +9,20 @@
 --   OpsStanding  IsOpAt: the written operation that a node of a context stands for; StandsForOp: the one that a text stands for
 --   Keeping      KeepsOlder: what reading leaves of a context as it was
 --   Slots        IsMadeInOrder: a tree's nodes come in the order of a text, each in the next slot of its kind
+--   Room         HasNoRoom: when there is no room for what a text needs next
 --   Stopping     ReadsOn: reading into a context; IsOfText: faults of a text
 --   TextTypes    IsInText: the types that are written in the text of an operation
+--   HeldTypes    IsHeldByOp: the types that an operation holds
 pub mod Keys
 pub mod Suffixes
 pub mod OpTerms
 pub mod OpGrammar
 pub mod OpReading
+pub mod Room
 pub mod Stopping
 pub mod Heads
 pub mod OpsStanding
 pub mod Keeping
 pub mod Slots
 pub mod TextTypes
+pub mod HeldTypes

@@ -139,7 +139,7 @@ module _ (read : List ℕ → Result (OpTerm × List ℕ) Fault) where
   behind_id n ns Constant bytes = read_as (λ c. constant_term (first_name ns) c.0 c.1) (named_constant_at n (length ns) bytes)
   behind_id n ns ForwardRef bytes = Err ForwardRefOpExistenceErr
 
--- an operation, with at most n levels open
+-- an operation, with at most n levels open: a word that comes where no level is left begins one that is too deep
 unfoldable pub op_at : (n : ℕ) → List ℕ → Result (OpTerm × List ℕ) Fault
-op_at zero bytes = start_at bytes >>= λ s. Err TooDeep
+op_at zero bytes = word_at bytes >>= λ w. Err TooDeep
 op_at (suc n) bytes = start_at bytes >>= λ s. behind_id (op_at n) n s.0.0 s.0.1 s.1

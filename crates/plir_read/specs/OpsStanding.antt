@@ -18,6 +18,7 @@ use Rattle.plir_text.specs.declared.fault.Stop.{Stop}
 use Rattle.plir_text.specs.TypeGrammar.{IsText}
 use Rattle.plir_read.specs.OpGrammar.{OpWithin}
 use Rattle.plir_read.specs.OpTerms.{Head, module_head, func_head, Header, BlockHead, OpTerm, op_term, constant_term, BlockTerms, no_blocks, block_before, OpTerms, no_ops, op_before, ops_of, blocks_of, BlockTerm}
+use Rattle.plir_read.specs.Room.{HasNoRoom}
 use Rattle.plir_read.specs.Stopping.{ReadsOnFirst}
 use Rattle.plir_read.specs.Heads.{module_op, func_op, result_names, IsConstant, constant_op, argument_types, written_block}
 
@@ -80,13 +81,13 @@ module _ {K A T : Type 0} where
 
   -- an operation, a block and a constant were read, and stand in the context at the pointer that is answered
   abbrev pub ReadsOp : Store K A T → Result (Ptr OperationKind × Bor (List ℕ)) Stop → Result (OpTerm × List ℕ) Fault → Type 0
-  ReadsOp s = ReadsOnFirst (λ p. IsOpAt s (Operation p))
+  ReadsOp s = ReadsOnFirst (HasNoRoom s) (λ p. IsOpAt s (Operation p))
 
   abbrev pub ReadsBlock : Store K A T → Result (Ptr BlockKind × Bor (List ℕ)) Stop → Result (BlockTerm × List ℕ) Fault → Type 0
-  ReadsBlock s = ReadsOnFirst (λ p. IsBlockAt s (BasicBlock p))
+  ReadsBlock s = ReadsOnFirst (HasNoRoom s) (λ p. IsBlockAt s (BasicBlock p))
 
   abbrev pub ReadsConstant : Store K A T → (names : List (Option (List ℕ))) → Result (Ptr OperationKind × Bor (List ℕ)) Stop → Result ((AttrTerm × TypeTerm) × List ℕ) Fault → Type 0
-  ReadsConstant s names = ReadsOnFirst (λ p. IsConstantAt s (Operation p) names)
+  ReadsConstant s names = ReadsOnFirst (HasNoRoom s) (λ p. IsConstantAt s (Operation p) names)
 
   -- The whole text stands for the operation at n, with at most k levels open.
   abbrev pub StandsForOp : (k : ℕ) → Store K A T → (bytes : List ℕ) → IRNode → Type 0

@@ -1,8 +1,10 @@
 //! Heads of blocks.
 ghost use Rattle.plir_text.specs.Lists.{items_at};
 ghost use Rattle.plir_text.specs.Names.{AreNamed, Grows};
+ghost use Rattle.plir_text.specs.Parts.{IsPartOf};
 ghost use Rattle.plir_text.specs.Reading.{ReadsFirst};
 ghost use Rattle.plir_read.specs.Heads.{AreArguments, IsArgument, IsBlockHead};
+ghost use Rattle.plir_read.specs.HeldTypes.{IsHeldByArgument, IsHeldByBlockHead, HoldsNew};
 ghost use Rattle.plir_read.specs.OpReading.{argument_at, block_head_at};
 ghost use Rattle.plir_read.specs.TextTypes.{IsInText};
 
@@ -39,6 +41,7 @@ fn read_argument<'a, D: OpSet, C: TypeStore<D>>(
     ensures read { ReadsFirst (IsArgument (C.types ctx.new)) result (argument_at levels bytes.now) }
     ensures grown { Grows (C.types ctx.old) (C.types ctx.new) }
     ensures named { AreNamed (IsInText bytes.now) (C.types ctx.old) (C.types ctx.new) }
+    ensures held { HoldsNew (λ t a. IsPartOf t a.1) result (argument_at levels bytes.now) (C.types ctx.old) (C.types ctx.new) }
     ensures rest { C.same_besides ctx.old ctx.new }
 {
     let (name, rest) = read_name(alloc, bytes)?;
@@ -62,6 +65,7 @@ fn read_arguments<'a, D: OpSet, C: TypeStore<D>>(
     ensures read { ReadsFirst (AreArguments (C.types ctx.new)) result (items_at 40 41 (argument_at levels) bytes.now) }
     ensures grown { Grows (C.types ctx.old) (C.types ctx.new) }
     ensures named { AreNamed (IsInText bytes.now) (C.types ctx.old) (C.types ctx.new) }
+    ensures held { HoldsNew IsHeldByArgument result (items_at 40 41 (argument_at levels) bytes.now) (C.types ctx.old) (C.types ctx.new) }
     ensures rest { C.same_besides ctx.old ctx.new }
 {
     let start = read_sign(bytes, b'(')?;
@@ -98,6 +102,7 @@ pub fn read_block_head<'a, D: OpSet, C: TypeStore<D>>(
     ensures read { ReadsFirst (IsBlockHead (C.types ctx.new)) result (block_head_at levels bytes.now) }
     ensures grown { Grows (C.types ctx.old) (C.types ctx.new) }
     ensures named { AreNamed (IsInText bytes.now) (C.types ctx.old) (C.types ctx.new) }
+    ensures held { HoldsNew IsHeldByBlockHead result (block_head_at levels bytes.now) (C.types ctx.old) (C.types ctx.new) }
     ensures rest { C.same_besides ctx.old ctx.new }
 {
     let start = read_sign(bytes, b'^')?;

@@ -6,8 +6,10 @@ ghost use Rattle.plir_core.specs.Whole.{IsWhole};
 ghost use Rattle.plir_core.specs.declared.ptr.IRNode.{IRNode};
 ghost use Rattle.plir_text.specs.MeantBy.{IsMeantBy};
 ghost use Rattle.plir_text.specs.Names.{AreNamed, Grows};
+ghost use Rattle.plir_text.specs.Parts.{IsHeldBy};
 ghost use Rattle.plir_text.specs.Reading.{ReadsFirst};
 ghost use Rattle.plir_read.specs.Heads.{IsConstant};
+ghost use Rattle.plir_read.specs.HeldTypes.{IsHeldByConstant, HoldsNew};
 ghost use Rattle.plir_read.specs.Keeping.{KeepsOlder};
 ghost use Rattle.plir_read.specs.OpReading.{value_at, constant_at, named_constant_at};
 ghost use Rattle.plir_read.specs.OpsStanding.{ReadsConstant};
@@ -42,6 +44,7 @@ fn read_value<'a, D: OpSet, C: TypeStore<D>>(
     ensures read { ReadsFirst (IsMeantBy (C.types ctx.new)) result (value_at levels bytes.now) }
     ensures grown { Grows (C.types ctx.old) (C.types ctx.new) }
     ensures named { AreNamed (IsInText bytes.now) (C.types ctx.old) (C.types ctx.new) }
+    ensures held { HoldsNew IsHeldBy result (value_at levels bytes.now) (C.types ctx.old) (C.types ctx.new) }
     ensures rest { C.same_besides ctx.old ctx.new }
 {
     let start = read_sign(bytes, b'<')?;
@@ -65,6 +68,7 @@ fn read_typed_value<'a, D: OpSet, C: TypeStore<D>>(
     ensures read { ReadsFirst (λ x. IsConstant (C.types ctx.new) (attr_view x.value) x.ty) result (constant_at levels bytes.now) }
     ensures grown { Grows (C.types ctx.old) (C.types ctx.new) }
     ensures named { AreNamed (IsInText bytes.now) (C.types ctx.old) (C.types ctx.new) }
+    ensures held { HoldsNew IsHeldByConstant result (constant_at levels bytes.now) (C.types ctx.old) (C.types ctx.new) }
     ensures rest { C.same_besides ctx.old ctx.new }
 {
     let (value, rest) = match read_value(alloc, ctx, levels, bytes) {
@@ -96,6 +100,7 @@ pub fn read_constant<'a, D: OpSet>(
     ensures slots { IfOk result (λ x. IsMadeInOrder ctx.old.nodes ctx.new.nodes (IRNode.Operation x.0)) }
     ensures kept { KeepsOlder ctx.old ctx.new }
     ensures named { AreNamed (IsInText bytes.now) ctx.old.types ctx.new.types }
+    ensures held { HoldsNew IsHeldByConstant result (named_constant_at levels (length names.items) bytes.now) ctx.old.types ctx.new.types }
     ensures whole { IsWhole D.attr_handles ctx.new }
 {
     let _before = ctx.num_live();

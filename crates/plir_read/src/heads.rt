@@ -3,6 +3,7 @@ ghost use Rattle.std.specs.Prelude.{◌≡◌, Ok};
 ghost use Rattle.plir_text.specs.Names.{AreNamed, Grows};
 ghost use Rattle.plir_text.specs.Reading.{ReadsFirst, Gives};
 ghost use Rattle.plir_read.specs.Heads.{IsHead};
+ghost use Rattle.plir_read.specs.HeldTypes.{IsHeldByHead, HoldsNew};
 ghost use Rattle.plir_read.specs.OpReading.{op_kind, op_id, symbol_at, head_at, ends_block, semicolon_at, brace_at};
 ghost use Rattle.plir_read.specs.TextTypes.{IsInText};
 
@@ -37,14 +38,6 @@ pub enum HeadData {
     Func(Identifier, TypeHandle),
 }
 
-// The ids that begin an operation.
-const OP_IDS: [&str; 4] = [
-    "builtin.module",
-    "builtin.func",
-    "builtin.constant",
-    "builtin.forward_ref",
-];
-
 // What the id of an operation names, with this many bytes left where it stands.
 #[tactic(auto, unfolding(crate::specs::OpReading::op_kind))]
 fn op_kind(word: &[u8], left: usize) -> Result<HeadKind, Stop>
@@ -59,7 +52,7 @@ fn op_kind(word: &[u8], left: usize) -> Result<HeadKind, Stop>
     } else if word == b"builtin.forward_ref".as_slice() {
         Ok(HeadKind::ForwardRef)
     } else {
-        Err(Stop::At(Fault::Unexpected, unread_id_at(word, left, &OP_IDS)))
+        Err(Stop::At(Fault::Unexpected, unread_id_at(word, left)))
     }
 }
 
@@ -124,6 +117,7 @@ pub fn read_head<'a, D: OpSet, C: TypeStore<D>>(
     ensures read { ReadsFirst (IsHead (C.types ctx.new)) result (head_at levels kind bytes.now) }
     ensures grown { Grows (C.types ctx.old) (C.types ctx.new) }
     ensures named { AreNamed (IsInText bytes.now) (C.types ctx.old) (C.types ctx.new) }
+    ensures held { HoldsNew IsHeldByHead result (head_at levels kind bytes.now) (C.types ctx.old) (C.types ctx.new) }
     ensures rest { C.same_besides ctx.old ctx.new }
 {
     match kind {

@@ -16,6 +16,7 @@ ghost use Rattle.plir_read.specs.Keys.{names_key};
 ghost use Rattle.plir_read.specs.Heads.{IsHeadLive, module_attributes, func_attributes, op_with, block_with};
 ghost use Rattle.plir_read.specs.Heads.{constant_attributes, constant_op};
 ghost use Rattle.plir_read.specs.Keeping.{IsNewOp, IsNewLeaf, IsNewBlock, KeepsOlder};
+ghost use Rattle.plir_read.specs.Room.{HasNoRoom};
 ghost use Rattle.plir_read.specs.Slots.{AreGivenOut};
 ghost use Rattle.plir_read.specs.Stopping.{IsRefusal};
 
@@ -42,7 +43,7 @@ const ATTR_KEY_CONSTANT_VALUE: &'static str = "builtin_constant_value";
 
 // Why reading stops where a node was not made.
 pub fn stop_of(refused: NodeErr) -> Stop
-    ensures { IsRefusal result }
+    ensures { IsRefusal (refused ≡ NodeErr.TooManyNodes) result }
 {
     match refused {
         NodeErr::Memory => Stop::Wanting,
@@ -60,7 +61,7 @@ fn put_under<D: OpSet>(
     requires { IsIdentifier key.now ≡ true }
     ensures ok { OnOk result (attributes.new ≡ dict_put attributes.old key.now (attr_view value)) }
     ensures err { OnErr result (attributes.new ≡ attributes.old) }
-    ensures refused { IfErr result IsRefusal }
+    ensures refused { IfErr result (IsRefusal ⊥) }
 {
     let Ok(key) = Identifier::try_new(alloc, key) else {
         return Err(Stop::Wanting);
@@ -79,7 +80,7 @@ fn named<D: OpSet>(
 ) -> Result<AttributeDict<D>, Stop>
     ensures value { IfOk result (λ es. es ≡ module_attributes name entries) }
     ensures live { IfOk result (λ es. (types : List (TypeView D.Ty)) → HandlesLive D.attr_handles types entries → HandlesLive D.attr_handles types es) }
-    ensures refused { IfErr result IsRefusal }
+    ensures refused { IfErr result (IsRefusal ⊥) }
 {
     let mut attributes = entries;
     let value = AttrObj::Identifier(IdentifierAttr::new(name));
@@ -96,7 +97,7 @@ fn named_and_typed<D: OpSet>(
 ) -> Result<AttributeDict<D>, Stop>
     ensures value { IfOk result (λ es. es ≡ func_attributes name ty entries) }
     ensures live { IfOk result (λ es. (types : List (TypeView D.Ty)) → IsTypeLive types ty → HandlesLive D.attr_handles types entries → HandlesLive D.attr_handles types es) }
-    ensures refused { IfErr result IsRefusal }
+    ensures refused { IfErr result (IsRefusal ⊥) }
 {
     let mut attributes = named(alloc, entries, name)?;
     let value = AttrObj::Type(TypeAttr::new(ty));
@@ -116,7 +117,7 @@ fn make_with<D: OpSet>(
     ensures slots { IfOk result (λ x. AreGivenOut ctx.old.nodes (IRNode.Operation x.0 ∷ IRNode.Region x.1 ∷ []) ctx.new.nodes) }
     ensures kept { OnErr result (KeepsOlder ctx.old ctx.new) }
     ensures types { OnErr result (ctx.new.types ≡ ctx.old.types) }
-    ensures refused { IfErr result IsRefusal }
+    ensures refused { IfErr result (IsRefusal (HasNoRoom ctx.new)) }
     ensures whole { IsWhole D.attr_handles ctx.new }
 {
     let _before = ctx.num_live();
@@ -144,7 +145,7 @@ pub fn make_op<D: OpSet>(
     ensures slots { IfOk result (λ x. AreGivenOut ctx.old.nodes (IRNode.Operation x.0 ∷ IRNode.Region x.1 ∷ []) ctx.new.nodes) }
     ensures kept { OnErr result (KeepsOlder ctx.old ctx.new) }
     ensures types { OnErr result (ctx.new.types ≡ ctx.old.types) }
-    ensures refused { IfErr result IsRefusal }
+    ensures refused { IfErr result (IsRefusal (HasNoRoom ctx.new)) }
     ensures whole { IsWhole D.attr_handles ctx.new }
 {
     let _before = ctx.num_live();
@@ -176,7 +177,7 @@ fn named_and_valued<D: OpSet>(
 ) -> Result<AttributeDict<D>, Stop>
     ensures value { IfOk result (λ es. es ≡ constant_attributes names.items (attr_view value)) }
     ensures live { IfOk result (λ es. (types : List (TypeView D.Ty)) → IsAttrLive D.attr_handles types (attr_view value) → HandlesLive D.attr_handles types es) }
-    ensures refused { IfErr result IsRefusal }
+    ensures refused { IfErr result (IsRefusal ⊥) }
 {
     let mut attributes = AttributeDict::new(alloc);
     if !all_unset(names.as_slice()) {
@@ -190,7 +191,7 @@ fn named_and_valued<D: OpSet>(
 // A list of one type.
 fn one_type(alloc: Global, ty: TypeHandle) -> Result<Vec<TypeHandle>, Stop>
     ensures value { IfOk result (λ ts. ts.items ≡ ty ∷ []) }
-    ensures refused { IfErr result IsRefusal }
+    ensures refused { IfErr result (IsRefusal ⊥) }
 {
     let mut types = Vec::new(alloc);
     match types.push(ty) {
@@ -212,7 +213,7 @@ pub fn make_constant<D: OpSet>(
     ensures slots { IfOk result (λ p. AreGivenOut ctx.old.nodes (IRNode.Operation p ∷ []) ctx.new.nodes) }
     ensures kept { OnErr result (KeepsOlder ctx.old ctx.new) }
     ensures types { OnErr result (ctx.new.types ≡ ctx.old.types) }
-    ensures refused { IfErr result IsRefusal }
+    ensures refused { IfErr result (IsRefusal (HasNoRoom ctx.new)) }
     ensures whole { IsWhole D.attr_handles ctx.new }
 {
     let _before = ctx.num_live();
@@ -245,7 +246,7 @@ fn put_names<D: OpSet>(
     requires { IsLive ctx.old (IRNode.BasicBlock block) }
     ensures put { OnOk result (ctx.new ≡ with_block_edit ctx.old block (λ b. record b { attributes = dict_put b.attributes names_key (leaf (given_names names.items)) })) }
     ensures same { OnErr result (ctx.new ≡ ctx.old) }
-    ensures refused { IfErr result IsRefusal }
+    ensures refused { IfErr result (IsRefusal ⊥) }
     ensures whole { IsWhole D.attr_handles ctx.new }
 {
     let _before = ctx.num_live();
@@ -268,7 +269,7 @@ pub fn make_block<D: OpSet>(
     ensures slots { IfOk result (λ p. AreGivenOut ctx.old.nodes (IRNode.BasicBlock p ∷ []) ctx.new.nodes) }
     ensures kept { OnErr result (KeepsOlder ctx.old ctx.new) }
     ensures types { OnErr result (ctx.new.types ≡ ctx.old.types) }
-    ensures refused { IfErr result IsRefusal }
+    ensures refused { IfErr result (IsRefusal (HasNoRoom ctx.new)) }
     ensures whole { IsWhole D.attr_handles ctx.new }
 {
     let _before = ctx.num_live();

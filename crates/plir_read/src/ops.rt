@@ -6,9 +6,12 @@ ghost use Rattle.plir_core.specs.Store.{IsLive, kids};
 ghost use Rattle.plir_core.specs.Whole.{IsWhole};
 ghost use Rattle.plir_core.specs.declared.ptr.IRNode.{IRNode};
 ghost use Rattle.plir_text.specs.Names.{AreNamed};
+ghost use Rattle.plir_read.specs.HeldTypes.{IsHeldByBlock, IsHeldByBlocks, IsHeldByOp, IsHeldByOps, HoldsNew};
 ghost use Rattle.plir_read.specs.Keeping.{KeepsBut, KeepsOlder};
 ghost use Rattle.plir_read.specs.OpReading.{op_at, bodied_at, ops_at, block_at, blocks_at};
+ghost use Rattle.plir_read.specs.OpTerms.{ops_of, blocks_of};
 ghost use Rattle.plir_read.specs.OpsStanding.{HasOps, HasBlocks, ReadsOp, ReadsBlock};
+ghost use Rattle.plir_read.specs.Room.{HasNoRoom};
 ghost use Rattle.plir_read.specs.Slots.{IsMadeInOrder, IsGrownInOrder};
 ghost use Rattle.plir_read.specs.Stopping.{ReadsOnPast};
 ghost use Rattle.plir_read.specs.TextTypes.{IsInText};
@@ -24,8 +27,7 @@ use plir_core::{BasicBlock, Context, Operation, Ptr, Region};
 use plir_data::OpSet;
 use plir_text::Fault;
 use plir_text::fault::Stop;
-use plir_text::tokens::left_at;
-use plir_text::words::{past_sign, read_sign};
+use plir_text::words::{begin_level, past_sign, read_sign};
 use std::alloc::Global;
 
 // The operations of a block that has none.
@@ -39,11 +41,12 @@ fn read_ops<'a, D: OpSet>(
 ) -> Result<&'a [u8], Stop>
     requires live { IsLive ctx.old (IRNode.BasicBlock block) }
     requires empty { kids ctx.old (IRNode.BasicBlock block) ≡ [] }
-    ensures read { ReadsOnPast (HasOps ctx.new block) result (ops_at (op_at levels) bytes.now) }
+    ensures read { ReadsOnPast (HasNoRoom ctx.new) (HasOps ctx.new block) result (ops_at (op_at levels) bytes.now) }
     ensures grown { IfOk result (λ x. IsGrown ctx.old.nodes ctx.new.nodes (IRNode.BasicBlock block)) }
     ensures slots { IfOk result (λ x. IsGrownInOrder ctx.old.nodes ctx.new.nodes (IRNode.BasicBlock block)) }
     ensures kept { KeepsBut ctx.old ctx.new (Some (IRNode.BasicBlock block)) }
     ensures named { AreNamed (IsInText bytes.now) ctx.old.types ctx.new.types }
+    ensures held { HoldsNew (λ t os. IsHeldByOps t (ops_of os)) result (ops_at (op_at levels) bytes.now) ctx.old.types ctx.new.types }
     ensures whole { IsWhole D.attr_handles ctx.new }
 {
     contexts_stand::<D>();
@@ -82,6 +85,7 @@ fn read_block<'a, D: OpSet>(
     ensures slots { IfOk result (λ x. IsMadeInOrder ctx.old.nodes ctx.new.nodes (IRNode.BasicBlock x.0)) }
     ensures kept { KeepsOlder ctx.old ctx.new }
     ensures named { AreNamed (IsInText bytes.now) ctx.old.types ctx.new.types }
+    ensures held { HoldsNew IsHeldByBlock result (block_at (op_at levels) levels bytes.now) ctx.old.types ctx.new.types }
     ensures whole { IsWhole D.attr_handles ctx.new }
 {
     contexts_stand::<D>();
@@ -108,11 +112,12 @@ fn read_body<'a, D: OpSet>(
 ) -> Result<&'a [u8], Stop>
     requires live { IsLive ctx.old (IRNode.Region region) }
     requires empty { kids ctx.old (IRNode.Region region) ≡ [] }
-    ensures read { ReadsOnPast (HasBlocks ctx.new region) result (blocks_at (op_at levels) levels bytes.now) }
+    ensures read { ReadsOnPast (HasNoRoom ctx.new) (HasBlocks ctx.new region) result (blocks_at (op_at levels) levels bytes.now) }
     ensures grown { IfOk result (λ x. IsGrown ctx.old.nodes ctx.new.nodes (IRNode.Region region)) }
     ensures slots { IfOk result (λ x. IsGrownInOrder ctx.old.nodes ctx.new.nodes (IRNode.Region region)) }
     ensures kept { KeepsBut ctx.old ctx.new (Some (IRNode.Region region)) }
     ensures named { AreNamed (IsInText bytes.now) ctx.old.types ctx.new.types }
+    ensures held { HoldsNew (λ t bs. IsHeldByBlocks t (blocks_of bs)) result (blocks_at (op_at levels) levels bytes.now) ctx.old.types ctx.new.types }
     ensures whole { IsWhole D.attr_handles ctx.new }
 {
     contexts_stand::<D>();
@@ -156,6 +161,7 @@ fn read_bodied<'a, D: OpSet>(
     ensures slots { IfOk result (λ x. IsMadeInOrder ctx.old.nodes ctx.new.nodes (IRNode.Operation x.0)) }
     ensures kept { KeepsOlder ctx.old ctx.new }
     ensures named { AreNamed (IsInText bytes.now) ctx.old.types ctx.new.types }
+    ensures held { HoldsNew IsHeldByOp result (bodied_at (op_at levels) levels kind names bytes.now) ctx.old.types ctx.new.types }
     ensures whole { IsWhole D.attr_handles ctx.new }
 {
     contexts_stand::<D>();
@@ -186,13 +192,12 @@ pub fn read_op_at<'a, D: OpSet>(
     ensures slots { IfOk result (λ x. IsMadeInOrder ctx.old.nodes ctx.new.nodes (IRNode.Operation x.0)) }
     ensures kept { KeepsOlder ctx.old ctx.new }
     ensures named { AreNamed (IsInText bytes.now) ctx.old.types ctx.new.types }
+    ensures held { HoldsNew IsHeldByOp result (op_at levels bytes.now) ctx.old.types ctx.new.types }
     ensures whole { IsWhole D.attr_handles ctx.new }
 {
     let _before = ctx.num_live();
+    begin_level(levels, bytes)?;
     let (opening, rest) = read_opening(alloc, bytes)?;
-    if levels == 0 {
-        return Err(Stop::At(Fault::TooDeep, left_at(bytes)));
-    }
     let Opening { names, kind, left } = opening;
     match kind {
         HeadKind::Bodied(body) => {

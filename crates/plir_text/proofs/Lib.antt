@@ -9,4 +9,3 @@ pub mod Ascii
 pub mod Values
 pub mod ReadBack
 pub mod Asked
-pub mod Parts

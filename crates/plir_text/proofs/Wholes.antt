@@ -1,8 +1,9 @@
 -- Readers of whole texts, and what they refuse.
-use Rattle.std.proofs.Common.{◌≡◌, ◌≢◌, ◌≤◌, ◌+◌, ℕ, suc, arith, List, Result, Ok, Err, refl, sym, ap, ◌∙◌}
+use Rattle.std.proofs.Common.{◌≡◌, ◌≢◌, ◌⊎◌, inl, ◌≤◌, ◌+◌, ℕ, suc, arith, true≢false, List, Result, Ok, Err, refl, sym, ap, ◌∙◌}
 use Rattle.plir_data.specs.declared.types.Signedness.{Signedness}
 use Rattle.plir_text.specs.declared.fault.Fault.{Fault}
 use Rattle.plir_text.specs.declared.fault.Fault.TheVariants.{Memory}
+use Rattle.plir_text.specs.declared.fault.ReadErr.{ReadErr}
 use Rattle.plir_text.specs.declared.fault.Stop.{Stop}
 use Rattle.plir_text.specs.declared.fault.Stop.TheVariants.{Wanting, Crowded, At}
 use Rattle.plir_text.specs.Terms.{TypeTerm, TypeTerms}
@@ -10,7 +11,7 @@ use Rattle.plir_text.specs.TypeGrammar.{IsText, TypeWithin, IsInteger, FunctionW
 use Rattle.plir_text.specs.TypeReading.{integer_at, function_at, type_at}
 use Rattle.plir_text.specs.Wholes.{end_at, whole}
 use Rattle.plir_text.specs.Steps.{◌>>=◌}
-use Rattle.plir_text.specs.Reading.{Fails, fault_of}
+use Rattle.plir_text.specs.Reading.{Fails, TellsNoPlace, is_of_text, fault_of}
 use Rattle.plir_text.specs.StepLaws.{done, Fails-bind, Fails-from}
 use Rattle.plir_text.specs.ListsFound.{IsSound, whole_found}
 use Rattle.plir_text.specs.ListsAgain.{refused, only_one}
@@ -21,7 +22,13 @@ use Rattle.plir_text.specs.TypesAgain.{integer_again, type_within_again, functio
 pub told : {X : Type 0} (stop : Stop) (f : Fault) (read : Result X Fault) → f ≡ fault_of stop → Fails stop read → f ≢ Memory → read ≡ Err f
 told Wanting f read e h n = absurd (n e)
 told Crowded f read e h n = absurd h
-told (At g left) f read e h n = h ∙ ap (λ k. Err k) (sym e)
+told (At g left) f read e h n = h.0 ∙ ap (λ k. Err k) (sym e)
+
+-- no place is told where memory was wanting
+pub no_place : {X : Type 0} (stop : Stop) (e : ReadErr) (read : Result X Fault) → e.fault ≡ fault_of stop → ((stop ≡ Wanting) ⊎ (stop ≡ Crowded) → (e.line ≡ 0) × (e.column ≡ 0)) → Fails stop read → TellsNoPlace e
+no_place Wanting e read is nowhere h = λ none. nowhere (inl refl)
+no_place Crowded e read is nowhere h = absurd h
+no_place (At f left) e read is nowhere h = λ none. absurd (true≢false (sym h.1 ∙ ap is_of_text (sym is) ∙ none))
 
 pub type_text_found : (n : ℕ) (bytes : List ℕ) (t : TypeTerm) → whole (type_at n) bytes ≡ Ok t → IsText (TypeWithin n) bytes t
 type_text_found n bytes t e = whole_found (TypeWithin n) 41 (type_at n) (type_found n) bytes t e

@@ -10,6 +10,7 @@ use Rattle.plir_text.specs.AttrReading.{attr_at}
 use Rattle.plir_text.specs.AttrText.{attr_text}
 use Rattle.plir_text.specs.Meaning.{StandsFor}
 use Rattle.plir_text.specs.Names.{Grows, AreNamed}
+use Rattle.plir_text.specs.Parts.{IsHeldBy}
 use Rattle.plir_text.specs.Terms.{AttrTerm, levels}
 use Rattle.plir_text.specs.TypeGrammar.{IsText}
 use Rattle.plir_text.specs.TypesIn.{IsInAttr}
@@ -21,7 +22,7 @@ use Rattle.plir_text.specs.declared.fault.ReadErr.{ReadErr}
 module _ {D K A T E : Type 0} where
   -- The answer to a text, read with the type table `old`, which leaves the table `new`: an attribute that the text stands for, with
   -- handles of the table; or memory was wanting, or the fault that is met first, and then the text stands for no attribute. Types that are
-  -- written in it have come last, as far as it was read, and no others.
+  -- written in it have come last, as far as it was read, and no others: where the text stands for an attribute, types that this one holds.
   pub record IsAttrRead (own_handles : A → List ℕ) (old : List (TypeView T)) (text : List ℕ) (answer : Result (AttrObj D K A T E) ReadErr) (new : List (TypeView T)) : Type 0 where
     pub found : IfOk answer (λ a. StandsFor 200 new text (attr_view a))
     pub live : IfOk answer (λ a. IsAttrLive own_handles new (attr_view a))
@@ -29,6 +30,7 @@ module _ {D K A T E : Type 0} where
     pub refused : IfErr answer (λ e. e.fault ≢ Memory → (x : AttrTerm) → IsText (AttrWithin 200) text x → ⊥)
     pub grown : Grows old new
     pub named : AreNamed (IsInAttr 200 text) old new
+    pub held : (x : AttrTerm) → IsText (AttrWithin 200) text x → AreNamed (λ t. IsHeldBy t x) old new
 
   -- the answer is an attribute that is equal to this one, or memory was wanting
   abbrev pub IsEqualOrMemory : AttrView A → Result (AttrObj D K A T E) ReadErr → Type 0

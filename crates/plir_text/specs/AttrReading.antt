@@ -11,6 +11,7 @@ use Rattle.plir_text.specs.Terms.{AttrTerm, attrs_of, entries_of}
 use Rattle.plir_text.specs.Tokens.{Token, word, digits, signed, quoted, arrow, sign, look}
 use Rattle.plir_text.specs.Lists.{sign_at, past_sign, items_at}
 use Rattle.plir_text.specs.TypeReading.{word_at, integer_at, type_at}
+use Rattle.plir_text.specs.Levels.{level_at}
 use Rattle.plir_text.specs.declared.fault.Fault.{Fault}
 use Rattle.plir_text.specs.declared.fault.Fault.TheVariants.{Unexpected, TooDeep, IntegerOutOfRange, IntegerWidthUnsupported}
 use Rattle.plir_text.specs.declared.attr_words.AttrKind.{AttrKind}
@@ -86,14 +87,10 @@ bits_of false m w = if nat_lt m (2 ^ w) then Ok m else Err IntegerOutOfRange
 unfoldable pub value_of : (negative : Bool) → (magnitude width : ℕ) → Result ℕ Fault
 value_of s m w = if is_width w then bits_of s m w else Err IntegerWidthUnsupported
 
--- one level more is left
-unfoldable pub if_level : ℕ → Result (Unit {0}) Fault
-if_level n = if nat_le 1 n then Ok tt else Err TooDeep
-
--- a type and the bits of a value of it, with at most n levels in it
+-- a type, which is a level, and the bits of a value of it, with at most n levels in it
 unfoldable pub value_at : (n : ℕ) → List ℕ → Result (((Signedness × ℕ) × ℕ) × List ℕ) Fault
 value_at n bytes =
-    sign_at 60 bytes >>= λ start. literal_at start >>= λ v. sign_at 58 v.1 >>= λ colon. integer_at colon >>= λ t. if_level n >>= λ u. sign_at 62 t.1 >>= λ end. value_of v.0.0 v.0.1 t.0.1 >>= λ b. Ok ((t.0, b), end)
+    sign_at 60 bytes >>= λ start. literal_at start >>= λ v. sign_at 58 v.1 >>= λ colon. level_at n colon >>= λ u. integer_at colon >>= λ t. sign_at 62 t.1 >>= λ end. value_of v.0.0 v.0.1 t.0.1 >>= λ b. Ok ((t.0, b), end)
 
 -- ---- attributes in attributes
 
@@ -114,7 +111,7 @@ attr_body n read kinds.TypeOf bytes = read_as terms.type (type_at n bytes)
 attr_body n read kinds.OperandSegmentSizes bytes = read_as terms.operand_segment_sizes (items_at 91 93 size_at bytes)
 attr_body n read kinds.GivenNames bytes = read_as terms.given_names (items_at 91 93 given_name_at bytes)
 
--- an attribute, with at most n levels open
+-- an attribute, with at most n levels open: a word that comes where no level is left begins one that is too deep
 unfoldable pub attr_at : (n : ℕ) → List ℕ → Result (AttrTerm × List ℕ) Fault
-attr_at zero bytes = attr_head bytes >>= λ h. Err TooDeep
+attr_at zero bytes = word_at bytes >>= λ w. Err TooDeep
 attr_at (suc n) bytes = attr_head bytes >>= λ h. attr_body n (attr_at n) h.0 h.1

@@ -2,7 +2,6 @@
 use Rattle.std.proofs.Common.{◌≡◌, ℕ, zero, suc, ◌-◌, ◌<◌, List, Result, Ok, Err, refl, sym, ap, subst, ◌∙◌, arith}
 use Rattle.plir_data.specs.AttrView.{AttrView}
 use Rattle.plir_text.specs.declared.fault.Fault.{Fault}
-use Rattle.plir_text.specs.declared.fault.Fault.TheVariants.{TooDeep}
 use Rattle.plir_text.specs.declared.fault.Stop.{Stop}
 use Rattle.plir_text.specs.declared.fault.Stop.TheVariants.{Wanting, Crowded, At}
 use Rattle.plir_text.specs.declared.attr_words.AttrKind.{AttrKind}
@@ -10,7 +9,10 @@ use Rattle.plir_text.specs.Steps.{◌>>=◌, read_as}
 use Rattle.plir_text.specs.Terms.{AttrTerm}
 use Rattle.plir_text.specs.Meaning.{IsMeant}
 use Rattle.plir_data.specs.Types.{TypeView}
-use Rattle.plir_text.specs.AttrReading.{attr_head, attr_body, attr_at}
+use Rattle.plir_text.specs.TypeReading.{word_at}
+use Rattle.plir_text.specs.Levels.{level_at}
+use Rattle.plir_text.specs.TypeSteps.{level-word, level-deep}
+use Rattle.plir_text.specs.AttrReading.{attr_kind, attr_head, attr_body, attr_at}
 use Rattle.plir_text.specs.Reading.{Fails, Gives, Reads}
 use Rattle.plir_text.specs.StepLaws.{done, bind_ok, ok_is, Fails-bind, Fails-from}
 
@@ -31,13 +33,19 @@ Gives-meant see means view term h (Ok x) read total e p =
     (term a.0, e ∙ ap (λ q. q >>= λ w. done (term w)) a.1, h x a.0 (sym (ok_is (view a.0) (see x) a.2)))
 Gives-meant see means view term h (Err Wanting) read total e p = tt
 Gives-meant see means view term h (Err Crowded) read total e p = p
-Gives-meant see means view term h (Err (At f left)) read total e p = e ∙ ap (λ q. q >>= λ w. done (term w)) (err_is f read view p)
+Gives-meant see means view term h (Err (At f left)) read total e p = (e ∙ ap (λ q. q >>= λ w. done (term w)) (err_is f read view p.0), p.1)
+
+-- where no level begins, the fault of that is one of the attribute
+pub attr_at-level-fails : (e : Stop) (n : ℕ) (bytes : List ℕ) → Fails e (level_at n bytes) → Fails e (attr_at n bytes)
+unfolding attr_at attr_head
+attr_at-level-fails e zero bytes h = level-deep _ e bytes h
+attr_at-level-fails e (suc n) bytes h = Fails-bind e (attr_head bytes) (λ k. attr_body n (attr_at n) k.0 k.1) (Fails-bind e (word_at bytes) (λ w. attr_kind w.0 >>= λ k. Ok (k, w.1)) (level-word e (suc n) bytes (omega arith) h))
 
 -- a fault of the id is one of the attribute
-pub attr_at-head-fails : (e : Stop) (n : ℕ) (bytes : List ℕ) → Fails e (attr_head bytes) → Fails e (attr_at n bytes)
+pub attr_at-head-fails : (e : Stop) (n : ℕ) (bytes : List ℕ) → 0 < n → Fails e (attr_head bytes) → Fails e (attr_at n bytes)
 unfolding attr_at
-attr_at-head-fails e zero bytes h = Fails-bind e (attr_head bytes) (λ k. Err TooDeep) h
-attr_at-head-fails e (suc n) bytes h = Fails-bind e (attr_head bytes) (λ k. attr_body n (attr_at n) k.0 k.1) h
+attr_at-head-fails e zero bytes lt h = absurd (omega (arith, lt))
+attr_at-head-fails e (suc n) bytes lt h = Fails-bind e (attr_head bytes) (λ k. attr_body n (attr_at n) k.0 k.1) h
 
 -- the same reading under another name
 pub Reads-from : {X Y : Type 0} (means : X → Y → Type 0) (r : Result X Stop) (read total : Result Y Fault) → total ≡ read → Reads means r read → Reads means r total

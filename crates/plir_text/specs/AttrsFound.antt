@@ -194,7 +194,7 @@ no_attr x e = cc
 
 pub attr_found : (n : ℕ) → IsSound (AttrWithin n) (attr_at n)
 unfolding attr_at
-attr_found zero bytes x e = let a = bind_ok (attr_head bytes) (λ h. Err TooDeep) x e in absurd (no_attr x a.2)
+attr_found zero bytes x e = let a = bind_ok (word_at bytes) (λ w. Err TooDeep) x e in absurd (no_attr x a.2)
 attr_found (suc n) bytes x e =
     let a = bind_ok (attr_head bytes) (λ h. attr_body n (attr_at n) h.0 h.1) x e in
     body_found n (attr_at n) (attr_found n) a.0.0 bytes a.0.1 x (head_found bytes a.0 a.1) a.2

@@ -4,13 +4,13 @@ use Rattle.std.proofs.lemmas.Bool.Decides.{Decides-eqb}
 use Rattle.plir_data.specs.Identifier.{is_letter, is_digit}
 use Rattle.plir_text.specs.declared.fault.Fault.{Fault}
 use Rattle.plir_text.specs.declared.fault.Fault.TheVariants.{Unexpected}
-use Rattle.plir_text.specs.Bytes.{is_blank, is_in_word, past, begins, tail_of}
+use Rattle.plir_text.specs.Bytes.{is_blank, past, begins, tail_of}
 use Rattle.plir_text.specs.Strings.{unit_at, onward, behind, content_at, string_at}
 use Rattle.plir_text.specs.Tokens.{Token, word, digits, signed, quoted, arrow, sign, is_mark, token_at, look, Takes, Begins}
 use Rattle.plir_text.specs.Lists.{is_sign, sign_at, behind_sign, past_sign, separator_at}
 use Rattle.plir_text.specs.TypeReading.{as_word, word_at, as_arrow, arrow_at}
 use Rattle.plir_text.specs.StepLaws.{chosen, bind_ok, done, ok_is}
-use Rattle.plir_text.specs.Lexing.{past-length}
+use Rattle.plir_text.specs.Lexing.{past-length, word_past-length}
 use Rattle.plir_text.specs.Quoted.{unit-shorter}
 
 -- ---- each token takes a byte or more
@@ -27,7 +27,7 @@ token_at-shorter [] x e = absurd cc
 token_at-shorter (b ∷ bs) x e =
     let P : Token × List ℕ → Type 0 = λ y. length y.1 < suc (length bs) in
     elim (chosen (is_letter b) _ _ _ e) [
-      | inl w ↦ subst P (ok_is _ x w.1) (omega (arith, past-length is_in_word bs))
+      | inl w ↦ subst P (ok_is _ x w.1) (omega (arith, word_past-length bs))
       | inr e1 ↦ elim (chosen (is_digit b) _ _ _ e1.1) [
         | inl w ↦ subst P (ok_is _ x w.1) (digits-shorter b bs w.0)
         | inr e2 ↦ elim (chosen (is_mark b && begins is_digit bs) _ _ _ e2.1) [

@@ -6,7 +6,11 @@ use Rattle.plir_data.specs.Identifier.{is_between, is_letter, is_digit}
 abbrev pub is_blank : ℕ → Bool
 is_blank b = nat_eq b 32 || (nat_eq b 9 || (nat_eq b 10 || nat_eq b 13))
 
--- a letter, a digit, `_` or `.`
+-- a letter, a digit or `_`
+abbrev pub is_in_name : ℕ → Bool
+is_in_name b = is_letter b || is_digit b
+
+-- the same, or `.`
 abbrev pub is_in_word : ℕ → Bool
 is_in_word b = is_letter b || (is_digit b || nat_eq b 46)
 
@@ -23,6 +27,16 @@ front p (b ∷ bs) = if p b then b ∷ front p bs else []
 abbrev pub past : (ℕ → Bool) → List ℕ → List ℕ
 past p [] = []
 past p (b ∷ bs) = if p b then past p bs else b ∷ bs
+
+-- What a word goes on with: letters, digits and `_`, and one `.` among them, since an id has one.
+abbrev pub word_front : List ℕ → List ℕ
+word_front [] = []
+word_front (b ∷ bs) = if is_in_name b then b ∷ word_front bs else if nat_eq b 46 then b ∷ front is_in_name bs else []
+
+-- what stands behind that
+abbrev pub word_past : List ℕ → List ℕ
+word_past [] = []
+word_past (b ∷ bs) = if is_in_name b then word_past bs else if nat_eq b 46 then past is_in_name bs else b ∷ bs
 
 -- the first byte passes
 abbrev pub begins : (ℕ → Bool) → List ℕ → Bool

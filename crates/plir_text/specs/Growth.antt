@@ -64,6 +64,11 @@ module _ {T : Type 0} where
   pub named_as : (written : List ℕ → TypeTerm → Type 0) (a b : List ℕ) (xs ys : List (TypeView T)) → a ≡ b → AreNamed (written a) xs ys → AreNamed (written b) xs ys
   named_as written a b xs ys e n = subst (λ (l : List ℕ). AreNamed (written l) xs ys) e n
 
+  -- by other words for what is written
+  pub named_by : (written other : TypeTerm → Type 0) → ((t : TypeTerm) → written t → other t)
+      → (xs ys : List (TypeView T)) → AreNamed written xs ys → AreNamed other xs ys
+  named_by written other as_other xs ys p h ge lt = let n = p h ge lt in (n.0, as_other n.0 n.1, n.2)
+
   pub Names-live : (xs : List (TypeView T)) (h : ℕ) (t : TypeTerm) → Names xs h t → h < length xs
   Names-live xs h (integer_type s w) n = slice_get_within xs h (integer s w) n
   Names-live xs h (function_type as_ rs) n = slice_get_within xs h (function n.0 n.1) n.2

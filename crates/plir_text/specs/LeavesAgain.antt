@@ -8,8 +8,11 @@ use Rattle.plir_data.specs.declared.types.Signedness.{Signedness}
 use Rattle.plir_text.specs.Tokens.{Token, word, digits, signed, quoted, arrow, sign, Takes, Begins}
 use Rattle.plir_text.specs.Lists.{past_sign}
 use Rattle.plir_text.specs.AttrGrammar.{SpellsLiteral, IsBits, SpellsIdentifier, SpellsString, SpellsTruth, SpellsValue, SpellsSize, SpellsName}
-use Rattle.plir_text.specs.AttrReading.{name_at, bool_at, text_at, size_at, given_name_at, literal_at, bits_of, value_of, if_level, value_at}
-use Rattle.plir_text.specs.StepLaws.{done}
+use Rattle.plir_text.specs.AttrReading.{name_at, bool_at, text_at, size_at, given_name_at, literal_at, bits_of, value_of, value_at}
+use Rattle.plir_text.specs.TypeReading.{word_at, integer_of, integer_at}
+use Rattle.plir_text.specs.Levels.{if_level, level_at}
+use Rattle.plir_text.specs.Steps.{◌>>=◌}
+use Rattle.plir_text.specs.StepLaws.{bind_ok, done}
 use Rattle.plir_text.specs.Begun.{Begins-split, word_again, sign_again, past_sign_again, no_sign}
 use Rattle.plir_text.specs.ListsFound.{More, Several}
 use Rattle.plir_text.specs.ListsAgain.{IsRead, word_opens}
@@ -109,9 +112,9 @@ pub value_of_again : (s : Bool) (m w b : ℕ) → 1 ≤ w → w ≤ 64 → IsBit
 unfolding value_of
 value_of_again s m w b some few h = rw (width_again w some few) (bits_again s m w b h)
 
-level_again : (n : ℕ) → 1 ≤ n → if_level n ≡ Ok tt
-unfolding if_level
-level_again n h = rw (le-leb 1 n h) refl
+level_again : (n : ℕ) (bytes : List ℕ) (x : (Signedness × ℕ) × List ℕ) → 1 ≤ n → integer_at bytes ≡ Ok x → level_at n bytes ≡ Ok tt
+unfolding level_at if_level integer_at
+level_again n bytes x h e = let a = bind_ok (word_at bytes) (λ w. integer_of w.0 >>= λ t. Ok (t, w.1)) x e in rw (a.1, le-leb 1 n h) refl
 
 pub value_again : (n : ℕ) (s : Signedness) (w b : ℕ) (ts : List Token) (bytes rest : List ℕ) → SpellsValue s w b ts → 1 ≤ n → Begins bytes ts rest → value_at n bytes ≡ Ok (((s, w), b), rest)
 unfolding value_at
@@ -121,4 +124,5 @@ value_again n s w b ts bytes rest h some begun =
     let colon = lit.2 in
     let d = Begins-split h.type (sign 62 ∷ []) colon.0 rest colon.2 in
     let end = d.2 in
-    rw (sign_again 60 bytes c.0 c.1, literal_again h.negative h.magnitude h.literal c.0 lit.0 h.is_literal lit.1, sign_again 58 lit.0 colon.0 colon.1, integer_again (s, w) h.type colon.0 d.0 h.is_type d.1, level_again n some, sign_again 62 d.0 end.0 end.1, value_of_again h.negative h.magnitude w b h.some h.few h.is_bits) (ap (λ (y : List ℕ). done (((s, w), b), y)) end.2)
+    let type = integer_again (s, w) h.type colon.0 d.0 h.is_type d.1 in
+    rw (sign_again 60 bytes c.0 c.1, literal_again h.negative h.magnitude h.literal c.0 lit.0 h.is_literal lit.1, sign_again 58 lit.0 colon.0 colon.1, level_again n colon.0 ((s, w), d.0) some type, type, sign_again 62 d.0 end.0 end.1, value_of_again h.negative h.magnitude w b h.some h.few h.is_bits) (ap (λ (y : List ℕ). done (((s, w), b), y)) end.2)

@@ -15,8 +15,9 @@ use Rattle.plir_text.specs.Strings.{string_at}
 use Rattle.plir_text.specs.Tokens.{Token, word, digits, signed, quoted, arrow, sign, look, Takes, Begins}
 use Rattle.plir_text.specs.Lists.{past_sign, sign_at}
 use Rattle.plir_text.specs.TypeReading.{word_at, integer_at}
+use Rattle.plir_text.specs.Levels.{if_level, level_at}
 use Rattle.plir_text.specs.AttrGrammar.{truth, SpellsLiteral, IsBits, SpellsIdentifier, SpellsString, SpellsTruth, SpellsValue, SpellsSize, SpellsName}
-use Rattle.plir_text.specs.AttrReading.{name_at, bool_at, text_at, as_size, size_at, unless_unset, given_name_at, as_literal, literal_at, bits_of, value_of, if_level, value_at}
+use Rattle.plir_text.specs.AttrReading.{name_at, bool_at, text_at, as_size, size_at, unless_unset, given_name_at, as_literal, literal_at, bits_of, value_of, value_at}
 use Rattle.plir_text.specs.StepLaws.{chosen, bind_ok, done, ok_is}
 use Rattle.plir_text.specs.Begun.{Begins-append, Begins-length, word_found, sign_found, past_sign_found}
 use Rattle.plir_text.specs.ListsFound.{FoundOne, IsSound}
@@ -160,9 +161,9 @@ value_of_found s m w b e =
       | inr h ↦ absurd (let k = h.1 in cc)
     ]
 
-level_found : (n : ℕ) (u : Unit {0}) → if_level n ≡ Ok u → 1 ≤ n
-unfolding if_level
-level_found n u e = elim (chosen (nat_le 1 n) _ _ _ e) [ inl h ↦ leb-true 1 n h.0 | inr h ↦ absurd (let k = h.1 in cc) ]
+level_found : (n : ℕ) (bytes : List ℕ) (u : Unit {0}) → level_at n bytes ≡ Ok u → 1 ≤ n
+unfolding level_at if_level
+level_found n bytes u e = let a = bind_ok (word_at bytes) (λ w. if_level n) u e in elim (chosen (nat_le 1 n) _ _ _ a.2) [ inl h ↦ leb-true 1 n h.0 | inr h ↦ absurd (let k = h.1 in cc) ]
 
 -- a value of a type, which is a level
 abbrev pub IsValue : ℕ → (Signedness × ℕ) × ℕ → List Token → Type 0
@@ -171,12 +172,12 @@ IsValue n x ts = SpellsValue x.0.0 x.0.1 x.1 ts × (1 ≤ n)
 pub value_found : (n : ℕ) → IsSound (IsValue n) (value_at n)
 unfolding value_at
 value_found n bytes x e =
-    let a = bind_ok (sign_at 60 bytes) (λ start. literal_at start >>= λ v. sign_at 58 v.1 >>= λ colon. integer_at colon >>= λ t. if_level n >>= λ u. sign_at 62 t.1 >>= λ end. value_of v.0.0 v.0.1 t.0.1 >>= λ b. Ok ((t.0, b), end)) x e in
-    let v = bind_ok (literal_at a.0) (λ v. sign_at 58 v.1 >>= λ colon. integer_at colon >>= λ t. if_level n >>= λ u. sign_at 62 t.1 >>= λ end. value_of v.0.0 v.0.1 t.0.1 >>= λ b. Ok ((t.0, b), end)) x a.2 in
-    let k = bind_ok (sign_at 58 v.0.1) (λ colon. integer_at colon >>= λ t. if_level n >>= λ u. sign_at 62 t.1 >>= λ end. value_of v.0.0.0 v.0.0.1 t.0.1 >>= λ b. Ok ((t.0, b), end)) x v.2 in
-    let t = bind_ok (integer_at k.0) (λ t. if_level n >>= λ u. sign_at 62 t.1 >>= λ end. value_of v.0.0.0 v.0.0.1 t.0.1 >>= λ b. Ok ((t.0, b), end)) x k.2 in
-    let l = bind_ok (if_level n) (λ u. sign_at 62 t.0.1 >>= λ end. value_of v.0.0.0 v.0.0.1 t.0.0.1 >>= λ b. Ok ((t.0.0, b), end)) x t.2 in
-    let z = bind_ok (sign_at 62 t.0.1) (λ end. value_of v.0.0.0 v.0.0.1 t.0.0.1 >>= λ b. Ok ((t.0.0, b), end)) x l.2 in
+    let a = bind_ok (sign_at 60 bytes) (λ start. literal_at start >>= λ v. sign_at 58 v.1 >>= λ colon. level_at n colon >>= λ u. integer_at colon >>= λ t. sign_at 62 t.1 >>= λ end. value_of v.0.0 v.0.1 t.0.1 >>= λ b. Ok ((t.0, b), end)) x e in
+    let v = bind_ok (literal_at a.0) (λ v. sign_at 58 v.1 >>= λ colon. level_at n colon >>= λ u. integer_at colon >>= λ t. sign_at 62 t.1 >>= λ end. value_of v.0.0 v.0.1 t.0.1 >>= λ b. Ok ((t.0, b), end)) x a.2 in
+    let k = bind_ok (sign_at 58 v.0.1) (λ colon. level_at n colon >>= λ u. integer_at colon >>= λ t. sign_at 62 t.1 >>= λ end. value_of v.0.0.0 v.0.0.1 t.0.1 >>= λ b. Ok ((t.0, b), end)) x v.2 in
+    let l = bind_ok (level_at n k.0) (λ u. integer_at k.0 >>= λ t. sign_at 62 t.1 >>= λ end. value_of v.0.0.0 v.0.0.1 t.0.1 >>= λ b. Ok ((t.0, b), end)) x k.2 in
+    let t = bind_ok (integer_at k.0) (λ t. sign_at 62 t.1 >>= λ end. value_of v.0.0.0 v.0.0.1 t.0.1 >>= λ b. Ok ((t.0, b), end)) x l.2 in
+    let z = bind_ok (sign_at 62 t.0.1) (λ end. value_of v.0.0.0 v.0.0.1 t.0.0.1 >>= λ b. Ok ((t.0.0, b), end)) x t.2 in
     let b = bind_ok (value_of v.0.0.0 v.0.0.1 t.0.0.1) (λ b. Ok ((t.0.0, b), z.0)) x z.2 in
     let lit = literal_found a.0 v.0 v.1 in
     let type = integer_found k.0 t.0 t.1 in
@@ -188,6 +189,6 @@ value_found n bytes x e =
     let found : FoundOne (IsValue n) bytes (t.0.0, b.0) z.0 = record {
       tokens = sign 60 ∷ s.0 ∷ sign 58 ∷ (type.tokens ++ (sign 62 ∷ []));
       begins = (a.0, sign_found 60 bytes a.0 a.1, all);
-      spelled = (record { negative = v.0.0.0; magnitude = v.0.0.1; literal = s.0; type = type.tokens; is_literal = s.1; is_type = type.spelled; some = value.0; few = value.1; is_bits = value.2; tokens = refl }, level_found n l.0 l.1);
+      spelled = (record { negative = v.0.0.0; magnitude = v.0.0.1; literal = s.0; type = type.tokens; is_literal = s.1; is_type = type.spelled; some = value.0; few = value.1; is_bits = value.2; tokens = refl }, level_found n k.0 l.0 l.1);
     } in
     subst (λ (y : ((Signedness × ℕ) × ℕ) × List ℕ). FoundOne (IsValue n) bytes y.0 y.1) (ok_is _ x b.2) found

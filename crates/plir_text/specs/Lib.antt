@@ -8,6 +8,7 @@
 --   Meaning, MeantBy             StandsFor: the attribute that a text stands for; what a reader holds is meant by what is written
 --   Steps, Lists, Wholes         reading step by step, of lists, of whole texts
 --   TypeReading, AttrReading     type_at, attr_at: types and attributes as they are read, with the first fault that is met
+--   Levels                       level_at: where a level begins
 --   TypesIn                      which types are written in a text
 --   Reading                      Reads, Gives: what a reader answers, by what is read
 --   Written, AttrText            attr_text: the text of an attribute
@@ -25,6 +26,7 @@ pub mod TypeGrammar
 pub mod Names
 pub mod Lists
 pub mod TypeReading
+pub mod Levels
 pub mod Wholes
 pub mod Reading
 pub mod AttrGrammar
@@ -47,6 +49,7 @@ pub mod TextLaws
 --   ListsFound, TypesFound, LeavesFound, AttrsFound   what is read stands there
 --   ListsAgain, TypesAgain, LeavesAgain, AttrsAgain   what stands there is read
 --   Fronts, TypeSteps, AttrSteps   reading step by step, as loops and readers do
+--   PartsFound   the types that are written in a text are held by what the text stands for
 --   Growth, Meanings   what is named and meant in tables that grow
 --   Handles, SameNames, SameMeanings   what one text names and means is one handle, one attribute
 --   Printed, Runs, QuotedAgain, TypesShown, AttrsShown   printed names, numbers, strings, types and attributes are tokens that stand for them
@@ -75,3 +78,4 @@ pub mod Runs
 pub mod QuotedAgain
 pub mod TypesShown
 pub mod AttrsShown
+pub mod PartsFound

@@ -1,5 +1,5 @@
 -- The tokens of what is printed.
-use Rattle.std.proofs.Common.{◌≡◌, ◌&&◌, ℕ, suc, ◌+◌, ◌-◌, ◌*◌, ◌%◌, ◌^◌, ◌<◌, ◌≤◌, Bool, true, false, cond, List, [], ◌∷◌, ◌++◌, codes, Ok, refl, sym, ap, subst, ◌∙◌, arith, append_assoc}
+use Rattle.std.proofs.Common.{◌≡◌, ◌&&◌, ◌||◌, if◌then◌else◌, nat_eq, ℕ, suc, ◌+◌, ◌-◌, ◌*◌, ◌%◌, ◌^◌, ◌<◌, ◌≤◌, Bool, true, false, cond, List, [], ◌∷◌, ◌++◌, codes, Ok, refl, sym, ap, subst, ◌∙◌, arith, append_assoc}
 use Rattle.std.specs.Fmt.{decimal}
 use Rattle.std.proofs.lemmas.Fmt.{decimal_by_steps}
 use Rattle.std.proofs.lemmas.Nat.{pow_pos}
@@ -12,7 +12,7 @@ use Rattle.plir_data.specs.TypeText.{letters, integer_text}
 use Rattle.plir_data.specs.declared.types.Signedness.{Signedness}
 use Rattle.plir_data.specs.declared.types.Signedness.TheVariants.{Signed, Unsigned, Signless}
 use Rattle.plir_text.specs.AttrGrammar.{SpellsValue}
-use Rattle.plir_text.specs.Bytes.{is_blank, is_in_word, front, past, all_pass, is_digits, value_after}
+use Rattle.plir_text.specs.Bytes.{is_blank, is_in_name, is_in_word, front, past, word_front, word_past, all_pass, is_digits, value_after}
 use Rattle.plir_text.specs.Tokens.{Token, word, digits, signed, sign, number_of, token_at, look, Begins}
 use Rattle.plir_text.specs.TypeGrammar.{SpellsInteger}
 use Rattle.plir_text.specs.StepLaws.{done}
@@ -44,17 +44,59 @@ digit_no_blank b h = grind (arith, nat_tests)
 
 -- ---- words
 
+-- letters, digits and `_`, and one `.` among them or none
+abbrev pub has_one_point : List ℕ → Bool
+has_one_point [] = true
+has_one_point (b ∷ bs) = if is_in_name b then has_one_point bs else (nat_eq b 46 && all_pass is_in_name bs)
+
 -- a word that begins with a letter
 abbrev pub is_word : List ℕ → Bool
 is_word [] = false
-is_word (b ∷ bs) = is_letter b && all_pass is_in_word bs
+is_word (b ∷ bs) = is_letter b && has_one_point bs
+
+name_ends : (rest : List ℕ) → Ends is_in_word rest → Ends is_in_name rest
+name_ends [] e = tt
+name_ends (b ∷ bs) e = at (is_letter b) (is_digit b) (nat_eq b 46) e
+  where
+    at : (l d p : Bool) → (l || (d || p)) ≡ false → (l || d) ≡ false
+    at true d p h = absurd cc
+    at false true p h = absurd cc
+    at false false p h = refl
+
+point_ends : (b : ℕ) → is_in_word b ≡ false → nat_eq b 46 ≡ false
+point_ends b e = at (is_letter b) (is_digit b) (nat_eq b 46) e
+  where
+    at : (l d p : Bool) → (l || (d || p)) ≡ false → p ≡ false
+    at true d p h = absurd cc
+    at false true p h = absurd cc
+    at false false p h = h
+
+-- no word goes on here
+word_ended : (rest : List ℕ) → Ends is_in_word rest → (word_front rest ≡ []) × (word_past rest ≡ rest)
+word_ended [] e = (refl, refl)
+word_ended (b ∷ bs) e =
+    let name : is_in_name b ≡ false = name_ends (b ∷ bs) e in
+    (rw (name, point_ends b e) refl, rw (name, point_ends b e) refl)
+
+word-run : (w rest : List ℕ) → has_one_point w ≡ true → Ends is_in_word rest
+    → (word_front (w ++ rest) ≡ w) × (word_past (w ++ rest) ≡ rest)
+word-run [] rest h e = word_ended rest e
+word-run (b ∷ w) rest h e = at (is_in_name b) (nat_eq b 46) (λ k. word-run w rest k e) h
+  where
+    at : (t u : Bool) → (has_one_point w ≡ true → (word_front (w ++ rest) ≡ w) × (word_past (w ++ rest) ≡ rest))
+        → cond t (has_one_point w) (u && all_pass is_in_name w) ≡ true
+        → (cond t (b ∷ word_front (w ++ rest)) (cond u (b ∷ front is_in_name (w ++ rest)) []) ≡ b ∷ w) × (cond t (word_past (w ++ rest)) (cond u (past is_in_name (w ++ rest)) (b ∷ (w ++ rest))) ≡ rest)
+    at true u rec k = let r = rec k in (ap (λ (l : List ℕ). b ∷ l) r.0, r.1)
+    at false true rec k = (ap (λ (l : List ℕ). b ∷ l) (front-run is_in_name w rest k (name_ends rest e)), past-run is_in_name w rest k (name_ends rest e))
+    at false false rec k = absurd cc
 
 pub look-word : (w rest : List ℕ) → is_word w ≡ true → Ends is_in_word rest → look (w ++ rest) ≡ Ok (word w, rest)
 unfolding look
 look-word [] rest h e = absurd cc
 look-word (b ∷ w) rest h e =
-    let g = parts (is_letter b) (all_pass is_in_word w) h in
-    rw (letter_no_blank b g.0, g.0, front-run is_in_word w rest g.1 e, past-run is_in_word w rest g.1 e) refl
+    let g = parts (is_letter b) (has_one_point w) h in
+    let r = word-run w rest g.1 e in
+    rw (letter_no_blank b g.0, g.0, r.0, r.1) refl
 
 pub look-spaced : (bytes : List ℕ) → look (32 ∷ bytes) ≡ look bytes
 unfolding look
@@ -132,14 +174,14 @@ pub record IsValue (w b : ℕ) : Type 0 where
 small_power : (w : ℕ) → w ≤ 64 → 2 ^ w ≤ 2 ^ 64
 small_power w le = pow-le-pow_right {n = 2} (omega arith) le
 
-digits_in_word : (ds : List ℕ) → all_pass is_digit ds ≡ true → all_pass is_in_word ds ≡ true
+digits_in_word : (ds : List ℕ) → all_pass is_digit ds ≡ true → has_one_point ds ≡ true
 digits_in_word [] h = refl
 digits_in_word (d ∷ ds) h =
     let g = parts (is_digit d) (all_pass is_digit ds) h in
-    let here : is_in_word d ≡ true = rw (digit_no_letter d g.0, g.0) refl in
+    let here : is_in_name d ≡ true = rw (digit_no_letter d g.0, g.0) refl in
     rw (here, digits_in_word ds g.1) refl
 
-type_is_word : (s : Signedness) (ds : List ℕ) → all_pass is_in_word ds ≡ true → is_word (letters s ++ ds) ≡ true
+type_is_word : (s : Signedness) (ds : List ℕ) → has_one_point ds ≡ true → is_word (letters s ++ ds) ≡ true
 type_is_word Signed ds h = h
 type_is_word Unsigned ds h = h
 type_is_word Signless ds h = h
@@ -161,14 +203,16 @@ high s w b e = leb-true (2 ^ (w - 1)) b (parts s (is_high w b) e).1
 look-literal : (s : Bool) (w b : ℕ) (rest : List ℕ) → IsValue w b → Ends is_digit rest → look (literal s w b ++ rest) ≡ Ok (literal_token s w b, rest)
 look-literal s w b rest h e = at (s && is_high w b) refl
   where
-    at : (t : Bool) → (s && is_high w b) ≡ t → look (cond t (45 ∷ decimal (2 ^ w - b)) (decimal b) ++ rest) ≡ Ok (cond t (signed true (2 ^ w - b)) (digits b), rest)
+    at : (t : Bool) → (s && is_high w b) ≡ t
+        → look (cond t (45 ∷ decimal (2 ^ w - b)) (decimal b) ++ rest) ≡ Ok (cond t (signed true (2 ^ w - b)) (digits b), rest)
     at true f = look-negative (2 ^ w - b) rest (omega (arith, h.below, small_power w h.few, high s w b f, pow_pos (w - 1))) e
     at false f = look-decimal b rest (omega (arith, h.below, small_power w h.few)) e
 
 pub value_spelled : (s : Bool) (k : Signedness) (w b : ℕ) → IsValue w b → SpellsValue k w b (sign 60 ∷ literal_token s w b ∷ sign 58 ∷ word (integer_text k w) ∷ sign 62 ∷ [])
 value_spelled s k w b h = at (s && is_high w b) refl
   where
-    at : (t : Bool) → (s && is_high w b) ≡ t → SpellsValue k w b (sign 60 ∷ cond t (signed true (2 ^ w - b)) (digits b) ∷ sign 58 ∷ word (integer_text k w) ∷ sign 62 ∷ [])
+    at : (t : Bool) → (s && is_high w b) ≡ t
+        → SpellsValue k w b (sign 60 ∷ cond t (signed true (2 ^ w - b)) (digits b) ∷ sign 58 ∷ word (integer_text k w) ∷ sign 62 ∷ [])
     at false f = record { negative = false; magnitude = b; literal = digits b; type = word (integer_text k w) ∷ []; is_literal = (refl, refl); is_type = type_spelled k w (omega (arith, h.few)); some = h.some; few = h.few; is_bits = (h.below, refl); tokens = refl }
     at true f =
         let half : 2 ^ w ≡ 2 * 2 ^ (w - 1) = ap (λ (x : ℕ). 2 ^ x) (let k : w ≡ suc (w - 1) = omega (arith, h.some) in k) ∙ pow-succ' 2 (w - 1) in
@@ -194,7 +238,8 @@ look-greater rest = refl
 literal-takes : (s : Bool) (w b : ℕ) (bytes rest : List ℕ) (ts : List Token) (end : List ℕ) → look bytes ≡ Ok (literal_token s w b, rest) → Begins rest ts end → Begins bytes (literal_token s w b ∷ ts) end
 literal-takes s w b bytes rest ts end e m = at (s && is_high w b) e
   where
-    at : (t : Bool) → look bytes ≡ Ok (cond t (signed true (2 ^ w - b)) (digits b), rest) → Begins bytes (cond t (signed true (2 ^ w - b)) (digits b) ∷ ts) end
+    at : (t : Bool) → look bytes ≡ Ok (cond t (signed true (2 ^ w - b)) (digits b), rest)
+        → Begins bytes (cond t (signed true (2 ^ w - b)) (digits b) ∷ ts) end
     at true e = (rest, e, m)
     at false e = (rest, e, m)
 

@@ -2,12 +2,12 @@
 use Rattle.std.proofs.Common.{◌≡◌, ◌||◌, ℕ, suc, Bool, true, false, nat_eq, List, [], ◌∷◌, ◌++◌, All, Ok, refl, sym, subst, arith, append_assoc, ◌∙◌}
 use Rattle.plir_data.specs.Identifier.{is_letter, is_digit, all_in_identifier, is_identifier}
 use Rattle.plir_text.specs.AttrGrammar.{SpellsMore, SpellsSeveral}
-use Rattle.plir_text.specs.Bytes.{is_in_word, all_pass}
+use Rattle.plir_text.specs.Bytes.{is_in_word}
 use Rattle.plir_text.specs.Tokens.{Token, word, digits, signed, quoted, arrow, sign, look, Takes, Begins}
 use Rattle.plir_text.specs.TypeGrammar.{enclosed}
 use Rattle.plir_text.specs.Written.{joined, joined_on}
 use Rattle.plir_text.specs.Begun.{Begins-append}
-use Rattle.plir_text.specs.Printed.{Ends, is_word, look-word, look-spaced}
+use Rattle.plir_text.specs.Printed.{Ends, has_one_point, is_word, look-word, look-spaced}
 use Rattle.plir_text.specs.TypesAgain.{parts}
 
 -- a text that is tokens which spell something, where no word goes on behind it
@@ -55,17 +55,9 @@ begins-spaced bytes t ts rest p = (p.0, takes-spaced bytes t p.0 p.1, p.2)
 pub word-shown : (w : List ℕ) → is_word w ≡ true → Shown (λ ts. ts ≡ word w ∷ []) w
 word-shown w h = record { first = word w; others = []; spelled = refl; begun = λ rest e. (rest, look-word w rest h e, refl) }
 
-part_of_word : (b : ℕ) → (is_letter b || is_digit b) ≡ true → is_in_word b ≡ true
-part_of_word b h = at (is_letter b) (is_digit b) h
-  where
-    at : (l d : Bool) → (l || d) ≡ true → (l || (d || nat_eq b 46)) ≡ true
-    at true d e = refl
-    at false true e = refl
-    at false false e = absurd cc
-
-name_in_word : (w : List ℕ) → all_in_identifier w ≡ true → all_pass is_in_word w ≡ true
+name_in_word : (w : List ℕ) → all_in_identifier w ≡ true → has_one_point w ≡ true
 name_in_word [] h = refl
-name_in_word (b ∷ w) h = let g = parts (is_letter b || is_digit b) (all_in_identifier w) h in rw (part_of_word b g.0, name_in_word w g.1) refl
+name_in_word (b ∷ w) h = let g = parts (is_letter b || is_digit b) (all_in_identifier w) h in rw (g.0, name_in_word w g.1) refl
 
 pub identifier_is_word : (w : List ℕ) → is_identifier w ≡ true → is_word w ≡ true
 identifier_is_word [] h = absurd cc

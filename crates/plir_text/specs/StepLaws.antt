@@ -1,5 +1,5 @@
 -- Steps that did not fail, and choices.
-use Rattle.std.proofs.Common.{◌≡◌, ◌⊎◌, Bool, true, false, cond, Result, Ok, Err, refl, inl, inr}
+use Rattle.std.proofs.Common.{◌≡◌, ◌⊎◌, Bool, true, false, cond, Result, Ok, Err, refl, sym, ◌∙◌, inl, inr}
 use Rattle.plir_text.specs.declared.fault.Fault.{Fault}
 use Rattle.plir_text.specs.declared.fault.Stop.{Stop}
 use Rattle.plir_text.specs.declared.fault.Stop.TheVariants.{Wanting, Crowded, At}
@@ -25,7 +25,7 @@ ok_is x y e = cc
 pub Ends-bind : {A B : Type 0} (crowded : Type 0) (e : Stop) (r : Result A Fault) (f : A → Result B Fault) → Ends crowded e r → Ends crowded e (r >>= f)
 Ends-bind crowded Wanting r f h = tt
 Ends-bind crowded Crowded r f h = h
-Ends-bind crowded (At d left) r f h = rw h refl
+Ends-bind crowded (At d left) r f h = (rw (h.0) refl, h.1)
 
 pub Fails-bind : {A B : Type 0} (e : Stop) (r : Result A Fault) (f : A → Result B Fault) → Fails e r → Fails e (r >>= f)
 Fails-bind e r f h = Ends-bind ⊥ e r f h
@@ -33,7 +33,7 @@ Fails-bind e r f h = Ends-bind ⊥ e r f h
 pub Ends-from : {A : Type 0} (crowded : Type 0) (e : Stop) (r s : Result A Fault) → r ≡ s → Ends crowded e r → Ends crowded e s
 Ends-from crowded Wanting r s p h = tt
 Ends-from crowded Crowded r s p h = h
-Ends-from crowded (At d left) r s p h = rw (← p) h
+Ends-from crowded (At d left) r s p h = (sym p ∙ h.0, h.1)
 
 pub Fails-from : {A : Type 0} (e : Stop) (r s : Result A Fault) → r ≡ s → Fails e r → Fails e s
 Fails-from e r s p h = Ends-from ⊥ e r s p h

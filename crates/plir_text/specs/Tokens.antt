@@ -1,7 +1,7 @@
 -- A text as tokens, with white space between them.
 use Rattle.std.specs.Prelude.{◌≡◌, ℕ, List, [], ◌∷◌, Bool, ◌||◌, ◌&&◌, nat_eq, Result, Ok, Err, if◌then◌else◌}
 use Rattle.plir_data.specs.Identifier.{is_letter, is_digit}
-use Rattle.plir_text.specs.Bytes.{is_blank, is_in_word, front, past, begins, tail_of, value_after}
+use Rattle.plir_text.specs.Bytes.{is_blank, front, past, word_front, word_past, begins, tail_of, value_after}
 use Rattle.plir_text.specs.Strings.{string_at}
 use Rattle.plir_text.specs.declared.fault.Fault.{Fault}
 use Rattle.plir_text.specs.declared.fault.Fault.TheVariants.{Unexpected}
@@ -26,11 +26,12 @@ is_mark b = nat_eq b 45 || nat_eq b 43
 abbrev pub number_of : List ℕ → ℕ
 number_of bytes = value_after 0 (front is_digit bytes)
 
--- The token that begins at the first byte, and what stands behind it. A string begins as the sign `"`.
+-- The token that begins at the first byte, and what stands behind it. A string begins as the sign `"`. A second point in a word is a sign
+-- behind it.
 abbrev pub token_at : List ℕ → Result (Token × List ℕ) Fault
 token_at [] = Err Unexpected
 token_at (b ∷ bs) =
-    if is_letter b then Ok (word (b ∷ front is_in_word bs), past is_in_word bs)
+    if is_letter b then Ok (word (b ∷ word_front bs), word_past bs)
     else if is_digit b then Ok (digits (number_of (b ∷ bs)), past is_digit (b ∷ bs))
     else if is_mark b && begins is_digit bs then Ok (signed (nat_eq b 45) (number_of bs), past is_digit bs)
     else if nat_eq b 45 && begins (λ c. nat_eq c 62) bs then Ok (arrow, tail_of bs)

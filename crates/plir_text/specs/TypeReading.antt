@@ -73,7 +73,7 @@ type_body read Integer bytes = integer_at bytes >>= λ x. Ok (integer_type x.0.0
 type_body read Function bytes = function_at read bytes >>= λ x. Ok (function_type x.0.0 x.0.1, x.1)
 type_body read Unit bytes = Ok (unit_type, bytes)
 
--- a type, with at most n levels open
+-- a type, with at most n levels open: a word that comes where no level is left begins one that is too deep
 unfoldable pub type_at : (n : ℕ) → List ℕ → Result (TypeTerm × List ℕ) Fault
-type_at zero bytes = type_head bytes >>= λ h. Err TooDeep
+type_at zero bytes = word_at bytes >>= λ w. Err TooDeep
 type_at (suc n) bytes = type_head bytes >>= λ h. type_body (type_at n) h.0 h.1

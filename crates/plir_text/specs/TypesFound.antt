@@ -189,12 +189,12 @@ body_found n read sound Unit bytes rest x id e =
     let found : FoundOne (TypeWithin (suc n)) bytes unit_type rest = record { tokens = word (type_id Unit) ∷ []; begins = (rest, id, refl); spelled = (refl, omega arith) } in
     subst (λ (y : TypeTerm × List ℕ). FoundOne (TypeWithin (suc n)) bytes y.0 y.1) (ok_is _ x e) found
 
-no_type : (bytes : List ℕ) (x : TypeTerm × List ℕ) (h : TypeKind × List ℕ) → Err TooDeep ≡ done x → ⊥
-no_type bytes x h e = cc
+no_type : (x : TypeTerm × List ℕ) → Err TooDeep ≡ done x → ⊥
+no_type x e = cc
 
 pub type_found : (n : ℕ) → IsSound (TypeWithin n) (type_at n)
 unfolding type_at
-type_found zero bytes x e = let a = bind_ok (type_head bytes) (λ h. Err TooDeep) x e in absurd (no_type bytes x a.0 a.2)
+type_found zero bytes x e = let a = bind_ok (word_at bytes) (λ w. Err TooDeep) x e in absurd (no_type x a.2)
 type_found (suc n) bytes x e =
     let a = bind_ok (type_head bytes) (λ h. type_body (type_at n) h.0 h.1) x e in
     body_found n (type_at n) (type_found n) a.0.0 bytes a.0.1 x (head_found bytes a.0 a.1) a.2

@@ -7,12 +7,12 @@ ghost use Rattle.plir_text.specs.Bytes.{value_after};
 ghost use Rattle.plir_text.specs.Reading.{Gives};
 ghost use Rattle.plir_text.specs.Lists.{items_at};
 ghost use Rattle.plir_text.specs.AttrReading.{attr_kind, attr_head, name_at, bool_at, text_at, size_at, given_name_at};
-ghost use Rattle.plir_text.specs.AttrReading.{literal_at, bits_of, value_of, if_level, value_at};
+ghost use Rattle.plir_text.specs.AttrReading.{literal_at, bits_of, value_of, value_at};
 
 use crate::fault::{Fault, Stop};
 use crate::strings::{read_quoted, text_of};
 use crate::tokens::{Piece, left_at, look, magnitude, unread_id_at};
-use crate::words::{past_sign, read_integer, read_separator, read_sign, read_word};
+use crate::words::{begin_level, past_sign, read_integer, read_separator, read_sign, read_word};
 use plir_data::{APInt, Identifier, IdentifierErr, Signedness};
 use std::alloc::Global;
 
@@ -30,20 +30,6 @@ pub enum AttrKind {
     OperandSegmentSizes,
     GivenNames,
 }
-
-// The ids that begin an attribute.
-const ATTR_IDS: [&str; 10] = [
-    "builtin.identifier",
-    "builtin.string",
-    "builtin.bool",
-    "builtin.integer",
-    "builtin.dict",
-    "builtin.vec",
-    "builtin.unit",
-    "builtin.type",
-    "builtin.operand_segment_sizes",
-    "builtin.given_names",
-];
 
 // What the id of an attribute names, with this many bytes left where it stands.
 #[tactic(auto, unfolding(crate::specs::AttrReading::attr_kind))]
@@ -71,7 +57,7 @@ fn attr_kind(word: &[u8], left: usize) -> Result<AttrKind, Stop>
     } else if word == b"builtin.given_names".as_slice() {
         Ok(AttrKind::GivenNames)
     } else {
-        Err(Stop::At(Fault::Unexpected, unread_id_at(word, left, &ATTR_IDS)))
+        Err(Stop::At(Fault::Unexpected, unread_id_at(word, left)))
     }
 }
 
@@ -293,18 +279,7 @@ fn value_of(
     Ok(value)
 }
 
-// One level more is left, which begins here.
-#[tactic(auto, unfolding(crate::specs::AttrReading::if_level))]
-fn if_level(levels: usize, bytes: &[u8]) -> Result<(), Stop>
-    ensures { Gives (λ u. u) result (if_level levels) }
-{
-    if levels < 1 {
-        return Err(Stop::At(Fault::TooDeep, left_at(bytes)));
-    }
-    Ok(())
-}
-
-// `<V: T>`: the type and the value, with at most this many levels in it.
+// `<V: T>`: the type, which is a level, and the value, with at most this many levels in it.
 #[tactic(auto, unfolding(crate::specs::AttrReading::value_at))]
 pub fn read_value(levels: usize, bytes: &[u8]) -> Result<(((Signedness, u32), APInt), &[u8]), Stop>
     ensures value { Gives (λ x. ((x.0.0, x.0.1.bits), x.1.now)) result (value_at levels bytes.now) }
@@ -313,8 +288,8 @@ pub fn read_value(levels: usize, bytes: &[u8]) -> Result<(((Signedness, u32), AP
     let start = read_sign(bytes, b'<')?;
     let ((negative, digits), rest) = read_literal(start)?;
     let colon = read_sign(rest, b':')?;
+    begin_level(levels, colon)?;
     let (ty, rest) = read_integer(colon)?;
-    if_level(levels, colon)?;
     let end = read_sign(rest, b'>')?;
     let value = value_of(negative, digits, ty.1, left_at(colon), left_at(start))?;
     Ok(((ty, value), end))

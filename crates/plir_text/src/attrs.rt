@@ -16,10 +16,9 @@ use crate::attr_words::{
     AttrKind, read_attr_head, read_bool, read_given_names, read_name, read_sizes, read_text,
     read_value,
 };
-use crate::fault::{Fault, Stop};
-use crate::tokens::left_at;
+use crate::fault::Stop;
 use crate::types::read_type_at;
-use crate::words::{past_sign, read_separator, read_sign};
+use crate::words::{begin_level, past_sign, read_separator, read_sign};
 use plir_data::{
     AttrObj, AttributeDict, BoolAttr, DictAttr, GivenNamesAttr, Identifier, IdentifierAttr,
     IntegerAttr, IntegerType, OpSet, OperandSegmentSizesAttr, StringAttr, TypeAttr, TypeStore,
@@ -230,10 +229,8 @@ pub fn read_attr_at<'a, D: OpSet, C: TypeStore<D>>(
     ensures read { ReadsFirst (IsMeantBy (C.types ctx.new)) result (attr_at levels bytes.now) }
     ensures kept { Adds C.types C.same_besides (IsInAttr levels bytes.now) ctx.old ctx.new }
 {
+    begin_level(levels, bytes)?;
     let (kind, rest) = read_attr_head(bytes)?;
-    if levels == 0 {
-        return Err(Stop::At(Fault::TooDeep, left_at(bytes)));
-    }
     match kind {
         AttrKind::Identifier => read_identifier_attr(alloc, rest),
         AttrKind::String => read_string_attr(alloc, rest),

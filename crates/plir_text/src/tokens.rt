@@ -3,7 +3,7 @@
 ghost use Rattle.std.specs.Prelude.{◌≡◌, ◌≤◌, ◌^◌, ◌+◌, ◌-◌, ◌*◌, ◌≢◌, MatchOption, IfErr, nat_eq};
 ghost use Rattle.plir_text.specs.declared.fault.Stop.TheVariants.{Wanting};
 ghost use Rattle.plir_data.specs.Identifier.{is_letter, is_digit};
-ghost use Rattle.plir_text.specs.Bytes.{is_blank, is_in_word, front, past, begins, all_pass, value_after};
+ghost use Rattle.plir_text.specs.Bytes.{is_blank, is_in_name, front, past, word_past, begins, all_pass, value_after};
 ghost use Rattle.plir_text.specs.Tokens.{look, is_mark};
 ghost use Rattle.plir_text.specs.Pieces.{token_of};
 ghost use Rattle.plir_text.specs.Reading.{Gives};
@@ -38,10 +38,10 @@ fn is_blank(byte: u8) -> bool
     byte == b' ' || byte == b'\t' || byte == b'\n' || byte == b'\r'
 }
 
-fn is_in_word(byte: u8) -> bool
-    ensures { result ≡ is_in_word byte }
+fn is_in_name(byte: u8) -> bool
+    ensures { result ≡ is_in_name byte }
 {
-    is_letter(byte) || is_digit(byte) || byte == b'.'
+    is_letter(byte) || is_digit(byte)
 }
 
 fn is_mark(byte: u8) -> bool
@@ -64,13 +64,27 @@ pub fn past_blank(bytes: &[u8]) -> &[u8]
     rest
 }
 
-fn past_word(bytes: &[u8]) -> &[u8]
-    ensures { result.now ≡ past is_in_word bytes.now }
+fn past_name(bytes: &[u8]) -> &[u8]
+    ensures { result.now ≡ past is_in_name bytes.now }
 {
     let mut rest = bytes;
     while let [byte, tail @ ..] = rest {
-        if !is_in_word(*byte) {
+        if !is_in_name(*byte) {
             break;
+        }
+        rest = tail;
+    }
+    rest
+}
+
+// What stands behind a word: an id has one point, so a second one is no part of it.
+fn past_word(bytes: &[u8]) -> &[u8]
+    ensures { result.now ≡ word_past bytes.now }
+{
+    let mut rest = bytes;
+    while let [byte, tail @ ..] = rest {
+        if !is_in_name(*byte) {
+            return if *byte == b'.' { past_name(tail) } else { rest };
         }
         rest = tail;
     }
@@ -121,30 +135,6 @@ pub fn left_at(bytes: &[u8]) -> usize {
     past_blank(bytes).len()
 }
 
-// A word up to its second point: an id has one.
-fn id_of(word: &[u8]) -> &[u8] {
-    let mut has_point = false;
-    for (place, byte) in word.iter().enumerate() {
-        if *byte == b'.' {
-            if has_point {
-                return word.get(..place).unwrap_or(word);
-            }
-            has_point = true;
-        }
-    }
-    word
-}
-
-// Whether these are the bytes of one of the ids.
-fn is_one_of(bytes: &[u8], ids: &[&str]) -> bool {
-    for id in ids {
-        if bytes == id.as_bytes() {
-            return true;
-        }
-    }
-    false
-}
-
 // Whether a point stands in these bytes, and something behind it.
 fn is_whole_id(bytes: &[u8]) -> bool {
     match bytes {
@@ -153,19 +143,14 @@ fn is_whole_id(bytes: &[u8]) -> bool {
     }
 }
 
-// How many bytes are left where a word has its fault that is none of these ids, with `left` where it stands. The fault stands at
-// the first character of the token that can't be read: behind one of the ids that is its second point. Where the text is cut in
-// the token, it stands at the text's end.
-pub fn unread_id_at(word: &[u8], left: usize, ids: &[&str]) -> usize {
-    let id = id_of(word);
-    if id.len() < word.len() {
-        if is_one_of(id, ids) {
-            return left.saturating_sub(id.len());
-        }
-    } else if word.len() == left && !is_whole_id(word) {
-        return 0;
+// How many bytes are left where a word has its fault that is no id which may come there, with `left` where it stands: where the
+// text is cut in the id the fault stands at the text's end, else at the word's first character.
+pub fn unread_id_at(word: &[u8], left: usize) -> usize {
+    if word.len() == left && !is_whole_id(word) {
+        0
+    } else {
+        left
     }
-    left
 }
 
 // How many bytes are left where a token has its fault that is no `->`: at the text's end, if that is cut behind the `-`.

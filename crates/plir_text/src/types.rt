@@ -9,10 +9,10 @@ ghost use Rattle.plir_text.specs.Lists.{items_at};
 ghost use Rattle.plir_text.specs.TypeReading.{integer_at, function_at, type_at};
 ghost use Rattle.plir_text.specs.TypesIn.{IsInInteger, IsInTypes, IsInFunction, IsInType};
 
-use crate::fault::{Fault, Stop};
-use crate::tokens::left_at;
+use crate::fault::Stop;
 use crate::words::{
-    TypeKind, past_sign, read_arrow, read_integer, read_separator, read_sign, read_type_head,
+    TypeKind, begin_level, past_sign, read_arrow, read_integer, read_separator, read_sign,
+    read_type_head,
 };
 use plir_data::{
     FunctionType, IntegerType, Memory, OpSet, TypeHandle, TypeStore, TypedHandle, UnitType,
@@ -123,10 +123,8 @@ pub fn read_type_at<'a, D: OpSet, C: TypeStore<D>>(
     ensures read { ReadsFirst (Names (C.types ctx.new)) result (type_at levels bytes.now) }
     ensures kept { Adds C.types C.same_besides (IsInType levels bytes.now) ctx.old ctx.new }
 {
+    begin_level(levels, bytes)?;
     let (kind, rest) = read_type_head(bytes)?;
-    if levels == 0 {
-        return Err(Stop::At(Fault::TooDeep, left_at(bytes)));
-    }
     match kind {
         TypeKind::Integer => read_integer_handle(ctx, rest),
         TypeKind::Function => read_function(alloc, ctx, levels - 1, rest),

@@ -1,8 +1,9 @@
 //! Words, signs and lists' separators.
 
-ghost use Rattle.std.specs.Prelude.{◌≡◌, option_map, nat_eq};
+ghost use Rattle.std.specs.Prelude.{◌≡◌, ◌≤◌, OnOk, option_map, nat_eq};
 ghost use Rattle.plir_text.specs.Pieces.{token_of};
 ghost use Rattle.plir_text.specs.Reading.{Gives};
+ghost use Rattle.plir_text.specs.Levels.{if_level, level_at};
 ghost use Rattle.plir_text.specs.Lists.{is_sign, sign_at, past_sign, separator_at};
 ghost use Rattle.plir_text.specs.TypeReading.{word_at, arrow_at, type_kind, width_of, integer_of, integer_at, type_head};
 
@@ -31,6 +32,28 @@ pub fn read_word(bytes: &[u8]) -> Result<(&[u8], &[u8]), Stop>
         Piece::Word(word) => Ok((word, rest)),
         _ => Err(Stop::At(Fault::Unexpected, left_at(bytes))),
     }
+}
+
+// One level more is left, which begins here.
+#[tactic(auto, unfolding(crate::specs::Levels::if_level))]
+fn if_level(levels: usize, bytes: &[u8]) -> Result<(), Stop>
+    ensures read { Gives (λ u. u) result (if_level levels) }
+    ensures some { OnOk result (1 ≤ levels) }
+{
+    if levels < 1 {
+        return Err(Stop::At(Fault::TooDeep, left_at(bytes)));
+    }
+    Ok(())
+}
+
+// A level begins with the word that comes, and one more is left.
+#[tactic(auto, unfolding(crate::specs::Levels::level_at))]
+pub fn begin_level(levels: usize, bytes: &[u8]) -> Result<(), Stop>
+    ensures read { Gives (λ u. u) result (level_at levels bytes.now) }
+    ensures some { OnOk result (1 ≤ levels) }
+{
+    read_word(bytes)?;
+    if_level(levels, bytes)
 }
 
 fn is_sign(piece: Piece<'_>, sign: u8) -> bool
@@ -98,9 +121,6 @@ pub fn read_separator(bytes: &[u8], close: u8) -> Result<(bool, &[u8]), Stop>
     }
 }
 
-// The ids that begin a type.
-const TYPE_IDS: [&str; 3] = ["builtin.integer", "builtin.function", "builtin.unit"];
-
 // What the id of a type names, with this many bytes left where it stands.
 #[tactic(auto, unfolding(crate::specs::TypeReading::type_kind))]
 fn type_kind(word: &[u8], left: usize) -> Result<TypeKind, Stop>
@@ -113,7 +133,7 @@ fn type_kind(word: &[u8], left: usize) -> Result<TypeKind, Stop>
     } else if word == b"builtin.unit".as_slice() {
         Ok(TypeKind::Unit)
     } else {
-        Err(Stop::At(Fault::Unexpected, unread_id_at(word, left, &TYPE_IDS)))
+        Err(Stop::At(Fault::Unexpected, unread_id_at(word, left)))
     }
 }
 

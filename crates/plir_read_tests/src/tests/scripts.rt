@@ -81,6 +81,8 @@ fn texts_that_stand_for_no_operation(rt: HostRuntime) -> Result<(), Mismatch> {
         read a = b => Unexpected at 1:6
         read builtin. => Unexpected at 1:9
         read builtin.module.x @m {} => Unexpected at 1:15
+        read a , b , c = builtin.module. @m {} => NResultsVerifyErr(0, 3) at 1:13
+        read a.b.c = builtin.module @m {} => Unexpected at 1:1
         read => Unexpected at 1:1
         read builtin.module @m {^b(): builtin.func @f: builtin.unit {}; } => Unexpected at 1:60
         read builtin.constant <builtin.unit> : builtin.unit => NResultsVerifyErr(1, 0) at 1:1
@@ -108,7 +110,12 @@ fn proper_beginnings_are_unexpected(rt: HostRuntime) -> Result<(), Mismatch> {
 fn two_hundred_levels(rt: HostRuntime) -> Result<(), Mismatch> {
     let script = "
         nested 200 | builtin.module @m {^b():· | | } => read
-        nested 201 | builtin.module @m {^b():· | | } => TooDeep at 1:5001";
+        nested 201 | builtin.module @m {^b():· | | } => TooDeep at 1:5001
+        nested 200 | builtin.module @m {^b():· | foo bar | } => TooDeep at 1:5001
+        nested 200 | builtin.module @m {^b():· | foo | => TooDeep at 1:5001
+        nested 200 | builtin.module @m {^b():· | builtin.none | } => TooDeep at 1:5001
+        nested 200 | builtin.module @m {^b():· | 5 | } => Unexpected at 1:5001
+        nested 200 | builtin.module @m {^b():· | | => Unexpected at 1:5001";
     play_in(rt.alloc(), 10_000, script)
 }
 

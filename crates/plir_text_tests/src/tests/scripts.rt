@@ -77,7 +77,12 @@ fn cut_tokens_have_their_faults_at_the_end(rt: HostRuntime) -> Result<(), Mismat
         read-type b x => Unexpected at 1:1
         read-type builtin. => Unexpected at 1:9
         read-type builtin.unit. => Unexpected at 1:13
+        read-type builtin.unit.x => Unexpected at 1:13
+        read-type builtin.unit..x => Unexpected at 1:13
+        read-type builtin..unit => Unexpected at 1:1
         read-type builtin.none.unit => Unexpected at 1:1
+        read-type builtin.integer si64. => Unexpected at 1:21
+        read-type builtin.integer si64.x.y => Unexpected at 1:21
         read-function <()- => Unexpected at 1:5
         read-integer s => Unexpected at 1:2
         attr b => Unexpected at 1:2
@@ -118,6 +123,23 @@ fn two_hundred_levels(rt: HostRuntime) -> Result<(), Mismatch> {
         nested-attr 200 | builtin.vec [ | | ] => read
         nested-attr 201 | builtin.vec [ | | ] => TooDeep at 1:2601
         nested-attr 200 | builtin.vec [ | | => Unexpected at 1:2601";
+    play_in(rt.alloc(), script)
+}
+
+#[test]
+fn a_level_too_many_comes_before_the_faults_in_it(rt: HostRuntime) -> Result<(), Mismatch> {
+    let script = "
+        nested-attr 199 | builtin.vec [ | builtin.integer <1: si4294967296> | => TooDeep at 1:2608
+        nested-attr 199 | builtin.vec [ | builtin.integer <1: x | => TooDeep at 1:2608
+        nested-attr 199 | builtin.vec [ | builtin.integer <1: 5 | => Unexpected at 1:2608
+        nested-attr 199 | builtin.vec [ | builtin.integer <1: | => Unexpected at 1:2607
+        nested-attr 198 | builtin.vec [ | builtin.integer <1: si4294967296> | => IntegerOutOfRange at 1:2597
+        nested-attr 199 | builtin.vec [ | builtin.type b | => TooDeep at 1:2601
+        nested-attr 200 | builtin.vec [ | builtin.none | ] => TooDeep at 1:2601
+        nested-attr 200 | builtin.vec [ | b | => TooDeep at 1:2601
+        nested-attr 200 | builtin.vec [ | 5 | ] => Unexpected at 1:2601
+        nested-type 200 | builtin.function <( | builtin.integer si4294967296 | )->()> => TooDeep at 1:3801
+        nested-type 200 | builtin.function <( | b. | => TooDeep at 1:3801";
     play_in(rt.alloc(), script)
 }
 

@@ -1,4 +1,4 @@
-use Rattle.std.proofs.Common.{◌∙◌, length, [], ◌∷◌, ◌++◌, refl, sym, ap, subst, arith}
+use Rattle.std.proofs.Common.{◌∙◌, length, [], ◌∷◌, ◌++◌, refl, sym, ap, subst, arith, ◌≡◌}
 use Rattle.std.proofs.lemmas.Result.{err_from_is_err_and}
 use Rattle.plir_text.specs.Begun.{separator_at-shorter}
 use Rattle.plir_text.specs.Fronts.{no_open, nothing_inside, starts, ends_at_item, ends_behind, closes, goes_on}
@@ -14,6 +14,10 @@ use Rattle.plir_read.proofs.OpFound.{argument_at-shorter}
 use Rattle.plir_read.proofs.Ends.{end_on, sign_end}
 use Rattle.plir_read.proofs.OpEnds.{argument_end, separator_end}
 use Rattle.plir_read.proofs.TypesNamed.{named_itself, named_on, behind_named}
+use Rattle.plir_text.specs.Lists.{items_at}
+use Rattle.plir_text.specs.Parts.{IsPartOf}
+use Rattle.plir_read.specs.HeldTypes.{IsHeldByArgument}
+use Rattle.plir_read.proofs.Held.{none_come, both_come, held_is, arguments_front, arguments_last}
 use Rattle.plir_read.proofs.arguments.read_arguments.Goals as goal
 
 pub returns-in_err-start-clause-read : goal.returns-in_err-start-clause-read
@@ -32,6 +36,7 @@ arguments-init g c =
       named = c.new-names.ensures.items;
       grown = Grows-itself _;
       written = named_itself _ _;
+      held = none_come (λ t. IsHeldByArgument t []) _;
       behind = sign_end 40 _ _ c.in_ok-start.ensures;
       kept = g.met.C.TypeStore.same_besides_itself _;
       going = starts 40 41 (argument_at c.args.levels) _ _ c.in_ok-start.ensures (sym c.in_default.ensures);
@@ -101,6 +106,7 @@ arguments-preserved g c =
       grown = Grows-on _ _ _ i.grown c.in-Ok.ensures.grown;
       written = named_on _ _ _ _ c.in-Ok.ensures.grown i.written (behind_named _ _ _ _ i.behind c.in-Ok.ensures.named);
       behind = end_on _ _ _ i.behind (end_on _ _ _ (argument_end c.args.levels c.arguments.rest.now y.0.0 c.in-Ok.read.1.now (behind_is _ y.0 c.in-Ok.read.1.now y.1 y.2.1)) (separator_end 41 c.in-Ok.read.1.now c.in_ok-goes_on.goes_on c.in_ok-goes_on.behind.now c.in_ok-goes_on.ensures));
+      held = both_come (λ t. IsHeldByArgument t i.front) (λ t. IsPartOf t y.0.0.1) (λ t. IsHeldByArgument t (i.front ++ y.0.0 ∷ [])) (λ t p. arguments_front t i.front y.0.0 p) (λ t p. arguments_last t i.front y.0.0 p) _ _ _ c.in-Ok.ensures.grown i.held (c.in-Ok.ensures.held y.0 y.1);
       kept = g.met.C.TypeStore.same_besides_on _ _ _ i.kept c.in-Ok.ensures.rest;
       going = goes_on (separator_at 41) (argument_at c.args.levels) i.front _ _ y.0.0 c.in-Ok.read.1.now c.in_ok-goes_on.behind.now i.going (behind_is _ y.0 c.in-Ok.read.1.now y.1 y.2.1) (c.in_ok-goes_on.ensures ∙ ap (λ b. done (b, c.in_ok-goes_on.behind.now)) c.if-goes_on.true) (arguments-smaller g c);
     }
@@ -119,3 +125,15 @@ returns-in_err-goes_on-clause-named g c = let i = c.arguments.invariant in named
 
 pub returns-else-goes_on-clause-named : goal.returns-else-goes_on-clause-named
 returns-else-goes_on-clause-named g c = let i = c.arguments.invariant in named_on _ _ _ _ c.in-Ok.ensures.grown i.written (behind_named _ _ _ _ i.behind c.in-Ok.ensures.named)
+
+pub returns-in-Some-clause-held : goal.returns-in-Some-clause-held
+returns-in-Some-clause-held g c = λ y e. none_come (λ t. IsHeldByArgument t y.0) _
+
+pub returns-else-goes_on-clause-held : goal.returns-else-goes_on-clause-held
+returns-else-goes_on-clause-held g c =
+    let y = c.in-Ok.ensures.read in
+    let i = c.arguments.invariant in
+    let z = (i.front ++ y.0.0 ∷ [], c.in_ok-goes_on.behind.now) in
+    let whole : items_at 40 41 (argument_at c.args.levels) c.args.bytes.now ≡ done z =
+    closes (separator_at 41) (argument_at c.args.levels) i.front _ _ y.0.0 c.in-Ok.read.1.now c.in_ok-goes_on.behind.now i.going (behind_is _ y.0 c.in-Ok.read.1.now y.1 y.2.1) (c.in_ok-goes_on.ensures ∙ ap (λ b. done (b, c.in_ok-goes_on.behind.now)) c.if-goes_on.false) in
+    λ x e. held_is IsHeldByArgument _ z x _ _ whole e (both_come (λ t. IsHeldByArgument t i.front) (λ t. IsPartOf t y.0.0.1) (λ t. IsHeldByArgument t (i.front ++ y.0.0 ∷ [])) (λ t p. arguments_front t i.front y.0.0 p) (λ t p. arguments_last t i.front y.0.0 p) _ _ _ c.in-Ok.ensures.grown i.held (c.in-Ok.ensures.held y.0 y.1))

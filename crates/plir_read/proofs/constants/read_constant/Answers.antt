@@ -4,6 +4,9 @@ use Rattle.plir_read.specs.Slots.{IsMadeInOrder}
 use Rattle.plir_read.proofs.OpMade.{value_live, result_live, KeepsOlder-typed, KeepsOlder-on}
 use Rattle.plir_read.proofs.TreesInOrder.{leaf_in_order}
 use Rattle.plir_read.proofs.TypesNamed.{named_still}
+use Rattle.plir_read.specs.HeldTypes.{IsHeldByConstant}
+use Rattle.plir_read.proofs.Held.{come_still}
+use Rattle.plir_read.proofs.OpSteps.{named_constant_is}
 use Rattle.plir_read.proofs.constants.read_constant.Goals as goal
 
 pub make_constant-requires-clause-value_live : goal.make_constant-requires-clause-value_live
@@ -30,3 +33,6 @@ returns-in_err-op-clause-named g c = named_still _ _ _ _ c.in_err-op.ensures.typ
 
 pub returns-clause-named : goal.returns-clause-named
 returns-clause-named g c = named_still _ _ _ _ c.in_ok-op.ensures.made.types c.in_ok-constant.ensures.named
+
+pub returns-clause-held : goal.returns-clause-held
+returns-clause-held g c = λ y e. come_still (λ t. IsHeldByConstant t y.0) _ _ _ c.in_ok-op.ensures.made.types (c.in_ok-constant.ensures.held y (named_constant_is c.args.levels _ c.args.bytes.now y e))

@@ -1,8 +1,14 @@
-use Rattle.std.proofs.Common.{[], refl, sym}
+use Rattle.std.proofs.Common.{[], refl, sym, ◌≡◌}
 use Rattle.plir_text.specs.Terms.{no_entries, entries_of}
 use Rattle.plir_text.specs.TypeSteps.{behind_is}
 use Rattle.plir_read.proofs.OpSteps.{no_dictionary, dictionary_is}
 use Rattle.plir_read.proofs.TypesNamed.{entries_named}
+use Rattle.plir_text.specs.StepLaws.{done}
+use Rattle.plir_text.specs.Growth.{named_by}
+use Rattle.plir_text.specs.Parts.{IsHeldByEntry}
+use Rattle.plir_text.specs.PartsFound.{entries_part}
+use Rattle.plir_read.specs.OpReading.{dictionary_at}
+use Rattle.plir_read.proofs.Held.{none_come, held_is}
 use Rattle.plir_read.proofs.headers.read_dictionary.Goals as goal
 
 pub returns-in-None-clause-read : goal.returns-in-None-clause-read
@@ -18,3 +24,13 @@ returns-in-Ok-clause-named g c = entries_named c.args.levels _ _ _ c.in-Ok.ensur
 
 pub returns-in-Err-clause-named : goal.returns-in-Err-clause-named
 returns-in-Err-clause-named g c = entries_named c.args.levels _ _ _ c.in-Err.ensures.kept.named
+
+pub returns-in-None-clause-held : goal.returns-in-None-clause-held
+returns-in-None-clause-held g c = λ y e. none_come (λ t. IsHeldByEntry t y.0) _
+
+pub returns-in-Ok-clause-held : goal.returns-in-Ok-clause-held
+returns-in-Ok-clause-held g c =
+    let r = c.in-Ok.ensures.read in
+    let z = (entries_of r.0.0, c.in-Ok.read.1.now) in
+    let whole : dictionary_at c.args.levels c.args.bytes.now ≡ done z = dictionary_is c.args.levels _ _ _ r.0.0 (sym c.in-Some.ensures) (behind_is _ r.0 c.in-Ok.read.1.now r.1 r.2.1) in
+    λ y e. held_is IsHeldByEntry _ z y _ _ whole e (named_by _ (λ t. IsHeldByEntry t (entries_of r.0.0)) (λ t w. entries_part c.args.levels _ r.0 t r.1 w) _ _ c.in-Ok.ensures.kept.named)

@@ -1,4 +1,4 @@
-use Rattle.std.proofs.Common.{[], refl, sym, subst}
+use Rattle.std.proofs.Common.{[], refl, sym, subst, ap, Err, arith}
 use Rattle.std.specs.Prelude.{All}
 use Rattle.std.proofs.lemmas.List.Elements.{All-nil, All-cons}
 use Rattle.plir_data.specs.Types.{AllLive, IsLive as IsTypeLive}
@@ -6,6 +6,8 @@ use Rattle.plir_data.specs.declared.op_set.OpKind.TheVariants as kinds
 use Rattle.plir_core.specs.Contents.{op_view}
 use Rattle.plir_core.specs.Store.{IsLive, IsValueLive}
 use Rattle.plir_core.specs.declared.ptr.IRNode.TheVariants.{BasicBlock}
+use Rattle.plir_read.proofs.Crowded.{op_crowded}
+use Rattle.plir_read.proofs.OpSteps.{refused_as}
 use Rattle.plir_read.proofs.SlotLaws.{leaf_given}
 use Rattle.plir_read.proofs.making.make_constant.Goals as goal
 
@@ -31,3 +33,8 @@ returns-in-Ok-clause-slots g c =
     let o = c.in-Ok.ensures in
     let v = op_view kinds.Constant c.in_ok-results.results.items c.new-operands.result.items c.new-successors.result.items c.in_ok-attributes.attributes in
     leaf_given c.args.ctx.now c.with_attributes.new.ctx c.num_live-before.ensures.whole.stored v c.in-Ok.op o.ok o.made.new o.made.root
+
+pub returns-in-Err-clause-refused : goal.returns-in-Err-clause-refused
+returns-in-Err-clause-refused g c =
+    let o = c.in-Err.ensures in
+    refused_as _ _ c.stop_of.result (λ e. op_crowded c.args.ctx.now.nodes c.with_attributes.new.ctx.nodes _ 0 (omega arith) c.num_live-before.ensures.whole.stored (o.too_many_only (ap (λ x. Err x) e)) o.err.nodes o.slots) c.stop_of.ensures

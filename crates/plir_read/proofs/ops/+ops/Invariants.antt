@@ -1,7 +1,10 @@
 use Rattle.std.proofs.Common.{◌+◌, ◌*◌, length}
 use Rattle.plir_core.specs.declared.ptr.IRNode.TheVariants.{Region, BasicBlock}
-use Rattle.plir_read.specs.OpReading.{op_at, ops_at, blocks_at}
+use Rattle.plir_read.specs.OpReading.{op_at, ops_at, block_at, blocks_at, semicolon_at, brace_at}
+use Rattle.plir_read.specs.OpTerms.{ops_of, blocks_of}
+use Rattle.plir_read.specs.HeldTypes.{IsHeldByOp, IsHeldByOps, IsHeldByBlock, IsHeldByBlocks}
 use Rattle.plir_read.proofs.Loops.{OpsGather, BlocksGather}
+use Rattle.plir_read.proofs.Held.{HeldSoFar}
 use Rattle.plir_read.proofs.TypesNamed.{AreNamedSoFar}
 use Rattle.plir_read.proofs.ops.+ops.Given as goal
 
@@ -28,6 +31,8 @@ decreases-read_body-inner g l = length l.rest
 
 abbrev pub invariant-read_ops-ops : goal.invariant-read_ops-ops
 invariant-read_ops-ops g l = OpsGather g.D.OpSet.attr_handles (op_at l.levels) l.initial.ctx l.ctx (BasicBlock l.block) l.rest (ops_at (op_at l.levels) l.bytes) × AreNamedSoFar l.bytes l.initial.ctx.types l.ctx.types l.rest
+    × HeldSoFar IsHeldByOp (λ t os. IsHeldByOps t (ops_of os)) semicolon_at (op_at l.levels) l.initial.ctx.types l.ctx.types l.rest (ops_at (op_at l.levels) l.bytes)
 
 abbrev pub invariant-read_body-inner : goal.invariant-read_body-inner
 invariant-read_body-inner g l = BlocksGather g.D.OpSet.attr_handles (op_at l.levels) l.levels l.initial.ctx l.ctx (Region l.region) l.rest (blocks_at (op_at l.levels) l.levels l.bytes) × AreNamedSoFar l.bytes l.initial.ctx.types l.ctx.types l.rest
+    × HeldSoFar IsHeldByBlock (λ t bs. IsHeldByBlocks t (blocks_of bs)) brace_at (block_at (op_at l.levels) l.levels) l.initial.ctx.types l.ctx.types l.rest (blocks_at (op_at l.levels) l.levels l.bytes)

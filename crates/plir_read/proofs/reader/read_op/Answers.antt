@@ -1,8 +1,11 @@
 use Rattle.std.proofs.Common.{[], ap, sym, ◌∙◌}
 use Rattle.plir_text.specs.Wholes.{whole}
 use Rattle.plir_read.specs.OpReading.{op_at}
-use Rattle.plir_read.proofs.OpWhole.{told, op_text_found, op_text_refused}
+use Rattle.plir_read.proofs.OpWhole.{told, no_place, no_room, op_text_found, op_text_refused}
 use Rattle.plir_read.proofs.TypesNamed.{behind_named}
+use Rattle.plir_text.specs.ListsAgain.{whole_again}
+use Rattle.plir_read.specs.OpGrammar.{OpWithin}
+use Rattle.plir_read.proofs.OpAgain.{op_within_again}
 use Rattle.plir_read.proofs.reader.read_op.Goals as goal
 
 pub returns-in-Ok-clause-found : goal.returns-in-Ok-clause-found
@@ -11,7 +14,7 @@ returns-in-Ok-clause-found g c =
     (y.0, op_text_found 200 _ y.0 (ap (whole (op_at 200)) (sym c.as_bytes-bytes.ensures.value) ∙ y.1), y.2)
 
 pub returns-in-Err-clause-fault : goal.returns-in-Err-clause-fault
-returns-in-Err-clause-fault g c = λ is. ap (whole (op_at 200)) (sym c.as_bytes-bytes.ensures.value) ∙ told c.in-Err.stop _ _ c.placed.ensures.fault c.in-Err.ensures.read is
+returns-in-Err-clause-fault g c = λ is. ap (whole (op_at 200)) (sym c.as_bytes-bytes.ensures.value) ∙ told _ c.in-Err.stop _ _ c.placed.ensures.fault c.in-Err.ensures.read is
 
 pub returns-in-Err-clause-refused : goal.returns-in-Err-clause-refused
 returns-in-Err-clause-refused g c = λ is w s. op_text_refused 200 _ _ (returns-in-Err-clause-fault g c is) w s
@@ -21,3 +24,12 @@ returns-in-Ok-clause-named g c = behind_named _ _ _ _ ([], sym c.as_bytes-bytes.
 
 pub returns-in-Err-clause-named : goal.returns-in-Err-clause-named
 returns-in-Err-clause-named g c = behind_named _ _ _ _ ([], sym c.as_bytes-bytes.ensures.value) c.in-Err.ensures.named
+
+pub returns-in-Err-clause-placeless : goal.returns-in-Err-clause-placeless
+returns-in-Err-clause-placeless g c = no_place _ c.in-Err.stop _ _ c.placed.ensures.fault c.placed.ensures.nowhere c.in-Err.ensures.read
+
+pub returns-in-Err-clause-crowded : goal.returns-in-Err-clause-crowded
+returns-in-Err-clause-crowded g c = no_room _ c.in-Err.stop _ _ c.placed.ensures.fault c.in-Err.ensures.read
+
+pub returns-in-Ok-clause-held : goal.returns-in-Ok-clause-held
+returns-in-Ok-clause-held g c = λ w s. c.in-Ok.ensures.held w (ap (whole (op_at 200)) c.as_bytes-bytes.ensures.value ∙ whole_again (op_at 200) (OpWithin 200) (op_within_again 200) _ w s)

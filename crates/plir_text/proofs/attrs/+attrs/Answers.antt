@@ -15,28 +15,33 @@ use Rattle.plir_text.specs.Growth.{Adds-itself, Adds-as}
 use Rattle.plir_text.proofs.Gathering.{begins, kept_on, gathered, one_more, fails_at, fails_behind}
 use Rattle.plir_text.specs.Meanings.{ItemsFront, ItemsFront-grown, DictFront, DictFront-grown, ItemsFront-push, IsDictMeant-push}
 use Rattle.plir_text.specs.TypeSteps.{behind_is}
-use Rattle.plir_text.specs.AttrSteps.{attr_at-body, attr_at-head-fails, Reads-from, leaf_read}
+use Rattle.plir_text.specs.AttrSteps.{attr_at-body, attr_at-level-fails, attr_at-head-fails, Reads-from, leaf_read}
 use Rattle.plir_text.specs.AttrsFound.{attr_at-shorter, entry_at-shorter}
 use Rattle.plir_text.specs.AttrsAgain.{entry_again}
 use Rattle.plir_text.specs.Begun.{separator_at-shorter}
 use Rattle.plir_text.proofs.TypesIn.{in_entry, in_attr}
 use Rattle.plir_text.proofs.attrs.+attrs.Goals as goal
 
+pub read_attr_at-returns-in_err-begin_level-clause-read : goal.read_attr_at-returns-in_err-begin_level-clause-read
+read_attr_at-returns-in_err-begin_level-clause-read g t c =
+    let p = err_from_is_err_and c.from_residual.result c.from_residual.ensures.1 in
+    rw (p.1, p.2) (attr_at-level-fails c.in_err-begin_level.field-0.0 c.args.levels c.args.bytes.now c.in_err-begin_level.ensures.read)
+
+pub read_attr_at-returns-in_err-begin_level-clause-kept : goal.read_attr_at-returns-in_err-begin_level-clause-kept
+read_attr_at-returns-in_err-begin_level-clause-kept g t c = Adds-itself g.met.C.TypeStore.same_besides_itself _
+
 pub read_attr_at-returns-in_err-kind-clause-read : goal.read_attr_at-returns-in_err-kind-clause-read
 read_attr_at-returns-in_err-kind-clause-read g t c =
-    let p = err_from_is_err_and c.from_residual.result c.from_residual.ensures.1 in
-    rw (p.1, p.2) (attr_at-head-fails c.in_err-kind.field-0.0 c.args.levels c.args.bytes.now c.in_err-kind.ensures)
+    let p = err_from_is_err_and c.from_residual-in_err-kind.result c.from_residual-in_err-kind.ensures.1 in
+    rw (p.1, p.2) (attr_at-head-fails c.in_err-kind.field-0.0 c.args.levels c.args.bytes.now (omega (arith, c.in_ok-begin_level.ensures.some)) c.in_err-kind.ensures)
 
 pub read_attr_at-returns-in_err-kind-clause-kept : goal.read_attr_at-returns-in_err-kind-clause-kept
 read_attr_at-returns-in_err-kind-clause-kept g t c = Adds-itself g.met.C.TypeStore.same_besides_itself _
 
-pub read_attr_at-returns-then-levels-eq0-clause-kept : goal.read_attr_at-returns-then-levels-eq0-clause-kept
-read_attr_at-returns-then-levels-eq0-clause-kept g t c = Adds-itself g.met.C.TypeStore.same_besides_itself _
-
 pub read_attr_at-returns-in-Identifier-clause-read : goal.read_attr_at-returns-in-Identifier-clause-read
 read_attr_at-returns-in-Identifier-clause-read g t c =
     let head : attr_head c.args.bytes.now ≡ done (kinds.Identifier, c.in_ok-kind.rest.now) = c.in_ok-kind.ensures ∙ ap (λ k. done (k, c.in_ok-kind.rest.now)) c.in-Identifier.is in
-    let body = attr_at-body c.args.levels c.args.bytes.now c.in_ok-kind.rest.now kinds.Identifier (omega (arith, c.if-levels-eq0.false)) head in
+    let body = attr_at-body c.args.levels c.args.bytes.now c.in_ok-kind.rest.now kinds.Identifier (omega (arith, c.in_ok-begin_level.ensures.some)) head in
     leaf_read (g.C.TypeStore.types c.args.ctx.now) (λ x. attr_view x.0) (λ x. x.1.now) (λ w. views.leaf (views.identifier w)) terms.identifier (λ w. refl) c.read_identifier_attr.result (name_at c.in_ok-kind.rest.now) _ body c.read_identifier_attr.ensures
 
 pub read_attr_at-returns-in-Identifier-clause-kept : goal.read_attr_at-returns-in-Identifier-clause-kept
@@ -45,7 +50,7 @@ read_attr_at-returns-in-Identifier-clause-kept g t c = Adds-itself g.met.C.TypeS
 pub read_attr_at-returns-in-String-clause-read : goal.read_attr_at-returns-in-String-clause-read
 read_attr_at-returns-in-String-clause-read g t c =
     let head : attr_head c.args.bytes.now ≡ done (kinds.String, c.in_ok-kind.rest.now) = c.in_ok-kind.ensures ∙ ap (λ k. done (k, c.in_ok-kind.rest.now)) c.in-String.is in
-    let body = attr_at-body c.args.levels c.args.bytes.now c.in_ok-kind.rest.now kinds.String (omega (arith, c.if-levels-eq0.false)) head in
+    let body = attr_at-body c.args.levels c.args.bytes.now c.in_ok-kind.rest.now kinds.String (omega (arith, c.in_ok-begin_level.ensures.some)) head in
     leaf_read (g.C.TypeStore.types c.args.ctx.now) (λ x. attr_view x.0) (λ x. x.1.now) (λ w. views.leaf (views.string w)) terms.string (λ w. refl) c.read_string_attr.result (text_at c.in_ok-kind.rest.now) _ body c.read_string_attr.ensures
 
 pub read_attr_at-returns-in-String-clause-kept : goal.read_attr_at-returns-in-String-clause-kept
@@ -54,7 +59,7 @@ read_attr_at-returns-in-String-clause-kept g t c = Adds-itself g.met.C.TypeStore
 pub read_attr_at-returns-in-Bool-clause-read : goal.read_attr_at-returns-in-Bool-clause-read
 read_attr_at-returns-in-Bool-clause-read g t c =
     let head : attr_head c.args.bytes.now ≡ done (kinds.Bool, c.in_ok-kind.rest.now) = c.in_ok-kind.ensures ∙ ap (λ k. done (k, c.in_ok-kind.rest.now)) c.in-Bool.is in
-    let body = attr_at-body c.args.levels c.args.bytes.now c.in_ok-kind.rest.now kinds.Bool (omega (arith, c.if-levels-eq0.false)) head in
+    let body = attr_at-body c.args.levels c.args.bytes.now c.in_ok-kind.rest.now kinds.Bool (omega (arith, c.in_ok-begin_level.ensures.some)) head in
     leaf_read (g.C.TypeStore.types c.args.ctx.now) (λ x. attr_view x.0) (λ x. x.1.now) (λ w. views.leaf (views.bool w)) terms.bool (λ w. refl) c.read_bool_attr.result (bool_at c.in_ok-kind.rest.now) _ body c.read_bool_attr.ensures
 
 pub read_attr_at-returns-in-Bool-clause-kept : goal.read_attr_at-returns-in-Bool-clause-kept
@@ -63,7 +68,7 @@ read_attr_at-returns-in-Bool-clause-kept g t c = Adds-itself g.met.C.TypeStore.s
 pub read_attr_at-returns-in-OperandSegmentSizes-clause-read : goal.read_attr_at-returns-in-OperandSegmentSizes-clause-read
 read_attr_at-returns-in-OperandSegmentSizes-clause-read g t c =
     let head : attr_head c.args.bytes.now ≡ done (kinds.OperandSegmentSizes, c.in_ok-kind.rest.now) = c.in_ok-kind.ensures ∙ ap (λ k. done (k, c.in_ok-kind.rest.now)) c.in-OperandSegmentSizes.is in
-    let body = attr_at-body c.args.levels c.args.bytes.now c.in_ok-kind.rest.now kinds.OperandSegmentSizes (omega (arith, c.if-levels-eq0.false)) head in
+    let body = attr_at-body c.args.levels c.args.bytes.now c.in_ok-kind.rest.now kinds.OperandSegmentSizes (omega (arith, c.in_ok-begin_level.ensures.some)) head in
     leaf_read (g.C.TypeStore.types c.args.ctx.now) (λ x. attr_view x.0) (λ x. x.1.now) (λ w. views.leaf (views.operand_segment_sizes w)) terms.operand_segment_sizes (λ w. refl) c.read_sizes_attr.result (items_at 91 93 size_at c.in_ok-kind.rest.now) _ body c.read_sizes_attr.ensures
 
 pub read_attr_at-returns-in-OperandSegmentSizes-clause-kept : goal.read_attr_at-returns-in-OperandSegmentSizes-clause-kept
@@ -72,7 +77,7 @@ read_attr_at-returns-in-OperandSegmentSizes-clause-kept g t c = Adds-itself g.me
 pub read_attr_at-returns-in-GivenNames-clause-read : goal.read_attr_at-returns-in-GivenNames-clause-read
 read_attr_at-returns-in-GivenNames-clause-read g t c =
     let head : attr_head c.args.bytes.now ≡ done (kinds.GivenNames, c.in_ok-kind.rest.now) = c.in_ok-kind.ensures ∙ ap (λ k. done (k, c.in_ok-kind.rest.now)) c.in-GivenNames.is in
-    let body = attr_at-body c.args.levels c.args.bytes.now c.in_ok-kind.rest.now kinds.GivenNames (omega (arith, c.if-levels-eq0.false)) head in
+    let body = attr_at-body c.args.levels c.args.bytes.now c.in_ok-kind.rest.now kinds.GivenNames (omega (arith, c.in_ok-begin_level.ensures.some)) head in
     leaf_read (g.C.TypeStore.types c.args.ctx.now) (λ x. attr_view x.0) (λ x. x.1.now) (λ w. views.leaf (views.given_names w)) terms.given_names (λ w. refl) c.read_names_attr.result (items_at 91 93 given_name_at c.in_ok-kind.rest.now) _ body c.read_names_attr.ensures
 
 pub read_attr_at-returns-in-GivenNames-clause-kept : goal.read_attr_at-returns-in-GivenNames-clause-kept
@@ -81,51 +86,51 @@ read_attr_at-returns-in-GivenNames-clause-kept g t c = Adds-itself g.met.C.TypeS
 pub read_attr_at-returns-in-Integer-clause-read : goal.read_attr_at-returns-in-Integer-clause-read
 read_attr_at-returns-in-Integer-clause-read g t c =
     let head : attr_head c.args.bytes.now ≡ done (kinds.Integer, c.in_ok-kind.rest.now) = c.in_ok-kind.ensures ∙ ap (λ k. done (k, c.in_ok-kind.rest.now)) c.in-Integer.is in
-    let body = attr_at-body c.args.levels c.args.bytes.now c.in_ok-kind.rest.now kinds.Integer (omega (arith, c.if-levels-eq0.false)) head in
+    let body = attr_at-body c.args.levels c.args.bytes.now c.in_ok-kind.rest.now kinds.Integer (omega (arith, c.in_ok-begin_level.ensures.some)) head in
     Reads-from _ c.read_integer_attr.result _ _ body c.read_integer_attr.ensures.read
 
 pub read_attr_at-returns-in-Integer-clause-kept : goal.read_attr_at-returns-in-Integer-clause-kept
 read_attr_at-returns-in-Integer-clause-kept g t c =
     let head : attr_head c.args.bytes.now ≡ done (kinds.Integer, c.in_ok-kind.rest.now) = c.in_ok-kind.ensures ∙ ap (λ k. done (k, c.in_ok-kind.rest.now)) c.in-Integer.is in
-    Adds-as (in_attr c.args.levels _ _ kinds.Integer (omega (arith, c.if-levels-eq0.false)) head) _ _ c.read_integer_attr.ensures.kept
+    Adds-as (in_attr c.args.levels _ _ kinds.Integer (omega (arith, c.in_ok-begin_level.ensures.some)) head) _ _ c.read_integer_attr.ensures.kept
 
 pub read_attr_at-returns-in-Dict-clause-read : goal.read_attr_at-returns-in-Dict-clause-read
 read_attr_at-returns-in-Dict-clause-read g t c =
     let head : attr_head c.args.bytes.now ≡ done (kinds.Dict, c.in_ok-kind.rest.now) = c.in_ok-kind.ensures ∙ ap (λ k. done (k, c.in_ok-kind.rest.now)) c.in-Dict.is in
-    let body = attr_at-body c.args.levels c.args.bytes.now c.in_ok-kind.rest.now kinds.Dict (omega (arith, c.if-levels-eq0.false)) head in
+    let body = attr_at-body c.args.levels c.args.bytes.now c.in_ok-kind.rest.now kinds.Dict (omega (arith, c.in_ok-begin_level.ensures.some)) head in
     Reads-from _ c.read_dict_attr.result _ _ body c.read_dict_attr.ensures.read
 
 pub read_attr_at-returns-in-Dict-clause-kept : goal.read_attr_at-returns-in-Dict-clause-kept
 read_attr_at-returns-in-Dict-clause-kept g t c =
     let head : attr_head c.args.bytes.now ≡ done (kinds.Dict, c.in_ok-kind.rest.now) = c.in_ok-kind.ensures ∙ ap (λ k. done (k, c.in_ok-kind.rest.now)) c.in-Dict.is in
-    Adds-as (in_attr c.args.levels _ _ kinds.Dict (omega (arith, c.if-levels-eq0.false)) head) _ _ c.read_dict_attr.ensures.kept
+    Adds-as (in_attr c.args.levels _ _ kinds.Dict (omega (arith, c.in_ok-begin_level.ensures.some)) head) _ _ c.read_dict_attr.ensures.kept
 
 pub read_attr_at-returns-in-Vec-clause-read : goal.read_attr_at-returns-in-Vec-clause-read
 read_attr_at-returns-in-Vec-clause-read g t c =
     let head : attr_head c.args.bytes.now ≡ done (kinds.Vec, c.in_ok-kind.rest.now) = c.in_ok-kind.ensures ∙ ap (λ k. done (k, c.in_ok-kind.rest.now)) c.in-Vec.is in
-    let body = attr_at-body c.args.levels c.args.bytes.now c.in_ok-kind.rest.now kinds.Vec (omega (arith, c.if-levels-eq0.false)) head in
+    let body = attr_at-body c.args.levels c.args.bytes.now c.in_ok-kind.rest.now kinds.Vec (omega (arith, c.in_ok-begin_level.ensures.some)) head in
     Reads-from _ c.read_list_attr.result _ _ body c.read_list_attr.ensures.read
 
 pub read_attr_at-returns-in-Vec-clause-kept : goal.read_attr_at-returns-in-Vec-clause-kept
 read_attr_at-returns-in-Vec-clause-kept g t c =
     let head : attr_head c.args.bytes.now ≡ done (kinds.Vec, c.in_ok-kind.rest.now) = c.in_ok-kind.ensures ∙ ap (λ k. done (k, c.in_ok-kind.rest.now)) c.in-Vec.is in
-    Adds-as (in_attr c.args.levels _ _ kinds.Vec (omega (arith, c.if-levels-eq0.false)) head) _ _ c.read_list_attr.ensures.kept
+    Adds-as (in_attr c.args.levels _ _ kinds.Vec (omega (arith, c.in_ok-begin_level.ensures.some)) head) _ _ c.read_list_attr.ensures.kept
 
 pub read_attr_at-returns-in-TypeOf-clause-read : goal.read_attr_at-returns-in-TypeOf-clause-read
 read_attr_at-returns-in-TypeOf-clause-read g t c =
     let head : attr_head c.args.bytes.now ≡ done (kinds.TypeOf, c.in_ok-kind.rest.now) = c.in_ok-kind.ensures ∙ ap (λ k. done (k, c.in_ok-kind.rest.now)) c.in-TypeOf.is in
-    let body = attr_at-body c.args.levels c.args.bytes.now c.in_ok-kind.rest.now kinds.TypeOf (omega (arith, c.if-levels-eq0.false)) head in
+    let body = attr_at-body c.args.levels c.args.bytes.now c.in_ok-kind.rest.now kinds.TypeOf (omega (arith, c.in_ok-begin_level.ensures.some)) head in
     Reads-from _ c.read_type_attr.result _ _ body c.read_type_attr.ensures.read
 
 pub read_attr_at-returns-in-TypeOf-clause-kept : goal.read_attr_at-returns-in-TypeOf-clause-kept
 read_attr_at-returns-in-TypeOf-clause-kept g t c =
     let head : attr_head c.args.bytes.now ≡ done (kinds.TypeOf, c.in_ok-kind.rest.now) = c.in_ok-kind.ensures ∙ ap (λ k. done (k, c.in_ok-kind.rest.now)) c.in-TypeOf.is in
-    Adds-as (in_attr c.args.levels _ _ kinds.TypeOf (omega (arith, c.if-levels-eq0.false)) head) _ _ c.read_type_attr.ensures.kept
+    Adds-as (in_attr c.args.levels _ _ kinds.TypeOf (omega (arith, c.in_ok-begin_level.ensures.some)) head) _ _ c.read_type_attr.ensures.kept
 
 pub read_attr_at-returns-in-Unit-clause-read : goal.read_attr_at-returns-in-Unit-clause-read
 read_attr_at-returns-in-Unit-clause-read g t c =
     let head : attr_head c.args.bytes.now ≡ done (kinds.Unit, c.in_ok-kind.rest.now) = c.in_ok-kind.ensures ∙ ap (λ k. done (k, c.in_ok-kind.rest.now)) c.in-Unit.is in
-    let body = attr_at-body c.args.levels c.args.bytes.now c.in_ok-kind.rest.now kinds.Unit (omega (arith, c.if-levels-eq0.false)) head in
+    let body = attr_at-body c.args.levels c.args.bytes.now c.in_ok-kind.rest.now kinds.Unit (omega (arith, c.in_ok-begin_level.ensures.some)) head in
     ((terms.unit, c.in_ok-kind.rest.now), body, (refl, refl))
 
 pub read_attr_at-returns-in-Unit-clause-kept : goal.read_attr_at-returns-in-Unit-clause-kept

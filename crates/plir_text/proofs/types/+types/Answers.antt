@@ -8,7 +8,7 @@ use Rattle.plir_text.specs.StepLaws.{done}
 use Rattle.plir_text.specs.Fronts.{nothing_inside}
 use Rattle.plir_text.specs.Growth.{Grows-instantiated, Adds-itself, Adds-on, Adds-one, Adds-none, Adds-as, NamesAll-grown, both_live, NamesFront, NamesFront-grown, NamesFront-push}
 use Rattle.plir_text.proofs.Gathering.{begins, kept_on, gathered, one_more, fails_at, fails_behind}
-use Rattle.plir_text.specs.TypeSteps.{type_at-body, type_at-head-fails, function_read, Reads-made, behind_is}
+use Rattle.plir_text.specs.TypeSteps.{type_at-body, type_at-level-fails, type_at-head-fails, function_read, Reads-made, behind_is}
 use Rattle.plir_text.specs.Begun.{separator_at-shorter}
 use Rattle.plir_text.specs.TypesFound.{type_at-shorter}
 use Rattle.plir_text.proofs.TypesIn.{in_type, in_arguments, in_results}
@@ -71,16 +71,21 @@ read_function-returns-in_err-handle-clause-kept g t c =
     let h = c.in_err-handle.ensures in
     Adds-on on _ _ _ (Adds-on on _ _ _ (Adds-as (in_arguments c.args.levels _ _ c.in_ok-start.ensures) _ _ a.kept) (Adds-as (in_results c.args.levels _ _ _ _ _ c.in_ok-start.ensures (behind_is _ a.read.0 c.in_ok-arguments.rest.now a.read.1 a.read.2.1) c.in_ok-behind.ensures) _ _ c.in_ok-results.ensures.kept)) (Adds-none _ _ h.err h.rest)
 
+pub read_type_at-returns-in_err-begin_level-clause-read : goal.read_type_at-returns-in_err-begin_level-clause-read
+read_type_at-returns-in_err-begin_level-clause-read g t c =
+    let p = err_from_is_err_and c.from_residual.result c.from_residual.ensures.1 in
+    rw (p.1, p.2) (type_at-level-fails c.in_err-begin_level.field-0.0 c.args.levels c.args.bytes.now c.in_err-begin_level.ensures.read)
+
+pub read_type_at-returns-in_err-begin_level-clause-kept : goal.read_type_at-returns-in_err-begin_level-clause-kept
+read_type_at-returns-in_err-begin_level-clause-kept g t c = Adds-itself g.met.C.TypeStore.same_besides_itself _
+
 pub read_type_at-returns-in_err-kind-clause-read : goal.read_type_at-returns-in_err-kind-clause-read
 read_type_at-returns-in_err-kind-clause-read g t c =
-    let p = err_from_is_err_and c.from_residual.result c.from_residual.ensures.1 in
-    rw (p.1, p.2) (type_at-head-fails c.in_err-kind.field-0.0 c.args.levels c.args.bytes.now c.in_err-kind.ensures)
+    let p = err_from_is_err_and c.from_residual-in_err-kind.result c.from_residual-in_err-kind.ensures.1 in
+    rw (p.1, p.2) (type_at-head-fails c.in_err-kind.field-0.0 c.args.levels c.args.bytes.now (omega (arith, c.in_ok-begin_level.ensures.some)) c.in_err-kind.ensures)
 
 pub read_type_at-returns-in_err-kind-clause-kept : goal.read_type_at-returns-in_err-kind-clause-kept
 read_type_at-returns-in_err-kind-clause-kept g t c = Adds-itself g.met.C.TypeStore.same_besides_itself _
-
-pub read_type_at-returns-then-levels-eq0-clause-kept : goal.read_type_at-returns-then-levels-eq0-clause-kept
-read_type_at-returns-then-levels-eq0-clause-kept g t c = Adds-itself g.met.C.TypeStore.same_besides_itself _
 
 pub read_type_at-returns-in_err-handle-in-Unit-clause-kept : goal.read_type_at-returns-in_err-handle-in-Unit-clause-kept
 read_type_at-returns-in_err-handle-in-Unit-clause-kept g t c = let h = c.in_err-handle-in-Unit.ensures in Adds-none _ _ h.err h.rest
@@ -88,36 +93,36 @@ read_type_at-returns-in_err-handle-in-Unit-clause-kept g t c = let h = c.in_err-
 pub read_type_at-returns-in-Integer-clause-read : goal.read_type_at-returns-in-Integer-clause-read
 read_type_at-returns-in-Integer-clause-read g t c =
     let head : type_head c.args.bytes.now ≡ done (Integer, c.in_ok-kind.rest.now) = c.in_ok-kind.ensures ∙ ap (λ k. done (k, c.in_ok-kind.rest.now)) c.in-Integer.is in
-    let body = type_at-body c.args.levels c.args.bytes.now c.in_ok-kind.rest.now Integer (omega (arith, c.if-levels-eq0.false)) head in
+    let body = type_at-body c.args.levels c.args.bytes.now c.in_ok-kind.rest.now Integer (omega (arith, c.in_ok-begin_level.ensures.some)) head in
     Reads-made _ _ (λ y. (integer_type y.0.0 y.0.1, y.1)) (λ x y m. m) c.read_integer_handle.result (integer_at c.in_ok-kind.rest.now) _ body c.read_integer_handle.ensures.read
 
 pub read_type_at-returns-in-Integer-clause-kept : goal.read_type_at-returns-in-Integer-clause-kept
 read_type_at-returns-in-Integer-clause-kept g t c =
     let head : type_head c.args.bytes.now ≡ done (Integer, c.in_ok-kind.rest.now) = c.in_ok-kind.ensures ∙ ap (λ k. done (k, c.in_ok-kind.rest.now)) c.in-Integer.is in
-    Adds-as (in_type c.args.levels _ _ Integer (omega (arith, c.if-levels-eq0.false)) head) _ _ c.read_integer_handle.ensures.kept
+    Adds-as (in_type c.args.levels _ _ Integer (omega (arith, c.in_ok-begin_level.ensures.some)) head) _ _ c.read_integer_handle.ensures.kept
 
 pub read_type_at-returns-in-Function-clause-read : goal.read_type_at-returns-in-Function-clause-read
 read_type_at-returns-in-Function-clause-read g t c =
     let head : type_head c.args.bytes.now ≡ done (Function, c.in_ok-kind.rest.now) = c.in_ok-kind.ensures ∙ ap (λ k. done (k, c.in_ok-kind.rest.now)) c.in-Function.is in
-    let body = type_at-body c.args.levels c.args.bytes.now c.in_ok-kind.rest.now Function (omega (arith, c.if-levels-eq0.false)) head in
+    let body = type_at-body c.args.levels c.args.bytes.now c.in_ok-kind.rest.now Function (omega (arith, c.in_ok-begin_level.ensures.some)) head in
     Reads-made _ _ (λ y. (function_type y.0.0 y.0.1, y.1)) (λ x y m. m) c.read_function.result _ _ body c.read_function.ensures.read
 
 pub read_type_at-returns-in-Function-clause-kept : goal.read_type_at-returns-in-Function-clause-kept
 read_type_at-returns-in-Function-clause-kept g t c =
     let head : type_head c.args.bytes.now ≡ done (Function, c.in_ok-kind.rest.now) = c.in_ok-kind.ensures ∙ ap (λ k. done (k, c.in_ok-kind.rest.now)) c.in-Function.is in
-    Adds-as (in_type c.args.levels _ _ Function (omega (arith, c.if-levels-eq0.false)) head) _ _ c.read_function.ensures.kept
+    Adds-as (in_type c.args.levels _ _ Function (omega (arith, c.in_ok-begin_level.ensures.some)) head) _ _ c.read_function.ensures.kept
 
 pub read_type_at-returns-in_ok-handle-in-Unit-clause-read : goal.read_type_at-returns-in_ok-handle-in-Unit-clause-read
 read_type_at-returns-in_ok-handle-in-Unit-clause-read g t c =
     let head : type_head c.args.bytes.now ≡ done (Unit, c.in_ok-kind.rest.now) = c.in_ok-kind.ensures ∙ ap (λ k. done (k, c.in_ok-kind.rest.now)) c.in-Unit.is in
-    let body = type_at-body c.args.levels c.args.bytes.now c.in_ok-kind.rest.now Unit (omega (arith, c.if-levels-eq0.false)) head in
+    let body = type_at-body c.args.levels c.args.bytes.now c.in_ok-kind.rest.now Unit (omega (arith, c.in_ok-begin_level.ensures.some)) head in
     ((unit_type, c.in_ok-kind.rest.now), body, (c.in_ok-handle-in-Unit.ensures.ok.named, refl))
 
 pub read_type_at-returns-in_ok-handle-in-Unit-clause-kept : goal.read_type_at-returns-in_ok-handle-in-Unit-clause-kept
 read_type_at-returns-in_ok-handle-in-Unit-clause-kept g t c =
     let head : type_head c.args.bytes.now ≡ done (Unit, c.in_ok-kind.rest.now) = c.in_ok-kind.ensures ∙ ap (λ k. done (k, c.in_ok-kind.rest.now)) c.in-Unit.is in
     let h = c.in_ok-handle-in-Unit.ensures in
-    Adds-one _ _ _ _ unit_type (in_type c.args.levels _ _ Unit (omega (arith, c.if-levels-eq0.false)) head unit_type refl) (λ k e. e) h.ok h.rest
+    Adds-one _ _ _ _ unit_type (in_type c.args.levels _ _ Unit (omega (arith, c.in_ok-begin_level.ensures.some)) head unit_type refl) (λ k e. e) h.ok h.rest
 
 pub read_types-returns-in_err-start-clause-kept : goal.read_types-returns-in_err-start-clause-kept
 read_types-returns-in_err-start-clause-kept g t c = Adds-itself g.met.C.TypeStore.same_besides_itself _

@@ -10,7 +10,7 @@ use Rattle.plir_text.proofs.words.past_sign.Goals as goal
 nothing : (b : ℕ) (r : Result (Token × List ℕ) Fault) (e : Stop) → Fails e r → e ≢ Wanting → None ≡ behind_sign b r
 nothing b r Wanting h n = absurd (n refl)
 nothing b r Crowded h n = absurd h
-nothing b r (At f left) h n = rw h refl
+nothing b r (At f left) h n = rw (h.0) refl
 
 pub returns-in-Err : goal.returns-in-Err
 unfolding past_sign

@@ -1,5 +1,6 @@
 -- The types that are written in a text are parts of what the text stands for.
 use Rattle.std.proofs.Common.{◌≡◌, ◌⊎◌, ℕ, zero, suc, List, [], ◌∷◌, length, true, Result, Ok, inl, inr, sym, ap, subst, ◌∙◌}
+use Rattle.plir_data.specs.declared.types.Signedness.{Signedness}
 use Rattle.plir_text.specs.declared.fault.Fault.{Fault}
 use Rattle.plir_text.specs.declared.words.TypeKind.{TypeKind}
 use Rattle.plir_text.specs.declared.words.TypeKind.TheVariants.{Integer, Function, Unit}
@@ -11,12 +12,12 @@ use Rattle.plir_text.specs.Terms.{TypeTerm, integer_type, function_type, unit_ty
 use Rattle.plir_text.specs.Lists.{sign_at, past_sign, separator_at, with_first, if_more, more_at, unless_closed, items_at}
 use Rattle.plir_text.specs.TypeReading.{arrow_at, integer_at, function_at, type_head, type_body, type_at}
 use Rattle.plir_text.specs.AttrReading.{name_at, value_at, entry_at, attr_head, attr_body, attr_at}
-use Rattle.plir_text.specs.TypeGrammar.{IsText, TypeWithin}
+use Rattle.plir_text.specs.TypeGrammar.{IsText, TypeWithin, IsInteger, FunctionWithin}
 use Rattle.plir_text.specs.AttrGrammar.{AttrWithin}
-use Rattle.plir_text.specs.TypesIn.{IsBehind, IsItemAt, IsInList, IsInTypeBody, IsInType, IsInFunction, IsInEntry, IsInAttr, IsBehindId}
+use Rattle.plir_text.specs.TypesIn.{IsBehind, IsItemAt, IsInList, IsInInteger, IsInTypeBody, IsInType, IsInFunction, IsInEntry, IsInAttr, IsBehindId}
 use Rattle.plir_text.specs.Parts.{IsPartOf, IsPartOfOne, IsHeldBy, IsHeldByItem, IsHeldByEntry}
 use Rattle.plir_text.specs.StepLaws.{bind_ok, ok_is}
-use Rattle.plir_text.specs.TypesAgain.{type_within_again}
+use Rattle.plir_text.specs.TypesAgain.{integer_again, type_within_again, function_within_again}
 use Rattle.plir_text.specs.AttrsAgain.{attr_again}
 
 one_of : {A : Type 0} (r : Result A Fault) (x y : A) → r ≡ Ok x → r ≡ Ok y → x ≡ y
@@ -98,13 +99,25 @@ module _ (n : ℕ) (rec : (bytes : List ℕ) (u : TypeTerm × List ℕ) (t : Typ
       subst (λ (y : TypeTerm × List ℕ). IsPartOf t y.0) (ok_is (function_type a.0.0.0 a.0.0.1, a.0.1) u a.2) (in_signature t bytes a.0 a.1 w)
   in_body Unit t bytes u e w = subst (λ (y : TypeTerm × List ℕ). IsPartOf t y.0) (ok_is (unit_type, bytes) u e) w
 
-type_part : (n : ℕ) (bytes : List ℕ) (u : TypeTerm × List ℕ) (t : TypeTerm) → type_at n bytes ≡ Ok u → IsInType n bytes t → IsPartOf t u.0
+pub type_part : (n : ℕ) (bytes : List ℕ) (u : TypeTerm × List ℕ) (t : TypeTerm) → type_at n bytes ≡ Ok u → IsInType n bytes t → IsPartOf t u.0
 unfolding type_at IsInType
 type_part zero bytes u t e w = absurd w
 type_part (suc n) bytes u t e w =
     let a = bind_ok (type_head bytes) (λ h. type_body (type_at n) h.0 h.1) u e in
     let same = one_of (type_head bytes) a.0 w.0 a.1 w.1 in
     in_body n (type_part n) w.0.0 t w.0.1 u (subst (λ h. type_body (type_at n) h.0 h.1 ≡ Ok u) same a.2) w.2
+
+-- a type that is written in the text of an integer type without its id is that one
+pub part_of_integer : (text : List ℕ) (t : TypeTerm) (x : Signedness × ℕ) → IsText IsInteger text x
+    → IsInInteger text t → t ≡ integer_type x.0 x.1
+part_of_integer text t x s w =
+    let same = one_of (integer_at text) w.0 (x, s.are_tokens.rest) w.1 (integer_again x s.tokens text s.are_tokens.rest s.spelled s.are_tokens.begins) in
+    w.2 ∙ ap (λ (y : (Signedness × ℕ) × List ℕ). integer_type y.0.0 y.0.1) same
+
+-- one that is written in the text of a function type without its id is part of that one
+pub part_of_function : (n : ℕ) (text : List ℕ) (t : TypeTerm) (x : TypeTerms × TypeTerms)
+    → IsText (FunctionWithin (suc n)) text x → IsInFunction n text t → IsPartOf t (function_type x.0 x.1)
+part_of_function n text t x s w = in_signature n (type_part n) t text (x, s.are_tokens.rest) (function_within_again n x s.tokens text s.are_tokens.rest s.spelled s.are_tokens.begins) w
 
 -- a type that is written in the text of a type is part of it
 pub part_of_type : (n : ℕ) (text : List ℕ) (t u : TypeTerm) → IsText (TypeWithin n) text u → IsInType n text t → IsPartOf t u
@@ -154,13 +167,19 @@ module _ (n : ℕ) (rec : (bytes : List ℕ) (x : AttrTerm × List ℕ) (t : Typ
   in_attr_body kinds.OperandSegmentSizes t bytes x e w = absurd w
   in_attr_body kinds.GivenNames t bytes x e w = absurd w
 
-attr_part : (n : ℕ) (bytes : List ℕ) (x : AttrTerm × List ℕ) (t : TypeTerm) → attr_at n bytes ≡ Ok x → IsInAttr n bytes t → IsHeldBy t x.0
+pub attr_part : (n : ℕ) (bytes : List ℕ) (x : AttrTerm × List ℕ) (t : TypeTerm) → attr_at n bytes ≡ Ok x → IsInAttr n bytes t → IsHeldBy t x.0
 unfolding attr_at IsInAttr
 attr_part zero bytes x t e w = absurd w
 attr_part (suc n) bytes x t e w =
     let a = bind_ok (attr_head bytes) (λ h. attr_body n (attr_at n) h.0 h.1) x e in
     let same = one_of (attr_head bytes) a.0 w.0 a.1 w.1 in
     in_attr_body n (attr_part n) w.0.0 t w.0.1 x (subst (λ h. attr_body n (attr_at n) h.0 h.1 ≡ Ok x) same a.2) w.2
+
+-- a type that is written in entries in brackets is held by one of them
+pub entries_part : (n : ℕ) (bytes : List ℕ) (es : List (List ℕ × AttrTerm) × List ℕ) (t : TypeTerm)
+    → items_at 91 93 (entry_at (attr_at n)) bytes ≡ Ok es → IsBehindId n kinds.Dict bytes t
+    → IsHeldByEntry t (entries_of es.0)
+entries_part n bytes es t e w = one_entry t es.0 (item_among 91 93 (entry_at (attr_at n)) (λ f. IsHeldBy t f.1) w.0 (λ y f. in_entry n (attr_part n) t w.0 y f w.2) bytes es e w.1)
 
 -- a type that is written in the text of an attribute is held by it
 pub held_by_attr : (n : ℕ) (text : List ℕ) (t : TypeTerm) (x : AttrTerm) → IsText (AttrWithin n) text x → IsInAttr n text t → IsHeldBy t x
