@@ -44,34 +44,33 @@ pub trait SymbolUserSet: OpSet {
         ensures given { AreGivenOut ctx.now tables.old → AreGivenOut ctx.now tables.new };
 }
 
-/// Own kinds of operations that say which uses of symbols are right: what [`SymbolUserSet`] is for an op set of such kinds
-/// alone, [`KindSet`]. Kinds that use no symbols accept; their [`OwnKind::Err`] may be `NeverRefused`.
-pub trait SymbolUses: OwnKind {
+/// Own kinds of operations that say which uses of symbols are right, in an op set `D`: what [`SymbolUserSet`] is for the op
+/// set of such kinds alone, `KindSet<Self>`. Kinds that use no symbols accept; their `OwnKind::Err` may be `NeverRefused`.
+pub trait SymbolUses<D: OpSet>: OwnKind {
     // The uses of an operation are right.
-    ghost uses_hold: { Store Self NoMeaning NoMeaning → AnyPtr OperationKind → Type 0 };
+    ghost uses_hold: { Store D.Kind D.Attr D.Ty → AnyPtr OperationKind → Type 0 };
 
     // What may be told of uses that are not right: a location, and an error.
-    ghost use_refusal: { Store Self NoMeaning NoMeaning → AnyPtr OperationKind → AnyLocation → Self.Err → Type 0 };
+    ghost use_refusal: { Store D.Kind D.Attr D.Ty → AnyPtr OperationKind → AnyLocation → D.Err → Type 0 };
 
     /// Accepts exactly where the uses of an operation are right, where all tables of the collection agree, memory aside;
     /// they agree afterwards. Else tells what the kinds may tell of these uses. The verifier of tables asks it of symbol
     /// users alone.
     fn verify_symbol_uses(
-        ctx: &Context<KindSet<Self>>,
+        ctx: &Context<D>,
         op: Ptr<Operation>,
         tables: &mut SymbolTableCollection,
-    ) -> Result<(), VerifyErr<Self::Err>>
+    ) -> Result<(), VerifyErr<D::Err>>
         requires { IsLive ctx.now (AnyNode.Operation op) }
-        ensures ok { AllAgree Self.is_symbol Self.is_symbol_table ctx.now tables.old
-            → OnOk result (uses_hold ctx.now op) }
-        ensures refused { AllAgree Self.is_symbol Self.is_symbol_table ctx.now tables.old
+        ensures ok { AllAgree D.is_symbol D.is_symbol_table ctx.now tables.old → OnOk result (uses_hold ctx.now op) }
+        ensures refused { AllAgree D.is_symbol D.is_symbol_table ctx.now tables.old
             → IfErr result (IsUseRefused (uses_hold ctx.now op) (use_refusal ctx.now op)) }
-        ensures agree { AllAgree Self.is_symbol Self.is_symbol_table ctx.now tables.old
-            → AllAgree Self.is_symbol Self.is_symbol_table ctx.now tables.new }
+        ensures agree { AllAgree D.is_symbol D.is_symbol_table ctx.now tables.old
+            → AllAgree D.is_symbol D.is_symbol_table ctx.now tables.new }
         ensures given { AreGivenOut ctx.now tables.old → AreGivenOut ctx.now tables.new };
 }
 
-impl SymbolUses for NoMeaning {
+impl SymbolUses<BuiltinSet> for NoMeaning {
     ghost use Rattle.std.specs.Prelude.{⊤};
 
     ghost uses_hold = { λ _ _. ⊤ };
@@ -88,7 +87,7 @@ impl SymbolUses for NoMeaning {
     }
 }
 
-impl<K: SymbolUses> SymbolUserSet for KindSet<K> {
+impl<K: OwnKind + SymbolUses<KindSet<K>>> SymbolUserSet for KindSet<K> {
     ghost uses_hold = { K.uses_hold };
 
     ghost use_refusal = { K.use_refusal };
@@ -99,7 +98,7 @@ impl<K: SymbolUses> SymbolUserSet for KindSet<K> {
         op: Ptr<Operation>,
         tables: &mut SymbolTableCollection,
     ) -> Result<(), VerifyErr<K::Err>> {
-        K::verify_symbol_uses(ctx, op, tables)
+        <K as SymbolUses<KindSet<K>>>::verify_symbol_uses(ctx, op, tables)
     }
 }
 

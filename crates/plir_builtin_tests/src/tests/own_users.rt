@@ -46,7 +46,7 @@ impl OwnKind for CallKind {
     }
 }
 
-impl SymbolUses for CallKind {
+impl SymbolUses<KindSet<CallKind>> for CallKind {
     ghost use Rattle.std.specs.Prelude.{◌≡◌, Some, false};
     ghost use Rattle.plir_core.specs.Store.{location_of};
     ghost use Rattle.plir_builtin_tests.specs.Links.{IsLinked};
