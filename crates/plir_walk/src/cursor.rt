@@ -3,9 +3,10 @@
 
 ghost use Rattle.std.specs.Prelude.{◌≡◌, true};
 ghost use Rattle.plir_walk.specs.Config.{order_of};
-ghost use Rattle.plir_walk.specs.Step.{due_at, first_of, next_of, step_of};
+ghost use Rattle.plir_walk.specs.Step.{due_at, first_of, goes_on, next_of, step_of};
 
 use crate::config::{Direction, Order, WalkConfig};
+use crate::interruptible::WalkContinue;
 use crate::links::NodeLinks;
 use plir_core::IRNode;
 
@@ -20,8 +21,18 @@ pub fn is_due(config: &WalkConfig, node: IRNode, entering: bool) -> bool
     }
 }
 
+/// Whether what is below a node comes next after a call there with this answer, or after none.
+pub fn goes_on(entering: bool, answer: WalkContinue) -> bool
+    ensures { result ≡ goes_on entering answer }
+{
+    match answer {
+        WalkContinue::Advance => entering,
+        WalkContinue::Skip => false,
+    }
+}
+
 /// The child that a walk enters first.
-fn first<C: NodeLinks>(ctx: &C, config: &WalkConfig, node: IRNode) -> Option<IRNode>
+pub fn first<C: NodeLinks>(ctx: &C, config: &WalkConfig, node: IRNode) -> Option<IRNode>
     requires { (C.look ctx.now).live node ≡ true }
     ensures { result ≡ first_of config.now (C.look ctx.now) node }
 {

@@ -5,11 +5,12 @@ ghost use Rattle.std.specs.Prelude.{◌≡◌, true};
 ghost use Rattle.plir_core.specs.declared.ptr.IRNode.{IRNode as AnyNode};
 ghost use Rattle.plir_walk.specs.Lawful.{StandsUnder};
 ghost use Rattle.plir_walk.specs.Calls.{ReadsBack};
+ghost use Rattle.plir_walk.specs.Step.{IsVisited};
 ghost use Rattle.plir_walk.specs.Walked.{WalkedOver};
 
 use crate::config::WalkConfig;
-use crate::cursor::{is_due, step};
-use crate::interruptible::{WalkContinue, WalkResult};
+use crate::cursor::{goes_on, is_due, step};
+use crate::interruptible::{WalkContinue, WalkResult, walk_advance};
 use crate::links::NodeLinks;
 use plir_core::{BasicBlock, Context, IRNode, Operation, Ptr, Region};
 use std::ops::ControlFlow;
@@ -65,6 +66,26 @@ pub fn walk_block<C: NodeLinks, S, B: Drop, F: Fn(&C, &mut S, IRNode) -> WalkRes
     walk(ctx, state, config, IRNode::BasicBlock(root), callback)
 }
 
+/// Calls the callback at a node where it is due; else the walk goes on.
+fn visit<C: NodeLinks, S, B: Drop, F: Fn(&C, &mut S, IRNode) -> WalkResult<B>>(
+    ctx: &C,
+    state: &mut S,
+    root: IRNode,
+    node: IRNode,
+    due: bool,
+    callback: &F,
+) -> WalkResult<B>
+    requires stands { StandsUnder (C.look ctx.now) root node }
+    requires callable { (c : _) (s : _) (n : AnyNode) → c.now ≡ ctx.now → StandsUnder (C.look ctx.now) root n → F.pre callback.now c s n }
+    ensures { IsVisited C.look (ReadsBack F.Fn callback.now) ctx.now state.old node due result ctx.now state.new }
+{
+    if !due {
+        return walk_advance();
+    }
+    ctx.forest();
+    callback(ctx, state, node)
+}
+
 /// The walk from a node of any kind, by one loop over the links: it stops as the root is left.
 pub(crate) fn walk<C: NodeLinks, S, B: Drop, F: Fn(&C, &mut S, IRNode) -> WalkResult<B>>(
     ctx: &C,
@@ -81,14 +102,12 @@ pub(crate) fn walk<C: NodeLinks, S, B: Drop, F: Fn(&C, &mut S, IRNode) -> WalkRe
     let mut node = root;
     let mut entering = true;
     'nodes: loop {
-        let mut below = entering;
-        if is_due(config, node, entering) {
-            match callback(ctx, state, node) {
-                ControlFlow::Break(b) => return ControlFlow::Break(b),
-                ControlFlow::Continue(WalkContinue::Skip) => below = false,
-                ControlFlow::Continue(WalkContinue::Advance) => {}
-            }
-        }
+        let due = is_due(config, node, entering);
+        let answer = match visit(ctx, state, root, node, due, &callback) {
+            ControlFlow::Break(b) => return ControlFlow::Break(b),
+            ControlFlow::Continue(answer) => answer,
+        };
+        let below = goes_on(entering, answer);
         match step(ctx, config, root, node, below) {
             Some((next, enter)) => {
                 node = next;

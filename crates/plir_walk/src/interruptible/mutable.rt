@@ -5,11 +5,12 @@ ghost use Rattle.std.specs.Prelude.{◌≡◌, true};
 ghost use Rattle.plir_core.specs.declared.ptr.IRNode.{IRNode as AnyNode};
 ghost use Rattle.plir_walk.specs.Lawful.{StandsUnder};
 ghost use Rattle.plir_walk.specs.Calls.{CallsBack};
+ghost use Rattle.plir_walk.specs.Step.{IsVisited};
 ghost use Rattle.plir_walk.specs.Walked.{IsLawful, Walked};
 
 use crate::config::WalkConfig;
-use crate::cursor::{is_due, step};
-use crate::interruptible::{WalkContinue, WalkResult};
+use crate::cursor::{goes_on, is_due, step};
+use crate::interruptible::{WalkContinue, WalkResult, walk_advance};
 use crate::limit::CallLimit;
 use crate::links::NodeLinks;
 use plir_core::{BasicBlock, Context, IRNode, Operation, Ptr, Region};
@@ -88,6 +89,29 @@ pub fn walk_block<C: NodeLinks, S, B: Drop, F: Fn(&mut C, &mut S, IRNode) -> Wal
     walk(ctx, state, config, block, limit, callback)
 }
 
+/// Calls the callback at a node where it is due; else the walk goes on. The node stays live.
+fn visit<C: NodeLinks, S, B: Drop, F: Fn(&mut C, &mut S, IRNode) -> WalkResult<B>>(
+    ctx: &mut C,
+    state: &mut S,
+    root: IRNode,
+    node: IRNode,
+    due: bool,
+    callback: &F,
+) -> WalkResult<B>
+    requires stands { StandsUnder (C.look ctx.old) root node }
+    requires callable { (c : _) (s : _) (n : AnyNode) → StandsUnder (C.look c.now) root n → F.pre callback.now c s n }
+    requires lawful { IsLawful C.look root (CallsBack F.Fn callback.now) }
+    ensures visited { IsVisited C.look (CallsBack F.Fn callback.now) ctx.old state.old node due result ctx.new state.new }
+    ensures live { (C.look ctx.new).live node ≡ true }
+{
+    if !due {
+        return walk_advance();
+    }
+    let answer = callback(ctx, state, node);
+    ctx.forest();
+    answer
+}
+
 /// The walk from a node of any kind, by one loop over the links: it stops as the root is left.
 pub(crate) fn walk<C: NodeLinks, S, B: Drop, F: Fn(&mut C, &mut S, IRNode) -> WalkResult<B>>(
     ctx: &mut C,
@@ -107,24 +131,18 @@ pub(crate) fn walk<C: NodeLinks, S, B: Drop, F: Fn(&mut C, &mut S, IRNode) -> Wa
     let mut node = root;
     let mut entering = true;
     'nodes: loop {
-        let mut below = entering;
-        if is_due(config, node, entering) {
+        let due = is_due(config, node, entering);
+        if due {
             if left == 0 {
                 return Err(CallLimit);
             }
             left -= 1;
-            match callback(ctx, state, node) {
-                ControlFlow::Break(b) => {
-                    ctx.forest();
-                    return Ok(ControlFlow::Break(b));
-                }
-                ControlFlow::Continue(WalkContinue::Skip) => {
-                    ctx.forest();
-                    below = false;
-                }
-                ControlFlow::Continue(WalkContinue::Advance) => ctx.forest(),
-            }
         }
+        let answer = match visit(ctx, state, root, node, due, &callback) {
+            ControlFlow::Break(b) => return Ok(ControlFlow::Break(b)),
+            ControlFlow::Continue(answer) => answer,
+        };
+        let below = goes_on(entering, answer);
         match step(ctx, config, root, node, below) {
             Some((next, enter)) => {
                 node = next;

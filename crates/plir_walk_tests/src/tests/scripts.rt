@@ -104,6 +104,37 @@ fn a_break_ends_the_walk(rt: HostRuntime) -> Result<(), Mismatch> {
     play_in(rt.alloc(), script)
 }
 
+// A module that stands in another, behind a function: what a break there leaves out.
+#[test]
+fn a_break_at_a_nested_module_leaves_out_the_rest(rt: HostRuntime) -> Result<(), Mismatch> {
+    let script = "
+        op module 1 => o0
+        block => b0
+        back b0 r0
+        op func 1 => o1
+        block => b1
+        back b1 r1
+        back o1 b0
+        op module 1 => o2
+        block => b2
+        back b2 r2
+        back o2 b0
+        op func 1 => o3
+        block => b3
+        back b3 r3
+        back o3 b2
+        op func 1 => o4
+        block => b4
+        back b4 r4
+        back o4 b0
+        look pre-fwd o0 break o2 => o0 r0 b0 o1 r1 b1 o2 break 7
+        look pre-fwd o0 skip o1, break o2 => o0 r0 b0 o1 o2 break 7
+        look post-fwd o0 break o2 => b1 r1 o1 b3 r3 o3 b2 r2 o2 break 7
+        change pre-fwd o0 skip o1, break o2 => o0 r0 b0 o1 o2 break 7
+        change pre-rev o0 skip o4, break o2 => o0 r0 b0 o4 o2 break 7";
+    play_in(rt.alloc(), script)
+}
+
 #[test]
 fn a_walk_stays_under_its_root(rt: HostRuntime) -> Result<(), Mismatch> {
     let script = "
