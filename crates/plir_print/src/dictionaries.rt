@@ -43,9 +43,8 @@ fn is_told<K: Copy>(kind: OpKind<K>, key: &str) -> bool
     }
 }
 
-/// Whether the text of an operation of a kind shows an attribute under a key in its dictionary: it does unless the header
-/// tells it, or the attribute says that it is left out.
-pub fn is_shown<D: OpSet>(kind: OpKind<D::Kind>, key: &str, value: &AttrObj<D>) -> bool
+// Whether an entry is shown.
+fn is_shown<D: OpSet>(kind: OpKind<D::Kind>, key: &str, value: &AttrObj<D>) -> bool
     ensures { result ≡ is_shown D.OpSet (Some kind) (key.now, attr_view value.now) }
 {
     !(is_told(kind, key) || value.outline())

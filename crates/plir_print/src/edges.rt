@@ -9,7 +9,7 @@ ghost use Rattle.plir_print.specs.EdgeText.{HasPointHeader, edge_text, flow_text
 ghost use Rattle.plir_print.specs.EdgeText.{reads_text, region_place, successor_text, use_text};
 
 use crate::headers::put_header;
-use crate::laws::stands;
+use crate::kids::stands;
 use crate::layout::put_between;
 use crate::names::put_value;
 use plir_core::{Context, Ptr, Region, Use, Value};

@@ -1,13 +1,21 @@
 //! What is known of the kid of a node at a place, as the printer comes to it.
 ghost use Rattle.std.specs.Prelude.{◌≡◌, ◌+◌, ◌<◌, ◌≤◌, ◌^◌, ◌∷◌, Some, drop, length, slice_get};
+ghost use Rattle.plir_core.specs.Standing.{IsStanding};
 ghost use Rattle.plir_core.specs.Store.{IsLive, kids, limit, next_sibling};
 ghost use Rattle.plir_core.specs.Measures.{depth};
 ghost use Rattle.plir_print.specs.HeaderAttrs.{IsPrintable};
 
-use crate::laws::{kid_in_turn, stands};
-use plir_core::laws::kid_at;
+use plir_core::laws::{contexts_stand, kid_at};
 use plir_core::{Context, IRNode};
 use plir_data::OpSet;
+
+/// Nothing is done: this tells a proof what the context keeps of its nodes.
+pub(crate) fn stands<D: OpSet>(ctx: &Context<D>)
+    ensures { IsStanding ctx.now }
+{
+    contexts_stand::<D>();
+    let _live = ctx.num_live();
+}
 
 /// Nothing is done: this tells a proof that a kid is live and printable, one level deeper and not too deep, and what
 /// stands behind it.
@@ -26,5 +34,4 @@ pub(crate) fn kid_stands<D: OpSet>(ctx: &Context<D>, over: IRNode, kid: IRNode, 
 {
     stands(ctx);
     kid_at(ctx, over, kid, place);
-    kid_in_turn(ctx, over, kid, place);
 }

@@ -13,7 +13,6 @@ mod ops;
 mod printable;
 mod values;
 
-pub use dictionaries::is_shown;
 pub use edges::print_edge;
 pub use header_attrs::has_header;
 pub use ops::print_op;

@@ -12,8 +12,7 @@ ghost use Rattle.plir_print.specs.OpText.{dictionary_apart, dictionary_line, ops
 
 use crate::dictionaries::{put_dictionary, shows_some};
 use crate::headers::{put_header, put_names, put_value_type};
-use crate::kids::kid_stands;
-use crate::laws::stands;
+use crate::kids::{kid_stands, stands};
 use crate::layout::{put_between, put_line};
 use crate::names::{put_block_name, put_value};
 use crate::values::{ValueList, num_values, value_at};

@@ -1,5 +1,23 @@
+use Rattle.std.proofs.Common.{arith}
+use Rattle.std.proofs.lemmas.Option.{slice_get_within}
+use Rattle.plir_core.specs.Store.{kids}
 use Rattle.plir_print.proofs.HeadersUnder.{kid-printable}
+use Rattle.plir_print.proofs.Pieces.{drop_at}
 use Rattle.plir_print.proofs.kids.kid_stands.Goals as goal
 
 pub returns-clause-printable : goal.returns-clause-printable
 returns-clause-printable g c = kid-printable c.args.ctx.now c.args.over c.args.kid c.args.place c.requires.there c.requires.printable
+
+pub returns-clause-within : goal.returns-clause-within
+returns-clause-within g c = slice_get_within (kids c.args.ctx.now c.args.over) c.args.place c.args.kid c.requires.there
+
+pub returns-clause-few : goal.returns-clause-few
+returns-clause-few g c =
+    let st = c.stands.ensures in
+    let n = st.measured.counted (kids c.args.ctx.now c.args.over) (st.forest.once c.args.over) (λ x h. st.forest.kid_live c.args.over x h) in
+    let w = st.within in
+    let f = st.limit_fits in
+    omega arith
+
+pub returns-clause-left : goal.returns-clause-left
+returns-clause-left g c = drop_at (kids c.args.ctx.now c.args.over) c.args.place c.args.kid c.requires.there
