@@ -29,7 +29,8 @@ impl Op<SampleSet> for Switch {
 impl IsTerminatorInterface<SampleSet> for Switch {}
 
 impl OperandSegmentInterface<SampleSet> for Switch {
-    ghost use Rattle.std.specs.Prelude.{Some, ◌+◌, ◌-◌, ◌^◌, min, length, ap};
+    ghost use Rattle.std.specs.Prelude.{Some, ◌+◌, ◌-◌, ◌^◌, min, length};
+    ghost use Rattle.std.proofs.Common.{ap};
     ghost use Rattle.plir_flow.specs.Branches.{num_successors};
 
     ghost expected = { λ o s. Some (min (num_successors s o.op + 1) (2 ^ 64 - 1)) };
@@ -83,7 +84,8 @@ impl BranchOpInterface<SampleSet> for Switch {
         laws::segments_stand_in_a_row(ctx, self.op);
         laws::edits_of_one_segment();
         let _count = self.op.get_num_successors(ctx);
-        self.push_to_segment(ctx, succ + 1, operand)
+        let place = self.push_to_segment(ctx, succ + 1, operand)?;
+        Ok(place)
     }
 
     fn remove_successor_operand(
