@@ -6,6 +6,7 @@
 --   Dictionaries dictionary: the attributes of an operation that its text shows
 --   Headers      header: what stands before the attributes and regions of an operation
 --   OpText       op_text: the text of an operation with all below it
+--   WholeText    TextsAreWhole: the text of a node has the texts of all that stands in it
 --   EdgeText     edge_text: the text of an edge
 --
 -- What private functions share.
@@ -18,6 +19,7 @@ pub mod HeaderAttrs
 pub mod Dictionaries
 pub mod Headers
 pub mod OpText
+pub mod WholeText
 pub mod EdgeText
 pub mod ValueLists
 pub mod HeaderWalk

@@ -6,6 +6,7 @@ mod edges;
 mod header_attrs;
 mod headers;
 mod kids;
+pub mod laws;
 mod layout;
 mod names;
 mod ops;
