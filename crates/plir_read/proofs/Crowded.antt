@@ -2,6 +2,7 @@
 use Rattle.std.proofs.Common.{◌≡◌, ℕ, zero, suc, ◌+◌, ◌-◌, ◌<◌, ◌≤◌, ◌^◌, ◌==◌, ◌&&◌, Bool, true, false, true≢false, List, [], ◌∷◌, length, Some, None, is_some, get_or, ◌⊎◌, inl, inr, refl, sym, ap, subst, ◌∙◌, arith, cond, length-set, eq-eqb}
 use Rattle.std.proofs.lemmas.Bool.{and_parts}
 use Rattle.std.proofs.lemmas.List.{length-append}
+use Rattle.std.proofs.lemmas.List.Sums.{sum_by-cons}
 use Rattle.std.specs.List.{count_by}
 use Rattle.plir_store.specs.Members.{Has}
 use Rattle.plir_store.specs.Table.{Cell, Table, IsTable, IsFreeSlot, no_cell, cell_at, content_at, version_at, is_live_at, num_full, slot_after, next_slot, with_new, with_new_in}
@@ -23,15 +24,34 @@ same_bools false true f g = g refl
 same_bools false false f g = refl
 
 module _ {C : Type 0} where
-  is_full : Cell C → Bool
+  abbrev is_full : Cell C → Bool
   is_full c = is_some c.content
+
+  abbrev weight : Cell C → ℕ
+  weight c = cond (is_full c) 1 0
+
+  count_cons : (x : Cell C) (xs : List (Cell C)) → count_by is_full (x ∷ xs) ≡ weight x + count_by is_full xs
+  count_cons x xs = sum_by-cons weight x xs
 
   -- lists of slots in which the same ones hold a value hold as many
   count_same : (xs ys : List (Cell C)) → ((i : ℕ) → is_full (get_or xs i no_cell) ≡ is_full (get_or ys i no_cell)) → count_by is_full xs ≡ count_by is_full ys
   count_same [] [] h = refl
-  count_same [] (y ∷ ys) h = rw (sym (h 0)) (count_same [] ys (λ i. h (suc i)))
-  count_same (x ∷ xs) [] h = rw (h 0) (count_same xs [] (λ i. h (suc i)))
-  count_same (x ∷ xs) (y ∷ ys) h = rw (h 0) (ap (λ n. cond (is_full y) 1 0 + n) (count_same xs ys (λ i. h (suc i))))
+  count_same [] (y ∷ ys) h =
+      let c = count_cons y ys in
+      let w : weight y ≡ 0 = ap (λ (b : Bool). cond b 1 0) (sym (h 0)) in
+      let i = count_same [] ys (λ i. h (suc i)) in
+      omega (arith, c, w, i)
+  count_same (x ∷ xs) [] h =
+      let c = count_cons x xs in
+      let w : weight x ≡ 0 = ap (λ (b : Bool). cond b 1 0) (h 0) in
+      let i = count_same xs [] (λ i. h (suc i)) in
+      omega (arith, c, w, i)
+  count_same (x ∷ xs) (y ∷ ys) h =
+      let c = count_cons x xs in
+      let d = count_cons y ys in
+      let w : weight x ≡ weight y = ap (λ (b : Bool). cond b 1 0) (h 0) in
+      let i = count_same xs ys (λ i. h (suc i)) in
+      omega (arith, c, d, w, i)
 
   -- what is full in one is full in the other
   full_in : (a b : Table C) → ((i v : ℕ) → is_live_at b i v ≡ is_live_at a i v) → (i : ℕ) → is_some (content_at b i) ≡ true → is_some (content_at a i) ≡ true

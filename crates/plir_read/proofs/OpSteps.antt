@@ -132,11 +132,22 @@ no_start P zero e bytes lt h = absurd (omega (arith, lt))
 no_start P (suc n) e bytes lt h = Ends-bind P e (start_at bytes) (λ s. behind_id (op_at n) n s.0.0 s.0.1 s.1) (Ends-of P e (start_at bytes) h)
 
 -- an operation begins with a word: a name, or its id
+no_names : (d : Fault) (bytes : List ℕ) → word_at bytes ≡ Err d → names_before bytes ≡ Ok ([], bytes)
+unfolding names_before name_at
+no_names d bytes h = rw h refl
+
+no_id : (d : Fault) (bytes : List ℕ) → word_at bytes ≡ Err d → op_id bytes ≡ Err d
+unfolding op_id
+no_id d bytes h = rw h refl
+
+start_is_word : (d : Fault) (bytes : List ℕ) → word_at bytes ≡ Err d → start_at bytes ≡ Err d
+unfolding start_at
+start_is_word d bytes h = rw (no_names d bytes h) (rw (no_id d bytes h) refl)
+
 start_word : (e : Stop) (bytes : List ℕ) → Fails e (word_at bytes) → Fails e (start_at bytes)
-unfolding start_at names_before name_at op_id
 start_word Wanting bytes h = tt
 start_word Crowded bytes h = h
-start_word (At d left) bytes h = (rw (h.0) refl, h.1)
+start_word (At d left) bytes h = (start_is_word d bytes h.0, h.1)
 
 -- where no level begins, the fault of that is one of the operation
 pub no_level : (P : Type 0) (n : ℕ) (e : Stop) (bytes : List ℕ) → Fails e (level_at n bytes) → Ends P e (op_at n bytes)

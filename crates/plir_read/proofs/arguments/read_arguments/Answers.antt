@@ -1,4 +1,4 @@
-use Rattle.std.proofs.Common.{◌∙◌, length, [], ◌∷◌, ◌++◌, refl, sym, ap, subst, arith, ◌≡◌}
+use Rattle.std.proofs.Common.{◌∙◌, length, [], ◌∷◌, ◌++◌, refl, sym, ap, subst, arith, ◌≡◌, ℕ, List}
 use Rattle.std.proofs.lemmas.Result.{err_from_is_err_and}
 use Rattle.plir_text.specs.Begun.{separator_at-shorter}
 use Rattle.plir_text.specs.Fronts.{no_open, nothing_inside, starts, ends_at_item, ends_behind, closes, goes_on}
@@ -9,6 +9,7 @@ use Rattle.plir_text.specs.TypeSteps.{behind_is}
 use Rattle.plir_text.specs.Names.{NamesAll}
 use Rattle.plir_read.specs.Heads.{argument_types, argument_names}
 use Rattle.plir_read.specs.OpReading.{argument_at}
+use Rattle.plir_read.specs.OpTerms.{Argument}
 use Rattle.plir_read.proofs.NamesGiven.{typed_push, named_push}
 use Rattle.plir_read.proofs.OpFound.{argument_at-shorter}
 use Rattle.plir_read.proofs.Ends.{end_on, sign_end}
@@ -133,7 +134,7 @@ pub returns-else-goes_on-clause-held : goal.returns-else-goes_on-clause-held
 returns-else-goes_on-clause-held g c =
     let y = c.in-Ok.ensures.read in
     let i = c.arguments.invariant in
-    let z = (i.front ++ y.0.0 ∷ [], c.in_ok-goes_on.behind.now) in
+    let z : List Argument × List ℕ = (i.front ++ y.0.0 ∷ [], c.in_ok-goes_on.behind.now) in
     let whole : items_at 40 41 (argument_at c.args.levels) c.args.bytes.now ≡ done z =
     closes (separator_at 41) (argument_at c.args.levels) i.front _ _ y.0.0 c.in-Ok.read.1.now c.in_ok-goes_on.behind.now i.going (behind_is _ y.0 c.in-Ok.read.1.now y.1 y.2.1) (c.in_ok-goes_on.ensures ∙ ap (λ b. done (b, c.in_ok-goes_on.behind.now)) c.if-goes_on.false) in
     λ x e. held_is IsHeldByArgument _ z x _ _ whole e (both_come (λ t. IsHeldByArgument t i.front) (λ t. IsPartOf t y.0.0.1) (λ t. IsHeldByArgument t (i.front ++ y.0.0 ∷ [])) (λ t p. arguments_front t i.front y.0.0 p) (λ t p. arguments_last t i.front y.0.0 p) _ _ _ c.in-Ok.ensures.grown i.held (c.in-Ok.ensures.held y.0 y.1))

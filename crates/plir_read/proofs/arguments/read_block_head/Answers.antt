@@ -1,5 +1,6 @@
-use Rattle.std.proofs.Common.{refl, ◌≡◌}
+use Rattle.std.proofs.Common.{refl, ◌≡◌, ℕ, List}
 use Rattle.plir_text.specs.TypeSteps.{behind_is}
+use Rattle.plir_read.specs.OpTerms.{BlockHead}
 use Rattle.plir_read.proofs.OpSteps.{block_head_is}
 use Rattle.plir_read.proofs.OpEnds.{arguments_start}
 use Rattle.plir_read.proofs.TypesNamed.{behind_named}
@@ -32,7 +33,7 @@ returns-in-Err-clause-named g c = behind_named _ _ _ _ (arguments_start _ _ _ _ 
 pub returns-in_ok-label-in-Ok-clause-held : goal.returns-in_ok-label-in-Ok-clause-held
 returns-in_ok-label-in-Ok-clause-held g c =
     let y = c.in-Ok.ensures.read in
-    let z = ((c.in_ok-name.name, y.0.0), c.in_ok-end-in-Ok.end.now) in
+    let z : BlockHead × List ℕ = ((c.in_ok-name.name, y.0.0), c.in_ok-end-in-Ok.end.now) in
     let whole : block_head_at c.args.levels c.args.bytes.now ≡ done z =
     block_head_is c.args.levels _ _ _ _ _ _ y.0.0 c.in_ok-start.ensures c.in_ok-name.ensures (behind_is _ y.0 c.in-Ok.read.1.now y.1 y.2.1) c.in_ok-end-in-Ok.ensures in
     λ x e. held_is IsHeldByBlockHead _ z x _ _ whole e (c.in-Ok.ensures.held y.0 y.1)

@@ -1,6 +1,7 @@
-use Rattle.std.proofs.Common.{refl, ◌≡◌, inl, inr}
+use Rattle.std.proofs.Common.{refl, ◌≡◌, inl, inr, ℕ, List}
 use Rattle.plir_text.specs.Meanings.{IsMeant-grown}
 use Rattle.plir_text.specs.TypeSteps.{behind_is}
+use Rattle.plir_text.specs.Terms.{AttrTerm, TypeTerm}
 use Rattle.plir_read.proofs.OpSteps.{constant_is}
 use Rattle.plir_read.proofs.OpEnds.{constant_type_start}
 use Rattle.plir_read.proofs.TypesNamed.{type_named, named_on}
@@ -39,7 +40,7 @@ returns-in-Ok-read_type_at-clause-held g c =
     let v = c.in-Ok.ensures.read in
     let r = c.in-Ok-read_type_at.ensures.read in
     let k = c.in-Ok-read_type_at.ensures.kept in
-    let z = ((v.0.0, r.0.0), c.in-Ok-read_type_at.read.1.now) in
+    let z : (AttrTerm × TypeTerm) × List ℕ = ((v.0.0, r.0.0), c.in-Ok-read_type_at.read.1.now) in
     let whole : constant_at c.args.levels c.args.bytes.now ≡ done z =
     constant_is c.args.levels _ _ _ _ v.0.0 r.0.0 (behind_is _ v.0 c.in-Ok.read.1.now v.1 v.2.1) c.in_ok-colon.ensures (behind_is _ r.0 c.in-Ok-read_type_at.read.1.now r.1 r.2.1) in
     let type = named_by _ (λ u. IsPartOf u r.0.0) (λ u w. type_part c.args.levels _ r.0 u r.1 w) _ _ k.named in

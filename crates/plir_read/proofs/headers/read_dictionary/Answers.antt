@@ -1,5 +1,5 @@
-use Rattle.std.proofs.Common.{[], refl, sym, ◌≡◌}
-use Rattle.plir_text.specs.Terms.{no_entries, entries_of}
+use Rattle.std.proofs.Common.{[], refl, sym, ◌≡◌, ℕ, List}
+use Rattle.plir_text.specs.Terms.{no_entries, entries_of, EntryTerms}
 use Rattle.plir_text.specs.TypeSteps.{behind_is}
 use Rattle.plir_read.proofs.OpSteps.{no_dictionary, dictionary_is}
 use Rattle.plir_read.proofs.TypesNamed.{entries_named}
@@ -31,6 +31,6 @@ returns-in-None-clause-held g c = λ y e. none_come (λ t. IsHeldByEntry t y.0) 
 pub returns-in-Ok-clause-held : goal.returns-in-Ok-clause-held
 returns-in-Ok-clause-held g c =
     let r = c.in-Ok.ensures.read in
-    let z = (entries_of r.0.0, c.in-Ok.read.1.now) in
+    let z : EntryTerms × List ℕ = (entries_of r.0.0, c.in-Ok.read.1.now) in
     let whole : dictionary_at c.args.levels c.args.bytes.now ≡ done z = dictionary_is c.args.levels _ _ _ r.0.0 (sym c.in-Some.ensures) (behind_is _ r.0 c.in-Ok.read.1.now r.1 r.2.1) in
     λ y e. held_is IsHeldByEntry _ z y _ _ whole e (named_by _ (λ t. IsHeldByEntry t (entries_of r.0.0)) (λ t w. entries_part c.args.levels _ r.0 t r.1 w) _ _ c.in-Ok.ensures.kept.named)

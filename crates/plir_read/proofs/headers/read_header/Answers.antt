@@ -1,5 +1,6 @@
-use Rattle.std.proofs.Common.{refl, ◌≡◌, inl, inr}
+use Rattle.std.proofs.Common.{refl, ◌≡◌, inl, inr, ℕ, List}
 use Rattle.plir_text.specs.TypeSteps.{behind_is}
+use Rattle.plir_read.specs.OpTerms.{Header}
 use Rattle.plir_read.proofs.HeadsGrown.{IsHead-grown}
 use Rattle.plir_read.proofs.OpSteps.{header_is}
 use Rattle.plir_read.proofs.OpEnds.{head_end}
@@ -34,7 +35,7 @@ pub returns-in-Ok-read_dictionary-clause-held : goal.returns-in-Ok-read_dictiona
 returns-in-Ok-read_dictionary-clause-held g c =
     let h = c.in-Ok.ensures.read in
     let d = c.in-Ok-read_dictionary.ensures.read in
-    let z = ((h.0.0, d.0.0), c.in-Ok-read_dictionary.read.1.now) in
+    let z : Header × List ℕ = ((h.0.0, d.0.0), c.in-Ok-read_dictionary.read.1.now) in
     let whole : header_at c.args.levels c.args.kind c.args.bytes.now ≡ done z =
     header_is c.args.levels c.args.kind _ _ _ h.0.0 d.0.0 (behind_is _ h.0 c.in-Ok.read.1.now h.1 h.2.1) (behind_is _ d.0 c.in-Ok-read_dictionary.read.1.now d.1 d.2.1) in
     λ y e. held_is IsHeldByHeader _ z y _ _ whole e

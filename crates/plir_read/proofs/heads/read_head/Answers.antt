@@ -1,6 +1,6 @@
-use Rattle.std.proofs.Common.{refl, ap, ◌∙◌, ◌≡◌}
+use Rattle.std.proofs.Common.{refl, ap, ◌∙◌, ◌≡◌, ℕ, List}
 use Rattle.plir_text.specs.TypeSteps.{behind_is}
-use Rattle.plir_read.specs.OpTerms.{module_head, func_head}
+use Rattle.plir_read.specs.OpTerms.{module_head, func_head, Head}
 use Rattle.plir_read.specs.OpReading.{head_at}
 use Rattle.plir_read.proofs.OpEnds.{func_start}
 use Rattle.plir_read.proofs.TypesNamed.{type_named}
@@ -34,7 +34,7 @@ returns-in_ok-name-in-Module-clause-held g c = λ y e. none_come (λ t. IsHeldBy
 pub returns-in-Ok-clause-held : goal.returns-in-Ok-clause-held
 returns-in-Ok-clause-held g c =
     let r = c.in-Ok.ensures.read in
-    let z = (func_head c.in_ok-name-in-Func.name r.0.0, c.in-Ok.read.1.now) in
+    let z : Head × List ℕ = (func_head c.in_ok-name-in-Func.name r.0.0, c.in-Ok.read.1.now) in
     let whole : head_at c.args.levels c.args.kind c.args.bytes.now ≡ done z =
     ap (λ k. head_at c.args.levels k c.args.bytes.now) c.in-Func.is ∙ func_read c.args.levels _ _ _ _ _ r.0.0 c.in_ok-name-in-Func.ensures c.in_ok-colon-in-Func.ensures (behind_is _ r.0 c.in-Ok.read.1.now r.1 r.2.1) in
     λ y e. held_is IsHeldByHead _ z y _ _ whole e (named_by _ (λ u. IsPartOf u r.0.0) (λ u w. type_part c.args.levels _ r.0 u r.1 w) _ _ c.in-Ok.ensures.kept.named)

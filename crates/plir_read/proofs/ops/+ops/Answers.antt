@@ -1,10 +1,10 @@
-use Rattle.std.proofs.Common.{◌≡◌, ◌-◌, ◌∙◌, length, [], None, Ok, refl, sym, ap, subst, arith, inl, inr}
+use Rattle.std.proofs.Common.{◌≡◌, ◌-◌, ◌∙◌, length, [], None, Ok, refl, sym, ap, subst, arith, inl, inr, ℕ, List}
 use Rattle.std.proofs.lemmas.Result.{err_from_is_err_and}
 use Rattle.plir_core.specs.declared.ptr.IRNode.TheVariants.{Operation, Region, BasicBlock}
 use Rattle.plir_text.specs.Growth.{Grows-itself}
 use Rattle.plir_text.specs.TypeSteps.{behind_is}
 use Rattle.plir_read.specs.HeldTypes.{IsHeldByHeader, IsHeldByBlockHead, IsHeldByBlock, IsHeldByBlocks, IsHeldByConstant, IsHeldByOp, IsHeldByOps}
-use Rattle.plir_read.specs.OpTerms.{op_term, constant_term, ops_of, blocks_of}
+use Rattle.plir_read.specs.OpTerms.{op_term, constant_term, ops_of, blocks_of, OpTerm, BlockTerm}
 use Rattle.plir_read.specs.OpReading.{op_at, first_name, bodied_at, block_at, semicolon_at, brace_at}
 use Rattle.plir_read.specs.Slots.{IsMadeInOrder}
 use Rattle.plir_read.proofs.EntriesLive.{meant_live}
@@ -76,7 +76,7 @@ pub read_block-returns-in-Ok-clause-held : goal.read_block-returns-in-Ok-clause-
 read_block-returns-in-Ok-clause-held g t c =
     let h = c.in_ok-head.ensures.read in
     let y = c.in-Ok.ensures.read in
-    let z = ((h.0.0, y.0.0), c.in-Ok.end.now) in
+    let z : BlockTerm × List ℕ = ((h.0.0, y.0.0), c.in-Ok.end.now) in
     let whole : block_at (op_at c.args.levels) c.args.levels c.args.bytes.now ≡ Ok z =
     block_read (op_at c.args.levels) c.args.levels _ h.0.0 _ _ y.0.0 (behind_is _ h.0 c.in_ok-head.rest.now h.1 h.2.1) (behind_is _ y.0 c.in-Ok.end.now y.1 y.2.1) in
     let head = come_still (λ v. IsHeldByBlockHead v h.0.0) _ _ _ c.in_ok-block.ensures.made.types (c.in_ok-head.ensures.held h.0 h.1) in
@@ -320,7 +320,7 @@ pub read_bodied-returns-in-Ok-clause-held : goal.read_bodied-returns-in-Ok-claus
 read_bodied-returns-in-Ok-clause-held g t c =
     let h = c.in_ok-header.ensures.read in
     let y = c.in-Ok.ensures.read in
-    let z = (op_term h.0.0 (blocks_of y.0.0), c.in-Ok.end.now) in
+    let z : OpTerm × List ℕ = (op_term h.0.0 (blocks_of y.0.0), c.in-Ok.end.now) in
     let whole : bodied_at (op_at c.args.levels) c.args.levels c.args.kind c.args.names c.args.bytes.now ≡ Ok z =
     bodied_read (op_at c.args.levels) c.args.levels c.args.kind c.args.names _ c.args.bytes.now _ _ h.0.0 y.0.0 c.in_ok-expect_names.ensures (behind_is _ h.0 c.in_ok-header.behind.now h.1 h.2.1) (behind_is _ y.0 c.in-Ok.end.now y.1 y.2.1) in
     let head = come_still (λ v. IsHeldByHeader v h.0.0) _ _ _ c.in_ok-op.ensures.made.types (c.in_ok-header.ensures.held h.0 h.1) in
