@@ -21,10 +21,10 @@ ghost use Rattle.plir_read.specs.TextTypes.{IsInText};
 use crate::ops::read_op_at;
 use plir_core::{Context, Operation, Ptr};
 use plir_data::OpSet;
-use plir_text::{Fault, ReadErr};
 use plir_text::fault::Stop;
 use plir_text::place::{placed, read_end};
 use plir_text::read_types::MAX_LEVELS;
+use plir_text::{Fault, ReadErr};
 use std::alloc::Global;
 
 #[tactic(auto, unfolding(plir_text::specs::Wholes::whole))]
