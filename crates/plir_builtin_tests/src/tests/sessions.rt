@@ -114,9 +114,10 @@ fn make_again<D: OpSet>(
 
 // Looks every symbol of the script up in every table, and says so where a scan finds another one.
 fn compare<D: OpSet>(bench: &mut Bench<D>, tables: &mut SymbolTableCollection) -> Result<(), Stop> {
-    for table in &bench.made.ops {
-        if table.is_live(&bench.ctx) && !compare_table(&bench.ctx, &bench.made, tables, *table)? {
-            bench.answer.put(" not as a scan");
+    let (ctx, made, answer) = (&bench.ctx, &bench.made, &mut bench.answer);
+    for table in &made.ops {
+        if table.is_live(ctx) && !compare_table(ctx, made, tables, *table)? {
+            answer.put(" not as a scan");
         }
     }
     Ok(())

@@ -34,9 +34,12 @@ fn a_function_in_a_module(rt: HostRuntime) -> Result<(), Mismatch> {
 fn a_text_of_six_nodes_is_read_where_six_have_room(rt: HostRuntime) -> Result<(), Mismatch> {
     let refused = "
         read builtin.module @m {^b(): builtin.func @f: builtin.function <()->()> {^entry():}} => TooManyNodes at 0:0";
-    for limit in 0..6 {
-        play_in(rt.alloc(), limit, refused)?;
-    }
+    play_in(rt.alloc(), 0, refused)?;
+    play_in(rt.alloc(), 1, refused)?;
+    play_in(rt.alloc(), 2, refused)?;
+    play_in(rt.alloc(), 3, refused)?;
+    play_in(rt.alloc(), 4, refused)?;
+    play_in(rt.alloc(), 5, refused)?;
     let script = "
         read builtin.module @m {^b(): builtin.func @f: builtin.function <()->()> {^entry():}} => o0 builtin.module @m ¶{¶  ^b_block1v1():¶    builtin.func @f: builtin.function <()->()> ¶    {¶      ^entry_block2v1():¶    }¶}
         count => 6
