@@ -20,6 +20,9 @@ pub fn set_own<D: MarkedSet>(bench: &mut Bench<D>, line: Line<'_>) -> Result<(),
     let key = Identifier::try_new(bench.alloc, line.second)?;
     let op = bench.made.op(&bench.ctx, line.first)?;
     let value = AttrObj::Own(D::own_attr(line.third == "marked"));
+    if !value.is_live(&bench.ctx) {
+        return Err(Stop::Refused);
+    }
     op.set_attr(&mut bench.ctx, key, value)?;
     Ok(())
 }
