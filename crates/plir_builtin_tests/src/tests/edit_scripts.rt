@@ -124,7 +124,8 @@ fn lists_of_edits_where_memory_is_refused(rt: HostRuntime) -> Result<(), Mismatc
         func g => o2
         func f => o3
         module n => o4
-        session list insert o0 o1, insert o0 o2, insert o0 o4; list insert o0 o3, insert o4 o3; lookup o0 f; lookup o4 f; list remove o0 o1, erase o0 o2; lookup o0 f; lookup o0 g; lookup o0 n => done; done; done;; Symbol redefined: f; done;; o1; o3; done; done;; -; -; o4;
+        func f => o5
+        session list insert o0 o1, insert o0 o2, insert o0 o4; list insert o0 o3, insert o4 o5; lookup o0 f; lookup o4 f; list remove o0 o1, erase o0 o2; lookup o0 f; lookup o0 g; lookup o0 n => done; done; done;; Symbol redefined: f; done;; o1; o5; done; done;; -; -; o4;
         live o2 => no";
     play_in(rt.alloc(), 100, script)
 }
