@@ -70,7 +70,7 @@ impl ConstantOp {
         ensures too_many_only { result ≡ Err NodeErr.TooManyNodes → IsFullForOp ctx.old.nodes 0 }
         ensures whole { IsWhole D.attr_handles ctx.new }
     {
-        let _live = ctx.num_live();
+        ctx.stands();
         let ty = value.typed().unwrap();
         let result_types = one_type(alloc, ty)?;
         let attributes = valued(alloc, value)?;
@@ -116,7 +116,7 @@ impl ConstantOp {
         ensures value { value_of ctx.now self.now.op ≡ Some (attr_view result.now) }
         ensures whole { IsWhole D.attr_handles ctx.now }
     {
-        let _live = ctx.num_live();
+        ctx.stands();
         let attributes = self.op.attributes(ctx);
         attributes.get(ATTR_KEY_CONSTANT_VALUE).unwrap()
     }
@@ -134,7 +134,7 @@ impl ConstantOp {
         ensures refused { IfErr result (IsRefusalMemoryAside ctx.now self.now.op (IsConstantFault D.attr_id D.attr_type D.type_id D.type_body_text ctx.now self.now.op)) }
         ensures whole { IsWhole D.attr_handles ctx.now }
     {
-        let _live = ctx.num_live();
+        ctx.stands();
         let Some(value) = self.op.attributes(ctx).get(ATTR_KEY_CONSTANT_VALUE) else {
             return Err(refusal(ctx, self.op, ConstantOpVerifyErr::MissingValue));
         };
@@ -160,7 +160,7 @@ fn untyped<D: OpSet>(
     ensures told { IsRefusalMemoryAside ctx.now op (TellsUntyped D.attr_id (attr_view value.now)) result }
     ensures whole { IsWhole D.attr_handles ctx.now }
 {
-    let _live = ctx.num_live();
+    ctx.stands();
     match String::from_str(alloc, value.get_attr_id()) {
         Ok(id) => refusal(ctx, op, ConstantOpVerifyErr::ValueNotTyped(id)),
         Err(_) => VerifyErr::Memory,
@@ -181,7 +181,7 @@ fn mismatched<D: OpSet>(
     ensures told { IsRefusalMemoryAside ctx.now op (TellsMismatch D.type_id D.type_body_text ctx.now.types given wanted) result }
     ensures whole { IsWhole D.attr_handles ctx.now }
 {
-    let _live = ctx.num_live();
+    ctx.stands();
     let Ok(given) = type_text(alloc, ctx, given) else {
         return VerifyErr::Memory;
     };
@@ -220,7 +220,7 @@ impl ConstantOp {
         ensures refused { IfErr result (IsConstantOpFault ctx.now self.now.op D.attr_id D.attr_type D.type_id D.type_body_text) }
         ensures whole { IsWhole D.attr_handles ctx.now }
     {
-        let _live = ctx.num_live();
+        ctx.stands();
         told(NOpdsInterface::<D, 0>::verify(self, ctx))?;
         told(OneResultInterface::<D>::verify(self, ctx))?;
         told(self.verify(alloc, ctx))

@@ -57,11 +57,11 @@ impl ForwardRefOp {
         ensures too_many_only { result ≡ Err NodeErr.TooManyNodes → IsFullForOp ctx.old.nodes 0 }
         ensures whole { IsWhole D.attr_handles ctx.new }
     {
-        let _live = ctx.num_live();
+        ctx.stands();
         let Ok(ty) = UnitType::get(ctx) else {
             return Err(NodeErr::Memory);
         };
-        let _typed = ctx.num_live();
+        ctx.stands();
         let result_types = one_type(alloc, ty.into())?;
         let operands = Vec::new(alloc);
         let successors = Vec::new(alloc);
@@ -107,7 +107,7 @@ impl ForwardRefOp {
         ensures refused { IfErr result (IsRefusalMemoryAside ctx.now self.now.op (λ e. string_bytes e.0 ≡ result_name ctx.now self.now.op 0)) }
         ensures whole { IsWhole D.attr_handles ctx.now }
     {
-        let _live = ctx.num_live();
+        ctx.stands();
         match first_result_name(alloc, ctx, self.op) {
             Ok(name) => Err(refusal(ctx, self.op, ForwardRefOpExistenceErr(name))),
             Err(Memory) => Err(VerifyErr::Memory),
@@ -126,7 +126,7 @@ impl ForwardRefOp {
         ensures refused { IfErr result (IsForwardRefFault ctx.now self.now.op) }
         ensures whole { IsWhole D.attr_handles ctx.now }
     {
-        let _live = ctx.num_live();
+        ctx.stands();
         told(NOpdsInterface::<D, 0>::verify(self, ctx))?;
         told(OneResultInterface::<D>::verify(self, ctx))?;
         told(self.verify(alloc, ctx))

@@ -157,7 +157,7 @@ impl FuncOp {
         ensures refused { IfErr result (IsFuncFault ctx.now self.now.op) }
         ensures whole { IsWhole D.attr_handles ctx.now }
     {
-        let _live = ctx.num_live();
+        ctx.stands();
         told(OneRegionInterface::<D>::verify(self, ctx))?;
         told(SymbolOpInterface::<D>::verify(self, ctx))?;
         told(NOpdsInterface::<D, 0>::verify(self, ctx))?;
@@ -221,7 +221,7 @@ fn argument_types<D: OpSet>(
     ensures memory { IfErr result (λ e. e ≡ NodeErr.Memory) }
     ensures whole { IsWhole D.attr_handles ctx.now }
 {
-    let _live = ctx.num_live();
+    ctx.stands();
     let _table = ctx.types();
     let function = ty.deref(ctx);
     match Vec::from_slice(alloc, function.arg_types()) {

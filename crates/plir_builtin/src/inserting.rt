@@ -12,7 +12,6 @@ ghost use Rattle.plir_builtin.specs.Refusals.{Tells, elsewhere, IsSymbolNamed, I
 ghost use Rattle.plir_builtin.specs.Plan.{IsPlace, IsPlanned};
 
 use crate::reading::redefined;
-use crate::standing::stands;
 use crate::symbol_table::SymbolTable;
 use crate::symbol_table_err::SymbolTableErr;
 use crate::symbols::{SymbolOpInterfaceErr, is_symbol, symbol_name};
@@ -37,7 +36,7 @@ pub(crate) fn put_at<D: OpSet>(
     ensures after { ctx.new ≡ put_at ctx.old op point }
     ensures put { IsPutInto ctx.old ctx.new op (AnyNode.BasicBlock block) }
 {
-    stands(ctx);
+    ctx.stands();
     match point {
         OpInsertionPoint::Unset => unreachable!(),
         OpInsertionPoint::AtBlockStart(b) => op.insert_at_front(b, ctx),
@@ -171,9 +170,9 @@ pub(crate) fn carry_out<D: OpSet>(
     ensures stood { IsStanding ctx.old }
     ensures stands { IsStanding ctx.new }
 {
-    stands(ctx);
+    ctx.stands();
     if let Some(point) = place {
         put_at(ctx, op, point, block);
     }
-    stands(ctx);
+    ctx.stands();
 }

@@ -22,7 +22,7 @@ pub fn no_tables_agree<D: OpSet>(ctx: &Context<D>)
     ensures agree { AllAgree D.is_symbol D.is_symbol_table ctx.now map.empty }
     ensures given { AreGivenOut ctx.now map.empty }
 {
-    let _count = ctx.num_live();
+    ctx.stands();
 }
 
 /// Tables that agree still agree once a tree of new nodes was made, as by a constructor, once a constructor was refused, and once
@@ -34,7 +34,7 @@ pub fn new_nodes_keep_agreement<D: OpSet>(ctx: &Context<D>)
     ensures given { StaysGivenOut ctx.now }
 {
     contexts_stand::<D>();
-    let _count = ctx.num_live();
+    ctx.stands();
 }
 
 /// A module that `verify_interfaces` accepts is what each call of its interfaces asks: its region and its body may be taken, its
@@ -48,7 +48,7 @@ pub fn module_is_as_asked<D: SymbolUserSet>(ctx: &Context<D>, op: ModuleOp)
     ensures operands { HasNOpds 0 ctx.now op.op }
     ensures results { HasNResults 0 ctx.now op.op }
 {
-    let _count = ctx.num_live();
+    ctx.stands();
 }
 
 /// A function that `verify_interfaces` accepts is what each call of its interfaces, and `get_type`, asks.
@@ -60,7 +60,7 @@ pub fn func_is_as_asked<D: OpSet>(ctx: &Context<D>, op: FuncOp)
     ensures results { HasNResults 0 ctx.now op.op }
     ensures of_functions { HasFuncType ctx.now op.op }
 {
-    let _count = ctx.num_live();
+    ctx.stands();
 }
 
 /// A constant that `verify_interfaces` accepts is what each call of its interfaces, and `get_value`, asks.
@@ -70,5 +70,5 @@ pub fn constant_is_as_asked<D: OpSet>(ctx: &Context<D>, op: ConstantOp)
     ensures result { HasNResults 1 ctx.now op.op }
     ensures value { HasConstantValue D.attr_type ctx.now op.op }
 {
-    let _count = ctx.num_live();
+    ctx.stands();
 }

@@ -16,7 +16,6 @@ mod op_making;
 mod op_verify_err;
 mod reading;
 mod scanning;
-mod standing;
 mod symbol_edits;
 mod symbol_op;
 mod symbol_table;

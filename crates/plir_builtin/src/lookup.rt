@@ -10,7 +10,6 @@ ghost use Rattle.plir_builtin.specs.Refusals.{Tells, TableRefused};
 
 use crate::collection::SymbolTableCollection;
 use crate::nearest::nearest_symbol_table;
-use crate::standing::stands;
 use crate::symbol_table::SymbolTable;
 use crate::symbol_table_err::SymbolTableErr;
 use plir_core::{Context, Operation, Ptr};
@@ -34,7 +33,7 @@ impl SymbolTableCollection {
         ensures refused { IfErr result (Tells (TableRefused D.is_symbol D.is_symbol_table ctx.now op)) }
         ensures same { OnErr result (self.new ≡ self.old) }
     {
-        stands(ctx);
+        ctx.stands();
         if self.is_cached(op) {
             return Ok(());
         }

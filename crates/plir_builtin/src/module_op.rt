@@ -59,7 +59,7 @@ impl ModuleOp {
         ensures too_many_only { result ≡ Err NodeErr.TooManyNodes → IsFullForOneBlock ctx.old }
         ensures whole { IsWhole D.attr_handles ctx.new }
     {
-        let _live = ctx.num_live();
+        ctx.stands();
         let attributes = named(alloc, name)?;
         let arg_types = Vec::new(alloc);
         let op = new_with_block(alloc, ctx, OpKind::Module, attributes, None, arg_types)?;
@@ -135,7 +135,7 @@ impl ModuleOp {
             D.is_symbol D.is_symbol_table D.is_symbol_user D.uses_hold D.use_refusal) }
         ensures whole { IsWhole D.attr_handles ctx.now }
     {
-        let _live = ctx.num_live();
+        ctx.stands();
         told(OneRegionInterface::<D>::verify(self, ctx))?;
         told(SingleBlockRegionInterface::<D>::verify(self, ctx))?;
         told(SymbolTableInterface::<D>::verify(self, alloc, ctx))?;

@@ -4,7 +4,6 @@ ghost use Rattle.plir_core.specs.declared.ptr.IRNode.{IRNode as AnyNode};
 ghost use Rattle.plir_core.specs.Store.{IsLive};
 ghost use Rattle.plir_builtin.specs.Nearest.{IsNearest};
 
-use crate::standing::stands;
 use crate::symbols::is_table;
 use plir_core::{Context, Operation, Ptr};
 use plir_data::OpSet;
@@ -18,7 +17,7 @@ pub fn nearest_symbol_table<D: OpSet>(
     ensures nearest { IsNearest D.is_symbol_table ctx.now from result }
     ensures live { IfSome result (λ t. IsLive ctx.now (AnyNode.Operation t)) }
 {
-    stands(ctx);
+    ctx.stands();
     let mut at = Some(from);
     'up: while let Some(op) = at {
         if is_table(ctx, op) {

@@ -127,7 +127,7 @@ pub(crate) fn new_with_block<D: OpSet>(
     ensures too_many_only { result ≡ Err NodeErr.TooManyNodes → IsFullForOneBlock ctx.old }
     ensures whole { IsWhole D.attr_handles ctx.new }
 {
-    let _live = ctx.num_live();
+    ctx.stands();
     what_was_made_is_unused(ctx);
     growth(ctx);
     let results = Vec::new(alloc);

@@ -6,7 +6,6 @@ ghost use Rattle.plir_builtin.specs.Symbols.{symbols_in, symbols_of};
 ghost use Rattle.plir_builtin.specs.Refusals.{Tells, redefined};
 ghost use Rattle.plir_builtin.specs.Reading.{IsRead, ReadsOn, RefusesOn, FirstRefused};
 
-use crate::standing::stands;
 use crate::symbol_table::SymbolTable;
 use crate::symbol_table_err::SymbolTableErr;
 use crate::symbols::{SymbolOpInterfaceErr, is_symbol, symbol_name};
@@ -70,7 +69,7 @@ impl SymbolTable {
         ensures read { OnOk result (IsRead (symbols_in D.is_symbol ctx.now (Some (AnyNode.BasicBlock block))) self.new) }
         ensures refused { IfErr result (λ e. Tells (FirstRefused e.op (symbols_in D.is_symbol ctx.now (Some (AnyNode.BasicBlock block)))) e.why) }
     {
-        stands(ctx);
+        ctx.stands();
         first_kid_is_front(ctx, IRNode::BasicBlock(block));
         let mut at = block.get_head(ctx);
         'ops: while let Some(op) = at {

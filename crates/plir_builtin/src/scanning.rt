@@ -4,7 +4,6 @@ ghost use Rattle.plir_core.specs.declared.ptr.IRNode.{IRNode as AnyNode};
 ghost use Rattle.plir_core.specs.Store.{IsLive};
 ghost use Rattle.plir_builtin.specs.Symbols.{body, find_named, scan, symbols_in, symbols_of};
 
-use crate::standing::stands;
 use crate::symbols::{is_symbol, symbol_name};
 use crate::table_body::body_of;
 use plir_core::laws::{first_kid_is_front, next_is_behind};
@@ -35,7 +34,7 @@ fn find_in_block<D: OpSet>(
     requires { IsLive ctx.now (AnyNode.BasicBlock block) }
     ensures { result ≡ find_named name.now (symbols_in D.is_symbol ctx.now (Some (AnyNode.BasicBlock block))) }
 {
-    stands(ctx);
+    ctx.stands();
     first_kid_is_front(ctx, IRNode::BasicBlock(block));
     let mut at = block.get_head(ctx);
     'ops: while let Some(op) = at {

@@ -24,7 +24,7 @@ fn put_symbol_name<D: OpSet>(
     ensures err { OnErr result (ctx.new ≡ ctx.old) }
     ensures whole { IsWhole D.attr_handles ctx.new }
 {
-    let _live = ctx.num_live();
+    ctx.stands();
     match Identifier::try_new(alloc, ATTR_KEY_SYM_NAME) {
         Ok(key) => op.set_attr(ctx, key, AttrObj::Identifier(IdentifierAttr::new(name))),
         Err(_) => Err(Memory),
@@ -40,7 +40,7 @@ pub trait SymbolOpInterface<D: OpSet>: Op<D> {
         ensures value { name_held (op_at ctx.now (Self.pointer self.now)) ≡ Some result.now }
         ensures whole { IsWhole D.attr_handles ctx.now }
     {
-        let _live = ctx.num_live();
+        ctx.stands();
         symbol_name(ctx, self.get_operation()).unwrap()
     }
 

@@ -15,7 +15,6 @@ ghost use Rattle.plir_builtin.specs.Reading.{IsRead};
 ghost use Rattle.plir_builtin.specs.TableEdits.{IsRecorded, IsForgotten};
 
 use crate::inserting::{Plan, carry_out};
-use crate::standing::stands;
 use crate::symbol_table_err::SymbolTableErr;
 use crate::symbols::{SymbolOpInterfaceErr, is_symbol, is_table, symbol_name};
 use crate::table_body::{body_of, find_body};
@@ -190,7 +189,7 @@ impl SymbolTable {
         ensures given { OnOk result (KeepsGivenOut ctx.old self.old ctx.new self.new) }
     {
         let Plan { name, body, place } = self.plan(ctx, op, point)?;
-        stands(ctx);
+        ctx.stands();
         self.record_name(name, op)?;
         carry_out(ctx, op, place, body);
         Ok(())
@@ -234,9 +233,9 @@ impl SymbolTable {
         ensures given { OnOk result (KeepsGivenOut ctx.old self.old ctx.new self.new) }
     {
         self.forget(ctx, op)?;
-        stands(ctx);
+        ctx.stands();
         op.unlink(ctx);
-        stands(ctx);
+        ctx.stands();
         Ok(())
     }
 
@@ -260,9 +259,9 @@ impl SymbolTable {
         ensures given { OnOk result (KeepsGivenOut ctx.old self.old ctx.new self.new) }
     {
         self.forget(ctx, op)?;
-        stands(ctx);
+        ctx.stands();
         Operation::erase(op, ctx);
-        stands(ctx);
+        ctx.stands();
         Ok(())
     }
 }

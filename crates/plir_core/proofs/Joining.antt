@@ -1,12 +1,13 @@
--- Two edits of what an operation holds are one.
+-- Two edits of what an operation holds are one, and two of what a block holds.
 use Rattle.std.proofs.Common.{◌≡◌, ℕ, zero, suc, List, [], ◌∷◌, Option, Some, None, IsSome, refl, sym, ap, subst, ◌∙◌}
 use Rattle.std.specs.Prelude.{slice_set}
 use Rattle.plir_store.specs.Table.{Table, Cell, content_at, version_at, with_content}
 use Rattle.plir_core.specs.declared.ptr.Ptr.{Ptr}
 use Rattle.plir_core.specs.declared.ptr.Operation.{Operation as OperationKind}
-use Rattle.plir_core.specs.Contents.{OpView}
-use Rattle.plir_core.specs.Store.{Store, op_at}
-use Rattle.plir_core.specs.Changes.{with_op_edit, op_edited}
+use Rattle.plir_core.specs.declared.ptr.BasicBlock.{BasicBlock as BlockKind}
+use Rattle.plir_core.specs.Contents.{OpView, BlockView}
+use Rattle.plir_core.specs.Store.{Store, op_at, block_at}
+use Rattle.plir_core.specs.Changes.{with_op_edit, op_edited, with_block_edit, block_edited}
 use Rattle.plir_core.proofs.Holds.{here_held, version_held}
 
 module _ {C : Type 0} (t : Table C) (i : ℕ) (v w : C) (some : IsSome (content_at t i)) where
@@ -42,3 +43,25 @@ module _ {K A T : Type 0} (s : Store K A T) (p : Ptr OperationKind) where
       go : (o : Option (OpView K A)) → op_at s p ≡ o → op_edited s p.slot f o ≡ op_edited s p.slot g o
       go None e = refl
       go (Some v) e = ap (λ u. op_edited s p.slot (λ _. u) (Some v)) (alike v e)
+
+module _ {K A T : Type 0} (s : Store K A T) (p : Ptr BlockKind) where
+  pub block-edits-join : (f g : BlockView A → BlockView A) →
+      with_block_edit (with_block_edit s p f) p g ≡ with_block_edit s p (λ b. g (f b))
+  block-edits-join f g = go (block_at s p) refl
+    where
+      go : (o : Option (BlockView A)) → block_at s p ≡ o →
+          with_block_edit (block_edited s p.slot f o) p g ≡ block_edited s p.slot (λ v. g (f v)) o
+      go None e = ap (block_edited s p.slot g) e
+      go (Some v) e =
+          let some : IsSome (block_at s p) = subst IsSome (sym e) refl in
+          ap (block_edited (block_edited s p.slot f (Some v)) p.slot g) (written s.nodes.blocks p.slot (f v) v some)
+          ∙ ap (λ t. record s { nodes = record s.nodes { blocks = t } })
+          (written-again s.nodes.blocks p.slot (f v) (g (f v)) some)
+
+  pub block-edits-same : (f g : BlockView A → BlockView A) → ((b : BlockView A) → block_at s p ≡ Some b → f b ≡ g b) →
+      with_block_edit s p f ≡ with_block_edit s p g
+  block-edits-same f g alike = go (block_at s p) refl
+    where
+      go : (o : Option (BlockView A)) → block_at s p ≡ o → block_edited s p.slot f o ≡ block_edited s p.slot g o
+      go None e = refl
+      go (Some v) e = ap (λ u. block_edited s p.slot (λ _. u) (Some v)) (alike v e)

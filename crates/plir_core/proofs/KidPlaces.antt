@@ -14,12 +14,12 @@ use Rattle.plir_core.proofs.Facts.{live_at}
 use Rattle.plir_core.proofs.Siblings.{next_at}
 use Rattle.plir_store.specs.MemberLaws.{Has-at}
 
-map_get : {A : Type 0} (f : ℕ → A) (xs : List ℕ) (i : ℕ) → slice_get (map f xs) i ≡ option_map f (slice_get xs i)
+pub map_get : {A : Type 0} (f : ℕ → A) (xs : List ℕ) (i : ℕ) → slice_get (map f xs) i ≡ option_map f (slice_get xs i)
 map_get f [] i = refl
 map_get f (x ∷ xs) zero = refl
 map_get f (x ∷ xs) (suc i) = map_get f xs i
 
-map_got : {A : Type 0} (f : ℕ → A) (o : Option ℕ) (x : A) → option_map f o ≡ Some x → (i : ℕ) × ((o ≡ Some i) × (f i ≡ x))
+pub map_got : {A : Type 0} (f : ℕ → A) (o : Option ℕ) (x : A) → option_map f o ≡ Some x → (i : ℕ) × ((o ≡ Some i) × (f i ≡ x))
 map_got f None x e = absurd (none-some x e)
 map_got f (Some i) x e = (i, (refl, same_Some (f i) x e))
 
@@ -47,7 +47,7 @@ module _ {O B : Type 0} (s : Nodes O B) (w : IsStored s) where
       subst (λ z. node_next s z ≡ slice_get (node_kids s (BasicBlock p)) (i + 1)) r.1.0 (rw r.1.1.0 r.1.1.1)
 
 -- the element behind a list, and what stands right behind that
-get_mid : {A : Type 0} (xs ys : List A) (x : A) → slice_get (xs ++ x ∷ ys) (length xs) ≡ Some x
+pub get_mid : {A : Type 0} (xs ys : List A) (x : A) → slice_get (xs ++ x ∷ ys) (length xs) ≡ Some x
 get_mid [] ys x = refl
 get_mid (z ∷ zs) ys x = get_mid zs ys x
 

@@ -30,6 +30,7 @@ pub mod Growing
 pub mod Editing
 pub mod Joining
 pub mod KidPlaces
+pub mod Backs
 pub mod Leaves
 pub mod Indices
 pub mod Standing

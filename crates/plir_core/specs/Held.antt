@@ -5,7 +5,7 @@ use Rattle.plir_core.specs.declared.ptr.Operation.{Operation as OperationKind}
 use Rattle.plir_core.specs.declared.ptr.BasicBlock.{BasicBlock as BasicBlockKind}
 use Rattle.plir_core.specs.declared.ptr.IRNode.{IRNode}
 use Rattle.plir_core.specs.declared.ptr.IRNode.TheVariants.{Operation, BasicBlock}
-use Rattle.plir_core.specs.Changes.{with_op_edit}
+use Rattle.plir_core.specs.Changes.{with_op_edit, with_block_edit}
 use Rattle.plir_core.specs.Contents.{OpView, BlockView}
 use Rattle.plir_core.specs.Store.{Store, IsLive, is_live, given_out, limit, kids, parent_of, op_at, block_at}
 
@@ -40,3 +40,14 @@ module _ {K A T : Type 0} where
   -- edits that make the same of what an operation holds are the same
   abbrev pub OpEditsAgree : Store K A T → Ptr OperationKind → Type 0
   OpEditsAgree s p = (f g : OpView K A → OpView K A) → ((o : OpView K A) → op_at s p ≡ Some o → f o ≡ g o) → with_op_edit s p f ≡ with_op_edit s p g
+
+  -- the same of edits of what a block holds
+  abbrev pub BlockEditsJoin : Store K A T → Ptr BasicBlockKind → Type 0
+  BlockEditsJoin s p =
+      (f g : BlockView A → BlockView A) →
+      with_block_edit (with_block_edit s p f) p g ≡ with_block_edit s p (λ b. g (f b))
+
+  abbrev pub BlockEditsAgree : Store K A T → Ptr BasicBlockKind → Type 0
+  BlockEditsAgree s p =
+      (f g : BlockView A → BlockView A) → ((b : BlockView A) → block_at s p ≡ Some b → f b ≡ g b) →
+      with_block_edit s p f ≡ with_block_edit s p g

@@ -1,13 +1,15 @@
 //! Laws of contexts: each function does nothing, and its contract is the law.
-ghost use Rattle.std.specs.Prelude.{◌≡◌, ◌⊎◌, [], ◌∷◌, ◌++◌, ◌+◌, List, Some, slice_get};
+ghost use Rattle.std.specs.Prelude.{◌≡◌, ◌⊎◌, [], ◌∷◌, ◌++◌, ◌+◌, List, Some, reverse, slice_get};
 ghost use Rattle.plir_core.specs.Above.{Reaches};
 ghost use Rattle.plir_core.specs.Contents.{OpView, BlockView};
 ghost use Rattle.plir_store.specs.Members.{head};
-ghost use Rattle.plir_core.specs.Store.{Store, IsLive, kids, parent_of, first_kid, next_sibling, IsIndexed};
+ghost use Rattle.plir_core.specs.Store.{Store, IsLive, kids, parent_of, IsIndexed};
+ghost use Rattle.plir_core.specs.Store.{first_kid, last_kid, next_sibling, prev_sibling};
 ghost use Rattle.plir_core.specs.Whole.{IsWhole};
 ghost use Rattle.plir_core.specs.Standing.{IsStanding};
 ghost use Rattle.plir_core.specs.Changes.{with_op_edit, with_block_edit};
-ghost use Rattle.plir_core.specs.Held.{IsOpEdited, IsBlockEdited, OpEditsJoin, OpEditsAgree};
+ghost use Rattle.plir_core.specs.Held.{IsOpEdited, IsBlockEdited};
+ghost use Rattle.plir_core.specs.Held.{OpEditsJoin, OpEditsAgree, BlockEditsJoin, BlockEditsAgree};
 ghost use Rattle.plir_core.specs.Grown.{Growth};
 ghost use Rattle.plir_core.specs.Made.{IsMade};
 ghost use Rattle.plir_core.specs.Unused.{IsUnusedOutside};
@@ -40,6 +42,21 @@ pub fn first_kid_is_front<D: OpSet>(ctx: &Context<D>, over: IRNode)
 /// What follows a kid of a node is the first of what stands behind it.
 pub fn next_is_behind<D: OpSet>(ctx: &Context<D>, kid: IRNode)
     ensures { (over : AnyNode) (xs ys : List AnyNode) → kids ctx.now over ≡ xs ++ kid ∷ ys → next_sibling ctx.now kid ≡ head ys }
+{
+    ctx.stands();
+}
+
+/// The last kid of a node is the first of its kids in reverse.
+pub fn last_kid_is_back<D: OpSet>(ctx: &Context<D>, over: IRNode)
+    ensures { last_kid ctx.now over ≡ head (reverse (kids ctx.now over)) }
+{
+    let _types = &ctx.types;
+}
+
+/// What stands right before a kid of a node is the last of what stands before it.
+pub fn prev_is_before<D: OpSet>(ctx: &Context<D>, kid: IRNode)
+    ensures { (over : AnyNode) (xs ys : List AnyNode) → kids ctx.now over ≡ xs ++ kid ∷ ys →
+        prev_sibling ctx.now kid ≡ head (reverse xs) }
 {
     ctx.stands();
 }
@@ -78,6 +95,15 @@ pub fn op_edits_join<D: OpSet>(ctx: &Context<D>, op: Ptr<Operation>)
 pub fn block_edits_keep_the_rest<D: OpSet>(ctx: &Context<D>, block: Ptr<BasicBlock>)
     requires { IsLive ctx.now (AnyNode.BasicBlock block) }
     ensures { (f : BlockView D.Attr → BlockView D.Attr) → IsBlockEdited ctx.now (with_block_edit ctx.now block f) block f }
+{
+    ctx.stands();
+}
+
+/// Two edits of what a block holds are one: the second of what the first made. An edit is what it makes of what the block
+/// holds.
+pub fn block_edits_join<D: OpSet>(ctx: &Context<D>, block: Ptr<BasicBlock>)
+    ensures join { BlockEditsJoin ctx.now block }
+    ensures same { BlockEditsAgree ctx.now block }
 {
     ctx.stands();
 }

@@ -1,6 +1,7 @@
 -- What the calls of attributes answer.
 use Rattle.std.specs.Prelude.{ℕ, List, Bool, true, false, Option, Some, None, codes}
-use Rattle.plir_data.specs.AttrView.{Leaf, identifier, string, bool, integer, unit, type_of, operand_segment_sizes, given_names, own, AttrView, leaf, dict, vec}
+use Rattle.plir_data.specs.AttrView.{Leaf, identifier, string, bool, integer, unit, type_of, operand_segment_sizes}
+use Rattle.plir_data.specs.AttrView.{given_names, own, AttrView, leaf, dict, vec}
 
 module _ {A : Type 0} where
   -- the id of an attribute; `own_id` gives that of the user's own

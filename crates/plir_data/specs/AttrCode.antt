@@ -1,8 +1,11 @@
--- How the values of attributes are told apart: each is written as a list of marks, which reads back as that value alone.
+-- How the values of attributes are told apart: each is written as a list of marks, which reads back as that value
+-- alone.
 use Rattle.std.specs.Prelude.{ℕ, Bool, List, [], ◌∷◌, Option, Some, None, true, false, ◌≡◌, ◌⊎◌, refl}
 use Rattle.std.specs.Coded.{Coded, code_by, coded_ℕ, coded_bool, coded_list, coded_option, coded×, coded⊎}
 use Rattle.std.proofs.Common.{inl, inr}
-use Rattle.plir_data.specs.AttrView.{Leaf, identifier, string, bool, integer, unit, type_of, operand_segment_sizes, given_names, own, AttrView, leaf, dict, vec, Items, no_items, item, Entries, no_entries, entry}
+use Rattle.plir_data.specs.AttrView.{Leaf, identifier, string, bool, integer, unit, type_of, operand_segment_sizes}
+use Rattle.plir_data.specs.AttrView.{given_names, own, AttrView, leaf, dict, vec, Items, no_items, item, Entries}
+use Rattle.plir_data.specs.AttrView.{no_entries, entry}
 
 abbrev pub Numbers : Type 0
 Numbers = List ℕ
@@ -46,9 +49,14 @@ module _ {A : Type 0} where
 
   abbrev pub leaf_code : Coded A → Coded (Leaf A)
   leaf_code c =
-      code_by (Parts A) (coded⊎ (coded_list coded_ℕ) (coded⊎ (coded_list coded_ℕ) (coded⊎ coded_bool (coded⊎ (coded× coded_ℕ (coded× coded_ℕ coded_ℕ)) (coded⊎ coded_bool (coded⊎ coded_ℕ (coded⊎ (coded_list coded_ℕ) (coded⊎ (coded_list (coded_option (coded_list coded_ℕ))) c)))))))) parts leaf_of leaf_of-parts
+      code_by (Parts A) (coded⊎ (coded_list coded_ℕ)
+      (coded⊎ (coded_list coded_ℕ) (coded⊎ coded_bool (coded⊎ (coded× coded_ℕ (coded× coded_ℕ coded_ℕ))
+      (coded⊎ coded_bool (coded⊎ coded_ℕ
+      (coded⊎ (coded_list coded_ℕ) (coded⊎ (coded_list (coded_option (coded_list coded_ℕ))) c)))))))) parts leaf_of
+      leaf_of-parts
 
--- A mark: a leaf as it is, how a dictionary or a list begins, how items end or go on, how entries end or go on with a key.
+-- A mark: a leaf as it is, how a dictionary or a list begins, how items end or go on, how entries end or go on with a
+-- key.
 abbrev pub Mark : Type 0 → Type 0
 Mark A = Leaf A ⊎ (Bool ⊎ (Bool ⊎ Option Numbers))
 
@@ -125,4 +133,5 @@ module _ {A : Type 0} where
   first_one-read x = rw (read-marks x []) refl
 
   abbrev pub attr_code : Coded A → Coded (AttrView A)
-  attr_code c = code_by (List (Mark A)) (coded_list (mark_code c)) (λ x. marks x []) (λ ms. first_one (read ms)) first_one-read
+  attr_code c = code_by (List (Mark A)) (coded_list (mark_code c)) (λ x. marks x []) (λ ms. first_one (read ms))
+      first_one-read

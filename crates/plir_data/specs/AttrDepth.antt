@@ -1,6 +1,7 @@
 -- How deep attributes stand in one another.
 use Rattle.std.specs.Prelude.{ℕ, suc, max, ◌+◌, List, [], ◌∷◌}
-use Rattle.plir_data.specs.AttrView.{AttrView, leaf, dict, vec, Items, no_items, item, Entries, no_entries, entry, items_of, entries_of}
+use Rattle.plir_data.specs.AttrView.{AttrView, leaf, dict, vec, Items, no_items, item, Entries, no_entries, entry}
+use Rattle.plir_data.specs.AttrView.{items_of, entries_of}
 
 module _ {A : Type 0} where
   abbrev mutual

@@ -2,7 +2,9 @@
 use Rattle.std.specs.Prelude.{Bool, true, false, ◌&&◌, nat_eq}
 use Rattle.std.specs.Cmp.Lexicographic.{pointwise}
 use Rattle.std.specs.Option.{option_eq}
-use Rattle.plir_data.specs.AttrView.{Leaf, identifier, string, bool, integer, unit, type_of, operand_segment_sizes, given_names, own, AttrView, leaf, dict, vec, Items, no_items, item, Entries, no_entries, entry}
+use Rattle.plir_data.specs.AttrView.{Leaf, identifier, string, bool, integer, unit, type_of, operand_segment_sizes}
+use Rattle.plir_data.specs.AttrView.{given_names, own, AttrView, leaf, dict, vec, Items, no_items, item, Entries}
+use Rattle.plir_data.specs.AttrView.{no_entries, entry}
 
 module _ {A : Type 0} where
   -- whether two attributes are equal: of one kind, with equal parts
@@ -39,5 +41,6 @@ module _ {A : Type 0} where
 
     pub entries_eq : (own_eq : A → A → Bool) → Entries A → Entries A → Bool
     entries_eq own_eq no_entries no_entries = true
-    entries_eq own_eq (entry k x es) (entry l y fs) = pointwise nat_eq k l && (attr_eq own_eq x y && entries_eq own_eq es fs)
+    entries_eq own_eq (entry k x es) (entry l y fs) =
+        pointwise nat_eq k l && (attr_eq own_eq x y && entries_eq own_eq es fs)
     entries_eq own_eq _ _ = false

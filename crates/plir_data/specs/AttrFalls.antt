@@ -10,7 +10,8 @@ use Rattle.plir_data.specs.declared.attributes.AttrObj.{AttrObj}
 use Rattle.plir_data.specs.declared.attributes.AttrObj.TheVariants as A
 use Rattle.plir_data.specs.declared.attribute_dict.AttributeDict.TheDeep.{deep-AttrObj}
 
-pub deep_le : {D K A T E : Type 0} (o : _) (p : _) (h : _) (d : _) (p' : _) (h' : _) (d' : _) (e : _) (e' : _) (x : AttrObj D K A T E) → deep-AttrObj D K A T E o p h d p' h' d' e e' x ≤ bulk (attr_view x)
+pub deep_le : {D K A T E : Type 0} (o : _) (p : _) (h : _) (d : _) (p' : _) (h' : _) (d' : _) (e : _) (e' : _)
+    (x : AttrObj D K A T E) → deep-AttrObj D K A T E o p h d p' h' d' e e' x ≤ bulk (attr_view x)
 deep_le o p h f p' h' f' e e' (A.Identifier w) = omega arith
 deep_le o p h f p' h' f' e e' (A.String s) = omega arith
 deep_le o p h f p' h' f' e e' (A.Bool b) = omega arith
@@ -24,10 +25,12 @@ deep_le o p h f p' h' f' e e' (A.GivenNames g) = omega arith
 deep_le o p h f p' h' f' e e' (A.Own a) = omega arith
 
 module _ {D K A T E : Type 0} where
-  pub most_items : (size : AttrObj D K A T E → ℕ) → ((x : AttrObj D K A T E) → size x ≤ bulk (attr_view x)) → (xs : List (AttrObj D K A T E)) → most size xs ≤ items_bulk (map attr_view xs)
+  pub most_items : (size : AttrObj D K A T E → ℕ) → ((x : AttrObj D K A T E) → size x ≤ bulk (attr_view x)) →
+      (xs : List (AttrObj D K A T E)) → most size xs ≤ items_bulk (map attr_view xs)
   most_items size small [] = omega arith
   most_items size small (x ∷ xs) = omega (arith, small x, most_items size small xs)
 
-  pub most_entries : (size : AttrObj D K A T E → ℕ) → ((x : AttrObj D K A T E) → size x ≤ bulk (attr_view x)) → (es : List (String Global × AttrObj D K A T E)) → most size (map (λ e. e.1) es) ≤ entries_bulk (pairs_view es)
+  pub most_entries : (size : AttrObj D K A T E → ℕ) → ((x : AttrObj D K A T E) → size x ≤ bulk (attr_view x)) →
+      (es : List (String Global × AttrObj D K A T E)) → most size (map (λ e. e.1) es) ≤ entries_bulk (pairs_view es)
   most_entries size small [] = omega arith
   most_entries size small (e ∷ es) = omega (arith, small e.1, most_entries size small es)

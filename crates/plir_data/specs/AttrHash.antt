@@ -1,7 +1,9 @@
 -- What the hash of an attribute is made from: a mark of its kind, and then its parts.
 use Rattle.std.specs.Prelude.{ℕ, [], ◌++◌}
 use Rattle.std.specs.Hash.{HashWrites, u8, u32, u64, usize, bool, str, slice, option}
-use Rattle.plir_data.specs.AttrView.{Leaf, identifier, string, bool as boolean, integer, unit, type_of, operand_segment_sizes, given_names, own, AttrView, leaf, dict, vec, Items, no_items, item, Entries, no_entries, entry}
+use Rattle.plir_data.specs.AttrView.{Leaf, identifier, string, bool as boolean, integer, unit, type_of}
+use Rattle.plir_data.specs.AttrView.{operand_segment_sizes, given_names, own, AttrView, leaf, dict, vec, Items}
+use Rattle.plir_data.specs.AttrView.{no_items, item, Entries, no_entries, entry}
 
 module _ {A : Type 0} where
   -- the mark of a kind

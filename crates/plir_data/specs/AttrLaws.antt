@@ -4,7 +4,9 @@ use Rattle.std.proofs.Common.{sym, ap, ◌∙◌, true≢false, rules}
 use Rattle.std.specs.Cmp.{IsEquivalence}
 use Rattle.std.specs.Cmp.Lexicographic.{pointwise, same_text, nat_list_eq_equiv}
 use Rattle.std.specs.Option.{option_eq}
-use Rattle.plir_data.specs.AttrView.{Leaf, identifier, string, bool, integer, unit, type_of, operand_segment_sizes, given_names, own, AttrView, leaf, dict, vec, Items, no_items, item, Entries, no_entries, entry}
+use Rattle.plir_data.specs.AttrView.{Leaf, identifier, string, bool, integer, unit, type_of, operand_segment_sizes}
+use Rattle.plir_data.specs.AttrView.{given_names, own, AttrView, leaf, dict, vec, Items, no_items, item, Entries}
+use Rattle.plir_data.specs.AttrView.{no_entries, entry}
 use Rattle.plir_data.specs.AttrEq.{leaf_eq, attr_eq, items_eq, entries_eq}
 
 both_left : (a b : Bool) → (a && b) ≡ true → a ≡ true
@@ -22,8 +24,15 @@ no : {X : Type 0} → false ≡ true → X
 no e = absurd (true≢false (sym e))
 
 -- a test that holds only of equal things, and of each thing with itself, is an equivalence
-pub equivalence : {X : Type 0} (E : X → X → Bool) → ((x y : X) → E x y ≡ true → x ≡ y) → ((x : X) → E x x ≡ true) → IsEquivalence E
-equivalence E same itself = record { refl = itself; symm = λ x y. symm x y (E x y) (E y x) refl refl; congr = λ x y z e. ap (λ w. E w z) (same x y e) }
+pub equivalence : {X : Type 0} (E : X → X → Bool) → ((x y : X) → E x y ≡ true → x ≡ y) → ((x : X) → E x x ≡ true) →
+    IsEquivalence E
+equivalence E same itself =
+    record {
+      refl = itself;
+      symm = λ x y. symm x y (E x y) (E y x) refl refl;
+      congr = λ x y z e. ap (λ w. E w z)
+          (same x y e);
+    }
   where
     symm : (x y : _) (a b : Bool) → E x y ≡ a → E y x ≡ b → E x y ≡ E y x
     symm x y true true p q = p ∙ sym q
@@ -64,7 +73,9 @@ module _ {A : Type 0} (own_eq : A → A → Bool) (same : (a b : A) → own_eq a
   same_leaf (bool false) (bool true) e = no e
   same_leaf (bool false) (bool false) e = refl
   same_leaf (integer t w b) (integer u v c) e =
-      ap (λ n. integer n w b) (same_number t u (both_left _ _ e)) ∙ ap (λ n. integer u n b) (same_number w v (both_left _ _ (both_right _ _ e))) ∙ ap (λ n. integer u v n) (same_number b c (both_right _ _ (both_right _ _ e)))
+      ap (λ n. integer n w b) (same_number t u (both_left _ _ e)) ∙
+      ap (λ n. integer u n b) (same_number w v (both_left _ _ (both_right _ _ e))) ∙
+      ap (λ n. integer u v n) (same_number b c (both_right _ _ (both_right _ _ e)))
   same_leaf unit unit e = refl
   same_leaf (type_of t) (type_of u) e = ap type_of (same_number t u e)
   same_leaf (operand_segment_sizes ms) (operand_segment_sizes ns) e = ap operand_segment_sizes (texts ms ns e)
@@ -97,14 +108,17 @@ module _ {A : Type 0} (own_eq : A → A → Bool) (same : (a b : A) → own_eq a
     same_items no_items no_items e = refl
     same_items no_items (item y ys) e = no e
     same_items (item x xs) no_items e = no e
-    same_items (item x xs) (item y ys) e = ap (λ z. item z xs) (same_attr x y (both_left _ _ e)) ∙ ap (item y) (same_items xs ys (both_right _ _ e))
+    same_items (item x xs) (item y ys) e = ap (λ z. item z xs) (same_attr x y (both_left _ _ e)) ∙
+        ap (item y) (same_items xs ys (both_right _ _ e))
 
     pub same_entries : (es fs : Entries A) → entries_eq own_eq es fs ≡ true → es ≡ fs
     same_entries no_entries no_entries e = refl
     same_entries no_entries (entry l y fs) e = no e
     same_entries (entry k x es) no_entries e = no e
     same_entries (entry k x es) (entry l y fs) e =
-        ap (λ m. entry m x es) (texts k l (both_left _ _ e)) ∙ ap (λ z. entry l z es) (same_attr x y (both_left _ _ (both_right _ _ e))) ∙ ap (entry l y) (same_entries es fs (both_right _ _ (both_right _ _ e)))
+        ap (λ m. entry m x es) (texts k l (both_left _ _ e)) ∙
+        ap (λ z. entry l z es) (same_attr x y (both_left _ _ (both_right _ _ e))) ∙
+        ap (entry l y) (same_entries es fs (both_right _ _ (both_right _ _ e)))
 
 module _ {A : Type 0} (own_eq : A → A → Bool) (own_itself : (a : A) → own_eq a a ≡ true) where
   number_itself : (n : ℕ) → nat_eq n n ≡ true
@@ -137,7 +151,8 @@ module _ {A : Type 0} (own_eq : A → A → Bool) (own_itself : (a : A) → own_
     entries_itself (entry k x es) = both _ _ (text_itself k) (both _ _ (attr_itself x) (entries_itself es))
 
 -- equality of attributes, of lists of them and of their entries under keys is an equivalence
-module _ {A : Type 0} (own_eq : A → A → Bool) (same : (a b : A) → own_eq a b ≡ true → a ≡ b) (own : IsEquivalence own_eq) where
+module _ {A : Type 0} (own_eq : A → A → Bool) (same : (a b : A) → own_eq a b ≡ true →
+    a ≡ b) (own : IsEquivalence own_eq) where
   pub attr_equivalence : IsEquivalence (attr_eq own_eq)
   attr_equivalence = equivalence (attr_eq own_eq) (same_attr own_eq same) (attr_itself own_eq own.refl)
 

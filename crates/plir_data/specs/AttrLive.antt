@@ -1,7 +1,8 @@
 -- Attributes whose handles name types of a table.
 use Rattle.std.specs.Prelude.{ℕ, List, [], ◌∷◌, All}
 use Rattle.plir_data.specs.Types.{TypeView, AllLive}
-use Rattle.plir_data.specs.AttrView.{Leaf, integer, type_of, own, AttrView, leaf, dict, vec, Items, no_items, item, Entries, no_entries, entry}
+use Rattle.plir_data.specs.AttrView.{Leaf, integer, type_of, own, AttrView, leaf, dict, vec, Items, no_items, item}
+use Rattle.plir_data.specs.AttrView.{Entries, no_entries, entry}
 
 module _ {A : Type 0} where
   -- the type handles in a leaf
@@ -25,7 +26,8 @@ module _ {A T : Type 0} where
 
     pub AreEntriesLive : (own_handles : A → List ℕ) → List (TypeView T) → Entries A → Type 0
     AreEntriesLive own_handles types no_entries = Unit {0}
-    AreEntriesLive own_handles types (entry k x es) = IsAttrLive own_handles types x × AreEntriesLive own_handles types es
+    AreEntriesLive own_handles types (entry k x es) = IsAttrLive own_handles types x × AreEntriesLive own_handles types
+        es
 
   -- all type handles in the attributes of a dictionary name types of the table
   abbrev pub HandlesLive : (own_handles : A → List ℕ) → List (TypeView T) → List (List ℕ × AttrView A) → Type 0
@@ -33,4 +35,5 @@ module _ {A T : Type 0} where
 
 -- the attribute is live in each table in which all attributes of a dictionary are
 abbrev pub IsLiveWith : {A : Type 0} → (T : Type 0) → List (List ℕ × AttrView A) → AttrView A → Type 0
-IsLiveWith {A} T es a = (own_handles : A → List ℕ) (types : List (TypeView T)) → HandlesLive own_handles types es → IsAttrLive own_handles types a
+IsLiveWith {A} T es a = (own_handles : A → List ℕ) (types : List (TypeView T)) → HandlesLive own_handles types es →
+    IsAttrLive own_handles types a

@@ -1,5 +1,6 @@
 -- An attribute value as contracts see it.
-use Rattle.plir_data.specs.AttrView.{AttrView, leaf, dict, vec, identifier, string, bool, integer, unit, type_of, operand_segment_sizes, given_names, own, items_of, entries_of}
+use Rattle.plir_data.specs.AttrView.{AttrView, leaf, dict, vec, identifier, string, bool, integer, unit, type_of}
+use Rattle.plir_data.specs.AttrView.{operand_segment_sizes, given_names, own, items_of, entries_of}
 use Rattle.plir_data.specs.declared.attributes.AttrObj.{AttrObj}
 use Rattle.plir_data.specs.declared.attributes.AttrObj.TheVariants as A
 

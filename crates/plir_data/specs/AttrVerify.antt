@@ -12,7 +12,8 @@ module _ {T : Type 0} where
   is_of_width width _ = false
 
 module _ {A T : Type 0} (own_valid : A → Bool) (types : List (TypeView T)) where
-  -- the type of an integer and its value have one width; of the user's own the op set decides; what a dictionary holds isn't looked at
+  -- the type of an integer and its value have one width; of the user's own the op set decides; what a dictionary holds
+  -- isn't looked at
   abbrev pub leaf_is_valid : Leaf A → Bool
   leaf_is_valid (integer t width bits) = is_of_width width (type_at types t)
   leaf_is_valid (own a) = own_valid a

@@ -1,8 +1,9 @@
 -- Attributes as contracts see them.
 use Rattle.std.specs.Prelude.{ℕ, Bool, true, false, List, [], ◌∷◌, Option}
 
--- An attribute that holds no other: a name, a text by its bytes, a truth value, an integer by its type's handle and the width and bits of its value,
--- nothing, a type by its handle, sizes of operand segments, names that may be unset, or one of the user's own, A.
+-- An attribute that holds no other: a name, a text by its bytes, a truth value, an integer by its type's handle and the
+-- width and bits of its value, nothing, a type by its handle, sizes of operand segments, names that may be unset, or
+-- one of the user's own, A.
 pub data Leaf (A : Type 0) : Type 0 where
   identifier : List ℕ → Leaf A
   string : List ℕ → Leaf A

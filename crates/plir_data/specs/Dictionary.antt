@@ -18,7 +18,8 @@ module _ {V : Type 0} where
   -- the entries with v at a key, in place of what was there
   abbrev pub dict_put : List (List ℕ × V) → List ℕ → V → List (List ℕ × V)
   dict_put [] k v = (k, v) ∷ []
-  dict_put (e ∷ es) k v = match_ordering (slice_cmp nat_cmp k e.0) ((k, v) ∷ e ∷ es) ((e.0, v) ∷ es) (e ∷ dict_put es k v)
+  dict_put (e ∷ es) k v = match_ordering (slice_cmp nat_cmp k e.0) ((k, v) ∷ e ∷ es) ((e.0, v) ∷ es) (e ∷
+      dict_put es k v)
 
   -- the entries without a key
   abbrev pub dict_without : List (List ℕ × V) → List ℕ → List (List ℕ × V)

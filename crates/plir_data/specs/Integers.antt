@@ -17,7 +17,8 @@ signed_of width bits = if is_high width bits then negsuc (2 ^ width - 1 - bits) 
 
 -- a number as it is written in decimal digits, with a sign or without
 abbrev pub literal : (signed : Bool) (width bits : ℕ) → List ℕ
-literal signed width bits = if signed && is_high width bits then codes "-" ++ decimal (2 ^ width - bits) else decimal bits
+literal signed width bits = if signed && is_high width bits then codes "-" ++ decimal (2 ^ width - bits)
+    else decimal bits
 
 -- the widths that an integer may have
 abbrev pub is_width : ℕ → Bool

@@ -7,16 +7,18 @@ use Rattle.plir_data.specs.TypeTree.{tree_over, tree_of}
 use Rattle.plir_data.specs.Types.{TypeView, type_at}
 
 module _ {V : Type 0} where
-  -- One list becomes the other in n steps, each of which exchanges two neighbours with different keys. So any two lists with
-  -- the same pairs are reordered, where the keys are distinct.
+  -- One list becomes the other in n steps, each of which exchanges two neighbours with different keys. So any two lists
+  -- with the same pairs are reordered, where the keys are distinct.
   abbrev pub IsReordered : ℕ → List (List ℕ × V) → List (List ℕ × V) → Type 0
   IsReordered zero ps qs = ps ≡ qs
   IsReordered (suc n) ps qs =
-      (front : List (List ℕ × V)) × (p : List ℕ × V) × (q : List ℕ × V) × (back : List (List ℕ × V)) × (is_key p.0 q.0 ≡ false) × (ps ≡ front ++ p ∷ q ∷ back) × IsReordered n (front ++ q ∷ p ∷ back) qs
+      (front : List (List ℕ × V)) × (p : List ℕ × V) × (q : List ℕ × V) × (back : List (List ℕ × V)) ×
+      (is_key p.0 q.0 ≡ false) × (ps ≡ front ++ p ∷ q ∷ back) × IsReordered n (front ++ q ∷ p ∷ back) qs
 
 -- a dictionary is live as an attribute exactly where the attributes in it are
 abbrev pub AreLiveByEntries : {A T : Type 0} → (A → List ℕ) → List (TypeView T) → Type 0
-AreLiveByEntries {A} own_handles types = (es : List (List ℕ × AttrView A)) → IsAttrLive own_handles types (dict (entries_of es)) ↔ HandlesLive own_handles types es
+AreLiveByEntries {A} own_handles types = (es : List (List ℕ × AttrView A)) →
+    IsAttrLive own_handles types (dict (entries_of es)) ↔ HandlesLive own_handles types es
 
 -- the order in which pairs of different keys come isn't seen in their dictionary
 abbrev pub OrderIsNotSeen : Type 0 → Type 0
@@ -28,4 +30,5 @@ IsDictOfItself V = (es : List (List ℕ × V)) → IsDictionary es → dict_of e
 
 -- the tree of each handle of the table is that of its type, over the trees of the handles that the type holds
 abbrev pub IsMadeOfTrees : {T : Type 0} → List (TypeView T) → Type 0
-IsMadeOfTrees types = (handle : ℕ) (t : TypeView _) → type_at types handle ≡ Some t → tree_of types handle ≡ tree_over (tree_of types) t
+IsMadeOfTrees types = (handle : ℕ) (t : TypeView _) → type_at types handle ≡ Some t →
+    tree_of types handle ≡ tree_over (tree_of types) t

@@ -1,7 +1,8 @@
 -- What the contracts of this crate cite.
 --
 --   Identifier   is_identifier
---   Types        TypeView T: a type as contracts see it; IsLive, AllLive, type_at, handles_of, IsInstantiated, IsTypeTable
+--   Types        TypeView T: a type as contracts see it; IsLive, AllLive, type_at, handles_of, IsInstantiated,
+--   IsTypeTable
 --   Integers     bits_of, signed_of, literal: integers of some bits, as numbers and as digits
 --   TypeSeen     type_view: a `TypeObj` as a TypeView
 --   TypeNames    the names of the marks of builtin types
@@ -17,7 +18,8 @@
 --   AttrLive     IsAttrLive: the handles in an attribute name types of a table; HandlesLive: those in a dictionary
 --   AttrVerify   attr_is_valid, IsRefusal: which attributes are valid, and how others are refused
 --   TypeTree, TypeText   tree_of, type_text: a type as a whole, and its text
---   NamesLent, EntryLent   LendsNames, LendsEntry: what becomes of given names, and of a dictionary's entry, that are lent
+--   NamesLent, EntryLent   LendsNames, LendsEntry: what becomes of given names, and of a dictionary's entry, that are
+--   lent
 --   Laws         IsReordered, OrderIsNotSeen, IsDictOfItself: laws of dictionaries; IsMadeOfTrees: a law of types
 --   AttrCode, AttrFalls, AttrLaws   what the prover needs of attributes that hold attributes
 pub mod Identifier

@@ -22,7 +22,8 @@ module _ {T : Type 0} where
   -- a type, where `grown` gives the trees of the types that it names
   abbrev pub tree_over : (grown : ℕ → TypeTree T) → TypeView T → TypeTree T
   tree_over grown (integer s w) = integer_tree s w
-  tree_over grown (function arguments results) = function_tree (trees_of (map grown arguments)) (trees_of (map grown results))
+  tree_over grown (function arguments results) =
+      function_tree (trees_of (map grown arguments)) (trees_of (map grown results))
   tree_over grown unit = unit_tree
   tree_over grown (own t) = own_tree t
 
@@ -35,6 +36,7 @@ module _ {T : Type 0} where
   tree_within zero types handle = unit_tree
   tree_within (suc n) types handle = tree_if (tree_within n types) (type_at types handle)
 
-  -- The tree of a handle. The handles that a type holds are smaller than its own, so no more than that many types stand above one another.
+  -- The tree of a handle. The handles that a type holds are smaller than its own, so no more than that many types stand
+  -- above one another.
   abbrev pub tree_of : List (TypeView T) → ℕ → TypeTree T
   tree_of types handle = tree_within (suc handle) types handle

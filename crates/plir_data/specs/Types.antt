@@ -1,10 +1,12 @@
 -- Types as contracts see them, and the table that holds each type once.
-use Rattle.std.specs.Prelude.{◌≡◌, ◌<◌, ◌⊎◌, ℕ, List, [], ◌∷◌, ◌++◌, length, All, Contains, Option, Some, None, Bool, true, false, nat_lt, slice_get, codes}
+use Rattle.std.specs.Prelude.{◌≡◌, ◌<◌, ◌⊎◌, ℕ, List, [], ◌∷◌, ◌++◌, length, All, Contains, Option, Some, None, Bool}
+use Rattle.std.specs.Prelude.{true, false, nat_lt, slice_get, codes}
 use Rattle.std.specs.Option.{option_map_or}
 use Rattle.plir_data.specs.declared.types.Signedness.{Signedness}
 use Rattle.plir_data.specs.declared.types.Signedness.TheVariants.{Signed, Unsigned, Signless}
 
--- A type: an integer type of some bits, a function type by the handles of its arguments' and results' types, the unit type, or one of the user's own, T.
+-- A type: an integer type of some bits, a function type by the handles of its arguments' and results' types, the unit
+-- type, or one of the user's own, T.
 pub data TypeView (T : Type 0) : Type 0 where
   integer : Signedness → (width : ℕ) → TypeView T
   function : (arguments results : List ℕ) → TypeView T
@@ -35,15 +37,18 @@ module _ {T : Type 0} where
   handles_of own_handles unit = []
   handles_of own_handles (own t) = own_handles t
 
-  -- From the types `old` to `new`: `handle` names `type` now. If the type was there nothing has changed, else it has come last.
-  pub record IsInstantiated (old : List (TypeView T)) (type : TypeView T) (handle : ℕ) (new : List (TypeView T)) : Type 0 where
+  -- From the types `old` to `new`: `handle` names `type` now. If the type was there nothing has changed, else it has
+  -- come last.
+  pub record IsInstantiated (old : List (TypeView T)) (type : TypeView T) (handle : ℕ) (new : List (TypeView T)) : Type
+      0 where
     pub named : type_at new handle ≡ Some type
     pub grown : IsGrown old type new
 
   -- No type stands in the table twice, and the handles that a type holds name types before it.
   pub record IsTypeTable (own_handles : T → List ℕ) (types : List (TypeView T)) : Type 0 where
     pub once : (type : TypeView T) (i j : ℕ) → type_at types i ≡ Some type → type_at types j ≡ Some type → i ≡ j
-    pub before : (type : TypeView T) (i : ℕ) → type_at types i ≡ Some type → All (λ handle. handle < i) (handles_of own_handles type)
+    pub before : (type : TypeView T) (i : ℕ) → type_at types i ≡ Some type →
+        All (λ handle. handle < i) (handles_of own_handles type)
 
   -- the id of a type, as `dialect.name`; `own_id` gives that of the user's own
   abbrev pub type_id : (own_id : T → List ℕ) → TypeView T → List ℕ

@@ -1,6 +1,7 @@
 //! Integers of 1 to 64 bits.
 
-ghost use Rattle.std.specs.Prelude.{◌≡◌, ◌↔◌, ◌+◌, ◌-◌, ◌%◌, ◌^◌, ◌<◌, ◌≤◌, ◌++◌, IfOk, OnOk, IfSome, IsTrue, is_some, pos, string_bytes};
+ghost use Rattle.std.specs.Prelude.{◌≡◌, ◌↔◌, ◌+◌, ◌-◌, ◌%◌, ◌^◌, ◌<◌, ◌≤◌, ◌++◌, IfOk, OnOk, IfSome, IsTrue, is_some};
+ghost use Rattle.std.specs.Prelude.{pos, string_bytes};
 ghost use Rattle.std.specs.Fmt.{decimal};
 ghost use Rattle.plir_data.specs.Integers.{bits_of, is_high, is_width, signed_of, literal};
 

@@ -20,7 +20,8 @@ impl<D: OpSet> PartialEq for AttrObj<D> {
 
     ghost eq = { λ x y. attr_eq D.Attr.eq (attr_view x) (attr_view y) };
 
-    ghost laws = { Cmp.on_per attr_view (Cmp.partial_equiv_from_equiv (attr_equivalence D.Attr.eq D.attr_eq_exact D.Attr.Eq.laws)) };
+    ghost laws = { Cmp.on_per attr_view (Cmp.partial_equiv_from_equiv (attr_equivalence D.Attr.eq D.attr_eq_exact
+        D.Attr.Eq.laws)) };
 
     fn eq(&self, other: &Self) -> bool {
         is_same(self, other)
@@ -43,7 +44,8 @@ impl<D: OpSet> PartialEq for AttributeDict<D> {
 
     ghost eq = { λ x y. entries_eq D.Attr.eq (entries_of x) (entries_of y) };
 
-    ghost laws = { Cmp.on_per entries_of (Cmp.partial_equiv_from_equiv (entries_equivalence D.Attr.eq D.attr_eq_exact D.Attr.Eq.laws)) };
+    ghost laws = { Cmp.on_per entries_of (Cmp.partial_equiv_from_equiv (entries_equivalence D.Attr.eq D.attr_eq_exact
+        D.Attr.Eq.laws)) };
 
     fn eq(&self, other: &Self) -> bool {
         are_same_entries(&self.entries, &other.entries)
@@ -66,7 +68,8 @@ impl<D: OpSet> PartialEq for DictAttr<D> {
 
     ghost eq = { λ x y. entries_eq D.Attr.eq (entries_of x) (entries_of y) };
 
-    ghost laws = { Cmp.on_per entries_of (Cmp.partial_equiv_from_equiv (entries_equivalence D.Attr.eq D.attr_eq_exact D.Attr.Eq.laws)) };
+    ghost laws = { Cmp.on_per entries_of (Cmp.partial_equiv_from_equiv (entries_equivalence D.Attr.eq D.attr_eq_exact
+        D.Attr.Eq.laws)) };
 
     fn eq(&self, other: &Self) -> bool {
         are_same_dicts(&self.0, &other.0)
@@ -89,7 +92,8 @@ impl<D: OpSet> PartialEq for VecAttr<D> {
 
     ghost eq = { λ x y. items_eq D.Attr.eq (items_of x) (items_of y) };
 
-    ghost laws = { Cmp.on_per items_of (Cmp.partial_equiv_from_equiv (items_equivalence D.Attr.eq D.attr_eq_exact D.Attr.Eq.laws)) };
+    ghost laws = { Cmp.on_per items_of (Cmp.partial_equiv_from_equiv (items_equivalence D.Attr.eq D.attr_eq_exact
+        D.Attr.Eq.laws)) };
 
     fn eq(&self, other: &Self) -> bool {
         are_same_items(self.0.as_slice(), other.0.as_slice())

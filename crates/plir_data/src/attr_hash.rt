@@ -22,7 +22,8 @@ impl<D: OpSet> Hash for AttrObj<D> {
 
     ghost hash_input = { λ x. attr_words D.Attr.hash_input (attr_view x) };
 
-    ghost respects_eq = { λ x y e. ap (attr_words D.Attr.hash_input) (same_attr D.Attr.eq D.attr_eq_exact (attr_view x) (attr_view y) e) };
+    ghost respects_eq = { λ x y e. ap (attr_words D.Attr.hash_input) (same_attr D.Attr.eq D.attr_eq_exact (attr_view x)
+        (attr_view y) e) };
 
     fn hash<H: Hasher>(&self, state: &mut H) {
         self.feed(state);
@@ -37,7 +38,8 @@ impl<D: OpSet> Hash for AttributeDict<D> {
 
     ghost hash_input = { λ x. entries_words D.Attr.hash_input (entries_of x) };
 
-    ghost respects_eq = { λ x y e. ap (entries_words D.Attr.hash_input) (same_entries D.Attr.eq D.attr_eq_exact (entries_of x) (entries_of y) e) };
+    ghost respects_eq = { λ x y e. ap (entries_words D.Attr.hash_input) (same_entries D.Attr.eq D.attr_eq_exact
+        (entries_of x) (entries_of y) e) };
 
     fn hash<H: Hasher>(&self, state: &mut H) {
         self.feed(state);
@@ -52,7 +54,8 @@ impl<D: OpSet> Hash for DictAttr<D> {
 
     ghost hash_input = { λ x. entries_words D.Attr.hash_input (entries_of x) };
 
-    ghost respects_eq = { λ x y e. ap (entries_words D.Attr.hash_input) (same_entries D.Attr.eq D.attr_eq_exact (entries_of x) (entries_of y) e) };
+    ghost respects_eq = { λ x y e. ap (entries_words D.Attr.hash_input) (same_entries D.Attr.eq D.attr_eq_exact
+        (entries_of x) (entries_of y) e) };
 
     fn hash<H: Hasher>(&self, state: &mut H) {
         self.0.feed(state);
@@ -67,7 +70,8 @@ impl<D: OpSet> Hash for VecAttr<D> {
 
     ghost hash_input = { λ x. items_words D.Attr.hash_input (items_of x) };
 
-    ghost respects_eq = { λ x y e. ap (items_words D.Attr.hash_input) (same_items D.Attr.eq D.attr_eq_exact (items_of x) (items_of y) e) };
+    ghost respects_eq = { λ x y e. ap (items_words D.Attr.hash_input) (same_items D.Attr.eq D.attr_eq_exact (items_of x)
+        (items_of y) e) };
 
     fn hash<H: Hasher>(&self, state: &mut H) {
         self.feed(state);

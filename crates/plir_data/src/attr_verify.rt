@@ -3,7 +3,8 @@
 ghost use Rattle.std.specs.Prelude.{◌≡◌, ⊤, Ok};
 ghost use Rattle.plir_data.specs.AttrLive.{IsAttrLive, AreItemsLive};
 ghost use Rattle.plir_data.specs.AttrSeen.{attr_view};
-ghost use Rattle.plir_data.specs.AttrVerify.{is_of_width, attr_is_valid, items_are_valid, IsLeafRefusal, IsRefusal, IsFirstRefusal};
+ghost use Rattle.plir_data.specs.AttrVerify.{is_of_width, attr_is_valid, items_are_valid, IsLeafRefusal, IsRefusal};
+ghost use Rattle.plir_data.specs.AttrVerify.{IsFirstRefusal};
 ghost use Rattle.plir_data.specs.AttrView.{items_of, own};
 ghost use Rattle.plir_data.specs.Types.{IsLive, AllLive, type_at};
 ghost use Rattle.plir_data.specs.Verify.{IsVerdict, IsSureVerdict};
@@ -41,7 +42,8 @@ impl IntegerAttr {
         ctx: &C,
     ) -> Result<(), VerifyErr<IntegerAttrBitwidthErr>>
         requires { IsLive (C.types ctx.now) self.now.ty }
-        ensures { IsSureVerdict (is_of_width self.now.value.width (type_at (C.types ctx.now) self.now.ty)) (λ _. ⊤) result }
+        ensures { IsSureVerdict (is_of_width self.now.value.width (type_at (C.types ctx.now) self.now.ty)) (λ _. ⊤)
+            result }
     {
         if self.is_of_type_width(ctx) {
             return Ok(());
@@ -76,7 +78,9 @@ impl<D: OpSet> AttrObj<D> {
         ctx: &C,
     ) -> Result<(), VerifyErr<AttrVerifyErr<D::Err>>>
         requires { IsAttrLive D.attr_handles (C.types ctx.now) (attr_view self.now) }
-        ensures { IsVerdict (attr_is_valid (D.attr_is_valid (C.types ctx.now)) (C.types ctx.now) (attr_view self.now)) (IsRefusal (D.attr_is_valid (C.types ctx.now)) (D.attr_refusal (C.types ctx.now)) (C.types ctx.now) (attr_view self.now)) result }
+        ensures { IsVerdict (attr_is_valid (D.attr_is_valid (C.types ctx.now)) (C.types ctx.now) (attr_view self.now))
+            (IsRefusal (D.attr_is_valid (C.types ctx.now)) (D.attr_refusal (C.types ctx.now)) (C.types ctx.now)
+            (attr_view self.now)) result }
     {
         match self {
             AttrObj::Integer(value) => verify_integer(value, ctx),
@@ -123,7 +127,9 @@ impl<D: OpSet> VecAttr<D> {
         ctx: &C,
     ) -> Result<(), VerifyErr<AttrVerifyErr<D::Err>>>
         requires { AreItemsLive D.attr_handles (C.types ctx.now) (items_of self.now) }
-        ensures { IsVerdict (items_are_valid (D.attr_is_valid (C.types ctx.now)) (C.types ctx.now) (items_of self.now)) (IsFirstRefusal (D.attr_is_valid (C.types ctx.now)) (D.attr_refusal (C.types ctx.now)) (C.types ctx.now) (items_of self.now)) result }
+        ensures { IsVerdict (items_are_valid (D.attr_is_valid (C.types ctx.now)) (C.types ctx.now) (items_of self.now))
+            (IsFirstRefusal (D.attr_is_valid (C.types ctx.now)) (D.attr_refusal (C.types ctx.now)) (C.types ctx.now)
+            (items_of self.now)) result }
     {
         let items = self.0.as_slice();
         'items: for item in items {
@@ -140,7 +146,8 @@ fn verify_integer<D: OpSet, C: TypeStore<D>>(
     ctx: &C,
 ) -> Result<(), VerifyErr<AttrVerifyErr<D::Err>>>
     requires { IsLive (C.types ctx.now) value.now.ty }
-    ensures { IsVerdict (is_of_width value.now.value.width (type_at (C.types ctx.now) value.now.ty)) (λ err. err ≡ IntegerAttrBitwidth (record {})) result }
+    ensures { IsVerdict (is_of_width value.now.value.width (type_at (C.types ctx.now) value.now.ty))
+        (λ err. err ≡ IntegerAttrBitwidth (record {})) result }
 {
     if value.is_of_type_width(ctx) {
         return Ok(());
@@ -157,7 +164,8 @@ fn verify_own<D: OpSet, C: TypeStore<D>>(
     ctx: &C,
 ) -> Result<(), VerifyErr<AttrVerifyErr<D::Err>>>
     requires { AllLive (C.types ctx.now) (D.attr_handles value.now) }
-    ensures { IsVerdict (D.attr_is_valid (C.types ctx.now) value.now) (IsLeafRefusal (D.attr_refusal (C.types ctx.now)) (own value.now)) result }
+    ensures { IsVerdict (D.attr_is_valid (C.types ctx.now) value.now) (IsLeafRefusal (D.attr_refusal (C.types ctx.now))
+        (own value.now)) result }
 {
     match D::verify_attr(alloc, value, ctx) {
         Ok(()) => Ok(()),

@@ -1,6 +1,7 @@
 //! Attributes under keys.
 
-ghost use Rattle.std.specs.Prelude.{◌≡◌, ◌↔◌, ℕ, List, [], Option, Some, None, OnOk, OnErr, IfOk, IfErr, IfSome, IsTrue, length, option_map};
+ghost use Rattle.std.specs.Prelude.{◌≡◌, ◌↔◌, ℕ, List, [], Option, Some, None, OnOk, OnErr, IfOk, IfErr, IfSome};
+ghost use Rattle.std.specs.Prelude.{IsTrue, length, option_map};
 ghost use Rattle.plir_data.specs.AttrLive.{IsLiveWith};
 ghost use Rattle.plir_data.specs.AttrSeen.{attr_view};
 ghost use Rattle.plir_data.specs.DictSeen.{pairs_view};
@@ -46,7 +47,11 @@ impl<D: OpSet> Model for AttributeDict<D> {
 
     ghost use Rattle.plir_data.specs.AttrFalls.{deep_le, most_entries};
 
-    ghost size_decreases = { λ a h. omega (arith, most_entries _ (deep_le D.OpSet D.Attr.PartialEq D.Attr.Hash D.Attr.Debug D.Ty.PartialEq D.Ty.Hash D.Ty.Debug D.Err.Debug D.Err.Display) a.entries.entries) };
+    ghost size_decreases = { λ a h. omega (
+      arith,
+      most_entries _ (deep_le D.OpSet D.Attr.PartialEq D.Attr.Hash D.Attr.Debug D.Ty.PartialEq D.Ty.Hash D.Ty.Debug
+          D.Err.Debug D.Err.Display) a.entries.entries,
+    ) };
 }
 
 impl<D: OpSet> AttributeDict<D> {
@@ -86,7 +91,8 @@ impl<D: OpSet> AttributeDict<D> {
 
     /// The attribute under a key, to be changed.
     pub fn get_mut(&mut self, key: &str) -> Option<&mut AttrObj<D>>
-        ensures* writes_back { sem 𝓛 (LendsEntry D.row D.Kind.row D.Attr.row D.Ty.row D.Err.row D.OpSet D.Attr.Hash D.Attr.Debug D.Ty.Hash D.Ty.Debug D.Err.Debug D.Err.Display self.entry key.now result) }
+        ensures* writes_back { sem 𝓛 (LendsEntry D.row D.Kind.row D.Attr.row D.Ty.row D.Err.row D.OpSet D.Attr.Hash
+            D.Attr.Debug D.Ty.Hash D.Ty.Debug D.Err.Debug D.Err.Display self.entry key.now result) }
         ensures value { option_map (λ a. attr_view a.now) result ≡ dict_get self.old key.now }
     {
         self.entries.get_mut(key)
@@ -101,8 +107,8 @@ impl<D: OpSet> AttributeDict<D> {
         Ok(())
     }
 
-    /// Puts an attribute in place of the one under a key, and answers that one. Where there is none, the new one comes back
-    /// and nothing has changed.
+    /// Puts an attribute in place of the one under a key, and answers that one. Where there is none, the new one comes
+    /// back and nothing has changed.
     pub fn replace(&mut self, key: &str, value: AttrObj<D>) -> Result<AttrObj<D>, AttrObj<D>>
         ensures found { IfOk result (λ a. dict_get self.old key.now ≡ Some (attr_view a)) }
         ensures put { OnOk result (self.new ≡ dict_put self.old key.now (attr_view value)) }

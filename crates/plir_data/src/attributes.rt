@@ -1,4 +1,5 @@
-//! Attributes: values that operations and blocks carry under keys. Here those that are lists or dictionaries, and the enum of all.
+//! Attributes: values that operations and blocks carry under keys. Here those that are lists or dictionaries, and the
+//! um of all.
 
 ghost use Rattle.std.specs.Prelude.{◌≡◌, ℕ, List, [], Option, IfOk, IfSome, OnOk, OnErr, option_map, map};
 ghost use Rattle.plir_data.specs.AttrLive.{IsLiveWith};
@@ -87,7 +88,8 @@ impl<D: OpSet> DictAttr<D> {
 
     /// The attribute under a key, to be changed.
     pub fn lookup_mut(&mut self, key: &Identifier) -> Option<&mut AttrObj<D>>
-        ensures* writes_back { sem 𝓛 (LendsDictEntry D.row D.Kind.row D.Attr.row D.Ty.row D.Err.row D.OpSet D.Attr.Hash D.Attr.Debug D.Ty.Hash D.Ty.Debug D.Err.Debug D.Err.Display self.entry key.now result) }
+        ensures* writes_back { sem 𝓛 (LendsDictEntry D.row D.Kind.row D.Attr.row D.Ty.row D.Err.row D.OpSet D.Attr.Hash
+            D.Attr.Debug D.Ty.Hash D.Ty.Debug D.Err.Debug D.Err.Display self.entry key.now result) }
         ensures value { option_map (λ a. attr_view a.now) result ≡ dict_get self.old key.now }
     {
         self.0.get_mut(key.as_str())
@@ -96,8 +98,9 @@ impl<D: OpSet> DictAttr<D> {
 
 /// A list of attributes.
 ///
-/// Attributes that stand in one another are let go, copied, compared, hashed, printed and verified by calls within calls, so a
-/// program's stack bounds their depth: 5,000 levels are safe in a stack of 8 MB, and 20,000 overflow it, which ends the program.
+/// Attributes that stand in one another are let go, copied, compared, hashed, printed and verified by calls within
+/// calls, so a program's stack bounds their depth: 5,000 levels are safe in a stack of 8 MB, and 20,000 overflow it,
+/// which ends the program.
 #[cycle(attr)]
 #[derive(Drop)]
 #[derive_where(Debug)]
@@ -123,7 +126,11 @@ impl<D: OpSet> Model for VecAttr<D> {
 
     ghost use Rattle.plir_data.specs.AttrFalls.{deep_le, most_items};
 
-    ghost size_decreases = { λ a h. omega (arith, most_items _ (deep_le D.OpSet D.Attr.PartialEq D.Attr.Hash D.Attr.Debug D.Ty.PartialEq D.Ty.Hash D.Ty.Debug D.Err.Debug D.Err.Display) a.0.items) };
+    ghost size_decreases = { λ a h. omega (
+      arith,
+      most_items _ (deep_le D.OpSet D.Attr.PartialEq D.Attr.Hash D.Attr.Debug D.Ty.PartialEq D.Ty.Hash D.Ty.Debug
+          D.Err.Debug D.Err.Display) a.0.items,
+    ) };
 }
 
 impl<D: OpSet> VecAttr<D> {
@@ -299,8 +306,8 @@ impl Hash for GivenNamesAttr {
 
 /// An attribute.
 ///
-/// One that holds others at more than 5,000 levels may overflow the stack as it is let go, copied, compared, hashed, printed
-/// or verified, as [`VecAttr`] says.
+/// One that holds others at more than 5,000 levels may overflow the stack as it is let go, copied, compared, hashed,
+/// printed or verified, as [`VecAttr`] says.
 #[cycle(attr)]
 #[derive(Drop)]
 #[derive_where(Debug)]

@@ -49,7 +49,8 @@ pub trait OwnKind: Copy {
         ensures { result.now ≡ id self };
 }
 
-/// Stands where an op set has operation kinds, attributes and types of its own: it has no meaning, and the library makes none.
+/// Stands where an op set has operation kinds, attributes and types of its own: it has no meaning, and the library
+/// makes none.
 #[derive(Clone, Copy, PartialEq, Eq, Hash, Debug)]
 pub struct NoMeaning;
 

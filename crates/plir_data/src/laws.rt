@@ -40,8 +40,8 @@ pub fn dictionary_is_that_of_its_entries<D: OpSet>()
     ensures { IsDictOfItself (AttrView D.Attr) }
 {}
 
-/// A dictionary is live as an attribute exactly where the attributes in it are: one wants it where a dictionary that is tested
-/// as a part of an attribute is handed to what asks its entries, or the other way round.
+/// A dictionary is live as an attribute exactly where the attributes in it are: one wants it where a dictionary that is
+/// tested as a part of an attribute is handed to what asks its entries, or the other way round.
 pub fn dictionaries_are_live_by_their_entries<D: OpSet>()
     ensures { (types : List (TypeView D.Ty)) → AreLiveByEntries D.attr_handles types }
 {}

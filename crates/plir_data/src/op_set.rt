@@ -1,6 +1,7 @@
 //! What a user of the library adds to it: operation kinds, attributes and types of their own.
 
-ghost use Rattle.std.specs.Prelude.{◌≡◌, ℕ, List, Bool, true, Option, Some, IfOk, IfErr, OnOk, IsTrue, ◌↔◌, IsOk, Contains, All, option_map, string_bytes};
+ghost use Rattle.std.specs.Prelude.{◌≡◌, ℕ, List, Bool, true, Option, Some, IfOk, IfErr, OnOk, IsTrue, ◌↔◌, IsOk};
+ghost use Rattle.std.specs.Prelude.{Contains, All, option_map, string_bytes};
 ghost use Rattle.plir_data.specs.Types.{TypeView, AllLive};
 ghost use Rattle.plir_data.specs.Verify.{IsVerdict};
 
@@ -161,7 +162,9 @@ pub trait OpSet: Sized {
 
     ghost attr_type_held: { (a : Self.Attr) (h : ℕ) → attr_type a ≡ Some h → Contains (attr_handles a) h };
 
-    ghost arguments_held: { (t : Self.Ty) (p : List ℕ × List ℕ) (h : ℕ) → function_sig t ≡ Some p → Contains p.0 h → Contains (type_handles t) h };
+    ghost arguments_held: { (t : Self.Ty) (p : List ℕ × List ℕ) (h : ℕ) → function_sig t ≡ Some p → Contains p.0 h →
+        Contains (type_handles t) h };
 
-    ghost results_held: { (t : Self.Ty) (p : List ℕ × List ℕ) (h : ℕ) → function_sig t ≡ Some p → Contains p.1 h → Contains (type_handles t) h };
+    ghost results_held: { (t : Self.Ty) (p : List ℕ × List ℕ) (h : ℕ) → function_sig t ≡ Some p → Contains p.1 h →
+        Contains (type_handles t) h };
 }

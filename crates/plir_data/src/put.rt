@@ -44,7 +44,8 @@ pub fn put_spaced(out: &mut String, text: &str) -> Result<(), Memory>
 
 /// Puts an integer type without its id, as `si32`.
 pub fn put_integer_text(out: &mut String, ty: &IntegerType) -> Result<(), Memory>
-    ensures ok { OnOk result (string_bytes out.new ≡ string_bytes out.old ++ integer_text ty.now.signedness ty.now.width) }
+    ensures ok { OnOk result (string_bytes out.new ≡ string_bytes out.old ++
+        integer_text ty.now.signedness ty.now.width) }
     ensures err { OnErr result (string_bytes out.new ≡ string_bytes out.old) }
 {
     let mut whole = String::new(*out.allocator());

@@ -17,12 +17,14 @@ pub trait TypeStore<D: OpSet> {
     // Nothing but the types may differ.
     ghost same_besides: { Self → Self → Type 0 };
 
-    /// The table of types. No type stands in it twice: equal handles name equal types, and equal types have equal handles.
+    /// The table of types. No type stands in it twice: equal handles name equal types, and equal types have equal
+    /// handles.
     fn types(&self) -> &TypeTable<D>
         ensures value { result.now ≡ types self.now }
         ensures whole { IsTypeTable D.type_handles (types self.now) };
 
-    /// The handle of a type: if the table hasn't it yet, it comes last. Nothing else changes, and after a refusal nothing at all.
+    /// The handle of a type: if the table hasn't it yet, it comes last. Nothing else changes, and after a refusal
+    /// nothing at all.
     fn instantiate(&mut self, value: TypeObj<D>) -> Result<TypeHandle, Memory>
         requires { AllLive (types self.old) (handles_of D.type_handles (type_view value)) }
         ensures ok { IfOk result (λ h. IsInstantiated (types self.old) (type_view value) h (types self.new)) }

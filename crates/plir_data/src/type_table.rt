@@ -1,7 +1,8 @@
 //! The table of types.
 
 ghost use Rattle.std.specs.Prelude.{◌≡◌, ◌↔◌, ℕ, List, [], Option, Some, OnErr, IfOk, IsTrue, length, slice_get, ⊤};
-ghost use Rattle.plir_data.specs.Types.{TypeView, IsLive, AllLive, IsInstantiated, IsTypeTable, IsGrown, handles_of, type_at};
+ghost use Rattle.plir_data.specs.Types.{TypeView, IsLive, AllLive, IsInstantiated, IsTypeTable, IsGrown, handles_of};
+ghost use Rattle.plir_data.specs.Types.{type_at};
 ghost use Rattle.plir_data.specs.TypeSeen.{type_view};
 
 use crate::memory::Memory;

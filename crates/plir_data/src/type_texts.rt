@@ -33,7 +33,8 @@ fn put_type<D: OpSet, C: TypeStore<D>>(
     handle: TypeHandle,
 ) -> Result<(), Memory>
     requires { IsLive (C.types ctx.now) handle }
-    ensures { OnOk result (string_bytes out.new ≡ string_bytes out.old ++ type_text D.type_id D.type_body_text (C.types ctx.now) handle) }
+    ensures { OnOk result (string_bytes out.new ≡ string_bytes out.old ++
+        type_text D.type_id D.type_body_text (C.types ctx.now) handle) }
 {
     match ctx.types().get(handle) {
         TypeObj::Integer(ty) => put_integer_type(out, ty),
@@ -51,7 +52,8 @@ fn put_function_type<D: OpSet, C: TypeStore<D>>(
     ty: &FunctionType,
 ) -> Result<(), Memory>
     requires { AllLive (C.types ctx.now) (ty.now.0.0 ++ ty.now.0.1) }
-    ensures { OnOk result (string_bytes out.new ≡ string_bytes out.old ++ type_text_over D.type_id D.type_body_text (C.types ctx.now) (function ty.now.0.0 ty.now.0.1)) }
+    ensures { OnOk result (string_bytes out.new ≡ string_bytes out.old ++
+        type_text_over D.type_id D.type_body_text (C.types ctx.now) (function ty.now.0.0 ty.now.0.1)) }
 {
     put(out, "builtin.function <(")?;
     put_types(out, alloc, ctx, ty.arg_types())?;
@@ -69,7 +71,8 @@ fn put_types<D: OpSet, C: TypeStore<D>>(
     handles: &[TypeHandle],
 ) -> Result<(), Memory>
     requires { AllLive (C.types ctx.now) handles.now }
-    ensures { OnOk result (string_bytes out.new ≡ string_bytes out.old ++ types_text D.type_id D.type_body_text (C.types ctx.now) handles.now) }
+    ensures { OnOk result (string_bytes out.new ≡ string_bytes out.old ++
+        types_text D.type_id D.type_body_text (C.types ctx.now) handles.now) }
 {
     let mut is_first = true;
     'handles: for handle in handles {
@@ -87,7 +90,8 @@ fn put_own_type<D: OpSet, C: TypeStore<D>>(
     ty: &D::Ty,
 ) -> Result<(), Memory>
     requires { AllLive (C.types ctx.now) (D.type_handles ty.now) }
-    ensures { OnOk result (string_bytes out.new ≡ string_bytes out.old ++ (D.type_id ty.now ++ spaced (D.type_body_text (C.types ctx.now) ty.now))) }
+    ensures { OnOk result (string_bytes out.new ≡ string_bytes out.old ++
+        (D.type_id ty.now ++ spaced (D.type_body_text (C.types ctx.now) ty.now))) }
 {
     let body = D::type_body_text(alloc, ty, ctx)?;
     put(out, D::type_id(ty))?;
@@ -96,7 +100,8 @@ fn put_own_type<D: OpSet, C: TypeStore<D>>(
 }
 
 fn put_integer_type(out: &mut String, ty: &IntegerType) -> Result<(), Memory>
-    ensures { OnOk result (string_bytes out.new ≡ string_bytes out.old ++ (codes "builtin.integer " ++ integer_text ty.now.signedness ty.now.width)) }
+    ensures { OnOk result (string_bytes out.new ≡ string_bytes out.old ++
+        (codes "builtin.integer " ++ integer_text ty.now.signedness ty.now.width)) }
 {
     put(out, "builtin.integer ")?;
     put_integer_text(out, ty)

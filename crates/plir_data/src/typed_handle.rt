@@ -1,7 +1,8 @@
 //! Handles of types that are known to be of one kind, and the marks of kinds.
 
 ghost use Rattle.std.specs.Prelude.{◌≡◌, ◌↔◌, IsTrue, ℕ, List, Bool, true, Some, IfSome, IsSome, is_some, option_map};
-ghost use Rattle.plir_data.specs.Types.{TypeView, integer, function, unit, IsLive, IsMarked, type_at, signature_of, is_integer, is_function, is_unit, type_id};
+ghost use Rattle.plir_data.specs.Types.{TypeView, integer, function, unit, IsLive, IsMarked, type_at, signature_of};
+ghost use Rattle.plir_data.specs.Types.{is_integer, is_function, is_unit, type_id};
 ghost use Rattle.plir_data.specs.TypeSeen.{type_view};
 
 use crate::op_set::OpSet;

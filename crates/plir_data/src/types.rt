@@ -1,7 +1,8 @@
 //! Types: integers of some bits, functions, the unit type, and the user's own.
 
 ghost use Rattle.std.specs.Prelude.{◌≡◌, ◌↔◌, ℕ, List, ◌++◌, IfOk, OnErr, IsTrue, option_map};
-ghost use Rattle.plir_data.specs.Types.{AllLive, IsInstantiated, prints_as_signed, signature_of, integer, function, unit};
+ghost use Rattle.plir_data.specs.Types.{AllLive, IsInstantiated, prints_as_signed, signature_of, integer, function};
+ghost use Rattle.plir_data.specs.Types.{unit};
 ghost use Rattle.plir_data.specs.TypeSeen.{type_view};
 
 use crate::memory::Memory;
@@ -203,7 +204,8 @@ impl FunctionType {
         results: Vec<TypeHandle>,
     ) -> Result<TypedHandle<FunctionType>, Memory>
         requires { AllLive (C.types ctx.old) (arguments.items ++ results.items) }
-        ensures ok { IfOk result (λ h. IsInstantiated (C.types ctx.old) (function arguments.items results.items) h (C.types ctx.new)) }
+        ensures ok { IfOk result (λ h. IsInstantiated (C.types ctx.old) (function arguments.items results.items) h
+            (C.types ctx.new)) }
         ensures err { OnErr result (C.types ctx.new ≡ C.types ctx.old) }
         ensures rest { C.same_besides ctx.old ctx.new }
     {

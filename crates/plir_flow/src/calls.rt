@@ -102,7 +102,7 @@ fn put_callee_type<D: OpSet>(
     ensures err { OnErr result (ctx.new ≡ ctx.old) }
     ensures whole { IsWhole D.attr_handles ctx.new }
 {
-    let _live = ctx.num_live();
+    ctx.stands();
     match Identifier::try_new(alloc, ATTR_KEY_CALLEE_TYPE) {
         Ok(key) => op.set_attr(ctx, key, AttrObj::Type(TypeAttr::new(ty))),
         Err(_) => Err(Memory),

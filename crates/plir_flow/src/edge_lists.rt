@@ -100,7 +100,7 @@ fn is_point_in<D: OpSet>(ctx: &Context<D>, point: RegionBranchPoint, region: Ptr
     ensures value { IsTrue result ↔ IsPointIn ctx.now region point }
     ensures whole { IsWhole D.attr_handles ctx.now }
 {
-    let _live = ctx.num_live();
+    ctx.stands();
     match point {
         RegionBranchPoint::Parent => false,
         RegionBranchPoint::Terminator(terminator) => {
@@ -121,7 +121,7 @@ fn add_reads_in<D: OpSet>(
     ensures taken { OnOk result (AreTakenOnce (IsFromRegion ctx.now region) reads_on edges.now seen.new.keys) }
     ensures whole { IsWhole D.attr_handles ctx.now }
 {
-    let _live = ctx.num_live();
+    ctx.stands();
     for edge in edges {
         if !is_point_in(ctx, edge.from, region) {
             continue;
@@ -142,7 +142,7 @@ pub(crate) fn reads_in<D: OpSet>(
     ensures taken { IfOk result (λ us. AreTakenOnce (IsFromRegion ctx.now region) reads_on edges.now us.items) }
     ensures whole { IsWhole D.attr_handles ctx.now }
 {
-    let _live = ctx.num_live();
+    ctx.stands();
     let mut seen = IndexSet::new(alloc);
     add_reads_in(ctx, edges, region, &mut seen)?;
     list(alloc, &seen)
@@ -170,7 +170,7 @@ fn add_regions_in<D: OpSet>(
     ensures taken { OnOk result (AreTakenOnce (IsFromRegion ctx.now region) regions_on edges.now seen.new.keys) }
     ensures whole { IsWhole D.attr_handles ctx.now }
 {
-    let _live = ctx.num_live();
+    ctx.stands();
     for edge in edges {
         if !is_point_in(ctx, edge.from, region) {
             continue;
@@ -191,7 +191,7 @@ pub(crate) fn regions_in<D: OpSet>(
     ensures taken { IfOk result (λ rs. AreTakenOnce (IsFromRegion ctx.now region) regions_on edges.now rs.items) }
     ensures whole { IsWhole D.attr_handles ctx.now }
 {
-    let _live = ctx.num_live();
+    ctx.stands();
     let mut seen = IndexSet::new(alloc);
     add_regions_in(ctx, edges, region, &mut seen)?;
     list(alloc, &seen)

@@ -27,7 +27,7 @@ fn tell<D: OpSet>(
     ensures told { IsRefusalMemoryAside ctx.now op (TellsFault D.type_id D.type_body_text ctx.now fault) result }
     ensures whole { IsWhole D.attr_handles ctx.now }
 {
-    let _live = ctx.num_live();
+    ctx.stands();
     let err = match fault {
         EdgeFault::OtherReceivers => RegionBranchOpInterfaceVerifyErr::ReceiverSetMismatch,
         EdgeFault::ForeignTerminator => RegionBranchOpInterfaceVerifyErr::InvalidTerminator,
@@ -63,7 +63,7 @@ pub(crate) fn verify_edges<D: OpSet>(
     ensures refused { IfErr result (IsRefusalMemoryAside ctx.now op (IsToldFault D.type_id D.type_body_text ctx.now D.is_terminator op edges.now)) }
     ensures whole { IsWhole D.attr_handles ctx.now }
 {
-    let _live = ctx.num_live();
+    ctx.stands();
     match find_fault(alloc, ctx, op, edges) {
         Err(_) => Err(VerifyErr::Memory),
         Ok(None) => Ok(()),

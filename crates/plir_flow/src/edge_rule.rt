@@ -24,7 +24,7 @@ fn is_own_point<D: OpSet>(ctx: &Context<D>, op: Ptr<Operation>, point: RegionBra
     ensures value { IsTrue result ↔ IsOwnPoint D.is_terminator ctx.now op point }
     ensures whole { IsWhole D.attr_handles ctx.now }
 {
-    let _live = ctx.num_live();
+    ctx.stands();
     match point {
         RegionBranchPoint::Parent => true,
         RegionBranchPoint::Terminator(terminator) => {
@@ -68,7 +68,7 @@ fn is_own_successor<D: OpSet>(
     ensures value { IsTrue result ↔ IsOwnSuccessor ctx.now op successor }
     ensures whole { IsWhole D.attr_handles ctx.now }
 {
-    let _live = ctx.num_live();
+    ctx.stands();
     match successor {
         RegionSuccessor::After => true,
         RegionSuccessor::Region(region) => region.get_parent_op(ctx) == Some(op),
@@ -86,7 +86,7 @@ fn is_receiver<D: OpSet>(
     ensures value { IsTrue result ↔ IsReceiver ctx.now op successor receiver }
     ensures whole { IsWhole D.attr_handles ctx.now }
 {
-    let _live = ctx.num_live();
+    ctx.stands();
     match (successor, receiver.defining_entity()) {
         (RegionSuccessor::Region(region), DefiningEntity::Block(block)) => {
             region.get_entry_block(ctx) == Some(block)
@@ -119,7 +119,7 @@ fn find_type_fault<D: OpSet>(
     ensures live { IfSome result (NamesLive ctx.now) }
     ensures whole { IsWhole D.attr_handles ctx.now }
 {
-    let _live = ctx.num_live();
+    ctx.stands();
     let given = operand.get_def(ctx).get_type(ctx);
     let wanted = receiver.get_type(ctx);
     if given == wanted {
@@ -143,7 +143,7 @@ fn find_flow_fault<D: OpSet>(
     ensures live { IfOk result (λ f. IfSome f (NamesLive ctx.now)) }
     ensures whole { IsWhole D.attr_handles ctx.now }
 {
-    let _live = ctx.num_live();
+    ctx.stands();
     let (operand, receiver) = flow;
     if operand.user_op() != source_of(op, point) {
         return Ok(Some(EdgeFault::ForeignOperand));
@@ -170,7 +170,7 @@ fn find_flows_fault<D: OpSet>(
     ensures live { IfOk result (λ f. IfSome f (NamesLive ctx.now)) }
     ensures whole { IsWhole D.attr_handles ctx.now }
 {
-    let _live = ctx.num_live();
+    ctx.stands();
     for flow in &edge.flows {
         let found = find_flow_fault(ctx, op, edge.from, edge.to, *flow, received)?;
         if found.is_some() {
@@ -192,7 +192,7 @@ pub(crate) fn find_edge_fault<D: OpSet>(
     ensures live { IfOk result (λ f. IfSome f (NamesLive ctx.now)) }
     ensures whole { IsWhole D.attr_handles ctx.now }
 {
-    let _live = ctx.num_live();
+    ctx.stands();
     if !is_own_point(ctx, op, edge.from) {
         return Ok(Some(EdgeFault::ForeignTerminator));
     }
@@ -224,7 +224,7 @@ fn find_fault_at<D: OpSet>(
     ensures live { IfOk result (λ f. IfSome f (NamesLive ctx.now)) }
     ensures whole { IsWhole D.attr_handles ctx.now }
 {
-    let _live = ctx.num_live();
+    ctx.stands();
     if !keeps_receivers(alloc, edges, place, firsts)? {
         return Ok(Some(EdgeFault::OtherReceivers));
     }
@@ -245,7 +245,7 @@ fn find_faults<D: OpSet>(
     ensures live { IfOk result (λ f. IfSome f (NamesLive ctx.now)) }
     ensures whole { IsWhole D.attr_handles ctx.now }
 {
-    let _live = ctx.num_live();
+    ctx.stands();
     for place in 0..edges.len() {
         let found = find_fault_at(alloc, ctx, op, edges, place, firsts)?;
         if found.is_some() {

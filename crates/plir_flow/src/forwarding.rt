@@ -82,7 +82,7 @@ pub(crate) fn tell<D: OpSet>(
     ensures told { IsRefusalMemoryAside ctx.now op (TellsMismatch D.type_id D.type_body_text ctx.now mismatch) result }
     ensures whole { IsWhole D.attr_handles ctx.now }
 {
-    let _live = ctx.num_live();
+    ctx.stands();
     let err = match mismatch {
         Mismatch::Count(provided, expected) => {
             BranchOpInterfaceVerifyErr::SuccessorOperandsMismatch { provided, expected }

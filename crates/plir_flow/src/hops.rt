@@ -70,7 +70,7 @@ fn step_of<D: OpSet>(ctx: &Context<D>, edge: &RegionEdge) -> Option<(Ptr<Region>
     ensures value { (a b : PtrTo RegionKind) → (result ≡ Some (a, b)) ↔ IsStepOn ctx.now edge.now a b }
     ensures whole { IsWhole D.attr_handles ctx.now }
 {
-    let _live = ctx.num_live();
+    ctx.stands();
     match (edge.from, edge.to) {
         (RegionBranchPoint::Terminator(terminator), RegionSuccessor::Region(to)) => {
             match terminator.get_parent_region(ctx) {
@@ -118,7 +118,7 @@ fn add_edges<D: OpSet>(
     ensures steps { OnOk result ((a b : PtrTo RegionKind) → IsHop hops.new.items a b ↔ IsStep ctx.now edges.now a b) }
     ensures whole { IsWhole D.attr_handles ctx.now }
 {
-    let _live = ctx.num_live();
+    ctx.stands();
     for edge in edges {
         add_edge(ctx, edge, heads, hops)?;
     }
@@ -177,7 +177,7 @@ pub(crate) fn reachable<D: OpSet>(
     ensures once { IfOk result (λ rs. Distinct rs.items) }
     ensures whole { IsWhole D.attr_handles ctx.now }
 {
-    let _live = ctx.num_live();
+    ctx.stands();
     let mut heads = HashMap::new(alloc);
     let mut hops = Vec::new(alloc);
     add_edges(ctx, edges, &mut heads, &mut hops)?;

@@ -55,7 +55,7 @@ pub fn segments_stand_in_a_row<D: OpSet>(ctx: &Context<D>, op: Ptr<Operation>)
     ensures inside { (i : ℕ) → (segment_places ctx.now op i).1 ≤ length (operands_of ctx.now op) }
     ensures count { length (segments_of ctx.now op) ≡ num_segments ctx.now op }
 {
-    let _live = ctx.num_live();
+    ctx.stands();
 }
 
 /// What is pushed to a segment is what is popped from it next, and then segments, sizes and operands are as before the push. One

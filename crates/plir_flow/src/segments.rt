@@ -82,7 +82,7 @@ fn put_sizes<D: OpSet>(
     ensures err { OnErr result (ctx.new ≡ ctx.old) }
     ensures whole { IsWhole D.attr_handles ctx.new }
 {
-    let _live = ctx.num_live();
+    ctx.stands();
     match Identifier::try_new(alloc, ATTR_KEY_OPERAND_SEGMENT_SIZES) {
         Ok(key) => op.set_attr(ctx, key, AttrObj::OperandSegmentSizes(sizes)),
         Err(_) => Err(Memory),

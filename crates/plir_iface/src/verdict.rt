@@ -20,7 +20,7 @@ pub fn accept_if<D: OpSet, E: Drop>(
     ensures refused { IfErr result (IsRefusal ctx.now op (λ e. e ≡ err)) }
     ensures whole { IsWhole D.attr_handles ctx.now }
 {
-    let _live = ctx.num_live();
+    ctx.stands();
     if holds {
         return Ok(());
     }
@@ -33,7 +33,7 @@ pub fn refusal<D: OpSet, E: Drop>(ctx: &Context<D>, op: Ptr<Operation>, err: E) 
     ensures refused { IsRefusal ctx.now op (λ e. e ≡ err) result }
     ensures whole { IsWhole D.attr_handles ctx.now }
 {
-    let _live = ctx.num_live();
+    ctx.stands();
     VerifyErr::Refused {
         loc: op.loc(ctx),
         err,

@@ -157,7 +157,7 @@ pub fn print_edge<D: OpSet>(
     ensures text { IfOk result (λ s. string_bytes s ≡ edge_text D.OpSet ctx.now edge.now) }
     ensures whole { IsWhole D.attr_handles ctx.now }
 {
-    let _live = ctx.num_live();
+    ctx.stands();
     let mut out = String::new(alloc);
     put_point(&mut out, alloc, ctx, edge.from)?;
     put(&mut out, " -> ")?;

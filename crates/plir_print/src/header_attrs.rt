@@ -38,7 +38,7 @@ fn type_in<D: OpSet>(ctx: &Context<D>, attribute: &AttrObj<D>) -> Option<TypeHan
     ensures value { result ≡ type_in_attr (attr_view attribute.now) }
     ensures live { IfSome result (IsTypeLive ctx.now.types) }
 {
-    let _live = ctx.num_live();
+    ctx.stands();
     match attribute {
         AttrObj::Type(ty) => Some(ty.get_type()),
         _ => None,

@@ -14,7 +14,7 @@ pub(crate) fn stands<D: OpSet>(ctx: &Context<D>)
     ensures { IsStanding ctx.now }
 {
     contexts_stand::<D>();
-    let _live = ctx.num_live();
+    ctx.stands();
 }
 
 /// Nothing is done: this tells a proof that a kid is live and printable, one level deeper and not too deep, and what

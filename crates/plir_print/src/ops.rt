@@ -329,7 +329,7 @@ pub fn print_op<D: OpSet>(
     ensures text { IfOk result (λ s. string_bytes s ≡ op_text D.OpSet ctx.now op) }
     ensures whole { IsWhole D.attr_handles ctx.now }
 {
-    let _live = ctx.num_live();
+    ctx.stands();
     let mut out = String::new(alloc);
     put_op(&mut out, alloc, ctx, 0, op)?;
     Ok(out)

@@ -39,7 +39,7 @@ pub fn is_printable<D: OpSet>(ctx: &Context<D>, op: Ptr<Operation>) -> bool
     ensures value { IsTrue result ↔ IsPrintable ctx.now (AnyNode.Operation op) }
     ensures whole { IsWhole D.attr_handles ctx.now }
 {
-    let _live = ctx.num_live();
+    ctx.stands();
     let look = |ctx: &Context<D>, _state: &mut (), node: IRNode| -> WalkResult<()>
         requires { IsLive ctx.now node }
         ensures { result ≡ header_answer ctx.now node }

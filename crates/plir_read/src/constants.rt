@@ -103,10 +103,10 @@ pub fn read_constant<'a, D: OpSet>(
     ensures held { HoldsNew IsHeldByConstant result (named_constant_at levels (length names.items) bytes.now) ctx.old.types ctx.new.types }
     ensures whole { IsWhole D.attr_handles ctx.new }
 {
-    let _before = ctx.num_live();
+    ctx.stands();
     expect_names(1, names.len(), left)?;
     let read = read_typed_value(alloc, ctx, levels, bytes);
-    let _after = ctx.num_live();
+    ctx.stands();
     let (constant, rest) = read?;
     let op = make_constant(alloc, ctx, names, constant)?;
     Ok((op, rest))

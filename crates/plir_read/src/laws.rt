@@ -20,5 +20,5 @@ pub fn root_comes_first<D: OpSet>(ctx: &Context<D>)
     ensures { (n : IRNode) → tree_in_order ctx.now.nodes n ≡ n ∷ below_in_order ctx.now.nodes n }
 {
     contexts_stand::<D>();
-    let _count = ctx.num_live();
+    ctx.stands();
 }

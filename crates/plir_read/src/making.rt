@@ -120,7 +120,7 @@ fn make_with<D: OpSet>(
     ensures refused { IfErr result (IsRefusal (HasNoRoom ctx.new)) }
     ensures whole { IsWhole D.attr_handles ctx.new }
 {
-    let _before = ctx.num_live();
+    ctx.stands();
     let results = Vec::new(alloc);
     let operands = Vec::new(alloc);
     let successors = Vec::new(alloc);
@@ -148,7 +148,7 @@ pub fn make_op<D: OpSet>(
     ensures refused { IfErr result (IsRefusal (HasNoRoom ctx.new)) }
     ensures whole { IsWhole D.attr_handles ctx.new }
 {
-    let _before = ctx.num_live();
+    ctx.stands();
     let HeaderData { head, entries } = header;
     match head {
         HeadData::Module(name) => {
@@ -216,7 +216,7 @@ pub fn make_constant<D: OpSet>(
     ensures refused { IfErr result (IsRefusal (HasNoRoom ctx.new)) }
     ensures whole { IsWhole D.attr_handles ctx.new }
 {
-    let _before = ctx.num_live();
+    ctx.stands();
     let ConstantData { value, ty } = constant;
     let attributes = named_and_valued(alloc, names, value)?;
     let results = one_type(alloc, ty)?;
@@ -249,7 +249,7 @@ fn put_names<D: OpSet>(
     ensures refused { IfErr result (IsRefusal ⊥) }
     ensures whole { IsWhole D.attr_handles ctx.new }
 {
-    let _before = ctx.num_live();
+    ctx.stands();
     let Ok(key) = Identifier::try_new(alloc, ATTR_KEY_GIVEN_NAMES) else {
         return Err(Stop::Wanting);
     };
@@ -272,7 +272,7 @@ pub fn make_block<D: OpSet>(
     ensures refused { IfErr result (IsRefusal (HasNoRoom ctx.new)) }
     ensures whole { IsWhole D.attr_handles ctx.new }
 {
-    let _before = ctx.num_live();
+    ctx.stands();
     let BlockHeadData { label, arguments } = head;
     let Arguments { types, names } = arguments;
     let unset = all_unset(names.as_slice());

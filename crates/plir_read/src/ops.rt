@@ -51,7 +51,7 @@ fn read_ops<'a, D: OpSet>(
 {
     contexts_stand::<D>();
     growth(ctx);
-    let _before = ctx.num_live();
+    ctx.stands();
     if ends_block(bytes) {
         return Ok(bytes);
     }
@@ -89,10 +89,10 @@ fn read_block<'a, D: OpSet>(
     ensures whole { IsWhole D.attr_handles ctx.new }
 {
     contexts_stand::<D>();
-    let _before = ctx.num_live();
+    ctx.stands();
     let read = read_block_head(alloc, ctx, levels, bytes);
     growth(ctx);
-    let _after = ctx.num_live();
+    ctx.stands();
     let (head, rest) = read?;
     let block = make_block(alloc, ctx, head)?;
     match read_ops(alloc, ctx, levels, block, rest) {
@@ -122,7 +122,7 @@ fn read_body<'a, D: OpSet>(
 {
     contexts_stand::<D>();
     growth(ctx);
-    let _before = ctx.num_live();
+    ctx.stands();
     let start = read_sign(bytes, b'{')?;
     if let Some(rest) = past_sign(start, b'}') {
         return Ok(rest);
@@ -165,11 +165,11 @@ fn read_bodied<'a, D: OpSet>(
     ensures whole { IsWhole D.attr_handles ctx.new }
 {
     contexts_stand::<D>();
-    let _before = ctx.num_live();
+    ctx.stands();
     expect_names(0, names, left)?;
     let read = read_header(alloc, ctx, levels, kind, bytes);
     growth(ctx);
-    let _after = ctx.num_live();
+    ctx.stands();
     let (header, behind) = read?;
     let (op, region) = make_op(alloc, ctx, header)?;
     match read_body(alloc, ctx, levels, region, behind) {
@@ -195,7 +195,7 @@ pub fn read_op_at<'a, D: OpSet>(
     ensures held { HoldsNew IsHeldByOp result (op_at levels bytes.now) ctx.old.types ctx.new.types }
     ensures whole { IsWhole D.attr_handles ctx.new }
 {
-    let _before = ctx.num_live();
+    ctx.stands();
     begin_level(levels, bytes)?;
     let (opening, rest) = read_opening(alloc, bytes)?;
     let Opening { names, kind, left } = opening;

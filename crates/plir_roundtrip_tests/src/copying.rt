@@ -52,7 +52,7 @@ pub fn copy_new_module<D: OpSet>(
     ensures same { IfOk result (λ q. IsSameTree from.now into.new (AnyNode.Operation op) (AnyNode.Operation q)) }
 {
     let _name = name.as_str();
-    let _live = from.num_live();
+    from.stands();
     new_modules_can_be_read_back::<D>();
     copy_by_text(alloc, from, op, into)
 }

@@ -95,7 +95,7 @@ impl Script {
         requires agree { TablesAgree ⟦<BuiltinSet as OpSet>⟧ self.old.ctx self.old.tables }
         ensures agree { TablesAgree ⟦<BuiltinSet as OpSet>⟧ self.new.ctx self.new.tables }
     {
-        let _before = self.ctx.num_live();
+        self.ctx.stands();
         let made = ModuleOp::new(self.alloc, &mut self.ctx, name);
         new_nodes_keep_agreement(&self.ctx);
         let op = Op::<BuiltinSet>::get_operation(&made?);
@@ -109,7 +109,7 @@ impl Script {
         ensures agree { TablesAgree ⟦<BuiltinSet as OpSet>⟧ self.new.ctx self.new.tables }
     {
         let target = self.innermost()?;
-        let _before = self.ctx.num_live();
+        self.ctx.stands();
         let made = ModuleOp::new(self.alloc, &mut self.ctx, name);
         new_nodes_keep_agreement(&self.ctx);
         let op = Op::<BuiltinSet>::get_operation(&made?);
@@ -129,9 +129,9 @@ impl Script {
         let target = self.innermost()?;
         let arguments = Vec::new(self.alloc);
         let results = Vec::new(self.alloc);
-        let _before = self.ctx.num_live();
+        self.ctx.stands();
         let ty = FunctionType::get(&mut self.ctx, arguments, results);
-        let _typed = self.ctx.num_live();
+        self.ctx.stands();
         new_nodes_keep_agreement(&self.ctx);
         let ty = ty?;
         let made = FuncOp::new(self.alloc, &mut self.ctx, name, ty);

@@ -1,5 +1,6 @@
 -- How `Chains` lays out its lists. No public clause cites this module.
-use Rattle.std.specs.Prelude.{◌≡◌, ℕ, ◌<◌, ◌^◌, zero, suc, List, [], ◌∷◌, map, length, Option, Some, None, slice_index_or, slice_set}
+use Rattle.std.specs.Prelude.{◌≡◌, ℕ, ◌<◌, ◌^◌, zero, suc, List, [], ◌∷◌, map, length, Option, Some, None}
+use Rattle.std.specs.Prelude.{slice_index_or, slice_set}
 use Rattle.plir_store.specs.Members.{Has, Distinct}
 use Rattle.plir_store.specs.Lists.{Lists}
 use Rattle.plir_store.specs.declared.chains.Link.{Link}
@@ -49,7 +50,8 @@ abbrev pub ends_in : List Ends → ℕ → ℕ → Option ℕ → Option ℕ →
 ends_in es p c l r = put_last (put_first es p l (Some c)) p r (Some c)
 
 abbrev pub links_in : List Link → ℕ → ℕ → Option ℕ → Option ℕ → List Link
-links_in ls p c l r = put_prev (put_next (slice_set ls c (record { prev = l; next = r; parent = Some p })) l (Some c)) r (Some c)
+links_in ls p c l r = put_prev (put_next (slice_set ls c (record { prev = l; next = r; parent = Some p })) l (Some c)) r
+    (Some c)
 
 -- the ends and the links once c is taken out from between l and r in the list of p
 abbrev pub ends_out : List Ends → ℕ → Option ℕ → Option ℕ → List Ends

@@ -1,5 +1,7 @@
--- Laws of lists of children, proved beside their words so that the crates above can cite them. No contract cites this module.
-use Rattle.std.proofs.Common.{◌≡◌, ℕ, ◌<◌, ◌≤◌, zero, suc, true, false, eqb, List, [], ◌∷◌, ◌++◌, length, Some, None, inl, inr, refl, sym, ◌∙◌, subst, get_or}
+-- Laws of lists of children, proved beside their words so that the crates above can cite them. No contract cites this
+-- module.
+use Rattle.std.proofs.Common.{◌≡◌, ℕ, ◌<◌, ◌≤◌, zero, suc, true, false, eqb, List, [], ◌∷◌, ◌++◌, length, Some, None}
+use Rattle.std.proofs.Common.{inl, inr, refl, sym, ◌∙◌, subst, get_or}
 use Rattle.std.specs.List.{IsDistinct, list_any, AllByRecursion}
 use Rattle.std.proofs.lemmas.Bool.{cases_eq, cases_lt, ne_eqb}
 use Rattle.std.proofs.lemmas.List.{get_or_past}
@@ -31,7 +33,10 @@ get_or-push_default (x ∷ xs) d (suc i) = get_or-push_default xs d i
 -- numbers below n, no two equal, are at most n
 AllByRecursion-from_not_in : (x : ℕ) (xs : List ℕ) → (Has xs x → ⊥) → AllByRecursion (λ y. eqb x y ≡ false) xs
 AllByRecursion-from_not_in x [] n = tt
-AllByRecursion-from_not_in x (y ∷ ys) n = (ne_eqb x y (λ e. n (inl (sym e))), AllByRecursion-from_not_in x ys (λ i. n (inr i)))
+AllByRecursion-from_not_in x (y ∷ ys) n = (
+  ne_eqb x y (λ e. n (inl (sym e))),
+  AllByRecursion-from_not_in x ys (λ i. n (inr i)),
+)
 
 IsDistinct-from : (xs : List ℕ) → Distinct xs → IsDistinct eqb xs
 unfolding IsDistinct
@@ -46,4 +51,5 @@ Has-from_list_any q (x ∷ xs) e = elim (cases_eq q x) [
 ]
 
 pub length-le_from_Distinct : (xs : List ℕ) (n : ℕ) → Distinct xs → ((x : ℕ) → Has xs x → x < n) → length xs ≤ n
-length-le_from_Distinct xs n a below = length-le_from_distinct_below xs n (IsDistinct-from xs a) (λ q e. below q (Has-from_list_any q xs e))
+length-le_from_Distinct xs n a below = length-le_from_distinct_below xs n (IsDistinct-from xs a)
+    (λ q e. below q (Has-from_list_any q xs e))

@@ -1,5 +1,6 @@
 -- What a contract sees of `Chains`: the children of each parent in order, and the parent of each child.
-use Rattle.std.specs.Prelude.{◌≡◌, ℕ, ◌-◌, ◌<◌, ◌^◌, take, cond, ◌==◌, List, [], ◌∷◌, ◌++◌, length, Option, Some, None, slice_index_or, slice_set}
+use Rattle.std.specs.Prelude.{◌≡◌, ℕ, ◌-◌, ◌<◌, ◌^◌, take, cond, ◌==◌, List, [], ◌∷◌, ◌++◌, length, Option, Some, None}
+use Rattle.std.specs.Prelude.{slice_index_or, slice_set}
 use Rattle.plir_store.specs.Members.{Has, Distinct, head}
 
 -- The list of each parent, and the parent of each child, if it has one.

@@ -1,5 +1,6 @@
 -- Laws of membership, for the proofs of every crate: appends, places, images, and elements that stand once.
-use Rattle.std.proofs.Common.{◌≡◌, ℕ, zero, suc, List, [], ◌∷◌, ◌++◌, map, Some, slice_get, ◌⊎◌, inl, inr, refl, sym, ap, subst}
+use Rattle.std.proofs.Common.{◌≡◌, ℕ, zero, suc, List, [], ◌∷◌, ◌++◌, map, Some, slice_get, ◌⊎◌, inl, inr, refl, sym}
+use Rattle.std.proofs.Common.{ap, subst}
 use Rattle.std.proofs.lemmas.Option.{same_Some, none-some}
 use Rattle.plir_store.specs.Members.{Has, Distinct}
 
@@ -47,7 +48,8 @@ module _ {A : Type 0} where
   Distinct-cross (x ∷ xs) ys d n (inl e) k = d.0 (Has-append_right xs ys x (subst (Has ys) (sym e) k))
   Distinct-cross (x ∷ xs) ys d n (inr h) k = Distinct-cross xs ys d.1 n h k
 
-  pub Distinct-append : (xs ys : List A) → Distinct xs → Distinct ys → ((n : A) → Has xs n → Has ys n → ⊥) → Distinct (xs ++ ys)
+  pub Distinct-append : (xs ys : List A) → Distinct xs → Distinct ys → ((n : A) → Has xs n → Has ys n → ⊥) →
+      Distinct (xs ++ ys)
   Distinct-append [] ys p q c = q
   Distinct-append (x ∷ xs) ys p q c = (
     λ h. elim (Has-append_cases xs ys x h) [ inl a ↦ p.0 a | inr b ↦ c x (inl refl) b ],

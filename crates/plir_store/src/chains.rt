@@ -1,8 +1,12 @@
 //! Doubly linked lists of numbered children under numbered parents, whose links lie in two vectors.
-ghost use Rattle.std.specs.Prelude.{◌≡◌, ℕ, ◌+◌, ◌-◌, ◌<◌, ◌^◌, List, [], length, cond, None, IfSome, IsTrue, ◌↔◌, slice_set, OnOk, OnErr};
+ghost use Rattle.std.specs.Prelude.{◌≡◌, ℕ, ◌+◌, ◌-◌, ◌<◌, ◌^◌, List, [], length, cond, None, IfSome, IsTrue, ◌↔◌};
+ghost use Rattle.std.specs.Prelude.{slice_set, OnOk, OnErr};
 ghost use Rattle.plir_store.specs.Members.{head};
-ghost use Rattle.plir_store.specs.Lists.{Lists, kids_at, parent_at, last_of, next_of, prev_of, with_first, with_last, with_before, with_after, without_child, with_list, with_child, without_last_list, without_last_child, IsAgreed};
-ghost use Rattle.plir_store.specs.Links.{put_first, put_last, put_next, put_prev, no_link, no_ends, ends_in, links_in, ends_out, links_out};
+ghost use Rattle.plir_store.specs.Lists.{Lists, kids_at, parent_at, last_of, next_of, prev_of, with_first, with_last};
+ghost use Rattle.plir_store.specs.Lists.{with_before, with_after, without_child, with_list, with_child};
+ghost use Rattle.plir_store.specs.Lists.{without_last_list, without_last_child, IsAgreed};
+ghost use Rattle.plir_store.specs.Links.{put_first, put_last, put_next, put_prev, no_link, no_ends, ends_in, links_in};
+ghost use Rattle.plir_store.specs.Links.{ends_out, links_out};
 
 use crate::hop::Hop;
 use std::alloc::{AllocError, Global};

@@ -1,8 +1,10 @@
 //! Numbered slots whose numbers are used again, each time under a new version.
-ghost use Rattle.std.specs.Prelude.{◌≡◌, ℕ, ◌+◌, ◌-◌, ◌<◌, ◌≤◌, ◌^◌, List, [], ◌∷◌, ◌++◌, length, Option, Some, None, OnOk, OnErr, IfOk, IfErr, IsSome};
+ghost use Rattle.std.specs.Prelude.{◌≡◌, ℕ, ◌+◌, ◌-◌, ◌<◌, ◌≤◌, ◌^◌, List, [], ◌∷◌, ◌++◌, length, Option, Some, None};
+ghost use Rattle.std.specs.Prelude.{OnOk, OnErr, IfOk, IfErr, IsSome};
 ghost use Rattle.std.specs.Borrow.{Lends, sem};
 ghost use Rattle.plir_store.specs.Places.{link_of, content_of};
-ghost use Rattle.plir_store.specs.Table.{Table, content_at, version_at, is_live_at, next_slot, num_full, with_new, without_slot, is_nil, IsTable};
+ghost use Rattle.plir_store.specs.Table.{Table, content_at, version_at, is_live_at, next_slot, num_full, with_new};
+ghost use Rattle.plir_store.specs.Table.{without_slot, is_nil, IsTable};
 
 use std::alloc::Global;
 use std::marker::Model;

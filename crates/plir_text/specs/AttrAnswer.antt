@@ -20,10 +20,12 @@ use Rattle.plir_text.specs.declared.fault.Fault.TheVariants.{Memory}
 use Rattle.plir_text.specs.declared.fault.ReadErr.{ReadErr}
 
 module _ {D K A T E : Type 0} where
-  -- The answer to a text, read with the type table `old`, which leaves the table `new`: an attribute that the text stands for, with
-  -- handles of the table; or memory was wanting, or the fault that is met first, and then the text stands for no attribute. Types that are
-  -- written in it have come last, as far as it was read, and no others: where the text stands for an attribute, types that this one holds.
-  pub record IsAttrRead (own_handles : A → List ℕ) (old : List (TypeView T)) (text : List ℕ) (answer : Result (AttrObj D K A T E) ReadErr) (new : List (TypeView T)) : Type 0 where
+  -- The answer to a text, read with the type table `old`, which leaves the table `new`: an attribute that the text
+  -- stands for, with handles of the table; or memory was wanting, or the fault that is met first, and then the text
+  -- stands for no attribute. Types that are written in it have come last, as far as it was read, and no others: where
+  -- the text stands for an attribute, types that this one holds.
+  pub record IsAttrRead (own_handles : A → List ℕ) (old : List (TypeView T)) (text : List ℕ)
+      (answer : Result (AttrObj D K A T E) ReadErr) (new : List (TypeView T)) : Type 0 where
     pub found : IfOk answer (λ a. StandsFor 200 new text (attr_view a))
     pub live : IfOk answer (λ a. IsAttrLive own_handles new (attr_view a))
     pub fault : IfErr answer (λ e. e.fault ≢ Memory → whole (attr_at 200) text ≡ Err e.fault)
@@ -36,14 +38,18 @@ module _ {D K A T E : Type 0} where
   abbrev pub IsEqualOrMemory : AttrView A → Result (AttrObj D K A T E) ReadErr → Type 0
   IsEqualOrMemory x answer = MatchResult answer (λ a. attr_view a ≡ x) (λ e. e.fault ≡ Memory)
 
--- An attribute that can be printed with the table `printed` and read back: nothing in it is of the user's own, its integers
--- have the widths of their types, and it has at most 200 levels.
+-- An attribute that can be printed with the table `printed` and read back: nothing in it is of the user's own, its
+-- integers have the widths of their types, and it has at most 200 levels.
 abbrev pub IsReadable : {A T : Type 0} (printed : List (TypeView T)) → AttrView A → Type 0
 IsReadable printed x = IsWritable printed x × (levels (attr_term printed x) ≤ 200)
 
-module _ {D K A T E : Type 0} (own_id : A → List ℕ) (own_body : List (TypeView T) → A → List ℕ) (type_id : T → List ℕ) (type_body : List (TypeView T) → T → List ℕ) (attr_handles : A → List ℕ) (type_handles : T → List ℕ) where
-  -- Where the text is that of an attribute x that can be read back, printed with the table `printed`, and this is the answer to it, read with
-  -- a table `old` that has grown from that one, the answer is an attribute equal to x, or memory was wanting. `new` is the table that the reader left.
+module _ {D K A T E : Type 0} (own_id : A → List ℕ) (own_body : List (TypeView T) → A → List ℕ) (type_id : T →
+    List ℕ) (type_body : List (TypeView T) → T → List ℕ) (attr_handles : A → List ℕ) (type_handles : T → List ℕ) where
+  -- Where the text is that of an attribute x that can be read back, printed with the table `printed`, and this is the
+  -- answer to it, read with a table `old` that has grown from that one, the answer is an attribute equal to x, or
+  -- memory was wanting. `new` is the table that the reader left.
   abbrev pub IsReadBack : AttrView A → (text : List ℕ) → Result (AttrObj D K A T E) ReadErr → Type 0
   IsReadBack x text answer =
-      (printed old new : List (TypeView T)) → IsTypeTable type_handles new → IsReadable printed x → text ≡ attr_text own_id own_body type_id type_body printed x → Grows printed old → IsAttrRead attr_handles old text answer new → IsEqualOrMemory x answer
+      (printed old new : List (TypeView T)) → IsTypeTable type_handles new → IsReadable printed x →
+      text ≡ attr_text own_id own_body type_id type_body printed x → Grows printed old →
+      IsAttrRead attr_handles old text answer new → IsEqualOrMemory x answer

@@ -1,9 +1,11 @@
 -- Which tokens stand for an attribute.
-use Rattle.std.specs.Prelude.{◌≡◌, ℕ, ◌-◌, ◌^◌, ◌%◌, ◌<◌, ◌≤◌, List, [], ◌∷◌, ◌++◌, Bool, true, false, Option, Some, None, codes, IsUtf8}
+use Rattle.std.specs.Prelude.{◌≡◌, ℕ, ◌-◌, ◌^◌, ◌%◌, ◌<◌, ◌≤◌, List, [], ◌∷◌, ◌++◌, Bool, true, false, Option, Some}
+use Rattle.std.specs.Prelude.{None, codes, IsUtf8}
 use Rattle.plir_data.specs.declared.types.Signedness.{Signedness}
 use Rattle.plir_data.specs.Identifier.{is_identifier}
 use Rattle.plir_text.specs.Terms as terms
-use Rattle.plir_text.specs.Terms.{AttrTerm, AttrTerms, no_attrs, attr_before, EntryTerms, no_entries, entry_before, levels}
+use Rattle.plir_text.specs.Terms.{AttrTerm, AttrTerms, no_attrs, attr_before, EntryTerms, no_entries, entry_before}
+use Rattle.plir_text.specs.Terms.{levels}
 use Rattle.plir_text.specs.Tokens.{Token, word, digits, signed, quoted, arrow, sign}
 use Rattle.plir_text.specs.TypeGrammar.{enclosed, SpellsInteger, SpellsType}
 
@@ -51,7 +53,8 @@ pub record SpellsValue (signedness : Signedness) (width bits : ℕ) (ts : List T
 -- one thing or more, each behind a comma
 abbrev pub SpellsMore : {X : Type 0} → (X → List Token → Type 0) → List X → List Token → Type 0
 SpellsMore E [] ts = ts ≡ []
-SpellsMore E (x ∷ xs) ts = (first more : List Token) × E x first × SpellsMore E xs more × (ts ≡ sign 44 ∷ (first ++ more))
+SpellsMore E (x ∷ xs) ts = (first more : List Token) × E x first × SpellsMore E xs more × (ts ≡ sign 44 ∷
+    (first ++ more))
 
 -- things with commas between them
 abbrev pub SpellsSeveral : {X : Type 0} → (X → List Token → Type 0) → List X → List Token → Type 0
@@ -69,34 +72,45 @@ SpellsName (Some w) ts = SpellsIdentifier w ts
 -- an attribute: its id, and what stands behind it
 abbrev mutual
   pub Spells : AttrTerm → List Token → Type 0
-  Spells (terms.identifier w) ts = (behind : List Token) × SpellsIdentifier w behind × (ts ≡ word (codes "builtin.identifier") ∷ behind)
-  Spells (terms.string s) ts = (behind : List Token) × SpellsString s behind × (ts ≡ word (codes "builtin.string") ∷ behind)
+  Spells (terms.identifier w) ts =
+      (behind : List Token) × SpellsIdentifier w behind × (ts ≡ word (codes "builtin.identifier") ∷ behind)
+  Spells (terms.string s) ts = (behind : List Token) × SpellsString s behind × (ts ≡ word (codes "builtin.string") ∷
+      behind)
   Spells (terms.bool b) ts = (behind : List Token) × SpellsTruth b behind × (ts ≡ word (codes "builtin.bool") ∷ behind)
-  Spells (terms.integer s w b) ts = (behind : List Token) × SpellsValue s w b behind × (ts ≡ word (codes "builtin.integer") ∷ behind)
+  Spells (terms.integer s w b) ts =
+      (behind : List Token) × SpellsValue s w b behind × (ts ≡ word (codes "builtin.integer") ∷ behind)
   Spells terms.unit ts = ts ≡ word (codes "builtin.unit") ∷ []
   Spells (terms.type t) ts = (behind : List Token) × SpellsType t behind × (ts ≡ word (codes "builtin.type") ∷ behind)
-  Spells (terms.operand_segment_sizes ns) ts = (inner : List Token) × SpellsSeveral SpellsSize ns inner × (ts ≡ word (codes "builtin.operand_segment_sizes") ∷ enclosed 91 inner 93)
-  Spells (terms.given_names ns) ts = (inner : List Token) × SpellsSeveral SpellsName ns inner × (ts ≡ word (codes "builtin.given_names") ∷ enclosed 91 inner 93)
-  Spells (terms.dict es) ts = (inner : List Token) × SpellsEntries es inner × (ts ≡ word (codes "builtin.dict") ∷ enclosed 91 inner 93)
-  Spells (terms.vec xs) ts = (inner : List Token) × SpellsItems xs inner × (ts ≡ word (codes "builtin.vec") ∷ enclosed 91 inner 93)
+  Spells (terms.operand_segment_sizes ns) ts = (inner : List Token) × SpellsSeveral SpellsSize ns inner ×
+      (ts ≡ word (codes "builtin.operand_segment_sizes") ∷ enclosed 91 inner 93)
+  Spells (terms.given_names ns) ts = (inner : List Token) × SpellsSeveral SpellsName ns inner ×
+      (ts ≡ word (codes "builtin.given_names") ∷ enclosed 91 inner 93)
+  Spells (terms.dict es) ts = (inner : List Token) × SpellsEntries es inner × (ts ≡ word (codes "builtin.dict") ∷
+      enclosed 91 inner 93)
+  Spells (terms.vec xs) ts = (inner : List Token) × SpellsItems xs inner × (ts ≡ word (codes "builtin.vec") ∷
+      enclosed 91 inner 93)
 
   -- attributes with commas between them
   pub SpellsItems : AttrTerms → List Token → Type 0
   SpellsItems no_attrs ts = ts ≡ []
-  SpellsItems (attr_before x xs) ts = (first more : List Token) × Spells x first × SpellsMoreItems xs more × (ts ≡ first ++ more)
+  SpellsItems (attr_before x xs) ts = (first more : List Token) × Spells x first × SpellsMoreItems xs more ×
+      (ts ≡ first ++ more)
 
   pub SpellsMoreItems : AttrTerms → List Token → Type 0
   SpellsMoreItems no_attrs ts = ts ≡ []
-  SpellsMoreItems (attr_before x xs) ts = (first more : List Token) × Spells x first × SpellsMoreItems xs more × (ts ≡ sign 44 ∷ (first ++ more))
+  SpellsMoreItems (attr_before x xs) ts = (first more : List Token) × Spells x first × SpellsMoreItems xs more ×
+      (ts ≡ sign 44 ∷ (first ++ more))
 
   -- keys with their attributes, with commas between them
   pub SpellsEntries : EntryTerms → List Token → Type 0
   SpellsEntries no_entries ts = ts ≡ []
-  SpellsEntries (entry_before k x es) ts = (first more : List Token) × (is_identifier k ≡ true) × Spells x first × SpellsMoreEntries es more × (ts ≡ word k ∷ sign 61 ∷ (first ++ more))
+  SpellsEntries (entry_before k x es) ts = (first more : List Token) × (is_identifier k ≡ true) × Spells x first ×
+      SpellsMoreEntries es more × (ts ≡ word k ∷ sign 61 ∷ (first ++ more))
 
   pub SpellsMoreEntries : EntryTerms → List Token → Type 0
   SpellsMoreEntries no_entries ts = ts ≡ []
-  SpellsMoreEntries (entry_before k x es) ts = (first more : List Token) × (is_identifier k ≡ true) × Spells x first × SpellsMoreEntries es more × (ts ≡ sign 44 ∷ word k ∷ sign 61 ∷ (first ++ more))
+  SpellsMoreEntries (entry_before k x es) ts = (first more : List Token) × (is_identifier k ≡ true) × Spells x first ×
+      SpellsMoreEntries es more × (ts ≡ sign 44 ∷ word k ∷ sign 61 ∷ (first ++ more))
 
 -- with at most n levels open
 abbrev pub AttrWithin : ℕ → AttrTerm → List Token → Type 0

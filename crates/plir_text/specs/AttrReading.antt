@@ -1,5 +1,6 @@
 -- Attributes as they are read.
-use Rattle.std.specs.Prelude.{ℕ, zero, suc, ◌-◌, ◌%◌, ◌^◌, List, Bool, true, false, Option, Some, None, Result, Ok, Err, codes, nat_lt, nat_le, if◌then◌else◌}
+use Rattle.std.specs.Prelude.{ℕ, zero, suc, ◌-◌, ◌%◌, ◌^◌, List, Bool, true, false, Option, Some, None, Result, Ok, Err}
+use Rattle.std.specs.Prelude.{codes, nat_lt, nat_le, if◌then◌else◌}
 use Rattle.std.specs.Str.{bytes_eq, is_utf8}
 use Rattle.plir_data.specs.Identifier.{is_identifier}
 use Rattle.plir_data.specs.declared.types.Signedness.{Signedness}
@@ -13,7 +14,8 @@ use Rattle.plir_text.specs.Lists.{sign_at, past_sign, items_at}
 use Rattle.plir_text.specs.TypeReading.{word_at, integer_at, type_at}
 use Rattle.plir_text.specs.Levels.{level_at}
 use Rattle.plir_text.specs.declared.fault.Fault.{Fault}
-use Rattle.plir_text.specs.declared.fault.Fault.TheVariants.{Unexpected, TooDeep, IntegerOutOfRange, IntegerWidthUnsupported}
+use Rattle.plir_text.specs.declared.fault.Fault.TheVariants.{Unexpected, TooDeep, IntegerOutOfRange}
+use Rattle.plir_text.specs.declared.fault.Fault.TheVariants.{IntegerWidthUnsupported}
 use Rattle.plir_text.specs.declared.attr_words.AttrKind.{AttrKind}
 use Rattle.plir_text.specs.declared.attr_words.AttrKind.TheVariants as kinds
 
@@ -39,11 +41,13 @@ unfoldable pub name_at : List ℕ → Result (List ℕ × List ℕ) Fault
 name_at bytes = word_at bytes >>= λ w. if is_identifier w.0 then Ok (w.0, w.1) else Err Unexpected
 
 unfoldable pub bool_at : List ℕ → Result (Bool × List ℕ) Fault
-bool_at bytes = word_at bytes >>= λ w. if bytes_eq w.0 (codes "true") then Ok (true, w.1) else if bytes_eq w.0 (codes "false") then Ok (false, w.1) else Err Unexpected
+bool_at bytes = word_at bytes >>= λ w. if bytes_eq w.0 (codes "true") then Ok (true, w.1)
+    else if bytes_eq w.0 (codes "false") then Ok (false, w.1) else Err Unexpected
 
 -- a string
 unfoldable pub text_at : List ℕ → Result (List ℕ × List ℕ) Fault
-text_at bytes = sign_at 34 bytes >>= λ inside. string_at inside >>= λ s. if is_utf8 s.0 then Ok (s.0, s.1) else Err Unexpected
+text_at bytes = sign_at 34 bytes >>= λ inside. string_at inside >>= λ s. if is_utf8 s.0 then Ok (s.0, s.1)
+    else Err Unexpected
 
 abbrev pub as_size : Token → List ℕ → Result (ℕ × List ℕ) Fault
 as_size (digits n) rest = if nat_lt n (2 ^ 32) then Ok (n, rest) else Err IntegerOutOfRange
@@ -57,7 +61,8 @@ as_size (sign b) rest = Err Unexpected
 unfoldable pub size_at : List ℕ → Result (ℕ × List ℕ) Fault
 size_at bytes = look bytes >>= λ t. as_size t.0 t.1
 
-abbrev pub unless_unset : Option (List ℕ) → (set : Result (Option (List ℕ) × List ℕ) Fault) → Result (Option (List ℕ) × List ℕ) Fault
+abbrev pub unless_unset : Option (List ℕ) → (set : Result (Option (List ℕ) × List ℕ) Fault) →
+    Result (Option (List ℕ) × List ℕ) Fault
 unless_unset (Some rest) set = Ok (None, rest)
 unless_unset None set = set
 
@@ -90,16 +95,19 @@ value_of s m w = if is_width w then bits_of s m w else Err IntegerWidthUnsupport
 -- a type, which is a level, and the bits of a value of it, with at most n levels in it
 unfoldable pub value_at : (n : ℕ) → List ℕ → Result (((Signedness × ℕ) × ℕ) × List ℕ) Fault
 value_at n bytes =
-    sign_at 60 bytes >>= λ start. literal_at start >>= λ v. sign_at 58 v.1 >>= λ colon. level_at n colon >>= λ u. integer_at colon >>= λ t. sign_at 62 t.1 >>= λ end. value_of v.0.0 v.0.1 t.0.1 >>= λ b. Ok ((t.0, b), end)
+    sign_at 60 bytes >>= λ start. literal_at start >>= λ v. sign_at 58 v.1 >>= λ colon. level_at n colon >>=
+    λ u. integer_at colon >>= λ t. sign_at 62 t.1 >>= λ end. value_of v.0.0 v.0.1 t.0.1 >>= λ b. Ok ((t.0, b), end)
 
 -- ---- attributes in attributes
 
 -- a key and its attribute
-unfoldable pub entry_at : (read : List ℕ → Result (AttrTerm × List ℕ) Fault) → List ℕ → Result ((List ℕ × AttrTerm) × List ℕ) Fault
+unfoldable pub entry_at : (read : List ℕ → Result (AttrTerm × List ℕ) Fault) → List ℕ →
+    Result ((List ℕ × AttrTerm) × List ℕ) Fault
 entry_at read bytes = name_at bytes >>= λ k. sign_at 61 k.1 >>= λ behind. read behind >>= λ x. Ok ((k.0, x.0), x.1)
 
 -- what stands behind an id, where at most n levels stand in it, and `read` reads the attributes in it
-abbrev pub attr_body : (n : ℕ) → (read : List ℕ → Result (AttrTerm × List ℕ) Fault) → AttrKind → List ℕ → Result (AttrTerm × List ℕ) Fault
+abbrev pub attr_body : (n : ℕ) → (read : List ℕ → Result (AttrTerm × List ℕ) Fault) → AttrKind → List ℕ →
+    Result (AttrTerm × List ℕ) Fault
 attr_body n read kinds.Identifier bytes = read_as terms.identifier (name_at bytes)
 attr_body n read kinds.String bytes = read_as terms.string (text_at bytes)
 attr_body n read kinds.Bool bytes = read_as terms.bool (bool_at bytes)

@@ -1,5 +1,6 @@
 -- Handles in lists, and those that a type holds.
-use Rattle.std.proofs.Common.{◌≡◌, ℕ, zero, suc, ◌<◌, ◌≤◌, max, List, [], ◌∷◌, ◌++◌, length, get_or, All, Some, ap, ◌∙◌, arith}
+use Rattle.std.proofs.Common.{◌≡◌, ℕ, zero, suc, ◌<◌, ◌≤◌, max, List, [], ◌∷◌, ◌++◌, length, get_or, All, Some, ap, ◌∙◌}
+use Rattle.std.proofs.Common.{arith}
 use Rattle.plir_data.specs.TypeSeen.{type_view}
 use Rattle.plir_data.specs.Types.{TypeView, IsTypeTable, handles_of, type_at}
 use Rattle.plir_data.specs.declared.types.TypeObj.{TypeObj}
@@ -9,7 +10,10 @@ module _ {X : Type 0} (P : X → Type 0) where
   pub all_left : (xs ys : List X) → All P (xs ++ ys) → All P xs
   all_left [] ys all k d p = absurd (omega (arith, p))
   all_left (x ∷ xs) ys all zero d p = all 0 d (omega arith)
-  all_left (x ∷ xs) ys all (suc k) d p = all_left xs ys (λ i e q. all (suc i) e (omega (arith, q))) k d (omega (arith, p))
+  all_left (x ∷ xs) ys all (suc k) d p = all_left xs ys (λ i e q. all (suc i) e (omega (arith, q))) k d (omega (
+    arith,
+    p,
+  ))
 
   pub all_right : (xs ys : List X) → All P (xs ++ ys) → All P ys
   all_right [] ys all = all
@@ -27,7 +31,11 @@ above_each (n ∷ ns) (suc i) d within = omega (arith, above_each ns i d (omega 
 
 pub above_all_upto : (ns : List ℕ) (n : ℕ) → All (λ k. k < n) ns → above_all ns ≤ n
 above_all_upto [] n all = omega arith
-above_all_upto (k ∷ ns) n all = omega (arith, all 0 0 (omega arith), above_all_upto ns n (λ i d p. all (suc i) d (omega (arith, p))))
+above_all_upto (k ∷ ns) n all = omega (
+  arith,
+  all 0 0 (omega arith),
+  above_all_upto ns n (λ i d p. all (suc i) d (omega (arith, p))),
+)
 
 pub above_left : (ms ns : List ℕ) → above_all ms ≤ above_all (ms ++ ns)
 above_left [] ns = omega arith
@@ -38,5 +46,7 @@ above_right [] ns = omega arith
 above_right (m ∷ ms) ns = omega (arith, above_right ms ns)
 
 -- the type of a handle, as it was read, holds smaller handles alone
-pub held_below : {D K A T E : Type 0} (own_handles : T → List ℕ) (types : List (TypeView T)) (h : ℕ) (x y : TypeObj D K A T E) → type_at types h ≡ Some (type_view x) → IsTypeTable own_handles types → x ≡ y → All (λ k. k < h) (handles_of own_handles (type_view y))
+pub held_below : {D K A T E : Type 0} (own_handles : T → List ℕ) (types : List (TypeView T)) (h : ℕ)
+    (x y : TypeObj D K A T E) → type_at types h ≡ Some (type_view x) → IsTypeTable own_handles types → x ≡ y →
+    All (λ k. k < h) (handles_of own_handles (type_view y))
 held_below own_handles types h x y at whole is = whole.before (type_view y) h (at ∙ ap (λ z. Some (type_view z)) is)

@@ -5,9 +5,11 @@
 --   Terms                        types and attributes as they are written
 --   TypeGrammar, AttrGrammar     IsText: which tokens stand for a type, for an attribute
 --   Names, Parts                 the handles that written types name, and the types that others are made of
---   Meaning, MeantBy             StandsFor: the attribute that a text stands for; what a reader holds is meant by what is written
+--   Meaning, MeantBy             StandsFor: the attribute that a text stands for; what a reader holds is meant by what
+--   is written
 --   Steps, Lists, Wholes         reading step by step, of lists, of whole texts
---   TypeReading, AttrReading     type_at, attr_at: types and attributes as they are read, with the first fault that is met
+--   TypeReading, AttrReading     type_at, attr_at: types and attributes as they are read, with the first fault that is
+--   met
 --   Levels                       level_at: where a level begins
 --   TypesIn                      which types are written in a text
 --   Reading                      Reads, Gives: what a reader answers, by what is read
@@ -52,7 +54,8 @@ pub mod TextLaws
 --   PartsFound   the types that are written in a text are held by what the text stands for
 --   Growth, Meanings   what is named and meant in tables that grow
 --   Handles, SameNames, SameMeanings   what one text names and means is one handle, one attribute
---   Printed, Runs, QuotedAgain, TypesShown, AttrsShown   printed names, numbers, strings, types and attributes are tokens that stand for them
+--   Printed, Runs, QuotedAgain, TypesShown, AttrsShown   printed names, numbers, strings, types and attributes are
+--   tokens that stand for them
 pub mod StepLaws
 pub mod Lexing
 pub mod Quoted

@@ -1,11 +1,14 @@
 -- What is quoted, step by step.
-use Rattle.std.proofs.Common.{◌≡◌, ◌⊎◌, ℕ, zero, suc, ◌<◌, ◌≤◌, Bool, true, false, cond, nat_eq, ◌&&◌, List, [], ◌∷◌, ◌++◌, length, Option, Some, None, Result, Ok, Err, refl, sym, ap, subst, arith, inl, inr, ◌∙◌, append_assoc, append-nil}
+use Rattle.std.proofs.Common.{◌≡◌, ◌⊎◌, ℕ, zero, suc, ◌<◌, ◌≤◌, Bool, true, false, cond, nat_eq, ◌&&◌, List, [], ◌∷◌}
+use Rattle.std.proofs.Common.{◌++◌, length, Option, Some, None, Result, Ok, Err, refl, sym, ap, subst, arith, inl, inr}
+use Rattle.std.proofs.Common.{◌∙◌, append_assoc, append-nil}
 use Rattle.std.specs.Prelude.{encode_utf8}
 use Rattle.plir_text.specs.declared.fault.Fault.{Fault}
 use Rattle.plir_text.specs.declared.fault.Stop.{Stop}
 use Rattle.plir_text.specs.Bytes.{is_hex, front, past}
 use Rattle.plir_text.specs.Steps.{◌>>=◌}
-use Rattle.plir_text.specs.Strings.{is_code, closed_code, code_at, escape_at, unit_at, behind, onward, content_at, string_at}
+use Rattle.plir_text.specs.Strings.{is_code, closed_code, code_at, escape_at, unit_at, behind, onward, content_at}
+use Rattle.plir_text.specs.Strings.{string_at}
 use Rattle.plir_text.specs.Reading.{Fails}
 use Rattle.plir_text.specs.Lexing.{past-length}
 use Rattle.plir_text.specs.StepLaws.{chosen, bind_ok, done, ok_is, Fails-bind, Fails-from}
@@ -28,7 +31,8 @@ code-shorter (b ∷ bs) x e =
       | inr h ↦ absurd (let v = h.1 in cc)
     ]
 
-short_or : (t : Bool) (c : ℕ) (bs : List ℕ) (r : Result (ℕ × List ℕ) Fault) (x : ℕ × List ℕ) → cond t (Ok (c, bs)) r ≡ Ok x → (length x.1 ≤ length bs) ⊎ (r ≡ Ok x)
+short_or : (t : Bool) (c : ℕ) (bs : List ℕ) (r : Result (ℕ × List ℕ) Fault) (x : ℕ × List ℕ) →
+    cond t (Ok (c, bs)) r ≡ Ok x → (length x.1 ≤ length bs) ⊎ (r ≡ Ok x)
 short_or true c bs r x e = inl (subst (λ (z : ℕ × List ℕ). length z.1 ≤ length bs) (ok_is (c, bs) x e) (omega arith))
 short_or false c bs r x e = inr e
 
@@ -68,7 +72,10 @@ unit-shorter (b ∷ bs) x e =
       | inr g ↦ elim (chosen (nat_eq b 92) _ _ _ g.1) [
         | inl h ↦
             let a = bind_ok (escape_at bs) (λ y. Ok (Some (encode_utf8 y.0), y.1)) x h.1 in
-            subst (λ (z : Option (List ℕ) × List ℕ). length z.1 < suc (length bs)) (ok_is _ x a.2) (omega (arith, escape-shorter bs a.0 a.1))
+            subst (λ (z : Option (List ℕ) × List ℕ). length z.1 < suc (length bs)) (ok_is _ x a.2) (omega (
+              arith,
+              escape-shorter bs a.0 a.1,
+            ))
         | inr h ↦ subst (λ (z : Option (List ℕ) × List ℕ). length z.1 < suc (length bs)) (ok_is _ x h.1) (omega arith)
       ]
     ]
@@ -90,27 +97,36 @@ behind-behind a b (Ok x) = ap (λ (y : List ℕ). done (y, x.1)) (sym (append_as
 behind-behind a b (Err f) = refl
 
 module _ (front bytes : List ℕ) (total : Result (List ℕ × List ℕ) Fault) where
-  one_step : GoesOn front bytes total → (n : ℕ) × (length bytes ≤ n) × (behind front (unit_at bytes >>= λ u. onward (content_at n) u.0 u.1) ≡ total)
+  one_step : GoesOn front bytes total → (n : ℕ) × (length bytes ≤ n) × (behind front (unit_at bytes >>=
+      λ u. onward (content_at n) u.0 u.1) ≡ total)
   unfolding content_at
   one_step g = at g.0 g.1 g.2
     where
-      at : (n : ℕ) → length bytes < n → behind front (content_at n bytes) ≡ total → (m : ℕ) × (length bytes ≤ m) × (behind front (unit_at bytes >>= λ u. onward (content_at m) u.0 u.1) ≡ total)
+      at : (n : ℕ) → length bytes < n → behind front (content_at n bytes) ≡ total →
+          (m : ℕ) × (length bytes ≤ m) × (behind front (unit_at bytes >>= λ u. onward (content_at m) u.0 u.1) ≡ total)
       at zero lt e = absurd (omega arith)
       at (suc m) lt e = (m, omega arith, e)
 
   pub stops : (e : Stop) → GoesOn front bytes total → Fails e (unit_at bytes) → Fails e total
   stops e g h =
       let s = one_step g in
-      Fails-from e _ _ s.2 (Fails-bind e (unit_at bytes >>= λ u. onward (content_at s.0) u.0 u.1) (λ x. Ok (front ++ x.0, x.1)) (Fails-bind e (unit_at bytes) (λ u. onward (content_at s.0) u.0 u.1) h))
+      Fails-from e _ _ s.2 (Fails-bind e (unit_at bytes >>= λ u. onward (content_at s.0) u.0 u.1) (λ x. Ok (
+        front ++
+            x.0,
+        x.1,
+      )) (Fails-bind e (unit_at bytes) (λ u. onward (content_at s.0) u.0 u.1) h))
 
   pub ends : (rest : List ℕ) → GoesOn front bytes total → unit_at bytes ≡ Ok (None, rest) → total ≡ Ok (front, rest)
   ends rest g h =
       let s = one_step g in
-      let e : behind front (unit_at bytes >>= λ u. onward (content_at s.0) u.0 u.1) ≡ Ok (front ++ [], rest) = rw h refl in
+      let e : behind front (unit_at bytes >>= λ u. onward (content_at s.0) u.0 u.1) ≡ Ok (front ++ [], rest) =
+      rw h refl in
       sym s.2 ∙ e ∙ ap (λ (y : List ℕ). done (y, rest)) (append-nil front)
 
-  pub goes_on : (more rest : List ℕ) → GoesOn front bytes total → unit_at bytes ≡ Ok (Some more, rest) → GoesOn (front ++ more) rest total
+  pub goes_on : (more rest : List ℕ) → GoesOn front bytes total → unit_at bytes ≡ Ok (Some more, rest) →
+      GoesOn (front ++ more) rest total
   goes_on more rest g h =
       let s = one_step g in
-      let e : behind front (unit_at bytes >>= λ u. onward (content_at s.0) u.0 u.1) ≡ behind (front ++ more) (content_at s.0 rest) = rw h (behind-behind front more (content_at s.0 rest)) in
+      let e : behind front (unit_at bytes >>= λ u. onward (content_at s.0) u.0 u.1) ≡ behind (front ++
+      more) (content_at s.0 rest) = rw h (behind-behind front more (content_at s.0 rest)) in
       (s.0, omega (arith, unit-shorter bytes (Some more, rest) h), sym e ∙ s.2)

@@ -13,7 +13,8 @@ is_of_text Memory = false
 is_of_text TooManyNodes = false
 is_of_text _ = true
 
--- Reading met this fault of the text, unless memory was wanting. That there is room for no more nodes is an end only where
+-- Reading met this fault of the text, unless memory was wanting. That there is room for no more nodes is an end only
+-- where
 -- `crowded` holds.
 abbrev pub Ends : {Y : Type 0} (crowded : Type 0) → Stop → Result Y Fault → Type 0
 Ends crowded Wanting read = Unit {0}
@@ -35,7 +36,8 @@ Reads means (Ok x) read = (y : _) × (read ≡ Ok y) × means x y
 Reads means (Err stop) read = Fails stop read
 
 -- the same of what stands first in a text, where what stands behind it is answered beside it
-abbrev pub ReadsFirst : {X Y : Type 0} → (X → Y → Type 0) → Result (X × Bor (List ℕ)) Stop → Result (Y × List ℕ) Fault → Type 0
+abbrev pub ReadsFirst : {X Y : Type 0} → (X → Y → Type 0) → Result (X × Bor (List ℕ)) Stop → Result (Y × List ℕ) Fault →
+    Type 0
 ReadsFirst means result read = Reads (λ x y. means x.0 y.0 × (x.1.now ≡ y.1)) result read
 
 -- where nothing is wrong with the text, no place is told

@@ -11,7 +11,8 @@ chosen true x y z e = inl (refl, e)
 chosen false x y z e = inr (refl, e)
 
 -- the value of a step that did not fail
-pub bind_ok : {A B : Type 0} (r : Result A Fault) (f : A → Result B Fault) (y : B) → (r >>= f) ≡ Ok y → (x : A) × (r ≡ Ok x) × (f x ≡ Ok y)
+pub bind_ok : {A B : Type 0} (r : Result A Fault) (f : A → Result B Fault) (y : B) → (r >>= f) ≡ Ok y →
+    (x : A) × (r ≡ Ok x) × (f x ≡ Ok y)
 bind_ok (Ok x) f y e = (x, refl, e)
 bind_ok (Err d) f y e = absurd cc
 
@@ -22,7 +23,8 @@ pub ok_is : {A : Type 0} (x y : A) → done x ≡ done y → x ≡ y
 ok_is x y e = cc
 
 -- a fault of the first step is one of both
-pub Ends-bind : {A B : Type 0} (crowded : Type 0) (e : Stop) (r : Result A Fault) (f : A → Result B Fault) → Ends crowded e r → Ends crowded e (r >>= f)
+pub Ends-bind : {A B : Type 0} (crowded : Type 0) (e : Stop) (r : Result A Fault) (f : A → Result B Fault) →
+    Ends crowded e r → Ends crowded e (r >>= f)
 Ends-bind crowded Wanting r f h = tt
 Ends-bind crowded Crowded r f h = h
 Ends-bind crowded (At d left) r f h = (rw (h.0) refl, h.1)
@@ -30,7 +32,8 @@ Ends-bind crowded (At d left) r f h = (rw (h.0) refl, h.1)
 pub Fails-bind : {A B : Type 0} (e : Stop) (r : Result A Fault) (f : A → Result B Fault) → Fails e r → Fails e (r >>= f)
 Fails-bind e r f h = Ends-bind ⊥ e r f h
 
-pub Ends-from : {A : Type 0} (crowded : Type 0) (e : Stop) (r s : Result A Fault) → r ≡ s → Ends crowded e r → Ends crowded e s
+pub Ends-from : {A : Type 0} (crowded : Type 0) (e : Stop) (r s : Result A Fault) → r ≡ s → Ends crowded e r →
+    Ends crowded e s
 Ends-from crowded Wanting r s p h = tt
 Ends-from crowded Crowded r s p h = h
 Ends-from crowded (At d left) r s p h = (sym p ∙ h.0, h.1)

@@ -1,5 +1,6 @@
 -- Strings: what stands between two `"`, with escapes.
-use Rattle.std.specs.Prelude.{ℕ, zero, suc, List, [], ◌∷◌, ◌++◌, length, Bool, ◌&&◌, nat_eq, nat_le, nat_lt, ◌||◌, Option, Some, None, Result, Ok, Err, if◌then◌else◌, encode_utf8}
+use Rattle.std.specs.Prelude.{ℕ, zero, suc, List, [], ◌∷◌, ◌++◌, length, Bool, ◌&&◌, nat_eq, nat_le, nat_lt, ◌||◌}
+use Rattle.std.specs.Prelude.{Option, Some, None, Result, Ok, Err, if◌then◌else◌, encode_utf8}
 use Rattle.plir_text.specs.Bytes.{is_hex, front, past, hex_after}
 use Rattle.plir_text.specs.Steps.{◌>>=◌}
 use Rattle.plir_text.specs.declared.fault.Fault.{Fault}
@@ -48,7 +49,8 @@ unit_at (b ∷ bs) =
 abbrev pub behind : List ℕ → Result (List ℕ × List ℕ) Fault → Result (List ℕ × List ℕ) Fault
 behind front read = read >>= λ x. Ok (front ++ x.0, x.1)
 
-abbrev pub onward : (List ℕ → Result (List ℕ × List ℕ) Fault) → Option (List ℕ) → List ℕ → Result (List ℕ × List ℕ) Fault
+abbrev pub onward : (List ℕ → Result (List ℕ × List ℕ) Fault) → Option (List ℕ) → List ℕ →
+    Result (List ℕ × List ℕ) Fault
 onward read None rest = Ok ([], rest)
 onward read (Some front) rest = behind front (read rest)
 

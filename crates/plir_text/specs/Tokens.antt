@@ -26,8 +26,8 @@ is_mark b = nat_eq b 45 || nat_eq b 43
 abbrev pub number_of : List ℕ → ℕ
 number_of bytes = value_after 0 (front is_digit bytes)
 
--- The token that begins at the first byte, and what stands behind it. A string begins as the sign `"`. A second point in a word is a sign
--- behind it.
+-- The token that begins at the first byte, and what stands behind it. A string begins as the sign `"`. A second point
+-- in a word is a sign behind it.
 abbrev pub token_at : List ℕ → Result (Token × List ℕ) Fault
 token_at [] = Err Unexpected
 token_at (b ∷ bs) =
@@ -43,7 +43,10 @@ look bytes = token_at (past is_blank bytes)
 
 -- the token stands first in the text, and rest is what stands behind it
 abbrev pub Takes : List ℕ → Token → List ℕ → Type 0
-Takes bytes (quoted q) rest = (inside : List ℕ) × (look bytes ≡ Ok (sign 34, inside)) × (string_at inside ≡ Ok (q, rest))
+Takes bytes (quoted q) rest = (inside : List ℕ) × (look bytes ≡ Ok (sign 34, inside)) × (string_at inside ≡ Ok (
+  q,
+  rest,
+))
 Takes bytes (word w) rest = look bytes ≡ Ok (word w, rest)
 Takes bytes (digits n) rest = look bytes ≡ Ok (digits n, rest)
 Takes bytes (signed s n) rest = look bytes ≡ Ok (signed s n, rest)

@@ -3,7 +3,8 @@ use Rattle.std.specs.Prelude.{◌≡◌, ℕ, ◌^◌, ◌<◌, ◌≤◌, List,
 use Rattle.plir_data.specs.declared.types.Signedness.{Signedness}
 use Rattle.plir_data.specs.TypeText.{letters}
 use Rattle.plir_text.specs.Bytes.{is_digits, value_after}
-use Rattle.plir_text.specs.Terms.{TypeTerm, integer_type, function_type, unit_type, TypeTerms, no_types, type_before, type_levels}
+use Rattle.plir_text.specs.Terms.{TypeTerm, integer_type, function_type, unit_type, TypeTerms, no_types, type_before}
+use Rattle.plir_text.specs.Terms.{type_levels}
 use Rattle.plir_text.specs.Tokens.{Token, word, arrow, sign, IsTokens}
 
 -- `si`, `ui` or `i` and the digits of a width, which stand in one word
@@ -24,23 +25,28 @@ in_angles first second = sign 60 ∷ (enclosed 40 first 41 ++ (arrow ∷ (enclos
 
 abbrev mutual
   pub SpellsType : TypeTerm → List Token → Type 0
-  SpellsType (integer_type s w) ts = (behind : List Token) × SpellsInteger s w behind × (ts ≡ word (codes "builtin.integer") ∷ behind)
-  SpellsType (function_type as_ rs) ts = (first second : List Token) × SpellsTypes as_ first × SpellsTypes rs second × (ts ≡ word (codes "builtin.function") ∷ in_angles first second)
+  SpellsType (integer_type s w) ts =
+      (behind : List Token) × SpellsInteger s w behind × (ts ≡ word (codes "builtin.integer") ∷ behind)
+  SpellsType (function_type as_ rs) ts = (first second : List Token) × SpellsTypes as_ first × SpellsTypes rs second ×
+      (ts ≡ word (codes "builtin.function") ∷ in_angles first second)
   SpellsType unit_type ts = ts ≡ word (codes "builtin.unit") ∷ []
 
   -- types with commas between them
   pub SpellsTypes : TypeTerms → List Token → Type 0
   SpellsTypes no_types ts = ts ≡ []
-  SpellsTypes (type_before x xs) ts = (first more : List Token) × SpellsType x first × SpellsMoreTypes xs more × (ts ≡ first ++ more)
+  SpellsTypes (type_before x xs) ts = (first more : List Token) × SpellsType x first × SpellsMoreTypes xs more ×
+      (ts ≡ first ++ more)
 
   -- a comma before each type
   pub SpellsMoreTypes : TypeTerms → List Token → Type 0
   SpellsMoreTypes no_types ts = ts ≡ []
-  SpellsMoreTypes (type_before x xs) ts = (first more : List Token) × SpellsType x first × SpellsMoreTypes xs more × (ts ≡ sign 44 ∷ (first ++ more))
+  SpellsMoreTypes (type_before x xs) ts = (first more : List Token) × SpellsType x first × SpellsMoreTypes xs more ×
+      (ts ≡ sign 44 ∷ (first ++ more))
 
 -- a function type behind its id
 abbrev pub SpellsFunction : TypeTerms → TypeTerms → List Token → Type 0
-SpellsFunction as_ rs ts = (first second : List Token) × SpellsTypes as_ first × SpellsTypes rs second × (ts ≡ in_angles first second)
+SpellsFunction as_ rs ts = (first second : List Token) × SpellsTypes as_ first × SpellsTypes rs second ×
+    (ts ≡ in_angles first second)
 
 -- with at most n levels open
 abbrev pub TypeWithin : ℕ → TypeTerm → List Token → Type 0

@@ -38,12 +38,15 @@ arrow_at bytes = look bytes >>= λ t. as_arrow t.0 t.1
 
 -- the kind of type that an id names
 unfoldable pub type_kind : List ℕ → Result TypeKind Fault
-type_kind w = if bytes_eq w (codes "builtin.integer") then Ok Integer else if bytes_eq w (codes "builtin.function") then Ok Function else if bytes_eq w (codes "builtin.unit") then Ok Unit else Err Unexpected
+type_kind w = if bytes_eq w (codes "builtin.integer") then Ok Integer else if bytes_eq w (codes "builtin.function")
+    then Ok Function else if bytes_eq w (codes "builtin.unit") then Ok Unit else Err Unexpected
 
 -- digits of a width, that fill their word
 unfoldable pub width_of : Signedness → List ℕ → Result (Signedness × ℕ) Fault
 width_of s ds =
-    if begins is_digit ds then (if nat_lt (value_after 0 (front is_digit ds)) (2 ^ 32) then (if all_pass is_digit ds then Ok (s, value_after 0 (front is_digit ds)) else Err Unexpected) else Err IntegerOutOfRange)
+    if begins is_digit ds then (if nat_lt (value_after 0 (front is_digit ds)) (2 ^ 32)
+    then (if all_pass is_digit ds then Ok (s, value_after 0 (front is_digit ds)) else Err Unexpected)
+    else Err IntegerOutOfRange)
     else Err Unexpected
 
 -- a word that is `si`, `ui` or `i` and a width
@@ -52,7 +55,8 @@ integer_of [] = Err Unexpected
 integer_of (a ∷ []) = Err Unexpected
 integer_of (a ∷ b ∷ ds) =
     if nat_eq a 105 then width_of Signless (b ∷ ds)
-    else if nat_eq b 105 then (if nat_eq a 115 then width_of Signed ds else if nat_eq a 117 then width_of Unsigned ds else Err Unexpected)
+    else if nat_eq b 105 then (if nat_eq a 115 then width_of Signed ds else if nat_eq a 117 then width_of Unsigned ds
+    else Err Unexpected)
     else Err Unexpected
 
 -- an integer type behind its id
@@ -60,15 +64,21 @@ unfoldable pub integer_at : List ℕ → Result ((Signedness × ℕ) × List ℕ
 integer_at bytes = word_at bytes >>= λ w. integer_of w.0 >>= λ t. Ok (t, w.1)
 
 -- a function type behind its id, where `read` reads the types in it
-unfoldable pub function_at : (read : List ℕ → Result (TypeTerm × List ℕ) Fault) → List ℕ → Result ((TypeTerms × TypeTerms) × List ℕ) Fault
+unfoldable pub function_at : (read : List ℕ → Result (TypeTerm × List ℕ) Fault) → List ℕ →
+    Result ((TypeTerms × TypeTerms) × List ℕ) Fault
 function_at read bytes =
-    sign_at 60 bytes >>= λ start. items_at 40 41 read start >>= λ as_. arrow_at as_.1 >>= λ behind. items_at 40 41 read behind >>= λ rs. sign_at 62 rs.1 >>= λ end. Ok ((types_of as_.0, types_of rs.0), end)
+    sign_at 60 bytes >>= λ start. items_at 40 41 read start >>= λ as_. arrow_at as_.1 >>=
+    λ behind. items_at 40 41 read behind >>= λ rs. sign_at 62 rs.1 >>= λ end. Ok (
+      (types_of as_.0, types_of rs.0),
+      end,
+    )
 
 unfoldable pub type_head : List ℕ → Result (TypeKind × List ℕ) Fault
 type_head bytes = word_at bytes >>= λ w. type_kind w.0 >>= λ k. Ok (k, w.1)
 
 -- what stands behind an id
-abbrev pub type_body : (read : List ℕ → Result (TypeTerm × List ℕ) Fault) → TypeKind → List ℕ → Result (TypeTerm × List ℕ) Fault
+abbrev pub type_body : (read : List ℕ → Result (TypeTerm × List ℕ) Fault) → TypeKind → List ℕ →
+    Result (TypeTerm × List ℕ) Fault
 type_body read Integer bytes = integer_at bytes >>= λ x. Ok (integer_type x.0.0 x.0.1, x.1)
 type_body read Function bytes = function_at read bytes >>= λ x. Ok (function_type x.0.0 x.0.1, x.1)
 type_body read Unit bytes = Ok (unit_type, bytes)

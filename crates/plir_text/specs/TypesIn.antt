@@ -15,11 +15,13 @@ module _ {A : Type 0} (open_ close : ℕ) (read : List ℕ → Result (A × List
   -- from `start` on so many items are read, each with a comma behind it, and the next one begins at `place`
   abbrev pub IsBehind : (items : ℕ) → (start place : List ℕ) → Type 0
   IsBehind zero start place = place ≡ start
-  IsBehind (suc n) start place = (x : A × List ℕ) × (next : List ℕ) × (read start ≡ Ok x) × (separator_at close x.1 ≡ Ok (true, next)) × IsBehind n next place
+  IsBehind (suc n) start place = (x : A × List ℕ) × (next : List ℕ) × (read start ≡ Ok x) ×
+      (separator_at close x.1 ≡ Ok (true, next)) × IsBehind n next place
 
   -- an item of the list in brackets, which isn't empty, begins at `place`
   abbrev pub IsItemAt : (bytes place : List ℕ) → Type 0
-  IsItemAt bytes place = (start : List ℕ) × (items : ℕ) × (sign_at open_ bytes ≡ Ok start) × (past_sign close start ≡ None) × IsBehind items start place
+  IsItemAt bytes place = (start : List ℕ) × (items : ℕ) × (sign_at open_ bytes ≡ Ok start) ×
+      (past_sign close start ≡ None) × IsBehind items start place
 
   -- the type is written in an item of the list in brackets; `is_in` says which types are written in an item
   abbrev pub IsInList : (is_in : List ℕ → TypeTerm → Type 0) → List ℕ → TypeTerm → Type 0
@@ -32,7 +34,8 @@ IsInInteger bytes t = (x : (Signedness × ℕ) × List ℕ) × (integer_at bytes
 module _ (read : List ℕ → Result (TypeTerm × List ℕ) Fault) (is_in : List ℕ → TypeTerm → Type 0) where
   -- the types of the arguments are read, and the type is written in a result's type
   abbrev pub IsInResults : List ℕ → TypeTerm → Type 0
-  IsInResults bytes t = (arguments : List TypeTerm × List ℕ) × (behind : List ℕ) × (items_at 40 41 read bytes ≡ Ok arguments) × (arrow_at arguments.1 ≡ Ok behind) × IsInList 40 41 read is_in behind t
+  IsInResults bytes t = (arguments : List TypeTerm × List ℕ) × (behind : List ℕ) × (items_at 40 41 read bytes ≡ Ok
+      arguments) × (arrow_at arguments.1 ≡ Ok behind) × IsInList 40 41 read is_in behind t
 
   -- a function type is written behind its id, and the type is that one, or written in an argument's or a result's type
   abbrev pub IsInSignature : List ℕ → TypeTerm → Type 0
@@ -49,7 +52,8 @@ module _ (read : List ℕ → Result (TypeTerm × List ℕ) Fault) (is_in : List
 -- The type is written in the text of a type that begins here, with at most n levels open.
 unfoldable pub IsInType : (n : ℕ) → List ℕ → TypeTerm → Type 0
 IsInType zero bytes t = ⊥
-IsInType (suc n) bytes t = (id : TypeKind × List ℕ) × (type_head bytes ≡ Ok id) × IsInTypeBody (type_at n) (IsInType n) id.0 id.1 t
+IsInType (suc n) bytes t = (id : TypeKind × List ℕ) × (type_head bytes ≡ Ok id) × IsInTypeBody (type_at n) (IsInType n)
+    id.0 id.1 t
 
 -- the same behind the id of a function type, with at most n levels in it, and in a list of types
 abbrev pub IsInFunction : (n : ℕ) → List ℕ → TypeTerm → Type 0
@@ -60,16 +64,18 @@ IsInTypes n bytes t = IsInList 40 41 (type_at n) (IsInType n) bytes t
 
 -- the type is written in the attribute of an entry
 abbrev pub IsInEntry : (is_in : List ℕ → TypeTerm → Type 0) → List ℕ → TypeTerm → Type 0
-IsInEntry is_in bytes t = (key : List ℕ × List ℕ) × (behind : List ℕ) × (name_at bytes ≡ Ok key) × (sign_at 61 key.1 ≡ Ok behind) × is_in behind t
+IsInEntry is_in bytes t = (key : List ℕ × List ℕ) × (behind : List ℕ) × (name_at bytes ≡ Ok key) ×
+    (sign_at 61 key.1 ≡ Ok behind) × is_in behind t
 
 module _ (n : ℕ) (read : List ℕ → Result (AttrTerm × List ℕ) Fault) (is_in : List ℕ → TypeTerm → Type 0) where
-  -- The type is written behind the id of an attribute, where at most n levels stand in it: it is the type of an integer, or written in a type
-  -- or an attribute that stands there.
+  -- The type is written behind the id of an attribute, where at most n levels stand in it: it is the type of an
+  -- integer, or written in a type or an attribute that stands there.
   abbrev pub IsInAttrBody : AttrKind → List ℕ → TypeTerm → Type 0
   IsInAttrBody kinds.Identifier bytes t = ⊥
   IsInAttrBody kinds.String bytes t = ⊥
   IsInAttrBody kinds.Bool bytes t = ⊥
-  IsInAttrBody kinds.Integer bytes t = (v : ((Signedness × ℕ) × ℕ) × List ℕ) × (value_at n bytes ≡ Ok v) × (t ≡ integer_type v.0.0.0 v.0.0.1)
+  IsInAttrBody kinds.Integer bytes t = (v : ((Signedness × ℕ) × ℕ) × List ℕ) × (value_at n bytes ≡ Ok v) ×
+      (t ≡ integer_type v.0.0.0 v.0.0.1)
   IsInAttrBody kinds.Dict bytes t = IsInList 91 93 (entry_at read) (IsInEntry is_in) bytes t
   IsInAttrBody kinds.Vec bytes t = IsInList 91 93 read is_in bytes t
   IsInAttrBody kinds.Unit bytes t = ⊥
@@ -80,7 +86,8 @@ module _ (n : ℕ) (read : List ℕ → Result (AttrTerm × List ℕ) Fault) (is
 -- The type is written in the text of an attribute that begins here, with at most n levels open.
 unfoldable pub IsInAttr : (n : ℕ) → List ℕ → TypeTerm → Type 0
 IsInAttr zero bytes t = ⊥
-IsInAttr (suc n) bytes t = (id : AttrKind × List ℕ) × (attr_head bytes ≡ Ok id) × IsInAttrBody n (attr_at n) (IsInAttr n) id.0 id.1 t
+IsInAttr (suc n) bytes t = (id : AttrKind × List ℕ) × (attr_head bytes ≡ Ok id) × IsInAttrBody n (attr_at n)
+    (IsInAttr n) id.0 id.1 t
 
 -- the same behind its id, with at most n levels in it
 abbrev pub IsBehindId : (n : ℕ) → AttrKind → List ℕ → TypeTerm → Type 0

@@ -2,16 +2,20 @@
 use Rattle.std.specs.Prelude.{◌≡◌, ℕ, ◌^◌, ◌<◌, ◌≤◌, map, List, [], ◌∷◌, All, true, Option, Some, None}
 use Rattle.std.specs.Str.{IsUtf8}
 use Rattle.plir_data.specs.AttrVerify.{is_of_width}
-use Rattle.plir_data.specs.AttrView.{Leaf, identifier, string, bool, integer, unit, type_of, operand_segment_sizes, given_names, own, AttrView, leaf, dict, vec, Items, no_items, item, Entries, no_entries, entry}
+use Rattle.plir_data.specs.AttrView.{Leaf, identifier, string, bool, integer, unit, type_of, operand_segment_sizes}
+use Rattle.plir_data.specs.AttrView.{given_names, own, AttrView, leaf, dict, vec, Items, no_items, item, Entries}
+use Rattle.plir_data.specs.AttrView.{no_entries, entry}
 use Rattle.plir_data.specs.Dictionary.{IsDictionary}
 use Rattle.plir_data.specs.Identifier.{is_identifier}
 use Rattle.plir_data.specs.Types as types
 use Rattle.plir_data.specs.Types.{TypeView, IsLive, type_at}
-use Rattle.plir_data.specs.TypeTree.{TypeTree, integer_tree, function_tree, unit_tree, own_tree, Trees, no_trees, tree, trees_of, tree_of}
+use Rattle.plir_data.specs.TypeTree.{TypeTree, integer_tree, function_tree, unit_tree, own_tree, Trees, no_trees, tree}
+use Rattle.plir_data.specs.TypeTree.{trees_of, tree_of}
 use Rattle.plir_data.specs.declared.types.Signedness.{Signedness}
 use Rattle.plir_data.specs.declared.types.Signedness.TheVariants.{Signless}
 use Rattle.plir_text.specs.Terms as terms
-use Rattle.plir_text.specs.Terms.{TypeTerm, integer_type, function_type, unit_type, TypeTerms, no_types, type_before, types_levels, AttrTerm, AttrTerms, no_attrs, attr_before, EntryTerms, entry_before}
+use Rattle.plir_text.specs.Terms.{TypeTerm, integer_type, function_type, unit_type, TypeTerms, no_types, type_before}
+use Rattle.plir_text.specs.Terms.{types_levels, AttrTerm, AttrTerms, no_attrs, attr_before, EntryTerms, entry_before}
 
 module _ {T : Type 0} where
   -- a type that is made of builtin types alone, with widths below two to the 32
@@ -59,20 +63,23 @@ module _ {A : Type 0} where
   pairs_of (entry k x es) = (k, x) ∷ pairs_of es
 
 module _ {A T : Type 0} (table : List (TypeView T)) where
-  -- Names are identifiers, a text is UTF-8, an integer has a width from 1 to 64, which is that of its type, and bits below two to it,
-  -- a type is one of the table and builtin, sizes are below two to the 32, and nothing is of the user's own.
+  -- Names are identifiers, a text is UTF-8, an integer has a width from 1 to 64, which is that of its type, and bits
+  -- below two to it, a type is one of the table and builtin, sizes are below two to the 32, and nothing is of the
+  -- user's own.
   abbrev pub IsLeafWritable : Leaf A → Type 0
   IsLeafWritable (identifier w) = is_identifier w ≡ true
   IsLeafWritable (string s) = IsUtf8 s
   IsLeafWritable (bool b) = Unit {0}
-  IsLeafWritable (integer handle width bits) = (1 ≤ width) × (width ≤ 64) × (bits < 2 ^ width) × (is_of_width width (type_at table handle) ≡ true)
+  IsLeafWritable (integer handle width bits) =
+      (1 ≤ width) × (width ≤ 64) × (bits < 2 ^ width) × (is_of_width width (type_at table handle) ≡ true)
   IsLeafWritable unit = Unit {0}
   IsLeafWritable (type_of handle) = IsLive table handle × IsBuiltin (tree_of table handle)
   IsLeafWritable (operand_segment_sizes ns) = All (λ n. n < 2 ^ 32) ns
   IsLeafWritable (given_names ns) = All IsNameOrMark ns
   IsLeafWritable (own a) = ⊥
 
-  -- an attribute that a text can stand for: so is each leaf in it, and the keys of each dictionary in it are identifiers and ascend
+  -- an attribute that a text can stand for: so is each leaf in it, and the keys of each dictionary in it are
+  -- identifiers and ascend
   abbrev mutual
     pub IsWritable : AttrView A → Type 0
     IsWritable (leaf x) = IsLeafWritable x

@@ -1,5 +1,6 @@
 -- Strings and lists as they are printed.
-use Rattle.std.specs.Prelude.{ℕ, ◌+◌, ◌/◌, ◌%◌, List, [], ◌∷◌, ◌++◌, Bool, true, false, ◌||◌, nat_eq, nat_lt, if◌then◌else◌, codes, Option, Some, None, encode_utf8}
+use Rattle.std.specs.Prelude.{ℕ, ◌+◌, ◌/◌, ◌%◌, List, [], ◌∷◌, ◌++◌, Bool, true, false, ◌||◌, nat_eq, nat_lt}
+use Rattle.std.specs.Prelude.{if◌then◌else◌, codes, Option, Some, None, encode_utf8}
 
 -- a hexadecimal digit, in lower case
 abbrev pub hex_digit : ℕ → ℕ
@@ -13,7 +14,8 @@ hex n = if nat_lt n 16 then hex_digit n ∷ [] else hex_digit (n / 16) ∷ hex_d
 abbrev pub is_control : ℕ → Bool
 is_control b = nat_lt b 32 || nat_eq b 127
 
--- A byte of a string: `"`, `\`, line feed, tab, carriage return and NUL by their short escapes, other control characters by their number, any other as itself.
+-- A byte of a string: `"`, `\`, line feed, tab, carriage return and NUL by their short escapes, other control
+-- characters by their number, any other as itself.
 abbrev pub escape : ℕ → List ℕ
 escape b =
     if nat_eq b 34 then codes "\\\""

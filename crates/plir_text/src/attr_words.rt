@@ -75,7 +75,8 @@ pub fn read_attr_head(bytes: &[u8]) -> Result<(AttrKind, &[u8]), Stop>
 pub fn identifier_of(alloc: Global, word: &[u8], left: usize) -> Result<Identifier, Stop>
     ensures made { IfOk result (λ i. i ≡ word.now) }
     ensures formed { IfOk result (λ i. is_identifier word.now ≡ true) }
-    ensures refused { IfErr result (λ stop. (stop ≡ Wanting) ⊎ ((stop ≡ At Fault.Unexpected left) × (is_identifier word.now ≡ false))) }
+    ensures refused { IfErr result (λ stop. (stop ≡ Wanting) ⊎ ((stop ≡ At Fault.Unexpected left) ×
+        (is_identifier word.now ≡ false))) }
 {
     let Some(text) = text_of(Vec::from_slice(alloc, word)?) else {
         return Err(Stop::At(Fault::Unexpected, left));

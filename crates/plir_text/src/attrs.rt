@@ -9,7 +9,8 @@ ghost use Rattle.plir_text.specs.MeantBy.{IsMeantBy, AreMeantBy, IsEntryMeantBy}
 ghost use Rattle.plir_text.specs.Reading.{Gives, ReadsFirst};
 ghost use Rattle.plir_text.specs.Steps.{read_as};
 ghost use Rattle.plir_text.specs.Lists.{items_at};
-ghost use Rattle.plir_text.specs.AttrReading.{name_at, text_at, bool_at, size_at, given_name_at, entry_at, attr_body, attr_at};
+ghost use Rattle.plir_text.specs.AttrReading.{name_at, text_at, bool_at, size_at, given_name_at, entry_at, attr_body};
+ghost use Rattle.plir_text.specs.AttrReading.{attr_at};
 ghost use Rattle.plir_text.specs.TypesIn.{IsInEntry, IsInAttr, IsBehindId};
 
 use crate::attr_words::{
@@ -52,7 +53,8 @@ fn read_bool_attr<D: OpSet>(bytes: &[u8]) -> Result<(AttrObj<D>, &[u8]), Stop>
 
 // Sizes of segments as an attribute.
 fn read_sizes_attr<D: OpSet>(alloc: Global, bytes: &[u8]) -> Result<(AttrObj<D>, &[u8]), Stop>
-    ensures { Gives (λ x. (attr_view x.0, x.1.now)) result (read_as (λ w. leaf (operand_segment_sizes w)) (items_at 91 93 size_at bytes.now)) }
+    ensures { Gives (λ x. (attr_view x.0, x.1.now)) result (read_as (λ w. leaf (operand_segment_sizes w))
+        (items_at 91 93 size_at bytes.now)) }
 {
     let (sizes, rest) = read_sizes(alloc, bytes)?;
     Ok((
@@ -63,7 +65,8 @@ fn read_sizes_attr<D: OpSet>(alloc: Global, bytes: &[u8]) -> Result<(AttrObj<D>,
 
 // Given names as an attribute.
 fn read_names_attr<D: OpSet>(alloc: Global, bytes: &[u8]) -> Result<(AttrObj<D>, &[u8]), Stop>
-    ensures { Gives (λ x. (attr_view x.0, x.1.now)) result (read_as (λ w. leaf (given_names w)) (items_at 91 93 given_name_at bytes.now)) }
+    ensures { Gives (λ x. (attr_view x.0, x.1.now)) result (read_as (λ w. leaf (given_names w))
+        (items_at 91 93 given_name_at bytes.now)) }
 {
     let (names, rest) = read_given_names(alloc, bytes)?;
     Ok((AttrObj::GivenNames(GivenNamesAttr::from_names(names)), rest))
@@ -75,7 +78,8 @@ fn read_integer_attr<'a, D: OpSet, C: TypeStore<D>>(
     levels: usize,
     bytes: &'a [u8],
 ) -> Result<(AttrObj<D>, &'a [u8]), Stop>
-    ensures read { ReadsFirst (IsMeantBy (C.types ctx.new)) result (attr_body levels (attr_at levels) AttrKind.Integer bytes.now) }
+    ensures read { ReadsFirst (IsMeantBy (C.types ctx.new)) result (attr_body levels (attr_at levels) AttrKind.Integer
+        bytes.now) }
     ensures kept { Adds C.types C.same_besides (IsBehindId levels AttrKind.Integer bytes.now) ctx.old ctx.new }
 {
     let ((ty, value), rest) = read_value(levels, bytes)?;
@@ -90,7 +94,8 @@ fn read_type_attr<'a, D: OpSet, C: TypeStore<D>>(
     levels: usize,
     bytes: &'a [u8],
 ) -> Result<(AttrObj<D>, &'a [u8]), Stop>
-    ensures read { ReadsFirst (IsMeantBy (C.types ctx.new)) result (attr_body levels (attr_at levels) AttrKind.TypeOf bytes.now) }
+    ensures read { ReadsFirst (IsMeantBy (C.types ctx.new)) result (attr_body levels (attr_at levels) AttrKind.TypeOf
+        bytes.now) }
     ensures kept { Adds C.types C.same_besides (IsBehindId levels AttrKind.TypeOf bytes.now) ctx.old ctx.new }
 {
     match read_type_at(alloc, ctx, levels, bytes) {
@@ -127,7 +132,8 @@ pub fn read_entries<'a, D: OpSet, C: TypeStore<D>>(
     levels: usize,
     bytes: &'a [u8],
 ) -> Result<(AttributeDict<D>, &'a [u8]), Stop>
-    ensures read { ReadsFirst (λ es ts. IsDictMeant (C.types ctx.new) (entries_of ts) es) result (items_at 91 93 (entry_at (attr_at levels)) bytes.now) }
+    ensures read { ReadsFirst (λ es ts. IsDictMeant (C.types ctx.new) (entries_of ts) es) result
+        (items_at 91 93 (entry_at (attr_at levels)) bytes.now) }
     ensures kept { Adds C.types C.same_besides (IsBehindId levels AttrKind.Dict bytes.now) ctx.old ctx.new }
 {
     let start = read_sign(bytes, b'[')?;
@@ -159,7 +165,8 @@ fn read_items<'a, D: OpSet, C: TypeStore<D>>(
     levels: usize,
     bytes: &'a [u8],
 ) -> Result<(Vec<AttrObj<D>>, &'a [u8]), Stop>
-    ensures read { ReadsFirst (λ xs ts. AreMeantBy (C.types ctx.new) xs.items ts) result (items_at 91 93 (attr_at levels) bytes.now) }
+    ensures read { ReadsFirst (λ xs ts. AreMeantBy (C.types ctx.new) xs.items ts) result
+        (items_at 91 93 (attr_at levels) bytes.now) }
     ensures kept { Adds C.types C.same_besides (IsBehindId levels AttrKind.Vec bytes.now) ctx.old ctx.new }
 {
     let start = read_sign(bytes, b'[')?;
@@ -191,7 +198,8 @@ fn read_dict_attr<'a, D: OpSet, C: TypeStore<D>>(
     levels: usize,
     bytes: &'a [u8],
 ) -> Result<(AttrObj<D>, &'a [u8]), Stop>
-    ensures read { ReadsFirst (IsMeantBy (C.types ctx.new)) result (attr_body levels (attr_at levels) AttrKind.Dict bytes.now) }
+    ensures read { ReadsFirst (IsMeantBy (C.types ctx.new)) result (attr_body levels (attr_at levels) AttrKind.Dict
+        bytes.now) }
     ensures kept { Adds C.types C.same_besides (IsBehindId levels AttrKind.Dict bytes.now) ctx.old ctx.new }
 {
     match read_entries(alloc, ctx, levels, bytes) {
@@ -208,7 +216,8 @@ fn read_list_attr<'a, D: OpSet, C: TypeStore<D>>(
     levels: usize,
     bytes: &'a [u8],
 ) -> Result<(AttrObj<D>, &'a [u8]), Stop>
-    ensures read { ReadsFirst (IsMeantBy (C.types ctx.new)) result (attr_body levels (attr_at levels) AttrKind.Vec bytes.now) }
+    ensures read { ReadsFirst (IsMeantBy (C.types ctx.new)) result (attr_body levels (attr_at levels) AttrKind.Vec
+        bytes.now) }
     ensures kept { Adds C.types C.same_besides (IsBehindId levels AttrKind.Vec bytes.now) ctx.old ctx.new }
 {
     match read_items(alloc, ctx, levels, bytes) {

@@ -39,7 +39,8 @@ pub enum Fault {
     TooManyNodes,
 }
 
-/// A fault, and where it stands: lines and columns count from 1, columns in characters. Both are 0 for `Memory` and `TooManyNodes`.
+/// A fault, and where it stands: lines and columns count from 1, columns in characters. Both are 0 for `Memory` and
+/// `TooManyNodes`.
 #[derive(Clone, Copy, Debug, PartialEq, Eq, Error)]
 #[error("Parse error at line: {line}, column: {column}")]
 pub struct ReadErr {
@@ -51,7 +52,8 @@ pub struct ReadErr {
     pub fault: Fault,
 }
 
-// Why reading stopped: memory or room for a node is wanting, or a fault, with so many bytes of the text left where it stands.
+// Why reading stopped: memory or room for a node is wanting, or a fault, with so many bytes of the text left where it
+// stands.
 #[derive(Debug, Drop)]
 pub enum Stop {
     Wanting,

@@ -15,7 +15,8 @@ use plir_data::{
     TypeStore, TypeTable,
 };
 
-/// Whether the text of an attribute has at most so many levels at its deepest place. `read_attr` reads texts with at most 200.
+/// Whether the text of an attribute has at most so many levels at its deepest place. `read_attr` reads texts with at
+/// most 200.
 pub fn is_within_levels<D: OpSet, C: TypeStore<D>>(ctx: &C, attr: &AttrObj<D>, most: usize) -> bool
     requires { IsAttrLive D.attr_handles (C.types ctx.now) (attr_view attr.now) }
     ensures { IsTrue result ↔ (levels (attr_term (C.types ctx.now) (attr_view attr.now)) ≤ most) }
@@ -88,7 +89,8 @@ fn is_type_within<D: OpSet>(types: &TypeTable<D>, handle: TypeHandle, most: usiz
 #[cycle(types_within)]
 fn is_function_within<D: OpSet>(types: &TypeTable<D>, ty: &FunctionType, most: usize) -> bool
     requires { AllLive types.now (ty.now.0.0 ++ ty.now.0.1) }
-    ensures { IsTrue result ↔ ((handles_levels types.now ty.now.0.0 ≤ most) × (handles_levels types.now ty.now.0.1 ≤ most)) }
+    ensures { IsTrue result ↔ ((handles_levels types.now ty.now.0.0 ≤ most) × (handles_levels types.now ty.now.0.1 ≤
+        most)) }
 {
     are_types_within(types, ty.arg_types(), most) && are_types_within(types, ty.res_types(), most)
 }

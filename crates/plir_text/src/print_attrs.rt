@@ -3,7 +3,8 @@
 ghost use Rattle.std.specs.Prelude.{◌≡◌, IfOk, OnOk, map, string_bytes, true};
 ghost use Rattle.plir_data.specs.AttrLive.{IsAttrLive, AreItemsLive, AreEntriesLive};
 ghost use Rattle.plir_data.specs.AttrSeen.{attr_view};
-ghost use Rattle.plir_data.specs.AttrView.{integer, own, type_of, dict as dict_view, vec, items_of, entries_of, is_leaf};
+ghost use Rattle.plir_data.specs.AttrView.{integer, own, type_of, dict as dict_view, vec, items_of, entries_of};
+ghost use Rattle.plir_data.specs.AttrView.{is_leaf};
 ghost use Rattle.plir_data.specs.Integers.{literal};
 ghost use Rattle.plir_data.specs.Types.{IsLive, AllLive, type_at};
 ghost use Rattle.plir_data.specs.TypeText.{type_text};
@@ -124,7 +125,8 @@ fn put_list<D: OpSet>(
     list: &Vec<AttrObj<D>>,
 ) -> Result<(), Memory>
     requires { AreItemsLive D.attr_handles types.now (items_of (map attr_view list.now.items)) }
-    ensures { OnOk result (Puts out.old out.new (attribute_text D.OpSet types.now (vec (items_of (map attr_view list.now.items))))) }
+    ensures { OnOk result (Puts out.old out.new (attribute_text D.OpSet types.now
+        (vec (items_of (map attr_view list.now.items))))) }
 {
     put(out, "builtin.vec [")?;
     put_items(out, alloc, types, list)?;
@@ -141,7 +143,8 @@ fn put_items<D: OpSet>(
     list: &Vec<AttrObj<D>>,
 ) -> Result<(), Memory>
     requires { AreItemsLive D.attr_handles types.now (items_of (map attr_view list.now.items)) }
-    ensures { OnOk result (Puts out.old out.new (attributes_text D.OpSet types.now (items_of (map attr_view list.now.items)))) }
+    ensures { OnOk result (Puts out.old out.new (attributes_text D.OpSet types.now
+        (items_of (map attr_view list.now.items)))) }
 {
     let mut is_first = true;
     'items: for item in list {
@@ -171,7 +174,8 @@ fn put_bare_type<D: OpSet>(
     handle: TypeHandle,
 ) -> Result<(), Memory>
     requires { IsLive types.now handle }
-    ensures { OnOk result (Puts out.old out.new (bare_text (type_text D.type_id D.type_body_text types.now handle) (type_at types.now handle))) }
+    ensures { OnOk result (Puts out.old out.new (bare_text (type_text D.type_id D.type_body_text types.now handle)
+        (type_at types.now handle))) }
 {
     match types.get(handle) {
         TypeObj::Integer(ty) => put_integer_text(out, ty),
@@ -207,7 +211,8 @@ fn put_integer<D: OpSet>(
     value: &IntegerAttr,
 ) -> Result<(), Memory>
     requires { IsLive types.now value.now.ty }
-    ensures { OnOk result (Puts out.old out.new (plain_text D.OpSet types.now (integer value.now.ty value.now.value.width value.now.value.bits))) }
+    ensures { OnOk result (Puts out.old out.new
+        (plain_text D.OpSet types.now (integer value.now.ty value.now.value.width value.now.value.bits))) }
 {
     let handle = value.get_type().into();
     put(out, "builtin.integer <")?;

@@ -4,7 +4,8 @@ ghost use Rattle.std.specs.Prelude.{◌≡◌, ◌<◌, ◌++◌, OnOk, codes, �
 ghost use Rattle.std.specs.Fmt.{decimal};
 ghost use Rattle.plir_text.specs.AttrGrammar.{truth};
 ghost use Rattle.plir_text.specs.Puts.{Puts};
-ghost use Rattle.plir_text.specs.Written.{hex_digit, hex, is_control, escape, escape_char, escaped, quotation, joined, name_or_mark};
+ghost use Rattle.plir_text.specs.Written.{hex_digit, hex, is_control, escape, escape_char, escaped, quotation, joined};
+ghost use Rattle.plir_text.specs.Written.{name_or_mark};
 
 use plir_data::put::{put, put_comma};
 use plir_data::{
@@ -190,7 +191,8 @@ pub fn put_bool(out: &mut String, value: BoolAttr) -> Result<(), Memory>
 
 // Sizes of segments as an attribute.
 pub fn put_segments(out: &mut String, value: &OperandSegmentSizesAttr) -> Result<(), Memory>
-    ensures { OnOk result (Puts out.old out.new (codes "builtin.operand_segment_sizes [" ++ (joined decimal value.now ++ codes "]"))) }
+    ensures { OnOk result (Puts out.old out.new (codes "builtin.operand_segment_sizes [" ++
+        (joined decimal value.now ++ codes "]"))) }
 {
     put(out, "builtin.operand_segment_sizes [")?;
     put_sizes(out, value.0.as_slice())?;
@@ -200,7 +202,8 @@ pub fn put_segments(out: &mut String, value: &OperandSegmentSizesAttr) -> Result
 
 // Given names as an attribute.
 pub fn put_given_names(out: &mut String, value: &GivenNamesAttr) -> Result<(), Memory>
-    ensures { OnOk result (Puts out.old out.new (codes "builtin.given_names [" ++ (joined name_or_mark value.now ++ codes "]"))) }
+    ensures { OnOk result (Puts out.old out.new (codes "builtin.given_names [" ++ (joined name_or_mark value.now ++
+        codes "]"))) }
 {
     put(out, "builtin.given_names [")?;
     put_names(out, value.names())?;

@@ -5,7 +5,8 @@ ghost use Rattle.plir_data.specs.declared.types.Signedness.{Signedness};
 ghost use Rattle.plir_text.specs.Terms.{TypeTerm, TypeTerms, integer_type, function_type};
 ghost use Rattle.plir_text.specs.TypeGrammar.{IsText, TypeWithin, IsInteger, FunctionWithin};
 ghost use Rattle.plir_text.specs.Parts.{IsPartOf};
-ghost use Rattle.plir_text.specs.Names.{Adds, AreNamed, Grows, Names, StandsForType, StandsForInteger, StandsForFunction};
+ghost use Rattle.plir_text.specs.Names.{Adds, AreNamed, Grows, Names, StandsForType, StandsForInteger};
+ghost use Rattle.plir_text.specs.Names.{StandsForFunction};
 ghost use Rattle.plir_text.specs.Reading.{Reads, TellsNoPlace};
 ghost use Rattle.plir_text.specs.TypeReading.{integer_at, function_at, type_at};
 ghost use Rattle.plir_text.specs.TypesIn.{IsInInteger, IsInFunction, IsInType};
@@ -56,7 +57,8 @@ fn whole_function<D: OpSet, C: TypeStore<D>>(
     ctx: &mut C,
     bytes: &[u8],
 ) -> Result<TypeHandle, Stop>
-    ensures read { Reads (λ h x. Names (C.types ctx.new) h (function_type x.0 x.1)) result (whole (function_at (type_at 199)) bytes.now) }
+    ensures read { Reads (λ h x. Names (C.types ctx.new) h (function_type x.0 x.1)) result
+        (whole (function_at (type_at 199)) bytes.now) }
     ensures kept { Adds C.types C.same_besides (IsInFunction 199 bytes.now) ctx.old ctx.new }
 {
     let (handle, rest) = match read_function(alloc, ctx, MAX_LEVELS - 1, bytes) {
@@ -76,12 +78,14 @@ pub fn read_type<D: OpSet, C: TypeStore<D>>(
 ) -> Result<TypeHandle, ReadErr>
     ensures found { IfOk result (λ h. StandsForType 200 (C.types ctx.new) text.now h) }
     ensures fault { IfErr result (λ e. e.fault ≢ Fault.Memory → whole (type_at 200) text.now ≡ Err e.fault) }
-    ensures refused { IfErr result (λ e. e.fault ≢ Fault.Memory → (t : TypeTerm) → IsText (TypeWithin 200) text.now t → ⊥) }
+    ensures refused { IfErr result (λ e. e.fault ≢ Fault.Memory → (t : TypeTerm) → IsText (TypeWithin 200) text.now t →
+        ⊥) }
     ensures placeless { IfErr result TellsNoPlace }
     ensures grown { Grows (C.types ctx.old) (C.types ctx.new) }
     ensures named { AreNamed (IsInType 200 text.now) (C.types ctx.old) (C.types ctx.new) }
     // The types that come are parts of the one that the text stands for.
-    ensures held { (t : TypeTerm) → IsText (TypeWithin 200) text.now t → AreNamed (λ u. IsPartOf u t) (C.types ctx.old) (C.types ctx.new) }
+    ensures held { (t : TypeTerm) → IsText (TypeWithin 200) text.now t →
+        AreNamed (λ u. IsPartOf u t) (C.types ctx.old) (C.types ctx.new) }
     ensures rest { C.same_besides ctx.old ctx.new }
 {
     let bytes = text.as_bytes();
@@ -98,12 +102,14 @@ pub fn read_integer_type<D: OpSet, C: TypeStore<D>>(
 ) -> Result<TypeHandle, ReadErr>
     ensures found { IfOk result (λ h. StandsForInteger (C.types ctx.new) text.now h) }
     ensures fault { IfErr result (λ e. e.fault ≢ Fault.Memory → whole integer_at text.now ≡ Err e.fault) }
-    ensures refused { IfErr result (λ e. e.fault ≢ Fault.Memory → (x : Signedness × ℕ) → IsText IsInteger text.now x → ⊥) }
+    ensures refused { IfErr result (λ e. e.fault ≢ Fault.Memory → (x : Signedness × ℕ) → IsText IsInteger text.now x →
+        ⊥) }
     ensures placeless { IfErr result TellsNoPlace }
     ensures grown { Grows (C.types ctx.old) (C.types ctx.new) }
     ensures named { AreNamed (IsInInteger text.now) (C.types ctx.old) (C.types ctx.new) }
     // Only the type that the text stands for comes.
-    ensures held { (x : Signedness × ℕ) → IsText IsInteger text.now x → AreNamed (λ u. u ≡ integer_type x.0 x.1) (C.types ctx.old) (C.types ctx.new) }
+    ensures held { (x : Signedness × ℕ) → IsText IsInteger text.now x →
+        AreNamed (λ u. u ≡ integer_type x.0 x.1) (C.types ctx.old) (C.types ctx.new) }
     ensures rest { C.same_besides ctx.old ctx.new }
 {
     let bytes = text.as_bytes();
@@ -120,13 +126,16 @@ pub fn read_function_type<D: OpSet, C: TypeStore<D>>(
     text: &str,
 ) -> Result<TypeHandle, ReadErr>
     ensures found { IfOk result (λ h. StandsForFunction 200 (C.types ctx.new) text.now h) }
-    ensures fault { IfErr result (λ e. e.fault ≢ Fault.Memory → whole (function_at (type_at 199)) text.now ≡ Err e.fault) }
-    ensures refused { IfErr result (λ e. e.fault ≢ Fault.Memory → (x : TypeTerms × TypeTerms) → IsText (FunctionWithin 200) text.now x → ⊥) }
+    ensures fault { IfErr result (λ e. e.fault ≢ Fault.Memory →
+        whole (function_at (type_at 199)) text.now ≡ Err e.fault) }
+    ensures refused { IfErr result (λ e. e.fault ≢ Fault.Memory → (x : TypeTerms × TypeTerms) →
+        IsText (FunctionWithin 200) text.now x → ⊥) }
     ensures placeless { IfErr result TellsNoPlace }
     ensures grown { Grows (C.types ctx.old) (C.types ctx.new) }
     ensures named { AreNamed (IsInFunction 199 text.now) (C.types ctx.old) (C.types ctx.new) }
     // The types that come are parts of the one that the text stands for.
-    ensures held { (x : TypeTerms × TypeTerms) → IsText (FunctionWithin 200) text.now x → AreNamed (λ u. IsPartOf u (function_type x.0 x.1)) (C.types ctx.old) (C.types ctx.new) }
+    ensures held { (x : TypeTerms × TypeTerms) → IsText (FunctionWithin 200) text.now x →
+        AreNamed (λ u. IsPartOf u (function_type x.0 x.1)) (C.types ctx.old) (C.types ctx.new) }
     ensures rest { C.same_besides ctx.old ctx.new }
 {
     let bytes = text.as_bytes();

@@ -86,7 +86,8 @@ fn with_hex(number: u32, digit: u8) -> Option<u32>
 
 // The character whose number one to six hexadecimal digits write.
 fn code_char(digits: &[u8]) -> Option<char>
-    ensures { MatchOption result (is_code digits.now ≡ false) (λ c. (c ≡ hex_after 0 digits.now) × (is_code digits.now ≡ true)) }
+    ensures { MatchOption result (is_code digits.now ≡ false) (λ c. (c ≡ hex_after 0 digits.now) ×
+        (is_code digits.now ≡ true)) }
 {
     if digits.is_empty() || digits.len() > 6 {
         return None;
@@ -203,7 +204,8 @@ pub fn read_quoted(alloc: Global, bytes: &[u8]) -> Result<(Vec<u8>, &[u8]), Stop
 
 // The text of these bytes, if they are UTF-8.
 pub fn text_of(bytes: Vec<u8>) -> Option<String>
-    ensures { MatchOption result (is_utf8 bytes.items ≡ false) (λ s. (string_bytes s ≡ bytes.items) × (is_utf8 bytes.items ≡ true)) }
+    ensures { MatchOption result (is_utf8 bytes.items ≡ false) (λ s. (string_bytes s ≡ bytes.items) ×
+        (is_utf8 bytes.items ≡ true)) }
 {
     match String::from_utf8(bytes) {
         Ok(text) => Some(text),

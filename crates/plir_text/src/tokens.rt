@@ -143,8 +143,8 @@ fn is_whole_id(bytes: &[u8]) -> bool {
     }
 }
 
-// How many bytes are left where a word has its fault that is no id which may come there, with `left` where it stands: where the
-// text is cut in the id the fault stands at the text's end, else at the word's first character.
+// How many bytes are left where a word has its fault that is no id which may come there, with `left` where it stands:
+// where the text is cut in the id the fault stands at the text's end, else at the word's first character.
 pub fn unread_id_at(word: &[u8], left: usize) -> usize {
     if word.len() == left && !is_whole_id(word) {
         0
@@ -153,7 +153,8 @@ pub fn unread_id_at(word: &[u8], left: usize) -> usize {
     }
 }
 
-// How many bytes are left where a token has its fault that is no `->`: at the text's end, if that is cut behind the `-`.
+// How many bytes are left where a token has its fault that is no `->`: at the text's end, if that is cut behind the
+// `-`.
 pub fn unread_arrow_at(bytes: &[u8]) -> usize {
     let rest = past_blank(bytes);
     if rest == b"-".as_slice() {

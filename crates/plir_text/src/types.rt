@@ -51,7 +51,8 @@ fn read_types<'a, D: OpSet, C: TypeStore<D>>(
     levels: usize,
     bytes: &'a [u8],
 ) -> Result<(Vec<TypeHandle>, &'a [u8]), Stop>
-    ensures read { ReadsFirst (λ hs ts. NamesAll (C.types ctx.new) hs.items (types_of ts)) result (items_at 40 41 (type_at levels) bytes.now) }
+    ensures read { ReadsFirst (λ hs ts. NamesAll (C.types ctx.new) hs.items (types_of ts)) result
+        (items_at 40 41 (type_at levels) bytes.now) }
     ensures kept { Adds C.types C.same_besides (IsInTypes levels bytes.now) ctx.old ctx.new }
 {
     let start = read_sign(bytes, b'(')?;
@@ -82,7 +83,8 @@ fn function_handle<D: OpSet, C: TypeStore<D>>(
     results: Vec<TypeHandle>,
 ) -> Result<TypeHandle, Memory>
     requires { AllLive (C.types ctx.old) (arguments.items ++ results.items) }
-    ensures ok { IfOk result (λ h. IsInstantiated (C.types ctx.old) (function arguments.items results.items) h (C.types ctx.new)) }
+    ensures ok { IfOk result (λ h. IsInstantiated (C.types ctx.old) (function arguments.items results.items) h
+        (C.types ctx.new)) }
     ensures err { OnErr result (C.types ctx.new ≡ C.types ctx.old) }
     ensures rest { C.same_besides ctx.old ctx.new }
 {
@@ -99,7 +101,8 @@ pub fn read_function<'a, D: OpSet, C: TypeStore<D>>(
     levels: usize,
     bytes: &'a [u8],
 ) -> Result<(TypeHandle, &'a [u8]), Stop>
-    ensures read { ReadsFirst (λ h y. Names (C.types ctx.new) h (function_type y.0 y.1)) result (function_at (type_at levels) bytes.now) }
+    ensures read { ReadsFirst (λ h y. Names (C.types ctx.new) h (function_type y.0 y.1)) result
+        (function_at (type_at levels) bytes.now) }
     ensures kept { Adds C.types C.same_besides (IsInFunction levels bytes.now) ctx.old ctx.new }
 {
     let start = read_sign(bytes, b'<')?;

@@ -5,7 +5,8 @@ ghost use Rattle.plir_text.specs.Pieces.{token_of};
 ghost use Rattle.plir_text.specs.Reading.{Gives};
 ghost use Rattle.plir_text.specs.Levels.{if_level, level_at};
 ghost use Rattle.plir_text.specs.Lists.{is_sign, sign_at, past_sign, separator_at};
-ghost use Rattle.plir_text.specs.TypeReading.{word_at, arrow_at, type_kind, width_of, integer_of, integer_at, type_head};
+ghost use Rattle.plir_text.specs.TypeReading.{word_at, arrow_at, type_kind, width_of, integer_of, integer_at};
+ghost use Rattle.plir_text.specs.TypeReading.{type_head};
 
 use crate::fault::{Fault, Stop};
 use crate::tokens::{
@@ -192,7 +193,8 @@ fn integer_of(word: &[u8], left: usize) -> Result<(Signedness, u32), Stop>
     }
 }
 
-// How many bytes are left where an integer type has its fault that is one letter alone, with `left` where it stands: behind an
+// How many bytes are left where an integer type has its fault that is one letter alone, with `left` where it stands:
+// behind an
 // `i`, where its digits are wanting; at the text's end, if that is cut in `si` or `ui`.
 fn unread_letter_at(letter: u8, left: usize) -> usize {
     if letter == b'i' || (left == 1 && (letter == b's' || letter == b'u')) {

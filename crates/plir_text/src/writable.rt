@@ -8,7 +8,8 @@ ghost use Rattle.plir_data.specs.AttrView.{dict, integer, items_of, entries_of, 
 ghost use Rattle.plir_data.specs.Identifier.{is_identifier};
 ghost use Rattle.plir_data.specs.TypeTree.{trees_of, tree_of};
 ghost use Rattle.plir_data.specs.Types.{IsLive, AllLive};
-ghost use Rattle.plir_text.specs.Writable.{IsBuiltin, AreBuiltin, IsNameOrMark, IsLeafWritable, IsWritable, AreItemsWritable};
+ghost use Rattle.plir_text.specs.Writable.{IsBuiltin, AreBuiltin, IsNameOrMark, IsLeafWritable, IsWritable};
+ghost use Rattle.plir_text.specs.Writable.{AreItemsWritable};
 
 use plir_data::laws::tree_of_a_handle;
 use plir_data::{
@@ -87,7 +88,8 @@ fn are_items_writable<D: OpSet>(types: &TypeTable<D>, list: &Vec<AttrObj<D>>) ->
 // The type of an integer has the width of its value.
 fn is_integer_writable<D: OpSet>(types: &TypeTable<D>, value: &IntegerAttr) -> bool
     requires { IsLive types.now value.now.ty }
-    ensures { IsTrue result ↔ IsLeafWritable {A = D.Attr} types.now (integer value.now.ty value.now.value.width value.now.value.bits) }
+    ensures { IsTrue result ↔ IsLeafWritable {A = D.Attr} types.now (integer value.now.ty value.now.value.width
+        value.now.value.bits) }
 {
     let bits = value.value();
     match types.get(value.get_type().into()) {

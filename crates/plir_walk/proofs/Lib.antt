@@ -22,6 +22,7 @@ pub mod Reading
 pub mod Advancing
 pub mod Orders
 pub mod Lawfulness
+pub mod LawfulAbove
 pub mod NameLists
 pub mod NamedStores
 pub mod NamesTaken

@@ -24,6 +24,8 @@ pub record LawfulChanges (K A T : Type 0) (own_handles : A → List ℕ) : Type 
   pub none : (s : Store K A T) (n : IRNode) → Lawful (look s) n (look s)
   -- one lawful change after another
   pub both : (s t u : Store K A T) (n : IRNode) → IsForest (look s) → Lawful (look s) n (look t) → Lawful (look t) n (look u) → Lawful (look s) n (look u)
+  -- a lawful change at a node is lawful at each node that it stands under
+  pub above : (s t : Store K A T) (n r : IRNode) → IsForest (look s) → IsForest (look t) → IsLive s r → IsAncestor s r n → Lawful (look s) n (look t) → Lawful (look s) r (look t)
   -- n is live after it
   pub stays : (s t : Store K A T) (n : IRNode) → IsForest (look s) → Lawful (look s) n (look t) → IsLive s n → IsLive t n
   -- an edit of what an operation or a block holds, wherever it stands

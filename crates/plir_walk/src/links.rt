@@ -54,7 +54,7 @@ impl<D: OpSet> NodeLinks for Context<D> {
 
     fn forest(&self) {
         contexts_stand::<D>();
-        let _count = self.num_live();
+        self.stands();
     }
 
     fn parent(&self, node: IRNode) -> Option<IRNode> {

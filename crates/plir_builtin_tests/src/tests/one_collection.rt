@@ -24,7 +24,7 @@ fn add_module<D: OpSet>(
     ensures agree { AllAgree D.is_symbol D.is_symbol_table ctx.new tables.new }
     ensures given { AreGivenOut ctx.new tables.new }
 {
-    let _live = ctx.num_live();
+    ctx.stands();
     let made = ModuleOp::new(alloc, ctx, name);
     new_nodes_keep_agreement(ctx);
     let module = made?;

@@ -127,6 +127,18 @@ fn two_hundred_levels(rt: HostRuntime) -> Result<(), Mismatch> {
 }
 
 #[test]
+fn the_type_of_an_integer_is_a_level(rt: HostRuntime) -> Result<(), Mismatch> {
+    let script = "
+        nested-attr 198 | builtin.vec [ | builtin.integer <1: si8> | ] => read
+        nested-attr 199 | builtin.vec [ | builtin.integer <1: si8> | ] => TooDeep at 1:2608
+        nested-attr 198 | builtin.dict [a = | builtin.integer <-1: i64> | ] => read
+        nested-attr 199 | builtin.dict [a = | builtin.integer <-1: i64> | ] => TooDeep at 1:3405
+        nested-attr 198 | builtin.vec [ | builtin.type builtin.unit | ] => read
+        nested-attr 199 | builtin.vec [ | builtin.type builtin.unit | ] => TooDeep at 1:2601";
+    play_in(rt.alloc(), script)
+}
+
+#[test]
 fn a_level_too_many_comes_before_the_faults_in_it(rt: HostRuntime) -> Result<(), Mismatch> {
     let script = "
         nested-attr 199 | builtin.vec [ | builtin.integer <1: si4294967296> | => TooDeep at 1:2608

@@ -5,7 +5,7 @@ pub returns-in-AtBlockStart-clause-put : goal.returns-in-AtBlockStart-clause-put
 returns-in-AtBlockStart-clause-put g c = put-start c.args.ctx.now c.insert_at_front.new.ctx c.args.op c.args.block c.args.point c.requires.into c.in-AtBlockStart.b c.in-AtBlockStart.is c.insert_at_front.ensures.placed
 
 pub returns-in-BeforeOperation-clause-put : goal.returns-in-BeforeOperation-clause-put
-returns-in-BeforeOperation-clause-put g c = put-before c.args.ctx.now c.insert_before.new.ctx c.args.op c.args.block c.args.point c.requires.into c.stands.ensures c.in-BeforeOperation.mark c.in-BeforeOperation.is c.insert_before.ensures.placed
+returns-in-BeforeOperation-clause-put g c = put-before c.args.ctx.now c.insert_before.new.ctx c.args.op c.args.block c.args.point c.requires.into c.stands.ensures.standing c.in-BeforeOperation.mark c.in-BeforeOperation.is c.insert_before.ensures.placed
 
 pub returns-in-AfterOperation-clause-put : goal.returns-in-AfterOperation-clause-put
-returns-in-AfterOperation-clause-put g c = put-after c.args.ctx.now c.insert_after.new.ctx c.args.op c.args.block c.args.point c.requires.into c.stands.ensures c.in-AfterOperation.mark c.in-AfterOperation.is c.insert_after.ensures.placed
+returns-in-AfterOperation-clause-put g c = put-after c.args.ctx.now c.insert_after.new.ctx c.args.op c.args.block c.args.point c.requires.into c.stands.ensures.standing c.in-AfterOperation.mark c.in-AfterOperation.is c.insert_after.ensures.placed

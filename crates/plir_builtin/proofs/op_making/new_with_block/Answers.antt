@@ -89,7 +89,7 @@ returns-in-Ok-clause-too_many g c few =
     λ h. let e = c.with_attributes.ensures.too_many (omega (arith, h)) in let z : ⊥ = cc (e, c.in_ok-op.was) in z in
     let block : IsFullForBlock v.nodes → ⊥ =
     λ full. let e = c.add_block.ensures.too_many.1 full in let z : ⊥ = cc (e, c.in-Ok.is) in z in
-    absurd (room-was s v held c.num_live-live.ensures.whole.stored made op block few)
+    absurd (room-was s v held c.stands.ensures.whole.stored made op block few)
 
 pub returns-in-Err-clause-too_many_only : goal.returns-in-Err-clause-too_many_only
 returns-in-Err-clause-too_many_only g c e =
@@ -98,4 +98,4 @@ returns-in-Err-clause-too_many_only g c e =
     let held = op_view c.args.kind [] [] [] c.args.attributes in
     let made : v ≡ with_op s held 1 = search rules in
     let why : c.in-Err.refused ≡ TooManyNodes = cc (e) in
-    full-before s v held c.num_live-live.ensures.whole.stored made (c.add_block.ensures.too_many.0 (c.in-Err.is ∙ ap Err why))
+    full-before s v held c.stands.ensures.whole.stored made (c.add_block.ensures.too_many.0 (c.in-Err.is ∙ ap Err why))

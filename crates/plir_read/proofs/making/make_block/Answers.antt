@@ -23,12 +23,12 @@ pub returns-then-unset-clause-slots : goal.returns-then-unset-clause-slots
 returns-then-unset-clause-slots g c =
     let b = c.in-Ok.ensures in
     let v : BlockView g.row.D-Attr.Denot = record { label = c.args.head.label; arg_types = c.args.head.arguments.types.items; attributes = [] } in
-    block_given c.args.ctx.now c.new.new.ctx c.num_live-before.ensures.whole.stored v c.in-Ok.block b.ok b.made.new b.made.root
+    block_given c.args.ctx.now c.new.new.ctx c.stands.ensures.whole.stored v c.in-Ok.block b.ok b.made.new b.made.root
 
 pub returns-clause-slots : goal.returns-clause-slots
 returns-clause-slots g c =
     let b = c.in-Ok.ensures in
     let v : BlockView g.row.D-Attr.Denot = record { label = c.args.head.label; arg_types = c.args.head.arguments.types.items; attributes = [] } in
     let f : BlockView g.row.D-Attr.Denot → BlockView g.row.D-Attr.Denot = λ b. record b { attributes = dict_put b.attributes names_key (leaf (given_names c.args.head.arguments.names.items)) } in
-    let given = block_given c.args.ctx.now c.new.new.ctx c.num_live-before.ensures.whole.stored v c.in-Ok.block b.ok b.made.new b.made.root in
+    let given = block_given c.args.ctx.now c.new.new.ctx c.stands.ensures.whole.stored v c.in-Ok.block b.ok b.made.new b.made.root in
     given_edited c.args.ctx.now c.new.new.ctx c.put_names.new.ctx (BasicBlock c.in-Ok.block ∷ []) c.in-Ok.block f given c.in_ok-put_names.ensures.put

@@ -32,9 +32,9 @@ pub returns-in-Ok-clause-slots : goal.returns-in-Ok-clause-slots
 returns-in-Ok-clause-slots g c =
     let o = c.in-Ok.ensures in
     let v = op_view kinds.Constant c.in_ok-results.results.items c.new-operands.result.items c.new-successors.result.items c.in_ok-attributes.attributes in
-    leaf_given c.args.ctx.now c.with_attributes.new.ctx c.num_live-before.ensures.whole.stored v c.in-Ok.op o.ok o.made.new o.made.root
+    leaf_given c.args.ctx.now c.with_attributes.new.ctx c.stands.ensures.whole.stored v c.in-Ok.op o.ok o.made.new o.made.root
 
 pub returns-in-Err-clause-refused : goal.returns-in-Err-clause-refused
 returns-in-Err-clause-refused g c =
     let o = c.in-Err.ensures in
-    refused_as _ _ c.stop_of.result (λ e. op_crowded c.args.ctx.now.nodes c.with_attributes.new.ctx.nodes _ 0 (omega arith) c.num_live-before.ensures.whole.stored (o.too_many_only (ap (λ x. Err x) e)) o.err.nodes o.slots) c.stop_of.ensures
+    refused_as _ _ c.stop_of.result (λ e. op_crowded c.args.ctx.now.nodes c.with_attributes.new.ctx.nodes _ 0 (omega arith) c.stands.ensures.whole.stored (o.too_many_only (ap (λ x. Err x) e)) o.err.nodes o.slots) c.stop_of.ensures

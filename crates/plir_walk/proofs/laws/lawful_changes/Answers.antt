@@ -1,4 +1,5 @@
 use Rattle.plir_walk.proofs.Lawfulness.{lawful-none, lawful-then, lawful-stays, lawful-refused, lawful-placed, lawful-region, lawful-erased, op-edit-lawful, block-edit-lawful, op-edit-shape, block-edit-shape}
+use Rattle.plir_walk.proofs.LawfulAbove.{lawful-above}
 use Rattle.plir_walk.proofs.laws.lawful_changes.Goals as goal
 use Rattle.plir_core.specs.Forest.{look}
 
@@ -7,6 +8,7 @@ returns g c = record {
   forest = λ s w. (c.contexts_stand.ensures s w).forest;
   none = λ s n. lawful-none (look s) n;
   both = λ s t u n w f l. lawful-then (look s) (look t) (look u) n w f l;
+  above = λ s t n r w w' live under l. lawful-above (look s) (look t) n r w w' live under l;
   stays = λ s t n w f l. lawful-stays (look s) (look t) n w f l;
   op_edit = λ s n p f. op-edit-lawful s p f n;
   block_edit = λ s n p f. block-edit-lawful s p f n;

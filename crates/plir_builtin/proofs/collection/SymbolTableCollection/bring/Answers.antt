@@ -9,7 +9,7 @@ returns-clause-made g c = λ _. (c.in_ok-table.table, c.in_ok-cache.ensures.ok, 
 
 pub returns-clause-given : goal.returns-clause-given
 returns-clause-given g c = λ all.
-    brought-given c.args.ctx.now g.D.OpSet.is_symbol g.D.OpSet.is_symbol_table c.args.self.now c.args.op (c.stands.ensures.forest.live_given (Operation c.args.op) c.requires) c.cache.new.self
+    brought-given c.args.ctx.now g.D.OpSet.is_symbol g.D.OpSet.is_symbol_table c.args.self.now c.args.op (c.stands.ensures.standing.forest.live_given (Operation c.args.op) c.requires) c.cache.new.self
     (c.in_ok-table.table, c.in_ok-cache.ensures.ok, c.in_ok-table.ensures.op, c.in_ok-table.ensures.agrees) all
 
 pub returns-in_err-cache-clause-given : goal.returns-in_err-cache-clause-given

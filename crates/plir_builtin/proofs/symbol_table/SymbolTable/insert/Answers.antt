@@ -9,17 +9,17 @@ use Rattle.plir_builtin.proofs.symbol_table.SymbolTable.insert.Goals as goal
 
 pub carry_out-requires-clause-not_above : goal.carry_out-requires-clause-not_above
 carry_out-requires-clause-not_above g c =
-    insert-not_above g.D.OpSet.is_terminator g.D.OpSet.is_symbol g.D.OpSet.is_symbol_table c.args.ctx.now c.args.ctx.now c.stands.ensures c.stands.ensures c.args.self.now c.args.op c.args.point c.in_ok-name.field-0.name c.in_ok-name.field-0.body c.in_ok-name.field-0.place c.in_ok-name.ensures.ok c.requires.not_above
+    insert-not_above g.D.OpSet.is_terminator g.D.OpSet.is_symbol g.D.OpSet.is_symbol_table c.args.ctx.now c.args.ctx.now c.stands.ensures.standing c.stands.ensures.standing c.args.self.now c.args.op c.args.point c.in_ok-name.field-0.name c.in_ok-name.field-0.body c.in_ok-name.field-0.place c.in_ok-name.ensures.ok c.requires.not_above
 
 pub returns-clause-agrees : goal.returns-clause-agrees
 returns-clause-agrees g c =
-    insert-agrees g.D.OpSet.is_terminator g.D.OpSet.is_symbol g.D.OpSet.is_symbol_table c.args.ctx.now c.carry_out.new.ctx c.stands.ensures c.carry_out.ensures.stands c.args.self.now c.args.op c.args.point c.in_ok-name.field-0.name c.in_ok-name.field-0.body c.in_ok-name.field-0.place
+    insert-agrees g.D.OpSet.is_terminator g.D.OpSet.is_symbol g.D.OpSet.is_symbol_table c.args.ctx.now c.carry_out.new.ctx c.stands.ensures.standing c.carry_out.ensures.stands c.args.self.now c.args.op c.args.point c.in_ok-name.field-0.name c.in_ok-name.field-0.body c.in_ok-name.field-0.place
     (record { plan = c.in_ok-name.ensures.ok; stays = c.carry_out.ensures.stays; put = c.carry_out.ensures.put }) c.requires.table_live c.record_name.new.self c.in_ok-record_name.ensures.ok
 
 pub returns-clause-all_agree : goal.returns-clause-all_agree
 returns-clause-all_agree g c =
     keeps-put g.D.OpSet.is_symbol g.D.OpSet.is_symbol_table c.args.ctx.now c.carry_out.new.ctx c.args.self.now c.record_name.new.self
-    (insert-all g.D.OpSet.is_terminator g.D.OpSet.is_symbol g.D.OpSet.is_symbol_table c.args.ctx.now c.carry_out.new.ctx c.stands.ensures c.carry_out.ensures.stands c.args.self.now c.args.op c.args.point c.in_ok-name.field-0.name c.in_ok-name.field-0.body c.in_ok-name.field-0.place
+    (insert-all g.D.OpSet.is_terminator g.D.OpSet.is_symbol g.D.OpSet.is_symbol_table c.args.ctx.now c.carry_out.new.ctx c.stands.ensures.standing c.carry_out.ensures.stands c.args.self.now c.args.op c.args.point c.in_ok-name.field-0.name c.in_ok-name.field-0.body c.in_ok-name.field-0.place
     (record { plan = c.in_ok-name.ensures.ok; stays = c.carry_out.ensures.stays; put = c.carry_out.ensures.put }) c.requires.table_live c.record_name.new.self c.in_ok-record_name.ensures.ok)
 
 pub returns-clause-given : goal.returns-clause-given

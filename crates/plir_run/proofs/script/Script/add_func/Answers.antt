@@ -7,8 +7,8 @@ use Rattle.plir_run.proofs.script.Script.add_func.Goals as goal
 
 pub returns-in_err-made : goal.returns-in_err-made
 returns-in_err-made c =
-    let typed = agree-typed _ _ _ c.requires.agree c.num_live-before.ensures.whole c.get-ty.new.ctx c.new_nodes_keep_agreement.ensures.given c.new_nodes_keep_agreement.ensures.types c.get-ty.ensures.rest in record {
-      agree = agree-refused _ _ _ typed c.num_live-typed.ensures.whole _ c.new_nodes_keep_agreement-2.ensures.given c.new_nodes_keep_agreement-2.ensures.refused c.in_err-made.ensures.err c.new-made.ensures.given;
+    let typed = agree-typed _ _ _ c.requires.agree c.stands.ensures.whole c.get-ty.new.ctx c.new_nodes_keep_agreement.ensures.given c.new_nodes_keep_agreement.ensures.types c.get-ty.ensures.rest in record {
+      agree = agree-refused _ _ _ typed c.stands-2.ensures.whole _ c.new_nodes_keep_agreement-2.ensures.given c.new_nodes_keep_agreement-2.ensures.refused c.in_err-made.ensures.err c.new-made.ensures.given;
     }
 
 pub insert-requires-clause-target_live : goal.insert-requires-clause-target_live
@@ -21,5 +21,5 @@ insert-requires-clause-not_above c =
 
 pub insert-requires-clause-agree : goal.insert-requires-clause-agree
 insert-requires-clause-agree c =
-    let typed = agree-typed _ _ _ c.requires.agree c.num_live-before.ensures.whole c.get-ty.new.ctx c.new_nodes_keep_agreement.ensures.given c.new_nodes_keep_agreement.ensures.types c.get-ty.ensures.rest in
-    agree-made _ _ _ typed c.num_live-typed.ensures.whole _ c.new_nodes_keep_agreement-2.ensures.given c.new_nodes_keep_agreement-2.ensures.made _ c.in_ok-made.ensures.made c.new-made.ensures.given
+    let typed = agree-typed _ _ _ c.requires.agree c.stands.ensures.whole c.get-ty.new.ctx c.new_nodes_keep_agreement.ensures.given c.new_nodes_keep_agreement.ensures.types c.get-ty.ensures.rest in
+    agree-made _ _ _ typed c.stands-2.ensures.whole _ c.new_nodes_keep_agreement-2.ensures.given c.new_nodes_keep_agreement-2.ensures.made _ c.in_ok-made.ensures.made c.new-made.ensures.given

@@ -1,4 +1,4 @@
 use Rattle.plir_walk.proofs.links.ContextNodeLinks.forest.Goals as goal
 
 pub returns : goal.returns
-returns g c = (c.contexts_stand.ensures c.args.self.now c.num_live-count.ensures.whole).forest
+returns g c = (c.contexts_stand.ensures c.args.self.now c.stands.ensures.whole).forest

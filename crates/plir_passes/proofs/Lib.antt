@@ -1,0 +1,11 @@
+pub mod Nodes
+pub mod Keeping
+pub mod Converting
+pub mod Walking
+pub mod Limits
+pub mod Replacing
+pub mod Filters
+pub mod Unused
+pub mod Sweeps
+pub mod SweepBlock
+pub mod SweepWalk

@@ -1,0 +1,87 @@
+-- What the calls of a walk leave of its root, and that a walk with room for every node is never at its limit.
+use Rattle.std.proofs.Common.{◌≡◌, ◌≢◌, ℕ, zero, suc, ◌+◌, ◌≤◌, ◌^◌, arith, true, List, [], ◌∷◌, length, Option, Some, None, option_and_then, slice_get, Result, Err, ◌⊎◌, inl, inr, refl, sym, ap, subst, ◌∙◌}
+use Rattle.std.proofs.lemmas.Option.{none-some, same_Some}
+use Rattle.std.specs.declared.ops.ControlFlow.{ControlFlow}
+use Rattle.plir_store.specs.Members.{Has, Distinct}
+use Rattle.plir_store.specs.MemberLaws.{Has-at}
+use Rattle.plir_core.specs.declared.ptr.IRNode.{IRNode}
+use Rattle.plir_core.specs.Forest.{Shape, look, IsForest}
+use Rattle.plir_core.specs.Standing.{IsStanding}
+use Rattle.plir_core.specs.Store.{Store, IsLive, kids}
+use Rattle.plir_walk.specs.declared.interruptible.WalkContinue.{WalkContinue}
+use Rattle.plir_walk.specs.declared.limit.CallLimit.{CallLimit}
+use Rattle.plir_walk.specs.declared.config.WalkConfig.{WalkConfig}
+use Rattle.plir_walk.specs.Lists.{Pairs}
+use Rattle.plir_walk.specs.Calls.{Call, Relation, Chain, nodes_of}
+use Rattle.plir_walk.specs.Tree.{Tree, IsUnder, Place, node_at, NodeBefore}
+use Rattle.plir_walk.specs.Walk.{IsWalkWithin}
+use Rattle.plir_walk.specs.Config.{AllPre, AllPost}
+use Rattle.plir_walk.specs.Walked.{Walked, IsCallUnder}
+use Rattle.plir_walk.specs.Lawful.{Lawful}
+use Rattle.plir_walk.specs.Laws.{BeforeOrders}
+use Rattle.plir_walk.specs.LawfulChanges.{LawfulChanges}
+use Rattle.plir_walk.specs.CallLaws.{kept_from_entry_to_exit}
+
+pairs-distinct : {A : Type 0} (R : A → A → Type 0) (xs : List A) → ((a : A) → R a a → ⊥) → Pairs R xs → Distinct xs
+pairs-distinct R [] i h = tt
+pairs-distinct R (x ∷ xs) i h = (λ k. i x (h.0 x k), pairs-distinct R xs i h.1)
+
+length-nodes : {C S B : Type 0} (calls : List (Call C S B)) → length (nodes_of calls) ≡ length calls
+length-nodes [] = refl
+length-nodes (x ∷ xs) = ap suc (length-nodes xs)
+
+-- what stands under a live node is live
+pub under-live : (s : Shape) → IsForest s → (p : Place) (r n : IRNode) → s.live r ≡ true → node_at s.kids r p ≡ Some n → s.live n ≡ true
+under-live s w [] r n l e = subst (λ z. s.live z ≡ true) (same_Some r n e) l
+under-live s w (i ∷ p) r n l e = go (λ c m g. under-live s w p c n m g) (slice_get (s.kids r) i) refl e
+  where
+    go : ((c : IRNode) → s.live c ≡ true → node_at s.kids c p ≡ Some n → s.live n ≡ true)
+        → (o : Option IRNode) → slice_get (s.kids r) i ≡ o → option_and_then (λ c. node_at s.kids c p) o ≡ Some n → s.live n ≡ true
+    go rest None q e = absurd (none-some n e)
+    go rest (Some c) q e = rest c (w.kid_live r c (Has-at (s.kids r) i c q)) e
+
+module _ {K A T : Type 0} where
+  pub never-at-limit : {S B : Type 0} (w : WalkConfig) (c : Store K A T) (r : IRNode) (limit : ℕ) (calls : List (Call (Store K A T) S B)) (x : CallLimit)
+      → BeforeOrders → IsStanding c → IsLive c r → 2 ^ 32 ≤ limit + 1 → IsWalkWithin w (kids c) r limit calls (Err x) → ⊥
+  never-at-limit w c r limit calls x orders stands live enough v =
+      let once = pairs-distinct (NodeBefore w (kids c) r) (nodes_of calls) (orders w (kids c) r v.in_order.one_place).irreflexive v.in_order.increasing in
+      let missed = v.answers.3 in
+      let more = stands.measured.counted (missed.0 ∷ nodes_of calls) (missed.2, once) (λ n k. elim k [
+        | inl e ↦ subst (IsLive c) e (under-live (look c) stands.forest missed.1.0.0 r missed.0 live missed.1.0.1)
+        | inr i ↦ (let u = v.in_order.under_root n i in under-live (look c) stands.forest u.0 r n live u.1)
+      ]) in
+      let made = v.answers.0 in
+      let same = length-nodes calls in
+      let within = stands.within in
+      let fits = stands.limit_fits in
+      absurd (omega arith)
+
+  -- a walk that is at its limit, told by an equation
+  pub limit-at-exit : {S B : Type 0} {post : Relation (Store K A T) S B} (w : WalkConfig) (c c' : Store K A T) (s s' : S) (r : IRNode) (limit : ℕ) (answer : Result (ControlFlow B WalkContinue) CallLimit) (x : CallLimit)
+      → answer ≡ Err x → AllPre w → (walked : Walked look w post c s r limit answer c' s') → IsWalkWithin w (kids c') r limit walked.calls (Err x)
+  limit-at-exit w c c' s s' r limit answer x e pre walked = subst (λ z. IsWalkWithin w (kids c') r limit walked.calls z) e (walked.at_exit pre)
+
+  pub limit-at-entry : {S B : Type 0} {post : Relation (Store K A T) S B} (w : WalkConfig) (c c' : Store K A T) (s s' : S) (r : IRNode) (limit : ℕ) (answer : Result (ControlFlow B WalkContinue) CallLimit) (x : CallLimit)
+      → answer ≡ Err x → AllPost w → (walked : Walked look w post c s r limit answer c' s') → IsWalkWithin w (kids c) r limit walked.calls (Err x)
+  limit-at-entry w c c' s s' r limit answer x e post walked = subst (λ z. IsWalkWithin w (kids c) r limit walked.calls z) e (walked.at_entry post)
+
+  -- a walk of lawful calls is lawful at its root
+  module _ {S B : Type 0} (own : A → List ℕ) (laws : LawfulChanges K A T own) (post : Relation (Store K A T) S B) (r : IRNode)
+      (each : (c : Store K A T) (s : S) (n : IRNode) (a : ControlFlow B WalkContinue) (c' : Store K A T) (s' : S) → post c s n a c' s' → Lawful (look c) n (look c')) where
+    abbrev call : Relation (Store K A T) S B
+    call = IsCallUnder look r post
+
+    abbrev Lasts : Store K A T → S → Store K A T → S → Type 0
+    Lasts c s c' s' = IsForest (look c) → IsLive c r → IsForest (look c') × IsLive c' r × Lawful (look c) r (look c')
+
+    pub walk-lasts : (c c' : Store K A T) (s s' : S) (calls : List (Call (Store K A T) S B)) → IsForest (look c) → IsLive c r → Chain call c s calls c' s' → IsForest (look c') × IsLive c' r × Lawful (look c) r (look c')
+    walk-lasts c c' s s' calls w l h =
+        kept_from_entry_to_exit call Lasts
+        (record {
+          itself = λ d t w l. (w, l, laws.none d r);
+          on = λ d e f t u v g k w l. (let a = g w l in let b = k a.0 a.1 in (b.0, b.1, laws.both d e f r w a.2 b.2));
+        })
+        (λ d d' t t' n a p w l.
+        (let f = laws.above d d' n r w p.leaves l p.stands.under_root (each d t n a d' t' p.made) in
+        (p.leaves, laws.stays d d' r w f l, f)))
+        c c' s s' calls h w l

@@ -1,0 +1,43 @@
+use Rattle.std.proofs.Common.{sym, subst}
+use Rattle.plir_core.specs.declared.ptr.IRNode.TheVariants.{Operation, Region, BasicBlock}
+use Rattle.plir_passes.specs.Legal.{HasLegalKids}
+use Rattle.plir_passes.specs.Rewritten.{IsSettled}
+use Rattle.plir_passes.proofs.Keeping.{converted-none}
+use Rattle.plir_passes.proofs.Walking.{legal-under-op, legal-under-region, at-block}
+use Rattle.plir_passes.proofs.conversion.convert_below.Goals as goal
+
+pub returns-in-Operation : goal.returns-in-Operation
+returns-in-Operation g c =
+    let illegal = g.C.Conversion.illegal c.args.conversion.now in
+    let s = c.args.ctx.now in
+    record {
+      lawful = c.lawful_changes.ensures.none s c.args.node;
+      converted = converted-none illegal s;
+      settled = subst (λ z. IsSettled illegal s c.args.node z) (sym c.walk_advance.ensures) (subst (HasLegalKids illegal s) (sym c.in-Operation.is) (legal-under-op illegal s _));
+    }
+
+pub returns-in-Region : goal.returns-in-Region
+returns-in-Region g c =
+    let illegal = g.C.Conversion.illegal c.args.conversion.now in
+    let s = c.args.ctx.now in
+    record {
+      lawful = c.lawful_changes.ensures.none s c.args.node;
+      converted = converted-none illegal s;
+      settled = subst (λ z. IsSettled illegal s c.args.node z) (sym c.walk_advance-in-Region.ensures) (subst (HasLegalKids illegal s) (sym c.in-Region.is) (legal-under-region illegal s _));
+    }
+
+pub returns-in-Ok : goal.returns-in-Ok
+returns-in-Ok g c =
+    let illegal = g.C.Conversion.illegal c.args.conversion.now in
+    let t = c.convert_block.new.ctx in
+    let n = BasicBlock c.in-BasicBlock.block in
+    at-block illegal c.args.ctx.now t c.args.node c.in-BasicBlock.block c.walk_advance-in-Ok.result c.in-BasicBlock.is c.in-Ok.ensures.lawful c.in-Ok.ensures.converted
+    (subst (λ z. IsSettled illegal t n z) (sym c.walk_advance-in-Ok.ensures) c.in-Ok.ensures.legal)
+
+pub returns-in-Err : goal.returns-in-Err
+returns-in-Err g c =
+    let illegal = g.C.Conversion.illegal c.args.conversion.now in
+    let t = c.convert_block.new.ctx in
+    let n = BasicBlock c.in-BasicBlock.block in
+    at-block illegal c.args.ctx.now t c.args.node c.in-BasicBlock.block c.walk_break.result c.in-BasicBlock.is c.in-Err.ensures.lawful c.in-Err.ensures.converted
+    (subst (λ z. IsSettled illegal t n z) (sym c.walk_break.ensures) tt)

@@ -1,0 +1,11 @@
+//! Passes over the contracts of the crates below: conversion of illegal operations, and dead code elimination.
+#![tactic(auto)]
+
+mod conversion;
+mod dead_code;
+mod effects;
+pub mod laws;
+
+pub use conversion::{Conversion, convert, convert_block};
+pub use dead_code::{eliminate_dead_code, is_dead};
+pub use effects::{EffectKind, EffectSet, is_removable};

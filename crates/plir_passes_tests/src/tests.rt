@@ -1,0 +1,166 @@
+//! Passes over a toy op set, as scripts.
+use crate::{Renew, RenewErr, ToyKind};
+use plir_data::KindSet;
+use plir_passes::{convert, eliminate_dead_code};
+use plir_scripts::{Bench, Layer, Line, Mismatch, NodeCalls, ScriptKind, Stop, play};
+use std::alloc::Global;
+
+impl ScriptKind for ToyKind {
+    fn of_word(word: &str) -> Option<ToyKind> {
+        match word {
+            "add" => Some(ToyKind::Add),
+            "load" => Some(ToyKind::Load),
+            "call" => Some(ToyKind::Call),
+            "yield" => Some(ToyKind::Yield),
+            "old" => Some(ToyKind::Old),
+            "new" => Some(ToyKind::New),
+            _ => None,
+        }
+    }
+}
+
+/// The calls of this crate, `eliminate OP` and `renew OP`, and those on nodes.
+struct PassCalls;
+
+impl Layer<KindSet<ToyKind>> for PassCalls {
+    fn run(bench: &mut Bench<KindSet<ToyKind>>, line: Line<'_>) -> Result<(), Stop> {
+        if !matches!(line.command, "eliminate" | "renew") {
+            return NodeCalls::run(bench, line);
+        }
+        let op = bench.made.op(&bench.ctx, line.first)?;
+        if line.command == "eliminate" {
+            eliminate_dead_code(&mut bench.ctx, op);
+            bench.answer.put("done");
+            return Ok(());
+        }
+        let renew = Renew { alloc: bench.alloc };
+        match convert(&mut bench.ctx, &renew, op) {
+            Ok(()) => bench.answer.put("done"),
+            Err(RenewErr::Used) => bench.answer.put("used"),
+            Err(RenewErr::Node(refusal)) => return Err(Stop::from(refusal)),
+        }
+        Ok(())
+    }
+}
+
+// Plays a script of passes.
+fn play_in(alloc: Global, script: &str) -> Result<(), Mismatch> {
+    play::<KindSet<ToyKind>, PassCalls>(alloc, 100, script)
+}
+
+#[test]
+fn what_is_used_by_dead_operations_alone_goes(rt: HostRuntime) -> Result<(), Mismatch> {
+    let script = "
+        type builtin.unit => t0
+        op func 1 => o0
+        block => b0
+        back b0 r0
+        op add 0 t0 => o1
+        op add 0 t0 < o1.0 => o2
+        op add 0 t0 < o2.0 => o3
+        op load 0 t0 < o1.0 => o4
+        op constant 0 t0 => o5
+        op yield 0 < o1.0 => o6
+        back o1 b0
+        back o2 b0
+        back o3 b0
+        back o4 b0
+        back o5 b0
+        back o6 b0
+        eliminate o0 => done
+        live o2 => no
+        live o3 => no
+        live o5 => no
+        show b0 => -, in r0 o0, between - -, operations o1 o4 o6 to o6, terminator o6, arguments 0
+        eliminate o0 => done
+        count => 6";
+    play_in(rt.alloc(), script)
+}
+
+#[test]
+fn what_is_used_in_an_earlier_block_goes_too(rt: HostRuntime) -> Result<(), Mismatch> {
+    let script = "
+        type builtin.unit => t0
+        op func 1 => o0
+        block => b0
+        block => b1
+        back b0 r0
+        back b1 r0
+        op add 0 t0 => o1
+        op add 0 t0 < o1.0 => o2
+        back o2 b0
+        back o1 b1
+        eliminate o0 => done
+        live o1 => no
+        live o2 => no
+        count => 4";
+    play_in(rt.alloc(), script)
+}
+
+#[test]
+fn operations_that_use_each_other_stay(rt: HostRuntime) -> Result<(), Mismatch> {
+    let script = "
+        type builtin.unit => t0
+        op func 1 => o0
+        block => b0
+        back b0 r0
+        op add 0 t0 => o1
+        op add 0 t0 < o1.0 => o2
+        insert o1 0 o2.0
+        op add 1 t0 => o3
+        op call 0 t0 => o4
+        back o1 b0
+        back o2 b0
+        back o3 b0
+        back o4 b0
+        eliminate o0 => done
+        show b0 => -, in r0 o0, between - -, operations o1 o2 o3 o4 to o4, terminator -, arguments 0";
+    play_in(rt.alloc(), script)
+}
+
+#[test]
+fn old_operations_are_replaced_also_below_others(rt: HostRuntime) -> Result<(), Mismatch> {
+    let script = "
+        op func 1 => o0
+        block => b0
+        back b0 r0
+        op load 0 => o1
+        op old 0 => o2
+        op func 1 => o3
+        block => b1
+        back b1 r1
+        op old 0 => o4
+        op load 0 => o5
+        back o1 b0
+        back o2 b0
+        back o3 b0
+        back o4 b1
+        back o5 b1
+        count => 10
+        renew o0 => done
+        live o1 => yes
+        live o2 => no
+        live o4 => no
+        live o5 => yes
+        count => 10
+        renew o0 => done
+        count => 10";
+    play_in(rt.alloc(), script)
+}
+
+#[test]
+fn an_old_operation_that_is_used_is_refused(rt: HostRuntime) -> Result<(), Mismatch> {
+    let script = "
+        type builtin.unit => t0
+        op func 1 => o0
+        block => b0
+        back b0 r0
+        op old 0 t0 => o1
+        op load 0 < o1.0 => o2
+        back o1 b0
+        back o2 b0
+        renew o0 => used
+        live o1 => yes
+        live o2 => yes";
+    play_in(rt.alloc(), script)
+}
