@@ -12,7 +12,10 @@ use Rattle.plir_walk.specs.Lawful.{StandsUnder}
 use Rattle.plir_store.specs.Members.{Has}
 use Rattle.plir_walk.specs.declared.config.TheConstants.{WALKCONFIG_PREORDER_FORWARD as pre_forward}
 use Rattle.plir_walk.specs.declared.interruptible.WalkContinue.{WalkContinue}
+use Rattle.plir_walk.specs.Config.{AllPre}
 use Rattle.plir_walk.specs.Tree.{Tree, IsUnder, IsProperlyUnder, NodeBefore}
+use Rattle.plir_walk.specs.TreeLaws.{pre-order, properly-trans, properly-under, under-cases}
+use Rattle.plir_walk.specs.TreeLaws.{node-before-more, node-before-own}
 use Rattle.plir_walk.specs.Calls.{Call, Relation, nodes_of, NoBreak}
 use Rattle.plir_walk.specs.ShutOut.{IsSkipped}
 use Rattle.plir_walk.specs.Walk.{InOrder, IsDue, IsDueUpTo, CallsAllDue, CallsUpToLast, Answers}
@@ -20,7 +23,6 @@ use Rattle.plir_walk.specs.Walked.{WalkedOver}
 use Rattle.plir_builtin.specs.Handed.{OpRelation, PassesOn, IsToHand, HandsAll, HandsUpToBreak, IsHanding, HandedOver}
 use Rattle.plir_builtin.proofs.Bodies.{not_region_op}
 use Rattle.plir_builtin.proofs.Seeking.{one-more}
-use Rattle.plir_builtin.proofs.Places.{pre-order, properly-trans, properly-under, under-cases, node-before-more, node-before-own}
 use Rattle.plir_builtin.proofs.HandedCalls.{Kept, node-called, none-breaks, last-breaks, kept-has, has-kept, kept-pairs, kept-no_break, kept-last, skipped-below, skipped-above, table-called, filtered}
 
 -- what stands under the one region of an operation stands under the operation
@@ -33,6 +35,9 @@ under-region s op r n e u = record {
     one-more s.parent u.under_root.0 (Some n) (Region r) u.under_root.1 ∙ u.forest.kid_parent (Operation op) (Region r) (subst (λ z. Has z (Region r)) (sym e) (inl refl)),
   );
 }
+
+all-pre : AllPre pre_forward
+all-pre = (refl, refl, refl)
 
 true_not_false : true ≡ false → ⊥
 true_not_false e = cc
@@ -67,14 +72,14 @@ module _ {C S B : Type 0} (is_table : Ptr OperationKind → Bool) (t : Tree) (re
       ancestor = Operation q;
       under_root = properly-under t (Region reg) (Operation q) u;
       above = v;
-      order = pre-order (Operation q);
+      order = pre-order pre_forward all-pre (Operation q);
       skipped = tables q (properly-under t (Region reg) (Operation q) u) v e;
     }));
     no_skip = λ a s v. let z = skipped-below is_table xs hs k a s in d.1 (record {
       ancestor = a;
       under_root = order.under_root a (subst (λ m. Has (nodes_of xs) m) z.2 (node-called xs z.0 z.1));
       above = v;
-      order = pre-order a;
+      order = pre-order pre_forward all-pre a;
       skipped = z;
     });
   }
@@ -108,12 +113,12 @@ module _ {C S B : Type 0} (is_table : Ptr OperationKind → Bool) (t : Tree) (re
     tables-skipped p d q u v e =
         elim (table-called is_table xs hs k q ((upto front x are (Operation q)).1 (
           due-above (Operation q) (Operation p) d.0 u v,
-          λ y. d.1 (node-before-more t (Region reg) x.node (Operation q) (Operation p) y v),
+          λ y. d.1 (node-before-more pre_forward all-pre t (Region reg) x.node (Operation q) (Operation p) y v),
         )) e) [
           | inl s ↦ s
           | inr y ↦ absurd (d.1 (subst (λ z. NodeBefore pre_forward t (Region reg) z (Operation p))
               (sym (ap (λ z. z.node) (last-breaks front x none y.0 (subst (λ z. Has z y.0) are y.1) y.3.0 y.3.1) ∙ y.2))
-              (node-before-own t (Region reg) (Operation q) (Operation p) u v)))
+              (node-before-own pre_forward all-pre t (Region reg) (Operation q) (Operation p) u v)))
         ]
 
     hands-to : HandsUpToBreak is_table t (Region reg) hs b

@@ -18,7 +18,6 @@ pub mod Brought
 pub mod GivenOut
 pub mod NewNodes
 pub mod Seeking
-pub mod Places
 pub mod HandedCalls
 pub mod PassedOn
 pub mod Handing

@@ -32,6 +32,8 @@ pub mod Joining
 pub mod KidPlaces
 pub mod Backs
 pub mod Leaves
+pub mod KidsLeft
+pub mod Owned
 pub mod Indices
 pub mod Standing
 pub mod MadeUnused

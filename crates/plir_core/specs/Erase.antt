@@ -1,6 +1,6 @@
 -- What is left when a tree of nodes is erased.
-use Rattle.std.specs.Prelude.{◌≡◌, ℕ, zero, suc, ◌+◌, true, false, List, [], ◌∷◌, ◌++◌, length, Some}
-use Rattle.std.specs.List.{flat_map}
+use Rattle.std.specs.Prelude.{◌≡◌, ℕ, zero, suc, ◌+◌, Bool, true, false, List, [], ◌∷◌, ◌++◌, length, Some}
+use Rattle.std.specs.List.{filter, flat_map}
 use Rattle.plir_store.specs.Lists.{without_child}
 use Rattle.plir_store.specs.Table.{content_at, without_slot}
 use Rattle.plir_core.specs.declared.ptr.Ptr.{Ptr}
@@ -57,3 +57,10 @@ module _ {O B : Type 0} where
     -- there are as many nodes fewer as the tree had
     pub count : num_nodes t + length (tree_of s n) ≡ num_nodes s
     pub limit : t.limit ≡ s.limit
+
+  -- Each node that stays from s to t, where n with all below it was erased, has the kids that it had but for n, in their
+  -- order: `keeps` is any test that tells n from all other nodes.
+  abbrev pub LosesOneKid : Nodes O B → Nodes O B → IRNode → Type 0
+  LosesOneKid s t n =
+      (keeps : IRNode → Bool) → keeps n ≡ false → ((x : IRNode) → (x ≡ n → ⊥) → keeps x ≡ true) →
+      (m : IRNode) → (Reaches (node_parent s) m n → ⊥) → node_kids t m ≡ filter keeps (node_kids s m)

@@ -2,6 +2,7 @@
 ghost use Rattle.std.specs.Prelude.{◌≡◌, ◌⊎◌, [], ◌∷◌, ◌++◌, ◌+◌, List, Some, reverse, slice_get};
 ghost use Rattle.plir_core.specs.Above.{Reaches};
 ghost use Rattle.plir_core.specs.Contents.{OpView, BlockView};
+ghost use Rattle.plir_core.specs.Erase.{IsErased, LosesOneKid};
 ghost use Rattle.plir_store.specs.Members.{head};
 ghost use Rattle.plir_core.specs.Store.{Store, IsLive, kids, parent_of, IsIndexed};
 ghost use Rattle.plir_core.specs.Store.{first_kid, last_kid, next_sibling, prev_sibling};
@@ -14,6 +15,9 @@ ghost use Rattle.plir_core.specs.Grown.{Growth};
 ghost use Rattle.plir_core.specs.Made.{IsMade};
 ghost use Rattle.plir_core.specs.Unused.{IsUnusedOutside};
 ghost use Rattle.plir_core.specs.declared.ptr.IRNode.{IRNode as AnyNode};
+ghost use Rattle.plir_core.specs.declared.ptr.Operation.{Operation as OperationKind};
+ghost use Rattle.plir_core.specs.declared.ptr.Ptr.{Ptr as AnyPtr};
+ghost use Rattle.plir_core.specs.declared.ptr.Region.{Region as RegionKind};
 ghost use Rattle.plir_core.specs.Measures.{depth};
 
 use crate::context::Context;
@@ -65,6 +69,23 @@ pub fn prev_is_before<D: OpSet>(ctx: &Context<D>, kid: IRNode)
 pub fn nothing_stands_below_a_leaf<D: OpSet>(ctx: &Context<D>, leaf: IRNode)
     requires { kids ctx.now leaf ≡ [] }
     ensures { (n : AnyNode) → Reaches (parent_of ctx.now) n leaf → n ≡ leaf }
+{
+    ctx.stands();
+}
+
+/// A live region stands in an operation: there is no region that stands alone.
+pub fn regions_stand_in_operations<D: OpSet>(ctx: &Context<D>)
+    ensures { (r : AnyPtr RegionKind) → IsLive ctx.now (AnyNode.Region r) →
+        (p : AnyPtr OperationKind) × (parent_of ctx.now (AnyNode.Region r) ≡ Some (AnyNode.Operation p)) }
+{
+    ctx.stands();
+}
+
+/// After an erasure each node that stays has the kids that it had before, in their order, but for the node that was erased.
+/// It is called before the erasure; `after` is what that leaves, as its clause `tree` says.
+pub fn erasure_takes_one_kid<D: OpSet>(ctx: &Context<D>)
+    ensures { (after : Store D.Kind D.Attr D.Ty) (gone : AnyNode) → IsErased ctx.now.nodes after.nodes gone →
+        LosesOneKid ctx.now.nodes after.nodes gone }
 {
     ctx.stands();
 }

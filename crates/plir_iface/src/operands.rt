@@ -1,5 +1,6 @@
 //! Interfaces of operations by their operands.
 ghost use Rattle.std.specs.Prelude.{◌≡◌, ◌<◌, ◌+◌, ◌-◌, ◌^◌, ◌↔◌, Some, IsOk, IfOk, IfErr, IsSome, IfSome, slice_get};
+ghost use Rattle.plir_data.specs.Types.{IsLive as IsTypeLive};
 ghost use Rattle.plir_core.specs.Store.{IsLive, IsValueLive, operands_of};
 ghost use Rattle.plir_core.specs.Whole.{IsWhole};
 ghost use Rattle.plir_core.specs.declared.ptr.IRNode.{IRNode};
@@ -46,6 +47,7 @@ pub trait NOpdsInterface<D: OpSet, const N: usize>: Op<D> {
         requires live { IsLive ctx.now (IRNode.Operation (Self.pointer self.now)) }
         requires rule { HasNOpds N ctx.now (Self.pointer self.now) }
         ensures value { slice_get (operand_types ctx.now (Self.pointer self.now)) i.entry ≡ Some (Some result) }
+        ensures live { IsTypeLive ctx.now.types result }
         ensures whole { IsWhole D.attr_handles ctx.now }
     {
         type_of(ctx, operand_at(ctx, self.get_operation(), i.i()))
@@ -142,6 +144,7 @@ pub trait OneOpdInterface<D: OpSet>: Op<D> {
         requires live { IsLive ctx.now (IRNode.Operation (Self.pointer self.now)) }
         requires rule { HasNOpds 1 ctx.now (Self.pointer self.now) }
         ensures value { slice_get (operand_types ctx.now (Self.pointer self.now)) 0 ≡ Some (Some result) }
+        ensures live { IsTypeLive ctx.now.types result }
         ensures whole { IsWhole D.attr_handles ctx.now }
     {
         type_of(ctx, operand_at(ctx, self.get_operation(), 0))

@@ -1,5 +1,5 @@
 //! Interfaces of operations by their regions.
-ghost use Rattle.std.specs.Prelude.{◌≡◌, ◌↔◌, Some, Ok, IsOk, IfErr, slice_get, option_map};
+ghost use Rattle.std.specs.Prelude.{◌≡◌, ◌↔◌, Some, Ok, IsOk, IfErr, IfSome, slice_get, option_map};
 ghost use Rattle.plir_store.specs.Members.{head};
 ghost use Rattle.plir_core.specs.Store.{IsLive};
 ghost use Rattle.plir_core.specs.Whole.{IsWhole};
@@ -32,6 +32,7 @@ pub trait NRegionsInterface<D: OpSet, const N: usize>: Op<D> {
         requires live { IsLive ctx.now (IRNode.Operation (Self.pointer self.now)) }
         requires rule { HasNRegions N ctx.now (Self.pointer self.now) }
         ensures value { slice_get (regions_of ctx.now (Self.pointer self.now)) i.entry ≡ Some (IRNode.Region result) }
+        ensures live { IsLive ctx.now (IRNode.Region result) }
         ensures whole { IsWhole D.attr_handles ctx.now }
     {
         self.get_operation().get_region(ctx, i.i())
@@ -57,6 +58,7 @@ pub trait OneRegionInterface<D: OpSet>: Op<D> {
         requires live { IsLive ctx.now (IRNode.Operation (Self.pointer self.now)) }
         requires rule { HasNRegions 1 ctx.now (Self.pointer self.now) }
         ensures value { slice_get (regions_of ctx.now (Self.pointer self.now)) 0 ≡ Some (IRNode.Region result) }
+        ensures live { IsLive ctx.now (IRNode.Region result) }
         ensures whole { IsWhole D.attr_handles ctx.now }
     {
         self.get_operation().get_region(ctx, 0)
@@ -91,6 +93,7 @@ pub trait AtMostOneRegionInterface<D: OpSet>: AtMostNRegionsInterface<D, 1> {
     final fn get_region(&self, ctx: &Context<D>) -> Option<Ptr<Region>>
         requires { IsLive ctx.now (IRNode.Operation (Self.pointer self.now)) }
         ensures value { option_map IRNode.Region result ≡ head (regions_of ctx.now (Self.pointer self.now)) }
+        ensures live { IfSome result (λ r. IsLive ctx.now (IRNode.Region r)) }
         ensures whole { IsWhole D.attr_handles ctx.now }
     {
         self.get_operation().first_region(ctx)

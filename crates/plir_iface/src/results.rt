@@ -1,5 +1,6 @@
 //! Interfaces of operations by their results.
 ghost use Rattle.std.specs.Prelude.{◌≡◌, ◌<◌, ◌+◌, ◌-◌, ◌^◌, ◌↔◌, Some, IsOk, IfOk, IfErr, IsSome, IfSome, slice_get};
+ghost use Rattle.plir_data.specs.Types.{IsLive as IsTypeLive};
 ghost use Rattle.plir_core.specs.Store.{IsLive, IsValueLive};
 ghost use Rattle.plir_core.specs.Whole.{IsWhole};
 ghost use Rattle.plir_core.specs.declared.ptr.IRNode.{IRNode};
@@ -45,6 +46,7 @@ pub trait NResultsInterface<D: OpSet, const N: usize>: Op<D> {
         requires live { IsLive ctx.now (IRNode.Operation (Self.pointer self.now)) }
         requires rule { HasNResults N ctx.now (Self.pointer self.now) }
         ensures value { slice_get (result_types ctx.now (Self.pointer self.now)) i.entry ≡ Some (Some result) }
+        ensures live { IsTypeLive ctx.now.types result }
         ensures whole { IsWhole D.attr_handles ctx.now }
     {
         self.get_operation().get_type(ctx, i.i())
@@ -141,6 +143,7 @@ pub trait OneResultInterface<D: OpSet>: Op<D> {
         requires live { IsLive ctx.now (IRNode.Operation (Self.pointer self.now)) }
         requires rule { HasNResults 1 ctx.now (Self.pointer self.now) }
         ensures value { slice_get (result_types ctx.now (Self.pointer self.now)) 0 ≡ Some (Some result) }
+        ensures live { IsTypeLive ctx.now.types result }
         ensures whole { IsWhole D.attr_handles ctx.now }
     {
         self.get_operation().get_type(ctx, 0)

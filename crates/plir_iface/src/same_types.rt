@@ -1,6 +1,7 @@
 //! Interfaces of operations whose operands, or results, have one type.
-ghost use Rattle.std.specs.Prelude.{◌≡◌, ◌↔◌, IsOk, IfErr, IsTrue};
+ghost use Rattle.std.specs.Prelude.{◌≡◌, ◌↔◌, IsOk, IfErr, IfSome, IsTrue};
 ghost use Rattle.plir_core.specs.declared.ptr.IRNode.{IRNode};
+ghost use Rattle.plir_data.specs.Types.{IsLive as IsTypeLive};
 ghost use Rattle.plir_core.specs.Store.{IsLive};
 ghost use Rattle.plir_core.specs.Whole.{IsWhole};
 ghost use Rattle.plir_iface.specs.Counts.{operand_types, result_types};
@@ -82,6 +83,7 @@ pub trait SameOperandsType<D: OpSet>: Op<D> {
     final fn common_operand_type(&self, ctx: &Context<D>) -> Option<TypeHandle>
         requires { IsLive ctx.now (IRNode.Operation (Self.pointer self.now)) }
         ensures value { result ≡ type_in (operand_types ctx.now (Self.pointer self.now)) 0 }
+        ensures live { IfSome result (IsTypeLive ctx.now.types) }
         ensures whole { IsWhole D.attr_handles ctx.now }
     {
         Side::Operands.first_type(ctx, self.get_operation())
@@ -106,6 +108,7 @@ pub trait SameResultsType<D: OpSet>: Op<D> {
     final fn common_result_type(&self, ctx: &Context<D>) -> Option<TypeHandle>
         requires { IsLive ctx.now (IRNode.Operation (Self.pointer self.now)) }
         ensures value { result ≡ type_in (result_types ctx.now (Self.pointer self.now)) 0 }
+        ensures live { IfSome result (IsTypeLive ctx.now.types) }
         ensures whole { IsWhole D.attr_handles ctx.now }
     {
         Side::Results.first_type(ctx, self.get_operation())
@@ -133,6 +136,7 @@ pub trait SameOperandsAndResultType<D: OpSet>: SameOperandsType<D> + SameResults
     final fn common_type(&self, ctx: &Context<D>) -> Option<TypeHandle>
         requires { IsLive ctx.now (IRNode.Operation (Self.pointer self.now)) }
         ensures value { result ≡ first_type ctx.now (Self.pointer self.now) }
+        ensures live { IfSome result (IsTypeLive ctx.now.types) }
         ensures whole { IsWhole D.attr_handles ctx.now }
     {
         let op = self.get_operation();

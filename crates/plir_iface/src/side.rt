@@ -1,5 +1,5 @@
 //! The operands of an operation and its results as one idea: values in order, each with its type.
-ghost use Rattle.std.specs.Prelude.{◌≡◌, ◌<◌, Some, length};
+ghost use Rattle.std.specs.Prelude.{◌≡◌, ◌<◌, IfSome, Some, length};
 ghost use Rattle.plir_data.specs.Types.{IsLive as IsTypeLive};
 ghost use Rattle.plir_core.specs.declared.ptr.IRNode.{IRNode};
 ghost use Rattle.plir_core.specs.Store.{IsLive};
@@ -55,6 +55,7 @@ impl Side {
     ) -> Option<TypeHandle>
         requires { IsLive ctx.now (IRNode.Operation op) }
         ensures value { result ≡ type_in (types_on self ctx.now op) 0 }
+        ensures live { IfSome result (IsTypeLive ctx.now.types) }
         ensures whole { IsWhole D.attr_handles ctx.now }
     {
         if self.len(ctx, op) == 0 {

@@ -15,7 +15,7 @@ use Rattle.plir_walk.specs.Lawful.{Lawful}
 use Rattle.plir_passes.specs.Legal.{is_illegal, HasLegalKids}
 use Rattle.plir_passes.specs.Rewritten.{BringsNoIllegal, IsConverted, IsRewriting, IsReplaced}
 use Rattle.plir_passes.specs.Passing.{left_from, IsPassed}
-use Rattle.plir_passes.proofs.Nodes.{left-cut, split-at, not-both, never-true}
+use Rattle.plir_passes.proofs.Nodes.{left-cut, not-both, never-true}
 use Rattle.plir_passes.proofs.Keeping.{converted-none, converted-then}
 
 -- a list that begins with an operation, and one that does not begin

@@ -2,7 +2,6 @@ pub mod Nodes
 pub mod Keeping
 pub mod Converting
 pub mod Walking
-pub mod Limits
 pub mod Replacing
 pub mod Filters
 pub mod Unused

@@ -49,12 +49,6 @@ left-cut (x ∷ xs) ys p d = elim (op-tells x p) [
   | inr e ↦ rw e.0 (left-cut xs ys p d.1)
 ]
 
--- what is in a list stands between two others
-pub split-at : {A : Type 0} (xs : List A) (n : A) → Has xs n → (front : List A) × (back : List A) × (xs ≡ front ++ n ∷ back)
-split-at [] n h = absurd h
-split-at (x ∷ xs) n (inl e) = ([], xs, ap (λ z. z ∷ xs) e)
-split-at (x ∷ xs) n (inr h) = (let r = split-at xs n h in (x ∷ r.0, r.1, ap (λ z. x ∷ z) r.2))
-
 -- nothing is above nothing
 pub climb-nothing : {N : Type 0} (up : N → Option N) (k : ℕ) (a : N) → climb up k None ≡ Some a → ⊥
 climb-nothing up zero a e = none-some a e

@@ -3,7 +3,7 @@ use Rattle.std.proofs.Common.{◌≡◌, ℕ, zero, suc, Bool, true, false, List
 use Rattle.std.proofs.lemmas.Option.{none-some, same_Some}
 use Rattle.plir_data.specs.declared.op_set.OpKind.{OpKind}
 use Rattle.plir_store.specs.Members.{Has, Distinct}
-use Rattle.plir_store.specs.MemberLaws.{Has-append_left, Has-append_right, Has-append_cases, Has-mid}
+use Rattle.plir_store.specs.MemberLaws.{Has-split, Has-append_left, Has-append_right, Has-append_cases, Has-mid}
 use Rattle.plir_store.specs.Table.{content_at, is_live_at}
 use Rattle.plir_core.specs.declared.ptr.Ptr.{Ptr}
 use Rattle.plir_core.specs.declared.ptr.Operation.{Operation as OperationKind}
@@ -24,7 +24,7 @@ use Rattle.plir_walk.specs.LawfulChanges.{LawfulChanges}
 use Rattle.plir_passes.specs.Legal.{is_illegal, is_kind}
 use Rattle.plir_passes.specs.Kept.{Keeps, but_operands}
 use Rattle.plir_passes.specs.Rewritten.{IsRewriting, IsReplaced}
-use Rattle.plir_passes.proofs.Nodes.{split-at, not-both, block-tells, climb-nothing}
+use Rattle.plir_passes.proofs.Nodes.{not-both, block-tells, climb-nothing}
 
 moved-live : {O B : Type 0} (s t : Nodes O B) (x : IRNode) → MovesOnly s t x → (m : IRNode) → is_node_live t m ≡ is_node_live s m
 moved-live s t x e (Operation p) = ap (λ z. is_live_at z p.slot p.version) e.ops
@@ -66,7 +66,7 @@ module _ {K A T : Type 0} (illegal : OpKind K → Bool) where
     over = w.parent_live (BasicBlock b) (Operation op) here
 
     cut : (front : List IRNode) × (back : List IRNode) × (kids s (BasicBlock b) ≡ front ++ Operation op ∷ back)
-    cut = split-at (kids s (BasicBlock b)) (Operation op) (w.parent_kid (BasicBlock b) (Operation op) here)
+    cut = Has-split (kids s (BasicBlock b)) (Operation op) (w.parent_kid (BasicBlock b) (Operation op) here)
 
     now : (xs ys : List IRNode) → kids s (BasicBlock b) ≡ xs ++ Operation op ∷ ys → IsPlaced t.nodes u.nodes (Operation x) (BasicBlock b) (xs ++ Operation x ∷ Operation op ∷ ys)
     now xs ys e = placed (BasicBlock b) xs ys (made.kids (BasicBlock b) over ∙ e)

@@ -23,11 +23,11 @@ use Rattle.plir_walk.specs.declared.config.WalkConfig.{WalkConfig}
 use Rattle.plir_walk.specs.Config.{AllPost}
 use Rattle.plir_walk.specs.Calls.{Call, Relation, Chain}
 use Rattle.plir_walk.specs.Walked.{Walked, IsCallUnder}
-use Rattle.plir_walk.specs.CallLaws.{kept_from_entry_to_exit, holds_under_root}
+use Rattle.plir_walk.specs.CallLaws.{chain-each, kept_from_entry_to_exit, holds_under_root}
 use Rattle.plir_passes.specs.Dead.{IsUsedBy, HasNoDeadKid, HasNoDead}
 use Rattle.plir_passes.specs.Swept.{IsSwept, IsSweptBy, Tells}
 use Rattle.plir_passes.proofs.Nodes.{climb-nothing}
-use Rattle.plir_passes.proofs.Walking.{chain-each, reach-under}
+use Rattle.plir_walk.specs.TreeLaws.{reached-under}
 use Rattle.plir_passes.proofs.Sweeps.{swept-none, swept-then}
 
 -- among images that are no operations there is no operation
@@ -122,7 +122,7 @@ module _ {K A T : Type 0} (effect ends : K → Bool) where
         up None q = climb-nothing (parent_of c) under.0 r (ap (climb (parent_of c) under.0) (sym q) ∙ under.1)
         up (Some a) q =
             let walk = walked.at_entry all in
-            let there = reach-under (look c) forest under.0 a r (ap (climb (parent_of c) under.0) (sym q) ∙ under.1) in
+            let there = reached-under (look c) forest under.0 a r (ap (climb (parent_of c) under.0) (sym q) ∙ under.1) in
             let h = holds_under_root Idle (HasNoDeadKid effect ends)
             (λ d d' t t' n a m p k. subst (λ z. HasNoDeadKid effect ends z m) (sym (same-after d d' t t' n a p)) k)
             (λ d d' t t' n a p. (each d t n a d' t' p.0.made).1.clean p.1)

@@ -3,7 +3,7 @@ use Rattle.std.proofs.Common.{◌≡◌, ◌≢◌, ℕ, zero, suc, Bool, true, 
 use Rattle.std.specs.List.{filter}
 use Rattle.std.proofs.lemmas.Option.{none-some, same_Some}
 use Rattle.plir_store.specs.Members.{Has, Distinct}
-use Rattle.plir_store.specs.MemberLaws.{Has-append_left, Has-append_right, Has-append_cases, Distinct-cross, Distinct-right}
+use Rattle.plir_store.specs.MemberLaws.{Has-split, Has-append_left, Has-append_right, Has-append_cases, Distinct-cross, Distinct-right}
 use Rattle.plir_core.specs.declared.ptr.Ptr.{Ptr}
 use Rattle.plir_core.specs.declared.ptr.Operation.{Operation as OperationKind}
 use Rattle.plir_core.specs.declared.ptr.BasicBlock.{BasicBlock as BasicBlockKind}
@@ -17,7 +17,7 @@ use Rattle.plir_passes.specs.Legal.{is_kind}
 use Rattle.plir_passes.specs.Dead.{is_removable, Uses, IsUsedBy, AreDead}
 use Rattle.plir_passes.specs.Swept.{IsAmong, IsSwept}
 use Rattle.plir_passes.proofs.Filters.{filter-all, filter-twice, filter-without}
-use Rattle.plir_passes.proofs.Nodes.{op-tells, split-at, not-both, never-true, climb-nothing}
+use Rattle.plir_passes.proofs.Nodes.{op-tells, not-both, never-true, climb-nothing}
 
 -- a list has an operation, or it has not
 has-or-not : (xs : List IRNode) (p : Ptr OperationKind) → Has xs (Operation p) ⊎ (Has xs (Operation p) → ⊥)
@@ -114,7 +114,7 @@ module _ {K A T : Type 0} (effect ends : K → Bool) where
     kids-left : (n : IRNode) → IsLive t n → kids t n ≡ filter (is_live t) (kids s n)
     kids-left n k = elim (has-or-not (kids s n) p) [
       | inl h ↦
-          let r = split-at (kids s n) x h in
+          let r = Has-split (kids s n) x h in
           let once = subst Distinct r.2 (w.once n) in
           let live = λ (y : IRNode) (h : Has (kids s n) y). w.kid_live n y h in
           let left = λ (y : IRNode) (h : Has r.0 y). live-of y (λ is. Distinct-cross r.0 (x ∷ r.1) once y h (inl (sym is))) (live y (subst (λ z. Has z y) (sym r.2) (Has-append_left r.0 (x ∷ r.1) y h))) in

@@ -24,44 +24,17 @@ use Rattle.plir_walk.specs.declared.config.WalkConfig.{WalkConfig}
 use Rattle.plir_walk.specs.Config.{AllPre}
 use Rattle.plir_walk.specs.Calls.{Call, Relation, Chain, NoBreak}
 use Rattle.plir_walk.specs.Tree.{Tree, IsUnder, Place, node_at}
+use Rattle.plir_walk.specs.TreeLaws.{reached-under}
 use Rattle.plir_walk.specs.Walked.{Walked, IsCallUnder}
 use Rattle.plir_walk.specs.Walk.{IsWalkWithin}
 use Rattle.plir_walk.specs.Lawful.{Lawful}
-use Rattle.plir_walk.specs.CallLaws.{kept_from_entry_to_exit, holds_under_root}
+use Rattle.plir_walk.specs.CallLaws.{chain-each, kept_from_entry_to_exit, holds_under_root}
 use Rattle.plir_passes.specs.Legal.{is_illegal, HasLegalKids}
 use Rattle.plir_passes.specs.Rewritten.{IsConverted, IsConvertedAt, IsSettled}
 use Rattle.plir_passes.proofs.Nodes.{climb-nothing, not-both, never-true}
 use Rattle.plir_passes.proofs.Keeping.{converted-none, converted-then}
 
--- a place one step further down
-node-at-end : (t : Tree) (r : IRNode) (p : Place) (q : IRNode) (i : ℕ) (n : IRNode) → node_at t r p ≡ Some q → slice_get (t q) i ≡ Some n → node_at t r (p ++ i ∷ []) ≡ Some n
-node-at-end t r [] q i n e f = ap (option_and_then (λ c. node_at t c [])) (ap (λ z. slice_get (t z) i) (same_Some r q e) ∙ f)
-node-at-end t r (j ∷ p) q i n e f = go (λ c g. node-at-end t c p q i n g f) (slice_get (t r) j) e
-  where
-    go : ((c : IRNode) → node_at t c p ≡ Some q → node_at t c (p ++ i ∷ []) ≡ Some n)
-        → (o : Option IRNode) → option_and_then (λ c. node_at t c p) o ≡ Some q → option_and_then (λ c. node_at t c (p ++ i ∷ [])) o ≡ Some n
-    go rest None e = absurd (none-some q e)
-    go rest (Some c) e = rest c e
-
--- what climbs to the root stands under it
-pub reach-under : (s : Shape) → IsForest s → (k : ℕ) (n r : IRNode) → climb s.parent k (Some n) ≡ Some r → IsUnder s.kids r n
-reach-under s w zero n r e = ([], sym e)
-reach-under s w (suc k) n r e = up (λ a g. reach-under s w k a r g) (s.parent n) refl
-  where
-    up : ((a : IRNode) → climb s.parent k (Some a) ≡ Some r → IsUnder s.kids r a) → (o : Option IRNode) → s.parent n ≡ o → IsUnder s.kids r n
-    up rest None q = absurd (climb-nothing s.parent k r (ap (climb s.parent k) (sym q) ∙ e))
-    up rest (Some a) q =
-        let above = rest a (ap (climb s.parent k) (sym q) ∙ e) in
-        let place = at-Has (s.kids a) n (w.parent_kid a n q) in
-        (above.0 ++ place.0 ∷ [], node-at-end s.kids r above.0 a place.0 n above.1 place.1)
-
 module _ {C S B : Type 0} (post : Relation C S B) where
-  -- each call of a chain is in the relation
-  pub chain-each : (c : C) (s : S) (calls : List (Call C S B)) (c' : C) (s' : S) → Chain post c s calls c' s' → (x : Call C S B) → Has calls x → post x.before x.state x.node x.answer x.after x.left
-  chain-each c s [] c' s' h x i = absurd i
-  chain-each c s (y ∷ ys) c' s' h x (inl e) = subst (λ (z : Call C S B). post z.before z.state z.node z.answer z.after z.left) e h.2
-  chain-each c s (y ∷ ys) c' s' h x (inr i) = chain-each y.after y.left ys c' s' h.3 x i
-
   -- a call that did not break
   abbrev Unbroken : Relation C S B
   Unbroken c s n a c' s' = post c s n a c' s' × ((b : B) → a ≢ Break b)
@@ -139,7 +112,7 @@ module _ {K A T : Type 0} (illegal : OpKind K → Bool) where
         up None q = absurd (climb-nothing (parent_of c') below.0 r (ap (climb (parent_of c') below.0) (sym q) ∙ below.1))
         up (Some a) q =
             let walk = walked.at_exit pre in
-            let under = reach-under (look c') forest below.0 a r (ap (climb (parent_of c') below.0) (sym q) ∙ below.1) in
+            let under = reached-under (look c') forest below.0 a r (ap (climb (parent_of c') below.0) (sym q) ∙ below.1) in
             let h = holds_under_root (Unbroken call) Holds left established w (kids c') r c c' s s' walked.calls k
             (unbroken-chain call c s walked.calls c' s' walked.chain walk.answers.1) walk.answers
             (λ x i. (let p = chain-each call c s walked.calls c' s' walked.chain x i in never-skips x.answer x.after x.node (each x.before x.state x.node x.answer x.after x.left p.made).settled)) a under in

@@ -14,7 +14,8 @@ use Rattle.plir_store.specs.Members.{Has}
 use Rattle.plir_core.specs.Standing.{IsStanding}
 use Rattle.plir_core.specs.Store.{Store, is_live, kids, limit}
 use Rattle.plir_core.specs.Measures.{depth}
-use Rattle.plir_walk.specs.Tree.{IsUnder, node_at}
+use Rattle.plir_walk.specs.Tree.{IsUnder}
+use Rattle.plir_walk.specs.TreeLaws.{under-kid}
 use Rattle.plir_roundtrip.specs.Readable.{IsOpReadable, IsBlockReadable}
 
 -- ---- kinds
@@ -55,25 +56,16 @@ module _ {K A T : Type 0} (s : Store K A T) where
       there : {xs : List IRNode} → xs ≡ x ∷ [] → Has xs x
       there e = subst (λ l. Has l x) (sym e) (inl refl)
 
--- ---- places
-
-has_place : {X : Type 0} (xs : List X) (x : X) → Has xs x → (i : ℕ) × (slice_get xs i ≡ Some x)
-has_place [] x h = absurd h
-has_place (y ∷ ys) x (inl e) = (0, ap (λ z. Some z) e)
-has_place (y ∷ ys) x (inr h) = let p = has_place ys x h in (suc p.0, p.1)
+-- ---- what can be read
 
 module _ {K A T : Type 0} (s : Store K A T) where
-  -- what is at or under a kid is under its parent
-  pub under_kid : (a x n : IRNode) → Has (kids s a) x → IsUnder (kids s) x n → IsUnder (kids s) a n
-  under_kid a x n h u = let p = has_place (kids s a) x h in (p.0 ∷ u.0, ap (option_and_then (λ c. node_at (kids s) c u.0)) p.1 ∙ u.1)
-
   -- each operation and each block at or under a node can be read
   pub record AllReadable (x : IRNode) : Type 0 where
     pub ops : (q : Ptr OperationKind) → IsUnder (kids s) x (Operation q) → IsOpReadable s q
     pub blocks : (b : Ptr BlockKind) → IsUnder (kids s) x (BasicBlock b) → IsBlockReadable s b
 
   pub kid_readable : (a x : IRNode) → Has (kids s a) x → AllReadable a → AllReadable x
-  kid_readable a x h all = record { ops = λ q u. all.ops q (under_kid a x (Operation q) h u); blocks = λ b u. all.blocks b (under_kid a x (BasicBlock b) h u) }
+  kid_readable a x h all = record { ops = λ q u. all.ops q (under-kid (kids s) a x (Operation q) h u); blocks = λ b u. all.blocks b (under-kid (kids s) a x (BasicBlock b) h u) }
 
   pub op_readable : (p : Ptr OperationKind) → AllReadable (Operation p) → IsOpReadable s p
   op_readable p all = all.ops p ([], refl)

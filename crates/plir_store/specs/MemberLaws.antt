@@ -34,6 +34,12 @@ module _ {A : Type 0} where
   at-Has (x ∷ xs) n (inl e) = (zero, ap Some e)
   at-Has (x ∷ xs) n (inr h) = (let r = at-Has xs n h in (suc r.0, r.1))
 
+  -- what is in a list stands between two parts of it
+  pub Has-split : (xs : List A) (n : A) → Has xs n → (front : List A) × (back : List A) × (xs ≡ front ++ n ∷ back)
+  Has-split [] n h = absurd h
+  Has-split (x ∷ xs) n (inl e) = ([], xs, ap (λ z. z ∷ xs) e)
+  Has-split (x ∷ xs) n (inr h) = (let r = Has-split xs n h in (x ∷ r.0, r.1, ap (λ z. x ∷ z) r.2))
+
   pub Distinct-left : (xs ys : List A) → Distinct (xs ++ ys) → Distinct xs
   Distinct-left [] ys d = tt
   Distinct-left (x ∷ xs) ys d = (λ h. d.0 (Has-append_left xs ys x h), Distinct-left xs ys d.1)

@@ -31,6 +31,13 @@ module _ {C S B : Type 0} (post : Relation C S B) where
   abbrev pub IsLeft : (holds : C → IRNode → Type 0) → Type 0
   IsLeft holds = (c c' : C) (s s' : S) (n : IRNode) (a : ControlFlow B WalkContinue) (m : IRNode) → post c s n a c' s' → holds c m → holds c' m
 
+  -- each call of a chain is made as the relation tells
+  pub chain-each : (c : C) (s : S) (calls : List (Call C S B)) (c' : C) (s' : S) → Chain post c s calls c' s' →
+      (x : Call C S B) → Has calls x → post x.before x.state x.node x.answer x.after x.left
+  chain-each c s [] c' s' h x i = absurd i
+  chain-each c s (y ∷ ys) c' s' h x (inl e) = subst (λ z. post z.before z.state z.node z.answer z.after z.left) e h.2
+  chain-each c s (y ∷ ys) c' s' h x (inr i) = chain-each y.after y.left ys c' s' h.3 x i
+
   -- What each call keeps holds from entry to exit: of all that a pass leaves as it was.
   pub kept_from_entry_to_exit : (keeps : C → S → C → S → Type 0) → IsPreorder keeps → IsKept keeps → (c c' : C) (s s' : S) (calls : List (Call C S B)) → Chain post c s calls c' s' → keeps c s c' s'
   kept_from_entry_to_exit keeps p k c c' s s' [] h = rw (h.0, h.1) (p.itself c s)

@@ -14,6 +14,8 @@ pub mod LawfulChanges
 pub mod Step
 pub mod Laws
 pub mod CallLaws
+pub mod TreeLaws
+pub mod WalkLaws
 pub mod GivenNames
 pub mod Placing
 pub mod Unnamed

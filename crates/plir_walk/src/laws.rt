@@ -12,7 +12,9 @@ ghost use Rattle.plir_walk.specs.declared.config.TheConstants.{WALKCONFIG_POSTOR
 ghost use Rattle.plir_walk.specs.declared.config.WalkConfig.{WalkConfig as AnyConfig};
 ghost use Rattle.plir_core.specs.declared.ptr.IRNode.{IRNode as AnyNode};
 ghost use Rattle.plir_walk.specs.Lawful.{StandsUnder};
-ghost use Rattle.plir_walk.specs.Tree.{HasOnePlaceEach};
+ghost use Rattle.plir_core.specs.Above.{Reaches};
+ghost use Rattle.plir_core.specs.Forest.{IsForest, Shape};
+ghost use Rattle.plir_walk.specs.Tree.{HasOnePlaceEach, IsUnder};
 ghost use Rattle.plir_walk.specs.Calls.{Advancing, Call, ReadsBack};
 ghost use Rattle.plir_walk.specs.LawfulChanges.{LawfulChanges};
 ghost use Rattle.plir_walk.specs.Laws.{BeforeOrders, PostReverseIsPreForwardReversed, SkipsAtPostOrder, ShutsOutNothing, WalkedOnce};
@@ -45,6 +47,12 @@ pub fn one_place_each<C: NodeLinks>(ctx: &C)
 {
     ctx.forest();
 }
+
+/// What stands at or under a node by places is what climbs to it: walks tell of the one, what a call leaves of the other.
+pub fn places_and_climbs_agree()
+    ensures climbed { (s : Shape) → IsForest s → (r n : AnyNode) → Reaches s.parent n r → IsUnder s.kids r n }
+    ensures placed { (s : Shape) → IsForest s → (r n : AnyNode) → IsUnder s.kids r n → Reaches s.parent n r }
+{}
 
 /// To be before is a total order on the nodes under one root.
 pub fn before_is_a_total_order()

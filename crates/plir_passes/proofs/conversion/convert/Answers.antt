@@ -2,7 +2,7 @@ use Rattle.std.proofs.Common.{Ok, refl, sym, ap, subst, arith, ◌∙◌}
 use Rattle.plir_core.specs.declared.ptr.IRNode.TheVariants.{Operation}
 use Rattle.plir_passes.specs.Rewritten.{IsConvertedAt}
 use Rattle.plir_passes.proofs.Walking.{walk-converted, legal-at-end}
-use Rattle.plir_passes.proofs.Limits.{never-at-limit, limit-at-exit, walk-lasts}
+use Rattle.plir_walk.specs.WalkLaws.{never-at-limit, limit-at-exit, walk-lasts}
 use Rattle.plir_passes.proofs.conversion.convert.Goals as goal
 
 pub walk_op-end-requires-clause-lawful : goal.walk_op-end-requires-clause-lawful

@@ -2,7 +2,7 @@ use Rattle.std.proofs.Common.{refl, sym, ap, subst, arith}
 use Rattle.plir_core.specs.declared.ptr.IRNode.TheVariants.{Operation}
 use Rattle.plir_walk.specs.Walked.{plain_answer}
 use Rattle.plir_passes.proofs.SweepWalk.{swept-by, walk-swept, walk-tells, clean-at-end}
-use Rattle.plir_passes.proofs.Limits.{never-at-limit, limit-at-entry, walk-lasts}
+use Rattle.plir_walk.specs.WalkLaws.{never-at-limit, limit-at-entry, walk-lasts}
 use Rattle.plir_passes.proofs.dead_code.sweep.Goals as goal
 
 pub walk_op-end-requires-clause-lawful : goal.walk_op-end-requires-clause-lawful

@@ -1,11 +1,10 @@
--- What the calls of a walk leave of its root, and that a walk with room for every node is never at its limit.
-use Rattle.std.proofs.Common.{◌≡◌, ◌≢◌, ℕ, zero, suc, ◌+◌, ◌≤◌, ◌^◌, arith, true, List, [], ◌∷◌, length, Option, Some, None, option_and_then, slice_get, Result, Err, ◌⊎◌, inl, inr, refl, sym, ap, subst, ◌∙◌}
-use Rattle.std.proofs.lemmas.Option.{none-some, same_Some}
+-- Laws of whole walks, for the proofs of passes: a walk of lawful calls is lawful at its root, which stays; and a walk that may make
+-- as many calls as a context has nodes is never at its limit.
+use Rattle.std.proofs.Common.{◌≡◌, ℕ, suc, ◌+◌, ◌≤◌, ◌^◌, arith, List, [], ◌∷◌, length, Result, Err, inl, inr, refl, ap, subst}
 use Rattle.std.specs.declared.ops.ControlFlow.{ControlFlow}
 use Rattle.plir_store.specs.Members.{Has, Distinct}
-use Rattle.plir_store.specs.MemberLaws.{Has-at}
 use Rattle.plir_core.specs.declared.ptr.IRNode.{IRNode}
-use Rattle.plir_core.specs.Forest.{Shape, look, IsForest}
+use Rattle.plir_core.specs.Forest.{look, IsForest}
 use Rattle.plir_core.specs.Standing.{IsStanding}
 use Rattle.plir_core.specs.Store.{Store, IsLive, kids}
 use Rattle.plir_walk.specs.declared.interruptible.WalkContinue.{WalkContinue}
@@ -13,7 +12,8 @@ use Rattle.plir_walk.specs.declared.limit.CallLimit.{CallLimit}
 use Rattle.plir_walk.specs.declared.config.WalkConfig.{WalkConfig}
 use Rattle.plir_walk.specs.Lists.{Pairs}
 use Rattle.plir_walk.specs.Calls.{Call, Relation, Chain, nodes_of}
-use Rattle.plir_walk.specs.Tree.{Tree, IsUnder, Place, node_at, NodeBefore}
+use Rattle.plir_walk.specs.Tree.{NodeBefore}
+use Rattle.plir_walk.specs.TreeLaws.{under-live}
 use Rattle.plir_walk.specs.Walk.{IsWalkWithin}
 use Rattle.plir_walk.specs.Config.{AllPre, AllPost}
 use Rattle.plir_walk.specs.Walked.{Walked, IsCallUnder}
@@ -30,25 +30,16 @@ length-nodes : {C S B : Type 0} (calls : List (Call C S B)) → length (nodes_of
 length-nodes [] = refl
 length-nodes (x ∷ xs) = ap suc (length-nodes xs)
 
--- what stands under a live node is live
-pub under-live : (s : Shape) → IsForest s → (p : Place) (r n : IRNode) → s.live r ≡ true → node_at s.kids r p ≡ Some n → s.live n ≡ true
-under-live s w [] r n l e = subst (λ z. s.live z ≡ true) (same_Some r n e) l
-under-live s w (i ∷ p) r n l e = go (λ c m g. under-live s w p c n m g) (slice_get (s.kids r) i) refl e
-  where
-    go : ((c : IRNode) → s.live c ≡ true → node_at s.kids c p ≡ Some n → s.live n ≡ true)
-        → (o : Option IRNode) → slice_get (s.kids r) i ≡ o → option_and_then (λ c. node_at s.kids c p) o ≡ Some n → s.live n ≡ true
-    go rest None q e = absurd (none-some n e)
-    go rest (Some c) q e = rest c (w.kid_live r c (Has-at (s.kids r) i c q)) e
-
 module _ {K A T : Type 0} where
+  -- the walk of a tree that may make a call for each node that there can be makes them all
   pub never-at-limit : {S B : Type 0} (w : WalkConfig) (c : Store K A T) (r : IRNode) (limit : ℕ) (calls : List (Call (Store K A T) S B)) (x : CallLimit)
       → BeforeOrders → IsStanding c → IsLive c r → 2 ^ 32 ≤ limit + 1 → IsWalkWithin w (kids c) r limit calls (Err x) → ⊥
   never-at-limit w c r limit calls x orders stands live enough v =
       let once = pairs-distinct (NodeBefore w (kids c) r) (nodes_of calls) (orders w (kids c) r v.in_order.one_place).irreflexive v.in_order.increasing in
       let missed = v.answers.3 in
       let more = stands.measured.counted (missed.0 ∷ nodes_of calls) (missed.2, once) (λ n k. elim k [
-        | inl e ↦ subst (IsLive c) e (under-live (look c) stands.forest missed.1.0.0 r missed.0 live missed.1.0.1)
-        | inr i ↦ (let u = v.in_order.under_root n i in under-live (look c) stands.forest u.0 r n live u.1)
+        | inl e ↦ subst (IsLive c) e (under-live (look c) stands.forest r missed.0 live missed.1.0)
+        | inr i ↦ under-live (look c) stands.forest r n live (v.in_order.under_root n i)
       ]) in
       let made = v.answers.0 in
       let same = length-nodes calls in
