@@ -24,7 +24,7 @@
 --   Grown        IsGrown: nodes are new below a node; Growth: how trees grow in many steps
 --   Lends        what a `&mut` into a node leaves
 --   Refused      IsUnmade: what a refused make leaves of the slots
---   Erase        erased: the nodes without a tree; IsErased: what that leaves as it was
+--   Erase        erased: the nodes without a tree; IsErased: what that leaves as it was; LosesOneKid: the kids that are left
 --   Unused       IsUnusedOutside: nothing outside a tree uses a value or a block of it
 --   Terminator   terminator_of: the operation that ends a block
 --   InsertionPoint  insertion_block: the block that an insertion point is in
