@@ -7,7 +7,7 @@ use plir_builtin::{FuncOp, ModuleOp};
 use plir_core::{Context, IRNode};
 use plir_data::{BuiltinSet, FunctionType, Identifier};
 use plir_iface::{Op, SingleBlockRegionInterface};
-use plir_print::print_op;
+use plir_print::{is_printable, print_op};
 use plir_walk::WALKCONFIG_PREORDER_FORWARD;
 use plir_walk::uninterruptible::immutable::walk_op;
 use std::alloc::Global;
@@ -43,6 +43,9 @@ fn tour<W: Write>(
     walk_op(ctx, &mut count, &WALKCONFIG_PREORDER_FORWARD, root, visit);
 
     module.verify_interfaces(alloc, ctx)?;
+    if !is_printable(ctx, root) {
+        return Err(Stop::Refused);
+    }
     let text = print_op(alloc, ctx, root)?;
     writeln!(writer, "{count} nodes")?;
     writeln!(writer, "{text}")?;
