@@ -32,7 +32,7 @@ fn what_a_module_holds(rt: HostRuntime) -> Result<(), Mismatch> {
         block last => b0
         back b0 r0
         readable o0 => yes
-        set o0 a builtin.vec [builtin.unit, builtin.type <builtin.unit>]
+        set o0 a builtin.vec [builtin.unit, builtin.type builtin.unit]
         readable o0 => yes
         set o0 names builtin.given_names [x]
         readable o0 => no
@@ -100,7 +100,7 @@ fn functions_and_blocks(rt: HostRuntime) -> Result<(), Mismatch> {
         op func 1 => o0
         set o0 builtin_sym_name builtin.identifier f
         readable o0 => no
-        set o0 builtin_func_type builtin.type <builtin.function <(builtin.unit)->()>>
+        set o0 builtin_func_type builtin.type builtin.function <(builtin.unit)->()>
         readable o0 => yes
         block first t0 => b0
         back b0 r0
