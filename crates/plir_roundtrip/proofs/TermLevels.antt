@@ -48,19 +48,18 @@ module _ {D K A T E : Type 0} (o : op_set.Ghosts D K A T E) (s : Store K A T) (s
   blocks_same f g p h =
       map_same (block_term s f) (block_term s g) (blocks_under s p) (λ x among. let r = has_flat (kids s) (kids s (Operation p)) x among in block_same f g x (λ y inside. h r.0 x y r.1 r.2 inside))
 
-  -- where there is room for all levels, a node is written the same whatever the room
-  mutual
-    same_at : (k j : ℕ) (x : IRNode) → HasRoom s x k → HasRoom s x j → term_at o s k x ≡ term_at o s j x
-    same_at zero j x room enough = absurd (some_room s st x room)
-    same_at (suc k) zero x room enough = absurd (some_room s st x enough)
-    same_at (suc k) (suc j) (Operation p) room enough =
-        ap (λ bs. term_of_kind o s (kind_of s p) (blocks_of bs) p) (blocks_same (term_at o s k) (term_at o s j) p (λ a x y in_op in_region in_block.
-        same_at k j y (below_room p a x y k in_op in_region in_block room) (below_room p a x y j in_op in_region in_block enough)))
-    same_at (suc k) (suc j) (Region r) room enough = refl
-    same_at (suc k) (suc j) (BasicBlock b) room enough = refl
+  below_room : (p : Ptr OperationKind) (a x y : IRNode) (k : ℕ) → Has (kids s (Operation p)) a → Has (kids s a) x → Has (kids s x) y → HasRoom s (Operation p) (suc k) → HasRoom s y k
+  below_room p a x y k in_op in_region in_block space = lower_room s st x y k in_block (lower_room s st a x k in_region (kid_room s st (Operation p) a k in_op space))
 
-    below_room : (p : Ptr OperationKind) (a x y : IRNode) (k : ℕ) → Has (kids s (Operation p)) a → Has (kids s a) x → Has (kids s x) y → HasRoom s (Operation p) (suc k) → HasRoom s y k
-    below_room p a x y k in_op in_region in_block room = lower_room s st x y k in_block (lower_room s st a x k in_region (kid_room s st (Operation p) a k in_op room))
+  -- where there is room for all levels, a node is written the same whatever the room
+  same_at : (k j : ℕ) (x : IRNode) → HasRoom s x k → HasRoom s x j → term_at o s k x ≡ term_at o s j x
+  same_at zero j x space enough = absurd (some_room s st x space)
+  same_at (suc k) zero x space enough = absurd (some_room s st x enough)
+  same_at (suc k) (suc j) (Operation p) space enough =
+      ap (λ bs. term_of_kind o s (kind_of s p) (blocks_of bs) p) (blocks_same (term_at o s k) (term_at o s j) p (λ a x y in_op in_region in_block.
+      same_at k j y (below_room p a x y k in_op in_region in_block space) (below_room p a x y j in_op in_region in_block enough)))
+  same_at (suc k) (suc j) (Region r) space enough = refl
+  same_at (suc k) (suc j) (BasicBlock b) space enough = refl
 
   -- An operation as it is written, by what stands below it.
   pub one_level : (p : Ptr OperationKind) → node_term o s (Operation p) ≡ term_of_kind o s (kind_of s p) (blocks_of (map (block_term s (node_term o s)) (blocks_under s p))) p

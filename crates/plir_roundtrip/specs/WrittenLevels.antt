@@ -1,5 +1,5 @@
 -- How many levels the parts of an operation have as they are written.
-use Rattle.std.specs.Prelude.{ℕ, max, cond, List, map, Option}
+use Rattle.std.specs.Prelude.{ℕ, max, cond, List, map, Option, slice_get}
 use Rattle.plir_data.specs.AttrView.{AttrView, entries_of}
 use Rattle.plir_data.specs.Types.{TypeView}
 use Rattle.plir_data.specs.declared.op_set.OpKind.{OpKind}
@@ -10,18 +10,22 @@ use Rattle.plir_core.specs.declared.ptr.BasicBlock.{BasicBlock as BlockKind}
 use Rattle.plir_core.specs.declared.ptr.IRNode.{IRNode}
 use Rattle.plir_core.specs.declared.ptr.IRNode.TheVariants.{BasicBlock}
 use Rattle.plir_core.specs.declared.value.Value.{Value}
-use Rattle.plir_core.specs.Store.{Store, kids, kind_of}
-use Rattle.plir_text.specs.Terms.{levels, entries_levels}
+use Rattle.plir_core.specs.Store.{Store, kids, kind_of, result_types_of}
+use Rattle.plir_text.specs.Terms.{type_levels, levels, entries_levels}
 use Rattle.plir_text.specs.Writable.{attr_term, entry_terms}
 use Rattle.plir_print.specs.Dictionaries.{is_shown, shown_of}
 use Rattle.plir_print.specs.OpText.{room}
 use Rattle.plir_print.specs.ValueNames.{arguments_of}
 use Rattle.plir_read.specs.OpTerms.{OpTerm, header_levels, ops_of, blocks_of, arguments_levels, blocks_levels, ops_levels}
-use Rattle.plir_roundtrip.specs.Written.{argument_term, block_term, blocks_under, header_term, term_at}
+use Rattle.plir_roundtrip.specs.Written.{some_type_term, argument_term, block_term, blocks_under, header_term, term_at}
 
 -- of the types of arguments
 abbrev pub typed_levels : {K A T : Type 0} → Store K A T → List Value → ℕ
 typed_levels s vs = arguments_levels (map (argument_term s) vs)
+
+-- of the type of the first result
+abbrev pub result_levels : {K A T : Type 0} → Store K A T → Ptr OperationKind → ℕ
+result_levels s p = type_levels (some_type_term s.types (slice_get (result_types_of s p) 0))
 
 module _ {D K A T E : Type 0} (o : op_set.Ghosts D K A T E) where
   -- of an entry, if an operation of a kind shows it

@@ -8,7 +8,8 @@ use plir_core::laws::kid_at;
 use plir_core::{Context, IRNode};
 use plir_data::OpSet;
 
-/// Nothing is done: this tells a proof that a kid is live and all at or below it can be read, and what stands behind it.
+/// Nothing is done: this tells a proof that a kid is live and all at or below it can be read, and what stands behind
+/// it.
 pub(crate) fn readable_kid<D: OpSet>(ctx: &Context<D>, over: IRNode, kid: IRNode, place: usize)
     requires there { slice_get (kids ctx.now over) place ≡ Some kid }
     requires readable { AllReadable ctx.now over }

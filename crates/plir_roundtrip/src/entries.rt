@@ -63,7 +63,8 @@ fn is_key_expected(key: &str, has_value: bool) -> bool
     key == ATTR_KEY_CONSTANT_VALUE
 }
 
-/// Whether nothing stands under other keys than that of names and, where there may be a value, that of a constant's value.
+/// Whether nothing stands under other keys than that of names and, where there may be a value, that of a constant's
+/// value.
 pub(crate) fn holds_only<D: OpSet>(dict: &AttributeDict<D>, has_value: bool) -> bool
     ensures { IsTrue result ↔ HoldsOnly (keys_with has_value) dict.now }
 {

@@ -1,4 +1,5 @@
-//! How many levels an operation has as it is written, with all below it. A test goes down no further than levels are left.
+//! How many levels an operation has as it is written, with all below it. A test goes down no further than levels are
+//! left.
 ghost use Rattle.std.specs.Prelude.{◌≡◌, ◌↔◌, ◌<◌, ◌≤◌, IsTrue, length};
 ghost use Rattle.plir_core.specs.declared.ptr.IRNode.{IRNode as AnyNode};
 ghost use Rattle.plir_core.specs.Store.{IsLive, kids};
@@ -55,8 +56,13 @@ fn are_blocks_below<D: OpSet>(ctx: &Context<D>, region: Ptr<Region>, left: usize
     first_kid_is_front(ctx, IRNode::Region(region));
     let mut place: usize = 0;
     let mut next = region.get_head(ctx);
-    'blocks: while let Some(block) = next {
-        readable_kid(ctx, IRNode::Region(region), IRNode::BasicBlock(block), place);
+    'inner: while let Some(block) = next {
+        readable_kid(
+            ctx,
+            IRNode::Region(region),
+            IRNode::BasicBlock(block),
+            place,
+        );
         if !is_block_below(ctx, block, left) {
             return false;
         }

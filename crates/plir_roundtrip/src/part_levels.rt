@@ -1,20 +1,21 @@
-//! How many levels the parts of an operation have as they are written. Each test asks for fewer levels than `left`, since
-//! the operation itself is a level.
-ghost use Rattle.std.specs.Prelude.{◌≡◌, ◌↔◌, ◌<◌, ◌≤◌, IfSome, IsTrue, Some, slice_get};
+//! How many levels the parts of an operation have as they are written. Each test asks for fewer levels than `left`,
+//! since the operation itself is a level.
+ghost use Rattle.std.specs.Prelude.{◌≡◌, ◌↔◌, ◌<◌, ◌≤◌, IfSome, IsTrue, Some};
 ghost use Rattle.plir_data.specs.AttrLive.{HandlesLive, IsAttrLive};
 ghost use Rattle.plir_data.specs.AttrSeen.{attr_view};
 ghost use Rattle.plir_data.specs.TypeTree.{tree_of};
 ghost use Rattle.plir_data.specs.Types.{IsLive as IsTypeLive};
 ghost use Rattle.plir_core.specs.declared.ptr.IRNode.{IRNode as AnyNode};
-ghost use Rattle.plir_core.specs.Store.{IsLive, kind_of, result_types_of};
+ghost use Rattle.plir_core.specs.Store.{IsLive, kind_of};
 ghost use Rattle.plir_text.specs.Terms.{entries_levels, levels, type_levels};
 ghost use Rattle.plir_text.specs.Writable.{type_term};
 ghost use Rattle.plir_builtin.specs.BuiltinOps.{func_type_of, type_in_attr, value_of};
 ghost use Rattle.plir_print.specs.Dictionaries.{is_shown, is_told};
 ghost use Rattle.plir_print.specs.ValueNames.{arguments_of};
 ghost use Rattle.plir_read.specs.OpTerms.{head_levels, header_levels, op_levels};
-ghost use Rattle.plir_roundtrip.specs.Written.{some_type_term, some_attr_term, head_term, header_term, dictionary_term, constant_of};
-ghost use Rattle.plir_roundtrip.specs.WrittenLevels.{entry_level, shown_levels, typed_levels};
+ghost use Rattle.plir_roundtrip.specs.Written.{some_type_term, some_attr_term};
+ghost use Rattle.plir_roundtrip.specs.Written.{head_term, header_term, dictionary_term, constant_of};
+ghost use Rattle.plir_roundtrip.specs.WrittenLevels.{entry_level, result_levels, shown_levels, typed_levels};
 
 use crate::entries::find_value;
 use plir_builtin::{ATTR_KEY_BUILTIN_FUNC_TYPE, ATTR_KEY_SYM_NAME};
@@ -67,7 +68,7 @@ fn is_func_type_below<D: OpSet>(ctx: &Context<D>, op: Ptr<Operation>, left: usiz
 // The type of the first result.
 fn is_result_below<D: OpSet>(ctx: &Context<D>, op: Ptr<Operation>, left: usize) -> bool
     requires { IsLive ctx.now (AnyNode.Operation op) }
-    ensures { IsTrue result ↔ (type_levels (some_type_term ctx.now.types (slice_get (result_types_of ctx.now op) 0)) < left) }
+    ensures { IsTrue result ↔ (result_levels ctx.now op < left) }
 {
     if op.get_num_results(ctx) > 0 {
         is_type_below(ctx, op.get_type(ctx, 0), left)
@@ -185,11 +186,7 @@ fn is_head_below<D: OpSet>(ctx: &Context<D>, op: Ptr<Operation>, left: usize) ->
 }
 
 /// What stands before the blocks of a module or a function.
-pub(crate) fn is_header_below<D: OpSet>(
-    ctx: &Context<D>,
-    op: Ptr<Operation>,
-    left: usize,
-) -> bool
+pub(crate) fn is_header_below<D: OpSet>(ctx: &Context<D>, op: Ptr<Operation>, left: usize) -> bool
     requires live { IsLive ctx.now (AnyNode.Operation op) }
     requires some { 0 < left }
     ensures { IsTrue result ↔ (header_levels (header_term D.OpSet ctx.now (kind_of ctx.now op) op) < left) }

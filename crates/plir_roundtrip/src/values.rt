@@ -79,8 +79,8 @@ fn is_value_readable<D: OpSet>(ctx: &Context<D>, entity: DefiningEntity, place: 
     is_builtin && is_named
 }
 
-/// Whether the results of an operation, or the arguments of a block, have builtin types, and names that are identifiers,
-/// if any.
+/// Whether the results of an operation, or the arguments of a block, have builtin types, and names that are
+/// identifiers, if any.
 pub(crate) fn are_values_readable<D: OpSet>(ctx: &Context<D>, entity: DefiningEntity) -> bool
     requires { IsLive ctx.now (entity_node entity) }
     ensures { IsTrue result ↔ AreValuesReadable ctx.now entity }

@@ -41,6 +41,6 @@ returns-then-not-is_entry_readable-clause-value g c =
     let step : pairs_view c.entries.key-iterator ≡ (k, v) ∷ left = ap pairs_view c.in-Some.ensures.steps in (
       λ h. absurd (let f : ⊥ = cc in f),
       λ all. absurd (each_failed (λ e. IsEntryReadable types e.0 e.1) _ _ left (k, v) step (λ h.
-      let passed : c.is_entry_readable.result ≡ true = c.is_entry_readable.ensures.1 (subst (λ w. IsEntryReadable types w v) (sym c.as_str.ensures.value) h) in
-      let f : ⊥ = cc in f) c.entries.invariant.readable all),
+          let passed : c.is_entry_readable.result ≡ true = c.is_entry_readable.ensures.1 (subst (λ w. IsEntryReadable types w v) (sym c.as_str.ensures.value) h) in
+          let f : ⊥ = cc in f) c.entries.invariant.readable all),
     )

@@ -39,7 +39,7 @@ pub is_body_within-returns-then-is_header_below : goal.is_body_within-returns-th
 is_body_within-returns-then-is_header_below g t c =
     let o = g.D.OpSet in
     let s = c.args.ctx.now in
-    let same = ap (nested_blocks o s) (sym (blocks_of_region o s c.readable_kid.ensures.standing c.args.op (Region c.get_region.result) c.requires.one c.get_region.ensures.value)) in
+    let same = ap (nested_blocks o s) (sym (blocks_of_region o s c.readable_kid.ensures.standing c.args.op (Region c.get_region-region.result) c.requires.one c.get_region-region.ensures.value)) in
     let below = subst (λ n. IsTrue c.are_blocks_below.result ↔ (n < c.args.left)) same c.are_blocks_below.ensures in
     then_second (header_levels (header_term o s (kind_of s c.args.op) c.args.op)) (nested_blocks o s (blocks_under s c.args.op)) c.args.left c.are_blocks_below.result (c.is_header_below.ensures.0 c.if-is_header_below.true) below
 
@@ -49,14 +49,14 @@ is_body_within-returns-else-is_header_below g t c =
     let s = c.args.ctx.now in
     else_first (header_levels (header_term o s (kind_of s c.args.op) c.args.op)) (nested_blocks o s (blocks_under s c.args.op)) c.args.left c.is_header_below.result c.if-is_header_below.false c.is_header_below.ensures
 
-pub are_blocks_below-blocks-preserved : goal.are_blocks_below-blocks-preserved
-are_blocks_below-blocks-preserved g t c =
+pub are_blocks_below-inner-preserved : goal.are_blocks_below-inner-preserved
+are_blocks_below-inner-preserved g t c =
     let o = g.D.OpSet in
     let s = c.args.ctx.now in
     let passed : c.is_block_below.result ≡ true = cc in
     record {
       at = c.get_next-next.ensures.value ∙ c.readable_kid.ensures.next;
-      low = low_passed _ _ _ _ c.args.left (first_block o s c.readable_kid.ensures.standing c.in-Some.block _ _ c.readable_kid.ensures.left) (c.is_block_below.ensures.0 passed) c.blocks.invariant.low;
+      low = low_passed _ _ _ _ c.args.left (first_block o s c.readable_kid.ensures.standing c.in-Some.block _ _ c.readable_kid.ensures.left) (c.is_block_below.ensures.0 passed) c.inner.invariant.low;
     }
 
 pub are_blocks_below-returns-then-not-is_block_below : goal.are_blocks_below-returns-then-not-is_block_below
@@ -65,15 +65,15 @@ are_blocks_below-returns-then-not-is_block_below g t c =
     let s = c.args.ctx.now in (
       λ h. absurd (let f : ⊥ = cc in f),
       λ all. absurd (low_failed _ _ _ _ c.args.left (first_block o s c.readable_kid.ensures.standing c.in-Some.block _ _ c.readable_kid.ensures.left) (λ h.
-      let passed : c.is_block_below.result ≡ true = c.is_block_below.ensures.1 h in
-      let f : ⊥ = cc in f) c.blocks.invariant.low all),
+          let passed : c.is_block_below.result ≡ true = c.is_block_below.ensures.1 h in
+          let f : ⊥ = cc in f) c.inner.invariant.low all),
     )
 
 pub are_blocks_below-returns : goal.are_blocks_below-returns
 are_blocks_below-returns g t c =
     let ks = kids c.args.ctx.now (Region c.args.region) in
-    let none = drop_none ks c.blocks.place (sym c.blocks.invariant.at ∙ ap (option_map BasicBlock) c.in_default.is) in
-    (λ _. c.blocks.invariant.low.0 (subst (λ l. nested_blocks g.D.OpSet c.args.ctx.now l < c.args.left) (sym none) c.requires.some), λ _. refl)
+    let none = drop_none ks c.inner.place (sym c.inner.invariant.at ∙ ap (option_map BasicBlock) c.in_default.is) in
+    (λ _. c.inner.invariant.low.0 (subst (λ l. nested_blocks g.D.OpSet c.args.ctx.now l < c.args.left) (sym none) c.requires.some), λ _. refl)
 
 pub are_ops_below-ops-preserved : goal.are_ops_below-ops-preserved
 are_ops_below-ops-preserved g t c =
@@ -93,9 +93,9 @@ are_ops_below-returns-then-not-is_op_within g t c =
     let s = c.args.ctx.now in (
       λ h. absurd (let f : ⊥ = cc in f),
       λ all. absurd (low_failed _ _ _ _ c.args.left (first_op o s c.readable_kid.ensures.standing c.in-Some.op _ _ c.readable_kid.ensures.left) (λ (h : op_levels (op_term_of o s c.in-Some.op) < c.args.left).
-      let within : op_levels (op_term_of o s c.in-Some.op) ≤ c.args.left - 1 = omega (arith, h) in
-      let passed : c.is_op_within.result ≡ true = c.is_op_within.ensures.1 within in
-      let f : ⊥ = cc in f) c.ops.invariant.low all),
+          let within : op_levels (op_term_of o s c.in-Some.op) ≤ c.args.left - 1 = omega (arith, h) in
+          let passed : c.is_op_within.result ≡ true = c.is_op_within.ensures.1 within in
+          let f : ⊥ = cc in f) c.ops.invariant.low all),
     )
 
 pub are_ops_below-returns : goal.are_ops_below-returns

@@ -20,14 +20,14 @@ decreases-is_block_below g l = 5 * l.left + 1
 abbrev pub decreases-are_ops_below : goal.decreases-are_ops_below
 decreases-are_ops_below g l = 5 * l.left
 
-abbrev pub decreases-are_blocks_below-blocks : goal.decreases-are_blocks_below-blocks
-decreases-are_blocks_below-blocks g l = length (kids l.ctx (Region l.fn.region)) - l.place
+abbrev pub decreases-are_blocks_below-inner : goal.decreases-are_blocks_below-inner
+decreases-are_blocks_below-inner g l = length (kids l.ctx (Region l.fn.region)) - l.place
 
 abbrev pub decreases-are_ops_below-ops : goal.decreases-are_ops_below-ops
 decreases-are_ops_below-ops g l = length (kids l.ctx (BasicBlock l.fn.block)) - l.place
 
-abbrev pub invariant-are_blocks_below-blocks : goal.invariant-are_blocks_below-blocks
-invariant-are_blocks_below-blocks g l =
+abbrev pub invariant-are_blocks_below-inner : goal.invariant-are_blocks_below-inner
+invariant-are_blocks_below-inner g l =
     let ks = kids l.ctx (Region l.fn.region) in
     record {
       at : option_map BasicBlock l.next ≡ slice_get ks l.place;

@@ -13,8 +13,8 @@ pub returns-then-not-is_type_below : goal.returns-then-not-is_type_below
 returns-then-not-is_type_below g c = (
   λ h. absurd (let f : ⊥ = cc in f),
   λ all. absurd (low_failed _ _ _ _ c.args.left (first_argument c.args.ctx.now c.args.block c.arguments.place c.get_type.result c.get_type.ensures.value) (λ h.
-  let passed : c.is_type_below.result ≡ true = c.is_type_below.ensures.1 h in
-  let f : ⊥ = cc in f) c.arguments.invariant all),
+      let passed : c.is_type_below.result ≡ true = c.is_type_below.ensures.1 h in
+      let f : ⊥ = cc in f) c.arguments.invariant all),
 )
 
 pub returns : goal.returns

@@ -46,8 +46,8 @@ returns-then-not-is_entry_below g c =
     let step : pairs_view c.entries.key-iterator ≡ (k, v) ∷ left = ap pairs_view c.in-Some.ensures.steps in (
       λ h. absurd (let f : ⊥ = cc in f),
       λ all. absurd (low_failed _ _ _ _ c.args.left (first_entry o types kind _ left (k, v) step) (λ h.
-      let passed : c.is_entry_below.result ≡ true = c.is_entry_below.ensures.1 (subst (λ w. entry_level o types kind (w, v) < c.args.left) (sym c.as_str.ensures.value) h) in
-      let f : ⊥ = cc in f) c.entries.invariant.low all),
+          let passed : c.is_entry_below.result ≡ true = c.is_entry_below.ensures.1 (subst (λ w. entry_level o types kind (w, v) < c.args.left) (sym c.as_str.ensures.value) h) in
+          let f : ⊥ = cc in f) c.entries.invariant.low all),
     )
 
 pub returns : goal.returns

@@ -7,9 +7,9 @@ pub returns-then-not-are_all_readable-clause-value : goal.returns-then-not-are_a
 returns-then-not-are_all_readable-clause-value g c = (
   λ t. absurd (let f : ⊥ = cc in f),
   λ r.
-  let all : AllReadable c.args.ctx.now (Operation c.args.op) = record { ops = r.ops; blocks = r.blocks } in
-  let yes : c.are_all_readable.result ≡ true = c.are_all_readable.ensures.1 all in
-  absurd (let f : ⊥ = cc in f),
+      let all : AllReadable c.args.ctx.now (Operation c.args.op) = record { ops = r.ops; blocks = r.blocks } in
+      let yes : c.are_all_readable.result ≡ true = c.are_all_readable.ensures.1 all in
+      absurd (let f : ⊥ = cc in f),
 )
 
 pub returns-clause-value : goal.returns-clause-value

@@ -16,7 +16,7 @@ pub returns-then-not-is_value_readable : goal.returns-then-not-is_value_readable
 returns-then-not-is_value_readable g c = (
   λ t. absurd (let f : ⊥ = cc in f),
   λ r.
-  let below : c.places.place < length (types_from c.args.ctx.now c.args.entity) = omega arith in
-  let passed : c.is_value_readable.result ≡ true = c.is_value_readable.ensures.1 (value_from_all c.args.ctx.now c.args.entity r c.places.place below) in
-  absurd (let f : ⊥ = cc in f),
+      let below : c.places.place < length (types_from c.args.ctx.now c.args.entity) = omega arith in
+      let passed : c.is_value_readable.result ≡ true = c.is_value_readable.ensures.1 (value_from_all c.args.ctx.now c.args.entity r c.places.place below) in
+      absurd (let f : ⊥ = cc in f),
 )
