@@ -1,5 +1,5 @@
 -- How many levels an operation has as it is written, by those of its blocks and their operations.
-use Rattle.std.proofs.Common.{◌≡◌, ◌↔◌, ℕ, zero, suc, max, ◌+◌, ◌-◌, ◌<◌, ◌≤◌, Bool, true, false, List, [], ◌∷◌, ◌++◌, length, map, inl, inr, ◌⊎◌, Option, Some, None, IsTrue, flat_map, refl, sym, ap, subst, ◌∙◌, arith, append-nil}
+use Rattle.std.proofs.Common.{◌≡◌, ◌↔◌, ℕ, zero, suc, max, ◌+◌, ◌-◌, ◌<◌, ◌≤◌, Bool, false, List, [], ◌∷◌, ◌++◌, length, map, inl, inr, ◌⊎◌, Option, Some, IsTrue, flat_map, refl, sym, ap, subst, ◌∙◌, arith, append-nil}
 use Rattle.std.specs.Prelude.{slice_get}
 use Rattle.std.proofs.lemmas.Option.{same_Some}
 use Rattle.plir_data.specs.declared.op_set.OpKind.{OpKind}
@@ -16,7 +16,7 @@ use Rattle.plir_core.specs.Store.{Store, kids, kind_of, limit}
 use Rattle.plir_core.specs.Measures.{depth}
 use Rattle.plir_print.specs.OpText.{room}
 use Rattle.plir_print.specs.ValueNames.{arguments_of}
-use Rattle.plir_read.specs.OpTerms.{OpTerm, op_term, constant_term, BlockTerm, BlockTerms, blocks_of, op_levels}
+use Rattle.plir_read.specs.OpTerms.{OpTerm, op_term, constant_term, BlockTerms, blocks_of, op_levels}
 use Rattle.plir_roundtrip.specs.Readable.{IsBodyReadable, IsKindReadable}
 use Rattle.plir_roundtrip.specs.Written.{header_term, constant_of, block_head_term, block_term, blocks_under, term_of_kind, term_at, op_term_of}
 use Rattle.plir_roundtrip.specs.WrittenLevels.{node_term, typed_levels, nested_ops, nested_block, nested_blocks, body_levels}

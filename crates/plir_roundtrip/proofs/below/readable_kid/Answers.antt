@@ -1,4 +1,4 @@
-use Rattle.std.proofs.Common.{◌≡◌, arith, inl, refl}
+use Rattle.std.proofs.Common.{arith}
 use Rattle.std.proofs.lemmas.Option.{slice_get_within}
 use Rattle.plir_core.specs.Store.{kids}
 use Rattle.plir_roundtrip.proofs.Asked.{drop_at, place_has}

@@ -1,5 +1,5 @@
-use Rattle.std.proofs.Common.{◌≡◌, Some, None, sym, subst, ◌∙◌}
-use Rattle.std.proofs.lemmas.Option.{same_Some, none-some}
+use Rattle.std.proofs.Common.{◌≡◌, Some, sym, subst, ◌∙◌}
+use Rattle.std.proofs.lemmas.Option.{same_Some}
 use Rattle.plir_data.specs.AttrSeen.{attr_view}
 use Rattle.plir_text.specs.Writable.{IsWritable}
 use Rattle.plir_builtin.specs.BuiltinOps.{value_of}
