@@ -23,7 +23,7 @@ use Rattle.plir_roundtrip.proofs.PartsShown.{AreWritable}
 
 -- ---- keys
 
-same_key : (k : List ℕ) → is_key k k ≡ true
+pub same_key : (k : List ℕ) → is_key k k ≡ true
 same_key k = by (slice_cmp nat_cmp k k) (nat_list_cmp_total.antisymm k k)
   where
     by : (o : Ordering) → o ≡ ordering_reverse o → is_eq o ≡ true

@@ -17,6 +17,7 @@ use Rattle.plir_core.specs.Measures.{depth}
 use Rattle.plir_walk.specs.Tree.{IsUnder}
 use Rattle.plir_walk.specs.TreeLaws.{under-kid}
 use Rattle.plir_roundtrip.specs.Readable.{IsOpReadable, IsBlockReadable}
+use Rattle.plir_roundtrip.specs.ReadableParts.{AllReadable}
 
 -- ---- kinds
 
@@ -59,18 +60,16 @@ module _ {K A T : Type 0} (s : Store K A T) where
 -- ---- what can be read
 
 module _ {K A T : Type 0} (s : Store K A T) where
-  -- each operation and each block at or under a node can be read
-  pub record AllReadable (x : IRNode) : Type 0 where
-    pub ops : (q : Ptr OperationKind) → IsUnder (kids s) x (Operation q) → IsOpReadable s q
-    pub blocks : (b : Ptr BlockKind) → IsUnder (kids s) x (BasicBlock b) → IsBlockReadable s b
+  pub kid_readable : (a x : IRNode) → Has (kids s a) x → AllReadable s a → AllReadable s x
+  kid_readable a x h all = record {
+    ops = λ q u. all.ops q (under-kid (kids s) a x (Operation q) h u);
+    blocks = λ b u. all.blocks b (under-kid (kids s) a x (BasicBlock b) h u);
+  }
 
-  pub kid_readable : (a x : IRNode) → Has (kids s a) x → AllReadable a → AllReadable x
-  kid_readable a x h all = record { ops = λ q u. all.ops q (under-kid (kids s) a x (Operation q) h u); blocks = λ b u. all.blocks b (under-kid (kids s) a x (BasicBlock b) h u) }
-
-  pub op_readable : (p : Ptr OperationKind) → AllReadable (Operation p) → IsOpReadable s p
+  pub op_readable : (p : Ptr OperationKind) → AllReadable s (Operation p) → IsOpReadable s p
   op_readable p all = all.ops p ([], refl)
 
-  pub block_readable : (b : Ptr BlockKind) → AllReadable (BasicBlock b) → IsBlockReadable s b
+  pub block_readable : (b : Ptr BlockKind) → AllReadable s (BasicBlock b) → IsBlockReadable s b
   block_readable b all = all.blocks b ([], refl)
 
   -- there are levels for a node with all below it

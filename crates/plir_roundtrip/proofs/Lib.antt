@@ -11,3 +11,9 @@ pub mod OpSame
 pub mod TreeSame
 pub mod ReadBack
 pub mod NewModule
+pub mod ReadableCalls
+pub mod TermLevels
+pub mod Asked
+pub mod ValuesAsked
+pub mod NodesAsked
+pub mod PartLevels

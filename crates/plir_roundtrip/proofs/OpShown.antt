@@ -44,7 +44,8 @@ use Rattle.plir_roundtrip.specs.Readable.{IsEntryReadable, AreValuesReadable, Is
 use Rattle.plir_roundtrip.specs.Written.{some_type_term, some_attr_term, argument_term, block_head_term, block_term, blocks_under, symbol_of, head_term, term_of_kind, term_at}
 use Rattle.plir_text.specs.AttrsShown.{attr-shown}
 use Rattle.plir_roundtrip.proofs.Joined.{tail-shown, run-shown, line-shown, Then, both-shown, sign-shown, look-semicolon, Between, braced}
-use Rattle.plir_roundtrip.proofs.Kids.{kid_of_region, kid_of_block, only_region, AllReadable, kid_readable, op_readable, block_readable, HasRoom, some_room, kid_room, lower_room, in_row}
+use Rattle.plir_roundtrip.specs.ReadableParts.{AllReadable}
+use Rattle.plir_roundtrip.proofs.Kids.{kid_of_region, kid_of_block, only_region, kid_readable, op_readable, block_readable, HasRoom, some_room, kid_room, lower_room, in_row}
 use Rattle.plir_roundtrip.proofs.PartsShown.{AreWritable, entries-shown, argument-shown, arguments-shown, block_head-shown, module-shown, func-shown, behind_dictionary, behind_none, constant-shown}
 use Rattle.plir_roundtrip.proofs.PrintedNames.{block_name_good, argument_name_good, result_name_good}
 use Rattle.plir_roundtrip.proofs.EntriesShown.{at_key, name_there, type_there, shown_writable}

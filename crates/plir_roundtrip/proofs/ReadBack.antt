@@ -22,7 +22,8 @@ use Rattle.plir_read.specs.Stopping.{IsOfText}
 use Rattle.plir_roundtrip.specs.OpAnswer.{IsReadBack}
 use Rattle.plir_roundtrip.specs.Readable.{IsReadable}
 use Rattle.plir_roundtrip.specs.Written.{op_term_of}
-use Rattle.plir_roundtrip.proofs.Kids.{AllReadable, HasRoom}
+use Rattle.plir_roundtrip.specs.ReadableParts.{AllReadable}
+use Rattle.plir_roundtrip.proofs.Kids.{HasRoom}
 use Rattle.plir_roundtrip.proofs.MeantAgain.{whole_text}
 use Rattle.plir_roundtrip.proofs.OpShown.{op-shown}
 use Rattle.plir_roundtrip.proofs.TreeSame.{op_same}

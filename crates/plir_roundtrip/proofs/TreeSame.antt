@@ -43,7 +43,8 @@ use Rattle.plir_read.specs.declared.names.Suffix.TheVariants as kinds
 use Rattle.plir_roundtrip.specs.Readable.{IsBodyReadable, IsConstantReadable, IsKindReadable, IsOpReadable, IsBlockReadable}
 use Rattle.plir_roundtrip.specs.SameTree.{IsSameOp, IsSameBlock, IsSameNode, IsSameOrNone}
 use Rattle.plir_roundtrip.specs.Written.{some_type_term, argument_term, block_head_term, block_term, blocks_under, symbol_of, dictionary_term, term_of_kind, term_at}
-use Rattle.plir_roundtrip.proofs.Kids.{kid_of_region, kid_of_block, only_region, AllReadable, kid_readable, op_readable, block_readable, HasRoom, some_room, lower_room, kid_room}
+use Rattle.plir_roundtrip.specs.ReadableParts.{AllReadable}
+use Rattle.plir_roundtrip.proofs.Kids.{kid_of_region, kid_of_block, only_region, kid_readable, op_readable, block_readable, HasRoom, some_room, lower_room, kid_room}
 use Rattle.plir_roundtrip.proofs.MeantAgain.{type_stays, handle_again, attr_again, dictionary_again}
 use Rattle.plir_roundtrip.proofs.NamesAgain.{names_again, no_others, name_in_row}
 use Rattle.plir_roundtrip.proofs.OpSame.{op_held, block_held, module_holds_same, func_holds_same, body_same, constant_same, value_of_place, typed}

@@ -1,0 +1,215 @@
+//! How many levels the parts of an operation have as they are written. Each test asks for fewer levels than `left`,
+//! since the operation itself is a level.
+ghost use Rattle.std.specs.Prelude.{◌≡◌, ◌↔◌, ◌<◌, ◌≤◌, IfSome, IsTrue, Some};
+ghost use Rattle.plir_data.specs.AttrLive.{HandlesLive, IsAttrLive};
+ghost use Rattle.plir_data.specs.AttrSeen.{attr_view};
+ghost use Rattle.plir_data.specs.TypeTree.{tree_of};
+ghost use Rattle.plir_data.specs.Types.{IsLive as IsTypeLive};
+ghost use Rattle.plir_core.specs.declared.ptr.IRNode.{IRNode as AnyNode};
+ghost use Rattle.plir_core.specs.Store.{IsLive, kind_of};
+ghost use Rattle.plir_text.specs.Terms.{entries_levels, levels, type_levels};
+ghost use Rattle.plir_text.specs.Writable.{type_term};
+ghost use Rattle.plir_builtin.specs.BuiltinOps.{func_type_of, type_in_attr, value_of};
+ghost use Rattle.plir_print.specs.Dictionaries.{is_shown, is_told};
+ghost use Rattle.plir_print.specs.ValueNames.{arguments_of};
+ghost use Rattle.plir_read.specs.OpTerms.{head_levels, header_levels, op_levels};
+ghost use Rattle.plir_roundtrip.specs.Written.{some_type_term, some_attr_term};
+ghost use Rattle.plir_roundtrip.specs.Written.{head_term, header_term, dictionary_term, constant_of};
+ghost use Rattle.plir_roundtrip.specs.WrittenLevels.{entry_level, result_levels, shown_levels, typed_levels};
+
+use crate::entries::find_value;
+use plir_builtin::{ATTR_KEY_BUILTIN_FUNC_TYPE, ATTR_KEY_SYM_NAME};
+use plir_core::{BasicBlock, Context, Operation, Ptr};
+use plir_data::{AttrObj, AttributeDict, OpKind, OpSet, TypeAttr, TypeHandle};
+use plir_text::is_within_levels;
+
+// A type: as an attribute it has one level more.
+fn is_type_below<D: OpSet>(ctx: &Context<D>, handle: TypeHandle, left: usize) -> bool
+    requires { IsTypeLive ctx.now.types handle }
+    ensures { IsTrue result ↔ (type_levels (type_term (tree_of ctx.now.types handle)) < left) }
+{
+    let attr = AttrObj::Type(TypeAttr::new(handle));
+    is_within_levels(ctx, &attr, left)
+}
+
+// The type in an attribute of a type.
+fn type_in<D: OpSet>(ctx: &Context<D>, attr: &AttrObj<D>) -> Option<TypeHandle>
+    requires { IsAttrLive D.attr_handles ctx.now.types (attr_view attr.now) }
+    ensures value { result ≡ type_in_attr (attr_view attr.now) }
+    ensures live { IfSome result (IsTypeLive ctx.now.types) }
+{
+    ctx.stands();
+    match attr {
+        AttrObj::Type(ty) => Some(ty.get_type()),
+        _ => None,
+    }
+}
+
+// The type of a function, if it has one.
+fn find_type<D: OpSet>(ctx: &Context<D>, op: Ptr<Operation>) -> Option<TypeHandle>
+    requires { IsLive ctx.now (AnyNode.Operation op) }
+    ensures value { result ≡ func_type_of ctx.now op }
+    ensures live { IfSome result (IsTypeLive ctx.now.types) }
+{
+    type_in(ctx, op.attributes(ctx).get(ATTR_KEY_BUILTIN_FUNC_TYPE)?)
+}
+
+// The type of a function.
+fn is_func_type_below<D: OpSet>(ctx: &Context<D>, op: Ptr<Operation>, left: usize) -> bool
+    requires { IsLive ctx.now (AnyNode.Operation op) }
+    ensures { IsTrue result ↔ (type_levels (some_type_term ctx.now.types (func_type_of ctx.now op)) < left) }
+{
+    match find_type(ctx, op) {
+        Some(handle) => is_type_below(ctx, handle, left),
+        None => left > 1,
+    }
+}
+
+// The type of the first result.
+fn is_result_below<D: OpSet>(ctx: &Context<D>, op: Ptr<Operation>, left: usize) -> bool
+    requires { IsLive ctx.now (AnyNode.Operation op) }
+    ensures { IsTrue result ↔ (result_levels ctx.now op < left) }
+{
+    if op.get_num_results(ctx) > 0 {
+        is_type_below(ctx, op.get_type(ctx, 0), left)
+    } else {
+        left > 1
+    }
+}
+
+// The value of a constant.
+fn is_value_below<D: OpSet>(ctx: &Context<D>, op: Ptr<Operation>, left: usize) -> bool
+    requires live { IsLive ctx.now (AnyNode.Operation op) }
+    requires some { 0 < left }
+    ensures { IsTrue result ↔ (levels (some_attr_term ctx.now.types (value_of ctx.now op)) < left) }
+{
+    match find_value(ctx, op) {
+        Some(value) => is_within_levels(ctx, value, left - 1),
+        None => left > 1,
+    }
+}
+
+/// A constant, itself counted.
+pub(crate) fn is_constant_within<D: OpSet>(
+    ctx: &Context<D>,
+    op: Ptr<Operation>,
+    left: usize,
+) -> bool
+    requires live { IsLive ctx.now (AnyNode.Operation op) }
+    requires some { 0 < left }
+    ensures { IsTrue result ↔ (op_levels (constant_of ctx.now op) ≤ left) }
+{
+    let is_value = is_value_below(ctx, op, left);
+    let is_result = is_result_below(ctx, op, left);
+    is_value && is_result
+}
+
+// Whether the header of an operation tells the attribute under a key, as it does where the dictionary stands apart.
+fn is_told<K: Copy>(kind: OpKind<K>, key: &str) -> bool
+    ensures { result ≡ is_told (Some kind) key.now }
+{
+    match kind {
+        OpKind::Module => key == ATTR_KEY_SYM_NAME,
+        OpKind::Func => key == ATTR_KEY_SYM_NAME || key == ATTR_KEY_BUILTIN_FUNC_TYPE,
+        OpKind::Constant => false,
+        OpKind::ForwardRef => false,
+        OpKind::Own(_) => false,
+    }
+}
+
+// Whether an entry stands in the dictionary that is printed.
+fn is_shown<D: OpSet>(kind: OpKind<D::Kind>, key: &str, value: &AttrObj<D>) -> bool
+    ensures { result ≡ is_shown D.OpSet (Some kind) (key.now, attr_view value.now) }
+{
+    !(is_told(kind, key) || value.outline())
+}
+
+// An entry, which has no level where it is not printed.
+fn is_entry_below<D: OpSet>(
+    ctx: &Context<D>,
+    kind: OpKind<D::Kind>,
+    key: &str,
+    value: &AttrObj<D>,
+    left: usize,
+) -> bool
+    requires live { IsAttrLive D.attr_handles ctx.now.types (attr_view value.now) }
+    requires some { 0 < left }
+    ensures { IsTrue result ↔ (entry_level D.OpSet ctx.now.types (Some kind) (key.now, attr_view value.now) < left) }
+{
+    if !is_shown(kind, key, value) {
+        return true;
+    }
+    is_within_levels(ctx, value, left - 1)
+}
+
+// The entries of the dictionary that is printed.
+fn are_shown_below<D: OpSet>(
+    ctx: &Context<D>,
+    kind: OpKind<D::Kind>,
+    dict: &AttributeDict<D>,
+    left: usize,
+) -> bool
+    requires live { HandlesLive D.attr_handles ctx.now.types dict.now }
+    requires some { 0 < left }
+    ensures { IsTrue result ↔ (shown_levels D.OpSet ctx.now.types (Some kind) dict.now < left) }
+{
+    'entries: for (key, value) in dict.iter() {
+        if !is_entry_below(ctx, kind, key.as_str(), value, left) {
+            return false;
+        }
+    }
+    true
+}
+
+// The dictionary of a module or a function.
+fn is_dictionary_below<D: OpSet>(ctx: &Context<D>, op: Ptr<Operation>, left: usize) -> bool
+    requires live { IsLive ctx.now (AnyNode.Operation op) }
+    requires some { 0 < left }
+    ensures { IsTrue result ↔ (entries_levels (dictionary_term D.OpSet ctx.now op) < left) }
+{
+    are_shown_below(ctx, op.kind(ctx), op.attributes(ctx), left)
+}
+
+// What stands before the dictionary of a module or a function.
+fn is_head_below<D: OpSet>(ctx: &Context<D>, op: Ptr<Operation>, left: usize) -> bool
+    requires live { IsLive ctx.now (AnyNode.Operation op) }
+    requires some { 0 < left }
+    ensures { IsTrue result ↔ (head_levels (head_term ctx.now (kind_of ctx.now op) op) < left) }
+{
+    match op.kind(ctx) {
+        OpKind::Module => true,
+        OpKind::Func => is_func_type_below(ctx, op, left),
+        OpKind::Constant => true,
+        OpKind::ForwardRef => true,
+        OpKind::Own(_) => true,
+    }
+}
+
+/// What stands before the blocks of a module or a function.
+pub(crate) fn is_header_below<D: OpSet>(ctx: &Context<D>, op: Ptr<Operation>, left: usize) -> bool
+    requires live { IsLive ctx.now (AnyNode.Operation op) }
+    requires some { 0 < left }
+    ensures { IsTrue result ↔ (header_levels (header_term D.OpSet ctx.now (kind_of ctx.now op) op) < left) }
+{
+    let is_head = is_head_below(ctx, op, left);
+    let is_dictionary = is_dictionary_below(ctx, op, left);
+    is_head && is_dictionary
+}
+
+/// The arguments of a block.
+pub(crate) fn are_arguments_below<D: OpSet>(
+    ctx: &Context<D>,
+    block: Ptr<BasicBlock>,
+    left: usize,
+) -> bool
+    requires live { IsLive ctx.now (AnyNode.BasicBlock block) }
+    requires some { 0 < left }
+    ensures { IsTrue result ↔ (typed_levels ctx.now (arguments_of ctx.now block) < left) }
+{
+    'arguments: for place in 0..block.get_num_arguments(ctx) {
+        if !is_type_below(ctx, block.get_type(ctx, place), left) {
+            return false;
+        }
+    }
+    true
+}
