@@ -1,8 +1,0 @@
-use Rattle.plir_bench.specs.Quiet.{StaysQuiet}
-use Rattle.plir_core.specs.Store.{IsLive}
-use Rattle.plir_core.specs.declared.ptr.IRNode.TheVariants.{BasicBlock}
-use Rattle.plir_bench.proofs.building.build_functions.Given as goal
-
--- the body is live, and what was built uses nothing
-abbrev pub invariant-loop-number : goal.invariant-loop-number
-invariant-loop-number g l = IsLive l.ctx (BasicBlock l.body) × StaysQuiet l.fn.ctx l.ctx
