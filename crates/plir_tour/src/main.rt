@@ -30,6 +30,7 @@ fn tour<W: Write>(
     writer: &mut W,
 ) -> Result<(), Stop> {
     let module = ModuleOp::new(alloc, ctx, Identifier::try_new(alloc, "shapes")?)?;
+    ctx.stands();
     let ty = FunctionType::get(ctx, Vec::new(alloc), Vec::new(alloc))?;
     let func = FuncOp::new(alloc, ctx, Identifier::try_new(alloc, "area")?, ty)?;
     let func = Op::<BuiltinSet>::get_operation(&func);
