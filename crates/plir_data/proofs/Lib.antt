@@ -2,6 +2,7 @@ pub mod Bulk
 pub mod Dictionaries
 pub mod Equality
 pub mod HeldHandles
+pub mod KeyPlaces
 pub mod Reordered
 pub mod Tables
 pub mod TypeTexts

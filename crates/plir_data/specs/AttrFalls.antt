@@ -1,5 +1,5 @@
 -- An attribute is larger than those in it.
-use Rattle.std.specs.Prelude.{ℕ, ◌≤◌, List, [], ◌∷◌, map, String}
+use Rattle.std.specs.Prelude.{ℕ, max, ◌≤◌, List, [], ◌∷◌, map, String, Vec}
 use Rattle.std.specs.declared.alloc.Global.{Global}
 use Rattle.std.proofs.Common.{arith}
 use denote.Param.Weighed.{most}
@@ -9,6 +9,7 @@ use Rattle.plir_data.specs.DictSeen.{pairs_view}
 use Rattle.plir_data.specs.declared.attributes.AttrObj.{AttrObj}
 use Rattle.plir_data.specs.declared.attributes.AttrObj.TheVariants as A
 use Rattle.plir_data.specs.declared.attribute_dict.AttributeDict.TheDeep.{deep-AttrObj}
+use Rattle.plir_data.specs.declared.attribute_dict.AttributeDict.TheShapes.{weighed-AttributeDict-entries}
 
 pub deep_le : {D K A T E : Type 0} (o : _) (p : _) (h : _) (d : _) (p' : _) (h' : _) (d' : _) (e : _) (e' : _)
     (x : AttrObj D K A T E) → deep-AttrObj D K A T E o p h d p' h' d' e e' x ≤ bulk (attr_view x)
@@ -31,6 +32,11 @@ module _ {D K A T E : Type 0} where
   most_items size small (x ∷ xs) = omega (arith, small x, most_items size small xs)
 
   pub most_entries : (size : AttrObj D K A T E → ℕ) → ((x : AttrObj D K A T E) → size x ≤ bulk (attr_view x)) →
-      (es : List (String Global × AttrObj D K A T E)) → most size (map (λ e. e.1) es) ≤ entries_bulk (pairs_view es)
+      (es : List (String Global × AttrObj D K A T E)) → most (λ e. max 0 (max (size e.1) 0)) es ≤ entries_bulk (pairs_view es)
   most_entries size small [] = omega arith
   most_entries size small (e ∷ es) = omega (arith, small e.1, most_entries size small es)
+
+  pub entries_weight : (size : AttrObj D K A T E → ℕ) → ((x : AttrObj D K A T E) → size x ≤ bulk (attr_view x)) →
+      (v : Vec (String Global × AttrObj D K A T E) Global) →
+      (weighed-AttributeDict-entries D K A T E).weight (AttrObj D K A T E) size v ≤ entries_bulk (pairs_view v.items)
+  entries_weight size small v = most_entries size small v.items

@@ -11,7 +11,8 @@
 --   AttrSeen     attr_view: an `AttrObj` as an AttrView
 --   Dictionary   dict_get, dict_put, dict_without, IsDictionary: entries in ascending order of their keys
 --   DictLaws     laws of look-ups after edits, for the proofs of the crates above
---   DictSeen     a map of attributes as its entries
+--   DictSeen     a list of attributes under keys as a dictionary's entries
+--   Places       IsPlace: where a key stands among entries whose keys ascend
 --   AttrDepth    how deep attributes stand in one another
 --   AttrCalls    attr_id, attr_type, is_outlined: what the getters of an attribute answer
 --   AttrEq, AttrHash   attr_eq, attr_words: equality of attributes, and what their hash is made from
@@ -36,6 +37,7 @@ pub mod DictSeen
 pub mod AttrFalls
 pub mod Dictionary
 pub mod DictLaws
+pub mod Places
 pub mod AttrCalls
 pub mod AttrEq
 pub mod AttrHash

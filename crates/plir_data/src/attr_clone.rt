@@ -1,17 +1,14 @@
 //! Copies of attributes.
 
-ghost use Rattle.std.specs.Prelude.{◌≡◌, IfOk, OnOk, map, true};
+ghost use Rattle.std.specs.Prelude.{◌≡◌, IfOk, map, true};
 ghost use Rattle.plir_data.specs.AttrSeen.{attr_view};
 ghost use Rattle.plir_data.specs.AttrView.{is_leaf};
-ghost use Rattle.plir_data.specs.DictSeen.{dict_view};
-ghost use Rattle.plir_data.specs.Dictionary.{dict_of, dict_put};
 
 use crate::attribute_dict::AttributeDict;
 use crate::attributes::{AttrObj, DictAttr, VecAttr};
 use crate::memory::Memory;
 use crate::op_set::OpSet;
 use std::alloc::Global;
-use std::collections::BTreeMap;
 
 impl<D: OpSet> AttrObj<D> {
     /// An equal attribute.
@@ -102,35 +99,11 @@ fn copy_of_dict<D: OpSet>(
 ) -> Result<AttributeDict<D>, Memory>
     ensures { IfOk result (λ d. d ≡ dict.now) }
 {
-    let entries = copy_of_entries(alloc, &dict.entries)?;
-    Ok(AttributeDict { entries })
-}
-
-#[cycle(copy)]
-fn copy_of_entries<D: OpSet>(
-    alloc: Global,
-    entries: &BTreeMap<String, AttrObj<D>>,
-) -> Result<BTreeMap<String, AttrObj<D>>, Memory>
-    ensures { IfOk result (λ m. dict_view m ≡ dict_of (dict_view entries.now)) }
-{
-    let mut copies = BTreeMap::new(alloc);
-    'entries: for (key, value) in entries.iter() {
+    let mut entries = Vec::with_capacity(alloc, dict.len())?;
+    'entries: for (key, value) in dict.iter() {
+        let name = String::from_str(alloc, key.as_str())?;
         let copy = copy_of(alloc, value)?;
-        put_copy(alloc, &mut copies, key.as_str(), copy)?;
+        entries.push((name, copy))?;
     }
-    Ok(copies)
-}
-
-// Puts an attribute under a copy of a key.
-fn put_copy<D: OpSet>(
-    alloc: Global,
-    copies: &mut BTreeMap<String, AttrObj<D>>,
-    key: &str,
-    value: AttrObj<D>,
-) -> Result<(), Memory>
-    ensures { OnOk result (dict_view copies.new ≡ dict_put (dict_view copies.old) key.now (attr_view value)) }
-{
-    let name = String::from_str(alloc, key)?;
-    copies.insert(name, value)?;
-    Ok(())
+    Ok(AttributeDict { entries })
 }

@@ -5,12 +5,10 @@ ghost use Rattle.plir_data.specs.AttrEq.{attr_eq, leaves_eq, items_eq, entries_e
 ghost use Rattle.std.specs.Cmp.Lexicographic.{pointwise};
 ghost use Rattle.plir_data.specs.AttrSeen.{attr_view};
 ghost use Rattle.plir_data.specs.AttrView.{items_of, entries_of};
-ghost use Rattle.plir_data.specs.DictSeen.{dict_view};
 
 use crate::attribute_dict::AttributeDict;
 use crate::attributes::{AttrObj, DictAttr, VecAttr};
 use crate::op_set::OpSet;
-use std::collections::BTreeMap;
 
 impl<D: OpSet> PartialEq for AttrObj<D> {
     ghost use Rattle.std.specs.Cmp as Cmp;
@@ -48,7 +46,7 @@ impl<D: OpSet> PartialEq for AttributeDict<D> {
         D.Attr.Eq.laws)) };
 
     fn eq(&self, other: &Self) -> bool {
-        are_same_entries(&self.entries, &other.entries)
+        are_same_dicts(self, other)
     }
 }
 
@@ -140,18 +138,8 @@ fn are_same_items<D: OpSet>(ones: &[AttrObj<D>], others: &[AttrObj<D>]) -> bool
 }
 
 #[cycle(same)]
-fn are_same_dicts<D: OpSet>(one: &AttributeDict<D>, other: &AttributeDict<D>) -> bool
-    ensures { result ≡ entries_eq D.Attr.eq (entries_of one.now) (entries_of other.now) }
-{
-    are_same_entries(&one.entries, &other.entries)
-}
-
-#[cycle(same)]
-fn are_same_entries<D: OpSet>(
-    ones: &BTreeMap<String, AttrObj<D>>,
-    others: &BTreeMap<String, AttrObj<D>>,
-) -> bool
-    ensures { result ≡ entries_eq D.Attr.eq (entries_of (dict_view ones.now)) (entries_of (dict_view others.now)) }
+fn are_same_dicts<D: OpSet>(ones: &AttributeDict<D>, others: &AttributeDict<D>) -> bool
+    ensures { result ≡ entries_eq D.Attr.eq (entries_of ones.now) (entries_of others.now) }
 {
     let mut left = others.iter();
     'entries: for (key, one) in ones.iter() {

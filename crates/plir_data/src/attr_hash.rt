@@ -118,7 +118,7 @@ impl<D: OpSet> AttributeDict<D> {
     fn feed<H: Hasher>(&self, state: &mut H)
         ensures { state.new ≡ fold H.write state.old (entries_words D.Attr.hash_input (entries_of self.now)) }
     {
-        'entries: for (key, value) in self.entries.iter() {
+        'entries: for (key, value) in self.iter() {
             key.hash(state);
             value.feed(state);
         }

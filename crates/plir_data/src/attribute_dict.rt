@@ -8,20 +8,20 @@ ghost use Rattle.plir_data.specs.DictSeen.{pairs_view};
 ghost use Rattle.plir_data.specs.Dictionary.{dict_get, dict_put, dict_without, IsDictionary};
 
 use crate::attributes::AttrObj;
+use crate::entries::Entries;
 use crate::identifier::Identifier;
 use crate::memory::Memory;
 use crate::op_set::OpSet;
+use crate::places::{insert_at, place_of, put_at};
 use std::alloc::Global;
-use std::collections::btree_map::{BTreeMap, Iter};
 use std::marker::Model;
-use std::mem::replace;
 
 /// Attributes under keys, in ascending order of the keys' bytes.
 #[cycle(attr)]
 #[derive(Drop)]
 #[derive_where(Debug)]
 pub struct AttributeDict<D: OpSet> {
-    pub(crate) entries: BTreeMap<String, AttrObj<D>>,
+    pub(crate) entries: Vec<(String, AttrObj<D>)>,
 }
 
 impl<D: OpSet> Model for AttributeDict<D> {
@@ -36,21 +36,21 @@ impl<D: OpSet> Model for AttributeDict<D> {
     ghost coded = { coded_list (coded× (coded_list coded_ℕ) (attr_code D.Attr.code)) };
 
     ghost use Rattle.plir_data.specs.AttrDepth.{entries_bulk};
-    ghost use Rattle.plir_data.specs.DictSeen.{dict_view};
+    ghost use Rattle.plir_data.specs.DictSeen.{pairs_view};
     ghost use Rattle.plir_data.specs.Dictionary.{IsDictionary};
 
-    ghost view = { λ d. dict_view d.entries };
+    ghost view = { λ d. pairs_view d.entries.items };
 
-    ghost invariant = { λ d. IsDictionary (dict_view d.entries) };
+    ghost invariant = { λ d. IsDictionary (pairs_view d.entries.items) };
 
     ghost size = { entries_bulk };
 
-    ghost use Rattle.plir_data.specs.AttrFalls.{deep_le, most_entries};
+    ghost use Rattle.plir_data.specs.AttrFalls.{deep_le, entries_weight};
 
     ghost size_decreases = { λ a h. omega (
       arith,
-      most_entries _ (deep_le D.OpSet D.Attr.PartialEq D.Attr.Hash D.Attr.Debug D.Ty.PartialEq D.Ty.Hash D.Ty.Debug
-          D.Err.Debug D.Err.Display) a.entries.entries,
+      entries_weight _ (deep_le D.OpSet D.Attr.PartialEq D.Attr.Hash D.Attr.Debug D.Ty.PartialEq D.Ty.Hash D.Ty.Debug
+          D.Err.Debug D.Err.Display) a.entries,
     ) };
 }
 
@@ -63,7 +63,7 @@ impl<D: OpSet> AttributeDict<D> {
         ensures { result ≡ [] }
     {
         AttributeDict {
-            entries: BTreeMap::new(alloc),
+            entries: Vec::new(alloc),
         }
     }
 
@@ -86,7 +86,10 @@ impl<D: OpSet> AttributeDict<D> {
         ensures value { option_map (λ a. attr_view a.now) result ≡ dict_get self.now key.now }
         ensures live { IfSome result (λ a. IsLiveWith D.Ty self.now (attr_view a.now)) }
     {
-        self.entries.get(key)
+        match place_of(&self.entries, key) {
+            Ok(at) => Some(&self.entries[at].1),
+            Err(_) => None,
+        }
     }
 
     /// The attribute under a key, to be changed.
@@ -95,7 +98,12 @@ impl<D: OpSet> AttributeDict<D> {
             D.Attr.Debug D.Ty.Hash D.Ty.Debug D.Err.Debug D.Err.Display self.entry key.now result) }
         ensures value { option_map (λ a. attr_view a.now) result ≡ dict_get self.old key.now }
     {
-        self.entries.get_mut(key)
+        let at = match place_of(&self.entries, key) {
+            Ok(at) => at,
+            Err(_) => return None,
+        };
+        let entry = self.entries.get_mut(at)?;
+        Some(&mut entry.1)
     }
 
     /// Puts an attribute under a key, in place of what was there.
@@ -103,8 +111,13 @@ impl<D: OpSet> AttributeDict<D> {
         ensures ok { OnOk result (self.new ≡ dict_put self.old key (attr_view value)) }
         ensures err { OnErr result (self.new ≡ self.old) }
     {
-        self.entries.insert(key.into_string(), value)?;
-        Ok(())
+        match place_of(&self.entries, key.as_str()) {
+            Ok(at) => {
+                let _old = put_at(&mut self.entries, at, value);
+                Ok(())
+            }
+            Err(at) => insert_at(&mut self.entries, at, key.into_string(), value),
+        }
     }
 
     /// Puts an attribute in place of the one under a key, and answers that one. Where there is none, the new one comes
@@ -117,10 +130,10 @@ impl<D: OpSet> AttributeDict<D> {
         ensures same { OnErr result (self.new ≡ self.old) }
         ensures live { IfOk result (λ a. IsLiveWith D.Ty self.old (attr_view a)) }
     {
-        let Some(place) = self.entries.get_mut(key) else {
-            return Err(value);
-        };
-        Ok(replace(place, value))
+        match place_of(&self.entries, key) {
+            Ok(at) => Ok(put_at(&mut self.entries, at, value)),
+            Err(_) => Err(value),
+        }
     }
 
     /// Takes the attribute under a key out.
@@ -129,14 +142,19 @@ impl<D: OpSet> AttributeDict<D> {
         ensures left { self.new ≡ dict_without self.old key.now }
         ensures live { IfSome result (λ a. IsLiveWith D.Ty self.old (attr_view a)) }
     {
-        self.entries.remove(key)
+        match place_of(&self.entries, key) {
+            Ok(at) => Some(self.entries.remove(at).1),
+            Err(_) => None,
+        }
     }
 
     /// The keys with their attributes, in ascending order of the keys' bytes.
-    pub fn iter(&self) -> Iter<'_, String, AttrObj<D>>
+    pub fn iter(&self) -> Entries<'_, D>
         ensures entries { pairs_view result ≡ self.now }
         ensures whole { IsDictionary self.now }
     {
-        self.entries.iter()
+        Entries {
+            left: &self.entries,
+        }
     }
 }

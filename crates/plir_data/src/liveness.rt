@@ -79,7 +79,7 @@ impl<D: OpSet> AttributeDict<D> {
     fn holds_live<C: TypeStore<D>>(&self, ctx: &C) -> bool
         ensures { IsTrue result ↔ AreEntriesLive D.attr_handles (C.types ctx.now) (entries_of self.now) }
     {
-        'entries: for (_, value) in self.entries.iter() {
+        'entries: for (_, value) in self.iter() {
             if !value.is_live(ctx) {
                 return false;
             }
