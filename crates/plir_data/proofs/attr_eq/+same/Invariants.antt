@@ -1,4 +1,5 @@
-use Rattle.std.proofs.Common.{◌≡◌, drop, map}
+use Rattle.std.proofs.Common.{◌≡◌, ◌≤◌, drop, map}
+use Rattle.plir_data.specs.AttrDepth.{entries_bulk}
 use Rattle.plir_data.specs.AttrEq.{items_eq, entries_eq}
 use Rattle.plir_data.specs.AttrSeen.{attr_view}
 use Rattle.plir_data.specs.AttrView.{items_of, entries_of}
@@ -11,4 +12,4 @@ invariant-are_same_items-items g l =
 
 abbrev pub invariant-are_same_dicts-entries : goal.invariant-are_same_dicts-entries
 invariant-are_same_dicts-entries g l =
-    entries_eq g.D.Attr.PartialEq.eq (entries_of (pairs_view l.key-iterator)) (entries_of (pairs_view l.left)) ≡ entries_eq g.D.Attr.PartialEq.eq (entries_of l.ones) (entries_of l.others)
+    (entries_eq g.D.Attr.PartialEq.eq (entries_of (pairs_view l.key-iterator)) (entries_of (pairs_view l.left)) ≡ entries_eq g.D.Attr.PartialEq.eq (entries_of l.ones) (entries_of l.others)) × (entries_bulk (pairs_view l.key-iterator) ≤ entries_bulk l.ones)
