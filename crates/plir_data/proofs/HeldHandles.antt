@@ -1,11 +1,13 @@
 -- Whether handles name types of a table, asked of their parts.
-use Rattle.std.proofs.Common.{◌≡◌, ◌↔◌, ℕ, Bool, true, false, cond, List, [], ◌∷◌, ◌++◌, Option, Some, None, IsTrue, option_map, refl, sym, subst}
-use Rattle.std.specs.Prelude.{All, IfSome}
-use Rattle.std.proofs.lemmas.List.Elements.{All-append, All-cons, All-head, All-nil, All-tail}
-use Rattle.plir_data.specs.AttrLive.{IsAttrLive, AreEntriesLive, HandlesLive, IsLiveWith}
+use Rattle.std.proofs.Common.{◌≡◌, ◌↔◌, ℕ, Bool, true, false, cond, List, [], ◌∷◌, ◌++◌, Option, Some, None, IsTrue, option_map, refl, sym, subst, arith}
+use Rattle.std.specs.Prelude.{All, Contains, IfSome}
+use Rattle.std.proofs.lemmas.List.Elements.{All-append, All-cons, All-contains, All-head, All-nil, All-tail}
+use Rattle.std.proofs.lemmas.Option.{none-some, same_Some}
+use Rattle.plir_data.specs.AttrLive.{IsAttrLive, AreItemsLive, AreEntriesLive, HandlesLive, IsLiveWith, IsHeldLive}
 use Rattle.plir_data.specs.Dictionary.{dict_get, is_key}
-use Rattle.plir_data.specs.AttrView.{AttrView, entries_of}
-use Rattle.plir_data.specs.Types.{TypeView, IsLive, AllLive}
+use Rattle.plir_data.specs.AttrCalls.{attr_type}
+use Rattle.plir_data.specs.AttrView.{Leaf, identifier, string, bool, integer, unit, type_of, operand_segment_sizes, given_names, own, AttrView, leaf, dict, vec, entries_of, items_of}
+use Rattle.plir_data.specs.Types.{TypeView, IsLive, AllLive, IsTypeTable, handles_of, type_at}
 use Rattle.plir_data.proofs.TypeTrees.{all_left, all_right}
 
 module _ {T : Type 0} (types : List (TypeView T)) (first rest : List ℕ) (a : Bool) where
@@ -41,6 +43,16 @@ module _ {A T : Type 0} (own_handles : A → List ℕ) (types : List (TypeView T
   live_listed [] h = tt
   live_listed (e ∷ es) h = (All-head IsEntryLive e es h, live_listed es (All-tail IsEntryLive e es h))
 
+-- the same of a list
+module _ {A T : Type 0} (own_handles : A → List ℕ) (types : List (TypeView T)) where
+  pub items_listed : (xs : List (AttrView A)) → AreItemsLive own_handles types (items_of xs) → All (IsAttrLive own_handles types) xs
+  items_listed [] h = All-nil (IsAttrLive own_handles types)
+  items_listed (x ∷ xs) h = All-cons (IsAttrLive own_handles types) x xs h.0 (items_listed xs h.1)
+
+  pub listed_items : (xs : List (AttrView A)) → All (IsAttrLive own_handles types) xs → AreItemsLive own_handles types (items_of xs)
+  listed_items [] h = tt
+  listed_items (x ∷ xs) h = (All-head (IsAttrLive own_handles types) x xs h, listed_items xs (All-tail (IsAttrLive own_handles types) x xs h))
+
 -- what holds of all values of a dictionary holds of the one at a key
 module _ {V : Type 0} (P : V → Type 0) (k : List ℕ) where
   one_or_later : (b : Bool) (v : V) (o : Option V) → P v → IfSome o P → IfSome (cond b (Some v) o) P
@@ -56,3 +68,29 @@ module _ {A X : Type 0} (T : Type 0) (see : X → AttrView A) where
   pub seen_live : (r : Option X) (es : List (List ℕ × AttrView A)) (k : List ℕ) → option_map see r ≡ dict_get es k → IfSome r (λ x. IsLiveWith T es (see x))
   seen_live None es k is = tt
   seen_live (Some x) es k is = λ own_handles types all. subst (λ o. IfSome o (IsAttrLive own_handles types)) (sym is) (held_at (IsAttrLive own_handles types) k es all)
+
+-- the type of an attribute is among the handles in it
+module _ {A : Type 0} (T : Type 0) (own_handles : A → List ℕ) (own_type : A → Option ℕ) (held : (a : A) (h : ℕ) → own_type a ≡ Some h → Contains (own_handles a) h) where
+  the_one : (h t : ℕ) → Some h ≡ Some t → (types : List (TypeView T)) → AllLive types (t ∷ []) → IsLive types h
+  the_one h t is types all = subst (IsLive types) (sym (same_Some h t is)) (All-head (IsLive types) t [] all)
+
+  type_held : (a : AttrView A) (h : ℕ) → Some h ≡ attr_type own_type a → IsHeldLive T own_handles a h
+  type_held (leaf (identifier w)) h is = absurd (none-some h (sym is))
+  type_held (leaf (string s)) h is = absurd (none-some h (sym is))
+  type_held (leaf (bool b)) h is = absurd (none-some h (sym is))
+  type_held (leaf (integer t w b)) h is = the_one h t is
+  type_held (leaf unit) h is = absurd (none-some h (sym is))
+  type_held (leaf (type_of t)) h is = the_one h t is
+  type_held (leaf (operand_segment_sizes ns)) h is = absurd (none-some h (sym is))
+  type_held (leaf (given_names ns)) h is = absurd (none-some h (sym is))
+  type_held (leaf (own a)) h is = λ types all. All-contains (IsLive types) (own_handles a) h all (held a h (sym is))
+  type_held (dict es) h is = absurd (none-some h (sym is))
+  type_held (vec xs) h is = absurd (none-some h (sym is))
+
+  pub typed_live : (a : AttrView A) (o : Option ℕ) → o ≡ attr_type own_type a → IfSome o (IsHeldLive T own_handles a)
+  typed_live a None is = tt
+  typed_live a (Some h) is = type_held a h is
+
+-- the handles that a type of a table holds name types before it, so they are live
+pub parts_live : {T : Type 0} (own_handles : T → List ℕ) (types : List (TypeView T)) → IsTypeTable own_handles types → (h : ℕ) → IsLive types h → (t : TypeView T) → type_at types h ≡ Some t → AllLive types (handles_of own_handles t)
+parts_live own_handles types table h live t is = λ k d p. let less = table.before t h is k d p in omega (arith, less, live)

@@ -1,6 +1,6 @@
 -- Attributes whose handles name types of a table.
 use Rattle.std.specs.Prelude.{ℕ, List, [], ◌∷◌, All}
-use Rattle.plir_data.specs.Types.{TypeView, AllLive}
+use Rattle.plir_data.specs.Types.{TypeView, IsLive, AllLive}
 use Rattle.plir_data.specs.AttrView.{Leaf, integer, type_of, own, AttrView, leaf, dict, vec, Items, no_items, item}
 use Rattle.plir_data.specs.AttrView.{Entries, no_entries, entry}
 
@@ -37,3 +37,7 @@ module _ {A T : Type 0} where
 abbrev pub IsLiveWith : {A : Type 0} → (T : Type 0) → List (List ℕ × AttrView A) → AttrView A → Type 0
 IsLiveWith {A} T es a = (own_handles : A → List ℕ) (types : List (TypeView T)) → HandlesLive own_handles types es →
     IsAttrLive own_handles types a
+
+-- the handle is live in each table in which the attribute is
+abbrev pub IsHeldLive : {A : Type 0} → (T : Type 0) → (own_handles : A → List ℕ) → AttrView A → ℕ → Type 0
+IsHeldLive T own_handles a handle = (types : List (TypeView T)) → IsAttrLive own_handles types a → IsLive types handle

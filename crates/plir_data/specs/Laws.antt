@@ -1,7 +1,7 @@
 -- Laws of dictionaries and types.
-use Rattle.std.specs.Prelude.{◌≡◌, ◌↔◌, ℕ, zero, suc, List, ◌∷◌, ◌++◌, Some, false}
+use Rattle.std.specs.Prelude.{◌≡◌, ◌↔◌, ℕ, zero, suc, List, ◌∷◌, ◌++◌, Some, false, All}
 use Rattle.plir_data.specs.AttrLive.{IsAttrLive, HandlesLive}
-use Rattle.plir_data.specs.AttrView.{AttrView, dict, entries_of}
+use Rattle.plir_data.specs.AttrView.{AttrView, dict, vec, entries_of, items_of}
 use Rattle.plir_data.specs.Dictionary.{IsDictionary, dict_of, is_key}
 use Rattle.plir_data.specs.TypeTree.{tree_over, tree_of}
 use Rattle.plir_data.specs.Types.{TypeView, type_at}
@@ -19,6 +19,11 @@ module _ {V : Type 0} where
 abbrev pub AreLiveByEntries : {A T : Type 0} → (A → List ℕ) → List (TypeView T) → Type 0
 AreLiveByEntries {A} own_handles types = (es : List (List ℕ × AttrView A)) →
     IsAttrLive own_handles types (dict (entries_of es)) ↔ HandlesLive own_handles types es
+
+-- a list is live as an attribute exactly where the attributes in it are
+abbrev pub AreLiveByItems : {A T : Type 0} → (A → List ℕ) → List (TypeView T) → Type 0
+AreLiveByItems {A} own_handles types = (xs : List (AttrView A)) →
+    IsAttrLive own_handles types (vec (items_of xs)) ↔ All (IsAttrLive own_handles types) xs
 
 -- the order in which pairs of different keys come isn't seen in their dictionary
 abbrev pub OrderIsNotSeen : Type 0 → Type 0

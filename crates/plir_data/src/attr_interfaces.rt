@@ -1,7 +1,8 @@
 //! What can be asked of an attribute, whatever its kind.
 
-ghost use Rattle.std.specs.Prelude.{◌≡◌, ℕ, Bool, true, Option, Some, Ok, ⊤};
+ghost use Rattle.std.specs.Prelude.{◌≡◌, ℕ, Bool, true, Option, Some, IfSome, Ok, ⊤};
 ghost use Rattle.plir_data.specs.AttrView.{AttrView};
+ghost use Rattle.plir_data.specs.AttrLive.{IsHeldLive};
 ghost use Rattle.plir_data.specs.AttrSeen.{attr_view};
 ghost use Rattle.plir_data.specs.AttrCalls.{attr_id, attr_type, is_outlined};
 
@@ -33,7 +34,8 @@ impl<D: OpSet> AttrObj<D> {
 
     /// The type, if the attribute has one: integers, types and some of the user's own.
     pub fn typed(&self) -> Option<TypeHandle>
-        ensures { result ≡ attr_type D.attr_type (attr_view self.now) }
+        ensures value { result ≡ attr_type D.attr_type (attr_view self.now) }
+        ensures live { IfSome result (IsHeldLive D.Ty D.attr_handles (attr_view self.now)) }
     {
         match self {
             AttrObj::Integer(value) => Some(value.get_type().into()),

@@ -91,6 +91,7 @@ impl<D: OpSet> DictAttr<D> {
         ensures* writes_back { sem 𝓛 (LendsDictEntry D.row D.Kind.row D.Attr.row D.Ty.row D.Err.row D.OpSet D.Attr.Hash
             D.Attr.Debug D.Ty.Hash D.Ty.Debug D.Err.Debug D.Err.Display self.entry key.now result) }
         ensures value { option_map (λ a. attr_view a.now) result ≡ dict_get self.old key.now }
+        ensures live { IfSome result (λ a. IsLiveWith D.Ty self.old (attr_view a.now)) }
     {
         self.0.get_mut(key.as_str())
     }

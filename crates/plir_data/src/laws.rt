@@ -5,6 +5,7 @@ ghost use Rattle.std.specs.List.{fold};
 ghost use Rattle.plir_data.specs.AttrHash.{entries_words};
 ghost use Rattle.plir_data.specs.AttrView.{AttrView, entries_of};
 ghost use Rattle.plir_data.specs.Laws.{OrderIsNotSeen, IsDictOfItself, IsMadeOfTrees, AreLiveByEntries};
+ghost use Rattle.plir_data.specs.Laws.{AreLiveByItems};
 ghost use Rattle.plir_data.specs.Types.{TypeView, IsTypeTable};
 
 use crate::attributes::DictAttr;
@@ -44,6 +45,11 @@ pub fn dictionary_is_that_of_its_entries<D: OpSet>()
 /// tested as a part of an attribute is handed to what asks its entries, or the other way round.
 pub fn dictionaries_are_live_by_their_entries<D: OpSet>()
     ensures { (types : List (TypeView D.Ty)) → AreLiveByEntries D.attr_handles types }
+{}
+
+/// A list is live as an attribute exactly where the attributes in it are: one wants it at what is taken out of a list.
+pub fn lists_are_live_by_their_items<D: OpSet>()
+    ensures { (types : List (TypeView D.Ty)) → AreLiveByItems D.attr_handles types }
 {}
 
 /// The tree of a handle is that of its type, over the trees of the handles that the type holds.

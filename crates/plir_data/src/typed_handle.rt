@@ -2,6 +2,7 @@
 
 ghost use Rattle.std.specs.Prelude.{◌≡◌, ◌↔◌, IsTrue, ℕ, List, Bool, true, Some, IfSome, IsSome, is_some, option_map};
 ghost use Rattle.plir_data.specs.Types.{TypeView, integer, function, unit, IsLive, IsMarked, type_at, signature_of};
+ghost use Rattle.plir_data.specs.Types.{AllLive, handles_of};
 ghost use Rattle.plir_data.specs.Types.{is_integer, is_function, is_unit, type_id};
 ghost use Rattle.plir_data.specs.TypeSeen.{type_view};
 
@@ -54,6 +55,7 @@ impl<T> TypedHandle<T> {
         requires { IsLive (C.types ctx.now) handle }
         ensures found { IsSome result ↔ IsMarked T.marks (C.types ctx.now) handle }
         ensures same { IfSome result (λ h. h ≡ handle) }
+        ensures live { IfSome result (IsLive (C.types ctx.now)) }
     {
         match T::project(ctx.types().get(handle)) {
             Some(_) => Some(TypedHandle::new(handle)),
@@ -67,7 +69,8 @@ impl<T> TypedHandle<T> {
         T: TypeMark<D> + 'a,
         requires live { IsLive (C.types ctx.now) self }
         requires marked { IsMarked T.marks (C.types ctx.now) self }
-        ensures { type_at (C.types ctx.now) self ≡ Some (T.seen result.now) }
+        ensures value { type_at (C.types ctx.now) self ≡ Some (T.seen result.now) }
+        ensures live { AllLive (C.types ctx.now) (handles_of D.type_handles (T.seen result.now)) }
     {
         T::project(ctx.types().get(self.handle)).unwrap()
     }

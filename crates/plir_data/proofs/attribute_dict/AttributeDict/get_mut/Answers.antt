@@ -26,7 +26,7 @@ invariant_of-self-lent g c = λ w.
 pub returns-in-Err : goal.returns-in-Err
 returns-in-Err g c =
     let p : IsPlace (λ e. string_bytes e.0) c.self.inside.entries.items c.args.key.now (Err c.in-Err.field-0) = subst (λ es. IsPlace (λ e. string_bytes e.0) es c.args.key.now (Err c.in-Err.field-0)) c.deref.ensures.value c.in-Err.ensures in
-    ((refl, (λ w. tt), c.self.view_is), sym (get_absent (λ e. string_bytes e.0) (λ e. attr_view e.1) c.args.key.now c.self.inside.entries.items c.in-Err.field-0 p) ∙ ap (λ d. dict_get d c.args.key.now) c.self.view_is)
+    ((refl, (λ w. tt), c.self.view_is), (sym (get_absent (λ e. string_bytes e.0) (λ e. attr_view e.1) c.args.key.now c.self.inside.entries.items c.in-Err.field-0 p) ∙ ap (λ d. dict_get d c.args.key.now) c.self.view_is, tt))
 
 pub returns : goal.returns
 returns g c =
@@ -34,4 +34,5 @@ returns g c =
     let k = c.args.key.now in
     let p : IsPlace (λ e. string_bytes e.0) es k (Ok c.in-Ok.at) = subst (λ es. IsPlace (λ e. string_bytes e.0) es k (Ok c.in-Ok.at)) c.deref.ensures.value c.in-Ok.ensures in
     let e = c.in_ok-entry.entry.now in
-    ((refl, (λ w. put_found (λ e. string_bytes e.0) (λ e. attr_view e.1) k es c.in-Ok.at (e.0, w) (attr_view w) (λ d. ap (λ e. string_bytes e.0) (get_or_read es c.in-Ok.at e p.0 c.in_ok-entry.ensures.value d)) refl p ∙ ap (λ d. dict_put d k (attr_view w)) c.self.view_is), refl), got_by (λ e. string_bytes e.0) (λ e. attr_view e.1) k es c.in-Ok.at _ (λ d. ap (λ e. attr_view e.1) (get_or_read es c.in-Ok.at e p.0 c.in_ok-entry.ensures.value d)) p ∙ ap (λ d. dict_get d k) c.self.view_is)
+    let got : Some (attr_view e.1) ≡ dict_get c.args.self.now k = got_by (λ e. string_bytes e.0) (λ e. attr_view e.1) k es c.in-Ok.at _ (λ d. ap (λ e. attr_view e.1) (get_or_read es c.in-Ok.at e p.0 c.in_ok-entry.ensures.value d)) p ∙ ap (λ d. dict_get d k) c.self.view_is in
+    ((refl, (λ w. put_found (λ e. string_bytes e.0) (λ e. attr_view e.1) k es c.in-Ok.at (e.0, w) (attr_view w) (λ d. ap (λ e. string_bytes e.0) (get_or_read es c.in-Ok.at e p.0 c.in_ok-entry.ensures.value d)) refl p ∙ ap (λ d. dict_put d k (attr_view w)) c.self.view_is), refl), (got, seen_live _ attr_view (Some e.1) c.args.self.now k got))
