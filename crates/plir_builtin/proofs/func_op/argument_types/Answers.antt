@@ -6,5 +6,5 @@ use Rattle.plir_builtin.proofs.func_op.argument_types.Goals as goal
 pub returns-in-Ok-clause-live : goal.returns-in-Ok-clause-live
 returns-in-Ok-clause-live g c =
     let types = c.args.ctx.now.types in
-    let arguments = arguments_live _ types c.args.ty _ _ c.types-table.ensures.table c.requires.type_live c.deref-function.ensures in
+    let arguments = arguments_live _ types c.args.ty _ _ c.types-table.ensures.table c.requires.type_live c.deref-function.ensures.value in
     subst (AllLive types) (sym (c.in-Ok.ensures.items ∙ c.arg_types.ensures)) arguments

@@ -13,7 +13,7 @@ returns-in_default-typed-clause-refused g c =
     let s = c.args.ctx.now in
     let op = c.args.self.now.op in
     let there = ap (λ es. dict_get es value_key) (sym c.attributes.ensures.value) ∙ sym c.in-Some.ensures.value in
-    told_wider s op _ _ (untyped_fault g.D.OpSet.attr_id g.D.OpSet.attr_type g.D.OpSet.type_id g.D.OpSet.type_body_text s op (attr_view c.in-Some.value.now) there (sym c.in_default-typed.ensures)) c.untyped.result c.untyped.ensures.told
+    told_wider s op _ _ (untyped_fault g.D.OpSet.attr_id g.D.OpSet.attr_type g.D.OpSet.type_id g.D.OpSet.type_body_text s op (attr_view c.in-Some.value.now) there (sym c.in_default-typed.ensures.value)) c.untyped.result c.untyped.ensures.told
 
 pub returns-then-eq-clause-ok : goal.returns-then-eq-clause-ok
 returns-then-eq-clause-ok g c =
@@ -22,7 +22,7 @@ returns-then-eq-clause-ok g c =
       value = attr_view c.in-Some.value.now;
       type = c.in-Some-typed.given;
       there = ap (λ es. dict_get es value_key) (sym c.attributes.ensures.value) ∙ sym c.in-Some.ensures.value;
-      typed = sym c.in-Some-typed.ensures;
+      typed = sym c.in-Some-typed.ensures.value;
       result = c.get_type-wanted.ensures.value ∙ ap Some (sym same);
     }
 
@@ -31,7 +31,7 @@ mismatched-requires-clause-given_live g c =
     let own = g.D.OpSet.attr_handles in
     let types = c.args.ctx.now.types in
     let handles = subst (HandlesLive own types) (sym c.attributes.ensures.value) c.attributes.ensures.live in
-    typed_live g.D.OpSet.attr_type own g.met.D.OpSet.attr_type_held types c.in-Some-typed.given (attr_view c.in-Some.value.now) (sym c.in-Some-typed.ensures) (c.in-Some.ensures.live own types handles)
+    typed_live g.D.OpSet.attr_type own g.met.D.OpSet.attr_type_held types c.in-Some-typed.given (attr_view c.in-Some.value.now) (sym c.in-Some-typed.ensures.value) (c.in-Some.ensures.live own types handles)
 
 pub returns-clause-refused : goal.returns-clause-refused
 returns-clause-refused g c =
@@ -39,4 +39,4 @@ returns-clause-refused g c =
     let op = c.args.self.now.op in
     let there = ap (λ es. dict_get es value_key) (sym c.attributes.ensures.value) ∙ sym c.in-Some.ensures.value in
     let other : c.in-Some-typed.given ≢ c.get_type-wanted.result = search rules in
-    told_wider s op _ _ (mismatch_fault g.D.OpSet.attr_id g.D.OpSet.attr_type g.D.OpSet.type_id g.D.OpSet.type_body_text s op (attr_view c.in-Some.value.now) there c.in-Some-typed.given c.get_type-wanted.result (sym c.in-Some-typed.ensures) c.get_type-wanted.ensures.value other) c.mismatched.result c.mismatched.ensures.told
+    told_wider s op _ _ (mismatch_fault g.D.OpSet.attr_id g.D.OpSet.attr_type g.D.OpSet.type_id g.D.OpSet.type_body_text s op (attr_view c.in-Some.value.now) there c.in-Some-typed.given c.get_type-wanted.result (sym c.in-Some-typed.ensures.value) c.get_type-wanted.ensures.value other) c.mismatched.result c.mismatched.ensures.told
