@@ -37,3 +37,5 @@ pub mod Owned
 pub mod Indices
 pub mod Standing
 pub mod MadeUnused
+pub mod Counting
+pub mod Counted

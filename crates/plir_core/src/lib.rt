@@ -25,6 +25,7 @@ mod region;
 mod regions;
 mod removing;
 mod unused;
+mod use_counts;
 mod value;
 
 pub use context::Context;

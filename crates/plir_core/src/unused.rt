@@ -10,20 +10,8 @@ ghost use Rattle.plir_core.specs.declared.ptr.IRNode.{IRNode};
 use crate::arena::Arena;
 use crate::context::Context;
 use crate::ptr::{BasicBlock, IRNode, Operation, Ptr};
-use crate::value::{DefiningEntity, Value};
+use crate::value::Value;
 use plir_data::OpSet;
-
-impl DefiningEntity {
-    // The operation or block as a node.
-    fn node(self) -> IRNode
-        ensures { result ≡ entity_node self }
-    {
-        match self {
-            DefiningEntity::Op(op) => IRNode::Operation(op),
-            DefiningEntity::Block(block) => IRNode::BasicBlock(block),
-        }
-    }
-}
 
 impl<O, B> Arena<O, B> {
     // How many slots of operations there are, free ones among them.

@@ -1,0 +1,196 @@
+//! Counts of uses: how many operands are values of an operation or a block, and how many successors are a block.
+ghost use Rattle.std.specs.Prelude.{◌≡◌, ◌+◌, ◌<◌, ℕ, [], Some, IfSome, slice_get};
+ghost use Rattle.plir_core.specs.Store.{entity_node};
+ghost use Rattle.plir_core.specs.Stored.{Seat, seat_of};
+ghost use Rattle.plir_core.specs.Uses.{Counts, IsBegun, UNKNOWN, raised, lowered, with_use, without_use, values_from, blocks_in};
+ghost use Rattle.plir_core.specs.Uses.{uses_in};
+
+
+use crate::contents::OpData;
+use crate::ptr::{BasicBlock, IRNode, Ptr};
+use crate::value::Value;
+use plir_data::OpSet;
+use std::alloc::Global;
+use std::marker::Model;
+
+/// How often the node in each slot is used. A slot past the end and one whose count is `u32::MAX` have a count that is not
+/// known: a count is never refused.
+#[derive(Drop)]
+pub(crate) struct UseCounts {
+    ops: Vec<u32>,
+    blocks: Vec<u32>,
+}
+
+impl Model for UseCounts {
+    ghost use Rattle.plir_core.specs.Uses.{Uses};
+
+    ghost Value = { Uses };
+
+    ghost view = { λ u. record { ops = u.ops.items; blocks = u.blocks.items } };
+}
+
+// Counts one use more of a slot.
+fn raise(counts: &mut Vec<u32>, slot: u32)
+    ensures { counts.new.items ≡ raised counts.old.items slot }
+{
+    let i = slot as usize;
+    if i < counts.len() {
+        counts[i] = counts[i].saturating_add(1);
+    }
+}
+
+// Counts one use fewer of a slot.
+fn lower(counts: &mut Vec<u32>, slot: u32)
+    ensures { counts.new.items ≡ lowered counts.old.items slot }
+{
+    let i = slot as usize;
+    if i < counts.len() && counts[i] != u32::MAX {
+        counts[i] = counts[i].saturating_sub(1);
+    }
+}
+
+// Begins a count at 0. Where memory runs out, the count is not known.
+fn begin(counts: &mut Vec<u32>, slot: u32)
+    ensures { IsBegun counts.old.items counts.new.items slot }
+{
+    let i = slot as usize;
+    if i < counts.len() {
+        counts[i] = 0;
+    } else if i == counts.len() {
+        let _refused = counts.push(0).is_err();
+    }
+}
+
+// The count of a slot, if it is known.
+fn known(counts: &Vec<u32>, slot: u32) -> Option<u32>
+    ensures { IfSome result (λ n. (slice_get counts.now.items slot ≡ Some n) × (n < UNKNOWN)) }
+{
+    let i = slot as usize;
+    if i < counts.len() && counts[i] < u32::MAX {
+        Some(counts[i])
+    } else {
+        None
+    }
+}
+
+impl UseCounts {
+    /// No counts.
+    pub(crate) fn new(alloc: Global) -> UseCounts
+        ensures { result ≡ record { ops = []; blocks = [] } }
+    {
+        UseCounts {
+            ops: Vec::new(alloc),
+            blocks: Vec::new(alloc),
+        }
+    }
+
+    /// How often a node is used, if that is known.
+    pub(crate) fn known(&self, node: IRNode) -> Option<u32>
+        ensures { (f : Seat → ℕ) → Counts self.now f → IfSome result (λ n. n ≡ f (seat_of node)) }
+    {
+        match node {
+            IRNode::Operation(op) => known(&self.ops, op.slot),
+            IRNode::Region(_) => None,
+            IRNode::BasicBlock(block) => known(&self.blocks, block.slot),
+        }
+    }
+
+    /// Begins the count of a node that nothing uses.
+    pub(crate) fn begin(&mut self, node: IRNode)
+        ensures { (f : Seat → ℕ) → f (seat_of node) ≡ 0 → Counts self.old f → Counts self.new f }
+    {
+        match node {
+            IRNode::Operation(op) => begin(&mut self.ops, op.slot),
+            IRNode::Region(_) => {}
+            IRNode::BasicBlock(block) => begin(&mut self.blocks, block.slot),
+        }
+    }
+
+    /// Counts one use more of a node.
+    fn raise(&mut self, node: IRNode)
+        ensures { self.new ≡ with_use self.old node }
+    {
+        match node {
+            IRNode::Operation(op) => raise(&mut self.ops, op.slot),
+            IRNode::Region(_) => {}
+            IRNode::BasicBlock(block) => raise(&mut self.blocks, block.slot),
+        }
+    }
+
+    /// Counts one use fewer of a node.
+    fn lower(&mut self, node: IRNode)
+        ensures { self.new ≡ without_use self.old node }
+    {
+        match node {
+            IRNode::Operation(op) => lower(&mut self.ops, op.slot),
+            IRNode::Region(_) => {}
+            IRNode::BasicBlock(block) => lower(&mut self.blocks, block.slot),
+        }
+    }
+
+    /// Counts the use of a value.
+    pub(crate) fn raise_value(&mut self, value: Value)
+        ensures { self.new ≡ with_use self.old (entity_node value.entity) }
+    {
+        self.raise(value.defining_entity().node());
+    }
+
+    /// Takes the use of a value off.
+    pub(crate) fn lower_value(&mut self, value: Value)
+        ensures { self.new ≡ without_use self.old (entity_node value.entity) }
+    {
+        self.lower(value.defining_entity().node());
+    }
+
+    /// Counts the uses of values.
+    fn raise_values(&mut self, values: &[Value])
+        ensures { (f g : Seat → ℕ) → Counts self.old f → ((at : Seat) → g at ≡ f at + values_from at values.now) → Counts self.new g }
+    {
+        for value in values {
+            self.raise_value(*value);
+        }
+    }
+
+    /// Takes the uses of values off.
+    fn lower_values(&mut self, values: &[Value])
+        ensures { (f g : Seat → ℕ) → Counts self.old f → ((at : Seat) → f at ≡ g at + values_from at values.now) → Counts self.new g }
+    {
+        for value in values {
+            self.lower_value(*value);
+        }
+    }
+
+    /// Counts the uses of blocks.
+    fn raise_blocks(&mut self, blocks: &[Ptr<BasicBlock>])
+        ensures { (f g : Seat → ℕ) → Counts self.old f → ((at : Seat) → g at ≡ f at + blocks_in at blocks.now) → Counts self.new g }
+    {
+        for block in blocks {
+            self.raise(IRNode::BasicBlock(*block));
+        }
+    }
+
+    /// Takes the uses of blocks off.
+    fn lower_blocks(&mut self, blocks: &[Ptr<BasicBlock>])
+        ensures { (f g : Seat → ℕ) → Counts self.old f → ((at : Seat) → f at ≡ g at + blocks_in at blocks.now) → Counts self.new g }
+    {
+        for block in blocks {
+            self.lower(IRNode::BasicBlock(*block));
+        }
+    }
+
+    /// Counts what an operation uses.
+    pub(crate) fn raise_op<D: OpSet>(&mut self, data: &OpData<D>)
+        ensures { (f g : Seat → ℕ) → Counts self.old f → ((at : Seat) → g at ≡ f at + uses_in at data.now) → Counts self.new g }
+    {
+        self.raise_values(&data.operands);
+        self.raise_blocks(&data.successors);
+    }
+
+    /// Takes what an operation uses off.
+    pub(crate) fn lower_op<D: OpSet>(&mut self, data: &OpData<D>)
+        ensures { (f g : Seat → ℕ) → Counts self.old f → ((at : Seat) → f at ≡ g at + uses_in at data.now) → Counts self.new g }
+    {
+        self.lower_values(&data.operands);
+        self.lower_blocks(&data.successors);
+    }
+}
