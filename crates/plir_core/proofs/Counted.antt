@@ -5,7 +5,9 @@ use Rattle.std.proofs.lemmas.List.Sums.{sum_by-cons, sum_by-insert, sum_by-remov
 use Rattle.std.proofs.lemmas.Option.{slice_get_within, get_or_from_slice_get, none-some, same_Some}
 use Rattle.plir_core.specs.declared.ptr.Region.{Region as RegionKind}
 use Rattle.std.proofs.lemmas.List.Elements.{All-head, All-tail}
-use Rattle.std.proofs.lemmas.Bool.{and_left, ne_eqb}
+use Rattle.std.proofs.lemmas.Bool.{and_parts, ne_eqb}
+use Rattle.plir_data.specs.AttrView.{AttrView}
+use Rattle.plir_data.specs.declared.location.Location.{Location}
 use Rattle.plir_store.specs.Table.{Table, Cell, IsTable, content_at, version_at, next_slot, with_new, with_content, without_slot}
 use Rattle.plir_store.specs.TableLaws.{cell_at-with_new, cell_at-with_content, cell_at-with_content_other, cell_at-without_slot, cell_at-without_slot_other}
 use Rattle.plir_core.specs.declared.ptr.Ptr.{Ptr}
@@ -18,7 +20,7 @@ use Rattle.plir_core.specs.Contents.{OpView, BlockView}
 use Rattle.plir_core.specs.Edits.{SameNodes, with_new_op, with_new_block, with_new_regions}
 use Rattle.plir_core.specs.Nodes.{Nodes, ptr_at, is_node_live}
 use Rattle.plir_core.specs.Stored.{Seat, op, region, block, seat_of}
-use Rattle.plir_core.specs.Store.{Store, IsLive, is_live, entity_node, types_from}
+use Rattle.plir_core.specs.Store.{Store, IsLive, is_live, entity_node, types_from, operands_of, operands_in}
 use Rattle.plir_core.specs.Whole.{IsWhole}
 use Rattle.plir_core.specs.Erase.{without_node}
 use Rattle.plir_core.specs.Uses.{Uses, total, is_seated, hit, values_from, blocks_in, uses_in, uses_held, uses_of, Counts, with_use, without_use}
@@ -52,6 +54,10 @@ module _ {K A : Type 0} (t : Table (OpView K A)) where
       let b = ap (λ (z : Cell (OpView K A)). uses_held at z.content) (cell_at-without_slot t i (some_is (content_at t i) u was)) in
       omega arith
 
+-- links, regions and blocks have changed
+pub Counts-linked : {K A : Type 0} (u : Uses) (s n m : Nodes (OpView K A) (BlockView A)) → n ≡ m → m.ops ≡ s.ops → Counts u (uses_of s.ops) → Counts u (uses_of n.ops)
+Counts-linked {K} {A} u s n m e same c = subst (λ z. Counts u (uses_of z)) (sym same ∙ ap (λ (z : Nodes (OpView K A) (BlockView A)). z.ops) (sym e)) c
+
 -- the operations are the same
 pub Counts-kept : {K A : Type 0} (u : Uses) (t t' : Table (OpView K A)) → t' ≡ t → Counts u (uses_of t) → Counts u (uses_of t')
 Counts-kept u t t' e c = subst (λ z. Counts u (uses_of z)) (sym e) c
@@ -63,6 +69,17 @@ Counts-edited u t i old new was es eb c = Counts-same u (uses_of t) (uses_of (wi
     let a = ap (values_from at) es in
     let b = ap (blocks_in at) eb in
     omega arith)
+
+-- attributes and a place in a source text
+pub Counts-attributes : {K A : Type 0} (u : Uses) (t : Table (OpView K A)) (i : ℕ) (o : OpView K A) (es : List (List ℕ × AttrView A)) → content_at t i ≡ Some o → Counts u (uses_of t) → Counts u (uses_of (with_content t i (record o { attributes = es })))
+Counts-attributes u t i o es was c = Counts-edited u t i o (record o { attributes = es }) was refl refl c
+
+pub Counts-located : {K A : Type 0} (u : Uses) (t : Table (OpView K A)) (i : ℕ) (o : OpView K A) (l : Location) → content_at t i ≡ Some o → Counts u (uses_of t) → Counts u (uses_of (with_content t i (record o { location = l })))
+Counts-located u t i o l was c = Counts-edited u t i o (record o { location = l }) was refl refl c
+
+-- operands that a refused growth left as they were
+pub Counts-unchanged : {K A : Type 0} (u : Uses) (t : Table (OpView K A)) (i : ℕ) (o : OpView K A) (xs : List Value) → content_at t i ≡ Some o → xs ≡ o.operands → Counts u (uses_of t) → Counts u (uses_of (with_content t i (record o { operands = xs })))
+Counts-unchanged u t i o xs was e c = Counts-edited u t i o (record o { operands = xs }) was e refl c
 
 -- An operation's operands are edited, and the use of a value is counted or taken off.
 module _ {K A : Type 0} (u u' : Uses) (t : Table (OpView K A)) (i n : ℕ) (o : OpView K A) (was : content_at t i ≡ Some o) (x : Value) (xs : List Value) (c : Counts u (uses_of t)) where
@@ -100,7 +117,18 @@ module _ {K A : Type 0} (u u' : Uses) (t : Table (OpView K A)) (i n : ℕ) (o : 
       let d = ap (seen at) (get_or_from_slice_get o.operands n y y there) in
       omega arith))
 
-count_none : {X : Type 0} (p : X → Bool) (xs : List X) → All (λ x. p x ≡ false) xs → count_by p xs ≡ 0
+-- the operands of an operation by what it holds: s is made of the fields, and t is the value
+module _ {K A T : Type 0} (s t : Store K A T) (view : s ≡ t) (p : Ptr OperationKind) (n : ℕ) (o : OpView K A) (was : content_at s.nodes.ops p.slot ≡ Some o) where
+  listed : operands_of t p ≡ o.operands
+  listed = ap (λ (z : Store K A T). operands_of z p) (sym view) ∙ ap operands_in was
+
+  pub operand_within : n < length (operands_of t p) → n < length o.operands
+  operand_within h = subst (λ xs. n < length xs) listed h
+
+  pub operand_there : (y : Value) → slice_get (operands_of t p) n ≡ Some y → slice_get o.operands n ≡ Some y
+  operand_there y e = ap (λ xs. slice_get xs n) (sym listed) ∙ e
+
+pub count_none : {X : Type 0} (p : X → Bool) (xs : List X) → All (λ x. p x ≡ false) xs → count_by p xs ≡ 0
 count_none p [] a = refl
 count_none p (x ∷ xs) a =
     let e = sum_by-cons (λ z. cond (p z) 1 0) x xs in
@@ -117,7 +145,7 @@ module _ {K A T : Type 0} (own : A → List ℕ) (s : Store K A T) (w : IsWhole 
       held k None e = refl
       held k (Some v) e =
           let h = w.holds.ops k v e in
-          let a = count_none (λ x. is_seated at (entity_node x.entity)) v.operands (λ i d b. away (entity_node (get_or v.operands i d).entity) (and_left (is_live s (entity_node (get_or v.operands i d).entity)) (nat_lt (get_or v.operands i d).index (length (types_from s (get_or v.operands i d).entity))) (h.operands i d b))) in
+          let a = count_none (λ x. is_seated at (entity_node x.entity)) v.operands (λ i d b. away (entity_node (get_or v.operands i d).entity) ((and_parts (is_live s (entity_node (get_or v.operands i d).entity)) (nat_lt (get_or v.operands i d).index (length (types_from s (get_or v.operands i d).entity))) (h.operands i d b)).0)) in
           let z = count_none (λ x. is_seated at (BasicBlock x)) v.successors (λ i d b. away (BasicBlock (get_or v.successors i d)) (h.successors i d b)) in
           omega arith
 

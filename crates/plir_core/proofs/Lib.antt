@@ -39,3 +39,5 @@ pub mod Standing
 pub mod MadeUnused
 pub mod Counting
 pub mod Counted
+pub mod Walked
+pub mod NotUsed

@@ -8,7 +8,7 @@ use Rattle.plir_core.specs.declared.ptr.IRNode.{IRNode}
 use Rattle.plir_core.specs.declared.ptr.IRNode.TheVariants.{Operation, Region, BasicBlock}
 use Rattle.plir_core.specs.declared.value.Value.{Value}
 use Rattle.plir_core.specs.Contents.{OpView}
-use Rattle.plir_core.specs.Stored.{Seat, op, region, block}
+use Rattle.plir_core.specs.Stored.{Seat, op, region, block, seat_of}
 use Rattle.plir_core.specs.Store.{Store, entity_node}
 use Rattle.plir_core.specs.Whole.{IsWhole}
 
@@ -26,13 +26,13 @@ abbrev pub total : (ℕ → ℕ) → ℕ → ℕ
 total f zero = 0
 total f (suc n) = total f n + f n
 
--- whether a node has this seat
+-- whether a node that can be used has this seat; no region is used
 abbrev pub is_seated : Seat → IRNode → Bool
 is_seated (op i) (Operation p) = p.slot == i
 is_seated (op i) (Region p) = false
 is_seated (op i) (BasicBlock p) = false
 is_seated (region i) (Operation p) = false
-is_seated (region i) (Region p) = p.slot == i
+is_seated (region i) (Region p) = false
 is_seated (region i) (BasicBlock p) = false
 is_seated (block i) (Operation p) = false
 is_seated (block i) (Region p) = false
@@ -97,3 +97,7 @@ IsBegun old now i = (j n : ℕ) → slice_get now j ≡ Some n → ((n ≡ UNKNO
 pub record IsSound {K A T : Type 0} (own_handles : A → List ℕ) (s : Store K A T) (u : Uses) : Type 0 where
   pub whole : IsWhole own_handles s
   pub counted : Counts u (uses_of s.nodes.ops)
+
+-- whether no live operation uses a node
+abbrev pub is_not_used : {K A T : Type 0} → Store K A T → IRNode → Bool
+is_not_used s n = uses_of s.nodes.ops (seat_of n) == 0

@@ -1,12 +1,15 @@
 //! Counts of uses: how many operands are values of an operation or a block, and how many successors are a block.
-ghost use Rattle.std.specs.Prelude.{◌≡◌, ◌+◌, ◌<◌, ℕ, [], Some, IfSome, slice_get};
+ghost use Rattle.std.specs.Prelude.{◌≡◌, ◌+◌, ◌<◌, ℕ, [], Some, IfSome, slice_get, true};
 ghost use Rattle.plir_core.specs.Store.{entity_node};
 ghost use Rattle.plir_core.specs.Stored.{Seat, seat_of};
 ghost use Rattle.plir_core.specs.Uses.{Counts, IsBegun, UNKNOWN, raised, lowered, with_use, without_use, values_from, blocks_in};
-ghost use Rattle.plir_core.specs.Uses.{uses_in};
+ghost use Rattle.plir_core.specs.Uses.{uses_in, uses_of};
+ghost use Rattle.plir_core.specs.Nodes.{is_node_live};
+ghost use Rattle.plir_core.specs.Erase.{without_node};
 
 
-use crate::contents::OpData;
+use crate::arena::Arena;
+use crate::contents::{BlockData, OpData};
 use crate::ptr::{BasicBlock, IRNode, Ptr};
 use crate::value::Value;
 use plir_data::OpSet;
@@ -192,5 +195,21 @@ impl UseCounts {
     {
         self.lower_values(&data.operands);
         self.lower_blocks(&data.successors);
+    }
+
+    /// Takes what a node uses off, which is to be freed.
+    pub(crate) fn forget<D: OpSet>(
+        &mut self,
+        nodes: &Arena<OpData<D>, BlockData<D>>,
+        node: IRNode,
+    )
+        requires { is_node_live nodes.now node ≡ true }
+        ensures { Counts self.old (uses_of nodes.now.ops) → Counts self.new (uses_of (without_node nodes.now node).ops) }
+    {
+        match node {
+            IRNode::Operation(op) => self.lower_op(nodes.op(op)),
+            IRNode::Region(_) => {}
+            IRNode::BasicBlock(_) => {}
+        }
     }
 }

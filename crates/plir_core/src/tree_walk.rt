@@ -1,0 +1,55 @@
+//! A walk through a tree by its links, each node before those below it, with no recursion.
+ghost use Rattle.std.specs.Prelude.{◌≡◌, Bool, Option, None, IfSome, true};
+ghost use Rattle.plir_core.specs.Nodes.{is_node_live, node_next};
+ghost use Rattle.plir_core.specs.Walked.{IsClear, IsCome};
+ghost use Rattle.plir_core.specs.declared.ptr.IRNode.{IRNode};
+
+use crate::arena::Arena;
+use crate::ptr::IRNode;
+
+impl<O, B> Arena<O, B> {
+    /// The kid right after a node of any kind.
+    pub(crate) fn next(&self, node: IRNode) -> Option<IRNode>
+        requires { is_node_live self.now node ≡ true }
+        ensures { result ≡ node_next self.now node }
+    {
+        match node {
+            IRNode::Operation(op) => self.next_op(op).map(IRNode::Operation),
+            IRNode::Region(region) => self.next_region(region).map(IRNode::Region),
+            IRNode::BasicBlock(block) => self.next_block(block).map(IRNode::BasicBlock),
+        }
+    }
+
+    // Where a walk through the tree of the root goes on after a node and all below it.
+    fn next_after(&self, root: IRNode, node: IRNode) -> Option<IRNode>
+        requires { is_node_live self.now node ≡ true }
+        ensures on { IfSome result (λ next. (p : IRNode → Bool) → IsCome p self.now root node → IsClear p self.now node → IsCome p self.now root next) }
+        ensures done { result ≡ None → (p : IRNode → Bool) → IsCome p self.now root node → IsClear p self.now node → IsClear p self.now root }
+    {
+        let _limit = &self.limit;
+        let mut at = node;
+        while at != root {
+            if let Some(next) = self.next(at) {
+                return Some(next);
+            }
+            match self.parent(at) {
+                Some(over) => at = over,
+                None => return None,
+            }
+        }
+        None
+    }
+
+    /// Where a walk through the tree of the root goes on after a node.
+    pub(crate) fn next_in_tree(&self, root: IRNode, node: IRNode) -> Option<IRNode>
+        requires { is_node_live self.now node ≡ true }
+        ensures on { IfSome result (λ next. (p : IRNode → Bool) → IsCome p self.now root node → p node ≡ true → IsCome p self.now root next) }
+        ensures done { result ≡ None → (p : IRNode → Bool) → IsCome p self.now root node → p node ≡ true → IsClear p self.now root }
+    {
+        let _limit = &self.limit;
+        match self.first_kid(node) {
+            Some(kid) => Some(kid),
+            None => self.next_after(root, node),
+        }
+    }
+}
