@@ -1,6 +1,6 @@
 -- The steps of a walk through a tree.
 use Rattle.std.proofs.Common.{◌≡◌, ℕ, zero, suc, ◌+◌, ◌<◌, ◌≤◌, Bool, true, List, [], ◌∷◌, length, get_or, Option, Some, None, inl, inr, refl, sym, ◌∙◌, ap, subst, arith}
-use Rattle.std.specs.Prelude.{slice_get}
+use Rattle.std.specs.Prelude.{slice_get, IfSome}
 use Rattle.std.proofs.lemmas.Bool.{cases_lt}
 use Rattle.std.proofs.lemmas.Option.{same_Some, none-some, slice_get_within, slice_get-get_or}
 use Rattle.plir_store.specs.Members.{Has, head}
@@ -56,16 +56,16 @@ module _ {O B : Type 0} (p : IRNode → Bool) (s : Nodes O B) (w : IsStored s) (
   pub IsClear-leaf : (n : IRNode) → p n ≡ true → head (node_kids s n) ≡ None → IsClear p s n
   IsClear-leaf n pass none m r = in_steps r.0 r.1
     where
+      no_kid : (ks : List IRNode) (i : ℕ) (y : IRNode) → head ks ≡ None → slice_get ks i ≡ Some y → ⊥
+      no_kid [] i y f g = none-some y g
+      no_kid (x ∷ ks) i y f g = none-some x (sym f)
+
       in_steps : (k : ℕ) → climb (node_parent s) k (Some m) ≡ Some n → p m ≡ true
       in_steps zero e = subst (λ z. p z ≡ true) (sym (same_Some m n e)) pass
       in_steps (suc k) e =
           let y = climb_last (node_parent s) k (Some m) n e in
           let at = at-Has (node_kids s n) y.0 (parent-kid s w n y.0 y.1.1) in
           absurd (no_kid (node_kids s n) at.0 y.0 none at.1)
-
-      no_kid : (ks : List IRNode) (i : ℕ) (y : IRNode) → head ks ≡ None → slice_get ks i ≡ Some y → ⊥
-      no_kid [] i y f g = none-some y g
-      no_kid (x ∷ ks) i y f g = none-some x (sym f)
 
   -- below the root a node has kids before it that are clear
   before_of : (n : IRNode) (c : IsCome p s root n) → (n ≡ root → ⊥) → (k : ℕ) × (c.steps ≡ suc k)
@@ -173,3 +173,10 @@ module _ {O B : Type 0} (p : IRNode → Bool) (s : Nodes O B) (w : IsStored s) (
       let r = before_of n c ne in
       let here = (let h = r.1 in c.left 0 n (omega arith) refl) in
       none-some here.over (sym none ∙ kid-parent s w here.over n (Has-at (node_kids s here.over) here.place n here.there))
+
+-- after a node without kids
+pub IsCome-after : {O B : Type 0} (s : Nodes O B) (w : IsStored s) (root n : IRNode) (r : Option IRNode) → head (node_kids s n) ≡ None →
+    IfSome r (λ next. (p : IRNode → Bool) → IsCome p s root n → IsClear p s n → IsCome p s root next) →
+    IfSome r (λ next. (p : IRNode → Bool) → IsCome p s root n → p n ≡ true → IsCome p s root next)
+IsCome-after s w root n None none h = tt
+IsCome-after s w root n (Some next) none h = λ p c pass. h p c (IsClear-leaf p s w root n pass none)
