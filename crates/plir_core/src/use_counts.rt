@@ -7,7 +7,6 @@ ghost use Rattle.plir_core.specs.Uses.{uses_in, uses_of};
 ghost use Rattle.plir_core.specs.Nodes.{is_node_live};
 ghost use Rattle.plir_core.specs.Erase.{without_node};
 
-
 use crate::arena::Arena;
 use crate::contents::{BlockData, OpData};
 use crate::ptr::{BasicBlock, IRNode, Ptr};
@@ -198,11 +197,7 @@ impl UseCounts {
     }
 
     /// Takes what a node uses off, which is to be freed.
-    pub(crate) fn forget<D: OpSet>(
-        &mut self,
-        nodes: &Arena<OpData<D>, BlockData<D>>,
-        node: IRNode,
-    )
+    pub(crate) fn forget<D: OpSet>(&mut self, nodes: &Arena<OpData<D>, BlockData<D>>, node: IRNode)
         requires { is_node_live nodes.now node ≡ true }
         ensures { Counts self.old (uses_of nodes.now.ops) → Counts self.new (uses_of (without_node nodes.now node).ops) }
     {

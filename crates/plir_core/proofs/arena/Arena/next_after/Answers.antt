@@ -22,8 +22,7 @@ loop-root-preserved g c =
     record {
       live = parent-live c.args.self.now w c.in-Some-parent.over c.loop-root.at under;
       come = λ p a b.
-          let r = c.loop-root.invariant.come p a b in
-          (
+          let r = c.loop-root.invariant.come p a b in (
             IsCome-up p c.args.self.now w c.args.root c.loop-root.at c.in-Some-parent.over r.0 r.1 below last under,
             IsClear-up p c.args.self.now w c.args.root c.loop-root.at c.in-Some-parent.over r.0 r.1 below last under,
           );
