@@ -1,6 +1,6 @@
--- How often the values of operations and blocks, and blocks as successors, are used, and the counts that a context keeps.
-use Rattle.std.specs.Prelude.{◌≡◌, ℕ, zero, suc, ◌+◌, ◌-◌, ◌^◌, min, Bool, false, cond, ◌==◌, List, length, Option, Some, None, ◌⊎◌}
-use Rattle.std.specs.Prelude.{slice_get, slice_set, slice_index_or, count_by}
+-- How often operations and blocks are used, as values and as successors, and the counts that a context keeps.
+use Rattle.std.specs.Prelude.{◌≡◌, ℕ, zero, suc, ◌+◌, ◌-◌, ◌^◌, min, Bool, false, cond, ◌==◌, List, length}
+use Rattle.std.specs.Prelude.{Option, Some, None, ◌⊎◌, slice_get, slice_set, slice_index_or, count_by}
 use Rattle.plir_store.specs.Table.{Table, content_at}
 use Rattle.plir_core.specs.declared.ptr.Ptr.{Ptr}
 use Rattle.plir_core.specs.declared.ptr.BasicBlock.{BasicBlock as BasicBlockKind}
@@ -72,6 +72,18 @@ count_at u (block i) = slice_get u.blocks i
 abbrev pub Counts : Uses → (Seat → ℕ) → Type 0
 Counts u f = (at : Seat) (n : ℕ) → count_at u at ≡ Some n → (n ≡ UNKNOWN) ⊎ (n ≡ f at)
 
+-- Where the counts said f, they say that and `more` now.
+abbrev pub IsRaisedBy : Uses → Uses → (Seat → ℕ) → Type 0
+IsRaisedBy old now more = (f g : Seat → ℕ) → Counts old f → ((at : Seat) → g at ≡ f at + more at) → Counts now g
+
+-- Where they said f, which is `fewer` and what is left, they say what is left.
+abbrev pub IsLoweredBy : Uses → Uses → (Seat → ℕ) → Type 0
+IsLoweredBy old now fewer = (f g : Seat → ℕ) → Counts old f → ((at : Seat) → f at ≡ g at + fewer at) → Counts now g
+
+-- Counts that were those of the operations in t are those of the operations in t'.
+abbrev pub StaysCounted : {K A : Type 0} → Uses → Uses → Table (OpView K A) → Table (OpView K A) → Type 0
+StaysCounted old now t t' = Counts old (uses_of t) → Counts now (uses_of t')
+
 -- the counts with one use more and one fewer of the slot i; a count that is not known stays so
 abbrev pub raised : List ℕ → ℕ → List ℕ
 raised xs i = slice_set xs i (min (slice_index_or xs i 0 + 1) UNKNOWN)
@@ -91,7 +103,8 @@ without_use u (BasicBlock p) = record u { blocks = lowered u.blocks p.slot }
 
 -- the count of the slot i has begun at 0, or is not known; all others that are kept are as they were
 abbrev pub IsBegun : List ℕ → List ℕ → ℕ → Type 0
-IsBegun old now i = (j n : ℕ) → slice_get now j ≡ Some n → ((n ≡ UNKNOWN) ⊎ ((j ≡ i) × (n ≡ 0))) ⊎ (slice_get old j ≡ Some n)
+IsBegun old now i = (j n : ℕ) →
+    slice_get now j ≡ Some n → ((n ≡ UNKNOWN) ⊎ ((j ≡ i) × (n ≡ 0))) ⊎ (slice_get old j ≡ Some n)
 
 -- What holds of the fields of every context: what is live holds what is live, and the counts are right.
 pub record IsSound {K A T : Type 0} (own_handles : A → List ℕ) (s : Store K A T) (u : Uses) : Type 0 where

@@ -23,3 +23,19 @@ module _ {O B : Type 0} (passes : IRNode → Bool) (s : Nodes O B) where
     pub way : climb (node_parent s) steps (Some n) ≡ Some root
     pub left : (k : ℕ) (a : IRNode) → k < steps → climb (node_parent s) k (Some n) ≡ Some a → IsClearBefore a
     pub above : (k : ℕ) (a : IRNode) → 0 < k → k ≤ steps → climb (node_parent s) k (Some n) ≡ Some a → passes a ≡ true
+
+-- What is true of any test.
+module _ {O B : Type 0} (s : Nodes O B) (root n : IRNode) where
+  -- a walk goes on to m once n and all below it pass, and once n passes
+  abbrev pub GoesOnBehind : IRNode → Type 0
+  GoesOnBehind m = (p : IRNode → Bool) → IsCome p s root n → IsClear p s n → IsCome p s root m
+
+  abbrev pub GoesOn : IRNode → Type 0
+  GoesOn m = (p : IRNode → Bool) → IsCome p s root n → p n ≡ true → IsCome p s root m
+
+  -- it ends there
+  abbrev pub EndsBehind : Type 0
+  EndsBehind = (p : IRNode → Bool) → IsCome p s root n → IsClear p s n → IsClear p s root
+
+  abbrev pub Ends : Type 0
+  Ends = (p : IRNode → Bool) → IsCome p s root n → p n ≡ true → IsClear p s root

@@ -4,7 +4,7 @@ ghost use Rattle.plir_core.specs.Store.{IsLive, IsAncestor};
 ghost use Rattle.plir_core.specs.Whole.{IsWhole};
 ghost use Rattle.plir_core.specs.Nodes.{is_node_live, node_kids};
 ghost use Rattle.plir_core.specs.Stored.{IsStored};
-ghost use Rattle.plir_core.specs.Uses.{Counts, uses_of};
+ghost use Rattle.plir_core.specs.Uses.{StaysCounted};
 ghost use Rattle.plir_core.specs.Erase.{without_node, erased, IsErased};
 ghost use Rattle.plir_core.specs.Unused.{IsUnusedOutside, without_tree};
 ghost use Rattle.plir_core.specs.declared.ptr.IRNode.{IRNode};
@@ -47,7 +47,7 @@ fn free_node<D: OpSet>(
     requires leaf { node_kids nodes.old node ≡ [] }
     ensures after { nodes.new ≡ without_node nodes.old node }
     ensures stored { IsStored nodes.new }
-    ensures counted { Counts uses.old (uses_of nodes.old.ops) → Counts uses.new (uses_of nodes.new.ops) }
+    ensures counted { StaysCounted uses.old uses.new nodes.old.ops nodes.new.ops }
 {
     uses.forget(nodes, node);
     nodes.free(node);
@@ -62,7 +62,7 @@ fn erase_nodes<D: OpSet>(
     requires { is_node_live nodes.old root ≡ true }
     ensures after { nodes.new ≡ erased nodes.old root }
     ensures tree { IsErased nodes.old nodes.new root }
-    ensures counted { Counts uses.old (uses_of nodes.old.ops) → Counts uses.new (uses_of nodes.new.ops) }
+    ensures counted { StaysCounted uses.old uses.new nodes.old.ops nodes.new.ops }
 {
     let _limit = &nodes.limit;
     let mut at = root;

@@ -1,8 +1,7 @@
 //! A walk through a tree by its links, each node before those below it, with no recursion.
-ghost use Rattle.std.specs.Prelude.{◌≡◌, Bool, Option, None, IfSome, true};
+ghost use Rattle.std.specs.Prelude.{◌≡◌, None, IfSome, true};
 ghost use Rattle.plir_core.specs.Nodes.{is_node_live, node_next};
-ghost use Rattle.plir_core.specs.Walked.{IsClear, IsCome};
-ghost use Rattle.plir_core.specs.declared.ptr.IRNode.{IRNode};
+ghost use Rattle.plir_core.specs.Walked.{GoesOn, GoesOnBehind, Ends, EndsBehind};
 
 use crate::arena::Arena;
 use crate::ptr::IRNode;
@@ -23,8 +22,8 @@ impl<O, B> Arena<O, B> {
     // Where a walk through the tree of the root goes on after a node and all below it.
     fn next_after(&self, root: IRNode, node: IRNode) -> Option<IRNode>
         requires { is_node_live self.now node ≡ true }
-        ensures on { IfSome result (λ next. (p : IRNode → Bool) → IsCome p self.now root node → IsClear p self.now node → IsCome p self.now root next) }
-        ensures done { result ≡ None → (p : IRNode → Bool) → IsCome p self.now root node → IsClear p self.now node → IsClear p self.now root }
+        ensures on { IfSome result (GoesOnBehind self.now root node) }
+        ensures done { result ≡ None → EndsBehind self.now root node }
     {
         let _limit = &self.limit;
         let mut at = node;
@@ -43,8 +42,8 @@ impl<O, B> Arena<O, B> {
     /// Where a walk through the tree of the root goes on after a node.
     pub(crate) fn next_in_tree(&self, root: IRNode, node: IRNode) -> Option<IRNode>
         requires { is_node_live self.now node ≡ true }
-        ensures on { IfSome result (λ next. (p : IRNode → Bool) → IsCome p self.now root node → p node ≡ true → IsCome p self.now root next) }
-        ensures done { result ≡ None → (p : IRNode → Bool) → IsCome p self.now root node → p node ≡ true → IsClear p self.now root }
+        ensures on { IfSome result (GoesOn self.now root node) }
+        ensures done { result ≡ None → Ends self.now root node }
     {
         let _limit = &self.limit;
         match self.first_kid(node) {

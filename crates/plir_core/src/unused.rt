@@ -98,7 +98,7 @@ impl<D: OpSet> Context<D> {
         }
     }
 
-    // Whether each node of a tree is known to be used by nothing. The walk takes no more steps than there are live nodes.
+    // Whether each node of a tree is known to be used by nothing. A walk has no more steps than there are live nodes.
     fn is_tree_known_unused(&self, root: IRNode) -> bool
         ensures { IsTrue result → IsUnusedOutside self.now root }
     {

@@ -2,8 +2,8 @@
 ghost use Rattle.std.specs.Prelude.{◌≡◌, ◌+◌, ◌<◌, ℕ, [], Some, IfSome, slice_get, true};
 ghost use Rattle.plir_core.specs.Store.{entity_node};
 ghost use Rattle.plir_core.specs.Stored.{Seat, seat_of};
-ghost use Rattle.plir_core.specs.Uses.{Counts, IsBegun, UNKNOWN, raised, lowered, with_use, without_use, values_from, blocks_in};
-ghost use Rattle.plir_core.specs.Uses.{uses_in, uses_of};
+ghost use Rattle.plir_core.specs.Uses.{Counts, IsBegun, IsRaisedBy, IsLoweredBy, UNKNOWN, raised, lowered};
+ghost use Rattle.plir_core.specs.Uses.{with_use, without_use, values_from, blocks_in, uses_in, StaysCounted};
 ghost use Rattle.plir_core.specs.Nodes.{is_node_live};
 ghost use Rattle.plir_core.specs.Erase.{without_node};
 
@@ -15,7 +15,7 @@ use plir_data::OpSet;
 use std::alloc::Global;
 use std::marker::Model;
 
-/// How often the node in each slot is used. A slot past the end and one whose count is `u32::MAX` have a count that is not
+/// How often the node in each slot is used. The count of a slot past the end, and one that is `u32::MAX`, is not
 /// known: a count is never refused.
 #[derive(Drop)]
 pub(crate) struct UseCounts {
@@ -146,7 +146,7 @@ impl UseCounts {
 
     /// Counts the uses of values.
     fn raise_values(&mut self, values: &[Value])
-        ensures { (f g : Seat → ℕ) → Counts self.old f → ((at : Seat) → g at ≡ f at + values_from at values.now) → Counts self.new g }
+        ensures { IsRaisedBy self.old self.new (λ at. values_from at values.now) }
     {
         for value in values {
             self.raise_value(*value);
@@ -155,7 +155,7 @@ impl UseCounts {
 
     /// Takes the uses of values off.
     fn lower_values(&mut self, values: &[Value])
-        ensures { (f g : Seat → ℕ) → Counts self.old f → ((at : Seat) → f at ≡ g at + values_from at values.now) → Counts self.new g }
+        ensures { IsLoweredBy self.old self.new (λ at. values_from at values.now) }
     {
         for value in values {
             self.lower_value(*value);
@@ -164,7 +164,7 @@ impl UseCounts {
 
     /// Counts the uses of blocks.
     fn raise_blocks(&mut self, blocks: &[Ptr<BasicBlock>])
-        ensures { (f g : Seat → ℕ) → Counts self.old f → ((at : Seat) → g at ≡ f at + blocks_in at blocks.now) → Counts self.new g }
+        ensures { IsRaisedBy self.old self.new (λ at. blocks_in at blocks.now) }
     {
         for block in blocks {
             self.raise(IRNode::BasicBlock(*block));
@@ -173,7 +173,7 @@ impl UseCounts {
 
     /// Takes the uses of blocks off.
     fn lower_blocks(&mut self, blocks: &[Ptr<BasicBlock>])
-        ensures { (f g : Seat → ℕ) → Counts self.old f → ((at : Seat) → f at ≡ g at + blocks_in at blocks.now) → Counts self.new g }
+        ensures { IsLoweredBy self.old self.new (λ at. blocks_in at blocks.now) }
     {
         for block in blocks {
             self.lower(IRNode::BasicBlock(*block));
@@ -181,25 +181,25 @@ impl UseCounts {
     }
 
     /// Counts what an operation uses.
-    pub(crate) fn raise_op<D: OpSet>(&mut self, data: &OpData<D>)
-        ensures { (f g : Seat → ℕ) → Counts self.old f → ((at : Seat) → g at ≡ f at + uses_in at data.now) → Counts self.new g }
+    pub(crate) fn raise_op<D: OpSet>(&mut self, held: &OpData<D>)
+        ensures { IsRaisedBy self.old self.new (λ at. uses_in at held.now) }
     {
-        self.raise_values(&data.operands);
-        self.raise_blocks(&data.successors);
+        self.raise_values(&held.operands);
+        self.raise_blocks(&held.successors);
     }
 
     /// Takes what an operation uses off.
-    pub(crate) fn lower_op<D: OpSet>(&mut self, data: &OpData<D>)
-        ensures { (f g : Seat → ℕ) → Counts self.old f → ((at : Seat) → f at ≡ g at + uses_in at data.now) → Counts self.new g }
+    pub(crate) fn lower_op<D: OpSet>(&mut self, held: &OpData<D>)
+        ensures { IsLoweredBy self.old self.new (λ at. uses_in at held.now) }
     {
-        self.lower_values(&data.operands);
-        self.lower_blocks(&data.successors);
+        self.lower_values(&held.operands);
+        self.lower_blocks(&held.successors);
     }
 
     /// Takes what a node uses off, which is to be freed.
     pub(crate) fn forget<D: OpSet>(&mut self, nodes: &Arena<OpData<D>, BlockData<D>>, node: IRNode)
         requires { is_node_live nodes.now node ≡ true }
-        ensures { Counts self.old (uses_of nodes.now.ops) → Counts self.new (uses_of (without_node nodes.now node).ops) }
+        ensures { StaysCounted self.old self.new nodes.now.ops (without_node nodes.now node).ops }
     {
         match node {
             IRNode::Operation(op) => self.lower_op(nodes.op(op)),
