@@ -72,7 +72,7 @@ content_new t v o u here e = elim (cases_eq o (next_slot t)) [
   | inr n ↦ inl (sym (content_new_other t v o n) ∙ e)
 ]
 
-ops-with_new_regions : {O B : Type 0} (s : Nodes O B) (o n : ℕ) → (with_new_regions s o n).ops ≡ s.ops
+pub ops-with_new_regions : {O B : Type 0} (s : Nodes O B) (o n : ℕ) → (with_new_regions s o n).ops ≡ s.ops
 ops-with_new_regions s o zero = refl
 ops-with_new_regions s o (suc n) = ops-with_new_regions s o n
 

@@ -65,7 +65,7 @@ module _ {O B : Type 0} (s : Nodes O B) (w : IsStored s) where
       ∙ get_behind xs ys x
 
 -- the first of a list is at the place 0
-front : {A : Type 0} (xs : List A) → head xs ≡ slice_get xs 0
+pub front : {A : Type 0} (xs : List A) → head xs ≡ slice_get xs 0
 front [] = refl
 front (x ∷ xs) = refl
 

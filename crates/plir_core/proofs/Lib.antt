@@ -37,3 +37,7 @@ pub mod Owned
 pub mod Indices
 pub mod Standing
 pub mod MadeUnused
+pub mod Counting
+pub mod Counted
+pub mod Walked
+pub mod NotUsed

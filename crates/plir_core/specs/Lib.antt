@@ -26,6 +26,8 @@
 --   Refused      IsUnmade: what a refused make leaves of the slots
 --   Erase        erased: the nodes without a tree; IsErased: what that leaves as it was; LosesOneKid: the kids that are left
 --   Unused       IsUnusedOutside: nothing outside a tree uses a value or a block of it
+--   Uses         uses_of: how often what is in a slot is used; Counts: that counts which are kept say so; IsSound
+--   Walked       IsCome: how far a walk through a tree has come
 --   Terminator   terminator_of: the operation that ends a block
 --   InsertionPoint  insertion_block: the block that an insertion point is in
 pub mod Above
@@ -50,5 +52,7 @@ pub mod Grown
 pub mod Erase
 pub mod Refused
 pub mod Unused
+pub mod Uses
+pub mod Walked
 pub mod Terminator
 pub mod InsertionPoint

@@ -56,6 +56,7 @@ impl BasicBlock {
             attributes: AttributeDict::new(alloc),
         };
         let block = ctx.nodes.make_block(data)?;
+        ctx.uses.begin(IRNode::BasicBlock(block));
         Ok(block)
     }
 }

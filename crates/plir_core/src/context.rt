@@ -10,6 +10,7 @@ ghost use Rattle.plir_core.specs.Edits.{empty};
 use crate::arena::Arena;
 use crate::contents::{BlockData, OpData};
 use crate::ptr::IRNode;
+use crate::use_counts::UseCounts;
 use plir_data::{Memory, OpSet, TypeHandle, TypeObj, TypeStore, TypeTable};
 use std::alloc::Global;
 use std::marker::Model;
@@ -19,11 +20,13 @@ use std::marker::Model;
 pub struct Context<D: OpSet> {
     pub(crate) nodes: Arena<OpData<D>, BlockData<D>>,
     pub(crate) types: TypeTable<D>,
+    // How often the node in each slot is used: no contract sees it.
+    pub(crate) uses: UseCounts,
 }
 
 impl<D: OpSet> Model for Context<D> {
     ghost use Rattle.plir_core.specs.Store.{Store};
-    ghost use Rattle.plir_core.specs.Whole.{IsWhole};
+    ghost use Rattle.plir_core.specs.Uses.{IsSound};
 
     ghost Value = { Store D.Kind D.Attr D.Ty };
 
@@ -34,7 +37,7 @@ impl<D: OpSet> Model for Context<D> {
 
     ghost view = { λ c. record { nodes = c.nodes; types = c.types } };
 
-    ghost invariant = { λ c. IsWhole D.attr_handles (record { nodes = c.nodes; types = c.types }) };
+    ghost invariant = { λ c. IsSound D.attr_handles (record { nodes = c.nodes; types = c.types }) c.uses };
 }
 
 impl<D: OpSet> Context<D> {
@@ -54,6 +57,7 @@ impl<D: OpSet> Context<D> {
         Context {
             nodes: Arena::new(alloc, max_nodes),
             types: TypeTable::new(alloc),
+            uses: UseCounts::new(alloc),
         }
     }
 

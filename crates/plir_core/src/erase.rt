@@ -52,8 +52,8 @@ impl<O, B> Arena<O, B> {
 }
 
 impl<O: Drop, B: Drop> Arena<O, B> {
-    // Takes a node without kids out of its list and frees its slot.
-    fn free(&mut self, node: IRNode)
+    /// Takes a node without kids out of its list and frees its slot.
+    pub(crate) fn free(&mut self, node: IRNode)
         requires live { is_node_live self.old node ≡ true }
         requires leaf { node_kids self.old node ≡ [] }
         ensures after { self.new ≡ without_node self.old node }

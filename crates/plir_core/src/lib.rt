@@ -24,7 +24,9 @@ mod ptr;
 mod region;
 mod regions;
 mod removing;
+mod tree_walk;
 mod unused;
+mod use_counts;
 mod value;
 
 pub use context::Context;

@@ -26,6 +26,7 @@ impl Ptr<Operation> {
         ensures whole { IsWhole D.attr_handles ctx.new }
     {
         ctx.nodes.op_mut(self).operands.insert(i, value)?;
+        ctx.uses.raise_value(value);
         Ok(())
     }
 
@@ -38,7 +39,9 @@ impl Ptr<Operation> {
         ensures after { ctx.new ≡ with_op_edit ctx.old self (λ o. record o { operands = remove o.operands i }) }
         ensures whole { IsWhole D.attr_handles ctx.new }
     {
-        ctx.nodes.op_mut(self).operands.remove(i)
+        let value = ctx.nodes.op_mut(self).operands.remove(i);
+        ctx.uses.lower_value(value);
+        value
     }
 
     /// Puts a value in place of the operand at a place, from 0.
@@ -49,6 +52,9 @@ impl Ptr<Operation> {
         ensures after { ctx.new ≡ with_op_edit ctx.old self (λ o. record o { operands = slice_set o.operands i value }) }
         ensures whole { IsWhole D.attr_handles ctx.new }
     {
+        let replaced = self.get_operand(ctx, i);
         ctx.nodes.op_mut(self).operands[i] = value;
+        ctx.uses.raise_value(value);
+        ctx.uses.lower_value(replaced);
     }
 }

@@ -109,6 +109,8 @@ impl Operation {
             location: Location::Unknown,
         };
         let op = ctx.nodes.make_op_with_regions(data, num_regions)?;
+        ctx.uses.begin(IRNode::Operation(op));
+        ctx.uses.raise_op(ctx.nodes.op(op));
         Ok(op)
     }
 }

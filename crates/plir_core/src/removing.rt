@@ -1,13 +1,19 @@
 //! Calls that erase nodes, and the tests that they ask for.
-ghost use Rattle.std.specs.Prelude.{◌≡◌, IsTrue, ◌↔◌};
+ghost use Rattle.std.specs.Prelude.{◌≡◌, IsTrue, ◌↔◌, [], true};
 ghost use Rattle.plir_core.specs.Store.{IsLive, IsAncestor};
 ghost use Rattle.plir_core.specs.Whole.{IsWhole};
-ghost use Rattle.plir_core.specs.Erase.{IsErased};
+ghost use Rattle.plir_core.specs.Nodes.{is_node_live, node_kids};
+ghost use Rattle.plir_core.specs.Stored.{IsStored};
+ghost use Rattle.plir_core.specs.Uses.{StaysCounted};
+ghost use Rattle.plir_core.specs.Erase.{without_node, erased, IsErased};
 ghost use Rattle.plir_core.specs.Unused.{IsUnusedOutside, without_tree};
 ghost use Rattle.plir_core.specs.declared.ptr.IRNode.{IRNode};
 
+use crate::arena::Arena;
+use crate::contents::{BlockData, OpData};
 use crate::context::Context;
 use crate::ptr::{BasicBlock, IRNode, Operation, Ptr};
+use crate::use_counts::UseCounts;
 use plir_data::OpSet;
 
 impl IRNode {
@@ -31,6 +37,53 @@ impl IRNode {
     }
 }
 
+// Frees a node without kids, and takes what it uses off.
+fn free_node<D: OpSet>(
+    nodes: &mut Arena<OpData<D>, BlockData<D>>,
+    uses: &mut UseCounts,
+    node: IRNode,
+)
+    requires live { is_node_live nodes.old node ≡ true }
+    requires leaf { node_kids nodes.old node ≡ [] }
+    ensures after { nodes.new ≡ without_node nodes.old node }
+    ensures stored { IsStored nodes.new }
+    ensures counted { StaysCounted uses.old uses.new nodes.old.ops nodes.new.ops }
+{
+    uses.forget(nodes, node);
+    nodes.free(node);
+}
+
+// Erases a node with all that is below it: each node is freed after those below it, kids in order.
+fn erase_nodes<D: OpSet>(
+    nodes: &mut Arena<OpData<D>, BlockData<D>>,
+    uses: &mut UseCounts,
+    root: IRNode,
+)
+    requires { is_node_live nodes.old root ≡ true }
+    ensures after { nodes.new ≡ erased nodes.old root }
+    ensures tree { IsErased nodes.old nodes.new root }
+    ensures counted { StaysCounted uses.old uses.new nodes.old.ops nodes.new.ops }
+{
+    let _limit = &nodes.limit;
+    let mut at = root;
+    loop {
+        match nodes.first_kid(at) {
+            Some(kid) => at = kid,
+            None => {
+                let over = nodes.parent(at);
+                free_node(nodes, uses, at);
+                if at == root {
+                    return;
+                }
+                match over {
+                    Some(parent) => at = parent,
+                    None => unreachable!(),
+                }
+            }
+        }
+    }
+}
+
 /// Erases the tree of a node.
 pub(crate) fn erase_tree<D: OpSet>(node: IRNode, ctx: &mut Context<D>)
     requires live { IsLive ctx.old node }
@@ -39,7 +92,7 @@ pub(crate) fn erase_tree<D: OpSet>(node: IRNode, ctx: &mut Context<D>)
     ensures tree { IsErased ctx.old.nodes ctx.new.nodes node }
     ensures whole { IsWhole D.attr_handles ctx.new }
 {
-    ctx.nodes.erase(node);
+    erase_nodes(&mut ctx.nodes, &mut ctx.uses, node);
 }
 
 impl Operation {

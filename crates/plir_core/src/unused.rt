@@ -5,25 +5,14 @@ ghost use Rattle.plir_core.specs.Above.{Reaches};
 ghost use Rattle.plir_core.specs.Nodes.{is_node_live, node_parent, ptr_at};
 ghost use Rattle.plir_core.specs.Store.{IsLive, entity_node};
 ghost use Rattle.plir_core.specs.Unused.{UsesNoneOf, IsUnusedAt, IsUnusedOutside};
+ghost use Rattle.plir_core.specs.Uses.{is_not_used};
 ghost use Rattle.plir_core.specs.declared.ptr.IRNode.{IRNode};
 
 use crate::arena::Arena;
 use crate::context::Context;
 use crate::ptr::{BasicBlock, IRNode, Operation, Ptr};
-use crate::value::{DefiningEntity, Value};
+use crate::value::Value;
 use plir_data::OpSet;
-
-impl DefiningEntity {
-    // The operation or block as a node.
-    fn node(self) -> IRNode
-        ensures { result ≡ entity_node self }
-    {
-        match self {
-            DefiningEntity::Op(op) => IRNode::Operation(op),
-            DefiningEntity::Block(block) => IRNode::BasicBlock(block),
-        }
-    }
-}
 
 impl<O, B> Arena<O, B> {
     // How many slots of operations there are, free ones among them.
@@ -99,8 +88,45 @@ impl<D: OpSet> Context<D> {
         }
     }
 
+    // Whether a node is known to be used by nothing. No region is ever used.
+    fn is_known_unused(&self, node: IRNode) -> bool
+        ensures { IsTrue result → is_not_used self.now node ≡ true }
+    {
+        match node {
+            IRNode::Region(_) => true,
+            IRNode::Operation(_) | IRNode::BasicBlock(_) => self.uses.known(node) == Some(0),
+        }
+    }
+
+    // Whether each node of a tree is known to be used by nothing. A walk has no more steps than there are live nodes.
+    fn is_tree_known_unused(&self, root: IRNode) -> bool
+        ensures { IsTrue result → IsUnusedOutside self.now root }
+    {
+        if !self.nodes.is_live(root) {
+            return false;
+        }
+        let mut at = root;
+        for _step in 0..self.nodes.num_live() {
+            if !self.is_known_unused(at) {
+                return false;
+            }
+            match self.nodes.next_in_tree(root, at) {
+                Some(next) => at = next,
+                None => return true,
+            }
+        }
+        false
+    }
+
     // Whether no live operation outside the tree under the root uses a value or a block of the tree.
     pub(crate) fn is_unused_outside(&self, root: IRNode) -> bool
+        ensures { IsTrue result ↔ IsUnusedOutside self.now root }
+    {
+        self.is_tree_known_unused(root) || self.is_unused_by_all(root)
+    }
+
+    // The same, by a look at all operations.
+    fn is_unused_by_all(&self, root: IRNode) -> bool
         ensures { IsTrue result ↔ IsUnusedOutside self.now root }
     {
         for slot in 0..self.nodes.num_op_slots() {

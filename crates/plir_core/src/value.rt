@@ -1,7 +1,8 @@
 //! Values: the results of operations and the arguments of blocks.
 ghost use Rattle.std.specs.Prelude.{◌≡◌};
+ghost use Rattle.plir_core.specs.Store.{entity_node};
 
-use crate::ptr::{BasicBlock, Operation, Ptr};
+use crate::ptr::{BasicBlock, IRNode, Operation, Ptr};
 
 /// What a value comes from.
 #[derive(Clone, Copy, PartialEq, Eq, Hash, Debug)]
@@ -17,6 +18,18 @@ pub enum DefiningEntity {
 pub struct Value {
     entity: DefiningEntity,
     index: usize,
+}
+
+impl DefiningEntity {
+    /// The operation or block as a node.
+    pub(crate) fn node(self) -> IRNode
+        ensures { result ≡ entity_node self }
+    {
+        match self {
+            DefiningEntity::Op(op) => IRNode::Operation(op),
+            DefiningEntity::Block(block) => IRNode::BasicBlock(block),
+        }
+    }
 }
 
 impl Value {

@@ -146,3 +146,57 @@ fn a_hundred_thousand_operations_in_a_block(rt: HostRuntime) -> Result<(), Fail>
     assert!(rt; live == (200_003, 0));
     Ok(())
 }
+
+// Erases the operations of a block one by one, the last one first.
+fn erase_one_by_one(
+    ctx: &mut Context<BuiltinSet>,
+    block: Ptr<BasicBlock>,
+    count: usize,
+) -> Result<(), Stop> {
+    for _ in 0..count {
+        if !block.is_live(ctx) {
+            return Err(Stop::Refused);
+        }
+        let Some(op) = block.get_tail(ctx) else {
+            return Err(Stop::Refused);
+        };
+        erase(ctx, op)?;
+    }
+    Ok(())
+}
+
+// Puts so many operations into a block of a new context, and erases them one by one; answers how many nodes were live before
+// that and after it.
+#[derive(Drop)]
+struct ErasesOneByOne {
+    alloc: Global,
+    count: usize,
+}
+
+impl InContext<BuiltinSet> for ErasesOneByOne {
+    type Answer = Result<(u32, u32), Stop>;
+
+    fn run(self, ctx: &mut Context<BuiltinSet>) -> Result<(u32, u32), Stop> {
+        let module = make_module(self.alloc, ctx)?;
+        let block = add_block(self.alloc, ctx, module)?;
+        for _ in 0..self.count {
+            let op = make_module(self.alloc, ctx)?;
+            append(ctx, op, block)?;
+        }
+        let made = ctx.num_live();
+        erase_one_by_one(ctx, block, self.count)?;
+        Ok((made, ctx.num_live()))
+    }
+}
+
+#[test]
+fn a_hundred_thousand_operations_one_by_one(rt: HostRuntime) -> Result<(), Fail> {
+    let alloc = rt.alloc();
+    let task = ErasesOneByOne {
+        alloc,
+        count: 100_000,
+    };
+    let live = in_new_context(alloc, task)?;
+    assert!(rt; live == (200_003, 3));
+    Ok(())
+}

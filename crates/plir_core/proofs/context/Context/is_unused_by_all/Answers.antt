@@ -1,6 +1,6 @@
 use Rattle.std.proofs.Common.{◌≡◌, refl, ap, subst, sym, ◌∙◌, ◌≤◌, length, arith, true}
 use Rattle.plir_core.specs.Store.{Store}
-use Rattle.plir_core.proofs.context.Context.is_unused_outside.Goals as goal
+use Rattle.plir_core.proofs.context.Context.is_unused_by_all.Goals as goal
 use Rattle.plir_core.proofs.Scan.{IsUnusedBelow-none, IsUnusedBelow-more, IsUnusedBelow-all, true_unless}
 
 pub loop-slot-init : goal.loop-slot-init
