@@ -11,6 +11,7 @@ use crate::links::NodeLinks;
 use plir_core::IRNode;
 
 /// Whether a node is called now: as it is entered in PreOrder, as it is left in PostOrder.
+#[inline(always)]
 pub fn is_due(config: &WalkConfig, node: IRNode, entering: bool) -> bool
     ensures { result ≡ due_at (order_of config.now node) entering }
 {
@@ -22,6 +23,7 @@ pub fn is_due(config: &WalkConfig, node: IRNode, entering: bool) -> bool
 }
 
 /// Whether what is below a node comes next after a call there with this answer, or after none.
+#[inline(always)]
 pub fn goes_on(entering: bool, answer: WalkContinue) -> bool
     ensures { result ≡ goes_on entering answer }
 {
@@ -32,6 +34,7 @@ pub fn goes_on(entering: bool, answer: WalkContinue) -> bool
 }
 
 /// The child that a walk enters first.
+#[inline(always)]
 pub fn first<C: NodeLinks>(ctx: &C, config: &WalkConfig, node: IRNode) -> Option<IRNode>
     requires { (C.look ctx.now).live node ≡ true }
     ensures { result ≡ first_of config.now (C.look ctx.now) node }
@@ -44,6 +47,7 @@ pub fn first<C: NodeLinks>(ctx: &C, config: &WalkConfig, node: IRNode) -> Option
 }
 
 /// The sibling that a walk enters after a node.
+#[inline(always)]
 fn next<C: NodeLinks>(ctx: &C, config: &WalkConfig, node: IRNode) -> Option<IRNode>
     requires { (C.look ctx.now).live node ≡ true }
     ensures { result ≡ next_of config.now (C.look ctx.now) node }
@@ -58,6 +62,7 @@ fn next<C: NodeLinks>(ctx: &C, config: &WalkConfig, node: IRNode) -> Option<IRNo
 
 /// The next cursor, a node and whether it is entered: what is below `node` comes next, or `node` is left. None, as the
 /// root is left.
+#[inline(always)]
 pub fn step<C: NodeLinks>(
     ctx: &C,
     config: &WalkConfig,

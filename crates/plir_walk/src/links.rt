@@ -57,6 +57,7 @@ impl<D: OpSet> NodeLinks for Context<D> {
         self.stands();
     }
 
+    #[inline(always)]
     fn parent(&self, node: IRNode) -> Option<IRNode> {
         match node {
             IRNode::Operation(op) => op.get_parent_block(self).map(IRNode::BasicBlock),
@@ -65,6 +66,7 @@ impl<D: OpSet> NodeLinks for Context<D> {
         }
     }
 
+    #[inline(always)]
     fn first_child(&self, node: IRNode) -> Option<IRNode> {
         match node {
             IRNode::Operation(op) => op.first_region(self).map(IRNode::Region),
@@ -73,20 +75,24 @@ impl<D: OpSet> NodeLinks for Context<D> {
         }
     }
 
+    #[inline(always)]
     fn last_child(&self, node: IRNode) -> Option<IRNode> {
         last_kid_of(self, node)
     }
 
+    #[inline(always)]
     fn next_sibling(&self, node: IRNode) -> Option<IRNode> {
         sibling_after(self, node)
     }
 
+    #[inline(always)]
     fn previous_sibling(&self, node: IRNode) -> Option<IRNode> {
         sibling_before(self, node)
     }
 }
 
 /// The last child of a node.
+#[inline(always)]
 fn last_kid_of<D: OpSet>(ctx: &Context<D>, node: IRNode) -> Option<IRNode>
     requires { IsLive ctx.now node }
     ensures value { result ≡ last_kid ctx.now node }
@@ -100,6 +106,7 @@ fn last_kid_of<D: OpSet>(ctx: &Context<D>, node: IRNode) -> Option<IRNode>
 }
 
 /// The sibling right behind a node.
+#[inline(always)]
 fn sibling_after<D: OpSet>(ctx: &Context<D>, node: IRNode) -> Option<IRNode>
     requires { IsLive ctx.now node }
     ensures value { result ≡ next_sibling ctx.now node }
@@ -113,6 +120,7 @@ fn sibling_after<D: OpSet>(ctx: &Context<D>, node: IRNode) -> Option<IRNode>
 }
 
 /// The sibling right before a node.
+#[inline(always)]
 fn sibling_before<D: OpSet>(ctx: &Context<D>, node: IRNode) -> Option<IRNode>
     requires { IsLive ctx.now node }
     ensures value { result ≡ prev_sibling ctx.now node }

@@ -67,6 +67,7 @@ pub fn walk_block<C: NodeLinks, S, B: Drop, F: Fn(&C, &mut S, IRNode) -> WalkRes
 }
 
 /// Calls the callback at a node where it is due; else the walk goes on.
+#[inline(always)]
 fn visit<C: NodeLinks, S, B: Drop, F: Fn(&C, &mut S, IRNode) -> WalkResult<B>>(
     ctx: &C,
     state: &mut S,

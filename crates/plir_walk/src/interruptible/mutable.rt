@@ -90,6 +90,7 @@ pub fn walk_block<C: NodeLinks, S, B: Drop, F: Fn(&mut C, &mut S, IRNode) -> Wal
 }
 
 /// Calls the callback at a node where it is due; else the walk goes on. The node stays live.
+#[inline(always)]
 fn visit<C: NodeLinks, S, B: Drop, F: Fn(&mut C, &mut S, IRNode) -> WalkResult<B>>(
     ctx: &mut C,
     state: &mut S,
