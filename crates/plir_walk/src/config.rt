@@ -37,7 +37,6 @@ pub struct WalkConfig {
 
 impl WalkConfig {
     /// The order and the direction for a node.
-    #[inline(always)]
     pub fn pair(&self, node: IRNode) -> (Order, Direction)
         ensures order { result.0 ≡ order_of self.now node }
         ensures direction { result.1 ≡ direction_of self.now node }
