@@ -1,4 +1,4 @@
-use Rattle.std.proofs.Common.{◌≡◌, ℕ, ◌+◌, ◌-◌, ◌*◌, ◌^◌, ◌<◌, ◌≤◌, Bool, true, false, List, [], ◌∷◌, Option, Some, None, inl, inr, refl, sym, subst, arith, option_map}
+use Rattle.std.proofs.Common.{◌≡◌, ℕ, ◌+◌, ◌-◌, ◌*◌, ◌^◌, ◌<◌, ◌≤◌, Bool, true, false, List, [], ◌∷◌, Option, Some, None, inl, inr, refl, subst, arith, option_map}
 use Rattle.plir_walk.specs.Config.{direction_of, order_of}
 use Rattle.plir_store.specs.Members.{Has, head}
 use Rattle.plir_walk.specs.Step.{due_at, enter_or_leave, first_of, next_of, step_of, after, taken}

@@ -4,7 +4,7 @@
 ghost use Rattle.std.specs.Prelude.{◌≡◌, true, option_map};
 ghost use Rattle.plir_walk.specs.Config.{order_of};
 ghost use Rattle.plir_walk.specs.Step.{cursor_at, due_at, enter_or_leave, entered, first_of, goes_on};
-ghost use Rattle.plir_walk.specs.Step.{hop_of, left_from, next_of};
+ghost use Rattle.plir_walk.specs.Step.{hop_of, left_from};
 
 use crate::config::{Direction, Order, WalkConfig};
 use crate::interruptible::WalkContinue;
@@ -56,20 +56,6 @@ pub fn first<C: NodeLinks>(ctx: &C, config: &WalkConfig, node: IRNode) -> Option
     }
 }
 
-/// The sibling that a walk enters after a node.
-#[inline(always)]
-fn next<C: NodeLinks>(ctx: &C, config: &WalkConfig, node: IRNode) -> Option<IRNode>
-    requires { (C.look ctx.now).live node ≡ true }
-    ensures { result ≡ next_of config.now (C.look ctx.now) node }
-{
-    let parent = ctx.parent(node)?;
-    let (_, direction) = config.pair(parent);
-    match direction {
-        Direction::Forward => ctx.next_sibling(node),
-        Direction::Reverse => ctx.previous_sibling(node),
-    }
-}
-
 /// Where a walk stands next that enters a node: there, if a call is due, else at its first child, or at its end.
 #[inline(always)]
 fn enter<C: NodeLinks>(ctx: &C, config: &WalkConfig, node: IRNode) -> (IRNode, bool, bool)
@@ -100,7 +86,7 @@ fn leave<C: NodeLinks>(
     if node == root {
         return None;
     }
-    match next(ctx, config, node) {
+    match ctx.next_taken(config, node) {
         Some(sibling) => {
             ctx.forest();
             Some(enter(ctx, config, sibling))

@@ -5,4 +5,4 @@ use Rattle.plir_walk.proofs.cursor.leave.Goals as goal
 pub enter-requires : goal.enter-requires
 enter-requires g c =
     next-live c.args.config.now (g.C.NodeLinks.look c.args.ctx.now) c.forest.ensures c.args.node c.in-Some.sibling
-    (sym c.next.ensures ∙ c.in-Some.is)
+    (sym c.next_taken.ensures ∙ c.in-Some.is)

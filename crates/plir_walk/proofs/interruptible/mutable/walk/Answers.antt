@@ -1,4 +1,4 @@
-use Rattle.std.proofs.Common.{◌≡◌, ◌-◌, arith, sym, ◌∙◌, subst}
+use Rattle.std.proofs.Common.{◌-◌, sym, ◌∙◌, subst}
 use Rattle.plir_walk.specs.Calls.{CallsBack}
 use Rattle.plir_walk.proofs.Hops.{hops, hop-at, hop-none}
 use Rattle.plir_walk.proofs.Walking.{begin, limited}
