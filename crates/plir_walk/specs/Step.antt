@@ -1,5 +1,5 @@
--- One step of a walk's cursor: a node, and whether it is entered or left; and one hop, which is a run of steps. The walkers' loops go
--- by it; the contracts of walks cite nothing of it.
+-- One step of a walk's cursor: a node, and whether it is entered or left; and one hop, which is a run of steps. The
+-- walkers' loops go by it; the contracts of walks cite nothing of it.
 use Rattle.std.specs.Prelude.{◌≡◌, Bool, true, false, not, cond, List, [], ◌∷◌, reverse, Option, Some, None, option_and_then, option_map}
 use Rattle.plir_core.specs.declared.ptr.IRNode.{IRNode}
 use Rattle.plir_core.specs.Forest.{Shape, IsForest}
