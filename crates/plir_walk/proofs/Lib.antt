@@ -17,6 +17,8 @@ pub mod Conclusions
 pub mod Walking
 pub mod Measure
 pub mod Remaining
+pub mod TakenLinks
+pub mod Hops
 pub mod Visiting
 pub mod Reading
 pub mod Advancing

@@ -1,4 +1,4 @@
-use Rattle.std.proofs.Common.{◌≡◌, ℕ, ◌+◌, ◌-◌, ◌*◌, ◌^◌, ◌<◌, ◌≤◌, Bool, true, false, List, [], ◌∷◌, Option, Some, None, inl, inr, refl, sym, subst, arith, option_map}
+use Rattle.std.proofs.Common.{◌≡◌, ℕ, ◌+◌, ◌-◌, ◌*◌, ◌^◌, ◌<◌, ◌≤◌, Bool, true, false, List, [], ◌∷◌, Option, Some, None, inl, inr, refl, subst, arith, option_map}
 use Rattle.plir_walk.specs.Config.{direction_of, order_of}
 use Rattle.plir_store.specs.Members.{Has, head}
 use Rattle.plir_walk.specs.Step.{due_at, enter_or_leave, first_of, next_of, step_of, after, taken}
@@ -102,21 +102,6 @@ module _ (w : WalkConfig) (s : Shape) (f : IsForest s) where
           let x : next_of w s c ≡ after c (taken (direction_of w a) (s.kids a)) = (rw e refl) in
           let v : Some (enter_or_leave (after c (taken (direction_of w a) (s.kids a))) a) ≡ Some (n, en') = (rw x at y) in cc v)
 
-  -- a step with no call
-  pub moved-smaller : (r c : IRNode) (en : Bool) (n : IRNode) (en' : Bool) (left : ℕ) → due_at (order_of w c) en ≡ false → step_of w s r c en ≡ Some (n, en') → size_of w s left n en' < size_of w s left c en
-  moved-smaller r c en n en' left d z = (let p = step-smaller r c en (order_of w c) n en' refl d z in omega (arith, p))
-
 -- a step with a call
 pub called-smaller : (w : WalkConfig) (s s' : Shape) (f' : IsForest s') (c n : IRNode) (en en' : Bool) (left left' : ℕ) → left ≡ left' + 1 → size_of w s' left' n en' < size_of w s left c en
 called-smaller w s s' f' c n en en' left left' h = (let p = part-bound (order_of w n) (depth_in s' n) en' (small w s' f' n) in rw h (omega (arith, p)))
-
--- a step with no call, over the values that a loop has after its branches
-pub moved-smaller-as : {C : Type 0} (look : C → Shape) (w : WalkConfig)
-    (e e'' : C) (f : IsForest (look e'')) (r c : IRNode) (en below : Bool) (n : IRNode) (en' : Bool) (left left' : ℕ) → due_at (order_of w c) en ≡ false → e'' ≡ e → left' ≡ left → below ≡ en
-    → step_of w (look e'') r c below ≡ Some (n, en') → size_of w (look e'') left' n en' < size_of w (look e) left c en
-moved-smaller-as look w e e'' f r c en below n en' left left' d pe pl pb z =
-    let z1 : step_of w (look e'') r c en ≡ Some (n, en') = (rw pb at z) in
-    let d' : due_at (order_of w c) en ≡ false = subst (λ (v : _). due_at (order_of w c) en ≡ false) (sym pe) d in
-    let g = moved-smaller w (look e'') f r c en n en' left' d' z1 in
-    let g1 : size_of w (look e'') left' n en' < size_of w (look e'') left c en = subst (λ (v : ℕ). size_of w (look e'') left' n en' < size_of w (look e'') v c en) pl g in
-    subst (λ (v : _). size_of w (look e'') left' n en' < size_of w (look v) left c en) pe g1

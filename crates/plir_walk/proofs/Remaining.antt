@@ -1,4 +1,4 @@
-use Rattle.std.proofs.Common.{◌≡◌, ℕ, zero, suc, ◌+◌, ◌<◌, Bool, true, false, cond, List, [], ◌∷◌, Option, Some, None, ◌⊎◌, inl, inr, refl, sym, ap, subst, arith, ◌∙◌, option_map}
+use Rattle.std.proofs.Common.{◌≡◌, ℕ, zero, suc, ◌+◌, ◌<◌, Bool, true, false, cond, List, [], ◌∷◌, Option, Some, None, inl, inr, refl, sym, ap, subst, arith, ◌∙◌, option_map}
 use Rattle.plir_walk.specs.Config.{direction_of}
 use Rattle.plir_store.specs.Members.{Distinct, Has, head}
 use Rattle.plir_walk.specs.Step.{enter_or_leave, next_of, step_of, after, taken}
@@ -153,17 +153,3 @@ module _ (w : WalkConfig) (s : Shape) (f : IsForest s) where
           (let y : Some (enter_or_leave (next_of w s n) a) ≡ Some (m, en') = z in
           let x : next_of w s n ≡ head (behind n (taken (direction_of w a) (s.kids a))) = (rw e (after-behind n (taken (direction_of w a) (s.kids a)))) in
           let v : Some (enter_or_leave (head (behind n (taken (direction_of w a) (s.kids a)))) a) ≡ Some (m, en') = (rw x at y) in cc v)
-
-  -- a node that was entered and is then left, with no step down
-  pub skip-smaller : (r n : IRNode) (m : IRNode) (en' : Bool) → step_of w s r n false ≡ Some (m, en') → left_at w s m en' < left_at w s n true
-  skip-smaller r n m en' z = (let p = step-smaller r n false m en' z in let k = steps-kids n in omega (arith, p, k))
-
--- a step, over the values that a loop has after its branches
-pub left-smaller : (w : WalkConfig) (s : Shape) (f : IsForest s) (r n : IRNode) (en below : Bool) (m : IRNode) (en' : Bool) → (below ≡ en) ⊎ (below ≡ false) → step_of w s r n below ≡ Some (m, en') → left_at w s m en' < left_at w s n en
-left-smaller w s f r n true true m en' h z = step-smaller w s f r n true m en' z
-left-smaller w s f r n true false m en' h z = skip-smaller w s f r n m en' z
-left-smaller w s f r n false true m en' h z = elim h [ inl e ↦ absurd (diff e) | inr e ↦ absurd (diff e) ]
-  where
-    diff : true ≡ false → ⊥
-    diff e = cc
-left-smaller w s f r n false false m en' h z = step-smaller w s f r n false m en' z

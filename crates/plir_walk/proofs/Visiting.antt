@@ -1,11 +1,11 @@
 -- What a visit of the cursor's node makes of a walk, and where the walk goes on from there.
-use Rattle.std.proofs.Common.{◌≡◌, ℕ, ◌+◌, ◌-◌, ◌<◌, Bool, true, false, Option, Some, None, ◌⊎◌, inl, inr, Ok}
-use Rattle.std.proofs.Common.{refl, sym, ap, ◌∙◌, arith}
+use Rattle.std.proofs.Common.{◌≡◌, ℕ, zero, suc, ◌+◌, ◌-◌, ◌<◌, Bool, true, false, Option, Some, None, ◌⊎◌, inl, inr, Ok}
+use Rattle.std.proofs.Common.{refl, sym, ap, subst, ◌∙◌, arith}
 use Rattle.std.specs.declared.ops.ControlFlow.{ControlFlow}
 use Rattle.std.specs.declared.ops.ControlFlow.TheVariants.{Break, Continue}
 use Rattle.plir_walk.specs.Calls.{Relation}
 use Rattle.plir_walk.specs.Config.{order_of}
-use Rattle.plir_walk.specs.Step.{due_at, goes_on, step_of, IsVisited}
+use Rattle.plir_walk.specs.Step.{due_at, goes_on, IsVisited}
 use Rattle.plir_walk.specs.Walked.{IsLawful, Walked}
 use Rattle.plir_walk.specs.declared.config.WalkConfig.{WalkConfig}
 use Rattle.plir_walk.specs.declared.interruptible.WalkContinue.{WalkContinue}
@@ -13,10 +13,11 @@ use Rattle.plir_walk.specs.declared.interruptible.WalkContinue.TheVariants.{Adva
 use Rattle.plir_core.specs.declared.ptr.IRNode.{IRNode}
 use Rattle.plir_core.specs.Forest.{IsForest, Shape}
 use Rattle.plir_walk.specs.Lawful.{StandsUnder}
-use Rattle.plir_walk.proofs.Walking.{Walking, Halfway, moved, ended, called-as, passed-as, broken-as, relimit}
+use Rattle.plir_walk.proofs.Hops.{Hops, Run, hops-left, run-smaller-as}
+use Rattle.plir_walk.proofs.Walking.{Walking, Halfway, moved, ended, passed, called-as, passed-as, broken-as, relimit}
 use Rattle.plir_walk.proofs.Walking.{walking-under}
-use Rattle.plir_walk.proofs.Measure.{size_of, moved-smaller-as, called-smaller}
-use Rattle.plir_walk.proofs.Remaining.{left_at, left-smaller}
+use Rattle.plir_walk.proofs.Measure.{size_of, called-smaller}
+use Rattle.plir_walk.proofs.Remaining.{left_at}
 
 -- where a call is due, one more may be made, and one less after it; else as many
 abbrev pub IsCounted : Bool → ℕ → ℕ → Type 0
@@ -54,6 +55,23 @@ module _ {C S B : Type 0} (look : C → Shape) (w : WalkConfig) (post : Relation
     stands = walking-under look w post c0 s0 r limit e st c en left h;
   }
 
+  -- a run of steps leads to another cursor, or past the root
+  run-moved : (limit : ℕ) (e : C) (st : S) (left k : ℕ) (c : IRNode) (below : Bool) (m : IRNode) (en : Bool)
+      → Half limit e st c below left → Run w (look e) r k c below (Some (m, en)) → To limit e st m en left
+  run-moved limit e st left zero c below m en h z = moved look w post c0 s0 r limit e st c below left m en h (sym z)
+  run-moved limit e st left (suc k) c below m en h z =
+      let at = moved look w post c0 s0 r limit e st c below left z.0 z.1 h z.2 in
+      let half = passed look w post c0 s0 r limit e st z.0 z.1 left at z.3 in
+      run-moved limit e st left k z.0 z.1 m en half z.4
+
+  run-ended : (limit : ℕ) (e : C) (st : S) (left k : ℕ) (c : IRNode) (below : Bool)
+      → Half limit e st c below left → Run w (look e) r k c below None → Ends limit (Continue Advance) e st
+  run-ended limit e st left zero c below h z = ended look w post c0 s0 r limit e st c below left h (sym z)
+  run-ended limit e st left (suc k) c below h z =
+      let at = moved look w post c0 s0 r limit e st c below left z.0 z.1 h z.2 in
+      let half = passed look w post c0 s0 r limit e st z.0 z.1 left at z.3 in
+      run-ended limit e st left k z.0 z.1 half z.4
+
   module _ (lawful : IsLawful look r post) (limit : ℕ) (e e' : C) (st st' : S) (c : IRNode) (en due : Bool)
       (left left' : ℕ) (a : ControlFlow B WalkContinue) (h : Cursor limit e st c en left)
       (d : due ≡ due_at (order_of w c) en) (n : IsCounted due left left')
@@ -83,16 +101,17 @@ module _ {C S B : Type 0} (look : C → Shape) (w : WalkConfig) (post : Relation
               passed-as look w post c0 s0 r limit lawful e e' st st' c en below left left'
               h.walking (sym d) v.1 v.2 n (g ∙ no-call a k en v.0 q)
 
-      module _ (o : Option (IRNode × Bool)) (s : o ≡ step_of w (look e') r c below) where
+      module _ (o : Option (IRNode × Bool)) (s : Hops w (look e') r c below o) where
         -- the walk moves on to another cursor
         pub visit-moved : (m : IRNode) (en' : Bool) → o ≡ Some (m, en') → Cursor limit e' st' m en' left'
         visit-moved m en' z =
-            cursor limit e' st' m en' left'
-            (moved look w post c0 s0 r limit e' st' c below left' m en' halfway (sym s ∙ z))
+            let run = subst (λ v. Run w (look e') r s.0 c below v) z s.1 in
+            cursor limit e' st' m en' left' (run-moved limit e' st' left' s.0 c below m en' halfway run)
 
         -- the root was left
         pub visit-ended : o ≡ None → Ends limit (Continue Advance) e' st'
-        visit-ended z = ended look w post c0 s0 r limit e' st' c below left' halfway (sym s ∙ z)
+        visit-ended z =
+            run-ended limit e' st' left' s.0 c below halfway (subst (λ v. Run w (look e') r s.0 c below v) z s.1)
 
         -- less remains to be done
         pub visit-smaller : (m : IRNode) (en' : Bool) → o ≡ Some (m, en')
@@ -108,13 +127,15 @@ module _ {C S B : Type 0} (look : C → Shape) (w : WalkConfig) (post : Relation
                 let t = n.1 in
                 called-smaller w (look e) (look e') f c m en en' left left' (omega (arith, p, t))
             by false d n v =
-                moved-smaller-as look w e e' f r c en below m en' left left' (sym d) v.1 n
-                (g ∙ no-call a k en v.0 q) (sym s ∙ z)
+                run-smaller-as look w e e' f r c en below m en' left left' (sym d) v.1 n
+                (g ∙ no-call a k en v.0 q) s.0 (subst (λ u. Run w (look e') r s.0 c below u) z s.1)
 
         -- the same over one context, where no call is counted
         pub read-smaller : IsForest (look e') → (m : IRNode) (en' : Bool) → o ≡ Some (m, en')
             → left_at w (look e') m en' < left_at w (look e') c en
-        read-smaller f m en' z = left-smaller w (look e') f r c en below m en' (by k g) (sym s ∙ z)
+        read-smaller f m en' z =
+            hops-left w (look e') f r c en below m en' (by k g)
+            (s.0, subst (λ v. Run w (look e') r s.0 c below v) z s.1)
           where
             by : (k : WalkContinue) → below ≡ goes_on en k → (below ≡ en) ⊎ (below ≡ false)
             by Advance g = inl g

@@ -1,5 +1,5 @@
--- One step of a walk's cursor: a node, and whether it is entered or left. The walkers' loops go by it; the contracts of walks
--- cite nothing of it.
+-- One step of a walk's cursor: a node, and whether it is entered or left; and one hop, which is a run of steps. The
+-- walkers' loops go by it; the contracts of walks cite nothing of it.
 use Rattle.std.specs.Prelude.{◌≡◌, Bool, true, false, not, cond, List, [], ◌∷◌, reverse, Option, Some, None, option_and_then, option_map}
 use Rattle.plir_core.specs.declared.ptr.IRNode.{IRNode}
 use Rattle.plir_core.specs.Forest.{Shape, IsForest}
@@ -14,7 +14,7 @@ use Rattle.plir_walk.specs.declared.config.WalkConfig.{WalkConfig}
 use Rattle.plir_walk.specs.declared.interruptible.WalkContinue.{WalkContinue}
 use Rattle.plir_walk.specs.declared.interruptible.WalkContinue.TheVariants.{Advance, Skip}
 use Rattle.plir_store.specs.Members.{head}
-use Rattle.plir_walk.specs.Config.{direction_of}
+use Rattle.plir_walk.specs.Config.{direction_of, order_of}
 use Rattle.plir_walk.specs.Tree.{same}
 
 -- the node that follows n in a list
@@ -49,6 +49,37 @@ enter_or_leave (Some k) n = (k, true)
 abbrev pub step_of : WalkConfig → Shape → IRNode → IRNode → Bool → Option (IRNode × Bool)
 step_of w s root n true = Some (enter_or_leave (first_of w s n) n)
 step_of w s root n false = cond (same n root) None (option_map (λ a. enter_or_leave (next_of w s n) a) (s.parent n))
+
+-- where a walk stands that enters n: there, if n is called as it is entered; else at its first child, or at its end
+abbrev pub entered_by : Option IRNode → Order → IRNode → IRNode × Bool
+entered_by first PreOrder n = (n, true)
+entered_by first PostOrder n = enter_or_leave first n
+
+abbrev pub entered : WalkConfig → Shape → IRNode → IRNode × Bool
+entered w s n = entered_by (first_of w s n) (order_of w n) n
+
+-- where a walk stands next that leaves n: it enters the next sibling, or leaves the parent
+abbrev pub left_by : WalkConfig → Shape → Option IRNode → Option IRNode → Option (IRNode × Bool)
+left_by w s (Some k) up = Some (entered w s k)
+left_by w s None up = option_map (λ a. (a, false)) up
+
+abbrev pub left_from : WalkConfig → Shape → IRNode → IRNode → Option (IRNode × Bool)
+left_from w s root n = cond (same n root) None (left_by w s (next_of w s n) (s.parent n))
+
+-- where a walk stands next that goes below n: it enters the first child, or leaves n
+abbrev pub sunk_by : WalkConfig → Shape → IRNode → IRNode → Option IRNode → Order → Option (IRNode × Bool)
+sunk_by w s root n (Some k) order = Some (k, true)
+sunk_by w s root n None PreOrder = left_from w s root n
+sunk_by w s root n None PostOrder = Some (n, false)
+
+-- One hop of a walk's cursor: a step, and further ones from where no call is due.
+abbrev pub hop_of : WalkConfig → Shape → IRNode → IRNode → Bool → Option (IRNode × Bool)
+hop_of w s root n true = sunk_by w s root n (first_of w s n) (order_of w n)
+hop_of w s root n false = left_from w s root n
+
+-- a cursor with whether its node is called now
+abbrev pub cursor_at : WalkConfig → IRNode × Bool → IRNode × Bool × Bool
+cursor_at w c = (c.0, c.1, due_at (order_of w c.0) c.1)
 
 -- what a walk goes on to after a call with this answer
 abbrev pub goes_on : Bool → WalkContinue → Bool

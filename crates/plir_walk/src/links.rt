@@ -6,8 +6,9 @@ ghost use Rattle.plir_store.specs.Members.{head};
 ghost use Rattle.plir_core.specs.Store.{IsLive, last_kid, next_sibling, prev_sibling};
 ghost use Rattle.plir_core.specs.Whole.{IsWhole};
 ghost use Rattle.plir_core.specs.Forest.{Shape, IsForest};
-ghost use Rattle.plir_walk.specs.Step.{after};
+ghost use Rattle.plir_walk.specs.Step.{after, next_of};
 
+use crate::config::{Direction, WalkConfig};
 use plir_core::laws::contexts_stand;
 use plir_core::{Context, IRNode};
 use plir_data::OpSet;
@@ -45,6 +46,11 @@ pub trait NodeLinks {
     fn previous_sibling(&self, node: IRNode) -> Option<IRNode>
         requires { (look self.now).live node ≡ true }
         ensures { result ≡ option_and_then (λ a. after node (reverse ((look self.now).kids a))) ((look self.now).parent node) };
+
+    /// The sibling that a walk enters after a node.
+    fn next_taken(&self, config: &WalkConfig, node: IRNode) -> Option<IRNode>
+        requires { (look self.now).live node ≡ true }
+        ensures { result ≡ next_of config.now (look self.now) node };
 }
 
 impl<D: OpSet> NodeLinks for Context<D> {
@@ -57,6 +63,7 @@ impl<D: OpSet> NodeLinks for Context<D> {
         self.stands();
     }
 
+    #[inline(always)]
     fn parent(&self, node: IRNode) -> Option<IRNode> {
         match node {
             IRNode::Operation(op) => op.get_parent_block(self).map(IRNode::BasicBlock),
@@ -65,6 +72,7 @@ impl<D: OpSet> NodeLinks for Context<D> {
         }
     }
 
+    #[inline(always)]
     fn first_child(&self, node: IRNode) -> Option<IRNode> {
         match node {
             IRNode::Operation(op) => op.first_region(self).map(IRNode::Region),
@@ -73,20 +81,32 @@ impl<D: OpSet> NodeLinks for Context<D> {
         }
     }
 
+    #[inline(always)]
     fn last_child(&self, node: IRNode) -> Option<IRNode> {
         last_kid_of(self, node)
     }
 
+    #[inline(always)]
     fn next_sibling(&self, node: IRNode) -> Option<IRNode> {
         sibling_after(self, node)
     }
 
+    #[inline(always)]
     fn previous_sibling(&self, node: IRNode) -> Option<IRNode> {
         sibling_before(self, node)
+    }
+
+    #[inline(always)]
+    fn next_taken(&self, config: &WalkConfig, node: IRNode) -> Option<IRNode> {
+        match config.direction_above(node) {
+            Direction::Forward => sibling_after(self, node),
+            Direction::Reverse => sibling_before(self, node),
+        }
     }
 }
 
 /// The last child of a node.
+#[inline(always)]
 fn last_kid_of<D: OpSet>(ctx: &Context<D>, node: IRNode) -> Option<IRNode>
     requires { IsLive ctx.now node }
     ensures value { result ≡ last_kid ctx.now node }
@@ -100,6 +120,7 @@ fn last_kid_of<D: OpSet>(ctx: &Context<D>, node: IRNode) -> Option<IRNode>
 }
 
 /// The sibling right behind a node.
+#[inline(always)]
 fn sibling_after<D: OpSet>(ctx: &Context<D>, node: IRNode) -> Option<IRNode>
     requires { IsLive ctx.now node }
     ensures value { result ≡ next_sibling ctx.now node }
@@ -113,6 +134,7 @@ fn sibling_after<D: OpSet>(ctx: &Context<D>, node: IRNode) -> Option<IRNode>
 }
 
 /// The sibling right before a node.
+#[inline(always)]
 fn sibling_before<D: OpSet>(ctx: &Context<D>, node: IRNode) -> Option<IRNode>
     requires { IsLive ctx.now node }
     ensures value { result ≡ prev_sibling ctx.now node }

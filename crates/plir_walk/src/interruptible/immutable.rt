@@ -9,7 +9,7 @@ ghost use Rattle.plir_walk.specs.Step.{IsVisited};
 ghost use Rattle.plir_walk.specs.Walked.{WalkedOver};
 
 use crate::config::WalkConfig;
-use crate::cursor::{goes_on, is_due, step};
+use crate::cursor::{goes_on, hop, is_due};
 use crate::interruptible::{WalkContinue, WalkResult, walk_advance};
 use crate::links::NodeLinks;
 use plir_core::{BasicBlock, Context, IRNode, Operation, Ptr, Region};
@@ -67,6 +67,7 @@ pub fn walk_block<C: NodeLinks, S, B: Drop, F: Fn(&C, &mut S, IRNode) -> WalkRes
 }
 
 /// Calls the callback at a node where it is due; else the walk goes on.
+#[inline(always)]
 fn visit<C: NodeLinks, S, B: Drop, F: Fn(&C, &mut S, IRNode) -> WalkResult<B>>(
     ctx: &C,
     state: &mut S,
@@ -101,17 +102,18 @@ pub(crate) fn walk<C: NodeLinks, S, B: Drop, F: Fn(&C, &mut S, IRNode) -> WalkRe
     ctx.forest();
     let mut node = root;
     let mut entering = true;
+    let mut due = is_due(config, root, true);
     'nodes: loop {
-        let due = is_due(config, node, entering);
         let answer = match visit(ctx, state, root, node, due, &callback) {
             ControlFlow::Break(b) => return ControlFlow::Break(b),
             ControlFlow::Continue(answer) => answer,
         };
         let below = goes_on(entering, answer);
-        match step(ctx, config, root, node, below) {
-            Some((next, enter)) => {
+        match hop(ctx, config, root, node, below) {
+            Some((next, enter, call)) => {
                 node = next;
                 entering = enter;
+                due = call;
             }
             None => return ControlFlow::Continue(WalkContinue::Advance),
         }

@@ -9,7 +9,7 @@ ghost use Rattle.plir_walk.specs.Step.{IsVisited};
 ghost use Rattle.plir_walk.specs.Walked.{IsLawful, Walked};
 
 use crate::config::WalkConfig;
-use crate::cursor::{goes_on, is_due, step};
+use crate::cursor::{goes_on, hop, is_due};
 use crate::interruptible::{WalkContinue, WalkResult, walk_advance};
 use crate::limit::CallLimit;
 use crate::links::NodeLinks;
@@ -90,6 +90,7 @@ pub fn walk_block<C: NodeLinks, S, B: Drop, F: Fn(&mut C, &mut S, IRNode) -> Wal
 }
 
 /// Calls the callback at a node where it is due; else the walk goes on. The node stays live.
+#[inline(always)]
 fn visit<C: NodeLinks, S, B: Drop, F: Fn(&mut C, &mut S, IRNode) -> WalkResult<B>>(
     ctx: &mut C,
     state: &mut S,
@@ -130,8 +131,8 @@ pub(crate) fn walk<C: NodeLinks, S, B: Drop, F: Fn(&mut C, &mut S, IRNode) -> Wa
     let mut left = limit;
     let mut node = root;
     let mut entering = true;
+    let mut due = is_due(config, root, true);
     'nodes: loop {
-        let due = is_due(config, node, entering);
         if due {
             if left == 0 {
                 return Err(CallLimit);
@@ -143,10 +144,11 @@ pub(crate) fn walk<C: NodeLinks, S, B: Drop, F: Fn(&mut C, &mut S, IRNode) -> Wa
             ControlFlow::Continue(answer) => answer,
         };
         let below = goes_on(entering, answer);
-        match step(ctx, config, root, node, below) {
-            Some((next, enter)) => {
+        match hop(ctx, config, root, node, below) {
+            Some((next, enter, call)) => {
                 node = next;
                 entering = enter;
+                due = call;
             }
             None => return Ok(ControlFlow::Continue(WalkContinue::Advance)),
         }

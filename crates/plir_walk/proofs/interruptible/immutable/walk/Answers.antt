@@ -1,7 +1,7 @@
-use Rattle.std.proofs.Common.{◌≡◌, arith}
 use Rattle.std.specs.declared.ops.ControlFlow.TheVariants.{Continue, Break}
 use Rattle.plir_walk.specs.declared.interruptible.WalkContinue.TheVariants.{Advance}
 use Rattle.plir_walk.specs.Calls.{ReadsBack}
+use Rattle.plir_walk.proofs.Hops.{hops, hop-at, hop-none}
 use Rattle.plir_walk.proofs.Walking.{begin}
 use Rattle.plir_walk.proofs.Visiting.{more, allowed, cursor, visit-broke, visit-moved, visit-ended, read-smaller}
 use Rattle.plir_walk.proofs.Reading.{reads-lawful, walked-over}
@@ -15,7 +15,7 @@ nodes-init g c =
     let e = c.args.ctx.now in
     let st = c.args.state.now in
     let start = begin look w post e st c.args.root 0 c.forest.ensures c.requires.root_live in
-    (0, cursor look w post e st c.args.root 0 e st c.args.root _ 0 start)
+    ((0, cursor look w post e st c.args.root 0 e st c.args.root _ 0 start), c.is_due-due.ensures)
 
 pub returns-in-Break : goal.returns-in-Break
 returns-in-Break g c =
@@ -26,14 +26,14 @@ returns-in-Break g c =
     let s0 = c.args.state.now in
     let r = c.args.root in
     let lawful = reads-lawful look g.F.Fn c.args.callback r in
-    let due = c.is_due-due.result in
+    let due = c.nodes.due in
     let node = c.nodes.node in
     let en = c.nodes.entering in
-    let may = allowed look w post e s0 r lawful c.nodes.invariant.0 due c.nodes.state node en c.nodes.invariant.1 in
-    let made = more look w post e s0 r lawful c.nodes.invariant.0 due in
+    let may = allowed look w post e s0 r lawful c.nodes.invariant.0.0 due c.nodes.state node en c.nodes.invariant.0.1 in
+    let made = more look w post e s0 r lawful c.nodes.invariant.0.0 due in
     walked-over look w g.F.Fn c.args.callback e s0 r made (Break c.in-Break.b) c.visit.new.state
     (visit-broke look w post e s0 r lawful made e e c.nodes.state c.visit.new.state node en due may.0 0 c.visit.result
-    may.1.0 c.is_due-due.ensures may.1.1 c.visit.ensures c.in-Break.b c.in-Break.is)
+    may.1.0 c.nodes.invariant.1 may.1.1 c.visit.ensures c.in-Break.b c.in-Break.is)
 
 pub nodes-preserved : goal.nodes-preserved
 nodes-preserved g c =
@@ -44,16 +44,18 @@ nodes-preserved g c =
     let s0 = c.args.state.now in
     let r = c.args.root in
     let lawful = reads-lawful look g.F.Fn c.args.callback r in
-    let due = c.is_due-due.result in
+    let due = c.nodes.due in
     let node = c.nodes.node in
     let en = c.nodes.entering in
-    let may = allowed look w post e s0 r lawful c.nodes.invariant.0 due c.nodes.state node en c.nodes.invariant.1 in
-    let made = more look w post e s0 r lawful c.nodes.invariant.0 due in
+    let below = c.goes_on-below.result in
+    let at = hop-at w (look e) r _ _ c.hop.ensures c.in-Some.next c.in-Some.enter c.in-Some.call c.in-Some.is in
+    let may = allowed look w post e s0 r lawful c.nodes.invariant.0.0 due c.nodes.state node en c.nodes.invariant.0.1 in
+    let made = more look w post e s0 r lawful c.nodes.invariant.0.0 due in
     let next =
     visit-moved look w post e s0 r lawful made e e c.nodes.state c.visit.new.state node en due may.0 0 c.visit.result
-    may.1.0 c.is_due-due.ensures may.1.1 c.visit.ensures c.in-Continue.answer c.in-Continue.is _ (first_of (cc, grind arith))
-    _ c.step.ensures c.in-Some.next c.in-Some.enter (first_of (cc, grind arith)) in
-    (made, next)
+    may.1.0 c.nodes.invariant.1 may.1.1 c.visit.ensures c.in-Continue.answer c.in-Continue.is below c.goes_on-below.ensures
+    _ (hops w (look e) r node below) c.in-Some.next c.in-Some.enter at.0 in
+    ((made, next), at.1)
 
 pub returns-in-None : goal.returns-in-None
 returns-in-None g c =
@@ -64,15 +66,16 @@ returns-in-None g c =
     let s0 = c.args.state.now in
     let r = c.args.root in
     let lawful = reads-lawful look g.F.Fn c.args.callback r in
-    let due = c.is_due-due.result in
+    let due = c.nodes.due in
     let node = c.nodes.node in
     let en = c.nodes.entering in
-    let may = allowed look w post e s0 r lawful c.nodes.invariant.0 due c.nodes.state node en c.nodes.invariant.1 in
-    let made = more look w post e s0 r lawful c.nodes.invariant.0 due in
+    let below = c.goes_on-below.result in
+    let may = allowed look w post e s0 r lawful c.nodes.invariant.0.0 due c.nodes.state node en c.nodes.invariant.0.1 in
+    let made = more look w post e s0 r lawful c.nodes.invariant.0.0 due in
     walked-over look w g.F.Fn c.args.callback e s0 r made (Continue Advance) c.visit.new.state
     (visit-ended look w post e s0 r lawful made e e c.nodes.state c.visit.new.state node en due may.0 0 c.visit.result
-    may.1.0 c.is_due-due.ensures may.1.1 c.visit.ensures c.in-Continue.answer c.in-Continue.is _ (first_of (cc, grind arith))
-    _ c.step.ensures (first_of (cc, grind arith)))
+    may.1.0 c.nodes.invariant.1 may.1.1 c.visit.ensures c.in-Continue.answer c.in-Continue.is below c.goes_on-below.ensures
+    _ (hops w (look e) r node below) (hop-none w (look e) r _ _ c.hop.ensures c.in-None.is))
 
 pub nodes-smaller : goal.nodes-smaller
 nodes-smaller g c =
@@ -83,12 +86,13 @@ nodes-smaller g c =
     let s0 = c.args.state.now in
     let r = c.args.root in
     let lawful = reads-lawful look g.F.Fn c.args.callback r in
-    let due = c.is_due-due.result in
+    let due = c.nodes.due in
     let node = c.nodes.node in
     let en = c.nodes.entering in
-    let may = allowed look w post e s0 r lawful c.nodes.invariant.0 due c.nodes.state node en c.nodes.invariant.1 in
-    let made = more look w post e s0 r lawful c.nodes.invariant.0 due in
+    let below = c.goes_on-below.result in
+    let at = hop-at w (look e) r _ _ c.hop.ensures c.in-Some.next c.in-Some.enter c.in-Some.call c.in-Some.is in
+    let may = allowed look w post e s0 r lawful c.nodes.invariant.0.0 due c.nodes.state node en c.nodes.invariant.0.1 in
+    let made = more look w post e s0 r lawful c.nodes.invariant.0.0 due in
     read-smaller look w post e s0 r lawful made e e c.nodes.state c.visit.new.state node en due may.0 0 c.visit.result
-    may.1.0 c.is_due-due.ensures may.1.1 c.visit.ensures c.in-Continue.answer c.in-Continue.is _ (first_of (cc, grind arith))
-    _ c.step.ensures c.forest.ensures
-    c.in-Some.next c.in-Some.enter (first_of (cc, grind arith))
+    may.1.0 c.nodes.invariant.1 may.1.1 c.visit.ensures c.in-Continue.answer c.in-Continue.is below c.goes_on-below.ensures
+    _ (hops w (look e) r node below) c.forest.ensures c.in-Some.next c.in-Some.enter at.0
