@@ -49,10 +49,11 @@ impl SymbolTable {
         let Some(name) = symbol_name(ctx, op) else {
             return Err(SymbolTableErr::Unnamed(SymbolOpInterfaceErr));
         };
-        if self.lookup(name).is_some() {
+        let copy = name.try_clone(self.alloc)?;
+        let before = self.record_name(copy, op)?;
+        if before.is_some() {
             return Err(redefined(self.alloc, name));
         }
-        self.record_name(name.try_clone(self.alloc)?, op)?;
         Ok(())
     }
 

@@ -51,13 +51,18 @@ impl SymbolTable {
         self.names.get(name).copied()
     }
 
-    /// Records an operation under a name, in place of what was there.
-    pub(crate) fn record_name(&mut self, name: Identifier, op: Ptr<Operation>) -> Result<(), Memory>
+    /// Records an operation under a name, and answers what was recorded there before.
+    pub(crate) fn record_name(
+        &mut self,
+        name: Identifier,
+        op: Ptr<Operation>,
+    ) -> Result<Option<Ptr<Operation>>, Memory>
+        ensures before { IfOk result (λ o. o ≡ map.get self.old.names name) }
         ensures ok { OnOk result (self.new ≡ record self.old { names = map.insert self.old.names name op }) }
         ensures err { OnErr result (self.new ≡ self.old) }
     {
-        self.names.insert(name, op)?;
-        Ok(())
+        let before = self.names.insert(name, op)?;
+        Ok(before)
     }
 
     /// Takes the entry of a name out, if there is one.
