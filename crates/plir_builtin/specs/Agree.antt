@@ -14,10 +14,11 @@ module _ {K A T : Type 0} (own_symbol own_table : K → Bool) where
     pub good : IsGood own_symbol own_table s t.op
     pub names : (x : List ℕ) → map.get t.names x ≡ scan own_symbol s t.op x
 
-  -- Each cached table whose own operation is live, or that is cached for a live operation, is cached for its own operation
-  -- and agrees.
+  -- Each cached table whose own operation is live, or that is cached for a live operation, is cached for its own
+  -- operation and agrees.
   abbrev pub AllAgree : Store K A T → Tables → Type 0
-  AllAgree s c = (p : Ptr OperationKind) (t : Table) → map.get c p ≡ Some t → IsLive s (Operation t.op) ⊎ IsLive s (Operation p) → (t.op ≡ p) × Agrees s t
+  AllAgree s c = (p : Ptr OperationKind) (t : Table) → map.get c p ≡ Some t →
+      IsLive s (Operation t.op) ⊎ IsLive s (Operation p) → (t.op ≡ p) × Agrees s t
 
   -- an edit takes the context from s to s' and the table from t to t': if the table agreed, it agrees
   abbrev pub KeepsAgreement : Store K A T → Table → Store K A T → Table → Type 0
@@ -48,12 +49,13 @@ module _ {K A T : Type 0} where
   abbrev pub IsReady : Store K A T → Tables → Ptr OperationKind → Type 0
   IsReady s c p = (option_map (λ t. t.op) (map.get c p) ≡ Some p) × IsSome (body s p)
 
-  -- Each cached table is cached for an operation that was given out, and so was its own operation. (A table that is cached
-  -- for a pointer that is still to be given out would speak of an operation that is still to be made.)
+  -- Each cached table is cached for an operation that was given out, and so was its own operation. (A table that is
+  -- cached for a pointer that is still to be given out would speak of an operation that is still to be made.)
   abbrev pub AreGivenOut : Store K A T → Tables → Type 0
-  AreGivenOut s c = (p : Ptr OperationKind) (t : Table) → map.get c p ≡ Some t → (given_out s (Operation p) ≡ true) × (given_out s (Operation t.op) ≡ true)
+  AreGivenOut s c = (p : Ptr OperationKind) (t : Table) → map.get c p ≡ Some t → (given_out s (Operation p) ≡ true) ×
+      (given_out s (Operation t.op) ≡ true)
 
-  -- an edit takes the context from s to s' and the table from t to t': where all tables were cached for what was given out with
-  -- this one among them, they are with the edited one in its place
+  -- an edit takes the context from s to s' and the table from t to t': where all tables were cached for what was given
+  -- out with this one among them, they are with the edited one in its place
   abbrev pub KeepsGivenOut : Store K A T → Table → Store K A T → Table → Type 0
   KeepsGivenOut s t s' t' = (c : Tables) → AreGivenOut s (map.insert c t.op t) → AreGivenOut s' (map.insert c t.op t')

@@ -24,4 +24,5 @@ module _ {K A T : Type 0} (is_terminator own_symbol own_table : K → Bool) (s :
       × AllAgree own_symbol own_table s' c'
   IsCalled e (Err x) s' c' =
       (s' ≡ s) × (c' ≡ c)
-      × TellsOr (IsCallGrowth is_terminator own_symbol own_table s e) (IsCallRefused is_terminator own_symbol own_table s e) x
+      × TellsOr (IsCallGrowth is_terminator own_symbol own_table s e)
+      (IsCallRefused is_terminator own_symbol own_table s e) x

@@ -1,5 +1,6 @@
 -- What the builtin operations hold, and the trees that their constructors make.
-use Rattle.std.specs.Prelude.{◌≡◌, ℕ, List, [], ◌∷◌, Option, None, Some, codes, option_and_then, unwrap_or, MatchOption, slice_get}
+use Rattle.std.specs.Prelude.{◌≡◌, ℕ, List, [], ◌∷◌, Option, None, Some, codes, option_and_then, unwrap_or, MatchOption}
+use Rattle.std.specs.Prelude.{slice_get}
 use Rattle.std.specs.Prelude.{◌+◌, ◌-◌, ◌<◌, ◌≤◌, ◌^◌, ◌⊎◌}
 use Rattle.plir_data.specs.AttrView.{AttrView, leaf, identifier, type_of}
 use Rattle.plir_data.specs.AttrCalls.{attr_type}
@@ -37,8 +38,8 @@ module_attributes name = dict_put [] name_key (leaf (identifier name))
 abbrev pub func_attributes : {A : Type 0} → List ℕ → ℕ → List (List ℕ × AttrView A)
 func_attributes name ty = dict_put (dict_put [] name_key (leaf (identifier name))) func_type_key (leaf (type_of ty))
 
--- what a block holds that has a label, if it has one, arguments of these types and no attribute; so the blocks of a new module and
--- of a new function
+-- what a block holds that has a label, if it has one, arguments of these types and no attribute; so the blocks of a new
+-- module and of a new function
 abbrev pub block_view : {A : Type 0} → Option (List ℕ) → (arg_types : List ℕ) → BlockView A
 block_view label arg_types = record { label = label; arg_types = arg_types; attributes = [] }
 
@@ -58,11 +59,13 @@ HasArguments types ty arguments = (results : List ℕ) × (type_at types ty ≡ 
 
 -- the context in which a new block was made, and put last into a region
 abbrev pub with_first_block : {K A T : Type 0} → Store K A T → Ptr RegionKind → BlockView A → Store K A T
-with_first_block s region held = let u = with_block s held in with_block_last u (ptr_at u.nodes.blocks (next_slot s.nodes.blocks)) region
+with_first_block s region held = let u = with_block s held in with_block_last u
+    (ptr_at u.nodes.blocks (next_slot s.nodes.blocks)) region
 
 module _ {K A T : Type 0} where
   -- An operation has one region, which holds one block, in which nothing stands; this is what operation and block hold.
-  pub record HoldsOneBlock (s : Store K A T) (op : Ptr OperationKind) (held : OpView K A) (block_held : BlockView A) : Type 0 where
+  pub record HoldsOneBlock (s : Store K A T) (op : Ptr OperationKind) (held : OpView K A) (block_held : BlockView A) :
+      Type 0 where
     pub region : Ptr RegionKind
     pub block : Ptr BasicBlockKind
     pub holds : op_at s op ≡ Some held
@@ -71,18 +74,20 @@ module _ {K A T : Type 0} where
     pub block_holds : block_at s block ≡ Some block_held
     pub empty : kids s (BasicBlock block) ≡ []
 
-  -- From s to t an operation was made with one region, then a block, which was put into the region, and nothing else was done: so
-  -- each of the three has the next number of its kind.
+  -- From s to t an operation was made with one region, then a block, which was put into the region, and nothing else
+  -- was done: so each of the three has the next number of its kind.
   pub record IsMadeWithBlock (s t : Store K A T) (held : OpView K A) (block_held : BlockView A) : Type 0 where
     pub region : Ptr RegionKind
-    pub only_region : kids (with_op s held 1) (Operation (ptr_at (with_op s held 1).nodes.ops (next_slot s.nodes.ops))) ≡ Region region ∷ []
+    pub only_region : kids (with_op s held 1) (Operation (ptr_at (with_op s held 1).nodes.ops (next_slot s.nodes.ops)))
+        ≡ Region region ∷ []
     pub after : t ≡ with_first_block (with_op s held 1) region block_held
 
   -- a new module has a name, and its block has no label and no argument
   abbrev pub IsNewModule : Store K A T → Ptr OperationKind → (name : List ℕ) → Type 0
   IsNewModule s op name = HoldsOneBlock s op (op_view Module [] [] [] (module_attributes name)) module_block
 
-  -- a new function has a name and a type of functions, and the arguments of its block, labelled `entry`, have the types of the type's
+  -- a new function has a name and a type of functions, and the arguments of its block, labelled `entry`, have the types
+  -- of the type's
   pub record IsNewFunc (s : Store K A T) (op : Ptr OperationKind) (name : List ℕ) (ty : ℕ) : Type 0 where
     pub arguments : List ℕ
     pub typed : HasArguments s.types ty arguments
@@ -93,10 +98,13 @@ module _ {K A T : Type 0} where
   IsModuleMade s t name = IsMadeWithBlock s t (op_view Module [] [] [] (module_attributes name)) module_block
 
   abbrev pub IsFuncMade : (s t : Store K A T) → (name : List ℕ) (ty : ℕ) → Type 0
-  IsFuncMade s t name ty = (arguments : List ℕ) × (HasArguments s.types ty arguments × IsMadeWithBlock s t (op_view Func [] [] [] (func_attributes name ty)) (func_block arguments))
+  IsFuncMade s t name ty = (arguments : List ℕ) × (HasArguments s.types ty arguments ×
+      IsMadeWithBlock s t (op_view Func [] [] [] (func_attributes name ty)) (func_block arguments))
 
-  -- a new constant has a value, and one result of the value's type; `own_type` gives the type of the user's own attributes
-  pub record IsNewConstant (own_type : A → Option ℕ) (s : Store K A T) (op : Ptr OperationKind) (value : AttrView A) : Type 0 where
+  -- a new constant has a value, and one result of the value's type; `own_type` gives the type of the user's own
+  -- attributes
+  pub record IsNewConstant (own_type : A → Option ℕ) (s : Store K A T) (op : Ptr OperationKind) (value : AttrView A) :
+      Type 0 where
     pub type : ℕ
     pub typed : attr_type own_type value ≡ Some type
     pub holds : op_at s op ≡ Some (op_view Constant (type ∷ []) [] [] (dict_put [] value_key value))

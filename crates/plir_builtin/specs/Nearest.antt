@@ -25,12 +25,15 @@ module _ {K A T : Type 0} where
   abbrev pub op_over : Store K A T → Ptr OperationKind → Option (Ptr OperationKind)
   op_over s p = as_op (op_above s (Operation p))
 
-  -- the first of n, its parent operation, that one's parent operation and so on that is of table kind, or none of them is
+  -- the first of n, its parent operation, that one's parent operation and so on that is of table kind, or none of them
+  -- is
   abbrev pub IsNearest : (own_table : K → Bool) → Store K A T → Ptr OperationKind → Option (Ptr OperationKind) → Type 0
   IsNearest own_table s n (Some t) =
       (k : ℕ) × (climb (op_over s) k (Some n) ≡ Some t) × (is_table_kind own_table (kind_in (op_at s t)) ≡ true)
-      × ((j : ℕ) (u : Ptr OperationKind) → j < k → climb (op_over s) j (Some n) ≡ Some u → is_table_kind own_table (kind_in (op_at s u)) ≡ false)
-  IsNearest own_table s n None = (j : ℕ) (u : Ptr OperationKind) → climb (op_over s) j (Some n) ≡ Some u → is_table_kind own_table (kind_in (op_at s u)) ≡ false
+      × ((j : ℕ) (u : Ptr OperationKind) → j < k → climb (op_over s) j (Some n) ≡ Some u →
+      is_table_kind own_table (kind_in (op_at s u)) ≡ false)
+  IsNearest own_table s n None = (j : ℕ) (u : Ptr OperationKind) → climb (op_over s) j (Some n) ≡ Some u →
+      is_table_kind own_table (kind_in (op_at s u)) ≡ false
 
 -- how far it is up
 abbrev pub levels_up : (IRNode → ℕ) → Option (Ptr OperationKind) → ℕ
@@ -44,11 +47,13 @@ module _ {K A T : Type 0} (own_symbol own_table : K → Bool) (s : Store K A T) 
       (t : Option (Ptr OperationKind)) × IsNearest own_table s n t × IfSome t (IsGood own_symbol own_table s)
       × (r ≡ option_and_then (λ p. scan own_symbol s p x) t)
 
-  -- what a look-up of the name x in that table answers, and the cached tables before and afterwards: the table is cached, as
-  -- it was or newly, and what it has recorded under the name is answered; without a table nothing is found, nor changed
+  -- what a look-up of the name x in that table answers, and the cached tables before and afterwards: the table is
+  -- cached, as it was or newly, and what it has recorded under the name is answered; without a table nothing is found,
+  -- nor changed
   abbrev pub IsAnswerOf : (c c' : Tables) → List ℕ → Option (Ptr OperationKind) → Option (Ptr OperationKind) → Type 0
   IsAnswerOf c c' x None r = (r ≡ None) × (c' ≡ c)
-  IsAnswerOf c c' x (Some p) r = IsBrought own_symbol own_table s c p c' × IfSome (map.get c' p) (λ t. r ≡ map.get t.names x)
+  IsAnswerOf c c' x (Some p) r = IsBrought own_symbol own_table s c p c' ×
+      IfSome (map.get c' p) (λ t. r ≡ map.get t.names x)
 
   -- the same for the nearest table of n
   abbrev pub IsAnsweredNearest : (c c' : Tables) → Ptr OperationKind → List ℕ → Option (Ptr OperationKind) → Type 0

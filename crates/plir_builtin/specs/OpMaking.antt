@@ -10,7 +10,8 @@ use Rattle.plir_core.specs.Grown.{IsGrown}
 use Rattle.plir_core.specs.Store.{Store, IsLive, kids, parent_of, op_at, block_at}
 use Rattle.plir_builtin.specs.BuiltinOps.{with_first_block}
 
--- From s to t the one region of an operation, in which nothing stood, has got a new block, and nothing else has changed.
+-- From s to t the one region of an operation, in which nothing stood, has got a new block, and nothing else has
+-- changed.
 pub record GivesBlock {K A T : Type 0} (s t : Store K A T) (op : Ptr OperationKind) (held : BlockView A) : Type 0 where
   pub region : Ptr RegionKind
   pub block : Ptr BasicBlockKind

@@ -11,7 +11,8 @@ use Rattle.plir_builtin.specs.Symbols.{HasSymbolName}
 
 module _ {K A T : Type 0} where
   -- a module: one region with one block, a symbol table that is right, a name, no operand and no result
-  pub record HasModuleRules (own_symbol own_table own_user : K → Bool) (uses_hold : Store K A T → Ptr OperationKind → Type 0) (s : Store K A T) (op : Ptr OperationKind) : Type 0 where
+  pub record HasModuleRules (own_symbol own_table own_user : K → Bool)
+      (uses_hold : Store K A T → Ptr OperationKind → Type 0) (s : Store K A T) (op : Ptr OperationKind) : Type 0 where
     pub one_region : HasNRegions 1 s op
     pub single_blocks : HasSingleBlocks s op
     pub table : HasTableRule own_symbol own_table own_user uses_hold s op

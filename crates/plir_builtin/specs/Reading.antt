@@ -5,7 +5,8 @@ use Rattle.plir_core.specs.declared.ptr.Ptr.{Ptr}
 use Rattle.plir_core.specs.declared.ptr.Operation.{Operation as OperationKind}
 use Rattle.plir_builtin.specs.Table.{Table}
 use Rattle.plir_builtin.specs.Symbols.{Symbols, find_named, AllNamed, NamesDiffer}
-use Rattle.plir_builtin.specs.Refusals.{Refusal, unnamed, redefined, no_table, regions, blocks, no_symbol, elsewhere, outside, not_there, IsUnnamedFirst, IsRepeatedAt}
+use Rattle.plir_builtin.specs.Refusals.{Refusal, unnamed, redefined, no_table, regions, blocks, no_symbol, elsewhere}
+use Rattle.plir_builtin.specs.Refusals.{outside, not_there, IsUnnamedFirst, IsRepeatedAt}
 
 -- the table has the symbols es, all named and no two alike
 pub record IsRead (es : Symbols) (t : Table) : Type 0 where

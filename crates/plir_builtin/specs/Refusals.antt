@@ -1,5 +1,6 @@
 -- Why a table refuses.
-use Rattle.std.specs.Prelude.{◌≡◌, ◌≢◌, ℕ, Bool, true, false, List, ◌∷◌, ◌++◌, length, Option, Some, None, IsSome, IfSome, ◌⊎◌, string_bytes}
+use Rattle.std.specs.Prelude.{◌≡◌, ◌≢◌, ℕ, Bool, true, false, List, ◌∷◌, ◌++◌, length, Option, Some, None, IsSome}
+use Rattle.std.specs.Prelude.{IfSome, ◌⊎◌, string_bytes}
 use Rattle.plir_core.specs.declared.ptr.Ptr.{Ptr}
 use Rattle.plir_core.specs.declared.ptr.Operation.{Operation as OperationKind}
 use Rattle.plir_core.specs.declared.ptr.IRNode.TheVariants.{Operation}
@@ -8,7 +9,8 @@ use Rattle.plir_core.specs.InsertionPoint.{insertion_block}
 use Rattle.plir_core.specs.Store.{Store, kids, parent_of, op_at, kind_in}
 use Rattle.plir_builtin.specs.declared.symbol_table_err.SymbolTableErr.{SymbolTableErr}
 use Rattle.plir_builtin.specs.declared.symbol_table_err.SymbolTableErr.TheVariants as E
-use Rattle.plir_builtin.specs.Symbols.{Symbols, is_symbol_kind, is_table_kind, name_held, find_named, body, symbols, AllNamed, NamesDiffer}
+use Rattle.plir_builtin.specs.Symbols.{Symbols, is_symbol_kind, is_table_kind, name_held, find_named, body, symbols}
+use Rattle.plir_builtin.specs.Symbols.{AllNamed, NamesDiffer}
 
 -- A refusal, with the numbers and the names that it tells: how many regions are wanted and there, the symbol's name.
 pub data Refusal : Type 0 where
@@ -61,12 +63,16 @@ module _ {K A T : Type 0} (own_symbol : K → Bool) (s : Store K A T) where
   IsNotOthers find o x = (q : Ptr OperationKind) → find x ≡ Some q → q ≡ o
 
   -- an insertion into the body of t is refused, where `find` tells which operation a name is recorded for
-  abbrev pub InsertRefused : (find : List ℕ → Option (Ptr OperationKind)) (t o : Ptr OperationKind) → Option OpInsertionPoint → Refusal → Type 0
+  abbrev pub InsertRefused : (find : List ℕ → Option (Ptr OperationKind)) (t o : Ptr OperationKind) →
+      Option OpInsertionPoint → Refusal → Type 0
   InsertRefused find t o p no_symbol = is_symbol_kind own_symbol (kind_in (op_at s o)) ≡ false
-  InsertRefused find t o p unnamed = (is_symbol_kind own_symbol (kind_in (op_at s o)) ≡ true) × (name_held (op_at s o) ≡ None)
+  InsertRefused find t o p unnamed = (is_symbol_kind own_symbol (kind_in (op_at s o)) ≡ true) ×
+      (name_held (op_at s o) ≡ None)
   InsertRefused find t o p (redefined x) = IsSymbolNamed o x × ((q : Ptr OperationKind) × (find x ≡ Some q) × (q ≢ o))
-  InsertRefused find t o p (elsewhere x) = IsSymbolNamed o x × IsNotOthers find o x × IsSome (parent_of s (Operation o)) × (parent_of s (Operation o) ≢ body s t)
-  InsertRefused find t o p outside = ((x : List ℕ) × IsSymbolNamed o x × IsNotOthers find o x) × (parent_of s (Operation o) ≡ None) × ((q : OpInsertionPoint) × (p ≡ Some q) × (insertion_block s q ≢ body s t))
+  InsertRefused find t o p (elsewhere x) = IsSymbolNamed o x × IsNotOthers find o x ×
+      IsSome (parent_of s (Operation o)) × (parent_of s (Operation o) ≢ body s t)
+  InsertRefused find t o p outside = ((x : List ℕ) × IsSymbolNamed o x × IsNotOthers find o x) ×
+      (parent_of s (Operation o) ≡ None) × ((q : OpInsertionPoint) × (p ≡ Some q) × (insertion_block s q ≢ body s t))
   InsertRefused find t o p no_table = ⊥
   InsertRefused find t o p (regions m n) = ⊥
   InsertRefused find t o p blocks = ⊥
@@ -74,24 +80,30 @@ module _ {K A T : Type 0} (own_symbol : K → Bool) (s : Store K A T) where
 
   -- it stands in the body, or in no block and is put at a point there
   abbrev pub IsPlaceable : (t o : Ptr OperationKind) → Option OpInsertionPoint → Type 0
-  IsPlaceable t o p = (parent_of s (Operation o) ≡ body s t) ⊎ ((parent_of s (Operation o) ≡ None) × ((q : OpInsertionPoint) → p ≡ Some q → insertion_block s q ≡ body s t))
+  IsPlaceable t o p = (parent_of s (Operation o) ≡ body s t) ⊎
+      ((parent_of s (Operation o) ≡ None) × ((q : OpInsertionPoint) → p ≡ Some q → insertion_block s q ≡ body s t))
 
-  -- An insertion into the body of t needs memory: the operation is a symbol with a name, and either its refusal tells that name,
-  -- or nothing refuses it, and the name is recorded.
-  abbrev pub IsInsertGrowth : (find : List ℕ → Option (Ptr OperationKind)) (t o : Ptr OperationKind) → Option OpInsertionPoint → Type 0
+  -- An insertion into the body of t needs memory: the operation is a symbol with a name, and either its refusal tells
+  -- that name, or nothing refuses it, and the name is recorded.
+  abbrev pub IsInsertGrowth : (find : List ℕ → Option (Ptr OperationKind)) (t o : Ptr OperationKind) →
+      Option OpInsertionPoint → Type 0
   IsInsertGrowth find t o p =
       (x : List ℕ) × IsSymbolNamed o x
-      × (InsertRefused find t o p (redefined x) ⊎ (InsertRefused find t o p (elsewhere x) ⊎ (IsNotOthers find o x × IsPlaceable t o p)))
+      × (InsertRefused find t o p (redefined x) ⊎ (InsertRefused find t o p (elsewhere x) ⊎
+      (IsNotOthers find o x × IsPlaceable t o p)))
 
   -- an insertion is refused: as its order says, or for want of memory where it needs some
-  abbrev pub IsInsertErr : (find : List ℕ → Option (Ptr OperationKind)) (t o : Ptr OperationKind) → Option OpInsertionPoint → SymbolTableErr → Type 0
+  abbrev pub IsInsertErr : (find : List ℕ → Option (Ptr OperationKind)) (t o : Ptr OperationKind) →
+      Option OpInsertionPoint → SymbolTableErr → Type 0
   IsInsertErr find t o p = TellsOr (IsInsertGrowth find t o p) (InsertRefused find t o p)
 
   -- a removal from the body of t is refused
   abbrev pub RemoveRefused : (t o : Ptr OperationKind) → Refusal → Type 0
   RemoveRefused t o no_symbol = is_symbol_kind own_symbol (kind_in (op_at s o)) ≡ false
-  RemoveRefused t o not_there = (is_symbol_kind own_symbol (kind_in (op_at s o)) ≡ true) × (parent_of s (Operation o) ≢ body s t)
-  RemoveRefused t o unnamed = (is_symbol_kind own_symbol (kind_in (op_at s o)) ≡ true) × (parent_of s (Operation o) ≡ body s t) × (name_held (op_at s o) ≡ None)
+  RemoveRefused t o not_there = (is_symbol_kind own_symbol (kind_in (op_at s o)) ≡ true) ×
+      (parent_of s (Operation o) ≢ body s t)
+  RemoveRefused t o unnamed = (is_symbol_kind own_symbol (kind_in (op_at s o)) ≡ true) ×
+      (parent_of s (Operation o) ≡ body s t) × (name_held (op_at s o) ≡ None)
   RemoveRefused t o (redefined x) = ⊥
   RemoveRefused t o (elsewhere x) = ⊥
   RemoveRefused t o outside = ⊥
@@ -101,11 +113,13 @@ module _ {K A T : Type 0} (own_symbol : K → Bool) (s : Store K A T) where
 
 -- the first symbol with which a list of symbols is no longer named and apart
 abbrev pub IsUnnamedFirst : Symbols → Type 0
-IsUnnamedFirst es = (front : Symbols) × (o : Ptr OperationKind) × (back : Symbols) × (es ≡ front ++ (o, None) ∷ back) × AllNamed front × NamesDiffer front
+IsUnnamedFirst es = (front : Symbols) × (o : Ptr OperationKind) × (back : Symbols) × (es ≡ front ++ (o, None) ∷ back) ×
+    AllNamed front × NamesDiffer front
 
 -- the same for a name, and that symbol is o
 abbrev pub IsRepeatedAt : List ℕ → Ptr OperationKind → Symbols → Type 0
-IsRepeatedAt x o es = (front : Symbols) × (back : Symbols) × (es ≡ front ++ (o, Some x) ∷ back) × AllNamed front × NamesDiffer front × IsSome (find_named x front)
+IsRepeatedAt x o es = (front : Symbols) × (back : Symbols) × (es ≡ front ++ (o, Some x) ∷ back) × AllNamed front ×
+    NamesDiffer front × IsSome (find_named x front)
 
 abbrev pub IsRepeatedFirst : List ℕ → Symbols → Type 0
 IsRepeatedFirst x es = (o : Ptr OperationKind) × IsRepeatedAt x o es
@@ -129,8 +143,10 @@ module _ {K A T : Type 0} (own_symbol own_table : K → Bool) (s : Store K A T) 
   TableRefused t no_table = is_table_kind own_table (kind_in (op_at s t)) ≡ false
   TableRefused t (regions m n) = (is_table_kind own_table (kind_in (op_at s t)) ≡ true) × BodyRefused s t (regions m n)
   TableRefused t blocks = (is_table_kind own_table (kind_in (op_at s t)) ≡ true) × BodyRefused s t blocks
-  TableRefused t unnamed = (is_table_kind own_table (kind_in (op_at s t)) ≡ true) × IsSome (body s t) × IsUnnamedFirst (symbols own_symbol s t)
-  TableRefused t (redefined x) = (is_table_kind own_table (kind_in (op_at s t)) ≡ true) × IsSome (body s t) × IsRepeatedFirst x (symbols own_symbol s t)
+  TableRefused t unnamed = (is_table_kind own_table (kind_in (op_at s t)) ≡ true) × IsSome (body s t) ×
+      IsUnnamedFirst (symbols own_symbol s t)
+  TableRefused t (redefined x) = (is_table_kind own_table (kind_in (op_at s t)) ≡ true) × IsSome (body s t) ×
+      IsRepeatedFirst x (symbols own_symbol s t)
   TableRefused t no_symbol = ⊥
   TableRefused t (elsewhere x) = ⊥
   TableRefused t outside = ⊥

@@ -1,4 +1,5 @@
--- What an edit of symbols answers, and the context afterwards, by scans of the bodies; and which tables are then cached.
+-- What an edit of symbols answers, and the context afterwards, by scans of the bodies; and which tables are then
+-- cached.
 use Rattle.std.specs.Prelude.{◌≡◌, ℕ, Bool, List, [], ◌∷◌, Option, Some, None, Result, Ok, Err, IfSome, ◌⊎◌}
 use Rattle.std.specs.FinMap as map
 use Rattle.plir_core.specs.declared.ptr.Ptr.{Ptr}
@@ -16,7 +17,8 @@ use Rattle.plir_builtin.specs.Table.{Tables, Table as CachedTable}
 use Rattle.plir_builtin.specs.Symbols.{IsGood, body, scan}
 use Rattle.plir_builtin.specs.Agree.{AllAgree, IsBrought}
 use Rattle.plir_builtin.specs.Insertion.{inserted}
-use Rattle.plir_builtin.specs.Refusals.{Refusal, told, IsSymbolNamed, IsNotOthers, IsPlaceable, IsInsertGrowth, InsertRefused, RemoveRefused, TableRefused}
+use Rattle.plir_builtin.specs.Refusals.{Refusal, told, IsSymbolNamed, IsNotOthers, IsPlaceable, IsInsertGrowth}
+use Rattle.plir_builtin.specs.Refusals.{InsertRefused, RemoveRefused, TableRefused}
 
 -- the operation of the table that is edited
 abbrev pub table_of : SymbolEdit → Ptr OperationKind
@@ -38,14 +40,16 @@ module _ {K A T : Type 0} (is_terminator own_symbol own_table : K → Bool) (s :
   -- the edit is made: its conditions hold, and this is the context afterwards
   abbrev pub IsMadeEdit : SymbolEdit → Store K A T → Type 0
   IsMadeEdit (Insert t o p) s' =
-      (IsAncestor s (Operation o) (Operation t) → ⊥) × ((x : List ℕ) × IsSymbolNamed own_symbol s o x × IsNotOthers own_symbol s (scan own_symbol s t) o x) × IsPlaceable own_symbol s t o p
+      (IsAncestor s (Operation o) (Operation t) → ⊥) × ((x : List ℕ) × IsSymbolNamed own_symbol s o x ×
+      IsNotOthers own_symbol s (scan own_symbol s t) o x) × IsPlaceable own_symbol s t o p
       × (s' ≡ inserted is_terminator s t o p)
   IsMadeEdit (Remove t o) s' = IsMember t o × (s' ≡ with_op_unlinked s o)
   IsMadeEdit (Erase t o) s' = IsMember t o × IsUnusedOutside s (Operation o) × (s' ≡ without_tree s (Operation o))
 
   -- the call on the table refuses
   abbrev pub IsCallRefused : SymbolEdit → Refusal → Type 0
-  IsCallRefused (Insert t o p) r = (IsAncestor s (Operation o) (Operation t) → ⊥) × InsertRefused own_symbol s (scan own_symbol s t) t o p r
+  IsCallRefused (Insert t o p) r = (IsAncestor s (Operation o) (Operation t) → ⊥) ×
+      InsertRefused own_symbol s (scan own_symbol s t) t o p r
   IsCallRefused (Remove t o) r = RemoveRefused own_symbol s t o r
   IsCallRefused (Erase t o) r = RemoveRefused own_symbol s t o r
 
@@ -62,13 +66,14 @@ module _ {K A T : Type 0} (is_terminator own_symbol own_table : K → Bool) (s :
 
   -- the call on the table needs memory: an insertion alone does
   abbrev pub IsCallGrowth : SymbolEdit → Type 0
-  IsCallGrowth (Insert t o p) = (IsAncestor s (Operation o) (Operation t) → ⊥) × IsInsertGrowth own_symbol s (scan own_symbol s t) t o p
+  IsCallGrowth (Insert t o p) = (IsAncestor s (Operation o) (Operation t) → ⊥) ×
+      IsInsertGrowth own_symbol s (scan own_symbol s t) t o p
   IsCallGrowth (Remove t o) = ⊥
   IsCallGrowth (Erase t o) = ⊥
 
   module _ (c : Tables) where
-    -- what a table tells that refuses an edit: that it is not good, or what the call refuses; it is refused memory where no table
-    -- was cached, or where the call needs some
+    -- what a table tells that refuses an edit: that it is not good, or what the call refuses; it is refused memory
+    -- where no table was cached, or where the call needs some
     abbrev pub IsTableToldFor : SymbolEdit → Option Refusal → Type 0
     IsTableToldFor e (Some r) =
         TableRefused own_symbol own_table s (table_of e) r
@@ -76,20 +81,21 @@ module _ {K A T : Type 0} (is_terminator own_symbol own_table : K → Bool) (s :
     IsTableToldFor e None =
         (map.get c (table_of e) ≡ None) ⊎ (IsGood own_symbol own_table s (table_of e) × IsCallGrowth e)
 
-    -- Why an edit is refused: something that it names is dead; else the table is not good; else it would nest; else the call
-    -- on the table refuses; else the operation is still used.
+    -- Why an edit is refused: something that it names is dead; else the table is not good; else it would nest; else the
+    -- call on the table refuses; else the operation is still used.
     abbrev pub IsRefusedEdit : SymbolEdit → SymbolEditErr → Type 0
     IsRefusedEdit e DeadPointer = IsEditLive e → ⊥
     IsRefusedEdit e WouldNest = IsEditLive e × IsGood own_symbol own_table s (table_of e) × IsNesting e
     IsRefusedEdit e StillUsed = IsEditLive e × IsGood own_symbol own_table s (table_of e) × IsStillUsed e
     IsRefusedEdit e (Table x) = IsEditLive e × IsTableToldFor e (told x)
 
-    -- Where an edit is refused, each table that was cached stays as it was; for the edited one a new table may be cached.
+    -- Where an edit is refused, each table that was cached stays as it was; for the edited one a new table may be
+    -- cached.
     abbrev pub IsAtMostBrought : SymbolEdit → Tables → Type 0
     IsAtMostBrought e c' = (c' ≡ c) ⊎ IsBrought own_symbol own_table s c (table_of e) c'
 
-    -- what an edit answers, and the context and the cached tables afterwards: where it is made, the edited table is cached, and
-    -- all else is cached as it was
+    -- what an edit answers, and the context and the cached tables afterwards: where it is made, the edited table is
+    -- cached, and all else is cached as it was
     abbrev pub IsEdited : SymbolEdit → Result (Unit {0}) SymbolEditErr → Store K A T → Tables → Type 0
     IsEdited e (Ok u) s' c' =
         IsEditLive e × IsGood own_symbol own_table s (table_of e) × IsMadeEdit e s'
@@ -101,11 +107,13 @@ module _ {K A T : Type 0} (is_terminator own_symbol own_table : K → Bool) (s :
     IsStep e r s' c' = IsEdited e r s' c' × AllAgree own_symbol own_table s' c'
 
 module _ {K A T : Type 0} (is_terminator own_symbol own_table : K → Bool) where
-  -- The answers to edits one after another, from a context and its cached tables to those afterwards: each edit goes on from
-  -- what the one before it left, and after each of them all tables agree.
-  abbrev pub AreEdited : Store K A T → Tables → List SymbolEdit → List (Result (Unit {0}) SymbolEditErr) → Store K A T → Tables → Type 0
+  -- The answers to edits one after another, from a context and its cached tables to those afterwards: each edit goes on
+  -- from what the one before it left, and after each of them all tables agree.
+  abbrev pub AreEdited : Store K A T → Tables → List SymbolEdit → List (Result (Unit {0}) SymbolEditErr) →
+      Store K A T → Tables → Type 0
   AreEdited s c [] [] s' c' = (s' ≡ s) × (c' ≡ c)
   AreEdited s c [] (r ∷ rs) s' c' = ⊥
   AreEdited s c (e ∷ es) [] s' c' = ⊥
   AreEdited s c (e ∷ es) (r ∷ rs) s' c' =
-      (m : Store K A T) × (d : Tables) × IsStep is_terminator own_symbol own_table s c e r m d × AreEdited m d es rs s' c'
+      (m : Store K A T) × (d : Tables) × IsStep is_terminator own_symbol own_table s c e r m d ×
+      AreEdited m d es rs s' c'

@@ -13,7 +13,8 @@ use Rattle.plir_core.specs.Store.{Store, kids, kind_of, location_of}
 use Rattle.plir_walk.specs.declared.config.TheConstants.{WALKCONFIG_PREORDER_FORWARD as pre_forward}
 use Rattle.plir_walk.specs.Tree.{Tree, IsProperlyUnder, NodeBefore}
 use Rattle.plir_builtin.specs.declared.symbol_table_op.SymbolTableInterfaceErr.{SymbolTableInterfaceErr}
-use Rattle.plir_builtin.specs.declared.symbol_table_op.SymbolTableInterfaceErr.TheVariants.{SymbolRedefined, Unnamed, Use}
+use Rattle.plir_builtin.specs.declared.symbol_table_op.SymbolTableInterfaceErr.TheVariants.{SymbolRedefined, Unnamed}
+use Rattle.plir_builtin.specs.declared.symbol_table_op.SymbolTableInterfaceErr.TheVariants.{Use}
 use Rattle.plir_builtin.specs.Symbols.{IsGood, symbols}
 use Rattle.plir_builtin.specs.Refusals.{IsUnnamedFirst, IsRepeatedAt}
 use Rattle.std.specs.declared.ops.ControlFlow.{ControlFlow}

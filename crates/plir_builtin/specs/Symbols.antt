@@ -1,5 +1,6 @@
 -- Symbols: the operations in the body of a table that have names, and what is said of them by scans.
-use Rattle.std.specs.Prelude.{◌≡◌, ℕ, Bool, true, false, cond, List, [], ◌∷◌, Option, Some, None, IsSome, option_and_then, codes}
+use Rattle.std.specs.Prelude.{◌≡◌, ℕ, Bool, true, false, cond, List, [], ◌∷◌, Option, Some, None, IsSome}
+use Rattle.std.specs.Prelude.{option_and_then, codes}
 use Rattle.plir_data.specs.AttrView.{AttrView, leaf, identifier}
 use Rattle.plir_data.specs.Dictionary.{dict_get, dict_put, is_key}
 use Rattle.plir_data.specs.declared.op_set.OpKind.{OpKind}
@@ -44,16 +45,19 @@ module _ {K A T : Type 0} where
 
   -- the context with another name for an operation
   abbrev pub with_symbol_name : Store K A T → Ptr OperationKind → List ℕ → Store K A T
-  with_symbol_name s p x = with_op_edit s p (λ o. record o { attributes = dict_put o.attributes symbol_key (leaf (identifier x)) })
+  with_symbol_name s p x = with_op_edit s p (λ o. record o
+      { attributes = dict_put o.attributes symbol_key (leaf (identifier x)) })
 
 -- symbols in order, each with its name or without one
 abbrev pub Symbols : Type 0
 Symbols = List (Ptr OperationKind × Option (List ℕ))
 
 -- the symbols among nodes, where `holds` gives what operations hold
-abbrev pub symbols_among : {K A : Type 0} → (own : K → Bool) → (holds : Ptr OperationKind → Option (OpView K A)) → List IRNode → Symbols
+abbrev pub symbols_among : {K A : Type 0} → (own : K → Bool) → (holds : Ptr OperationKind → Option (OpView K A)) →
+    List IRNode → Symbols
 symbols_among own holds [] = []
-symbols_among own holds (Operation p ∷ ns) = cond (is_symbol_kind own (kind_in (holds p))) ((p, name_held (holds p)) ∷ symbols_among own holds ns) (symbols_among own holds ns)
+symbols_among own holds (Operation p ∷ ns) = cond (is_symbol_kind own (kind_in (holds p)))
+    ((p, name_held (holds p)) ∷ symbols_among own holds ns) (symbols_among own holds ns)
 symbols_among own holds (Region p ∷ ns) = symbols_among own holds ns
 symbols_among own holds (BasicBlock p ∷ ns) = symbols_among own holds ns
 

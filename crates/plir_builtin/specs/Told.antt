@@ -10,7 +10,8 @@ IsRefusalToldAs R Memory Memory = Unit {0}
 IsRefusalToldAs R _ _ = ⊥
 
 -- the same of answers: what is accepted stays so
-abbrev pub IsToldAs : {A B : Type 0} → (R : A → B → Type 0) → Result (Unit {0}) (VerifyErr A) → Result (Unit {0}) (VerifyErr B) → Type 0
+abbrev pub IsToldAs : {A B : Type 0} → (R : A → B → Type 0) → Result (Unit {0}) (VerifyErr A) →
+    Result (Unit {0}) (VerifyErr B) → Type 0
 IsToldAs R (Ok u) (Ok v) = Unit {0}
 IsToldAs R (Err v) (Err w) = IsRefusalToldAs R v w
 IsToldAs R _ _ = ⊥

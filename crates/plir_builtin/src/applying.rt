@@ -1,5 +1,6 @@
 //! Edits of symbols over cached tables, one after another.
-ghost use Rattle.std.specs.Prelude.{◌≡◌, Some, None, IfOk, IfErr, IfSome, IsSome, IsTrue, OnOk, OnErr, ◌↔◌, true, false};
+ghost use Rattle.std.specs.Prelude.{◌≡◌, Some, None, IfOk, IfErr, IfSome, IsSome, IsTrue, OnOk, OnErr, ◌↔◌, true};
+ghost use Rattle.std.specs.Prelude.{false};
 ghost use Rattle.std.specs.FinMap as map;
 ghost use Rattle.plir_core.specs.declared.ptr.IRNode.{IRNode as AnyNode};
 ghost use Rattle.plir_core.specs.InsertionPoint.{IsPointLive};
@@ -19,8 +20,8 @@ use plir_core::{Context, IRNode, OpInsertionPoint, Operation, Ptr};
 use plir_data::{Memory, OpSet};
 
 impl SymbolTableCollection {
-    /// Whether the table that is cached for an operation is its own, and the operation has a body. Where all tables agree, that is
-    /// so for each that is cached for a live operation.
+    /// Whether the table that is cached for an operation is its own, and the operation has a body. Where all tables
+    /// agree, that is so for each that is cached for a live operation.
     fn is_ready<D: OpSet>(&self, ctx: &Context<D>, op: Ptr<Operation>) -> bool
         requires { IsLive ctx.now (AnyNode.Operation op) }
         ensures { IsTrue result ↔ IsReady ctx.now self.now op }
@@ -40,7 +41,8 @@ impl SymbolTableCollection {
         requires { IsLive ctx.now (AnyNode.Operation op) }
         ensures ready { OnOk result (IsReady ctx.now self.new op) }
         ensures brought { OnOk result (IsBrought D.is_symbol D.is_symbol_table ctx.now self.old op self.new) }
-        ensures seen { AllAgree D.is_symbol D.is_symbol_table ctx.now self.old → IsSeenTo D.is_terminator D.is_symbol D.is_symbol_table ctx.now self.old op result self.new }
+        ensures seen { AllAgree D.is_symbol D.is_symbol_table ctx.now self.old →
+            IsSeenTo D.is_terminator D.is_symbol D.is_symbol_table ctx.now self.old op result self.new }
         ensures given { AreGivenOut ctx.now self.old → AreGivenOut ctx.now self.new }
     {
         self.bring(ctx, op)?;
@@ -63,7 +65,9 @@ impl SymbolTableCollection {
         requires point_live { IfSome point (IsPointLive ctx.old) }
         requires ready { IsReady ctx.old self.old table }
         requires not_above { IsAncestor ctx.old (AnyNode.Operation op) (AnyNode.Operation table) → ⊥ }
-        ensures called { AllAgree D.is_symbol D.is_symbol_table ctx.old self.old → IsCalled D.is_terminator D.is_symbol D.is_symbol_table ctx.old self.old (Edit.Insert table op point) result ctx.new self.new }
+        ensures called { AllAgree D.is_symbol D.is_symbol_table ctx.old self.old →
+            IsCalled D.is_terminator D.is_symbol D.is_symbol_table ctx.old self.old (Edit.Insert table op point) result
+            ctx.new self.new }
         ensures given { AreGivenOut ctx.old self.old → AreGivenOut ctx.new self.new }
     {
         match self.cached(table) {
@@ -82,7 +86,9 @@ impl SymbolTableCollection {
         requires table_live { IsLive ctx.old (AnyNode.Operation table) }
         requires op_live { IsLive ctx.old (AnyNode.Operation op) }
         requires ready { IsReady ctx.old self.old table }
-        ensures called { AllAgree D.is_symbol D.is_symbol_table ctx.old self.old → IsCalled D.is_terminator D.is_symbol D.is_symbol_table ctx.old self.old (Edit.Remove table op) result ctx.new self.new }
+        ensures called { AllAgree D.is_symbol D.is_symbol_table ctx.old self.old →
+            IsCalled D.is_terminator D.is_symbol D.is_symbol_table ctx.old self.old (Edit.Remove table op) result
+            ctx.new self.new }
         ensures given { AreGivenOut ctx.old self.old → AreGivenOut ctx.new self.new }
     {
         match self.cached(table) {
@@ -102,7 +108,9 @@ impl SymbolTableCollection {
         requires op_live { IsLive ctx.old (AnyNode.Operation op) }
         requires ready { IsReady ctx.old self.old table }
         requires unused { IsUnusedOutside ctx.old (AnyNode.Operation op) }
-        ensures called { AllAgree D.is_symbol D.is_symbol_table ctx.old self.old → IsCalled D.is_terminator D.is_symbol D.is_symbol_table ctx.old self.old (Edit.Erase table op) result ctx.new self.new }
+        ensures called { AllAgree D.is_symbol D.is_symbol_table ctx.old self.old →
+            IsCalled D.is_terminator D.is_symbol D.is_symbol_table ctx.old self.old (Edit.Erase table op) result
+            ctx.new self.new }
         ensures given { AreGivenOut ctx.old self.old → AreGivenOut ctx.new self.new }
     {
         match self.cached(table) {
@@ -143,7 +151,9 @@ impl SymbolTableCollection {
         op: Ptr<Operation>,
         point: Option<OpInsertionPoint>,
     ) -> Result<(), SymbolEditErr>
-        ensures step { AllAgree D.is_symbol D.is_symbol_table ctx.old self.old → IsStep D.is_terminator D.is_symbol D.is_symbol_table ctx.old self.old (Edit.Insert table op point) result ctx.new self.new }
+        ensures step { AllAgree D.is_symbol D.is_symbol_table ctx.old self.old →
+            IsStep D.is_terminator D.is_symbol D.is_symbol_table ctx.old self.old (Edit.Insert table op point) result
+            ctx.new self.new }
         ensures given { AreGivenOut ctx.old self.old → AreGivenOut ctx.new self.new }
     {
         if !are_live(ctx, table, op) {
@@ -170,7 +180,9 @@ impl SymbolTableCollection {
         table: Ptr<Operation>,
         op: Ptr<Operation>,
     ) -> Result<(), SymbolEditErr>
-        ensures step { AllAgree D.is_symbol D.is_symbol_table ctx.old self.old → IsStep D.is_terminator D.is_symbol D.is_symbol_table ctx.old self.old (Edit.Remove table op) result ctx.new self.new }
+        ensures step { AllAgree D.is_symbol D.is_symbol_table ctx.old self.old →
+            IsStep D.is_terminator D.is_symbol D.is_symbol_table ctx.old self.old (Edit.Remove table op) result ctx.new
+            self.new }
         ensures given { AreGivenOut ctx.old self.old → AreGivenOut ctx.new self.new }
     {
         if !are_live(ctx, table, op) {
@@ -191,7 +203,9 @@ impl SymbolTableCollection {
         table: Ptr<Operation>,
         op: Ptr<Operation>,
     ) -> Result<(), SymbolEditErr>
-        ensures step { AllAgree D.is_symbol D.is_symbol_table ctx.old self.old → IsStep D.is_terminator D.is_symbol D.is_symbol_table ctx.old self.old (Edit.Erase table op) result ctx.new self.new }
+        ensures step { AllAgree D.is_symbol D.is_symbol_table ctx.old self.old →
+            IsStep D.is_terminator D.is_symbol D.is_symbol_table ctx.old self.old (Edit.Erase table op) result ctx.new
+            self.new }
         ensures given { AreGivenOut ctx.old self.old → AreGivenOut ctx.new self.new }
     {
         if !are_live(ctx, table, op) {
@@ -218,7 +232,8 @@ impl SymbolTableCollection {
         ctx: &mut Context<D>,
         edit: SymbolEdit,
     ) -> Result<(), SymbolEditErr>
-        ensures step { AllAgree D.is_symbol D.is_symbol_table ctx.old self.old → IsStep D.is_terminator D.is_symbol D.is_symbol_table ctx.old self.old edit result ctx.new self.new }
+        ensures step { AllAgree D.is_symbol D.is_symbol_table ctx.old self.old →
+            IsStep D.is_terminator D.is_symbol D.is_symbol_table ctx.old self.old edit result ctx.new self.new }
         ensures given { AreGivenOut ctx.old self.old → AreGivenOut ctx.new self.new }
     {
         match edit {
@@ -228,16 +243,19 @@ impl SymbolTableCollection {
         }
     }
 
-    /// Makes edits one after another and answers each. `Memory` comes before the first edit. While all tables agree, each edit is
-    /// answered and made as scans of the bodies say, whatever is cached, and all tables agree after it. A refused edit changes no
-    /// node and no table that was cached; its own table may have been newly cached.
+    /// Makes edits one after another and answers each. `Memory` comes before the first edit. While all tables agree,
+    /// each edit is answered and made as scans of the bodies say, whatever is cached, and all tables agree after it. A
+    /// refused edit changes no node and no table that was cached; its own table may have been newly cached.
     pub fn apply_all<D: OpSet>(
         &mut self,
         ctx: &mut Context<D>,
         edits: Vec<SymbolEdit>,
     ) -> Result<Vec<Result<(), SymbolEditErr>>, Memory>
-        ensures edited { AllAgree D.is_symbol D.is_symbol_table ctx.old self.old → IfOk result (λ rs. AreEdited D.is_terminator D.is_symbol D.is_symbol_table ctx.old self.old edits.items rs.items ctx.new self.new) }
-        ensures agree { AllAgree D.is_symbol D.is_symbol_table ctx.old self.old → AllAgree D.is_symbol D.is_symbol_table ctx.new self.new }
+        ensures edited { AllAgree D.is_symbol D.is_symbol_table ctx.old self.old →
+            IfOk result (λ rs. AreEdited D.is_terminator D.is_symbol D.is_symbol_table ctx.old self.old edits.items
+            rs.items ctx.new self.new) }
+        ensures agree { AllAgree D.is_symbol D.is_symbol_table ctx.old self.old →
+            AllAgree D.is_symbol D.is_symbol_table ctx.new self.new }
         ensures given { AreGivenOut ctx.old self.old → AreGivenOut ctx.new self.new }
         ensures same { OnErr result ((ctx.new ≡ ctx.old) × (self.new ≡ self.old)) }
     {

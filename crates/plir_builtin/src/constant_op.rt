@@ -121,8 +121,8 @@ impl ConstantOp {
         attributes.get(ATTR_KEY_CONSTANT_VALUE).unwrap()
     }
 
-    /// Accepts exactly where a value stands under [`crate::ATTR_KEY_CONSTANT_VALUE`], it has a type, and that is the type of the one
-    /// result. Else it tells what is wrong first, in this order.
+    /// Accepts exactly where a value stands under [`crate::ATTR_KEY_CONSTANT_VALUE`], it has a type, and that is the
+    /// type of the one result. Else it tells what is wrong first, in this order.
     pub fn verify<D: OpSet>(
         &self,
         alloc: Global,
@@ -131,7 +131,8 @@ impl ConstantOp {
         requires live { IsLive ctx.now (AnyNode.Operation self.now.op) }
         requires one_result { HasNResults 1 ctx.now self.now.op }
         ensures ok { OnOk result (HasConstantValue D.attr_type ctx.now self.now.op) }
-        ensures refused { IfErr result (IsRefusalMemoryAside ctx.now self.now.op (IsConstantFault D.attr_id D.attr_type D.type_id D.type_body_text ctx.now self.now.op)) }
+        ensures refused { IfErr result (IsRefusalMemoryAside ctx.now self.now.op
+            (IsConstantFault D.attr_id D.attr_type D.type_id D.type_body_text ctx.now self.now.op)) }
         ensures whole { IsWhole D.attr_handles ctx.now }
     {
         ctx.stands();
@@ -178,7 +179,8 @@ fn mismatched<D: OpSet>(
     requires live { IsLive ctx.now (AnyNode.Operation op) }
     requires given_live { IsTypeLive ctx.now.types given }
     requires wanted_live { IsTypeLive ctx.now.types wanted }
-    ensures told { IsRefusalMemoryAside ctx.now op (TellsMismatch D.type_id D.type_body_text ctx.now.types given wanted) result }
+    ensures told { IsRefusalMemoryAside ctx.now op (TellsMismatch D.type_id D.type_body_text ctx.now.types given
+        wanted) result }
     ensures whole { IsWhole D.attr_handles ctx.now }
 {
     ctx.stands();
@@ -208,8 +210,8 @@ impl<D: OpSet> NOpdsInterface<D, 0> for ConstantOp {}
 impl<D: OpSet> OneResultInterface<D> for ConstantOp {}
 
 impl ConstantOp {
-    /// Accepts exactly where the rules of all interfaces that a constant declares hold, and its own, memory aside: no operand, one
-    /// result, and a value of the result's type. Else tells the refusal of the first, in this order.
+    /// Accepts exactly where the rules of all interfaces that a constant declares hold, and its own, memory aside: no
+    /// operand, one result, and a value of the result's type. Else tells the refusal of the first, in this order.
     pub fn verify_interfaces<D: OpSet>(
         &self,
         alloc: Global,
@@ -217,7 +219,8 @@ impl ConstantOp {
     ) -> Result<(), VerifyErr<OpVerifyErr<D::Err>>>
         requires { IsLive ctx.now (AnyNode.Operation self.now.op) }
         ensures ok { OnOk result (HasConstantRules D.attr_type ctx.now self.now.op) }
-        ensures refused { IfErr result (IsConstantOpFault ctx.now self.now.op D.attr_id D.attr_type D.type_id D.type_body_text) }
+        ensures refused { IfErr result (IsConstantOpFault ctx.now self.now.op D.attr_id D.attr_type D.type_id
+            D.type_body_text) }
         ensures whole { IsWhole D.attr_handles ctx.now }
     {
         ctx.stands();

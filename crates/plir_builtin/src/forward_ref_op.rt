@@ -1,5 +1,6 @@
 //! Forward references.
-ghost use Rattle.std.specs.Prelude.{◌≡◌, ◌↔◌, ◌⊎◌, ◌++◌, true, Some, OnOk, OnErr, IsErr, IfErr, codes, string_bytes, IfOk, IfSome, IsSome};
+ghost use Rattle.std.specs.Prelude.{◌≡◌, ◌↔◌, ◌⊎◌, ◌++◌, true, Some, OnOk, OnErr, IsErr, IfErr, codes, string_bytes};
+ghost use Rattle.std.specs.Prelude.{IfOk, IfSome, IsSome};
 ghost use Rattle.std.specs.Prelude.{◌<◌, ◌+◌, Err};
 ghost use Rattle.plir_store.specs.Table.{next_slot};
 ghost use Rattle.plir_data.specs.declared.op_set.OpKind.{OpKind as AnyKind};
@@ -43,9 +44,9 @@ pub struct ForwardRefOp {
 }
 
 impl ForwardRefOp {
-    /// A new forward reference, in no block. The unit type comes into the table, if it isn't there, also where the operation is
-    /// refused. `TooManyNodes` comes only where there is no room for the operation. After a refusal no live node has
-    /// changed.
+    /// A new forward reference, in no block. The unit type comes into the table, if it isn't there, also where the
+    /// operation is refused. `TooManyNodes` comes only where there is no room for the operation. After a refusal no
+    /// live node has changed.
     pub fn new<D: OpSet>(alloc: Global, ctx: &mut Context<D>) -> Result<ForwardRefOp, NodeErr>
         ensures made { IfOk result (λ r. IsMade ctx.old.nodes ctx.new.nodes (AnyNode.Operation r.op)) }
         ensures pointer { IfOk result (λ r. r.op ≡ ptr_at ctx.new.nodes.ops (next_slot ctx.old.nodes.ops)) }
@@ -104,7 +105,8 @@ impl ForwardRefOp {
     ) -> Result<(), VerifyErr<ForwardRefOpExistenceErr>>
         requires { IsLive ctx.now (AnyNode.Operation self.now.op) }
         ensures never { IsErr result }
-        ensures refused { IfErr result (IsRefusalMemoryAside ctx.now self.now.op (λ e. string_bytes e.0 ≡ result_name ctx.now self.now.op 0)) }
+        ensures refused { IfErr result (IsRefusalMemoryAside ctx.now self.now.op
+            (λ e. string_bytes e.0 ≡ result_name ctx.now self.now.op 0)) }
         ensures whole { IsWhole D.attr_handles ctx.now }
     {
         ctx.stands();
@@ -114,8 +116,8 @@ impl ForwardRefOp {
         }
     }
 
-    /// Refuses always: tells the refusal of the first interface whose rule does not hold, of no operand and one result in this
-    /// order, else the name of the result.
+    /// Refuses always: tells the refusal of the first interface whose rule does not hold, of no operand and one result
+    /// in this order, else the name of the result.
     pub fn verify_interfaces<D: OpSet>(
         &self,
         alloc: Global,

@@ -10,7 +10,8 @@ ghost use Rattle.plir_core.specs.Nodes.{ptr_at};
 ghost use Rattle.plir_core.specs.Store.{IsLive, given_out, kind_of, limit, num_live};
 ghost use Rattle.plir_core.specs.Whole.{IsWhole};
 ghost use Rattle.plir_core.specs.declared.ptr.IRNode.{IRNode as AnyNode};
-ghost use Rattle.plir_builtin.specs.BuiltinOps.{HasArguments, HasFuncType, IsFuncMade, IsNewFunc, entry_of, func_type, func_type_of, type_in_attr};
+ghost use Rattle.plir_builtin.specs.BuiltinOps.{HasArguments, HasFuncType, IsFuncMade, IsNewFunc, entry_of, func_type};
+ghost use Rattle.plir_builtin.specs.BuiltinOps.{func_type_of, type_in_attr};
 ghost use Rattle.plir_builtin.specs.BuiltinOps.{IsFullForOneBlock};
 ghost use Rattle.plir_builtin.specs.OpRules.{HasFuncRules};
 ghost use Rattle.plir_builtin.specs.OpFaults.{IsFuncFault};
@@ -45,9 +46,9 @@ pub struct FuncOp {
 }
 
 impl FuncOp {
-    /// A new function of a name and a type, in no block; its entry block, labelled `entry`, has arguments of the type's arguments.
-    /// `TooManyNodes` comes only where there is no room for the function, its region and its block. After a refusal no
-    /// live node has changed.
+    /// A new function of a name and a type, in no block; its entry block, labelled `entry`, has arguments of the type's
+    /// arguments. `TooManyNodes` comes only where there is no room for the function, its region and its block. After a
+    /// refusal no live node has changed.
     pub fn new<D: OpSet>(
         alloc: Global,
         ctx: &mut Context<D>,
@@ -132,8 +133,8 @@ impl FuncOp {
         region.get_head(ctx).unwrap()
     }
 
-    /// Accepts exactly where an attribute of a type stands under [`crate::ATTR_KEY_BUILTIN_FUNC_TYPE`], and the type is a
-    /// `FunctionType`.
+    /// Accepts exactly where an attribute of a type stands under [`crate::ATTR_KEY_BUILTIN_FUNC_TYPE`], and the type is
+    /// a `FunctionType`.
     pub fn verify<D: OpSet>(&self, ctx: &Context<D>) -> Result<(), VerifyErr<FuncOpTypeErr>>
         requires { IsLive ctx.now (AnyNode.Operation self.now.op) }
         ensures ok { IsOk result ↔ HasFuncType ctx.now self.now.op }
@@ -146,8 +147,9 @@ impl FuncOp {
         }
     }
 
-    /// Accepts exactly where the rules of all interfaces that a function declares hold, and its own: one region, a name, no
-    /// operand, no result, and a type of functions. Else tells the refusal of the first, in this order. Takes no memory.
+    /// Accepts exactly where the rules of all interfaces that a function declares hold, and its own: one region, a
+    /// name, no operand, no result, and a type of functions. Else tells the refusal of the first, in this order. Takes
+    /// no memory.
     pub fn verify_interfaces<D: OpSet>(
         &self,
         ctx: &Context<D>,

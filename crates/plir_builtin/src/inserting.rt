@@ -51,7 +51,8 @@ fn end_of<D: OpSet>(ctx: &Context<D>, block: Ptr<BasicBlock>) -> OpInsertionPoin
     requires { IsLive ctx.now (AnyNode.BasicBlock block) }
     ensures live { IsPointLive ctx.now result }
     ensures into { insertion_block ctx.now result ≡ Some (AnyNode.BasicBlock block) }
-    ensures put { (o : _) → put_at ctx.now o result ≡ before_or_last ctx.now o (Some (AnyNode.BasicBlock block)) (terminator_of D.is_terminator ctx.now block) }
+    ensures put { (o : _) → put_at ctx.now o result ≡ before_or_last ctx.now o (Some (AnyNode.BasicBlock block))
+        (terminator_of D.is_terminator ctx.now block) }
 {
     match block.get_terminator(ctx) {
         Some(mark) => OpInsertionPoint::BeforeOperation(mark),
@@ -138,7 +139,8 @@ impl SymbolTable {
         requires at_body { IsSome (body ctx.now self.now.op) }
         requires op_live { IsLive ctx.now (AnyNode.Operation op) }
         requires point_live { IfSome point (IsPointLive ctx.now) }
-        ensures ok { IfOk result (λ p. IsPlanned D.is_terminator D.is_symbol ctx.now (map.get self.now.names) self.now.op op point p.name p.body p.place) }
+        ensures ok { IfOk result (λ p. IsPlanned D.is_terminator D.is_symbol ctx.now (map.get self.now.names)
+            self.now.op op point p.name p.body p.place) }
         ensures refused { IfErr result (IsInsertErr D.is_symbol ctx.now (map.get self.now.names) self.now.op op point) }
     {
         if !is_symbol(ctx, op) {
@@ -163,10 +165,12 @@ pub(crate) fn carry_out<D: OpSet>(
 )
     requires live { IsLive ctx.old (AnyNode.Operation op) }
     requires block_live { IsLive ctx.old (AnyNode.BasicBlock block) }
-    requires place { IfSome place (λ q. (parent_of ctx.old (AnyNode.Operation op) ≡ None) × IsPointLive ctx.old q × (insertion_block ctx.old q ≡ Some (AnyNode.BasicBlock block))) }
+    requires place { IfSome place (λ q. (parent_of ctx.old (AnyNode.Operation op) ≡ None) × IsPointLive ctx.old q ×
+        (insertion_block ctx.old q ≡ Some (AnyNode.BasicBlock block))) }
     requires not_above { IsAncestor ctx.old (AnyNode.Operation op) (AnyNode.BasicBlock block) → ⊥ }
     ensures stays { place ≡ None → ctx.new ≡ ctx.old }
-    ensures put { IfSome place (λ q. (ctx.new ≡ put_at ctx.old op q) × IsPutInto ctx.old ctx.new op (AnyNode.BasicBlock block)) }
+    ensures put { IfSome place (λ q. (ctx.new ≡ put_at ctx.old op q) ×
+        IsPutInto ctx.old ctx.new op (AnyNode.BasicBlock block)) }
     ensures stood { IsStanding ctx.old }
     ensures stands { IsStanding ctx.new }
 {

@@ -16,8 +16,8 @@ use plir_core::Context;
 use plir_core::laws::contexts_stand;
 use plir_data::OpSet;
 
-/// A collection that caches no table agrees with every context: so what the calls of a collection say of one that agrees holds
-/// of what `SymbolTableCollection::new` answers.
+/// A collection that caches no table agrees with every context: so what the calls of a collection say of one that
+/// agrees holds of what `SymbolTableCollection::new` answers.
 pub fn no_tables_agree<D: OpSet>(ctx: &Context<D>)
     ensures agree { AllAgree D.is_symbol D.is_symbol_table ctx.now map.empty }
     ensures given { AreGivenOut ctx.now map.empty }
@@ -25,8 +25,8 @@ pub fn no_tables_agree<D: OpSet>(ctx: &Context<D>)
     ctx.stands();
 }
 
-/// Tables that agree still agree once a tree of new nodes was made, as by a constructor, once a constructor was refused, and once
-/// a type was made: so a collection may serve before and after.
+/// Tables that agree still agree once a tree of new nodes was made, as by a constructor, once a constructor was
+/// refused, and once a type was made: so a collection may serve before and after.
 pub fn new_nodes_keep_agreement<D: OpSet>(ctx: &Context<D>)
     ensures made { LastsOverNodes D.is_symbol D.is_symbol_table D.attr_handles ctx.now }
     ensures refused { LastsOverRefusals D.is_symbol D.is_symbol_table D.attr_handles ctx.now }
@@ -37,8 +37,8 @@ pub fn new_nodes_keep_agreement<D: OpSet>(ctx: &Context<D>)
     ctx.stands();
 }
 
-/// A module that `verify_interfaces` accepts is what each call of its interfaces asks: its region and its body may be taken, its
-/// symbols looked up, and its name read.
+/// A module that `verify_interfaces` accepts is what each call of its interfaces asks: its region and its body may be
+/// taken, its symbols looked up, and its name read.
 pub fn module_is_as_asked<D: SymbolUserSet>(ctx: &Context<D>, op: ModuleOp)
     requires { HasModuleRules D.is_symbol D.is_symbol_table D.is_symbol_user D.uses_hold ctx.now op.op }
     ensures region { HasNRegions 1 ctx.now op.op }

@@ -1,4 +1,5 @@
-//! The builtin dialect: symbols, the tables that look them up by their names, the verifier of tables, and the four operations.
+//! The builtin dialect: symbols, the tables that look them up by their names, the verifier of tables, and the four
+//! operations.
 #![tactic(auto)]
 
 mod applying;

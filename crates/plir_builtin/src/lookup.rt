@@ -27,7 +27,8 @@ impl SymbolTableCollection {
     ) -> Result<(), SymbolTableErr>
         requires { IsLive ctx.now (AnyNode.Operation op) }
         ensures kept { OnOk result (IsSome (map.get self.old op) → self.new ≡ self.old) }
-        ensures made { OnOk result (map.get self.old op ≡ None → IsNewlyCached D.is_symbol D.is_symbol_table ctx.now self.old op self.new) }
+        ensures made { OnOk result (map.get self.old op ≡ None →
+            IsNewlyCached D.is_symbol D.is_symbol_table ctx.now self.old op self.new) }
         ensures absent { OnErr result (map.get self.old op ≡ None) }
         ensures given { AreGivenOut ctx.now self.old → AreGivenOut ctx.now self.new }
         ensures refused { IfErr result (Tells (TableRefused D.is_symbol D.is_symbol_table ctx.now op)) }
@@ -52,9 +53,12 @@ impl SymbolTableCollection {
         requires { IsLive ctx.now (AnyNode.Operation op) }
         ensures* writes_back { sem 𝓛 (LendsTable self.entry op result) }
         ensures cached { IfOk result (λ t. IfSome (map.get self.old op) (λ u. t.now ≡ u)) }
-        ensures made { IfOk result (λ t. map.get self.old op ≡ None → (t.now.op ≡ op) × Agrees D.is_symbol D.is_symbol_table ctx.now t.now) }
-        ensures agree { IfOk result (λ t. AllAgree D.is_symbol D.is_symbol_table ctx.now self.old → AgreesAsLent D.is_symbol D.is_symbol_table ctx.now self.old op t.now) }
-        ensures given { IfOk result (λ t. AreGivenOut ctx.now self.old → AreGivenOut ctx.now (map.insert self.old op t.now)) }
+        ensures made { IfOk result (λ t. map.get self.old op ≡ None → (t.now.op ≡ op) ×
+            Agrees D.is_symbol D.is_symbol_table ctx.now t.now) }
+        ensures agree { IfOk result (λ t. AllAgree D.is_symbol D.is_symbol_table ctx.now self.old →
+            AgreesAsLent D.is_symbol D.is_symbol_table ctx.now self.old op t.now) }
+        ensures given { IfOk result (λ t. AreGivenOut ctx.now self.old →
+            AreGivenOut ctx.now (map.insert self.old op t.now)) }
         ensures absent { OnErr result (map.get self.old op ≡ None) }
         ensures refused { IfErr result (Tells (TableRefused D.is_symbol D.is_symbol_table ctx.now op)) }
     {
@@ -67,9 +71,9 @@ impl SymbolTableCollection {
         }
     }
 
-    /// The operation that is recorded under a name in the table that is cached for an operation, else in its new table, which
-    /// is now cached. While all tables agree, that is the first symbol in the body with the name. Refused exactly as
-    /// [`SymbolTable::new`], and only where no table is cached; after a refusal all is as before.
+    /// The operation that is recorded under a name in the table that is cached for an operation, else in its new table,
+    /// which is now cached. While all tables agree, that is the first symbol in the body with the name. Refused exactly
+    /// as [`SymbolTable::new`], and only where no table is cached; after a refusal all is as before.
     pub fn lookup_symbol_in_table<D: OpSet>(
         &mut self,
         ctx: &Context<D>,
@@ -77,9 +81,12 @@ impl SymbolTableCollection {
         name: &Identifier,
     ) -> Result<Option<Ptr<Operation>>, SymbolTableErr>
         requires live { IsLive ctx.now (AnyNode.Operation table) }
-        ensures found { AllAgree D.is_symbol D.is_symbol_table ctx.now self.old → IfOk result (λ r. r ≡ scan D.is_symbol ctx.now table name.now) }
-        ensures good { AllAgree D.is_symbol D.is_symbol_table ctx.now self.old → OnOk result (IsGood D.is_symbol D.is_symbol_table ctx.now table) }
-        ensures agree { AllAgree D.is_symbol D.is_symbol_table ctx.now self.old → AllAgree D.is_symbol D.is_symbol_table ctx.now self.new }
+        ensures found { AllAgree D.is_symbol D.is_symbol_table ctx.now self.old →
+            IfOk result (λ r. r ≡ scan D.is_symbol ctx.now table name.now) }
+        ensures good { AllAgree D.is_symbol D.is_symbol_table ctx.now self.old →
+            OnOk result (IsGood D.is_symbol D.is_symbol_table ctx.now table) }
+        ensures agree { AllAgree D.is_symbol D.is_symbol_table ctx.now self.old →
+            AllAgree D.is_symbol D.is_symbol_table ctx.now self.new }
         ensures given { AreGivenOut ctx.now self.old → AreGivenOut ctx.now self.new }
         ensures recorded { IfOk result (λ r. IfSome (map.get self.new table) (λ t. r ≡ map.get t.names name.now)) }
         ensures kept { IsSome (map.get self.old table) → self.new ≡ self.old }
@@ -93,9 +100,10 @@ impl SymbolTableCollection {
         Ok(self.find(table, name))
     }
 
-    /// The operation that is recorded under a name in the nearest table at or above an operation, none if there is no such
-    /// table: [`SymbolTableCollection::lookup_symbol_in_table`] with that table, which is now cached. Refused exactly as
-    /// [`SymbolTable::new`] for that table, and only where it is not cached; after a refusal all is as before.
+    /// The operation that is recorded under a name in the nearest table at or above an operation, none if there is no
+    /// such table: [`SymbolTableCollection::lookup_symbol_in_table`] with that table, which is now cached. Refused
+    /// exactly as [`SymbolTable::new`] for that table, and only where it is not cached; after a refusal all is as
+    /// before.
     pub fn lookup_symbol_in_nearest_table<D: OpSet>(
         &mut self,
         ctx: &Context<D>,
@@ -103,10 +111,13 @@ impl SymbolTableCollection {
         name: &Identifier,
     ) -> Result<Option<Ptr<Operation>>, SymbolTableErr>
         requires live { IsLive ctx.now (AnyNode.Operation from) }
-        ensures found { AllAgree D.is_symbol D.is_symbol_table ctx.now self.old → IfOk result (IsFoundNearest D.is_symbol D.is_symbol_table ctx.now from name.now) }
-        ensures agree { AllAgree D.is_symbol D.is_symbol_table ctx.now self.old → AllAgree D.is_symbol D.is_symbol_table ctx.now self.new }
+        ensures found { AllAgree D.is_symbol D.is_symbol_table ctx.now self.old →
+            IfOk result (IsFoundNearest D.is_symbol D.is_symbol_table ctx.now from name.now) }
+        ensures agree { AllAgree D.is_symbol D.is_symbol_table ctx.now self.old →
+            AllAgree D.is_symbol D.is_symbol_table ctx.now self.new }
         ensures given { AreGivenOut ctx.now self.old → AreGivenOut ctx.now self.new }
-        ensures answered { IfOk result (IsAnsweredNearest D.is_symbol D.is_symbol_table ctx.now self.old self.new from name.now) }
+        ensures answered { IfOk result (IsAnsweredNearest D.is_symbol D.is_symbol_table ctx.now self.old self.new from
+            name.now) }
         ensures refused { IfErr result (NearestRefused D.is_symbol D.is_symbol_table ctx.now self.old from) }
         ensures same { OnErr result (self.new ≡ self.old) }
     {

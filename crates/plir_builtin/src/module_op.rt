@@ -1,12 +1,13 @@
 //! Modules. The other builtin operations are written in the same form, and so may be one of a user's own:
 //!
 //! 1. A struct around a pointer, with an `impl` of `Op` whose ghost `pointer` is that pointer.
-//! 2. A constructor, which says by `IsMade` that a tree is new, and by a word of `specs/BuiltinOps.antt` what its nodes hold; and
-//!    `from_operation`, which asks the kind.
+//! 2. A constructor, which says by `IsMade` that a tree is new, and by a word of `specs/BuiltinOps.antt` what its nodes
+//!    hold; and `from_operation`, which asks the kind.
 //! 3. An `impl` for each interface that it declares, and for their parents; most are empty.
 //! 4. A rule of its own, if it has one: a word, and a `verify` that accepts exactly where it holds.
-//! 5. The rules of all of these as a record (`specs/OpRules.antt`), how the first that is broken is told (`specs/OpFaults.antt`), and
-//!    `verify_interfaces`, which verifies them in that order; a law says that so each call that it offers may be made (`laws.rt`).
+//! 5. The rules of all of these as a record (`specs/OpRules.antt`), how the first that is broken is told
+//!    (`specs/OpFaults.antt`), and `verify_interfaces`, which verifies them in that order; a law says that so each call
+//!                 that it offers may be made (`laws.rt`).
 ghost use Rattle.std.specs.Prelude.{◌≡◌, ◌↔◌, true, Some, Ok, OnOk, OnErr, IfOk, IfErr, IfSome, IsSome};
 ghost use Rattle.std.specs.Prelude.{◌<◌, ◌+◌, Err, IsErr};
 ghost use Rattle.plir_store.specs.Table.{next_slot};
@@ -34,7 +35,8 @@ use plir_iface::{
 };
 use std::alloc::Global;
 
-/// A module, the container at the top: a symbol and a symbol table with one region of one block, which has no terminator.
+/// A module, the container at the top: a symbol and a symbol table with one region of one block, which has no
+/// terminator.
 #[derive(Clone, Copy)]
 pub struct ModuleOp {
     op: Ptr<Operation>,
@@ -121,8 +123,9 @@ impl ModuleOp {
         Ok(())
     }
 
-    /// Accepts exactly where the rules of all interfaces that a module declares hold, memory aside: one region, of one block, a
-    /// symbol table that is right, a name, no operand and no result. Else tells the refusal of the first, in this order.
+    /// Accepts exactly where the rules of all interfaces that a module declares hold, memory aside: one region, of one
+    /// block, a symbol table that is right, a name, no operand and no result. Else tells the refusal of the first, in
+    /// this order.
     pub fn verify_interfaces<D: SymbolUserSet>(
         &self,
         alloc: Global,
@@ -130,7 +133,8 @@ impl ModuleOp {
     ) -> Result<(), VerifyErr<OpVerifyErr<D::Err>>>
         requires live { IsLive ctx.now (AnyNode.Operation self.now.op) }
         requires module_kind { kind_of ctx.now self.now.op ≡ Some AnyKind.Module }
-        ensures ok { OnOk result (HasModuleRules D.is_symbol D.is_symbol_table D.is_symbol_user D.uses_hold ctx.now self.now.op) }
+        ensures ok { OnOk result (HasModuleRules D.is_symbol D.is_symbol_table D.is_symbol_user D.uses_hold ctx.now
+            self.now.op) }
         ensures refused { IfErr result (IsModuleFault ctx.now self.now.op D.kind_id
             D.is_symbol D.is_symbol_table D.is_symbol_user D.uses_hold D.use_refusal) }
         ensures whole { IsWhole D.attr_handles ctx.now }

@@ -16,7 +16,8 @@ ghost use Rattle.plir_core.specs.Room.{IsFullForBlock};
 ghost use Rattle.plir_core.specs.Store.{IsLive, given_out, limit, num_live};
 ghost use Rattle.plir_core.specs.Whole.{IsWhole};
 ghost use Rattle.plir_core.specs.declared.ptr.IRNode.{IRNode as AnyNode};
-ghost use Rattle.plir_builtin.specs.BuiltinOps.{HoldsOneBlock, IsMadeWithBlock, block_view, func_attributes, module_attributes, value_key};
+ghost use Rattle.plir_builtin.specs.BuiltinOps.{HoldsOneBlock, IsMadeWithBlock, block_view, func_attributes};
+ghost use Rattle.plir_builtin.specs.BuiltinOps.{module_attributes, value_key};
 ghost use Rattle.plir_builtin.specs.BuiltinOps.{IsFullForOneBlock};
 ghost use Rattle.plir_builtin.specs.OpMaking.{GivesBlock};
 
@@ -69,7 +70,8 @@ pub(crate) fn named_and_typed<D: OpSet>(
 ) -> Result<AttributeDict<D>, NodeErr>
     ensures value { IfOk result (λ es. es ≡ func_attributes name ty) }
     ensures memory { IfErr result (λ e. e ≡ NodeErr.Memory) }
-    ensures live { IfOk result (λ es. (types : List (TypeView D.Ty)) → IsTypeLive types ty → HandlesLive D.attr_handles types es) }
+    ensures live { IfOk result (λ es. (types : List (TypeView D.Ty)) → IsTypeLive types ty →
+        HandlesLive D.attr_handles types es) }
 {
     let mut attributes = named(alloc, name)?;
     let value = AttrObj::Type(TypeAttr::new(ty));
@@ -84,7 +86,8 @@ pub(crate) fn valued<D: OpSet>(
 ) -> Result<AttributeDict<D>, NodeErr>
     ensures value { IfOk result (λ es. es ≡ dict_put [] value_key (attr_view value)) }
     ensures memory { IfErr result (λ e. e ≡ NodeErr.Memory) }
-    ensures live { IfOk result (λ es. (types : List (TypeView D.Ty)) → IsAttrLive D.attr_handles types (attr_view value) → HandlesLive D.attr_handles types es) }
+    ensures live { IfOk result (λ es. (types : List (TypeView D.Ty)) →
+        IsAttrLive D.attr_handles types (attr_view value) → HandlesLive D.attr_handles types es) }
 {
     let mut attributes = AttributeDict::new(alloc);
     put_under(alloc, &mut attributes, ATTR_KEY_CONSTANT_VALUE, value)?;
@@ -103,9 +106,9 @@ pub(crate) fn one_type(alloc: Global, ty: TypeHandle) -> Result<Vec<TypeHandle>,
     }
 }
 
-/// A new operation with these attributes and one region, which holds one new block with a label, if it has one, and arguments
-/// of these types. `TooManyNodes` comes only where there is no room for the three. After a refusal no live node has
-/// changed.
+/// A new operation with these attributes and one region, which holds one new block with a label, if it has one, and
+/// arguments of these types. `TooManyNodes` comes only where there is no room for the three. After a refusal no live
+/// node has changed.
 pub(crate) fn new_with_block<D: OpSet>(
     alloc: Global,
     ctx: &mut Context<D>,
@@ -118,8 +121,10 @@ pub(crate) fn new_with_block<D: OpSet>(
     requires handles_live { HandlesLive D.attr_handles ctx.old.types attributes }
     ensures made { IfOk result (λ op. IsMade ctx.old.nodes ctx.new.nodes (AnyNode.Operation op)) }
     ensures pointer { IfOk result (λ op. op ≡ ptr_at ctx.new.nodes.ops (next_slot ctx.old.nodes.ops)) }
-    ensures tree { IfOk result (λ op. HoldsOneBlock ctx.new op (op_view kind [] [] [] attributes) (block_view label arg_types.items)) }
-    ensures after { OnOk result (IsMadeWithBlock ctx.old ctx.new (op_view kind [] [] [] attributes) (block_view label arg_types.items)) }
+    ensures tree { IfOk result (λ op. HoldsOneBlock ctx.new op (op_view kind [] [] [] attributes)
+        (block_view label arg_types.items)) }
+    ensures after { OnOk result (IsMadeWithBlock ctx.old ctx.new (op_view kind [] [] [] attributes)
+        (block_view label arg_types.items)) }
     ensures types { ctx.new.types ≡ ctx.old.types }
     ensures given { (n : AnyNode) → given_out ctx.old n ≡ true → given_out ctx.new n ≡ true }
     ensures err { OnErr result (SameLive ctx.old ctx.new) }

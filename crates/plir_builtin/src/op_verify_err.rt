@@ -14,8 +14,8 @@ use plir_iface::{
 use std::error::Error as StdError;
 use thiserror::Error;
 
-/// Why a builtin operation is not right: the refusal of the first interface that refuses it, of those that it declares, or of
-/// its own rule. The text is that refusal's.
+/// Why a builtin operation is not right: the refusal of the first interface that refuses it, of those that it declares,
+/// or of its own rule. The text is that refusal's.
 #[derive(Debug, Drop, Error)]
 #[error_bound(E: StdError)]
 pub enum OpVerifyErr<E> {

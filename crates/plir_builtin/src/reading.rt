@@ -68,7 +68,8 @@ impl SymbolTable {
         ensures op { self.new.op ≡ self.old.op }
         ensures live { IfErr result (λ e. IsLive ctx.now (AnyNode.Operation e.op)) }
         ensures read { OnOk result (IsRead (symbols_in D.is_symbol ctx.now (Some (AnyNode.BasicBlock block))) self.new) }
-        ensures refused { IfErr result (λ e. Tells (FirstRefused e.op (symbols_in D.is_symbol ctx.now (Some (AnyNode.BasicBlock block)))) e.why) }
+        ensures refused { IfErr result (λ e. Tells (FirstRefused e.op
+            (symbols_in D.is_symbol ctx.now (Some (AnyNode.BasicBlock block)))) e.why) }
     {
         ctx.stands();
         first_kid_is_front(ctx, IRNode::BasicBlock(block));

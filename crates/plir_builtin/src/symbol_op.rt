@@ -45,8 +45,8 @@ pub trait SymbolOpInterface<D: OpSet>: Op<D> {
     }
 
     /// Gives the operation a name in place of the one it has. A table that knows it by that one does not hear of it: of
-    /// operations in a table that is cached, names are changed by taking them out and inserting them again. After a refusal
-    /// all is as before.
+    /// operations in a table that is cached, names are changed by taking them out and inserting them again. After a
+    /// refusal all is as before.
     final fn set_symbol_name(
         &self,
         alloc: Global,

@@ -10,7 +10,8 @@ ghost use Rattle.plir_core.specs.Unused.{IsUnusedOutside, without_tree};
 ghost use Rattle.plir_builtin.specs.Symbols.{body};
 ghost use Rattle.plir_builtin.specs.Agree.{Agrees, KeepsAgreement, KeepsAllAgree, KeepsGivenOut};
 ghost use Rattle.plir_builtin.specs.Insertion.{inserted};
-ghost use Rattle.plir_builtin.specs.Refusals.{Tells, TellsOnly, IsSymbolNamed, IsPlaceable, IsInsertErr, RemoveRefused, TableRefused};
+ghost use Rattle.plir_builtin.specs.Refusals.{Tells, TellsOnly, IsSymbolNamed, IsPlaceable, IsInsertErr, RemoveRefused};
+ghost use Rattle.plir_builtin.specs.Refusals.{TableRefused};
 ghost use Rattle.plir_builtin.specs.Reading.{IsRead};
 ghost use Rattle.plir_builtin.specs.TableEdits.{IsRecorded, IsForgotten};
 
@@ -143,9 +144,9 @@ impl SymbolTable {
     }
 
     /// The table of an operation, with the symbols that stand in its body. Refused by, in this order:
-    /// `DoesNotImplementSymbolTableInterface`; `Regions`, where it has not one region; `Body`, where that has not one block; at
-    /// the first symbol that has no name, or that of an earlier one, `Unnamed` or `SymbolRedefined`. `Memory` may come in place
-    /// of any of them.
+    /// `DoesNotImplementSymbolTableInterface`; `Regions`, where it has not one region; `Body`, where that has not one
+    /// block; at the first symbol that has no name, or that of an earlier one, `Unnamed` or `SymbolRedefined`. `Memory`
+    /// may come in place of any of them.
     pub fn new<D: OpSet>(
         alloc: Global,
         ctx: &Context<D>,
@@ -167,12 +168,13 @@ impl SymbolTable {
         }
     }
 
-    /// Inserts a symbol, and records its name. One that stands in the body stays where it is; one that stands in no block is
-    /// put at the point, or without a point before the terminator, if the body's last operation is one, else last. Refused by,
-    /// in this order: `DoesNotImplementSymbolOpInterface`; `Unnamed`; `SymbolRedefined`, where the name is recorded for another
-    /// operation; `SymbolOpAlreadyInAnotherTable`, where it stands in a block that is not the body;
-    /// `InsertionPointNotInSameTable`, where it stands in no block and the point is not in the body. `Memory` may come in place
-    /// of the two that tell the name, and after all of them, where the name is recorded. After a refusal all is as before.
+    /// Inserts a symbol, and records its name. One that stands in the body stays where it is; one that stands in no
+    /// block is put at the point, or without a point before the terminator, if the body's last operation is one, else
+    /// last. Refused by, in this order: `DoesNotImplementSymbolOpInterface`; `Unnamed`; `SymbolRedefined`, where the
+    /// name is recorded for another operation; `SymbolOpAlreadyInAnotherTable`, where it stands in a block that is not
+    /// the body; `InsertionPointNotInSameTable`, where it stands in no block and the point is not in the body. `Memory`
+    /// may come in place of the two that tell the name, and after all of them, where the name is recorded. After a
+    /// refusal all is as before.
     pub fn insert<D: OpSet>(
         &mut self,
         ctx: &mut Context<D>,
@@ -219,8 +221,8 @@ impl SymbolTable {
     }
 
     /// Takes a symbol out of the body, and its name out of the table. Refused by, in this order:
-    /// `DoesNotImplementSymbolOpInterface`; `SymbolOpNotInTableOp`, where it does not stand in the body; `Unnamed`. After a
-    /// refusal all is as before.
+    /// `DoesNotImplementSymbolOpInterface`; `SymbolOpNotInTableOp`, where it does not stand in the body; `Unnamed`.
+    /// After a refusal all is as before.
     pub fn remove<D: OpSet>(
         &mut self,
         ctx: &mut Context<D>,

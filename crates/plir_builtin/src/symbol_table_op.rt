@@ -130,10 +130,10 @@ pub trait SymbolTableInterface<D: OpSet>: SingleBlockRegionInterface<D> + OneReg
         find_symbol(ctx, self.get_operation(), name)
     }
 
-    /// Accepts exactly where all symbols in the body have names, no two the same, and the uses of every symbol user that
-    /// the walk of the table hands over hold, memory aside: of nested tables too, but not of what stands in them. Tells
-    /// the first symbol without a name, at the table's location, or that repeats a name, at the symbol's own; else the
-    /// refusal of the first use, at the location that is told there.
+    /// Accepts exactly where all symbols in the body have names, no two the same, and the uses of every symbol user
+    /// that the walk of the table hands over hold, memory aside: of nested tables too, but not of what stands in them.
+    /// Tells the first symbol without a name, at the table's location, or that repeats a name, at the symbol's own;
+    /// else the refusal of the first use, at the location that is told there.
     final fn verify(
         &self,
         alloc: Global,
@@ -145,7 +145,8 @@ pub trait SymbolTableInterface<D: OpSet>: SingleBlockRegionInterface<D> + OneReg
         requires table { is_table_kind D.is_symbol_table (kind_of ctx.now (Self.pointer self.now)) ≡ true }
         requires one_region { HasNRegions 1 ctx.now (Self.pointer self.now) }
         requires single_blocks { HasSingleBlocks ctx.now (Self.pointer self.now) }
-        ensures ok { OnOk result (HasTableRule D.is_symbol D.is_symbol_table D.is_symbol_user D.uses_hold ctx.now (Self.pointer self.now)) }
+        ensures ok { OnOk result (HasTableRule D.is_symbol D.is_symbol_table D.is_symbol_user D.uses_hold ctx.now
+            (Self.pointer self.now)) }
         ensures refused { IfErr result (IsTableFault D.is_symbol D.is_symbol_table D.is_symbol_user D.uses_hold
             D.use_refusal ctx.now (Self.pointer self.now)) }
     {

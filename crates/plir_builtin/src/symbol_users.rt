@@ -18,7 +18,8 @@ use plir_walk::laws::before_is_a_total_order;
 use std::alloc::Global;
 use std::ops::ControlFlow;
 
-/// An op set that verifies the uses of symbols of its own operations: it sends each to the interface that it implements.
+/// An op set that verifies the uses of symbols of its own operations: it sends each to the interface that it
+/// implements.
 pub trait SymbolUserSet: OpSet {
     // The uses of an operation are right.
     ghost uses_hold: { Store Self.Kind Self.Attr Self.Ty → AnyPtr OperationKind → Type 0 };
@@ -26,9 +27,9 @@ pub trait SymbolUserSet: OpSet {
     // What may be told of uses that are not right: a location, and an error.
     ghost use_refusal: { Store Self.Kind Self.Attr Self.Ty → AnyPtr OperationKind → AnyLocation → Self.Err → Type 0 };
 
-    /// Accepts exactly where the uses of an operation are right, where all tables of the collection agree, memory aside;
-    /// they agree afterwards. Else tells what the set may tell of these uses. The verifier of tables asks it of symbol
-    /// users alone.
+    /// Accepts exactly where the uses of an operation are right, where all tables of the collection agree, memory
+    /// aside; they agree afterwards. Else tells what the set may tell of these uses. The verifier of tables asks it of
+    /// symbol users alone.
     fn verify_symbol_uses(
         ctx: &Context<Self>,
         op: Ptr<Operation>,
@@ -44,8 +45,9 @@ pub trait SymbolUserSet: OpSet {
         ensures given { AreGivenOut ctx.now tables.old → AreGivenOut ctx.now tables.new };
 }
 
-/// Own kinds of operations that say which uses of symbols are right, in an op set `D`: what [`SymbolUserSet`] is for the op
-/// set of such kinds alone, `KindSet<Self>`. Kinds that use no symbols accept; their `OwnKind::Err` may be `NeverRefused`.
+/// Own kinds of operations that say which uses of symbols are right, in an op set `D`: what [`SymbolUserSet`] is for
+/// the op set of such kinds alone, `KindSet<Self>`. Kinds that use no symbols accept; their `OwnKind::Err` may be
+/// `NeverRefused`.
 pub trait SymbolUses<D: OpSet>: OwnKind {
     // The uses of an operation are right.
     ghost uses_hold: { Store D.Kind D.Attr D.Ty → AnyPtr OperationKind → Type 0 };
@@ -53,9 +55,9 @@ pub trait SymbolUses<D: OpSet>: OwnKind {
     // What may be told of uses that are not right: a location, and an error.
     ghost use_refusal: { Store D.Kind D.Attr D.Ty → AnyPtr OperationKind → AnyLocation → D.Err → Type 0 };
 
-    /// Accepts exactly where the uses of an operation are right, where all tables of the collection agree, memory aside;
-    /// they agree afterwards. Else tells what the kinds may tell of these uses. The verifier of tables asks it of symbol
-    /// users alone.
+    /// Accepts exactly where the uses of an operation are right, where all tables of the collection agree, memory
+    /// aside; they agree afterwards. Else tells what the kinds may tell of these uses. The verifier of tables asks it
+    /// of symbol users alone.
     fn verify_symbol_uses(
         ctx: &Context<D>,
         op: Ptr<Operation>,
@@ -135,8 +137,8 @@ fn check_use<D: SymbolUserSet>(
     }
 }
 
-/// Accepts exactly where the uses of every symbol user hold that the walk of a table hands over; else tells what is told of
-/// the first whose uses don't.
+/// Accepts exactly where the uses of every symbol user hold that the walk of a table hands over; else tells what is
+/// told of the first whose uses don't.
 pub(crate) fn verify_uses<D: SymbolUserSet>(
     alloc: Global,
     ctx: &Context<D>,

@@ -22,8 +22,8 @@ pub type SymbolTableWalkerCallback<D, S, B> = fn(
 ) -> WalkResult<B>;
 
 /// Hands the operations below the one region of a table over to `callback`, in PreOrder Forward: nested tables too, but
-/// nothing that is below them, nor what is below an operation at which `callback` answers `Skip`. Answers `Break(b)` where
-/// the last call did, else `Continue(Advance)`. Takes no memory.
+/// nothing that is below them, nor what is below an operation at which `callback` answers `Skip`. Answers `Break(b)`
+/// where the last call did, else `Continue(Advance)`. Takes no memory.
 pub fn walk_symbol_table<
     C: TableLinks,
     S,
@@ -33,14 +33,16 @@ pub fn walk_symbol_table<
     requires op_live { (C.look ctx.now).live (AnyNode.Operation op) ≡ true }
     requires table { C.is_table_of ctx.now op ≡ true }
     requires one_region { length ((C.look ctx.now).kids (AnyNode.Operation op)) ≡ 1 }
-    requires callable { (c : _) (s : _) (p : AnyPtr OperationKind) → c.now ≡ ctx.now → StandsUnder (C.look ctx.now) (AnyNode.Operation op) (AnyNode.Operation p) → F.pre callback c s p }
+    requires callable { (c : _) (s : _) (p : AnyPtr OperationKind) → c.now ≡ ctx.now →
+        StandsUnder (C.look ctx.now) (AnyNode.Operation op) (AnyNode.Operation p) → F.pre callback c s p }
     ensures { HandedOver C.look C.is_table_of (ReadsBack F.Fn callback) ctx.now state.old op result state.new }
 {
     ctx.forest();
     let region = ctx.one_region(op);
     let hand = |c: &C, s: &mut S, n: IRNode| -> WalkResult<B>
         requires live { (C.look c.now).live n ≡ true }
-        requires callable { (d : _) (t : _) (p : AnyPtr OperationKind) → n ≡ AnyNode.Operation p → d.now ≡ c.now → F.pre callback d t p }
+        requires callable { (d : _) (t : _) (p : AnyPtr OperationKind) → n ≡ AnyNode.Operation p → d.now ≡ c.now →
+            F.pre callback d t p }
         ensures { PassesOn C.is_table_of (ReadsBack F.Fn callback) c.now s.old n result c.now s.new }
     {
         match n {

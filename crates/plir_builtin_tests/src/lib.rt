@@ -1,4 +1,5 @@
-//! Tests of `plir_builtin`, in a crate of their own, since a crate that holds its tests is proved twice, once with them.
+//! Tests of `plir_builtin`, in a crate of their own, since a crate that holds its tests is proved twice, once with
+//! them.
 #![tactic(auto)]
 
 #[cfg(test)]

@@ -21,38 +21,68 @@ module _ {K A T : Type 0} where
 
   -- an operation at the end of a block, and a block at the end of a region
   abbrev pub with_op_last : Store K A T → Ptr OperationKind → Ptr BasicBlockKind → Store K A T
-  with_op_last s op block = record s { nodes = record s.nodes { ops_in_block = with_last s.nodes.ops_in_block block.slot op.slot } }
+  with_op_last s op block = record s {
+    nodes = record s.nodes
+        { ops_in_block = with_last s.nodes.ops_in_block block.slot op.slot };
+  }
 
   abbrev pub with_block_last : Store K A T → Ptr BasicBlockKind → Ptr RegionKind → Store K A T
-  with_block_last s block region = record s { nodes = record s.nodes { blocks_in_region = with_last s.nodes.blocks_in_region region.slot block.slot } }
+  with_block_last s block region = record s {
+    nodes = record s.nodes
+        { blocks_in_region = with_last s.nodes.blocks_in_region region.slot block.slot };
+  }
 
   -- an operation at the start of a block, and a block at the start of a region
   abbrev pub with_op_first : Store K A T → Ptr OperationKind → Ptr BasicBlockKind → Store K A T
-  with_op_first s op block = record s { nodes = record s.nodes { ops_in_block = with_first s.nodes.ops_in_block block.slot op.slot } }
+  with_op_first s op block = record s {
+    nodes = record s.nodes
+        { ops_in_block = with_first s.nodes.ops_in_block block.slot op.slot };
+  }
 
   abbrev pub with_block_first : Store K A T → Ptr BasicBlockKind → Ptr RegionKind → Store K A T
-  with_block_first s block region = record s { nodes = record s.nodes { blocks_in_region = with_first s.nodes.blocks_in_region region.slot block.slot } }
+  with_block_first s block region = record s {
+    nodes = record s.nodes
+        { blocks_in_region = with_first s.nodes.blocks_in_region region.slot block.slot };
+  }
 
   -- an operation right before another one, which is the mark, and a block likewise
   abbrev pub with_op_before : Store K A T → Ptr OperationKind → Ptr OperationKind → Store K A T
-  with_op_before s op mark = record s { nodes = record s.nodes { ops_in_block = with_before s.nodes.ops_in_block op.slot mark.slot } }
+  with_op_before s op mark = record s {
+    nodes = record s.nodes
+        { ops_in_block = with_before s.nodes.ops_in_block op.slot mark.slot };
+  }
 
   abbrev pub with_block_before : Store K A T → Ptr BasicBlockKind → Ptr BasicBlockKind → Store K A T
-  with_block_before s block mark = record s { nodes = record s.nodes { blocks_in_region = with_before s.nodes.blocks_in_region block.slot mark.slot } }
+  with_block_before s block mark = record s {
+    nodes = record s.nodes
+        { blocks_in_region = with_before s.nodes.blocks_in_region block.slot mark.slot };
+  }
 
   -- an operation right after the mark, and a block likewise
   abbrev pub with_op_after : Store K A T → Ptr OperationKind → Ptr OperationKind → Store K A T
-  with_op_after s op mark = record s { nodes = record s.nodes { ops_in_block = with_after s.nodes.ops_in_block op.slot mark.slot } }
+  with_op_after s op mark = record s {
+    nodes = record s.nodes
+        { ops_in_block = with_after s.nodes.ops_in_block op.slot mark.slot };
+  }
 
   abbrev pub with_block_after : Store K A T → Ptr BasicBlockKind → Ptr BasicBlockKind → Store K A T
-  with_block_after s block mark = record s { nodes = record s.nodes { blocks_in_region = with_after s.nodes.blocks_in_region block.slot mark.slot } }
+  with_block_after s block mark = record s {
+    nodes = record s.nodes
+        { blocks_in_region = with_after s.nodes.blocks_in_region block.slot mark.slot };
+  }
 
   -- an operation in no block, and a block in no region, with all below it as it was
   abbrev pub with_op_unlinked : Store K A T → Ptr OperationKind → Store K A T
-  with_op_unlinked s op = record s { nodes = record s.nodes { ops_in_block = without_child s.nodes.ops_in_block op.slot } }
+  with_op_unlinked s op = record s {
+    nodes = record s.nodes
+        { ops_in_block = without_child s.nodes.ops_in_block op.slot };
+  }
 
   abbrev pub with_block_unlinked : Store K A T → Ptr BasicBlockKind → Store K A T
-  with_block_unlinked s block = record s { nodes = record s.nodes { blocks_in_region = without_child s.nodes.blocks_in_region block.slot } }
+  with_block_unlinked s block = record s {
+    nodes = record s.nodes
+        { blocks_in_region = without_child s.nodes.blocks_in_region block.slot };
+  }
 
   -- a new region with no block, the last one of an operation
   abbrev pub with_region : Store K A T → Ptr OperationKind → Store K A T

@@ -19,8 +19,17 @@ pub record OpView (K A : Type 0) : Type 0 where
   pub location : Location
 
 -- what an operation holds whose place in a source text is unknown
-abbrev pub op_view : {K A : Type 0} → OpKind K → List ℕ → List Value → List (Ptr BasicBlockKind) → List (List ℕ × AttrView A) → OpView K A
-op_view k ts vs bs es = record { kind = k; result_types = ts; operands = vs; successors = bs; attributes = es; location = Unknown }
+abbrev pub op_view : {K A : Type 0} → OpKind K → List ℕ → List Value → List (Ptr BasicBlockKind) →
+    List (List ℕ × AttrView A) → OpView K A
+op_view k ts vs bs es = record {
+  kind = k;
+  result_types = ts;
+  operands = vs;
+  successors = bs;
+  attributes =
+      es;
+  location = Unknown;
+}
 
 -- What a block holds: its label, the types of its arguments by their handles, and its attributes by key.
 pub record BlockView (A : Type 0) : Type 0 where

@@ -71,6 +71,8 @@ module _ {O B : Type 0} where
     pub live : (n : IRNode) → is_node_live now n ≡ is_node_live before n
     pub kids : (n : IRNode) → node_kids now n ≡ node_kids before n
     pub parents : (n : IRNode) → node_parent now n ≡ node_parent before n
-    pub ops : (p : Ptr OperationKind) → is_node_live before (Operation p) ≡ true → content_at now.ops p.slot ≡ content_at before.ops p.slot
-    pub blocks : (p : Ptr BasicBlockKind) → is_node_live before (BasicBlock p) ≡ true → content_at now.blocks p.slot ≡ content_at before.blocks p.slot
+    pub ops : (p : Ptr OperationKind) → is_node_live before (Operation p) ≡ true →
+        content_at now.ops p.slot ≡ content_at before.ops p.slot
+    pub blocks : (p : Ptr BasicBlockKind) → is_node_live before (BasicBlock p) ≡ true →
+        content_at now.blocks p.slot ≡ content_at before.blocks p.slot
     pub limit : now.limit ≡ before.limit

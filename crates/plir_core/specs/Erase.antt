@@ -21,9 +21,21 @@ post_order kids (suc k) n = flat_map (post_order kids k) (kids n) ++ n ∷ []
 module _ {O B : Type 0} where
   -- one node is freed: it stands in no list, and its slot is the next to be used
   abbrev pub without_node : Nodes O B → IRNode → Nodes O B
-  without_node s (Operation p) = record s { ops = without_slot s.ops p.slot; ops_in_block = without_child s.ops_in_block p.slot }
-  without_node s (Region p) = record s { regions = without_slot s.regions p.slot; regions_in_op = without_child s.regions_in_op p.slot }
-  without_node s (BasicBlock p) = record s { blocks = without_slot s.blocks p.slot; blocks_in_region = without_child s.blocks_in_region p.slot }
+  without_node s (Operation p) = record s {
+    ops = without_slot s.ops p.slot;
+    ops_in_block =
+        without_child s.ops_in_block p.slot;
+  }
+  without_node s (Region p) = record s {
+    regions = without_slot s.regions p.slot;
+    regions_in_op =
+        without_child s.regions_in_op p.slot;
+  }
+  without_node s (BasicBlock p) = record s {
+    blocks = without_slot s.blocks p.slot;
+    blocks_in_region =
+        without_child s.blocks_in_region p.slot;
+  }
 
   -- nodes are freed one after another
   abbrev pub without_nodes : Nodes O B → List IRNode → Nodes O B
@@ -45,12 +57,15 @@ module _ {O B : Type 0} where
     pub gone : (m : IRNode) → Reaches (node_parent s) m n → is_node_live t m ≡ false
     pub live : (m : IRNode) → (Reaches (node_parent s) m n → ⊥) → is_node_live t m ≡ is_node_live s m
     -- and hold what they held
-    pub ops : (p : Ptr OperationKind) → is_node_live t (Operation p) ≡ true → content_at t.ops p.slot ≡ content_at s.ops p.slot
-    pub blocks : (p : Ptr BlockKind) → is_node_live t (BasicBlock p) ≡ true → content_at t.blocks p.slot ≡ content_at s.blocks p.slot
+    pub ops : (p : Ptr OperationKind) → is_node_live t (Operation p) ≡ true →
+        content_at t.ops p.slot ≡ content_at s.ops p.slot
+    pub blocks : (p : Ptr BlockKind) → is_node_live t (BasicBlock p) ≡ true →
+        content_at t.blocks p.slot ≡ content_at s.blocks p.slot
     -- they have the parents that they had
     pub parents : (m : IRNode) → (Reaches (node_parent s) m n → ⊥) → node_parent t m ≡ node_parent s m
     -- and the kids, but that n's parent has lost n
-    pub kids : (m : IRNode) → (Reaches (node_parent s) m n → ⊥) → (node_parent s n ≡ Some m → ⊥) → node_kids t m ≡ node_kids s m
+    pub kids : (m : IRNode) → (Reaches (node_parent s) m n → ⊥) → (node_parent s n ≡ Some m → ⊥) →
+        node_kids t m ≡ node_kids s m
     pub kids_over : (m : IRNode) (xs ys : List IRNode) → node_kids s m ≡ xs ++ n ∷ ys → node_kids t m ≡ xs ++ ys
     -- what was ever given out still counts as given out
     pub given : (m : IRNode) → was_given_out t m ≡ was_given_out s m
@@ -58,8 +73,8 @@ module _ {O B : Type 0} where
     pub count : num_nodes t + length (tree_of s n) ≡ num_nodes s
     pub limit : t.limit ≡ s.limit
 
-  -- Each node that stays from s to t, where n with all below it was erased, has the kids that it had but for n, in their
-  -- order: `keeps` is any test that tells n from all other nodes.
+  -- Each node that stays from s to t, where n with all below it was erased, has the kids that it had but for n, in
+  -- their order: `keeps` is any test that tells n from all other nodes.
   abbrev pub LosesOneKid : Nodes O B → Nodes O B → IRNode → Type 0
   LosesOneKid s t n =
       (keeps : IRNode → Bool) → keeps n ≡ false → ((x : IRNode) → (x ≡ n → ⊥) → keeps x ≡ true) →

@@ -5,8 +5,8 @@ use Rattle.plir_core.specs.declared.ptr.IRNode.{IRNode}
 use Rattle.plir_core.specs.Above.{climb}
 use Rattle.plir_core.specs.Store.{Store, kids, parent_of, is_live, given_out}
 
--- What can be seen of the nodes: the kids of each node in order (none, if it is dead), the node right above it, whether it is
--- live, and whether it was ever given out.
+-- What can be seen of the nodes: the kids of each node in order (none, if it is dead), the node right above it, whether
+-- it is live, and whether it was ever given out.
 pub record Shape : Type 0 where
   pub kids : IRNode → List IRNode
   pub parent : IRNode → Option IRNode
@@ -26,8 +26,9 @@ look s = record {
 abbrev pub IsBelow : Shape → IRNode → IRNode → Type 0
 IsBelow s a x = (k : ℕ) × (climb s.parent (suc k) (Some x) ≡ Some a)
 
--- The live nodes make a forest: the kids of a node are live and are those that have it as their parent, each once; live nodes
--- were given out; and each climb ends, within more steps than there can be nodes, so that no node is above itself.
+-- The live nodes make a forest: the kids of a node are live and are those that have it as their parent, each once; live
+-- nodes were given out; and each climb ends, within more steps than there can be nodes, so that no node is above
+-- itself.
 pub record IsForest (s : Shape) : Type 0 where
   pub kid_parent : (a x : IRNode) → Has (s.kids a) x → s.parent x ≡ Some a
   pub parent_kid : (a x : IRNode) → s.parent x ≡ Some a → Has (s.kids a) x

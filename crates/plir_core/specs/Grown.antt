@@ -10,8 +10,8 @@ use Rattle.plir_core.specs.Edits.{SameNodes}
 use Rattle.plir_core.specs.Erase.{IsErased}
 
 module _ {O B : Type 0} where
-  -- From s to t nodes are new, all below `over`, whose kids may be others; nothing else has changed, and the pointers of the
-  -- new nodes were never given out before.
+  -- From s to t nodes are new, all below `over`, whose kids may be others; nothing else has changed, and the pointers
+  -- of the new nodes were never given out before.
   pub record IsGrown (s t : Nodes O B) (over : IRNode) : Type 0 where
     pub keeps : KeepsLive s t
     pub kids : (m : IRNode) → is_node_live s m ≡ true → (m ≡ over → ⊥) → node_kids t m ≡ node_kids s m
@@ -20,7 +20,8 @@ module _ {O B : Type 0} where
 
   -- a tree that was made and then put under a node has grown there
   abbrev pub PlacedIsGrown : Nodes O B → Type 0
-  PlacedIsGrown s = (t u : Nodes O B) (n over : IRNode) (ks : List IRNode) → IsMade s t n → IsPlaced t u n over ks → IsGrown s u over
+  PlacedIsGrown s = (t u : Nodes O B) (n over : IRNode) (ks : List IRNode) → IsMade s t n → IsPlaced t u n over ks →
+      IsGrown s u over
 
   -- an operation that was given a region has grown
   abbrev pub RegionIsGrown : Nodes O B → Type 0
@@ -32,7 +33,8 @@ module _ {O B : Type 0} where
 
   -- a tree that was made and in which a new node has grown was made
   abbrev pub MadeAndGrown : Nodes O B → Type 0
-  MadeAndGrown s = (t u : Nodes O B) (n over : IRNode) → IsStored t → IsMade s t n → is_node_live t over ≡ true → is_node_live s over ≡ false → IsGrown t u over → IsMade s u n
+  MadeAndGrown s = (t u : Nodes O B) (n over : IRNode) → IsStored t → IsMade s t n → is_node_live t over ≡ true →
+      is_node_live s over ≡ false → IsGrown t u over → IsMade s u n
 
   -- where a tree that was made is erased again, no live node has changed
   abbrev pub MadeAndErased : Nodes O B → Type 0

@@ -35,11 +35,13 @@ module _ {K A T : Type 0} where
 
   -- two edits of what an operation holds are one: the second of what the first made
   abbrev pub OpEditsJoin : Store K A T → Ptr OperationKind → Type 0
-  OpEditsJoin s p = (f g : OpView K A → OpView K A) → with_op_edit (with_op_edit s p f) p g ≡ with_op_edit s p (λ o. g (f o))
+  OpEditsJoin s p = (f g : OpView K A → OpView K A) → with_op_edit (with_op_edit s p f) p g ≡ with_op_edit s p
+      (λ o. g (f o))
 
   -- edits that make the same of what an operation holds are the same
   abbrev pub OpEditsAgree : Store K A T → Ptr OperationKind → Type 0
-  OpEditsAgree s p = (f g : OpView K A → OpView K A) → ((o : OpView K A) → op_at s p ≡ Some o → f o ≡ g o) → with_op_edit s p f ≡ with_op_edit s p g
+  OpEditsAgree s p = (f g : OpView K A → OpView K A) → ((o : OpView K A) → op_at s p ≡ Some o → f o ≡ g o) →
+      with_op_edit s p f ≡ with_op_edit s p g
 
   -- the same of edits of what a block holds
   abbrev pub BlockEditsJoin : Store K A T → Ptr BasicBlockKind → Type 0

@@ -3,7 +3,8 @@ use Rattle.std.specs.Prelude.{Option, Some, None}
 use Rattle.plir_core.specs.declared.ptr.IRNode.{IRNode}
 use Rattle.plir_core.specs.declared.ptr.IRNode.TheVariants.{Operation, BasicBlock}
 use Rattle.plir_core.specs.declared.insertion_point.OpInsertionPoint.{OpInsertionPoint}
-use Rattle.plir_core.specs.declared.insertion_point.OpInsertionPoint.TheVariants.{Unset, AtBlockStart, AtBlockEnd, BeforeOperation, AfterOperation}
+use Rattle.plir_core.specs.declared.insertion_point.OpInsertionPoint.TheVariants.{Unset, AtBlockStart, AtBlockEnd}
+use Rattle.plir_core.specs.declared.insertion_point.OpInsertionPoint.TheVariants.{BeforeOperation, AfterOperation}
 use Rattle.plir_core.specs.Store.{Store, IsLive, parent_of}
 
 module _ {K A T : Type 0} where

@@ -1,6 +1,7 @@
 -- What the contracts of this crate cite.
 --
---   Store        Store K A T: what contracts see of a context; is_live, given_out, num_live, kids, parent_of, first_kid,
+--   Store        Store K A T: what contracts see of a context; is_live, given_out, num_live, kids, parent_of,
+--                first_kid,
 --                last_kid, next_sibling, prev_sibling, IsAncestor; op_at, block_at and the parts of what they hold;
 --                is_value_live, type_of_value
 --   Contents     OpView K A, BlockView A: what operations and blocks hold; op_view: an operation without a location
@@ -18,13 +19,15 @@
 --   Made         IsMade: a tree is new, and nothing else has changed; IsRegionAdded: one region is;
 --                HasNewRegions: the regions of a new operation
 --   Room         IsFullForOp and its kin: when there is no room for a new node
---   Placed       IsPlaced: a node has come under another one, and nothing else has changed (IsPlacedFirst and its kin: where);
+--   Placed       IsPlaced: a node has come under another one, and nothing else has changed (IsPlacedFirst and its kin:
+--                where);
 --                IsUnlinked: it has left its parent
 --   Held         IsOpEdited, IsBlockEdited: what an operation or a block holds is edited, and nothing else has changed
 --   Grown        IsGrown: nodes are new below a node; Growth: how trees grow in many steps
 --   Lends        what a `&mut` into a node leaves
 --   Refused      IsUnmade: what a refused make leaves of the slots
---   Erase        erased: the nodes without a tree; IsErased: what that leaves as it was; LosesOneKid: the kids that are left
+--   Erase        erased: the nodes without a tree; IsErased: what that leaves as it was; LosesOneKid: the kids that are
+--                left
 --   Unused       IsUnusedOutside: nothing outside a tree uses a value or a block of it
 --   Uses         uses_of: how often what is in a slot is used; Counts: that counts which are kept say so; IsSound
 --   Walked       IsCome: how far a walk through a tree has come

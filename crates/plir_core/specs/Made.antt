@@ -10,17 +10,20 @@ use Rattle.plir_core.specs.Above.{Reaches}
 use Rattle.plir_core.specs.Nodes.{Nodes, is_node_live, was_given_out, node_kids, node_parent}
 
 module _ {O B : Type 0} where
-  -- From s to t what was live is live, and holds what it held; what was given out counts as given out; the limit is the same.
+  -- From s to t what was live is live, and holds what it held; what was given out counts as given out; the limit is the
+  -- same.
   pub record KeepsLive (s t : Nodes O B) : Type 0 where
     pub live : (m : IRNode) → is_node_live s m ≡ true → is_node_live t m ≡ true
     pub parents : (m : IRNode) → is_node_live s m ≡ true → node_parent t m ≡ node_parent s m
-    pub ops : (p : Ptr OperationKind) → is_node_live s (Operation p) ≡ true → content_at t.ops p.slot ≡ content_at s.ops p.slot
-    pub blocks : (p : Ptr BasicBlockKind) → is_node_live s (BasicBlock p) ≡ true → content_at t.blocks p.slot ≡ content_at s.blocks p.slot
+    pub ops : (p : Ptr OperationKind) → is_node_live s (Operation p) ≡ true →
+        content_at t.ops p.slot ≡ content_at s.ops p.slot
+    pub blocks : (p : Ptr BasicBlockKind) → is_node_live s (BasicBlock p) ≡ true →
+        content_at t.blocks p.slot ≡ content_at s.blocks p.slot
     pub given : (m : IRNode) → was_given_out s m ≡ true → was_given_out t m ≡ true
     pub limit : t.limit ≡ s.limit
 
-  -- From s to t one node n is new, and its pointer was never given out before. It has no kids, and what stands right above it
-  -- is `over`; all other kids are as they were.
+  -- From s to t one node n is new, and its pointer was never given out before. It has no kids, and what stands right
+  -- above it is `over`; all other kids are as they were.
   pub record IsAdded (s t : Nodes O B) (n : IRNode) (over : Option IRNode) : Type 0 where
     pub keeps : KeepsLive s t
     pub kids : (m : IRNode) → is_node_live s m ≡ true → (over ≡ Some m → ⊥) → node_kids t m ≡ node_kids s m
@@ -36,8 +39,8 @@ module _ {O B : Type 0} where
     pub added : IsAdded s t n (Some o)
     pub last : node_kids t o ≡ node_kids s o ++ n ∷ []
 
-  -- From s to t the tree under n is new, and nothing else has changed: the pointers of its nodes were never given out before,
-  -- and its root n has no parent.
+  -- From s to t the tree under n is new, and nothing else has changed: the pointers of its nodes were never given out
+  -- before, and its root n has no parent.
   pub record IsMade (s t : Nodes O B) (n : IRNode) : Type 0 where
     pub keeps : KeepsLive s t
     pub kids : (m : IRNode) → is_node_live s m ≡ true → node_kids t m ≡ node_kids s m

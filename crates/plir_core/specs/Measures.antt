@@ -1,5 +1,6 @@
--- How deep nodes stand and how many are live: what loops and recursions over a context go by. What is said of walks and of
--- symbol tables cites nothing of it; the definitions of a text and of an erased tree take from it only how far to go down.
+-- How deep nodes stand and how many are live: what loops and recursions over a context go by. What is said of walks and
+-- of symbol tables cites nothing of it; the definitions of a text and of an erased tree take from it only how far to go
+-- down.
 use Rattle.std.specs.Prelude.{◌≡◌, ℕ, zero, suc, ◌+◌, ◌*◌, ◌≤◌, List, length, Option, Some, None}
 use Rattle.plir_store.specs.Members.{Has, Distinct}
 use Rattle.plir_core.specs.declared.ptr.IRNode.{IRNode}
@@ -27,8 +28,8 @@ module _ {K A T : Type 0} where
   abbrev pub depth : Store K A T → IRNode → ℕ
   depth s n = depth_of s.nodes n
 
-  -- A node stands one level deeper than its parent, and no deeper than the limit allows; different live nodes are no more than
-  -- are live.
+  -- A node stands one level deeper than its parent, and no deeper than the limit allows; different live nodes are no
+  -- more than are live.
   pub record IsMeasured (s : Store K A T) : Type 0 where
     pub deeper : (a x : IRNode) → parent_of s x ≡ Some a → depth s x ≡ depth s a + 1
     pub deepest : (x : IRNode) → depth s x ≤ limit s + 1

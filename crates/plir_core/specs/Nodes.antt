@@ -1,5 +1,6 @@
 -- The nodes of a context: what they hold, which of them are live, and what stands under what.
-use Rattle.std.specs.Prelude.{ℕ, ◌+◌, ◌-◌, ◌^◌, min, Bool, ◌&&◌, nat_lt, nat_le, cond, map, List, [], Option, None, option_map}
+use Rattle.std.specs.Prelude.{ℕ, ◌+◌, ◌-◌, ◌^◌, min, Bool, ◌&&◌, nat_lt, nat_le, cond, map, List, [], Option, None}
+use Rattle.std.specs.Prelude.{option_map}
 use Rattle.plir_store.specs.Members.{head}
 use Rattle.plir_store.specs.Lists.{Lists, parent_at, kids_at, last_of, next_of, prev_of}
 use Rattle.plir_store.specs.Table.{Table, version_at, is_live_at, num_full}

@@ -35,7 +35,9 @@ module _ {O B : Type 0} where
 
   -- right before, or right behind, a kid that is named, under that one's parent
   abbrev pub IsPlacedBefore : Nodes O B → Nodes O B → IRNode → IRNode → Type 0
-  IsPlacedBefore s t n mark = (over : IRNode) (xs ys : List IRNode) → node_kids s over ≡ xs ++ mark ∷ ys → IsPlaced s t n over (xs ++ n ∷ mark ∷ ys)
+  IsPlacedBefore s t n mark = (over : IRNode) (xs ys : List IRNode) → node_kids s over ≡ xs ++ mark ∷ ys →
+      IsPlaced s t n over (xs ++ n ∷ mark ∷ ys)
 
   abbrev pub IsPlacedBehind : Nodes O B → Nodes O B → IRNode → IRNode → Type 0
-  IsPlacedBehind s t n mark = (over : IRNode) (xs ys : List IRNode) → node_kids s over ≡ xs ++ mark ∷ ys → IsPlaced s t n over (xs ++ mark ∷ n ∷ ys)
+  IsPlacedBehind s t n mark = (over : IRNode) (xs ys : List IRNode) → node_kids s over ≡ xs ++ mark ∷ ys →
+      IsPlaced s t n over (xs ++ mark ∷ n ∷ ys)

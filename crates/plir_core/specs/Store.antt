@@ -15,7 +15,8 @@ use Rattle.plir_core.specs.declared.value.Value.{Value}
 use Rattle.plir_core.specs.declared.value.DefiningEntity.{DefiningEntity}
 use Rattle.plir_core.specs.declared.value.DefiningEntity.TheVariants.{Op, Block}
 use Rattle.plir_core.specs.Above.{climb, Reaches}
-use Rattle.plir_core.specs.Nodes.{Nodes, index_of, is_node_live, was_given_out, num_nodes, node_kids, node_parent, node_first, node_last, node_next, node_prev}
+use Rattle.plir_core.specs.Nodes.{Nodes, index_of, is_node_live, was_given_out, num_nodes, node_kids, node_parent}
+use Rattle.plir_core.specs.Nodes.{node_first, node_last, node_next, node_prev}
 use Rattle.plir_core.specs.Contents.{OpView, BlockView}
 
 -- The nodes with what they hold, and the types. K, A and T are the kinds of operations, the attributes and the types

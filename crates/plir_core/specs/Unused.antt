@@ -15,11 +15,13 @@ module _ {K A T : Type 0} where
 
   -- the operation in the slot i, if there is a live one, is in the tree under n or uses no value and no block of it
   abbrev pub IsUnusedAt : Store K A T → IRNode → ℕ → Type 0
-  IsUnusedAt s n i = (op : Ptr OperationKind) → op.slot ≡ i → IsLive s (Operation op) → (IsAncestor s n (Operation op) → ⊥) → UsesNoneOf s n op
+  IsUnusedAt s n i = (op : Ptr OperationKind) → op.slot ≡ i → IsLive s (Operation op) →
+      (IsAncestor s n (Operation op) → ⊥) → UsesNoneOf s n op
 
   -- no live operation outside the tree under n uses a value or a block of that tree
   abbrev pub IsUnusedOutside : Store K A T → IRNode → Type 0
-  IsUnusedOutside s n = (op : Ptr OperationKind) → IsLive s (Operation op) → (IsAncestor s n (Operation op) → ⊥) → UsesNoneOf s n op
+  IsUnusedOutside s n = (op : Ptr OperationKind) → IsLive s (Operation op) → (IsAncestor s n (Operation op) → ⊥) →
+      UsesNoneOf s n op
 
   -- without the tree under n, whose nodes are freed one after another, each after those below it and kids in order
   abbrev pub without_tree : Store K A T → IRNode → Store K A T

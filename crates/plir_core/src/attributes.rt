@@ -18,14 +18,15 @@ impl Ptr<Operation> {
         requires { IsLive ctx.old (IRNode.Operation self) }
         ensures taken { option_map attr_view result ≡ dict_get (attributes_of ctx.old self) key.now }
         ensures live { IfSome result (λ a. IsAttrLive D.attr_handles ctx.new.types (attr_view a)) }
-        ensures after { ctx.new ≡ with_op_edit ctx.old self (λ o. record o { attributes = dict_without o.attributes key.now }) }
+        ensures after { ctx.new ≡ with_op_edit ctx.old self
+            (λ o. record o { attributes = dict_without o.attributes key.now }) }
         ensures whole { IsWhole D.attr_handles ctx.new }
     {
         ctx.nodes.op_mut(self).attributes.remove(key)
     }
 
-    /// Puts an attribute in place of the one under a key, and answers that one. Where there is none, the new one comes back
-    /// and nothing has changed.
+    /// Puts an attribute in place of the one under a key, and answers that one. Where there is none, the new one comes
+    /// back and nothing has changed.
     pub fn swap_attr<D: OpSet>(
         self,
         ctx: &mut Context<D>,
@@ -36,7 +37,8 @@ impl Ptr<Operation> {
         requires handles { IsAttrLive D.attr_handles ctx.old.types (attr_view value) }
         ensures found { IfOk result (λ a. dict_get (attributes_of ctx.old self) key.now ≡ Some (attr_view a)) }
         ensures live { IfOk result (λ a. IsAttrLive D.attr_handles ctx.new.types (attr_view a)) }
-        ensures put { OnOk result (ctx.new ≡ with_op_edit ctx.old self (λ o. record o { attributes = dict_put o.attributes key.now (attr_view value) })) }
+        ensures put { OnOk result (ctx.new ≡ with_op_edit ctx.old self
+            (λ o. record o { attributes = dict_put o.attributes key.now (attr_view value) })) }
         ensures absent { OnErr result (dict_get (attributes_of ctx.old self) key.now ≡ None) }
         ensures handed_back { IfErr result (λ a. a ≡ value) }
         ensures same { OnErr result (ctx.new ≡ ctx.old) }
@@ -52,14 +54,15 @@ impl Ptr<BasicBlock> {
         requires { IsLive ctx.old (IRNode.BasicBlock self) }
         ensures taken { option_map attr_view result ≡ dict_get (block_attributes_of ctx.old self) key.now }
         ensures live { IfSome result (λ a. IsAttrLive D.attr_handles ctx.new.types (attr_view a)) }
-        ensures after { ctx.new ≡ with_block_edit ctx.old self (λ b. record b { attributes = dict_without b.attributes key.now }) }
+        ensures after { ctx.new ≡ with_block_edit ctx.old self
+            (λ b. record b { attributes = dict_without b.attributes key.now }) }
         ensures whole { IsWhole D.attr_handles ctx.new }
     {
         ctx.nodes.block_mut(self).attributes.remove(key)
     }
 
-    /// Puts an attribute in place of the one under a key, and answers that one. Where there is none, the new one comes back
-    /// and nothing has changed.
+    /// Puts an attribute in place of the one under a key, and answers that one. Where there is none, the new one comes
+    /// back and nothing has changed.
     pub fn swap_attr<D: OpSet>(
         self,
         ctx: &mut Context<D>,
@@ -70,7 +73,8 @@ impl Ptr<BasicBlock> {
         requires handles { IsAttrLive D.attr_handles ctx.old.types (attr_view value) }
         ensures found { IfOk result (λ a. dict_get (block_attributes_of ctx.old self) key.now ≡ Some (attr_view a)) }
         ensures live { IfOk result (λ a. IsAttrLive D.attr_handles ctx.new.types (attr_view a)) }
-        ensures put { OnOk result (ctx.new ≡ with_block_edit ctx.old self (λ b. record b { attributes = dict_put b.attributes key.now (attr_view value) })) }
+        ensures put { OnOk result (ctx.new ≡ with_block_edit ctx.old self
+            (λ b. record b { attributes = dict_put b.attributes key.now (attr_view value) })) }
         ensures absent { OnErr result (dict_get (block_attributes_of ctx.old self) key.now ≡ None) }
         ensures handed_back { IfErr result (λ a. a ≡ value) }
         ensures same { OnErr result (ctx.new ≡ ctx.old) }

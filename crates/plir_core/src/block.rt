@@ -29,8 +29,9 @@ use plir_data::{AttrObj, AttributeDict, Identifier, Memory, OpSet, TypeHandle};
 use std::alloc::Global;
 
 impl BasicBlock {
-    /// A new block in no region: its label, if it has one, and the types of its arguments. `TooManyNodes` comes exactly where
-    /// the limit of live nodes is reached or the blocks' slot numbers are spent. After a refusal all is as before.
+    /// A new block in no region: its label, if it has one, and the types of its arguments. `TooManyNodes` comes exactly
+    /// where the limit of live nodes is reached or the blocks' slot numbers are spent. After a refusal all is as
+    /// before.
     pub fn new<D: OpSet>(
         alloc: Global,
         ctx: &mut Context<D>,
@@ -38,8 +39,10 @@ impl BasicBlock {
         arg_types: Vec<TypeHandle>,
     ) -> Result<Ptr<BasicBlock>, NodeErr>
         requires { AllLive ctx.old.types arg_types.items }
-        ensures ok { OnOk result (ctx.new ≡ with_block ctx.old (record { label = label; arg_types = arg_types.items; attributes = [] })) }
-        ensures held { IfOk result (λ p. block_at ctx.new p ≡ Some (record { label = label; arg_types = arg_types.items; attributes = [] })) }
+        ensures ok { OnOk result (ctx.new ≡ with_block ctx.old
+            (record { label = label; arg_types = arg_types.items; attributes = [] })) }
+        ensures held { IfOk result (λ p. block_at ctx.new p ≡ Some
+            (record { label = label; arg_types = arg_types.items; attributes = [] })) }
         ensures pointer { IfOk result (λ p. p ≡ ptr_at ctx.new.nodes.blocks (next_slot ctx.old.nodes.blocks)) }
         ensures live { IfOk result (λ p. IsLive ctx.new (IRNode.BasicBlock p)) }
         ensures fresh { IfOk result (λ p. given_out ctx.old (IRNode.BasicBlock p) ≡ false) }
@@ -98,7 +101,8 @@ impl Ptr<BasicBlock> {
         requires { IsLive ctx.now (IRNode.BasicBlock self) }
         ensures value { option_map IRNode.BasicBlock result ≡ next_sibling ctx.now (IRNode.BasicBlock self) }
         ensures live { IfSome result (λ block. IsLive ctx.now (IRNode.BasicBlock block)) }
-        ensures beside { IfSome result (λ block. parent_of ctx.now (IRNode.BasicBlock block) ≡ parent_of ctx.now (IRNode.BasicBlock self)) }
+        ensures beside { IfSome result (λ block. parent_of ctx.now (IRNode.BasicBlock block) ≡ parent_of ctx.now
+            (IRNode.BasicBlock self)) }
         ensures whole { IsWhole D.attr_handles ctx.now }
     {
         ctx.nodes.next_block(self)
@@ -109,7 +113,8 @@ impl Ptr<BasicBlock> {
         requires { IsLive ctx.now (IRNode.BasicBlock self) }
         ensures value { option_map IRNode.BasicBlock result ≡ prev_sibling ctx.now (IRNode.BasicBlock self) }
         ensures live { IfSome result (λ block. IsLive ctx.now (IRNode.BasicBlock block)) }
-        ensures beside { IfSome result (λ block. parent_of ctx.now (IRNode.BasicBlock block) ≡ parent_of ctx.now (IRNode.BasicBlock self)) }
+        ensures beside { IfSome result (λ block. parent_of ctx.now (IRNode.BasicBlock block) ≡ parent_of ctx.now
+            (IRNode.BasicBlock self)) }
         ensures whole { IsWhole D.attr_handles ctx.now }
     {
         ctx.nodes.prev_block(self)
@@ -202,8 +207,10 @@ impl Ptr<BasicBlock> {
     ) -> Result<(), Memory>
         requires live { IsLive ctx.old (IRNode.BasicBlock self) }
         requires handles { IsAttrLive D.attr_handles ctx.old.types (attr_view value) }
-        ensures ok { OnOk result (ctx.new ≡ with_block_edit ctx.old self (λ b. record b { attributes = dict_put b.attributes key (attr_view value) })) }
-        ensures attributes { OnOk result (block_attributes_of ctx.new self ≡ dict_put (block_attributes_of ctx.old self) key (attr_view value)) }
+        ensures ok { OnOk result (ctx.new ≡ with_block_edit ctx.old self
+            (λ b. record b { attributes = dict_put b.attributes key (attr_view value) })) }
+        ensures attributes { OnOk result (block_attributes_of ctx.new self ≡ dict_put
+            (block_attributes_of ctx.old self) key (attr_view value)) }
         ensures err { OnErr result (ctx.new ≡ ctx.old) }
         ensures whole { IsWhole D.attr_handles ctx.new }
     {

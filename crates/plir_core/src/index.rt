@@ -12,7 +12,8 @@ impl<O, B> Arena<O, B> {
     /// The place of a region, from 0, among those of its operation.
     pub(crate) fn place_of_region(&self, region: Ptr<Region>) -> usize
         requires { is_node_live self.now (IRNode.Region region) ≡ true }
-        ensures { IfSome (node_parent self.now (IRNode.Region region)) (λ n. slice_get (node_kids self.now n) result ≡ Some (IRNode.Region region)) }
+        ensures { IfSome (node_parent self.now (IRNode.Region region))
+            (λ n. slice_get (node_kids self.now n) result ≡ Some (IRNode.Region region)) }
     {
         match self.regions_in_op.parent(region.slot) {
             Some(list) => place_of(&self.regions_in_op, list, region.slot),

@@ -43,7 +43,8 @@ pub fn kind_impls<D: OpSet>(kind: OpKind<D::Kind>, interface: Interface) -> bool
 /// no other builtin kind implements any, and of own kinds the op set tells.
 pub fn op_impls<D: OpSet>(ctx: &Context<D>, op: Ptr<Operation>, interface: Interface) -> bool
     requires { IsLive ctx.now (IRNode.Operation op) }
-    ensures value { IfSome (kind_of ctx.now op) (λ k. result ≡ implements D.is_terminator D.is_symbol D.is_symbol_table D.is_symbol_user k interface) }
+    ensures value { IfSome (kind_of ctx.now op) (λ k. result ≡ implements D.is_terminator D.is_symbol D.is_symbol_table
+        D.is_symbol_user k interface) }
     ensures whole { IsWhole D.attr_handles ctx.now }
 {
     kind_impls::<D>(op.kind(ctx), interface)

@@ -45,7 +45,8 @@ pub fn first_kid_is_front<D: OpSet>(ctx: &Context<D>, over: IRNode)
 
 /// What follows a kid of a node is the first of what stands behind it.
 pub fn next_is_behind<D: OpSet>(ctx: &Context<D>, kid: IRNode)
-    ensures { (over : AnyNode) (xs ys : List AnyNode) → kids ctx.now over ≡ xs ++ kid ∷ ys → next_sibling ctx.now kid ≡ head ys }
+    ensures { (over : AnyNode) (xs ys : List AnyNode) → kids ctx.now over ≡ xs ++ kid ∷ ys →
+        next_sibling ctx.now kid ≡ head ys }
 {
     ctx.stands();
 }
@@ -81,8 +82,8 @@ pub fn regions_stand_in_operations<D: OpSet>(ctx: &Context<D>)
     ctx.stands();
 }
 
-/// After an erasure each node that stays has the kids that it had before, in their order, but for the node that was erased.
-/// It is called before the erasure; `after` is what that leaves, as its clause `tree` says.
+/// After an erasure each node that stays has the kids that it had before, in their order, but for the node that was
+/// erased. It is called before the erasure; `after` is what that leaves, as its clause `tree` says.
 pub fn erasure_takes_one_kid<D: OpSet>(ctx: &Context<D>)
     ensures { (after : Store D.Kind D.Attr D.Ty) (gone : AnyNode) → IsErased ctx.now.nodes after.nodes gone →
         LosesOneKid ctx.now.nodes after.nodes gone }
@@ -103,8 +104,8 @@ pub fn op_edits_keep_the_rest<D: OpSet>(ctx: &Context<D>, op: Ptr<Operation>)
     ctx.stands();
 }
 
-/// Two edits of what an operation holds are one: the second of what the first made. An edit is what it makes of what the
-/// operation holds.
+/// Two edits of what an operation holds are one: the second of what the first made. An edit is what it makes of what
+/// the operation holds.
 pub fn op_edits_join<D: OpSet>(ctx: &Context<D>, op: Ptr<Operation>)
     ensures join { OpEditsJoin ctx.now op }
     ensures same { OpEditsAgree ctx.now op }
@@ -115,13 +116,14 @@ pub fn op_edits_join<D: OpSet>(ctx: &Context<D>, op: Ptr<Operation>)
 /// An edit of what a block holds changes nothing else.
 pub fn block_edits_keep_the_rest<D: OpSet>(ctx: &Context<D>, block: Ptr<BasicBlock>)
     requires { IsLive ctx.now (AnyNode.BasicBlock block) }
-    ensures { (f : BlockView D.Attr → BlockView D.Attr) → IsBlockEdited ctx.now (with_block_edit ctx.now block f) block f }
+    ensures { (f : BlockView D.Attr → BlockView D.Attr) →
+        IsBlockEdited ctx.now (with_block_edit ctx.now block f) block f }
 {
     ctx.stands();
 }
 
-/// Two edits of what a block holds are one: the second of what the first made. An edit is what it makes of what the block
-/// holds.
+/// Two edits of what a block holds are one: the second of what the first made. An edit is what it makes of what the
+/// block holds.
 pub fn block_edits_join<D: OpSet>(ctx: &Context<D>, block: Ptr<BasicBlock>)
     ensures join { BlockEditsJoin ctx.now block }
     ensures same { BlockEditsAgree ctx.now block }
@@ -131,13 +133,14 @@ pub fn block_edits_join<D: OpSet>(ctx: &Context<D>, block: Ptr<BasicBlock>)
 
 /// What was made is used by nothing outside it: a refusal in the midst of a larger make can erase it.
 pub fn what_was_made_is_unused<D: OpSet>(ctx: &Context<D>)
-    ensures { (made : Store D.Kind D.Attr D.Ty) (root : AnyNode) → IsMade ctx.now.nodes made.nodes root → IsUnusedOutside made root }
+    ensures { (made : Store D.Kind D.Attr D.Ty) (root : AnyNode) → IsMade ctx.now.nodes made.nodes root →
+        IsUnusedOutside made root }
 {
     ctx.stands();
 }
 
-/// How trees grow from a context on: what is made and put below a node, what is made in many steps, and what is made and erased
-/// again.
+/// How trees grow from a context on: what is made and put below a node, what is made in many steps, and what is made
+/// and erased again.
 pub fn growth<D: OpSet>(ctx: &Context<D>)
     ensures { Growth ctx.now.nodes }
 {

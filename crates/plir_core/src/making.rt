@@ -1,5 +1,6 @@
 //! How nodes come into the arena.
-ghost use Rattle.std.specs.Prelude.{◌≡◌, ◌+◌, ◌-◌, ◌<◌, ◌≤◌, ◌^◌, length, Some, OnOk, OnErr, IfOk, IfErr, ◌↔◌, ◌⊎◌, true, false};
+ghost use Rattle.std.specs.Prelude.{◌≡◌, ◌+◌, ◌-◌, ◌<◌, ◌≤◌, ◌^◌, length, Some, OnOk, OnErr, IfOk, IfErr, ◌↔◌, ◌⊎◌};
+ghost use Rattle.std.specs.Prelude.{true, false};
 ghost use Rattle.plir_store.specs.Lists.{IsAgreed};
 ghost use Rattle.plir_store.specs.Table.{content_at, num_full, next_slot};
 ghost use Rattle.plir_core.specs.Room.{IsFullForOp, IsFullForBlock, IsFullForRegion};
@@ -142,7 +143,8 @@ impl<O: Drop, B: Drop> Arena<O, B> {
         ensures fresh { IfOk result (λ p. was_given_out self.old (IRNode.Operation p) ≡ false) }
         ensures given { (n : IRNode) → was_given_out self.old n ≡ true → was_given_out self.new n ≡ true }
         ensures err { OnErr result (self.new ≡ self.old) }
-        ensures too_many { (result ≡ Err NodeErr.TooManyNodes) ↔ ((num_nodes self.old ≡ self.old.limit) ⊎ (2 ^ 32 - 1 ≤ next_slot self.old.ops)) }
+        ensures too_many { (result ≡ Err NodeErr.TooManyNodes) ↔
+            ((num_nodes self.old ≡ self.old.limit) ⊎ (2 ^ 32 - 1 ≤ next_slot self.old.ops)) }
         ensures stored { IsStored self.new }
     {
         if self.num_live() == self.limit || self.ops.next_slot() >= u32::MAX as usize {
@@ -181,14 +183,15 @@ impl<O: Drop, B: Drop> Arena<O, B> {
         Ok(Ptr::new(slot, self.blocks.version(slot)))
     }
 
-    /// A new operation in no block, with so many new regions. After a refusal no live node has changed, and the slots are as
-    /// before or as where the operation and some of its regions were made and freed again.
+    /// A new operation in no block, with so many new regions. After a refusal no live node has changed, and the slots
+    /// are as before or as where the operation and some of its regions were made and freed again.
     pub(crate) fn make_op_with_regions(
         &mut self,
         value: O,
         count: usize,
     ) -> Result<Ptr<Operation>, NodeErr>
-        ensures ok { OnOk result (self.new ≡ with_new_regions (with_new_op self.old value) (next_slot self.old.ops) count) }
+        ensures ok { OnOk result (self.new ≡ with_new_regions (with_new_op self.old value) (next_slot self.old.ops)
+            count) }
         ensures pointer { IfOk result (λ p. p ≡ ptr_at self.new.ops (next_slot self.old.ops)) }
         ensures live { IfOk result (λ p. is_node_live self.new (IRNode.Operation p) ≡ true) }
         ensures fresh { IfOk result (λ p. was_given_out self.old (IRNode.Operation p) ≡ false) }

@@ -16,7 +16,10 @@ impl<O, B> Arena<O, B> {
         requires target_live { is_node_live self.old (IRNode.BasicBlock target) ≡ true }
         requires unlinked { node_parent self.old (IRNode.Operation op) ≡ None }
         requires not_above { Reaches (node_parent self.old) (IRNode.BasicBlock target) (IRNode.Operation op) → ⊥ }
-        ensures after { self.new ≡ record self.old { ops_in_block = with_last self.old.ops_in_block target.slot op.slot } }
+        ensures after { self.new ≡ record self.old {
+          ops_in_block =
+              with_last self.old.ops_in_block target.slot op.slot;
+        } }
         ensures stored { IsStored self.new }
     {
         self.ops_in_block.push_back(target.slot, op.slot);
@@ -28,7 +31,10 @@ impl<O, B> Arena<O, B> {
         requires target_live { is_node_live self.old (IRNode.Region target) ≡ true }
         requires unlinked { node_parent self.old (IRNode.BasicBlock block) ≡ None }
         requires not_above { Reaches (node_parent self.old) (IRNode.Region target) (IRNode.BasicBlock block) → ⊥ }
-        ensures after { self.new ≡ record self.old { blocks_in_region = with_last self.old.blocks_in_region target.slot block.slot } }
+        ensures after { self.new ≡ record self.old {
+          blocks_in_region =
+              with_last self.old.blocks_in_region target.slot block.slot;
+        } }
         ensures stored { IsStored self.new }
     {
         self.blocks_in_region.push_back(target.slot, block.slot);
@@ -40,7 +46,10 @@ impl<O, B> Arena<O, B> {
         requires target_live { is_node_live self.old (IRNode.BasicBlock target) ≡ true }
         requires unlinked { node_parent self.old (IRNode.Operation op) ≡ None }
         requires not_above { Reaches (node_parent self.old) (IRNode.BasicBlock target) (IRNode.Operation op) → ⊥ }
-        ensures after { self.new ≡ record self.old { ops_in_block = with_first self.old.ops_in_block target.slot op.slot } }
+        ensures after { self.new ≡ record self.old {
+          ops_in_block =
+              with_first self.old.ops_in_block target.slot op.slot;
+        } }
         ensures stored { IsStored self.new }
     {
         self.ops_in_block.push_front(target.slot, op.slot);
@@ -52,7 +61,10 @@ impl<O, B> Arena<O, B> {
         requires target_live { is_node_live self.old (IRNode.Region target) ≡ true }
         requires unlinked { node_parent self.old (IRNode.BasicBlock block) ≡ None }
         requires not_above { Reaches (node_parent self.old) (IRNode.Region target) (IRNode.BasicBlock block) → ⊥ }
-        ensures after { self.new ≡ record self.old { blocks_in_region = with_first self.old.blocks_in_region target.slot block.slot } }
+        ensures after { self.new ≡ record self.old {
+          blocks_in_region =
+              with_first self.old.blocks_in_region target.slot block.slot;
+        } }
         ensures stored { IsStored self.new }
     {
         self.blocks_in_region.push_front(target.slot, block.slot);
@@ -65,7 +77,10 @@ impl<O, B> Arena<O, B> {
         requires unlinked { node_parent self.old (IRNode.Operation op) ≡ None }
         requires linked { IsSome (node_parent self.old (IRNode.Operation mark)) }
         requires not_above { Reaches (node_parent self.old) (IRNode.Operation mark) (IRNode.Operation op) → ⊥ }
-        ensures after { self.new ≡ record self.old { ops_in_block = with_before self.old.ops_in_block op.slot mark.slot } }
+        ensures after { self.new ≡ record self.old {
+          ops_in_block =
+              with_before self.old.ops_in_block op.slot mark.slot;
+        } }
         ensures stored { IsStored self.new }
     {
         self.ops_in_block.insert_before(op.slot, mark.slot);
@@ -78,7 +93,10 @@ impl<O, B> Arena<O, B> {
         requires unlinked { node_parent self.old (IRNode.BasicBlock block) ≡ None }
         requires linked { IsSome (node_parent self.old (IRNode.BasicBlock mark)) }
         requires not_above { Reaches (node_parent self.old) (IRNode.BasicBlock mark) (IRNode.BasicBlock block) → ⊥ }
-        ensures after { self.new ≡ record self.old { blocks_in_region = with_before self.old.blocks_in_region block.slot mark.slot } }
+        ensures after { self.new ≡ record self.old {
+          blocks_in_region =
+              with_before self.old.blocks_in_region block.slot mark.slot;
+        } }
         ensures stored { IsStored self.new }
     {
         self.blocks_in_region.insert_before(block.slot, mark.slot);
@@ -91,7 +109,10 @@ impl<O, B> Arena<O, B> {
         requires unlinked { node_parent self.old (IRNode.Operation op) ≡ None }
         requires linked { IsSome (node_parent self.old (IRNode.Operation mark)) }
         requires not_above { Reaches (node_parent self.old) (IRNode.Operation mark) (IRNode.Operation op) → ⊥ }
-        ensures after { self.new ≡ record self.old { ops_in_block = with_after self.old.ops_in_block op.slot mark.slot } }
+        ensures after { self.new ≡ record self.old {
+          ops_in_block =
+              with_after self.old.ops_in_block op.slot mark.slot;
+        } }
         ensures stored { IsStored self.new }
     {
         self.ops_in_block.insert_after(op.slot, mark.slot);
@@ -104,7 +125,10 @@ impl<O, B> Arena<O, B> {
         requires unlinked { node_parent self.old (IRNode.BasicBlock block) ≡ None }
         requires linked { IsSome (node_parent self.old (IRNode.BasicBlock mark)) }
         requires not_above { Reaches (node_parent self.old) (IRNode.BasicBlock mark) (IRNode.BasicBlock block) → ⊥ }
-        ensures after { self.new ≡ record self.old { blocks_in_region = with_after self.old.blocks_in_region block.slot mark.slot } }
+        ensures after { self.new ≡ record self.old {
+          blocks_in_region =
+              with_after self.old.blocks_in_region block.slot mark.slot;
+        } }
         ensures stored { IsStored self.new }
     {
         self.blocks_in_region.insert_after(block.slot, mark.slot);
@@ -122,7 +146,10 @@ impl<O, B> Arena<O, B> {
     /// Takes a block out of its region, if it is in one.
     pub(crate) fn unlink_block(&mut self, block: Ptr<BasicBlock>)
         requires { is_node_live self.old (IRNode.BasicBlock block) ≡ true }
-        ensures after { self.new ≡ record self.old { blocks_in_region = without_child self.old.blocks_in_region block.slot } }
+        ensures after { self.new ≡ record self.old {
+          blocks_in_region =
+              without_child self.old.blocks_in_region block.slot;
+        } }
         ensures stored { IsStored self.new }
     {
         self.blocks_in_region.remove(block.slot);

@@ -11,7 +11,8 @@ use crate::value::Value;
 use plir_data::{Memory, OpSet};
 
 impl Ptr<Operation> {
-    /// Puts a value at a place, from 0, among the operands; those from that place on move up. After a refusal all is as before.
+    /// Puts a value at a place, from 0, among the operands; those from that place on move up. After a refusal all is as
+    /// before.
     pub fn insert_operand<D: OpSet>(
         self,
         i: usize,
@@ -21,7 +22,8 @@ impl Ptr<Operation> {
         requires live { IsLive ctx.old (IRNode.Operation self) }
         requires within { i ≤ length (operands_of ctx.old self) }
         requires value_live { IsValueLive ctx.old value }
-        ensures ok { OnOk result (ctx.new ≡ with_op_edit ctx.old self (λ o. record o { operands = insert o.operands i value })) }
+        ensures ok { OnOk result (ctx.new ≡ with_op_edit ctx.old self
+            (λ o. record o { operands = insert o.operands i value })) }
         ensures err { OnErr result (ctx.new ≡ ctx.old) }
         ensures whole { IsWhole D.attr_handles ctx.new }
     {

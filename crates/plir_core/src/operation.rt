@@ -31,7 +31,8 @@ use plir_data::{AttrObj, AttributeDict, Identifier, Location, Memory, OpKind, Op
 use std::alloc::Global;
 
 impl Operation {
-    /// A new operation in no block, with no attribute and so many new regions: `with_attributes` with an empty dictionary.
+    /// A new operation in no block, with no attribute and so many new regions: `with_attributes` with an empty
+    /// dictionary.
     pub fn new<D: OpSet>(
         alloc: Global,
         ctx: &mut Context<D>,
@@ -44,8 +45,10 @@ impl Operation {
         requires types_live { AllLive ctx.old.types result_types.items }
         requires operands_live { All (IsValueLive ctx.old) operands.items }
         requires successors_live { All (λ b. IsLive ctx.old (IRNode.BasicBlock b)) successors.items }
-        ensures ok { OnOk result (ctx.new ≡ with_op ctx.old (op_view kind result_types.items operands.items successors.items []) num_regions) }
-        ensures held { IfOk result (λ p. op_at ctx.new p ≡ Some (op_view kind result_types.items operands.items successors.items [])) }
+        ensures ok { OnOk result (ctx.new ≡ with_op ctx.old
+            (op_view kind result_types.items operands.items successors.items []) num_regions) }
+        ensures held { IfOk result (λ p. op_at ctx.new p ≡ Some
+            (op_view kind result_types.items operands.items successors.items [])) }
         ensures pointer { IfOk result (λ p. p ≡ ptr_at ctx.new.nodes.ops (next_slot ctx.old.nodes.ops)) }
         ensures live { IfOk result (λ p. IsLive ctx.new (IRNode.Operation p)) }
         ensures fresh { IfOk result (λ p. given_out ctx.old (IRNode.Operation p) ≡ false) }
@@ -53,7 +56,8 @@ impl Operation {
         ensures made { IfOk result (λ p. IsMade ctx.old.nodes ctx.new.nodes (IRNode.Operation p)) }
         ensures regions { IfOk result (λ p. HasNewRegions ctx.new.nodes (IRNode.Operation p) num_regions) }
         ensures err { OnErr result (SameLive ctx.old ctx.new) }
-        ensures slots { OnErr result (IsUnmade ctx.old.nodes ctx.new.nodes (op_view kind result_types.items operands.items successors.items []) num_regions) }
+        ensures slots { OnErr result (IsUnmade ctx.old.nodes ctx.new.nodes
+            (op_view kind result_types.items operands.items successors.items []) num_regions) }
         ensures too_many { limit ctx.old < num_live ctx.old + 1 + num_regions → result ≡ Err NodeErr.TooManyNodes }
         ensures too_many_only { result ≡ Err NodeErr.TooManyNodes → IsFullForOp ctx.old.nodes num_regions }
         ensures whole { IsWhole D.attr_handles ctx.new }
@@ -70,9 +74,10 @@ impl Operation {
         )
     }
 
-    /// A new operation in no block, with these attributes and so many new regions. `TooManyNodes` comes only where the limit of
-    /// live nodes would be passed, or the slot numbers of operations or regions are spent. After a refusal no live node has
-    /// changed, and the slots are as before or as where the operation and some of its regions were made and freed again.
+    /// A new operation in no block, with these attributes and so many new regions. `TooManyNodes` comes only where the
+    /// limit of live nodes would be passed, or the slot numbers of operations or regions are spent. After a refusal no
+    /// live node has changed, and the slots are as before or as where the operation and some of its regions were made
+    /// and freed again.
     pub fn with_attributes<D: OpSet>(
         ctx: &mut Context<D>,
         kind: OpKind<D::Kind>,
@@ -86,8 +91,10 @@ impl Operation {
         requires operands_live { All (IsValueLive ctx.old) operands.items }
         requires successors_live { All (λ b. IsLive ctx.old (IRNode.BasicBlock b)) successors.items }
         requires handles_live { HandlesLive D.attr_handles ctx.old.types attributes }
-        ensures ok { OnOk result (ctx.new ≡ with_op ctx.old (op_view kind result_types.items operands.items successors.items attributes) num_regions) }
-        ensures held { IfOk result (λ p. op_at ctx.new p ≡ Some (op_view kind result_types.items operands.items successors.items attributes)) }
+        ensures ok { OnOk result (ctx.new ≡ with_op ctx.old
+            (op_view kind result_types.items operands.items successors.items attributes) num_regions) }
+        ensures held { IfOk result (λ p. op_at ctx.new p ≡ Some
+            (op_view kind result_types.items operands.items successors.items attributes)) }
         ensures pointer { IfOk result (λ p. p ≡ ptr_at ctx.new.nodes.ops (next_slot ctx.old.nodes.ops)) }
         ensures live { IfOk result (λ p. IsLive ctx.new (IRNode.Operation p)) }
         ensures fresh { IfOk result (λ p. given_out ctx.old (IRNode.Operation p) ≡ false) }
@@ -95,7 +102,8 @@ impl Operation {
         ensures made { IfOk result (λ p. IsMade ctx.old.nodes ctx.new.nodes (IRNode.Operation p)) }
         ensures regions { IfOk result (λ p. HasNewRegions ctx.new.nodes (IRNode.Operation p) num_regions) }
         ensures err { OnErr result (SameLive ctx.old ctx.new) }
-        ensures slots { OnErr result (IsUnmade ctx.old.nodes ctx.new.nodes (op_view kind result_types.items operands.items successors.items attributes) num_regions) }
+        ensures slots { OnErr result (IsUnmade ctx.old.nodes ctx.new.nodes
+            (op_view kind result_types.items operands.items successors.items attributes) num_regions) }
         ensures too_many { limit ctx.old < num_live ctx.old + 1 + num_regions → result ≡ Err NodeErr.TooManyNodes }
         ensures too_many_only { result ≡ Err NodeErr.TooManyNodes → IsFullForOp ctx.old.nodes num_regions }
         ensures whole { IsWhole D.attr_handles ctx.new }
@@ -165,7 +173,8 @@ impl Ptr<Operation> {
         requires { IsLive ctx.now (IRNode.Operation self) }
         ensures value { option_map IRNode.Operation result ≡ next_sibling ctx.now (IRNode.Operation self) }
         ensures live { IfSome result (λ op. IsLive ctx.now (IRNode.Operation op)) }
-        ensures beside { IfSome result (λ op. parent_of ctx.now (IRNode.Operation op) ≡ parent_of ctx.now (IRNode.Operation self)) }
+        ensures beside { IfSome result (λ op. parent_of ctx.now (IRNode.Operation op) ≡ parent_of ctx.now
+            (IRNode.Operation self)) }
         ensures whole { IsWhole D.attr_handles ctx.now }
     {
         ctx.nodes.next_op(self)
@@ -176,7 +185,8 @@ impl Ptr<Operation> {
         requires { IsLive ctx.now (IRNode.Operation self) }
         ensures value { option_map IRNode.Operation result ≡ prev_sibling ctx.now (IRNode.Operation self) }
         ensures live { IfSome result (λ op. IsLive ctx.now (IRNode.Operation op)) }
-        ensures beside { IfSome result (λ op. parent_of ctx.now (IRNode.Operation op) ≡ parent_of ctx.now (IRNode.Operation self)) }
+        ensures beside { IfSome result (λ op. parent_of ctx.now (IRNode.Operation op) ≡ parent_of ctx.now
+            (IRNode.Operation self)) }
         ensures whole { IsWhole D.attr_handles ctx.now }
     {
         ctx.nodes.prev_op(self)
@@ -187,7 +197,8 @@ impl Ptr<Operation> {
         requires { IsLive ctx.now (IRNode.Operation self) }
         ensures value { option_map IRNode.Region result ≡ first_kid ctx.now (IRNode.Operation self) }
         ensures live { IfSome result (λ region. IsLive ctx.now (IRNode.Region region)) }
-        ensures here { IfSome result (λ region. parent_of ctx.now (IRNode.Region region) ≡ Some (IRNode.Operation self)) }
+        ensures here { IfSome result (λ region. parent_of ctx.now (IRNode.Region region) ≡ Some
+            (IRNode.Operation self)) }
         ensures whole { IsWhole D.attr_handles ctx.now }
     {
         ctx.nodes.first_region(self)
@@ -198,13 +209,15 @@ impl Ptr<Operation> {
         requires { IsLive ctx.now (IRNode.Operation self) }
         ensures value { option_map IRNode.Region result ≡ last_kid ctx.now (IRNode.Operation self) }
         ensures live { IfSome result (λ region. IsLive ctx.now (IRNode.Region region)) }
-        ensures here { IfSome result (λ region. parent_of ctx.now (IRNode.Region region) ≡ Some (IRNode.Operation self)) }
+        ensures here { IfSome result (λ region. parent_of ctx.now (IRNode.Region region) ≡ Some
+            (IRNode.Operation self)) }
         ensures whole { IsWhole D.attr_handles ctx.now }
     {
         ctx.nodes.last_region(self)
     }
 
-    /// How many regions the operation has. They are counted one by one: a loop over them goes by `first_region` and `get_next`.
+    /// How many regions the operation has. They are counted one by one: a loop over them goes by `first_region` and
+    /// `get_next`.
     pub fn num_regions<D: OpSet>(self, ctx: &Context<D>) -> usize
         requires { IsLive ctx.now (IRNode.Operation self) }
         ensures value { result ≡ length (kids ctx.now (IRNode.Operation self)) }
@@ -325,8 +338,10 @@ impl Ptr<Operation> {
     ) -> Result<(), Memory>
         requires live { IsLive ctx.old (IRNode.Operation self) }
         requires handles { IsAttrLive D.attr_handles ctx.old.types (attr_view value) }
-        ensures ok { OnOk result (ctx.new ≡ with_op_edit ctx.old self (λ o. record o { attributes = dict_put o.attributes key (attr_view value) })) }
-        ensures attributes { OnOk result (attributes_of ctx.new self ≡ dict_put (attributes_of ctx.old self) key (attr_view value)) }
+        ensures ok { OnOk result (ctx.new ≡ with_op_edit ctx.old self
+            (λ o. record o { attributes = dict_put o.attributes key (attr_view value) })) }
+        ensures attributes { OnOk result (attributes_of ctx.new self ≡ dict_put (attributes_of ctx.old self) key
+            (attr_view value)) }
         ensures err { OnErr result (ctx.new ≡ ctx.old) }
         ensures whole { IsWhole D.attr_handles ctx.new }
     {

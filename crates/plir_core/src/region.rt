@@ -1,6 +1,7 @@
 //! Calls on regions.
 ghost use Rattle.std.specs.Prelude.{◌≡◌, Some, IfSome, option_map, slice_get};
-ghost use Rattle.plir_core.specs.Store.{IsLive, is_live, kids, parent_of, first_kid, last_kid, next_sibling, prev_sibling};
+ghost use Rattle.plir_core.specs.Store.{IsLive, is_live, kids, parent_of, first_kid, last_kid, next_sibling};
+ghost use Rattle.plir_core.specs.Store.{prev_sibling};
 ghost use Rattle.plir_core.specs.Whole.{IsWhole};
 ghost use Rattle.plir_core.specs.declared.ptr.IRNode.{IRNode};
 
@@ -30,7 +31,8 @@ impl Ptr<Region> {
     /// The place of the region, from 0, among those of its operation. It is found from the first one on, one by one.
     pub fn find_index_in_parent<D: OpSet>(self, ctx: &Context<D>) -> usize
         requires { IsLive ctx.now (IRNode.Region self) }
-        ensures value { IfSome (parent_of ctx.now (IRNode.Region self)) (λ n. slice_get (kids ctx.now n) result ≡ Some (IRNode.Region self)) }
+        ensures value { IfSome (parent_of ctx.now (IRNode.Region self))
+            (λ n. slice_get (kids ctx.now n) result ≡ Some (IRNode.Region self)) }
         ensures whole { IsWhole D.attr_handles ctx.now }
     {
         ctx.nodes.place_of_region(self)
@@ -41,7 +43,8 @@ impl Ptr<Region> {
         requires { IsLive ctx.now (IRNode.Region self) }
         ensures value { option_map IRNode.Region result ≡ next_sibling ctx.now (IRNode.Region self) }
         ensures live { IfSome result (λ region. IsLive ctx.now (IRNode.Region region)) }
-        ensures beside { IfSome result (λ region. parent_of ctx.now (IRNode.Region region) ≡ parent_of ctx.now (IRNode.Region self)) }
+        ensures beside { IfSome result (λ region. parent_of ctx.now (IRNode.Region region) ≡ parent_of ctx.now
+            (IRNode.Region self)) }
         ensures whole { IsWhole D.attr_handles ctx.now }
     {
         ctx.nodes.next_region(self)
@@ -52,7 +55,8 @@ impl Ptr<Region> {
         requires { IsLive ctx.now (IRNode.Region self) }
         ensures value { option_map IRNode.Region result ≡ prev_sibling ctx.now (IRNode.Region self) }
         ensures live { IfSome result (λ region. IsLive ctx.now (IRNode.Region region)) }
-        ensures beside { IfSome result (λ region. parent_of ctx.now (IRNode.Region region) ≡ parent_of ctx.now (IRNode.Region self)) }
+        ensures beside { IfSome result (λ region. parent_of ctx.now (IRNode.Region region) ≡ parent_of ctx.now
+            (IRNode.Region self)) }
         ensures whole { IsWhole D.attr_handles ctx.now }
     {
         ctx.nodes.prev_region(self)

@@ -19,8 +19,8 @@ use crate::removing::erase_tree;
 use plir_data::OpSet;
 
 impl Operation {
-    /// A new region with no block, the last one of an operation. `TooManyNodes` comes exactly where the limit of live nodes is
-    /// reached or the regions' slot numbers are spent. After a refusal all is as before.
+    /// A new region with no block, the last one of an operation. `TooManyNodes` comes exactly where the limit of live
+    /// nodes is reached or the regions' slot numbers are spent. After a refusal all is as before.
     pub fn add_region<D: OpSet>(
         op: Ptr<Operation>,
         ctx: &mut Context<D>,
@@ -31,7 +31,8 @@ impl Operation {
         ensures live { IfOk result (λ p. IsLive ctx.new (IRNode.Region p)) }
         ensures fresh { IfOk result (λ p. given_out ctx.old (IRNode.Region p) ≡ false) }
         ensures given { (n : IRNode) → given_out ctx.old n ≡ true → given_out ctx.new n ≡ true }
-        ensures added { IfOk result (λ p. IsRegionAdded ctx.old.nodes ctx.new.nodes (IRNode.Operation op) (IRNode.Region p)) }
+        ensures added { IfOk result (λ p. IsRegionAdded ctx.old.nodes ctx.new.nodes (IRNode.Operation op)
+            (IRNode.Region p)) }
         ensures err { OnErr result (ctx.new ≡ ctx.old) }
         ensures too_many { (result ≡ Err NodeErr.TooManyNodes) ↔ IsFullForRegion ctx.old.nodes }
         ensures whole { IsWhole D.attr_handles ctx.new }
@@ -40,9 +41,9 @@ impl Operation {
         Ok(region)
     }
 
-    /// Erases the region that `get_region` finds at a place, from 0, among those of an operation, with all below it, whose values and blocks nothing
-    /// else uses (`IRNode::is_unused_outside`). Each node is freed after those below it, kids in order. Later regions move
-    /// down by one.
+    /// Erases the region that `get_region` finds at a place, from 0, among those of an operation, with all below it,
+    /// whose values and blocks nothing else uses (`IRNode::is_unused_outside`). Each node is freed after those below
+    /// it, kids in order. Later regions move down by one.
     pub fn erase_region<D: OpSet>(op: Ptr<Operation>, i: usize, ctx: &mut Context<D>)
         requires live { IsLive ctx.old (IRNode.Operation op) }
         requires below { i < length (kids ctx.old (IRNode.Operation op)) }

@@ -26,8 +26,8 @@ impl IRNode {
         ctx.nodes.is_ancestor(self, node)
     }
 
-    /// Whether no live operation outside the tree of this node, which is the node and all below it, has an operand that is a
-    /// value of the tree or a successor in it.
+    /// Whether no live operation outside the tree of this node, which is the node and all below it, has an operand that
+    /// is a value of the tree or a successor in it.
     pub fn is_unused_outside<D: OpSet>(self, ctx: &Context<D>) -> bool
         ensures value { IsTrue result ↔ IsUnusedOutside ctx.now self }
         ensures whole { IsWhole D.attr_handles ctx.now }
@@ -96,8 +96,8 @@ pub(crate) fn erase_tree<D: OpSet>(node: IRNode, ctx: &mut Context<D>)
 }
 
 impl Operation {
-    /// Erases an operation with all below it, whose values and blocks nothing else uses (`IRNode::is_unused_outside`). It is
-    /// taken out of its block, if it is in one. Each node is freed after those below it, kids in order.
+    /// Erases an operation with all below it, whose values and blocks nothing else uses (`IRNode::is_unused_outside`).
+    /// It is taken out of its block, if it is in one. Each node is freed after those below it, kids in order.
     pub fn erase<D: OpSet>(op: Ptr<Operation>, ctx: &mut Context<D>)
         requires live { IsLive ctx.old (IRNode.Operation op) }
         requires unused { IsUnusedOutside ctx.old (IRNode.Operation op) }
@@ -110,8 +110,8 @@ impl Operation {
 }
 
 impl BasicBlock {
-    /// Erases a block with all below it, whose values and blocks nothing else uses (`IRNode::is_unused_outside`). It is taken
-    /// out of its region, if it is in one.
+    /// Erases a block with all below it, whose values and blocks nothing else uses (`IRNode::is_unused_outside`). It is
+    /// taken out of its region, if it is in one.
     pub fn erase<D: OpSet>(block: Ptr<BasicBlock>, ctx: &mut Context<D>)
         requires live { IsLive ctx.old (IRNode.BasicBlock block) }
         requires unused { IsUnusedOutside ctx.old (IRNode.BasicBlock block) }

@@ -12,7 +12,8 @@ use Rattle.plir_iface.specs.Verdict.{IsRefusal}
 use Rattle.plir_flow.specs.declared.calls.CallOpCallable.{CallOpCallable}
 use Rattle.plir_flow.specs.declared.calls.CallOpCallable.TheVariants.{Direct, Indirect}
 use Rattle.plir_flow.specs.declared.calls.CallOpInterfaceErr.{CallOpInterfaceErr}
-use Rattle.plir_flow.specs.declared.calls.CallOpInterfaceErr.TheVariants.{CalleeTypeAttrNotFoundErr, CalleeTypeAttrIncorrectTypeErr}
+use Rattle.plir_flow.specs.declared.calls.CallOpInterfaceErr.TheVariants.{CalleeTypeAttrNotFoundErr}
+use Rattle.plir_flow.specs.declared.calls.CallOpInterfaceErr.TheVariants.{CalleeTypeAttrIncorrectTypeErr}
 
 -- the key that the type of what is called stands under
 abbrev pub callee_type_key : List ℕ
@@ -50,7 +51,8 @@ module _ {K A T : Type 0} where
     -- There is no attribute of a type under the key; or there is, and the type is none of functions.
     abbrev pub IsCallFault : CallOpInterfaceErr → Type 0
     IsCallFault CalleeTypeAttrNotFoundErr = callee_type_of s op ≡ None
-    IsCallFault CalleeTypeAttrIncorrectTypeErr = (t : ℕ) × ((callee_type_of s op ≡ Some t) × (IsMarked is_function s.types t → ⊥))
+    IsCallFault CalleeTypeAttrIncorrectTypeErr = (t : ℕ) ×
+        ((callee_type_of s op ≡ Some t) × (IsMarked is_function s.types t → ⊥))
 
     -- the same, told at the operation's location
     abbrev pub BreaksCalleeType : VerifyErr CallOpInterfaceErr → Type 0
@@ -58,4 +60,5 @@ module _ {K A T : Type 0} where
 
   -- the attribute of a type has come under the key
   abbrev pub with_callee_type : Store K A T → Ptr OperationKind → ℕ → Store K A T
-  with_callee_type s op t = with_op_edit s op (λ o. record o { attributes = dict_put o.attributes callee_type_key (leaf (type_of t)) })
+  with_callee_type s op t = with_op_edit s op (λ o. record o
+      { attributes = dict_put o.attributes callee_type_key (leaf (type_of t)) })

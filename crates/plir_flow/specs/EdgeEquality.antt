@@ -1,5 +1,5 @@
--- When two edges are equal: when their ends are, and what flows and is read is, in order. Equal edges are the same. The proofs stand
--- beside the words, since the `impl` of the equality cites them.
+-- When two edges are equal: when their ends are, and what flows and is read is, in order. Equal edges are the same. The
+-- proofs stand beside the words, since the `impl` of the equality cites them.
 use Rattle.std.proofs.Common.{◌≡◌, Bool, true, false, ◌&&◌, ap, refl}
 use Rattle.std.specs.Prelude.{nat_eq}
 use Rattle.std.specs.Bool.{Decides}
@@ -48,15 +48,22 @@ same_target After (ToRegion q) = false
 
 -- the ends are the same, and so is what flows and what is read
 abbrev pub same_edge : EdgeView → EdgeView → Bool
-same_edge d e = (same_point d.from e.from && same_target d.to e.to) && (pointwise same_flow d.flows e.flows && pointwise same_use d.reads e.reads)
+same_edge d e = (same_point d.from e.from && same_target d.to e.to) &&
+    (pointwise same_flow d.flows e.flows && pointwise same_use d.reads e.reads)
 
 -- what two tests decide, they decide together
-pub both : {P Q R : Type 0} (a b : Bool) → Decides a P → Decides b Q → (P → Q → R) → (R → P) → (R → Q) → Decides (a && b) R
-both a b d e make left right = (λ h. make (d.0 (first_so a b h)) (e.0 (second_so a b h)), λ r. λ i. d.1 (left r) i && e.1 (right r) i)
+pub both : {P Q R : Type 0} (a b : Bool) → Decides a P → Decides b Q → (P → Q → R) → (R → P) → (R → Q) →
+    Decides (a && b) R
+both a b d e make left right = (
+  λ h. make (d.0 (first_so a b h)) (e.0 (second_so a b h)),
+  λ r. λ i. d.1 (left r) i && e.1 (right r) i,
+)
 
 pub ptr-exact : {X : Type 0} (p q : Ptr X) → Decides (same_ptr p q) (p ≡ q)
-ptr-exact p q = both (nat_eq p.slot q.slot) (nat_eq p.version q.version) (unsigned_Decides p.slot q.slot) (unsigned_Decides p.version q.version)
-    (λ e f. λ i. record { slot = e i; version = f i; kind = record {} }) (λ e. ap (λ z. z.slot) e) (λ e. ap (λ z. z.version) e)
+ptr-exact p q = both (nat_eq p.slot q.slot) (nat_eq p.version q.version) (unsigned_Decides p.slot q.slot)
+    (unsigned_Decides p.version q.version)
+    (λ e f. λ i. record { slot = e i; version = f i; kind = record {} }) (λ e. ap (λ z. z.slot) e)
+    (λ e. ap (λ z. z.version) e)
 
 -- no test holds
 none : {P : Type 0} → (P → ⊥) → Decides false P
@@ -64,16 +71,19 @@ none n = (λ h. cc, λ p. absurd (n p))
 
 pub entity-exact : (v w : DefiningEntity) → Decides (same_entity v w) (v ≡ w)
 entity-exact (Op p) (Op q) = (let d = ptr-exact p q in (λ h. ap Op (d.0 h), λ e. d.1 (let f : p ≡ q = cc in f)))
-entity-exact (Block p) (Block q) = (let d = ptr-exact p q in (λ h. ap Block (d.0 h), λ e. d.1 (let f : p ≡ q = cc in f)))
+entity-exact (Block p) (Block q) = (let d = ptr-exact p q in
+    (λ h. ap Block (d.0 h), λ e. d.1 (let f : p ≡ q = cc in f)))
 entity-exact (Op p) (Block q) = none (λ e. cc)
 entity-exact (Block p) (Op q) = none (λ e. cc)
 
 pub value-exact : (v w : Value) → Decides (same_value v w) (v ≡ w)
-value-exact v w = both (same_entity v.entity w.entity) (nat_eq v.index w.index) (entity-exact v.entity w.entity) (unsigned_Decides v.index w.index)
+value-exact v w = both (same_entity v.entity w.entity) (nat_eq v.index w.index) (entity-exact v.entity w.entity)
+    (unsigned_Decides v.index w.index)
     (λ e f. λ i. record { entity = e i; index = f i }) (λ e. ap (λ z. z.entity) e) (λ e. ap (λ z. z.index) e)
 
 pub use-exact : (u v : Use Value) → Decides (same_use u v) (u ≡ v)
-use-exact u v = both (same_ptr u.op v.op) (nat_eq u.index v.index) (ptr-exact u.op v.op) (unsigned_Decides u.index v.index)
+use-exact u v = both (same_ptr u.op v.op) (nat_eq u.index v.index) (ptr-exact u.op v.op)
+    (unsigned_Decides u.index v.index)
     (λ e f. λ i. record { op = e i; index = f i; kind = record {} }) (λ e. ap (λ z. z.op) e) (λ e. ap (λ z. z.index) e)
 
 pub flow-exact : (f g : Flow) → Decides (same_flow f g) (f ≡ g)
@@ -82,12 +92,14 @@ flow-exact f g = both (same_use f.0 g.0) (same_value f.1 g.1) (use-exact f.0 g.0
 
 pub point-exact : (p q : RegionBranchPoint) → Decides (same_point p q) (p ≡ q)
 point-exact Parent Parent = (λ h. refl, λ e. refl)
-point-exact (Terminator p) (Terminator q) = (let d = ptr-exact p q in (λ h. ap Terminator (d.0 h), λ e. d.1 (let f : p ≡ q = cc in f)))
+point-exact (Terminator p) (Terminator q) = (let d = ptr-exact p q in
+    (λ h. ap Terminator (d.0 h), λ e. d.1 (let f : p ≡ q = cc in f)))
 point-exact Parent (Terminator q) = none (λ e. cc)
 point-exact (Terminator p) Parent = none (λ e. cc)
 
 pub target-exact : (t u : RegionSuccessor) → Decides (same_target t u) (t ≡ u)
-target-exact (ToRegion p) (ToRegion q) = (let d = ptr-exact p q in (λ h. ap ToRegion (d.0 h), λ e. d.1 (let f : p ≡ q = cc in f)))
+target-exact (ToRegion p) (ToRegion q) = (let d = ptr-exact p q in
+    (λ h. ap ToRegion (d.0 h), λ e. d.1 (let f : p ≡ q = cc in f)))
 target-exact After After = (λ h. refl, λ e. refl)
 target-exact (ToRegion p) After = none (λ e. cc)
 target-exact After (ToRegion q) = none (λ e. cc)
@@ -95,11 +107,15 @@ target-exact After (ToRegion q) = none (λ e. cc)
 pub edge-exact : (d e : EdgeView) → Decides (same_edge d e) (d ≡ e)
 edge-exact d e =
     let ends : Decides (same_point d.from e.from && same_target d.to e.to) ((d.from ≡ e.from) × (d.to ≡ e.to)) =
-    both (same_point d.from e.from) (same_target d.to e.to) (point-exact d.from e.from) (target-exact d.to e.to) (λ p q. (p, q)) (λ r. r.0) (λ r. r.1) in
-    let lists : Decides (pointwise same_flow d.flows e.flows && pointwise same_use d.reads e.reads) ((d.flows ≡ e.flows) × (d.reads ≡ e.reads)) =
-    both (pointwise same_flow d.flows e.flows) (pointwise same_use d.reads e.reads) (pointwise_decides flow-exact d.flows e.flows) (pointwise_decides use-exact d.reads e.reads)
+    both (same_point d.from e.from) (same_target d.to e.to) (point-exact d.from e.from) (target-exact d.to e.to)
     (λ p q. (p, q)) (λ r. r.0) (λ r. r.1) in
-    both (same_point d.from e.from && same_target d.to e.to) (pointwise same_flow d.flows e.flows && pointwise same_use d.reads e.reads) ends lists
+    let lists : Decides (pointwise same_flow d.flows e.flows && pointwise same_use d.reads e.reads)
+    ((d.flows ≡ e.flows) × (d.reads ≡ e.reads)) =
+    both (pointwise same_flow d.flows e.flows) (pointwise same_use d.reads e.reads)
+    (pointwise_decides flow-exact d.flows e.flows) (pointwise_decides use-exact d.reads e.reads)
+    (λ p q. (p, q)) (λ r. r.0) (λ r. r.1) in
+    both (same_point d.from e.from && same_target d.to e.to)
+    (pointwise same_flow d.flows e.flows && pointwise same_use d.reads e.reads) ends lists
     (λ p q. λ i. record { from = p.0 i; to = p.1 i; flows = q.0 i; reads = q.1 i })
     (λ r. (ap (λ z. z.from) r, ap (λ z. z.to) r)) (λ r. (ap (λ z. z.flows) r, ap (λ z. z.reads) r))
 

@@ -1,5 +1,6 @@
 -- Steps between regions in a row, with the place of the one before from the same region.
-use Rattle.std.specs.Prelude.{◌≡◌, ◌<◌, ◌+◌, ◌⊎◌, ◌↔◌, ◌≤◌, ℕ, List, take, length, Option, Some, None, slice_get, Bool, true, ◌&&◌, nat_eq}
+use Rattle.std.specs.Prelude.{◌≡◌, ◌<◌, ◌+◌, ◌⊎◌, ◌↔◌, ◌≤◌, ℕ, List, take, length, Option, Some, None, slice_get, Bool}
+use Rattle.std.specs.Prelude.{true, ◌&&◌, nat_eq}
 use Rattle.plir_core.specs.declared.ptr.Ptr.{Ptr}
 use Rattle.plir_core.specs.declared.ptr.Region.{Region as RegionKind}
 use Rattle.plir_store.specs.Members.{Has, Distinct}

@@ -8,7 +8,8 @@
 --   Calls            the rule of calls, and how it is refused
 --   Taken            AreThose, IsOnceEach, AreTakenOnce: lists that are taken from other lists
 --   Paths            LeadsTo: paths of steps
---   RegionEdges      EdgeView: an edge between an operation and its regions; Reach: which regions paths of edges lead to
+--   RegionEdges      EdgeView: an edge between an operation and its regions; Reach: which regions paths of edges lead
+--                    to
 --   EdgeEquality     same_edge: when two edges are equal
 --   RegionRule       HasEdgeRule: the rule of region edges, and how it is refused
 --   Hops             how the steps between regions are kept, while those that are reached are looked for

@@ -19,8 +19,8 @@ use Rattle.plir_flow.specs.declared.edge_ends.RegionSuccessor.TheVariants.{Regio
 abbrev pub Flow : Type 0
 Flow = Use Value × Value
 
--- An edge along which control passes: where it starts and where it leads, the operands that flow, each with the value that
--- receives it, and the operands that may be read.
+-- An edge along which control passes: where it starts and where it leads, the operands that flow, each with the value
+-- that receives it, and the operands that may be read.
 pub record EdgeView : Type 0 where
   pub from : RegionBranchPoint
   pub to : RegionSuccessor
@@ -57,7 +57,8 @@ IsInto v f = f.1 ≡ v
 
 -- these are the operands that flow into a value along the edges, in order
 abbrev pub AreOperandsInto : Value → List EdgeView → List (Use Value) → Type 0
-AreOperandsInto v es us = (those : List Flow) × (AreThose (IsInto v) (flat_map flows_on es) those × (us ≡ map (λ f. f.0) those))
+AreOperandsInto v es us = (those : List Flow) × (AreThose (IsInto v) (flat_map flows_on es) those ×
+    (us ≡ map (λ f. f.0) those))
 
 module _ {K A T : Type 0} (s : Store K A T) where
   -- a terminator whose parent region this is stands at the start

@@ -1,5 +1,6 @@
 -- The rule of region edges, and how it is refused.
-use Rattle.std.specs.Prelude.{◌≡◌, ◌⊎◌, ◌↔◌, ℕ, List, [], ◌∷◌, All, Bool, true, slice_get, Option, Some, None, ◌<◌, ◌++◌, string_bytes, option_and_then}
+use Rattle.std.specs.Prelude.{◌≡◌, ◌⊎◌, ◌↔◌, ℕ, List, [], ◌∷◌, All, Bool, true, slice_get, Option, Some, None, ◌<◌}
+use Rattle.std.specs.Prelude.{◌++◌, string_bytes, option_and_then}
 use Rattle.std.specs.HashMap.{HashMap, get}
 use Rattle.std.specs.Option.{option_eq}
 use Rattle.plir_data.specs.declared.location.VerifyErr.{VerifyErr}
@@ -16,16 +17,29 @@ use Rattle.plir_core.specs.declared.value.DefiningEntity.{DefiningEntity}
 use Rattle.plir_core.specs.declared.value.DefiningEntity.TheVariants.{Op, Block}
 use Rattle.plir_core.specs.declared.operand_uses.Use.{Use}
 use Rattle.plir_store.specs.Members.{Has, Distinct}
-use Rattle.plir_core.specs.Store.{Store, entity_node, first_kid, kind_of, op_above, operands_of, parent_of, type_of_value}
+use Rattle.plir_core.specs.Store.{Store, entity_node, first_kid, kind_of, op_above, operands_of, parent_of}
+use Rattle.plir_core.specs.Store.{type_of_value}
 use Rattle.plir_core.specs.Terminator.{is_terminator_kind}
 use Rattle.plir_flow.specs.declared.edge_ends.RegionBranchPoint.{RegionBranchPoint}
 use Rattle.plir_flow.specs.declared.edge_ends.RegionBranchPoint.TheVariants.{Parent, Terminator}
 use Rattle.plir_flow.specs.declared.edge_ends.RegionSuccessor.{RegionSuccessor}
 use Rattle.plir_flow.specs.declared.edge_ends.RegionSuccessor.TheVariants.{Region as ToRegion, After}
 use Rattle.plir_flow.specs.declared.region_edge_errors.RegionBranchOpInterfaceVerifyErr.{RegionBranchOpInterfaceVerifyErr}
-use Rattle.plir_flow.specs.declared.region_edge_errors.RegionBranchOpInterfaceVerifyErr.TheVariants.{Layout, ReceiverSetMismatch, InvalidTerminator, ReadNotOpOrSourceOperand, ForeignRegionSuccessor, OperandNotAtBranchPoint, ReceiverNotRegionArgument, ReceiverNotResult, DuplicateReceiver, FlowTypeMismatch}
+use Rattle.plir_flow.specs.declared.region_edge_errors.RegionBranchOpInterfaceVerifyErr.TheVariants.{Layout}
+use Rattle.plir_flow.specs.declared.region_edge_errors.RegionBranchOpInterfaceVerifyErr.TheVariants.{ReceiverSetMismatch}
+use Rattle.plir_flow.specs.declared.region_edge_errors.RegionBranchOpInterfaceVerifyErr.TheVariants.{InvalidTerminator}
+use Rattle.plir_flow.specs.declared.region_edge_errors.RegionBranchOpInterfaceVerifyErr.TheVariants.{ReadNotOpOrSourceOperand}
+use Rattle.plir_flow.specs.declared.region_edge_errors.RegionBranchOpInterfaceVerifyErr.TheVariants.{ForeignRegionSuccessor}
+use Rattle.plir_flow.specs.declared.region_edge_errors.RegionBranchOpInterfaceVerifyErr.TheVariants.{OperandNotAtBranchPoint}
+use Rattle.plir_flow.specs.declared.region_edge_errors.RegionBranchOpInterfaceVerifyErr.TheVariants.{ReceiverNotRegionArgument}
+use Rattle.plir_flow.specs.declared.region_edge_errors.RegionBranchOpInterfaceVerifyErr.TheVariants.{ReceiverNotResult}
+use Rattle.plir_flow.specs.declared.region_edge_errors.RegionBranchOpInterfaceVerifyErr.TheVariants.{DuplicateReceiver}
+use Rattle.plir_flow.specs.declared.region_edge_errors.RegionBranchOpInterfaceVerifyErr.TheVariants.{FlowTypeMismatch}
 use Rattle.plir_flow.specs.declared.region_edge_errors.EdgeFault.{EdgeFault}
-use Rattle.plir_flow.specs.declared.region_edge_errors.EdgeFault.TheVariants.{OtherReceivers, ForeignTerminator, ForeignRead, ForeignRegion, ForeignOperand, NoArgument, NoResult, ReceivedTwice, OtherType}
+use Rattle.plir_flow.specs.declared.region_edge_errors.EdgeFault.TheVariants.{OtherReceivers, ForeignTerminator}
+use Rattle.plir_flow.specs.declared.region_edge_errors.EdgeFault.TheVariants.{ForeignRead, ForeignRegion}
+use Rattle.plir_flow.specs.declared.region_edge_errors.EdgeFault.TheVariants.{ForeignOperand, NoArgument, NoResult}
+use Rattle.plir_flow.specs.declared.region_edge_errors.EdgeFault.TheVariants.{ReceivedTwice, OtherType}
 use Rattle.plir_iface.specs.Verdict.{IsRefusalMemoryAside}
 use Rattle.plir_flow.specs.Hops.{same_region}
 use Rattle.plir_flow.specs.RegionEdges.{EdgeView, Flow, receivers_on}
@@ -41,7 +55,8 @@ SameReceivers d e = (v : Value) → Has (receivers_on d) v ↔ Has (receivers_on
 
 -- two edges with one target have other sets of receivers
 abbrev pub HaveOtherReceivers : List EdgeView → Type 0
-HaveOtherReceivers es = (d : EdgeView) × ((e : EdgeView) × (Has es d × Has es e × (d.to ≡ e.to) × (SameReceivers d e → ⊥)))
+HaveOtherReceivers es = (d : EdgeView) × ((e : EdgeView) ×
+    (Has es d × Has es e × (d.to ≡ e.to) × (SameReceivers d e → ⊥)))
 
 -- the operation at a point of the operation op
 abbrev pub source_at : Ptr OperationKind → RegionBranchPoint → Ptr OperationKind
@@ -52,7 +67,8 @@ module _ {K A T : Type 0} (is_terminator : K → Bool) (s : Store K A T) (op : P
   -- a terminator at the start is of a kind of terminators, and stands in a region of the operation itself
   abbrev pub IsOwnPoint : RegionBranchPoint → Type 0
   IsOwnPoint Parent = Unit {0}
-  IsOwnPoint (Terminator t) = (op_above s (Operation t) ≡ Some (Operation op)) × (is_terminator_kind is_terminator (kind_of s t) ≡ true)
+  IsOwnPoint (Terminator t) = (op_above s (Operation t) ≡ Some (Operation op)) ×
+      (is_terminator_kind is_terminator (kind_of s t) ≡ true)
 
 -- the operand that is read is one of the operation itself, or of the operation at the start
 abbrev pub IsOwnRead : Ptr OperationKind → RegionBranchPoint → Use Value → Type 0
@@ -89,7 +105,8 @@ IsOfOtherType s u v (OtherType x y) = (type_of_use s u ≡ Some x) × (type_of_v
 IsOfOtherType s u v _ = ⊥
 
 module _ {K A T : Type 0} (s : Store K A T) (op : Ptr OperationKind) (p : RegionBranchPoint) (t : RegionSuccessor) where
-  -- What flows on an edge is an operand of the operation at its start, and goes to a receiver at its end, of the same type.
+  -- What flows on an edge is an operand of the operation at its start, and goes to a receiver at its end, of the same
+  -- type.
   pub record IsFlowRight (f : Flow) : Type 0 where
     pub source : f.0.op ≡ source_at op p
     pub receiver : IsReceiver s op t f.1
@@ -131,9 +148,10 @@ module _ {K A T : Type 0} (is_terminator : K → Bool) (s : Store K A T) (op : P
   IsBroken es OtherReceivers = HaveOtherReceivers es
   IsBroken es f = (e : EdgeView) × (Has es e × IsBrokenAt e f)
 
--- What flows is right and goes to none of those that have received, and now its receiver is the last of these; or it breaks
--- the point that the fault names, or goes to one of those.
-abbrev pub FlowSays : {K A T : Type 0} → Store K A T → Ptr OperationKind → RegionBranchPoint → RegionSuccessor → Flow → (received now : List Value) → Option EdgeFault → Type 0
+-- What flows is right and goes to none of those that have received, and now its receiver is the last of these; or it
+-- breaks the point that the fault names, or goes to one of those.
+abbrev pub FlowSays : {K A T : Type 0} → Store K A T → Ptr OperationKind → RegionBranchPoint → RegionSuccessor → Flow →
+    (received now : List Value) → Option EdgeFault → Type 0
 FlowSays s op p t f received now None = IsFlowRight s op p t f × (Has received f.1 → ⊥) × (now ≡ received ++ f.1 ∷ [])
 FlowSays s op p t f received now (Some x) = IsFlowBroken s op p t f x ⊎ ((x ≡ ReceivedTwice) × Has received f.1)
 
@@ -153,10 +171,13 @@ module _ {K A T : Type 0} (is_terminator : K → Bool) (s : Store K A T) (op : P
   EdgesSay es None = HasEdgeRule is_terminator s op es
   EdgesSay es (Some x) = IsBroken is_terminator s op es x
 
--- Of the first n edges each has the receivers of the one that its target's head tells, and a head tells an edge with that target.
+-- Of the first n edges each has the receivers of the one that its target's head tells, and a head tells an edge with
+-- that target.
 pub record AreFirsts (es : List EdgeView) (n : ℕ) (head : RegionSuccessor → Option ℕ) : Type 0 where
-  pub seen : (j : ℕ) (d : EdgeView) → j < n → slice_get es j ≡ Some d → (i : ℕ) × ((e : EdgeView) × ((head d.to ≡ Some i) × (slice_get es i ≡ Some e) × SameReceivers e d))
-  pub heads : (t : RegionSuccessor) (i : ℕ) → head t ≡ Some i → (e : EdgeView) × ((slice_get es i ≡ Some e) × (e.to ≡ t))
+  pub seen : (j : ℕ) (d : EdgeView) → j < n → slice_get es j ≡ Some d → (i : ℕ) ×
+      ((e : EdgeView) × ((head d.to ≡ Some i) × (slice_get es i ≡ Some e) × SameReceivers e d))
+  pub heads : (t : RegionSuccessor) (i : ℕ) → head t ≡ Some i → (e : EdgeView) ×
+      ((slice_get es i ≡ Some e) × (e.to ≡ t))
 
 -- the region that an edge leads to
 abbrev pub target_region : RegionSuccessor → Option (Ptr RegionKind)
@@ -184,7 +205,8 @@ module _ {K A T E : Type 0} (own_id : T → List ℕ) (own_body : List (TypeView
   TellsFault NoResult ReceiverNotResult = Unit {0}
   TellsFault ReceivedTwice DuplicateReceiver = Unit {0}
   TellsFault (OtherType t u) (FlowTypeMismatch operand receiver) =
-      (string_bytes operand ≡ type_text own_id own_body s.types t) × (string_bytes receiver ≡ type_text own_id own_body s.types u)
+      (string_bytes operand ≡ type_text own_id own_body s.types t) ×
+      (string_bytes receiver ≡ type_text own_id own_body s.types u)
   TellsFault _ _ = ⊥
 
   module _ (is_terminator : K → Bool) (op : Ptr OperationKind) (es : List EdgeView) where
@@ -193,12 +215,16 @@ module _ {K A T E : Type 0} (own_id : T → List ℕ) (own_body : List (TypeView
     IsToldFault e = (f : EdgeFault) × (IsBroken is_terminator s op es f × TellsFault f e)
 
     -- The layout is wrong, and this is its refusal; or it is right, and the error tells a point that some edge breaks.
-    abbrev pub IsEdgeRefusal : (layout : Type 0) (layout_refusal : E → Type 0) → RegionBranchOpInterfaceVerifyErr E → Type 0
+    abbrev pub IsEdgeRefusal : (layout : Type 0) (layout_refusal : E → Type 0) → RegionBranchOpInterfaceVerifyErr E →
+        Type 0
     IsEdgeRefusal layout layout_refusal (Layout e) = (layout → ⊥) × layout_refusal e
     IsEdgeRefusal layout layout_refusal e = layout × IsToldFault e
 
 -- the refusal of region edges, at the operation's location; or memory was refused
-abbrev pub BreaksEdgeRule : {D K A T E : Type 0} → op_set.Ghosts D K A T E → (layout : Store K A T → Type 0) (tells : Store K A T → E → Type 0)
-    → (edges : Store K A T → List EdgeView) → Store K A T → Ptr OperationKind → VerifyErr (RegionBranchOpInterfaceVerifyErr E) → Type 0
+abbrev pub BreaksEdgeRule : {D K A T E : Type 0} → op_set.Ghosts D K A T E →
+    (layout : Store K A T → Type 0) (tells : Store K A T → E → Type 0)
+    → (edges : Store K A T → List EdgeView) → Store K A T → Ptr OperationKind →
+    VerifyErr (RegionBranchOpInterfaceVerifyErr E) → Type 0
 BreaksEdgeRule o layout tells edges s op =
-    IsRefusalMemoryAside s op (IsEdgeRefusal o.type_id o.type_body_text s o.is_terminator op (edges s) (layout s) (tells s))
+    IsRefusalMemoryAside s op (IsEdgeRefusal o.type_id o.type_body_text s o.is_terminator op (edges s) (layout s)
+    (tells s))

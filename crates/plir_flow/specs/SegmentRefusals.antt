@@ -7,16 +7,22 @@ use Rattle.plir_data.specs.declared.location.VerifyErr.{VerifyErr}
 use Rattle.plir_iface.specs.Verdict.{IsRefusal}
 use Rattle.plir_flow.specs.Segments.{sizes_under, sizes_of, num_segments, IsSegmented}
 use Rattle.plir_flow.specs.declared.segments.OperandSegmentInterfaceVerifyErr.{OperandSegmentInterfaceVerifyErr}
-use Rattle.plir_flow.specs.declared.segments.OperandSegmentInterfaceVerifyErr.TheVariants.{OperandSegmentSizesAttrErr, OperandSegmentSizesTotalMismatchErr, SegmentCountMismatch}
+use Rattle.plir_flow.specs.declared.segments.OperandSegmentInterfaceVerifyErr.TheVariants.{OperandSegmentSizesAttrErr}
+use Rattle.plir_flow.specs.declared.segments.OperandSegmentInterfaceVerifyErr.TheVariants.{OperandSegmentSizesTotalMismatchErr}
+use Rattle.plir_flow.specs.declared.segments.OperandSegmentInterfaceVerifyErr.TheVariants.{SegmentCountMismatch}
 
 -- There are no sizes; or their sum is another number than that of the operands; or there are right sizes, but not as
 -- many as are expected.
-abbrev pub IsSegmentFault : {K A T : Type 0} → (expected : Option ℕ) → Store K A T → Ptr OperationKind → OperandSegmentInterfaceVerifyErr → Type 0
+abbrev pub IsSegmentFault : {K A T : Type 0} → (expected : Option ℕ) → Store K A T → Ptr OperationKind →
+    OperandSegmentInterfaceVerifyErr → Type 0
 IsSegmentFault x s op OperandSegmentSizesAttrErr = sizes_under s op ≡ None
 IsSegmentFault x s op (OperandSegmentSizesTotalMismatchErr total operands) =
-    (sizes_under s op ≡ Some (sizes_of s op)) × (total ≡ sum (sizes_of s op)) × (operands ≡ length (operands_of s op)) × (total ≢ operands)
-IsSegmentFault x s op (SegmentCountMismatch expected found) = IsSegmented s op × (x ≡ Some expected) × (found ≡ num_segments s op) × (found ≢ expected)
+    (sizes_under s op ≡ Some (sizes_of s op)) × (total ≡ sum (sizes_of s op)) × (operands ≡ length (operands_of s op))
+    × (total ≢ operands)
+IsSegmentFault x s op (SegmentCountMismatch expected found) = IsSegmented s op × (x ≡ Some expected) ×
+    (found ≡ num_segments s op) × (found ≢ expected)
 
 -- the rule of segments is refused with its fault, at the operation's location
-abbrev pub BreaksSegments : {K A T : Type 0} → (expected : Option ℕ) → Store K A T → Ptr OperationKind → VerifyErr OperandSegmentInterfaceVerifyErr → Type 0
+abbrev pub BreaksSegments : {K A T : Type 0} → (expected : Option ℕ) → Store K A T → Ptr OperationKind →
+    VerifyErr OperandSegmentInterfaceVerifyErr → Type 0
 BreaksSegments x s op = IsRefusal s op (IsSegmentFault x s op)

@@ -37,24 +37,28 @@ module _ {K A T : Type 0} where
 
     -- the operand with that type stands at a place among all operands
     abbrev pub IsFirstFailingOperand : ℕ → Type 0
-    IsFirstFailingOperand p = (i : ℕ) × (FailsFirstIn i × (type_in (segment_types s op n) i ≡ type_in (operand_types s op) p))
+    IsFirstFailingOperand p = (i : ℕ) × (FailsFirstIn i ×
+        (type_in (segment_types s op n) i ≡ type_in (operand_types s op) p))
 
     module _ (name : List ℕ) (own_id : T → List ℕ) where
       -- There is no segment n; or it is there, and the text is that of the first type in it that fails.
       abbrev pub IsSegmentOfOtherKind : (own_body : List (TypeView T) → T → List ℕ) → SegmentNOfTypeError → Type 0
       IsSegmentOfOtherKind own_body (SegmentNotFound i) = (i ≡ n) × (num_segments s op ≤ n)
       IsSegmentOfOtherKind own_body (UnexpectedType wanted found) =
-          (n < num_segments s op) × (wanted.now ≡ name) × ((i : ℕ) × (FailsFirstIn i × (string_bytes found ≡ text_in own_id own_body s (segment_types s op n) i)))
+          (n < num_segments s op) × (wanted.now ≡ name) ×
+          ((i : ℕ) × (FailsFirstIn i × (string_bytes found ≡ text_in own_id own_body s (segment_types s op n) i)))
 
       -- There is no segment n; or it is there, and the id is that of the first type in it that fails.
       abbrev pub IsSegmentWithout : TypeRuleErr SegmentNOfTypeError TypeInterfaceImplsErr → Type 0
       IsSegmentWithout (TooFew (SegmentNotFound i)) = (i ≡ n) × (num_segments s op ≤ n)
       IsSegmentWithout (WrongType (Segment i wanted found)) =
-          (n < num_segments s op) × (i ≡ n) × (wanted.now ≡ name) × ((k : ℕ) × (FailsFirstIn k × (found.now ≡ id_in own_id s (segment_types s op n) k)))
+          (n < num_segments s op) × (i ≡ n) × (wanted.now ≡ name) ×
+          ((k : ℕ) × (FailsFirstIn k × (found.now ≡ id_in own_id s (segment_types s op n) k)))
       IsSegmentWithout _ = ⊥
 
       -- How an operation breaks one of these rules: the refusal is at its location.
-      abbrev pub BreaksSegmentNOfType : (own_body : List (TypeView T) → T → List ℕ) → VerifyErr SegmentNOfTypeError → Type 0
+      abbrev pub BreaksSegmentNOfType : (own_body : List (TypeView T) → T → List ℕ) → VerifyErr SegmentNOfTypeError →
+          Type 0
       BreaksSegmentNOfType own_body = IsRefusalMemoryAside s op (IsSegmentOfOtherKind own_body)
 
       abbrev pub BreaksSegmentNImplsTy : VerifyErr (TypeRuleErr SegmentNOfTypeError TypeInterfaceImplsErr) → Type 0

@@ -1,5 +1,7 @@
 -- Operands in segments: a list of lists, whose lengths are the sizes and whose flattening is the operands.
-use Rattle.std.specs.Prelude.{◌≡◌, ℕ, zero, suc, ◌+◌, ◌-◌, ◌<◌, List, [], ◌∷◌, ◌++◌, insert, remove, length, map, take, drop, sum, slice_get, slice_index_or, slice_range, false, Option, Some, None, IsSome, unwrap_or, option_and_then, codes}
+use Rattle.std.specs.Prelude.{◌≡◌, ℕ, zero, suc, ◌+◌, ◌-◌, ◌<◌, List, [], ◌∷◌, ◌++◌, insert, remove, length, map, take}
+use Rattle.std.specs.Prelude.{drop, sum, slice_get, slice_index_or, slice_range, false, Option, Some, None, IsSome}
+use Rattle.std.specs.Prelude.{unwrap_or, option_and_then, codes}
 use Rattle.std.specs.List.{flat_map}
 use Rattle.plir_data.specs.AttrView.{AttrView, leaf, operand_segment_sizes}
 use Rattle.plir_data.specs.Dictionary.{dict_get, dict_put, is_key}
@@ -8,7 +10,8 @@ use Rattle.plir_core.specs.declared.ptr.Operation.{Operation as OperationKind}
 use Rattle.plir_core.specs.declared.ptr.IRNode.TheVariants.{Operation}
 use Rattle.plir_core.specs.declared.value.Value.{Value}
 use Rattle.plir_core.specs.Contents.{OpView}
-use Rattle.plir_core.specs.Store.{Store, IsLive, kind_of, result_types_of, operands_of, successors_of, attributes_of, location_of}
+use Rattle.plir_core.specs.Store.{Store, IsLive, kind_of, result_types_of, operands_of, successors_of, attributes_of}
+use Rattle.plir_core.specs.Store.{location_of}
 use Rattle.plir_core.specs.Changes.{with_op_edit}
 use Rattle.plir_core.specs.Held.{IsOpEdited}
 
@@ -106,7 +109,11 @@ with_sizes a o = record o { attributes = dict_put o.attributes sizes_key a }
 
 -- what an operation holds, with other operands in segments
 abbrev pub in_op : {K A : Type 0} → List (List Value) → OpView K A → OpView K A
-in_op segs o = record o { operands = flatten segs; attributes = dict_put o.attributes sizes_key (sizes_attr (map length segs)) }
+in_op segs o = record o {
+  operands = flatten segs;
+  attributes =
+      dict_put o.attributes sizes_key (sizes_attr (map length segs));
+}
 
 module _ {K A T : Type 0} where
   -- an operation has come to have these segments
@@ -124,16 +131,19 @@ module _ {K A T : Type 0} where
     pub live : IsLive t (Operation op)
     pub count : num_segments t op ≡ length segs
     pub size_at : (i : ℕ) → segment_size t op i ≡ length (segment_at segs i)
-    pub within : (i : ℕ) → slice_range (operands_of t op) (segment_places t op i).0 (segment_places t op i).1 ≡ segment_at segs i
+    pub within : (i : ℕ) → slice_range (operands_of t op) (segment_places t op i).0 (segment_places t op i).1 ≡
+        segment_at segs i
     pub kind : kind_of t op ≡ kind_of s op
     pub result_types : result_types_of t op ≡ result_types_of s op
     pub successors : successors_of t op ≡ successors_of s op
     pub location : location_of t op ≡ location_of s op
-    pub attributes : (k : List ℕ) → is_key k sizes_key ≡ false → dict_get (attributes_of t op) k ≡ dict_get (attributes_of s op) k
+    pub attributes : (k : List ℕ) → is_key k sizes_key ≡ false →
+        dict_get (attributes_of t op) k ≡ dict_get (attributes_of s op) k
 
   -- a function of the context does not depend on the segments that an operation has, as long as the operation is live
   abbrev pub IsKeptBySegments : {X : Type 0} → (Store K A T → X) → Ptr OperationKind → Type 0
-  IsKeptBySegments f op = (s t : Store K A T) (segs : List (List Value)) → IsLive s (Operation op) → IsResegmented s t op segs → f t ≡ f s
+  IsKeptBySegments f op = (s t : Store K A T) (segs : List (List Value)) → IsLive s (Operation op) →
+      IsResegmented s t op segs → f t ≡ f s
 
   -- From s to t one segment of an operation has been edited, and beside the sizes nothing else has changed.
   abbrev pub IsSegmentEdited : (s t : Store K A T) → Ptr OperationKind → ℕ → (List Value → List Value) → Type 0
@@ -177,8 +187,11 @@ module _ {K A T : Type 0} where
 
   -- once a value is pushed to a segment, the segment is there and not empty
   abbrev pub CanBePopped : (s t : Store K A T) → Ptr OperationKind → Type 0
-  CanBePopped s t op = (seg : ℕ) (v : Value) → IsPushed s t op seg v → (seg < num_segments t op) × (0 < segment_size t op seg)
+  CanBePopped s t op = (seg : ℕ) (v : Value) → IsPushed s t op seg v → (seg < num_segments t op) ×
+      (0 < segment_size t op seg)
 
-  -- the value that is popped from a segment is the one that was pushed right before, and the segments are those before the push
+  -- the value that is popped from a segment is the one that was pushed right before, and the segments are those before
+  -- the push
   abbrev pub PopsWhatWasPushed : (s t u : Store K A T) → Ptr OperationKind → Type 0
-  PopsWhatWasPushed s t u op = (seg : ℕ) (v w : Value) → IsPushed s t op seg v → IsPopped t u op seg w → (w ≡ v) × HasSameSegments s u op
+  PopsWhatWasPushed s t u op = (seg : ℕ) (v w : Value) → IsPushed s t op seg v → IsPopped t u op seg w → (w ≡ v) ×
+      HasSameSegments s u op

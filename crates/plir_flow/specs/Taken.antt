@@ -6,10 +6,11 @@ use Rattle.plir_store.specs.Members.{Has, Distinct}
 -- ys are those of xs that P holds for, in order
 abbrev pub AreThose : {A : Type 0} → (P : A → Type 0) → (xs ys : List A) → Type 0
 AreThose P [] ys = ys ≡ []
-AreThose {A} P (x ∷ xs) ys = (P x × ((zs : List A) × ((ys ≡ x ∷ zs) × AreThose P xs zs))) ⊎ ((P x → ⊥) × AreThose P xs ys)
+AreThose {A} P (x ∷ xs) ys = (P x × ((zs : List A) × ((ys ≡ x ∷ zs) × AreThose P xs zs))) ⊎
+    ((P x → ⊥) × AreThose P xs ys)
 
--- ys has each element of xs once, in the order in which they first stand in xs: what stands in a beginning of xs is what
--- stands in a beginning of ys.
+-- ys has each element of xs once, in the order in which they first stand in xs: what stands in a beginning of xs is
+-- what stands in a beginning of ys.
 pub record IsOnceEach {A : Type 0} (xs ys : List A) : Type 0 where
   pub once : Distinct ys
   pub same : (x : A) → Has ys x ↔ Has xs x

@@ -6,7 +6,8 @@ ghost use Rattle.plir_core.specs.Store.{IsLive, IsValueLive, operands_of, succes
 ghost use Rattle.plir_core.specs.Whole.{IsWhole};
 ghost use Rattle.plir_flow.specs.Layout.{IsLayoutRefusal};
 ghost use Rattle.plir_flow.specs.Branches.{num_successors, HasNSuccs, BreaksNSuccs, KeepsSizes, operands_within};
-ghost use Rattle.plir_flow.specs.Branches.{HasBranchRule, BreaksBranchRule, IsForwardedMore, IsForwardedLess, IsOperandReplaced};
+ghost use Rattle.plir_flow.specs.Branches.{HasBranchRule, BreaksBranchRule, IsForwardedMore, IsForwardedLess};
+ghost use Rattle.plir_flow.specs.Branches.{IsOperandReplaced};
 
 use crate::branch_errors::{BranchOpInterfaceVerifyErr, NSuccsVerifyErr};
 use crate::forwarding::{as_layout, find_first_mismatch, tell};
@@ -17,12 +18,12 @@ use plir_iface::{IsTerminatorInterface, Op, accept_if};
 use std::alloc::Global;
 use std::ops::Range;
 
-/// Operations that end their block and branch to other ones, their successors. To each successor they forward operands in
-/// a row, one for each argument of the block.
+/// Operations that end their block and branch to other ones, their successors. To each successor they forward operands
+/// in a row, one for each argument of the block.
 ///
-/// What an implementer says of its operation holds by its layout: that its operands stand as it wants them. The check of
-/// the layout accepts exactly where a predicate of the context and the operation holds, memory aside, and the ranges of
-/// operands that are forwarded are a function of these two.
+/// What an implementer says of its operation holds by its layout: that its operands stand as it wants them. The check
+/// of the layout accepts exactly where a predicate of the context and the operation holds, memory aside, and the ranges
+/// of operands that are forwarded are a function of these two.
 pub trait BranchOpInterface<D: OpSet>: IsTerminatorInterface<D> {
     ghost use Rattle.std.specs.Prelude.{List};
     ghost use Rattle.plir_core.specs.Store.{Store};
@@ -33,8 +34,8 @@ pub trait BranchOpInterface<D: OpSet>: IsTerminatorInterface<D> {
 
     ghost refuses_layout: { Self → Store D.Kind D.Attr D.Ty → D.Err → Type 0 };
 
-    // The keys of the attributes that tell of the layout, as that of the sizes of segments, where they are kept: what stands under
-    // these changes as values are added and taken out, and what stands under any other key doesn't.
+    // The keys of the attributes that tell of the layout, as that of the sizes of segments, where they are kept: what
+    // stands under these changes as values are added and taken out, and what stands under any other key doesn't.
     ghost layout_keys: { Self → List (List ℕ) };
 
     // The places of the operands that are forwarded to a successor.
@@ -48,7 +49,8 @@ pub trait BranchOpInterface<D: OpSet>: IsTerminatorInterface<D> {
     ) -> Result<(), VerifyErr<D::Err>>
         requires { IsLive ctx.now (IRNode.Operation (Self.pointer self.now)) }
         ensures ok { OnOk result (has_layout self.now ctx.now) }
-        ensures refused { IfErr result (IsLayoutRefusal (has_layout self.now) (refuses_layout self.now) ctx.now (Self.pointer self.now)) };
+        ensures refused { IfErr result (IsLayoutRefusal (has_layout self.now) (refuses_layout self.now) ctx.now
+            (Self.pointer self.now)) };
 
     /// The places of the operands that are forwarded to a successor, from 0; they are among the operands.
     fn successor_operand_range(&self, ctx: &Context<D>, succ: usize) -> Range<usize>
@@ -60,8 +62,8 @@ pub trait BranchOpInterface<D: OpSet>: IsTerminatorInterface<D> {
         ensures ordered { result.start ≤ result.end }
         ensures inside { result.end ≤ length (operands_of ctx.now (Self.pointer self.now)) };
 
-    /// Forwards one more value to a successor, from 0, behind those that it gets, and answers its place among them. Where
-    /// sizes of segments are kept, it has to get fewer than 4294967295. After a refusal all is as before.
+    /// Forwards one more value to a successor, from 0, behind those that it gets, and answers its place among them.
+    /// Where sizes of segments are kept, it has to get fewer than 4294967295. After a refusal all is as before.
     fn add_successor_operand(
         &self,
         ctx: &mut Context<D>,
@@ -71,10 +73,13 @@ pub trait BranchOpInterface<D: OpSet>: IsTerminatorInterface<D> {
         requires live { IsLive ctx.old (IRNode.Operation (Self.pointer self.now)) }
         requires layout { has_layout self.now ctx.old }
         requires below { succ < num_successors ctx.old (Self.pointer self.now) }
-        requires room { KeepsSizes (layout_keys self.now) → length (operands_within ctx.old (Self.pointer self.now) (forwards self.now ctx.old succ)) < 2 ^ 32 - 1 }
+        requires room { KeepsSizes (layout_keys self.now) →
+            length (operands_within ctx.old (Self.pointer self.now) (forwards self.now ctx.old succ)) < 2 ^ 32 - 1 }
         requires operand_live { IsValueLive ctx.old operand }
-        ensures index { IfOk result (λ i. i ≡ length (operands_within ctx.old (Self.pointer self.now) (forwards self.now ctx.old succ))) }
-        ensures ok { OnOk result (IsForwardedMore (layout_keys self.now) (forwards self.now) ctx.old ctx.new (Self.pointer self.now) succ operand) }
+        ensures index { IfOk result (λ i. i ≡ length (operands_within ctx.old (Self.pointer self.now)
+            (forwards self.now ctx.old succ))) }
+        ensures ok { OnOk result (IsForwardedMore (layout_keys self.now) (forwards self.now) ctx.old ctx.new
+            (Self.pointer self.now) succ operand) }
         ensures layout { OnOk result (has_layout self.now ctx.new) }
         ensures err { OnErr result (ctx.new ≡ ctx.old) }
         ensures whole { IsWhole D.attr_handles ctx.new };
@@ -84,9 +89,12 @@ pub trait BranchOpInterface<D: OpSet>: IsTerminatorInterface<D> {
         requires live { IsLive ctx.old (IRNode.Operation (Self.pointer self.now)) }
         requires layout { has_layout self.now ctx.old }
         requires below { succ < num_successors ctx.old (Self.pointer self.now) }
-        requires within { arg < length (operands_within ctx.old (Self.pointer self.now) (forwards self.now ctx.old succ)) }
-        ensures value { slice_get (operands_within ctx.old (Self.pointer self.now) (forwards self.now ctx.old succ)) arg ≡ Some result }
-        ensures after { IsForwardedLess (layout_keys self.now) (forwards self.now) ctx.old ctx.new (Self.pointer self.now) succ arg }
+        requires within { arg < length (operands_within ctx.old (Self.pointer self.now)
+            (forwards self.now ctx.old succ)) }
+        ensures value { slice_get (operands_within ctx.old (Self.pointer self.now) (forwards self.now ctx.old succ))
+            arg ≡ Some result }
+        ensures after { IsForwardedLess (layout_keys self.now) (forwards self.now) ctx.old ctx.new
+            (Self.pointer self.now) succ arg }
         ensures layout { has_layout self.now ctx.new }
         ensures whole { IsWhole D.attr_handles ctx.new };
 
@@ -100,7 +108,8 @@ pub trait BranchOpInterface<D: OpSet>: IsTerminatorInterface<D> {
         requires live { IsLive ctx.now (IRNode.Operation (Self.pointer self.now)) }
         requires layout { has_layout self.now ctx.now }
         requires below { succ < num_successors ctx.now (Self.pointer self.now) }
-        ensures value { IfOk result (λ vs. vs.items ≡ operands_within ctx.now (Self.pointer self.now) (forwards self.now ctx.now succ)) }
+        ensures value { IfOk result (λ vs. vs.items ≡ operands_within ctx.now (Self.pointer self.now)
+            (forwards self.now ctx.now succ)) }
         ensures live { IfOk result (λ vs. All (IsValueLive ctx.now) vs.items) }
         ensures whole { IsWhole D.attr_handles ctx.now }
     {
@@ -121,7 +130,8 @@ pub trait BranchOpInterface<D: OpSet>: IsTerminatorInterface<D> {
         requires below { succ < num_successors ctx.old (Self.pointer self.now) }
         requires within { (forwards self.now ctx.old succ).0 + arg < (forwards self.now ctx.old succ).1 }
         requires operand_live { IsValueLive ctx.old operand }
-        ensures after { IsOperandReplaced ctx.old ctx.new (Self.pointer self.now) ((forwards self.now ctx.old succ).0 + arg) operand }
+        ensures after { IsOperandReplaced ctx.old ctx.new (Self.pointer self.now)
+            ((forwards self.now ctx.old succ).0 + arg) operand }
         ensures whole { IsWhole D.attr_handles ctx.new }
     {
         let op = self.get_operation();
@@ -130,16 +140,18 @@ pub trait BranchOpInterface<D: OpSet>: IsTerminatorInterface<D> {
         op.replace_operand(range.start + arg, operand, ctx);
     }
 
-    /// Accepts exactly where the operands stand as the operation wants them, and each successor gets values of the types
-    /// of its arguments. Else it tells the refusal of the layout, or how the first successor doesn't.
+    /// Accepts exactly where the operands stand as the operation wants them, and each successor gets values of the
+    /// types of its arguments. Else it tells the refusal of the layout, or how the first successor doesn't.
     final fn verify(
         &self,
         alloc: Global,
         ctx: &Context<D>,
     ) -> Result<(), VerifyErr<BranchOpInterfaceVerifyErr<D::Err>>>
         requires { IsLive ctx.now (IRNode.Operation (Self.pointer self.now)) }
-        ensures ok { OnOk result (HasBranchRule (has_layout self.now ctx.now) ctx.now (Self.pointer self.now) (forwards self.now ctx.now)) }
-        ensures refused { IfErr result (BreaksBranchRule D.OpSet (has_layout self.now) (refuses_layout self.now) (forwards self.now) ctx.now (Self.pointer self.now)) }
+        ensures ok { OnOk result (HasBranchRule (has_layout self.now ctx.now) ctx.now (Self.pointer self.now)
+            (forwards self.now ctx.now)) }
+        ensures refused { IfErr result (BreaksBranchRule D.OpSet (has_layout self.now) (refuses_layout self.now)
+            (forwards self.now) ctx.now (Self.pointer self.now)) }
         ensures whole { IsWhole D.attr_handles ctx.now }
     {
         let op = self.get_operation();

@@ -112,9 +112,9 @@ fn put_callee_type<D: OpSet>(
 /// Operations that call a function, with operands in a row as its arguments. The type of what is called is an attribute
 /// under [`ATTR_KEY_CALLEE_TYPE`].
 ///
-/// What an implementer says of its operation holds by its layout: that its operands stand as it wants them. The check of
-/// the layout accepts exactly where a predicate of the context and the operation holds, memory aside; what is called and
-/// the range of the arguments are functions of these two.
+/// What an implementer says of its operation holds by its layout: that its operands stand as it wants them. The check
+/// of the layout accepts exactly where a predicate of the context and the operation holds, memory aside; what is called
+/// and the range of the arguments are functions of these two.
 pub trait CallOpInterface<D: OpSet>: Op<D> {
     ghost use Rattle.plir_core.specs.Store.{Store};
     ghost use Rattle.plir_flow.specs.Branches.{Range as Places};
@@ -134,7 +134,8 @@ pub trait CallOpInterface<D: OpSet>: Op<D> {
     fn verify_call_layout(&self, alloc: Global, ctx: &Context<D>) -> Result<(), VerifyErr<D::Err>>
         requires { IsLive ctx.now (IRNode.Operation (Self.pointer self.now)) }
         ensures ok { OnOk result (has_call_layout self.now ctx.now) }
-        ensures refused { IfErr result (IsLayoutRefusal (has_call_layout self.now) (refuses_call_layout self.now) ctx.now (Self.pointer self.now)) };
+        ensures refused { IfErr result (IsLayoutRefusal (has_call_layout self.now) (refuses_call_layout self.now)
+            ctx.now (Self.pointer self.now)) };
 
     /// What is called.
     fn callee(&self, alloc: Global, ctx: &Context<D>) -> Result<CallOpCallable, Memory>
@@ -156,7 +157,8 @@ pub trait CallOpInterface<D: OpSet>: Op<D> {
     final fn args(&self, alloc: Global, ctx: &Context<D>) -> Result<Vec<Value>, Memory>
         requires live { IsLive ctx.now (IRNode.Operation (Self.pointer self.now)) }
         requires layout { has_call_layout self.now ctx.now }
-        ensures value { IfOk result (λ vs. vs.items ≡ operands_within ctx.now (Self.pointer self.now) (arguments self.now ctx.now)) }
+        ensures value { IfOk result (λ vs. vs.items ≡ operands_within ctx.now (Self.pointer self.now)
+            (arguments self.now ctx.now)) }
         ensures live { IfOk result (λ vs. All (IsValueLive ctx.now) vs.items) }
         ensures whole { IsWhole D.attr_handles ctx.now }
     {
@@ -194,7 +196,8 @@ pub trait CallOpInterface<D: OpSet>: Op<D> {
     final fn verify(&self, ctx: &Context<D>) -> Result<(), VerifyErr<CallOpInterfaceErr>>
         requires { IsLive ctx.now (IRNode.Operation (Self.pointer self.now)) }
         ensures ok { IsOk result ↔ HasCalleeType (has_signature D.function_sig) ctx.now (Self.pointer self.now) }
-        ensures refused { IfErr result (BreaksCalleeType (has_signature D.function_sig) ctx.now (Self.pointer self.now)) }
+        ensures refused { IfErr result (BreaksCalleeType (has_signature D.function_sig) ctx.now
+            (Self.pointer self.now)) }
         ensures whole { IsWhole D.attr_handles ctx.now }
     {
         let op = self.get_operation();

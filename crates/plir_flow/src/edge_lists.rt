@@ -45,7 +45,8 @@ pub(crate) fn keep_to(mut edges: Vec<RegionEdge>, successor: RegionSuccessor) ->
 
 // Puts what is read on edges behind what was, each once.
 fn add_reads(seen: &mut IndexSet<Use<Value>>, edges: &[RegionEdge]) -> Result<(), Memory>
-    ensures { OnOk result ((us : List _) → IsOnceEach us seen.old.keys → IsOnceEach (us ++ flat_map reads_on edges.now) seen.new.keys) }
+    ensures { OnOk result ((us : List _) → IsOnceEach us seen.old.keys →
+        IsOnceEach (us ++ flat_map reads_on edges.now) seen.new.keys) }
 {
     for edge in edges {
         add_all(seen, &edge.reads)?;
@@ -67,7 +68,8 @@ pub(crate) fn add_receivers(
     seen: &mut IndexSet<Value>,
     flows: &[(Use<Value>, Value)],
 ) -> Result<(), Memory>
-    ensures { OnOk result ((vs : List _) → IsOnceEach vs seen.old.keys → IsOnceEach (vs ++ map (λ f. f.1) flows.now) seen.new.keys) }
+    ensures { OnOk result ((vs : List _) → IsOnceEach vs seen.old.keys →
+        IsOnceEach (vs ++ map (λ f. f.1) flows.now) seen.new.keys) }
 {
     for flow in flows {
         add(seen, flow.1)?;
@@ -77,7 +79,8 @@ pub(crate) fn add_receivers(
 
 // Puts the receivers on edges behind those that were, each once.
 fn add_receivers_on(seen: &mut IndexSet<Value>, edges: &[RegionEdge]) -> Result<(), Memory>
-    ensures { OnOk result ((vs : List _) → IsOnceEach vs seen.old.keys → IsOnceEach (vs ++ flat_map receivers_on edges.now) seen.new.keys) }
+    ensures { OnOk result ((vs : List _) → IsOnceEach vs seen.old.keys →
+        IsOnceEach (vs ++ flat_map receivers_on edges.now) seen.new.keys) }
 {
     for edge in edges {
         add_receivers(seen, &edge.flows)?;
@@ -150,7 +153,8 @@ pub(crate) fn reads_in<D: OpSet>(
 
 // Puts the region that an edge leads to behind those that are there, if it leads to one and that is not there yet.
 fn add_region(seen: &mut IndexSet<Ptr<Region>>, successor: RegionSuccessor) -> Result<(), Memory>
-    ensures { OnOk result ((rs : List _) → IsOnceEach rs seen.old.keys → IsOnceEach (rs ++ region_in successor) seen.new.keys) }
+    ensures { OnOk result ((rs : List _) → IsOnceEach rs seen.old.keys →
+        IsOnceEach (rs ++ region_in successor) seen.new.keys) }
 {
     if let RegionSuccessor::Region(region) = successor {
         add(seen, region)?;

@@ -60,7 +60,8 @@ pub(crate) fn verify_edges<D: OpSet>(
     requires live { IsLive ctx.now (IRNode.Operation op) }
     requires edges_live { AreEdgesLive ctx.now edges.now }
     ensures ok { OnOk result (HasEdgeRule D.is_terminator ctx.now op edges.now) }
-    ensures refused { IfErr result (IsRefusalMemoryAside ctx.now op (IsToldFault D.type_id D.type_body_text ctx.now D.is_terminator op edges.now)) }
+    ensures refused { IfErr result (IsRefusalMemoryAside ctx.now op
+        (IsToldFault D.type_id D.type_body_text ctx.now D.is_terminator op edges.now)) }
     ensures whole { IsWhole D.attr_handles ctx.now }
 {
     ctx.stands();

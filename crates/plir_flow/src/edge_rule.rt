@@ -3,7 +3,8 @@ ghost use Rattle.std.specs.Prelude.{◌≡◌, ◌↔◌, ◌<◌, ◌+◌, [], 
 ghost use Rattle.std.specs.List.{HoldsAt};
 ghost use Rattle.plir_core.specs.Store.{IsValueLive, type_of_value};
 ghost use Rattle.plir_core.specs.Whole.{IsWhole};
-ghost use Rattle.plir_flow.specs.RegionEdges.{IsPointLive, IsSuccessorLive, IsFlowLive, IsUseLive, IsEdgeLive, AreEdgesLive};
+ghost use Rattle.plir_flow.specs.RegionEdges.{IsPointLive, IsSuccessorLive, IsFlowLive, IsUseLive, IsEdgeLive};
+ghost use Rattle.plir_flow.specs.RegionEdges.{AreEdgesLive};
 ghost use Rattle.plir_flow.specs.RegionRule.{source_at, type_of_use, no_receiver, IsOfOtherType, IsOwnPoint, IsOwnRead};
 ghost use Rattle.plir_flow.specs.RegionRule.{IsOwnSuccessor, IsReceiver, IsEdgeRight, IsBroken, FlowSays, FlowsSay};
 ghost use Rattle.plir_flow.specs.RegionRule.{EdgeSays, EdgesSay, AreFirsts, first_place, NamesLive};
@@ -206,7 +207,8 @@ pub(crate) fn find_edge_fault<D: OpSet>(
     find_flows_fault(ctx, op, edge, &mut received)
 }
 
-/// The point that the edge at a place breaks, if it breaks one. `firsts` has the place of the first edge with each target.
+/// The point that the edge at a place breaks, if it breaks one. `firsts` has the place of the first edge with each
+/// target.
 fn find_fault_at<D: OpSet>(
     alloc: Global,
     ctx: &Context<D>,

@@ -27,7 +27,8 @@ fn find_mismatch<D: OpSet>(
     requires inside { range.end ≤ length (operands_of ctx.now op) }
     requires block_live { IsLive ctx.now (IRNode.BasicBlock block) }
     ensures none { IsNone result ↔ (types_within ctx.now op (range.start, range.end) ≡ argument_types ctx.now block) }
-    ensures some { IfSome result (IsMismatch (types_within ctx.now op (range.start, range.end)) (argument_types ctx.now block)) }
+    ensures some { IfSome result (IsMismatch (types_within ctx.now op (range.start, range.end))
+        (argument_types ctx.now block)) }
     ensures live { IfSome result (NamesLive ctx.now) }
     ensures whole { IsWhole D.attr_handles ctx.now }
 {

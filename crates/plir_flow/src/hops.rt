@@ -56,7 +56,8 @@ fn add_hop(
     requires heads { AreHeads hops.old.items (get same_region heads.old) }
     ensures linked { OnOk result (AreLinked hops.new.items) }
     ensures heads { OnOk result (AreHeads hops.new.items (get same_region heads.new)) }
-    ensures more { OnOk result ((a b : PtrTo RegionKind) → IsHop hops.new.items a b ↔ (IsHop hops.old.items a b ⊎ ((from ≡ a) × (to ≡ b)))) }
+    ensures more { OnOk result ((a b : PtrTo RegionKind) →
+        IsHop hops.new.items a b ↔ (IsHop hops.old.items a b ⊎ ((from ≡ a) × (to ≡ b)))) }
 {
     let place = hops.len();
     let earlier = heads.insert(from, place)?;
@@ -94,7 +95,8 @@ fn add_edge<D: OpSet>(
     requires heads { AreHeads hops.old.items (get same_region heads.old) }
     ensures linked { OnOk result (AreLinked hops.new.items) }
     ensures heads { OnOk result (AreHeads hops.new.items (get same_region heads.new)) }
-    ensures more { OnOk result ((a b : PtrTo RegionKind) → IsHop hops.new.items a b ↔ (IsHop hops.old.items a b ⊎ IsStepOn ctx.now edge.now a b)) }
+    ensures more { OnOk result ((a b : PtrTo RegionKind) →
+        IsHop hops.new.items a b ↔ (IsHop hops.old.items a b ⊎ IsStepOn ctx.now edge.now a b)) }
     ensures whole { IsWhole D.attr_handles ctx.now }
 {
     match step_of(ctx, edge) {

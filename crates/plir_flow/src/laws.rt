@@ -8,7 +8,8 @@ ghost use Rattle.plir_core.specs.Store.{Store, IsLive, operands_of, successors_o
 ghost use Rattle.plir_flow.specs.Branches.{num_successors, operands_within};
 ghost use Rattle.plir_flow.specs.EdgeEquality.{same_edge};
 ghost use Rattle.plir_flow.specs.RegionEdges.{EdgeView, Reach};
-ghost use Rattle.plir_flow.specs.Segments.{in_segments, flatten, segment_at, edit_at, SegmentEdit, put_last, take_last, num_segments};
+ghost use Rattle.plir_flow.specs.Segments.{in_segments, flatten, segment_at, edit_at, SegmentEdit, put_last, take_last};
+ghost use Rattle.plir_flow.specs.Segments.{num_segments};
 ghost use Rattle.plir_flow.specs.Segments.{segment_size, segment_places, segments_of, IsSegmented};
 ghost use Rattle.plir_flow.specs.Segments.{CanBePopped, IsKeptBySegments, PopsWhatWasPushed};
 
@@ -29,28 +30,35 @@ pub fn segments_are_the_one_list()
 /// A value that is put at the end of a list and taken off leaves the same list; so it does in a segment.
 pub fn put_and_taken_off()
     ensures list { (xs : List AnyValue) (v : AnyValue) → take_last (put_last v xs) ≡ xs }
-    ensures segment { (i : ℕ) (v : AnyValue) (segs : List (List AnyValue)) → edit_at i take_last (edit_at i (put_last v) segs) ≡ segs }
+    ensures segment { (i : ℕ) (v : AnyValue) (segs : List (List AnyValue)) →
+        edit_at i take_last (edit_at i (put_last v) segs) ≡ segs }
 {}
 
 /// An edit of one segment changes that segment, and no other.
 pub fn edits_of_one_segment()
     ensures count { (i : ℕ) (f : SegmentEdit) (segs : List (List AnyValue)) → length (edit_at i f segs) ≡ length segs }
-    ensures here { (i : ℕ) (f : SegmentEdit) (segs : List (List AnyValue)) → i < length segs → segment_at (edit_at i f segs) i ≡ f (segment_at segs i) }
-    ensures others { (i j : ℕ) (f : SegmentEdit) (segs : List (List AnyValue)) → j ≢ i → segment_at (edit_at i f segs) j ≡ segment_at segs j }
+    ensures here { (i : ℕ) (f : SegmentEdit) (segs : List (List AnyValue)) → i < length segs →
+        segment_at (edit_at i f segs) i ≡ f (segment_at segs i) }
+    ensures others { (i j : ℕ) (f : SegmentEdit) (segs : List (List AnyValue)) → j ≢ i →
+        segment_at (edit_at i f segs) j ≡ segment_at segs j }
 {}
 
-/// What depends on an operation's successors alone, as the number of segments that a switch expects, one for each successor
-/// and some more, doesn't depend on its segments. So an implementer of [`crate::OperandSegmentInterface`] may expect it.
+/// What depends on an operation's successors alone, as the number of segments that a switch expects, one for each
+/// successor and some more, doesn't depend on its segments. So an implementer of [`crate::OperandSegmentInterface`] may
+/// expect it.
 pub fn segments_keep_successors<D: OpSet>()
-    ensures successors { (op : AnyPtr OperationKind) → IsKeptBySegments (λ (s : Store D.Kind D.Attr D.Ty). successors_of s op) op }
-    ensures one_for_each { (n : ℕ) (op : AnyPtr OperationKind) → IsKeptBySegments (λ (s : Store D.Kind D.Attr D.Ty). Some (num_successors s op + n)) op }
+    ensures successors { (op : AnyPtr OperationKind) → IsKeptBySegments
+        (λ (s : Store D.Kind D.Attr D.Ty). successors_of s op) op }
+    ensures one_for_each { (n : ℕ) (op : AnyPtr OperationKind) →
+        IsKeptBySegments (λ (s : Store D.Kind D.Attr D.Ty). Some (num_successors s op + n)) op }
 {}
 
 /// The operands in a segment stand in a row among all operands.
 pub fn segments_stand_in_a_row<D: OpSet>(ctx: &Context<D>, op: Ptr<Operation>)
     requires live { IsLive ctx.now (IRNode.Operation op) }
     requires segmented { IsSegmented ctx.now op }
-    ensures within { (i : ℕ) → operands_within ctx.now op (segment_places ctx.now op i) ≡ segment_at (segments_of ctx.now op) i }
+    ensures within { (i : ℕ) → operands_within ctx.now op (segment_places ctx.now op i) ≡ segment_at
+        (segments_of ctx.now op) i }
     ensures sizes { (i : ℕ) → length (segment_at (segments_of ctx.now op) i) ≡ segment_size ctx.now op i }
     ensures inside { (i : ℕ) → (segment_places ctx.now op i).1 ≤ length (operands_of ctx.now op) }
     ensures count { length (segments_of ctx.now op) ≡ num_segments ctx.now op }
@@ -58,9 +66,9 @@ pub fn segments_stand_in_a_row<D: OpSet>(ctx: &Context<D>, op: Ptr<Operation>)
     ctx.stands();
 }
 
-/// What is pushed to a segment is what is popped from it next, and then segments, sizes and operands are as before the push. One
-/// wants it where the clause `ok` of `push_to_segment` leads from one state to a second, and the clauses `value` and `after` of
-/// `pop_from_segment` from there to a third. What was pushed to can be popped from.
+/// What is pushed to a segment is what is popped from it next, and then segments, sizes and operands are as before the
+/// push. One wants it where the clause `ok` of `push_to_segment` leads from one state to a second, and the clauses
+/// `value` and `after` of `pop_from_segment` from there to a third. What was pushed to can be popped from.
 pub fn push_then_pop<D: OpSet>()
     ensures filled { (s t : Store D.Kind D.Attr D.Ty) (op : AnyPtr OperationKind) → CanBePopped s t op }
     ensures back { (s t u : Store D.Kind D.Attr D.Ty) (op : AnyPtr OperationKind) → PopsWhatWasPushed s t u op }

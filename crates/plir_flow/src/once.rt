@@ -15,7 +15,8 @@ pub(crate) fn add<T: Copy + Eq + Hash + Drop>(
     value: T,
 ) -> Result<bool, Memory>
     requires { (a b : T) → Decides (T.eq a b) (a ≡ b) }
-    ensures once { OnOk result ((xs : List T) → IsOnceEach xs seen.old.keys → IsOnceEach (xs ++ value ∷ []) seen.new.keys) }
+    ensures once { OnOk result ((xs : List T) → IsOnceEach xs seen.old.keys →
+        IsOnceEach (xs ++ value ∷ []) seen.new.keys) }
     ensures fresh { IfOk result (λ b. b ≡ true → Has seen.old.keys value → ⊥) }
     ensures twice { IfOk result (λ b. b ≡ false → Has seen.old.keys value) }
     ensures last { IfOk result (λ b. b ≡ true → seen.new.keys ≡ seen.old.keys ++ value ∷ []) }

@@ -9,7 +9,8 @@ ghost use Rattle.plir_core.specs.Store.{IsLive, IsValueLive};
 ghost use Rattle.plir_core.specs.Whole.{IsWhole};
 ghost use Rattle.plir_flow.specs.Taken.{AreThose, AreTakenOnce};
 ghost use Rattle.plir_flow.specs.Layout.{IsLayoutRefusal};
-ghost use Rattle.plir_flow.specs.RegionEdges.{IsFrom, IsTo, IsFromRegion, IsUseLive, IsFlowLive, AreEdgesLive, AreOperandsInto};
+ghost use Rattle.plir_flow.specs.RegionEdges.{IsFrom, IsTo, IsFromRegion, IsUseLive, IsFlowLive, AreEdgesLive};
+ghost use Rattle.plir_flow.specs.RegionEdges.{AreOperandsInto};
 ghost use Rattle.plir_flow.specs.RegionEdges.{flows_on, reads_on, receivers_on, regions_on, Reach};
 ghost use Rattle.plir_flow.specs.RegionRule.{HasEdgeRule, BreaksEdgeRule};
 
@@ -26,13 +27,14 @@ use std::alloc::Global;
 
 /// Operations whose regions are entered and left along known edges, with known operands that flow along each.
 ///
-/// What an implementer says of its operation holds by its layout: that its regions, their terminators and the operands stand
-/// as it wants them. The check of the layout accepts exactly where a predicate of the context and the operation holds, memory
-/// aside, and the edges are a function of these two. They name live nodes and values, and operands that there are.
+/// What an implementer says of its operation holds by its layout: that its regions, their terminators and the operands
+/// stand as it wants them. The check of the layout accepts exactly where a predicate of the context and the operation
+/// holds, memory aside, and the edges are a function of these two. They name live nodes and values, and operands that
+/// there are.
 ///
-/// Lists of edges, of what flows and of operands that flow into a value have these in the order of [`Self::region_edges`];
-/// lists of what is read, of receivers and of regions have each once, in the order in which they first come. All calls
-/// answer `Memory` only where a growth was refused.
+/// Lists of edges, of what flows and of operands that flow into a value have these in the order of
+/// [`Self::region_edges`]; lists of what is read, of receivers and of regions have each once, in the order in which
+/// they first come. All calls answer `Memory` only where a growth was refused.
 pub trait RegionBranchOpInterface<D: OpSet>: Op<D> {
     ghost use Rattle.std.specs.Prelude.{List as Several};
     ghost use Rattle.plir_core.specs.Store.{Store};
@@ -54,7 +56,8 @@ pub trait RegionBranchOpInterface<D: OpSet>: Op<D> {
     ) -> Result<(), VerifyErr<D::Err>>
         requires { IsLive ctx.now (IRNode.Operation (Self.pointer self.now)) }
         ensures ok { OnOk result (has_edges_layout self.now ctx.now) }
-        ensures refused { IfErr result (IsLayoutRefusal (has_edges_layout self.now) (refuses_edges_layout self.now) ctx.now (Self.pointer self.now)) };
+        ensures refused { IfErr result (IsLayoutRefusal (has_edges_layout self.now) (refuses_edges_layout self.now)
+            ctx.now (Self.pointer self.now)) };
 
     /// The edges along which control passes: into the regions, between them and out of them.
     fn region_edges(&self, alloc: Global, ctx: &Context<D>) -> Result<Vec<RegionEdge>, Memory>
@@ -134,7 +137,8 @@ pub trait RegionBranchOpInterface<D: OpSet>: Op<D> {
     ) -> Result<Vec<Use<Value>>, Memory>
         requires live { IsLive ctx.now (IRNode.Operation (Self.pointer self.now)) }
         requires layout { has_edges_layout self.now ctx.now }
-        ensures value { IfOk result (λ us. AreTakenOnce (IsFromRegion ctx.now region) reads_on (edges self.now ctx.now) us.items) }
+        ensures value { IfOk result (λ us. AreTakenOnce (IsFromRegion ctx.now region) reads_on (edges self.now ctx.now)
+            us.items) }
         ensures live { IfOk result (λ us. All (IsUseLive ctx.now) us.items) }
     {
         let edges = self.region_edges(alloc, ctx)?;
@@ -165,7 +169,8 @@ pub trait RegionBranchOpInterface<D: OpSet>: Op<D> {
     ) -> Result<Vec<Value>, Memory>
         requires live { IsLive ctx.now (IRNode.Operation (Self.pointer self.now)) }
         requires layout { has_edges_layout self.now ctx.now }
-        ensures value { IfOk result (λ vs. AreTakenOnce (IsTo successor) receivers_on (edges self.now ctx.now) vs.items) }
+        ensures value { IfOk result (λ vs. AreTakenOnce (IsTo successor) receivers_on (edges self.now ctx.now)
+            vs.items) }
         ensures live { IfOk result (λ vs. All (IsValueLive ctx.now) vs.items) }
     {
         let edges = self.edges_to(alloc, ctx, successor)?;
@@ -197,14 +202,15 @@ pub trait RegionBranchOpInterface<D: OpSet>: Op<D> {
     ) -> Result<Vec<Ptr<Region>>, Memory>
         requires live { IsLive ctx.now (IRNode.Operation (Self.pointer self.now)) }
         requires layout { has_edges_layout self.now ctx.now }
-        ensures value { IfOk result (λ rs. AreTakenOnce (IsFromRegion ctx.now region) regions_on (edges self.now ctx.now) rs.items) }
+        ensures value { IfOk result (λ rs. AreTakenOnce (IsFromRegion ctx.now region) regions_on
+            (edges self.now ctx.now) rs.items) }
         ensures live { IfOk result (λ rs. All (λ r. IsLive ctx.now (IRNode.Region r)) rs.items) }
     {
         let edges = self.region_edges(alloc, ctx)?;
         regions_in(alloc, ctx, &edges, region)
     }
-    /// The regions that paths of one edge or more between regions lead to from a region, each once; the region itself is
-    /// among them only if it is on a cycle. Their order is open. What this takes is linear in the regions and edges.
+    /// The regions that paths of one edge or more between regions lead to from a region, each once; the region itself
+    /// is among them only if it is on a cycle. Their order is open. What this takes is linear in the regions and edges.
     final fn reachable_regions(
         &self,
         alloc: Global,
@@ -213,7 +219,8 @@ pub trait RegionBranchOpInterface<D: OpSet>: Op<D> {
     ) -> Result<Vec<Ptr<Region>>, Memory>
         requires live { IsLive ctx.now (IRNode.Operation (Self.pointer self.now)) }
         requires layout { has_edges_layout self.now ctx.now }
-        ensures all { IfOk result (λ rs. (b : PtrTo RegionKind) → Has rs.items b ↔ Reach ctx.now (edges self.now ctx.now) region b) }
+        ensures all { IfOk result (λ rs. (b : PtrTo RegionKind) →
+            Has rs.items b ↔ Reach ctx.now (edges self.now ctx.now) region b) }
         ensures once { IfOk result (λ rs. Distinct rs.items) }
         ensures live { IfOk result (λ rs. All (λ r. IsLive ctx.now (IRNode.Region r)) rs.items) }
     {
@@ -235,11 +242,11 @@ pub trait RegionBranchOpInterface<D: OpSet>: Op<D> {
         let reached = self.reachable_regions(alloc, ctx, region)?;
         Ok(is_among(&reached, region))
     }
-    /// Accepts exactly where the operation stands as its edges want it and the edges have their rule: two edges with one
-    /// target have one set of receivers; edges start at the operation or at terminators in its regions, lead to its regions
-    /// or behind it, read operands of the operation or of the one at their start, and pass operands of the one at their
-    /// start to arguments of the entry block or to results, each once and of the same type. Else it tells the refusal of the
-    /// layout, or the point that the first edge breaks that breaks one.
+    /// Accepts exactly where the operation stands as its edges want it and the edges have their rule: two edges with
+    /// one target have one set of receivers; edges start at the operation or at terminators in its regions, lead to its
+    /// regions or behind it, read operands of the operation or of the one at their start, and pass operands of the one
+    /// at their start to arguments of the entry block or to results, each once and of the same type. Else it tells the
+    /// refusal of the layout, or the point that the first edge breaks that breaks one.
     final fn verify(
         &self,
         alloc: Global,
@@ -247,8 +254,10 @@ pub trait RegionBranchOpInterface<D: OpSet>: Op<D> {
     ) -> Result<(), VerifyErr<RegionBranchOpInterfaceVerifyErr<D::Err>>>
         requires { IsLive ctx.now (IRNode.Operation (Self.pointer self.now)) }
         ensures layout { OnOk result (has_edges_layout self.now ctx.now) }
-        ensures rule { OnOk result (HasEdgeRule D.is_terminator ctx.now (Self.pointer self.now) (edges self.now ctx.now)) }
-        ensures refused { IfErr result (BreaksEdgeRule D.OpSet (has_edges_layout self.now) (refuses_edges_layout self.now) (edges self.now) ctx.now (Self.pointer self.now)) }
+        ensures rule { OnOk result (HasEdgeRule D.is_terminator ctx.now (Self.pointer self.now)
+            (edges self.now ctx.now)) }
+        ensures refused { IfErr result (BreaksEdgeRule D.OpSet (has_edges_layout self.now)
+            (refuses_edges_layout self.now) (edges self.now) ctx.now (Self.pointer self.now)) }
         ensures whole { IsWhole D.attr_handles ctx.now }
     {
         let op = self.get_operation();

@@ -4,7 +4,8 @@ ghost use Rattle.std.specs.Prelude.{remove, take, length, slice_get};
 ghost use Rattle.plir_core.specs.declared.ptr.IRNode.{IRNode};
 ghost use Rattle.plir_core.specs.Store.{IsLive, IsValueLive, operands_of};
 ghost use Rattle.plir_core.specs.Whole.{IsWhole};
-ghost use Rattle.plir_flow.specs.Segments.{segment_at, edit_at, segments_of, num_segments, segment_size, segment_places};
+ghost use Rattle.plir_flow.specs.Segments.{segment_at, edit_at, segments_of, num_segments, segment_size};
+ghost use Rattle.plir_flow.specs.Segments.{segment_places};
 ghost use Rattle.plir_flow.specs.Segments.{IsSegmented, IsResegmented, IsOperandPutAt};
 
 use crate::segment_sizes::{place_among, set_size, size_of};
@@ -25,7 +26,8 @@ pub(crate) fn insert_at<D: OpSet>(
     requires within { place ≤ segment_size ctx.old op seg }
     requires room { segment_size ctx.old op seg < 2 ^ 32 - 1 }
     requires operand_live { IsValueLive ctx.old operand }
-    ensures ok { OnOk result (IsResegmented ctx.old ctx.new op (edit_at seg (λ xs. insert xs place operand) (segments_of ctx.old op))) }
+    ensures ok { OnOk result (IsResegmented ctx.old ctx.new op
+        (edit_at seg (λ xs. insert xs place operand) (segments_of ctx.old op))) }
     ensures operands { OnOk result (IsOperandPutAt ctx.old ctx.new op seg place operand) }
     ensures err { OnErr result (ctx.new ≡ ctx.old) }
     ensures whole { IsWhole D.attr_handles ctx.new }
@@ -52,7 +54,8 @@ pub(crate) fn remove_at<D: OpSet>(
     requires within { place < segment_size ctx.old op seg }
     ensures value { slice_get (segment_at (segments_of ctx.old op) seg) place ≡ Some result }
     ensures after { IsResegmented ctx.old ctx.new op (edit_at seg (λ xs. remove xs place) (segments_of ctx.old op)) }
-    ensures operands { operands_of ctx.new op ≡ remove (operands_of ctx.old op) ((segment_places ctx.old op seg).0 + place) }
+    ensures operands { operands_of ctx.new op ≡ remove (operands_of ctx.old op)
+        ((segment_places ctx.old op seg).0 + place) }
     ensures whole { IsWhole D.attr_handles ctx.new }
 {
     laws::op_edits_join(ctx, op);
@@ -77,8 +80,10 @@ pub(crate) fn push_last<D: OpSet>(
     requires room { segment_size ctx.old op seg < 2 ^ 32 - 1 }
     requires operand_live { IsValueLive ctx.old operand }
     ensures index { IfOk result (λ i. i ≡ segment_size ctx.old op seg) }
-    ensures ok { OnOk result (IsResegmented ctx.old ctx.new op (edit_at seg (λ xs. xs ++ operand ∷ []) (segments_of ctx.old op))) }
-    ensures operands { OnOk result (operands_of ctx.new op ≡ insert (operands_of ctx.old op) (segment_places ctx.old op seg).1 operand) }
+    ensures ok { OnOk result (IsResegmented ctx.old ctx.new op
+        (edit_at seg (λ xs. xs ++ operand ∷ []) (segments_of ctx.old op))) }
+    ensures operands { OnOk result (operands_of ctx.new op ≡ insert (operands_of ctx.old op)
+        (segment_places ctx.old op seg).1 operand) }
     ensures err { OnErr result (ctx.new ≡ ctx.old) }
     ensures whole { IsWhole D.attr_handles ctx.new }
 {
@@ -94,7 +99,8 @@ pub(crate) fn pop_last<D: OpSet>(ctx: &mut Context<D>, op: Ptr<Operation>, seg: 
     requires below { seg < num_segments ctx.old op }
     requires filled { 0 < segment_size ctx.old op seg }
     ensures value { slice_get (segment_at (segments_of ctx.old op) seg) (segment_size ctx.old op seg - 1) ≡ Some result }
-    ensures after { IsResegmented ctx.old ctx.new op (edit_at seg (λ xs. take (length xs - 1) xs) (segments_of ctx.old op)) }
+    ensures after { IsResegmented ctx.old ctx.new op (edit_at seg (λ xs. take (length xs - 1) xs)
+        (segments_of ctx.old op)) }
     ensures operands { operands_of ctx.new op ≡ remove (operands_of ctx.old op) ((segment_places ctx.old op seg).1 - 1) }
     ensures whole { IsWhole D.attr_handles ctx.new }
 {

@@ -134,7 +134,8 @@ pub(crate) fn set_size<D: OpSet>(ctx: &mut Context<D>, op: Ptr<Operation>, seg: 
     requires live { IsLive ctx.old (IRNode.Operation op) }
     requires present { IsSome (sizes_under ctx.old op) }
     requires below { seg < num_segments ctx.old op }
-    ensures after { ctx.new ≡ with_op_edit ctx.old op (with_sizes (sizes_attr (slice_set (sizes_of ctx.old op) seg size))) }
+    ensures after { ctx.new ≡ with_op_edit ctx.old op (with_sizes
+        (sizes_attr (slice_set (sizes_of ctx.old op) seg size))) }
     ensures whole { IsWhole D.attr_handles ctx.new }
 {
     laws::op_edits_join(ctx, op);

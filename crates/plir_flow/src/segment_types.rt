@@ -8,7 +8,8 @@ ghost use Rattle.plir_iface.specs.TypeRules.{EachPasses};
 ghost use Rattle.plir_iface.specs.Verdict.{IsRefusal};
 ghost use Rattle.plir_flow.specs.Segments.{num_segments, IsSegmented, HasSegments};
 ghost use Rattle.plir_flow.specs.SegmentTypes.{segment_types, IsFirstFailingOperand, IsSegmentWithout};
-ghost use Rattle.plir_flow.specs.SegmentTypes.{HasSegmentNOfType, HasSegmentNImplsTy, BreaksSegmentNOfType, BreaksSegmentNImplsTy};
+ghost use Rattle.plir_flow.specs.SegmentTypes.{HasSegmentNOfType, HasSegmentNImplsTy, BreaksSegmentNOfType};
+ghost use Rattle.plir_flow.specs.SegmentTypes.{BreaksSegmentNImplsTy};
 
 use crate::segment_sizes::{count_of, place_among, size_of, start_of};
 use crate::segments::OperandSegmentInterface;
@@ -113,7 +114,8 @@ pub trait SegmentNOfType<D: OpSet, const N: usize, T: TypeMark<D>>: OperandSegme
         requires live { IsLive ctx.now (IRNode.Operation (Self.pointer self.now)) }
         requires rule { HasSegments (Self.expected self.now ctx.now) ctx.now (Self.pointer self.now) }
         ensures ok { IsOk result ↔ HasSegmentNOfType T.marks ctx.now (Self.pointer self.now) N }
-        ensures refused { IfErr result (BreaksSegmentNOfType T.marks ctx.now (Self.pointer self.now) N T.NAME D.type_id D.type_body_text) }
+        ensures refused { IfErr result (BreaksSegmentNOfType T.marks ctx.now (Self.pointer self.now) N T.NAME D.type_id
+            D.type_body_text) }
         ensures whole { IsWhole D.attr_handles ctx.now }
     {
         verify_kind::<D, T>(alloc, ctx, self.get_operation(), N)
@@ -135,7 +137,8 @@ pub trait SegmentNImplsTy<
         requires live { IsLive ctx.now (IRNode.Operation (Self.pointer self.now)) }
         requires rule { HasSegments (Self.expected self.now ctx.now) ctx.now (Self.pointer self.now) }
         ensures ok { IsOk result ↔ HasSegmentNImplsTy I.marks ctx.now (Self.pointer self.now) N }
-        ensures refused { IfErr result (BreaksSegmentNImplsTy I.marks ctx.now (Self.pointer self.now) N I.NAME D.type_id) }
+        ensures refused { IfErr result (BreaksSegmentNImplsTy I.marks ctx.now (Self.pointer self.now) N I.NAME
+            D.type_id) }
         ensures whole { IsWhole D.attr_handles ctx.now }
     {
         verify_impls::<D, I>(ctx, self.get_operation(), N)

@@ -235,7 +235,8 @@ pub trait OperandSegmentInterface<D: OpSet>: Op<D> {
         sizes: OperandSegmentSizesAttr,
     ) -> Result<(), Memory>
         requires { IsLive ctx.old (IRNode.Operation (Self.pointer self.now)) }
-        ensures ok { OnOk result (ctx.new ≡ with_op_edit ctx.old (Self.pointer self.now) (with_sizes (sizes_attr sizes))) }
+        ensures ok { OnOk result (ctx.new ≡ with_op_edit ctx.old (Self.pointer self.now)
+            (with_sizes (sizes_attr sizes))) }
         ensures err { OnErr result (ctx.new ≡ ctx.old) }
         ensures whole { IsWhole D.attr_handles ctx.new }
     {
@@ -271,7 +272,8 @@ pub trait OperandSegmentInterface<D: OpSet>: Op<D> {
         requires room { segment_size ctx.old (Self.pointer self.now) seg < 2 ^ 32 - 1 }
         requires operand_live { IsValueLive ctx.old operand }
         ensures index { IfOk result (λ i. i ≡ segment_size ctx.old (Self.pointer self.now) seg) }
-        ensures ok { OnOk result (IsSegmentEdited ctx.old ctx.new (Self.pointer self.now) seg (λ xs. xs ++ operand ∷ [])) }
+        ensures ok { OnOk result (IsSegmentEdited ctx.old ctx.new (Self.pointer self.now) seg
+            (λ xs. xs ++ operand ∷ [])) }
         ensures operands { OnOk result (IsOperandPutLast ctx.old ctx.new (Self.pointer self.now) seg operand) }
         ensures rule { OnOk result (HasSegments (expected self.now ctx.new) ctx.new (Self.pointer self.now)) }
         ensures err { OnErr result (ctx.new ≡ ctx.old) }
@@ -286,7 +288,8 @@ pub trait OperandSegmentInterface<D: OpSet>: Op<D> {
         requires rule { HasSegments (expected self.now ctx.old) ctx.old (Self.pointer self.now) }
         requires below { seg < num_segments ctx.old (Self.pointer self.now) }
         requires filled { 0 < segment_size ctx.old (Self.pointer self.now) seg }
-        ensures value { StandsInSegment ctx.old (Self.pointer self.now) seg (segment_size ctx.old (Self.pointer self.now) seg - 1) result }
+        ensures value { StandsInSegment ctx.old (Self.pointer self.now) seg
+            (segment_size ctx.old (Self.pointer self.now) seg - 1) result }
         ensures after { IsSegmentEdited ctx.old ctx.new (Self.pointer self.now) seg (λ xs. take (length xs - 1) xs) }
         ensures operands { IsLastOperandTaken ctx.old ctx.new (Self.pointer self.now) seg }
         ensures rule { HasSegments (expected self.now ctx.new) ctx.new (Self.pointer self.now) }
@@ -310,7 +313,8 @@ pub trait OperandSegmentInterface<D: OpSet>: Op<D> {
         requires within { place ≤ segment_size ctx.old (Self.pointer self.now) seg }
         requires room { segment_size ctx.old (Self.pointer self.now) seg < 2 ^ 32 - 1 }
         requires operand_live { IsValueLive ctx.old operand }
-        ensures ok { OnOk result (IsSegmentEdited ctx.old ctx.new (Self.pointer self.now) seg (λ xs. insert xs place operand)) }
+        ensures ok { OnOk result (IsSegmentEdited ctx.old ctx.new (Self.pointer self.now) seg
+            (λ xs. insert xs place operand)) }
         ensures operands { OnOk result (IsOperandPutAt ctx.old ctx.new (Self.pointer self.now) seg place operand) }
         ensures rule { OnOk result (HasSegments (expected self.now ctx.new) ctx.new (Self.pointer self.now)) }
         ensures err { OnErr result (ctx.new ≡ ctx.old) }

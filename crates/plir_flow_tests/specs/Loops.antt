@@ -1,4 +1,5 @@
--- A loop: an operation with one region in which control stays until the operation that ends the region's block hands a value on.
+-- A loop: an operation with one region in which control stays until the operation that ends the region's block hands a
+-- value on.
 use Rattle.std.specs.Prelude.{◌≡◌, ◌<◌, ℕ, List, [], ◌∷◌, length, Some}
 use Rattle.plir_core.specs.declared.ptr.Ptr.{Ptr}
 use Rattle.plir_core.specs.declared.ptr.Operation.{Operation as OperationKind}
@@ -14,7 +15,8 @@ use Rattle.plir_flow.specs.declared.edge_ends.RegionBranchPoint.TheVariants.{Par
 use Rattle.plir_flow.specs.declared.edge_ends.RegionSuccessor.TheVariants.{Region as ToRegion, After}
 
 -- The region stands in the operation, the body in the region, and the end in the body.
-pub record AreNested {K A T : Type 0} (s : Store K A T) (op : Ptr OperationKind) (region : Ptr RegionKind) (body : Ptr BlockKind) (end : Ptr OperationKind) : Type 0 where
+pub record AreNested {K A T : Type 0} (s : Store K A T) (op : Ptr OperationKind) (region : Ptr RegionKind)
+    (body : Ptr BlockKind) (end : Ptr OperationKind) : Type 0 where
   pub region_live : IsLive s (Region region)
   pub body_live : IsLive s (BasicBlock body)
   pub end_live : IsLive s (Operation end)
@@ -23,7 +25,8 @@ pub record AreNested {K A T : Type 0} (s : Store K A T) (op : Ptr OperationKind)
   pub end_in : parent_of s (Operation end) ≡ Some (BasicBlock body)
 
 -- A loop stands so, takes a value, gives one, has one in its body, and hands one on.
-pub record IsLoop {K A T : Type 0} (s : Store K A T) (op : Ptr OperationKind) (region : Ptr RegionKind) (body : Ptr BlockKind) (end : Ptr OperationKind) : Type 0 where
+pub record IsLoop {K A T : Type 0} (s : Store K A T) (op : Ptr OperationKind) (region : Ptr RegionKind)
+    (body : Ptr BlockKind) (end : Ptr OperationKind) : Type 0 where
   pub nested : AreNested s op region body end
   pub takes : 0 < length (operands_of s op)
   pub gives : 0 < length (result_types_of s op)
@@ -43,5 +46,11 @@ first_argument body = record { entity = Block body; index = 0 }
 -- Its edges: into the region, with its operand; and from the end to behind it, with what is handed on.
 abbrev pub loop_edges : Ptr OperationKind → Ptr RegionKind → Ptr BlockKind → Ptr OperationKind → List EdgeView
 loop_edges op region body end =
-    record { from = Parent; to = ToRegion region; flows = (first_operand op, first_argument body) ∷ []; reads = first_operand op ∷ [] }
+    record {
+      from = Parent;
+      to = ToRegion region;
+      flows = (first_operand op, first_argument body) ∷ [];
+      reads =
+          first_operand op ∷ [];
+    }
     ∷ record { from = Terminator end; to = After; flows = (first_operand end, first_result op) ∷ []; reads = [] } ∷ []

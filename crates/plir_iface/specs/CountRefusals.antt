@@ -1,4 +1,5 @@
--- How the rules of counts are refused: at the operation's location, with the number that is asked for and the one that is there.
+-- How the rules of counts are refused: at the operation's location, with the number that is asked for and the one that
+-- is there.
 use Rattle.std.specs.Prelude.{◌≡◌, ℕ}
 use Rattle.plir_core.specs.declared.ptr.Ptr.{Ptr}
 use Rattle.plir_core.specs.declared.ptr.Operation.{Operation as OperationKind}

@@ -17,4 +17,5 @@ IsUpTo (negsuc k) len i = i + suc k ≤ len
 abbrev pub IsIndexRange : (m : ℕ) (n : ℤ) (len : ℕ) → IndexRange → Type 0
 IsIndexRange m n len (TooFewEntities needed) = IsTooShort n len × (needed ≡ unsigned_abs n + 1)
 IsIndexRange m n len Empty = (IsTooShort n len → ⊥) × ((i : ℕ) → m ≤ i → IsUpTo n len i → ⊥)
-IsIndexRange m n len (Range start end) = (IsTooShort n len → ⊥) × (start ≤ end) × ((i : ℕ) → ((start ≤ i) × (i ≤ end)) ↔ ((m ≤ i) × IsUpTo n len i))
+IsIndexRange m n len (Range start end) = (IsTooShort n len → ⊥) × (start ≤ end) ×
+    ((i : ℕ) → ((start ≤ i) × (i ≤ end)) ↔ ((m ≤ i) × IsUpTo n len i))

@@ -26,7 +26,8 @@ module _ {K A T : Type 0} where
   body_of s op i = option_and_then (λ r. head (kids s r)) (slice_get (regions_of s op) i)
 
   -- the rule is refused with the operation's id
-  abbrev pub BreaksSingleBlocks : (own_id : K → List ℕ) → Store K A T → Ptr OperationKind → VerifyErr SingleBlockRegionVerifyErr → Type 0
+  abbrev pub BreaksSingleBlocks : (own_id : K → List ℕ) → Store K A T → Ptr OperationKind →
+      VerifyErr SingleBlockRegionVerifyErr → Type 0
   BreaksSingleBlocks own_id s op = IsRefusal s op (λ e. IfSome (kind_of s op) (λ k. e.0.now ≡ op_id own_id k))
 
   -- an operation doesn't stand above the first block of that region
@@ -35,4 +36,5 @@ module _ {K A T : Type 0} where
 
   -- it was put last in that block
   abbrev pub IsAppendedToBody : (old new : Store K A T) → Ptr OperationKind → ℕ → Ptr OperationKind → Type 0
-  IsAppendedToBody old new op i q = (b : Ptr BlockKind) → body_of old op i ≡ Some (BasicBlock b) → new ≡ with_op_last old q b
+  IsAppendedToBody old new op i q = (b : Ptr BlockKind) → body_of old op i ≡ Some (BasicBlock b) →
+      new ≡ with_op_last old q b

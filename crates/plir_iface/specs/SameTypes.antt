@@ -20,7 +20,8 @@ module _ {K A T : Type 0} where
 
   -- the first result and the first operand have one type, where there are both
   abbrev pub HasSameOperandsAndResultType : Store K A T → Ptr OperationKind → Type 0
-  HasSameOperandsAndResultType s op = (t u : ℕ) → type_in (result_types s op) 0 ≡ Some t → type_in (operand_types s op) 0 ≡ Some u → t ≡ u
+  HasSameOperandsAndResultType s op = (t u : ℕ) → type_in (result_types s op) 0 ≡ Some t →
+      type_in (operand_types s op) 0 ≡ Some u → t ≡ u
 
   -- the type of the first result, if there is one, and else that of the first operand
   abbrev pub first_type : Store K A T → Ptr OperationKind → Option ℕ

@@ -12,6 +12,7 @@ IsRefusal s op P (Refused loc err) = (location_of s op ≡ Some loc) × P err
 IsRefusal s op P Memory = ⊥
 
 -- The same, or memory for the text of that error was refused.
-abbrev pub IsRefusalMemoryAside : {K A T E : Type 0} → Store K A T → Ptr OperationKind → (P : E → Type 0) → VerifyErr E → Type 0
+abbrev pub IsRefusalMemoryAside : {K A T E : Type 0} → Store K A T → Ptr OperationKind → (P : E → Type 0) →
+    VerifyErr E → Type 0
 IsRefusalMemoryAside s op P (Refused loc err) = (location_of s op ≡ Some loc) × P err
 IsRefusalMemoryAside s op P Memory = Unit {0}

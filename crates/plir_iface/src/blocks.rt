@@ -4,7 +4,8 @@ ghost use Rattle.plir_core.specs.declared.ptr.IRNode.{IRNode};
 ghost use Rattle.plir_core.specs.Store.{IsLive, parent_of};
 ghost use Rattle.plir_core.specs.Whole.{IsWhole};
 ghost use Rattle.plir_iface.specs.Counts.{regions_of};
-ghost use Rattle.plir_iface.specs.Regions.{HasOneBlock, HasSingleBlocks, BreaksSingleBlocks, IsNotAboveBody, IsAppendedToBody, body_of};
+ghost use Rattle.plir_iface.specs.Regions.{HasOneBlock, HasSingleBlocks, BreaksSingleBlocks, IsNotAboveBody};
+ghost use Rattle.plir_iface.specs.Regions.{IsAppendedToBody, body_of};
 
 use crate::ids::id_of_kind;
 use crate::op::Op;
@@ -86,8 +87,8 @@ pub trait SingleBlockRegionInterface<D: OpSet>: Op<D> {
             .unwrap()
     }
 
-    /// Puts an operation that is in no block at the end of the block of the region at a place, from 0, which it does not
-    /// stand above.
+    /// Puts an operation that is in no block at the end of the block of the region at a place, from 0, which it does
+    /// not stand above.
     final fn append_operation(&self, ctx: &mut Context<D>, op: Ptr<Operation>, region: usize)
         requires live { IsLive ctx.old (IRNode.Operation (Self.pointer self.now)) }
         requires rule { HasSingleBlocks ctx.old (Self.pointer self.now) }

@@ -12,8 +12,8 @@ pub enum IndexRange {
     TooFewEntities(usize),
 }
 
-/// The range of places from `m` to `n` in a list of `len` entities. A negative `n` counts from the end of the list: -1 is its
-/// last entity.
+/// The range of places from `m` to `n` in a list of `len` entities. A negative `n` counts from the end of the list: -1
+/// is its last entity.
 pub fn resolve_index_range(m: u32, n: i32, len: usize) -> IndexRange
     ensures { IsIndexRange m n len result }
 {

@@ -1,5 +1,5 @@
-//! What operations may be: interfaces of counts, regions and types, each a trait with a rule, the verifier of the rule, and
-//! the calls that the rule makes good.
+//! What operations may be: interfaces of counts, regions and types, each a trait with a rule, the verifier of the rule,
+//! and the calls that the rule makes good.
 #![tactic(auto)]
 
 mod blocks;

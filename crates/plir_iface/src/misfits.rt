@@ -40,7 +40,8 @@ fn find_misfit<D: OpSet, Q: TypeTest<D>>(
     requires live { IsLive ctx.now (IRNode.Operation op) }
     requires within { end ≤ length (types_on side ctx.now op) }
     ensures none { IsNone result ↔ AllPass Q.passes ctx.now (IsBetween start end) (types_on side ctx.now op) }
-    ensures some { IfSome result (IsMisfit Q.passes Q.test_name D.type_id ctx.now side (IsBetween start end) (types_on side ctx.now op)) }
+    ensures some { IfSome result (IsMisfit Q.passes Q.test_name D.type_id ctx.now side (IsBetween start end)
+        (types_on side ctx.now op)) }
     ensures whole { IsWhole D.attr_handles ctx.now }
 {
     let place = first_failing::<D, Q>(ctx, op, side, start, end)?;
@@ -62,7 +63,8 @@ fn find_fault<D: OpSet, Q: TypeTest<D>>(
     requires live { IsLive ctx.now (IRNode.Operation op) }
     requires countable { IsCountable places }
     ensures none { IsNone result ↔ PassesAt Q.passes ctx.now places (types_on side ctx.now op) }
-    ensures some { IfSome result (IsFault Q.passes Q.test_name D.type_id ctx.now side places (types_on side ctx.now op)) }
+    ensures some { IfSome result (IsFault Q.passes Q.test_name D.type_id ctx.now side places
+        (types_on side ctx.now op)) }
     ensures whole { IsWhole D.attr_handles ctx.now }
 {
     let found = side.len(ctx, op);
@@ -83,7 +85,8 @@ pub(crate) fn verify_each<D: OpSet, Q: TypeTest<D>, E: From<Misfit> + Drop>(
 ) -> Result<(), VerifyErr<E>>
     requires { IsLive ctx.now (IRNode.Operation op) }
     ensures ok { IsOk result ↔ EachPasses Q.passes ctx.now (types_on side ctx.now op) }
-    ensures refused { IfErr result (IsRefusal ctx.now op (IsMisfitTold Q.passes Q.test_name D.type_id ctx.now op side E.from_gives)) }
+    ensures refused { IfErr result (IsRefusal ctx.now op
+        (IsMisfitTold Q.passes Q.test_name D.type_id ctx.now op side E.from_gives)) }
     ensures whole { IsWhole D.attr_handles ctx.now }
 {
     let count = side.len(ctx, op);
@@ -93,7 +96,8 @@ pub(crate) fn verify_each<D: OpSet, Q: TypeTest<D>, E: From<Misfit> + Drop>(
     }
 }
 
-/// Accepts exactly where a side has types at some places and all of them pass a test; else refuses by how they break that.
+/// Accepts exactly where a side has types at some places and all of them pass a test; else refuses by how they break
+/// that.
 pub(crate) fn verify_at<D: OpSet, Q: TypeTest<D>, E: From<TypeFault> + Drop>(
     ctx: &Context<D>,
     op: Ptr<Operation>,
@@ -103,7 +107,8 @@ pub(crate) fn verify_at<D: OpSet, Q: TypeTest<D>, E: From<TypeFault> + Drop>(
     requires live { IsLive ctx.now (IRNode.Operation op) }
     requires countable { IsCountable places }
     ensures ok { IsOk result ↔ PassesAt Q.passes ctx.now places (types_on side ctx.now op) }
-    ensures refused { IfErr result (IsRefusal ctx.now op (IsFaultTold Q.passes Q.test_name D.type_id ctx.now op side places E.from_gives)) }
+    ensures refused { IfErr result (IsRefusal ctx.now op
+        (IsFaultTold Q.passes Q.test_name D.type_id ctx.now op side places E.from_gives)) }
     ensures whole { IsWhole D.attr_handles ctx.now }
 {
     match find_fault::<D, Q>(ctx, op, side, places) {
@@ -121,7 +126,8 @@ pub(crate) fn verify_each_kind<D: OpSet, T: TypeMark<D>, E: From<OtherKind> + Dr
 ) -> Result<(), VerifyErr<E>>
     requires { IsLive ctx.now (IRNode.Operation op) }
     ensures ok { IsOk result ↔ EachPasses T.marks ctx.now (types_on side ctx.now op) }
-    ensures refused { IfErr result (IsRefusalMemoryAside ctx.now op (IsOtherKindTold T.marks T.NAME D.type_id ctx.now D.type_body_text op side E.from_gives)) }
+    ensures refused { IfErr result (IsRefusalMemoryAside ctx.now op
+        (IsOtherKindTold T.marks T.NAME D.type_id ctx.now D.type_body_text op side E.from_gives)) }
     ensures whole { IsWhole D.attr_handles ctx.now }
 {
     let count = side.len(ctx, op);

@@ -7,7 +7,8 @@ ghost use Rattle.plir_iface.specs.Places.{IsOrdered, signed};
 ghost use Rattle.plir_iface.specs.TypeRules.{HasAllOperandsOfType, HasOperandNOfType, HasOperandsMNOfType};
 ghost use Rattle.plir_iface.specs.TypeRules.{HasAllOperandsImplsTy, HasOperandNImplsTy, HasOperandsMNImplsTy};
 ghost use Rattle.plir_iface.specs.TypeRefusals.{BreaksAllOperandsOfType, BreaksOperandNOfType, BreaksOperandsMNOfType};
-ghost use Rattle.plir_iface.specs.TypeRefusals.{BreaksAllOperandsImplsTy, BreaksOperandNImplsTy, BreaksOperandsMNImplsTy};
+ghost use Rattle.plir_iface.specs.TypeRefusals.{BreaksAllOperandsImplsTy, BreaksOperandNImplsTy};
+ghost use Rattle.plir_iface.specs.TypeRefusals.{BreaksOperandsMNImplsTy};
 
 use crate::counts::NotEnoughOperandsErr;
 use crate::misfits::{verify_at, verify_each, verify_each_kind};
@@ -25,8 +26,8 @@ use std::alloc::Global;
 
 /// Operations whose operands all have a type of the kind `T`.
 pub trait AllOperandsOfType<D: OpSet, T: TypeMark<D>>: Op<D> {
-    /// Accepts exactly where each operand has a type of the kind `T`. The refusal has the text of the first type that is none,
-    /// unless memory for that text was refused.
+    /// Accepts exactly where each operand has a type of the kind `T`. The refusal has the text of the first type that
+    /// is none, unless memory for that text was refused.
     final fn verify(
         &self,
         alloc: Global,
@@ -34,7 +35,8 @@ pub trait AllOperandsOfType<D: OpSet, T: TypeMark<D>>: Op<D> {
     ) -> Result<(), VerifyErr<AllOperandsOfTypeVerifyErr>>
         requires { IsLive ctx.now (IRNode.Operation (Self.pointer self.now)) }
         ensures ok { IsOk result ↔ HasAllOperandsOfType T.marks ctx.now (Self.pointer self.now) }
-        ensures refused { IfErr result (BreaksAllOperandsOfType T.marks T.NAME D.type_id ctx.now (Self.pointer self.now) D.type_body_text) }
+        ensures refused { IfErr result (BreaksAllOperandsOfType T.marks T.NAME D.type_id ctx.now
+            (Self.pointer self.now) D.type_body_text) }
         ensures whole { IsWhole D.attr_handles ctx.now }
     {
         verify_each_kind::<D, T, AllOperandsOfTypeVerifyErr>(
@@ -52,7 +54,8 @@ pub trait AllOperandsImplsTy<D: OpSet, I: TypeInterfaceMark<D>>: Op<D> {
     final fn verify(&self, ctx: &Context<D>) -> Result<(), VerifyErr<TypeInterfaceImplsErr>>
         requires { IsLive ctx.now (IRNode.Operation (Self.pointer self.now)) }
         ensures ok { IsOk result ↔ HasAllOperandsImplsTy I.marks ctx.now (Self.pointer self.now) }
-        ensures refused { IfErr result (BreaksAllOperandsImplsTy I.marks I.NAME D.type_id ctx.now (Self.pointer self.now)) }
+        ensures refused { IfErr result (BreaksAllOperandsImplsTy I.marks I.NAME D.type_id ctx.now
+            (Self.pointer self.now)) }
         ensures whole { IsWhole D.attr_handles ctx.now }
     {
         verify_each::<D, Implementing<I>, TypeInterfaceImplsErr>(
@@ -73,7 +76,8 @@ pub trait OperandNOfType<D: OpSet, const N: usize, T: TypeMark<D>>: Op<D> {
         requires live { IsLive ctx.now (IRNode.Operation (Self.pointer self.now)) }
         requires countable { N < 2 ^ 64 - 1 }
         ensures ok { IsOk result ↔ HasOperandNOfType T.marks ctx.now (Self.pointer self.now) N }
-        ensures refused { IfErr result (BreaksOperandNOfType T.marks T.NAME D.type_id ctx.now (Self.pointer self.now) N) }
+        ensures refused { IfErr result (BreaksOperandNOfType T.marks T.NAME D.type_id ctx.now (Self.pointer self.now)
+            N) }
         ensures whole { IsWhole D.attr_handles ctx.now }
     {
         verify_at::<D, OfType<T>, TypeRuleErr<NotEnoughOperandsErr, OperandNOfTypeError>>(
@@ -95,7 +99,8 @@ pub trait OperandNImplsTy<D: OpSet, const N: usize, I: TypeInterfaceMark<D>>: Op
         requires live { IsLive ctx.now (IRNode.Operation (Self.pointer self.now)) }
         requires countable { N < 2 ^ 64 - 1 }
         ensures ok { IsOk result ↔ HasOperandNImplsTy I.marks ctx.now (Self.pointer self.now) N }
-        ensures refused { IfErr result (BreaksOperandNImplsTy I.marks I.NAME D.type_id ctx.now (Self.pointer self.now) N) }
+        ensures refused { IfErr result (BreaksOperandNImplsTy I.marks I.NAME D.type_id ctx.now (Self.pointer self.now)
+            N) }
         ensures whole { IsWhole D.attr_handles ctx.now }
     {
         verify_at::<D, Implementing<I>, TypeRuleErr<NotEnoughOperandsErr, TypeInterfaceImplsErr>>(
@@ -108,14 +113,17 @@ pub trait OperandNImplsTy<D: OpSet, const N: usize, I: TypeInterfaceMark<D>>: Op
 }
 
 /// Operations whose operands from the place `M` to the place `N` have a type of the kind `T`.
-/// The number `N` stands for the signed number of its 32 bits: a negative one counts from the last operand, which is -1.
+/// The number `N` stands for the signed number of its 32 bits: a negative one counts from the last operand, which is
+/// -1.
 pub trait OperandsMNOfType<D: OpSet, const M: u32, const N: u32, T: TypeMark<D>>: Op<D> {
-    /// Accepts exactly where there are enough operands for the range of places, and those in it have a type of the kind `T`.
+    /// Accepts exactly where there are enough operands for the range of places, and those in it have a type of the kind
+    /// `T`.
     final fn verify(&self, ctx: &Context<D>) -> Result<(), VerifyErr<OperandsMNOfTypeError>>
         requires live { IsLive ctx.now (IRNode.Operation (Self.pointer self.now)) }
         requires ordered { IsOrdered M (signed N) }
         ensures ok { IsOk result ↔ HasOperandsMNOfType T.marks ctx.now (Self.pointer self.now) M N }
-        ensures refused { IfErr result (BreaksOperandsMNOfType T.marks T.NAME D.type_id ctx.now (Self.pointer self.now) M N) }
+        ensures refused { IfErr result (BreaksOperandsMNOfType T.marks T.NAME D.type_id ctx.now (Self.pointer self.now)
+            M N) }
         ensures whole { IsWhole D.attr_handles ctx.now }
     {
         verify_at::<D, OfType<T>, OperandsMNOfTypeError>(
@@ -128,9 +136,11 @@ pub trait OperandsMNOfType<D: OpSet, const M: u32, const N: u32, T: TypeMark<D>>
 }
 
 /// Operations whose operands from the place `M` to the place `N` have a type that implements `I`.
-/// The number `N` stands for the signed number of its 32 bits: a negative one counts from the last operand, which is -1.
+/// The number `N` stands for the signed number of its 32 bits: a negative one counts from the last operand, which is
+/// -1.
 pub trait OperandsMNImplsTy<D: OpSet, const M: u32, const N: u32, I: TypeInterfaceMark<D>>: Op<D> {
-    /// Accepts exactly where there are enough operands for the range of places, and those in it have a type that implements `I`.
+    /// Accepts exactly where there are enough operands for the range of places, and those in it have a type that
+    /// implements `I`.
     final fn verify(
         &self,
         ctx: &Context<D>,
@@ -138,7 +148,8 @@ pub trait OperandsMNImplsTy<D: OpSet, const M: u32, const N: u32, I: TypeInterfa
         requires live { IsLive ctx.now (IRNode.Operation (Self.pointer self.now)) }
         requires ordered { IsOrdered M (signed N) }
         ensures ok { IsOk result ↔ HasOperandsMNImplsTy I.marks ctx.now (Self.pointer self.now) M N }
-        ensures refused { IfErr result (BreaksOperandsMNImplsTy I.marks I.NAME D.type_id ctx.now (Self.pointer self.now) M N) }
+        ensures refused { IfErr result (BreaksOperandsMNImplsTy I.marks I.NAME D.type_id ctx.now
+            (Self.pointer self.now) M N) }
         ensures whole { IsWhole D.attr_handles ctx.now }
     {
         verify_at::<D, Implementing<I>, TypeRuleErr<NotEnoughOperandsErr, TypeInterfaceImplsErr>>(

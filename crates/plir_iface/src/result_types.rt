@@ -25,8 +25,8 @@ use std::alloc::Global;
 
 /// Operations whose results all have a type of the kind `T`.
 pub trait AllResultsOfType<D: OpSet, T: TypeMark<D>>: Op<D> {
-    /// Accepts exactly where each result has a type of the kind `T`. The refusal has the text of the first type that is none,
-    /// unless memory for that text was refused.
+    /// Accepts exactly where each result has a type of the kind `T`. The refusal has the text of the first type that is
+    /// none, unless memory for that text was refused.
     final fn verify(
         &self,
         alloc: Global,
@@ -34,7 +34,8 @@ pub trait AllResultsOfType<D: OpSet, T: TypeMark<D>>: Op<D> {
     ) -> Result<(), VerifyErr<AllResultsOfTypeVerifyErr>>
         requires { IsLive ctx.now (IRNode.Operation (Self.pointer self.now)) }
         ensures ok { IsOk result ↔ HasAllResultsOfType T.marks ctx.now (Self.pointer self.now) }
-        ensures refused { IfErr result (BreaksAllResultsOfType T.marks T.NAME D.type_id ctx.now (Self.pointer self.now) D.type_body_text) }
+        ensures refused { IfErr result (BreaksAllResultsOfType T.marks T.NAME D.type_id ctx.now (Self.pointer self.now)
+            D.type_body_text) }
         ensures whole { IsWhole D.attr_handles ctx.now }
     {
         verify_each_kind::<D, T, AllResultsOfTypeVerifyErr>(
@@ -52,7 +53,8 @@ pub trait AllResultsImplsTy<D: OpSet, I: TypeInterfaceMark<D>>: Op<D> {
     final fn verify(&self, ctx: &Context<D>) -> Result<(), VerifyErr<TypeInterfaceImplsErr>>
         requires { IsLive ctx.now (IRNode.Operation (Self.pointer self.now)) }
         ensures ok { IsOk result ↔ HasAllResultsImplsTy I.marks ctx.now (Self.pointer self.now) }
-        ensures refused { IfErr result (BreaksAllResultsImplsTy I.marks I.NAME D.type_id ctx.now (Self.pointer self.now)) }
+        ensures refused { IfErr result (BreaksAllResultsImplsTy I.marks I.NAME D.type_id ctx.now
+            (Self.pointer self.now)) }
         ensures whole { IsWhole D.attr_handles ctx.now }
     {
         verify_each::<D, Implementing<I>, TypeInterfaceImplsErr>(
@@ -95,7 +97,8 @@ pub trait ResultNImplsTy<D: OpSet, const N: usize, I: TypeInterfaceMark<D>>: Op<
         requires live { IsLive ctx.now (IRNode.Operation (Self.pointer self.now)) }
         requires countable { N < 2 ^ 64 - 1 }
         ensures ok { IsOk result ↔ HasResultNImplsTy I.marks ctx.now (Self.pointer self.now) N }
-        ensures refused { IfErr result (BreaksResultNImplsTy I.marks I.NAME D.type_id ctx.now (Self.pointer self.now) N) }
+        ensures refused { IfErr result (BreaksResultNImplsTy I.marks I.NAME D.type_id ctx.now (Self.pointer self.now)
+            N) }
         ensures whole { IsWhole D.attr_handles ctx.now }
     {
         verify_at::<D, Implementing<I>, TypeRuleErr<NotEnoughResultsErr, TypeInterfaceImplsErr>>(
@@ -110,12 +113,14 @@ pub trait ResultNImplsTy<D: OpSet, const N: usize, I: TypeInterfaceMark<D>>: Op<
 /// Operations whose results from the place `M` to the place `N` have a type of the kind `T`.
 /// The number `N` stands for the signed number of its 32 bits: a negative one counts from the last result, which is -1.
 pub trait ResultsMNOfType<D: OpSet, const M: u32, const N: u32, T: TypeMark<D>>: Op<D> {
-    /// Accepts exactly where there are enough results for the range of places, and those in it have a type of the kind `T`.
+    /// Accepts exactly where there are enough results for the range of places, and those in it have a type of the kind
+    /// `T`.
     final fn verify(&self, ctx: &Context<D>) -> Result<(), VerifyErr<ResultsMNOfTypeError>>
         requires live { IsLive ctx.now (IRNode.Operation (Self.pointer self.now)) }
         requires ordered { IsOrdered M (signed N) }
         ensures ok { IsOk result ↔ HasResultsMNOfType T.marks ctx.now (Self.pointer self.now) M N }
-        ensures refused { IfErr result (BreaksResultsMNOfType T.marks T.NAME D.type_id ctx.now (Self.pointer self.now) M N) }
+        ensures refused { IfErr result (BreaksResultsMNOfType T.marks T.NAME D.type_id ctx.now (Self.pointer self.now)
+            M N) }
         ensures whole { IsWhole D.attr_handles ctx.now }
     {
         verify_at::<D, OfType<T>, ResultsMNOfTypeError>(
@@ -130,7 +135,8 @@ pub trait ResultsMNOfType<D: OpSet, const M: u32, const N: u32, T: TypeMark<D>>:
 /// Operations whose results from the place `M` to the place `N` have a type that implements `I`.
 /// The number `N` stands for the signed number of its 32 bits: a negative one counts from the last result, which is -1.
 pub trait ResultsMNImplsTy<D: OpSet, const M: u32, const N: u32, I: TypeInterfaceMark<D>>: Op<D> {
-    /// Accepts exactly where there are enough results for the range of places, and those in it have a type that implements `I`.
+    /// Accepts exactly where there are enough results for the range of places, and those in it have a type that
+    /// implements `I`.
     final fn verify(
         &self,
         ctx: &Context<D>,
@@ -138,7 +144,8 @@ pub trait ResultsMNImplsTy<D: OpSet, const M: u32, const N: u32, I: TypeInterfac
         requires live { IsLive ctx.now (IRNode.Operation (Self.pointer self.now)) }
         requires ordered { IsOrdered M (signed N) }
         ensures ok { IsOk result ↔ HasResultsMNImplsTy I.marks ctx.now (Self.pointer self.now) M N }
-        ensures refused { IfErr result (BreaksResultsMNImplsTy I.marks I.NAME D.type_id ctx.now (Self.pointer self.now) M N) }
+        ensures refused { IfErr result (BreaksResultsMNImplsTy I.marks I.NAME D.type_id ctx.now (Self.pointer self.now)
+            M N) }
         ensures whole { IsWhole D.attr_handles ctx.now }
     {
         verify_at::<D, Implementing<I>, TypeRuleErr<NotEnoughResultsErr, TypeInterfaceImplsErr>>(

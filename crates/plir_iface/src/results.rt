@@ -4,7 +4,8 @@ ghost use Rattle.plir_data.specs.Types.{IsLive as IsTypeLive};
 ghost use Rattle.plir_core.specs.Store.{IsLive, IsValueLive};
 ghost use Rattle.plir_core.specs.Whole.{IsWhole};
 ghost use Rattle.plir_core.specs.declared.ptr.IRNode.{IRNode};
-ghost use Rattle.plir_iface.specs.Counts.{HasNResults, HasAtMostNResults, HasAtLeastNResults, num_results, result_at, result_types};
+ghost use Rattle.plir_iface.specs.Counts.{HasNResults, HasAtMostNResults, HasAtLeastNResults, num_results, result_at};
+ghost use Rattle.plir_iface.specs.Counts.{result_types};
 ghost use Rattle.plir_iface.specs.CountRefusals.{BreaksNResults, BreaksAtMostNResults, BreaksAtLeastNResults};
 ghost use Rattle.plir_iface.specs.Verdict.{IsRefusal};
 

@@ -6,7 +6,8 @@ ghost use Rattle.plir_core.specs.Store.{IsLive};
 ghost use Rattle.plir_core.specs.Whole.{IsWhole};
 ghost use Rattle.plir_iface.specs.Counts.{operand_types, result_types};
 ghost use Rattle.plir_iface.specs.Sides.{AllSame, type_in, types_on};
-ghost use Rattle.plir_iface.specs.SameTypes.{HasSameOperandsType, HasSameResultsType, HasSameOperandsAndResultType, first_type};
+ghost use Rattle.plir_iface.specs.SameTypes.{HasSameOperandsType, HasSameResultsType, HasSameOperandsAndResultType};
+ghost use Rattle.plir_iface.specs.SameTypes.{first_type};
 ghost use Rattle.plir_iface.specs.Verdict.{IsRefusal};
 
 use crate::op::Op;

@@ -12,8 +12,8 @@ use Rattle.plir_core.specs.Forest.{look, IsBelow}
 use Rattle.plir_core.specs.Store.{Store, IsLive, kids, kind_of, operands_of}
 use Rattle.plir_passes.specs.Legal.{is_kind}
 
--- Whether operations of a kind may go where nothing uses their results: constants may, and of the user's own kinds those that
--- have no effect and end no block.
+-- Whether operations of a kind may go where nothing uses their results: constants may, and of the user's own kinds
+-- those that have no effect and end no block.
 abbrev pub is_removable : {K : Type 0} → (K → Bool) → (K → Bool) → OpKind K → Bool
 is_removable effect ends Module = false
 is_removable effect ends Func = false
@@ -33,7 +33,8 @@ module _ {K A T : Type 0} where
   IsUsedByNone s p = (q : Ptr OperationKind) → IsLive s (Operation q) → q ≢ p → Uses s q p → ⊥
 
   module _ (effect ends : K → Bool) where
-    -- An operation is of a kind that may go, has no region, and no other operation uses a result of it but those of a list.
+    -- An operation is of a kind that may go, has no region, and no other operation uses a result of it but those of a
+    -- list.
     pub record IsUsedBy (s : Store K A T) (others : List (Ptr OperationKind)) (p : Ptr OperationKind) : Type 0 where
       pub live : IsLive s (Operation p)
       pub removable : is_kind (is_removable effect ends) (kind_of s p) ≡ true

@@ -1,5 +1,6 @@
 -- The loop over the operations of a block, as they are replaced.
-use Rattle.std.specs.Prelude.{◌≡◌, ℕ, suc, Bool, true, false, cond, List, [], ◌∷◌, ◌++◌, length, Option, Some, None, option_map}
+use Rattle.std.specs.Prelude.{◌≡◌, ℕ, suc, Bool, true, false, cond, List, [], ◌∷◌, ◌++◌, length, Option, Some, None}
+use Rattle.std.specs.Prelude.{option_map}
 use Rattle.plir_data.specs.declared.op_set.OpKind.{OpKind}
 use Rattle.plir_store.specs.Members.{Has, head}
 use Rattle.plir_core.specs.declared.ptr.Ptr.{Ptr}
@@ -17,11 +18,13 @@ left_from ns None = 0
 left_from [] (Some p) = 0
 left_from (n ∷ ns) (Some p) = cond (same n (Operation p)) (suc (length ns)) (left_from ns (Some p))
 
--- From s to t, where the operation op of the block b stood there are legal operations, and what stood behind it begins with
--- `next`.
-abbrev pub IsPassed : {K A T : Type 0} → (OpKind K → Bool) → Store K A T → Store K A T → Ptr BasicBlockKind → Ptr OperationKind → Option (Ptr OperationKind) → Type 0
+-- From s to t, where the operation op of the block b stood there are legal operations, and what stood behind it begins
+-- with `next`.
+abbrev pub IsPassed : {K A T : Type 0} → (OpKind K → Bool) → Store K A T → Store K A T → Ptr BasicBlockKind →
+    Ptr OperationKind → Option (Ptr OperationKind) → Type 0
 IsPassed illegal s t b op next = (xs ys : List IRNode) → kids s (BasicBlock b) ≡ xs ++ Operation op ∷ ys
-    → (option_map Operation next ≡ head ys) × (ks : List IRNode) × (kids t (BasicBlock b) ≡ xs ++ (ks ++ ys)) × ((a : IRNode) → Has ks a → is_illegal illegal t a ≡ false)
+    → (option_map Operation next ≡ head ys) × (ks : List IRNode) × (kids t (BasicBlock b) ≡ xs ++ (ks ++ ys)) ×
+    ((a : IRNode) → Has ks a → is_illegal illegal t a ≡ false)
 
 -- how many of a list of nodes there are up to an operation
 abbrev pub left_upto : List IRNode → Option (Ptr OperationKind) → ℕ

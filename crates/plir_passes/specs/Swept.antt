@@ -18,8 +18,8 @@ abbrev pub IsAmong : List (Ptr OperationKind) → IRNode → Type 0
 IsAmong ps n = (p : Ptr OperationKind) × (n ≡ Operation p) × Has ps p
 
 module _ {K A T : Type 0} where
-  -- From s to t operations that were dead in s are gone, and nothing else has changed: what is left stands where it stood, in
-  -- its order, and holds what it held.
+  -- From s to t operations that were dead in s are gone, and nothing else has changed: what is left stands where it
+  -- stood, in its order, and holds what it held.
   pub record IsSwept (effect ends : K → Bool) (s t : Store K A T) : Type 0 where
     pub gone : List (Ptr OperationKind)
     pub dead : AreDead effect ends s gone
@@ -45,9 +45,10 @@ module _ {K A T : Type 0} where
     pub fewer : num_live t ≤ num_live s
     pub set : flag' ≡ true → (flag ≡ true) ⊎ (num_live t < num_live s)
 
-  -- The call at a node n: the tree below n has changed alone, operations that were dead are gone, the flag tells whether there
-  -- were any, and where it is clear no kid of n is dead.
-  pub record IsSweptBy (effect ends : K → Bool) (s : Store K A T) (flag : Bool) (n : IRNode) (t : Store K A T) (flag' : Bool) : Type 0 where
+  -- The call at a node n: the tree below n has changed alone, operations that were dead are gone, the flag tells
+  -- whether there were any, and where it is clear no kid of n is dead.
+  pub record IsSweptBy (effect ends : K → Bool) (s : Store K A T) (flag : Bool) (n : IRNode) (t : Store K A T)
+      (flag' : Bool) : Type 0 where
     pub swept : IsSwept effect ends s t
     pub lawful : Lawful (look s) n (look t)
     pub tells : Tells s flag flag' t

@@ -30,9 +30,10 @@ pub trait Conversion<D: OpSet> {
     fn is_illegal(&self, kind: OpKind<D::Kind>) -> bool
         ensures { result ≡ illegal self.now kind };
 
-    /// Replaces an illegal operation of a block by others, which stand in its place. It changes the tree below the block alone,
-    /// and what stands apart from the operation is as it was, but for operands that were values of its tree. It puts no
-    /// illegal operation right under an older node; in what it makes there may be some, which are replaced later.
+    /// Replaces an illegal operation of a block by others, which stand in its place. It changes the tree below the
+    /// block alone, and what stands apart from the operation is as it was, but for operands that were values of its
+    /// tree. It puts no illegal operation right under an older node; in what it makes there may be some, which are
+    /// replaced later.
     fn rewrite(
         &self,
         ctx: &mut Context<D>,
@@ -72,7 +73,8 @@ fn convert_op<D: OpSet, C: Conversion<D>>(
     Ok(next)
 }
 
-/// Replaces the illegal operations that stand in a block, from the first one on. Those that come before a refusal are replaced.
+/// Replaces the illegal operations that stand in a block, from the first one on. Those that come before a refusal are
+/// replaced.
 ///
 /// # Errors
 ///
@@ -118,8 +120,8 @@ fn convert_below<D: OpSet, C: Conversion<D>>(
     }
 }
 
-/// Replaces the illegal operations below an operation, until none is left there: also those that stand in what was made in
-/// place of others. Takes no memory but for what the conversion makes.
+/// Replaces the illegal operations below an operation, until none is left there: also those that stand in what was made
+/// in place of others. Takes no memory but for what the conversion makes.
 ///
 /// # Errors
 ///
@@ -130,7 +132,8 @@ pub fn convert<D: OpSet, C: Conversion<D>>(
     root: Ptr<Operation>,
 ) -> Result<(), C::Err>
     requires { IsLive ctx.old (AnyNode.Operation root) }
-    ensures legal { OnOk result ((n : AnyNode) → IsBelow (look ctx.new) (AnyNode.Operation root) n → is_illegal (C.illegal conversion.now) ctx.new n ≡ false) }
+    ensures legal { OnOk result ((n : AnyNode) → IsBelow (look ctx.new) (AnyNode.Operation root) n →
+        is_illegal (C.illegal conversion.now) ctx.new n ≡ false) }
     ensures converted { IsConverted (C.illegal conversion.now) ctx.old ctx.new }
     ensures lawful { Lawful (look ctx.old) (AnyNode.Operation root) (look ctx.new) }
 {

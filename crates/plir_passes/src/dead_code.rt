@@ -17,8 +17,8 @@ use plir_walk::WALKCONFIG_POSTORDER_REVERSE;
 use plir_walk::laws::{before_is_a_total_order, lawful_changes};
 use plir_walk::uninterruptible::mutable::walk_op;
 
-/// Whether an operation is of a kind that may go, has no region, and no other operation uses a result of it. All operations
-/// of the context are looked at.
+/// Whether an operation is of a kind that may go, has no region, and no other operation uses a result of it. All
+/// operations of the context are looked at.
 pub fn is_dead<D: EffectSet>(ctx: &Context<D>, op: Ptr<Operation>) -> bool
     requires { IsLive ctx.now (AnyNode.Operation op) }
     ensures answer { IsTrue result ↔ IsUsedBy D.has_effect D.is_terminator ctx.now [] op }
@@ -59,7 +59,8 @@ fn sweep_op<D: EffectSet>(ctx: &mut Context<D>, op: Ptr<Operation>, erased: bool
     erased
 }
 
-// Erases the dead operations of a block, the last one first. Answers whether there were any, or others were erased before.
+// Erases the dead operations of a block, the last one first. Answers whether there were any, or others were erased
+// before.
 fn sweep_block<D: EffectSet>(ctx: &mut Context<D>, block: Ptr<BasicBlock>, before: bool) -> bool
     requires { IsLive ctx.old (AnyNode.BasicBlock block) }
     ensures { IsSweptBy D.has_effect D.is_terminator ctx.old before (AnyNode.BasicBlock block) ctx.new result }
@@ -127,10 +128,10 @@ fn sweep<D: EffectSet>(ctx: &mut Context<D>, root: Ptr<Operation>) -> bool
     }
 }
 
-/// Erases the dead operations below an operation, until none is left there: those that have no effect and no region, end no
-/// block, and whose results are used by dead operations alone. All else stays as it was, in its order. Each look at an
-/// operation goes over all operations of the context, and one that is used before it in the order of blocks takes another
-/// sweep. Takes no memory.
+/// Erases the dead operations below an operation, until none is left there: those that have no effect and no region,
+/// end no block, and whose results are used by dead operations alone. All else stays as it was, in its order. Each look
+/// at an operation goes over all operations of the context, and one that is used before it in the order of blocks takes
+/// another sweep. Takes no memory.
 pub fn eliminate_dead_code<D: EffectSet>(ctx: &mut Context<D>, root: Ptr<Operation>)
     requires { IsLive ctx.old (AnyNode.Operation root) }
     ensures swept { IsSwept D.has_effect D.is_terminator ctx.old ctx.new }

@@ -32,8 +32,8 @@ impl<K: EffectKind> EffectSet for KindSet<K> {
     }
 }
 
-/// Whether an operation of a kind may go where nothing uses its results: a constant may, and of the user's own kinds one
-/// that has no effect and ends no block.
+/// Whether an operation of a kind may go where nothing uses its results: a constant may, and of the user's own kinds
+/// one that has no effect and ends no block.
 pub fn is_removable<D: EffectSet>(kind: OpKind<D::Kind>) -> bool
     ensures { result ≡ is_removable D.has_effect D.is_terminator kind }
 {

@@ -11,7 +11,7 @@ use Rattle.plir_data.specs.declared.op_set.OpSet as op_set
 use Rattle.plir_core.specs.declared.ptr.Ptr.{Ptr}
 use Rattle.plir_core.specs.declared.ptr.Operation.{Operation as OperationKind}
 use Rattle.plir_core.specs.Store.{Store, attributes_of, kind_of}
-use Rattle.plir_text.specs.OpSetTexts.{pair_text}
+use Rattle.plir_attr_text.specs.OpSetTexts.{pair_text}
 use Rattle.plir_builtin.specs.BuiltinOps.{name_key, func_type_key}
 use Rattle.plir_print.specs.Lists.{parted}
 

@@ -12,8 +12,8 @@ use Rattle.plir_builtin.specs.Symbols.{name_held}
 use Rattle.plir_builtin.specs.BuiltinOps.{func_type_of, value_of}
 
 module _ {K A T : Type 0} (s : Store K A T) where
-  -- A module and a function have an identifier as their name, a function a type, a constant a value and one result; of other
-  -- operations nothing is asked.
+  -- A module and a function have an identifier as their name, a function a type, a constant a value and one result; of
+  -- other operations nothing is asked.
   abbrev pub has_header_of : Option (OpKind K) → Ptr OperationKind → Bool
   has_header_of (Some Module) p = is_some (name_held (op_at s p))
   has_header_of (Some Func) p = is_some (name_held (op_at s p)) && is_some (func_type_of s p)

@@ -14,7 +14,7 @@ use Rattle.plir_builtin.specs.Symbols.{name_held}
 use Rattle.plir_builtin.specs.BuiltinOps.{func_type_of, value_of}
 use Rattle.plir_print.specs.Lists.{parted}
 use Rattle.plir_print.specs.ValueNames.{block_name, value_name, results_of}
-use Rattle.plir_text.specs.OpSetTexts.{attribute_text}
+use Rattle.plir_attr_text.specs.OpSetTexts.{attribute_text}
 use Rattle.plir_print.specs.Dictionaries.{dictionary}
 
 module _ {K A T : Type 0} (s : Store K A T) where
@@ -31,7 +31,8 @@ module _ {K A T : Type 0} (s : Store K A T) where
 
   -- `id (operands) [^successors] `
   abbrev pub uses_text : (id : List ℕ) → Ptr OperationKind → List ℕ
-  uses_text id p = id ++ (codes " (" ++ (names_text (operands_of s p) ++ (codes ") [" ++ (successors_text p ++ codes "] "))))
+  uses_text id p = id ++ (codes " (" ++ (names_text (operands_of s p) ++
+      (codes ") [" ++ (successors_text p ++ codes "] "))))
 
   -- `@` and the name of a module or a function
   abbrev pub symbol_text : Ptr OperationKind → List ℕ
@@ -56,14 +57,18 @@ module _ {D K A T E : Type 0} (o : op_set.Ghosts D K A T E) (s : Store K A T) wh
 
   -- `<(operand types)->(result types)>`
   abbrev pub signature_text : Ptr OperationKind → List ℕ
-  signature_text p = codes "<(" ++ (types_text (operands_of s p) ++ (codes ")->(" ++ (types_text (results_of s p) ++ codes ")>")))
+  signature_text p = codes "<(" ++ (types_text (operands_of s p) ++
+      (codes ")->(" ++ (types_text (results_of s p) ++ codes ")>")))
 
-  -- What stands before the attributes and regions of an operation of a kind, without a space at its end: a module's and a function's
-  -- name, with the function's type, a constant's value and the type of its result, and all that an operation of the user's own has.
+  -- What stands before the attributes and regions of an operation of a kind, without a space at its end: a module's and
+  -- a function's name, with the function's type, a constant's value and the type of its result, and all that an
+  -- operation of the user's own has.
   abbrev pub header_of : Option (OpKind K) → Ptr OperationKind → List ℕ
   header_of (Some Module) p = codes "builtin.module " ++ symbol_text s p
-  header_of (Some Func) p = codes "builtin.func " ++ (symbol_text s p ++ (codes ": " ++ some_type_text (func_type_of s p)))
-  header_of (Some Constant) p = codes "builtin.constant <" ++ (some_attr_text (value_of s p) ++ (codes "> : " ++ some_type_text (slice_get (result_types_of s p) 0)))
+  header_of (Some Func) p = codes "builtin.func " ++ (symbol_text s p ++
+      (codes ": " ++ some_type_text (func_type_of s p)))
+  header_of (Some Constant) p = codes "builtin.constant <" ++
+      (some_attr_text (value_of s p) ++ (codes "> : " ++ some_type_text (slice_get (result_types_of s p) 0)))
   header_of (Some ForwardRef) p = codes "builtin.forward_ref"
   header_of (Some (Own k)) p = uses_text s (o.kind_id k) p ++ (dictionary o s p ++ (codes ": " ++ signature_text p))
   header_of None p = []

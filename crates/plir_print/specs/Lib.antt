@@ -1,8 +1,11 @@
--- What the contracts of this crate cite. A word takes the answers of the op set's queries whole, as `D.OpSet` gives them.
+-- What the contracts of this crate cite. A word takes the answers of the op set's queries whole, as `D.OpSet` gives
+-- them.
 --
---   ValueNames   value_name, block_name: the names of values and blocks in texts; results_of, arguments_of: these values in order
+--   ValueNames   value_name, block_name: the names of values and blocks in texts; results_of, arguments_of: these
+--                values in order
 --   Lists        parted: things with something between them
---   HeaderAttrs  has_header: an operation has the attributes that its header tells; IsPrintable: each one at or under a node has
+--   HeaderAttrs  has_header: an operation has the attributes that its header tells; IsPrintable: each one at or under a
+--                node has
 --   Dictionaries dictionary: the attributes of an operation that its text shows
 --   Headers      header: what stands before the attributes and regions of an operation
 --   OpText       op_text: the text of an operation with all below it

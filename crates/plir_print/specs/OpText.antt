@@ -29,7 +29,8 @@ abbrev pub equals_behind : {X : Type 0} → List X → List ℕ
 equals_behind [] = []
 equals_behind (x ∷ xs) = codes " = "
 
--- What stands behind a header: a space in a module and a function, and in an operation of the user's own that has regions.
+-- What stands behind a header: a space in a module and a function, and in an operation of the user's own that has
+-- regions.
 abbrev pub space_behind : {K X : Type 0} → Option (OpKind K) → (regions : List X) → List ℕ
 space_behind (Some Module) rs = codes " "
 space_behind (Some Func) rs = codes " "
@@ -84,13 +85,16 @@ module _ {D K A T E : Type 0} (o : op_set.Ghosts D K A T E) where
     abbrev pub block_front : Ptr BasicBlockKind → List ℕ
     block_front b = codes "^" ++ (block_name s b ++ (codes "(" ++ (arguments_text b ++ codes "):")))
 
-    -- The text of a node, to k levels, as far in as n columns: regions one behind another, each on a line of its own, the blocks
-    -- in a region two columns further in, and the operations in a block two more, with a semicolon behind all but the last.
+    -- The text of a node, to k levels, as far in as n columns: regions one behind another, each on a line of its own,
+    -- the blocks in a region two columns further in, and the operations in a block two more, with a semicolon behind
+    -- all but the last.
     abbrev pub text_at : (k n : ℕ) → IRNode → List ℕ
     text_at zero n x = []
     text_at (suc k) n (Operation p) = op_front n p ++ flat_map (text_at k n) (kids s (Operation p))
-    text_at (suc k) n (Region r) = line n ++ (codes "{" ++ (flat_map (λ b. line (n + 2) ++ text_at k (n + 2) b) (kids s (Region r)) ++ (line n ++ codes "}")))
-    text_at (suc k) n (BasicBlock b) = block_front b ++ parted (codes ";") (λ p. line (n + 2) ++ text_at k (n + 2) p) (kids s (BasicBlock b))
+    text_at (suc k) n (Region r) = line n ++ (codes "{" ++
+        (flat_map (λ b. line (n + 2) ++ text_at k (n + 2) b) (kids s (Region r)) ++ (line n ++ codes "}")))
+    text_at (suc k) n (BasicBlock b) = block_front b ++ parted (codes ";") (λ p. line (n + 2) ++ text_at k (n + 2) p)
+        (kids s (BasicBlock b))
 
     -- the text of a node, as far in as n columns
     abbrev pub text_of : (n : ℕ) → IRNode → List ℕ

@@ -20,7 +20,8 @@ module _ {K A T : Type 0} (s : Store K A T) where
 
   -- the given name, the pointer of the block, `_arg`, and the place, as in `x_block2v1_arg0`
   abbrev pub argument_name : Ptr BasicBlockKind → ℕ → List ℕ
-  argument_name b i = given_first (name_at (names_at s (Block b)) i) ++ pointer_text (codes "block") b ++ codes "_arg" ++ decimal i
+  argument_name b i = given_first (name_at (names_at s (Block b)) i) ++ pointer_text (codes "block") b ++ codes "_arg"
+      ++ decimal i
 
   -- the name of the value at a place among those that come from an operation or a block
   abbrev pub name_from : DefiningEntity → ℕ → List ℕ

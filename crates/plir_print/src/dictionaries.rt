@@ -5,15 +5,15 @@ ghost use Rattle.plir_data.specs.AttrLive.{IsAttrLive, HandlesLive};
 ghost use Rattle.plir_core.specs.declared.ptr.IRNode.{IRNode as AnyNode};
 ghost use Rattle.plir_core.specs.Store.{IsLive};
 ghost use Rattle.plir_print.specs.Lists.{Puts};
-ghost use Rattle.plir_text.specs.OpSetTexts.{attribute_text};
+ghost use Rattle.plir_attr_text.specs.OpSetTexts.{attribute_text};
 ghost use Rattle.plir_print.specs.Dictionaries.{dictionary, is_shown, is_told, shown_of, shown_text};
 
 use crate::layout::put_between;
+use plir_attr_text::print_attr;
 use plir_builtin::{ATTR_KEY_BUILTIN_FUNC_TYPE, ATTR_KEY_SYM_NAME};
 use plir_core::{Context, Operation, Ptr};
 use plir_data::put::put;
 use plir_data::{AttrObj, AttributeDict, Memory, OpKind, OpSet};
-use plir_text::print_attr;
 use std::alloc::Global;
 
 /// Puts the text of an attribute.

@@ -8,7 +8,8 @@ ghost use Rattle.plir_print.specs.Lists.{Puts};
 ghost use Rattle.plir_print.specs.Dictionaries.{shown};
 ghost use Rattle.plir_print.specs.HeaderAttrs.{HasHeader, IsPrintable};
 ghost use Rattle.plir_print.specs.OpText.{argument_text, arguments_text, block_front, blocks_in, op_front, op_text};
-ghost use Rattle.plir_print.specs.OpText.{dictionary_apart, dictionary_line, ops_in, regions_in, results_text, space_text, text_of};
+ghost use Rattle.plir_print.specs.OpText.{dictionary_apart, dictionary_line, ops_in, regions_in, results_text};
+ghost use Rattle.plir_print.specs.OpText.{space_text, text_of};
 
 use crate::dictionaries::{put_dictionary, shows_some};
 use crate::headers::{put_header, put_names, put_value_type};

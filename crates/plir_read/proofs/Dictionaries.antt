@@ -1,20 +1,20 @@
 -- Dictionaries that are read stand there, and those that stand there are read.
 use Rattle.std.proofs.Common.{◌≡◌, ℕ, suc, ◌≤◌, ◌++◌, List, [], ◌∷◌, codes, is_some, Result, Ok, refl, sym, ap, subst, ◌∙◌, arith, inl, inr}
-use Rattle.plir_text.specs.declared.attr_words.AttrKind.TheVariants as kinds
-use Rattle.plir_text.specs.declared.fault.Fault.{Fault}
-use Rattle.plir_text.specs.Steps.{◌>>=◌, read_as}
-use Rattle.plir_text.specs.Terms as terms
-use Rattle.plir_text.specs.Terms.{AttrTerm, EntryTerms, no_entries, entries_of, entries_levels}
-use Rattle.plir_text.specs.Tokens.{Token, word, sign, look, Begins}
-use Rattle.plir_text.specs.AttrGrammar.{SpellsEntries}
-use Rattle.plir_text.specs.TypeGrammar.{enclosed}
-use Rattle.plir_text.specs.Lists.{sign_at, past_sign, items_at}
-use Rattle.plir_text.specs.AttrReading.{attr_kind, attr_head, entry_at, attr_at}
-use Rattle.plir_text.specs.StepLaws.{chosen, bind_ok, done, ok_is}
-use Rattle.plir_text.specs.Begun.{word_again, past_sign_again, no_sign}
-use Rattle.plir_text.specs.ListsFound.{FoundOne, IsSound}
-use Rattle.plir_text.specs.AttrsFound.{attr_found}
-use Rattle.plir_text.specs.AttrsAgain.{attr_again}
+use Rattle.plir_attr_text.specs.declared.attr_words.AttrKind.TheVariants as kinds
+use Rattle.plir_attr_text.specs.declared.fault.Fault.{Fault}
+use Rattle.plir_attr_text.specs.Steps.{◌>>=◌, read_as}
+use Rattle.plir_attr_text.specs.Terms as terms
+use Rattle.plir_attr_text.specs.Terms.{AttrTerm, EntryTerms, no_entries, entries_of, entries_levels}
+use Rattle.plir_attr_text.specs.Tokens.{Token, word, sign, look, Begins}
+use Rattle.plir_attr_text.specs.AttrGrammar.{SpellsEntries}
+use Rattle.plir_attr_text.specs.TypeGrammar.{enclosed}
+use Rattle.plir_attr_text.specs.Lists.{sign_at, past_sign, items_at}
+use Rattle.plir_attr_text.specs.AttrReading.{attr_kind, attr_head, entry_at, attr_at}
+use Rattle.plir_attr_text.specs.StepLaws.{chosen, bind_ok, done, ok_is}
+use Rattle.plir_attr_text.specs.Begun.{word_again, past_sign_again, no_sign}
+use Rattle.plir_attr_text.specs.ListsFound.{FoundOne, IsSound}
+use Rattle.plir_attr_text.specs.AttrsFound.{attr_found}
+use Rattle.plir_attr_text.specs.AttrsAgain.{attr_again}
 use Rattle.plir_read.specs.OpGrammar.{SpellsDictionary}
 use Rattle.plir_read.specs.OpReading.{dictionary_at}
 

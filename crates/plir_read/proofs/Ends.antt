@@ -2,16 +2,16 @@
 use Rattle.std.proofs.Common.{◌≡◌, ◌⊎◌, ℕ, zero, suc, Bool, true, false, cond, nat_eq, ◌&&◌, List, [], ◌∷◌, ◌++◌, length, Option, Some, None, Result, Ok, Err, refl, sym, ap, subst, ◌∙◌, inl, inr, append_assoc}
 use Rattle.std.specs.Prelude.{encode_utf8}
 use Rattle.plir_data.specs.Identifier.{is_letter, is_digit}
-use Rattle.plir_text.specs.declared.fault.Fault.{Fault}
-use Rattle.plir_text.specs.Bytes.{is_blank, is_in_name, is_hex, front, past, word_past, begins, tail_of}
-use Rattle.plir_text.specs.Strings.{is_code, closed_code, code_at, escape_at, unit_at, behind, onward, content_at, string_at}
-use Rattle.plir_text.specs.Tokens.{Token, word, digits, signed, quoted, arrow, sign, is_mark, token_at, look, Takes, Begins}
-use Rattle.plir_text.specs.Lists.{sign_at}
-use Rattle.plir_text.specs.AttrReading.{name_at}
-use Rattle.plir_text.specs.StepLaws.{chosen, bind_ok, ok_is}
-use Rattle.plir_text.specs.Begun.{sign_found}
-use Rattle.plir_text.specs.LeavesFound.{name_found}
-use Rattle.plir_text.specs.ListsFound.{IsSound}
+use Rattle.plir_attr_text.specs.declared.fault.Fault.{Fault}
+use Rattle.plir_attr_text.specs.Bytes.{is_blank, is_in_name, is_hex, front, past, word_past, begins, tail_of}
+use Rattle.plir_attr_text.specs.Strings.{is_code, closed_code, code_at, escape_at, unit_at, behind, onward, content_at, string_at}
+use Rattle.plir_attr_text.specs.Tokens.{Token, word, digits, signed, quoted, arrow, sign, is_mark, token_at, look, Takes, Begins}
+use Rattle.plir_attr_text.specs.Lists.{sign_at}
+use Rattle.plir_attr_text.specs.AttrReading.{name_at}
+use Rattle.plir_attr_text.specs.StepLaws.{chosen, bind_ok, ok_is}
+use Rattle.plir_attr_text.specs.Begun.{sign_found}
+use Rattle.plir_attr_text.specs.LeavesFound.{name_found}
+use Rattle.plir_attr_text.specs.ListsFound.{IsSound}
 
 -- the rest is an end of the text
 abbrev pub IsEnd : (bytes rest : List ℕ) → Type 0

@@ -8,10 +8,10 @@ use Rattle.plir_data.specs.AttrView as views
 use Rattle.plir_data.specs.AttrView.{AttrView, dict}
 use Rattle.plir_data.specs.Dictionary.{dict_put, dict_of}
 use Rattle.plir_data.specs.Types.{TypeView}
-use Rattle.plir_text.specs.Meaning.{IsDictMeant}
-use Rattle.plir_text.specs.Meanings.{IsMeant-live}
-use Rattle.plir_text.specs.Terms as terms
-use Rattle.plir_text.specs.Terms.{EntryTerms}
+use Rattle.plir_attr_text.specs.Meaning.{IsDictMeant}
+use Rattle.plir_attr_text.specs.Meanings.{IsMeant-live}
+use Rattle.plir_attr_text.specs.Terms as terms
+use Rattle.plir_attr_text.specs.Terms.{EntryTerms}
 
 module _ {A T : Type 0} (own : A → List ℕ) (types : List (TypeView T)) where
   abbrev IsEntryLive : List ℕ × AttrView A → Type 0

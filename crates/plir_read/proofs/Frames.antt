@@ -16,10 +16,10 @@ use Rattle.plir_core.specs.Placed.{IsPlaced}
 use Rattle.plir_core.specs.Standing.{IsStanding}
 use Rattle.plir_core.specs.Store.{Store, IsLive, kids, parent_of, op_at, block_at}
 use Rattle.plir_core.specs.Measures.{depth}
-use Rattle.plir_text.specs.Names.{Grows}
-use Rattle.plir_text.specs.Growth.{Grows-itself, Names-grown, NamesAll-grown}
-use Rattle.plir_text.specs.Meanings.{IsMeant-grown, IsDictMeant-grown}
-use Rattle.plir_text.specs.Terms.{AttrTerm, TypeTerm}
+use Rattle.plir_attr_text.specs.Names.{Grows}
+use Rattle.plir_attr_text.specs.Growth.{Grows-itself, Names-grown, NamesAll-grown}
+use Rattle.plir_attr_text.specs.Meanings.{IsMeant-grown, IsDictMeant-grown}
+use Rattle.plir_attr_text.specs.Terms.{AttrTerm, TypeTerm}
 use Rattle.plir_read.specs.OpTerms.{Head, module_head, func_head, Header, BlockHead, OpTerm, op_term, constant_term, BlockTerms, no_blocks, block_before, OpTerms, no_ops, op_before, ops_of, BlockTerm, blocks_of}
 use Rattle.plir_read.specs.Heads.{result_names, argument_types, written_block}
 use Rattle.plir_read.specs.OpsStanding.{HoldsOp, HoldsBlock, IsConstantAt, IsHeadAt, IsHeaderAt, IsBlockHeadAt, IsOpAt, AreBlocksAt, AreOpsAt, IsBlockAt}

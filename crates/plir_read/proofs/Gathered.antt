@@ -12,12 +12,12 @@ use Rattle.plir_core.specs.Placed.{IsPlaced}
 use Rattle.plir_core.specs.Standing.{IsStanding}
 use Rattle.plir_core.specs.Store.{Store, IsLive, kids, parent_of}
 use Rattle.plir_core.specs.Whole.{IsWhole}
-use Rattle.plir_text.specs.declared.fault.Fault.{Fault}
-use Rattle.plir_text.specs.Reading.{Ends}
-use Rattle.plir_text.specs.declared.fault.Stop.{Stop}
-use Rattle.plir_text.specs.Names.{Grows}
-use Rattle.plir_text.specs.Growth.{Grows-itself, Grows-on}
-use Rattle.plir_text.specs.Fronts.{GoesOn, ends_at_item, closes, goes_on}
+use Rattle.plir_attr_text.specs.declared.fault.Fault.{Fault}
+use Rattle.plir_attr_text.specs.Reading.{Ends}
+use Rattle.plir_attr_text.specs.declared.fault.Stop.{Stop}
+use Rattle.plir_attr_text.specs.Names.{Grows}
+use Rattle.plir_attr_text.specs.Growth.{Grows-itself, Grows-on}
+use Rattle.plir_attr_text.specs.Fronts.{GoesOn, ends_at_item, closes, goes_on}
 use Rattle.plir_read.specs.Keeping.{KeepsBut, KeepsOlder}
 use Rattle.plir_read.specs.Slots.{IsMadeInOrder, IsGrownInOrder}
 use Rattle.plir_read.proofs.Frames.{IsFrame, frame_made, frame_placed, kid_below}

@@ -1,8 +1,8 @@
 -- Headers that are held while types come.
 use Rattle.std.proofs.Common.{List}
 use Rattle.plir_data.specs.Types.{TypeView}
-use Rattle.plir_text.specs.Growth.{Names-grown}
-use Rattle.plir_text.specs.Names.{Grows}
+use Rattle.plir_attr_text.specs.Growth.{Names-grown}
+use Rattle.plir_attr_text.specs.Names.{Grows}
 use Rattle.plir_read.specs.Heads.{IsHead}
 use Rattle.plir_read.specs.OpTerms.{Head, module_head, func_head}
 use Rattle.plir_read.specs.declared.heads.HeadData.{HeadData}

@@ -2,15 +2,15 @@
 use Rattle.std.proofs.Common.{◌≡◌, ◌⊎◌, ℕ, ◌<◌, List, [], ◌∷◌, ◌++◌, length, Bool, true, false, Result, Ok, Err, inl, inr, refl, sym, ap, subst, ◌∙◌, arith}
 use Rattle.std.proofs.lemmas.Bool.{cases_lt}
 use Rattle.plir_data.specs.Types.{TypeView}
-use Rattle.plir_text.specs.declared.fault.Fault.{Fault}
-use Rattle.plir_text.specs.declared.fault.Stop.{Stop}
-use Rattle.plir_text.specs.Fronts.{GoesOn, closes, goes_on}
-use Rattle.plir_text.specs.Growth.{Names-grown}
-use Rattle.plir_text.specs.Names.{Grows, AreNamed}
-use Rattle.plir_text.specs.Parts.{IsPartOf}
-use Rattle.plir_text.specs.StepLaws.{bind_ok, ok_is, done}
-use Rattle.plir_text.specs.Steps.{◌>>=◌}
-use Rattle.plir_text.specs.Terms.{TypeTerm}
+use Rattle.plir_attr_text.specs.declared.fault.Fault.{Fault}
+use Rattle.plir_attr_text.specs.declared.fault.Stop.{Stop}
+use Rattle.plir_attr_text.specs.Fronts.{GoesOn, closes, goes_on}
+use Rattle.plir_attr_text.specs.Growth.{Names-grown}
+use Rattle.plir_attr_text.specs.Names.{Grows, AreNamed}
+use Rattle.plir_attr_text.specs.Parts.{IsPartOf}
+use Rattle.plir_attr_text.specs.StepLaws.{bind_ok, ok_is, done}
+use Rattle.plir_attr_text.specs.Steps.{◌>>=◌}
+use Rattle.plir_attr_text.specs.Terms.{TypeTerm}
 use Rattle.plir_read.specs.HeldTypes.{IsHeldByArgument, IsHeldByBlock, IsHeldByBlocks, IsHeldByOp, IsHeldByOps, HoldsNew}
 use Rattle.plir_read.specs.OpTerms.{Argument, OpTerm, BlockTerm, ops_of, blocks_of}
 

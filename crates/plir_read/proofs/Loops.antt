@@ -2,7 +2,7 @@
 use Rattle.std.proofs.Common.{ℕ, List, Result}
 use Rattle.plir_core.specs.declared.ptr.IRNode.{IRNode}
 use Rattle.plir_core.specs.Store.{Store}
-use Rattle.plir_text.specs.declared.fault.Fault.{Fault}
+use Rattle.plir_attr_text.specs.declared.fault.Fault.{Fault}
 use Rattle.plir_read.specs.OpTerms.{OpTerm, BlockTerm, ops_of, blocks_of}
 use Rattle.plir_read.specs.OpReading.{block_at, semicolon_at, brace_at}
 use Rattle.plir_read.specs.OpsStanding.{IsOpAt, IsBlockAt, AreOpsAt, AreBlocksAt}

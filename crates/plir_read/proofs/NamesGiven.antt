@@ -4,12 +4,12 @@ use Rattle.std.proofs.lemmas.List.{map-append}
 use Rattle.std.proofs.lemmas.Option.{same_Some, none-some}
 use Rattle.plir_data.specs.Identifier.{is_identifier, all_in_identifier, is_letter, is_digit}
 use Rattle.plir_data.specs.Types.{TypeView}
-use Rattle.plir_text.specs.AttrGrammar.{SpellsIdentifier}
-use Rattle.plir_text.specs.AttrReading.{name_at}
-use Rattle.plir_text.specs.Fronts.{GoesOn}
-use Rattle.plir_text.specs.LeavesFound.{found-shorter, name_found}
-use Rattle.plir_text.specs.Lists.{separator_at, items_at}
-use Rattle.plir_text.specs.Names.{Grows, Names, NamesAll, AreNamed}
+use Rattle.plir_attr_text.specs.AttrGrammar.{SpellsIdentifier}
+use Rattle.plir_attr_text.specs.AttrReading.{name_at}
+use Rattle.plir_attr_text.specs.Fronts.{GoesOn}
+use Rattle.plir_attr_text.specs.LeavesFound.{found-shorter, name_found}
+use Rattle.plir_attr_text.specs.Lists.{separator_at, items_at}
+use Rattle.plir_attr_text.specs.Names.{Grows, Names, NamesAll, AreNamed}
 use Rattle.plir_read.specs.Heads.{argument_types, argument_names, result_names}
 use Rattle.plir_read.specs.OpReading.{argument_at, names_at}
 use Rattle.plir_read.specs.OpTerms.{Argument}

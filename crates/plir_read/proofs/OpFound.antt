@@ -1,21 +1,21 @@
 -- Operations that are read stand there.
 use Rattle.std.proofs.Common.{◌≡◌, ℕ, zero, suc, ◌+◌, ◌<◌, ◌≤◌, Bool, true, false, List, [], ◌∷◌, ◌++◌, length, Option, Some, None, Result, Ok, Err, refl, sym, ap, subst, ◌∙◌, arith, inl, inr, append_assoc, length-append}
 use Rattle.plir_data.specs.Identifier.{is_identifier}
-use Rattle.plir_text.specs.declared.fault.Fault.{Fault}
-use Rattle.plir_text.specs.declared.fault.Fault.TheVariants.{TooDeep}
-use Rattle.plir_text.specs.Steps.{◌>>=◌, read_as}
-use Rattle.plir_text.specs.Terms.{type_levels}
-use Rattle.plir_text.specs.Tokens.{Token, word, sign, look, Begins}
-use Rattle.plir_text.specs.AttrGrammar.{SpellsMore, SpellsSeveral}
-use Rattle.plir_text.specs.TypeGrammar.{enclosed}
-use Rattle.plir_text.specs.Lists.{sign_at, past_sign, more_at, unless_closed, items_at}
-use Rattle.plir_text.specs.TypeReading.{word_at, type_at}
-use Rattle.plir_text.specs.AttrReading.{name_at}
-use Rattle.plir_text.specs.StepLaws.{chosen, bind_ok, done, ok_is}
-use Rattle.plir_text.specs.Begun.{Begins-append, Begins-length, sign_found, past_sign_found}
-use Rattle.plir_text.specs.ListsFound.{FoundOne, IsSound, After, Chain, several_found, items_found}
-use Rattle.plir_text.specs.LeavesFound.{name_found}
-use Rattle.plir_text.specs.TypesFound.{type_found}
+use Rattle.plir_attr_text.specs.declared.fault.Fault.{Fault}
+use Rattle.plir_attr_text.specs.declared.fault.Fault.TheVariants.{TooDeep}
+use Rattle.plir_attr_text.specs.Steps.{◌>>=◌, read_as}
+use Rattle.plir_attr_text.specs.Terms.{type_levels}
+use Rattle.plir_attr_text.specs.Tokens.{Token, word, sign, look, Begins}
+use Rattle.plir_attr_text.specs.AttrGrammar.{SpellsMore, SpellsSeveral}
+use Rattle.plir_attr_text.specs.TypeGrammar.{enclosed}
+use Rattle.plir_attr_text.specs.Lists.{sign_at, past_sign, more_at, unless_closed, items_at}
+use Rattle.plir_attr_text.specs.TypeReading.{word_at, type_at}
+use Rattle.plir_attr_text.specs.AttrReading.{name_at}
+use Rattle.plir_attr_text.specs.StepLaws.{chosen, bind_ok, done, ok_is}
+use Rattle.plir_attr_text.specs.Begun.{Begins-append, Begins-length, sign_found, past_sign_found}
+use Rattle.plir_attr_text.specs.ListsFound.{FoundOne, IsSound, After, Chain, several_found, items_found}
+use Rattle.plir_attr_text.specs.LeavesFound.{name_found}
+use Rattle.plir_attr_text.specs.TypesFound.{type_found}
 use Rattle.plir_read.specs.OpTerms.{Head, module_head, func_head, Header, Argument, BlockHead, OpTerm, op_term, constant_term, BlockTerm, ops_of, blocks_of, head_levels, header_levels, arguments_levels, block_levels, ops_levels, blocks_levels}
 use Rattle.plir_read.specs.OpGrammar.{symbol, SpellsHead, SpellsHeader, SpellsArgument, SpellsBlockHead, SpellsOp, SpellsOps, SpellsMoreOps, SpellsBlocks, OpWithin}
 use Rattle.plir_read.specs.OpReading.{start_at, named, first_name, symbol_at, argument_at, block_head_at, head_at, dictionary_at, header_at, ends_block, behind_semicolon, semicolon_at, behind_brace, brace_at, ops_at, block_at, blocks_at, constant_at, named_constant_at, bodied_at, behind_id, op_at}

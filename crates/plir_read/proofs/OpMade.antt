@@ -23,10 +23,10 @@ use Rattle.plir_core.specs.Nodes.{is_node_live, node_kids}
 use Rattle.plir_core.specs.Stored.{IsStored}
 use Rattle.plir_core.specs.Standing.{IsStanding}
 use Rattle.plir_core.specs.Store.{Store, IsLive, given_out, kids, parent_of, op_at}
-use Rattle.plir_text.specs.Growth.{Grows-itself, Names-grown, NamesAll-grown, Names-live, both_live}
-use Rattle.plir_text.specs.Meanings.{IsMeant-live, IsDictMeant-grown}
-use Rattle.plir_text.specs.Terms.{no_types, AttrTerm, TypeTerm}
-use Rattle.plir_text.specs.Names.{Grows}
+use Rattle.plir_attr_text.specs.Growth.{Grows-itself, Names-grown, NamesAll-grown, Names-live, both_live}
+use Rattle.plir_attr_text.specs.Meanings.{IsMeant-live, IsDictMeant-grown}
+use Rattle.plir_attr_text.specs.Terms.{no_types, AttrTerm, TypeTerm}
+use Rattle.plir_attr_text.specs.Names.{Grows}
 use Rattle.plir_read.specs.Heads.{IsHead, IsHeader, IsHeadLive, op_with, argument_types, names_attributes, IsBlockHead, block_with, IsConstant, constant_op}
 use Rattle.plir_read.specs.Keys.{names_key}
 use Rattle.plir_read.specs.Keeping.{KeepsBut, KeepsOlder, IsNewOp, IsNewLeaf, IsNewBlock}

@@ -3,20 +3,20 @@ use Rattle.std.proofs.Common.{◌≡◌, ℕ, zero, suc, ◌-◌, ◌<◌, List,
 use Rattle.std.proofs.lemmas.List.{length-map}
 use Rattle.plir_core.specs.declared.ptr.IRNode.{IRNode}
 use Rattle.plir_core.specs.Store.{Store}
-use Rattle.plir_text.specs.declared.fault.Fault.{Fault}
-use Rattle.plir_text.specs.declared.fault.Fault.TheVariants.{TooDeep}
-use Rattle.plir_text.specs.declared.fault.Stop.{Stop}
-use Rattle.plir_text.specs.declared.fault.Stop.TheVariants.{Wanting, Crowded, At}
-use Rattle.plir_text.specs.Steps.{◌>>=◌}
-use Rattle.plir_text.specs.Reading.{Ends, Fails}
-use Rattle.plir_text.specs.Terms.{AttrTerm, TypeTerm, EntryTerms, no_entries, entries_of}
-use Rattle.plir_text.specs.Lists.{sign_at, past_sign, more_at, items_at}
-use Rattle.plir_text.specs.AttrReading.{name_at, entry_at, attr_at}
-use Rattle.plir_text.specs.TypeReading.{word_at, type_at}
-use Rattle.plir_text.specs.Levels.{level_at}
-use Rattle.plir_text.specs.TypeSteps.{level-word, level-deep}
-use Rattle.plir_text.specs.Fronts.{GoesOn, with_front}
-use Rattle.plir_text.specs.StepLaws.{done, bind_ok, Ends-bind, Ends-from}
+use Rattle.plir_attr_text.specs.declared.fault.Fault.{Fault}
+use Rattle.plir_attr_text.specs.declared.fault.Fault.TheVariants.{TooDeep}
+use Rattle.plir_attr_text.specs.declared.fault.Stop.{Stop}
+use Rattle.plir_attr_text.specs.declared.fault.Stop.TheVariants.{Wanting, Crowded, At}
+use Rattle.plir_attr_text.specs.Steps.{◌>>=◌}
+use Rattle.plir_attr_text.specs.Reading.{Ends, Fails}
+use Rattle.plir_attr_text.specs.Terms.{AttrTerm, TypeTerm, EntryTerms, no_entries, entries_of}
+use Rattle.plir_attr_text.specs.Lists.{sign_at, past_sign, more_at, items_at}
+use Rattle.plir_attr_text.specs.AttrReading.{name_at, entry_at, attr_at}
+use Rattle.plir_attr_text.specs.TypeReading.{word_at, type_at}
+use Rattle.plir_attr_text.specs.Levels.{level_at}
+use Rattle.plir_attr_text.specs.TypeSteps.{level-word, level-deep}
+use Rattle.plir_attr_text.specs.Fronts.{GoesOn, with_front}
+use Rattle.plir_attr_text.specs.StepLaws.{done, bind_ok, Ends-bind, Ends-from}
 use Rattle.plir_read.specs.OpTerms.{Head, module_head, func_head, Header, Argument, BlockHead, OpTerm, op_term, constant_term, BlockTerm, blocks_of}
 use Rattle.plir_read.specs.OpReading.{op_id, names_before, start_at, named, first_name, symbol_at, argument_at, block_head_at, head_at, dictionary_at, header_at, ends_block, ops_at, block_at, blocks_at, value_at, constant_at, named_constant_at, bodied_at, behind_id, op_at, semicolon_at, brace_at}
 use Rattle.plir_read.specs.Heads.{result_names}

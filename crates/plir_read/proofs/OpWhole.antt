@@ -1,17 +1,17 @@
 -- Readers of whole texts of operations, and what they refuse.
 use Rattle.std.proofs.Common.{◌≡◌, ◌⊎◌, inl, inr, ◌≤◌, ◌+◌, ℕ, Bool, true, false, true≢false, List, Result, Ok, Err, refl, sym, ap, arith, ◌∙◌}
-use Rattle.plir_text.specs.declared.fault.Fault.{Fault}
-use Rattle.plir_text.specs.declared.fault.Fault.TheVariants.{Memory, TooManyNodes}
-use Rattle.plir_text.specs.declared.fault.ReadErr.{ReadErr}
-use Rattle.plir_text.specs.declared.fault.Stop.{Stop}
-use Rattle.plir_text.specs.declared.fault.Stop.TheVariants.{Wanting, Crowded, At}
-use Rattle.plir_text.specs.ListsAgain.{refused, only_one}
-use Rattle.plir_text.specs.ListsFound.{whole_found}
-use Rattle.plir_text.specs.Reading.{Ends, Fails, TellsNoPlace, is_of_text, fault_of}
-use Rattle.plir_text.specs.StepLaws.{done, Ends-bind, Ends-from}
-use Rattle.plir_text.specs.Steps.{◌>>=◌}
-use Rattle.plir_text.specs.TypeGrammar.{IsText}
-use Rattle.plir_text.specs.Wholes.{end_at, whole}
+use Rattle.plir_attr_text.specs.declared.fault.Fault.{Fault}
+use Rattle.plir_attr_text.specs.declared.fault.Fault.TheVariants.{Memory, TooManyNodes}
+use Rattle.plir_attr_text.specs.declared.fault.ReadErr.{ReadErr}
+use Rattle.plir_attr_text.specs.declared.fault.Stop.{Stop}
+use Rattle.plir_attr_text.specs.declared.fault.Stop.TheVariants.{Wanting, Crowded, At}
+use Rattle.plir_attr_text.specs.ListsAgain.{refused, only_one}
+use Rattle.plir_attr_text.specs.ListsFound.{whole_found}
+use Rattle.plir_attr_text.specs.Reading.{Ends, Fails, TellsNoPlace, is_of_text, fault_of}
+use Rattle.plir_attr_text.specs.StepLaws.{done, Ends-bind, Ends-from}
+use Rattle.plir_attr_text.specs.Steps.{◌>>=◌}
+use Rattle.plir_attr_text.specs.TypeGrammar.{IsText}
+use Rattle.plir_attr_text.specs.Wholes.{end_at, whole}
 use Rattle.plir_read.specs.OpGrammar.{OpWithin}
 use Rattle.plir_read.specs.OpReading.{op_at}
 use Rattle.plir_read.specs.OpTerms.{OpTerm}

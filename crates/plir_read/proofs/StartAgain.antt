@@ -1,18 +1,18 @@
 -- Names of results, ids and constants that stand there are read.
 use Rattle.std.proofs.Common.{◌≡◌, ℕ, zero, suc, ◌<◌, ◌≤◌, Bool, true, false, List, [], ◌∷◌, length, codes, Result, Ok, refl, ap, arith}
 use Rattle.plir_data.specs.Identifier.{is_identifier}
-use Rattle.plir_text.specs.declared.fault.Fault.{Fault}
-use Rattle.plir_text.specs.Terms.{AttrTerm, TypeTerm, levels, type_levels}
-use Rattle.plir_text.specs.Tokens.{Token, word, sign, look, Begins}
-use Rattle.plir_text.specs.AttrGrammar.{Spells}
-use Rattle.plir_text.specs.TypeGrammar.{enclosed, SpellsType}
-use Rattle.plir_text.specs.Lists.{separator_at, more_at}
-use Rattle.plir_text.specs.AttrReading.{name_at}
-use Rattle.plir_text.specs.StepLaws.{done}
-use Rattle.plir_text.specs.Begun.{Begins-split, word_again, sign_again, closed_again}
-use Rattle.plir_text.specs.LeavesAgain.{name_again}
-use Rattle.plir_text.specs.TypesAgain.{type_again}
-use Rattle.plir_text.specs.AttrsAgain.{attr_again}
+use Rattle.plir_attr_text.specs.declared.fault.Fault.{Fault}
+use Rattle.plir_attr_text.specs.Terms.{AttrTerm, TypeTerm, levels, type_levels}
+use Rattle.plir_attr_text.specs.Tokens.{Token, word, sign, look, Begins}
+use Rattle.plir_attr_text.specs.AttrGrammar.{Spells}
+use Rattle.plir_attr_text.specs.TypeGrammar.{enclosed, SpellsType}
+use Rattle.plir_attr_text.specs.Lists.{separator_at, more_at}
+use Rattle.plir_attr_text.specs.AttrReading.{name_at}
+use Rattle.plir_attr_text.specs.StepLaws.{done}
+use Rattle.plir_attr_text.specs.Begun.{Begins-split, word_again, sign_again, closed_again}
+use Rattle.plir_attr_text.specs.LeavesAgain.{name_again}
+use Rattle.plir_attr_text.specs.TypesAgain.{type_again}
+use Rattle.plir_attr_text.specs.AttrsAgain.{attr_again}
 use Rattle.plir_read.specs.OpGrammar.{typed_value}
 use Rattle.plir_read.specs.OpReading.{op_kind, op_id, names_at, names_before, start_at, value_at, constant_at}
 use Rattle.plir_read.specs.declared.heads.BodyKind.TheVariants.{Module, Func}

@@ -4,22 +4,22 @@ use Rattle.std.specs.Str.{bytes_eq}
 use Rattle.std.proofs.lemmas.Bool.Decides.{Decides-eqb}
 use Rattle.std.proofs.lemmas.Slice.Eq.{bytes_eq-Decides}
 use Rattle.plir_data.specs.Identifier.{is_identifier}
-use Rattle.plir_text.specs.declared.fault.Fault.{Fault}
-use Rattle.plir_text.specs.declared.fault.Fault.TheVariants.{NResultsVerifyErr}
-use Rattle.plir_text.specs.Steps.{◌>>=◌}
-use Rattle.plir_text.specs.Terms.{AttrTerm, TypeTerm, levels, type_levels}
-use Rattle.plir_text.specs.Tokens.{Token, word, sign, look, Begins}
-use Rattle.plir_text.specs.AttrGrammar.{SpellsIdentifier, Spells, AttrWithin}
-use Rattle.plir_text.specs.TypeGrammar.{enclosed, SpellsType}
-use Rattle.plir_text.specs.Lists.{sign_at, separator_at}
-use Rattle.plir_text.specs.TypeReading.{word_at, type_at}
-use Rattle.plir_text.specs.AttrReading.{name_at, attr_at}
-use Rattle.plir_text.specs.StepLaws.{chosen, bind_ok, done, ok_is}
-use Rattle.plir_text.specs.Begun.{Begins-append, word_found, sign_found, separator, separator_found}
-use Rattle.plir_text.specs.ListsFound.{FoundOne, IsSound, Chain, several_found}
-use Rattle.plir_text.specs.LeavesFound.{name_found}
-use Rattle.plir_text.specs.TypesFound.{type_found}
-use Rattle.plir_text.specs.AttrsFound.{attr_found}
+use Rattle.plir_attr_text.specs.declared.fault.Fault.{Fault}
+use Rattle.plir_attr_text.specs.declared.fault.Fault.TheVariants.{NResultsVerifyErr}
+use Rattle.plir_attr_text.specs.Steps.{◌>>=◌}
+use Rattle.plir_attr_text.specs.Terms.{AttrTerm, TypeTerm, levels, type_levels}
+use Rattle.plir_attr_text.specs.Tokens.{Token, word, sign, look, Begins}
+use Rattle.plir_attr_text.specs.AttrGrammar.{SpellsIdentifier, Spells, AttrWithin}
+use Rattle.plir_attr_text.specs.TypeGrammar.{enclosed, SpellsType}
+use Rattle.plir_attr_text.specs.Lists.{sign_at, separator_at}
+use Rattle.plir_attr_text.specs.TypeReading.{word_at, type_at}
+use Rattle.plir_attr_text.specs.AttrReading.{name_at, attr_at}
+use Rattle.plir_attr_text.specs.StepLaws.{chosen, bind_ok, done, ok_is}
+use Rattle.plir_attr_text.specs.Begun.{Begins-append, word_found, sign_found, separator, separator_found}
+use Rattle.plir_attr_text.specs.ListsFound.{FoundOne, IsSound, Chain, several_found}
+use Rattle.plir_attr_text.specs.LeavesFound.{name_found}
+use Rattle.plir_attr_text.specs.TypesFound.{type_found}
+use Rattle.plir_attr_text.specs.AttrsFound.{attr_found}
 use Rattle.plir_read.specs.OpGrammar.{typed_value}
 use Rattle.plir_read.specs.OpReading.{op_kind, op_id, names_at, if_name, names_before, start_at, named, value_at, constant_at, first_name}
 use Rattle.plir_read.specs.declared.heads.BodyKind.TheVariants.{Module, Func}

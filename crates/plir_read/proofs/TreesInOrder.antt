@@ -14,7 +14,7 @@ use Rattle.plir_core.specs.Placed.{IsPlaced}
 use Rattle.plir_core.specs.Standing.{IsStanding}
 use Rattle.plir_core.specs.Store.{Store, IsLive, kids, parent_of}
 use Rattle.plir_core.specs.Measures.{depth_from, most_steps, depth as depth_in}
-use Rattle.plir_text.specs.Names.{Grows}
+use Rattle.plir_attr_text.specs.Names.{Grows}
 use Rattle.plir_read.specs.Slots.{pre_order, node_slots, AreNext, AreGivenOut, tree_in_order, below_in_order, IsMadeInOrder, IsGrownInOrder}
 use Rattle.plir_read.proofs.Frames.{IsFrame, frame_made, frame_placed, kid_below}
 use Rattle.plir_read.proofs.SlotLaws.{AreNext-append, placed_slots}

@@ -2,19 +2,19 @@
 use Rattle.std.proofs.Common.{◌≡◌, ℕ, zero, suc, List, length, true, Result, Ok, inl, inr, sym, subst, arith}
 use Rattle.std.proofs.lemmas.Bool.{cases_lt}
 use Rattle.plir_data.specs.Types.{TypeView}
-use Rattle.plir_text.specs.declared.attr_words.AttrKind.TheVariants as kinds
-use Rattle.plir_text.specs.declared.fault.Fault.{Fault}
-use Rattle.plir_text.specs.AttrReading.{name_at, entry_at, attr_at}
-use Rattle.plir_text.specs.AttrsFound.{attr_found}
-use Rattle.plir_text.specs.AttrGrammar.{AttrWithin}
-use Rattle.plir_text.specs.Begun.{separator_found}
-use Rattle.plir_text.specs.Growth.{Names-grown}
-use Rattle.plir_text.specs.Lists.{sign_at}
-use Rattle.plir_text.specs.Names.{Grows, AreNamed}
-use Rattle.plir_text.specs.StepLaws.{bind_ok, ok_is}
-use Rattle.plir_text.specs.Steps.{◌>>=◌}
-use Rattle.plir_text.specs.Terms.{TypeTerm, AttrTerm}
-use Rattle.plir_text.specs.TypesIn.{IsBehind, IsInType, IsInAttr, IsBehindId}
+use Rattle.plir_attr_text.specs.declared.attr_words.AttrKind.TheVariants as kinds
+use Rattle.plir_attr_text.specs.declared.fault.Fault.{Fault}
+use Rattle.plir_attr_text.specs.AttrReading.{name_at, entry_at, attr_at}
+use Rattle.plir_attr_text.specs.AttrsFound.{attr_found}
+use Rattle.plir_attr_text.specs.AttrGrammar.{AttrWithin}
+use Rattle.plir_attr_text.specs.Begun.{separator_found}
+use Rattle.plir_attr_text.specs.Growth.{Names-grown}
+use Rattle.plir_attr_text.specs.Lists.{sign_at}
+use Rattle.plir_attr_text.specs.Names.{Grows, AreNamed}
+use Rattle.plir_attr_text.specs.StepLaws.{bind_ok, ok_is}
+use Rattle.plir_attr_text.specs.Steps.{◌>>=◌}
+use Rattle.plir_attr_text.specs.Terms.{TypeTerm, AttrTerm}
+use Rattle.plir_attr_text.specs.TypesIn.{IsBehind, IsInType, IsInAttr, IsBehindId}
 use Rattle.plir_read.specs.TextTypes.{IsInText}
 use Rattle.plir_read.proofs.Ends.{IsEnd, end_itself, end_on, found_end, look_end_at, sign_end, name_end}
 

@@ -6,9 +6,9 @@ use Rattle.plir_data.specs.Dictionary.{dict_put}
 use Rattle.plir_data.specs.Types.{TypeView, IsLive as IsTypeLive}
 use Rattle.plir_data.specs.declared.op_set.OpKind.TheVariants as kinds
 use Rattle.plir_core.specs.Contents.{OpView, BlockView, op_view}
-use Rattle.plir_text.specs.Names.{Names, NamesAll}
-use Rattle.plir_text.specs.Meaning.{IsMeant, IsDictMeant}
-use Rattle.plir_text.specs.Terms.{TypeTerm, TypeTerms, types_of, AttrTerm}
+use Rattle.plir_attr_text.specs.Names.{Names, NamesAll}
+use Rattle.plir_attr_text.specs.Meaning.{IsMeant, IsDictMeant}
+use Rattle.plir_attr_text.specs.Terms.{TypeTerm, TypeTerms, types_of, AttrTerm}
 use Rattle.plir_read.specs.Keys.{name_key, func_type_key, names_key, value_key}
 use Rattle.plir_read.specs.OpTerms.{Head, module_head, func_head, Header, Argument, BlockHead}
 use Rattle.plir_read.specs.Suffixes.{given_name}
@@ -56,7 +56,8 @@ module _ {K A : Type 0} where
   op_with (Func name handle) entries = func_op name handle entries
 
 -- the header that is held is the one that is written
-pub record IsHeader {A T : Type 0} (types : List (TypeView T)) (head : HeadData) (entries : List (List ℕ × AttrView A)) (h : Header) : Type 0 where
+pub record IsHeader {A T : Type 0} (types : List (TypeView T)) (head : HeadData) (entries : List (List ℕ × AttrView A))
+    (h : Header) : Type 0 where
   pub head_is : IsHead types head h.0
   pub dictionary : IsDictMeant types h.1 entries
 
@@ -81,7 +82,8 @@ abbrev pub names_attributes : {A : Type 0} → List (Option (List ℕ)) → List
 names_attributes names = if list_all is_none names then [] else dict_put [] names_key (leaf (given_names names))
 
 -- the value of a constant and the type of its result are those that are written
-pub record IsConstant {A T : Type 0} (types : List (TypeView T)) (value : AttrView A) (handle : ℕ) (c : AttrTerm × TypeTerm) : Type 0 where
+pub record IsConstant {A T : Type 0} (types : List (TypeView T)) (value : AttrView A) (handle : ℕ)
+    (c : AttrTerm × TypeTerm) : Type 0 where
   pub meant : IsMeant types c.0 value
   pub typed : Names types handle c.1
 
@@ -109,8 +111,18 @@ pub record IsBlockHead {T : Type 0} (types : List (TypeView T)) (held : BlockHea
 
 -- what a block with this head holds
 abbrev pub block_with : {A : Type 0} → BlockHeadData → BlockView A
-block_with h = record { label = h.label; arg_types = h.arguments.types.items; attributes = names_attributes h.arguments.names.items }
+block_with h = record {
+  label = h.label;
+  arg_types = h.arguments.types.items;
+  attributes =
+      names_attributes h.arguments.names.items;
+}
 
 -- what a block holds by its written head and the handles of its arguments' types
 abbrev pub written_block : {A : Type 0} → BlockHead → List ℕ → BlockView A
-written_block b handles = record { label = given_name Suffix.Block b.0; arg_types = handles; attributes = names_attributes (argument_names b.1) }
+written_block b handles = record {
+  label = given_name Suffix.Block b.0;
+  arg_types = handles;
+  attributes =
+      names_attributes (argument_names b.1);
+}

@@ -9,10 +9,11 @@ use Rattle.plir_core.specs.declared.ptr.IRNode.TheVariants.{Operation, Region, B
 use Rattle.plir_core.specs.Contents.{OpView, BlockView}
 use Rattle.plir_core.specs.Made.{KeepsLive, IsMade}
 use Rattle.plir_core.specs.Store.{Store, IsLive, op_at, block_at, kids}
-use Rattle.plir_text.specs.Names.{Grows}
+use Rattle.plir_attr_text.specs.Names.{Grows}
 
 module _ {K A T : Type 0} where
-  -- From s to t what was live is as it was, but that `but`, if it is a node, may have got kids; types may have come last.
+  -- From s to t what was live is as it was, but that `but`, if it is a node, may have got kids; types may have come
+  -- last.
   pub record KeepsBut (s t : Store K A T) (but : Option IRNode) : Type 0 where
     pub keeps : KeepsLive s.nodes t.nodes
     pub kids : (m : IRNode) → IsLive s m → (but ≡ Some m → ⊥) → kids t m ≡ kids s m

@@ -6,7 +6,8 @@
 --   OpGrammar    which tokens stand for an operation
 --   OpReading    op_at: operations as they are read, with the first fault that is met
 --   Heads        what operations and blocks hold, by what is written before their bodies
---   OpsStanding  IsOpAt: the written operation that a node of a context stands for; StandsForOp: the one that a text stands for
+--   OpsStanding  IsOpAt: the written operation that a node of a context stands for; StandsForOp: the one that a text
+--                stands for
 --   Keeping      KeepsOlder: what reading leaves of a context as it was
 --   Slots        IsMadeInOrder: a tree's nodes come in the order of a text, each in the next slot of its kind
 --   Room         HasNoRoom: when there is no room for what a text needs next

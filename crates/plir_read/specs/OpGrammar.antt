@@ -1,11 +1,13 @@
 -- Which tokens stand for an operation: a constant, a module or a function.
 use Rattle.std.specs.Prelude.{◌≡◌, ◌⊎◌, ℕ, ◌≤◌, List, [], ◌∷◌, ◌++◌, true, codes}
 use Rattle.plir_data.specs.Identifier.{is_identifier}
-use Rattle.plir_text.specs.Tokens.{Token, word, sign}
-use Rattle.plir_text.specs.AttrGrammar.{Spells, SpellsSeveral, SpellsEntries}
-use Rattle.plir_text.specs.Terms.{TypeTerm, AttrTerm, EntryTerms, no_entries}
-use Rattle.plir_text.specs.TypeGrammar.{enclosed, SpellsType}
-use Rattle.plir_read.specs.OpTerms.{Head, module_head, func_head, Header, Argument, BlockHead, OpTerm, op_term, constant_term, BlockTerms, no_blocks, block_before, OpTerms, no_ops, op_before, op_levels}
+use Rattle.plir_attr_text.specs.Tokens.{Token, word, sign}
+use Rattle.plir_attr_text.specs.AttrGrammar.{Spells, SpellsSeveral, SpellsEntries}
+use Rattle.plir_attr_text.specs.Terms.{TypeTerm, AttrTerm, EntryTerms, no_entries}
+use Rattle.plir_attr_text.specs.TypeGrammar.{enclosed, SpellsType}
+use Rattle.plir_read.specs.OpTerms.{Head, module_head, func_head, Header, Argument, BlockHead, OpTerm, op_term}
+use Rattle.plir_read.specs.OpTerms.{constant_term, BlockTerms, no_blocks, block_before, OpTerms, no_ops, op_before}
+use Rattle.plir_read.specs.OpTerms.{op_levels}
 
 -- `@name`
 abbrev pub symbol : List ℕ → List Token
@@ -14,23 +16,28 @@ symbol w = sign 64 ∷ word w ∷ []
 -- what stands before the dictionary
 abbrev pub SpellsHead : Head → List Token → Type 0
 SpellsHead (module_head w) ts = (is_identifier w ≡ true) × (ts ≡ word (codes "builtin.module") ∷ symbol w)
-SpellsHead (func_head w t) ts = (type : List Token) × (is_identifier w ≡ true) × SpellsType t type × (ts ≡ word (codes "builtin.func") ∷ (symbol w ++ sign 58 ∷ type))
+SpellsHead (func_head w t) ts = (type : List Token) × (is_identifier w ≡ true) × SpellsType t type ×
+    (ts ≡ word (codes "builtin.func") ∷ (symbol w ++ sign 58 ∷ type))
 
 -- `[key = ATTR, key = ATTR]`; nothing stands for a dictionary without entries too
 abbrev pub SpellsDictionary : EntryTerms → List Token → Type 0
-SpellsDictionary es ts = ((es ≡ no_entries) × (ts ≡ [])) ⊎ ((inner : List Token) × SpellsEntries es inner × (ts ≡ enclosed 91 inner 93))
+SpellsDictionary es ts = ((es ≡ no_entries) × (ts ≡ [])) ⊎
+    ((inner : List Token) × SpellsEntries es inner × (ts ≡ enclosed 91 inner 93))
 
 -- what stands before the body
 abbrev pub SpellsHeader : Header → List Token → Type 0
-SpellsHeader h ts = (head dictionary : List Token) × SpellsHead h.0 head × SpellsDictionary h.1 dictionary × (ts ≡ head ++ dictionary)
+SpellsHeader h ts = (head dictionary : List Token) × SpellsHead h.0 head × SpellsDictionary h.1 dictionary ×
+    (ts ≡ head ++ dictionary)
 
 -- `name: TYPE`
 abbrev pub SpellsArgument : Argument → List Token → Type 0
-SpellsArgument a ts = (type : List Token) × (is_identifier a.0 ≡ true) × SpellsType a.1 type × (ts ≡ word a.0 ∷ sign 58 ∷ type)
+SpellsArgument a ts = (type : List Token) × (is_identifier a.0 ≡ true) × SpellsType a.1 type ×
+    (ts ≡ word a.0 ∷ sign 58 ∷ type)
 
 -- `^name(argument, argument):`
 abbrev pub SpellsBlockHead : BlockHead → List Token → Type 0
-SpellsBlockHead b ts = (inner : List Token) × (is_identifier b.0 ≡ true) × SpellsSeveral SpellsArgument b.1 inner × (ts ≡ sign 94 ∷ word b.0 ∷ (enclosed 40 inner 41 ++ sign 58 ∷ []))
+SpellsBlockHead b ts = (inner : List Token) × (is_identifier b.0 ≡ true) × SpellsSeveral SpellsArgument b.1 inner ×
+    (ts ≡ sign 94 ∷ word b.0 ∷ (enclosed 40 inner 41 ++ sign 58 ∷ []))
 
 -- `<ATTR> : TYPE`
 abbrev pub typed_value : (attr type : List Token) → List Token
@@ -38,27 +45,32 @@ typed_value attr type = enclosed 60 attr 62 ++ sign 58 ∷ type
 
 -- `name = builtin.constant <ATTR> : TYPE`
 abbrev pub SpellsConstant : (name : List ℕ) → AttrTerm → TypeTerm → List Token → Type 0
-SpellsConstant w a t ts = (attr type : List Token) × (is_identifier w ≡ true) × Spells a attr × SpellsType t type × (ts ≡ word w ∷ sign 61 ∷ word (codes "builtin.constant") ∷ typed_value attr type)
+SpellsConstant w a t ts = (attr type : List Token) × (is_identifier w ≡ true) × Spells a attr × SpellsType t type ×
+    (ts ≡ word w ∷ sign 61 ∷ word (codes "builtin.constant") ∷ typed_value attr type)
 
 abbrev mutual
   pub SpellsOp : OpTerm → List Token → Type 0
-  SpellsOp (op_term h bs) ts = (header body : List Token) × SpellsHeader h header × SpellsBlocks bs body × (ts ≡ header ++ enclosed 123 body 125)
+  SpellsOp (op_term h bs) ts = (header body : List Token) × SpellsHeader h header × SpellsBlocks bs body ×
+      (ts ≡ header ++ enclosed 123 body 125)
   SpellsOp (constant_term w a t) ts = SpellsConstant w a t ts
 
   -- blocks, one behind another
   pub SpellsBlocks : BlockTerms → List Token → Type 0
   SpellsBlocks no_blocks ts = ts ≡ []
-  SpellsBlocks (block_before b os bs) ts = (head ops more : List Token) × SpellsBlockHead b head × SpellsOps os ops × SpellsBlocks bs more × (ts ≡ head ++ (ops ++ more))
+  SpellsBlocks (block_before b os bs) ts = (head ops more : List Token) × SpellsBlockHead b head × SpellsOps os ops ×
+      SpellsBlocks bs more × (ts ≡ head ++ (ops ++ more))
 
   -- operations with semicolons between them
   pub SpellsOps : OpTerms → List Token → Type 0
   SpellsOps no_ops ts = ts ≡ []
-  SpellsOps (op_before o os) ts = (first more : List Token) × SpellsOp o first × SpellsMoreOps os more × (ts ≡ first ++ more)
+  SpellsOps (op_before o os) ts = (first more : List Token) × SpellsOp o first × SpellsMoreOps os more ×
+      (ts ≡ first ++ more)
 
   -- a semicolon before each operation
   pub SpellsMoreOps : OpTerms → List Token → Type 0
   SpellsMoreOps no_ops ts = ts ≡ []
-  SpellsMoreOps (op_before o os) ts = (first more : List Token) × SpellsOp o first × SpellsMoreOps os more × (ts ≡ sign 59 ∷ (first ++ more))
+  SpellsMoreOps (op_before o os) ts = (first more : List Token) × SpellsOp o first × SpellsMoreOps os more ×
+      (ts ≡ sign 59 ∷ (first ++ more))
 
 -- an operation, with at most n levels open
 abbrev pub OpWithin : ℕ → OpTerm → List Token → Type 0

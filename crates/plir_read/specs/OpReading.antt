@@ -1,14 +1,17 @@
 -- Operations as they are read.
-use Rattle.std.specs.Prelude.{ℕ, zero, suc, List, [], ◌∷◌, length, Bool, true, false, ◌||◌, nat_eq, is_some, Option, Some, None, Result, Ok, Err, codes, if◌then◌else◌}
+use Rattle.std.specs.Prelude.{ℕ, zero, suc, List, [], ◌∷◌, length, Bool, true, false, ◌||◌, nat_eq, is_some, Option}
+use Rattle.std.specs.Prelude.{Some, None, Result, Ok, Err, codes, if◌then◌else◌}
 use Rattle.std.specs.Str.{bytes_eq}
-use Rattle.plir_text.specs.Steps.{◌>>=◌, read_as}
-use Rattle.plir_text.specs.Lists.{sign_at, past_sign, separator_at, more_at, unless_closed, items_at}
-use Rattle.plir_text.specs.Terms.{AttrTerm, TypeTerm, EntryTerms, no_entries, entries_of}
-use Rattle.plir_text.specs.TypeReading.{word_at, type_at}
-use Rattle.plir_text.specs.AttrReading.{name_at, entry_at, attr_at}
-use Rattle.plir_text.specs.declared.fault.Fault.{Fault}
-use Rattle.plir_text.specs.declared.fault.Fault.TheVariants.{Unexpected, TooDeep, ForwardRefOpExistenceErr, NResultsVerifyErr}
-use Rattle.plir_read.specs.OpTerms.{Head, module_head, func_head, Header, Argument, BlockHead, OpTerm, op_term, constant_term, BlockTerm, blocks_of}
+use Rattle.plir_attr_text.specs.Steps.{◌>>=◌, read_as}
+use Rattle.plir_attr_text.specs.Lists.{sign_at, past_sign, separator_at, more_at, unless_closed, items_at}
+use Rattle.plir_attr_text.specs.Terms.{AttrTerm, TypeTerm, EntryTerms, no_entries, entries_of}
+use Rattle.plir_attr_text.specs.TypeReading.{word_at, type_at}
+use Rattle.plir_attr_text.specs.AttrReading.{name_at, entry_at, attr_at}
+use Rattle.plir_attr_text.specs.declared.fault.Fault.{Fault}
+use Rattle.plir_attr_text.specs.declared.fault.Fault.TheVariants.{Unexpected, TooDeep, ForwardRefOpExistenceErr}
+use Rattle.plir_attr_text.specs.declared.fault.Fault.TheVariants.{NResultsVerifyErr}
+use Rattle.plir_read.specs.OpTerms.{Head, module_head, func_head, Header, Argument, BlockHead, OpTerm, op_term}
+use Rattle.plir_read.specs.OpTerms.{constant_term, BlockTerm, blocks_of}
 use Rattle.plir_read.specs.declared.heads.HeadKind.{HeadKind}
 use Rattle.plir_read.specs.declared.heads.HeadKind.TheVariants.{Bodied, Constant, ForwardRef}
 use Rattle.plir_read.specs.declared.heads.BodyKind.{BodyKind}
@@ -60,16 +63,19 @@ argument_at n bytes = name_at bytes >>= λ w. sign_at 58 w.1 >>= λ colon. type_
 
 -- `^name(argument, argument):`, with at most n levels in it
 unfoldable pub block_head_at : (n : ℕ) → List ℕ → Result (BlockHead × List ℕ) Fault
-block_head_at n bytes = sign_at 94 bytes >>= λ start. name_at start >>= λ w. items_at 40 41 (argument_at n) w.1 >>= λ as_. sign_at 58 as_.1 >>= λ end. Ok ((w.0, as_.0), end)
+block_head_at n bytes = sign_at 94 bytes >>= λ start. name_at start >>= λ w. items_at 40 41 (argument_at n) w.1 >>=
+    λ as_. sign_at 58 as_.1 >>= λ end. Ok ((w.0, as_.0), end)
 
 -- what stands behind an id up to the dictionary, with at most n levels in it
 unfoldable pub head_at : (n : ℕ) → BodyKind → List ℕ → Result (Head × List ℕ) Fault
 head_at n Module bytes = symbol_at bytes >>= λ w. Ok (module_head w.0, w.1)
-head_at n Func bytes = symbol_at bytes >>= λ w. sign_at 58 w.1 >>= λ colon. type_at n colon >>= λ t. Ok (func_head w.0 t.0, t.1)
+head_at n Func bytes = symbol_at bytes >>= λ w. sign_at 58 w.1 >>= λ colon. type_at n colon >>=
+    λ t. Ok (func_head w.0 t.0, t.1)
 
 -- a dictionary in brackets, if one comes next, with at most n levels in it
 unfoldable pub dictionary_at : (n : ℕ) → List ℕ → Result (EntryTerms × List ℕ) Fault
-dictionary_at n bytes = if is_some (past_sign 91 bytes) then read_as entries_of (items_at 91 93 (entry_at (attr_at n)) bytes) else Ok (no_entries, bytes)
+dictionary_at n bytes = if is_some (past_sign 91 bytes) then read_as entries_of
+    (items_at 91 93 (entry_at (attr_at n)) bytes) else Ok (no_entries, bytes)
 
 -- what stands behind an id up to the body, with at most n levels in it
 unfoldable pub header_at : (n : ℕ) → BodyKind → List ℕ → Result (Header × List ℕ) Fault
@@ -83,7 +89,8 @@ value_at n bytes = sign_at 60 bytes >>= λ start. attr_at n start >>= λ a. sign
 
 -- `<ATTR> : TYPE`, with at most n levels in it
 unfoldable pub constant_at : (n : ℕ) → List ℕ → Result ((AttrTerm × TypeTerm) × List ℕ) Fault
-constant_at n bytes = value_at n bytes >>= λ a. sign_at 58 a.1 >>= λ colon. type_at n colon >>= λ t. Ok ((a.0, t.0), t.1)
+constant_at n bytes = value_at n bytes >>= λ a. sign_at 58 a.1 >>= λ colon. type_at n colon >>=
+    λ t. Ok ((a.0, t.0), t.1)
 
 -- the same, where so many names stand before the id: a constant has one result
 unfoldable pub named_constant_at : (n names : ℕ) → List ℕ → Result ((AttrTerm × TypeTerm) × List ℕ) Fault
@@ -99,7 +106,8 @@ abbrev pub behind_semicolon : List ℕ → Option (List ℕ) → Bool × List �
 behind_semicolon bytes (Some rest) = (true, rest)
 behind_semicolon bytes None = (false, bytes)
 
--- what stands behind an operation: a semicolon, after which one more comes, or what stands behind the operations of a block
+-- what stands behind an operation: a semicolon, after which one more comes, or what stands behind the operations of a
+-- block
 unfoldable pub semicolon_at : List ℕ → Result (Bool × List ℕ) Fault
 semicolon_at bytes = Ok (behind_semicolon bytes (past_sign 59 bytes))
 
@@ -127,16 +135,21 @@ module _ (read : List ℕ → Result (OpTerm × List ℕ) Fault) where
 
   -- blocks in braces
   unfoldable pub blocks_at : (n : ℕ) → List ℕ → Result (List BlockTerm × List ℕ) Fault
-  blocks_at n bytes = sign_at 123 bytes >>= λ start. unless_closed (past_sign 125 start) (more_at brace_at (block_at n) (suc (length start)) start)
+  blocks_at n bytes = sign_at 123 bytes >>= λ start. unless_closed (past_sign 125 start)
+      (more_at brace_at (block_at n) (suc (length start)) start)
 
-  -- a module or a function behind its id, where so many names stand before that, with at most n levels in it: it has no result
+  -- a module or a function behind its id, where so many names stand before that, with at most n levels in it: it has no
+  -- result
   unfoldable pub bodied_at : (n : ℕ) → BodyKind → (names : ℕ) → List ℕ → Result (OpTerm × List ℕ) Fault
-  bodied_at n k names bytes = named 0 names >>= λ u. header_at n k bytes >>= λ h. blocks_at n h.1 >>= λ bs. Ok (op_term h.0 (blocks_of bs.0), bs.1)
+  bodied_at n k names bytes = named 0 names >>= λ u. header_at n k bytes >>= λ h. blocks_at n h.1 >>=
+      λ bs. Ok (op_term h.0 (blocks_of bs.0), bs.1)
 
-  -- An operation behind its id, with the names before that, and with at most n levels in it. A forward reference stands in no text.
+  -- An operation behind its id, with the names before that, and with at most n levels in it. A forward reference stands
+  -- in no text.
   abbrev pub behind_id : (n : ℕ) → (names : List (List ℕ)) → HeadKind → List ℕ → Result (OpTerm × List ℕ) Fault
   behind_id n ns (Bodied k) bytes = bodied_at n k (length ns) bytes
-  behind_id n ns Constant bytes = read_as (λ c. constant_term (first_name ns) c.0 c.1) (named_constant_at n (length ns) bytes)
+  behind_id n ns Constant bytes = read_as (λ c. constant_term (first_name ns) c.0 c.1)
+      (named_constant_at n (length ns) bytes)
   behind_id n ns ForwardRef bytes = Err ForwardRefOpExistenceErr
 
 -- an operation, with at most n levels open: a word that comes where no level is left begins one that is too deep

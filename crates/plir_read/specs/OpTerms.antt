@@ -1,6 +1,6 @@
 -- Operations as they are written.
 use Rattle.std.specs.Prelude.{ℕ, suc, max, List, [], ◌∷◌}
-use Rattle.plir_text.specs.Terms.{TypeTerm, type_levels, AttrTerm, levels, EntryTerms, entries_levels}
+use Rattle.plir_attr_text.specs.Terms.{TypeTerm, type_levels, AttrTerm, levels, EntryTerms, entries_levels}
 
 -- what stands before the dictionary
 pub data Head : Type 0 where

@@ -10,17 +10,20 @@ use Rattle.plir_core.specs.declared.ptr.IRNode.TheVariants.{Operation, Region, B
 use Rattle.plir_core.specs.Contents.{OpView, BlockView}
 use Rattle.plir_data.specs.AttrView.{AttrView}
 use Rattle.plir_core.specs.Store.{Store, kids, op_at, block_at}
-use Rattle.plir_text.specs.Meaning.{IsDictMeant}
-use Rattle.plir_text.specs.Names.{Names, NamesAll}
-use Rattle.plir_text.specs.Terms.{TypeTerm, AttrTerm}
-use Rattle.plir_text.specs.declared.fault.Fault.{Fault}
-use Rattle.plir_text.specs.declared.fault.Stop.{Stop}
-use Rattle.plir_text.specs.TypeGrammar.{IsText}
+use Rattle.plir_attr_text.specs.Meaning.{IsDictMeant}
+use Rattle.plir_attr_text.specs.Names.{Names, NamesAll}
+use Rattle.plir_attr_text.specs.Terms.{TypeTerm, AttrTerm}
+use Rattle.plir_attr_text.specs.declared.fault.Fault.{Fault}
+use Rattle.plir_attr_text.specs.declared.fault.Stop.{Stop}
+use Rattle.plir_attr_text.specs.TypeGrammar.{IsText}
 use Rattle.plir_read.specs.OpGrammar.{OpWithin}
-use Rattle.plir_read.specs.OpTerms.{Head, module_head, func_head, Header, BlockHead, OpTerm, op_term, constant_term, BlockTerms, no_blocks, block_before, OpTerms, no_ops, op_before, ops_of, blocks_of, BlockTerm}
+use Rattle.plir_read.specs.OpTerms.{Head, module_head, func_head, Header, BlockHead, OpTerm, op_term, constant_term}
+use Rattle.plir_read.specs.OpTerms.{BlockTerms, no_blocks, block_before, OpTerms, no_ops, op_before, ops_of, blocks_of}
+use Rattle.plir_read.specs.OpTerms.{BlockTerm}
 use Rattle.plir_read.specs.Room.{HasNoRoom}
 use Rattle.plir_read.specs.Stopping.{ReadsOnFirst}
-use Rattle.plir_read.specs.Heads.{module_op, func_op, result_names, IsConstant, constant_op, argument_types, written_block}
+use Rattle.plir_read.specs.Heads.{module_op, func_op, result_names, IsConstant, constant_op, argument_types}
+use Rattle.plir_read.specs.Heads.{written_block}
 
 module _ {K A T : Type 0} where
   -- what a node holds
@@ -44,28 +47,33 @@ module _ {K A T : Type 0} where
 
   -- a block holds what its head says
   abbrev pub IsBlockHeadAt : Store K A T → IRNode → BlockHead → Type 0
-  IsBlockHeadAt s n b = (handles : List ℕ) × NamesAll s.types handles (argument_types b.1) × HoldsBlock s n (written_block b handles)
+  IsBlockHeadAt s n b = (handles : List ℕ) × NamesAll s.types handles (argument_types b.1) ×
+      HoldsBlock s n (written_block b handles)
 
   -- a constant holds what is written, has these names for its result, and has no region
   abbrev pub IsConstantAt : Store K A T → IRNode → List (Option (List ℕ)) → AttrTerm × TypeTerm → Type 0
-  IsConstantAt s n names c = (value : AttrView A) × (handle : ℕ) × IsConstant s.types value handle c × HoldsOp s n (constant_op names value handle) × (kids s n ≡ [])
+  IsConstantAt s n names c = (value : AttrView A) × (handle : ℕ) × IsConstant s.types value handle c ×
+      HoldsOp s n (constant_op names value handle) × (kids s n ≡ [])
 
   abbrev mutual
-    -- The operation at n is the written one. A module or a function holds what the header says, and has one region, with the
-    -- written blocks.
+    -- The operation at n is the written one. A module or a function holds what the header says, and has one region,
+    -- with the written blocks.
     pub IsOpAt : Store K A T → IRNode → OpTerm → Type 0
-    IsOpAt s n (op_term h bs) = (region : IRNode) × IsHeaderAt s n h × (kids s n ≡ region ∷ []) × AreBlocksAt s (kids s region) bs
+    IsOpAt s n (op_term h bs) = (region : IRNode) × IsHeaderAt s n h × (kids s n ≡ region ∷ []) ×
+        AreBlocksAt s (kids s region) bs
     IsOpAt s n (constant_term w a t) = IsConstantAt s n (result_names (w ∷ [])) (a, t)
 
     -- the blocks ns are the written ones
     pub AreBlocksAt : Store K A T → List IRNode → BlockTerms → Type 0
     AreBlocksAt s ns no_blocks = ns ≡ []
-    AreBlocksAt s ns (block_before b os bs) = (first : IRNode) × (more : List IRNode) × (ns ≡ first ∷ more) × IsBlockHeadAt s first b × AreOpsAt s (kids s first) os × AreBlocksAt s more bs
+    AreBlocksAt s ns (block_before b os bs) = (first : IRNode) × (more : List IRNode) × (ns ≡ first ∷ more) ×
+        IsBlockHeadAt s first b × AreOpsAt s (kids s first) os × AreBlocksAt s more bs
 
     -- the operations ns are the written ones
     pub AreOpsAt : Store K A T → List IRNode → OpTerms → Type 0
     AreOpsAt s ns no_ops = ns ≡ []
-    AreOpsAt s ns (op_before o os) = (first : IRNode) × (more : List IRNode) × (ns ≡ first ∷ more) × IsOpAt s first o × AreOpsAt s more os
+    AreOpsAt s ns (op_before o os) = (first : IRNode) × (more : List IRNode) × (ns ≡ first ∷ more) × IsOpAt s first o ×
+        AreOpsAt s more os
 
   -- a block with its operations
   pub record IsBlockAt (s : Store K A T) (n : IRNode) (b : BlockTerm) : Type 0 where
@@ -80,13 +88,16 @@ module _ {K A T : Type 0} where
   HasOps s p os = AreOpsAt s (kids s (BasicBlock p)) (ops_of os)
 
   -- an operation, a block and a constant were read, and stand in the context at the pointer that is answered
-  abbrev pub ReadsOp : Store K A T → Result (Ptr OperationKind × Bor (List ℕ)) Stop → Result (OpTerm × List ℕ) Fault → Type 0
+  abbrev pub ReadsOp : Store K A T → Result (Ptr OperationKind × Bor (List ℕ)) Stop → Result (OpTerm × List ℕ) Fault →
+      Type 0
   ReadsOp s = ReadsOnFirst (HasNoRoom s) (λ p. IsOpAt s (Operation p))
 
-  abbrev pub ReadsBlock : Store K A T → Result (Ptr BlockKind × Bor (List ℕ)) Stop → Result (BlockTerm × List ℕ) Fault → Type 0
+  abbrev pub ReadsBlock : Store K A T → Result (Ptr BlockKind × Bor (List ℕ)) Stop →
+      Result (BlockTerm × List ℕ) Fault → Type 0
   ReadsBlock s = ReadsOnFirst (HasNoRoom s) (λ p. IsBlockAt s (BasicBlock p))
 
-  abbrev pub ReadsConstant : Store K A T → (names : List (Option (List ℕ))) → Result (Ptr OperationKind × Bor (List ℕ)) Stop → Result ((AttrTerm × TypeTerm) × List ℕ) Fault → Type 0
+  abbrev pub ReadsConstant : Store K A T → (names : List (Option (List ℕ))) →
+      Result (Ptr OperationKind × Bor (List ℕ)) Stop → Result ((AttrTerm × TypeTerm) × List ℕ) Fault → Type 0
   ReadsConstant s names = ReadsOnFirst (HasNoRoom s) (λ p. IsConstantAt s (Operation p) names)
 
   -- The whole text stands for the operation at n, with at most k levels open.

@@ -8,8 +8,8 @@ use Rattle.plir_core.specs.Store.{Store}
 abbrev pub AreSpent : {C : Type 0} → Table C → Type 0
 AreSpent t = 2 ^ 32 - 1 ≤ length t.slots
 
--- there is no room among nodes for an operation with its one region: there are too many for two more, or the slot numbers
--- of a kind are spent
+-- there is no room among nodes for an operation with its one region: there are too many for two more, or the slot
+-- numbers of a kind are spent
 abbrev pub IsCrowded : {O B : Type 0} → Nodes O B → Type 0
 IsCrowded s = (s.limit < num_nodes s + 2) ⊎ (AreSpent s.ops ⊎ (AreSpent s.regions ⊎ AreSpent s.blocks))
 

@@ -7,8 +7,8 @@ use Rattle.plir_core.specs.declared.ptr.IRNode.{IRNode}
 use Rattle.plir_core.specs.declared.ptr.IRNode.TheVariants.{Operation, Region, BasicBlock}
 use Rattle.plir_core.specs.Nodes.{Nodes, node_kids}
 
--- The slots of one kind of nodes, without the nodes: how many each has held, in order, and the numbers of those that are
--- free for use, the one freed last first.
+-- The slots of one kind of nodes, without the nodes: how many each has held, in order, and the numbers of those that
+-- are free for use, the one freed last first.
 pub record KindSlots : Type 0 where
   pub versions : List ℕ
   pub free : List ℕ
@@ -23,7 +23,12 @@ next_number s = slot_after (length s.versions) s.free
 
 -- the pointer to that node: to this slot, under the version that comes next there
 abbrev pub next_pointer : {X : Type 0} → KindSlots → Ptr X
-next_pointer s = record { slot = next_number s; version = slice_index_or s.versions (next_number s) 0 + 1; kind = record {} }
+next_pointer s = record {
+  slot = next_number s;
+  version = slice_index_or s.versions (next_number s) 0 + 1;
+  kind =
+      record {};
+}
 
 -- the slots with one node more, where these are free
 abbrev pub with_next_in : (versions free : List ℕ) → KindSlots
@@ -66,13 +71,13 @@ module _ {O B : Type 0} where
   abbrev pub node_slots : Nodes O B → NodeSlots
   node_slots s = record { ops = kind_slots s.ops; regions = kind_slots s.regions; blocks = kind_slots s.blocks }
 
-  -- From s to t exactly these nodes were given out, in this order, each in the next slot of its kind. Of links and of what
-  -- nodes hold nothing is said.
+  -- From s to t exactly these nodes were given out, in this order, each in the next slot of its kind. Of links and of
+  -- what nodes hold nothing is said.
   abbrev pub AreGivenOut : (s : Nodes O B) → List IRNode → (t : Nodes O B) → Type 0
   AreGivenOut s ns t = AreNext (node_slots s) ns (node_slots t)
 
-  -- The nodes of the tree at n in the order of their first characters in a text, to more levels than there may be nodes: an
-  -- operation, its region, which begins with a brace, and each block with its operations behind it.
+  -- The nodes of the tree at n in the order of their first characters in a text, to more levels than there may be
+  -- nodes: an operation, its region, which begins with a brace, and each block with its operations behind it.
   abbrev pub tree_in_order : Nodes O B → IRNode → List IRNode
   tree_in_order s n = pre_order (node_kids s) (suc s.limit) n
 

@@ -1,8 +1,9 @@
 -- Names in texts. A name is printed with a suffix that says where its bearer stands, and read without it.
-use Rattle.std.specs.Prelude.{ℕ, List, [], ◌∷◌, length, take, drop, Bool, true, false, ◌&&◌, nat_eq, if◌then◌else◌, Option, Some, None, option_map, option_and_then, codes}
+use Rattle.std.specs.Prelude.{ℕ, List, [], ◌∷◌, length, take, drop, Bool, true, false, ◌&&◌, nat_eq, if◌then◌else◌}
+use Rattle.std.specs.Prelude.{Option, Some, None, option_map, option_and_then, codes}
 use Rattle.std.specs.Str.{bytes_eq}
 use Rattle.plir_data.specs.Identifier.{is_digit}
-use Rattle.plir_text.specs.Bytes.{begins, past}
+use Rattle.plir_attr_text.specs.Bytes.{begins, past}
 use Rattle.plir_read.specs.declared.names.Suffix.{Suffix}
 use Rattle.plir_read.specs.declared.names.Suffix.TheVariants.{Block, Argument, OpResult}
 
@@ -45,7 +46,8 @@ is_joined_suffix kind (b ∷ bs) = nat_eq b 95 && is_suffix kind bs
 -- what stands before `_` and a suffix
 abbrev pub before_suffix : Suffix → List ℕ → Option (List ℕ)
 before_suffix kind [] = None
-before_suffix kind (b ∷ bs) = if is_joined_suffix kind (b ∷ bs) then Some [] else option_map (λ w. b ∷ w) (before_suffix kind bs)
+before_suffix kind (b ∷ bs) = if is_joined_suffix kind (b ∷ bs) then Some [] else option_map (λ w. b ∷ w)
+    (before_suffix kind bs)
 
 abbrev pub unless_empty : List ℕ → Option (List ℕ)
 unless_empty [] = None

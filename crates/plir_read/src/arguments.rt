@@ -1,19 +1,19 @@
 //! Heads of blocks.
-ghost use Rattle.plir_text.specs.Lists.{items_at};
-ghost use Rattle.plir_text.specs.Names.{AreNamed, Grows};
-ghost use Rattle.plir_text.specs.Parts.{IsPartOf};
-ghost use Rattle.plir_text.specs.Reading.{ReadsFirst};
+ghost use Rattle.plir_attr_text.specs.Lists.{items_at};
+ghost use Rattle.plir_attr_text.specs.Names.{AreNamed, Grows};
+ghost use Rattle.plir_attr_text.specs.Parts.{IsPartOf};
+ghost use Rattle.plir_attr_text.specs.Reading.{ReadsFirst};
 ghost use Rattle.plir_read.specs.Heads.{AreArguments, IsArgument, IsBlockHead};
 ghost use Rattle.plir_read.specs.HeldTypes.{IsHeldByArgument, IsHeldByBlockHead, HoldsNew};
 ghost use Rattle.plir_read.specs.OpReading.{argument_at, block_head_at};
 ghost use Rattle.plir_read.specs.TextTypes.{IsInText};
 
 use crate::names::{Suffix, given_name};
+use plir_attr_text::attr_words::read_name;
+use plir_attr_text::fault::Stop;
+use plir_attr_text::types::read_type_at;
+use plir_attr_text::words::{past_sign, read_separator, read_sign};
 use plir_data::{Identifier, OpSet, TypeHandle, TypeStore};
-use plir_text::attr_words::read_name;
-use plir_text::fault::Stop;
-use plir_text::types::read_type_at;
-use plir_text::words::{past_sign, read_separator, read_sign};
 use std::alloc::Global;
 
 // The types of arguments, and their names.
@@ -41,7 +41,8 @@ fn read_argument<'a, D: OpSet, C: TypeStore<D>>(
     ensures read { ReadsFirst (IsArgument (C.types ctx.new)) result (argument_at levels bytes.now) }
     ensures grown { Grows (C.types ctx.old) (C.types ctx.new) }
     ensures named { AreNamed (IsInText bytes.now) (C.types ctx.old) (C.types ctx.new) }
-    ensures held { HoldsNew (λ t a. IsPartOf t a.1) result (argument_at levels bytes.now) (C.types ctx.old) (C.types ctx.new) }
+    ensures held { HoldsNew (λ t a. IsPartOf t a.1) result (argument_at levels bytes.now) (C.types ctx.old)
+        (C.types ctx.new) }
     ensures rest { C.same_besides ctx.old ctx.new }
 {
     let (name, rest) = read_name(alloc, bytes)?;
@@ -65,7 +66,8 @@ fn read_arguments<'a, D: OpSet, C: TypeStore<D>>(
     ensures read { ReadsFirst (AreArguments (C.types ctx.new)) result (items_at 40 41 (argument_at levels) bytes.now) }
     ensures grown { Grows (C.types ctx.old) (C.types ctx.new) }
     ensures named { AreNamed (IsInText bytes.now) (C.types ctx.old) (C.types ctx.new) }
-    ensures held { HoldsNew IsHeldByArgument result (items_at 40 41 (argument_at levels) bytes.now) (C.types ctx.old) (C.types ctx.new) }
+    ensures held { HoldsNew IsHeldByArgument result (items_at 40 41 (argument_at levels) bytes.now) (C.types ctx.old)
+        (C.types ctx.new) }
     ensures rest { C.same_besides ctx.old ctx.new }
 {
     let start = read_sign(bytes, b'(')?;
@@ -102,7 +104,8 @@ pub fn read_block_head<'a, D: OpSet, C: TypeStore<D>>(
     ensures read { ReadsFirst (IsBlockHead (C.types ctx.new)) result (block_head_at levels bytes.now) }
     ensures grown { Grows (C.types ctx.old) (C.types ctx.new) }
     ensures named { AreNamed (IsInText bytes.now) (C.types ctx.old) (C.types ctx.new) }
-    ensures held { HoldsNew IsHeldByBlockHead result (block_head_at levels bytes.now) (C.types ctx.old) (C.types ctx.new) }
+    ensures held { HoldsNew IsHeldByBlockHead result (block_head_at levels bytes.now) (C.types ctx.old)
+        (C.types ctx.new) }
     ensures rest { C.same_besides ctx.old ctx.new }
 {
     let start = read_sign(bytes, b'^')?;

@@ -4,10 +4,10 @@ ghost use Rattle.plir_data.specs.AttrSeen.{attr_view};
 ghost use Rattle.plir_core.specs.Made.{IsMade};
 ghost use Rattle.plir_core.specs.Whole.{IsWhole};
 ghost use Rattle.plir_core.specs.declared.ptr.IRNode.{IRNode};
-ghost use Rattle.plir_text.specs.MeantBy.{IsMeantBy};
-ghost use Rattle.plir_text.specs.Names.{AreNamed, Grows};
-ghost use Rattle.plir_text.specs.Parts.{IsHeldBy};
-ghost use Rattle.plir_text.specs.Reading.{ReadsFirst};
+ghost use Rattle.plir_attr_text.specs.MeantBy.{IsMeantBy};
+ghost use Rattle.plir_attr_text.specs.Names.{AreNamed, Grows};
+ghost use Rattle.plir_attr_text.specs.Parts.{IsHeldBy};
+ghost use Rattle.plir_attr_text.specs.Reading.{ReadsFirst};
 ghost use Rattle.plir_read.specs.Heads.{IsConstant};
 ghost use Rattle.plir_read.specs.HeldTypes.{IsHeldByConstant, HoldsNew};
 ghost use Rattle.plir_read.specs.Keeping.{KeepsOlder};
@@ -18,12 +18,12 @@ ghost use Rattle.plir_read.specs.TextTypes.{IsInText};
 
 use crate::making::make_constant;
 use crate::openings::expect_names;
+use plir_attr_text::attrs::read_attr_at;
+use plir_attr_text::fault::Stop;
+use plir_attr_text::types::read_type_at;
+use plir_attr_text::words::read_sign;
 use plir_core::{Context, Operation, Ptr};
 use plir_data::{AttrObj, Identifier, OpSet, TypeHandle, TypeStore};
-use plir_text::attrs::read_attr_at;
-use plir_text::fault::Stop;
-use plir_text::types::read_type_at;
-use plir_text::words::read_sign;
 use std::alloc::Global;
 
 // A constant's value, and the type of its result.
@@ -65,7 +65,8 @@ fn read_typed_value<'a, D: OpSet, C: TypeStore<D>>(
     levels: usize,
     bytes: &'a [u8],
 ) -> Result<(ConstantData<D>, &'a [u8]), Stop>
-    ensures read { ReadsFirst (λ x. IsConstant (C.types ctx.new) (attr_view x.value) x.ty) result (constant_at levels bytes.now) }
+    ensures read { ReadsFirst (λ x. IsConstant (C.types ctx.new) (attr_view x.value) x.ty) result
+        (constant_at levels bytes.now) }
     ensures grown { Grows (C.types ctx.old) (C.types ctx.new) }
     ensures named { AreNamed (IsInText bytes.now) (C.types ctx.old) (C.types ctx.new) }
     ensures held { HoldsNew IsHeldByConstant result (constant_at levels bytes.now) (C.types ctx.old) (C.types ctx.new) }
@@ -100,7 +101,8 @@ pub fn read_constant<'a, D: OpSet>(
     ensures slots { IfOk result (λ x. IsMadeInOrder ctx.old.nodes ctx.new.nodes (IRNode.Operation x.0)) }
     ensures kept { KeepsOlder ctx.old ctx.new }
     ensures named { AreNamed (IsInText bytes.now) ctx.old.types ctx.new.types }
-    ensures held { HoldsNew IsHeldByConstant result (named_constant_at levels (length names.items) bytes.now) ctx.old.types ctx.new.types }
+    ensures held { HoldsNew IsHeldByConstant result (named_constant_at levels (length names.items) bytes.now)
+        ctx.old.types ctx.new.types }
     ensures whole { IsWhole D.attr_handles ctx.new }
 {
     ctx.stands();

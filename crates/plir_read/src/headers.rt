@@ -1,18 +1,18 @@
 //! Headers with their dictionaries.
-ghost use Rattle.plir_text.specs.Meaning.{IsDictMeant};
-ghost use Rattle.plir_text.specs.Names.{AreNamed, Grows};
-ghost use Rattle.plir_text.specs.Parts.{IsHeldByEntry};
-ghost use Rattle.plir_text.specs.Reading.{ReadsFirst};
+ghost use Rattle.plir_attr_text.specs.Meaning.{IsDictMeant};
+ghost use Rattle.plir_attr_text.specs.Names.{AreNamed, Grows};
+ghost use Rattle.plir_attr_text.specs.Parts.{IsHeldByEntry};
+ghost use Rattle.plir_attr_text.specs.Reading.{ReadsFirst};
 ghost use Rattle.plir_read.specs.Heads.{IsHeader};
 ghost use Rattle.plir_read.specs.HeldTypes.{IsHeldByHeader, HoldsNew};
 ghost use Rattle.plir_read.specs.OpReading.{dictionary_at, header_at};
 ghost use Rattle.plir_read.specs.TextTypes.{IsInText};
 
 use crate::heads::{BodyKind, HeadData, read_head};
+use plir_attr_text::attrs::read_entries;
+use plir_attr_text::fault::Stop;
+use plir_attr_text::words::past_sign;
 use plir_data::{AttributeDict, OpSet, TypeStore};
-use plir_text::attrs::read_entries;
-use plir_text::fault::Stop;
-use plir_text::words::past_sign;
 use std::alloc::Global;
 
 // A header: what stands before the dictionary, and the entries of that.
@@ -54,7 +54,8 @@ pub fn read_header<'a, D: OpSet, C: TypeStore<D>>(
     kind: BodyKind,
     bytes: &'a [u8],
 ) -> Result<(HeaderData<D>, &'a [u8]), Stop>
-    ensures read { ReadsFirst (λ x. IsHeader (C.types ctx.new) x.head x.entries) result (header_at levels kind bytes.now) }
+    ensures read { ReadsFirst (λ x. IsHeader (C.types ctx.new) x.head x.entries) result
+        (header_at levels kind bytes.now) }
     ensures grown { Grows (C.types ctx.old) (C.types ctx.new) }
     ensures named { AreNamed (IsInText bytes.now) (C.types ctx.old) (C.types ctx.new) }
     ensures held { HoldsNew IsHeldByHeader result (header_at levels kind bytes.now) (C.types ctx.old) (C.types ctx.new) }

@@ -1,19 +1,19 @@
 //! Headers of operations and blocks.
 ghost use Rattle.std.specs.Prelude.{◌≡◌, Ok};
-ghost use Rattle.plir_text.specs.Names.{AreNamed, Grows};
-ghost use Rattle.plir_text.specs.Reading.{ReadsFirst, Gives};
+ghost use Rattle.plir_attr_text.specs.Names.{AreNamed, Grows};
+ghost use Rattle.plir_attr_text.specs.Reading.{ReadsFirst, Gives};
 ghost use Rattle.plir_read.specs.Heads.{IsHead};
 ghost use Rattle.plir_read.specs.HeldTypes.{IsHeldByHead, HoldsNew};
 ghost use Rattle.plir_read.specs.OpReading.{op_kind, op_id, symbol_at, head_at, ends_block, semicolon_at, brace_at};
 ghost use Rattle.plir_read.specs.TextTypes.{IsInText};
 
+use plir_attr_text::Fault;
+use plir_attr_text::attr_words::read_name;
+use plir_attr_text::fault::Stop;
+use plir_attr_text::tokens::{left_at, unread_id_at};
+use plir_attr_text::types::read_type_at;
+use plir_attr_text::words::{past_sign, read_sign, read_word};
 use plir_data::{Identifier, OpSet, TypeHandle, TypeStore};
-use plir_text::Fault;
-use plir_text::attr_words::read_name;
-use plir_text::fault::Stop;
-use plir_text::tokens::{left_at, unread_id_at};
-use plir_text::types::read_type_at;
-use plir_text::words::{past_sign, read_sign, read_word};
 use std::alloc::Global;
 
 // Operations with a header and a body.

@@ -24,13 +24,13 @@ use crate::arguments::{Arguments, BlockHeadData};
 use crate::constants::ConstantData;
 use crate::headers::HeaderData;
 use crate::heads::HeadData;
+use plir_attr_text::fault::Stop;
 use plir_core::laws::block_edits_keep_the_rest;
 use plir_core::{BasicBlock, Context, NodeErr, Operation, Ptr, Region};
 use plir_data::{
     AttrObj, AttributeDict, GivenNamesAttr, Identifier, IdentifierAttr, Memory, OpKind, OpSet,
     TypeAttr, TypeHandle,
 };
-use plir_text::fault::Stop;
 use std::alloc::Global;
 
 const ATTR_KEY_SYM_NAME: &'static str = "builtin_sym_name";
@@ -79,7 +79,8 @@ fn named<D: OpSet>(
     name: Identifier,
 ) -> Result<AttributeDict<D>, Stop>
     ensures value { IfOk result (λ es. es ≡ module_attributes name entries) }
-    ensures live { IfOk result (λ es. (types : List (TypeView D.Ty)) → HandlesLive D.attr_handles types entries → HandlesLive D.attr_handles types es) }
+    ensures live { IfOk result (λ es. (types : List (TypeView D.Ty)) → HandlesLive D.attr_handles types entries →
+        HandlesLive D.attr_handles types es) }
     ensures refused { IfErr result (IsRefusal ⊥) }
 {
     let mut attributes = entries;
@@ -96,7 +97,8 @@ fn named_and_typed<D: OpSet>(
     ty: TypeHandle,
 ) -> Result<AttributeDict<D>, Stop>
     ensures value { IfOk result (λ es. es ≡ func_attributes name ty entries) }
-    ensures live { IfOk result (λ es. (types : List (TypeView D.Ty)) → IsTypeLive types ty → HandlesLive D.attr_handles types entries → HandlesLive D.attr_handles types es) }
+    ensures live { IfOk result (λ es. (types : List (TypeView D.Ty)) → IsTypeLive types ty →
+        HandlesLive D.attr_handles types entries → HandlesLive D.attr_handles types es) }
     ensures refused { IfErr result (IsRefusal ⊥) }
 {
     let mut attributes = named(alloc, entries, name)?;
@@ -114,7 +116,8 @@ fn make_with<D: OpSet>(
 ) -> Result<(Ptr<Operation>, Ptr<Region>), Stop>
     requires { HandlesLive D.attr_handles ctx.old.types attributes }
     ensures made { IfOk result (λ x. IsNewOp ctx.old ctx.new x.0 x.1 (op_view kind [] [] [] attributes)) }
-    ensures slots { IfOk result (λ x. AreGivenOut ctx.old.nodes (IRNode.Operation x.0 ∷ IRNode.Region x.1 ∷ []) ctx.new.nodes) }
+    ensures slots { IfOk result (λ x. AreGivenOut ctx.old.nodes (IRNode.Operation x.0 ∷ IRNode.Region x.1 ∷ [])
+        ctx.new.nodes) }
     ensures kept { OnErr result (KeepsOlder ctx.old ctx.new) }
     ensures types { OnErr result (ctx.new.types ≡ ctx.old.types) }
     ensures refused { IfErr result (IsRefusal (HasNoRoom ctx.new)) }
@@ -142,7 +145,8 @@ pub fn make_op<D: OpSet>(
     requires head_live { IsHeadLive ctx.old.types header.head }
     requires entries_live { HandlesLive D.attr_handles ctx.old.types header.entries }
     ensures made { IfOk result (λ x. IsNewOp ctx.old ctx.new x.0 x.1 (op_with header.head header.entries)) }
-    ensures slots { IfOk result (λ x. AreGivenOut ctx.old.nodes (IRNode.Operation x.0 ∷ IRNode.Region x.1 ∷ []) ctx.new.nodes) }
+    ensures slots { IfOk result (λ x. AreGivenOut ctx.old.nodes (IRNode.Operation x.0 ∷ IRNode.Region x.1 ∷ [])
+        ctx.new.nodes) }
     ensures kept { OnErr result (KeepsOlder ctx.old ctx.new) }
     ensures types { OnErr result (ctx.new.types ≡ ctx.old.types) }
     ensures refused { IfErr result (IsRefusal (HasNoRoom ctx.new)) }
@@ -176,7 +180,8 @@ fn named_and_valued<D: OpSet>(
     value: AttrObj<D>,
 ) -> Result<AttributeDict<D>, Stop>
     ensures value { IfOk result (λ es. es ≡ constant_attributes names.items (attr_view value)) }
-    ensures live { IfOk result (λ es. (types : List (TypeView D.Ty)) → IsAttrLive D.attr_handles types (attr_view value) → HandlesLive D.attr_handles types es) }
+    ensures live { IfOk result (λ es. (types : List (TypeView D.Ty)) →
+        IsAttrLive D.attr_handles types (attr_view value) → HandlesLive D.attr_handles types es) }
     ensures refused { IfErr result (IsRefusal ⊥) }
 {
     let mut attributes = AttributeDict::new(alloc);
@@ -209,7 +214,8 @@ pub fn make_constant<D: OpSet>(
 ) -> Result<Ptr<Operation>, Stop>
     requires value_live { IsAttrLive D.attr_handles ctx.old.types (attr_view constant.value) }
     requires type_live { IsTypeLive ctx.old.types constant.ty }
-    ensures made { IfOk result (λ p. IsNewLeaf ctx.old ctx.new p (constant_op names.items (attr_view constant.value) constant.ty)) }
+    ensures made { IfOk result (λ p. IsNewLeaf ctx.old ctx.new p
+        (constant_op names.items (attr_view constant.value) constant.ty)) }
     ensures slots { IfOk result (λ p. AreGivenOut ctx.old.nodes (IRNode.Operation p ∷ []) ctx.new.nodes) }
     ensures kept { OnErr result (KeepsOlder ctx.old ctx.new) }
     ensures types { OnErr result (ctx.new.types ≡ ctx.old.types) }
@@ -244,7 +250,8 @@ fn put_names<D: OpSet>(
     names: Vec<Option<Identifier>>,
 ) -> Result<(), Stop>
     requires { IsLive ctx.old (IRNode.BasicBlock block) }
-    ensures put { OnOk result (ctx.new ≡ with_block_edit ctx.old block (λ b. record b { attributes = dict_put b.attributes names_key (leaf (given_names names.items)) })) }
+    ensures put { OnOk result (ctx.new ≡ with_block_edit ctx.old block
+        (λ b. record b { attributes = dict_put b.attributes names_key (leaf (given_names names.items)) })) }
     ensures same { OnErr result (ctx.new ≡ ctx.old) }
     ensures refused { IfErr result (IsRefusal ⊥) }
     ensures whole { IsWhole D.attr_handles ctx.new }

@@ -1,13 +1,13 @@
 //! Names in texts, and the suffixes that they are printed with.
 ghost use Rattle.std.specs.Prelude.{◌≡◌, IfErr, IfOk, option_map};
-ghost use Rattle.plir_text.specs.declared.fault.Stop.TheVariants.{Wanting};
+ghost use Rattle.plir_attr_text.specs.declared.fault.Stop.TheVariants.{Wanting};
 ghost use Rattle.plir_read.specs.Suffixes.{behind_letters, behind_digits, behind_number, behind_pointer, behind_place};
 ghost use Rattle.plir_read.specs.Suffixes.{is_nothing, is_suffix, is_joined_suffix, before_suffix, given_name};
 
+use plir_attr_text::attr_words::identifier_of;
+use plir_attr_text::fault::Stop;
+use plir_attr_text::tokens::{begins_digit, past_digits};
 use plir_data::Identifier;
-use plir_text::attr_words::identifier_of;
-use plir_text::fault::Stop;
-use plir_text::tokens::{begins_digit, past_digits};
 use std::alloc::Global;
 
 // Whose name has a suffix.

@@ -1,17 +1,17 @@
 //! What an operation begins with: names of its results, and its id.
 ghost use Rattle.std.specs.Prelude.{◌≡◌, length};
-ghost use Rattle.plir_text.specs.Reading.{ReadsFirst, Gives};
+ghost use Rattle.plir_attr_text.specs.Reading.{ReadsFirst, Gives};
 ghost use Rattle.plir_read.specs.Heads.{IsOpening, result_names};
 ghost use Rattle.plir_read.specs.OpReading.{names_at, names_before, start_at, named};
 
 use crate::heads::{HeadKind, read_op_id};
 use crate::names::{Suffix, given_name};
+use plir_attr_text::Fault;
+use plir_attr_text::attr_words::read_name;
+use plir_attr_text::fault::Stop;
+use plir_attr_text::tokens::left_at;
+use plir_attr_text::words::read_separator;
 use plir_data::Identifier;
-use plir_text::Fault;
-use plir_text::attr_words::read_name;
-use plir_text::fault::Stop;
-use plir_text::tokens::left_at;
-use plir_text::words::read_separator;
 use std::alloc::Global;
 
 // Names that are given to results, and what the id behind them names, with this many bytes left where the id stands.

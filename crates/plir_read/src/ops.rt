@@ -5,7 +5,7 @@ ghost use Rattle.plir_core.specs.Made.{IsMade};
 ghost use Rattle.plir_core.specs.Store.{IsLive, kids};
 ghost use Rattle.plir_core.specs.Whole.{IsWhole};
 ghost use Rattle.plir_core.specs.declared.ptr.IRNode.{IRNode};
-ghost use Rattle.plir_text.specs.Names.{AreNamed};
+ghost use Rattle.plir_attr_text.specs.Names.{AreNamed};
 ghost use Rattle.plir_read.specs.HeldTypes.{IsHeldByBlock, IsHeldByBlocks, IsHeldByOp, IsHeldByOps, HoldsNew};
 ghost use Rattle.plir_read.specs.Keeping.{KeepsBut, KeepsOlder};
 ghost use Rattle.plir_read.specs.OpReading.{op_at, bodied_at, ops_at, block_at, blocks_at};
@@ -22,12 +22,12 @@ use crate::headers::read_header;
 use crate::heads::{BodyKind, HeadKind, ends_block, past_brace, past_semicolon};
 use crate::making::{make_block, make_op};
 use crate::openings::{Opening, expect_names, read_opening};
+use plir_attr_text::Fault;
+use plir_attr_text::fault::Stop;
+use plir_attr_text::words::{begin_level, past_sign, read_sign};
 use plir_core::laws::{contexts_stand, growth};
 use plir_core::{BasicBlock, Context, Operation, Ptr, Region};
 use plir_data::OpSet;
-use plir_text::Fault;
-use plir_text::fault::Stop;
-use plir_text::words::{begin_level, past_sign, read_sign};
 use std::alloc::Global;
 
 // The operations of a block that has none.
@@ -46,7 +46,8 @@ fn read_ops<'a, D: OpSet>(
     ensures slots { IfOk result (λ x. IsGrownInOrder ctx.old.nodes ctx.new.nodes (IRNode.BasicBlock block)) }
     ensures kept { KeepsBut ctx.old ctx.new (Some (IRNode.BasicBlock block)) }
     ensures named { AreNamed (IsInText bytes.now) ctx.old.types ctx.new.types }
-    ensures held { HoldsNew (λ t os. IsHeldByOps t (ops_of os)) result (ops_at (op_at levels) bytes.now) ctx.old.types ctx.new.types }
+    ensures held { HoldsNew (λ t os. IsHeldByOps t (ops_of os)) result (ops_at (op_at levels) bytes.now) ctx.old.types
+        ctx.new.types }
     ensures whole { IsWhole D.attr_handles ctx.new }
 {
     contexts_stand::<D>();
@@ -112,12 +113,14 @@ fn read_body<'a, D: OpSet>(
 ) -> Result<&'a [u8], Stop>
     requires live { IsLive ctx.old (IRNode.Region region) }
     requires empty { kids ctx.old (IRNode.Region region) ≡ [] }
-    ensures read { ReadsOnPast (HasNoRoom ctx.new) (HasBlocks ctx.new region) result (blocks_at (op_at levels) levels bytes.now) }
+    ensures read { ReadsOnPast (HasNoRoom ctx.new) (HasBlocks ctx.new region) result
+        (blocks_at (op_at levels) levels bytes.now) }
     ensures grown { IfOk result (λ x. IsGrown ctx.old.nodes ctx.new.nodes (IRNode.Region region)) }
     ensures slots { IfOk result (λ x. IsGrownInOrder ctx.old.nodes ctx.new.nodes (IRNode.Region region)) }
     ensures kept { KeepsBut ctx.old ctx.new (Some (IRNode.Region region)) }
     ensures named { AreNamed (IsInText bytes.now) ctx.old.types ctx.new.types }
-    ensures held { HoldsNew (λ t bs. IsHeldByBlocks t (blocks_of bs)) result (blocks_at (op_at levels) levels bytes.now) ctx.old.types ctx.new.types }
+    ensures held { HoldsNew (λ t bs. IsHeldByBlocks t (blocks_of bs)) result
+        (blocks_at (op_at levels) levels bytes.now) ctx.old.types ctx.new.types }
     ensures whole { IsWhole D.attr_handles ctx.new }
 {
     contexts_stand::<D>();
@@ -161,7 +164,8 @@ fn read_bodied<'a, D: OpSet>(
     ensures slots { IfOk result (λ x. IsMadeInOrder ctx.old.nodes ctx.new.nodes (IRNode.Operation x.0)) }
     ensures kept { KeepsOlder ctx.old ctx.new }
     ensures named { AreNamed (IsInText bytes.now) ctx.old.types ctx.new.types }
-    ensures held { HoldsNew IsHeldByOp result (bodied_at (op_at levels) levels kind names bytes.now) ctx.old.types ctx.new.types }
+    ensures held { HoldsNew IsHeldByOp result (bodied_at (op_at levels) levels kind names bytes.now) ctx.old.types
+        ctx.new.types }
     ensures whole { IsWhole D.attr_handles ctx.new }
 {
     contexts_stand::<D>();

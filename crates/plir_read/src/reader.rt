@@ -3,10 +3,10 @@ ghost use Rattle.std.specs.Prelude.{◌≡◌, Ok, Err, IfOk, IfErr};
 ghost use Rattle.plir_core.specs.Made.{IsMade};
 ghost use Rattle.plir_core.specs.Whole.{IsWhole};
 ghost use Rattle.plir_core.specs.declared.ptr.IRNode.{IRNode};
-ghost use Rattle.plir_text.specs.Names.{AreNamed};
-ghost use Rattle.plir_text.specs.Reading.{TellsNoPlace};
-ghost use Rattle.plir_text.specs.TypeGrammar.{IsText};
-ghost use Rattle.plir_text.specs.Wholes.{whole};
+ghost use Rattle.plir_attr_text.specs.Names.{AreNamed};
+ghost use Rattle.plir_attr_text.specs.Reading.{TellsNoPlace};
+ghost use Rattle.plir_attr_text.specs.TypeGrammar.{IsText};
+ghost use Rattle.plir_attr_text.specs.Wholes.{whole};
 ghost use Rattle.plir_read.specs.HeldTypes.{IsHeldByOp};
 ghost use Rattle.plir_read.specs.Keeping.{KeepsOlder};
 ghost use Rattle.plir_read.specs.OpGrammar.{OpWithin};
@@ -19,26 +19,28 @@ ghost use Rattle.plir_read.specs.Stopping.{ReadsOn, IsOfText};
 ghost use Rattle.plir_read.specs.TextTypes.{IsInText};
 
 use crate::ops::read_op_at;
+use plir_attr_text::fault::Stop;
+use plir_attr_text::place::{placed, read_end};
+use plir_attr_text::read_types::MAX_LEVELS;
+use plir_attr_text::{Fault, ReadErr};
 use plir_core::{Context, Operation, Ptr};
 use plir_data::OpSet;
-use plir_text::fault::Stop;
-use plir_text::place::{placed, read_end};
-use plir_text::read_types::MAX_LEVELS;
-use plir_text::{Fault, ReadErr};
 use std::alloc::Global;
 
-#[tactic(auto, unfolding(plir_text::specs::Wholes::whole))]
+#[tactic(auto, unfolding(plir_attr_text::specs::Wholes::whole))]
 fn whole_op<D: OpSet>(
     alloc: Global,
     ctx: &mut Context<D>,
     bytes: &[u8],
 ) -> Result<Ptr<Operation>, Stop>
-    ensures read { ReadsOn (HasNoRoom ctx.new) (λ p w. IsOpAt ctx.new (IRNode.Operation p) w) result (whole (op_at 200) bytes.now) }
+    ensures read { ReadsOn (HasNoRoom ctx.new) (λ p w. IsOpAt ctx.new (IRNode.Operation p) w) result
+        (whole (op_at 200) bytes.now) }
     ensures made { IfOk result (λ p. IsMade ctx.old.nodes ctx.new.nodes (IRNode.Operation p)) }
     ensures slots { IfOk result (λ p. IsMadeInOrder ctx.old.nodes ctx.new.nodes (IRNode.Operation p)) }
     ensures kept { KeepsOlder ctx.old ctx.new }
     ensures named { AreNamed (IsInText bytes.now) ctx.old.types ctx.new.types }
-    ensures held { IfOk result (λ p. (w : OpTerm) → whole (op_at 200) bytes.now ≡ Ok w → AreNamed (λ t. IsHeldByOp t w) ctx.old.types ctx.new.types) }
+    ensures held { IfOk result (λ p. (w : OpTerm) → whole (op_at 200) bytes.now ≡ Ok w →
+        AreNamed (λ t. IsHeldByOp t w) ctx.old.types ctx.new.types) }
     ensures whole { IsWhole D.attr_handles ctx.new }
 {
     let (op, rest) = match read_op_at(alloc, ctx, MAX_LEVELS, bytes) {
@@ -49,12 +51,12 @@ fn whole_op<D: OpSet>(
     Ok(op)
 }
 
-/// The operation that a text stands for, made anew with all below it: a constant, a module or a function. Nodes are made
-/// in the order of their first characters in the text, each in the next slot of its kind. The name and the type in a
-/// header win over those in its dictionary. A refused text may leave new nodes that stand nowhere, and types; what was
-/// there before is as it was. Types that are new are held by the operation that was read; where the text is refused,
-/// they are written in it. `TooManyNodes` comes only where the context has no room for an operation and its region, or for a
-/// block.
+/// The operation that a text stands for, made anew with all below it: a constant, a module or a function. Nodes are
+/// made in the order of their first characters in the text, each in the next slot of its kind. The name and the type in
+/// a header win over those in its dictionary. A refused text may leave new nodes that stand nowhere, and types; what
+/// was there before is as it was. Types that are new are held by the operation that was read; where the text is
+/// refused, they are written in it. `TooManyNodes` comes only where the context has no room for an operation and its
+/// region, or for a block.
 ///
 /// A fault stands at the text's end where the text ends within a token or before one, and at the first character of a
 /// token that can't stand there; the first character of a level that is one too many comes before any fault inside it.
@@ -74,7 +76,8 @@ pub fn read_op<D: OpSet>(
     ensures crowded { IfErr result (λ e. e.fault ≡ Fault.TooManyNodes → HasNoRoom ctx.new) }
     ensures kept { KeepsOlder ctx.old ctx.new }
     ensures named { AreNamed (IsInText text.now) ctx.old.types ctx.new.types }
-    ensures held { IfOk result (λ p. (w : OpTerm) → IsText (OpWithin 200) text.now w → AreNamed (λ t. IsHeldByOp t w) ctx.old.types ctx.new.types) }
+    ensures held { IfOk result (λ p. (w : OpTerm) → IsText (OpWithin 200) text.now w →
+        AreNamed (λ t. IsHeldByOp t w) ctx.old.types ctx.new.types) }
     ensures whole { IsWhole D.attr_handles ctx.new }
 {
     let bytes = text.as_bytes();

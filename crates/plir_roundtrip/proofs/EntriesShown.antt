@@ -13,7 +13,7 @@ use Rattle.plir_data.specs.Dictionary.{dict_get, is_key, IsBelowAll, IsDictionar
 use Rattle.plir_data.specs.Types.{TypeView}
 use Rattle.plir_data.specs.declared.op_set.OpKind.{OpKind}
 use Rattle.plir_data.specs.declared.op_set.OpSet as op_set
-use Rattle.plir_text.specs.Writable.{IsWritable}
+use Rattle.plir_attr_text.specs.Writable.{IsWritable}
 use Rattle.plir_walk.specs.GivenNames.{names_key}
 use Rattle.plir_builtin.specs.BuiltinOps.{type_in_attr}
 use Rattle.plir_builtin.specs.Symbols.{name_in}

@@ -17,8 +17,8 @@ use Rattle.plir_core.specs.declared.value.DefiningEntity.TheVariants.{Op, Block}
 use Rattle.plir_core.specs.Standing.{IsStanding}
 use Rattle.plir_core.specs.Store.{Store, kids, kind_of, kind_in, attributes_of, attributes_in, results_in, operands_in, successors_in, arguments_in, label_in, block_attributes_in, limit}
 use Rattle.plir_core.specs.Measures.{depth}
-use Rattle.plir_text.specs.Terms.{entries_levels}
-use Rattle.plir_text.specs.Writable.{entry_terms, IsNameOrMark}
+use Rattle.plir_attr_text.specs.Terms.{entries_levels}
+use Rattle.plir_attr_text.specs.Writable.{entry_terms, IsNameOrMark}
 use Rattle.plir_walk.specs.Tree.{Place, node_at}
 use Rattle.plir_builtin.specs.BuiltinOps.{IsNewModule, module_attributes}
 use Rattle.plir_builtin.specs.Symbols.{name_held}

@@ -18,7 +18,7 @@ use Rattle.plir_core.specs.declared.value.Value.{Value}
 use Rattle.plir_core.specs.declared.value.DefiningEntity.TheVariants.{Op, Block}
 use Rattle.plir_core.specs.Contents.{OpView, BlockView, op_view}
 use Rattle.plir_core.specs.Store.{Store, kind_of, kind_in, op_at, block_at, attributes_of, attributes_in, result_types_of, results_in, operands_in, successors_in, arg_types_of}
-use Rattle.plir_text.specs.Names.{Names, NamesAll}
+use Rattle.plir_attr_text.specs.Names.{Names, NamesAll}
 use Rattle.plir_walk.specs.GivenNames.{names_key, names_at, names_in, name_at}
 use Rattle.plir_builtin.specs.BuiltinOps.{value_of, name_key, func_type_key, value_key}
 use Rattle.plir_builtin.specs.ResultNames.{result_name}

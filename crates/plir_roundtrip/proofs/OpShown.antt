@@ -23,12 +23,12 @@ use Rattle.plir_core.specs.declared.value.DefiningEntity.TheVariants.{Op, Block}
 use Rattle.plir_store.specs.Members.{Has}
 use Rattle.plir_core.specs.Standing.{IsStanding}
 use Rattle.plir_core.specs.Store.{Store, kids, kind_of, op_at, attributes_of, result_types_of, arg_types_of}
-use Rattle.plir_text.specs.AttrGrammar.{Spells}
-use Rattle.plir_text.specs.Runs.{Shown, Tail, Shown-as, Tail-as, nothing}
-use Rattle.plir_text.specs.Tokens.{Token, sign}
-use Rattle.plir_text.specs.TypeGrammar.{enclosed, SpellsType}
-use Rattle.plir_text.specs.TypesShown.{type-shown}
-use Rattle.plir_text.specs.Writable.{IsBuiltin, IsWritable, entry_terms}
+use Rattle.plir_attr_text.specs.AttrGrammar.{Spells}
+use Rattle.plir_attr_text.specs.Runs.{Shown, Tail, Shown-as, Tail-as, nothing}
+use Rattle.plir_attr_text.specs.Tokens.{Token, sign}
+use Rattle.plir_attr_text.specs.TypeGrammar.{enclosed, SpellsType}
+use Rattle.plir_attr_text.specs.TypesShown.{type-shown}
+use Rattle.plir_attr_text.specs.Writable.{IsBuiltin, IsWritable, entry_terms}
 use Rattle.plir_builtin.specs.BuiltinOps.{func_type_of, type_in_attr, value_of, func_type_key}
 use Rattle.plir_builtin.specs.ResultNames.{result_name}
 use Rattle.plir_builtin.specs.Symbols.{symbol_key, name_held}
@@ -42,7 +42,7 @@ use Rattle.plir_read.specs.OpGrammar.{SpellsHead, SpellsDictionary, SpellsArgume
 use Rattle.plir_read.specs.OpTerms.{Head, OpTerm, op_term, BlockTerm, BlockTerms, ops_of, blocks_of}
 use Rattle.plir_roundtrip.specs.Readable.{IsEntryReadable, AreValuesReadable, IsBodyReadable, IsConstantReadable, IsKindReadable, IsOpReadable, IsBlockReadable}
 use Rattle.plir_roundtrip.specs.Written.{some_type_term, some_attr_term, argument_term, block_head_term, block_term, blocks_under, symbol_of, head_term, term_of_kind, term_at}
-use Rattle.plir_text.specs.AttrsShown.{attr-shown}
+use Rattle.plir_attr_text.specs.AttrsShown.{attr-shown}
 use Rattle.plir_roundtrip.proofs.Joined.{tail-shown, run-shown, line-shown, Then, both-shown, sign-shown, look-semicolon, Between, braced}
 use Rattle.plir_roundtrip.specs.ReadableParts.{AllReadable}
 use Rattle.plir_roundtrip.proofs.Kids.{kid_of_region, kid_of_block, only_region, kid_readable, op_readable, block_readable, HasRoom, some_room, kid_room, lower_room, in_row}

@@ -14,8 +14,8 @@ use Rattle.plir_core.specs.declared.ptr.BasicBlock.{BasicBlock as BlockKind}
 use Rattle.plir_core.specs.declared.value.DefiningEntity.TheVariants.{Block}
 use Rattle.plir_core.specs.declared.value.Value.{Value}
 use Rattle.plir_core.specs.Store.{Store, arg_types_of}
-use Rattle.plir_text.specs.Terms.{type_levels, levels, entries_levels}
-use Rattle.plir_text.specs.Writable.{attr_term, entry_terms, type_term}
+use Rattle.plir_attr_text.specs.Terms.{type_levels, levels, entries_levels}
+use Rattle.plir_attr_text.specs.Writable.{attr_term, entry_terms, type_term}
 use Rattle.plir_print.specs.Dictionaries.{is_shown, shown_of}
 use Rattle.plir_print.specs.ValueNames.{arguments_of}
 use Rattle.plir_roundtrip.specs.Written.{some_type_term}

@@ -8,8 +8,8 @@ use Rattle.plir_core.specs.declared.value.DefiningEntity.TheVariants.{Op, Block}
 use Rattle.plir_core.specs.Nodes.{index_of}
 use Rattle.plir_core.specs.Store.{Store, label_of}
 use Rattle.plir_core.specs.Texts.{pointer_text}
-use Rattle.plir_text.specs.Printed.{Ends}
-use Rattle.plir_text.specs.Writable.{IsNameOrMark}
+use Rattle.plir_attr_text.specs.Printed.{Ends}
+use Rattle.plir_attr_text.specs.Writable.{IsNameOrMark}
 use Rattle.plir_walk.specs.GivenNames.{names_at, name_at}
 use Rattle.plir_builtin.specs.ResultNames.{given_first, result_name}
 use Rattle.plir_print.specs.ValueNames.{block_name, argument_name}

@@ -9,11 +9,11 @@ use Rattle.plir_core.specs.declared.ptr.IRNode.TheVariants.{Operation}
 use Rattle.plir_core.specs.Standing.{IsStanding}
 use Rattle.plir_core.specs.Store.{Store}
 use Rattle.plir_core.specs.Whole.{IsWhole}
-use Rattle.plir_text.specs.Growth.{Grows-on}
-use Rattle.plir_text.specs.TypeGrammar.{IsText}
-use Rattle.plir_text.specs.declared.fault.Fault.{Fault}
-use Rattle.plir_text.specs.declared.fault.Fault.TheVariants as faults
-use Rattle.plir_text.specs.declared.fault.ReadErr.{ReadErr}
+use Rattle.plir_attr_text.specs.Growth.{Grows-on}
+use Rattle.plir_attr_text.specs.TypeGrammar.{IsText}
+use Rattle.plir_attr_text.specs.declared.fault.Fault.{Fault}
+use Rattle.plir_attr_text.specs.declared.fault.Fault.TheVariants as faults
+use Rattle.plir_attr_text.specs.declared.fault.ReadErr.{ReadErr}
 use Rattle.plir_print.specs.OpText.{op_text, room}
 use Rattle.plir_read.specs.OpGrammar.{OpWithin}
 use Rattle.plir_read.specs.OpTerms.{OpTerm, op_levels}

@@ -23,10 +23,10 @@ use Rattle.plir_store.specs.Members.{Has}
 use Rattle.plir_core.specs.Standing.{IsStanding}
 use Rattle.plir_core.specs.Store.{Store, kids, kind_of, op_at, block_at, attributes_of, result_types_of, results_in, arg_types_of, arguments_in, label_in, block_attributes_in}
 use Rattle.plir_core.specs.Whole.{IsWhole}
-use Rattle.plir_text.specs.Meaning.{IsDictMeant}
-use Rattle.plir_text.specs.Names.{Grows, Names}
-use Rattle.plir_text.specs.SameNames.{same_handles}
-use Rattle.plir_text.specs.Writable.{IsBuiltin}
+use Rattle.plir_attr_text.specs.Meaning.{IsDictMeant}
+use Rattle.plir_attr_text.specs.Names.{Grows, Names}
+use Rattle.plir_attr_text.specs.SameNames.{same_handles}
+use Rattle.plir_attr_text.specs.Writable.{IsBuiltin}
 use Rattle.plir_walk.specs.GivenNames.{names_at, names_in, name_at}
 use Rattle.plir_walk.specs.Tree.{Place, node_at}
 use Rattle.plir_builtin.specs.BuiltinOps.{func_type_of, value_of}

@@ -5,7 +5,7 @@ use Rattle.std.proofs.lemmas.Option.{slice_get-get_or, get_or_from_slice_get}
 use Rattle.plir_data.specs.TypeTree.{tree_of}
 use Rattle.plir_core.specs.declared.value.DefiningEntity.{DefiningEntity}
 use Rattle.plir_core.specs.Store.{Store, types_from}
-use Rattle.plir_text.specs.Writable.{IsBuiltin}
+use Rattle.plir_attr_text.specs.Writable.{IsBuiltin}
 use Rattle.plir_roundtrip.specs.Readable.{AreValuesReadable}
 use Rattle.plir_roundtrip.specs.ReadableParts.{IsValueReadable}
 

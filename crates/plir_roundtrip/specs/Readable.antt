@@ -15,8 +15,9 @@ use Rattle.plir_core.specs.declared.ptr.IRNode.{IRNode}
 use Rattle.plir_core.specs.declared.ptr.IRNode.TheVariants.{Operation, BasicBlock}
 use Rattle.plir_core.specs.declared.value.DefiningEntity.{DefiningEntity}
 use Rattle.plir_core.specs.declared.value.DefiningEntity.TheVariants.{Op, Block}
-use Rattle.plir_core.specs.Store.{Store, kids, kind_of, operands_of, successors_of, result_types_of, attributes_of, label_of, block_attributes_of, types_from}
-use Rattle.plir_text.specs.Writable.{IsBuiltin, IsWritable, IsNameOrMark}
+use Rattle.plir_core.specs.Store.{Store, kids, kind_of, operands_of, successors_of, result_types_of, attributes_of}
+use Rattle.plir_core.specs.Store.{label_of, block_attributes_of, types_from}
+use Rattle.plir_attr_text.specs.Writable.{IsBuiltin, IsWritable, IsNameOrMark}
 use Rattle.plir_walk.specs.GivenNames.{names_key, names_at, name_at}
 use Rattle.plir_walk.specs.Tree.{IsUnder}
 use Rattle.plir_builtin.specs.BuiltinOps.{value_key, value_of}
@@ -24,7 +25,8 @@ use Rattle.plir_print.specs.HeaderAttrs.{HasHeader}
 use Rattle.plir_read.specs.OpTerms.{op_levels}
 use Rattle.plir_roundtrip.specs.Written.{op_term_of}
 
--- An attribute of a module or a function can be written; names are left out of the text, so they stand under their key alone.
+-- An attribute of a module or a function can be written; names are left out of the text, so they stand under their key
+-- alone.
 abbrev pub IsEntryReadable : {A T : Type 0} → List (TypeView T) → (key : List ℕ) → AttrView A → Type 0
 IsEntryReadable types key (leaf (given_names ns)) = key ≡ names_key
 IsEntryReadable types key x = IsWritable types x
@@ -34,7 +36,8 @@ abbrev pub HoldsOnly : {A : Type 0} → (keys : List (List ℕ)) → List (List 
 HoldsOnly keys es = (k : List ℕ) → list_any (λ l. is_key k l) keys ≡ false → dict_get es k ≡ None
 
 module _ {K A T : Type 0} (s : Store K A T) where
-  -- the results of an operation, or the arguments of a block, have builtin types, and names that are identifiers, if any
+  -- the results of an operation, or the arguments of a block, have builtin types, and names that are identifiers, if
+  -- any
   pub record AreValuesReadable (e : DefiningEntity) : Type 0 where
     pub types : All (λ handle. IsBuiltin (tree_of s.types handle)) (types_from s e)
     pub names : (i : ℕ) → i < length (types_from s e) → IsNameOrMark (name_at (names_at s e) i)
@@ -73,9 +76,10 @@ module _ {K A T : Type 0} (s : Store K A T) where
     pub arguments : AreValuesReadable (Block b)
     pub only : HoldsOnly (names_key ∷ []) (block_attributes_of s b)
 
--- An operation that can be read back from its text: so can each operation and each block at or under it, and as it is written it
--- has at most 200 levels.
-pub record IsReadable {D K A T E : Type 0} (o : op_set.Ghosts D K A T E) (s : Store K A T) (p : Ptr OperationKind) : Type 0 where
+-- An operation that can be read back from its text: so can each operation and each block at or under it, and as it is
+-- written it has at most 200 levels.
+pub record IsReadable {D K A T E : Type 0} (o : op_set.Ghosts D K A T E) (s : Store K A T) (p : Ptr OperationKind) :
+    Type 0 where
   pub ops : (q : Ptr OperationKind) → IsUnder (kids s) (Operation p) (Operation q) → IsOpReadable s q
   pub blocks : (b : Ptr BlockKind) → IsUnder (kids s) (Operation p) (BasicBlock b) → IsBlockReadable s b
   pub levels : op_levels (op_term_of o s p) ≤ 200

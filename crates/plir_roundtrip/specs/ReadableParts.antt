@@ -11,7 +11,7 @@ use Rattle.plir_core.specs.declared.ptr.IRNode.{IRNode}
 use Rattle.plir_core.specs.declared.ptr.IRNode.TheVariants.{Operation, Region, BasicBlock}
 use Rattle.plir_core.specs.declared.value.DefiningEntity.{DefiningEntity}
 use Rattle.plir_core.specs.Store.{Store, kids, types_from}
-use Rattle.plir_text.specs.Writable.{IsBuiltin, IsNameOrMark, IsWritable}
+use Rattle.plir_attr_text.specs.Writable.{IsBuiltin, IsNameOrMark, IsWritable}
 use Rattle.plir_walk.specs.GivenNames.{names_key, names_at, name_at}
 use Rattle.plir_walk.specs.Tree.{IsUnder}
 use Rattle.plir_walk.specs.declared.interruptible.WalkContinue.{WalkContinue}
@@ -27,7 +27,8 @@ keys_with false = names_key ∷ []
 module _ {K A T : Type 0} (s : Store K A T) where
   -- the result or argument at a place has a builtin type, and a name that is an identifier, if any
   abbrev pub IsValueReadable : DefiningEntity → (i : ℕ) → Type 0
-  IsValueReadable e i = ((h : ℕ) → slice_get (types_from s e) i ≡ Some h → IsBuiltin (tree_of s.types h)) × IsNameOrMark (name_at (names_at s e) i)
+  IsValueReadable e i = ((h : ℕ) → slice_get (types_from s e) i ≡ Some h → IsBuiltin (tree_of s.types h)) ×
+      IsNameOrMark (name_at (names_at s e) i)
 
   -- the value of a constant, if there is one, can be written
   abbrev pub IsValueWritable : Ptr OperationKind → Type 0

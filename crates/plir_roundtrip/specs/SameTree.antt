@@ -56,7 +56,7 @@ module _ {K A T : Type 0} (s t : Store K A T) where
   IsSameOrNone (Some x) None = ⊥
   IsSameOrNone (Some x) (Some y) = IsSameNode x y
 
-  -- The tree under x in s is that under y in t, but for slots, versions and locations: at each place under the two stands the same
-  -- node, or none in both.
+  -- The tree under x in s is that under y in t, but for slots, versions and locations: at each place under the two
+  -- stands the same node, or none in both.
   abbrev pub IsSameTree : IRNode → IRNode → Type 0
   IsSameTree x y = (place : Place) → IsSameOrNone (node_at (kids s) x place) (node_at (kids t) y place)

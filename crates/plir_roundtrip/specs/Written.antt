@@ -14,15 +14,16 @@ use Rattle.plir_core.specs.declared.ptr.IRNode.{IRNode}
 use Rattle.plir_core.specs.declared.ptr.IRNode.TheVariants.{Operation, Region, BasicBlock}
 use Rattle.plir_core.specs.declared.value.Value.{Value}
 use Rattle.plir_core.specs.Store.{Store, kids, kind_of, op_at, result_types_of, type_of_value}
-use Rattle.plir_text.specs.Terms.{TypeTerm, unit_type, AttrTerm, unit, EntryTerms, no_entries}
-use Rattle.plir_text.specs.Writable.{type_term, attr_term, entry_terms}
+use Rattle.plir_attr_text.specs.Terms.{TypeTerm, unit_type, AttrTerm, unit, EntryTerms, no_entries}
+use Rattle.plir_attr_text.specs.Writable.{type_term, attr_term, entry_terms}
 use Rattle.plir_builtin.specs.BuiltinOps.{func_type_of, value_of}
 use Rattle.plir_builtin.specs.ResultNames.{result_name}
 use Rattle.plir_builtin.specs.Symbols.{name_held}
 use Rattle.plir_print.specs.Dictionaries.{shown}
 use Rattle.plir_print.specs.OpText.{room}
 use Rattle.plir_print.specs.ValueNames.{block_name, value_name, arguments_of}
-use Rattle.plir_read.specs.OpTerms.{Head, module_head, func_head, Header, Argument, BlockHead, OpTerm, op_term, constant_term, BlockTerm, BlockTerms, no_blocks, blocks_of}
+use Rattle.plir_read.specs.OpTerms.{Head, module_head, func_head, Header, Argument, BlockHead, OpTerm, op_term}
+use Rattle.plir_read.specs.OpTerms.{constant_term, BlockTerm, BlockTerms, no_blocks, blocks_of}
 
 -- what stands for an operation, or a block, where there is none: anything
 abbrev pub no_op : OpTerm
@@ -61,7 +62,8 @@ module _ {K A T : Type 0} (s : Store K A T) where
 
   -- a constant: the name of its result, its value, and its result's type
   abbrev pub constant_of : Ptr OperationKind → OpTerm
-  constant_of p = constant_term (result_name s p 0) (some_attr_term s.types (value_of s p)) (some_type_term s.types (slice_get (result_types_of s p) 0))
+  constant_of p = constant_term (result_name s p 0) (some_attr_term s.types (value_of s p))
+      (some_type_term s.types (slice_get (result_types_of s p) 0))
 
   -- a block, where `write` gives its operations
   abbrev pub block_term : (write : IRNode → OpTerm) → IRNode → BlockTerm
@@ -89,7 +91,8 @@ module _ {D K A T E : Type 0} (o : op_set.Ghosts D K A T E) (s : Store K A T) wh
   -- the operation at a node, with at most k operations above one another
   abbrev pub term_at : (k : ℕ) → IRNode → OpTerm
   term_at zero x = no_op
-  term_at (suc k) (Operation p) = term_of_kind (kind_of s p) (blocks_of (map (block_term s (term_at k)) (blocks_under s p))) p
+  term_at (suc k) (Operation p) = term_of_kind (kind_of s p)
+      (blocks_of (map (block_term s (term_at k)) (blocks_under s p))) p
   term_at (suc k) (Region r) = no_op
   term_at (suc k) (BasicBlock b) = no_op
 

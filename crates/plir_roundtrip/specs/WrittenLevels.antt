@@ -11,12 +11,13 @@ use Rattle.plir_core.specs.declared.ptr.IRNode.{IRNode}
 use Rattle.plir_core.specs.declared.ptr.IRNode.TheVariants.{BasicBlock}
 use Rattle.plir_core.specs.declared.value.Value.{Value}
 use Rattle.plir_core.specs.Store.{Store, kids, kind_of, result_types_of}
-use Rattle.plir_text.specs.Terms.{type_levels, levels, entries_levels}
-use Rattle.plir_text.specs.Writable.{attr_term, entry_terms}
+use Rattle.plir_attr_text.specs.Terms.{type_levels, levels, entries_levels}
+use Rattle.plir_attr_text.specs.Writable.{attr_term, entry_terms}
 use Rattle.plir_print.specs.Dictionaries.{is_shown, shown_of}
 use Rattle.plir_print.specs.OpText.{room}
 use Rattle.plir_print.specs.ValueNames.{arguments_of}
-use Rattle.plir_read.specs.OpTerms.{OpTerm, header_levels, ops_of, blocks_of, arguments_levels, blocks_levels, ops_levels}
+use Rattle.plir_read.specs.OpTerms.{OpTerm, header_levels, ops_of, blocks_of, arguments_levels, blocks_levels}
+use Rattle.plir_read.specs.OpTerms.{ops_levels}
 use Rattle.plir_roundtrip.specs.Written.{some_type_term, argument_term, block_term, blocks_under, header_term, term_at}
 
 -- of the types of arguments

@@ -10,10 +10,10 @@ ghost use Rattle.plir_builtin.specs.BuiltinOps.{value_of};
 ghost use Rattle.plir_roundtrip.specs.Readable.{HoldsOnly, IsEntryReadable};
 ghost use Rattle.plir_roundtrip.specs.ReadableParts.{keys_with};
 
+use plir_attr_text::is_writable;
 use plir_builtin::ATTR_KEY_CONSTANT_VALUE;
 use plir_core::{Context, Operation, Ptr};
 use plir_data::{AttrObj, AttributeDict, OpSet};
-use plir_text::is_writable;
 use plir_walk::ATTR_KEY_GIVEN_NAMES;
 
 /// The value of a constant, if it has one.

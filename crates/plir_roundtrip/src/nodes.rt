@@ -8,10 +8,10 @@ ghost use Rattle.plir_roundtrip.specs.ReadableParts.{IsNodeReadable, IsValueWrit
 
 use crate::entries::{are_entries_readable, find_value, holds_only};
 use crate::values::{are_values_readable, is_name_or_none};
+use plir_attr_text::is_writable;
 use plir_core::{BasicBlock, Context, DefiningEntity, IRNode, Operation, Ptr};
 use plir_data::{OpKind, OpSet};
 use plir_print::has_header;
-use plir_text::is_writable;
 
 // What is asked of a module or a function.
 fn is_body_readable<D: OpSet>(ctx: &Context<D>, op: Ptr<Operation>) -> bool

@@ -7,8 +7,8 @@ ghost use Rattle.plir_data.specs.TypeTree.{tree_of};
 ghost use Rattle.plir_data.specs.Types.{IsLive as IsTypeLive};
 ghost use Rattle.plir_core.specs.declared.ptr.IRNode.{IRNode as AnyNode};
 ghost use Rattle.plir_core.specs.Store.{IsLive, kind_of};
-ghost use Rattle.plir_text.specs.Terms.{entries_levels, levels, type_levels};
-ghost use Rattle.plir_text.specs.Writable.{type_term};
+ghost use Rattle.plir_attr_text.specs.Terms.{entries_levels, levels, type_levels};
+ghost use Rattle.plir_attr_text.specs.Writable.{type_term};
 ghost use Rattle.plir_builtin.specs.BuiltinOps.{func_type_of, type_in_attr, value_of};
 ghost use Rattle.plir_print.specs.Dictionaries.{is_shown, is_told};
 ghost use Rattle.plir_print.specs.ValueNames.{arguments_of};
@@ -18,10 +18,10 @@ ghost use Rattle.plir_roundtrip.specs.Written.{head_term, header_term, dictionar
 ghost use Rattle.plir_roundtrip.specs.WrittenLevels.{entry_level, result_levels, shown_levels, typed_levels};
 
 use crate::entries::find_value;
+use plir_attr_text::is_within_levels;
 use plir_builtin::{ATTR_KEY_BUILTIN_FUNC_TYPE, ATTR_KEY_SYM_NAME};
 use plir_core::{BasicBlock, Context, Operation, Ptr};
 use plir_data::{AttrObj, AttributeDict, OpKind, OpSet, TypeAttr, TypeHandle};
-use plir_text::is_within_levels;
 
 // A type: as an attribute it has one level more.
 fn is_type_below<D: OpSet>(ctx: &Context<D>, handle: TypeHandle, left: usize) -> bool

@@ -3,14 +3,14 @@ ghost use Rattle.std.specs.Prelude.{◌≡◌, ◌↔◌, ◌<◌, IsTrue, Some,
 ghost use Rattle.plir_data.specs.TypeTree.{tree_of};
 ghost use Rattle.plir_data.specs.Types.{IsLive as IsTypeLive};
 ghost use Rattle.plir_core.specs.Store.{IsLive, entity_node, types_from};
-ghost use Rattle.plir_text.specs.Writable.{IsBuiltin, IsNameOrMark};
+ghost use Rattle.plir_attr_text.specs.Writable.{IsBuiltin, IsNameOrMark};
 ghost use Rattle.plir_walk.specs.GivenNames.{names_at, name_at};
 ghost use Rattle.plir_roundtrip.specs.Readable.{AreValuesReadable};
 ghost use Rattle.plir_roundtrip.specs.ReadableParts.{IsValueReadable};
 
+use plir_attr_text::is_writable;
 use plir_core::{Context, DefiningEntity};
 use plir_data::{AttrObj, Identifier, OpSet, TypeAttr, TypeHandle};
-use plir_text::is_writable;
 use plir_walk::given_names::{get_block_arg_name, get_operation_result_name};
 
 // Whether a type is made of builtin types alone: the attribute of a type can be written just then.

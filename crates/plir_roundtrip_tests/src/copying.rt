@@ -2,7 +2,7 @@
 ghost use Rattle.std.specs.Prelude.{IfOk};
 ghost use Rattle.plir_core.specs.declared.ptr.IRNode.{IRNode as AnyNode};
 ghost use Rattle.plir_core.specs.Store.{IsLive};
-ghost use Rattle.plir_text.specs.Names.{Grows};
+ghost use Rattle.plir_attr_text.specs.Names.{Grows};
 ghost use Rattle.plir_builtin.specs.BuiltinOps.{IsNewModule};
 ghost use Rattle.plir_roundtrip.specs.Readable.{IsReadable};
 ghost use Rattle.plir_roundtrip.specs.SameTree.{IsSameTree};

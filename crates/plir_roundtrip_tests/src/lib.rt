@@ -1,5 +1,5 @@
-//! A caller of the law of `plir_roundtrip`, and tests, in a crate of their own, since a crate that holds its tests is proved
-//! twice, once with them.
+//! A caller of the law of `plir_roundtrip`, and tests, in a crate of their own, since a crate that holds its tests is
+//! proved twice, once with them.
 #![tactic(auto)]
 
 pub mod copying;

@@ -17,8 +17,8 @@ const STOPPED: u8 = 1;
 /// Runs the script that a reader gives, a command a line, and writes what the commands print.
 ///
 /// Answers 0 where all lines were carried out. Else the status is 1, and the last line that is written says why:
-/// `line K: refused` for a line that is no command, or that can't be done; `line K: out of memory`, where K is 0 before a
-/// line is read; `read failed`. Where the writer fails nothing more is written.
+/// `line K: refused` for a line that is no command, or that can't be done; `line K: out of memory`, where K is 0 before
+/// a line is read; `read failed`. Where the writer fails nothing more is written.
 pub fn run_script<R: Read + Drop, W: Write + Drop>(alloc: Global, reader: R, mut writer: W) -> u8 {
     let Ok(mut lines) = open_lines(alloc, reader) else {
         return report(&mut writer, Stop::OutOfMemory, 0);

@@ -19,7 +19,8 @@ use plir_walk::{Direction, Order};
 use std::alloc::Global;
 use std::io::Write;
 
-/// How many modules may stand in one another where the text of the root is printed, which is done by calls within calls.
+/// How many modules may stand in one another where the text of the root is printed, which is done by calls within
+/// calls.
 const MAX_PRINTED_LEVELS: usize = 1_000;
 
 /// The modules and functions of a script, and their tables.

@@ -5,8 +5,8 @@ use plir_data::Memory;
 use std::alloc::Global;
 use std::fmt::{Debug, Display, Write};
 
-/// The answer of a call. What can't be written for want of memory is left out, and the answer is whole no more: so a call
-/// writes its answer to the end, and is asked once whether it is whole.
+/// The answer of a call. What can't be written for want of memory is left out, and the answer is whole no more: so a
+/// call writes its answer to the end, and is asked once whether it is whole.
 #[derive(Drop)]
 pub struct Answer {
     text: String,

@@ -92,8 +92,8 @@ impl<D: OpSet> Bench<D> {
         }
     }
 
-    /// An empty list with room for the nodes that a walk calls. A list that was given back is used again, so that no memory
-    /// is taken twice.
+    /// An empty list with room for the nodes that a walk calls. A list that was given back is used again, so that no
+    /// memory is taken twice.
     pub fn take_list(&mut self) -> Result<Vec<IRNode>, Stop> {
         let mut nodes = replace(&mut self.spare, Vec::new(self.alloc));
         nodes.reserve(MAX_CALLED)?;
@@ -219,8 +219,8 @@ pub fn play<D: OpSet, L: Layer<D>>(
     bench.play::<L>(max_nodes, script)
 }
 
-// What the getters answer after so many lines of a script in a new bench. A function that owns a bench takes long to prove, the
-// more ways out it has: so this one and `play` have one each.
+// What the getters answer after so many lines of a script in a new bench. A function that owns a bench takes long to
+// prove, the more ways out it has: so this one and `play` have one each.
 fn state_after<D: OpSet, L: Layer<D>>(
     alloc: Global,
     max_nodes: u32,

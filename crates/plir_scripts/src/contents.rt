@@ -7,9 +7,9 @@ use crate::bench::Bench;
 use crate::line::{Line, number};
 use crate::making::label_of;
 use crate::stop::Stop;
+use plir_attr_text::read_attr;
 use plir_core::{Context, IRNode};
 use plir_data::{AttrObj, Identifier, Location, OpSet};
-use plir_text::read_attr;
 use std::alloc::Global;
 
 /// Does what a line says that changes contents: `insert OP PLACE VALUE`, `remove OP PLACE`, `replace OP PLACE VALUE`,

@@ -12,8 +12,8 @@ pub trait InContext<D: OpSet> {
     fn run(self, ctx: &mut Context<D>) -> Self::Answer;
 }
 
-/// Does something with a new context. A function that owns a context takes long to prove, and so does a crate that lets one
-/// go: tests have theirs lent by this function, as scripts have.
+/// Does something with a new context. A function that owns a context takes long to prove, and so does a crate that lets
+/// one go: tests have theirs lent by this function, as scripts have.
 pub fn in_new_context<D: OpSet, T: InContext<D>>(alloc: Global, task: T) -> T::Answer {
     task.run(&mut Context::new(alloc))
 }

@@ -8,9 +8,9 @@ use crate::line::{Line, number, split_word};
 use crate::made::Made;
 use crate::script_set::ScriptSet;
 use crate::stop::Stop;
+use plir_attr_text::read_type;
 use plir_core::{BasicBlock, Context, Operation, Ptr};
 use plir_data::{Identifier, OpKind, OpSet, TypeHandle};
-use plir_text::read_type;
 use std::alloc::{AllocError, Global};
 
 /// Makes what a line says, and writes its name: `op KIND REGIONS RESULT_TYPES < OPERANDS > SUCCESSORS`, where `<` and

@@ -2,8 +2,9 @@
 use crate::stop::Stop;
 use std::alloc::Global;
 
-// Sizes of requests that are never granted. A library that is preloaded takes a request of the first size as the word to
-// refuse all requests from then on, and one of the second as the word to refuse no more. Without it nothing else happens.
+// Sizes of requests that are never granted. A library that is preloaded takes a request of the first size as the word
+// to refuse all requests from then on, and one of the second as the word to refuse no more. Without it nothing else
+// happens.
 const BYTES_TO_REFUSE: usize = (1 << 62) + 1;
 
 const BYTES_TO_GRANT: usize = (1 << 62) + 2;

@@ -9,9 +9,9 @@ ghost use Rattle.plir_core.specs.declared.ptr.IRNode.{IRNode as AnyNode};
 
 use crate::answer::Answer;
 use crate::made::Made;
+use plir_attr_text::print_attr;
 use plir_core::{BasicBlock, Context, IRNode, Operation, Ptr, Region};
 use plir_data::{AttrObj, AttributeDict, OpKind, OpSet, TypeHandle, type_text};
-use plir_text::print_attr;
 use std::alloc::Global;
 
 /// Writes what the getters answer of a node: its parents, the nodes before and after it, and what it holds.

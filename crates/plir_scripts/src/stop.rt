@@ -1,7 +1,7 @@
 //! Why a line of a script isn't carried out.
+use plir_attr_text::{Fault, ReadErr};
 use plir_core::NodeErr;
 use plir_data::{IdentifierErr, Memory};
-use plir_text::{Fault, ReadErr};
 use std::alloc::{AllocError, AllocFailed};
 
 /// What stops a line of a script.

@@ -2,7 +2,7 @@
 use crate::answer::Answer;
 use crate::line::{Line, number, split_word};
 use crate::stop::Stop;
-use plir_text::{Fault, ReadErr};
+use plir_attr_text::{Fault, ReadErr};
 use std::alloc::{AllocError, Global};
 
 /// A text as a line of a script writes it: `¶` stands for the end of a line, and `·` for a space.
@@ -42,8 +42,8 @@ pub fn put_fault(answer: &mut Answer, found: ReadErr) -> Result<(), Stop> {
     Ok(())
 }
 
-/// The text of `COUNT HEAD | BEFORE | MIDDLE | BEHIND`: the head, so many times what is before, the middle, and so many times what
-/// is behind.
+/// The text of `COUNT HEAD | BEFORE | MIDDLE | BEHIND`: the head, so many times what is before, the middle, and so many
+/// times what is behind.
 pub fn nested_text(alloc: Global, line: Line<'_>) -> Result<String, Stop> {
     let count = number(line.first)?;
     let (_, rest) = split_word(line.text);

@@ -1,5 +1,5 @@
--- Laws of the calls of a walk, for the proofs of passes: what each call keeps is kept from entry to exit, and what each call
--- establishes at its node, and later calls leave, holds at the exit of all nodes that the walk has called.
+-- Laws of the calls of a walk, for the proofs of passes: what each call keeps is kept from entry to exit, and what each
+-- call establishes at its node, and later calls leave, holds at the exit of all nodes that the walk has called.
 use Rattle.std.proofs.Common.{◌≡◌, ◌≢◌, List, [], ◌∷◌, inl, inr, subst}
 use Rattle.std.specs.declared.ops.ControlFlow.{ControlFlow}
 use Rattle.std.specs.declared.ops.ControlFlow.TheVariants.{Continue}
@@ -21,15 +21,18 @@ pub record IsPreorder {C S : Type 0} (keeps : C → S → C → S → Type 0) : 
 module _ {C S B : Type 0} (post : Relation C S B) where
   -- each call keeps it
   abbrev pub IsKept : (keeps : C → S → C → S → Type 0) → Type 0
-  IsKept keeps = (c c' : C) (s s' : S) (n : IRNode) (a : ControlFlow B WalkContinue) → post c s n a c' s' → keeps c s c' s'
+  IsKept keeps = (c c' : C) (s s' : S) (n : IRNode) (a : ControlFlow B WalkContinue) → post c s n a c' s' →
+      keeps c s c' s'
 
   -- each call makes it hold of its node
   abbrev pub IsEstablished : (holds : C → IRNode → Type 0) → Type 0
-  IsEstablished holds = (c c' : C) (s s' : S) (n : IRNode) (a : ControlFlow B WalkContinue) → post c s n a c' s' → holds c' n
+  IsEstablished holds = (c c' : C) (s s' : S) (n : IRNode) (a : ControlFlow B WalkContinue) → post c s n a c' s' →
+      holds c' n
 
   -- no call takes it from a node
   abbrev pub IsLeft : (holds : C → IRNode → Type 0) → Type 0
-  IsLeft holds = (c c' : C) (s s' : S) (n : IRNode) (a : ControlFlow B WalkContinue) (m : IRNode) → post c s n a c' s' → holds c m → holds c' m
+  IsLeft holds = (c c' : C) (s s' : S) (n : IRNode) (a : ControlFlow B WalkContinue) (m : IRNode) →
+      post c s n a c' s' → holds c m → holds c' m
 
   -- each call of a chain is made as the relation tells
   pub chain-each : (c : C) (s : S) (calls : List (Call C S B)) (c' : C) (s' : S) → Chain post c s calls c' s' →
@@ -39,7 +42,8 @@ module _ {C S B : Type 0} (post : Relation C S B) where
   chain-each c s (y ∷ ys) c' s' h x (inr i) = chain-each y.after y.left ys c' s' h.3 x i
 
   -- What each call keeps holds from entry to exit: of all that a pass leaves as it was.
-  pub kept_from_entry_to_exit : (keeps : C → S → C → S → Type 0) → IsPreorder keeps → IsKept keeps → (c c' : C) (s s' : S) (calls : List (Call C S B)) → Chain post c s calls c' s' → keeps c s c' s'
+  pub kept_from_entry_to_exit : (keeps : C → S → C → S → Type 0) → IsPreorder keeps → IsKept keeps →
+      (c c' : C) (s s' : S) (calls : List (Call C S B)) → Chain post c s calls c' s' → keeps c s c' s'
   kept_from_entry_to_exit keeps p k c c' s s' [] h = rw (h.0, h.1) (p.itself c s)
   kept_from_entry_to_exit keeps p k c c' s s' (x ∷ xs) h =
       let one = k x.before x.after x.state x.left x.node x.answer h.2 in
@@ -48,25 +52,34 @@ module _ {C S B : Type 0} (post : Relation C S B) where
 
   module _ (holds : C → IRNode → Type 0) (left : IsLeft holds) where
     -- what holds of a node still does after the calls
-    pub still_holds : (c c' : C) (s s' : S) (calls : List (Call C S B)) → Chain post c s calls c' s' → (n : IRNode) → holds c n → holds c' n
+    pub still_holds : (c c' : C) (s s' : S) (calls : List (Call C S B)) → Chain post c s calls c' s' → (n : IRNode) →
+        holds c n → holds c' n
     still_holds c c' s s' calls h n =
-        kept_from_entry_to_exit (λ d t e u. holds d n → holds e n) (record { itself = λ d t x. x; on = λ d e f t u v g k x. k (g x) })
+        kept_from_entry_to_exit (λ d t e u. holds d n → holds e n)
+        (record { itself = λ d t x. x; on = λ d e f t u v g k x. k (g x) })
         (λ d d' t t' m a made x. left d d' t t' m a n made x) c c' s s' calls h
 
     module _ (established : IsEstablished holds) where
       -- it holds of each node that was called
-      pub holds_of_called : (c c' : C) (s s' : S) (calls : List (Call C S B)) → Chain post c s calls c' s' → (n : IRNode) → Has (nodes_of calls) n → holds c' n
+      pub holds_of_called : (c c' : C) (s s' : S) (calls : List (Call C S B)) → Chain post c s calls c' s' →
+          (n : IRNode) → Has (nodes_of calls) n → holds c' n
       holds_of_called c c' s s' [] h n i = absurd i
       holds_of_called c c' s s' (x ∷ xs) h n (inl e) =
-          still_holds x.after c' x.left s' xs h.3 n (subst (λ z. holds x.after z) e (established x.before x.after x.state x.left x.node x.answer h.2))
+          still_holds x.after c' x.left s' xs h.3 n (subst (λ z. holds x.after z) e
+          (established x.before x.after x.state x.left x.node x.answer h.2))
       holds_of_called c c' s s' (x ∷ xs) h n (inr i) = holds_of_called x.after c' x.left s' xs h.3 n i
 
-      -- Of a walk of the tree t that went to its end it holds of each node under the root that no skip shuts out. The tree is that
-      -- of the exit where all levels are PreOrder, that of the entry where all are PostOrder, and both where calls keep the shape.
-      pub holds_of_due : (w : WalkConfig) (t : Tree) (r : IRNode) (c c' : C) (s s' : S) (calls : List (Call C S B)) (k : WalkContinue) → Chain post c s calls c' s' → Answers w t r calls (Continue k) → (n : IRNode) → IsDue w t r calls n → holds c' n
+      -- Of a walk of the tree t that went to its end it holds of each node under the root that no skip shuts out. The
+      -- tree is that of the exit where all levels are PreOrder, that of the entry where all are PostOrder, and both
+      -- where calls keep the shape.
+      pub holds_of_due : (w : WalkConfig) (t : Tree) (r : IRNode) (c c' : C) (s s' : S) (calls : List (Call C S B))
+          (k : WalkContinue) → Chain post c s calls c' s' → Answers w t r calls (Continue k) → (n : IRNode) →
+          IsDue w t r calls n → holds c' n
       holds_of_due w t r c c' s s' calls k h a n due = holds_of_called c c' s s' calls h n ((a.2 n).1 due)
 
       -- the same where no call skips: of each node under the root
-      pub holds_under_root : (w : WalkConfig) (t : Tree) (r : IRNode) (c c' : C) (s s' : S) (calls : List (Call C S B)) (k : WalkContinue) → Chain post c s calls c' s' → Answers w t r calls (Continue k) → ((x : Call C S B) → Has calls x → x.answer ≢ Continue Skip) → (n : IRNode) → IsUnder t r n → holds c' n
+      pub holds_under_root : (w : WalkConfig) (t : Tree) (r : IRNode) (c c' : C) (s s' : S) (calls : List (Call C S B))
+          (k : WalkContinue) → Chain post c s calls c' s' → Answers w t r calls (Continue k) →
+          ((x : Call C S B) → Has calls x → x.answer ≢ Continue Skip) → (n : IRNode) → IsUnder t r n → holds c' n
       holds_under_root w t r c c' s s' calls k h a never n under =
           holds_of_due w t r c c' s s' calls k h a n (under, λ shut. never shut.skipped.0 shut.skipped.1 shut.skipped.3)

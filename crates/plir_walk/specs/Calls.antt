@@ -9,7 +9,8 @@ use Rattle.plir_walk.specs.declared.interruptible.WalkContinue.TheVariants.{Adva
 use Rattle.plir_core.specs.declared.ptr.IRNode.{IRNode}
 
 -- A call of f with the context c, the state s and the node n may answer a, and leave the context c' and the state s'.
-pub record CallsBack {F C S N R : Type 0} (g : Shared F (MutBor C × (MutBor S × (N × Unit {0}))) (R × (MutBor C × (MutBor S × Unit {0})))) (f : F) (c : C) (s : S) (n : N) (a : R) (c' : C) (s' : S) : Type 0 where
+pub record CallsBack {F C S N R : Type 0} (g : Shared F (MutBor C × (MutBor S × (N × Unit {0})))
+    (R × (MutBor C × (MutBor S × Unit {0})))) (f : F) (c : C) (s : S) (n : N) (a : R) (c' : C) (s' : S) : Type 0 where
   pub context : MutBor C
   pub state : MutBor S
   pub context_left : MutBor C
@@ -19,7 +20,8 @@ pub record CallsBack {F C S N R : Type 0} (g : Shared F (MutBor C × (MutBor S �
   pub met : g.post f (context, (state, (n, tt))) (a, (context_left, (state_left, tt)))
 
 -- The same of a callback that only reads the context, which so stays as it is.
-pub record ReadsBack {F C S N R : Type 0} (g : Shared F (Bor C × (MutBor S × (N × Unit {0}))) (R × (MutBor S × Unit {0}))) (f : F) (c : C) (s : S) (n : N) (a : R) (c' : C) (s' : S) : Type 0 where
+pub record ReadsBack {F C S N R : Type 0} (g : Shared F (Bor C × (MutBor S × (N × Unit {0})))
+    (R × (MutBor S × Unit {0}))) (f : F) (c : C) (s : S) (n : N) (a : R) (c' : C) (s' : S) : Type 0 where
   pub context : Bor C
   pub state : MutBor S
   pub state_left : MutBor S
@@ -49,7 +51,8 @@ Advancing post c s n a c' s' = (a ≡ Continue Advance) × post c s n tt c' s'
 -- entry, if there is none. Each call is in the callback's relation.
 abbrev pub Chain : {C S B : Type 0} → Relation C S B → C → S → List (Call C S B) → C → S → Type 0
 Chain post c s [] c' s' = (c' ≡ c) × (s' ≡ s)
-Chain post c s (x ∷ xs) c' s' = (x.before ≡ c) × (x.state ≡ s) × post x.before x.state x.node x.answer x.after x.left × Chain post x.after x.left xs c' s'
+Chain post c s (x ∷ xs) c' s' = (x.before ≡ c) × (x.state ≡ s) × post x.before x.state x.node x.answer x.after x.left ×
+    Chain post x.after x.left xs c' s'
 
 -- the called nodes, in order
 abbrev pub nodes_of : {C S B : Type 0} → List (Call C S B) → List IRNode

@@ -1,5 +1,6 @@
 -- Names of results of operations and of arguments of blocks.
-use Rattle.std.specs.Prelude.{ℕ, ◌+◌, ◌-◌, Bool, false, cond, List, [], ◌++◌, length, replicate, Option, Some, None, is_none, option_and_then, unwrap_or, slice_get, slice_set, insert, remove, codes}
+use Rattle.std.specs.Prelude.{ℕ, ◌+◌, ◌-◌, Bool, false, cond, List, [], ◌++◌, length, replicate, Option, Some, None}
+use Rattle.std.specs.Prelude.{is_none, option_and_then, unwrap_or, slice_get, slice_set, insert, remove, codes}
 use Rattle.std.specs.List.{list_all}
 use Rattle.plir_data.specs.AttrView.{AttrView, leaf, given_names}
 use Rattle.plir_data.specs.Dictionary.{dict_get, dict_put, dict_without}
@@ -72,7 +73,8 @@ module _ {K A T : Type 0} where
   attributes_at s (Block p) = block_attributes_of s p
 
   -- these have become f of what they were, and all else is the same
-  abbrev pub with_attributes : Store K A T → DefiningEntity → (List (List ℕ × AttrView A) → List (List ℕ × AttrView A)) → Store K A T
+  abbrev pub with_attributes : Store K A T → DefiningEntity →
+      (List (List ℕ × AttrView A) → List (List ℕ × AttrView A)) → Store K A T
   with_attributes s (Op p) f = with_op_edit s p (λ o. record o { attributes = f o.attributes })
   with_attributes s (Block p) f = with_block_edit s p (λ b. record b { attributes = f b.attributes })
 

@@ -6,7 +6,8 @@ use Rattle.plir_core.specs.declared.ptr.IRNode.{IRNode}
 use Rattle.plir_core.specs.Forest.{Shape}
 use Rattle.plir_walk.specs.declared.config.Order.TheVariants.{PostOrder}
 use Rattle.plir_walk.specs.declared.config.WalkConfig.{WalkConfig}
-use Rattle.plir_walk.specs.declared.config.TheConstants.{WALKCONFIG_PREORDER_FORWARD as pre_forward, WALKCONFIG_POSTORDER_REVERSE as post_reverse}
+use Rattle.plir_walk.specs.declared.config.TheConstants.{WALKCONFIG_PREORDER_FORWARD as pre_forward}
+use Rattle.plir_walk.specs.declared.config.TheConstants.{WALKCONFIG_POSTORDER_REVERSE as post_reverse}
 use Rattle.plir_walk.specs.Lists.{Pairs}
 use Rattle.plir_store.specs.Members.{Has, Distinct}
 use Rattle.plir_walk.specs.Config.{order_of}
@@ -32,24 +33,28 @@ pub record IsTraversal (w : WalkConfig) (t : Tree) (r : IRNode) (ns : List IRNod
   pub once : Distinct ns
   pub increasing : Pairs (NodeBefore w t r) ns
 
--- PostOrder Reverse is PreOrder Forward reversed: of two nodes the other one is before, and the nodes under a root stand
--- the other way round.
+-- PostOrder Reverse is PreOrder Forward reversed: of two nodes the other one is before, and the nodes under a root
+-- stand the other way round.
 pub record IsReversed (t : Tree) (r : IRNode) : Type 0 where
-  pub before : (a b : IRNode) → (NodeBefore post_reverse t r a b → NodeBefore pre_forward t r b a) × (NodeBefore pre_forward t r b a → NodeBefore post_reverse t r a b)
-  pub traversal : (ns ms : List IRNode) → IsTraversal post_reverse t r ns → IsTraversal pre_forward t r ms → ns ≡ reverse ms
+  pub before : (a b : IRNode) → (NodeBefore post_reverse t r a b → NodeBefore pre_forward t r b a) ×
+      (NodeBefore pre_forward t r b a → NodeBefore post_reverse t r a b)
+  pub traversal : (ns ms : List IRNode) → IsTraversal post_reverse t r ns → IsTraversal pre_forward t r ms →
+      ns ≡ reverse ms
 
 abbrev pub PostReverseIsPreForwardReversed : Type 0
 PostReverseIsPreForwardReversed = (t : Tree) (r : IRNode) → HasOnePlaceEach t r → IsReversed t r
 
 -- the only calls that answer Skip are at PostOrder nodes
 abbrev pub SkipsAtPostOrder : {C S B : Type 0} → WalkConfig → List (Call C S B) → Type 0
-SkipsAtPostOrder {C} {S} {B} w calls = (x : Call C S B) → Has calls x → x.answer ≡ Continue Skip → order_of w x.node ≡ PostOrder
+SkipsAtPostOrder {C} {S} {B} w calls = (x : Call C S B) → Has calls x → x.answer ≡ Continue Skip →
+    order_of w x.node ≡ PostOrder
 
 abbrev pub ShutsOutNothing : {C S B : Type 0} → WalkConfig → List (Call C S B) → Type 0
 ShutsOutNothing w calls = (t : Tree) (r n : IRNode) → IsShutOut w t r calls n → ⊥
 
 -- A walk from c and s that left the state s', and called each node under the root once, in their order.
-pub record WalkedOnce {C S B : Type 0} (look : C → Shape) (w : WalkConfig) (post : Relation C S B) (c : C) (s : S) (r : IRNode) (s' : S) : Type 0 where
+pub record WalkedOnce {C S B : Type 0} (look : C → Shape) (w : WalkConfig) (post : Relation C S B) (c : C) (s : S)
+    (r : IRNode) (s' : S) : Type 0 where
   pub calls : List (Call C S B)
   pub chain : Chain (IsCallUnder look r post) c s calls c s'
   pub each_once : IsTraversal w (look c).kids r (nodes_of calls)

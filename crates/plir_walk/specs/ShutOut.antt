@@ -14,9 +14,10 @@ use Rattle.plir_walk.specs.Calls.{Call}
 abbrev pub IsSkipped : {C S B : Type 0} → List (Call C S B) → IRNode → Type 0
 IsSkipped {C} {S} {B} calls a = (x : Call C S B) × Has calls x × (x.node ≡ a) × (x.answer ≡ Continue Skip)
 
--- A node under the root r is shut out by a list of calls if a proper ancestor of it, at or under the root, is PreOrder and
--- was called with the answer Skip.
-pub record IsShutOut {C S B : Type 0} (w : WalkConfig) (t : Tree) (r : IRNode) (calls : List (Call C S B)) (n : IRNode) : Type 0 where
+-- A node under the root r is shut out by a list of calls if a proper ancestor of it, at or under the root, is PreOrder
+-- and was called with the answer Skip.
+pub record IsShutOut {C S B : Type 0} (w : WalkConfig) (t : Tree) (r : IRNode) (calls : List (Call C S B))
+    (n : IRNode) : Type 0 where
   pub ancestor : IRNode
   pub under_root : IsUnder t r ancestor
   pub above : IsProperlyUnder t ancestor n

@@ -1,6 +1,7 @@
 -- One step of a walk's cursor: a node, and whether it is entered or left; and one hop, which is a run of steps. The
 -- walkers' loops go by it; the contracts of walks cite nothing of it.
-use Rattle.std.specs.Prelude.{◌≡◌, Bool, true, false, not, cond, List, [], ◌∷◌, reverse, Option, Some, None, option_and_then, option_map}
+use Rattle.std.specs.Prelude.{◌≡◌, Bool, true, false, not, cond, List, [], ◌∷◌, reverse, Option, Some, None}
+use Rattle.std.specs.Prelude.{option_and_then, option_map}
 use Rattle.plir_core.specs.declared.ptr.IRNode.{IRNode}
 use Rattle.plir_core.specs.Forest.{Shape, IsForest}
 use Rattle.std.specs.declared.ops.ControlFlow.{ControlFlow}
@@ -86,8 +87,9 @@ abbrev pub goes_on : Bool → WalkContinue → Bool
 goes_on entering Advance = entering
 goes_on entering Skip = false
 
--- What a visit of a node leaves, from c and s to c' and s': where a call is due, one was made, with this answer, and a forest is left;
--- else nothing has changed, and the walk goes on.
-abbrev pub IsVisited : {C S B : Type 0} → (C → Shape) → Relation C S B → C → S → IRNode → Bool → ControlFlow B WalkContinue → C → S → Type 0
+-- What a visit of a node leaves, from c and s to c' and s': where a call is due, one was made, with this answer, and a
+-- forest is left; else nothing has changed, and the walk goes on.
+abbrev pub IsVisited : {C S B : Type 0} → (C → Shape) → Relation C S B → C → S → IRNode → Bool →
+    ControlFlow B WalkContinue → C → S → Type 0
 IsVisited look post c s n true a c' s' = post c s n a c' s' × IsForest (look c')
 IsVisited look post c s n false a c' s' = (a ≡ Continue Advance) × (c' ≡ c) × (s' ≡ s)

@@ -1,5 +1,6 @@
 -- Trees, places in them, and the order of places.
-use Rattle.std.specs.Prelude.{◌≡◌, ◌≢◌, ℕ, ◌<◌, Bool, false, ◌&&◌, ◌==◌, List, [], ◌∷◌, Option, Some, slice_get, option_and_then, MatchOption, ◌⊎◌}
+use Rattle.std.specs.Prelude.{◌≡◌, ◌≢◌, ℕ, ◌<◌, Bool, false, ◌&&◌, ◌==◌, List, [], ◌∷◌, Option, Some, slice_get}
+use Rattle.std.specs.Prelude.{option_and_then, MatchOption, ◌⊎◌}
 use Rattle.plir_core.specs.declared.ptr.Ptr.{Ptr}
 use Rattle.plir_core.specs.declared.ptr.IRNode.{IRNode}
 use Rattle.plir_core.specs.declared.ptr.IRNode.TheVariants.{Operation, BasicBlock, Region}
@@ -44,13 +45,14 @@ Earlier Forward i j = i < j
 Earlier Reverse i j = j < i
 
 -- One place under r is before another. At the node where the two ways part: if one of the places is that node, it is
--- before what is below it where the node is PreOrder, and after it where the node is PostOrder; else the place that goes
--- on to the child that is taken first, in the direction of that node, is before the other.
+-- before what is below it where the node is PreOrder, and after it where the node is PostOrder; else the place that
+-- goes on to the child that is taken first, in the direction of that node, is before the other.
 abbrev pub Before : WalkConfig → Tree → IRNode → Place → Place → Type 0
 Before w t r [] [] = ⊥
 Before w t r [] (j ∷ q) = order_of w r ≡ PreOrder
 Before w t r (i ∷ p) [] = order_of w r ≡ PostOrder
-Before w t r (i ∷ p) (j ∷ q) = ((i ≢ j) × Earlier (direction_of w r) i j) ⊎ ((i ≡ j) × MatchOption (slice_get (t r) i) ⊥ (λ c. Before w t c p q))
+Before w t r (i ∷ p) (j ∷ q) = ((i ≢ j) × Earlier (direction_of w r) i j) ⊎
+    ((i ≡ j) × MatchOption (slice_get (t r) i) ⊥ (λ c. Before w t c p q))
 
 -- n is r, or below it
 abbrev pub IsUnder : Tree → IRNode → IRNode → Type 0

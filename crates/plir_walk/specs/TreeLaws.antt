@@ -1,6 +1,7 @@
--- Laws of trees, for the proofs of every crate: what stands under what, by places and by climbing; and the order of places where
--- every node is PreOrder.
-use Rattle.std.proofs.Common.{◌≡◌, ℕ, zero, suc, true, [], ◌∷◌, ◌++◌, Option, Some, None, slice_get, inl, inr, refl, sym, ap, subst}
+-- Laws of trees, for the proofs of every crate: what stands under what, by places and by climbing; and the order of
+-- places where every node is PreOrder.
+use Rattle.std.proofs.Common.{◌≡◌, ℕ, zero, suc, true, [], ◌∷◌, ◌++◌, Option, Some, None, slice_get, inl, inr, refl}
+use Rattle.std.proofs.Common.{sym, ap, subst}
 use Rattle.std.proofs.Common.{◌∙◌}
 use Rattle.std.specs.Prelude.{option_and_then, MatchOption, ◌⊎◌}
 use Rattle.std.proofs.lemmas.Option.{same_Some, none-some}
@@ -149,7 +150,8 @@ module _ (w : WalkConfig) (pre : AllPre w) where
 
     -- a node is before what is below it
     above-on : (p z : Place) (a : IRNode) (o : Option IRNode) → option_and_then (λ c. node_at t c p) o ≡ Some a →
-        ((c : IRNode) → node_at t c p ≡ Some a → Before w t c p (p ++ z)) → MatchOption o ⊥ (λ c. Before w t c p (p ++ z))
+        ((c : IRNode) → node_at t c p ≡ Some a → Before w t c p (p ++ z)) →
+        MatchOption o ⊥ (λ c. Before w t c p (p ++ z))
     above-on p z a None e k = absurd (none-some a e)
     above-on p z a (Some c) e k = k c e
 

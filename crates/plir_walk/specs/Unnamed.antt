@@ -26,8 +26,8 @@ op_unnamed o = record o { attributes = unnamed o.attributes }
 abbrev pub block_unnamed : {A : Type 0} → BlockView A → BlockView A
 block_unnamed b = record b { label = None; attributes = unnamed b.attributes }
 
--- From t to u there are as many slots, the same of them hold something, each has the version that it had, and the same are free,
--- in the same order: so the next nodes get the slots that they would have got.
+-- From t to u there are as many slots, the same of them hold something, each has the version that it had, and the same
+-- are free, in the same order: so the next nodes get the slots that they would have got.
 pub record SameSlots {C : Type 0} (t u : Table C) : Type 0 where
   pub number : length u.slots ≡ length t.slots
   pub full : (j : ℕ) → is_some (content_at u j) ≡ is_some (content_at t j)
@@ -45,15 +45,19 @@ module _ {K A T : Type 0} where
   without_names s (BasicBlock p) = with_block_edit s p block_unnamed
   without_names s (Region p) = s
 
-  -- From s to t, each operation and each block under r has lost its names, and each block there its label. All else is the
-  -- same.
+  -- From s to t, each operation and each block under r has lost its names, and each block there its label. All else is
+  -- the same.
   pub record IsUnnamed (s t : Store K A T) (r : IRNode) : Type 0 where
     -- what is held under r
-    pub ops_under : (p : Ptr OperationKind) → IsUnder (kids s) r (Operation p) → op_at t p ≡ option_map op_unnamed (op_at s p)
-    pub blocks_under : (p : Ptr BasicBlockKind) → IsUnder (kids s) r (BasicBlock p) → block_at t p ≡ option_map block_unnamed (block_at s p)
+    pub ops_under : (p : Ptr OperationKind) → IsUnder (kids s) r (Operation p) →
+        op_at t p ≡ option_map op_unnamed (op_at s p)
+    pub blocks_under : (p : Ptr BasicBlockKind) → IsUnder (kids s) r (BasicBlock p) →
+        block_at t p ≡ option_map block_unnamed (block_at s p)
     -- and by the other nodes
-    pub ops_apart : (p : Ptr OperationKind) → IsLive s (Operation p) → (IsUnder (kids s) r (Operation p) → ⊥) → op_at t p ≡ op_at s p
-    pub blocks_apart : (p : Ptr BasicBlockKind) → IsLive s (BasicBlock p) → (IsUnder (kids s) r (BasicBlock p) → ⊥) → block_at t p ≡ block_at s p
+    pub ops_apart : (p : Ptr OperationKind) → IsLive s (Operation p) → (IsUnder (kids s) r (Operation p) → ⊥) →
+        op_at t p ≡ op_at s p
+    pub blocks_apart : (p : Ptr BasicBlockKind) → IsLive s (BasicBlock p) → (IsUnder (kids s) r (BasicBlock p) → ⊥) →
+        block_at t p ≡ block_at s p
     -- the same nodes stand where they stood
     pub live : (n : IRNode) → is_live t n ≡ is_live s n
     pub kids : (n : IRNode) → kids t n ≡ kids s n

@@ -15,7 +15,8 @@ use Rattle.plir_walk.specs.ShutOut.{IsShutOut}
 
 -- the last call, and only that one, answered with the break b
 abbrev pub LastBreaks : {C S B : Type 0} → List (Call C S B) → B → Type 0
-LastBreaks {C} {S} {B} calls b = (front : List (Call C S B)) × (end : Call C S B) × (calls ≡ front ++ end ∷ []) × (end.answer ≡ Break b) × NoBreak front
+LastBreaks {C} {S} {B} calls b = (front : List (Call C S B)) × (end : Call C S B) × (calls ≡ front ++ end ∷ []) ×
+    (end.answer ≡ Break b) × NoBreak front
 
 module _ {C S B : Type 0} (w : WalkConfig) (t : Tree) (r : IRNode) where
   -- n is due: it is under the root, and the calls do not shut it out
@@ -41,17 +42,19 @@ module _ {C S B : Type 0} (w : WalkConfig) (t : Tree) (r : IRNode) where
   CallsUpToLast calls = (front : List (Call C S B)) (end : Call C S B) → calls ≡ front ++ end ∷ [] → (n : IRNode)
       → (Has (nodes_of calls) n → IsDueUpTo calls end n) × (IsDueUpTo calls end n → Has (nodes_of calls) n)
 
-  -- What the answer of a walk says of its calls. Where it went to its end, no call broke, and exactly the due nodes were
-  -- called. Where it was broken, the last call answered so, and exactly the due nodes that are not after it were called.
+  -- What the answer of a walk says of its calls. Where it went to its end, no call broke, and exactly the due nodes
+  -- were called. Where it was broken, the last call answered so, and exactly the due nodes that are not after it were
+  -- called.
   abbrev pub Answers : List (Call C S B) → ControlFlow B WalkContinue → Type 0
   Answers calls (Continue k) = (k ≡ Advance) × NoBreak calls × CallsAllDue calls
   Answers calls (Break b) = LastBreaks calls b × CallsUpToLast calls
 
-  -- The same of a walk with a limit. At the limit exactly `limit` calls were made, none broke, exactly the due nodes that
-  -- are not after the last of them were called, and at least one due node was not called.
+  -- The same of a walk with a limit. At the limit exactly `limit` calls were made, none broke, exactly the due nodes
+  -- that are not after the last of them were called, and at least one due node was not called.
   abbrev pub AnswersWithin : ℕ → List (Call C S B) → Result (ControlFlow B WalkContinue) CallLimit → Type 0
   AnswersWithin limit calls (Ok a) = Answers calls a
-  AnswersWithin limit calls (Err x) = (length calls ≡ limit) × NoBreak calls × CallsUpToLast calls × ((n : IRNode) × IsDue calls n × (Has (nodes_of calls) n → ⊥))
+  AnswersWithin limit calls (Err x) = (length calls ≡ limit) × NoBreak calls × CallsUpToLast calls ×
+      ((n : IRNode) × IsDue calls n × (Has (nodes_of calls) n → ⊥))
 
   -- The calls, and the answer, are a walk of the tree t under the root r.
   pub record IsWalk (calls : List (Call C S B)) (answer : ControlFlow B WalkContinue) : Type 0 where
@@ -59,7 +62,8 @@ module _ {C S B : Type 0} (w : WalkConfig) (t : Tree) (r : IRNode) where
     pub answers : Answers calls answer
 
   -- The calls, and the answer, are a walk with a limit.
-  pub record IsWalkWithin (limit : ℕ) (calls : List (Call C S B)) (answer : Result (ControlFlow B WalkContinue) CallLimit) : Type 0 where
+  pub record IsWalkWithin (limit : ℕ) (calls : List (Call C S B))
+      (answer : Result (ControlFlow B WalkContinue) CallLimit) : Type 0 where
     pub in_order : InOrder calls
     pub within : length calls ≤ limit
     pub answers : AnswersWithin limit calls answer

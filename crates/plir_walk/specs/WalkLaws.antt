@@ -1,6 +1,7 @@
--- Laws of whole walks, for the proofs of passes: a walk of lawful calls is lawful at its root, which stays; and a walk that may make
--- as many calls as a context has nodes is never at its limit.
-use Rattle.std.proofs.Common.{◌≡◌, ℕ, suc, ◌+◌, ◌≤◌, ◌^◌, arith, List, [], ◌∷◌, length, Result, Err, inl, inr, refl, ap, subst}
+-- Laws of whole walks, for the proofs of passes: a walk of lawful calls is lawful at its root, which stays; and a walk
+-- that may make as many calls as a context has nodes is never at its limit.
+use Rattle.std.proofs.Common.{◌≡◌, ℕ, suc, ◌+◌, ◌≤◌, ◌^◌, arith, List, [], ◌∷◌, length, Result, Err, inl, inr, refl, ap}
+use Rattle.std.proofs.Common.{subst}
 use Rattle.std.specs.declared.ops.ControlFlow.{ControlFlow}
 use Rattle.plir_store.specs.Members.{Has, Distinct}
 use Rattle.plir_core.specs.declared.ptr.IRNode.{IRNode}
@@ -32,10 +33,13 @@ length-nodes (x ∷ xs) = ap suc (length-nodes xs)
 
 module _ {K A T : Type 0} where
   -- the walk of a tree that may make a call for each node that there can be makes them all
-  pub never-at-limit : {S B : Type 0} (w : WalkConfig) (c : Store K A T) (r : IRNode) (limit : ℕ) (calls : List (Call (Store K A T) S B)) (x : CallLimit)
-      → BeforeOrders → IsStanding c → IsLive c r → 2 ^ 32 ≤ limit + 1 → IsWalkWithin w (kids c) r limit calls (Err x) → ⊥
+  pub never-at-limit : {S B : Type 0} (w : WalkConfig) (c : Store K A T) (r : IRNode) (limit : ℕ)
+      (calls : List (Call (Store K A T) S B)) (x : CallLimit)
+      → BeforeOrders → IsStanding c → IsLive c r → 2 ^ 32 ≤ limit + 1 → IsWalkWithin w (kids c) r limit calls (Err x) →
+      ⊥
   never-at-limit w c r limit calls x orders stands live enough v =
-      let once = pairs-distinct (NodeBefore w (kids c) r) (nodes_of calls) (orders w (kids c) r v.in_order.one_place).irreflexive v.in_order.increasing in
+      let once = pairs-distinct (NodeBefore w (kids c) r) (nodes_of calls)
+      (orders w (kids c) r v.in_order.one_place).irreflexive v.in_order.increasing in
       let missed = v.answers.3 in
       let more = stands.measured.counted (missed.0 ∷ nodes_of calls) (missed.2, once) (λ n k. elim k [
         | inl e ↦ subst (IsLive c) e (under-live (look c) stands.forest r missed.0 live missed.1.0)
@@ -48,24 +52,33 @@ module _ {K A T : Type 0} where
       absurd (omega arith)
 
   -- a walk that is at its limit, told by an equation
-  pub limit-at-exit : {S B : Type 0} {post : Relation (Store K A T) S B} (w : WalkConfig) (c c' : Store K A T) (s s' : S) (r : IRNode) (limit : ℕ) (answer : Result (ControlFlow B WalkContinue) CallLimit) (x : CallLimit)
-      → answer ≡ Err x → AllPre w → (walked : Walked look w post c s r limit answer c' s') → IsWalkWithin w (kids c') r limit walked.calls (Err x)
-  limit-at-exit w c c' s s' r limit answer x e pre walked = subst (λ z. IsWalkWithin w (kids c') r limit walked.calls z) e (walked.at_exit pre)
+  pub limit-at-exit : {S B : Type 0} {post : Relation (Store K A T) S B} (w : WalkConfig) (c c' : Store K A T)
+      (s s' : S) (r : IRNode) (limit : ℕ) (answer : Result (ControlFlow B WalkContinue) CallLimit) (x : CallLimit)
+      → answer ≡ Err x → AllPre w → (walked : Walked look w post c s r limit answer c' s') →
+      IsWalkWithin w (kids c') r limit walked.calls (Err x)
+  limit-at-exit w c c' s s' r limit answer x e pre walked =
+      subst (λ z. IsWalkWithin w (kids c') r limit walked.calls z) e (walked.at_exit pre)
 
-  pub limit-at-entry : {S B : Type 0} {post : Relation (Store K A T) S B} (w : WalkConfig) (c c' : Store K A T) (s s' : S) (r : IRNode) (limit : ℕ) (answer : Result (ControlFlow B WalkContinue) CallLimit) (x : CallLimit)
-      → answer ≡ Err x → AllPost w → (walked : Walked look w post c s r limit answer c' s') → IsWalkWithin w (kids c) r limit walked.calls (Err x)
-  limit-at-entry w c c' s s' r limit answer x e post walked = subst (λ z. IsWalkWithin w (kids c) r limit walked.calls z) e (walked.at_entry post)
+  pub limit-at-entry : {S B : Type 0} {post : Relation (Store K A T) S B} (w : WalkConfig) (c c' : Store K A T)
+      (s s' : S) (r : IRNode) (limit : ℕ) (answer : Result (ControlFlow B WalkContinue) CallLimit) (x : CallLimit)
+      → answer ≡ Err x → AllPost w → (walked : Walked look w post c s r limit answer c' s') →
+      IsWalkWithin w (kids c) r limit walked.calls (Err x)
+  limit-at-entry w c c' s s' r limit answer x e post walked =
+      subst (λ z. IsWalkWithin w (kids c) r limit walked.calls z) e (walked.at_entry post)
 
   -- a walk of lawful calls is lawful at its root
-  module _ {S B : Type 0} (own : A → List ℕ) (laws : LawfulChanges K A T own) (post : Relation (Store K A T) S B) (r : IRNode)
-      (each : (c : Store K A T) (s : S) (n : IRNode) (a : ControlFlow B WalkContinue) (c' : Store K A T) (s' : S) → post c s n a c' s' → Lawful (look c) n (look c')) where
+  module _ {S B : Type 0} (own : A → List ℕ) (laws : LawfulChanges K A T own) (post : Relation (Store K A T) S B)
+      (r : IRNode)
+      (each : (c : Store K A T) (s : S) (n : IRNode) (a : ControlFlow B WalkContinue) (c' : Store K A T) (s' : S) →
+      post c s n a c' s' → Lawful (look c) n (look c')) where
     abbrev call : Relation (Store K A T) S B
     call = IsCallUnder look r post
 
     abbrev Lasts : Store K A T → S → Store K A T → S → Type 0
     Lasts c s c' s' = IsForest (look c) → IsLive c r → IsForest (look c') × IsLive c' r × Lawful (look c) r (look c')
 
-    pub walk-lasts : (c c' : Store K A T) (s s' : S) (calls : List (Call (Store K A T) S B)) → IsForest (look c) → IsLive c r → Chain call c s calls c' s' → IsForest (look c') × IsLive c' r × Lawful (look c) r (look c')
+    pub walk-lasts : (c c' : Store K A T) (s s' : S) (calls : List (Call (Store K A T) S B)) → IsForest (look c) →
+        IsLive c r → Chain call c s calls c' s' → IsForest (look c') × IsLive c' r × Lawful (look c) r (look c')
     walk-lasts c c' s s' calls w l h =
         kept_from_entry_to_exit call Lasts
         (record {

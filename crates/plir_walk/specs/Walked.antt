@@ -14,8 +14,8 @@ use Rattle.plir_walk.specs.Calls.{Call, Relation, Chain}
 use Rattle.plir_walk.specs.Walk.{IsWalk, IsWalkWithin}
 use Rattle.plir_walk.specs.AsRead.{tree_read}
 
--- A call that a walk from the root r can make: the node is live and stands under the root in a forest, a forest is left,
--- and the call is in the callback's relation.
+-- A call that a walk from the root r can make: the node is live and stands under the root in a forest, a forest is
+-- left, and the call is in the callback's relation.
 pub record IsCallUnder {C S B : Type 0} (look : C → Shape) (r : IRNode) (post : Relation C S B)
     (c : C) (s : S) (n : IRNode) (a : ControlFlow B WalkContinue) (c' : C) (s' : S) : Type 0 where
   pub stands : StandsUnder (look c) r n
@@ -32,18 +32,20 @@ abbrev pub KeepsShape : {C S B : Type 0} → (C → Shape) → IRNode → Relati
 KeepsShape {C} {S} {B} look r post = (c : C) (s : S) (n : IRNode) (a : ControlFlow B WalkContinue) (c' : C) (s' : S)
     → IsCallUnder look r post c s n a c' s' → SameShape (look c) (look c')
 
--- A walk that leaves the context c as it is: there is a list of calls that a walk from r can make, one after another from
--- the entry to the exit, that is a walk of the context's tree.
-pub record WalkedOver {C S B : Type 0} (look : C → Shape) (w : WalkConfig) (post : Relation C S B) (c : C) (s : S) (r : IRNode) (answer : ControlFlow B WalkContinue) (s' : S) : Type 0 where
+-- A walk that leaves the context c as it is: there is a list of calls that a walk from r can make, one after another
+-- from the entry to the exit, that is a walk of the context's tree.
+pub record WalkedOver {C S B : Type 0} (look : C → Shape) (w : WalkConfig) (post : Relation C S B) (c : C) (s : S)
+    (r : IRNode) (answer : ControlFlow B WalkContinue) (s' : S) : Type 0 where
   pub calls : List (Call C S B)
   pub chain : Chain (IsCallUnder look r post) c s calls c s'
   pub walk : IsWalk w (look c).kids r calls answer
 
--- A walk whose calls may change the context from c to c': there is a list of at most `limit` calls that a walk from r can make,
--- one after another from the entry to the exit, that is a walk of the tree as the calls read it. If all levels are PreOrder
--- it is a walk of the tree at the exit too, if all are PostOrder of the tree at the entry, and if the callback keeps the
--- shape of both, whatever the setting.
-pub record Walked {C S B : Type 0} (look : C → Shape) (w : WalkConfig) (post : Relation C S B) (c : C) (s : S) (r : IRNode) (limit : ℕ)
+-- A walk whose calls may change the context from c to c': there is a list of at most `limit` calls that a walk from r
+-- can make, one after another from the entry to the exit, that is a walk of the tree as the calls read it. If all
+-- levels are PreOrder it is a walk of the tree at the exit too, if all are PostOrder of the tree at the entry, and if
+-- the callback keeps the shape of both, whatever the setting.
+pub record Walked {C S B : Type 0} (look : C → Shape) (w : WalkConfig) (post : Relation C S B) (c : C) (s : S)
+    (r : IRNode) (limit : ℕ)
     (answer : Result (ControlFlow B WalkContinue) CallLimit) (c' : C) (s' : S) : Type 0 where
   pub calls : List (Call C S B)
   pub chain : Chain (IsCallUnder look r post) c s calls c' s'

@@ -38,8 +38,9 @@ fn unname<D: OpSet>(ctx: &mut Context<D>, node: IRNode)
     }
 }
 
-/// Takes the names of results and arguments out of an operation and of all operations and blocks below it, and the labels of
-/// those blocks. An attribute of another kind under the key of names stays, and so does all else. Takes no memory.
+/// Takes the names of results and arguments out of an operation and of all operations and blocks below it, and the
+/// labels of those blocks. An attribute of another kind under the key of names stays, and so does all else. Takes no
+/// memory.
 pub fn erase_given_names<D: OpSet>(ctx: &mut Context<D>, op: Ptr<Operation>)
     requires { IsLive ctx.old (AnyNode.Operation op) }
     ensures { IsUnnamed ctx.old ctx.new (AnyNode.Operation op) }

@@ -1,12 +1,14 @@
 //! Names that are given to results of operations and to arguments of blocks.
 //!
-//! They stand in one list, in an attribute under [`ATTR_KEY_GIVEN_NAMES`], each name at the place of its result or argument.
+//! They stand in one list, in an attribute under [`ATTR_KEY_GIVEN_NAMES`], each name at the place of its result or
+//! argument.
 ghost use Rattle.std.specs.Prelude.{◌≡◌, ◌↔◌, ◌<◌, ◌≤◌, true, OnOk, OnErr, is_err, length, option_map};
 ghost use Rattle.plir_core.specs.Store.{IsLive, result_types_of, arg_types_of};
 ghost use Rattle.plir_core.specs.Whole.{IsWhole};
 ghost use Rattle.plir_core.specs.declared.ptr.IRNode.{IRNode};
 ghost use Rattle.plir_core.specs.declared.value.DefiningEntity.{DefiningEntity};
-ghost use Rattle.plir_walk.specs.GivenNames.{name_at as name_in, names_at, has_other_at, with_names, set_name, insert_name, remove_name};
+ghost use Rattle.plir_walk.specs.GivenNames.{name_at as name_in, names_at, has_other_at, with_names, set_name};
+ghost use Rattle.plir_walk.specs.GivenNames.{insert_name, remove_name};
 
 pub use crate::erase_names::erase_given_names;
 use crate::name_list::Placing;
@@ -21,8 +23,8 @@ use std::alloc::Global;
 ///
 /// # Errors
 ///
-/// `GivenNamesIncorrect` exactly where an attribute of another kind stands under the key, else `Memory` where a growth was
-/// refused. All is as before then.
+/// `GivenNamesIncorrect` exactly where an attribute of another kind stands under the key, else `Memory` where a growth
+/// was refused. All is as before then.
 pub fn set_operation_result_name<D: OpSet>(
     alloc: Global,
     ctx: &mut Context<D>,
@@ -32,24 +34,26 @@ pub fn set_operation_result_name<D: OpSet>(
 ) -> Result<(), GivenNamesErr>
     requires live { IsLive ctx.old (IRNode.Operation op) }
     requires below { i < length (result_types_of ctx.old op) }
-    ensures ok { OnOk result (ctx.new ≡ with_names ctx.old (DefiningEntity.Op op) (set_name (names_at ctx.old (DefiningEntity.Op op)) i name)) }
+    ensures ok { OnOk result (ctx.new ≡ with_names ctx.old (DefiningEntity.Op op)
+        (set_name (names_at ctx.old (DefiningEntity.Op op)) i name)) }
     ensures err { OnErr result (ctx.new ≡ ctx.old) }
-    ensures incorrect { (result ≡ Err GivenNamesErr.GivenNamesIncorrect) ↔ (has_other_at ctx.old (DefiningEntity.Op op) ≡ true) }
+    ensures incorrect { (result ≡ Err GivenNamesErr.GivenNamesIncorrect) ↔
+        (has_other_at ctx.old (DefiningEntity.Op op) ≡ true) }
     ensures whole { IsWhole D.attr_handles ctx.new }
 {
     let results_of = DefiningEntity::Op(op);
     put_name(alloc, ctx, results_of, i, name, Placing::Replacing)
 }
 
-/// Puts a name before that of the result at a place, from 0, or at the end: that and the later ones move up. Unset names fill
-/// the list up to it.
+/// Puts a name before that of the result at a place, from 0, or at the end: that and the later ones move up. Unset
+/// names fill the list up to it.
 ///
 /// After an unset name was put, a list with no name set is taken out; where there is none, none is added.
 ///
 /// # Errors
 ///
-/// `GivenNamesIncorrect` exactly where an attribute of another kind stands under the key, else `Memory` where a growth was
-/// refused. All is as before then.
+/// `GivenNamesIncorrect` exactly where an attribute of another kind stands under the key, else `Memory` where a growth
+/// was refused. All is as before then.
 pub fn insert_operation_result_name<D: OpSet>(
     alloc: Global,
     ctx: &mut Context<D>,
@@ -59,17 +63,19 @@ pub fn insert_operation_result_name<D: OpSet>(
 ) -> Result<(), GivenNamesErr>
     requires live { IsLive ctx.old (IRNode.Operation op) }
     requires within { i ≤ length (result_types_of ctx.old op) }
-    ensures ok { OnOk result (ctx.new ≡ with_names ctx.old (DefiningEntity.Op op) (insert_name (names_at ctx.old (DefiningEntity.Op op)) i name)) }
+    ensures ok { OnOk result (ctx.new ≡ with_names ctx.old (DefiningEntity.Op op)
+        (insert_name (names_at ctx.old (DefiningEntity.Op op)) i name)) }
     ensures err { OnErr result (ctx.new ≡ ctx.old) }
-    ensures incorrect { (result ≡ Err GivenNamesErr.GivenNamesIncorrect) ↔ (has_other_at ctx.old (DefiningEntity.Op op) ≡ true) }
+    ensures incorrect { (result ≡ Err GivenNamesErr.GivenNamesIncorrect) ↔
+        (has_other_at ctx.old (DefiningEntity.Op op) ≡ true) }
     ensures whole { IsWhole D.attr_handles ctx.new }
 {
     let results_of = DefiningEntity::Op(op);
     put_name(alloc, ctx, results_of, i, name, Placing::Shifting)
 }
 
-/// Takes the name of the result at a place, from 0, out, if the list is so long: the later ones move down. A list with no name
-/// set is taken out. Takes no memory.
+/// Takes the name of the result at a place, from 0, out, if the list is so long: the later ones move down. A list with
+/// no name set is taken out. Takes no memory.
 ///
 /// # Errors
 ///
@@ -81,7 +87,8 @@ pub fn remove_operation_result_name<D: OpSet>(
 ) -> Result<(), GivenNamesIncorrect>
     requires live { IsLive ctx.old (IRNode.Operation op) }
     requires below { i < length (result_types_of ctx.old op) }
-    ensures ok { OnOk result (ctx.new ≡ with_names ctx.old (DefiningEntity.Op op) (remove_name (names_at ctx.old (DefiningEntity.Op op)) i)) }
+    ensures ok { OnOk result (ctx.new ≡ with_names ctx.old (DefiningEntity.Op op)
+        (remove_name (names_at ctx.old (DefiningEntity.Op op)) i)) }
     ensures err { OnErr result (ctx.new ≡ ctx.old) }
     ensures incorrect { has_other_at ctx.old (DefiningEntity.Op op) ≡ is_err result }
     ensures whole { IsWhole D.attr_handles ctx.new }
@@ -89,8 +96,8 @@ pub fn remove_operation_result_name<D: OpSet>(
     take_name(ctx, DefiningEntity::Op(op), i)
 }
 
-/// The name of the result at a place, from 0, if it has one: past the end of the list, and where an attribute of another kind
-/// stands under the key, it has none. Takes no memory.
+/// The name of the result at a place, from 0, if it has one: past the end of the list, and where an attribute of
+/// another kind stands under the key, it has none. Takes no memory.
 pub fn get_operation_result_name<D: OpSet>(
     ctx: &Context<D>,
     op: Ptr<Operation>,
@@ -109,8 +116,8 @@ pub fn get_operation_result_name<D: OpSet>(
 ///
 /// # Errors
 ///
-/// `GivenNamesIncorrect` exactly where an attribute of another kind stands under the key, else `Memory` where a growth was
-/// refused. All is as before then.
+/// `GivenNamesIncorrect` exactly where an attribute of another kind stands under the key, else `Memory` where a growth
+/// was refused. All is as before then.
 pub fn set_block_arg_name<D: OpSet>(
     alloc: Global,
     ctx: &mut Context<D>,
@@ -120,24 +127,26 @@ pub fn set_block_arg_name<D: OpSet>(
 ) -> Result<(), GivenNamesErr>
     requires live { IsLive ctx.old (IRNode.BasicBlock block) }
     requires below { i < length (arg_types_of ctx.old block) }
-    ensures ok { OnOk result (ctx.new ≡ with_names ctx.old (DefiningEntity.Block block) (set_name (names_at ctx.old (DefiningEntity.Block block)) i name)) }
+    ensures ok { OnOk result (ctx.new ≡ with_names ctx.old (DefiningEntity.Block block)
+        (set_name (names_at ctx.old (DefiningEntity.Block block)) i name)) }
     ensures err { OnErr result (ctx.new ≡ ctx.old) }
-    ensures incorrect { (result ≡ Err GivenNamesErr.GivenNamesIncorrect) ↔ (has_other_at ctx.old (DefiningEntity.Block block) ≡ true) }
+    ensures incorrect { (result ≡ Err GivenNamesErr.GivenNamesIncorrect) ↔
+        (has_other_at ctx.old (DefiningEntity.Block block) ≡ true) }
     ensures whole { IsWhole D.attr_handles ctx.new }
 {
     let arguments_of = DefiningEntity::Block(block);
     put_name(alloc, ctx, arguments_of, i, name, Placing::Replacing)
 }
 
-/// Puts a name before that of the argument at a place, from 0, or at the end: that and the later ones move up. Unset names fill
-/// the list up to it.
+/// Puts a name before that of the argument at a place, from 0, or at the end: that and the later ones move up. Unset
+/// names fill the list up to it.
 ///
 /// After an unset name was put, a list with no name set is taken out; where there is none, none is added.
 ///
 /// # Errors
 ///
-/// `GivenNamesIncorrect` exactly where an attribute of another kind stands under the key, else `Memory` where a growth was
-/// refused. All is as before then.
+/// `GivenNamesIncorrect` exactly where an attribute of another kind stands under the key, else `Memory` where a growth
+/// was refused. All is as before then.
 pub fn insert_block_arg_name<D: OpSet>(
     alloc: Global,
     ctx: &mut Context<D>,
@@ -147,17 +156,19 @@ pub fn insert_block_arg_name<D: OpSet>(
 ) -> Result<(), GivenNamesErr>
     requires live { IsLive ctx.old (IRNode.BasicBlock block) }
     requires within { i ≤ length (arg_types_of ctx.old block) }
-    ensures ok { OnOk result (ctx.new ≡ with_names ctx.old (DefiningEntity.Block block) (insert_name (names_at ctx.old (DefiningEntity.Block block)) i name)) }
+    ensures ok { OnOk result (ctx.new ≡ with_names ctx.old (DefiningEntity.Block block)
+        (insert_name (names_at ctx.old (DefiningEntity.Block block)) i name)) }
     ensures err { OnErr result (ctx.new ≡ ctx.old) }
-    ensures incorrect { (result ≡ Err GivenNamesErr.GivenNamesIncorrect) ↔ (has_other_at ctx.old (DefiningEntity.Block block) ≡ true) }
+    ensures incorrect { (result ≡ Err GivenNamesErr.GivenNamesIncorrect) ↔
+        (has_other_at ctx.old (DefiningEntity.Block block) ≡ true) }
     ensures whole { IsWhole D.attr_handles ctx.new }
 {
     let arguments_of = DefiningEntity::Block(block);
     put_name(alloc, ctx, arguments_of, i, name, Placing::Shifting)
 }
 
-/// Takes the name of the argument at a place, from 0, out, if the list is so long: the later ones move down. A list with no name
-/// set is taken out. Takes no memory.
+/// Takes the name of the argument at a place, from 0, out, if the list is so long: the later ones move down. A list
+/// with no name set is taken out. Takes no memory.
 ///
 /// # Errors
 ///
@@ -169,7 +180,8 @@ pub fn remove_block_arg_name<D: OpSet>(
 ) -> Result<(), GivenNamesIncorrect>
     requires live { IsLive ctx.old (IRNode.BasicBlock block) }
     requires below { i < length (arg_types_of ctx.old block) }
-    ensures ok { OnOk result (ctx.new ≡ with_names ctx.old (DefiningEntity.Block block) (remove_name (names_at ctx.old (DefiningEntity.Block block)) i)) }
+    ensures ok { OnOk result (ctx.new ≡ with_names ctx.old (DefiningEntity.Block block)
+        (remove_name (names_at ctx.old (DefiningEntity.Block block)) i)) }
     ensures err { OnErr result (ctx.new ≡ ctx.old) }
     ensures incorrect { has_other_at ctx.old (DefiningEntity.Block block) ≡ is_err result }
     ensures whole { IsWhole D.attr_handles ctx.new }
@@ -177,8 +189,8 @@ pub fn remove_block_arg_name<D: OpSet>(
     take_name(ctx, DefiningEntity::Block(block), i)
 }
 
-/// The name of the argument at a place, from 0, if it has one: past the end of the list, and where an attribute of another kind
-/// stands under the key, it has none. Takes no memory.
+/// The name of the argument at a place, from 0, if it has one: past the end of the list, and where an attribute of
+/// another kind stands under the key, it has none. Takes no memory.
 pub fn get_block_arg_name<D: OpSet>(
     ctx: &Context<D>,
     block: Ptr<BasicBlock>,

@@ -17,7 +17,8 @@ ghost use Rattle.plir_core.specs.Forest.{IsForest, Shape};
 ghost use Rattle.plir_walk.specs.Tree.{HasOnePlaceEach, IsUnder};
 ghost use Rattle.plir_walk.specs.Calls.{Advancing, Call, ReadsBack};
 ghost use Rattle.plir_walk.specs.LawfulChanges.{LawfulChanges};
-ghost use Rattle.plir_walk.specs.Laws.{BeforeOrders, PostReverseIsPreForwardReversed, SkipsAtPostOrder, ShutsOutNothing, WalkedOnce};
+ghost use Rattle.plir_walk.specs.Laws.{BeforeOrders, PostReverseIsPreForwardReversed, SkipsAtPostOrder};
+ghost use Rattle.plir_walk.specs.Laws.{ShutsOutNothing, WalkedOnce};
 
 use crate::config::WalkConfig;
 use crate::links::NodeLinks;
@@ -48,7 +49,8 @@ pub fn one_place_each<C: NodeLinks>(ctx: &C)
     ctx.forest();
 }
 
-/// What stands at or under a node by places is what climbs to it: walks tell of the one, what a call leaves of the other.
+/// What stands at or under a node by places is what climbs to it: walks tell of the one, what a call leaves of the
+/// other.
 pub fn places_and_climbs_agree()
     ensures climbed { (s : Shape) → IsForest s → (r n : AnyNode) → Reaches s.parent n r → IsUnder s.kids r n }
     ensures placed { (s : Shape) → IsForest s → (r n : AnyNode) → IsUnder s.kids r n → Reaches s.parent n r }
@@ -79,13 +81,16 @@ pub fn walks_each_node_once<C: NodeLinks, S, F: Fn(&C, &mut S, IRNode)>(
     callback: F,
 )
     requires root_live { (C.look ctx.now).live (IRNode.Operation root) ≡ true }
-    requires callable { (c : _) (s : _) (n : AnyNode) → c.now ≡ ctx.now → StandsUnder (C.look ctx.now) (IRNode.Operation root) n → F.pre callback c s n }
-    ensures { WalkedOnce C.look config.now (Advancing (ReadsBack F.Fn callback)) ctx.now state.old (IRNode.Operation root) state.new }
+    requires callable { (c : _) (s : _) (n : AnyNode) → c.now ≡ ctx.now →
+        StandsUnder (C.look ctx.now) (IRNode.Operation root) n → F.pre callback c s n }
+    ensures { WalkedOnce C.look config.now (Advancing (ReadsBack F.Fn callback)) ctx.now state.old
+        (IRNode.Operation root) state.new }
 {
     uninterruptible::immutable::walk_op(ctx, state, config, root, callback);
 }
 
-/// What a callback at a node may do to a context: each change is lawful, told in the words of the node calls that make it.
+/// What a callback at a node may do to a context: each change is lawful, told in the words of the node calls that make
+/// it.
 pub fn lawful_changes<D: OpSet>()
     ensures { LawfulChanges D.Kind D.Attr D.Ty D.attr_handles }
 {

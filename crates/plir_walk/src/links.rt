@@ -45,7 +45,8 @@ pub trait NodeLinks {
     /// The sibling right before a node.
     fn previous_sibling(&self, node: IRNode) -> Option<IRNode>
         requires { (look self.now).live node ≡ true }
-        ensures { result ≡ option_and_then (λ a. after node (reverse ((look self.now).kids a))) ((look self.now).parent node) };
+        ensures { result ≡ option_and_then (λ a. after node (reverse ((look self.now).kids a)))
+            ((look self.now).parent node) };
 
     /// The sibling that a walk enters after a node.
     fn next_taken(&self, config: &WalkConfig, node: IRNode) -> Option<IRNode>

@@ -1,5 +1,6 @@
 //! The names of results and arguments, in the attributes of their operation or block.
-ghost use Rattle.std.specs.Prelude.{◌≡◌, ◌↔◌, true, false, [], Some, None, OnOk, OnErr, IfOk, IsSome, Ok, is_err, option_map};
+ghost use Rattle.std.specs.Prelude.{◌≡◌, ◌↔◌, true, false, [], Some, None, OnOk, OnErr, IfOk, IsSome, Ok, is_err};
+ghost use Rattle.std.specs.Prelude.{option_map};
 ghost use Rattle.plir_data.specs.AttrView.{leaf, unit, given_names};
 ghost use Rattle.plir_data.specs.AttrLive.{IsAttrLive};
 ghost use Rattle.plir_data.specs.AttrSeen.{attr_view};
@@ -83,7 +84,8 @@ fn swap_attr<D: OpSet>(
     requires live { IsLive ctx.old (entity_node entity) }
     requires handles { IsAttrLive D.attr_handles ctx.old.types (attr_view value) }
     ensures found { IfOk result (λ a. dict_get (attributes_at ctx.old entity) names_key ≡ Some (attr_view a)) }
-    ensures put { OnOk result (ctx.new ≡ with_attributes ctx.old entity (λ es. dict_put es names_key (attr_view value))) }
+    ensures put { OnOk result (ctx.new ≡ with_attributes ctx.old entity
+        (λ es. dict_put es names_key (attr_view value))) }
     ensures absent { OnErr result (dict_get (attributes_at ctx.old entity) names_key ≡ None) }
     ensures same { OnErr result (ctx.new ≡ ctx.old) }
     ensures whole { IsWhole D.attr_handles ctx.new }
@@ -115,7 +117,8 @@ fn add_names<D: OpSet>(
 ) -> Result<(), Memory>
     requires live { IsLive ctx.old (entity_node entity) }
     requires whole { IsWhole D.attr_handles ctx.old }
-    ensures ok { OnOk result (ctx.new ≡ with_attributes ctx.old entity (λ es. dict_put es names_key (leaf (given_names names.items)))) }
+    ensures ok { OnOk result (ctx.new ≡ with_attributes ctx.old entity
+        (λ es. dict_put es names_key (leaf (given_names names.items)))) }
     ensures err { OnErr result (ctx.new ≡ ctx.old) }
     ensures whole { IsWhole D.attr_handles ctx.new }
 {
@@ -167,15 +170,17 @@ pub(crate) fn name_at<D: OpSet>(
     names_of(attribute)?.names().get(i)?.as_ref()
 }
 
-// Takes the names out, if there are any, so that they can be edited; something else stands under their key until they are
-// put back.
+// Takes the names out, if there are any, so that they can be edited; something else stands under their key until they
+// are put back.
 fn take_names<D: OpSet>(
     ctx: &mut Context<D>,
     entity: DefiningEntity,
 ) -> Result<Option<GivenNamesAttr>, GivenNamesIncorrect>
     requires { IsLive ctx.old (entity_node entity) }
-    ensures taken { IfOk result (λ names. option_map (λ ns. leaf (given_names ns)) names ≡ dict_get (attributes_at ctx.old entity) names_key) }
-    ensures after { IfOk result (λ names. IsSome names → ctx.new ≡ with_attributes ctx.old entity (λ es. dict_put es names_key (leaf unit))) }
+    ensures taken { IfOk result (λ names. option_map (λ ns. leaf (given_names ns)) names ≡ dict_get
+        (attributes_at ctx.old entity) names_key) }
+    ensures after { IfOk result (λ names. IsSome names →
+        ctx.new ≡ with_attributes ctx.old entity (λ es. dict_put es names_key (leaf unit))) }
     ensures absent { result ≡ Ok None → ctx.new ≡ ctx.old }
     ensures incorrect { has_other_at ctx.old entity ≡ is_err result }
     ensures err { OnErr result (ctx.new ≡ ctx.old) }
@@ -250,7 +255,8 @@ pub(crate) fn put_name<D: OpSet>(
     placing: Placing,
 ) -> Result<(), GivenNamesErr>
     requires { IsLive ctx.old (entity_node entity) }
-    ensures ok { OnOk result (ctx.new ≡ with_names ctx.old entity (placed_name placing (names_at ctx.old entity) i name)) }
+    ensures ok { OnOk result (ctx.new ≡ with_names ctx.old entity
+        (placed_name placing (names_at ctx.old entity) i name)) }
     ensures err { OnErr result (ctx.new ≡ ctx.old) }
     ensures incorrect { (result ≡ Err GivenNamesErr.GivenNamesIncorrect) ↔ (has_other_at ctx.old entity ≡ true) }
     ensures whole { IsWhole D.attr_handles ctx.new }

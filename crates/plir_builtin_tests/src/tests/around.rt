@@ -36,7 +36,8 @@ impl<D: OpSet> SymbolTableInterface<D> for Around {}
 // Whether an operation has one region, of one block.
 fn has_body<D: OpSet, T: SymbolTableInterface<D>>(ctx: &Context<D>, table: &T) -> bool
     requires { IsLive ctx.now (AnyNode.Operation (T.pointer table.now)) }
-    ensures { IsTrue result ↔ (HasNRegions 1 ctx.now (T.pointer table.now) × HasSingleBlocks ctx.now (T.pointer table.now)) }
+    ensures { IsTrue result ↔ (HasNRegions 1 ctx.now (T.pointer table.now) ×
+        HasSingleBlocks ctx.now (T.pointer table.now)) }
 {
     if OneRegionInterface::<D>::verify(table, ctx).is_err() {
         return false;

@@ -230,8 +230,10 @@ fn is_recorded_in<D: OpSet>(
     name: &Identifier,
 ) -> Result<bool, Memory>
     requires { IsLive ctx.now (AnyNode.Operation table) }
-    ensures found { AllAgree D.is_symbol D.is_symbol_table ctx.now tables.old → IfOk result (λ b. IsTrue b ↔ IsFoundIn D.is_symbol ctx.now table name.now) }
-    ensures agree { AllAgree D.is_symbol D.is_symbol_table ctx.now tables.old → AllAgree D.is_symbol D.is_symbol_table ctx.now tables.new }
+    ensures found { AllAgree D.is_symbol D.is_symbol_table ctx.now tables.old →
+        IfOk result (λ b. IsTrue b ↔ IsFoundIn D.is_symbol ctx.now table name.now) }
+    ensures agree { AllAgree D.is_symbol D.is_symbol_table ctx.now tables.old →
+        AllAgree D.is_symbol D.is_symbol_table ctx.now tables.new }
     ensures given { AreGivenOut ctx.now tables.old → AreGivenOut ctx.now tables.new }
 {
     match tables.lookup_symbol_in_table(ctx, table, name) {
@@ -248,8 +250,10 @@ pub fn is_linked<D: OpSet>(
     op: Ptr<Operation>,
 ) -> Result<bool, Memory>
     requires { IsLive ctx.now (AnyNode.Operation op) }
-    ensures linked { AllAgree D.is_symbol D.is_symbol_table ctx.now tables.old → IfOk result (λ b. IsTrue b ↔ IsLinked D.is_symbol ctx.now op) }
-    ensures agree { AllAgree D.is_symbol D.is_symbol_table ctx.now tables.old → AllAgree D.is_symbol D.is_symbol_table ctx.now tables.new }
+    ensures linked { AllAgree D.is_symbol D.is_symbol_table ctx.now tables.old →
+        IfOk result (λ b. IsTrue b ↔ IsLinked D.is_symbol ctx.now op) }
+    ensures agree { AllAgree D.is_symbol D.is_symbol_table ctx.now tables.old →
+        AllAgree D.is_symbol D.is_symbol_table ctx.now tables.new }
     ensures given { AreGivenOut ctx.now tables.old → AreGivenOut ctx.now tables.new }
 {
     match (op.get_parent_op(ctx), used_symbol(ctx, op)) {

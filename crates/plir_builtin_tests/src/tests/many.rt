@@ -182,7 +182,8 @@ impl Numbers {
     }
 }
 
-// Adds a module and seven functions to two contexts in which the same was done before, so that they get the same numbers.
+// Adds a module and seven functions to two contexts in which the same was done before, so that they get the same
+// numbers.
 fn add<D: OpSet>(
     alloc: Global,
     cached: &mut Context<D>,
@@ -217,8 +218,8 @@ fn random_edits<D: OpSet>(
     Ok(edits)
 }
 
-// Makes edits through cached tables in one context, and by plain calls in the other; answers how many were made, if the same ones
-// were.
+// Makes edits through cached tables in one context, and by plain calls in the other; answers how many were made, if the
+// same ones were.
 fn edit_both<D: OpSet>(
     alloc: Global,
     cached: &mut Context<D>,

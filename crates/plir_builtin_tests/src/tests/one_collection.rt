@@ -1,4 +1,5 @@
-//! One collection that serves while modules are made: that its tables agree is carried from call to call, and never tested.
+//! One collection that serves while modules are made: that its tables agree is carried from call to call, and never
+//! tested.
 ghost use Rattle.plir_builtin.specs.Agree.{AllAgree, AreGivenOut};
 
 use super::link_set::LinkSet;

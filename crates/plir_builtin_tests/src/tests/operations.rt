@@ -7,16 +7,16 @@ ghost use Rattle.plir_core.specs.Store.{IsLive};
 ghost use Rattle.plir_core.specs.declared.ptr.IRNode.{IRNode as AnyNode};
 
 use super::symbols::put_verdict;
+use plir_attr_text::read_attr;
 use plir_builtin::{ConstantOp, ForwardRefOp, FuncOp, MaterializableAttr, ModuleOp};
 use plir_core::{Operation, Ptr};
 use plir_data::{AttrObj, FunctionType, Identifier, IntegerAttr, OpSet, TypeHandle, Typed};
 use plir_iface::Op;
 use plir_scripts::{Bench, Line, Stop};
-use plir_text::read_attr;
 
 /// Does what a line says of builtin operations: `module NAME`, `func NAME`, `constant TEXT`, `materialize TEXT` and
-/// `forward-ref` make one, `rule OP` tells whether its own rule holds, and `typed OP` whether a function has one type, however it
-/// is asked for.
+/// `forward-ref` make one, `rule OP` tells whether its own rule holds, and `typed OP` whether a function has one type,
+/// however it is asked for.
 pub fn operation<D: OpSet>(bench: &mut Bench<D>, line: Line<'_>) -> Result<(), Stop> {
     match line.command {
         "module" => make_module(bench, line.first),

@@ -15,11 +15,11 @@ use plir_core::{Context, IRNode, OpInsertionPoint, Operation, Ptr};
 use plir_data::{AttrObj, Identifier, OpSet};
 use plir_scripts::{Bench, Line, Made, Stop, grant_memory, refuse_memory, split_word};
 
-/// Makes the calls of `session CALL; CALL; ..` through one collection: `insert OP OP`, with `before OP` behind it or not, `remove OP OP`
-/// and `erase OP OP` through the table of the first operation, `list EDIT, EDIT, ..` in one list, `lookup OP NAME` in the table of one,
-/// `nearest OP NAME` in the nearest one, `find OP OP` in the table of the first by the name of the second; `module NAME` makes a
-/// module; between `refuse` and `grant` all memory is refused. Where a call is refused for want of memory, all tables are
-/// compared with their bodies, and it is made once more.
+/// Makes the calls of `session CALL; CALL; ..` through one collection: `insert OP OP`, with `before OP` behind it or
+/// not, `remove OP OP` and `erase OP OP` through the table of the first operation, `list EDIT, EDIT, ..` in one list,
+/// `lookup OP NAME` in the table of one, `nearest OP NAME` in the nearest one, `find OP OP` in the table of the first
+/// by the name of the second; `module NAME` makes a module; between `refuse` and `grant` all memory is refused. Where a
+/// call is refused for want of memory, all tables are compared with their bodies, and it is made once more.
 pub fn session<D: OpSet>(bench: &mut Bench<D>, line: Line<'_>) -> Result<(), Stop> {
     let mut tables = SymbolTableCollection::new(bench.alloc);
     for words in line.text.split("; ") {

@@ -17,9 +17,9 @@ use plir_scripts::{Answer, Bench, Line, Stop};
 use std::alloc::Global;
 use std::fmt::Display;
 
-/// Does what a line says of symbols: `symbol OP NAME` names one, `name OP` tells the name, `scan OP NAME` seeks a symbol in the body
-/// of an operation, `right OP` verifies a table, `declared OP` all that a builtin operation declares, and `past OP OP NAME` renames a
-/// symbol past its table.
+/// Does what a line says of symbols: `symbol OP NAME` names one, `name OP` tells the name, `scan OP NAME` seeks a
+/// symbol in the body of an operation, `right OP` verifies a table, `declared OP` all that a builtin operation
+/// declares, and `past OP OP NAME` renames a symbol past its table.
 pub fn symbol<D: SymbolUserSet>(bench: &mut Bench<D>, line: Line<'_>) -> Result<(), Stop> {
     match line.command {
         "symbol" => rename(bench, line),
@@ -128,8 +128,8 @@ fn verify_declared<D: SymbolUserSet>(bench: &mut Bench<D>, line: Line<'_>) -> Re
     }
 }
 
-// Writes what a table finds under the old name of a symbol and under the new one, after the symbol was renamed past it; takes the
-// symbol out, and writes what is found under the old name then.
+// Writes what a table finds under the old name of a symbol and under the new one, after the symbol was renamed past it;
+// takes the symbol out, and writes what is found under the old name then.
 fn rename_past<D: OpSet>(bench: &mut Bench<D>, line: Line<'_>) -> Result<(), Stop> {
     let (alloc, made, answer) = (bench.alloc, &bench.made, &mut bench.answer);
     let over = made.op(&bench.ctx, line.first)?;

@@ -12,9 +12,9 @@ use plir_scripts::{Answer, Bench, Line, Made, Stop, split_word};
 use plir_walk::interruptible::{WalkResult, walk_advance, walk_break};
 use std::alloc::Global;
 
-/// Does what a line says of tables: `table OP` makes one, `lookup OP NAME` and `nearest-lookup OP NAME` look a symbol up in
-/// the table of an operation and in the nearest one, `nearest OP` finds that, `edits EDIT; EDIT; ..` makes edits, and
-/// `hand OP [OP]` walks the table of an operation and breaks the walk at another one.
+/// Does what a line says of tables: `table OP` makes one, `lookup OP NAME` and `nearest-lookup OP NAME` look a symbol
+/// up in the table of an operation and in the nearest one, `nearest OP` finds that, `edits EDIT; EDIT; ..` makes edits,
+/// and `hand OP [OP]` walks the table of an operation and breaks the walk at another one.
 pub fn table<D: OpSet>(bench: &mut Bench<D>, line: Line<'_>) -> Result<(), Stop> {
     match line.command {
         "table" => make_table(bench, line),

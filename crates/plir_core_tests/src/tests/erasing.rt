@@ -165,8 +165,8 @@ fn erase_one_by_one(
     Ok(())
 }
 
-// Puts so many operations into a block of a new context, and erases them one by one; answers how many nodes were live before
-// that and after it.
+// Puts so many operations into a block of a new context, and erases them one by one; answers how many nodes were live
+// before that and after it.
 #[derive(Drop)]
 struct ErasesOneByOne {
     alloc: Global,

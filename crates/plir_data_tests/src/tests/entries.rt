@@ -29,7 +29,8 @@ pub fn put<D: OwnSet>(bench: &mut Bench<D>, line: Line<'_>) -> Result<(), Stop> 
     put_value(bench, &AttrObj::Dict(dict))
 }
 
-/// `lookup KEY DICT`, `lend KEY DICT`, `without KEY DICT` or `take KEY DICT`: what stands under a key, and what becomes of the dictionary.
+/// `lookup KEY DICT`, `lend KEY DICT`, `without KEY DICT` or `take KEY DICT`: what stands under a key, and what becomes
+/// of the dictionary.
 pub fn on_entry<D: OwnSet>(bench: &mut Bench<D>, line: Line<'_>) -> Result<(), Stop> {
     let (_, written) = split_word(line.text);
     let key = Identifier::try_new(bench.alloc, line.first)?;

@@ -19,7 +19,8 @@ fn integer_of(is_signed: bool, value: &str, width: &str) -> Result<Option<APInt>
     Ok(APInt::from_u64(value, width))
 }
 
-/// `unsigned VALUE WIDTH` or `signed VALUE WIDTH`: writes what is kept in so many bits, `none` where no integer has them.
+/// `unsigned VALUE WIDTH` or `signed VALUE WIDTH`: writes what is kept in so many bits, `none` where no integer has
+/// them.
 pub fn keep_bits<D: OpSet>(bench: &mut Bench<D>, line: Line<'_>) -> Result<(), Stop> {
     let answer = &mut bench.answer;
     match integer_of(line.command == "signed", line.first, line.second)? {
@@ -29,7 +30,8 @@ pub fn keep_bits<D: OpSet>(bench: &mut Bench<D>, line: Line<'_>) -> Result<(), S
     Ok(())
 }
 
-// Writes the width, the number read with a sign and without, each as a number and by its digits, and whether it is zero.
+// Writes the width, the number read with a sign and without, each as a number and by its digits, and whether it is
+// zero.
 fn put_bits(alloc: Global, answer: &mut Answer, kept: APInt) {
     answer.put_shown(&kept.bw());
     answer.put(" bits ");

@@ -1,8 +1,8 @@
 //! The own types and attributes of the tests.
 use plir_scripts::{SampleAttr, SampleSet, SampleType, ScriptSet};
 
-/// An op set with a type that may be wide, and an attribute that may be marked. The calls are generic in it: over the op set
-/// itself, whose parts are all written out in a proof, they take several times as long to prove.
+/// An op set with a type that may be wide, and an attribute that may be marked. The calls are generic in it: over the
+/// op set itself, whose parts are all written out in a proof, they take several times as long to prove.
 pub trait OwnSet: ScriptSet {
     /// The type, wide or not.
     fn own_type(is_wide: bool) -> Self::Ty;

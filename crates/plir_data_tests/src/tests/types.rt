@@ -63,7 +63,8 @@ pub fn show_marks<D: OpSet>(bench: &mut Bench<D>, line: Line<'_>) -> Result<(), 
     Ok(())
 }
 
-/// `put-parts TEXT`: writes a comma for the first of two parts and none for the second, and the text behind a space, but none behind nothing.
+/// `put-parts TEXT`: writes a comma for the first of two parts and none for the second, and the text behind a space,
+/// but none behind nothing.
 pub fn put_parts<D: OpSet>(bench: &mut Bench<D>, line: Line<'_>) -> Result<(), Stop> {
     let mut out = String::new(bench.alloc);
     put(&mut out, line.text)?;

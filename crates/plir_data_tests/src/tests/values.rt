@@ -1,12 +1,12 @@
 //! The calls on attributes. One is written by its text; `own` and `own marked` are the attributes of the op set,
 //! `misfit TYPE` is an integer of 16 bits in an integer type, `list A ; B ..` a list, and `under KEY A` a dictionary.
 use super::own::OwnSet;
+use plir_attr_text::read_attr;
 use plir_data::{
     APInt, AttrObj, DictAttr, Identifier, IntegerAttr, IntegerType, OpSet, TypedHandle, VecAttr,
     VerifyErr,
 };
 use plir_scripts::{Bench, Line, Stop, put_attr, put_type_name, split_word};
-use plir_text::read_attr;
 use std::hash::{DefaultHasher, Hash, Hasher};
 
 /// The attribute that is written so.

@@ -1,5 +1,5 @@
-//! Edges as a script writes them: `FROM TO FLOWS READS`. An edge starts at `parent` or at an operation, and leads to a region
-//! or to `after`; what flows is written as `o0/1>b0.0`, what is read as `o0/1`, both parted by commas, or `-`.
+//! Edges as a script writes them: `FROM TO FLOWS READS`. An edge starts at `parent` or at an operation, and leads to a
+//! region or to `after`; what flows is written as `o0/1>b0.0`, what is read as `o0/1`, both parted by commas, or `-`.
 use plir_core::{Context, IRNode, Ptr, Region, Use, Value};
 use plir_flow::{RegionBranchPoint, RegionEdge, RegionSuccessor};
 use plir_scripts::{Made, SampleSet, Stop, number, split_word};

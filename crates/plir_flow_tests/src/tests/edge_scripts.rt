@@ -6,7 +6,8 @@ use super::looping::Loop;
 use plir_scripts::{Bench, Layer, Line, Mismatch, NodeCalls, SampleSet, Stop, play, split_word};
 use std::fmt::Write;
 
-/// The calls on region edges, and those on nodes. `edges OP QUESTION NAME | EDGE; EDGE` asks of an operation with these edges.
+/// The calls on region edges, and those on nodes. `edges OP QUESTION NAME | EDGE; EDGE` asks of an operation with these
+/// edges.
 struct EdgeCalls;
 
 impl Layer<SampleSet> for EdgeCalls {
@@ -173,8 +174,8 @@ fn the_first_point_that_edges_break_is_told(rt: HostRuntime) -> Result<(), Misma
     play::<SampleSet, EdgeCalls>(rt.alloc(), 200, script)
 }
 
-// What an edge out of the operation passes goes to its own results, and what an edge into a region passes to arguments of its
-// entry block, of which an empty region has none. Receivers are one set, in whatever order they come.
+// What an edge out of the operation passes goes to its own results, and what an edge into a region passes to arguments
+// of its entry block, of which an empty region has none. Receivers are one set, in whatever order they come.
 #[test]
 fn receivers_are_those_of_the_successor(rt: HostRuntime) -> Result<(), Mismatch> {
     let script = "
@@ -223,7 +224,8 @@ fn a_loop_is_verified(rt: HostRuntime) -> Result<(), Mismatch> {
     play::<SampleSet, EdgeCalls>(rt.alloc(), 200, script)
 }
 
-// Writes the edges of a thousand regions: each leads to the next one and to the one at half its place, the last to the first.
+// Writes the edges of a thousand regions: each leads to the next one and to the one at half its place, the last to the
+// first.
 fn put_edges_of_many(text: &mut String) -> Result<(), Mismatch> {
     text.push_str(" | o1000 r0 - -")?;
     for place in 1..1000 {

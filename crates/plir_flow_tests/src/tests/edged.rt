@@ -1,7 +1,8 @@
 //! An operation with edges between its regions that are told with it.
 ghost use Rattle.std.specs.Prelude.{◌↔◌, All, IsTrue, IfOk, ◌≡◌};
 ghost use Rattle.plir_core.specs.Store.{IsValueLive};
-ghost use Rattle.plir_flow.specs.RegionEdges.{IsEdgeLive, AreEdgesLive, IsFlowLive, IsPointLive, IsSuccessorLive, IsUseLive};
+ghost use Rattle.plir_flow.specs.RegionEdges.{IsEdgeLive, AreEdgesLive, IsFlowLive, IsPointLive, IsSuccessorLive};
+ghost use Rattle.plir_flow.specs.RegionEdges.{IsUseLive};
 
 use plir_core::{Context, IRNode, Operation, Ptr, Use, Value};
 use plir_data::{Memory, VerifyErr};

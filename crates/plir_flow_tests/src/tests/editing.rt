@@ -7,8 +7,8 @@ use plir_data::OpSet;
 use plir_flow::OperandSegmentInterface;
 use plir_scripts::{Answer, Line, Made, Stop, number};
 
-/// `push OP SEGMENT VALUE` writes the place, `into OP SEGMENT PLACE VALUE`, `pop OP SEGMENT` and `from OP SEGMENT PLACE`
-/// write the value.
+/// `push OP SEGMENT VALUE` writes the place, `into OP SEGMENT PLACE VALUE`, `pop OP SEGMENT` and `from OP SEGMENT
+/// PLACE` write the value.
 pub fn edit<D: OpSet, O: OperandSegmentInterface<D>>(
     ctx: &mut Context<D>,
     made: &Made,

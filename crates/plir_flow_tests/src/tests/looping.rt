@@ -11,8 +11,8 @@ use plir_iface::Op;
 use plir_scripts::{NotMarked, SampleSet};
 use std::alloc::Global;
 
-/// A loop. Its first operand flows into its region, as the first argument of the body; the first operand of the operation that ends
-/// the body flows out of it, as its first result.
+/// A loop. Its first operand flows into its region, as the first argument of the body; the first operand of the
+/// operation that ends the body flows out of it, as its first result.
 #[derive(Clone, Copy)]
 pub struct Loop {
     pub op: Ptr<Operation>,

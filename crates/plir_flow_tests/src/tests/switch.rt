@@ -39,7 +39,8 @@ impl OperandSegmentInterface<SampleSet> for Switch {
         Some(self.op.get_num_successors(ctx).saturating_add(1))
     }
 
-    ghost expected_kept = { λ o s t segs live edited. ap (λ bs. Some (min (length bs + 1) (2 ^ 64 - 1))) edited.successors };
+    ghost expected_kept = { λ o s t segs live edited. ap (λ bs. Some (min (length bs + 1) (2 ^ 64 - 1)))
+        edited.successors };
 }
 
 impl BranchOpInterface<SampleSet> for Switch {
@@ -47,7 +48,8 @@ impl BranchOpInterface<SampleSet> for Switch {
     ghost use Rattle.plir_flow.specs.Segments.{HasSegments, num_segments, segment_places, sizes_key};
     ghost use Rattle.plir_flow.specs.Branches.{num_successors};
 
-    ghost has_layout = { λ o s. HasSegments (Some (min (num_successors s o.op + 1) (2 ^ 64 - 1))) s o.op × (num_successors s o.op < num_segments s o.op) };
+    ghost has_layout = { λ o s. HasSegments (Some (min (num_successors s o.op + 1) (2 ^ 64 - 1))) s o.op ×
+        (num_successors s o.op < num_segments s o.op) };
 
     ghost refuses_layout = { λ _ _ _. Unit {0} };
 

@@ -3,12 +3,12 @@ ghost use Rattle.std.specs.Prelude.{IfOk};
 ghost use Rattle.plir_core.specs.Store.{IsLive};
 ghost use Rattle.plir_core.specs.declared.ptr.IRNode.{IRNode as AnyNode};
 
+use plir_attr_text::read_attr;
 use plir_builtin::{ConstantOp, FuncOp, ModuleOp};
 use plir_core::{DefiningEntity, Operation, Ptr};
 use plir_data::{FunctionType, Identifier, OpSet, TypedHandle};
 use plir_iface::Op;
 use plir_scripts::{Bench, Line, Stop};
-use plir_text::read_attr;
 use plir_walk::GivenNamesErr;
 use plir_walk::given_names::{set_block_arg_name, set_operation_result_name};
 

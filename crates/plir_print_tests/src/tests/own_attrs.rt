@@ -2,8 +2,8 @@
 use plir_data::{AttrObj, Identifier};
 use plir_scripts::{Bench, Line, SampleAttr, SampleSet, ScriptSet, Stop};
 
-/// An op set with an attribute that is left out of texts where it is marked. The calls are generic in it: over the op set
-/// itself they take several times as long to prove.
+/// An op set with an attribute that is left out of texts where it is marked. The calls are generic in it: over the op
+/// set itself they take several times as long to prove.
 pub trait MarkedSet: ScriptSet {
     /// The attribute, marked or not.
     fn own_attr(is_marked: bool) -> Self::Attr;

@@ -230,7 +230,8 @@ fn edges_between_an_operation_and_its_regions(rt: HostRuntime) -> Result<(), Mis
     play_in(rt.alloc(), script)
 }
 
-// Operations are made without regions, and these are added: so a refusal uses no slot up, and the names stay as they are.
+// Operations are made without regions, and these are added: so a refusal uses no slot up, and the names stay as they
+// are.
 #[test]
 fn texts_are_printed_where_memory_is_refused(rt: HostRuntime) -> Result<(), Mismatch> {
     let script = "

@@ -8,7 +8,8 @@ use std::alloc::Global;
 /// How many parts a long text has.
 const PARTS: usize = 20_000;
 
-/// A text around many parts: what stands before them, between two of them, and behind them, and the parts to choose from.
+/// A text around many parts: what stands before them, between two of them, and behind them, and the parts to choose
+/// from.
 struct Frame {
     front: &'static str,
     between: &'static str,
@@ -70,7 +71,8 @@ fn long_text(
     Ok(text)
 }
 
-// Hands the text to each reader, first as it is and then with words in any order behind it; answers whether one read it.
+// Hands the text to each reader, first as it is and then with words in any order behind it; answers whether one read
+// it.
 fn is_read<D: OpSet>(
     alloc: Global,
     ctx: &mut Context<D>,

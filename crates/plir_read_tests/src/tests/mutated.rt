@@ -1,10 +1,11 @@
-//! A hundred thousand texts that nobody meant, by a fixed seed: each is read or refused, and what was there before stays.
+//! A hundred thousand texts that nobody meant, by a fixed seed: each is read or refused, and what was there before
+//! stays.
 use super::refused::{read_again, text_of};
+use plir_attr_text::{read_attr, read_function_type, read_integer_type, read_type};
 use plir_core::Context;
 use plir_data::OpSet;
 use plir_read::read_op;
 use plir_scripts::{InContext, SampleSet, Stop, in_new_context};
-use plir_text::{read_attr, read_function_type, read_integer_type, read_type};
 use std::alloc::Global;
 
 /// Texts that are read, before they are changed.
@@ -124,7 +125,8 @@ pub fn read_each<D: OpSet>(alloc: Global, ctx: &mut Context<D>, text: &str, seen
     seen.note(read_integer_type::<D, _>(ctx, text).is_ok());
 }
 
-// Hands a thousand texts to each reader; answers whether some were read, some refused, and an older operation has the text that it had.
+// Hands a thousand texts to each reader; answers whether some were read, some refused, and an older operation has the
+// text that it had.
 fn read_thousand<D: OpSet>(alloc: Global, ctx: &mut Context<D>, seed: u64) -> Result<bool, Stop> {
     let older = read_again(
         alloc,

@@ -1,9 +1,9 @@
 //! The calls that read operations.
+use plir_attr_text::{Fault, ReadErr};
 use plir_data::OpSet;
 use plir_print::{is_printable, print_op};
 use plir_read::read_op;
 use plir_scripts::{Bench, Line, Stop, nested_text, put_fault, put_folded, unfold};
-use plir_text::{Fault, ReadErr};
 
 /// `read TEXT`: reads an operation, writes its name and, behind it, the text that it is printed as, or the fault.
 pub fn read<D: OpSet>(bench: &mut Bench<D>, line: Line<'_>) -> Result<(), Stop> {
@@ -24,8 +24,8 @@ pub fn read<D: OpSet>(bench: &mut Bench<D>, line: Line<'_>) -> Result<(), Stop> 
     Ok(())
 }
 
-/// `nested COUNT HEAD | BEFORE | MIDDLE | BEHIND`: reads the head, so many times what is before, the middle, and so many times what
-/// is behind. Writes `read`, or the fault.
+/// `nested COUNT HEAD | BEFORE | MIDDLE | BEHIND`: reads the head, so many times what is before, the middle, and so
+/// many times what is behind. Writes `read`, or the fault.
 pub fn read_nested<D: OpSet>(bench: &mut Bench<D>, line: Line<'_>) -> Result<(), Stop> {
     let text = nested_text(bench.alloc, line)?;
     match read_op(bench.alloc, &mut bench.ctx, text.as_str()) {
@@ -37,8 +37,8 @@ pub fn read_nested<D: OpSet>(bench: &mut Bench<D>, line: Line<'_>) -> Result<(),
     }
 }
 
-/// `beginnings TEXT`: reads each proper beginning of a text, and writes the first that is read or has another fault than
-/// `Unexpected`, or `unexpected` where there is none.
+/// `beginnings TEXT`: reads each proper beginning of a text, and writes the first that is read or has another fault
+/// than `Unexpected`, or `unexpected` where there is none.
 pub fn read_beginnings<D: OpSet>(bench: &mut Bench<D>, line: Line<'_>) -> Result<(), Stop> {
     for count in 0..line.text.len() {
         let front = line.text.get(..count).ok_or(Stop::Refused)?;

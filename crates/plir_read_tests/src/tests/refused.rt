@@ -1,11 +1,11 @@
 //! Reading where a request for memory is refused: what was there stays, and the same text is read once more.
 
+use plir_attr_text::Fault;
 use plir_core::{Context, Operation, Ptr};
 use plir_data::OpSet;
 use plir_print::{is_printable, print_op};
 use plir_read::read_op;
 use plir_scripts::{InContext, SampleSet, Stop, in_new_context};
-use plir_text::Fault;
 use std::alloc::Global;
 
 // Reads a text, and once more where it is refused for want of memory.

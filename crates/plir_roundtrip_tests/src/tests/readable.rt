@@ -15,8 +15,8 @@ pub fn readable<D: OpSet>(bench: &mut Bench<D>, line: Line<'_>) -> Result<(), St
     Ok(())
 }
 
-/// `nested COUNT HEAD | BEFORE | MIDDLE | BEHIND | END`: reads the head, so many times what is before, the middle, so many
-/// times what is behind, and the end. Writes the name of the operation, or the fault.
+/// `nested COUNT HEAD | BEFORE | MIDDLE | BEHIND | END`: reads the head, so many times what is before, the middle, so
+/// many times what is behind, and the end. Writes the name of the operation, or the fault.
 pub fn read_nested<D: OpSet>(bench: &mut Bench<D>, line: Line<'_>) -> Result<(), Stop> {
     let mut text = nested_text(bench.alloc, line)?;
     text.push_str(line.text.split('|').nth(4).unwrap_or(""))?;

@@ -51,8 +51,8 @@ impl<D: OpSet> InContext<D> for Prints<'_> {
     }
 }
 
-// Whether the text of a module is read back: printed once more, with other numbers in the context that it was read into, and
-// with the same in an empty one.
+// Whether the text of a module is read back: printed once more, with other numbers in the context that it was read
+// into, and with the same in an empty one.
 fn is_read_back<D: OpSet>(alloc: Global, ctx: &mut Context<D>) -> Result<bool, Stop> {
     let first = printed(alloc, ctx, MODULE)?;
     let again = printed(alloc, ctx, first.as_str())?;

@@ -18,8 +18,8 @@ use std::ops::ControlFlow;
 /// A callback as a plain function.
 pub type WalkerCallback<D, S, B> = fn(&Context<D>, &mut S, IRNode) -> WalkResult<B>;
 
-/// Walks an operation and all that is below it, and calls `callback` at each node that no skip leaves out, in the order of
-/// `config`. Answers `Break(b)` where the last call did, else `Continue(Advance)`. Takes no memory.
+/// Walks an operation and all that is below it, and calls `callback` at each node that no skip leaves out, in the order
+/// of `config`. Answers `Break(b)` where the last call did, else `Continue(Advance)`. Takes no memory.
 pub fn walk_op<C: NodeLinks, S, B: Drop, F: Fn(&C, &mut S, IRNode) -> WalkResult<B>>(
     ctx: &C,
     state: &mut S,
@@ -28,8 +28,10 @@ pub fn walk_op<C: NodeLinks, S, B: Drop, F: Fn(&C, &mut S, IRNode) -> WalkResult
     callback: F,
 ) -> WalkResult<B>
     requires root_live { (C.look ctx.now).live (IRNode.Operation root) ≡ true }
-    requires callable { (c : _) (s : _) (n : AnyNode) → c.now ≡ ctx.now → StandsUnder (C.look ctx.now) (IRNode.Operation root) n → F.pre callback c s n }
-    ensures { WalkedOver C.look config.now (ReadsBack F.Fn callback) ctx.now state.old (IRNode.Operation root) result state.new }
+    requires callable { (c : _) (s : _) (n : AnyNode) → c.now ≡ ctx.now →
+        StandsUnder (C.look ctx.now) (IRNode.Operation root) n → F.pre callback c s n }
+    ensures { WalkedOver C.look config.now (ReadsBack F.Fn callback) ctx.now state.old (IRNode.Operation root) result
+        state.new }
 {
     walk(ctx, state, config, IRNode::Operation(root), callback)
 }
@@ -44,8 +46,10 @@ pub fn walk_region<C: NodeLinks, S, B: Drop, F: Fn(&C, &mut S, IRNode) -> WalkRe
     callback: F,
 ) -> WalkResult<B>
     requires root_live { (C.look ctx.now).live (IRNode.Region root) ≡ true }
-    requires callable { (c : _) (s : _) (n : AnyNode) → c.now ≡ ctx.now → StandsUnder (C.look ctx.now) (IRNode.Region root) n → F.pre callback c s n }
-    ensures { WalkedOver C.look config.now (ReadsBack F.Fn callback) ctx.now state.old (IRNode.Region root) result state.new }
+    requires callable { (c : _) (s : _) (n : AnyNode) → c.now ≡ ctx.now →
+        StandsUnder (C.look ctx.now) (IRNode.Region root) n → F.pre callback c s n }
+    ensures { WalkedOver C.look config.now (ReadsBack F.Fn callback) ctx.now state.old (IRNode.Region root) result
+        state.new }
 {
     walk(ctx, state, config, IRNode::Region(root), callback)
 }
@@ -60,8 +64,10 @@ pub fn walk_block<C: NodeLinks, S, B: Drop, F: Fn(&C, &mut S, IRNode) -> WalkRes
     callback: F,
 ) -> WalkResult<B>
     requires root_live { (C.look ctx.now).live (IRNode.BasicBlock root) ≡ true }
-    requires callable { (c : _) (s : _) (n : AnyNode) → c.now ≡ ctx.now → StandsUnder (C.look ctx.now) (IRNode.BasicBlock root) n → F.pre callback c s n }
-    ensures { WalkedOver C.look config.now (ReadsBack F.Fn callback) ctx.now state.old (IRNode.BasicBlock root) result state.new }
+    requires callable { (c : _) (s : _) (n : AnyNode) → c.now ≡ ctx.now →
+        StandsUnder (C.look ctx.now) (IRNode.BasicBlock root) n → F.pre callback c s n }
+    ensures { WalkedOver C.look config.now (ReadsBack F.Fn callback) ctx.now state.old (IRNode.BasicBlock root) result
+        state.new }
 {
     walk(ctx, state, config, IRNode::BasicBlock(root), callback)
 }
@@ -77,7 +83,8 @@ fn visit<C: NodeLinks, S, B: Drop, F: Fn(&C, &mut S, IRNode) -> WalkResult<B>>(
     callback: &F,
 ) -> WalkResult<B>
     requires stands { StandsUnder (C.look ctx.now) root node }
-    requires callable { (c : _) (s : _) (n : AnyNode) → c.now ≡ ctx.now → StandsUnder (C.look ctx.now) root n → F.pre callback.now c s n }
+    requires callable { (c : _) (s : _) (n : AnyNode) → c.now ≡ ctx.now → StandsUnder (C.look ctx.now) root n →
+        F.pre callback.now c s n }
     ensures { IsVisited C.look (ReadsBack F.Fn callback.now) ctx.now state.old node due result ctx.now state.new }
 {
     if !due {
@@ -96,7 +103,8 @@ pub(crate) fn walk<C: NodeLinks, S, B: Drop, F: Fn(&C, &mut S, IRNode) -> WalkRe
     callback: F,
 ) -> WalkResult<B>
     requires root_live { (C.look ctx.now).live root ≡ true }
-    requires callable { (c : _) (s : _) (n : AnyNode) → c.now ≡ ctx.now → StandsUnder (C.look ctx.now) root n → F.pre callback c s n }
+    requires callable { (c : _) (s : _) (n : AnyNode) → c.now ≡ ctx.now → StandsUnder (C.look ctx.now) root n →
+        F.pre callback c s n }
     ensures { WalkedOver C.look config.now (ReadsBack F.Fn callback) ctx.now state.old root result state.new }
 {
     ctx.forest();

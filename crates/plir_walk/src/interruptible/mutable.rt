@@ -19,9 +19,9 @@ use std::ops::ControlFlow;
 /// A callback as a plain function.
 pub type WalkerCallback<D, S, B> = fn(&mut Context<D>, &mut S, IRNode) -> WalkResult<B>;
 
-/// Walks an operation and all that is below it, and calls `callback` at each node that no skip leaves out, in the order of
-/// `config`, at most `limit` times. A call may change the tree below its own node: the walk goes on over what stands there
-/// after a PreOrder call. Answers `Break(b)` where the last call did, else `Continue(Advance)`. Takes no memory.
+/// Walks an operation and all that is below it, and calls `callback` at each node that no skip leaves out, in the order
+/// of `config`, at most `limit` times. A call may change the tree below its own node: the walk goes on over what stands
+/// there after a PreOrder call. Answers `Break(b)` where the last call did, else `Continue(Advance)`. Takes no memory.
 ///
 /// # Errors
 ///
@@ -35,16 +35,18 @@ pub fn walk_op<C: NodeLinks, S, B: Drop, F: Fn(&mut C, &mut S, IRNode) -> WalkRe
     callback: F,
 ) -> Result<WalkResult<B>, CallLimit>
     requires root_live { (C.look ctx.old).live (IRNode.Operation root) ≡ true }
-    requires callable { (c : _) (s : _) (n : AnyNode) → StandsUnder (C.look c.now) (IRNode.Operation root) n → F.pre callback c s n }
+    requires callable { (c : _) (s : _) (n : AnyNode) → StandsUnder (C.look c.now) (IRNode.Operation root) n →
+        F.pre callback c s n }
     requires lawful { IsLawful C.look (IRNode.Operation root) (CallsBack F.Fn callback) }
-    ensures { Walked C.look config.now (CallsBack F.Fn callback) ctx.old state.old (IRNode.Operation root) limit result ctx.new state.new }
+    ensures { Walked C.look config.now (CallsBack F.Fn callback) ctx.old state.old (IRNode.Operation root) limit result
+        ctx.new state.new }
 {
     walk(ctx, state, config, IRNode::Operation(root), limit, callback)
 }
 
 /// Walks a region and all that is below it, and calls `callback` at each node that no skip leaves out, in the order of
-/// `config`, at most `limit` times. A call may change the tree below its own node: the walk goes on over what stands there
-/// after a PreOrder call. Answers `Break(b)` where the last call did, else `Continue(Advance)`. Takes no memory.
+/// `config`, at most `limit` times. A call may change the tree below its own node: the walk goes on over what stands
+/// there after a PreOrder call. Answers `Break(b)` where the last call did, else `Continue(Advance)`. Takes no memory.
 ///
 /// # Errors
 ///
@@ -58,16 +60,18 @@ pub fn walk_region<C: NodeLinks, S, B: Drop, F: Fn(&mut C, &mut S, IRNode) -> Wa
     callback: F,
 ) -> Result<WalkResult<B>, CallLimit>
     requires root_live { (C.look ctx.old).live (IRNode.Region root) ≡ true }
-    requires callable { (c : _) (s : _) (n : AnyNode) → StandsUnder (C.look c.now) (IRNode.Region root) n → F.pre callback c s n }
+    requires callable { (c : _) (s : _) (n : AnyNode) → StandsUnder (C.look c.now) (IRNode.Region root) n →
+        F.pre callback c s n }
     requires lawful { IsLawful C.look (IRNode.Region root) (CallsBack F.Fn callback) }
-    ensures { Walked C.look config.now (CallsBack F.Fn callback) ctx.old state.old (IRNode.Region root) limit result ctx.new state.new }
+    ensures { Walked C.look config.now (CallsBack F.Fn callback) ctx.old state.old (IRNode.Region root) limit result
+        ctx.new state.new }
 {
     walk(ctx, state, config, IRNode::Region(root), limit, callback)
 }
 
 /// Walks a block and all that is below it, and calls `callback` at each node that no skip leaves out, in the order of
-/// `config`, at most `limit` times. A call may change the tree below its own node: the walk goes on over what stands there
-/// after a PreOrder call. Answers `Break(b)` where the last call did, else `Continue(Advance)`. Takes no memory.
+/// `config`, at most `limit` times. A call may change the tree below its own node: the walk goes on over what stands
+/// there after a PreOrder call. Answers `Break(b)` where the last call did, else `Continue(Advance)`. Takes no memory.
 ///
 /// # Errors
 ///
@@ -81,9 +85,11 @@ pub fn walk_block<C: NodeLinks, S, B: Drop, F: Fn(&mut C, &mut S, IRNode) -> Wal
     callback: F,
 ) -> Result<WalkResult<B>, CallLimit>
     requires root_live { (C.look ctx.old).live (IRNode.BasicBlock root) ≡ true }
-    requires callable { (c : _) (s : _) (n : AnyNode) → StandsUnder (C.look c.now) (IRNode.BasicBlock root) n → F.pre callback c s n }
+    requires callable { (c : _) (s : _) (n : AnyNode) → StandsUnder (C.look c.now) (IRNode.BasicBlock root) n →
+        F.pre callback c s n }
     requires lawful { IsLawful C.look (IRNode.BasicBlock root) (CallsBack F.Fn callback) }
-    ensures { Walked C.look config.now (CallsBack F.Fn callback) ctx.old state.old (IRNode.BasicBlock root) limit result ctx.new state.new }
+    ensures { Walked C.look config.now (CallsBack F.Fn callback) ctx.old state.old (IRNode.BasicBlock root) limit
+        result ctx.new state.new }
 {
     let block = IRNode::BasicBlock(root);
     walk(ctx, state, config, block, limit, callback)
@@ -102,7 +108,8 @@ fn visit<C: NodeLinks, S, B: Drop, F: Fn(&mut C, &mut S, IRNode) -> WalkResult<B
     requires stands { StandsUnder (C.look ctx.old) root node }
     requires callable { (c : _) (s : _) (n : AnyNode) → StandsUnder (C.look c.now) root n → F.pre callback.now c s n }
     requires lawful { IsLawful C.look root (CallsBack F.Fn callback.now) }
-    ensures visited { IsVisited C.look (CallsBack F.Fn callback.now) ctx.old state.old node due result ctx.new state.new }
+    ensures visited { IsVisited C.look (CallsBack F.Fn callback.now) ctx.old state.old node due result ctx.new
+        state.new }
     ensures live { (C.look ctx.new).live node ≡ true }
 {
     if !due {

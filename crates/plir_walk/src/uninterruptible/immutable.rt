@@ -17,7 +17,8 @@ use plir_core::{BasicBlock, Context, IRNode, Operation, Ptr, Region};
 /// A callback as a plain function.
 pub type WalkerCallback<D, S> = fn(&Context<D>, &mut S, IRNode);
 
-/// Walks an operation and all that is below it, and calls `callback` at each node, in the order of `config`. Takes no memory.
+/// Walks an operation and all that is below it, and calls `callback` at each node, in the order of `config`. Takes no
+/// memory.
 pub fn walk_op<C: NodeLinks, S, F: Fn(&C, &mut S, IRNode)>(
     ctx: &C,
     state: &mut S,
@@ -26,13 +27,16 @@ pub fn walk_op<C: NodeLinks, S, F: Fn(&C, &mut S, IRNode)>(
     callback: F,
 )
     requires root_live { (C.look ctx.now).live (IRNode.Operation root) ≡ true }
-    requires callable { (c : _) (s : _) (n : AnyNode) → c.now ≡ ctx.now → StandsUnder (C.look ctx.now) (IRNode.Operation root) n → F.pre callback c s n }
-    ensures { WalkedOver C.look config.now (Advancing (ReadsBack F.Fn callback)) ctx.now state.old (IRNode.Operation root) (Continue Advance) state.new }
+    requires callable { (c : _) (s : _) (n : AnyNode) → c.now ≡ ctx.now →
+        StandsUnder (C.look ctx.now) (IRNode.Operation root) n → F.pre callback c s n }
+    ensures { WalkedOver C.look config.now (Advancing (ReadsBack F.Fn callback)) ctx.now state.old
+        (IRNode.Operation root) (Continue Advance) state.new }
 {
     walk(ctx, state, config, IRNode::Operation(root), callback);
 }
 
-/// Walks a region and all that is below it, and calls `callback` at each node, in the order of `config`. Takes no memory.
+/// Walks a region and all that is below it, and calls `callback` at each node, in the order of `config`. Takes no
+/// memory.
 pub fn walk_region<C: NodeLinks, S, F: Fn(&C, &mut S, IRNode)>(
     ctx: &C,
     state: &mut S,
@@ -41,13 +45,16 @@ pub fn walk_region<C: NodeLinks, S, F: Fn(&C, &mut S, IRNode)>(
     callback: F,
 )
     requires root_live { (C.look ctx.now).live (IRNode.Region root) ≡ true }
-    requires callable { (c : _) (s : _) (n : AnyNode) → c.now ≡ ctx.now → StandsUnder (C.look ctx.now) (IRNode.Region root) n → F.pre callback c s n }
-    ensures { WalkedOver C.look config.now (Advancing (ReadsBack F.Fn callback)) ctx.now state.old (IRNode.Region root) (Continue Advance) state.new }
+    requires callable { (c : _) (s : _) (n : AnyNode) → c.now ≡ ctx.now →
+        StandsUnder (C.look ctx.now) (IRNode.Region root) n → F.pre callback c s n }
+    ensures { WalkedOver C.look config.now (Advancing (ReadsBack F.Fn callback)) ctx.now state.old (IRNode.Region root)
+        (Continue Advance) state.new }
 {
     walk(ctx, state, config, IRNode::Region(root), callback);
 }
 
-/// Walks a block and all that is below it, and calls `callback` at each node, in the order of `config`. Takes no memory.
+/// Walks a block and all that is below it, and calls `callback` at each node, in the order of `config`. Takes no
+/// memory.
 pub fn walk_block<C: NodeLinks, S, F: Fn(&C, &mut S, IRNode)>(
     ctx: &C,
     state: &mut S,
@@ -56,8 +63,10 @@ pub fn walk_block<C: NodeLinks, S, F: Fn(&C, &mut S, IRNode)>(
     callback: F,
 )
     requires root_live { (C.look ctx.now).live (IRNode.BasicBlock root) ≡ true }
-    requires callable { (c : _) (s : _) (n : AnyNode) → c.now ≡ ctx.now → StandsUnder (C.look ctx.now) (IRNode.BasicBlock root) n → F.pre callback c s n }
-    ensures { WalkedOver C.look config.now (Advancing (ReadsBack F.Fn callback)) ctx.now state.old (IRNode.BasicBlock root) (Continue Advance) state.new }
+    requires callable { (c : _) (s : _) (n : AnyNode) → c.now ≡ ctx.now →
+        StandsUnder (C.look ctx.now) (IRNode.BasicBlock root) n → F.pre callback c s n }
+    ensures { WalkedOver C.look config.now (Advancing (ReadsBack F.Fn callback)) ctx.now state.old
+        (IRNode.BasicBlock root) (Continue Advance) state.new }
 {
     walk(ctx, state, config, IRNode::BasicBlock(root), callback);
 }
@@ -71,8 +80,10 @@ fn walk<C: NodeLinks, S, F: Fn(&C, &mut S, IRNode)>(
     callback: F,
 )
     requires root_live { (C.look ctx.now).live root ≡ true }
-    requires callable { (c : _) (s : _) (n : AnyNode) → c.now ≡ ctx.now → StandsUnder (C.look ctx.now) root n → F.pre callback c s n }
-    ensures { WalkedOver C.look config.now (Advancing (ReadsBack F.Fn callback)) ctx.now state.old root (Continue Advance) state.new }
+    requires callable { (c : _) (s : _) (n : AnyNode) → c.now ≡ ctx.now → StandsUnder (C.look ctx.now) root n →
+        F.pre callback c s n }
+    ensures { WalkedOver C.look config.now (Advancing (ReadsBack F.Fn callback)) ctx.now state.old root
+        (Continue Advance) state.new }
 {
     let advancing = |c: &C, s: &mut S, n: IRNode| -> WalkResult<()>
         requires { (d : _) (t : _) → d.now ≡ c.now → F.pre callback d t n }

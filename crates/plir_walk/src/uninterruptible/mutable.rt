@@ -18,9 +18,9 @@ use plir_core::{BasicBlock, Context, IRNode, Operation, Ptr, Region};
 /// A callback as a plain function.
 pub type WalkerCallback<D, S> = fn(&mut Context<D>, &mut S, IRNode);
 
-/// Walks an operation and all that is below it, and calls `callback` at each node, in the order of `config`, at most `limit`
-/// times. A call may change the tree below its own node: the walk goes on over what stands there after a PreOrder call.
-/// Takes no memory.
+/// Walks an operation and all that is below it, and calls `callback` at each node, in the order of `config`, at most
+/// `limit` times. A call may change the tree below its own node: the walk goes on over what stands there after a
+/// PreOrder call. Takes no memory.
 ///
 /// # Errors
 ///
@@ -34,16 +34,18 @@ pub fn walk_op<C: NodeLinks, S, F: Fn(&mut C, &mut S, IRNode)>(
     callback: F,
 ) -> Result<(), CallLimit>
     requires root_live { (C.look ctx.old).live (IRNode.Operation root) ≡ true }
-    requires callable { (c : _) (s : _) (n : AnyNode) → StandsUnder (C.look c.now) (IRNode.Operation root) n → F.pre callback c s n }
+    requires callable { (c : _) (s : _) (n : AnyNode) → StandsUnder (C.look c.now) (IRNode.Operation root) n →
+        F.pre callback c s n }
     requires lawful { IsLawful C.look (IRNode.Operation root) (Advancing (CallsBack F.Fn callback)) }
-    ensures { Walked C.look config.now (Advancing (CallsBack F.Fn callback)) ctx.old state.old (IRNode.Operation root) limit (plain_answer result) ctx.new state.new }
+    ensures { Walked C.look config.now (Advancing (CallsBack F.Fn callback)) ctx.old state.old (IRNode.Operation root)
+        limit (plain_answer result) ctx.new state.new }
 {
     walk(ctx, state, config, IRNode::Operation(root), limit, callback)
 }
 
-/// Walks a region and all that is below it, and calls `callback` at each node, in the order of `config`, at most `limit`
-/// times. A call may change the tree below its own node: the walk goes on over what stands there after a PreOrder call.
-/// Takes no memory.
+/// Walks a region and all that is below it, and calls `callback` at each node, in the order of `config`, at most
+/// `limit` times. A call may change the tree below its own node: the walk goes on over what stands there after a
+/// PreOrder call. Takes no memory.
 ///
 /// # Errors
 ///
@@ -57,9 +59,11 @@ pub fn walk_region<C: NodeLinks, S, F: Fn(&mut C, &mut S, IRNode)>(
     callback: F,
 ) -> Result<(), CallLimit>
     requires root_live { (C.look ctx.old).live (IRNode.Region root) ≡ true }
-    requires callable { (c : _) (s : _) (n : AnyNode) → StandsUnder (C.look c.now) (IRNode.Region root) n → F.pre callback c s n }
+    requires callable { (c : _) (s : _) (n : AnyNode) → StandsUnder (C.look c.now) (IRNode.Region root) n →
+        F.pre callback c s n }
     requires lawful { IsLawful C.look (IRNode.Region root) (Advancing (CallsBack F.Fn callback)) }
-    ensures { Walked C.look config.now (Advancing (CallsBack F.Fn callback)) ctx.old state.old (IRNode.Region root) limit (plain_answer result) ctx.new state.new }
+    ensures { Walked C.look config.now (Advancing (CallsBack F.Fn callback)) ctx.old state.old (IRNode.Region root)
+        limit (plain_answer result) ctx.new state.new }
 {
     walk(ctx, state, config, IRNode::Region(root), limit, callback)
 }
@@ -80,9 +84,11 @@ pub fn walk_block<C: NodeLinks, S, F: Fn(&mut C, &mut S, IRNode)>(
     callback: F,
 ) -> Result<(), CallLimit>
     requires root_live { (C.look ctx.old).live (IRNode.BasicBlock root) ≡ true }
-    requires callable { (c : _) (s : _) (n : AnyNode) → StandsUnder (C.look c.now) (IRNode.BasicBlock root) n → F.pre callback c s n }
+    requires callable { (c : _) (s : _) (n : AnyNode) → StandsUnder (C.look c.now) (IRNode.BasicBlock root) n →
+        F.pre callback c s n }
     requires lawful { IsLawful C.look (IRNode.BasicBlock root) (Advancing (CallsBack F.Fn callback)) }
-    ensures { Walked C.look config.now (Advancing (CallsBack F.Fn callback)) ctx.old state.old (IRNode.BasicBlock root) limit (plain_answer result) ctx.new state.new }
+    ensures { Walked C.look config.now (Advancing (CallsBack F.Fn callback)) ctx.old state.old (IRNode.BasicBlock root)
+        limit (plain_answer result) ctx.new state.new }
 {
     let block = IRNode::BasicBlock(root);
     walk(ctx, state, config, block, limit, callback)
@@ -100,7 +106,8 @@ fn walk<C: NodeLinks, S, F: Fn(&mut C, &mut S, IRNode)>(
     requires root_live { (C.look ctx.old).live root ≡ true }
     requires callable { (c : _) (s : _) (n : AnyNode) → StandsUnder (C.look c.now) root n → F.pre callback c s n }
     requires lawful { IsLawful C.look root (Advancing (CallsBack F.Fn callback)) }
-    ensures { Walked C.look config.now (Advancing (CallsBack F.Fn callback)) ctx.old state.old root limit (plain_answer result) ctx.new state.new }
+    ensures { Walked C.look config.now (Advancing (CallsBack F.Fn callback)) ctx.old state.old root limit
+        (plain_answer result) ctx.new state.new }
 {
     let advancing = |c: &mut C, s: &mut S, n: IRNode| -> WalkResult<()>
         requires { (d : _) (t : _) → d.now ≡ c.now → F.pre callback d t n }

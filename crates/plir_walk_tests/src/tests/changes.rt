@@ -83,7 +83,8 @@ fn new_op<D: OpSet>(
     target: Option<Ptr<BasicBlock>>,
 ) -> Result<Ptr<Operation>, Refusal>
     ensures live { IfOk result (λ op. IsLive ctx.new (AnyNode.Operation op)) }
-    ensures placed { (b : _) → target ≡ Some b → IfOk result (λ op. parent_of ctx.new (AnyNode.Operation op) ≡ Some (AnyNode.BasicBlock b)) }
+    ensures placed { (b : _) → target ≡ Some b → IfOk result
+        (λ op. parent_of ctx.new (AnyNode.Operation op) ≡ Some (AnyNode.BasicBlock b)) }
     ensures lawful { (b : _) → target ≡ Some b → Lawful (look ctx.old) (AnyNode.BasicBlock b) (look ctx.new) }
 {
     lawful_changes::<D>();

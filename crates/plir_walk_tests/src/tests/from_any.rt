@@ -1,5 +1,5 @@
-//! The mutable walkers from a node of any kind. They are generic in what is walked: a proof that calls a walker at a context of
-//! its own is dear, so each such call is made once.
+//! The mutable walkers from a node of any kind. They are generic in what is walked: a proof that calls a walker at a
+//! context of its own is dear, so each such call is made once.
 ghost use Rattle.std.specs.Prelude.{◌≡◌, true};
 ghost use Rattle.plir_core.specs.declared.ptr.IRNode.{IRNode as AnyNode};
 ghost use Rattle.plir_walk.specs.Lawful.{StandsUnder};

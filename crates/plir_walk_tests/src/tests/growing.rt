@@ -16,8 +16,8 @@ use plir_walk::interruptible::{WalkResult, walk_advance, walk_break};
 use plir_walk::laws::lawful_changes;
 use plir_walk::{CallLimit, WalkConfig};
 
-/// Walks with a callback that notes its node, and gives a region to it if it is an operation. All that the callback promises
-/// of the tree is what `Operation::add_region` promises.
+/// Walks with a callback that notes its node, and gives a region to it if it is an operation. All that the callback
+/// promises of the tree is what `Operation::add_region` promises.
 pub fn grow<D: OpSet>(
     ctx: &mut Context<D>,
     config: &WalkConfig,
@@ -45,8 +45,8 @@ pub fn grow<D: OpSet>(
     walk_op(ctx, called, config, root, 100, add)
 }
 
-/// Walks with a callback that notes its node, and takes the label from it if it is a block. All that the callback promises of
-/// the tree is what `set_label` promises.
+/// Walks with a callback that notes its node, and takes the label from it if it is a block. All that the callback
+/// promises of the tree is what `set_label` promises.
 pub fn unlabel<D: OpSet>(
     ctx: &mut Context<D>,
     config: &WalkConfig,
@@ -58,7 +58,8 @@ pub fn unlabel<D: OpSet>(
     lawful_changes::<D>();
     let clear = |ctx: &mut Context<D>, called: &mut Vec<IRNode>, node: IRNode| -> WalkResult<u32>
         requires { IsLive ctx.old node }
-        ensures { (ctx.new ≡ ctx.old) ⊎ ((b : Pointer BlockKind) × (f : BlockView _ → BlockView _) × (ctx.new ≡ with_block_edit ctx.old b f)) }
+        ensures { (ctx.new ≡ ctx.old) ⊎ ((b : Pointer BlockKind) × (f : BlockView _ → BlockView _) ×
+            (ctx.new ≡ with_block_edit ctx.old b f)) }
     {
         if called.push(node).is_err() {
             return walk_break(NOT_DONE);

@@ -1,5 +1,5 @@
-//! A small pass, as a user would write one: it makes a module with a function and an own operation in it, reshapes it in a
-//! walk, and reads, stores, verifies and prints an attribute. What a call has promised is tested nowhere again.
+//! A small pass, as a user would write one: it makes a module with a function and an own operation in it, reshapes it
+//! in a walk, and reads, stores, verifies and prints an attribute. What a call has promised is tested nowhere again.
 ghost use Rattle.std.specs.Prelude.{IfOk, IsSome, codes};
 ghost use Rattle.plir_data.specs.Dictionary.{dict_get};
 ghost use Rattle.plir_core.specs.Store.{IsAncestor, IsLive, attributes_of};
@@ -8,10 +8,10 @@ ghost use Rattle.plir_core.specs.Forest.{look};
 ghost use Rattle.plir_walk.specs.Lawful.{Lawful};
 
 use super::changes::NOT_DONE;
+use plir_attr_text::{print_attr, read_attr};
 use plir_core::laws::{growth, kid_at, op_edits_keep_the_rest};
 use plir_core::{BasicBlock, Context, IRNode, NodeErr, Operation, Ptr, Region};
 use plir_data::{Identifier, Memory, OpKind, OpSet};
-use plir_text::{print_attr, read_attr};
 use plir_walk::interruptible::mutable::walk_op;
 use plir_walk::interruptible::{WalkResult, walk_advance, walk_break};
 use plir_walk::laws::lawful_changes;
@@ -59,7 +59,8 @@ fn fill<D: OpSet>(
     requires { IsLive ctx.old (AnyNode.Region region) }
     ensures live { IfOk result (λ block. IsLive ctx.new (AnyNode.BasicBlock block)) }
     ensures kept { (n : AnyNode) → IsLive ctx.old n → IsLive ctx.new n }
-    ensures lawful { (n : AnyNode) → IsAncestor ctx.old n (AnyNode.Region region) → Lawful (look ctx.old) n (look ctx.new) }
+    ensures lawful { (n : AnyNode) → IsAncestor ctx.old n (AnyNode.Region region) →
+        Lawful (look ctx.old) n (look ctx.new) }
 {
     lawful_changes::<D>();
     ctx.forest();
@@ -104,7 +105,8 @@ fn add_region<D: OpSet>(ctx: &mut Context<D>, op: Ptr<Operation>) -> Result<(), 
     Ok(())
 }
 
-// Erases the last operation of a block, if there is one and nothing outside it uses it, and puts a new function in its place.
+// Erases the last operation of a block, if there is one and nothing outside it uses it, and puts a new function in its
+// place.
 fn replace_last<D: OpSet>(
     alloc: Global,
     ctx: &mut Context<D>,
@@ -150,7 +152,8 @@ fn visit<D: OpSet>(
     }
 }
 
-/// Walks a module by a callback that gives a region to each operation, and in each block has the last operation replaced.
+/// Walks a module by a callback that gives a region to each operation, and in each block has the last operation
+/// replaced.
 pub fn reshape<D: OpSet>(
     alloc: Global,
     ctx: &mut Context<D>,
@@ -166,8 +169,8 @@ pub fn reshape<D: OpSet>(
     walk_op(ctx, called, &WALKCONFIG_PREORDER_FORWARD, root, 100, follow)
 }
 
-/// Reads an attribute from a text, puts it under `note` on an operation, finds it there, verifies it and prints it: `None`
-/// where the text is refused, the attribute isn't valid, or memory is wanting.
+/// Reads an attribute from a text, puts it under `note` on an operation, finds it there, verifies it and prints it:
+/// `None` where the text is refused, the attribute isn't valid, or memory is wanting.
 pub fn note<D: OpSet>(
     alloc: Global,
     ctx: &mut Context<D>,

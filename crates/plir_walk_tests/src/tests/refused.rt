@@ -67,8 +67,8 @@ fn is_expected(called: &[IRNode], answer: Result<WalkResult<u32>, CallLimit>) ->
     }
 }
 
-// Walks a module with a callback that appends a function to its block. Where memory is refused the callback breaks the walk;
-// the called nodes are the first ones of the tree all the same.
+// Walks a module with a callback that appends a function to its block. Where memory is refused the callback breaks the
+// walk; the called nodes are the first ones of the tree all the same.
 fn append_in_walk<D: OpSet>(alloc: Global, ctx: &mut Context<D>, nest: Nest) -> bool {
     let (root, _, block) = nest.nodes();
     let Some(plan) = appending(alloc, block) else {

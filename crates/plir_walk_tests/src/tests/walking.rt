@@ -88,8 +88,8 @@ fn pair_of(word: &str) -> Result<(Order, Direction), Stop> {
     }
 }
 
-/// Does what a line says that walks under an operation: `grow SETTING OP` gives each called operation a region, `unlabel
-/// SETTING OP` takes the label from each called block. Writes the called nodes and the walk's answer.
+/// Does what a line says that walks under an operation: `grow SETTING OP` gives each called operation a region,
+/// `unlabel SETTING OP` takes the label from each called block. Writes the called nodes and the walk's answer.
 pub fn walk_plainly<D: OpSet>(bench: &mut Bench<D>, line: Line<'_>) -> Result<(), Stop> {
     let config = config_of(line.first)?;
     let root = bench.made.op(&bench.ctx, line.second)?;
@@ -182,8 +182,9 @@ fn change_plainly<D: OpSet>(
     found.map(|()| walk_advance())
 }
 
-/// Does what `pass KIND` says: makes a module with a function and an operation of an own kind in it, walks it by a callback that
-/// reshapes it, and writes the called nodes, the walk's answer, and what the attribute `builtin.unit` on the module prints.
+/// Does what `pass KIND` says: makes a module with a function and an operation of an own kind in it, walks it by a
+/// callback that reshapes it, and writes the called nodes, the walk's answer, and what the attribute `builtin.unit` on
+/// the module prints.
 pub fn run_pass<D: ScriptSet>(bench: &mut Bench<D>, line: Line<'_>) -> Result<(), Stop> {
     let kind = D::own_kind(line.first).ok_or(Stop::Refused)?;
     let mut called = Vec::new(bench.alloc);

@@ -4,7 +4,7 @@ use Rattle.std.proofs.lemmas.List.Elements.{All-head, All-tail}
 use Rattle.plir_data.specs.AttrLive.{IsAttrLive, HandlesLive}
 use Rattle.plir_data.specs.AttrSeen.{attr_view}
 use Rattle.plir_data.specs.DictSeen.{pairs_view}
-use Rattle.plir_text.specs.AttrText.{attr_text, entry_text}
+use Rattle.plir_attr_text.specs.AttrText.{attr_text, entry_text}
 use Rattle.plir_print.specs.Dictionaries.{is_shown}
 use Rattle.plir_print.specs.Lists.{parted_from}
 use Rattle.plir_print.proofs.Pieces.{on, turn}

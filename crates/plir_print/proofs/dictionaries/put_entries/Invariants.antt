@@ -3,7 +3,7 @@ use Rattle.std.specs.List.{filter}
 use Rattle.std.specs.Prelude.{Some}
 use Rattle.plir_data.specs.AttrLive.{HandlesLive}
 use Rattle.plir_data.specs.DictSeen.{pairs_view}
-use Rattle.plir_text.specs.AttrText.{entry_text}
+use Rattle.plir_attr_text.specs.AttrText.{entry_text}
 use Rattle.plir_print.specs.Dictionaries.{is_shown}
 use Rattle.plir_print.specs.Lists.{parted, parted_from}
 use Rattle.plir_print.proofs.dictionaries.put_entries.Given as goal

@@ -1,12 +1,12 @@
 use Rattle.std.proofs.Common.{◌∙◌, length, [], ◌∷◌, ◌++◌, refl, sym, ap, subst, arith, ◌≡◌, ℕ, List}
 use Rattle.std.proofs.lemmas.Result.{err_from_is_err_and}
-use Rattle.plir_text.specs.Begun.{separator_at-shorter}
-use Rattle.plir_text.specs.Fronts.{no_open, nothing_inside, starts, ends_at_item, ends_behind, closes, goes_on}
-use Rattle.plir_text.specs.Growth.{Grows-itself, Grows-on, NamesAll-grown}
-use Rattle.plir_text.specs.Lists.{separator_at}
-use Rattle.plir_text.specs.StepLaws.{done}
-use Rattle.plir_text.specs.TypeSteps.{behind_is}
-use Rattle.plir_text.specs.Names.{NamesAll}
+use Rattle.plir_attr_text.specs.Begun.{separator_at-shorter}
+use Rattle.plir_attr_text.specs.Fronts.{no_open, nothing_inside, starts, ends_at_item, ends_behind, closes, goes_on}
+use Rattle.plir_attr_text.specs.Growth.{Grows-itself, Grows-on, NamesAll-grown}
+use Rattle.plir_attr_text.specs.Lists.{separator_at}
+use Rattle.plir_attr_text.specs.StepLaws.{done}
+use Rattle.plir_attr_text.specs.TypeSteps.{behind_is}
+use Rattle.plir_attr_text.specs.Names.{NamesAll}
 use Rattle.plir_read.specs.Heads.{argument_types, argument_names}
 use Rattle.plir_read.specs.OpReading.{argument_at}
 use Rattle.plir_read.specs.OpTerms.{Argument}
@@ -15,8 +15,8 @@ use Rattle.plir_read.proofs.OpFound.{argument_at-shorter}
 use Rattle.plir_read.proofs.Ends.{end_on, sign_end}
 use Rattle.plir_read.proofs.OpEnds.{argument_end, separator_end}
 use Rattle.plir_read.proofs.TypesNamed.{named_itself, named_on, behind_named}
-use Rattle.plir_text.specs.Lists.{items_at}
-use Rattle.plir_text.specs.Parts.{IsPartOf}
+use Rattle.plir_attr_text.specs.Lists.{items_at}
+use Rattle.plir_attr_text.specs.Parts.{IsPartOf}
 use Rattle.plir_read.specs.HeldTypes.{IsHeldByArgument}
 use Rattle.plir_read.proofs.Held.{none_come, both_come, held_is, arguments_front, arguments_last}
 use Rattle.plir_read.proofs.arguments.read_arguments.Goals as goal

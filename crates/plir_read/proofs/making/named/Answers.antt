@@ -1,7 +1,7 @@
 use Rattle.std.proofs.Common.{refl, sym, subst}
 use Rattle.plir_data.specs.AttrLive.{HandlesLive}
 use Rattle.plir_data.specs.AttrView.{identifier}
-use Rattle.plir_text.specs.Meanings.{leaf_live}
+use Rattle.plir_attr_text.specs.Meanings.{leaf_live}
 use Rattle.plir_read.proofs.EntriesLive.{put_live}
 use Rattle.plir_read.proofs.making.named.Goals as goal
 

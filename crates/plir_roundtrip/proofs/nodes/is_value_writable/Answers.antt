@@ -1,7 +1,7 @@
 use Rattle.std.proofs.Common.{◌≡◌, Some, sym, subst, ◌∙◌}
 use Rattle.std.proofs.lemmas.Option.{same_Some}
 use Rattle.plir_data.specs.AttrSeen.{attr_view}
-use Rattle.plir_text.specs.Writable.{IsWritable}
+use Rattle.plir_attr_text.specs.Writable.{IsWritable}
 use Rattle.plir_builtin.specs.BuiltinOps.{value_of}
 use Rattle.plir_roundtrip.proofs.nodes.is_value_writable.Goals as goal
 

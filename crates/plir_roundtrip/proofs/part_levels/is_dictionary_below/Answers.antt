@@ -1,6 +1,6 @@
 use Rattle.std.proofs.Common.{◌≡◌, ◌↔◌, ◌<◌, Some, IsTrue, sym, ap, subst, ◌∙◌}
 use Rattle.plir_core.specs.Store.{kind_of}
-use Rattle.plir_text.specs.Terms.{entries_levels}
+use Rattle.plir_attr_text.specs.Terms.{entries_levels}
 use Rattle.plir_roundtrip.specs.Written.{dictionary_term}
 use Rattle.plir_roundtrip.specs.WrittenLevels.{shown_levels}
 use Rattle.plir_roundtrip.proofs.part_levels.is_dictionary_below.Goals as goal

@@ -1,5 +1,0 @@
-use Rattle.plir_text.specs.SameMeanings.{one_meaning}
-use Rattle.plir_text.proofs.laws.text_stands_for_one_attribute.Goals as goal
-
-pub returns : goal.returns
-returns g c m n types whole bytes x y s r = one_meaning g.D.OpSet.type_handles types whole m n bytes x y s r

@@ -1,6 +1,0 @@
-use Rattle.std.proofs.Common.{All, take}
-use Rattle.plir_text.specs.Writable.{IsNameOrMark}
-use Rattle.plir_text.proofs.writable.are_names.Given as goal
-
-abbrev pub invariant-names : goal.invariant-names
-invariant-names l = All IsNameOrMark (take l.name-index l.names)

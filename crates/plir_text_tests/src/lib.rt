@@ -1,5 +1,0 @@
-//! Tests of `plir_text`, in a crate of their own, since a crate that holds its tests is proved twice, once with them.
-#![tactic(auto)]
-
-#[cfg(test)]
-mod tests;
