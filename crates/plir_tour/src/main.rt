@@ -7,7 +7,7 @@ use plir_builtin::{FuncOp, ModuleOp};
 use plir_core::{Context, IRNode};
 use plir_data::{BuiltinSet, FunctionType, Identifier};
 use plir_iface::{Op, SingleBlockRegionInterface};
-use plir_print::{is_printable, print_op};
+use plir_text::{is_printable, print_op};
 use plir_walk::WALKCONFIG_PREORDER_FORWARD;
 use plir_walk::uninterruptible::immutable::walk_op;
 use std::alloc::Global;

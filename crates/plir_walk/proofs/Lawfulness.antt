@@ -101,12 +101,12 @@ linked-live s m a e = go (is_node_live s m) (node_over s m) e
     go false o e = absurd (none-some a e)
 
 -- where nodes are moved, the same are live and given out
-moved-live : {O B : Type 0} (s t : Nodes O B) (x : IRNode) → MovesOnly s t x → (m : IRNode) → is_node_live t m ≡ is_node_live s m
+pub moved-live : {O B : Type 0} (s t : Nodes O B) (x : IRNode) → MovesOnly s t x → (m : IRNode) → is_node_live t m ≡ is_node_live s m
 moved-live s t x e (Operation p) = ap (λ z. is_live_at z p.slot p.version) e.ops
 moved-live s t x e (Region p) = ap (λ z. is_live_at z p.slot p.version) e.regions
 moved-live s t x e (BasicBlock p) = ap (λ z. is_live_at z p.slot p.version) e.blocks
 
-moved-given : {O B : Type 0} (s t : Nodes O B) (x : IRNode) → MovesOnly s t x → (m : IRNode) → was_given_out t m ≡ was_given_out s m
+pub moved-given : {O B : Type 0} (s t : Nodes O B) (x : IRNode) → MovesOnly s t x → (m : IRNode) → was_given_out t m ≡ was_given_out s m
 moved-given s t x e (Operation p) = ap (λ z. is_given_out z p) e.ops
 moved-given s t x e (Region p) = ap (λ z. is_given_out z p) e.regions
 moved-given s t x e (BasicBlock p) = ap (λ z. is_given_out z p) e.blocks
@@ -193,11 +193,11 @@ module _ {K A T : Type 0} (s : Store K A T) where
   same_slots : {C : Type 0} (t : Table C) → SameSlots t t
   same_slots t = record { number = refl; full = λ j. refl; versions = λ j. refl; free = refl }
 
-  record SeesTheSame (t : Store K A T) : Type 0 where
-    live : (m : IRNode) → is_live t m ≡ is_live s m
-    parents : (m : IRNode) → parent_of t m ≡ parent_of s m
-    kids : (m : IRNode) → kids t m ≡ kids s m
-    given : (m : IRNode) → given_out t m ≡ given_out s m
+  pub record SeesTheSame (t : Store K A T) : Type 0 where
+    pub live : (m : IRNode) → is_live t m ≡ is_live s m
+    pub parents : (m : IRNode) → parent_of t m ≡ parent_of s m
+    pub kids : (m : IRNode) → kids t m ≡ kids s m
+    pub given : (m : IRNode) → given_out t m ≡ given_out s m
 
   lawful-seen : (t : Store K A T) (n : IRNode) → SeesTheSame t → Lawful (look s) n (look t)
   lawful-seen t n e = lawful-same (look s) (look t) n e.live e.parents e.kids (λ m g. e.given m ∙ g)
@@ -205,13 +205,13 @@ module _ {K A T : Type 0} (s : Store K A T) where
   shape-seen : (t : Store K A T) → SeesTheSame t → SameShape (look s) (look t)
   shape-seen t e = record { live = e.live; kids = e.kids }
 
-  op-edit-seen : (p : Ptr OperationKind) (f : OpView K A → OpView K A) → SeesTheSame (with_op_edit s p f)
+  pub op-edit-seen : (p : Ptr OperationKind) (f : OpView K A → OpView K A) → SeesTheSame (with_op_edit s p f)
   op-edit-seen p f =
       let os = edited-slots s.nodes.ops p.slot f in
       let bs = same_slots s.nodes.blocks in
       subst SeesTheSame (sym (op-edit-is s p f)) (record { live = refilled-live s _ _ os bs; parents = refilled-parents s _ _ os bs; kids = refilled-kids s _ _ os bs; given = refilled-given s _ _ os bs })
 
-  block-edit-seen : (p : Ptr BasicBlockKind) (f : BlockView A → BlockView A) → SeesTheSame (with_block_edit s p f)
+  pub block-edit-seen : (p : Ptr BasicBlockKind) (f : BlockView A → BlockView A) → SeesTheSame (with_block_edit s p f)
   block-edit-seen p f =
       let os = same_slots s.nodes.ops in
       let bs = edited-slots s.nodes.blocks p.slot f in

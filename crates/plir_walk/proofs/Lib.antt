@@ -25,6 +25,7 @@ pub mod Advancing
 pub mod Orders
 pub mod Lawfulness
 pub mod LawfulAbove
+pub mod ChangedSoFar
 pub mod NameLists
 pub mod NamedStores
 pub mod NamesTaken

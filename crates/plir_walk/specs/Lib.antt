@@ -12,6 +12,7 @@ pub mod Walk
 pub mod AsRead
 pub mod Walked
 pub mod LawfulChanges
+pub mod ChangedBelow
 pub mod Step
 pub mod Laws
 pub mod CallLaws

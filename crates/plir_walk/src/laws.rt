@@ -16,6 +16,7 @@ ghost use Rattle.plir_core.specs.Above.{Reaches};
 ghost use Rattle.plir_core.specs.Forest.{IsForest, Shape};
 ghost use Rattle.plir_walk.specs.Tree.{HasOnePlaceEach, IsUnder};
 ghost use Rattle.plir_walk.specs.Calls.{Advancing, Call, ReadsBack};
+ghost use Rattle.plir_walk.specs.ChangedBelow.{StepsBelow};
 ghost use Rattle.plir_walk.specs.LawfulChanges.{LawfulChanges};
 ghost use Rattle.plir_walk.specs.Laws.{BeforeOrders, PostReverseIsPreForwardReversed, SkipsAtPostOrder};
 ghost use Rattle.plir_walk.specs.Laws.{ShutsOutNothing, WalkedOnce};
@@ -96,3 +97,11 @@ pub fn lawful_changes<D: OpSet>()
 {
     contexts_stand::<D>();
 }
+
+/// What a callback at a node does in many steps, in any order: it makes nodes, unlinks and moves those below its own,
+/// puts them anywhere below it or into what it made, edits and erases. One relation holds from its beginning to each
+/// step, each step keeps it by the words of the node call that makes it, and where it holds at the end the whole is a
+/// lawful change.
+pub fn changes_below_compose<D: OpSet>()
+    ensures { StepsBelow D.Kind D.Attr D.Ty }
+{}

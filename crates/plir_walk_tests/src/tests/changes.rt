@@ -11,7 +11,7 @@ use plir_core::{BasicBlock, Context, IRNode, NodeErr, Operation, Ptr, Region};
 use plir_data::{Identifier, OpKind, OpSet};
 use plir_walk::NodeLinks;
 use plir_walk::interruptible::{WalkResult, walk_break};
-use plir_walk::laws::lawful_changes;
+use plir_walk::laws::{changes_below_compose, lawful_changes};
 use std::alloc::Global;
 
 /// What a callback breaks the walk with where memory was refused, or a change can't be made.
@@ -121,6 +121,34 @@ fn erase_op<D: OpSet>(ctx: &mut Context<D>, node: IRNode, op: Ptr<Operation>) ->
     Ok(())
 }
 
+/// Moves an operation that stands below `node` to the end of a block that is at or below `node`, and not in it.
+fn move_op<D: OpSet>(
+    ctx: &mut Context<D>,
+    node: IRNode,
+    op: Ptr<Operation>,
+    block: Ptr<BasicBlock>,
+) -> Result<(), Refusal>
+    requires { IsLive ctx.old node }
+    ensures { Lawful (look ctx.old) node (look ctx.new) }
+{
+    lawful_changes::<D>();
+    changes_below_compose::<D>();
+    let moved = IRNode::Operation(op);
+    let target = IRNode::BasicBlock(block);
+    if !op.is_live(ctx) || !block.is_live(ctx) || moved == node {
+        return Err(Refusal::Misplaced);
+    }
+    let holds_moved = node.is_ancestor(moved, ctx);
+    let holds_target = node.is_ancestor(target, ctx);
+    let over_target = moved.is_ancestor(target, ctx);
+    if !holds_moved || !holds_target || over_target {
+        return Err(Refusal::Misplaced);
+    }
+    op.unlink(ctx);
+    op.insert_at_back(block, ctx);
+    Ok(())
+}
+
 /// Erases the first region of an operation, which nothing outside the region uses.
 fn erase_region<D: OpSet>(ctx: &mut Context<D>, op: Ptr<Operation>) -> Result<(), Refusal>
     ensures { Lawful (look ctx.old) (AnyNode.Operation op) (look ctx.new) }
@@ -193,10 +221,12 @@ fn apply<D: OpSet>(
     node: IRNode,
     change: Change,
 ) -> Result<(), Refusal>
+    requires { IsLive ctx.old node }
     ensures { Lawful (look ctx.old) node (look ctx.new) }
 {
     match (change, node) {
         (Change::EraseOp(op), _) => erase_op(ctx, node, op),
+        (Change::MoveOp(op, block), _) => move_op(ctx, node, op, block),
         (Change::Label, IRNode::BasicBlock(block)) => label(alloc, ctx, block),
         (Change::AppendFunc, IRNode::BasicBlock(block)) => {
             make_nest(alloc, ctx, OpKind::Func, Some(block))?;

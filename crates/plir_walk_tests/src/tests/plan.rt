@@ -1,5 +1,5 @@
 //! What the callback of a walk does, as a text says it.
-use plir_core::{IRNode, Operation, Ptr};
+use plir_core::{BasicBlock, IRNode, Operation, Ptr};
 use plir_data::OpSet;
 use plir_scripts::{Bench, Stop, split_word};
 use plir_walk::interruptible::{WalkResult, walk_advance, walk_break, walk_skip};
@@ -9,6 +9,8 @@ use plir_walk::interruptible::{WalkResult, walk_advance, walk_break, walk_skip};
 pub enum Change {
     /// The operation, which stands in the node, is erased.
     EraseOp(Ptr<Operation>),
+    /// The operation, which stands below the node, is moved to the end of the block, which does too, or is the node.
+    MoveOp(Ptr<Operation>, Ptr<BasicBlock>),
     /// A new function is put at the end of the node, a block.
     AppendFunc,
     /// A new block is put at the end of the node, a region.
@@ -44,8 +46,8 @@ impl Plan {
     }
 }
 
-/// The plan of a text: `limit N`, `skip NODE`, `break NODE`, `at NODE erase OP`, `at NODE append`, `at NODE add`, `at
-/// NODE clear` and `at NODE label`, parted by `, `.
+/// The plan of a text: `limit N`, `skip NODE`, `break NODE`, `at NODE erase OP`, `at NODE move OP BLOCK`, `at
+/// NODE append`, `at NODE add`, `at NODE clear` and `at NODE label`, parted by `, `.
 pub fn read_plan<D: OpSet>(bench: &Bench<D>, text: &str) -> Result<Plan, Stop> {
     let mut plan = Plan {
         changes: Vec::new(bench.alloc),
@@ -77,6 +79,13 @@ fn read_change<D: OpSet>(bench: &Bench<D>, text: &str) -> Result<(IRNode, Change
             IRNode::Operation(op) => Change::EraseOp(op),
             _ => return Err(Stop::Refused),
         },
+        ("move", _) => {
+            let (op, block) = split_word(name);
+            match (bench.made.node(op)?, bench.made.node(block)?) {
+                (IRNode::Operation(op), IRNode::BasicBlock(block)) => Change::MoveOp(op, block),
+                _ => return Err(Stop::Refused),
+            }
+        }
         ("append", IRNode::BasicBlock(_)) => Change::AppendFunc,
         ("append", IRNode::Region(_)) => Change::AppendBlock,
         ("add", _) => Change::AddRegion,

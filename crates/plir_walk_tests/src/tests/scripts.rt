@@ -354,6 +354,31 @@ fn a_new_node_in_an_old_slot_is_called(rt: HostRuntime) -> Result<(), Mismatch> 
 }
 
 #[test]
+fn operations_that_a_call_moves_are_called_where_they_stand_then(
+    rt: HostRuntime,
+) -> Result<(), Mismatch> {
+    let script = "
+        op module 1 => o0
+        block => b0
+        back b0 r0
+        op func 1 => o1
+        block => b1
+        back b1 r1
+        back o1 b0
+        op func 1 => o2
+        block => b2
+        back b2 r2
+        back o2 b0
+        change pre-fwd o0 limit 10, at b0 move o1 b2 => o0 r0 b0 o2 r2 b2 o1 r1 b1 advance
+        change pre-fwd o0 limit 10, at o2 move o1 b2 => o0 r0 b0 o2 r2 b2 o1 r1 b1 advance
+        change pre-fwd o0 limit 10, at b0 move o1 b0 => o0 r0 b0 o2 r2 b2 o1 r1 b1 advance
+        change post-fwd o0 limit 10, at b0 move o2 b1 => b2 r2 o2 b1 r1 o1 b0 r0 o0 advance
+        look pre-fwd o0 => o0 r0 b0 o1 r1 b1 o2 r2 b2 advance
+        change pre-fwd o0 limit 10, at o1 move o2 b0 => o0 r0 b0 o1 break 4294967295";
+    play_in(rt.alloc(), script)
+}
+
+#[test]
 fn a_call_may_change_the_tree_and_skip_it(rt: HostRuntime) -> Result<(), Mismatch> {
     let script = "
         op module 1 => o0

@@ -1,0 +1,7 @@
+use Rattle.plir_core.specs.Store.{IsLive}
+use Rattle.plir_core.specs.declared.ptr.IRNode.TheVariants.{BasicBlock}
+use Rattle.plir_bench.proofs.building.build_bare.Given as goal
+
+-- the body is live
+abbrev pub invariant-loop : goal.invariant-loop
+invariant-loop g l = IsLive l.ctx (BasicBlock l.body)

@@ -1,0 +1,110 @@
+//! The modules that are measured.
+ghost use Rattle.std.specs.Prelude.{IfOk, OnOk};
+ghost use Rattle.plir_core.specs.Made.{IsMade};
+ghost use Rattle.plir_core.specs.Store.{IsLive};
+ghost use Rattle.plir_core.specs.declared.ptr.IRNode.{IRNode as AnyNode};
+
+use crate::stop::Stop;
+use plir_builtin::{FuncOp, ModuleOp};
+use plir_core::{BasicBlock, Context, NodeErr, Operation, Ptr};
+use plir_data::{BuiltinSet, FunctionType, Identifier, OpKind};
+use plir_iface::Op;
+use std::alloc::Global;
+
+/// The name of the function of a number.
+pub fn name_of(alloc: Global, number: u64) -> Result<Identifier, Stop> {
+    let name = format!(in alloc; "f{number}")?;
+    Ok(Identifier::try_new(alloc, name.as_str())?)
+}
+
+/// A module of functions without arguments and results, named by their numbers from 0.
+pub fn build_functions(
+    alloc: Global,
+    ctx: &mut Context<BuiltinSet>,
+    functions: u64,
+) -> Result<Ptr<Operation>, Stop> {
+    let (root, body) = build_root(alloc, ctx)?;
+    for number in 0..functions {
+        add_function(alloc, ctx, body, number)?;
+    }
+    Ok(root)
+}
+
+/// A module of operations without attributes, each with a region and a block.
+pub fn build_bare(
+    alloc: Global,
+    ctx: &mut Context<BuiltinSet>,
+    operations: u64,
+) -> Result<Ptr<Operation>, Stop> {
+    let (root, body) = build_root(alloc, ctx)?;
+    for _ in 0..operations {
+        add_bare(alloc, ctx, body)?;
+    }
+    Ok(root)
+}
+
+// A module, and its body.
+fn build_root(
+    alloc: Global,
+    ctx: &mut Context<BuiltinSet>,
+) -> Result<(Ptr<Operation>, Ptr<BasicBlock>), Stop>
+    ensures { IfOk result (λ x. IsLive ctx.new (AnyNode.BasicBlock x.1)) }
+{
+    let name = Identifier::try_new(alloc, "root")?;
+    let module = ModuleOp::new(alloc, ctx, name)?;
+    let root = Op::<BuiltinSet>::get_operation(&module);
+    let region = root.first_region(ctx).ok_or(Stop::Refused)?;
+    let body = region.get_head(ctx).ok_or(Stop::Refused)?;
+    Ok((root, body))
+}
+
+fn add_function(
+    alloc: Global,
+    ctx: &mut Context<BuiltinSet>,
+    body: Ptr<BasicBlock>,
+    number: u64,
+) -> Result<(), Stop>
+    requires { IsLive ctx.old (AnyNode.BasicBlock body) }
+    ensures { OnOk result (IsLive ctx.new (AnyNode.BasicBlock body)) }
+{
+    let name = name_of(alloc, number)?;
+    let func = make_function(alloc, ctx, name)?;
+    func.insert_at_back(body, ctx);
+    Ok(())
+}
+
+// A function of a name, without arguments and results, in no block.
+fn make_function(
+    alloc: Global,
+    ctx: &mut Context<BuiltinSet>,
+    name: Identifier,
+) -> Result<Ptr<Operation>, NodeErr>
+    ensures { IfOk result (λ p. IsMade ctx.old.nodes ctx.new.nodes (AnyNode.Operation p)) }
+{
+    let ty = FunctionType::get(ctx, Vec::new(alloc), Vec::new(alloc))?;
+    let func = FuncOp::new(alloc, ctx, name, ty)?;
+    Ok(Op::<BuiltinSet>::get_operation(&func))
+}
+
+fn add_bare(alloc: Global, ctx: &mut Context<BuiltinSet>, body: Ptr<BasicBlock>) -> Result<(), Stop>
+    requires { IsLive ctx.old (AnyNode.BasicBlock body) }
+    ensures { OnOk result (IsLive ctx.new (AnyNode.BasicBlock body)) }
+{
+    let results = Vec::new(alloc);
+    let operands = Vec::new(alloc);
+    let successors = Vec::new(alloc);
+    let op = Operation::new(alloc, ctx, OpKind::Func, results, operands, successors, 1)?;
+    op.insert_at_back(body, ctx);
+    add_block(alloc, ctx, op)
+}
+
+// Puts a block into the first region of an operation.
+fn add_block(alloc: Global, ctx: &mut Context<BuiltinSet>, op: Ptr<Operation>) -> Result<(), Stop>
+    requires { IsLive ctx.old (AnyNode.Operation op) }
+    ensures { OnOk result ((n : AnyNode) → IsLive ctx.old n → IsLive ctx.new n) }
+{
+    let region = op.first_region(ctx).ok_or(Stop::Refused)?;
+    let block = BasicBlock::new(alloc, ctx, None, Vec::new(alloc))?;
+    block.insert_at_back(region, ctx);
+    Ok(())
+}

@@ -1,0 +1,184 @@
+//! Tables of symbols, and edits through them.
+ghost use Rattle.std.specs.Prelude.{◌≡◌, false, IfOk, OnOk};
+ghost use Rattle.plir_builtin.specs.Agree.{Agrees};
+ghost use Rattle.plir_core.specs.Store.{IsLive};
+ghost use Rattle.plir_core.specs.declared.ptr.IRNode.{IRNode as AnyNode};
+
+use crate::building::{build_functions, name_of};
+use crate::stop::Stop;
+use plir_builtin::{SymbolEdit, SymbolTable, SymbolTableCollection};
+use plir_core::{Context, IRNode, Operation, Ptr};
+use plir_data::{BuiltinSet, Identifier};
+use std::alloc::Global;
+use std::mem::forget;
+
+/// Makes a table of a module's symbols, so many times.
+pub fn make_tables(
+    alloc: Global,
+    ctx: &Context<BuiltinSet>,
+    root: Ptr<Operation>,
+    rounds: u64,
+) -> Result<u64, Stop>
+    requires { IsLive ctx.now (AnyNode.Operation root) }
+{
+    let mut made = 0u64;
+    for _ in 0..rounds {
+        let _table = SymbolTable::new(alloc, ctx, root)?;
+        made = made.wrapping_add(1);
+    }
+    Ok(made)
+}
+
+/// Looks up the names of so many functions, each of them in so many rounds, and counts what is found.
+pub fn look_up_names(
+    alloc: Global,
+    ctx: &Context<BuiltinSet>,
+    root: Ptr<Operation>,
+    functions: u64,
+    rounds: u64,
+) -> Result<u64, Stop>
+    requires { IsLive ctx.now (AnyNode.Operation root) }
+{
+    let table = SymbolTable::new(alloc, ctx, root)?;
+    let names = list_names(alloc, functions)?;
+    let mut found = 0u64;
+    for _ in 0..rounds {
+        found = found.wrapping_add(count_found(&table, names.as_slice()));
+    }
+    Ok(found)
+}
+
+fn list_names(alloc: Global, functions: u64) -> Result<Vec<Identifier>, Stop> {
+    let mut names = Vec::new(alloc);
+    for number in 0..functions {
+        names.push(name_of(alloc, number)?)?;
+    }
+    Ok(names)
+}
+
+fn count_found(table: &SymbolTable, names: &[Identifier]) -> u64 {
+    let mut found = 0u64;
+    for name in names {
+        if table.lookup(name).is_some() {
+            found = found.wrapping_add(1);
+        }
+    }
+    found
+}
+
+/// Builds a module of so many functions in a context of its own, and erases each of them through a table.
+///
+/// The context is not freed.
+pub fn erase_through_table(alloc: Global, functions: u64) -> Result<u64, Stop> {
+    let mut ctx = Context::new(alloc);
+    let end = build_and_erase(alloc, &mut ctx, functions);
+    forget(ctx);
+    end
+}
+
+fn build_and_erase(
+    alloc: Global,
+    ctx: &mut Context<BuiltinSet>,
+    functions: u64,
+) -> Result<u64, Stop> {
+    let root = build_functions(alloc, ctx, functions)?;
+    let ops = list_body(alloc, ctx, root, functions)?;
+    let mut table = make_table(alloc, ctx, root)?;
+    erase_each(ctx, &mut table, root, ops.as_slice())?;
+    Ok(ops.len() as u64)
+}
+
+fn make_table(
+    alloc: Global,
+    ctx: &Context<BuiltinSet>,
+    root: Ptr<Operation>,
+) -> Result<SymbolTable, Stop>
+    ensures of_root { IfOk result (λ t. t.op ≡ root) }
+    ensures agrees { IfOk result (Agrees (λ k. false) (λ k. false) ctx.now) }
+{
+    if !root.is_live(ctx) {
+        return Err(Stop::Refused);
+    }
+    Ok(SymbolTable::new(alloc, ctx, root)?)
+}
+
+fn erase_each(
+    ctx: &mut Context<BuiltinSet>,
+    table: &mut SymbolTable,
+    root: Ptr<Operation>,
+    ops: &[Ptr<Operation>],
+) -> Result<(), Stop>
+    requires of_root { table.old.op ≡ root }
+    requires agrees { Agrees (λ k. false) (λ k. false) ctx.old table.old }
+{
+    for op in ops {
+        erase_symbol(ctx, table, root, *op)?;
+    }
+    Ok(())
+}
+
+// Erases a function that nothing uses.
+fn erase_symbol(
+    ctx: &mut Context<BuiltinSet>,
+    table: &mut SymbolTable,
+    root: Ptr<Operation>,
+    op: Ptr<Operation>,
+) -> Result<(), Stop>
+    requires of_root { table.old.op ≡ root }
+    requires agrees { Agrees (λ k. false) (λ k. false) ctx.old table.old }
+    ensures of_root { OnOk result (table.new.op ≡ root) }
+    ensures agrees { OnOk result (Agrees (λ k. false) (λ k. false) ctx.new table.new) }
+{
+    if !root.is_live(ctx) || !op.is_live(ctx) {
+        return Err(Stop::Refused);
+    }
+    if !IRNode::Operation(op).is_unused_outside(ctx) {
+        return Err(Stop::Refused);
+    }
+    table.erase(ctx, op)?;
+    Ok(())
+}
+
+/// Erases the first operations of a module's body by one list of edits, and counts those that are done.
+pub fn erase_by_list(
+    alloc: Global,
+    ctx: &mut Context<BuiltinSet>,
+    root: Ptr<Operation>,
+    number: u64,
+) -> Result<u64, Stop> {
+    let ops = list_body(alloc, ctx, root, number)?;
+    let mut edits = Vec::new(alloc);
+    for op in &ops {
+        edits.push(SymbolEdit::Erase {
+            table: root,
+            op: *op,
+        })?;
+    }
+    let mut tables = SymbolTableCollection::new(alloc);
+    let replies = tables.apply_all(ctx, edits)?;
+    Ok(replies.iter().filter(|reply| reply.is_ok()).count() as u64)
+}
+
+// At most so many operations of a module's body, from the first on.
+fn list_body(
+    alloc: Global,
+    ctx: &Context<BuiltinSet>,
+    root: Ptr<Operation>,
+    number: u64,
+) -> Result<Vec<Ptr<Operation>>, Stop> {
+    if !root.is_live(ctx) {
+        return Err(Stop::Refused);
+    }
+    let region = root.first_region(ctx).ok_or(Stop::Refused)?;
+    let body = region.get_head(ctx).ok_or(Stop::Refused)?;
+    let mut ops = Vec::new(alloc);
+    let mut at = body.get_head(ctx);
+    for _ in 0..number {
+        let Some(op) = at else {
+            break;
+        };
+        ops.push(op)?;
+        at = op.get_next(ctx);
+    }
+    Ok(ops)
+}

@@ -1,0 +1,75 @@
+//! Walks that count their calls.
+ghost use Rattle.std.specs.Prelude.{◌≡◌};
+ghost use Rattle.plir_core.specs.Store.{IsLive};
+ghost use Rattle.plir_core.specs.declared.ptr.IRNode.{IRNode as AnyNode};
+
+use crate::stop::Stop;
+use plir_core::{Context, IRNode, Operation, Ptr};
+use plir_data::BuiltinSet;
+use plir_walk::WALKCONFIG_PREORDER_FORWARD;
+use plir_walk::laws::lawful_changes;
+use plir_walk::uninterruptible::{immutable, mutable};
+
+/// Counts the nodes under a root, so many times.
+pub fn walk_nodes(ctx: &Context<BuiltinSet>, root: Ptr<Operation>, rounds: u64) -> u64
+    requires { IsLive ctx.now (AnyNode.Operation root) }
+{
+    let mut count = 0;
+    for _ in 0..rounds {
+        let visit = |_ctx: &Context<BuiltinSet>, count: &mut u64, _node: IRNode| {
+            *count = count.wrapping_add(1);
+        };
+        immutable::walk_op(ctx, &mut count, &WALKCONFIG_PREORDER_FORWARD, root, visit);
+    }
+    count
+}
+
+/// Counts the operations under a root, so many times.
+pub fn walk_operations(ctx: &Context<BuiltinSet>, root: Ptr<Operation>, rounds: u64) -> u64
+    requires { IsLive ctx.now (AnyNode.Operation root) }
+{
+    let mut count = 0;
+    for _ in 0..rounds {
+        let visit = |_ctx: &Context<BuiltinSet>, count: &mut u64, node: IRNode| {
+            if let IRNode::Operation(_) = node {
+                *count = count.wrapping_add(1);
+            }
+        };
+        immutable::walk_op(ctx, &mut count, &WALKCONFIG_PREORDER_FORWARD, root, visit);
+    }
+    count
+}
+
+/// Counts the nodes under a root, so many times, by walks whose calls could change what stands below their nodes.
+pub fn walk_mutably(
+    ctx: &mut Context<BuiltinSet>,
+    root: Ptr<Operation>,
+    rounds: u64,
+) -> Result<u64, Stop> {
+    let mut count = 0;
+    for _ in 0..rounds {
+        walk_once_mutably(ctx, root, &mut count)?;
+    }
+    Ok(count)
+}
+
+fn walk_once_mutably(
+    ctx: &mut Context<BuiltinSet>,
+    root: Ptr<Operation>,
+    count: &mut u64,
+) -> Result<(), Stop> {
+    if !root.is_live(ctx) {
+        return Err(Stop::Refused);
+    }
+    lawful_changes::<BuiltinSet>();
+    let visit = |ctx: &mut Context<BuiltinSet>, count: &mut u64, _node: IRNode|
+        ensures { ctx.new ≡ ctx.old }
+    {
+        *count = count.wrapping_add(1);
+    };
+    let config = WALKCONFIG_PREORDER_FORWARD;
+    match mutable::walk_op(ctx, count, &config, root, u64::MAX, visit) {
+        Ok(()) => Ok(()),
+        Err(_) => Err(Stop::Refused),
+    }
+}
