@@ -32,8 +32,8 @@ module _ {D K A T E : Type 0} where
   most_items size small (x ∷ xs) = omega (arith, small x, most_items size small xs)
 
   pub most_entries : (size : AttrObj D K A T E → ℕ) → ((x : AttrObj D K A T E) → size x ≤ bulk (attr_view x)) →
-      (es : List (String Global × AttrObj D K A T E)) → most (λ e. max 0 (max (size e.1) 0)) es ≤
-      entries_bulk (pairs_view es)
+      (es : List (String Global × AttrObj D K A T E)) →
+      most (λ e. max 0 (max (size e.1) 0)) es ≤ entries_bulk (pairs_view es)
   most_entries size small [] = omega arith
   most_entries size small (e ∷ es) = omega (arith, small e.1, most_entries size small es)
 
