@@ -1,4 +1,4 @@
-use Rattle.std.proofs.Common.{[], refl, sym, subst, ap, Err, arith}
+use Rattle.std.proofs.Common.{◌≡◌, List, [], ◌∷◌, length, Some, refl, sym, subst, ap, ◌∙◌, Result, Ok, Err, OnErr, arith}
 use Rattle.std.specs.Prelude.{All}
 use Rattle.std.proofs.lemmas.List.Elements.{All-nil, All-cons}
 use Rattle.plir_data.specs.Types.{AllLive, IsLive as IsTypeLive}
@@ -7,9 +7,19 @@ use Rattle.plir_core.specs.Contents.{op_view}
 use Rattle.plir_core.specs.Store.{IsLive, IsValueLive}
 use Rattle.plir_core.specs.declared.ptr.IRNode.TheVariants.{BasicBlock}
 use Rattle.plir_read.proofs.Crowded.{op_crowded}
+use Rattle.plir_attr_text.specs.Growth.{Grows-itself}
+use Rattle.plir_read.proofs.OpMade.{KeepsOlder-same, KeepsOlder-typed}
 use Rattle.plir_read.proofs.OpSteps.{refused_as}
 use Rattle.plir_read.proofs.SlotLaws.{leaf_given}
 use Rattle.plir_read.proofs.making.make_constant.Goals as goal
+
+on-err : {T E P : Type 0} (r : Result T E) → P → OnErr r P
+on-err (Ok x) p = tt
+on-err (Err x) p = p
+
+none : {X : Type 0} (xs : List X) → length xs ≡ 0 → xs ≡ []
+none [] e = refl
+none (x ∷ xs) e = absurd (omega (arith, e))
 
 pub same-attributes : goal.same-attributes
 same-attributes g c = refl
@@ -38,3 +48,21 @@ pub returns-in-Err-clause-refused : goal.returns-in-Err-clause-refused
 returns-in-Err-clause-refused g c =
     let o = c.in-Err.ensures in
     refused_as _ _ c.stop_of.result (λ e. op_crowded c.args.ctx.now.nodes c.with_attributes.new.ctx.nodes _ 0 (omega arith) c.stands.ensures.whole.stored (o.too_many_only (ap (λ x. Err x) e)) o.err.nodes o.slots) c.stop_of.ensures
+
+pub returns-in_err-results-clause-kept : goal.returns-in_err-results-clause-kept
+returns-in_err-results-clause-kept g c =
+    let s = c.args.ctx.now in
+    on-err c.from_residual-in_err-results.result (KeepsOlder-typed s s refl (Grows-itself s.types))
+
+pub returns-in-Ok-clause-made : goal.returns-in-Ok-clause-made
+returns-in-Ok-clause-made g c =
+    let o = c.in-Ok.ensures in
+    record {
+      made = o.made;
+      held = o.held ∙ (λ i. Some (op_view kinds.Constant (c.in_ok-results.ensures.value i) (c.new-operands.ensures.items i) (c.new-successors.ensures.items i) (c.in_ok-attributes.ensures.value i)));
+      empty = none _ o.regions.count;
+      types = ap (λ z. z.types) o.ok;
+    }
+
+pub returns-in-Err-clause-kept : goal.returns-in-Err-clause-kept
+returns-in-Err-clause-kept g c = KeepsOlder-same c.args.ctx.now c.with_attributes.new.ctx c.in-Err.ensures.err c.in-Err.ensures.given
