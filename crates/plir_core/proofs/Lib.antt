@@ -41,4 +41,3 @@ pub mod Counting
 pub mod Counted
 pub mod Walked
 pub mod NotUsed
-pub mod ValueUses

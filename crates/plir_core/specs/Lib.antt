@@ -30,7 +30,6 @@
 --                left
 --   Unused       IsUnusedOutside: nothing outside a tree uses a value or a block of it
 --   Uses         uses_of: how often what is in a slot is used; Counts: that counts which are kept say so; IsSound
---   ValueUses    HasUses: a value is an operand of a live operation
 --   Walked       IsCome: how far a walk through a tree has come
 --   Terminator   terminator_of: the operation that ends a block
 --   InsertionPoint  insertion_block: the block that an insertion point is in
@@ -58,6 +57,5 @@ pub mod Refused
 pub mod Unused
 pub mod Uses
 pub mod Walked
-pub mod ValueUses
 pub mod Terminator
 pub mod InsertionPoint
