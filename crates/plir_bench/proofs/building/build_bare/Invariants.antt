@@ -4,4 +4,4 @@ use Rattle.plir_bench.proofs.building.build_bare.Given as goal
 
 -- the body is live
 abbrev pub invariant-loop : goal.invariant-loop
-invariant-loop g l = IsLive l.ctx (BasicBlock l.body)
+invariant-loop l = IsLive l.ctx (BasicBlock l.body)

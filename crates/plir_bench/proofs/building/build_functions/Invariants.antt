@@ -4,4 +4,4 @@ use Rattle.plir_bench.proofs.building.build_functions.Given as goal
 
 -- the body is live
 abbrev pub invariant-loop-number : goal.invariant-loop-number
-invariant-loop-number g l = IsLive l.ctx (BasicBlock l.body)
+invariant-loop-number l = IsLive l.ctx (BasicBlock l.body)

@@ -5,4 +5,4 @@ use Rattle.plir_bench.proofs.symbols.list_body.Given as goal
 
 -- what comes next is live
 abbrev pub invariant-loop : goal.invariant-loop
-invariant-loop g l = IfSome l.at (λ op. IsLive l.ctx (Operation op))
+invariant-loop l = IfSome l.at (λ op. IsLive l.ctx (Operation op))
