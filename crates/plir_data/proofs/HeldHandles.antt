@@ -1,14 +1,14 @@
 -- Whether handles name types of a table, asked of their parts.
-use Rattle.std.proofs.Common.{◌≡◌, ◌↔◌, ℕ, Bool, true, false, cond, List, [], ◌∷◌, ◌++◌, Option, Some, None, IsTrue, option_map, refl, sym, subst, arith}
+use Rattle.std.proofs.Common.{◌≡◌, ◌↔◌, ℕ, Bool, true, false, cond, List, [], ◌∷◌, ◌++◌, Option, Some, None, IsTrue, option_map, sym, subst, arith}
 use Rattle.std.specs.Prelude.{All, Contains, IfSome}
-use Rattle.std.proofs.lemmas.List.Elements.{All-append, All-cons, All-contains, All-head, All-nil, All-tail}
+use Rattle.std.proofs.lemmas.List.Elements.{All-append, All-contains, All-head, All-tail}
 use Rattle.std.proofs.lemmas.Option.{none-some, same_Some}
-use Rattle.plir_data.specs.AttrLive.{IsAttrLive, AreItemsLive, AreEntriesLive, HandlesLive, IsLiveWith, IsHeldLive}
+use Rattle.plir_data.specs.AttrLive.{IsAttrLive, AreEntriesLive, IsLiveWith, IsHeldLive}
 use Rattle.plir_data.specs.Dictionary.{dict_get, is_key}
 use Rattle.plir_data.specs.AttrCalls.{attr_type}
-use Rattle.plir_data.specs.AttrView.{Leaf, identifier, string, bool, integer, unit, type_of, operand_segment_sizes, given_names, own, AttrView, leaf, dict, vec, entries_of, items_of}
+use Rattle.plir_data.specs.AttrView.{identifier, string, bool, integer, unit, type_of, operand_segment_sizes, given_names, own, AttrView, leaf, dict, vec, entries_of}
 use Rattle.plir_data.specs.Types.{TypeView, IsLive, AllLive, IsTypeTable, handles_of, type_at}
-use Rattle.plir_data.proofs.TypeTrees.{all_left, all_right}
+use Rattle.plir_data.specs.LiveLaws.{all_left, all_right}
 
 module _ {T : Type 0} (types : List (TypeView T)) (first rest : List ℕ) (a : Bool) where
   -- of handles behind others the second part is asked where the first is live
@@ -29,29 +29,6 @@ module _ {A T : Type 0} (own_handles : A → List ℕ) (types : List (TypeView T
   entry_dead is first all r =
       let h : (IsAttrLive own_handles types e.1 × AreEntriesLive own_handles types (entries_of fs)) ↔ R = subst (λ l. AreEntriesLive own_handles types (entries_of l) ↔ R) is all in
       first (h.1 r).0
-
--- the attributes of a dictionary are live one by one exactly where all of them are
-module _ {A T : Type 0} (own_handles : A → List ℕ) (types : List (TypeView T)) where
-  abbrev IsEntryLive : List ℕ × AttrView A → Type 0
-  IsEntryLive e = IsAttrLive own_handles types e.1
-
-  pub listed_live : (es : List (List ℕ × AttrView A)) → AreEntriesLive own_handles types (entries_of es) → HandlesLive own_handles types es
-  listed_live [] h = All-nil IsEntryLive
-  listed_live (e ∷ es) h = All-cons IsEntryLive e es h.0 (listed_live es h.1)
-
-  pub live_listed : (es : List (List ℕ × AttrView A)) → HandlesLive own_handles types es → AreEntriesLive own_handles types (entries_of es)
-  live_listed [] h = tt
-  live_listed (e ∷ es) h = (All-head IsEntryLive e es h, live_listed es (All-tail IsEntryLive e es h))
-
--- the same of a list
-module _ {A T : Type 0} (own_handles : A → List ℕ) (types : List (TypeView T)) where
-  pub items_listed : (xs : List (AttrView A)) → AreItemsLive own_handles types (items_of xs) → All (IsAttrLive own_handles types) xs
-  items_listed [] h = All-nil (IsAttrLive own_handles types)
-  items_listed (x ∷ xs) h = All-cons (IsAttrLive own_handles types) x xs h.0 (items_listed xs h.1)
-
-  pub listed_items : (xs : List (AttrView A)) → All (IsAttrLive own_handles types) xs → AreItemsLive own_handles types (items_of xs)
-  listed_items [] h = tt
-  listed_items (x ∷ xs) h = (All-head (IsAttrLive own_handles types) x xs h, listed_items xs (All-tail (IsAttrLive own_handles types) x xs h))
 
 -- what holds of all values of a dictionary holds of the one at a key
 module _ {V : Type 0} (P : V → Type 0) (k : List ℕ) where

@@ -1,5 +1,6 @@
 -- The tree of a handle, by those of the handles that its type holds.
-use Rattle.std.proofs.Common.{◌≡◌, ℕ, zero, suc, ◌<◌, Bool, true, false, List, [], ◌∷◌, ◌++◌, map, Option, Some, None, All, refl, ap, ◌∙◌, arith}
+use Rattle.std.proofs.Common.{◌≡◌, ℕ, zero, suc, ◌<◌, Bool, true, false, List, [], ◌∷◌, map, Option, Some, None, All, refl, ap, ◌∙◌, arith}
+use Rattle.plir_data.specs.LiveLaws.{all_left, all_right}
 use Rattle.plir_data.specs.Types.{TypeView, integer, function, unit, own, IsTypeTable, handles_of, type_at}
 use Rattle.plir_data.specs.TypeTree.{TypeTree, Trees, trees_of, tree_over, tree_if, tree_within, tree_of, function_tree}
 use Rattle.plir_data.specs.TypeText.{trees_text, more_trees_text, type_text, type_text_over, tree_text}
@@ -9,16 +10,6 @@ module _ {X : Type 0} where
   map_agree f g b same [] all = refl
   map_agree f g b same (h ∷ hs) all =
       ap (λ x. x ∷ map f hs) (same h (all 0 0 (omega arith))) ∙ ap (λ xs. g h ∷ xs) (map_agree f g b same hs (λ k d p. all (suc k) d (omega (arith, p))))
-
-  -- a fact of all of two lists joined is one of each
-  pub all_left : (P : X → Type 0) (xs ys : List X) → All P (xs ++ ys) → All P xs
-  all_left P [] ys all k d p = absurd (omega (arith, p))
-  all_left P (x ∷ xs) ys all zero d p = all 0 d (omega arith)
-  all_left P (x ∷ xs) ys all (suc k) d p = all_left P xs ys (λ i e q. all (suc i) e (omega (arith, q))) k d (omega (arith, p))
-
-  pub all_right : (P : X → Type 0) (xs ys : List X) → All P (xs ++ ys) → All P ys
-  all_right P [] ys all = all
-  all_right P (x ∷ xs) ys all = all_right P xs ys (λ i e q. all (suc i) e (omega (arith, q)))
 
 module _ {T : Type 0} (own_handles : T → List ℕ) where
   -- trees that agree below a handle give one tree to a type that holds smaller ones alone

@@ -28,6 +28,11 @@ module _ {A : Type 0} where
   attr_type own_type (leaf (own a)) = own_type a
   attr_type own_type _ = None
 
+  -- the type that an attribute holds which is nothing but a type
+  abbrev pub type_in_attr : AttrView A → Option ℕ
+  type_in_attr (leaf (type_of t)) = Some t
+  type_in_attr _ = None
+
   -- given names are left out of an operation's text, and of the user's own those that say so
   abbrev pub is_outlined : (own_outlined : A → Bool) → AttrView A → Bool
   is_outlined own_outlined (leaf (given_names ns)) = true

@@ -14,9 +14,11 @@
 --   DictSeen     a list of attributes under keys as a dictionary's entries
 --   Places       IsPlace: where a key stands among entries whose keys ascend
 --   AttrDepth    how deep attributes stand in one another
---   AttrCalls    attr_id, attr_type, is_outlined: what the getters of an attribute answer
+--   DepthLaws    laws of the numbers that fall from an attribute to those in it, for the proofs of the crates above
+--   AttrCalls    attr_id, attr_type, type_in_attr, is_outlined: what the getters of an attribute answer
 --   AttrEq, AttrHash   attr_eq, attr_words: equality of attributes, and what their hash is made from
 --   AttrLive     IsAttrLive: the handles in an attribute name types of a table; HandlesLive: those in a dictionary
+--   LiveLaws     laws of live handles in lists and dictionaries, for the proofs of the crates above
 --   AttrVerify   attr_is_valid, IsRefusal: which attributes are valid, and how others are refused
 --   TypeTree, TypeText   tree_of, type_text: a type as a whole, and its text
 --   NamesLent, EntryLent   LendsNames, LendsEntry: what becomes of given names, and of a dictionary's entry, that are
@@ -35,6 +37,7 @@ pub mod AttrDepth
 pub mod AttrSeen
 pub mod DictSeen
 pub mod AttrFalls
+pub mod DepthLaws
 pub mod Dictionary
 pub mod DictLaws
 pub mod Places
@@ -43,6 +46,7 @@ pub mod AttrEq
 pub mod AttrHash
 pub mod AttrLaws
 pub mod AttrLive
+pub mod LiveLaws
 pub mod AttrVerify
 pub mod Laws
 pub mod NamesLent

@@ -4,7 +4,7 @@ ghost use Rattle.std.specs.Prelude.{◌≡◌, ℕ, Bool, true, Option, Some, If
 ghost use Rattle.plir_data.specs.AttrView.{AttrView};
 ghost use Rattle.plir_data.specs.AttrLive.{IsHeldLive};
 ghost use Rattle.plir_data.specs.AttrSeen.{attr_view};
-ghost use Rattle.plir_data.specs.AttrCalls.{attr_id, attr_type, is_outlined};
+ghost use Rattle.plir_data.specs.AttrCalls.{attr_id, attr_type, is_outlined, type_in_attr};
 
 use crate::attributes::{AttrObj, GivenNamesAttr};
 use crate::memory::Memory;
@@ -41,6 +41,17 @@ impl<D: OpSet> AttrObj<D> {
             AttrObj::Integer(value) => Some(value.get_type().into()),
             AttrObj::Type(value) => Some(value.get_type()),
             AttrObj::Own(value) => D::attr_type(value),
+            _ => None,
+        }
+    }
+
+    /// The type that the attribute holds, if it is an attribute of a type.
+    pub fn as_type(&self) -> Option<TypeHandle>
+        ensures value { result ≡ type_in_attr (attr_view self.now) }
+        ensures live { IfSome result (IsHeldLive D.Ty D.attr_handles (attr_view self.now)) }
+    {
+        match self {
+            AttrObj::Type(value) => Some(value.get_type()),
             _ => None,
         }
     }

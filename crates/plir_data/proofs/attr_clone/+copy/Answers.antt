@@ -1,9 +1,10 @@
 use Rattle.std.proofs.Common.{◌≡◌, ◌++◌, ◌∷◌, ◌≤◌, [], append-nil, arith, rules, string_bytes, sym, ap, subst, ◌∙◌}
 use Rattle.plir_data.specs.AttrDepth.{entries_bulk}
 use Rattle.plir_data.specs.AttrSeen.{attr_view}
+use Rattle.plir_data.specs.DepthLaws.{first_small}
 use Rattle.plir_data.specs.DictSeen.{pairs_view}
 use Rattle.plir_data.specs.Dictionary.{IsDictionary}
-use Rattle.plir_data.proofs.Bulk.{first_small, falls}
+use Rattle.plir_data.proofs.Bulk.{falls}
 use Rattle.plir_data.proofs.Dictionaries.{one_more}
 use Rattle.plir_data.proofs.attr_clone.+copy.Goals as goal
 

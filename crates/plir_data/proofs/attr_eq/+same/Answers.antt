@@ -1,8 +1,9 @@
 use Rattle.std.proofs.Common.{arith, rules, ap, string_bytes, sym, ◌∙◌}
 use Rattle.plir_data.specs.AttrDepth.{entries_bulk}
 use Rattle.plir_data.specs.AttrSeen.{attr_view}
+use Rattle.plir_data.specs.DepthLaws.{first_small}
 use Rattle.plir_data.specs.DictSeen.{pairs_view}
-use Rattle.plir_data.proofs.Bulk.{first_small, falls}
+use Rattle.plir_data.proofs.Bulk.{falls}
 use Rattle.plir_data.proofs.Equality.{nothing_left}
 use Rattle.plir_data.proofs.attr_eq.+same.Goals as goal
 

@@ -1,4 +1,4 @@
-use Rattle.plir_data.proofs.HeldHandles.{listed_live, live_listed}
+use Rattle.plir_data.specs.LiveLaws.{listed_live, live_listed}
 use Rattle.plir_data.proofs.laws.dictionaries_are_live_by_their_entries.Goals as goal
 
 pub returns : goal.returns

@@ -1,4 +1,4 @@
-use Rattle.plir_data.proofs.HeldHandles.{items_listed, listed_items}
+use Rattle.plir_data.specs.LiveLaws.{items_listed, listed_items}
 use Rattle.plir_data.proofs.laws.lists_are_live_by_their_items.Goals as goal
 
 pub returns : goal.returns

@@ -1,10 +1,10 @@
 use Rattle.std.proofs.Common.{◌+◌, ◌*◌, ◌++◌, ◌<◌, sym, ap, subst, ◌∙◌, arith, rules, string_bytes}
 use Rattle.std.proofs.lemmas.Result.{on_ok_weaker}
+use Rattle.plir_data.specs.LiveLaws.{all_left, all_right}
 use Rattle.plir_data.specs.TypeText.{types_text}
 use Rattle.plir_data.specs.Types.{IsLive, AllLive}
 use Rattle.plir_data.specs.declared.types.TypeObj.TheVariants.{Integer, Function, Unit, Own}
 use Rattle.plir_data.proofs.TypeTexts.{above_all, above_each, above_all_upto, above_left, above_right, five, read_text, read_below}
-use Rattle.plir_data.proofs.TypeTrees.{all_left, all_right}
 use Rattle.plir_data.proofs.type_texts.+type_text.Goals as goal
 
 pub put_type-put_function_type-requires : goal.put_type-put_function_type-requires

@@ -1,4 +1,4 @@
-use Rattle.plir_data.proofs.HeldHandles.{listed_live, live_listed}
+use Rattle.plir_data.specs.LiveLaws.{listed_live, live_listed}
 use Rattle.plir_data.proofs.attribute_dict.AttributeDict.is_live.Goals as goal
 
 pub returns : goal.returns
