@@ -51,7 +51,7 @@ total_past f n none (suc m) h = elim (cases_eq (suc m) n) [
 ]
 
 -- what is 0 everywhere
-total_none : (f : ℕ → ℕ) → ((k : ℕ) → f k ≡ 0) → (n : ℕ) → total f n ≡ 0
+pub total_none : (f : ℕ → ℕ) → ((k : ℕ) → f k ≡ 0) → (n : ℕ) → total f n ≡ 0
 total_none f none zero = refl
 total_none f none (suc n) =
     let e = total_none f none n in

@@ -41,3 +41,5 @@ pub mod Counting
 pub mod Counted
 pub mod Walked
 pub mod NotUsed
+pub mod ValueUses
+pub mod TimesUsed

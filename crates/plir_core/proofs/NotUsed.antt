@@ -38,12 +38,12 @@ region_unused {K} {A} t i = uses-none t (region i) (λ k. held (content_at t k))
         omega arith
 
 -- a use is counted
-seated_value : (d : DefiningEntity) → is_seated (seat_of (entity_node d)) (entity_node d) ≡ true
+pub seated_value : (d : DefiningEntity) → is_seated (seat_of (entity_node d)) (entity_node d) ≡ true
 seated_value (Op p) = eq-eqb p.slot p.slot refl
 seated_value (Block p) = eq-eqb p.slot p.slot refl
 
 module _ {K A : Type 0} where
-  values_some : (at : Seat) (o : Option (OpView K A)) → uses_held at o ≡ 0 → values_from at (operands_in o) ≡ 0
+  pub values_some : (at : Seat) (o : Option (OpView K A)) → uses_held at o ≡ 0 → values_from at (operands_in o) ≡ 0
   values_some at None e = refl
   values_some at (Some v) e = omega arith
 
@@ -51,7 +51,7 @@ module _ {K A : Type 0} where
   blocks_some at None e = refl
   blocks_some at (Some v) e = omega arith
 
-none_passes : {X : Type 0} (p : X → Bool) (xs : List X) (k : ℕ) (d : X) → k < length xs → p (get_or xs k d) ≡ true → count_by p xs ≡ 0 → ⊥
+pub none_passes : {X : Type 0} (p : X → Bool) (xs : List X) (k : ℕ) (d : X) → k < length xs → p (get_or xs k d) ≡ true → count_by p xs ≡ 0 → ⊥
 none_passes p xs k d h e zero_all =
     let a = get_or-le-sum_by (λ x. cond (p x) 1 0) xs k d h in
     let b = ap (λ (z : Bool). cond {A = ℕ} z 1 0) e in
@@ -60,7 +60,7 @@ none_passes p xs k d h e zero_all =
 
 module _ {K A T : Type 0} (s : Store K A T) where
   -- what is not used is used by no operation
-  unused_by : (n : IRNode) (i : ℕ) → is_not_used s n ≡ true → uses_held (seat_of n) (content_at s.nodes.ops i) ≡ 0
+  pub unused_by : (n : IRNode) (i : ℕ) → is_not_used s n ≡ true → uses_held (seat_of n) (content_at s.nodes.ops i) ≡ 0
   unused_by n i e = held-none s.nodes.ops (seat_of n) i (eqb-true (uses_of s.nodes.ops (seat_of n)) 0 e)
 
   pub IsUnusedOutside-clear : (root : IRNode) → IsClear (is_not_used s) s.nodes root → IsUnusedOutside s root

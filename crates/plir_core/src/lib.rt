@@ -28,6 +28,7 @@ mod tree_walk;
 mod unused;
 mod use_counts;
 mod value;
+mod value_uses;
 
 pub use context::Context;
 pub use insertion_point::OpInsertionPoint;

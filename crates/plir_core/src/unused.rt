@@ -15,15 +15,15 @@ use crate::value::Value;
 use plir_data::OpSet;
 
 impl<O, B> Arena<O, B> {
-    // How many slots of operations there are, free ones among them.
-    fn num_op_slots(&self) -> u32
+    /// How many slots of operations there are, free ones among them.
+    pub(crate) fn num_op_slots(&self) -> u32
         ensures { result ≡ length self.now.ops.slots }
     {
         self.ops.len() as u32
     }
 
-    // The operation in a slot, if there is one.
-    fn op_in_slot(&self, slot: u32) -> Option<Ptr<Operation>>
+    /// The operation in a slot, if there is one.
+    pub(crate) fn op_in_slot(&self, slot: u32) -> Option<Ptr<Operation>>
         requires { slot < length self.now.ops.slots }
         ensures here { IfSome result (λ p. p ≡ ptr_at self.now.ops slot) }
         ensures live { IfSome result (λ p. is_node_live self.now (IRNode.Operation p) ≡ true) }
@@ -88,8 +88,8 @@ impl<D: OpSet> Context<D> {
         }
     }
 
-    // Whether a node is known to be used by nothing. No region is ever used.
-    fn is_known_unused(&self, node: IRNode) -> bool
+    /// Whether a node is known to be used by nothing. No region is ever used.
+    pub(crate) fn is_known_unused(&self, node: IRNode) -> bool
         ensures { IsTrue result → is_not_used self.now node ≡ true }
     {
         match node {
