@@ -22,6 +22,7 @@ pub mod Hops
 pub mod Visiting
 pub mod Reading
 pub mod Advancing
+pub mod OperationCalls
 pub mod Orders
 pub mod Lawfulness
 pub mod LawfulAbove

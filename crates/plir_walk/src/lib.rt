@@ -12,6 +12,7 @@ pub mod limit;
 pub mod links;
 mod name_list;
 mod names_attr;
+pub mod operations;
 pub mod uninterruptible;
 
 pub use config::{

@@ -1,0 +1,5 @@
+//! Walkers that call at operations alone, for passes that ask for no regions and no blocks.
+#![tactic(auto)]
+
+pub mod immutable;
+pub mod mutable;
