@@ -23,7 +23,7 @@ use Rattle.plir_core.specs.Stored.{Seat, op, region, block, seat_of}
 use Rattle.plir_core.specs.Store.{Store, IsLive, is_live, entity_node, types_from, operands_of, operands_in}
 use Rattle.plir_core.specs.Whole.{IsWhole}
 use Rattle.plir_core.specs.Erase.{without_node}
-use Rattle.plir_core.specs.Uses.{Uses, total, is_seated, hit, values_from, blocks_in, uses_in, uses_held, uses_of, Counts, with_use, without_use}
+use Rattle.plir_core.specs.Uses.{Uses, total, is_seated, hit, values_from, blocks_in, uses_in, uses_held, uses_of, Counts, IsRaisedBy, IsLoweredBy, with_use, without_use}
 use Rattle.plir_core.proofs.Listing.{some_none, some_is, within_content, content_new_other}
 use Rattle.plir_core.proofs.Seats.{live_some, some_live}
 use Rattle.plir_core.proofs.Holds.{next_vacant, ops-with_new_regions}
@@ -80,6 +80,17 @@ Counts-located u t i o l was c = Counts-edited u t i o (record o { location = l 
 -- operands that a refused growth left as they were
 pub Counts-unchanged : {K A : Type 0} (u : Uses) (t : Table (OpView K A)) (i : ℕ) (o : OpView K A) (xs : List Value) → content_at t i ≡ Some o → xs ≡ o.operands → Counts u (uses_of t) → Counts u (uses_of (with_content t i (record o { operands = xs })))
 Counts-unchanged u t i o xs was e c = Counts-edited u t i o (record o { operands = xs }) was e refl c
+
+-- the uses of an operation are taken off, and those of what it has become are counted, which is read again
+pub Counts-rewritten : {K A : Type 0} (u mid now : Uses) (t : Table (OpView K A)) (i : ℕ) (old new read : OpView K A) → content_at t i ≡ Some old → content_at (with_content t i new) i ≡ Some read → Counts u (uses_of t) → IsLoweredBy u mid (λ at. uses_in at old) → IsRaisedBy mid now (λ at. uses_in at read) → Counts now (uses_of (with_content t i new))
+Counts-rewritten {K} {A} u mid now t i old new read was is c low high =
+    let written = ap (λ (z : Cell (OpView K A)). z.content) (cell_at-with_content t i new (within_content t i (some_is (content_at t i) old was))) in
+    let same = same_Some new read (sym written ∙ is) in
+    high (uses_of (without_slot t i)) (uses_of (with_content t i new)) (low (uses_of t) (uses_of (without_slot t i)) c (uses-freed t i old was)) (λ at.
+    let e = uses-edited t i old new was at in
+    let d = uses-freed t i old was at in
+    let f = ap (uses_in at) same in
+    omega arith)
 
 -- An operation's operands are edited, and the use of a value is counted or taken off.
 module _ {K A : Type 0} (u u' : Uses) (t : Table (OpView K A)) (i n : ℕ) (o : OpView K A) (was : content_at t i ≡ Some o) (x : Value) (xs : List Value) (c : Counts u (uses_of t)) where

@@ -1,5 +1,5 @@
 -- What an operation or a block holds is edited.
-use Rattle.std.proofs.Common.{◌≡◌, ◌<◌, ℕ, suc, length, get_or, true, false, cond, List, [], ◌∷◌, take, drop, Option, Some, None, Result, Ok, Err, OnOk, OnErr, refl, sym, subst, slice_set, ◌⊎◌, inl, inr}
+use Rattle.std.proofs.Common.{◌≡◌, ◌<◌, ℕ, suc, length, get_or, true, false, cond, List, [], ◌∷◌, map, take, drop, Option, Some, None, Result, Ok, Err, OnOk, OnErr, refl, sym, subst, slice_set, ◌⊎◌, inl, inr}
 use Rattle.std.specs.Prelude.{All, IfOk, IfSome, insert, remove}
 use Rattle.std.proofs.lemmas.List.Elements.{All-get_or, All-append, All-cons, All-head, All-tail, All-take, All-drop, All-set}
 use Rattle.plir_data.specs.AttrView.{AttrView}
@@ -14,8 +14,10 @@ use Rattle.plir_core.specs.declared.ptr.Ptr.{Ptr}
 use Rattle.plir_core.specs.declared.ptr.Operation.{Operation as OperationKind}
 use Rattle.plir_core.specs.Store.{Store, IsValueLive, operands_of}
 use Rattle.plir_core.specs.Whole.{OpHoldsLive, BlockHoldsLive, IsWhole}
+use Rattle.plir_core.specs.Replaced.{replaced}
 use Rattle.plir_core.specs.Changes.{with_op_content, with_block_content}
 use Rattle.plir_core.proofs.Changes.{IsStored-held_op, IsStored-held_block}
+use Rattle.plir_core.proofs.ReplacedUses.{All-replaced}
 use Rattle.plir_core.proofs.Holds.{op_replaced, block_replaced, op_content_keeps, value_kept}
 
 -- lists with an element more, fewer or changed
@@ -92,6 +94,9 @@ module _ {K A T : Type 0} (own : A → List ℕ) (s t : Store K A T) (view : s �
 
   pub operand_replaced : (i n : ℕ) (u : OpView K A) (x : Value) (xs : List Value) → content_at s.nodes.ops i ≡ Some u → xs ≡ slice_set u.operands n x → IsValueLive t x → IsWhole own (with_op_content s i (record u { operands = xs }))
   operand_replaced i n u x xs was e l = operands_edited i u xs was (λ a. subst (All (IsValueLive s)) (sym e) (All-set (IsValueLive s) u.operands n x (value_live x l) a))
+
+  pub operands_replaced : (i : ℕ) (u : OpView K A) (v w : Value) (xs : List Value) → content_at s.nodes.ops i ≡ Some u → xs ≡ map (replaced v w) u.operands → IsValueLive t w → IsWhole own (with_op_content s i (record u { operands = xs }))
+  operands_replaced i u v w xs was e l = operands_edited i u xs was (λ a. subst (All (IsValueLive s)) (sym e) (All-replaced v w (IsValueLive s) u.operands (value_live w l) a))
 
   pub operands_same : (i : ℕ) (u : OpView K A) (xs : List Value) → content_at s.nodes.ops i ≡ Some u → xs ≡ u.operands → IsWhole own (with_op_content s i (record u { operands = xs }))
   operands_same i u xs was e = operands_edited i u xs was (λ a. subst (All (IsValueLive s)) (sym e) a)

@@ -43,3 +43,4 @@ pub mod Walked
 pub mod NotUsed
 pub mod ValueUses
 pub mod TimesUsed
+pub mod ReplacedUses

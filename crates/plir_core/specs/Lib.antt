@@ -28,6 +28,7 @@
 --   Refused      IsUnmade: what a refused make leaves of the slots
 --   Erase        erased: the nodes without a tree; IsErased: what that leaves as it was; LosesOneKid: the kids that are
 --                left
+--   Replaced     with_uses_replaced: a value has come in place of another one
 --   Unused       IsUnusedOutside: nothing outside a tree uses a value or a block of it
 --   Uses         uses_of: how often what is in a slot is used; Counts: that counts which are kept say so; IsSound
 --   SameValue    same_ptr, same_value: whether two pointers and two values are the same
@@ -56,6 +57,7 @@ pub mod Held
 pub mod Grown
 pub mod Erase
 pub mod Refused
+pub mod Replaced
 pub mod Unused
 pub mod Uses
 pub mod Walked

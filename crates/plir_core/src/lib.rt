@@ -24,6 +24,7 @@ mod ptr;
 mod region;
 mod regions;
 mod removing;
+mod replacing;
 mod tree_walk;
 mod unused;
 mod use_counts;
