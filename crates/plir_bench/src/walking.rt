@@ -7,7 +7,9 @@ use crate::stop::Stop;
 use plir_core::{Context, IRNode, Operation, Ptr};
 use plir_data::BuiltinSet;
 use plir_walk::WALKCONFIG_PREORDER_FORWARD;
+use plir_walk::interruptible::{WalkResult, walk_advance};
 use plir_walk::laws::lawful_changes;
+use plir_walk::operations::immutable::walk_ops;
 use plir_walk::uninterruptible::{immutable, mutable};
 
 /// Counts the nodes under a root, so many times.
@@ -24,18 +26,29 @@ pub fn walk_nodes(ctx: &Context<BuiltinSet>, root: Ptr<Operation>, rounds: u64) 
     count
 }
 
+fn count_operation(
+    _ctx: &Context<BuiltinSet>,
+    count: &mut u64,
+    _op: Ptr<Operation>,
+) -> WalkResult<u64> {
+    *count = count.wrapping_add(1);
+    walk_advance()
+}
+
 /// Counts the operations under a root, so many times.
 pub fn walk_operations(ctx: &Context<BuiltinSet>, root: Ptr<Operation>, rounds: u64) -> u64
     requires { IsLive ctx.now (AnyNode.Operation root) }
 {
     let mut count = 0;
     for _ in 0..rounds {
-        let visit = |_ctx: &Context<BuiltinSet>, count: &mut u64, node: IRNode| {
-            if let IRNode::Operation(_) = node {
-                *count = count.wrapping_add(1);
-            }
-        };
-        immutable::walk_op(ctx, &mut count, &WALKCONFIG_PREORDER_FORWARD, root, visit);
+        let node = IRNode::Operation(root);
+        let _end = walk_ops(
+            ctx,
+            &mut count,
+            &WALKCONFIG_PREORDER_FORWARD,
+            node,
+            count_operation,
+        );
     }
     count
 }
