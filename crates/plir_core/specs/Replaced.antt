@@ -1,6 +1,6 @@
 -- What is left where a value has come in place of another one.
 use Rattle.std.specs.Prelude.{cond, map, option_map}
-use Rattle.plir_store.specs.Table.{Table, Cell}
+use Rattle.plir_store.specs.Table.{Cell}
 use Rattle.plir_core.specs.declared.value.Value.{Value}
 use Rattle.plir_core.specs.Contents.{OpView}
 use Rattle.plir_core.specs.SameValue.{same_value}
