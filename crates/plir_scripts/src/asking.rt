@@ -19,8 +19,8 @@ use plir_data::{GivenNamesAttr, OpSet};
 use std::alloc::Global;
 
 /// Writes what a line asks for: `fresh`, `show NODE`, `get NODE KEY`, `live NODE`, `count`, `number NODE`, `above NODE
-/// NODE`, `unused NODE`, `interfaces OP`, `point SIDE NODE`, `use OP PLACE`, `text TYPE`, `typed VALUE` or `types
-/// NODE`.
+/// NODE`, `unused NODE`, `used VALUE`, `uses VALUE`, `interfaces OP`, `point SIDE NODE`, `use OP PLACE`, `text TYPE`,
+/// `typed VALUE` or `types NODE`.
 pub fn ask<D: OpSet>(bench: &mut Bench<D>, line: Line<'_>) -> Result<(), Stop> {
     match line.command {
         "text" | "typed" | "types" => ask_types(bench, line),
@@ -40,6 +40,8 @@ fn ask_node<D: OpSet>(bench: &mut Bench<D>, line: Line<'_>) -> Result<(), Stop> 
         "number" => put_pointer(answer, made.node(line.first)?),
         "above" => above(ctx, made, answer, line)?,
         "unused" => answer.put_truth(made.live(ctx, line.first)?.is_unused_outside(ctx)),
+        "used" => answer.put_truth(made.value(ctx, line.first)?.has_uses(ctx)),
+        "uses" => answer.put_number(made.value(ctx, line.first)?.num_uses(ctx)),
         _ => return Err(Stop::Refused),
     }
     Ok(())

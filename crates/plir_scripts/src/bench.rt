@@ -48,9 +48,15 @@ impl<D: ScriptSet> Layer<D> for NodeCalls {
             "front" | "back" | "before" | "after" | "unlink" | "erase" => {
                 link(&mut bench.ctx, &bench.made, line)
             }
-            "insert" | "remove" | "replace" | "set" | "swap" | "take" | "label" | "at" => {
-                change(bench, line)
-            }
+            "insert"
+            | "remove"
+            | "replace"
+            | "replace-all"
+            | "set"
+            | "swap"
+            | "take"
+            | "label"
+            | "at" => { change(bench, line) }
             "refuse" => refuse_memory(bench.alloc),
             "grant" => grant_memory(bench.alloc),
             _ => ask(bench, line),

@@ -13,11 +13,12 @@ use plir_data::{AttrObj, Identifier, Location, OpSet};
 use std::alloc::Global;
 
 /// Does what a line says that changes contents: `insert OP PLACE VALUE`, `remove OP PLACE`, `replace OP PLACE VALUE`,
-/// `set NODE KEY ATTRIBUTE`, `swap NODE KEY ATTRIBUTE`, `take NODE KEY`, `label BLOCK NAME`, `label BLOCK` or `at OP
-/// LINE COLUMN`.
+/// `replace-all VALUE VALUE`, `set NODE KEY ATTRIBUTE`, `swap NODE KEY ATTRIBUTE`, `take NODE KEY`, `label BLOCK NAME`,
+/// `label BLOCK` or `at OP LINE COLUMN`.
 pub fn change<D: OpSet>(bench: &mut Bench<D>, line: Line<'_>) -> Result<(), Stop> {
     match line.command {
         "insert" | "remove" | "replace" => change_operand(bench, line),
+        "replace-all" => replace_all(bench, line),
         "set" => set(bench, line),
         "swap" => swap(bench, line),
         "take" => take(bench, line),
@@ -49,6 +50,15 @@ fn change_operand<D: OpSet>(bench: &mut Bench<D>, line: Line<'_>) -> Result<(), 
         let value = op.remove_operand(place, ctx);
         made.put_value(&mut bench.answer, value);
     }
+    Ok(())
+}
+
+// Puts a value in place of another one everywhere.
+fn replace_all<D: OpSet>(bench: &mut Bench<D>, line: Line<'_>) -> Result<(), Stop> {
+    let (ctx, made) = (&mut bench.ctx, &bench.made);
+    let value = made.value(ctx, line.first)?;
+    let other = made.value(ctx, line.second)?;
+    value.replace_all_uses_with(ctx, other);
     Ok(())
 }
 

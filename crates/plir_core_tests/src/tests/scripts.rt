@@ -161,6 +161,59 @@ fn a_use_beside_counts_and_one_within_does_not(rt: HostRuntime) -> Result<(), Mi
 }
 
 #[test]
+fn a_value_has_its_own_uses_alone(rt: HostRuntime) -> Result<(), Mismatch> {
+    let script = "
+        type builtin.unit => t0
+        op plain 0 t0 t0 => o0
+        block - t0 t0 => b0
+        used o0.1 => no
+        uses b0.1 => 0
+        op plain 0 < o0.1 b0.0 o0.1 => o1
+        op yield 0 < o0.1 > b0 => o2
+        used o0.0 => no
+        used o0.1 => yes
+        uses o0.0 => 0
+        uses o0.1 => 3
+        used b0.1 => no
+        uses b0.0 => 1
+        erase o1
+        uses o0.1 => 1
+        uses b0.0 => 0
+        used b0.0 => no
+        erase o2
+        used o0.1 => no";
+    play_in(rt.alloc(), 100, script)
+}
+
+#[test]
+fn a_value_comes_in_place_of_another_one_everywhere(rt: HostRuntime) -> Result<(), Mismatch> {
+    let script = "
+        type builtin.unit => t0
+        op plain 0 t0 t0 => o0
+        block - t0 => b0
+        op plain 0 < o0.0 o0.1 o0.0 => o1
+        op plain 0 => o2
+        erase o2
+        op yield 0 < o0.0 b0.0 > b0 => o3
+        op yield 0 < o0.0 > b0 => o4
+        replace-all o0.0 b0.0
+        show o1 => plain Unknown, in - - -, between - -, regions, from - to -, operands b0.0 o0.1 b0.0, successors, results 0
+        show o3 => yield Unknown, in - - -, between - -, regions, from - to -, operands b0.0 b0.0, successors b0, results 0
+        uses o0.0 => 0
+        uses o0.1 => 1
+        uses b0.0 => 5
+        replace-all o0.1 o0.1
+        uses o0.1 => 1
+        unused o0 => no
+        replace-all o0.1 b0.0
+        unused o0 => yes
+        erase o0
+        uses b0.0 => 6
+        count => 4";
+    play_in(rt.alloc(), 100, script)
+}
+
+#[test]
 fn operations_are_put_where_memory_is_refused(rt: HostRuntime) -> Result<(), Mismatch> {
     let script = "
         type builtin.unit => t0
@@ -234,12 +287,18 @@ fn operands_are_put_in_and_taken_out_where_memory_is_refused(
         insert o2 5 b0.0 => refused
         use o2 1 => o2 1 b0.0
         show o2 => plain Unknown, in - - -, between - -, regions, from - to -, operands o1.0 b0.0 o0.0 b0.0, successors, results 0
+        uses o0.0 => 1
+        uses b0.0 => 2
+        used o2.0 => refused
         remove o2 1 => b0.0
         replace o2 0 o0.0
         remove o2 3 => refused
         op yield 0 < o0.0 > b0 => o3
         show o3 => yield Unknown, in - - -, between - -, regions, from - to -, operands o0.0, successors b0, results 0
         show o2 => plain Unknown, in - - -, between - -, regions, from - to -, operands o0.0 o0.0 b0.0, successors, results 0
+        uses o0.0 => 3
+        uses b0.0 => 1
+        uses o1.0 => 0
         typed o0.0 => builtin.unit
         typed b0.0 => builtin.unit
         typed o2.0 => refused
@@ -331,6 +390,8 @@ fn nodes_are_asked_linked_and_erased_while_all_memory_is_refused(
         refuse
         fresh => 0 0
         count => 13
+        used o2.1 => yes
+        uses o2.0 => 2
         number b3 => block4v1
         back b0 r0
         front b1 r0
