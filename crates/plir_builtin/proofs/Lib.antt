@@ -24,5 +24,4 @@ pub mod Handing
 pub mod UsesWalked
 pub mod UseChecks
 pub mod Single
-pub mod LiveTypes
 pub mod ConstantRefusals

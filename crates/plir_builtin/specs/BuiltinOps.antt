@@ -3,7 +3,7 @@ use Rattle.std.specs.Prelude.{◌≡◌, ℕ, List, [], ◌∷◌, Option, None,
 use Rattle.std.specs.Prelude.{slice_get}
 use Rattle.std.specs.Prelude.{◌+◌, ◌-◌, ◌<◌, ◌≤◌, ◌^◌, ◌⊎◌}
 use Rattle.plir_data.specs.AttrView.{AttrView, leaf, identifier, type_of}
-use Rattle.plir_data.specs.AttrCalls.{attr_type}
+use Rattle.plir_data.specs.AttrCalls.{attr_type, type_in_attr}
 use Rattle.plir_data.specs.Dictionary.{dict_get, dict_put}
 use Rattle.plir_data.specs.Types.{TypeView, IsMarked, function, is_function, unit, type_at}
 use Rattle.plir_data.specs.declared.op_set.OpKind.TheVariants.{Module, Func, Constant, ForwardRef}
@@ -116,11 +116,6 @@ module _ {K A T : Type 0} where
     pub typed : type_at s.types type ≡ Some unit
     pub holds : op_at s op ≡ Some (op_view ForwardRef (type ∷ []) [] [] [])
     pub no_regions : kids s (Operation op) ≡ []
-
--- the type in an attribute of a type
-abbrev pub type_in_attr : {A : Type 0} → AttrView A → Option ℕ
-type_in_attr (leaf (type_of t)) = Some t
-type_in_attr _ = None
 
 module _ {K A T : Type 0} where
   -- the type under a function's key, if an attribute of a type stands there

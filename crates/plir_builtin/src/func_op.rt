@@ -11,13 +11,12 @@ ghost use Rattle.plir_core.specs.Store.{IsLive, given_out, kind_of, limit, num_l
 ghost use Rattle.plir_core.specs.Whole.{IsWhole};
 ghost use Rattle.plir_core.specs.declared.ptr.IRNode.{IRNode as AnyNode};
 ghost use Rattle.plir_builtin.specs.BuiltinOps.{HasArguments, HasFuncType, IsFuncMade, IsNewFunc, entry_of, func_type};
-ghost use Rattle.plir_builtin.specs.BuiltinOps.{func_type_of, type_in_attr};
+ghost use Rattle.plir_builtin.specs.BuiltinOps.{func_type_of};
 ghost use Rattle.plir_builtin.specs.BuiltinOps.{IsFullForOneBlock};
 ghost use Rattle.plir_builtin.specs.OpRules.{HasFuncRules};
 ghost use Rattle.plir_builtin.specs.OpFaults.{IsFuncFault};
 ghost use Rattle.plir_iface.specs.Counts.{HasNRegions};
 ghost use Rattle.plir_iface.specs.Verdict.{IsRefusal};
-ghost use Rattle.plir_data.specs.AttrSeen.{attr_view};
 
 use crate::ATTR_KEY_BUILTIN_FUNC_TYPE;
 use crate::op_making::{named_and_typed, new_with_block};
@@ -25,8 +24,8 @@ use crate::op_verify_err::{OpVerifyErr, told};
 use crate::symbol_op::SymbolOpInterface;
 use plir_core::{BasicBlock, Context, NodeErr, Operation, Ptr};
 use plir_data::{
-    AttrObj, FunctionType, FunctionTypeInterface, Identifier, OpKind, OpSet, TypeHandle, TypeStore,
-    Typed, TypedHandle, VerifyErr,
+    FunctionType, FunctionTypeInterface, Identifier, OpKind, OpSet, TypeHandle, Typed, TypedHandle,
+    VerifyErr,
 };
 use plir_iface::{
     IsolatedFromAboveInterface, NOpdsInterface, NResultsInterface, OneRegionInterface, Op, refusal,
@@ -197,17 +196,9 @@ fn find_handle<D: OpSet>(ctx: &Context<D>, op: Ptr<Operation>) -> Option<TypeHan
     ensures live { IfSome result (IsTypeLive ctx.now.types) }
     ensures whole { IsWhole D.attr_handles ctx.now }
 {
-    type_in(op.attributes(ctx).get(ATTR_KEY_BUILTIN_FUNC_TYPE)?)
-}
-
-// The type in an attribute of a type.
-fn type_in<D: OpSet>(attribute: &AttrObj<D>) -> Option<TypeHandle>
-    ensures { result ≡ type_in_attr (attr_view attribute.now) }
-{
-    match attribute {
-        AttrObj::Type(ty) => Some(ty.get_type()),
-        _ => None,
-    }
+    op.attributes(ctx)
+        .get(ATTR_KEY_BUILTIN_FUNC_TYPE)?
+        .as_type()
 }
 
 // The types of the arguments of a type of functions.
@@ -224,7 +215,6 @@ fn argument_types<D: OpSet>(
     ensures whole { IsWhole D.attr_handles ctx.now }
 {
     ctx.stands();
-    let _table = ctx.types();
     let function = ty.deref(ctx);
     match Vec::from_slice(alloc, function.arg_types()) {
         Ok(types) => Ok(types),

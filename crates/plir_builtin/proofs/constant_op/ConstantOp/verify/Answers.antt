@@ -5,7 +5,6 @@ use Rattle.plir_data.specs.AttrSeen.{attr_view}
 use Rattle.plir_data.specs.Dictionary.{dict_get}
 use Rattle.plir_builtin.specs.BuiltinOps.{value_key, value_of}
 use Rattle.plir_builtin.proofs.ConstantRefusals.{told_wider, untyped_fault, mismatch_fault}
-use Rattle.plir_builtin.proofs.LiveTypes.{typed_live}
 use Rattle.plir_builtin.proofs.constant_op.ConstantOp.verify.Goals as goal
 
 pub returns-in_default-typed-clause-refused : goal.returns-in_default-typed-clause-refused
@@ -31,7 +30,7 @@ mismatched-requires-clause-given_live g c =
     let own = g.D.OpSet.attr_handles in
     let types = c.args.ctx.now.types in
     let handles = subst (HandlesLive own types) (sym c.attributes.ensures.value) c.attributes.ensures.live in
-    typed_live g.D.OpSet.attr_type own g.met.D.OpSet.attr_type_held types c.in-Some-typed.given (attr_view c.in-Some.value.now) (sym c.in-Some-typed.ensures.value) (c.in-Some.ensures.live own types handles)
+    c.in-Some-typed.ensures.live types (c.in-Some.ensures.live own types handles)
 
 pub returns-clause-refused : goal.returns-clause-refused
 returns-clause-refused g c =
