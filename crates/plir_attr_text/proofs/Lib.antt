@@ -4,7 +4,6 @@ pub mod Gathering
 pub mod Wholes
 pub mod Escapes
 pub mod Joins
-pub mod Nested
 pub mod Ascii
 pub mod Values
 pub mod ReadBack

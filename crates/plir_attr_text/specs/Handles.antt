@@ -5,20 +5,6 @@ use Rattle.plir_data.specs.TypeSeen.{type_view}
 use Rattle.plir_data.specs.Types.{TypeView, IsTypeTable, handles_of, type_at}
 use Rattle.plir_data.specs.declared.types.TypeObj.{TypeObj}
 
-module _ {X : Type 0} (P : X → Type 0) where
-  -- a fact of all of two lists joined is one of each
-  pub all_left : (xs ys : List X) → All P (xs ++ ys) → All P xs
-  all_left [] ys all k d p = absurd (omega (arith, p))
-  all_left (x ∷ xs) ys all zero d p = all 0 d (omega arith)
-  all_left (x ∷ xs) ys all (suc k) d p = all_left xs ys (λ i e q. all (suc i) e (omega (arith, q))) k d (omega (
-    arith,
-    p,
-  ))
-
-  pub all_right : (xs ys : List X) → All P (xs ++ ys) → All P ys
-  all_right [] ys all = all
-  all_right (x ∷ xs) ys all = all_right xs ys (λ i e q. all (suc i) e (omega (arith, q)))
-
 -- one more than the largest
 abbrev pub above_all : List ℕ → ℕ
 above_all [] = 0

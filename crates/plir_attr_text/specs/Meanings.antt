@@ -1,13 +1,12 @@
 -- What attributes mean in tables that grow.
-use Rattle.std.proofs.Common.{◌≡◌, ◌<◌, ℕ, zero, suc, List, [], ◌∷◌, ◌++◌, length, map, Ordering, Less, Equal, Greater}
+use Rattle.std.proofs.Common.{◌≡◌, ◌<◌, ℕ, zero, suc, List, [], ◌∷◌, ◌++◌, length, map}
 use Rattle.std.proofs.Common.{refl, sym, ap, subst, ◌∙◌, arith}
-use Rattle.std.specs.Cmp.Lexicographic.{slice_cmp}
-use Rattle.std.specs.Ordering.{nat_cmp, match_ordering}
 use Rattle.std.proofs.lemmas.List.{map-append}
 use Rattle.std.proofs.lemmas.Option.{slice_get_within}
 use Rattle.plir_data.specs.Types as types
 use Rattle.plir_data.specs.Types.{TypeView, AllLive}
-use Rattle.plir_data.specs.AttrLive.{leaf_handles, IsAttrLive, AreItemsLive, AreEntriesLive}
+use Rattle.plir_data.specs.AttrLive.{leaf_handles, IsAttrLive, AreItemsLive, AreEntriesLive, HandlesLive}
+use Rattle.plir_data.specs.LiveLaws.{live_listed, listed_live, put_live}
 use Rattle.plir_data.specs.AttrSeen.{attr_view}
 use Rattle.plir_data.specs.declared.attributes.AttrObj.{AttrObj}
 use Rattle.plir_data.specs.AttrView as views
@@ -122,22 +121,15 @@ module _ {A T : Type 0} (own : A → List ℕ) (table : List (TypeView T)) where
   abbrev IsHeld : AttrView A → Type 0
   IsHeld x = IsAttrLive own table x
 
-  put_live : (es : List (List ℕ × AttrView A)) (k : List ℕ) (x : AttrView A) → IsHeld x →
+  put_listed : (es : List (List ℕ × AttrView A)) (k : List ℕ) (x : AttrView A) → IsHeld x →
       AreEntriesLive own table (views.entries_of es) → AreEntriesLive own table (views.entries_of (dict_put es k x))
-  put_live [] k x h all = (h, tt)
-  put_live (e ∷ es) k x h all = at (slice_cmp nat_cmp k e.0) (put_live es k x h all.1)
-    where
-      at : (o : Ordering) → AreEntriesLive own table (views.entries_of (dict_put es k x)) →
-          AreEntriesLive own table (views.entries_of (match_ordering o ((k, x) ∷ e ∷ es) ((e.0, x) ∷ es) (e ∷
-          dict_put es k x)))
-      at Less rest = (h, all)
-      at Equal rest = (h, all.1)
-      at Greater rest = (all.0, rest)
+  put_listed es k x h all =
+      live_listed own table (dict_put es k x) (put_live own table es k x h (listed_live own table es all))
 
   put_all_live : (es ps : List (List ℕ × AttrView A)) → AreEntriesLive own table (views.entries_of es) →
       AreEntriesLive own table (views.entries_of ps) → AreEntriesLive own table (views.entries_of (dict_put_all es ps))
   put_all_live es [] all more = all
-  put_all_live es (p ∷ ps) all more = put_all_live (dict_put es p.0 p.1) ps (put_live es p.0 p.1 more.0 all) more.1
+  put_all_live es (p ∷ ps) all more = put_all_live (dict_put es p.0 p.1) ps (put_listed es p.0 p.1 more.0 all) more.1
 
   pub one_live : (h : ℕ) → h < length table → AllLive table (h ∷ [])
   one_live h lt zero d p = lt
@@ -172,3 +164,10 @@ module _ {A T : Type 0} (own : A → List ℕ) (table : List (TypeView T)) where
     entries_live no_entries ps m = subst (λ l. AreEntriesLive own table (views.entries_of l)) (sym m) tt
     entries_live (entry_before k t es) ps m = subst (λ l. AreEntriesLive own table (views.entries_of l)) (sym m.4)
         (IsMeant-live t m.0 m.2, entries_live es m.1 m.3)
+
+  -- so are the entries of a dictionary that is meant
+  pub IsDictMeant-live : (es : EntryTerms) (entries : List (List ℕ × AttrView A)) → IsDictMeant table es entries →
+      HandlesLive own table entries
+  IsDictMeant-live es entries m = subst (HandlesLive own table) (sym m.2)
+      (listed_live own table (dict_of m.0) (IsMeant-live (terms.dict es) (views.dict (views.entries_of (dict_of m.0)))
+      (m.0, m.1, refl)))

@@ -2,6 +2,7 @@
 use Rattle.std.proofs.Common.{◌≡◌, ℕ, zero, suc, ◌<◌, List, [], ◌∷◌, ◌++◌, ◌^◌, inl, inr, length, map, Option, Some}
 use Rattle.std.proofs.Common.{None, All, Ok, codes, refl, sym, ap, subst, ◌∙◌, arith, append_assoc}
 use Rattle.std.proofs.lemmas.Option.{slice_get_cases}
+use Rattle.plir_data.specs.LiveLaws.{all_left, all_right}
 use Rattle.plir_data.specs.Types.{TypeView, integer, function, unit, own, IsTypeTable, type_at}
 use Rattle.plir_data.specs.TypeTree.{TypeTree, integer_tree, function_tree, unit_tree, own_tree, Trees, no_trees, tree}
 use Rattle.plir_data.specs.TypeTree.{trees_of, tree_over, tree_if, tree_within, tree_of}
@@ -12,7 +13,6 @@ use Rattle.plir_attr_text.specs.TypeGrammar.{enclosed, in_angles, SpellsInteger,
 use Rattle.plir_attr_text.specs.TypeGrammar.{SpellsMoreTypes}
 use Rattle.plir_attr_text.specs.Writable.{IsBuiltin, AreBuiltin, type_term, type_terms}
 use Rattle.plir_attr_text.specs.Begun.{Begins-append}
-use Rattle.plir_attr_text.specs.Handles.{all_left, all_right}
 use Rattle.plir_attr_text.specs.Printed.{look-type, type_spelled}
 use Rattle.plir_attr_text.specs.Runs.{Run, Shown, Tail, Shown-as, behind_id, word-shown, closed_by, nothing}
 use Rattle.plir_attr_text.specs.Runs.{behind_first}

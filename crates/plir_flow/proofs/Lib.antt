@@ -8,7 +8,6 @@ pub mod SegmentPlaces
 pub mod Refusals
 pub mod Forwarded
 pub mod BranchFaults
-pub mod CalleeTypes
 pub mod TakenLists
 pub mod Hopping
 pub mod Exact

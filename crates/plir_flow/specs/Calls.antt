@@ -1,6 +1,7 @@
 -- The rule of calls, and how it is refused.
 use Rattle.std.specs.Prelude.{◌≡◌, ◌<◌, ℕ, List, Bool, Option, Some, None, is_some, option_and_then, codes}
-use Rattle.plir_data.specs.AttrView.{AttrView, leaf, type_of}
+use Rattle.plir_data.specs.AttrCalls.{type_in_attr}
+use Rattle.plir_data.specs.AttrView.{leaf, type_of}
 use Rattle.plir_data.specs.Dictionary.{dict_get, dict_put}
 use Rattle.plir_data.specs.Types.{TypeView, IsMarked, signature_of}
 use Rattle.plir_data.specs.declared.location.VerifyErr.{VerifyErr}
@@ -18,11 +19,6 @@ use Rattle.plir_flow.specs.declared.calls.CallOpInterfaceErr.TheVariants.{Callee
 -- the key that the type of what is called stands under
 abbrev pub callee_type_key : List ℕ
 callee_type_key = codes "builtin_callee_type"
-
--- the type in an attribute of a type
-abbrev pub type_in_attr : {A : Type 0} → AttrView A → Option ℕ
-type_in_attr (leaf (type_of t)) = Some t
-type_in_attr _ = None
 
 -- whether a type is one of functions: whether it has a signature
 abbrev pub has_signature : {T : Type 0} → (own_signature : T → Option (List ℕ × List ℕ)) → TypeView T → Bool

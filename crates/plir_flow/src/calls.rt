@@ -1,13 +1,12 @@
 //! The interface of operations that call functions.
 ghost use Rattle.std.specs.Prelude.{◌≡◌, ◌↔◌, ◌≤◌, Some, All, IsOk, IsNone, IfSome, IfOk, IfErr, OnOk, OnErr, length};
-ghost use Rattle.plir_data.specs.AttrSeen.{attr_view};
 ghost use Rattle.plir_data.specs.Types.{IsLive as IsTypeLive};
 ghost use Rattle.plir_core.specs.declared.ptr.IRNode.{IRNode};
 ghost use Rattle.plir_core.specs.Store.{IsLive, IsValueLive, operands_of};
 ghost use Rattle.plir_core.specs.Whole.{IsWhole};
 ghost use Rattle.plir_flow.specs.Branches.{operands_within};
 ghost use Rattle.plir_flow.specs.Layout.{IsLayoutRefusal};
-ghost use Rattle.plir_flow.specs.Calls.{callee_type_of, type_in_attr, with_callee_type};
+ghost use Rattle.plir_flow.specs.Calls.{callee_type_of, with_callee_type};
 ghost use Rattle.plir_flow.specs.Calls.{has_signature, HasCalleeType, BreaksCalleeType, IsCallFault, IsCalleeLive};
 
 use crate::operand_ranges::operands_in;
@@ -53,16 +52,6 @@ pub enum CallOpInterfaceErr {
     CalleeTypeAttrIncorrectTypeErr,
 }
 
-// The type in an attribute of a type.
-fn type_in<D: OpSet>(attribute: &AttrObj<D>) -> Option<TypeHandle>
-    ensures { result ≡ type_in_attr (attr_view attribute.now) }
-{
-    match attribute {
-        AttrObj::Type(ty) => Some(ty.get_type()),
-        _ => None,
-    }
-}
-
 // The type of what is called, if an attribute of a type stands under the key.
 fn find_callee_type<D: OpSet>(ctx: &Context<D>, op: Ptr<Operation>) -> Option<TypeHandle>
     requires { IsLive ctx.now (IRNode.Operation op) }
@@ -70,7 +59,7 @@ fn find_callee_type<D: OpSet>(ctx: &Context<D>, op: Ptr<Operation>) -> Option<Ty
     ensures live { IfSome result (IsTypeLive ctx.now.types) }
     ensures whole { IsWhole D.attr_handles ctx.now }
 {
-    type_in(op.attributes(ctx).get(ATTR_KEY_CALLEE_TYPE)?)
+    op.attributes(ctx).get(ATTR_KEY_CALLEE_TYPE)?.as_type()
 }
 
 // How the type of what is called breaks the rule.

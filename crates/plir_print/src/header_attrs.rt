@@ -6,7 +6,7 @@ ghost use Rattle.plir_data.specs.Types.{IsLive as IsTypeLive};
 ghost use Rattle.plir_core.specs.declared.ptr.IRNode.{IRNode as AnyNode};
 ghost use Rattle.plir_core.specs.Store.{IsLive, op_at};
 ghost use Rattle.plir_core.specs.Whole.{IsWhole};
-ghost use Rattle.plir_builtin.specs.BuiltinOps.{func_type_of, type_in_attr, value_of};
+ghost use Rattle.plir_builtin.specs.BuiltinOps.{func_type_of, value_of};
 ghost use Rattle.plir_builtin.specs.Symbols.{name_held, name_in as name_inside};
 ghost use Rattle.plir_print.specs.HeaderAttrs.{has_header};
 
@@ -32,26 +32,15 @@ pub(crate) fn find_name<D: OpSet>(ctx: &Context<D>, op: Ptr<Operation>) -> Optio
     name_in(op.attributes(ctx).get(ATTR_KEY_SYM_NAME)?)
 }
 
-// The type in an attribute of a type.
-fn type_in<D: OpSet>(ctx: &Context<D>, attribute: &AttrObj<D>) -> Option<TypeHandle>
-    requires { IsAttrLive D.attr_handles ctx.now.types (attr_view attribute.now) }
-    ensures value { result ≡ type_in_attr (attr_view attribute.now) }
-    ensures live { IfSome result (IsTypeLive ctx.now.types) }
-{
-    ctx.stands();
-    match attribute {
-        AttrObj::Type(ty) => Some(ty.get_type()),
-        _ => None,
-    }
-}
-
 /// The type of a function, if it has one.
 pub(crate) fn find_type<D: OpSet>(ctx: &Context<D>, op: Ptr<Operation>) -> Option<TypeHandle>
     requires { IsLive ctx.now (AnyNode.Operation op) }
     ensures value { result ≡ func_type_of ctx.now op }
     ensures live { IfSome result (IsTypeLive ctx.now.types) }
 {
-    type_in(ctx, op.attributes(ctx).get(ATTR_KEY_BUILTIN_FUNC_TYPE)?)
+    op.attributes(ctx)
+        .get(ATTR_KEY_BUILTIN_FUNC_TYPE)?
+        .as_type()
 }
 
 /// The value of a constant, if it has one.

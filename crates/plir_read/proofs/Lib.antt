@@ -5,7 +5,6 @@ pub mod NamesGiven
 pub mod Crowded
 pub mod Gathered
 pub mod Loops
-pub mod EntriesLive
 pub mod HeadsGrown
 pub mod Ends
 pub mod TypesNamed

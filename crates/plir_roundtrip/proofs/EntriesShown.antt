@@ -6,7 +6,7 @@ use Rattle.std.proofs.lemmas.Option.{same_Some, none-some}
 use Rattle.std.proofs.lemmas.Slice.Eq.{bytes_eq-Decides}
 use Rattle.std.specs.Cmp.Lexicographic.{slice_cmp}
 use Rattle.std.specs.Ordering.{is_eq, ordering_reverse}
-use Rattle.plir_data.specs.AttrCalls.{is_outlined}
+use Rattle.plir_data.specs.AttrCalls.{is_outlined, type_in_attr}
 use Rattle.plir_data.specs.AttrView as views
 use Rattle.plir_data.specs.AttrView.{AttrView, leaf, dict, vec}
 use Rattle.plir_data.specs.Dictionary.{dict_get, is_key, IsBelowAll, IsDictionary}
@@ -15,7 +15,6 @@ use Rattle.plir_data.specs.declared.op_set.OpKind.{OpKind}
 use Rattle.plir_data.specs.declared.op_set.OpSet as op_set
 use Rattle.plir_attr_text.specs.Writable.{IsWritable}
 use Rattle.plir_walk.specs.GivenNames.{names_key}
-use Rattle.plir_builtin.specs.BuiltinOps.{type_in_attr}
 use Rattle.plir_builtin.specs.Symbols.{name_in}
 use Rattle.plir_print.specs.Dictionaries.{is_told, is_shown, shown_of}
 use Rattle.plir_roundtrip.specs.Readable.{IsEntryReadable}

@@ -4,6 +4,7 @@ use Rattle.std.specs.List.{range_with_len}
 use Rattle.std.specs.Prelude.{slice_get, nat_eq}
 use Rattle.std.proofs.lemmas.Bool.{and_parts, eqb-true}
 use Rattle.std.proofs.lemmas.Option.{slice_get-get_or}
+use Rattle.plir_data.specs.AttrCalls.{type_in_attr}
 use Rattle.plir_data.specs.AttrView as views
 use Rattle.plir_data.specs.AttrView.{AttrView, leaf}
 use Rattle.plir_data.specs.Dictionary.{dict_get}
@@ -29,7 +30,7 @@ use Rattle.plir_attr_text.specs.Tokens.{Token, sign}
 use Rattle.plir_attr_text.specs.TypeGrammar.{enclosed, SpellsType}
 use Rattle.plir_attr_text.specs.TypesShown.{type-shown}
 use Rattle.plir_attr_text.specs.Writable.{IsBuiltin, IsWritable, entry_terms}
-use Rattle.plir_builtin.specs.BuiltinOps.{func_type_of, type_in_attr, value_of, func_type_key}
+use Rattle.plir_builtin.specs.BuiltinOps.{func_type_of, value_of, func_type_key}
 use Rattle.plir_builtin.specs.ResultNames.{result_name}
 use Rattle.plir_builtin.specs.Symbols.{symbol_key, name_held}
 use Rattle.plir_print.specs.Dictionaries.{shown}

@@ -9,7 +9,7 @@ ghost use Rattle.plir_core.specs.declared.ptr.IRNode.{IRNode as AnyNode};
 ghost use Rattle.plir_core.specs.Store.{IsLive, kind_of};
 ghost use Rattle.plir_attr_text.specs.Terms.{entries_levels, levels, type_levels};
 ghost use Rattle.plir_attr_text.specs.Writable.{type_term};
-ghost use Rattle.plir_builtin.specs.BuiltinOps.{func_type_of, type_in_attr, value_of};
+ghost use Rattle.plir_builtin.specs.BuiltinOps.{func_type_of, value_of};
 ghost use Rattle.plir_print.specs.Dictionaries.{is_shown, is_told};
 ghost use Rattle.plir_print.specs.ValueNames.{arguments_of};
 ghost use Rattle.plir_read.specs.OpTerms.{head_levels, header_levels, op_levels};
@@ -32,26 +32,15 @@ fn is_type_below<D: OpSet>(ctx: &Context<D>, handle: TypeHandle, left: usize) ->
     is_within_levels(ctx, &attr, left)
 }
 
-// The type in an attribute of a type.
-fn type_in<D: OpSet>(ctx: &Context<D>, attr: &AttrObj<D>) -> Option<TypeHandle>
-    requires { IsAttrLive D.attr_handles ctx.now.types (attr_view attr.now) }
-    ensures value { result ≡ type_in_attr (attr_view attr.now) }
-    ensures live { IfSome result (IsTypeLive ctx.now.types) }
-{
-    ctx.stands();
-    match attr {
-        AttrObj::Type(ty) => Some(ty.get_type()),
-        _ => None,
-    }
-}
-
 // The type of a function, if it has one.
 fn find_type<D: OpSet>(ctx: &Context<D>, op: Ptr<Operation>) -> Option<TypeHandle>
     requires { IsLive ctx.now (AnyNode.Operation op) }
     ensures value { result ≡ func_type_of ctx.now op }
     ensures live { IfSome result (IsTypeLive ctx.now.types) }
 {
-    type_in(ctx, op.attributes(ctx).get(ATTR_KEY_BUILTIN_FUNC_TYPE)?)
+    op.attributes(ctx)
+        .get(ATTR_KEY_BUILTIN_FUNC_TYPE)?
+        .as_type()
 }
 
 // The type of a function.

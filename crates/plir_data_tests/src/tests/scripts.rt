@@ -5,7 +5,7 @@ use super::numbers::{
 };
 use super::own::OwnSet;
 use super::types::{count, make_own, put_parts, show_marks, show_parts};
-use super::values::{ask_outlined, ask_type, compare, copy, verify};
+use super::values::{ask_held_type, ask_outlined, ask_type, compare, copy, verify};
 use plir_scripts::{Bench, Layer, Line, Mismatch, NodeCalls, SampleSet, Stop, play};
 use std::alloc::Global;
 
@@ -29,6 +29,7 @@ impl<D: OwnSet> Layer<D> for DataCalls {
             "same" => compare(bench, line),
             "outlined" => ask_outlined(bench, line),
             "type-of" => ask_type(bench, line),
+            "held-type" => ask_held_type(bench, line),
             "verdict" => verify(bench, line),
             "put" => put(bench, line),
             "lookup" | "lend" | "without" | "take" => on_entry(bench, line),
@@ -201,7 +202,8 @@ fn test_integer_attributes(rt: HostRuntime) -> Result<(), Mismatch> {
         same builtin.integer <0: si64> | builtin.integer <15: si64> => no
         same builtin.integer <0: si64> | builtin.integer <0: si32> => no
         copy builtin.integer <15: si64> => builtin.integer <15: si64> of builtin.integer
-        type-of builtin.integer <15: si64> => t0";
+        type-of builtin.integer <15: si64> => t0
+        held-type builtin.integer <15: si64> => none";
     play_in(rt.alloc(), script)
 }
 
@@ -227,7 +229,10 @@ fn test_vec_attributes(rt: HostRuntime) -> Result<(), Mismatch> {
 fn test_type_attributes(rt: HostRuntime) -> Result<(), Mismatch> {
     let script = "
         type builtin.integer si64 => t0
-        type-of builtin.type builtin.integer si64 => t0";
+        type-of builtin.type builtin.integer si64 => t0
+        held-type builtin.type builtin.integer si64 => t0
+        held-type list builtin.type builtin.integer si64 => none
+        held-type own marked => none";
     play_in(rt.alloc(), script)
 }
 

@@ -3,8 +3,8 @@
 use super::own::OwnSet;
 use plir_attr_text::read_attr;
 use plir_data::{
-    APInt, AttrObj, DictAttr, Identifier, IntegerAttr, IntegerType, OpSet, TypedHandle, VecAttr,
-    VerifyErr,
+    APInt, AttrObj, DictAttr, Identifier, IntegerAttr, IntegerType, OpSet, TypeHandle, TypedHandle,
+    VecAttr, VerifyErr,
 };
 use plir_scripts::{Bench, Line, Stop, put_attr, put_type_name, split_word};
 use std::hash::{DefaultHasher, Hash, Hasher};
@@ -112,7 +112,20 @@ pub fn ask_outlined<D: OwnSet>(bench: &mut Bench<D>, line: Line<'_>) -> Result<(
 /// `type-of ATTR`: writes the name of its type, or `none`.
 pub fn ask_type<D: OwnSet>(bench: &mut Bench<D>, line: Line<'_>) -> Result<(), Stop> {
     bench.made.types.reserve(1)?;
-    match value_of(bench, line.text)?.typed() {
+    let found = value_of(bench, line.text)?.typed();
+    put_found(bench, found)
+}
+
+/// `held-type ATTR`: writes the name of the type that it holds as an attribute of a type, or `none`.
+pub fn ask_held_type<D: OwnSet>(bench: &mut Bench<D>, line: Line<'_>) -> Result<(), Stop> {
+    bench.made.types.reserve(1)?;
+    let found = value_of(bench, line.text)?.as_type();
+    put_found(bench, found)
+}
+
+// Writes the name of a type, or `none`.
+fn put_found<D: OwnSet>(bench: &mut Bench<D>, found: Option<TypeHandle>) -> Result<(), Stop> {
+    match found {
         Some(handle) => put_type_name(&mut bench.made, &mut bench.answer, handle),
         None => {
             bench.answer.put("none");

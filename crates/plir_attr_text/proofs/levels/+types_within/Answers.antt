@@ -1,11 +1,12 @@
 use Rattle.std.proofs.Common.{◌++◌, ◌≤◌, refl, sym, subst, arith, rules}
+use Rattle.plir_data.specs.LiveLaws.{all_right}
 use Rattle.plir_data.specs.TypeTree.{tree_of}
 use Rattle.plir_data.specs.Types.{IsLive, AllLive}
 use Rattle.plir_data.specs.declared.types.TypeObj.TheVariants.{Function}
 use Rattle.plir_attr_text.specs.Terms.{type_levels}
 use Rattle.plir_attr_text.specs.Writable.{type_term}
 use Rattle.plir_attr_text.proofs.Asked.{asked_as}
-use Rattle.plir_attr_text.specs.Handles.{all_right, held_below}
+use Rattle.plir_attr_text.specs.Handles.{held_below}
 use Rattle.plir_attr_text.proofs.TypeLevels.{some_level, one_level, function_levels}
 use Rattle.plir_attr_text.proofs.levels.+types_within.Goals as goal
 

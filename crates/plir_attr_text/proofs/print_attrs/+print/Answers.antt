@@ -1,15 +1,21 @@
-use Rattle.std.proofs.Common.{◌≡◌, ◌∙◌, ◌++◌, ◌∷◌, ◌+◌, ◌<◌, ◌≤◌, codes, ap, sym, subst, arith, rules, map, drop, string_bytes}
-use Rattle.std.proofs.lemmas.List.{drop_all}
+use Rattle.std.proofs.Common.{◌≡◌, ℕ, ◌∙◌, ◌++◌, List, ◌∷◌, ◌+◌, ◌<◌, ◌≤◌, length, get_or, codes, ap, sym, subst, arith, rules, map, drop, string_bytes}
+use Rattle.std.proofs.lemmas.List.{drop_all, drop_more}
 use Rattle.plir_data.specs.AttrDepth.{bulk, items_bulk, entries_bulk}
 use Rattle.plir_data.specs.AttrLive.{IsAttrLive, AreItemsLive, AreEntriesLive}
 use Rattle.plir_data.specs.AttrSeen.{attr_view}
 use Rattle.plir_data.specs.AttrView.{items_of, entries_of}
+use Rattle.plir_data.specs.DepthLaws.{item_small, first_small}
 use Rattle.plir_data.specs.DictSeen.{pairs_view}
+use Rattle.plir_data.specs.LiveLaws.{item_live, first_live}
+use Rattle.plir_data.specs.declared.attributes.AttrObj.{AttrObj}
 use Rattle.plir_attr_text.specs.AttrText.{attr_text, entry_text, items_text, entries_text}
 use Rattle.plir_attr_text.specs.Written.{joined, joined_from}
 use Rattle.plir_attr_text.proofs.Joins.{three, goes_on, ends, items_joined, entries_joined}
-use Rattle.plir_attr_text.proofs.Nested.{item_live, item_small, left_items, first_live, first_small}
 use Rattle.plir_attr_text.proofs.print_attrs.+print.Goals as goal
+
+-- what is left of a list, seen, begins with the item that comes next
+left_items : {D K A T E : Type 0} (xs : List (AttrObj D K A T E)) (i : ℕ) (d x : AttrObj D K A T E) → i < length xs → x ≡ get_or xs i d → map attr_view (drop i xs) ≡ attr_view x ∷ map attr_view (drop (i + 1) xs)
+left_items xs i d x lt e = ap (map attr_view) (drop_more xs i d lt) ∙ ap (λ y. attr_view y ∷ map attr_view (drop (i + 1) xs)) (sym e)
 
 pub put_dict-returns : goal.put_dict-returns
 put_dict-returns g t c =
@@ -65,8 +71,8 @@ put_items-put_attr-requires g t c =
     let i = c.items.item-index in
     let x = c.item-item.result in
     let held = subst (λ ys. AreItemsLive g.D.OpSet.attr_handles types (items_of (map attr_view ys))) (sym c.deref-item-items.ensures.value) c.requires in
-    let live : IsAttrLive g.D.OpSet.attr_handles types (attr_view x) = subst (λ y. IsAttrLive g.D.OpSet.attr_handles types (attr_view y)) (sym c.item-item.is) (item_live g.D.OpSet.attr_handles types xs i x (omega arith) held) in
-    let below : bulk (attr_view x) < items_bulk (map attr_view xs) + 1 = subst (λ y. bulk (attr_view y) < items_bulk (map attr_view xs) + 1) (sym c.item-item.is) (omega (arith, item_small xs i x (omega arith))) in
+    let live : IsAttrLive g.D.OpSet.attr_handles types (attr_view x) = subst (λ y. IsAttrLive g.D.OpSet.attr_handles types (attr_view y)) (sym c.item-item.is) (item_live g.D.OpSet.attr_handles types attr_view xs i x (omega arith) held) in
+    let below : bulk (attr_view x) < items_bulk (map attr_view xs) + 1 = subst (λ y. bulk (attr_view y) < items_bulk (map attr_view xs) + 1) (sym c.item-item.is) (omega (arith, item_small attr_view xs i x (omega arith))) in
     let smaller : bulk (attr_view x) < items_bulk (map attr_view c.args.list.now.items) + 1 = subst (λ ys. bulk (attr_view x) < items_bulk (map attr_view ys) + 1) c.deref-item-items.ensures.value below in
     search rules
 

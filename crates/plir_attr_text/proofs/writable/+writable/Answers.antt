@@ -3,11 +3,12 @@ use Rattle.plir_data.specs.AttrDepth.{bulk, items_bulk, entries_bulk}
 use Rattle.plir_data.specs.AttrLive.{IsAttrLive, AreItemsLive, AreEntriesLive}
 use Rattle.plir_data.specs.AttrSeen.{attr_view}
 use Rattle.plir_data.specs.AttrView.{items_of, entries_of}
+use Rattle.plir_data.specs.DepthLaws.{item_small, first_small}
 use Rattle.plir_data.specs.DictSeen.{pairs_view}
 use Rattle.plir_data.specs.Dictionary.{IsDictionary}
+use Rattle.plir_data.specs.LiveLaws.{item_live, first_live}
 use Rattle.plir_attr_text.specs.Writable.{AreEntriesWritable}
 use Rattle.plir_attr_text.proofs.Asked.{pairs_again, entry_passed, entry_failed}
-use Rattle.plir_attr_text.proofs.Nested.{item_live, item_small, first_live, first_small}
 use Rattle.plir_attr_text.proofs.writable.+writable.Goals as goal
 
 pub is_dict_writable-entries-init : goal.is_dict_writable-entries-init
@@ -55,7 +56,7 @@ are_items_writable-is_attr_writable-requires g t c =
     let i = c.items.item-index in
     let x = c.item-item.result in
     let held = subst (λ ys. AreItemsLive g.D.OpSet.attr_handles types (items_of (map attr_view ys))) (sym c.deref-item-items.ensures.value) c.requires in
-    let live : IsAttrLive g.D.OpSet.attr_handles types (attr_view x) = subst (λ y. IsAttrLive g.D.OpSet.attr_handles types (attr_view y)) (sym c.item-item.is) (item_live g.D.OpSet.attr_handles types xs i x (omega arith) held) in
-    let below : bulk (attr_view x) < items_bulk (map attr_view xs) + 1 = subst (λ y. bulk (attr_view y) < items_bulk (map attr_view xs) + 1) (sym c.item-item.is) (omega (arith, item_small xs i x (omega arith))) in
+    let live : IsAttrLive g.D.OpSet.attr_handles types (attr_view x) = subst (λ y. IsAttrLive g.D.OpSet.attr_handles types (attr_view y)) (sym c.item-item.is) (item_live g.D.OpSet.attr_handles types attr_view xs i x (omega arith) held) in
+    let below : bulk (attr_view x) < items_bulk (map attr_view xs) + 1 = subst (λ y. bulk (attr_view y) < items_bulk (map attr_view xs) + 1) (sym c.item-item.is) (omega (arith, item_small attr_view xs i x (omega arith))) in
     let smaller : bulk (attr_view x) < items_bulk (map attr_view c.args.list.now.items) + 1 = subst (λ ys. bulk (attr_view x) < items_bulk (map attr_view ys) + 1) c.deref-item-items.ensures.value below in
     search rules

@@ -2,12 +2,12 @@ use Rattle.std.proofs.Common.{◌≡◌, ◌-◌, ◌∙◌, length, [], None, O
 use Rattle.std.proofs.lemmas.Result.{err_from_is_err_and}
 use Rattle.plir_core.specs.declared.ptr.IRNode.TheVariants.{Operation, Region, BasicBlock}
 use Rattle.plir_attr_text.specs.Growth.{Grows-itself}
+use Rattle.plir_attr_text.specs.Meanings.{IsDictMeant-live}
 use Rattle.plir_attr_text.specs.TypeSteps.{behind_is}
 use Rattle.plir_read.specs.HeldTypes.{IsHeldByHeader, IsHeldByBlockHead, IsHeldByBlock, IsHeldByBlocks, IsHeldByConstant, IsHeldByOp, IsHeldByOps}
 use Rattle.plir_read.specs.OpTerms.{op_term, constant_term, ops_of, blocks_of, OpTerm, BlockTerm}
 use Rattle.plir_read.specs.OpReading.{op_at, first_name, bodied_at, block_at, semicolon_at, brace_at}
 use Rattle.plir_read.specs.Slots.{IsMadeInOrder}
-use Rattle.plir_read.proofs.EntriesLive.{meant_live}
 use Rattle.plir_read.proofs.Gathered as gathered
 use Rattle.plir_read.proofs.Gathered.{IsGrown-itself, KeepsBut-itself}
 use Rattle.plir_read.proofs.OpFound.{op_at-shorter, block_at-shorter, semicolon_at-shorter, brace_at-shorter}
@@ -266,7 +266,7 @@ read_bodied-make_op-requires-clause-head_live g t c =
 pub read_bodied-make_op-requires-clause-entries_live : goal.read_bodied-make_op-requires-clause-entries_live
 read_bodied-make_op-requires-clause-entries_live g t c =
     let y = c.in_ok-header.ensures.read in
-    meant_live _ _ y.0.0.1 _ y.2.0.dictionary
+    IsDictMeant-live _ _ y.0.0.1 _ y.2.0.dictionary
 
 pub read_bodied-returns-in_err-header-clause-read : goal.read_bodied-returns-in_err-header-clause-read
 read_bodied-returns-in_err-header-clause-read g t c =
