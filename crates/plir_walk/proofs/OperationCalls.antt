@@ -1,13 +1,13 @@
 -- Walks that come to every node and call at operations alone.
-use Rattle.std.proofs.Common.{◌≡◌, ℕ, Result, inl, inr, sym, subst}
-use Rattle.std.proofs.lemmas.Bool.{cases_Bool}
+use Rattle.std.proofs.Common.{◌≡◌, ℕ, Result, sym, subst}
 use Rattle.std.specs.declared.ops.ControlFlow.{ControlFlow}
 use Rattle.plir_core.specs.declared.ptr.IRNode.{IRNode}
+use Rattle.plir_core.specs.declared.ptr.IRNode.TheVariants.{Operation, BasicBlock, Region}
 use Rattle.plir_core.specs.Forest.{Shape}
 use Rattle.plir_walk.specs.Calls.{Relation}
 use Rattle.plir_walk.specs.Lawful.{Lawful}
-use Rattle.plir_walk.specs.OperationLaws.{at-operation, ops-chain, passed-by, walked_operations}
-use Rattle.plir_walk.specs.OperationWalks.{AtEachNode, AtOperations, OperationRelation, WalkedOperations, WalkedOperationsWithin, is_operation, operation_calls}
+use Rattle.plir_walk.specs.OperationLaws.{ops-chain, walked_operations}
+use Rattle.plir_walk.specs.OperationWalks.{AtEachNode, IsLawfulAtOperations, OperationRelation, WalkedOperations, WalkedOperationsWithin, operation_calls}
 use Rattle.plir_walk.specs.Walked.{IsCallUnder, IsLawful, Walked, WalkedOver}
 use Rattle.plir_walk.specs.declared.config.WalkConfig.{WalkConfig}
 use Rattle.plir_walk.specs.declared.interruptible.WalkContinue.{WalkContinue}
@@ -23,19 +23,18 @@ done-again Q {d} {d'} {e} {e'} {s} {s'} {t} {t'} {n} {a} shows leaves q =
     (subst (λ z. Q e t n a z s') leaves.0 (subst (λ z. Q e t n a e' z) leaves.1 q)))
 
 module _ {C S B : Type 0} (look : C → Shape) (post : OperationRelation C S B) (r : IRNode) where
-  -- where calls at operations are lawful, or keep the shape, so is what is done at each node
-  pub lawful-each : IsLawful look r (AtOperations post) → IsLawful look r (AtEachNode post)
-  lawful-each lawful c s n a c' s' p = elim (cases_Bool (is_operation n)) [
-    | inl e ↦ lawful c s n a c' s' (record { stands = p.stands; leaves = p.leaves; made = at-operation post c s n a c' s' e p.made })
-    | inr e ↦ subst (λ z. Lawful (look c) n (look z)) (sym (passed-by post c s n a c' s' e p.made).1) (lawful-none (look c) n)
-  ]
+  -- where calls at operations are lawful, so is what is done at each node
+  pub lawful-each : IsLawfulAtOperations look r post → IsLawful look r (AtEachNode post)
+  lawful-each lawful c s (Operation p) a c' s' h = lawful c s p a c' s' (record { stands = h.stands; leaves = h.leaves; made = h.made })
+  lawful-each lawful c s (BasicBlock p) a c' s' h = subst (λ z. Lawful (look c) (BasicBlock p) (look z)) (sym h.made.1) (lawful-none (look c) (BasicBlock p))
+  lawful-each lawful c s (Region p) a c' s' h = subst (λ z. Lawful (look c) (Region p) (look z)) (sym h.made.1) (lawful-none (look c) (Region p))
 
   module _ (done : Relation C S B) (each : (c : C) (s : S) (n : IRNode) (a : ControlFlow B WalkContinue) (c' : C) (s' : S) → done c s n a c' s' → AtEachNode post c s n a c' s') where
     -- what a wrapper does is what is done at each node
     wrapped : (c : C) (s : S) (n : IRNode) (a : ControlFlow B WalkContinue) (c' : C) (s' : S) → IsCallUnder look r done c s n a c' s' → IsCallUnder look r (AtEachNode post) c s n a c' s'
     wrapped c s n a c' s' p = record { stands = p.stands; leaves = p.leaves; made = each c s n a c' s' p.made }
 
-    pub wrapped-lawful : IsLawful look r (AtOperations post) → IsLawful look r done
+    pub wrapped-lawful : IsLawfulAtOperations look r post → IsLawful look r done
     wrapped-lawful lawful c s n a c' s' p = lawful-each lawful c s n a c' s' (wrapped c s n a c' s' p)
 
     pub over-operations : (w : WalkConfig) (c : C) (s : S) (a : ControlFlow B WalkContinue) (s' : S) → WalkedOver look w done c s r a s' → WalkedOperations look w post c s r a s'

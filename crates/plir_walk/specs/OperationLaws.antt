@@ -109,13 +109,13 @@ module _ {C S B : Type 0} where
 
 module _ {C S B : Type 0} (post : OperationRelation C S B) where
   -- at an operation there is a call, and what stands at any other node is passed by
-  pub at-operation : (c : C) (s : S) (n : IRNode) (a : ControlFlow B WalkContinue) (c' : C) (s' : S) →
+  at-operation : (c : C) (s : S) (n : IRNode) (a : ControlFlow B WalkContinue) (c' : C) (s' : S) →
       is_operation n ≡ true → AtEachNode post c s n a c' s' → AtOperations post c s n a c' s'
   at-operation c s (Operation p) a c' s' e h = h
   at-operation c s (BasicBlock p) a c' s' e h = absurd (false≢true e)
   at-operation c s (Region p) a c' s' e h = absurd (false≢true e)
 
-  pub passed-by : (c : C) (s : S) (n : IRNode) (a : ControlFlow B WalkContinue) (c' : C) (s' : S) →
+  passed-by : (c : C) (s : S) (n : IRNode) (a : ControlFlow B WalkContinue) (c' : C) (s' : S) →
       is_operation n ≡ false → AtEachNode post c s n a c' s' → (a ≡ Continue Advance) × (c' ≡ c) × (s' ≡ s)
   passed-by c s (Operation p) a c' s' e h = absurd (true≢false e)
   passed-by c s (BasicBlock p) a c' s' e h = h

@@ -13,6 +13,7 @@ use Rattle.plir_walk.specs.declared.interruptible.WalkContinue.{WalkContinue}
 use Rattle.plir_walk.specs.declared.interruptible.WalkContinue.TheVariants.{Advance}
 use Rattle.plir_walk.specs.declared.limit.CallLimit.{CallLimit}
 use Rattle.plir_walk.specs.declared.config.WalkConfig.{WalkConfig}
+use Rattle.plir_walk.specs.Lawful.{Lawful}
 use Rattle.plir_walk.specs.Tree.{Tree}
 use Rattle.plir_walk.specs.Calls.{Call, Relation, Chain, nodes_of, NoBreak}
 use Rattle.plir_walk.specs.Walk.{IsDue, IsDueUpTo, InOrder, LastBreaks}
@@ -41,6 +42,12 @@ abbrev pub AtEachNode : {C S B : Type 0} → OperationRelation C S B → Relatio
 AtEachNode post c s (Operation p) a c' s' = post c s p a c' s'
 AtEachNode post c s (BasicBlock p) a c' s' = (a ≡ Continue Advance) × (c' ≡ c) × (s' ≡ s)
 AtEachNode post c s (Region p) a c' s' = (a ≡ Continue Advance) × (c' ≡ c) × (s' ≡ s)
+
+-- each call at an operation that a walk from r can make is lawful
+abbrev pub IsLawfulAtOperations : {C S B : Type 0} → (C → Shape) → IRNode → OperationRelation C S B → Type 0
+IsLawfulAtOperations {C} {S} {B} look r post =
+    (c : C) (s : S) (p : Ptr OperationKind) (a : ControlFlow B WalkContinue) (c' : C) (s' : S)
+    → IsCallUnder look r (AtOperations post) c s (Operation p) a c' s' → Lawful (look c) (Operation p) (look c')
 
 -- the calls at operations, in order
 abbrev pub operation_calls : {C S B : Type 0} → List (Call C S B) → List (Call C S B)

@@ -4,8 +4,7 @@
 ghost use Rattle.std.specs.Prelude.{◌≡◌, true};
 ghost use Rattle.plir_walk.specs.Lawful.{StandsUnder};
 ghost use Rattle.plir_walk.specs.Calls.{CallsBack};
-ghost use Rattle.plir_walk.specs.OperationWalks.{AtEachNode, AtOperations, WalkedOperationsWithin};
-ghost use Rattle.plir_walk.specs.Walked.{IsLawful};
+ghost use Rattle.plir_walk.specs.OperationWalks.{AtEachNode, IsLawfulAtOperations, WalkedOperationsWithin};
 
 use crate::config::WalkConfig;
 use crate::interruptible::{self, WalkResult, walk_advance};
@@ -35,7 +34,7 @@ pub fn walk_ops<C: NodeLinks, S, B: Drop, F: Fn(&mut C, &mut S, Ptr<Operation>) 
     requires root_live { (C.look ctx.old).live root ≡ true }
     requires callable { (c : _) (s : _) (p : _) → StandsUnder (C.look c.now) root (IRNode.Operation p) →
         F.pre callback c s p }
-    requires lawful { IsLawful C.look root (AtOperations (CallsBack F.Fn callback)) }
+    requires lawful { IsLawfulAtOperations C.look root (CallsBack F.Fn callback) }
     ensures { WalkedOperationsWithin C.look config.now (CallsBack F.Fn callback) ctx.old state.old root limit result
         ctx.new state.new }
 {
