@@ -4,6 +4,7 @@ mod deep;
 mod from_any;
 mod growing;
 mod naming;
+mod operations;
 mod pass;
 mod plan;
 mod refused;

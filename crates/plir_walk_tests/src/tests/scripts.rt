@@ -1,5 +1,6 @@
 //! The scripts of walks and names, with their answers.
 use super::naming::name;
+use super::operations::walk_ops;
 use super::walking::{run_pass, walk, walk_plainly};
 use plir_scripts::{Bench, Layer, Line, Mismatch, NodeCalls, SampleSet, ScriptSet, Stop, play};
 use std::alloc::Global;
@@ -11,6 +12,7 @@ impl<D: ScriptSet> Layer<D> for WalkCalls {
     fn run(bench: &mut Bench<D>, line: Line<'_>) -> Result<(), Stop> {
         match line.command {
             "look" | "plainly-look" | "change" | "plainly-change" => walk(bench, line),
+            "look-ops" | "change-ops" => walk_ops(bench, line),
             "grow" | "unlabel" => walk_plainly(bench, line),
             "pass" => run_pass(bench, line),
             "set-name" | "insert-name" | "remove-name" | "names" | "erase-names" => {
@@ -184,6 +186,37 @@ fn each_walker_walks(rt: HostRuntime) -> Result<(), Mismatch> {
         plainly-change pre-fwd o1 => o1 r1 b1 advance
         plainly-change pre-fwd r1 => r1 b1 advance
         plainly-change pre-fwd b1 => b1 advance";
+    play_in(rt.alloc(), script)
+}
+
+#[test]
+fn operations_alone_are_called(rt: HostRuntime) -> Result<(), Mismatch> {
+    let script = "
+        op module 1 => o0
+        block => b0
+        back b0 r0
+        op func 1 => o1
+        block => b1
+        back b1 r1
+        back o1 b0
+        op module 1 => o2
+        block => b2
+        back b2 r2
+        back o2 b0
+        op func 1 => o3
+        back o3 b2
+        look-ops pre-fwd o0 => o0 o1 o2 o3 advance
+        look-ops post-rev o0 => o3 o2 o1 o0 advance
+        look-ops pre-rev b0 => o2 o3 o1 advance
+        look-ops post-fwd r2 => o3 advance
+        look-ops pre-fwd r1 => advance
+        look-ops pre-fwd o0 skip o2 => o0 o1 o2 advance
+        look-ops post-fwd o0 skip o2 => o1 o3 o2 o0 advance
+        look-ops pre-fwd o0 break o2 => o0 o1 o2 break 7
+        change-ops pre-fwd o0 limit 9 => o0 o1 o2 limit
+        change-ops pre-fwd o0 limit 7, at o2 clear => o0 o1 o2 advance
+        look-ops pre-fwd o0 => o0 o1 o2 advance
+        change-ops post-rev b0 at o1 add => o2 o1 advance";
     play_in(rt.alloc(), script)
 }
 

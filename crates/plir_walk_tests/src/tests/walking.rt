@@ -59,9 +59,9 @@ pub fn walk<D: OpSet>(bench: &mut Bench<D>, line: Line<'_>) -> Result<(), Stop> 
     Ok(())
 }
 
-// A setting: `pre-fwd` and its kin, or three of them for the regions of operations, the operations of blocks and the
-// blocks of regions, parted by `/`.
-fn config_of(word: &str) -> Result<WalkConfig, Stop> {
+/// A setting: `pre-fwd` and its kin, or three of them for the regions of operations, the operations of blocks and the
+/// blocks of regions, parted by `/`.
+pub fn config_of(word: &str) -> Result<WalkConfig, Stop> {
     match word {
         "pre-fwd" => return Ok(WALKCONFIG_PREORDER_FORWARD),
         "post-fwd" => return Ok(WALKCONFIG_POSTORDER_FORWARD),
@@ -198,8 +198,8 @@ pub fn run_pass<D: ScriptSet>(bench: &mut Bench<D>, line: Line<'_>) -> Result<()
     Ok(())
 }
 
-// Names the called nodes that have no name.
-fn name_new(made: &mut Made, called: &[IRNode]) -> Result<(), Stop> {
+/// Names the called nodes that have no name.
+pub fn name_new(made: &mut Made, called: &[IRNode]) -> Result<(), Stop> {
     for node in called {
         match node {
             IRNode::Operation(op) if !made.ops.contains(op) => made.ops.push(*op)?,
@@ -211,8 +211,8 @@ fn name_new(made: &mut Made, called: &[IRNode]) -> Result<(), Stop> {
     Ok(())
 }
 
-// Writes the names of the called nodes, and the walk's answer.
-fn put_walk(
+/// Writes the names of the called nodes, and the walk's answer.
+pub fn put_walk(
     made: &Made,
     answer: &mut Answer,
     called: &[IRNode],
