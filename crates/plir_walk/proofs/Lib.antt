@@ -33,3 +33,4 @@ pub mod NamesTaken
 pub mod Picked
 pub mod Refilled
 pub mod Unnaming
+pub mod Thinning

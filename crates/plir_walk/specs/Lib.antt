@@ -18,6 +18,7 @@ pub mod Laws
 pub mod CallLaws
 pub mod TreeLaws
 pub mod WalkLaws
+pub mod Thinned
 pub mod OperationWalks
 pub mod OperationLaws
 pub mod GivenNames

@@ -20,12 +20,13 @@ ghost use Rattle.plir_walk.specs.ChangedBelow.{StepsBelow};
 ghost use Rattle.plir_walk.specs.LawfulChanges.{LawfulChanges};
 ghost use Rattle.plir_walk.specs.Laws.{BeforeOrders, PostReverseIsPreForwardReversed, SkipsAtPostOrder};
 ghost use Rattle.plir_walk.specs.Laws.{ShutsOutNothing, WalkedOnce};
+ghost use Rattle.plir_walk.specs.Thinned.{ErasuresThin};
 
 use crate::config::WalkConfig;
 use crate::links::NodeLinks;
 use crate::uninterruptible;
-use plir_core::laws::contexts_stand;
-use plir_core::{IRNode, Operation, Ptr};
+use plir_core::laws::{contexts_stand, erasure_takes_one_kid};
+use plir_core::{Context, IRNode, Operation, Ptr};
 use plir_data::OpSet;
 
 /// The default setting is [`crate::WALKCONFIG_PREORDER_FORWARD`].
@@ -105,3 +106,14 @@ pub fn lawful_changes<D: OpSet>()
 pub fn changes_below_compose<D: OpSet>()
     ensures { StepsBelow D.Kind D.Attr D.Ty }
 {}
+
+/// What erasures leave, one after another: nothing is new, and what is left stands where it stood, in its order, and
+/// holds what it held. Of one erasure the law is called before it, with what that leaves, as its clauses `tree` and
+/// `after` say.
+pub fn erasures_thin<D: OpSet>(ctx: &Context<D>)
+    ensures { ErasuresThin ctx.now }
+{
+    contexts_stand::<D>();
+    ctx.stands();
+    erasure_takes_one_kid(ctx);
+}
