@@ -4,3 +4,4 @@ pub mod HeadersUnder
 pub mod HeaderCalls
 pub mod OneLevel
 pub mod RegionPlaces
+pub mod Stepping

@@ -16,6 +16,7 @@
 --
 --   ValueLists   values_in: the operands, the results or the arguments
 --   HeaderWalk   header_answer: how the walk that looks at headers goes on
+--   Steps        Steps: one step of a printer through a tree, from a node that is entered or left to the next
 pub mod ValueNames
 pub mod Lists
 pub mod HeaderAttrs
@@ -26,3 +27,4 @@ pub mod WholeText
 pub mod EdgeText
 pub mod ValueLists
 pub mod HeaderWalk
+pub mod Steps

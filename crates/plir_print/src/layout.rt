@@ -1,5 +1,5 @@
 //! What stands between the parts of a text.
-ghost use Rattle.std.specs.Prelude.{OnOk};
+ghost use Rattle.std.specs.Prelude.{◌*◌, OnOk, replicate};
 ghost use Rattle.plir_print.specs.Lists.{Puts, before};
 ghost use Rattle.plir_print.specs.OpText.{line};
 
@@ -13,12 +13,26 @@ pub(crate) fn put_between(out: &mut String, is_first: bool, between: &str) -> Re
     if is_first { Ok(()) } else { put(out, between) }
 }
 
+// Puts so many times 64 spaces.
+fn put_wide_spaces(out: &mut String, times: usize) -> Result<(), Memory>
+    ensures { OnOk result (Puts out.old out.new (replicate (64 * times) 32)) }
+{
+    'times: for _time in 0..times {
+        put(
+            out,
+            "                                                                ",
+        )?;
+    }
+    Ok(())
+}
+
 /// Puts a new line, as far in as so many columns.
 pub(crate) fn put_line(out: &mut String, columns: usize) -> Result<(), Memory>
     ensures { OnOk result (Puts out.old out.new (line columns)) }
 {
     put(out, "\n")?;
-    'columns: for _column in 0..columns {
+    put_wide_spaces(out, columns / 64)?;
+    'columns: for _column in 0..columns % 64 {
         put(out, " ")?;
     }
     Ok(())

@@ -3,6 +3,7 @@
 
 mod dictionaries;
 mod edges;
+mod fronts;
 mod header_attrs;
 mod headers;
 mod kids;

@@ -1,321 +1,212 @@
-//! From an operation with all below it to its text.
-ghost use Rattle.std.specs.Prelude.{◌≡◌, ◌*◌, ◌^◌, ◌<◌, ◌≤◌, IfOk, OnOk, string_bytes};
+//! From an operation with all below it to its text, by one loop over links.
+ghost use Rattle.std.specs.Prelude.{◌≡◌, ◌++◌, ◌^◌, ◌<◌, ℕ, IfOk, List, OnOk, Some, false, string_bytes, true};
 ghost use Rattle.plir_core.specs.declared.ptr.IRNode.{IRNode as AnyNode};
-ghost use Rattle.plir_core.specs.Store.{IsLive, IsValueLive, kids, kind_of};
+ghost use Rattle.plir_core.specs.Store.{IsLive};
 ghost use Rattle.plir_core.specs.Whole.{IsWhole};
-ghost use Rattle.plir_core.specs.Measures.{depth};
 ghost use Rattle.plir_print.specs.Lists.{Puts};
-ghost use Rattle.plir_print.specs.Dictionaries.{shown};
-ghost use Rattle.plir_print.specs.HeaderAttrs.{HasHeader, IsPrintable};
-ghost use Rattle.plir_print.specs.OpText.{argument_text, arguments_text, block_front, blocks_in, op_front, op_text};
-ghost use Rattle.plir_print.specs.OpText.{dictionary_apart, dictionary_line, ops_in, regions_in, results_text};
-ghost use Rattle.plir_print.specs.OpText.{space_text, text_of};
+ghost use Rattle.plir_print.specs.HeaderAttrs.{IsPrintable};
+ghost use Rattle.plir_print.specs.OpText.{op_text};
+ghost use Rattle.plir_print.specs.Steps.{Steps, closing, inner, lead, opening, outer};
 
-use crate::dictionaries::{put_dictionary, shows_some};
-use crate::headers::{put_header, put_names, put_value_type};
-use crate::kids::{kid_stands, stands};
+use crate::fronts::{put_block_front, put_op_front};
+use crate::kids::{next_of, stands};
 use crate::layout::{put_between, put_line};
-use crate::names::{put_block_name, put_value};
-use crate::values::{ValueList, num_values, value_at};
-use plir_core::laws::first_kid_is_front;
-use plir_core::{BasicBlock, Context, IRNode, Operation, Ptr, Region, Value};
+use plir_core::laws::next_is_behind;
+use plir_core::{Context, IRNode, Operation, Ptr};
 use plir_data::put::put;
-use plir_data::{Memory, OpKind, OpSet};
+use plir_data::{Memory, OpSet};
+use plir_walk::NodeLinks;
 use std::alloc::Global;
 
-// Puts the names of the results and ` = `, where there are results.
-fn put_results<D: OpSet>(
-    out: &mut String,
-    ctx: &Context<D>,
-    op: Ptr<Operation>,
-) -> Result<(), Memory>
-    requires { IsLive ctx.now (AnyNode.Operation op) }
-    ensures { OnOk result (Puts out.old out.new (results_text ctx.now op)) }
+// How far in the kids of a node stand that stands as far in as `indent`.
+fn inner_indent(indent: usize, node: IRNode) -> usize
+    requires { indent < 2 ^ 40 }
+    ensures { result ≡ inner indent node }
 {
-    put_names(out, ctx, ValueList::Results(op))?;
-    if op.get_num_results(ctx) > 0 {
-        put(out, " = ")?;
-    }
-    Ok(())
-}
-
-// Puts the space behind a header.
-fn put_space<D: OpSet>(out: &mut String, ctx: &Context<D>, op: Ptr<Operation>) -> Result<(), Memory>
-    requires { IsLive ctx.now (AnyNode.Operation op) }
-    ensures { OnOk result (Puts out.old out.new (space_text ctx.now op)) }
-{
-    match op.kind(ctx) {
-        OpKind::Module => put(out, " "),
-        OpKind::Func => put(out, " "),
-        OpKind::Constant => Ok(()),
-        OpKind::ForwardRef => Ok(()),
-        OpKind::Own(_) => match op.first_region(ctx) {
-            Some(_) => put(out, " "),
-            None => Ok(()),
-        },
+    match node {
+        IRNode::Operation(_) => indent,
+        IRNode::Region(_) => indent + 2,
+        IRNode::BasicBlock(_) => indent + 2,
     }
 }
 
-// Puts the dictionary of an operation on a line of its own, if it has entries.
-fn put_dictionary_line<D: OpSet>(
+// How far in a node stands whose kids stand as far in as `indent`.
+fn outer_indent(indent: usize, node: IRNode) -> usize
+    ensures { result ≡ outer indent node }
+{
+    match node {
+        IRNode::Operation(_) => indent,
+        IRNode::Region(_) => indent.saturating_sub(2),
+        IRNode::BasicBlock(_) => indent.saturating_sub(2),
+    }
+}
+
+// Puts what stands before the kids of a node.
+fn put_opening<D: OpSet>(
     out: &mut String,
     alloc: Global,
     ctx: &Context<D>,
     indent: usize,
-    op: Ptr<Operation>,
+    node: IRNode,
 ) -> Result<(), Memory>
-    requires live { IsLive ctx.now (AnyNode.Operation op) }
+    requires live { IsLive ctx.now node }
+    requires printable { IsPrintable ctx.now node }
     requires fits { indent < 2 ^ 40 }
-    ensures { OnOk result (Puts out.old out.new (dictionary_line D.OpSet ctx.now indent op)) }
+    ensures { OnOk result (Puts out.old out.new (opening D.OpSet ctx.now indent node)) }
 {
-    if shows_some(op.kind(ctx), op.attributes(ctx)) {
-        put_line(out, indent + 2)?;
-        put_dictionary(out, alloc, ctx, op)?;
+    match node {
+        IRNode::Operation(op) => put_op_front(out, alloc, ctx, indent, op),
+        IRNode::Region(_) => {
+            put_line(out, indent)?;
+            put(out, "{")
+        }
+        IRNode::BasicBlock(block) => put_block_front(out, alloc, ctx, block),
     }
-    Ok(())
 }
 
-// Puts the dictionary of a module or a function.
-fn put_dictionary_apart<D: OpSet>(
+// Puts what stands behind the kids of a node.
+fn put_closing(out: &mut String, indent: usize, node: IRNode) -> Result<(), Memory>
+    ensures { OnOk result (Puts out.old out.new (closing indent node)) }
+{
+    match node {
+        IRNode::Operation(_) => Ok(()),
+        IRNode::Region(_) => {
+            put_line(out, indent)?;
+            put(out, "}")
+        }
+        IRNode::BasicBlock(_) => Ok(()),
+    }
+}
+
+// Puts what stands before a kid of a node: a new line before a block and an operation, and before the line a semicolon,
+// where other operations stand first.
+fn put_lead(out: &mut String, is_first: bool, indent: usize, over: IRNode) -> Result<(), Memory>
+    ensures { OnOk result (Puts out.old out.new (lead is_first indent over)) }
+{
+    match over {
+        IRNode::Operation(_) => Ok(()),
+        IRNode::Region(_) => put_line(out, indent),
+        IRNode::BasicBlock(_) => {
+            put_between(out, is_first, ";")?;
+            put_line(out, indent)
+        }
+    }
+}
+
+// Puts what stands before the kids of a node, and goes on to the first of them, or to the node's end.
+fn enter<D: OpSet>(
     out: &mut String,
     alloc: Global,
     ctx: &Context<D>,
+    node: IRNode,
     indent: usize,
-    op: Ptr<Operation>,
-) -> Result<(), Memory>
-    requires live { IsLive ctx.now (AnyNode.Operation op) }
+) -> Result<(IRNode, bool, usize), Memory>
+    requires live { IsLive ctx.now node }
+    requires printable { IsPrintable ctx.now node }
     requires fits { indent < 2 ^ 40 }
-    ensures { OnOk result (Puts out.old out.new (dictionary_apart D.OpSet ctx.now indent op)) }
-{
-    match op.kind(ctx) {
-        OpKind::Module => put_dictionary_line(out, alloc, ctx, indent, op),
-        OpKind::Func => put_dictionary_line(out, alloc, ctx, indent, op),
-        OpKind::Constant => Ok(()),
-        OpKind::ForwardRef => Ok(()),
-        OpKind::Own(_) => Ok(()),
-    }
-}
-
-// Puts what stands before the regions of an operation.
-fn put_op_front<D: OpSet>(
-    out: &mut String,
-    alloc: Global,
-    ctx: &Context<D>,
-    indent: usize,
-    op: Ptr<Operation>,
-) -> Result<(), Memory>
-    requires live { IsLive ctx.now (AnyNode.Operation op) }
-    requires header { HasHeader ctx.now op }
-    requires fits { indent < 2 ^ 40 }
-    ensures { OnOk result (Puts out.old out.new (op_front D.OpSet ctx.now indent op)) }
-{
-    put_results(out, ctx, op)?;
-    put_header(out, alloc, ctx, op)?;
-    put_space(out, ctx, op)?;
-    put_dictionary_apart(out, alloc, ctx, indent, op)?;
-    Ok(())
-}
-
-// Puts an argument with its type.
-fn put_argument<D: OpSet>(
-    out: &mut String,
-    alloc: Global,
-    ctx: &Context<D>,
-    argument: Value,
-) -> Result<(), Memory>
-    requires { IsValueLive ctx.now argument }
-    ensures { OnOk result (Puts out.old out.new (argument_text D.OpSet ctx.now argument)) }
-{
-    put_value(out, ctx, argument)?;
-    put(out, ": ")?;
-    put_value_type(out, alloc, ctx, argument)?;
-    Ok(())
-}
-
-// Puts the arguments of a block, with a comma and a space between them.
-fn put_arguments<D: OpSet>(
-    out: &mut String,
-    alloc: Global,
-    ctx: &Context<D>,
-    block: Ptr<BasicBlock>,
-) -> Result<(), Memory>
-    requires { IsLive ctx.now (AnyNode.BasicBlock block) }
-    ensures { OnOk result (Puts out.old out.new (arguments_text D.OpSet ctx.now block)) }
-{
-    let arguments = ValueList::Arguments(block);
-    let mut is_first = true;
-    'arguments: for place in 0..num_values(ctx, arguments) {
-        put_between(out, is_first, ", ")?;
-        put_argument(out, alloc, ctx, value_at(ctx, arguments, place))?;
-        is_first = false;
-    }
-    Ok(())
-}
-
-// Puts what stands before the operations of a block, as `^block1v1():`.
-fn put_block_front<D: OpSet>(
-    out: &mut String,
-    alloc: Global,
-    ctx: &Context<D>,
-    block: Ptr<BasicBlock>,
-) -> Result<(), Memory>
-    requires { IsLive ctx.now (AnyNode.BasicBlock block) }
-    ensures { OnOk result (Puts out.old out.new (block_front D.OpSet ctx.now block)) }
-{
-    put(out, "^")?;
-    put_block_name(out, ctx, block)?;
-    put(out, "(")?;
-    put_arguments(out, alloc, ctx, block)?;
-    put(out, "):")?;
-    Ok(())
-}
-
-// Puts the regions of an operation.
-#[cycle(printing)]
-fn put_regions<D: OpSet>(
-    out: &mut String,
-    alloc: Global,
-    ctx: &Context<D>,
-    indent: usize,
-    op: Ptr<Operation>,
-) -> Result<(), Memory>
-    requires live { IsLive ctx.now (AnyNode.Operation op) }
-    requires printable { IsPrintable ctx.now (AnyNode.Operation op) }
-    requires shallow { indent ≤ 2 * depth ctx.now (AnyNode.Operation op) }
-    ensures { OnOk result (Puts out.old out.new (regions_in D.OpSet ctx.now indent op)) }
-{
-    first_kid_is_front(ctx, IRNode::Operation(op));
-    let mut place: usize = 0;
-    let mut next = op.first_region(ctx);
-    'regions: while let Some(region) = next {
-        kid_stands(ctx, IRNode::Operation(op), IRNode::Region(region), place);
-        put_region(out, alloc, ctx, indent, region)?;
-        place += 1;
-        next = region.get_next(ctx);
-    }
-    Ok(())
-}
-
-// Puts the blocks of a region, each on a line of its own.
-#[cycle(printing)]
-fn put_blocks<D: OpSet>(
-    out: &mut String,
-    alloc: Global,
-    ctx: &Context<D>,
-    indent: usize,
-    region: Ptr<Region>,
-) -> Result<(), Memory>
-    requires live { IsLive ctx.now (AnyNode.Region region) }
-    requires printable { IsPrintable ctx.now (AnyNode.Region region) }
-    requires shallow { indent ≤ 2 * depth ctx.now (AnyNode.Region region) }
-    ensures { OnOk result (Puts out.old out.new (blocks_in D.OpSet ctx.now indent region)) }
-{
-    first_kid_is_front(ctx, IRNode::Region(region));
-    let mut place: usize = 0;
-    let mut next = region.get_head(ctx);
-    'inner: while let Some(block) = next {
-        kid_stands(
-            ctx,
-            IRNode::Region(region),
-            IRNode::BasicBlock(block),
-            place,
-        );
-        put_line(out, indent + 2)?;
-        put_block(out, alloc, ctx, indent + 2, block)?;
-        place += 1;
-        next = block.get_next(ctx);
-    }
-    Ok(())
-}
-
-// Puts the operations of a block, each on a line of its own, with a semicolon behind all but the last.
-#[cycle(printing)]
-fn put_ops<D: OpSet>(
-    out: &mut String,
-    alloc: Global,
-    ctx: &Context<D>,
-    indent: usize,
-    block: Ptr<BasicBlock>,
-) -> Result<(), Memory>
-    requires live { IsLive ctx.now (AnyNode.BasicBlock block) }
-    requires printable { IsPrintable ctx.now (AnyNode.BasicBlock block) }
-    requires shallow { indent ≤ 2 * depth ctx.now (AnyNode.BasicBlock block) }
-    ensures { OnOk result (Puts out.old out.new (ops_in D.OpSet ctx.now indent block)) }
-{
-    first_kid_is_front(ctx, IRNode::BasicBlock(block));
-    let mut is_first = true;
-    let mut place: usize = 0;
-    let mut next = block.get_head(ctx);
-    'ops: while let Some(op) = next {
-        kid_stands(ctx, IRNode::BasicBlock(block), IRNode::Operation(op), place);
-        put_between(out, is_first, ";")?;
-        put_line(out, indent + 2)?;
-        put_op(out, alloc, ctx, indent + 2, op)?;
-        is_first = false;
-        place += 1;
-        next = op.get_next(ctx);
-    }
-    Ok(())
-}
-
-#[cycle(printing)]
-fn put_region<D: OpSet>(
-    out: &mut String,
-    alloc: Global,
-    ctx: &Context<D>,
-    indent: usize,
-    region: Ptr<Region>,
-) -> Result<(), Memory>
-    requires live { IsLive ctx.now (AnyNode.Region region) }
-    requires printable { IsPrintable ctx.now (AnyNode.Region region) }
-    requires shallow { indent ≤ 2 * depth ctx.now (AnyNode.Region region) }
-    ensures { OnOk result (Puts out.old out.new (text_of D.OpSet ctx.now indent (AnyNode.Region region))) }
+    ensures { IfOk result (λ c. (root : AnyNode) → Steps D.OpSet ctx.now root (string_bytes out.old)
+        (node, true, indent) (string_bytes out.new) (Some c)) }
 {
     stands(ctx);
-    put_line(out, indent)?;
-    put(out, "{")?;
-    put_blocks(out, alloc, ctx, indent, region)?;
-    put_line(out, indent)?;
-    put(out, "}")?;
-    Ok(())
+    put_opening(out, alloc, ctx, indent, node)?;
+    match ctx.first_child(node) {
+        Some(kid) => {
+            let within = inner_indent(indent, node);
+            put_lead(out, true, within, node)?;
+            Ok((kid, true, within))
+        }
+        None => Ok((node, false, indent)),
+    }
 }
 
-#[cycle(printing)]
-fn put_block<D: OpSet>(
+// Goes on from a node that is left and is not the root, behind whose kids all is put: to the next node under the same
+// one, or to the end of that.
+fn go_on<D: OpSet>(
+    out: &mut String,
+    ctx: &Context<D>,
+    node: IRNode,
+    indent: usize,
+) -> Result<Option<(IRNode, bool, usize)>, Memory>
+    requires live { IsLive ctx.now node }
+    ensures { IfOk result (λ r. (root : AnyNode) (old : List ℕ) → (node ≡ root → ⊥) → string_bytes out.old ≡ old ++
+        closing indent node → Steps D.OpSet ctx.now root old (node, false, indent) (string_bytes out.new) r) }
+{
+    stands(ctx);
+    next_is_behind(ctx, node);
+    let Some(over) = ctx.parent(node) else {
+        return Ok(None);
+    };
+    match next_of(ctx, node) {
+        Some(next) => {
+            put_lead(out, false, indent, over)?;
+            Ok(Some((next, true, indent)))
+        }
+        None => Ok(Some((over, false, outer_indent(indent, over)))),
+    }
+}
+
+// Puts what stands behind the kids of a node, and goes on from there. None, if the root is left.
+fn leave<D: OpSet>(
+    out: &mut String,
+    ctx: &Context<D>,
+    root: IRNode,
+    node: IRNode,
+    indent: usize,
+) -> Result<Option<(IRNode, bool, usize)>, Memory>
+    requires live { IsLive ctx.now node }
+    ensures { IfOk result (Steps D.OpSet ctx.now root (string_bytes out.old) (node, false, indent)
+        (string_bytes out.new)) }
+{
+    stands(ctx);
+    put_closing(out, indent, node)?;
+    if node == root {
+        Ok(None)
+    } else {
+        go_on(out, ctx, node, indent)
+    }
+}
+
+// Puts what stands at a cursor, and goes on from there.
+fn step<D: OpSet>(
     out: &mut String,
     alloc: Global,
     ctx: &Context<D>,
-    indent: usize,
-    block: Ptr<BasicBlock>,
-) -> Result<(), Memory>
-    requires live { IsLive ctx.now (AnyNode.BasicBlock block) }
-    requires printable { IsPrintable ctx.now (AnyNode.BasicBlock block) }
-    requires shallow { indent ≤ 2 * depth ctx.now (AnyNode.BasicBlock block) }
-    ensures { OnOk result (Puts out.old out.new (text_of D.OpSet ctx.now indent (AnyNode.BasicBlock block))) }
+    root: IRNode,
+    at: (IRNode, bool, usize),
+) -> Result<Option<(IRNode, bool, usize)>, Memory>
+    requires live { IsLive ctx.now at.0 }
+    requires printable { IsPrintable ctx.now at.0 }
+    requires fits { at.2 < 2 ^ 40 }
+    ensures { IfOk result (Steps D.OpSet ctx.now root (string_bytes out.old) at (string_bytes out.new)) }
 {
-    stands(ctx);
-    put_block_front(out, alloc, ctx, block)?;
-    put_ops(out, alloc, ctx, indent, block)?;
-    Ok(())
+    let (node, entering, indent) = at;
+    if entering {
+        Ok(Some(enter(out, alloc, ctx, node, indent)?))
+    } else {
+        leave(out, ctx, root, node, indent)
+    }
 }
 
-#[cycle(printing)]
+// Puts the text of an operation with all below it, by one loop over the links: it stops as the operation is left.
 fn put_op<D: OpSet>(
     out: &mut String,
     alloc: Global,
     ctx: &Context<D>,
-    indent: usize,
     op: Ptr<Operation>,
 ) -> Result<(), Memory>
     requires live { IsLive ctx.now (AnyNode.Operation op) }
     requires printable { IsPrintable ctx.now (AnyNode.Operation op) }
-    requires shallow { indent ≤ 2 * depth ctx.now (AnyNode.Operation op) }
-    ensures { OnOk result (Puts out.old out.new (text_of D.OpSet ctx.now indent (AnyNode.Operation op))) }
+    ensures { OnOk result (Puts out.old out.new (op_text D.OpSet ctx.now op)) }
 {
     stands(ctx);
-    put_op_front(out, alloc, ctx, indent, op)?;
-    put_regions(out, alloc, ctx, indent, op)?;
-    Ok(())
+    let root = IRNode::Operation(op);
+    let mut at = (root, true, 0usize);
+    'steps: loop {
+        match step(out, alloc, ctx, root, at)? {
+            Some(next) => at = next,
+            None => return Ok(()),
+        }
+    }
 }
 
 /// The text of an operation with all below it: its results, its header, its attributes and its regions, and what stands
@@ -332,6 +223,6 @@ pub fn print_op<D: OpSet>(
 {
     ctx.stands();
     let mut out = String::new(alloc);
-    put_op(&mut out, alloc, ctx, 0, op)?;
+    put_op(&mut out, alloc, ctx, op)?;
     Ok(out)
 }

@@ -3,7 +3,7 @@ use Rattle.std.proofs.lemmas.List.{drop_all}
 use Rattle.plir_print.specs.OpText.{argument_text}
 use Rattle.plir_print.specs.ValueNames.{arguments_of}
 use Rattle.plir_print.proofs.Pieces.{turn, ended, drop_at}
-use Rattle.plir_print.proofs.ops.put_arguments.Goals as goal
+use Rattle.plir_print.proofs.fronts.put_arguments.Goals as goal
 
 pub arguments-preserved : goal.arguments-preserved
 arguments-preserved g c =
