@@ -19,10 +19,6 @@ use plir_walk::{Direction, Order};
 use std::alloc::Global;
 use std::io::Write;
 
-/// How many modules may stand in one another where the text of the root is printed, which is done by calls within
-/// calls.
-const MAX_PRINTED_LEVELS: usize = 1_000;
-
 /// The modules and functions of a script, and their tables.
 #[derive(Drop)]
 pub struct Script {
@@ -32,8 +28,6 @@ pub struct Script {
     root: Option<Ptr<Operation>>,
     // The innermost one is last.
     open: Vec<Ptr<Operation>>,
-    // The most that were ever open at once: a tree that a script builds has no more levels of modules.
-    deepest: usize,
 }
 
 impl Script {
@@ -49,7 +43,6 @@ impl Script {
             tables: SymbolTableCollection::new(alloc),
             root: None,
             open: Vec::new(alloc),
-            deepest: 0,
         }
     }
 
@@ -87,7 +80,6 @@ impl Script {
             Some(_) => self.make_module(name)?,
         };
         self.open.push(op)?;
-        self.deepest = self.deepest.max(self.open.len());
         Ok(())
     }
 
@@ -160,10 +152,10 @@ impl Script {
         print_walk(&self.ctx, self.root()?, (order, direction), writer)
     }
 
-    // The text of the root, unless so many modules were in one another that the stack may not bear it.
+    // The text of the root.
     fn print_text<W: Write>(&self, writer: &mut W) -> Result<(), Stop> {
         let root = self.root()?;
-        if self.deepest > MAX_PRINTED_LEVELS || !is_printable(&self.ctx, root) {
+        if !is_printable(&self.ctx, root) {
             return Err(Stop::Refused);
         }
         let text = print_op(self.alloc, &self.ctx, root)?;

@@ -334,20 +334,68 @@ fn the_text_of_the_root_is_printed(rt: HostRuntime) {
     );
 }
 
-// The script of so many modules in one another, whose text is asked for.
-fn deep_script(alloc: Global, modules: usize) -> Result<Vec<u8>, AllocError> {
+/// How many modules stand in one another in a deep script.
+const LEVELS: usize = 2_000;
+
+// The script of modules in one another, whose text is asked for.
+fn deep_script(alloc: Global) -> Result<Vec<u8>, AllocError> {
     let mut script = Vec::new(alloc);
-    for _ in 0..modules {
+    for _ in 0..LEVELS {
         script.extend_from_slice(b"module m\n")?;
     }
     script.extend_from_slice(b"text")?;
     Ok(script)
 }
 
+// As many spaces as any line of the deep text has before it.
+fn deep_blank(alloc: Global) -> Result<String, AllocError> {
+    let mut blank = String::new(alloc);
+    for _ in 0..LEVELS {
+        blank.push_str("    ")?;
+    }
+    Ok(blank)
+}
+
+// A new line, as far in as so many columns.
+fn put_break(text: &mut String, blank: &str, columns: usize) -> Result<(), AllocError> {
+    text.push_str("\n")?;
+    text.push_str(blank.get(..columns).unwrap_or("too far in"))
+}
+
+// What the deep script writes, but for the closing braces.
+fn deep_front(alloc: Global, blank: &str) -> Result<String, AllocError> {
+    let mut text = String::new(alloc);
+    for level in 0..LEVELS {
+        if level > 0 {
+            put_break(&mut text, blank, 4 * level)?;
+        }
+        text.push_str("builtin.module @m ")?;
+        put_break(&mut text, blank, 4 * level)?;
+        text.push_str("{")?;
+        put_break(&mut text, blank, 4 * level + 2)?;
+        let block = format!(in alloc; "^block{}v1():", level + 1)?;
+        text.push_str(block.as_str())?;
+    }
+    Ok(text)
+}
+
+// What the deep script writes.
+fn deep_text(alloc: Global) -> Result<String, AllocError> {
+    let blank = deep_blank(alloc)?;
+    let mut text = deep_front(alloc, blank.as_str())?;
+    for closed in 0..LEVELS {
+        put_break(&mut text, blank.as_str(), 4 * (LEVELS - 1 - closed))?;
+        text.push_str("}")?;
+    }
+    text.push_str("\n")?;
+    Ok(text)
+}
+
 #[test]
-fn a_tree_of_too_many_levels_is_not_printed(rt: HostRuntime) -> Result<(), AllocError> {
+fn a_tree_of_any_depth_is_printed(rt: HostRuntime) -> Result<(), AllocError> {
     let alloc = rt.alloc();
-    let script = deep_script(alloc, 1_001)?;
-    expect_run(&rt, alloc, script.as_slice(), "line 1002: refused\n", 1);
+    let script = deep_script(alloc)?;
+    let text = deep_text(alloc)?;
+    expect_run(&rt, alloc, script.as_slice(), text.as_str(), 0);
     Ok(())
 }
