@@ -4,7 +4,7 @@ use Rattle.std.proofs.lemmas.Bool.Decides.{nat_tests}
 use Rattle.std.specs.Str.{is_utf8, IsAscii}
 use Rattle.std.proofs.lemmas.Str.{IsUtf8-from_ascii, is_utf8-from_IsUtf8}
 use Rattle.plir_data.specs.Identifier.{is_letter, is_digit, all_in_identifier, is_identifier}
-use Rattle.plir_attr_text.specs.TypesAgain.{parts}
+use Rattle.plir_attr_text.specs.laws.TypesAgain.{parts}
 
 letter_small : (b : ℕ) → is_letter b ≡ true → b < 128
 letter_small b h = grind (arith, nat_tests)

@@ -8,8 +8,8 @@ use Rattle.plir_attr_text.specs.Names.{Grows, Adds}
 use Rattle.plir_attr_text.specs.Lists.{sign_at, past_sign, separator_at, items_at}
 use Rattle.plir_attr_text.specs.TypesIn.{IsBehind, IsItemAt, IsInList}
 use Rattle.plir_attr_text.specs.Reading.{Fails}
-use Rattle.plir_attr_text.specs.Fronts.{GoesOn, starts, ends_at_item, ends_behind, closes, goes_on}
-use Rattle.plir_attr_text.specs.Growth.{Adds-itself, Adds-on, Adds-as}
+use Rattle.plir_attr_text.specs.laws.Fronts.{GoesOn, starts, ends_at_item, ends_behind, closes, goes_on}
+use Rattle.plir_attr_text.specs.laws.Growth.{Adds-itself, Adds-on, Adds-as}
 
 -- what is held means the items read so far, the next one begins at rest, and only types that are written in the items before have come
 pub record Gathers {S T Y H : Type 0} (types : S → List (TypeView T)) (same : S → S → Type 0) (open_ close : ℕ) (read : List ℕ → Result (Y × List ℕ) Fault) (is_in : List ℕ → TypeTerm → Type 0) (means : List (TypeView T) → H → List Y → Type 0) (bytes : List ℕ) (first now : S) (held : H) (rest : List ℕ) : Type 0 where

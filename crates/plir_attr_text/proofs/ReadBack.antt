@@ -17,10 +17,10 @@ use Rattle.plir_attr_text.specs.Writable.{IsLeafWritable, IsWritable, AreItemsWr
 use Rattle.plir_attr_text.specs.declared.fault.ReadErr.{ReadErr}
 use Rattle.plir_attr_text.specs.declared.fault.Fault.{Fault}
 use Rattle.plir_attr_text.specs.declared.fault.Fault.TheVariants as faults
-use Rattle.plir_attr_text.specs.AttrsShown.{verified_type, text_stands}
-use Rattle.plir_attr_text.specs.Growth.{at_grown, Grows-on}
-use Rattle.plir_attr_text.specs.Meanings.{one_live, leaf_live}
-use Rattle.plir_attr_text.specs.SameMeanings.{one_meaning}
+use Rattle.plir_attr_text.specs.laws.AttrsShown.{verified_type, text_stands}
+use Rattle.plir_attr_text.specs.laws.Growth.{at_grown, Grows-on}
+use Rattle.plir_attr_text.specs.laws.Meanings.{one_live, leaf_live}
+use Rattle.plir_attr_text.specs.laws.SameMeanings.{one_meaning}
 
 -- what a table has grown from is a table
 pub table_before : {T : Type 0} (own_handles : T → List ℕ) (old new : List (TypeView T)) → Grows old new → IsTypeTable own_handles new → IsTypeTable own_handles old

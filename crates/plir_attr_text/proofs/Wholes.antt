@@ -5,28 +5,28 @@ use Rattle.plir_attr_text.specs.declared.fault.Fault.{Fault}
 use Rattle.plir_attr_text.specs.declared.fault.Fault.TheVariants.{Memory}
 use Rattle.plir_attr_text.specs.declared.fault.ReadErr.{ReadErr}
 use Rattle.plir_attr_text.specs.declared.fault.Stop.{Stop}
-use Rattle.plir_attr_text.specs.declared.fault.Stop.TheVariants.{Wanting, Crowded, At}
+use Rattle.plir_attr_text.specs.declared.fault.Stop.TheVariants.{OutOfMemory, Crowded, At}
 use Rattle.plir_attr_text.specs.Terms.{TypeTerm, TypeTerms}
 use Rattle.plir_attr_text.specs.TypeGrammar.{IsText, TypeWithin, IsInteger, FunctionWithin}
 use Rattle.plir_attr_text.specs.TypeReading.{integer_at, function_at, type_at}
 use Rattle.plir_attr_text.specs.Wholes.{end_at, whole}
 use Rattle.plir_attr_text.specs.Steps.{◌>>=◌}
 use Rattle.plir_attr_text.specs.Reading.{Fails, TellsNoPlace, is_of_text, fault_of}
-use Rattle.plir_attr_text.specs.StepLaws.{done, Fails-bind, Fails-from}
-use Rattle.plir_attr_text.specs.ListsFound.{IsSound, whole_found}
-use Rattle.plir_attr_text.specs.ListsAgain.{refused, only_one}
-use Rattle.plir_attr_text.specs.TypesFound.{integer_found, function_found, type_found}
-use Rattle.plir_attr_text.specs.TypesAgain.{integer_again, type_within_again, function_within_again}
+use Rattle.plir_attr_text.specs.laws.StepLaws.{done, Fails-bind, Fails-from}
+use Rattle.plir_attr_text.specs.laws.ListsFound.{IsSound, whole_found}
+use Rattle.plir_attr_text.specs.laws.ListsAgain.{refused, only_one}
+use Rattle.plir_attr_text.specs.laws.TypesFound.{integer_found, function_found, type_found}
+use Rattle.plir_attr_text.specs.laws.TypesAgain.{integer_again, type_within_again, function_within_again}
 
 -- a fault that is told is the one that was met
 pub told : {X : Type 0} (stop : Stop) (f : Fault) (read : Result X Fault) → f ≡ fault_of stop → Fails stop read → f ≢ Memory → read ≡ Err f
-told Wanting f read e h n = absurd (n e)
+told OutOfMemory f read e h n = absurd (n e)
 told Crowded f read e h n = absurd h
 told (At g left) f read e h n = h.0 ∙ ap (λ k. Err k) (sym e)
 
 -- no place is told where memory was wanting
-pub no_place : {X : Type 0} (stop : Stop) (e : ReadErr) (read : Result X Fault) → e.fault ≡ fault_of stop → ((stop ≡ Wanting) ⊎ (stop ≡ Crowded) → (e.line ≡ 0) × (e.column ≡ 0)) → Fails stop read → TellsNoPlace e
-no_place Wanting e read is nowhere h = λ none. nowhere (inl refl)
+pub no_place : {X : Type 0} (stop : Stop) (e : ReadErr) (read : Result X Fault) → e.fault ≡ fault_of stop → ((stop ≡ OutOfMemory) ⊎ (stop ≡ Crowded) → (e.line ≡ 0) × (e.column ≡ 0)) → Fails stop read → TellsNoPlace e
+no_place OutOfMemory e read is nowhere h = λ none. nowhere (inl refl)
 no_place Crowded e read is nowhere h = absurd h
 no_place (At f left) e read is nowhere h = λ none. absurd (true≢false (sym h.1 ∙ ap is_of_text (sym is) ∙ none))
 

@@ -5,7 +5,7 @@ use Rattle.plir_attr_text.specs.declared.fault.Fault.{Fault}
 use Rattle.plir_attr_text.specs.declared.fault.Fault.TheVariants.{Memory, TooManyNodes}
 use Rattle.plir_attr_text.specs.declared.fault.ReadErr.{ReadErr}
 use Rattle.plir_attr_text.specs.declared.fault.Stop.{Stop}
-use Rattle.plir_attr_text.specs.declared.fault.Stop.TheVariants.{Wanting, Crowded, At}
+use Rattle.plir_attr_text.specs.declared.fault.Stop.TheVariants.{OutOfMemory, Crowded, At}
 
 -- whether something is wrong with the text: it isn't where memory or room for a node is wanting
 abbrev pub is_of_text : Fault → Bool
@@ -17,7 +17,7 @@ is_of_text _ = true
 -- where
 -- `crowded` holds.
 abbrev pub Ends : {Y : Type 0} (crowded : Type 0) → Stop → Result Y Fault → Type 0
-Ends crowded Wanting read = Unit {0}
+Ends crowded OutOfMemory read = Unit {0}
 Ends crowded Crowded read = crowded
 Ends crowded (At fault left) read = (read ≡ Err fault) × (is_of_text fault ≡ true)
 
@@ -46,6 +46,6 @@ TellsNoPlace e = is_of_text e.fault ≡ false → (e.line ≡ 0) × (e.column �
 
 -- the fault of a stop
 abbrev pub fault_of : Stop → Fault
-fault_of Wanting = Memory
+fault_of OutOfMemory = Memory
 fault_of Crowded = TooManyNodes
 fault_of (At fault left) = fault

@@ -1,7 +1,7 @@
 //! The parts of attributes that hold no other.
 
 ghost use Rattle.std.specs.Prelude.{◌≡◌, ◌≤◌, ◌^◌, ◌⊎◌, IfOk, IfErr, true, false, string_bytes};
-ghost use Rattle.plir_attr_text.specs.declared.fault.Stop.TheVariants.{Wanting, At};
+ghost use Rattle.plir_attr_text.specs.declared.fault.Stop.TheVariants.{OutOfMemory, At};
 ghost use Rattle.plir_data.specs.Identifier.{is_identifier};
 ghost use Rattle.plir_attr_text.specs.Bytes.{value_after};
 ghost use Rattle.plir_attr_text.specs.Reading.{Gives};
@@ -76,7 +76,7 @@ pub fn read_attr_head(bytes: &[u8]) -> Result<(AttrKind, &[u8]), Stop>
 pub fn identifier_of(alloc: Global, word: &[u8], left: usize) -> Result<Identifier, Stop>
     ensures made { IfOk result (λ i. i ≡ word.now) }
     ensures formed { IfOk result (λ i. is_identifier word.now ≡ true) }
-    ensures refused { IfErr result (λ stop. (stop ≡ Wanting) ⊎ ((stop ≡ At Fault.Unexpected left) ×
+    ensures refused { IfErr result (λ stop. (stop ≡ OutOfMemory) ⊎ ((stop ≡ At Fault.Unexpected left) ×
         (is_identifier word.now ≡ false))) }
 {
     let Some(text) = text_of(Vec::from_slice(alloc, word)?) else {
@@ -85,7 +85,7 @@ pub fn identifier_of(alloc: Global, word: &[u8], left: usize) -> Result<Identifi
     match Identifier::try_new(alloc, text.as_str()) {
         Ok(name) => Ok(name),
         Err(IdentifierErr::Malformed) => Err(Stop::At(Fault::Unexpected, left)),
-        Err(IdentifierErr::Memory) => Err(Stop::Wanting),
+        Err(IdentifierErr::Memory) => Err(Stop::OutOfMemory),
     }
 }
 

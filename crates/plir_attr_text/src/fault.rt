@@ -1,7 +1,7 @@
 //! Why a text could not be read.
 
 ghost use Rattle.std.specs.Prelude.{◌≡◌};
-ghost use Rattle.plir_attr_text.specs.declared.fault.Stop.TheVariants.{Wanting};
+ghost use Rattle.plir_attr_text.specs.declared.fault.Stop.TheVariants.{OutOfMemory};
 
 use plir_data::Memory;
 use std::alloc::{AllocError, AllocFailed};
@@ -56,31 +56,31 @@ pub struct ReadErr {
 // stands.
 #[derive(Debug, Drop)]
 pub enum Stop {
-    Wanting,
+    OutOfMemory,
     Crowded,
     At(Fault, usize),
 }
 
 impl From<AllocError> for Stop {
-    ghost from_gives = { λ _ e. e ≡ Wanting };
+    ghost from_gives = { λ _ e. e ≡ OutOfMemory };
 
     fn from(_refused: AllocError) -> Stop {
-        Stop::Wanting
+        Stop::OutOfMemory
     }
 }
 
 impl<T: Drop> From<AllocFailed<T>> for Stop {
-    ghost from_gives = { λ _ e. e ≡ Wanting };
+    ghost from_gives = { λ _ e. e ≡ OutOfMemory };
 
     fn from(_refused: AllocFailed<T>) -> Stop {
-        Stop::Wanting
+        Stop::OutOfMemory
     }
 }
 
 impl From<Memory> for Stop {
-    ghost from_gives = { λ _ e. e ≡ Wanting };
+    ghost from_gives = { λ _ e. e ≡ OutOfMemory };
 
     fn from(_refused: Memory) -> Stop {
-        Stop::Wanting
+        Stop::OutOfMemory
     }
 }

@@ -3,7 +3,7 @@
 ghost use Rattle.std.specs.Prelude.{◌≡◌, ◌⊎◌};
 ghost use Rattle.plir_attr_text.specs.Reading.{Gives, fault_of};
 ghost use Rattle.plir_attr_text.specs.Wholes.{end_at};
-ghost use Rattle.plir_attr_text.specs.declared.fault.Stop.TheVariants.{Wanting, Crowded};
+ghost use Rattle.plir_attr_text.specs.declared.fault.Stop.TheVariants.{OutOfMemory, Crowded};
 
 use crate::fault::{Fault, ReadErr, Stop};
 use crate::tokens::past_blank;
@@ -34,10 +34,10 @@ fn nowhere(fault: Fault) -> ReadErr
 // Why a text was not read, and where.
 pub fn placed(bytes: &[u8], stop: Stop) -> ReadErr
     ensures fault { result.fault ≡ fault_of stop }
-    ensures nowhere { (stop ≡ Wanting) ⊎ (stop ≡ Crowded) → (result.line ≡ 0) × (result.column ≡ 0) }
+    ensures nowhere { (stop ≡ OutOfMemory) ⊎ (stop ≡ Crowded) → (result.line ≡ 0) × (result.column ≡ 0) }
 {
     match stop {
-        Stop::Wanting => nowhere(Fault::Memory),
+        Stop::OutOfMemory => nowhere(Fault::Memory),
         Stop::Crowded => nowhere(Fault::TooManyNodes),
         Stop::At(fault, left) => {
             let (line, column) = place(&bytes[..bytes.len() - left.min(bytes.len())]);

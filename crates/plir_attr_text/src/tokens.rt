@@ -1,7 +1,7 @@
 //! The tokens of a text.
 
 ghost use Rattle.std.specs.Prelude.{◌≡◌, ◌≤◌, ◌^◌, ◌+◌, ◌-◌, ◌*◌, ◌≢◌, MatchOption, IfErr, nat_eq};
-ghost use Rattle.plir_attr_text.specs.declared.fault.Stop.TheVariants.{Wanting};
+ghost use Rattle.plir_attr_text.specs.declared.fault.Stop.TheVariants.{OutOfMemory};
 ghost use Rattle.plir_data.specs.Identifier.{is_letter, is_digit};
 ghost use Rattle.plir_attr_text.specs.Bytes.{is_blank, is_in_name, front, past, word_past, begins, all_pass};
 ghost use Rattle.plir_attr_text.specs.Bytes.{value_after};
@@ -169,7 +169,7 @@ pub fn unread_arrow_at(bytes: &[u8]) -> usize {
 #[tactic(auto, unfolding(crate::specs::Tokens::look))]
 pub fn look(bytes: &[u8]) -> Result<(Piece<'_>, &[u8]), Stop>
     ensures found { Gives (λ x. (token_of x.0, x.1.now)) result (look bytes.now) }
-    ensures steady { IfErr result (λ stop. stop ≢ Wanting) }
+    ensures steady { IfErr result (λ stop. stop ≢ OutOfMemory) }
 {
     let bytes = past_blank(bytes);
     let [first, more @ ..] = bytes else {

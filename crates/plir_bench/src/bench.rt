@@ -1,6 +1,6 @@
 //! What the commands have made so far, and what each does.
 ghost use Rattle.std.specs.Prelude.{IfOk};
-ghost use Rattle.plir_core.specs.Store.{IsLive};
+ghost use Rattle.plir_core.specs.ContextView.{IsLive};
 ghost use Rattle.plir_core.specs.declared.ptr.IRNode.{IRNode as AnyNode};
 
 use crate::building::{build_bare, build_functions};

@@ -1,7 +1,7 @@
 //! The modules that are measured.
 ghost use Rattle.std.specs.Prelude.{IfOk, OnOk};
 ghost use Rattle.plir_core.specs.Made.{IsMade};
-ghost use Rattle.plir_core.specs.Store.{IsLive};
+ghost use Rattle.plir_core.specs.ContextView.{IsLive};
 ghost use Rattle.plir_core.specs.declared.ptr.IRNode.{IRNode as AnyNode};
 
 use crate::stop::Stop;

@@ -1,6 +1,6 @@
 //! Walks that count their calls.
 ghost use Rattle.std.specs.Prelude.{◌≡◌};
-ghost use Rattle.plir_core.specs.Store.{IsLive};
+ghost use Rattle.plir_core.specs.ContextView.{IsLive};
 ghost use Rattle.plir_core.specs.declared.ptr.IRNode.{IRNode as AnyNode};
 
 use crate::stop::Stop;

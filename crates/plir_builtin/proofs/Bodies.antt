@@ -9,7 +9,7 @@ use Rattle.plir_core.specs.declared.ptr.Region.{Region as RegionKind}
 use Rattle.plir_core.specs.declared.ptr.IRNode.{IRNode}
 use Rattle.plir_core.specs.declared.ptr.IRNode.TheVariants.{Operation, Region, BasicBlock}
 use Rattle.plir_core.specs.Nodes.{region_node, block_node}
-use Rattle.plir_core.specs.Store.{Store, kids, parent_of}
+use Rattle.plir_core.specs.ContextView.{ContextView, children, parent_of}
 use Rattle.plir_core.specs.Above.{climb, Reaches}
 use Rattle.plir_core.specs.Standing.{IsStanding}
 use Rattle.plir_builtin.specs.Symbols.{only, body}
@@ -36,18 +36,18 @@ pub not_block_op : (p : Ptr BlockKind) (q : Ptr OperationKind) → BasicBlock p 
 not_block_op p q e = cc
 
 -- A body, with the region that it stands in.
-pub record IsBody {K A T : Type 0} (s : Store K A T) (t : Ptr OperationKind) (b : IRNode) : Type 0 where
+pub record IsBody {K A T : Type 0} (s : ContextView K A T) (t : Ptr OperationKind) (b : IRNode) : Type 0 where
   pub region : Ptr RegionKind
   pub block : Ptr BlockKind
   pub is : b ≡ BasicBlock block
-  pub one_region : only (kids s (Operation t)) ≡ Some (Region region)
-  pub one_block : only (kids s (Region region)) ≡ Some (BasicBlock block)
+  pub one_region : only (children s (Operation t)) ≡ Some (Region region)
+  pub one_block : only (children s (Region region)) ≡ Some (BasicBlock block)
 
-module _ {K A T : Type 0} (s : Store K A T) where
+module _ {K A T : Type 0} (s : ContextView K A T) where
   pub body-is : (t : Ptr OperationKind) (b : IRNode) → body s t ≡ Some b → IsBody s t b
-  body-is t b e = at (only (kids s (Operation t))) refl e
+  body-is t b e = at (only (children s (Operation t))) refl e
     where
-      at : (r : Option IRNode) → only (kids s (Operation t)) ≡ r → option_and_then (λ n. only (kids s n)) r ≡ Some b → IsBody s t b
+      at : (r : Option IRNode) → only (children s (Operation t)) ≡ r → option_and_then (λ n. only (children s n)) r ≡ Some b → IsBody s t b
       at None f g = absurd (none-some b g)
       at (Some (Operation q)) f g = let i = only_listed (region_node s.nodes) _ _ (Operation q) f in absurd (not_region_op _ _ i.1)
       at (Some (BasicBlock q)) f g = let i = only_listed (region_node s.nodes) _ _ (BasicBlock q) f in absurd (not_region_block _ _ i.1)
@@ -58,8 +58,8 @@ module _ {K A T : Type 0} (s : Store K A T) where
   module _ (w : IsStanding s) where
     pub body-parent : (t : Ptr OperationKind) (b : IRNode) (i : IsBody s t b) → (parent_of s b ≡ Some (Region i.region)) × (parent_of s (Region i.region) ≡ Some (Operation t))
     body-parent t b i = (
-      ap (parent_of s) i.is ∙ w.forest.kid_parent (Region i.region) (BasicBlock i.block) (only-Has _ _ i.one_block),
-      w.forest.kid_parent (Operation t) (Region i.region) (only-Has _ _ i.one_region),
+      ap (parent_of s) i.is ∙ w.forest.child_parent (Region i.region) (BasicBlock i.block) (only-Has _ _ i.one_block),
+      w.forest.child_parent (Operation t) (Region i.region) (only-Has _ _ i.one_region),
     )
 
     -- a block is the body of one operation at most

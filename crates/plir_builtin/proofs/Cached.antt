@@ -7,7 +7,7 @@ use Rattle.plir_core.specs.declared.ptr.Ptr.{Ptr}
 use Rattle.plir_core.specs.declared.ptr.Operation.{Operation as OperationKind}
 use Rattle.plir_core.specs.declared.ptr.IRNode.TheVariants.{Operation}
 use Rattle.plir_core.specs.declared.insertion_point.OpInsertionPoint.{OpInsertionPoint}
-use Rattle.plir_core.specs.Store.{Store, is_live, IsAncestor}
+use Rattle.plir_core.specs.ContextView.{ContextView, is_live, IsAncestor}
 use Rattle.plir_core.specs.Changes.{with_op_unlinked}
 use Rattle.plir_core.specs.Unused.{IsUnusedOutside, without_tree}
 use Rattle.plir_builtin.specs.declared.symbol_table_err.SymbolTableErr.{SymbolTableErr}
@@ -32,7 +32,7 @@ use Rattle.plir_builtin.proofs.Frames.{some-is}
 use Rattle.plir_builtin.proofs.MapViews.{insert-has, ptr_total, ptr_same, ptr_reflects}
 
 -- A table that is cached for an operation, which may be edited.
-module _ {K A T : Type 0} (s : Store K A T) (c : Tables) (table : Ptr OperationKind) (ready : IsReady s c table) where
+module _ {K A T : Type 0} (s : ContextView K A T) (c : Tables) (table : Ptr OperationKind) (ready : IsReady s c table) where
   pub ready-there : None ≡ get c table → ⊥
   ready-there none = none-some table (ap (option_map (λ (t : Table). t.op)) none ∙ ready.0)
 
@@ -54,7 +54,7 @@ module _ {K A T : Type 0} (s : Store K A T) (c : Tables) (table : Ptr OperationK
     put-after u n res lent e put = subst (λ z. OnSome z (n ≡ insert c table u)) e put
 
     -- of which P holds: that all its tables agree, or that they are cached for what was given out
-    pub kept-after : (P : Store K A T → Tables → Type 0) → P s c → (r : Result (Unit {0}) SymbolTableErr) (t : Store K A T) (u : Table) (n : Tables) (res : Option (MutBor Table)) (lent : MutBor Table) → res ≡ Some lent → OnSome res (n ≡ insert c table u)
+    pub kept-after : (P : ContextView K A T → Tables → Type 0) → P s c → (r : Result (Unit {0}) SymbolTableErr) (t : ContextView K A T) (u : Table) (n : Tables) (res : Option (MutBor Table)) (lent : MutBor Table) → res ≡ Some lent → OnSome res (n ≡ insert c table u)
         → OnOk r ((d : Tables) → P s (insert d tab.op tab) → P t (insert d tab.op u)) → OnErr r ((t ≡ s) × (u ≡ tab)) → P t n
     kept-after P h r t u n res lent e put ok err = subst (P t) (sym (put-after u n res lent e put)) (at r ok err)
       where
@@ -72,7 +72,7 @@ pub told-only : (N : Type 0) (P : Refusal → Type 0) (o : Option Refusal) → (
 told-only N P o h = subst (told_or N P) (sym h.1) h.2
 
 -- The same where all tables agree.
-module _ {K A T : Type 0} (w own own_table : K → Bool) (s : Store K A T) (c : Tables) (all : AllAgree own own_table s c) (table : Ptr OperationKind) (live : is_live s (Operation table) ≡ true) (tab : Table) (has : Some tab ≡ get c table) where
+module _ {K A T : Type 0} (w own own_table : K → Bool) (s : ContextView K A T) (c : Tables) (all : AllAgree own own_table s c) (table : Ptr OperationKind) (live : is_live s (Operation table) ≡ true) (tab : Table) (has : Some tab ≡ get c table) where
   cached_at : (tab.op ≡ table) × Agrees own own_table s tab
   cached_at = all table tab (sym has) (inr live)
 
@@ -80,12 +80,12 @@ module _ {K A T : Type 0} (w own own_table : K → Bool) (s : Store K A T) (c : 
   names_same = λ i x. cached_at.1.names x i
 
   -- what a call on the table leaves and answers
-  called_so : (e : SymbolEdit) → table_of e ≡ table → (r : Result (Unit {0}) SymbolTableErr) (t : Store K A T) (u : Table) (n : Tables) → n ≡ insert c table u → AllAgree own own_table t n
+  called_so : (e : SymbolEdit) → table_of e ≡ table → (r : Result (Unit {0}) SymbolTableErr) (t : ContextView K A T) (u : Table) (n : Tables) → n ≡ insert c table u → AllAgree own own_table t n
       → OnOk r (IsMadeEdit w own own_table s e t) → IfErr r (TellsOr (IsCallGrowth w own own_table s e) (IsCallRefused w own own_table s e)) → OnErr r ((t ≡ s) × (u ≡ tab)) → IsCalled w own own_table s c e r t n
   called_so e of (Ok v) t u n put agree made refused same = (made, (u, subst (λ z. n ≡ insert c z u) (sym of) put), agree)
   called_so e of (Err x) t u n put agree made refused same = (same.0, put ∙ ap (insert c table) same.1 ∙ insert-has c table tab (sym has), refused)
 
-  module _ (o : Ptr OperationKind) (r : Result (Unit {0}) SymbolTableErr) (t : Store K A T) (u : Table) (n : Tables) (put : n ≡ insert c table u) (agree : AllAgree own own_table t n) (same : OnErr r ((t ≡ s) × (u ≡ tab))) where
+  module _ (o : Ptr OperationKind) (r : Result (Unit {0}) SymbolTableErr) (t : ContextView K A T) (u : Table) (n : Tables) (put : n ≡ insert c table u) (agree : AllAgree own own_table t n) (same : OnErr r ((t ≡ s) × (u ≡ tab))) where
     pub insert-called : (p : Option OpInsertionPoint) → (IsAncestor s (Operation o) (Operation table) → ⊥)
         → OnOk r (IsRecorded own s tab o u) → OnOk r (t ≡ inserted w s tab.op o p) → OnOk r (IsPlaceable own s tab.op o p) → IfErr r (IsInsertErr own s (get tab.names) tab.op o p) → IsCalled w own own_table s c (Insert table o p) r t n
     insert-called p away recorded after placeable refused = called_so (Insert table o p) refl r t u n put agree (made r recorded after placeable) (why r refused) same
@@ -130,7 +130,7 @@ module _ {K A T : Type 0} (w own own_table : K → Bool) (s : Store K A T) (c : 
         made (Ok v) a b = (((a.name, a.named), a.member ∙ ap (body s) cached_at.0), unused, b)
         made (Err x) a b = tt
 
-module _ {K A T : Type 0} (own own_table : K → Bool) (s : Store K A T) (c : Tables) (all : AllAgree own own_table s c) (table : Ptr OperationKind) where
+module _ {K A T : Type 0} (own own_table : K → Bool) (s : ContextView K A T) (c : Tables) (all : AllAgree own own_table s c) (table : Ptr OperationKind) where
   -- the table that is cached
   pub cached-now : is_live s (Operation table) ≡ true → IsSome (get c table) → (t : Table) × (get c table ≡ Some t) × (t.op ≡ table) × Agrees own own_table s t
   cached-now live some =
@@ -158,7 +158,7 @@ module _ {K A T : Type 0} (own own_table : K → Bool) (s : Store K A T) (c : Ta
         by_key false other h = all p u (ap (λ z. cond z (Some tab) (get c p)) (sym other) ∙ h) live
 
 -- A collection that brought a table for p.
-module _ {K A T : Type 0} (own own_table : K → Bool) (s : Store K A T) (c : Tables) (p : Ptr OperationKind) (live : is_live s (Operation p) ≡ true) (d : Tables) (kept : IsSome (get c p) → d ≡ c) (made : get c p ≡ None → IsNewlyCached own own_table s c p d) (all : AllAgree own own_table s c) where
+module _ {K A T : Type 0} (own own_table : K → Bool) (s : ContextView K A T) (c : Tables) (p : Ptr OperationKind) (live : is_live s (Operation p) ≡ true) (d : Tables) (kept : IsSome (get c p) → d ≡ c) (made : get c p ≡ None → IsNewlyCached own own_table s c p d) (all : AllAgree own own_table s c) where
   pub brought-for : IsCachedFor own own_table s d p
   brought-for = at (get c p) refl
     where
@@ -194,9 +194,9 @@ module _ {K A T : Type 0} (own own_table : K → Bool) (s : Store K A T) (c : Ta
   brought-good = subst (IsGood own own_table s) brought-for.2 brought-for.3.good
 
 -- what is cached for p may be edited, if it agrees
-pub ready-for : {K A T : Type 0} (own own_table : K → Bool) (s : Store K A T) (c : Tables) (p : Ptr OperationKind) → IsCachedFor own own_table s c p → IsReady s c p
+pub ready-for : {K A T : Type 0} (own own_table : K → Bool) (s : ContextView K A T) (c : Tables) (p : Ptr OperationKind) → IsCachedFor own own_table s c p → IsReady s c p
 ready-for own own_table s c p h = (ap (option_map (λ (t : Table). t.op)) h.1 ∙ ap Some h.2, subst (λ z. IsSome (body s z)) h.2 h.3.good.body)
 
 -- a table that agrees is good, and so is its operation under another name
-pub good-at : {K A T : Type 0} (own own_table : K → Bool) (s : Store K A T) (t : Table) (table : Ptr OperationKind) → t.op ≡ table → Agrees own own_table s t → IsGood own own_table s table
+pub good-at : {K A T : Type 0} (own own_table : K → Bool) (s : ContextView K A T) (t : Table) (table : Ptr OperationKind) → t.op ≡ table → Agrees own own_table s t → IsGood own own_table s table
 good-at own own_table s t table e a = subst (IsGood own own_table s) e a.good

@@ -8,7 +8,7 @@ use Rattle.plir_data.specs.declared.location.VerifyErr.{VerifyErr}
 use Rattle.plir_data.specs.declared.location.VerifyErr.TheVariants.{Refused, Memory}
 use Rattle.plir_core.specs.declared.ptr.Ptr.{Ptr}
 use Rattle.plir_core.specs.declared.ptr.Operation.{Operation as OperationKind}
-use Rattle.plir_core.specs.Store.{Store, result_types_of}
+use Rattle.plir_core.specs.ContextView.{ContextView, result_types_of}
 use Rattle.plir_iface.specs.Verdict.{IsRefusalMemoryAside}
 use Rattle.plir_builtin.specs.BuiltinOps.{value_of}
 use Rattle.plir_builtin.specs.ConstantFaults.{IsConstantFault, TellsMismatch, TellsUntyped}
@@ -16,11 +16,11 @@ use Rattle.plir_builtin.specs.declared.constant_op.ConstantOpVerifyErr.{Constant
 use Rattle.plir_builtin.specs.declared.constant_op.ConstantOpVerifyErr.TheVariants.{MissingValue, ValueNotTyped, ResultTypeMismatch}
 
 -- what is told by one word is told by a wider one
-pub told_wider : {K A T E : Type 0} (s : Store K A T) (op : Ptr OperationKind) (P Q : E → Type 0) → ((e : E) → P e → Q e) → (r : VerifyErr E) → IsRefusalMemoryAside s op P r → IsRefusalMemoryAside s op Q r
+pub told_wider : {K A T E : Type 0} (s : ContextView K A T) (op : Ptr OperationKind) (P Q : E → Type 0) → ((e : E) → P e → Q e) → (r : VerifyErr E) → IsRefusalMemoryAside s op P r → IsRefusalMemoryAside s op Q r
 told_wider s op P Q wider (Refused loc err) h = (h.0, wider err h.1)
 told_wider s op P Q wider Memory h = tt
 
-module _ {K A T : Type 0} (attr_own_id : A → List ℕ) (attr_own_type : A → Option ℕ) (own_id : T → List ℕ) (own_body : List (TypeView T) → T → List ℕ) (s : Store K A T) (op : Ptr OperationKind) (x : AttrView A) (there : value_of s op ≡ Some x) where
+module _ {K A T : Type 0} (attr_own_id : A → List ℕ) (attr_own_type : A → Option ℕ) (own_id : T → List ℕ) (own_body : List (TypeView T) → T → List ℕ) (s : ContextView K A T) (op : Ptr OperationKind) (x : AttrView A) (there : value_of s op ≡ Some x) where
   pub untyped_fault : attr_type attr_own_type x ≡ None → (e : ConstantOpVerifyErr) → TellsUntyped attr_own_id x e → IsConstantFault attr_own_id attr_own_type own_id own_body s op e
   untyped_fault none MissingValue told = absurd told
   untyped_fault none (ValueNotTyped id) told = (x, (there, none, told))

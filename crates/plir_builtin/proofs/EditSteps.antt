@@ -3,7 +3,7 @@ use Rattle.std.proofs.Common.{◌≡◌, ◌∙◌, Bool, Option, Some, None, Ok
 use Rattle.std.specs.FinMap.{get}
 use Rattle.plir_core.specs.declared.ptr.Ptr.{Ptr}
 use Rattle.plir_core.specs.declared.ptr.Operation.{Operation as OperationKind}
-use Rattle.plir_core.specs.Store.{Store}
+use Rattle.plir_core.specs.ContextView.{ContextView}
 use Rattle.plir_builtin.specs.declared.symbol_edits.SymbolEdit.{SymbolEdit}
 use Rattle.plir_builtin.specs.declared.symbol_edits.SymbolEditErr.{SymbolEditErr}
 use Rattle.plir_builtin.specs.declared.symbol_edits.SymbolEditErr.TheVariants.{DeadPointer, Table}
@@ -17,7 +17,7 @@ use Rattle.plir_builtin.specs.Applied.{IsCalled, IsSeenTo}
 use Rattle.plir_builtin.proofs.Brought.{brought-put}
 use Rattle.plir_builtin.proofs.Cached.{good-at}
 
-module _ {K A T : Type 0} (w f g : K → Bool) (s : Store K A T) (c : Tables) (all : AllAgree f g s c) (e : SymbolEdit) where
+module _ {K A T : Type 0} (w f g : K → Bool) (s : ContextView K A T) (c : Tables) (all : AllAgree f g s c) (e : SymbolEdit) where
   pub step-dead : (IsEditLive w f g s e → ⊥) → IsStep w f g s c e (Err DeadPointer) s c
   step-dead dead = ((refl, dead, inl refl), all)
 
@@ -48,13 +48,13 @@ module _ {K A T : Type 0} (w f g : K → Bool) (s : Store K A T) (c : Tables) (a
       step-foreseen x h = step-refused (Table x) (live, subst (IsTableToldFor w f g s c e) (sym h.1) (inr (seen-good, h.2)))
 
       -- the call refuses, or makes the edit
-      pub step-uncalled : (x : SymbolTableErr) (t : Store K A T) (n : Tables) → IsCalled w f g s d e (Err x) t n → IsStep w f g s c e (Err (Table x)) t n
+      pub step-uncalled : (x : SymbolTableErr) (t : ContextView K A T) (n : Tables) → IsCalled w f g s d e (Err x) t n → IsStep w f g s c e (Err (Table x)) t n
       step-uncalled x t n h = (
         (h.0, (live, told_by_call (told x) h.2), inr (subst (IsBrought f g s c (table_of e)) (sym h.1) brought)),
         subst (λ z. AllAgree f g z n) (sym h.0) (subst (AllAgree f g s) (sym h.1) seen.1),
       )
 
-      pub step-called : (t : Store K A T) (n : Tables) → IsCalled w f g s d e (Ok tt) t n → IsStep w f g s c e (Ok tt) t n
+      pub step-called : (t : ContextView K A T) (n : Tables) → IsCalled w f g s d e (Ok tt) t n → IsStep w f g s c e (Ok tt) t n
       step-called t n h = (
         (live, seen-good, h.0, (h.1.0, h.1.1 ∙ brought-put f g s c d (table_of e) brought.0 brought.1 h.1.0)),
         h.2,

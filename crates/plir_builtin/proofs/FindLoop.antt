@@ -10,7 +10,7 @@ use Rattle.plir_core.specs.declared.ptr.IRNode.{IRNode}
 use Rattle.plir_core.specs.declared.ptr.IRNode.TheVariants.{Operation, BasicBlock}
 use Rattle.plir_store.specs.Members.{head}
 use Rattle.plir_core.specs.Standing.{IsStanding}
-use Rattle.plir_core.specs.Store.{Store, kids, is_live, op_at, kind_in, first_kid, next_sibling}
+use Rattle.plir_core.specs.ContextView.{ContextView, children, is_live, op_at, kind_in, first_child, next_sibling}
 use Rattle.plir_builtin.specs.Symbols.{Symbols, symbols_among, symbols_of, is_symbol_kind, name_held, is_named, find_named, symbols_in}
 use Rattle.plir_builtin.specs.Left.{left_in}
 use Rattle.plir_builtin.proofs.SymbolLists.{symbols-append}
@@ -33,14 +33,14 @@ find-front x (a ∷ es) fs p e = at (λ g. find-front x es fs p g) (is_named x a
     at more true h g = ap (λ b. cond b (Some a.0) (find_named x (es ++ fs))) h ∙ g
     at more false h g = ap (λ b. cond b (Some a.0) (find_named x (es ++ fs))) h ∙ more g
 
-module _ {K A T : Type 0} (own : K → Bool) (s : Store K A T) (b : Ptr BlockKind) (x : List ℕ) where
+module _ {K A T : Type 0} (own : K → Bool) (s : ContextView K A T) (b : Ptr BlockKind) (x : List ℕ) where
   -- none of the operations before `at` is a symbol with the name
   pub record IsFinding (at : Option (Ptr OperationKind)) : Type 0 where
     pub before : List IRNode
     pub passing : IsPassing own s b before at
     pub none : find_named x (symbols_among own (op_at s) before) ≡ None
 
-  pub finding-start : (at : Option (Ptr OperationKind)) → option_map Operation at ≡ first_kid s (BasicBlock b) → first_kid s (BasicBlock b) ≡ head (kids s (BasicBlock b)) → IsFinding at
+  pub finding-start : (at : Option (Ptr OperationKind)) → option_map Operation at ≡ first_child s (BasicBlock b) → first_child s (BasicBlock b) ≡ head (children s (BasicBlock b)) → IsFinding at
   finding-start at e f = record { before = []; passing = passing-start own s b at e f; none = refl }
 
   pub finding-end : (at : Option (Ptr OperationKind)) → IsFinding at → at ≡ None → None ≡ find_named x (symbols_in own s (Some (BasicBlock b)))
@@ -56,7 +56,7 @@ module _ {K A T : Type 0} (own : K → Bool) (s : Store K A T) (b : Ptr BlockKin
         sym (ap (find_named x) cut.1
         ∙ find-front x (symbols_among own (op_at s) r.before ++ symbols_of own s p) cut.0 p (find-past x (symbols_among own (op_at s) r.before) (symbols_of own s p) r.none ∙ e))
 
-    module _ (next : Option (Ptr OperationKind)) (e : option_map Operation next ≡ next_sibling s (Operation p)) (law : (over : IRNode) (xs ys : List IRNode) → kids s over ≡ xs ++ Operation p ∷ ys → next_sibling s (Operation p) ≡ head ys) where
+    module _ (next : Option (Ptr OperationKind)) (e : option_map Operation next ≡ next_sibling s (Operation p)) (law : (over : IRNode) (xs ys : List IRNode) → children s over ≡ xs ++ Operation p ∷ ys → next_sibling s (Operation p) ≡ head ys) where
       pub finding-more : find_named x (symbols_of own s p) ≡ None → IsFinding next
       finding-more h = record {
         before = r.before ++ Operation p ∷ [];
@@ -66,11 +66,11 @@ module _ {K A T : Type 0} (own : K → Bool) (s : Store K A T) (b : Ptr BlockKin
             ∙ find-past x (symbols_among own (op_at s) r.before) (symbols_of own s p) r.none ∙ h;
       }
 
-      pub finding-falls : left_in (kids s (BasicBlock b)) next < left_in (kids s (BasicBlock b)) at
+      pub finding-falls : left_in (children s (BasicBlock b)) next < left_in (children s (BasicBlock b)) at
       finding-falls = passing-falls own s b w r.before at r.passing p is next e law
 
 -- whether one operation is a symbol with the name
-module _ {K A T : Type 0} (own : K → Bool) (s : Store K A T) (p : Ptr OperationKind) (x y : List ℕ) (kind : is_symbol_kind own (kind_in (op_at s p)) ≡ true) (name : name_held (op_at s p) ≡ Some y) (b : Bool) (e : b ≡ pointwise nat_eq x y) where
+module _ {K A T : Type 0} (own : K → Bool) (s : ContextView K A T) (p : Ptr OperationKind) (x y : List ℕ) (kind : is_symbol_kind own (kind_in (op_at s p)) ≡ true) (name : name_held (op_at s p) ≡ Some y) (b : Bool) (e : b ≡ pointwise nat_eq x y) where
   one_named : find_named x (symbols_of own s p) ≡ cond b (Some p) None
   one_named = (λ i. find_named x (cond (kind i) ((p, name i) ∷ []) [])) ∙ ap (λ c. cond c (Some p) None) (sym (e ∙ texts_ties x y))
 

@@ -26,13 +26,13 @@ use Rattle.plir_builtin.proofs.Seeking.{one-more}
 use Rattle.plir_builtin.proofs.HandedCalls.{Kept, node-called, none-breaks, last-breaks, kept-has, has-kept, kept-pairs, kept-no_break, kept-last, skipped-below, skipped-above, table-called, filtered}
 
 -- what stands under the one region of an operation stands under the operation
-pub under-region : (s : Shape) (op : Ptr OperationKind) (r : Ptr RegionKind) (n : IRNode) → s.kids (Operation op) ≡ Region r ∷ [] → StandsUnder s (Region r) n → StandsUnder s (Operation op) n
+pub under-region : (s : Shape) (op : Ptr OperationKind) (r : Ptr RegionKind) (n : IRNode) → s.children (Operation op) ≡ Region r ∷ [] → StandsUnder s (Region r) n → StandsUnder s (Operation op) n
 under-region s op r n e u = record {
   forest = u.forest;
   live = u.live;
   under_root = (
     suc u.under_root.0,
-    one-more s.parent u.under_root.0 (Some n) (Region r) u.under_root.1 ∙ u.forest.kid_parent (Operation op) (Region r) (subst (λ z. Has z (Region r)) (sym e) (inl refl)),
+    one-more s.parent u.under_root.0 (Some n) (Region r) u.under_root.1 ∙ u.forest.child_parent (Operation op) (Region r) (subst (λ z. Has z (Region r)) (sym e) (inl refl)),
   );
 }
 
@@ -168,7 +168,7 @@ passes-again is_table post n a {d} {d'} {e} {s} {s'} {u} {u'} stays shows leaves
 pub handed-over : {C S B : Type 0} (look : C → Shape) (is_table : C → Ptr OperationKind → Bool) (post : OpRelation C S B) (from : Relation C S B)
     → ((c : C) (s : S) (n : IRNode) (a : ControlFlow B WalkContinue) (c' : C) (s' : S) → from c s n a c' s' → (c' ≡ c) × PassesOn is_table post c s n a c' s')
     → (c : C) (s : S) (op : Ptr OperationKind) (reg : Ptr RegionKind) (a : ControlFlow B WalkContinue) (s' : S)
-    → (look c).kids (Operation op) ≡ Region reg ∷ [] → WalkedOver look pre_forward from c s (Region reg) a s' → HandedOver look is_table post c s op a s'
+    → (look c).children (Operation op) ≡ Region reg ∷ [] → WalkedOver look pre_forward from c s (Region reg) a s' → HandedOver look is_table post c s op a s'
 handed-over look is_table post from passes c s op reg a s' e w =
     let f = filtered look (Region reg) is_table post from passes c w.calls c s c s' refl w.chain in
     record {
@@ -176,5 +176,5 @@ handed-over look is_table post from passes c s op reg a s' e w =
       one_region = e;
       calls = f.calls;
       chain = f.chain;
-      handing = handing (is_table c) (look c).kids reg w.calls f.calls f.kept w.walk.in_order a w.walk.answers;
+      handing = handing (is_table c) (look c).children reg w.calls f.calls f.kept w.walk.in_order a w.walk.answers;
     }

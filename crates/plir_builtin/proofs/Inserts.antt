@@ -6,7 +6,7 @@ use Rattle.plir_core.specs.declared.ptr.Operation.{Operation as OperationKind}
 use Rattle.plir_core.specs.declared.ptr.BasicBlock.{BasicBlock as BlockKind}
 use Rattle.plir_core.specs.declared.ptr.IRNode.TheVariants.{Operation, BasicBlock}
 use Rattle.plir_core.specs.declared.insertion_point.OpInsertionPoint.{OpInsertionPoint}
-use Rattle.plir_core.specs.Store.{Store, parent_of}
+use Rattle.plir_core.specs.ContextView.{ContextView, parent_of}
 use Rattle.plir_builtin.specs.declared.symbol_table_err.SymbolTableErr.{SymbolTableErr}
 use Rattle.plir_builtin.specs.Symbols.{body}
 use Rattle.plir_builtin.specs.Refusals.{Refusal, redefined, elsewhere, told, told_or, IsSymbolNamed, IsNotOthers, IsInsertErr, IsInsertGrowth, InsertRefused, IsPlaceable}
@@ -17,7 +17,7 @@ told_alone : (M : Type 0) (P : Refusal → Type 0) (r : Refusal) (o : Option Ref
 told_alone M P r None h m p = m
 told_alone M P r (Some q) h m p = subst P (sym h) p
 
-module _ {K A T : Type 0} (w own : K → Bool) (s : Store K A T) (find : List ℕ → Option (Ptr OperationKind)) (t o : Ptr OperationKind) (p : Option OpInsertionPoint) (x : List ℕ) (named : IsSymbolNamed own s o x) where
+module _ {K A T : Type 0} (w own : K → Bool) (s : ContextView K A T) (find : List ℕ → Option (Ptr OperationKind)) (t o : Ptr OperationKind) (p : Option OpInsertionPoint) (x : List ℕ) (named : IsSymbolNamed own s o x) where
   pub insert-redefines : ((q : Ptr OperationKind) × (find x ≡ Some q) × (q ≡ o → ⊥)) → (e : SymbolTableErr) → IfSome (told e) (λ r. r ≡ redefined x) → IsInsertErr own s find t o p e
   insert-redefines other e h =
       told_alone (IsInsertGrowth own s find t o p) (InsertRefused own s find t o p) (redefined x) (told e) h
@@ -33,10 +33,10 @@ module _ {K A T : Type 0} (w own : K → Bool) (s : Store K A T) (find : List �
   insert-grows free b at_body None h = (x, named, inr (inr (free, inl (h ∙ sym at_body))))
   insert-grows free b at_body (Some q) h = (x, named, inr (inr (free, inr (h.0, (λ r e. h.4 r e ∙ sym at_body)))))
 
-pub planned-grows : {K A T : Type 0} (w own : K → Bool) (s : Store K A T) (find : List ℕ → Option (Ptr OperationKind)) (t o : Ptr OperationKind) (p : Option OpInsertionPoint) (x : List ℕ) (b : Ptr BlockKind) (place : Option OpInsertionPoint) → IsPlanned w own s find t o p x b place → IsInsertGrowth own s find t o p
+pub planned-grows : {K A T : Type 0} (w own : K → Bool) (s : ContextView K A T) (find : List ℕ → Option (Ptr OperationKind)) (t o : Ptr OperationKind) (p : Option OpInsertionPoint) (x : List ℕ) (b : Ptr BlockKind) (place : Option OpInsertionPoint) → IsPlanned w own s find t o p x b place → IsInsertGrowth own s find t o p
 planned-grows w own s find t o p x b place h = insert-grows w own s find t o p x h.named h.free b h.at_body place h.placed
 
-pub planned-placeable : {K A T : Type 0} (w own : K → Bool) (s : Store K A T) (find : List ℕ → Option (Ptr OperationKind)) (t o : Ptr OperationKind) (p : Option OpInsertionPoint) (x : List ℕ) (b : Ptr BlockKind) (place : Option OpInsertionPoint) → IsPlanned w own s find t o p x b place → IsPlaceable own s t o p
+pub planned-placeable : {K A T : Type 0} (w own : K → Bool) (s : ContextView K A T) (find : List ℕ → Option (Ptr OperationKind)) (t o : Ptr OperationKind) (p : Option OpInsertionPoint) (x : List ℕ) (b : Ptr BlockKind) (place : Option OpInsertionPoint) → IsPlanned w own s find t o p x b place → IsPlaceable own s t o p
 planned-placeable w own s find t o p x b place h = at place h.placed
   where
     at : (q : Option OpInsertionPoint) → IsPlace w s t o p b q → IsPlaceable own s t o p

@@ -11,27 +11,27 @@ use Rattle.plir_core.specs.declared.insertion_point.OpInsertionPoint.{OpInsertio
 use Rattle.plir_core.specs.declared.insertion_point.OpInsertionPoint.TheVariants.{AtBlockStart, BeforeOperation, AfterOperation}
 use Rattle.plir_core.specs.InsertionPoint.{insertion_block}
 use Rattle.plir_core.specs.Above.{climb}
-use Rattle.plir_core.specs.Store.{Store, kids, parent_of, IsAncestor}
+use Rattle.plir_core.specs.ContextView.{ContextView, children, parent_of, IsAncestor}
 use Rattle.plir_core.specs.Standing.{IsStanding}
 use Rattle.plir_builtin.specs.Insertion.{IsPutInto}
 use Rattle.plir_builtin.proofs.SymbolLists.{Has-cut}
 
-module _ {K A T : Type 0} (s t : Store K A T) (o : Ptr OperationKind) (block : Ptr BlockKind) (point : OpInsertionPoint) (into : insertion_block s point ≡ Some (BasicBlock block)) where
-  pub put-start : (b : Ptr BlockKind) → point ≡ AtBlockStart b → IsPlaced s.nodes t.nodes (Operation o) (BasicBlock b) (Operation o ∷ kids s (BasicBlock b)) → IsPutInto s t o (BasicBlock block)
+module _ {K A T : Type 0} (s t : ContextView K A T) (o : Ptr OperationKind) (block : Ptr BlockKind) (point : OpInsertionPoint) (into : insertion_block s point ≡ Some (BasicBlock block)) where
+  pub put-start : (b : Ptr BlockKind) → point ≡ AtBlockStart b → IsPlaced s.nodes t.nodes (Operation o) (BasicBlock b) (Operation o ∷ children s (BasicBlock b)) → IsPutInto s t o (BasicBlock block)
   put-start b e p =
       let same : BasicBlock b ≡ BasicBlock block = same_Some (BasicBlock b) (BasicBlock block) (ap (insertion_block s) (sym e) ∙ into) in
-      subst (λ n. IsPutInto s t o n) same (record { before = []; behind = kids s (BasicBlock b); cut = refl; placed = p })
+      subst (λ n. IsPutInto s t o n) same (record { before = []; behind = children s (BasicBlock b); cut = refl; placed = p })
 
-  pub put-before : IsStanding s → (m : Ptr OperationKind) → point ≡ BeforeOperation m → ((n : IRNode) (xs ys : List IRNode) → kids s n ≡ xs ++ Operation m ∷ ys → IsPlaced s.nodes t.nodes (Operation o) n (xs ++ Operation o ∷ Operation m ∷ ys)) → IsPutInto s t o (BasicBlock block)
+  pub put-before : IsStanding s → (m : Ptr OperationKind) → point ≡ BeforeOperation m → ((n : IRNode) (xs ys : List IRNode) → children s n ≡ xs ++ Operation m ∷ ys → IsPlaced s.nodes t.nodes (Operation o) n (xs ++ Operation o ∷ Operation m ∷ ys)) → IsPutInto s t o (BasicBlock block)
   put-before w m e p =
       let over : parent_of s (Operation m) ≡ Some (BasicBlock block) = ap (insertion_block s) (sym e) ∙ into in
-      let c = Has-cut (kids s (BasicBlock block)) (Operation m) (w.forest.parent_kid (BasicBlock block) (Operation m) over) in
+      let c = Has-cut (children s (BasicBlock block)) (Operation m) (w.forest.parent_child (BasicBlock block) (Operation m) over) in
       record { before = c.0; behind = Operation m ∷ c.1; cut = c.2; placed = p (BasicBlock block) c.0 c.1 c.2 }
 
-  pub put-after : IsStanding s → (m : Ptr OperationKind) → point ≡ AfterOperation m → ((n : IRNode) (xs ys : List IRNode) → kids s n ≡ xs ++ Operation m ∷ ys → IsPlaced s.nodes t.nodes (Operation o) n (xs ++ Operation m ∷ Operation o ∷ ys)) → IsPutInto s t o (BasicBlock block)
+  pub put-after : IsStanding s → (m : Ptr OperationKind) → point ≡ AfterOperation m → ((n : IRNode) (xs ys : List IRNode) → children s n ≡ xs ++ Operation m ∷ ys → IsPlaced s.nodes t.nodes (Operation o) n (xs ++ Operation m ∷ Operation o ∷ ys)) → IsPutInto s t o (BasicBlock block)
   put-after w m e p =
       let over : parent_of s (Operation m) ≡ Some (BasicBlock block) = ap (insertion_block s) (sym e) ∙ into in
-      let c = Has-cut (kids s (BasicBlock block)) (Operation m) (w.forest.parent_kid (BasicBlock block) (Operation m) over) in
+      let c = Has-cut (children s (BasicBlock block)) (Operation m) (w.forest.parent_child (BasicBlock block) (Operation m) over) in
       record {
         before = c.0 ++ Operation m ∷ [];
         behind = c.1;

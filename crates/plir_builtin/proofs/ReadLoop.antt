@@ -8,7 +8,7 @@ use Rattle.plir_core.specs.declared.ptr.IRNode.{IRNode}
 use Rattle.plir_core.specs.declared.ptr.IRNode.TheVariants.{Operation, BasicBlock}
 use Rattle.plir_store.specs.Members.{head}
 use Rattle.plir_core.specs.Standing.{IsStanding}
-use Rattle.plir_core.specs.Store.{Store, kids, is_live, op_at, kind_in, first_kid, next_sibling}
+use Rattle.plir_core.specs.ContextView.{ContextView, children, is_live, op_at, kind_in, first_child, next_sibling}
 use Rattle.plir_builtin.specs.Table.{Table}
 use Rattle.plir_builtin.specs.Symbols.{Symbols, symbols_among, symbols_in, symbols_of, body, is_table_kind}
 use Rattle.plir_builtin.specs.Refusals.{Refusal, no_table, regions, blocks, no_symbol, unnamed, redefined, elsewhere, outside, not_there, TableRefused, IsUnnamedFirst, IsRepeatedAt}
@@ -29,17 +29,17 @@ refused-more o es fs (elsewhere x) h = absurd h
 refused-more o es fs outside h = absurd h
 refused-more o es fs not_there h = absurd h
 
-module _ {K A T : Type 0} (own : K → Bool) (s : Store K A T) (b : Ptr BlockKind) where
+module _ {K A T : Type 0} (own : K → Bool) (s : ContextView K A T) (b : Ptr BlockKind) where
   -- the operations before `at` have been read
   pub record IsReading (at : Option (Ptr OperationKind)) (t : Table) : Type 0 where
     pub before : List IRNode
     pub passing : IsPassing own s b before at
     pub read : IsRead (symbols_among own (op_at s) before) t
 
-  pub reading-start : (at : Option (Ptr OperationKind)) (t : Table) → option_map Operation at ≡ first_kid s (BasicBlock b) → first_kid s (BasicBlock b) ≡ head (kids s (BasicBlock b)) → IsRead [] t → IsReading at t
+  pub reading-start : (at : Option (Ptr OperationKind)) (t : Table) → option_map Operation at ≡ first_child s (BasicBlock b) → first_child s (BasicBlock b) ≡ head (children s (BasicBlock b)) → IsRead [] t → IsReading at t
   reading-start at t e f r = record { before = []; passing = passing-start own s b at e f; read = r }
 
-  pub reading-end : (at : Option (Ptr OperationKind)) (t : Table) → IsReading at t → at ≡ None → IsRead (symbols_among own (op_at s) (kids s (BasicBlock b))) t
+  pub reading-end : (at : Option (Ptr OperationKind)) (t : Table) → IsReading at t → at ≡ None → IsRead (symbols_among own (op_at s) (children s (BasicBlock b))) t
   reading-end at t r none = subst (λ z. IsRead (symbols_among own (op_at s) z) t) (sym (passing-end own s b r.before at r.passing none)) r.read
 
   module _ (w : IsStanding s) (at : Option (Ptr OperationKind)) (t : Table) (r : IsReading at t) (p : Ptr OperationKind) (is : at ≡ Some p) where
@@ -47,14 +47,14 @@ module _ {K A T : Type 0} (own : K → Bool) (s : Store K A T) (b : Ptr BlockKin
     reading-live = passing-live own s b w r.before at r.passing p is
 
     -- an operation is refused
-    pub reading-refused : (o : Option Refusal) → IfSome o (RefusesOn t p (symbols_of own s p)) → IfSome o (FirstRefused p (symbols_among own (op_at s) (kids s (BasicBlock b))))
+    pub reading-refused : (o : Option Refusal) → IfSome o (RefusesOn t p (symbols_of own s p)) → IfSome o (FirstRefused p (symbols_among own (op_at s) (children s (BasicBlock b))))
     reading-refused None h = tt
     reading-refused (Some f) h =
         let cut = symbols-cut own s b w r.before at r.passing p is in
         subst (λ z. FirstRefused p z f) (sym cut.1)
         (refused-more p _ cut.0 f (h (symbols_among own (op_at s) r.before) r.read))
 
-    module _ (next : Option (Ptr OperationKind)) (e : option_map Operation next ≡ next_sibling s (Operation p)) (law : (over : IRNode) (xs ys : List IRNode) → kids s over ≡ xs ++ Operation p ∷ ys → next_sibling s (Operation p) ≡ head ys) where
+    module _ (next : Option (Ptr OperationKind)) (e : option_map Operation next ≡ next_sibling s (Operation p)) (law : (over : IRNode) (xs ys : List IRNode) → children s over ≡ xs ++ Operation p ∷ ys → next_sibling s (Operation p) ≡ head ys) where
       -- an operation is read
       pub reading-more : (u : Table) → ReadsOn t (symbols_of own s p) u → IsReading next u
       reading-more u h = record {
@@ -63,11 +63,11 @@ module _ {K A T : Type 0} (own : K → Bool) (s : Store K A T) (b : Ptr BlockKin
         read = subst (λ z. IsRead z u) (sym (symbols-append own (op_at s) r.before (Operation p ∷ []))) (h (symbols_among own (op_at s) r.before) r.read);
       }
 
-      pub reading-falls : left_in (kids s (BasicBlock b)) next < left_in (kids s (BasicBlock b)) at
+      pub reading-falls : left_in (children s (BasicBlock b)) next < left_in (children s (BasicBlock b)) at
       reading-falls = passing-falls own s b w r.before at r.passing p is next e law
 
 -- what is refused of the symbols of a good operation is refused of its table
-module _ {K A T : Type 0} (own own_table : K → Bool) (s : Store K A T) (t : Ptr OperationKind) (b : IRNode) (kind : is_table_kind own_table (kind_in (op_at s t)) ≡ true) (at_body : body s t ≡ Some b) where
+module _ {K A T : Type 0} (own own_table : K → Bool) (s : ContextView K A T) (t : Ptr OperationKind) (b : IRNode) (kind : is_table_kind own_table (kind_in (op_at s t)) ≡ true) (at_body : body s t ≡ Some b) where
   first-refused : (o : Ptr OperationKind) (r : Refusal) → FirstRefused o (symbols_in own s (Some b)) r → TableRefused own own_table s t r
   first-refused o unnamed h = (kind, subst IsSome (sym at_body) refl, subst (λ z. IsUnnamedFirst (symbols_in own s z)) (sym at_body) h)
   first-refused o (redefined x) h = (kind, subst IsSome (sym at_body) refl, (o, subst (λ z. IsRepeatedAt x o (symbols_in own s z)) (sym at_body) h))

@@ -8,7 +8,7 @@ use Rattle.plir_core.specs.declared.ptr.Operation.{Operation as OperationKind}
 use Rattle.plir_core.specs.declared.ptr.IRNode.{IRNode}
 use Rattle.plir_core.specs.declared.ptr.IRNode.TheVariants.{Operation, Region, BasicBlock}
 use Rattle.plir_core.specs.Above.{climb}
-use Rattle.plir_core.specs.Store.{Store, parent_of, is_live, op_above, op_at, kind_in}
+use Rattle.plir_core.specs.ContextView.{ContextView, parent_of, is_live, op_above, op_at, kind_in}
 use Rattle.plir_core.specs.Standing.{IsStanding}
 use Rattle.plir_core.specs.Measures.{depth}
 use Rattle.plir_builtin.specs.Symbols.{is_table_kind}
@@ -41,7 +41,7 @@ module _ {N : Type 0} (up : N → Option N) where
   not-past (suc j) zero (Some n) u e f = absurd (none-some n (sym f))
   not-past (suc j) (suc k) (Some n) u e f = let i = not-past j k (up n) u e f in omega (arith, i)
 
-module _ {K A T : Type 0} (own : K → Bool) (s : Store K A T) (n : Ptr OperationKind) where
+module _ {K A T : Type 0} (own : K → Bool) (s : ContextView K A T) (n : Ptr OperationKind) where
   -- `at` is come by from n, with no table on the way
   pub record IsSeeking (at : Option (Ptr OperationKind)) : Type 0 where
     pub steps : ℕ

@@ -7,7 +7,7 @@ use Rattle.plir_core.specs.declared.ptr.Operation.{Operation as OperationKind}
 use Rattle.plir_core.specs.declared.ptr.IRNode.{IRNode}
 use Rattle.plir_core.specs.declared.ptr.IRNode.TheVariants.{Operation}
 use Rattle.plir_store.specs.Members.{head}
-use Rattle.plir_core.specs.Store.{Store, kids}
+use Rattle.plir_core.specs.ContextView.{ContextView, children}
 use Rattle.plir_iface.specs.Counts.{HasNRegions}
 use Rattle.plir_iface.specs.Regions.{HasOneBlock, HasSingleBlocks, body_of}
 use Rattle.plir_builtin.specs.Symbols.{only, body}
@@ -29,27 +29,27 @@ one-of [] x n e = absurd (none-some x e)
 one-of (y ∷ []) x n e = (λ i. same_Some y x e i ∷ [])
 one-of (y ∷ z ∷ ys) x n e = absurd (omega (arith, n))
 
-module _ {K A T : Type 0} (s : Store K A T) (t : Ptr OperationKind) where
+module _ {K A T : Type 0} (s : ContextView K A T) (t : Ptr OperationKind) where
   -- the first block of the first region is the body
   pub sole-body : HasNRegions 1 s t → HasSingleBlocks s t → (b : IRNode) → body_of s t 0 ≡ Some b → body s t ≡ Some b
-  sole-body n a b e = at (kids s (Operation t)) n a e
+  sole-body n a b e = at (children s (Operation t)) n a e
     where
-      at : (rs : List IRNode) → length rs ≡ 1 → All (HasOneBlock s) rs → option_and_then (λ r. head (kids s r)) (slice_get rs 0) ≡ Some b → option_and_then (λ r. only (kids s r)) (only rs) ≡ Some b
+      at : (rs : List IRNode) → length rs ≡ 1 → All (HasOneBlock s) rs → option_and_then (λ r. head (children s r)) (slice_get rs 0) ≡ Some b → option_and_then (λ r. only (children s r)) (only rs) ≡ Some b
       at [] n a e = absurd (none-some b e)
-      at (r ∷ []) n a e = only-head (kids s r) b (a 0 r (omega arith)) e
+      at (r ∷ []) n a e = only-head (children s r) b (a 0 r (omega arith)) e
       at (r ∷ q ∷ rs) n a e = absurd (omega (arith, n))
 
   -- and where there is a body, there is one region with one block
   body-sole : IsSome (body s t) → HasNRegions 1 s t × HasSingleBlocks s t
-  body-sole h = at (kids s (Operation t)) h
+  body-sole h = at (children s (Operation t)) h
     where
       all : (r : IRNode) → HasOneBlock s r → (k : ℕ) (d : IRNode) → k < 1 → HasOneBlock s (get_or (r ∷ []) k d)
       all r one zero d k = one
       all r one (suc i) d k = absurd (omega (arith, k))
 
-      at : (rs : List IRNode) → IsSome (option_and_then (λ r. only (kids s r)) (only rs)) → (length rs ≡ 1) × All (HasOneBlock s) rs
+      at : (rs : List IRNode) → IsSome (option_and_then (λ r. only (children s r)) (only rs)) → (length rs ≡ 1) × All (HasOneBlock s) rs
       at [] h = absurd (true≢false (sym h))
-      at (r ∷ []) h = (refl, all r (only-length (kids s r) h))
+      at (r ∷ []) h = (refl, all r (only-length (children s r) h))
       at (r ∷ q ∷ rs) h = absurd (true≢false (sym h))
 
   pub body-one : IsSome (body s t) → HasNRegions 1 s t
@@ -59,16 +59,16 @@ module _ {K A T : Type 0} (s : Store K A T) (t : Ptr OperationKind) where
   body-single h = (body-sole h).1
 
   pub sole-some : HasNRegions 1 s t → HasSingleBlocks s t → IsSome (body s t)
-  sole-some n a = at (kids s (Operation t)) n a
+  sole-some n a = at (children s (Operation t)) n a
     where
       only-some : (xs : List IRNode) → length xs ≡ 1 → IsSome (only xs)
       only-some [] n = absurd (omega (arith, n))
       only-some (x ∷ []) n = refl
       only-some (x ∷ y ∷ xs) n = absurd (omega (arith, n))
 
-      at : (rs : List IRNode) → length rs ≡ 1 → All (HasOneBlock s) rs → IsSome (option_and_then (λ r. only (kids s r)) (only rs))
+      at : (rs : List IRNode) → length rs ≡ 1 → All (HasOneBlock s) rs → IsSome (option_and_then (λ r. only (children s r)) (only rs))
       at [] n a = absurd (omega (arith, n))
-      at (r ∷ []) n a = only-some (kids s r) (a 0 r (omega arith))
+      at (r ∷ []) n a = only-some (children s r) (a 0 r (omega arith))
       at (r ∷ q ∷ rs) n a = absurd (omega (arith, n))
 
   pub no-body : (HasSingleBlocks s t → ⊥) → body s t ≡ None

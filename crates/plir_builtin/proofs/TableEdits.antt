@@ -15,13 +15,13 @@ use Rattle.plir_core.specs.declared.insertion_point.OpInsertionPoint.{OpInsertio
 use Rattle.plir_store.specs.Members.{Has}
 use Rattle.plir_core.specs.Contents.{OpView}
 use Rattle.plir_core.specs.Above.{climb, Reaches}
-use Rattle.plir_core.specs.Store.{Store, is_live, kids, parent_of, op_at, kind_in, IsAncestor}
+use Rattle.plir_core.specs.ContextView.{ContextView, is_live, children, parent_of, op_at, kind_in, IsAncestor}
 use Rattle.plir_core.specs.Placed.{IsUnlinked}
 use Rattle.plir_core.specs.Erase.{IsErased}
 use Rattle.plir_core.specs.Standing.{IsStanding}
 use Rattle.plir_core.specs.Measures.{depth}
 use Rattle.plir_builtin.specs.Table.{Table, Tables}
-use Rattle.plir_builtin.specs.Symbols.{Symbols, body, kids_in, scan, symbols_among, is_symbol_kind, name_held, find_named, is_named}
+use Rattle.plir_builtin.specs.Symbols.{Symbols, body, children_in, scan, symbols_among, is_symbol_kind, name_held, find_named, is_named}
 use Rattle.plir_builtin.specs.Agree.{Agrees, AllAgree}
 use Rattle.plir_builtin.specs.Insertion.{put_at, inserted, inserted_at, unless_linked, IsPutInto}
 use Rattle.plir_builtin.specs.Refusals.{IsSymbolNamed, IsNotOthers}
@@ -55,13 +55,13 @@ found-mid : (es fs : Symbols) (p : Ptr OperationKind) (x : List ℕ) → find_na
 found-mid [] fs p x e = true≢false (sym (key_self x) ∙ (split_none (is_key x x) p (find_named x fs) e).0)
 found-mid (a ∷ es) fs p x e = found-mid es fs p x (split_none (is_named x a.1) a.0 (find_named x (es ++ (p, Some x) ∷ fs)) e).1
 
-module _ {K A T : Type 0} (own own_table : K → Bool) (s : Store K A T) (w : IsStanding s) (tab : Table) (o : Ptr OperationKind) (b : IRNode) (at_body : body s tab.op ≡ Some b) where
+module _ {K A T : Type 0} (own own_table : K → Bool) (s : ContextView K A T) (w : IsStanding s) (tab : Table) (o : Ptr OperationKind) (b : IRNode) (at_body : body s tab.op ≡ Some b) where
   -- what stands in the body is found by its name
   scanned : (x : List ℕ) → IsSymbolNamed own s o x → parent_of s (Operation o) ≡ Some b → scan own s tab.op x ≡ None → ⊥
   scanned x named over none =
-      let c = Has-cut (kids s b) (Operation o) (w.forest.parent_kid b (Operation o) over) in
+      let c = Has-cut (children s b) (Operation o) (w.forest.parent_child b (Operation o) over) in
       found-mid (symbols_among own (op_at s) c.0) (symbols_among own (op_at s) c.1) o x
-      (sym (ap (find_named x) (ap (λ z. symbols_among own (op_at s) (kids_in s z)) at_body ∙ ap (symbols_among own (op_at s)) c.2 ∙ symbols-mid own (op_at s) c.0 c.1 o x named.symbol named.name)) ∙ none)
+      (sym (ap (find_named x) (ap (λ z. symbols_among own (op_at s) (children_in s z)) at_body ∙ ap (symbols_among own (op_at s)) c.2 ∙ symbols-mid own (op_at s) c.0 c.1 o x named.symbol named.name)) ∙ none)
 
   -- what stands nowhere is not found
   unscanned : (x : List ℕ) → IsNotOthers own s (get tab.names) o x → Agrees own own_table s tab → parent_of s (Operation o) ≡ None → scan own s tab.op x ≡ None
@@ -71,8 +71,8 @@ module _ {K A T : Type 0} (own own_table : K → Bool) (s : Store K A T) (w : Is
       at None e = e
       at (Some q) e =
           let same : q ≡ o = free q (a.names x ∙ e) in
-          let listed = found-Has own (op_at s) x (kids s b) q (ap (λ z. find_named x (symbols_among own (op_at s) (kids_in s z))) (sym at_body) ∙ e) in
-          absurd (none-some b (sym alone ∙ ap (λ p. parent_of s (Operation p)) (sym same) ∙ w.forest.kid_parent b (Operation q) listed))
+          let listed = found-Has own (op_at s) x (children s b) q (ap (λ z. find_named x (symbols_among own (op_at s) (children_in s z))) (sym at_body) ∙ e) in
+          absurd (none-some b (sym alone ∙ ap (λ p. parent_of s (Operation p)) (sym same) ∙ w.forest.child_parent b (Operation q) listed))
 
   -- to record what stands there already changes no name
   agrees-stays : (x : List ℕ) → IsSymbolNamed own s o x → IsNotOthers own s (get tab.names) o x → parent_of s (Operation o) ≡ Some b → Agrees own own_table s tab → Agrees own own_table s (with_name tab x o)
@@ -89,11 +89,11 @@ module _ {K A T : Type 0} (own own_table : K → Bool) (s : Store K A T) (w : Is
       at y true e = found (scan own s tab.op x) refl ∙ ap (λ z. scan own s tab.op z) (sym (key_same y x e))
       at y false e = a.names y
 
-  edits-none : EditsBlock s s b (kids s b)
-  edits-none = record { kids_over = refl; kids = λ m live other. refl; holds = λ q live. refl; stays = λ m live. live }
+  edits-none : EditsBlock s s b (children s b)
+  edits-none = record { children_over = refl; children = λ m live other. refl; holds = λ q live. refl; stays = λ m live. live }
 
 -- An insertion that was carried out.
-module _ {K A T : Type 0} (is_terminator own own_table : K → Bool) (s t : Store K A T) (ws : IsStanding s) (wt : IsStanding t) (tab : Table) (o : Ptr OperationKind) (point : Option OpInsertionPoint) (x : List ℕ) (b : Ptr BlockKind) where
+module _ {K A T : Type 0} (is_terminator own own_table : K → Bool) (s t : ContextView K A T) (ws : IsStanding s) (wt : IsStanding t) (tab : Table) (o : Ptr OperationKind) (point : Option OpInsertionPoint) (x : List ℕ) (b : Ptr BlockKind) where
   pub record IsCarriedOut (place : Option OpInsertionPoint) : Type 0 where
     pub plan : IsPlanned is_terminator own s (get tab.names) tab.op o point x b place
     pub stays : place ≡ None → t ≡ s
@@ -104,7 +104,7 @@ module _ {K A T : Type 0} (is_terminator own own_table : K → Bool) (s t : Stor
   insert_both None h live =
       let same : s ≡ t = sym (h.stays refl) in (
         λ a. subst (λ z. Agrees own own_table z (with_name tab x o)) same (agrees-stays own own_table s ws tab o (BasicBlock b) h.plan.at_body x h.plan.named h.plan.free h.plan.placed a),
-        (kids s (BasicBlock b), subst (λ z. EditsBlock s z (BasicBlock b) (kids s (BasicBlock b))) same (edits-none own own_table s ws tab o (BasicBlock b) h.plan.at_body)),
+        (children s (BasicBlock b), subst (λ z. EditsBlock s z (BasicBlock b) (children s (BasicBlock b))) same (edits-none own own_table s ws tab o (BasicBlock b) h.plan.at_body)),
       )
   insert_both (Some q) h live =
       let p = h.put.1 in
@@ -134,9 +134,9 @@ module _ {K A T : Type 0} (is_terminator own own_table : K → Bool) (s t : Stor
   insert-not_above place plan away r = away (body-reaches s ws tab.op o (BasicBlock b) plan.at_body r)
 
 -- A removal: s became t where the operation o left the body b.
-module _ {K A T : Type 0} (own own_table : K → Bool) (s t : Store K A T) (ws : IsStanding s) (wt : IsStanding t) (tab : Table) (o : Ptr OperationKind) (x : List ℕ) (b : IRNode) (at_body : body s tab.op ≡ Some b) (over : parent_of s (Operation o) ≡ Some b) (named : IsSymbolNamed own s o x) where
-  abbrev cut_at : (xs : List IRNode) × (ys : List IRNode) × (kids s b ≡ xs ++ Operation o ∷ ys)
-  cut_at = Has-cut (kids s b) (Operation o) (ws.forest.parent_kid b (Operation o) over)
+module _ {K A T : Type 0} (own own_table : K → Bool) (s t : ContextView K A T) (ws : IsStanding s) (wt : IsStanding t) (tab : Table) (o : Ptr OperationKind) (x : List ℕ) (b : IRNode) (at_body : body s tab.op ≡ Some b) (over : parent_of s (Operation o) ≡ Some b) (named : IsSymbolNamed own s o x) where
+  abbrev cut_at : (xs : List IRNode) × (ys : List IRNode) × (children s b ≡ xs ++ Operation o ∷ ys)
+  cut_at = Has-cut (children s b) (Operation o) (ws.forest.parent_child b (Operation o) over)
 
   module _ (e : EditsBlock s t b (cut_at.0 ++ cut_at.1)) (u : Table) (is : u ≡ without_name tab x) where
     pub remove-agrees : is_live t (Operation tab.op) ≡ true → Agrees own own_table s tab → Agrees own own_table t u
@@ -186,7 +186,7 @@ module _ {K A T : Type 0} (own own_table : K → Bool) (s t : Store K A T) (ws :
   erase-live q live = q.live (Operation tab.op) not_below ∙ live
 
 -- The same, from what a call knows.
-module _ {K A T : Type 0} (own own_table : K → Bool) (s t : Store K A T) (ws : IsStanding s) (wt : IsStanding t) (tab : Table) (o : Ptr OperationKind) (x : List ℕ) (named : IsSymbolNamed own s o x) (some : IsSome (body s tab.op))
+module _ {K A T : Type 0} (own own_table : K → Bool) (s t : ContextView K A T) (ws : IsStanding s) (wt : IsStanding t) (tab : Table) (o : Ptr OperationKind) (x : List ℕ) (named : IsSymbolNamed own s o x) (some : IsSome (body s tab.op))
     (member : parent_of s (Operation o) ≡ body s tab.op) (live : is_live s (Operation tab.op) ≡ true) (u : Table) (is : u ≡ without_name tab x) where
   abbrev b_at : (b : IRNode) × (body s tab.op ≡ Some b)
   b_at = some-is (body s tab.op) some

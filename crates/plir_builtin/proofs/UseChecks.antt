@@ -9,7 +9,7 @@ use Rattle.plir_data.specs.declared.location.VerifyErr.TheVariants.{Refused, Mem
 use Rattle.plir_core.specs.declared.ptr.Ptr.{Ptr}
 use Rattle.plir_core.specs.declared.ptr.Operation.{Operation as OperationKind}
 use Rattle.plir_core.specs.declared.ptr.IRNode.TheVariants.{Operation, Region}
-use Rattle.plir_core.specs.Store.{Store, kids}
+use Rattle.plir_core.specs.ContextView.{ContextView, children}
 use Rattle.plir_walk.specs.declared.interruptible.WalkContinue.{WalkContinue}
 use Rattle.plir_builtin.specs.Maps.{ptr_cmp}
 use Rattle.plir_builtin.specs.Table.{Tables}
@@ -21,13 +21,13 @@ use Rattle.plir_walk.specs.Tree.{NodeBefore}
 use Rattle.plir_builtin.specs.declared.symbol_table_op.SymbolTableInterfaceErr.{SymbolTableInterfaceErr}
 
 -- where no table is cached, all agree
-pub agree-empty : {K A T : Type 0} (own own_table : K → Bool) (s : Store K A T) (c : Tables) → c ≡ map.empty → AllAgree own own_table s c
+pub agree-empty : {K A T : Type 0} (own own_table : K → Bool) (s : ContextView K A T) (c : Tables) → c ≡ map.empty → AllAgree own own_table s c
 agree-empty own own_table s c e p t h live = absurd (none-some t (sym (ap (λ (z : Tables). get z p) e ∙ get-empty ptr_cmp p) ∙ h))
 
 module _ {K A T E B : Type 0} (own own_table user : K → Bool) (holds : UseRule K A T)
     (refusal : UseRefusal K A T E) (told : B → VerifyErr E) where
   -- the same call, as the walk sees it
-  pub use-again : {e d : Store K A T} {u s u' s' : Tables} (p : Ptr OperationKind) (a : ControlFlow B WalkContinue)
+  pub use-again : {e d : ContextView K A T} {u s u' s' : Tables} (p : Ptr OperationKind) (a : ControlFlow B WalkContinue)
       → (e ≡ d) × (u ≡ s) → u' ≡ s'
       → IsUseCheck own own_table user holds refusal told e u p a u'
       → IsUseCheck own own_table user holds refusal told d s p a s'
@@ -37,12 +37,12 @@ module _ {K A T E B : Type 0} (own own_table user : K → Bool) (holds : UseRule
       (subst (λ z. IsUseCheck own own_table user holds refusal told z u p a u') shows.0 h))
 
 module _ {K A T E : Type 0} (own_table user : K → Bool) (holds : UseRule K A T)
-    (refusal : UseRefusal K A T E) (s : Store K A T) (t : Ptr OperationKind) where
+    (refusal : UseRefusal K A T E) (s : ContextView K A T) (t : Ptr OperationKind) where
   -- what is told of the first user whose uses don't hold
   pub first-told : (e : VerifyErr E) (p : Ptr OperationKind) (u : IsHandedUser own_table s user t p)
       → IsUseRefused (holds s p) (refusal s p) e
       → ((q : Ptr OperationKind) → IsHandedUser own_table s user t q
-      → NodeBefore pre_forward (kids s) (Region u.handed.region) (Operation q) (Operation p) → holds s q)
+      → NodeBefore pre_forward (children s) (Region u.handed.region) (Operation q) (Operation p) → holds s q)
       → IsUsesRefusal own_table user holds refusal s t e
   first-told (Refused loc err) p u r f = record { op = p; is_user = u; fails = r.0; told = r.1; before = f }
   first-told Memory p u r f = tt

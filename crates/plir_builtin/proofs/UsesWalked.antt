@@ -65,13 +65,13 @@ module _ {C S B : Type 0} (look : C → Shape) (post : OpRelation C S B) (c0 : C
       → (b : B) → a ≡ Break b → (user p ≡ true) × Refuses p b) where
     -- what is handed over at the end is to be handed over by the calls
     to-hand : (a : ControlFlow B WalkContinue) (h : HandedOver look is_table post c0 s t a s') (p : Ptr OperationKind)
-        → IsHanded (look c0).kids (is_table c0) t p → IsToHand (is_table c0) (look c0).kids (Region h.region) h.calls p
+        → IsHanded (look c0).children (is_table c0) t p → IsToHand (is_table c0) (look c0).children (Region h.region) h.calls p
     to-hand a h p o =
         let same : Region o.region ≡ Region h.region =
         ap Region (sym (same_region o.region h.region (sym h.one_region ∙ o.one_region))) in
         record {
-          below = subst (λ z. IsProperlyUnder (look c0).kids z (Operation p)) same o.below;
-          no_table = λ q v w. o.no_table q (subst (λ z. IsProperlyUnder (look c0).kids z (Operation q)) (sym same) v) w;
+          below = subst (λ z. IsProperlyUnder (look c0).children z (Operation p)) same o.below;
+          no_table = λ q v w. o.no_table q (subst (λ z. IsProperlyUnder (look c0).children z (Operation q)) (sym same) v) w;
           no_skip = λ a y v.
               let m = each-made (Region h.region) h.calls c0 s c0 s' refl i h.chain y.0 y.1 in
               never y.0.state m.op y.0.answer y.0.left m.met y.3;
@@ -88,7 +88,7 @@ module _ {C S B : Type 0} (look : C → Shape) (post : OpRelation C S B) (c0 : C
         advances x.state p x.answer x.left met m.inv (plain x.answer (never x.state p x.answer x.left met) quiet) u
 
     holds-all : (k : WalkContinue) → HandedOver look is_table post c0 s t (Continue k) s' → (p : Ptr OperationKind)
-        → IsHanded (look c0).kids (is_table c0) t p → user p ≡ true → holds p
+        → IsHanded (look c0).children (is_table c0) t p → user p ≡ true → holds p
     holds-all k h p o u =
         let x = call-of h.calls (Operation p) ((h.handing.answers.2 p).1 (to-hand (Continue k) h p o)) in
         past (Continue k) h p x.0 x.1 x.2 (none-breaks h.calls h.handing.answers.1 x.0 x.1) u
@@ -96,21 +96,21 @@ module _ {C S B : Type 0} (look : C → Shape) (post : OpRelation C S B) (c0 : C
     -- the first operation that is handed over whose uses are refused, and how
     pub record IsFirst (b : B) : Type 0 where
       pub op : Ptr OperationKind
-      pub handed : IsHanded (look c0).kids (is_table c0) t op
+      pub handed : IsHanded (look c0).children (is_table c0) t op
       pub is_user : user op ≡ true
       pub refused : Refuses op b
-      pub before : (q : Ptr OperationKind) → IsHanded (look c0).kids (is_table c0) t q → user q ≡ true
-          → NodeBefore pre_forward (look c0).kids (Region handed.region) (Operation q) (Operation op) → holds q
+      pub before : (q : Ptr OperationKind) → IsHanded (look c0).children (is_table c0) t q → user q ≡ true
+          → NodeBefore pre_forward (look c0).children (Region handed.region) (Operation q) (Operation op) → holds q
 
     -- before the operation of the last call, all uses hold
     holds-before : (b : B) (h : HandedOver look is_table post c0 s t (Break b) s')
-        → IsTotalOrder pre_forward (look c0).kids (Region h.region) → (p : Ptr OperationKind)
+        → IsTotalOrder pre_forward (look c0).children (Region h.region) → (p : Ptr OperationKind)
         → h.handing.answers.end.node ≡ Operation p
-        → (q : Ptr OperationKind) → IsHanded (look c0).kids (is_table c0) t q → user q ≡ true
-        → NodeBefore pre_forward (look c0).kids (Region h.region) (Operation q) (Operation p) → holds q
+        → (q : Ptr OperationKind) → IsHanded (look c0).children (is_table c0) t q → user q ≡ true
+        → NodeBefore pre_forward (look c0).children (Region h.region) (Operation q) (Operation p) → holds q
     holds-before b h order p at q o u lt =
-        let k : HandsUpToBreak (is_table c0) (look c0).kids (Region h.region) h.calls b = h.handing.answers in
-        let Less : IRNode → IRNode → Type 0 = NodeBefore pre_forward (look c0).kids (Region h.region) in
+        let k : HandsUpToBreak (is_table c0) (look c0).children (Region h.region) h.calls b = h.handing.answers in
+        let Less : IRNode → IRNode → Type 0 = NodeBefore pre_forward (look c0).children (Region h.region) in
         let within : Less k.end.node (Operation q) → ⊥ =
         λ e. order.irreflexive (Operation q)
         (order.transitive (Operation q) (Operation p) (Operation q) lt (subst (λ n. Less n (Operation q)) at e)) in
@@ -123,13 +123,13 @@ module _ {C S B : Type 0} (look : C → Shape) (post : OpRelation C S B) (c0 : C
 
     fails-one : (b : B) → BeforeOrders → HandedOver look is_table post c0 s t (Break b) s' → IsFirst b
     fails-one b orders h =
-        let k : HandsUpToBreak (is_table c0) (look c0).kids (Region h.region) h.calls b = h.handing.answers in
+        let k : HandsUpToBreak (is_table c0) (look c0).children (Region h.region) h.calls b = h.handing.answers in
         let has : Has h.calls k.end = subst (λ z. Has z k.end) (sym k.are) (Has-mid k.front [] k.end) in
         let m = each-made (Region h.region) h.calls c0 s c0 s' refl i h.chain k.end has in
         let to = ((k.exactly m.op).0
         (subst (λ z. Has (nodes_of h.calls) z) m.node (node-called h.calls k.end has))).0 in
         let r = breaks k.end.state m.op k.end.answer k.end.left m.met m.inv b k.broke in
-        let order = orders pre_forward (look c0).kids (Region h.region) h.handing.one_place in
+        let order = orders pre_forward (look c0).children (Region h.region) h.handing.one_place in
         record {
           op = m.op;
           handed = record { region = h.region; one_region = h.one_region; below = to.below; no_table = to.no_table };
@@ -141,7 +141,7 @@ module _ {C S B : Type 0} (look : C → Shape) (post : OpRelation C S B) (c0 : C
     -- where the walk broke nowhere, all uses hold; where it broke, the first is told that does not
     pub all-hold : (a : ControlFlow B WalkContinue) (k : WalkContinue) → a ≡ Continue k
         → HandedOver look is_table post c0 s t a s'
-        → (p : Ptr OperationKind) → IsHanded (look c0).kids (is_table c0) t p → user p ≡ true → holds p
+        → (p : Ptr OperationKind) → IsHanded (look c0).children (is_table c0) t p → user p ≡ true → holds p
     all-hold a k e h = holds-all k (subst (λ z. HandedOver look is_table post c0 s t z s') e h)
 
     pub first-fails : (a : ControlFlow B WalkContinue) (b : B) → a ≡ Break b → BeforeOrders

@@ -6,7 +6,7 @@ use Rattle.plir_data.specs.Types.{TypeView}
 use Rattle.plir_data.specs.TypeText.{type_text}
 use Rattle.plir_core.specs.declared.ptr.Ptr.{Ptr}
 use Rattle.plir_core.specs.declared.ptr.Operation.{Operation as OperationKind}
-use Rattle.plir_core.specs.Store.{Store, result_types_of}
+use Rattle.plir_core.specs.ContextView.{ContextView, result_types_of}
 use Rattle.plir_builtin.specs.BuiltinOps.{value_of}
 use Rattle.plir_builtin.specs.declared.constant_op.ConstantOpVerifyErr.{ConstantOpVerifyErr}
 use Rattle.plir_builtin.specs.declared.constant_op.ConstantOpVerifyErr.TheVariants.{MissingValue, ValueNotTyped}
@@ -27,7 +27,7 @@ TellsMismatch own_id own_body types given wanted _ = ⊥
 -- There is no value; or there is one without a type; or it has one, and the result has another.
 abbrev pub IsConstantFault : {K A T : Type 0} → (attr_own_id : A → List ℕ) (attr_own_type : A → Option ℕ)
     (own_id : T → List ℕ) (own_body : List (TypeView T) → T → List ℕ)
-    → Store K A T → Ptr OperationKind → ConstantOpVerifyErr → Type 0
+    → ContextView K A T → Ptr OperationKind → ConstantOpVerifyErr → Type 0
 IsConstantFault {K} {A} {T} attr_own_id attr_own_type own_id own_body s op MissingValue = value_of s op ≡ None
 IsConstantFault {K} {A} {T} attr_own_id attr_own_type own_id own_body s op (ValueNotTyped id) =
     (x : AttrView A) × ((value_of s op ≡ Some x) × (attr_type attr_own_type x ≡ None) ×

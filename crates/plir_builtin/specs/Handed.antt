@@ -8,7 +8,7 @@ use Rattle.plir_core.specs.declared.ptr.Region.{Region as RegionKind}
 use Rattle.plir_core.specs.declared.ptr.IRNode.{IRNode}
 use Rattle.plir_core.specs.declared.ptr.IRNode.TheVariants.{Operation, Region, BasicBlock}
 use Rattle.plir_store.specs.Members.{Has}
-use Rattle.plir_core.specs.Store.{Store, kind_of}
+use Rattle.plir_core.specs.ContextView.{ContextView, kind_of}
 use Rattle.plir_core.specs.Forest.{Shape}
 use Rattle.plir_walk.specs.declared.config.TheConstants.{WALKCONFIG_PREORDER_FORWARD as pre_forward}
 use Rattle.plir_walk.specs.declared.interruptible.WalkContinue.{WalkContinue}
@@ -84,10 +84,10 @@ pub record HandedOver {C S B : Type 0} (look : C → Shape) (is_table : C → Pt
     (post : OpRelation C S B) (c : C) (s : S) (t : Ptr OperationKind) (answer : ControlFlow B WalkContinue) (s' : S) :
     Type 0 where
   pub region : Ptr RegionKind
-  pub one_region : (look c).kids (Operation t) ≡ Region region ∷ []
+  pub one_region : (look c).children (Operation t) ≡ Region region ∷ []
   pub calls : List (Call C S B)
   pub chain : Chain (IsCallUnder look (Region region) (AtOps post)) c s calls c s'
-  pub handing : IsHanding (is_table c) (look c).kids (Region region) calls answer
+  pub handing : IsHanding (is_table c) (look c).children (Region region) calls answer
 
 -- the answer at a table, that is not to be entered
 abbrev pub not_entering : {B : Type 0} → Bool → ControlFlow B WalkContinue → ControlFlow B WalkContinue
@@ -103,5 +103,5 @@ PassesOn is_table post c s (Region p) a c' s' = (a ≡ Continue Advance) × (s' 
 PassesOn is_table post c s (BasicBlock p) a c' s' = (a ≡ Continue Advance) × (s' ≡ s)
 
 -- whether an operation of a context is of table kind
-abbrev pub is_table_at : {K A T : Type 0} → (own_table : K → Bool) → Store K A T → Ptr OperationKind → Bool
+abbrev pub is_table_at : {K A T : Type 0} → (own_table : K → Bool) → ContextView K A T → Ptr OperationKind → Bool
 is_table_at own_table s p = is_table_kind own_table (kind_of s p)

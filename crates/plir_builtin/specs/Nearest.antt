@@ -6,7 +6,7 @@ use Rattle.plir_core.specs.declared.ptr.Operation.{Operation as OperationKind}
 use Rattle.plir_core.specs.declared.ptr.IRNode.{IRNode}
 use Rattle.plir_core.specs.declared.ptr.IRNode.TheVariants.{Operation, Region, BasicBlock}
 use Rattle.plir_core.specs.Above.{climb}
-use Rattle.plir_core.specs.Store.{Store, op_above, op_at, kind_in}
+use Rattle.plir_core.specs.ContextView.{ContextView, op_above, op_at, kind_in}
 use Rattle.plir_builtin.specs.declared.symbol_table_err.SymbolTableErr.{SymbolTableErr}
 use Rattle.plir_builtin.specs.Table.{Tables}
 use Rattle.plir_builtin.specs.Symbols.{IsGood, is_table_kind, scan}
@@ -22,12 +22,13 @@ as_op (Some (BasicBlock p)) = None
 
 module _ {K A T : Type 0} where
   -- the parent operation of an operation
-  abbrev pub op_over : Store K A T → Ptr OperationKind → Option (Ptr OperationKind)
+  abbrev pub op_over : ContextView K A T → Ptr OperationKind → Option (Ptr OperationKind)
   op_over s p = as_op (op_above s (Operation p))
 
   -- the first of n, its parent operation, that one's parent operation and so on that is of table kind, or none of them
   -- is
-  abbrev pub IsNearest : (own_table : K → Bool) → Store K A T → Ptr OperationKind → Option (Ptr OperationKind) → Type 0
+  abbrev pub IsNearest : (own_table : K → Bool) → ContextView K A T → Ptr OperationKind → Option (Ptr OperationKind)
+      → Type 0
   IsNearest own_table s n (Some t) =
       (k : ℕ) × (climb (op_over s) k (Some n) ≡ Some t) × (is_table_kind own_table (kind_in (op_at s t)) ≡ true)
       × ((j : ℕ) (u : Ptr OperationKind) → j < k → climb (op_over s) j (Some n) ≡ Some u →
@@ -40,7 +41,7 @@ abbrev pub levels_up : (IRNode → ℕ) → Option (Ptr OperationKind) → ℕ
 levels_up depth None = 0
 levels_up depth (Some p) = suc (depth (Operation p))
 
-module _ {K A T : Type 0} (own_symbol own_table : K → Bool) (s : Store K A T) where
+module _ {K A T : Type 0} (own_symbol own_table : K → Bool) (s : ContextView K A T) where
   -- what is found under the name x in the nearest table, which is good
   abbrev pub IsFoundNearest : Ptr OperationKind → List ℕ → Option (Ptr OperationKind) → Type 0
   IsFoundNearest n x r =

@@ -6,7 +6,7 @@ use Rattle.plir_data.specs.declared.location.VerifyErr.{VerifyErr}
 use Rattle.plir_data.specs.declared.location.VerifyErr.TheVariants.{Refused, Memory}
 use Rattle.plir_core.specs.declared.ptr.Ptr.{Ptr}
 use Rattle.plir_core.specs.declared.ptr.Operation.{Operation as OperationKind}
-use Rattle.plir_core.specs.Store.{Store}
+use Rattle.plir_core.specs.ContextView.{ContextView}
 use Rattle.plir_iface.specs.Counts.{HasNRegions, HasNOpds, HasNResults}
 use Rattle.plir_iface.specs.CountRefusals.{BreaksNRegions, BreaksNOpds, BreaksNResults}
 use Rattle.plir_iface.specs.Regions.{HasSingleBlocks, BreaksSingleBlocks}
@@ -27,7 +27,7 @@ use Rattle.plir_builtin.specs.declared.op_verify_err.OpVerifyErr.TheVariants.{NR
 use Rattle.plir_builtin.specs.declared.op_verify_err.OpVerifyErr.TheVariants.{SymbolOp, NOpds, NResults, FuncType}
 use Rattle.plir_builtin.specs.declared.op_verify_err.OpVerifyErr.TheVariants.{ConstantValue, ForwardRefExistence}
 
-module _ {K A T : Type 0} (s : Store K A T) (op : Ptr OperationKind) where
+module _ {K A T : Type 0} (s : ContextView K A T) (op : Ptr OperationKind) where
   -- One rule is broken, and told: the number of regions, of operands or of results is another than n; a region has not
   -- one block; the name is wanting; the type of functions is wanting.
   abbrev pub RegionsBroken : ℕ → VerifyErr NRegionsVerifyErr → Type 0

@@ -6,7 +6,7 @@ use Rattle.plir_core.specs.declared.ptr.Operation.{Operation as OperationKind}
 use Rattle.plir_core.specs.declared.ptr.IRNode.TheVariants.{Operation}
 use Rattle.plir_core.specs.declared.insertion_point.OpInsertionPoint.{OpInsertionPoint}
 use Rattle.plir_core.specs.InsertionPoint.{insertion_block}
-use Rattle.plir_core.specs.Store.{Store, kids, parent_of, op_at, kind_in}
+use Rattle.plir_core.specs.ContextView.{ContextView, children, parent_of, op_at, kind_in}
 use Rattle.plir_builtin.specs.declared.symbol_table_err.SymbolTableErr.{SymbolTableErr}
 use Rattle.plir_builtin.specs.declared.symbol_table_err.SymbolTableErr.TheVariants as E
 use Rattle.plir_builtin.specs.Symbols.{Symbols, is_symbol_kind, is_table_kind, name_held, find_named, body, symbols}
@@ -52,7 +52,7 @@ TellsOr M P e = told_or M P (told e)
 abbrev pub TellsOnly : (Refusal → Type 0) → SymbolTableErr → Type 0
 TellsOnly P e = (r : Refusal) × (told e ≡ Some r) × P r
 
-module _ {K A T : Type 0} (own_symbol : K → Bool) (s : Store K A T) where
+module _ {K A T : Type 0} (own_symbol : K → Bool) (s : ContextView K A T) where
   -- the operation is a symbol with the name x
   pub record IsSymbolNamed (o : Ptr OperationKind) (x : List ℕ) : Type 0 where
     pub symbol : is_symbol_kind own_symbol (kind_in (op_at s o)) ≡ true
@@ -124,11 +124,11 @@ IsRepeatedAt x o es = (front : Symbols) × (back : Symbols) × (es ≡ front ++ 
 abbrev pub IsRepeatedFirst : List ℕ → Symbols → Type 0
 IsRepeatedFirst x es = (o : Ptr OperationKind) × IsRepeatedAt x o es
 
-module _ {K A T : Type 0} (s : Store K A T) where
+module _ {K A T : Type 0} (s : ContextView K A T) where
   -- the operation t has no body: it has not one region, or that has not one block
   abbrev pub BodyRefused : Ptr OperationKind → Refusal → Type 0
-  BodyRefused t (regions m n) = (m ≡ 1) × (length (kids s (Operation t)) ≡ n) × (n ≢ 1)
-  BodyRefused t blocks = (length (kids s (Operation t)) ≡ 1) × (body s t ≡ None)
+  BodyRefused t (regions m n) = (m ≡ 1) × (length (children s (Operation t)) ≡ n) × (n ≢ 1)
+  BodyRefused t blocks = (length (children s (Operation t)) ≡ 1) × (body s t ≡ None)
   BodyRefused t no_table = ⊥
   BodyRefused t unnamed = ⊥
   BodyRefused t (redefined x) = ⊥
@@ -138,7 +138,7 @@ module _ {K A T : Type 0} (s : Store K A T) where
   BodyRefused t not_there = ⊥
 
 -- a table for t is refused
-module _ {K A T : Type 0} (own_symbol own_table : K → Bool) (s : Store K A T) where
+module _ {K A T : Type 0} (own_symbol own_table : K → Bool) (s : ContextView K A T) where
   abbrev pub TableRefused : Ptr OperationKind → Refusal → Type 0
   TableRefused t no_table = is_table_kind own_table (kind_in (op_at s t)) ≡ false
   TableRefused t (regions m n) = (is_table_kind own_table (kind_in (op_at s t)) ≡ true) × BodyRefused s t (regions m n)

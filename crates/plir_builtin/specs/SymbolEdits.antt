@@ -6,7 +6,7 @@ use Rattle.plir_core.specs.declared.ptr.Ptr.{Ptr}
 use Rattle.plir_core.specs.declared.ptr.Operation.{Operation as OperationKind}
 use Rattle.plir_core.specs.declared.ptr.IRNode.TheVariants.{Operation}
 use Rattle.plir_core.specs.InsertionPoint.{IsPointLive}
-use Rattle.plir_core.specs.Store.{Store, IsLive, IsAncestor, parent_of}
+use Rattle.plir_core.specs.ContextView.{ContextView, IsLive, IsAncestor, parent_of}
 use Rattle.plir_core.specs.Changes.{with_op_unlinked}
 use Rattle.plir_core.specs.Unused.{IsUnusedOutside, without_tree}
 use Rattle.plir_builtin.specs.declared.symbol_edits.SymbolEdit.{SymbolEdit}
@@ -26,7 +26,7 @@ table_of (Insert t o p) = t
 table_of (Remove t o) = t
 table_of (Erase t o) = t
 
-module _ {K A T : Type 0} (is_terminator own_symbol own_table : K → Bool) (s : Store K A T) where
+module _ {K A T : Type 0} (is_terminator own_symbol own_table : K → Bool) (s : ContextView K A T) where
   -- all that the edit names is live
   abbrev pub IsEditLive : SymbolEdit → Type 0
   IsEditLive (Insert t o p) = IsLive s (Operation t) × IsLive s (Operation o) × IfSome p (IsPointLive s)
@@ -38,7 +38,7 @@ module _ {K A T : Type 0} (is_terminator own_symbol own_table : K → Bool) (s :
   IsMember t o = ((x : List ℕ) × IsSymbolNamed own_symbol s o x) × (parent_of s (Operation o) ≡ body s t)
 
   -- the edit is made: its conditions hold, and this is the context afterwards
-  abbrev pub IsMadeEdit : SymbolEdit → Store K A T → Type 0
+  abbrev pub IsMadeEdit : SymbolEdit → ContextView K A T → Type 0
   IsMadeEdit (Insert t o p) s' =
       (IsAncestor s (Operation o) (Operation t) → ⊥) × ((x : List ℕ) × IsSymbolNamed own_symbol s o x ×
       IsNotOthers own_symbol s (scan own_symbol s t) o x) × IsPlaceable own_symbol s t o p
@@ -96,24 +96,24 @@ module _ {K A T : Type 0} (is_terminator own_symbol own_table : K → Bool) (s :
 
     -- what an edit answers, and the context and the cached tables afterwards: where it is made, the edited table is
     -- cached, and all else is cached as it was
-    abbrev pub IsEdited : SymbolEdit → Result (Unit {0}) SymbolEditErr → Store K A T → Tables → Type 0
+    abbrev pub IsEdited : SymbolEdit → Result (Unit {0}) SymbolEditErr → ContextView K A T → Tables → Type 0
     IsEdited e (Ok u) s' c' =
         IsEditLive e × IsGood own_symbol own_table s (table_of e) × IsMadeEdit e s'
         × ((t : CachedTable) × (c' ≡ map.insert c (table_of e) t))
     IsEdited e (Err x) s' c' = (s' ≡ s) × IsRefusedEdit e x × IsAtMostBrought e c'
 
     -- the same, and all tables agree afterwards
-    abbrev pub IsStep : SymbolEdit → Result (Unit {0}) SymbolEditErr → Store K A T → Tables → Type 0
+    abbrev pub IsStep : SymbolEdit → Result (Unit {0}) SymbolEditErr → ContextView K A T → Tables → Type 0
     IsStep e r s' c' = IsEdited e r s' c' × AllAgree own_symbol own_table s' c'
 
 module _ {K A T : Type 0} (is_terminator own_symbol own_table : K → Bool) where
   -- The answers to edits one after another, from a context and its cached tables to those afterwards: each edit goes on
   -- from what the one before it left, and after each of them all tables agree.
-  abbrev pub AreEdited : Store K A T → Tables → List SymbolEdit → List (Result (Unit {0}) SymbolEditErr) →
-      Store K A T → Tables → Type 0
+  abbrev pub AreEdited : ContextView K A T → Tables → List SymbolEdit → List (Result (Unit {0}) SymbolEditErr) →
+      ContextView K A T → Tables → Type 0
   AreEdited s c [] [] s' c' = (s' ≡ s) × (c' ≡ c)
   AreEdited s c [] (r ∷ rs) s' c' = ⊥
   AreEdited s c (e ∷ es) [] s' c' = ⊥
   AreEdited s c (e ∷ es) (r ∷ rs) s' c' =
-      (m : Store K A T) × (d : Tables) × IsStep is_terminator own_symbol own_table s c e r m d ×
+      (m : ContextView K A T) × (d : Tables) × IsStep is_terminator own_symbol own_table s c e r m d ×
       AreEdited m d es rs s' c'

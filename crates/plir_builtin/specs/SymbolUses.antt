@@ -9,7 +9,7 @@ use Rattle.plir_core.specs.declared.ptr.Ptr.{Ptr}
 use Rattle.plir_core.specs.declared.ptr.Operation.{Operation as OperationKind}
 use Rattle.plir_core.specs.declared.ptr.Region.{Region as RegionKind}
 use Rattle.plir_core.specs.declared.ptr.IRNode.TheVariants.{Operation, Region}
-use Rattle.plir_core.specs.Store.{Store, kids, kind_of, location_of}
+use Rattle.plir_core.specs.ContextView.{ContextView, children, kind_of, location_of}
 use Rattle.plir_walk.specs.declared.config.TheConstants.{WALKCONFIG_PREORDER_FORWARD as pre_forward}
 use Rattle.plir_walk.specs.Tree.{Tree, IsProperlyUnder, NodeBefore}
 use Rattle.plir_builtin.specs.declared.symbol_table_op.SymbolTableInterfaceErr.{SymbolTableInterfaceErr}
@@ -33,10 +33,10 @@ is_user_kind own _ = false
 -- Whether the uses of an operation are right, as an op set says; and what may be told of those that are not: a
 -- location, and an error.
 abbrev pub UseRule : Type 0 → Type 0 → Type 0 → Type 1
-UseRule K A T = Store K A T → Ptr OperationKind → Type 0
+UseRule K A T = ContextView K A T → Ptr OperationKind → Type 0
 
 abbrev pub UseRefusal : Type 0 → Type 0 → Type 0 → Type 0 → Type 1
-UseRefusal K A T E = Store K A T → Ptr OperationKind → Location → E → Type 0
+UseRefusal K A T E = ContextView K A T → Ptr OperationKind → Location → E → Type 0
 
 -- uses are refused only where they do not hold, and by what may be told of them, memory aside
 abbrev pub IsUseRefused : {E : Type 0} → Type 0 → (Location → E → Type 0) → VerifyErr E → Type 0
@@ -57,7 +57,8 @@ module _ {K A T E : Type 0} (own_symbol own_table own_user : K → Bool) (holds 
   -- A call that checks one operation, from the tables c to c': it never skips. Where the tables agree, they agree
   -- afterwards; it advances only past uses that hold, and breaks only at a symbol user whose uses are refused, with
   -- what is told of them.
-  pub record IsUseCheck {B : Type 0} (told : B → VerifyErr E) (s : Store K A T) (c : Tables) (p : Ptr OperationKind)
+  pub record IsUseCheck {B : Type 0} (told : B → VerifyErr E) (s : ContextView K A T) (c : Tables)
+      (p : Ptr OperationKind)
       (a : ControlFlow B WalkContinue) (c' : Tables) : Type 0 where
     pub never_skips : a ≡ Continue Skip → ⊥
     pub agree : AllAgree own_symbol own_table s c → AllAgree own_symbol own_table s c'
@@ -66,17 +67,17 @@ module _ {K A T E : Type 0} (own_symbol own_table own_user : K → Bool) (holds 
     pub breaks : AllAgree own_symbol own_table s c → (b : B) → a ≡ Break b
         → (is_user_kind own_user (kind_of s p) ≡ true) × IsUseRefused (holds s p) (refusal s p) (told b)
 
-module _ {K A T : Type 0} (own_table : K → Bool) (s : Store K A T) where
+module _ {K A T : Type 0} (own_table : K → Bool) (s : ContextView K A T) where
   -- a symbol user that is handed over as the table of t is walked
   pub record IsHandedUser (own_user : K → Bool) (t p : Ptr OperationKind) : Type 0 where
-    pub handed : IsHanded (kids s) (is_table_at own_table s) t p
+    pub handed : IsHanded (children s) (is_table_at own_table s) t p
     pub user : is_user_kind own_user (kind_of s p) ≡ true
 
   -- the uses of every symbol user that is handed over hold
   abbrev pub AllUsesHold : (own_user : K → Bool) → UseRule K A T → Ptr OperationKind → Type 0
   AllUsesHold own_user holds t = (p : Ptr OperationKind) → IsHandedUser own_user t p → holds s p
 
-module _ {K A T : Type 0} (own_symbol own_table own_user : K → Bool) (holds : UseRule K A T) (s : Store K A T)
+module _ {K A T : Type 0} (own_symbol own_table own_user : K → Bool) (holds : UseRule K A T) (s : ContextView K A T)
     (t : Ptr OperationKind) where
   -- the rule of a symbol table
   pub record HasTableRule : Type 0 where
@@ -84,7 +85,7 @@ module _ {K A T : Type 0} (own_symbol own_table own_user : K → Bool) (holds : 
     pub uses : AllUsesHold own_table s own_user holds t
 
 -- What a refusal tells: a symbol repeats the name of an earlier one, and it stands there; or a symbol has no name.
-abbrev pub IsSymbolFault : {K A T E : Type 0} → (own_symbol : K → Bool) → Store K A T → Ptr OperationKind
+abbrev pub IsSymbolFault : {K A T E : Type 0} → (own_symbol : K → Bool) → ContextView K A T → Ptr OperationKind
     → VerifyErr (SymbolTableInterfaceErr E) → Type 0
 IsSymbolFault own_symbol s t (Refused loc (SymbolRedefined n)) =
     (o : Ptr OperationKind) × IsRepeatedAt (string_bytes n) o (symbols own_symbol s t) × (location_of s o ≡ Some loc)
@@ -94,7 +95,7 @@ IsSymbolFault own_symbol s t (Refused loc (Use e)) = ⊥
 IsSymbolFault own_symbol s t Memory = Unit {0}
 
 module _ {K A T E : Type 0} (own_table own_user : K → Bool) (holds : UseRule K A T)
-    (refusal : UseRefusal K A T E) (s : Store K A T) (t : Ptr OperationKind) where
+    (refusal : UseRefusal K A T E) (s : ContextView K A T) (t : Ptr OperationKind) where
   -- Of the symbol users that are handed over as the table of t is walked, op is the first one, in the order of that
   -- walk, whose uses don't hold; and this location and this error may be told of them.
   pub record IsFirstRefusedUse (loc : Location) (err : E) : Type 0 where
@@ -103,7 +104,7 @@ module _ {K A T E : Type 0} (own_table own_user : K → Bool) (holds : UseRule K
     pub fails : holds s op → ⊥
     pub told : refusal s op loc err
     pub before : (q : Ptr OperationKind) → IsHandedUser own_table s own_user t q
-        → NodeBefore pre_forward (kids s) (Region is_user.handed.region) (Operation q) (Operation op) → holds s q
+        → NodeBefore pre_forward (children s) (Region is_user.handed.region) (Operation q) (Operation op) → holds s q
 
   -- it is told, memory aside
   abbrev pub IsUsesRefusal : VerifyErr E → Type 0
@@ -123,7 +124,7 @@ use_told (Refused loc err) = Refused loc (Use err)
 use_told Memory = Memory
 
 module _ {K A T E : Type 0} (own_symbol own_table own_user : K → Bool) (holds : UseRule K A T)
-    (refusal : UseRefusal K A T E) (s : Store K A T) (t : Ptr OperationKind) where
+    (refusal : UseRefusal K A T E) (s : ContextView K A T) (t : Ptr OperationKind) where
   -- Of a table: that, or the symbols are right, and the first use that does not hold is told.
   abbrev pub IsTableFault : VerifyErr (SymbolTableInterfaceErr E) → Type 0
   IsTableFault e =

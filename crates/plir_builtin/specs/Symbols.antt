@@ -5,17 +5,14 @@ use Rattle.plir_data.specs.AttrView.{AttrView, leaf, identifier}
 use Rattle.plir_data.specs.Dictionary.{dict_get, dict_put, is_key}
 use Rattle.plir_data.specs.declared.op_set.OpKind.{OpKind}
 use Rattle.plir_data.specs.declared.op_set.OpKind.TheVariants.{Module, Func, Own}
+use Rattle.plir_data.specs.Keys.{symbol_key}
 use Rattle.plir_core.specs.declared.ptr.Ptr.{Ptr}
 use Rattle.plir_core.specs.declared.ptr.Operation.{Operation as OperationKind}
 use Rattle.plir_core.specs.declared.ptr.IRNode.{IRNode}
 use Rattle.plir_core.specs.declared.ptr.IRNode.TheVariants.{Operation, Region, BasicBlock}
 use Rattle.plir_core.specs.Contents.{OpView}
 use Rattle.plir_core.specs.Changes.{with_op_edit}
-use Rattle.plir_core.specs.Store.{Store, kids, op_at, kind_in, attributes_in}
-
--- the key that a symbol's name stands under
-abbrev pub symbol_key : List ℕ
-symbol_key = codes "builtin_sym_name"
+use Rattle.plir_core.specs.ContextView.{ContextView, children, op_at, kind_in, attributes_in}
 
 -- whether operations of a kind are symbols, and whether they are symbol tables; `own` tells of the user's own kinds
 abbrev pub is_symbol_kind : {K : Type 0} → (own : K → Bool) → Option (OpKind K) → Bool
@@ -40,11 +37,11 @@ name_held o = name_in (dict_get (attributes_in o) symbol_key)
 
 module _ {K A T : Type 0} where
   -- an operation has a symbol's name
-  abbrev pub HasSymbolName : Store K A T → Ptr OperationKind → Type 0
+  abbrev pub HasSymbolName : ContextView K A T → Ptr OperationKind → Type 0
   HasSymbolName s p = IsSome (name_held (op_at s p))
 
   -- the context with another name for an operation
-  abbrev pub with_symbol_name : Store K A T → Ptr OperationKind → List ℕ → Store K A T
+  abbrev pub with_symbol_name : ContextView K A T → Ptr OperationKind → List ℕ → ContextView K A T
   with_symbol_name s p x = with_op_edit s p (λ o. record o
       { attributes = dict_put o.attributes symbol_key (leaf (identifier x)) })
 
@@ -94,32 +91,32 @@ only (x ∷ y ∷ xs) = None
 
 module _ {K A T : Type 0} where
   -- the block of an operation with one region that has one block
-  abbrev pub body : Store K A T → Ptr OperationKind → Option IRNode
-  body s t = option_and_then (λ r. only (kids s r)) (only (kids s (Operation t)))
+  abbrev pub body : ContextView K A T → Ptr OperationKind → Option IRNode
+  body s t = option_and_then (λ r. only (children s r)) (only (children s (Operation t)))
 
   -- what stands in a block
-  abbrev pub kids_in : Store K A T → Option IRNode → List IRNode
-  kids_in s None = []
-  kids_in s (Some b) = kids s b
+  abbrev pub children_in : ContextView K A T → Option IRNode → List IRNode
+  children_in s None = []
+  children_in s (Some b) = children s b
 
   module _ (own_symbol : K → Bool) where
     -- the symbols that an operation is: itself, or none
-    abbrev pub symbols_of : Store K A T → Ptr OperationKind → Symbols
+    abbrev pub symbols_of : ContextView K A T → Ptr OperationKind → Symbols
     symbols_of s p = symbols_among own_symbol (op_at s) (Operation p ∷ [])
 
     -- the symbols in a block, and in the body of an operation
-    abbrev pub symbols_in : Store K A T → Option IRNode → Symbols
-    symbols_in s b = symbols_among own_symbol (op_at s) (kids_in s b)
+    abbrev pub symbols_in : ContextView K A T → Option IRNode → Symbols
+    symbols_in s b = symbols_among own_symbol (op_at s) (children_in s b)
 
-    abbrev pub symbols : Store K A T → Ptr OperationKind → Symbols
+    abbrev pub symbols : ContextView K A T → Ptr OperationKind → Symbols
     symbols s t = symbols_in s (body s t)
 
     -- the first symbol in the body with the name x
-    abbrev pub scan : Store K A T → Ptr OperationKind → List ℕ → Option (Ptr OperationKind)
+    abbrev pub scan : ContextView K A T → Ptr OperationKind → List ℕ → Option (Ptr OperationKind)
     scan s t x = find_named x (symbols s t)
 
     -- a good table: of table kind, with a body, all its symbols named and no two alike
-    pub record IsGood (own_table : K → Bool) (s : Store K A T) (t : Ptr OperationKind) : Type 0 where
+    pub record IsGood (own_table : K → Bool) (s : ContextView K A T) (t : Ptr OperationKind) : Type 0 where
       pub table : is_table_kind own_table (kind_in (op_at s t)) ≡ true
       pub body : IsSome (body s t)
       pub named : AllNamed (symbols s t)

@@ -4,7 +4,7 @@ ghost use Rattle.std.specs.Prelude.{false};
 ghost use Rattle.std.specs.FinMap as map;
 ghost use Rattle.plir_core.specs.declared.ptr.IRNode.{IRNode as AnyNode};
 ghost use Rattle.plir_core.specs.InsertionPoint.{IsPointLive};
-ghost use Rattle.plir_core.specs.Store.{IsLive, IsAncestor};
+ghost use Rattle.plir_core.specs.ContextView.{IsLive, IsAncestor};
 ghost use Rattle.plir_core.specs.Unused.{IsUnusedOutside};
 ghost use Rattle.plir_builtin.specs.Agree.{AllAgree, AreGivenOut, IsBrought, IsReady};
 ghost use Rattle.plir_builtin.specs.Applied.{IsCalled, IsSeenTo};

@@ -10,8 +10,8 @@ ghost use Rattle.plir_core.specs.Changes.{SameLive};
 ghost use Rattle.plir_core.specs.Made.{IsMade};
 ghost use Rattle.plir_core.specs.Nodes.{ptr_at};
 ghost use Rattle.plir_core.specs.Room.{IsFullForOp};
-ghost use Rattle.plir_core.specs.Store.{IsLive, given_out, kind_of, limit, num_live};
-ghost use Rattle.plir_core.specs.Whole.{IsWhole};
+ghost use Rattle.plir_core.specs.ContextView.{IsLive, given_out, kind_of, limit, num_live};
+ghost use Rattle.plir_core.specs.WellFormed.{IsWellFormed};
 ghost use Rattle.plir_core.specs.declared.ptr.IRNode.{IRNode as AnyNode};
 ghost use Rattle.plir_builtin.specs.BuiltinOps.{HasConstantValue, IsNewConstant, value_of};
 ghost use Rattle.plir_builtin.specs.OpRules.{HasConstantRules};
@@ -68,7 +68,7 @@ impl ConstantOp {
         ensures err { OnErr result (SameLive ctx.old ctx.new) }
         ensures too_many { limit ctx.old < num_live ctx.old + 1 → IsErr result }
         ensures too_many_only { result ≡ Err NodeErr.TooManyNodes → IsFullForOp ctx.old.nodes 0 }
-        ensures whole { IsWhole D.attr_handles ctx.new }
+        ensures whole { IsWellFormed D.attr_handles ctx.new }
     {
         ctx.stands();
         let ty = value.typed().unwrap();
@@ -114,7 +114,7 @@ impl ConstantOp {
         requires live { IsLive ctx.now (AnyNode.Operation self.now.op) }
         requires rule { HasConstantValue D.attr_type ctx.now self.now.op }
         ensures value { value_of ctx.now self.now.op ≡ Some (attr_view result.now) }
-        ensures whole { IsWhole D.attr_handles ctx.now }
+        ensures whole { IsWellFormed D.attr_handles ctx.now }
     {
         ctx.stands();
         let attributes = self.op.attributes(ctx);
@@ -133,7 +133,7 @@ impl ConstantOp {
         ensures ok { OnOk result (HasConstantValue D.attr_type ctx.now self.now.op) }
         ensures refused { IfErr result (IsRefusalMemoryAside ctx.now self.now.op
             (IsConstantFault D.attr_id D.attr_type D.type_id D.type_body_text ctx.now self.now.op)) }
-        ensures whole { IsWhole D.attr_handles ctx.now }
+        ensures whole { IsWellFormed D.attr_handles ctx.now }
     {
         ctx.stands();
         let Some(value) = self.op.attributes(ctx).get(ATTR_KEY_CONSTANT_VALUE) else {
@@ -159,7 +159,7 @@ fn untyped<D: OpSet>(
 ) -> VerifyErr<ConstantOpVerifyErr>
     requires { IsLive ctx.now (AnyNode.Operation op) }
     ensures told { IsRefusalMemoryAside ctx.now op (TellsUntyped D.attr_id (attr_view value.now)) result }
-    ensures whole { IsWhole D.attr_handles ctx.now }
+    ensures whole { IsWellFormed D.attr_handles ctx.now }
 {
     ctx.stands();
     match String::from_str(alloc, value.get_attr_id()) {
@@ -181,7 +181,7 @@ fn mismatched<D: OpSet>(
     requires wanted_live { IsTypeLive ctx.now.types wanted }
     ensures told { IsRefusalMemoryAside ctx.now op (TellsMismatch D.type_id D.type_body_text ctx.now.types given
         wanted) result }
-    ensures whole { IsWhole D.attr_handles ctx.now }
+    ensures whole { IsWellFormed D.attr_handles ctx.now }
 {
     ctx.stands();
     let Ok(given) = type_text(alloc, ctx, given) else {
@@ -221,7 +221,7 @@ impl ConstantOp {
         ensures ok { OnOk result (HasConstantRules D.attr_type ctx.now self.now.op) }
         ensures refused { IfErr result (IsConstantOpFault ctx.now self.now.op D.attr_id D.attr_type D.type_id
             D.type_body_text) }
-        ensures whole { IsWhole D.attr_handles ctx.now }
+        ensures whole { IsWellFormed D.attr_handles ctx.now }
     {
         ctx.stands();
         told(NOpdsInterface::<D, 0>::verify(self, ctx))?;

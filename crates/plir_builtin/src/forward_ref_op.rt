@@ -9,8 +9,8 @@ ghost use Rattle.plir_core.specs.Edits.{SameNodes};
 ghost use Rattle.plir_core.specs.Made.{IsMade};
 ghost use Rattle.plir_core.specs.Nodes.{ptr_at};
 ghost use Rattle.plir_core.specs.Room.{IsFullForOp};
-ghost use Rattle.plir_core.specs.Store.{IsLive, given_out, kind_of, limit, num_live};
-ghost use Rattle.plir_core.specs.Whole.{IsWhole};
+ghost use Rattle.plir_core.specs.ContextView.{IsLive, given_out, kind_of, limit, num_live};
+ghost use Rattle.plir_core.specs.WellFormed.{IsWellFormed};
 ghost use Rattle.plir_core.specs.declared.ptr.IRNode.{IRNode as AnyNode};
 ghost use Rattle.plir_builtin.specs.BuiltinOps.{IsNewForwardRef};
 ghost use Rattle.plir_builtin.specs.OpFaults.{IsForwardRefFault};
@@ -56,7 +56,7 @@ impl ForwardRefOp {
         ensures err { OnErr result (SameNodes ctx.old.nodes ctx.new.nodes) }
         ensures too_many { limit ctx.old < num_live ctx.old + 1 → IsErr result }
         ensures too_many_only { result ≡ Err NodeErr.TooManyNodes → IsFullForOp ctx.old.nodes 0 }
-        ensures whole { IsWhole D.attr_handles ctx.new }
+        ensures whole { IsWellFormed D.attr_handles ctx.new }
     {
         ctx.stands();
         let Ok(ty) = UnitType::get(ctx) else {
@@ -107,7 +107,7 @@ impl ForwardRefOp {
         ensures never { IsErr result }
         ensures refused { IfErr result (IsRefusalMemoryAside ctx.now self.now.op
             (λ e. string_bytes e.0 ≡ result_name ctx.now self.now.op 0)) }
-        ensures whole { IsWhole D.attr_handles ctx.now }
+        ensures whole { IsWellFormed D.attr_handles ctx.now }
     {
         ctx.stands();
         match first_result_name(alloc, ctx, self.op) {
@@ -126,7 +126,7 @@ impl ForwardRefOp {
         requires { IsLive ctx.now (AnyNode.Operation self.now.op) }
         ensures never { IsErr result }
         ensures refused { IfErr result (IsForwardRefFault ctx.now self.now.op) }
-        ensures whole { IsWhole D.attr_handles ctx.now }
+        ensures whole { IsWellFormed D.attr_handles ctx.now }
     {
         ctx.stands();
         told(NOpdsInterface::<D, 0>::verify(self, ctx))?;

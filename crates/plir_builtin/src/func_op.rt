@@ -7,8 +7,8 @@ ghost use Rattle.plir_data.specs.Types.{AllLive, IsLive as IsTypeLive, IsMarked,
 ghost use Rattle.plir_core.specs.Changes.{SameLive};
 ghost use Rattle.plir_core.specs.Made.{IsMade};
 ghost use Rattle.plir_core.specs.Nodes.{ptr_at};
-ghost use Rattle.plir_core.specs.Store.{IsLive, given_out, kind_of, limit, num_live};
-ghost use Rattle.plir_core.specs.Whole.{IsWhole};
+ghost use Rattle.plir_core.specs.ContextView.{IsLive, given_out, kind_of, limit, num_live};
+ghost use Rattle.plir_core.specs.WellFormed.{IsWellFormed};
 ghost use Rattle.plir_core.specs.declared.ptr.IRNode.{IRNode as AnyNode};
 ghost use Rattle.plir_builtin.specs.BuiltinOps.{HasArguments, HasFuncType, IsFuncMade, IsNewFunc, entry_of, func_type};
 ghost use Rattle.plir_builtin.specs.BuiltinOps.{func_type_of};
@@ -65,7 +65,7 @@ impl FuncOp {
         ensures err { OnErr result (SameLive ctx.old ctx.new) }
         ensures too_many { limit ctx.old < num_live ctx.old + 3 → IsErr result }
         ensures too_many_only { result ≡ Err NodeErr.TooManyNodes → IsFullForOneBlock ctx.old }
-        ensures whole { IsWhole D.attr_handles ctx.new }
+        ensures whole { IsWellFormed D.attr_handles ctx.new }
     {
         let arg_types = argument_types(alloc, ctx, ty)?;
         let Ok(label) = Identifier::try_new(alloc, "entry") else {
@@ -114,7 +114,7 @@ impl FuncOp {
         requires rule { HasFuncType ctx.now self.now.op }
         ensures value { func_type_of ctx.now self.now.op ≡ Some result }
         ensures of_functions { IsMarked is_function ctx.now.types result }
-        ensures whole { IsWhole D.attr_handles ctx.now }
+        ensures whole { IsWellFormed D.attr_handles ctx.now }
     {
         find_type(ctx, self.op).unwrap()
     }
@@ -126,7 +126,7 @@ impl FuncOp {
         requires holds_block { IsSome (entry_of ctx.now self.now.op) }
         ensures value { entry_of ctx.now self.now.op ≡ Some (AnyNode.BasicBlock result) }
         ensures live { IsLive ctx.now (AnyNode.BasicBlock result) }
-        ensures whole { IsWhole D.attr_handles ctx.now }
+        ensures whole { IsWellFormed D.attr_handles ctx.now }
     {
         let region = self.op.get_region(ctx, 0);
         region.get_head(ctx).unwrap()
@@ -138,7 +138,7 @@ impl FuncOp {
         requires { IsLive ctx.now (AnyNode.Operation self.now.op) }
         ensures ok { IsOk result ↔ HasFuncType ctx.now self.now.op }
         ensures refused { IfErr result (IsRefusal ctx.now self.now.op (λ e. ⊤)) }
-        ensures whole { IsWhole D.attr_handles ctx.now }
+        ensures whole { IsWellFormed D.attr_handles ctx.now }
     {
         match find_type(ctx, self.op) {
             Some(_) => Ok(()),
@@ -156,7 +156,7 @@ impl FuncOp {
         requires { IsLive ctx.now (AnyNode.Operation self.now.op) }
         ensures ok { IsOk result ↔ HasFuncRules ctx.now self.now.op }
         ensures refused { IfErr result (IsFuncFault ctx.now self.now.op) }
-        ensures whole { IsWhole D.attr_handles ctx.now }
+        ensures whole { IsWellFormed D.attr_handles ctx.now }
     {
         ctx.stands();
         told(OneRegionInterface::<D>::verify(self, ctx))?;
@@ -184,7 +184,7 @@ fn find_type<D: OpSet>(ctx: &Context<D>, op: Ptr<Operation>) -> Option<TypedHand
     ensures found { IsSome result ↔ HasFuncType ctx.now op }
     ensures value { IfSome result (λ ty. func_type_of ctx.now op ≡ Some ty) }
     ensures of_functions { IfSome result (IsMarked is_function ctx.now.types) }
-    ensures whole { IsWhole D.attr_handles ctx.now }
+    ensures whole { IsWellFormed D.attr_handles ctx.now }
 {
     TypedHandle::from_handle(find_handle(ctx, op)?, ctx)
 }
@@ -194,7 +194,7 @@ fn find_handle<D: OpSet>(ctx: &Context<D>, op: Ptr<Operation>) -> Option<TypeHan
     requires { IsLive ctx.now (AnyNode.Operation op) }
     ensures value { result ≡ func_type_of ctx.now op }
     ensures live { IfSome result (IsTypeLive ctx.now.types) }
-    ensures whole { IsWhole D.attr_handles ctx.now }
+    ensures whole { IsWellFormed D.attr_handles ctx.now }
 {
     op.attributes(ctx)
         .get(ATTR_KEY_BUILTIN_FUNC_TYPE)?
@@ -212,7 +212,7 @@ fn argument_types<D: OpSet>(
     ensures value { IfOk result (λ ts. HasArguments ctx.now.types ty ts.items) }
     ensures live { IfOk result (λ ts. AllLive ctx.now.types ts.items) }
     ensures memory { IfErr result (λ e. e ≡ NodeErr.Memory) }
-    ensures whole { IsWhole D.attr_handles ctx.now }
+    ensures whole { IsWellFormed D.attr_handles ctx.now }
 {
     ctx.stands();
     let function = ty.deref(ctx);

@@ -3,7 +3,7 @@ ghost use Rattle.std.specs.Prelude.{◌≡◌, true, false, Some, None, Ok, IfOk
 ghost use Rattle.std.specs.FinMap as map;
 ghost use Rattle.plir_core.specs.declared.ptr.IRNode.{IRNode as AnyNode};
 ghost use Rattle.plir_core.specs.Standing.{IsStanding};
-ghost use Rattle.plir_core.specs.Store.{IsLive, IsAncestor, parent_of};
+ghost use Rattle.plir_core.specs.ContextView.{IsLive, IsAncestor, parent_of};
 ghost use Rattle.plir_core.specs.InsertionPoint.{IsPointLive, insertion_block};
 ghost use Rattle.plir_core.specs.Terminator.{terminator_of};
 ghost use Rattle.plir_builtin.specs.Symbols.{body};

@@ -37,6 +37,7 @@ pub use materializable::MaterializableAttr;
 pub use module_op::ModuleOp;
 pub use nearest::nearest_symbol_table;
 pub use op_verify_err::OpVerifyErr;
+pub use plir_data::keys::{ATTR_KEY_BUILTIN_FUNC_TYPE, ATTR_KEY_CONSTANT_VALUE, ATTR_KEY_SYM_NAME};
 pub use symbol_edits::{SymbolEdit, SymbolEditErr};
 pub use symbol_op::SymbolOpInterface;
 pub use symbol_table::SymbolTable;
@@ -44,12 +45,6 @@ pub use symbol_table_err::SymbolTableErr;
 pub use symbol_table_op::{SymbolTableInterface, SymbolTableInterfaceErr};
 pub use symbol_user_op::SymbolUserOpInterface;
 pub use symbol_users::{SymbolUserSet, SymbolUses};
-pub use symbols::{ATTR_KEY_SYM_NAME, SymbolOpInterfaceErr};
+pub use symbols::SymbolOpInterfaceErr;
 pub use table_links::TableLinks;
 pub use walking::{SymbolTableWalkerCallback, walk_symbol_table};
-
-/// The key that a function's type stands under.
-pub const ATTR_KEY_BUILTIN_FUNC_TYPE: &'static str = "builtin_func_type";
-
-/// The key that a constant's value stands under.
-pub const ATTR_KEY_CONSTANT_VALUE: &'static str = "builtin_constant_value";

@@ -2,7 +2,7 @@
 ghost use Rattle.std.specs.Prelude.{◌≡◌, Some, None, IfOk, IfErr, IfSome, IsSome, OnOk, OnErr};
 ghost use Rattle.std.specs.FinMap as map;
 ghost use Rattle.plir_core.specs.declared.ptr.IRNode.{IRNode as AnyNode};
-ghost use Rattle.plir_core.specs.Store.{IsLive};
+ghost use Rattle.plir_core.specs.ContextView.{IsLive};
 ghost use Rattle.plir_builtin.specs.Symbols.{IsGood, scan};
 ghost use Rattle.plir_builtin.specs.Agree.{Agrees, AgreesAsLent, AllAgree, AreGivenOut, IsBrought, IsNewlyCached};
 ghost use Rattle.plir_builtin.specs.Nearest.{IsAnsweredNearest, IsFoundNearest, NearestRefused};

@@ -6,8 +6,8 @@ ghost use Rattle.plir_core.specs.Changes.{SameLive};
 ghost use Rattle.plir_core.specs.Made.{IsMade};
 ghost use Rattle.plir_core.specs.Nodes.{ptr_at};
 ghost use Rattle.plir_core.specs.Room.{IsFullForOp};
-ghost use Rattle.plir_core.specs.Store.{given_out, limit, num_live};
-ghost use Rattle.plir_core.specs.Whole.{IsWhole};
+ghost use Rattle.plir_core.specs.ContextView.{given_out, limit, num_live};
+ghost use Rattle.plir_core.specs.WellFormed.{IsWellFormed};
 ghost use Rattle.plir_core.specs.declared.ptr.IRNode.{IRNode as AnyNode};
 ghost use Rattle.plir_builtin.specs.BuiltinOps.{IsNewConstant};
 
@@ -30,7 +30,7 @@ pub trait MaterializableAttr<D: OpSet>: TypedAttrInterface<D> {
         ensures err { OnErr result (SameLive ctx.old ctx.new) }
         ensures too_many { limit ctx.old < num_live ctx.old + 1 → IsErr result }
         ensures too_many_only { result ≡ Err NodeErr.TooManyNodes → IsFullForOp ctx.old.nodes 0 }
-        ensures whole { IsWhole D.attr_handles ctx.new };
+        ensures whole { IsWellFormed D.attr_handles ctx.new };
 
     /// Accepts always.
     final fn verify(&self, _ctx: &Context<D>) -> Result<(), Memory>

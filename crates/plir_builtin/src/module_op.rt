@@ -15,8 +15,8 @@ ghost use Rattle.plir_data.specs.declared.op_set.OpKind.{OpKind as AnyKind};
 ghost use Rattle.plir_core.specs.Changes.{SameLive};
 ghost use Rattle.plir_core.specs.Made.{IsMade};
 ghost use Rattle.plir_core.specs.Nodes.{ptr_at};
-ghost use Rattle.plir_core.specs.Store.{IsLive, given_out, kind_of, limit, num_live};
-ghost use Rattle.plir_core.specs.Whole.{IsWhole};
+ghost use Rattle.plir_core.specs.ContextView.{IsLive, given_out, kind_of, limit, num_live};
+ghost use Rattle.plir_core.specs.WellFormed.{IsWellFormed};
 ghost use Rattle.plir_core.specs.declared.ptr.IRNode.{IRNode as AnyNode};
 ghost use Rattle.plir_builtin.specs.BuiltinOps.{IsFullForOneBlock, IsModuleMade, IsNewModule};
 ghost use Rattle.plir_builtin.specs.OpRules.{HasModuleRules};
@@ -59,7 +59,7 @@ impl ModuleOp {
         ensures err { OnErr result (SameLive ctx.old ctx.new) }
         ensures too_many { limit ctx.old < num_live ctx.old + 3 → IsErr result }
         ensures too_many_only { result ≡ Err NodeErr.TooManyNodes → IsFullForOneBlock ctx.old }
-        ensures whole { IsWhole D.attr_handles ctx.new }
+        ensures whole { IsWellFormed D.attr_handles ctx.new }
     {
         ctx.stands();
         let attributes = named(alloc, name)?;
@@ -137,7 +137,7 @@ impl ModuleOp {
             self.now.op) }
         ensures refused { IfErr result (IsModuleFault ctx.now self.now.op D.kind_id
             D.is_symbol D.is_symbol_table D.is_symbol_user D.uses_hold D.use_refusal) }
-        ensures whole { IsWhole D.attr_handles ctx.now }
+        ensures whole { IsWellFormed D.attr_handles ctx.now }
     {
         ctx.stands();
         told(OneRegionInterface::<D>::verify(self, ctx))?;

@@ -1,7 +1,7 @@
 //! The nearest table at or above an operation.
 ghost use Rattle.std.specs.Prelude.{IfSome};
 ghost use Rattle.plir_core.specs.declared.ptr.IRNode.{IRNode as AnyNode};
-ghost use Rattle.plir_core.specs.Store.{IsLive};
+ghost use Rattle.plir_core.specs.ContextView.{IsLive};
 ghost use Rattle.plir_builtin.specs.Nearest.{IsNearest};
 
 use crate::symbols::is_table;

@@ -8,16 +8,17 @@ ghost use Rattle.plir_data.specs.AttrView.{leaf, identifier};
 ghost use Rattle.plir_data.specs.Dictionary.{dict_put};
 ghost use Rattle.plir_data.specs.Identifier.{is_identifier as IsIdentifier};
 ghost use Rattle.plir_data.specs.Types.{AllLive, IsLive as IsTypeLive, TypeView};
+ghost use Rattle.plir_data.specs.Keys.{value_key};
 ghost use Rattle.plir_core.specs.Changes.{SameLive};
 ghost use Rattle.plir_core.specs.Contents.{op_view};
 ghost use Rattle.plir_core.specs.Made.{IsMade, HasNewRegions};
 ghost use Rattle.plir_core.specs.Nodes.{ptr_at};
 ghost use Rattle.plir_core.specs.Room.{IsFullForBlock};
-ghost use Rattle.plir_core.specs.Store.{IsLive, given_out, limit, num_live};
-ghost use Rattle.plir_core.specs.Whole.{IsWhole};
+ghost use Rattle.plir_core.specs.ContextView.{IsLive, given_out, limit, num_live};
+ghost use Rattle.plir_core.specs.WellFormed.{IsWellFormed};
 ghost use Rattle.plir_core.specs.declared.ptr.IRNode.{IRNode as AnyNode};
 ghost use Rattle.plir_builtin.specs.BuiltinOps.{HoldsOneBlock, IsMadeWithBlock, block_view, func_attributes};
-ghost use Rattle.plir_builtin.specs.BuiltinOps.{module_attributes, value_key};
+ghost use Rattle.plir_builtin.specs.BuiltinOps.{module_attributes};
 ghost use Rattle.plir_builtin.specs.BuiltinOps.{IsFullForOneBlock};
 ghost use Rattle.plir_builtin.specs.OpMaking.{GivesBlock};
 
@@ -130,7 +131,7 @@ pub(crate) fn new_with_block<D: OpSet>(
     ensures err { OnErr result (SameLive ctx.old ctx.new) }
     ensures too_many { limit ctx.old < num_live ctx.old + 3 → IsErr result }
     ensures too_many_only { result ≡ Err NodeErr.TooManyNodes → IsFullForOneBlock ctx.old }
-    ensures whole { IsWhole D.attr_handles ctx.new }
+    ensures whole { IsWellFormed D.attr_handles ctx.new }
 {
     ctx.stands();
     what_was_made_is_unused(ctx);
@@ -164,7 +165,7 @@ fn add_block<D: OpSet>(
     ensures given { (n : AnyNode) → given_out ctx.old n ≡ true → given_out ctx.new n ≡ true }
     ensures err { OnErr result (ctx.new ≡ ctx.old) }
     ensures too_many { (result ≡ Err NodeErr.TooManyNodes) ↔ IsFullForBlock ctx.old.nodes }
-    ensures whole { IsWhole D.attr_handles ctx.new }
+    ensures whole { IsWellFormed D.attr_handles ctx.new }
 {
     growth(ctx);
     let region = op.get_region(ctx, 0);

@@ -1,7 +1,7 @@
 //! How a table reads the symbols of a block.
 ghost use Rattle.std.specs.Prelude.{◌≡◌, ◌++◌, [], Some, OnOk, IfErr};
 ghost use Rattle.plir_core.specs.declared.ptr.IRNode.{IRNode as AnyNode};
-ghost use Rattle.plir_core.specs.Store.{IsLive};
+ghost use Rattle.plir_core.specs.ContextView.{IsLive};
 ghost use Rattle.plir_builtin.specs.Symbols.{symbols_in, symbols_of};
 ghost use Rattle.plir_builtin.specs.Refusals.{Tells, redefined};
 ghost use Rattle.plir_builtin.specs.Reading.{IsRead, ReadsOn, RefusesOn, FirstRefused};
@@ -9,7 +9,7 @@ ghost use Rattle.plir_builtin.specs.Reading.{IsRead, ReadsOn, RefusesOn, FirstRe
 use crate::symbol_table::SymbolTable;
 use crate::symbol_table_err::SymbolTableErr;
 use crate::symbols::{SymbolOpInterfaceErr, is_symbol, symbol_name};
-use plir_core::laws::{first_kid_is_front, next_is_behind};
+use plir_core::laws::{first_child_is_front, next_is_behind};
 use plir_core::{BasicBlock, Context, IRNode, Operation, Ptr};
 use plir_data::{Identifier, OpSet};
 use std::alloc::Global;
@@ -67,12 +67,13 @@ impl SymbolTable {
         requires read { IsRead [] self.old }
         ensures op { self.new.op ≡ self.old.op }
         ensures live { IfErr result (λ e. IsLive ctx.now (AnyNode.Operation e.op)) }
-        ensures read { OnOk result (IsRead (symbols_in D.is_symbol ctx.now (Some (AnyNode.BasicBlock block))) self.new) }
+        ensures read { OnOk result (IsRead
+            (symbols_in D.is_symbol ctx.now (Some (AnyNode.BasicBlock block))) self.new) }
         ensures refused { IfErr result (λ e. Tells (FirstRefused e.op
             (symbols_in D.is_symbol ctx.now (Some (AnyNode.BasicBlock block)))) e.why) }
     {
         ctx.stands();
-        first_kid_is_front(ctx, IRNode::BasicBlock(block));
+        first_child_is_front(ctx, IRNode::BasicBlock(block));
         let mut at = block.get_head(ctx);
         'ops: while let Some(op) = at {
             next_is_behind(ctx, IRNode::Operation(op));

@@ -1,12 +1,12 @@
 //! How a symbol is found in a body by its name, without a table.
 ghost use Rattle.std.specs.Prelude.{◌≡◌, Some, None, true, false, IsSome};
 ghost use Rattle.plir_core.specs.declared.ptr.IRNode.{IRNode as AnyNode};
-ghost use Rattle.plir_core.specs.Store.{IsLive};
+ghost use Rattle.plir_core.specs.ContextView.{IsLive};
 ghost use Rattle.plir_builtin.specs.Symbols.{body, find_named, scan, symbols_in, symbols_of};
 
 use crate::symbols::{is_symbol, symbol_name};
 use crate::table_body::body_of;
-use plir_core::laws::{first_kid_is_front, next_is_behind};
+use plir_core::laws::{first_child_is_front, next_is_behind};
 use plir_core::{BasicBlock, Context, IRNode, Operation, Ptr};
 use plir_data::{Identifier, OpSet};
 
@@ -35,7 +35,7 @@ fn find_in_block<D: OpSet>(
     ensures { result ≡ find_named name.now (symbols_in D.is_symbol ctx.now (Some (AnyNode.BasicBlock block))) }
 {
     ctx.stands();
-    first_kid_is_front(ctx, IRNode::BasicBlock(block));
+    first_child_is_front(ctx, IRNode::BasicBlock(block));
     let mut at = block.get_head(ctx);
     'ops: while let Some(op) = at {
         next_is_behind(ctx, IRNode::Operation(op));

@@ -1,13 +1,14 @@
 //! The interface of operations that are symbols.
 ghost use Rattle.std.specs.Prelude.{◌≡◌, ◌↔◌, Some, IsOk, IfErr, OnOk, OnErr};
 ghost use Rattle.plir_core.specs.declared.ptr.IRNode.{IRNode as AnyNode};
-ghost use Rattle.plir_core.specs.Store.{IsLive, op_at};
-ghost use Rattle.plir_core.specs.Whole.{IsWhole};
+ghost use Rattle.plir_core.specs.ContextView.{IsLive, op_at};
+ghost use Rattle.plir_core.specs.WellFormed.{IsWellFormed};
 ghost use Rattle.plir_iface.specs.Verdict.{IsRefusal};
 ghost use Rattle.plir_builtin.specs.Symbols.{HasSymbolName, name_held, with_symbol_name};
 
-use crate::symbols::{ATTR_KEY_SYM_NAME, SymbolOpInterfaceErr, symbol_name};
+use crate::symbols::{SymbolOpInterfaceErr, symbol_name};
 use plir_core::{Context, Operation, Ptr};
+use plir_data::keys::ATTR_KEY_SYM_NAME;
 use plir_data::{AttrObj, Identifier, IdentifierAttr, Memory, OpSet, VerifyErr};
 use plir_iface::{Op, accept_if};
 use std::alloc::Global;
@@ -22,7 +23,7 @@ fn put_symbol_name<D: OpSet>(
     requires { IsLive ctx.old (AnyNode.Operation op) }
     ensures ok { OnOk result (ctx.new ≡ with_symbol_name ctx.old op name) }
     ensures err { OnErr result (ctx.new ≡ ctx.old) }
-    ensures whole { IsWhole D.attr_handles ctx.new }
+    ensures whole { IsWellFormed D.attr_handles ctx.new }
 {
     ctx.stands();
     match Identifier::try_new(alloc, ATTR_KEY_SYM_NAME) {
@@ -38,7 +39,7 @@ pub trait SymbolOpInterface<D: OpSet>: Op<D> {
         requires live { IsLive ctx.now (AnyNode.Operation (Self.pointer self.now)) }
         requires rule { HasSymbolName ctx.now (Self.pointer self.now) }
         ensures value { name_held (op_at ctx.now (Self.pointer self.now)) ≡ Some result.now }
-        ensures whole { IsWhole D.attr_handles ctx.now }
+        ensures whole { IsWellFormed D.attr_handles ctx.now }
     {
         ctx.stands();
         symbol_name(ctx, self.get_operation()).unwrap()
@@ -56,7 +57,7 @@ pub trait SymbolOpInterface<D: OpSet>: Op<D> {
         requires { IsLive ctx.old (AnyNode.Operation (Self.pointer self.now)) }
         ensures ok { OnOk result (ctx.new ≡ with_symbol_name ctx.old (Self.pointer self.now) name) }
         ensures err { OnErr result (ctx.new ≡ ctx.old) }
-        ensures whole { IsWhole D.attr_handles ctx.new }
+        ensures whole { IsWellFormed D.attr_handles ctx.new }
     {
         put_symbol_name(alloc, ctx, self.get_operation(), name)
     }
@@ -66,7 +67,7 @@ pub trait SymbolOpInterface<D: OpSet>: Op<D> {
         requires { IsLive ctx.now (AnyNode.Operation (Self.pointer self.now)) }
         ensures ok { IsOk result ↔ HasSymbolName ctx.now (Self.pointer self.now) }
         ensures refused { IfErr result (IsRefusal ctx.now (Self.pointer self.now) (λ _. Unit {0})) }
-        ensures whole { IsWhole D.attr_handles ctx.now }
+        ensures whole { IsWellFormed D.attr_handles ctx.now }
     {
         let op = self.get_operation();
         accept_if(

@@ -3,7 +3,7 @@ ghost use Rattle.std.specs.Prelude.{◌≡◌, [], Some, None, OnOk, OnErr, IsSo
 ghost use Rattle.std.specs.Prelude.{IfOk, IfErr, IfSome, true, false};
 ghost use Rattle.std.specs.FinMap as map;
 ghost use Rattle.plir_core.specs.declared.ptr.IRNode.{IRNode as AnyNode};
-ghost use Rattle.plir_core.specs.Store.{IsLive, IsAncestor, parent_of};
+ghost use Rattle.plir_core.specs.ContextView.{IsLive, IsAncestor, parent_of};
 ghost use Rattle.plir_core.specs.InsertionPoint.{IsPointLive};
 ghost use Rattle.plir_core.specs.Changes.{with_op_unlinked};
 ghost use Rattle.plir_core.specs.Unused.{IsUnusedOutside, without_tree};
@@ -192,7 +192,8 @@ impl SymbolTable {
         ensures refused { IfErr result (IsInsertErr D.is_symbol ctx.old (map.get self.old.names) self.old.op op point) }
         ensures same { OnErr result ((ctx.new ≡ ctx.old) × (self.new ≡ self.old)) }
         ensures agrees { OnOk result (KeepsAgreement D.is_symbol D.is_symbol_table ctx.old self.old ctx.new self.new) }
-        ensures all_agree { OnOk result (KeepsAllAgree D.is_symbol D.is_symbol_table ctx.old self.old ctx.new self.new) }
+        ensures all_agree { OnOk result
+            (KeepsAllAgree D.is_symbol D.is_symbol_table ctx.old self.old ctx.new self.new) }
         ensures given { OnOk result (KeepsGivenOut ctx.old self.old ctx.new self.new) }
     {
         let Plan { name, body, place } = self.plan(ctx, op, point)?;
@@ -236,7 +237,8 @@ impl SymbolTable {
         ensures refused { IfErr result (TellsOnly (RemoveRefused D.is_symbol ctx.old self.old.op op)) }
         ensures same { OnErr result ((ctx.new ≡ ctx.old) × (self.new ≡ self.old)) }
         ensures agrees { OnOk result (KeepsAgreement D.is_symbol D.is_symbol_table ctx.old self.old ctx.new self.new) }
-        ensures all_agree { OnOk result (KeepsAllAgree D.is_symbol D.is_symbol_table ctx.old self.old ctx.new self.new) }
+        ensures all_agree { OnOk result
+            (KeepsAllAgree D.is_symbol D.is_symbol_table ctx.old self.old ctx.new self.new) }
         ensures given { OnOk result (KeepsGivenOut ctx.old self.old ctx.new self.new) }
     {
         self.forget(ctx, op)?;
@@ -262,7 +264,8 @@ impl SymbolTable {
         ensures refused { IfErr result (TellsOnly (RemoveRefused D.is_symbol ctx.old self.old.op op)) }
         ensures same { OnErr result ((ctx.new ≡ ctx.old) × (self.new ≡ self.old)) }
         ensures agrees { OnOk result (KeepsAgreement D.is_symbol D.is_symbol_table ctx.old self.old ctx.new self.new) }
-        ensures all_agree { OnOk result (KeepsAllAgree D.is_symbol D.is_symbol_table ctx.old self.old ctx.new self.new) }
+        ensures all_agree { OnOk result
+            (KeepsAllAgree D.is_symbol D.is_symbol_table ctx.old self.old ctx.new self.new) }
         ensures given { OnOk result (KeepsGivenOut ctx.old self.old ctx.new self.new) }
     {
         self.forget(ctx, op)?;

@@ -1,7 +1,7 @@
 //! The interface of operations that are symbol tables.
 ghost use Rattle.std.specs.Prelude.{◌≡◌, true, IfErr, OnOk, IsSome};
 ghost use Rattle.plir_core.specs.declared.ptr.IRNode.{IRNode as AnyNode};
-ghost use Rattle.plir_core.specs.Store.{IsLive, kind_of};
+ghost use Rattle.plir_core.specs.ContextView.{IsLive, kind_of};
 ghost use Rattle.plir_iface.specs.Counts.{HasNRegions};
 ghost use Rattle.plir_iface.specs.Regions.{HasSingleBlocks};
 ghost use Rattle.plir_builtin.specs.Refusals.{Tells};

@@ -1,7 +1,7 @@
 //! The interface of operations that use symbols.
 ghost use Rattle.std.specs.Prelude.{◌≡◌, ℕ, List, Ok, IfOk, IfErr, OnOk};
 ghost use Rattle.plir_core.specs.declared.ptr.IRNode.{IRNode as AnyNode};
-ghost use Rattle.plir_core.specs.Store.{Store, IsLive};
+ghost use Rattle.plir_core.specs.ContextView.{ContextView, IsLive};
 ghost use Rattle.plir_builtin.specs.Agree.{AllAgree, AreGivenOut};
 ghost use Rattle.plir_builtin.specs.SymbolUses.{IsUseRefused};
 ghost use Rattle.plir_data.specs.declared.location.Location.{Location as AnyLocation};
@@ -15,13 +15,13 @@ use std::alloc::Global;
 /// Operations that use symbols by their names.
 pub trait SymbolUserOpInterface<D: OpSet>: Op<D> {
     // The names that the operation uses.
-    ghost names_used: { Self → Store D.Kind D.Attr D.Ty → List (List ℕ) };
+    ghost names_used: { Self → ContextView D.Kind D.Attr D.Ty → List (List ℕ) };
 
     // The uses of the operation are right.
-    ghost has_right_uses: { Self → Store D.Kind D.Attr D.Ty → Type 0 };
+    ghost has_right_uses: { Self → ContextView D.Kind D.Attr D.Ty → Type 0 };
 
     // What may be told of uses that are not right: a location, and an error.
-    ghost use_refusal: { Self → Store D.Kind D.Attr D.Ty → AnyLocation → D.Err → Type 0 };
+    ghost use_refusal: { Self → ContextView D.Kind D.Attr D.Ty → AnyLocation → D.Err → Type 0 };
 
     /// Accepts exactly where the uses are right, where all tables of the collection agree, memory aside; they agree
     /// afterwards. Else tells what may be told of these uses.

@@ -3,7 +3,7 @@ ghost use Rattle.std.specs.Prelude.{◌≡◌, true, length, IfErr, OnOk};
 ghost use Rattle.plir_core.specs.declared.ptr.Operation.{Operation as OperationKind};
 ghost use Rattle.plir_core.specs.declared.ptr.Ptr.{Ptr as AnyPtr};
 ghost use Rattle.plir_core.specs.declared.ptr.IRNode.{IRNode as AnyNode};
-ghost use Rattle.plir_core.specs.Store.{Store, IsLive, kids, kind_of};
+ghost use Rattle.plir_core.specs.ContextView.{ContextView, IsLive, children, kind_of};
 ghost use Rattle.plir_builtin.specs.Agree.{AllAgree, AreGivenOut};
 ghost use Rattle.plir_builtin.specs.Handed.{is_table_at};
 ghost use Rattle.plir_builtin.specs.SymbolUses.{is_user_kind, AllUsesHold, IsUseCheck, IsUseRefused, IsUsesRefusal};
@@ -22,10 +22,11 @@ use std::ops::ControlFlow;
 /// implements.
 pub trait SymbolUserSet: OpSet {
     // The uses of an operation are right.
-    ghost uses_hold: { Store Self.Kind Self.Attr Self.Ty → AnyPtr OperationKind → Type 0 };
+    ghost uses_hold: { ContextView Self.Kind Self.Attr Self.Ty → AnyPtr OperationKind → Type 0 };
 
     // What may be told of uses that are not right: a location, and an error.
-    ghost use_refusal: { Store Self.Kind Self.Attr Self.Ty → AnyPtr OperationKind → AnyLocation → Self.Err → Type 0 };
+    ghost use_refusal: { ContextView Self.Kind Self.Attr Self.Ty → AnyPtr OperationKind → AnyLocation → Self.Err
+        → Type 0 };
 
     /// Accepts exactly where the uses of an operation are right, where all tables of the collection agree, memory
     /// aside; they agree afterwards. Else tells what the set may tell of these uses. The verifier of tables asks it of
@@ -50,10 +51,10 @@ pub trait SymbolUserSet: OpSet {
 /// `NeverRefused`.
 pub trait SymbolUses<D: OpSet>: OwnKind {
     // The uses of an operation are right.
-    ghost uses_hold: { Store D.Kind D.Attr D.Ty → AnyPtr OperationKind → Type 0 };
+    ghost uses_hold: { ContextView D.Kind D.Attr D.Ty → AnyPtr OperationKind → Type 0 };
 
     // What may be told of uses that are not right: a location, and an error.
-    ghost use_refusal: { Store D.Kind D.Attr D.Ty → AnyPtr OperationKind → AnyLocation → D.Err → Type 0 };
+    ghost use_refusal: { ContextView D.Kind D.Attr D.Ty → AnyPtr OperationKind → AnyLocation → D.Err → Type 0 };
 
     /// Accepts exactly where the uses of an operation are right, where all tables of the collection agree, memory
     /// aside; they agree afterwards. Else tells what the kinds may tell of these uses. The verifier of tables asks it
@@ -146,7 +147,7 @@ pub(crate) fn verify_uses<D: SymbolUserSet>(
 ) -> Result<(), VerifyErr<D::Err>>
     requires op_live { IsLive ctx.now (AnyNode.Operation op) }
     requires table { is_table_at D.is_symbol_table ctx.now op ≡ true }
-    requires one_region { length (kids ctx.now (AnyNode.Operation op)) ≡ 1 }
+    requires one_region { length (children ctx.now (AnyNode.Operation op)) ≡ 1 }
     ensures ok { OnOk result (AllUsesHold D.is_symbol_table ctx.now D.is_symbol_user D.uses_hold op) }
     ensures refused { IfErr result (IsUsesRefusal D.is_symbol_table D.is_symbol_user D.uses_hold
         D.use_refusal ctx.now op) }

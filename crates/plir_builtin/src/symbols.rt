@@ -2,15 +2,13 @@
 ghost use Rattle.std.specs.Prelude.{◌≡◌, Some, option_map};
 ghost use Rattle.plir_data.specs.AttrSeen.{attr_view};
 ghost use Rattle.plir_core.specs.declared.ptr.IRNode.{IRNode as AnyNode};
-ghost use Rattle.plir_core.specs.Store.{IsLive, kind_of, op_at};
+ghost use Rattle.plir_core.specs.ContextView.{IsLive, kind_of, op_at};
 ghost use Rattle.plir_builtin.specs.Symbols.{is_symbol_kind, is_table_kind, name_in, name_held};
 
 use plir_core::{Context, Interface, Operation, Ptr, kind_impls};
+use plir_data::keys::ATTR_KEY_SYM_NAME;
 use plir_data::{AttrObj, Identifier, OpSet};
 use thiserror::Error;
-
-/// The key that a symbol's name stands under.
-pub const ATTR_KEY_SYM_NAME: &'static str = "builtin_sym_name";
 
 /// A symbol has no name: no identifier stands under [`ATTR_KEY_SYM_NAME`].
 #[derive(Clone, Copy, PartialEq, Eq, Debug, Error)]

@@ -22,8 +22,8 @@ pub trait TableLinks: NodeLinks {
     /// The one region of an operation.
     fn one_region(&self, op: Ptr<Operation>) -> Ptr<Region>
         requires live { (Self.look self.now).live (AnyNode.Operation op) ≡ true }
-        requires one { length ((Self.look self.now).kids (AnyNode.Operation op)) ≡ 1 }
-        ensures { (Self.look self.now).kids (AnyNode.Operation op) ≡ AnyNode.Region result ∷ [] };
+        requires one { length ((Self.look self.now).children (AnyNode.Operation op)) ≡ 1 }
+        ensures { (Self.look self.now).children (AnyNode.Operation op) ≡ AnyNode.Region result ∷ [] };
 }
 
 impl<D: OpSet> TableLinks for Context<D> {

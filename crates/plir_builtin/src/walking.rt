@@ -32,7 +32,7 @@ pub fn walk_symbol_table<
 >(op: Ptr<Operation>, ctx: &C, state: &mut S, callback: F) -> WalkResult<B>
     requires op_live { (C.look ctx.now).live (AnyNode.Operation op) ≡ true }
     requires table { C.is_table_of ctx.now op ≡ true }
-    requires one_region { length ((C.look ctx.now).kids (AnyNode.Operation op)) ≡ 1 }
+    requires one_region { length ((C.look ctx.now).children (AnyNode.Operation op)) ≡ 1 }
     requires callable { (c : _) (s : _) (p : AnyPtr OperationKind) → c.now ≡ ctx.now →
         StandsUnder (C.look ctx.now) (AnyNode.Operation op) (AnyNode.Operation p) → F.pre callback c s p }
     ensures { HandedOver C.look C.is_table_of (ReadsBack F.Fn callback) ctx.now state.old op result state.new }

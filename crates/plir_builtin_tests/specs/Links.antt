@@ -4,7 +4,7 @@ use Rattle.plir_data.specs.Dictionary.{dict_get}
 use Rattle.plir_core.specs.declared.ptr.Ptr.{Ptr}
 use Rattle.plir_core.specs.declared.ptr.Operation.{Operation as OperationKind}
 use Rattle.plir_core.specs.declared.ptr.IRNode.TheVariants.{Operation}
-use Rattle.plir_core.specs.Store.{Store, attributes_of, op_above}
+use Rattle.plir_core.specs.ContextView.{ContextView, attributes_of, op_above}
 use Rattle.plir_iface.specs.Counts.{HasNRegions}
 use Rattle.plir_iface.specs.Regions.{HasSingleBlocks}
 use Rattle.plir_builtin.specs.Symbols.{name_in, scan}
@@ -14,7 +14,7 @@ abbrev pub uses_key : List ℕ
 uses_key = codes "link_uses"
 
 -- the name of the symbol that an operation uses
-abbrev pub used_name : {K A T : Type 0} → Store K A T → Ptr OperationKind → Option (List ℕ)
+abbrev pub used_name : {K A T : Type 0} → ContextView K A T → Ptr OperationKind → Option (List ℕ)
 used_name s op = name_in (dict_get (attributes_of s op) uses_key)
 
 -- what there is, as a list
@@ -23,10 +23,10 @@ listed None = []
 listed (Some x) = x ∷ []
 
 -- the names that it uses: that one, if there is one
-abbrev pub names_in_use : {K A T : Type 0} → Store K A T → Ptr OperationKind → List (List ℕ)
+abbrev pub names_in_use : {K A T : Type 0} → ContextView K A T → Ptr OperationKind → List (List ℕ)
 names_in_use s op = listed (used_name s op)
 
-module _ {K A T : Type 0} (own_symbol : K → Bool) (s : Store K A T) where
+module _ {K A T : Type 0} (own_symbol : K → Bool) (s : ContextView K A T) where
   -- a symbol of that name stands in the body of an operation
   pub record IsFoundIn (table : Ptr OperationKind) (name : List ℕ) : Type 0 where
     pub one_region : HasNRegions 1 s table

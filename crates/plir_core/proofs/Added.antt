@@ -3,7 +3,7 @@ use Rattle.std.proofs.Common.{◌≡◌, ℕ, zero, suc, ◌+◌, ◌<◌, ◌�
 use Rattle.std.specs.Prelude.{option_map}
 use Rattle.std.proofs.lemmas.Bool.{cases_eq}
 use Rattle.std.proofs.lemmas.Option.{same_Some, none-some}
-use Rattle.plir_store.specs.Lists.{Lists, IsAgreed, kids_at, parent_at, with_last}
+use Rattle.plir_store.specs.Lists.{Lists, IsAgreed, children_at, parent_at, with_last}
 use Rattle.plir_store.specs.Table.{Table, Cell, IsTable, cell_at, content_at, version_at, is_live_at, next_slot, with_new}
 use Rattle.plir_store.specs.TableLaws.{cell_at-with_new, cell_at-with_new_other, content_at-next_slot}
 use Rattle.plir_core.specs.declared.ptr.Ptr.{Ptr}
@@ -13,7 +13,7 @@ use Rattle.plir_core.specs.declared.ptr.Region.{Region as RegionKind}
 use Rattle.plir_core.specs.declared.ptr.IRNode.{IRNode}
 use Rattle.plir_core.specs.declared.ptr.IRNode.TheVariants.{Operation, Region, BasicBlock}
 use Rattle.plir_core.specs.Above.{climb, Reaches}
-use Rattle.plir_core.specs.Nodes.{Nodes, ptr_at, is_given_out, op_node, region_node, block_node, is_node_live, was_given_out, node_kids, node_parent}
+use Rattle.plir_core.specs.Nodes.{Nodes, ptr_at, is_given_out, op_node, region_node, block_node, is_node_live, was_given_out, node_children, node_parent}
 use Rattle.plir_core.specs.Stored.{IsListing, IsStored}
 use Rattle.std.proofs.Common.{set, length-set}
 use Rattle.std.proofs.lemmas.List.{get_or-set_same, get_or-set_other, map-append}
@@ -23,7 +23,7 @@ use Rattle.plir_core.proofs.Facts.{parent-live}
 use Rattle.plir_core.specs.Edits.{SameNodes, room_child, room_list, with_new_op, with_new_block, with_new_region}
 use Rattle.plir_core.proofs.NewNodes.{apart_new}
 use Rattle.plir_core.specs.Made.{KeepsLive, IsAdded, IsRegionAdded, IsMade}
-use Rattle.plir_core.proofs.Listing.{within_content, parent_at-room_child, parent_at-room_list, kids_at-room_child, kids_at-room_list, kids-room_child, loose, childless, some_none}
+use Rattle.plir_core.proofs.Listing.{within_content, parent_at-room_child, parent_at-room_list, children_at-room_child, children_at-room_list, children-room_child, loose, childless, some_none}
 use Rattle.plir_core.proofs.Seats.{live_some, live_version, some_live, same_ptr}
 
 -- a map whose function changes at no element
@@ -101,8 +101,8 @@ module _ {C : Type 0} (t : Table C) (v : C) (w : IsTable t) where
 
 -- the words over lists of which the one or the other table has grown
 module _ {C P : Type 0} (l : Lists) (t : Table C) (u : Table P) (w : IsListing l t u) where
-  kids_grown : {A X : Type 0} (f : Ptr X → A) (v : C) → IsTable t → (p : ℕ) → map (λ i. f (ptr_at (with_new t v) i)) (kids_at l p) ≡ map (λ i. f (ptr_at t i)) (kids_at l p)
-  kids_grown f v s p = map_on (λ i. f (ptr_at (with_new t v) i)) (λ i. f (ptr_at t i)) (kids_at l p) (λ i j. ap f (ptr_grown t v s i ((w.linked_live i p (w.agreed.owned p i j)).0)))
+  children_grown : {A X : Type 0} (f : Ptr X → A) (v : C) → IsTable t → (p : ℕ) → map (λ i. f (ptr_at (with_new t v) i)) (children_at l p) ≡ map (λ i. f (ptr_at t i)) (children_at l p)
+  children_grown f v s p = map_on (λ i. f (ptr_at (with_new t v) i)) (λ i. f (ptr_at t i)) (children_at l p) (λ i j. ap f (ptr_grown t v s i ((w.linked_live i p (w.agreed.owned p i j)).0)))
 
   over_in : {A X : Type 0} (f : Ptr X → A) (v : P) → IsTable u → (c : ℕ) (o : Option ℕ) → parent_at l c ≡ o → option_map (λ i. f (ptr_at (with_new u v) i)) o ≡ option_map (λ i. f (ptr_at u i)) o
   over_in f v s c None e = refl
@@ -136,16 +136,16 @@ module _ {O B : Type 0} (s : Nodes O B) (w : IsStored s) where
           ];
           limit = refl;
         };
-        kids = elim [
-          | Operation q ↦ λ e n. rw (live_grown s.ops v w.op_slots q.slot q.version e, e, kids_at-room_list s.regions_in_op s.ops.free q.slot) refl
+        children = elim [
+          | Operation q ↦ λ e n. rw (live_grown s.ops v w.op_slots q.slot q.version e, e, children_at-room_list s.regions_in_op s.ops.free q.slot) refl
           | Region q ↦ λ e n. refl
-          | BasicBlock q ↦ λ e n. ap (λ o. cond (is_live_at s.blocks q.slot q.version) o []) (ap (map (op_node t)) (kids_at-room_child s.ops_in_block s.ops.free q.slot) ∙ kids_grown s.ops_in_block s.ops s.blocks w.ops_listed Operation v w.op_slots q.slot)
+          | BasicBlock q ↦ λ e n. ap (λ o. cond (is_live_at s.blocks q.slot q.version) o []) (ap (map (op_node t)) (children_at-room_child s.ops_in_block s.ops.free q.slot) ∙ children_grown s.ops_in_block s.ops s.blocks w.ops_listed Operation v w.op_slots q.slot)
         ];
         new = ptr_dead s.ops v w.op_slots p is;
         fresh = ptr_fresh s.ops v w.op_slots p is;
         added = ptr_live s.ops v w.op_slots p is;
         placed = rw (ptr_live s.ops v w.op_slots p is, parent_at-room_child s.ops_in_block s.ops.free p.slot, loose s.ops_in_block s.ops s.blocks w.ops_listed p.slot (rw (slot_is s.ops v w.op_slots p is) (content_at-next_slot s.ops w.op_slots))) refl;
-        leaf = rw (ptr_live s.ops v w.op_slots p is, kids_at-room_list s.regions_in_op s.ops.free p.slot, childless s.regions_in_op s.regions s.ops w.regions_listed p.slot (rw (slot_is s.ops v w.op_slots p is) (content_at-next_slot s.ops w.op_slots))) refl;
+        leaf = rw (ptr_live s.ops v w.op_slots p is, children_at-room_list s.regions_in_op s.ops.free p.slot, childless s.regions_in_op s.regions s.ops w.regions_listed p.slot (rw (slot_is s.ops v w.op_slots p is) (content_at-next_slot s.ops w.op_slots))) refl;
         only = elim [
           | Operation q ↦ λ e f. ap Operation (ptr_only s.ops v w.op_slots p is q e f)
           | Region q ↦ λ e f. absurd (true_false e f)
@@ -177,16 +177,16 @@ module _ {O B : Type 0} (s : Nodes O B) (w : IsStored s) where
           ];
           limit = refl;
         };
-        kids = elim [
+        children = elim [
           | Operation q ↦ λ e n. refl
-          | Region q ↦ λ e n. ap (λ o. cond (is_live_at s.regions q.slot q.version) o []) (ap (map (block_node t)) (kids_at-room_child s.blocks_in_region s.blocks.free q.slot) ∙ kids_grown s.blocks_in_region s.blocks s.regions w.blocks_listed BasicBlock v w.block_slots q.slot)
-          | BasicBlock q ↦ λ e n. rw (live_grown s.blocks v w.block_slots q.slot q.version e, e, kids_at-room_list s.ops_in_block s.blocks.free q.slot) refl
+          | Region q ↦ λ e n. ap (λ o. cond (is_live_at s.regions q.slot q.version) o []) (ap (map (block_node t)) (children_at-room_child s.blocks_in_region s.blocks.free q.slot) ∙ children_grown s.blocks_in_region s.blocks s.regions w.blocks_listed BasicBlock v w.block_slots q.slot)
+          | BasicBlock q ↦ λ e n. rw (live_grown s.blocks v w.block_slots q.slot q.version e, e, children_at-room_list s.ops_in_block s.blocks.free q.slot) refl
         ];
         new = ptr_dead s.blocks v w.block_slots p is;
         fresh = ptr_fresh s.blocks v w.block_slots p is;
         added = ptr_live s.blocks v w.block_slots p is;
         placed = rw (ptr_live s.blocks v w.block_slots p is, parent_at-room_child s.blocks_in_region s.blocks.free p.slot, loose s.blocks_in_region s.blocks s.regions w.blocks_listed p.slot (rw (slot_is s.blocks v w.block_slots p is) (content_at-next_slot s.blocks w.block_slots))) refl;
-        leaf = rw (ptr_live s.blocks v w.block_slots p is, kids_at-room_list s.ops_in_block s.blocks.free p.slot, childless s.ops_in_block s.ops s.blocks w.ops_listed p.slot (rw (slot_is s.blocks v w.block_slots p is) (content_at-next_slot s.blocks w.block_slots))) refl;
+        leaf = rw (ptr_live s.blocks v w.block_slots p is, children_at-room_list s.ops_in_block s.blocks.free p.slot, childless s.ops_in_block s.ops s.blocks w.ops_listed p.slot (rw (slot_is s.blocks v w.block_slots p is) (content_at-next_slot s.blocks w.block_slots))) refl;
         only = elim [
           | Operation q ↦ λ e f. absurd (true_false e f)
           | Region q ↦ λ e f. absurd (true_false e f)
@@ -202,9 +202,9 @@ module _ {O B : Type 0} (s : Nodes O B) (w : IsStored s) where
   unfolding region_lists
   region_parent_other o i n = get_or-set_other (room_child s.regions_in_op s.regions.free).parents (next_slot s.regions) i (Some o) None n ∙ parent_at-room_child s.regions_in_op s.regions.free i
 
-  region_kids_other : (o p : ℕ) → (p ≡ o → ⊥) → kids_at (region_lists o) p ≡ kids_at s.regions_in_op p
+  region_children_other : (o p : ℕ) → (p ≡ o → ⊥) → children_at (region_lists o) p ≡ children_at s.regions_in_op p
   unfolding region_lists
-  region_kids_other o p n = get_or-set_other (room_child s.regions_in_op s.regions.free).kids o p _ [] n ∙ kids_at-room_child s.regions_in_op s.regions.free p
+  region_children_other o p n = get_or-set_other (room_child s.regions_in_op s.regions.free).children o p _ [] n ∙ children_at-room_child s.regions_in_op s.regions.free p
 
   pub IsAdded-region : (o : Ptr OperationKind) (p : Ptr RegionKind) → is_node_live s (Operation o) ≡ true → IsStored (with_new_region s o.slot) → p ≡ ptr_at (with_new s.regions (record {})) (next_slot s.regions) → IsAdded s (with_new_region s o.slot) (Region p) (Some (Operation o))
   unfolding region_lists
@@ -234,16 +234,16 @@ module _ {O B : Type 0} (s : Nodes O B) (w : IsStored s) where
           ];
           limit = refl;
         };
-        kids = elim [
-          | Operation q ↦ λ e n. rw (region_kids_other o.slot q.slot (λ g. n (ap (λ z. Some (Operation z)) (sym (same_op q g e))))) (ap (λ ks. cond (is_live_at s.ops q.slot q.version) ks []) (kids_grown s.regions_in_op s.regions s.ops w.regions_listed Region v w.region_slots q.slot))
-          | Region q ↦ λ e n. rw (live_grown s.regions v w.region_slots q.slot q.version e, e, kids_at-room_list s.blocks_in_region s.regions.free q.slot) refl
+        children = elim [
+          | Operation q ↦ λ e n. rw (region_children_other o.slot q.slot (λ g. n (ap (λ z. Some (Operation z)) (sym (same_op q g e))))) (ap (λ ks. cond (is_live_at s.ops q.slot q.version) ks []) (children_grown s.regions_in_op s.regions s.ops w.regions_listed Region v w.region_slots q.slot))
+          | Region q ↦ λ e n. rw (live_grown s.regions v w.region_slots q.slot q.version e, e, children_at-room_list s.blocks_in_region s.regions.free q.slot) refl
           | BasicBlock q ↦ λ e n. refl
         ];
         new = ptr_dead s.regions v w.region_slots p is;
         fresh = ptr_fresh s.regions v w.region_slots p is;
         added = ptr_live s.regions v w.region_slots p is;
         placed = rw (ptr_live s.regions v w.region_slots p is, slot_is s.regions v w.region_slots p is, here) (ap (λ z. Some (Operation z)) (same_ptr (ptr_at s.ops o.slot) o refl (live_version s.ops o.slot o.version live)));
-        leaf = rw (ptr_live s.regions v w.region_slots p is, kids_at-room_list s.blocks_in_region s.regions.free p.slot, childless s.blocks_in_region s.blocks s.regions w.blocks_listed p.slot (rw (slot_is s.regions v w.region_slots p is) (content_at-next_slot s.regions w.region_slots))) refl;
+        leaf = rw (ptr_live s.regions v w.region_slots p is, children_at-room_list s.blocks_in_region s.regions.free p.slot, childless s.blocks_in_region s.blocks s.regions w.blocks_listed p.slot (rw (slot_is s.regions v w.region_slots p is) (content_at-next_slot s.regions w.region_slots))) refl;
         only = elim [
           | Operation q ↦ λ e f. absurd (true_false e f)
           | Region q ↦ λ e f. ap Region (ptr_only s.regions v w.region_slots p is q e f)
@@ -255,19 +255,19 @@ module _ {O B : Type 0} (s : Nodes O B) (w : IsStored s) where
       same_op q g e = same_ptr q o g (sym (live_version s.ops q.slot q.version e) ∙ ap (version_at s.ops) g ∙ live_version s.ops o.slot o.version live)
 
   -- the regions of o with the new one
-  region_kids_here : (o : ℕ) → o < length s.ops.slots → kids_at (region_lists o) o ≡ kids_at s.regions_in_op o ++ next_slot s.regions ∷ []
+  region_children_here : (o : ℕ) → o < length s.ops.slots → children_at (region_lists o) o ≡ children_at s.regions_in_op o ++ next_slot s.regions ∷ []
   unfolding region_lists
-  region_kids_here o h =
-      get_or-set_same (room_child s.regions_in_op s.regions.free).kids o (kids_at (room_child s.regions_in_op s.regions.free) o ++ next_slot s.regions ∷ []) [] (let c = ap length (kids-room_child s.regions_in_op s.regions.free) in let d = w.regions_listed.parent_places in omega arith)
-      ∙ ap (λ ks. ks ++ next_slot s.regions ∷ []) (kids_at-room_child s.regions_in_op s.regions.free o)
+  region_children_here o h =
+      get_or-set_same (room_child s.regions_in_op s.regions.free).children o (children_at (room_child s.regions_in_op s.regions.free) o ++ next_slot s.regions ∷ []) [] (let c = ap length (children-room_child s.regions_in_op s.regions.free) in let d = w.regions_listed.parent_places in omega arith)
+      ∙ ap (λ ks. ks ++ next_slot s.regions ∷ []) (children_at-room_child s.regions_in_op s.regions.free o)
 
-  region_last : (o : Ptr OperationKind) (p : Ptr RegionKind) → is_node_live s (Operation o) ≡ true → p ≡ ptr_at (with_new s.regions (record {})) (next_slot s.regions) → node_kids (with_new_region s o.slot) (Operation o) ≡ node_kids s (Operation o) ++ Region p ∷ []
+  region_last : (o : Ptr OperationKind) (p : Ptr RegionKind) → is_node_live s (Operation o) ≡ true → p ≡ ptr_at (with_new s.regions (record {})) (next_slot s.regions) → node_children (with_new_region s o.slot) (Operation o) ≡ node_children s (Operation o) ++ Region p ∷ []
   unfolding region_lists
   region_last o p live is =
       let t = with_new_region s o.slot in
-      rw (live, region_kids_here o.slot (within_content s.ops o.slot (live_some s.ops o.slot o.version live)), map-append (region_node t) (kids_at s.regions_in_op o.slot) (next_slot s.regions ∷ []))
-      (ap (λ ks. ks ++ region_node t (next_slot s.regions) ∷ []) (kids_grown s.regions_in_op s.regions s.ops w.regions_listed Region (record {}) w.region_slots o.slot)
-      ∙ ap (λ z. map (region_node s) (kids_at s.regions_in_op o.slot) ++ Region z ∷ []) (sym is))
+      rw (live, region_children_here o.slot (within_content s.ops o.slot (live_some s.ops o.slot o.version live)), map-append (region_node t) (children_at s.regions_in_op o.slot) (next_slot s.regions ∷ []))
+      (ap (λ ks. ks ++ region_node t (next_slot s.regions) ∷ []) (children_grown s.regions_in_op s.regions s.ops w.regions_listed Region (record {}) w.region_slots o.slot)
+      ∙ ap (λ z. map (region_node s) (children_at s.regions_in_op o.slot) ++ Region z ∷ []) (sym is))
 
 -- a region is made: t is what the nodes are then
 pub IsRegionAdded-made : {O B : Type 0} (s t : Nodes O B) → IsStored s → (o : Ptr OperationKind) (p : Ptr RegionKind) → is_node_live s (Operation o) ≡ true → t ≡ with_new_region s o.slot → IsStored t → p ≡ ptr_at t.regions (next_slot s.regions) → IsRegionAdded s t (Operation o) (Region p)
@@ -296,8 +296,8 @@ climb_from up up' k (Some b) n f c = f b refl c
 
 -- Trees that are made, one node after another.
 module _ {O B : Type 0} where
-  dead_kids : (s : Nodes O B) (n : IRNode) → is_node_live s n ≡ false → node_kids s n ≡ []
-  dead_kids s n e = rw e refl
+  dead_children : (s : Nodes O B) (n : IRNode) → is_node_live s n ≡ false → node_children s n ≡ []
+  dead_children s n e = rw e refl
 
   dead_over : (s : Nodes O B) (n : IRNode) → is_node_live s n ≡ false → node_parent s n ≡ None
   dead_over s n e = rw e refl
@@ -305,7 +305,7 @@ module _ {O B : Type 0} where
   pub IsMade-first : (s t : Nodes O B) → IsStored s → (n : IRNode) → IsAdded s t n None → IsMade s t n
   IsMade-first s t w n a = record {
     keeps = a.keeps;
-    kids = λ m e. a.kids m e (λ q. none-some m q);
+    children = λ m e. a.children m e (λ q. none-some m q);
     new = a.new;
     root = a.added;
     top = a.placed;
@@ -339,7 +339,7 @@ module _ {O B : Type 0} where
   pub IsMade-more : (s t u : Nodes O B) → IsStored s → IsStored t → (n r : IRNode) → IsMade s t n → IsAdded t u r (Some n) → IsMade s u n
   IsMade-more s t u v w n r m a = record {
     keeps = KeepsLive-on s t u m.keeps a.keeps;
-    kids = λ x e. a.kids x (m.keeps.live x e) (λ q. true_false e (subst (λ z. is_node_live s z ≡ false) (same_Some n x q) m.new)) ∙ m.kids x e;
+    children = λ x e. a.children x (m.keeps.live x e) (λ q. true_false e (subst (λ z. is_node_live s z ≡ false) (same_Some n x q) m.new)) ∙ m.children x e;
     new = m.new;
     root = a.keeps.live n m.root;
     top = a.keeps.parents n m.root ∙ m.top;
@@ -378,9 +378,9 @@ module _ {O B : Type 0} where
     pub SameNodes-unmade : SameNodes s u
     SameNodes-unmade = record {
       live = same_live;
-      kids = λ y. elim (true_or_false (is_node_live s y)) [
-        | inl e ↦ x.kids y (m.apart y e) (λ q. none-some y (sym m.top ∙ q)) ∙ m.kids y e
-        | inr e ↦ dead_kids u y (same_live y ∙ e) ∙ sym (dead_kids s y e)
+      children = λ y. elim (true_or_false (is_node_live s y)) [
+        | inl e ↦ x.children y (m.apart y e) (λ q. none-some y (sym m.top ∙ q)) ∙ m.children y e
+        | inr e ↦ dead_children u y (same_live y ∙ e) ∙ sym (dead_children s y e)
       ];
       parents = λ y. elim (true_or_false (is_node_live s y)) [
         | inl e ↦ x.parents y (m.apart y e) ∙ m.keeps.parents y e

@@ -9,7 +9,7 @@ use Rattle.plir_core.specs.Above.{climb, Reaches}
 use Rattle.plir_core.specs.Nodes.{Nodes, is_node_live, node_parent}
 use Rattle.plir_core.specs.Stored.{seat_of, up, IsStored}
 use Rattle.plir_core.proofs.Facts.{parent-live}
-use Rattle.plir_core.proofs.Depths.{depth-kid, depth_falls}
+use Rattle.plir_core.proofs.Depths.{depth-child, depth_falls}
 use Rattle.plir_core.proofs.Trees.{climb_nothing, climb_step}
 use Rattle.plir_core.specs.Measures.{depth_from, most_steps, depth_of}
 
@@ -65,7 +65,7 @@ module _ {O B : Type 0} (s : Nodes O B) (node ancestor : IRNode) where
       nothing : (k : ℕ) → depth_from (up s) k None ≡ 0
       nothing zero = refl
       nothing (suc k) = refl
-  falls_in w current (Some p) e = let d = depth-kid s w p current e in omega arith
+  falls_in w current (Some p) e = let d = depth-child s w p current e in omega arith
 
   pub levels-fall : IsStored s → (current : IRNode) (at next : Option IRNode) → at ≡ Some current → next ≡ node_parent s current → levels_left s next < levels_left s at
   levels-fall w current at next is e = rw (is, e) (falls_in w current (node_parent s current) refl)

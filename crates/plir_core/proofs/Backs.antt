@@ -1,11 +1,11 @@
--- The last kid of a node, and what stands before a kid: kids in reverse.
+-- The last child of a node, and what stands before a child: children in reverse.
 use Rattle.std.proofs.Common.{◌≡◌, ℕ, zero, suc, Bool, true, false, cond, List, [], ◌∷◌, ◌++◌, map, length}
 use Rattle.std.proofs.Common.{Option, Some, None, refl, sym, ◌∙◌, ap, subst, eq-eqb, reverse}
 use Rattle.std.specs.Prelude.{option_map, slice_get}
 use Rattle.std.proofs.lemmas.Bool.{ne_eqb}
 use Rattle.std.proofs.lemmas.List.{reverse-append}
 use Rattle.std.proofs.lemmas.Option.{same_Some, none-some}
-use Rattle.plir_store.specs.Lists.{Lists, IsAgreed, kids_at, last_from, prev_in, prev_of}
+use Rattle.plir_store.specs.Lists.{Lists, IsAgreed, children_at, last_from, prev_in, prev_of}
 use Rattle.plir_store.specs.MemberLaws.{Has-at}
 use Rattle.plir_store.specs.Members.{Has, Distinct, head}
 use Rattle.plir_store.specs.Table.{Table, version_at, is_live_at}
@@ -13,10 +13,10 @@ use Rattle.plir_core.specs.declared.ptr.Ptr.{Ptr}
 use Rattle.plir_core.specs.declared.ptr.IRNode.{IRNode}
 use Rattle.plir_core.specs.declared.ptr.IRNode.TheVariants.{Operation, Region, BasicBlock}
 use Rattle.plir_core.specs.Nodes.{Nodes, ptr_at, op_node, region_node, block_node, is_node_live}
-use Rattle.plir_core.specs.Nodes.{node_kids, node_last, node_prev}
+use Rattle.plir_core.specs.Nodes.{node_children, node_last, node_prev}
 use Rattle.plir_core.specs.Stored.{IsListing, IsStored}
 use Rattle.plir_core.proofs.Facts.{live_at}
-use Rattle.plir_core.proofs.KidPlaces.{map_get, map_got, get_mid}
+use Rattle.plir_core.proofs.ChildPlaces.{map_get, map_got, get_mid}
 
 -- the first of a list, or a if it is empty
 abbrev head_or : {A : Type 0} → Option A → List A → Option A
@@ -48,10 +48,10 @@ last_in f true xs = last_map f None xs ∙ head_or_none (reverse (map f xs))
 last_in f false xs = refl
 
 module _ {O B : Type 0} (s : Nodes O B) where
-  pub last-head : (a : IRNode) → node_last s a ≡ head (reverse (node_kids s a))
-  last-head (Operation p) = last_in (region_node s) (is_node_live s (Operation p)) (kids_at s.regions_in_op p.slot)
-  last-head (Region p) = last_in (block_node s) (is_node_live s (Region p)) (kids_at s.blocks_in_region p.slot)
-  last-head (BasicBlock p) = last_in (op_node s) (is_node_live s (BasicBlock p)) (kids_at s.ops_in_block p.slot)
+  pub last-head : (a : IRNode) → node_last s a ≡ head (reverse (node_children s a))
+  last-head (Operation p) = last_in (region_node s) (is_node_live s (Operation p)) (children_at s.regions_in_op p.slot)
+  last-head (Region p) = last_in (block_node s) (is_node_live s (Region p)) (children_at s.blocks_in_region p.slot)
+  last-head (BasicBlock p) = last_in (op_node s) (is_node_live s (BasicBlock p)) (children_at s.ops_in_block p.slot)
 
 -- what stands right before a place of a list, or a at its start
 abbrev before_or : {A : Type 0} → Option A → List A → ℕ → Option A
@@ -71,9 +71,9 @@ prev_get a (x ∷ xs) c (suc i) d e =
     rw (ne_eqb x c n) (prev_get (Some x) xs c i d.1 e ∙ shift x xs i)
 
 -- what stands before the child at a place is the child at the place before
-prev_at : (s : Lists) → IsAgreed s → (p i c : ℕ) → slice_get (kids_at s p) i ≡ Some c →
-    prev_of s c ≡ before_or None (kids_at s p) i
-prev_at s a p i c e = rw (a.owned p c (Has-at (kids_at s p) i c e)) (prev_get None (kids_at s p) c i (a.apart p) e)
+prev_at : (s : Lists) → IsAgreed s → (p i c : ℕ) → slice_get (children_at s p) i ≡ Some c →
+    prev_of s c ≡ before_or None (children_at s p) i
+prev_at s a p i c e = rw (a.owned p c (Has-at (children_at s p) i c e)) (prev_get None (children_at s p) c i (a.apart p) e)
 
 before_map : {A : Type 0} (f : ℕ → A) (xs : List ℕ) (i : ℕ) →
     option_map f (before_or None xs i) ≡ before_or None (map f xs) i
@@ -81,20 +81,20 @@ before_map f xs zero = refl
 before_map f xs (suc i) = sym (map_get f xs i)
 
 -- One of the three kinds of lists: `child` makes nodes of the pointers.
-module _ {C P X : Type 0} (l : Lists) (t : Table C) (u : Table P) (w : IsListing l t u) (child : Ptr X → IRNode) where
+module _ {C P X : Type 0} (l : Lists) (t : Table C) (u : Table P) (w : IsListing l t u) (as_node : Ptr X → IRNode) where
   before_in : (b : Bool) (p i : ℕ) (x : IRNode) →
-      slice_get (cond b (map (λ j. child (ptr_at t j)) (kids_at l p)) []) i ≡ Some x →
-      (c : ℕ) × ((child (ptr_at t c) ≡ x) × ((is_live_at t c (version_at t c) ≡ true) ×
-      (option_map (λ j. child (ptr_at t j)) (prev_of l c) ≡
-      before_or None (cond b (map (λ j. child (ptr_at t j)) (kids_at l p)) []) i)))
+      slice_get (cond b (map (λ j. as_node (ptr_at t j)) (children_at l p)) []) i ≡ Some x →
+      (c : ℕ) × ((as_node (ptr_at t c) ≡ x) × ((is_live_at t c (version_at t c) ≡ true) ×
+      (option_map (λ j. as_node (ptr_at t j)) (prev_of l c) ≡
+      before_or None (cond b (map (λ j. as_node (ptr_at t j)) (children_at l p)) []) i)))
   before_in false p i x e = absurd (none-some x e)
   before_in true p i x e =
-      let f : ℕ → IRNode = λ j. child (ptr_at t j) in
-      let r = map_got f (slice_get (kids_at l p) i) x (sym (map_get f (kids_at l p) i) ∙ e) in
-      let owned = w.agreed.owned p r.0 (Has-at (kids_at l p) i r.0 r.1.0) in
+      let f : ℕ → IRNode = λ j. as_node (ptr_at t j) in
+      let r = map_got f (slice_get (children_at l p) i) x (sym (map_get f (children_at l p) i) ∙ e) in
+      let owned = w.agreed.owned p r.0 (Has-at (children_at l p) i r.0 r.1.0) in
       let live = live_at t r.0 ((w.linked_live r.0 p owned).0) in
       let before = prev_at l w.agreed p i r.0 r.1.0 in
-      (r.0, (r.1.1, (live, ap (option_map f) before ∙ before_map f (kids_at l p) i)))
+      (r.0, (r.1.1, (live, ap (option_map f) before ∙ before_map f (children_at l p) i)))
 
 -- what stands right before what is behind a list is its last
 before_mid : {A : Type 0} (a : Option A) (xs ys : List A) (x : A) →
@@ -104,22 +104,22 @@ before_mid a (z ∷ zs) ys x =
     sym (shift z (zs ++ x ∷ ys) (length zs)) ∙ before_mid (Some z) zs ys x ∙ sym (head_or_reverse a z zs)
 
 module _ {O B : Type 0} (s : Nodes O B) (w : IsStored s) where
-  prev-place : (a x : IRNode) (i : ℕ) → slice_get (node_kids s a) i ≡ Some x →
-      node_prev s x ≡ before_or None (node_kids s a) i
+  prev-place : (a x : IRNode) (i : ℕ) → slice_get (node_children s a) i ≡ Some x →
+      node_prev s x ≡ before_or None (node_children s a) i
   prev-place (Operation p) x i e =
       let live = is_node_live s (Operation p) in
       let r = before_in s.regions_in_op s.regions s.ops w.regions_listed Region live p.slot i x e in
-      subst (λ z. node_prev s z ≡ before_or None (node_kids s (Operation p)) i) r.1.0 (rw r.1.1.0 r.1.1.1)
+      subst (λ z. node_prev s z ≡ before_or None (node_children s (Operation p)) i) r.1.0 (rw r.1.1.0 r.1.1.1)
   prev-place (Region p) x i e =
       let live = is_node_live s (Region p) in
       let r = before_in s.blocks_in_region s.blocks s.regions w.blocks_listed BasicBlock live p.slot i x e in
-      subst (λ z. node_prev s z ≡ before_or None (node_kids s (Region p)) i) r.1.0 (rw r.1.1.0 r.1.1.1)
+      subst (λ z. node_prev s z ≡ before_or None (node_children s (Region p)) i) r.1.0 (rw r.1.1.0 r.1.1.1)
   prev-place (BasicBlock p) x i e =
       let live = is_node_live s (BasicBlock p) in
       let r = before_in s.ops_in_block s.ops s.blocks w.ops_listed Operation live p.slot i x e in
-      subst (λ z. node_prev s z ≡ before_or None (node_kids s (BasicBlock p)) i) r.1.0 (rw r.1.1.0 r.1.1.1)
+      subst (λ z. node_prev s z ≡ before_or None (node_children s (BasicBlock p)) i) r.1.0 (rw r.1.1.0 r.1.1.1)
 
-  pub prev-before : (a x : IRNode) (xs ys : List IRNode) → node_kids s a ≡ xs ++ x ∷ ys →
+  pub prev-before : (a x : IRNode) (xs ys : List IRNode) → node_children s a ≡ xs ++ x ∷ ys →
       node_prev s x ≡ head (reverse xs)
   prev-before a x xs ys e =
       prev-place a x (length xs) (ap (λ z. slice_get z (length xs)) e ∙ get_mid xs ys x)

@@ -5,7 +5,7 @@ use Rattle.std.proofs.lemmas.Bool.{cases_eq}
 use Rattle.std.proofs.lemmas.List.{get_or-set_same, get_or-set_other}
 use Rattle.plir_store.specs.TableLaws.{IsTable-with_content, num_full-with_content}
 use Rattle.std.proofs.lemmas.Option.{same_Some, none-some}
-use Rattle.plir_store.specs.Lists.{Lists, IsAgreed, parent_at, kids_at, with_last, with_before, without_child}
+use Rattle.plir_store.specs.Lists.{Lists, IsAgreed, parent_at, children_at, with_last, with_before, without_child}
 use Rattle.plir_store.specs.Table.{Table, Cell, no_cell, IsTable, content_at, version_at, num_full, next_slot, with_new, without_slot, with_content}
 use Rattle.plir_core.specs.declared.ptr.Region.{Region as RegionKind}
 use Rattle.plir_core.specs.Above.{climb, Reaches, IsGrounded}
@@ -16,7 +16,7 @@ use Rattle.plir_core.proofs.Climbs.{climb_to, IsGrounded-cut, IsGrounded-same, I
 use Rattle.plir_core.proofs.Listing.{IsMoved, IsMoved-last, IsListing-child, IsListing-parent, IsListing-link, IsListing-unlink, IsListing-free_child, IsListing-free_parent, parent_at-room_child, parent_at-room_list, some_none, some_kept, not_next, content_new_other, content_without, loose, within_content}
 
 module _ {O B : Type 0} where
-  pub IsStored-empty : (n : ℕ) → n < 2 ^ 32 → IsStored {O = O} {B = B} (record { ops = record { slots = []; free = [] }; regions = record { slots = []; free = [] }; blocks = record { slots = []; free = [] }; regions_in_op = record { kids = []; parents = [] }; blocks_in_region = record { kids = []; parents = [] }; ops_in_block = record { kids = []; parents = [] }; limit = n })
+  pub IsStored-empty : (n : ℕ) → n < 2 ^ 32 → IsStored {O = O} {B = B} (record { ops = record { slots = []; free = [] }; regions = record { slots = []; free = [] }; blocks = record { slots = []; free = [] }; regions_in_op = record { children = []; parents = [] }; blocks_in_region = record { children = []; parents = [] }; ops_in_block = record { children = []; parents = [] }; limit = n })
   IsStored-empty n h = record {
     regions_listed = nothing;
     blocks_listed = nothing;
@@ -30,7 +30,7 @@ module _ {O B : Type 0} where
     limit_fits = h;
   }
     where
-      nothing : {C P : Type 0} → IsListing {C = C} {P = P} (record { kids = []; parents = [] }) (record { slots = []; free = [] }) (record { slots = []; free = [] })
+      nothing : {C P : Type 0} → IsListing {C = C} {P = P} (record { children = []; parents = [] }) (record { slots = []; free = [] }) (record { slots = []; free = [] })
       nothing = record {
         child_places = refl;
         parent_places = refl;

@@ -20,8 +20,8 @@ use Rattle.plir_core.specs.Contents.{OpView, BlockView}
 use Rattle.plir_core.specs.Edits.{SameNodes, with_new_op, with_new_block, with_new_regions}
 use Rattle.plir_core.specs.Nodes.{Nodes, ptr_at, is_node_live}
 use Rattle.plir_core.specs.Stored.{Seat, op, region, block, seat_of}
-use Rattle.plir_core.specs.Store.{Store, IsLive, is_live, entity_node, types_from, operands_of, operands_in}
-use Rattle.plir_core.specs.Whole.{IsWhole}
+use Rattle.plir_core.specs.ContextView.{ContextView, IsLive, is_live, entity_node, types_from, operands_of, operands_in}
+use Rattle.plir_core.specs.WellFormed.{IsWellFormed}
 use Rattle.plir_core.specs.Erase.{without_node}
 use Rattle.plir_core.specs.Uses.{Uses, total, is_seated, hit, values_from, blocks_in, uses_in, uses_held, uses_of, Counts, IsRaisedBy, IsLoweredBy, with_use, without_use}
 use Rattle.plir_core.proofs.Listing.{some_none, some_is, within_content, content_new_other}
@@ -129,9 +129,9 @@ module _ {K A : Type 0} (u u' : Uses) (t : Table (OpView K A)) (i n : ℕ) (o : 
       omega arith))
 
 -- the operands of an operation by what it holds: s is made of the fields, and t is the value
-module _ {K A T : Type 0} (s t : Store K A T) (view : s ≡ t) (p : Ptr OperationKind) (n : ℕ) (o : OpView K A) (was : content_at s.nodes.ops p.slot ≡ Some o) where
+module _ {K A T : Type 0} (s t : ContextView K A T) (view : s ≡ t) (p : Ptr OperationKind) (n : ℕ) (o : OpView K A) (was : content_at s.nodes.ops p.slot ≡ Some o) where
   listed : operands_of t p ≡ o.operands
-  listed = ap (λ (z : Store K A T). operands_of z p) (sym view) ∙ ap operands_in was
+  listed = ap (λ (z : ContextView K A T). operands_of z p) (sym view) ∙ ap operands_in was
 
   pub operand_within : n < length (operands_of t p) → n < length o.operands
   operand_within h = subst (λ xs. n < length xs) listed h
@@ -148,7 +148,7 @@ count_none p (x ∷ xs) a =
     omega arith
 
 -- No live operation uses a node that is not live: s is made of the fields.
-module _ {K A T : Type 0} (own : A → List ℕ) (s : Store K A T) (w : IsWhole own s) where
+module _ {K A T : Type 0} (own : A → List ℕ) (s : ContextView K A T) (w : IsWellFormed own s) where
   unused_seat : (at : Seat) → ((n : IRNode) → IsLive s n → is_seated at n ≡ false) → uses_of s.nodes.ops at ≡ 0
   unused_seat at away = uses-none s.nodes.ops at (λ k. held k (content_at s.nodes.ops k) refl)
     where

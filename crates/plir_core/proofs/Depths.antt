@@ -201,9 +201,9 @@ module _ {O B : Type 0} (s : Nodes O B) (w : IsStored s) where
   up_parent a (Region p) e = seat_over (op_node s) op (is_live_at s.regions p.slot p.version) (parent_at s.regions_in_op p.slot) a (λ i. refl) e
   up_parent a (BasicBlock p) e = seat_over (region_node s) region (is_live_at s.blocks p.slot p.version) (parent_at s.blocks_in_region p.slot) a (λ i. refl) e
 
-  -- a kid stands one level deeper than its parent
-  pub depth-kid : (a x : IRNode) → node_parent s x ≡ Some a → depth_of s x ≡ depth_of s a + 1
-  depth-kid a x e = depth_falls (seat_of x) ∙ ap (λ o. depth_from (up s) (most_steps s) o + 1) (up_parent a x e)
+  -- a child stands one level deeper than its parent
+  pub depth-child : (a x : IRNode) → node_parent s x ≡ Some a → depth_of s x ≡ depth_of s a + 1
+  depth-child a x e = depth_falls (seat_of x) ∙ ap (λ o. depth_from (up s) (most_steps s) o + 1) (up_parent a x e)
 
   -- no node stands deeper than there may be nodes, and one more for a node that is not live
   pub depth-le : (x : IRNode) → depth_of s x ≤ s.limit + 1

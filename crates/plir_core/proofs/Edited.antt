@@ -12,8 +12,8 @@ use Rattle.plir_data.specs.AttrLive.{IsAttrLive, IsLiveWith}
 use Rattle.plir_core.specs.Contents.{OpView, BlockView}
 use Rattle.plir_core.specs.declared.ptr.Ptr.{Ptr}
 use Rattle.plir_core.specs.declared.ptr.Operation.{Operation as OperationKind}
-use Rattle.plir_core.specs.Store.{Store, IsValueLive, operands_of}
-use Rattle.plir_core.specs.Whole.{OpHoldsLive, BlockHoldsLive, IsWhole}
+use Rattle.plir_core.specs.ContextView.{ContextView, IsValueLive, operands_of}
+use Rattle.plir_core.specs.WellFormed.{OpHoldsLive, BlockHoldsLive, IsWellFormed}
 use Rattle.plir_core.specs.Replaced.{replaced}
 use Rattle.plir_core.specs.Changes.{with_op_content, with_block_content}
 use Rattle.plir_core.proofs.Changes.{IsStored-held_op, IsStored-held_block}
@@ -42,16 +42,16 @@ either_way (Ok x) p q = inl p
 either_way (Err y) p q = inr q
 
 -- The edits of a context, where t is its value and s is made of the fields.
-module _ {K A T : Type 0} (own : A → List ℕ) (s t : Store K A T) (view : s ≡ t) (w : IsWhole own s) where
+module _ {K A T : Type 0} (own : A → List ℕ) (s t : ContextView K A T) (view : s ≡ t) (w : IsWellFormed own s) where
   -- of an operation all but the types of the results may change
-  pub op_edited : (i : ℕ) (u v : OpView K A) → content_at s.nodes.ops i ≡ Some u → v.result_types ≡ u.result_types → (OpHoldsLive own s u → OpHoldsLive own s v) → IsWhole own (with_op_content s i v)
+  pub op_edited : (i : ℕ) (u v : OpView K A) → content_at s.nodes.ops i ≡ Some u → v.result_types ≡ u.result_types → (OpHoldsLive own s u → OpHoldsLive own s v) → IsWellFormed own (with_op_content s i v)
   op_edited i u v was same keeps = op_replaced own s w (record s.nodes { ops = with_content s.nodes.ops i v }) i u v refl (IsStored-held_op s.nodes w.stored i v (rw was refl)) was same (keeps (w.holds.ops i u was))
 
   -- of a block all but the types of the arguments may change
-  pub block_edited : (i : ℕ) (u v : BlockView A) → content_at s.nodes.blocks i ≡ Some u → v.arg_types ≡ u.arg_types → (BlockHoldsLive own s u → BlockHoldsLive own s v) → IsWhole own (with_block_content s i v)
+  pub block_edited : (i : ℕ) (u v : BlockView A) → content_at s.nodes.blocks i ≡ Some u → v.arg_types ≡ u.arg_types → (BlockHoldsLive own s u → BlockHoldsLive own s v) → IsWellFormed own (with_block_content s i v)
   block_edited i u v was same keeps = block_replaced own s w (record s.nodes { blocks = with_content s.nodes.blocks i v }) i u v refl (IsStored-held_block s.nodes w.stored i v (rw was refl)) was same (keeps (w.holds.blocks i u was))
 
-  operands_edited : (i : ℕ) (u : OpView K A) (xs : List Value) → content_at s.nodes.ops i ≡ Some u → (All (IsValueLive s) u.operands → All (IsValueLive s) xs) → IsWhole own (with_op_content s i (record u { operands = xs }))
+  operands_edited : (i : ℕ) (u : OpView K A) (xs : List Value) → content_at s.nodes.ops i ≡ Some u → (All (IsValueLive s) u.operands → All (IsValueLive s) xs) → IsWellFormed own (with_op_content s i (record u { operands = xs }))
   operands_edited i u xs was keeps = op_edited i u (record u { operands = xs }) was refl (λ h. record {
     operands = keeps h.operands;
     successors = h.successors;
@@ -62,10 +62,10 @@ module _ {K A T : Type 0} (own : A → List ℕ) (s t : Store K A T) (view : s �
   value_live : (x : Value) → IsValueLive t x → IsValueLive s x
   value_live x l = subst (λ z. IsValueLive z x) (sym view) l
 
-  pub operand_inserted : (i n : ℕ) (u : OpView K A) (x : Value) (xs : List Value) → content_at s.nodes.ops i ≡ Some u → xs ≡ insert u.operands n x → IsValueLive t x → IsWhole own (with_op_content s i (record u { operands = xs }))
+  pub operand_inserted : (i n : ℕ) (u : OpView K A) (x : Value) (xs : List Value) → content_at s.nodes.ops i ≡ Some u → xs ≡ insert u.operands n x → IsValueLive t x → IsWellFormed own (with_op_content s i (record u { operands = xs }))
   operand_inserted i n u x xs was e l = operands_edited i u xs was (λ a. subst (All (IsValueLive s)) (sym e) (All-insert (IsValueLive s) u.operands n x (value_live x l) a))
 
-  pub operand_removed : (i n : ℕ) (u : OpView K A) (xs : List Value) → content_at s.nodes.ops i ≡ Some u → xs ≡ remove u.operands n → IsWhole own (with_op_content s i (record u { operands = xs }))
+  pub operand_removed : (i n : ℕ) (u : OpView K A) (xs : List Value) → content_at s.nodes.ops i ≡ Some u → xs ≡ remove u.operands n → IsWellFormed own (with_op_content s i (record u { operands = xs }))
   operand_removed i n u xs was e = operands_edited i u xs was (λ a. subst (All (IsValueLive s)) (sym e) (All-remove (IsValueLive s) u.operands n a))
 
   -- an operand is live once it is taken out
@@ -92,16 +92,16 @@ module _ {K A T : Type 0} (own : A → List ℕ) (s t : Store K A T) (view : s �
   block_attr_swapped see (Err y) i u was h = tt
   block_attr_swapped see (Ok x) i u was h = h own s.types (w.holds.blocks i u was).attributes
 
-  pub operand_replaced : (i n : ℕ) (u : OpView K A) (x : Value) (xs : List Value) → content_at s.nodes.ops i ≡ Some u → xs ≡ slice_set u.operands n x → IsValueLive t x → IsWhole own (with_op_content s i (record u { operands = xs }))
+  pub operand_replaced : (i n : ℕ) (u : OpView K A) (x : Value) (xs : List Value) → content_at s.nodes.ops i ≡ Some u → xs ≡ slice_set u.operands n x → IsValueLive t x → IsWellFormed own (with_op_content s i (record u { operands = xs }))
   operand_replaced i n u x xs was e l = operands_edited i u xs was (λ a. subst (All (IsValueLive s)) (sym e) (All-set (IsValueLive s) u.operands n x (value_live x l) a))
 
-  pub operands_replaced : (i : ℕ) (u : OpView K A) (v w : Value) (xs : List Value) → content_at s.nodes.ops i ≡ Some u → xs ≡ map (replaced v w) u.operands → IsValueLive t w → IsWhole own (with_op_content s i (record u { operands = xs }))
+  pub operands_replaced : (i : ℕ) (u : OpView K A) (v w : Value) (xs : List Value) → content_at s.nodes.ops i ≡ Some u → xs ≡ map (replaced v w) u.operands → IsValueLive t w → IsWellFormed own (with_op_content s i (record u { operands = xs }))
   operands_replaced i u v w xs was e l = operands_edited i u xs was (λ a. subst (All (IsValueLive s)) (sym e) (All-replaced v w (IsValueLive s) u.operands (value_live w l) a))
 
-  pub operands_same : (i : ℕ) (u : OpView K A) (xs : List Value) → content_at s.nodes.ops i ≡ Some u → xs ≡ u.operands → IsWhole own (with_op_content s i (record u { operands = xs }))
+  pub operands_same : (i : ℕ) (u : OpView K A) (xs : List Value) → content_at s.nodes.ops i ≡ Some u → xs ≡ u.operands → IsWellFormed own (with_op_content s i (record u { operands = xs }))
   operands_same i u xs was e = operands_edited i u xs was (λ a. subst (All (IsValueLive s)) (sym e) a)
 
-  pub located : (i : ℕ) (u : OpView K A) (l : Location) → content_at s.nodes.ops i ≡ Some u → IsWhole own (with_op_content s i (record u { location = l }))
+  pub located : (i : ℕ) (u : OpView K A) (l : Location) → content_at s.nodes.ops i ≡ Some u → IsWellFormed own (with_op_content s i (record u { location = l }))
   located i u l was = op_edited i u (record u { location = l }) was refl (λ h. record {
     operands = h.operands;
     successors = h.successors;
@@ -109,10 +109,10 @@ module _ {K A T : Type 0} (own : A → List ℕ) (s t : Store K A T) (view : s �
     attributes = h.attributes;
   })
 
-  pub labelled : (i : ℕ) (u : BlockView A) (l : Option (List ℕ)) → content_at s.nodes.blocks i ≡ Some u → IsWhole own (with_block_content s i (record u { label = l }))
+  pub labelled : (i : ℕ) (u : BlockView A) (l : Option (List ℕ)) → content_at s.nodes.blocks i ≡ Some u → IsWellFormed own (with_block_content s i (record u { label = l }))
   labelled i u l was = block_edited i u (record u { label = l }) was refl (λ h. record { arg_types = h.arg_types; attributes = h.attributes })
 
-  pub op_attr_removed : (i : ℕ) (u : OpView K A) (k : List ℕ) (es : List (List ℕ × AttrView A)) → content_at s.nodes.ops i ≡ Some u → es ≡ dict_without u.attributes k → IsWhole own (with_op_content s i (record u { attributes = es }))
+  pub op_attr_removed : (i : ℕ) (u : OpView K A) (k : List ℕ) (es : List (List ℕ × AttrView A)) → content_at s.nodes.ops i ≡ Some u → es ≡ dict_without u.attributes k → IsWellFormed own (with_op_content s i (record u { attributes = es }))
   op_attr_removed i u k es was e = op_edited i u (record u { attributes = es }) was refl (λ h. record {
     operands = h.operands;
     successors = h.successors;
@@ -120,7 +120,7 @@ module _ {K A T : Type 0} (own : A → List ℕ) (s t : Store K A T) (view : s �
     attributes = rw e (All-dict_without (λ x. IsAttrLive own s.types x.1) u.attributes k h.attributes);
   })
 
-  pub block_attr_removed : (i : ℕ) (u : BlockView A) (k : List ℕ) (es : List (List ℕ × AttrView A)) → content_at s.nodes.blocks i ≡ Some u → es ≡ dict_without u.attributes k → IsWhole own (with_block_content s i (record u { attributes = es }))
+  pub block_attr_removed : (i : ℕ) (u : BlockView A) (k : List ℕ) (es : List (List ℕ × AttrView A)) → content_at s.nodes.blocks i ≡ Some u → es ≡ dict_without u.attributes k → IsWellFormed own (with_block_content s i (record u { attributes = es }))
   block_attr_removed i u k es was e = block_edited i u (record u { attributes = es }) was refl (λ h. record {
     arg_types = h.arg_types;
     attributes = rw e (All-dict_without (λ x. IsAttrLive own s.types x.1) u.attributes k h.attributes);

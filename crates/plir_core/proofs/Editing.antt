@@ -7,9 +7,9 @@ use Rattle.plir_core.specs.declared.ptr.Operation.{Operation as OperationKind}
 use Rattle.plir_core.specs.declared.ptr.BasicBlock.{BasicBlock as BasicBlockKind}
 use Rattle.plir_core.specs.declared.ptr.IRNode.{IRNode}
 use Rattle.plir_core.specs.declared.ptr.IRNode.TheVariants.{Operation, Region, BasicBlock}
-use Rattle.plir_core.specs.Nodes.{ptr_at, is_given_out, is_node_live, was_given_out, node_kids, node_parent}
+use Rattle.plir_core.specs.Nodes.{ptr_at, is_given_out, is_node_live, was_given_out, node_children, node_parent}
 use Rattle.plir_core.specs.Contents.{OpView, BlockView}
-use Rattle.plir_core.specs.Store.{Store, IsLive, op_at, block_at}
+use Rattle.plir_core.specs.ContextView.{ContextView, IsLive, op_at, block_at}
 use Rattle.plir_core.specs.Changes.{with_op_edit, with_block_edit, op_edited, block_edited}
 use Rattle.plir_core.specs.Held.{KeepsNodes, IsOpEdited, IsBlockEdited}
 use Rattle.plir_core.proofs.Freed.{ptr_one}
@@ -53,14 +53,14 @@ module _ {C : Type 0} (t u : Table C) (a : IsAlike t u) where
   given_alike p = rw (a.versions p.slot) refl
 
 -- Where operations and blocks are held alike, the nodes are the same.
-module _ {K A T : Type 0} (s : Store K A T) (ops : Table (OpView K A)) (blocks : Table (BlockView A)) (a : IsAlike s.nodes.ops ops) (b : IsAlike s.nodes.blocks blocks) where
-  abbrev then_store : Store K A T
+module _ {K A T : Type 0} (s : ContextView K A T) (ops : Table (OpView K A)) (blocks : Table (BlockView A)) (a : IsAlike s.nodes.ops ops) (b : IsAlike s.nodes.blocks blocks) where
+  abbrev then_store : ContextView K A T
   then_store = record s { nodes = record s.nodes { ops = ops; blocks = blocks } }
 
-  kids_alike : (n : IRNode) → node_kids then_store.nodes n ≡ node_kids s.nodes n
-  kids_alike (Operation p) = rw (live_alike s.nodes.ops ops a p.slot p.version) refl
-  kids_alike (Region p) = rw (map_alike _ _ (λ i. ap (λ z. BasicBlock z) (ptr_alike s.nodes.blocks blocks b i)) _) refl
-  kids_alike (BasicBlock p) = rw (live_alike s.nodes.blocks blocks b p.slot p.version, map_alike _ _ (λ i. ap (λ z. Operation z) (ptr_alike s.nodes.ops ops a i)) _) refl
+  children_alike : (n : IRNode) → node_children then_store.nodes n ≡ node_children s.nodes n
+  children_alike (Operation p) = rw (live_alike s.nodes.ops ops a p.slot p.version) refl
+  children_alike (Region p) = rw (map_alike _ _ (λ i. ap (λ z. BasicBlock z) (ptr_alike s.nodes.blocks blocks b i)) _) refl
+  children_alike (BasicBlock p) = rw (live_alike s.nodes.blocks blocks b p.slot p.version, map_alike _ _ (λ i. ap (λ z. Operation z) (ptr_alike s.nodes.ops ops a i)) _) refl
 
   parents_alike : (n : IRNode) → node_parent then_store.nodes n ≡ node_parent s.nodes n
   parents_alike (Operation p) = rw (live_alike s.nodes.ops ops a p.slot p.version, option_alike _ _ (λ i. ap (λ z. BasicBlock z) (ptr_alike s.nodes.blocks blocks b i)) _) refl
@@ -71,7 +71,7 @@ module _ {K A T : Type 0} (s : Store K A T) (ops : Table (OpView K A)) (blocks :
   keeps_alike = record {
     live = λ n. lives n;
     given = λ n. gives n;
-    kids = kids_alike;
+    children = children_alike;
     parents = parents_alike;
     types = refl;
     limit = refl;
@@ -90,7 +90,7 @@ module _ {K A T : Type 0} (s : Store K A T) (ops : Table (OpView K A)) (blocks :
 held_here : {C : Type 0} (t : Table C) (i : ℕ) (v : C) → IsSome (content_at t i) → content_at (with_content t i v) i ≡ Some v
 held_here {C} t i v some = ap (λ (z : Cell C). z.content) (here_held t i v some)
 
-module _ {K A T : Type 0} (s : Store K A T) where
+module _ {K A T : Type 0} (s : ContextView K A T) where
   pub op_is_edited : (p : Ptr OperationKind) (f : OpView K A → OpView K A) → IsLive s (Operation p) → IsOpEdited s (with_op_edit s p f) p f
   op_is_edited p f live = in_slot (op_at s p) refl
     where

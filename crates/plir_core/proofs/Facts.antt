@@ -1,17 +1,17 @@
--- What holds of the nodes of every forest: kids and parents agree, kids stand once, what is linked is live, and what is
+-- What holds of the nodes of every forest: children and parents agree, children stand once, what is linked is live, and what is
 -- live was given out.
 use Rattle.std.proofs.Common.{◌≡◌, ℕ, ◌<◌, true, false, cond, List, [], map, Option, Some, None, IsSome, is_some, refl, sym, ap, subst, arith, eqb, eq-eqb}
 use Rattle.std.specs.Prelude.{option_map, nat_lt, nat_le}
 use Rattle.std.proofs.lemmas.Bool.{eqb-true, and_parts, and_from}
 use Rattle.std.proofs.lemmas.Option.{same_Some, none-some}
-use Rattle.plir_store.specs.Lists.{Lists, kids_at, parent_at}
+use Rattle.plir_store.specs.Lists.{Lists, children_at, parent_at}
 use Rattle.plir_store.specs.Table.{Table, IsTable, content_at, version_at, is_live_at}
 use Rattle.plir_core.specs.declared.ptr.Ptr.{Ptr}
 use Rattle.plir_core.specs.declared.ptr.IRNode.{IRNode}
 use Rattle.plir_core.specs.declared.ptr.IRNode.TheVariants.{Operation, Region, BasicBlock}
 use Rattle.plir_store.specs.MemberLaws.{Has-map, map-Has, Distinct-map}
 use Rattle.plir_store.specs.Members.{Has, Distinct}
-use Rattle.plir_core.specs.Nodes.{Nodes, ptr_at, is_given_out, is_node_live, was_given_out, node_kids, node_parent}
+use Rattle.plir_core.specs.Nodes.{Nodes, ptr_at, is_given_out, is_node_live, was_given_out, node_children, node_parent}
 use Rattle.plir_core.specs.Stored.{IsListing, IsStored}
 use Rattle.plir_core.proofs.Listing.{within_content}
 
@@ -31,28 +31,28 @@ slot_of (Region p) = p.slot
 slot_of (BasicBlock p) = p.slot
 
 -- One of the three kinds of lists: `child` and `over` make nodes of the pointers.
-module _ {C P X Y : Type 0} (l : Lists) (t : Table C) (u : Table P) (w : IsListing l t u) (child : Ptr X → IRNode) (over : Ptr Y → IRNode) where
-  abbrev kids_word : Ptr Y → List IRNode
-  kids_word p = cond (is_live_at u p.slot p.version) (map (λ i. child (ptr_at t i)) (kids_at l p.slot)) []
+module _ {C P X Y : Type 0} (l : Lists) (t : Table C) (u : Table P) (w : IsListing l t u) (as_node : Ptr X → IRNode) (over : Ptr Y → IRNode) where
+  abbrev children_word : Ptr Y → List IRNode
+  children_word p = cond (is_live_at u p.slot p.version) (map (λ i. as_node (ptr_at t i)) (children_at l p.slot)) []
 
   abbrev parent_word : Ptr X → Option IRNode
   parent_word q = cond (is_live_at t q.slot q.version) (option_map (λ i. over (ptr_at u i)) (parent_at l q.slot)) None
 
-  record IsKid (p : Ptr Y) (x : IRNode) : Type 0 where
+  record IsChild (p : Ptr Y) (x : IRNode) : Type 0 where
     ptr : Ptr X
-    is : x ≡ child ptr
+    is : x ≡ as_node ptr
     parent : parent_word ptr ≡ Some (over p)
     live : is_live_at t ptr.slot ptr.version ≡ true
 
   record IsOver (q : Ptr X) (n : IRNode) : Type 0 where
     ptr : Ptr Y
     is : n ≡ over ptr
-    kid : Has (kids_word ptr) (child q)
+    child : Has (children_word ptr) (as_node q)
     live : is_live_at u ptr.slot ptr.version ≡ true
 
-  kid_in : (p : Ptr Y) (x : IRNode) → is_live_at u p.slot p.version ≡ true → Has (map (λ i. child (ptr_at t i)) (kids_at l p.slot)) x → IsKid p x
-  kid_in p x e h =
-      let r = Has-map (λ i. child (ptr_at t i)) (kids_at l p.slot) x h in
+  child_in : (p : Ptr Y) (x : IRNode) → is_live_at u p.slot p.version ≡ true → Has (map (λ i. as_node (ptr_at t i)) (children_at l p.slot)) x → IsChild p x
+  child_in p x e h =
+      let r = Has-map (λ i. as_node (ptr_at t i)) (children_at l p.slot) x h in
       let par = w.agreed.owned p.slot r.0 r.1.0 in
       let live : is_live_at t r.0 (version_at t r.0) ≡ true = live_at t r.0 ((w.linked_live r.0 p.slot par).0) in
       record {
@@ -62,9 +62,9 @@ module _ {C P X Y : Type 0} (l : Lists) (t : Table C) (u : Table P) (w : IsListi
         live = live;
       }
 
-  is_kid : (p : Ptr Y) (x : IRNode) → Has (kids_word p) x → IsKid p x
-  is_kid p x = elim (is_live_at u p.slot p.version) as (λ b. is_live_at u p.slot p.version ≡ b → Has (cond b (map (λ i. child (ptr_at t i)) (kids_at l p.slot)) []) x → IsKid p x) [
-    | true ↦ λ e h. kid_in p x e h
+  is_child : (p : Ptr Y) (x : IRNode) → Has (children_word p) x → IsChild p x
+  is_child p x = elim (is_live_at u p.slot p.version) as (λ b. is_live_at u p.slot p.version ≡ b → Has (cond b (map (λ i. as_node (ptr_at t i)) (children_at l p.slot)) []) x → IsChild p x) [
+    | true ↦ λ e h. child_in p x e h
     | false ↦ λ e h. absurd h
   ] refl
 
@@ -75,7 +75,7 @@ module _ {C P X Y : Type 0} (l : Lists) (t : Table C) (u : Table P) (w : IsListi
       record {
         ptr = ptr_at u i;
         is = sym (same_Some (over (ptr_at u i)) n g);
-        kid = rw live (subst (λ z. Has (map (λ j. child (ptr_at t j)) (kids_at l i)) (child z)) (ptr_is t q e) (map-Has (λ j. child (ptr_at t j)) (kids_at l i) q.slot (w.agreed.held i q.slot f)));
+        child = rw live (subst (λ z. Has (map (λ j. as_node (ptr_at t j)) (children_at l i)) (as_node z)) (ptr_is t q e) (map-Has (λ j. as_node (ptr_at t j)) (children_at l i) q.slot (w.agreed.held i q.slot f)));
         live = live;
       }
 
@@ -85,9 +85,9 @@ module _ {C P X Y : Type 0} (l : Lists) (t : Table C) (u : Table P) (w : IsListi
     | false ↦ λ e h. absurd (none-some n h)
   ] refl
 
-  kids_once : ((i j : ℕ) → child (ptr_at t i) ≡ child (ptr_at t j) → i ≡ j) → (p : Ptr Y) → Distinct (kids_word p)
-  kids_once one p = elim (is_live_at u p.slot p.version) as (λ b. Distinct (cond b (map (λ i. child (ptr_at t i)) (kids_at l p.slot)) [])) [
-    | true ↦ Distinct-map (λ i. child (ptr_at t i)) one (kids_at l p.slot) (w.agreed.apart p.slot)
+  children_once : ((i j : ℕ) → as_node (ptr_at t i) ≡ as_node (ptr_at t j) → i ≡ j) → (p : Ptr Y) → Distinct (children_word p)
+  children_once one p = elim (is_live_at u p.slot p.version) as (λ b. Distinct (cond b (map (λ i. as_node (ptr_at t i)) (children_at l p.slot)) [])) [
+    | true ↦ Distinct-map (λ i. as_node (ptr_at t i)) one (children_at l p.slot) (w.agreed.apart p.slot)
     | false ↦ tt
   ]
 
@@ -98,23 +98,23 @@ given_in t w p e =
     and_from (nat_lt 0 p.version) (nat_le p.version (version_at t p.slot)) (grind arith) (grind arith)
 
 module _ {O B : Type 0} (s : Nodes O B) (w : IsStored s) where
-  -- a kid's parent is the node
-  pub kid-parent : (a x : IRNode) → Has (node_kids s a) x → node_parent s x ≡ Some a
-  kid-parent (Operation p) x h = let k = is_kid s.regions_in_op s.regions s.ops w.regions_listed Region Operation p x h in rw k.is k.parent
-  kid-parent (Region p) x h = let k = is_kid s.blocks_in_region s.blocks s.regions w.blocks_listed BasicBlock Region p x h in rw k.is k.parent
-  kid-parent (BasicBlock p) x h = let k = is_kid s.ops_in_block s.ops s.blocks w.ops_listed Operation BasicBlock p x h in rw k.is k.parent
+  -- a child's parent is the node
+  pub child-parent : (a x : IRNode) → Has (node_children s a) x → node_parent s x ≡ Some a
+  child-parent (Operation p) x h = let k = is_child s.regions_in_op s.regions s.ops w.regions_listed Region Operation p x h in rw k.is k.parent
+  child-parent (Region p) x h = let k = is_child s.blocks_in_region s.blocks s.regions w.blocks_listed BasicBlock Region p x h in rw k.is k.parent
+  child-parent (BasicBlock p) x h = let k = is_child s.ops_in_block s.ops s.blocks w.ops_listed Operation BasicBlock p x h in rw k.is k.parent
 
-  -- kids are live
-  pub kid-live : (a x : IRNode) → Has (node_kids s a) x → is_node_live s x ≡ true
-  kid-live (Operation p) x h = let k = is_kid s.regions_in_op s.regions s.ops w.regions_listed Region Operation p x h in rw k.is k.live
-  kid-live (Region p) x h = let k = is_kid s.blocks_in_region s.blocks s.regions w.blocks_listed BasicBlock Region p x h in rw k.is k.live
-  kid-live (BasicBlock p) x h = let k = is_kid s.ops_in_block s.ops s.blocks w.ops_listed Operation BasicBlock p x h in rw k.is k.live
+  -- children are live
+  pub child-live : (a x : IRNode) → Has (node_children s a) x → is_node_live s x ≡ true
+  child-live (Operation p) x h = let k = is_child s.regions_in_op s.regions s.ops w.regions_listed Region Operation p x h in rw k.is k.live
+  child-live (Region p) x h = let k = is_child s.blocks_in_region s.blocks s.regions w.blocks_listed BasicBlock Region p x h in rw k.is k.live
+  child-live (BasicBlock p) x h = let k = is_child s.ops_in_block s.ops s.blocks w.ops_listed Operation BasicBlock p x h in rw k.is k.live
 
-  -- a node with that parent is among its kids
-  pub parent-kid : (a x : IRNode) → node_parent s x ≡ Some a → Has (node_kids s a) x
-  parent-kid a (Operation q) e = let k = is_over s.ops_in_block s.ops s.blocks w.ops_listed Operation BasicBlock q a e in rw k.is k.kid
-  parent-kid a (Region q) e = let k = is_over s.regions_in_op s.regions s.ops w.regions_listed Region Operation q a e in rw k.is k.kid
-  parent-kid a (BasicBlock q) e = let k = is_over s.blocks_in_region s.blocks s.regions w.blocks_listed BasicBlock Region q a e in rw k.is k.kid
+  -- a node with that parent is among its children
+  pub parent-child : (a x : IRNode) → node_parent s x ≡ Some a → Has (node_children s a) x
+  parent-child a (Operation q) e = let k = is_over s.ops_in_block s.ops s.blocks w.ops_listed Operation BasicBlock q a e in rw k.is k.child
+  parent-child a (Region q) e = let k = is_over s.regions_in_op s.regions s.ops w.regions_listed Region Operation q a e in rw k.is k.child
+  parent-child a (BasicBlock q) e = let k = is_over s.blocks_in_region s.blocks s.regions w.blocks_listed BasicBlock Region q a e in rw k.is k.child
 
   -- parents are live
   pub parent-live : (a x : IRNode) → node_parent s x ≡ Some a → is_node_live s a ≡ true
@@ -122,11 +122,11 @@ module _ {O B : Type 0} (s : Nodes O B) (w : IsStored s) where
   parent-live a (Region q) e = let k = is_over s.regions_in_op s.regions s.ops w.regions_listed Region Operation q a e in rw k.is k.live
   parent-live a (BasicBlock q) e = let k = is_over s.blocks_in_region s.blocks s.regions w.blocks_listed BasicBlock Region q a e in rw k.is k.live
 
-  -- kids stand once
-  pub kids-once : (a : IRNode) → Distinct (node_kids s a)
-  kids-once (Operation p) = kids_once s.regions_in_op s.regions s.ops w.regions_listed Region Operation (λ i j e. ap slot_of e) p
-  kids-once (Region p) = kids_once s.blocks_in_region s.blocks s.regions w.blocks_listed BasicBlock Region (λ i j e. ap slot_of e) p
-  kids-once (BasicBlock p) = kids_once s.ops_in_block s.ops s.blocks w.ops_listed Operation BasicBlock (λ i j e. ap slot_of e) p
+  -- children stand once
+  pub children-once : (a : IRNode) → Distinct (node_children s a)
+  children-once (Operation p) = children_once s.regions_in_op s.regions s.ops w.regions_listed Region Operation (λ i j e. ap slot_of e) p
+  children-once (Region p) = children_once s.blocks_in_region s.blocks s.regions w.blocks_listed BasicBlock Region (λ i j e. ap slot_of e) p
+  children-once (BasicBlock p) = children_once s.ops_in_block s.ops s.blocks w.ops_listed Operation BasicBlock (λ i j e. ap slot_of e) p
 
   -- a live node was given out
   pub live-given : (x : IRNode) → is_node_live s x ≡ true → was_given_out s x ≡ true

@@ -1,8 +1,8 @@
--- One node without kids is freed: what is live, who is whose kid, and that the rest is still a forest.
+-- One node without children is freed: what is live, who is whose child, and that the rest is still a forest.
 use Rattle.std.proofs.Common.{◌≡◌, ℕ, Bool, true, false, cond, List, [], ◌∷◌, ◌++◌, map, length, Option, Some, None, IsSome, is_some, ◌⊎◌, inl, inr, refl, sym, ◌∙◌, ap, eqb, length-set}
 use Rattle.std.specs.Prelude.{option_map}
 use Rattle.std.proofs.lemmas.Bool.{cases_eq, and_left}
-use Rattle.plir_store.specs.Lists.{Lists, kids_at, parent_at, without_child}
+use Rattle.plir_store.specs.Lists.{Lists, children_at, parent_at, without_child}
 use Rattle.plir_store.specs.Table.{Table, content_at, version_at, is_live_at, without_slot}
 use Rattle.plir_core.specs.declared.ptr.Ptr.{Ptr}
 use Rattle.plir_core.specs.declared.ptr.IRNode.{IRNode}
@@ -11,7 +11,7 @@ use Rattle.plir_core.specs.Nodes.{ptr_at, is_given_out}
 use Rattle.plir_core.specs.Stored.{IsListing}
 use Rattle.plir_core.proofs.Facts.{live_parts, ptr_is}
 use Rattle.plir_core.proofs.Listing.{IsMoved, IsListing-unlink, IsListing-free_child, content_without, content_gone, version_without}
-use Rattle.plir_core.proofs.Removal.{kids_at-without_here, kids_at-without_other, parent_at-without_here, parent_at-without_other, IsAgreed-without, length-parents_without, length-kids_without, map-without, among}
+use Rattle.plir_core.proofs.Removal.{children_at-without_here, children_at-without_other, parent_at-without_here, parent_at-without_other, IsAgreed-without, length-parents_without, length-children_without, map-without, among}
 use Rattle.plir_store.specs.MemberLaws.{Has-map}
 
 -- equal functions on a list, and on an option
@@ -49,19 +49,19 @@ pub bool_cases : (b : Bool) → (b ≡ true) ⊎ (b ≡ false)
 bool_cases true = inl refl
 bool_cases false = inr refl
 
--- no kid, if what the list could hold is of another kind
-pub wrong_kid : (b : Bool) (f : ℕ → IRNode) (ks : List ℕ) (n : IRNode) → ((i : ℕ) → f i ≡ n → ⊥) → Has (cond b (map f ks) []) n → ⊥
-wrong_kid false f ks n wrong h = h
-wrong_kid true f ks n wrong h = let r = Has-map f ks n h in wrong r.0 r.1.1
+-- no child, if what the list could hold is of another kind
+pub wrong_child : (b : Bool) (f : ℕ → IRNode) (ks : List ℕ) (n : IRNode) → ((i : ℕ) → f i ≡ n → ⊥) → Has (cond b (map f ks) []) n → ⊥
+wrong_child false f ks n wrong h = h
+wrong_child true f ks n wrong h = let r = Has-map f ks n h in wrong r.0 r.1.1
 
 pub map-nil : {A : Type 0} (f : ℕ → A) (ks : List ℕ) → map f ks ≡ [] → ks ≡ []
 map-nil f [] e = refl
 map-nil f (k ∷ ks) e = cc
 
--- a list of kids by first making nodes of other pointers
-pub kids-made : (b : Bool) (f g : ℕ → IRNode) (ks : List ℕ) → ((i : ℕ) → f i ≡ g i) → cond b (map f ks) [] ≡ cond b (map g ks) []
-kids-made false f g ks e = refl
-kids-made true f g ks e = map-same f g e ks
+-- a list of children by first making nodes of other pointers
+pub children-made : (b : Bool) (f g : ℕ → IRNode) (ks : List ℕ) → ((i : ℕ) → f i ≡ g i) → cond b (map f ks) [] ≡ cond b (map g ks) []
+children-made false f g ks e = refl
+children-made true f g ks e = map-same f g e ks
 
 pub parent-made : (b : Bool) (f g : ℕ → IRNode) (o : Option ℕ) → ((i : ℕ) → f i ≡ g i) → cond b (option_map f o) None ≡ cond b (option_map g o) None
 parent-made false f g o e = refl
@@ -75,7 +75,7 @@ module _ {C P X : Type 0} (l : Lists) (t : Table C) (u : Table P) (w : IsListing
   pub moved_out : IsMoved l (without_child l p.slot) p.slot None
   moved_out = record {
     parents = length-parents_without l w.agreed p.slot;
-    kids = length-kids_without l w.agreed p.slot;
+    children = length-children_without l w.agreed p.slot;
     here = parent_at-without_here l w.agreed p.slot;
     other = λ x n. parent_at-without_other l w.agreed p.slot x n;
   }
@@ -108,10 +108,10 @@ module _ {C P X : Type 0} (l : Lists) (t : Table C) (u : Table P) (w : IsListing
     | inr m ↦ rw (live_same q n, parent_at-without_other l w.agreed p.slot q.slot m) refl
   ]
 
-  -- the kids of a node of its own kind, of which it had none
-  pub kids_below : (kids : ℕ → List IRNode) → kids p.slot ≡ [] → (q : Ptr X) → cond (is_live_at (without_slot t p.slot) q.slot q.version) (kids q.slot) [] ≡ cond (is_live_at t q.slot q.version) (kids q.slot) []
-  kids_below kids none q = elim (cases_eq q.slot p.slot) [
-    | inl e ↦ rw (ap kids e ∙ none) (nil (is_live_at (without_slot t p.slot) q.slot q.version) (is_live_at t q.slot q.version))
+  -- the children of a node of its own kind, of which it had none
+  pub children_below : (children : ℕ → List IRNode) → children p.slot ≡ [] → (q : Ptr X) → cond (is_live_at (without_slot t p.slot) q.slot q.version) (children q.slot) [] ≡ cond (is_live_at t q.slot q.version) (children q.slot) []
+  children_below children none q = elim (cases_eq q.slot p.slot) [
+    | inl e ↦ rw (ap children e ∙ none) (nil (is_live_at (without_slot t p.slot) q.slot q.version) (is_live_at t q.slot q.version))
     | inr m ↦ rw (live_other t p.slot q.slot q.version m) refl
   ]
     where
@@ -121,33 +121,33 @@ module _ {C P X : Type 0} (l : Lists) (t : Table C) (u : Table P) (w : IsListing
       nil false true = refl
       nil false false = refl
 
-  module _ (child : Ptr X → IRNode) (one : (i j : ℕ) → child (ptr_at t i) ≡ child (ptr_at t j) → i ≡ j) where
-    abbrev kid : ℕ → IRNode
-    kid i = child (ptr_at t i)
+  module _ (as_node : Ptr X → IRNode) (one : (i j : ℕ) → as_node (ptr_at t i) ≡ as_node (ptr_at t j) → i ≡ j) where
+    abbrev child : ℕ → IRNode
+    child i = as_node (ptr_at t i)
 
-    abbrev kid' : ℕ → IRNode
-    kid' i = child (ptr_at (without_slot t p.slot) i)
+    abbrev child' : ℕ → IRNode
+    child' i = as_node (ptr_at (without_slot t p.slot) i)
 
-    kid_same : (i : ℕ) → kid' i ≡ kid i
-    kid_same i = ap child (ptr_without t p.slot i)
+    child_same : (i : ℕ) → child' i ≡ child i
+    child_same i = ap as_node (ptr_without t p.slot i)
 
-    -- the kids of the parent
-    pub kids_here : (b : Bool) (j : ℕ) (xs ys : List IRNode) → cond b (map kid (kids_at l j)) [] ≡ xs ++ child p ∷ ys → cond b (map kid' (kids_at (without_child l p.slot) j)) [] ≡ xs ++ ys
-    kids_here false j [] ys e = cc
-    kids_here false j (x ∷ xs) ys e = cc
-    kids_here true j xs ys e =
-        let at : map kid (kids_at l j) ≡ xs ++ kid p.slot ∷ ys = e ∙ ap (λ z. xs ++ child z ∷ ys) (sym (ptr_is t p live)) in
-        let under : parent_at l p.slot ≡ Some j = w.agreed.owned j p.slot (among kid one p.slot (kids_at l j) xs ys at) in
-        map-same kid' kid kid_same (kids_at (without_child l p.slot) j)
-        ∙ ap (map kid) (kids_at-without_here l w.agreed p.slot j under)
-        ∙ map-without kid one p.slot (kids_at l j) xs ys (w.agreed.apart j) at
+    -- the children of the parent
+    pub children_here : (b : Bool) (j : ℕ) (xs ys : List IRNode) → cond b (map child (children_at l j)) [] ≡ xs ++ as_node p ∷ ys → cond b (map child' (children_at (without_child l p.slot) j)) [] ≡ xs ++ ys
+    children_here false j [] ys e = cc
+    children_here false j (x ∷ xs) ys e = cc
+    children_here true j xs ys e =
+        let at : map child (children_at l j) ≡ xs ++ child p.slot ∷ ys = e ∙ ap (λ z. xs ++ as_node z ∷ ys) (sym (ptr_is t p live)) in
+        let under : parent_at l p.slot ≡ Some j = w.agreed.owned j p.slot (among child one p.slot (children_at l j) xs ys at) in
+        map-same child' child child_same (children_at (without_child l p.slot) j)
+        ∙ ap (map child) (children_at-without_here l w.agreed p.slot j under)
+        ∙ map-without child one p.slot (children_at l j) xs ys (w.agreed.apart j) at
 
-    -- the kids of any other node
-    pub kids_other : (j : ℕ) → (parent_at l p.slot ≡ Some j → ⊥) → map kid' (kids_at (without_child l p.slot) j) ≡ map kid (kids_at l j)
-    kids_other j n = map-same kid' kid kid_same (kids_at (without_child l p.slot) j) ∙ ap (map kid) (kids_at-without_other l w.agreed p.slot j n)
+    -- the children of any other node
+    pub children_other : (j : ℕ) → (parent_at l p.slot ≡ Some j → ⊥) → map child' (children_at (without_child l p.slot) j) ≡ map child (children_at l j)
+    children_other j n = map-same child' child child_same (children_at (without_child l p.slot) j) ∙ ap (map child) (children_at-without_other l w.agreed p.slot j n)
 
-    pub kids_away : {Y : Type 0} (over : Ptr Y → IRNode) (q : Ptr Y) → (cond (is_live_at t p.slot p.version) (option_map (λ i. over (ptr_at u i)) (parent_at l p.slot)) None ≡ Some (over q) → ⊥) → cond (is_live_at u q.slot q.version) (map kid' (kids_at (without_child l p.slot) q.slot)) [] ≡ cond (is_live_at u q.slot q.version) (map kid (kids_at l q.slot)) []
-    kids_away over q away = elim (bool_cases (is_live_at u q.slot q.version)) [
-      | inl f ↦ rw (f, kids_other q.slot (λ e. away (rw (live, e) (ap (λ z. Some (over z)) (ptr_is u q f))))) refl
+    pub children_away : {Y : Type 0} (over : Ptr Y → IRNode) (q : Ptr Y) → (cond (is_live_at t p.slot p.version) (option_map (λ i. over (ptr_at u i)) (parent_at l p.slot)) None ≡ Some (over q) → ⊥) → cond (is_live_at u q.slot q.version) (map child' (children_at (without_child l p.slot) q.slot)) [] ≡ cond (is_live_at u q.slot q.version) (map child (children_at l q.slot)) []
+    children_away over q away = elim (bool_cases (is_live_at u q.slot q.version)) [
+      | inl f ↦ rw (f, children_other q.slot (λ e. away (rw (live, e) (ap (λ z. Some (over z)) (ptr_is u q f))))) refl
       | inr f ↦ rw f refl
     ]

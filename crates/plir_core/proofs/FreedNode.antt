@@ -1,15 +1,15 @@
--- A live node without kids is freed: every other node is as live as it was and has the parent that it had, its parent's
--- list is without it, all other lists of kids are as they were, and the nodes left are a forest.
+-- A live node without children is freed: every other node is as live as it was and has the parent that it had, its parent's
+-- list is without it, all other lists of children are as they were, and the nodes left are a forest.
 use Rattle.std.proofs.Common.{◌≡◌, ℕ, ◌+◌, Bool, true, false, cond, List, [], ◌∷◌, ◌++◌, map, Some, None, IsSome, ◌⊎◌, inl, inr, refl, sym, ◌∙◌, ap, subst, arith}
 use Rattle.std.specs.Prelude.{option_map}
 use Rattle.std.proofs.lemmas.Bool.{cases_eq}
-use Rattle.plir_store.specs.Lists.{kids_at, parent_at, without_child}
+use Rattle.plir_store.specs.Lists.{children_at, parent_at, without_child}
 use Rattle.plir_store.specs.Table.{content_at, is_live_at, without_slot}
 use Rattle.plir_store.specs.TableLaws.{IsTable-without_slot}
 use Rattle.plir_core.specs.declared.ptr.IRNode.{IRNode}
 use Rattle.plir_core.specs.declared.ptr.IRNode.TheVariants.{Operation, Region, BasicBlock}
 use Rattle.plir_store.specs.Members.{Has}
-use Rattle.plir_core.specs.Nodes.{Nodes, is_node_live, was_given_out, node_kids, node_parent, num_nodes, op_node, block_node, region_node}
+use Rattle.plir_core.specs.Nodes.{Nodes, is_node_live, was_given_out, node_children, node_parent, num_nodes, op_node, block_node, region_node}
 use Rattle.plir_core.specs.Stored.{Seat, op, region, block, seat_of, up, IsStored}
 use Rattle.plir_core.specs.Erase.{without_node}
 use Rattle.plir_core.proofs.Climbs.{IsGrounded-cut}
@@ -17,11 +17,11 @@ use Rattle.plir_core.proofs.Facts.{live_parts, slot_of}
 use Rattle.plir_core.proofs.Depths.{count_without}
 use Rattle.plir_core.proofs.Listing.{IsMoved, IsListing-free_parent, content_without, some_none, content_gone}
 use Rattle.plir_core.proofs.Removal.{parent_at-without_other}
-use Rattle.plir_core.proofs.Freed.{ptr_without, given_without, most_without, live_same, live_none, parent_same, parent-made, kids_below, kids_here, kids_away, wrong_kid, map-nil, IsListing-without, moved_out}
+use Rattle.plir_core.proofs.Freed.{ptr_without, given_without, most_without, live_same, live_none, parent_same, parent-made, children_below, children_here, children_away, wrong_child, map-nil, IsListing-without, moved_out}
 use Rattle.plir_core.specs.Measures.{most_steps}
 use Rattle.plir_store.specs.MemberLaws.{Has-mid}
 
--- what a live node without kids has under it
+-- what a live node without children has under it
 under_nil : (b : Bool) (f : ℕ → IRNode) (ks : List ℕ) → b ≡ true → cond b (map f ks) [] ≡ [] → ks ≡ []
 under_nil false f ks e q = cc
 under_nil true f ks e q = map-nil f ks q
@@ -70,28 +70,28 @@ module _ {O B : Type 0} where
   freed-parent s (BasicBlock p) (BasicBlock q) e ne w = parent_same s.blocks_in_region s.blocks s.regions w.blocks_listed p e (region_node s) q (λ z. ne (ap BasicBlock z))
 
   -- the parent's list is without it
-  pub freed-kids_here : (s : Nodes O B) (n m : IRNode) (xs ys : List IRNode) → is_node_live s n ≡ true → IsStored s → node_kids s m ≡ xs ++ n ∷ ys → node_kids (without_node s n) m ≡ xs ++ ys
-  freed-kids_here s (Operation p) (Operation q) xs ys e w k = absurd (wrong_kid (is_node_live s (Operation q)) (region_node s) (kids_at s.regions_in_op q.slot) (Operation p) (λ i z. cc) (subst (λ z. Has z (Operation p)) (sym k) (Has-mid xs ys (Operation p))))
-  freed-kids_here s (Operation p) (Region q) xs ys e w k = absurd (wrong_kid (is_node_live s (Region q)) (block_node s) (kids_at s.blocks_in_region q.slot) (Operation p) (λ i z. cc) (subst (λ z. Has z (Operation p)) (sym k) (Has-mid xs ys (Operation p))))
-  freed-kids_here s (Operation p) (BasicBlock q) xs ys e w k = kids_here s.ops_in_block s.ops s.blocks w.ops_listed p e Operation (λ i j z. ap slot_of z) (is_live_at s.blocks q.slot q.version) q.slot xs ys k
-  freed-kids_here s (Region p) (Operation q) xs ys e w k = kids_here s.regions_in_op s.regions s.ops w.regions_listed p e Region (λ i j z. ap slot_of z) (is_live_at s.ops q.slot q.version) q.slot xs ys k
-  freed-kids_here s (Region p) (Region q) xs ys e w k = absurd (wrong_kid (is_node_live s (Region q)) (block_node s) (kids_at s.blocks_in_region q.slot) (Region p) (λ i z. cc) (subst (λ z. Has z (Region p)) (sym k) (Has-mid xs ys (Region p))))
-  freed-kids_here s (Region p) (BasicBlock q) xs ys e w k = absurd (wrong_kid (is_node_live s (BasicBlock q)) (op_node s) (kids_at s.ops_in_block q.slot) (Region p) (λ i z. cc) (subst (λ z. Has z (Region p)) (sym k) (Has-mid xs ys (Region p))))
-  freed-kids_here s (BasicBlock p) (Operation q) xs ys e w k = absurd (wrong_kid (is_node_live s (Operation q)) (region_node s) (kids_at s.regions_in_op q.slot) (BasicBlock p) (λ i z. cc) (subst (λ z. Has z (BasicBlock p)) (sym k) (Has-mid xs ys (BasicBlock p))))
-  freed-kids_here s (BasicBlock p) (Region q) xs ys e w k = kids_here s.blocks_in_region s.blocks s.regions w.blocks_listed p e BasicBlock (λ i j z. ap slot_of z) (is_live_at s.regions q.slot q.version) q.slot xs ys k
-  freed-kids_here s (BasicBlock p) (BasicBlock q) xs ys e w k = absurd (wrong_kid (is_node_live s (BasicBlock q)) (op_node s) (kids_at s.ops_in_block q.slot) (BasicBlock p) (λ i z. cc) (subst (λ z. Has z (BasicBlock p)) (sym k) (Has-mid xs ys (BasicBlock p))))
+  pub freed-children_here : (s : Nodes O B) (n m : IRNode) (xs ys : List IRNode) → is_node_live s n ≡ true → IsStored s → node_children s m ≡ xs ++ n ∷ ys → node_children (without_node s n) m ≡ xs ++ ys
+  freed-children_here s (Operation p) (Operation q) xs ys e w k = absurd (wrong_child (is_node_live s (Operation q)) (region_node s) (children_at s.regions_in_op q.slot) (Operation p) (λ i z. cc) (subst (λ z. Has z (Operation p)) (sym k) (Has-mid xs ys (Operation p))))
+  freed-children_here s (Operation p) (Region q) xs ys e w k = absurd (wrong_child (is_node_live s (Region q)) (block_node s) (children_at s.blocks_in_region q.slot) (Operation p) (λ i z. cc) (subst (λ z. Has z (Operation p)) (sym k) (Has-mid xs ys (Operation p))))
+  freed-children_here s (Operation p) (BasicBlock q) xs ys e w k = children_here s.ops_in_block s.ops s.blocks w.ops_listed p e Operation (λ i j z. ap slot_of z) (is_live_at s.blocks q.slot q.version) q.slot xs ys k
+  freed-children_here s (Region p) (Operation q) xs ys e w k = children_here s.regions_in_op s.regions s.ops w.regions_listed p e Region (λ i j z. ap slot_of z) (is_live_at s.ops q.slot q.version) q.slot xs ys k
+  freed-children_here s (Region p) (Region q) xs ys e w k = absurd (wrong_child (is_node_live s (Region q)) (block_node s) (children_at s.blocks_in_region q.slot) (Region p) (λ i z. cc) (subst (λ z. Has z (Region p)) (sym k) (Has-mid xs ys (Region p))))
+  freed-children_here s (Region p) (BasicBlock q) xs ys e w k = absurd (wrong_child (is_node_live s (BasicBlock q)) (op_node s) (children_at s.ops_in_block q.slot) (Region p) (λ i z. cc) (subst (λ z. Has z (Region p)) (sym k) (Has-mid xs ys (Region p))))
+  freed-children_here s (BasicBlock p) (Operation q) xs ys e w k = absurd (wrong_child (is_node_live s (Operation q)) (region_node s) (children_at s.regions_in_op q.slot) (BasicBlock p) (λ i z. cc) (subst (λ z. Has z (BasicBlock p)) (sym k) (Has-mid xs ys (BasicBlock p))))
+  freed-children_here s (BasicBlock p) (Region q) xs ys e w k = children_here s.blocks_in_region s.blocks s.regions w.blocks_listed p e BasicBlock (λ i j z. ap slot_of z) (is_live_at s.regions q.slot q.version) q.slot xs ys k
+  freed-children_here s (BasicBlock p) (BasicBlock q) xs ys e w k = absurd (wrong_child (is_node_live s (BasicBlock q)) (op_node s) (children_at s.ops_in_block q.slot) (BasicBlock p) (λ i z. cc) (subst (λ z. Has z (BasicBlock p)) (sym k) (Has-mid xs ys (BasicBlock p))))
 
-  -- every other list of kids stays
-  pub freed-kids : (s : Nodes O B) (n m : IRNode) → is_node_live s n ≡ true → node_kids s n ≡ [] → IsStored s → (node_parent s n ≡ Some m → ⊥) → node_kids (without_node s n) m ≡ node_kids s m
-  freed-kids s (Operation p) (Operation q) e none w away = kids_below s.ops_in_block s.ops s.blocks w.ops_listed p e (λ i. map (region_node s) (kids_at s.regions_in_op i)) (ap (map (region_node s)) (under_nil (is_node_live s (Operation p)) (region_node s) (kids_at s.regions_in_op p.slot) e none)) q
-  freed-kids s (Operation p) (Region q) e none w away = refl
-  freed-kids s (Operation p) (BasicBlock q) e none w away = kids_away s.ops_in_block s.ops s.blocks w.ops_listed p e Operation (λ i j z. ap slot_of z) BasicBlock q away
-  freed-kids s (Region p) (Operation q) e none w away = kids_away s.regions_in_op s.regions s.ops w.regions_listed p e Region (λ i j z. ap slot_of z) Operation q away
-  freed-kids s (Region p) (Region q) e none w away = kids_below s.regions_in_op s.regions s.ops w.regions_listed p e (λ i. map (block_node s) (kids_at s.blocks_in_region i)) (ap (map (block_node s)) (under_nil (is_node_live s (Region p)) (block_node s) (kids_at s.blocks_in_region p.slot) e none)) q
-  freed-kids s (Region p) (BasicBlock q) e none w away = refl
-  freed-kids s (BasicBlock p) (Operation q) e none w away = refl
-  freed-kids s (BasicBlock p) (Region q) e none w away = kids_away s.blocks_in_region s.blocks s.regions w.blocks_listed p e BasicBlock (λ i j z. ap slot_of z) Region q away
-  freed-kids s (BasicBlock p) (BasicBlock q) e none w away = kids_below s.blocks_in_region s.blocks s.regions w.blocks_listed p e (λ i. map (op_node s) (kids_at s.ops_in_block i)) (ap (map (op_node s)) (under_nil (is_node_live s (BasicBlock p)) (op_node s) (kids_at s.ops_in_block p.slot) e none)) q
+  -- every other list of children stays
+  pub freed-children : (s : Nodes O B) (n m : IRNode) → is_node_live s n ≡ true → node_children s n ≡ [] → IsStored s → (node_parent s n ≡ Some m → ⊥) → node_children (without_node s n) m ≡ node_children s m
+  freed-children s (Operation p) (Operation q) e none w away = children_below s.ops_in_block s.ops s.blocks w.ops_listed p e (λ i. map (region_node s) (children_at s.regions_in_op i)) (ap (map (region_node s)) (under_nil (is_node_live s (Operation p)) (region_node s) (children_at s.regions_in_op p.slot) e none)) q
+  freed-children s (Operation p) (Region q) e none w away = refl
+  freed-children s (Operation p) (BasicBlock q) e none w away = children_away s.ops_in_block s.ops s.blocks w.ops_listed p e Operation (λ i j z. ap slot_of z) BasicBlock q away
+  freed-children s (Region p) (Operation q) e none w away = children_away s.regions_in_op s.regions s.ops w.regions_listed p e Region (λ i j z. ap slot_of z) Operation q away
+  freed-children s (Region p) (Region q) e none w away = children_below s.regions_in_op s.regions s.ops w.regions_listed p e (λ i. map (block_node s) (children_at s.blocks_in_region i)) (ap (map (block_node s)) (under_nil (is_node_live s (Region p)) (block_node s) (children_at s.blocks_in_region p.slot) e none)) q
+  freed-children s (Region p) (BasicBlock q) e none w away = refl
+  freed-children s (BasicBlock p) (Operation q) e none w away = refl
+  freed-children s (BasicBlock p) (Region q) e none w away = children_away s.blocks_in_region s.blocks s.regions w.blocks_listed p e BasicBlock (λ i j z. ap slot_of z) Region q away
+  freed-children s (BasicBlock p) (BasicBlock q) e none w away = children_below s.blocks_in_region s.blocks s.regions w.blocks_listed p e (λ i. map (op_node s) (children_at s.ops_in_block i)) (ap (map (op_node s)) (under_nil (is_node_live s (BasicBlock p)) (op_node s) (children_at s.ops_in_block p.slot) e none)) q
 
   -- one node less
   pub freed-count : (s : Nodes O B) (n : IRNode) → is_node_live s n ≡ true → num_nodes (without_node s n) + 1 ≡ num_nodes s
@@ -123,9 +123,9 @@ module _ {O B : Type 0} where
   freed-limit s (BasicBlock p) = refl
 
   -- the nodes left are a forest
-  pub freed-stored : (s : Nodes O B) (n : IRNode) → is_node_live s n ≡ true → node_kids s n ≡ [] → IsStored s → IsStored (without_node s n)
+  pub freed-stored : (s : Nodes O B) (n : IRNode) → is_node_live s n ≡ true → node_children s n ≡ [] → IsStored s → IsStored (without_node s n)
   freed-stored s (Operation p) e none w = record {
-    regions_listed = IsListing-free_parent s.regions_in_op s.regions s.ops w.regions_listed p.slot (under_nil (is_node_live s (Operation p)) (region_node s) (kids_at s.regions_in_op p.slot) e none);
+    regions_listed = IsListing-free_parent s.regions_in_op s.regions s.ops w.regions_listed p.slot (under_nil (is_node_live s (Operation p)) (region_node s) (children_at s.regions_in_op p.slot) e none);
     blocks_listed = w.blocks_listed;
     ops_listed = IsListing-without s.ops_in_block s.ops s.blocks w.ops_listed p e;
     regions_owned = w.regions_owned;
@@ -151,7 +151,7 @@ module _ {O B : Type 0} where
       ]
   freed-stored s (Region p) e none w = record {
     regions_listed = IsListing-without s.regions_in_op s.regions s.ops w.regions_listed p e;
-    blocks_listed = IsListing-free_parent s.blocks_in_region s.blocks s.regions w.blocks_listed p.slot (under_nil (is_node_live s (Region p)) (block_node s) (kids_at s.blocks_in_region p.slot) e none);
+    blocks_listed = IsListing-free_parent s.blocks_in_region s.blocks s.regions w.blocks_listed p.slot (under_nil (is_node_live s (Region p)) (block_node s) (children_at s.blocks_in_region p.slot) e none);
     ops_listed = w.ops_listed;
     regions_owned = λ r some. elim (cases_eq r p.slot) [
       | inl q ↦ absurd (some_none (content_at (without_slot s.regions p.slot) r) some (ap (content_at (without_slot s.regions p.slot)) q ∙ content_gone s.regions p.slot ((live_parts s.regions p.slot p.version e).0)))
@@ -180,7 +180,7 @@ module _ {O B : Type 0} where
   freed-stored s (BasicBlock p) e none w = record {
     regions_listed = w.regions_listed;
     blocks_listed = IsListing-without s.blocks_in_region s.blocks s.regions w.blocks_listed p e;
-    ops_listed = IsListing-free_parent s.ops_in_block s.ops s.blocks w.ops_listed p.slot (under_nil (is_node_live s (BasicBlock p)) (op_node s) (kids_at s.ops_in_block p.slot) e none);
+    ops_listed = IsListing-free_parent s.ops_in_block s.ops s.blocks w.ops_listed p.slot (under_nil (is_node_live s (BasicBlock p)) (op_node s) (children_at s.ops_in_block p.slot) e none);
     regions_owned = w.regions_owned;
     grounded = IsGrounded-cut (up s) (up (without_node s (BasicBlock p))) cut w.grounded;
     op_slots = w.op_slots;

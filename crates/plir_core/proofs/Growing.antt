@@ -65,7 +65,7 @@ module _ {O B : Type 0} where
           given = λ y e. moved_given t u n x.moved y ∙ m.keeps.given y e;
           limit = x.moved.limit ∙ m.keeps.limit;
         };
-        kids = λ y e ne. x.kids y ne ∙ m.kids y e;
+        children = λ y e ne. x.children y ne ∙ m.children y e;
         below = λ y e f. Reaches-on (node_parent u) y n over (reached y (m.below y (sym (moved_live t u n x.moved y) ∙ e) f)) (1, x.parent);
         fresh = λ y e f. m.fresh y (sym (moved_live t u n x.moved y) ∙ e) f;
       }
@@ -73,7 +73,7 @@ module _ {O B : Type 0} where
   pub region_grown : (s : Nodes O B) → RegionIsGrown s
   region_grown s t o n x = record {
     keeps = x.added.keeps;
-    kids = λ m e ne. x.added.kids m e (λ q. ne (sym (same_Some o m q)));
+    children = λ m e ne. x.added.children m e (λ q. ne (sym (same_Some o m q)));
     below = λ m e f. (1, ap (node_parent t) (x.added.only m e f) ∙ x.added.placed);
     fresh = λ m e f. subst (λ z. was_given_out s z ≡ false) (sym (x.added.only m e f)) x.added.fresh;
   }
@@ -91,7 +91,7 @@ module _ {O B : Type 0} where
   pub grown_twice : (s : Nodes O B) → GrownTwice s
   grown_twice s t u over w x y = record {
     keeps = KeepsLive-on s t u x.keeps y.keeps;
-    kids = λ m e ne. y.kids m (x.keeps.live m e) ne ∙ x.kids m e ne;
+    children = λ m e ne. y.children m (x.keeps.live m e) ne ∙ x.children m e ne;
     below = λ m e f. elim (bool_cases (is_node_live t m)) [
       | inl g ↦ kept_reached t u w y.keeps m over g (x.below m g f)
       | inr g ↦ y.below m e g
@@ -105,7 +105,7 @@ module _ {O B : Type 0} where
   pub made_grown : (s : Nodes O B) → IsStored s → MadeAndGrown s
   made_grown s v t u n over w m here new x = record {
     keeps = KeepsLive-on s t u m.keeps x.keeps;
-    kids = λ y e. x.kids y (m.keeps.live y e) (differs s y over e new) ∙ m.kids y e;
+    children = λ y e. x.children y (m.keeps.live y e) (differs s y over e new) ∙ m.children y e;
     new = m.new;
     root = x.keeps.live n m.root;
     top = x.keeps.parents n m.root ∙ m.top;

@@ -29,8 +29,8 @@ use Rattle.plir_core.specs.Contents.{OpView, BlockView}
 use Rattle.plir_core.specs.Nodes.{Nodes, ptr_at, is_node_live}
 use Rattle.plir_core.specs.Stored.{IsStored}
 use Rattle.plir_core.specs.Edits.{empty, SameNodes, with_new_op, with_new_block, with_new_region, with_new_regions}
-use Rattle.plir_core.specs.Store.{Store, IsLive, IsValueLive, is_live, entity_node, types_from, result_types_of, arg_types_of}
-use Rattle.plir_core.specs.Whole.{OpHoldsLive, BlockHoldsLive, HoldsLive, IsWhole}
+use Rattle.plir_core.specs.ContextView.{ContextView, IsLive, IsValueLive, is_live, entity_node, types_from, result_types_of, arg_types_of}
+use Rattle.plir_core.specs.WellFormed.{OpHoldsLive, BlockHoldsLive, HoldsLive, IsWellFormed}
 use Rattle.plir_core.proofs.Listing.{within_content, content_new_other, version_new_other, not_next, some_none}
 use Rattle.plir_core.proofs.Seats.{live_some, live_version, some_live}
 use Rattle.plir_core.proofs.Changes.{content_held, IsStored-held_op, IsStored-held_block}
@@ -124,12 +124,12 @@ module _ {C : Type 0} (t : Table C) (i : ℕ) (v : C) (some : IsSome (content_at
 
 module _ {K A T : Type 0} where
   -- what was live is live still, with as many results or arguments at least
-  pub record IsKept (s s' : Store K A T) : Type 0 where
+  pub record IsKept (s s' : ContextView K A T) : Type 0 where
     pub ops : (p : Ptr OperationKind) → IsLive s (Operation p) → IsLive s' (Operation p) × (length (result_types_of s p) ≤ length (result_types_of s' p))
     pub blocks : (p : Ptr BasicBlockKind) → IsLive s (BasicBlock p) → IsLive s' (BasicBlock p) × (length (arg_types_of s p) ≤ length (arg_types_of s' p))
     pub types : (h : ℕ) → IsTypeLive s.types h → IsTypeLive s'.types h
 
-  pub value_kept : (s s' : Store K A T) → IsKept s s' → (x : Value) → IsValueLive s x → IsValueLive s' x
+  pub value_kept : (s s' : ContextView K A T) → IsKept s s' → (x : Value) → IsValueLive s x → IsValueLive s' x
   value_kept s s' k x e = value_in x.entity x.index e
     where
       value_in : (d : DefiningEntity) (i : ℕ) → (is_live s (entity_node d) && nat_lt i (length (types_from s d))) ≡ true → (is_live s' (entity_node d) && nat_lt i (length (types_from s' d))) ≡ true
@@ -137,7 +137,7 @@ module _ {K A T : Type 0} where
       value_in (Block p) i e = both_kept (is_live s (BasicBlock p)) (is_live s' (BasicBlock p)) i (length (arg_types_of s p)) (length (arg_types_of s' p)) (k.blocks p) e
 
   -- where an operation comes to hold something else, with results of the same types, what was live is live
-  pub op_content_keeps : (s : Store K A T) (i : ℕ) (u v : OpView K A) → content_at s.nodes.ops i ≡ Some u → v.result_types ≡ u.result_types → IsKept s (with_op_content s i v)
+  pub op_content_keeps : (s : ContextView K A T) (i : ℕ) (u v : OpView K A) → content_at s.nodes.ops i ≡ Some u → v.result_types ≡ u.result_types → IsKept s (with_op_content s i v)
   op_content_keeps s i u v was same = record {
     ops = λ p q. (live_held s.nodes.ops i v some p.slot p.version q, elim (held_cases s.nodes.ops i v some p.slot) [ inl g ↦ (let d = ap (content_at s.nodes.ops) g.0 ∙ was in rw (g.1, d, same) (omega arith)) | inr g ↦ rw g (omega arith) ]);
     blocks = λ p q. (q, omega arith);
@@ -148,10 +148,10 @@ module _ {K A T : Type 0} where
       some = rw was refl
 
   module _ (own : A → List ℕ) where
-    attributes_kept : (s s' : Store K A T) → IsKept s s' → (es : List (List ℕ × AttrView A)) → All (λ e. IsAttrLive own s.types e.1) es → All (λ e. IsAttrLive own s'.types e.1) es
+    attributes_kept : (s s' : ContextView K A T) → IsKept s s' → (es : List (List ℕ × AttrView A)) → All (λ e. IsAttrLive own s.types e.1) es → All (λ e. IsAttrLive own s'.types e.1) es
     attributes_kept s s' k es a = All-weaker (λ e. IsAttrLive own s.types e.1) (λ e. IsAttrLive own s'.types e.1) (λ e x. attr_kept own s.types s'.types k.types e.1 x) es a
 
-    pub op_kept : (s s' : Store K A T) → IsKept s s' → (v : OpView K A) → OpHoldsLive own s v → OpHoldsLive own s' v
+    pub op_kept : (s s' : ContextView K A T) → IsKept s s' → (v : OpView K A) → OpHoldsLive own s v → OpHoldsLive own s' v
     op_kept s s' k v h = record {
       operands = All-weaker (IsValueLive s) (IsValueLive s') (value_kept s s' k) v.operands h.operands;
       successors = All-weaker (λ b. IsLive s (BasicBlock b)) (λ b. IsLive s' (BasicBlock b)) (λ b e. (k.blocks b e).0) v.successors h.successors;
@@ -159,23 +159,23 @@ module _ {K A T : Type 0} where
       attributes = attributes_kept s s' k v.attributes h.attributes;
     }
 
-    pub block_kept : (s s' : Store K A T) → IsKept s s' → (v : BlockView A) → BlockHoldsLive own s v → BlockHoldsLive own s' v
+    pub block_kept : (s s' : ContextView K A T) → IsKept s s' → (v : BlockView A) → BlockHoldsLive own s v → BlockHoldsLive own s' v
     block_kept s s' k v h = record {
       arg_types = All-weaker (IsTypeLive s.types) (IsTypeLive s'.types) k.types v.arg_types h.arg_types;
       attributes = attributes_kept s s' k v.attributes h.attributes;
     }
 
     -- each content is an old one, or holds what is live
-    pub holds_kept : (s s' : Store K A T) → IsKept s s' → HoldsLive own s → ((o : ℕ) (v : OpView K A) → content_at s'.nodes.ops o ≡ Some v → (content_at s.nodes.ops o ≡ Some v) ⊎ OpHoldsLive own s' v) → ((b : ℕ) (v : BlockView A) → content_at s'.nodes.blocks b ≡ Some v → (content_at s.nodes.blocks b ≡ Some v) ⊎ BlockHoldsLive own s' v) → HoldsLive own s'
+    pub holds_kept : (s s' : ContextView K A T) → IsKept s s' → HoldsLive own s → ((o : ℕ) (v : OpView K A) → content_at s'.nodes.ops o ≡ Some v → (content_at s.nodes.ops o ≡ Some v) ⊎ OpHoldsLive own s' v) → ((b : ℕ) (v : BlockView A) → content_at s'.nodes.blocks b ≡ Some v → (content_at s.nodes.blocks b ≡ Some v) ⊎ BlockHoldsLive own s' v) → HoldsLive own s'
     holds_kept s s' k h ops blocks = record {
       ops = λ o v e. elim (ops o v e) [ inl f ↦ op_kept s s' k v (h.ops o v f) | inr g ↦ g ];
       blocks = λ b v e. elim (blocks b v e) [ inl f ↦ block_kept s s' k v (h.blocks b v f) | inr g ↦ g ];
     }
 
     -- where only links change
-    pub holds_linked : (s : Store K A T) (n : Nodes (OpView K A) (BlockView A)) → n.ops ≡ s.nodes.ops → n.blocks ≡ s.nodes.blocks → HoldsLive own s → HoldsLive own (record s { nodes = n })
+    pub holds_linked : (s : ContextView K A T) (n : Nodes (OpView K A) (BlockView A)) → n.ops ≡ s.nodes.ops → n.blocks ≡ s.nodes.blocks → HoldsLive own s → HoldsLive own (record s { nodes = n })
     holds_linked s n eo eb h =
-        let s' : Store K A T = record s { nodes = n } in
+        let s' : ContextView K A T = record s { nodes = n } in
         let k : IsKept s s' = record {
           ops = λ p e. rw eo (e, omega arith);
           blocks = λ p e. rw eb (e, omega arith);
@@ -184,22 +184,22 @@ module _ {K A T : Type 0} where
         holds_kept s s' k h (λ o v e. inl (rw eo at e)) (λ b v e. inl (rw eb at e))
 
     -- The changes of a context, where s is made of the fields.
-    pub whole_linked : (s : Store K A T) → IsWhole own s → (n : Nodes (OpView K A) (BlockView A)) → n.ops ≡ s.nodes.ops → n.blocks ≡ s.nodes.blocks → IsStored n → IsWhole own (record s { nodes = n })
+    pub whole_linked : (s : ContextView K A T) → IsWellFormed own s → (n : Nodes (OpView K A) (BlockView A)) → n.ops ≡ s.nodes.ops → n.blocks ≡ s.nodes.blocks → IsStored n → IsWellFormed own (record s { nodes = n })
     whole_linked s w n eo eb f = record { stored = f; holds = holds_linked s n eo eb w.holds }
 
-    pub op_linked : (s : Store K A T) → IsWhole own s → (n : Nodes (OpView K A) (BlockView A)) (l : Lists) → n ≡ record s.nodes { ops_in_block = l } → IsStored n → IsWhole own (record s { nodes = n })
+    pub op_linked : (s : ContextView K A T) → IsWellFormed own s → (n : Nodes (OpView K A) (BlockView A)) (l : Lists) → n ≡ record s.nodes { ops_in_block = l } → IsStored n → IsWellFormed own (record s { nodes = n })
     op_linked s w n l e f = whole_linked s w n (ap (λ (z : Nodes (OpView K A) (BlockView A)). z.ops) e) (ap (λ (z : Nodes (OpView K A) (BlockView A)). z.blocks) e) f
 
-    pub block_linked : (s : Store K A T) → IsWhole own s → (n : Nodes (OpView K A) (BlockView A)) (l : Lists) → n ≡ record s.nodes { blocks_in_region = l } → IsStored n → IsWhole own (record s { nodes = n })
+    pub block_linked : (s : ContextView K A T) → IsWellFormed own s → (n : Nodes (OpView K A) (BlockView A)) (l : Lists) → n ≡ record s.nodes { blocks_in_region = l } → IsStored n → IsWellFormed own (record s { nodes = n })
     block_linked s w n l e f = whole_linked s w n (ap (λ (z : Nodes (OpView K A) (BlockView A)). z.ops) e) (ap (λ (z : Nodes (OpView K A) (BlockView A)). z.blocks) e) f
 
     -- a new region
-    pub region_added : (s : Store K A T) → IsWhole own s → (n : Nodes (OpView K A) (BlockView A)) (o : ℕ) → n ≡ with_new_region s.nodes o → IsStored n → IsWhole own (record s { nodes = n })
+    pub region_added : (s : ContextView K A T) → IsWellFormed own s → (n : Nodes (OpView K A) (BlockView A)) (o : ℕ) → n ≡ with_new_region s.nodes o → IsStored n → IsWellFormed own (record s { nodes = n })
     region_added s w n o e f = whole_linked s w n (ap (λ (z : Nodes (OpView K A) (BlockView A)). z.ops) e) (ap (λ (z : Nodes (OpView K A) (BlockView A)). z.blocks) e) f
 
-    pub block_made : (s : Store K A T) → IsWhole own s → (n : Nodes (OpView K A) (BlockView A)) (v : BlockView A) → n ≡ with_new_block s.nodes v → IsStored n → content_at (with_new s.nodes.blocks v) (next_slot s.nodes.blocks) ≡ Some v → BlockHoldsLive own s v → IsWhole own (record s { nodes = n })
+    pub block_made : (s : ContextView K A T) → IsWellFormed own s → (n : Nodes (OpView K A) (BlockView A)) (v : BlockView A) → n ≡ with_new_block s.nodes v → IsStored n → content_at (with_new s.nodes.blocks v) (next_slot s.nodes.blocks) ≡ Some v → BlockHoldsLive own s v → IsWellFormed own (record s { nodes = n })
     block_made s w n v e f here h =
-        let s' : Store K A T = record s { nodes = n } in
+        let s' : ContextView K A T = record s { nodes = n } in
         let k : IsKept s s' = record {
           ops = λ p q. rw e (q, omega arith);
           blocks = λ p q. let x = live_new s.nodes.blocks v w.stored.block_slots p.slot p.version q in rw e (x.1, rw x.0 (omega arith));
@@ -213,9 +213,9 @@ module _ {K A T : Type 0} where
           ]);
         }
 
-    pub op_made : (s : Store K A T) → IsWhole own s → (n : Nodes (OpView K A) (BlockView A)) (v : OpView K A) (o k : ℕ) → n ≡ with_new_regions (with_new_op s.nodes v) o k → IsStored n → OpHoldsLive own s v → IsWhole own (record s { nodes = n })
+    pub op_made : (s : ContextView K A T) → IsWellFormed own s → (n : Nodes (OpView K A) (BlockView A)) (v : OpView K A) (o k : ℕ) → n ≡ with_new_regions (with_new_op s.nodes v) o k → IsStored n → OpHoldsLive own s v → IsWellFormed own (record s { nodes = n })
     op_made s w n v o k e f h =
-        let s' : Store K A T = record s { nodes = n } in
+        let s' : ContextView K A T = record s { nodes = n } in
         let eo : n.ops ≡ with_new s.nodes.ops v = ap (λ (z : Nodes (OpView K A) (BlockView A)). z.ops) e ∙ ops-with_new_regions (with_new_op s.nodes v) o k in
         let eb : n.blocks ≡ s.nodes.blocks = ap (λ (z : Nodes (OpView K A) (BlockView A)). z.blocks) e ∙ blocks-with_new_regions (with_new_op s.nodes v) o k in
         let here : content_at (with_new s.nodes.ops v) (next_slot s.nodes.ops) ≡ Some v = ap (λ (z : Cell (OpView K A)). z.content) (cell_at-with_new s.nodes.ops v w.stored.op_slots) in
@@ -233,9 +233,9 @@ module _ {K A T : Type 0} where
         }
 
     -- no live node has changed
-    pub whole_same : (s : Store K A T) → IsWhole own s → (n : Nodes (OpView K A) (BlockView A)) → SameNodes s.nodes n → IsStored n → IsWhole own (record s { nodes = n })
+    pub whole_same : (s : ContextView K A T) → IsWellFormed own s → (n : Nodes (OpView K A) (BlockView A)) → SameNodes s.nodes n → IsStored n → IsWellFormed own (record s { nodes = n })
     whole_same s w n x f =
-        let s' : Store K A T = record s { nodes = n } in
+        let s' : ContextView K A T = record s { nodes = n } in
         let k : IsKept s s' = record {
           ops = λ p q. (x.live (Operation p) ∙ q, rw (x.ops p q) (omega arith));
           blocks = λ p q. (x.live (BasicBlock p) ∙ q, rw (x.blocks p q) (omega arith));
@@ -257,7 +257,7 @@ module _ {K A T : Type 0} where
             sym (x.blocks (ptr_at n.blocks b) (sym (x.live (BasicBlock (ptr_at n.blocks b))) ∙ live)) ∙ q
 
     -- what an operation or a block holds is replaced
-    pub op_replaced : (s : Store K A T) → IsWhole own s → (n : Nodes (OpView K A) (BlockView A)) (i : ℕ) (u v : OpView K A) → n ≡ record s.nodes { ops = with_content s.nodes.ops i v } → IsStored n → content_at s.nodes.ops i ≡ Some u → v.result_types ≡ u.result_types → OpHoldsLive own s v → IsWhole own (record s { nodes = n })
+    pub op_replaced : (s : ContextView K A T) → IsWellFormed own s → (n : Nodes (OpView K A) (BlockView A)) (i : ℕ) (u v : OpView K A) → n ≡ record s.nodes { ops = with_content s.nodes.ops i v } → IsStored n → content_at s.nodes.ops i ≡ Some u → v.result_types ≡ u.result_types → OpHoldsLive own s v → IsWellFormed own (record s { nodes = n })
     op_replaced s w n i u v e f was same h = rw e (record { stored = rw e at f; holds = holds })
       where
         some : IsSome (content_at s.nodes.ops i)
@@ -272,7 +272,7 @@ module _ {K A T : Type 0} where
           | inr g ↦ inl (sym g ∙ q)
         ]) (λ b z q. inl q)
 
-    pub block_replaced : (s : Store K A T) → IsWhole own s → (n : Nodes (OpView K A) (BlockView A)) (i : ℕ) (u v : BlockView A) → n ≡ record s.nodes { blocks = with_content s.nodes.blocks i v } → IsStored n → content_at s.nodes.blocks i ≡ Some u → v.arg_types ≡ u.arg_types → BlockHoldsLive own s v → IsWhole own (record s { nodes = n })
+    pub block_replaced : (s : ContextView K A T) → IsWellFormed own s → (n : Nodes (OpView K A) (BlockView A)) (i : ℕ) (u v : BlockView A) → n ≡ record s.nodes { blocks = with_content s.nodes.blocks i v } → IsStored n → content_at s.nodes.blocks i ≡ Some u → v.arg_types ≡ u.arg_types → BlockHoldsLive own s v → IsWellFormed own (record s { nodes = n })
     block_replaced s w n i u v e f was same h = rw e (record { stored = rw e at f; holds = holds })
       where
         some : IsSome (content_at s.nodes.blocks i)
@@ -292,7 +292,7 @@ module _ {K A T : Type 0} where
         ])
 
     -- no nodes
-    pub whole_empty : (n : Nodes (OpView K A) (BlockView A)) (ts : List (TypeView T)) (m : ℕ) → n ≡ empty m → IsStored n → IsWhole own (record { nodes = n; types = ts })
+    pub whole_empty : (n : Nodes (OpView K A) (BlockView A)) (ts : List (TypeView T)) (m : ℕ) → n ≡ empty m → IsStored n → IsWellFormed own (record { nodes = n; types = ts })
     whole_empty n ts m e f = record {
       stored = f;
       holds = record {
@@ -302,41 +302,41 @@ module _ {K A T : Type 0} where
     }
 
     -- more types
-    pub whole_typed : (s : Store K A T) → IsWhole own s → (ts : List (TypeView T)) → ((h : ℕ) → IsTypeLive s.types h → IsTypeLive ts h) → IsWhole own (record { nodes = s.nodes; types = ts })
+    pub whole_typed : (s : ContextView K A T) → IsWellFormed own s → (ts : List (TypeView T)) → ((h : ℕ) → IsTypeLive s.types h → IsTypeLive ts h) → IsWellFormed own (record { nodes = s.nodes; types = ts })
     whole_typed s w ts more =
-        let s' : Store K A T = record { nodes = s.nodes; types = ts } in
+        let s' : ContextView K A T = record { nodes = s.nodes; types = ts } in
         let k : IsKept s s' = record { ops = λ p e. (e, omega arith); blocks = λ p e. (e, omega arith); types = more } in
         record { stored = w.stored; holds = holds_kept s s' k w.holds (λ o v e. inl e) (λ b v e. inl e) }
 
-    pub whole_instantiated : (s : Store K A T) → IsWhole own s → (ts : List (TypeView T)) (ty : TypeView T) (h : ℕ) → IsInstantiated s.types ty h ts → IsWhole own (record { nodes = s.nodes; types = ts })
+    pub whole_instantiated : (s : ContextView K A T) → IsWellFormed own s → (ts : List (TypeView T)) (ty : TypeView T) (h : ℕ) → IsInstantiated s.types ty h ts → IsWellFormed own (record { nodes = s.nodes; types = ts })
     whole_instantiated s w ts ty h i = whole_typed s w ts (λ k l. types_grown_in s.types ts ty k l i.grown)
 
     -- The calls of a context, where t is its value and s is made of the fields.
-    module _ (s t : Store K A T) (view : s ≡ t) (w : IsWhole own s) where
+    module _ (s t : ContextView K A T) (view : s ≡ t) (w : IsWellFormed own s) where
       handles_live : (hs : List ℕ) → AllLive t.types hs → AllLive s.types hs
-      handles_live hs a = subst (λ (z : Store K A T). AllLive z.types hs) (sym view) a
+      handles_live hs a = subst (λ (z : ContextView K A T). AllLive z.types hs) (sym view) a
 
-      pub block_new : (n : Nodes (OpView K A) (BlockView A)) (l : Option (List ℕ)) (ts : List ℕ) (es : List (List ℕ × AttrView A)) → n ≡ with_new_block s.nodes (record { label = l; arg_types = ts; attributes = es }) → es ≡ [] → IsStored n → AllLive t.types ts → IsWhole own (record s { nodes = n })
+      pub block_new : (n : Nodes (OpView K A) (BlockView A)) (l : Option (List ℕ)) (ts : List ℕ) (es : List (List ℕ × AttrView A)) → n ≡ with_new_block s.nodes (record { label = l; arg_types = ts; attributes = es }) → es ≡ [] → IsStored n → AllLive t.types ts → IsWellFormed own (record s { nodes = n })
       block_new n l ts es e q f a =
           block_made s w n (record { label = l; arg_types = ts; attributes = es }) e f (ap (λ (z : Cell (BlockView A)). z.content) (cell_at-with_new s.nodes.blocks _ w.stored.block_slots)) (record {
             arg_types = handles_live ts a;
             attributes = rw q (All-nil (λ x. IsAttrLive own s.types x.1));
           })
 
-      pub op_new : (n : Nodes (OpView K A) (BlockView A)) (k : OpKind K) (rs : List ℕ) (us : List Value) (bs : List (Ptr BasicBlockKind)) (es : List (List ℕ × AttrView A)) (l : Location) (o m : ℕ) → n ≡ with_new_regions (with_new_op s.nodes (record { kind = k; result_types = rs; operands = us; successors = bs; attributes = es; location = l })) o m → HandlesLive own t.types es → IsStored n → AllLive t.types rs → All (IsValueLive t) us → All (λ b. IsLive t (BasicBlock b)) bs → IsWhole own (record s { nodes = n })
+      pub op_new : (n : Nodes (OpView K A) (BlockView A)) (k : OpKind K) (rs : List ℕ) (us : List Value) (bs : List (Ptr BasicBlockKind)) (es : List (List ℕ × AttrView A)) (l : Location) (o m : ℕ) → n ≡ with_new_regions (with_new_op s.nodes (record { kind = k; result_types = rs; operands = us; successors = bs; attributes = es; location = l })) o m → HandlesLive own t.types es → IsStored n → AllLive t.types rs → All (IsValueLive t) us → All (λ b. IsLive t (BasicBlock b)) bs → IsWellFormed own (record s { nodes = n })
       op_new n k rs us bs es l o m e q f ra ua ba =
           op_made s w n (record { kind = k; result_types = rs; operands = us; successors = bs; attributes = es; location = l }) o m e f (record {
-            operands = subst (λ (z : Store K A T). All (IsValueLive z) us) (sym view) ua;
-            successors = subst (λ (z : Store K A T). All (λ b. IsLive z (BasicBlock b)) bs) (sym view) ba;
+            operands = subst (λ (z : ContextView K A T). All (IsValueLive z) us) (sym view) ua;
+            successors = subst (λ (z : ContextView K A T). All (λ b. IsLive z (BasicBlock b)) bs) (sym view) ba;
             result_types = handles_live rs ra;
-            attributes = subst (λ (z : Store K A T). HandlesLive own z.types es) (sym view) q;
+            attributes = subst (λ (z : ContextView K A T). HandlesLive own z.types es) (sym view) q;
           })
 
       put_live : (es fs : List (List ℕ × AttrView A)) (k : List ℕ) (v : AttrView A) → (fs ≡ dict_put es k v) ⊎ (fs ≡ es) → IsAttrLive own t.types v → All (λ e. IsAttrLive own s.types e.1) es → All (λ e. IsAttrLive own s.types e.1) fs
-      put_live es fs k v (inl e) h a = rw e (All-dict_put (λ x. IsAttrLive own s.types x.1) (λ k' l' v' p. p) es k v (subst (λ (z : Store K A T). IsAttrLive own z.types v) (sym view) h) a)
+      put_live es fs k v (inl e) h a = rw e (All-dict_put (λ x. IsAttrLive own s.types x.1) (λ k' l' v' p. p) es k v (subst (λ (z : ContextView K A T). IsAttrLive own z.types v) (sym view) h) a)
       put_live es fs k v (inr e) h a = rw e a
 
-      pub op_attr_set : (p : Ptr OperationKind) (u : OpView K A) (fs : List (List ℕ × AttrView A)) (k : List ℕ) (v : AttrView A) → IsLive t (Operation p) → content_at s.nodes.ops p.slot ≡ Some u → (fs ≡ dict_put u.attributes k v) ⊎ (fs ≡ u.attributes) → IsAttrLive own t.types v → IsWhole own (record s { nodes = record s.nodes { ops = with_content s.nodes.ops p.slot (record u { attributes = fs }) } })
+      pub op_attr_set : (p : Ptr OperationKind) (u : OpView K A) (fs : List (List ℕ × AttrView A)) (k : List ℕ) (v : AttrView A) → IsLive t (Operation p) → content_at s.nodes.ops p.slot ≡ Some u → (fs ≡ dict_put u.attributes k v) ⊎ (fs ≡ u.attributes) → IsAttrLive own t.types v → IsWellFormed own (record s { nodes = record s.nodes { ops = with_content s.nodes.ops p.slot (record u { attributes = fs }) } })
       op_attr_set p u fs k v live was put h =
           let x = w.holds.ops p.slot u was in
           op_replaced s w (record s.nodes { ops = with_content s.nodes.ops p.slot (record u { attributes = fs }) }) p.slot u (record u { attributes = fs }) refl (IsStored-held_op s.nodes w.stored p.slot (record u { attributes = fs }) (rw was refl)) was refl (record {
@@ -346,7 +346,7 @@ module _ {K A T : Type 0} where
             attributes = put_live u.attributes fs k v put h x.attributes;
           })
 
-      pub block_attr_set : (p : Ptr BasicBlockKind) (u : BlockView A) (fs : List (List ℕ × AttrView A)) (k : List ℕ) (v : AttrView A) → IsLive t (BasicBlock p) → content_at s.nodes.blocks p.slot ≡ Some u → (fs ≡ dict_put u.attributes k v) ⊎ (fs ≡ u.attributes) → IsAttrLive own t.types v → IsWhole own (record s { nodes = record s.nodes { blocks = with_content s.nodes.blocks p.slot (record u { attributes = fs }) } })
+      pub block_attr_set : (p : Ptr BasicBlockKind) (u : BlockView A) (fs : List (List ℕ × AttrView A)) (k : List ℕ) (v : AttrView A) → IsLive t (BasicBlock p) → content_at s.nodes.blocks p.slot ≡ Some u → (fs ≡ dict_put u.attributes k v) ⊎ (fs ≡ u.attributes) → IsAttrLive own t.types v → IsWellFormed own (record s { nodes = record s.nodes { blocks = with_content s.nodes.blocks p.slot (record u { attributes = fs }) } })
       block_attr_set p u fs k v live was put h =
           let x = w.holds.blocks p.slot u was in
           block_replaced s w (record s.nodes { blocks = with_content s.nodes.blocks p.slot (record u { attributes = fs }) }) p.slot u (record u { attributes = fs }) refl (IsStored-held_block s.nodes w.stored p.slot (record u { attributes = fs }) (rw was refl)) was refl (record {

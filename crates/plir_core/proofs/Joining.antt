@@ -6,7 +6,7 @@ use Rattle.plir_core.specs.declared.ptr.Ptr.{Ptr}
 use Rattle.plir_core.specs.declared.ptr.Operation.{Operation as OperationKind}
 use Rattle.plir_core.specs.declared.ptr.BasicBlock.{BasicBlock as BlockKind}
 use Rattle.plir_core.specs.Contents.{OpView, BlockView}
-use Rattle.plir_core.specs.Store.{Store, op_at, block_at}
+use Rattle.plir_core.specs.ContextView.{ContextView, op_at, block_at}
 use Rattle.plir_core.specs.Changes.{with_op_edit, op_edited, with_block_edit, block_edited}
 use Rattle.plir_core.proofs.Holds.{here_held, version_held}
 
@@ -26,7 +26,7 @@ module _ {C : Type 0} (t : Table C) (i : ℕ) (v w : C) (some : IsSome (content_
       set-twice (x ∷ xs) zero a b = refl
       set-twice (x ∷ xs) (suc k) a b = ap (λ l. x ∷ l) (set-twice xs k a b)
 
-module _ {K A T : Type 0} (s : Store K A T) (p : Ptr OperationKind) where
+module _ {K A T : Type 0} (s : ContextView K A T) (p : Ptr OperationKind) where
   pub edits-join : (f g : OpView K A → OpView K A) → with_op_edit (with_op_edit s p f) p g ≡ with_op_edit s p (λ o. g (f o))
   edits-join f g = go (op_at s p) refl
     where
@@ -44,7 +44,7 @@ module _ {K A T : Type 0} (s : Store K A T) (p : Ptr OperationKind) where
       go None e = refl
       go (Some v) e = ap (λ u. op_edited s p.slot (λ _. u) (Some v)) (alike v e)
 
-module _ {K A T : Type 0} (s : Store K A T) (p : Ptr BlockKind) where
+module _ {K A T : Type 0} (s : ContextView K A T) (p : Ptr BlockKind) where
   pub block-edits-join : (f g : BlockView A → BlockView A) →
       with_block_edit (with_block_edit s p f) p g ≡ with_block_edit s p (λ b. g (f b))
   block-edits-join f g = go (block_at s p) refl

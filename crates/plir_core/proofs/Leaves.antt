@@ -1,15 +1,15 @@
--- What stands below a node without kids; and which nodes are the same.
+-- What stands below a node without children; and which nodes are the same.
 use Rattle.std.proofs.Common.{◌≡◌, ℕ, zero, suc, List, [], Option, Some, None, ◌⊎◌, inl, inr, refl, sym, ◌∙◌, ap, subst}
 use Rattle.std.proofs.lemmas.Bool.{cases_eq}
 use Rattle.std.proofs.lemmas.Option.{same_Some, none-some}
 use Rattle.plir_store.specs.Members.{Has}
 use Rattle.plir_core.specs.Above.{climb}
-use Rattle.plir_core.specs.Nodes.{Nodes, node_kids, node_parent}
+use Rattle.plir_core.specs.Nodes.{Nodes, node_children, node_parent}
 use Rattle.plir_core.specs.Stored.{IsStored}
 use Rattle.plir_core.specs.declared.ptr.Ptr.{Ptr}
 use Rattle.plir_core.specs.declared.ptr.IRNode.{IRNode}
 use Rattle.plir_core.specs.declared.ptr.IRNode.TheVariants.{Operation, Region, BasicBlock}
-use Rattle.plir_core.proofs.Facts.{parent-kid}
+use Rattle.plir_core.proofs.Facts.{parent-child}
 
 step : {N : Type 0} (up : N → Option N) (k : ℕ) (a : N) (o : Option N) → climb up (suc k) o ≡ Some a → ((m : N) → climb up (suc k) (Some m) ≡ Some a → (x : N) × (up x ≡ Some a)) → (x : N) × (up x ≡ Some a)
 step up k a None e more = absurd (none-some a e)
@@ -21,9 +21,9 @@ climb-last up zero n a e = (n, e)
 climb-last up (suc k) n a e = step up k a (up n) e (λ m. climb-last up k m a)
 
 module _ {O B : Type 0} (s : Nodes O B) (w : IsStored s) where
-  pub reached-alone : (leaf n : IRNode) → node_kids s leaf ≡ [] → (k : ℕ) → climb (node_parent s) k (Some n) ≡ Some leaf → n ≡ leaf
+  pub reached-alone : (leaf n : IRNode) → node_children s leaf ≡ [] → (k : ℕ) → climb (node_parent s) k (Some n) ≡ Some leaf → n ≡ leaf
   reached-alone leaf n e zero q = same_Some n leaf q
-  reached-alone leaf n e (suc k) q = let r = climb-last (node_parent s) k n leaf q in absurd (subst (λ xs. Has xs r.0) e (parent-kid s w leaf r.0 r.1))
+  reached-alone leaf n e (suc k) q = let r = climb-last (node_parent s) k n leaf q in absurd (subst (λ xs. Has xs r.0) e (parent-child s w leaf r.0 r.1))
 
 ptr-cases : {X : Type 0} (p q : Ptr X) → (p ≡ q) ⊎ (p ≡ q → ⊥)
 ptr-cases {X} p q = elim (cases_eq p.slot q.slot) [

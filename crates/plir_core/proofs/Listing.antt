@@ -4,7 +4,7 @@ use Rattle.std.proofs.lemmas.Bool.{cases_eq, cases_lt}
 use Rattle.std.proofs.lemmas.List.{get_or_past, get_or-set_same, get_or-set_other, get_or_append_left, length-append}
 use Rattle.std.proofs.lemmas.Option.{same_Some, none-some}
 use Rattle.plir_store.specs.Members.{Has}
-use Rattle.plir_store.specs.Lists.{Lists, IsAgreed, kids_at, parent_at, put_in, put_in_after, without, with_first, with_last, with_before, with_before_under, with_after, with_after_under, without_child, without_under}
+use Rattle.plir_store.specs.Lists.{Lists, IsAgreed, children_at, parent_at, put_in, put_in_after, without, with_first, with_last, with_before, with_before_under, with_after, with_after_under, without_child, without_under}
 use Rattle.plir_store.specs.Table.{Table, Cell, no_cell, cell_at, content_at, version_at, slot_after, next_slot, with_new, with_new_in, without_slot}
 use Rattle.plir_store.specs.ListLaws.{get_or-push_default}
 use Rattle.plir_core.specs.Stored.{IsListing}
@@ -34,17 +34,17 @@ pub parent_at-room_list : (l : Lists) (fs : List ℕ) (c : ℕ) → parent_at (r
 parent_at-room_list l [] c = refl
 parent_at-room_list l (f ∷ fs) c = refl
 
-pub kids_at-room_child : (l : Lists) (fs : List ℕ) (p : ℕ) → kids_at (room_child l fs) p ≡ kids_at l p
-kids_at-room_child l [] p = refl
-kids_at-room_child l (f ∷ fs) p = refl
+pub children_at-room_child : (l : Lists) (fs : List ℕ) (p : ℕ) → children_at (room_child l fs) p ≡ children_at l p
+children_at-room_child l [] p = refl
+children_at-room_child l (f ∷ fs) p = refl
 
-pub kids_at-room_list : (l : Lists) (fs : List ℕ) (p : ℕ) → kids_at (room_list l fs) p ≡ kids_at l p
-kids_at-room_list l [] p = get_or-push_default l.kids [] p
-kids_at-room_list l (f ∷ fs) p = refl
+pub children_at-room_list : (l : Lists) (fs : List ℕ) (p : ℕ) → children_at (room_list l fs) p ≡ children_at l p
+children_at-room_list l [] p = get_or-push_default l.children [] p
+children_at-room_list l (f ∷ fs) p = refl
 
-pub kids-room_child : (l : Lists) (fs : List ℕ) → (room_child l fs).kids ≡ l.kids
-kids-room_child l [] = refl
-kids-room_child l (f ∷ fs) = refl
+pub children-room_child : (l : Lists) (fs : List ℕ) → (room_child l fs).children ≡ l.children
+children-room_child l [] = refl
+children-room_child l (f ∷ fs) = refl
 
 parents-room_list : (l : Lists) (fs : List ℕ) → (room_list l fs).parents ≡ l.parents
 parents-room_list l [] = refl
@@ -55,9 +55,9 @@ module _ {T : Type 0} where
   parents-room l t v [] e = omega (arith, length-append l.parents (None ∷ []), length-append t.slots (record { version = 1; content = Some v } ∷ []))
   parents-room l t v (f ∷ fs) e = e ∙ sym (length-set t.slots f _)
 
-  kids-room : (l : Lists) (t : Table T) (v : T) (fs : List ℕ) → length l.kids ≡ length t.slots → length (room_list l fs).kids ≡ length (with_new_in t v fs).slots
-  kids-room l t v [] e = omega (arith, length-append l.kids ([] ∷ []), length-append t.slots (record { version = 1; content = Some v } ∷ []))
-  kids-room l t v (f ∷ fs) e = e ∙ sym (length-set t.slots f _)
+  children-room : (l : Lists) (t : Table T) (v : T) (fs : List ℕ) → length l.children ≡ length t.slots → length (room_list l fs).children ≡ length (with_new_in t v fs).slots
+  children-room l t v [] e = omega (arith, length-append l.children ([] ∷ []), length-append t.slots (record { version = 1; content = Some v } ∷ []))
+  children-room l t v (f ∷ fs) e = e ∙ sym (length-set t.slots f _)
 
   pub within_content : (t : Table T) (i : ℕ) → IsSome (content_at t i) → i < length t.slots
   within_content t i some = elim (cases_lt i (length t.slots)) [
@@ -114,35 +114,35 @@ module _ {T : Type 0} where
 -- What becomes of lists when c is put under p, or taken out.
 pub record IsMoved (l l' : Lists) (c : ℕ) (p : Option ℕ) : Type 0 where
   pub parents : length l'.parents ≡ length l.parents
-  pub kids : length l'.kids ≡ length l.kids
+  pub children : length l'.children ≡ length l.children
   pub here : parent_at l' c ≡ p
   pub other : (x : ℕ) → (x ≡ c → ⊥) → parent_at l' x ≡ parent_at l x
 
-IsMoved-under : (l : Lists) (c p : ℕ) (ks : List ℕ) → c < length l.parents → IsMoved l (record { kids = set l.kids p ks; parents = set l.parents c (Some p) }) c (Some p)
+IsMoved-under : (l : Lists) (c p : ℕ) (ks : List ℕ) → c < length l.parents → IsMoved l (record { children = set l.children p ks; parents = set l.parents c (Some p) }) c (Some p)
 IsMoved-under l c p ks h = record {
   parents = length-set l.parents c (Some p);
-  kids = length-set l.kids p ks;
+  children = length-set l.children p ks;
   here = get_or-set_same l.parents c (Some p) None h;
   other = λ x n. get_or-set_other l.parents c x (Some p) None n;
 }
 
 pub IsMoved-first : (l : Lists) (c p : ℕ) → c < length l.parents → IsMoved l (with_first l p c) c (Some p)
-IsMoved-first l c p h = IsMoved-under l c p (c ∷ kids_at l p) h
+IsMoved-first l c p h = IsMoved-under l c p (c ∷ children_at l p) h
 
 pub IsMoved-last : (l : Lists) (c p : ℕ) → c < length l.parents → IsMoved l (with_last l p c) c (Some p)
-IsMoved-last l c p h = IsMoved-under l c p (kids_at l p ++ c ∷ []) h
+IsMoved-last l c p h = IsMoved-under l c p (children_at l p ++ c ∷ []) h
 
 pub IsMoved-before : (l : Lists) (c m p : ℕ) → c < length l.parents → parent_at l m ≡ Some p → IsMoved l (with_before l c m) c (Some p)
-IsMoved-before l c m p h e = subst (λ o. IsMoved l (with_before_under l c m o) c (Some p)) (sym e) (IsMoved-under l c p (put_in c m (kids_at l p)) h)
+IsMoved-before l c m p h e = subst (λ o. IsMoved l (with_before_under l c m o) c (Some p)) (sym e) (IsMoved-under l c p (put_in c m (children_at l p)) h)
 
 pub IsMoved-after : (l : Lists) (c m p : ℕ) → c < length l.parents → parent_at l m ≡ Some p → IsMoved l (with_after l c m) c (Some p)
-IsMoved-after l c m p h e = subst (λ o. IsMoved l (with_after_under l c m o) c (Some p)) (sym e) (IsMoved-under l c p (put_in_after c m (kids_at l p)) h)
+IsMoved-after l c m p h e = subst (λ o. IsMoved l (with_after_under l c m o) c (Some p)) (sym e) (IsMoved-under l c p (put_in_after c m (children_at l p)) h)
 
 IsMoved-out_under : (l : Lists) (c : ℕ) (o : Option ℕ) → c < length l.parents → parent_at l c ≡ o → IsMoved l (without_under l c o) c None
-IsMoved-out_under l c None h e = record { parents = refl; kids = refl; here = e; other = λ x n. refl }
+IsMoved-out_under l c None h e = record { parents = refl; children = refl; here = e; other = λ x n. refl }
 IsMoved-out_under l c (Some p) h e = record {
   parents = length-set l.parents c None;
-  kids = length-set l.kids p (without c (kids_at l p));
+  children = length-set l.children p (without c (children_at l p));
   here = get_or-set_same l.parents c None None h;
   other = λ x n. get_or-set_other l.parents c x None None n;
 }
@@ -160,20 +160,20 @@ module _ {C P : Type 0} (l : Lists) (t : Table C) (u : Table P) (w : IsListing l
   loose c f = loose_in c (parent_at l c) refl f
 
   -- what is not live has nothing under it
-  childless_in : (p : ℕ) (ks : List ℕ) → kids_at l p ≡ ks → content_at u p ≡ None → ks ≡ []
+  childless_in : (p : ℕ) (ks : List ℕ) → children_at l p ≡ ks → content_at u p ≡ None → ks ≡ []
   childless_in p [] e f = refl
   childless_in p (k ∷ ks) e f =
       let x = w.linked_live k p (w.agreed.owned p k (rw e (inl refl))) in
       absurd (some_none (content_at u p) x.1 f)
 
-  pub childless : (p : ℕ) → content_at u p ≡ None → kids_at l p ≡ []
-  childless p f = childless_in p (kids_at l p) refl f
+  pub childless : (p : ℕ) → content_at u p ≡ None → children_at l p ≡ []
+  childless p f = childless_in p (children_at l p) refl f
 
   -- room for one more child, and for one more parent
   pub IsListing-child : (v : C) → content_at t (next_slot t) ≡ None → IsAgreed (room_child l t.free) → IsListing (room_child l t.free) (with_new t v) u
   IsListing-child v vacant a = record {
     child_places = parents-room l t v t.free w.child_places;
-    parent_places = ap length (kids-room_child l t.free) ∙ w.parent_places;
+    parent_places = ap length (children-room_child l t.free) ∙ w.parent_places;
     agreed = a;
     linked_live = λ c p e. let x = w.linked_live c p (sym (parent_at-room_child l t.free c) ∙ e) in (some_kept t v c vacant x.0, x.1);
   }
@@ -181,7 +181,7 @@ module _ {C P : Type 0} (l : Lists) (t : Table C) (u : Table P) (w : IsListing l
   pub IsListing-parent : (v : P) → content_at u (next_slot u) ≡ None → IsAgreed (room_list l u.free) → IsListing (room_list l u.free) t (with_new u v)
   IsListing-parent v vacant a = record {
     child_places = ap length (parents-room_list l u.free) ∙ w.child_places;
-    parent_places = kids-room l u v u.free w.parent_places;
+    parent_places = children-room l u v u.free w.parent_places;
     agreed = a;
     linked_live = λ c p e. let x = w.linked_live c p (sym (parent_at-room_list l u.free c) ∙ e) in (x.0, some_kept u v p vacant x.1);
   }
@@ -190,7 +190,7 @@ module _ {C P : Type 0} (l : Lists) (t : Table C) (u : Table P) (w : IsListing l
   pub IsListing-link : (m : Lists) (i q : ℕ) → IsMoved l m i (Some q) → IsAgreed m → IsSome (content_at t i) → IsSome (content_at u q) → IsListing m t u
   IsListing-link m i q v a live_i live_q = record {
     child_places = v.parents ∙ w.child_places;
-    parent_places = v.kids ∙ w.parent_places;
+    parent_places = v.children ∙ w.parent_places;
     agreed = a;
     linked_live = λ c p e. elim (cases_eq c i) [
       | inl f ↦
@@ -203,7 +203,7 @@ module _ {C P : Type 0} (l : Lists) (t : Table C) (u : Table P) (w : IsListing l
   pub IsListing-unlink : (m : Lists) (i : ℕ) → IsMoved l m i None → IsAgreed m → IsListing m t u
   IsListing-unlink m i v a = record {
     child_places = v.parents ∙ w.child_places;
-    parent_places = v.kids ∙ w.parent_places;
+    parent_places = v.children ∙ w.parent_places;
     agreed = a;
     linked_live = λ c p e. elim (cases_eq c i) [
       | inl f ↦ absurd (none-some p (sym v.here ∙ ap (parent_at m) (sym f) ∙ e))
@@ -222,13 +222,13 @@ module _ {C P : Type 0} (l : Lists) (t : Table C) (u : Table P) (w : IsListing l
         (rw (content_without t i c (λ q. none-some p (sym none ∙ ap (parent_at l) (sym q) ∙ e))) x.0, x.1);
   }
 
-  pub IsListing-free_parent : (i : ℕ) → kids_at l i ≡ [] → IsListing l t (without_slot u i)
+  pub IsListing-free_parent : (i : ℕ) → children_at l i ≡ [] → IsListing l t (without_slot u i)
   IsListing-free_parent i none = record {
     child_places = w.child_places;
     parent_places = w.parent_places ∙ sym (length-set u.slots i _);
     agreed = w.agreed;
     linked_live = λ c p e.
         let x = w.linked_live c p e in
-        let k : Has (kids_at l p) c = w.agreed.held p c e in
-        (x.0, rw (content_without u i p (λ q. subst (λ (xs : List ℕ). Has xs c) (ap (kids_at l) q ∙ none) k)) x.1);
+        let k : Has (children_at l p) c = w.agreed.held p c e in
+        (x.0, rw (content_without u i p (λ q. subst (λ (xs : List ℕ). Has xs c) (ap (children_at l) q ∙ none) k)) x.1);
   }

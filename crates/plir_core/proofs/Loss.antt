@@ -1,4 +1,4 @@
--- What is left when nodes are freed one after another, each live and without kids when its turn comes.
+-- What is left when nodes are freed one after another, each live and without children when its turn comes.
 use Rattle.std.proofs.Common.{◌≡◌, ℕ, suc, ◌+◌, ◌≤◌, Bool, true, false, List, [], ◌∷◌, ◌++◌, length, Option, Some, None, ◌⊎◌, zero, ◌*◌, inl, inr, refl, sym, ◌∙◌, ap, subst, arith}
 use Rattle.std.specs.List.{flat_map}
 use Rattle.std.proofs.lemmas.Bool.{cases_eq}
@@ -12,16 +12,16 @@ use Rattle.plir_core.specs.declared.ptr.IRNode.{IRNode}
 use Rattle.plir_core.specs.declared.ptr.IRNode.TheVariants.{Operation, Region, BasicBlock}
 use Rattle.plir_core.specs.Above.{climb, Reaches}
 use Rattle.plir_store.specs.Members.{Has}
-use Rattle.plir_core.specs.Nodes.{Nodes, is_node_live, was_given_out, node_kids, node_parent, num_nodes}
+use Rattle.plir_core.specs.Nodes.{Nodes, is_node_live, was_given_out, node_children, node_parent, num_nodes}
 use Rattle.plir_core.specs.Stored.{IsStored}
 use Rattle.plir_core.specs.Erase.{post_order, without_node, without_nodes, tree_of, erased, IsErased}
-use Rattle.plir_core.proofs.Facts.{kid-parent, parent-live}
+use Rattle.plir_core.proofs.Facts.{child-parent, parent-live}
 use Rattle.plir_core.proofs.Listing.{content_without}
 use Rattle.plir_core.proofs.Freed.{ptr_one}
-use Rattle.plir_core.proofs.Depths.{depth-kid, depth-le_most, depth_falls}
+use Rattle.plir_core.proofs.Depths.{depth-child, depth-le_most, depth_falls}
 use Rattle.plir_store.specs.MemberLaws.{Has-mid, Has-append_left, Has-append_right, Has-append_cases}
 use Rattle.plir_core.proofs.Trees.{IsTree, tree-below, below-tree, Has-flat_map, Reaches-more, depth-climb}
-use Rattle.plir_core.proofs.FreedNode.{freed-live, freed-dead, freed-given, freed-parent, freed-kids_here, freed-kids, freed-most, freed-limit, freed-stored, freed-count}
+use Rattle.plir_core.proofs.FreedNode.{freed-live, freed-dead, freed-given, freed-parent, freed-children_here, freed-children, freed-most, freed-limit, freed-stored, freed-count}
 use Rattle.plir_core.proofs.Erased.{IsPeeled, IsPeeled-tree, IsTree-stored, depth-some}
 use Rattle.plir_core.specs.Measures.{most_steps, depth_of}
 
@@ -53,7 +53,7 @@ module _ {O B : Type 0} where
     pub dead : (m : IRNode) → is_node_live s m ≡ false → is_node_live t m ≡ false
     pub live : (m : IRNode) → (Has ns m → ⊥) → is_node_live t m ≡ is_node_live s m
     pub parents : (m : IRNode) → (Has ns m → ⊥) → node_parent t m ≡ node_parent s m
-    pub kids : (m : IRNode) → ((x : IRNode) → Has ns x → node_parent s x ≡ Some m → ⊥) → node_kids t m ≡ node_kids s m
+    pub children : (m : IRNode) → ((x : IRNode) → Has ns x → node_parent s x ≡ Some m → ⊥) → node_children t m ≡ node_children s m
     pub ops : (p : Ptr OperationKind) → (Has ns (Operation p) → ⊥) → is_node_live s (Operation p) ≡ true → content_at t.ops p.slot ≡ content_at s.ops p.slot
     pub blocks : (p : Ptr BlockKind) → (Has ns (BasicBlock p) → ⊥) → is_node_live s (BasicBlock p) ≡ true → content_at t.blocks p.slot ≡ content_at s.blocks p.slot
     pub given : (m : IRNode) → was_given_out t m ≡ was_given_out s m
@@ -67,7 +67,7 @@ module _ {O B : Type 0} where
     dead = λ m e. e;
     live = λ m h. refl;
     parents = λ m h. refl;
-    kids = λ m h. refl;
+    children = λ m h. refl;
     ops = λ p h e. refl;
     blocks = λ p h e. refl;
     given = λ m. refl;
@@ -87,7 +87,7 @@ module _ {O B : Type 0} where
         dead = λ m e. r.dead m (dead-stays s w n m p.0 e);
         live = λ m h. r.live m (λ j. h (inr j)) ∙ freed-live s n m p.0 (away m h) w;
         parents = λ m h. r.parents m (λ j. h (inr j)) ∙ freed-parent s n m p.0 (away m h) w;
-        kids = λ m h. r.kids m (later n ns s w p m h) ∙ freed-kids s n m p.0 p.1 w (h n (inl refl));
+        children = λ m h. r.children m (later n ns s w p m h) ∙ freed-children s n m p.0 p.1 w (h n (inl refl));
         ops = λ q h e. r.ops q (λ j. h (inr j)) (freed-live s n (Operation q) p.0 (away (Operation q) h) w ∙ e) ∙ freed-ops s w n q p.0 (away (Operation q) h) e;
         blocks = λ q h e. r.blocks q (λ j. h (inr j)) (freed-live s n (BasicBlock q) p.0 (away (BasicBlock q) h) w ∙ e) ∙ freed-blocks s w n q p.0 (away (BasicBlock q) h) e;
         given = λ m. r.given m ∙ freed-given s n m;
@@ -114,7 +114,7 @@ module _ {O B : Type 0} where
   IsPeeled-back (x ∷ xs) ys s p = IsPeeled-back xs ys (without_node s x) p.2
 
   module _ (s : Nodes O B) (w : IsStored s) (n : IRNode) (live : is_node_live s n ≡ true) where
-    abbrev tree : IsTree (node_kids s) (node_parent s) (depth_of s)
+    abbrev tree : IsTree (node_children s) (node_parent s) (depth_of s)
     tree = IsTree-stored s w
 
     less : IsLess s (erased s n) (tree_of s n)
@@ -122,14 +122,14 @@ module _ {O B : Type 0} where
 
     -- what is in the tree is the root or below it
     pub in-tree : (m : IRNode) → Has (tree_of s n) m → Reaches (node_parent s) m n
-    in-tree m h = tree-below (node_kids s) (node_parent s) (depth_of s) tree (most_steps s) n m h
+    in-tree m h = tree-below (node_children s) (node_parent s) (depth_of s) tree (most_steps s) n m h
 
     pub tree-in : (m : IRNode) → Reaches (node_parent s) m n → Has (tree_of s n) m
     tree-in m r =
-        let d = depth-climb (node_kids s) (node_parent s) (depth_of s) tree r.0 m n r.1 in
+        let d = depth-climb (node_children s) (node_parent s) (depth_of s) tree r.0 m n r.1 in
         let one = depth-some s w n in
         let most = depth-le_most s w m in
-        below-tree (node_kids s) (node_parent s) (depth_of s) tree (most_steps s) r.0 n m r.1 (omega arith)
+        below-tree (node_children s) (node_parent s) (depth_of s) tree (most_steps s) r.0 n m r.1 (omega arith)
 
     away : (m : IRNode) → (Reaches (node_parent s) m n → ⊥) → Has (tree_of s n) m → ⊥
     away m out h = out (in-tree m h)
@@ -142,47 +142,47 @@ module _ {O B : Type 0} where
     ] r.1
 
     -- the tree without its root
-    front_in : (f : ℕ) (m : IRNode) → Has (flat_map (post_order (node_kids s) f) (node_kids s n)) m → (c : IRNode) × ((node_parent s c ≡ Some n) × Reaches (node_parent s) m c)
+    front_in : (f : ℕ) (m : IRNode) → Has (flat_map (post_order (node_children s) f) (node_children s n)) m → (c : IRNode) × ((node_parent s c ≡ Some n) × Reaches (node_parent s) m c)
     front_in f m h =
-        let r = Has-flat_map (post_order (node_kids s) f) (node_kids s n) m h in
-        (r.0, (kid-parent s w n r.0 r.1.0, tree-below (node_kids s) (node_parent s) (depth_of s) tree f r.0 m r.1.1))
+        let r = Has-flat_map (post_order (node_children s) f) (node_children s n) m h in
+        (r.0, (child-parent s w n r.0 r.1.0, tree-below (node_children s) (node_parent s) (depth_of s) tree f r.0 m r.1.1))
 
-    front_below : (f : ℕ) (m : IRNode) → Has (flat_map (post_order (node_kids s) f) (node_kids s n)) m → m ≡ n → ⊥
+    front_below : (f : ℕ) (m : IRNode) → Has (flat_map (post_order (node_children s) f) (node_children s n)) m → m ≡ n → ⊥
     front_below f m h e =
         let r = front_in f m h in
-        let a = depth-kid s w n r.0 r.1.0 in
-        let b = depth-climb (node_kids s) (node_parent s) (depth_of s) tree r.1.1.0 m r.0 r.1.1.1 in
+        let a = depth-child s w n r.0 r.1.0 in
+        let b = depth-climb (node_children s) (node_parent s) (depth_of s) tree r.1.1.0 m r.0 r.1.1.1 in
         let c = ap (depth_of s) e in
         let x : ⊥ = omega arith in
         x
 
     -- the parent of the root has lost it
-    kids_lost : (f : ℕ) → tree_of s n ≡ post_order (node_kids s) (suc f) n → (m : IRNode) (xs ys : List IRNode) → node_kids s m ≡ xs ++ n ∷ ys → node_kids (erased s n) m ≡ xs ++ ys
-    kids_lost f shape m xs ys e =
-        let front : List IRNode = flat_map (post_order (node_kids s) f) (node_kids s n) in
+    children_lost : (f : ℕ) → tree_of s n ≡ post_order (node_children s) (suc f) n → (m : IRNode) (xs ys : List IRNode) → node_children s m ≡ xs ++ n ∷ ys → node_children (erased s n) m ≡ xs ++ ys
+    children_lost f shape m xs ys e =
+        let front : List IRNode = flat_map (post_order (node_children s) f) (node_children s n) in
         let peeled : IsPeeled s (front ++ n ∷ []) = subst (IsPeeled s) shape (IsPeeled-tree s w n live) in
         let first = IsLess-peeled front s w (IsPeeled-front front (n ∷ []) s peeled) in
         let last = IsPeeled-back front (n ∷ []) s peeled in
-        let over : node_parent s n ≡ Some m = kid-parent s w m n (subst (λ z. Has z n) (sym e) (Has-mid xs ys n)) in
-        let kept : node_kids (without_nodes s front) m ≡ node_kids s m = first.kids m (λ x h q.
+        let over : node_parent s n ≡ Some m = child-parent s w m n (subst (λ z. Has z n) (sym e) (Has-mid xs ys n)) in
+        let kept : node_children (without_nodes s front) m ≡ node_children s m = first.children m (λ x h q.
         let r = front_in f x h in
-        outside m over (below_kid x m r.0 r.1.0 r.1.1 q)) in
-        ap (λ z. node_kids z m) (ap (without_nodes s) shape ∙ without_nodes-append front (n ∷ []) s)
-        ∙ freed-kids_here (without_nodes s front) n m xs ys last.0 first.stored (kept ∙ e)
+        outside m over (below_child x m r.0 r.1.0 r.1.1 q)) in
+        ap (λ z. node_children z m) (ap (without_nodes s) shape ∙ without_nodes-append front (n ∷ []) s)
+        ∙ freed-children_here (without_nodes s front) n m xs ys last.0 first.stored (kept ∙ e)
       where
         -- a node's parent is not in the node's tree
         outside : (m : IRNode) → node_parent s n ≡ Some m → Reaches (node_parent s) m n → ⊥
         outside m over r =
-            let a = depth-kid s w m n over in
-            let b = depth-climb (node_kids s) (node_parent s) (depth_of s) tree r.0 m n r.1 in
+            let a = depth-child s w m n over in
+            let b = depth-climb (node_children s) (node_parent s) (depth_of s) tree r.0 m n r.1 in
             let x : ⊥ = omega arith in
             x
 
-        -- what stands right above a node below a kid of n is in n's tree
-        below_kid : (x m c : IRNode) → node_parent s c ≡ Some n → Reaches (node_parent s) x c → node_parent s x ≡ Some m → Reaches (node_parent s) m n
-        below_kid x m c over r q = elim (r.0) as (λ k. climb (node_parent s) k (Some x) ≡ Some c → Reaches (node_parent s) m n) [
+        -- what stands right above a node below a child of n is in n's tree
+        below_child : (x m c : IRNode) → node_parent s c ≡ Some n → Reaches (node_parent s) x c → node_parent s x ≡ Some m → Reaches (node_parent s) m n
+        below_child x m c over r q = elim (r.0) as (λ k. climb (node_parent s) k (Some x) ≡ Some c → Reaches (node_parent s) m n) [
           | zero ↦ λ z. (0, sym q ∙ ap (node_parent s) (same_Some x c z) ∙ over)
-          | suc k ↦ λ z. Reaches-more (node_kids s) (node_parent s) (depth_of s) tree m c n (k, ap (climb (node_parent s) k) (sym q) ∙ z) over
+          | suc k ↦ λ z. Reaches-more (node_children s) (node_parent s) (depth_of s) tree m c n (k, ap (climb (node_parent s) k) (sym q) ∙ z) over
         ] r.1
 
     most_shape : (f : ℕ) × (most_steps s ≡ suc f)
@@ -200,8 +200,8 @@ module _ {O B : Type 0} where
       ops = λ p e. let out = left (Operation p) e in less.ops p out (sym (less.live (Operation p) out) ∙ e);
       blocks = λ p e. let out = left (BasicBlock p) e in less.blocks p out (sym (less.live (BasicBlock p) out) ∙ e);
       parents = λ m out. less.parents m (away m out);
-      kids = λ m out over. less.kids m (λ x h q. over (ap (node_parent s) (sym (over-tree m x out (in-tree x h) q)) ∙ q));
-      kids_over = kids_lost most_shape.0 (ap (λ f. post_order (node_kids s) f n) most_shape.1);
+      children = λ m out over. less.children m (λ x h q. over (ap (node_parent s) (sym (over-tree m x out (in-tree x h) q)) ∙ q));
+      children_over = children_lost most_shape.0 (ap (λ f. post_order (node_children s) f n) most_shape.1);
       given = less.given;
       count = less.count;
       limit = less.limit;

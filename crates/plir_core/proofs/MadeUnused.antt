@@ -10,12 +10,12 @@ use Rattle.plir_core.specs.declared.value.Value.{Value}
 use Rattle.plir_core.specs.Contents.{OpView}
 use Rattle.plir_core.specs.Made.{IsMade}
 use Rattle.plir_core.specs.Nodes.{is_node_live}
-use Rattle.plir_core.specs.Store.{Store, IsLive, IsValueLive, IsAncestor, is_live, op_at, entity_node, types_from, operands_in, successors_in}
+use Rattle.plir_core.specs.ContextView.{ContextView, IsLive, IsValueLive, IsAncestor, is_live, op_at, entity_node, types_from, operands_in, successors_in}
 use Rattle.plir_core.specs.Unused.{UsesNoneOf, IsUnusedOutside}
-use Rattle.plir_core.specs.Whole.{IsWhole}
+use Rattle.plir_core.specs.WellFormed.{IsWellFormed}
 use Rattle.plir_core.proofs.Freed.{bool_cases}
 
-module _ {K A T : Type 0} (own : A → List ℕ) (s t : Store K A T) (n : IRNode) (w : IsWhole own s) (m : IsMade s.nodes t.nodes n) where
+module _ {K A T : Type 0} (own : A → List ℕ) (s t : ContextView K A T) (n : IRNode) (w : IsWellFormed own s) (m : IsMade s.nodes t.nodes n) where
   -- what is live outside the new tree was live before
   older : (x : IRNode) → IsLive t x → (IsAncestor t n x → ⊥) → IsLive s x
   older x live out = elim (bool_cases (is_node_live s.nodes x)) [

@@ -2,7 +2,7 @@
 use Rattle.std.proofs.Common.{◌≡◌, ℕ, suc, ◌+◌, ◌<◌, length, Option, Some, None, IsSome, refl, sym, ◌∙◌, ap, subst, arith}
 use Rattle.std.specs.Prelude.{option_map, true, cond, map, [], slice_get}
 use Rattle.std.proofs.lemmas.Option.{slice_get-map}
-use Rattle.plir_store.specs.Lists.{Lists, IsAgreed, kids_at, parent_at, with_last, without_child}
+use Rattle.plir_store.specs.Lists.{Lists, IsAgreed, children_at, parent_at, with_last, without_child}
 use Rattle.plir_store.specs.Table.{Table, content_at, version_at, next_slot, with_content}
 use Rattle.plir_core.specs.declared.ptr.Ptr.{Ptr}
 use Rattle.plir_core.specs.declared.ptr.Operation.{Operation as OperationKind}
@@ -11,7 +11,7 @@ use Rattle.plir_core.specs.declared.ptr.BasicBlock.{BasicBlock as BasicBlockKind
 use Rattle.plir_core.specs.declared.ptr.IRNode.{IRNode}
 use Rattle.plir_core.specs.declared.ptr.IRNode.TheVariants.{Operation, Region, BasicBlock}
 use Rattle.plir_core.specs.Above.{climb, Reaches}
-use Rattle.plir_core.specs.Nodes.{Nodes, num_nodes, ptr_at, node_kids, block_node, region_node, is_node_live, node_parent, node_over}
+use Rattle.plir_core.specs.Nodes.{Nodes, num_nodes, ptr_at, node_children, block_node, region_node, is_node_live, node_parent, node_over}
 use Rattle.plir_core.specs.Stored.{Seat, op, region, block, seat_of, up, IsStored}
 use Rattle.plir_core.specs.Edits.{IsFilled, room_child, room_list}
 use Rattle.plir_core.proofs.Listing.{IsMoved, IsMoved-out, some_value, within_content}
@@ -46,7 +46,7 @@ module _ {O B : Type 0} (s t : Nodes O B) (view : s ≡ t) (w : IsStored s) wher
   region_made x l m n o i live e f le me ne la ma na room =
       IsStored-new_region s w x l m n o.slot f le me (ne ∙ ap (with_last m o.slot) e) la ma na room (op_some o live)
 
-  -- a node is put under a parent: f says where among its kids
+  -- a node is put under a parent: f says where among its children
   pub op_put : (f : Lists → ℕ → ℕ → Lists) → ((l : Lists) (c p : ℕ) → c < length l.parents → IsMoved l (f l p c) c (Some p)) → (o : Ptr OperationKind) (b : Ptr BasicBlockKind) (l : Lists) → is_node_live t (Operation o) ≡ true → is_node_live t (BasicBlock b) ≡ true → (Reaches (node_parent t) (BasicBlock b) (Operation o) → ⊥) → l ≡ f s.ops_in_block b.slot o.slot → IsAgreed l → IsStored (record s { ops_in_block = l })
   op_put f moved o b l live_o live_b away e a =
       IsStored-link_op s w l o.slot b.slot (subst (λ z. IsMoved s.ops_in_block z o.slot (Some b.slot)) (sym e) (moved s.ops_in_block o.slot b.slot (op_in o live_o))) a (op_some o live_o) (block_some b live_b) (away_from (BasicBlock b) (Operation o) live_b live_o away)
@@ -96,13 +96,13 @@ module _ {O B : Type 0} (s t : Nodes O B) (view : s ≡ t) (w : IsStored s) wher
   block_held b v live = IsStored-held_block s w b.slot v (block_some b live)
 
   -- the region at a place of an operation's list
-  pub region_within : (o : Ptr OperationKind) (i c : ℕ) → slice_get (kids_at s.regions_in_op o.slot) i ≡ Some c → c < length s.regions.slots
-  region_within o i c e = within_content s.regions c ((w.regions_listed.linked_live c o.slot (w.regions_listed.agreed.owned o.slot c (Has-at (kids_at s.regions_in_op o.slot) i c e))).0)
+  pub region_within : (o : Ptr OperationKind) (i c : ℕ) → slice_get (children_at s.regions_in_op o.slot) i ≡ Some c → c < length s.regions.slots
+  region_within o i c e = within_content s.regions c ((w.regions_listed.linked_live c o.slot (w.regions_listed.agreed.owned o.slot c (Has-at (children_at s.regions_in_op o.slot) i c e))).0)
 
-  pub region_at : (o : Ptr OperationKind) (i c : ℕ) (p : Ptr RegionKind) → is_node_live t (Operation o) ≡ true → slice_get (kids_at s.regions_in_op o.slot) i ≡ Some c → p.slot ≡ c → p.version ≡ version_at s.regions c → slice_get (node_kids t (Operation o)) i ≡ Some (Region p)
+  pub region_at : (o : Ptr OperationKind) (i c : ℕ) (p : Ptr RegionKind) → is_node_live t (Operation o) ≡ true → slice_get (children_at s.regions_in_op o.slot) i ≡ Some c → p.slot ≡ c → p.version ≡ version_at s.regions c → slice_get (node_children t (Operation o)) i ≡ Some (Region p)
   region_at o i c p live e f g =
-      subst (λ z. slice_get (node_kids z (Operation o)) i ≡ Some (Region p)) view
-      (ap (λ b. slice_get (cond b (map (region_node s) (kids_at s.regions_in_op o.slot)) []) i) (live_of (Operation o) live)
-      ∙ slice_get-map (region_node s) (kids_at s.regions_in_op o.slot) i
+      subst (λ z. slice_get (node_children z (Operation o)) i ≡ Some (Region p)) view
+      (ap (λ b. slice_get (cond b (map (region_node s) (children_at s.regions_in_op o.slot)) []) i) (live_of (Operation o) live)
+      ∙ slice_get-map (region_node s) (children_at s.regions_in_op o.slot) i
       ∙ ap (option_map (region_node s)) e
       ∙ ap (λ z. Some (Region z)) (same_ptr (ptr_at s.regions c) p (sym f) (sym g)))

@@ -12,13 +12,13 @@ use Rattle.plir_core.specs.declared.ptr.Region.{Region as RegionKind}
 use Rattle.plir_core.specs.declared.ptr.IRNode.{IRNode}
 use Rattle.plir_core.specs.declared.ptr.IRNode.TheVariants.{Operation, Region, BasicBlock}
 use Rattle.plir_store.specs.Members.{Has}
-use Rattle.plir_core.specs.Nodes.{Nodes, ptr_at, num_nodes, is_node_live, node_kids}
+use Rattle.plir_core.specs.Nodes.{Nodes, ptr_at, num_nodes, is_node_live, node_children}
 use Rattle.plir_core.specs.Stored.{IsStored}
 use Rattle.plir_core.specs.Edits.{with_new_op, with_new_region, with_new_regions}
 use Rattle.plir_core.specs.Made.{IsRegionAdded, IsMade, IsNewRegion, HasNewRegions}
 use Rattle.plir_core.specs.Erase.{erased}
 use Rattle.plir_core.specs.Refused.{IsUnmade}
-use Rattle.plir_core.proofs.Facts.{parent-kid}
+use Rattle.plir_core.proofs.Facts.{parent-child}
 use Rattle.plir_core.proofs.Added.{IsAdded-op, IsAdded-region, IsRegionAdded-made, IsMade-first, IsMade-more}
 
 -- slots that are used again, and slots that come new
@@ -51,15 +51,15 @@ module _ {O B : Type 0} where
   -- an operation gets one more region
   HasNewRegions-more : (s t : Nodes O B) (o r : IRNode) (n : ℕ) → IsStored s → HasNewRegions s o n → IsRegionAdded s t o r → HasNewRegions t o (n + 1)
   HasNewRegions-more s t o r n w h x = record {
-    count = ap length x.last ∙ (let e = length-append (node_kids s o) (r ∷ []) in let c = h.count in omega arith);
-    each = rw x.last (All-append (IsNewRegion t o) (node_kids s o) (r ∷ []) (All-weaker (IsNewRegion s o) (IsNewRegion t o) stays (node_kids s o) h.each) (All-cons (IsNewRegion t o) r [] last (All-nil (IsNewRegion t o))));
+    count = ap length x.last ∙ (let e = length-append (node_children s o) (r ∷ []) in let c = h.count in omega arith);
+    each = rw x.last (All-append (IsNewRegion t o) (node_children s o) (r ∷ []) (All-weaker (IsNewRegion s o) (IsNewRegion t o) stays (node_children s o) h.each) (All-cons (IsNewRegion t o) r [] last (All-nil (IsNewRegion t o))));
   }
     where
       stays : (m : IRNode) → IsNewRegion s o m → IsNewRegion t o m
       stays m g = record {
         live = x.added.keeps.live m g.live;
         parent = x.added.keeps.parents m g.live ∙ g.parent;
-        empty = x.added.kids m g.live (λ q. subst (λ ks. Has ks m) (g.empty) (subst (λ z. Has (node_kids s z) m) (same_Some o m q) (parent-kid s w o m g.parent))) ∙ g.empty;
+        empty = x.added.children m g.live (λ q. subst (λ ks. Has ks m) (g.empty) (subst (λ z. Has (node_children s z) m) (same_Some o m q) (parent-child s w o m g.parent))) ∙ g.empty;
       }
 
       last : IsNewRegion t o r
@@ -76,7 +76,7 @@ module _ {O B : Type 0} where
     slots = let d : length s.regions.slots ≡ length b.regions.slots = ap (λ (z : Nodes O B). length z.regions.slots) e in let g : length s.regions.free ≡ length b.regions.free = ap (λ (z : Nodes O B). length z.regions.free) e in omega arith;
     ops = ap (λ (z : Nodes O B). z.ops) e;
     held = ap (λ (z : Nodes O B). content_at z.ops p.slot) e ∙ ap (λ z. content_at (with_new b.ops v) z) (ap (λ z. z.slot) q) ∙ ap (λ (z : Cell O). z.content) (cell_at-with_new b.ops v w.op_slots);
-    regions = let none : node_kids s (Operation p) ≡ [] = subst (λ z. node_kids z (Operation p) ≡ []) (sym e) ((IsAdded-op b w v p (q ∙ ap (λ (z : Nodes O B). ptr_at z.ops (next_slot b.ops)) e)).leaf) in record { count = ap length none; each = rw none (All-nil (IsNewRegion s (Operation p))) };
+    regions = let none : node_children s (Operation p) ≡ [] = subst (λ z. node_children z (Operation p) ≡ []) (sym e) ((IsAdded-op b w v p (q ∙ ap (λ (z : Nodes O B). ptr_at z.ops (next_slot b.ops)) e)).leaf) in record { count = ap length none; each = rw none (All-nil (IsNewRegion s (Operation p))) };
   }
 
   pub IsMaking-more : (b s t : Nodes O B) (v : O) (p : Ptr OperationKind) (r : Ptr RegionKind) (n : ℕ) → IsStored b → IsMaking b v p n s → t ≡ with_new_region s p.slot → r ≡ ptr_at t.regions (next_slot s.regions) → IsStored t → IsMaking b v p (n + 1) t

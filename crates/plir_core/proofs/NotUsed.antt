@@ -14,7 +14,7 @@ use Rattle.plir_core.specs.declared.value.DefiningEntity.{DefiningEntity}
 use Rattle.plir_core.specs.declared.value.DefiningEntity.TheVariants.{Op, Block}
 use Rattle.plir_core.specs.Contents.{OpView}
 use Rattle.plir_core.specs.Stored.{Seat, op, region, block, seat_of}
-use Rattle.plir_core.specs.Store.{Store, IsLive, IsAncestor, entity_node, operands_in, successors_in}
+use Rattle.plir_core.specs.ContextView.{ContextView, IsLive, IsAncestor, entity_node, operands_in, successors_in}
 use Rattle.plir_core.specs.Unused.{UsesNoneOf, IsUnusedOutside}
 use Rattle.plir_core.specs.Uses.{is_seated, values_from, blocks_in, uses_held, uses_of, is_not_used}
 use Rattle.plir_core.specs.Walked.{IsClear}
@@ -58,7 +58,7 @@ none_passes p xs k d h e zero_all =
     let one : 1 ≤ count_by p xs = subst (λ z. z ≤ count_by p xs) b a in
     omega arith
 
-module _ {K A T : Type 0} (s : Store K A T) where
+module _ {K A T : Type 0} (s : ContextView K A T) where
   -- what is not used is used by no operation
   pub unused_by : (n : IRNode) (i : ℕ) → is_not_used s n ≡ true → uses_held (seat_of n) (content_at s.nodes.ops i) ≡ 0
   unused_by n i e = held-none s.nodes.ops (seat_of n) i (eqb-true (uses_of s.nodes.ops (seat_of n)) 0 e)

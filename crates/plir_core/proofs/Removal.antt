@@ -3,8 +3,8 @@ use Rattle.std.proofs.Common.{◌≡◌, ℕ, ◌<◌, List, [], ◌∷◌, ◌+
 use Rattle.std.proofs.lemmas.Bool.{cases_eq, ne_eqb}
 use Rattle.std.proofs.lemmas.List.{get_or-set_same, get_or-set_other}
 use Rattle.std.proofs.lemmas.Option.{same_Some, none-some}
-use Rattle.plir_store.specs.Lists.{Lists, IsAgreed, kids_at, parent_at, without, without_child, without_under}
-use Rattle.plir_store.specs.ListLaws.{within_from_parent_at, within_from_kid}
+use Rattle.plir_store.specs.Lists.{Lists, IsAgreed, children_at, parent_at, without, without_child, without_under}
+use Rattle.plir_store.specs.ListLaws.{within_from_parent_at, within_from_child}
 use Rattle.plir_store.specs.Members.{Has, Distinct}
 use Rattle.plir_store.specs.MemberLaws.{Has-mid, Has-map}
 
@@ -43,24 +43,24 @@ Distinct-without c (y ∷ ys) a = elim (cases_eq y c) [
 ]
 
 module _ (l : Lists) (a : IsAgreed l) where
-  under_here : (c p : ℕ) (o : Option ℕ) → parent_at l c ≡ o → o ≡ Some p → kids_at (without_under l c o) p ≡ without c (kids_at l p)
+  under_here : (c p : ℕ) (o : Option ℕ) → parent_at l c ≡ o → o ≡ Some p → children_at (without_under l c o) p ≡ without c (children_at l p)
   under_here c p None e f = absurd (none-some p f)
   under_here c p (Some q) e f =
       let g : q ≡ p = same_Some q p f in
-      let in' : q < length l.kids = within_from_kid l q c (a.held q c e) in
-      subst (λ z. kids_at (without_under l c (Some q)) z ≡ without c (kids_at l z)) g (get_or-set_same l.kids q (without c (kids_at l q)) [] in')
+      let in' : q < length l.children = within_from_child l q c (a.held q c e) in
+      subst (λ z. children_at (without_under l c (Some q)) z ≡ without c (children_at l z)) g (get_or-set_same l.children q (without c (children_at l q)) [] in')
 
   -- the list that it stood in
-  pub kids_at-without_here : (c p : ℕ) → parent_at l c ≡ Some p → kids_at (without_child l c) p ≡ without c (kids_at l p)
-  kids_at-without_here c p e = under_here c p (parent_at l c) refl e
+  pub children_at-without_here : (c p : ℕ) → parent_at l c ≡ Some p → children_at (without_child l c) p ≡ without c (children_at l p)
+  children_at-without_here c p e = under_here c p (parent_at l c) refl e
 
-  under_other : (c q : ℕ) (o : Option ℕ) → (o ≡ Some q → ⊥) → kids_at (without_under l c o) q ≡ kids_at l q
+  under_other : (c q : ℕ) (o : Option ℕ) → (o ≡ Some q → ⊥) → children_at (without_under l c o) q ≡ children_at l q
   under_other c q None n = refl
-  under_other c q (Some p) n = get_or-set_other l.kids p q (without c (kids_at l p)) [] (λ e. n (ap (λ z. Some z) (sym e)))
+  under_other c q (Some p) n = get_or-set_other l.children p q (without c (children_at l p)) [] (λ e. n (ap (λ z. Some z) (sym e)))
 
   -- every other list
-  pub kids_at-without_other : (c q : ℕ) → (parent_at l c ≡ Some q → ⊥) → kids_at (without_child l c) q ≡ kids_at l q
-  kids_at-without_other c q n = under_other c q (parent_at l c) n
+  pub children_at-without_other : (c q : ℕ) → (parent_at l c ≡ Some q → ⊥) → children_at (without_child l c) q ≡ children_at l q
+  children_at-without_other c q n = under_other c q (parent_at l c) n
 
   gone_under : (c : ℕ) (o : Option ℕ) → parent_at l c ≡ o → parent_at (without_under l c o) c ≡ None
   gone_under c None e = e
@@ -80,49 +80,49 @@ module _ (l : Lists) (a : IsAgreed l) where
   option_cases None p = inr (λ e. none-some p e)
   option_cases (Some q) p = elim (cases_eq q p) [ inl e ↦ inl (ap (λ z. Some z) e) | inr n ↦ inr (λ e. n (same_Some q p e)) ]
 
-  kid_of : (c p x : ℕ) → Has (kids_at (without_child l c) p) x → Has (kids_at l p) x × (x ≡ c → ⊥)
-  kid_of c p x i = elim (option_cases (parent_at l c) p) [
+  child_of : (c p x : ℕ) → Has (children_at (without_child l c) p) x → Has (children_at l p) x × (x ≡ c → ⊥)
+  child_of c p x i = elim (option_cases (parent_at l c) p) [
     | inl e ↦
-        let j : Has (without c (kids_at l p)) x = subst (λ z. Has z x) (kids_at-without_here c p e) i in
-        (Has-without c x (kids_at l p) j, λ q. without-gone c (kids_at l p) (a.apart p) (subst (λ z. Has (without c (kids_at l p)) z) q j))
+        let j : Has (without c (children_at l p)) x = subst (λ z. Has z x) (children_at-without_here c p e) i in
+        (Has-without c x (children_at l p) j, λ q. without-gone c (children_at l p) (a.apart p) (subst (λ z. Has (without c (children_at l p)) z) q j))
     | inr n ↦
-        let j : Has (kids_at l p) x = subst (λ z. Has z x) (kids_at-without_other c p n) i in
-        (j, λ q. n (a.owned p c (subst (λ z. Has (kids_at l p) z) q j)))
+        let j : Has (children_at l p) x = subst (λ z. Has z x) (children_at-without_other c p n) i in
+        (j, λ q. n (a.owned p c (subst (λ z. Has (children_at l p) z) q j)))
   ]
 
-  of_kid : (c p x : ℕ) → Has (kids_at l p) x → (x ≡ c → ⊥) → Has (kids_at (without_child l c) p) x
-  of_kid c p x i ne = elim (option_cases (parent_at l c) p) [
-    | inl e ↦ subst (λ z. Has z x) (sym (kids_at-without_here c p e)) (without-Has c x (kids_at l p) ne i)
-    | inr n ↦ subst (λ z. Has z x) (sym (kids_at-without_other c p n)) i
+  of_child : (c p x : ℕ) → Has (children_at l p) x → (x ≡ c → ⊥) → Has (children_at (without_child l c) p) x
+  of_child c p x i ne = elim (option_cases (parent_at l c) p) [
+    | inl e ↦ subst (λ z. Has z x) (sym (children_at-without_here c p e)) (without-Has c x (children_at l p) ne i)
+    | inr n ↦ subst (λ z. Has z x) (sym (children_at-without_other c p n)) i
   ]
 
   num_parents : (c : ℕ) (o : Option ℕ) → length (without_under l c o).parents ≡ length l.parents
   num_parents c None = refl
   num_parents c (Some p) = length-set l.parents c None
 
-  num_kids : (c : ℕ) (o : Option ℕ) → length (without_under l c o).kids ≡ length l.kids
-  num_kids c None = refl
-  num_kids c (Some p) = length-set l.kids p (without c (kids_at l p))
+  list_count : (c : ℕ) (o : Option ℕ) → length (without_under l c o).children ≡ length l.children
+  list_count c None = refl
+  list_count c (Some p) = length-set l.children p (without c (children_at l p))
 
   pub length-parents_without : (c : ℕ) → length (without_child l c).parents ≡ length l.parents
   length-parents_without c = num_parents c (parent_at l c)
 
-  pub length-kids_without : (c : ℕ) → length (without_child l c).kids ≡ length l.kids
-  length-kids_without c = num_kids c (parent_at l c)
+  pub length-children_without : (c : ℕ) → length (without_child l c).children ≡ length l.children
+  length-children_without c = list_count c (parent_at l c)
 
   pub IsAgreed-without : (c : ℕ) → IsAgreed (without_child l c)
   IsAgreed-without c = record {
     apart = λ p. elim (option_cases (parent_at l c) p) [
-      | inl e ↦ subst Distinct (sym (kids_at-without_here c p e)) (Distinct-without c (kids_at l p) (a.apart p))
-      | inr n ↦ subst Distinct (sym (kids_at-without_other c p n)) (a.apart p)
+      | inl e ↦ subst Distinct (sym (children_at-without_here c p e)) (Distinct-without c (children_at l p) (a.apart p))
+      | inr n ↦ subst Distinct (sym (children_at-without_other c p n)) (a.apart p)
     ];
-    owned = λ p x i. let r = kid_of c p x i in parent_at-without_other c x r.1 ∙ a.owned p x r.0;
+    owned = λ p x i. let r = child_of c p x i in parent_at-without_other c x r.1 ∙ a.owned p x r.0;
     held = λ p x e. elim (cases_eq x c) [
       | inl q ↦ absurd (none-some p (sym (parent_at-without_here c) ∙ ap (parent_at (without_child l c)) (sym q) ∙ e))
-      | inr n ↦ of_kid c p x (a.held p x (sym (parent_at-without_other c x n) ∙ e)) n
+      | inr n ↦ of_child c p x (a.held p x (sym (parent_at-without_other c x n) ∙ e)) n
     ];
-    within = λ p x i. let h = a.within p x ((kid_of c p x i).0) in let n = length-parents_without c in omega arith;
-    num_lists = let h = a.num_lists in let n = length-kids_without c in omega arith;
+    within = λ p x i. let h = a.within p x ((child_of c p x i).0) in let n = length-parents_without c in omega arith;
+    num_lists = let h = a.num_lists in let n = length-children_without c in omega arith;
     num_children = let h = a.num_children in let n = length-parents_without c in omega arith;
   }
 

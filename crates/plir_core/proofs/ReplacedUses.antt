@@ -8,7 +8,7 @@ use Rattle.plir_core.specs.Contents.{OpView}
 use Rattle.plir_core.specs.Changes.{with_op_content, op_edited}
 use Rattle.plir_core.specs.SameValue.{same_value}
 use Rattle.plir_core.specs.Replaced.{replaced, op_replaced, cell_replaced, with_uses_replaced}
-use Rattle.plir_core.specs.Store.{Store, IsValueLive}
+use Rattle.plir_core.specs.ContextView.{ContextView, IsValueLive}
 use Rattle.plir_core.proofs.Holds.{value_kept, op_content_keeps}
 
 -- The first n elements have become f of what they were.
@@ -82,14 +82,14 @@ module _ {K A : Type 0} (v w : Value) where
 -- In the slots of a store.
 module _ {K A T : Type 0} (v w : Value) where
   -- the store with other slots of operations
-  abbrev with_slots : Store K A T → List (Cell (OpView K A)) → Store K A T
+  abbrev with_slots : ContextView K A T → List (Cell (OpView K A)) → ContextView K A T
   with_slots s l = record s { nodes = record s.nodes { ops = record s.nodes.ops { slots = l } } }
 
   -- the store where the operations of the first n slots have it
-  abbrev pub replaced_to : Store K A T → ℕ → Store K A T
+  abbrev pub replaced_to : ContextView K A T → ℕ → ContextView K A T
   replaced_to s n = with_slots s (first_mapped (cell_replaced v w) n s.nodes.ops.slots)
 
-  pub replaced-next : (s : Store K A T) (n : ℕ) → n < length s.nodes.ops.slots →
+  pub replaced-next : (s : ContextView K A T) (n : ℕ) → n < length s.nodes.ops.slots →
       op_edited (replaced_to s n) n (op_replaced v w) (content_at (replaced_to s n).nodes.ops n) ≡ replaced_to s (n + 1)
   replaced-next s n h = go (content_at (replaced_to s n).nodes.ops n) refl
     where
@@ -104,11 +104,11 @@ module _ {K A T : Type 0} (v w : Value) where
           ap (with_slots s) (mapped-next (cell_replaced v w) s.nodes.ops.slots n no_cell _ h
           (some_content v w (cell_at (replaced_to s n).nodes.ops n) (get_or s.nodes.ops.slots n no_cell) o here e))
 
-  pub replaced-all : (s : Store K A T) (n : ℕ) → length s.nodes.ops.slots ≤ n → replaced_to s n ≡ with_uses_replaced s v w
+  pub replaced-all : (s : ContextView K A T) (n : ℕ) → length s.nodes.ops.slots ≤ n → replaced_to s n ≡ with_uses_replaced s v w
   replaced-all s n h = ap (with_slots s) (mapped-all (cell_replaced v w) s.nodes.ops.slots n h)
 
 -- w stays live
-module _ {K A T : Type 0} (s : Store K A T) (i : ℕ) (v w : Value) where
+module _ {K A T : Type 0} (s : ContextView K A T) (i : ℕ) (v w : Value) where
   pub edited-live : (x : Value) → IsValueLive s x → IsValueLive (op_edited s i (op_replaced v w) (content_at s.nodes.ops i)) x
   edited-live x live = go (content_at s.nodes.ops i) refl
     where

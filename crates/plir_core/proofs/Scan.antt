@@ -14,7 +14,7 @@ use Rattle.plir_core.specs.declared.value.DefiningEntity.{DefiningEntity}
 use Rattle.plir_core.specs.Above.{Reaches}
 use Rattle.plir_core.specs.Nodes.{Nodes, ptr_at, is_node_live, node_parent}
 use Rattle.plir_core.specs.Contents.{OpView, BlockView}
-use Rattle.plir_core.specs.Store.{Store, IsLive, IsAncestor, entity_node, operands_of, successors_of, operands_in, successors_in}
+use Rattle.plir_core.specs.ContextView.{ContextView, IsLive, IsAncestor, entity_node, operands_of, successors_of, operands_in, successors_in}
 use Rattle.plir_core.specs.Unused.{UsesNoneOf, IsUnusedAt, IsUnusedOutside}
 use Rattle.plir_core.proofs.Listing.{some_none, within_content}
 use Rattle.plir_core.proofs.Facts.{live_parts}
@@ -29,7 +29,7 @@ pub more_values : (P : DefiningEntity → Type 0) (vs : List Value) (n : ℕ) (d
 more_values P vs n d x e all h here = AllSoFar-next (λ v. P v.entity) vs n d all h (subst P e here)
 
 -- What an operation uses: s is made of the fields, and t is the value.
-module _ {K A T : Type 0} (s t : Store K A T) (view : s ≡ t) (n : IRNode) (op : Ptr OperationKind) (v : OpView K A) (held : content_at s.nodes.ops op.slot ≡ Some v) where
+module _ {K A T : Type 0} (s t : ContextView K A T) (view : s ≡ t) (n : IRNode) (op : Ptr OperationKind) (v : OpView K A) (held : content_at s.nodes.ops op.slot ≡ Some v) where
   abbrev away_value : Value → Type 0
   away_value x = Reaches (node_parent s.nodes) (entity_node x.entity) n → ⊥
 
@@ -52,10 +52,10 @@ module _ {K A T : Type 0} (s t : Store K A T) (view : s ≡ t) (n : IRNode) (op 
   successors_told bs eb u = subst (λ xs. All away_block xs) (sym (eb ∙ sym (ap successors_in held))) (here u).successors
 
 -- no live operation in the first i slots that is outside the tree under n uses what is in it
-abbrev pub IsUnusedBelow : {K A T : Type 0} → Store K A T → IRNode → ℕ → Type 0
+abbrev pub IsUnusedBelow : {K A T : Type 0} → ContextView K A T → IRNode → ℕ → Type 0
 IsUnusedBelow s n i = (k : ℕ) → k < i → IsUnusedAt s n k
 
-module _ {K A T : Type 0} (s : Store K A T) (n : IRNode) where
+module _ {K A T : Type 0} (s : ContextView K A T) (n : IRNode) where
   pub IsUnusedBelow-none : IsUnusedBelow s n 0
   IsUnusedBelow-none k h = absurd (omega arith)
 

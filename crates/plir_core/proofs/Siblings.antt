@@ -6,7 +6,7 @@ use Rattle.std.proofs.lemmas.Option.{same_Some, none-some, slice_get_within}
 use Rattle.plir_store.specs.MemberLaws.{Has-at, at-Has}
 use Rattle.plir_store.specs.Members.{Has, Distinct, head}
 use Rattle.plir_store.specs.ListLaws.{length-le_from_Distinct}
-use Rattle.plir_store.specs.Lists.{Lists, IsAgreed, kids_at, parent_at, next_in, next_of, next_under}
+use Rattle.plir_store.specs.Lists.{Lists, IsAgreed, children_at, parent_at, next_in, next_of, next_under}
 
 pub first_get : (xs : List ℕ) → head xs ≡ slice_get xs 0
 first_get [] = refl
@@ -20,16 +20,16 @@ next_get (x ∷ xs) c (suc i) a e =
     rw (ne_eqb x c n) (next_get xs c i a.1 e)
 
 -- what follows the child at a place is the child at the next place
-pub next_at : (s : Lists) → IsAgreed s → (p i c : ℕ) → slice_get (kids_at s p) i ≡ Some c → next_of s c ≡ slice_get (kids_at s p) (i + 1)
-next_at s a p i c e = rw (a.owned p c (Has-at (kids_at s p) i c e), add-one) (next_get (kids_at s p) c i (a.apart p) e)
+pub next_at : (s : Lists) → IsAgreed s → (p i c : ℕ) → slice_get (children_at s p) i ≡ Some c → next_of s c ≡ slice_get (children_at s p) (i + 1)
+next_at s a p i c e = rw (a.owned p c (Has-at (children_at s p) i c e), add-one) (next_get (children_at s p) c i (a.apart p) e)
 
 -- where a place holds a child, it is within
-pub child_in : (s : Lists) → IsAgreed s → (p i c : ℕ) → slice_get (kids_at s p) i ≡ Some c → c < length s.parents
-child_in s a p i c e = a.within p c (Has-at (kids_at s p) i c e)
+pub child_in : (s : Lists) → IsAgreed s → (p i c : ℕ) → slice_get (children_at s p) i ≡ Some c → c < length s.parents
+child_in s a p i c e = a.within p c (Has-at (children_at s p) i c e)
 
 -- a list has fewer than 2 ^ 32 children
-pub kids_few : (s : Lists) → IsAgreed s → (p : ℕ) → length (kids_at s p) < 2 ^ 32
-kids_few s a p = let h = length-le_from_Distinct (kids_at s p) (length s.parents) (a.apart p) (λ c i. a.within p c i) in omega (arith, a.num_children)
+pub children_few : (s : Lists) → IsAgreed s → (p : ℕ) → length (children_at s p) < 2 ^ 32
+children_few s a p = let h = length-le_from_Distinct (children_at s p) (length s.parents) (a.apart p) (λ c i. a.within p c i) in omega (arith, a.num_children)
 
 -- a place that holds none is past the end
 pub none_past : (xs : List ℕ) (i : ℕ) → slice_get xs i ≡ None → length xs ≤ i

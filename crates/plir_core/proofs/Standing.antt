@@ -6,15 +6,15 @@ use Rattle.plir_store.specs.Members.{Has, Distinct}
 use Rattle.plir_core.specs.Above.{climb}
 use Rattle.plir_core.specs.Forest.{look, IsForest}
 use Rattle.plir_core.specs.Measures.{depth_of}
-use Rattle.plir_core.specs.Nodes.{node_kids, node_parent}
+use Rattle.plir_core.specs.Nodes.{node_children, node_parent}
 use Rattle.plir_core.specs.Standing.{IsStanding}
-use Rattle.plir_core.specs.Store.{Store, IsLive, parent_of, limit, num_live}
+use Rattle.plir_core.specs.ContextView.{ContextView, IsLive, parent_of, limit, num_live}
 use Rattle.plir_core.specs.Stored.{Seat, seat_of, IsStored}
-use Rattle.plir_core.specs.Whole.{IsWhole}
-use Rattle.plir_core.proofs.Depths.{IsSeated, depth-kid, depth-le, length-le_seated}
+use Rattle.plir_core.specs.WellFormed.{IsWellFormed}
+use Rattle.plir_core.proofs.Depths.{IsSeated, depth-child, depth-le, length-le_seated}
 use Rattle.plir_core.proofs.Erased.{IsTree-stored}
 use Rattle.plir_core.proofs.Trees.{depth-climb}
-use Rattle.plir_core.proofs.Facts.{kid-parent, kid-live, parent-kid, parent-live, kids-once, live-given}
+use Rattle.plir_core.proofs.Facts.{child-parent, child-live, parent-child, parent-live, children-once, live-given}
 use Rattle.plir_core.proofs.Seats.{live_some, same_seat}
 
 seats_of : (ns : List IRNode) (x : Seat) → Has (map seat_of ns) x → (n : IRNode) × Has ns n × (seat_of n ≡ x)
@@ -33,7 +33,7 @@ length_seats : (ns : List IRNode) → length (map seat_of ns) ≡ length ns
 length_seats [] = refl
 length_seats (n ∷ ns) = ap suc (length_seats ns)
 
-module _ {K A T : Type 0} (s : Store K A T) where
+module _ {K A T : Type 0} (s : ContextView K A T) where
   seated : (n : IRNode) → IsLive s n → IsSeated s.nodes (seat_of n)
   seated (Operation p) l = live_some s.nodes.ops p.slot p.version l
   seated (Region p) l = live_some s.nodes.regions p.slot p.version l
@@ -52,26 +52,26 @@ module _ {K A T : Type 0} (s : Store K A T) where
       where
         go : (o : Option IRNode) → climb (parent_of s) k (Some x) ≡ o → o ≡ None
         go None e = refl
-        go (Some a) e = absurd (let p = depth-climb (node_kids s.nodes) (node_parent s.nodes) (depth_of s.nodes) (IsTree-stored s.nodes w) k x a e in let q = depth-le s.nodes w x in omega (arith, p, q, more))
+        go (Some a) e = absurd (let p = depth-climb (node_children s.nodes) (node_parent s.nodes) (depth_of s.nodes) (IsTree-stored s.nodes w) k x a e in let q = depth-le s.nodes w x in omega (arith, p, q, more))
 
     forest : IsForest (look s)
     forest = record {
-      kid_parent = kid-parent s.nodes w;
-      parent_kid = parent-kid s.nodes w;
-      once = kids-once s.nodes w;
-      kid_live = kid-live s.nodes w;
+      child_parent = child-parent s.nodes w;
+      parent_child = parent-child s.nodes w;
+      once = children-once s.nodes w;
+      child_live = child-live s.nodes w;
       parent_live = parent-live s.nodes w;
       live_given = live-given s.nodes w;
       ends = climb-ends (2 ^ 40) (let p = w.limit_fits in omega (arith, p));
     }
 
-  pub standing : (own : A → List ℕ) → IsWhole own s → IsStanding s
+  pub standing : (own : A → List ℕ) → IsWellFormed own s → IsStanding s
   standing own w = record {
     forest = forest w.stored;
     within = w.stored.within;
     limit_fits = w.stored.limit_fits;
     measured = record {
-      deeper = depth-kid s.nodes w.stored;
+      deeper = depth-child s.nodes w.stored;
       deepest = depth-le s.nodes w.stored;
       counted = counted;
     };

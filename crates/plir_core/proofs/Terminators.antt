@@ -5,7 +5,7 @@ use Rattle.std.proofs.lemmas.Option.{same_Some, none-some}
 use Rattle.plir_store.specs.Members.{Has}
 use Rattle.plir_data.specs.declared.op_set.OpKind.{OpKind}
 use Rattle.plir_data.specs.declared.op_set.OpKind.TheVariants.{Module, Func, Constant, ForwardRef, Own}
-use Rattle.plir_store.specs.Lists.{kids_at, last_from, last_of}
+use Rattle.plir_store.specs.Lists.{children_at, last_from, last_of}
 use Rattle.plir_core.specs.declared.ptr.Ptr.{Ptr}
 use Rattle.plir_core.specs.declared.ptr.Operation.{Operation as OperationKind}
 use Rattle.plir_core.specs.declared.ptr.BasicBlock.{BasicBlock as BasicBlockKind}
@@ -16,7 +16,7 @@ use Rattle.plir_core.specs.Nodes.{Nodes, op_node, is_node_live, node_last}
 use Rattle.plir_core.specs.Stored.{IsStored}
 use Rattle.plir_core.specs.Interfaces.{implements}
 use Rattle.plir_core.specs.Contents.{OpView}
-use Rattle.plir_core.specs.Store.{Store, IsLive, op_at, kind_in, kind_of, last_kid}
+use Rattle.plir_core.specs.ContextView.{ContextView, IsLive, op_at, kind_in, kind_of, last_child}
 use Rattle.plir_core.specs.Terminator.{is_terminator_kind, if_terminator, terminator_of}
 use Rattle.plir_core.proofs.Listing.{some_value}
 use Rattle.plir_core.proofs.Seats.{live_some, some_live}
@@ -29,7 +29,7 @@ module _ {K : Type 0} (t y b u : K → Bool) where
   ends ForwardRef = refl
   ends (Own k) = refl
 
-  module _ {A T : Type 0} (s : Store K A T) (o : Ptr OperationKind) (live : IsLive s (Operation o)) where
+  module _ {A T : Type 0} (s : ContextView K A T) (o : Ptr OperationKind) (live : IsLive s (Operation o)) where
     -- what `op_impls` answers of a terminator
     pub terminator_told : (r : Bool) → IfSome (kind_of s o) (λ k. r ≡ implements t y b u k Terminator) → is_terminator_kind t (kind_of s o) ≡ r
     terminator_told r told =
@@ -38,5 +38,5 @@ module _ {K : Type 0} (t y b u : K → Bool) where
         let here : r ≡ implements t y b u (v.0).kind Terminator = rw is at told in
         ap (is_terminator_kind t) is ∙ sym (ends (v.0).kind) ∙ sym here
 
-    pub if_told : (r : Bool) (p : Ptr BasicBlockKind) → Some (Operation o) ≡ last_kid s (BasicBlock p) → IfSome (kind_of s o) (λ k. r ≡ implements t y b u k Terminator) → terminator_of t s p ≡ cond r (Some (Operation o)) None
+    pub if_told : (r : Bool) (p : Ptr BasicBlockKind) → Some (Operation o) ≡ last_child s (BasicBlock p) → IfSome (kind_of s o) (λ k. r ≡ implements t y b u k Terminator) → terminator_of t s p ≡ cond r (Some (Operation o)) None
     if_told r p e told = ap (if_terminator t s) (sym e) ∙ ap (λ z. cond z (Some (Operation o)) None) (terminator_told r told)

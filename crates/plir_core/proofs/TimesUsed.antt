@@ -5,7 +5,7 @@ use Rattle.plir_core.specs.declared.value.Value.{Value}
 use Rattle.plir_core.specs.Contents.{OpView}
 use Rattle.plir_core.specs.SameValue.{same_value, value-exact}
 use Rattle.plir_core.specs.Stored.{Seat, seat_of}
-use Rattle.plir_core.specs.Store.{Store, entity_node, operands_in}
+use Rattle.plir_core.specs.ContextView.{ContextView, entity_node, operands_in}
 use Rattle.plir_core.specs.Uses.{is_seated, is_not_used}
 use Rattle.plir_core.specs.ValueUses.{times_in, uses_in_slot, num_uses_of}
 use Rattle.plir_core.proofs.Counted.{count_none}
@@ -19,11 +19,11 @@ not_same false tells n = refl
 
 module _ {K A T : Type 0} where
   -- a free slot has none: s is made of the fields, and t is the value
-  pub free_slot : (s t : Store K A T) → s ≡ t → (v : Value) (i : ℕ) → content_at s.nodes.ops i ≡ None → 0 ≡ uses_in_slot t v i
-  free_slot s t view v i none = ap (λ (o : Option (OpView K A)). times_in v (operands_in o)) (sym none) ∙ ap (λ (z : Store K A T). uses_in_slot z v i) view
+  pub free_slot : (s t : ContextView K A T) → s ≡ t → (v : Value) (i : ℕ) → content_at s.nodes.ops i ≡ None → 0 ≡ uses_in_slot t v i
+  free_slot s t view v i none = ap (λ (o : Option (OpView K A)). times_in v (operands_in o)) (sym none) ∙ ap (λ (z : ContextView K A T). uses_in_slot z v i) view
 
   -- its operation or block is not used
-  pub none_used : (s : Store K A T) (v : Value) → is_not_used s (entity_node v.entity) ≡ true → num_uses_of s v ≡ 0
+  pub none_used : (s : ContextView K A T) (v : Value) → is_not_used s (entity_node v.entity) ≡ true → num_uses_of s v ≡ 0
   none_used s v not = total_none (uses_in_slot s v) (λ i. count_none (λ x. same_value x v) (operands_in (content_at s.nodes.ops i)) (λ k d h. none_there i k d h)) (length s.nodes.ops.slots)
     where
       at : Seat

@@ -7,7 +7,7 @@ use Rattle.plir_core.specs.declared.ptr.Operation.{Operation as OperationKind}
 use Rattle.plir_core.specs.declared.ptr.BasicBlock.{BasicBlock as BasicBlockKind}
 use Rattle.plir_core.specs.declared.ptr.IRNode.{IRNode}
 use Rattle.plir_core.specs.declared.ptr.IRNode.TheVariants.{Operation, BasicBlock}
-use Rattle.plir_core.specs.Nodes.{Nodes, is_node_live, node_kids, node_parent}
+use Rattle.plir_core.specs.Nodes.{Nodes, is_node_live, node_children, node_parent}
 
 -- one more child, if the next value needs a new slot; one more parent likewise
 abbrev pub room_child : Lists → List ℕ → Lists
@@ -31,9 +31,9 @@ module _ {O B : Type 0} where
     ops = record { slots = []; free = [] };
     regions = record { slots = []; free = [] };
     blocks = record { slots = []; free = [] };
-    regions_in_op = record { kids = []; parents = [] };
-    blocks_in_region = record { kids = []; parents = [] };
-    ops_in_block = record { kids = []; parents = [] };
+    regions_in_op = record { children = []; parents = [] };
+    blocks_in_region = record { children = []; parents = [] };
+    ops_in_block = record { children = []; parents = [] };
     limit = n;
   }
 
@@ -66,10 +66,10 @@ module _ {O B : Type 0} where
   with_new_regions s o zero = s
   with_new_regions s o (suc n) = with_new_region (with_new_regions s o n) o
 
-  -- The same nodes are live, with the same kids, parents and contents.
+  -- The same nodes are live, with the same children, parents and contents.
   pub record SameNodes (before now : Nodes O B) : Type 0 where
     pub live : (n : IRNode) → is_node_live now n ≡ is_node_live before n
-    pub kids : (n : IRNode) → node_kids now n ≡ node_kids before n
+    pub children : (n : IRNode) → node_children now n ≡ node_children before n
     pub parents : (n : IRNode) → node_parent now n ≡ node_parent before n
     pub ops : (p : Ptr OperationKind) → is_node_live before (Operation p) ≡ true →
         content_at now.ops p.slot ≡ content_at before.ops p.slot

@@ -9,14 +9,14 @@ use Rattle.plir_core.specs.declared.ptr.BasicBlock.{BasicBlock as BlockKind}
 use Rattle.plir_core.specs.declared.ptr.IRNode.{IRNode}
 use Rattle.plir_core.specs.declared.ptr.IRNode.TheVariants.{Operation, Region, BasicBlock}
 use Rattle.plir_core.specs.Above.{Reaches}
-use Rattle.plir_core.specs.Nodes.{Nodes, node_kids, node_parent, is_node_live, was_given_out, num_nodes}
+use Rattle.plir_core.specs.Nodes.{Nodes, node_children, node_parent, is_node_live, was_given_out, num_nodes}
 use Rattle.plir_core.specs.Stored.{IsStored}
 use Rattle.plir_core.specs.Measures.{most_steps}
 
--- the nodes from n down, each after those below it, kids in order, to k levels
+-- the nodes from n down, each after those below it, children in order, to k levels
 abbrev pub post_order : {N : Type 0} → (N → List N) → ℕ → N → List N
-post_order kids zero n = []
-post_order kids (suc k) n = flat_map (post_order kids k) (kids n) ++ n ∷ []
+post_order children zero n = []
+post_order children (suc k) n = flat_map (post_order children k) (children n) ++ n ∷ []
 
 module _ {O B : Type 0} where
   -- one node is freed: it stands in no list, and its slot is the next to be used
@@ -44,7 +44,7 @@ module _ {O B : Type 0} where
 
   -- the nodes of the tree under n, each after those below it
   abbrev pub tree_of : Nodes O B → IRNode → List IRNode
-  tree_of s n = post_order (node_kids s) (most_steps s) n
+  tree_of s n = post_order (node_children s) (most_steps s) n
 
   -- the whole tree under n is freed, each node after those below it
   abbrev pub erased : Nodes O B → IRNode → Nodes O B
@@ -63,19 +63,20 @@ module _ {O B : Type 0} where
         content_at t.blocks p.slot ≡ content_at s.blocks p.slot
     -- they have the parents that they had
     pub parents : (m : IRNode) → (Reaches (node_parent s) m n → ⊥) → node_parent t m ≡ node_parent s m
-    -- and the kids, but that n's parent has lost n
-    pub kids : (m : IRNode) → (Reaches (node_parent s) m n → ⊥) → (node_parent s n ≡ Some m → ⊥) →
-        node_kids t m ≡ node_kids s m
-    pub kids_over : (m : IRNode) (xs ys : List IRNode) → node_kids s m ≡ xs ++ n ∷ ys → node_kids t m ≡ xs ++ ys
+    -- and the children, but that n's parent has lost n
+    pub children : (m : IRNode) → (Reaches (node_parent s) m n → ⊥) → (node_parent s n ≡ Some m → ⊥) →
+        node_children t m ≡ node_children s m
+    pub children_over : (m : IRNode) (xs ys : List IRNode) → node_children s m ≡ xs ++ n ∷ ys
+        → node_children t m ≡ xs ++ ys
     -- what was ever given out still counts as given out
     pub given : (m : IRNode) → was_given_out t m ≡ was_given_out s m
     -- there are as many nodes fewer as the tree had
     pub count : num_nodes t + length (tree_of s n) ≡ num_nodes s
     pub limit : t.limit ≡ s.limit
 
-  -- Each node that stays from s to t, where n with all below it was erased, has the kids that it had but for n, in
+  -- Each node that stays from s to t, where n with all below it was erased, has the children that it had but for n, in
   -- their order: `keeps` is any test that tells n from all other nodes.
-  abbrev pub LosesOneKid : Nodes O B → Nodes O B → IRNode → Type 0
-  LosesOneKid s t n =
+  abbrev pub LosesOneChild : Nodes O B → Nodes O B → IRNode → Type 0
+  LosesOneChild s t n =
       (keeps : IRNode → Bool) → keeps n ≡ false → ((x : IRNode) → (x ≡ n → ⊥) → keeps x ≡ true) →
-      (m : IRNode) → (Reaches (node_parent s) m n → ⊥) → node_kids t m ≡ filter keeps (node_kids s m)
+      (m : IRNode) → (Reaches (node_parent s) m n → ⊥) → node_children t m ≡ filter keeps (node_children s m)

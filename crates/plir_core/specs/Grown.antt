@@ -2,7 +2,7 @@
 use Rattle.std.specs.Prelude.{◌≡◌, true, false, List}
 use Rattle.plir_core.specs.declared.ptr.IRNode.{IRNode}
 use Rattle.plir_core.specs.Above.{Reaches}
-use Rattle.plir_core.specs.Nodes.{Nodes, is_node_live, was_given_out, node_kids, node_parent}
+use Rattle.plir_core.specs.Nodes.{Nodes, is_node_live, was_given_out, node_children, node_parent}
 use Rattle.plir_core.specs.Stored.{IsStored}
 use Rattle.plir_core.specs.Made.{KeepsLive, IsRegionAdded, IsMade}
 use Rattle.plir_core.specs.Placed.{IsPlaced}
@@ -10,11 +10,11 @@ use Rattle.plir_core.specs.Edits.{SameNodes}
 use Rattle.plir_core.specs.Erase.{IsErased}
 
 module _ {O B : Type 0} where
-  -- From s to t nodes are new, all below `over`, whose kids may be others; nothing else has changed, and the pointers
-  -- of the new nodes were never given out before.
+  -- From s to t nodes are new, all below `over`, whose children may be others; nothing else has changed, and the
+  -- pointers of the new nodes were never given out before.
   pub record IsGrown (s t : Nodes O B) (over : IRNode) : Type 0 where
     pub keeps : KeepsLive s t
-    pub kids : (m : IRNode) → is_node_live s m ≡ true → (m ≡ over → ⊥) → node_kids t m ≡ node_kids s m
+    pub children : (m : IRNode) → is_node_live s m ≡ true → (m ≡ over → ⊥) → node_children t m ≡ node_children s m
     pub below : (m : IRNode) → is_node_live t m ≡ true → is_node_live s m ≡ false → Reaches (node_parent t) m over
     pub fresh : (m : IRNode) → is_node_live t m ≡ true → is_node_live s m ≡ false → was_given_out s m ≡ false
 

@@ -1,19 +1,19 @@
 -- What the contracts of this crate cite.
 --
---   Store        Store K A T: what contracts see of a context; is_live, given_out, num_live, kids, parent_of,
---                first_kid,
---                last_kid, next_sibling, prev_sibling, IsAncestor; op_at, block_at and the parts of what they hold;
+--   ContextView        ContextView K A T: what contracts see of a context; is_live, given_out, num_live, children,
+--                parent_of, first_child,
+--                last_child, next_sibling, prev_sibling, IsAncestor; op_at, block_at and the parts of what they hold;
 --                is_value_live, type_of_value
 --   Contents     OpView K A, BlockView A: what operations and blocks hold; op_view: an operation without a location
 --   Texts        pointer_text, node_text: pointers as texts write them, as op3v1
---   Whole        IsWhole: what holds of every context
+--   WellFormed   IsWellFormed: what holds of every context
 --   Forest       Shape, look: what can be seen of a context's nodes; IsBelow; IsForest: the live nodes make a forest
 --   Standing     IsStanding: what every context keeps of its nodes
 --   Measures     depth; IsMeasured: how deep nodes stand and how many are live, for loops and recursions
 --   Interfaces   implements: which interfaces a kind of operations implements
 --   Changes      what the calls that change a context make of it; SameLive: no live node has changed
 --   Edits        what they make of the nodes
---   Nodes        the nodes with their slots, and the words of Store over them
+--   Nodes        the nodes with their slots, and the words of ContextView over them
 --   Stored       IsStored: what holds of the slots and lists in which the nodes are kept
 --   Above        climb, Reaches: what stands above what
 --   Made         IsMade: a tree is new, and nothing else has changed; IsRegionAdded: one region is;
@@ -26,8 +26,8 @@
 --   Grown        IsGrown: nodes are new below a node; Growth: how trees grow in many steps
 --   Lends        what a `&mut` into a node leaves
 --   Refused      IsUnmade: what a refused make leaves of the slots
---   Erase        erased: the nodes without a tree; IsErased: what that leaves as it was; LosesOneKid: the kids that are
---                left
+--   Erase        erased: the nodes without a tree; IsErased: what that leaves as it was; LosesOneChild: the children
+--                that are left
 --   Replaced     with_uses_replaced: a value has come in place of another one
 --   Unused       IsUnusedOutside: nothing outside a tree uses a value or a block of it
 --   Uses         uses_of: how often what is in a slot is used; Counts: that counts which are kept say so; IsSound
@@ -42,11 +42,11 @@ pub mod Stored
 pub mod Edits
 pub mod Lends
 pub mod Contents
-pub mod Store
+pub mod ContextView
 pub mod Measures
 pub mod Forest
 pub mod Texts
-pub mod Whole
+pub mod WellFormed
 pub mod Standing
 pub mod Interfaces
 pub mod Changes

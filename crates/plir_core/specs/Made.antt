@@ -7,7 +7,7 @@ use Rattle.plir_core.specs.declared.ptr.BasicBlock.{BasicBlock as BasicBlockKind
 use Rattle.plir_core.specs.declared.ptr.IRNode.{IRNode}
 use Rattle.plir_core.specs.declared.ptr.IRNode.TheVariants.{Operation, BasicBlock}
 use Rattle.plir_core.specs.Above.{Reaches}
-use Rattle.plir_core.specs.Nodes.{Nodes, is_node_live, was_given_out, node_kids, node_parent}
+use Rattle.plir_core.specs.Nodes.{Nodes, is_node_live, was_given_out, node_children, node_parent}
 
 module _ {O B : Type 0} where
   -- From s to t what was live is live, and holds what it held; what was given out counts as given out; the limit is the
@@ -22,28 +22,28 @@ module _ {O B : Type 0} where
     pub given : (m : IRNode) → was_given_out s m ≡ true → was_given_out t m ≡ true
     pub limit : t.limit ≡ s.limit
 
-  -- From s to t one node n is new, and its pointer was never given out before. It has no kids, and what stands right
-  -- above it is `over`; all other kids are as they were.
+  -- From s to t one node n is new, and its pointer was never given out before. It has no children, and what stands
+  -- right above it is `over`; all other children are as they were.
   pub record IsAdded (s t : Nodes O B) (n : IRNode) (over : Option IRNode) : Type 0 where
     pub keeps : KeepsLive s t
-    pub kids : (m : IRNode) → is_node_live s m ≡ true → (over ≡ Some m → ⊥) → node_kids t m ≡ node_kids s m
+    pub children : (m : IRNode) → is_node_live s m ≡ true → (over ≡ Some m → ⊥) → node_children t m ≡ node_children s m
     pub new : is_node_live s n ≡ false
     pub fresh : was_given_out s n ≡ false
     pub added : is_node_live t n ≡ true
     pub placed : node_parent t n ≡ over
-    pub leaf : node_kids t n ≡ []
+    pub leaf : node_children t n ≡ []
     pub only : (m : IRNode) → is_node_live t m ≡ true → is_node_live s m ≡ false → m ≡ n
 
   -- From s to t one region n is new, the last one of the operation o, and nothing else has changed.
   pub record IsRegionAdded (s t : Nodes O B) (o n : IRNode) : Type 0 where
     pub added : IsAdded s t n (Some o)
-    pub last : node_kids t o ≡ node_kids s o ++ n ∷ []
+    pub last : node_children t o ≡ node_children s o ++ n ∷ []
 
   -- From s to t the tree under n is new, and nothing else has changed: the pointers of its nodes were never given out
   -- before, and its root n has no parent.
   pub record IsMade (s t : Nodes O B) (n : IRNode) : Type 0 where
     pub keeps : KeepsLive s t
-    pub kids : (m : IRNode) → is_node_live s m ≡ true → node_kids t m ≡ node_kids s m
+    pub children : (m : IRNode) → is_node_live s m ≡ true → node_children t m ≡ node_children s m
     pub new : is_node_live s n ≡ false
     pub root : is_node_live t n ≡ true
     pub top : node_parent t n ≡ None
@@ -56,9 +56,9 @@ module _ {O B : Type 0} where
   pub record IsNewRegion (t : Nodes O B) (o r : IRNode) : Type 0 where
     pub live : is_node_live t r ≡ true
     pub parent : node_parent t r ≡ Some o
-    pub empty : node_kids t r ≡ []
+    pub empty : node_children t r ≡ []
 
   -- a new operation o has n regions, each new
   pub record HasNewRegions (t : Nodes O B) (o : IRNode) (n : ℕ) : Type 0 where
-    pub count : length (node_kids t o) ≡ n
-    pub each : All (IsNewRegion t o) (node_kids t o)
+    pub count : length (node_children t o) ≡ n
+    pub each : All (IsNewRegion t o) (node_children t o)

@@ -6,7 +6,7 @@ use Rattle.plir_store.specs.Members.{Has, Distinct}
 use Rattle.plir_core.specs.declared.ptr.IRNode.{IRNode}
 use Rattle.plir_core.specs.Nodes.{Nodes}
 use Rattle.plir_core.specs.Stored.{up, seat_of}
-use Rattle.plir_core.specs.Store.{Store, IsLive, parent_of, limit, num_live}
+use Rattle.plir_core.specs.ContextView.{ContextView, IsLive, parent_of, limit, num_live}
 
 -- how many things there are from n up, of k at most
 abbrev pub depth_from : {N : Type 0} → (N → Option N) → ℕ → Option N → ℕ
@@ -25,12 +25,12 @@ module _ {O B : Type 0} where
 
 module _ {K A T : Type 0} where
   -- how many nodes there are from a node up
-  abbrev pub depth : Store K A T → IRNode → ℕ
+  abbrev pub depth : ContextView K A T → IRNode → ℕ
   depth s n = depth_of s.nodes n
 
   -- A node stands one level deeper than its parent, and no deeper than the limit allows; different live nodes are no
   -- more than are live.
-  pub record IsMeasured (s : Store K A T) : Type 0 where
+  pub record IsMeasured (s : ContextView K A T) : Type 0 where
     pub deeper : (a x : IRNode) → parent_of s x ≡ Some a → depth s x ≡ depth s a + 1
     pub deepest : (x : IRNode) → depth s x ≤ limit s + 1
     pub counted : (ns : List IRNode) → Distinct ns → ((n : IRNode) → Has ns n → IsLive s n) → length ns ≤ num_live s

@@ -2,7 +2,7 @@
 use Rattle.std.specs.Prelude.{ℕ, ◌+◌, ◌-◌, ◌^◌, min, Bool, ◌&&◌, nat_lt, nat_le, cond, map, List, [], Option, None}
 use Rattle.std.specs.Prelude.{option_map}
 use Rattle.plir_store.specs.Members.{head}
-use Rattle.plir_store.specs.Lists.{Lists, parent_at, kids_at, last_of, next_of, prev_of}
+use Rattle.plir_store.specs.Lists.{Lists, parent_at, children_at, last_of, next_of, prev_of}
 use Rattle.plir_store.specs.Table.{Table, version_at, is_live_at, num_full}
 use Rattle.plir_core.specs.declared.ptr.Ptr.{Ptr}
 use Rattle.plir_core.specs.declared.ptr.Region.{Region as RegionKind}
@@ -60,9 +60,9 @@ module _ {O B : Type 0} where
 
   -- the nodes under what a slot holds, in order
   abbrev pub nodes_under : Nodes O B → IRNode → List IRNode
-  nodes_under s (Operation p) = map (region_node s) (kids_at s.regions_in_op p.slot)
-  nodes_under s (Region p) = map (block_node s) (kids_at s.blocks_in_region p.slot)
-  nodes_under s (BasicBlock p) = map (op_node s) (kids_at s.ops_in_block p.slot)
+  nodes_under s (Operation p) = map (region_node s) (children_at s.regions_in_op p.slot)
+  nodes_under s (Region p) = map (block_node s) (children_at s.blocks_in_region p.slot)
+  nodes_under s (BasicBlock p) = map (op_node s) (children_at s.ops_in_block p.slot)
 
   -- the node right above what a slot holds
   abbrev pub node_over : Nodes O B → IRNode → Option IRNode
@@ -70,24 +70,25 @@ module _ {O B : Type 0} where
   node_over s (Region p) = option_map (op_node s) (parent_at s.regions_in_op p.slot)
   node_over s (BasicBlock p) = option_map (region_node s) (parent_at s.blocks_in_region p.slot)
 
-  -- the kids of a node in order: an operation's regions, a region's blocks, a block's operations; a dead node has none
-  abbrev pub node_kids : Nodes O B → IRNode → List IRNode
-  node_kids s n = cond (is_node_live s n) (nodes_under s n) []
+  -- the children of a node in order: an operation's regions, a region's blocks, a block's operations; a dead node has
+  -- none
+  abbrev pub node_children : Nodes O B → IRNode → List IRNode
+  node_children s n = cond (is_node_live s n) (nodes_under s n) []
 
-  -- the node whose kid a node is; a dead node has none
+  -- the node whose child a node is; a dead node has none
   abbrev pub node_parent : Nodes O B → IRNode → Option IRNode
   node_parent s n = cond (is_node_live s n) (node_over s n) None
 
-  -- the first and the last kid of what a slot holds, and what stands right after and right before it
+  -- the first and the last child of what a slot holds, and what stands right after and right before it
   abbrev pub first_under : Nodes O B → IRNode → Option IRNode
-  first_under s (Operation p) = option_map (region_node s) (head (kids_at s.regions_in_op p.slot))
-  first_under s (Region p) = option_map (block_node s) (head (kids_at s.blocks_in_region p.slot))
-  first_under s (BasicBlock p) = option_map (op_node s) (head (kids_at s.ops_in_block p.slot))
+  first_under s (Operation p) = option_map (region_node s) (head (children_at s.regions_in_op p.slot))
+  first_under s (Region p) = option_map (block_node s) (head (children_at s.blocks_in_region p.slot))
+  first_under s (BasicBlock p) = option_map (op_node s) (head (children_at s.ops_in_block p.slot))
 
   abbrev pub last_under : Nodes O B → IRNode → Option IRNode
-  last_under s (Operation p) = option_map (region_node s) (last_of (kids_at s.regions_in_op p.slot))
-  last_under s (Region p) = option_map (block_node s) (last_of (kids_at s.blocks_in_region p.slot))
-  last_under s (BasicBlock p) = option_map (op_node s) (last_of (kids_at s.ops_in_block p.slot))
+  last_under s (Operation p) = option_map (region_node s) (last_of (children_at s.regions_in_op p.slot))
+  last_under s (Region p) = option_map (block_node s) (last_of (children_at s.blocks_in_region p.slot))
+  last_under s (BasicBlock p) = option_map (op_node s) (last_of (children_at s.ops_in_block p.slot))
 
   abbrev pub right_after : Nodes O B → IRNode → Option IRNode
   right_after s (Operation p) = option_map (op_node s) (next_of s.ops_in_block p.slot)
@@ -99,7 +100,7 @@ module _ {O B : Type 0} where
   right_before s (Region p) = option_map (region_node s) (prev_of s.regions_in_op p.slot)
   right_before s (BasicBlock p) = option_map (block_node s) (prev_of s.blocks_in_region p.slot)
 
-  -- the first and the last kid of a node, and its siblings right after and right before it; a dead node has none
+  -- the first and the last child of a node, and its siblings right after and right before it; a dead node has none
   abbrev pub node_first : Nodes O B → IRNode → Option IRNode
   node_first s n = cond (is_node_live s n) (first_under s n) None
 

@@ -4,7 +4,7 @@ use Rattle.plir_store.specs.Table.{Cell}
 use Rattle.plir_core.specs.declared.value.Value.{Value}
 use Rattle.plir_core.specs.Contents.{OpView}
 use Rattle.plir_core.specs.SameValue.{same_value}
-use Rattle.plir_core.specs.Store.{Store}
+use Rattle.plir_core.specs.ContextView.{ContextView}
 
 -- w in place of v; any other value stays
 abbrev pub replaced : Value → Value → Value → Value
@@ -20,7 +20,7 @@ module _ {K A : Type 0} where
 
 module _ {K A T : Type 0} where
   -- the store with w in place of each operand that is v, and all else as it was
-  abbrev pub with_uses_replaced : Store K A T → Value → Value → Store K A T
+  abbrev pub with_uses_replaced : ContextView K A T → Value → Value → ContextView K A T
   with_uses_replaced s v w = record s {
     nodes = record s.nodes
         { ops = record s.nodes.ops { slots = map (cell_replaced v w) s.nodes.ops.slots } };

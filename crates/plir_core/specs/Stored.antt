@@ -21,11 +21,12 @@ seat_of (BasicBlock p) = block p.slot
 
 -- The lists give children (slots of one table) to parents (slots of another): there is a place for each slot, each
 -- child that is listed has the list's owner as its parent and stands there once, and only live nodes are linked.
-pub record IsListing {C P : Type 0} (l : Lists) (children : Table C) (parents : Table P) : Type 0 where
-  pub child_places : length l.parents ≡ length children.slots
-  pub parent_places : length l.kids ≡ length parents.slots
+pub record IsListing {C P : Type 0} (l : Lists) (child_table : Table C) (parents : Table P) : Type 0 where
+  pub child_places : length l.parents ≡ length child_table.slots
+  pub parent_places : length l.children ≡ length parents.slots
   pub agreed : IsAgreed l
-  pub linked_live : (c p : ℕ) → parent_at l c ≡ Some p → IsSome (content_at children c) × IsSome (content_at parents p)
+  pub linked_live : (c p : ℕ) → parent_at l c ≡ Some p → IsSome (content_at child_table c)
+      × IsSome (content_at parents p)
 
 module _ {O B : Type 0} where
   -- the seat right above a seat

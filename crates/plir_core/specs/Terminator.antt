@@ -6,7 +6,7 @@ use Rattle.plir_core.specs.declared.ptr.Ptr.{Ptr}
 use Rattle.plir_core.specs.declared.ptr.BasicBlock.{BasicBlock as BasicBlockKind}
 use Rattle.plir_core.specs.declared.ptr.IRNode.{IRNode}
 use Rattle.plir_core.specs.declared.ptr.IRNode.TheVariants.{Operation, BasicBlock}
-use Rattle.plir_core.specs.Store.{Store, kind_of, last_kid}
+use Rattle.plir_core.specs.ContextView.{ContextView, kind_of, last_child}
 
 -- Whether operations of a kind are terminators; `is_terminator` tells of the user's own kinds.
 module _ {K : Type 0} (is_terminator : K → Bool) where
@@ -17,10 +17,10 @@ module _ {K : Type 0} (is_terminator : K → Bool) where
 
   module _ {A T : Type 0} where
     -- the node, if it is a terminator
-    abbrev pub if_terminator : Store K A T → Option IRNode → Option IRNode
+    abbrev pub if_terminator : ContextView K A T → Option IRNode → Option IRNode
     if_terminator s (Some (Operation o)) = cond (is_terminator_kind (kind_of s o)) (Some (Operation o)) None
     if_terminator s _ = None
 
     -- the last operation of a block, if it is a terminator
-    abbrev pub terminator_of : Store K A T → Ptr BasicBlockKind → Option IRNode
-    terminator_of s b = if_terminator s (last_kid s (BasicBlock b))
+    abbrev pub terminator_of : ContextView K A T → Ptr BasicBlockKind → Option IRNode
+    terminator_of s b = if_terminator s (last_child s (BasicBlock b))

@@ -9,8 +9,8 @@ use Rattle.plir_core.specs.declared.ptr.IRNode.TheVariants.{Operation, Region, B
 use Rattle.plir_core.specs.declared.value.Value.{Value}
 use Rattle.plir_core.specs.Contents.{OpView}
 use Rattle.plir_core.specs.Stored.{Seat, op, region, block, seat_of}
-use Rattle.plir_core.specs.Store.{Store, entity_node}
-use Rattle.plir_core.specs.Whole.{IsWhole}
+use Rattle.plir_core.specs.ContextView.{ContextView, entity_node}
+use Rattle.plir_core.specs.WellFormed.{IsWellFormed}
 
 -- The counts of the slots of operations and of blocks, from the first slot on.
 pub record Uses : Type 0 where
@@ -107,10 +107,10 @@ IsBegun old now i = (j n : ℕ) →
     slice_get now j ≡ Some n → ((n ≡ UNKNOWN) ⊎ ((j ≡ i) × (n ≡ 0))) ⊎ (slice_get old j ≡ Some n)
 
 -- What holds of the fields of every context: what is live holds what is live, and the counts are right.
-pub record IsSound {K A T : Type 0} (own_handles : A → List ℕ) (s : Store K A T) (u : Uses) : Type 0 where
-  pub whole : IsWhole own_handles s
+pub record IsSound {K A T : Type 0} (own_handles : A → List ℕ) (s : ContextView K A T) (u : Uses) : Type 0 where
+  pub whole : IsWellFormed own_handles s
   pub counted : Counts u (uses_of s.nodes.ops)
 
 -- whether no live operation uses a node
-abbrev pub is_not_used : {K A T : Type 0} → Store K A T → IRNode → Bool
+abbrev pub is_not_used : {K A T : Type 0} → ContextView K A T → IRNode → Bool
 is_not_used s n = uses_of s.nodes.ops (seat_of n) == 0

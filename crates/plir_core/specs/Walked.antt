@@ -2,19 +2,19 @@
 use Rattle.std.specs.Prelude.{◌≡◌, ℕ, ◌<◌, ◌≤◌, Bool, true, Some, slice_get}
 use Rattle.plir_core.specs.declared.ptr.IRNode.{IRNode}
 use Rattle.plir_core.specs.Above.{climb, Reaches}
-use Rattle.plir_core.specs.Nodes.{Nodes, is_node_live, node_kids, node_parent}
+use Rattle.plir_core.specs.Nodes.{Nodes, is_node_live, node_children, node_parent}
 
 module _ {O B : Type 0} (passes : IRNode → Bool) (s : Nodes O B) where
   -- a node and all below it pass
   abbrev pub IsClear : IRNode → Type 0
   IsClear n = (m : IRNode) → Reaches (node_parent s) m n → passes m ≡ true
 
-  -- all that stands below earlier kids of the same node passes, and so do those kids
+  -- all that stands below earlier children of the same node passes, and so do those children
   pub record IsClearBefore (n : IRNode) : Type 0 where
     pub over : IRNode
     pub place : ℕ
-    pub there : slice_get (node_kids s over) place ≡ Some n
-    pub earlier : (j : ℕ) (b : IRNode) → j < place → slice_get (node_kids s over) j ≡ Some b → IsClear b
+    pub there : slice_get (node_children s over) place ≡ Some n
+    pub earlier : (j : ℕ) (b : IRNode) → j < place → slice_get (node_children s over) j ≡ Some b → IsClear b
 
   -- the walk from `root` has come to n: all that it has gone by passes
   pub record IsCome (root n : IRNode) : Type 0 where

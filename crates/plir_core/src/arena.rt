@@ -1,14 +1,22 @@
 //! The nodes of a context: their slots and their links.
 ghost use Rattle.std.specs.Prelude.{◌≡◌, ◌+◌, ◌-◌, ◌<◌, length, Option, Some, None, true, option_map, slice_get};
-ghost use Rattle.plir_store.specs.Lists.{kids_at};
+ghost use Rattle.plir_store.specs.Lists.{children_at};
 ghost use Rattle.plir_store.specs.Table.{content_at};
-ghost use Rattle.plir_core.specs.Nodes.{Nodes, num_nodes, is_node_live, node_kids, node_parent, node_first, node_last};
+ghost use Rattle.plir_core.specs.Nodes.{Nodes, num_nodes, is_node_live, node_children, node_parent, node_first};
+ghost use Rattle.plir_core.specs.Nodes.{node_last};
 ghost use Rattle.plir_core.specs.Nodes.{node_next, node_prev};
 ghost use Rattle.plir_core.specs.Stored.{IsStored};
 ghost use Rattle.plir_core.specs.Lends.{LendsOp, LendsBlock};
 ghost use Rattle.std.specs.Borrow.{sem};
 ghost use Rattle.plir_core.specs.Edits.{empty};
 ghost use Rattle.plir_core.specs.declared.ptr.IRNode.{IRNode};
+
+pub(crate) mod contents;
+mod erasing;
+mod index;
+pub(crate) mod making;
+mod moving;
+mod tree_walk;
 
 use crate::ptr::{BasicBlock, IRNode, Operation, Ptr, Region};
 use plir_store::chains::Chains;
@@ -301,7 +309,7 @@ impl<O, B> Arena<O, B> {
     /// How many regions an operation has.
     pub(crate) fn num_regions(&self, op: Ptr<Operation>) -> usize
         requires { is_node_live self.now (IRNode.Operation op) ≡ true }
-        ensures { result ≡ length (node_kids self.now (IRNode.Operation op)) }
+        ensures { result ≡ length (node_children self.now (IRNode.Operation op)) }
     {
         count_children(&self.regions_in_op, op.slot)
     }
@@ -309,8 +317,8 @@ impl<O, B> Arena<O, B> {
     /// The region at a place, from 0, among those of an operation.
     pub(crate) fn region(&self, op: Ptr<Operation>, place: usize) -> Ptr<Region>
         requires live { is_node_live self.now (IRNode.Operation op) ≡ true }
-        requires below { place < length (node_kids self.now (IRNode.Operation op)) }
-        ensures { slice_get (node_kids self.now (IRNode.Operation op)) place ≡ Some (IRNode.Region result) }
+        requires below { place < length (node_children self.now (IRNode.Operation op)) }
+        ensures { slice_get (node_children self.now (IRNode.Operation op)) place ≡ Some (IRNode.Region result) }
     {
         let slot = child_at(&self.regions_in_op, op.slot, place);
         Ptr::new(slot, self.regions.version(slot))
@@ -319,8 +327,8 @@ impl<O, B> Arena<O, B> {
 
 // How many children a list has.
 fn count_children(lists: &Chains, list: u32) -> usize
-    requires { list < length lists.now.kids }
-    ensures { result ≡ length (kids_at lists.now list) }
+    requires { list < length lists.now.children }
+    ensures { result ≡ length (children_at lists.now list) }
 {
     let mut count = 0;
     let mut at = lists.first(list);
@@ -333,9 +341,9 @@ fn count_children(lists: &Chains, list: u32) -> usize
 
 // The child at a place, from 0, of a list.
 fn child_at(lists: &Chains, list: u32, place: usize) -> u32
-    requires list_in { list < length lists.now.kids }
-    requires below { place < length (kids_at lists.now list) }
-    ensures { slice_get (kids_at lists.now list) place ≡ Some result }
+    requires list_in { list < length lists.now.children }
+    requires below { place < length (children_at lists.now list) }
+    ensures { slice_get (children_at lists.now list) place ≡ Some result }
 {
     let mut at = lists.first(list);
     for _i in 0..place {

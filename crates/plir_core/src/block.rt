@@ -1,28 +1,29 @@
 //! Calls on basic blocks.
-ghost use Rattle.std.specs.Prelude.{◌≡◌, ◌<◌, ◌↔◌, ◌-◌, [], Some, None, OnOk, OnErr, IfOk, IfSome, length, slice_get};
-ghost use Rattle.std.specs.Prelude.{option_map, true, false};
+ghost use Rattle.std.specs.Prelude.{◌≡◌, ◌<◌, ◌↔◌, ◌-◌, [], Some, None, OnOk, OnErr, IfOk, IfSome, length};
+ghost use Rattle.std.specs.Prelude.{slice_get, option_map, true, false, IfErr, IsSome};
 ghost use Rattle.plir_store.specs.Table.{next_slot};
 ghost use Rattle.plir_data.specs.Types.{IsLive as IsTypeLive, AllLive};
 ghost use Rattle.plir_data.specs.AttrLive.{IsAttrLive, HandlesLive};
 ghost use Rattle.plir_data.specs.AttrSeen.{attr_view};
-ghost use Rattle.plir_data.specs.Dictionary.{dict_put};
+ghost use Rattle.plir_data.specs.Dictionary.{dict_put, dict_get, dict_without};
 ghost use Rattle.plir_core.specs.Made.{IsMade};
 ghost use Rattle.plir_core.specs.Nodes.{ptr_at};
-ghost use Rattle.plir_core.specs.Store.{IsLive, IsValueLive, IsAncestor, is_live, given_out, limit, kids, parent_of};
-ghost use Rattle.plir_core.specs.Store.{op_above, first_kid, last_kid, next_sibling, prev_sibling, block_at};
-ghost use Rattle.plir_core.specs.Store.{arg_types_of, block_attributes_of};
-ghost use Rattle.plir_core.specs.Whole.{IsWhole};
+ghost use Rattle.plir_core.specs.ContextView.{IsLive, IsValueLive, IsAncestor, is_live, given_out, limit, children};
+ghost use Rattle.plir_core.specs.ContextView.{parent_of, op_above, first_child, last_child, next_sibling, prev_sibling};
+ghost use Rattle.plir_core.specs.ContextView.{block_at, arg_types_of, block_attributes_of, label_of};
+ghost use Rattle.plir_core.specs.WellFormed.{IsWellFormed};
 ghost use Rattle.plir_core.specs.Terminator.{terminator_of};
 ghost use Rattle.plir_core.specs.Room.{IsFullForBlock};
-ghost use Rattle.plir_core.specs.Placed.{IsPlacedLast};
-ghost use Rattle.plir_core.specs.Changes.{with_block_edit, with_block, with_block_last};
+ghost use Rattle.plir_core.specs.Placed.{IsPlacedLast, IsPlacedBefore, IsPlacedBehind, IsPlacedFirst, IsUnlinked};
+ghost use Rattle.plir_core.specs.Changes.{with_block_edit, with_block, with_block_last, with_block_first};
+ghost use Rattle.plir_core.specs.Changes.{with_block_before, with_block_after, with_block_unlinked};
 ghost use Rattle.plir_core.specs.declared.ptr.IRNode.{IRNode};
 ghost use Rattle.plir_core.specs.declared.value.DefiningEntity.{DefiningEntity};
 
-use crate::contents::BlockData;
+use crate::arena::contents::BlockData;
+use crate::arena::making::NodeErr;
 use crate::context::Context;
 use crate::interface::{Interface, op_impls};
-use crate::making::NodeErr;
 use crate::ptr::{BasicBlock, IRNode, Operation, Ptr, Region};
 use crate::value::{DefiningEntity, Value};
 use plir_data::{AttrObj, AttributeDict, Identifier, Memory, OpSet, TypeHandle};
@@ -48,10 +49,10 @@ impl BasicBlock {
         ensures fresh { IfOk result (λ p. given_out ctx.old (IRNode.BasicBlock p) ≡ false) }
         ensures given { (n : IRNode) → given_out ctx.old n ≡ true → given_out ctx.new n ≡ true }
         ensures made { IfOk result (λ p. IsMade ctx.old.nodes ctx.new.nodes (IRNode.BasicBlock p)) }
-        ensures empty { IfOk result (λ p. kids ctx.new (IRNode.BasicBlock p) ≡ []) }
+        ensures empty { IfOk result (λ p. children ctx.new (IRNode.BasicBlock p) ≡ []) }
         ensures err { OnErr result (ctx.new ≡ ctx.old) }
         ensures too_many { (result ≡ Err NodeErr.TooManyNodes) ↔ IsFullForBlock ctx.old.nodes }
-        ensures whole { IsWhole D.attr_handles ctx.new }
+        ensures whole { IsWellFormed D.attr_handles ctx.new }
     {
         let data = BlockData {
             label,
@@ -68,7 +69,7 @@ impl Ptr<BasicBlock> {
     /// Whether the block is live.
     pub fn is_live<D: OpSet>(self, ctx: &Context<D>) -> bool
         ensures value { result ≡ is_live ctx.now (IRNode.BasicBlock self) }
-        ensures whole { IsWhole D.attr_handles ctx.now }
+        ensures whole { IsWellFormed D.attr_handles ctx.now }
     {
         ctx.nodes.is_live(IRNode::BasicBlock(self))
     }
@@ -78,7 +79,7 @@ impl Ptr<BasicBlock> {
         requires { IsLive ctx.now (IRNode.BasicBlock self) }
         ensures value { option_map IRNode.Region result ≡ parent_of ctx.now (IRNode.BasicBlock self) }
         ensures live { IfSome result (λ region. IsLive ctx.now (IRNode.Region region)) }
-        ensures whole { IsWhole D.attr_handles ctx.now }
+        ensures whole { IsWellFormed D.attr_handles ctx.now }
     {
         ctx.nodes.parent_of_block(self)
     }
@@ -88,7 +89,7 @@ impl Ptr<BasicBlock> {
         requires { IsLive ctx.now (IRNode.BasicBlock self) }
         ensures value { option_map IRNode.Operation result ≡ op_above ctx.now (IRNode.BasicBlock self) }
         ensures live { IfSome result (λ op. IsLive ctx.now (IRNode.Operation op)) }
-        ensures whole { IsWhole D.attr_handles ctx.now }
+        ensures whole { IsWellFormed D.attr_handles ctx.now }
     {
         match self.get_parent_region(ctx) {
             None => None,
@@ -103,7 +104,7 @@ impl Ptr<BasicBlock> {
         ensures live { IfSome result (λ block. IsLive ctx.now (IRNode.BasicBlock block)) }
         ensures beside { IfSome result (λ block. parent_of ctx.now (IRNode.BasicBlock block) ≡ parent_of ctx.now
             (IRNode.BasicBlock self)) }
-        ensures whole { IsWhole D.attr_handles ctx.now }
+        ensures whole { IsWellFormed D.attr_handles ctx.now }
     {
         ctx.nodes.next_block(self)
     }
@@ -115,7 +116,7 @@ impl Ptr<BasicBlock> {
         ensures live { IfSome result (λ block. IsLive ctx.now (IRNode.BasicBlock block)) }
         ensures beside { IfSome result (λ block. parent_of ctx.now (IRNode.BasicBlock block) ≡ parent_of ctx.now
             (IRNode.BasicBlock self)) }
-        ensures whole { IsWhole D.attr_handles ctx.now }
+        ensures whole { IsWellFormed D.attr_handles ctx.now }
     {
         ctx.nodes.prev_block(self)
     }
@@ -123,10 +124,10 @@ impl Ptr<BasicBlock> {
     /// The first operation of the block.
     pub fn get_head<D: OpSet>(self, ctx: &Context<D>) -> Option<Ptr<Operation>>
         requires { IsLive ctx.now (IRNode.BasicBlock self) }
-        ensures value { option_map IRNode.Operation result ≡ first_kid ctx.now (IRNode.BasicBlock self) }
+        ensures value { option_map IRNode.Operation result ≡ first_child ctx.now (IRNode.BasicBlock self) }
         ensures live { IfSome result (λ op. IsLive ctx.now (IRNode.Operation op)) }
         ensures here { IfSome result (λ op. parent_of ctx.now (IRNode.Operation op) ≡ Some (IRNode.BasicBlock self)) }
-        ensures whole { IsWhole D.attr_handles ctx.now }
+        ensures whole { IsWellFormed D.attr_handles ctx.now }
     {
         ctx.nodes.first_op(self)
     }
@@ -134,10 +135,10 @@ impl Ptr<BasicBlock> {
     /// The last operation of the block.
     pub fn get_tail<D: OpSet>(self, ctx: &Context<D>) -> Option<Ptr<Operation>>
         requires { IsLive ctx.now (IRNode.BasicBlock self) }
-        ensures value { option_map IRNode.Operation result ≡ last_kid ctx.now (IRNode.BasicBlock self) }
+        ensures value { option_map IRNode.Operation result ≡ last_child ctx.now (IRNode.BasicBlock self) }
         ensures live { IfSome result (λ op. IsLive ctx.now (IRNode.Operation op)) }
         ensures here { IfSome result (λ op. parent_of ctx.now (IRNode.Operation op) ≡ Some (IRNode.BasicBlock self)) }
-        ensures whole { IsWhole D.attr_handles ctx.now }
+        ensures whole { IsWellFormed D.attr_handles ctx.now }
     {
         ctx.nodes.last_op(self)
     }
@@ -148,7 +149,7 @@ impl Ptr<BasicBlock> {
         ensures value { option_map IRNode.Operation result ≡ terminator_of D.is_terminator ctx.now self }
         ensures live { IfSome result (λ op. IsLive ctx.now (IRNode.Operation op)) }
         ensures here { IfSome result (λ op. parent_of ctx.now (IRNode.Operation op) ≡ Some (IRNode.BasicBlock self)) }
-        ensures whole { IsWhole D.attr_handles ctx.now }
+        ensures whole { IsWellFormed D.attr_handles ctx.now }
     {
         match self.get_tail(ctx) {
             Some(op) if op_impls(ctx, op, Interface::Terminator) => Some(op),
@@ -160,7 +161,7 @@ impl Ptr<BasicBlock> {
     pub fn get_num_arguments<D: OpSet>(self, ctx: &Context<D>) -> usize
         requires { IsLive ctx.now (IRNode.BasicBlock self) }
         ensures value { result ≡ length (arg_types_of ctx.now self) }
-        ensures whole { IsWhole D.attr_handles ctx.now }
+        ensures whole { IsWellFormed D.attr_handles ctx.now }
     {
         ctx.nodes.block(self).arg_types.len()
     }
@@ -171,7 +172,7 @@ impl Ptr<BasicBlock> {
         requires below { i < length (arg_types_of ctx.now self) }
         ensures value { slice_get (arg_types_of ctx.now self) i ≡ Some result }
         ensures live { IsTypeLive ctx.now.types result }
-        ensures whole { IsWhole D.attr_handles ctx.now }
+        ensures whole { IsWellFormed D.attr_handles ctx.now }
     {
         ctx.nodes.block(self).arg_types[i]
     }
@@ -182,7 +183,7 @@ impl Ptr<BasicBlock> {
         requires below { i < length (arg_types_of ctx.now self) }
         ensures value { result ≡ record { entity = DefiningEntity.Block self; index = i } }
         ensures live { IsValueLive ctx.now result }
-        ensures whole { IsWhole D.attr_handles ctx.now }
+        ensures whole { IsWellFormed D.attr_handles ctx.now }
     {
         let _types = &ctx.types;
         Value::new(DefiningEntity::Block(self), i)
@@ -193,7 +194,7 @@ impl Ptr<BasicBlock> {
         requires { IsLive ctx.now (IRNode.BasicBlock self) }
         ensures value { result.now ≡ block_attributes_of ctx.now self }
         ensures live { HandlesLive D.attr_handles ctx.now.types (block_attributes_of ctx.now self) }
-        ensures whole { IsWhole D.attr_handles ctx.now }
+        ensures whole { IsWellFormed D.attr_handles ctx.now }
     {
         &ctx.nodes.block(self).attributes
     }
@@ -212,7 +213,7 @@ impl Ptr<BasicBlock> {
         ensures attributes { OnOk result (block_attributes_of ctx.new self ≡ dict_put
             (block_attributes_of ctx.old self) key (attr_view value)) }
         ensures err { OnErr result (ctx.new ≡ ctx.old) }
-        ensures whole { IsWhole D.attr_handles ctx.new }
+        ensures whole { IsWellFormed D.attr_handles ctx.new }
     {
         ctx.nodes.block_mut(self).attributes.insert(key, value)?;
         Ok(())
@@ -226,8 +227,111 @@ impl Ptr<BasicBlock> {
         requires not_above { IsAncestor ctx.old (IRNode.BasicBlock self) (IRNode.Region region) → ⊥ }
         ensures after { ctx.new ≡ with_block_last ctx.old self region }
         ensures placed { IsPlacedLast ctx.old.nodes ctx.new.nodes (IRNode.BasicBlock self) (IRNode.Region region) }
-        ensures whole { IsWhole D.attr_handles ctx.new }
+        ensures whole { IsWellFormed D.attr_handles ctx.new }
     {
         ctx.nodes.push_block(self, region);
+    }
+
+    /// The label of the block, if it has one.
+    pub fn label<D: OpSet>(self, ctx: &Context<D>) -> Option<&Identifier>
+        requires { IsLive ctx.now (IRNode.BasicBlock self) }
+        ensures value { option_map (λ l. l.now) result ≡ label_of ctx.now self }
+        ensures whole { IsWellFormed D.attr_handles ctx.now }
+    {
+        ctx.nodes.block(self).label.as_ref()
+    }
+
+    /// Gives the block a label in place of the one that it had, or takes that one.
+    pub fn set_label<D: OpSet>(self, label: Option<Identifier>, ctx: &mut Context<D>)
+        requires { IsLive ctx.old (IRNode.BasicBlock self) }
+        ensures after { ctx.new ≡ with_block_edit ctx.old self (λ b. record b { label = label }) }
+        ensures whole { IsWellFormed D.attr_handles ctx.new }
+    {
+        ctx.nodes.block_mut(self).label = label;
+    }
+
+    /// Takes the attribute under a key out, if there is one.
+    pub fn remove_attr<D: OpSet>(self, ctx: &mut Context<D>, key: &str) -> Option<AttrObj<D>>
+        requires { IsLive ctx.old (IRNode.BasicBlock self) }
+        ensures taken { option_map attr_view result ≡ dict_get (block_attributes_of ctx.old self) key.now }
+        ensures live { IfSome result (λ a. IsAttrLive D.attr_handles ctx.new.types (attr_view a)) }
+        ensures after { ctx.new ≡ with_block_edit ctx.old self
+            (λ b. record b { attributes = dict_without b.attributes key.now }) }
+        ensures whole { IsWellFormed D.attr_handles ctx.new }
+    {
+        ctx.nodes.block_mut(self).attributes.remove(key)
+    }
+
+    /// Puts an attribute in place of the one under a key, and answers that one. Where there is none, the new one comes
+    /// back and nothing has changed.
+    pub fn swap_attr<D: OpSet>(
+        self,
+        ctx: &mut Context<D>,
+        key: &str,
+        value: AttrObj<D>,
+    ) -> Result<AttrObj<D>, AttrObj<D>>
+        requires live { IsLive ctx.old (IRNode.BasicBlock self) }
+        requires handles { IsAttrLive D.attr_handles ctx.old.types (attr_view value) }
+        ensures found { IfOk result (λ a. dict_get (block_attributes_of ctx.old self) key.now ≡ Some (attr_view a)) }
+        ensures live { IfOk result (λ a. IsAttrLive D.attr_handles ctx.new.types (attr_view a)) }
+        ensures put { OnOk result (ctx.new ≡ with_block_edit ctx.old self
+            (λ b. record b { attributes = dict_put b.attributes key.now (attr_view value) })) }
+        ensures absent { OnErr result (dict_get (block_attributes_of ctx.old self) key.now ≡ None) }
+        ensures handed_back { IfErr result (λ a. a ≡ value) }
+        ensures same { OnErr result (ctx.new ≡ ctx.old) }
+        ensures whole { IsWellFormed D.attr_handles ctx.new }
+    {
+        ctx.nodes.block_mut(self).attributes.replace(key, value)
+    }
+
+    /// Puts a block that is in no region at the start of a region that it does not stand above.
+    pub fn insert_at_front<D: OpSet>(self, region: Ptr<Region>, ctx: &mut Context<D>)
+        requires live { IsLive ctx.old (IRNode.BasicBlock self) }
+        requires target_live { IsLive ctx.old (IRNode.Region region) }
+        requires unlinked { parent_of ctx.old (IRNode.BasicBlock self) ≡ None }
+        requires not_above { IsAncestor ctx.old (IRNode.BasicBlock self) (IRNode.Region region) → ⊥ }
+        ensures after { ctx.new ≡ with_block_first ctx.old self region }
+        ensures placed { IsPlacedFirst ctx.old.nodes ctx.new.nodes (IRNode.BasicBlock self) (IRNode.Region region) }
+        ensures whole { IsWellFormed D.attr_handles ctx.new }
+    {
+        ctx.nodes.push_block_front(self, region);
+    }
+
+    /// Puts a block that is in no region right before one that is in a region, and that it does not stand above.
+    pub fn insert_before<D: OpSet>(self, mark: Ptr<BasicBlock>, ctx: &mut Context<D>)
+        requires live { IsLive ctx.old (IRNode.BasicBlock self) }
+        requires mark_live { IsLive ctx.old (IRNode.BasicBlock mark) }
+        requires unlinked { parent_of ctx.old (IRNode.BasicBlock self) ≡ None }
+        requires linked { IsSome (parent_of ctx.old (IRNode.BasicBlock mark)) }
+        requires not_above { IsAncestor ctx.old (IRNode.BasicBlock self) (IRNode.BasicBlock mark) → ⊥ }
+        ensures after { ctx.new ≡ with_block_before ctx.old self mark }
+        ensures placed { IsPlacedBefore ctx.old.nodes ctx.new.nodes (IRNode.BasicBlock self) (IRNode.BasicBlock mark) }
+        ensures whole { IsWellFormed D.attr_handles ctx.new }
+    {
+        ctx.nodes.insert_block_before(self, mark);
+    }
+
+    /// Puts a block that is in no region right after one that is in a region, and that it does not stand above.
+    pub fn insert_after<D: OpSet>(self, mark: Ptr<BasicBlock>, ctx: &mut Context<D>)
+        requires live { IsLive ctx.old (IRNode.BasicBlock self) }
+        requires mark_live { IsLive ctx.old (IRNode.BasicBlock mark) }
+        requires unlinked { parent_of ctx.old (IRNode.BasicBlock self) ≡ None }
+        requires linked { IsSome (parent_of ctx.old (IRNode.BasicBlock mark)) }
+        requires not_above { IsAncestor ctx.old (IRNode.BasicBlock self) (IRNode.BasicBlock mark) → ⊥ }
+        ensures after { ctx.new ≡ with_block_after ctx.old self mark }
+        ensures placed { IsPlacedBehind ctx.old.nodes ctx.new.nodes (IRNode.BasicBlock self) (IRNode.BasicBlock mark) }
+        ensures whole { IsWellFormed D.attr_handles ctx.new }
+    {
+        ctx.nodes.insert_block_after(self, mark);
+    }
+
+    /// Takes the block out of its region, with all below it. One that is in no region stays as it is.
+    pub fn unlink<D: OpSet>(self, ctx: &mut Context<D>)
+        requires { IsLive ctx.old (IRNode.BasicBlock self) }
+        ensures after { ctx.new ≡ with_block_unlinked ctx.old self }
+        ensures unlinked { IsUnlinked ctx.old.nodes ctx.new.nodes (IRNode.BasicBlock self) }
+        ensures whole { IsWellFormed D.attr_handles ctx.new }
+    {
+        ctx.nodes.unlink_block(self);
     }
 }

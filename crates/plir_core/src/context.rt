@@ -2,15 +2,14 @@
 ghost use Rattle.std.specs.Prelude.{◌≡◌, ◌↔◌, ◌-◌, ◌^◌, [], IfOk, OnErr, IsTrue};
 ghost use Rattle.plir_data.specs.Types.{IsLive as IsTypeLive, AllLive, IsInstantiated, IsTypeTable, handles_of};
 ghost use Rattle.plir_data.specs.TypeSeen.{type_view};
-ghost use Rattle.plir_core.specs.Store.{Store, num_live, is_live};
+ghost use Rattle.plir_core.specs.ContextView.{ContextView, num_live};
 ghost use Rattle.plir_core.specs.Standing.{IsStanding};
-ghost use Rattle.plir_core.specs.Whole.{IsWhole};
+ghost use Rattle.plir_core.specs.WellFormed.{IsWellFormed};
 ghost use Rattle.plir_core.specs.Edits.{empty};
 
 use crate::arena::Arena;
-use crate::contents::{BlockData, OpData};
-use crate::ptr::IRNode;
-use crate::use_counts::UseCounts;
+use crate::arena::contents::{BlockData, OpData};
+use crate::uses::counts::UseCounts;
 use plir_data::{Memory, OpSet, TypeHandle, TypeObj, TypeStore, TypeTable};
 use std::alloc::Global;
 use std::marker::Model;
@@ -25,10 +24,10 @@ pub struct Context<D: OpSet> {
 }
 
 impl<D: OpSet> Model for Context<D> {
-    ghost use Rattle.plir_core.specs.Store.{Store};
+    ghost use Rattle.plir_core.specs.ContextView.{ContextView};
     ghost use Rattle.plir_core.specs.Uses.{IsSound};
 
-    ghost Value = { Store D.Kind D.Attr D.Ty };
+    ghost Value = { ContextView D.Kind D.Attr D.Ty };
 
     ghost use Rattle.std.specs.Coded.{codes};
     ghost use Rattle.plir_data.specs.AttrCode.{attr_code};
@@ -44,7 +43,7 @@ impl<D: OpSet> Context<D> {
     /// An empty context with room for 4294967295 live nodes.
     pub fn new(alloc: Global) -> Context<D>
         ensures empty { result ≡ record { nodes = empty (2 ^ 32 - 1); types = [] } }
-        ensures whole { IsWhole D.attr_handles result }
+        ensures whole { IsWellFormed D.attr_handles result }
     {
         Self::with_limit(alloc, u32::MAX)
     }
@@ -52,7 +51,7 @@ impl<D: OpSet> Context<D> {
     /// An empty context with room for so many live nodes.
     pub fn with_limit(alloc: Global, max_nodes: u32) -> Context<D>
         ensures empty { result ≡ record { nodes = empty max_nodes; types = [] } }
-        ensures whole { IsWhole D.attr_handles result }
+        ensures whole { IsWellFormed D.attr_handles result }
     {
         Context {
             nodes: Arena::new(alloc, max_nodes),
@@ -64,14 +63,14 @@ impl<D: OpSet> Context<D> {
     /// How many nodes are live.
     pub fn num_live(&self) -> u32
         ensures value { result ≡ num_live self.now }
-        ensures whole { IsWhole D.attr_handles self.now }
+        ensures whole { IsWellFormed D.attr_handles self.now }
     {
         self.nodes.num_live()
     }
 
     /// Does nothing: it tells a proof that the context is whole, and so that its nodes make a forest.
     pub fn stands(&self)
-        ensures whole { IsWhole D.attr_handles self.now }
+        ensures whole { IsWellFormed D.attr_handles self.now }
         ensures standing { IsStanding self.now }
     {
         let _count = self.num_live();
@@ -80,19 +79,9 @@ impl<D: OpSet> Context<D> {
     /// Whether a type handle names a type of this context.
     pub fn is_live(&self, handle: TypeHandle) -> bool
         ensures value { IsTrue result ↔ IsTypeLive self.now.types handle }
-        ensures whole { IsWhole D.attr_handles self.now }
+        ensures whole { IsWellFormed D.attr_handles self.now }
     {
         self.types.is_live(handle)
-    }
-}
-
-impl IRNode {
-    /// Whether the node is live.
-    pub fn is_live<D: OpSet>(self, ctx: &Context<D>) -> bool
-        ensures value { result ≡ is_live ctx.now self }
-        ensures whole { IsWhole D.attr_handles ctx.now }
-    {
-        ctx.nodes.is_live(self)
     }
 }
 
@@ -107,7 +96,7 @@ impl<D: OpSet> TypeStore<D> for Context<D> {
     fn types(&self) -> &TypeTable<D>
         ensures value { result.now ≡ self.now.types }
         ensures table { IsTypeTable D.type_handles self.now.types }
-        ensures whole { IsWhole D.attr_handles self.now }
+        ensures whole { IsWellFormed D.attr_handles self.now }
     {
         self.types.types()
     }
@@ -117,7 +106,7 @@ impl<D: OpSet> TypeStore<D> for Context<D> {
         ensures ok { IfOk result (λ h. IsInstantiated self.old.types (type_view value) h self.new.types) }
         ensures err { OnErr result (self.new.types ≡ self.old.types) }
         ensures rest { self.new.nodes ≡ self.old.nodes }
-        ensures whole { IsWhole D.attr_handles self.new }
+        ensures whole { IsWellFormed D.attr_handles self.new }
     {
         let handle = self.types.instantiate(value)?;
         Ok(handle)

@@ -1,7 +1,7 @@
 //! Where an operation is to be put.
 ghost use Rattle.std.specs.Prelude.{◌≡◌, ◌↔◌, IfSome, IsTrue, option_map};
-ghost use Rattle.plir_core.specs.Store.{IsLive};
-ghost use Rattle.plir_core.specs.Whole.{IsWhole};
+ghost use Rattle.plir_core.specs.ContextView.{IsLive};
+ghost use Rattle.plir_core.specs.WellFormed.{IsWellFormed};
 ghost use Rattle.plir_core.specs.declared.ptr.IRNode.{IRNode};
 
 use crate::context::Context;
@@ -29,7 +29,7 @@ impl OpInsertionPoint {
     /// Whether what the point names, if it names anything, is live.
     pub fn is_live<D: OpSet>(self, ctx: &Context<D>) -> bool
         ensures value { IsTrue result ↔ IsPointLive ctx.now self }
-        ensures whole { IsWhole D.attr_handles ctx.now }
+        ensures whole { IsWellFormed D.attr_handles ctx.now }
     {
         ctx.stands();
         match self {
@@ -48,7 +48,7 @@ impl OpInsertionPoint {
         requires { IsPointLive ctx.now self }
         ensures value { option_map IRNode.BasicBlock result ≡ insertion_block ctx.now self }
         ensures live { IfSome result (λ block. IsLive ctx.now (IRNode.BasicBlock block)) }
-        ensures whole { IsWhole D.attr_handles ctx.now }
+        ensures whole { IsWellFormed D.attr_handles ctx.now }
     {
         let _types = &ctx.types;
         match self {

@@ -1,8 +1,8 @@
 //! The interfaces that kinds of operations implement.
 ghost use Rattle.std.specs.Prelude.{◌≡◌, IfSome};
-ghost use Rattle.plir_core.specs.Store.{IsLive, kind_of};
+ghost use Rattle.plir_core.specs.ContextView.{IsLive, kind_of};
 ghost use Rattle.plir_core.specs.Interfaces.{implements};
-ghost use Rattle.plir_core.specs.Whole.{IsWhole};
+ghost use Rattle.plir_core.specs.WellFormed.{IsWellFormed};
 ghost use Rattle.plir_core.specs.declared.ptr.IRNode.{IRNode};
 
 use crate::context::Context;
@@ -45,7 +45,7 @@ pub fn op_impls<D: OpSet>(ctx: &Context<D>, op: Ptr<Operation>, interface: Inter
     requires { IsLive ctx.now (IRNode.Operation op) }
     ensures value { IfSome (kind_of ctx.now op) (λ k. result ≡ implements D.is_terminator D.is_symbol D.is_symbol_table
         D.is_symbol_user k interface) }
-    ensures whole { IsWhole D.attr_handles ctx.now }
+    ensures whole { IsWellFormed D.attr_handles ctx.now }
 {
     kind_impls::<D>(op.kind(ctx), interface)
 }

@@ -2,11 +2,11 @@
 ghost use Rattle.std.specs.Prelude.{◌≡◌, ◌⊎◌, [], ◌∷◌, ◌++◌, ◌+◌, List, Some, reverse, slice_get};
 ghost use Rattle.plir_core.specs.Above.{Reaches};
 ghost use Rattle.plir_core.specs.Contents.{OpView, BlockView};
-ghost use Rattle.plir_core.specs.Erase.{IsErased, LosesOneKid};
+ghost use Rattle.plir_core.specs.Erase.{IsErased, LosesOneChild};
 ghost use Rattle.plir_store.specs.Members.{head};
-ghost use Rattle.plir_core.specs.Store.{Store, IsLive, kids, parent_of, IsIndexed};
-ghost use Rattle.plir_core.specs.Store.{first_kid, last_kid, next_sibling, prev_sibling};
-ghost use Rattle.plir_core.specs.Whole.{IsWhole};
+ghost use Rattle.plir_core.specs.ContextView.{ContextView, IsLive, children, parent_of, IsIndexed};
+ghost use Rattle.plir_core.specs.ContextView.{first_child, last_child, next_sibling, prev_sibling};
+ghost use Rattle.plir_core.specs.WellFormed.{IsWellFormed};
 ghost use Rattle.plir_core.specs.Standing.{IsStanding};
 ghost use Rattle.plir_core.specs.Changes.{with_op_edit, with_block_edit};
 ghost use Rattle.plir_core.specs.Held.{IsOpEdited, IsBlockEdited};
@@ -24,51 +24,51 @@ use crate::context::Context;
 use crate::ptr::{BasicBlock, IRNode, Operation, Ptr};
 use plir_data::OpSet;
 
-/// What is known of the kid of a node at a place, from 0.
-pub fn kid_at<D: OpSet>(ctx: &Context<D>, over: IRNode, kid: IRNode, place: usize)
-    requires { slice_get (kids ctx.now over) place ≡ Some kid }
-    ensures live { IsLive ctx.now kid }
-    ensures parent { parent_of ctx.now kid ≡ Some over }
-    ensures deeper { depth ctx.now kid ≡ depth ctx.now over + 1 }
-    ensures next { next_sibling ctx.now kid ≡ slice_get (kids ctx.now over) (place + 1) }
+/// What is known of the child of a node at a place, from 0.
+pub fn child_at<D: OpSet>(ctx: &Context<D>, over: IRNode, child: IRNode, place: usize)
+    requires { slice_get (children ctx.now over) place ≡ Some child }
+    ensures live { IsLive ctx.now child }
+    ensures parent { parent_of ctx.now child ≡ Some over }
+    ensures deeper { depth ctx.now child ≡ depth ctx.now over + 1 }
+    ensures next { next_sibling ctx.now child ≡ slice_get (children ctx.now over) (place + 1) }
 {
     ctx.stands();
 }
 
-/// The first kid of a node is the one at the place 0.
-pub fn first_kid_is_front<D: OpSet>(ctx: &Context<D>, over: IRNode)
-    ensures place { first_kid ctx.now over ≡ slice_get (kids ctx.now over) 0 }
-    ensures front { first_kid ctx.now over ≡ head (kids ctx.now over) }
+/// The first child of a node is the one at the place 0.
+pub fn first_child_is_front<D: OpSet>(ctx: &Context<D>, over: IRNode)
+    ensures place { first_child ctx.now over ≡ slice_get (children ctx.now over) 0 }
+    ensures front { first_child ctx.now over ≡ head (children ctx.now over) }
 {
     let _types = &ctx.types;
 }
 
-/// What follows a kid of a node is the first of what stands behind it.
-pub fn next_is_behind<D: OpSet>(ctx: &Context<D>, kid: IRNode)
-    ensures { (over : AnyNode) (xs ys : List AnyNode) → kids ctx.now over ≡ xs ++ kid ∷ ys →
-        next_sibling ctx.now kid ≡ head ys }
+/// What follows a child of a node is the first of what stands behind it.
+pub fn next_is_behind<D: OpSet>(ctx: &Context<D>, child: IRNode)
+    ensures { (over : AnyNode) (xs ys : List AnyNode) → children ctx.now over ≡ xs ++ child ∷ ys →
+        next_sibling ctx.now child ≡ head ys }
 {
     ctx.stands();
 }
 
-/// The last kid of a node is the first of its kids in reverse.
-pub fn last_kid_is_back<D: OpSet>(ctx: &Context<D>, over: IRNode)
-    ensures { last_kid ctx.now over ≡ head (reverse (kids ctx.now over)) }
+/// The last child of a node is the first of its children in reverse.
+pub fn last_child_is_back<D: OpSet>(ctx: &Context<D>, over: IRNode)
+    ensures { last_child ctx.now over ≡ head (reverse (children ctx.now over)) }
 {
     let _types = &ctx.types;
 }
 
-/// What stands right before a kid of a node is the last of what stands before it.
-pub fn prev_is_before<D: OpSet>(ctx: &Context<D>, kid: IRNode)
-    ensures { (over : AnyNode) (xs ys : List AnyNode) → kids ctx.now over ≡ xs ++ kid ∷ ys →
-        prev_sibling ctx.now kid ≡ head (reverse xs) }
+/// What stands right before a child of a node is the last of what stands before it.
+pub fn prev_is_before<D: OpSet>(ctx: &Context<D>, child: IRNode)
+    ensures { (over : AnyNode) (xs ys : List AnyNode) → children ctx.now over ≡ xs ++ child ∷ ys →
+        prev_sibling ctx.now child ≡ head (reverse xs) }
 {
     ctx.stands();
 }
 
-/// Nothing stands below a node without kids: who climbs to it began there.
+/// Nothing stands below a node without children: who climbs to it began there.
 pub fn nothing_stands_below_a_leaf<D: OpSet>(ctx: &Context<D>, leaf: IRNode)
-    requires { kids ctx.now leaf ≡ [] }
+    requires { children ctx.now leaf ≡ [] }
     ensures { (n : AnyNode) → Reaches (parent_of ctx.now) n leaf → n ≡ leaf }
 {
     ctx.stands();
@@ -82,11 +82,11 @@ pub fn regions_stand_in_operations<D: OpSet>(ctx: &Context<D>)
     ctx.stands();
 }
 
-/// After an erasure each node that stays has the kids that it had before, in their order, but for the node that was
+/// After an erasure each node that stays has the children that it had before, in their order, but for the node that was
 /// erased. It is called before the erasure; `after` is what that leaves, as its clause `tree` says.
-pub fn erasure_takes_one_kid<D: OpSet>(ctx: &Context<D>)
-    ensures { (after : Store D.Kind D.Attr D.Ty) (gone : AnyNode) → IsErased ctx.now.nodes after.nodes gone →
-        LosesOneKid ctx.now.nodes after.nodes gone }
+pub fn erasure_takes_one_child<D: OpSet>(ctx: &Context<D>)
+    ensures { (after : ContextView D.Kind D.Attr D.Ty) (gone : AnyNode) → IsErased ctx.now.nodes after.nodes gone →
+        LosesOneChild ctx.now.nodes after.nodes gone }
 {
     ctx.stands();
 }
@@ -133,7 +133,7 @@ pub fn block_edits_join<D: OpSet>(ctx: &Context<D>, block: Ptr<BasicBlock>)
 
 /// What was made is used by nothing outside it: a refusal in the midst of a larger make can erase it.
 pub fn what_was_made_is_unused<D: OpSet>(ctx: &Context<D>)
-    ensures { (made : Store D.Kind D.Attr D.Ty) (root : AnyNode) → IsMade ctx.now.nodes made.nodes root →
+    ensures { (made : ContextView D.Kind D.Attr D.Ty) (root : AnyNode) → IsMade ctx.now.nodes made.nodes root →
         IsUnusedOutside made root }
 {
     ctx.stands();
@@ -154,7 +154,7 @@ pub fn index_is_slot_and_one<D: OpSet>(ctx: &Context<D>)
     ctx.stands();
 }
 
-/// What every context keeps of the nodes that stand in it, in the words of kids and parents.
+/// What every context keeps of the nodes that stand in it, in the words of children and parents.
 pub fn contexts_stand<D: OpSet>()
-    ensures { (s : Store D.Kind D.Attr D.Ty) → IsWhole D.attr_handles s → IsStanding s }
+    ensures { (s : ContextView D.Kind D.Attr D.Ty) → IsWellFormed D.attr_handles s → IsStanding s }
 {}

@@ -2,40 +2,25 @@
 #![tactic(auto)]
 
 mod arena;
-mod attributes;
 mod block;
-mod contents;
 mod context;
-mod erase;
-mod index;
+mod erasing;
 mod insertion_point;
 mod interface;
-mod labels;
 pub mod laws;
 mod less_than;
-mod linking;
-mod making;
-mod moving;
-mod operand_uses;
-mod operands;
+mod node;
 mod operation;
-mod places;
 mod ptr;
 mod region;
-mod regions;
-mod removing;
-mod replacing;
-mod tree_walk;
-mod unused;
-mod use_counts;
+mod uses;
 mod value;
-mod value_uses;
 
+pub use arena::making::NodeErr;
 pub use context::Context;
 pub use insertion_point::OpInsertionPoint;
 pub use interface::{Interface, kind_impls, op_impls};
 pub use less_than::LessThanN;
-pub use making::NodeErr;
-pub use operand_uses::Use;
 pub use ptr::{BasicBlock, IRNode, Operation, Ptr, Region};
+pub use uses::Use;
 pub use value::{DefiningEntity, Value};

@@ -10,21 +10,24 @@ ghost use Rattle.plir_core.specs.Made.{IsMade, HasNewRegions};
 ghost use Rattle.plir_core.specs.Refused.{IsUnmade};
 ghost use Rattle.plir_core.specs.Contents.{op_view};
 ghost use Rattle.plir_core.specs.Nodes.{ptr_at};
-ghost use Rattle.plir_core.specs.Store.{IsLive, IsValueLive, IsAncestor, is_live, kids, parent_of, op_above};
-ghost use Rattle.plir_core.specs.Store.{region_above, first_kid, last_kid, next_sibling, prev_sibling, op_at, kind_of};
-ghost use Rattle.plir_core.specs.Store.{result_types_of, operands_of, successors_of, attributes_of, given_out};
-ghost use Rattle.plir_core.specs.Store.{num_live, limit};
-ghost use Rattle.plir_core.specs.Whole.{IsWhole};
+ghost use Rattle.plir_core.specs.ContextView.{IsLive, IsValueLive, IsAncestor, is_live, children, parent_of, op_above};
+ghost use Rattle.plir_core.specs.ContextView.{region_above, first_child, last_child, next_sibling, prev_sibling, op_at};
+ghost use Rattle.plir_core.specs.ContextView.{kind_of};
+ghost use Rattle.plir_core.specs.ContextView.{result_types_of, operands_of, successors_of, attributes_of, given_out};
+ghost use Rattle.plir_core.specs.ContextView.{num_live, limit};
+ghost use Rattle.plir_core.specs.WellFormed.{IsWellFormed};
 ghost use Rattle.plir_core.specs.Room.{IsFullForOp};
 ghost use Rattle.plir_core.specs.Placed.{IsPlacedLast};
-ghost use Rattle.plir_core.specs.Unused.{kid_at};
+ghost use Rattle.plir_core.specs.Unused.{child_at};
 ghost use Rattle.plir_core.specs.Changes.{with_op_edit, with_op_last, with_op, SameLive};
 ghost use Rattle.plir_core.specs.declared.ptr.IRNode.{IRNode};
 ghost use Rattle.plir_core.specs.declared.value.DefiningEntity.{DefiningEntity};
 
-use crate::contents::OpData;
+mod changes;
+
+use crate::arena::contents::OpData;
+use crate::arena::making::NodeErr;
 use crate::context::Context;
-use crate::making::NodeErr;
 use crate::ptr::{BasicBlock, IRNode, Operation, Ptr, Region};
 use crate::value::{DefiningEntity, Value};
 use plir_data::{AttrObj, AttributeDict, Identifier, Location, Memory, OpKind, OpSet, TypeHandle};
@@ -60,7 +63,7 @@ impl Operation {
             (op_view kind result_types.items operands.items successors.items []) num_regions) }
         ensures too_many { limit ctx.old < num_live ctx.old + 1 + num_regions → result ≡ Err NodeErr.TooManyNodes }
         ensures too_many_only { result ≡ Err NodeErr.TooManyNodes → IsFullForOp ctx.old.nodes num_regions }
-        ensures whole { IsWhole D.attr_handles ctx.new }
+        ensures whole { IsWellFormed D.attr_handles ctx.new }
     {
         let attributes = AttributeDict::new(alloc);
         Operation::with_attributes(
@@ -106,7 +109,7 @@ impl Operation {
             (op_view kind result_types.items operands.items successors.items attributes) num_regions) }
         ensures too_many { limit ctx.old < num_live ctx.old + 1 + num_regions → result ≡ Err NodeErr.TooManyNodes }
         ensures too_many_only { result ≡ Err NodeErr.TooManyNodes → IsFullForOp ctx.old.nodes num_regions }
-        ensures whole { IsWhole D.attr_handles ctx.new }
+        ensures whole { IsWellFormed D.attr_handles ctx.new }
     {
         let data = OpData {
             kind,
@@ -127,7 +130,7 @@ impl Ptr<Operation> {
     /// Whether the operation is live.
     pub fn is_live<D: OpSet>(self, ctx: &Context<D>) -> bool
         ensures value { result ≡ is_live ctx.now (IRNode.Operation self) }
-        ensures whole { IsWhole D.attr_handles ctx.now }
+        ensures whole { IsWellFormed D.attr_handles ctx.now }
     {
         ctx.nodes.is_live(IRNode::Operation(self))
     }
@@ -137,7 +140,7 @@ impl Ptr<Operation> {
         requires { IsLive ctx.now (IRNode.Operation self) }
         ensures value { option_map IRNode.BasicBlock result ≡ parent_of ctx.now (IRNode.Operation self) }
         ensures live { IfSome result (λ block. IsLive ctx.now (IRNode.BasicBlock block)) }
-        ensures whole { IsWhole D.attr_handles ctx.now }
+        ensures whole { IsWellFormed D.attr_handles ctx.now }
     {
         ctx.nodes.parent_of_op(self)
     }
@@ -147,7 +150,7 @@ impl Ptr<Operation> {
         requires { IsLive ctx.now (IRNode.Operation self) }
         ensures value { option_map IRNode.Region result ≡ region_above ctx.now self }
         ensures live { IfSome result (λ region. IsLive ctx.now (IRNode.Region region)) }
-        ensures whole { IsWhole D.attr_handles ctx.now }
+        ensures whole { IsWellFormed D.attr_handles ctx.now }
     {
         match self.get_parent_block(ctx) {
             None => None,
@@ -160,7 +163,7 @@ impl Ptr<Operation> {
         requires { IsLive ctx.now (IRNode.Operation self) }
         ensures value { option_map IRNode.Operation result ≡ op_above ctx.now (IRNode.Operation self) }
         ensures live { IfSome result (λ op. IsLive ctx.now (IRNode.Operation op)) }
-        ensures whole { IsWhole D.attr_handles ctx.now }
+        ensures whole { IsWellFormed D.attr_handles ctx.now }
     {
         match self.get_parent_block(ctx) {
             None => None,
@@ -175,7 +178,7 @@ impl Ptr<Operation> {
         ensures live { IfSome result (λ op. IsLive ctx.now (IRNode.Operation op)) }
         ensures beside { IfSome result (λ op. parent_of ctx.now (IRNode.Operation op) ≡ parent_of ctx.now
             (IRNode.Operation self)) }
-        ensures whole { IsWhole D.attr_handles ctx.now }
+        ensures whole { IsWellFormed D.attr_handles ctx.now }
     {
         ctx.nodes.next_op(self)
     }
@@ -187,7 +190,7 @@ impl Ptr<Operation> {
         ensures live { IfSome result (λ op. IsLive ctx.now (IRNode.Operation op)) }
         ensures beside { IfSome result (λ op. parent_of ctx.now (IRNode.Operation op) ≡ parent_of ctx.now
             (IRNode.Operation self)) }
-        ensures whole { IsWhole D.attr_handles ctx.now }
+        ensures whole { IsWellFormed D.attr_handles ctx.now }
     {
         ctx.nodes.prev_op(self)
     }
@@ -195,11 +198,11 @@ impl Ptr<Operation> {
     /// The first region of the operation.
     pub fn first_region<D: OpSet>(self, ctx: &Context<D>) -> Option<Ptr<Region>>
         requires { IsLive ctx.now (IRNode.Operation self) }
-        ensures value { option_map IRNode.Region result ≡ first_kid ctx.now (IRNode.Operation self) }
+        ensures value { option_map IRNode.Region result ≡ first_child ctx.now (IRNode.Operation self) }
         ensures live { IfSome result (λ region. IsLive ctx.now (IRNode.Region region)) }
         ensures here { IfSome result (λ region. parent_of ctx.now (IRNode.Region region) ≡ Some
             (IRNode.Operation self)) }
-        ensures whole { IsWhole D.attr_handles ctx.now }
+        ensures whole { IsWellFormed D.attr_handles ctx.now }
     {
         ctx.nodes.first_region(self)
     }
@@ -207,11 +210,11 @@ impl Ptr<Operation> {
     /// The last region of the operation.
     pub fn last_region<D: OpSet>(self, ctx: &Context<D>) -> Option<Ptr<Region>>
         requires { IsLive ctx.now (IRNode.Operation self) }
-        ensures value { option_map IRNode.Region result ≡ last_kid ctx.now (IRNode.Operation self) }
+        ensures value { option_map IRNode.Region result ≡ last_child ctx.now (IRNode.Operation self) }
         ensures live { IfSome result (λ region. IsLive ctx.now (IRNode.Region region)) }
         ensures here { IfSome result (λ region. parent_of ctx.now (IRNode.Region region) ≡ Some
             (IRNode.Operation self)) }
-        ensures whole { IsWhole D.attr_handles ctx.now }
+        ensures whole { IsWellFormed D.attr_handles ctx.now }
     {
         ctx.nodes.last_region(self)
     }
@@ -220,8 +223,8 @@ impl Ptr<Operation> {
     /// `get_next`.
     pub fn num_regions<D: OpSet>(self, ctx: &Context<D>) -> usize
         requires { IsLive ctx.now (IRNode.Operation self) }
-        ensures value { result ≡ length (kids ctx.now (IRNode.Operation self)) }
-        ensures whole { IsWhole D.attr_handles ctx.now }
+        ensures value { result ≡ length (children ctx.now (IRNode.Operation self)) }
+        ensures whole { IsWellFormed D.attr_handles ctx.now }
     {
         ctx.nodes.num_regions(self)
     }
@@ -229,11 +232,11 @@ impl Ptr<Operation> {
     /// The region at a place, from 0, among those of the operation. It is found from the first one on, one by one.
     pub fn get_region<D: OpSet>(self, ctx: &Context<D>, i: usize) -> Ptr<Region>
         requires live { IsLive ctx.now (IRNode.Operation self) }
-        requires below { i < length (kids ctx.now (IRNode.Operation self)) }
-        ensures value { slice_get (kids ctx.now (IRNode.Operation self)) i ≡ Some (IRNode.Region result) }
+        requires below { i < length (children ctx.now (IRNode.Operation self)) }
+        ensures value { slice_get (children ctx.now (IRNode.Operation self)) i ≡ Some (IRNode.Region result) }
         ensures live { IsLive ctx.now (IRNode.Region result) }
-        ensures kid { IRNode.Region result ≡ kid_at ctx.now (IRNode.Operation self) i }
-        ensures whole { IsWhole D.attr_handles ctx.now }
+        ensures child { IRNode.Region result ≡ child_at ctx.now (IRNode.Operation self) i }
+        ensures whole { IsWellFormed D.attr_handles ctx.now }
     {
         ctx.nodes.region(self, i)
     }
@@ -242,7 +245,7 @@ impl Ptr<Operation> {
     pub fn kind<D: OpSet>(self, ctx: &Context<D>) -> OpKind<D::Kind>
         requires { IsLive ctx.now (IRNode.Operation self) }
         ensures value { kind_of ctx.now self ≡ Some result }
-        ensures whole { IsWhole D.attr_handles ctx.now }
+        ensures whole { IsWellFormed D.attr_handles ctx.now }
     {
         ctx.nodes.op(self).kind
     }
@@ -251,7 +254,7 @@ impl Ptr<Operation> {
     pub fn get_num_results<D: OpSet>(self, ctx: &Context<D>) -> usize
         requires { IsLive ctx.now (IRNode.Operation self) }
         ensures value { result ≡ length (result_types_of ctx.now self) }
-        ensures whole { IsWhole D.attr_handles ctx.now }
+        ensures whole { IsWellFormed D.attr_handles ctx.now }
     {
         ctx.nodes.op(self).result_types.len()
     }
@@ -262,7 +265,7 @@ impl Ptr<Operation> {
         requires below { i < length (result_types_of ctx.now self) }
         ensures value { slice_get (result_types_of ctx.now self) i ≡ Some result }
         ensures live { IsTypeLive ctx.now.types result }
-        ensures whole { IsWhole D.attr_handles ctx.now }
+        ensures whole { IsWellFormed D.attr_handles ctx.now }
     {
         ctx.nodes.op(self).result_types[i]
     }
@@ -273,7 +276,7 @@ impl Ptr<Operation> {
         requires below { i < length (result_types_of ctx.now self) }
         ensures value { result ≡ record { entity = DefiningEntity.Op self; index = i } }
         ensures live { IsValueLive ctx.now result }
-        ensures whole { IsWhole D.attr_handles ctx.now }
+        ensures whole { IsWellFormed D.attr_handles ctx.now }
     {
         let _types = &ctx.types;
         Value::new(DefiningEntity::Op(self), i)
@@ -283,7 +286,7 @@ impl Ptr<Operation> {
     pub fn get_num_operands<D: OpSet>(self, ctx: &Context<D>) -> usize
         requires { IsLive ctx.now (IRNode.Operation self) }
         ensures value { result ≡ length (operands_of ctx.now self) }
-        ensures whole { IsWhole D.attr_handles ctx.now }
+        ensures whole { IsWellFormed D.attr_handles ctx.now }
     {
         ctx.nodes.op(self).operands.len()
     }
@@ -294,7 +297,7 @@ impl Ptr<Operation> {
         requires below { i < length (operands_of ctx.now self) }
         ensures value { slice_get (operands_of ctx.now self) i ≡ Some result }
         ensures live { IsValueLive ctx.now result }
-        ensures whole { IsWhole D.attr_handles ctx.now }
+        ensures whole { IsWellFormed D.attr_handles ctx.now }
     {
         ctx.nodes.op(self).operands[i]
     }
@@ -303,7 +306,7 @@ impl Ptr<Operation> {
     pub fn get_num_successors<D: OpSet>(self, ctx: &Context<D>) -> usize
         requires { IsLive ctx.now (IRNode.Operation self) }
         ensures value { result ≡ length (successors_of ctx.now self) }
-        ensures whole { IsWhole D.attr_handles ctx.now }
+        ensures whole { IsWellFormed D.attr_handles ctx.now }
     {
         ctx.nodes.op(self).successors.len()
     }
@@ -314,7 +317,7 @@ impl Ptr<Operation> {
         requires below { i < length (successors_of ctx.now self) }
         ensures value { slice_get (successors_of ctx.now self) i ≡ Some result }
         ensures live { IsLive ctx.now (IRNode.BasicBlock result) }
-        ensures whole { IsWhole D.attr_handles ctx.now }
+        ensures whole { IsWellFormed D.attr_handles ctx.now }
     {
         ctx.nodes.op(self).successors[i]
     }
@@ -324,7 +327,7 @@ impl Ptr<Operation> {
         requires { IsLive ctx.now (IRNode.Operation self) }
         ensures value { result.now ≡ attributes_of ctx.now self }
         ensures live { HandlesLive D.attr_handles ctx.now.types (attributes_of ctx.now self) }
-        ensures whole { IsWhole D.attr_handles ctx.now }
+        ensures whole { IsWellFormed D.attr_handles ctx.now }
     {
         &ctx.nodes.op(self).attributes
     }
@@ -343,7 +346,7 @@ impl Ptr<Operation> {
         ensures attributes { OnOk result (attributes_of ctx.new self ≡ dict_put (attributes_of ctx.old self) key
             (attr_view value)) }
         ensures err { OnErr result (ctx.new ≡ ctx.old) }
-        ensures whole { IsWhole D.attr_handles ctx.new }
+        ensures whole { IsWellFormed D.attr_handles ctx.new }
     {
         ctx.nodes.op_mut(self).attributes.insert(key, value)?;
         Ok(())
@@ -357,7 +360,7 @@ impl Ptr<Operation> {
         requires not_above { IsAncestor ctx.old (IRNode.Operation self) (IRNode.BasicBlock block) → ⊥ }
         ensures after { ctx.new ≡ with_op_last ctx.old self block }
         ensures placed { IsPlacedLast ctx.old.nodes ctx.new.nodes (IRNode.Operation self) (IRNode.BasicBlock block) }
-        ensures whole { IsWhole D.attr_handles ctx.new }
+        ensures whole { IsWellFormed D.attr_handles ctx.new }
     {
         ctx.nodes.push_op(self, block);
     }

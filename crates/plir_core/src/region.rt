@@ -1,8 +1,9 @@
 //! Calls on regions.
 ghost use Rattle.std.specs.Prelude.{◌≡◌, Some, IfSome, option_map, slice_get};
-ghost use Rattle.plir_core.specs.Store.{IsLive, is_live, kids, parent_of, first_kid, last_kid, next_sibling};
-ghost use Rattle.plir_core.specs.Store.{prev_sibling};
-ghost use Rattle.plir_core.specs.Whole.{IsWhole};
+ghost use Rattle.plir_core.specs.ContextView.{IsLive, is_live, children, parent_of, first_child, last_child};
+ghost use Rattle.plir_core.specs.ContextView.{next_sibling};
+ghost use Rattle.plir_core.specs.ContextView.{prev_sibling};
+ghost use Rattle.plir_core.specs.WellFormed.{IsWellFormed};
 ghost use Rattle.plir_core.specs.declared.ptr.IRNode.{IRNode};
 
 use crate::context::Context;
@@ -13,7 +14,7 @@ impl Ptr<Region> {
     /// Whether the region is live.
     pub fn is_live<D: OpSet>(self, ctx: &Context<D>) -> bool
         ensures value { result ≡ is_live ctx.now (IRNode.Region self) }
-        ensures whole { IsWhole D.attr_handles ctx.now }
+        ensures whole { IsWellFormed D.attr_handles ctx.now }
     {
         ctx.nodes.is_live(IRNode::Region(self))
     }
@@ -23,7 +24,7 @@ impl Ptr<Region> {
         requires { IsLive ctx.now (IRNode.Region self) }
         ensures value { option_map IRNode.Operation result ≡ parent_of ctx.now (IRNode.Region self) }
         ensures live { IfSome result (λ op. IsLive ctx.now (IRNode.Operation op)) }
-        ensures whole { IsWhole D.attr_handles ctx.now }
+        ensures whole { IsWellFormed D.attr_handles ctx.now }
     {
         ctx.nodes.parent_of_region(self)
     }
@@ -32,8 +33,8 @@ impl Ptr<Region> {
     pub fn find_index_in_parent<D: OpSet>(self, ctx: &Context<D>) -> usize
         requires { IsLive ctx.now (IRNode.Region self) }
         ensures value { IfSome (parent_of ctx.now (IRNode.Region self))
-            (λ n. slice_get (kids ctx.now n) result ≡ Some (IRNode.Region self)) }
-        ensures whole { IsWhole D.attr_handles ctx.now }
+            (λ n. slice_get (children ctx.now n) result ≡ Some (IRNode.Region self)) }
+        ensures whole { IsWellFormed D.attr_handles ctx.now }
     {
         ctx.nodes.place_of_region(self)
     }
@@ -45,7 +46,7 @@ impl Ptr<Region> {
         ensures live { IfSome result (λ region. IsLive ctx.now (IRNode.Region region)) }
         ensures beside { IfSome result (λ region. parent_of ctx.now (IRNode.Region region) ≡ parent_of ctx.now
             (IRNode.Region self)) }
-        ensures whole { IsWhole D.attr_handles ctx.now }
+        ensures whole { IsWellFormed D.attr_handles ctx.now }
     {
         ctx.nodes.next_region(self)
     }
@@ -57,7 +58,7 @@ impl Ptr<Region> {
         ensures live { IfSome result (λ region. IsLive ctx.now (IRNode.Region region)) }
         ensures beside { IfSome result (λ region. parent_of ctx.now (IRNode.Region region) ≡ parent_of ctx.now
             (IRNode.Region self)) }
-        ensures whole { IsWhole D.attr_handles ctx.now }
+        ensures whole { IsWellFormed D.attr_handles ctx.now }
     {
         ctx.nodes.prev_region(self)
     }
@@ -65,10 +66,11 @@ impl Ptr<Region> {
     /// The first block of the region.
     pub fn get_head<D: OpSet>(self, ctx: &Context<D>) -> Option<Ptr<BasicBlock>>
         requires { IsLive ctx.now (IRNode.Region self) }
-        ensures value { option_map IRNode.BasicBlock result ≡ first_kid ctx.now (IRNode.Region self) }
+        ensures value { option_map IRNode.BasicBlock result ≡ first_child ctx.now (IRNode.Region self) }
         ensures live { IfSome result (λ block. IsLive ctx.now (IRNode.BasicBlock block)) }
-        ensures here { IfSome result (λ block. parent_of ctx.now (IRNode.BasicBlock block) ≡ Some (IRNode.Region self)) }
-        ensures whole { IsWhole D.attr_handles ctx.now }
+        ensures here { IfSome result (λ block. parent_of ctx.now (IRNode.BasicBlock block)
+            ≡ Some (IRNode.Region self)) }
+        ensures whole { IsWellFormed D.attr_handles ctx.now }
     {
         ctx.nodes.first_block(self)
     }
@@ -76,10 +78,11 @@ impl Ptr<Region> {
     /// The last block of the region.
     pub fn get_tail<D: OpSet>(self, ctx: &Context<D>) -> Option<Ptr<BasicBlock>>
         requires { IsLive ctx.now (IRNode.Region self) }
-        ensures value { option_map IRNode.BasicBlock result ≡ last_kid ctx.now (IRNode.Region self) }
+        ensures value { option_map IRNode.BasicBlock result ≡ last_child ctx.now (IRNode.Region self) }
         ensures live { IfSome result (λ block. IsLive ctx.now (IRNode.BasicBlock block)) }
-        ensures here { IfSome result (λ block. parent_of ctx.now (IRNode.BasicBlock block) ≡ Some (IRNode.Region self)) }
-        ensures whole { IsWhole D.attr_handles ctx.now }
+        ensures here { IfSome result (λ block. parent_of ctx.now (IRNode.BasicBlock block)
+            ≡ Some (IRNode.Region self)) }
+        ensures whole { IsWellFormed D.attr_handles ctx.now }
     {
         ctx.nodes.last_block(self)
     }
@@ -87,10 +90,11 @@ impl Ptr<Region> {
     /// The block in which control enters the region: its first one.
     pub fn get_entry_block<D: OpSet>(self, ctx: &Context<D>) -> Option<Ptr<BasicBlock>>
         requires { IsLive ctx.now (IRNode.Region self) }
-        ensures value { option_map IRNode.BasicBlock result ≡ first_kid ctx.now (IRNode.Region self) }
+        ensures value { option_map IRNode.BasicBlock result ≡ first_child ctx.now (IRNode.Region self) }
         ensures live { IfSome result (λ block. IsLive ctx.now (IRNode.BasicBlock block)) }
-        ensures here { IfSome result (λ block. parent_of ctx.now (IRNode.BasicBlock block) ≡ Some (IRNode.Region self)) }
-        ensures whole { IsWhole D.attr_handles ctx.now }
+        ensures here { IfSome result (λ block. parent_of ctx.now (IRNode.BasicBlock block)
+            ≡ Some (IRNode.Region self)) }
+        ensures whole { IsWellFormed D.attr_handles ctx.now }
     {
         self.get_head(ctx)
     }

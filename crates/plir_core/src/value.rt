@@ -1,8 +1,13 @@
 //! Values: the results of operations and the arguments of blocks.
-ghost use Rattle.std.specs.Prelude.{◌≡◌};
-ghost use Rattle.plir_core.specs.Store.{entity_node};
+ghost use Rattle.std.specs.Prelude.{◌≡◌, ◌<◌, Some};
+ghost use Rattle.plir_core.specs.ContextView.{entity_node, IsValueLive, is_value_live, type_of_value};
+ghost use Rattle.plir_data.specs.Types.{IsLive as IsTypeLive};
+ghost use Rattle.plir_core.specs.WellFormed.{IsWellFormed};
+ghost use Rattle.plir_core.specs.declared.ptr.IRNode.{IRNode};
 
+use crate::context::Context;
 use crate::ptr::{BasicBlock, IRNode, Operation, Ptr};
+use plir_data::{OpSet, TypeHandle};
 
 /// What a value comes from.
 #[derive(Clone, Copy, PartialEq, Eq, Hash, Debug)]
@@ -51,5 +56,31 @@ impl Value {
         ensures { result ≡ self.index }
     {
         self.index
+    }
+
+    /// Whether the value is live: its operation or block is, and has a result or an argument at its place.
+    pub fn is_live<D: OpSet>(self, ctx: &Context<D>) -> bool
+        ensures value { result ≡ is_value_live ctx.now self }
+        ensures whole { IsWellFormed D.attr_handles ctx.now }
+    {
+        match self.defining_entity() {
+            DefiningEntity::Op(op) => op.is_live(ctx) && self.index() < op.get_num_results(ctx),
+            DefiningEntity::Block(block) => {
+                block.is_live(ctx) && self.index() < block.get_num_arguments(ctx)
+            }
+        }
+    }
+
+    /// The type of the value.
+    pub fn get_type<D: OpSet>(self, ctx: &Context<D>) -> TypeHandle
+        requires { IsValueLive ctx.now self }
+        ensures value { type_of_value ctx.now self ≡ Some result }
+        ensures live { IsTypeLive ctx.now.types result }
+        ensures whole { IsWellFormed D.attr_handles ctx.now }
+    {
+        match self.defining_entity() {
+            DefiningEntity::Op(op) => op.get_type(ctx, self.index()),
+            DefiningEntity::Block(block) => block.get_type(ctx, self.index()),
+        }
     }
 }

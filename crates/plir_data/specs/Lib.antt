@@ -1,6 +1,7 @@
 -- What the contracts of this crate cite.
 --
 --   Identifier   is_identifier
+--   Keys         the keys of attributes that the builtin dialect holds
 --   Types        TypeView T: a type as contracts see it; IsLive, AllLive, type_at, handles_of, IsInstantiated,
 --   IsTypeTable
 --   Integers     bits_of, signed_of, literal: integers of some bits, as numbers and as digits
@@ -26,6 +27,7 @@
 --   Laws         IsReordered, OrderIsNotSeen, IsDictOfItself: laws of dictionaries; IsMadeOfTrees: a law of types
 --   AttrCode, AttrFalls, AttrLaws   what the prover needs of attributes that hold attributes
 pub mod Identifier
+pub mod Keys
 pub mod Types
 pub mod Integers
 pub mod TypeSeen

@@ -17,7 +17,8 @@ module _ {X : Type 0} (P : X → Type 0) where
   pub all_left : (xs ys : List X) → All P (xs ++ ys) → All P xs
   all_left [] ys all k d p = absurd (omega (arith, p))
   all_left (x ∷ xs) ys all zero d p = all 0 d (omega arith)
-  all_left (x ∷ xs) ys all (suc k) d p = all_left xs ys (λ i e q. all (suc i) e (omega (arith, q))) k d (omega (arith, p))
+  all_left (x ∷ xs) ys all (suc k) d p
+      = all_left xs ys (λ i e q. all (suc i) e (omega (arith, q))) k d (omega (arith, p))
 
   pub all_right : (xs ys : List X) → All P (xs ++ ys) → All P ys
   all_right [] ys all = all

@@ -11,6 +11,7 @@ mod attribute_dict;
 mod attributes;
 mod entries;
 mod identifier;
+pub mod keys;
 mod kind_set;
 pub mod laws;
 mod liveness;

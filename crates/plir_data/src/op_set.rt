@@ -124,7 +124,8 @@ pub trait OpSet: Sized {
         ctx: &C,
     ) -> Result<(), VerifyErr<Self::Err>>
         requires { AllLive (C.types ctx.now) (attr_handles attr.now) }
-        ensures { IsVerdict (attr_is_valid (C.types ctx.now) attr.now) (attr_refusal (C.types ctx.now) attr.now) result };
+        ensures { IsVerdict (attr_is_valid (C.types ctx.now) attr.now)
+            (attr_refusal (C.types ctx.now) attr.now) result };
 
     /// An equal own attribute.
     fn clone_attr(alloc: Global, attr: &Self::Attr) -> Result<Self::Attr, Memory>

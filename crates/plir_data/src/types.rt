@@ -140,7 +140,8 @@ impl IntegerType {
         width: u32,
         signedness: Signedness,
     ) -> Result<TypedHandle<IntegerType>, Memory>
-        ensures ok { IfOk result (λ h. IsInstantiated (C.types ctx.old) (integer signedness width) h (C.types ctx.new)) }
+        ensures ok { IfOk result (λ h. IsInstantiated (C.types ctx.old) (integer signedness width) h
+            (C.types ctx.new)) }
         ensures err { OnErr result (C.types ctx.new ≡ C.types ctx.old) }
         ensures rest { C.same_besides ctx.old ctx.new }
     {

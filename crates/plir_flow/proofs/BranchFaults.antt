@@ -3,14 +3,14 @@ use Rattle.std.proofs.Common.{ℕ, List}
 use Rattle.plir_data.specs.Types.{TypeView}
 use Rattle.plir_core.specs.declared.ptr.Ptr.{Ptr}
 use Rattle.plir_core.specs.declared.ptr.Operation.{Operation as OperationKind}
-use Rattle.plir_core.specs.Store.{Store}
+use Rattle.plir_core.specs.ContextView.{ContextView}
 use Rattle.plir_flow.specs.declared.branch_errors.BranchOpInterfaceVerifyErr.{BranchOpInterfaceVerifyErr}
 use Rattle.plir_flow.specs.declared.branch_errors.BranchOpInterfaceVerifyErr.TheVariants.{Layout, SuccessorOperandsMismatch, SuccessorOperandTypeMismatch}
 use Rattle.plir_flow.specs.declared.branch_errors.Mismatch.{Mismatch}
 use Rattle.plir_flow.specs.declared.branch_errors.Mismatch.TheVariants.{Count, Differ}
 use Rattle.plir_flow.specs.Branches.{Range, IsFirstMismatch, TellsMismatch, IsBranchFault}
 
-module _ {K A T E : Type 0} (own_id : T → List ℕ) (own_body : List (TypeView T) → T → List ℕ) (s : Store K A T) where
+module _ {K A T E : Type 0} (own_id : T → List ℕ) (own_body : List (TypeView T) → T → List ℕ) (s : ContextView K A T) where
   no-layout : (m : Mismatch) (e : E) → TellsMismatch own_id own_body s m (Layout e) → ⊥
   no-layout (Count p x) e t = t
   no-layout (Differ i f x) e t = t

@@ -11,7 +11,7 @@ use Rattle.plir_core.specs.declared.ptr.Ptr.{Ptr}
 use Rattle.plir_core.specs.declared.ptr.Operation.{Operation as OperationKind}
 use Rattle.plir_core.specs.declared.value.Value.{Value}
 use Rattle.plir_store.specs.Members.{Has, Distinct}
-use Rattle.plir_core.specs.Store.{Store}
+use Rattle.plir_core.specs.ContextView.{ContextView}
 use Rattle.plir_flow.specs.declared.edge_ends.RegionBranchPoint.{RegionBranchPoint}
 use Rattle.plir_flow.specs.declared.edge_ends.RegionSuccessor.{RegionSuccessor}
 use Rattle.plir_flow.specs.declared.edge_ends.RegionSuccessor.TheVariants.{Region as ToRegion, After}
@@ -154,12 +154,12 @@ firsts-all es n head w long d e hd he same v =
     (λ h. (q.1.1.2 v).0 ((s v).1 h), λ h. (s v).0 ((q.1.1.2 v).1 h))
 
 -- faults
-module _ {K A T : Type 0} (s : Store K A T) (op : Ptr OperationKind) (p : RegionBranchPoint) where
+module _ {K A T : Type 0} (s : ContextView K A T) (op : Ptr OperationKind) (p : RegionBranchPoint) where
   pub no-receiver : (t : RegionSuccessor) (f : Flow) → (IsReceiver s op t f.1 → ⊥) → IsFlowBroken s op p t f (no_receiver t)
   no-receiver (ToRegion r) f n = (refl, n)
   no-receiver After f n = (refl, n)
 
-module _ {K A T : Type 0} (is_terminator : K → Bool) (s : Store K A T) (op : Ptr OperationKind) (e : EdgeView) (f : Flow) (here : Has e.flows f) where
+module _ {K A T : Type 0} (is_terminator : K → Bool) (s : ContextView K A T) (op : Ptr OperationKind) (e : EdgeView) (f : Flow) (here : Has e.flows f) where
   pub flow-breaks : (x : EdgeFault) → IsFlowBroken s op e.from e.to f x → IsBrokenAt is_terminator s op e x
   flow-breaks OtherReceivers b = absurd b
   flow-breaks ForeignTerminator b = absurd b
@@ -171,7 +171,7 @@ module _ {K A T : Type 0} (is_terminator : K → Bool) (s : Store K A T) (op : P
   flow-breaks ReceivedTwice b = absurd b
   flow-breaks (OtherType t u) b = (f, (here, b))
 
-pub edge-breaks : {K A T : Type 0} (is_terminator : K → Bool) (s : Store K A T) (op : Ptr OperationKind) (es : List EdgeView) (e : EdgeView) → Has es e → (x : EdgeFault) → IsBrokenAt is_terminator s op e x
+pub edge-breaks : {K A T : Type 0} (is_terminator : K → Bool) (s : ContextView K A T) (op : Ptr OperationKind) (es : List EdgeView) (e : EdgeView) → Has es e → (x : EdgeFault) → IsBrokenAt is_terminator s op e x
     → IsBroken is_terminator s op es x
 edge-breaks t s op es e here OtherReceivers b = absurd b
 edge-breaks t s op es e here ForeignTerminator b = (e, (here, b))
@@ -200,7 +200,7 @@ twice {A} {B} g (x ∷ xs) (suc i) d h k w = elim k [
     mapped (y ∷ ys) zero b = inl refl
     mapped (y ∷ ys) (suc j) b = inr (mapped ys j (omega arith))
 
-module _ {K A T : Type 0} (is_terminator : K → Bool) (s : Store K A T) (op : Ptr OperationKind) where
+module _ {K A T : Type 0} (is_terminator : K → Bool) (s : ContextView K A T) (op : Ptr OperationKind) where
   pub edge-told : (es : List EdgeView) (e : EdgeView) (r : Option EdgeFault) → Has es e → EdgeSays is_terminator s op e r → IfSome r (IsBroken is_terminator s op es)
   edge-told es e None here told = tt
   edge-told es e (Some x) here told = edge-breaks is_terminator s op es e here x told

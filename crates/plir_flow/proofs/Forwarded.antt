@@ -9,7 +9,7 @@ use Rattle.plir_core.specs.declared.ptr.Ptr.{Ptr}
 use Rattle.plir_core.specs.declared.ptr.Operation.{Operation as OperationKind}
 use Rattle.plir_core.specs.declared.ptr.BasicBlock.{BasicBlock as BasicBlockKind}
 use Rattle.plir_core.specs.declared.value.Value.{Value}
-use Rattle.plir_core.specs.Store.{Store, operands_of, arg_types_of, type_of_value}
+use Rattle.plir_core.specs.ContextView.{ContextView, operands_of, arg_types_of, type_of_value}
 use Rattle.plir_iface.specs.Sides.{type_in}
 use Rattle.plir_flow.specs.Branches.{operands_within, types_within, argument_types}
 
@@ -29,7 +29,7 @@ module _ {X : Type 0} where
   pub get-range : (xs : List X) (a b k : ℕ) → a + k < b → slice_get (slice_range xs a b) k ≡ slice_get xs (a + k)
   get-range xs a b k h = get-take (b - a) (drop a xs) k (omega arith) ∙ get-drop a xs k
 
-module _ {K A T : Type 0} (s : Store K A T) where
+module _ {K A T : Type 0} (s : ContextView K A T) where
   module _ (op : Ptr OperationKind) (a b : ℕ) where
     pub count-within : b ≤ length (operands_of s op) → length (types_within s op (a, b)) ≡ b - a
     count-within inside = length-map (operands_within s op (a, b)) (type_of_value s) ∙ length-between (operands_of s op) a b inside

@@ -11,7 +11,7 @@ use Rattle.plir_core.specs.declared.ptr.Ptr.{Ptr}
 use Rattle.plir_core.specs.declared.ptr.Region.{Region as RegionKind}
 use Rattle.plir_store.specs.Members.{Has}
 use Rattle.plir_flow.specs.declared.hops.Hop.{Hop}
-use Rattle.plir_core.specs.Store.{Store}
+use Rattle.plir_core.specs.ContextView.{ContextView}
 use Rattle.plir_store.specs.MemberLaws.{Has-append_left}
 use Rattle.plir_flow.specs.declared.edge_ends.RegionSuccessor.TheVariants.{Region as ToRegion}
 use Rattle.plir_flow.specs.RegionEdges.{EdgeView, IsFromRegion, IsStep, IsStepOn}
@@ -190,7 +190,7 @@ module _ (hops : List Hop) (r : Ptr RegionKind) where
         )
 
 -- an edge more
-module _ {K A T : Type 0} (s : Store K A T) (es : List EdgeView) (e : EdgeView) (a b : Ptr RegionKind) where
+module _ {K A T : Type 0} (s : ContextView K A T) (es : List EdgeView) (e : EdgeView) (a b : Ptr RegionKind) where
   pub steps-more : (IsStep s es a b ⊎ IsStepOn s e a b) ↔ IsStep s (es ++ e ∷ []) a b
   steps-more = (
     λ h. elim h [

@@ -6,14 +6,14 @@ use Rattle.plir_core.specs.declared.ptr.Ptr.{Ptr}
 use Rattle.plir_core.specs.declared.ptr.Region.{Region as RegionKind}
 use Rattle.plir_core.specs.declared.ptr.IRNode.TheVariants.{Region}
 use Rattle.plir_store.specs.Members.{Has}
-use Rattle.plir_core.specs.Store.{Store, IsLive, IsValueLive}
+use Rattle.plir_core.specs.ContextView.{ContextView, IsLive, IsValueLive}
 use Rattle.plir_flow.specs.declared.edge_ends.RegionSuccessor.{RegionSuccessor}
 use Rattle.plir_flow.specs.declared.edge_ends.RegionSuccessor.TheVariants.{Region as ToRegion, After}
 use Rattle.plir_flow.specs.RegionEdges.{EdgeView, Flow, IsUseLive, IsFlowLive, IsEdgeLive, IsSuccessorLive, flows_on, reads_on, receivers_on, regions_on, region_in, AreEdgesLive, IsStep, Reach}
 use Rattle.plir_flow.proofs.TakenLists.{mapped-all, each-has, each-from-has}
 use Rattle.plir_flow.proofs.Reaching.{led-by}
 
-module _ {K A T : Type 0} (s : Store K A T) where
+module _ {K A T : Type 0} (s : ContextView K A T) where
   pub reads-live : (e : EdgeView) → IsEdgeLive s e → All (IsUseLive s) (reads_on e)
   reads-live e w = w.reads
 

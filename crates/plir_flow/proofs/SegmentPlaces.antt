@@ -6,7 +6,7 @@ use Rattle.std.proofs.lemmas.Option.{slice_get-map, none-some}
 use Rattle.plir_data.specs.Types.{TypeView}
 use Rattle.plir_core.specs.declared.ptr.Ptr.{Ptr}
 use Rattle.plir_core.specs.declared.ptr.Operation.{Operation as OperationKind}
-use Rattle.plir_core.specs.Store.{Store, operands_of, type_of_value}
+use Rattle.plir_core.specs.ContextView.{ContextView, operands_of, type_of_value}
 use Rattle.plir_iface.specs.Counts.{operand_types}
 use Rattle.plir_iface.specs.Sides.{type_in}
 use Rattle.plir_iface.specs.TypeRules.{Passes, EachPasses, FailsFirst, IsFirstFailing, IsBetween}
@@ -14,7 +14,7 @@ use Rattle.plir_flow.specs.Segments.{segment_at, segments_of, segment_size, num_
 use Rattle.plir_flow.specs.SegmentTypes.{segment_types, FailsFirstIn}
 use Rattle.plir_flow.proofs.SegmentsPut.{size-is, value-is}
 
-module _ {K A T : Type 0} (s : Store K A T) (op : Ptr OperationKind) (n : ℕ) (w : IsSegmented s op) (below : n < num_segments s op) where
+module _ {K A T : Type 0} (s : ContextView K A T) (op : Ptr OperationKind) (n : ℕ) (w : IsSegmented s op) (below : n < num_segments s op) where
   abbrev start : ℕ
   start = start_in (sizes_of s op) n
 

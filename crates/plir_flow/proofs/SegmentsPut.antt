@@ -11,7 +11,7 @@ use Rattle.plir_core.specs.declared.ptr.Operation.{Operation as OperationKind}
 use Rattle.plir_core.specs.declared.ptr.IRNode.TheVariants.{Operation}
 use Rattle.plir_core.specs.declared.value.Value.{Value}
 use Rattle.plir_core.specs.Contents.{OpView}
-use Rattle.plir_core.specs.Store.{Store, IsLive, is_live, op_at, kind_in, results_in, successors_in, location_in, operands_in, operands_of, attributes_in, attributes_of}
+use Rattle.plir_core.specs.ContextView.{ContextView, IsLive, is_live, op_at, kind_in, results_in, successors_in, location_in, operands_in, operands_of, attributes_in, attributes_of}
 use Rattle.plir_core.specs.Changes.{with_op_edit}
 use Rattle.plir_core.specs.Held.{IsOpEdited}
 use Rattle.plir_flow.specs.Segments.{in_segments, flatten, segment_at, edit_at, start_in, sizes_in, sizes_key, sizes_attr, with_sizes, sizes_under, sizes_of, segments_of, segment_size}
@@ -25,7 +25,7 @@ sum-lengths [] = refl
 sum-lengths (seg ∷ segs) = sum-cons (length seg) (map length segs) ∙ ap (λ n. length seg + n) (sum-lengths segs) ∙ sym (length-append seg (flatten segs))
 
 -- what is held by an operation that has come to have segments
-module _ {K A T : Type 0} (s t : Store K A T) (op : Ptr OperationKind) (segs : List (List Value)) (live : IsLive s (Operation op)) (is : t ≡ with_segments s op segs)
+module _ {K A T : Type 0} (s t : ContextView K A T) (op : Ptr OperationKind) (segs : List (List Value)) (live : IsLive s (Operation op)) (is : t ≡ with_segments s op segs)
     (edited : IsOpEdited s (with_segments s op segs) op (in_op segs)) where
   held : (o : Option (OpView K A)) → op_at s op ≡ o → (is_some o && (version_at s.nodes.ops op.slot == op.version)) ≡ true → (o : OpView K A) × ((op_at t op ≡ Some (in_op segs o)) × (op_at s op ≡ Some o))
   held None e l = absurd (let z : ⊥ = cc (l) in z)
@@ -59,9 +59,9 @@ module _ {K A T : Type 0} (s t : Store K A T) (op : Ptr OperationKind) (segs : L
         attributes = λ k other. ap (λ z. dict_get (attributes_in z) k) h.1.0 ∙ get-other h.0.attributes sizes_key k (sizes_attr (map length segs)) other ∙ ap (λ z. dict_get (attributes_in z) k) (sym h.1.1);
       }
 
-module _ {K A T : Type 0} (s : Store K A T) (op : Ptr OperationKind) where
+module _ {K A T : Type 0} (s : ContextView K A T) (op : Ptr OperationKind) where
   -- an edit of the operands keeps the sizes
-  pub sizes-kept : (t : Store K A T) (f : List Value → List Value) → t ≡ with_op_edit s op (λ o. record o { operands = f o.operands })
+  pub sizes-kept : (t : ContextView K A T) (f : List Value → List Value) → t ≡ with_op_edit s op (λ o. record o { operands = f o.operands })
       → IsOpEdited s (with_op_edit s op (λ o. record o { operands = f o.operands })) op (λ o. record o { operands = f o.operands })
       → sizes_under t op ≡ sizes_under s op
   sizes-kept t f is edited = ap (λ es. option_and_then sizes_in (dict_get es sizes_key)) (ap (λ z. attributes_of z op) is ∙ ap attributes_in edited.held ∙ by (op_at s op))
@@ -74,11 +74,11 @@ module _ {K A T : Type 0} (s : Store K A T) (op : Ptr OperationKind) where
       by (Some v) = refl
 
   -- and it leaves the operation live
-  pub live-kept : (t : Store K A T) (f : OpView K A → OpView K A) → t ≡ with_op_edit s op f → IsOpEdited s (with_op_edit s op f) op f → IsLive s (Operation op) → IsLive t (Operation op)
+  pub live-kept : (t : ContextView K A T) (f : OpView K A → OpView K A) → t ≡ with_op_edit s op f → IsOpEdited s (with_op_edit s op f) op f → IsLive s (Operation op) → IsLive t (Operation op)
   live-kept t f is edited live = ap (λ z. is_live z (Operation op)) is ∙ edited.keeps.live (Operation op) ∙ live
 
   -- an edit of the operands and one of the sizes
-  pub put-together : (t u : Store K A T) (f : List Value → List Value) (ns : List ℕ) (segs : List (List Value)) → Join s op → Same s op
+  pub put-together : (t u : ContextView K A T) (f : List Value → List Value) (ns : List ℕ) (segs : List (List Value)) → Join s op → Same s op
       → f (operands_of s op) ≡ flatten segs → ns ≡ map length segs
       → t ≡ with_op_edit s op (λ o. record o { operands = f o.operands }) → u ≡ with_op_edit t op (with_sizes (sizes_attr ns)) → u ≡ with_segments s op segs
   put-together t u f ns segs join same values sizes first second =
@@ -141,7 +141,7 @@ module _ {K A T : Type 0} (s : Store K A T) (op : Ptr OperationKind) where
         ∙ value-at i k (segments_of s op) (omega (arith, count-is)) (omega (arith, size-is i))
 
 -- The rule holds after an edit of a segment, if the number that is expected doesn't depend on the segments.
-module _ {K A T : Type 0} (s t : Store K A T) (op : Ptr OperationKind) (expected : Store K A T → Option ℕ) where
+module _ {K A T : Type 0} (s t : ContextView K A T) (op : Ptr OperationKind) (expected : ContextView K A T → Option ℕ) where
   pub rule-kept : ((segs : List (List Value)) → IsResegmented s t op segs → expected t ≡ expected s) → HasSegments (expected s) s op
       → (i : ℕ) (f : List Value → List Value) → IsResegmented s t op (edit_at i f (segments_of s op)) → HasSegments (expected t) t op
   rule-kept kept rule i f r =
@@ -154,8 +154,8 @@ module _ {K A T : Type 0} (s t : Store K A T) (op : Ptr OperationKind) (expected
       }
 
 -- The same, over an operation that is named otherwise.
-module _ {K A T : Type 0} (s : Store K A T) (op : Ptr OperationKind) (expected : Store K A T → Option ℕ) (kept : IsKeptBySegments expected op) where
-  pub rule-after : IsLive s (Operation op) → HasSegments (expected s) s op → (i : ℕ) (f : List Value → List Value) (t : Store K A T) (o : Ptr OperationKind) → o ≡ op
+module _ {K A T : Type 0} (s : ContextView K A T) (op : Ptr OperationKind) (expected : ContextView K A T → Option ℕ) (kept : IsKeptBySegments expected op) where
+  pub rule-after : IsLive s (Operation op) → HasSegments (expected s) s op → (i : ℕ) (f : List Value → List Value) (t : ContextView K A T) (o : Ptr OperationKind) → o ≡ op
       → IsResegmented s t o (edit_at i f (segments_of s o)) → HasSegments (expected t) t op
   rule-after live rule i f t o e r =
       rule-kept s t op expected (λ segs edited. kept s t segs live edited) rule i f (subst (λ z. IsResegmented s t z (edit_at i f (segments_of s z))) e r)

@@ -13,12 +13,12 @@ use Rattle.plir_core.specs.declared.ptr.Ptr.{Ptr}
 use Rattle.plir_core.specs.declared.ptr.Operation.{Operation as OperationKind}
 use Rattle.plir_core.specs.declared.ptr.IRNode.TheVariants.{Operation}
 use Rattle.plir_core.specs.Contents.{OpView}
-use Rattle.plir_core.specs.Store.{Store, IsLive, op_at, attributes_in, attributes_of}
+use Rattle.plir_core.specs.ContextView.{ContextView, IsLive, op_at, attributes_in, attributes_of}
 use Rattle.plir_core.specs.Changes.{with_op_edit}
 use Rattle.plir_core.specs.Held.{IsOpEdited}
 use Rattle.plir_flow.specs.Segments.{sizes_key, with_sizes}
 
-module _ {K A T : Type 0} (s : Store K A T) (op : Ptr OperationKind) where
+module _ {K A T : Type 0} (s : ContextView K A T) (op : Ptr OperationKind) where
   -- two edits of the operation are one, and an edit is what it makes of what is held
   abbrev pub Join : Type 0
   Join = (f g : OpView K A → OpView K A) → with_op_edit (with_op_edit s op f) op g ≡ with_op_edit s op (λ o. g (f o))
@@ -27,7 +27,7 @@ module _ {K A T : Type 0} (s : Store K A T) (op : Ptr OperationKind) where
   Same = (f g : OpView K A → OpView K A) → ((o : OpView K A) → op_at s op ≡ Some o → f o ≡ g o) → with_op_edit s op f ≡ with_op_edit s op g
 
   -- of two attributes put under the key of sizes the second stays
-  pub sizes-again : (t u : Store K A T) (a b : AttrView A) → Join → Same → t ≡ with_op_edit s op (with_sizes a) → u ≡ with_op_edit t op (with_sizes b) → u ≡ with_op_edit s op (with_sizes b)
+  pub sizes-again : (t u : ContextView K A T) (a b : AttrView A) → Join → Same → t ≡ with_op_edit s op (with_sizes a) → u ≡ with_op_edit t op (with_sizes b) → u ≡ with_op_edit s op (with_sizes b)
   sizes-again t u a b join same first second =
       second
       ∙ ap (λ z. with_op_edit z op (with_sizes b)) first
@@ -35,7 +35,7 @@ module _ {K A T : Type 0} (s : Store K A T) (op : Ptr OperationKind) where
       ∙ same (λ o. with_sizes b (with_sizes a o)) (with_sizes b) (λ o h. ap (λ es. record o { attributes = es }) (put-put o.attributes sizes_key a b))
 
   -- and something stands there
-  pub sizes-there : (t : Store K A T) (a : AttrView A) → IsLive s (Operation op) → t ≡ with_op_edit s op (with_sizes a) → IsOpEdited s (with_op_edit s op (with_sizes a)) op (with_sizes a)
+  pub sizes-there : (t : ContextView K A T) (a : AttrView A) → IsLive s (Operation op) → t ≡ with_op_edit s op (with_sizes a) → IsOpEdited s (with_op_edit s op (with_sizes a)) op (with_sizes a)
       → IsSome (dict_get (attributes_of t op) sizes_key)
   sizes-there t a live is edited = go (op_at s op) refl live (ap (λ z. op_at z op) is ∙ edited.held)
     where

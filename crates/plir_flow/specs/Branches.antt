@@ -12,8 +12,9 @@ use Rattle.plir_core.specs.declared.ptr.Operation.{Operation as OperationKind}
 use Rattle.plir_core.specs.declared.ptr.BasicBlock.{BasicBlock as BasicBlockKind}
 use Rattle.plir_core.specs.declared.ptr.IRNode.TheVariants.{Operation}
 use Rattle.plir_core.specs.declared.value.Value.{Value}
-use Rattle.plir_core.specs.Store.{Store, IsLive, op_at, block_at, kind_of, result_types_of, operands_of, successors_of}
-use Rattle.plir_core.specs.Store.{attributes_of, location_of, arg_types_of, type_of_value}
+use Rattle.plir_core.specs.ContextView.{ContextView, IsLive, op_at, block_at, kind_of, result_types_of, operands_of}
+use Rattle.plir_core.specs.ContextView.{successors_of}
+use Rattle.plir_core.specs.ContextView.{attributes_of, location_of, arg_types_of, type_of_value}
 use Rattle.plir_core.specs.Changes.{with_op_edit}
 use Rattle.plir_core.specs.Held.{KeepsNodes}
 use Rattle.plir_iface.specs.Verdict.{IsRefusal, IsRefusalMemoryAside}
@@ -55,56 +56,56 @@ IsMismatch given wanted (Differ i forwarded expected) =
     (forwarded ≢ expected) × ((k : ℕ) → k < i → type_in given k ≡ type_in wanted k)
 
 module _ {K A T : Type 0} where
-  abbrev pub num_successors : Store K A T → Ptr OperationKind → ℕ
+  abbrev pub num_successors : ContextView K A T → Ptr OperationKind → ℕ
   num_successors s op = length (successors_of s op)
 
   -- the rule of the number of successors
-  abbrev pub HasNSuccs : ℕ → Store K A T → Ptr OperationKind → Type 0
+  abbrev pub HasNSuccs : ℕ → ContextView K A T → Ptr OperationKind → Type 0
   HasNSuccs n s op = num_successors s op ≡ n
 
   -- it is refused with the number that is asked for and the one that is there
-  abbrev pub BreaksNSuccs : ℕ → Store K A T → Ptr OperationKind → VerifyErr NSuccsVerifyErr → Type 0
+  abbrev pub BreaksNSuccs : ℕ → ContextView K A T → Ptr OperationKind → VerifyErr NSuccsVerifyErr → Type 0
   BreaksNSuccs n s op = IsRefusal s op (λ e. (e.0 ≡ n) × (e.1 ≡ num_successors s op))
 
   -- the operands in a range of places, and their types
-  abbrev pub operands_within : Store K A T → Ptr OperationKind → Range → List Value
+  abbrev pub operands_within : ContextView K A T → Ptr OperationKind → Range → List Value
   operands_within s op r = slice_range (operands_of s op) r.0 r.1
 
-  abbrev pub types_within : Store K A T → Ptr OperationKind → Range → List (Option ℕ)
+  abbrev pub types_within : ContextView K A T → Ptr OperationKind → Range → List (Option ℕ)
   types_within s op r = map (type_of_value s) (operands_within s op r)
 
   -- the types of a block's arguments
-  abbrev pub argument_types : Store K A T → Ptr BasicBlockKind → List (Option ℕ)
+  abbrev pub argument_types : ContextView K A T → Ptr BasicBlockKind → List (Option ℕ)
   argument_types s b = map Some (arg_types_of s b)
 
   -- The types of the operands in the successor's range are, as a list, those of the block's arguments.
-  abbrev pub AgreesAt : Store K A T → Ptr OperationKind → (forwards : ℕ → Range) → ℕ → Type 0
+  abbrev pub AgreesAt : ContextView K A T → Ptr OperationKind → (forwards : ℕ → Range) → ℕ → Type 0
   AgreesAt s op forwards i = (b : Ptr BasicBlockKind) → slice_get (successors_of s op) i ≡ Some b →
       types_within s op (forwards i) ≡ argument_types s b
 
   -- each successor gets values of the types of its arguments
-  abbrev pub AgreesThroughout : Store K A T → Ptr OperationKind → (forwards : ℕ → Range) → Type 0
+  abbrev pub AgreesThroughout : ContextView K A T → Ptr OperationKind → (forwards : ℕ → Range) → Type 0
   AgreesThroughout s op forwards = (i : ℕ) → i < num_successors s op → AgreesAt s op forwards i
 
   -- The rule: the layout is right, and this.
-  abbrev pub HasBranchRule : (layout : Type 0) → Store K A T → Ptr OperationKind → (forwards : ℕ → Range) → Type 0
+  abbrev pub HasBranchRule : (layout : Type 0) → ContextView K A T → Ptr OperationKind → (forwards : ℕ → Range) → Type 0
   HasBranchRule layout s op forwards = layout × AgreesThroughout s op forwards
 
   -- a successor is the first whose types do not agree, and this is how
-  abbrev pub IsFirstMismatch : Store K A T → Ptr OperationKind → (forwards : ℕ → Range) → Mismatch → Type 0
+  abbrev pub IsFirstMismatch : ContextView K A T → Ptr OperationKind → (forwards : ℕ → Range) → Mismatch → Type 0
   IsFirstMismatch s op forwards m =
       (i : ℕ) × ((b : Ptr BasicBlockKind) × ((slice_get (successors_of s op) i ≡ Some b) ×
       IsMismatch (types_within s op (forwards i)) (argument_types s b) m ×
       ((k : ℕ) → k < i → AgreesAt s op forwards k)))
 
   -- the types that a mismatch names are types of the context
-  abbrev pub NamesLive : Store K A T → Mismatch → Type 0
+  abbrev pub NamesLive : ContextView K A T → Mismatch → Type 0
   NamesLive s (Count provided expected) = Unit {0}
   NamesLive s (Differ i forwarded expected) = IsTypeLive s.types forwarded × IsTypeLive s.types expected
 
   -- What an error tells of a mismatch: its numbers, or the texts of its types.
   abbrev pub TellsMismatch : {E : Type 0} → (own_id : T → List ℕ) (own_body : List (TypeView T) → T → List ℕ) →
-      Store K A T → Mismatch → BranchOpInterfaceVerifyErr E → Type 0
+      ContextView K A T → Mismatch → BranchOpInterfaceVerifyErr E → Type 0
   TellsMismatch own_id own_body s (Count p x) (SuccessorOperandsMismatch provided expected) = (provided ≡ p) ×
       (expected ≡ x)
   TellsMismatch own_id own_body s (Differ i f x) (SuccessorOperandTypeMismatch idx forwarded expected) =
@@ -116,7 +117,7 @@ module _ {K A T : Type 0} where
   -- do not agree.
   abbrev pub IsBranchFault : {E : Type 0} → (layout : Type 0) (layout_refusal : E → Type 0) (own_id : T → List ℕ)
       (own_body : List (TypeView T) → T → List ℕ)
-      → Store K A T → Ptr OperationKind → (forwards : ℕ → Range) → BranchOpInterfaceVerifyErr E → Type 0
+      → ContextView K A T → Ptr OperationKind → (forwards : ℕ → Range) → BranchOpInterfaceVerifyErr E → Type 0
   IsBranchFault layout layout_refusal own_id own_body s op forwards (Layout e) = (layout → ⊥) × layout_refusal e
   IsBranchFault layout layout_refusal own_id own_body s op forwards e = layout ×
       ((m : Mismatch) × (IsFirstMismatch s op forwards m × TellsMismatch own_id own_body s m e))
@@ -124,7 +125,8 @@ module _ {K A T : Type 0} where
   -- From s to t an operation has come to have these operands; what its successor i gets has become `values`, what the
   -- others get is the same, and beside the attributes under these keys, which tell of the layout, nothing else has
   -- changed.
-  pub record IsReforwarded (s t : Store K A T) (op : Ptr OperationKind) (keys : List (List ℕ)) (old new : ℕ → Range)
+  pub record IsReforwarded (s t : ContextView K A T) (op : Ptr OperationKind) (keys : List (List ℕ))
+      (old new : ℕ → Range)
       (i : ℕ) (operands values : List Value) : Type 0 where
     pub keeps : KeepsNodes s t
     pub ops : (q : Ptr OperationKind) → IsLive s (Operation q) → (q ≡ op → ⊥) → op_at t q ≡ op_at s q
@@ -141,7 +143,8 @@ module _ {K A T : Type 0} where
 
   -- Its successor i gets one more value, behind the others; or one less, that for its argument at a place. What it
   -- forwards is a function of the context.
-  module _ (keys : List (List ℕ)) (forwards : Store K A T → ℕ → Range) (s t : Store K A T) (op : Ptr OperationKind)
+  module _ (keys : List (List ℕ)) (forwards : ContextView K A T → ℕ → Range) (s t : ContextView K A T)
+      (op : Ptr OperationKind)
       (i : ℕ) where
     abbrev pub IsForwardedMore : Value → Type 0
     IsForwardedMore v =
@@ -154,13 +157,13 @@ module _ {K A T : Type 0} where
         (remove (operands_within s op (forwards s i)) place)
 
   -- from s to t another value has come in the place of an operand, and nothing else has changed
-  abbrev pub IsOperandReplaced : (s t : Store K A T) → Ptr OperationKind → ℕ → Value → Type 0
+  abbrev pub IsOperandReplaced : (s t : ContextView K A T) → Ptr OperationKind → ℕ → Value → Type 0
   IsOperandReplaced s t op i v = t ≡ with_op_edit s op (λ o. record o { operands = slice_set o.operands i v })
 
 -- the refusal of a branch, at the operation's location; or memory was refused
 abbrev pub BreaksBranchRule : {D K A T E : Type 0} → op_set.Ghosts D K A T E →
-    (layout : Store K A T → Type 0) (tells : Store K A T → E → Type 0)
-    → (forwards : Store K A T → ℕ → Range) → Store K A T → Ptr OperationKind →
+    (layout : ContextView K A T → Type 0) (tells : ContextView K A T → E → Type 0)
+    → (forwards : ContextView K A T → ℕ → Range) → ContextView K A T → Ptr OperationKind →
     VerifyErr (BranchOpInterfaceVerifyErr E) → Type 0
 BreaksBranchRule o layout tells forwards s op = IsRefusalMemoryAside s op
     (IsBranchFault (layout s) (tells s) o.type_id o.type_body_text s op (forwards s))

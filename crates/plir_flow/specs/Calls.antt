@@ -7,7 +7,7 @@ use Rattle.plir_data.specs.Types.{TypeView, IsMarked, signature_of}
 use Rattle.plir_data.specs.declared.location.VerifyErr.{VerifyErr}
 use Rattle.plir_core.specs.declared.ptr.Ptr.{Ptr}
 use Rattle.plir_core.specs.declared.ptr.Operation.{Operation as OperationKind}
-use Rattle.plir_core.specs.Store.{Store, IsValueLive, attributes_of}
+use Rattle.plir_core.specs.ContextView.{ContextView, IsValueLive, attributes_of}
 use Rattle.plir_core.specs.Changes.{with_op_edit}
 use Rattle.plir_iface.specs.Verdict.{IsRefusal}
 use Rattle.plir_flow.specs.declared.calls.CallOpCallable.{CallOpCallable}
@@ -26,15 +26,15 @@ has_signature own_signature t = is_some (signature_of own_signature t)
 
 module _ {K A T : Type 0} where
   -- the type that stands under the key, if an attribute of a type does
-  abbrev pub callee_type_of : Store K A T → Ptr OperationKind → Option ℕ
+  abbrev pub callee_type_of : ContextView K A T → Ptr OperationKind → Option ℕ
   callee_type_of s op = option_and_then type_in_attr (dict_get (attributes_of s op) callee_type_key)
 
   -- what is called is a live value, where it is a value
-  abbrev pub IsCalleeLive : Store K A T → CallOpCallable → Type 0
+  abbrev pub IsCalleeLive : ContextView K A T → CallOpCallable → Type 0
   IsCalleeLive s (Direct name) = Unit {0}
   IsCalleeLive s (Indirect v) = IsValueLive s v
 
-  module _ (is_function : TypeView T → Bool) (s : Store K A T) (op : Ptr OperationKind) where
+  module _ (is_function : TypeView T → Bool) (s : ContextView K A T) (op : Ptr OperationKind) where
     -- the type is there, and is one of functions
     abbrev pub IsFunctionType : Option ℕ → Type 0
     IsFunctionType None = ⊥
@@ -55,6 +55,6 @@ module _ {K A T : Type 0} where
     BreaksCalleeType = IsRefusal s op IsCallFault
 
   -- the attribute of a type has come under the key
-  abbrev pub with_callee_type : Store K A T → Ptr OperationKind → ℕ → Store K A T
+  abbrev pub with_callee_type : ContextView K A T → Ptr OperationKind → ℕ → ContextView K A T
   with_callee_type s op t = with_op_edit s op (λ o. record o
       { attributes = dict_put o.attributes callee_type_key (leaf (type_of t)) })

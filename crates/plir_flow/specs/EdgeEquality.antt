@@ -5,7 +5,7 @@ use Rattle.std.specs.Prelude.{nat_eq}
 use Rattle.std.specs.Bool.{Decides}
 use Rattle.std.specs.Cmp.{IsEquivalence, decided, unsigned_Decides}
 use Rattle.std.specs.Cmp.Lexicographic.{pointwise, pointwise_decides}
-use Rattle.plir_core.specs.declared.operand_uses.Use.{Use}
+use Rattle.plir_core.specs.declared.uses.Use.{Use}
 use Rattle.plir_core.specs.declared.value.Value.{Value}
 use Rattle.plir_core.specs.SameValue.{same_ptr, same_value, both, ptr-exact, none, value-exact}
 use Rattle.plir_flow.specs.RegionEdges.{EdgeView, Flow}

@@ -5,9 +5,9 @@ use Rattle.plir_core.specs.declared.ptr.Ptr.{Ptr}
 use Rattle.plir_core.specs.declared.ptr.Region.{Region as RegionKind}
 use Rattle.plir_core.specs.declared.ptr.IRNode.TheVariants.{Operation, Region}
 use Rattle.plir_core.specs.declared.value.Value.{Value}
-use Rattle.plir_core.specs.declared.operand_uses.Use.{Use}
+use Rattle.plir_core.specs.declared.uses.Use.{Use}
 use Rattle.plir_store.specs.Members.{Has}
-use Rattle.plir_core.specs.Store.{Store, IsLive, IsValueLive, operands_of, region_above}
+use Rattle.plir_core.specs.ContextView.{ContextView, IsLive, IsValueLive, operands_of, region_above}
 use Rattle.plir_flow.specs.Paths.{LeadsTo}
 use Rattle.plir_flow.specs.Taken.{AreThose}
 use Rattle.plir_flow.specs.declared.edge_ends.RegionBranchPoint.{RegionBranchPoint}
@@ -60,7 +60,7 @@ abbrev pub AreOperandsInto : Value → List EdgeView → List (Use Value) → Ty
 AreOperandsInto v es us = (those : List Flow) × (AreThose (IsInto v) (flat_map flows_on es) those ×
     (us ≡ map (λ f. f.0) those))
 
-module _ {K A T : Type 0} (s : Store K A T) where
+module _ {K A T : Type 0} (s : ContextView K A T) where
   -- a terminator whose parent region this is stands at the start
   abbrev pub IsPointIn : Ptr RegionKind → RegionBranchPoint → Type 0
   IsPointIn r Parent = ⊥

@@ -15,10 +15,11 @@ use Rattle.plir_core.specs.declared.ptr.IRNode.TheVariants.{Operation, Region}
 use Rattle.plir_core.specs.declared.value.Value.{Value}
 use Rattle.plir_core.specs.declared.value.DefiningEntity.{DefiningEntity}
 use Rattle.plir_core.specs.declared.value.DefiningEntity.TheVariants.{Op, Block}
-use Rattle.plir_core.specs.declared.operand_uses.Use.{Use}
+use Rattle.plir_core.specs.declared.uses.Use.{Use}
 use Rattle.plir_store.specs.Members.{Has, Distinct}
-use Rattle.plir_core.specs.Store.{Store, entity_node, first_kid, kind_of, op_above, operands_of, parent_of}
-use Rattle.plir_core.specs.Store.{type_of_value}
+use Rattle.plir_core.specs.ContextView.{ContextView, entity_node, first_child, kind_of, op_above, operands_of}
+use Rattle.plir_core.specs.ContextView.{parent_of}
+use Rattle.plir_core.specs.ContextView.{type_of_value}
 use Rattle.plir_core.specs.Terminator.{is_terminator_kind}
 use Rattle.plir_flow.specs.declared.edge_ends.RegionBranchPoint.{RegionBranchPoint}
 use Rattle.plir_flow.specs.declared.edge_ends.RegionBranchPoint.TheVariants.{Parent, Terminator}
@@ -63,7 +64,7 @@ abbrev pub source_at : Ptr OperationKind → RegionBranchPoint → Ptr Operation
 source_at op Parent = op
 source_at op (Terminator t) = t
 
-module _ {K A T : Type 0} (is_terminator : K → Bool) (s : Store K A T) (op : Ptr OperationKind) where
+module _ {K A T : Type 0} (is_terminator : K → Bool) (s : ContextView K A T) (op : Ptr OperationKind) where
   -- a terminator at the start is of a kind of terminators, and stands in a region of the operation itself
   abbrev pub IsOwnPoint : RegionBranchPoint → Type 0
   IsOwnPoint Parent = Unit {0}
@@ -79,7 +80,7 @@ abbrev pub IsArgument : DefiningEntity → Type 0
 IsArgument (Block b) = Unit {0}
 IsArgument (Op o) = ⊥
 
-module _ {K A T : Type 0} (s : Store K A T) (op : Ptr OperationKind) where
+module _ {K A T : Type 0} (s : ContextView K A T) (op : Ptr OperationKind) where
   -- a region at the end is one of the operation itself
   abbrev pub IsOwnSuccessor : RegionSuccessor → Type 0
   IsOwnSuccessor (ToRegion r) = parent_of s (Region r) ≡ Some (Operation op)
@@ -87,7 +88,7 @@ module _ {K A T : Type 0} (s : Store K A T) (op : Ptr OperationKind) where
 
   -- the value is an argument of the region's entry block, or behind the operation a result of it
   abbrev pub IsReceiver : RegionSuccessor → Value → Type 0
-  IsReceiver (ToRegion r) v = IsArgument v.entity × (first_kid s (Region r) ≡ Some (entity_node v.entity))
+  IsReceiver (ToRegion r) v = IsArgument v.entity × (first_child s (Region r) ≡ Some (entity_node v.entity))
   IsReceiver After v = v.entity ≡ Op op
 
 -- the fault of a value that may not receive at the end of an edge
@@ -96,15 +97,16 @@ no_receiver (ToRegion r) = NoArgument
 no_receiver After = NoResult
 
 -- the type of the operand at a use
-abbrev pub type_of_use : {K A T : Type 0} → Store K A T → Use Value → Option ℕ
+abbrev pub type_of_use : {K A T : Type 0} → ContextView K A T → Use Value → Option ℕ
 type_of_use s u = option_and_then (type_of_value s) (slice_get (operands_of s u.op) u.index)
 
 -- a fault names the types of the operand at a use and of what receives it, and they are two
-abbrev pub IsOfOtherType : {K A T : Type 0} → Store K A T → Use Value → Value → EdgeFault → Type 0
+abbrev pub IsOfOtherType : {K A T : Type 0} → ContextView K A T → Use Value → Value → EdgeFault → Type 0
 IsOfOtherType s u v (OtherType x y) = (type_of_use s u ≡ Some x) × (type_of_value s v ≡ Some y) × (x ≡ y → ⊥)
 IsOfOtherType s u v _ = ⊥
 
-module _ {K A T : Type 0} (s : Store K A T) (op : Ptr OperationKind) (p : RegionBranchPoint) (t : RegionSuccessor) where
+module _ {K A T : Type 0} (s : ContextView K A T) (op : Ptr OperationKind) (p : RegionBranchPoint)
+    (t : RegionSuccessor) where
   -- What flows on an edge is an operand of the operation at its start, and goes to a receiver at its end, of the same
   -- type.
   pub record IsFlowRight (f : Flow) : Type 0 where
@@ -120,7 +122,7 @@ module _ {K A T : Type 0} (s : Store K A T) (op : Ptr OperationKind) (p : Region
   IsFlowBroken f (OtherType x y) = IsOfOtherType s f.0 f.1 (OtherType x y)
   IsFlowBroken f _ = ⊥
 
-module _ {K A T : Type 0} (is_terminator : K → Bool) (s : Store K A T) (op : Ptr OperationKind) where
+module _ {K A T : Type 0} (is_terminator : K → Bool) (s : ContextView K A T) (op : Ptr OperationKind) where
   -- The points of the rule that speak of one edge, in their order.
   pub record IsEdgeRight (e : EdgeView) : Type 0 where
     pub from : IsOwnPoint is_terminator s op e.from
@@ -150,12 +152,13 @@ module _ {K A T : Type 0} (is_terminator : K → Bool) (s : Store K A T) (op : P
 
 -- What flows is right and goes to none of those that have received, and now its receiver is the last of these; or it
 -- breaks the point that the fault names, or goes to one of those.
-abbrev pub FlowSays : {K A T : Type 0} → Store K A T → Ptr OperationKind → RegionBranchPoint → RegionSuccessor → Flow →
+abbrev pub FlowSays : {K A T : Type 0} → ContextView K A T → Ptr OperationKind → RegionBranchPoint → RegionSuccessor
+    → Flow →
     (received now : List Value) → Option EdgeFault → Type 0
 FlowSays s op p t f received now None = IsFlowRight s op p t f × (Has received f.1 → ⊥) × (now ≡ received ++ f.1 ∷ [])
 FlowSays s op p t f received now (Some x) = IsFlowBroken s op p t f x ⊎ ((x ≡ ReceivedTwice) × Has received f.1)
 
-module _ {K A T : Type 0} (is_terminator : K → Bool) (s : Store K A T) (op : Ptr OperationKind) where
+module _ {K A T : Type 0} (is_terminator : K → Bool) (s : ContextView K A T) (op : Ptr OperationKind) where
   -- what flows on an edge is right, or the edge breaks the point that the fault names
   abbrev pub FlowsSay : EdgeView → Option EdgeFault → Type 0
   FlowsSay e None = All (IsFlowRight s op e.from e.to) e.flows × Distinct (receivers_on e)
@@ -189,11 +192,12 @@ abbrev pub first_place : {S : Type 0} → HashMap (Option (Ptr RegionKind)) ℕ 
 first_place m t = get (option_eq same_region) m (target_region t)
 
 -- the types that a fault names are types of the context
-abbrev pub NamesLive : {K A T : Type 0} → Store K A T → EdgeFault → Type 0
+abbrev pub NamesLive : {K A T : Type 0} → ContextView K A T → EdgeFault → Type 0
 NamesLive s (OtherType t u) = IsTypeLive s.types t × IsTypeLive s.types u
 NamesLive s _ = Unit {0}
 
-module _ {K A T E : Type 0} (own_id : T → List ℕ) (own_body : List (TypeView T) → T → List ℕ) (s : Store K A T) where
+module _ {K A T E : Type 0} (own_id : T → List ℕ) (own_body : List (TypeView T) → T → List ℕ)
+    (s : ContextView K A T) where
   -- What an error tells of a fault: the point, and the texts of the types.
   abbrev pub TellsFault : EdgeFault → RegionBranchOpInterfaceVerifyErr E → Type 0
   TellsFault OtherReceivers ReceiverSetMismatch = Unit {0}
@@ -222,8 +226,8 @@ module _ {K A T E : Type 0} (own_id : T → List ℕ) (own_body : List (TypeView
 
 -- the refusal of region edges, at the operation's location; or memory was refused
 abbrev pub BreaksEdgeRule : {D K A T E : Type 0} → op_set.Ghosts D K A T E →
-    (layout : Store K A T → Type 0) (tells : Store K A T → E → Type 0)
-    → (edges : Store K A T → List EdgeView) → Store K A T → Ptr OperationKind →
+    (layout : ContextView K A T → Type 0) (tells : ContextView K A T → E → Type 0)
+    → (edges : ContextView K A T → List EdgeView) → ContextView K A T → Ptr OperationKind →
     VerifyErr (RegionBranchOpInterfaceVerifyErr E) → Type 0
 BreaksEdgeRule o layout tells edges s op =
     IsRefusalMemoryAside s op (IsEdgeRefusal o.type_id o.type_body_text s o.is_terminator op (edges s) (layout s)

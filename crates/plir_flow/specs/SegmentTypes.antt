@@ -4,7 +4,7 @@ use Rattle.plir_data.specs.Types.{TypeView}
 use Rattle.plir_data.specs.declared.location.VerifyErr.{VerifyErr}
 use Rattle.plir_core.specs.declared.ptr.Ptr.{Ptr}
 use Rattle.plir_core.specs.declared.ptr.Operation.{Operation as OperationKind}
-use Rattle.plir_core.specs.Store.{Store, type_of_value}
+use Rattle.plir_core.specs.ContextView.{ContextView, type_of_value}
 use Rattle.plir_iface.specs.Sides.{type_in}
 use Rattle.plir_iface.specs.Counts.{operand_types}
 use Rattle.plir_iface.specs.Verdict.{IsRefusal, IsRefusalMemoryAside}
@@ -20,10 +20,10 @@ use Rattle.plir_flow.specs.declared.segment_types.SegmentNOfTypeError.TheVariant
 
 module _ {K A T : Type 0} where
   -- the types of the operands in a segment, in order; each is there, since operands are live
-  abbrev pub segment_types : Store K A T → Ptr OperationKind → ℕ → List (Option ℕ)
+  abbrev pub segment_types : ContextView K A T → Ptr OperationKind → ℕ → List (Option ℕ)
   segment_types s op n = map (type_of_value s) (segment_at (segments_of s op) n)
 
-  module _ (passes : TypeView T → Bool) (s : Store K A T) (op : Ptr OperationKind) (n : ℕ) where
+  module _ (passes : TypeView T → Bool) (s : ContextView K A T) (op : Ptr OperationKind) (n : ℕ) where
     -- The rules, each named after its interface: segment n is there, and all its types pass.
     abbrev pub HasSegmentNOfType : Type 0
     HasSegmentNOfType = (n < num_segments s op) × EachPasses passes s (segment_types s op n)

@@ -10,8 +10,9 @@ use Rattle.plir_core.specs.declared.ptr.Operation.{Operation as OperationKind}
 use Rattle.plir_core.specs.declared.ptr.IRNode.TheVariants.{Operation}
 use Rattle.plir_core.specs.declared.value.Value.{Value}
 use Rattle.plir_core.specs.Contents.{OpView}
-use Rattle.plir_core.specs.Store.{Store, IsLive, kind_of, result_types_of, operands_of, successors_of, attributes_of}
-use Rattle.plir_core.specs.Store.{location_of}
+use Rattle.plir_core.specs.ContextView.{ContextView, IsLive, kind_of, result_types_of, operands_of, successors_of}
+use Rattle.plir_core.specs.ContextView.{attributes_of}
+use Rattle.plir_core.specs.ContextView.{location_of}
 use Rattle.plir_core.specs.Changes.{with_op_edit}
 use Rattle.plir_core.specs.Held.{IsOpEdited}
 
@@ -71,35 +72,35 @@ IsCount (Some expected) n = n ≡ expected
 
 module _ {K A T : Type 0} where
   -- the sizes that stand under the key, if an attribute of sizes does
-  abbrev pub sizes_under : Store K A T → Ptr OperationKind → Option (List ℕ)
+  abbrev pub sizes_under : ContextView K A T → Ptr OperationKind → Option (List ℕ)
   sizes_under s op = option_and_then sizes_in (dict_get (attributes_of s op) sizes_key)
 
   -- the sizes of an operation's segments, and how many there are
-  abbrev pub sizes_of : Store K A T → Ptr OperationKind → List ℕ
+  abbrev pub sizes_of : ContextView K A T → Ptr OperationKind → List ℕ
   sizes_of s op = unwrap_or (sizes_under s op) []
 
-  abbrev pub num_segments : Store K A T → Ptr OperationKind → ℕ
+  abbrev pub num_segments : ContextView K A T → Ptr OperationKind → ℕ
   num_segments s op = length (sizes_of s op)
 
   -- the size of the segment at a place; past the last it is 0
-  abbrev pub segment_size : Store K A T → Ptr OperationKind → ℕ → ℕ
+  abbrev pub segment_size : ContextView K A T → Ptr OperationKind → ℕ → ℕ
   segment_size s op i = slice_index_or (sizes_of s op) i 0
 
   -- the places of the operands in a segment: the first, and the one behind the last
-  abbrev pub segment_places : Store K A T → Ptr OperationKind → ℕ → ℕ × ℕ
+  abbrev pub segment_places : ContextView K A T → Ptr OperationKind → ℕ → ℕ × ℕ
   segment_places s op i = (start_in (sizes_of s op) i, start_in (sizes_of s op) i + segment_size s op i)
 
   -- its operands in their segments
-  abbrev pub segments_of : Store K A T → Ptr OperationKind → List (List Value)
+  abbrev pub segments_of : ContextView K A T → Ptr OperationKind → List (List Value)
   segments_of s op = in_segments (sizes_of s op) (operands_of s op)
 
   -- The sizes are there, and their sum, a whole number, is the number of operands.
-  pub record IsSegmented (s : Store K A T) (op : Ptr OperationKind) : Type 0 where
+  pub record IsSegmented (s : ContextView K A T) (op : Ptr OperationKind) : Type 0 where
     pub present : IsSome (sizes_under s op)
     pub total : sum (sizes_of s op) ≡ length (operands_of s op)
 
   -- The rule: this, and there are as many segments as are expected.
-  pub record HasSegments (expected : Option ℕ) (s : Store K A T) (op : Ptr OperationKind) : Type 0 where
+  pub record HasSegments (expected : Option ℕ) (s : ContextView K A T) (op : Ptr OperationKind) : Type 0 where
     pub segmented : IsSegmented s op
     pub count : IsCount expected (num_segments s op)
 
@@ -117,11 +118,11 @@ in_op segs o = record o {
 
 module _ {K A T : Type 0} where
   -- an operation has come to have these segments
-  abbrev pub with_segments : Store K A T → Ptr OperationKind → List (List Value) → Store K A T
+  abbrev pub with_segments : ContextView K A T → Ptr OperationKind → List (List Value) → ContextView K A T
   with_segments s op segs = with_op_edit s op (in_op segs)
 
   -- From s to t an operation has come to have these segments, and nothing else has changed.
-  pub record IsResegmented (s t : Store K A T) (op : Ptr OperationKind) (segs : List (List Value)) : Type 0 where
+  pub record IsResegmented (s t : ContextView K A T) (op : Ptr OperationKind) (segs : List (List Value)) : Type 0 where
     pub after : t ≡ with_segments s op segs
     pub edited : IsOpEdited s t op (in_op segs)
     pub segmented : IsSegmented t op
@@ -141,20 +142,20 @@ module _ {K A T : Type 0} where
         dict_get (attributes_of t op) k ≡ dict_get (attributes_of s op) k
 
   -- a function of the context does not depend on the segments that an operation has, as long as the operation is live
-  abbrev pub IsKeptBySegments : {X : Type 0} → (Store K A T → X) → Ptr OperationKind → Type 0
-  IsKeptBySegments f op = (s t : Store K A T) (segs : List (List Value)) → IsLive s (Operation op) →
+  abbrev pub IsKeptBySegments : {X : Type 0} → (ContextView K A T → X) → Ptr OperationKind → Type 0
+  IsKeptBySegments f op = (s t : ContextView K A T) (segs : List (List Value)) → IsLive s (Operation op) →
       IsResegmented s t op segs → f t ≡ f s
 
   -- From s to t one segment of an operation has been edited, and beside the sizes nothing else has changed.
-  abbrev pub IsSegmentEdited : (s t : Store K A T) → Ptr OperationKind → ℕ → (List Value → List Value) → Type 0
+  abbrev pub IsSegmentEdited : (s t : ContextView K A T) → Ptr OperationKind → ℕ → (List Value → List Value) → Type 0
   IsSegmentEdited s t op seg f = IsResegmented s t op (edit_at seg f (segments_of s op))
 
   -- the value stands at a place of a segment
-  abbrev pub StandsInSegment : Store K A T → Ptr OperationKind → (seg place : ℕ) → Value → Type 0
+  abbrev pub StandsInSegment : ContextView K A T → Ptr OperationKind → (seg place : ℕ) → Value → Type 0
   StandsInSegment s op seg place v = slice_get (segment_at (segments_of s op) seg) place ≡ Some v
 
   -- Among the operands one more has come in at a place of a segment, or behind its last; or one has gone from there.
-  module _ (s t : Store K A T) (op : Ptr OperationKind) (seg : ℕ) where
+  module _ (s t : ContextView K A T) (op : Ptr OperationKind) (seg : ℕ) where
     abbrev pub IsOperandPutAt : (place : ℕ) → Value → Type 0
     IsOperandPutAt place v = operands_of t op ≡ insert (operands_of s op) ((segment_places s op seg).0 + place) v
 
@@ -169,29 +170,29 @@ module _ {K A T : Type 0} where
 
 module _ {K A T : Type 0} where
   -- from s to t a value is pushed to a segment, which there is
-  pub record IsPushed (s t : Store K A T) (op : Ptr OperationKind) (seg : ℕ) (v : Value) : Type 0 where
+  pub record IsPushed (s t : ContextView K A T) (op : Ptr OperationKind) (seg : ℕ) (v : Value) : Type 0 where
     pub segmented : IsSegmented s op
     pub below : seg < num_segments s op
     pub edited : IsSegmentEdited s t op seg (λ xs. xs ++ v ∷ [])
 
   -- from s to t the value that stood last in a segment is popped
-  pub record IsPopped (s t : Store K A T) (op : Ptr OperationKind) (seg : ℕ) (v : Value) : Type 0 where
+  pub record IsPopped (s t : ContextView K A T) (op : Ptr OperationKind) (seg : ℕ) (v : Value) : Type 0 where
     pub value : StandsInSegment s op seg (segment_size s op seg - 1) v
     pub edited : IsSegmentEdited s t op seg (λ xs. take (length xs - 1) xs)
 
   -- the operation has the same segments in s and in t
-  pub record HasSameSegments (s t : Store K A T) (op : Ptr OperationKind) : Type 0 where
+  pub record HasSameSegments (s t : ContextView K A T) (op : Ptr OperationKind) : Type 0 where
     pub segments : segments_of t op ≡ segments_of s op
     pub sizes : sizes_of t op ≡ sizes_of s op
     pub operands : operands_of t op ≡ operands_of s op
 
   -- once a value is pushed to a segment, the segment is there and not empty
-  abbrev pub CanBePopped : (s t : Store K A T) → Ptr OperationKind → Type 0
+  abbrev pub CanBePopped : (s t : ContextView K A T) → Ptr OperationKind → Type 0
   CanBePopped s t op = (seg : ℕ) (v : Value) → IsPushed s t op seg v → (seg < num_segments t op) ×
       (0 < segment_size t op seg)
 
   -- the value that is popped from a segment is the one that was pushed right before, and the segments are those before
   -- the push
-  abbrev pub PopsWhatWasPushed : (s t u : Store K A T) → Ptr OperationKind → Type 0
+  abbrev pub PopsWhatWasPushed : (s t u : ContextView K A T) → Ptr OperationKind → Type 0
   PopsWhatWasPushed s t u op = (seg : ℕ) (v w : Value) → IsPushed s t op seg v → IsPopped t u op seg w → (w ≡ v) ×
       HasSameSegments s u op

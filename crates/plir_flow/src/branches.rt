@@ -2,8 +2,8 @@
 ghost use Rattle.std.specs.Prelude.{◌≡◌, ◌↔◌, ◌<◌, ◌≤◌, ◌+◌, ◌-◌, ◌^◌, ℕ};
 ghost use Rattle.std.specs.Prelude.{Some, All, IsOk, IfOk, IfErr, OnOk, OnErr, length, slice_get};
 ghost use Rattle.plir_core.specs.declared.ptr.IRNode.{IRNode};
-ghost use Rattle.plir_core.specs.Store.{IsLive, IsValueLive, operands_of, successors_of};
-ghost use Rattle.plir_core.specs.Whole.{IsWhole};
+ghost use Rattle.plir_core.specs.ContextView.{IsLive, IsValueLive, operands_of, successors_of};
+ghost use Rattle.plir_core.specs.WellFormed.{IsWellFormed};
 ghost use Rattle.plir_flow.specs.Layout.{IsLayoutRefusal};
 ghost use Rattle.plir_flow.specs.Branches.{num_successors, HasNSuccs, BreaksNSuccs, KeepsSizes, operands_within};
 ghost use Rattle.plir_flow.specs.Branches.{HasBranchRule, BreaksBranchRule, IsForwardedMore, IsForwardedLess};
@@ -26,20 +26,20 @@ use std::ops::Range;
 /// of operands that are forwarded are a function of these two.
 pub trait BranchOpInterface<D: OpSet>: IsTerminatorInterface<D> {
     ghost use Rattle.std.specs.Prelude.{List};
-    ghost use Rattle.plir_core.specs.Store.{Store};
+    ghost use Rattle.plir_core.specs.ContextView.{ContextView};
     ghost use Rattle.plir_flow.specs.Branches.{Range as Places};
 
     // The operands stand as the operation wants them, and what a refusal tells where they don't.
-    ghost has_layout: { Self → Store D.Kind D.Attr D.Ty → Type 0 };
+    ghost has_layout: { Self → ContextView D.Kind D.Attr D.Ty → Type 0 };
 
-    ghost refuses_layout: { Self → Store D.Kind D.Attr D.Ty → D.Err → Type 0 };
+    ghost refuses_layout: { Self → ContextView D.Kind D.Attr D.Ty → D.Err → Type 0 };
 
     // The keys of the attributes that tell of the layout, as that of the sizes of segments, where they are kept: what
     // stands under these changes as values are added and taken out, and what stands under any other key doesn't.
     ghost layout_keys: { Self → List (List ℕ) };
 
     // The places of the operands that are forwarded to a successor.
-    ghost forwards: { Self → Store D.Kind D.Attr D.Ty → ℕ → Places };
+    ghost forwards: { Self → ContextView D.Kind D.Attr D.Ty → ℕ → Places };
 
     /// Accepts exactly where the operands stand as the operation wants them.
     fn verify_successor_operand_layout(
@@ -82,7 +82,7 @@ pub trait BranchOpInterface<D: OpSet>: IsTerminatorInterface<D> {
             (Self.pointer self.now) succ operand) }
         ensures layout { OnOk result (has_layout self.now ctx.new) }
         ensures err { OnErr result (ctx.new ≡ ctx.old) }
-        ensures whole { IsWhole D.attr_handles ctx.new };
+        ensures whole { IsWellFormed D.attr_handles ctx.new };
 
     /// Takes the value for the argument at a place, from 0, of a successor, from 0, out; those behind it move down.
     fn remove_successor_operand(&self, ctx: &mut Context<D>, succ: usize, arg: usize) -> Value
@@ -96,7 +96,7 @@ pub trait BranchOpInterface<D: OpSet>: IsTerminatorInterface<D> {
         ensures after { IsForwardedLess (layout_keys self.now) (forwards self.now) ctx.old ctx.new
             (Self.pointer self.now) succ arg }
         ensures layout { has_layout self.now ctx.new }
-        ensures whole { IsWhole D.attr_handles ctx.new };
+        ensures whole { IsWellFormed D.attr_handles ctx.new };
 
     /// The operands that are forwarded to a successor, from 0.
     final fn successor_operands(
@@ -111,7 +111,7 @@ pub trait BranchOpInterface<D: OpSet>: IsTerminatorInterface<D> {
         ensures value { IfOk result (λ vs. vs.items ≡ operands_within ctx.now (Self.pointer self.now)
             (forwards self.now ctx.now succ)) }
         ensures live { IfOk result (λ vs. All (IsValueLive ctx.now) vs.items) }
-        ensures whole { IsWhole D.attr_handles ctx.now }
+        ensures whole { IsWellFormed D.attr_handles ctx.now }
     {
         let range = self.successor_operand_range(ctx, succ);
         operands_in(alloc, ctx, self.get_operation(), range)
@@ -132,7 +132,7 @@ pub trait BranchOpInterface<D: OpSet>: IsTerminatorInterface<D> {
         requires operand_live { IsValueLive ctx.old operand }
         ensures after { IsOperandReplaced ctx.old ctx.new (Self.pointer self.now)
             ((forwards self.now ctx.old succ).0 + arg) operand }
-        ensures whole { IsWhole D.attr_handles ctx.new }
+        ensures whole { IsWellFormed D.attr_handles ctx.new }
     {
         let op = self.get_operation();
         let _count = op.get_num_operands(ctx);
@@ -152,7 +152,7 @@ pub trait BranchOpInterface<D: OpSet>: IsTerminatorInterface<D> {
             (forwards self.now ctx.now)) }
         ensures refused { IfErr result (BreaksBranchRule D.OpSet (has_layout self.now) (refuses_layout self.now)
             (forwards self.now) ctx.now (Self.pointer self.now)) }
-        ensures whole { IsWhole D.attr_handles ctx.now }
+        ensures whole { IsWellFormed D.attr_handles ctx.now }
     {
         let op = self.get_operation();
         let _live = op.is_live(ctx);
@@ -173,7 +173,7 @@ pub trait NSuccsInterface<D: OpSet, const N: usize>: BranchOpInterface<D> {
         requires { IsLive ctx.now (IRNode.Operation (Self.pointer self.now)) }
         ensures ok { IsOk result ↔ HasNSuccs N ctx.now (Self.pointer self.now) }
         ensures refused { IfErr result (BreaksNSuccs N ctx.now (Self.pointer self.now)) }
-        ensures whole { IsWhole D.attr_handles ctx.now }
+        ensures whole { IsWellFormed D.attr_handles ctx.now }
     {
         let op = self.get_operation();
         let found = op.get_num_successors(ctx);
@@ -186,7 +186,7 @@ pub trait NSuccsInterface<D: OpSet, const N: usize>: BranchOpInterface<D> {
         requires rule { HasNSuccs N ctx.now (Self.pointer self.now) }
         ensures value { slice_get (successors_of ctx.now (Self.pointer self.now)) i.entry ≡ Some result }
         ensures live { IsLive ctx.now (IRNode.BasicBlock result) }
-        ensures whole { IsWhole D.attr_handles ctx.now }
+        ensures whole { IsWellFormed D.attr_handles ctx.now }
     {
         self.get_operation().get_successor(ctx, i.i())
     }
@@ -199,7 +199,7 @@ pub trait OneSuccInterface<D: OpSet>: BranchOpInterface<D> {
         requires { IsLive ctx.now (IRNode.Operation (Self.pointer self.now)) }
         ensures ok { IsOk result ↔ HasNSuccs 1 ctx.now (Self.pointer self.now) }
         ensures refused { IfErr result (BreaksNSuccs 1 ctx.now (Self.pointer self.now)) }
-        ensures whole { IsWhole D.attr_handles ctx.now }
+        ensures whole { IsWellFormed D.attr_handles ctx.now }
     {
         let op = self.get_operation();
         let found = op.get_num_successors(ctx);
@@ -212,7 +212,7 @@ pub trait OneSuccInterface<D: OpSet>: BranchOpInterface<D> {
         requires rule { HasNSuccs 1 ctx.now (Self.pointer self.now) }
         ensures value { slice_get (successors_of ctx.now (Self.pointer self.now)) 0 ≡ Some result }
         ensures live { IsLive ctx.now (IRNode.BasicBlock result) }
-        ensures whole { IsWhole D.attr_handles ctx.now }
+        ensures whole { IsWellFormed D.attr_handles ctx.now }
     {
         self.get_operation().get_successor(ctx, 0)
     }

@@ -2,8 +2,8 @@
 ghost use Rattle.std.specs.Prelude.{◌≡◌, ◌↔◌, ◌≤◌, Some, All, IsOk, IsNone, IfSome, IfOk, IfErr, OnOk, OnErr, length};
 ghost use Rattle.plir_data.specs.Types.{IsLive as IsTypeLive};
 ghost use Rattle.plir_core.specs.declared.ptr.IRNode.{IRNode};
-ghost use Rattle.plir_core.specs.Store.{IsLive, IsValueLive, operands_of};
-ghost use Rattle.plir_core.specs.Whole.{IsWhole};
+ghost use Rattle.plir_core.specs.ContextView.{IsLive, IsValueLive, operands_of};
+ghost use Rattle.plir_core.specs.WellFormed.{IsWellFormed};
 ghost use Rattle.plir_flow.specs.Branches.{operands_within};
 ghost use Rattle.plir_flow.specs.Layout.{IsLayoutRefusal};
 ghost use Rattle.plir_flow.specs.Calls.{callee_type_of, with_callee_type};
@@ -57,7 +57,7 @@ fn find_callee_type<D: OpSet>(ctx: &Context<D>, op: Ptr<Operation>) -> Option<Ty
     requires { IsLive ctx.now (IRNode.Operation op) }
     ensures value { result ≡ callee_type_of ctx.now op }
     ensures live { IfSome result (IsTypeLive ctx.now.types) }
-    ensures whole { IsWhole D.attr_handles ctx.now }
+    ensures whole { IsWellFormed D.attr_handles ctx.now }
 {
     op.attributes(ctx).get(ATTR_KEY_CALLEE_TYPE)?.as_type()
 }
@@ -67,7 +67,7 @@ fn find_fault<D: OpSet>(ctx: &Context<D>, op: Ptr<Operation>) -> Option<CallOpIn
     requires { IsLive ctx.now (IRNode.Operation op) }
     ensures none { IsNone result ↔ HasCalleeType (has_signature D.function_sig) ctx.now op }
     ensures some { IfSome result (IsCallFault (has_signature D.function_sig) ctx.now op) }
-    ensures whole { IsWhole D.attr_handles ctx.now }
+    ensures whole { IsWellFormed D.attr_handles ctx.now }
 {
     let Some(ty) = find_callee_type(ctx, op) else {
         return Some(CallOpInterfaceErr::CalleeTypeAttrNotFoundErr);
@@ -89,7 +89,7 @@ fn put_callee_type<D: OpSet>(
     requires type_live { IsTypeLive ctx.old.types ty }
     ensures ok { OnOk result (ctx.new ≡ with_callee_type ctx.old op ty) }
     ensures err { OnErr result (ctx.new ≡ ctx.old) }
-    ensures whole { IsWhole D.attr_handles ctx.new }
+    ensures whole { IsWellFormed D.attr_handles ctx.new }
 {
     ctx.stands();
     match Identifier::try_new(alloc, ATTR_KEY_CALLEE_TYPE) {
@@ -105,19 +105,19 @@ fn put_callee_type<D: OpSet>(
 /// of the layout accepts exactly where a predicate of the context and the operation holds, memory aside; what is called
 /// and the range of the arguments are functions of these two.
 pub trait CallOpInterface<D: OpSet>: Op<D> {
-    ghost use Rattle.plir_core.specs.Store.{Store};
+    ghost use Rattle.plir_core.specs.ContextView.{ContextView};
     ghost use Rattle.plir_flow.specs.Branches.{Range as Places};
     ghost use Rattle.plir_flow.specs.declared.calls.CallOpCallable.{CallOpCallable as Callable};
 
     // The operands stand as the operation wants them, and what a refusal tells where they don't.
-    ghost has_call_layout: { Self → Store D.Kind D.Attr D.Ty → Type 0 };
+    ghost has_call_layout: { Self → ContextView D.Kind D.Attr D.Ty → Type 0 };
 
-    ghost refuses_call_layout: { Self → Store D.Kind D.Attr D.Ty → D.Err → Type 0 };
+    ghost refuses_call_layout: { Self → ContextView D.Kind D.Attr D.Ty → D.Err → Type 0 };
 
     // What is called, and the places of the operands that are its arguments.
-    ghost called: { Self → Store D.Kind D.Attr D.Ty → Callable };
+    ghost called: { Self → ContextView D.Kind D.Attr D.Ty → Callable };
 
-    ghost arguments: { Self → Store D.Kind D.Attr D.Ty → Places };
+    ghost arguments: { Self → ContextView D.Kind D.Attr D.Ty → Places };
 
     /// Accepts exactly where the operands stand as the operation wants them.
     fn verify_call_layout(&self, alloc: Global, ctx: &Context<D>) -> Result<(), VerifyErr<D::Err>>
@@ -149,7 +149,7 @@ pub trait CallOpInterface<D: OpSet>: Op<D> {
         ensures value { IfOk result (λ vs. vs.items ≡ operands_within ctx.now (Self.pointer self.now)
             (arguments self.now ctx.now)) }
         ensures live { IfOk result (λ vs. All (IsValueLive ctx.now) vs.items) }
-        ensures whole { IsWhole D.attr_handles ctx.now }
+        ensures whole { IsWellFormed D.attr_handles ctx.now }
     {
         operands_in(alloc, ctx, self.get_operation(), self.arg_range(ctx))
     }
@@ -160,7 +160,7 @@ pub trait CallOpInterface<D: OpSet>: Op<D> {
         requires rule { HasCalleeType (has_signature D.function_sig) ctx.now (Self.pointer self.now) }
         ensures value { callee_type_of ctx.now (Self.pointer self.now) ≡ Some result }
         ensures live { IsTypeLive ctx.now.types result }
-        ensures whole { IsWhole D.attr_handles ctx.now }
+        ensures whole { IsWellFormed D.attr_handles ctx.now }
     {
         find_callee_type(ctx, self.get_operation()).unwrap()
     }
@@ -176,7 +176,7 @@ pub trait CallOpInterface<D: OpSet>: Op<D> {
         requires type_live { IsTypeLive ctx.old.types ty }
         ensures ok { OnOk result (ctx.new ≡ with_callee_type ctx.old (Self.pointer self.now) ty) }
         ensures err { OnErr result (ctx.new ≡ ctx.old) }
-        ensures whole { IsWhole D.attr_handles ctx.new }
+        ensures whole { IsWellFormed D.attr_handles ctx.new }
     {
         put_callee_type(alloc, ctx, self.get_operation(), ty)
     }
@@ -187,7 +187,7 @@ pub trait CallOpInterface<D: OpSet>: Op<D> {
         ensures ok { IsOk result ↔ HasCalleeType (has_signature D.function_sig) ctx.now (Self.pointer self.now) }
         ensures refused { IfErr result (BreaksCalleeType (has_signature D.function_sig) ctx.now
             (Self.pointer self.now)) }
-        ensures whole { IsWhole D.attr_handles ctx.now }
+        ensures whole { IsWellFormed D.attr_handles ctx.now }
     {
         let op = self.get_operation();
         match find_fault(ctx, op) {

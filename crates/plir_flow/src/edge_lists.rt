@@ -1,7 +1,7 @@
 //! What stands on the edges of a list.
 ghost use Rattle.std.specs.Prelude.{◌≡◌, ◌↔◌, ◌++◌, List, [], IfOk, OnOk, IsTrue, map};
 ghost use Rattle.std.specs.List.{flat_map};
-ghost use Rattle.plir_core.specs.Whole.{IsWhole};
+ghost use Rattle.plir_core.specs.WellFormed.{IsWellFormed};
 ghost use Rattle.plir_flow.specs.Taken.{AreThose, IsOnceEach, AreTakenOnce};
 ghost use Rattle.plir_flow.specs.RegionEdges.{IsFrom, IsTo, IsPointIn, IsPointLive, IsFromRegion, AreEdgesLive};
 ghost use Rattle.plir_flow.specs.RegionEdges.{reads_on, receivers_on, regions_on, region_in};
@@ -101,7 +101,7 @@ pub(crate) fn receivers(alloc: Global, edges: &[RegionEdge]) -> Result<Vec<Value
 fn is_point_in<D: OpSet>(ctx: &Context<D>, point: RegionBranchPoint, region: Ptr<Region>) -> bool
     requires { IsPointLive ctx.now point }
     ensures value { IsTrue result ↔ IsPointIn ctx.now region point }
-    ensures whole { IsWhole D.attr_handles ctx.now }
+    ensures whole { IsWellFormed D.attr_handles ctx.now }
 {
     ctx.stands();
     match point {
@@ -122,7 +122,7 @@ fn add_reads_in<D: OpSet>(
     requires live { AreEdgesLive ctx.now edges.now }
     requires empty { seen.old.keys ≡ [] }
     ensures taken { OnOk result (AreTakenOnce (IsFromRegion ctx.now region) reads_on edges.now seen.new.keys) }
-    ensures whole { IsWhole D.attr_handles ctx.now }
+    ensures whole { IsWellFormed D.attr_handles ctx.now }
 {
     ctx.stands();
     for edge in edges {
@@ -143,7 +143,7 @@ pub(crate) fn reads_in<D: OpSet>(
 ) -> Result<Vec<Use<Value>>, Memory>
     requires { AreEdgesLive ctx.now edges.now }
     ensures taken { IfOk result (λ us. AreTakenOnce (IsFromRegion ctx.now region) reads_on edges.now us.items) }
-    ensures whole { IsWhole D.attr_handles ctx.now }
+    ensures whole { IsWellFormed D.attr_handles ctx.now }
 {
     ctx.stands();
     let mut seen = IndexSet::new(alloc);
@@ -172,7 +172,7 @@ fn add_regions_in<D: OpSet>(
     requires live { AreEdgesLive ctx.now edges.now }
     requires empty { seen.old.keys ≡ [] }
     ensures taken { OnOk result (AreTakenOnce (IsFromRegion ctx.now region) regions_on edges.now seen.new.keys) }
-    ensures whole { IsWhole D.attr_handles ctx.now }
+    ensures whole { IsWellFormed D.attr_handles ctx.now }
 {
     ctx.stands();
     for edge in edges {
@@ -193,7 +193,7 @@ pub(crate) fn regions_in<D: OpSet>(
 ) -> Result<Vec<Ptr<Region>>, Memory>
     requires { AreEdgesLive ctx.now edges.now }
     ensures taken { IfOk result (λ rs. AreTakenOnce (IsFromRegion ctx.now region) regions_on edges.now rs.items) }
-    ensures whole { IsWhole D.attr_handles ctx.now }
+    ensures whole { IsWellFormed D.attr_handles ctx.now }
 {
     ctx.stands();
     let mut seen = IndexSet::new(alloc);

@@ -1,8 +1,8 @@
 //! How the rule of region edges is refused.
 ghost use Rattle.std.specs.Prelude.{◌≡◌, IfErr, OnOk};
 ghost use Rattle.plir_core.specs.declared.ptr.IRNode.{IRNode};
-ghost use Rattle.plir_core.specs.Store.{IsLive};
-ghost use Rattle.plir_core.specs.Whole.{IsWhole};
+ghost use Rattle.plir_core.specs.ContextView.{IsLive};
+ghost use Rattle.plir_core.specs.WellFormed.{IsWellFormed};
 ghost use Rattle.plir_iface.specs.Verdict.{IsRefusalMemoryAside};
 ghost use Rattle.plir_flow.specs.RegionEdges.{AreEdgesLive};
 ghost use Rattle.plir_flow.specs.RegionRule.{HasEdgeRule, NamesLive, TellsFault, IsToldFault, in_edges};
@@ -25,7 +25,7 @@ fn tell<D: OpSet>(
     requires live { IsLive ctx.now (IRNode.Operation op) }
     requires names_live { NamesLive ctx.now fault }
     ensures told { IsRefusalMemoryAside ctx.now op (TellsFault D.type_id D.type_body_text ctx.now fault) result }
-    ensures whole { IsWhole D.attr_handles ctx.now }
+    ensures whole { IsWellFormed D.attr_handles ctx.now }
 {
     ctx.stands();
     let err = match fault {
@@ -62,7 +62,7 @@ pub(crate) fn verify_edges<D: OpSet>(
     ensures ok { OnOk result (HasEdgeRule D.is_terminator ctx.now op edges.now) }
     ensures refused { IfErr result (IsRefusalMemoryAside ctx.now op
         (IsToldFault D.type_id D.type_body_text ctx.now D.is_terminator op edges.now)) }
-    ensures whole { IsWhole D.attr_handles ctx.now }
+    ensures whole { IsWellFormed D.attr_handles ctx.now }
 {
     ctx.stands();
     match find_fault(alloc, ctx, op, edges) {

@@ -1,8 +1,8 @@
 //! Whether an edge is right, and which point it breaks.
 ghost use Rattle.std.specs.Prelude.{◌≡◌, ◌↔◌, ◌<◌, ◌+◌, [], All, IsTrue, IsNone, IfSome, IfOk, length};
 ghost use Rattle.std.specs.List.{HoldsAt};
-ghost use Rattle.plir_core.specs.Store.{IsValueLive, type_of_value};
-ghost use Rattle.plir_core.specs.Whole.{IsWhole};
+ghost use Rattle.plir_core.specs.ContextView.{IsValueLive, type_of_value};
+ghost use Rattle.plir_core.specs.WellFormed.{IsWellFormed};
 ghost use Rattle.plir_flow.specs.RegionEdges.{IsPointLive, IsSuccessorLive, IsFlowLive, IsUseLive, IsEdgeLive};
 ghost use Rattle.plir_flow.specs.RegionEdges.{AreEdgesLive};
 ghost use Rattle.plir_flow.specs.RegionRule.{source_at, type_of_use, no_receiver, IsOfOtherType, IsOwnPoint, IsOwnRead};
@@ -23,7 +23,7 @@ use std::collections::HashMap;
 fn is_own_point<D: OpSet>(ctx: &Context<D>, op: Ptr<Operation>, point: RegionBranchPoint) -> bool
     requires { IsPointLive ctx.now point }
     ensures value { IsTrue result ↔ IsOwnPoint D.is_terminator ctx.now op point }
-    ensures whole { IsWhole D.attr_handles ctx.now }
+    ensures whole { IsWellFormed D.attr_handles ctx.now }
 {
     ctx.stands();
     match point {
@@ -67,7 +67,7 @@ fn is_own_successor<D: OpSet>(
 ) -> bool
     requires { IsSuccessorLive ctx.now successor }
     ensures value { IsTrue result ↔ IsOwnSuccessor ctx.now op successor }
-    ensures whole { IsWhole D.attr_handles ctx.now }
+    ensures whole { IsWellFormed D.attr_handles ctx.now }
 {
     ctx.stands();
     match successor {
@@ -85,7 +85,7 @@ fn is_receiver<D: OpSet>(
 ) -> bool
     requires { IsSuccessorLive ctx.now successor }
     ensures value { IsTrue result ↔ IsReceiver ctx.now op successor receiver }
-    ensures whole { IsWhole D.attr_handles ctx.now }
+    ensures whole { IsWellFormed D.attr_handles ctx.now }
 {
     ctx.stands();
     match (successor, receiver.defining_entity()) {
@@ -118,7 +118,7 @@ fn find_type_fault<D: OpSet>(
     ensures none { IsNone result → type_of_use ctx.now operand ≡ type_of_value ctx.now receiver }
     ensures some { IfSome result (IsOfOtherType ctx.now operand receiver) }
     ensures live { IfSome result (NamesLive ctx.now) }
-    ensures whole { IsWhole D.attr_handles ctx.now }
+    ensures whole { IsWellFormed D.attr_handles ctx.now }
 {
     ctx.stands();
     let given = operand.get_def(ctx).get_type(ctx);
@@ -142,7 +142,7 @@ fn find_flow_fault<D: OpSet>(
     requires flow_live { IsFlowLive ctx.now flow }
     ensures told { IfOk result (FlowSays ctx.now op point successor flow received.old.keys received.new.keys) }
     ensures live { IfOk result (λ f. IfSome f (NamesLive ctx.now)) }
-    ensures whole { IsWhole D.attr_handles ctx.now }
+    ensures whole { IsWellFormed D.attr_handles ctx.now }
 {
     ctx.stands();
     let (operand, receiver) = flow;
@@ -169,7 +169,7 @@ fn find_flows_fault<D: OpSet>(
     requires empty { received.old.keys ≡ [] }
     ensures told { IfOk result (FlowsSay D.is_terminator ctx.now op edge.now) }
     ensures live { IfOk result (λ f. IfSome f (NamesLive ctx.now)) }
-    ensures whole { IsWhole D.attr_handles ctx.now }
+    ensures whole { IsWellFormed D.attr_handles ctx.now }
 {
     ctx.stands();
     for flow in &edge.flows {
@@ -191,7 +191,7 @@ pub(crate) fn find_edge_fault<D: OpSet>(
     requires { IsEdgeLive ctx.now edge.now }
     ensures told { IfOk result (EdgeSays D.is_terminator ctx.now op edge.now) }
     ensures live { IfOk result (λ f. IfSome f (NamesLive ctx.now)) }
-    ensures whole { IsWhole D.attr_handles ctx.now }
+    ensures whole { IsWellFormed D.attr_handles ctx.now }
 {
     ctx.stands();
     if !is_own_point(ctx, op, edge.from) {
@@ -224,7 +224,7 @@ fn find_fault_at<D: OpSet>(
     ensures right { IfOk result (λ f. IsNone f → HoldsAt (IsEdgeRight D.is_terminator ctx.now op) edges.now place) }
     ensures broken { IfOk result (λ f. IfSome f (IsBroken D.is_terminator ctx.now op edges.now)) }
     ensures live { IfOk result (λ f. IfSome f (NamesLive ctx.now)) }
-    ensures whole { IsWhole D.attr_handles ctx.now }
+    ensures whole { IsWellFormed D.attr_handles ctx.now }
 {
     ctx.stands();
     if !keeps_receivers(alloc, edges, place, firsts)? {
@@ -245,7 +245,7 @@ fn find_faults<D: OpSet>(
     requires firsts { AreFirsts edges.now 0 (first_place firsts.old) }
     ensures told { IfOk result (EdgesSay D.is_terminator ctx.now op edges.now) }
     ensures live { IfOk result (λ f. IfSome f (NamesLive ctx.now)) }
-    ensures whole { IsWhole D.attr_handles ctx.now }
+    ensures whole { IsWellFormed D.attr_handles ctx.now }
 {
     ctx.stands();
     for place in 0..edges.len() {
@@ -267,7 +267,7 @@ pub(crate) fn find_fault<D: OpSet>(
     requires { AreEdgesLive ctx.now edges.now }
     ensures told { IfOk result (EdgesSay D.is_terminator ctx.now op edges.now) }
     ensures live { IfOk result (λ f. IfSome f (NamesLive ctx.now)) }
-    ensures whole { IsWhole D.attr_handles ctx.now }
+    ensures whole { IsWellFormed D.attr_handles ctx.now }
 {
     let mut firsts = HashMap::new(alloc);
     find_faults(alloc, ctx, op, edges, &mut firsts)

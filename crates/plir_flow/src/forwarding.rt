@@ -1,8 +1,8 @@
 //! The values that a branch forwards, beside the arguments of the block that gets them.
 ghost use Rattle.std.specs.Prelude.{◌≡◌, ◌↔◌, ◌≤◌, Some, IsNone, IfSome, length};
 ghost use Rattle.plir_core.specs.declared.ptr.IRNode.{IRNode};
-ghost use Rattle.plir_core.specs.Store.{IsLive, operands_of};
-ghost use Rattle.plir_core.specs.Whole.{IsWhole};
+ghost use Rattle.plir_core.specs.ContextView.{IsLive, operands_of};
+ghost use Rattle.plir_core.specs.WellFormed.{IsWellFormed};
 ghost use Rattle.plir_iface.specs.Verdict.{IsRefusalMemoryAside};
 ghost use Rattle.plir_flow.specs.Branches.{types_within, argument_types, AgreesThroughout, IsMismatch};
 ghost use Rattle.plir_flow.specs.Branches.{IsFirstMismatch, NamesLive, TellsMismatch, in_branch};
@@ -30,7 +30,7 @@ fn find_mismatch<D: OpSet>(
     ensures some { IfSome result (IsMismatch (types_within ctx.now op (range.start, range.end))
         (argument_types ctx.now block)) }
     ensures live { IfSome result (NamesLive ctx.now) }
-    ensures whole { IsWhole D.attr_handles ctx.now }
+    ensures whole { IsWellFormed D.attr_handles ctx.now }
 {
     let _count = op.get_num_operands(ctx);
     let (start, end) = (range.start, range.end);
@@ -58,7 +58,7 @@ pub(crate) fn find_first_mismatch<D: OpSet, O: BranchOpInterface<D>>(
     ensures none { IsNone result ↔ AgreesThroughout ctx.now (O.pointer branch.now) (O.forwards branch.now ctx.now) }
     ensures some { IfSome result (IsFirstMismatch ctx.now (O.pointer branch.now) (O.forwards branch.now ctx.now)) }
     ensures live { IfSome result (NamesLive ctx.now) }
-    ensures whole { IsWhole D.attr_handles ctx.now }
+    ensures whole { IsWellFormed D.attr_handles ctx.now }
 {
     let op = branch.get_operation();
     for i in 0..op.get_num_successors(ctx) {
@@ -81,7 +81,7 @@ pub(crate) fn tell<D: OpSet>(
     requires live { IsLive ctx.now (IRNode.Operation op) }
     requires names_live { NamesLive ctx.now mismatch }
     ensures told { IsRefusalMemoryAside ctx.now op (TellsMismatch D.type_id D.type_body_text ctx.now mismatch) result }
-    ensures whole { IsWhole D.attr_handles ctx.now }
+    ensures whole { IsWellFormed D.attr_handles ctx.now }
 {
     ctx.stands();
     let err = match mismatch {

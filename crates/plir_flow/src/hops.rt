@@ -4,7 +4,7 @@ ghost use Rattle.std.specs.HashMap.{get};
 ghost use Rattle.plir_core.specs.declared.ptr.Ptr.{Ptr as PtrTo};
 ghost use Rattle.plir_core.specs.declared.ptr.Region.{Region as RegionKind};
 ghost use Rattle.plir_store.specs.Members.{Has, Distinct};
-ghost use Rattle.plir_core.specs.Whole.{IsWhole};
+ghost use Rattle.plir_core.specs.WellFormed.{IsWellFormed};
 ghost use Rattle.plir_flow.specs.Paths.{LeadsTo};
 ghost use Rattle.plir_flow.specs.RegionEdges.{AreEdgesLive, IsStep, IsStepOn, IsPointLive, Reach};
 ghost use Rattle.plir_flow.specs.Hops.{IsHop, AreLinked, AreHeads, IsReachedMore, same_region};
@@ -69,7 +69,7 @@ fn add_hop(
 fn step_of<D: OpSet>(ctx: &Context<D>, edge: &RegionEdge) -> Option<(Ptr<Region>, Ptr<Region>)>
     requires { IsPointLive ctx.now edge.now.from }
     ensures value { (a b : PtrTo RegionKind) → (result ≡ Some (a, b)) ↔ IsStepOn ctx.now edge.now a b }
-    ensures whole { IsWhole D.attr_handles ctx.now }
+    ensures whole { IsWellFormed D.attr_handles ctx.now }
 {
     ctx.stands();
     match (edge.from, edge.to) {
@@ -97,7 +97,7 @@ fn add_edge<D: OpSet>(
     ensures heads { OnOk result (AreHeads hops.new.items (get same_region heads.new)) }
     ensures more { OnOk result ((a b : PtrTo RegionKind) →
         IsHop hops.new.items a b ↔ (IsHop hops.old.items a b ⊎ IsStepOn ctx.now edge.now a b)) }
-    ensures whole { IsWhole D.attr_handles ctx.now }
+    ensures whole { IsWellFormed D.attr_handles ctx.now }
 {
     match step_of(ctx, edge) {
         None => Ok(()),
@@ -118,7 +118,7 @@ fn add_edges<D: OpSet>(
     ensures linked { OnOk result (AreLinked hops.new.items) }
     ensures heads { OnOk result (AreHeads hops.new.items (get same_region heads.new)) }
     ensures steps { OnOk result ((a b : PtrTo RegionKind) → IsHop hops.new.items a b ↔ IsStep ctx.now edges.now a b) }
-    ensures whole { IsWhole D.attr_handles ctx.now }
+    ensures whole { IsWellFormed D.attr_handles ctx.now }
 {
     ctx.stands();
     for edge in edges {
@@ -177,7 +177,7 @@ pub(crate) fn reachable<D: OpSet>(
     requires { AreEdgesLive ctx.now edges.now }
     ensures all { IfOk result (λ rs. (b : PtrTo RegionKind) → Has rs.items b ↔ Reach ctx.now edges.now start b) }
     ensures once { IfOk result (λ rs. Distinct rs.items) }
-    ensures whole { IsWhole D.attr_handles ctx.now }
+    ensures whole { IsWellFormed D.attr_handles ctx.now }
 {
     ctx.stands();
     let mut heads = HashMap::new(alloc);

@@ -4,7 +4,7 @@ ghost use Rattle.plir_core.specs.declared.ptr.IRNode.{IRNode};
 ghost use Rattle.plir_core.specs.declared.ptr.Operation.{Operation as OperationKind};
 ghost use Rattle.plir_core.specs.declared.ptr.Ptr.{Ptr as AnyPtr};
 ghost use Rattle.plir_core.specs.declared.value.Value.{Value as AnyValue};
-ghost use Rattle.plir_core.specs.Store.{Store, IsLive, operands_of, successors_of};
+ghost use Rattle.plir_core.specs.ContextView.{ContextView, IsLive, operands_of, successors_of};
 ghost use Rattle.plir_flow.specs.Branches.{num_successors, operands_within};
 ghost use Rattle.plir_flow.specs.EdgeEquality.{same_edge};
 ghost use Rattle.plir_flow.specs.RegionEdges.{EdgeView, Reach};
@@ -48,9 +48,9 @@ pub fn edits_of_one_segment()
 /// expect it.
 pub fn segments_keep_successors<D: OpSet>()
     ensures successors { (op : AnyPtr OperationKind) → IsKeptBySegments
-        (λ (s : Store D.Kind D.Attr D.Ty). successors_of s op) op }
+        (λ (s : ContextView D.Kind D.Attr D.Ty). successors_of s op) op }
     ensures one_for_each { (n : ℕ) (op : AnyPtr OperationKind) →
-        IsKeptBySegments (λ (s : Store D.Kind D.Attr D.Ty). Some (num_successors s op + n)) op }
+        IsKeptBySegments (λ (s : ContextView D.Kind D.Attr D.Ty). Some (num_successors s op + n)) op }
 {}
 
 /// The operands in a segment stand in a row among all operands.
@@ -70,8 +70,8 @@ pub fn segments_stand_in_a_row<D: OpSet>(ctx: &Context<D>, op: Ptr<Operation>)
 /// push. One wants it where the clause `ok` of `push_to_segment` leads from one state to a second, and the clauses
 /// `value` and `after` of `pop_from_segment` from there to a third. What was pushed to can be popped from.
 pub fn push_then_pop<D: OpSet>()
-    ensures filled { (s t : Store D.Kind D.Attr D.Ty) (op : AnyPtr OperationKind) → CanBePopped s t op }
-    ensures back { (s t u : Store D.Kind D.Attr D.Ty) (op : AnyPtr OperationKind) → PopsWhatWasPushed s t u op }
+    ensures filled { (s t : ContextView D.Kind D.Attr D.Ty) (op : AnyPtr OperationKind) → CanBePopped s t op }
+    ensures back { (s t u : ContextView D.Kind D.Attr D.Ty) (op : AnyPtr OperationKind) → PopsWhatWasPushed s t u op }
 {}
 
 /// Edges are equal exactly if they are the same.

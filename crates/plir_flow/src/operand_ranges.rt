@@ -1,8 +1,8 @@
 //! The operands at places in a row.
 ghost use Rattle.std.specs.Prelude.{◌≡◌, ◌≤◌, All, IfOk, length, slice_range};
 ghost use Rattle.plir_core.specs.declared.ptr.IRNode.{IRNode};
-ghost use Rattle.plir_core.specs.Store.{IsLive, IsValueLive, operands_of};
-ghost use Rattle.plir_core.specs.Whole.{IsWhole};
+ghost use Rattle.plir_core.specs.ContextView.{IsLive, IsValueLive, operands_of};
+ghost use Rattle.plir_core.specs.WellFormed.{IsWellFormed};
 
 use plir_core::{Context, Operation, Ptr, Value};
 use plir_data::{Memory, OpSet};
@@ -21,7 +21,7 @@ pub(crate) fn operands_in<D: OpSet>(
     requires inside { range.end ≤ length (operands_of ctx.now op) }
     ensures value { IfOk result (λ vs. vs.items ≡ slice_range (operands_of ctx.now op) range.start range.end) }
     ensures live { IfOk result (λ vs. All (IsValueLive ctx.now) vs.items) }
-    ensures whole { IsWhole D.attr_handles ctx.now }
+    ensures whole { IsWellFormed D.attr_handles ctx.now }
 {
     let _count = op.get_num_operands(ctx);
     let (start, end) = (range.start, range.end);

@@ -5,8 +5,8 @@ ghost use Rattle.plir_core.specs.declared.ptr.Ptr.{Ptr as PtrTo};
 ghost use Rattle.plir_core.specs.declared.ptr.Region.{Region as RegionKind};
 ghost use Rattle.plir_core.specs.declared.ptr.IRNode.{IRNode};
 ghost use Rattle.plir_store.specs.Members.{Has, Distinct};
-ghost use Rattle.plir_core.specs.Store.{IsLive, IsValueLive};
-ghost use Rattle.plir_core.specs.Whole.{IsWhole};
+ghost use Rattle.plir_core.specs.ContextView.{IsLive, IsValueLive};
+ghost use Rattle.plir_core.specs.WellFormed.{IsWellFormed};
 ghost use Rattle.plir_flow.specs.Taken.{AreThose, AreTakenOnce};
 ghost use Rattle.plir_flow.specs.Layout.{IsLayoutRefusal};
 ghost use Rattle.plir_flow.specs.RegionEdges.{IsFrom, IsTo, IsFromRegion, IsUseLive, IsFlowLive, AreEdgesLive};
@@ -37,16 +37,16 @@ use std::alloc::Global;
 /// they first come. All calls answer `Memory` only where a growth was refused.
 pub trait RegionBranchOpInterface<D: OpSet>: Op<D> {
     ghost use Rattle.std.specs.Prelude.{List as Several};
-    ghost use Rattle.plir_core.specs.Store.{Store};
+    ghost use Rattle.plir_core.specs.ContextView.{ContextView};
     ghost use Rattle.plir_flow.specs.RegionEdges.{EdgeView as Edge};
 
     // The operation stands as its edges want it, and what a refusal tells where it doesn't.
-    ghost has_edges_layout: { Self → Store D.Kind D.Attr D.Ty → Type 0 };
+    ghost has_edges_layout: { Self → ContextView D.Kind D.Attr D.Ty → Type 0 };
 
-    ghost refuses_edges_layout: { Self → Store D.Kind D.Attr D.Ty → D.Err → Type 0 };
+    ghost refuses_edges_layout: { Self → ContextView D.Kind D.Attr D.Ty → D.Err → Type 0 };
 
     // The edges.
-    ghost edges: { Self → Store D.Kind D.Attr D.Ty → Several Edge };
+    ghost edges: { Self → ContextView D.Kind D.Attr D.Ty → Several Edge };
 
     /// Accepts exactly where the operation stands as its edges want it.
     fn verify_region_edges_layout(
@@ -258,7 +258,7 @@ pub trait RegionBranchOpInterface<D: OpSet>: Op<D> {
             (edges self.now ctx.now)) }
         ensures refused { IfErr result (BreaksEdgeRule D.OpSet (has_edges_layout self.now)
             (refuses_edges_layout self.now) (edges self.now) ctx.now (Self.pointer self.now)) }
-        ensures whole { IsWhole D.attr_handles ctx.now }
+        ensures whole { IsWellFormed D.attr_handles ctx.now }
     {
         let op = self.get_operation();
         let _live = op.is_live(ctx);

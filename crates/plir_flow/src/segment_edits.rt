@@ -2,8 +2,8 @@
 ghost use Rattle.std.specs.Prelude.{◌≡◌, ◌<◌, ◌≤◌, ◌+◌, ◌-◌, ◌^◌, ◌∷◌, ◌++◌, [], Some, IfOk, OnOk, OnErr, insert};
 ghost use Rattle.std.specs.Prelude.{remove, take, length, slice_get};
 ghost use Rattle.plir_core.specs.declared.ptr.IRNode.{IRNode};
-ghost use Rattle.plir_core.specs.Store.{IsLive, IsValueLive, operands_of};
-ghost use Rattle.plir_core.specs.Whole.{IsWhole};
+ghost use Rattle.plir_core.specs.ContextView.{IsLive, IsValueLive, operands_of};
+ghost use Rattle.plir_core.specs.WellFormed.{IsWellFormed};
 ghost use Rattle.plir_flow.specs.Segments.{segment_at, edit_at, segments_of, num_segments, segment_size};
 ghost use Rattle.plir_flow.specs.Segments.{segment_places};
 ghost use Rattle.plir_flow.specs.Segments.{IsSegmented, IsResegmented, IsOperandPutAt};
@@ -30,7 +30,7 @@ pub(crate) fn insert_at<D: OpSet>(
         (edit_at seg (λ xs. insert xs place operand) (segments_of ctx.old op))) }
     ensures operands { OnOk result (IsOperandPutAt ctx.old ctx.new op seg place operand) }
     ensures err { OnErr result (ctx.new ≡ ctx.old) }
-    ensures whole { IsWhole D.attr_handles ctx.new }
+    ensures whole { IsWellFormed D.attr_handles ctx.new }
 {
     laws::op_edits_join(ctx, op);
     laws::op_edits_keep_the_rest(ctx, op);
@@ -56,7 +56,7 @@ pub(crate) fn remove_at<D: OpSet>(
     ensures after { IsResegmented ctx.old ctx.new op (edit_at seg (λ xs. remove xs place) (segments_of ctx.old op)) }
     ensures operands { operands_of ctx.new op ≡ remove (operands_of ctx.old op)
         ((segment_places ctx.old op seg).0 + place) }
-    ensures whole { IsWhole D.attr_handles ctx.new }
+    ensures whole { IsWellFormed D.attr_handles ctx.new }
 {
     laws::op_edits_join(ctx, op);
     laws::op_edits_keep_the_rest(ctx, op);
@@ -85,7 +85,7 @@ pub(crate) fn push_last<D: OpSet>(
     ensures operands { OnOk result (operands_of ctx.new op ≡ insert (operands_of ctx.old op)
         (segment_places ctx.old op seg).1 operand) }
     ensures err { OnErr result (ctx.new ≡ ctx.old) }
-    ensures whole { IsWhole D.attr_handles ctx.new }
+    ensures whole { IsWellFormed D.attr_handles ctx.new }
 {
     let size = size_of(ctx, op, seg) as usize;
     insert_at(ctx, op, seg, size, operand)?;
@@ -98,11 +98,13 @@ pub(crate) fn pop_last<D: OpSet>(ctx: &mut Context<D>, op: Ptr<Operation>, seg: 
     requires segmented { IsSegmented ctx.old op }
     requires below { seg < num_segments ctx.old op }
     requires filled { 0 < segment_size ctx.old op seg }
-    ensures value { slice_get (segment_at (segments_of ctx.old op) seg) (segment_size ctx.old op seg - 1) ≡ Some result }
+    ensures value { slice_get (segment_at (segments_of ctx.old op) seg) (segment_size ctx.old op seg - 1)
+        ≡ Some result }
     ensures after { IsResegmented ctx.old ctx.new op (edit_at seg (λ xs. take (length xs - 1) xs)
         (segments_of ctx.old op)) }
-    ensures operands { operands_of ctx.new op ≡ remove (operands_of ctx.old op) ((segment_places ctx.old op seg).1 - 1) }
-    ensures whole { IsWhole D.attr_handles ctx.new }
+    ensures operands { operands_of ctx.new op
+        ≡ remove (operands_of ctx.old op) ((segment_places ctx.old op seg).1 - 1) }
+    ensures whole { IsWellFormed D.attr_handles ctx.new }
 {
     let size = size_of(ctx, op, seg) as usize;
     remove_at(ctx, op, seg, size - 1)

@@ -4,8 +4,8 @@ ghost use Rattle.plir_data.specs.AttrSeen.{attr_view};
 ghost use Rattle.plir_data.specs.AttrView.{leaf, unit};
 ghost use Rattle.plir_data.specs.Dictionary.{dict_get};
 ghost use Rattle.plir_core.specs.declared.ptr.IRNode.{IRNode};
-ghost use Rattle.plir_core.specs.Store.{IsLive, operands_of, attributes_of};
-ghost use Rattle.plir_core.specs.Whole.{IsWhole};
+ghost use Rattle.plir_core.specs.ContextView.{IsLive, operands_of, attributes_of};
+ghost use Rattle.plir_core.specs.WellFormed.{IsWellFormed};
 ghost use Rattle.plir_core.specs.Changes.{with_op_edit};
 ghost use Rattle.plir_flow.specs.Segments.{sizes_in, sizes_under, sizes_of, sizes_key, sizes_attr, with_sizes};
 ghost use Rattle.plir_flow.specs.Segments.{num_segments, segment_size, segments_of, start_in, IsSegmented};
@@ -44,7 +44,7 @@ pub(crate) fn find_sizes<D: OpSet>(
 ) -> Option<&OperandSegmentSizesAttr>
     requires { IsLive ctx.now (IRNode.Operation op) }
     ensures value { option_map (λ sizes. sizes.now) result ≡ sizes_under ctx.now op }
-    ensures whole { IsWhole D.attr_handles ctx.now }
+    ensures whole { IsWellFormed D.attr_handles ctx.now }
 {
     let attribute = op.attributes(ctx).get(ATTR_KEY_OPERAND_SEGMENT_SIZES)?;
     sizes_in(attribute)
@@ -55,7 +55,7 @@ pub(crate) fn sizes_of<D: OpSet>(ctx: &Context<D>, op: Ptr<Operation>) -> &Opera
     requires live { IsLive ctx.now (IRNode.Operation op) }
     requires present { IsSome (sizes_under ctx.now op) }
     ensures value { result.now ≡ sizes_of ctx.now op }
-    ensures whole { IsWhole D.attr_handles ctx.now }
+    ensures whole { IsWellFormed D.attr_handles ctx.now }
 {
     find_sizes(ctx, op).unwrap()
 }
@@ -67,7 +67,7 @@ pub(crate) fn start_of<D: OpSet>(ctx: &Context<D>, op: Ptr<Operation>, seg: usiz
     requires within { seg ≤ num_segments ctx.now op }
     ensures value { result ≡ start_in (sizes_of ctx.now op) seg }
     ensures inside { result + segment_size ctx.now op seg ≤ length (operands_of ctx.now op) }
-    ensures whole { IsWhole D.attr_handles ctx.now }
+    ensures whole { IsWellFormed D.attr_handles ctx.now }
 {
     let _count = op.get_num_operands(ctx);
     let sizes = sizes_of(ctx, op).0.as_slice();
@@ -87,7 +87,7 @@ pub(crate) fn place_among<D: OpSet>(
     requires within { place ≤ segment_size ctx.now op seg }
     ensures value { result ≡ start_in (sizes_of ctx.now op) seg + place }
     ensures inside { result + segment_size ctx.now op seg ≤ length (operands_of ctx.now op) + place }
-    ensures whole { IsWhole D.attr_handles ctx.now }
+    ensures whole { IsWellFormed D.attr_handles ctx.now }
 {
     let _count = op.get_num_operands(ctx);
     start_of(ctx, op, seg) + place
@@ -98,7 +98,7 @@ pub(crate) fn size_of<D: OpSet>(ctx: &Context<D>, op: Ptr<Operation>, seg: usize
     requires live { IsLive ctx.now (IRNode.Operation op) }
     requires present { IsSome (sizes_under ctx.now op) }
     ensures value { result ≡ segment_size ctx.now op seg }
-    ensures whole { IsWhole D.attr_handles ctx.now }
+    ensures whole { IsWellFormed D.attr_handles ctx.now }
 {
     let sizes = sizes_of(ctx, op).0.as_slice();
     if seg < sizes.len() { sizes[seg] } else { 0 }
@@ -110,7 +110,7 @@ fn take_sizes<D: OpSet>(ctx: &mut Context<D>, op: Ptr<Operation>) -> OperandSegm
     requires present { IsSome (sizes_under ctx.old op) }
     ensures value { result ≡ sizes_of ctx.old op }
     ensures after { ctx.new ≡ with_op_edit ctx.old op (with_sizes (leaf unit)) }
-    ensures whole { IsWhole D.attr_handles ctx.new }
+    ensures whole { IsWellFormed D.attr_handles ctx.new }
 {
     match op.swap_attr(ctx, ATTR_KEY_OPERAND_SEGMENT_SIZES, AttrObj::Unit(UnitAttr)) {
         Ok(AttrObj::OperandSegmentSizes(sizes)) => sizes,
@@ -123,7 +123,7 @@ fn restore_sizes<D: OpSet>(ctx: &mut Context<D>, op: Ptr<Operation>, sizes: Oper
     requires live { IsLive ctx.old (IRNode.Operation op) }
     requires present { IsSome (dict_get (attributes_of ctx.old op) sizes_key) }
     ensures after { ctx.new ≡ with_op_edit ctx.old op (with_sizes (sizes_attr sizes)) }
-    ensures whole { IsWhole D.attr_handles ctx.new }
+    ensures whole { IsWellFormed D.attr_handles ctx.new }
 {
     let sizes = AttrObj::OperandSegmentSizes(sizes);
     let _placeholder = op.swap_attr(ctx, ATTR_KEY_OPERAND_SEGMENT_SIZES, sizes);
@@ -136,7 +136,7 @@ pub(crate) fn set_size<D: OpSet>(ctx: &mut Context<D>, op: Ptr<Operation>, seg: 
     requires below { seg < num_segments ctx.old op }
     ensures after { ctx.new ≡ with_op_edit ctx.old op (with_sizes
         (sizes_attr (slice_set (sizes_of ctx.old op) seg size))) }
-    ensures whole { IsWhole D.attr_handles ctx.new }
+    ensures whole { IsWellFormed D.attr_handles ctx.new }
 {
     laws::op_edits_join(ctx, op);
     laws::op_edits_keep_the_rest(ctx, op);
@@ -151,7 +151,7 @@ pub(crate) fn count_of<D: OpSet>(ctx: &Context<D>, op: Ptr<Operation>) -> usize
     requires present { IsSome (sizes_under ctx.now op) }
     ensures value { result ≡ num_segments ctx.now op }
     ensures count { result ≡ length (segments_of ctx.now op) }
-    ensures whole { IsWhole D.attr_handles ctx.now }
+    ensures whole { IsWellFormed D.attr_handles ctx.now }
 {
     sizes_of(ctx, op).0.len()
 }

@@ -1,8 +1,8 @@
 //! Interfaces of operations whose operands in one segment have a type that is asked for.
 ghost use Rattle.std.specs.Prelude.{◌↔◌, ◌<◌, IsOk, IfErr, IsNone, IfSome};
 ghost use Rattle.plir_core.specs.declared.ptr.IRNode.{IRNode};
-ghost use Rattle.plir_core.specs.Store.{IsLive};
-ghost use Rattle.plir_core.specs.Whole.{IsWhole};
+ghost use Rattle.plir_core.specs.ContextView.{IsLive};
+ghost use Rattle.plir_core.specs.WellFormed.{IsWellFormed};
 ghost use Rattle.plir_iface.specs.Counts.{num_operands};
 ghost use Rattle.plir_iface.specs.TypeRules.{EachPasses};
 ghost use Rattle.plir_iface.specs.Verdict.{IsRefusal};
@@ -45,7 +45,7 @@ fn find_misfit<D: OpSet, Q: TypeTest<D>>(
     ensures none { IsNone result ↔ EachPasses Q.passes ctx.now (segment_types ctx.now op seg) }
     ensures some { IfSome result (IsFirstFailingOperand Q.passes ctx.now op seg) }
     ensures below { IfSome result (λ p. p < num_operands ctx.now op) }
-    ensures whole { IsWhole D.attr_handles ctx.now }
+    ensures whole { IsWellFormed D.attr_handles ctx.now }
 {
     let size = size_of(ctx, op, seg) as usize;
     let (start, end) = (start_of(ctx, op, seg), place_among(ctx, op, seg, size));
@@ -63,7 +63,7 @@ fn verify_kind<D: OpSet, T: TypeMark<D>>(
     requires segmented { IsSegmented ctx.now op }
     ensures ok { IsOk result ↔ HasSegmentNOfType T.marks ctx.now op seg }
     ensures refused { IfErr result (BreaksSegmentNOfType T.marks ctx.now op seg T.NAME D.type_id D.type_body_text) }
-    ensures whole { IsWhole D.attr_handles ctx.now }
+    ensures whole { IsWellFormed D.attr_handles ctx.now }
 {
     if count_of(ctx, op) <= seg {
         return Err(refusal(ctx, op, SegmentNOfTypeError::SegmentNotFound(seg)));
@@ -88,7 +88,7 @@ fn verify_impls<D: OpSet, I: TypeInterfaceMark<D>>(
     requires segmented { IsSegmented ctx.now op }
     ensures ok { IsOk result ↔ HasSegmentNImplsTy I.marks ctx.now op seg }
     ensures refused { IfErr result (IsRefusal ctx.now op (IsSegmentWithout I.marks ctx.now op seg I.NAME D.type_id)) }
-    ensures whole { IsWhole D.attr_handles ctx.now }
+    ensures whole { IsWellFormed D.attr_handles ctx.now }
 {
     if count_of(ctx, op) <= seg {
         let err = TypeRuleErr::TooFew(SegmentNOfTypeError::SegmentNotFound(seg));
@@ -116,7 +116,7 @@ pub trait SegmentNOfType<D: OpSet, const N: usize, T: TypeMark<D>>: OperandSegme
         ensures ok { IsOk result ↔ HasSegmentNOfType T.marks ctx.now (Self.pointer self.now) N }
         ensures refused { IfErr result (BreaksSegmentNOfType T.marks ctx.now (Self.pointer self.now) N T.NAME D.type_id
             D.type_body_text) }
-        ensures whole { IsWhole D.attr_handles ctx.now }
+        ensures whole { IsWellFormed D.attr_handles ctx.now }
     {
         verify_kind::<D, T>(alloc, ctx, self.get_operation(), N)
     }
@@ -139,7 +139,7 @@ pub trait SegmentNImplsTy<
         ensures ok { IsOk result ↔ HasSegmentNImplsTy I.marks ctx.now (Self.pointer self.now) N }
         ensures refused { IfErr result (BreaksSegmentNImplsTy I.marks ctx.now (Self.pointer self.now) N I.NAME
             D.type_id) }
-        ensures whole { IsWhole D.attr_handles ctx.now }
+        ensures whole { IsWellFormed D.attr_handles ctx.now }
     {
         verify_impls::<D, I>(ctx, self.get_operation(), N)
     }

@@ -3,8 +3,8 @@ ghost use Rattle.std.specs.Prelude.{◌≡◌, ◌↔◌, ◌<◌, ◌≤◌, �
 ghost use Rattle.std.specs.Prelude.{IsOk, IsNone, IfSome, IfOk, IfErr, OnOk, OnErr, length, map, take, insert, remove};
 ghost use Rattle.plir_core.specs.declared.ptr.IRNode.{IRNode};
 ghost use Rattle.plir_core.specs.declared.value.Value.{Value as AnyValue};
-ghost use Rattle.plir_core.specs.Store.{IsLive, IsValueLive, operands_of};
-ghost use Rattle.plir_core.specs.Whole.{IsWhole};
+ghost use Rattle.plir_core.specs.ContextView.{IsLive, IsValueLive, operands_of};
+ghost use Rattle.plir_core.specs.WellFormed.{IsWellFormed};
 ghost use Rattle.plir_core.specs.Changes.{with_op_edit};
 ghost use Rattle.plir_flow.specs.Segments.{flatten, segment_at, sizes_attr, with_sizes, sizes_of, num_segments};
 ghost use Rattle.plir_flow.specs.Segments.{segment_size, segment_places, segments_of};
@@ -48,7 +48,7 @@ fn find_fault<D: OpSet>(
     requires { IsLive ctx.now (IRNode.Operation op) }
     ensures none { IsNone result ↔ HasSegments expected ctx.now op }
     ensures some { IfSome result (IsSegmentFault expected ctx.now op) }
-    ensures whole { IsWhole D.attr_handles ctx.now }
+    ensures whole { IsWellFormed D.attr_handles ctx.now }
 {
     let Some(sizes) = find_sizes(ctx, op) else {
         return Some(OperandSegmentInterfaceVerifyErr::OperandSegmentSizesAttrErr);
@@ -80,7 +80,7 @@ fn put_sizes<D: OpSet>(
     requires { IsLive ctx.old (IRNode.Operation op) }
     ensures ok { OnOk result (ctx.new ≡ with_op_edit ctx.old op (with_sizes (sizes_attr sizes))) }
     ensures err { OnErr result (ctx.new ≡ ctx.old) }
-    ensures whole { IsWhole D.attr_handles ctx.new }
+    ensures whole { IsWellFormed D.attr_handles ctx.new }
 {
     ctx.stands();
     match Identifier::try_new(alloc, ATTR_KEY_OPERAND_SEGMENT_SIZES) {
@@ -117,7 +117,7 @@ fn range_of<D: OpSet>(ctx: &Context<D>, op: Ptr<Operation>, seg: usize) -> Range
     ensures end { result.end ≡ (segment_places ctx.now op seg).1 }
     ensures ordered { result.start ≤ result.end }
     ensures inside { result.end ≤ length (operands_of ctx.now op) }
-    ensures whole { IsWhole D.attr_handles ctx.now }
+    ensures whole { IsWellFormed D.attr_handles ctx.now }
 {
     let size = size_of(ctx, op, seg) as usize;
     start_of(ctx, op, seg)..place_among(ctx, op, seg, size)
@@ -127,11 +127,11 @@ fn range_of<D: OpSet>(ctx: &Context<D>, op: Ptr<Operation>, seg: usize) -> Range
 /// [`ATTR_KEY_OPERAND_SEGMENT_SIZES`].
 pub trait OperandSegmentInterface<D: OpSet>: Op<D> {
     ghost use Rattle.std.specs.Prelude.{Option};
-    ghost use Rattle.plir_core.specs.Store.{Store};
+    ghost use Rattle.plir_core.specs.ContextView.{ContextView};
     ghost use Rattle.plir_flow.specs.Segments.{IsKeptBySegments};
 
     // How many segments the operation must have, if that is fixed.
-    ghost expected: { Self → Store D.Kind D.Attr D.Ty → Option ℕ };
+    ghost expected: { Self → ContextView D.Kind D.Attr D.Ty → Option ℕ };
 
     /// How many segments the operation must have; none if any number is valid.
     fn expected_num_segments(&self, ctx: &Context<D>) -> Option<usize>
@@ -150,7 +150,7 @@ pub trait OperandSegmentInterface<D: OpSet>: Op<D> {
         requires { IsLive ctx.now (IRNode.Operation (Self.pointer self.now)) }
         ensures ok { IsOk result ↔ HasSegments (expected self.now ctx.now) ctx.now (Self.pointer self.now) }
         ensures refused { IfErr result (BreaksSegments (expected self.now ctx.now) ctx.now (Self.pointer self.now)) }
-        ensures whole { IsWhole D.attr_handles ctx.now }
+        ensures whole { IsWellFormed D.attr_handles ctx.now }
     {
         let op = self.get_operation();
         match find_fault(ctx, op, self.expected_num_segments(ctx)) {
@@ -181,7 +181,7 @@ pub trait OperandSegmentInterface<D: OpSet>: Op<D> {
         ensures end { result.end ≡ (segment_places ctx.now (Self.pointer self.now) seg).1 }
         ensures ordered { result.start ≤ result.end }
         ensures inside { result.end ≤ length (operands_of ctx.now (Self.pointer self.now)) }
-        ensures whole { IsWhole D.attr_handles ctx.now }
+        ensures whole { IsWellFormed D.attr_handles ctx.now }
     {
         range_of(ctx, self.get_operation(), seg)
     }
@@ -198,7 +198,7 @@ pub trait OperandSegmentInterface<D: OpSet>: Op<D> {
         requires below { seg < num_segments ctx.now (Self.pointer self.now) }
         ensures value { IfOk result (λ vs. vs.items ≡ segment_at (segments_of ctx.now (Self.pointer self.now)) seg) }
         ensures live { IfOk result (λ vs. All (IsValueLive ctx.now) vs.items) }
-        ensures whole { IsWhole D.attr_handles ctx.now }
+        ensures whole { IsWellFormed D.attr_handles ctx.now }
     {
         let op = self.get_operation();
         operands_in(alloc, ctx, op, range_of(ctx, op, seg))
@@ -210,7 +210,7 @@ pub trait OperandSegmentInterface<D: OpSet>: Op<D> {
         requires rule { HasSegments (expected self.now ctx.now) ctx.now (Self.pointer self.now) }
         ensures value { result ≡ segment_size ctx.now (Self.pointer self.now) seg }
         ensures length { result ≡ length (segment_at (segments_of ctx.now (Self.pointer self.now)) seg) }
-        ensures whole { IsWhole D.attr_handles ctx.now }
+        ensures whole { IsWellFormed D.attr_handles ctx.now }
     {
         size_of(ctx, self.get_operation(), seg)
     }
@@ -221,7 +221,7 @@ pub trait OperandSegmentInterface<D: OpSet>: Op<D> {
         requires rule { HasSegments (expected self.now ctx.now) ctx.now (Self.pointer self.now) }
         ensures value { result ≡ num_segments ctx.now (Self.pointer self.now) }
         ensures count { result ≡ length (segments_of ctx.now (Self.pointer self.now)) }
-        ensures whole { IsWhole D.attr_handles ctx.now }
+        ensures whole { IsWellFormed D.attr_handles ctx.now }
     {
         count_of(ctx, self.get_operation())
     }
@@ -238,7 +238,7 @@ pub trait OperandSegmentInterface<D: OpSet>: Op<D> {
         ensures ok { OnOk result (ctx.new ≡ with_op_edit ctx.old (Self.pointer self.now)
             (with_sizes (sizes_attr sizes))) }
         ensures err { OnErr result (ctx.new ≡ ctx.old) }
-        ensures whole { IsWhole D.attr_handles ctx.new }
+        ensures whole { IsWellFormed D.attr_handles ctx.new }
     {
         put_sizes(alloc, ctx, self.get_operation(), sizes)
     }
@@ -253,7 +253,7 @@ pub trait OperandSegmentInterface<D: OpSet>: Op<D> {
         requires live { IsLive ctx.now (IRNode.Operation (Self.pointer self.now)) }
         requires rule { HasSegments (expected self.now ctx.now) ctx.now (Self.pointer self.now) }
         ensures value { result.now ≡ sizes_of ctx.now (Self.pointer self.now) }
-        ensures whole { IsWhole D.attr_handles ctx.now }
+        ensures whole { IsWellFormed D.attr_handles ctx.now }
     {
         sizes_of(ctx, self.get_operation())
     }
@@ -277,7 +277,7 @@ pub trait OperandSegmentInterface<D: OpSet>: Op<D> {
         ensures operands { OnOk result (IsOperandPutLast ctx.old ctx.new (Self.pointer self.now) seg operand) }
         ensures rule { OnOk result (HasSegments (expected self.now ctx.new) ctx.new (Self.pointer self.now)) }
         ensures err { OnErr result (ctx.new ≡ ctx.old) }
-        ensures whole { IsWhole D.attr_handles ctx.new }
+        ensures whole { IsWellFormed D.attr_handles ctx.new }
     {
         push_last(ctx, self.get_operation(), seg, operand)
     }
@@ -293,7 +293,7 @@ pub trait OperandSegmentInterface<D: OpSet>: Op<D> {
         ensures after { IsSegmentEdited ctx.old ctx.new (Self.pointer self.now) seg (λ xs. take (length xs - 1) xs) }
         ensures operands { IsLastOperandTaken ctx.old ctx.new (Self.pointer self.now) seg }
         ensures rule { HasSegments (expected self.now ctx.new) ctx.new (Self.pointer self.now) }
-        ensures whole { IsWhole D.attr_handles ctx.new }
+        ensures whole { IsWellFormed D.attr_handles ctx.new }
     {
         pop_last(ctx, self.get_operation(), seg)
     }
@@ -318,7 +318,7 @@ pub trait OperandSegmentInterface<D: OpSet>: Op<D> {
         ensures operands { OnOk result (IsOperandPutAt ctx.old ctx.new (Self.pointer self.now) seg place operand) }
         ensures rule { OnOk result (HasSegments (expected self.now ctx.new) ctx.new (Self.pointer self.now)) }
         ensures err { OnErr result (ctx.new ≡ ctx.old) }
-        ensures whole { IsWhole D.attr_handles ctx.new }
+        ensures whole { IsWellFormed D.attr_handles ctx.new }
     {
         insert_at(ctx, self.get_operation(), seg, place, operand)
     }
@@ -333,7 +333,7 @@ pub trait OperandSegmentInterface<D: OpSet>: Op<D> {
         ensures after { IsSegmentEdited ctx.old ctx.new (Self.pointer self.now) seg (λ xs. remove xs place) }
         ensures operands { IsOperandTakenAt ctx.old ctx.new (Self.pointer self.now) seg place }
         ensures rule { HasSegments (expected self.now ctx.new) ctx.new (Self.pointer self.now) }
-        ensures whole { IsWhole D.attr_handles ctx.new }
+        ensures whole { IsWellFormed D.attr_handles ctx.new }
     {
         remove_at(ctx, self.get_operation(), seg, place)
     }

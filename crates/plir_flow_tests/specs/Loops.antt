@@ -8,14 +8,14 @@ use Rattle.plir_core.specs.declared.ptr.BasicBlock.{BasicBlock as BlockKind}
 use Rattle.plir_core.specs.declared.ptr.IRNode.TheVariants.{Operation, Region, BasicBlock}
 use Rattle.plir_core.specs.declared.value.Value.{Value}
 use Rattle.plir_core.specs.declared.value.DefiningEntity.TheVariants.{Op, Block}
-use Rattle.plir_core.specs.declared.operand_uses.Use.{Use}
-use Rattle.plir_core.specs.Store.{Store, IsLive, parent_of, operands_of, result_types_of, arg_types_of}
+use Rattle.plir_core.specs.declared.uses.Use.{Use}
+use Rattle.plir_core.specs.ContextView.{ContextView, IsLive, parent_of, operands_of, result_types_of, arg_types_of}
 use Rattle.plir_flow.specs.RegionEdges.{EdgeView}
 use Rattle.plir_flow.specs.declared.edge_ends.RegionBranchPoint.TheVariants.{Parent, Terminator}
 use Rattle.plir_flow.specs.declared.edge_ends.RegionSuccessor.TheVariants.{Region as ToRegion, After}
 
 -- The region stands in the operation, the body in the region, and the end in the body.
-pub record AreNested {K A T : Type 0} (s : Store K A T) (op : Ptr OperationKind) (region : Ptr RegionKind)
+pub record AreNested {K A T : Type 0} (s : ContextView K A T) (op : Ptr OperationKind) (region : Ptr RegionKind)
     (body : Ptr BlockKind) (end : Ptr OperationKind) : Type 0 where
   pub region_live : IsLive s (Region region)
   pub body_live : IsLive s (BasicBlock body)
@@ -25,7 +25,7 @@ pub record AreNested {K A T : Type 0} (s : Store K A T) (op : Ptr OperationKind)
   pub end_in : parent_of s (Operation end) ≡ Some (BasicBlock body)
 
 -- A loop stands so, takes a value, gives one, has one in its body, and hands one on.
-pub record IsLoop {K A T : Type 0} (s : Store K A T) (op : Ptr OperationKind) (region : Ptr RegionKind)
+pub record IsLoop {K A T : Type 0} (s : ContextView K A T) (op : Ptr OperationKind) (region : Ptr RegionKind)
     (body : Ptr BlockKind) (end : Ptr OperationKind) : Type 0 where
   pub nested : AreNested s op region body end
   pub takes : 0 < length (operands_of s op)

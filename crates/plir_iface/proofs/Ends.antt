@@ -3,13 +3,13 @@ use Rattle.std.proofs.Common.{◌≡◌, ◌↔◌, ℕ, suc, Bool, true, List, 
 use Rattle.std.specs.Prelude.{option_map, IsTrue}
 use Rattle.std.proofs.lemmas.Option.{same_Some, none-some}
 use Rattle.plir_store.specs.Members.{Has, Distinct, head}
-use Rattle.plir_store.specs.Lists.{kids_at, last_from, last_of}
+use Rattle.plir_store.specs.Lists.{children_at, last_from, last_of}
 use Rattle.plir_core.specs.declared.ptr.Ptr.{Ptr}
 use Rattle.plir_core.specs.declared.ptr.Region.{Region as RegionKind}
 use Rattle.plir_core.specs.declared.ptr.BasicBlock.{BasicBlock as BasicBlockKind}
 use Rattle.plir_core.specs.declared.ptr.IRNode.{IRNode}
 use Rattle.plir_core.specs.declared.ptr.IRNode.TheVariants.{Operation, Region, BasicBlock}
-use Rattle.plir_core.specs.Nodes.{Nodes, block_node, is_node_live, node_kids, node_first, node_last}
+use Rattle.plir_core.specs.Nodes.{Nodes, block_node, is_node_live, node_children, node_first, node_last}
 use Rattle.plir_core.specs.Stored.{IsStored}
 
 last-in : (y : ℕ) (ys : List ℕ) → (z : ℕ) × (Has (y ∷ ys) z × (last_from (Some y) ys ≡ Some z))
@@ -46,20 +46,20 @@ slot_of (BasicBlock p) = p.slot
 module _ {O B : Type 0} (s : Nodes O B) (w : IsStored s) (r : Ptr RegionKind) (live : is_node_live s (Region r) ≡ true) where
   -- a region has one block exactly where its first block is its last
   pub one-block : (a b : Ptr BasicBlockKind) → Some (BasicBlock a) ≡ node_first s (Region r) → Some (BasicBlock b) ≡ node_last s (Region r)
-      → (a ≡ b) ↔ (length (node_kids s (Region r)) ≡ 1)
+      → (a ≡ b) ↔ (length (node_children s (Region r)) ≡ 1)
   one-block a b e g =
-      let xs : List ℕ = kids_at s.blocks_in_region r.slot in
+      let xs : List ℕ = children_at s.blocks_in_region r.slot in
       let at : ℕ → IRNode = block_node s in
       let p : Some (BasicBlock a) ≡ option_map at (head xs) = e ∙ rw live refl in
       let q : Some (BasicBlock b) ≡ option_map at (last_of xs) = g ∙ rw live refl in
       let k : (BasicBlock a ≡ BasicBlock b) ↔ (length (map at xs) ≡ 1) = same-ends at (λ i j h. ap slot_of h) (BasicBlock a) (BasicBlock b) xs (w.blocks_listed.agreed.apart r.slot) p q in
       rw live (λ h. k.0 (ap BasicBlock h), λ h. let same : BasicBlock a ≡ BasicBlock b = k.1 h in cc)
 
-  pub no-block : None ≡ node_first s (Region r) → length (node_kids s (Region r)) ≡ 1 → ⊥
-  no-block e = rw live (no-ends (block_node s) (kids_at s.blocks_in_region r.slot) (e ∙ rw live refl))
+  pub no-block : None ≡ node_first s (Region r) → length (node_children s (Region r)) ≡ 1 → ⊥
+  no-block e = rw live (no-ends (block_node s) (children_at s.blocks_in_region r.slot) (e ∙ rw live refl))
 
-  pub no-last-block : None ≡ node_last s (Region r) → length (node_kids s (Region r)) ≡ 1 → ⊥
-  no-last-block e = rw live (no-last (block_node s) (kids_at s.blocks_in_region r.slot) (e ∙ rw live refl))
+  pub no-last-block : None ≡ node_last s (Region r) → length (node_children s (Region r)) ≡ 1 → ⊥
+  no-last-block e = rw live (no-last (block_node s) (children_at s.blocks_in_region r.slot) (e ∙ rw live refl))
 
 -- whether two pointers have one slot and one version
 pub same-ptr : {X : Type 0} (p q : Ptr X) (b : Bool) → b ≡ (eqb p.slot q.slot && (eqb p.version q.version && true)) → IsTrue b ↔ (p ≡ q)

@@ -3,7 +3,7 @@
 use Rattle.std.specs.Prelude.{◌≡◌, ℕ}
 use Rattle.plir_core.specs.declared.ptr.Ptr.{Ptr}
 use Rattle.plir_core.specs.declared.ptr.Operation.{Operation as OperationKind}
-use Rattle.plir_core.specs.Store.{Store}
+use Rattle.plir_core.specs.ContextView.{ContextView}
 use Rattle.plir_data.specs.declared.location.VerifyErr.{VerifyErr}
 use Rattle.plir_iface.specs.Counts.{num_regions, num_results, num_operands}
 use Rattle.plir_iface.specs.Verdict.{IsRefusal}
@@ -16,7 +16,7 @@ use Rattle.plir_iface.specs.declared.counts.NOpdsVerifyErr.{NOpdsVerifyErr}
 use Rattle.plir_iface.specs.declared.counts.AtMostNOpdsVerifyErr.{AtMostNOpdsVerifyErr}
 use Rattle.plir_iface.specs.declared.counts.AtLeastNOpdsVerifyErr.{AtLeastNOpdsVerifyErr}
 
-module _ {K A T : Type 0} (n : ℕ) (s : Store K A T) (op : Ptr OperationKind) where
+module _ {K A T : Type 0} (n : ℕ) (s : ContextView K A T) (op : Ptr OperationKind) where
   abbrev pub BreaksNRegions : VerifyErr NRegionsVerifyErr → Type 0
   BreaksNRegions = IsRefusal s op (λ e. (e.0 ≡ n) × (e.1 ≡ num_regions s op))
 

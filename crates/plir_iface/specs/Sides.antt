@@ -2,7 +2,7 @@
 use Rattle.std.specs.Prelude.{◌≡◌, ◌<◌, ℕ, List, length, Option, slice_get, option_and_then}
 use Rattle.plir_core.specs.declared.ptr.Ptr.{Ptr}
 use Rattle.plir_core.specs.declared.ptr.Operation.{Operation as OperationKind}
-use Rattle.plir_core.specs.Store.{Store}
+use Rattle.plir_core.specs.ContextView.{ContextView}
 use Rattle.plir_iface.specs.Counts.{operand_types, result_types}
 use Rattle.plir_iface.specs.declared.side.Side.{Side}
 use Rattle.plir_iface.specs.declared.side.Side.TheVariants.{Operands, Results}
@@ -16,6 +16,6 @@ abbrev pub AllSame : List (Option ℕ) → Type 0
 AllSame ts = (i j : ℕ) → i < length ts → j < length ts → type_in ts i ≡ type_in ts j
 
 module _ {K A T : Type 0} where
-  abbrev pub types_on : Side → Store K A T → Ptr OperationKind → List (Option ℕ)
+  abbrev pub types_on : Side → ContextView K A T → Ptr OperationKind → List (Option ℕ)
   types_on Operands s op = operand_types s op
   types_on Results s op = result_types s op

@@ -6,7 +6,7 @@ use Rattle.plir_data.specs.TypeText.{type_text}
 use Rattle.plir_data.specs.declared.location.VerifyErr.{VerifyErr}
 use Rattle.plir_core.specs.declared.ptr.Ptr.{Ptr}
 use Rattle.plir_core.specs.declared.ptr.Operation.{Operation as OperationKind}
-use Rattle.plir_core.specs.Store.{Store}
+use Rattle.plir_core.specs.ContextView.{ContextView}
 use Rattle.plir_iface.specs.Sides.{type_in, types_on}
 use Rattle.plir_iface.specs.Places.{NeedsMore, IsLongEnough, IsAmong, signed}
 use Rattle.plir_iface.specs.TypeRules.{FailsFirst}
@@ -21,7 +21,7 @@ use Rattle.plir_iface.specs.declared.type_errors.AllOperandsOfTypeVerifyErr.{All
 use Rattle.plir_iface.specs.declared.type_errors.AllResultsOfTypeVerifyErr.{AllResultsOfTypeVerifyErr}
 use Rattle.plir_iface.specs.declared.type_errors.OtherKind.{OtherKind}
 use Rattle.plir_iface.specs.declared.type_errors.TooFew.{TooFew as FewValues}
-use Rattle.plir_iface.specs.declared.type_errors.Misfit.{Misfit}
+use Rattle.plir_iface.specs.declared.type_errors.TypeMismatch.{TypeMismatch}
 use Rattle.plir_iface.specs.declared.type_errors.TypeFault.{TypeFault}
 use Rattle.plir_iface.specs.declared.type_errors.TypeFault.TheVariants.{Few, Wrong}
 use Rattle.plir_iface.specs.declared.type_errors.TypeInterfaceImplsErr.{TypeInterfaceImplsErr}
@@ -40,16 +40,18 @@ use Rattle.plir_iface.specs.declared.type_errors.TypeRuleErr.{TypeRuleErr}
 use Rattle.plir_iface.specs.declared.type_errors.TypeRuleErr.TheVariants.{TooFew, WrongType}
 
 -- the id of the type at a place, and its text
-abbrev pub id_in : {K A T : Type 0} (own_id : T → List ℕ) → Store K A T → List (Option ℕ) → ℕ → List ℕ
+abbrev pub id_in : {K A T : Type 0} (own_id : T → List ℕ) → ContextView K A T → List (Option ℕ) → ℕ → List ℕ
 id_in own_id s ts i = option_map_or (type_id own_id) (option_and_then (type_at s.types) (type_in ts i)) []
 
-abbrev pub text_in : {K A T : Type 0} (own_id : T → List ℕ) (own_body : List (TypeView T) → T → List ℕ) → Store K A T →
+abbrev pub text_in : {K A T : Type 0} (own_id : T → List ℕ) (own_body : List (TypeView T) → T → List ℕ)
+    → ContextView K A T →
     List (Option ℕ) → ℕ → List ℕ
 text_in own_id own_body s ts i = option_map_or (type_text own_id own_body s.types) (type_in ts i) []
 
-module _ {K A T : Type 0} (passes : TypeView T → Bool) (name : List ℕ) (own_id : T → List ℕ) (s : Store K A T) where
+module _ {K A T : Type 0} (passes : TypeView T → Bool) (name : List ℕ) (own_id : T → List ℕ)
+    (s : ContextView K A T) where
   -- the first of these places whose type fails the test, with the name of what is asked for and the id of that type
-  abbrev pub IsMisfit : Side → (among : ℕ → Type 0) → List (Option ℕ) → Misfit → Type 0
+  abbrev pub IsMisfit : Side → (among : ℕ → Type 0) → List (Option ℕ) → TypeMismatch → Type 0
   IsMisfit side among ts m = (m.side ≡ side) × FailsFirst passes s among ts m.place × (m.wanted.now ≡ name) ×
       (m.found.now ≡ id_in own_id s ts m.place)
 
@@ -61,8 +63,8 @@ module _ {K A T : Type 0} (passes : TypeView T → Bool) (name : List ℕ) (own_
 
   -- An error tells, as R says, of the first type of an operation's side that fails the test; or of how they break the
   -- rule of some places.
-  abbrev pub IsMisfitTold : {E : Type 0} → Ptr OperationKind → Side → (R : Misfit → E → Type 0) → E → Type 0
-  IsMisfitTold op side R e = let ts = types_on side s op in (m : Misfit) ×
+  abbrev pub IsMisfitTold : {E : Type 0} → Ptr OperationKind → Side → (R : TypeMismatch → E → Type 0) → E → Type 0
+  IsMisfitTold op side R e = let ts = types_on side s op in (m : TypeMismatch) ×
       (IsMisfit side (λ i. i < length ts) ts m × R m e)
 
   abbrev pub IsFaultTold : {E : Type 0} → Ptr OperationKind → Side → Places → (R : TypeFault → E → Type 0) → E → Type 0
@@ -91,15 +93,15 @@ TellsOtherOperand o e = (e.0 ≡ o.wanted) × (string_bytes e.1 ≡ string_bytes
 abbrev pub TellsOtherResult : OtherKind → AllResultsOfTypeVerifyErr → Type 0
 TellsOtherResult o e = (e.0 ≡ o.wanted) × (string_bytes e.1 ≡ string_bytes o.found)
 
-abbrev pub TellsImpls : Misfit → TypeInterfaceImplsErr → Type 0
+abbrev pub TellsImpls : TypeMismatch → TypeInterfaceImplsErr → Type 0
 TellsImpls m (Operand i name id) = (m.side ≡ Operands) × (i ≡ m.place) × (name ≡ m.wanted) × (id ≡ m.found)
 TellsImpls m (Result i name id) = (m.side ≡ Results) × (i ≡ m.place) × (name ≡ m.wanted) × (id ≡ m.found)
 TellsImpls m (Segment i name id) = ⊥
 
-abbrev pub TellsOperandN : Misfit → OperandNOfTypeError → Type 0
+abbrev pub TellsOperandN : TypeMismatch → OperandNOfTypeError → Type 0
 TellsOperandN m (OperandOfOtherKind name id) = (name ≡ m.wanted) × (id ≡ m.found)
 
-abbrev pub TellsResultN : Misfit → ResultNOfTypeError → Type 0
+abbrev pub TellsResultN : TypeMismatch → ResultNOfTypeError → Type 0
 TellsResultN m (ResultOfOtherKind name id) = (name ≡ m.wanted) × (id ≡ m.found)
 
 abbrev pub TellsOperandsMN : TypeFault → OperandsMNOfTypeError → Type 0
@@ -113,7 +115,7 @@ TellsResultsMN (Wrong m) (UnexpectedResultType i name id) = (i ≡ m.place) × (
 TellsResultsMN _ _ = ⊥
 
 -- too few values are told as P says, and a wrong type as Q does
-abbrev pub TellsRule : {F E : Type 0} → (P : FewValues → F → Type 0) (Q : Misfit → E → Type 0) → TypeFault →
+abbrev pub TellsRule : {F E : Type 0} → (P : FewValues → F → Type 0) (Q : TypeMismatch → E → Type 0) → TypeFault →
     TypeRuleErr F E → Type 0
 TellsRule P Q (Few few) (TooFew e) = P few e
 TellsRule P Q (Wrong m) (WrongType e) = Q m e
@@ -121,7 +123,7 @@ TellsRule P Q _ _ = ⊥
 
 -- How an operation breaks a rule of types, each word named after its interface: the refusal is at the operation's
 -- location.
-module _ {K A T : Type 0} (marks : TypeView T → Bool) (name : List ℕ) (own_id : T → List ℕ) (s : Store K A T)
+module _ {K A T : Type 0} (marks : TypeView T → Bool) (name : List ℕ) (own_id : T → List ℕ) (s : ContextView K A T)
     (op : Ptr OperationKind) where
   abbrev pub BreaksAllOperandsOfType : (own_body : List (TypeView T) → T → List ℕ) →
       VerifyErr AllOperandsOfTypeVerifyErr → Type 0

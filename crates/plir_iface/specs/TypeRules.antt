@@ -4,7 +4,7 @@ use Rattle.std.specs.Option.{option_map_or}
 use Rattle.plir_data.specs.Types.{TypeView, type_at}
 use Rattle.plir_core.specs.declared.ptr.Ptr.{Ptr}
 use Rattle.plir_core.specs.declared.ptr.Operation.{Operation as OperationKind}
-use Rattle.plir_core.specs.Store.{Store}
+use Rattle.plir_core.specs.ContextView.{ContextView}
 use Rattle.plir_iface.specs.Counts.{operand_types, result_types}
 use Rattle.plir_iface.specs.Sides.{type_in}
 use Rattle.plir_iface.specs.Places.{IsLongEnough, IsAmong, signed}
@@ -15,7 +15,7 @@ use Rattle.plir_iface.specs.declared.places.Places.TheVariants.{At, Within}
 abbrev pub IsBetween : (start end i : ℕ) → Type 0
 IsBetween start end i = (start ≤ i) × (i < end)
 
-module _ {K A T : Type 0} (passes : TypeView T → Bool) (s : Store K A T) where
+module _ {K A T : Type 0} (passes : TypeView T → Bool) (s : ContextView K A T) where
   -- the type is there, and passes the test
   abbrev pub passing : Option ℕ → Bool
   passing t = option_map_or (λ h. option_map_or passes (type_at s.types h) false) t false
@@ -45,7 +45,7 @@ module _ {K A T : Type 0} (passes : TypeView T → Bool) (s : Store K A T) where
   PassesAt places ts = IsLongEnough places (length ts) × AllPass (IsAmong places (length ts)) ts
 
 -- The rules, each named after its interface. A type passes if it is of the interface's mark.
-module _ {K A T : Type 0} (marks : TypeView T → Bool) (s : Store K A T) (op : Ptr OperationKind) where
+module _ {K A T : Type 0} (marks : TypeView T → Bool) (s : ContextView K A T) (op : Ptr OperationKind) where
   abbrev pub HasAllOperandsOfType : Type 0
   HasAllOperandsOfType = EachPasses marks s (operand_types s op)
 

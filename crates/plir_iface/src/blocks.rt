@@ -1,8 +1,8 @@
 //! The interface of operations whose regions have one block each.
 ghost use Rattle.std.specs.Prelude.{◌≡◌, ◌<◌, ◌↔◌, Some, None, IsOk, IfErr, IsTrue, length};
 ghost use Rattle.plir_core.specs.declared.ptr.IRNode.{IRNode};
-ghost use Rattle.plir_core.specs.Store.{IsLive, parent_of};
-ghost use Rattle.plir_core.specs.Whole.{IsWhole};
+ghost use Rattle.plir_core.specs.ContextView.{IsLive, parent_of};
+ghost use Rattle.plir_core.specs.WellFormed.{IsWellFormed};
 ghost use Rattle.plir_iface.specs.Counts.{regions_of};
 ghost use Rattle.plir_iface.specs.Regions.{HasOneBlock, HasSingleBlocks, BreaksSingleBlocks, IsNotAboveBody};
 ghost use Rattle.plir_iface.specs.Regions.{IsAppendedToBody, body_of};
@@ -23,7 +23,7 @@ pub struct SingleBlockRegionVerifyErr(pub &'static str);
 fn has_one_block<D: OpSet>(ctx: &Context<D>, region: Ptr<Region>) -> bool
     requires { IsLive ctx.now (IRNode.Region region) }
     ensures value { IsTrue result ↔ HasOneBlock ctx.now (IRNode.Region region) }
-    ensures whole { IsWhole D.attr_handles ctx.now }
+    ensures whole { IsWellFormed D.attr_handles ctx.now }
 {
     let Some(first) = region.get_head(ctx) else {
         return false;
@@ -38,13 +38,13 @@ fn has_one_block<D: OpSet>(ctx: &Context<D>, region: Ptr<Region>) -> bool
 fn has_single_blocks<D: OpSet>(ctx: &Context<D>, op: Ptr<Operation>) -> bool
     requires { IsLive ctx.now (IRNode.Operation op) }
     ensures value { IsTrue result ↔ HasSingleBlocks ctx.now op }
-    ensures whole { IsWhole D.attr_handles ctx.now }
+    ensures whole { IsWellFormed D.attr_handles ctx.now }
 {
-    laws::first_kid_is_front(ctx, IRNode::Operation(op));
+    laws::first_child_is_front(ctx, IRNode::Operation(op));
     let mut next = op.first_region(ctx);
     for place in 0..op.num_regions(ctx) {
         let Some(region) = next else { unreachable!() };
-        laws::kid_at(ctx, IRNode::Operation(op), IRNode::Region(region), place);
+        laws::child_at(ctx, IRNode::Operation(op), IRNode::Region(region), place);
         if !has_one_block(ctx, region) {
             return false;
         }
@@ -60,7 +60,7 @@ pub trait SingleBlockRegionInterface<D: OpSet>: Op<D> {
         requires { IsLive ctx.now (IRNode.Operation (Self.pointer self.now)) }
         ensures ok { IsOk result ↔ HasSingleBlocks ctx.now (Self.pointer self.now) }
         ensures refused { IfErr result (BreaksSingleBlocks D.kind_id ctx.now (Self.pointer self.now)) }
-        ensures whole { IsWhole D.attr_handles ctx.now }
+        ensures whole { IsWellFormed D.attr_handles ctx.now }
     {
         let op = self.get_operation();
         let id = id_of_kind::<D>(op.kind(ctx));
@@ -79,7 +79,7 @@ pub trait SingleBlockRegionInterface<D: OpSet>: Op<D> {
         requires below { region < length (regions_of ctx.now (Self.pointer self.now)) }
         ensures value { body_of ctx.now (Self.pointer self.now) region ≡ Some (IRNode.BasicBlock result) }
         ensures live { IsLive ctx.now (IRNode.BasicBlock result) }
-        ensures whole { IsWhole D.attr_handles ctx.now }
+        ensures whole { IsWellFormed D.attr_handles ctx.now }
     {
         self.get_operation()
             .get_region(ctx, region)
@@ -97,7 +97,7 @@ pub trait SingleBlockRegionInterface<D: OpSet>: Op<D> {
         requires unlinked { parent_of ctx.old (IRNode.Operation op) ≡ None }
         requires not_above { IsNotAboveBody ctx.old (Self.pointer self.now) region op }
         ensures after { IsAppendedToBody ctx.old ctx.new (Self.pointer self.now) region op }
-        ensures whole { IsWhole D.attr_handles ctx.new }
+        ensures whole { IsWellFormed D.attr_handles ctx.new }
     {
         let body = self.get_body(ctx, region);
         op.insert_at_back(body, ctx);

@@ -1,8 +1,8 @@
 //! Verifiers of types, for operands and results alike: an interface names its side, its test, its places and its error.
 ghost use Rattle.std.specs.Prelude.{◌≡◌, ◌<◌, ◌≤◌, ◌↔◌, IsOk, IfErr, IfSome, IsNone, length};
 ghost use Rattle.plir_core.specs.declared.ptr.IRNode.{IRNode};
-ghost use Rattle.plir_core.specs.Store.{IsLive};
-ghost use Rattle.plir_core.specs.Whole.{IsWhole};
+ghost use Rattle.plir_core.specs.ContextView.{IsLive};
+ghost use Rattle.plir_core.specs.WellFormed.{IsWellFormed};
 ghost use Rattle.plir_iface.specs.Places.{IsCountable};
 ghost use Rattle.plir_iface.specs.Sides.{types_on};
 ghost use Rattle.plir_iface.specs.TypeRules.{AllPass, EachPasses, IsBetween, PassesAt};
@@ -12,7 +12,7 @@ ghost use Rattle.plir_iface.specs.Verdict.{IsRefusal, IsRefusalMemoryAside};
 use crate::ids::id_of_type;
 use crate::places::Places;
 use crate::side::Side;
-use crate::type_errors::{Misfit, OtherKind, TooFew, TypeFault};
+use crate::type_errors::{OtherKind, TooFew, TypeFault, TypeMismatch};
 use crate::type_tests::{OfType, TypeTest, first_failing};
 use crate::verdict::refusal;
 use plir_core::{Context, Operation, Ptr};
@@ -24,7 +24,7 @@ pub fn id_at<D: OpSet>(ctx: &Context<D>, op: Ptr<Operation>, side: Side, i: usiz
     requires live { IsLive ctx.now (IRNode.Operation op) }
     requires below { i < length (types_on side ctx.now op) }
     ensures value { result.now ≡ id_in D.type_id ctx.now (types_on side ctx.now op) i }
-    ensures whole { IsWhole D.attr_handles ctx.now }
+    ensures whole { IsWellFormed D.attr_handles ctx.now }
 {
     id_of_type(ctx.types().get(side.type_at(ctx, op, i)))
 }
@@ -36,16 +36,16 @@ fn find_misfit<D: OpSet, Q: TypeTest<D>>(
     side: Side,
     start: usize,
     end: usize,
-) -> Option<Misfit>
+) -> Option<TypeMismatch>
     requires live { IsLive ctx.now (IRNode.Operation op) }
     requires within { end ≤ length (types_on side ctx.now op) }
     ensures none { IsNone result ↔ AllPass Q.passes ctx.now (IsBetween start end) (types_on side ctx.now op) }
     ensures some { IfSome result (IsMisfit Q.passes Q.test_name D.type_id ctx.now side (IsBetween start end)
         (types_on side ctx.now op)) }
-    ensures whole { IsWhole D.attr_handles ctx.now }
+    ensures whole { IsWellFormed D.attr_handles ctx.now }
 {
     let place = first_failing::<D, Q>(ctx, op, side, start, end)?;
-    Some(Misfit {
+    Some(TypeMismatch {
         side,
         place,
         wanted: Q::test_name(),
@@ -65,7 +65,7 @@ fn find_fault<D: OpSet, Q: TypeTest<D>>(
     ensures none { IsNone result ↔ PassesAt Q.passes ctx.now places (types_on side ctx.now op) }
     ensures some { IfSome result (IsFault Q.passes Q.test_name D.type_id ctx.now side places
         (types_on side ctx.now op)) }
-    ensures whole { IsWhole D.attr_handles ctx.now }
+    ensures whole { IsWellFormed D.attr_handles ctx.now }
 {
     let found = side.len(ctx, op);
     match places.resolve(found) {
@@ -78,7 +78,7 @@ fn find_fault<D: OpSet, Q: TypeTest<D>>(
 }
 
 /// Accepts exactly where all types of a side pass a test; else refuses by the first that fails.
-pub(crate) fn verify_each<D: OpSet, Q: TypeTest<D>, E: From<Misfit> + Drop>(
+pub(crate) fn verify_each<D: OpSet, Q: TypeTest<D>, E: From<TypeMismatch> + Drop>(
     ctx: &Context<D>,
     op: Ptr<Operation>,
     side: Side,
@@ -87,7 +87,7 @@ pub(crate) fn verify_each<D: OpSet, Q: TypeTest<D>, E: From<Misfit> + Drop>(
     ensures ok { IsOk result ↔ EachPasses Q.passes ctx.now (types_on side ctx.now op) }
     ensures refused { IfErr result (IsRefusal ctx.now op
         (IsMisfitTold Q.passes Q.test_name D.type_id ctx.now op side E.from_gives)) }
-    ensures whole { IsWhole D.attr_handles ctx.now }
+    ensures whole { IsWellFormed D.attr_handles ctx.now }
 {
     let count = side.len(ctx, op);
     match find_misfit::<D, Q>(ctx, op, side, 0, count) {
@@ -109,7 +109,7 @@ pub(crate) fn verify_at<D: OpSet, Q: TypeTest<D>, E: From<TypeFault> + Drop>(
     ensures ok { IsOk result ↔ PassesAt Q.passes ctx.now places (types_on side ctx.now op) }
     ensures refused { IfErr result (IsRefusal ctx.now op
         (IsFaultTold Q.passes Q.test_name D.type_id ctx.now op side places E.from_gives)) }
-    ensures whole { IsWhole D.attr_handles ctx.now }
+    ensures whole { IsWellFormed D.attr_handles ctx.now }
 {
     match find_fault::<D, Q>(ctx, op, side, places) {
         None => Ok(()),
@@ -128,7 +128,7 @@ pub(crate) fn verify_each_kind<D: OpSet, T: TypeMark<D>, E: From<OtherKind> + Dr
     ensures ok { IsOk result ↔ EachPasses T.marks ctx.now (types_on side ctx.now op) }
     ensures refused { IfErr result (IsRefusalMemoryAside ctx.now op
         (IsOtherKindTold T.marks T.NAME D.type_id ctx.now D.type_body_text op side E.from_gives)) }
-    ensures whole { IsWhole D.attr_handles ctx.now }
+    ensures whole { IsWellFormed D.attr_handles ctx.now }
 {
     let count = side.len(ctx, op);
     let Some(misfit) = find_misfit::<D, OfType<T>>(ctx, op, side, 0, count) else {

@@ -6,7 +6,7 @@
 //! `ok` and `refused` of `verify` read the same everywhere: it accepts exactly where the rule holds, and else tells the
 //! error at the operation's location.
 ghost use Rattle.std.specs.Prelude.{◌≡◌, Some};
-ghost use Rattle.plir_core.specs.Store.{IsLive, location_of};
+ghost use Rattle.plir_core.specs.ContextView.{IsLive, location_of};
 ghost use Rattle.plir_core.specs.declared.ptr.IRNode.{IRNode as AnyNode};
 ghost use Rattle.plir_core.specs.declared.ptr.Ptr.{Ptr as PtrTo};
 ghost use Rattle.plir_core.specs.declared.ptr.Operation.{Operation as OperationKind};

@@ -1,8 +1,8 @@
 //! Interfaces of operations by the types of their operands.
 ghost use Rattle.std.specs.Prelude.{◌↔◌, ◌<◌, ◌-◌, ◌^◌, IsOk, IfErr};
 ghost use Rattle.plir_core.specs.declared.ptr.IRNode.{IRNode};
-ghost use Rattle.plir_core.specs.Store.{IsLive};
-ghost use Rattle.plir_core.specs.Whole.{IsWhole};
+ghost use Rattle.plir_core.specs.ContextView.{IsLive};
+ghost use Rattle.plir_core.specs.WellFormed.{IsWellFormed};
 ghost use Rattle.plir_iface.specs.Places.{IsOrdered, signed};
 ghost use Rattle.plir_iface.specs.TypeRules.{HasAllOperandsOfType, HasOperandNOfType, HasOperandsMNOfType};
 ghost use Rattle.plir_iface.specs.TypeRules.{HasAllOperandsImplsTy, HasOperandNImplsTy, HasOperandsMNImplsTy};
@@ -37,7 +37,7 @@ pub trait AllOperandsOfType<D: OpSet, T: TypeMark<D>>: Op<D> {
         ensures ok { IsOk result ↔ HasAllOperandsOfType T.marks ctx.now (Self.pointer self.now) }
         ensures refused { IfErr result (BreaksAllOperandsOfType T.marks T.NAME D.type_id ctx.now
             (Self.pointer self.now) D.type_body_text) }
-        ensures whole { IsWhole D.attr_handles ctx.now }
+        ensures whole { IsWellFormed D.attr_handles ctx.now }
     {
         verify_each_kind::<D, T, AllOperandsOfTypeVerifyErr>(
             alloc,
@@ -56,7 +56,7 @@ pub trait AllOperandsImplsTy<D: OpSet, I: TypeInterfaceMark<D>>: Op<D> {
         ensures ok { IsOk result ↔ HasAllOperandsImplsTy I.marks ctx.now (Self.pointer self.now) }
         ensures refused { IfErr result (BreaksAllOperandsImplsTy I.marks I.NAME D.type_id ctx.now
             (Self.pointer self.now)) }
-        ensures whole { IsWhole D.attr_handles ctx.now }
+        ensures whole { IsWellFormed D.attr_handles ctx.now }
     {
         verify_each::<D, Implementing<I>, TypeInterfaceImplsErr>(
             ctx,
@@ -78,7 +78,7 @@ pub trait OperandNOfType<D: OpSet, const N: usize, T: TypeMark<D>>: Op<D> {
         ensures ok { IsOk result ↔ HasOperandNOfType T.marks ctx.now (Self.pointer self.now) N }
         ensures refused { IfErr result (BreaksOperandNOfType T.marks T.NAME D.type_id ctx.now (Self.pointer self.now)
             N) }
-        ensures whole { IsWhole D.attr_handles ctx.now }
+        ensures whole { IsWellFormed D.attr_handles ctx.now }
     {
         verify_at::<D, OfType<T>, TypeRuleErr<NotEnoughOperandsErr, OperandNOfTypeError>>(
             ctx,
@@ -101,7 +101,7 @@ pub trait OperandNImplsTy<D: OpSet, const N: usize, I: TypeInterfaceMark<D>>: Op
         ensures ok { IsOk result ↔ HasOperandNImplsTy I.marks ctx.now (Self.pointer self.now) N }
         ensures refused { IfErr result (BreaksOperandNImplsTy I.marks I.NAME D.type_id ctx.now (Self.pointer self.now)
             N) }
-        ensures whole { IsWhole D.attr_handles ctx.now }
+        ensures whole { IsWellFormed D.attr_handles ctx.now }
     {
         verify_at::<D, Implementing<I>, TypeRuleErr<NotEnoughOperandsErr, TypeInterfaceImplsErr>>(
             ctx,
@@ -124,7 +124,7 @@ pub trait OperandsMNOfType<D: OpSet, const M: u32, const N: u32, T: TypeMark<D>>
         ensures ok { IsOk result ↔ HasOperandsMNOfType T.marks ctx.now (Self.pointer self.now) M N }
         ensures refused { IfErr result (BreaksOperandsMNOfType T.marks T.NAME D.type_id ctx.now (Self.pointer self.now)
             M N) }
-        ensures whole { IsWhole D.attr_handles ctx.now }
+        ensures whole { IsWellFormed D.attr_handles ctx.now }
     {
         verify_at::<D, OfType<T>, OperandsMNOfTypeError>(
             ctx,
@@ -150,7 +150,7 @@ pub trait OperandsMNImplsTy<D: OpSet, const M: u32, const N: u32, I: TypeInterfa
         ensures ok { IsOk result ↔ HasOperandsMNImplsTy I.marks ctx.now (Self.pointer self.now) M N }
         ensures refused { IfErr result (BreaksOperandsMNImplsTy I.marks I.NAME D.type_id ctx.now
             (Self.pointer self.now) M N) }
-        ensures whole { IsWhole D.attr_handles ctx.now }
+        ensures whole { IsWellFormed D.attr_handles ctx.now }
     {
         verify_at::<D, Implementing<I>, TypeRuleErr<NotEnoughOperandsErr, TypeInterfaceImplsErr>>(
             ctx,

@@ -1,8 +1,8 @@
 //! Interfaces of operations by their operands.
 ghost use Rattle.std.specs.Prelude.{◌≡◌, ◌<◌, ◌+◌, ◌-◌, ◌^◌, ◌↔◌, Some, IsOk, IfOk, IfErr, IsSome, IfSome, slice_get};
 ghost use Rattle.plir_data.specs.Types.{IsLive as IsTypeLive};
-ghost use Rattle.plir_core.specs.Store.{IsLive, IsValueLive, operands_of};
-ghost use Rattle.plir_core.specs.Whole.{IsWhole};
+ghost use Rattle.plir_core.specs.ContextView.{IsLive, IsValueLive, operands_of};
+ghost use Rattle.plir_core.specs.WellFormed.{IsWellFormed};
 ghost use Rattle.plir_core.specs.declared.ptr.IRNode.{IRNode};
 ghost use Rattle.plir_iface.specs.Counts.{HasNOpds, HasAtMostNOpds, HasAtLeastNOpds, num_operands, operand_types};
 ghost use Rattle.plir_iface.specs.CountRefusals.{BreaksNOpds, BreaksAtMostNOpds, BreaksAtLeastNOpds};
@@ -24,7 +24,7 @@ pub trait NOpdsInterface<D: OpSet, const N: usize>: Op<D> {
         requires { IsLive ctx.now (IRNode.Operation (Self.pointer self.now)) }
         ensures ok { IsOk result ↔ HasNOpds N ctx.now (Self.pointer self.now) }
         ensures refused { IfErr result (BreaksNOpds N ctx.now (Self.pointer self.now)) }
-        ensures whole { IsWhole D.attr_handles ctx.now }
+        ensures whole { IsWellFormed D.attr_handles ctx.now }
     {
         let op = self.get_operation();
         let found = op.get_num_operands(ctx);
@@ -37,7 +37,7 @@ pub trait NOpdsInterface<D: OpSet, const N: usize>: Op<D> {
         requires rule { HasNOpds N ctx.now (Self.pointer self.now) }
         ensures value { slice_get (operands_of ctx.now (Self.pointer self.now)) i.entry ≡ Some result }
         ensures live { IsValueLive ctx.now result }
-        ensures whole { IsWhole D.attr_handles ctx.now }
+        ensures whole { IsWellFormed D.attr_handles ctx.now }
     {
         operand_at(ctx, self.get_operation(), i.i())
     }
@@ -48,7 +48,7 @@ pub trait NOpdsInterface<D: OpSet, const N: usize>: Op<D> {
         requires rule { HasNOpds N ctx.now (Self.pointer self.now) }
         ensures value { slice_get (operand_types ctx.now (Self.pointer self.now)) i.entry ≡ Some (Some result) }
         ensures live { IsTypeLive ctx.now.types result }
-        ensures whole { IsWhole D.attr_handles ctx.now }
+        ensures whole { IsWellFormed D.attr_handles ctx.now }
     {
         type_of(ctx, operand_at(ctx, self.get_operation(), i.i()))
     }
@@ -61,7 +61,7 @@ pub trait AtMostNOpdsInterface<D: OpSet, const N: usize>: Op<D> {
         requires { IsLive ctx.now (IRNode.Operation (Self.pointer self.now)) }
         ensures ok { IsOk result ↔ HasAtMostNOpds N ctx.now (Self.pointer self.now) }
         ensures refused { IfErr result (BreaksAtMostNOpds N ctx.now (Self.pointer self.now)) }
-        ensures whole { IsWhole D.attr_handles ctx.now }
+        ensures whole { IsWellFormed D.attr_handles ctx.now }
     {
         let op = self.get_operation();
         let found = op.get_num_operands(ctx);
@@ -76,7 +76,7 @@ pub trait OptionalOpdInterface<D: OpSet>: Op<D> {
         requires { IsLive ctx.now (IRNode.Operation (Self.pointer self.now)) }
         ensures ok { IsOk result ↔ HasAtMostNOpds 1 ctx.now (Self.pointer self.now) }
         ensures refused { IfErr result (BreaksAtMostNOpds 1 ctx.now (Self.pointer self.now)) }
-        ensures whole { IsWhole D.attr_handles ctx.now }
+        ensures whole { IsWellFormed D.attr_handles ctx.now }
     {
         let op = self.get_operation();
         let found = op.get_num_operands(ctx);
@@ -89,7 +89,7 @@ pub trait OptionalOpdInterface<D: OpSet>: Op<D> {
         ensures some { IsSome result ↔ HasNOpds 1 ctx.now (Self.pointer self.now) }
         ensures value { IfSome result (λ v. slice_get (operands_of ctx.now (Self.pointer self.now)) 0 ≡ Some v) }
         ensures live { IfSome result (IsValueLive ctx.now) }
-        ensures whole { IsWhole D.attr_handles ctx.now }
+        ensures whole { IsWellFormed D.attr_handles ctx.now }
     {
         let op = self.get_operation();
         if op.get_num_operands(ctx) != 1 {
@@ -106,7 +106,7 @@ pub trait AtLeastNOpdsInterface<D: OpSet, const N: usize>: Op<D> {
         requires { IsLive ctx.now (IRNode.Operation (Self.pointer self.now)) }
         ensures ok { IsOk result ↔ HasAtLeastNOpds N ctx.now (Self.pointer self.now) }
         ensures refused { IfErr result (BreaksAtLeastNOpds N ctx.now (Self.pointer self.now)) }
-        ensures whole { IsWhole D.attr_handles ctx.now }
+        ensures whole { IsWellFormed D.attr_handles ctx.now }
     {
         let op = self.get_operation();
         let found = op.get_num_operands(ctx);
@@ -121,7 +121,7 @@ pub trait OneOpdInterface<D: OpSet>: Op<D> {
         requires { IsLive ctx.now (IRNode.Operation (Self.pointer self.now)) }
         ensures ok { IsOk result ↔ HasNOpds 1 ctx.now (Self.pointer self.now) }
         ensures refused { IfErr result (BreaksNOpds 1 ctx.now (Self.pointer self.now)) }
-        ensures whole { IsWhole D.attr_handles ctx.now }
+        ensures whole { IsWellFormed D.attr_handles ctx.now }
     {
         let op = self.get_operation();
         let found = op.get_num_operands(ctx);
@@ -134,7 +134,7 @@ pub trait OneOpdInterface<D: OpSet>: Op<D> {
         requires rule { HasNOpds 1 ctx.now (Self.pointer self.now) }
         ensures value { slice_get (operands_of ctx.now (Self.pointer self.now)) 0 ≡ Some result }
         ensures live { IsValueLive ctx.now result }
-        ensures whole { IsWhole D.attr_handles ctx.now }
+        ensures whole { IsWellFormed D.attr_handles ctx.now }
     {
         operand_at(ctx, self.get_operation(), 0)
     }
@@ -145,7 +145,7 @@ pub trait OneOpdInterface<D: OpSet>: Op<D> {
         requires rule { HasNOpds 1 ctx.now (Self.pointer self.now) }
         ensures value { slice_get (operand_types ctx.now (Self.pointer self.now)) 0 ≡ Some (Some result) }
         ensures live { IsTypeLive ctx.now.types result }
-        ensures whole { IsWhole D.attr_handles ctx.now }
+        ensures whole { IsWellFormed D.attr_handles ctx.now }
     {
         type_of(ctx, operand_at(ctx, self.get_operation(), 0))
     }
@@ -162,7 +162,7 @@ pub fn verify_get_operand_n<D: OpSet, const N: usize>(
     ensures value { IfOk result (λ v. slice_get (operands_of ctx.now op) N ≡ Some v) }
     ensures live { IfOk result (IsValueLive ctx.now) }
     ensures refused { IfErr result (IsRefusal ctx.now op (λ e. (e.0 ≡ num_operands ctx.now op) × (e.1 ≡ N + 1))) }
-    ensures whole { IsWhole D.attr_handles ctx.now }
+    ensures whole { IsWellFormed D.attr_handles ctx.now }
 {
     let found = op.get_num_operands(ctx);
     accept_if(ctx, op, N < found, NotEnoughOperandsErr(found, N + 1))?;

@@ -1,8 +1,8 @@
 //! Interfaces of operations by their regions.
 ghost use Rattle.std.specs.Prelude.{◌≡◌, ◌↔◌, Some, Ok, IsOk, IfErr, IfSome, slice_get, option_map};
 ghost use Rattle.plir_store.specs.Members.{head};
-ghost use Rattle.plir_core.specs.Store.{IsLive};
-ghost use Rattle.plir_core.specs.Whole.{IsWhole};
+ghost use Rattle.plir_core.specs.ContextView.{IsLive};
+ghost use Rattle.plir_core.specs.WellFormed.{IsWellFormed};
 ghost use Rattle.plir_core.specs.declared.ptr.IRNode.{IRNode};
 ghost use Rattle.plir_iface.specs.Counts.{regions_of, HasNRegions, HasAtMostNRegions};
 ghost use Rattle.plir_iface.specs.CountRefusals.{BreaksNRegions, BreaksAtMostNRegions};
@@ -20,7 +20,7 @@ pub trait NRegionsInterface<D: OpSet, const N: usize>: Op<D> {
         requires { IsLive ctx.now (IRNode.Operation (Self.pointer self.now)) }
         ensures ok { IsOk result ↔ HasNRegions N ctx.now (Self.pointer self.now) }
         ensures refused { IfErr result (BreaksNRegions N ctx.now (Self.pointer self.now)) }
-        ensures whole { IsWhole D.attr_handles ctx.now }
+        ensures whole { IsWellFormed D.attr_handles ctx.now }
     {
         let op = self.get_operation();
         let found = op.num_regions(ctx);
@@ -33,7 +33,7 @@ pub trait NRegionsInterface<D: OpSet, const N: usize>: Op<D> {
         requires rule { HasNRegions N ctx.now (Self.pointer self.now) }
         ensures value { slice_get (regions_of ctx.now (Self.pointer self.now)) i.entry ≡ Some (IRNode.Region result) }
         ensures live { IsLive ctx.now (IRNode.Region result) }
-        ensures whole { IsWhole D.attr_handles ctx.now }
+        ensures whole { IsWellFormed D.attr_handles ctx.now }
     {
         self.get_operation().get_region(ctx, i.i())
     }
@@ -46,7 +46,7 @@ pub trait OneRegionInterface<D: OpSet>: Op<D> {
         requires { IsLive ctx.now (IRNode.Operation (Self.pointer self.now)) }
         ensures ok { IsOk result ↔ HasNRegions 1 ctx.now (Self.pointer self.now) }
         ensures refused { IfErr result (BreaksNRegions 1 ctx.now (Self.pointer self.now)) }
-        ensures whole { IsWhole D.attr_handles ctx.now }
+        ensures whole { IsWellFormed D.attr_handles ctx.now }
     {
         let op = self.get_operation();
         let found = op.num_regions(ctx);
@@ -59,7 +59,7 @@ pub trait OneRegionInterface<D: OpSet>: Op<D> {
         requires rule { HasNRegions 1 ctx.now (Self.pointer self.now) }
         ensures value { slice_get (regions_of ctx.now (Self.pointer self.now)) 0 ≡ Some (IRNode.Region result) }
         ensures live { IsLive ctx.now (IRNode.Region result) }
-        ensures whole { IsWhole D.attr_handles ctx.now }
+        ensures whole { IsWellFormed D.attr_handles ctx.now }
     {
         self.get_operation().get_region(ctx, 0)
     }
@@ -72,7 +72,7 @@ pub trait AtMostNRegionsInterface<D: OpSet, const N: usize>: Op<D> {
         requires { IsLive ctx.now (IRNode.Operation (Self.pointer self.now)) }
         ensures ok { IsOk result ↔ HasAtMostNRegions N ctx.now (Self.pointer self.now) }
         ensures refused { IfErr result (BreaksAtMostNRegions N ctx.now (Self.pointer self.now)) }
-        ensures whole { IsWhole D.attr_handles ctx.now }
+        ensures whole { IsWellFormed D.attr_handles ctx.now }
     {
         let op = self.get_operation();
         let found = op.num_regions(ctx);
@@ -94,7 +94,7 @@ pub trait AtMostOneRegionInterface<D: OpSet>: AtMostNRegionsInterface<D, 1> {
         requires { IsLive ctx.now (IRNode.Operation (Self.pointer self.now)) }
         ensures value { option_map IRNode.Region result ≡ head (regions_of ctx.now (Self.pointer self.now)) }
         ensures live { IfSome result (λ r. IsLive ctx.now (IRNode.Region r)) }
-        ensures whole { IsWhole D.attr_handles ctx.now }
+        ensures whole { IsWellFormed D.attr_handles ctx.now }
     {
         self.get_operation().first_region(ctx)
     }

@@ -1,8 +1,8 @@
 //! Interfaces of operations by the types of their results.
 ghost use Rattle.std.specs.Prelude.{◌↔◌, ◌<◌, ◌-◌, ◌^◌, IsOk, IfErr};
 ghost use Rattle.plir_core.specs.declared.ptr.IRNode.{IRNode};
-ghost use Rattle.plir_core.specs.Store.{IsLive};
-ghost use Rattle.plir_core.specs.Whole.{IsWhole};
+ghost use Rattle.plir_core.specs.ContextView.{IsLive};
+ghost use Rattle.plir_core.specs.WellFormed.{IsWellFormed};
 ghost use Rattle.plir_iface.specs.Places.{IsOrdered, signed};
 ghost use Rattle.plir_iface.specs.TypeRules.{HasAllResultsOfType, HasResultNOfType, HasResultsMNOfType};
 ghost use Rattle.plir_iface.specs.TypeRules.{HasAllResultsImplsTy, HasResultNImplsTy, HasResultsMNImplsTy};
@@ -36,7 +36,7 @@ pub trait AllResultsOfType<D: OpSet, T: TypeMark<D>>: Op<D> {
         ensures ok { IsOk result ↔ HasAllResultsOfType T.marks ctx.now (Self.pointer self.now) }
         ensures refused { IfErr result (BreaksAllResultsOfType T.marks T.NAME D.type_id ctx.now (Self.pointer self.now)
             D.type_body_text) }
-        ensures whole { IsWhole D.attr_handles ctx.now }
+        ensures whole { IsWellFormed D.attr_handles ctx.now }
     {
         verify_each_kind::<D, T, AllResultsOfTypeVerifyErr>(
             alloc,
@@ -55,7 +55,7 @@ pub trait AllResultsImplsTy<D: OpSet, I: TypeInterfaceMark<D>>: Op<D> {
         ensures ok { IsOk result ↔ HasAllResultsImplsTy I.marks ctx.now (Self.pointer self.now) }
         ensures refused { IfErr result (BreaksAllResultsImplsTy I.marks I.NAME D.type_id ctx.now
             (Self.pointer self.now)) }
-        ensures whole { IsWhole D.attr_handles ctx.now }
+        ensures whole { IsWellFormed D.attr_handles ctx.now }
     {
         verify_each::<D, Implementing<I>, TypeInterfaceImplsErr>(
             ctx,
@@ -75,8 +75,9 @@ pub trait ResultNOfType<D: OpSet, const N: usize, T: TypeMark<D>>: Op<D> {
         requires live { IsLive ctx.now (IRNode.Operation (Self.pointer self.now)) }
         requires countable { N < 2 ^ 64 - 1 }
         ensures ok { IsOk result ↔ HasResultNOfType T.marks ctx.now (Self.pointer self.now) N }
-        ensures refused { IfErr result (BreaksResultNOfType T.marks T.NAME D.type_id ctx.now (Self.pointer self.now) N) }
-        ensures whole { IsWhole D.attr_handles ctx.now }
+        ensures refused { IfErr result (BreaksResultNOfType T.marks T.NAME D.type_id ctx.now
+            (Self.pointer self.now) N) }
+        ensures whole { IsWellFormed D.attr_handles ctx.now }
     {
         verify_at::<D, OfType<T>, TypeRuleErr<NotEnoughResultsErr, ResultNOfTypeError>>(
             ctx,
@@ -99,7 +100,7 @@ pub trait ResultNImplsTy<D: OpSet, const N: usize, I: TypeInterfaceMark<D>>: Op<
         ensures ok { IsOk result ↔ HasResultNImplsTy I.marks ctx.now (Self.pointer self.now) N }
         ensures refused { IfErr result (BreaksResultNImplsTy I.marks I.NAME D.type_id ctx.now (Self.pointer self.now)
             N) }
-        ensures whole { IsWhole D.attr_handles ctx.now }
+        ensures whole { IsWellFormed D.attr_handles ctx.now }
     {
         verify_at::<D, Implementing<I>, TypeRuleErr<NotEnoughResultsErr, TypeInterfaceImplsErr>>(
             ctx,
@@ -121,7 +122,7 @@ pub trait ResultsMNOfType<D: OpSet, const M: u32, const N: u32, T: TypeMark<D>>:
         ensures ok { IsOk result ↔ HasResultsMNOfType T.marks ctx.now (Self.pointer self.now) M N }
         ensures refused { IfErr result (BreaksResultsMNOfType T.marks T.NAME D.type_id ctx.now (Self.pointer self.now)
             M N) }
-        ensures whole { IsWhole D.attr_handles ctx.now }
+        ensures whole { IsWellFormed D.attr_handles ctx.now }
     {
         verify_at::<D, OfType<T>, ResultsMNOfTypeError>(
             ctx,
@@ -146,7 +147,7 @@ pub trait ResultsMNImplsTy<D: OpSet, const M: u32, const N: u32, I: TypeInterfac
         ensures ok { IsOk result ↔ HasResultsMNImplsTy I.marks ctx.now (Self.pointer self.now) M N }
         ensures refused { IfErr result (BreaksResultsMNImplsTy I.marks I.NAME D.type_id ctx.now (Self.pointer self.now)
             M N) }
-        ensures whole { IsWhole D.attr_handles ctx.now }
+        ensures whole { IsWellFormed D.attr_handles ctx.now }
     {
         verify_at::<D, Implementing<I>, TypeRuleErr<NotEnoughResultsErr, TypeInterfaceImplsErr>>(
             ctx,

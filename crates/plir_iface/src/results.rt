@@ -1,8 +1,8 @@
 //! Interfaces of operations by their results.
 ghost use Rattle.std.specs.Prelude.{◌≡◌, ◌<◌, ◌+◌, ◌-◌, ◌^◌, ◌↔◌, Some, IsOk, IfOk, IfErr, IsSome, IfSome, slice_get};
 ghost use Rattle.plir_data.specs.Types.{IsLive as IsTypeLive};
-ghost use Rattle.plir_core.specs.Store.{IsLive, IsValueLive};
-ghost use Rattle.plir_core.specs.Whole.{IsWhole};
+ghost use Rattle.plir_core.specs.ContextView.{IsLive, IsValueLive};
+ghost use Rattle.plir_core.specs.WellFormed.{IsWellFormed};
 ghost use Rattle.plir_core.specs.declared.ptr.IRNode.{IRNode};
 ghost use Rattle.plir_iface.specs.Counts.{HasNResults, HasAtMostNResults, HasAtLeastNResults, num_results, result_at};
 ghost use Rattle.plir_iface.specs.Counts.{result_types};
@@ -24,7 +24,7 @@ pub trait NResultsInterface<D: OpSet, const N: usize>: Op<D> {
         requires { IsLive ctx.now (IRNode.Operation (Self.pointer self.now)) }
         ensures ok { IsOk result ↔ HasNResults N ctx.now (Self.pointer self.now) }
         ensures refused { IfErr result (BreaksNResults N ctx.now (Self.pointer self.now)) }
-        ensures whole { IsWhole D.attr_handles ctx.now }
+        ensures whole { IsWellFormed D.attr_handles ctx.now }
     {
         let op = self.get_operation();
         let found = op.get_num_results(ctx);
@@ -37,7 +37,7 @@ pub trait NResultsInterface<D: OpSet, const N: usize>: Op<D> {
         requires rule { HasNResults N ctx.now (Self.pointer self.now) }
         ensures value { result ≡ result_at (Self.pointer self.now) i.entry }
         ensures live { IsValueLive ctx.now result }
-        ensures whole { IsWhole D.attr_handles ctx.now }
+        ensures whole { IsWellFormed D.attr_handles ctx.now }
     {
         self.get_operation().get_result(ctx, i.i())
     }
@@ -48,7 +48,7 @@ pub trait NResultsInterface<D: OpSet, const N: usize>: Op<D> {
         requires rule { HasNResults N ctx.now (Self.pointer self.now) }
         ensures value { slice_get (result_types ctx.now (Self.pointer self.now)) i.entry ≡ Some (Some result) }
         ensures live { IsTypeLive ctx.now.types result }
-        ensures whole { IsWhole D.attr_handles ctx.now }
+        ensures whole { IsWellFormed D.attr_handles ctx.now }
     {
         self.get_operation().get_type(ctx, i.i())
     }
@@ -61,7 +61,7 @@ pub trait AtMostNResultsInterface<D: OpSet, const N: usize>: Op<D> {
         requires { IsLive ctx.now (IRNode.Operation (Self.pointer self.now)) }
         ensures ok { IsOk result ↔ HasAtMostNResults N ctx.now (Self.pointer self.now) }
         ensures refused { IfErr result (BreaksAtMostNResults N ctx.now (Self.pointer self.now)) }
-        ensures whole { IsWhole D.attr_handles ctx.now }
+        ensures whole { IsWellFormed D.attr_handles ctx.now }
     {
         let op = self.get_operation();
         let found = op.get_num_results(ctx);
@@ -76,7 +76,7 @@ pub trait OptionalResultInterface<D: OpSet>: Op<D> {
         requires { IsLive ctx.now (IRNode.Operation (Self.pointer self.now)) }
         ensures ok { IsOk result ↔ HasAtMostNResults 1 ctx.now (Self.pointer self.now) }
         ensures refused { IfErr result (BreaksAtMostNResults 1 ctx.now (Self.pointer self.now)) }
-        ensures whole { IsWhole D.attr_handles ctx.now }
+        ensures whole { IsWellFormed D.attr_handles ctx.now }
     {
         let op = self.get_operation();
         let found = op.get_num_results(ctx);
@@ -89,7 +89,7 @@ pub trait OptionalResultInterface<D: OpSet>: Op<D> {
         ensures some { IsSome result ↔ HasNResults 1 ctx.now (Self.pointer self.now) }
         ensures value { IfSome result (λ v. v ≡ result_at (Self.pointer self.now) 0) }
         ensures live { IfSome result (IsValueLive ctx.now) }
-        ensures whole { IsWhole D.attr_handles ctx.now }
+        ensures whole { IsWellFormed D.attr_handles ctx.now }
     {
         let op = self.get_operation();
         if op.get_num_results(ctx) != 1 {
@@ -106,7 +106,7 @@ pub trait AtLeastNResultsInterface<D: OpSet, const N: usize>: Op<D> {
         requires { IsLive ctx.now (IRNode.Operation (Self.pointer self.now)) }
         ensures ok { IsOk result ↔ HasAtLeastNResults N ctx.now (Self.pointer self.now) }
         ensures refused { IfErr result (BreaksAtLeastNResults N ctx.now (Self.pointer self.now)) }
-        ensures whole { IsWhole D.attr_handles ctx.now }
+        ensures whole { IsWellFormed D.attr_handles ctx.now }
     {
         let op = self.get_operation();
         let found = op.get_num_results(ctx);
@@ -121,7 +121,7 @@ pub trait OneResultInterface<D: OpSet>: Op<D> {
         requires { IsLive ctx.now (IRNode.Operation (Self.pointer self.now)) }
         ensures ok { IsOk result ↔ HasNResults 1 ctx.now (Self.pointer self.now) }
         ensures refused { IfErr result (BreaksNResults 1 ctx.now (Self.pointer self.now)) }
-        ensures whole { IsWhole D.attr_handles ctx.now }
+        ensures whole { IsWellFormed D.attr_handles ctx.now }
     {
         let op = self.get_operation();
         let found = op.get_num_results(ctx);
@@ -134,7 +134,7 @@ pub trait OneResultInterface<D: OpSet>: Op<D> {
         requires rule { HasNResults 1 ctx.now (Self.pointer self.now) }
         ensures value { result ≡ result_at (Self.pointer self.now) 0 }
         ensures live { IsValueLive ctx.now result }
-        ensures whole { IsWhole D.attr_handles ctx.now }
+        ensures whole { IsWellFormed D.attr_handles ctx.now }
     {
         self.get_operation().get_result(ctx, 0)
     }
@@ -145,7 +145,7 @@ pub trait OneResultInterface<D: OpSet>: Op<D> {
         requires rule { HasNResults 1 ctx.now (Self.pointer self.now) }
         ensures value { slice_get (result_types ctx.now (Self.pointer self.now)) 0 ≡ Some (Some result) }
         ensures live { IsTypeLive ctx.now.types result }
-        ensures whole { IsWhole D.attr_handles ctx.now }
+        ensures whole { IsWellFormed D.attr_handles ctx.now }
     {
         self.get_operation().get_type(ctx, 0)
     }
@@ -162,7 +162,7 @@ pub fn verify_get_result_n<D: OpSet, const N: usize>(
     ensures value { IfOk result (λ v. v ≡ result_at op N) }
     ensures live { IfOk result (IsValueLive ctx.now) }
     ensures refused { IfErr result (IsRefusal ctx.now op (λ e. (e.0 ≡ num_results ctx.now op) × (e.1 ≡ N + 1))) }
-    ensures whole { IsWhole D.attr_handles ctx.now }
+    ensures whole { IsWellFormed D.attr_handles ctx.now }
 {
     let found = op.get_num_results(ctx);
     accept_if(ctx, op, N < found, NotEnoughResultsErr(found, N + 1))?;

@@ -2,8 +2,8 @@
 ghost use Rattle.std.specs.Prelude.{◌≡◌, ◌↔◌, IsOk, IfErr, IfSome, IsTrue};
 ghost use Rattle.plir_core.specs.declared.ptr.IRNode.{IRNode};
 ghost use Rattle.plir_data.specs.Types.{IsLive as IsTypeLive};
-ghost use Rattle.plir_core.specs.Store.{IsLive};
-ghost use Rattle.plir_core.specs.Whole.{IsWhole};
+ghost use Rattle.plir_core.specs.ContextView.{IsLive};
+ghost use Rattle.plir_core.specs.WellFormed.{IsWellFormed};
 ghost use Rattle.plir_iface.specs.Counts.{operand_types, result_types};
 ghost use Rattle.plir_iface.specs.Sides.{AllSame, type_in, types_on};
 ghost use Rattle.plir_iface.specs.SameTypes.{HasSameOperandsType, HasSameResultsType, HasSameOperandsAndResultType};
@@ -36,7 +36,7 @@ pub struct SameOperandsAndResultTypeVerifyErr;
 fn has_same_types<D: OpSet>(ctx: &Context<D>, op: Ptr<Operation>, side: Side) -> bool
     requires { IsLive ctx.now (IRNode.Operation op) }
     ensures value { IsTrue result ↔ AllSame (types_on side ctx.now op) }
-    ensures whole { IsWhole D.attr_handles ctx.now }
+    ensures whole { IsWellFormed D.attr_handles ctx.now }
 {
     let count = side.len(ctx, op);
     if count == 0 {
@@ -55,7 +55,7 @@ fn has_same_types<D: OpSet>(ctx: &Context<D>, op: Ptr<Operation>, side: Side) ->
 fn has_same_first_types<D: OpSet>(ctx: &Context<D>, op: Ptr<Operation>) -> bool
     requires { IsLive ctx.now (IRNode.Operation op) }
     ensures value { IsTrue result ↔ HasSameOperandsAndResultType ctx.now op }
-    ensures whole { IsWhole D.attr_handles ctx.now }
+    ensures whole { IsWellFormed D.attr_handles ctx.now }
 {
     let Some(result_type) = Side::Results.first_type(ctx, op) else {
         return true;
@@ -73,7 +73,7 @@ pub trait SameOperandsType<D: OpSet>: Op<D> {
         requires { IsLive ctx.now (IRNode.Operation (Self.pointer self.now)) }
         ensures ok { IsOk result ↔ HasSameOperandsType ctx.now (Self.pointer self.now) }
         ensures refused { IfErr result (IsRefusal ctx.now (Self.pointer self.now) (λ e. e ≡ record {})) }
-        ensures whole { IsWhole D.attr_handles ctx.now }
+        ensures whole { IsWellFormed D.attr_handles ctx.now }
     {
         let op = self.get_operation();
         let holds = has_same_types(ctx, op, Side::Operands);
@@ -85,7 +85,7 @@ pub trait SameOperandsType<D: OpSet>: Op<D> {
         requires { IsLive ctx.now (IRNode.Operation (Self.pointer self.now)) }
         ensures value { result ≡ type_in (operand_types ctx.now (Self.pointer self.now)) 0 }
         ensures live { IfSome result (IsTypeLive ctx.now.types) }
-        ensures whole { IsWhole D.attr_handles ctx.now }
+        ensures whole { IsWellFormed D.attr_handles ctx.now }
     {
         Side::Operands.first_type(ctx, self.get_operation())
     }
@@ -98,7 +98,7 @@ pub trait SameResultsType<D: OpSet>: Op<D> {
         requires { IsLive ctx.now (IRNode.Operation (Self.pointer self.now)) }
         ensures ok { IsOk result ↔ HasSameResultsType ctx.now (Self.pointer self.now) }
         ensures refused { IfErr result (IsRefusal ctx.now (Self.pointer self.now) (λ e. e ≡ record {})) }
-        ensures whole { IsWhole D.attr_handles ctx.now }
+        ensures whole { IsWellFormed D.attr_handles ctx.now }
     {
         let op = self.get_operation();
         let holds = has_same_types(ctx, op, Side::Results);
@@ -110,7 +110,7 @@ pub trait SameResultsType<D: OpSet>: Op<D> {
         requires { IsLive ctx.now (IRNode.Operation (Self.pointer self.now)) }
         ensures value { result ≡ type_in (result_types ctx.now (Self.pointer self.now)) 0 }
         ensures live { IfSome result (IsTypeLive ctx.now.types) }
-        ensures whole { IsWhole D.attr_handles ctx.now }
+        ensures whole { IsWellFormed D.attr_handles ctx.now }
     {
         Side::Results.first_type(ctx, self.get_operation())
     }
@@ -126,7 +126,7 @@ pub trait SameOperandsAndResultType<D: OpSet>: SameOperandsType<D> + SameResults
         requires { IsLive ctx.now (IRNode.Operation (Self.pointer self.now)) }
         ensures ok { IsOk result ↔ HasSameOperandsAndResultType ctx.now (Self.pointer self.now) }
         ensures refused { IfErr result (IsRefusal ctx.now (Self.pointer self.now) (λ e. e ≡ record {})) }
-        ensures whole { IsWhole D.attr_handles ctx.now }
+        ensures whole { IsWellFormed D.attr_handles ctx.now }
     {
         let op = self.get_operation();
         let holds = has_same_first_types(ctx, op);
@@ -138,7 +138,7 @@ pub trait SameOperandsAndResultType<D: OpSet>: SameOperandsType<D> + SameResults
         requires { IsLive ctx.now (IRNode.Operation (Self.pointer self.now)) }
         ensures value { result ≡ first_type ctx.now (Self.pointer self.now) }
         ensures live { IfSome result (IsTypeLive ctx.now.types) }
-        ensures whole { IsWhole D.attr_handles ctx.now }
+        ensures whole { IsWellFormed D.attr_handles ctx.now }
     {
         let op = self.get_operation();
         match Side::Results.first_type(ctx, op) {

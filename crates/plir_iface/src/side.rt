@@ -2,8 +2,8 @@
 ghost use Rattle.std.specs.Prelude.{◌≡◌, ◌<◌, IfSome, Some, length};
 ghost use Rattle.plir_data.specs.Types.{IsLive as IsTypeLive};
 ghost use Rattle.plir_core.specs.declared.ptr.IRNode.{IRNode};
-ghost use Rattle.plir_core.specs.Store.{IsLive};
-ghost use Rattle.plir_core.specs.Whole.{IsWhole};
+ghost use Rattle.plir_core.specs.ContextView.{IsLive};
+ghost use Rattle.plir_core.specs.WellFormed.{IsWellFormed};
 
 use crate::values::{operand_at, result_type_at, type_of};
 use plir_core::{Context, Operation, Ptr};
@@ -25,7 +25,7 @@ impl Side {
     pub(crate) fn len<D: OpSet>(self, ctx: &Context<D>, op: Ptr<Operation>) -> usize
         requires { IsLive ctx.now (IRNode.Operation op) }
         ensures value { result ≡ length (types_on self ctx.now op) }
-        ensures whole { IsWhole D.attr_handles ctx.now }
+        ensures whole { IsWellFormed D.attr_handles ctx.now }
     {
         match self {
             Side::Operands => op.get_num_operands(ctx),
@@ -39,7 +39,7 @@ impl Side {
         requires below { i < length (types_on self ctx.now op) }
         ensures value { type_in (types_on self ctx.now op) i ≡ Some result }
         ensures live { IsTypeLive ctx.now.types result }
-        ensures whole { IsWhole D.attr_handles ctx.now }
+        ensures whole { IsWellFormed D.attr_handles ctx.now }
     {
         match self {
             Side::Operands => type_of(ctx, operand_at(ctx, op, i)),
@@ -56,7 +56,7 @@ impl Side {
         requires { IsLive ctx.now (IRNode.Operation op) }
         ensures value { result ≡ type_in (types_on self ctx.now op) 0 }
         ensures live { IfSome result (IsTypeLive ctx.now.types) }
-        ensures whole { IsWhole D.attr_handles ctx.now }
+        ensures whole { IsWellFormed D.attr_handles ctx.now }
     {
         if self.len(ctx, op) == 0 {
             return None;

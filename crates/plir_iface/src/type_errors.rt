@@ -17,7 +17,7 @@ pub struct TooFew {
 
 /// A value has a type that fails a test: where it is, the name of what is asked for, and the id of its type.
 #[derive(Clone, Copy)]
-pub struct Misfit {
+pub struct TypeMismatch {
     pub side: Side,
     pub place: usize,
     pub wanted: &'static str,
@@ -30,7 +30,7 @@ pub enum TypeFault {
     /// There are too few values.
     Few(TooFew),
     /// A value has a wrong type.
-    Wrong(Misfit),
+    Wrong(TypeMismatch),
 }
 
 /// A value has a type of another kind than is asked for: the name of that kind, and the type's text.
@@ -96,10 +96,10 @@ pub enum TypeInterfaceImplsErr {
     Segment(usize, &'static str, &'static str),
 }
 
-impl From<Misfit> for TypeInterfaceImplsErr {
+impl From<TypeMismatch> for TypeInterfaceImplsErr {
     ghost from_gives = { TellsImpls };
 
-    fn from(m: Misfit) -> TypeInterfaceImplsErr {
+    fn from(m: TypeMismatch) -> TypeInterfaceImplsErr {
         match m.side {
             Side::Operands => TypeInterfaceImplsErr::Operand(m.place, m.wanted, m.found),
             Side::Results => TypeInterfaceImplsErr::Result(m.place, m.wanted, m.found),
@@ -115,10 +115,10 @@ pub enum OperandNOfTypeError {
     AllOperandsOfTypeVerifyErr(&'static str, &'static str),
 }
 
-impl From<Misfit> for OperandNOfTypeError {
+impl From<TypeMismatch> for OperandNOfTypeError {
     ghost from_gives = { TellsOperandN };
 
-    fn from(m: Misfit) -> OperandNOfTypeError {
+    fn from(m: TypeMismatch) -> OperandNOfTypeError {
         OperandNOfTypeError::AllOperandsOfTypeVerifyErr(m.wanted, m.found)
     }
 }
@@ -131,10 +131,10 @@ pub enum ResultNOfTypeError {
     AllResultsOfTypeVerifyErr(&'static str, &'static str),
 }
 
-impl From<Misfit> for ResultNOfTypeError {
+impl From<TypeMismatch> for ResultNOfTypeError {
     ghost from_gives = { TellsResultN };
 
-    fn from(m: Misfit) -> ResultNOfTypeError {
+    fn from(m: TypeMismatch) -> ResultNOfTypeError {
         ResultNOfTypeError::AllResultsOfTypeVerifyErr(m.wanted, m.found)
     }
 }
@@ -201,7 +201,7 @@ pub enum TypeRuleErr<F, E> {
     WrongType(E),
 }
 
-impl<F: From<TooFew>, E: From<Misfit>> From<TypeFault> for TypeRuleErr<F, E> {
+impl<F: From<TooFew>, E: From<TypeMismatch>> From<TypeFault> for TypeRuleErr<F, E> {
     ghost from_gives = { TellsRule F.from_gives E.from_gives };
 
     fn from(fault: TypeFault) -> TypeRuleErr<F, E> {

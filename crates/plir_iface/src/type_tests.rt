@@ -3,8 +3,8 @@ ghost use Rattle.std.specs.Prelude.{◌≡◌, ◌<◌, ◌≤◌, ◌↔◌, le
 ghost use Rattle.plir_data.specs.Types.{TypeView};
 ghost use Rattle.plir_data.specs.TypeSeen.{type_view};
 ghost use Rattle.plir_core.specs.declared.ptr.IRNode.{IRNode};
-ghost use Rattle.plir_core.specs.Store.{IsLive};
-ghost use Rattle.plir_core.specs.Whole.{IsWhole};
+ghost use Rattle.plir_core.specs.ContextView.{IsLive};
+ghost use Rattle.plir_core.specs.WellFormed.{IsWellFormed};
 ghost use Rattle.plir_iface.specs.Sides.{types_on, type_in};
 ghost use Rattle.plir_iface.specs.TypeRules.{Passes, IsBetween, IsFirstFailing};
 
@@ -81,7 +81,7 @@ pub(crate) fn passes_at<D: OpSet, Q: TypeTest<D>>(
     requires live { IsLive ctx.now (IRNode.Operation op) }
     requires below { i < length (types_on side ctx.now op) }
     ensures value { IsTrue result ↔ Passes Q.passes ctx.now (type_in (types_on side ctx.now op) i) }
-    ensures whole { IsWhole D.attr_handles ctx.now }
+    ensures whole { IsWellFormed D.attr_handles ctx.now }
 {
     Q::test(ctx.types().get(side.type_at(ctx, op, i)))
 }
@@ -97,7 +97,7 @@ pub fn first_failing<D: OpSet, Q: TypeTest<D>>(
     requires live { IsLive ctx.now (IRNode.Operation op) }
     requires within { end ≤ length (types_on side ctx.now op) }
     ensures value { IsFirstFailing Q.passes ctx.now (IsBetween start end) (types_on side ctx.now op) result }
-    ensures whole { IsWhole D.attr_handles ctx.now }
+    ensures whole { IsWellFormed D.attr_handles ctx.now }
 {
     let _count = side.len(ctx, op);
     for i in start..end {

@@ -1,7 +1,7 @@
 //! What a verifier answers.
 ghost use Rattle.std.specs.Prelude.{◌≡◌, ◌↔◌, IsOk, IfErr, IsTrue};
-ghost use Rattle.plir_core.specs.Store.{IsLive};
-ghost use Rattle.plir_core.specs.Whole.{IsWhole};
+ghost use Rattle.plir_core.specs.ContextView.{IsLive};
+ghost use Rattle.plir_core.specs.WellFormed.{IsWellFormed};
 ghost use Rattle.plir_core.specs.declared.ptr.IRNode.{IRNode};
 ghost use Rattle.plir_iface.specs.Verdict.{IsRefusal};
 
@@ -18,7 +18,7 @@ pub fn accept_if<D: OpSet, E: Drop>(
     requires { IsLive ctx.now (IRNode.Operation op) }
     ensures ok { IsOk result ↔ IsTrue holds }
     ensures refused { IfErr result (IsRefusal ctx.now op (λ e. e ≡ err)) }
-    ensures whole { IsWhole D.attr_handles ctx.now }
+    ensures whole { IsWellFormed D.attr_handles ctx.now }
 {
     ctx.stands();
     if holds {
@@ -31,7 +31,7 @@ pub fn accept_if<D: OpSet, E: Drop>(
 pub fn refusal<D: OpSet, E: Drop>(ctx: &Context<D>, op: Ptr<Operation>, err: E) -> VerifyErr<E>
     requires { IsLive ctx.now (IRNode.Operation op) }
     ensures refused { IsRefusal ctx.now op (λ e. e ≡ err) result }
-    ensures whole { IsWhole D.attr_handles ctx.now }
+    ensures whole { IsWellFormed D.attr_handles ctx.now }
 {
     ctx.stands();
     VerifyErr::Refused {

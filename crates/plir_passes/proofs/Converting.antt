@@ -10,9 +10,9 @@ use Rattle.plir_core.specs.declared.ptr.BasicBlock.{BasicBlock as BasicBlockKind
 use Rattle.plir_core.specs.declared.ptr.IRNode.{IRNode}
 use Rattle.plir_core.specs.declared.ptr.IRNode.TheVariants.{Operation, Region, BasicBlock}
 use Rattle.plir_core.specs.Forest.{look, IsForest}
-use Rattle.plir_core.specs.Store.{Store, IsLive, is_live, kids, parent_of, given_out}
+use Rattle.plir_core.specs.ContextView.{ContextView, IsLive, is_live, children, parent_of, given_out}
 use Rattle.plir_walk.specs.Lawful.{Lawful}
-use Rattle.plir_passes.specs.Legal.{is_illegal, HasLegalKids}
+use Rattle.plir_passes.specs.Legal.{is_illegal, HasLegalChildren}
 use Rattle.plir_passes.specs.Rewritten.{BringsNoIllegal, IsConverted, IsRewriting, IsReplaced}
 use Rattle.plir_passes.specs.Passing.{left_from, IsPassed}
 use Rattle.plir_passes.proofs.Nodes.{left-cut, not-both, never-true}
@@ -29,8 +29,8 @@ ended (x ∷ xs) e = absurd (none-some x e)
 
 module _ {K A T : Type 0} (illegal : OpKind K → Bool) where
   -- one operation of a block is passed: it is legal and stays
-  pub passed-legal : (s : Store K A T) (b : Ptr BasicBlockKind) (op : Ptr OperationKind) (next : Option (Ptr OperationKind))
-      → ((xs ys : List IRNode) → kids s (BasicBlock b) ≡ xs ++ Operation op ∷ ys → option_map Operation next ≡ head ys)
+  pub passed-legal : (s : ContextView K A T) (b : Ptr BasicBlockKind) (op : Ptr OperationKind) (next : Option (Ptr OperationKind))
+      → ((xs ys : List IRNode) → children s (BasicBlock b) ≡ xs ++ Operation op ∷ ys → option_map Operation next ≡ head ys)
       → is_illegal illegal s (Operation op) ≡ false → IsPassed illegal s s b op next
   passed-legal s b op next behind legal xs ys q = (behind xs ys q, Operation op ∷ [], q, only)
     where
@@ -39,52 +39,52 @@ module _ {K A T : Type 0} (illegal : OpKind K → Bool) where
       only a (inr nay) = absurd nay
 
   -- or it has been replaced
-  module _ (s t : Store K A T) (b : Ptr BasicBlockKind) (op : Ptr OperationKind) (next : Option (Ptr OperationKind))
-      (behind : (xs ys : List IRNode) → kids s (BasicBlock b) ≡ xs ++ Operation op ∷ ys → option_map Operation next ≡ head ys) where
+  module _ (s t : ContextView K A T) (b : Ptr BasicBlockKind) (op : Ptr OperationKind) (next : Option (Ptr OperationKind))
+      (behind : (xs ys : List IRNode) → children s (BasicBlock b) ≡ xs ++ Operation op ∷ ys → option_map Operation next ≡ head ys) where
     pub passed-replaced : IsForest (look s) → IsForest (look t) → IsLive s (BasicBlock b) → BringsNoIllegal illegal s t → IsReplaced s t b op → IsPassed illegal s t b op next
     passed-replaced w w' live brings r xs ys q =
         let p = r.place xs ys q in
         (behind xs ys q, p.0, p.1, λ a h. never-true (is_illegal illegal t a) (bad p.0 p.1 a h))
       where
-        bad : (ks : List IRNode) → kids t (BasicBlock b) ≡ xs ++ (ks ++ ys) → (a : IRNode) → Has ks a → is_illegal illegal t a ≡ true → ⊥
+        bad : (ks : List IRNode) → children t (BasicBlock b) ≡ xs ++ (ks ++ ys) → (a : IRNode) → Has ks a → is_illegal illegal t a ≡ true → ⊥
         bad ks e a h i =
             let here = subst (λ z. Has z a) (sym e) (Has-append_right xs (ks ++ ys) a (Has-append_left ks ys a h)) in
             let once = subst Distinct e (w'.once (BasicBlock b)) in
             let was = brings (BasicBlock b) a (w.live_given (BasicBlock b) live) here i in
             elim (Has-append_cases xs (Operation op ∷ ys) a (subst (λ z. Has z a) q was.0)) [
               | inl x ↦ Distinct-cross xs (ks ++ ys) once a x (Has-append_left ks ys a h)
-              | inr (inl o) ↦ not-both (is_live t (Operation op)) (subst (IsLive t) (sym o) (w'.kid_live (BasicBlock b) a here)) r.gone
+              | inr (inl o) ↦ not-both (is_live t (Operation op)) (subst (IsLive t) (sym o) (w'.child_live (BasicBlock b) a here)) r.gone
               | inr (inr y) ↦ Distinct-cross ks ys (Distinct-right xs (ks ++ ys) once) a h y
             ]
 
   -- From the start of the loop in s to s', the operations of the block b before `at` are legal.
-  pub record IsConverting (s s' : Store K A T) (b : Ptr BasicBlockKind) (at : Option (Ptr OperationKind)) : Type 0 where
+  pub record IsConverting (s s' : ContextView K A T) (b : Ptr BasicBlockKind) (at : Option (Ptr OperationKind)) : Type 0 where
     pub lawful : Lawful (look s) (BasicBlock b) (look s')
     pub converted : IsConverted illegal s s'
     pub forest : IsForest (look s')
     pub live : IsLive s' (BasicBlock b)
     pub front : List IRNode
     pub back : List IRNode
-    pub split : kids s' (BasicBlock b) ≡ front ++ back
+    pub split : children s' (BasicBlock b) ≡ front ++ back
     pub here : option_map Operation at ≡ head back
     pub legal : (a : IRNode) → Has front a → is_illegal illegal s' a ≡ false
 
-  pub converting-start : (s : Store K A T) (b : Ptr BasicBlockKind) (at : Option (Ptr OperationKind)) → Lawful (look s) (BasicBlock b) (look s) → IsForest (look s) → IsLive s (BasicBlock b)
-      → option_map Operation at ≡ head (kids s (BasicBlock b)) → IsConverting s s b at
+  pub converting-start : (s : ContextView K A T) (b : Ptr BasicBlockKind) (at : Option (Ptr OperationKind)) → Lawful (look s) (BasicBlock b) (look s) → IsForest (look s) → IsLive s (BasicBlock b)
+      → option_map Operation at ≡ head (children s (BasicBlock b)) → IsConverting s s b at
   converting-start s b at l w v e = record {
     lawful = l;
     converted = converted-none illegal s;
     forest = w;
     live = v;
     front = [];
-    back = kids s (BasicBlock b);
+    back = children s (BasicBlock b);
     split = refl;
     here = e;
     legal = λ a h. absurd h;
   }
 
-  module _ (s s' : Store K A T) (b : Ptr BasicBlockKind) (at : Option (Ptr OperationKind)) (r : IsConverting s s' b at) where
-    pub converting-end : at ≡ None → HasLegalKids illegal s' (BasicBlock b)
+  module _ (s s' : ContextView K A T) (b : Ptr BasicBlockKind) (at : Option (Ptr OperationKind)) (r : IsConverting s s' b at) where
+    pub converting-end : at ≡ None → HasLegalChildren illegal s' (BasicBlock b)
     converting-end e a h = elim (Has-append_cases r.front r.back a (subst (λ z. Has z a) r.split h)) [
       | inl x ↦ r.legal a x
       | inr y ↦ absurd (subst (λ z. Has z a) (ended r.back (ap (option_map Operation) (sym e) ∙ r.here)) y)
@@ -94,23 +94,23 @@ module _ {K A T : Type 0} (illegal : OpKind K → Bool) where
       rest : (ys : List IRNode) × (r.back ≡ Operation op ∷ ys)
       rest = headed r.back op (ap (option_map Operation) (sym is) ∙ r.here)
 
-      cut : kids s' (BasicBlock b) ≡ r.front ++ Operation op ∷ rest.0
+      cut : children s' (BasicBlock b) ≡ r.front ++ Operation op ∷ rest.0
       cut = r.split ∙ ap (λ z. r.front ++ z) rest.1
 
-      has : Has (kids s' (BasicBlock b)) (Operation op)
+      has : Has (children s' (BasicBlock b)) (Operation op)
       has = subst (λ z. Has z (Operation op)) (sym cut) (Has-mid r.front rest.0 (Operation op))
 
       pub converting-live : IsLive s' (Operation op)
-      converting-live = r.forest.kid_live (BasicBlock b) (Operation op) has
+      converting-live = r.forest.child_live (BasicBlock b) (Operation op) has
 
       pub converting-parent : parent_of s' (Operation op) ≡ Some (BasicBlock b)
-      converting-parent = r.forest.kid_parent (BasicBlock b) (Operation op) has
+      converting-parent = r.forest.child_parent (BasicBlock b) (Operation op) has
 
-      module _ (t : Store K A T) (next : Option (Ptr OperationKind)) (w : IsForest (look s)) (w' : IsForest (look t)) (p : IsPassed illegal s' t b op next) where
-        abbrev passed : (option_map Operation next ≡ head rest.0) × (ks : List IRNode) × (kids t (BasicBlock b) ≡ r.front ++ (ks ++ rest.0)) × ((a : IRNode) → Has ks a → is_illegal illegal t a ≡ false)
+      module _ (t : ContextView K A T) (next : Option (Ptr OperationKind)) (w : IsForest (look s)) (w' : IsForest (look t)) (p : IsPassed illegal s' t b op next) where
+        abbrev passed : (option_map Operation next ≡ head rest.0) × (ks : List IRNode) × (children t (BasicBlock b) ≡ r.front ++ (ks ++ rest.0)) × ((a : IRNode) → Has ks a → is_illegal illegal t a ≡ false)
         passed = p r.front rest.0 cut
 
-        recut : kids t (BasicBlock b) ≡ (r.front ++ passed.1) ++ rest.0
+        recut : children t (BasicBlock b) ≡ (r.front ++ passed.1) ++ rest.0
         recut = passed.2 ∙ sym (append_assoc r.front passed.1 rest.0)
 
         pub converting-more : Lawful (look s) (BasicBlock b) (look t) → IsConverted illegal s' t → IsLive t (BasicBlock b) → IsConverting s t b next
@@ -130,13 +130,13 @@ module _ {K A T : Type 0} (illegal : OpKind K → Bool) where
           ];
         }
 
-        pub converting-falls : left_from (kids t (BasicBlock b)) next < left_from (kids s' (BasicBlock b)) at
+        pub converting-falls : left_from (children t (BasicBlock b)) next < left_from (children s' (BasicBlock b)) at
         converting-falls = go next passed.0
           where
-            before : left_from (kids s' (BasicBlock b)) at ≡ suc (length rest.0)
-            before = ap (left_from (kids s' (BasicBlock b))) is ∙ ap (λ z. left_from z (Some op)) cut ∙ left-cut r.front rest.0 op (subst Distinct cut (r.forest.once (BasicBlock b)))
+            before : left_from (children s' (BasicBlock b)) at ≡ suc (length rest.0)
+            before = ap (left_from (children s' (BasicBlock b))) is ∙ ap (λ z. left_from z (Some op)) cut ∙ left-cut r.front rest.0 op (subst Distinct cut (r.forest.once (BasicBlock b)))
 
-            go : (o : Option (Ptr OperationKind)) → option_map Operation o ≡ head rest.0 → left_from (kids t (BasicBlock b)) o < left_from (kids s' (BasicBlock b)) at
+            go : (o : Option (Ptr OperationKind)) → option_map Operation o ≡ head rest.0 → left_from (children t (BasicBlock b)) o < left_from (children s' (BasicBlock b)) at
             go None e = omega (arith, before)
             go (Some q) e =
                 let y = headed rest.0 q e in

@@ -18,7 +18,7 @@ use Rattle.plir_core.specs.Made.{IsMade}
 use Rattle.plir_core.specs.Nodes.{Nodes, is_node_live}
 use Rattle.plir_core.specs.Placed.{MovesOnly, IsPlaced, IsPlacedBefore}
 use Rattle.plir_core.specs.Forest.{look, IsForest}
-use Rattle.plir_core.specs.Store.{Store, IsLive, is_live, kids, parent_of, given_out, kind_in, op_at, block_at, operands_in}
+use Rattle.plir_core.specs.ContextView.{ContextView, IsLive, is_live, children, parent_of, given_out, kind_in, op_at, block_at, operands_in}
 use Rattle.plir_walk.specs.Lawful.{Lawful}
 use Rattle.plir_walk.specs.LawfulChanges.{LawfulChanges}
 use Rattle.plir_passes.specs.Legal.{is_illegal, is_kind}
@@ -33,13 +33,13 @@ moved-live s t x e (BasicBlock p) = ap (λ z. is_live_at z p.slot p.version) e.b
 
 module _ {K A T : Type 0} (illegal : OpKind K → Bool) where
   -- a node that holds what it held has the kind that it had
-  same-legal : (s t : Store K A T) (a : IRNode) → ((p : Ptr OperationKind) → a ≡ Operation p → op_at t p ≡ op_at s p) → is_illegal illegal t a ≡ is_illegal illegal s a
+  same-legal : (s t : ContextView K A T) (a : IRNode) → ((p : Ptr OperationKind) → a ≡ Operation p → op_at t p ≡ op_at s p) → is_illegal illegal t a ≡ is_illegal illegal s a
   same-legal s t (Operation p) e = ap (λ z. is_kind illegal (kind_in z)) (e p refl)
   same-legal s t (Region p) e = refl
   same-legal s t (BasicBlock p) e = refl
 
   -- what was live is live, where it stood, and holds what it held
-  keeps-all : (s t : Store K A T) (P : IRNode → Type 0) → ((n : IRNode) → IsLive s n → P n → IsLive t n) → ((n : IRNode) → IsLive s n → P n → parent_of t n ≡ parent_of s n)
+  keeps-all : (s t : ContextView K A T) (P : IRNode → Type 0) → ((n : IRNode) → IsLive s n → P n → IsLive t n) → ((n : IRNode) → IsLive s n → P n → parent_of t n ≡ parent_of s n)
       → ((p : Ptr OperationKind) → IsLive s (Operation p) → P (Operation p) → op_at t p ≡ op_at s p) → ((b : Ptr BasicBlockKind) → IsLive s (BasicBlock b) → P (BasicBlock b) → block_at t b ≡ block_at s b)
       → Keeps s t P
   keeps-all s t P live parents ops blocks = record {
@@ -50,26 +50,26 @@ module _ {K A T : Type 0} (illegal : OpKind K → Bool) where
     blocks = blocks;
   }
 
-  pub rewriting-refused : (s t : Store K A T) (b : Ptr BasicBlockKind) (op : Ptr OperationKind) → IsForest (look s) → Lawful (look s) (BasicBlock b) (look t) → SameLive s t → IsRewriting illegal s t b op
+  pub rewriting-refused : (s t : ContextView K A T) (b : Ptr BasicBlockKind) (op : Ptr OperationKind) → IsForest (look s) → Lawful (look s) (BasicBlock b) (look t) → SameLive s t → IsRewriting illegal s t b op
   rewriting-refused s t b op w l same = record {
     lawful = l;
     kept = keeps-all s t _ (λ n l a. same.nodes.live n ∙ l) (λ n l a. same.nodes.parents n) (λ p l a. same.nodes.ops p l) (λ q l a. same.nodes.blocks q l);
     legal = λ n a g h i.
-        (let k : Has (kids s n) a = subst (λ z. Has z a) (same.nodes.kids n) h in
-        (k, sym (same-legal s t a (λ p e. same.nodes.ops p (subst (IsLive s) e (w.kid_live n a k)))) ∙ i));
+        (let k : Has (children s n) a = subst (λ z. Has z a) (same.nodes.children n) h in
+        (k, sym (same-legal s t a (λ p e. same.nodes.ops p (subst (IsLive s) e (w.child_live n a k)))) ∙ i));
   }
 
-  module _ (own : A → List ℕ) (laws : LawfulChanges K A T own) (s t u : Store K A T) (b : Ptr BasicBlockKind) (op x : Ptr OperationKind)
+  module _ (own : A → List ℕ) (laws : LawfulChanges K A T own) (s t u : ContextView K A T) (b : Ptr BasicBlockKind) (op x : Ptr OperationKind)
       (w : IsForest (look s)) (here : parent_of s (Operation op) ≡ Some (BasicBlock b)) (made : IsMade s.nodes t.nodes (Operation x))
       (placed : IsPlacedBefore t.nodes u.nodes (Operation x) (Operation op)) where
     over : IsLive s (BasicBlock b)
     over = w.parent_live (BasicBlock b) (Operation op) here
 
-    cut : (front : List IRNode) × (back : List IRNode) × (kids s (BasicBlock b) ≡ front ++ Operation op ∷ back)
-    cut = Has-split (kids s (BasicBlock b)) (Operation op) (w.parent_kid (BasicBlock b) (Operation op) here)
+    cut : (front : List IRNode) × (back : List IRNode) × (children s (BasicBlock b) ≡ front ++ Operation op ∷ back)
+    cut = Has-split (children s (BasicBlock b)) (Operation op) (w.parent_child (BasicBlock b) (Operation op) here)
 
-    now : (xs ys : List IRNode) → kids s (BasicBlock b) ≡ xs ++ Operation op ∷ ys → IsPlaced t.nodes u.nodes (Operation x) (BasicBlock b) (xs ++ Operation x ∷ Operation op ∷ ys)
-    now xs ys e = placed (BasicBlock b) xs ys (made.kids (BasicBlock b) over ∙ e)
+    now : (xs ys : List IRNode) → children s (BasicBlock b) ≡ xs ++ Operation op ∷ ys → IsPlaced t.nodes u.nodes (Operation x) (BasicBlock b) (xs ++ Operation x ∷ Operation op ∷ ys)
+    now xs ys e = placed (BasicBlock b) xs ys (made.children (BasicBlock b) over ∙ e)
 
     at : IsPlaced t.nodes u.nodes (Operation x) (BasicBlock b) (cut.0 ++ Operation x ∷ Operation op ∷ cut.1)
     at = now cut.0 cut.1 cut.2
@@ -107,35 +107,35 @@ module _ {K A T : Type 0} (illegal : OpKind K → Bool) where
 
     module _ (w' : IsForest (look u)) (legal : is_illegal illegal t (Operation x) ≡ false) where
       -- what stands under an older node stood there, but for the new one
-      brought-u : (n a : IRNode) → IsLive s n → Has (kids u n) a → is_illegal illegal u a ≡ true → Has (kids s n) a × (is_illegal illegal s a ≡ true)
+      brought-u : (n a : IRNode) → IsLive s n → Has (children u n) a → is_illegal illegal u a ≡ true → Has (children s n) a × (is_illegal illegal s a ≡ true)
       brought-u n a l h i = elim (block-tells n b) [
         | inl e ↦
-            let k : Has (cut.0 ++ Operation x ∷ Operation op ∷ cut.1) a = subst (λ z. Has z a) at.kids_over (subst (λ z. Has (kids u z) a) e h) in
-            let old : Has (kids s (BasicBlock b)) a → Has (kids s n) a × (is_illegal illegal s a ≡ true) = λ h. (let z = kept (BasicBlock b) h in (subst (λ m. Has (kids s m) a) (sym e) z.0, z.1)) in
+            let k : Has (cut.0 ++ Operation x ∷ Operation op ∷ cut.1) a = subst (λ z. Has z a) at.children_over (subst (λ z. Has (children u z) a) e h) in
+            let old : Has (children s (BasicBlock b)) a → Has (children s n) a × (is_illegal illegal s a ≡ true) = λ h. (let z = kept (BasicBlock b) h in (subst (λ m. Has (children s m) a) (sym e) z.0, z.1)) in
             elim (Has-append_cases cut.0 (Operation x ∷ Operation op ∷ cut.1) a k) [
               | inl f ↦ old (subst (λ z. Has z a) (sym cut.2) (Has-append_left cut.0 (Operation op ∷ cut.1) a f))
               | inr (inl q) ↦ absurd (not-both (is_illegal illegal u (Operation x)) (subst (λ z. is_illegal illegal u z ≡ true) (sym q) i) (ap (λ z. is_kind illegal (kind_in (content_at z x.slot))) at.moved.ops ∙ legal))
               | inr (inr f) ↦ old (subst (λ z. Has z a) (sym cut.2) (Has-append_right cut.0 (Operation op ∷ cut.1) a f))
             ]
-        | inr ne ↦ kept n (subst (λ z. Has z a) (at.kids n ne ∙ made.kids n l) h)
+        | inr ne ↦ kept n (subst (λ z. Has z a) (at.children n ne ∙ made.children n l) h)
       ]
         where
-          kept : (m : IRNode) → Has (kids s m) a → Has (kids s m) a × (is_illegal illegal s a ≡ true)
-          kept m f = (f, sym (same-legal s u a (λ p e. op-u p (subst (IsLive s) e (w.kid_live m a f)))) ∙ i)
+          kept : (m : IRNode) → Has (children s m) a → Has (children s m) a × (is_illegal illegal s a ≡ true)
+          kept m f = (f, sym (same-legal s u a (λ p e. op-u p (subst (IsLive s) e (w.child_live m a f)))) ∙ i)
 
       pub rewriting-added : IsRewriting illegal s u b op
       rewriting-added = record {
         lawful = laws.placed s t u (BasicBlock b) (BasicBlock b) (Operation x) _ w (zero, refl) made at;
         kept = keeps-all s u _ (λ n l a. live-u n l) (λ n l a. parent-u n l) (λ p l a. op-u p l) (λ q l a. block-u q l);
-        legal = λ n a g h i. brought-u n a (was-live n (w'.parent_live n a (w'.kid_parent n a h)) g) h i;
+        legal = λ n a g h i. brought-u n a (was-live n (w'.parent_live n a (w'.child_parent n a h)) g) h i;
       }
 
       pub added-live : IsLive u (Operation op)
-      added-live = live-u (Operation op) (w.kid_live (BasicBlock b) (Operation op) (w.parent_kid (BasicBlock b) (Operation op) here))
+      added-live = live-u (Operation op) (w.child_live (BasicBlock b) (Operation op) (w.parent_child (BasicBlock b) (Operation op) here))
 
-      module _ (v : Store K A T) (w'' : IsForest (look v)) (erased : IsErased u.nodes v.nodes (Operation op)) where
+      module _ (v : ContextView K A T) (w'' : IsForest (look v)) (erased : IsErased u.nodes v.nodes (Operation op)) where
         parent-op : parent_of u (Operation op) ≡ Some (BasicBlock b)
-        parent-op = parent-u (Operation op) (w.kid_live (BasicBlock b) (Operation op) (w.parent_kid (BasicBlock b) (Operation op) here)) ∙ here
+        parent-op = parent-u (Operation op) (w.child_live (BasicBlock b) (Operation op) (w.parent_child (BasicBlock b) (Operation op) here)) ∙ here
 
         apart : (n : IRNode) → IsLive s n → (Reaches (parent_of s) n (Operation op) → ⊥) → Reaches (parent_of u) n (Operation op) → ⊥
         apart n l a r = a (r.0, way-u r.0 n (Operation op) l r.1)
@@ -148,17 +148,17 @@ module _ {K A T : Type 0} (illegal : OpKind K → Bool) where
         apart-v n l r = not-both (is_live v n) l (erased.gone n r)
 
         -- what stands under a node stood there before the other one was erased
-        stood : (n a : IRNode) → Has (kids v n) a → Has (kids u n) a
+        stood : (n a : IRNode) → Has (children v n) a → Has (children u n) a
         stood n a h = elim (block-tells n b) [
           | inl e ↦
-              let cut-u = at.kids_over ∙ sym (append_assoc cut.0 (Operation x ∷ []) (Operation op ∷ cut.1)) in
-              let k = subst (λ z. Has z a) (erased.kids_over (BasicBlock b) (cut.0 ++ Operation x ∷ []) cut.1 cut-u) (subst (λ z. Has (kids v z) a) e h) in
-              subst (λ z. Has (kids u z) a) (sym e) (subst (λ z. Has z a) (sym cut-u) (elim (Has-append_cases (cut.0 ++ Operation x ∷ []) cut.1 a k) [
+              let cut-u = at.children_over ∙ sym (append_assoc cut.0 (Operation x ∷ []) (Operation op ∷ cut.1)) in
+              let k = subst (λ z. Has z a) (erased.children_over (BasicBlock b) (cut.0 ++ Operation x ∷ []) cut.1 cut-u) (subst (λ z. Has (children v z) a) e h) in
+              subst (λ z. Has (children u z) a) (sym e) (subst (λ z. Has z a) (sym cut-u) (elim (Has-append_cases (cut.0 ++ Operation x ∷ []) cut.1 a k) [
                 | inl f ↦ Has-append_left (cut.0 ++ Operation x ∷ []) (Operation op ∷ cut.1) a f
                 | inr f ↦ Has-append_right (cut.0 ++ Operation x ∷ []) (Operation op ∷ cut.1) a (inr f)
               ]))
           | inr ne ↦
-              subst (λ z. Has z a) (erased.kids n (apart-v n (w''.parent_live n a (w''.kid_parent n a h))) (λ q. ne (same_Some n (BasicBlock b) (sym q ∙ parent-op)))) h
+              subst (λ z. Has z a) (erased.children n (apart-v n (w''.parent_live n a (w''.child_parent n a h))) (λ q. ne (same_Some n (BasicBlock b) (sym q ∙ parent-op)))) h
         ]
 
         same-v : (a : IRNode) → IsLive v a → is_illegal illegal v a ≡ is_illegal illegal u a
@@ -172,9 +172,9 @@ module _ {K A T : Type 0} (illegal : OpKind K → Bool) where
               (λ p l a. erased.ops p (live-v (Operation p) l a) ∙ op-u p l)
               (λ q l a. erased.blocks q (live-v (BasicBlock q) l a) ∙ block-u q l);
           legal = λ n a g h i.
-              (let up = w''.kid_parent n a h in
+              (let up = w''.child_parent n a h in
               let k = stood n a h in
-              brought-u n a (was-live n (w'.parent_live n a (w'.kid_parent n a k)) g) k (sym (same-v a (w''.kid_live n a h)) ∙ i));
+              brought-u n a (was-live n (w'.parent_live n a (w'.child_parent n a k)) g) k (sym (same-v a (w''.child_live n a h)) ∙ i));
         }
 
         pub replaced-one : IsReplaced s v b op
@@ -182,7 +182,7 @@ module _ {K A T : Type 0} (illegal : OpKind K → Bool) where
           gone = erased.gone (Operation op) (zero, refl);
           place = λ xs ys e. (
             Operation x ∷ [],
-            erased.kids_over (BasicBlock b) (xs ++ Operation x ∷ []) ys ((now xs ys e).kids_over ∙ sym (append_assoc xs (Operation x ∷ []) (Operation op ∷ ys)))
+            erased.children_over (BasicBlock b) (xs ++ Operation x ∷ []) ys ((now xs ys e).children_over ∙ sym (append_assoc xs (Operation x ∷ []) (Operation op ∷ ys)))
                 ∙ append_assoc xs (Operation x ∷ []) ys,
           );
         }

@@ -12,13 +12,13 @@ use Rattle.plir_core.specs.declared.ptr.IRNode.{IRNode}
 use Rattle.plir_core.specs.declared.ptr.IRNode.TheVariants.{Operation, Region, BasicBlock}
 use Rattle.plir_core.specs.Erase.{IsErased, post_order, tree_of}
 use Rattle.plir_core.specs.Measures.{most_steps}
-use Rattle.plir_core.specs.Nodes.{Nodes, node_kids, num_nodes}
+use Rattle.plir_core.specs.Nodes.{Nodes, node_children, num_nodes}
 use Rattle.plir_core.specs.Forest.{look, IsForest}
-use Rattle.plir_core.specs.Store.{Store, IsLive, is_live, num_live, kids, parent_of}
+use Rattle.plir_core.specs.ContextView.{ContextView, IsLive, is_live, num_live, children, parent_of}
 use Rattle.plir_walk.specs.Lawful.{Lawful}
 use Rattle.plir_walk.specs.LawfulChanges.{LawfulChanges}
 use Rattle.plir_passes.specs.Passing.{left_upto}
-use Rattle.plir_passes.specs.Dead.{IsUsedBy, HasNoDeadKid}
+use Rattle.plir_passes.specs.Dead.{IsUsedBy, HasNoDeadChild}
 use Rattle.plir_passes.specs.Swept.{IsSwept, IsSweptAt, Tells}
 use Rattle.plir_passes.proofs.Nodes.{op-tells, not-both}
 use Rattle.plir_passes.proofs.Sweeps.{swept-none, swept-then, swept-erased}
@@ -53,46 +53,46 @@ none-of xs e = go (reverse xs) refl e
 tree-some : {O B : Type 0} (s : Nodes O B) (n : IRNode) → 0 < length (tree_of s n)
 tree-some s n = go (most_steps s) (omega arith)
   where
-    go : (k : ℕ) → 0 < k → 0 < length (post_order (node_kids s) k n)
+    go : (k : ℕ) → 0 < k → 0 < length (post_order (node_children s) k n)
     go zero h = absurd (omega (arith, h))
-    go (suc k) h = (let e = length-append (flat_map (post_order (node_kids s) k) (node_kids s n)) (n ∷ []) in omega (arith, e))
+    go (suc k) h = (let e = length-append (flat_map (post_order (node_children s) k) (node_children s n)) (n ∷ []) in omega (arith, e))
 
 append-none : (xs : List IRNode) → xs ++ [] ≡ xs
 append-none [] = refl
 append-none (x ∷ xs) = ap (λ z. x ∷ z) (append-none xs)
 
 module _ {K A T : Type 0} (effect ends : K → Bool) where
-  fewer-erased : (s t : Store K A T) (n : IRNode) → IsErased s.nodes t.nodes n → num_live t < num_live s
+  fewer-erased : (s t : ContextView K A T) (n : IRNode) → IsErased s.nodes t.nodes n → num_live t < num_live s
   fewer-erased s t n e = omega (arith, e.count, tree-some s.nodes n)
 
   -- From the start of the loop in s to s', the operations of the block b behind `at` are not dead, if nothing was erased.
-  pub record IsSweeping (s s' : Store K A T) (b : Ptr BasicBlockKind) (before erased : Bool) (at : Option (Ptr OperationKind)) : Type 0 where
+  pub record IsSweeping (s s' : ContextView K A T) (b : Ptr BasicBlockKind) (before erased : Bool) (at : Option (Ptr OperationKind)) : Type 0 where
     pub swept : IsSwept effect ends s s'
     pub lawful : Lawful (look s) (BasicBlock b) (look s')
     pub forest : IsForest (look s')
     pub tells : Tells s before erased s'
     pub front : List IRNode
     pub back : List IRNode
-    pub split : kids s' (BasicBlock b) ≡ front ++ back
+    pub split : children s' (BasicBlock b) ≡ front ++ back
     pub here : option_map Operation at ≡ head (reverse front)
     pub clean : erased ≡ false → (p : Ptr OperationKind) → Has back (Operation p) → IsUsedBy effect ends s' [] p → ⊥
 
-  pub sweeping-start : (s : Store K A T) (b : Ptr BasicBlockKind) (before : Bool) (at : Option (Ptr OperationKind)) → Lawful (look s) (BasicBlock b) (look s) → IsForest (look s)
-      → option_map Operation at ≡ head (reverse (kids s (BasicBlock b))) → IsSweeping s s b before before at
+  pub sweeping-start : (s : ContextView K A T) (b : Ptr BasicBlockKind) (before : Bool) (at : Option (Ptr OperationKind)) → Lawful (look s) (BasicBlock b) (look s) → IsForest (look s)
+      → option_map Operation at ≡ head (reverse (children s (BasicBlock b))) → IsSweeping s s b before before at
   sweeping-start s b before at l w e = record {
     swept = swept-none effect ends s w;
     lawful = l;
     forest = w;
     tells = record { clear = λ f. (f, refl); fewer = omega arith; set = λ f. inl f };
-    front = kids s (BasicBlock b);
+    front = children s (BasicBlock b);
     back = [];
-    split = sym (append-none (kids s (BasicBlock b)));
+    split = sym (append-none (children s (BasicBlock b)));
     here = e;
     clean = λ f p h d. h;
   }
 
-  module _ (s s' : Store K A T) (b : Ptr BasicBlockKind) (before erased : Bool) (at : Option (Ptr OperationKind)) (r : IsSweeping s s' b before erased at) where
-    pub sweeping-end : at ≡ None → erased ≡ false → HasNoDeadKid effect ends s' (BasicBlock b)
+  module _ (s s' : ContextView K A T) (b : Ptr BasicBlockKind) (before erased : Bool) (at : Option (Ptr OperationKind)) (r : IsSweeping s s' b before erased at) where
+    pub sweeping-end : at ≡ None → erased ≡ false → HasNoDeadChild effect ends s' (BasicBlock b)
     sweeping-end e f p h =
         let all = r.split ∙ ap (λ z. z ++ r.back) (none-of r.front (ap (option_map Operation) (sym e) ∙ r.here)) in
         r.clean f p (subst (λ z. Has z (Operation p)) all h)
@@ -101,19 +101,19 @@ module _ {K A T : Type 0} (effect ends : K → Bool) where
       pub last : (xs : List IRNode) × (r.front ≡ xs ++ Operation op ∷ [])
       last = last-of r.front op (ap (option_map Operation) (sym is) ∙ r.here)
 
-      pub sweeping-cut : kids s' (BasicBlock b) ≡ last.0 ++ Operation op ∷ r.back
+      pub sweeping-cut : children s' (BasicBlock b) ≡ last.0 ++ Operation op ∷ r.back
       sweeping-cut = r.split ∙ ap (λ z. z ++ r.back) last.1 ∙ append_assoc last.0 (Operation op ∷ []) r.back
 
-      has : Has (kids s' (BasicBlock b)) (Operation op)
+      has : Has (children s' (BasicBlock b)) (Operation op)
       has = subst (λ z. Has z (Operation op)) (sym sweeping-cut) (Has-mid last.0 r.back (Operation op))
 
       pub sweeping-live : IsLive s' (Operation op)
-      sweeping-live = r.forest.kid_live (BasicBlock b) (Operation op) has
+      sweeping-live = r.forest.child_live (BasicBlock b) (Operation op) has
 
       parent : parent_of s' (Operation op) ≡ Some (BasicBlock b)
-      parent = r.forest.kid_parent (BasicBlock b) (Operation op) has
+      parent = r.forest.child_parent (BasicBlock b) (Operation op) has
 
-      module _ (own : A → List ℕ) (laws : LawfulChanges K A T own) (t : Store K A T) (erased' : Bool) (next : Option (Ptr OperationKind)) (w : IsForest (look s)) (w' : IsForest (look t))
+      module _ (own : A → List ℕ) (laws : LawfulChanges K A T own) (t : ContextView K A T) (erased' : Bool) (next : Option (Ptr OperationKind)) (w : IsForest (look s)) (w' : IsForest (look t))
           (e : option_map Operation next ≡ head (reverse last.0)) (f : IsSweptAt effect ends s' erased op erased' t) where
         pub sweeping-more : IsSweeping s t b before erased' next
         sweeping-more = elim f as (λ z. IsSweeping s t b before erased' next) [
@@ -130,7 +130,7 @@ module _ {K A T : Type 0} (effect ends : K → Bool) where
                 };
                 front = last.0;
                 back = r.back;
-                split = g.2.kids_over (BasicBlock b) last.0 r.back sweeping-cut;
+                split = g.2.children_over (BasicBlock b) last.0 r.back sweeping-cut;
                 here = e;
                 clean = λ clear. absurd (not-both erased' g.1 clear);
               }
@@ -153,25 +153,25 @@ module _ {K A T : Type 0} (effect ends : K → Bool) where
             same-op : (p q : Ptr OperationKind) → Operation p ≡ Operation q → p ≡ q
             same-op p q e = cc e
 
-        kids-then : (back : List IRNode) × (kids t (BasicBlock b) ≡ last.0 ++ back)
-        kids-then = elim f as (λ z. (back : List IRNode) × (kids t (BasicBlock b) ≡ last.0 ++ back)) [
-          | inl g ↦ (r.back, g.2.kids_over (BasicBlock b) last.0 r.back sweeping-cut)
-          | inr g ↦ (Operation op ∷ r.back, ap (λ z. kids z (BasicBlock b)) g.2 ∙ sweeping-cut)
+        children-then : (back : List IRNode) × (children t (BasicBlock b) ≡ last.0 ++ back)
+        children-then = elim f as (λ z. (back : List IRNode) × (children t (BasicBlock b) ≡ last.0 ++ back)) [
+          | inl g ↦ (r.back, g.2.children_over (BasicBlock b) last.0 r.back sweeping-cut)
+          | inr g ↦ (Operation op ∷ r.back, ap (λ z. children z (BasicBlock b)) g.2 ∙ sweeping-cut)
         ]
 
-        pub sweeping-falls : left_upto (kids t (BasicBlock b)) next < left_upto (kids s' (BasicBlock b)) at
+        pub sweeping-falls : left_upto (children t (BasicBlock b)) next < left_upto (children s' (BasicBlock b)) at
         sweeping-falls = go next e
           where
-            now : left_upto (kids s' (BasicBlock b)) at ≡ suc (length last.0)
+            now : left_upto (children s' (BasicBlock b)) at ≡ suc (length last.0)
             now =
-                ap (left_upto (kids s' (BasicBlock b))) is ∙ ap (λ z. left_upto z (Some op)) sweeping-cut
+                ap (left_upto (children s' (BasicBlock b))) is ∙ ap (λ z. left_upto z (Some op)) sweeping-cut
                 ∙ upto-cut last.0 r.back op (λ h. Distinct-cross last.0 (Operation op ∷ r.back) (subst Distinct sweeping-cut (r.forest.once (BasicBlock b))) (Operation op) h (inl refl))
 
-            go : (o : Option (Ptr OperationKind)) → option_map Operation o ≡ head (reverse last.0) → left_upto (kids t (BasicBlock b)) o < left_upto (kids s' (BasicBlock b)) at
+            go : (o : Option (Ptr OperationKind)) → option_map Operation o ≡ head (reverse last.0) → left_upto (children t (BasicBlock b)) o < left_upto (children s' (BasicBlock b)) at
             go None e = omega (arith, now)
             go (Some q) e =
                 let y = last-of last.0 q e in
-                let c = kids-then.1 ∙ ap (λ z. z ++ kids-then.0) y.1 ∙ append_assoc y.0 (Operation q ∷ []) kids-then.0 in
+                let c = children-then.1 ∙ ap (λ z. z ++ children-then.0) y.1 ∙ append_assoc y.0 (Operation q ∷ []) children-then.0 in
                 let after = ap (λ z. left_upto z (Some q)) c
-                ∙ upto-cut y.0 kids-then.0 q (λ h. Distinct-cross y.0 (Operation q ∷ kids-then.0) (subst Distinct c (w'.once (BasicBlock b))) (Operation q) h (inl refl)) in
+                ∙ upto-cut y.0 children-then.0 q (λ h. Distinct-cross y.0 (Operation q ∷ children-then.0) (subst Distinct c (w'.once (BasicBlock b))) (Operation q) h (inl refl)) in
                 omega (arith, now, after, ap length y.1, length-append y.0 (Operation q ∷ []))

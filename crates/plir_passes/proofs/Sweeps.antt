@@ -12,7 +12,7 @@ use Rattle.plir_core.specs.declared.ptr.IRNode.TheVariants.{Operation, Region, B
 use Rattle.plir_core.specs.Above.{climb, Reaches}
 use Rattle.plir_core.specs.Erase.{IsErased}
 use Rattle.plir_core.specs.Forest.{look, IsForest}
-use Rattle.plir_core.specs.Store.{Store, IsLive, is_live, kids, parent_of, kind_in, operands_in}
+use Rattle.plir_core.specs.ContextView.{ContextView, IsLive, is_live, children, parent_of, kind_in, operands_in}
 use Rattle.plir_passes.specs.Legal.{is_kind}
 use Rattle.plir_passes.specs.Dead.{is_removable, Uses, IsUsedBy, AreDead}
 use Rattle.plir_passes.specs.Swept.{IsAmong, IsSwept}
@@ -28,14 +28,14 @@ has-or-not (x ∷ xs) p = elim (op-tells x p) [
 ]
 
 module _ {K A T : Type 0} (effect ends : K → Bool) where
-  pub swept-none : (s : Store K A T) → IsForest (look s) → IsSwept effect ends s s
+  pub swept-none : (s : ContextView K A T) → IsForest (look s) → IsSwept effect ends s s
   swept-none s w = record {
     gone = [];
     dead = tt;
     away = λ p h. absurd h;
     left = λ n l. inl l;
     old = λ n l. l;
-    kids = λ n l. sym (filter-all (is_live s) (kids s n) (λ x h. w.kid_live n x h));
+    children = λ n l. sym (filter-all (is_live s) (children s n) (λ x h. w.child_live n x h));
     regions = λ p l. refl;
     parents = λ n l. refl;
     ops = λ p l. refl;
@@ -43,7 +43,7 @@ module _ {K A T : Type 0} (effect ends : K → Bool) where
     types = refl;
   }
 
-  module _ (s t : Store K A T) (f : IsSwept effect ends s t) where
+  module _ (s t : ContextView K A T) (f : IsSwept effect ends s t) where
     -- an operation of t that is used by some alone was used by them and those that are gone
     used-before : (ps : List (Ptr OperationKind)) (p : Ptr OperationKind) → IsUsedBy effect ends t ps p → IsUsedBy effect ends s (ps ++ f.gone) p
     used-before ps p d = record {
@@ -63,7 +63,7 @@ module _ {K A T : Type 0} (effect ends : K → Bool) where
     dead-before [] d = f.dead
     dead-before (p ∷ ps) d = (used-before ps p d.0, dead-before ps d.1)
 
-    pub swept-then : (u : Store K A T) → IsSwept effect ends t u → IsSwept effect ends s u
+    pub swept-then : (u : ContextView K A T) → IsSwept effect ends t u → IsSwept effect ends s u
     swept-then u g = record {
       gone = g.gone ++ f.gone;
       dead = dead-before g.gone g.dead;
@@ -76,7 +76,7 @@ module _ {K A T : Type 0} (effect ends : K → Bool) where
         | inr j ↦ inr (j.0, j.1, Has-append_right g.gone f.gone j.0 j.2)
       ];
       old = λ n l. f.old n (g.old n l);
-      kids = λ n l. g.kids n l ∙ ap (filter (is_live u)) (f.kids n (g.old n l)) ∙ filter-twice (is_live t) (is_live u) (λ x k. g.old x k) (kids s n);
+      children = λ n l. g.children n l ∙ ap (filter (is_live u)) (f.children n (g.old n l)) ∙ filter-twice (is_live t) (is_live u) (λ x k. g.old x k) (children s n);
       regions = λ p l. g.regions p l ∙ f.regions p (g.old (Operation p) l);
       parents = λ n l. g.parents n l ∙ f.parents n (g.old n l);
       ops = λ p l. g.ops p l ∙ f.ops p (g.old (Operation p) l);
@@ -84,17 +84,17 @@ module _ {K A T : Type 0} (effect ends : K → Bool) where
       types = g.types ∙ f.types;
     }
 
-  -- nothing climbs to what has no kids, but itself
-  reach-leaf : (s : Store K A T) (x : IRNode) → IsForest (look s) → kids s x ≡ [] → (k : ℕ) (m : IRNode) → climb (parent_of s) k (Some m) ≡ Some x → m ≡ x
+  -- nothing climbs to what has no children, but itself
+  reach-leaf : (s : ContextView K A T) (x : IRNode) → IsForest (look s) → children s x ≡ [] → (k : ℕ) (m : IRNode) → climb (parent_of s) k (Some m) ≡ Some x → m ≡ x
   reach-leaf s x w none zero m e = same_Some m x e
   reach-leaf s x w none (suc k) m e = up (λ a f. reach-leaf s x w none k a f) (parent_of s m) refl
     where
       up : ((a : IRNode) → climb (parent_of s) k (Some a) ≡ Some x → a ≡ x) → (o : Option IRNode) → parent_of s m ≡ o → m ≡ x
       up rest None q = absurd (climb-nothing (parent_of s) k x (ap (climb (parent_of s) k) (sym q) ∙ e))
-      up rest (Some a) q = absurd (subst (λ z. Has z m) none (w.parent_kid x m (q ∙ ap Some (rest a (ap (climb (parent_of s) k) (sym q) ∙ e)))))
+      up rest (Some a) q = absurd (subst (λ z. Has z m) none (w.parent_child x m (q ∙ ap Some (rest a (ap (climb (parent_of s) k) (sym q) ∙ e)))))
 
   -- one that is dead is erased
-  module _ (s t : Store K A T) (b : Ptr BasicBlockKind) (p : Ptr OperationKind) (w : IsForest (look s)) (d : IsUsedBy effect ends s [] p)
+  module _ (s t : ContextView K A T) (b : Ptr BasicBlockKind) (p : Ptr OperationKind) (w : IsForest (look s)) (d : IsUsedBy effect ends s [] p)
       (over : parent_of s (Operation p) ≡ Some (BasicBlock b)) (e : IsErased s.nodes t.nodes (Operation p)) (same : t.types ≡ s.types) where
     abbrev x : IRNode
     x = Operation p
@@ -111,18 +111,18 @@ module _ {K A T : Type 0} (effect ends : K → Bool) where
     live-of : (n : IRNode) → (n ≡ x → ⊥) → IsLive s n → IsLive t n
     live-of n ne k = e.live n (apart n ne) ∙ k
 
-    kids-left : (n : IRNode) → IsLive t n → kids t n ≡ filter (is_live t) (kids s n)
-    kids-left n k = elim (has-or-not (kids s n) p) [
+    children-left : (n : IRNode) → IsLive t n → children t n ≡ filter (is_live t) (children s n)
+    children-left n k = elim (has-or-not (children s n) p) [
       | inl h ↦
-          let r = Has-split (kids s n) x h in
+          let r = Has-split (children s n) x h in
           let once = subst Distinct r.2 (w.once n) in
-          let live = λ (y : IRNode) (h : Has (kids s n) y). w.kid_live n y h in
+          let live = λ (y : IRNode) (h : Has (children s n) y). w.child_live n y h in
           let left = λ (y : IRNode) (h : Has r.0 y). live-of y (λ is. Distinct-cross r.0 (x ∷ r.1) once y h (inl (sym is))) (live y (subst (λ z. Has z y) (sym r.2) (Has-append_left r.0 (x ∷ r.1) y h))) in
           let right = λ (y : IRNode) (h : Has r.1 y). live-of y (λ is. (Distinct-right r.0 (x ∷ r.1) once).0 (subst (Has r.1) is h)) (live y (subst (λ z. Has z y) (sym r.2) (Has-append_right r.0 (x ∷ r.1) y (inr h)))) in
-          e.kids_over n r.0 r.1 r.2 ∙ sym (ap (filter (is_live t)) r.2 ∙ filter-without (is_live t) r.0 r.1 x gone-now left right)
+          e.children_over n r.0 r.1 r.2 ∙ sym (ap (filter (is_live t)) r.2 ∙ filter-without (is_live t) r.0 r.1 x gone-now left right)
       | inr f ↦
-          e.kids n (apart n (live-apart n k)) (λ q. f (w.parent_kid n x q))
-          ∙ sym (filter-all (is_live t) (kids s n) (λ y h. live-of y (λ is. f (subst (Has (kids s n)) is h)) (w.kid_live n y h)))
+          e.children n (apart n (live-apart n k)) (λ q. f (w.parent_child n x q))
+          ∙ sym (filter-all (is_live t) (children s n) (λ y h. live-of y (λ is. f (subst (Has (children s n)) is h)) (w.child_live n y h)))
     ]
 
     in-block : (q : Ptr OperationKind) → parent_of s x ≡ Some (Operation q) → ⊥
@@ -135,8 +135,8 @@ module _ {K A T : Type 0} (effect ends : K → Bool) where
       away = λ q h. elim h [ inl is ↦ subst (λ z. is_live t (Operation z) ≡ false) is gone-now | inr nay ↦ absurd nay ];
       left = λ n l. elim (op-tells n p) [ inl is ↦ inr (p, is.1, inl refl) | inr ne ↦ inl (live-of n ne.1 l) ];
       old = λ n k. sym (e.live n (apart n (live-apart n k))) ∙ k;
-      kids = kids-left;
-      regions = λ q k. e.kids (Operation q) (apart (Operation q) (live-apart (Operation q) k)) (in-block q);
+      children = children-left;
+      regions = λ q k. e.children (Operation q) (apart (Operation q) (live-apart (Operation q) k)) (in-block q);
       parents = λ n k. e.parents n (apart n (live-apart n k));
       ops = λ q k. e.ops q k;
       blocks = λ b k. e.blocks b k;

@@ -9,7 +9,7 @@ use Rattle.plir_core.specs.declared.ptr.IRNode.TheVariants.{Operation, BasicBloc
 use Rattle.plir_core.specs.declared.value.DefiningEntity.{DefiningEntity}
 use Rattle.plir_core.specs.declared.value.DefiningEntity.TheVariants.{Op, Block}
 use Rattle.plir_core.specs.Above.{Reaches}
-use Rattle.plir_core.specs.Store.{Store, IsLive, parent_of, operands_of, entity_node}
+use Rattle.plir_core.specs.ContextView.{ContextView, IsLive, parent_of, operands_of, entity_node}
 use Rattle.plir_core.specs.Unused.{IsUnusedOutside}
 use Rattle.plir_passes.specs.Dead.{Uses, IsUsedByNone}
 
@@ -23,7 +23,7 @@ same-entity : (e : DefiningEntity) (p : Ptr OperationKind) → entity_node e ≡
 same-entity (Op q) p h = ap Op (same-op q p h)
 same-entity (Block b) p h = (let z : ⊥ = cc h in absurd z)
 
-module _ {K A T : Type 0} (s : Store K A T) (p : Ptr OperationKind) (leaf : (n : IRNode) → Reaches (parent_of s) n (Operation p) → n ≡ Operation p) where
+module _ {K A T : Type 0} (s : ContextView K A T) (p : Ptr OperationKind) (leaf : (n : IRNode) → Reaches (parent_of s) n (Operation p) → n ≡ Operation p) where
   pub unused-by-none : IsUnusedOutside s (Operation p) → IsUsedByNone s p
   unused-by-none u q l ne uses =
       at_place (λ v. Reaches (parent_of s) (entity_node v.entity) (Operation p) → ⊥) (operands_of s q) uses.place _ uses.here

@@ -6,7 +6,7 @@ use Rattle.std.specs.declared.ops.ControlFlow.TheVariants.{Continue, Break}
 use Rattle.plir_data.specs.declared.op_set.OpKind.{OpKind}
 use Rattle.plir_store.specs.Members.{Has}
 use Rattle.plir_store.specs.MemberLaws.{Has-map, at-Has}
-use Rattle.plir_store.specs.Lists.{kids_at}
+use Rattle.plir_store.specs.Lists.{children_at}
 use Rattle.plir_core.specs.declared.ptr.Ptr.{Ptr}
 use Rattle.plir_core.specs.declared.ptr.Operation.{Operation as OperationKind}
 use Rattle.plir_core.specs.declared.ptr.Region.{Region as RegionKind}
@@ -16,7 +16,7 @@ use Rattle.plir_core.specs.declared.ptr.IRNode.TheVariants.{Operation, Region, B
 use Rattle.plir_core.specs.Above.{climb, Reaches}
 use Rattle.plir_core.specs.Forest.{Shape, look, IsForest, IsBelow}
 use Rattle.plir_core.specs.Nodes.{region_node, block_node}
-use Rattle.plir_core.specs.Store.{Store, IsLive, is_live, kids, parent_of, given_out}
+use Rattle.plir_core.specs.ContextView.{ContextView, IsLive, is_live, children, parent_of, given_out}
 use Rattle.plir_walk.specs.declared.interruptible.WalkContinue.{WalkContinue}
 use Rattle.plir_walk.specs.declared.interruptible.WalkContinue.TheVariants.{Advance, Skip}
 use Rattle.plir_walk.specs.declared.limit.CallLimit.{CallLimit}
@@ -29,7 +29,7 @@ use Rattle.plir_walk.specs.Walked.{Walked, IsCallUnder}
 use Rattle.plir_walk.specs.Walk.{IsWalkWithin}
 use Rattle.plir_walk.specs.Lawful.{Lawful}
 use Rattle.plir_walk.specs.CallLaws.{chain-each, kept_from_entry_to_exit, holds_under_root}
-use Rattle.plir_passes.specs.Legal.{is_illegal, HasLegalKids}
+use Rattle.plir_passes.specs.Legal.{is_illegal, HasLegalChildren}
 use Rattle.plir_passes.specs.Rewritten.{IsConverted, IsConvertedAt, IsSettled}
 use Rattle.plir_passes.proofs.Nodes.{climb-nothing, not-both, never-true}
 use Rattle.plir_passes.proofs.Keeping.{converted-none, converted-then}
@@ -44,19 +44,19 @@ module _ {C S B : Type 0} (post : Relation C S B) where
   unbroken-chain c s (x ∷ xs) c' s' h k = (h.0, h.1, (h.2, k.0), unbroken-chain x.after x.left xs c' s' h.3 k.1)
 
 module _ {K A T : Type 0} (illegal : OpKind K → Bool) where
-  legal-images : (s : Store K A T) (b : Bool) (is : List ℕ) (f : ℕ → IRNode) → ((i : ℕ) → is_illegal illegal s (f i) ≡ false) → (a : IRNode) → Has (cond b (map f is) []) a → is_illegal illegal s a ≡ false
+  legal-images : (s : ContextView K A T) (b : Bool) (is : List ℕ) (f : ℕ → IRNode) → ((i : ℕ) → is_illegal illegal s (f i) ≡ false) → (a : IRNode) → Has (cond b (map f is) []) a → is_illegal illegal s a ≡ false
   legal-images s true is f each a h = (let r = Has-map f is a h in subst (λ z. is_illegal illegal s z ≡ false) r.1.1 (each r.0))
   legal-images s false is f each a h = absurd h
 
   -- regions and blocks are no operations
-  pub legal-under-op : (s : Store K A T) (p : Ptr OperationKind) → HasLegalKids illegal s (Operation p)
-  legal-under-op s p a h = legal-images s (is_live s (Operation p)) (kids_at s.nodes.regions_in_op p.slot) (region_node s.nodes) (λ i. refl) a h
+  pub legal-under-op : (s : ContextView K A T) (p : Ptr OperationKind) → HasLegalChildren illegal s (Operation p)
+  legal-under-op s p a h = legal-images s (is_live s (Operation p)) (children_at s.nodes.regions_in_op p.slot) (region_node s.nodes) (λ i. refl) a h
 
-  pub legal-under-region : (s : Store K A T) (p : Ptr RegionKind) → HasLegalKids illegal s (Region p)
-  legal-under-region s p a h = legal-images s (is_live s (Region p)) (kids_at s.nodes.blocks_in_region p.slot) (block_node s.nodes) (λ i. refl) a h
+  pub legal-under-region : (s : ContextView K A T) (p : Ptr RegionKind) → HasLegalChildren illegal s (Region p)
+  legal-under-region s p a h = legal-images s (is_live s (Region p)) (children_at s.nodes.blocks_in_region p.slot) (block_node s.nodes) (λ i. refl) a h
 
   -- what was done at a block
-  pub at-block : {B : Type 0} (s t : Store K A T) (n : IRNode) (b : Ptr BasicBlockKind) (a : ControlFlow B WalkContinue) → n ≡ BasicBlock b → Lawful (look s) (BasicBlock b) (look t) → IsConverted illegal s t
+  pub at-block : {B : Type 0} (s t : ContextView K A T) (n : IRNode) (b : Ptr BasicBlockKind) (a : ControlFlow B WalkContinue) → n ≡ BasicBlock b → Lawful (look s) (BasicBlock b) (look t) → IsConverted illegal s t
       → IsSettled illegal t (BasicBlock b) a → IsConvertedAt illegal s n a t
   at-block s t n b a e l c f = record {
     lawful = subst (λ z. Lawful (look s) z (look t)) (sym e) l;
@@ -64,15 +64,15 @@ module _ {K A T : Type 0} (illegal : OpKind K → Bool) where
     settled = subst (λ z. IsSettled illegal t z a) (sym e) f;
   }
 
-  module _ {S B : Type 0} (post : Relation (Store K A T) S B) (r : IRNode)
-      (each : (c : Store K A T) (s : S) (n : IRNode) (a : ControlFlow B WalkContinue) (c' : Store K A T) (s' : S) → post c s n a c' s' → IsConvertedAt illegal c n a c') where
-    abbrev call : Relation (Store K A T) S B
+  module _ {S B : Type 0} (post : Relation (ContextView K A T) S B) (r : IRNode)
+      (each : (c : ContextView K A T) (s : S) (n : IRNode) (a : ControlFlow B WalkContinue) (c' : ContextView K A T) (s' : S) → post c s n a c' s' → IsConvertedAt illegal c n a c') where
+    abbrev call : Relation (ContextView K A T) S B
     call = IsCallUnder look r post
 
-    abbrev Steady : Store K A T → S → Store K A T → S → Type 0
+    abbrev Steady : ContextView K A T → S → ContextView K A T → S → Type 0
     Steady c s c' s' = IsForest (look c) → IsForest (look c') × IsConverted illegal c c'
 
-    pub walk-converted : (c c' : Store K A T) (s s' : S) (calls : List (Call (Store K A T) S B)) → IsForest (look c) → Chain call c s calls c' s' → IsConverted illegal c c'
+    pub walk-converted : (c c' : ContextView K A T) (s s' : S) (calls : List (Call (ContextView K A T) S B)) → IsForest (look c) → Chain call c s calls c' s' → IsConverted illegal c c'
     walk-converted c c' s s' calls w h =
         (kept_from_entry_to_exit call Steady
         (record {
@@ -81,30 +81,30 @@ module _ {K A T : Type 0} (illegal : OpKind K → Bool) where
         })
         (λ d d' t t' n a p w. (p.leaves, (each d t n a d' t' p.made).converted)) c c' s s' calls h w).1
 
-    abbrev Holds : Store K A T → IRNode → Type 0
-    Holds c n = (given_out c n ≡ true) × HasLegalKids illegal c n
+    abbrev Holds : ContextView K A T → IRNode → Type 0
+    Holds c n = (given_out c n ≡ true) × HasLegalChildren illegal c n
 
-    left : (c c' : Store K A T) (s s' : S) (n : IRNode) (a : ControlFlow B WalkContinue) (m : IRNode) → Unbroken call c s n a c' s' → Holds c m → Holds c' m
+    left : (c c' : ContextView K A T) (s s' : S) (n : IRNode) (a : ControlFlow B WalkContinue) (m : IRNode) → Unbroken call c s n a c' s' → Holds c m → Holds c' m
     left c c' s s' n a m p h =
         let f = (each c s n a c' s' p.0.made).converted in
         (f.given m h.0, λ x i. never-true (is_illegal illegal c' x) (λ e. (let k = f.legal m x h.0 i e in not-both (is_illegal illegal c x) k.1 (h.1 x k.0))))
 
-    established : (c c' : Store K A T) (s s' : S) (n : IRNode) (a : ControlFlow B WalkContinue) → Unbroken call c s n a c' s' → Holds c' n
+    established : (c c' : ContextView K A T) (s s' : S) (n : IRNode) (a : ControlFlow B WalkContinue) → Unbroken call c s n a c' s' → Holds c' n
     established c c' s s' n a p =
         let f = each c s n a c' s' p.0.made in
         (f.converted.given n (p.0.stands.forest.live_given n p.0.stands.live), go a f.settled p.1)
       where
-        go : (a : ControlFlow B WalkContinue) → IsSettled illegal c' n a → ((b : B) → a ≢ Break b) → HasLegalKids illegal c' n
+        go : (a : ControlFlow B WalkContinue) → IsSettled illegal c' n a → ((b : B) → a ≢ Break b) → HasLegalChildren illegal c' n
         go (Continue Advance) f k = f
         go (Continue Skip) f k = absurd f
         go (Break b) f k = absurd (k b refl)
 
-    never-skips : (a : ControlFlow B WalkContinue) (c : Store K A T) (n : IRNode) → IsSettled illegal c n a → a ≢ Continue Skip
+    never-skips : (a : ControlFlow B WalkContinue) (c : ContextView K A T) (n : IRNode) → IsSettled illegal c n a → a ≢ Continue Skip
     never-skips (Continue Advance) c n f e = cc e
     never-skips (Continue Skip) c n f e = f
     never-skips (Break b) c n f e = cc e
 
-    pub walk-legal : (w : WalkConfig) (c c' : Store K A T) (s s' : S) (limit : ℕ) (k : WalkContinue) → AllPre w → IsForest (look c') → Walked look w post c s r limit (Ok (Continue k)) c' s'
+    pub walk-legal : (w : WalkConfig) (c c' : ContextView K A T) (s s' : S) (limit : ℕ) (k : WalkContinue) → AllPre w → IsForest (look c') → Walked look w post c s r limit (Ok (Continue k)) c' s'
         → (n : IRNode) → IsBelow (look c') r n → is_illegal illegal c' n ≡ false
     walk-legal w c c' s s' limit k pre forest walked n below = up (parent_of c' n) refl
       where
@@ -113,12 +113,12 @@ module _ {K A T : Type 0} (illegal : OpKind K → Bool) where
         up (Some a) q =
             let walk = walked.at_exit pre in
             let under = reached-under (look c') forest below.0 a r (ap (climb (parent_of c') below.0) (sym q) ∙ below.1) in
-            let h = holds_under_root (Unbroken call) Holds left established w (kids c') r c c' s s' walked.calls k
+            let h = holds_under_root (Unbroken call) Holds left established w (children c') r c c' s s' walked.calls k
             (unbroken-chain call c s walked.calls c' s' walked.chain walk.answers.1) walk.answers
             (λ x i. (let p = chain-each call c s walked.calls c' s' walked.chain x i in never-skips x.answer x.after x.node (each x.before x.state x.node x.answer x.after x.left p.made).settled)) a under in
-            h.1 n (forest.parent_kid a n q)
+            h.1 n (forest.parent_child a n q)
 
     -- the same of a walk whose answer is told by an equation
-    pub legal-at-end : (w : WalkConfig) (c c' : Store K A T) (s s' : S) (limit : ℕ) (answer : Result (ControlFlow B WalkContinue) CallLimit) (k : WalkContinue) → answer ≡ Ok (Continue k) → AllPre w → IsForest (look c')
+    pub legal-at-end : (w : WalkConfig) (c c' : ContextView K A T) (s s' : S) (limit : ℕ) (answer : Result (ControlFlow B WalkContinue) CallLimit) (k : WalkContinue) → answer ≡ Ok (Continue k) → AllPre w → IsForest (look c')
         → Walked look w post c s r limit answer c' s' → (n : IRNode) → IsBelow (look c') r n → is_illegal illegal c' n ≡ false
     legal-at-end w c c' s s' limit answer k e pre forest walked = walk-legal w c c' s s' limit k pre forest (subst (λ z. Walked look w post c s r limit z c' s') e walked)

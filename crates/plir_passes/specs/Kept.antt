@@ -7,7 +7,7 @@ use Rattle.plir_core.specs.declared.ptr.IRNode.{IRNode}
 use Rattle.plir_core.specs.declared.ptr.IRNode.TheVariants.{Operation, BasicBlock}
 use Rattle.plir_core.specs.declared.value.Value.{Value}
 use Rattle.plir_core.specs.Contents.{OpView}
-use Rattle.plir_core.specs.Store.{Store, IsLive, parent_of, op_at, block_at, operands_of, entity_node}
+use Rattle.plir_core.specs.ContextView.{ContextView, IsLive, parent_of, op_at, block_at, operands_of, entity_node}
 
 -- what an operation holds but for its operands
 abbrev pub but_operands : {K A : Type 0} → Option (OpView K A) → Option (OpView K A)
@@ -16,7 +16,7 @@ but_operands (Some v) = Some (record v { operands = [] })
 
 -- From s to t each node that stood apart is there, where it stood, and holds what it held; but an operand that is a
 -- value of a node that did not stand apart may be another one.
-pub record Keeps {K A T : Type 0} (s t : Store K A T) (apart : IRNode → Type 0) : Type 0 where
+pub record Keeps {K A T : Type 0} (s t : ContextView K A T) (apart : IRNode → Type 0) : Type 0 where
   pub live : (n : IRNode) → IsLive s n → apart n → IsLive t n
   pub parents : (n : IRNode) → IsLive s n → apart n → parent_of t n ≡ parent_of s n
   pub ops : (p : Ptr OperationKind) → IsLive s (Operation p) → apart (Operation p) →

@@ -5,7 +5,7 @@ use Rattle.plir_store.specs.Members.{Has}
 use Rattle.plir_core.specs.declared.ptr.IRNode.{IRNode}
 use Rattle.plir_core.specs.declared.ptr.IRNode.TheVariants.{Operation, Region, BasicBlock}
 use Rattle.plir_core.specs.Above.{Reaches}
-use Rattle.plir_core.specs.Store.{Store, kids, parent_of, kind_of}
+use Rattle.plir_core.specs.ContextView.{ContextView, children, parent_of, kind_of}
 
 -- whether there is a kind, and it passes a test
 abbrev pub is_kind : {K : Type 0} → (OpKind K → Bool) → Option (OpKind K) → Bool
@@ -14,15 +14,15 @@ is_kind test (Some k) = test k
 
 module _ {K A T : Type 0} (illegal : OpKind K → Bool) where
   -- whether a node is an operation of an illegal kind
-  abbrev pub is_illegal : Store K A T → IRNode → Bool
+  abbrev pub is_illegal : ContextView K A T → IRNode → Bool
   is_illegal s (Operation p) = is_kind illegal (kind_of s p)
   is_illegal s (Region p) = false
   is_illegal s (BasicBlock p) = false
 
-  -- no kid of a node is an illegal operation
-  abbrev pub HasLegalKids : Store K A T → IRNode → Type 0
-  HasLegalKids s n = (a : IRNode) → Has (kids s n) a → is_illegal s a ≡ false
+  -- no child of a node is an illegal operation
+  abbrev pub HasLegalChildren : ContextView K A T → IRNode → Type 0
+  HasLegalChildren s n = (a : IRNode) → Has (children s n) a → is_illegal s a ≡ false
 
   -- a node is no illegal operation, and stands below none
-  abbrev pub IsUntouched : Store K A T → IRNode → Type 0
+  abbrev pub IsUntouched : ContextView K A T → IRNode → Type 0
   IsUntouched s n = (a : IRNode) → Reaches (parent_of s) n a → is_illegal s a ≡ false

@@ -1,7 +1,7 @@
 -- What the contracts of this crate cite.
 --
---   Legal      is_illegal, HasLegalKids, IsUntouched: operations of illegal kinds, and what is none and stands below
---              none
+--   Legal      is_illegal, HasLegalChildren, IsUntouched: operations of illegal kinds, and what is none and stands
+--              below none
 --   Kept       Keeps: what a change leaves of the nodes that stand apart from it
 --   Rewritten  IsRewriting, IsReplaced: one operation is replaced; IsConverted: what many such changes leave
 --   Replacing  Replacements: what a rewrite may do

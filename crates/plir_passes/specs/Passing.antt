@@ -8,7 +8,7 @@ use Rattle.plir_core.specs.declared.ptr.Operation.{Operation as OperationKind}
 use Rattle.plir_core.specs.declared.ptr.BasicBlock.{BasicBlock as BasicBlockKind}
 use Rattle.plir_core.specs.declared.ptr.IRNode.{IRNode}
 use Rattle.plir_core.specs.declared.ptr.IRNode.TheVariants.{Operation, BasicBlock}
-use Rattle.plir_core.specs.Store.{Store, kids}
+use Rattle.plir_core.specs.ContextView.{ContextView, children}
 use Rattle.plir_walk.specs.Tree.{same}
 use Rattle.plir_passes.specs.Legal.{is_illegal}
 
@@ -20,10 +20,11 @@ left_from (n ∷ ns) (Some p) = cond (same n (Operation p)) (suc (length ns)) (l
 
 -- From s to t, where the operation op of the block b stood there are legal operations, and what stood behind it begins
 -- with `next`.
-abbrev pub IsPassed : {K A T : Type 0} → (OpKind K → Bool) → Store K A T → Store K A T → Ptr BasicBlockKind →
+abbrev pub IsPassed : {K A T : Type 0} → (OpKind K → Bool) → ContextView K A T → ContextView K A T
+    → Ptr BasicBlockKind →
     Ptr OperationKind → Option (Ptr OperationKind) → Type 0
-IsPassed illegal s t b op next = (xs ys : List IRNode) → kids s (BasicBlock b) ≡ xs ++ Operation op ∷ ys
-    → (option_map Operation next ≡ head ys) × (ks : List IRNode) × (kids t (BasicBlock b) ≡ xs ++ (ks ++ ys)) ×
+IsPassed illegal s t b op next = (xs ys : List IRNode) → children s (BasicBlock b) ≡ xs ++ Operation op ∷ ys
+    → (option_map Operation next ≡ head ys) × (ks : List IRNode) × (children t (BasicBlock b) ≡ xs ++ (ks ++ ys)) ×
     ((a : IRNode) → Has ks a → is_illegal illegal t a ≡ false)
 
 -- how many of a list of nodes there are up to an operation

@@ -3,13 +3,13 @@ ghost use Rattle.std.specs.Prelude.{◌≡◌, Bool, true, false, Some, OnOk, If
 ghost use Rattle.plir_data.specs.declared.op_set.OpKind.{OpKind as AnyKind};
 ghost use Rattle.plir_core.specs.declared.ptr.IRNode.{IRNode as AnyNode};
 ghost use Rattle.plir_core.specs.Forest.{look, IsBelow, IsForest};
-ghost use Rattle.plir_core.specs.Store.{IsLive, parent_of, kind_of};
+ghost use Rattle.plir_core.specs.ContextView.{IsLive, parent_of, kind_of};
 ghost use Rattle.plir_walk.specs.Lawful.{Lawful};
-ghost use Rattle.plir_passes.specs.Legal.{is_kind, is_illegal, HasLegalKids};
+ghost use Rattle.plir_passes.specs.Legal.{is_kind, is_illegal, HasLegalChildren};
 ghost use Rattle.plir_passes.specs.Rewritten.{IsRewriting, IsReplaced, IsConverted, IsConvertedAt};
 ghost use Rattle.plir_passes.specs.Passing.{IsPassed};
 
-use plir_core::laws::{contexts_stand, first_kid_is_front, next_is_behind};
+use plir_core::laws::{contexts_stand, first_child_is_front, next_is_behind};
 use plir_core::{BasicBlock, Context, IRNode, Operation, Ptr};
 use plir_data::{OpKind, OpSet};
 use plir_walk::WALKCONFIG_PREORDER_FORWARD;
@@ -87,11 +87,11 @@ pub fn convert_block<D: OpSet, C: Conversion<D>>(
     requires { IsLive ctx.old (AnyNode.BasicBlock block) }
     ensures lawful { Lawful (look ctx.old) (AnyNode.BasicBlock block) (look ctx.new) }
     ensures converted { IsConverted (C.illegal conversion.now) ctx.old ctx.new }
-    ensures legal { OnOk result (HasLegalKids (C.illegal conversion.now) ctx.new (AnyNode.BasicBlock block)) }
+    ensures legal { OnOk result (HasLegalChildren (C.illegal conversion.now) ctx.new (AnyNode.BasicBlock block)) }
 {
     lawful_changes::<D>();
     ctx.stands();
-    first_kid_is_front(ctx, IRNode::BasicBlock(block));
+    first_child_is_front(ctx, IRNode::BasicBlock(block));
     let mut at = block.get_head(ctx);
     'ops: while let Some(op) = at {
         let next = convert_op(ctx, conversion, block, op)?;

@@ -2,7 +2,7 @@
 ghost use Rattle.std.specs.Prelude.{◌≡◌, ◌↔◌, true, false, [], IsTrue};
 ghost use Rattle.plir_core.specs.declared.ptr.IRNode.{IRNode as AnyNode};
 ghost use Rattle.plir_core.specs.Forest.{look, IsForest};
-ghost use Rattle.plir_core.specs.Store.{IsLive, kids};
+ghost use Rattle.plir_core.specs.ContextView.{IsLive, children};
 ghost use Rattle.plir_core.specs.Unused.{IsUnusedOutside};
 ghost use Rattle.plir_walk.specs.Lawful.{Lawful};
 ghost use Rattle.plir_passes.specs.Dead.{IsUsedBy, IsUsedByNone, HasNoDead};
@@ -10,7 +10,7 @@ ghost use Rattle.plir_passes.specs.Swept.{IsSwept, IsSweptAt, IsSweptBy, Tells};
 
 use crate::effects::{EffectSet, is_removable};
 use plir_core::laws::{
-    contexts_stand, last_kid_is_back, nothing_stands_below_a_leaf, prev_is_before,
+    contexts_stand, last_child_is_back, nothing_stands_below_a_leaf, prev_is_before,
 };
 use plir_core::{BasicBlock, Context, IRNode, Operation, Ptr};
 use plir_walk::WALKCONFIG_POSTORDER_REVERSE;
@@ -36,7 +36,7 @@ pub fn is_dead<D: EffectSet>(ctx: &Context<D>, op: Ptr<Operation>) -> bool
 // Whether no other operation uses a result of an operation that may go and has no region.
 fn is_unused<D: EffectSet>(ctx: &Context<D>, op: Ptr<Operation>) -> bool
     requires live { IsLive ctx.now (AnyNode.Operation op) }
-    requires leaf { kids ctx.now (AnyNode.Operation op) ≡ [] }
+    requires leaf { children ctx.now (AnyNode.Operation op) ≡ [] }
     ensures answer { IsTrue result ↔ IsUnusedOutside ctx.now (AnyNode.Operation op) }
     ensures used { IsUnusedOutside ctx.now (AnyNode.Operation op) ↔ IsUsedByNone ctx.now op }
 {
@@ -67,7 +67,7 @@ fn sweep_block<D: EffectSet>(ctx: &mut Context<D>, block: Ptr<BasicBlock>, befor
 {
     lawful_changes::<D>();
     ctx.stands();
-    last_kid_is_back(ctx, IRNode::BasicBlock(block));
+    last_child_is_back(ctx, IRNode::BasicBlock(block));
     let mut erased = before;
     let mut at = block.get_tail(ctx);
     'ops: while let Some(op) = at {

@@ -2,7 +2,7 @@
 ghost use Rattle.std.specs.Prelude.{◌≡◌, true, false, IfOk, OnErr};
 ghost use Rattle.plir_core.specs.Changes.{SameLive};
 ghost use Rattle.plir_core.specs.Made.{IsMade};
-ghost use Rattle.plir_core.specs.Store.{given_out};
+ghost use Rattle.plir_core.specs.ContextView.{given_out};
 ghost use Rattle.plir_core.specs.declared.ptr.IRNode.{IRNode as AnyNode};
 ghost use Rattle.plir_passes.specs.Legal.{is_illegal};
 ghost use Rattle.plir_passes_tests.specs.Kinds.{is_old};

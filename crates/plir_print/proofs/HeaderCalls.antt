@@ -7,7 +7,7 @@ use Rattle.plir_core.specs.declared.ptr.Operation.{Operation as OperationKind}
 use Rattle.plir_core.specs.declared.ptr.IRNode.{IRNode}
 use Rattle.plir_core.specs.declared.ptr.IRNode.TheVariants.{Operation, Region, BasicBlock}
 use Rattle.plir_store.specs.Members.{Has}
-use Rattle.plir_core.specs.Store.{Store}
+use Rattle.plir_core.specs.ContextView.{ContextView}
 use Rattle.plir_core.specs.Forest.{look}
 use Rattle.plir_walk.specs.declared.config.WalkConfig.{WalkConfig}
 use Rattle.plir_walk.specs.declared.interruptible.WalkContinue.{WalkContinue}
@@ -38,7 +38,7 @@ module _ {C S B : Type 0} where
   has-last [] x = inl refl
   has-last (y ∷ xs) x = inr (has-last xs x)
 
-never-skips : {K A T : Type 0} → (s : Store K A T) (n : IRNode) → header_answer s n ≡ Continue Skip → ⊥
+never-skips : {K A T : Type 0} → (s : ContextView K A T) (n : IRNode) → header_answer s n ≡ Continue Skip → ⊥
 never-skips s (Operation p) e = at (has_header s p) e
   where
     at : (b : Bool) → answer_for b ≡ Continue Skip → ⊥
@@ -52,7 +52,7 @@ goes-on : (b : Bool) → (answer_for b ≡ Break tt → ⊥) → b ≡ true
 goes-on true f = refl
 goes-on false f = absurd (f refl)
 
-breaks-off : {K A T : Type 0} → (s : Store K A T) (n : IRNode) (u : Unit {0}) → header_answer s n ≡ Break u → (p : Ptr OperationKind) × (n ≡ Operation p) × (has_header s p ≡ true → ⊥)
+breaks-off : {K A T : Type 0} → (s : ContextView K A T) (n : IRNode) (u : Unit {0}) → header_answer s n ≡ Break u → (p : Ptr OperationKind) × (n ≡ Operation p) × (has_header s p ≡ true → ⊥)
 breaks-off s (Operation p) u e = (p, refl, λ h. at (has_header s p) e h)
   where
     at : (b : Bool) → answer_for b ≡ Break u → b ≡ true → ⊥
@@ -61,10 +61,10 @@ breaks-off s (Operation p) u e = (p, refl, λ h. at (has_header s p) e h)
 breaks-off s (Region r) u e = absurd (let z : ⊥ = cc in z)
 breaks-off s (BasicBlock b) u e = absurd (let z : ⊥ = cc in z)
 
-module _ {K A T S : Type 0} (w : WalkConfig) (post : Relation (Store K A T) S (Unit {0}))
-    (told : (c : Store K A T) (s : S) (n : IRNode) (a : ControlFlow (Unit {0}) WalkContinue) (c' : Store K A T) (s' : S) → post c s n a c' s' → (c' ≡ c) × (a ≡ header_answer c n))
-    (c0 : Store K A T) (op : Ptr OperationKind) (s0 s1 : S) where
-  each : (xs : List (Call (Store K A T) S (Unit {0}))) (c : Store K A T) (s : S) (c' : Store K A T) (s' : S) → c ≡ c0 → Chain (IsCallUnder look (Operation op) post) c s xs c' s' → (x : Call (Store K A T) S (Unit {0})) → Has xs x → x.answer ≡ header_answer c0 x.node
+module _ {K A T S : Type 0} (w : WalkConfig) (post : Relation (ContextView K A T) S (Unit {0}))
+    (told : (c : ContextView K A T) (s : S) (n : IRNode) (a : ControlFlow (Unit {0}) WalkContinue) (c' : ContextView K A T) (s' : S) → post c s n a c' s' → (c' ≡ c) × (a ≡ header_answer c n))
+    (c0 : ContextView K A T) (op : Ptr OperationKind) (s0 s1 : S) where
+  each : (xs : List (Call (ContextView K A T) S (Unit {0}))) (c : ContextView K A T) (s : S) (c' : ContextView K A T) (s' : S) → c ≡ c0 → Chain (IsCallUnder look (Operation op) post) c s xs c' s' → (x : Call (ContextView K A T) S (Unit {0})) → Has xs x → x.answer ≡ header_answer c0 x.node
   each [] c s c' s' e h x has = absurd has
   each (y ∷ ys) c s c' s' e h x has =
       let t = told y.before y.state y.node y.answer y.after y.left h.2.made in

@@ -5,10 +5,10 @@ use Rattle.std.proofs.lemmas.Option.{slice_get-get_or}
 use Rattle.std.proofs.lemmas.List.FromFn.{length-map-range_with_len, get_or-map-range_with_len}
 use Rattle.plir_core.specs.declared.value.Value.{Value}
 use Rattle.plir_core.specs.declared.value.DefiningEntity.{DefiningEntity}
-use Rattle.plir_core.specs.Store.{Store, types_from}
+use Rattle.plir_core.specs.ContextView.{ContextView, types_from}
 use Rattle.plir_print.specs.ValueNames.{values_from}
 
-module _ {K A T : Type 0} (s : Store K A T) (e : DefiningEntity) where
+module _ {K A T : Type 0} (s : ContextView K A T) (e : DefiningEntity) where
   -- there are as many values as types
   pub length-values : length (values_from s e) ≡ length (types_from s e)
   length-values = length-map-range_with_len (λ i. record { entity = e; index = i }) 0 (length (types_from s e))

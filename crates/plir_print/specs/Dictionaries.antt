@@ -8,17 +8,17 @@ use Rattle.plir_data.specs.Types.{TypeView}
 use Rattle.plir_data.specs.declared.op_set.OpKind.{OpKind}
 use Rattle.plir_data.specs.declared.op_set.OpKind.TheVariants.{Module, Func}
 use Rattle.plir_data.specs.declared.op_set.OpSet as op_set
+use Rattle.plir_data.specs.Keys.{func_type_key, symbol_key}
 use Rattle.plir_core.specs.declared.ptr.Ptr.{Ptr}
 use Rattle.plir_core.specs.declared.ptr.Operation.{Operation as OperationKind}
-use Rattle.plir_core.specs.Store.{Store, attributes_of, kind_of}
+use Rattle.plir_core.specs.ContextView.{ContextView, attributes_of, kind_of}
 use Rattle.plir_attr_text.specs.OpSetTexts.{pair_text}
-use Rattle.plir_builtin.specs.BuiltinOps.{name_key, func_type_key}
 use Rattle.plir_print.specs.Lists.{parted}
 
 -- whether the attribute under a key is told by the header, of an operation of a kind that has its dictionary apart
 abbrev pub is_told : {K : Type 0} → Option (OpKind K) → (key : List ℕ) → Bool
-is_told (Some Module) key = bytes_eq key name_key
-is_told (Some Func) key = bytes_eq key name_key || bytes_eq key func_type_key
+is_told (Some Module) key = bytes_eq key symbol_key
+is_told (Some Func) key = bytes_eq key symbol_key || bytes_eq key func_type_key
 is_told _ key = false
 
 module _ {D K A T E : Type 0} (o : op_set.Ghosts D K A T E) where
@@ -31,7 +31,7 @@ module _ {D K A T E : Type 0} (o : op_set.Ghosts D K A T E) where
   shown_of kind es = filter (is_shown kind) es
 
   -- the attributes of an operation that are shown
-  abbrev pub shown : Store K A T → Ptr OperationKind → List (List ℕ × AttrView A)
+  abbrev pub shown : ContextView K A T → Ptr OperationKind → List (List ℕ × AttrView A)
   shown s p = shown_of (kind_of s p) (attributes_of s p)
 
   module _ (types : List (TypeView T)) where
@@ -47,5 +47,5 @@ module _ {D K A T E : Type 0} (o : op_set.Ghosts D K A T E) where
     abbrev pub dictionary_text : List (List ℕ × AttrView A) → List ℕ
     dictionary_text es = codes "[" ++ (entries_text es ++ codes "]")
 
-  abbrev pub dictionary : Store K A T → Ptr OperationKind → List ℕ
+  abbrev pub dictionary : ContextView K A T → Ptr OperationKind → List ℕ
   dictionary s p = dictionary_text s.types (shown s p)

@@ -6,9 +6,9 @@ use Rattle.plir_core.specs.declared.ptr.Ptr.{Ptr}
 use Rattle.plir_core.specs.declared.ptr.Region.{Region as RegionKind}
 use Rattle.plir_core.specs.declared.ptr.IRNode.{IRNode}
 use Rattle.plir_core.specs.declared.ptr.IRNode.TheVariants.{Region}
-use Rattle.plir_core.specs.declared.operand_uses.Use.{Use}
+use Rattle.plir_core.specs.declared.uses.Use.{Use}
 use Rattle.plir_core.specs.declared.value.Value.{Value}
-use Rattle.plir_core.specs.Store.{Store, kids, operands_of, parent_of}
+use Rattle.plir_core.specs.ContextView.{ContextView, children, operands_of, parent_of}
 use Rattle.plir_walk.specs.Tree.{same}
 use Rattle.plir_flow.specs.RegionEdges.{EdgeView, Flow}
 use Rattle.plir_flow.specs.declared.edge_ends.RegionBranchPoint.{RegionBranchPoint}
@@ -25,10 +25,10 @@ abbrev pub place_among : IRNode → List IRNode → ℕ
 place_among n [] = 0
 place_among n (x ∷ xs) = cond (same x n) 0 (suc (place_among n xs))
 
-module _ {K A T : Type 0} (s : Store K A T) where
+module _ {K A T : Type 0} (s : ContextView K A T) where
   abbrev pub place_under : IRNode → Option IRNode → ℕ
   place_under n None = 0
-  place_under n (Some over) = place_among n (kids s over)
+  place_under n (Some over) = place_among n (children s over)
 
   -- the place of a region among those of its operation
   abbrev pub region_place : Ptr RegionKind → ℕ
@@ -68,7 +68,7 @@ module _ {K A T : Type 0} (s : Store K A T) where
   HasPointHeader Parent = Unit {0}
   HasPointHeader (Terminator t) = HasHeader s t
 
-module _ {D K A T E : Type 0} (o : op_set.Ghosts D K A T E) (s : Store K A T) where
+module _ {D K A T E : Type 0} (o : op_set.Ghosts D K A T E) (s : ContextView K A T) where
   -- where an edge starts: `parent`, or the header of the terminator
   abbrev pub point_text : RegionBranchPoint → List ℕ
   point_text Parent = codes "parent"

@@ -6,12 +6,12 @@ use Rattle.plir_core.specs.declared.ptr.Ptr.{Ptr}
 use Rattle.plir_core.specs.declared.ptr.Operation.{Operation as OperationKind}
 use Rattle.plir_core.specs.declared.ptr.IRNode.{IRNode}
 use Rattle.plir_core.specs.declared.ptr.IRNode.TheVariants.{Operation}
-use Rattle.plir_core.specs.Store.{Store, kids, kind_of, op_at, result_types_of}
+use Rattle.plir_core.specs.ContextView.{ContextView, children, kind_of, op_at, result_types_of}
 use Rattle.plir_walk.specs.Tree.{IsUnder}
 use Rattle.plir_builtin.specs.Symbols.{name_held}
 use Rattle.plir_builtin.specs.BuiltinOps.{func_type_of, value_of}
 
-module _ {K A T : Type 0} (s : Store K A T) where
+module _ {K A T : Type 0} (s : ContextView K A T) where
   -- A module and a function have an identifier as their name, a function a type, a constant a value and one result; of
   -- other operations nothing is asked.
   abbrev pub has_header_of : Option (OpKind K) → Ptr OperationKind → Bool
@@ -31,4 +31,4 @@ module _ {K A T : Type 0} (s : Store K A T) where
 
   -- each operation at or under a node has them
   abbrev pub IsPrintable : IRNode → Type 0
-  IsPrintable n = (p : Ptr OperationKind) → IsUnder (kids s) n (Operation p) → HasHeader p
+  IsPrintable n = (p : Ptr OperationKind) → IsUnder (children s) n (Operation p) → HasHeader p

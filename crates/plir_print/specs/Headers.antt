@@ -9,7 +9,8 @@ use Rattle.plir_core.specs.declared.ptr.Ptr.{Ptr}
 use Rattle.plir_core.specs.declared.ptr.Operation.{Operation as OperationKind}
 use Rattle.plir_core.specs.declared.ptr.BasicBlock.{BasicBlock as BasicBlockKind}
 use Rattle.plir_core.specs.declared.value.Value.{Value}
-use Rattle.plir_core.specs.Store.{Store, kind_of, op_at, operands_of, result_types_of, successors_of, type_of_value}
+use Rattle.plir_core.specs.ContextView.{ContextView, kind_of, op_at, operands_of, result_types_of, successors_of}
+use Rattle.plir_core.specs.ContextView.{type_of_value}
 use Rattle.plir_builtin.specs.Symbols.{name_held}
 use Rattle.plir_builtin.specs.BuiltinOps.{func_type_of, value_of}
 use Rattle.plir_print.specs.Lists.{parted}
@@ -17,7 +18,7 @@ use Rattle.plir_print.specs.ValueNames.{block_name, value_name, results_of}
 use Rattle.plir_attr_text.specs.OpSetTexts.{attribute_text}
 use Rattle.plir_print.specs.Dictionaries.{dictionary}
 
-module _ {K A T : Type 0} (s : Store K A T) where
+module _ {K A T : Type 0} (s : ContextView K A T) where
   -- the names of values, with a comma and a space between them
   abbrev pub names_text : List Value → List ℕ
   names_text vs = parted (codes ", ") (value_name s) vs
@@ -38,7 +39,7 @@ module _ {K A T : Type 0} (s : Store K A T) where
   abbrev pub symbol_text : Ptr OperationKind → List ℕ
   symbol_text p = codes "@" ++ unwrap_or (name_held (op_at s p)) []
 
-module _ {D K A T E : Type 0} (o : op_set.Ghosts D K A T E) (s : Store K A T) where
+module _ {D K A T E : Type 0} (o : op_set.Ghosts D K A T E) (s : ContextView K A T) where
   -- the text of a type, and of an attribute, where there is one
   abbrev pub some_type_text : Option ℕ → List ℕ
   some_type_text None = []

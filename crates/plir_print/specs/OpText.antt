@@ -13,7 +13,7 @@ use Rattle.plir_core.specs.declared.ptr.BasicBlock.{BasicBlock as BasicBlockKind
 use Rattle.plir_core.specs.declared.ptr.IRNode.{IRNode}
 use Rattle.plir_core.specs.declared.ptr.IRNode.TheVariants.{Operation, Region, BasicBlock}
 use Rattle.plir_core.specs.declared.value.Value.{Value}
-use Rattle.plir_core.specs.Store.{Store, kids, kind_of, limit}
+use Rattle.plir_core.specs.ContextView.{ContextView, children, kind_of, limit}
 use Rattle.plir_core.specs.Measures.{depth}
 use Rattle.plir_print.specs.Lists.{parted}
 use Rattle.plir_print.specs.ValueNames.{block_name, value_name, results_of, arguments_of}
@@ -38,14 +38,14 @@ space_behind (Some (Own k)) [] = []
 space_behind (Some (Own k)) (r ∷ rs) = codes " "
 space_behind _ rs = []
 
-module _ {K A T : Type 0} (s : Store K A T) where
+module _ {K A T : Type 0} (s : ContextView K A T) where
   -- the names of the results and ` = `, where there are results
   abbrev pub results_text : Ptr OperationKind → List ℕ
   results_text p = names_text s (results_of s p) ++ equals_behind (results_of s p)
 
   -- the space behind the header of an operation
   abbrev pub space_text : Ptr OperationKind → List ℕ
-  space_text p = space_behind (kind_of s p) (kids s (Operation p))
+  space_text p = space_behind (kind_of s p) (children s (Operation p))
 
   -- more levels than there can be below a node
   abbrev pub room : IRNode → ℕ
@@ -63,7 +63,7 @@ module _ {D K A T E : Type 0} (o : op_set.Ghosts D K A T E) where
   dictionary_of types (Some Func) n es = line_of types n es
   dictionary_of types _ n es = []
 
-  module _ (s : Store K A T) where
+  module _ (s : ContextView K A T) where
     abbrev pub dictionary_line : (n : ℕ) → Ptr OperationKind → List ℕ
     dictionary_line n p = line_of s.types n (shown o s p)
 
@@ -90,11 +90,11 @@ module _ {D K A T E : Type 0} (o : op_set.Ghosts D K A T E) where
     -- all but the last.
     abbrev pub text_at : (k n : ℕ) → IRNode → List ℕ
     text_at zero n x = []
-    text_at (suc k) n (Operation p) = op_front n p ++ flat_map (text_at k n) (kids s (Operation p))
+    text_at (suc k) n (Operation p) = op_front n p ++ flat_map (text_at k n) (children s (Operation p))
     text_at (suc k) n (Region r) = line n ++ (codes "{" ++
-        (flat_map (λ b. line (n + 2) ++ text_at k (n + 2) b) (kids s (Region r)) ++ (line n ++ codes "}")))
+        (flat_map (λ b. line (n + 2) ++ text_at k (n + 2) b) (children s (Region r)) ++ (line n ++ codes "}")))
     text_at (suc k) n (BasicBlock b) = block_front b ++ parted (codes ";") (λ p. line (n + 2) ++ text_at k (n + 2) p)
-        (kids s (BasicBlock b))
+        (children s (BasicBlock b))
 
     -- the text of a node, as far in as n columns
     abbrev pub text_of : (n : ℕ) → IRNode → List ℕ
@@ -104,7 +104,7 @@ module _ {D K A T E : Type 0} (o : op_set.Ghosts D K A T E) where
     abbrev pub op_text : Ptr OperationKind → List ℕ
     op_text p = text_of 0 (Operation p)
 
-    -- the texts of the kids of a node, as they stand in its own
+    -- the texts of the children of a node, as they stand in its own
     abbrev pub regions_text : (n : ℕ) → List IRNode → List ℕ
     regions_text n xs = flat_map (text_of n) xs
 
@@ -116,10 +116,10 @@ module _ {D K A T E : Type 0} (o : op_set.Ghosts D K A T E) where
 
     -- the regions of an operation, the blocks of a region, and the operations of a block
     abbrev pub regions_in : (n : ℕ) → Ptr OperationKind → List ℕ
-    regions_in n p = regions_text n (kids s (Operation p))
+    regions_in n p = regions_text n (children s (Operation p))
 
     abbrev pub blocks_in : (n : ℕ) → Ptr RegionKind → List ℕ
-    blocks_in n r = blocks_text n (kids s (Region r))
+    blocks_in n r = blocks_text n (children s (Region r))
 
     abbrev pub ops_in : (n : ℕ) → Ptr BasicBlockKind → List ℕ
-    ops_in n b = ops_text n (kids s (BasicBlock b))
+    ops_in n b = ops_text n (children s (BasicBlock b))

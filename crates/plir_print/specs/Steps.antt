@@ -6,46 +6,46 @@ use Rattle.plir_data.specs.declared.op_set.OpSet as op_set
 use Rattle.plir_core.specs.declared.ptr.IRNode.{IRNode}
 use Rattle.plir_core.specs.declared.ptr.IRNode.TheVariants.{Operation, Region, BasicBlock}
 use Rattle.plir_core.specs.Measures.{depth}
-use Rattle.plir_core.specs.Store.{Store, kids, limit}
+use Rattle.plir_core.specs.ContextView.{ContextView, children, limit}
 use Rattle.plir_print.specs.Lists.{before}
 use Rattle.plir_print.specs.OpText.{line, op_front, block_front, room, text_of}
 
--- how far in the kids of a node stand that stands as far in as n columns
+-- how far in the children of a node stand that stands as far in as n columns
 abbrev pub inner : (n : ℕ) → IRNode → ℕ
 inner n (Operation p) = n
 inner n (Region r) = n + 2
 inner n (BasicBlock b) = n + 2
 
--- how far in a node stands whose kids stand as far in as n columns
+-- how far in a node stands whose children stand as far in as n columns
 abbrev pub outer : (n : ℕ) → IRNode → ℕ
 outer n (Operation p) = n
 outer n (Region r) = n - 2
 outer n (BasicBlock b) = n - 2
 
--- What stands before a kid of a node, as far in as n columns: a new line before a block and an operation, and before
+-- What stands before a child of a node, as far in as n columns: a new line before a block and an operation, and before
 -- the line a semicolon, where other operations stand first.
 abbrev pub lead : (is_first : Bool) → (n : ℕ) → (over : IRNode) → List ℕ
 lead is_first n (Operation p) = []
 lead is_first n (Region r) = line n
 lead is_first n (BasicBlock b) = before is_first (codes ";") ++ line n
 
--- what stands behind the kids of a node
+-- what stands behind the children of a node
 abbrev pub closing : (n : ℕ) → IRNode → List ℕ
 closing n (Operation p) = []
 closing n (Region r) = line n ++ codes "}"
 closing n (BasicBlock b) = []
 
--- kids of a node with what stands before each; the first of these may be the first of all, or not
-abbrev pub kids_text : (write : IRNode → List ℕ) → (is_first : Bool) → (n : ℕ) → (over : IRNode) → List IRNode →
+-- children of a node with what stands before each; the first of these may be the first of all, or not
+abbrev pub children_text : (write : IRNode → List ℕ) → (is_first : Bool) → (n : ℕ) → (over : IRNode) → List IRNode →
     List ℕ
-kids_text write is_first n over [] = []
-kids_text write is_first n over (x ∷ xs) = lead is_first n over ++ (write x ++ kids_text write false n over xs)
+children_text write is_first n over [] = []
+children_text write is_first n over (x ∷ xs) = lead is_first n over ++ (write x ++ children_text write false n over xs)
 
 -- a node, whether it is entered or left, and how far in it stands
 abbrev pub Cursor : Type 0
 Cursor = IRNode × Bool × ℕ
 
-module _ {K A T : Type 0} (s : Store K A T) where
+module _ {K A T : Type 0} (s : ContextView K A T) where
   -- A number that falls with each step that puts nothing, and is below `ranks`.
   abbrev pub rank_of : IRNode → Bool → ℕ
   rank_of x true = limit s + 2 + room s x
@@ -61,8 +61,8 @@ module _ {K A T : Type 0} (s : Store K A T) where
   abbrev pub IsNearer : (old : List ℕ) → Cursor → (new : List ℕ) → Cursor → Type 0
   IsNearer old b new c = (length old < length new) ⊎ ((length old ≤ length new) × (rank c < rank b))
 
-module _ {D K A T E : Type 0} (o : op_set.Ghosts D K A T E) (s : Store K A T) where
-  -- what stands before the kids of a node
+module _ {D K A T E : Type 0} (o : op_set.Ghosts D K A T E) (s : ContextView K A T) where
+  -- what stands before the children of a node
   abbrev pub opening : (n : ℕ) → IRNode → List ℕ
   opening n (Operation p) = op_front o s n p
   opening n (Region r) = line n ++ codes "{"
@@ -73,17 +73,17 @@ module _ {D K A T E : Type 0} (o : op_set.Ghosts D K A T E) (s : Store K A T) wh
   own_rest n x true = text_of o s n x
   own_rest n x false = closing n x
 
-  -- A node stands under another one, as far in as n columns; behind its text stand those of the later kids, what closes
-  -- the text of the other, and a rest.
+  -- A node stands under another one, as far in as n columns; behind its text stand those of the later children, what
+  -- closes the text of the other, and a rest.
   pub record HangsIn (n : ℕ) (x : IRNode) (behind : List ℕ) : Type 0 where
     pub over : IRNode
     pub columns : ℕ
     pub earlier : List IRNode
     pub later : List IRNode
     pub rest : List ℕ
-    pub there : kids s over ≡ earlier ++ x ∷ later
+    pub there : children s over ≡ earlier ++ x ∷ later
     pub further : n ≡ inner columns over
-    pub text : behind ≡ kids_text (text_of o s n) false n over later ++ (closing columns over ++ rest)
+    pub text : behind ≡ children_text (text_of o s n) false n over later ++ (closing columns over ++ rest)
 
   module _ (root : IRNode) where
     -- what of the root's text stands behind that of a node, so many levels below the root

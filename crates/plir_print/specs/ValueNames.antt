@@ -8,12 +8,12 @@ use Rattle.plir_core.specs.declared.ptr.BasicBlock.{BasicBlock as BasicBlockKind
 use Rattle.plir_core.specs.declared.value.Value.{Value}
 use Rattle.plir_core.specs.declared.value.DefiningEntity.{DefiningEntity}
 use Rattle.plir_core.specs.declared.value.DefiningEntity.TheVariants.{Op, Block}
-use Rattle.plir_core.specs.Store.{Store, label_of, types_from}
+use Rattle.plir_core.specs.ContextView.{ContextView, label_of, types_from}
 use Rattle.plir_core.specs.Texts.{pointer_text}
 use Rattle.plir_walk.specs.GivenNames.{names_at, name_at}
 use Rattle.plir_builtin.specs.ResultNames.{given_first, result_name}
 
-module _ {K A T : Type 0} (s : Store K A T) where
+module _ {K A T : Type 0} (s : ContextView K A T) where
   -- a label comes first, if there is one, then the pointer, as in `entry_block2v1`
   abbrev pub block_name : Ptr BasicBlockKind → List ℕ
   block_name b = given_first (label_of s b) ++ pointer_text (codes "block") b

@@ -3,7 +3,7 @@ ghost use Rattle.std.specs.Prelude.{◌≡◌, Some, OnOk, ◌↔◌, IsTrue, []
 ghost use Rattle.plir_data.specs.AttrSeen.{attr_view};
 ghost use Rattle.plir_data.specs.AttrLive.{IsAttrLive, HandlesLive};
 ghost use Rattle.plir_core.specs.declared.ptr.IRNode.{IRNode as AnyNode};
-ghost use Rattle.plir_core.specs.Store.{IsLive};
+ghost use Rattle.plir_core.specs.ContextView.{IsLive};
 ghost use Rattle.plir_print.specs.Lists.{Puts};
 ghost use Rattle.plir_attr_text.specs.OpSetTexts.{attribute_text};
 ghost use Rattle.plir_print.specs.Dictionaries.{dictionary, is_shown, is_told, shown_of, shown_text};

@@ -1,15 +1,15 @@
 //! From an edge between an operation and its regions to its text.
 ghost use Rattle.std.specs.Prelude.{◌≡◌, All, IfOk, OnOk, string_bytes};
 ghost use Rattle.plir_core.specs.declared.ptr.IRNode.{IRNode as AnyNode};
-ghost use Rattle.plir_core.specs.Store.{IsLive};
-ghost use Rattle.plir_core.specs.Whole.{IsWhole};
+ghost use Rattle.plir_core.specs.ContextView.{IsLive};
+ghost use Rattle.plir_core.specs.WellFormed.{IsWellFormed};
 ghost use Rattle.plir_flow.specs.RegionEdges.{IsEdgeLive, IsFlowLive, IsPointLive, IsSuccessorLive, IsUseLive};
 ghost use Rattle.plir_print.specs.Lists.{Puts};
 ghost use Rattle.plir_print.specs.EdgeText.{HasPointHeader, edge_text, flow_text, flows_text, passing_text, point_text};
 ghost use Rattle.plir_print.specs.EdgeText.{reads_text, region_place, successor_text, use_text};
 
+use crate::children::stands;
 use crate::headers::put_header;
-use crate::kids::stands;
 use crate::layout::put_between;
 use crate::names::put_value;
 use plir_core::{Context, Ptr, Region, Use, Value};
@@ -155,7 +155,7 @@ pub fn print_edge<D: OpSet>(
     requires live { IsEdgeLive ctx.now edge.now }
     requires header { HasPointHeader ctx.now edge.now.from }
     ensures text { IfOk result (λ s. string_bytes s ≡ edge_text D.OpSet ctx.now edge.now) }
-    ensures whole { IsWhole D.attr_handles ctx.now }
+    ensures whole { IsWellFormed D.attr_handles ctx.now }
 {
     ctx.stands();
     let mut out = String::new(alloc);

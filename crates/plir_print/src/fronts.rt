@@ -1,7 +1,7 @@
 //! What stands in the text of an operation before its regions, and in that of a block before its operations.
 ghost use Rattle.std.specs.Prelude.{◌<◌, ◌^◌, OnOk};
 ghost use Rattle.plir_core.specs.declared.ptr.IRNode.{IRNode as AnyNode};
-ghost use Rattle.plir_core.specs.Store.{IsLive, IsValueLive};
+ghost use Rattle.plir_core.specs.ContextView.{IsLive, IsValueLive};
 ghost use Rattle.plir_print.specs.Lists.{Puts};
 ghost use Rattle.plir_print.specs.HeaderAttrs.{HasHeader};
 ghost use Rattle.plir_print.specs.OpText.{argument_text, arguments_text, block_front, op_front};

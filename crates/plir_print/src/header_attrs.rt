@@ -4,8 +4,8 @@ ghost use Rattle.plir_data.specs.AttrLive.{IsAttrLive};
 ghost use Rattle.plir_data.specs.AttrSeen.{attr_view};
 ghost use Rattle.plir_data.specs.Types.{IsLive as IsTypeLive};
 ghost use Rattle.plir_core.specs.declared.ptr.IRNode.{IRNode as AnyNode};
-ghost use Rattle.plir_core.specs.Store.{IsLive, op_at};
-ghost use Rattle.plir_core.specs.Whole.{IsWhole};
+ghost use Rattle.plir_core.specs.ContextView.{IsLive, op_at};
+ghost use Rattle.plir_core.specs.WellFormed.{IsWellFormed};
 ghost use Rattle.plir_builtin.specs.BuiltinOps.{func_type_of, value_of};
 ghost use Rattle.plir_builtin.specs.Symbols.{name_held, name_in as name_inside};
 ghost use Rattle.plir_print.specs.HeaderAttrs.{has_header};
@@ -57,7 +57,7 @@ pub(crate) fn find_value<D: OpSet>(ctx: &Context<D>, op: Ptr<Operation>) -> Opti
 pub fn has_header<D: OpSet>(ctx: &Context<D>, op: Ptr<Operation>) -> bool
     requires { IsLive ctx.now (AnyNode.Operation op) }
     ensures value { result ≡ has_header ctx.now op }
-    ensures whole { IsWhole D.attr_handles ctx.now }
+    ensures whole { IsWellFormed D.attr_handles ctx.now }
 {
     match op.kind(ctx) {
         OpKind::Module => find_name(ctx, op).is_some(),

@@ -4,7 +4,7 @@ ghost use Rattle.plir_data.specs.TypeText.{type_text};
 ghost use Rattle.plir_data.specs.Types.{IsLive as IsTypeLive};
 ghost use Rattle.plir_data.specs.declared.op_set.OpKind.{OpKind as AnyKind};
 ghost use Rattle.plir_core.specs.declared.ptr.IRNode.{IRNode as AnyNode};
-ghost use Rattle.plir_core.specs.Store.{IsLive, IsValueLive, op_at};
+ghost use Rattle.plir_core.specs.ContextView.{IsLive, IsValueLive, op_at};
 ghost use Rattle.plir_builtin.specs.Symbols.{name_held};
 ghost use Rattle.plir_print.specs.HeaderAttrs.{HasHeader, has_header_of};
 ghost use Rattle.plir_print.specs.Headers.{header, header_of, names_text, signature_text, successor_text};

@@ -1,6 +1,6 @@
 //! Laws of the texts of operations: each function does nothing, and its contract is the law.
-ghost use Rattle.plir_core.specs.Store.{Store};
-ghost use Rattle.plir_core.specs.Whole.{IsWhole};
+ghost use Rattle.plir_core.specs.ContextView.{ContextView};
+ghost use Rattle.plir_core.specs.WellFormed.{IsWellFormed};
 ghost use Rattle.plir_print.specs.WholeText.{TextsAreWhole};
 
 use plir_core::laws::contexts_stand;
@@ -13,7 +13,7 @@ use plir_data::OpSet;
 /// in that text, however deep, goes down by these equations, a level at a time; that a context is whole is told by each
 /// call that was handed it, as by `print_op`.
 pub fn texts_leave_out_no_level<D: OpSet>()
-    ensures { (s : Store D.Kind D.Attr D.Ty) → IsWhole D.attr_handles s → TextsAreWhole D.OpSet s }
+    ensures { (s : ContextView D.Kind D.Attr D.Ty) → IsWellFormed D.attr_handles s → TextsAreWhole D.OpSet s }
 {
     contexts_stand::<D>();
 }

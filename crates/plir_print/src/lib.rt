@@ -1,12 +1,12 @@
 //! The texts of operations and of edges between regions.
 #![tactic(auto)]
 
+mod children;
 mod dictionaries;
 mod edges;
 mod fronts;
 mod header_attrs;
 mod headers;
-mod kids;
 pub mod laws;
 mod layout;
 mod names;

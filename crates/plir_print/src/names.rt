@@ -1,7 +1,7 @@
 //! The names of values and blocks.
 ghost use Rattle.std.specs.Prelude.{OnOk, option_map};
 ghost use Rattle.plir_core.specs.declared.ptr.IRNode.{IRNode as AnyNode};
-ghost use Rattle.plir_core.specs.Store.{IsLive, IsValueLive};
+ghost use Rattle.plir_core.specs.ContextView.{IsLive, IsValueLive};
 ghost use Rattle.plir_builtin.specs.ResultNames.{given_first, result_name};
 ghost use Rattle.plir_print.specs.Lists.{Puts};
 ghost use Rattle.plir_print.specs.ValueNames.{argument_name, block_name, value_name};

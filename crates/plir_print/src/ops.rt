@@ -1,15 +1,15 @@
 //! From an operation with all below it to its text, by one loop over links.
 ghost use Rattle.std.specs.Prelude.{◌≡◌, ◌++◌, ◌^◌, ◌<◌, ℕ, IfOk, List, OnOk, Some, false, string_bytes, true};
 ghost use Rattle.plir_core.specs.declared.ptr.IRNode.{IRNode as AnyNode};
-ghost use Rattle.plir_core.specs.Store.{IsLive};
-ghost use Rattle.plir_core.specs.Whole.{IsWhole};
+ghost use Rattle.plir_core.specs.ContextView.{IsLive};
+ghost use Rattle.plir_core.specs.WellFormed.{IsWellFormed};
 ghost use Rattle.plir_print.specs.Lists.{Puts};
 ghost use Rattle.plir_print.specs.HeaderAttrs.{IsPrintable};
 ghost use Rattle.plir_print.specs.OpText.{op_text};
 ghost use Rattle.plir_print.specs.Steps.{Steps, closing, inner, lead, opening, outer};
 
+use crate::children::{next_of, stands};
 use crate::fronts::{put_block_front, put_op_front};
-use crate::kids::{next_of, stands};
 use crate::layout::{put_between, put_line};
 use plir_core::laws::next_is_behind;
 use plir_core::{Context, IRNode, Operation, Ptr};
@@ -18,7 +18,7 @@ use plir_data::{Memory, OpSet};
 use plir_walk::NodeLinks;
 use std::alloc::Global;
 
-// How far in the kids of a node stand that stands as far in as `indent`.
+// How far in the children of a node stand that stands as far in as `indent`.
 fn inner_indent(indent: usize, node: IRNode) -> usize
     requires { indent < 2 ^ 40 }
     ensures { result ≡ inner indent node }
@@ -30,7 +30,7 @@ fn inner_indent(indent: usize, node: IRNode) -> usize
     }
 }
 
-// How far in a node stands whose kids stand as far in as `indent`.
+// How far in a node stands whose children stand as far in as `indent`.
 fn outer_indent(indent: usize, node: IRNode) -> usize
     ensures { result ≡ outer indent node }
 {
@@ -41,7 +41,7 @@ fn outer_indent(indent: usize, node: IRNode) -> usize
     }
 }
 
-// Puts what stands before the kids of a node.
+// Puts what stands before the children of a node.
 fn put_opening<D: OpSet>(
     out: &mut String,
     alloc: Global,
@@ -64,7 +64,7 @@ fn put_opening<D: OpSet>(
     }
 }
 
-// Puts what stands behind the kids of a node.
+// Puts what stands behind the children of a node.
 fn put_closing(out: &mut String, indent: usize, node: IRNode) -> Result<(), Memory>
     ensures { OnOk result (Puts out.old out.new (closing indent node)) }
 {
@@ -78,7 +78,7 @@ fn put_closing(out: &mut String, indent: usize, node: IRNode) -> Result<(), Memo
     }
 }
 
-// Puts what stands before a kid of a node: a new line before a block and an operation, and before the line a semicolon,
+// Puts what stands before a child of a node: a new line before a block and an operation, and before the line a semicolon,
 // where other operations stand first.
 fn put_lead(out: &mut String, is_first: bool, indent: usize, over: IRNode) -> Result<(), Memory>
     ensures { OnOk result (Puts out.old out.new (lead is_first indent over)) }
@@ -93,7 +93,7 @@ fn put_lead(out: &mut String, is_first: bool, indent: usize, over: IRNode) -> Re
     }
 }
 
-// Puts what stands before the kids of a node, and goes on to the first of them, or to the node's end.
+// Puts what stands before the children of a node, and goes on to the first of them, or to the node's end.
 fn enter<D: OpSet>(
     out: &mut String,
     alloc: Global,
@@ -110,16 +110,16 @@ fn enter<D: OpSet>(
     stands(ctx);
     put_opening(out, alloc, ctx, indent, node)?;
     match ctx.first_child(node) {
-        Some(kid) => {
+        Some(child) => {
             let within = inner_indent(indent, node);
             put_lead(out, true, within, node)?;
-            Ok((kid, true, within))
+            Ok((child, true, within))
         }
         None => Ok((node, false, indent)),
     }
 }
 
-// Goes on from a node that is left and is not the root, behind whose kids all is put: to the next node under the same
+// Goes on from a node that is left and is not the root, behind whose children all is put: to the next node under the same
 // one, or to the end of that.
 fn go_on<D: OpSet>(
     out: &mut String,
@@ -145,7 +145,7 @@ fn go_on<D: OpSet>(
     }
 }
 
-// Puts what stands behind the kids of a node, and goes on from there. None, if the root is left.
+// Puts what stands behind the children of a node, and goes on from there. None, if the root is left.
 fn leave<D: OpSet>(
     out: &mut String,
     ctx: &Context<D>,
@@ -219,7 +219,7 @@ pub fn print_op<D: OpSet>(
     requires live { IsLive ctx.now (AnyNode.Operation op) }
     requires printable { IsPrintable ctx.now (AnyNode.Operation op) }
     ensures text { IfOk result (λ s. string_bytes s ≡ op_text D.OpSet ctx.now op) }
-    ensures whole { IsWhole D.attr_handles ctx.now }
+    ensures whole { IsWellFormed D.attr_handles ctx.now }
 {
     ctx.stands();
     let mut out = String::new(alloc);

@@ -1,8 +1,8 @@
 //! Whether an operation with all below it can be printed.
 ghost use Rattle.std.specs.Prelude.{◌≡◌, ◌↔◌, IsTrue};
 ghost use Rattle.plir_core.specs.declared.ptr.IRNode.{IRNode as AnyNode};
-ghost use Rattle.plir_core.specs.Store.{IsLive};
-ghost use Rattle.plir_core.specs.Whole.{IsWhole};
+ghost use Rattle.plir_core.specs.ContextView.{IsLive};
+ghost use Rattle.plir_core.specs.WellFormed.{IsWellFormed};
 ghost use Rattle.plir_print.specs.HeaderAttrs.{IsPrintable};
 ghost use Rattle.plir_print.specs.HeaderWalk.{header_answer};
 
@@ -37,7 +37,7 @@ fn look_at<D: OpSet>(ctx: &Context<D>, node: IRNode) -> WalkResult<()>
 pub fn is_printable<D: OpSet>(ctx: &Context<D>, op: Ptr<Operation>) -> bool
     requires { IsLive ctx.now (AnyNode.Operation op) }
     ensures value { IsTrue result ↔ IsPrintable ctx.now (AnyNode.Operation op) }
-    ensures whole { IsWhole D.attr_handles ctx.now }
+    ensures whole { IsWellFormed D.attr_handles ctx.now }
 {
     ctx.stands();
     let look = |ctx: &Context<D>, _state: &mut (), node: IRNode| -> WalkResult<()>

@@ -1,6 +1,6 @@
 //! The values that an operation or a block has.
 ghost use Rattle.std.specs.Prelude.{◌≡◌, ◌<◌, Some, length, slice_get};
-ghost use Rattle.plir_core.specs.Store.{IsLive, IsValueLive};
+ghost use Rattle.plir_core.specs.ContextView.{IsLive, IsValueLive};
 ghost use Rattle.plir_print.specs.ValueLists.{holder, values_in};
 
 use plir_core::{BasicBlock, Context, Operation, Ptr, Value};

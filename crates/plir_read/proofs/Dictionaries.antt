@@ -10,11 +10,11 @@ use Rattle.plir_attr_text.specs.AttrGrammar.{SpellsEntries}
 use Rattle.plir_attr_text.specs.TypeGrammar.{enclosed}
 use Rattle.plir_attr_text.specs.Lists.{sign_at, past_sign, items_at}
 use Rattle.plir_attr_text.specs.AttrReading.{attr_kind, attr_head, entry_at, attr_at}
-use Rattle.plir_attr_text.specs.StepLaws.{chosen, bind_ok, done, ok_is}
-use Rattle.plir_attr_text.specs.Begun.{word_again, past_sign_again, no_sign}
-use Rattle.plir_attr_text.specs.ListsFound.{FoundOne, IsSound}
-use Rattle.plir_attr_text.specs.AttrsFound.{attr_found}
-use Rattle.plir_attr_text.specs.AttrsAgain.{attr_again}
+use Rattle.plir_attr_text.specs.laws.StepLaws.{chosen, bind_ok, done, ok_is}
+use Rattle.plir_attr_text.specs.laws.Begun.{word_again, past_sign_again, no_sign}
+use Rattle.plir_attr_text.specs.laws.ListsFound.{FoundOne, IsSound}
+use Rattle.plir_attr_text.specs.laws.AttrsFound.{attr_found}
+use Rattle.plir_attr_text.specs.laws.AttrsAgain.{attr_again}
 use Rattle.plir_read.specs.OpGrammar.{SpellsDictionary}
 use Rattle.plir_read.specs.OpReading.{dictionary_at}
 

@@ -8,10 +8,10 @@ use Rattle.plir_attr_text.specs.Strings.{is_code, closed_code, code_at, escape_a
 use Rattle.plir_attr_text.specs.Tokens.{Token, word, digits, signed, quoted, arrow, sign, is_mark, token_at, look, Takes, Begins}
 use Rattle.plir_attr_text.specs.Lists.{sign_at}
 use Rattle.plir_attr_text.specs.AttrReading.{name_at}
-use Rattle.plir_attr_text.specs.StepLaws.{chosen, bind_ok, ok_is}
-use Rattle.plir_attr_text.specs.Begun.{sign_found}
-use Rattle.plir_attr_text.specs.LeavesFound.{name_found}
-use Rattle.plir_attr_text.specs.ListsFound.{IsSound}
+use Rattle.plir_attr_text.specs.laws.StepLaws.{chosen, bind_ok, ok_is}
+use Rattle.plir_attr_text.specs.laws.Begun.{sign_found}
+use Rattle.plir_attr_text.specs.laws.LeavesFound.{name_found}
+use Rattle.plir_attr_text.specs.laws.ListsFound.{IsSound}
 
 -- the rest is an end of the text
 abbrev pub IsEnd : (bytes rest : List ℕ) → Type 0

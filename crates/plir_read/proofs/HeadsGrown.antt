@@ -1,7 +1,7 @@
 -- Headers that are held while types come.
 use Rattle.std.proofs.Common.{List}
 use Rattle.plir_data.specs.Types.{TypeView}
-use Rattle.plir_attr_text.specs.Growth.{Names-grown}
+use Rattle.plir_attr_text.specs.laws.Growth.{Names-grown}
 use Rattle.plir_attr_text.specs.Names.{Grows}
 use Rattle.plir_read.specs.Heads.{IsHead}
 use Rattle.plir_read.specs.OpTerms.{Head, module_head, func_head}

@@ -4,11 +4,11 @@ use Rattle.std.proofs.lemmas.Bool.{cases_lt}
 use Rattle.plir_data.specs.Types.{TypeView}
 use Rattle.plir_attr_text.specs.declared.fault.Fault.{Fault}
 use Rattle.plir_attr_text.specs.declared.fault.Stop.{Stop}
-use Rattle.plir_attr_text.specs.Fronts.{GoesOn, closes, goes_on}
-use Rattle.plir_attr_text.specs.Growth.{Names-grown}
+use Rattle.plir_attr_text.specs.laws.Fronts.{GoesOn, closes, goes_on}
+use Rattle.plir_attr_text.specs.laws.Growth.{Names-grown}
 use Rattle.plir_attr_text.specs.Names.{Grows, AreNamed}
 use Rattle.plir_attr_text.specs.Parts.{IsPartOf}
-use Rattle.plir_attr_text.specs.StepLaws.{bind_ok, ok_is, done}
+use Rattle.plir_attr_text.specs.laws.StepLaws.{bind_ok, ok_is, done}
 use Rattle.plir_attr_text.specs.Steps.{◌>>=◌}
 use Rattle.plir_attr_text.specs.Terms.{TypeTerm}
 use Rattle.plir_read.specs.HeldTypes.{IsHeldByArgument, IsHeldByBlock, IsHeldByBlocks, IsHeldByOp, IsHeldByOps, HoldsNew}

@@ -6,8 +6,8 @@ use Rattle.plir_data.specs.Identifier.{is_identifier, all_in_identifier, is_lett
 use Rattle.plir_data.specs.Types.{TypeView}
 use Rattle.plir_attr_text.specs.AttrGrammar.{SpellsIdentifier}
 use Rattle.plir_attr_text.specs.AttrReading.{name_at}
-use Rattle.plir_attr_text.specs.Fronts.{GoesOn}
-use Rattle.plir_attr_text.specs.LeavesFound.{found-shorter, name_found}
+use Rattle.plir_attr_text.specs.laws.Fronts.{GoesOn}
+use Rattle.plir_attr_text.specs.laws.LeavesFound.{found-shorter, name_found}
 use Rattle.plir_attr_text.specs.Lists.{separator_at, items_at}
 use Rattle.plir_attr_text.specs.Names.{Grows, Names, NamesAll, AreNamed}
 use Rattle.plir_read.specs.Heads.{argument_types, argument_names, result_names}

@@ -4,15 +4,15 @@ use Rattle.plir_data.specs.Identifier.{is_identifier}
 use Rattle.plir_attr_text.specs.declared.fault.Fault.{Fault}
 use Rattle.plir_attr_text.specs.Tokens.{Token, word, sign, look, Begins}
 use Rattle.plir_attr_text.specs.AttrGrammar.{SpellsMore, SpellsSeveral}
-use Rattle.plir_attr_text.specs.ListsAgain.{IsRead, several_read, word_opens}
+use Rattle.plir_attr_text.specs.laws.ListsAgain.{IsRead, several_read, word_opens}
 use Rattle.plir_attr_text.specs.Terms.{AttrTerm, TypeTerm, levels, type_levels}
 use Rattle.plir_attr_text.specs.TypeGrammar.{enclosed}
 use Rattle.plir_attr_text.specs.Lists.{sign_at, past_sign, more_at}
 use Rattle.plir_attr_text.specs.AttrReading.{name_at}
-use Rattle.plir_attr_text.specs.StepLaws.{done}
-use Rattle.plir_attr_text.specs.Begun.{Begins-split, Begins-length, Takes-shorter, sign_again, past_sign_again, no_sign}
-use Rattle.plir_attr_text.specs.LeavesAgain.{name_again}
-use Rattle.plir_attr_text.specs.TypesAgain.{type_again}
+use Rattle.plir_attr_text.specs.laws.StepLaws.{done}
+use Rattle.plir_attr_text.specs.laws.Begun.{Begins-split, Begins-length, Takes-shorter, sign_again, past_sign_again, no_sign}
+use Rattle.plir_attr_text.specs.laws.LeavesAgain.{name_again}
+use Rattle.plir_attr_text.specs.laws.TypesAgain.{type_again}
 use Rattle.plir_read.proofs.OpFound.{block_head-length}
 use Rattle.plir_read.specs.OpTerms.{Head, module_head, func_head, Header, Argument, BlockHead, OpTerm, op_term, constant_term, BlockTerms, no_blocks, block_before, OpTerms, no_ops, op_before, BlockTerm, ops_of, blocks_of, head_levels, header_levels, arguments_levels, block_levels, op_levels, ops_levels, blocks_levels}
 use Rattle.plir_read.specs.OpGrammar.{symbol, typed_value, SpellsHead, SpellsHeader, SpellsArgument, SpellsBlockHead, SpellsOp, SpellsOps, SpellsMoreOps, SpellsBlocks, OpWithin}

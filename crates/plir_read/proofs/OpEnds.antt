@@ -2,14 +2,14 @@
 use Rattle.std.proofs.Common.{◌≡◌, ℕ, List, Bool, Ok, subst}
 use Rattle.plir_attr_text.specs.AttrReading.{name_at}
 use Rattle.plir_attr_text.specs.Lists.{sign_at, separator_at}
-use Rattle.plir_attr_text.specs.Begun.{separator, separator_found}
-use Rattle.plir_attr_text.specs.StepLaws.{bind_ok, ok_is}
+use Rattle.plir_attr_text.specs.laws.Begun.{separator, separator_found}
+use Rattle.plir_attr_text.specs.laws.StepLaws.{bind_ok, ok_is}
 use Rattle.plir_attr_text.specs.Steps.{◌>>=◌}
 use Rattle.plir_attr_text.specs.Terms.{TypeTerm, AttrTerm}
 use Rattle.plir_attr_text.specs.Tokens.{sign, word}
 use Rattle.plir_attr_text.specs.TypeGrammar.{TypeWithin}
 use Rattle.plir_attr_text.specs.TypeReading.{type_at}
-use Rattle.plir_attr_text.specs.TypesFound.{type_found}
+use Rattle.plir_attr_text.specs.laws.TypesFound.{type_found}
 use Rattle.plir_read.specs.OpGrammar.{OpWithin}
 use Rattle.plir_read.specs.OpReading.{start_at, symbol_at, argument_at, block_head_at, head_at, dictionary_at, header_at, value_at, semicolon_at, brace_at, block_at, op_at}
 use Rattle.plir_read.specs.OpTerms.{Head, module_head, func_head, Header, Argument, BlockHead, BlockTerm, OpTerm}

@@ -11,11 +11,11 @@ use Rattle.plir_attr_text.specs.TypeGrammar.{enclosed}
 use Rattle.plir_attr_text.specs.Lists.{sign_at, past_sign, more_at, unless_closed, items_at}
 use Rattle.plir_attr_text.specs.TypeReading.{word_at, type_at}
 use Rattle.plir_attr_text.specs.AttrReading.{name_at}
-use Rattle.plir_attr_text.specs.StepLaws.{chosen, bind_ok, done, ok_is}
-use Rattle.plir_attr_text.specs.Begun.{Begins-append, Begins-length, sign_found, past_sign_found}
-use Rattle.plir_attr_text.specs.ListsFound.{FoundOne, IsSound, After, Chain, several_found, items_found}
-use Rattle.plir_attr_text.specs.LeavesFound.{name_found}
-use Rattle.plir_attr_text.specs.TypesFound.{type_found}
+use Rattle.plir_attr_text.specs.laws.StepLaws.{chosen, bind_ok, done, ok_is}
+use Rattle.plir_attr_text.specs.laws.Begun.{Begins-append, Begins-length, sign_found, past_sign_found}
+use Rattle.plir_attr_text.specs.laws.ListsFound.{FoundOne, IsSound, After, Chain, several_found, items_found}
+use Rattle.plir_attr_text.specs.laws.LeavesFound.{name_found}
+use Rattle.plir_attr_text.specs.laws.TypesFound.{type_found}
 use Rattle.plir_read.specs.OpTerms.{Head, module_head, func_head, Header, Argument, BlockHead, OpTerm, op_term, constant_term, BlockTerm, ops_of, blocks_of, head_levels, header_levels, arguments_levels, block_levels, ops_levels, blocks_levels}
 use Rattle.plir_read.specs.OpGrammar.{symbol, SpellsHead, SpellsHeader, SpellsArgument, SpellsBlockHead, SpellsOp, SpellsOps, SpellsMoreOps, SpellsBlocks, OpWithin}
 use Rattle.plir_read.specs.OpReading.{start_at, named, first_name, symbol_at, argument_at, block_head_at, head_at, dictionary_at, header_at, ends_block, behind_semicolon, semicolon_at, behind_brace, brace_at, ops_at, block_at, blocks_at, constant_at, named_constant_at, bodied_at, behind_id, op_at}

@@ -2,11 +2,11 @@
 use Rattle.std.proofs.Common.{◌≡◌, ℕ, zero, suc, ◌-◌, ◌<◌, List, [], length, Bool, true, false, None, Some, Result, Ok, Err, refl, sym, ◌∙◌, arith, Option, ◌∷◌, ap, subst}
 use Rattle.std.proofs.lemmas.List.{length-map}
 use Rattle.plir_core.specs.declared.ptr.IRNode.{IRNode}
-use Rattle.plir_core.specs.Store.{Store}
+use Rattle.plir_core.specs.ContextView.{ContextView}
 use Rattle.plir_attr_text.specs.declared.fault.Fault.{Fault}
 use Rattle.plir_attr_text.specs.declared.fault.Fault.TheVariants.{TooDeep}
 use Rattle.plir_attr_text.specs.declared.fault.Stop.{Stop}
-use Rattle.plir_attr_text.specs.declared.fault.Stop.TheVariants.{Wanting, Crowded, At}
+use Rattle.plir_attr_text.specs.declared.fault.Stop.TheVariants.{OutOfMemory, Crowded, At}
 use Rattle.plir_attr_text.specs.Steps.{◌>>=◌}
 use Rattle.plir_attr_text.specs.Reading.{Ends, Fails}
 use Rattle.plir_attr_text.specs.Terms.{AttrTerm, TypeTerm, EntryTerms, no_entries, entries_of}
@@ -14,9 +14,9 @@ use Rattle.plir_attr_text.specs.Lists.{sign_at, past_sign, more_at, items_at}
 use Rattle.plir_attr_text.specs.AttrReading.{name_at, entry_at, attr_at}
 use Rattle.plir_attr_text.specs.TypeReading.{word_at, type_at}
 use Rattle.plir_attr_text.specs.Levels.{level_at}
-use Rattle.plir_attr_text.specs.TypeSteps.{level-word, level-deep}
-use Rattle.plir_attr_text.specs.Fronts.{GoesOn, with_front}
-use Rattle.plir_attr_text.specs.StepLaws.{done, bind_ok, Ends-bind, Ends-from}
+use Rattle.plir_attr_text.specs.laws.TypeSteps.{level-word, level-deep}
+use Rattle.plir_attr_text.specs.laws.Fronts.{GoesOn, with_front}
+use Rattle.plir_attr_text.specs.laws.StepLaws.{done, bind_ok, Ends-bind, Ends-from}
 use Rattle.plir_read.specs.OpTerms.{Head, module_head, func_head, Header, Argument, BlockHead, OpTerm, op_term, constant_term, BlockTerm, blocks_of}
 use Rattle.plir_read.specs.OpReading.{op_id, names_before, start_at, named, first_name, symbol_at, argument_at, block_head_at, head_at, dictionary_at, header_at, ends_block, ops_at, block_at, blocks_at, value_at, constant_at, named_constant_at, bodied_at, behind_id, op_at, semicolon_at, brace_at}
 use Rattle.plir_read.specs.Heads.{result_names}
@@ -33,19 +33,19 @@ use Rattle.plir_read.proofs.StartFound.{named_is}
 
 -- a fault of the readers below is a fault here
 pub Ends-of : {A : Type 0} (P : Type 0) (stop : Stop) (r : Result A Fault) → Fails stop r → Ends P stop r
-Ends-of P Wanting r h = tt
+Ends-of P OutOfMemory r h = tt
 Ends-of P Crowded r h = absurd h
 Ends-of P (At d left) r h = h
 
 -- a refusal is no fault of the text
 pub Ends-refused : {A : Type 0} (P : Type 0) (e : Stop) (r : Result A Fault) → IsRefusal P e → Ends P e r
-Ends-refused P Wanting r h = tt
+Ends-refused P OutOfMemory r h = tt
 Ends-refused P Crowded r h = h
 Ends-refused P (At f l) r h = absurd h
 
 -- a refusal for one want of room is one for another that follows from it
 pub refused_as : (P Q : Type 0) (e : Stop) → (P → Q) → IsRefusal P e → IsRefusal Q e
-refused_as P Q Wanting f h = tt
+refused_as P Q OutOfMemory f h = tt
 refused_as P Q Crowded f h = f h
 refused_as P Q (At g l) f h = h
 
@@ -145,7 +145,7 @@ unfolding start_at
 start_is_word d bytes h = rw (no_names d bytes h) (rw (no_id d bytes h) refl)
 
 start_word : (e : Stop) (bytes : List ℕ) → Fails e (word_at bytes) → Fails e (start_at bytes)
-start_word Wanting bytes h = tt
+start_word OutOfMemory bytes h = tt
 start_word Crowded bytes h = h
 start_word (At d left) bytes h = (start_is_word d bytes h.0, h.1)
 
@@ -173,7 +173,7 @@ ReadsOn-from P means (Ok x) read total e h = (h.0, e ∙ h.1, h.2)
 ReadsOn-from P means (Err stop) read total e h = Ends-from P stop read total (sym e) h
 
 -- a constant is read behind its id, with the one name that stands before that
-module _ {K A T X : Type 0} (s : Store K A T) (node : X → IRNode) (after : X → List ℕ) (n : ℕ) (bytes rest : List ℕ) (ws : List (List ℕ)) (names : List (Option (List ℕ))) (given : names ≡ result_names ws) where
+module _ {K A T X : Type 0} (s : ContextView K A T) (node : X → IRNode) (after : X → List ℕ) (n : ℕ) (bytes rest : List ℕ) (ws : List (List ℕ)) (names : List (Option (List ℕ))) (given : names ≡ result_names ws) where
   abbrev as_constant : (AttrTerm × TypeTerm) × List ℕ → OpTerm × List ℕ
   as_constant c = (constant_term (first_name ws) c.0.0 c.0.1, c.1)
 

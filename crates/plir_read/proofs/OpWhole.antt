@@ -4,11 +4,11 @@ use Rattle.plir_attr_text.specs.declared.fault.Fault.{Fault}
 use Rattle.plir_attr_text.specs.declared.fault.Fault.TheVariants.{Memory, TooManyNodes}
 use Rattle.plir_attr_text.specs.declared.fault.ReadErr.{ReadErr}
 use Rattle.plir_attr_text.specs.declared.fault.Stop.{Stop}
-use Rattle.plir_attr_text.specs.declared.fault.Stop.TheVariants.{Wanting, Crowded, At}
-use Rattle.plir_attr_text.specs.ListsAgain.{refused, only_one}
-use Rattle.plir_attr_text.specs.ListsFound.{whole_found}
+use Rattle.plir_attr_text.specs.declared.fault.Stop.TheVariants.{OutOfMemory, Crowded, At}
+use Rattle.plir_attr_text.specs.laws.ListsAgain.{refused, only_one}
+use Rattle.plir_attr_text.specs.laws.ListsFound.{whole_found}
 use Rattle.plir_attr_text.specs.Reading.{Ends, Fails, TellsNoPlace, is_of_text, fault_of}
-use Rattle.plir_attr_text.specs.StepLaws.{done, Ends-bind, Ends-from}
+use Rattle.plir_attr_text.specs.laws.StepLaws.{done, Ends-bind, Ends-from}
 use Rattle.plir_attr_text.specs.Steps.{◌>>=◌}
 use Rattle.plir_attr_text.specs.TypeGrammar.{IsText}
 use Rattle.plir_attr_text.specs.Wholes.{end_at, whole}
@@ -28,19 +28,19 @@ op_text_refused n bytes f e w s = refused (op_at n) (OpWithin n) (op_within_agai
 
 -- a fault that is told is the one that was met
 pub told : {X : Type 0} (P : Type 0) (stop : Stop) (f : Fault) (read : Result X Fault) → f ≡ fault_of stop → Ends P stop read → IsOfText f → read ≡ Err f
-told P Wanting f read e h is = absurd (is.0 e)
+told P OutOfMemory f read e h is = absurd (is.0 e)
 told P Crowded f read e h is = absurd (is.1 e)
 told P (At g left) f read e h is = h.0 ∙ ap (λ k. Err k) (sym e)
 
 -- no place is told where memory or room was wanting
-pub no_place : {X : Type 0} (P : Type 0) (stop : Stop) (e : ReadErr) (read : Result X Fault) → e.fault ≡ fault_of stop → ((stop ≡ Wanting) ⊎ (stop ≡ Crowded) → (e.line ≡ 0) × (e.column ≡ 0)) → Ends P stop read → TellsNoPlace e
-no_place P Wanting e read is nowhere h = λ none. nowhere (inl refl)
+pub no_place : {X : Type 0} (P : Type 0) (stop : Stop) (e : ReadErr) (read : Result X Fault) → e.fault ≡ fault_of stop → ((stop ≡ OutOfMemory) ⊎ (stop ≡ Crowded) → (e.line ≡ 0) × (e.column ≡ 0)) → Ends P stop read → TellsNoPlace e
+no_place P OutOfMemory e read is nowhere h = λ none. nowhere (inl refl)
 no_place P Crowded e read is nowhere h = λ none. nowhere (inr refl)
 no_place P (At f left) e read is nowhere h = λ none. absurd (true≢false (sym h.1 ∙ ap is_of_text (sym is) ∙ none))
 
 -- there are too many nodes only where there is no room
 pub no_room : {X : Type 0} (P : Type 0) (stop : Stop) (f : Fault) (read : Result X Fault) → f ≡ fault_of stop → Ends P stop read → f ≡ TooManyNodes → P
-no_room P Wanting f read is h e = absurd (true≢false (sym (ap wants_memory is) ∙ ap wants_memory e))
+no_room P OutOfMemory f read is h e = absurd (true≢false (sym (ap wants_memory is) ∙ ap wants_memory e))
   where
     wants_memory : Fault → Bool
     wants_memory Memory = true

@@ -18,9 +18,9 @@ use Rattle.plir_core.specs.Changes.{with_op, with_block, with_block_edit, block_
 use Rattle.plir_core.specs.Contents.{OpView, BlockView}
 use Rattle.plir_core.specs.Stored.{IsStored}
 use Rattle.plir_core.specs.Made.{IsMade, IsNewRegion, HasNewRegions}
-use Rattle.plir_core.specs.Nodes.{Nodes, is_node_live, node_kids, node_parent}
+use Rattle.plir_core.specs.Nodes.{Nodes, is_node_live, node_children, node_parent}
 use Rattle.plir_core.specs.Placed.{IsPlaced}
-use Rattle.plir_core.specs.Store.{Store, is_live, IsLive, block_at}
+use Rattle.plir_core.specs.ContextView.{ContextView, is_live, IsLive, block_at}
 use Rattle.plir_read.specs.Slots.{KindSlots, kind_slots, next_number, next_pointer, with_next, with_next_in, NodeSlots, node_slots, with_one_like, AreNext, AreGivenOut}
 
 -- ---- one kind
@@ -72,7 +72,7 @@ pub AreNext-append : (s t u : NodeSlots) (ns ms : List IRNode) → AreNext s ns 
 AreNext-append s t u [] ms e h = subst (λ z. AreNext z ms u) e h
 AreNext-append s t u (n ∷ ns) ms e h = (e.0, AreNext-append (with_one_like s n) t u ns ms e.1 h)
 
-module _ {K A T : Type 0} (s t : Store K A T) (w : IsStored s.nodes) where
+module _ {K A T : Type 0} (s t : ContextView K A T) (w : IsStored s.nodes) where
   -- an operation without a region
   pub leaf_given : (v : OpView K A) (p : Ptr OperationKind) → t ≡ with_op s v 0 → is_live s (Operation p) ≡ false → IsLive t (Operation p) → AreGivenOut s.nodes (Operation p ∷ []) t.nodes
   leaf_given v p e old new = (
@@ -106,21 +106,21 @@ pub placed_slots : {O B : Type 0} (s t : Nodes O B) (n over : IRNode) (ks : List
 placed_slots s t n over ks p = λ i. record { ops = kind_slots (p.moved.ops i); regions = kind_slots (p.moved.regions i); blocks = kind_slots (p.moved.blocks i) }
 
 -- the region of a new operation is new
-pub region_new : {O B : Type 0} (s t : Nodes O B) (o r : IRNode) → IsMade s t o → HasNewRegions t o 1 → slice_get (node_kids t o) 0 ≡ Some r → is_node_live s r ≡ false
+pub region_new : {O B : Type 0} (s t : Nodes O B) (o r : IRNode) → IsMade s t o → HasNewRegions t o 1 → slice_get (node_children t o) 0 ≡ Some r → is_node_live s r ≡ false
 region_new s t o r m h e = at (is_node_live s r) refl
   where
     at : (b : Bool) → is_node_live s r ≡ b → is_node_live s r ≡ false
     at true live =
-        let region = All-get_or (IsNewRegion t o) (node_kids t o) 0 r (slice_get_within (node_kids t o) 0 r e) h.each in
-        absurd (m.apart r live (1, ap (λ z. node_parent t z) (sym (get_or_from_slice_get (node_kids t o) 0 r r e)) ∙ region.parent))
+        let region = All-get_or (IsNewRegion t o) (node_children t o) 0 r (slice_get_within (node_children t o) 0 r e) h.each in
+        absurd (m.apart r live (1, ap (λ z. node_parent t z) (sym (get_or_from_slice_get (node_children t o) 0 r r e)) ∙ region.parent))
     at false dead = dead
 
 module _ {K A T : Type 0} where
-  edited_slots : (s : Store K A T) (i : ℕ) (f : BlockView A → BlockView A) (o : Option (BlockView A)) → node_slots (block_edited s i f o).nodes ≡ node_slots s.nodes
+  edited_slots : (s : ContextView K A T) (i : ℕ) (f : BlockView A → BlockView A) (o : Option (BlockView A)) → node_slots (block_edited s i f o).nodes ≡ node_slots s.nodes
   edited_slots s i f None = refl
   edited_slots s i f (Some v) =
       ap (λ k. let z : NodeSlots = record { ops = kind_slots s.nodes.ops; regions = kind_slots s.nodes.regions; blocks = k } in z) (kind_slots-with_content s.nodes.blocks i (f v))
 
   -- what is written into a block takes no slot
-  pub given_edited : (s t u : Store K A T) (ns : List IRNode) (p : Ptr BlockKind) (f : BlockView A → BlockView A) → AreGivenOut s.nodes ns t.nodes → u ≡ with_block_edit t p f → AreGivenOut s.nodes ns u.nodes
+  pub given_edited : (s t u : ContextView K A T) (ns : List IRNode) (p : Ptr BlockKind) (f : BlockView A → BlockView A) → AreGivenOut s.nodes ns t.nodes → u ≡ with_block_edit t p f → AreGivenOut s.nodes ns u.nodes
   given_edited s t u ns p f g e = subst (λ z. AreNext (node_slots s.nodes) ns z) (sym (ap (λ z. node_slots z.nodes) e ∙ edited_slots t p.slot f (block_at t p))) g

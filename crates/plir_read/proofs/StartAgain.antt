@@ -8,11 +8,11 @@ use Rattle.plir_attr_text.specs.AttrGrammar.{Spells}
 use Rattle.plir_attr_text.specs.TypeGrammar.{enclosed, SpellsType}
 use Rattle.plir_attr_text.specs.Lists.{separator_at, more_at}
 use Rattle.plir_attr_text.specs.AttrReading.{name_at}
-use Rattle.plir_attr_text.specs.StepLaws.{done}
-use Rattle.plir_attr_text.specs.Begun.{Begins-split, word_again, sign_again, closed_again}
-use Rattle.plir_attr_text.specs.LeavesAgain.{name_again}
-use Rattle.plir_attr_text.specs.TypesAgain.{type_again}
-use Rattle.plir_attr_text.specs.AttrsAgain.{attr_again}
+use Rattle.plir_attr_text.specs.laws.StepLaws.{done}
+use Rattle.plir_attr_text.specs.laws.Begun.{Begins-split, word_again, sign_again, closed_again}
+use Rattle.plir_attr_text.specs.laws.LeavesAgain.{name_again}
+use Rattle.plir_attr_text.specs.laws.TypesAgain.{type_again}
+use Rattle.plir_attr_text.specs.laws.AttrsAgain.{attr_again}
 use Rattle.plir_read.specs.OpGrammar.{typed_value}
 use Rattle.plir_read.specs.OpReading.{op_kind, op_id, names_at, names_before, start_at, value_at, constant_at}
 use Rattle.plir_read.specs.declared.heads.BodyKind.TheVariants.{Module, Func}

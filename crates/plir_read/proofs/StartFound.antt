@@ -14,12 +14,12 @@ use Rattle.plir_attr_text.specs.TypeGrammar.{enclosed, SpellsType}
 use Rattle.plir_attr_text.specs.Lists.{sign_at, separator_at}
 use Rattle.plir_attr_text.specs.TypeReading.{word_at, type_at}
 use Rattle.plir_attr_text.specs.AttrReading.{name_at, attr_at}
-use Rattle.plir_attr_text.specs.StepLaws.{chosen, bind_ok, done, ok_is}
-use Rattle.plir_attr_text.specs.Begun.{Begins-append, word_found, sign_found, separator, separator_found}
-use Rattle.plir_attr_text.specs.ListsFound.{FoundOne, IsSound, Chain, several_found}
-use Rattle.plir_attr_text.specs.LeavesFound.{name_found}
-use Rattle.plir_attr_text.specs.TypesFound.{type_found}
-use Rattle.plir_attr_text.specs.AttrsFound.{attr_found}
+use Rattle.plir_attr_text.specs.laws.StepLaws.{chosen, bind_ok, done, ok_is}
+use Rattle.plir_attr_text.specs.laws.Begun.{Begins-append, word_found, sign_found, separator, separator_found}
+use Rattle.plir_attr_text.specs.laws.ListsFound.{FoundOne, IsSound, Chain, several_found}
+use Rattle.plir_attr_text.specs.laws.LeavesFound.{name_found}
+use Rattle.plir_attr_text.specs.laws.TypesFound.{type_found}
+use Rattle.plir_attr_text.specs.laws.AttrsFound.{attr_found}
 use Rattle.plir_read.specs.OpGrammar.{typed_value}
 use Rattle.plir_read.specs.OpReading.{op_kind, op_id, names_at, if_name, names_before, start_at, named, value_at, constant_at, first_name}
 use Rattle.plir_read.specs.declared.heads.BodyKind.TheVariants.{Module, Func}

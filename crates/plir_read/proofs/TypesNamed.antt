@@ -5,13 +5,13 @@ use Rattle.plir_data.specs.Types.{TypeView}
 use Rattle.plir_attr_text.specs.declared.attr_words.AttrKind.TheVariants as kinds
 use Rattle.plir_attr_text.specs.declared.fault.Fault.{Fault}
 use Rattle.plir_attr_text.specs.AttrReading.{name_at, entry_at, attr_at}
-use Rattle.plir_attr_text.specs.AttrsFound.{attr_found}
+use Rattle.plir_attr_text.specs.laws.AttrsFound.{attr_found}
 use Rattle.plir_attr_text.specs.AttrGrammar.{AttrWithin}
-use Rattle.plir_attr_text.specs.Begun.{separator_found}
-use Rattle.plir_attr_text.specs.Growth.{Names-grown}
+use Rattle.plir_attr_text.specs.laws.Begun.{separator_found}
+use Rattle.plir_attr_text.specs.laws.Growth.{Names-grown}
 use Rattle.plir_attr_text.specs.Lists.{sign_at}
 use Rattle.plir_attr_text.specs.Names.{Grows, AreNamed}
-use Rattle.plir_attr_text.specs.StepLaws.{bind_ok, ok_is}
+use Rattle.plir_attr_text.specs.laws.StepLaws.{bind_ok, ok_is}
 use Rattle.plir_attr_text.specs.Steps.{◌>>=◌}
 use Rattle.plir_attr_text.specs.Terms.{TypeTerm, AttrTerm}
 use Rattle.plir_attr_text.specs.TypesIn.{IsBehind, IsInType, IsInAttr, IsBehindId}

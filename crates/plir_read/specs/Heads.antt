@@ -5,11 +5,11 @@ use Rattle.plir_data.specs.AttrView.{AttrView, leaf, identifier, type_of, given_
 use Rattle.plir_data.specs.Dictionary.{dict_put}
 use Rattle.plir_data.specs.Types.{TypeView, IsLive as IsTypeLive}
 use Rattle.plir_data.specs.declared.op_set.OpKind.TheVariants as kinds
+use Rattle.plir_data.specs.Keys.{func_type_key, names_key, symbol_key, value_key}
 use Rattle.plir_core.specs.Contents.{OpView, BlockView, op_view}
 use Rattle.plir_attr_text.specs.Names.{Names, NamesAll}
 use Rattle.plir_attr_text.specs.Meaning.{IsMeant, IsDictMeant}
 use Rattle.plir_attr_text.specs.Terms.{TypeTerm, TypeTerms, types_of, AttrTerm}
-use Rattle.plir_read.specs.Keys.{name_key, func_type_key, names_key, value_key}
 use Rattle.plir_read.specs.OpTerms.{Head, module_head, func_head, Header, Argument, BlockHead}
 use Rattle.plir_read.specs.Suffixes.{given_name}
 use Rattle.plir_read.specs.declared.names.Suffix.TheVariants as Suffix
@@ -37,7 +37,7 @@ module _ {T : Type 0} where
 module _ {A : Type 0} where
   -- the attributes of a module and of a function, by the name, the type, and the entries of the dictionary
   abbrev pub module_attributes : List ℕ → List (List ℕ × AttrView A) → List (List ℕ × AttrView A)
-  module_attributes w entries = dict_put entries name_key (leaf (identifier w))
+  module_attributes w entries = dict_put entries symbol_key (leaf (identifier w))
 
   abbrev pub func_attributes : List ℕ → ℕ → List (List ℕ × AttrView A) → List (List ℕ × AttrView A)
   func_attributes w handle entries = dict_put (module_attributes w entries) func_type_key (leaf (type_of handle))

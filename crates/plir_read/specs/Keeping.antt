@@ -8,40 +8,41 @@ use Rattle.plir_core.specs.declared.ptr.IRNode.{IRNode}
 use Rattle.plir_core.specs.declared.ptr.IRNode.TheVariants.{Operation, Region, BasicBlock}
 use Rattle.plir_core.specs.Contents.{OpView, BlockView}
 use Rattle.plir_core.specs.Made.{KeepsLive, IsMade}
-use Rattle.plir_core.specs.Store.{Store, IsLive, op_at, block_at, kids}
+use Rattle.plir_core.specs.ContextView.{ContextView, IsLive, op_at, block_at, children}
 use Rattle.plir_attr_text.specs.Names.{Grows}
 
 module _ {K A T : Type 0} where
-  -- From s to t what was live is as it was, but that `but`, if it is a node, may have got kids; types may have come
+  -- From s to t what was live is as it was, but that `but`, if it is a node, may have got children; types may have come
   -- last.
-  pub record KeepsBut (s t : Store K A T) (but : Option IRNode) : Type 0 where
+  pub record KeepsBut (s t : ContextView K A T) (but : Option IRNode) : Type 0 where
     pub keeps : KeepsLive s.nodes t.nodes
-    pub kids : (m : IRNode) → IsLive s m → (but ≡ Some m → ⊥) → kids t m ≡ kids s m
+    pub children : (m : IRNode) → IsLive s m → (but ≡ Some m → ⊥) → children t m ≡ children s m
     pub types : Grows s.types t.types
 
   -- From s to t what was live is as it was; nodes may be new, and types may have come last.
-  abbrev pub KeepsOlder : Store K A T → Store K A T → Type 0
+  abbrev pub KeepsOlder : ContextView K A T → ContextView K A T → Type 0
   KeepsOlder s t = KeepsBut s t None
 
   -- From s to t the operation p is new, with its one region r, which has no block, and nothing else has changed.
-  pub record IsNewOp (s t : Store K A T) (p : Ptr OperationKind) (r : Ptr RegionKind) (v : OpView K A) : Type 0 where
+  pub record IsNewOp (s t : ContextView K A T) (p : Ptr OperationKind) (r : Ptr RegionKind)
+      (v : OpView K A) : Type 0 where
     pub made : IsMade s.nodes t.nodes (Operation p)
     pub held : op_at t p ≡ Some v
-    pub body : kids t (Operation p) ≡ Region r ∷ []
+    pub body : children t (Operation p) ≡ Region r ∷ []
     pub live : IsLive t (Region r)
-    pub empty : kids t (Region r) ≡ []
+    pub empty : children t (Region r) ≡ []
     pub types : t.types ≡ s.types
 
   -- From s to t the operation p is new, with no region, and nothing else has changed.
-  pub record IsNewLeaf (s t : Store K A T) (p : Ptr OperationKind) (v : OpView K A) : Type 0 where
+  pub record IsNewLeaf (s t : ContextView K A T) (p : Ptr OperationKind) (v : OpView K A) : Type 0 where
     pub made : IsMade s.nodes t.nodes (Operation p)
     pub held : op_at t p ≡ Some v
-    pub empty : kids t (Operation p) ≡ []
+    pub empty : children t (Operation p) ≡ []
     pub types : t.types ≡ s.types
 
   -- From s to t the block p is new, with no operation, and nothing else has changed.
-  pub record IsNewBlock (s t : Store K A T) (p : Ptr BlockKind) (v : BlockView A) : Type 0 where
+  pub record IsNewBlock (s t : ContextView K A T) (p : Ptr BlockKind) (v : BlockView A) : Type 0 where
     pub made : IsMade s.nodes t.nodes (BasicBlock p)
     pub held : block_at t p ≡ Some v
-    pub empty : kids t (BasicBlock p) ≡ []
+    pub empty : children t (BasicBlock p) ≡ []
     pub types : t.types ≡ s.types

@@ -1,6 +1,5 @@
 -- What the contracts of this crate cite.
 --
---   Keys         the keys of attributes
 --   Suffixes     given_name: the name that a text gives, without the suffix that says where a value stands
 --   OpTerms      operations as they are written
 --   OpGrammar    which tokens stand for an operation
@@ -14,7 +13,6 @@
 --   Stopping     ReadsOn: reading into a context; IsOfText: faults of a text
 --   TextTypes    IsInText: the types that are written in the text of an operation
 --   HeldTypes    IsHeldByOp: the types that an operation holds
-pub mod Keys
 pub mod Suffixes
 pub mod OpTerms
 pub mod OpGrammar

@@ -9,7 +9,7 @@ use Rattle.plir_core.specs.declared.ptr.IRNode.{IRNode}
 use Rattle.plir_core.specs.declared.ptr.IRNode.TheVariants.{Operation, Region, BasicBlock}
 use Rattle.plir_core.specs.Contents.{OpView, BlockView}
 use Rattle.plir_data.specs.AttrView.{AttrView}
-use Rattle.plir_core.specs.Store.{Store, kids, op_at, block_at}
+use Rattle.plir_core.specs.ContextView.{ContextView, children, op_at, block_at}
 use Rattle.plir_attr_text.specs.Meaning.{IsDictMeant}
 use Rattle.plir_attr_text.specs.Names.{Names, NamesAll}
 use Rattle.plir_attr_text.specs.Terms.{TypeTerm, AttrTerm}
@@ -27,79 +27,80 @@ use Rattle.plir_read.specs.Heads.{written_block}
 
 module _ {K A T : Type 0} where
   -- what a node holds
-  abbrev pub HoldsOp : Store K A T → IRNode → OpView K A → Type 0
+  abbrev pub HoldsOp : ContextView K A T → IRNode → OpView K A → Type 0
   HoldsOp s (Operation p) v = op_at s p ≡ Some v
   HoldsOp s (Region p) v = ⊥
   HoldsOp s (BasicBlock p) v = ⊥
 
-  abbrev pub HoldsBlock : Store K A T → IRNode → BlockView A → Type 0
+  abbrev pub HoldsBlock : ContextView K A T → IRNode → BlockView A → Type 0
   HoldsBlock s (BasicBlock p) v = block_at s p ≡ Some v
   HoldsBlock s (Region p) v = ⊥
   HoldsBlock s (Operation p) v = ⊥
 
   -- an operation holds what its header says, with the entries of its dictionary
-  abbrev pub IsHeadAt : Store K A T → IRNode → Head → (entries : List (List ℕ × AttrView A)) → Type 0
+  abbrev pub IsHeadAt : ContextView K A T → IRNode → Head → (entries : List (List ℕ × AttrView A)) → Type 0
   IsHeadAt s n (module_head w) entries = HoldsOp s n (module_op w entries)
   IsHeadAt s n (func_head w t) entries = (handle : ℕ) × Names s.types handle t × HoldsOp s n (func_op w handle entries)
 
-  abbrev pub IsHeaderAt : Store K A T → IRNode → Header → Type 0
+  abbrev pub IsHeaderAt : ContextView K A T → IRNode → Header → Type 0
   IsHeaderAt s n h = (entries : List (List ℕ × AttrView A)) × IsDictMeant s.types h.1 entries × IsHeadAt s n h.0 entries
 
   -- a block holds what its head says
-  abbrev pub IsBlockHeadAt : Store K A T → IRNode → BlockHead → Type 0
+  abbrev pub IsBlockHeadAt : ContextView K A T → IRNode → BlockHead → Type 0
   IsBlockHeadAt s n b = (handles : List ℕ) × NamesAll s.types handles (argument_types b.1) ×
       HoldsBlock s n (written_block b handles)
 
   -- a constant holds what is written, has these names for its result, and has no region
-  abbrev pub IsConstantAt : Store K A T → IRNode → List (Option (List ℕ)) → AttrTerm × TypeTerm → Type 0
+  abbrev pub IsConstantAt : ContextView K A T → IRNode → List (Option (List ℕ)) → AttrTerm × TypeTerm → Type 0
   IsConstantAt s n names c = (value : AttrView A) × (handle : ℕ) × IsConstant s.types value handle c ×
-      HoldsOp s n (constant_op names value handle) × (kids s n ≡ [])
+      HoldsOp s n (constant_op names value handle) × (children s n ≡ [])
 
   abbrev mutual
     -- The operation at n is the written one. A module or a function holds what the header says, and has one region,
     -- with the written blocks.
-    pub IsOpAt : Store K A T → IRNode → OpTerm → Type 0
-    IsOpAt s n (op_term h bs) = (region : IRNode) × IsHeaderAt s n h × (kids s n ≡ region ∷ []) ×
-        AreBlocksAt s (kids s region) bs
+    pub IsOpAt : ContextView K A T → IRNode → OpTerm → Type 0
+    IsOpAt s n (op_term h bs) = (region : IRNode) × IsHeaderAt s n h × (children s n ≡ region ∷ []) ×
+        AreBlocksAt s (children s region) bs
     IsOpAt s n (constant_term w a t) = IsConstantAt s n (result_names (w ∷ [])) (a, t)
 
     -- the blocks ns are the written ones
-    pub AreBlocksAt : Store K A T → List IRNode → BlockTerms → Type 0
+    pub AreBlocksAt : ContextView K A T → List IRNode → BlockTerms → Type 0
     AreBlocksAt s ns no_blocks = ns ≡ []
     AreBlocksAt s ns (block_before b os bs) = (first : IRNode) × (more : List IRNode) × (ns ≡ first ∷ more) ×
-        IsBlockHeadAt s first b × AreOpsAt s (kids s first) os × AreBlocksAt s more bs
+        IsBlockHeadAt s first b × AreOpsAt s (children s first) os × AreBlocksAt s more bs
 
     -- the operations ns are the written ones
-    pub AreOpsAt : Store K A T → List IRNode → OpTerms → Type 0
+    pub AreOpsAt : ContextView K A T → List IRNode → OpTerms → Type 0
     AreOpsAt s ns no_ops = ns ≡ []
     AreOpsAt s ns (op_before o os) = (first : IRNode) × (more : List IRNode) × (ns ≡ first ∷ more) × IsOpAt s first o ×
         AreOpsAt s more os
 
   -- a block with its operations
-  pub record IsBlockAt (s : Store K A T) (n : IRNode) (b : BlockTerm) : Type 0 where
+  pub record IsBlockAt (s : ContextView K A T) (n : IRNode) (b : BlockTerm) : Type 0 where
     pub head : IsBlockHeadAt s n b.0
-    pub ops : AreOpsAt s (kids s n) (ops_of b.1)
+    pub ops : AreOpsAt s (children s n) (ops_of b.1)
 
   -- the blocks of a region, and the operations of a block, are the written ones
-  abbrev pub HasBlocks : Store K A T → Ptr RegionKind → List BlockTerm → Type 0
-  HasBlocks s p bs = AreBlocksAt s (kids s (Region p)) (blocks_of bs)
+  abbrev pub HasBlocks : ContextView K A T → Ptr RegionKind → List BlockTerm → Type 0
+  HasBlocks s p bs = AreBlocksAt s (children s (Region p)) (blocks_of bs)
 
-  abbrev pub HasOps : Store K A T → Ptr BlockKind → List OpTerm → Type 0
-  HasOps s p os = AreOpsAt s (kids s (BasicBlock p)) (ops_of os)
+  abbrev pub HasOps : ContextView K A T → Ptr BlockKind → List OpTerm → Type 0
+  HasOps s p os = AreOpsAt s (children s (BasicBlock p)) (ops_of os)
 
   -- an operation, a block and a constant were read, and stand in the context at the pointer that is answered
-  abbrev pub ReadsOp : Store K A T → Result (Ptr OperationKind × Bor (List ℕ)) Stop → Result (OpTerm × List ℕ) Fault →
+  abbrev pub ReadsOp : ContextView K A T → Result (Ptr OperationKind × Bor (List ℕ)) Stop
+      → Result (OpTerm × List ℕ) Fault →
       Type 0
   ReadsOp s = ReadsOnFirst (HasNoRoom s) (λ p. IsOpAt s (Operation p))
 
-  abbrev pub ReadsBlock : Store K A T → Result (Ptr BlockKind × Bor (List ℕ)) Stop →
+  abbrev pub ReadsBlock : ContextView K A T → Result (Ptr BlockKind × Bor (List ℕ)) Stop →
       Result (BlockTerm × List ℕ) Fault → Type 0
   ReadsBlock s = ReadsOnFirst (HasNoRoom s) (λ p. IsBlockAt s (BasicBlock p))
 
-  abbrev pub ReadsConstant : Store K A T → (names : List (Option (List ℕ))) →
+  abbrev pub ReadsConstant : ContextView K A T → (names : List (Option (List ℕ))) →
       Result (Ptr OperationKind × Bor (List ℕ)) Stop → Result ((AttrTerm × TypeTerm) × List ℕ) Fault → Type 0
   ReadsConstant s names = ReadsOnFirst (HasNoRoom s) (λ p. IsConstantAt s (Operation p) names)
 
   -- The whole text stands for the operation at n, with at most k levels open.
-  abbrev pub StandsForOp : (k : ℕ) → Store K A T → (bytes : List ℕ) → IRNode → Type 0
+  abbrev pub StandsForOp : (k : ℕ) → ContextView K A T → (bytes : List ℕ) → IRNode → Type 0
   StandsForOp k s bytes n = (w : OpTerm) × IsText (OpWithin k) bytes w × IsOpAt s n w

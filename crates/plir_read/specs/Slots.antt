@@ -5,7 +5,7 @@ use Rattle.plir_store.specs.Table.{Cell, Table, slot_after}
 use Rattle.plir_core.specs.declared.ptr.Ptr.{Ptr}
 use Rattle.plir_core.specs.declared.ptr.IRNode.{IRNode}
 use Rattle.plir_core.specs.declared.ptr.IRNode.TheVariants.{Operation, Region, BasicBlock}
-use Rattle.plir_core.specs.Nodes.{Nodes, node_kids}
+use Rattle.plir_core.specs.Nodes.{Nodes, node_children}
 
 -- The slots of one kind of nodes, without the nodes: how many each has held, in order, and the numbers of those that
 -- are free for use, the one freed last first.
@@ -61,10 +61,10 @@ abbrev pub AreNext : (s : NodeSlots) → List IRNode → (t : NodeSlots) → Typ
 AreNext s [] t = t ≡ s
 AreNext s (n ∷ ns) t = IsNext s n × AreNext (with_one_like s n) ns t
 
--- the nodes from n down, each before those below it, kids in order, to k levels
+-- the nodes from n down, each before those below it, children in order, to k levels
 abbrev pub pre_order : {N : Type 0} → (N → List N) → ℕ → N → List N
-pre_order kids zero n = []
-pre_order kids (suc k) n = n ∷ flat_map (pre_order kids k) (kids n)
+pre_order children zero n = []
+pre_order children (suc k) n = n ∷ flat_map (pre_order children k) (children n)
 
 module _ {O B : Type 0} where
   -- the slots of a context's nodes
@@ -79,11 +79,11 @@ module _ {O B : Type 0} where
   -- The nodes of the tree at n in the order of their first characters in a text, to more levels than there may be
   -- nodes: an operation, its region, which begins with a brace, and each block with its operations behind it.
   abbrev pub tree_in_order : Nodes O B → IRNode → List IRNode
-  tree_in_order s n = pre_order (node_kids s) (suc s.limit) n
+  tree_in_order s n = pre_order (node_children s) (suc s.limit) n
 
   -- the same of the nodes below n
   abbrev pub below_in_order : Nodes O B → IRNode → List IRNode
-  below_in_order s n = flat_map (tree_in_order s) (node_kids s n)
+  below_in_order s n = flat_map (tree_in_order s) (node_children s n)
 
   -- from s to t the tree at n was given out in the order of a text, and nothing else
   abbrev pub IsMadeInOrder : Nodes O B → Nodes O B → IRNode → Type 0

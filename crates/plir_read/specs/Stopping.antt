@@ -5,7 +5,7 @@ use Rattle.plir_attr_text.specs.Reading.{Ends}
 use Rattle.plir_attr_text.specs.declared.fault.Fault.{Fault}
 use Rattle.plir_attr_text.specs.declared.fault.Fault.TheVariants.{Memory, TooManyNodes}
 use Rattle.plir_attr_text.specs.declared.fault.Stop.{Stop}
-use Rattle.plir_attr_text.specs.declared.fault.Stop.TheVariants.{Wanting, Crowded, At}
+use Rattle.plir_attr_text.specs.declared.fault.Stop.TheVariants.{OutOfMemory, Crowded, At}
 
 -- what a function answered means what is read, unless memory was wanting, or room for a node where `crowded` holds
 abbrev pub ReadsOn : {X Y : Type 0} (crowded : Type 0) → (X → Y → Type 0) → Result X Stop → Result Y Fault → Type 0
@@ -24,7 +24,7 @@ ReadsOnPast crowded holds result read = ReadsOn crowded (λ x y. holds y.0 × (x
 
 -- memory was wanting, or room for a node where `crowded` holds
 abbrev pub IsRefusal : (crowded : Type 0) → Stop → Type 0
-IsRefusal crowded Wanting = Unit {0}
+IsRefusal crowded OutOfMemory = Unit {0}
 IsRefusal crowded Crowded = crowded
 IsRefusal crowded (At fault left) = ⊥
 

@@ -2,7 +2,7 @@
 ghost use Rattle.std.specs.Prelude.{IfOk, length};
 ghost use Rattle.plir_data.specs.AttrSeen.{attr_view};
 ghost use Rattle.plir_core.specs.Made.{IsMade};
-ghost use Rattle.plir_core.specs.Whole.{IsWhole};
+ghost use Rattle.plir_core.specs.WellFormed.{IsWellFormed};
 ghost use Rattle.plir_core.specs.declared.ptr.IRNode.{IRNode};
 ghost use Rattle.plir_attr_text.specs.MeantBy.{IsMeantBy};
 ghost use Rattle.plir_attr_text.specs.Names.{AreNamed, Grows};
@@ -103,7 +103,7 @@ pub fn read_constant<'a, D: OpSet>(
     ensures named { AreNamed (IsInText bytes.now) ctx.old.types ctx.new.types }
     ensures held { HoldsNew IsHeldByConstant result (named_constant_at levels (length names.items) bytes.now)
         ctx.old.types ctx.new.types }
-    ensures whole { IsWhole D.attr_handles ctx.new }
+    ensures whole { IsWellFormed D.attr_handles ctx.new }
 {
     ctx.stands();
     expect_names(1, names.len(), left)?;

@@ -58,7 +58,8 @@ pub fn read_header<'a, D: OpSet, C: TypeStore<D>>(
         (header_at levels kind bytes.now) }
     ensures grown { Grows (C.types ctx.old) (C.types ctx.new) }
     ensures named { AreNamed (IsInText bytes.now) (C.types ctx.old) (C.types ctx.new) }
-    ensures held { HoldsNew IsHeldByHeader result (header_at levels kind bytes.now) (C.types ctx.old) (C.types ctx.new) }
+    ensures held { HoldsNew IsHeldByHeader result (header_at levels kind bytes.now) (C.types ctx.old)
+        (C.types ctx.new) }
     ensures rest { C.same_besides ctx.old ctx.new }
 {
     let (head, rest) = match read_head(alloc, ctx, levels, kind, bytes) {

@@ -7,12 +7,12 @@ ghost use Rattle.plir_data.specs.AttrView.{leaf, given_names};
 ghost use Rattle.plir_data.specs.Dictionary.{dict_put};
 ghost use Rattle.plir_data.specs.Identifier.{is_identifier as IsIdentifier};
 ghost use Rattle.plir_data.specs.Types.{AllLive, IsLive as IsTypeLive, TypeView};
+ghost use Rattle.plir_data.specs.Keys.{names_key};
 ghost use Rattle.plir_core.specs.Changes.{with_block_edit};
 ghost use Rattle.plir_core.specs.Contents.{op_view};
-ghost use Rattle.plir_core.specs.Store.{IsLive};
-ghost use Rattle.plir_core.specs.Whole.{IsWhole};
+ghost use Rattle.plir_core.specs.ContextView.{IsLive};
+ghost use Rattle.plir_core.specs.WellFormed.{IsWellFormed};
 ghost use Rattle.plir_core.specs.declared.ptr.IRNode.{IRNode};
-ghost use Rattle.plir_read.specs.Keys.{names_key};
 ghost use Rattle.plir_read.specs.Heads.{IsHeadLive, module_attributes, func_attributes, op_with, block_with};
 ghost use Rattle.plir_read.specs.Heads.{constant_attributes, constant_op};
 ghost use Rattle.plir_read.specs.Keeping.{IsNewOp, IsNewLeaf, IsNewBlock, KeepsOlder};
@@ -27,26 +27,21 @@ use crate::heads::HeadData;
 use plir_attr_text::fault::Stop;
 use plir_core::laws::block_edits_keep_the_rest;
 use plir_core::{BasicBlock, Context, NodeErr, Operation, Ptr, Region};
+use plir_data::keys::{
+    ATTR_KEY_BUILTIN_FUNC_TYPE, ATTR_KEY_CONSTANT_VALUE, ATTR_KEY_GIVEN_NAMES, ATTR_KEY_SYM_NAME,
+};
 use plir_data::{
     AttrObj, AttributeDict, GivenNamesAttr, Identifier, IdentifierAttr, Memory, OpKind, OpSet,
     TypeAttr, TypeHandle,
 };
 use std::alloc::Global;
 
-const ATTR_KEY_SYM_NAME: &'static str = "builtin_sym_name";
-
-const ATTR_KEY_GIVEN_NAMES: &'static str = "builtin_given_names";
-
-const ATTR_KEY_BUILTIN_FUNC_TYPE: &'static str = "builtin_func_type";
-
-const ATTR_KEY_CONSTANT_VALUE: &'static str = "builtin_constant_value";
-
 // Why reading stops where a node was not made.
 pub fn stop_of(refused: NodeErr) -> Stop
     ensures { IsRefusal (refused ≡ NodeErr.TooManyNodes) result }
 {
     match refused {
-        NodeErr::Memory => Stop::Wanting,
+        NodeErr::Memory => Stop::OutOfMemory,
         NodeErr::TooManyNodes => Stop::Crowded,
     }
 }
@@ -64,11 +59,11 @@ fn put_under<D: OpSet>(
     ensures refused { IfErr result (IsRefusal ⊥) }
 {
     let Ok(key) = Identifier::try_new(alloc, key) else {
-        return Err(Stop::Wanting);
+        return Err(Stop::OutOfMemory);
     };
     match attributes.insert(key, value) {
         Ok(()) => Ok(()),
-        Err(Memory) => Err(Stop::Wanting),
+        Err(Memory) => Err(Stop::OutOfMemory),
     }
 }
 
@@ -121,7 +116,7 @@ fn make_with<D: OpSet>(
     ensures kept { OnErr result (KeepsOlder ctx.old ctx.new) }
     ensures types { OnErr result (ctx.new.types ≡ ctx.old.types) }
     ensures refused { IfErr result (IsRefusal (HasNoRoom ctx.new)) }
-    ensures whole { IsWhole D.attr_handles ctx.new }
+    ensures whole { IsWellFormed D.attr_handles ctx.new }
 {
     ctx.stands();
     let results = Vec::new(alloc);
@@ -150,7 +145,7 @@ pub fn make_op<D: OpSet>(
     ensures kept { OnErr result (KeepsOlder ctx.old ctx.new) }
     ensures types { OnErr result (ctx.new.types ≡ ctx.old.types) }
     ensures refused { IfErr result (IsRefusal (HasNoRoom ctx.new)) }
-    ensures whole { IsWhole D.attr_handles ctx.new }
+    ensures whole { IsWellFormed D.attr_handles ctx.new }
 {
     ctx.stands();
     let HeaderData { head, entries } = header;
@@ -201,7 +196,7 @@ fn one_type(alloc: Global, ty: TypeHandle) -> Result<Vec<TypeHandle>, Stop>
     let mut types = Vec::new(alloc);
     match types.push(ty) {
         Ok(()) => Ok(types),
-        Err(_) => Err(Stop::Wanting),
+        Err(_) => Err(Stop::OutOfMemory),
     }
 }
 
@@ -220,7 +215,7 @@ pub fn make_constant<D: OpSet>(
     ensures kept { OnErr result (KeepsOlder ctx.old ctx.new) }
     ensures types { OnErr result (ctx.new.types ≡ ctx.old.types) }
     ensures refused { IfErr result (IsRefusal (HasNoRoom ctx.new)) }
-    ensures whole { IsWhole D.attr_handles ctx.new }
+    ensures whole { IsWellFormed D.attr_handles ctx.new }
 {
     ctx.stands();
     let ConstantData { value, ty } = constant;
@@ -254,11 +249,11 @@ fn put_names<D: OpSet>(
         (λ b. record b { attributes = dict_put b.attributes names_key (leaf (given_names names.items)) })) }
     ensures same { OnErr result (ctx.new ≡ ctx.old) }
     ensures refused { IfErr result (IsRefusal ⊥) }
-    ensures whole { IsWhole D.attr_handles ctx.new }
+    ensures whole { IsWellFormed D.attr_handles ctx.new }
 {
     ctx.stands();
     let Ok(key) = Identifier::try_new(alloc, ATTR_KEY_GIVEN_NAMES) else {
-        return Err(Stop::Wanting);
+        return Err(Stop::OutOfMemory);
     };
     let value = AttrObj::GivenNames(GivenNamesAttr::from_names(names));
     block.set_attr(ctx, key, value)?;
@@ -277,7 +272,7 @@ pub fn make_block<D: OpSet>(
     ensures kept { OnErr result (KeepsOlder ctx.old ctx.new) }
     ensures types { OnErr result (ctx.new.types ≡ ctx.old.types) }
     ensures refused { IfErr result (IsRefusal (HasNoRoom ctx.new)) }
-    ensures whole { IsWhole D.attr_handles ctx.new }
+    ensures whole { IsWellFormed D.attr_handles ctx.new }
 {
     ctx.stands();
     let BlockHeadData { label, arguments } = head;

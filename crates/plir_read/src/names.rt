@@ -1,6 +1,6 @@
 //! Names in texts, and the suffixes that they are printed with.
 ghost use Rattle.std.specs.Prelude.{◌≡◌, IfErr, IfOk, option_map};
-ghost use Rattle.plir_attr_text.specs.declared.fault.Stop.TheVariants.{Wanting};
+ghost use Rattle.plir_attr_text.specs.declared.fault.Stop.TheVariants.{OutOfMemory};
 ghost use Rattle.plir_read.specs.Suffixes.{behind_letters, behind_digits, behind_number, behind_pointer, behind_place};
 ghost use Rattle.plir_read.specs.Suffixes.{is_nothing, is_suffix, is_joined_suffix, before_suffix, given_name};
 
@@ -127,7 +127,7 @@ pub fn given_name(
     name: Identifier,
 ) -> Result<Option<Identifier>, Stop>
     ensures given { IfOk result (λ given. given ≡ given_name suffix name) }
-    ensures refused { IfErr result (λ stop. stop ≡ Wanting) }
+    ensures refused { IfErr result (λ stop. stop ≡ OutOfMemory) }
 {
     let word = name.as_str().as_bytes();
     if is_suffix(suffix, word) {

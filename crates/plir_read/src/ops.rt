@@ -2,8 +2,8 @@
 ghost use Rattle.std.specs.Prelude.{◌≡◌, Some, None, [], IfOk};
 ghost use Rattle.plir_core.specs.Grown.{IsGrown};
 ghost use Rattle.plir_core.specs.Made.{IsMade};
-ghost use Rattle.plir_core.specs.Store.{IsLive, kids};
-ghost use Rattle.plir_core.specs.Whole.{IsWhole};
+ghost use Rattle.plir_core.specs.ContextView.{IsLive, children};
+ghost use Rattle.plir_core.specs.WellFormed.{IsWellFormed};
 ghost use Rattle.plir_core.specs.declared.ptr.IRNode.{IRNode};
 ghost use Rattle.plir_attr_text.specs.Names.{AreNamed};
 ghost use Rattle.plir_read.specs.HeldTypes.{IsHeldByBlock, IsHeldByBlocks, IsHeldByOp, IsHeldByOps, HoldsNew};
@@ -40,7 +40,7 @@ fn read_ops<'a, D: OpSet>(
     bytes: &'a [u8],
 ) -> Result<&'a [u8], Stop>
     requires live { IsLive ctx.old (IRNode.BasicBlock block) }
-    requires empty { kids ctx.old (IRNode.BasicBlock block) ≡ [] }
+    requires empty { children ctx.old (IRNode.BasicBlock block) ≡ [] }
     ensures read { ReadsOnPast (HasNoRoom ctx.new) (HasOps ctx.new block) result (ops_at (op_at levels) bytes.now) }
     ensures grown { IfOk result (λ x. IsGrown ctx.old.nodes ctx.new.nodes (IRNode.BasicBlock block)) }
     ensures slots { IfOk result (λ x. IsGrownInOrder ctx.old.nodes ctx.new.nodes (IRNode.BasicBlock block)) }
@@ -48,7 +48,7 @@ fn read_ops<'a, D: OpSet>(
     ensures named { AreNamed (IsInText bytes.now) ctx.old.types ctx.new.types }
     ensures held { HoldsNew (λ t os. IsHeldByOps t (ops_of os)) result (ops_at (op_at levels) bytes.now) ctx.old.types
         ctx.new.types }
-    ensures whole { IsWhole D.attr_handles ctx.new }
+    ensures whole { IsWellFormed D.attr_handles ctx.new }
 {
     contexts_stand::<D>();
     growth(ctx);
@@ -86,8 +86,9 @@ fn read_block<'a, D: OpSet>(
     ensures slots { IfOk result (λ x. IsMadeInOrder ctx.old.nodes ctx.new.nodes (IRNode.BasicBlock x.0)) }
     ensures kept { KeepsOlder ctx.old ctx.new }
     ensures named { AreNamed (IsInText bytes.now) ctx.old.types ctx.new.types }
-    ensures held { HoldsNew IsHeldByBlock result (block_at (op_at levels) levels bytes.now) ctx.old.types ctx.new.types }
-    ensures whole { IsWhole D.attr_handles ctx.new }
+    ensures held { HoldsNew IsHeldByBlock result
+        (block_at (op_at levels) levels bytes.now) ctx.old.types ctx.new.types }
+    ensures whole { IsWellFormed D.attr_handles ctx.new }
 {
     contexts_stand::<D>();
     ctx.stands();
@@ -112,7 +113,7 @@ fn read_body<'a, D: OpSet>(
     bytes: &'a [u8],
 ) -> Result<&'a [u8], Stop>
     requires live { IsLive ctx.old (IRNode.Region region) }
-    requires empty { kids ctx.old (IRNode.Region region) ≡ [] }
+    requires empty { children ctx.old (IRNode.Region region) ≡ [] }
     ensures read { ReadsOnPast (HasNoRoom ctx.new) (HasBlocks ctx.new region) result
         (blocks_at (op_at levels) levels bytes.now) }
     ensures grown { IfOk result (λ x. IsGrown ctx.old.nodes ctx.new.nodes (IRNode.Region region)) }
@@ -121,7 +122,7 @@ fn read_body<'a, D: OpSet>(
     ensures named { AreNamed (IsInText bytes.now) ctx.old.types ctx.new.types }
     ensures held { HoldsNew (λ t bs. IsHeldByBlocks t (blocks_of bs)) result
         (blocks_at (op_at levels) levels bytes.now) ctx.old.types ctx.new.types }
-    ensures whole { IsWhole D.attr_handles ctx.new }
+    ensures whole { IsWellFormed D.attr_handles ctx.new }
 {
     contexts_stand::<D>();
     growth(ctx);
@@ -166,7 +167,7 @@ fn read_bodied<'a, D: OpSet>(
     ensures named { AreNamed (IsInText bytes.now) ctx.old.types ctx.new.types }
     ensures held { HoldsNew IsHeldByOp result (bodied_at (op_at levels) levels kind names bytes.now) ctx.old.types
         ctx.new.types }
-    ensures whole { IsWhole D.attr_handles ctx.new }
+    ensures whole { IsWellFormed D.attr_handles ctx.new }
 {
     contexts_stand::<D>();
     ctx.stands();
@@ -197,7 +198,7 @@ pub fn read_op_at<'a, D: OpSet>(
     ensures kept { KeepsOlder ctx.old ctx.new }
     ensures named { AreNamed (IsInText bytes.now) ctx.old.types ctx.new.types }
     ensures held { HoldsNew IsHeldByOp result (op_at levels bytes.now) ctx.old.types ctx.new.types }
-    ensures whole { IsWhole D.attr_handles ctx.new }
+    ensures whole { IsWellFormed D.attr_handles ctx.new }
 {
     ctx.stands();
     begin_level(levels, bytes)?;

@@ -1,7 +1,7 @@
 //! The reader of texts of operations.
 ghost use Rattle.std.specs.Prelude.{◌≡◌, Ok, Err, IfOk, IfErr};
 ghost use Rattle.plir_core.specs.Made.{IsMade};
-ghost use Rattle.plir_core.specs.Whole.{IsWhole};
+ghost use Rattle.plir_core.specs.WellFormed.{IsWellFormed};
 ghost use Rattle.plir_core.specs.declared.ptr.IRNode.{IRNode};
 ghost use Rattle.plir_attr_text.specs.Names.{AreNamed};
 ghost use Rattle.plir_attr_text.specs.Reading.{TellsNoPlace};
@@ -41,7 +41,7 @@ fn whole_op<D: OpSet>(
     ensures named { AreNamed (IsInText bytes.now) ctx.old.types ctx.new.types }
     ensures held { IfOk result (λ p. (w : OpTerm) → whole (op_at 200) bytes.now ≡ Ok w →
         AreNamed (λ t. IsHeldByOp t w) ctx.old.types ctx.new.types) }
-    ensures whole { IsWhole D.attr_handles ctx.new }
+    ensures whole { IsWellFormed D.attr_handles ctx.new }
 {
     let (op, rest) = match read_op_at(alloc, ctx, MAX_LEVELS, bytes) {
         Ok(read) => read,
@@ -78,7 +78,7 @@ pub fn read_op<D: OpSet>(
     ensures named { AreNamed (IsInText text.now) ctx.old.types ctx.new.types }
     ensures held { IfOk result (λ p. (w : OpTerm) → IsText (OpWithin 200) text.now w →
         AreNamed (λ t. IsHeldByOp t w) ctx.old.types ctx.new.types) }
-    ensures whole { IsWhole D.attr_handles ctx.new }
+    ensures whole { IsWellFormed D.attr_handles ctx.new }
 {
     let bytes = text.as_bytes();
     match whole_op(alloc, ctx, bytes) {

@@ -8,8 +8,7 @@ use Rattle.std.proofs.lemmas.Map.Text.{is_eq-slice_cmp}
 use Rattle.std.proofs.lemmas.Option.{same_Some, none-some}
 use Rattle.plir_store.specs.Members.{Has}
 use Rattle.plir_data.specs.Dictionary.{dict_get, is_key}
-use Rattle.plir_walk.specs.GivenNames.{names_key}
-use Rattle.plir_builtin.specs.BuiltinOps.{value_key}
+use Rattle.plir_data.specs.Keys.{names_key, value_key}
 use Rattle.plir_roundtrip.specs.ReadableParts.{keys_with}
 use Rattle.plir_roundtrip.proofs.EntriesShown.{same_key, key_is}
 

@@ -13,8 +13,8 @@ use Rattle.plir_data.specs.Dictionary.{dict_get, is_key, IsBelowAll, IsDictionar
 use Rattle.plir_data.specs.Types.{TypeView}
 use Rattle.plir_data.specs.declared.op_set.OpKind.{OpKind}
 use Rattle.plir_data.specs.declared.op_set.OpSet as op_set
+use Rattle.plir_data.specs.Keys.{names_key}
 use Rattle.plir_attr_text.specs.Writable.{IsWritable}
-use Rattle.plir_walk.specs.GivenNames.{names_key}
 use Rattle.plir_builtin.specs.Symbols.{name_in}
 use Rattle.plir_print.specs.Dictionaries.{is_told, is_shown, shown_of}
 use Rattle.plir_roundtrip.specs.Readable.{IsEntryReadable}

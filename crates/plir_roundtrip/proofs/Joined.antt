@@ -1,9 +1,9 @@
 -- Tokens of things that are printed on lines and between signs.
 use Rattle.std.proofs.Common.{◌≡◌, ℕ, zero, suc, true, false, List, [], ◌∷◌, ◌++◌, replicate, Ok, refl, sym, ap, subst, ◌∙◌, append_assoc}
-use Rattle.plir_attr_text.specs.Begun.{Begins-append}
+use Rattle.plir_attr_text.specs.laws.Begun.{Begins-append}
 use Rattle.plir_attr_text.specs.Bytes.{is_blank, is_in_word}
-use Rattle.plir_attr_text.specs.Printed.{Ends}
-use Rattle.plir_attr_text.specs.Runs.{Run, Shown, Tail, Shown-as}
+use Rattle.plir_attr_text.specs.laws.Printed.{Ends}
+use Rattle.plir_attr_text.specs.laws.Runs.{Run, Shown, Tail, Shown-as}
 use Rattle.plir_attr_text.specs.Tokens.{Token, word, digits, signed, quoted, arrow, sign, look, Takes, Begins}
 use Rattle.plir_attr_text.specs.TypeGrammar.{enclosed}
 use Rattle.plir_print.specs.OpText.{line}

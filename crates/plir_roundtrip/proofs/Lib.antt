@@ -2,7 +2,7 @@ pub mod Suffixed
 pub mod PrintedNames
 pub mod Joined
 pub mod PartsShown
-pub mod Kids
+pub mod Children
 pub mod EntriesShown
 pub mod OpShown
 pub mod MeantAgain

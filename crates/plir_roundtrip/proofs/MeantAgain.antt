@@ -6,17 +6,17 @@ use Rattle.plir_data.specs.Dictionary.{IsDictionary, dict_of}
 use Rattle.plir_data.specs.Laws.{IsDictOfItself}
 use Rattle.plir_data.specs.TypeTree.{tree_of}
 use Rattle.plir_data.specs.Types.{TypeView, IsTypeTable, IsLive}
-use Rattle.plir_attr_text.specs.AttrsShown.{attr_meant}
-use Rattle.plir_attr_text.specs.Growth.{at_grown, Names-grown}
+use Rattle.plir_attr_text.specs.laws.AttrsShown.{attr_meant}
+use Rattle.plir_attr_text.specs.laws.Growth.{at_grown, Names-grown}
 use Rattle.plir_attr_text.specs.Meaning.{IsMeant, AreEntriesMeant, IsDictMeant}
-use Rattle.plir_attr_text.specs.Meanings.{IsMeant-grown}
+use Rattle.plir_attr_text.specs.laws.Meanings.{IsMeant-grown}
 use Rattle.plir_attr_text.specs.Names.{Grows, Names}
-use Rattle.plir_attr_text.specs.Runs.{Shown}
-use Rattle.plir_attr_text.specs.SameMeanings.{same_attr}
-use Rattle.plir_attr_text.specs.SameNames.{same_handle}
+use Rattle.plir_attr_text.specs.laws.Runs.{Shown}
+use Rattle.plir_attr_text.specs.laws.SameMeanings.{same_attr}
+use Rattle.plir_attr_text.specs.laws.SameNames.{same_handle}
 use Rattle.plir_attr_text.specs.Tokens.{Token, Begins}
 use Rattle.plir_attr_text.specs.TypeGrammar.{IsText}
-use Rattle.plir_attr_text.specs.TypesShown.{type_named}
+use Rattle.plir_attr_text.specs.laws.TypesShown.{type_named}
 use Rattle.plir_attr_text.specs.Writable.{IsBuiltin, IsWritable, type_term, attr_term, entry_terms}
 use Rattle.plir_roundtrip.specs.Written.{some_type_term, some_attr_term}
 use Rattle.plir_roundtrip.proofs.PartsShown.{AreWritable}

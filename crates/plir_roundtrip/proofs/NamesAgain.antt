@@ -5,10 +5,10 @@ use Rattle.std.proofs.lemmas.Option.{slice_get-map}
 use Rattle.plir_data.specs.AttrView.{AttrView, leaf, given_names}
 use Rattle.plir_data.specs.Dictionary.{dict_get, dict_put, is_key}
 use Rattle.plir_data.specs.DictLaws.{get-other}
-use Rattle.plir_walk.specs.GivenNames.{name_at, names_in, names_under, names_key}
+use Rattle.plir_data.specs.Keys.{names_key, value_key}
+use Rattle.plir_walk.specs.GivenNames.{name_at, names_in, names_under}
 use Rattle.plir_read.specs.Heads.{names_attributes, constant_attributes}
-use Rattle.plir_read.specs.Keys.{value_key}
-use Rattle.plir_roundtrip.proofs.Kids.{at_row}
+use Rattle.plir_roundtrip.proofs.Children.{at_row}
 
 none_named : (ns : List (Option (List ℕ))) (i : ℕ) → list_all is_none ns ≡ true → name_at ns i ≡ None
 none_named [] i h = refl

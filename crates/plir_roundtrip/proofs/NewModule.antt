@@ -15,7 +15,7 @@ use Rattle.plir_core.specs.declared.ptr.IRNode.{IRNode}
 use Rattle.plir_core.specs.declared.ptr.IRNode.TheVariants.{Operation, Region, BasicBlock}
 use Rattle.plir_core.specs.declared.value.DefiningEntity.TheVariants.{Op, Block}
 use Rattle.plir_core.specs.Standing.{IsStanding}
-use Rattle.plir_core.specs.Store.{Store, kids, kind_of, kind_in, attributes_of, attributes_in, results_in, operands_in, successors_in, arguments_in, label_in, block_attributes_in, limit}
+use Rattle.plir_core.specs.ContextView.{ContextView, children, kind_of, kind_in, attributes_of, attributes_in, results_in, operands_in, successors_in, arguments_in, label_in, block_attributes_in, limit}
 use Rattle.plir_core.specs.Measures.{depth}
 use Rattle.plir_attr_text.specs.Terms.{entries_levels}
 use Rattle.plir_attr_text.specs.Writable.{entry_terms, IsNameOrMark}
@@ -32,16 +32,16 @@ use Rattle.plir_roundtrip.specs.Written.{argument_term, block_term, blocks_under
 
 -- ---- the nodes of a new module
 
--- of one kid
-one_kid : (f : IRNode → Option IRNode) (xs : List IRNode) (x n : IRNode) (i : ℕ) → xs ≡ x ∷ [] → option_and_then f (slice_get xs i) ≡ Some n → f x ≡ Some n
-one_kid f xs x n i e h = at i (subst (λ l. option_and_then f (slice_get l i) ≡ Some n) e h)
+-- of one child
+one_child : (f : IRNode → Option IRNode) (xs : List IRNode) (x n : IRNode) (i : ℕ) → xs ≡ x ∷ [] → option_and_then f (slice_get xs i) ≡ Some n → f x ≡ Some n
+one_child f xs x n i e h = at i (subst (λ l. option_and_then f (slice_get l i) ≡ Some n) e h)
   where
     at : (i : ℕ) → option_and_then f (slice_get (x ∷ []) i) ≡ Some n → f x ≡ Some n
     at zero h = h
     at (suc i) h = absurd (none-some n h)
 
-no_kid : (f : IRNode → Option IRNode) (xs : List IRNode) (n : IRNode) (i : ℕ) → xs ≡ [] → option_and_then f (slice_get xs i) ≡ Some n → ⊥
-no_kid f xs n i e h = none-some n (subst (λ l. option_and_then f (slice_get l i) ≡ Some n) e h)
+no_child : (f : IRNode → Option IRNode) (xs : List IRNode) (n : IRNode) (i : ℕ) → xs ≡ [] → option_and_then f (slice_get xs i) ≡ Some n → ⊥
+no_child f xs n i e h = none-some n (subst (λ l. option_and_then f (slice_get l i) ≡ Some n) e h)
 
 abbrev op_in : IRNode → Option (Ptr OperationKind)
 op_in (Operation p) = Some p
@@ -51,18 +51,18 @@ abbrev block_in : IRNode → Option (Ptr BlockKind)
 block_in (BasicBlock b) = Some b
 block_in _ = None
 
-module _ {D K A T E : Type 0} (o : op_set.Ghosts D K A T E) (s : Store K A T) (st : IsStanding s) (p : Ptr OperationKind) (name : List ℕ) (good : is_identifier name ≡ true) (new : IsNewModule s p name) where
-  at_block : (place : Place) (n : IRNode) → node_at (kids s) (BasicBlock new.block) place ≡ Some n → n ≡ BasicBlock new.block
+module _ {D K A T E : Type 0} (o : op_set.Ghosts D K A T E) (s : ContextView K A T) (st : IsStanding s) (p : Ptr OperationKind) (name : List ℕ) (good : is_identifier name ≡ true) (new : IsNewModule s p name) where
+  at_block : (place : Place) (n : IRNode) → node_at (children s) (BasicBlock new.block) place ≡ Some n → n ≡ BasicBlock new.block
   at_block [] n e = sym (same_Some (BasicBlock new.block) n e)
-  at_block (i ∷ rest) n e = absurd (no_kid (λ c. node_at (kids s) c rest) (kids s (BasicBlock new.block)) n i new.empty e)
+  at_block (i ∷ rest) n e = absurd (no_child (λ c. node_at (children s) c rest) (children s (BasicBlock new.block)) n i new.empty e)
 
-  at_region : (place : Place) (n : IRNode) → node_at (kids s) (Region new.region) place ≡ Some n → (n ≡ Region new.region) ⊎ (n ≡ BasicBlock new.block)
+  at_region : (place : Place) (n : IRNode) → node_at (children s) (Region new.region) place ≡ Some n → (n ≡ Region new.region) ⊎ (n ≡ BasicBlock new.block)
   at_region [] n e = inl (sym (same_Some (Region new.region) n e))
-  at_region (i ∷ rest) n e = inr (at_block rest n (one_kid (λ c. node_at (kids s) c rest) (kids s (Region new.region)) (BasicBlock new.block) n i new.blocks e))
+  at_region (i ∷ rest) n e = inr (at_block rest n (one_child (λ c. node_at (children s) c rest) (children s (Region new.region)) (BasicBlock new.block) n i new.blocks e))
 
-  at_op : (place : Place) (n : IRNode) → node_at (kids s) (Operation p) place ≡ Some n → (n ≡ Operation p) ⊎ ((n ≡ Region new.region) ⊎ (n ≡ BasicBlock new.block))
+  at_op : (place : Place) (n : IRNode) → node_at (children s) (Operation p) place ≡ Some n → (n ≡ Operation p) ⊎ ((n ≡ Region new.region) ⊎ (n ≡ BasicBlock new.block))
   at_op [] n e = inl (sym (same_Some (Operation p) n e))
-  at_op (i ∷ rest) n e = inr (at_region rest n (one_kid (λ c. node_at (kids s) c rest) (kids s (Operation p)) (Region new.region) n i new.regions e))
+  at_op (i ∷ rest) n e = inr (at_region rest n (one_child (λ c. node_at (children s) c rest) (children s (Operation p)) (Region new.region) n i new.regions e))
 
   -- ---- each can be read
 
@@ -113,13 +113,13 @@ module _ {D K A T E : Type 0} (o : op_set.Ghosts D K A T E) (s : Store K A T) (s
   none_shown = ap (λ k. shown_of o k (attributes_of s p)) kind_is ∙ ap (shown_of o (Some Module)) attributes_are
 
   one_block : blocks_under s p ≡ BasicBlock new.block ∷ []
-  one_block = ap (flat_map (kids s)) new.regions ∙ ap (λ l. l ++ []) new.blocks
+  one_block = ap (flat_map (children s)) new.regions ∙ ap (λ l. l ++ []) new.blocks
 
   no_arguments : arguments_levels (map (argument_term s) (arguments_of s new.block)) ≡ 0
   no_arguments = ap (λ (l : List ℕ). arguments_levels (map (argument_term s) (map (λ i. record { entity = Block new.block; index = i }) (range_with_len 0 (length l))))) (ap arguments_in new.block_holds)
 
   module _ (write : IRNode → OpTerm) where
-    no_ops : ops_levels (ops_of (map write (kids s (BasicBlock new.block)))) ≡ 0
+    no_ops : ops_levels (ops_of (map write (children s (BasicBlock new.block)))) ≡ 0
     no_ops = ap (λ l. ops_levels (ops_of (map write l))) new.empty
 
     low_blocks : blocks_levels (blocks_of (map (block_term s write) (blocks_under s p))) ≡ 0

@@ -6,14 +6,14 @@ use Rattle.plir_data.specs.Dictionary.{IsDictionary}
 use Rattle.plir_core.specs.declared.ptr.Ptr.{Ptr}
 use Rattle.plir_core.specs.declared.ptr.Operation.{Operation as OperationKind}
 use Rattle.plir_core.specs.declared.ptr.IRNode.TheVariants.{Operation}
-use Rattle.plir_core.specs.Store.{Store, kids, attributes_of, result_types_of}
+use Rattle.plir_core.specs.ContextView.{ContextView, children, attributes_of, result_types_of}
 use Rattle.plir_roundtrip.specs.Readable.{IsEntryReadable, IsBodyReadable}
 use Rattle.plir_roundtrip.proofs.Asked.{one_long}
 
-pub body_when : {K A T : Type 0} (s : Store K A T) (p : Ptr OperationKind) (es : List (List ℕ × AttrView A)) (r : Bool) → length (result_types_of s p) ≡ 0 → length (kids s (Operation p)) ≡ 1 → es ≡ attributes_of s p → IsDictionary es
+pub body_when : {K A T : Type 0} (s : ContextView K A T) (p : Ptr OperationKind) (es : List (List ℕ × AttrView A)) (r : Bool) → length (result_types_of s p) ≡ 0 → length (children s (Operation p)) ≡ 1 → es ≡ attributes_of s p → IsDictionary es
     → (IsTrue r ↔ All (λ e. IsEntryReadable s.types e.0 e.1) es) → IsTrue r ↔ IsBodyReadable s p
 body_when s p es r none one is ascending each =
-    let only = one_long (kids s (Operation p)) one in (
+    let only = one_long (children s (Operation p)) one in (
       λ t. record {
         results = nil_from_length (result_types_of s p) none;
         region = only.0;

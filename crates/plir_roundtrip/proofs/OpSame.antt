@@ -9,6 +9,7 @@ use Rattle.plir_data.specs.Dictionary.{dict_get, is_key}
 use Rattle.plir_data.specs.declared.op_set.OpKind.{OpKind}
 use Rattle.plir_data.specs.declared.op_set.OpKind.TheVariants.{Module, Func, Constant}
 use Rattle.plir_data.specs.declared.op_set.OpSet as op_set
+use Rattle.plir_data.specs.Keys.{func_type_key, names_key, symbol_key, value_key}
 use Rattle.plir_core.specs.declared.ptr.Ptr.{Ptr}
 use Rattle.plir_core.specs.declared.ptr.Operation.{Operation as OperationKind}
 use Rattle.plir_core.specs.declared.ptr.BasicBlock.{BasicBlock as BlockKind}
@@ -17,10 +18,10 @@ use Rattle.plir_core.specs.declared.ptr.IRNode.TheVariants.{Operation, Region, B
 use Rattle.plir_core.specs.declared.value.Value.{Value}
 use Rattle.plir_core.specs.declared.value.DefiningEntity.TheVariants.{Op, Block}
 use Rattle.plir_core.specs.Contents.{OpView, BlockView, op_view}
-use Rattle.plir_core.specs.Store.{Store, kind_of, kind_in, op_at, block_at, attributes_of, attributes_in, result_types_of, results_in, operands_in, successors_in, arg_types_of}
+use Rattle.plir_core.specs.ContextView.{ContextView, kind_of, kind_in, op_at, block_at, attributes_of, attributes_in, result_types_of, results_in, operands_in, successors_in, arg_types_of}
 use Rattle.plir_attr_text.specs.Names.{Names, NamesAll}
-use Rattle.plir_walk.specs.GivenNames.{names_key, names_at, names_in, name_at}
-use Rattle.plir_builtin.specs.BuiltinOps.{value_of, name_key, func_type_key, value_key}
+use Rattle.plir_walk.specs.GivenNames.{names_at, names_in, name_at}
+use Rattle.plir_builtin.specs.BuiltinOps.{value_of}
 use Rattle.plir_builtin.specs.ResultNames.{result_name}
 use Rattle.plir_builtin.specs.Symbols.{name_held}
 use Rattle.plir_print.specs.Dictionaries.{is_told, shown}
@@ -36,7 +37,7 @@ use Rattle.plir_roundtrip.proofs.EntriesShown.{key_is, other_bytes, name_there, 
 
 -- ---- which node it is
 
-module _ {K A T : Type 0} (t : Store K A T) where
+module _ {K A T : Type 0} (t : ContextView K A T) where
   pub op_held : (y : IRNode) (v : OpView K A) → HoldsOp t y v → (q : Ptr OperationKind) × (y ≡ Operation q) × (op_at t q ≡ Some v)
   op_held (Operation q) v h = (q, refl, h)
   op_held (Region r) v h = absurd h
@@ -49,41 +50,41 @@ module _ {K A T : Type 0} (t : Store K A T) where
 
 -- ---- the same under each key
 
-module _ {D K A T E : Type 0} (o : op_set.Ghosts D K A T E) (s : Store K A T) (p : Ptr OperationKind) (b : IsBodyReadable s p) where
+module _ {D K A T E : Type 0} (o : op_set.Ghosts D K A T E) (s : ContextView K A T) (p : Ptr OperationKind) (b : IsBodyReadable s p) where
   -- what is shown of an operation whose header tells no more than two keys
   shown_same : (k : List ℕ) → is_told (kind_of s p) k ≡ false → is_key k names_key ≡ false → dict_get (attributes_of s p) k ≡ dict_get (shown o s p) k
   shown_same k e f = sym (shown_there o s.types (kind_of s p) (attributes_of s p) k b.entries e f)
 
-  name_same : is_some (name_held (op_at s p)) ≡ true → (k : List ℕ) → is_key k name_key ≡ true → dict_get (attributes_of s p) k ≡ dict_get (module_attributes (symbol_of s p) (shown o s p)) k
+  name_same : is_some (name_held (op_at s p)) ≡ true → (k : List ℕ) → is_key k symbol_key ≡ true → dict_get (attributes_of s p) k ≡ dict_get (module_attributes (symbol_of s p) (shown o s p)) k
   name_same e k is =
-      let same : k ≡ name_key = key_is k name_key is in
+      let same : k ≡ symbol_key = key_is k symbol_key is in
       subst (λ z. dict_get (attributes_of s p) z ≡ dict_get (module_attributes (symbol_of s p) (shown o s p)) z) (sym same)
-      (name_there (dict_get (attributes_of s p) name_key) e ∙ sym (get-put (shown o s p) name_key (leaf (views.identifier (symbol_of s p)))))
+      (name_there (dict_get (attributes_of s p) symbol_key) e ∙ sym (get-put (shown o s p) symbol_key (leaf (views.identifier (symbol_of s p)))))
 
   pub module_holds_same : kind_of s p ≡ Some Module → is_some (name_held (op_at s p)) ≡ true → HoldSame (attributes_of s p) (module_attributes (symbol_of s p) (shown o s p))
-  module_holds_same kind e k other = at (is_key k name_key) refl
+  module_holds_same kind e k other = at (is_key k symbol_key) refl
     where
-      at : (u : Bool) → is_key k name_key ≡ u → dict_get (attributes_of s p) k ≡ dict_get (module_attributes (symbol_of s p) (shown o s p)) k
+      at : (u : Bool) → is_key k symbol_key ≡ u → dict_get (attributes_of s p) k ≡ dict_get (module_attributes (symbol_of s p) (shown o s p)) k
       at true is = name_same e k is
-      at false is = shown_same k (subst (λ z. is_told z k ≡ false) (sym kind) (other_bytes k name_key is)) other ∙ sym (get-other (shown o s p) name_key k (leaf (views.identifier (symbol_of s p))) is)
+      at false is = shown_same k (subst (λ z. is_told z k ≡ false) (sym kind) (other_bytes k symbol_key is)) other ∙ sym (get-other (shown o s p) symbol_key k (leaf (views.identifier (symbol_of s p))) is)
 
   pub func_holds_same : kind_of s p ≡ Some Func → is_some (name_held (op_at s p)) ≡ true → (h : ℕ) → dict_get (attributes_of s p) func_type_key ≡ Some (leaf (views.type_of h)) → HoldSame (attributes_of s p) (func_attributes (symbol_of s p) h (shown o s p))
-  func_holds_same kind e h type k other = at (is_key k func_type_key) (is_key k name_key) refl refl
+  func_holds_same kind e h type k other = at (is_key k func_type_key) (is_key k symbol_key) refl refl
     where
       front : List (List ℕ × AttrView A)
       front = module_attributes (symbol_of s p) (shown o s p)
 
-      at : (u v : Bool) → is_key k func_type_key ≡ u → is_key k name_key ≡ v → dict_get (attributes_of s p) k ≡ dict_get (func_attributes (symbol_of s p) h (shown o s p)) k
+      at : (u v : Bool) → is_key k func_type_key ≡ u → is_key k symbol_key ≡ v → dict_get (attributes_of s p) k ≡ dict_get (func_attributes (symbol_of s p) h (shown o s p)) k
       at true v is name =
           let same : k ≡ func_type_key = key_is k func_type_key is in
           subst (λ z. dict_get (attributes_of s p) z ≡ dict_get (func_attributes (symbol_of s p) h (shown o s p)) z) (sym same) (type ∙ sym (get-put front func_type_key (leaf (views.type_of h))))
       at false true is name = name_same e k name ∙ sym (get-other front func_type_key k (leaf (views.type_of h)) is)
       at false false is name =
-          shown_same k (subst (λ z. is_told z k ≡ false) (sym kind) (rw (other_bytes k name_key name, other_bytes k func_type_key is) refl)) other
-          ∙ sym (get-other (shown o s p) name_key k (leaf (views.identifier (symbol_of s p))) name)
+          shown_same k (subst (λ z. is_told z k ≡ false) (sym kind) (rw (other_bytes k symbol_key name, other_bytes k func_type_key is) refl)) other
+          ∙ sym (get-other (shown o s p) symbol_key k (leaf (views.identifier (symbol_of s p))) name)
           ∙ sym (get-other front func_type_key k (leaf (views.type_of h)) is)
 
-module _ {K A T : Type 0} (s : Store K A T) (p : Ptr OperationKind) (r : IsConstantReadable s p) where
+module _ {K A T : Type 0} (s : ContextView K A T) (p : Ptr OperationKind) (r : IsConstantReadable s p) where
   constant_holds_same : (ns : List (Option (List ℕ))) (x : AttrView A) → value_of s p ≡ Some x → HoldSame (attributes_of s p) (constant_attributes ns x)
   constant_holds_same ns x held k other = at (is_key k value_key) refl
     where
@@ -95,7 +96,7 @@ module _ {K A T : Type 0} (s : Store K A T) (p : Ptr OperationKind) (r : IsConst
 
 -- ---- one node
 
-module _ {K A T : Type 0} (s t : Store K A T) where
+module _ {K A T : Type 0} (s t : ContextView K A T) where
   pub body_same : (kind : OpKind K) (p q : Ptr OperationKind) (es : List (List ℕ × AttrView A)) → kind_of s p ≡ Some kind → IsOpReadable s p → IsBodyReadable s p → op_at t q ≡ Some (op_view kind [] [] [] es) → HoldSame (attributes_of s p) es → IsSameOp s t p q
   body_same kind p q es is readable b held same = record {
     kind = is ∙ sym (ap kind_in held);
@@ -136,7 +137,7 @@ module _ {K A T : Type 0} (s t : Store K A T) where
 
 -- ---- the arguments of a block
 
-module _ {K A T : Type 0} (s t : Store K A T) (b : Ptr BlockKind) where
+module _ {K A T : Type 0} (s t : ContextView K A T) (b : Ptr BlockKind) where
   abbrev pub value_of_place : ℕ → Value
   value_of_place i = record { entity = Block b; index = i }
 

@@ -13,6 +13,7 @@ use Rattle.plir_data.specs.TypeTree.{tree_of}
 use Rattle.plir_data.specs.declared.op_set.OpKind.{OpKind}
 use Rattle.plir_data.specs.declared.op_set.OpKind.TheVariants.{Module, Func, Constant, ForwardRef, Own}
 use Rattle.plir_data.specs.declared.op_set.OpSet as op_set
+use Rattle.plir_data.specs.Keys.{func_type_key, symbol_key}
 use Rattle.plir_core.specs.declared.ptr.Ptr.{Ptr}
 use Rattle.plir_core.specs.declared.ptr.Operation.{Operation as OperationKind}
 use Rattle.plir_core.specs.declared.ptr.Region.{Region as RegionKind}
@@ -23,16 +24,16 @@ use Rattle.plir_core.specs.declared.value.Value.{Value}
 use Rattle.plir_core.specs.declared.value.DefiningEntity.TheVariants.{Op, Block}
 use Rattle.plir_store.specs.Members.{Has}
 use Rattle.plir_core.specs.Standing.{IsStanding}
-use Rattle.plir_core.specs.Store.{Store, kids, kind_of, op_at, attributes_of, result_types_of, arg_types_of}
+use Rattle.plir_core.specs.ContextView.{ContextView, children, kind_of, op_at, attributes_of, result_types_of, arg_types_of}
 use Rattle.plir_attr_text.specs.AttrGrammar.{Spells}
-use Rattle.plir_attr_text.specs.Runs.{Shown, Tail, Shown-as, Tail-as, nothing}
+use Rattle.plir_attr_text.specs.laws.Runs.{Shown, Tail, Shown-as, Tail-as, nothing}
 use Rattle.plir_attr_text.specs.Tokens.{Token, sign}
 use Rattle.plir_attr_text.specs.TypeGrammar.{enclosed, SpellsType}
-use Rattle.plir_attr_text.specs.TypesShown.{type-shown}
+use Rattle.plir_attr_text.specs.laws.TypesShown.{type-shown}
 use Rattle.plir_attr_text.specs.Writable.{IsBuiltin, IsWritable, entry_terms}
-use Rattle.plir_builtin.specs.BuiltinOps.{func_type_of, value_of, func_type_key}
+use Rattle.plir_builtin.specs.BuiltinOps.{func_type_of, value_of}
 use Rattle.plir_builtin.specs.ResultNames.{result_name}
-use Rattle.plir_builtin.specs.Symbols.{symbol_key, name_held}
+use Rattle.plir_builtin.specs.Symbols.{name_held}
 use Rattle.plir_print.specs.Dictionaries.{shown}
 use Rattle.plir_print.specs.HeaderAttrs.{has_header_of}
 use Rattle.plir_print.specs.Headers.{names_text, some_type_text, some_attr_text, header_of}
@@ -43,10 +44,10 @@ use Rattle.plir_read.specs.OpGrammar.{SpellsHead, SpellsDictionary, SpellsArgume
 use Rattle.plir_read.specs.OpTerms.{Head, OpTerm, op_term, BlockTerm, BlockTerms, ops_of, blocks_of}
 use Rattle.plir_roundtrip.specs.Readable.{IsEntryReadable, AreValuesReadable, IsBodyReadable, IsConstantReadable, IsKindReadable, IsOpReadable, IsBlockReadable}
 use Rattle.plir_roundtrip.specs.Written.{some_type_term, some_attr_term, argument_term, block_head_term, block_term, blocks_under, symbol_of, head_term, term_of_kind, term_at}
-use Rattle.plir_attr_text.specs.AttrsShown.{attr-shown}
+use Rattle.plir_attr_text.specs.laws.AttrsShown.{attr-shown}
 use Rattle.plir_roundtrip.proofs.Joined.{tail-shown, run-shown, line-shown, Then, both-shown, sign-shown, look-semicolon, Between, braced}
 use Rattle.plir_roundtrip.specs.ReadableParts.{AllReadable}
-use Rattle.plir_roundtrip.proofs.Kids.{kid_of_region, kid_of_block, only_region, kid_readable, op_readable, block_readable, HasRoom, some_room, kid_room, lower_room, in_row}
+use Rattle.plir_roundtrip.proofs.Children.{child_of_region, child_of_block, only_region, child_readable, op_readable, block_readable, HasRoom, some_room, child_room, lower_room, in_row}
 use Rattle.plir_roundtrip.proofs.PartsShown.{AreWritable, entries-shown, argument-shown, arguments-shown, block_head-shown, module-shown, func-shown, behind_dictionary, behind_none, constant-shown}
 use Rattle.plir_roundtrip.proofs.PrintedNames.{block_name_good, argument_name_good, result_name_good}
 use Rattle.plir_roundtrip.proofs.EntriesShown.{at_key, name_there, type_there, shown_writable}
@@ -76,7 +77,7 @@ module _ (write : IRNode → BlockTerm) (text : IRNode → List ℕ) (n : ℕ) w
 -- ---- constants
 
 -- what a constant with its header holds
-pub record HoldsConstant {K A T : Type 0} (s : Store K A T) (p : Ptr OperationKind) : Type 0 where
+pub record HoldsConstant {K A T : Type 0} (s : ContextView K A T) (p : Ptr OperationKind) : Type 0 where
   pub value : AttrView A
   pub held : value_of s p ≡ Some value
   pub handle : ℕ
@@ -91,7 +92,7 @@ one_alone [] e = absurd (omega (arith, e))
 one_alone (x ∷ []) e = (x, refl)
 one_alone (x ∷ y ∷ xs) e = absurd (omega (arith, e))
 
-pub constant_there : {K A T : Type 0} (s : Store K A T) (p : Ptr OperationKind) → has_header_of s (Some Constant) p ≡ true → HoldsConstant s p
+pub constant_there : {K A T : Type 0} (s : ContextView K A T) (p : Ptr OperationKind) → has_header_of s (Some Constant) p ≡ true → HoldsConstant s p
 constant_there s p e =
     let ends = and_parts (is_some (value_of s p)) (nat_eq (length (result_types_of s p)) 1) e in
     let v = some_one (value_of s p) ends.0 in
@@ -104,7 +105,7 @@ at_first P xs x e all = subst (All P) e all 0 x (omega arith)
 
 -- ---- one operation and one block, where what is in it is shown
 
-module _ {D K A T E : Type 0} (o : op_set.Ghosts D K A T E) (s : Store K A T) where
+module _ {D K A T E : Type 0} (o : op_set.Ghosts D K A T E) (s : ContextView K A T) where
   -- a type, and an attribute, where there is one
   some_type-shown : (x : Option ℕ) (h : ℕ) → x ≡ Some h → IsBuiltin (tree_of s.types h) → Shown (SpellsType (some_type_term s.types x)) (some_type_text o s x)
   some_type-shown x h e b = subst (λ z. Shown (SpellsType (some_type_term s.types z)) (some_type_text o s z)) (sym e) (type-shown o.type_id (o.type_body_text s.types) (tree_of s.types h) b)
@@ -150,7 +151,7 @@ module _ {D K A T E : Type 0} (o : op_set.Ghosts D K A T E) (s : Store K A T) wh
 
   -- the text of an operation of a kind, where `below` is that of its regions
   abbrev text_by : (n : ℕ) → (below : List ℕ) → Option (OpKind K) → Ptr OperationKind → List ℕ
-  text_by n below kind p = (results_text s p ++ (header_of o s kind p ++ (space_behind kind (kids s (Operation p)) ++ dictionary_of o s.types kind n (shown o s p)))) ++ below
+  text_by n below kind p = (results_text s p ++ (header_of o s kind p ++ (space_behind kind (children s (Operation p)) ++ dictionary_of o s.types kind n (shown o s p)))) ++ below
 
   regroup : (n : ℕ) (header more : List ℕ) (p : Ptr OperationKind) → result_types_of s p ≡ [] → (results_text s p ++ (header ++ (32 ∷ line_of o s.types n (shown o s p)))) ++ more ≡ header ++ (32 ∷ (line_of o s.types n (shown o s p) ++ more))
   regroup n header more p e = ap (λ z. (z ++ (header ++ (32 ∷ line_of o s.types n (shown o s p)))) ++ more) (no_results p e) ∙ append_assoc header (32 ∷ line_of o s.types n (shown o s p)) more
@@ -199,38 +200,38 @@ module _ {D K A T E : Type 0} (o : op_set.Ghosts D K A T E) (s : Store K A T) wh
 
 -- ---- an operation with all below it
 
-module _ {D K A T E : Type 0} (o : op_set.Ghosts D K A T E) (s : Store K A T) (st : IsStanding s) where
+module _ {D K A T E : Type 0} (o : op_set.Ghosts D K A T E) (s : ContextView K A T) (st : IsStanding s) where
   -- the blocks of a region, as they are written
   abbrev blocks_in : (j : ℕ) → IRNode → BlockTerms
-  blocks_in j r = blocks_of (map (block_term s (term_at o s j)) (kids s r))
+  blocks_in j r = blocks_of (map (block_term s (term_at o s j)) (children s r))
 
   -- the text of the one region is that of all
-  one_region : (k n : ℕ) (p : Ptr OperationKind) (r : IRNode) → kids s (Operation p) ≡ r ∷ [] → flat_map (text_at o s k n) (kids s (Operation p)) ≡ text_at o s k n r
+  one_region : (k n : ℕ) (p : Ptr OperationKind) (r : IRNode) → children s (Operation p) ≡ r ∷ [] → flat_map (text_at o s k n) (children s (Operation p)) ≡ text_at o s k n r
   one_region k n p r e = ap (flat_map (text_at o s k n)) e ∙ append-nil (text_at o s k n r)
 
-  one_body : (p : Ptr OperationKind) (r : IRNode) → kids s (Operation p) ≡ r ∷ [] → blocks_under s p ≡ kids s r
-  one_body p r e = ap (flat_map (kids s)) e ∙ append-nil (kids s r)
+  one_body : (p : Ptr OperationKind) (r : IRNode) → children s (Operation p) ≡ r ∷ [] → blocks_under s p ≡ children s r
+  one_body p r e = ap (flat_map (children s)) e ∙ append-nil (children s r)
 
-  there : (p : Ptr OperationKind) (r : IRNode) → kids s (Operation p) ≡ r ∷ [] → Has (kids s (Operation p)) r
+  there : (p : Ptr OperationKind) (r : IRNode) → children s (Operation p) ≡ r ∷ [] → Has (children s (Operation p)) r
   there p r e = subst (λ l. Has l r) (sym e) (inl refl)
 
   -- a module or a function, by its region
   abbrev RegionShown : (k n j : ℕ) → Ptr RegionKind → Type 0
   RegionShown k n j r = Shown (Between 123 125 (SpellsBlocks (blocks_in j (Region r)))) (text_at o s k n (Region r)) × Tail (Between 123 125 (SpellsBlocks (blocks_in j (Region r)))) (text_at o s k n (Region r))
 
-  over_region : (k n j : ℕ) (p : Ptr OperationKind) (readable : IsOpReadable s p) → ((r : Ptr RegionKind) → kids s (Operation p) ≡ Region r ∷ [] → RegionShown k n j r) → Shown (SpellsOp (term_at o s (suc j) (Operation p))) (text_at o s (suc k) n (Operation p))
+  over_region : (k n j : ℕ) (p : Ptr OperationKind) (readable : IsOpReadable s p) → ((r : Ptr RegionKind) → children s (Operation p) ≡ Region r ∷ [] → RegionShown k n j r) → Shown (SpellsOp (term_at o s (suc j) (Operation p))) (text_at o s (suc k) n (Operation p))
   over_region k n j p readable inside = at (kind_of s p) refl readable.kind readable.header
     where
       bs : BlockTerms
       bs = blocks_of (map (block_term s (term_at o s j)) (blocks_under s p))
 
       below : List ℕ
-      below = flat_map (text_at o s k n) (kids s (Operation p))
+      below = flat_map (text_at o s k n) (children s (Operation p))
 
       body : (b : IsBodyReadable s p) → Shown (Between 123 125 (SpellsBlocks bs)) below × Tail (Between 123 125 (SpellsBlocks bs)) below
       body b =
           let r = only_region s p b.region b.body in
-          let is : kids s (Operation p) ≡ Region r.0 ∷ [] = b.body ∙ ap (λ x. x ∷ []) r.1 in
+          let is : children s (Operation p) ≡ Region r.0 ∷ [] = b.body ∙ ap (λ x. x ∷ []) r.1 in
           let q = inside r.0 is in
           let text = sym (one_region k n p (Region r.0) is) in
           let term = ap (λ l. blocks_of (map (block_term s (term_at o s j)) l)) (sym (one_body p (Region r.0) is)) in (
@@ -256,12 +257,12 @@ module _ {D K A T E : Type 0} (o : op_set.Ghosts D K A T E) (s : Store K A T) (s
     op-shown (suc k) n (suc j) p room enough all =
         over_region k n j p (op_readable s p all) (λ r is.
         let h = there p (Region r) is in
-        region-shown k n j r (kid_room s st (Operation p) (Region r) k h room) (kid_room s st (Operation p) (Region r) j h enough) (kid_readable s (Operation p) (Region r) h all))
+        region-shown k n j r (child_room s st (Operation p) (Region r) k h room) (child_room s st (Operation p) (Region r) j h enough) (child_readable s (Operation p) (Region r) h all))
 
     region-shown : (k n j : ℕ) (r : Ptr RegionKind) → HasRoom s (Region r) k → HasRoom s (Region r) j → AllReadable s (Region r) → RegionShown k n j r
     region-shown zero n j r room enough all = absurd (some_room s st (Region r) room)
     region-shown (suc k) n j r room enough all =
-        let shown = braced n (blocks-shown (block_term s (term_at o s j)) (text_at o s k (n + 2)) (n + 2) (kids s (Region r)) (λ x h. block-shown k (n + 2) j x (kid_of_region s r x h) (kid_room s st (Region r) x k h room) (lower_room s st (Region r) x j h enough) (kid_readable s (Region r) x h all))).run in
+        let shown = braced n (blocks-shown (block_term s (term_at o s j)) (text_at o s k (n + 2)) (n + 2) (children s (Region r)) (λ x h. block-shown k (n + 2) j x (child_of_region s r x h) (child_room s st (Region r) x k h room) (lower_room s st (Region r) x j h enough) (child_readable s (Region r) x h all))).run in
         (shown, tail-shown 10 refl shown)
 
     block-shown : (k n j : ℕ) (x : IRNode) → (b : Ptr BlockKind) × (x ≡ BasicBlock b) → HasRoom s x k → HasRoom s x j → AllReadable s x → Shown (SpellsBlock (block_term s (term_at o s j) x)) (text_at o s k n x)
@@ -270,8 +271,8 @@ module _ {D K A T E : Type 0} (o : op_set.Ghosts D K A T E) (s : Store K A T) (s
         let b = is.0 in
         let here = subst (λ z. AllReadable s z) is.1 all in
         let front = block_front-shown o s b (block_readable s b here) in
-        let inner = ops-shown (term_at o s j) (text_at o s k (n + 2)) (n + 2) (kids s (BasicBlock b)) (λ y h.
-        let up = subst (λ z. Has (kids s z) y) (sym is.1) h in
-        let q = kid_of_block s b y h in
-        subst (λ z. Shown (SpellsOp (term_at o s j z)) (text_at o s k (n + 2) z)) (sym q.1) (op-shown k (n + 2) j q.0 (subst (λ z. HasRoom s z k) q.1 (kid_room s st x y k up room)) (subst (λ z. HasRoom s z j) q.1 (lower_room s st x y j up enough)) (subst (AllReadable s) q.1 (kid_readable s x y up all)))) in
+        let inner = ops-shown (term_at o s j) (text_at o s k (n + 2)) (n + 2) (children s (BasicBlock b)) (λ y h.
+        let up = subst (λ z. Has (children s z) y) (sym is.1) h in
+        let q = child_of_block s b y h in
+        subst (λ z. Shown (SpellsOp (term_at o s j z)) (text_at o s k (n + 2) z)) (sym q.1) (op-shown k (n + 2) j q.0 (subst (λ z. HasRoom s z k) q.1 (child_room s st x y k up room)) (subst (λ z. HasRoom s z j) q.1 (lower_room s st x y j up enough)) (subst (AllReadable s) q.1 (child_readable s x y up all)))) in
         subst (λ z. Shown (SpellsBlock (block_term s (term_at o s j) z)) (text_at o s (suc k) n z)) (sym is.1) (both-shown inner front)

@@ -13,7 +13,7 @@ use Rattle.plir_core.specs.declared.ptr.Ptr.{Ptr}
 use Rattle.plir_core.specs.declared.ptr.BasicBlock.{BasicBlock as BlockKind}
 use Rattle.plir_core.specs.declared.value.DefiningEntity.TheVariants.{Block}
 use Rattle.plir_core.specs.declared.value.Value.{Value}
-use Rattle.plir_core.specs.Store.{Store, arg_types_of}
+use Rattle.plir_core.specs.ContextView.{ContextView, arg_types_of}
 use Rattle.plir_attr_text.specs.Terms.{type_levels, levels, entries_levels}
 use Rattle.plir_attr_text.specs.Writable.{attr_term, entry_terms, type_term}
 use Rattle.plir_print.specs.Dictionaries.{is_shown, shown_of}
@@ -21,7 +21,7 @@ use Rattle.plir_print.specs.ValueNames.{arguments_of}
 use Rattle.plir_roundtrip.specs.Written.{some_type_term}
 use Rattle.plir_roundtrip.specs.WrittenLevels.{entry_level, shown_levels, typed_levels}
 use Rattle.plir_roundtrip.proofs.Asked.{drop_at}
-use Rattle.plir_roundtrip.proofs.Kids.{at_row}
+use Rattle.plir_roundtrip.proofs.Children.{at_row}
 
 -- ---- an entry that is shown, or not
 
@@ -46,7 +46,7 @@ row_long : {X : Type 0} (f : ℕ → X) (a n : ℕ) → length (map f (range_wit
 row_long f a zero = refl
 row_long f a (suc n) = ap suc (row_long f (a + 1) n)
 
-module _ {K A T : Type 0} (s : Store K A T) (b : Ptr BlockKind) where
+module _ {K A T : Type 0} (s : ContextView K A T) (b : Ptr BlockKind) where
   abbrev argument : ℕ → Value
   argument i = record { entity = Block b; index = i }
 

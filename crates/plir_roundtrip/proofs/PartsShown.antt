@@ -7,7 +7,7 @@ use Rattle.plir_data.specs.Types.{TypeView}
 use Rattle.plir_store.specs.Members.{Has}
 use Rattle.plir_attr_text.specs.AttrGrammar.{Spells, SpellsMore, SpellsSeveral, SpellsEntries, SpellsMoreEntries}
 use Rattle.plir_attr_text.specs.AttrText.{entry_text}
-use Rattle.plir_attr_text.specs.Runs.{Run, Shown, Tail, Shown-as, Run-as, Tail-as, behind_id, word-shown, identifier_is_word, nothing, behind_first, behind_comma}
+use Rattle.plir_attr_text.specs.laws.Runs.{Run, Shown, Tail, Shown-as, Run-as, Tail-as, behind_id, word-shown, identifier_is_word, nothing, behind_first, behind_comma}
 use Rattle.plir_attr_text.specs.Terms.{TypeTerm, AttrTerm, EntryTerms, no_entries}
 use Rattle.plir_attr_text.specs.Tokens.{Token, word, sign}
 use Rattle.plir_attr_text.specs.TypeGrammar.{enclosed, SpellsType}
@@ -16,7 +16,7 @@ use Rattle.plir_print.specs.Lists.{parted, parted_from}
 use Rattle.plir_print.specs.OpText.{line}
 use Rattle.plir_read.specs.OpGrammar.{symbol, SpellsHead, SpellsDictionary, SpellsArgument, SpellsBlockHead, SpellsConstant}
 use Rattle.plir_read.specs.OpTerms.{module_head, func_head, Argument}
-use Rattle.plir_attr_text.specs.AttrsShown.{attr-shown, entry-shown}
+use Rattle.plir_attr_text.specs.laws.AttrsShown.{attr-shown, entry-shown}
 use Rattle.plir_roundtrip.proofs.Joined.{blank-shown, tail-shown, run-shown, line-shown, Then, both-run, both-shown, Behind, sign-shown, look-at, look-colon, look-caret, look-open, look-close, look-less, look-greater, look-bracket, look-end}
 
 -- ---- dictionaries

@@ -6,9 +6,9 @@ use Rattle.plir_core.specs.declared.ptr.Operation.{Operation as OperationKind}
 use Rattle.plir_core.specs.declared.ptr.BasicBlock.{BasicBlock as BlockKind}
 use Rattle.plir_core.specs.declared.value.DefiningEntity.TheVariants.{Op, Block}
 use Rattle.plir_core.specs.Nodes.{index_of}
-use Rattle.plir_core.specs.Store.{Store, label_of}
+use Rattle.plir_core.specs.ContextView.{ContextView, label_of}
 use Rattle.plir_core.specs.Texts.{pointer_text}
-use Rattle.plir_attr_text.specs.Printed.{Ends}
+use Rattle.plir_attr_text.specs.laws.Printed.{Ends}
 use Rattle.plir_attr_text.specs.Writable.{IsNameOrMark}
 use Rattle.plir_walk.specs.GivenNames.{names_at, name_at}
 use Rattle.plir_builtin.specs.ResultNames.{given_first, result_name}
@@ -66,7 +66,7 @@ module _ (o : Option (List ℕ)) (n : IsNameOrMark o) (suffix name : List ℕ) (
   back : (kind : Suffix) → is_suffix kind suffix ≡ true → given_name kind name ≡ o
   back kind h = ap (given_name kind) is ∙ given_back kind o suffix n h
 
-module _ {K A T : Type 0} (s : Store K A T) where
+module _ {K A T : Type 0} (s : ContextView K A T) where
   -- a block
   module _ (b : Ptr BlockKind) (n : IsNameOrMark (label_of s b)) where
     block_is : block_name s b ≡ given_first (label_of s b) ++ pointer b (codes "block")

@@ -7,9 +7,9 @@ use Rattle.plir_core.specs.declared.ptr.Ptr.{Ptr}
 use Rattle.plir_core.specs.declared.ptr.Operation.{Operation as OperationKind}
 use Rattle.plir_core.specs.declared.ptr.IRNode.TheVariants.{Operation}
 use Rattle.plir_core.specs.Standing.{IsStanding}
-use Rattle.plir_core.specs.Store.{Store}
-use Rattle.plir_core.specs.Whole.{IsWhole}
-use Rattle.plir_attr_text.specs.Growth.{Grows-on}
+use Rattle.plir_core.specs.ContextView.{ContextView}
+use Rattle.plir_core.specs.WellFormed.{IsWellFormed}
+use Rattle.plir_attr_text.specs.laws.Growth.{Grows-on}
 use Rattle.plir_attr_text.specs.TypeGrammar.{IsText}
 use Rattle.plir_attr_text.specs.declared.fault.Fault.{Fault}
 use Rattle.plir_attr_text.specs.declared.fault.Fault.TheVariants as faults
@@ -23,7 +23,7 @@ use Rattle.plir_roundtrip.specs.OpAnswer.{IsReadBack}
 use Rattle.plir_roundtrip.specs.Readable.{IsReadable}
 use Rattle.plir_roundtrip.specs.Written.{op_term_of}
 use Rattle.plir_roundtrip.specs.ReadableParts.{AllReadable}
-use Rattle.plir_roundtrip.proofs.Kids.{HasRoom}
+use Rattle.plir_roundtrip.proofs.Children.{HasRoom}
 use Rattle.plir_roundtrip.proofs.MeantAgain.{whole_text}
 use Rattle.plir_roundtrip.proofs.OpShown.{op-shown}
 use Rattle.plir_roundtrip.proofs.TreeSame.{op_same}
@@ -44,7 +44,7 @@ refusal_alone (faults.NResultsVerifyErr wanted found) h = absurd (h (λ e. absur
 refusal_alone faults.Memory h = inl refl
 refusal_alone faults.TooManyNodes h = inr refl
 
-module _ {D K A T E : Type 0} (o : op_set.Ghosts D K A T E) (s : Store K A T) (st : IsStanding s) (p : Ptr OperationKind) (readable : IsReadable o s p) where
+module _ {D K A T E : Type 0} (o : op_set.Ghosts D K A T E) (s : ContextView K A T) (st : IsStanding s) (p : Ptr OperationKind) (readable : IsReadable o s p) where
   all_readable : AllReadable s (Operation p)
   all_readable = record { ops = readable.ops; blocks = readable.blocks }
 
@@ -58,7 +58,7 @@ module _ {D K A T E : Type 0} (o : op_set.Ghosts D K A T E) (s : Store K A T) (s
       whole_text (OpWithin n) (op_term_of o s p) (op_text o s p) (record { first = shown.first; others = shown.others; spelled = (shown.spelled, le); begun = shown.begun })
 
 -- whatever the reader answers to the text of an operation that can be read back
-module _ {D K A T E : Type 0} (o : op_set.Ghosts D K A T E) (standing : (s : Store K A T) → IsWhole o.attr_handles s → IsStanding s) (itself : IsDictOfItself (AttrView A)) (one : IsOfOne) where
+module _ {D K A T E : Type 0} (o : op_set.Ghosts D K A T E) (standing : (s : ContextView K A T) → IsWellFormed o.attr_handles s → IsStanding s) (itself : IsDictOfItself (AttrView A)) (one : IsOfOne) where
   pub read_back : (text : List ℕ) (answer : Result (Ptr OperationKind) ReadErr) → IsReadBack o text answer
   read_back text (Ok q) printed old new p whole table readable is grown read =
       let st = standing printed whole in

@@ -7,7 +7,7 @@ use Rattle.plir_core.specs.declared.ptr.Operation.{Operation as OperationKind}
 use Rattle.plir_core.specs.declared.ptr.IRNode.{IRNode}
 use Rattle.plir_core.specs.declared.ptr.IRNode.TheVariants.{Operation, Region, BasicBlock}
 use Rattle.plir_store.specs.Members.{Has}
-use Rattle.plir_core.specs.Store.{Store, kids}
+use Rattle.plir_core.specs.ContextView.{ContextView, children}
 use Rattle.plir_core.specs.Forest.{look}
 use Rattle.plir_walk.specs.declared.config.WalkConfig.{WalkConfig}
 use Rattle.plir_walk.specs.declared.interruptible.WalkContinue.{WalkContinue}
@@ -38,7 +38,7 @@ module _ {C S B : Type 0} where
   has_last [] x = inl refl
   has_last (y ∷ xs) x = inr (has_last xs x)
 
-module _ {K A T : Type 0} (s : Store K A T) where
+module _ {K A T : Type 0} (s : ContextView K A T) where
   never_skips : (n : IRNode) (a : ControlFlow (Unit {0}) WalkContinue) → IsAnswerAt s n a → a ≡ Continue Skip → ⊥
   never_skips n a (inl h) e = let f : Continue Advance ≡ Continue Skip = sym h.1 ∙ e in cc
   never_skips n a (inr h) e = let f : Break tt ≡ Continue Skip = sym h.1 ∙ e in cc
@@ -53,15 +53,15 @@ module _ {K A T : Type 0} (s : Store K A T) where
   breaks_off n a u (inr h) e r = h.0 r
 
   -- each node under one all of which can be read
-  each_readable : (x n : IRNode) → AllReadable s x → IsUnder (kids s) x n → IsNodeReadable s n
+  each_readable : (x n : IRNode) → AllReadable s x → IsUnder (children s) x n → IsNodeReadable s n
   each_readable x (Operation p) all u = all.ops p u
   each_readable x (Region r) all u = tt
   each_readable x (BasicBlock b) all u = all.blocks b u
 
-module _ {K A T S : Type 0} (w : WalkConfig) (post : Relation (Store K A T) S (Unit {0}))
-    (told : (c : Store K A T) (s : S) (n : IRNode) (a : ControlFlow (Unit {0}) WalkContinue) (c' : Store K A T) (s' : S) → post c s n a c' s' → (c' ≡ c) × IsAnswerAt c n a)
-    (c0 : Store K A T) (op : Ptr OperationKind) (s0 s1 : S) where
-  each : (xs : List (Call (Store K A T) S (Unit {0}))) (c : Store K A T) (s : S) (c' : Store K A T) (s' : S) → c ≡ c0 → Chain (IsCallUnder look (Operation op) post) c s xs c' s' → (x : Call (Store K A T) S (Unit {0})) → Has xs x → IsAnswerAt c0 x.node x.answer
+module _ {K A T S : Type 0} (w : WalkConfig) (post : Relation (ContextView K A T) S (Unit {0}))
+    (told : (c : ContextView K A T) (s : S) (n : IRNode) (a : ControlFlow (Unit {0}) WalkContinue) (c' : ContextView K A T) (s' : S) → post c s n a c' s' → (c' ≡ c) × IsAnswerAt c n a)
+    (c0 : ContextView K A T) (op : Ptr OperationKind) (s0 s1 : S) where
+  each : (xs : List (Call (ContextView K A T) S (Unit {0}))) (c : ContextView K A T) (s : S) (c' : ContextView K A T) (s' : S) → c ≡ c0 → Chain (IsCallUnder look (Operation op) post) c s xs c' s' → (x : Call (ContextView K A T) S (Unit {0})) → Has xs x → IsAnswerAt c0 x.node x.answer
   each [] c s c' s' e h x has = absurd has
   each (y ∷ ys) c s c' s' e h x has =
       let t = told y.before y.state y.node y.answer y.after y.left h.2.made in
@@ -69,7 +69,7 @@ module _ {K A T S : Type 0} (w : WalkConfig) (post : Relation (Store K A T) S (U
       elim has [ inl q ↦ subst (λ z. IsAnswerAt c0 z.node z.answer) q (subst (λ z. IsAnswerAt z y.node y.answer) b t.1) | inr k ↦ each ys y.after y.left c' s' (t.0 ∙ b) h.3 x k ]
 
   -- a walk that went to its end has seen that all can be read
-  at_end : (k : WalkContinue) → WalkedOver look w post c0 s0 (Operation op) (Continue k) s1 → (n : IRNode) → IsUnder (kids c0) (Operation op) n → IsNodeReadable c0 n
+  at_end : (k : WalkContinue) → WalkedOver look w post c0 s0 (Operation op) (Continue k) s1 → (n : IRNode) → IsUnder (children c0) (Operation op) n → IsNodeReadable c0 n
   at_end k h n under =
       let called : Has (nodes_of h.calls) n = (h.walk.answers.2 n).1 (under, λ out. never_skips c0 out.skipped.0.node out.skipped.0.answer (each h.calls c0 s0 c0 s1 refl h.chain out.skipped.0 out.skipped.1) out.skipped.3) in
       let x = call_of h.calls n called in

@@ -8,7 +8,7 @@ use Rattle.std.proofs.lemmas.Option.{same_Some, none-some}
 use Rattle.std.proofs.lemmas.Slice.Eq.{bytes_eq-Decides}
 use Rattle.plir_data.specs.Identifier.{is_digit, is_letter, all_in_identifier, is_identifier}
 use Rattle.plir_attr_text.specs.Bytes.{begins, past, all_pass, is_digits}
-use Rattle.plir_attr_text.specs.Printed.{Ends, past-run}
+use Rattle.plir_attr_text.specs.laws.Printed.{Ends, past-run}
 use Rattle.plir_attr_text.specs.Writable.{IsNameOrMark}
 use Rattle.plir_builtin.specs.ResultNames.{given_first}
 use Rattle.plir_read.specs.Suffixes.{behind_letters, behind_digits, behind_number, behind_pointer, behind_place, is_nothing, is_suffix, before_suffix, without_suffix, given_name}

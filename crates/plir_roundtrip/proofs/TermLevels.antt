@@ -12,7 +12,7 @@ use Rattle.plir_core.specs.declared.ptr.IRNode.{IRNode}
 use Rattle.plir_core.specs.declared.ptr.IRNode.TheVariants.{Operation, Region, BasicBlock}
 use Rattle.plir_store.specs.Members.{Has}
 use Rattle.plir_core.specs.Standing.{IsStanding}
-use Rattle.plir_core.specs.Store.{Store, kids, kind_of, limit}
+use Rattle.plir_core.specs.ContextView.{ContextView, children, kind_of, limit}
 use Rattle.plir_core.specs.Measures.{depth}
 use Rattle.plir_print.specs.OpText.{room}
 use Rattle.plir_print.specs.ValueNames.{arguments_of}
@@ -21,7 +21,7 @@ use Rattle.plir_roundtrip.specs.Readable.{IsBodyReadable, IsKindReadable}
 use Rattle.plir_roundtrip.specs.Written.{header_term, constant_of, block_head_term, block_term, blocks_under, term_of_kind, term_at, op_term_of}
 use Rattle.plir_roundtrip.specs.WrittenLevels.{node_term, typed_levels, nested_ops, nested_block, nested_blocks, body_levels}
 use Rattle.plir_roundtrip.proofs.Asked.{one_long}
-use Rattle.plir_roundtrip.proofs.Kids.{HasRoom, some_room, lower_room, kid_room}
+use Rattle.plir_roundtrip.proofs.Children.{HasRoom, some_room, lower_room, child_room}
 
 -- what each thing of a list becomes is the same by two functions that agree on them
 map_same : {X Y : Type 0} (f g : X → Y) (xs : List X) → ((x : X) → Has xs x → f x ≡ g x) → map f xs ≡ map g xs
@@ -37,19 +37,19 @@ has_flat : {X Y : Type 0} (f : X → List Y) (xs : List X) (y : Y) → Has (flat
 has_flat f [] y h = absurd h
 has_flat f (x ∷ xs) y h = elim (has_append (f x) (flat_map f xs) y h) [ inl k ↦ (x, inl refl, k) | inr k ↦ let r = has_flat f xs y k in (r.0, inr r.1, r.2) ]
 
-module _ {D K A T E : Type 0} (o : op_set.Ghosts D K A T E) (s : Store K A T) (st : IsStanding s) where
+module _ {D K A T E : Type 0} (o : op_set.Ghosts D K A T E) (s : ContextView K A T) (st : IsStanding s) where
   -- with two writers that agree on the operations in it a block is written the same
-  block_same : (f g : IRNode → OpTerm) (x : IRNode) → ((y : IRNode) → Has (kids s x) y → f y ≡ g y) → block_term s f x ≡ block_term s g x
-  block_same f g (BasicBlock b) h = ap (λ (ts : List OpTerm). (block_head_term s b, ts)) (map_same f g (kids s (BasicBlock b)) h)
+  block_same : (f g : IRNode → OpTerm) (x : IRNode) → ((y : IRNode) → Has (children s x) y → f y ≡ g y) → block_term s f x ≡ block_term s g x
+  block_same f g (BasicBlock b) h = ap (λ (ts : List OpTerm). (block_head_term s b, ts)) (map_same f g (children s (BasicBlock b)) h)
   block_same f g (Operation p) h = refl
   block_same f g (Region r) h = refl
 
-  blocks_same : (f g : IRNode → OpTerm) (p : Ptr OperationKind) → ((a x y : IRNode) → Has (kids s (Operation p)) a → Has (kids s a) x → Has (kids s x) y → f y ≡ g y) → map (block_term s f) (blocks_under s p) ≡ map (block_term s g) (blocks_under s p)
+  blocks_same : (f g : IRNode → OpTerm) (p : Ptr OperationKind) → ((a x y : IRNode) → Has (children s (Operation p)) a → Has (children s a) x → Has (children s x) y → f y ≡ g y) → map (block_term s f) (blocks_under s p) ≡ map (block_term s g) (blocks_under s p)
   blocks_same f g p h =
-      map_same (block_term s f) (block_term s g) (blocks_under s p) (λ x among. let r = has_flat (kids s) (kids s (Operation p)) x among in block_same f g x (λ y inside. h r.0 x y r.1 r.2 inside))
+      map_same (block_term s f) (block_term s g) (blocks_under s p) (λ x among. let r = has_flat (children s) (children s (Operation p)) x among in block_same f g x (λ y inside. h r.0 x y r.1 r.2 inside))
 
-  below_room : (p : Ptr OperationKind) (a x y : IRNode) (k : ℕ) → Has (kids s (Operation p)) a → Has (kids s a) x → Has (kids s x) y → HasRoom s (Operation p) (suc k) → HasRoom s y k
-  below_room p a x y k in_op in_region in_block space = lower_room s st x y k in_block (lower_room s st a x k in_region (kid_room s st (Operation p) a k in_op space))
+  below_room : (p : Ptr OperationKind) (a x y : IRNode) (k : ℕ) → Has (children s (Operation p)) a → Has (children s a) x → Has (children s x) y → HasRoom s (Operation p) (suc k) → HasRoom s y k
+  below_room p a x y k in_op in_region in_block space = lower_room s st x y k in_block (lower_room s st a x k in_region (child_room s st (Operation p) a k in_op space))
 
   -- where there is room for all levels, a node is written the same whatever the room
   same_at : (k j : ℕ) (x : IRNode) → HasRoom s x k → HasRoom s x j → term_at o s k x ≡ term_at o s j x
@@ -86,7 +86,7 @@ module _ {D K A T E : Type 0} (o : op_set.Ghosts D K A T E) (s : Store K A T) (s
   -- one that is no constant has its header, and the blocks of its one region
   pub record HasBody (p : Ptr OperationKind) : Type 0 where
     pub levels : op_levels (op_term_of o s p) ≡ suc (body_levels o s p)
-    pub one : length (kids s (Operation p)) ≡ 1
+    pub one : length (children s (Operation p)) ≡ 1
 
   body_of : (p : Ptr OperationKind) (k : Option (OpKind K)) → kind_of s p ≡ k → term_of_kind o s k (body_term p) p ≡ op_term (header_term o s k p) (body_term p) → IsBodyReadable s p → HasBody p
   body_of p k is same b = record {
@@ -108,8 +108,8 @@ module _ {D K A T E : Type 0} (o : op_set.Ghosts D K A T E) (s : Store K A T) (s
 
   pub first_block : (b : Ptr BlockKind) (xs rest : List IRNode) → xs ≡ BasicBlock b ∷ rest → nested_blocks o s xs ≡ max (nested_block o s b) (nested_blocks o s rest)
   first_block b xs rest e =
-      let h : nested_blocks o s xs ≡ max (typed_levels s (arguments_of s b)) (max (nested_ops o s (kids s (BasicBlock b))) (nested_blocks o s rest)) = ap (nested_blocks o s) e in
-      h ∙ three (typed_levels s (arguments_of s b)) (nested_ops o s (kids s (BasicBlock b))) (nested_blocks o s rest)
+      let h : nested_blocks o s xs ≡ max (typed_levels s (arguments_of s b)) (max (nested_ops o s (children s (BasicBlock b))) (nested_blocks o s rest)) = ap (nested_blocks o s) e in
+      h ∙ three (typed_levels s (arguments_of s b)) (nested_ops o s (children s (BasicBlock b))) (nested_blocks o s rest)
     where
       three : (a b c : ℕ) → max a (max b c) ≡ max (max a b) c
       three a b c = omega arith
@@ -118,11 +118,11 @@ module _ {D K A T E : Type 0} (o : op_set.Ghosts D K A T E) (s : Store K A T) (s
   first_op p xs rest e = ap (nested_ops o s) e
 
   -- the blocks of an operation with one region are those of it
-  pub blocks_of_region : (p : Ptr OperationKind) (r : IRNode) → length (kids s (Operation p)) ≡ 1 → slice_get (kids s (Operation p)) 0 ≡ Some r → blocks_under s p ≡ kids s r
+  pub blocks_of_region : (p : Ptr OperationKind) (r : IRNode) → length (children s (Operation p)) ≡ 1 → slice_get (children s (Operation p)) 0 ≡ Some r → blocks_under s p ≡ children s r
   blocks_of_region p r one first =
-      let only = one_long (kids s (Operation p)) one in
+      let only = one_long (children s (Operation p)) one in
       let same : only.0 ≡ r = same_Some only.0 r (ap (λ (l : List IRNode). slice_get l 0) (sym only.1) ∙ first) in
-      ap (flat_map (kids s)) only.1 ∙ append-nil (kids s only.0) ∙ ap (kids s) same
+      ap (flat_map (children s)) only.1 ∙ append-nil (children s only.0) ∙ ap (children s) same
 
 -- ---- an operation, by its parts
 

@@ -21,11 +21,11 @@ use Rattle.plir_core.specs.declared.value.DefiningEntity.TheVariants.{Block}
 use Rattle.plir_core.specs.Contents.{OpView, BlockView}
 use Rattle.plir_store.specs.Members.{Has}
 use Rattle.plir_core.specs.Standing.{IsStanding}
-use Rattle.plir_core.specs.Store.{Store, kids, kind_of, op_at, block_at, attributes_of, result_types_of, results_in, arg_types_of, arguments_in, label_in, block_attributes_in}
-use Rattle.plir_core.specs.Whole.{IsWhole}
+use Rattle.plir_core.specs.ContextView.{ContextView, children, kind_of, op_at, block_at, attributes_of, result_types_of, results_in, arg_types_of, arguments_in, label_in, block_attributes_in}
+use Rattle.plir_core.specs.WellFormed.{IsWellFormed}
 use Rattle.plir_attr_text.specs.Meaning.{IsDictMeant}
 use Rattle.plir_attr_text.specs.Names.{Grows, Names}
-use Rattle.plir_attr_text.specs.SameNames.{same_handles}
+use Rattle.plir_attr_text.specs.laws.SameNames.{same_handles}
 use Rattle.plir_attr_text.specs.Writable.{IsBuiltin}
 use Rattle.plir_walk.specs.GivenNames.{names_at, names_in, name_at}
 use Rattle.plir_walk.specs.Tree.{Place, node_at}
@@ -44,7 +44,7 @@ use Rattle.plir_roundtrip.specs.Readable.{IsBodyReadable, IsConstantReadable, Is
 use Rattle.plir_roundtrip.specs.SameTree.{IsSameOp, IsSameBlock, IsSameNode, IsSameOrNone}
 use Rattle.plir_roundtrip.specs.Written.{some_type_term, argument_term, block_head_term, block_term, blocks_under, symbol_of, dictionary_term, term_of_kind, term_at}
 use Rattle.plir_roundtrip.specs.ReadableParts.{AllReadable}
-use Rattle.plir_roundtrip.proofs.Kids.{kid_of_region, kid_of_block, only_region, kid_readable, op_readable, block_readable, HasRoom, some_room, lower_room, kid_room}
+use Rattle.plir_roundtrip.proofs.Children.{child_of_region, child_of_block, only_region, child_readable, op_readable, block_readable, HasRoom, some_room, lower_room, child_room}
 use Rattle.plir_roundtrip.proofs.MeantAgain.{type_stays, handle_again, attr_again, dictionary_again}
 use Rattle.plir_roundtrip.proofs.NamesAgain.{names_again, no_others, name_in_row}
 use Rattle.plir_roundtrip.proofs.OpSame.{op_held, block_held, module_holds_same, func_holds_same, body_same, constant_same, value_of_place, typed}
@@ -54,7 +54,7 @@ use Rattle.plir_roundtrip.proofs.EntriesShown.{filter_dictionary, shown_writable
 
 -- ---- lists of nodes
 
-module _ {K A T : Type 0} (s t : Store K A T) (f g : IRNode → Option IRNode) where
+module _ {K A T : Type 0} (s t : ContextView K A T) (f g : IRNode → Option IRNode) where
   -- at each place of two lists stands the same, or nothing
   abbrev SameAt : List IRNode → List IRNode → ℕ → Type 0
   SameAt xs ys i = IsSameOrNone s t (option_and_then f (slice_get xs i)) (option_and_then g (slice_get ys i))
@@ -64,7 +64,7 @@ module _ {K A T : Type 0} (s t : Store K A T) (f g : IRNode → Option IRNode) w
   one_each x y (suc i) h = tt
 
   blocks_each : (write : IRNode → OpTerm) (xs ys : List IRNode) (i : ℕ) → AreBlocksAt t ys (blocks_of (map (block_term s write) xs))
-      → ((x y : IRNode) → Has xs x → IsBlockHeadAt t y (block_term s write x).0 → AreOpsAt t (kids t y) (ops_of (block_term s write x).1) → IsSameOrNone s t (f x) (g y)) → SameAt xs ys i
+      → ((x y : IRNode) → Has xs x → IsBlockHeadAt t y (block_term s write x).0 → AreOpsAt t (children t y) (ops_of (block_term s write x).1) → IsSameOrNone s t (f x) (g y)) → SameAt xs ys i
   blocks_each write [] ys i h each = subst (λ z. SameAt [] z i) (sym h) tt
   blocks_each write (x ∷ xs) ys zero h each = subst (λ z. SameAt (x ∷ xs) z 0) (sym h.2) (each x h.0 (inl refl) h.3 h.4)
   blocks_each write (x ∷ xs) ys (suc i) h each = subst (λ z. SameAt (x ∷ xs) z (suc i)) (sym h.2) (blocks_each write xs h.1 i h.5 (λ a b m. each a b (inr m)))
@@ -75,7 +75,7 @@ module _ {K A T : Type 0} (s t : Store K A T) (f g : IRNode → Option IRNode) w
   ops_each write (x ∷ xs) ys zero h each = subst (λ z. SameAt (x ∷ xs) z 0) (sym h.2) (each x h.0 (inl refl) h.3)
   ops_each write (x ∷ xs) ys (suc i) h each = subst (λ z. SameAt (x ∷ xs) z (suc i)) (sym h.2) (ops_each write xs h.1 i h.4 (λ a b m. each a b (inr m)))
 
-module _ {D K A T E : Type 0} (o : op_set.Ghosts D K A T E) (s t : Store K A T) (st : IsStanding s) (whole : IsWhole o.attr_handles s) (itself : IsDictOfItself (AttrView A)) (g : Grows s.types t.types) (table : IsTypeTable o.type_handles t.types) where
+module _ {D K A T E : Type 0} (o : op_set.Ghosts D K A T E) (s t : ContextView K A T) (st : IsStanding s) (whole : IsWellFormed o.attr_handles s) (itself : IsDictOfItself (AttrView A)) (g : Grows s.types t.types) (table : IsTypeTable o.type_handles t.types) where
   -- ---- what nodes hold is live
 
   results_live : (p : Ptr OperationKind) → AllLive s.types (result_types_of s p)
@@ -135,11 +135,11 @@ module _ {D K A T E : Type 0} (o : op_set.Ghosts D K A T E) (s t : Store K A T) 
   -- ---- operations
 
   abbrev blocks_in : (j : ℕ) → IRNode → BlockTerms
-  blocks_in j r = blocks_of (map (block_term s (term_at o s j)) (kids s r))
+  blocks_in j r = blocks_of (map (block_term s (term_at o s j)) (children s r))
 
   -- both have no region, or one with the blocks that are written
   abbrev RegionsMatch : (j : ℕ) → Ptr OperationKind → IRNode → Type 0
-  RegionsMatch j p y = ((kids s (Operation p) ≡ []) × (kids t y ≡ [])) ⊎ ((r u : Ptr RegionKind) × (kids s (Operation p) ≡ Region r ∷ []) × (kids t y ≡ Region u ∷ []) × AreBlocksAt t (kids t (Region u)) (blocks_in j (Region r)))
+  RegionsMatch j p y = ((children s (Operation p) ≡ []) × (children t y ≡ [])) ⊎ ((r u : Ptr RegionKind) × (children s (Operation p) ≡ Region r ∷ []) × (children t y ≡ Region u ∷ []) × AreBlocksAt t (children t (Region u)) (blocks_in j (Region r)))
 
   -- the operation at a node, and that it is the same
   record OpMatch (j : ℕ) (p : Ptr OperationKind) (y : IRNode) : Type 0 where
@@ -148,13 +148,13 @@ module _ {D K A T E : Type 0} (o : op_set.Ghosts D K A T E) (s t : Store K A T) 
     same : IsSameOp s t p op
     regions : RegionsMatch j p y
 
-  one_body : (j : ℕ) (p q : Ptr OperationKind) (y u : IRNode) → y ≡ Operation q → IsBodyReadable s p → kids t y ≡ u ∷ [] → AreBlocksAt t (kids t u) (blocks_of (map (block_term s (term_at o s j)) (blocks_under s p))) → RegionsMatch j p y
-  one_body j p q y u is b kids_are blocks =
+  one_body : (j : ℕ) (p q : Ptr OperationKind) (y u : IRNode) → y ≡ Operation q → IsBodyReadable s p → children t y ≡ u ∷ [] → AreBlocksAt t (children t u) (blocks_of (map (block_term s (term_at o s j)) (blocks_under s p))) → RegionsMatch j p y
+  one_body j p q y u is b children_are blocks =
       let r = only_region s p b.region b.body in
-      let ours : kids s (Operation p) ≡ Region r.0 ∷ [] = b.body ∙ ap (λ x. x ∷ []) r.1 in
-      let v = only_region t q u (subst (λ z. kids t z ≡ u ∷ []) is kids_are) in
-      let under : blocks_under s p ≡ kids s (Region r.0) = ap (flat_map (kids s)) ours ∙ append-nil (kids s (Region r.0)) in
-      inr (r.0, v.0, ours, kids_are ∙ ap (λ x. x ∷ []) v.1, subst (λ z. AreBlocksAt t (kids t z) (blocks_in j (Region r.0))) v.1 (subst (λ l. AreBlocksAt t (kids t u) (blocks_of (map (block_term s (term_at o s j)) l))) under blocks))
+      let ours : children s (Operation p) ≡ Region r.0 ∷ [] = b.body ∙ ap (λ x. x ∷ []) r.1 in
+      let v = only_region t q u (subst (λ z. children t z ≡ u ∷ []) is children_are) in
+      let under : blocks_under s p ≡ children s (Region r.0) = ap (flat_map (children s)) ours ∙ append-nil (children s (Region r.0)) in
+      inr (r.0, v.0, ours, children_are ∙ ap (λ x. x ∷ []) v.1, subst (λ z. AreBlocksAt t (children t z) (blocks_in j (Region r.0))) v.1 (subst (λ l. AreBlocksAt t (children t u) (blocks_of (map (block_term s (term_at o s j)) l))) under blocks))
 
   entries_are : (p : Ptr OperationKind) (b : IsBodyReadable s p) (entries : List (List ℕ × AttrView A)) → IsDictMeant t.types (dictionary_term o s p) entries → entries ≡ shown o s p
   entries_are p b entries m =
@@ -218,18 +218,18 @@ module _ {D K A T E : Type 0} (o : op_set.Ghosts D K A T E) (s t : Store K A T) 
 
   -- ---- all below
 
-  there : (p : Ptr OperationKind) (r : IRNode) → kids s (Operation p) ≡ r ∷ [] → Has (kids s (Operation p)) r
+  there : (p : Ptr OperationKind) (r : IRNode) → children s (Operation p) ≡ r ∷ [] → Has (children s (Operation p)) r
   there p r e = subst (λ l. Has l r) (sym e) (inl refl)
 
   abbrev Same : Place → IRNode → IRNode → Type 0
-  Same place x y = IsSameOrNone s t (node_at (kids s) x place) (node_at (kids t) y place)
+  Same place x y = IsSameOrNone s t (node_at (children s) x place) (node_at (children t) y place)
 
   -- at a place below an operation, where it is the same at each place in the region
-  over_regions : (i : ℕ) (rest : Place) (j : ℕ) (p : Ptr OperationKind) (y : IRNode) → ((r u : Ptr RegionKind) → kids s (Operation p) ≡ Region r ∷ [] → AreBlocksAt t (kids t (Region u)) (blocks_in j (Region r)) → Same rest (Region r) (Region u)) → RegionsMatch j p y → Same (i ∷ rest) (Operation p) y
+  over_regions : (i : ℕ) (rest : Place) (j : ℕ) (p : Ptr OperationKind) (y : IRNode) → ((r u : Ptr RegionKind) → children s (Operation p) ≡ Region r ∷ [] → AreBlocksAt t (children t (Region u)) (blocks_in j (Region r)) → Same rest (Region r) (Region u)) → RegionsMatch j p y → Same (i ∷ rest) (Operation p) y
   over_regions i rest j p y inside (inl none) =
-      subst (λ l. SameAt s t (λ c. node_at (kids s) c rest) (λ c. node_at (kids t) c rest) l (kids t y) i) (sym none.0) (subst (λ l. SameAt s t (λ c. node_at (kids s) c rest) (λ c. node_at (kids t) c rest) [] l i) (sym none.1) tt)
+      subst (λ l. SameAt s t (λ c. node_at (children s) c rest) (λ c. node_at (children t) c rest) l (children t y) i) (sym none.0) (subst (λ l. SameAt s t (λ c. node_at (children s) c rest) (λ c. node_at (children t) c rest) [] l i) (sym none.1) tt)
   over_regions i rest j p y inside (inr m) =
-      subst (λ l. SameAt s t (λ c. node_at (kids s) c rest) (λ c. node_at (kids t) c rest) l (kids t y) i) (sym m.2) (subst (λ l. SameAt s t (λ c. node_at (kids s) c rest) (λ c. node_at (kids t) c rest) (Region m.0 ∷ []) l i) (sym m.3) (one_each s t (λ c. node_at (kids s) c rest) (λ c. node_at (kids t) c rest) (Region m.0) (Region m.1) i (inside m.0 m.1 m.2 m.4)))
+      subst (λ l. SameAt s t (λ c. node_at (children s) c rest) (λ c. node_at (children t) c rest) l (children t y) i) (sym m.2) (subst (λ l. SameAt s t (λ c. node_at (children s) c rest) (λ c. node_at (children t) c rest) (Region m.0 ∷ []) l i) (sym m.3) (one_each s t (λ c. node_at (children s) c rest) (λ c. node_at (children t) c rest) (Region m.0) (Region m.1) i (inside m.0 m.1 m.2 m.4)))
 
   mutual
     pub op_same : (place : Place) (j : ℕ) (p : Ptr OperationKind) (y : IRNode) → HasRoom s (Operation p) j → AllReadable s (Operation p) → IsOpAt t y (term_at o s j (Operation p)) → Same place (Operation p) y
@@ -237,15 +237,15 @@ module _ {D K A T E : Type 0} (o : op_set.Ghosts D K A T E) (s t : Store K A T) 
     op_same [] (suc j) p y room all h =
         let m = op_matches j p y (op_readable s p all) h in
         subst (λ z. IsSameNode s t (Operation p) z) (sym m.is) m.same
-    op_same (i ∷ rest) (suc j) p y room all h = over_regions i rest j p y (λ r u e blocks. region_same rest j r u (kid_room s st (Operation p) (Region r) j (there p (Region r) e) room) (kid_readable s (Operation p) (Region r) (there p (Region r) e) all) blocks) (op_matches j p y (op_readable s p all) h).regions
+    op_same (i ∷ rest) (suc j) p y room all h = over_regions i rest j p y (λ r u e blocks. region_same rest j r u (child_room s st (Operation p) (Region r) j (there p (Region r) e) room) (child_readable s (Operation p) (Region r) (there p (Region r) e) all) blocks) (op_matches j p y (op_readable s p all) h).regions
 
-    region_same : (place : Place) (j : ℕ) (r u : Ptr RegionKind) → HasRoom s (Region r) j → AllReadable s (Region r) → AreBlocksAt t (kids t (Region u)) (blocks_in j (Region r)) → Same place (Region r) (Region u)
+    region_same : (place : Place) (j : ℕ) (r u : Ptr RegionKind) → HasRoom s (Region r) j → AllReadable s (Region r) → AreBlocksAt t (children t (Region u)) (blocks_in j (Region r)) → Same place (Region r) (Region u)
     region_same [] j r u room all h = tt
     region_same (i ∷ rest) j r u room all h =
-        blocks_each s t (λ c. node_at (kids s) c rest) (λ c. node_at (kids t) c rest) (term_at o s j) (kids s (Region r)) (kids t (Region u)) i h
-        (λ x y m head ops. block_same rest j x y (kid_of_region s r x m) (lower_room s st (Region r) x j m room) (kid_readable s (Region r) x m all) head ops)
+        blocks_each s t (λ c. node_at (children s) c rest) (λ c. node_at (children t) c rest) (term_at o s j) (children s (Region r)) (children t (Region u)) i h
+        (λ x y m head ops. block_same rest j x y (child_of_region s r x m) (lower_room s st (Region r) x j m room) (child_readable s (Region r) x m all) head ops)
 
-    block_same : (place : Place) (j : ℕ) (x y : IRNode) → (b : Ptr BlockKind) × (x ≡ BasicBlock b) → HasRoom s x j → AllReadable s x → IsBlockHeadAt t y (block_term s (term_at o s j) x).0 → AreOpsAt t (kids t y) (ops_of (block_term s (term_at o s j) x).1) → Same place x y
+    block_same : (place : Place) (j : ℕ) (x y : IRNode) → (b : Ptr BlockKind) × (x ≡ BasicBlock b) → HasRoom s x j → AllReadable s x → IsBlockHeadAt t y (block_term s (term_at o s j) x).0 → AreOpsAt t (children t y) (ops_of (block_term s (term_at o s j) x).1) → Same place x y
     block_same [] j x y is room all head ops =
         let b = is.0 in
         let m = block_matches b y (block_readable s b (subst (AllReadable s) is.1 all)) (subst (λ z. IsBlockHeadAt t y (block_term s (term_at o s j) z).0) is.1 head) in
@@ -255,6 +255,6 @@ module _ {D K A T E : Type 0} (o : op_set.Ghosts D K A T E) (s t : Store K A T) 
         let here = subst (AllReadable s) is.1 all in
         let enough = subst (λ z. HasRoom s z j) is.1 room in
         subst (λ z. Same (i ∷ rest) z y) (sym is.1)
-        (ops_each s t (λ c. node_at (kids s) c rest) (λ c. node_at (kids t) c rest) (term_at o s j) (kids s (BasicBlock b)) (kids t y) i (subst (λ z. AreOpsAt t (kids t y) (ops_of (block_term s (term_at o s j) z).1)) is.1 ops)
-        (λ z w m at. let q = kid_of_block s b z m in
-        subst (λ v. Same rest v w) (sym q.1) (op_same rest j q.0 w (subst (λ v. HasRoom s v j) q.1 (lower_room s st (BasicBlock b) z j m enough)) (subst (AllReadable s) q.1 (kid_readable s (BasicBlock b) z m here)) (subst (λ v. IsOpAt t w (term_at o s j v)) q.1 at))))
+        (ops_each s t (λ c. node_at (children s) c rest) (λ c. node_at (children t) c rest) (term_at o s j) (children s (BasicBlock b)) (children t y) i (subst (λ z. AreOpsAt t (children t y) (ops_of (block_term s (term_at o s j) z).1)) is.1 ops)
+        (λ z w m at. let q = child_of_block s b z m in
+        subst (λ v. Same rest v w) (sym q.1) (op_same rest j q.0 w (subst (λ v. HasRoom s v j) q.1 (lower_room s st (BasicBlock b) z j m enough)) (subst (AllReadable s) q.1 (child_readable s (BasicBlock b) z m here)) (subst (λ v. IsOpAt t w (term_at o s j v)) q.1 at))))

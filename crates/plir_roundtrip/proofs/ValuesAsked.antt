@@ -4,7 +4,7 @@ use Rattle.std.specs.Prelude.{slice_get}
 use Rattle.std.proofs.lemmas.Option.{slice_get-get_or, get_or_from_slice_get}
 use Rattle.plir_data.specs.TypeTree.{tree_of}
 use Rattle.plir_core.specs.declared.value.DefiningEntity.{DefiningEntity}
-use Rattle.plir_core.specs.Store.{Store, types_from}
+use Rattle.plir_core.specs.ContextView.{ContextView, types_from}
 use Rattle.plir_attr_text.specs.Writable.{IsBuiltin}
 use Rattle.plir_roundtrip.specs.Readable.{AreValuesReadable}
 use Rattle.plir_roundtrip.specs.ReadableParts.{IsValueReadable}
@@ -20,7 +20,7 @@ below_next (suc j) (suc n) lt = elim (below_next j n (omega (arith, lt))) [ inl 
 pub one_more : (P : ℕ → Type 0) (n : ℕ) → ((j : ℕ) → j < n → P j) → P n → (j : ℕ) → j < n + 1 → P j
 one_more P n h x j lt = elim (below_next j n lt) [ inl k ↦ h j k | inr e ↦ subst P (sym e) x ]
 
-module _ {K A T : Type 0} (s : Store K A T) (e : DefiningEntity) where
+module _ {K A T : Type 0} (s : ContextView K A T) (e : DefiningEntity) where
   pub values_from_each : (n : ℕ) → length (types_from s e) ≤ n → ((j : ℕ) → j < n → IsValueReadable s e j) → AreValuesReadable s e
   values_from_each n le h = record {
     types = λ k d lt. (h k (omega (arith, le, lt))).0 (get_or (types_from s e) k d) (slice_get-get_or (types_from s e) k d lt);

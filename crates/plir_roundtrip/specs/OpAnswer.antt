@@ -7,8 +7,8 @@ use Rattle.plir_core.specs.declared.ptr.Ptr.{Ptr}
 use Rattle.plir_core.specs.declared.ptr.Operation.{Operation as OperationKind}
 use Rattle.plir_core.specs.declared.ptr.IRNode.TheVariants.{Operation}
 use Rattle.plir_core.specs.Made.{IsMade}
-use Rattle.plir_core.specs.Store.{Store}
-use Rattle.plir_core.specs.Whole.{IsWhole}
+use Rattle.plir_core.specs.ContextView.{ContextView}
+use Rattle.plir_core.specs.WellFormed.{IsWellFormed}
 use Rattle.plir_attr_text.specs.Names.{Grows}
 use Rattle.plir_attr_text.specs.TypeGrammar.{IsText}
 use Rattle.plir_attr_text.specs.Wholes.{whole}
@@ -30,8 +30,8 @@ module _ {K A T : Type 0} where
   -- The answer to a text, read into the context `old`, which leaves the context `new`: an operation that the text
   -- stands for, made anew; or memory or room was wanting, or the fault that is met first, and then the text stands for
   -- no operation. What was there is as it was.
-  pub record IsOpRead (old : Store K A T) (text : List ℕ) (answer : Result (Ptr OperationKind) ReadErr)
-      (new : Store K A T) : Type 0 where
+  pub record IsOpRead (old : ContextView K A T) (text : List ℕ) (answer : Result (Ptr OperationKind) ReadErr)
+      (new : ContextView K A T) : Type 0 where
     pub found : IfOk answer (λ p. StandsForOp 200 new text (Operation p))
     pub made : IfOk answer (λ p. IsMade old.nodes new.nodes (Operation p))
     pub fault : IfErr answer (λ e. IsOfText e.fault → whole (op_at 200) text ≡ Err e.fault)
@@ -39,7 +39,7 @@ module _ {K A T : Type 0} where
     pub kept : KeepsOlder old new
 
   -- the answer is the root of the same tree as p in s, or memory or room for a node was wanting
-  abbrev pub IsSameOrRefused : (s : Store K A T) → Ptr OperationKind → (new : Store K A T) →
+  abbrev pub IsSameOrRefused : (s : ContextView K A T) → Ptr OperationKind → (new : ContextView K A T) →
       Result (Ptr OperationKind) ReadErr → Type 0
   IsSameOrRefused s p new answer =
       MatchResult answer (λ q. IsSameTree s new (Operation p) (Operation q))
@@ -51,7 +51,7 @@ module _ {K A T : Type 0} where
 abbrev pub IsReadBack : {D K A T E : Type 0} → (o : op_set.Ghosts D K A T E) → (text : List ℕ) →
     Result (Ptr OperationKind) ReadErr → Type 0
 IsReadBack o text answer =
-    (printed old new : Store _ _ _) (p : Ptr OperationKind) → IsWhole o.attr_handles printed →
+    (printed old new : ContextView _ _ _) (p : Ptr OperationKind) → IsWellFormed o.attr_handles printed →
     IsTypeTable o.type_handles new.types → IsReadable o printed p
     → text ≡ op_text o printed p → Grows printed.types old.types → IsOpRead old text answer new →
     IsSameOrRefused printed p new answer
@@ -59,11 +59,12 @@ IsReadBack o text answer =
 -- the text of each operation that can be read back stands for it, as it is written
 abbrev pub TextsStand : {D K A T E : Type 0} → op_set.Ghosts D K A T E → Type 0
 TextsStand o =
-    (s : Store _ _ _) (p : Ptr OperationKind) → IsWhole o.attr_handles s → IsReadable o s p →
+    (s : ContextView _ _ _) (p : Ptr OperationKind) → IsWellFormed o.attr_handles s → IsReadable o s p →
     IsText (OpWithin 200) (op_text o s p) (op_term_of o s p)
 
 -- each new module whose name is an identifier can be read back
 abbrev pub NewModulesReadable : {D K A T E : Type 0} → op_set.Ghosts D K A T E → Type 0
 NewModulesReadable o =
-    (s : Store _ _ _) (p : Ptr OperationKind) (name : List ℕ) → IsWhole o.attr_handles s → is_identifier name ≡ true →
+    (s : ContextView _ _ _) (p : Ptr OperationKind) (name : List ℕ) → IsWellFormed o.attr_handles s
+    → is_identifier name ≡ true →
     IsNewModule s p name → IsReadable o s p

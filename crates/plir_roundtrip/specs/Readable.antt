@@ -8,6 +8,7 @@ use Rattle.plir_data.specs.Types.{TypeView}
 use Rattle.plir_data.specs.declared.op_set.OpKind.{OpKind}
 use Rattle.plir_data.specs.declared.op_set.OpKind.TheVariants.{Module, Func, Constant}
 use Rattle.plir_data.specs.declared.op_set.OpSet as op_set
+use Rattle.plir_data.specs.Keys.{names_key, value_key}
 use Rattle.plir_core.specs.declared.ptr.Ptr.{Ptr}
 use Rattle.plir_core.specs.declared.ptr.Operation.{Operation as OperationKind}
 use Rattle.plir_core.specs.declared.ptr.BasicBlock.{BasicBlock as BlockKind}
@@ -15,12 +16,13 @@ use Rattle.plir_core.specs.declared.ptr.IRNode.{IRNode}
 use Rattle.plir_core.specs.declared.ptr.IRNode.TheVariants.{Operation, BasicBlock}
 use Rattle.plir_core.specs.declared.value.DefiningEntity.{DefiningEntity}
 use Rattle.plir_core.specs.declared.value.DefiningEntity.TheVariants.{Op, Block}
-use Rattle.plir_core.specs.Store.{Store, kids, kind_of, operands_of, successors_of, result_types_of, attributes_of}
-use Rattle.plir_core.specs.Store.{label_of, block_attributes_of, types_from}
+use Rattle.plir_core.specs.ContextView.{ContextView, children, kind_of, operands_of, successors_of, result_types_of}
+use Rattle.plir_core.specs.ContextView.{attributes_of}
+use Rattle.plir_core.specs.ContextView.{label_of, block_attributes_of, types_from}
 use Rattle.plir_attr_text.specs.Writable.{IsBuiltin, IsWritable, IsNameOrMark}
-use Rattle.plir_walk.specs.GivenNames.{names_key, names_at, name_at}
+use Rattle.plir_walk.specs.GivenNames.{names_at, name_at}
 use Rattle.plir_walk.specs.Tree.{IsUnder}
-use Rattle.plir_builtin.specs.BuiltinOps.{value_key, value_of}
+use Rattle.plir_builtin.specs.BuiltinOps.{value_of}
 use Rattle.plir_print.specs.HeaderAttrs.{HasHeader}
 use Rattle.plir_read.specs.OpTerms.{op_levels}
 use Rattle.plir_roundtrip.specs.Written.{op_term_of}
@@ -35,7 +37,7 @@ IsEntryReadable types key x = IsWritable types x
 abbrev pub HoldsOnly : {A : Type 0} → (keys : List (List ℕ)) → List (List ℕ × AttrView A) → Type 0
 HoldsOnly keys es = (k : List ℕ) → list_any (λ l. is_key k l) keys ≡ false → dict_get es k ≡ None
 
-module _ {K A T : Type 0} (s : Store K A T) where
+module _ {K A T : Type 0} (s : ContextView K A T) where
   -- the results of an operation, or the arguments of a block, have builtin types, and names that are identifiers, if
   -- any
   pub record AreValuesReadable (e : DefiningEntity) : Type 0 where
@@ -46,13 +48,13 @@ module _ {K A T : Type 0} (s : Store K A T) where
   pub record IsBodyReadable (p : Ptr OperationKind) : Type 0 where
     pub results : result_types_of s p ≡ []
     pub region : IRNode
-    pub body : kids s (Operation p) ≡ region ∷ []
+    pub body : children s (Operation p) ≡ region ∷ []
     pub dictionary : IsDictionary (attributes_of s p)
     pub entries : All (λ e. IsEntryReadable s.types e.0 e.1) (attributes_of s p)
 
   -- A constant: it has no region, and holds a value that can be written and the name of its result.
   pub record IsConstantReadable (p : Ptr OperationKind) : Type 0 where
-    pub regions : kids s (Operation p) ≡ []
+    pub regions : children s (Operation p) ≡ []
     pub value : (x : AttrView A) → value_of s p ≡ Some x → IsWritable s.types x
     pub only : HoldsOnly (value_key ∷ names_key ∷ []) (attributes_of s p)
 
@@ -78,8 +80,9 @@ module _ {K A T : Type 0} (s : Store K A T) where
 
 -- An operation that can be read back from its text: so can each operation and each block at or under it, and as it is
 -- written it has at most 200 levels.
-pub record IsReadable {D K A T E : Type 0} (o : op_set.Ghosts D K A T E) (s : Store K A T) (p : Ptr OperationKind) :
+pub record IsReadable {D K A T E : Type 0} (o : op_set.Ghosts D K A T E) (s : ContextView K A T)
+    (p : Ptr OperationKind) :
     Type 0 where
-  pub ops : (q : Ptr OperationKind) → IsUnder (kids s) (Operation p) (Operation q) → IsOpReadable s q
-  pub blocks : (b : Ptr BlockKind) → IsUnder (kids s) (Operation p) (BasicBlock b) → IsBlockReadable s b
+  pub ops : (q : Ptr OperationKind) → IsUnder (children s) (Operation p) (Operation q) → IsOpReadable s q
+  pub blocks : (b : Ptr BlockKind) → IsUnder (children s) (Operation p) (BasicBlock b) → IsBlockReadable s b
   pub levels : op_levels (op_term_of o s p) ≤ 200

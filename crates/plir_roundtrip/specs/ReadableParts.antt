@@ -4,19 +4,20 @@ use Rattle.std.specs.declared.ops.ControlFlow.{ControlFlow}
 use Rattle.std.specs.declared.ops.ControlFlow.TheVariants.{Continue, Break}
 use Rattle.plir_data.specs.AttrView.{AttrView}
 use Rattle.plir_data.specs.TypeTree.{tree_of}
+use Rattle.plir_data.specs.Keys.{names_key, value_key}
 use Rattle.plir_core.specs.declared.ptr.Ptr.{Ptr}
 use Rattle.plir_core.specs.declared.ptr.Operation.{Operation as OperationKind}
 use Rattle.plir_core.specs.declared.ptr.BasicBlock.{BasicBlock as BlockKind}
 use Rattle.plir_core.specs.declared.ptr.IRNode.{IRNode}
 use Rattle.plir_core.specs.declared.ptr.IRNode.TheVariants.{Operation, Region, BasicBlock}
 use Rattle.plir_core.specs.declared.value.DefiningEntity.{DefiningEntity}
-use Rattle.plir_core.specs.Store.{Store, kids, types_from}
+use Rattle.plir_core.specs.ContextView.{ContextView, children, types_from}
 use Rattle.plir_attr_text.specs.Writable.{IsBuiltin, IsNameOrMark, IsWritable}
-use Rattle.plir_walk.specs.GivenNames.{names_key, names_at, name_at}
+use Rattle.plir_walk.specs.GivenNames.{names_at, name_at}
 use Rattle.plir_walk.specs.Tree.{IsUnder}
 use Rattle.plir_walk.specs.declared.interruptible.WalkContinue.{WalkContinue}
 use Rattle.plir_walk.specs.declared.interruptible.WalkContinue.TheVariants.{Advance}
-use Rattle.plir_builtin.specs.BuiltinOps.{value_key, value_of}
+use Rattle.plir_builtin.specs.BuiltinOps.{value_of}
 use Rattle.plir_roundtrip.specs.Readable.{IsOpReadable, IsBlockReadable}
 
 -- the keys of what an operation or a block may hold: that of names, and of a constant that of its value too
@@ -24,7 +25,7 @@ abbrev pub keys_with : (has_value : Bool) → List (List ℕ)
 keys_with true = value_key ∷ names_key ∷ []
 keys_with false = names_key ∷ []
 
-module _ {K A T : Type 0} (s : Store K A T) where
+module _ {K A T : Type 0} (s : ContextView K A T) where
   -- the result or argument at a place has a builtin type, and a name that is an identifier, if any
   abbrev pub IsValueReadable : DefiningEntity → (i : ℕ) → Type 0
   IsValueReadable e i = ((h : ℕ) → slice_get (types_from s e) i ≡ Some h → IsBuiltin (tree_of s.types h)) ×
@@ -42,8 +43,8 @@ module _ {K A T : Type 0} (s : Store K A T) where
 
   -- each operation and each block at or under a node can be read
   pub record AllReadable (x : IRNode) : Type 0 where
-    pub ops : (q : Ptr OperationKind) → IsUnder (kids s) x (Operation q) → IsOpReadable s q
-    pub blocks : (b : Ptr BlockKind) → IsUnder (kids s) x (BasicBlock b) → IsBlockReadable s b
+    pub ops : (q : Ptr OperationKind) → IsUnder (children s) x (Operation q) → IsOpReadable s q
+    pub blocks : (b : Ptr BlockKind) → IsUnder (children s) x (BasicBlock b) → IsBlockReadable s b
 
   -- a walk that looks for a node that cannot be read goes on at one that can, and breaks off at one that cannot
   abbrev pub IsAnswerAt : IRNode → ControlFlow (Unit {0}) WalkContinue → Type 0

@@ -2,6 +2,7 @@
 use Rattle.std.specs.Prelude.{◌≡◌, ℕ, ◌<◌, List, [], false, length, Option, Some, None}
 use Rattle.plir_data.specs.AttrView.{AttrView}
 use Rattle.plir_data.specs.Dictionary.{dict_get, is_key}
+use Rattle.plir_data.specs.Keys.{names_key}
 use Rattle.plir_core.specs.declared.ptr.Ptr.{Ptr}
 use Rattle.plir_core.specs.declared.ptr.Operation.{Operation as OperationKind}
 use Rattle.plir_core.specs.declared.ptr.BasicBlock.{BasicBlock as BlockKind}
@@ -9,8 +10,9 @@ use Rattle.plir_core.specs.declared.ptr.IRNode.{IRNode}
 use Rattle.plir_core.specs.declared.ptr.IRNode.TheVariants.{Operation, Region, BasicBlock}
 use Rattle.plir_core.specs.declared.value.DefiningEntity.{DefiningEntity}
 use Rattle.plir_core.specs.declared.value.DefiningEntity.TheVariants.{Op, Block}
-use Rattle.plir_core.specs.Store.{Store, kids, kind_of, operands_of, successors_of, label_of, types_from}
-use Rattle.plir_walk.specs.GivenNames.{names_key, names_at, name_at, attributes_at}
+use Rattle.plir_core.specs.ContextView.{ContextView, children, kind_of, operands_of, successors_of, label_of}
+use Rattle.plir_core.specs.ContextView.{types_from}
+use Rattle.plir_walk.specs.GivenNames.{names_at, name_at, attributes_at}
 use Rattle.plir_walk.specs.Tree.{Place, node_at}
 
 -- the same stands under each key but that of names
@@ -18,7 +20,7 @@ abbrev pub HoldSame : {A : Type 0} → List (List ℕ × AttrView A) → List (L
 HoldSame es fs = (k : List ℕ) → is_key k names_key ≡ false → dict_get es k ≡ dict_get fs k
 
 -- The contexts s and t: of t the table of types has grown from that of s, so a handle of s names the same type in both.
-module _ {K A T : Type 0} (s t : Store K A T) where
+module _ {K A T : Type 0} (s t : ContextView K A T) where
   -- Results or arguments have the same types and given names, and what they come from has the same attributes.
   pub record AreSameFrom (e f : DefiningEntity) : Type 0 where
     pub types : types_from s e ≡ types_from t f
@@ -59,4 +61,4 @@ module _ {K A T : Type 0} (s t : Store K A T) where
   -- The tree under x in s is that under y in t, but for slots, versions and locations: at each place under the two
   -- stands the same node, or none in both.
   abbrev pub IsSameTree : IRNode → IRNode → Type 0
-  IsSameTree x y = (place : Place) → IsSameOrNone (node_at (kids s) x place) (node_at (kids t) y place)
+  IsSameTree x y = (place : Place) → IsSameOrNone (node_at (children s) x place) (node_at (children t) y place)

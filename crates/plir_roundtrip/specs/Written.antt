@@ -13,7 +13,7 @@ use Rattle.plir_core.specs.declared.ptr.BasicBlock.{BasicBlock as BlockKind}
 use Rattle.plir_core.specs.declared.ptr.IRNode.{IRNode}
 use Rattle.plir_core.specs.declared.ptr.IRNode.TheVariants.{Operation, Region, BasicBlock}
 use Rattle.plir_core.specs.declared.value.Value.{Value}
-use Rattle.plir_core.specs.Store.{Store, kids, kind_of, op_at, result_types_of, type_of_value}
+use Rattle.plir_core.specs.ContextView.{ContextView, children, kind_of, op_at, result_types_of, type_of_value}
 use Rattle.plir_attr_text.specs.Terms.{TypeTerm, unit_type, AttrTerm, unit, EntryTerms, no_entries}
 use Rattle.plir_attr_text.specs.Writable.{type_term, attr_term, entry_terms}
 use Rattle.plir_builtin.specs.BuiltinOps.{func_type_of, value_of}
@@ -42,7 +42,7 @@ module _ {T : Type 0} (types : List (TypeView T)) where
   some_attr_term (Some x) = attr_term types x
   some_attr_term None = unit
 
-module _ {K A T : Type 0} (s : Store K A T) where
+module _ {K A T : Type 0} (s : ContextView K A T) where
   -- an argument of a block: its name and its type
   abbrev pub argument_term : Value → Argument
   argument_term v = (value_name s v, some_type_term s.types (type_of_value s v))
@@ -67,15 +67,15 @@ module _ {K A T : Type 0} (s : Store K A T) where
 
   -- a block, where `write` gives its operations
   abbrev pub block_term : (write : IRNode → OpTerm) → IRNode → BlockTerm
-  block_term write (BasicBlock b) = (block_head_term b, map write (kids s (BasicBlock b)))
+  block_term write (BasicBlock b) = (block_head_term b, map write (children s (BasicBlock b)))
   block_term write (Operation p) = no_block
   block_term write (Region r) = no_block
 
   -- the blocks of all regions of an operation
   abbrev pub blocks_under : Ptr OperationKind → List IRNode
-  blocks_under p = flat_map (kids s) (kids s (Operation p))
+  blocks_under p = flat_map (children s) (children s (Operation p))
 
-module _ {D K A T E : Type 0} (o : op_set.Ghosts D K A T E) (s : Store K A T) where
+module _ {D K A T E : Type 0} (o : op_set.Ghosts D K A T E) (s : ContextView K A T) where
   -- the entries of the dictionary that is shown
   abbrev pub dictionary_term : Ptr OperationKind → EntryTerms
   dictionary_term p = entry_terms s.types (entries_of (shown o s p))

@@ -10,7 +10,7 @@ use Rattle.plir_core.specs.declared.ptr.BasicBlock.{BasicBlock as BlockKind}
 use Rattle.plir_core.specs.declared.ptr.IRNode.{IRNode}
 use Rattle.plir_core.specs.declared.ptr.IRNode.TheVariants.{BasicBlock}
 use Rattle.plir_core.specs.declared.value.Value.{Value}
-use Rattle.plir_core.specs.Store.{Store, kids, kind_of, result_types_of}
+use Rattle.plir_core.specs.ContextView.{ContextView, children, kind_of, result_types_of}
 use Rattle.plir_attr_text.specs.Terms.{type_levels, levels, entries_levels}
 use Rattle.plir_attr_text.specs.Writable.{attr_term, entry_terms}
 use Rattle.plir_print.specs.Dictionaries.{is_shown, shown_of}
@@ -21,11 +21,11 @@ use Rattle.plir_read.specs.OpTerms.{ops_levels}
 use Rattle.plir_roundtrip.specs.Written.{some_type_term, argument_term, block_term, blocks_under, header_term, term_at}
 
 -- of the types of arguments
-abbrev pub typed_levels : {K A T : Type 0} → Store K A T → List Value → ℕ
+abbrev pub typed_levels : {K A T : Type 0} → ContextView K A T → List Value → ℕ
 typed_levels s vs = arguments_levels (map (argument_term s) vs)
 
 -- of the type of the first result
-abbrev pub result_levels : {K A T : Type 0} → Store K A T → Ptr OperationKind → ℕ
+abbrev pub result_levels : {K A T : Type 0} → ContextView K A T → Ptr OperationKind → ℕ
 result_levels s p = type_levels (some_type_term s.types (slice_get (result_types_of s p) 0))
 
 module _ {D K A T E : Type 0} (o : op_set.Ghosts D K A T E) where
@@ -37,7 +37,7 @@ module _ {D K A T E : Type 0} (o : op_set.Ghosts D K A T E) where
   abbrev pub shown_levels : List (TypeView T) → Option (OpKind K) → List (List ℕ × AttrView A) → ℕ
   shown_levels types kind es = entries_levels (entry_terms types (entries_of (shown_of o kind es)))
 
-  module _ (s : Store K A T) where
+  module _ (s : ContextView K A T) where
     -- the operation at a node with all below it
     abbrev pub node_term : IRNode → OpTerm
     node_term x = term_at o s (room s x) x
@@ -51,7 +51,7 @@ module _ {D K A T E : Type 0} (o : op_set.Ghosts D K A T E) where
 
     -- of a block with all below it, and of an operation with one region
     abbrev pub nested_block : Ptr BlockKind → ℕ
-    nested_block b = max (typed_levels s (arguments_of s b)) (nested_ops (kids s (BasicBlock b)))
+    nested_block b = max (typed_levels s (arguments_of s b)) (nested_ops (children s (BasicBlock b)))
 
     abbrev pub body_levels : Ptr OperationKind → ℕ
     body_levels p = max (header_levels (header_term o s (kind_of s p) p)) (nested_blocks (blocks_under s p))

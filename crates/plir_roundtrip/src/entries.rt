@@ -5,7 +5,7 @@ ghost use Rattle.plir_data.specs.AttrLive.{IsAttrLive, HandlesLive};
 ghost use Rattle.plir_data.specs.AttrSeen.{attr_view};
 ghost use Rattle.plir_data.specs.Dictionary.{IsDictionary, is_key};
 ghost use Rattle.plir_core.specs.declared.ptr.IRNode.{IRNode as AnyNode};
-ghost use Rattle.plir_core.specs.Store.{IsLive};
+ghost use Rattle.plir_core.specs.ContextView.{IsLive};
 ghost use Rattle.plir_builtin.specs.BuiltinOps.{value_of};
 ghost use Rattle.plir_roundtrip.specs.Readable.{HoldsOnly, IsEntryReadable};
 ghost use Rattle.plir_roundtrip.specs.ReadableParts.{keys_with};

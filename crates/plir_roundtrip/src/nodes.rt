@@ -1,7 +1,7 @@
 //! Whether an operation or a block can be read, whatever stands below it.
 ghost use Rattle.std.specs.Prelude.{◌↔◌, IsTrue};
 ghost use Rattle.plir_core.specs.declared.ptr.IRNode.{IRNode as AnyNode};
-ghost use Rattle.plir_core.specs.Store.{IsLive, kind_of};
+ghost use Rattle.plir_core.specs.ContextView.{IsLive, kind_of};
 ghost use Rattle.plir_roundtrip.specs.Readable.{IsBodyReadable, IsConstantReadable, IsKindReadable};
 ghost use Rattle.plir_roundtrip.specs.Readable.{IsOpReadable, IsBlockReadable};
 ghost use Rattle.plir_roundtrip.specs.ReadableParts.{IsNodeReadable, IsValueWritable};

@@ -2,15 +2,15 @@
 //! left.
 ghost use Rattle.std.specs.Prelude.{◌≡◌, ◌↔◌, ◌<◌, ◌≤◌, IsTrue, length};
 ghost use Rattle.plir_core.specs.declared.ptr.IRNode.{IRNode as AnyNode};
-ghost use Rattle.plir_core.specs.Store.{IsLive, kids};
+ghost use Rattle.plir_core.specs.ContextView.{IsLive, children};
 ghost use Rattle.plir_read.specs.OpTerms.{op_levels};
 ghost use Rattle.plir_roundtrip.specs.ReadableParts.{AllReadable};
 ghost use Rattle.plir_roundtrip.specs.Written.{op_term_of};
 ghost use Rattle.plir_roundtrip.specs.WrittenLevels.{body_levels, nested_block, nested_blocks, nested_ops};
 
-use crate::below::readable_kid;
+use crate::below::readable_child;
 use crate::part_levels::{are_arguments_below, is_constant_within, is_header_below};
-use plir_core::laws::first_kid_is_front;
+use plir_core::laws::first_child_is_front;
 use plir_core::{BasicBlock, Context, IRNode, Operation, Ptr, Region};
 use plir_data::{OpKind, OpSet};
 
@@ -36,12 +36,12 @@ pub(crate) fn is_op_within<D: OpSet>(ctx: &Context<D>, op: Ptr<Operation>, left:
 fn is_body_within<D: OpSet>(ctx: &Context<D>, op: Ptr<Operation>, left: usize) -> bool
     requires live { IsLive ctx.now (AnyNode.Operation op) }
     requires readable { AllReadable ctx.now (AnyNode.Operation op) }
-    requires one { length (kids ctx.now (AnyNode.Operation op)) ≡ 1 }
+    requires one { length (children ctx.now (AnyNode.Operation op)) ≡ 1 }
     requires some { 0 < left }
     ensures { IsTrue result ↔ (body_levels D.OpSet ctx.now op < left) }
 {
     let region = op.get_region(ctx, 0);
-    readable_kid(ctx, IRNode::Operation(op), IRNode::Region(region), 0);
+    readable_child(ctx, IRNode::Operation(op), IRNode::Region(region), 0);
     is_header_below(ctx, op, left) && are_blocks_below(ctx, region, left)
 }
 
@@ -51,13 +51,13 @@ fn are_blocks_below<D: OpSet>(ctx: &Context<D>, region: Ptr<Region>, left: usize
     requires live { IsLive ctx.now (AnyNode.Region region) }
     requires readable { AllReadable ctx.now (AnyNode.Region region) }
     requires some { 0 < left }
-    ensures { IsTrue result ↔ (nested_blocks D.OpSet ctx.now (kids ctx.now (AnyNode.Region region)) < left) }
+    ensures { IsTrue result ↔ (nested_blocks D.OpSet ctx.now (children ctx.now (AnyNode.Region region)) < left) }
 {
-    first_kid_is_front(ctx, IRNode::Region(region));
+    first_child_is_front(ctx, IRNode::Region(region));
     let mut place: usize = 0;
     let mut next = region.get_head(ctx);
     'inner: while let Some(block) = next {
-        readable_kid(
+        readable_child(
             ctx,
             IRNode::Region(region),
             IRNode::BasicBlock(block),
@@ -90,13 +90,13 @@ fn are_ops_below<D: OpSet>(ctx: &Context<D>, block: Ptr<BasicBlock>, left: usize
     requires live { IsLive ctx.now (AnyNode.BasicBlock block) }
     requires readable { AllReadable ctx.now (AnyNode.BasicBlock block) }
     requires some { 0 < left }
-    ensures { IsTrue result ↔ (nested_ops D.OpSet ctx.now (kids ctx.now (AnyNode.BasicBlock block)) < left) }
+    ensures { IsTrue result ↔ (nested_ops D.OpSet ctx.now (children ctx.now (AnyNode.BasicBlock block)) < left) }
 {
-    first_kid_is_front(ctx, IRNode::BasicBlock(block));
+    first_child_is_front(ctx, IRNode::BasicBlock(block));
     let mut place: usize = 0;
     let mut next = block.get_head(ctx);
     'ops: while let Some(op) = next {
-        readable_kid(ctx, IRNode::BasicBlock(block), IRNode::Operation(op), place);
+        readable_child(ctx, IRNode::BasicBlock(block), IRNode::Operation(op), place);
         if !is_op_within(ctx, op, left - 1) {
             return false;
         }

@@ -6,7 +6,7 @@ ghost use Rattle.plir_data.specs.AttrSeen.{attr_view};
 ghost use Rattle.plir_data.specs.TypeTree.{tree_of};
 ghost use Rattle.plir_data.specs.Types.{IsLive as IsTypeLive};
 ghost use Rattle.plir_core.specs.declared.ptr.IRNode.{IRNode as AnyNode};
-ghost use Rattle.plir_core.specs.Store.{IsLive, kind_of};
+ghost use Rattle.plir_core.specs.ContextView.{IsLive, kind_of};
 ghost use Rattle.plir_attr_text.specs.Terms.{entries_levels, levels, type_levels};
 ghost use Rattle.plir_attr_text.specs.Writable.{type_term};
 ghost use Rattle.plir_builtin.specs.BuiltinOps.{func_type_of, value_of};

@@ -1,8 +1,8 @@
 //! Whether an operation can be read back from its text.
 ghost use Rattle.std.specs.Prelude.{◌↔◌, IsTrue};
 ghost use Rattle.plir_core.specs.declared.ptr.IRNode.{IRNode as AnyNode};
-ghost use Rattle.plir_core.specs.Store.{IsLive};
-ghost use Rattle.plir_core.specs.Whole.{IsWhole};
+ghost use Rattle.plir_core.specs.ContextView.{IsLive};
+ghost use Rattle.plir_core.specs.WellFormed.{IsWellFormed};
 ghost use Rattle.plir_roundtrip.specs.Readable.{IsReadable};
 ghost use Rattle.plir_roundtrip.specs.ReadableParts.{AllReadable, IsAnswerAt};
 
@@ -54,7 +54,7 @@ fn are_all_readable<D: OpSet>(ctx: &Context<D>, op: Ptr<Operation>) -> bool
 pub fn is_readable<D: OpSet>(ctx: &Context<D>, op: Ptr<Operation>) -> bool
     requires { IsLive ctx.now (AnyNode.Operation op) }
     ensures value { IsTrue result ↔ IsReadable D.OpSet ctx.now op }
-    ensures whole { IsWhole D.attr_handles ctx.now }
+    ensures whole { IsWellFormed D.attr_handles ctx.now }
 {
     ctx.stands();
     if !are_all_readable(ctx, op) {

@@ -2,7 +2,7 @@
 ghost use Rattle.std.specs.Prelude.{◌≡◌, ◌↔◌, ◌<◌, IsTrue, Some, length, option_map, slice_get};
 ghost use Rattle.plir_data.specs.TypeTree.{tree_of};
 ghost use Rattle.plir_data.specs.Types.{IsLive as IsTypeLive};
-ghost use Rattle.plir_core.specs.Store.{IsLive, entity_node, types_from};
+ghost use Rattle.plir_core.specs.ContextView.{IsLive, entity_node, types_from};
 ghost use Rattle.plir_attr_text.specs.Writable.{IsBuiltin, IsNameOrMark};
 ghost use Rattle.plir_walk.specs.GivenNames.{names_at, name_at};
 ghost use Rattle.plir_roundtrip.specs.Readable.{AreValuesReadable};

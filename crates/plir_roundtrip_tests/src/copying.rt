@@ -1,7 +1,7 @@
 //! A caller of the law: what the law says of a printed operation that is read is what this call promises.
 ghost use Rattle.std.specs.Prelude.{IfOk};
 ghost use Rattle.plir_core.specs.declared.ptr.IRNode.{IRNode as AnyNode};
-ghost use Rattle.plir_core.specs.Store.{IsLive};
+ghost use Rattle.plir_core.specs.ContextView.{IsLive};
 ghost use Rattle.plir_attr_text.specs.Names.{Grows};
 ghost use Rattle.plir_builtin.specs.BuiltinOps.{IsNewModule};
 ghost use Rattle.plir_roundtrip.specs.Readable.{IsReadable};

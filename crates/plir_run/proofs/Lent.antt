@@ -8,8 +8,8 @@ use Rattle.plir_core.specs.declared.ptr.IRNode.{IRNode as AnyNode}
 use Rattle.plir_core.specs.Changes.{SameLive}
 use Rattle.plir_core.specs.Made.{IsMade}
 use Rattle.plir_core.specs.Nodes.{was_given_out}
-use Rattle.plir_core.specs.Store.{Store, given_out}
-use Rattle.plir_core.specs.Whole.{IsWhole}
+use Rattle.plir_core.specs.ContextView.{ContextView, given_out}
+use Rattle.plir_core.specs.WellFormed.{IsWellFormed}
 use Rattle.plir_builtin.specs.declared.symbol_table_err.SymbolTableErr.{SymbolTableErr}
 use Rattle.plir_builtin.specs.Table.{Table, Tables}
 use Rattle.plir_builtin.specs.Agree.{AgreesAsLent, AreGivenOut, AllAgree, KeepsAllAgree, KeepsGivenOut}
@@ -17,9 +17,9 @@ use Rattle.plir_builtin.specs.Lasting.{LastsOverNodes, LastsOverRefusals, LastsO
 use Rattle.plir_run.specs.Agreement.{TablesAgree}
 
 -- The table `tab` is lent for p out of the tables c.
-module _ {D K A T E : Type 0} (o : op_set.Ghosts D K A T E) (s : Store K A T) (c : Tables) (p : Ptr OperationKind) (tab : Table) (lent : AgreesAsLent o.is_symbol o.is_symbol_table s c p tab) where
+module _ {D K A T E : Type 0} (o : op_set.Ghosts D K A T E) (s : ContextView K A T) (c : Tables) (p : Ptr OperationKind) (tab : Table) (lent : AgreesAsLent o.is_symbol o.is_symbol_table s c p tab) where
   -- once an edit took it to u, and the context from s to t, or was refused, all tables agree
-  pub agree-after : AreGivenOut s (insert c p tab) → (r : Result (Unit {0}) SymbolTableErr) (t : Store K A T) (u : Table) (n : Tables) → n ≡ insert c p u
+  pub agree-after : AreGivenOut s (insert c p tab) → (r : Result (Unit {0}) SymbolTableErr) (t : ContextView K A T) (u : Table) (n : Tables) → n ≡ insert c p u
       → OnOk r (KeepsAllAgree o.is_symbol o.is_symbol_table s tab t u) → OnOk r (KeepsGivenOut s tab t u) → OnErr r ((t ≡ s) × (u ≡ tab)) → TablesAgree o t n
   agree-after given (Ok v) t u n put agree keeps same = subst (TablesAgree o t) (sym put) (record {
     agree = subst (λ q. AllAgree o.is_symbol o.is_symbol_table t (insert c q u)) lent.0 (agree c (subst (λ q. AllAgree o.is_symbol o.is_symbol_table s (insert c q tab)) (sym lent.0) lent.2));
@@ -31,13 +31,13 @@ module _ {D K A T E : Type 0} (o : op_set.Ghosts D K A T E) (s : Store K A T) (c
       (subst (λ w. TablesAgree o s (insert c p w)) (sym same.1) (record { agree = lent.2; given = given })))
 
 -- Tables that agree with s.
-module _ {D K A T E : Type 0} (o : op_set.Ghosts D K A T E) (s : Store K A T) (c : Tables) (agrees : TablesAgree o s c) where
+module _ {D K A T E : Type 0} (o : op_set.Ghosts D K A T E) (s : ContextView K A T) (c : Tables) (agrees : TablesAgree o s c) where
   -- so are those that are as they were
   pub agree-still : (n : Tables) → n ≡ c → TablesAgree o s n
   agree-still n e = subst (TablesAgree o s) (sym e) agrees
 
   -- they agree with t, where what was given out stays so: once a tree of new nodes was made, once none was, and once a type was made
-  module _ (whole : IsWhole o.attr_handles s) (t : Store K A T) (stays : StaysGivenOut t) where
+  module _ (whole : IsWellFormed o.attr_handles s) (t : ContextView K A T) (stays : StaysGivenOut t) where
     pub agree-made : LastsOverNodes o.is_symbol o.is_symbol_table o.attr_handles t → (n : AnyNode) → IsMade s.nodes t.nodes n → ((m : AnyNode) → given_out s m ≡ true → given_out t m ≡ true) → TablesAgree o t c
     agree-made lasts n made given = record { agree = lasts s n c whole made agrees.given agrees.agree; given = stays s c given agrees.given }
 

@@ -1,6 +1,6 @@
 //! The names of a script's operations.
 ghost use Rattle.std.specs.Prelude.{IfSome};
-ghost use Rattle.plir_core.specs.Store.{IsLive};
+ghost use Rattle.plir_core.specs.ContextView.{IsLive};
 
 use plir_builtin::ATTR_KEY_SYM_NAME;
 use plir_core::{Context, IRNode, Operation, Ptr};

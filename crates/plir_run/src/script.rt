@@ -1,6 +1,6 @@
 //! What a script has built so far, and what each command does to it.
 ghost use Rattle.std.specs.Prelude.{IfOk};
-ghost use Rattle.plir_core.specs.Store.{IsLive};
+ghost use Rattle.plir_core.specs.ContextView.{IsLive};
 ghost use Rattle.plir_core.specs.declared.ptr.IRNode.{IRNode as AnyNode};
 ghost use Rattle.plir_run.specs.Agreement.{TablesAgree};
 

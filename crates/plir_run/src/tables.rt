@@ -1,6 +1,6 @@
 //! How the operations of a script come into the tables of modules and out of them.
 ghost use Rattle.std.specs.Prelude.{IsTrue};
-ghost use Rattle.plir_core.specs.Store.{IsLive, IsAncestor};
+ghost use Rattle.plir_core.specs.ContextView.{IsLive, IsAncestor};
 ghost use Rattle.plir_core.specs.Unused.{IsUnusedOutside};
 ghost use Rattle.plir_core.specs.declared.ptr.IRNode.{IRNode as AnyNode};
 ghost use Rattle.plir_run.specs.Agreement.{TablesAgree};

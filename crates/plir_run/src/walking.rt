@@ -1,6 +1,6 @@
 //! How a walk is printed.
 ghost use Rattle.std.specs.Prelude.{◌≡◌, true, length};
-ghost use Rattle.plir_core.specs.Store.{IsLive, kids};
+ghost use Rattle.plir_core.specs.ContextView.{IsLive, children};
 ghost use Rattle.plir_builtin.specs.Handed.{is_table_at};
 
 use crate::naming::{name_of, owner_of};

@@ -1,7 +1,7 @@
 //! The calls that ask.
 ghost use Rattle.std.specs.Prelude.{IfOk};
 ghost use Rattle.plir_core.specs.InsertionPoint.{IsPointLive};
-ghost use Rattle.plir_core.specs.Store.{IsLive};
+ghost use Rattle.plir_core.specs.ContextView.{IsLive};
 ghost use Rattle.plir_core.specs.declared.ptr.IRNode.{IRNode as AnyNode};
 
 use crate::answer::Answer;

@@ -1,5 +1,5 @@
 //! The commands that link nodes, unlink them and erase them.
-ghost use Rattle.plir_core.specs.Store.{IsLive};
+ghost use Rattle.plir_core.specs.ContextView.{IsLive};
 ghost use Rattle.plir_core.specs.declared.ptr.IRNode.{IRNode as AnyNode};
 
 use crate::line::Line;

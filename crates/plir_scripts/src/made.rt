@@ -1,7 +1,7 @@
 //! The nodes that a script has made, and their names.
 ghost use Rattle.std.specs.Prelude.{All, IfOk};
 ghost use Rattle.plir_data.specs.Types.{AllLive, IsLive as IsTypeLive};
-ghost use Rattle.plir_core.specs.Store.{IsLive, IsValueLive};
+ghost use Rattle.plir_core.specs.ContextView.{IsLive, IsValueLive};
 ghost use Rattle.plir_core.specs.declared.ptr.IRNode.{IRNode as AnyNode};
 
 use crate::answer::Answer;

@@ -6,7 +6,7 @@ use Rattle.std.proofs.lemmas.Option.{same_Some, none-some}
 use Rattle.plir_store.specs.Members.{Has, Distinct, head}
 use Rattle.plir_store.specs.declared.chains.Link.{Link}
 use Rattle.plir_store.specs.declared.chains.Ends.{Ends}
-use Rattle.plir_store.specs.Links.{no_link, no_ends, link_at, ends_at, after, before, put_first, put_last, put_next, put_prev, ends_in, links_in, ends_out, links_out, Joined, kids_from, kids_of, IsLinked}
+use Rattle.plir_store.specs.Links.{no_link, no_ends, link_at, ends_at, after, before, put_first, put_last, put_next, put_prev, ends_in, links_in, ends_out, links_out, Joined, children_from, children_of, IsLinked}
 use Rattle.plir_store.proofs.Members.{Distinct-insert, Distinct-remove, Distinct-mid}
 use Rattle.plir_store.specs.ListLaws.{length-le_from_Distinct}
 use Rattle.plir_store.proofs.Joined.{Joined-cut, back_is_in, walk_is, Joined-frame, Joined-insert, Joined-remove}
@@ -21,15 +21,15 @@ Has-past ks p x i = elim (cases_lt p (length ks)) [
 
 module _ (es : List Ends) (ls : List Link) (ks : List (List ℕ)) (k : IsLinked es ls ks) where
   -- the lists are what a walk finds
-  pub kids_of_is : kids_of es ls ≡ ks
-  kids_of_is =
-      same_lists (kids_of es ls) ks (length-map es (kids_from ls) ∙ sym k.as_many) (λ p d h.
-      let within : p < length es = omega (arith, length-map es (kids_from ls)) in
+  pub children_of_is : children_of es ls ≡ ks
+  children_of_is =
+      same_lists (children_of es ls) ks (length-map es (children_from ls) ∙ sym k.as_many) (λ p d h.
+      let within : p < length es = omega (arith, length-map es (children_from ls)) in
       let short : length (get_or ks p []) ≤ length ls =
       length-le_from_Distinct (get_or ks p []) (length ls) (k.apart p) (λ x i. within_from_parent ls x p (k.owned p x i)) in
-      let walked : kids_from ls (ends_at es p) ≡ get_or ks p [] =
+      let walked : children_from ls (ends_at es p) ≡ get_or ks p [] =
       walk_is (after es ls p) (before es ls p) (length ls) None (get_or ks p []) (k.joined p) short in
-      get_or-map (kids_from ls) es p no_ends d within ∙ walked ∙ get_or_default ks p [] d (omega (arith, k.as_many)))
+      get_or-map (children_from ls) es p no_ends d within ∙ walked ∙ get_or_default ks p [] d (omega (arith, k.as_many)))
 
   pub held_within : (p c : ℕ) → (link_at ls c).parent ≡ Some p → p < length es
   held_within p c e = let h : p < length ks = Has-past ks p c (k.held p c e) in omega (arith, k.as_many)

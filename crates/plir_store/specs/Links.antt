@@ -71,17 +71,17 @@ walk zero next a = []
 walk (suc n) next None = []
 walk (suc n) next (Some x) = x ∷ walk n next (next x)
 
-abbrev pub kids_from : List Link → Ends → List ℕ
-kids_from ls e = walk (length ls) (λ x. (link_at ls x).next) e.first
+abbrev pub children_from : List Link → Ends → List ℕ
+children_from ls e = walk (length ls) (λ x. (link_at ls x).next) e.first
 
-abbrev pub kids_of : List Ends → List Link → List (List ℕ)
-kids_of es ls = map (kids_from ls) es
+abbrev pub children_of : List Ends → List Link → List (List ℕ)
+children_of es ls = map (children_from ls) es
 
 abbrev pub parents_of : List Link → List (Option ℕ)
 parents_of ls = map (λ l. l.parent) ls
 
 abbrev pub lists_of : List Ends → List Link → Lists
-lists_of es ls = record { kids = kids_of es ls; parents = parents_of ls }
+lists_of es ls = record { children = children_of es ls; parents = parents_of ls }
 
 -- the links hold the lists ks
 pub record IsLinked (es : List Ends) (ls : List Link) (ks : List (List ℕ)) : Type 0 where

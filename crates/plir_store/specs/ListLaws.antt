@@ -8,7 +8,7 @@ use Rattle.std.proofs.lemmas.List.{get_or_past}
 use Rattle.std.proofs.lemmas.Map.Steps.{length-le_from_distinct_below}
 use Rattle.std.proofs.lemmas.Option.{none-some}
 use Rattle.plir_store.specs.Members.{Has, Distinct}
-use Rattle.plir_store.specs.Lists.{Lists, kids_at, parent_at}
+use Rattle.plir_store.specs.Lists.{Lists, children_at, parent_at}
 
 -- what has a parent, and what is a parent, is within
 pub within_from_parent_at : (s : Lists) (c p : ℕ) → parent_at s c ≡ Some p → c < length s.parents
@@ -17,10 +17,10 @@ within_from_parent_at s c p e = elim (cases_lt c (length s.parents)) [
   | inr h ↦ absurd (none-some p (sym (get_or_past s.parents c None h) ∙ e))
 ]
 
-pub within_from_kid : (s : Lists) (p c : ℕ) → Has (kids_at s p) c → p < length s.kids
-within_from_kid s p c i = elim (cases_lt p (length s.kids)) [
+pub within_from_child : (s : Lists) (p c : ℕ) → Has (children_at s p) c → p < length s.children
+within_from_child s p c i = elim (cases_lt p (length s.children)) [
   | inl h ↦ h
-  | inr h ↦ absurd (subst (λ xs. Has xs c) (get_or_past s.kids p [] h) i)
+  | inr h ↦ absurd (subst (λ xs. Has xs c) (get_or_past s.children p [] h) i)
 ]
 
 -- the default at the end of a list changes no read

@@ -5,12 +5,12 @@ use Rattle.plir_store.specs.Members.{Has, Distinct, head}
 
 -- The list of each parent, and the parent of each child, if it has one.
 pub record Lists : Type 0 where
-  pub kids : List (List ℕ)
+  pub children : List (List ℕ)
   pub parents : List (Option ℕ)
 
 -- the children of a parent
-abbrev pub kids_at : Lists → ℕ → List ℕ
-kids_at s p = slice_index_or s.kids p []
+abbrev pub children_at : Lists → ℕ → List ℕ
+children_at s p = slice_index_or s.children p []
 
 -- the parent of a child
 abbrev pub parent_at : Lists → ℕ → Option ℕ
@@ -52,7 +52,7 @@ without c (x ∷ xs) = cond (x == c) xs (x ∷ without c xs)
 
 abbrev pub next_under : Lists → ℕ → Option ℕ → Option ℕ
 next_under s c None = None
-next_under s c (Some p) = next_in (kids_at s p) c
+next_under s c (Some p) = next_in (children_at s p) c
 
 -- what follows c in the list that it is in
 abbrev pub next_of : Lists → ℕ → Option ℕ
@@ -60,7 +60,7 @@ next_of s c = next_under s c (parent_at s c)
 
 abbrev pub prev_under : Lists → ℕ → Option ℕ → Option ℕ
 prev_under s c None = None
-prev_under s c (Some p) = prev_in None (kids_at s p) c
+prev_under s c (Some p) = prev_in None (children_at s p) c
 
 -- what stands before c in the list that it is in
 abbrev pub prev_of : Lists → ℕ → Option ℕ
@@ -68,7 +68,7 @@ prev_of s c = prev_under s c (parent_at s c)
 
 -- one more parent, with no child
 abbrev pub with_list : Lists → Lists
-with_list s = record s { kids = s.kids ++ [] ∷ [] }
+with_list s = record s { children = s.children ++ [] ∷ [] }
 
 -- one more child, with no parent
 abbrev pub with_child : Lists → Lists
@@ -76,7 +76,7 @@ with_child s = record s { parents = s.parents ++ None ∷ [] }
 
 -- without the last parent
 abbrev pub without_last_list : Lists → Lists
-without_last_list s = record s { kids = take (length s.kids - 1) s.kids }
+without_last_list s = record s { children = take (length s.children - 1) s.children }
 
 -- without the last child
 abbrev pub without_last_child : Lists → Lists
@@ -85,21 +85,21 @@ without_last_child s = record s { parents = take (length s.parents - 1) s.parent
 -- c under p at the start
 abbrev pub with_first : Lists → ℕ → ℕ → Lists
 with_first s p c = record {
-  kids = slice_set s.kids p (c ∷ kids_at s p);
+  children = slice_set s.children p (c ∷ children_at s p);
   parents = slice_set s.parents c (Some p);
 }
 
 -- c under p at the end
 abbrev pub with_last : Lists → ℕ → ℕ → Lists
 with_last s p c = record {
-  kids = slice_set s.kids p (kids_at s p ++ c ∷ []);
+  children = slice_set s.children p (children_at s p ++ c ∷ []);
   parents = slice_set s.parents c (Some p);
 }
 
 abbrev pub with_before_under : Lists → ℕ → ℕ → Option ℕ → Lists
 with_before_under s c m None = s
 with_before_under s c m (Some p) = record {
-  kids = slice_set s.kids p (put_in c m (kids_at s p));
+  children = slice_set s.children p (put_in c m (children_at s p));
   parents = slice_set s.parents c (Some p);
 }
 
@@ -110,7 +110,7 @@ with_before s c m = with_before_under s c m (parent_at s m)
 abbrev pub with_after_under : Lists → ℕ → ℕ → Option ℕ → Lists
 with_after_under s c m None = s
 with_after_under s c m (Some p) = record {
-  kids = slice_set s.kids p (put_in_after c m (kids_at s p));
+  children = slice_set s.children p (put_in_after c m (children_at s p));
   parents = slice_set s.parents c (Some p);
 }
 
@@ -121,7 +121,7 @@ with_after s c m = with_after_under s c m (parent_at s m)
 abbrev pub without_under : Lists → ℕ → Option ℕ → Lists
 without_under s c None = s
 without_under s c (Some p) = record {
-  kids = slice_set s.kids p (without c (kids_at s p));
+  children = slice_set s.children p (without c (children_at s p));
   parents = slice_set s.parents c None;
 }
 
@@ -132,9 +132,9 @@ without_child s c = without_under s c (parent_at s c)
 -- What holds of all lists that `Chains` keeps: a child stands in the list of p exactly where p is its
 -- parent, none stands there twice, and the numbers of parents and of children fit 32 bits.
 pub record IsAgreed (s : Lists) : Type 0 where
-  pub apart : (p : ℕ) → Distinct (kids_at s p)
-  pub owned : (p c : ℕ) → Has (kids_at s p) c → parent_at s c ≡ Some p
-  pub held : (p c : ℕ) → parent_at s c ≡ Some p → Has (kids_at s p) c
-  pub within : (p c : ℕ) → Has (kids_at s p) c → c < length s.parents
-  pub num_lists : length s.kids < 2 ^ 32
+  pub apart : (p : ℕ) → Distinct (children_at s p)
+  pub owned : (p c : ℕ) → Has (children_at s p) c → parent_at s c ≡ Some p
+  pub held : (p c : ℕ) → parent_at s c ≡ Some p → Has (children_at s p) c
+  pub within : (p c : ℕ) → Has (children_at s p) c → c < length s.parents
+  pub num_lists : length s.children < 2 ^ 32
   pub num_children : length s.parents < 2 ^ 32

@@ -2,7 +2,8 @@
 ghost use Rattle.std.specs.Prelude.{◌≡◌, ℕ, ◌+◌, ◌-◌, ◌<◌, ◌^◌, List, [], length, cond, None, IfSome, IsTrue, ◌↔◌};
 ghost use Rattle.std.specs.Prelude.{slice_set, OnOk, OnErr};
 ghost use Rattle.plir_store.specs.Members.{head};
-ghost use Rattle.plir_store.specs.Lists.{Lists, kids_at, parent_at, last_of, next_of, prev_of, with_first, with_last};
+ghost use Rattle.plir_store.specs.Lists.{Lists, children_at, parent_at, last_of, next_of, prev_of, with_first};
+ghost use Rattle.plir_store.specs.Lists.{with_last};
 ghost use Rattle.plir_store.specs.Lists.{with_before, with_after, without_child, with_list, with_child};
 ghost use Rattle.plir_store.specs.Lists.{without_last_list, without_last_child, IsAgreed};
 ghost use Rattle.plir_store.specs.Links.{put_first, put_last, put_next, put_prev, no_link, no_ends, ends_in, links_in};
@@ -67,11 +68,11 @@ impl Model for Chains {
 
     ghost Value = { Lists };
 
-    ghost use Rattle.plir_store.specs.Links.{lists_of, IsLinked, kids_of};
+    ghost use Rattle.plir_store.specs.Links.{lists_of, IsLinked, children_of};
 
     ghost view = { λ c. lists_of c.ends.items c.links.items };
 
-    ghost invariant = { λ c. IsLinked c.ends.items c.links.items (kids_of c.ends.items c.links.items) };
+    ghost invariant = { λ c. IsLinked c.ends.items c.links.items (children_of c.ends.items c.links.items) };
 }
 
 // Makes `next` follow the place `at` of a list, which for none is the list's head.
@@ -169,7 +170,7 @@ fn take_out(
 impl Chains {
     /// No parent and no child, and no memory taken.
     pub fn new(alloc: Global) -> Self
-        ensures empty { result ≡ record { kids = []; parents = [] } }
+        ensures empty { result ≡ record { children = []; parents = [] } }
         ensures agreed { IsAgreed result }
     {
         Chains {
@@ -180,7 +181,7 @@ impl Chains {
 
     /// How many parents there are.
     pub fn num_lists(&self) -> usize
-        ensures value { result ≡ length self.now.kids }
+        ensures value { result ≡ length self.now.children }
         ensures agreed { IsAgreed self.now }
     {
         self.ends.len()
@@ -198,7 +199,7 @@ impl Chains {
     pub fn parent(&self, child: u32) -> Option<u32>
         requires { child < length self.now.parents }
         ensures value { result ≡ parent_at self.now child }
-        ensures within { IfSome result (λ p. p < length self.now.kids) }
+        ensures within { IfSome result (λ p. p < length self.now.children) }
         ensures agreed { IsAgreed self.now }
     {
         self.links[child as usize].parent.get()
@@ -206,8 +207,8 @@ impl Chains {
 
     /// Whether a list has no child.
     pub fn is_empty(&self, list: u32) -> bool
-        requires { list < length self.now.kids }
-        ensures value { IsTrue result ↔ (kids_at self.now list ≡ []) }
+        requires { list < length self.now.children }
+        ensures value { IsTrue result ↔ (children_at self.now list ≡ []) }
         ensures agreed { IsAgreed self.now }
     {
         match self.ends[list as usize].first.get() {
@@ -218,8 +219,8 @@ impl Chains {
 
     /// The first child of a list.
     pub fn first(&self, list: u32) -> Option<u32>
-        requires { list < length self.now.kids }
-        ensures value { result ≡ head (kids_at self.now list) }
+        requires { list < length self.now.children }
+        ensures value { result ≡ head (children_at self.now list) }
         ensures within { IfSome result (λ c. c < length self.now.parents) }
         ensures agreed { IsAgreed self.now }
     {
@@ -228,8 +229,8 @@ impl Chains {
 
     /// The last child of a list.
     pub fn last(&self, list: u32) -> Option<u32>
-        requires { list < length self.now.kids }
-        ensures value { result ≡ last_of (kids_at self.now list) }
+        requires { list < length self.now.children }
+        ensures value { result ≡ last_of (children_at self.now list) }
         ensures within { IfSome result (λ c. c < length self.now.parents) }
         ensures agreed { IsAgreed self.now }
     {
@@ -258,7 +259,7 @@ impl Chains {
 
     /// One more parent, with no child. The error is that memory ran out.
     pub fn add_list(&mut self) -> Result<(), AllocError>
-        requires room { length self.old.kids < 2 ^ 32 - 1 }
+        requires room { length self.old.children < 2 ^ 32 - 1 }
         ensures ok { OnOk result (self.new ≡ with_list self.old) }
         ensures err { OnErr result (self.new ≡ self.old) }
         ensures agreed { IsAgreed self.new }
@@ -280,7 +281,7 @@ impl Chains {
 
     /// One more parent, if one is needed. The error is that memory ran out.
     pub fn add_list_if(&mut self, needed: bool) -> Result<(), AllocError>
-        requires room { IsTrue needed → length self.old.kids < 2 ^ 32 - 1 }
+        requires room { IsTrue needed → length self.old.children < 2 ^ 32 - 1 }
         ensures ok { OnOk result (self.new ≡ cond needed (with_list self.old) self.old) }
         ensures err { OnErr result (self.new ≡ self.old) }
         ensures agreed { IsAgreed self.new }
@@ -318,8 +319,8 @@ impl Chains {
 
     /// One parent less: the last, which has no child.
     pub fn drop_list(&mut self)
-        requires some { 0 < length self.old.kids }
-        requires empty { kids_at self.old (length self.old.kids - 1) ≡ [] }
+        requires some { 0 < length self.old.children }
+        requires empty { children_at self.old (length self.old.children - 1) ≡ [] }
         ensures after { self.new ≡ without_last_list self.old }
         ensures agreed { IsAgreed self.new }
     {
@@ -338,7 +339,7 @@ impl Chains {
 
     /// Puts a child at the start of a list.
     pub fn push_front(&mut self, list: u32, child: u32)
-        requires list_in { list < length self.old.kids }
+        requires list_in { list < length self.old.children }
         requires child_in { child < length self.old.parents }
         requires loose { parent_at self.old child ≡ None }
         ensures after { self.new ≡ with_first self.old list child }
@@ -357,7 +358,7 @@ impl Chains {
 
     /// Puts a child at the end of a list.
     pub fn push_back(&mut self, list: u32, child: u32)
-        requires list_in { list < length self.old.kids }
+        requires list_in { list < length self.old.children }
         requires child_in { child < length self.old.parents }
         requires loose { parent_at self.old child ≡ None }
         ensures after { self.new ≡ with_last self.old list child }

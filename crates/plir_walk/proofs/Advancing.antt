@@ -47,11 +47,11 @@ module _ {C S : Type 0} (look : C → Shape) (w : WalkConfig) (post : Relation C
 
   pub over-advancing : (c : C) (s : S) (r : IRNode) (a : ControlFlow (Unit {0}) WalkContinue) (s' : S) → WalkedOver look w post c s r a s' → WalkedOver look w (Advancing plain) c s r (Continue Advance) s'
   over-advancing c s r a s' h =
-      let e = answer-is (look c).kids r c s h.calls c s' a h.chain h.walk.answers in
+      let e = answer-is (look c).children r c s h.calls c s' a h.chain h.walk.answers in
       record {
         calls = h.calls;
         chain = always r c s h.calls c s' h.chain;
-        walk = record { in_order = h.walk.in_order; answers = subst (λ (v : ControlFlow (Unit {0}) WalkContinue). Answers w (look c).kids r h.calls v) e h.walk.answers };
+        walk = record { in_order = h.walk.in_order; answers = subst (λ (v : ControlFlow (Unit {0}) WalkContinue). Answers w (look c).children r h.calls v) e h.walk.answers };
       }
 
   pub within-answer : (t : Tree) (r : IRNode) (limit : ℕ) (c : C) (s : S) (xs : List (Call C S (Unit {0}))) (c' : C) (s' : S) (a : ControlFlow (Unit {0}) WalkContinue) → Chain (IsCallUnder look r post) c s xs c' s'
@@ -68,9 +68,9 @@ module _ {C S : Type 0} (look : C → Shape) (w : WalkConfig) (post : Relation C
         calls = h.calls;
         chain = always r c s h.calls c' s' h.chain;
         as_read = to (tree_read look w h.calls c') h.as_read;
-        at_exit = λ all. to (look c').kids (h.at_exit all);
-        at_entry = λ all. to (look c).kids (h.at_entry all);
-        unchanged = λ k. to (look c).kids (h.unchanged (keeps r k));
+        at_exit = λ all. to (look c').children (h.at_exit all);
+        at_entry = λ all. to (look c).children (h.at_entry all);
+        unchanged = λ k. to (look c).children (h.unchanged (keeps r k));
       }
 
   pub err-advancing : (c : C) (s : S) (r : IRNode) (limit : ℕ) (x : CallLimit) (c' : C) (s' : S) → Walked look w post c s r limit (Err x) c' s' → Walked look w (Advancing plain) c s r limit (Err x) c' s'

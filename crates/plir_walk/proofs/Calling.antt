@@ -2,7 +2,7 @@ use Rattle.std.proofs.Common.{◌≡◌, zero, true, List, [], ◌∷◌, ◌++�
 use Rattle.std.proofs.lemmas.List.{append-nil}
 use Rattle.std.specs.declared.ops.ControlFlow.{ControlFlow}
 use Rattle.std.specs.declared.ops.ControlFlow.TheVariants.{Continue}
-use Rattle.plir_walk.specs.AsRead.{kids_by, tree_read, unless_skip}
+use Rattle.plir_walk.specs.AsRead.{children_by, tree_read, unless_skip}
 use Rattle.plir_walk.specs.Calls.{Call, nodes_of}
 use Rattle.plir_walk.specs.Config.{direction_of, order_of}
 use Rattle.plir_store.specs.Members.{Distinct, Has}
@@ -70,20 +70,20 @@ module _ {C S B : Type 0} (look : C → Shape) (w : WalkConfig) (base : Tree)
   called-kept v = let k = l.kept c v (not-below-itself (look e) f c) in (k.0, k.1)
 
   -- the cursor after a call in PreOrder
-  pub called-spot : order_of w c ≡ PreOrder → (Has (nodes_of xs) c → ⊥) → tree_read look w (xs ++ call_of e st c a e' st' ∷ []) e' c ≡ unless_skip a ((look e').kids c)
+  pub called-spot : order_of w c ≡ PreOrder → (Has (nodes_of xs) c → ⊥) → tree_read look w (xs ++ call_of e st c a e' st' ∷ []) e' c ≡ unless_skip a ((look e').children c)
   called-spot o n =
-      read-new look w xs (call_of e st c a e' st') e' n ∙ ap (λ (v : Order). kids_by v a ((look e).kids c) ((look e').kids c)) o
+      read-new look w xs (call_of e st c a e' st') e' n ∙ ap (λ (v : Order). children_by v a ((look e).children c) ((look e').children c)) o
 
   -- the cursor after a call in PostOrder
-  pub called-spot_after : order_of w c ≡ PostOrder → (Has (nodes_of xs) c → ⊥) → tree_read look w (xs ++ call_of e st c a e' st' ∷ []) e' c ≡ (look e).kids c
+  pub called-spot_after : order_of w c ≡ PostOrder → (Has (nodes_of xs) c → ⊥) → tree_read look w (xs ++ call_of e st c a e' st' ∷ []) e' c ≡ (look e).children c
   called-spot_after o n =
-      read-new look w xs (call_of e st c a e' st') e' n ∙ ap (λ (v : Order). kids_by v a ((look e).kids c) ((look e').kids c)) o
+      read-new look w xs (call_of e st c a e' st') e' n ∙ ap (λ (v : Order). children_by v a ((look e).children c) ((look e').children c)) o
 
   pub call-open : Entering look w base xs e r c → order_of w c ≡ PreOrder → ((ks : List IRNode) → unless_skip a ks ≡ ks) → Opening look w base (xs ++ call_of e st c a e' st' ∷ []) e' r c
   call-open h o na =
       let x : Call C S B = call_of e st c a e' st' in
       let un : Has (nodes_of xs) c → ⊥ = h.fresh c (zero, refl) in
-      let sp : tree_read look w (xs ++ x ∷ []) e' c ≡ (look e').kids c = called-spot o un ∙ na ((look e').kids c) in
+      let sp : tree_read look w (xs ++ x ∷ []) e' c ≡ (look e').children c = called-spot o un ∙ na ((look e').children c) in
       let kept = called-kept h.live in
       record {
         path = h.path;
@@ -111,7 +111,7 @@ module _ {C S B : Type 0} (look : C → Shape) (w : WalkConfig) (base : Tree)
   call-skip h o sk =
       let x : Call C S B = call_of e st c a e' st' in
       let un : Has (nodes_of xs) c → ⊥ = h.fresh c (zero, refl) in
-      let p : List IRNode = (look e').kids c in
+      let p : List IRNode = (look e').children c in
       let sp : tree_read look w (xs ++ x ∷ []) e' c ≡ [] = called-spot o un ∙ ap (λ (v : ControlFlow B WalkContinue). unless_skip v p) sk in
       let kept = called-kept h.live in
       record {
@@ -144,7 +144,7 @@ module _ {C S B : Type 0} (look : C → Shape) (w : WalkConfig) (base : Tree)
         b = h.b;
         read = (
           h.order_is,
-          rw sp h.kids_are,
+          rw sp h.children_are,
           Reads-same w t t' h.b (λ m k. read-called look w xs (x ∷ []) e e' m (was m (Has-append_right (so_far h.path) (first h.o c ++ flat h.b) m (Has-append_right (first h.o c) (flat h.b) m k)))) h.read,
           tt,
         );

@@ -7,9 +7,9 @@ use Rattle.plir_core.specs.declared.ptr.Operation.{Operation as OperationKind}
 use Rattle.plir_core.specs.declared.ptr.BasicBlock.{BasicBlock as BasicBlockKind}
 use Rattle.plir_core.specs.declared.ptr.IRNode.{IRNode}
 use Rattle.plir_core.specs.Above.{Reaches, climb}
-use Rattle.plir_core.specs.Nodes.{is_node_live, node_kids, node_parent}
+use Rattle.plir_core.specs.Nodes.{is_node_live, node_children, node_parent}
 use Rattle.plir_core.specs.Contents.{OpView, BlockView}
-use Rattle.plir_core.specs.Store.{Store, is_live, given_out, kids, parent_of}
+use Rattle.plir_core.specs.ContextView.{ContextView, is_live, given_out, children, parent_of}
 use Rattle.plir_core.specs.Changes.{SameLive, with_op_edit, with_block_edit}
 use Rattle.plir_core.specs.Erase.{IsErased}
 use Rattle.plir_core.specs.Made.{IsRegionAdded, IsMade}
@@ -95,12 +95,12 @@ module _ (s t : Shape) (n : IRNode) (w : IsForest s) (c : ChangedBelow s n t) wh
       let up : s.parent m ≡ Some u.0 = sym (c.kept m v nb).1 ∙ u.1 in
       never-at k u.0 (w.parent_live u.0 m up) (parent-apart m u.0 nb up) u.2
 
-  -- a node whose kid was below n, or is new, was below n, or is n, or is new
+  -- a node whose child was below n, or is new, was below n, or is n, or is new
   pub over-below : IsForest t → (x m : IRNode) → WasBelow s n x → s.live m ≡ true → (IsBelow s n m → ⊥) → m ≢ n → t.parent x ≡ Some m → ⊥
   over-below w' x m b v nb ne e =
-      let has : Has (s.kids m) x = subst (λ (z : List IRNode). Has z x) ((c.kept m v nb).2 ne) (w'.parent_kid m x e) in
-      let below = b (w.kid_live m x has) in
-      let up : s.parent x ≡ Some m = w.kid_parent m x has in
+      let has : Has (s.children m) x = subst (λ (z : List IRNode). Has z x) ((c.kept m v nb).2 ne) (w'.parent_child m x e) in
+      let below = b (w.child_live m x has) in
+      let up : s.parent x ≡ Some m = w.child_parent m x has in
       at below.0 (sym (climb-bottom s below.0 x m up) ∙ below.1)
     where
       at : (k : ℕ) → climb s.parent k (Some m) ≡ Some n → ⊥
@@ -111,7 +111,7 @@ module _ (s t : Shape) (n : IRNode) (w : IsForest s) (c : ChangedBelow s n t) wh
   pub changed-lawful : IsForest t → Lawful s n t
   changed-lawful w' = record {
     kept = c.kept;
-    below = λ m z. (let f = climb-first t z.0 m n z.1 in by m z (w'.kid_live f.0 m (w'.parent_kid f.0 m f.1)) (s.live m) refl);
+    below = λ m z. (let f = climb-first t z.0 m n z.1 in by m z (w'.child_live f.0 m (w'.parent_child f.0 m f.1)) (s.live m) refl);
     given = c.given;
   }
     where
@@ -142,7 +142,7 @@ module _ (s : Shape) (n : IRNode) where
 
   -- One more step, from t to u: what was kept is kept by it, and what it makes live is new.
   pub changed-on : (t u : Shape) → ChangedBelow s n t
-      → ((m : IRNode) → s.live m ≡ true → (IsBelow s n m → ⊥) → t.live m ≡ true → (u.live m ≡ true) × (u.parent m ≡ t.parent m) × (m ≢ n → u.kids m ≡ t.kids m))
+      → ((m : IRNode) → s.live m ≡ true → (IsBelow s n m → ⊥) → t.live m ≡ true → (u.live m ≡ true) × (u.parent m ≡ t.parent m) × (m ≢ n → u.children m ≡ t.children m))
       → ((m : IRNode) → u.live m ≡ true → (t.live m ≡ true) ⊎ (t.given m ≡ false))
       → ((m : IRNode) → t.given m ≡ true → u.given m ≡ true)
       → ChangedBelow s n u
@@ -152,7 +152,7 @@ module _ (s : Shape) (n : IRNode) where
     given = λ m g. given m (c.given m g);
   }
 
-module _ {K A T : Type 0} (s t u : Store K A T) (n : IRNode) (c : ChangedBelow (look s) n (look t)) where
+module _ {K A T : Type 0} (s t u : ContextView K A T) (n : IRNode) (c : ChangedBelow (look s) n (look t)) where
   live-or-new : ((m : IRNode) → is_live u m ≡ true → is_live t m ≡ false → given_out t m ≡ false) → (m : IRNode) → is_live u m ≡ true → (is_live t m ≡ true) ⊎ (given_out t m ≡ false)
   live-or-new new m v = by (is_live t m) refl
     where
@@ -163,14 +163,14 @@ module _ {K A T : Type 0} (s t u : Store K A T) (n : IRNode) (c : ChangedBelow (
   pub changed-made : (x : IRNode) → IsMade t.nodes u.nodes x → ChangedBelow (look s) n (look u)
   changed-made x e =
       changed-on (look s) n (look t) (look u) c
-      (λ m v nb l. (e.keeps.live m l, e.keeps.parents m l, λ ne. e.kids m l))
+      (λ m v nb l. (e.keeps.live m l, e.keeps.parents m l, λ ne. e.children m l))
       (live-or-new e.fresh)
       e.keeps.given
 
   pub changed-refused : SameLive t u → ((m : IRNode) → given_out t m ≡ true → given_out u m ≡ true) → ChangedBelow (look s) n (look u)
   changed-refused e given =
       changed-on (look s) n (look t) (look u) c
-      (λ m v nb l. (e.nodes.live m ∙ l, e.nodes.parents m, λ ne. e.nodes.kids m))
+      (λ m v nb l. (e.nodes.live m ∙ l, e.nodes.parents m, λ ne. e.nodes.children m))
       (λ m v. inl (sym (e.nodes.live m) ∙ v))
       given
 
@@ -178,7 +178,7 @@ module _ {K A T : Type 0} (s t u : Store K A T) (n : IRNode) (c : ChangedBelow (
   changed-region o x b e =
       let a = e.added in
       changed-on (look s) n (look t) (look u) c
-      (λ m v nb l. (a.keeps.live m l, a.keeps.parents m l, λ ne. a.kids m l (λ q. is-not-under (look s) n o m b v nb ne (sym (same_Some o m q)))))
+      (λ m v nb l. (a.keeps.live m l, a.keeps.parents m l, λ ne. a.children m l (λ q. is-not-under (look s) n o m b v nb ne (sym (same_Some o m q)))))
       (live-or-new (λ m v l. subst (λ z. given_out t z ≡ false) (sym (a.only m v l)) a.fresh))
       a.keeps.given
 
@@ -186,7 +186,7 @@ module _ {K A T : Type 0} (s t u : Store K A T) (n : IRNode) (c : ChangedBelow (
   changed-unlinked x w w' b e =
       changed-on (look s) n (look t) (look u) c
       (λ m v nb l.
-      (moved-live t.nodes u.nodes x e.moved m ∙ l, e.moved.parents m (is-not (look s) n x m b v nb), λ ne. e.kids m (over-below (look s) (look t) n w c w' x m b v nb ne)))
+      (moved-live t.nodes u.nodes x e.moved m ∙ l, e.moved.parents m (is-not (look s) n x m b v nb), λ ne. e.children m (over-below (look s) (look t) n w c w' x m b v nb ne)))
       (λ m v. inl (sym (moved-live t.nodes u.nodes x e.moved m) ∙ v))
       (λ m g. moved-given t.nodes u.nodes x e.moved m ∙ g)
 
@@ -194,7 +194,7 @@ module _ {K A T : Type 0} (s t u : Store K A T) (n : IRNode) (c : ChangedBelow (
   changed-placed x over ks b o e =
       changed-on (look s) n (look t) (look u) c
       (λ m v nb l.
-      (moved-live t.nodes u.nodes x e.moved m ∙ l, e.moved.parents m (is-not (look s) n x m b v nb), λ ne. e.kids m (is-not-under (look s) n over m o v nb ne)))
+      (moved-live t.nodes u.nodes x e.moved m ∙ l, e.moved.parents m (is-not (look s) n x m b v nb), λ ne. e.children m (is-not-under (look s) n over m o v nb ne)))
       (λ m v. inl (sym (moved-live t.nodes u.nodes x e.moved m) ∙ v))
       (λ m g. moved-given t.nodes u.nodes x e.moved m ∙ g)
 
@@ -203,16 +203,16 @@ module _ {K A T : Type 0} (s t u : Store K A T) (n : IRNode) (c : ChangedBelow (
       changed-on (look s) n (look t) (look u) c
       (λ m v nb l.
       (let away = λ (r : Reaches (node_parent t.nodes) m x). never-below (look s) (look t) n w c x b r.0 m v nb r.1 in
-      (e.live m away ∙ l, e.parents m away, λ ne. e.kids m away (over-below (look s) (look t) n w c w' x m b v nb ne))))
+      (e.live m away ∙ l, e.parents m away, λ ne. e.children m away (over-below (look s) (look t) n w c w' x m b v nb ne))))
       (λ m v. inl (sym (e.live m (λ r. not-both (is_node_live u.nodes m) v (e.gone m r))) ∙ v))
       (λ m g. e.given m ∙ g)
 
 -- an edit of what an operation or a block holds
-module _ {K A T : Type 0} (s t : Store K A T) (n : IRNode) (c : ChangedBelow (look s) n (look t)) where
-  changed-seen : (u : Store K A T) → SeesTheSame t u → ChangedBelow (look s) n (look u)
+module _ {K A T : Type 0} (s t : ContextView K A T) (n : IRNode) (c : ChangedBelow (look s) n (look t)) where
+  changed-seen : (u : ContextView K A T) → SeesTheSame t u → ChangedBelow (look s) n (look u)
   changed-seen u e =
       changed-on (look s) n (look t) (look u) c
-      (λ m v nb l. (e.live m ∙ l, e.parents m, λ ne. e.kids m))
+      (λ m v nb l. (e.live m ∙ l, e.parents m, λ ne. e.children m))
       (λ m v. inl (sym (e.live m) ∙ v))
       (λ m g. e.given m ∙ g)
 
@@ -223,7 +223,7 @@ module _ {K A T : Type 0} (s t : Store K A T) (n : IRNode) (c : ChangedBelow (lo
   changed-block-edit p f = changed-seen (with_block_edit t p f) (block-edit-seen t p f)
 
 -- what stands under a node that was unlinked stood under it before
-pub unlinked-under : {K A T : Type 0} (s t : Store K A T) (x m : IRNode) → IsUnlinked s.nodes t.nodes x → Reaches (parent_of t) m x → Reaches (parent_of s) m x
+pub unlinked-under : {K A T : Type 0} (s t : ContextView K A T) (x m : IRNode) → IsUnlinked s.nodes t.nodes x → Reaches (parent_of t) m x → Reaches (parent_of s) m x
 unlinked-under s t x m e (k, h) = go k m h
   where
     go : (k : ℕ) (m : IRNode) → climb (parent_of t) k (Some m) ≡ Some x → Reaches (parent_of s) m x

@@ -39,8 +39,8 @@ pub IsBelow-Reaches : (s : Shape) (a x : IRNode) → IsBelow s a x → Reaches s
 IsBelow-Reaches s a x h = (suc h.0, h.1)
 
 -- at or below a child is below the parent
-pub kid-below : (s : Shape) (a c x : IRNode) → s.parent c ≡ Some a → Reaches s.parent x c → IsBelow s a x
-kid-below s a c x e h = (h.0, climb-top s h.0 x c a h.1 e)
+pub child-below : (s : Shape) (a c x : IRNode) → s.parent c ≡ Some a → Reaches s.parent x c → IsBelow s a x
+child-below s a c x e h = (h.0, climb-top s h.0 x c a h.1 e)
 
 -- of two nodes of one depth with a node at or below both, each is the other
 pub same-branch : (s : Shape) (f : IsForest s) (a b x : IRNode) → depth_in s a ≡ depth_in s b → Reaches s.parent x a → Reaches s.parent x b → a ≡ b
@@ -68,11 +68,11 @@ apart-kept s s' n f f' l zero x d e v p q = e
 apart-kept s s' n f f' l (suc k) x d e v p q =
     let r = climb-split s' k x d e in
     let y : IRNode = r.0 in
-    let same : s'.kids d ≡ s.kids d = (l.kept d v (λ h. p (IsBelow-Reaches s n d h))).2 (λ h. p (zero, ap Some h)) in
-    let has : Has (s.kids d) y = subst (λ (z : List IRNode). Has z y) same (f'.parent_kid d y r.2) in
-    let up : s.parent y ≡ Some d = f.kid_parent d y has in
+    let same : s'.children d ≡ s.children d = (l.kept d v (λ h. p (IsBelow-Reaches s n d h))).2 (λ h. p (zero, ap Some h)) in
+    let has : Has (s.children d) y = subst (λ (z : List IRNode). Has z y) same (f'.parent_child d y r.2) in
+    let up : s.parent y ≡ Some d = f.child_parent d y has in
     climb-top s k x y d
-    (apart-kept s s' n f f' l k x y r.1 (f.kid_live d y has)
+    (apart-kept s s' n f f' l k x y r.1 (f.child_live d y has)
     (λ h. apart-up s n y d up h p q)
     (λ h. q (suc h.0, climb-top s h.0 n y d h.1 up)))
     up
@@ -108,4 +108,4 @@ below-live s f e x v (k, h) = go k e v h
     go zero e v h = (let p : e ≡ x = cc in rw (← p) v)
     go (suc k) e v h =
         let p = climb-split s k x e h in
-        go k p.0 (f.kid_live e p.0 (f.parent_kid e p.0 p.2)) p.1
+        go k p.0 (f.child_live e p.0 (f.parent_child e p.0 p.2)) p.1

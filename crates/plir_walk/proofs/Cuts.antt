@@ -3,7 +3,7 @@ use Rattle.std.proofs.Common.{◌≡◌, ℕ, List, [], ◌∷◌, ◌++◌, Opt
 use Rattle.std.proofs.lemmas.Option.{none-some}
 use Rattle.std.specs.declared.ops.ControlFlow.{ControlFlow}
 use Rattle.std.specs.declared.ops.ControlFlow.TheVariants.{Break, Continue}
-use Rattle.plir_walk.specs.AsRead.{kids_at, kids_by, tree_read}
+use Rattle.plir_walk.specs.AsRead.{children_at, children_by, tree_read}
 use Rattle.plir_walk.specs.Calls.{Call, nodes_of}
 use Rattle.plir_walk.specs.Config.{AllPost, order_of}
 use Rattle.plir_store.specs.Members.{Distinct, Has}
@@ -22,7 +22,7 @@ use Rattle.plir_walk.proofs.Nodes.{post-at, same_tells}
 use Rattle.plir_walk.proofs.Stages.{cut, cut-same}
 
 -- what cutting leaves of a node's children
-pub by-answer : {B : Type 0} (o : Order) (a : ControlFlow B WalkContinue) (ks : List IRNode) → (((o ≡ PreOrder) × (a ≡ Continue Skip)) × (kids_by o a ks ks ≡ [])) ⊎ ((o ≡ PreOrder → a ≡ Continue Skip → ⊥) × (kids_by o a ks ks ≡ ks))
+pub by-answer : {B : Type 0} (o : Order) (a : ControlFlow B WalkContinue) (ks : List IRNode) → (((o ≡ PreOrder) × (a ≡ Continue Skip)) × (children_by o a ks ks ≡ [])) ⊎ ((o ≡ PreOrder → a ≡ Continue Skip → ⊥) × (children_by o a ks ks ≡ ks))
 by-answer PreOrder (Continue Skip) ks = inl ((refl, refl), refl)
 by-answer PreOrder (Continue Advance) ks = inr (λ e g. cc, refl)
 by-answer PreOrder (Break b) ks = inr (λ e g. cc, refl)
@@ -64,11 +64,11 @@ cut-is w t (x ∷ xs) m d = elim (same_tells x.node m) [
 pub cut-read : {C S B : Type 0} (look : C → Shape) (w : WalkConfig) (xs : List (Call C S B)) (e : C) (n : IRNode) → cut w xs (tree_read look w xs e) n ≡ tree_read look w xs e n
 cut-read look w [] e n = refl
 cut-read look w (x ∷ xs) e n = elim (same_tells x.node n) [
-  | inl k ↦ rw k.0 (ap (λ (v : Order). kids_by v x.answer (kids_at look w x) (kids_at look w x)) (ap (order_of w) (sym k.1)) ∙ twice (order_of w x.node) x.answer ((look x.before).kids x.node) ((look x.after).kids x.node))
+  | inl k ↦ rw k.0 (ap (λ (v : Order). children_by v x.answer (children_at look w x) (children_at look w x)) (ap (order_of w) (sym k.1)) ∙ twice (order_of w x.node) x.answer ((look x.before).children x.node) ((look x.after).children x.node))
   | inr k ↦ rw k.0 (cut-same w xs (tree_read look w (x ∷ xs) e) (tree_read look w xs e) n (rw k.0 refl) ∙ cut-read look w xs e n)
 ]
   where
-    twice : {B : Type 0} (o : Order) (a : ControlFlow B WalkContinue) (p q : List IRNode) → kids_by o a (kids_by o a p q) (kids_by o a p q) ≡ kids_by o a p q
+    twice : {B : Type 0} (o : Order) (a : ControlFlow B WalkContinue) (p q : List IRNode) → children_by o a (children_by o a p q) (children_by o a p q) ≡ children_by o a p q
     twice PreOrder (Continue Skip) p q = refl
     twice PreOrder (Continue Advance) p q = refl
     twice PreOrder (Break b) p q = refl
@@ -78,7 +78,7 @@ cut-read look w (x ∷ xs) e n = elim (same_tells x.node n) [
 pub cut-post : {C S B : Type 0} (w : WalkConfig) (u : Tree) (xs : List (Call C S B)) → AllPost w → (n : IRNode) → cut w xs u n ≡ u n
 cut-post w u [] all n = refl
 cut-post w u (x ∷ xs) all n = elim (same_tells x.node n) [
-  | inl k ↦ rw k.0 (ap (λ (v : Order). kids_by v x.answer (u n) (u n)) (post-at w all n))
+  | inl k ↦ rw k.0 (ap (λ (v : Order). children_by v x.answer (u n) (u n)) (post-at w all n))
   | inr k ↦ rw k.0 (cut-post w u xs all n)
 ]
 
@@ -98,8 +98,8 @@ place-split t (j ∷ q) p r n e =
 
 module _ {C S B : Type 0} (w : WalkConfig) (u : Tree) (calls : List (Call C S B)) (d : Distinct (nodes_of calls)) where
   -- a child in the cut tree is one in the tree, at the same position
-  pub cut-kid : (m : IRNode) (i : ℕ) (c : IRNode) → slice_get (cut w calls u m) i ≡ Some c → (cut w calls u m ≡ u m) × (order_of w m ≡ PreOrder → IsSkipped calls m → ⊥)
-  cut-kid m i c e = elim (cut-is w u calls m d) [
+  pub cut-child : (m : IRNode) (i : ℕ) (c : IRNode) → slice_get (cut w calls u m) i ≡ Some c → (cut w calls u m ≡ u m) × (order_of w m ≡ PreOrder → IsSkipped calls m → ⊥)
+  cut-child m i c e = elim (cut-is w u calls m d) [
     | inl k ↦ absurd (none-some c (rw k.1 at e))
     | inr k ↦ (k.1, k.0)
   ]
@@ -108,7 +108,7 @@ module _ {C S B : Type 0} (w : WalkConfig) (u : Tree) (calls : List (Call C S B)
   cut-place [] m n e = e
   cut-place (i ∷ p) m n e =
       let z = and_then-some (λ c. node_at (cut w calls u) c p) (slice_get (cut w calls u m) i) n e in
-      let k = (cut-kid m i z.0 z.1).0 in
+      let k = (cut-child m i z.0 z.1).0 in
       step-down u m i z.0 p (sym (ap (λ (v : List IRNode). slice_get v i) k) ∙ z.1) ∙ cut-place p z.0 n z.2
 
   pub cut-before : (p q : Place) (m a b : IRNode) → node_at (cut w calls u) m p ≡ Some a → node_at (cut w calls u) m q ≡ Some b → Before w (cut w calls u) m p q → Before w u m p q
@@ -119,7 +119,7 @@ module _ {C S B : Type 0} (w : WalkConfig) (u : Tree) (calls : List (Call C S B)
   cut-before (i ∷ p) (j ∷ q) m a b ea eb (inr h) =
       let x = and_then-some (λ c. node_at (cut w calls u) c p) (slice_get (cut w calls u m) i) a ea in
       let y = and_then-some (λ c. node_at (cut w calls u) c q) (slice_get (cut w calls u m) j) b eb in
-      let k = (cut-kid m i x.0 x.1).0 in
+      let k = (cut-child m i x.0 x.1).0 in
       let is : slice_get (u m) i ≡ Some x.0 = sym (ap (λ (v : List IRNode). slice_get v i) k) ∙ x.1 in
       let y1 : slice_get (cut w calls u m) i ≡ Some y.0 = subst (λ (v : ℕ). slice_get (cut w calls u m) v ≡ Some y.0) (sym h.0) y.1 in
       let xy : y.0 ≡ x.0 = (let e = sym y1 ∙ x.1 in cc e) in
@@ -159,8 +159,8 @@ module _ {C S B : Type 0} (w : WalkConfig) (u : Tree) (calls : List (Call C S B)
         let e : node_at (cut w calls u) r (s.under_root.0 ++ s.above.0 ∷ s.above.1) ≡ Some n = subst (λ (v : Place). node_at (cut w calls u) r v ≡ Some n) same_place h.1 in
         let z = place-split (cut w calls u) s.under_root.0 (s.above.0 ∷ s.above.1) r n e in
         let a_is : z.0 ≡ s.ancestor = (let y = sym (cut-place s.under_root.0 r z.0 z.1) ∙ s.under_root.1 in cc y) in
-        let kid = and_then-some (λ c. node_at (cut w calls u) c s.above.1) (slice_get (cut w calls u z.0) s.above.0) n z.2 in
-        (cut-kid z.0 s.above.0 kid.0 kid.1).1 (subst (λ (v : IRNode). order_of w v ≡ PreOrder) (sym a_is) s.order) (subst (λ (v : IRNode). IsSkipped calls v) (sym a_is) s.skipped)),
+        let child = and_then-some (λ c. node_at (cut w calls u) c s.above.1) (slice_get (cut w calls u z.0) s.above.0) n z.2 in
+        (cut-child z.0 s.above.0 child.0 child.1).1 (subst (λ (v : IRNode). order_of w v ≡ PreOrder) (sym a_is) s.order) (subst (λ (v : IRNode). IsSkipped calls v) (sym a_is) s.skipped)),
   )
 
   pub due-under-cut : (r n : IRNode) → IsDue w u r calls n → IsUnder (cut w calls u) r n

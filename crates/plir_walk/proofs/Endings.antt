@@ -13,10 +13,10 @@ use Rattle.plir_core.specs.declared.ptr.IRNode.{IRNode}
 use Rattle.plir_core.specs.Forest.{IsBelow, IsForest, Shape}
 use Rattle.plir_store.specs.MemberLaws.{Distinct-append, Distinct-one, Distinct-right, Has-append_cases, Has-append_left, Has-append_right, Has-at}
 use Rattle.plir_walk.specs.Step.{taken}
-use Rattle.plir_walk.proofs.Climbs.{IsBelow-Reaches, climb-top, kid-below, not-below-itself, same-branch}
+use Rattle.plir_walk.proofs.Climbs.{IsBelow-Reaches, climb-top, child-below, not-below-itself, same-branch}
 use Rattle.plir_walk.proofs.Groves.{Grove, Has-taken, Reads, Reads-beside, Reads-same, and_then-some, beside, first, flat, flat-beside, flat-cases, flat-root, flat-under, grow, last, last-is, leaf, no-both, roots, roots-beside}
 use Rattle.plir_walk.proofs.Stages.{Closing, Entering, Leaving, Opening, read-fresh}
-use Rattle.plir_walk.proofs.Steps.{Distinct-taken, Fits, Frame, Path, ahead-of, base-of, frame-distinct, frame-kid, frame-parent, path-depth, so_far, todo_of, top, under}
+use Rattle.plir_walk.proofs.Steps.{Distinct-taken, Fits, Frame, Path, ahead-of, base-of, frame-distinct, frame-child, frame-parent, path-depth, so_far, todo_of, top, under}
 use Rattle.plir_walk.proofs.Heights.{bounded, deepest, deeper, depth_in}
 
 pub last-has : (o : Order) (c : IRNode) → o ≡ PostOrder → Has (last o c) c
@@ -27,7 +27,7 @@ last-has PreOrder c e = absurd (no-both PreOrder refl e)
 
 abbrev pub row : WalkConfig → Shape → (List IRNode → Grove) → List IRNode → Grove
 row w s f [] = leaf
-row w s f (x ∷ xs) = grow x (order_of w x) (f (taken (direction_of w x) (s.kids x))) (row w s f xs)
+row w s f (x ∷ xs) = grow x (order_of w x) (f (taken (direction_of w x) (s.children x))) (row w s f xs)
 
 abbrev pub unread : WalkConfig → Shape → ℕ → List IRNode → Grove
 unread w s zero xs = leaf
@@ -43,33 +43,33 @@ unread-roots w s f zero (x ∷ xs) h = absurd (let p = h x (inl refl) in let q =
 unread-roots w s f (suc k) xs h = row-roots w s (unread w s k) xs
 
 pub row-reads : (w : WalkConfig) (s : Shape) (f : List IRNode → Grove) (xs : List IRNode)
-    → ((x : IRNode) → Has xs x → (roots (f (taken (direction_of w x) (s.kids x))) ≡ taken (direction_of w x) (s.kids x)) × Reads w s.kids (f (taken (direction_of w x) (s.kids x))))
-    → Reads w s.kids (row w s f xs)
+    → ((x : IRNode) → Has xs x → (roots (f (taken (direction_of w x) (s.children x))) ≡ taken (direction_of w x) (s.children x)) × Reads w s.children (f (taken (direction_of w x) (s.children x))))
+    → Reads w s.children (row w s f xs)
 row-reads w s f [] h = tt
 row-reads w s f (x ∷ xs) h = (refl, (h x (inl refl)).0, (h x (inl refl)).1, row-reads w s f xs (λ y k. h y (inr k)))
 
-pub unread-reads : (w : WalkConfig) (s : Shape) (f : IsForest s) (k : ℕ) (xs : List IRNode) → ((x : IRNode) → Has xs x → deepest < depth_in s x + k) → Reads w s.kids (unread w s k xs)
+pub unread-reads : (w : WalkConfig) (s : Shape) (f : IsForest s) (k : ℕ) (xs : List IRNode) → ((x : IRNode) → Has xs x → deepest < depth_in s x + k) → Reads w s.children (unread w s k xs)
 unread-reads w s f zero xs h = tt
 unread-reads w s f (suc k) xs h = row-reads w s (unread w s k) xs (λ x z.
-    (let deep = λ (y : IRNode) (u : Has (taken (direction_of w x) (s.kids x)) y).
+    (let deep = λ (y : IRNode) (u : Has (taken (direction_of w x) (s.children x)) y).
     (let p = h x z in
-    let q = deeper s f x y (f.kid_parent x y (Has-taken (direction_of w x) (s.kids x) y u)) in
+    let q = deeper s f x y (f.child_parent x y (Has-taken (direction_of w x) (s.children x) y u)) in
     let g : deepest < depth_in s y + k = omega (arith, p, q) in g) in
-    (unread-roots w s f k (taken (direction_of w x) (s.kids x)) deep, unread-reads w s f k (taken (direction_of w x) (s.kids x)) deep)))
+    (unread-roots w s f k (taken (direction_of w x) (s.children x)) deep, unread-reads w s f k (taken (direction_of w x) (s.children x)) deep)))
 
 -- a place in a context's tree is at or below its root
-pub place-below : (s : Shape) (f : IsForest s) (c n : IRNode) (p : Place) → node_at s.kids c p ≡ Some n → Reaches s.parent n c
+pub place-below : (s : Shape) (f : IsForest s) (c n : IRNode) (p : Place) → node_at s.children c p ≡ Some n → Reaches s.parent n c
 place-below s f c n [] e = (zero, (let g : c ≡ n = cc in ap Some (sym g)))
 place-below s f c n (i ∷ p) e =
-    let d = and_then-some (λ c. node_at s.kids c p) (slice_get (s.kids c) i) n e in
-    let up : s.parent d.0 ≡ Some c = f.kid_parent c d.0 (Has-at (s.kids c) i d.0 d.1) in
+    let d = and_then-some (λ c. node_at s.children c p) (slice_get (s.children c) i) n e in
+    let up : s.parent d.0 ≡ Some c = f.child_parent c d.0 (Has-at (s.children c) i d.0 d.1) in
     let b = place-below s f d.0 n p d.2 in
     (suc b.0, climb-top s b.0 n d.0 c b.1 up)
 
-pub place-below-kid : (s : Shape) (f : IsForest s) (c n : IRNode) (i : ℕ) (p : Place) → node_at s.kids c (i ∷ p) ≡ Some n → IsBelow s c n
-place-below-kid s f c n i p e =
-    let d = and_then-some (λ c. node_at s.kids c p) (slice_get (s.kids c) i) n e in
-    kid-below s c d.0 n (f.kid_parent c d.0 (Has-at (s.kids c) i d.0 d.1)) (place-below s f d.0 n p d.2)
+pub place-below-child : (s : Shape) (f : IsForest s) (c n : IRNode) (i : ℕ) (p : Place) → node_at s.children c (i ∷ p) ≡ Some n → IsBelow s c n
+place-below-child s f c n i p e =
+    let d = and_then-some (λ c. node_at s.children c p) (slice_get (s.children c) i) n e in
+    child-below s c d.0 n (f.child_parent c d.0 (Has-at (s.children c) i d.0 d.1)) (place-below s f d.0 n p d.2)
 
 -- the trees of xs as they stand in s, in any tree that agrees at what was not called
 abbrev pub rest_of : WalkConfig → Shape → List IRNode → Grove
@@ -79,22 +79,22 @@ pub rest-roots : (w : WalkConfig) (s : Shape) (f : IsForest s) (xs : List IRNode
 rest-roots w s f xs = unread-roots w s f (suc deepest) xs (λ x h. omega arith)
 
 pub rest-reads : (w : WalkConfig) (s : Shape) (f : IsForest s) (t : Tree) (ns : List IRNode) (xs : List IRNode)
-    → ((m : IRNode) → (Has ns m → ⊥) → t m ≡ s.kids m) → ((c x : IRNode) → Has xs c → Reaches s.parent x c → Has ns x → ⊥) → Reads w t (rest_of w s xs)
+    → ((m : IRNode) → (Has ns m → ⊥) → t m ≡ s.children m) → ((c x : IRNode) → Has xs c → Reaches s.parent x c → Has ns x → ⊥) → Reads w t (rest_of w s xs)
 rest-reads w s f t ns xs new un =
     let g : Grove = rest_of w s xs in
-    let rd : Reads w s.kids g = unread-reads w s f (suc deepest) xs (λ x h. omega arith) in
-    Reads-same w s.kids t g
-    (λ n h. new n (λ z. (let u = flat-under w s.kids g n rd h in
+    let rd : Reads w s.children g = unread-reads w s f (suc deepest) xs (λ x h. omega arith) in
+    Reads-same w s.children t g
+    (λ n h. new n (λ z. (let u = flat-under w s.children g n rd h in
     un u.0 n (subst (λ (v : List IRNode). Has v u.0) (rest-roots w s f xs) u.1) (place-below s f u.0 n u.2.0 u.2.1) z)))
     rd
 
 pub rest-base : (w : WalkConfig) (s : Shape) (f : IsForest s) (t : Tree) (ns : List IRNode) (base : Tree) (xs : List IRNode)
-    → ((m : IRNode) → (Has ns m → ⊥) → t m ≡ s.kids m) → ((c x : IRNode) → Has xs c → Reaches s.parent x c → Has ns x → ⊥)
-    → ((c x : IRNode) → Has xs c → Reaches s.parent x c → s.kids x ≡ base x) → (n : IRNode) → Has (flat (rest_of w s xs)) n → t n ≡ base n
+    → ((m : IRNode) → (Has ns m → ⊥) → t m ≡ s.children m) → ((c x : IRNode) → Has xs c → Reaches s.parent x c → Has ns x → ⊥)
+    → ((c x : IRNode) → Has xs c → Reaches s.parent x c → s.children x ≡ base x) → (n : IRNode) → Has (flat (rest_of w s xs)) n → t n ≡ base n
 rest-base w s f t ns base xs new un is n h =
     let g : Grove = rest_of w s xs in
-    let rd : Reads w s.kids g = unread-reads w s f (suc deepest) xs (λ x h. omega arith) in
-    let u = flat-under w s.kids g n rd h in
+    let rd : Reads w s.children g = unread-reads w s f (suc deepest) xs (λ x h. omega arith) in
+    let u = flat-under w s.children g n rd h in
     let c_in : Has xs u.0 = subst (λ (v : List IRNode). Has v u.0) (rest-roots w s f xs) u.1 in
     let b : Reaches s.parent n u.0 = place-below s f u.0 n u.2.0 u.2.1 in
     new n (un u.0 n c_in b) ∙ is u.0 n c_in b
@@ -127,11 +127,11 @@ pub row-under : (w : WalkConfig) (s : Shape) (f : IsForest s) (g : List IRNode �
     → (n : IRNode) → Has (flat (row w s g xs)) n → (c : IRNode) × Has xs c × Reaches s.parent n c
 row-under w s f g [] h n k = absurd k
 row-under w s f g (x ∷ xs) h n k =
-    let ks : List IRNode = taken (direction_of w x) (s.kids x) in
+    let ks : List IRNode = taken (direction_of w x) (s.children x) in
     elim (flat-cases x (order_of w x) (g ks) (row w s g xs) n k) [
       | inl e ↦ (x, inl refl, (zero, ap Some (sym e)))
       | inr a ↦ elim a [
-        | inl z ↦ (let r = h ks n z in (x, inl refl, IsBelow-Reaches s x n (kid-below s x r.0 n (f.kid_parent x r.0 (Has-taken (direction_of w x) (s.kids x) r.0 r.1)) r.2)))
+        | inl z ↦ (let r = h ks n z in (x, inl refl, IsBelow-Reaches s x n (child-below s x r.0 n (f.child_parent x r.0 (Has-taken (direction_of w x) (s.children x) r.0 r.1)) r.2)))
         | inr z ↦ (let r = row-under w s f g xs h n z in (r.0, inr r.1, r.2))
       ]
     ]
@@ -146,14 +146,14 @@ pub row-distinct : (w : WalkConfig) (s : Shape) (f : IsForest s) (g : List IRNod
     → Distinct xs → ((a b : IRNode) → Has xs a → Has xs b → depth_in s a ≡ depth_in s b) → Distinct (flat (row w s g xs))
 row-distinct w s f g [] hu hd d e = tt
 row-distinct w s f g (x ∷ xs) hu hd d e =
-    let ks : List IRNode = taken (direction_of w x) (s.kids x) in
-    let up = λ (y : IRNode) (z : Has ks y). f.kid_parent x y (Has-taken (direction_of w x) (s.kids x) y z) in
-    let under-x = λ (n : IRNode) (z : Has (flat (g ks)) n). (let r = hu ks n z in kid-below s x r.0 n (up r.0 r.1) r.2) in
+    let ks : List IRNode = taken (direction_of w x) (s.children x) in
+    let up = λ (y : IRNode) (z : Has ks y). f.child_parent x y (Has-taken (direction_of w x) (s.children x) y z) in
+    let under-x = λ (n : IRNode) (z : Has (flat (g ks)) n). (let r = hu ks n z in child-below s x r.0 n (up r.0 r.1) r.2) in
     let apart = λ (n : IRNode) (b : Reaches s.parent n x) (z : Has (flat (row w s g xs)) n).
     (let r = row-under w s f g xs hu n z in
     d.0 (subst (λ (v : IRNode). Has xs v) (sym (same-branch s f x r.0 n (e x r.0 (inl refl) (inr r.1)) b r.2)) r.1)) in
     grow-distinct x (order_of w x) (g ks) (row w s g xs)
-    (hd ks (Distinct-taken (direction_of w x) (s.kids x) (f.once x)) (λ a b i j. (let p = deeper s f x a (up a i) in let q = deeper s f x b (up b j) in omega (arith, p, q))))
+    (hd ks (Distinct-taken (direction_of w x) (s.children x) (f.once x)) (λ a b i j. (let p = deeper s f x a (up a i) in let q = deeper s f x b (up b j) in omega (arith, p, q))))
     (row-distinct w s f g xs hu hd d.1 (λ a b i j. e a b (inr i) (inr j)))
     (λ z. not-below-itself s f x (under-x x z))
     (λ z. apart x (zero, refl) z)
@@ -170,8 +170,8 @@ pub todo-beside : (w : WalkConfig) (s : Shape) (f : IsForest s) (base : Tree) (t
 todo-beside w s f base t r ns top c h = (Distinct-one c, λ a k. elim k [ inl e ↦ ap (depth_in s) (sym e) | inr z ↦ absurd z ])
 todo-beside w s f base t r ns (under a o d td u) c h = (
   Distinct-right (roots d) (c ∷ td) (frame-distinct w s f base t ns a o d td c h.0),
-  λ x k. (let kd = frame-kid w s base t ns a o d td c h.0 x (Has-append_right (roots d) (c ∷ td) x k) in
-      let p = deeper s f a x (f.kid_parent a x kd) in
+  λ x k. (let kd = frame-child w s base t ns a o d td c h.0 x (Has-append_right (roots d) (c ∷ td) x k) in
+      let p = deeper s f a x (f.child_parent a x kd) in
       let q = deeper s f a c (frame-parent w s f base t ns a o d td c h.0) in
       omega (arith, p, q)),
 )
@@ -225,8 +225,8 @@ behind-up w s f base t r ns a o d td u c h rest b =
         ]
       ];
       outside = λ x e k z y.
-          (let up : s.parent e ≡ Some a = f.kid_parent a e (frame-kid w s base t ns a o d td c h.0 e (Has-append_right (roots d) (c ∷ td) e z)) in
-          let below : IsBelow s a x = kid-below s a e x up y in
+          (let up : s.parent e ≡ Some a = f.child_parent a e (frame-child w s base t ns a o d td c h.0 e (Has-append_right (roots d) (c ∷ td) e z)) in
+          let below : IsBelow s a x = child-below s a e x up y in
           elim (where-is x k) [
             | inl i ↦ not-below-itself s f a (subst (λ (v : IRNode). IsBelow s a v) (sym (last-is o a x i).0) below)
             | inr v ↦ elim v [
@@ -261,7 +261,7 @@ pub record Told (w : WalkConfig) (t : Tree) (r : IRNode) (ns : List IRNode) (P :
   pub at_base : P → (n : IRNode) → Has (flat grove) n → t n ≡ base n
 
 pub close : (w : WalkConfig) (s : Shape) (f : IsForest s) (base : Tree) (t : Tree) (r : IRNode) (ns : List IRNode)
-    → ((m : IRNode) → (Has ns m → ⊥) → t m ≡ s.kids m)
+    → ((m : IRNode) → (Has ns m → ⊥) → t m ≡ s.children m)
     → (AllPost w → (m : IRNode) → Has ns m → t m ≡ base m)
     → (path : Path) (c : IRNode) (g : Grove) → Fits w s base t r ns path c → roots g ≡ c ∷ todo_of path → Reads w t g
     → ((m : IRNode) → Has (so_far path) m → Has ns m)
@@ -284,7 +284,7 @@ close w s f base t r ns new old (under a o d td u) c g h e rd called bs =
     let z = close w s f base t r ns new old u a g' h.1
     (ap (λ v. a ∷ v) (rest-roots w s f td')) (
       fr.order_is,
-      roots-beside d g ∙ (ap (λ v. roots d ++ v) e ∙ fr.kids_are),
+      roots-beside d g ∙ (ap (λ v. roots d ++ v) e ∙ fr.children_are),
       Reads-beside w t d g fr.read rd,
       rest-reads w s f t ns td' new (λ y x k b q. ahead-of w s base t r ns u a h.1 y x k b q),
     )
@@ -335,7 +335,7 @@ module _ {C S B : Type 0} (look : C → Shape) (w : WalkConfig) (base : Tree)
               ]))
               (λ x k. unread-under w s f (suc deepest) (c ∷ td) x k) z.6);
         },
-        Has-append_left (flat g) z.3 c (flat-root c (order_of w c) (unread w s deepest (taken (direction_of w c) (s.kids c))) (row w s (unread w s deepest) td)),
+        Has-append_left (flat g) z.3 c (flat-root c (order_of w c) (unread w s deepest (taken (direction_of w c) (s.children c))) (row w s (unread w s deepest) td)),
       )
 
   pub opening-told : Opening look w base xs e r c → Told w (tree_read look w xs e) r (nodes_of xs) (AllPost w) base
@@ -345,24 +345,24 @@ module _ {C S B : Type 0} (look : C → Shape) (w : WalkConfig) (base : Tree)
       let ns : List IRNode = nodes_of xs in
       let new = λ (m : IRNode) (z : Has ns m → ⊥). read-fresh look w xs e m z in
       let td : List IRNode = todo_of h.path in
-      let ks : List IRNode = taken (direction_of w c) (s.kids c) in
+      let ks : List IRNode = taken (direction_of w c) (s.children c) in
       let U : Grove = rest_of w s ks in
       let V : Grove = rest_of w s td in
-      let kid-up = λ (y : IRNode) (z : Has ks y). f.kid_parent c y (Has-taken (direction_of w c) (s.kids c) y z) in
-      let kid-under = λ (n : IRNode) (z : Has (flat U) n). (let u = unread-under w s f (suc deepest) ks n z in kid-below s c u.0 n (kid-up u.0 u.1) u.2) in
+      let child-up = λ (y : IRNode) (z : Has ks y). f.child_parent c y (Has-taken (direction_of w c) (s.children c) y z) in
+      let child-under = λ (n : IRNode) (z : Has (flat U) n). (let u = unread-under w s f (suc deepest) ks n z in child-below s c u.0 n (child-up u.0 u.1) u.2) in
       let tail-distinct : Distinct (last h.o c ++ flat V) = Distinct-append (last h.o c) (flat V) (last-distinct h.o c) (todo-distinct w s f base t r ns h.path c h.fits)
       (λ n i j. todo-apart w s f base t r ns h.path c h.fits n (zero, ap Some (sym (last-is h.o c n i).0)) j) in
       let g : Grove = grow c h.o U V in
       let rd : Reads w t g = (
         h.order_is,
         rest-roots w s f ks ∙ ap (taken (direction_of w c)) h.now,
-        rest-reads w s f t ns ks new (λ y x k b q. h.fresh x (kid-below s c y x (f.kid_parent c y (Has-taken (direction_of w c) (s.kids c) y k)) b) q),
+        rest-reads w s f t ns ks new (λ y x k b q. h.fresh x (child-below s c y x (f.child_parent c y (Has-taken (direction_of w c) (s.children c) y k)) b) q),
         rest-reads w s f t ns td new (λ y x k b q. ahead-of w s base t r ns h.path c h.fits y x k b q),
       ) in
       let z = close w s f base t r ns new h.base_done h.path c g h.fits (ap (λ v. c ∷ v) (rest-roots w s f td)) rd (λ m k. subst (λ (v : List IRNode). Has v m) h.told (Has-append_left (so_far h.path) (first h.o c) m k))
       (λ all. grow-base t base c h.o U V (sym h.now ∙ h.base_here all c (zero, refl))
-      (rest-base w s f t ns base ks new (λ y x k b q. h.fresh x (kid-below s c y x (f.kid_parent c y (Has-taken (direction_of w c) (s.kids c) y k)) b) q)
-      (λ y x k b. h.base_here all x (IsBelow-Reaches s c x (kid-below s c y x (f.kid_parent c y (Has-taken (direction_of w c) (s.kids c) y k)) b))))
+      (rest-base w s f t ns base ks new (λ y x k b q. h.fresh x (child-below s c y x (f.child_parent c y (Has-taken (direction_of w c) (s.children c) y k)) b) q)
+      (λ y x k b. h.base_here all x (IsBelow-Reaches s c x (child-below s c y x (f.child_parent c y (Has-taken (direction_of w c) (s.children c) y k)) b))))
       (rest-base w s f t ns base td new (λ y x k b q. ahead-of w s base t r ns h.path c h.fits y x k b q) (λ y x k b. base-of w s base t r ns h.path c h.fits all y x k b))) in
       record {
         grove = z.0;
@@ -374,22 +374,22 @@ module _ {C S B : Type 0} (look : C → Shape) (w : WalkConfig) (base : Tree)
         once = subst (λ (v : List IRNode). Distinct v) (sym (z.4 ∙ open-told (so_far h.path) (first h.o c) (flat U ++ (last h.o c ++ flat V)) z.3 ns h.told))
             (all-apart s ns (c ∷ td) (flat U ++ (last h.o c ++ flat V)) z.3 h.distinct
             (Distinct-append (flat U) (last h.o c ++ flat V)
-            (unread-distinct w s f (suc deepest) ks (Distinct-taken (direction_of w c) (s.kids c) (f.once c))
-            (λ a b i j. (let p = deeper s f c a (kid-up a i) in let q = deeper s f c b (kid-up b j) in omega (arith, p, q))))
+            (unread-distinct w s f (suc deepest) ks (Distinct-taken (direction_of w c) (s.children c) (f.once c))
+            (λ a b i j. (let p = deeper s f c a (child-up a i) in let q = deeper s f c b (child-up b j) in omega (arith, p, q))))
             tail-distinct
             (λ n i j. elim (Has-append_cases (last h.o c) (flat V) n j) [
-              | inl k ↦ not-below-itself s f c (subst (λ (v : IRNode). IsBelow s c v) (sym (last-is h.o c n k).0) (kid-under n i))
-              | inr k ↦ todo-apart w s f base t r ns h.path c h.fits n (IsBelow-Reaches s c n (kid-under n i)) k
+              | inl k ↦ not-below-itself s f c (subst (λ (v : IRNode). IsBelow s c v) (sym (last-is h.o c n k).0) (child-under n i))
+              | inr k ↦ todo-apart w s f base t r ns h.path c h.fits n (IsBelow-Reaches s c n (child-under n i)) k
             ]))
             (λ x k q. elim (Has-append_cases (flat U) (last h.o c ++ flat V) x k) [
-              | inl i ↦ h.fresh x (kid-under x i) q
+              | inl i ↦ h.fresh x (child-under x i) q
               | inr i ↦ elim (Has-append_cases (last h.o c) (flat V) x i) [
                 | inl j ↦ (let y = last-is h.o c x j in h.post_fresh y.1 (subst (λ (v : IRNode). Has ns v) (sym y.0) q))
                 | inr j ↦ (let y = unread-under w s f (suc deepest) td x j in ahead-of w s base t r ns h.path c h.fits y.0 x y.1 y.2 q)
               ]
             ])
             (λ x k. elim (Has-append_cases (flat U) (last h.o c ++ flat V) x k) [
-              | inl i ↦ (c, inl refl, IsBelow-Reaches s c x (kid-under x i))
+              | inl i ↦ (c, inl refl, IsBelow-Reaches s c x (child-under x i))
               | inr i ↦ elim (Has-append_cases (last h.o c) (flat V) x i) [
                 | inl j ↦ (c, inl refl, (zero, ap Some (sym (last-is h.o c x j).0)))
                 | inr j ↦ (let y = unread-under w s f (suc deepest) td x j in (y.0, inr y.1, y.2))
@@ -410,7 +410,7 @@ module _ {C S B : Type 0} (look : C → Shape) (w : WalkConfig) (base : Tree)
       let V : Grove = rest_of w s td in
       let g : Grove = grow c h.o h.b V in
       let ho : h.o ≡ PostOrder = h.order_is ∙ o in
-      let rd : Reads w t g = (h.order_is, h.kids_are, h.read, rest-reads w s f t ns td new (λ y x k b q. ahead-of w s base t r ns h.path c h.fits y x k b q)) in
+      let rd : Reads w t g = (h.order_is, h.children_are, h.read, rest-reads w s f t ns td new (λ y x k b q. ahead-of w s base t r ns h.path c h.fits y x k b q)) in
       let z = close w s f base t r ns new h.base_done h.path c g h.fits (ap (λ v. c ∷ v) (rest-roots w s f td)) rd (λ m k. subst (λ (v : List IRNode). Has v m) h.told (Has-append_left (so_far h.path) (first h.o c ++ flat h.b) m k))
       (λ all. grow-base t base c h.o h.b V (sym h.now ∙ h.base_here all)
       (λ n k. h.base_done all n (subst (λ (v : List IRNode). Has v n) h.told (Has-append_right (so_far h.path) (first h.o c ++ flat h.b) n (Has-append_right (first h.o c) (flat h.b) n k))))

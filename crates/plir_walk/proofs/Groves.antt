@@ -125,8 +125,8 @@ pub step-down : (t : Tree) (m : IRNode) (i : ℕ) (c : IRNode) (p : Place) → s
 step-down t m i c p e = rw e refl
 
 -- a child, and a place below it, are a place below the parent
-pub under-kid : (t : Tree) (m c n : IRNode) → Has (t m) c → IsUnder t c n → (i : ℕ) × (p : Place) × (node_at t m (i ∷ p) ≡ Some n)
-under-kid t m c n h (p, e) = let r = at-Has (t m) c h in (r.0, p, step-down t m r.0 c p r.1 ∙ e)
+pub under-child : (t : Tree) (m c n : IRNode) → Has (t m) c → IsUnder t c n → (i : ℕ) × (p : Place) × (node_at t m (i ∷ p) ≡ Some n)
+under-child t m c n h (p, e) = let r = at-Has (t m) c h in (r.0, p, step-down t m r.0 c p r.1 ∙ e)
 
 -- each node is under a root
 pub flat-under : (w : WalkConfig) (t : Tree) (g : Grove) (n : IRNode) → Reads w t g → Has (flat g) n → (c : IRNode) × Has (roots g) c × IsUnder t c n
@@ -136,7 +136,7 @@ flat-under w t (grow m o b s) n r h =
       | inl e ↦ (m, inl refl, ([], ap Some e))
       | inr a ↦ elim a [
         | inl k ↦ (let u = flat-under w t b n r.2 k in
-            let q = under-kid t m u.0 n (Has-taken (direction_of w m) (t m) u.0 (subst (λ (v : List IRNode). Has v u.0) r.1 u.1)) u.2 in
+            let q = under-child t m u.0 n (Has-taken (direction_of w m) (t m) u.0 (subst (λ (v : List IRNode). Has v u.0) r.1 u.1)) u.2 in
             (m, inl refl, (q.0 ∷ q.1, q.2)))
         | inr k ↦ (let u = flat-under w t s n r.3 k in (u.0, inr u.1, u.2))
       ]
@@ -271,7 +271,7 @@ Pairs-last R PreOrder m = tt
 pub below-under : (w : WalkConfig) (t : Tree) (m : IRNode) (b : Grove) (n : IRNode) → roots b ≡ taken (direction_of w m) (t m) → Reads w t b → Has (flat b) n → (i : ℕ) × (p : Place) × (node_at t m (i ∷ p) ≡ Some n)
 below-under w t m b n e r h =
     let u = flat-under w t b n r h in
-    under-kid t m u.0 n (Has-taken (direction_of w m) (t m) u.0 (subst (λ (v : List IRNode). Has v u.0) e u.1)) u.2
+    under-child t m u.0 n (Has-taken (direction_of w m) (t m) u.0 (subst (λ (v : List IRNode). Has v u.0) e u.1)) u.2
 
 pub NodeBefore-above : (w : WalkConfig) (t : Tree) (m n : IRNode) → (order_of w m) ≡ PreOrder → ((i : ℕ) × (p : Place) × (node_at t m (i ∷ p) ≡ Some n)) → NodeBefore w t m m n
 NodeBefore-above w t m n o u = record { place_a = []; place_b = u.0 ∷ u.1; at_a = refl; at_b = u.2; before = o }

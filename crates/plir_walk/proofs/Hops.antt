@@ -14,7 +14,7 @@ use Rattle.plir_walk.specs.Tree.{same}
 use Rattle.plir_walk.proofs.Groves.{Has-taken}
 use Rattle.plir_walk.proofs.Measure.{after-Has, part, size_of}
 use Rattle.plir_walk.proofs.Measure as measure
-use Rattle.plir_walk.proofs.Remaining.{left_at, steps-kids}
+use Rattle.plir_walk.proofs.Remaining.{left_at, steps-children}
 use Rattle.plir_walk.proofs.Remaining as remaining
 
 module _ (w : WalkConfig) (s : Shape) (r : IRNode) where
@@ -85,9 +85,9 @@ module _ (w : WalkConfig) (s : Shape) (f : IsForest s) where
       go : (o : Option IRNode) → s.parent n ≡ o → s.live k ≡ true
       go None q = absurd (let z : next_of w s n ≡ None = (rw q refl) in none-some k (sym z ∙ e))
       go (Some a) q =
-          let z : next_of w s n ≡ after n (taken (direction_of w a) (s.kids a)) = (rw q refl) in
-          let h = after-Has (taken (direction_of w a) (s.kids a)) n k (sym z ∙ e) in
-          f.kid_live a k (Has-taken (direction_of w a) (s.kids a) k h)
+          let z : next_of w s n ≡ after n (taken (direction_of w a) (s.children a)) = (rw q refl) in
+          let h = after-Has (taken (direction_of w a) (s.children a)) n k (sym z ∙ e) in
+          f.child_live a k (Has-taken (direction_of w a) (s.children a) k h)
 
   module _ (r : IRNode) where
     -- less remains to be done behind a run
@@ -102,7 +102,7 @@ module _ (w : WalkConfig) (s : Shape) (f : IsForest s) where
     left-below : (n : IRNode) (en below : Bool) → (below ≡ en) ⊎ (below ≡ false) → left_at w s n below ≤ left_at w s n en
     left-below n true true h = omega arith
     left-below n false false h = omega arith
-    left-below n true false h = (let k = steps-kids w s f n in omega (arith, k))
+    left-below n true false h = (let k = steps-children w s f n in omega (arith, k))
     left-below n false true h = elim h [ inl e ↦ absurd (diff e) | inr e ↦ absurd (diff e) ]
       where
         diff : true ≡ false → ⊥

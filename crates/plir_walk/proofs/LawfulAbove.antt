@@ -31,13 +31,13 @@ module _ (s t : Shape) (n r : IRNode) (w : IsForest s) (l : Lawful s n t) (under
   went-down (suc k) m d e w' b =
       let z = climb-split t k m d e in
       let y : IRNode = z.0 in
-      let same : t.kids d ≡ s.kids d = (l.kept d b.live (λ z. b.apart (suc z.0, z.1))).2 (λ z. b.apart (zero, ap Some z)) in
-      let has : Has (s.kids d) y = subst (λ (z : List IRNode). Has z y) same (w'.parent_kid d y z.2) in
-      let was : s.parent y ≡ Some d = w.kid_parent d y has in
+      let same : t.children d ≡ s.children d = (l.kept d b.live (λ z. b.apart (suc z.0, z.1))).2 (λ z. b.apart (zero, ap Some z)) in
+      let has : Has (s.children d) y = subst (λ (z : List IRNode). Has z y) same (w'.parent_child d y z.2) in
+      let was : s.parent y ≡ Some d = w.child_parent d y has in
       elim (same_tells y n) [
         | inl h ↦ at-n k (z.1 ∙ ap Some h.1)
         | inr h ↦ went-down k m y z.1 w' (record {
-          live = w.kid_live d y has;
+          live = w.child_live d y has;
           apart = λ z. higher y was h.1 z.0 z.1;
           under_root = (suc b.under_root.0, climb-bottom s b.under_root.0 y d was ∙ b.under_root.1);
         })

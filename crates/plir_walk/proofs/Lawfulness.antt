@@ -8,9 +8,9 @@ use Rattle.plir_core.specs.declared.ptr.IRNode.{IRNode}
 use Rattle.plir_core.specs.declared.ptr.IRNode.TheVariants.{Operation, Region, BasicBlock}
 use Rattle.plir_core.specs.Above.{Reaches, climb}
 use Rattle.plir_store.specs.Table.{Table, is_live_at}
-use Rattle.plir_core.specs.Nodes.{Nodes, is_given_out, is_node_live, was_given_out, node_kids, node_parent, node_over}
+use Rattle.plir_core.specs.Nodes.{Nodes, is_given_out, is_node_live, was_given_out, node_children, node_parent, node_over}
 use Rattle.plir_core.specs.Contents.{OpView, BlockView}
-use Rattle.plir_core.specs.Store.{Store, is_live, given_out, kids, parent_of}
+use Rattle.plir_core.specs.ContextView.{ContextView, is_live, given_out, children, parent_of}
 use Rattle.plir_core.specs.Changes.{SameLive, with_op_edit, with_block_edit}
 use Rattle.plir_core.specs.Erase.{IsErased}
 use Rattle.plir_core.specs.Made.{IsRegionAdded, IsMade}
@@ -21,7 +21,7 @@ use Rattle.plir_walk.proofs.Climbs.{climb-bottom, climb-split, climb-top, not-be
 use Rattle.plir_walk.proofs.NamedStores.{op-edit-is, block-edit-is}
 use Rattle.plir_walk.proofs.Nodes.{same_tells}
 use Rattle.plir_walk.specs.Unnamed.{SameSlots}
-use Rattle.plir_walk.proofs.Refilled.{edited-slots, refilled-given, refilled-kids, refilled-live, refilled-parents}
+use Rattle.plir_walk.proofs.Refilled.{edited-slots, refilled-given, refilled-children, refilled-live, refilled-parents}
 
 -- nothing done is lawful
 pub lawful-none : (s : Shape) (n : IRNode) → Lawful s n s
@@ -57,9 +57,9 @@ pub lawful-stays : (s t : Shape) (n : IRNode) → IsForest s → Lawful s n t �
 lawful-stays s t n w f v = (f.kept n v (not-below-itself s w n)).0
 
 -- a change that keeps live nodes, parents, children and what was given out
-pub lawful-same : (s t : Shape) (n : IRNode) → ((m : IRNode) → t.live m ≡ s.live m) → ((m : IRNode) → t.parent m ≡ s.parent m) → ((m : IRNode) → t.kids m ≡ s.kids m) → ((m : IRNode) → s.given m ≡ true → t.given m ≡ true) → Lawful s n t
-lawful-same s t n live parent kids given = record {
-  kept = λ m v b. (live m ∙ v, parent m, λ k. kids m);
+pub lawful-same : (s t : Shape) (n : IRNode) → ((m : IRNode) → t.live m ≡ s.live m) → ((m : IRNode) → t.parent m ≡ s.parent m) → ((m : IRNode) → t.children m ≡ s.children m) → ((m : IRNode) → s.given m ≡ true → t.given m ≡ true) → Lawful s n t
+lawful-same s t n live parent children given = record {
+  kept = λ m v b. (live m ∙ v, parent m, λ k. children m);
   below = λ m z. inl (z.0, sym (climbs (suc z.0) (Some m)) ∙ z.1);
   given = given;
 }
@@ -111,13 +111,13 @@ moved-given s t x e (Operation p) = ap (λ z. is_given_out z p) e.ops
 moved-given s t x e (Region p) = ap (λ z. is_given_out z p) e.regions
 moved-given s t x e (BasicBlock p) = ap (λ z. is_given_out z p) e.blocks
 
-module _ {K A T : Type 0} (s t : Store K A T) where
+module _ {K A T : Type 0} (s t : ContextView K A T) where
   -- erasing a tree below n
   pub lawful-erased : (n x : IRNode) → IsBelow (look s) n x → IsErased s.nodes t.nodes x → Lawful (look s) n (look t)
   lawful-erased n x b e = record {
     kept = λ m v nb.
         (let away = λ (r : Reaches (node_parent s.nodes) m x). nb (deep m r) in
-        (e.live m away ∙ v, e.parents m away, λ ne. e.kids m away (λ p. over m ne nb p)));
+        (e.live m away ∙ v, e.parents m away, λ ne. e.children m away (λ p. over m ne nb p)));
     below = λ m z. inl (z.0, (climb-back (look s) (look t) (λ k. Unit {0}) (λ k a p q. (still k a q, tt)) (suc z.0) m n tt z.1).0);
     given = λ m g. e.given m ∙ g;
   }
@@ -136,16 +136,16 @@ module _ {K A T : Type 0} (s t : Store K A T) where
       still : (k a : IRNode) → node_parent t.nodes k ≡ Some a → node_parent s.nodes k ≡ Some a
       still k a q = sym (e.parents k (λ r. not-both (is_node_live t.nodes k) (linked-live t.nodes k a q) (e.gone k r))) ∙ q
 
-  -- What was live stands where it stood, and the kids of n at most, or of what is below it, are others. What is new was never given out.
+  -- What was live stands where it stood, and the children of n at most, or of what is below it, are others. What is new was never given out.
   lawful-new : (n : IRNode) → IsForest (look s)
       → ((m : IRNode) → is_live s m ≡ true → is_live t m ≡ true)
       → ((m : IRNode) → is_live s m ≡ true → parent_of t m ≡ parent_of s m)
-      → ((m : IRNode) → is_live s m ≡ true → (IsBelow (look s) n m → ⊥) → m ≢ n → kids t m ≡ kids s m)
+      → ((m : IRNode) → is_live s m ≡ true → (IsBelow (look s) n m → ⊥) → m ≢ n → children t m ≡ children s m)
       → ((m : IRNode) → given_out s m ≡ true → given_out t m ≡ true)
       → ((m : IRNode) → is_live t m ≡ true → is_live s m ≡ false → given_out s m ≡ false)
       → Lawful (look s) n (look t)
-  lawful-new n w live parents kids given fresh = record {
-    kept = λ m l nb. (live m l, parents m l, λ ne. kids m l nb ne);
+  lawful-new n w live parents children given fresh = record {
+    kept = λ m l nb. (live m l, parents m l, λ ne. children m l nb ne);
     below = λ m z. go (is_live s m) m refl z;
     given = given;
   }
@@ -164,20 +164,20 @@ module _ {K A T : Type 0} (s t : Store K A T) where
   pub lawful-region : (n r : IRNode) → IsForest (look s) → IsRegionAdded s.nodes t.nodes n r → Lawful (look s) n (look t)
   lawful-region n r w e =
       let a = e.added in
-      lawful-new n w a.keeps.live a.keeps.parents (λ m l nb ne. a.kids m l (λ q. ne (sym (same_Some n m q)))) a.keeps.given
+      lawful-new n w a.keeps.live a.keeps.parents (λ m l nb ne. a.children m l (λ q. ne (sym (same_Some n m q)))) a.keeps.given
       (λ m l d. subst (λ z. given_out s z ≡ false) (sym (a.only m l d)) a.fresh)
 
   -- no live node has changed
   pub lawful-refused : (n : IRNode) → SameLive s t → ((m : IRNode) → given_out s m ≡ true → given_out t m ≡ true) → Lawful (look s) n (look t)
-  lawful-refused n e given = lawful-same (look s) (look t) n e.nodes.live e.nodes.parents e.nodes.kids given
+  lawful-refused n e given = lawful-same (look s) (look t) n e.nodes.live e.nodes.parents e.nodes.children given
 
 -- making a tree, and putting it under n or below it
-pub lawful-placed : {K A T : Type 0} (s t u : Store K A T) (n x a : IRNode) (ks : List IRNode) → IsForest (look s) → Reaches (parent_of s) a n → IsMade s.nodes t.nodes x → IsPlaced t.nodes u.nodes x a ks → Lawful (look s) n (look u)
+pub lawful-placed : {K A T : Type 0} (s t u : ContextView K A T) (n x a : IRNode) (ks : List IRNode) → IsForest (look s) → Reaches (parent_of s) a n → IsMade s.nodes t.nodes x → IsPlaced t.nodes u.nodes x a ks → Lawful (look s) n (look u)
 lawful-placed s t u n x a ks w under made placed =
     lawful-new s u n w
     (λ m l. moved-live t.nodes u.nodes x placed.moved m ∙ made.keeps.live m l)
     (λ m l. placed.moved.parents m (older m l) ∙ made.keeps.parents m l)
-    (λ m l nb ne. placed.kids m (λ q. over m nb ne under q) ∙ made.kids m l)
+    (λ m l nb ne. placed.children m (λ q. over m nb ne under q) ∙ made.children m l)
     (λ m g. moved-given t.nodes u.nodes x placed.moved m ∙ made.keeps.given m g)
     (λ m l d. made.fresh m (sym (moved-live t.nodes u.nodes x placed.moved m) ∙ l) d)
   where
@@ -189,33 +189,33 @@ lawful-placed s t u n x a ks w under made placed =
     over m nb ne (suc k, c) q = nb (subst (IsBelow (look s) n) (sym q) (k, c))
 
 -- an edit of what an operation or a block holds: a walk sees nothing of it
-module _ {K A T : Type 0} (s : Store K A T) where
+module _ {K A T : Type 0} (s : ContextView K A T) where
   same_slots : {C : Type 0} (t : Table C) → SameSlots t t
   same_slots t = record { number = refl; full = λ j. refl; versions = λ j. refl; free = refl }
 
-  pub record SeesTheSame (t : Store K A T) : Type 0 where
+  pub record SeesTheSame (t : ContextView K A T) : Type 0 where
     pub live : (m : IRNode) → is_live t m ≡ is_live s m
     pub parents : (m : IRNode) → parent_of t m ≡ parent_of s m
-    pub kids : (m : IRNode) → kids t m ≡ kids s m
+    pub children : (m : IRNode) → children t m ≡ children s m
     pub given : (m : IRNode) → given_out t m ≡ given_out s m
 
-  lawful-seen : (t : Store K A T) (n : IRNode) → SeesTheSame t → Lawful (look s) n (look t)
-  lawful-seen t n e = lawful-same (look s) (look t) n e.live e.parents e.kids (λ m g. e.given m ∙ g)
+  lawful-seen : (t : ContextView K A T) (n : IRNode) → SeesTheSame t → Lawful (look s) n (look t)
+  lawful-seen t n e = lawful-same (look s) (look t) n e.live e.parents e.children (λ m g. e.given m ∙ g)
 
-  shape-seen : (t : Store K A T) → SeesTheSame t → SameShape (look s) (look t)
-  shape-seen t e = record { live = e.live; kids = e.kids }
+  shape-seen : (t : ContextView K A T) → SeesTheSame t → SameShape (look s) (look t)
+  shape-seen t e = record { live = e.live; children = e.children }
 
   pub op-edit-seen : (p : Ptr OperationKind) (f : OpView K A → OpView K A) → SeesTheSame (with_op_edit s p f)
   op-edit-seen p f =
       let os = edited-slots s.nodes.ops p.slot f in
       let bs = same_slots s.nodes.blocks in
-      subst SeesTheSame (sym (op-edit-is s p f)) (record { live = refilled-live s _ _ os bs; parents = refilled-parents s _ _ os bs; kids = refilled-kids s _ _ os bs; given = refilled-given s _ _ os bs })
+      subst SeesTheSame (sym (op-edit-is s p f)) (record { live = refilled-live s _ _ os bs; parents = refilled-parents s _ _ os bs; children = refilled-children s _ _ os bs; given = refilled-given s _ _ os bs })
 
   pub block-edit-seen : (p : Ptr BasicBlockKind) (f : BlockView A → BlockView A) → SeesTheSame (with_block_edit s p f)
   block-edit-seen p f =
       let os = same_slots s.nodes.ops in
       let bs = edited-slots s.nodes.blocks p.slot f in
-      subst SeesTheSame (sym (block-edit-is s p f)) (record { live = refilled-live s _ _ os bs; parents = refilled-parents s _ _ os bs; kids = refilled-kids s _ _ os bs; given = refilled-given s _ _ os bs })
+      subst SeesTheSame (sym (block-edit-is s p f)) (record { live = refilled-live s _ _ os bs; parents = refilled-parents s _ _ os bs; children = refilled-children s _ _ os bs; given = refilled-given s _ _ os bs })
 
   pub op-edit-lawful : (p : Ptr OperationKind) (f : OpView K A → OpView K A) (n : IRNode) → Lawful (look s) n (look (with_op_edit s p f))
   op-edit-lawful p f n = lawful-seen (with_op_edit s p f) n (op-edit-seen p f)

@@ -3,14 +3,14 @@ use Rattle.std.proofs.Common.{◌≡◌, ℕ, Bool, true, false, cond, List, [],
 use Rattle.std.specs.Prelude.{option_map, option_and_then}
 use Rattle.std.proofs.lemmas.Bool.Decides.{eqb_tells}
 use Rattle.std.proofs.lemmas.List.{reverse-append, map-append}
-use Rattle.plir_store.specs.Lists.{Lists, last_from, last_of, next_in, prev_in, next_of, prev_of, next_under, prev_under, kids_at, parent_at}
+use Rattle.plir_store.specs.Lists.{Lists, last_from, last_of, next_in, prev_in, next_of, prev_of, next_under, prev_under, children_at, parent_at}
 use Rattle.plir_store.specs.Table.{Table, is_live_at}
 use Rattle.plir_core.specs.declared.ptr.Ptr.{Ptr}
 use Rattle.plir_core.specs.declared.ptr.IRNode.{IRNode}
 use Rattle.plir_core.specs.declared.ptr.IRNode.TheVariants.{Operation, Region, BasicBlock}
 use Rattle.plir_store.specs.MemberLaws.{Distinct-cross, Distinct-map}
 use Rattle.plir_store.specs.Members.{Has, Distinct, head}
-use Rattle.plir_core.specs.Nodes.{Nodes, ptr_at, is_node_live, node_kids, node_parent, node_first, node_last, node_next, node_prev, op_node, block_node, region_node}
+use Rattle.plir_core.specs.Nodes.{Nodes, ptr_at, is_node_live, node_children, node_parent, node_first, node_last, node_next, node_prev, op_node, block_node, region_node}
 use Rattle.plir_core.specs.Stored.{IsListing, IsStored}
 use Rattle.plir_walk.specs.Step.{after}
 use Rattle.plir_walk.proofs.Nodes.{same_tells, after-at}
@@ -85,30 +85,30 @@ module _ (f : ℕ → IRNode) (one : (i j : ℕ) → f i ≡ f j → i ≡ j) wh
 -- One of the three kinds of lists: `child` and `over` make nodes of the pointers.
 module _ {C P X Y : Type 0} (l : Lists) (t : Table C) (u : Table P) (w : IsListing l t u) (child : Ptr X → IRNode) (over : Ptr Y → IRNode)
     (one : (i j : ℕ) → child (ptr_at t i) ≡ child (ptr_at t j) → i ≡ j)
-    (kids : IRNode → List IRNode) (kids_are : (q : Ptr Y) → kids (over q) ≡ cond (is_live_at u q.slot q.version) (map (λ i. child (ptr_at t i)) (kids_at l q.slot)) []) where
-  kids_over : (p b : ℕ) → parent_at l p ≡ Some b → kids (over (ptr_at u b)) ≡ map (λ i. child (ptr_at t i)) (kids_at l b)
-  kids_over p b h = kids_are (ptr_at u b) ∙ (let e = live_at u b ((w.linked_live p b h).1) in rw e refl)
+    (children : IRNode → List IRNode) (children_are : (q : Ptr Y) → children (over q) ≡ cond (is_live_at u q.slot q.version) (map (λ i. child (ptr_at t i)) (children_at l q.slot)) []) where
+  children_over : (p b : ℕ) → parent_at l p ≡ Some b → children (over (ptr_at u b)) ≡ map (λ i. child (ptr_at t i)) (children_at l b)
+  children_over p b h = children_are (ptr_at u b) ∙ (let e = live_at u b ((w.linked_live p b h).1) in rw e refl)
 
   next-under : (p : ℕ) (o : Option ℕ) → parent_at l p ≡ o
-      → option_map (λ i. child (ptr_at t i)) (next_under l p o) ≡ option_and_then (λ a. after (child (ptr_at t p)) (kids a)) (option_map (λ i. over (ptr_at u i)) o)
+      → option_map (λ i. child (ptr_at t i)) (next_under l p o) ≡ option_and_then (λ a. after (child (ptr_at t p)) (children a)) (option_map (λ i. over (ptr_at u i)) o)
   next-under p None h = refl
-  next-under p (Some b) h = sym (ap (after (child (ptr_at t p))) (kids_over p b h) ∙ after-map (λ i. child (ptr_at t i)) one (kids_at l b) p)
+  next-under p (Some b) h = sym (ap (after (child (ptr_at t p))) (children_over p b h) ∙ after-map (λ i. child (ptr_at t i)) one (children_at l b) p)
 
   prev-under : (p : ℕ) (o : Option ℕ) → parent_at l p ≡ o
-      → option_map (λ i. child (ptr_at t i)) (prev_under l p o) ≡ option_and_then (λ a. after (child (ptr_at t p)) (reverse (kids a))) (option_map (λ i. over (ptr_at u i)) o)
+      → option_map (λ i. child (ptr_at t i)) (prev_under l p o) ≡ option_and_then (λ a. after (child (ptr_at t p)) (reverse (children a))) (option_map (λ i. over (ptr_at u i)) o)
   prev-under p None h = refl
-  prev-under p (Some b) h = sym (ap (λ (v : List IRNode). after (child (ptr_at t p)) (reverse v)) (kids_over p b h)
-      ∙ before-map (λ i. child (ptr_at t i)) one (kids_at l b) p (w.agreed.apart b) (w.agreed.held b p h))
+  prev-under p (Some b) h = sym (ap (λ (v : List IRNode). after (child (ptr_at t p)) (reverse v)) (children_over p b h)
+      ∙ before-map (λ i. child (ptr_at t i)) one (children_at l b) p (w.agreed.apart b) (w.agreed.held b p h))
 
   pub next-word : (p : Ptr X) → is_live_at t p.slot p.version ≡ true
       → cond (is_live_at t p.slot p.version) (option_map (λ i. child (ptr_at t i)) (next_of l p.slot)) None
-      ≡ option_and_then (λ a. after (child p) (kids a)) (cond (is_live_at t p.slot p.version) (option_map (λ i. over (ptr_at u i)) (parent_at l p.slot)) None)
-  next-word p e = rw e (next-under p.slot (parent_at l p.slot) refl ∙ ap (λ (v : Ptr X). option_and_then (λ a. after (child v) (kids a)) (option_map (λ i. over (ptr_at u i)) (parent_at l p.slot))) (ptr_is t p e))
+      ≡ option_and_then (λ a. after (child p) (children a)) (cond (is_live_at t p.slot p.version) (option_map (λ i. over (ptr_at u i)) (parent_at l p.slot)) None)
+  next-word p e = rw e (next-under p.slot (parent_at l p.slot) refl ∙ ap (λ (v : Ptr X). option_and_then (λ a. after (child v) (children a)) (option_map (λ i. over (ptr_at u i)) (parent_at l p.slot))) (ptr_is t p e))
 
   pub prev-word : (p : Ptr X) → is_live_at t p.slot p.version ≡ true
       → cond (is_live_at t p.slot p.version) (option_map (λ i. child (ptr_at t i)) (prev_of l p.slot)) None
-      ≡ option_and_then (λ a. after (child p) (reverse (kids a))) (cond (is_live_at t p.slot p.version) (option_map (λ i. over (ptr_at u i)) (parent_at l p.slot)) None)
-  prev-word p e = rw e (prev-under p.slot (parent_at l p.slot) refl ∙ ap (λ (v : Ptr X). option_and_then (λ a. after (child v) (reverse (kids a))) (option_map (λ i. over (ptr_at u i)) (parent_at l p.slot))) (ptr_is t p e))
+      ≡ option_and_then (λ a. after (child p) (reverse (children a))) (cond (is_live_at t p.slot p.version) (option_map (λ i. over (ptr_at u i)) (parent_at l p.slot)) None)
+  prev-word p e = rw e (prev-under p.slot (parent_at l p.slot) refl ∙ ap (λ (v : Ptr X). option_and_then (λ a. after (child v) (reverse (children a))) (option_map (λ i. over (ptr_at u i)) (parent_at l p.slot))) (ptr_is t p e))
 
 abbrev slot_of : IRNode → ℕ
 slot_of (Operation p) = p.slot
@@ -124,23 +124,23 @@ last-cond true f xs = sym (last-map f xs)
 last-cond false f xs = refl
 
 module _ {O B : Type 0} (s : Nodes O B) where
-  pub first-is : (n : IRNode) → node_first s n ≡ head (node_kids s n)
-  first-is (Operation p) = head-cond (is_live_at s.ops p.slot p.version) (region_node s) (kids_at s.regions_in_op p.slot)
-  first-is (Region p) = head-cond (is_live_at s.regions p.slot p.version) (block_node s) (kids_at s.blocks_in_region p.slot)
-  first-is (BasicBlock p) = head-cond (is_live_at s.blocks p.slot p.version) (op_node s) (kids_at s.ops_in_block p.slot)
+  pub first-is : (n : IRNode) → node_first s n ≡ head (node_children s n)
+  first-is (Operation p) = head-cond (is_live_at s.ops p.slot p.version) (region_node s) (children_at s.regions_in_op p.slot)
+  first-is (Region p) = head-cond (is_live_at s.regions p.slot p.version) (block_node s) (children_at s.blocks_in_region p.slot)
+  first-is (BasicBlock p) = head-cond (is_live_at s.blocks p.slot p.version) (op_node s) (children_at s.ops_in_block p.slot)
 
-  pub last-is : (n : IRNode) → node_last s n ≡ head (reverse (node_kids s n))
-  last-is (Operation p) = last-cond (is_live_at s.ops p.slot p.version) (region_node s) (kids_at s.regions_in_op p.slot)
-  last-is (Region p) = last-cond (is_live_at s.regions p.slot p.version) (block_node s) (kids_at s.blocks_in_region p.slot)
-  last-is (BasicBlock p) = last-cond (is_live_at s.blocks p.slot p.version) (op_node s) (kids_at s.ops_in_block p.slot)
+  pub last-is : (n : IRNode) → node_last s n ≡ head (reverse (node_children s n))
+  last-is (Operation p) = last-cond (is_live_at s.ops p.slot p.version) (region_node s) (children_at s.regions_in_op p.slot)
+  last-is (Region p) = last-cond (is_live_at s.regions p.slot p.version) (block_node s) (children_at s.blocks_in_region p.slot)
+  last-is (BasicBlock p) = last-cond (is_live_at s.blocks p.slot p.version) (op_node s) (children_at s.ops_in_block p.slot)
 
 module _ {O B : Type 0} (s : Nodes O B) (w : IsStored s) where
-  pub next-is : (n : IRNode) → is_node_live s n ≡ true → node_next s n ≡ option_and_then (λ a. after n (node_kids s a)) (node_parent s n)
-  next-is (Operation p) e = next-word s.ops_in_block s.ops s.blocks w.ops_listed Operation BasicBlock (λ i j g. ap slot_of g) (node_kids s) (λ q. refl) p e
-  next-is (Region p) e = next-word s.regions_in_op s.regions s.ops w.regions_listed Region Operation (λ i j g. ap slot_of g) (node_kids s) (λ q. refl) p e
-  next-is (BasicBlock p) e = next-word s.blocks_in_region s.blocks s.regions w.blocks_listed BasicBlock Region (λ i j g. ap slot_of g) (node_kids s) (λ q. refl) p e
+  pub next-is : (n : IRNode) → is_node_live s n ≡ true → node_next s n ≡ option_and_then (λ a. after n (node_children s a)) (node_parent s n)
+  next-is (Operation p) e = next-word s.ops_in_block s.ops s.blocks w.ops_listed Operation BasicBlock (λ i j g. ap slot_of g) (node_children s) (λ q. refl) p e
+  next-is (Region p) e = next-word s.regions_in_op s.regions s.ops w.regions_listed Region Operation (λ i j g. ap slot_of g) (node_children s) (λ q. refl) p e
+  next-is (BasicBlock p) e = next-word s.blocks_in_region s.blocks s.regions w.blocks_listed BasicBlock Region (λ i j g. ap slot_of g) (node_children s) (λ q. refl) p e
 
-  pub prev-is : (n : IRNode) → is_node_live s n ≡ true → node_prev s n ≡ option_and_then (λ a. after n (reverse (node_kids s a))) (node_parent s n)
-  prev-is (Operation p) e = prev-word s.ops_in_block s.ops s.blocks w.ops_listed Operation BasicBlock (λ i j g. ap slot_of g) (node_kids s) (λ q. refl) p e
-  prev-is (Region p) e = prev-word s.regions_in_op s.regions s.ops w.regions_listed Region Operation (λ i j g. ap slot_of g) (node_kids s) (λ q. refl) p e
-  prev-is (BasicBlock p) e = prev-word s.blocks_in_region s.blocks s.regions w.blocks_listed BasicBlock Region (λ i j g. ap slot_of g) (node_kids s) (λ q. refl) p e
+  pub prev-is : (n : IRNode) → is_node_live s n ≡ true → node_prev s n ≡ option_and_then (λ a. after n (reverse (node_children s a))) (node_parent s n)
+  prev-is (Operation p) e = prev-word s.ops_in_block s.ops s.blocks w.ops_listed Operation BasicBlock (λ i j g. ap slot_of g) (node_children s) (λ q. refl) p e
+  prev-is (Region p) e = prev-word s.regions_in_op s.regions s.ops w.regions_listed Region Operation (λ i j g. ap slot_of g) (node_children s) (λ q. refl) p e
+  prev-is (BasicBlock p) e = prev-word s.blocks_in_region s.blocks s.regions w.blocks_listed BasicBlock Region (λ i j g. ap slot_of g) (node_children s) (λ q. refl) p e

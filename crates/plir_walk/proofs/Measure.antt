@@ -53,28 +53,28 @@ module _ (w : WalkConfig) (s : Shape) (f : IsForest s) where
   pub small : (n : IRNode) → depth_in s n ≤ 2 ^ 40
   small n = (let p = bounded s n in let q = deepest-is in omega (arith, p, q))
 
-  pub kid-depth : (a k : IRNode) → Has (taken (direction_of w a) (s.kids a)) k → depth_in s k ≡ depth_in s a + 1
-  kid-depth a k h = deeper s f a k (f.kid_parent a k (Has-taken (direction_of w a) (s.kids a) k h))
+  pub child-depth : (a k : IRNode) → Has (taken (direction_of w a) (s.children a)) k → depth_in s k ≡ depth_in s a + 1
+  child-depth a k h = deeper s f a k (f.child_parent a k (Has-taken (direction_of w a) (s.children a) k h))
 
   pub down-smaller : (c : IRNode) (o : Option IRNode) (n : IRNode) (en : Bool) → order_of w c ≡ PostOrder → first_of w s c ≡ o → enter_or_leave o c ≡ (n, en) → part w s n en < part w s c true
   down-smaller c None n en d e z =
       let g : part w s c false < part w s c true = (rw d (let p = small c in omega (arith, p))) in
       subst (λ (v : IRNode × Bool). part w s v.0 v.1 < part w s c true) z g
   down-smaller c (Some k) n en d e z =
-      let p = kid-depth c k (head-Has (taken (direction_of w c) (s.kids c)) k e) in
+      let p = child-depth c k (head-Has (taken (direction_of w c) (s.children c)) k e) in
       let q = part-entering (order_of w k) (depth_in s k) in
       let m = small k in
       let g : part w s k true < part w s c true = (rw d (omega (arith, p, q, m))) in
       subst (λ (v : IRNode × Bool). part w s v.0 v.1 < part w s c true) z g
 
-  pub up-smaller : (c a : IRNode) (o : Option IRNode) (n : IRNode) (en : Bool) → order_of w c ≡ PreOrder → s.parent c ≡ Some a → after c (taken (direction_of w a) (s.kids a)) ≡ o → enter_or_leave o a ≡ (n, en) → part w s n en < part w s c false
+  pub up-smaller : (c a : IRNode) (o : Option IRNode) (n : IRNode) (en : Bool) → order_of w c ≡ PreOrder → s.parent c ≡ Some a → after c (taken (direction_of w a) (s.children a)) ≡ o → enter_or_leave o a ≡ (n, en) → part w s n en < part w s c false
   up-smaller c a None n en d u e z =
       let p = deeper s f a c u in
       let q = part-leaving (order_of w a) (depth_in s a) in
       let g : part w s a false < part w s c false = (rw d (omega (arith, p, q))) in
       subst (λ (v : IRNode × Bool). part w s v.0 v.1 < part w s c false) z g
   up-smaller c a (Some k) n en d u e z =
-      let p = kid-depth a k (after-Has (taken (direction_of w a) (s.kids a)) c k e) in
+      let p = child-depth a k (after-Has (taken (direction_of w a) (s.children a)) c k e) in
       let q = part-entering (order_of w k) (depth_in s k) in
       let m = small k in
       let g : part w s k true < part w s c false = (rw d (omega (arith, p, q, m))) in
@@ -97,10 +97,10 @@ module _ (w : WalkConfig) (s : Shape) (f : IsForest s) where
 
       go : (o : Option IRNode) → s.parent c ≡ o → option_map (λ a. enter_or_leave (next_of w s c) a) o ≡ Some (n, en') → part w s n en' < part w s c false
       go None e z = cc
-      go (Some a) e z = up-smaller c a (after c (taken (direction_of w a) (s.kids a))) n en' k e refl
+      go (Some a) e z = up-smaller c a (after c (taken (direction_of w a) (s.children a))) n en' k e refl
           (let y : Some (enter_or_leave (next_of w s c) a) ≡ Some (n, en') = z in
-          let x : next_of w s c ≡ after c (taken (direction_of w a) (s.kids a)) = (rw e refl) in
-          let v : Some (enter_or_leave (after c (taken (direction_of w a) (s.kids a))) a) ≡ Some (n, en') = (rw x at y) in cc v)
+          let x : next_of w s c ≡ after c (taken (direction_of w a) (s.children a)) = (rw e refl) in
+          let v : Some (enter_or_leave (after c (taken (direction_of w a) (s.children a))) a) ≡ Some (n, en') = (rw x at y) in cc v)
 
 -- a step with a call
 pub called-smaller : (w : WalkConfig) (s s' : Shape) (f' : IsForest s') (c n : IRNode) (en en' : Bool) (left left' : ℕ) → left ≡ left' + 1 → size_of w s' left' n en' < size_of w s left c en

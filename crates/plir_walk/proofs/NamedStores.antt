@@ -10,7 +10,7 @@ use Rattle.plir_core.specs.declared.ptr.IRNode.TheVariants.{Operation, BasicBloc
 use Rattle.plir_core.specs.declared.value.DefiningEntity.{DefiningEntity}
 use Rattle.plir_core.specs.declared.value.DefiningEntity.TheVariants.{Op, Block}
 use Rattle.plir_core.specs.Contents.{OpView, BlockView}
-use Rattle.plir_core.specs.Store.{Store, IsLive, entity_node, op_at, block_at, attributes_in, block_attributes_in}
+use Rattle.plir_core.specs.ContextView.{ContextView, IsLive, entity_node, op_at, block_at, attributes_in, block_attributes_in}
 use Rattle.plir_core.specs.Changes.{with_op_content, with_block_content, op_edited, block_edited, with_op_edit, with_block_edit}
 use Rattle.plir_walk.specs.GivenNames.{attributes_at, with_attributes}
 use Rattle.plir_walk.proofs.Slots.{content-here, version-kept, live-kept}
@@ -53,13 +53,13 @@ module _ {C : Type 0} (t : Table C) (i : ℕ) where
       go (Some v) e = ap (edit_in (with_content t i (f v)) i g) (content-here t i (f v) (some-of v e)) ∙ content-again t i (f v) (g (f v)) (some-of v e)
 
 module _ {K A T : Type 0} where
-  pub op-edit-is : (s : Store K A T) (p : Ptr OperationKind) (f : OpView K A → OpView K A) → with_op_edit s p f ≡ record s { nodes = record s.nodes { ops = edited s.nodes.ops p.slot f } }
+  pub op-edit-is : (s : ContextView K A T) (p : Ptr OperationKind) (f : OpView K A → OpView K A) → with_op_edit s p f ≡ record s { nodes = record s.nodes { ops = edited s.nodes.ops p.slot f } }
   op-edit-is s p f = elim (op_at s p) as (λ o. op_edited s p.slot f o ≡ record s { nodes = record s.nodes { ops = edit_in s.nodes.ops p.slot f o } }) [ None ↦ refl | Some v ↦ refl ]
 
-  pub block-edit-is : (s : Store K A T) (p : Ptr BasicBlockKind) (f : BlockView A → BlockView A) → with_block_edit s p f ≡ record s { nodes = record s.nodes { blocks = edited s.nodes.blocks p.slot f } }
+  pub block-edit-is : (s : ContextView K A T) (p : Ptr BasicBlockKind) (f : BlockView A → BlockView A) → with_block_edit s p f ≡ record s { nodes = record s.nodes { blocks = edited s.nodes.blocks p.slot f } }
   block-edit-is s p f = elim (block_at s p) as (λ o. block_edited s p.slot f o ≡ record s { nodes = record s.nodes { blocks = edit_in s.nodes.blocks p.slot f o } }) [ None ↦ refl | Some v ↦ refl ]
 
-module _ {K A T : Type 0} (s : Store K A T) where
+module _ {K A T : Type 0} (s : ContextView K A T) where
   abbrev Attributes : Type 0
   Attributes = List (List ℕ × AttrView A)
 

@@ -5,15 +5,16 @@ use Rattle.std.proofs.lemmas.Option.{none-some}
 use Rattle.plir_data.specs.AttrView.{leaf, unit, given_names}
 use Rattle.plir_data.specs.Dictionary.{IsDictionary, dict_get, dict_put, dict_without}
 use Rattle.plir_core.specs.declared.value.DefiningEntity.{DefiningEntity}
-use Rattle.plir_core.specs.Store.{Store, IsLive, entity_node}
+use Rattle.plir_core.specs.ContextView.{ContextView, IsLive, entity_node}
 use Rattle.plir_walk.specs.declared.name_list.Placing.{Placing}
-use Rattle.plir_walk.specs.GivenNames.{Names, names_of, names_key, named, all_unset, attributes_at, with_attributes, names_at, with_names}
+use Rattle.plir_walk.specs.GivenNames.{Names, names_of, named, all_unset, attributes_at, with_attributes, names_at, with_names}
 use Rattle.plir_walk.specs.Placing.{placed_name}
 use Rattle.plir_walk.proofs.NameLists.{unset-first, given-set}
 use Rattle.plir_data.specs.DictLaws.{put-put, without-put, put-same, without-absent, get-put}
+use Rattle.plir_data.specs.Keys.{names_key}
 use Rattle.plir_walk.proofs.NamedStores.{attributes-same, attributes-id, attributes-live, attributes-after, attributes-then}
 
-module _ {K A T : Type 0} (s t : Store K A T) (e : DefiningEntity) (ns : Names)
+module _ {K A T : Type 0} (s t : ContextView K A T) (e : DefiningEntity) (ns : Names)
     (taken : Some (leaf (given_names ns)) ≡ dict_get (attributes_at s e) names_key)
     (after : t ≡ with_attributes s e (λ es. dict_put es names_key (leaf unit))) where
   -- the node is live still, and something stands under the key
@@ -50,7 +51,7 @@ module _ {K A T : Type 0} (s t : Store K A T) (e : DefiningEntity) (ns : Names)
         ∙ attributes-id s e (λ es. dict_put (dict_put es names_key (leaf unit)) names_key (leaf (given_names ns))) (put-put (attributes_at s e) names_key (leaf unit) (leaf (given_names ns)) ∙ put-same (attributes_at s e) names_key (leaf (given_names ns)) d (sym taken))
 
 -- Where nothing stands under the key.
-module _ {K A T : Type 0} (s : Store K A T) (e : DefiningEntity) (absent : dict_get (attributes_at s e) names_key ≡ None) where
+module _ {K A T : Type 0} (s : ContextView K A T) (e : DefiningEntity) (absent : dict_get (attributes_at s e) names_key ≡ None) where
   pub no-names : names_at s e ≡ []
   no-names = ap (λ o. unwrap_or (option_and_then names_of o) []) absent
 

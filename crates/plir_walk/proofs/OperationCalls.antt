@@ -43,7 +43,7 @@ module _ {C S B : Type 0} (look : C → Shape) (post : OperationRelation C S B) 
         record {
           calls = operation_calls h.calls;
           chain = ops-chain look post r c s h.calls c s' chain;
-          walk = walked_operations look post r c s h.calls c s' chain w (look c).kids a h.walk;
+          walk = walked_operations look post r c s h.calls c s' chain w (look c).children a h.walk;
         }
 
     pub within-operations : (w : WalkConfig) (c : C) (s : S) (limit : ℕ) (a : Result (ControlFlow B WalkContinue) CallLimit) (c' : C) (s' : S) → Walked look w done c s r limit a c' s' → WalkedOperationsWithin look w post c s r limit a c' s'

@@ -196,7 +196,7 @@ Chain-each P c s (y ∷ xs) c' s' h x (inr k) = Chain-each P y.after y.left xs c
 pub once : {C S : Type 0} (look : C → Shape) (w : WalkConfig) (plain : C → S → IRNode → Unit {0} → C → S → Type 0) (c : C) (s : S) (r : IRNode) (s' : S)
     → WalkedOver look w (Advancing plain) c s r (Continue Advance) s' → WalkedOnce look w (Advancing plain) c s r s'
 once look w plain c s r s' h =
-    let order = total-order w (look c).kids r h.walk.in_order.one_place in
+    let order = total-order w (look c).children r h.walk.in_order.one_place in
     record {
       calls = h.calls;
       chain = h.chain;
@@ -211,7 +211,7 @@ once look w plain c s r s' h =
                 let z : ⊥ = cc e in z),
           ),
         );
-        once = Pairs-distinct (NodeBefore w (look c).kids r) (nodes_of h.calls) order.irreflexive h.walk.in_order.increasing;
+        once = Pairs-distinct (NodeBefore w (look c).children r) (nodes_of h.calls) order.irreflexive h.walk.in_order.increasing;
         increasing = h.walk.in_order.increasing;
       };
     }

@@ -15,7 +15,7 @@ module _ {F C S B : Type 0} (look : C → Shape) (w : WalkConfig) (g : Shared F 
   pub walked-over : (c : C) (s : S) (r : IRNode) (limit : ℕ) (a : ControlFlow B WalkContinue) (s' : S)
       → Walked look w (ReadsBack g f) c s r limit (Ok a) c s' → WalkedOver look w (ReadsBack g f) c s r a s'
   walked-over c s r limit a s' h =
-      let over = h.unchanged (λ d s n a d' s' p. record { live = λ m. ap (λ z. (look z).live m) p.made.stays; kids = λ m. ap (λ z. (look z).kids m) p.made.stays }) in
+      let over = h.unchanged (λ d s n a d' s' p. record { live = λ m. ap (λ z. (look z).live m) p.made.stays; children = λ m. ap (λ z. (look z).children m) p.made.stays }) in
       record { calls = h.calls; chain = h.chain; walk = record { in_order = over.in_order; answers = over.answers } }
 
 module _ {F C S B : Type 0} (look : C → Shape) (g : Shared F (Bor C × (MutBor S × (IRNode × Unit {0}))) (ControlFlow B WalkContinue × (MutBor S × Unit {0}))) (f : F) where

@@ -1,7 +1,7 @@
 -- Tables of which some contents have changed, and what a walk sees of their nodes.
 use Rattle.std.proofs.Common.{◌≡◌, ℕ, cond, ◌&&◌, nat_lt, nat_le, List, [], ◌∷◌, map, Option, Some, None, IsSome, inl, inr, refl, sym, ap, subst, ◌∙◌, length-set}
 use Rattle.std.specs.Prelude.{option_map}
-use Rattle.plir_store.specs.Lists.{kids_at, parent_at}
+use Rattle.plir_store.specs.Lists.{children_at, parent_at}
 use Rattle.plir_store.specs.Table.{Table, content_at, version_at, is_live_at, with_content}
 use Rattle.plir_core.specs.declared.ptr.Ptr.{Ptr}
 use Rattle.plir_core.specs.declared.ptr.Operation.{Operation as OperationKind}
@@ -11,7 +11,7 @@ use Rattle.plir_core.specs.declared.ptr.IRNode.TheVariants.{Operation, Region, B
 use Rattle.plir_store.specs.Members.{Has, Distinct}
 use Rattle.plir_core.specs.Contents.{OpView, BlockView}
 use Rattle.plir_core.specs.Nodes.{region_node}
-use Rattle.plir_core.specs.Store.{Store, is_live, given_out, kids, parent_of}
+use Rattle.plir_core.specs.ContextView.{ContextView, is_live, given_out, children, parent_of}
 use Rattle.plir_walk.specs.Unnamed.{SameSlots}
 use Rattle.plir_walk.proofs.NamedStores.{edit_in, edited}
 use Rattle.plir_walk.proofs.Slots.{content-here, content-other, version-kept, full-kept}
@@ -84,8 +84,8 @@ abbrev block_by : (ℕ → ℕ) → ℕ → IRNode
 block_by version j = BasicBlock (let p : Ptr BasicBlockKind = record { slot = j; version = version j; kind = record {} } in p)
 
 -- Other contents in the same slots: a walk sees nothing of it.
-module _ {K A T : Type 0} (s : Store K A T) (o : Table (OpView K A)) (b : Table (BlockView A)) (os : SameSlots s.nodes.ops o) (bs : SameSlots s.nodes.blocks b) where
-  abbrev now : Store K A T
+module _ {K A T : Type 0} (s : ContextView K A T) (o : Table (OpView K A)) (b : Table (BlockView A)) (os : SameSlots s.nodes.ops o) (bs : SameSlots s.nodes.blocks b) where
+  abbrev now : ContextView K A T
   now = record s { nodes = record s.nodes { ops = o; blocks = b } }
 
   same-ops : ◌≡◌ {A = ℕ → ℕ} (λ j. version_at o j) (λ j. version_at s.nodes.ops j)
@@ -104,12 +104,12 @@ module _ {K A T : Type 0} (s : Store K A T) (o : Table (OpView K A)) (b : Table 
   refilled-given (Region p) = refl
   refilled-given (BasicBlock p) = ap (λ z. nat_lt 0 p.version && nat_le p.version z) (bs.versions p.slot)
 
-  pub refilled-kids : (m : IRNode) → kids now m ≡ kids s m
-  refilled-kids (Operation p) = ap (λ l. cond l (map (region_node s.nodes) (kids_at s.nodes.regions_in_op p.slot)) []) (refilled-live (Operation p))
-  refilled-kids (Region p) = ap (λ f. cond (is_live_at s.nodes.regions p.slot p.version) (map (block_by f) (kids_at s.nodes.blocks_in_region p.slot)) []) same-blocks
-  refilled-kids (BasicBlock p) =
-      ap (λ l. cond l (map (op_by (λ j. version_at o j)) (kids_at s.nodes.ops_in_block p.slot)) []) (refilled-live (BasicBlock p))
-      ∙ ap (λ f. cond (is_live s (BasicBlock p)) (map (op_by f) (kids_at s.nodes.ops_in_block p.slot)) []) same-ops
+  pub refilled-children : (m : IRNode) → children now m ≡ children s m
+  refilled-children (Operation p) = ap (λ l. cond l (map (region_node s.nodes) (children_at s.nodes.regions_in_op p.slot)) []) (refilled-live (Operation p))
+  refilled-children (Region p) = ap (λ f. cond (is_live_at s.nodes.regions p.slot p.version) (map (block_by f) (children_at s.nodes.blocks_in_region p.slot)) []) same-blocks
+  refilled-children (BasicBlock p) =
+      ap (λ l. cond l (map (op_by (λ j. version_at o j)) (children_at s.nodes.ops_in_block p.slot)) []) (refilled-live (BasicBlock p))
+      ∙ ap (λ f. cond (is_live s (BasicBlock p)) (map (op_by f) (children_at s.nodes.ops_in_block p.slot)) []) same-ops
 
   pub refilled-parents : (m : IRNode) → parent_of now m ≡ parent_of s m
   refilled-parents (Operation p) =

@@ -1,6 +1,6 @@
 use Rattle.std.proofs.Common.{◌≡◌, ◌≢◌, zero, Bool, true, false, cond, List, [], ◌∷◌, ◌++◌, Some, inl, inr, refl, sym, ap, subst, ◌∙◌, append_assoc}
 use Rattle.std.proofs.lemmas.List.{append-nil}
-use Rattle.plir_walk.specs.AsRead.{kids_at, kids_by, tree_read}
+use Rattle.plir_walk.specs.AsRead.{children_at, children_by, tree_read}
 use Rattle.plir_walk.specs.Calls.{Call, nodes_of}
 use Rattle.plir_walk.specs.Config.{AllPost, direction_of, order_of}
 use Rattle.plir_store.specs.Members.{Distinct, Has, head}
@@ -13,10 +13,10 @@ use Rattle.plir_core.specs.declared.ptr.IRNode.{IRNode}
 use Rattle.plir_core.specs.Forest.{IsBelow, IsForest, Shape}
 use Rattle.plir_store.specs.MemberLaws.{Has-append_right}
 use Rattle.plir_walk.specs.Step.{after, taken}
-use Rattle.plir_walk.proofs.Climbs.{IsBelow-Reaches, kid-below}
+use Rattle.plir_walk.proofs.Climbs.{IsBelow-Reaches, child-below}
 use Rattle.plir_walk.proofs.Groves.{Grove, Has-taken, Reads, Reads-beside, beside, first, flat, flat-beside, grow, last, leaf, no-both, roots}
 use Rattle.plir_walk.proofs.Nodes.{after-at, same_tells}
-use Rattle.plir_walk.proofs.Steps.{Fits, Frame, Path, frame-distinct, frame-kid, frame-parent, so_far, top, under}
+use Rattle.plir_walk.proofs.Steps.{Fits, Frame, Path, frame-distinct, frame-child, frame-parent, so_far, top, under}
 
 -- the tree as the calls read it
 
@@ -38,7 +38,7 @@ side-roots (grow n p x y) c o b td = ap (λ v. n ∷ v) (side-roots y c o b td)
 -- the tree u, with nothing below a PreOrder node whose call answered Skip
 abbrev pub cut : {C S B : Type 0} → WalkConfig → List (Call C S B) → Tree → Tree
 cut w [] u n = u n
-cut w (x ∷ xs) u n = cond (same x.node n) (kids_by (order_of w n) x.answer (u n) (u n)) (cut w xs u n)
+cut w (x ∷ xs) u n = cond (same x.node n) (children_by (order_of w n) x.answer (u n) (u n)) (cut w xs u n)
 
 pub cut-same : (w : WalkConfig) {C S B : Type 0} (xs : List (Call C S B)) (u v : Tree) (n : IRNode) → u n ≡ v n → cut w xs u n ≡ cut w xs v n
 cut-same w [] u v n h = h
@@ -58,7 +58,7 @@ cut-fresh w (x ∷ xs) u n h = elim (same_tells x.node n) [
   | inr k ↦ rw k.0 (cut-fresh w xs u n (λ g. h (inr g)))
 ]
 
-pub cut-new : (w : WalkConfig) {C S B : Type 0} (xs : List (Call C S B)) (x : Call C S B) (u : Tree) → (Has (nodes_of xs) x.node → ⊥) → cut w (xs ++ x ∷ []) u x.node ≡ kids_by (order_of w x.node) x.answer (u x.node) (u x.node)
+pub cut-new : (w : WalkConfig) {C S B : Type 0} (xs : List (Call C S B)) (x : Call C S B) (u : Tree) → (Has (nodes_of xs) x.node → ⊥) → cut w (xs ++ x ∷ []) u x.node ≡ children_by (order_of w x.node) x.answer (u x.node) (u x.node)
 cut-new w [] x u h = elim (same_tells x.node x.node) [ inl k ↦ rw k.0 refl | inr k ↦ absurd (k.1 refl) ]
 cut-new w (y ∷ xs) x u h = elim (same_tells y.node x.node) [
   | inl k ↦ absurd (h (inl k.1))
@@ -73,14 +73,14 @@ module _ {C S B : Type 0} (look : C → Shape) (w : WalkConfig) where
     | inr k ↦ rw k.0 (elim h [ inl g ↦ absurd (k.1 g) | inr g ↦ read-called xs ys e e' n g ])
   ]
 
-  pub read-fresh : (xs : List (Call C S B)) (e : C) (n : IRNode) → (Has (nodes_of xs) n → ⊥) → tree_read look w xs e n ≡ (look e).kids n
+  pub read-fresh : (xs : List (Call C S B)) (e : C) (n : IRNode) → (Has (nodes_of xs) n → ⊥) → tree_read look w xs e n ≡ (look e).children n
   read-fresh [] e n h = refl
   read-fresh (x ∷ xs) e n h = elim (same_tells x.node n) [
     | inl k ↦ absurd (h (inl k.1))
     | inr k ↦ rw k.0 (read-fresh xs e n (λ g. h (inr g)))
   ]
 
-  pub read-new : (xs : List (Call C S B)) (x : Call C S B) (e : C) → (Has (nodes_of xs) x.node → ⊥) → tree_read look w (xs ++ x ∷ []) e x.node ≡ kids_at look w x
+  pub read-new : (xs : List (Call C S B)) (x : Call C S B) (e : C) → (Has (nodes_of xs) x.node → ⊥) → tree_read look w (xs ++ x ∷ []) e x.node ≡ children_at look w x
   read-new [] x e h = elim (same_tells x.node x.node) [ inl k ↦ rw k.0 refl | inr k ↦ absurd (k.1 refl) ]
   read-new (y ∷ xs) x e h = elim (same_tells y.node x.node) [
     | inl k ↦ absurd (h (inl k.1))
@@ -99,7 +99,7 @@ module _ {C S B : Type 0} (look : C → Shape) (w : WalkConfig) (base : Tree) wh
     pub given : (x : IRNode) → Has (nodes_of xs) x → (look e).given x ≡ true
     pub distinct : Distinct (nodes_of xs)
     pub base_done : AllPost w → (x : IRNode) → Has (nodes_of xs) x → tree_read look w xs e x ≡ base x
-    pub base_here : AllPost w → (x : IRNode) → Reaches (look e).parent x c → (look e).kids x ≡ base x
+    pub base_here : AllPost w → (x : IRNode) → Reaches (look e).parent x c → (look e).children x ≡ base x
 
   -- the cursor was entered, and its children come next
   pub record Opening (xs : List (Call C S B)) (e : C) (r c : IRNode) : Type 0 where
@@ -107,7 +107,7 @@ module _ {C S B : Type 0} (look : C → Shape) (w : WalkConfig) (base : Tree) wh
     pub fits : Fits w (look e) base (tree_read look w xs e) r (nodes_of xs) path c
     pub o : Order
     pub order_is : o ≡ (order_of w c)
-    pub now : (look e).kids c ≡ tree_read look w xs e c
+    pub now : (look e).children c ≡ tree_read look w xs e c
     pub told : so_far path ++ first o c ≡ nodes_of xs
     pub live : (look e).live c ≡ true
     pub fresh : (x : IRNode) → IsBelow (look e) c x → Has (nodes_of xs) x → ⊥
@@ -115,7 +115,7 @@ module _ {C S B : Type 0} (look : C → Shape) (w : WalkConfig) (base : Tree) wh
     pub given : (x : IRNode) → Has (nodes_of xs) x → (look e).given x ≡ true
     pub distinct : Distinct (nodes_of xs)
     pub base_done : AllPost w → (x : IRNode) → Has (nodes_of xs) x → tree_read look w xs e x ≡ base x
-    pub base_here : AllPost w → (x : IRNode) → Reaches (look e).parent x c → (look e).kids x ≡ base x
+    pub base_here : AllPost w → (x : IRNode) → Reaches (look e).parent x c → (look e).children x ≡ base x
 
   -- what is below the cursor was walked
   pub record Leaving (xs : List (Call C S B)) (e : C) (r c : IRNode) : Type 0 where
@@ -124,16 +124,16 @@ module _ {C S B : Type 0} (look : C → Shape) (w : WalkConfig) (base : Tree) wh
     pub o : Order
     pub b : Grove
     pub order_is : o ≡ (order_of w c)
-    pub kids_are : roots b ≡ taken (direction_of w c) (tree_read look w xs e c)
+    pub children_are : roots b ≡ taken (direction_of w c) (tree_read look w xs e c)
     pub read : Reads w (tree_read look w xs e) b
-    pub now : (look e).kids c ≡ tree_read look w xs e c
+    pub now : (look e).children c ≡ tree_read look w xs e c
     pub told : so_far path ++ (first o c ++ flat b) ≡ nodes_of xs
     pub live : (look e).live c ≡ true
     pub post_fresh : o ≡ PostOrder → Has (nodes_of xs) c → ⊥
     pub given : (x : IRNode) → Has (nodes_of xs) x → (look e).given x ≡ true
     pub distinct : Distinct (nodes_of xs)
     pub base_done : AllPost w → (x : IRNode) → Has (nodes_of xs) x → tree_read look w xs e x ≡ base x
-    pub base_here : AllPost w → (look e).kids c ≡ base c
+    pub base_here : AllPost w → (look e).children c ≡ base c
 
   -- the cursor and what is below it were walked
   pub record Closing (xs : List (Call C S B)) (e : C) (r c : IRNode) : Type 0 where
@@ -150,13 +150,13 @@ module _ {C S B : Type 0} (look : C → Shape) (w : WalkConfig) (base : Tree) wh
 
   -- steps with no call
 
-  pub start : (e : C) (r : IRNode) → (look e).live r ≡ true → ((x : IRNode) → (look e).kids x ≡ base x) → Entering [] e r r
+  pub start : (e : C) (r : IRNode) → (look e).live r ≡ true → ((x : IRNode) → (look e).children x ≡ base x) → Entering [] e r r
   start e r v same = record { path = top; fits = refl; told = refl; live = v; fresh = λ x h k. k; given = λ x h. absurd h; distinct = tt; base_done = λ all x h. absurd h; base_here = λ all x b. same x }
 
   pub pass-enter : (xs : List (Call C S B)) (e : C) (r c : IRNode) → Entering xs e r c → order_of w c ≡ PostOrder → Opening xs e r c
   pass-enter xs e r c h o =
       let un : Has (nodes_of xs) c → ⊥ = h.fresh c (zero, refl) in
-      let k : tree_read look w xs e c ≡ (look e).kids c = read-fresh look w xs e c un in
+      let k : tree_read look w xs e c ≡ (look e).children c = read-fresh look w xs e c un in
       record {
         path = h.path;
         fits = h.fits;
@@ -181,7 +181,7 @@ module _ {C S B : Type 0} (look : C → Shape) (w : WalkConfig) (base : Tree) wh
         fits = h.fits;
         o = h.o;
         b = h.b;
-        read = (h.order_is, h.kids_are, h.read, tt);
+        read = (h.order_is, h.children_are, h.read, tt);
         told = ap (λ v. so_far h.path ++ v) (pre-flat h.o c h.b k) ∙ h.told;
         live = h.live;
         given = h.given;
@@ -194,45 +194,45 @@ module _ {C S B : Type 0} (look : C → Shape) (w : WalkConfig) (base : Tree) wh
       pre-flat PostOrder c b k = absurd (no-both PostOrder k refl)
 
   pub down : (xs : List (Call C S B)) (e : C) (f : IsForest (look e)) (r c : IRNode) → Opening xs e r c
-      → (k : IRNode) (rest : List IRNode) → taken (direction_of w c) ((look e).kids c) ≡ k ∷ rest → Entering xs e r k
+      → (k : IRNode) (rest : List IRNode) → taken (direction_of w c) ((look e).children c) ≡ k ∷ rest → Entering xs e r k
   down xs e f r c h k rest g =
       let s : Shape = look e in
       let g' : k ∷ rest ≡ taken (direction_of w c) (tree_read look w xs e c) = rw (← h.now) (sym g) in
-      let kid = λ (n : IRNode) (z : Has (k ∷ rest) n). Has-taken (direction_of w c) (s.kids c) n (subst (λ (v : List IRNode). Has v n) (sym g) z) in
+      let child = λ (n : IRNode) (z : Has (k ∷ rest) n). Has-taken (direction_of w c) (s.children c) n (subst (λ (v : List IRNode). Has v n) (sym g) z) in
       record {
         path = under c h.o leaf rest h.path;
         fits = (
           record {
             order_is = h.order_is;
-            kids_are = g';
+            children_are = g';
             read = tt;
             now = h.now;
             live = h.live;
             fresh = h.post_fresh;
-            ahead = λ y x z b u. h.fresh x (kid-below s c y x (f.kid_parent c y (kid y (inr z))) b) u;
+            ahead = λ y x z b u. h.fresh x (child-below s c y x (f.child_parent c y (child y (inr z))) b) u;
             base_at = λ all. h.base_here all c (zero, refl);
-            base_ahead = λ all y x z b. h.base_here all x (IsBelow-Reaches s c x (kid-below s c y x (f.kid_parent c y (kid y (inr z))) b));
+            base_ahead = λ all y x z b. h.base_here all x (IsBelow-Reaches s c x (child-below s c y x (f.child_parent c y (child y (inr z))) b));
           },
           h.fits,
         );
         told = ap (λ v. so_far h.path ++ v) (append-nil (first h.o c)) ∙ h.told;
-        live = f.kid_live c k (kid k (inl refl));
-        fresh = λ x b u. h.fresh x (kid-below s c k x (f.kid_parent c k (kid k (inl refl))) b) u;
+        live = f.child_live c k (child k (inl refl));
+        fresh = λ x b u. h.fresh x (child-below s c k x (f.child_parent c k (child k (inl refl))) b) u;
         given = h.given;
         distinct = h.distinct;
         base_done = h.base_done;
-        base_here = λ all x b. h.base_here all x (IsBelow-Reaches s c x (kid-below s c k x (f.kid_parent c k (kid k (inl refl))) b));
+        base_here = λ all x b. h.base_here all x (IsBelow-Reaches s c x (child-below s c k x (f.child_parent c k (child k (inl refl))) b));
       }
 
   pub bottom : (xs : List (Call C S B)) (e : C) (r c : IRNode) → Opening xs e r c
-      → taken (direction_of w c) ((look e).kids c) ≡ [] → Leaving xs e r c
+      → taken (direction_of w c) ((look e).children c) ≡ [] → Leaving xs e r c
   bottom xs e r c h g = record {
     path = h.path;
     fits = h.fits;
     o = h.o;
     b = leaf;
     order_is = h.order_is;
-    kids_are = rw (← h.now) (sym g);
+    children_are = rw (← h.now) (sym g);
     read = tt;
     now = h.now;
     told = ap (λ v. so_far h.path ++ v) (append-nil (first h.o c)) ∙ h.told;
@@ -246,12 +246,12 @@ module _ {C S B : Type 0} (look : C → Shape) (w : WalkConfig) (base : Tree) wh
 
   -- Above the cursor stands its parent, unless it is the root.
   pub not-root : (xs : List (Call C S B)) (e : C) (f : IsForest (look e)) (r c : IRNode) → Closing xs e r c → c ≢ r
-      → (a : IRNode) × ((look e).parent c ≡ Some a) × (td : List IRNode) × (after c (taken (direction_of w a) ((look e).kids a)) ≡ head td)
+      → (a : IRNode) × ((look e).parent c ≡ Some a) × (td : List IRNode) × (after c (taken (direction_of w a) ((look e).children a)) ≡ head td)
       × (((k : IRNode) (rest : List IRNode) → td ≡ k ∷ rest → Entering xs e r k) × (td ≡ [] → Leaving xs e r a))
   not-root xs e f r c h ne = go h.path h.fits h.told
     where
       go : (path : Path) → Fits w (look e) base (tree_read look w xs e) r (nodes_of xs) path c → so_far path ++ flat (grow c h.o h.b leaf) ≡ nodes_of xs
-          → (a : IRNode) × ((look e).parent c ≡ Some a) × (td : List IRNode) × (after c (taken (direction_of w a) ((look e).kids a)) ≡ head td)
+          → (a : IRNode) × ((look e).parent c ≡ Some a) × (td : List IRNode) × (after c (taken (direction_of w a) ((look e).children a)) ≡ head td)
           × (((k : IRNode) (rest : List IRNode) → td ≡ k ∷ rest → Entering xs e r k) × (td ≡ [] → Leaving xs e r a))
       go top fits told = absurd (ne fits)
       go (under a o d td u) fits told =
@@ -262,7 +262,7 @@ module _ {C S B : Type 0} (look : C → Shape) (w : WalkConfig) (base : Tree) wh
           let read : Reads w t (beside d g) = Reads-beside w t d g fr.read h.read in
           let told' : so_far u ++ (first o a ++ flat (beside d g)) ≡ ns = rw (flat-beside d g) (told-side (so_far u) (first o a) (flat d) (flat g) ns told) in
           let dis = frame-distinct w (look e) f base t ns a o d td c fr in
-          let is : taken (direction_of w a) ((look e).kids a) ≡ roots d ++ c ∷ td = ap (taken (direction_of w a)) fr.now ∙ sym fr.kids_are in (
+          let is : taken (direction_of w a) ((look e).children a) ≡ roots d ++ c ∷ td = ap (taken (direction_of w a)) fr.now ∙ sym fr.children_are in (
             a,
             frame-parent w (look e) f base t ns a o d td c fr,
             td,
@@ -275,7 +275,7 @@ module _ {C S B : Type 0} (look : C → Shape) (w : WalkConfig) (base : Tree) wh
                     fits = (
                       record {
                         order_is = fr.order_is;
-                        kids_are = side-roots d c h.o h.b (k ∷ rest) ∙ (rw (← z) fr.kids_are);
+                        children_are = side-roots d c h.o h.b (k ∷ rest) ∙ (rw (← z) fr.children_are);
                         read = read;
                         now = fr.now;
                         live = fr.live;
@@ -287,7 +287,7 @@ module _ {C S B : Type 0} (look : C → Shape) (w : WalkConfig) (base : Tree) wh
                       fits.1,
                     );
                     told = told';
-                    live = f.kid_live a k (frame-kid w (look e) base t ns a o d td c fr k kd);
+                    live = f.child_live a k (frame-child w (look e) base t ns a o d td c fr k kd);
                     fresh = λ x b. fr.ahead k x (rw z (inl refl)) b;
                     given = h.given;
                     distinct = h.distinct;
@@ -300,7 +300,7 @@ module _ {C S B : Type 0} (look : C → Shape) (w : WalkConfig) (base : Tree) wh
                 o = o;
                 b = beside d g;
                 order_is = fr.order_is;
-                kids_are = sym (append-nil (roots (beside d g))) ∙ (side-roots d c h.o h.b [] ∙ (rw (← z) fr.kids_are));
+                children_are = sym (append-nil (roots (beside d g))) ∙ (side-roots d c h.o h.b [] ∙ (rw (← z) fr.children_are));
                 read = read;
                 now = fr.now;
                 told = told';

@@ -6,7 +6,7 @@ use Rattle.plir_store.specs.Lists.{parent_at}
 use Rattle.plir_store.specs.Table.{is_live_at}
 use Rattle.plir_core.specs.declared.ptr.IRNode.{IRNode}
 use Rattle.plir_core.specs.declared.ptr.IRNode.TheVariants.{Operation, Region, BasicBlock}
-use Rattle.plir_core.specs.Nodes.{Nodes, block_node, is_node_live, node_kids, node_next, node_parent, node_prev, op_node, region_node}
+use Rattle.plir_core.specs.Nodes.{Nodes, block_node, is_node_live, node_children, node_next, node_parent, node_prev, op_node, region_node}
 use Rattle.plir_core.specs.Stored.{IsStored}
 use Rattle.plir_walk.specs.declared.config.Direction.{Direction}
 use Rattle.plir_walk.specs.declared.config.Direction.TheVariants.{Forward, Reverse}
@@ -33,16 +33,16 @@ module _ {O B : Type 0} (w : WalkConfig) (s : Nodes O B) where
       (parent_at s.blocks_in_region p.slot) a e
 
   after-taken : (n : IRNode) (d : Direction) (o : Option IRNode) → ((a : IRNode) → o ≡ Some a → direction_of w a ≡ d)
-      → option_and_then (λ a. after n (taken d (node_kids s a))) o
-      ≡ option_and_then (λ a. after n (taken (direction_of w a) (node_kids s a))) o
+      → option_and_then (λ a. after n (taken d (node_children s a))) o
+      ≡ option_and_then (λ a. after n (taken (direction_of w a) (node_children s a))) o
   after-taken n d None h = refl
-  after-taken n d (Some a) h = ap (λ v. after n (taken v (node_kids s a))) (sym (h a refl))
+  after-taken n d (Some a) h = ap (λ v. after n (taken v (node_children s a))) (sym (h a refl))
 
   module _ (stored : IsStored s) (n : IRNode) (live : is_node_live s n ≡ true) where
     pub next-taken : direction_above w n ≡ Forward
-        → node_next s n ≡ option_and_then (λ a. after n (taken (direction_of w a) (node_kids s a))) (node_parent s n)
+        → node_next s n ≡ option_and_then (λ a. after n (taken (direction_of w a) (node_children s a))) (node_parent s n)
     next-taken d = next-is s stored n live ∙ after-taken n Forward (node_parent s n) (λ a q. parent-taken n a q ∙ d)
 
     pub prev-taken : direction_above w n ≡ Reverse
-        → node_prev s n ≡ option_and_then (λ a. after n (taken (direction_of w a) (node_kids s a))) (node_parent s n)
+        → node_prev s n ≡ option_and_then (λ a. after n (taken (direction_of w a) (node_children s a))) (node_parent s n)
     prev-taken d = prev-is s stored n live ∙ after-taken n Reverse (node_parent s n) (λ a q. parent-taken n a q ∙ d)

@@ -5,9 +5,9 @@ use Rattle.std.proofs.lemmas.Bool.{cases_Bool, false_from_ne_true, false≢true}
 use Rattle.std.proofs.lemmas.Option.{same_Some}
 use Rattle.plir_store.specs.Members.{Has}
 use Rattle.plir_core.specs.Above.{climb, Reaches}
-use Rattle.plir_core.specs.Erase.{IsErased, LosesOneKid}
+use Rattle.plir_core.specs.Erase.{IsErased, LosesOneChild}
 use Rattle.plir_core.specs.Forest.{look, IsForest}
-use Rattle.plir_core.specs.Store.{Store, IsLive, is_live, kids, parent_of}
+use Rattle.plir_core.specs.ContextView.{ContextView, IsLive, is_live, children, parent_of}
 use Rattle.plir_core.specs.declared.ptr.IRNode.{IRNode}
 use Rattle.plir_core.specs.declared.ptr.IRNode.TheVariants.{Operation, BasicBlock}
 use Rattle.plir_walk.specs.Thinned.{IsThinned}
@@ -33,35 +33,35 @@ filter-within p q more (x ∷ xs) = elim (cases_Bool (p x)) [
 ]
 
 module _ {K A T : Type 0} where
-  pub thinned-none : (s : Store K A T) → IsForest (look s) → IsThinned s s
+  pub thinned-none : (s : ContextView K A T) → IsForest (look s) → IsThinned s s
   thinned-none s w = record {
     old = λ n l. l;
-    kids = λ n l. sym (all_kept (is_live s) (kids s n) (λ x h. w.kid_live n x h));
+    children = λ n l. sym (all_kept (is_live s) (children s n) (λ x h. w.child_live n x h));
     parents = λ n l. refl;
     ops = λ p l. refl;
     blocks = λ p l. refl;
     types = refl;
   }
 
-  pub thinned-both : (s t u : Store K A T) → IsThinned s t → IsThinned t u → IsThinned s u
+  pub thinned-both : (s t u : ContextView K A T) → IsThinned s t → IsThinned t u → IsThinned s u
   thinned-both s t u f g = record {
     old = λ n l. f.old n (g.old n l);
-    kids = λ n l. g.kids n l ∙ ap (filter (is_live u)) (f.kids n (g.old n l)) ∙ filter-within (is_live t) (is_live u) (λ x k. g.old x k) (kids s n);
+    children = λ n l. g.children n l ∙ ap (filter (is_live u)) (f.children n (g.old n l)) ∙ filter-within (is_live t) (is_live u) (λ x k. g.old x k) (children s n);
     parents = λ n l. g.parents n l ∙ f.parents n (g.old n l);
     ops = λ p l. g.ops p l ∙ f.ops p (g.old (Operation p) l);
     blocks = λ p l. g.blocks p l ∙ f.blocks p (g.old (BasicBlock p) l);
     types = g.types ∙ f.types;
   }
 
-  module _ (s t : Store K A T) (n : IRNode) (w : IsForest (look s)) (loses : LosesOneKid s.nodes t.nodes n) (e : IsErased s.nodes t.nodes n) (same_types : t.types ≡ s.types) where
+  module _ (s t : ContextView K A T) (n : IRNode) (w : IsForest (look s)) (loses : LosesOneChild s.nodes t.nodes n) (e : IsErased s.nodes t.nodes n) (same_types : t.types ≡ s.types) where
     -- what is left does not stand below n
     apart : (m : IRNode) → IsLive t m → Reaches (parent_of s) m n → ⊥
     apart m l r = false≢true (sym (e.gone m r) ∙ l)
 
-    -- nor does a kid of it but n
-    kid-apart : (m : IRNode) → IsLive t m → (x : IRNode) → Has (kids s m) x → (x ≡ n → ⊥) → (k : ℕ) → climb (parent_of s) k (Some x) ≡ Some n → ⊥
-    kid-apart m l x h ne zero c = ne (same_Some x n c)
-    kid-apart m l x h ne (suc k) c = apart m l (k, ap (climb (parent_of s) k) (sym (w.kid_parent m x h)) ∙ c)
+    -- nor does a child of it but n
+    child-apart : (m : IRNode) → IsLive t m → (x : IRNode) → Has (children s m) x → (x ≡ n → ⊥) → (k : ℕ) → climb (parent_of s) k (Some x) ≡ Some n → ⊥
+    child-apart m l x h ne zero c = ne (same_Some x n c)
+    child-apart m l x h ne (suc k) c = apart m l (k, ap (climb (parent_of s) k) (sym (w.child_parent m x h)) ∙ c)
 
     -- the test that tells n from all other nodes
     abbrev is_other : IRNode → Bool
@@ -73,17 +73,17 @@ module _ {K A T : Type 0} where
     others : (x : IRNode) → (x ≡ n → ⊥) → is_other x ≡ true
     others x ne = elim (same_tells n x) [ inl d ↦ absurd (ne (sym d.1)) | inr d ↦ ap not d.0 ]
 
-    -- of the kids of what is left n alone is gone
-    agree : (m : IRNode) → IsLive t m → (x : IRNode) → Has (kids s m) x → is_other x ≡ is_live t x
+    -- of the children of what is left n alone is gone
+    agree : (m : IRNode) → IsLive t m → (x : IRNode) → Has (children s m) x → is_other x ≡ is_live t x
     agree m l x h = elim (same_tells n x) [
       | inl d ↦ ap not d.0 ∙ sym (subst (λ y. is_live t y ≡ false) d.1 (e.gone n (zero, refl)))
-      | inr d ↦ ap not d.0 ∙ sym (e.live x (λ r. kid-apart m l x h (λ q. d.1 (sym q)) r.0 r.1) ∙ w.kid_live m x h)
+      | inr d ↦ ap not d.0 ∙ sym (e.live x (λ r. child-apart m l x h (λ q. d.1 (sym q)) r.0 r.1) ∙ w.child_live m x h)
     ]
 
     pub thinned-erased : IsThinned s t
     thinned-erased = record {
       old = λ m l. sym (e.live m (apart m l)) ∙ l;
-      kids = λ m l. loses is_other not-itself others m (apart m l) ∙ filter-agree is_other (is_live t) (kids s m) (agree m l);
+      children = λ m l. loses is_other not-itself others m (apart m l) ∙ filter-agree is_other (is_live t) (children s m) (agree m l);
       parents = λ m l. e.parents m (apart m l);
       ops = λ p l. e.ops p l;
       blocks = λ p l. e.blocks p l;

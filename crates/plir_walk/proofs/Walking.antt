@@ -1,7 +1,7 @@
 use Rattle.std.proofs.Common.{◌≡◌, ◌≢◌, ℕ, zero, ◌+◌, ◌-◌, ◌<◌, Bool, true, false, List, [], ◌∷◌, ◌++◌, Some, None, ◌⊎◌, inl, inr, length, refl, sym, ap, subst, arith, ◌∙◌, length-append, Ok, Err}
 use Rattle.std.specs.declared.ops.ControlFlow.{ControlFlow}
 use Rattle.std.specs.declared.ops.ControlFlow.TheVariants.{Break, Continue}
-use Rattle.plir_walk.specs.AsRead.{kids_by, tree_read}
+use Rattle.plir_walk.specs.AsRead.{children_by, tree_read}
 use Rattle.plir_walk.specs.Calls.{Call, Chain, NoBreak, Relation, nodes_of}
 use Rattle.plir_walk.specs.Config.{AllPost, AllPre, direction_of, order_of}
 use Rattle.plir_store.specs.Members.{Distinct, Has, head}
@@ -42,17 +42,17 @@ module _ {C S B : Type 0} (look : C → Shape) (w : WalkConfig)
     (post : Relation C S B) (c0 : C) (s0 : S) (r : IRNode) (limit : ℕ) where
   -- the cursor stands at a node that is entered, or left
   abbrev pub Stage : List (Call C S B) → C → IRNode → Bool → Type 0
-  Stage xs e c true = Entering look w (look c0).kids xs e r c
-  Stage xs e c false = Leaving look w (look c0).kids xs e r c
+  Stage xs e c true = Entering look w (look c0).children xs e r c
+  Stage xs e c false = Leaving look w (look c0).children xs e r c
 
   -- the cursor's node was called if it was due, and what is below it comes next, or what is after it
   abbrev pub Half : List (Call C S B) → C → IRNode → Bool → Type 0
-  Half xs e c true = Opening look w (look c0).kids xs e r c
-  Half xs e c false = Closing look w (look c0).kids xs e r c
+  Half xs e c true = Opening look w (look c0).children xs e r c
+  Half xs e c false = Closing look w (look c0).children xs e r c
 
   -- in PreOrder, a called node stays as it was left
   abbrev pub KeptPre : List (Call C S B) → C → Type 0
-  KeptPre xs e = AllPre w → (m : IRNode) → Has (nodes_of xs) m → ((look e).live m ≡ true) × (tree_read look w xs e m ≡ cut w xs (look e).kids m)
+  KeptPre xs e = AllPre w → (m : IRNode) → Has (nodes_of xs) m → ((look e).live m ≡ true) × (tree_read look w xs e m ≡ cut w xs (look e).children m)
 
   pub record Walking (e : C) (st : S) (c : IRNode) (en : Bool) (left : ℕ) : Type 0 where
     pub begun : IsForest (look c0)
@@ -75,7 +75,7 @@ module _ {C S B : Type 0} (look : C → Shape) (w : WalkConfig)
     pub kept : KeptPre calls e
 
   pub begin : IsForest (look c0) → (look c0).live r ≡ true → Walking c0 s0 r true limit
-  begin f v = record { calls = []; begun = f; forest = f; chain = (refl, refl); count = omega arith; unbroken = tt; stage = start look w (look c0).kids c0 r v (λ x. refl); kept = λ all m h. absurd h }
+  begin f v = record { calls = []; begun = f; forest = f; chain = (refl, refl); count = omega arith; unbroken = tt; stage = start look w (look c0).children c0 r v (λ x. refl); kept = λ all m h. absurd h }
 
   pub stage-live : (xs : List (Call C S B)) (e : C) (c : IRNode) (en : Bool) → Stage xs e c en → (look e).live c ≡ true
   stage-live xs e c true h = h.live
@@ -98,8 +98,8 @@ module _ {C S B : Type 0} (look : C → Shape) (w : WalkConfig)
 
   -- and it stands under the root
   stage-under : (xs : List (Call C S B)) (e : C) (f : IsForest (look e)) (c : IRNode) (en : Bool) → Stage xs e c en → Reaches (look e).parent c r
-  stage-under xs e f c true h = path-under w (look e) f (look c0).kids (tree_read look w xs e) r (nodes_of xs) h.path c h.fits
-  stage-under xs e f c false h = path-under w (look e) f (look c0).kids (tree_read look w xs e) r (nodes_of xs) h.path c h.fits
+  stage-under xs e f c true h = path-under w (look e) f (look c0).children (tree_read look w xs e) r (nodes_of xs) h.path c h.fits
+  stage-under xs e f c false h = path-under w (look e) f (look c0).children (tree_read look w xs e) r (nodes_of xs) h.path c h.fits
 
   pub walking-under : (e : C) (st : S) (c : IRNode) (en : Bool) (left : ℕ) → Walking e st c en left → StandsUnder (look e) r c
   walking-under e st c en left h = record { forest = h.forest; live = walking-live e st c en left h; under_root = stage-under h.calls e h.forest c en h.stage }
@@ -115,8 +115,8 @@ module _ {C S B : Type 0} (look : C → Shape) (w : WalkConfig)
 
   pub stage-passed : (xs : List (Call C S B)) (e : C) (c : IRNode) (en : Bool) (o : Order) → order_of w c ≡ o → due_at o en ≡ false → Stage xs e c en → Half xs e c en
   stage-passed xs e c true PreOrder k h s = cc
-  stage-passed xs e c true PostOrder k h s = pass-enter look w (look c0).kids xs e r c s k
-  stage-passed xs e c false PreOrder k h s = pass-leave look w (look c0).kids xs e r c s k
+  stage-passed xs e c true PostOrder k h s = pass-enter look w (look c0).children xs e r c s k
+  stage-passed xs e c false PreOrder k h s = pass-leave look w (look c0).children xs e r c s k
   stage-passed xs e c false PostOrder k h s = cc
 
   -- the cursor's node isn't due
@@ -134,12 +134,12 @@ module _ {C S B : Type 0} (look : C → Shape) (w : WalkConfig)
 
   pub stage-called : (xs : List (Call C S B)) (e e' : C) (f : IsForest (look e)) (f' : IsForest (look e')) (st st' : S) (c : IRNode) (en : Bool) (o : Order) (k : WalkContinue) → order_of w c ≡ o → due_at o en ≡ true
       → Lawful (look e) c (look e') → Stage xs e c en → Half (xs ++ call_of e st c (Continue k) e' st' ∷ []) e' c (goes_on en k)
-  stage-called xs e e' f f' st st' c true PreOrder Advance d h l s = call-open look w (look c0).kids xs e e' st st' r c (Continue Advance) f f' l s d (λ p. refl)
-  stage-called xs e e' f f' st st' c true PreOrder Skip d h l s = call-skip look w (look c0).kids xs e e' st st' r c (Continue Skip) f f' l s d refl
+  stage-called xs e e' f f' st st' c true PreOrder Advance d h l s = call-open look w (look c0).children xs e e' st st' r c (Continue Advance) f f' l s d (λ p. refl)
+  stage-called xs e e' f f' st st' c true PreOrder Skip d h l s = call-skip look w (look c0).children xs e e' st st' r c (Continue Skip) f f' l s d refl
   stage-called xs e e' f f' st st' c false PreOrder k d h l s = cc
   stage-called xs e e' f f' st st' c true PostOrder k d h l s = cc
-  stage-called xs e e' f f' st st' c false PostOrder Advance d h l s = call-close look w (look c0).kids xs e e' st st' r c (Continue Advance) f f' l s d
-  stage-called xs e e' f f' st st' c false PostOrder Skip d h l s = call-close look w (look c0).kids xs e e' st st' r c (Continue Skip) f f' l s d
+  stage-called xs e e' f f' st st' c false PostOrder Advance d h l s = call-close look w (look c0).children xs e e' st st' r c (Continue Advance) f f' l s d
+  stage-called xs e e' f f' st st' c false PostOrder Skip d h l s = call-close look w (look c0).children xs e e' st st' r c (Continue Skip) f f' l s d
 
   pub kept-called : (xs : List (Call C S B)) (e e' : C) (f : IsForest (look e)) (f' : IsForest (look e')) (st st' : S) (c : IRNode) (en : Bool) (a : ControlFlow B WalkContinue) → due_at (order_of w c) en ≡ true
       → Lawful (look e) c (look e') → Stage xs e c en → KeptPre xs e → KeptPre (xs ++ call_of e st c a e' st' ∷ []) e'
@@ -151,8 +151,8 @@ module _ {C S B : Type 0} (look : C → Shape) (w : WalkConfig)
   kept-called xs e e' f f' st st' c true a d l s kept all m h =
       let x : Call C S B = call_of e st c a e' st' in
       let un : Has (nodes_of xs) c → ⊥ = s.fresh c (zero, refl) in
-      let u : Tree = (look e).kids in
-      let u' : Tree = (look e').kids in
+      let u : Tree = (look e).children in
+      let u' : Tree = (look e').children in
       elim (Has-more xs x m h) [
         | inl i ↦ (let k = kept all m i in
             let kp = l.kept m k.0 (λ b. s.fresh m (IsBelow-Reaches (look e) c m b) i) in
@@ -162,15 +162,15 @@ module _ {C S B : Type 0} (look : C → Shape) (w : WalkConfig)
         | inr i ↦ (let kp = l.kept c s.live (not-below-itself (look e) f c) in
             let o : order_of w c ≡ PreOrder = pre-at w all c in
             let p : tree_read look w (xs ++ x ∷ []) e' c ≡ cut w (xs ++ x ∷ []) u' c =
-            called-spot look w (look c0).kids xs e e' st st' r c a f f' l o un ∙ (sym (ap (λ (v : Order). kids_by v a (u' c) (u' c)) o) ∙ sym (cut-new w xs x u' un)) in
+            called-spot look w (look c0).children xs e e' st st' r c a f f' l o un ∙ (sym (ap (λ (v : Order). children_by v a (u' c) (u' c)) o) ∙ sym (cut-new w xs x u' un)) in
             (subst (λ (v : IRNode). (look e').live v ≡ true) i kp.0, subst (λ (v : IRNode). tree_read look w (xs ++ x ∷ []) e' v ≡ cut w (xs ++ x ∷ []) u' v) i p))
       ]
 
   -- so in PreOrder alone the calls read the tree that is there at the exit
-  pub pre-read : (xs : List (Call C S B)) (e : C) → KeptPre xs e → AllPre w → (n : IRNode) → tree_read look w xs e n ≡ cut w xs (look e).kids n
+  pub pre-read : (xs : List (Call C S B)) (e : C) → KeptPre xs e → AllPre w → (n : IRNode) → tree_read look w xs e n ≡ cut w xs (look e).children n
   pre-read xs e kept all n = elim (Has-or-not (nodes_of xs) n) [
     | inl h ↦ (kept all n h).1
-    | inr un ↦ read-fresh look w xs e n un ∙ sym (cut-fresh w xs (look e).kids n un)
+    | inr un ↦ read-fresh look w xs e n un ∙ sym (cut-fresh w xs (look e).children n un)
   ]
 
   pub count-more : (xs : List (Call C S B)) (x : Call C S B) (left left' : ℕ) → length xs + left ≡ limit → left ≡ left' + 1 → length (xs ++ x ∷ []) + left' ≡ limit
@@ -192,14 +192,14 @@ module _ {C S B : Type 0} (look : C → Shape) (w : WalkConfig)
 
   pub stage-broken : (xs : List (Call C S B)) (e e' : C) (f : IsForest (look e)) (f' : IsForest (look e')) (st st' : S) (c : IRNode) (en : Bool) (o : Order) (b : B) → order_of w c ≡ o → due_at o en ≡ true
       → Lawful (look e) c (look e') → Stage xs e c en → Half (xs ++ call_of e st c (Break b) e' st' ∷ []) e' c en
-  stage-broken xs e e' f f' st st' c true PreOrder b d h l s = call-open look w (look c0).kids xs e e' st st' r c (Break b) f f' l s d (λ p. refl)
+  stage-broken xs e e' f f' st st' c true PreOrder b d h l s = call-open look w (look c0).children xs e e' st st' r c (Break b) f f' l s d (λ p. refl)
   stage-broken xs e e' f f' st st' c false PreOrder b d h l s = cc
   stage-broken xs e e' f f' st st' c true PostOrder b d h l s = cc
-  stage-broken xs e e' f f' st st' c false PostOrder b d h l s = call-close look w (look c0).kids xs e e' st st' r c (Break b) f f' l s d
+  stage-broken xs e e' f f' st st' c false PostOrder b d h l s = call-close look w (look c0).children xs e e' st st' r c (Break b) f f' l s d
 
-  pub half-told : (xs : List (Call C S B)) (e : C) (f : IsForest (look e)) (c : IRNode) (en : Bool) → Half xs e c en → Told w (tree_read look w xs e) r (nodes_of xs) (AllPost w) (look c0).kids
-  half-told xs e f c true h = opening-told look w (look c0).kids xs e f r c h
-  half-told xs e f c false h = closing-told look w (look c0).kids xs e f r c h
+  pub half-told : (xs : List (Call C S B)) (e : C) (f : IsForest (look e)) (c : IRNode) (en : Bool) → Half xs e c en → Told w (tree_read look w xs e) r (nodes_of xs) (AllPost w) (look c0).children
+  half-told xs e f c true h = opening-told look w (look c0).children xs e f r c h
+  half-told xs e f c false h = closing-told look w (look c0).children xs e f r c h
 
   -- the cursor's node was called, and broke the walk off
   pub broken : (e e' : C) (f' : IsForest (look e')) (st st' : S) (c : IRNode) (en : Bool) (left : ℕ) (b : B) → Walking e st c en left → due_at (order_of w c) en ≡ true
@@ -213,17 +213,17 @@ module _ {C S B : Type 0} (look : C → Shape) (w : WalkConfig)
       xs
       h.begun f' (Chain-more (IsCallUnder look r post) c0 s0 h.calls e st c (Break b) e' st' h.chain (record { stands = walking-under e st c en left h; leaves = f'; made = p }))
       (omega (arith, n))
-      (walk-told w (tree_read look w xs e') r (nodes_of xs) (AllPost w) (look c0).kids (half-distinct xs e' c en half) (half-told xs e' f' c en half))
+      (walk-told w (tree_read look w xs e') r (nodes_of xs) (AllPost w) (look c0).children (half-distinct xs e' c en half) (half-told xs e' f' c en half))
       (h.calls, x, refl, refl, h.unbroken)
       (pre-read xs e' (kept-called h.calls e e' h.forest f' st st' c en (Break b) d l h.stage h.kept))
-      (under-base w (tree_read look w xs e') r (nodes_of xs) (AllPost w) (look c0).kids (half-told xs e' f' c en half))
+      (under-base w (tree_read look w xs e') r (nodes_of xs) (AllPost w) (look c0).children (half-told xs e' f' c en half))
 
   pub stage-told : (xs : List (Call C S B)) (e : C) (f : IsForest (look e)) (c : IRNode) (en : Bool) (o : Order) → order_of w c ≡ o → due_at o en ≡ true → Stage xs e c en
-      → (t : Told w (tree_read look w xs e) r (nodes_of xs) (AllPost w) (look c0).kids) × Has t.rest c × (Has (nodes_of xs) c → ⊥)
-  stage-told xs e f c true PreOrder d h s = (let z = entering-told look w (look c0).kids xs e f r c s in (z.0, z.1, s.fresh c (zero, refl)))
+      → (t : Told w (tree_read look w xs e) r (nodes_of xs) (AllPost w) (look c0).children) × Has t.rest c × (Has (nodes_of xs) c → ⊥)
+  stage-told xs e f c true PreOrder d h s = (let z = entering-told look w (look c0).children xs e f r c s in (z.0, z.1, s.fresh c (zero, refl)))
   stage-told xs e f c false PreOrder d h s = cc
   stage-told xs e f c true PostOrder d h s = cc
-  stage-told xs e f c false PostOrder d h s = leaving-told look w (look c0).kids xs e f r c s d
+  stage-told xs e f c false PostOrder d h s = leaving-told look w (look c0).children xs e f r c s d
 
   -- a call is due, and no more may be made
   pub limited : (e : C) (st : S) (c : IRNode) (en : Bool) (left : ℕ) (x : CallLimit) → Walking e st c en left → due_at (order_of w c) en ≡ true → left ≡ 0
@@ -234,17 +234,17 @@ module _ {C S B : Type 0} (look : C → Shape) (w : WalkConfig)
       let z = stage-told h.calls e h.forest c en (order_of w c) refl d h.stage in
       walked-of look w post c0 s0 r limit (Err x) e st h.calls h.begun h.forest h.chain
       (let n = h.count in omega (arith, n))
-      (walk-told w t r ns (AllPost w) (look c0).kids (stage-distinct h.calls e c en h.stage) z.0)
-      ((let n = h.count in omega (arith, n)), h.unbroken, (c, due-under w t r ns (AllPost w) (look c0).kids z.0 c z.1, z.2))
+      (walk-told w t r ns (AllPost w) (look c0).children (stage-distinct h.calls e c en h.stage) z.0)
+      ((let n = h.count in omega (arith, n)), h.unbroken, (c, due-under w t r ns (AllPost w) (look c0).children z.0 c z.1, z.2))
       (pre-read h.calls e h.kept)
-      (under-base w t r ns (AllPost w) (look c0).kids z.0)
+      (under-base w t r ns (AllPost w) (look c0).children z.0)
 
   pub half-ended : (xs : List (Call C S B)) (e : C) (f : IsForest (look e)) (c : IRNode) (below : Bool) → Half xs e c below → step_of w (look e) r c below ≡ None
-      → (t : Told w (tree_read look w xs e) r (nodes_of xs) (AllPost w) (look c0).kids) × (t.rest ≡ [])
+      → (t : Told w (tree_read look w xs e) r (nodes_of xs) (AllPost w) (look c0).children) × (t.rest ≡ [])
   half-ended xs e f c true h z = cc
   half-ended xs e f c false h z = elim (same_tells c r) [
-    | inl k ↦ finished-told look w (look c0).kids xs e f r c h k.1
-    | inr k ↦ (let g = not-root look w (look c0).kids xs e f r c h k.1 in let y = (rw (k.0, g.1) at z) in absurd (some-none y))
+    | inl k ↦ finished-told look w (look c0).children xs e f r c h k.1
+    | inr k ↦ (let g = not-root look w (look c0).children xs e f r c h k.1 in let y = (rw (k.0, g.1) at z) in absurd (some-none y))
   ]
     where
       some-none : {A : Type 0} {x : A} → Some x ≡ None → ⊥
@@ -259,26 +259,26 @@ module _ {C S B : Type 0} (look : C → Shape) (w : WalkConfig)
       let g = half-ended h.calls e h.forest c below h.half z in
       walked-of look w post c0 s0 r limit (Ok (Continue Advance)) e st h.calls h.begun h.forest h.chain
       (let n = h.count in omega (arith, n))
-      (walk-told w t r ns (AllPost w) (look c0).kids (half-distinct h.calls e c below h.half) g.0)
-      (refl, h.unbroken, all-called w t r ns (AllPost w) (look c0).kids g.0 g.1)
+      (walk-told w t r ns (AllPost w) (look c0).children (half-distinct h.calls e c below h.half) g.0)
+      (refl, h.unbroken, all-called w t r ns (AllPost w) (look c0).children g.0 g.1)
       (pre-read h.calls e h.kept)
-      (under-base w t r ns (AllPost w) (look c0).kids g.0)
+      (under-base w t r ns (AllPost w) (look c0).children g.0)
 
   pub half-moved : (xs : List (Call C S B)) (e : C) (f : IsForest (look e)) (c : IRNode) (below : Bool) (n : IRNode) (en : Bool) → Half xs e c below → step_of w (look e) r c below ≡ Some (n, en) → Stage xs e n en
-  half-moved xs e f c true n en h z = go (taken (direction_of w c) ((look e).kids c)) refl z
+  half-moved xs e f c true n en h z = go (taken (direction_of w c) ((look e).children c)) refl z
     where
-      go : (ks : List IRNode) → taken (direction_of w c) ((look e).kids c) ≡ ks → Some (enter_or_leave (head ks) c) ≡ Some (n, en) → Stage xs e n en
-      go [] k z = (let p : (c, false) ≡ (n, en) = cc in subst (λ (v : IRNode × Bool). Stage xs e v.0 v.1) p (bottom look w (look c0).kids xs e r c h k))
-      go (y ∷ ys) k z = (let p : (y, true) ≡ (n, en) = cc in subst (λ (v : IRNode × Bool). Stage xs e v.0 v.1) p (down look w (look c0).kids xs e f r c h y ys k))
+      go : (ks : List IRNode) → taken (direction_of w c) ((look e).children c) ≡ ks → Some (enter_or_leave (head ks) c) ≡ Some (n, en) → Stage xs e n en
+      go [] k z = (let p : (c, false) ≡ (n, en) = cc in subst (λ (v : IRNode × Bool). Stage xs e v.0 v.1) p (bottom look w (look c0).children xs e r c h k))
+      go (y ∷ ys) k z = (let p : (y, true) ≡ (n, en) = cc in subst (λ (v : IRNode × Bool). Stage xs e v.0 v.1) p (down look w (look c0).children xs e f r c h y ys k))
   half-moved xs e f c false n en h z = elim (same_tells c r) [
     | inl k ↦ absurd (none-some (rw k.0 at z))
-    | inr k ↦ (let g = not-root look w (look c0).kids xs e f r c h k.1 in go g.0 g.2 g.4 (rw (k.0, g.1, g.3) at z))
+    | inr k ↦ (let g = not-root look w (look c0).children xs e f r c h k.1 in go g.0 g.2 g.4 (rw (k.0, g.1, g.3) at z))
   ]
     where
       none-some : {A : Type 0} {x : A} → None ≡ Some x → ⊥
       none-some e = cc
 
-      go : (a : IRNode) (td : List IRNode) → (((k : IRNode) (rest : List IRNode) → td ≡ k ∷ rest → Entering look w (look c0).kids xs e r k) × (td ≡ [] → Leaving look w (look c0).kids xs e r a)) → Some (enter_or_leave (head td) a) ≡ Some (n, en) → Stage xs e n en
+      go : (a : IRNode) (td : List IRNode) → (((k : IRNode) (rest : List IRNode) → td ≡ k ∷ rest → Entering look w (look c0).children xs e r k) × (td ≡ [] → Leaving look w (look c0).children xs e r a)) → Some (enter_or_leave (head td) a) ≡ Some (n, en) → Stage xs e n en
       go a [] f z = (let p : (a, false) ≡ (n, en) = cc in subst (λ (v : IRNode × Bool). Stage xs e v.0 v.1) p (f.1 refl))
       go a (y ∷ ys) f z = (let p : (y, true) ≡ (n, en) = cc in subst (λ (v : IRNode × Bool). Stage xs e v.0 v.1) p (f.0 y ys refl))
 

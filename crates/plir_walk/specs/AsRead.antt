@@ -21,17 +21,18 @@ unless_skip (Break b) after = after
 
 -- A called PreOrder node has the children that it had right after its call (none, if it answered Skip), a called
 -- PostOrder node those right before its call.
-abbrev pub kids_by : {B : Type 0} → Order → ControlFlow B WalkContinue → List IRNode → List IRNode → List IRNode
-kids_by PreOrder a before after = unless_skip a after
-kids_by PostOrder a before after = before
+abbrev pub children_by : {B : Type 0} → Order → ControlFlow B WalkContinue → List IRNode → List IRNode → List IRNode
+children_by PreOrder a before after = unless_skip a after
+children_by PostOrder a before after = before
 
 module _ {C S B : Type 0} (look : C → Shape) (w : WalkConfig) where
   -- the children of a called node, as its call reads them
-  abbrev pub kids_at : Call C S B → List IRNode
-  kids_at x = kids_by (order_of w x.node) x.answer ((look x.before).kids x.node) ((look x.after).kids x.node)
+  abbrev pub children_at : Call C S B → List IRNode
+  children_at x = children_by (order_of w x.node) x.answer ((look x.before).children x.node)
+      ((look x.after).children x.node)
 
   -- The tree as read by the calls, with the exit e: a called node has the children that its call reads, any other node
   -- those at the exit (none, if it is dead there).
   abbrev pub tree_read : List (Call C S B) → C → Tree
-  tree_read [] e n = (look e).kids n
-  tree_read (x ∷ xs) e n = cond (same x.node n) (kids_at x) (tree_read xs e n)
+  tree_read [] e n = (look e).children n
+  tree_read (x ∷ xs) e n = cond (same x.node n) (children_at x) (tree_read xs e n)

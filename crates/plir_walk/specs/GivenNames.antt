@@ -4,9 +4,10 @@ use Rattle.std.specs.Prelude.{is_none, option_and_then, unwrap_or, slice_get, sl
 use Rattle.std.specs.List.{list_all}
 use Rattle.plir_data.specs.AttrView.{AttrView, leaf, given_names}
 use Rattle.plir_data.specs.Dictionary.{dict_get, dict_put, dict_without}
+use Rattle.plir_data.specs.Keys.{names_key}
 use Rattle.plir_core.specs.declared.value.DefiningEntity.{DefiningEntity}
 use Rattle.plir_core.specs.declared.value.DefiningEntity.TheVariants.{Op, Block}
-use Rattle.plir_core.specs.Store.{Store, attributes_of, block_attributes_of}
+use Rattle.plir_core.specs.ContextView.{ContextView, attributes_of, block_attributes_of}
 use Rattle.plir_core.specs.Changes.{with_op_edit, with_block_edit}
 
 -- The names of the first results, or arguments, in order; each may be unset.
@@ -37,10 +38,6 @@ insert_name ns i x = insert (padded ns i) i x
 abbrev pub remove_name : Names → ℕ → Names
 remove_name ns i = remove ns i
 
--- the key that names stand under
-abbrev pub names_key : List ℕ
-names_key = codes "builtin_given_names"
-
 module _ {A : Type 0} where
   -- the names in an attribute of names
   abbrev pub names_of : AttrView A → Option Names
@@ -68,24 +65,24 @@ module _ {A : Type 0} where
 
 module _ {K A T : Type 0} where
   -- the attributes of an operation or a block
-  abbrev pub attributes_at : Store K A T → DefiningEntity → List (List ℕ × AttrView A)
+  abbrev pub attributes_at : ContextView K A T → DefiningEntity → List (List ℕ × AttrView A)
   attributes_at s (Op p) = attributes_of s p
   attributes_at s (Block p) = block_attributes_of s p
 
   -- these have become f of what they were, and all else is the same
-  abbrev pub with_attributes : Store K A T → DefiningEntity →
-      (List (List ℕ × AttrView A) → List (List ℕ × AttrView A)) → Store K A T
+  abbrev pub with_attributes : ContextView K A T → DefiningEntity →
+      (List (List ℕ × AttrView A) → List (List ℕ × AttrView A)) → ContextView K A T
   with_attributes s (Op p) f = with_op_edit s p (λ o. record o { attributes = f o.attributes })
   with_attributes s (Block p) f = with_block_edit s p (λ b. record b { attributes = f b.attributes })
 
   -- the names of its results or arguments
-  abbrev pub names_at : Store K A T → DefiningEntity → Names
+  abbrev pub names_at : ContextView K A T → DefiningEntity → Names
   names_at s e = names_in (attributes_at s e)
 
   -- whether an attribute of another kind stands under the key
-  abbrev pub has_other_at : Store K A T → DefiningEntity → Bool
+  abbrev pub has_other_at : ContextView K A T → DefiningEntity → Bool
   has_other_at s e = has_other (attributes_at s e)
 
   -- these names in place of those that there were
-  abbrev pub with_names : Store K A T → DefiningEntity → Names → Store K A T
+  abbrev pub with_names : ContextView K A T → DefiningEntity → Names → ContextView K A T
   with_names s e ns = with_attributes s e (named ns)

@@ -15,11 +15,11 @@ pub record StandsUnder (s : Shape) (r n : IRNode) : Type 0 where
 -- given out before. What was given out before counts as given out after it.
 pub record Lawful (s : Shape) (n : IRNode) (s' : Shape) : Type 0 where
   pub kept : (m : IRNode) → s.live m ≡ true → (IsBelow s n m → ⊥) → (s'.live m ≡ true) × (s'.parent m ≡ s.parent m) ×
-      (m ≢ n → s'.kids m ≡ s.kids m)
+      (m ≢ n → s'.children m ≡ s.children m)
   pub below : (m : IRNode) → IsBelow s' n m → IsBelow s n m ⊎ (s.given m ≡ false)
   pub given : (m : IRNode) → s.given m ≡ true → s'.given m ≡ true
 
 -- the live nodes and all lists of children are the same
 pub record SameShape (s s' : Shape) : Type 0 where
   pub live : (m : IRNode) → s'.live m ≡ s.live m
-  pub kids : (m : IRNode) → s'.kids m ≡ s.kids m
+  pub children : (m : IRNode) → s'.children m ≡ s.children m

@@ -57,4 +57,4 @@ pub record WalkedOnce {C S B : Type 0} (look : C → Shape) (w : WalkConfig) (po
     (r : IRNode) (s' : S) : Type 0 where
   pub calls : List (Call C S B)
   pub chain : Chain (IsCallUnder look r post) c s calls c s'
-  pub each_once : IsTraversal w (look c).kids r (nodes_of calls)
+  pub each_once : IsTraversal w (look c).children r (nodes_of calls)

@@ -1,7 +1,7 @@
 -- What the walks promise, from the ground up: settings and trees, places and their order, lawful calls, lists of
 -- calls, what a skip shuts out, the walk, the tree as read, and the two contracts; what a callback may do to a context;
--- laws for the proofs of passes, of calls, of trees and of whole walks; walks of operations alone, with their laws; then
--- the names that are given to results and arguments.
+-- laws for the proofs of passes, of calls, of trees and of whole walks; walks of operations alone, with their laws;
+-- then the names that are given to results and arguments.
 pub mod Lists
 pub mod Config
 pub mod Tree

@@ -84,7 +84,7 @@ pub record WalkedOperations {C S B : Type 0} (look : C → Shape) (w : WalkConfi
     (c : C) (s : S) (r : IRNode) (answer : ControlFlow B WalkContinue) (s' : S) : Type 0 where
   pub calls : List (Call C S B)
   pub chain : Chain (IsCallUnder look r (AtOperations post)) c s calls c s'
-  pub walk : IsOperationWalk w (look c).kids r calls answer
+  pub walk : IsOperationWalk w (look c).children r calls answer
 
 -- A walk whose calls at operations may change the context from c to c'. It comes to at most `limit` nodes, as a walk
 -- does whose callback does at a region or a block nothing; and of these the calls at operations go, one after another,

@@ -35,11 +35,11 @@ due_at PostOrder entering = not entering
 
 -- the child that a walk enters first
 abbrev pub first_of : WalkConfig → Shape → IRNode → Option IRNode
-first_of w s n = head (taken (direction_of w n) (s.kids n))
+first_of w s n = head (taken (direction_of w n) (s.children n))
 
 -- the sibling that a walk enters after n
 abbrev pub next_of : WalkConfig → Shape → IRNode → Option IRNode
-next_of w s n = option_and_then (λ a. after n (taken (direction_of w a) (s.kids a))) (s.parent n)
+next_of w s n = option_and_then (λ a. after n (taken (direction_of w a) (s.children a))) (s.parent n)
 
 -- enter the node, or leave the other
 abbrev pub enter_or_leave : Option IRNode → IRNode → IRNode × Bool

@@ -46,15 +46,15 @@ module _ (t : Tree) where
   pub under-cases : (a n : IRNode) → IsUnder t a n → (a ≡ n) ⊎ IsProperlyUnder t a n
   under-cases a n h = under-node a n h.0 h.1
 
-  -- what stands under the kid at a place, or under any kid, stands under its parent
-  pub under-kid-at : (a x n : IRNode) (i : ℕ) → slice_get (t a) i ≡ Some x → IsUnder t x n → IsUnder t a n
-  under-kid-at a x n i e u = (i ∷ u.0, ap (option_and_then (λ c. node_at t c u.0)) e ∙ u.1)
+  -- what stands under the child at a place, or under any child, stands under its parent
+  pub under-child-at : (a x n : IRNode) (i : ℕ) → slice_get (t a) i ≡ Some x → IsUnder t x n → IsUnder t a n
+  under-child-at a x n i e u = (i ∷ u.0, ap (option_and_then (λ c. node_at t c u.0)) e ∙ u.1)
 
-  pub under-kid : (a x n : IRNode) → Has (t a) x → IsUnder t x n → IsUnder t a n
-  under-kid a x n h u = let p = at-Has (t a) x h in under-kid-at a x n p.0 p.1 u
+  pub under-child : (a x n : IRNode) → Has (t a) x → IsUnder t x n → IsUnder t a n
+  under-child a x n h u = let p = at-Has (t a) x h in under-child-at a x n p.0 p.1 u
 
-  pub kid-under : (a x : IRNode) → Has (t a) x → IsUnder t a x
-  kid-under a x h = under-kid a x x h ([], refl)
+  pub child-under : (a x : IRNode) → Has (t a) x → IsUnder t a x
+  child-under a x h = under-child a x x h ([], refl)
 
 -- ---- climbing
 
@@ -70,47 +70,49 @@ climb-more up (suc k) (Some m) c e = climb-more up k (up m) c e
 
 module _ (s : Shape) (w : IsForest s) where
   -- what climbs to a node stands at or under it
-  pub reached-under : (k : ℕ) (n r : IRNode) → climb s.parent k (Some n) ≡ Some r → IsUnder s.kids r n
+  pub reached-under : (k : ℕ) (n r : IRNode) → climb s.parent k (Some n) ≡ Some r → IsUnder s.children r n
   reached-under zero n r e = ([], sym e)
   reached-under (suc k) n r e = over (λ a g. reached-under k a r g) (s.parent n) refl
     where
-      over : ((a : IRNode) → climb s.parent k (Some a) ≡ Some r → IsUnder s.kids r a) →
-          (o : Option IRNode) → s.parent n ≡ o → IsUnder s.kids r n
+      over : ((a : IRNode) → climb s.parent k (Some a) ≡ Some r → IsUnder s.children r a) →
+          (o : Option IRNode) → s.parent n ≡ o → IsUnder s.children r n
       over rest None q = absurd (climb-none s.parent k r (ap (climb s.parent k) (sym q) ∙ e))
       over rest (Some a) q =
           let above = rest a (ap (climb s.parent k) (sym q) ∙ e) in
-          under-trans s.kids r a n above (kid-under s.kids a n (w.parent_kid a n q))
+          under-trans s.children r a n above (child-under s.children a n (w.parent_child a n q))
 
   -- and climbs to it
-  at-reached : (n : IRNode) (p : Place) (r : IRNode) → node_at s.kids r p ≡ Some n → Reaches s.parent n r
+  at-reached : (n : IRNode) (p : Place) (r : IRNode) → node_at s.children r p ≡ Some n → Reaches s.parent n r
   at-reached n [] r e = (0, sym e)
-  at-reached n (i ∷ p) r e = below (λ c g. at-reached n p c g) (slice_get (s.kids r) i) refl e
+  at-reached n (i ∷ p) r e = below (λ c g. at-reached n p c g) (slice_get (s.children r) i) refl e
     where
-      below : ((c : IRNode) → node_at s.kids c p ≡ Some n → Reaches s.parent n c) → (o : Option IRNode) →
-          slice_get (s.kids r) i ≡ o → option_and_then (λ c. node_at s.kids c p) o ≡ Some n → Reaches s.parent n r
+      below : ((c : IRNode) → node_at s.children c p ≡ Some n → Reaches s.parent n c) → (o : Option IRNode) →
+          slice_get (s.children r) i ≡ o → option_and_then (λ c. node_at s.children c p) o ≡ Some n
+          → Reaches s.parent n r
       below rest None q g = absurd (none-some n g)
       below rest (Some c) q g =
           let climbed = rest c g in
-          let parent = w.kid_parent r c (Has-at (s.kids r) i c q) in
+          let parent = w.child_parent r c (Has-at (s.children r) i c q) in
           (suc climbed.0, climb-more s.parent climbed.0 (Some n) c climbed.1 ∙ parent)
 
-  pub under-reached : (n r : IRNode) → IsUnder s.kids r n → Reaches s.parent n r
+  pub under-reached : (n r : IRNode) → IsUnder s.children r n → Reaches s.parent n r
   under-reached n r u = at-reached n u.0 r u.1
 
 -- ---- what lives
 
 module _ (s : Shape) (w : IsForest s) where
-  at-live : (n : IRNode) (p : Place) (r : IRNode) → s.live r ≡ true → node_at s.kids r p ≡ Some n → s.live n ≡ true
+  at-live : (n : IRNode) (p : Place) (r : IRNode) → s.live r ≡ true → node_at s.children r p ≡ Some n → s.live n ≡ true
   at-live n [] r l e = subst (λ z. s.live z ≡ true) (same_Some r n e) l
-  at-live n (i ∷ p) r l e = below (λ c m g. at-live n p c m g) (slice_get (s.kids r) i) refl e
+  at-live n (i ∷ p) r l e = below (λ c m g. at-live n p c m g) (slice_get (s.children r) i) refl e
     where
-      below : ((c : IRNode) → s.live c ≡ true → node_at s.kids c p ≡ Some n → s.live n ≡ true) → (o : Option IRNode) →
-          slice_get (s.kids r) i ≡ o → option_and_then (λ c. node_at s.kids c p) o ≡ Some n → s.live n ≡ true
+      below : ((c : IRNode) → s.live c ≡ true → node_at s.children c p ≡ Some n → s.live n ≡ true)
+          → (o : Option IRNode) →
+          slice_get (s.children r) i ≡ o → option_and_then (λ c. node_at s.children c p) o ≡ Some n → s.live n ≡ true
       below rest None q e = absurd (none-some n e)
-      below rest (Some c) q e = rest c (w.kid_live r c (Has-at (s.kids r) i c q)) e
+      below rest (Some c) q e = rest c (w.child_live r c (Has-at (s.children r) i c q)) e
 
   -- what stands under a live node is live
-  pub under-live : (r n : IRNode) → s.live r ≡ true → IsUnder s.kids r n → s.live n ≡ true
+  pub under-live : (r n : IRNode) → s.live r ≡ true → IsUnder s.children r n → s.live n ≡ true
   under-live r n l u = at-live n u.0 r l u.1
 
 -- ---- places in order, where every node is PreOrder

@@ -7,7 +7,7 @@ use Rattle.plir_store.specs.Members.{Has, Distinct}
 use Rattle.plir_core.specs.declared.ptr.IRNode.{IRNode}
 use Rattle.plir_core.specs.Forest.{look, IsForest}
 use Rattle.plir_core.specs.Standing.{IsStanding}
-use Rattle.plir_core.specs.Store.{Store, IsLive, kids}
+use Rattle.plir_core.specs.ContextView.{ContextView, IsLive, children}
 use Rattle.plir_walk.specs.declared.interruptible.WalkContinue.{WalkContinue}
 use Rattle.plir_walk.specs.declared.limit.CallLimit.{CallLimit}
 use Rattle.plir_walk.specs.declared.config.WalkConfig.{WalkConfig}
@@ -33,13 +33,14 @@ length-nodes (x ∷ xs) = ap suc (length-nodes xs)
 
 module _ {K A T : Type 0} where
   -- the walk of a tree that may make a call for each node that there can be makes them all
-  pub never-at-limit : {S B : Type 0} (w : WalkConfig) (c : Store K A T) (r : IRNode) (limit : ℕ)
-      (calls : List (Call (Store K A T) S B)) (x : CallLimit)
-      → BeforeOrders → IsStanding c → IsLive c r → 2 ^ 32 ≤ limit + 1 → IsWalkWithin w (kids c) r limit calls (Err x) →
+  pub never-at-limit : {S B : Type 0} (w : WalkConfig) (c : ContextView K A T) (r : IRNode) (limit : ℕ)
+      (calls : List (Call (ContextView K A T) S B)) (x : CallLimit)
+      → BeforeOrders → IsStanding c → IsLive c r → 2 ^ 32 ≤ limit + 1
+      → IsWalkWithin w (children c) r limit calls (Err x) →
       ⊥
   never-at-limit w c r limit calls x orders stands live enough v =
-      let once = pairs-distinct (NodeBefore w (kids c) r) (nodes_of calls)
-      (orders w (kids c) r v.in_order.one_place).irreflexive v.in_order.increasing in
+      let once = pairs-distinct (NodeBefore w (children c) r) (nodes_of calls)
+      (orders w (children c) r v.in_order.one_place).irreflexive v.in_order.increasing in
       let missed = v.answers.3 in
       let more = stands.measured.counted (missed.0 ∷ nodes_of calls) (missed.2, once) (λ n k. elim k [
         | inl e ↦ subst (IsLive c) e (under-live (look c) stands.forest r missed.0 live missed.1.0)
@@ -52,32 +53,36 @@ module _ {K A T : Type 0} where
       absurd (omega arith)
 
   -- a walk that is at its limit, told by an equation
-  pub limit-at-exit : {S B : Type 0} {post : Relation (Store K A T) S B} (w : WalkConfig) (c c' : Store K A T)
+  pub limit-at-exit : {S B : Type 0} {post : Relation (ContextView K A T) S B} (w : WalkConfig)
+      (c c' : ContextView K A T)
       (s s' : S) (r : IRNode) (limit : ℕ) (answer : Result (ControlFlow B WalkContinue) CallLimit) (x : CallLimit)
       → answer ≡ Err x → AllPre w → (walked : Walked look w post c s r limit answer c' s') →
-      IsWalkWithin w (kids c') r limit walked.calls (Err x)
+      IsWalkWithin w (children c') r limit walked.calls (Err x)
   limit-at-exit w c c' s s' r limit answer x e pre walked =
-      subst (λ z. IsWalkWithin w (kids c') r limit walked.calls z) e (walked.at_exit pre)
+      subst (λ z. IsWalkWithin w (children c') r limit walked.calls z) e (walked.at_exit pre)
 
-  pub limit-at-entry : {S B : Type 0} {post : Relation (Store K A T) S B} (w : WalkConfig) (c c' : Store K A T)
+  pub limit-at-entry : {S B : Type 0} {post : Relation (ContextView K A T) S B} (w : WalkConfig)
+      (c c' : ContextView K A T)
       (s s' : S) (r : IRNode) (limit : ℕ) (answer : Result (ControlFlow B WalkContinue) CallLimit) (x : CallLimit)
       → answer ≡ Err x → AllPost w → (walked : Walked look w post c s r limit answer c' s') →
-      IsWalkWithin w (kids c) r limit walked.calls (Err x)
+      IsWalkWithin w (children c) r limit walked.calls (Err x)
   limit-at-entry w c c' s s' r limit answer x e post walked =
-      subst (λ z. IsWalkWithin w (kids c) r limit walked.calls z) e (walked.at_entry post)
+      subst (λ z. IsWalkWithin w (children c) r limit walked.calls z) e (walked.at_entry post)
 
   -- a walk of lawful calls is lawful at its root
-  module _ {S B : Type 0} (own : A → List ℕ) (laws : LawfulChanges K A T own) (post : Relation (Store K A T) S B)
+  module _ {S B : Type 0} (own : A → List ℕ) (laws : LawfulChanges K A T own) (post : Relation (ContextView K A T) S B)
       (r : IRNode)
-      (each : (c : Store K A T) (s : S) (n : IRNode) (a : ControlFlow B WalkContinue) (c' : Store K A T) (s' : S) →
+      (each : (c : ContextView K A T) (s : S) (n : IRNode) (a : ControlFlow B WalkContinue) (c' : ContextView K A T)
+      (s' : S) →
       post c s n a c' s' → Lawful (look c) n (look c')) where
-    abbrev call : Relation (Store K A T) S B
+    abbrev call : Relation (ContextView K A T) S B
     call = IsCallUnder look r post
 
-    abbrev Lasts : Store K A T → S → Store K A T → S → Type 0
+    abbrev Lasts : ContextView K A T → S → ContextView K A T → S → Type 0
     Lasts c s c' s' = IsForest (look c) → IsLive c r → IsForest (look c') × IsLive c' r × Lawful (look c) r (look c')
 
-    pub walk-lasts : (c c' : Store K A T) (s s' : S) (calls : List (Call (Store K A T) S B)) → IsForest (look c) →
+    pub walk-lasts : (c c' : ContextView K A T) (s s' : S) (calls : List (Call (ContextView K A T) S B))
+        → IsForest (look c) →
         IsLive c r → Chain call c s calls c' s' → IsForest (look c') × IsLive c' r × Lawful (look c) r (look c')
     walk-lasts c c' s s' calls w l h =
         kept_from_entry_to_exit call Lasts

@@ -38,7 +38,7 @@ pub record WalkedOver {C S B : Type 0} (look : C → Shape) (w : WalkConfig) (po
     (r : IRNode) (answer : ControlFlow B WalkContinue) (s' : S) : Type 0 where
   pub calls : List (Call C S B)
   pub chain : Chain (IsCallUnder look r post) c s calls c s'
-  pub walk : IsWalk w (look c).kids r calls answer
+  pub walk : IsWalk w (look c).children r calls answer
 
 -- A walk whose calls may change the context from c to c': there is a list of at most `limit` calls that a walk from r
 -- can make, one after another from the entry to the exit, that is a walk of the tree as the calls read it. If all
@@ -50,9 +50,9 @@ pub record Walked {C S B : Type 0} (look : C → Shape) (w : WalkConfig) (post :
   pub calls : List (Call C S B)
   pub chain : Chain (IsCallUnder look r post) c s calls c' s'
   pub as_read : IsWalkWithin w (tree_read look w calls c') r limit calls answer
-  pub at_exit : AllPre w → IsWalkWithin w (look c').kids r limit calls answer
-  pub at_entry : AllPost w → IsWalkWithin w (look c).kids r limit calls answer
-  pub unchanged : KeepsShape look r post → IsWalkWithin w (look c).kids r limit calls answer
+  pub at_exit : AllPre w → IsWalkWithin w (look c').children r limit calls answer
+  pub at_entry : AllPost w → IsWalkWithin w (look c).children r limit calls answer
+  pub unchanged : KeepsShape look r post → IsWalkWithin w (look c).children r limit calls answer
 
 -- the answer of a walk whose callback always advances
 abbrev pub plain_answer : Result (Unit {0}) CallLimit → Result (ControlFlow (Unit {0}) WalkContinue) CallLimit

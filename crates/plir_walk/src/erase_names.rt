@@ -1,6 +1,6 @@
 //! Erasing all names under an operation.
 ghost use Rattle.std.specs.Prelude.{◌≡◌};
-ghost use Rattle.plir_core.specs.Store.{IsLive, entity_node};
+ghost use Rattle.plir_core.specs.ContextView.{IsLive, entity_node};
 ghost use Rattle.plir_core.specs.declared.ptr.IRNode.{IRNode as AnyNode};
 ghost use Rattle.plir_walk.specs.GivenNames.{with_attributes};
 ghost use Rattle.plir_walk.specs.Unnamed.{IsUnnamed, unnamed, without_names};

@@ -3,8 +3,8 @@
 //! They stand in one list, in an attribute under [`ATTR_KEY_GIVEN_NAMES`], each name at the place of its result or
 //! argument.
 ghost use Rattle.std.specs.Prelude.{◌≡◌, ◌↔◌, ◌<◌, ◌≤◌, true, OnOk, OnErr, is_err, length, option_map};
-ghost use Rattle.plir_core.specs.Store.{IsLive, result_types_of, arg_types_of};
-ghost use Rattle.plir_core.specs.Whole.{IsWhole};
+ghost use Rattle.plir_core.specs.ContextView.{IsLive, result_types_of, arg_types_of};
+ghost use Rattle.plir_core.specs.WellFormed.{IsWellFormed};
 ghost use Rattle.plir_core.specs.declared.ptr.IRNode.{IRNode};
 ghost use Rattle.plir_core.specs.declared.value.DefiningEntity.{DefiningEntity};
 ghost use Rattle.plir_walk.specs.GivenNames.{name_at as name_in, names_at, has_other_at, with_names, set_name};
@@ -39,7 +39,7 @@ pub fn set_operation_result_name<D: OpSet>(
     ensures err { OnErr result (ctx.new ≡ ctx.old) }
     ensures incorrect { (result ≡ Err GivenNamesErr.GivenNamesIncorrect) ↔
         (has_other_at ctx.old (DefiningEntity.Op op) ≡ true) }
-    ensures whole { IsWhole D.attr_handles ctx.new }
+    ensures whole { IsWellFormed D.attr_handles ctx.new }
 {
     let results_of = DefiningEntity::Op(op);
     put_name(alloc, ctx, results_of, i, name, Placing::Replacing)
@@ -68,7 +68,7 @@ pub fn insert_operation_result_name<D: OpSet>(
     ensures err { OnErr result (ctx.new ≡ ctx.old) }
     ensures incorrect { (result ≡ Err GivenNamesErr.GivenNamesIncorrect) ↔
         (has_other_at ctx.old (DefiningEntity.Op op) ≡ true) }
-    ensures whole { IsWhole D.attr_handles ctx.new }
+    ensures whole { IsWellFormed D.attr_handles ctx.new }
 {
     let results_of = DefiningEntity::Op(op);
     put_name(alloc, ctx, results_of, i, name, Placing::Shifting)
@@ -91,7 +91,7 @@ pub fn remove_operation_result_name<D: OpSet>(
         (remove_name (names_at ctx.old (DefiningEntity.Op op)) i)) }
     ensures err { OnErr result (ctx.new ≡ ctx.old) }
     ensures incorrect { has_other_at ctx.old (DefiningEntity.Op op) ≡ is_err result }
-    ensures whole { IsWhole D.attr_handles ctx.new }
+    ensures whole { IsWellFormed D.attr_handles ctx.new }
 {
     take_name(ctx, DefiningEntity::Op(op), i)
 }
@@ -105,7 +105,7 @@ pub fn get_operation_result_name<D: OpSet>(
 ) -> Option<&Identifier>
     requires { IsLive ctx.now (IRNode.Operation op) }
     ensures value { option_map (λ n. n.now) result ≡ name_in (names_at ctx.now (DefiningEntity.Op op)) i }
-    ensures whole { IsWhole D.attr_handles ctx.now }
+    ensures whole { IsWellFormed D.attr_handles ctx.now }
 {
     name_at(ctx, DefiningEntity::Op(op), i)
 }
@@ -132,7 +132,7 @@ pub fn set_block_arg_name<D: OpSet>(
     ensures err { OnErr result (ctx.new ≡ ctx.old) }
     ensures incorrect { (result ≡ Err GivenNamesErr.GivenNamesIncorrect) ↔
         (has_other_at ctx.old (DefiningEntity.Block block) ≡ true) }
-    ensures whole { IsWhole D.attr_handles ctx.new }
+    ensures whole { IsWellFormed D.attr_handles ctx.new }
 {
     let arguments_of = DefiningEntity::Block(block);
     put_name(alloc, ctx, arguments_of, i, name, Placing::Replacing)
@@ -161,7 +161,7 @@ pub fn insert_block_arg_name<D: OpSet>(
     ensures err { OnErr result (ctx.new ≡ ctx.old) }
     ensures incorrect { (result ≡ Err GivenNamesErr.GivenNamesIncorrect) ↔
         (has_other_at ctx.old (DefiningEntity.Block block) ≡ true) }
-    ensures whole { IsWhole D.attr_handles ctx.new }
+    ensures whole { IsWellFormed D.attr_handles ctx.new }
 {
     let arguments_of = DefiningEntity::Block(block);
     put_name(alloc, ctx, arguments_of, i, name, Placing::Shifting)
@@ -184,7 +184,7 @@ pub fn remove_block_arg_name<D: OpSet>(
         (remove_name (names_at ctx.old (DefiningEntity.Block block)) i)) }
     ensures err { OnErr result (ctx.new ≡ ctx.old) }
     ensures incorrect { has_other_at ctx.old (DefiningEntity.Block block) ≡ is_err result }
-    ensures whole { IsWhole D.attr_handles ctx.new }
+    ensures whole { IsWellFormed D.attr_handles ctx.new }
 {
     take_name(ctx, DefiningEntity::Block(block), i)
 }
@@ -198,7 +198,7 @@ pub fn get_block_arg_name<D: OpSet>(
 ) -> Option<&Identifier>
     requires { IsLive ctx.now (IRNode.BasicBlock block) }
     ensures value { option_map (λ n. n.now) result ≡ name_in (names_at ctx.now (DefiningEntity.Block block)) i }
-    ensures whole { IsWhole D.attr_handles ctx.now }
+    ensures whole { IsWellFormed D.attr_handles ctx.now }
 {
     name_at(ctx, DefiningEntity::Block(block), i)
 }

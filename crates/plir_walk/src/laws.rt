@@ -25,7 +25,7 @@ ghost use Rattle.plir_walk.specs.Thinned.{ErasuresThin};
 use crate::config::WalkConfig;
 use crate::links::NodeLinks;
 use crate::uninterruptible;
-use plir_core::laws::{contexts_stand, erasure_takes_one_kid};
+use plir_core::laws::{contexts_stand, erasure_takes_one_child};
 use plir_core::{Context, IRNode, Operation, Ptr};
 use plir_data::OpSet;
 
@@ -46,7 +46,7 @@ pub fn settings_are_as_named()
 
 /// Each node under a root has one place there.
 pub fn one_place_each<C: NodeLinks>(ctx: &C)
-    ensures { (r : AnyNode) → HasOnePlaceEach (C.look ctx.now).kids r }
+    ensures { (r : AnyNode) → HasOnePlaceEach (C.look ctx.now).children r }
 {
     ctx.forest();
 }
@@ -54,8 +54,8 @@ pub fn one_place_each<C: NodeLinks>(ctx: &C)
 /// What stands at or under a node by places is what climbs to it: walks tell of the one, what a call leaves of the
 /// other.
 pub fn places_and_climbs_agree()
-    ensures climbed { (s : Shape) → IsForest s → (r n : AnyNode) → Reaches s.parent n r → IsUnder s.kids r n }
-    ensures placed { (s : Shape) → IsForest s → (r n : AnyNode) → IsUnder s.kids r n → Reaches s.parent n r }
+    ensures climbed { (s : Shape) → IsForest s → (r n : AnyNode) → Reaches s.parent n r → IsUnder s.children r n }
+    ensures placed { (s : Shape) → IsForest s → (r n : AnyNode) → IsUnder s.children r n → Reaches s.parent n r }
 {}
 
 /// To be before is a total order on the nodes under one root.
@@ -115,5 +115,5 @@ pub fn erasures_thin<D: OpSet>(ctx: &Context<D>)
 {
     contexts_stand::<D>();
     ctx.stands();
-    erasure_takes_one_kid(ctx);
+    erasure_takes_one_child(ctx);
 }

@@ -21,5 +21,6 @@ pub use config::{
 };
 pub use limit::CallLimit;
 pub use links::NodeLinks;
-pub use names_attr::{ATTR_KEY_GIVEN_NAMES, GivenNamesErr, GivenNamesIncorrect};
+pub use names_attr::{GivenNamesErr, GivenNamesIncorrect};
 pub use plir_core::IRNode;
+pub use plir_data::keys::ATTR_KEY_GIVEN_NAMES;

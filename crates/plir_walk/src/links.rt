@@ -3,8 +3,6 @@
 
 ghost use Rattle.std.specs.Prelude.{◌≡◌, true, reverse, option_and_then};
 ghost use Rattle.plir_store.specs.Members.{head};
-ghost use Rattle.plir_core.specs.Store.{IsLive, last_kid, next_sibling, prev_sibling};
-ghost use Rattle.plir_core.specs.Whole.{IsWhole};
 ghost use Rattle.plir_core.specs.Forest.{Shape, IsForest};
 ghost use Rattle.plir_walk.specs.Step.{after, next_of};
 
@@ -30,22 +28,23 @@ pub trait NodeLinks {
     /// The first child of a node.
     fn first_child(&self, node: IRNode) -> Option<IRNode>
         requires { (look self.now).live node ≡ true }
-        ensures { result ≡ head ((look self.now).kids node) };
+        ensures { result ≡ head ((look self.now).children node) };
 
     /// The last child of a node.
     fn last_child(&self, node: IRNode) -> Option<IRNode>
         requires { (look self.now).live node ≡ true }
-        ensures { result ≡ head (reverse ((look self.now).kids node)) };
+        ensures { result ≡ head (reverse ((look self.now).children node)) };
 
     /// The sibling right behind a node.
     fn next_sibling(&self, node: IRNode) -> Option<IRNode>
         requires { (look self.now).live node ≡ true }
-        ensures { result ≡ option_and_then (λ a. after node ((look self.now).kids a)) ((look self.now).parent node) };
+        ensures { result ≡ option_and_then (λ a. after node ((look self.now).children a))
+            ((look self.now).parent node) };
 
     /// The sibling right before a node.
     fn previous_sibling(&self, node: IRNode) -> Option<IRNode>
         requires { (look self.now).live node ≡ true }
-        ensures { result ≡ option_and_then (λ a. after node (reverse ((look self.now).kids a)))
+        ensures { result ≡ option_and_then (λ a. after node (reverse ((look self.now).children a)))
             ((look self.now).parent node) };
 
     /// The sibling that a walk enters after a node.
@@ -66,84 +65,34 @@ impl<D: OpSet> NodeLinks for Context<D> {
 
     #[inline(always)]
     fn parent(&self, node: IRNode) -> Option<IRNode> {
-        match node {
-            IRNode::Operation(op) => op.get_parent_block(self).map(IRNode::BasicBlock),
-            IRNode::Region(region) => region.get_parent_op(self).map(IRNode::Operation),
-            IRNode::BasicBlock(block) => block.get_parent_region(self).map(IRNode::Region),
-        }
+        node.parent(self)
     }
 
     #[inline(always)]
     fn first_child(&self, node: IRNode) -> Option<IRNode> {
-        match node {
-            IRNode::Operation(op) => op.first_region(self).map(IRNode::Region),
-            IRNode::Region(region) => region.get_head(self).map(IRNode::BasicBlock),
-            IRNode::BasicBlock(block) => block.get_head(self).map(IRNode::Operation),
-        }
+        node.first_child(self)
     }
 
     #[inline(always)]
     fn last_child(&self, node: IRNode) -> Option<IRNode> {
-        last_kid_of(self, node)
+        node.last_child(self)
     }
 
     #[inline(always)]
     fn next_sibling(&self, node: IRNode) -> Option<IRNode> {
-        sibling_after(self, node)
+        node.next_sibling(self)
     }
 
     #[inline(always)]
     fn previous_sibling(&self, node: IRNode) -> Option<IRNode> {
-        sibling_before(self, node)
+        node.prev_sibling(self)
     }
 
     #[inline(always)]
     fn next_taken(&self, config: &WalkConfig, node: IRNode) -> Option<IRNode> {
         match config.direction_above(node) {
-            Direction::Forward => sibling_after(self, node),
-            Direction::Reverse => sibling_before(self, node),
+            Direction::Forward => node.next_sibling(self),
+            Direction::Reverse => node.prev_sibling(self),
         }
-    }
-}
-
-/// The last child of a node.
-#[inline(always)]
-fn last_kid_of<D: OpSet>(ctx: &Context<D>, node: IRNode) -> Option<IRNode>
-    requires { IsLive ctx.now node }
-    ensures value { result ≡ last_kid ctx.now node }
-    ensures whole { IsWhole D.attr_handles ctx.now }
-{
-    match node {
-        IRNode::Operation(op) => op.last_region(ctx).map(IRNode::Region),
-        IRNode::Region(region) => region.get_tail(ctx).map(IRNode::BasicBlock),
-        IRNode::BasicBlock(block) => block.get_tail(ctx).map(IRNode::Operation),
-    }
-}
-
-/// The sibling right behind a node.
-#[inline(always)]
-fn sibling_after<D: OpSet>(ctx: &Context<D>, node: IRNode) -> Option<IRNode>
-    requires { IsLive ctx.now node }
-    ensures value { result ≡ next_sibling ctx.now node }
-    ensures whole { IsWhole D.attr_handles ctx.now }
-{
-    match node {
-        IRNode::Operation(op) => op.get_next(ctx).map(IRNode::Operation),
-        IRNode::Region(region) => region.get_next(ctx).map(IRNode::Region),
-        IRNode::BasicBlock(block) => block.get_next(ctx).map(IRNode::BasicBlock),
-    }
-}
-
-/// The sibling right before a node.
-#[inline(always)]
-fn sibling_before<D: OpSet>(ctx: &Context<D>, node: IRNode) -> Option<IRNode>
-    requires { IsLive ctx.now node }
-    ensures value { result ≡ prev_sibling ctx.now node }
-    ensures whole { IsWhole D.attr_handles ctx.now }
-{
-    match node {
-        IRNode::Operation(op) => op.get_prev(ctx).map(IRNode::Operation),
-        IRNode::Region(region) => region.get_prev(ctx).map(IRNode::Region),
-        IRNode::BasicBlock(block) => block.get_prev(ctx).map(IRNode::BasicBlock),
     }
 }

@@ -5,22 +5,21 @@ ghost use Rattle.plir_data.specs.AttrView.{leaf, unit, given_names};
 ghost use Rattle.plir_data.specs.AttrLive.{IsAttrLive};
 ghost use Rattle.plir_data.specs.AttrSeen.{attr_view};
 ghost use Rattle.plir_data.specs.Dictionary.{IsDictionary, dict_get, dict_put, dict_without};
-ghost use Rattle.plir_core.specs.Store.{IsLive, entity_node};
-ghost use Rattle.plir_core.specs.Whole.{IsWhole};
-ghost use Rattle.plir_walk.specs.GivenNames.{name_at as name_in, names_of as names_in, names_at, names_key, has_other};
+ghost use Rattle.plir_data.specs.Keys.{names_key};
+ghost use Rattle.plir_core.specs.ContextView.{IsLive, entity_node};
+ghost use Rattle.plir_core.specs.WellFormed.{IsWellFormed};
+ghost use Rattle.plir_walk.specs.GivenNames.{name_at as name_in, names_of as names_in, names_at, has_other};
 ghost use Rattle.plir_walk.specs.GivenNames.{has_other_at, attributes_at, with_attributes, with_names, remove_name};
 ghost use Rattle.plir_walk.specs.Placing.{placed_name};
 
 use crate::name_list::{Placing, are_all_unset, place_name, remove_from};
 use plir_core::{Context, DefiningEntity};
+use plir_data::keys::ATTR_KEY_GIVEN_NAMES;
 use plir_data::{
     AttrObj, AttributeDict, GivenNamesAttr, Identifier, IdentifierErr, Memory, OpSet, UnitAttr,
 };
 use std::alloc::Global;
 use thiserror::Error;
-
-/// The key under which the names of results and arguments stand.
-pub const ATTR_KEY_GIVEN_NAMES: &'static str = "builtin_given_names";
 
 /// An attribute of another kind stands under the key of names.
 #[derive(Clone, Copy, PartialEq, Eq, Debug, Error)]
@@ -65,7 +64,7 @@ fn attributes<D: OpSet>(ctx: &Context<D>, entity: DefiningEntity) -> &AttributeD
     requires { IsLive ctx.now (entity_node entity) }
     ensures value { result.now ≡ attributes_at ctx.now entity }
     ensures ascending { IsDictionary result.now }
-    ensures whole { IsWhole D.attr_handles ctx.now }
+    ensures whole { IsWellFormed D.attr_handles ctx.now }
 {
     let attributes = match entity {
         DefiningEntity::Op(op) => op.attributes(ctx),
@@ -88,7 +87,7 @@ fn swap_attr<D: OpSet>(
         (λ es. dict_put es names_key (attr_view value))) }
     ensures absent { OnErr result (dict_get (attributes_at ctx.old entity) names_key ≡ None) }
     ensures same { OnErr result (ctx.new ≡ ctx.old) }
-    ensures whole { IsWhole D.attr_handles ctx.new }
+    ensures whole { IsWellFormed D.attr_handles ctx.new }
 {
     match entity {
         DefiningEntity::Op(op) => op.swap_attr(ctx, ATTR_KEY_GIVEN_NAMES, value),
@@ -100,7 +99,7 @@ fn swap_attr<D: OpSet>(
 pub(crate) fn remove_attr<D: OpSet>(ctx: &mut Context<D>, entity: DefiningEntity)
     requires { IsLive ctx.old (entity_node entity) }
     ensures after { ctx.new ≡ with_attributes ctx.old entity (λ es. dict_without es names_key) }
-    ensures whole { IsWhole D.attr_handles ctx.new }
+    ensures whole { IsWellFormed D.attr_handles ctx.new }
 {
     let _names = match entity {
         DefiningEntity::Op(op) => op.remove_attr(ctx, ATTR_KEY_GIVEN_NAMES),
@@ -116,11 +115,11 @@ fn add_names<D: OpSet>(
     names: Vec<Option<Identifier>>,
 ) -> Result<(), Memory>
     requires live { IsLive ctx.old (entity_node entity) }
-    requires whole { IsWhole D.attr_handles ctx.old }
+    requires whole { IsWellFormed D.attr_handles ctx.old }
     ensures ok { OnOk result (ctx.new ≡ with_attributes ctx.old entity
         (λ es. dict_put es names_key (leaf (given_names names.items)))) }
     ensures err { OnErr result (ctx.new ≡ ctx.old) }
-    ensures whole { IsWhole D.attr_handles ctx.new }
+    ensures whole { IsWellFormed D.attr_handles ctx.new }
 {
     let key = match Identifier::try_new(alloc, ATTR_KEY_GIVEN_NAMES) {
         Ok(key) => key,
@@ -148,7 +147,7 @@ pub(crate) fn has_other<D: OpSet>(ctx: &Context<D>, entity: DefiningEntity) -> b
     requires { IsLive ctx.now (entity_node entity) }
     ensures value { result ≡ has_other_at ctx.now entity }
     ensures ascending { IsDictionary (attributes_at ctx.now entity) }
-    ensures whole { IsWhole D.attr_handles ctx.now }
+    ensures whole { IsWellFormed D.attr_handles ctx.now }
 {
     match attributes(ctx, entity).get(ATTR_KEY_GIVEN_NAMES) {
         None => false,
@@ -164,7 +163,7 @@ pub(crate) fn name_at<D: OpSet>(
 ) -> Option<&Identifier>
     requires { IsLive ctx.now (entity_node entity) }
     ensures value { option_map (λ n. n.now) result ≡ name_in (names_at ctx.now entity) i }
-    ensures whole { IsWhole D.attr_handles ctx.now }
+    ensures whole { IsWellFormed D.attr_handles ctx.now }
 {
     let attribute = attributes(ctx, entity).get(ATTR_KEY_GIVEN_NAMES)?;
     names_of(attribute)?.names().get(i)?.as_ref()
@@ -185,7 +184,7 @@ fn take_names<D: OpSet>(
     ensures incorrect { has_other_at ctx.old entity ≡ is_err result }
     ensures err { OnErr result (ctx.new ≡ ctx.old) }
     ensures ascending { IsDictionary (attributes_at ctx.old entity) }
-    ensures whole { IsWhole D.attr_handles ctx.new }
+    ensures whole { IsWellFormed D.attr_handles ctx.new }
 {
     if has_other(ctx, entity) {
         return Err(GivenNamesIncorrect);
@@ -202,7 +201,7 @@ fn restore_names<D: OpSet>(ctx: &mut Context<D>, entity: DefiningEntity, names: 
     requires live { IsLive ctx.old (entity_node entity) }
     requires present { IsSome (dict_get (attributes_at ctx.old entity) names_key) }
     ensures after { ctx.new ≡ with_attributes ctx.old entity (λ es. dict_put es names_key (leaf (given_names names))) }
-    ensures whole { IsWhole D.attr_handles ctx.new }
+    ensures whole { IsWellFormed D.attr_handles ctx.new }
 {
     let _placeholder = swap_attr(ctx, entity, AttrObj::GivenNames(names));
 }
@@ -212,7 +211,7 @@ fn put_back<D: OpSet>(ctx: &mut Context<D>, entity: DefiningEntity, names: Given
     requires live { IsLive ctx.old (entity_node entity) }
     requires present { IsSome (dict_get (attributes_at ctx.old entity) names_key) }
     ensures after { ctx.new ≡ with_names ctx.old entity names }
-    ensures whole { IsWhole D.attr_handles ctx.new }
+    ensures whole { IsWellFormed D.attr_handles ctx.new }
 {
     if are_all_unset(names.names()) {
         remove_attr(ctx, entity);
@@ -232,10 +231,10 @@ fn give_first_name<D: OpSet>(
 ) -> Result<(), Memory>
     requires live { IsLive ctx.old (entity_node entity) }
     requires absent { dict_get (attributes_at ctx.old entity) names_key ≡ None }
-    requires whole { IsWhole D.attr_handles ctx.old }
+    requires whole { IsWellFormed D.attr_handles ctx.old }
     ensures ok { OnOk result (ctx.new ≡ with_names ctx.old entity (placed_name placing [] i name)) }
     ensures err { OnErr result (ctx.new ≡ ctx.old) }
-    ensures whole { IsWhole D.attr_handles ctx.new }
+    ensures whole { IsWellFormed D.attr_handles ctx.new }
 {
     if name.is_none() {
         return Ok(());
@@ -259,7 +258,7 @@ pub(crate) fn put_name<D: OpSet>(
         (placed_name placing (names_at ctx.old entity) i name)) }
     ensures err { OnErr result (ctx.new ≡ ctx.old) }
     ensures incorrect { (result ≡ Err GivenNamesErr.GivenNamesIncorrect) ↔ (has_other_at ctx.old entity ≡ true) }
-    ensures whole { IsWhole D.attr_handles ctx.new }
+    ensures whole { IsWellFormed D.attr_handles ctx.new }
 {
     let Some(mut names) = take_names(ctx, entity)? else {
         give_first_name(alloc, ctx, entity, i, name, placing)?;
@@ -287,7 +286,7 @@ pub(crate) fn take_name<D: OpSet>(
     ensures ok { OnOk result (ctx.new ≡ with_names ctx.old entity (remove_name (names_at ctx.old entity) i)) }
     ensures err { OnErr result (ctx.new ≡ ctx.old) }
     ensures incorrect { has_other_at ctx.old entity ≡ is_err result }
-    ensures whole { IsWhole D.attr_handles ctx.new }
+    ensures whole { IsWellFormed D.attr_handles ctx.new }
 {
     if let Some(mut names) = take_names(ctx, entity)? {
         remove_from(names.names_mut(), i);

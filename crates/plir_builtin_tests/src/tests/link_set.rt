@@ -1,7 +1,7 @@
 //! An op set whose operations are symbols, tables and users of symbols as their kinds say.
 ghost use Rattle.std.specs.Prelude.{◌≡◌, ◌↔◌, IfOk, IsTrue, Some, option_map};
 ghost use Rattle.plir_data.specs.AttrSeen.{attr_view};
-ghost use Rattle.plir_core.specs.Store.{IsLive};
+ghost use Rattle.plir_core.specs.ContextView.{IsLive};
 ghost use Rattle.plir_core.specs.declared.ptr.IRNode.{IRNode as AnyNode};
 ghost use Rattle.plir_builtin.specs.Agree.{AllAgree, AreGivenOut};
 ghost use Rattle.plir_builtin.specs.Symbols.{name_in};
@@ -277,7 +277,7 @@ impl<D: OpSet> Op<D> for LinkOp {
 }
 
 impl SymbolUserOpInterface<LinkSet> for LinkOp {
-    ghost use Rattle.plir_core.specs.Store.{location_of};
+    ghost use Rattle.plir_core.specs.ContextView.{location_of};
     ghost use Rattle.plir_builtin_tests.specs.Links.{IsLinked, names_in_use};
 
     ghost names_used = { λ o s. names_in_use s o.op };
@@ -315,7 +315,7 @@ impl SymbolUserOpInterface<LinkSet> for LinkOp {
 }
 
 impl SymbolUserSet for LinkSet {
-    ghost use Rattle.plir_core.specs.Store.{location_of};
+    ghost use Rattle.plir_core.specs.ContextView.{location_of};
     ghost use Rattle.plir_builtin_tests.specs.Links.{IsLinked};
 
     ghost uses_hold = { λ s op. IsLinked (λ k. k.symbol) s op };

@@ -1,6 +1,6 @@
 //! Long lists of edits, beside the same edits made by plain calls on nodes, with scans.
 ghost use Rattle.std.specs.Prelude.{IfOk, IfSome};
-ghost use Rattle.plir_core.specs.Store.{IsLive};
+ghost use Rattle.plir_core.specs.ContextView.{IsLive};
 ghost use Rattle.plir_core.specs.declared.ptr.IRNode.{IRNode as AnyNode};
 
 use super::around::{scan, symbol_name};

@@ -3,7 +3,7 @@ ghost use Rattle.std.specs.Prelude.{◌≡◌, IfOk, IfSome};
 ghost use Rattle.plir_data.specs.AttrLive.{IsAttrLive};
 ghost use Rattle.plir_data.specs.AttrSeen.{attr_view};
 ghost use Rattle.plir_data.specs.AttrView.{leaf, integer};
-ghost use Rattle.plir_core.specs.Store.{IsLive};
+ghost use Rattle.plir_core.specs.ContextView.{IsLive};
 ghost use Rattle.plir_core.specs.declared.ptr.IRNode.{IRNode as AnyNode};
 
 use super::symbols::put_verdict;

@@ -48,7 +48,7 @@ impl OwnKind for CallKind {
 
 impl SymbolUses<KindSet<CallKind>> for CallKind {
     ghost use Rattle.std.specs.Prelude.{◌≡◌, Some, false};
-    ghost use Rattle.plir_core.specs.Store.{location_of};
+    ghost use Rattle.plir_core.specs.ContextView.{location_of};
     ghost use Rattle.plir_builtin_tests.specs.Links.{IsLinked};
 
     ghost uses_hold = { λ s op. IsLinked (λ _. false) s op };

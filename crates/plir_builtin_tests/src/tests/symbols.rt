@@ -1,6 +1,6 @@
 //! The calls on symbols, and those that verify what operations declare.
 ghost use Rattle.std.specs.Prelude.{◌≡◌, IfOk, IsTrue, true};
-ghost use Rattle.plir_core.specs.Store.{IsLive, kind_of};
+ghost use Rattle.plir_core.specs.ContextView.{IsLive, kind_of};
 ghost use Rattle.plir_core.specs.declared.ptr.IRNode.{IRNode as AnyNode};
 ghost use Rattle.plir_builtin.specs.Symbols.{is_table_kind};
 ghost use Rattle.plir_iface.specs.Counts.{HasNRegions};

@@ -169,7 +169,7 @@ fn hand_over<C: TableLinks>(
 ) -> WalkResult<u32>
     requires live { (C.look ctx.now).live (AnyNode.Operation op) ≡ true }
     requires table { C.is_table_of ctx.now op ≡ true }
-    requires one_region { length ((C.look ctx.now).kids (AnyNode.Operation op)) ≡ 1 }
+    requires one_region { length ((C.look ctx.now).children (AnyNode.Operation op)) ≡ 1 }
 {
     let note = |_ctx: &C, handed: &mut Vec<IRNode>, op: Ptr<Operation>| -> WalkResult<u32> {
         if handed.push(IRNode::Operation(op)).is_err() || last == Some(op) {

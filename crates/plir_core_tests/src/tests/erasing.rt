@@ -1,6 +1,6 @@
 //! Large trees are erased whole.
 ghost use Rattle.std.specs.Prelude.{IfOk};
-ghost use Rattle.plir_core.specs.Store.{IsLive};
+ghost use Rattle.plir_core.specs.ContextView.{IsLive};
 ghost use Rattle.plir_core.specs.declared.ptr.IRNode.{IRNode as AnyNode};
 
 use plir_core::{BasicBlock, Context, IRNode, Operation, Ptr};

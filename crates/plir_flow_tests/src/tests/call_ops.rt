@@ -23,7 +23,7 @@ impl Op<SampleSet> for ValueCall {
 
 impl CallOpInterface<SampleSet> for ValueCall {
     ghost use Rattle.std.specs.Prelude.{◌<◌, length, slice_index_or};
-    ghost use Rattle.plir_core.specs.Store.{operands_of};
+    ghost use Rattle.plir_core.specs.ContextView.{operands_of};
     ghost use Rattle.plir_iface.specs.Counts.{result_at};
     ghost use Rattle.plir_flow.specs.declared.calls.CallOpCallable.TheVariants.{Indirect};
 
@@ -78,7 +78,7 @@ impl Op<SampleSet> for NamedCall {
 
 impl CallOpInterface<SampleSet> for NamedCall {
     ghost use Rattle.std.specs.Prelude.{length, codes};
-    ghost use Rattle.plir_core.specs.Store.{operands_of};
+    ghost use Rattle.plir_core.specs.ContextView.{operands_of};
     ghost use Rattle.plir_flow.specs.declared.calls.CallOpCallable.TheVariants.{Direct};
 
     ghost has_call_layout = { λ _ _. Unit {0} };

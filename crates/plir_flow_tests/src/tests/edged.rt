@@ -1,6 +1,6 @@
 //! An operation with edges between its regions that are told with it.
 ghost use Rattle.std.specs.Prelude.{◌↔◌, All, IsTrue, IfOk, ◌≡◌};
-ghost use Rattle.plir_core.specs.Store.{IsValueLive};
+ghost use Rattle.plir_core.specs.ContextView.{IsValueLive};
 ghost use Rattle.plir_flow.specs.RegionEdges.{IsEdgeLive, AreEdgesLive, IsFlowLive, IsPointLive, IsSuccessorLive};
 ghost use Rattle.plir_flow.specs.RegionEdges.{IsUseLive};
 

@@ -1,5 +1,5 @@
 //! The calls on region edges.
-ghost use Rattle.plir_core.specs.Store.{IsLive};
+ghost use Rattle.plir_core.specs.ContextView.{IsLive};
 ghost use Rattle.plir_core.specs.declared.ptr.IRNode.{IRNode as AnyNode};
 
 use super::edge_reading::{point_of, region_of, successor_of};

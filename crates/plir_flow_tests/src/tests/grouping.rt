@@ -1,6 +1,6 @@
 //! The calls that read segments.
 ghost use Rattle.std.specs.Prelude.{◌<◌, ◌^◌, All, length};
-ghost use Rattle.plir_core.specs.Store.{IsLive};
+ghost use Rattle.plir_core.specs.ContextView.{IsLive};
 ghost use Rattle.plir_core.specs.declared.ptr.IRNode.{IRNode as AnyNode};
 
 use super::grouped::Grouped;

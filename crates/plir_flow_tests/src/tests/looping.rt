@@ -1,6 +1,6 @@
 //! A loop: an operation with one region, and one in it that ends the region and hands a value on.
 ghost use Rattle.std.specs.Prelude.{◌↔◌, ◌≡◌, ◌∷◌, [], IsTrue, IfOk};
-ghost use Rattle.plir_core.specs.Store.{IsLive};
+ghost use Rattle.plir_core.specs.ContextView.{IsLive};
 ghost use Rattle.plir_core.specs.declared.ptr.IRNode.{IRNode as AnyNode};
 ghost use Rattle.plir_flow_tests.specs.Loops.{AreNested, IsLoop};
 

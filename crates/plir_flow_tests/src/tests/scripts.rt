@@ -1,5 +1,5 @@
 //! The scripts of segments, branches and calls, with their answers.
-ghost use Rattle.plir_core.specs.Store.{IsLive};
+ghost use Rattle.plir_core.specs.ContextView.{IsLive};
 ghost use Rattle.plir_core.specs.declared.ptr.IRNode.{IRNode as AnyNode};
 
 use super::branching::{add, ask_forwarded, ask_successor, reset, take_out, verify_branch};

@@ -1,5 +1,5 @@
 //! A switch: an operation whose operands stand in one segment more than it has successors.
-ghost use Rattle.plir_core.specs.Store.{IsLive};
+ghost use Rattle.plir_core.specs.ContextView.{IsLive};
 ghost use Rattle.plir_core.specs.declared.ptr.IRNode.{IRNode as AnyNode};
 
 use super::branching::{add, ask_forwarded, reset, take_out};

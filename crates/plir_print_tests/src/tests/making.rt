@@ -1,6 +1,6 @@
 //! The calls that make builtin operations and name values.
 ghost use Rattle.std.specs.Prelude.{IfOk};
-ghost use Rattle.plir_core.specs.Store.{IsLive};
+ghost use Rattle.plir_core.specs.ContextView.{IsLive};
 ghost use Rattle.plir_core.specs.declared.ptr.IRNode.{IRNode as AnyNode};
 
 use plir_attr_text::read_attr;

@@ -1,5 +1,5 @@
 use Rattle.std.proofs.Common.{subst, sym}
-use Rattle.plir_core.specs.Store.{IsLive}
+use Rattle.plir_core.specs.ContextView.{IsLive}
 use Rattle.plir_core.specs.declared.ptr.IRNode.TheVariants.{Operation}
 use Rattle.plir_tour.proofs.Appending.{module-live, single, one, not-above, still-live, same-kind}
 use Rattle.plir_tour.proofs.tour.Goals as goal

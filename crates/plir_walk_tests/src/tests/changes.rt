@@ -1,12 +1,12 @@
 //! Walks whose callback changes the tree below its node.
 ghost use Rattle.std.specs.Prelude.{◌≡◌, Some, IfOk};
-ghost use Rattle.plir_core.specs.Store.{IsLive, parent_of};
+ghost use Rattle.plir_core.specs.ContextView.{IsLive, parent_of};
 ghost use Rattle.plir_core.specs.declared.ptr.IRNode.{IRNode as AnyNode};
 ghost use Rattle.plir_core.specs.Forest.{look};
 ghost use Rattle.plir_walk.specs.Lawful.{Lawful};
 
 use super::plan::{Change, Plan};
-use plir_core::laws::{first_kid_is_front, kid_at};
+use plir_core::laws::{child_at, first_child_is_front};
 use plir_core::{BasicBlock, Context, IRNode, NodeErr, Operation, Ptr, Region};
 use plir_data::{Identifier, OpKind, OpSet};
 use plir_walk::NodeLinks;
@@ -68,8 +68,8 @@ pub fn make_nest<D: OpSet>(
     if !region.is_live(ctx) {
         return Err(Refusal::Misplaced);
     }
-    first_kid_is_front(ctx, IRNode::Operation(op));
-    kid_at(ctx, IRNode::Operation(op), IRNode::Region(region), 0);
+    first_child_is_front(ctx, IRNode::Operation(op));
+    child_at(ctx, IRNode::Operation(op), IRNode::Region(region), 0);
     let block = BasicBlock::new(alloc, ctx, None, Vec::new(alloc))?;
     block.insert_at_back(region, ctx);
     Ok(Nest { op, region, block })
@@ -158,7 +158,7 @@ fn erase_region<D: OpSet>(ctx: &mut Context<D>, op: Ptr<Operation>) -> Result<()
         return Err(Refusal::Misplaced);
     }
     let region = op.get_region(ctx, 0);
-    kid_at(ctx, IRNode::Operation(op), IRNode::Region(region), 0);
+    child_at(ctx, IRNode::Operation(op), IRNode::Region(region), 0);
     if !IRNode::Region(region).is_unused_outside(ctx) {
         return Err(Refusal::Misplaced);
     }

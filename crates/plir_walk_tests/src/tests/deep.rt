@@ -1,6 +1,6 @@
 //! Walks of a deep tree.
 ghost use Rattle.std.specs.Prelude.{IfSome};
-ghost use Rattle.plir_core.specs.Store.{IsLive};
+ghost use Rattle.plir_core.specs.ContextView.{IsLive};
 
 use super::changes::{Nest, Refusal, make_nest};
 use super::plan::Plan;

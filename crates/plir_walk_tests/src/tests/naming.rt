@@ -1,5 +1,5 @@
 //! The calls on names of results and arguments.
-ghost use Rattle.plir_core.specs.Store.{IsLive};
+ghost use Rattle.plir_core.specs.ContextView.{IsLive};
 ghost use Rattle.plir_core.specs.declared.ptr.IRNode.{IRNode as AnyNode};
 
 use plir_core::{BasicBlock, Context, IRNode, Operation, Ptr};

@@ -1,6 +1,6 @@
 //! The walkers that call at operations alone.
 ghost use Rattle.std.specs.Prelude.{◌≡◌, true};
-ghost use Rattle.plir_core.specs.Store.{IsLive};
+ghost use Rattle.plir_core.specs.ContextView.{IsLive};
 ghost use Rattle.plir_core.specs.declared.ptr.IRNode.{IRNode as AnyNode};
 ghost use Rattle.plir_core.specs.Forest.{look};
 ghost use Rattle.plir_walk.specs.Lawful.{Lawful};

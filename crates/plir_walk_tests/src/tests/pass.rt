@@ -2,14 +2,14 @@
 //! in a walk, and reads, stores, verifies and prints an attribute. What a call has promised is tested nowhere again.
 ghost use Rattle.std.specs.Prelude.{IfOk, IsSome, codes};
 ghost use Rattle.plir_data.specs.Dictionary.{dict_get};
-ghost use Rattle.plir_core.specs.Store.{IsAncestor, IsLive, attributes_of};
+ghost use Rattle.plir_core.specs.ContextView.{IsAncestor, IsLive, attributes_of};
 ghost use Rattle.plir_core.specs.declared.ptr.IRNode.{IRNode as AnyNode};
 ghost use Rattle.plir_core.specs.Forest.{look};
 ghost use Rattle.plir_walk.specs.Lawful.{Lawful};
 
 use super::changes::NOT_DONE;
 use plir_attr_text::{print_attr, read_attr};
-use plir_core::laws::{growth, kid_at, op_edits_keep_the_rest};
+use plir_core::laws::{child_at, growth, op_edits_keep_the_rest};
 use plir_core::{BasicBlock, Context, IRNode, NodeErr, Operation, Ptr, Region};
 use plir_data::{Identifier, Memory, OpKind, OpSet};
 use plir_walk::interruptible::mutable::walk_op;
@@ -90,7 +90,7 @@ fn append<D: OpSet>(
     let op = Operation::new(alloc, ctx, kind, results, operands, successors, 1)?;
     let region = op.get_region(ctx, 0);
     op.insert_at_back(block, ctx);
-    kid_at(ctx, IRNode::Operation(op), IRNode::Region(region), 0);
+    child_at(ctx, IRNode::Operation(op), IRNode::Region(region), 0);
     fill(alloc, ctx, region)
 }
 

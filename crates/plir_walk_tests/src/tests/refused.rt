@@ -1,5 +1,5 @@
 //! A callback whose own growth is refused.
-ghost use Rattle.plir_core.specs.Store.{IsLive};
+ghost use Rattle.plir_core.specs.ContextView.{IsLive};
 ghost use Rattle.plir_core.specs.declared.ptr.IRNode.{IRNode as AnyNode};
 
 use super::changes::{NOT_DONE, Nest, make_nest};

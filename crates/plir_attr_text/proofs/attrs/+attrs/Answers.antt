@@ -9,16 +9,16 @@ use Rattle.plir_attr_text.specs.Steps.{read_as}
 use Rattle.plir_attr_text.specs.Lists.{items_at}
 use Rattle.plir_attr_text.specs.AttrReading.{name_at, text_at, bool_at, size_at, given_name_at, entry_at, attr_head, attr_at}
 use Rattle.plir_attr_text.specs.TypesIn.{IsInEntry, IsInAttr}
-use Rattle.plir_attr_text.specs.StepLaws.{done}
-use Rattle.plir_attr_text.specs.Fronts.{no_open, nothing_inside}
-use Rattle.plir_attr_text.specs.Growth.{Adds-itself, Adds-as}
+use Rattle.plir_attr_text.specs.laws.StepLaws.{done}
+use Rattle.plir_attr_text.specs.laws.Fronts.{no_open, nothing_inside}
+use Rattle.plir_attr_text.specs.laws.Growth.{Adds-itself, Adds-as}
 use Rattle.plir_attr_text.proofs.Gathering.{begins, kept_on, gathered, one_more, fails_at, fails_behind}
-use Rattle.plir_attr_text.specs.Meanings.{ItemsFront, ItemsFront-grown, DictFront, DictFront-grown, ItemsFront-push, IsDictMeant-push}
-use Rattle.plir_attr_text.specs.TypeSteps.{behind_is}
-use Rattle.plir_attr_text.specs.AttrSteps.{attr_at-body, attr_at-level-fails, attr_at-head-fails, Reads-from, leaf_read}
-use Rattle.plir_attr_text.specs.AttrsFound.{attr_at-shorter, entry_at-shorter}
-use Rattle.plir_attr_text.specs.AttrsAgain.{entry_again}
-use Rattle.plir_attr_text.specs.Begun.{separator_at-shorter}
+use Rattle.plir_attr_text.specs.laws.Meanings.{ItemsFront, ItemsFront-grown, DictFront, DictFront-grown, ItemsFront-push, IsDictMeant-push}
+use Rattle.plir_attr_text.specs.laws.TypeSteps.{behind_is}
+use Rattle.plir_attr_text.specs.laws.AttrSteps.{attr_at-body, attr_at-level-fails, attr_at-head-fails, Reads-from, leaf_read}
+use Rattle.plir_attr_text.specs.laws.AttrsFound.{attr_at-shorter, entry_at-shorter}
+use Rattle.plir_attr_text.specs.laws.AttrsAgain.{entry_again}
+use Rattle.plir_attr_text.specs.laws.Begun.{separator_at-shorter}
 use Rattle.plir_attr_text.proofs.TypesIn.{in_entry, in_attr}
 use Rattle.plir_attr_text.proofs.attrs.+attrs.Goals as goal
 

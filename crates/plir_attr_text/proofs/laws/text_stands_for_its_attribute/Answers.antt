@@ -1,4 +1,4 @@
-use Rattle.plir_attr_text.specs.AttrsShown.{text_stands}
+use Rattle.plir_attr_text.specs.laws.AttrsShown.{text_stands}
 use Rattle.plir_attr_text.proofs.laws.text_stands_for_its_attribute.Goals as goal
 
 pub returns : goal.returns

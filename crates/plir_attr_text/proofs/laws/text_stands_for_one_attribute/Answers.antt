@@ -1,4 +1,4 @@
-use Rattle.plir_attr_text.specs.SameMeanings.{one_meaning}
+use Rattle.plir_attr_text.specs.laws.SameMeanings.{one_meaning}
 use Rattle.plir_attr_text.proofs.laws.text_stands_for_one_attribute.Goals as goal
 
 pub returns : goal.returns

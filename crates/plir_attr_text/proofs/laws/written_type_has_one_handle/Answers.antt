@@ -1,4 +1,4 @@
-use Rattle.plir_attr_text.specs.SameNames.{same_handle}
+use Rattle.plir_attr_text.specs.laws.SameNames.{same_handle}
 use Rattle.plir_attr_text.proofs.laws.written_type_has_one_handle.Goals as goal
 
 pub returns : goal.returns

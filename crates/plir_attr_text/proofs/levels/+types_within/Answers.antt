@@ -6,7 +6,7 @@ use Rattle.plir_data.specs.declared.types.TypeObj.TheVariants.{Function}
 use Rattle.plir_attr_text.specs.Terms.{type_levels}
 use Rattle.plir_attr_text.specs.Writable.{type_term}
 use Rattle.plir_attr_text.proofs.Asked.{asked_as}
-use Rattle.plir_attr_text.specs.Handles.{held_below}
+use Rattle.plir_attr_text.specs.laws.Handles.{held_below}
 use Rattle.plir_attr_text.proofs.TypeLevels.{some_level, one_level, function_levels}
 use Rattle.plir_attr_text.proofs.levels.+types_within.Goals as goal
 

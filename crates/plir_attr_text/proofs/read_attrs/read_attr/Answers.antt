@@ -2,11 +2,11 @@ use Rattle.std.proofs.Common.{ap, sym, ◌∙◌}
 use Rattle.plir_attr_text.specs.AttrReading.{attr_at}
 use Rattle.plir_attr_text.specs.TypesIn.{IsInAttr}
 use Rattle.plir_attr_text.specs.Wholes.{whole}
-use Rattle.plir_attr_text.specs.AttrsAgain.{attr_text_found, attr_text_refused}
-use Rattle.plir_attr_text.specs.Growth.{named_as, named_by}
+use Rattle.plir_attr_text.specs.laws.AttrsAgain.{attr_text_found, attr_text_refused}
+use Rattle.plir_attr_text.specs.laws.Growth.{named_as, named_by}
 use Rattle.plir_attr_text.specs.Parts.{IsHeldBy}
-use Rattle.plir_attr_text.specs.PartsFound.{held_by_attr}
-use Rattle.plir_attr_text.specs.Meanings.{IsMeant-live}
+use Rattle.plir_attr_text.specs.laws.PartsFound.{held_by_attr}
+use Rattle.plir_attr_text.specs.laws.Meanings.{IsMeant-live}
 use Rattle.plir_attr_text.proofs.Wholes.{told, no_place}
 use Rattle.plir_attr_text.proofs.read_attrs.read_attr.Goals as goal
 

@@ -4,8 +4,8 @@ use Rattle.plir_attr_text.specs.TypesIn.{IsInFunction}
 use Rattle.plir_attr_text.specs.Wholes.{whole}
 use Rattle.plir_attr_text.specs.Terms.{function_type}
 use Rattle.plir_attr_text.specs.Parts.{IsPartOf}
-use Rattle.plir_attr_text.specs.PartsFound.{part_of_function}
-use Rattle.plir_attr_text.specs.Growth.{named_as, named_by}
+use Rattle.plir_attr_text.specs.laws.PartsFound.{part_of_function}
+use Rattle.plir_attr_text.specs.laws.Growth.{named_as, named_by}
 use Rattle.plir_attr_text.proofs.Wholes.{told, no_place, function_text_found, function_text_refused}
 use Rattle.plir_attr_text.proofs.read_types.read_function_type.Goals as goal
 

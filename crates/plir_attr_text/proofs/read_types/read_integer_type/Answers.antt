@@ -3,8 +3,8 @@ use Rattle.plir_attr_text.specs.TypeReading.{integer_at}
 use Rattle.plir_attr_text.specs.TypesIn.{IsInInteger}
 use Rattle.plir_attr_text.specs.Wholes.{whole}
 use Rattle.plir_attr_text.specs.Terms.{integer_type}
-use Rattle.plir_attr_text.specs.PartsFound.{part_of_integer}
-use Rattle.plir_attr_text.specs.Growth.{named_as, named_by}
+use Rattle.plir_attr_text.specs.laws.PartsFound.{part_of_integer}
+use Rattle.plir_attr_text.specs.laws.Growth.{named_as, named_by}
 use Rattle.plir_attr_text.proofs.Wholes.{told, no_place, integer_text_found, integer_text_refused}
 use Rattle.plir_attr_text.proofs.read_types.read_integer_type.Goals as goal
 

@@ -3,8 +3,8 @@ use Rattle.plir_attr_text.specs.TypeReading.{type_at}
 use Rattle.plir_attr_text.specs.TypesIn.{IsInType}
 use Rattle.plir_attr_text.specs.Wholes.{whole}
 use Rattle.plir_attr_text.specs.Parts.{IsPartOf}
-use Rattle.plir_attr_text.specs.PartsFound.{part_of_type}
-use Rattle.plir_attr_text.specs.Growth.{named_as, named_by}
+use Rattle.plir_attr_text.specs.laws.PartsFound.{part_of_type}
+use Rattle.plir_attr_text.specs.laws.Growth.{named_as, named_by}
 use Rattle.plir_attr_text.proofs.Wholes.{told, no_place, type_text_found, type_text_refused}
 use Rattle.plir_attr_text.proofs.read_types.read_type.Goals as goal
 

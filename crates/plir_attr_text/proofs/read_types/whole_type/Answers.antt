@@ -1,6 +1,6 @@
 use Rattle.std.proofs.lemmas.Result.{err_from_is_err_and}
 use Rattle.plir_attr_text.specs.TypeReading.{type_at}
-use Rattle.plir_attr_text.specs.TypeSteps.{behind_is}
+use Rattle.plir_attr_text.specs.laws.TypeSteps.{behind_is}
 use Rattle.plir_attr_text.proofs.Wholes.{whole_fails, whole_fails_behind, whole_read}
 use Rattle.plir_attr_text.proofs.read_types.whole_type.Goals as goal
 

@@ -1,4 +1,4 @@
-use Rattle.plir_attr_text.specs.Lexing.{hex_after-over}
+use Rattle.plir_attr_text.specs.laws.Lexing.{hex_after-over}
 use Rattle.plir_attr_text.proofs.strings.hex_number.Goals as goal
 
 pub returns-in_default-with_hex : goal.returns-in_default-with_hex

@@ -1,7 +1,7 @@
 use Rattle.std.proofs.Common.{◌≡◌, get_or, true, sym, ◌∙◌}
 use Rattle.plir_data.specs.Identifier.{is_letter}
 use Rattle.plir_attr_text.specs.Tokens.{look}
-use Rattle.plir_attr_text.specs.Lexing.{word_taken, word-length, tail_is}
+use Rattle.plir_attr_text.specs.laws.Lexing.{word_taken, word-length, tail_is}
 use Rattle.plir_attr_text.proofs.tokens.look.Goals as goal
 
 pub slice_bounds-word-count : goal.slice_bounds-word-count

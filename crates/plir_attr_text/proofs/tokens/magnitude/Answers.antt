@@ -1,4 +1,4 @@
-use Rattle.plir_attr_text.specs.Lexing.{value_after-over}
+use Rattle.plir_attr_text.specs.laws.Lexing.{value_after-over}
 use Rattle.plir_attr_text.proofs.tokens.magnitude.Goals as goal
 
 pub returns-in_default-with_digit : goal.returns-in_default-with_digit

@@ -4,13 +4,13 @@ use Rattle.plir_attr_text.specs.declared.words.TypeKind.TheVariants.{Integer, Fu
 use Rattle.plir_attr_text.specs.Terms.{integer_type, function_type, unit_type, types_of}
 use Rattle.plir_attr_text.specs.TypeReading.{type_at, type_head, integer_at}
 use Rattle.plir_attr_text.specs.TypesIn.{IsInType}
-use Rattle.plir_attr_text.specs.StepLaws.{done}
-use Rattle.plir_attr_text.specs.Fronts.{nothing_inside}
-use Rattle.plir_attr_text.specs.Growth.{Grows-instantiated, Adds-itself, Adds-on, Adds-one, Adds-none, Adds-as, NamesAll-grown, both_live, NamesFront, NamesFront-grown, NamesFront-push}
+use Rattle.plir_attr_text.specs.laws.StepLaws.{done}
+use Rattle.plir_attr_text.specs.laws.Fronts.{nothing_inside}
+use Rattle.plir_attr_text.specs.laws.Growth.{Grows-instantiated, Adds-itself, Adds-on, Adds-one, Adds-none, Adds-as, NamesAll-grown, both_live, NamesFront, NamesFront-grown, NamesFront-push}
 use Rattle.plir_attr_text.proofs.Gathering.{begins, kept_on, gathered, one_more, fails_at, fails_behind}
-use Rattle.plir_attr_text.specs.TypeSteps.{type_at-body, type_at-level-fails, type_at-head-fails, function_read, Reads-made, behind_is}
-use Rattle.plir_attr_text.specs.Begun.{separator_at-shorter}
-use Rattle.plir_attr_text.specs.TypesFound.{type_at-shorter}
+use Rattle.plir_attr_text.specs.laws.TypeSteps.{type_at-body, type_at-level-fails, type_at-head-fails, function_read, Reads-made, behind_is}
+use Rattle.plir_attr_text.specs.laws.Begun.{separator_at-shorter}
+use Rattle.plir_attr_text.specs.laws.TypesFound.{type_at-shorter}
 use Rattle.plir_attr_text.proofs.TypesIn.{in_type, in_arguments, in_results}
 use Rattle.plir_attr_text.proofs.types.+types.Goals as goal
 

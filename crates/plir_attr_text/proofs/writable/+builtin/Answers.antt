@@ -5,7 +5,7 @@ use Rattle.plir_data.specs.Types.{IsLive, AllLive}
 use Rattle.plir_data.specs.declared.types.TypeObj.TheVariants.{Integer, Function, Unit, Own}
 use Rattle.plir_attr_text.specs.Writable.{IsBuiltin, AreBuiltin}
 use Rattle.plir_attr_text.proofs.Asked.{asked_as, both, not_both}
-use Rattle.plir_attr_text.specs.Handles.{above_all, above_each, above_all_upto, above_left, above_right, held_below}
+use Rattle.plir_attr_text.specs.laws.Handles.{above_all, above_each, above_all_upto, above_left, above_right, held_below}
 use Rattle.plir_attr_text.proofs.writable.+builtin.Goals as goal
 
 pub are_builtin-is_builtin-requires : goal.are_builtin-is_builtin-requires

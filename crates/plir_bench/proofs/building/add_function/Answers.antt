@@ -1,5 +1,5 @@
 use Rattle.std.proofs.Common.{sym, subst}
-use Rattle.plir_core.specs.Store.{IsLive}
+use Rattle.plir_core.specs.ContextView.{IsLive}
 use Rattle.plir_core.specs.declared.ptr.IRNode.TheVariants.{BasicBlock}
 use Rattle.plir_bench.proofs.building.add_function.Goals as goal
 

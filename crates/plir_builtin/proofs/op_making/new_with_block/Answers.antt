@@ -6,13 +6,13 @@ use Rattle.plir_store.specs.Table.{next_slot}
 use Rattle.plir_core.specs.Changes.{with_op}
 use Rattle.plir_core.specs.Contents.{OpView, op_view}
 use Rattle.plir_core.specs.Room.{IsFullForBlock}
-use Rattle.plir_core.specs.Store.{Store, kids, limit, num_live}
+use Rattle.plir_core.specs.ContextView.{ContextView, children, limit, num_live}
 use Rattle.plir_core.specs.Stored.{IsStored}
 use Rattle.plir_builtin.specs.BuiltinOps.{IsFullForOneBlock, block_view, with_first_block}
 use Rattle.plir_core.specs.Erase.{IsErased}
 use Rattle.plir_core.specs.Nodes.{is_node_live, ptr_at}
 use Rattle.plir_core.specs.Unused.{IsUnusedOutside}
-use Rattle.plir_core.specs.declared.making.NodeErr.TheVariants.{TooManyNodes}
+use Rattle.plir_core.specs.declared.arena.making.NodeErr.TheVariants.{TooManyNodes}
 use Rattle.plir_core.specs.declared.ptr.IRNode.TheVariants.{Operation, Region}
 use Rattle.plir_builtin.proofs.Single.{not_true}
 use Rattle.plir_builtin.proofs.op_making.new_with_block.Goals as goal
@@ -50,16 +50,16 @@ returns-in-Ok-clause-after g c =
     let added = c.in-Ok.ensures.added in
     let held = op_view c.args.kind [] [] [] c.args.attributes in
     let made : v ≡ with_op s held 1 = search rules in
-    let one : kids v (Operation (ptr_at v.nodes.ops (next_slot s.nodes.ops))) ≡ Region added.region ∷ [] =
-    subst (λ p. kids v (Operation p) ≡ Region added.region ∷ []) c.in_ok-op.ensures.pointer added.only_region in
+    let one : children v (Operation (ptr_at v.nodes.ops (next_slot s.nodes.ops))) ≡ Region added.region ∷ [] =
+    subst (λ p. children v (Operation p) ≡ Region added.region ∷ []) c.in_ok-op.ensures.pointer added.only_region in
     record {
       region = added.region;
-      only_region = subst (λ u. kids u (Operation (ptr_at u.nodes.ops (next_slot s.nodes.ops))) ≡ Region added.region ∷ []) made one;
+      only_region = subst (λ u. children u (Operation (ptr_at u.nodes.ops (next_slot s.nodes.ops))) ≡ Region added.region ∷ []) made one;
       after = added.after ∙ ap (λ u. with_first_block u added.region (block_view c.args.label c.args.arg_types.items)) made;
     }
 
 -- an operation with a region was made: two more nodes are live, and blocks are as before
-module _ {K A T : Type 0} (s u : Store K A T) (held : OpView K A)
+module _ {K A T : Type 0} (s u : ContextView K A T) (held : OpView K A)
     (w : IsStored s.nodes) (made : u ≡ with_op s held 1) where
   two-more : num_live u ≡ num_live s + 2
   two-more =

@@ -2,7 +2,7 @@ use Rattle.plir_builtin.proofs.FindLoop.{finding-start, finding-end, finding-liv
 use Rattle.plir_builtin.proofs.scanning.find_in_block.Goals as goal
 
 pub ops-init : goal.ops-init
-ops-init g c = finding-start g.D.OpSet.is_symbol c.args.ctx.now c.args.block c.args.name.now c.get_head-at.result c.get_head-at.ensures.value c.first_kid_is_front.ensures.front
+ops-init g c = finding-start g.D.OpSet.is_symbol c.args.ctx.now c.args.block c.args.name.now c.get_head-at.result c.get_head-at.ensures.value c.first_child_is_front.ensures.front
 
 pub is_symbol_named-requires : goal.is_symbol_named-requires
 is_symbol_named-requires g c = finding-live g.D.OpSet.is_symbol c.args.ctx.now c.args.block c.args.name.now c.stands.ensures.standing c.ops.at c.ops.invariant c.in-Some.op c.in-Some.is

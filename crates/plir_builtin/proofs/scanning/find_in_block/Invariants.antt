@@ -1,5 +1,5 @@
 use Rattle.plir_core.specs.declared.ptr.IRNode.TheVariants.{BasicBlock}
-use Rattle.plir_core.specs.Store.{kids}
+use Rattle.plir_core.specs.ContextView.{children}
 use Rattle.plir_builtin.specs.Left.{left_in}
 use Rattle.plir_builtin.proofs.FindLoop.{IsFinding}
 use Rattle.plir_builtin.proofs.scanning.find_in_block.Given as goal
@@ -8,4 +8,4 @@ abbrev pub invariant-ops : goal.invariant-ops
 invariant-ops g l = IsFinding g.D.OpSet.is_symbol l.ctx l.fn.block l.fn.name l.at
 
 abbrev pub decreases-ops : goal.decreases-ops
-decreases-ops g l = left_in (kids l.ctx (BasicBlock l.fn.block)) l.at
+decreases-ops g l = left_in (children l.ctx (BasicBlock l.fn.block)) l.at

@@ -1,6 +1,6 @@
 use Rattle.plir_builtin.specs.Agree.{AllAgree}
 use Rattle.plir_builtin.specs.SymbolUses.{is_user_kind, IsUseRefused}
-use Rattle.plir_core.specs.Store.{kind_of}
+use Rattle.plir_core.specs.ContextView.{kind_of}
 use Rattle.plir_builtin.proofs.UseChecks.{agree-empty, first-told, use-again}
 use Rattle.plir_builtin.proofs.UsesWalked.{all-hold, first-fails}
 use Rattle.plir_builtin.proofs.symbol_users.verify_uses.Goals as goal

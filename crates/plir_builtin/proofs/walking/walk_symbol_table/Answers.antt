@@ -7,7 +7,7 @@ use Rattle.plir_builtin.proofs.Handing.{under-region, passes-again, handed-over}
 use Rattle.plir_builtin.proofs.walking.walk_symbol_table.Goals as goal
 
 pub walk_region-requires-clause-root_live : goal.walk_region-requires-clause-root_live
-walk_region-requires-clause-root_live g c = c.forest.ensures.kid_live (Operation c.args.op) _ (subst (λ z. Has z (Region c.one_region-region.result)) (sym c.one_region-region.ensures) (inl refl))
+walk_region-requires-clause-root_live g c = c.forest.ensures.child_live (Operation c.args.op) _ (subst (λ z. Has z (Region c.one_region-region.result)) (sym c.one_region-region.ensures) (inl refl))
 
 pub walk_region-requires-clause-callable : goal.walk_region-requires-clause-callable
 walk_region-requires-clause-callable g c = λ d s n e u. (

@@ -1,7 +1,7 @@
 use Rattle.plir_core.proofs.Added.{IsAdded-op}
 use Rattle.plir_core.proofs.Holds.{block_made, op_made, op_replaced, block_replaced, whole_same}
 use Rattle.std.proofs.Common.{◌≡◌, ◌∙◌, ◌≤◌, length, ap, sym, arith, None}
-use Rattle.plir_store.specs.Lists.{kids_at, next_of}
+use Rattle.plir_store.specs.Lists.{children_at, next_of}
 use Rattle.plir_core.proofs.arena.child_at.Goals as goal
 use Rattle.plir_core.proofs.arena.child_at.Goals.{in-Some, in-None}
 use Rattle.plir_core.proofs.Siblings.{next_at, child_in, none_past}
@@ -12,8 +12,8 @@ next-at-requires c = child_in c.args.lists.now c.first-at.ensures.agreed c.args.
 pub loop-i-preserved : goal.loop-i-preserved
 loop-i-preserved c = elim c.match-at.branch [
   | in-Some w ↦ w.at-is ∙ w.next-at.ensures.value ∙ next_at c.args.lists.now c.first-at.ensures.agreed c.args.list c.loop-i._i w.in-Some.child (sym c.loop-i.invariant ∙ w.in-Some.is)
-  | in-None w ↦ absurd (let h = none_past (kids_at c.args.lists.now c.args.list) c.loop-i._i (sym c.loop-i.invariant ∙ w.in-None.is) in omega arith)
+  | in-None w ↦ absurd (let h = none_past (children_at c.args.lists.now c.args.list) c.loop-i._i (sym c.loop-i.invariant ∙ w.in-None.is) in omega arith)
 ]
 
 pub unreachable-requires : goal.unreachable-requires
-unreachable-requires c = let h = none_past (kids_at c.args.lists.now c.args.list) c.loop-i._i (sym c.loop-i.invariant ∙ c.in-None-at.is) in omega arith
+unreachable-requires c = let h = none_past (children_at c.args.lists.now c.args.list) c.loop-i._i (sym c.loop-i.invariant ∙ c.in-None-at.is) in omega arith

@@ -1,7 +1,7 @@
 use Rattle.std.proofs.Common.{List, ◌++◌, take}
 use Rattle.std.specs.List.{flat_map}
 use Rattle.plir_core.specs.declared.value.Value.{Value}
-use Rattle.plir_core.specs.declared.operand_uses.Use.{Use}
+use Rattle.plir_core.specs.declared.uses.Use.{Use}
 use Rattle.plir_flow.specs.Taken.{IsOnceEach}
 use Rattle.plir_flow.specs.RegionEdges.{reads_on}
 use Rattle.plir_flow.proofs.edge_lists.add_reads.Given as goal

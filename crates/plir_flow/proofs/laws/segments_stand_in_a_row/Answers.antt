@@ -1,5 +1,5 @@
 use Rattle.std.proofs.Common.{sym, arith}
-use Rattle.plir_core.specs.Store.{operands_of}
+use Rattle.plir_core.specs.ContextView.{operands_of}
 use Rattle.plir_flow.specs.Segments.{sizes_of}
 use Rattle.plir_flow.proofs.SegmentLists.{end-inside, segment-range}
 use Rattle.plir_flow.proofs.SegmentsPut.{size-is, count-is}

@@ -1,7 +1,7 @@
 use Rattle.std.proofs.Common.{arith, ap, subst, sym, ◌∙◌, List}
 use Rattle.std.specs.Prelude.{All}
 use Rattle.plir_core.specs.declared.value.Value.{Value}
-use Rattle.plir_core.specs.Store.{operands_of, IsValueLive}
+use Rattle.plir_core.specs.ContextView.{operands_of, IsValueLive}
 use Rattle.plir_flow.proofs.Ranges.{all-push, range-more}
 use Rattle.plir_flow.proofs.operand_ranges.operands_in.Goals as goal
 

@@ -1,6 +1,6 @@
 use Rattle.std.proofs.Common.{◌≡◌}
 use Rattle.std.specs.Prelude.{All, slice_range}
-use Rattle.plir_core.specs.Store.{operands_of, IsValueLive}
+use Rattle.plir_core.specs.ContextView.{operands_of, IsValueLive}
 use Rattle.plir_flow.proofs.operand_ranges.operands_in.Given as goal
 
 abbrev pub invariant-loop-place : goal.invariant-loop-place

@@ -1,4 +1,4 @@
-use Rattle.plir_core.specs.Store.{operands_of}
+use Rattle.plir_core.specs.ContextView.{operands_of}
 use Rattle.std.proofs.Common.{◌≡◌, ◌+◌, arith, ℕ, List, length, take, ◌-◌, ap, subst, sym, ◌∙◌, ◌<◌}
 use Rattle.std.specs.Prelude.{remove, slice_get}
 use Rattle.plir_core.specs.declared.value.Value.{Value}

@@ -1,5 +1,5 @@
 use Rattle.std.proofs.Common.{arith, ap, length}
-use Rattle.plir_core.specs.Store.{operands_of}
+use Rattle.plir_core.specs.ContextView.{operands_of}
 use Rattle.plir_flow.specs.Segments.{sizes_of}
 use Rattle.plir_flow.proofs.SegmentLists.{count-in}
 use Rattle.plir_flow.proofs.segment_sizes.count_of.Goals as goal

@@ -1,6 +1,6 @@
 use Rattle.std.proofs.Common.{sym, subst}
 use Rattle.plir_core.specs.declared.ptr.IRNode.TheVariants.{Operation, Region, BasicBlock}
-use Rattle.plir_passes.specs.Legal.{HasLegalKids}
+use Rattle.plir_passes.specs.Legal.{HasLegalChildren}
 use Rattle.plir_passes.specs.Rewritten.{IsSettled}
 use Rattle.plir_passes.proofs.Keeping.{converted-none}
 use Rattle.plir_passes.proofs.Walking.{legal-under-op, legal-under-region, at-block}
@@ -13,7 +13,7 @@ returns-in-Operation g c =
     record {
       lawful = c.lawful_changes.ensures.none s c.args.node;
       converted = converted-none illegal s;
-      settled = subst (λ z. IsSettled illegal s c.args.node z) (sym c.walk_advance.ensures) (subst (HasLegalKids illegal s) (sym c.in-Operation.is) (legal-under-op illegal s _));
+      settled = subst (λ z. IsSettled illegal s c.args.node z) (sym c.walk_advance.ensures) (subst (HasLegalChildren illegal s) (sym c.in-Operation.is) (legal-under-op illegal s _));
     }
 
 pub returns-in-Region : goal.returns-in-Region
@@ -23,7 +23,7 @@ returns-in-Region g c =
     record {
       lawful = c.lawful_changes.ensures.none s c.args.node;
       converted = converted-none illegal s;
-      settled = subst (λ z. IsSettled illegal s c.args.node z) (sym c.walk_advance-in-Region.ensures) (subst (HasLegalKids illegal s) (sym c.in-Region.is) (legal-under-region illegal s _));
+      settled = subst (λ z. IsSettled illegal s c.args.node z) (sym c.walk_advance-in-Region.ensures) (subst (HasLegalChildren illegal s) (sym c.in-Region.is) (legal-under-region illegal s _));
     }
 
 pub returns-in-Ok : goal.returns-in-Ok

@@ -8,7 +8,7 @@ pub ops-init : goal.ops-init
 ops-init g c =
     converting-start (g.C.Conversion.illegal c.args.conversion.now) c.args.ctx.now c.args.block c.get_head-at.result
     (c.lawful_changes.ensures.none c.args.ctx.now (BasicBlock c.args.block)) c.stands.ensures.standing.forest c.requires
-    (c.get_head-at.ensures.value ∙ c.first_kid_is_front.ensures.front)
+    (c.get_head-at.ensures.value ∙ c.first_child_is_front.ensures.front)
 
 pub convert_op-requires-clause-live : goal.convert_op-requires-clause-live
 convert_op-requires-clause-live g c =

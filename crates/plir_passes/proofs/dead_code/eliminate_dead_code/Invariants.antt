@@ -1,6 +1,6 @@
 use Rattle.plir_core.specs.declared.ptr.IRNode.TheVariants.{Operation}
 use Rattle.plir_core.specs.Forest.{look, IsForest}
-use Rattle.plir_core.specs.Store.{IsLive, num_live}
+use Rattle.plir_core.specs.ContextView.{IsLive, num_live}
 use Rattle.plir_walk.specs.Lawful.{Lawful}
 use Rattle.plir_passes.specs.Swept.{IsSwept}
 use Rattle.plir_passes.proofs.dead_code.eliminate_dead_code.Given as goal

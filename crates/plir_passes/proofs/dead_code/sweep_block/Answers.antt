@@ -7,7 +7,7 @@ pub ops-init : goal.ops-init
 ops-init g c =
     sweeping-start g.D.EffectSet.has_effect g.D.OpSet.is_terminator c.args.ctx.now c.args.block c.args.before c.get_tail-at.result
     (c.lawful_changes.ensures.none c.args.ctx.now (BasicBlock c.args.block)) c.stands.ensures.standing.forest
-    (c.get_tail-at.ensures.value ∙ c.last_kid_is_back.ensures)
+    (c.get_tail-at.ensures.value ∙ c.last_child_is_back.ensures)
 
 pub get_prev-at-requires : goal.get_prev-at-requires
 get_prev-at-requires g c =

@@ -1,5 +1,5 @@
 use Rattle.std.proofs.Common.{ap}
-use Rattle.plir_core.specs.Store.{kind_in}
+use Rattle.plir_core.specs.ContextView.{kind_in}
 use Rattle.plir_passes.specs.Legal.{is_kind}
 use Rattle.plir_passes_tests.specs.Kinds.{is_old}
 use Rattle.plir_passes_tests.proofs.renewing.make_new.Goals as goal

@@ -1,6 +1,6 @@
 use Rattle.std.proofs.Common.{◌≡◌, ◌++◌, Some, codes, string_bytes, sym, ap, ◌∙◌}
 use Rattle.std.specs.List.{filter}
-use Rattle.plir_core.specs.Store.{kind_of}
+use Rattle.plir_core.specs.ContextView.{kind_of}
 use Rattle.plir_attr_text.specs.AttrText.{entry_text}
 use Rattle.plir_print.specs.Dictionaries.{is_shown, shown}
 use Rattle.plir_print.specs.Lists.{parted}

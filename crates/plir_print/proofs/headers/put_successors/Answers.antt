@@ -1,6 +1,6 @@
 use Rattle.std.proofs.Common.{◌+◌, codes, drop, arith}
 use Rattle.std.proofs.lemmas.List.{drop_all}
-use Rattle.plir_core.specs.Store.{successors_of}
+use Rattle.plir_core.specs.ContextView.{successors_of}
 use Rattle.plir_print.specs.Headers.{successor_text}
 use Rattle.plir_print.proofs.Pieces.{turn, ended, drop_at}
 use Rattle.plir_print.proofs.headers.put_successors.Goals as goal

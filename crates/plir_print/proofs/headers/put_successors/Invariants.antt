@@ -1,5 +1,5 @@
 use Rattle.std.proofs.Common.{◌≡◌, ◌++◌, codes, drop, string_bytes}
-use Rattle.plir_core.specs.Store.{successors_of}
+use Rattle.plir_core.specs.ContextView.{successors_of}
 use Rattle.plir_print.specs.Headers.{successor_text}
 use Rattle.plir_print.specs.Lists.{parted, parted_from}
 use Rattle.plir_print.proofs.headers.put_successors.Given as goal

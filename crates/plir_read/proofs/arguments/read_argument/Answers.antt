@@ -1,12 +1,12 @@
 use Rattle.std.proofs.Common.{refl, ◌≡◌, ℕ, List}
-use Rattle.plir_attr_text.specs.TypeSteps.{behind_is}
+use Rattle.plir_attr_text.specs.laws.TypeSteps.{behind_is}
 use Rattle.plir_read.proofs.OpSteps.{argument_is}
 use Rattle.plir_read.proofs.OpEnds.{argument_start}
 use Rattle.plir_read.proofs.TypesNamed.{type_named}
-use Rattle.plir_attr_text.specs.StepLaws.{done}
-use Rattle.plir_attr_text.specs.Growth.{named_by}
+use Rattle.plir_attr_text.specs.laws.StepLaws.{done}
+use Rattle.plir_attr_text.specs.laws.Growth.{named_by}
 use Rattle.plir_attr_text.specs.Parts.{IsPartOf}
-use Rattle.plir_attr_text.specs.PartsFound.{type_part}
+use Rattle.plir_attr_text.specs.laws.PartsFound.{type_part}
 use Rattle.plir_read.specs.OpReading.{argument_at}
 use Rattle.plir_read.specs.OpTerms.{Argument}
 use Rattle.plir_read.proofs.Held.{held_is}

@@ -1,11 +1,11 @@
 use Rattle.std.proofs.Common.{◌∙◌, length, [], ◌∷◌, ◌++◌, refl, sym, ap, subst, arith, ◌≡◌, ℕ, List}
 use Rattle.std.proofs.lemmas.Result.{err_from_is_err_and}
-use Rattle.plir_attr_text.specs.Begun.{separator_at-shorter}
-use Rattle.plir_attr_text.specs.Fronts.{no_open, nothing_inside, starts, ends_at_item, ends_behind, closes, goes_on}
-use Rattle.plir_attr_text.specs.Growth.{Grows-itself, Grows-on, NamesAll-grown}
+use Rattle.plir_attr_text.specs.laws.Begun.{separator_at-shorter}
+use Rattle.plir_attr_text.specs.laws.Fronts.{no_open, nothing_inside, starts, ends_at_item, ends_behind, closes, goes_on}
+use Rattle.plir_attr_text.specs.laws.Growth.{Grows-itself, Grows-on, NamesAll-grown}
 use Rattle.plir_attr_text.specs.Lists.{separator_at}
-use Rattle.plir_attr_text.specs.StepLaws.{done}
-use Rattle.plir_attr_text.specs.TypeSteps.{behind_is}
+use Rattle.plir_attr_text.specs.laws.StepLaws.{done}
+use Rattle.plir_attr_text.specs.laws.TypeSteps.{behind_is}
 use Rattle.plir_attr_text.specs.Names.{NamesAll}
 use Rattle.plir_read.specs.Heads.{argument_types, argument_names}
 use Rattle.plir_read.specs.OpReading.{argument_at}

@@ -1,10 +1,10 @@
 use Rattle.std.proofs.Common.{refl, ◌≡◌, ℕ, List}
-use Rattle.plir_attr_text.specs.TypeSteps.{behind_is}
+use Rattle.plir_attr_text.specs.laws.TypeSteps.{behind_is}
 use Rattle.plir_read.specs.OpTerms.{BlockHead}
 use Rattle.plir_read.proofs.OpSteps.{block_head_is}
 use Rattle.plir_read.proofs.OpEnds.{arguments_start}
 use Rattle.plir_read.proofs.TypesNamed.{behind_named}
-use Rattle.plir_attr_text.specs.StepLaws.{done}
+use Rattle.plir_attr_text.specs.laws.StepLaws.{done}
 use Rattle.plir_read.specs.HeldTypes.{IsHeldByBlockHead}
 use Rattle.plir_read.specs.OpReading.{block_head_at}
 use Rattle.plir_read.proofs.Held.{held_is}

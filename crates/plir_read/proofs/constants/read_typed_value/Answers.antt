@@ -1,14 +1,14 @@
 use Rattle.std.proofs.Common.{refl, ◌≡◌, inl, inr, ℕ, List}
-use Rattle.plir_attr_text.specs.Meanings.{IsMeant-grown}
-use Rattle.plir_attr_text.specs.TypeSteps.{behind_is}
+use Rattle.plir_attr_text.specs.laws.Meanings.{IsMeant-grown}
+use Rattle.plir_attr_text.specs.laws.TypeSteps.{behind_is}
 use Rattle.plir_attr_text.specs.Terms.{AttrTerm, TypeTerm}
 use Rattle.plir_read.proofs.OpSteps.{constant_is}
 use Rattle.plir_read.proofs.OpEnds.{constant_type_start}
 use Rattle.plir_read.proofs.TypesNamed.{type_named, named_on}
-use Rattle.plir_attr_text.specs.StepLaws.{done}
-use Rattle.plir_attr_text.specs.Growth.{named_by}
+use Rattle.plir_attr_text.specs.laws.StepLaws.{done}
+use Rattle.plir_attr_text.specs.laws.Growth.{named_by}
 use Rattle.plir_attr_text.specs.Parts.{IsPartOf, IsHeldBy}
-use Rattle.plir_attr_text.specs.PartsFound.{type_part}
+use Rattle.plir_attr_text.specs.laws.PartsFound.{type_part}
 use Rattle.plir_read.specs.HeldTypes.{IsHeldByConstant}
 use Rattle.plir_read.specs.OpReading.{constant_at}
 use Rattle.plir_read.proofs.Held.{both_come, held_is}

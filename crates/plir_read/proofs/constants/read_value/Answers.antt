@@ -1,13 +1,13 @@
 use Rattle.std.proofs.Common.{refl, ◌≡◌, ℕ, List}
-use Rattle.plir_attr_text.specs.TypeSteps.{behind_is}
+use Rattle.plir_attr_text.specs.laws.TypeSteps.{behind_is}
 use Rattle.plir_attr_text.specs.Terms.{AttrTerm}
 use Rattle.plir_read.proofs.OpSteps.{value_is}
 use Rattle.plir_read.proofs.Ends.{sign_end}
 use Rattle.plir_read.proofs.TypesNamed.{attr_named}
-use Rattle.plir_attr_text.specs.StepLaws.{done}
-use Rattle.plir_attr_text.specs.Growth.{named_by}
+use Rattle.plir_attr_text.specs.laws.StepLaws.{done}
+use Rattle.plir_attr_text.specs.laws.Growth.{named_by}
 use Rattle.plir_attr_text.specs.Parts.{IsHeldBy}
-use Rattle.plir_attr_text.specs.PartsFound.{attr_part}
+use Rattle.plir_attr_text.specs.laws.PartsFound.{attr_part}
 use Rattle.plir_read.specs.OpReading.{value_at}
 use Rattle.plir_read.proofs.Held.{held_is}
 use Rattle.plir_read.proofs.constants.read_value.Goals as goal

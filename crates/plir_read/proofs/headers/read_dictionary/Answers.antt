@@ -1,12 +1,12 @@
 use Rattle.std.proofs.Common.{[], refl, sym, ◌≡◌, ℕ, List}
 use Rattle.plir_attr_text.specs.Terms.{no_entries, entries_of, EntryTerms}
-use Rattle.plir_attr_text.specs.TypeSteps.{behind_is}
+use Rattle.plir_attr_text.specs.laws.TypeSteps.{behind_is}
 use Rattle.plir_read.proofs.OpSteps.{no_dictionary, dictionary_is}
 use Rattle.plir_read.proofs.TypesNamed.{entries_named}
-use Rattle.plir_attr_text.specs.StepLaws.{done}
-use Rattle.plir_attr_text.specs.Growth.{named_by}
+use Rattle.plir_attr_text.specs.laws.StepLaws.{done}
+use Rattle.plir_attr_text.specs.laws.Growth.{named_by}
 use Rattle.plir_attr_text.specs.Parts.{IsHeldByEntry}
-use Rattle.plir_attr_text.specs.PartsFound.{entries_part}
+use Rattle.plir_attr_text.specs.laws.PartsFound.{entries_part}
 use Rattle.plir_read.specs.OpReading.{dictionary_at}
 use Rattle.plir_read.proofs.Held.{none_come, held_is}
 use Rattle.plir_read.proofs.headers.read_dictionary.Goals as goal

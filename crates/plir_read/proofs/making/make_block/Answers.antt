@@ -2,10 +2,10 @@ use Rattle.std.proofs.Common.{◌≡◌, false, [], ◌∷◌, is_none, ap, sym,
 use Rattle.std.specs.List.{list_all}
 use Rattle.plir_data.specs.AttrView.{leaf, given_names}
 use Rattle.plir_data.specs.Dictionary.{dict_put}
+use Rattle.plir_data.specs.Keys.{names_key}
 use Rattle.plir_core.specs.Contents.{BlockView}
 use Rattle.plir_core.specs.Held.{IsBlockEdited}
 use Rattle.plir_core.specs.declared.ptr.IRNode.TheVariants.{BasicBlock}
-use Rattle.plir_read.specs.Keys.{names_key}
 use Rattle.plir_read.proofs.OpMade.{IsNewBlock-edited, named_block}
 use Rattle.plir_read.proofs.SlotLaws.{block_given, given_edited}
 use Rattle.plir_read.proofs.making.make_block.Goals as goal

@@ -4,10 +4,10 @@ use Rattle.std.proofs.lemmas.List.Elements.{All-nil, All-cons}
 use Rattle.plir_data.specs.Types.{AllLive, IsLive as IsTypeLive}
 use Rattle.plir_data.specs.declared.op_set.OpKind.TheVariants as kinds
 use Rattle.plir_core.specs.Contents.{op_view}
-use Rattle.plir_core.specs.Store.{IsLive, IsValueLive}
+use Rattle.plir_core.specs.ContextView.{IsLive, IsValueLive}
 use Rattle.plir_core.specs.declared.ptr.IRNode.TheVariants.{BasicBlock}
 use Rattle.plir_read.proofs.Crowded.{op_crowded}
-use Rattle.plir_attr_text.specs.Growth.{Grows-itself}
+use Rattle.plir_attr_text.specs.laws.Growth.{Grows-itself}
 use Rattle.plir_read.proofs.OpMade.{KeepsOlder-same, KeepsOlder-typed}
 use Rattle.plir_read.proofs.OpSteps.{refused_as}
 use Rattle.plir_read.proofs.SlotLaws.{leaf_given}

@@ -2,7 +2,7 @@ use Rattle.std.proofs.Common.{ℕ, List, refl, sym, ap, subst, ◌∙◌}
 use Rattle.plir_data.specs.AttrLive.{HandlesLive}
 use Rattle.plir_data.specs.AttrView.{AttrView, identifier}
 use Rattle.plir_data.specs.LiveLaws.{put_live}
-use Rattle.plir_attr_text.specs.Meanings.{leaf_live}
+use Rattle.plir_attr_text.specs.laws.Meanings.{leaf_live}
 use Rattle.plir_read.specs.Heads.{module_attributes}
 use Rattle.plir_read.proofs.making.named.Goals as goal
 

@@ -2,7 +2,7 @@ use Rattle.std.proofs.Common.{[], ◌∷◌, sym, subst}
 use Rattle.plir_data.specs.AttrLive.{HandlesLive}
 use Rattle.plir_data.specs.LiveLaws.{put_live}
 use Rattle.plir_data.specs.Types.{AllLive}
-use Rattle.plir_attr_text.specs.Meanings.{one_live}
+use Rattle.plir_attr_text.specs.laws.Meanings.{one_live}
 use Rattle.plir_read.proofs.making.named_and_typed.Goals as goal
 
 pub returns-clause-live : goal.returns-clause-live

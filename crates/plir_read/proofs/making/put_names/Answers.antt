@@ -1,8 +1,8 @@
 use Rattle.std.proofs.Common.{ap, ◌∙◌}
 use Rattle.plir_data.specs.AttrView.{leaf, given_names}
 use Rattle.plir_data.specs.Dictionary.{dict_put}
+use Rattle.plir_data.specs.Keys.{names_key}
 use Rattle.plir_core.specs.Changes.{with_block_edit}
-use Rattle.plir_read.specs.Keys.{names_key}
 use Rattle.plir_read.proofs.making.put_names.Goals as goal
 
 pub returns-clause-put : goal.returns-clause-put

@@ -1,10 +1,10 @@
 use Rattle.std.proofs.Common.{◌∙◌, ◌∷◌, ◌++◌, [], refl, ap, arith}
 use Rattle.std.proofs.lemmas.Result.{err_from_is_err_and}
 use Rattle.plir_attr_text.specs.AttrReading.{name_at}
-use Rattle.plir_attr_text.specs.Begun.{separator_at-shorter}
-use Rattle.plir_attr_text.specs.Fronts.{ends_at_item, ends_behind, closes, goes_on}
+use Rattle.plir_attr_text.specs.laws.Begun.{separator_at-shorter}
+use Rattle.plir_attr_text.specs.laws.Fronts.{ends_at_item, ends_behind, closes, goes_on}
 use Rattle.plir_attr_text.specs.Lists.{separator_at}
-use Rattle.plir_attr_text.specs.StepLaws.{done}
+use Rattle.plir_attr_text.specs.laws.StepLaws.{done}
 use Rattle.plir_read.proofs.NamesGiven.{names_begin, result_push, name_at-shorter}
 use Rattle.plir_read.proofs.openings.read_names.Goals as goal
 

@@ -1,5 +1,5 @@
 use Rattle.std.proofs.Common.{refl}
-use Rattle.plir_attr_text.specs.TypeSteps.{behind_is}
+use Rattle.plir_attr_text.specs.laws.TypeSteps.{behind_is}
 use Rattle.plir_read.proofs.OpSteps.{start_is}
 use Rattle.plir_read.proofs.openings.read_opening.Goals as goal
 

@@ -1,9 +1,9 @@
 use Rattle.std.proofs.Common.{◌≡◌, ◌-◌, ◌∙◌, length, [], None, Ok, refl, sym, ap, subst, arith, inl, inr, ℕ, List}
 use Rattle.std.proofs.lemmas.Result.{err_from_is_err_and}
 use Rattle.plir_core.specs.declared.ptr.IRNode.TheVariants.{Operation, Region, BasicBlock}
-use Rattle.plir_attr_text.specs.Growth.{Grows-itself}
-use Rattle.plir_attr_text.specs.Meanings.{IsDictMeant-live}
-use Rattle.plir_attr_text.specs.TypeSteps.{behind_is}
+use Rattle.plir_attr_text.specs.laws.Growth.{Grows-itself}
+use Rattle.plir_attr_text.specs.laws.Meanings.{IsDictMeant-live}
+use Rattle.plir_attr_text.specs.laws.TypeSteps.{behind_is}
 use Rattle.plir_read.specs.HeldTypes.{IsHeldByHeader, IsHeldByBlockHead, IsHeldByBlock, IsHeldByBlocks, IsHeldByConstant, IsHeldByOp, IsHeldByOps}
 use Rattle.plir_read.specs.OpTerms.{op_term, constant_term, ops_of, blocks_of, OpTerm, BlockTerm}
 use Rattle.plir_read.specs.OpReading.{op_at, first_name, bodied_at, block_at, semicolon_at, brace_at}

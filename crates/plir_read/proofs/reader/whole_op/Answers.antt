@@ -1,10 +1,10 @@
 use Rattle.std.proofs.Common.{sym, subst, ◌∙◌}
 use Rattle.std.proofs.lemmas.Result.{err_from_is_err_and}
-use Rattle.plir_attr_text.specs.TypeSteps.{behind_is}
+use Rattle.plir_attr_text.specs.laws.TypeSteps.{behind_is}
 use Rattle.plir_read.specs.OpReading.{op_at}
 use Rattle.plir_read.proofs.OpWhole.{whole_stops, whole_stops_behind, whole_read}
 use Rattle.plir_attr_text.specs.Names.{AreNamed}
-use Rattle.plir_attr_text.specs.StepLaws.{ok_is}
+use Rattle.plir_attr_text.specs.laws.StepLaws.{ok_is}
 use Rattle.plir_read.specs.HeldTypes.{IsHeldByOp}
 use Rattle.plir_read.proofs.reader.whole_op.Goals as goal
 

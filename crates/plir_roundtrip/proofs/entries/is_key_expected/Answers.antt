@@ -1,5 +1,5 @@
 use Rattle.std.proofs.Common.{◌≡◌, true, false, bytes_eq, sym}
-use Rattle.plir_walk.specs.GivenNames.{names_key}
+use Rattle.plir_data.specs.Keys.{names_key}
 use Rattle.plir_roundtrip.proofs.Asked.{expected_names, expected_none, expected_value}
 use Rattle.plir_roundtrip.proofs.entries.is_key_expected.Goals as goal
 

@@ -1,12 +1,12 @@
 use Rattle.std.proofs.Common.{◌≡◌, ◌↔◌, ◌-◌, ◌<◌, ◌≤◌, true, Some, IsTrue, length, refl, sym, ap, subst, ◌∙◌, arith, rules}
 use Rattle.std.specs.Prelude.{option_map}
-use Rattle.plir_core.specs.Store.{kids, kind_of}
+use Rattle.plir_core.specs.ContextView.{children, kind_of}
 use Rattle.plir_core.specs.declared.ptr.IRNode.TheVariants.{Operation, Region, BasicBlock}
 use Rattle.plir_read.specs.OpTerms.{op_levels, header_levels}
 use Rattle.plir_roundtrip.specs.Written.{blocks_under, header_term, op_term_of}
 use Rattle.plir_roundtrip.specs.WrittenLevels.{nested_blocks, nested_ops}
 use Rattle.plir_roundtrip.proofs.Asked.{drop_none, low_passed, low_failed}
-use Rattle.plir_roundtrip.proofs.Kids.{op_readable}
+use Rattle.plir_roundtrip.proofs.Children.{op_readable}
 use Rattle.plir_roundtrip.proofs.TermLevels.{constant_level, body_level, blocks_of_region, first_block, first_op, some_level, within_next, then_second, else_first}
 use Rattle.plir_roundtrip.proofs.op_levels.+nesting.Goals as goal
 
@@ -25,7 +25,7 @@ pub is_op_within-is_body_within-requires : goal.is_op_within-is_body_within-requ
 is_op_within-is_body_within-requires g t c =
     let s = c.args.ctx.now in
     let body = body_level g.D.OpSet s c.stands.ensures.standing c.args.op c.kind.result c.kind.ensures.value (op_readable s c.args.op c.requires.readable).kind c.in_default.not-Constant in
-    let one : length (kids s (Operation c.args.op)) ≡ 1 = body.one in
+    let one : length (children s (Operation c.args.op)) ≡ 1 = body.one in
     let some : 0 < c.args.left = omega (arith, c.if-left-eq0.false) in
     search rules
 
@@ -39,7 +39,7 @@ pub is_body_within-returns-then-is_header_below : goal.is_body_within-returns-th
 is_body_within-returns-then-is_header_below g t c =
     let o = g.D.OpSet in
     let s = c.args.ctx.now in
-    let same = ap (nested_blocks o s) (sym (blocks_of_region o s c.readable_kid.ensures.standing c.args.op (Region c.get_region-region.result) c.requires.one c.get_region-region.ensures.value)) in
+    let same = ap (nested_blocks o s) (sym (blocks_of_region o s c.readable_child.ensures.standing c.args.op (Region c.get_region-region.result) c.requires.one c.get_region-region.ensures.value)) in
     let below = subst (λ n. IsTrue c.are_blocks_below.result ↔ (n < c.args.left)) same c.are_blocks_below.ensures in
     then_second (header_levels (header_term o s (kind_of s c.args.op) c.args.op)) (nested_blocks o s (blocks_under s c.args.op)) c.args.left c.are_blocks_below.result (c.is_header_below.ensures.0 c.if-is_header_below.true) below
 
@@ -55,8 +55,8 @@ are_blocks_below-inner-preserved g t c =
     let s = c.args.ctx.now in
     let passed : c.is_block_below.result ≡ true = cc in
     record {
-      at = c.get_next-next.ensures.value ∙ c.readable_kid.ensures.next;
-      low = low_passed _ _ _ _ c.args.left (first_block o s c.readable_kid.ensures.standing c.in-Some.block _ _ c.readable_kid.ensures.left) (c.is_block_below.ensures.0 passed) c.inner.invariant.low;
+      at = c.get_next-next.ensures.value ∙ c.readable_child.ensures.next;
+      low = low_passed _ _ _ _ c.args.left (first_block o s c.readable_child.ensures.standing c.in-Some.block _ _ c.readable_child.ensures.left) (c.is_block_below.ensures.0 passed) c.inner.invariant.low;
     }
 
 pub are_blocks_below-returns-then-not-is_block_below : goal.are_blocks_below-returns-then-not-is_block_below
@@ -64,14 +64,14 @@ are_blocks_below-returns-then-not-is_block_below g t c =
     let o = g.D.OpSet in
     let s = c.args.ctx.now in (
       λ h. absurd (let f : ⊥ = cc in f),
-      λ all. absurd (low_failed _ _ _ _ c.args.left (first_block o s c.readable_kid.ensures.standing c.in-Some.block _ _ c.readable_kid.ensures.left) (λ h.
+      λ all. absurd (low_failed _ _ _ _ c.args.left (first_block o s c.readable_child.ensures.standing c.in-Some.block _ _ c.readable_child.ensures.left) (λ h.
           let passed : c.is_block_below.result ≡ true = c.is_block_below.ensures.1 h in
           let f : ⊥ = cc in f) c.inner.invariant.low all),
     )
 
 pub are_blocks_below-returns : goal.are_blocks_below-returns
 are_blocks_below-returns g t c =
-    let ks = kids c.args.ctx.now (Region c.args.region) in
+    let ks = children c.args.ctx.now (Region c.args.region) in
     let none = drop_none ks c.inner.place (sym c.inner.invariant.at ∙ ap (option_map BasicBlock) c.in_default.is) in
     (λ _. c.inner.invariant.low.0 (subst (λ l. nested_blocks g.D.OpSet c.args.ctx.now l < c.args.left) (sym none) c.requires.some), λ _. refl)
 
@@ -83,8 +83,8 @@ are_ops_below-ops-preserved g t c =
     let within : op_levels (op_term_of o s c.in-Some.op) ≤ c.args.left - 1 = c.is_op_within.ensures.0 passed in
     let low : op_levels (op_term_of o s c.in-Some.op) < c.args.left = omega (arith, within, c.requires.some) in
     record {
-      at = c.get_next-next.ensures.value ∙ c.readable_kid.ensures.next;
-      low = low_passed _ _ _ _ c.args.left (first_op o s c.readable_kid.ensures.standing c.in-Some.op _ _ c.readable_kid.ensures.left) low c.ops.invariant.low;
+      at = c.get_next-next.ensures.value ∙ c.readable_child.ensures.next;
+      low = low_passed _ _ _ _ c.args.left (first_op o s c.readable_child.ensures.standing c.in-Some.op _ _ c.readable_child.ensures.left) low c.ops.invariant.low;
     }
 
 pub are_ops_below-returns-then-not-is_op_within : goal.are_ops_below-returns-then-not-is_op_within
@@ -92,7 +92,7 @@ are_ops_below-returns-then-not-is_op_within g t c =
     let o = g.D.OpSet in
     let s = c.args.ctx.now in (
       λ h. absurd (let f : ⊥ = cc in f),
-      λ all. absurd (low_failed _ _ _ _ c.args.left (first_op o s c.readable_kid.ensures.standing c.in-Some.op _ _ c.readable_kid.ensures.left) (λ (h : op_levels (op_term_of o s c.in-Some.op) < c.args.left).
+      λ all. absurd (low_failed _ _ _ _ c.args.left (first_op o s c.readable_child.ensures.standing c.in-Some.op _ _ c.readable_child.ensures.left) (λ (h : op_levels (op_term_of o s c.in-Some.op) < c.args.left).
           let within : op_levels (op_term_of o s c.in-Some.op) ≤ c.args.left - 1 = omega (arith, h) in
           let passed : c.is_op_within.result ≡ true = c.is_op_within.ensures.1 within in
           let f : ⊥ = cc in f) c.ops.invariant.low all),
@@ -100,6 +100,6 @@ are_ops_below-returns-then-not-is_op_within g t c =
 
 pub are_ops_below-returns : goal.are_ops_below-returns
 are_ops_below-returns g t c =
-    let ks = kids c.args.ctx.now (BasicBlock c.args.block) in
+    let ks = children c.args.ctx.now (BasicBlock c.args.block) in
     let none = drop_none ks c.ops.place (sym c.ops.invariant.at ∙ ap (option_map Operation) c.in_default.is) in
     (λ _. c.ops.invariant.low.0 (subst (λ l. nested_ops g.D.OpSet c.args.ctx.now l < c.args.left) (sym none) c.requires.some), λ _. refl)

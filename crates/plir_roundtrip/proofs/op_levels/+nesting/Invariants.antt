@@ -1,6 +1,6 @@
 use Rattle.std.proofs.Common.{◌≡◌, ◌↔◌, ◌+◌, ◌*◌, ◌-◌, ◌<◌, length, drop}
 use Rattle.std.specs.Prelude.{option_map, slice_get}
-use Rattle.plir_core.specs.Store.{kids}
+use Rattle.plir_core.specs.ContextView.{children}
 use Rattle.plir_core.specs.declared.ptr.IRNode.TheVariants.{Operation, Region, BasicBlock}
 use Rattle.plir_roundtrip.specs.WrittenLevels.{nested_blocks, nested_ops}
 use Rattle.plir_roundtrip.proofs.op_levels.+nesting.Given as goal
@@ -21,14 +21,14 @@ abbrev pub decreases-are_ops_below : goal.decreases-are_ops_below
 decreases-are_ops_below g l = 5 * l.left
 
 abbrev pub decreases-are_blocks_below-inner : goal.decreases-are_blocks_below-inner
-decreases-are_blocks_below-inner g l = length (kids l.ctx (Region l.fn.region)) - l.place
+decreases-are_blocks_below-inner g l = length (children l.ctx (Region l.fn.region)) - l.place
 
 abbrev pub decreases-are_ops_below-ops : goal.decreases-are_ops_below-ops
-decreases-are_ops_below-ops g l = length (kids l.ctx (BasicBlock l.fn.block)) - l.place
+decreases-are_ops_below-ops g l = length (children l.ctx (BasicBlock l.fn.block)) - l.place
 
 abbrev pub invariant-are_blocks_below-inner : goal.invariant-are_blocks_below-inner
 invariant-are_blocks_below-inner g l =
-    let ks = kids l.ctx (Region l.fn.region) in
+    let ks = children l.ctx (Region l.fn.region) in
     record {
       at : option_map BasicBlock l.next ≡ slice_get ks l.place;
       low : (nested_blocks g.D.OpSet l.ctx (drop l.place ks) < l.left) ↔ (nested_blocks g.D.OpSet l.ctx ks < l.left);
@@ -36,7 +36,7 @@ invariant-are_blocks_below-inner g l =
 
 abbrev pub invariant-are_ops_below-ops : goal.invariant-are_ops_below-ops
 invariant-are_ops_below-ops g l =
-    let ks = kids l.ctx (BasicBlock l.fn.block) in
+    let ks = children l.ctx (BasicBlock l.fn.block) in
     record {
       at : option_map Operation l.next ≡ slice_get ks l.place;
       low : (nested_ops g.D.OpSet l.ctx (drop l.place ks) < l.left) ↔ (nested_ops g.D.OpSet l.ctx ks < l.left);

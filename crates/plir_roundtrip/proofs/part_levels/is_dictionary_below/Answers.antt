@@ -1,5 +1,5 @@
 use Rattle.std.proofs.Common.{◌≡◌, ◌↔◌, ◌<◌, Some, IsTrue, sym, ap, subst, ◌∙◌}
-use Rattle.plir_core.specs.Store.{kind_of}
+use Rattle.plir_core.specs.ContextView.{kind_of}
 use Rattle.plir_attr_text.specs.Terms.{entries_levels}
 use Rattle.plir_roundtrip.specs.Written.{dictionary_term}
 use Rattle.plir_roundtrip.specs.WrittenLevels.{shown_levels}

@@ -1,5 +1,5 @@
 use Rattle.std.proofs.Common.{◌≡◌, ◌<◌, true, length, refl, arith}
-use Rattle.plir_core.specs.Store.{types_from}
+use Rattle.plir_core.specs.ContextView.{types_from}
 use Rattle.plir_roundtrip.specs.ReadableParts.{IsValueReadable}
 use Rattle.plir_roundtrip.proofs.ValuesAsked.{one_more, values_from_each, value_from_all}
 use Rattle.plir_roundtrip.proofs.values.are_values_readable.Goals as goal

@@ -1,5 +1,5 @@
 use Rattle.std.specs.Prelude.{IfSome}
-use Rattle.plir_core.specs.Store.{IsLive}
+use Rattle.plir_core.specs.ContextView.{IsLive}
 use Rattle.plir_scripts.proofs.showing.put_row.Given as goal
 
 abbrev pub invariant-nodes : goal.invariant-nodes

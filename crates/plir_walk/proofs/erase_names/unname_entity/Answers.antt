@@ -1,7 +1,7 @@
 use Rattle.std.proofs.Common.{sym, subst}
 use Rattle.plir_data.specs.Dictionary.{dict_without}
-use Rattle.plir_core.specs.Store.{IsLive, entity_node}
-use Rattle.plir_walk.specs.GivenNames.{names_key}
+use Rattle.plir_data.specs.Keys.{names_key}
+use Rattle.plir_core.specs.ContextView.{IsLive, entity_node}
 use Rattle.plir_walk.proofs.NamedStores.{attributes-live}
 use Rattle.plir_walk.proofs.erase_names.unname_entity.Goals as goal
 

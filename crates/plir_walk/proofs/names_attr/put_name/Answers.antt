@@ -2,7 +2,8 @@ use Rattle.std.proofs.Common.{IsSome, refl, sym, ap, subst, ◌∙◌}
 use Rattle.std.specs.Prelude.{option_map}
 use Rattle.plir_data.specs.AttrView.{leaf, given_names}
 use Rattle.plir_data.specs.Dictionary.{dict_put}
-use Rattle.plir_walk.specs.GivenNames.{names_key, with_attributes, with_names}
+use Rattle.plir_data.specs.Keys.{names_key}
+use Rattle.plir_walk.specs.GivenNames.{with_attributes, with_names}
 use Rattle.plir_walk.specs.Placing.{placed_name}
 use Rattle.plir_walk.proofs.NamesTaken.{taken-live, taken-present, taken-names, names-put, names-restored}
 use Rattle.plir_walk.proofs.names_attr.put_name.Goals as goal

@@ -4,7 +4,7 @@ use Rattle.plir_builtin.proofs.ReadLoop.{reading-start, reading-live, reading-re
 use Rattle.plir_builtin.proofs.symbol_table.SymbolTable.read.Goals as goal
 
 pub ops-init : goal.ops-init
-ops-init g c = record { op = refl; reading = reading-start g.D.OpSet.is_symbol c.args.ctx.now c.args.block c.get_head-at.result c.args.self.now c.get_head-at.ensures.value c.first_kid_is_front.ensures.front c.requires.read }
+ops-init g c = record { op = refl; reading = reading-start g.D.OpSet.is_symbol c.args.ctx.now c.args.block c.get_head-at.result c.args.self.now c.get_head-at.ensures.value c.first_child_is_front.ensures.front c.requires.read }
 
 pub read_op-requires : goal.read_op-requires
 read_op-requires g c = reading-live g.D.OpSet.is_symbol c.args.ctx.now c.args.block c.stands.ensures.standing c.ops.at c.ops.self c.ops.invariant.reading c.in-Some.op c.in-Some.is

@@ -1,8 +1,8 @@
 use Rattle.plir_core.proofs.arena.Arena.erase.Given as goal
-use Rattle.plir_core.proofs.Erasing.{IsErasing, work_left}
+use Rattle.plir_core.proofs.Erasures.{IsErasing, work_left}
 
-abbrev pub invariant-loop-kid : goal.invariant-loop-kid
-invariant-loop-kid g l = IsErasing l.fn.self l.self l.root l.at
+abbrev pub invariant-loop-child : goal.invariant-loop-child
+invariant-loop-child g l = IsErasing l.fn.self l.self l.root l.at
 
-abbrev pub decreases-loop-kid : goal.decreases-loop-kid
-decreases-loop-kid g l = work_left l.self l.at
+abbrev pub decreases-loop-child : goal.decreases-loop-child
+decreases-loop-child g l = work_left l.self l.at

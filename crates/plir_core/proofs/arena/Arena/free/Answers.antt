@@ -1,5 +1,5 @@
 use Rattle.plir_core.proofs.arena.Arena.free.Goals as goal
-use Rattle.plir_core.proofs.Erasing.{op_freed, region_freed, block_freed}
+use Rattle.plir_core.proofs.Erasures.{op_freed, region_freed, block_freed}
 
 pub invariant_of-self : goal.invariant_of-self
 invariant_of-self g c =

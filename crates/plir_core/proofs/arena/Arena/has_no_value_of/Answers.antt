@@ -1,7 +1,7 @@
 use Rattle.std.proofs.Common.{◌≡◌, refl, ap, ◌∙◌, subst, sym}
 use Rattle.plir_core.specs.Above.{Reaches}
 use Rattle.plir_core.specs.Nodes.{node_parent}
-use Rattle.plir_core.specs.Store.{entity_node}
+use Rattle.plir_core.specs.ContextView.{entity_node}
 use Rattle.plir_core.proofs.arena.Arena.has_no_value_of.Goals as goal
 use Rattle.plir_core.proofs.Ancestors.{AllSoFar-all}
 use Rattle.plir_core.proofs.Scan.{not_all_values, more_values}

@@ -1,6 +1,6 @@
 use Rattle.plir_core.specs.Above.{Reaches}
 use Rattle.plir_core.specs.Nodes.{node_parent}
-use Rattle.plir_core.specs.Store.{entity_node}
+use Rattle.plir_core.specs.ContextView.{entity_node}
 use Rattle.plir_core.proofs.Ancestors.{AllSoFar}
 use Rattle.plir_core.proofs.arena.Arena.has_no_value_of.Given as goal
 

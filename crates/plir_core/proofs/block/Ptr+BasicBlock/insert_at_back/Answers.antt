@@ -1,5 +1,5 @@
 use Rattle.std.proofs.Common.{refl, ap}
-use Rattle.plir_core.specs.Store.{Store}
+use Rattle.plir_core.specs.ContextView.{ContextView}
 use Rattle.plir_core.proofs.block.Ptr+BasicBlock.insert_at_back.Goals as goal
 use Rattle.plir_core.proofs.Counted.{Counts-linked}
 use Rattle.plir_core.proofs.Holds.{block_linked}
@@ -17,4 +17,4 @@ returns-clause-whole g c = (invariant_of-ctx g c).whole
 
 pub returns-clause-placed : goal.returns-clause-placed
 returns-clause-placed g c =
-    block_last c.ctx.inside.nodes c.args.ctx.now.nodes (ap (λ (z : Store g.row.D-Kind.Denot g.row.D-Attr.Denot g.row.D-Ty.Denot). z.nodes) c.ctx.view_is) c.ctx.invariant.whole.stored c.push_block.new.self c.args.self c.args.region c.requires.live c.requires.target_live c.push_block.ensures.after
+    block_last c.ctx.inside.nodes c.args.ctx.now.nodes (ap (λ (z : ContextView g.row.D-Kind.Denot g.row.D-Attr.Denot g.row.D-Ty.Denot). z.nodes) c.ctx.view_is) c.ctx.invariant.whole.stored c.push_block.new.self c.args.self c.args.region c.requires.live c.requires.target_live c.push_block.ensures.after

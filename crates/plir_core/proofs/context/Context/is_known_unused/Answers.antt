@@ -1,7 +1,7 @@
 use Rattle.std.proofs.Common.{◌≡◌, true, Some, sym, subst, eq-eqb, rules}
 use Rattle.std.specs.Prelude.{IfSome}
 use Rattle.plir_core.specs.Stored.{seat_of}
-use Rattle.plir_core.specs.Store.{Store}
+use Rattle.plir_core.specs.ContextView.{ContextView}
 use Rattle.plir_core.specs.Uses.{uses_of, is_not_used}
 use Rattle.plir_core.proofs.NotUsed.{region_unused}
 use Rattle.plir_core.proofs.context.Context.is_known_unused.Goals as goal
@@ -15,4 +15,4 @@ pub returns-in-Operation : goal.returns-in-Operation
 returns-in-Operation g c = λ t.
     let some : c.known.result ≡ Some 0 = search rules in
     let none = subst (λ r. IfSome r (λ n. n ≡ uses_of c.self.inside.nodes.ops (seat_of c.args.node))) some (c.known.ensures (uses_of c.self.inside.nodes.ops) c.self.invariant.counted) in
-    subst (λ (z : Store g.row.D-Kind.Denot g.row.D-Attr.Denot g.row.D-Ty.Denot). is_not_used z c.args.node ≡ true) c.self.view_is (eq-eqb (uses_of c.self.inside.nodes.ops (seat_of c.args.node)) 0 (sym none))
+    subst (λ (z : ContextView g.row.D-Kind.Denot g.row.D-Attr.Denot g.row.D-Ty.Denot). is_not_used z c.args.node ≡ true) c.self.view_is (eq-eqb (uses_of c.self.inside.nodes.ops (seat_of c.args.node)) 0 (sym none))

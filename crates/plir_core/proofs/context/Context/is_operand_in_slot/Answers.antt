@@ -3,7 +3,7 @@ use Rattle.std.specs.Prelude.{◌↔◌, IsTrue, Contains}
 use Rattle.plir_store.specs.Table.{content_at}
 use Rattle.plir_core.specs.declared.ptr.Ptr.{Ptr}
 use Rattle.plir_core.specs.declared.ptr.Operation.{Operation as OperationKind}
-use Rattle.plir_core.specs.Store.{operands_in}
+use Rattle.plir_core.specs.ContextView.{operands_in}
 use Rattle.plir_core.proofs.ValueUses.{no_operand}
 use Rattle.plir_core.proofs.context.Context.is_operand_in_slot.Goals as goal
 

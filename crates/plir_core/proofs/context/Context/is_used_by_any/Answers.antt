@@ -1,6 +1,6 @@
 use Rattle.std.proofs.Common.{◌≡◌, ◌≤◌, ap, refl, length, arith}
 use borrow.Author.Count.{below_none, below_more}
-use Rattle.plir_core.specs.Store.{Store}
+use Rattle.plir_core.specs.ContextView.{ContextView}
 use Rattle.plir_core.specs.ValueUses.{IsOperandAt}
 use Rattle.plir_core.proofs.ValueUses.{HasUses-at, HasUses-none}
 use Rattle.plir_core.proofs.context.Context.is_used_by_any.Goals as goal
@@ -23,5 +23,5 @@ pub returns : goal.returns
 returns g c = (
   λ t. absurd (let f : ⊥ = cc in f),
   λ h. absurd (HasUses-none c.args.self.now c.args.value c.loop-slot.slot c.loop-slot.invariant
-      (let same = ap (λ (z : Store g.row.D-Kind.Denot g.row.D-Attr.Denot g.row.D-Ty.Denot). length z.nodes.ops.slots) c.self.view_is in omega (arith, same, c.num_op_slots-slot-end.ensures)) h),
+      (let same = ap (λ (z : ContextView g.row.D-Kind.Denot g.row.D-Attr.Denot g.row.D-Ty.Denot). length z.nodes.ops.slots) c.self.view_is in omega (arith, same, c.num_op_slots-slot-end.ensures)) h),
 )

@@ -2,7 +2,7 @@ use Rattle.std.proofs.Common.{◌≡◌, ap, subst}
 use Rattle.plir_store.specs.Table.{content_at}
 use Rattle.plir_core.specs.declared.ptr.Ptr.{Ptr}
 use Rattle.plir_core.specs.declared.ptr.Operation.{Operation as OperationKind}
-use Rattle.plir_core.specs.Store.{operands_in}
+use Rattle.plir_core.specs.ContextView.{operands_in}
 use Rattle.plir_core.specs.ValueUses.{times_in}
 use Rattle.plir_core.proofs.TimesUsed.{free_slot}
 use Rattle.plir_core.proofs.context.Context.num_uses_in_slot.Goals as goal

@@ -1,5 +1,5 @@
 use Rattle.std.proofs.Common.{refl, ap}
-use Rattle.plir_core.specs.Store.{Store}
+use Rattle.plir_core.specs.ContextView.{ContextView}
 use Rattle.plir_core.proofs.operation.Ptr+Operation.insert_at_back.Goals as goal
 use Rattle.plir_core.proofs.Counted.{Counts-linked}
 use Rattle.plir_core.proofs.Holds.{op_linked}
@@ -17,4 +17,4 @@ returns-clause-whole g c = (invariant_of-ctx g c).whole
 
 pub returns-clause-placed : goal.returns-clause-placed
 returns-clause-placed g c =
-    op_last c.ctx.inside.nodes c.args.ctx.now.nodes (ap (λ (z : Store g.row.D-Kind.Denot g.row.D-Attr.Denot g.row.D-Ty.Denot). z.nodes) c.ctx.view_is) c.ctx.invariant.whole.stored c.push_op.new.self c.args.self c.args.block c.requires.live c.requires.target_live c.push_op.ensures.after
+    op_last c.ctx.inside.nodes c.args.ctx.now.nodes (ap (λ (z : ContextView g.row.D-Kind.Denot g.row.D-Attr.Denot g.row.D-Ty.Denot). z.nodes) c.ctx.view_is) c.ctx.invariant.whole.stored c.push_op.new.self c.args.self c.args.block c.requires.live c.requires.target_live c.push_op.ensures.after

@@ -2,7 +2,7 @@ use Rattle.std.proofs.Common.{◌≡◌, [], ap, subst}
 use Rattle.plir_core.specs.declared.ptr.IRNode.TheVariants.{BasicBlock}
 use Rattle.plir_core.specs.Contents.{OpView, BlockView}
 use Rattle.plir_core.specs.Nodes.{Nodes}
-use Rattle.plir_core.specs.Store.{Store}
+use Rattle.plir_core.specs.ContextView.{ContextView}
 use Rattle.plir_core.specs.Made.{IsMade}
 use Rattle.plir_core.proofs.ptr.BasicBlock.new.Goals as goal
 use Rattle.plir_core.proofs.Counted.{Counts-made_block}
@@ -22,7 +22,7 @@ returns-clause-whole g c = (invariant_of-ctx-2 g c).whole
 pub returns-clause-made : goal.returns-clause-made
 returns-clause-made g c =
     let stored = c.ctx.invariant.whole.stored in
-    subst (λ (z : Nodes (OpView g.row.D-Kind.Denot g.row.D-Attr.Denot) (BlockView g.row.D-Attr.Denot)). IsMade z c.make_block.new.self (BasicBlock c.in_ok-block.block)) (ap (λ (z : Store g.row.D-Kind.Denot g.row.D-Attr.Denot g.row.D-Ty.Denot). z.nodes) c.ctx.view_is)
+    subst (λ (z : Nodes (OpView g.row.D-Kind.Denot g.row.D-Attr.Denot) (BlockView g.row.D-Attr.Denot)). IsMade z c.make_block.new.self (BasicBlock c.in_ok-block.block)) (ap (λ (z : ContextView g.row.D-Kind.Denot g.row.D-Attr.Denot g.row.D-Ty.Denot). z.nodes) c.ctx.view_is)
     (IsMade-first c.ctx.inside.nodes c.make_block.new.self stored (BasicBlock c.in_ok-block.block) (IsAdded-made_block c.ctx.inside.nodes c.make_block.new.self stored _ c.in_ok-block.block c.in_ok-block.ensures.ok c.in_ok-block.ensures.pointer))
 
 pub returns-clause-empty : goal.returns-clause-empty

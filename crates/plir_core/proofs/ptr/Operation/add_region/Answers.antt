@@ -2,7 +2,7 @@ use Rattle.std.proofs.Common.{refl, ◌≡◌, ap, sym, subst, true}
 use Rattle.plir_core.specs.declared.ptr.IRNode.TheVariants.{Operation, Region}
 use Rattle.plir_core.specs.Contents.{OpView, BlockView}
 use Rattle.plir_core.specs.Nodes.{Nodes, is_node_live}
-use Rattle.plir_core.specs.Store.{Store}
+use Rattle.plir_core.specs.ContextView.{ContextView}
 use Rattle.plir_core.specs.Made.{IsRegionAdded}
 use Rattle.plir_core.proofs.ptr.Operation.add_region.Goals as goal
 use Rattle.plir_core.proofs.Counted.{Counts-linked}
@@ -21,7 +21,7 @@ returns-clause-whole g c = (invariant_of-ctx-2 g c).whole
 
 pub returns-clause-added : goal.returns-clause-added
 returns-clause-added g c =
-    let same = ap (λ (z : Store g.row.D-Kind.Denot g.row.D-Attr.Denot g.row.D-Ty.Denot). z.nodes) c.ctx.view_is in
+    let same = ap (λ (z : ContextView g.row.D-Kind.Denot g.row.D-Attr.Denot g.row.D-Ty.Denot). z.nodes) c.ctx.view_is in
     subst (λ (z : Nodes (OpView g.row.D-Kind.Denot g.row.D-Attr.Denot) (BlockView g.row.D-Attr.Denot)). IsRegionAdded z c.make_region.new.self (Operation c.args.op) (Region c.in_ok-region.region)) same
     (IsRegionAdded-made c.ctx.inside.nodes c.make_region.new.self c.ctx.invariant.whole.stored c.args.op c.in_ok-region.region
     (subst (λ (z : Nodes (OpView g.row.D-Kind.Denot g.row.D-Attr.Denot) (BlockView g.row.D-Attr.Denot)). is_node_live z (Operation c.args.op) ≡ true) (sym same) c.requires)

@@ -1,5 +1,5 @@
 use Rattle.std.proofs.Common.{◌≡◌, true, ◌∙◌, ap, subst, arith}
-use Rattle.plir_core.specs.Store.{entity_node}
+use Rattle.plir_core.specs.ContextView.{entity_node}
 use Rattle.plir_core.specs.Uses.{is_not_used}
 use Rattle.plir_core.proofs.TimesUsed.{none_used}
 use Rattle.plir_core.proofs.value.Value.num_uses.Goals as goal

@@ -1,5 +1,5 @@
 use Rattle.std.proofs.Common.{◌≡◌}
-use Rattle.plir_core.specs.Store.{IsValueLive}
+use Rattle.plir_core.specs.ContextView.{IsValueLive}
 use Rattle.plir_core.proofs.ReplacedUses.{replaced_to}
 use Rattle.plir_core.proofs.value.Value.replace_all_uses_with.Given as goal
 

@@ -1,6 +1,6 @@
 use Rattle.std.proofs.Common.{subst, sym}
 use Rattle.std.proofs.lemmas.Result.{IfOk-weaker}
-use Rattle.plir_core.specs.Store.{IsValueLive}
+use Rattle.plir_core.specs.ContextView.{IsValueLive}
 use Rattle.plir_flow.specs.RegionEdges.{receivers_on, IsEdgeLive, AreEdgesLive}
 use Rattle.plir_flow.proofs.TakenLists.{once-all}
 use Rattle.plir_flow.proofs.LiveEdges.{receivers-live}

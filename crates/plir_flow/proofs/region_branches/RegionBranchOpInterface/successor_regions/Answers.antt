@@ -1,7 +1,7 @@
 use Rattle.std.proofs.Common.{subst, sym, ◌∙◌}
 use Rattle.std.proofs.lemmas.Result.{IfOk-weaker}
 use Rattle.plir_core.specs.declared.ptr.IRNode.TheVariants.{Region}
-use Rattle.plir_core.specs.Store.{IsLive}
+use Rattle.plir_core.specs.ContextView.{IsLive}
 use Rattle.plir_flow.specs.RegionEdges.{regions_on, IsFromRegion, IsEdgeLive, AreEdgesLive}
 use Rattle.plir_flow.proofs.TakenLists.{taken-all}
 use Rattle.plir_flow.proofs.LiveEdges.{regions-live}

@@ -1,7 +1,7 @@
 use Rattle.std.proofs.Common.{◌≡◌, ◌+◌, List, IfOk, sym, ap, subst, ◌∙◌}
 use Rattle.std.specs.Prelude.{slice_range}
 use Rattle.plir_core.specs.declared.value.Value.{Value}
-use Rattle.plir_core.specs.Store.{operands_of}
+use Rattle.plir_core.specs.ContextView.{operands_of}
 use Rattle.plir_flow.specs.Segments.{start_in, sizes_of, segment_size}
 use Rattle.plir_flow.proofs.SegmentLists.{segment-range}
 use Rattle.plir_flow.proofs.segments.OperandSegmentInterface.get_segment.Goals as goal

@@ -1,5 +1,5 @@
 use Rattle.std.proofs.Common.{rules, All, IsTrue, false}
-use Rattle.plir_core.specs.Store.{IsValueLive}
+use Rattle.plir_core.specs.ContextView.{IsValueLive}
 use Rattle.plir_flow.specs.RegionEdges.{IsUseLive}
 use Rattle.plir_flow_tests.proofs.tests.edged.are_flows_live.Goals as goal
 

@@ -1,7 +1,7 @@
 use Rattle.std.proofs.Common.{◌≡◌, true, sym, subst}
 use Rattle.plir_core.specs.declared.ptr.IRNode.TheVariants.{Operation}
 use Rattle.plir_core.specs.Nodes.{is_node_live}
-use Rattle.plir_core.specs.Store.{IsAncestor}
+use Rattle.plir_core.specs.ContextView.{IsAncestor}
 use Rattle.plir_run.proofs.Lent.{agree-made, agree-refused, agree-typed}
 use Rattle.plir_run.proofs.script.Script.add_func.Goals as goal
 

@@ -1,6 +1,6 @@
 use Rattle.std.proofs.Common.{sym, subst}
 use Rattle.plir_core.specs.declared.ptr.IRNode.TheVariants.{Operation}
-use Rattle.plir_core.specs.Store.{IsAncestor}
+use Rattle.plir_core.specs.ContextView.{IsAncestor}
 use Rattle.plir_run.proofs.Lent.{agree-made, agree-refused}
 use Rattle.plir_run.proofs.script.Script.make_module.Goals as goal
 

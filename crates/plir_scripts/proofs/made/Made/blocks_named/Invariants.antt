@@ -1,5 +1,5 @@
 use Rattle.std.specs.Prelude.{All}
-use Rattle.plir_core.specs.Store.{IsLive}
+use Rattle.plir_core.specs.ContextView.{IsLive}
 use Rattle.plir_core.specs.declared.ptr.IRNode.TheVariants.{BasicBlock}
 use Rattle.plir_scripts.proofs.made.Made.blocks_named.Given as goal
 

@@ -1,5 +1,5 @@
 use Rattle.std.specs.Prelude.{All}
-use Rattle.plir_core.specs.Store.{IsValueLive}
+use Rattle.plir_core.specs.ContextView.{IsValueLive}
 use Rattle.plir_scripts.proofs.made.Made.values_named.Given as goal
 
 abbrev pub invariant-loop-name : goal.invariant-loop-name

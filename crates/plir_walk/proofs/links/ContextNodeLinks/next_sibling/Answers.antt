@@ -3,4 +3,4 @@ use Rattle.plir_walk.proofs.ListLinks.{next-is}
 use Rattle.plir_walk.proofs.links.ContextNodeLinks.next_sibling.Goals as goal
 
 pub returns : goal.returns
-returns g c = c.sibling_after.ensures.value ∙ next-is c.args.self.now.nodes c.sibling_after.ensures.whole.stored c.args.node c.requires
+returns g c = c.next_sibling.ensures.value ∙ next-is c.args.self.now.nodes c.next_sibling.ensures.whole.stored c.args.node c.requires

@@ -4,10 +4,10 @@ use Rattle.plir_walk.proofs.links.ContextNodeLinks.next_taken.Goals as goal
 
 pub returns-in-Forward : goal.returns-in-Forward
 returns-in-Forward g c =
-    c.sibling_after.ensures.value ∙ next-taken c.args.config.now c.args.self.now.nodes c.sibling_after.ensures.whole.stored
+    c.next_sibling.ensures.value ∙ next-taken c.args.config.now c.args.self.now.nodes c.next_sibling.ensures.whole.stored
     c.args.node c.requires (sym c.direction_above.ensures ∙ c.in-Forward.is)
 
 pub returns-in-Reverse : goal.returns-in-Reverse
 returns-in-Reverse g c =
-    c.sibling_before.ensures.value ∙ prev-taken c.args.config.now c.args.self.now.nodes c.sibling_before.ensures.whole.stored
+    c.prev_sibling.ensures.value ∙ prev-taken c.args.config.now c.args.self.now.nodes c.prev_sibling.ensures.whole.stored
     c.args.node c.requires (sym c.direction_above.ensures ∙ c.in-Reverse.is)

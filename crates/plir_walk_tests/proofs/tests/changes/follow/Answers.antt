@@ -1,5 +1,5 @@
 use Rattle.std.proofs.Common.{sym, subst}
-use Rattle.plir_core.specs.Store.{IsLive}
+use Rattle.plir_core.specs.ContextView.{IsLive}
 use Rattle.plir_core.specs.Forest.{look}
 use Rattle.plir_walk.specs.Lawful.{Lawful}
 use Rattle.plir_walk_tests.proofs.tests.changes.follow.Goals as goal

@@ -1,4 +1,4 @@
-use Rattle.plir_core.specs.Store.{IsLive}
+use Rattle.plir_core.specs.ContextView.{IsLive}
 use Rattle.plir_core.specs.Forest.{look}
 use Rattle.plir_walk.specs.Lawful.{Lawful}
 use Rattle.plir_walk_tests.proofs.tests.changes.follow.Given as goal

@@ -1,7 +1,7 @@
 use Rattle.std.proofs.Common.{◌≡◌, ◌≢◌, zero, suc, [], ◌∷◌, ◌++◌, rules}
 use Rattle.std.proofs.lemmas.Option.{same_Some}
 use Rattle.plir_core.specs.Above.{Reaches}
-use Rattle.plir_core.specs.Store.{kids}
+use Rattle.plir_core.specs.ContextView.{children}
 use Rattle.plir_core.specs.Forest.{Shape, IsBelow, look}
 use Rattle.plir_core.specs.declared.ptr.IRNode.{IRNode}
 use Rattle.plir_core.specs.declared.ptr.IRNode.TheVariants.{Operation, BasicBlock}
@@ -34,4 +34,4 @@ returns g c =
     let under : WasUnder (look s) n block = λ v. c.is_ancestor-holds_target.ensures.value.0 c.if-not-holds_target.false in
     let steps = c.changes_below_compose.ensures in
     let out = steps.unlinked s s t n moved begins begins (steps.begun s n begins) below c.unlink.ensures.unlinked in
-    steps.lawful s u n begins ends (steps.placed s t u n moved block (kids t block ++ moved ∷ []) out below under c.insert_at_back.ensures.placed)
+    steps.lawful s u n begins ends (steps.placed s t u n moved block (children t block ++ moved ∷ []) out below under c.insert_at_back.ensures.placed)

@@ -1,6 +1,6 @@
 use Rattle.std.proofs.Common.{suc, zero, ap, refl, ◌∙◌}
 use Rattle.plir_core.specs.Above.{climb}
-use Rattle.plir_core.specs.Store.{parent_of}
+use Rattle.plir_core.specs.ContextView.{parent_of}
 use Rattle.plir_core.specs.declared.ptr.IRNode.TheVariants.{Operation, Region, BasicBlock}
 use Rattle.plir_walk_tests.proofs.tests.pass.append.Goals as goal
 
@@ -16,5 +16,5 @@ returns-clause-lawful g c =
     let u = c.insert_at_back.new.ctx in
     let block = BasicBlock c.args.block in
     let placed = c.lawful_changes.ensures.placed s c.new.new.ctx u block block (Operation c.in_ok-op.op) _ c.forest.ensures (zero, refl) c.in_ok-op.ensures.made c.insert_at_back.ensures.placed in
-    let filled = c.fill.ensures.lawful block (suc (suc zero), ap (climb (parent_of u) (suc zero)) c.kid_at.ensures.parent ∙ c.insert_at_back.ensures.placed.parent) in
+    let filled = c.fill.ensures.lawful block (suc (suc zero), ap (climb (parent_of u) (suc zero)) c.child_at.ensures.parent ∙ c.insert_at_back.ensures.placed.parent) in
     c.lawful_changes.ensures.both s u c.fill.new.ctx block c.forest.ensures placed filled

@@ -4,7 +4,7 @@ use Rattle.plir_data.specs.AttrSeen.{attr_view}
 use Rattle.plir_data.specs.DictLaws.{get-put}
 use Rattle.plir_data.specs.Dictionary.{dict_get, dict_put}
 use Rattle.plir_core.specs.Nodes.{is_node_live}
-use Rattle.plir_core.specs.Store.{IsLive, attributes_of}
+use Rattle.plir_core.specs.ContextView.{IsLive, attributes_of}
 use Rattle.plir_core.specs.declared.ptr.IRNode.TheVariants.{Operation}
 use Rattle.plir_walk_tests.proofs.tests.pass.note.Goals as goal
 

@@ -1,0 +1,166 @@
+-- The text of a type stands for it.
+use Rattle.std.proofs.Common.{◌≡◌, ℕ, zero, suc, ◌<◌, List, [], ◌∷◌, ◌++◌, ◌^◌, inl, inr, length, map, Option, Some}
+use Rattle.std.proofs.Common.{None, All, Ok, codes, refl, sym, ap, subst, ◌∙◌, arith, append_assoc}
+use Rattle.std.proofs.lemmas.Option.{slice_get_cases}
+use Rattle.plir_data.specs.LiveLaws.{all_left, all_right}
+use Rattle.plir_data.specs.Types.{TypeView, integer, function, unit, own, IsTypeTable, type_at}
+use Rattle.plir_data.specs.TypeTree.{TypeTree, integer_tree, function_tree, unit_tree, own_tree, Trees, no_trees, tree}
+use Rattle.plir_data.specs.TypeTree.{trees_of, tree_over, tree_if, tree_within, tree_of}
+use Rattle.plir_data.specs.TypeText.{integer_text, tree_text, trees_text, more_trees_text}
+use Rattle.plir_attr_text.specs.Names.{Names, NamesAll}
+use Rattle.plir_attr_text.specs.Tokens.{Token, word, sign, arrow, look, Begins}
+use Rattle.plir_attr_text.specs.TypeGrammar.{enclosed, in_angles, SpellsInteger, SpellsType, SpellsTypes}
+use Rattle.plir_attr_text.specs.TypeGrammar.{SpellsMoreTypes}
+use Rattle.plir_attr_text.specs.Writable.{IsBuiltin, AreBuiltin, type_term, type_terms}
+use Rattle.plir_attr_text.specs.laws.Begun.{Begins-append}
+use Rattle.plir_attr_text.specs.laws.Printed.{look-type, type_spelled}
+use Rattle.plir_attr_text.specs.laws.Runs.{Run, Shown, Tail, Shown-as, behind_id, word-shown, closed_by, nothing}
+use Rattle.plir_attr_text.specs.laws.Runs.{behind_first}
+use Rattle.plir_attr_text.specs.laws.Runs.{behind_comma}
+
+look-less : (rest : List ℕ) → look (60 ∷ rest) ≡ Ok (sign 60, rest)
+unfolding look
+look-less rest = refl
+
+look-open : (rest : List ℕ) → look (40 ∷ rest) ≡ Ok (sign 40, rest)
+unfolding look
+look-open rest = refl
+
+look-close : (rest : List ℕ) → look (41 ∷ rest) ≡ Ok (sign 41, rest)
+unfolding look
+look-close rest = refl
+
+look-arrow : (rest : List ℕ) → look (45 ∷ 62 ∷ rest) ≡ Ok (arrow, rest)
+unfolding look
+look-arrow rest = refl
+
+look-greater : (rest : List ℕ) → look (62 ∷ rest) ≡ Ok (sign 62, rest)
+unfolding look
+look-greater rest = refl
+
+-- an integer type behind its id
+pub integer_type-shown : (s : _) (w : ℕ) → w < 2 ^ 32 → Shown (SpellsInteger s w) (integer_text s w)
+integer_type-shown s w lt =
+    record {
+      first = word (integer_text s w);
+      others = [];
+      spelled = type_spelled s w lt;
+      begun = λ rest e. (
+        rest,
+        look-type s w rest (omega (arith, lt)) e,
+        refl,
+      );
+    }
+
+-- ---- types of functions
+
+module _ {E F : List Token → Type 0} {first second : List ℕ} (p : Run E first) (q : Run F second) where
+  in_parens : {G : List Token → Type 0} {text : List ℕ} (r : Run G text) (rest : List ℕ) →
+      Begins (40 ∷ (text ++ 41 ∷ rest)) (enclosed 40 r.tokens 41) rest
+  in_parens {G} {text} r rest = (text ++ 41 ∷ rest, look-open (text ++ 41 ∷ rest), closed_by 41 refl look-close r rest)
+
+  abbrev signature_text : List ℕ
+  signature_text = 60 ∷ 40 ∷ (first ++ (41 ∷ 45 ∷ 62 ∷ 40 ∷ (second ++ 41 ∷ 62 ∷ [])))
+
+  regroup : (rest : List ℕ) → signature_text ++ rest ≡ 60 ∷ 40 ∷
+      (first ++ (41 ∷ 45 ∷ 62 ∷ 40 ∷ (second ++ 41 ∷ 62 ∷ rest)))
+  regroup rest = ap (λ bytes. 60 ∷ 40 ∷ bytes) (append_assoc first (41 ∷ 45 ∷ 62 ∷ 40 ∷ (second ++ 41 ∷ 62 ∷ [])) rest ∙
+      ap (λ bytes. first ++ (41 ∷ 45 ∷ 62 ∷ 40 ∷ bytes)) (append_assoc second (41 ∷ 62 ∷ []) rest))
+
+  results_begin : (rest : List ℕ) → Begins (45 ∷ 62 ∷ 40 ∷ (second ++ 41 ∷ 62 ∷ rest)) (arrow ∷
+      (enclosed 40 q.tokens 41 ++ (sign 62 ∷ []))) rest
+  results_begin rest = (
+    40 ∷ (second ++ 41 ∷ 62 ∷ rest),
+    look-arrow (40 ∷ (second ++ 41 ∷ 62 ∷ rest)),
+    Begins-append (enclosed 40 q.tokens 41) (sign 62 ∷ []) (40 ∷ (second ++ 41 ∷ 62 ∷ rest)) (62 ∷
+        rest) rest (in_parens q (62 ∷ rest)) (rest, look-greater rest, refl),
+  )
+
+  pub signature-shown : Shown (λ ts. (as_ rs : List Token) × E as_ × F rs × (ts ≡ in_angles as_ rs)) signature_text
+  signature-shown = record {
+    first = sign 60;
+    others = enclosed 40 p.tokens 41 ++ (arrow ∷ (enclosed 40 q.tokens 41 ++ (sign 62 ∷ [])));
+    spelled = (p.tokens, q.tokens, p.spelled, q.spelled, refl);
+    begun = λ rest e. subst (λ bytes. Begins bytes (in_angles p.tokens q.tokens) rest) (sym (regroup rest)) (
+      40 ∷
+          (first ++ (41 ∷ 45 ∷ 62 ∷ 40 ∷ (second ++ 41 ∷ 62 ∷ rest))),
+      look-less (40 ∷ (first ++ (41 ∷ 45 ∷ 62 ∷ 40 ∷ (second ++ 41 ∷ 62 ∷ rest)))),
+      Begins-append (enclosed 40 p.tokens 41) (arrow ∷ (enclosed 40 q.tokens 41 ++ (sign 62 ∷ []))) (40 ∷
+          (first ++ (41 ∷ 45 ∷ 62 ∷ 40 ∷ (second ++ 41 ∷ 62 ∷ rest)))) (45 ∷ 62 ∷ 40 ∷ (second ++ 41 ∷ 62 ∷ rest)) rest
+          (in_parens p (45 ∷ 62 ∷ 40 ∷ (second ++ 41 ∷ 62 ∷ rest))) (results_begin rest),
+    );
+  }
+
+-- ---- types by their trees
+
+module _ {T : Type 0} (own_id own_body : T → List ℕ) where
+  mutual
+    pub type-shown : (t : TypeTree T) → IsBuiltin t → Shown (SpellsType (type_term t)) (tree_text own_id own_body t)
+    type-shown (integer_tree s w) b = behind_id (codes "builtin.integer") refl (integer_type-shown s w b)
+    type-shown (function_tree as_ rs) b =
+        Shown-as (λ ts s. (s.1.0, s.1.1, s.1.2, s.1.3, s.2 ∙ ap (λ l. word (codes "builtin.function") ∷ l) s.1.4))
+        (behind_id (codes "builtin.function") refl (signature-shown (types-shown as_ b.0) (types-shown rs b.1)))
+    type-shown unit_tree b = word-shown (codes "builtin.unit") refl
+    type-shown (own_tree t) b = absurd b
+
+    types-shown : (ts : Trees T) → AreBuiltin ts → Run (SpellsTypes (type_terms ts)) (trees_text own_id own_body ts)
+    types-shown no_trees b = nothing.run
+    types-shown (tree t ts) b = behind_first (type-shown t b.0) (more_types-shown ts b.1)
+
+    more_types-shown : (ts : Trees T) → AreBuiltin ts →
+        Tail (SpellsMoreTypes (type_terms ts)) (more_trees_text own_id own_body ts)
+    more_types-shown no_trees b = nothing
+    more_types-shown (tree t ts) b = behind_comma (type-shown t b.0) (more_types-shown ts b.1)
+
+-- ---- types by their handles
+
+module _ {T : Type 0} (own_handles : T → List ℕ) (types : List (TypeView T)) (table : IsTypeTable own_handles types)
+  where
+    all_named : (grown : ℕ → TypeTree T) (b : ℕ) → ((k : ℕ) → k < b → IsBuiltin (grown k) →
+        Names types k (type_term (grown k))) → (hs : List ℕ) → All (λ k. k < b) hs →
+        AreBuiltin (trees_of (map grown hs)) → NamesAll types hs (type_terms (trees_of (map grown hs)))
+    all_named grown b each [] below all = refl
+    all_named grown b each (h ∷ hs) below all = (
+      h,
+      hs,
+      each h (below 0 0 (omega arith)) all.0,
+      all_named grown b each hs (λ k d p. below (suc k) d (omega (arith, p))) all.1,
+      refl,
+    )
+
+    one_named : (grown : ℕ → TypeTree T) (h : ℕ) → ((k : ℕ) → k < h → IsBuiltin (grown k) →
+        Names types k (type_term (grown k))) → (t : TypeView T) → type_at types h ≡ Some t →
+        IsBuiltin (tree_over grown t) → Names types h (type_term (tree_over grown t))
+    one_named grown h each (integer s w) is b = is
+    one_named grown h each (function as_ rs) is b =
+        let below = table.before (function as_ rs) h is in (
+          as_,
+          rs,
+          is,
+          all_named grown h each as_ (all_left (λ k. k < h) as_ rs below) b.0,
+          all_named grown h each rs (all_right (λ k. k < h) as_ rs below) b.1,
+        )
+    one_named grown h each unit is b = is
+    one_named grown h each (own t) is b = absurd b
+
+    within_named : (n h : ℕ) → h < n → h < length types → IsBuiltin (tree_within n types h) →
+        Names types h (type_term (tree_within n types h))
+    unfolding tree_within
+    within_named zero h lt live b = absurd (omega (arith, lt))
+    within_named (suc n) h lt live b =
+        by (type_at types h) refl (λ k less. within_named n k (omega (arith, lt, less)) (omega (arith, live, less))) b
+      where
+        by : (o : Option (TypeView T)) → type_at types h ≡ o → ((k : ℕ) → k < h → IsBuiltin (tree_within n types k) →
+            Names types k (type_term (tree_within n types k))) → IsBuiltin (tree_if (tree_within n types) o) →
+            Names types h (type_term (tree_if (tree_within n types) o))
+        by (Some t) is each c = one_named (tree_within n types) h each t is c
+        by None is each c = absurd (elim ((slice_get_cases types h).1) [
+          | inl s ↦ let e : None ≡ Some s.0 = sym is ∙ s.2 in
+              absurd cc
+          | inr s ↦ omega (arith, live, s.0)
+        ])
+
+    -- a handle of the table names the type that it has
+    pub type_named : (h : ℕ) → h < length types → IsBuiltin (tree_of types h) →
+        Names types h (type_term (tree_of types h))
+    type_named h live b = within_named (suc h) h (omega arith) live b

@@ -1,7 +1,0 @@
-use Rattle.plir_core.specs.declared.value.Value.{Value}
-use Rattle.plir_core.specs.Store.{entity_node}
-use Rattle.plir_core.proofs.Counting.{IsRaising}
-use Rattle.plir_core.proofs.use_counts.UseCounts.raise_values.Given as goal
-
-abbrev pub invariant-loop-value : goal.invariant-loop-value
-invariant-loop-value l = IsRaising (λ (v : Value). entity_node v.entity) l.values l.fn.self l.self l.value-index

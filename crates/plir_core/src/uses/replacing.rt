@@ -1,0 +1,68 @@
+//! The call that puts a value in place of another one everywhere.
+ghost use Rattle.std.specs.Prelude.{◌≡◌, ◌<◌, length, map};
+ghost use Rattle.plir_store.specs.Table.{content_at};
+ghost use Rattle.plir_core.specs.Changes.{with_op_edit, op_edited};
+ghost use Rattle.plir_core.specs.Replaced.{replaced, op_replaced, with_uses_replaced};
+ghost use Rattle.plir_core.specs.ContextView.{IsLive, IsValueLive};
+ghost use Rattle.plir_core.specs.WellFormed.{IsWellFormed};
+ghost use Rattle.plir_core.specs.declared.ptr.IRNode.{IRNode};
+
+use crate::context::Context;
+use crate::ptr::{Operation, Ptr};
+use crate::value::Value;
+use plir_data::OpSet;
+
+// What stands at a place once `other` has come in place of `value`, where `at` stood.
+fn in_place_of(at: Value, value: Value, other: Value) -> Value
+    ensures { result ≡ replaced value other at }
+{
+    if at == value { other } else { at }
+}
+
+// Puts a value in place of another one among some values.
+fn replace_among(values: &mut Vec<Value>, value: Value, other: Value)
+    ensures { values.new.items ≡ map (replaced value other) values.old.items }
+{
+    for place in 0..values.len() {
+        values[place] = in_place_of(values[place], value, other);
+    }
+}
+
+// Puts a value in place of another one among the operands of an operation.
+fn replace_in_op<D: OpSet>(ctx: &mut Context<D>, op: Ptr<Operation>, value: Value, other: Value)
+    requires live { IsLive ctx.old (IRNode.Operation op) }
+    requires value_live { IsValueLive ctx.old other }
+    ensures after { ctx.new ≡ with_op_edit ctx.old op (op_replaced value other) }
+{
+    ctx.uses.lower_op(ctx.nodes.op(op));
+    replace_among(&mut ctx.nodes.op_mut(op).operands, value, other);
+    ctx.uses.raise_op(ctx.nodes.op(op));
+}
+
+// The same in a slot, if there is an operation in it.
+fn replace_in_slot<D: OpSet>(ctx: &mut Context<D>, slot: u32, value: Value, other: Value)
+    requires below { slot < length ctx.old.nodes.ops.slots }
+    requires value_live { IsValueLive ctx.old other }
+    ensures after { ctx.new ≡ op_edited ctx.old slot (op_replaced value other) (content_at ctx.old.nodes.ops slot) }
+{
+    match ctx.nodes.op_in_slot(slot) {
+        None => {}
+        Some(op) => replace_in_op(ctx, op, value, other),
+    }
+}
+
+impl Value {
+    /// Puts another value in place of this one, wherever it is an operand of a live operation. All else stays as it is.
+    /// This looks at all operations, since no list of uses is kept.
+    pub fn replace_all_uses_with<D: OpSet>(self, ctx: &mut Context<D>, other: Value)
+        requires live { IsValueLive ctx.old self }
+        requires other_live { IsValueLive ctx.old other }
+        ensures after { ctx.new ≡ with_uses_replaced ctx.old self other }
+        ensures whole { IsWellFormed D.attr_handles ctx.new }
+    {
+        for slot in 0..ctx.nodes.num_op_slots() {
+            replace_in_slot(ctx, slot, self, other);
+        }
+        let _types = &ctx.types;
+    }
+}
