@@ -14,7 +14,6 @@ use Rattle.plir_walk.specs.declared.config.Order.TheVariants.{PostOrder, PreOrde
 use Rattle.plir_walk.specs.declared.config.WalkConfig.{WalkConfig}
 use Rattle.plir_walk.specs.declared.interruptible.WalkContinue.{WalkContinue}
 use Rattle.plir_walk.specs.declared.interruptible.WalkContinue.TheVariants.{Skip}
-use Rattle.plir_core.specs.Above.{Reaches}
 use Rattle.plir_core.specs.declared.ptr.IRNode.{IRNode}
 use Rattle.plir_core.specs.Forest.{IsBelow, IsForest, Shape}
 use Rattle.plir_store.specs.MemberLaws.{Distinct-append, Distinct-one, Has-append_cases, Has-append_left, Has-append_right}

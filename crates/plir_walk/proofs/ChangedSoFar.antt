@@ -7,7 +7,7 @@ use Rattle.plir_core.specs.declared.ptr.Operation.{Operation as OperationKind}
 use Rattle.plir_core.specs.declared.ptr.BasicBlock.{BasicBlock as BasicBlockKind}
 use Rattle.plir_core.specs.declared.ptr.IRNode.{IRNode}
 use Rattle.plir_core.specs.Above.{Reaches, climb}
-use Rattle.plir_core.specs.Nodes.{is_node_live, node_children, node_parent}
+use Rattle.plir_core.specs.Nodes.{is_node_live, node_parent}
 use Rattle.plir_core.specs.Contents.{OpView, BlockView}
 use Rattle.plir_core.specs.ContextView.{ContextView, is_live, given_out, children, parent_of}
 use Rattle.plir_core.specs.Changes.{SameLive, with_op_edit, with_block_edit}

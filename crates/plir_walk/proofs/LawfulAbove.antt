@@ -1,12 +1,12 @@
 -- A lawful call at a node is lawful at each node that it stands under.
-use Rattle.std.proofs.Common.{◌≡◌, ◌≢◌, ℕ, zero, suc, ◌+◌, true, false, List, Option, Some, ◌⊎◌, inl, inr, refl, sym, ap, subst, ◌∙◌, arith}
+use Rattle.std.proofs.Common.{◌≡◌, ◌≢◌, ℕ, zero, suc, ◌+◌, true, false, List, Some, ◌⊎◌, inl, inr, refl, sym, ap, subst, ◌∙◌, arith}
 use Rattle.std.proofs.lemmas.Option.{same_Some}
 use Rattle.plir_store.specs.Members.{Has}
 use Rattle.plir_core.specs.declared.ptr.IRNode.{IRNode}
 use Rattle.plir_core.specs.Above.{climb, Reaches}
 use Rattle.plir_core.specs.Forest.{Shape, IsBelow, IsForest}
 use Rattle.plir_walk.specs.Lawful.{Lawful}
-use Rattle.plir_walk.proofs.Climbs.{climb-bottom, climb-split, climb-top, not-below-itself}
+use Rattle.plir_walk.proofs.Climbs.{climb-bottom, climb-split, not-below-itself}
 use Rattle.plir_walk.proofs.Lawfulness.{climb-plus}
 use Rattle.plir_walk.proofs.Nodes.{same_tells}
 

@@ -8,7 +8,7 @@ use Rattle.plir_core.specs.declared.ptr.IRNode.{IRNode}
 use Rattle.plir_core.specs.declared.ptr.IRNode.TheVariants.{Operation, Region, BasicBlock}
 use Rattle.plir_core.specs.Above.{Reaches, climb}
 use Rattle.plir_store.specs.Table.{Table, is_live_at}
-use Rattle.plir_core.specs.Nodes.{Nodes, is_given_out, is_node_live, was_given_out, node_children, node_parent, node_over}
+use Rattle.plir_core.specs.Nodes.{Nodes, is_given_out, is_node_live, was_given_out, node_parent, node_over}
 use Rattle.plir_core.specs.Contents.{OpView, BlockView}
 use Rattle.plir_core.specs.ContextView.{ContextView, is_live, given_out, children, parent_of}
 use Rattle.plir_core.specs.Changes.{SameLive, with_op_edit, with_block_edit}
@@ -19,7 +19,6 @@ use Rattle.plir_core.specs.Forest.{Shape, IsBelow, IsForest, look}
 use Rattle.plir_walk.specs.Lawful.{Lawful, SameShape}
 use Rattle.plir_walk.proofs.Climbs.{climb-bottom, climb-split, climb-top, not-below-itself}
 use Rattle.plir_walk.proofs.NamedStores.{op-edit-is, block-edit-is}
-use Rattle.plir_walk.proofs.Nodes.{same_tells}
 use Rattle.plir_walk.specs.Unnamed.{SameSlots}
 use Rattle.plir_walk.proofs.Refilled.{edited-slots, refilled-given, refilled-children, refilled-live, refilled-parents}
 

@@ -2,7 +2,7 @@
 use Rattle.std.proofs.Common.{◌≡◌, ℕ, cond, ◌&&◌, nat_lt, nat_le, List, [], ◌∷◌, map, Option, Some, None, IsSome, inl, inr, refl, sym, ap, subst, ◌∙◌, length-set}
 use Rattle.std.specs.Prelude.{option_map}
 use Rattle.plir_store.specs.Lists.{children_at, parent_at}
-use Rattle.plir_store.specs.Table.{Table, content_at, version_at, is_live_at, with_content}
+use Rattle.plir_store.specs.Table.{Table, content_at, version_at, is_live_at}
 use Rattle.plir_core.specs.declared.ptr.Ptr.{Ptr}
 use Rattle.plir_core.specs.declared.ptr.Operation.{Operation as OperationKind}
 use Rattle.plir_core.specs.declared.ptr.BasicBlock.{BasicBlock as BasicBlockKind}

@@ -9,8 +9,8 @@ use Rattle.plir_core.specs.declared.ptr.IRNode.TheVariants.{Operation, Region, B
 use Rattle.plir_store.specs.Members.{Has, Distinct}
 use Rattle.plir_core.specs.Changes.{with_block_edit}
 use Rattle.plir_core.specs.Contents.{BlockView}
-use Rattle.plir_core.specs.Stored.{Seat, op, block, seat_of}
-use Rattle.plir_core.specs.ContextView.{ContextView, IsLive, is_live, given_out, children, parent_of, num_live}
+use Rattle.plir_core.specs.Stored.{op, block, seat_of}
+use Rattle.plir_core.specs.ContextView.{ContextView, IsLive, is_live, given_out, children, parent_of}
 use Rattle.plir_core.specs.Standing.{IsStanding}
 use Rattle.plir_core.specs.Forest.{IsForest, look}
 use Rattle.plir_store.specs.MemberLaws.{Has-at}
@@ -24,12 +24,12 @@ use Rattle.plir_walk.specs.ShutOut.{IsShutOut}
 use Rattle.plir_walk.specs.Walk.{IsWalkWithin}
 use Rattle.plir_walk.specs.Walked.{IsCallUnder, Walked, plain_answer}
 use Rattle.plir_walk.specs.Unnamed.{unnamed, op_unnamed, block_unnamed, without_names, SameSlots, IsUnnamed}
-use Rattle.plir_walk.proofs.Slots.{live_parts, ptr_one}
+use Rattle.plir_walk.proofs.Slots.{ptr_one}
 use Rattle.plir_walk.proofs.Groves.{and_then-some}
 use Rattle.plir_walk.proofs.Lawfulness.{lawful-same}
 use Rattle.plir_walk.proofs.NamedStores.{op-edit-is, block-edit-is, edited, edit-then}
 use Rattle.plir_walk.proofs.Orders.{total-order, Pairs-distinct, Chain-each}
-use Rattle.plir_walk.proofs.Picked.{picked, Has-picked, picked-Has, Distinct-picked, length-picked}
+use Rattle.plir_walk.proofs.Picked.{picked, Has-picked, picked-Has, Distinct-picked}
 use Rattle.plir_walk.proofs.Refilled.{refilled, refilled-slots, refilled-apart, refilled-here, refilled-live, refilled-given, refilled-children, refilled-parents}
 
 -- the slot of an operation, and of a block

@@ -1,6 +1,6 @@
 -- Laws of the calls of a walk, for the proofs of passes: what each call keeps is kept from entry to exit, and what each
 -- call establishes at its node, and later calls leave, holds at the exit of all nodes that the walk has called.
-use Rattle.std.proofs.Common.{◌≡◌, ◌≢◌, List, [], ◌∷◌, inl, inr, subst}
+use Rattle.std.proofs.Common.{◌≢◌, List, [], ◌∷◌, inl, inr, subst}
 use Rattle.std.specs.declared.ops.ControlFlow.{ControlFlow}
 use Rattle.std.specs.declared.ops.ControlFlow.TheVariants.{Continue}
 use Rattle.plir_store.specs.Members.{Has}
@@ -9,7 +9,6 @@ use Rattle.plir_walk.specs.declared.config.WalkConfig.{WalkConfig}
 use Rattle.plir_walk.specs.declared.interruptible.WalkContinue.{WalkContinue}
 use Rattle.plir_walk.specs.declared.interruptible.WalkContinue.TheVariants.{Skip}
 use Rattle.plir_walk.specs.Calls.{Call, Relation, Chain, nodes_of}
-use Rattle.plir_walk.specs.ShutOut.{IsShutOut}
 use Rattle.plir_walk.specs.Tree.{Tree, IsUnder}
 use Rattle.plir_walk.specs.Walk.{IsDue, Answers}
 

@@ -1,6 +1,6 @@
 -- Names of results of operations and of arguments of blocks.
 use Rattle.std.specs.Prelude.{ℕ, ◌+◌, ◌-◌, Bool, false, cond, List, [], ◌++◌, length, replicate, Option, Some, None}
-use Rattle.std.specs.Prelude.{is_none, option_and_then, unwrap_or, slice_get, slice_set, insert, remove, codes}
+use Rattle.std.specs.Prelude.{is_none, option_and_then, unwrap_or, slice_get, slice_set, insert, remove}
 use Rattle.std.specs.List.{list_all}
 use Rattle.plir_data.specs.AttrView.{AttrView, leaf, given_names}
 use Rattle.plir_data.specs.Dictionary.{dict_get, dict_put, dict_without}

@@ -3,7 +3,7 @@
 use Rattle.std.proofs.Common.{◌≡◌, ℕ, suc, ◌+◌, ◌≤◌, ◌^◌, arith, List, [], ◌∷◌, length, Result, Err, inl, inr, refl, ap}
 use Rattle.std.proofs.Common.{subst}
 use Rattle.std.specs.declared.ops.ControlFlow.{ControlFlow}
-use Rattle.plir_store.specs.Members.{Has, Distinct}
+use Rattle.plir_store.specs.Members.{Distinct}
 use Rattle.plir_core.specs.declared.ptr.IRNode.{IRNode}
 use Rattle.plir_core.specs.Forest.{look, IsForest}
 use Rattle.plir_core.specs.Standing.{IsStanding}

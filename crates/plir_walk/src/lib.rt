@@ -20,7 +20,7 @@ pub use config::{
     WALKCONFIG_PREORDER_FORWARD, WALKCONFIG_PREORDER_REVERSE, WalkConfig,
 };
 pub use limit::CallLimit;
-pub use links::NodeLinks;
+pub use links::{NodeLinks, TypedNode};
 pub use names_attr::{GivenNamesErr, GivenNamesIncorrect};
 pub use plir_core::IRNode;
 pub use plir_data::keys::ATTR_KEY_GIVEN_NAMES;

@@ -9,7 +9,7 @@ ghost use Rattle.plir_walk.specs.Step.{IsVisited};
 ghost use Rattle.plir_walk.specs.Walked.{WalkedOver};
 
 use crate::config::WalkConfig;
-use crate::cursor::{goes_on, hop, is_due};
+use crate::cursor::{is_due, onward};
 use crate::interruptible::{WalkContinue, WalkResult, walk_advance};
 use crate::links::NodeLinks;
 use plir_core::{BasicBlock, Context, IRNode, Operation, Ptr, Region};
@@ -116,8 +116,7 @@ pub(crate) fn walk<C: NodeLinks, S, B: Drop, F: Fn(&C, &mut S, IRNode) -> WalkRe
             ControlFlow::Break(b) => return ControlFlow::Break(b),
             ControlFlow::Continue(answer) => answer,
         };
-        let below = goes_on(entering, answer);
-        match hop(ctx, config, root, node, below) {
+        match onward(ctx, config, root, node, entering, answer) {
             Some((next, enter, call)) => {
                 node = next;
                 entering = enter;

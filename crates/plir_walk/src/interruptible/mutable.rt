@@ -9,7 +9,7 @@ ghost use Rattle.plir_walk.specs.Step.{IsVisited};
 ghost use Rattle.plir_walk.specs.Walked.{IsLawful, Walked};
 
 use crate::config::WalkConfig;
-use crate::cursor::{goes_on, hop, is_due};
+use crate::cursor::{is_due, onward};
 use crate::interruptible::{WalkContinue, WalkResult, walk_advance};
 use crate::limit::CallLimit;
 use crate::links::NodeLinks;
@@ -150,8 +150,7 @@ pub(crate) fn walk<C: NodeLinks, S, B: Drop, F: Fn(&mut C, &mut S, IRNode) -> Wa
             ControlFlow::Break(b) => return Ok(ControlFlow::Break(b)),
             ControlFlow::Continue(answer) => answer,
         };
-        let below = goes_on(entering, answer);
-        match hop(ctx, config, root, node, below) {
+        match onward(ctx, config, root, node, entering, answer) {
             Some((next, enter, call)) => {
                 node = next;
                 entering = enter;
