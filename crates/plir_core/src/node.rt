@@ -25,7 +25,6 @@ impl IRNode {
         ensures live { IfSome result (IsLive ctx.now) }
         ensures whole { IsWellFormed D.attr_handles ctx.now }
     {
-        prove!(self.is_live(ctx), "the node is not live");
         match self {
             IRNode::Operation(op) => op.get_parent_block(ctx).map(IRNode::BasicBlock),
             IRNode::Region(region) => region.get_parent_op(ctx).map(IRNode::Operation),
@@ -41,7 +40,6 @@ impl IRNode {
         ensures live { IfSome result (IsLive ctx.now) }
         ensures whole { IsWellFormed D.attr_handles ctx.now }
     {
-        prove!(self.is_live(ctx), "the node is not live");
         match self {
             IRNode::Operation(op) => op.first_region(ctx).map(IRNode::Region),
             IRNode::Region(region) => region.get_head(ctx).map(IRNode::BasicBlock),
@@ -57,7 +55,6 @@ impl IRNode {
         ensures live { IfSome result (IsLive ctx.now) }
         ensures whole { IsWellFormed D.attr_handles ctx.now }
     {
-        prove!(self.is_live(ctx), "the node is not live");
         match self {
             IRNode::Operation(op) => op.last_region(ctx).map(IRNode::Region),
             IRNode::Region(region) => region.get_tail(ctx).map(IRNode::BasicBlock),
@@ -73,7 +70,6 @@ impl IRNode {
         ensures live { IfSome result (IsLive ctx.now) }
         ensures whole { IsWellFormed D.attr_handles ctx.now }
     {
-        prove!(self.is_live(ctx), "the node is not live");
         match self {
             IRNode::Operation(op) => op.get_next(ctx).map(IRNode::Operation),
             IRNode::Region(region) => region.get_next(ctx).map(IRNode::Region),
@@ -89,7 +85,6 @@ impl IRNode {
         ensures live { IfSome result (IsLive ctx.now) }
         ensures whole { IsWellFormed D.attr_handles ctx.now }
     {
-        prove!(self.is_live(ctx), "the node is not live");
         match self {
             IRNode::Operation(op) => op.get_prev(ctx).map(IRNode::Operation),
             IRNode::Region(region) => region.get_prev(ctx).map(IRNode::Region),

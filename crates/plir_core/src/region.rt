@@ -26,7 +26,6 @@ impl Ptr<Region> {
         ensures live { IfSome result (λ op. IsLive ctx.now (IRNode.Operation op)) }
         ensures whole { IsWellFormed D.attr_handles ctx.now }
     {
-        prove!(self.is_live(ctx), "the region is not live");
         ctx.nodes.parent_of_region(self)
     }
 
@@ -37,7 +36,6 @@ impl Ptr<Region> {
             (λ n. slice_get (children ctx.now n) result ≡ Some (IRNode.Region self)) }
         ensures whole { IsWellFormed D.attr_handles ctx.now }
     {
-        prove!(self.is_live(ctx), "the region is not live");
         ctx.nodes.place_of_region(self)
     }
 
@@ -50,7 +48,6 @@ impl Ptr<Region> {
             (IRNode.Region self)) }
         ensures whole { IsWellFormed D.attr_handles ctx.now }
     {
-        prove!(self.is_live(ctx), "the region is not live");
         ctx.nodes.next_region(self)
     }
 
@@ -63,7 +60,6 @@ impl Ptr<Region> {
             (IRNode.Region self)) }
         ensures whole { IsWellFormed D.attr_handles ctx.now }
     {
-        prove!(self.is_live(ctx), "the region is not live");
         ctx.nodes.prev_region(self)
     }
 
@@ -76,7 +72,6 @@ impl Ptr<Region> {
             ≡ Some (IRNode.Region self)) }
         ensures whole { IsWellFormed D.attr_handles ctx.now }
     {
-        prove!(self.is_live(ctx), "the region is not live");
         ctx.nodes.first_block(self)
     }
 
@@ -89,7 +84,6 @@ impl Ptr<Region> {
             ≡ Some (IRNode.Region self)) }
         ensures whole { IsWellFormed D.attr_handles ctx.now }
     {
-        prove!(self.is_live(ctx), "the region is not live");
         ctx.nodes.last_block(self)
     }
 
@@ -102,7 +96,6 @@ impl Ptr<Region> {
             ≡ Some (IRNode.Region self)) }
         ensures whole { IsWellFormed D.attr_handles ctx.now }
     {
-        prove!(self.is_live(ctx), "the region is not live");
         self.get_head(ctx)
     }
 }

@@ -1,4 +1,0 @@
-mod Lines
-mod Verifying
-mod Passing
-mod Printing
