@@ -6,6 +6,7 @@ ghost use Rattle.plir_core.specs.declared.ptr.IRNode.{IRNode as AnyNode};
 ghost use Rattle.plir_core.specs.ContextView.{IsLive, IsAncestor, parent_of};
 ghost use Rattle.plir_core.specs.InsertionPoint.{IsPointLive};
 ghost use Rattle.plir_core.specs.Changes.{with_op_unlinked};
+ghost use Rattle.plir_core.specs.Erase.{IsErased};
 ghost use Rattle.plir_core.specs.Unused.{IsUnusedOutside, without_tree};
 ghost use Rattle.plir_builtin.specs.Symbols.{body};
 ghost use Rattle.plir_builtin.specs.Agree.{Agrees, KeepsAgreement, KeepsAllAgree, KeepsGivenOut};
@@ -261,6 +262,7 @@ impl SymbolTable {
         requires unused { IsUnusedOutside ctx.old (AnyNode.Operation op) }
         ensures forgotten { OnOk result (IsForgotten D.is_symbol ctx.old self.old op self.new) }
         ensures after { OnOk result (ctx.new ≡ without_tree ctx.old (AnyNode.Operation op)) }
+        ensures tree { OnOk result (IsErased ctx.old.nodes ctx.new.nodes (AnyNode.Operation op)) }
         ensures refused { IfErr result (TellsOnly (RemoveRefused D.is_symbol ctx.old self.old.op op)) }
         ensures same { OnErr result ((ctx.new ≡ ctx.old) × (self.new ≡ self.old)) }
         ensures agrees { OnOk result (KeepsAgreement D.is_symbol D.is_symbol_table ctx.old self.old ctx.new self.new) }

@@ -16,7 +16,7 @@ use thiserror::Error;
 pub struct SymbolOpInterfaceErr;
 
 /// Whether an operation is a symbol.
-pub(crate) fn is_symbol<D: OpSet>(ctx: &Context<D>, op: Ptr<Operation>) -> bool
+pub fn is_symbol<D: OpSet>(ctx: &Context<D>, op: Ptr<Operation>) -> bool
     requires { IsLive ctx.now (AnyNode.Operation op) }
     ensures { result ≡ is_symbol_kind D.is_symbol (kind_of ctx.now op) }
 {
@@ -42,7 +42,7 @@ fn name_of<D: OpSet>(attribute: &AttrObj<D>) -> Option<&Identifier>
 }
 
 /// The name of an operation, if it has one.
-pub(crate) fn symbol_name<D: OpSet>(ctx: &Context<D>, op: Ptr<Operation>) -> Option<&Identifier>
+pub fn symbol_name<D: OpSet>(ctx: &Context<D>, op: Ptr<Operation>) -> Option<&Identifier>
     requires { IsLive ctx.now (AnyNode.Operation op) }
     ensures { option_map (λ n. n.now) result ≡ name_held (op_at ctx.now op) }
 {

@@ -30,7 +30,7 @@ impl<D: OpSet> OneRegionInterface<D> for AnyOp {}
 impl<D: OpSet> SingleBlockRegionInterface<D> for AnyOp {}
 
 /// The body of an operation that has one.
-pub(crate) fn body_of<D: OpSet>(ctx: &Context<D>, op: Ptr<Operation>) -> Ptr<BasicBlock>
+pub fn body_of<D: OpSet>(ctx: &Context<D>, op: Ptr<Operation>) -> Ptr<BasicBlock>
     requires live { IsLive ctx.now (AnyNode.Operation op) }
     requires at_body { IsSome (body ctx.now op) }
     ensures body { body ctx.now op ≡ Some (AnyNode.BasicBlock result) }

@@ -81,6 +81,7 @@ impl Ptr<BasicBlock> {
         ensures live { IfSome result (λ region. IsLive ctx.now (IRNode.Region region)) }
         ensures whole { IsWellFormed D.attr_handles ctx.now }
     {
+        prove!(self.is_live(ctx), "the block is not live");
         ctx.nodes.parent_of_block(self)
     }
 
@@ -91,6 +92,7 @@ impl Ptr<BasicBlock> {
         ensures live { IfSome result (λ op. IsLive ctx.now (IRNode.Operation op)) }
         ensures whole { IsWellFormed D.attr_handles ctx.now }
     {
+        prove!(self.is_live(ctx), "the block is not live");
         match self.get_parent_region(ctx) {
             None => None,
             Some(region) => ctx.nodes.parent_of_region(region),
@@ -106,6 +108,7 @@ impl Ptr<BasicBlock> {
             (IRNode.BasicBlock self)) }
         ensures whole { IsWellFormed D.attr_handles ctx.now }
     {
+        prove!(self.is_live(ctx), "the block is not live");
         ctx.nodes.next_block(self)
     }
 
@@ -118,6 +121,7 @@ impl Ptr<BasicBlock> {
             (IRNode.BasicBlock self)) }
         ensures whole { IsWellFormed D.attr_handles ctx.now }
     {
+        prove!(self.is_live(ctx), "the block is not live");
         ctx.nodes.prev_block(self)
     }
 
@@ -129,6 +133,7 @@ impl Ptr<BasicBlock> {
         ensures here { IfSome result (λ op. parent_of ctx.now (IRNode.Operation op) ≡ Some (IRNode.BasicBlock self)) }
         ensures whole { IsWellFormed D.attr_handles ctx.now }
     {
+        prove!(self.is_live(ctx), "the block is not live");
         ctx.nodes.first_op(self)
     }
 
@@ -140,6 +145,7 @@ impl Ptr<BasicBlock> {
         ensures here { IfSome result (λ op. parent_of ctx.now (IRNode.Operation op) ≡ Some (IRNode.BasicBlock self)) }
         ensures whole { IsWellFormed D.attr_handles ctx.now }
     {
+        prove!(self.is_live(ctx), "the block is not live");
         ctx.nodes.last_op(self)
     }
 
@@ -151,6 +157,7 @@ impl Ptr<BasicBlock> {
         ensures here { IfSome result (λ op. parent_of ctx.now (IRNode.Operation op) ≡ Some (IRNode.BasicBlock self)) }
         ensures whole { IsWellFormed D.attr_handles ctx.now }
     {
+        prove!(self.is_live(ctx), "the block is not live");
         match self.get_tail(ctx) {
             Some(op) if op_impls(ctx, op, Interface::Terminator) => Some(op),
             _ => None,
@@ -163,6 +170,7 @@ impl Ptr<BasicBlock> {
         ensures value { result ≡ length (arg_types_of ctx.now self) }
         ensures whole { IsWellFormed D.attr_handles ctx.now }
     {
+        prove!(self.is_live(ctx), "the block is not live");
         ctx.nodes.block(self).arg_types.len()
     }
 
@@ -174,6 +182,8 @@ impl Ptr<BasicBlock> {
         ensures live { IsTypeLive ctx.now.types result }
         ensures whole { IsWellFormed D.attr_handles ctx.now }
     {
+        prove!(self.is_live(ctx), "the block is not live");
+        prove!(i < self.get_num_arguments(ctx), "there is none at this place");
         ctx.nodes.block(self).arg_types[i]
     }
 
@@ -185,6 +195,8 @@ impl Ptr<BasicBlock> {
         ensures live { IsValueLive ctx.now result }
         ensures whole { IsWellFormed D.attr_handles ctx.now }
     {
+        prove!(self.is_live(ctx), "the block is not live");
+        prove!(i < self.get_num_arguments(ctx), "there is none at this place");
         let _types = &ctx.types;
         Value::new(DefiningEntity::Block(self), i)
     }
@@ -196,6 +208,7 @@ impl Ptr<BasicBlock> {
         ensures live { HandlesLive D.attr_handles ctx.now.types (block_attributes_of ctx.now self) }
         ensures whole { IsWellFormed D.attr_handles ctx.now }
     {
+        prove!(self.is_live(ctx), "the block is not live");
         &ctx.nodes.block(self).attributes
     }
 
@@ -215,6 +228,7 @@ impl Ptr<BasicBlock> {
         ensures err { OnErr result (ctx.new ≡ ctx.old) }
         ensures whole { IsWellFormed D.attr_handles ctx.new }
     {
+        prove!(self.is_live(ctx), "the block is not live");
         ctx.nodes.block_mut(self).attributes.insert(key, value)?;
         Ok(())
     }
@@ -229,6 +243,10 @@ impl Ptr<BasicBlock> {
         ensures placed { IsPlacedLast ctx.old.nodes ctx.new.nodes (IRNode.BasicBlock self) (IRNode.Region region) }
         ensures whole { IsWellFormed D.attr_handles ctx.new }
     {
+        prove!(self.is_live(ctx), "the block is not live");
+        prove!(region.is_live(ctx), "the region is not live");
+        prove!(self.get_parent_region(ctx).is_none(), "the block stands in a region already");
+        prove!(!IRNode::BasicBlock(self).is_ancestor(IRNode::Region(region), ctx), "the block stands above its new place");
         ctx.nodes.push_block(self, region);
     }
 
@@ -238,6 +256,7 @@ impl Ptr<BasicBlock> {
         ensures value { option_map (λ l. l.now) result ≡ label_of ctx.now self }
         ensures whole { IsWellFormed D.attr_handles ctx.now }
     {
+        prove!(self.is_live(ctx), "the block is not live");
         ctx.nodes.block(self).label.as_ref()
     }
 
@@ -247,6 +266,7 @@ impl Ptr<BasicBlock> {
         ensures after { ctx.new ≡ with_block_edit ctx.old self (λ b. record b { label = label }) }
         ensures whole { IsWellFormed D.attr_handles ctx.new }
     {
+        prove!(self.is_live(ctx), "the block is not live");
         ctx.nodes.block_mut(self).label = label;
     }
 
@@ -259,6 +279,7 @@ impl Ptr<BasicBlock> {
             (λ b. record b { attributes = dict_without b.attributes key.now }) }
         ensures whole { IsWellFormed D.attr_handles ctx.new }
     {
+        prove!(self.is_live(ctx), "the block is not live");
         ctx.nodes.block_mut(self).attributes.remove(key)
     }
 
@@ -281,6 +302,7 @@ impl Ptr<BasicBlock> {
         ensures same { OnErr result (ctx.new ≡ ctx.old) }
         ensures whole { IsWellFormed D.attr_handles ctx.new }
     {
+        prove!(self.is_live(ctx), "the block is not live");
         ctx.nodes.block_mut(self).attributes.replace(key, value)
     }
 
@@ -294,6 +316,10 @@ impl Ptr<BasicBlock> {
         ensures placed { IsPlacedFirst ctx.old.nodes ctx.new.nodes (IRNode.BasicBlock self) (IRNode.Region region) }
         ensures whole { IsWellFormed D.attr_handles ctx.new }
     {
+        prove!(self.is_live(ctx), "the block is not live");
+        prove!(region.is_live(ctx), "the region is not live");
+        prove!(self.get_parent_region(ctx).is_none(), "the block stands in a region already");
+        prove!(!IRNode::BasicBlock(self).is_ancestor(IRNode::Region(region), ctx), "the block stands above its new place");
         ctx.nodes.push_block_front(self, region);
     }
 
@@ -308,6 +334,11 @@ impl Ptr<BasicBlock> {
         ensures placed { IsPlacedBefore ctx.old.nodes ctx.new.nodes (IRNode.BasicBlock self) (IRNode.BasicBlock mark) }
         ensures whole { IsWellFormed D.attr_handles ctx.new }
     {
+        prove!(self.is_live(ctx), "the block is not live");
+        prove!(mark.is_live(ctx), "the block is not live");
+        prove!(self.get_parent_region(ctx).is_none(), "the block stands in a region already");
+        prove!(mark.get_parent_region(ctx).is_some(), "the block that marks the place stands in no region");
+        prove!(!IRNode::BasicBlock(self).is_ancestor(IRNode::BasicBlock(mark), ctx), "the block stands above its new place");
         ctx.nodes.insert_block_before(self, mark);
     }
 
@@ -322,6 +353,11 @@ impl Ptr<BasicBlock> {
         ensures placed { IsPlacedBehind ctx.old.nodes ctx.new.nodes (IRNode.BasicBlock self) (IRNode.BasicBlock mark) }
         ensures whole { IsWellFormed D.attr_handles ctx.new }
     {
+        prove!(self.is_live(ctx), "the block is not live");
+        prove!(mark.is_live(ctx), "the block is not live");
+        prove!(self.get_parent_region(ctx).is_none(), "the block stands in a region already");
+        prove!(mark.get_parent_region(ctx).is_some(), "the block that marks the place stands in no region");
+        prove!(!IRNode::BasicBlock(self).is_ancestor(IRNode::BasicBlock(mark), ctx), "the block stands above its new place");
         ctx.nodes.insert_block_after(self, mark);
     }
 
@@ -332,6 +368,7 @@ impl Ptr<BasicBlock> {
         ensures unlinked { IsUnlinked ctx.old.nodes ctx.new.nodes (IRNode.BasicBlock self) }
         ensures whole { IsWellFormed D.attr_handles ctx.new }
     {
+        prove!(self.is_live(ctx), "the block is not live");
         ctx.nodes.unlink_block(self);
     }
 }

@@ -23,6 +23,7 @@ impl IRNode {
         ensures value { IsTrue result ↔ IsAncestor ctx.now self node }
         ensures whole { IsWellFormed D.attr_handles ctx.now }
     {
+        prove!(node.is_live(ctx), "the node is not live");
         ctx.nodes.is_ancestor(self, node)
     }
 
@@ -105,6 +106,8 @@ impl Operation {
         ensures tree { IsErased ctx.old.nodes ctx.new.nodes (IRNode.Operation op) }
         ensures whole { IsWellFormed D.attr_handles ctx.new }
     {
+        prove!(op.is_live(ctx), "the operation is not live");
+        prove!(IRNode::Operation(op).is_unused_outside(ctx), "what is erased is used outside");
         erase_tree(IRNode::Operation(op), ctx);
     }
 }
@@ -119,6 +122,8 @@ impl BasicBlock {
         ensures tree { IsErased ctx.old.nodes ctx.new.nodes (IRNode.BasicBlock block) }
         ensures whole { IsWellFormed D.attr_handles ctx.new }
     {
+        prove!(block.is_live(ctx), "the block is not live");
+        prove!(IRNode::BasicBlock(block).is_unused_outside(ctx), "what is erased is used outside");
         erase_tree(IRNode::BasicBlock(block), ctx);
     }
 }

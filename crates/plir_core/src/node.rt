@@ -25,6 +25,7 @@ impl IRNode {
         ensures live { IfSome result (IsLive ctx.now) }
         ensures whole { IsWellFormed D.attr_handles ctx.now }
     {
+        prove!(self.is_live(ctx), "the node is not live");
         match self {
             IRNode::Operation(op) => op.get_parent_block(ctx).map(IRNode::BasicBlock),
             IRNode::Region(region) => region.get_parent_op(ctx).map(IRNode::Operation),
@@ -40,6 +41,7 @@ impl IRNode {
         ensures live { IfSome result (IsLive ctx.now) }
         ensures whole { IsWellFormed D.attr_handles ctx.now }
     {
+        prove!(self.is_live(ctx), "the node is not live");
         match self {
             IRNode::Operation(op) => op.first_region(ctx).map(IRNode::Region),
             IRNode::Region(region) => region.get_head(ctx).map(IRNode::BasicBlock),
@@ -55,6 +57,7 @@ impl IRNode {
         ensures live { IfSome result (IsLive ctx.now) }
         ensures whole { IsWellFormed D.attr_handles ctx.now }
     {
+        prove!(self.is_live(ctx), "the node is not live");
         match self {
             IRNode::Operation(op) => op.last_region(ctx).map(IRNode::Region),
             IRNode::Region(region) => region.get_tail(ctx).map(IRNode::BasicBlock),
@@ -70,6 +73,7 @@ impl IRNode {
         ensures live { IfSome result (IsLive ctx.now) }
         ensures whole { IsWellFormed D.attr_handles ctx.now }
     {
+        prove!(self.is_live(ctx), "the node is not live");
         match self {
             IRNode::Operation(op) => op.get_next(ctx).map(IRNode::Operation),
             IRNode::Region(region) => region.get_next(ctx).map(IRNode::Region),
@@ -85,6 +89,7 @@ impl IRNode {
         ensures live { IfSome result (IsLive ctx.now) }
         ensures whole { IsWellFormed D.attr_handles ctx.now }
     {
+        prove!(self.is_live(ctx), "the node is not live");
         match self {
             IRNode::Operation(op) => op.get_prev(ctx).map(IRNode::Operation),
             IRNode::Region(region) => region.get_prev(ctx).map(IRNode::Region),

@@ -142,6 +142,7 @@ impl Ptr<Operation> {
         ensures live { IfSome result (λ block. IsLive ctx.now (IRNode.BasicBlock block)) }
         ensures whole { IsWellFormed D.attr_handles ctx.now }
     {
+        prove!(self.is_live(ctx), "the operation is not live");
         ctx.nodes.parent_of_op(self)
     }
 
@@ -152,6 +153,7 @@ impl Ptr<Operation> {
         ensures live { IfSome result (λ region. IsLive ctx.now (IRNode.Region region)) }
         ensures whole { IsWellFormed D.attr_handles ctx.now }
     {
+        prove!(self.is_live(ctx), "the operation is not live");
         match self.get_parent_block(ctx) {
             None => None,
             Some(block) => block.get_parent_region(ctx),
@@ -165,6 +167,7 @@ impl Ptr<Operation> {
         ensures live { IfSome result (λ op. IsLive ctx.now (IRNode.Operation op)) }
         ensures whole { IsWellFormed D.attr_handles ctx.now }
     {
+        prove!(self.is_live(ctx), "the operation is not live");
         match self.get_parent_block(ctx) {
             None => None,
             Some(block) => block.get_parent_op(ctx),
@@ -180,6 +183,7 @@ impl Ptr<Operation> {
             (IRNode.Operation self)) }
         ensures whole { IsWellFormed D.attr_handles ctx.now }
     {
+        prove!(self.is_live(ctx), "the operation is not live");
         ctx.nodes.next_op(self)
     }
 
@@ -192,6 +196,7 @@ impl Ptr<Operation> {
             (IRNode.Operation self)) }
         ensures whole { IsWellFormed D.attr_handles ctx.now }
     {
+        prove!(self.is_live(ctx), "the operation is not live");
         ctx.nodes.prev_op(self)
     }
 
@@ -204,6 +209,7 @@ impl Ptr<Operation> {
             (IRNode.Operation self)) }
         ensures whole { IsWellFormed D.attr_handles ctx.now }
     {
+        prove!(self.is_live(ctx), "the operation is not live");
         ctx.nodes.first_region(self)
     }
 
@@ -216,6 +222,7 @@ impl Ptr<Operation> {
             (IRNode.Operation self)) }
         ensures whole { IsWellFormed D.attr_handles ctx.now }
     {
+        prove!(self.is_live(ctx), "the operation is not live");
         ctx.nodes.last_region(self)
     }
 
@@ -226,6 +233,7 @@ impl Ptr<Operation> {
         ensures value { result ≡ length (children ctx.now (IRNode.Operation self)) }
         ensures whole { IsWellFormed D.attr_handles ctx.now }
     {
+        prove!(self.is_live(ctx), "the operation is not live");
         ctx.nodes.num_regions(self)
     }
 
@@ -238,6 +246,7 @@ impl Ptr<Operation> {
         ensures child { IRNode.Region result ≡ child_at ctx.now (IRNode.Operation self) i }
         ensures whole { IsWellFormed D.attr_handles ctx.now }
     {
+        prove!(self.is_live(ctx), "the operation is not live");
         ctx.nodes.region(self, i)
     }
 
@@ -247,6 +256,7 @@ impl Ptr<Operation> {
         ensures value { kind_of ctx.now self ≡ Some result }
         ensures whole { IsWellFormed D.attr_handles ctx.now }
     {
+        prove!(self.is_live(ctx), "the operation is not live");
         ctx.nodes.op(self).kind
     }
 
@@ -256,6 +266,7 @@ impl Ptr<Operation> {
         ensures value { result ≡ length (result_types_of ctx.now self) }
         ensures whole { IsWellFormed D.attr_handles ctx.now }
     {
+        prove!(self.is_live(ctx), "the operation is not live");
         ctx.nodes.op(self).result_types.len()
     }
 
@@ -267,6 +278,8 @@ impl Ptr<Operation> {
         ensures live { IsTypeLive ctx.now.types result }
         ensures whole { IsWellFormed D.attr_handles ctx.now }
     {
+        prove!(self.is_live(ctx), "the operation is not live");
+        prove!(i < self.get_num_results(ctx), "there is none at this place");
         ctx.nodes.op(self).result_types[i]
     }
 
@@ -278,6 +291,8 @@ impl Ptr<Operation> {
         ensures live { IsValueLive ctx.now result }
         ensures whole { IsWellFormed D.attr_handles ctx.now }
     {
+        prove!(self.is_live(ctx), "the operation is not live");
+        prove!(i < self.get_num_results(ctx), "there is none at this place");
         let _types = &ctx.types;
         Value::new(DefiningEntity::Op(self), i)
     }
@@ -288,6 +303,7 @@ impl Ptr<Operation> {
         ensures value { result ≡ length (operands_of ctx.now self) }
         ensures whole { IsWellFormed D.attr_handles ctx.now }
     {
+        prove!(self.is_live(ctx), "the operation is not live");
         ctx.nodes.op(self).operands.len()
     }
 
@@ -299,6 +315,8 @@ impl Ptr<Operation> {
         ensures live { IsValueLive ctx.now result }
         ensures whole { IsWellFormed D.attr_handles ctx.now }
     {
+        prove!(self.is_live(ctx), "the operation is not live");
+        prove!(i < self.get_num_operands(ctx), "there is none at this place");
         ctx.nodes.op(self).operands[i]
     }
 
@@ -308,6 +326,7 @@ impl Ptr<Operation> {
         ensures value { result ≡ length (successors_of ctx.now self) }
         ensures whole { IsWellFormed D.attr_handles ctx.now }
     {
+        prove!(self.is_live(ctx), "the operation is not live");
         ctx.nodes.op(self).successors.len()
     }
 
@@ -319,6 +338,8 @@ impl Ptr<Operation> {
         ensures live { IsLive ctx.now (IRNode.BasicBlock result) }
         ensures whole { IsWellFormed D.attr_handles ctx.now }
     {
+        prove!(self.is_live(ctx), "the operation is not live");
+        prove!(i < self.get_num_successors(ctx), "there is none at this place");
         ctx.nodes.op(self).successors[i]
     }
 
@@ -329,6 +350,7 @@ impl Ptr<Operation> {
         ensures live { HandlesLive D.attr_handles ctx.now.types (attributes_of ctx.now self) }
         ensures whole { IsWellFormed D.attr_handles ctx.now }
     {
+        prove!(self.is_live(ctx), "the operation is not live");
         &ctx.nodes.op(self).attributes
     }
 
@@ -348,6 +370,7 @@ impl Ptr<Operation> {
         ensures err { OnErr result (ctx.new ≡ ctx.old) }
         ensures whole { IsWellFormed D.attr_handles ctx.new }
     {
+        prove!(self.is_live(ctx), "the operation is not live");
         ctx.nodes.op_mut(self).attributes.insert(key, value)?;
         Ok(())
     }
@@ -362,6 +385,10 @@ impl Ptr<Operation> {
         ensures placed { IsPlacedLast ctx.old.nodes ctx.new.nodes (IRNode.Operation self) (IRNode.BasicBlock block) }
         ensures whole { IsWellFormed D.attr_handles ctx.new }
     {
+        prove!(self.is_live(ctx), "the operation is not live");
+        prove!(block.is_live(ctx), "the block is not live");
+        prove!(self.get_parent_block(ctx).is_none(), "the operation stands in a block already");
+        prove!(!IRNode::Operation(self).is_ancestor(IRNode::BasicBlock(block), ctx), "the operation stands above its new place");
         ctx.nodes.push_op(self, block);
     }
 }

@@ -26,6 +26,7 @@ impl Ptr<Region> {
         ensures live { IfSome result (λ op. IsLive ctx.now (IRNode.Operation op)) }
         ensures whole { IsWellFormed D.attr_handles ctx.now }
     {
+        prove!(self.is_live(ctx), "the region is not live");
         ctx.nodes.parent_of_region(self)
     }
 
@@ -36,6 +37,7 @@ impl Ptr<Region> {
             (λ n. slice_get (children ctx.now n) result ≡ Some (IRNode.Region self)) }
         ensures whole { IsWellFormed D.attr_handles ctx.now }
     {
+        prove!(self.is_live(ctx), "the region is not live");
         ctx.nodes.place_of_region(self)
     }
 
@@ -48,6 +50,7 @@ impl Ptr<Region> {
             (IRNode.Region self)) }
         ensures whole { IsWellFormed D.attr_handles ctx.now }
     {
+        prove!(self.is_live(ctx), "the region is not live");
         ctx.nodes.next_region(self)
     }
 
@@ -60,6 +63,7 @@ impl Ptr<Region> {
             (IRNode.Region self)) }
         ensures whole { IsWellFormed D.attr_handles ctx.now }
     {
+        prove!(self.is_live(ctx), "the region is not live");
         ctx.nodes.prev_region(self)
     }
 
@@ -72,6 +76,7 @@ impl Ptr<Region> {
             ≡ Some (IRNode.Region self)) }
         ensures whole { IsWellFormed D.attr_handles ctx.now }
     {
+        prove!(self.is_live(ctx), "the region is not live");
         ctx.nodes.first_block(self)
     }
 
@@ -84,6 +89,7 @@ impl Ptr<Region> {
             ≡ Some (IRNode.Region self)) }
         ensures whole { IsWellFormed D.attr_handles ctx.now }
     {
+        prove!(self.is_live(ctx), "the region is not live");
         ctx.nodes.last_block(self)
     }
 
@@ -96,6 +102,7 @@ impl Ptr<Region> {
             ≡ Some (IRNode.Region self)) }
         ensures whole { IsWellFormed D.attr_handles ctx.now }
     {
+        prove!(self.is_live(ctx), "the region is not live");
         self.get_head(ctx)
     }
 }

@@ -2,7 +2,7 @@
 ghost use Rattle.std.specs.Prelude.{◌≡◌, Bool};
 ghost use Rattle.plir_passes.specs.Dead.{is_removable};
 
-use plir_data::{KindSet, OpKind, OpSet, OwnKind};
+use plir_data::{KindSet, NoMeaning, OpKind, OpSet, OwnKind};
 
 /// An op set that tells which of its kinds have an effect.
 pub trait EffectSet: OpSet {
@@ -29,6 +29,17 @@ impl<K: EffectKind> EffectSet for KindSet<K> {
 
     fn has_effect(kind: K) -> bool {
         kind.has_effect()
+    }
+}
+
+impl EffectKind for NoMeaning {
+    ghost use Rattle.std.specs.Prelude.{true};
+
+    ghost has_effect = { λ _. true };
+
+    /// Answers yes: no builtin operation is of this kind.
+    fn has_effect(self) -> bool {
+        true
     }
 }
 

@@ -42,6 +42,7 @@ impl Ptr<Operation> {
         ensures err { OnErr result (ctx.new ≡ ctx.old) }
         ensures whole { IsWellFormed D.attr_handles ctx.new }
     {
+        prove!(self.is_live(ctx), "the operation is not live");
         ctx.nodes.op_mut(self).operands.insert(i, value)?;
         ctx.uses.raise_value(value);
         Ok(())
@@ -56,6 +57,8 @@ impl Ptr<Operation> {
         ensures after { ctx.new ≡ with_op_edit ctx.old self (λ o. record o { operands = remove o.operands i }) }
         ensures whole { IsWellFormed D.attr_handles ctx.new }
     {
+        prove!(self.is_live(ctx), "the operation is not live");
+        prove!(i < self.get_num_operands(ctx), "there is none at this place");
         let value = ctx.nodes.op_mut(self).operands.remove(i);
         ctx.uses.lower_value(value);
         value
@@ -70,6 +73,8 @@ impl Ptr<Operation> {
             (λ o. record o { operands = slice_set o.operands i value }) }
         ensures whole { IsWellFormed D.attr_handles ctx.new }
     {
+        prove!(self.is_live(ctx), "the operation is not live");
+        prove!(i < self.get_num_operands(ctx), "there is none at this place");
         let replaced = self.get_operand(ctx, i);
         ctx.nodes.op_mut(self).operands[i] = value;
         ctx.uses.raise_value(value);
@@ -85,6 +90,7 @@ impl Ptr<Operation> {
             (λ o. record o { attributes = dict_without o.attributes key.now }) }
         ensures whole { IsWellFormed D.attr_handles ctx.new }
     {
+        prove!(self.is_live(ctx), "the operation is not live");
         ctx.nodes.op_mut(self).attributes.remove(key)
     }
 
@@ -107,6 +113,7 @@ impl Ptr<Operation> {
         ensures same { OnErr result (ctx.new ≡ ctx.old) }
         ensures whole { IsWellFormed D.attr_handles ctx.new }
     {
+        prove!(self.is_live(ctx), "the operation is not live");
         ctx.nodes.op_mut(self).attributes.replace(key, value)
     }
 
@@ -116,6 +123,7 @@ impl Ptr<Operation> {
         ensures value { location_of ctx.now self ≡ Some result }
         ensures whole { IsWellFormed D.attr_handles ctx.now }
     {
+        prove!(self.is_live(ctx), "the operation is not live");
         ctx.nodes.op(self).location
     }
 
@@ -125,6 +133,7 @@ impl Ptr<Operation> {
         ensures after { ctx.new ≡ with_op_edit ctx.old self (λ o. record o { location = location }) }
         ensures whole { IsWellFormed D.attr_handles ctx.new }
     {
+        prove!(self.is_live(ctx), "the operation is not live");
         ctx.nodes.op_mut(self).location = location;
     }
 
@@ -138,6 +147,10 @@ impl Ptr<Operation> {
         ensures placed { IsPlacedFirst ctx.old.nodes ctx.new.nodes (IRNode.Operation self) (IRNode.BasicBlock block) }
         ensures whole { IsWellFormed D.attr_handles ctx.new }
     {
+        prove!(self.is_live(ctx), "the operation is not live");
+        prove!(block.is_live(ctx), "the block is not live");
+        prove!(self.get_parent_block(ctx).is_none(), "the operation stands in a block already");
+        prove!(!IRNode::Operation(self).is_ancestor(IRNode::BasicBlock(block), ctx), "the operation stands above its new place");
         ctx.nodes.push_op_front(self, block);
     }
 
@@ -152,6 +165,11 @@ impl Ptr<Operation> {
         ensures placed { IsPlacedBefore ctx.old.nodes ctx.new.nodes (IRNode.Operation self) (IRNode.Operation mark) }
         ensures whole { IsWellFormed D.attr_handles ctx.new }
     {
+        prove!(self.is_live(ctx), "the operation is not live");
+        prove!(mark.is_live(ctx), "the operation is not live");
+        prove!(self.get_parent_block(ctx).is_none(), "the operation stands in a block already");
+        prove!(mark.get_parent_block(ctx).is_some(), "the operation that marks the place stands in no block");
+        prove!(!IRNode::Operation(self).is_ancestor(IRNode::Operation(mark), ctx), "the operation stands above its new place");
         ctx.nodes.insert_op_before(self, mark);
     }
 
@@ -166,6 +184,11 @@ impl Ptr<Operation> {
         ensures placed { IsPlacedBehind ctx.old.nodes ctx.new.nodes (IRNode.Operation self) (IRNode.Operation mark) }
         ensures whole { IsWellFormed D.attr_handles ctx.new }
     {
+        prove!(self.is_live(ctx), "the operation is not live");
+        prove!(mark.is_live(ctx), "the operation is not live");
+        prove!(self.get_parent_block(ctx).is_none(), "the operation stands in a block already");
+        prove!(mark.get_parent_block(ctx).is_some(), "the operation that marks the place stands in no block");
+        prove!(!IRNode::Operation(self).is_ancestor(IRNode::Operation(mark), ctx), "the operation stands above its new place");
         ctx.nodes.insert_op_after(self, mark);
     }
 
@@ -176,6 +199,7 @@ impl Ptr<Operation> {
         ensures unlinked { IsUnlinked ctx.old.nodes ctx.new.nodes (IRNode.Operation self) }
         ensures whole { IsWellFormed D.attr_handles ctx.new }
     {
+        prove!(self.is_live(ctx), "the operation is not live");
         ctx.nodes.unlink_op(self);
     }
 }
@@ -199,6 +223,7 @@ impl Operation {
         ensures too_many { (result ≡ Err NodeErr.TooManyNodes) ↔ IsFullForRegion ctx.old.nodes }
         ensures whole { IsWellFormed D.attr_handles ctx.new }
     {
+        prove!(op.is_live(ctx), "the operation is not live");
         let region = ctx.nodes.make_region(op)?;
         Ok(region)
     }
@@ -215,6 +240,7 @@ impl Operation {
         ensures left { children ctx.new (IRNode.Operation op) ≡ remove (children ctx.old (IRNode.Operation op)) i }
         ensures whole { IsWellFormed D.attr_handles ctx.new }
     {
+        prove!(op.is_live(ctx), "the operation is not live");
         let region = op.get_region(ctx, i);
         erase_tree(IRNode::Region(region), ctx);
     }

@@ -1,0 +1,4 @@
+mod Lines
+mod Verifying
+mod Passing
+mod Printing

@@ -1,0 +1,9 @@
+use Rattle.plir_core.specs.declared.ptr.IRNode.TheVariants.{Operation}
+use Rattle.plir_core.specs.ContextView.{IsLive}
+use Rattle.plir_opt.proofs.Passing.{Leads}
+use Rattle.plir_opt.proofs.transform.run_passes.Given as goal
+
+abbrev pub invariant-loop-pass : goal.invariant-loop-pass
+invariant-loop-pass g l =
+    IsLive l.ctx (Operation l.root)
+    × Leads g.D.EffectSet.has_effect g.D.OpSet.is_terminator l.root l.passes l.pass-index l.fn.ctx l.ctx

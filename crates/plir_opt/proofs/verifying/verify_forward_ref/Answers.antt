@@ -1,0 +1,8 @@
+use Rattle.std.proofs.Common.{sym, subst}
+use Rattle.plir_core.specs.declared.ptr.IRNode.TheVariants.{Operation}
+use Rattle.plir_core.specs.ContextView.{IsLive}
+use Rattle.plir_opt.proofs.verifying.verify_forward_ref.Goals as goal
+
+pub verify_interfaces-requires : goal.verify_interfaces-requires
+verify_interfaces-requires g c =
+    subst (λ p. IsLive c.args.ctx.now (Operation p)) (sym c.in-Some.ensures.same) c.requires.live

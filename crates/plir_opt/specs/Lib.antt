@@ -1,0 +1,10 @@
+-- What the contracts of this crate cite.
+--
+--   Passed       IsPassed: what a pass leaves; ArePassed: what passes leave, one after another
+--   Verified     IsVerified: an operation and all below it have the rules of their kinds
+--   Excerpt      excerpt_of: a line of a text, and a caret below one of its columns
+--   Transformed  IsTransformed: what is printed for a text
+pub mod Passed
+pub mod Verified
+pub mod Excerpt
+pub mod Transformed

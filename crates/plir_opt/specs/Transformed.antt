@@ -1,0 +1,27 @@
+-- What is printed for a text.
+use Rattle.std.specs.Prelude.{◌≡◌, ℕ, Bool, List, ◌++◌, codes}
+use Rattle.plir_data.specs.declared.op_set.OpSet as op_set
+use Rattle.plir_core.specs.declared.ptr.Ptr.{Ptr}
+use Rattle.plir_core.specs.declared.ptr.Operation.{Operation as OperationKind}
+use Rattle.plir_core.specs.declared.ptr.IRNode.TheVariants.{Operation}
+use Rattle.plir_core.specs.ContextView.{ContextView}
+use Rattle.plir_read.specs.OpsStanding.{StandsForOp}
+use Rattle.plir_print.specs.OpText.{op_text}
+use Rattle.plir_opt.specs.declared.choices.Form.{Form}
+use Rattle.plir_opt.specs.declared.choices.Form.TheVariants.{Text}
+use Rattle.plir_opt.specs.declared.choices.Pass.{Pass}
+use Rattle.plir_opt.specs.Passed.{ArePassed}
+use Rattle.plir_opt.specs.Verified.{IsVerified}
+
+-- A text stands for an operation, which with all below it has the rules of its kind; the passes have gone over it, one
+-- after another; and where a text is asked for, what is printed is the operation's text then, and a line feed.
+pub record IsTransformed {D K A T E : Type 0} (o : op_set.Ghosts D K A T E) (effect : K → Bool)
+    (uses_hold : ContextView K A T → Ptr OperationKind → Type 0) (passes : List Pass) (form : Form)
+    (text printed : List ℕ) : Type 0 where
+  pub root : Ptr OperationKind
+  pub read : ContextView K A T
+  pub left : ContextView K A T
+  pub stands : StandsForOp 200 read text (Operation root)
+  pub verified : IsVerified o uses_hold read root
+  pub passed : ArePassed effect o.is_terminator root passes read left
+  pub prints : form ≡ Text → printed ≡ op_text o left root ++ codes "\n"

@@ -1,0 +1,32 @@
+//! What is done with an operation, and how it is printed.
+
+/// A pass over an operation and all below it.
+#[derive(Clone, Copy, Debug, PartialEq, Eq)]
+pub enum Pass {
+    /// Takes out the names of results and arguments, and the labels of blocks.
+    EraseNames,
+    /// Erases dead operations.
+    Dce,
+}
+
+/// How an operation is printed.
+#[derive(Clone, Copy, Debug, PartialEq, Eq)]
+pub enum Form {
+    /// As the text that is read back.
+    Text,
+    /// A line for each node.
+    Walk,
+    /// A graph in DOT.
+    View,
+}
+
+/// What a command line asks for.
+#[derive(Drop)]
+pub struct Choices {
+    /// Whether the operation is verified behind each pass too.
+    pub verify: bool,
+    /// The passes, in the order in which they run.
+    pub passes: Vec<Pass>,
+    /// How the operation is printed.
+    pub form: Form,
+}

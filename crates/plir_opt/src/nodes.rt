@@ -1,0 +1,51 @@
+//! How a node is named: `op1v1 builtin.module @main`, `region1v1`, `block1v1`.
+ghost use Rattle.plir_core.specs.ContextView.{IsLive};
+ghost use Rattle.plir_core.specs.declared.ptr.IRNode.{IRNode as AnyNode};
+
+use plir_builtin::ATTR_KEY_SYM_NAME;
+use plir_core::{Context, IRNode, Operation, Ptr};
+use plir_data::{AttrObj, OpKind, OpSet};
+use std::alloc::AllocError;
+
+// The id of a kind of operations, as `dialect.name`.
+fn id_of<D: OpSet>(kind: OpKind<D::Kind>) -> &'static str {
+    match kind {
+        OpKind::Module => "builtin.module",
+        OpKind::Func => "builtin.func",
+        OpKind::Constant => "builtin.constant",
+        OpKind::ForwardRef => "builtin.forward_ref",
+        OpKind::Own(own) => D::kind_id(own),
+    }
+}
+
+/// Puts the name of a node: its kind, its slot's number and version, and of an operation its id, and its name as a
+/// symbol, if it has one.
+pub fn put_node<D: OpSet>(
+    out: &mut String,
+    ctx: &Context<D>,
+    node: IRNode,
+) -> Result<(), AllocError>
+    requires { IsLive ctx.now node }
+{
+    write!(out, "{node}")?;
+    match node {
+        IRNode::Operation(op) => put_op(out, ctx, op),
+        IRNode::Region(_) | IRNode::BasicBlock(_) => Ok(()),
+    }
+}
+
+fn put_op<D: OpSet>(
+    out: &mut String,
+    ctx: &Context<D>,
+    op: Ptr<Operation>,
+) -> Result<(), AllocError>
+    requires { IsLive ctx.now (AnyNode.Operation op) }
+{
+    let id = id_of::<D>(op.kind(ctx));
+    write!(out, " {id}")?;
+    if let Some(AttrObj::Identifier(name)) = op.attributes(ctx).get(ATTR_KEY_SYM_NAME) {
+        let name = name.as_ref().as_str();
+        write!(out, " @{name}")?;
+    }
+    Ok(())
+}

@@ -1,0 +1,308 @@
+//! Texts, and what is printed or told of them.
+use crate::choices::{Form, Pass};
+use crate::command_line::{choose, command};
+use crate::excerpt::excerpt;
+use crate::stop::Stop;
+use crate::telling::tell;
+use crate::transform::transform;
+use plir_data::{BuiltinSet, NeverRefused};
+use std::alloc::Global;
+use std::process::Abort;
+use std::test::Fail;
+
+/// A function with a constant, in a module; block, argument and constant have names.
+const NAMED: &str = "builtin.module @m {^b():
+  builtin.func @f: builtin.function <(builtin.unit)->()> {
+  ^entry(x: builtin.unit): c0 = builtin.constant <builtin.integer <7: si8>> : builtin.integer si8}}";
+
+const MODULE: &str = "builtin.module @m \n{\n";
+
+const FUNC: &str = "    builtin.func @f: builtin.function <(builtin.unit)->()> \n    {\n";
+
+const CONSTANT: &str = "builtin.constant <builtin.integer <7: si8>> : builtin.integer si8\n";
+
+const ENDS: &str = "    }\n}\n";
+
+/// What the words of a command line make of a text.
+fn answer(
+    alloc: Global,
+    words: &[&str],
+    text: &[u8],
+) -> Result<Result<String, Stop<NeverRefused>>, Fail> {
+    let matches = command(alloc)?.try_get_matches_from(words)?;
+    let choices = choose(alloc, &matches)?;
+    Ok(transform::<BuiltinSet>(alloc, &choices, text))
+}
+
+/// Under a command line a text is printed like this.
+fn expect(
+    rt: &impl Abort,
+    alloc: Global,
+    words: &[&str],
+    text: &str,
+    printed: &[&str],
+) -> Result<(), Fail> {
+    let mut wanted = String::new(alloc);
+    for part in printed {
+        wanted.push_str(part)?;
+    }
+    let found = answer(alloc, words, text.as_bytes())??;
+    assert_eq!(rt; found.as_str(), wanted.as_str());
+    Ok(())
+}
+
+/// A text is refused, and this is told of it.
+fn expect_told(rt: &impl Abort, alloc: Global, text: &[u8], told: &str) -> Result<(), Fail> {
+    let words = ["plir_opt", "--dce"];
+    let mut found = Vec::new(alloc);
+    match answer(alloc, words.as_slice(), text)? {
+        Ok(_) => return Err(Fail::from("the text is not refused")),
+        Err(stop) => tell(alloc, &mut found, "m.plir", text, &stop)?,
+    }
+    assert_eq!(rt; found.as_slice(), told.as_bytes());
+    Ok(())
+}
+
+#[test]
+fn a_text_is_printed(rt: HostRuntime) -> Result<(), Fail> {
+    expect(
+        &rt,
+        rt.alloc(),
+        ["plir_opt"].as_slice(),
+        NAMED,
+        [
+            MODULE,
+            "  ^b_block1v1():\n",
+            FUNC,
+            "      ^entry_block2v1(x_block2v1_arg0: builtin.unit):\n        c0_op3v1_res0 = ",
+            CONSTANT,
+            ENDS,
+        ]
+        .as_slice(),
+    )
+}
+
+#[test]
+fn names_and_labels_are_erased(rt: HostRuntime) -> Result<(), Fail> {
+    expect(
+        &rt,
+        rt.alloc(),
+        ["plir_opt", "--erase-names", "--verify"].as_slice(),
+        NAMED,
+        [
+            MODULE,
+            "  ^block1v1():\n",
+            FUNC,
+            "      ^block2v1(block2v1_arg0: builtin.unit):\n        op3v1_res0 = ",
+            CONSTANT,
+            ENDS,
+        ]
+        .as_slice(),
+    )
+}
+
+#[test]
+fn a_constant_that_nothing_uses_is_erased(rt: HostRuntime) -> Result<(), Fail> {
+    expect(
+        &rt,
+        rt.alloc(),
+        ["plir_opt", "m.plir", "--dce"].as_slice(),
+        NAMED,
+        [
+            MODULE,
+            "  ^b_block1v1():\n",
+            FUNC,
+            "      ^entry_block2v1(x_block2v1_arg0: builtin.unit):\n",
+            ENDS,
+        ]
+        .as_slice(),
+    )
+}
+
+#[test]
+fn the_root_stays(rt: HostRuntime) -> Result<(), Fail> {
+    expect(
+        &rt,
+        rt.alloc(),
+        ["plir_opt", "--verify", "--dce"].as_slice(),
+        "x = builtin.constant <builtin.integer <0: ui1>> : builtin.integer ui1",
+        [
+            "x_op1v1_res0 = builtin.constant <builtin.integer <0: ui1>> : builtin.integer ui1\n",
+        ].as_slice(),
+    )
+}
+
+#[test]
+fn nodes_are_listed_with_parents_first(rt: HostRuntime) -> Result<(), Fail> {
+    expect(
+        &rt,
+        rt.alloc(),
+        ["plir_opt", "--walk"].as_slice(),
+        "builtin.module @m {^b(): builtin.func @f: builtin.function <()->()> {^a(): ^c():}; builtin.module @n {^d():}}",
+        [
+            "op1v1 builtin.module @m\n",
+            "  region1v1\n",
+            "    block1v1\n",
+            "      op2v1 builtin.func @f\n",
+            "        region2v1\n",
+            "          block2v1\n",
+            "          block3v1\n",
+            "      op3v1 builtin.module @n\n",
+            "        region3v1\n",
+            "          block4v1\n",
+        ]
+        .as_slice(),
+    )
+}
+
+#[test]
+fn a_graph_has_a_box_for_each_node_and_an_arrow_to_each_child(rt: HostRuntime) -> Result<(), Fail> {
+    expect(
+        &rt,
+        rt.alloc(),
+        ["plir_opt", "--view"].as_slice(),
+        "builtin.module @m {^b(): x = builtin.constant <builtin.integer <0: si8>> : builtin.integer si8}",
+        [
+            "digraph plir {\n  node [shape=box];\n",
+            "  op1v1 [label=\"op1v1 builtin.module @m\"];\n",
+            "  region1v1 [label=\"region1v1\"];\n  op1v1 -> region1v1;\n",
+            "  block1v1 [label=\"block1v1\"];\n  region1v1 -> block1v1;\n",
+            "  op2v1 [label=\"op2v1 builtin.constant\"];\n  block1v1 -> op2v1;\n}\n",
+        ]
+        .as_slice(),
+    )
+}
+
+#[test]
+fn passes_run_in_the_order_of_the_command_line(rt: HostRuntime) -> Result<(), Fail> {
+    let alloc = rt.alloc();
+    let orders = [
+        (
+            ["plir_opt", "--dce", "--erase-names"],
+            [Pass::Dce, Pass::EraseNames],
+        ),
+        (
+            ["plir_opt", "--erase-names", "--dce"],
+            [Pass::EraseNames, Pass::Dce],
+        ),
+    ];
+    for (words, passes) in &orders {
+        let matches = command(alloc)?.try_get_matches_from(words.as_slice())?;
+        let choices = choose(alloc, &matches)?;
+        assert_eq!(rt; choices.passes.as_slice(), passes.as_slice());
+        assert_eq!(rt; choices.form, Form::Text);
+        assert!(rt; !choices.verify);
+    }
+    Ok(())
+}
+
+#[test]
+fn a_wrong_command_line_is_refused_with_the_status_2(rt: HostRuntime) -> Result<(), Fail> {
+    let alloc = rt.alloc();
+    let lines = [
+        ["plir_opt", "--walk", "--view"],
+        ["plir_opt", "--dce", "--dce"],
+        ["plir_opt", "m.plir", "n.plir"],
+        ["plir_opt", "--walks", "m.plir"],
+    ];
+    for words in &lines {
+        match command(alloc)?.try_get_matches_from(words.as_slice()) {
+            Ok(_) => return Err(Fail::from("the command line is not refused")),
+            Err(error) => assert_eq!(rt; error.exit_code(), 2),
+        }
+    }
+    Ok(())
+}
+
+#[test]
+fn a_fault_is_told_with_its_line_and_a_caret(rt: HostRuntime) -> Result<(), Fail> {
+    let alloc = rt.alloc();
+    expect_told(
+        &rt,
+        alloc,
+        b"builtin.module @m {\n\t^b():\n\tbuiltin.func f\n}",
+        "m.plir:3:15: no token that can stand there\n\tbuiltin.func f\n\t             ^\n",
+    )?;
+    expect_told(
+        &rt,
+        alloc,
+        b"",
+        "m.plir:1:1: no token that can stand there\n\n^\n",
+    )?;
+    expect_told(
+        &rt,
+        alloc,
+        b"x = builtin.module @m {}\n",
+        "m.plir:1:5: Expected 0 result(s), but found 1 results\nx = builtin.module @m {}\n    ^\n",
+    )?;
+    // The text ends within a string, behind a character of two bytes.
+    expect_told(
+        &rt,
+        alloc,
+        b"x = builtin.constant <builtin.string \"\xc3\xa9",
+        "m.plir:1:40: no token that can stand there\n\
+x = builtin.constant <builtin.string \"\u{e9}\n                                       ^\n",
+    )
+}
+
+#[test]
+fn an_operation_that_breaks_a_rule_is_refused(rt: HostRuntime) -> Result<(), Fail> {
+    let alloc = rt.alloc();
+    expect_told(
+        &rt,
+        alloc,
+        b"builtin.module @m {^b():
+            builtin.func @f: builtin.function <()->()> {^a():};
+            builtin.func @f: builtin.function <()->()> {^a():}}",
+        "m.plir: Multiple definitions of Symbol f\n",
+    )?;
+    expect_told(
+        &rt,
+        alloc,
+        b"builtin.module @m {^b(): builtin.module @n {}}",
+        "m.plir: Op builtin.module must only have regions with single block\n",
+    )?;
+    expect_told(
+        &rt,
+        alloc,
+        b"x = builtin.constant <builtin.integer <0: si64>> : builtin.integer si32",
+        "m.plir: The value attribute is of type builtin.integer si64, but the constant is of type builtin.integer si32\n",
+    )
+}
+
+#[test]
+fn bytes_that_are_no_text_are_refused(rt: HostRuntime) -> Result<(), Fail> {
+    expect_told(
+        &rt,
+        rt.alloc(),
+        b"builtin.module @m {^b():}\xff",
+        "m.plir: not UTF-8\n",
+    )
+}
+
+#[test]
+fn a_caret_stands_below_its_column(rt: HostRuntime) -> Result<(), Fail> {
+    let alloc = rt.alloc();
+    let text = b"ab\n\tc\xe2\x82\xacd\n";
+    assert_eq!(rt;
+        excerpt(alloc, text.as_slice(), 1, 1)?.as_slice(),
+        b"ab\n^\n".as_slice()
+    );
+    assert_eq!(rt;
+        excerpt(alloc, text.as_slice(), 1, 3)?.as_slice(),
+        b"ab\n  ^\n".as_slice()
+    );
+    assert_eq!(rt;
+        excerpt(alloc, text.as_slice(), 2, 4)?.as_slice(),
+        b"\tc\xe2\x82\xacd\n\t  ^\n".as_slice()
+    );
+    assert_eq!(rt;
+        excerpt(alloc, text.as_slice(), 3, 1)?.as_slice(),
+        b"\n^\n".as_slice()
+    );
+    assert_eq!(rt;
+        excerpt(alloc, text.as_slice(), 9, 9)?.as_slice(),
+        b"\n^\n".as_slice()
+    );
+    Ok(())
+}

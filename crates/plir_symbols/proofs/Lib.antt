@@ -1,0 +1,10 @@
+pub mod NameSets
+pub mod NamesWalked
+pub mod Thinning
+pub mod Bodies
+pub mod Rest
+pub mod Erasing
+pub mod Going
+pub mod SweepLoop
+pub mod Scans
+pub mod Lent
