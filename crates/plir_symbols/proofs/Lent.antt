@@ -23,11 +23,9 @@ some-is (Some x) h = (x, refl)
 
 -- The table `tab` is lent for p out of the tables c, the context goes from s to t, and the table to u.
 module _ {K A T : Type 0} (own own_table : K → Bool) (s : ContextView K A T) (c : Tables) (p : Ptr OperationKind) (tab : Table) (lent : AgreesAsLent own own_table s c p tab) where
-  pub lent-live : IsLive s (Operation p) → IsLive s (Operation tab.op)
-  lent-live l = subst (λ q. IsLive s (Operation q)) (sym lent.0) l
-
-  pub lent-body : IsSome (body s tab.op)
-  lent-body = lent.1.good.body
+  -- it is ready
+  pub lent-ready : IsLive s (Operation p) → (tab.op ≡ p) × IsLive s (Operation tab.op) × IsSome (body s tab.op)
+  lent-ready l = (lent.0, subst (λ q. IsLive s (Operation q)) (sym lent.0) l, lent.1.good.body)
 
   pub lent-good : IsGood own own_table s p
   lent-good = subst (IsGood own own_table s) lent.0 lent.1.good
@@ -42,10 +40,12 @@ module _ {K A T : Type 0} (own own_table : K → Bool) (s : ContextView K A T) (
           subst (AllAgree own own_table t) (sym put)
           (subst (λ q. AllAgree own own_table t (insert c q u)) lent.0 (kept.all_agree c (subst (λ q. AllAgree own own_table s (insert c q tab)) (sym lent.0) lent.2)))
 
-      pub kept-given : AreGivenOut s (insert c p tab) → AreGivenOut t n
-      kept-given given =
-          subst (AreGivenOut t) (sym put)
-          (subst (λ q. AreGivenOut t (insert c q u)) lent.0 (kept.given c (subst (λ q. AreGivenOut s (insert c q tab)) (sym lent.0) given)))
+-- What was given out: by the table's own operation alone.
+module _ {K A T : Type 0} (own own_table : K → Bool) (s : ContextView K A T) (c : Tables) (p : Ptr OperationKind) (tab : Table) (is : tab.op ≡ p) (t : ContextView K A T) (u : Table) (kept : IsTableKept own own_table s tab t u) where
+  pub kept-given : (n : Tables) → n ≡ insert c p u → AreGivenOut s (insert c p tab) → AreGivenOut t n
+  kept-given n put given =
+      subst (AreGivenOut t) (sym put)
+      (subst (λ q. AreGivenOut t (insert c q u)) is (kept.given c (subst (λ q. AreGivenOut s (insert c q tab)) (sym is) given)))
 
 -- scans of a good table, where its body stayed
 module _ {K A T : Type 0} (own own_table : K → Bool) (s t : ContextView K A T) (p : Ptr OperationKind) where

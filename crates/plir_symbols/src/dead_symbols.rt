@@ -18,7 +18,7 @@ use plir_builtin::{
 };
 use plir_core::laws::{first_child_is_front, next_is_behind};
 use plir_core::{BasicBlock, Context, IRNode, Operation, Ptr};
-use plir_data::Memory;
+use plir_data::{Memory, OpSet};
 use plir_walk::laws::erasures_thin;
 use std::alloc::Global;
 
@@ -122,10 +122,19 @@ fn sweep_table<D: SymbolNames>(
     }
 }
 
+// Whether a table is that of an operation, which is live and has a body. Where all tables agree, that is so for each
+// that is cached for a live operation.
+fn is_ready<D: OpSet>(ctx: &Context<D>, cached: &SymbolTable, op: Ptr<Operation>) -> bool
+    ensures { IsTrue result ↔ ((cached.now.op ≡ op) × IsLive ctx.now (AnyNode.Operation cached.now.op) ×
+        IsSome (body ctx.now cached.now.op)) }
+{
+    cached.get_operation() == op && cached.has_body(ctx)
+}
+
 /// Erases the dead symbols of a table, each with all below it, until none is left: those in its body that are private,
 /// whose name no operation at or below the table uses, not even one below the symbol itself, and of whose tree nothing
-/// outside uses a value or a block. All else stays as it was, in its order, and all tables of the collection agree
-/// afterwards; the table is then cached.
+/// outside uses a value or a block. All else stays as it was, in its order. The table is then cached, and where all
+/// tables of the collection agreed they do still.
 ///
 /// A round takes one walk of the table's tree, which puts the names that are used into a hashed set, and one look at
 /// each symbol. What a symbol uses that goes may go in the next round, so there is one round more than the longest
@@ -135,7 +144,8 @@ fn sweep_table<D: SymbolNames>(
 /// # Errors
 ///
 /// As [`SymbolTable::new`], where no table is cached: then nothing has changed. `Memory` also midway: then symbols may
-/// be gone that were dead, and all tables agree.
+/// be gone that were dead. `DoesNotImplementSymbolTableInterface` also where the table that is cached is another
+/// operation's, or there is no body, which no collection in agreement meets.
 pub fn eliminate_dead_symbols<D: SymbolNames>(
     alloc: Global,
     ctx: &mut Context<D>,
@@ -143,20 +153,25 @@ pub fn eliminate_dead_symbols<D: SymbolNames>(
     table: Ptr<Operation>,
 ) -> Result<(), SymbolTableErr>
     requires live { IsLive ctx.old (AnyNode.Operation table) }
-    requires agree { AllAgree D.is_symbol D.is_symbol_table ctx.old tables.old }
     ensures swept { AreSwept D.is_symbol D.is_private D.names_used ctx.old table ctx.new }
     ensures clean { OnOk result (HasNoDead D.is_symbol D.is_private D.names_used ctx.new table) }
-    ensures good { OnOk result (IsGood D.is_symbol D.is_symbol_table ctx.old table ×
+    ensures good { AllAgree D.is_symbol D.is_symbol_table ctx.old tables.old →
+        OnOk result (IsGood D.is_symbol D.is_symbol_table ctx.old table ×
         IsGood D.is_symbol D.is_symbol_table ctx.new table) }
     ensures scans { IsGood D.is_symbol D.is_symbol_table ctx.old table →
         AreScansLeft D.is_symbol ctx.old table ctx.new }
-    ensures agree { AllAgree D.is_symbol D.is_symbol_table ctx.new tables.new }
+    ensures agree { AllAgree D.is_symbol D.is_symbol_table ctx.old tables.old →
+        AllAgree D.is_symbol D.is_symbol_table ctx.new tables.new }
     ensures given { AreGivenOut ctx.old tables.old → AreGivenOut ctx.new tables.new }
-    ensures refused { IfErr result (Tells (TableRefused D.is_symbol D.is_symbol_table ctx.old table)) }
+    ensures refused { AllAgree D.is_symbol D.is_symbol_table ctx.old tables.old →
+        IfErr result (Tells (TableRefused D.is_symbol D.is_symbol_table ctx.old table)) }
 {
     ctx.stands();
     erasures_thin(ctx);
     let cached = tables.get_symbol_table(ctx, table)?;
+    if !is_ready(ctx, cached, table) {
+        return Err(SymbolTableErr::DoesNotImplementSymbolTableInterface);
+    }
     sweep_table(alloc, ctx, cached)?;
     Ok(())
 }

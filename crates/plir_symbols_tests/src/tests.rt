@@ -3,7 +3,6 @@ ghost use Rattle.plir_core.specs.ContextView.{IsLive};
 ghost use Rattle.plir_core.specs.declared.ptr.IRNode.{IRNode as AnyNode};
 
 use crate::ToyKind;
-use plir_builtin::laws::no_tables_agree;
 use plir_builtin::{SymbolTableCollection, SymbolTableErr};
 use plir_core::{Context, Operation, Ptr};
 use plir_data::KindSet;
@@ -48,7 +47,6 @@ fn eliminate<D: SymbolNames>(
     requires { IsLive ctx.old (AnyNode.Operation table) }
 {
     let mut tables = SymbolTableCollection::new(alloc);
-    no_tables_agree(ctx);
     eliminate_dead_symbols(alloc, ctx, &mut tables, table)
 }
 
