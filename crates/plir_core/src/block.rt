@@ -246,7 +246,7 @@ impl Ptr<BasicBlock> {
         prove!(self.is_live(ctx), "the block is not live");
         prove!(region.is_live(ctx), "the region is not live");
         prove!(self.get_parent_region(ctx).is_none(), "the block stands in a region already");
-        prove!(!IRNode::BasicBlock(self).is_ancestor(IRNode::Region(region), ctx), "the block stands above its new place");
+        prove!(!IRNode::BasicBlock(self).is_ancestor(IRNode::Region(region), ctx), "it would stand in itself");
         ctx.nodes.push_block(self, region);
     }
 
@@ -319,7 +319,7 @@ impl Ptr<BasicBlock> {
         prove!(self.is_live(ctx), "the block is not live");
         prove!(region.is_live(ctx), "the region is not live");
         prove!(self.get_parent_region(ctx).is_none(), "the block stands in a region already");
-        prove!(!IRNode::BasicBlock(self).is_ancestor(IRNode::Region(region), ctx), "the block stands above its new place");
+        prove!(!IRNode::BasicBlock(self).is_ancestor(IRNode::Region(region), ctx), "it would stand in itself");
         ctx.nodes.push_block_front(self, region);
     }
 
@@ -338,7 +338,7 @@ impl Ptr<BasicBlock> {
         prove!(mark.is_live(ctx), "the block is not live");
         prove!(self.get_parent_region(ctx).is_none(), "the block stands in a region already");
         prove!(mark.get_parent_region(ctx).is_some(), "the block that marks the place stands in no region");
-        prove!(!IRNode::BasicBlock(self).is_ancestor(IRNode::BasicBlock(mark), ctx), "the block stands above its new place");
+        prove!(!IRNode::BasicBlock(self).is_ancestor(IRNode::BasicBlock(mark), ctx), "it would stand in itself");
         ctx.nodes.insert_block_before(self, mark);
     }
 
@@ -357,7 +357,7 @@ impl Ptr<BasicBlock> {
         prove!(mark.is_live(ctx), "the block is not live");
         prove!(self.get_parent_region(ctx).is_none(), "the block stands in a region already");
         prove!(mark.get_parent_region(ctx).is_some(), "the block that marks the place stands in no region");
-        prove!(!IRNode::BasicBlock(self).is_ancestor(IRNode::BasicBlock(mark), ctx), "the block stands above its new place");
+        prove!(!IRNode::BasicBlock(self).is_ancestor(IRNode::BasicBlock(mark), ctx), "it would stand in itself");
         ctx.nodes.insert_block_after(self, mark);
     }
 

@@ -43,6 +43,8 @@ impl Ptr<Operation> {
         ensures whole { IsWellFormed D.attr_handles ctx.new }
     {
         prove!(self.is_live(ctx), "the operation is not live");
+        prove!(i <= self.get_num_operands(ctx), "there is none at this place");
+        prove!(value.is_live(ctx), "the value is not live");
         ctx.nodes.op_mut(self).operands.insert(i, value)?;
         ctx.uses.raise_value(value);
         Ok(())
@@ -75,6 +77,7 @@ impl Ptr<Operation> {
     {
         prove!(self.is_live(ctx), "the operation is not live");
         prove!(i < self.get_num_operands(ctx), "there is none at this place");
+        prove!(value.is_live(ctx), "the value is not live");
         let replaced = self.get_operand(ctx, i);
         ctx.nodes.op_mut(self).operands[i] = value;
         ctx.uses.raise_value(value);
@@ -150,7 +153,7 @@ impl Ptr<Operation> {
         prove!(self.is_live(ctx), "the operation is not live");
         prove!(block.is_live(ctx), "the block is not live");
         prove!(self.get_parent_block(ctx).is_none(), "the operation stands in a block already");
-        prove!(!IRNode::Operation(self).is_ancestor(IRNode::BasicBlock(block), ctx), "the operation stands above its new place");
+        prove!(!IRNode::Operation(self).is_ancestor(IRNode::BasicBlock(block), ctx), "it would stand in itself");
         ctx.nodes.push_op_front(self, block);
     }
 
@@ -169,7 +172,7 @@ impl Ptr<Operation> {
         prove!(mark.is_live(ctx), "the operation is not live");
         prove!(self.get_parent_block(ctx).is_none(), "the operation stands in a block already");
         prove!(mark.get_parent_block(ctx).is_some(), "the operation that marks the place stands in no block");
-        prove!(!IRNode::Operation(self).is_ancestor(IRNode::Operation(mark), ctx), "the operation stands above its new place");
+        prove!(!IRNode::Operation(self).is_ancestor(IRNode::Operation(mark), ctx), "it would stand in itself");
         ctx.nodes.insert_op_before(self, mark);
     }
 
@@ -188,7 +191,7 @@ impl Ptr<Operation> {
         prove!(mark.is_live(ctx), "the operation is not live");
         prove!(self.get_parent_block(ctx).is_none(), "the operation stands in a block already");
         prove!(mark.get_parent_block(ctx).is_some(), "the operation that marks the place stands in no block");
-        prove!(!IRNode::Operation(self).is_ancestor(IRNode::Operation(mark), ctx), "the operation stands above its new place");
+        prove!(!IRNode::Operation(self).is_ancestor(IRNode::Operation(mark), ctx), "it would stand in itself");
         ctx.nodes.insert_op_after(self, mark);
     }
 
@@ -241,6 +244,7 @@ impl Operation {
         ensures whole { IsWellFormed D.attr_handles ctx.new }
     {
         prove!(op.is_live(ctx), "the operation is not live");
+        prove!(i < op.num_regions(ctx), "there is none at this place");
         let region = op.get_region(ctx, i);
         erase_tree(IRNode::Region(region), ctx);
     }
