@@ -107,7 +107,10 @@ impl Operation {
         ensures whole { IsWellFormed D.attr_handles ctx.new }
     {
         prove!(op.is_live(ctx), "the operation is not live");
-        prove!(IRNode::Operation(op).is_unused_outside(ctx), "what is erased is used outside");
+        prove!(
+            IRNode::Operation(op).is_unused_outside(ctx),
+            "what is erased is used outside"
+        );
         erase_tree(IRNode::Operation(op), ctx);
     }
 }
@@ -123,7 +126,10 @@ impl BasicBlock {
         ensures whole { IsWellFormed D.attr_handles ctx.new }
     {
         prove!(block.is_live(ctx), "the block is not live");
-        prove!(IRNode::BasicBlock(block).is_unused_outside(ctx), "what is erased is used outside");
+        prove!(
+            IRNode::BasicBlock(block).is_unused_outside(ctx),
+            "what is erased is used outside"
+        );
         erase_tree(IRNode::BasicBlock(block), ctx);
     }
 }
