@@ -36,6 +36,7 @@ pub mod ChildrenLeft
 pub mod Owned
 pub mod Indices
 pub mod Standing
+pub mod Lasting
 pub mod MadeUnused
 pub mod Counting
 pub mod Counted
