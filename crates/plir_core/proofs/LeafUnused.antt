@@ -1,17 +1,13 @@
 -- A node without children that nothing but itself uses.
-use Rattle.std.proofs.Common.{◌≡◌, ℕ, zero, suc, ◌+◌, Bool, true, false, List, [], ◌∷◌, length, get_or, Option, Some, None, ◌⊎◌, inl, inr, refl, sym, ◌∙◌, ap, subst, arith, eqb, eq-eqb}
-use Rattle.std.specs.Prelude.{All, slice_get, nat_lt}
+use Rattle.std.proofs.Common.{◌≡◌, ℕ, zero, suc, ◌+◌, Bool, true, false, List, [], ◌∷◌, length, get_or, Option, Some, None, inl, inr, refl, sym, ◌∙◌, ap, subst, arith, eq-eqb}
+use Rattle.std.specs.Prelude.{All, slice_get, nat_lt, IsTrue, ◌↔◌, ◌==◌}
 use Rattle.std.proofs.lemmas.Bool.{cases_eq, eqb-true, and_parts}
 use Rattle.std.proofs.lemmas.Option.{same_Some, none-some}
 use Rattle.plir_store.specs.Table.{Table, content_at, without_slot}
 use Rattle.plir_store.specs.Members.{head}
 use Rattle.plir_store.specs.MemberLaws.{at-Has}
-use Rattle.plir_core.specs.declared.ptr.Ptr.{Ptr}
-use Rattle.plir_core.specs.declared.ptr.Operation.{Operation as OperationKind}
 use Rattle.plir_core.specs.declared.ptr.IRNode.{IRNode}
 use Rattle.plir_core.specs.declared.ptr.IRNode.TheVariants.{Operation, Region, BasicBlock}
-use Rattle.plir_core.specs.declared.value.Value.{Value}
-use Rattle.plir_core.specs.declared.value.DefiningEntity.{DefiningEntity}
 use Rattle.plir_core.specs.Above.{climb}
 use Rattle.plir_core.specs.Nodes.{ptr_at, node_children, node_parent}
 use Rattle.plir_core.specs.Contents.{OpView}
@@ -151,8 +147,9 @@ module _ {K A T : Type 0} (own : A → List ℕ) (s : ContextView K A T) (w : Is
           not_true (is_seated (seat_of n) m) (λ yes. blocks i d b (0, ap (λ z. Some z) (is_it m (h.successors i d b) yes)))) in
           omega arith
 
-  pub counted-unused : uses_of s.nodes.ops (seat_of n) ≡ own_uses s n → IsUnusedOutside s n
-  counted-unused e = others-outside (counted-others s n live e)
-
-  pub unused-counted : IsUnusedOutside s n → uses_of s.nodes.ops (seat_of n) ≡ own_uses s n
-  unused-counted u = others-counted s n live (outside-others u)
+  -- what a count tells that is known
+  pub leaf-told : (count uses : ℕ) → count ≡ uses_of s.nodes.ops (seat_of n) → uses ≡ own_uses s n → IsTrue (count == uses) ↔ IsUnusedOutside s n
+  leaf-told count uses known own_is = (
+    λ t. others-outside (counted-others s n live (sym known ∙ eqb-true count uses t ∙ own_is)),
+    λ u. eq-eqb count uses (known ∙ others-counted s n live (outside-others u) ∙ sym own_is),
+  )

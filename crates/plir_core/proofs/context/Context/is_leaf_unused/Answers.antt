@@ -1,5 +1,4 @@
-use Rattle.std.proofs.Common.{◌≡◌, ℕ, None, true, false, refl, sym, ◌∙◌, ap, subst, eqb, eq-eqb, rules}
-use Rattle.std.proofs.lemmas.Bool.{eqb-true}
+use Rattle.std.proofs.Common.{◌≡◌, None, true, sym, ◌∙◌, ap, subst, rules}
 use Rattle.plir_store.specs.Members.{head}
 use Rattle.plir_core.specs.Nodes.{Nodes, is_node_live, node_children}
 use Rattle.plir_core.specs.Contents.{OpView, BlockView}
@@ -7,7 +6,7 @@ use Rattle.plir_core.specs.Stored.{seat_of}
 use Rattle.plir_core.specs.ContextView.{ContextView, IsLive}
 use Rattle.plir_core.specs.WellFormed.{IsWellFormed}
 use Rattle.plir_core.specs.Uses.{uses_of}
-use Rattle.plir_core.proofs.LeafUnused.{counted-unused, unused-counted}
+use Rattle.plir_core.proofs.LeafUnused.{leaf-told}
 use Rattle.plir_core.proofs.context.Context.is_leaf_unused.Goals as goal
 
 pub returns-in-Some : goal.returns-in-Some
@@ -17,7 +16,5 @@ returns-in-Some g c =
     let live : IsLive c.args.self.now c.args.root = subst (λ (z : Nodes (OpView g.row.D-Kind.Denot g.row.D-Attr.Denot) (BlockView g.row.D-Attr.Denot)). is_node_live z c.args.root ≡ true) same (sym c.is_live.ensures.value ∙ search rules) in
     let none : c.first_child.result ≡ None = search rules in
     let leaf : head (node_children c.args.self.now.nodes c.args.root) ≡ None = subst (λ (z : Nodes (OpView g.row.D-Kind.Denot g.row.D-Attr.Denot) (BlockView g.row.D-Attr.Denot)). head (node_children z c.args.root) ≡ None) same (sym c.first_child.ensures ∙ none) in
-    let count : c.in-Some.count ≡ uses_of c.args.self.now.nodes.ops (seat_of c.args.root) = subst (λ (z : ContextView g.row.D-Kind.Denot g.row.D-Attr.Denot g.row.D-Ty.Denot). c.in-Some.count ≡ uses_of z.nodes.ops (seat_of c.args.root)) c.self.view_is (c.in-Some.ensures (uses_of c.self.inside.nodes.ops) c.self.invariant.counted) in (
-      λ t. counted-unused _ c.args.self.now w c.args.root live leaf (sym count ∙ eqb-true c.in-Some.count c.num_own_uses.result t ∙ c.num_own_uses.ensures),
-      λ u. eq-eqb c.in-Some.count c.num_own_uses.result (count ∙ unused-counted _ c.args.self.now w c.args.root live leaf u ∙ sym c.num_own_uses.ensures),
-    )
+    let count : c.in-Some.count ≡ uses_of c.args.self.now.nodes.ops (seat_of c.args.root) = subst (λ (z : ContextView g.row.D-Kind.Denot g.row.D-Attr.Denot g.row.D-Ty.Denot). c.in-Some.count ≡ uses_of z.nodes.ops (seat_of c.args.root)) c.self.view_is (c.in-Some.ensures (uses_of c.self.inside.nodes.ops) c.self.invariant.counted) in
+    leaf-told _ c.args.self.now w c.args.root live leaf c.in-Some.count c.num_own_uses.result count c.num_own_uses.ensures
