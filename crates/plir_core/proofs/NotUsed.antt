@@ -43,7 +43,7 @@ module _ {K A : Type 0} where
   values_some at None e = refl
   values_some at (Some v) e = omega arith
 
-  blocks_some : (at : Seat) (o : Option (OpView K A)) → uses_held at o ≡ 0 → blocks_in at (successors_in o) ≡ 0
+  pub blocks_some : (at : Seat) (o : Option (OpView K A)) → uses_held at o ≡ 0 → blocks_in at (successors_in o) ≡ 0
   blocks_some at None e = refl
   blocks_some at (Some v) e = omega arith
 
