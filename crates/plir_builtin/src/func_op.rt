@@ -186,11 +186,11 @@ fn find_type<D: OpSet>(ctx: &Context<D>, op: Ptr<Operation>) -> Option<TypedHand
     ensures of_functions { IfSome result (IsMarked is_function ctx.now.types) }
     ensures whole { IsWellFormed D.attr_handles ctx.now }
 {
-    TypedHandle::from_handle(find_handle(ctx, op)?, ctx)
+    TypedHandle::from_handle(find_func_type(ctx, op)?, ctx)
 }
 
-// The type under the key, if an attribute of a type stands there.
-fn find_handle<D: OpSet>(ctx: &Context<D>, op: Ptr<Operation>) -> Option<TypeHandle>
+/// The type that a function holds, if an attribute of a type stands under its key.
+pub fn find_func_type<D: OpSet>(ctx: &Context<D>, op: Ptr<Operation>) -> Option<TypeHandle>
     requires { IsLive ctx.now (AnyNode.Operation op) }
     ensures value { result ≡ func_type_of ctx.now op }
     ensures live { IfSome result (IsTypeLive ctx.now.types) }

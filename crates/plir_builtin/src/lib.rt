@@ -32,7 +32,7 @@ mod walking;
 pub use collection::SymbolTableCollection;
 pub use constant_op::{ConstantOp, ConstantOpVerifyErr};
 pub use forward_ref_op::{ForwardRefOp, ForwardRefOpExistenceErr};
-pub use func_op::{FuncOp, FuncOpTypeErr};
+pub use func_op::{FuncOp, FuncOpTypeErr, find_func_type};
 pub use materializable::MaterializableAttr;
 pub use module_op::ModuleOp;
 pub use nearest::nearest_symbol_table;

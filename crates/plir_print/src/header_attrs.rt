@@ -2,46 +2,15 @@
 ghost use Rattle.std.specs.Prelude.{◌≡◌, IfSome, option_map};
 ghost use Rattle.plir_data.specs.AttrLive.{IsAttrLive};
 ghost use Rattle.plir_data.specs.AttrSeen.{attr_view};
-ghost use Rattle.plir_data.specs.Types.{IsLive as IsTypeLive};
 ghost use Rattle.plir_core.specs.declared.ptr.IRNode.{IRNode as AnyNode};
-ghost use Rattle.plir_core.specs.ContextView.{IsLive, op_at};
+ghost use Rattle.plir_core.specs.ContextView.{IsLive};
 ghost use Rattle.plir_core.specs.WellFormed.{IsWellFormed};
-ghost use Rattle.plir_builtin.specs.BuiltinOps.{func_type_of, value_of};
-ghost use Rattle.plir_builtin.specs.Symbols.{name_held, name_in as name_inside};
+ghost use Rattle.plir_builtin.specs.BuiltinOps.{value_of};
 ghost use Rattle.plir_print.specs.HeaderAttrs.{has_header};
 
-use plir_builtin::{ATTR_KEY_BUILTIN_FUNC_TYPE, ATTR_KEY_CONSTANT_VALUE, ATTR_KEY_SYM_NAME};
+use plir_builtin::{ATTR_KEY_CONSTANT_VALUE, find_func_type, symbol_name};
 use plir_core::{Context, Operation, Ptr};
-use plir_data::{AttrObj, Identifier, OpKind, OpSet, TypeHandle};
-
-// The name in an attribute.
-fn name_in<D: OpSet>(attribute: &AttrObj<D>) -> Option<&Identifier>
-    ensures { option_map (λ n. n.now) result ≡ name_inside (Some (attr_view attribute.now)) }
-{
-    match attribute {
-        AttrObj::Identifier(name) => Some(name.as_ref()),
-        _ => None,
-    }
-}
-
-/// The name of a module or a function, if it has one.
-pub(crate) fn find_name<D: OpSet>(ctx: &Context<D>, op: Ptr<Operation>) -> Option<&Identifier>
-    requires { IsLive ctx.now (AnyNode.Operation op) }
-    ensures { option_map (λ n. n.now) result ≡ name_held (op_at ctx.now op) }
-{
-    name_in(op.attributes(ctx).get(ATTR_KEY_SYM_NAME)?)
-}
-
-/// The type of a function, if it has one.
-pub(crate) fn find_type<D: OpSet>(ctx: &Context<D>, op: Ptr<Operation>) -> Option<TypeHandle>
-    requires { IsLive ctx.now (AnyNode.Operation op) }
-    ensures value { result ≡ func_type_of ctx.now op }
-    ensures live { IfSome result (IsTypeLive ctx.now.types) }
-{
-    op.attributes(ctx)
-        .get(ATTR_KEY_BUILTIN_FUNC_TYPE)?
-        .as_type()
-}
+use plir_data::{AttrObj, OpKind, OpSet};
 
 /// The value of a constant, if it has one.
 pub(crate) fn find_value<D: OpSet>(ctx: &Context<D>, op: Ptr<Operation>) -> Option<&AttrObj<D>>
@@ -60,8 +29,8 @@ pub fn has_header<D: OpSet>(ctx: &Context<D>, op: Ptr<Operation>) -> bool
     ensures whole { IsWellFormed D.attr_handles ctx.now }
 {
     match op.kind(ctx) {
-        OpKind::Module => find_name(ctx, op).is_some(),
-        OpKind::Func => find_name(ctx, op).is_some() && find_type(ctx, op).is_some(),
+        OpKind::Module => symbol_name(ctx, op).is_some(),
+        OpKind::Func => symbol_name(ctx, op).is_some() && find_func_type(ctx, op).is_some(),
         OpKind::Constant => find_value(ctx, op).is_some() && op.get_num_results(ctx) == 1,
         OpKind::ForwardRef => true,
         OpKind::Own(_) => true,

@@ -13,10 +13,11 @@ ghost use Rattle.plir_print.specs.Lists.{Puts};
 ghost use Rattle.plir_print.specs.ValueLists.{holder, values_in};
 
 use crate::dictionaries::{put_attr, put_dictionary};
-use crate::header_attrs::{find_name, find_type, find_value};
+use crate::header_attrs::find_value;
 use crate::layout::put_between;
 use crate::names::{put_block_name, put_value};
 use crate::values::{ValueList, num_values, value_at};
+use plir_builtin::{find_func_type, symbol_name};
 use plir_core::{BasicBlock, Context, Operation, Ptr, Value};
 use plir_data::put::put;
 use plir_data::{Memory, OpKind, OpSet, TypeHandle, type_text};
@@ -165,7 +166,7 @@ fn put_symbol<D: OpSet>(
     requires named { is_some (name_held (op_at ctx.now op)) ≡ true }
     ensures { OnOk result (Puts out.old out.new (symbol_text ctx.now op)) }
 {
-    let name = find_name(ctx, op).unwrap();
+    let name = symbol_name(ctx, op).unwrap();
     put(out, "@")?;
     put(out, name.as_str())?;
     Ok(())
@@ -181,7 +182,7 @@ fn put_func<D: OpSet>(
     requires header { has_header_of ctx.now (Some AnyKind.Func) op ≡ true }
     ensures { OnOk result (Puts out.old out.new (header_of D.OpSet ctx.now (Some AnyKind.Func) op)) }
 {
-    let ty = find_type(ctx, op).unwrap();
+    let ty = find_func_type(ctx, op).unwrap();
     put(out, "builtin.func ")?;
     put_symbol(out, ctx, op)?;
     put(out, ": ")?;

@@ -1,6 +1,6 @@
 //! How many levels the parts of an operation have as they are written. Each test asks for fewer levels than `left`,
 //! since the operation itself is a level.
-ghost use Rattle.std.specs.Prelude.{◌≡◌, ◌↔◌, ◌<◌, ◌≤◌, IfSome, IsTrue, Some};
+ghost use Rattle.std.specs.Prelude.{◌≡◌, ◌↔◌, ◌<◌, ◌≤◌, IsTrue, Some};
 ghost use Rattle.plir_data.specs.AttrLive.{HandlesLive, IsAttrLive};
 ghost use Rattle.plir_data.specs.AttrSeen.{attr_view};
 ghost use Rattle.plir_data.specs.TypeTree.{tree_of};
@@ -19,7 +19,7 @@ ghost use Rattle.plir_roundtrip.specs.WrittenLevels.{entry_level, result_levels,
 
 use crate::entries::find_value;
 use plir_attr_text::is_within_levels;
-use plir_builtin::{ATTR_KEY_BUILTIN_FUNC_TYPE, ATTR_KEY_SYM_NAME};
+use plir_builtin::{ATTR_KEY_BUILTIN_FUNC_TYPE, ATTR_KEY_SYM_NAME, find_func_type};
 use plir_core::{BasicBlock, Context, Operation, Ptr};
 use plir_data::{AttrObj, AttributeDict, OpKind, OpSet, TypeAttr, TypeHandle};
 
@@ -32,23 +32,12 @@ fn is_type_below<D: OpSet>(ctx: &Context<D>, handle: TypeHandle, left: usize) ->
     is_within_levels(ctx, &attr, left)
 }
 
-// The type of a function, if it has one.
-fn find_type<D: OpSet>(ctx: &Context<D>, op: Ptr<Operation>) -> Option<TypeHandle>
-    requires { IsLive ctx.now (AnyNode.Operation op) }
-    ensures value { result ≡ func_type_of ctx.now op }
-    ensures live { IfSome result (IsTypeLive ctx.now.types) }
-{
-    op.attributes(ctx)
-        .get(ATTR_KEY_BUILTIN_FUNC_TYPE)?
-        .as_type()
-}
-
 // The type of a function.
 fn is_func_type_below<D: OpSet>(ctx: &Context<D>, op: Ptr<Operation>, left: usize) -> bool
     requires { IsLive ctx.now (AnyNode.Operation op) }
     ensures { IsTrue result ↔ (type_levels (some_type_term ctx.now.types (func_type_of ctx.now op)) < left) }
 {
-    match find_type(ctx, op) {
+    match find_func_type(ctx, op) {
         Some(handle) => is_type_below(ctx, handle, left),
         None => left > 1,
     }

@@ -2,7 +2,7 @@ use Rattle.std.proofs.Common.{sym, subst}
 use Rattle.plir_data.specs.AttrLive.{HandlesLive}
 use Rattle.plir_data.specs.AttrSeen.{attr_view}
 use Rattle.plir_data.specs.LiveLaws.{held_live}
-use Rattle.plir_builtin.proofs.func_op.find_handle.Goals as goal
+use Rattle.plir_builtin.proofs.func_op.find_func_type.Goals as goal
 
 pub returns-clause-live : goal.returns-clause-live
 returns-clause-live g c =
