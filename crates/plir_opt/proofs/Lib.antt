@@ -1,4 +1,4 @@
 mod Lines
-mod Verifying
+mod Verdicts
 mod Passing
 mod Printing

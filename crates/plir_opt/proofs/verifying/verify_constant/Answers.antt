@@ -2,7 +2,7 @@ use Rattle.std.proofs.Common.{OnOk, sym, subst}
 use Rattle.plir_core.specs.declared.ptr.IRNode.TheVariants.{Operation}
 use Rattle.plir_core.specs.ContextView.{IsLive}
 use Rattle.plir_builtin.specs.OpRules.{HasConstantRules}
-use Rattle.plir_opt.proofs.Verifying.{on-ok, of-constant}
+use Rattle.plir_opt.proofs.Verdicts.{on-ok, of-constant}
 use Rattle.plir_opt.proofs.verifying.verify_constant.Goals as goal
 
 pub verify_interfaces-requires : goal.verify_interfaces-requires

@@ -2,7 +2,7 @@ use Rattle.std.proofs.Common.{sym, subst}
 use Rattle.plir_core.specs.declared.ptr.IRNode.TheVariants.{Operation}
 use Rattle.plir_core.specs.ContextView.{IsLive}
 use Rattle.plir_builtin.specs.OpRules.{HasFuncRules}
-use Rattle.plir_opt.proofs.Verifying.{when-ok, of-func}
+use Rattle.plir_opt.proofs.Verdicts.{when-ok, of-func}
 use Rattle.plir_opt.proofs.verifying.verify_func.Goals as goal
 
 pub verify_interfaces-requires : goal.verify_interfaces-requires

@@ -3,7 +3,7 @@ use Rattle.plir_data.specs.declared.op_set.OpKind.TheVariants.{Module}
 use Rattle.plir_core.specs.declared.ptr.IRNode.TheVariants.{Operation}
 use Rattle.plir_core.specs.ContextView.{IsLive, kind_of}
 use Rattle.plir_builtin.specs.OpRules.{HasModuleRules}
-use Rattle.plir_opt.proofs.Verifying.{on-ok, of-module}
+use Rattle.plir_opt.proofs.Verdicts.{on-ok, of-module}
 use Rattle.plir_opt.proofs.verifying.verify_module.Goals as goal
 
 pub verify_interfaces-requires-clause-live : goal.verify_interfaces-requires-clause-live

@@ -1,4 +1,4 @@
-use Rattle.plir_opt.proofs.Verifying.{never-ok, of-own}
+use Rattle.plir_opt.proofs.Verdicts.{never-ok, of-own}
 use Rattle.plir_opt.proofs.verifying.verify_op.Goals as goal
 
 pub returns-in-ForwardRef : goal.returns-in-ForwardRef

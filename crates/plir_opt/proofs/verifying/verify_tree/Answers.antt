@@ -1,6 +1,6 @@
 use Rattle.std.proofs.Common.{subst}
 use Rattle.plir_opt.specs.Verified.{IsVerdict}
-use Rattle.plir_opt.proofs.Verifying.{all-verified}
+use Rattle.plir_opt.proofs.Verdicts.{all-verified}
 use Rattle.plir_opt.proofs.verifying.verify_tree.Goals as goal
 
 pub returns-in-Continue : goal.returns-in-Continue
