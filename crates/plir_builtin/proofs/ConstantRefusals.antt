@@ -1,5 +1,5 @@
 -- Refusals of constants are told as their faults.
-use Rattle.std.proofs.Common.{◌≡◌, ℕ, List, Option, Some, None, refl}
+use Rattle.std.proofs.Common.{◌≡◌, ℕ, List, Option, Some, None}
 use Rattle.std.specs.Prelude.{◌≢◌, slice_get}
 use Rattle.plir_data.specs.AttrCalls.{attr_type}
 use Rattle.plir_data.specs.AttrView.{AttrView}

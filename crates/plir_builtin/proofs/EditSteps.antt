@@ -1,8 +1,6 @@
 -- One edit: a table is seen to, and the edit is called on it.
 use Rattle.std.proofs.Common.{◌≡◌, ◌∙◌, Bool, Option, Some, None, Ok, Err, inl, inr, refl, sym, subst}
 use Rattle.std.specs.FinMap.{get}
-use Rattle.plir_core.specs.declared.ptr.Ptr.{Ptr}
-use Rattle.plir_core.specs.declared.ptr.Operation.{Operation as OperationKind}
 use Rattle.plir_core.specs.ContextView.{ContextView}
 use Rattle.plir_builtin.specs.declared.symbol_edits.SymbolEdit.{SymbolEdit}
 use Rattle.plir_builtin.specs.declared.symbol_edits.SymbolEditErr.{SymbolEditErr}
@@ -10,7 +8,7 @@ use Rattle.plir_builtin.specs.declared.symbol_edits.SymbolEditErr.TheVariants.{D
 use Rattle.plir_builtin.specs.declared.symbol_table_err.SymbolTableErr.{SymbolTableErr}
 use Rattle.plir_builtin.specs.Table.{Tables}
 use Rattle.plir_builtin.specs.Symbols.{IsGood}
-use Rattle.plir_builtin.specs.Agree.{AllAgree, IsBrought, IsCachedFor}
+use Rattle.plir_builtin.specs.Agree.{AllAgree, IsBrought}
 use Rattle.plir_builtin.specs.Refusals.{Refusal, told, told_or, TellsOnly, TableRefused}
 use Rattle.plir_builtin.specs.SymbolEdits.{table_of, IsEditLive, IsCallGrowth, IsCallRefused, IsRefusedEdit, IsStep, IsTableToldFor}
 use Rattle.plir_builtin.specs.Applied.{IsCalled, IsSeenTo}

@@ -1,6 +1,6 @@
 -- Symbols: the operations in the body of a table that have names, and what is said of them by scans.
 use Rattle.std.specs.Prelude.{◌≡◌, ℕ, Bool, true, false, cond, List, [], ◌∷◌, Option, Some, None, IsSome}
-use Rattle.std.specs.Prelude.{option_and_then, codes}
+use Rattle.std.specs.Prelude.{option_and_then}
 use Rattle.plir_data.specs.AttrView.{AttrView, leaf, identifier}
 use Rattle.plir_data.specs.Dictionary.{dict_get, dict_put, is_key}
 use Rattle.plir_data.specs.declared.op_set.OpKind.{OpKind}

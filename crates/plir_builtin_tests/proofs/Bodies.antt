@@ -1,5 +1,5 @@
 -- Operations with a body.
-use Rattle.std.proofs.Common.{◌≡◌, ℕ, zero, suc, List, [], ◌∷◌, length, All, IsSome, refl, sym, true≢false, arith}
+use Rattle.std.proofs.Common.{◌≡◌, zero, suc, List, [], ◌∷◌, length, All, IsSome, refl, sym, true≢false, arith}
 use Rattle.std.specs.Prelude.{option_and_then}
 use Rattle.plir_core.specs.declared.ptr.Ptr.{Ptr}
 use Rattle.plir_core.specs.declared.ptr.Operation.{Operation as OperationKind}

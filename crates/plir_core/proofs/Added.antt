@@ -1,10 +1,10 @@
 -- One node more.
-use Rattle.std.proofs.Common.{◌≡◌, ℕ, zero, suc, ◌+◌, ◌<◌, ◌≤◌, Bool, true, false, cond, ◌&&◌, is_some, nat_lt, nat_le, List, [], ◌∷◌, ◌++◌, length, map, Option, Some, None, IsSome, ◌⊎◌, inl, inr, refl, sym, ◌∙◌, ap, subst, arith, eqb, eq-eqb}
+use Rattle.std.proofs.Common.{◌≡◌, ℕ, zero, suc, ◌+◌, ◌<◌, ◌≤◌, Bool, true, false, cond, ◌&&◌, nat_lt, nat_le, List, [], ◌∷◌, ◌++◌, length, map, Option, Some, None, IsSome, ◌⊎◌, inl, inr, refl, sym, ◌∙◌, ap, subst, arith}
 use Rattle.std.specs.Prelude.{option_map}
 use Rattle.std.proofs.lemmas.Bool.{cases_eq}
 use Rattle.std.proofs.lemmas.Option.{same_Some, none-some}
-use Rattle.plir_store.specs.Lists.{Lists, IsAgreed, children_at, parent_at, with_last}
-use Rattle.plir_store.specs.Table.{Table, Cell, IsTable, cell_at, content_at, version_at, is_live_at, next_slot, with_new}
+use Rattle.plir_store.specs.Lists.{Lists, children_at, parent_at, with_last}
+use Rattle.plir_store.specs.Table.{Table, Cell, IsTable, content_at, version_at, is_live_at, next_slot, with_new}
 use Rattle.plir_store.specs.TableLaws.{cell_at-with_new, cell_at-with_new_other, content_at-next_slot}
 use Rattle.plir_core.specs.declared.ptr.Ptr.{Ptr}
 use Rattle.plir_core.specs.declared.ptr.Operation.{Operation as OperationKind}
@@ -15,12 +15,12 @@ use Rattle.plir_core.specs.declared.ptr.IRNode.TheVariants.{Operation, Region, B
 use Rattle.plir_core.specs.Above.{climb, Reaches}
 use Rattle.plir_core.specs.Nodes.{Nodes, ptr_at, is_given_out, op_node, region_node, block_node, is_node_live, was_given_out, node_children, node_parent}
 use Rattle.plir_core.specs.Stored.{IsListing, IsStored}
-use Rattle.std.proofs.Common.{set, length-set}
+use Rattle.std.proofs.Common.{length-set}
 use Rattle.std.proofs.lemmas.List.{get_or-set_same, get_or-set_other, map-append}
 use Rattle.plir_store.specs.Members.{Has}
 use Rattle.plir_core.specs.Erase.{IsErased}
 use Rattle.plir_core.proofs.Facts.{parent-live}
-use Rattle.plir_core.specs.Edits.{SameNodes, room_child, room_list, with_new_op, with_new_block, with_new_region}
+use Rattle.plir_core.specs.Edits.{SameNodes, room_child, with_new_op, with_new_block, with_new_region}
 use Rattle.plir_core.proofs.NewNodes.{apart_new}
 use Rattle.plir_core.specs.Made.{KeepsLive, IsAdded, IsRegionAdded, IsMade}
 use Rattle.plir_core.proofs.Listing.{within_content, parent_at-room_child, parent_at-room_list, children_at-room_child, children_at-room_list, children-room_child, loose, childless, some_none}

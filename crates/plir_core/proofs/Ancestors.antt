@@ -1,5 +1,5 @@
 -- The loop that looks for a node above another.
-use Rattle.std.proofs.Common.{◌≡◌, ℕ, zero, suc, ◌+◌, ◌*◌, ◌<◌, ◌≤◌, Bool, true, false, List, length, slice_index_or, Option, Some, None, inl, inr, refl, sym, ◌∙◌, ap, subst, arith}
+use Rattle.std.proofs.Common.{◌≡◌, ℕ, zero, suc, ◌+◌, ◌<◌, ◌≤◌, true, List, length, slice_index_or, Option, Some, None, inl, inr, refl, sym, ◌∙◌, ap, subst, arith}
 use Rattle.std.specs.Prelude.{option_map, All}
 use Rattle.std.proofs.lemmas.Bool.{cases_lt}
 use Rattle.std.proofs.lemmas.List.{get_or_default}
@@ -11,7 +11,7 @@ use Rattle.plir_core.specs.Stored.{seat_of, up, IsStored}
 use Rattle.plir_core.proofs.Facts.{parent-live}
 use Rattle.plir_core.proofs.Depths.{depth-child, depth_falls}
 use Rattle.plir_core.proofs.Trees.{climb_nothing, climb_step}
-use Rattle.plir_core.specs.Measures.{depth_from, most_steps, depth_of}
+use Rattle.plir_core.specs.Measures.{depth_from, most_steps}
 
 -- the node `at` is come by from `node`, and the ancestor, if it is one, is at `at` or above it
 pub record IsClimbing {O B : Type 0} (s : Nodes O B) (node ancestor : IRNode) (at : Option IRNode) : Type 0 where

@@ -54,7 +54,7 @@ module _ {O B : Type 0} (s : Nodes O B) where
   last-head (BasicBlock p) = last_in (op_node s) (is_node_live s (BasicBlock p)) (children_at s.ops_in_block p.slot)
 
 -- what stands right before a place of a list, or a at its start
-abbrev before_or : {A : Type 0} → Option A → List A → ℕ → Option A
+abbrev pub before_or : {A : Type 0} → Option A → List A → ℕ → Option A
 before_or a xs zero = a
 before_or a xs (suc i) = slice_get xs i
 
@@ -104,7 +104,7 @@ before_mid a (z ∷ zs) ys x =
     sym (shift z (zs ++ x ∷ ys) (length zs)) ∙ before_mid (Some z) zs ys x ∙ sym (head_or_reverse a z zs)
 
 module _ {O B : Type 0} (s : Nodes O B) (w : IsStored s) where
-  prev-place : (a x : IRNode) (i : ℕ) → slice_get (node_children s a) i ≡ Some x →
+  pub prev-place : (a x : IRNode) (i : ℕ) → slice_get (node_children s a) i ≡ Some x →
       node_prev s x ≡ before_or None (node_children s a) i
   prev-place (Operation p) x i e =
       let live = is_node_live s (Operation p) in

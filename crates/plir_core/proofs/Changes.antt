@@ -1,19 +1,19 @@
 -- The live nodes stay a forest under each change.
-use Rattle.std.proofs.Common.{set, length-set, ◌≡◌, ℕ, zero, suc, ◌+◌, ◌<◌, ◌≤◌, ◌^◌, List, [], ◌∷◌, length, Option, Some, None, IsSome, ◌⊎◌, inl, inr, refl, sym, ◌∙◌, ap, subst, arith}
+use Rattle.std.proofs.Common.{length-set, ◌≡◌, ℕ, ◌+◌, ◌<◌, ◌^◌, [], Option, Some, None, IsSome, ◌⊎◌, inl, inr, refl, sym, ◌∙◌, ap, subst, arith}
 use Rattle.std.specs.Prelude.{option_map}
 use Rattle.std.proofs.lemmas.Bool.{cases_eq}
 use Rattle.std.proofs.lemmas.List.{get_or-set_same, get_or-set_other}
 use Rattle.plir_store.specs.TableLaws.{IsTable-with_content, num_full-with_content}
-use Rattle.std.proofs.lemmas.Option.{same_Some, none-some}
-use Rattle.plir_store.specs.Lists.{Lists, IsAgreed, parent_at, children_at, with_last, with_before, without_child}
-use Rattle.plir_store.specs.Table.{Table, Cell, no_cell, IsTable, content_at, version_at, num_full, next_slot, with_new, without_slot, with_content}
+use Rattle.std.proofs.lemmas.Option.{none-some}
+use Rattle.plir_store.specs.Lists.{Lists, IsAgreed, parent_at, with_last}
+use Rattle.plir_store.specs.Table.{Table, Cell, no_cell, IsTable, content_at, version_at, num_full, next_slot, with_new, with_content}
 use Rattle.plir_core.specs.declared.ptr.Region.{Region as RegionKind}
-use Rattle.plir_core.specs.Above.{climb, Reaches, IsGrounded}
+use Rattle.plir_core.specs.Above.{Reaches}
 use Rattle.plir_core.specs.Nodes.{Nodes, num_nodes}
 use Rattle.plir_core.specs.Stored.{Seat, op, region, block, up, IsListing, IsStored}
 use Rattle.plir_core.specs.Edits.{IsFilled, room_child, room_list, with_new_op, with_new_block, with_new_region}
 use Rattle.plir_core.proofs.Climbs.{climb_to, IsGrounded-cut, IsGrounded-same, IsGrounded-link}
-use Rattle.plir_core.proofs.Listing.{IsMoved, IsMoved-last, IsListing-child, IsListing-parent, IsListing-link, IsListing-unlink, IsListing-free_child, IsListing-free_parent, parent_at-room_child, parent_at-room_list, some_none, some_kept, not_next, content_new_other, content_without, loose, within_content}
+use Rattle.plir_core.proofs.Listing.{IsMoved, IsMoved-last, IsListing-child, IsListing-parent, IsListing-link, IsListing-unlink, parent_at-room_child, parent_at-room_list, some_none, content_new_other, within_content}
 
 module _ {O B : Type 0} where
   pub IsStored-empty : (n : ℕ) → n < 2 ^ 32 → IsStored {O = O} {B = B} (record { ops = record { slots = []; free = [] }; regions = record { slots = []; free = [] }; blocks = record { slots = []; free = [] }; regions_in_op = record { children = []; parents = [] }; blocks_in_region = record { children = []; parents = [] }; ops_in_block = record { children = []; parents = [] }; limit = n })

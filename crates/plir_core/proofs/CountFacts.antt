@@ -1,23 +1,22 @@
 -- What is left holds what is live, if nothing outside the tree used it.
-use Rattle.std.proofs.Common.{◌≡◌, ℕ, ◌<◌, Bool, true, false, ◌&&◌, List, length, Option, Some, None, IsSome, refl, sym, ◌∙◌, ap, subst, nat_lt, slice_index_or}
+use Rattle.std.proofs.Common.{◌≡◌, ℕ, true, List, length, Some, sym, ◌∙◌, ap, subst, nat_lt, slice_index_or}
 use Rattle.std.specs.Prelude.{All}
 use Rattle.std.proofs.lemmas.Bool.{and_parts, and_from}
-use Rattle.plir_store.specs.Table.{content_at, version_at}
+use Rattle.plir_store.specs.Table.{content_at}
 use Rattle.plir_core.specs.declared.ptr.Ptr.{Ptr}
 use Rattle.plir_core.specs.declared.ptr.Operation.{Operation as OperationKind}
 use Rattle.plir_core.specs.declared.ptr.BasicBlock.{BasicBlock as BlockKind}
 use Rattle.plir_core.specs.declared.ptr.IRNode.{IRNode}
-use Rattle.plir_core.specs.declared.ptr.IRNode.TheVariants.{Operation, Region, BasicBlock}
+use Rattle.plir_core.specs.declared.ptr.IRNode.TheVariants.{Operation, BasicBlock}
 use Rattle.plir_core.specs.declared.value.Value.{Value}
 use Rattle.plir_core.specs.declared.value.DefiningEntity.{DefiningEntity}
 use Rattle.plir_core.specs.declared.value.DefiningEntity.TheVariants.{Op, Block}
-use Rattle.plir_core.specs.Above.{Reaches}
-use Rattle.plir_core.specs.Nodes.{Nodes, ptr_at, is_node_live, node_parent}
+use Rattle.plir_core.specs.Nodes.{Nodes, ptr_at, is_node_live}
 use Rattle.plir_core.specs.Contents.{OpView, BlockView}
-use Rattle.plir_core.specs.ContextView.{ContextView, IsLive, IsValueLive, IsAncestor, is_live, entity_node, types_from, operands_of, successors_of, operands_in, successors_in, results_in, arguments_in}
+use Rattle.plir_core.specs.ContextView.{ContextView, IsLive, IsValueLive, IsAncestor, is_live, entity_node, types_from, operands_in, successors_in, results_in, arguments_in}
 use Rattle.plir_core.specs.WellFormed.{IsWellFormed, OpHoldsLive, BlockHoldsLive}
 use Rattle.plir_core.specs.Erase.{IsErased}
-use Rattle.plir_core.specs.Unused.{UsesNoneOf, IsUnusedOutside}
+use Rattle.plir_core.specs.Unused.{IsUnusedOutside}
 use Rattle.plir_core.proofs.Facts.{live_at}
 use Rattle.plir_core.proofs.Listing.{some_is}
 

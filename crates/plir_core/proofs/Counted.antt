@@ -1,5 +1,5 @@
 -- Changes of a context as the counts of uses see them.
-use Rattle.std.proofs.Common.{◌≡◌, ℕ, suc, ◌+◌, ◌<◌, ◌≤◌, Bool, true, false, cond, List, [], ◌∷◌, take, drop, length, get_or, Option, Some, None, IsSome, ◌⊎◌, inl, inr, refl, sym, ◌∙◌, ap, subst, arith, slice_set}
+use Rattle.std.proofs.Common.{◌≡◌, ℕ, ◌+◌, ◌<◌, Bool, true, false, cond, List, [], ◌∷◌, length, get_or, Option, Some, None, refl, sym, ◌∙◌, ap, subst, arith, slice_set}
 use Rattle.std.specs.Prelude.{All, count_by, insert, remove, slice_get, nat_lt}
 use Rattle.std.proofs.lemmas.List.Sums.{sum_by-cons, sum_by-insert, sum_by-remove, sum_by-set}
 use Rattle.std.proofs.lemmas.Option.{slice_get_within, get_or_from_slice_get, none-some, same_Some}
@@ -23,7 +23,7 @@ use Rattle.plir_core.specs.Stored.{Seat, op, region, block, seat_of}
 use Rattle.plir_core.specs.ContextView.{ContextView, IsLive, is_live, entity_node, types_from, operands_of, operands_in}
 use Rattle.plir_core.specs.WellFormed.{IsWellFormed}
 use Rattle.plir_core.specs.Erase.{without_node}
-use Rattle.plir_core.specs.Uses.{Uses, total, is_seated, hit, values_from, blocks_in, uses_in, uses_held, uses_of, Counts, IsRaisedBy, IsLoweredBy, with_use, without_use}
+use Rattle.plir_core.specs.Uses.{Uses, is_seated, hit, values_from, blocks_in, uses_in, uses_held, uses_of, Counts, IsRaisedBy, IsLoweredBy, with_use, without_use}
 use Rattle.plir_core.proofs.Listing.{some_none, some_is, within_content, content_new_other}
 use Rattle.plir_core.proofs.Seats.{live_some, some_live}
 use Rattle.plir_core.proofs.Holds.{next_vacant, ops-with_new_regions}

@@ -1,5 +1,5 @@
 -- Counts of uses: how they change, and what a change leaves true of the counts that are kept.
-use Rattle.std.proofs.Common.{◌≡◌, ℕ, zero, suc, ◌+◌, ◌-◌, ◌<◌, ◌≤◌, ◌^◌, min, Bool, true, false, cond, List, [], ◌∷◌, ◌++◌, length, take, get_or, set, Option, Some, None, ◌⊎◌, inl, inr, refl, sym, ◌∙◌, ap, subst, arith, length-set, eq-eqb}
+use Rattle.std.proofs.Common.{◌≡◌, ℕ, zero, suc, ◌+◌, ◌-◌, ◌<◌, ◌≤◌, min, Bool, true, false, cond, List, [], ◌∷◌, ◌++◌, length, take, get_or, Option, Some, None, ◌⊎◌, inl, inr, refl, sym, ◌∙◌, ap, subst, arith, length-set, eq-eqb}
 use Rattle.std.specs.Prelude.{slice_get, slice_set, slice_index_or, count_by, ◌==◌, IfSome}
 use Rattle.std.proofs.lemmas.Bool.{cases_eq, cases_lt, ne_eqb}
 use Rattle.std.proofs.lemmas.List.{get_or-set_same, get_or-set_other, get_or_past, take_all, get_or_append_left, length-append}
@@ -14,7 +14,7 @@ use Rattle.plir_core.specs.declared.ptr.IRNode.{IRNode}
 use Rattle.plir_core.specs.declared.ptr.IRNode.TheVariants.{Operation, Region, BasicBlock}
 use Rattle.plir_core.specs.Contents.{OpView}
 use Rattle.plir_core.specs.Stored.{Seat, op, region, block}
-use Rattle.plir_core.specs.Uses.{Uses, UNKNOWN, total, is_seated, hit, uses_held, uses_of, count_at, Counts, values_from, blocks_in, uses_in, IsBegun, raised, lowered, with_use, without_use}
+use Rattle.plir_core.specs.Uses.{Uses, UNKNOWN, total, is_seated, hit, uses_held, uses_of, Counts, values_from, blocks_in, uses_in, IsBegun, raised, lowered, with_use, without_use}
 
 -- Sums of two functions that differ at j alone.
 module _ (f g : ℕ → ℕ) (j : ℕ) (same : (k : ℕ) → (k ≡ j → ⊥) → f k ≡ g k) where

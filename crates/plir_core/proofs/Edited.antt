@@ -4,7 +4,6 @@ use Rattle.std.specs.Prelude.{All, IfOk, IfSome, insert, remove}
 use Rattle.std.proofs.lemmas.List.Elements.{All-get_or, All-append, All-cons, All-head, All-tail, All-take, All-drop, All-set}
 use Rattle.plir_data.specs.AttrView.{AttrView}
 use Rattle.plir_data.specs.declared.location.Location.{Location}
-use Rattle.plir_data.specs.Types.{AllLive}
 use Rattle.plir_data.specs.Dictionary.{is_key, dict_without}
 use Rattle.plir_store.specs.Table.{content_at, with_content}
 use Rattle.plir_core.specs.declared.value.Value.{Value}

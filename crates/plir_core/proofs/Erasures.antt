@@ -1,5 +1,5 @@
 -- The loop that erases a tree: it stands at a node that is reached from the root by first children.
-use Rattle.std.proofs.Common.{◌≡◌, ℕ, zero, suc, ◌+◌, ◌-◌, ◌*◌, ◌<◌, ◌≤◌, Bool, true, false, List, [], ◌∷◌, Option, Some, None, ◌⊎◌, inl, inr, refl, sym, ◌∙◌, ap, subst, arith}
+use Rattle.std.proofs.Common.{◌≡◌, ℕ, zero, suc, ◌+◌, ◌-◌, ◌*◌, ◌<◌, true, List, [], ◌∷◌, Some, None, refl, sym, ◌∙◌, ap, subst, arith}
 use Rattle.std.proofs.lemmas.Option.{same_Some, none-some}
 use Rattle.plir_store.specs.Lists.{Lists, without_child}
 use Rattle.plir_store.specs.Table.{Table, without_slot}
@@ -10,15 +10,15 @@ use Rattle.plir_core.specs.declared.ptr.BasicBlock.{BasicBlock as BlockKind}
 use Rattle.plir_core.specs.declared.ptr.IRNode.{IRNode}
 use Rattle.plir_core.specs.declared.ptr.IRNode.TheVariants.{Operation, Region, BasicBlock}
 use Rattle.plir_core.specs.Above.{climb}
-use Rattle.plir_store.specs.Members.{Has, head}
+use Rattle.plir_store.specs.Members.{head}
 use Rattle.plir_core.specs.Nodes.{Nodes, is_node_live, node_children, node_parent, num_nodes}
-use Rattle.plir_core.specs.Stored.{Seat, seat_of, up, IsStored}
+use Rattle.plir_core.specs.Stored.{seat_of, up, IsStored}
 use Rattle.plir_core.specs.Erase.{without_node, without_nodes, erased}
-use Rattle.plir_core.proofs.Facts.{child-parent, child-live, parent-live}
+use Rattle.plir_core.proofs.Facts.{child-parent, child-live}
 use Rattle.plir_core.proofs.Depths.{depth-child, depth-le_nodes, depth-frame, depth-seats}
 use Rattle.plir_core.proofs.Trees.{climb_step, climb_last}
-use Rattle.plir_core.proofs.FreedNode.{freed-count, freed-parent, freed-most, freed-up, freed-stored}
-use Rattle.plir_core.proofs.Erased.{first_child, head-Has, tree-leaf, leaf_live, root_live, less_stored, way-parent, way-over, erased-first}
+use Rattle.plir_core.proofs.FreedNode.{freed-count, freed-most, freed-up, freed-stored}
+use Rattle.plir_core.proofs.Erased.{first_child, head-Has, tree-leaf, root_live, less_stored, way-parent, way-over, erased-first}
 use Rattle.plir_core.specs.Measures.{depth_from, most_steps, depth_of}
 
 no_head : (ks : List IRNode) → head ks ≡ None → ks ≡ []

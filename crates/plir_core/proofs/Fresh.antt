@@ -1,17 +1,17 @@
 -- A node that was just made: its pointer is new, and those given out stay so.
-use Rattle.std.proofs.Common.{◌≡◌, ℕ, ◌+◌, ◌≤◌, ◌<◌, Bool, true, false, ◌&&◌, List, [], ◌∷◌, length, Option, Some, None, inl, inr, refl, sym, ◌∙◌, ap, arith, set, length-set, nat_lt, nat_le}
+use Rattle.std.proofs.Common.{◌≡◌, ℕ, ◌+◌, ◌≤◌, true, false, ◌&&◌, List, [], ◌∷◌, length, Some, inl, inr, refl, sym, ◌∙◌, ap, arith, set, length-set, nat_lt, nat_le}
 use Rattle.std.proofs.lemmas.Bool.{cases_lt, cases_eq}
 use Rattle.std.proofs.lemmas.List.{get_or_past, get_or-set_same, get_or_push}
 use Rattle.std.proofs.lemmas.Option.{none-some}
 use Rattle.plir_store.specs.Lists.{Lists}
-use Rattle.plir_store.specs.Table.{Table, Cell, no_cell, content_at, version_at, slot_after, next_slot, with_new, with_new_in, without_slot}
+use Rattle.plir_store.specs.Table.{Table, Cell, no_cell, content_at, version_at, slot_after, next_slot, with_new_in}
 use Rattle.plir_core.specs.declared.ptr.Ptr.{Ptr}
 use Rattle.plir_core.specs.declared.ptr.Region.{Region as RegionKind}
 use Rattle.plir_core.specs.declared.ptr.IRNode.{IRNode}
 use Rattle.plir_core.specs.declared.ptr.IRNode.TheVariants.{Operation, Region, BasicBlock}
-use Rattle.plir_core.specs.Nodes.{Nodes, is_given_out, was_given_out, ptr_at}
-use Rattle.plir_core.specs.Edits.{IsFilled, with_new_op, with_new_block, with_new_region}
-use Rattle.plir_core.proofs.Listing.{version_new_other, version_without}
+use Rattle.plir_core.specs.Nodes.{Nodes, is_given_out, was_given_out}
+use Rattle.plir_core.specs.Edits.{IsFilled}
+use Rattle.plir_core.proofs.Listing.{version_new_other}
 
 given_by : (v a b : ℕ) → a ≤ b → (nat_lt 0 v && nat_le v a) ≡ true → (nat_lt 0 v && nat_le v b) ≡ true
 given_by v a b h e = grind arith

@@ -1,5 +1,5 @@
 -- What live nodes hold stays live.
-use Rattle.std.proofs.Common.{◌≡◌, ℕ, zero, suc, ◌+◌, ◌<◌, ◌≤◌, Bool, true, false, ◌&&◌, nat_lt, List, [], ◌∷◌, ◌++◌, length, Option, Some, None, IsSome, ◌⊎◌, inl, inr, refl, sym, ◌∙◌, ap, subst, arith}
+use Rattle.std.proofs.Common.{◌≡◌, ℕ, zero, suc, ◌+◌, ◌≤◌, Bool, true, false, ◌&&◌, nat_lt, List, [], ◌∷◌, ◌++◌, length, Option, Some, None, IsSome, ◌⊎◌, inl, inr, refl, sym, ◌∙◌, ap, subst, arith}
 use Rattle.std.specs.Prelude.{All, Contains}
 use Rattle.plir_data.specs.declared.op_set.OpKind.{OpKind}
 use Rattle.plir_data.specs.declared.location.Location.{Location}
@@ -9,29 +9,28 @@ use Rattle.std.specs.Ordering.{nat_cmp, match_ordering}
 use Rattle.std.specs.declared.cmp.Ordering.TheVariants.{Less, Equal, Greater}
 use Rattle.std.specs.Cmp.Lexicographic.{slice_cmp}
 use Rattle.plir_data.specs.Dictionary.{dict_put}
-use Rattle.std.proofs.lemmas.Bool.{cases_eq, cases_lt}
+use Rattle.std.proofs.lemmas.Bool.{cases_eq}
 use Rattle.std.proofs.lemmas.List.{get_or_past}
 use Rattle.std.proofs.lemmas.Option.{same_Some, none-some}
-use borrow.Author.Tests.{ltb-true}
 use Rattle.plir_store.specs.Lists.{Lists}
 use Rattle.plir_store.specs.Table.{Table, Cell, cell_at, IsTable, content_at, version_at, is_live_at, next_slot, slot_after, with_new, with_content}
 use Rattle.plir_data.specs.Types.{TypeView, IsInstantiated, IsLive as IsTypeLive, AllLive}
 use Rattle.plir_core.specs.declared.ptr.Ptr.{Ptr}
 use Rattle.plir_core.specs.declared.ptr.Operation.{Operation as OperationKind}
 use Rattle.plir_core.specs.declared.ptr.BasicBlock.{BasicBlock as BasicBlockKind}
-use Rattle.plir_core.specs.declared.ptr.IRNode.TheVariants.{Operation, Region, BasicBlock}
+use Rattle.plir_core.specs.declared.ptr.IRNode.TheVariants.{Operation, BasicBlock}
 use Rattle.plir_core.specs.declared.value.Value.{Value}
 use Rattle.plir_core.specs.declared.value.DefiningEntity.{DefiningEntity}
 use Rattle.plir_core.specs.declared.value.DefiningEntity.TheVariants.{Op, Block}
 use Rattle.plir_data.specs.AttrView.{AttrView, leaf, dict, vec, Items, no_items, item, Entries, no_entries, entry}
 use Rattle.plir_data.specs.AttrLive.{leaf_handles, IsAttrLive, HandlesLive, AreItemsLive, AreEntriesLive}
 use Rattle.plir_core.specs.Contents.{OpView, BlockView}
-use Rattle.plir_core.specs.Nodes.{Nodes, ptr_at, is_node_live}
+use Rattle.plir_core.specs.Nodes.{Nodes, ptr_at}
 use Rattle.plir_core.specs.Stored.{IsStored}
 use Rattle.plir_core.specs.Edits.{empty, SameNodes, with_new_op, with_new_block, with_new_region, with_new_regions}
 use Rattle.plir_core.specs.ContextView.{ContextView, IsLive, IsValueLive, is_live, entity_node, types_from, result_types_of, arg_types_of}
 use Rattle.plir_core.specs.WellFormed.{OpHoldsLive, BlockHoldsLive, HoldsLive, IsWellFormed}
-use Rattle.plir_core.proofs.Listing.{within_content, content_new_other, version_new_other, not_next, some_none}
+use Rattle.plir_core.proofs.Listing.{within_content, content_new_other, version_new_other, not_next}
 use Rattle.plir_core.proofs.Seats.{live_some, live_version, some_live}
 use Rattle.plir_core.proofs.Changes.{content_held, IsStored-held_op, IsStored-held_block}
 use Rattle.plir_store.specs.TableLaws.{cell_at-with_new, cell_at-with_content, cell_at-with_content_other}

@@ -1,5 +1,5 @@
 -- What stands below a node without children; and which nodes are the same.
-use Rattle.std.proofs.Common.{◌≡◌, ℕ, zero, suc, List, [], Option, Some, None, ◌⊎◌, inl, inr, refl, sym, ◌∙◌, ap, subst}
+use Rattle.std.proofs.Common.{◌≡◌, ℕ, zero, suc, [], Option, Some, None, ◌⊎◌, inl, inr, ◌∙◌, ap, subst}
 use Rattle.std.proofs.lemmas.Bool.{cases_eq}
 use Rattle.std.proofs.lemmas.Option.{same_Some, none-some}
 use Rattle.plir_store.specs.Members.{Has}

@@ -36,11 +36,13 @@ pub mod ChildrenLeft
 pub mod Owned
 pub mod Indices
 pub mod Standing
+pub mod Lasting
 pub mod MadeUnused
 pub mod Counting
 pub mod Counted
 pub mod Walked
 pub mod NotUsed
+pub mod LeafUnused
 pub mod ValueUses
 pub mod TimesUsed
 pub mod ReplacedUses

@@ -1,11 +1,10 @@
 -- Links by the children of nodes.
-use Rattle.std.proofs.Common.{◌≡◌, ℕ, ◌<◌, Bool, true, false, cond, List, [], ◌∷◌, ◌++◌, map, length, Option, Some, None, IsSome, inl, inr, refl, sym, ◌∙◌, ap, subst, set, eqb, eq-eqb, arith}
+use Rattle.std.proofs.Common.{◌≡◌, ℕ, ◌<◌, Bool, true, false, cond, List, [], ◌∷◌, ◌++◌, map, length, Option, Some, None, inl, inr, refl, sym, ◌∙◌, ap, subst, set, eq-eqb, arith}
 use Rattle.std.specs.Prelude.{option_map}
 use Rattle.std.proofs.lemmas.Bool.{cases_eq, ne_eqb}
 use Rattle.std.proofs.lemmas.List.{get_or-set_same, get_or-set_other, map-append}
-use Rattle.std.proofs.lemmas.Option.{same_Some, none-some}
-use Rattle.plir_store.specs.Lists.{Lists, children_at, parent_at, put_in, put_in_after, without, with_first, with_last, with_before, with_after, with_before_under, with_after_under, without_child}
-use Rattle.plir_store.specs.Table.{Table, content_at, is_live_at}
+use Rattle.plir_store.specs.Lists.{Lists, children_at, parent_at, put_in, put_in_after, with_first, with_last, with_before, with_after, with_before_under, with_after_under, without_child}
+use Rattle.plir_store.specs.Table.{Table, is_live_at}
 use Rattle.plir_core.specs.declared.ptr.Ptr.{Ptr}
 use Rattle.plir_core.specs.declared.ptr.Operation.{Operation as OperationKind}
 use Rattle.plir_core.specs.declared.ptr.Region.{Region as RegionKind}
@@ -13,7 +12,7 @@ use Rattle.plir_core.specs.declared.ptr.BasicBlock.{BasicBlock as BlockKind}
 use Rattle.plir_core.specs.declared.ptr.IRNode.{IRNode}
 use Rattle.plir_core.specs.declared.ptr.IRNode.TheVariants.{Operation, Region, BasicBlock}
 use Rattle.plir_store.specs.Members.{Has, Distinct}
-use Rattle.plir_core.specs.Nodes.{Nodes, ptr_at, is_node_live, node_children, node_parent, op_node, block_node, region_node}
+use Rattle.plir_core.specs.Nodes.{Nodes, ptr_at, is_node_live, node_children, op_node, block_node, region_node}
 use Rattle.plir_core.specs.Stored.{IsListing, IsStored}
 use Rattle.plir_core.specs.Placed.{IsPlaced, IsUnlinked}
 use Rattle.plir_core.proofs.Facts.{live_parts, ptr_is, child-parent, parent-live, slot_of}

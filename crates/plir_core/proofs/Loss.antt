@@ -1,8 +1,6 @@
 -- What is left when nodes are freed one after another, each live and without children when its turn comes.
-use Rattle.std.proofs.Common.{◌≡◌, ℕ, suc, ◌+◌, ◌≤◌, Bool, true, false, List, [], ◌∷◌, ◌++◌, length, Option, Some, None, ◌⊎◌, zero, ◌*◌, inl, inr, refl, sym, ◌∙◌, ap, subst, arith}
+use Rattle.std.proofs.Common.{◌≡◌, ℕ, suc, ◌+◌, true, false, List, [], ◌∷◌, ◌++◌, length, Some, None, zero, ◌*◌, inl, inr, refl, sym, ◌∙◌, ap, subst, arith}
 use Rattle.std.specs.List.{flat_map}
-use Rattle.std.proofs.lemmas.Bool.{cases_eq}
-use Rattle.std.proofs.lemmas.List.{length-append}
 use Rattle.std.proofs.lemmas.Option.{same_Some, none-some}
 use Rattle.plir_store.specs.Table.{content_at}
 use Rattle.plir_core.specs.declared.ptr.Ptr.{Ptr}
@@ -15,13 +13,13 @@ use Rattle.plir_store.specs.Members.{Has}
 use Rattle.plir_core.specs.Nodes.{Nodes, is_node_live, was_given_out, node_children, node_parent, num_nodes}
 use Rattle.plir_core.specs.Stored.{IsStored}
 use Rattle.plir_core.specs.Erase.{post_order, without_node, without_nodes, tree_of, erased, IsErased}
-use Rattle.plir_core.proofs.Facts.{child-parent, parent-live}
+use Rattle.plir_core.proofs.Facts.{child-parent}
 use Rattle.plir_core.proofs.Listing.{content_without}
 use Rattle.plir_core.proofs.Freed.{ptr_one}
-use Rattle.plir_core.proofs.Depths.{depth-child, depth-le_most, depth_falls}
-use Rattle.plir_store.specs.MemberLaws.{Has-mid, Has-append_left, Has-append_right, Has-append_cases}
+use Rattle.plir_core.proofs.Depths.{depth-child, depth-le_most}
+use Rattle.plir_store.specs.MemberLaws.{Has-mid}
 use Rattle.plir_core.proofs.Trees.{IsTree, tree-below, below-tree, Has-flat_map, Reaches-more, depth-climb}
-use Rattle.plir_core.proofs.FreedNode.{freed-live, freed-dead, freed-given, freed-parent, freed-children_here, freed-children, freed-most, freed-limit, freed-stored, freed-count}
+use Rattle.plir_core.proofs.FreedNode.{freed-live, freed-dead, freed-given, freed-parent, freed-children_here, freed-children, freed-limit, freed-stored, freed-count}
 use Rattle.plir_core.proofs.Erased.{IsPeeled, IsPeeled-tree, IsTree-stored, depth-some}
 use Rattle.plir_core.specs.Measures.{most_steps, depth_of}
 

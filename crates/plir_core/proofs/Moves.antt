@@ -1,5 +1,5 @@
 -- Changes of links as the functions have them: s is made of the fields, and t is the value.
-use Rattle.std.proofs.Common.{◌≡◌, ℕ, suc, ◌+◌, ◌<◌, length, Option, Some, None, IsSome, refl, sym, ◌∙◌, ap, subst, arith}
+use Rattle.std.proofs.Common.{◌≡◌, ℕ, suc, ◌<◌, length, Option, Some, None, IsSome, refl, sym, ◌∙◌, ap, subst, arith}
 use Rattle.std.specs.Prelude.{option_map, true, cond, map, [], slice_get}
 use Rattle.std.proofs.lemmas.Option.{slice_get-map}
 use Rattle.plir_store.specs.Lists.{Lists, IsAgreed, children_at, parent_at, with_last, without_child}
@@ -11,10 +11,10 @@ use Rattle.plir_core.specs.declared.ptr.BasicBlock.{BasicBlock as BasicBlockKind
 use Rattle.plir_core.specs.declared.ptr.IRNode.{IRNode}
 use Rattle.plir_core.specs.declared.ptr.IRNode.TheVariants.{Operation, Region, BasicBlock}
 use Rattle.plir_core.specs.Above.{climb, Reaches}
-use Rattle.plir_core.specs.Nodes.{Nodes, num_nodes, ptr_at, node_children, block_node, region_node, is_node_live, node_parent, node_over}
-use Rattle.plir_core.specs.Stored.{Seat, op, region, block, seat_of, up, IsStored}
+use Rattle.plir_core.specs.Nodes.{Nodes, num_nodes, ptr_at, node_children, block_node, region_node, is_node_live, node_parent}
+use Rattle.plir_core.specs.Stored.{region, block, seat_of, up, IsStored}
 use Rattle.plir_core.specs.Edits.{IsFilled, room_child, room_list}
-use Rattle.plir_core.proofs.Listing.{IsMoved, IsMoved-out, some_value, within_content}
+use Rattle.plir_core.proofs.Listing.{IsMoved, IsMoved-out, within_content}
 use Rattle.plir_core.proofs.Changes.{IsStored-new_region, IsStored-link_op, IsStored-unlink_op, IsStored-link_block, IsStored-unlink_block, IsStored-held_op, IsStored-held_block}
 use Rattle.plir_core.proofs.Seats.{same_ptr, live_some, parent_over, reach_seat}
 use Rattle.plir_store.specs.MemberLaws.{Has-at}

@@ -1,18 +1,17 @@
 -- An operation that gets its regions one after another.
-use Rattle.std.proofs.Common.{◌≡◌, ℕ, zero, suc, ◌+◌, ◌≤◌, ◌<◌, ◌-◌, ◌^◌, ◌⊎◌, inr, true, List, [], ◌∷◌, ◌++◌, length, Some, inl, refl, sym, ◌∙◌, ap, subst, arith, add-one, length-set}
+use Rattle.std.proofs.Common.{◌≡◌, ℕ, ◌+◌, ◌≤◌, ◌<◌, ◌-◌, ◌^◌, ◌⊎◌, inr, List, [], ◌∷◌, length, Some, inl, refl, sym, ◌∙◌, ap, subst, arith, add-one, length-set}
 use Rattle.std.proofs.lemmas.List.{length-append}
 use Rattle.std.proofs.lemmas.List.Elements.{All-nil, All-cons, All-append, All-weaker}
 use Rattle.std.proofs.lemmas.Option.{same_Some}
-use Rattle.std.specs.Prelude.{All}
-use Rattle.plir_store.specs.Table.{Table, Cell, IsTable, content_at, version_at, num_full, next_slot, slot_after, with_new, with_new_in}
+use Rattle.plir_store.specs.Table.{Table, Cell, IsTable, content_at, version_at, next_slot, slot_after, with_new, with_new_in}
 use Rattle.plir_store.specs.TableLaws.{num_full-with_new, cell_at-with_new}
 use Rattle.plir_core.specs.declared.ptr.Ptr.{Ptr}
 use Rattle.plir_core.specs.declared.ptr.Operation.{Operation as OperationKind}
 use Rattle.plir_core.specs.declared.ptr.Region.{Region as RegionKind}
 use Rattle.plir_core.specs.declared.ptr.IRNode.{IRNode}
-use Rattle.plir_core.specs.declared.ptr.IRNode.TheVariants.{Operation, Region, BasicBlock}
+use Rattle.plir_core.specs.declared.ptr.IRNode.TheVariants.{Operation, Region}
 use Rattle.plir_store.specs.Members.{Has}
-use Rattle.plir_core.specs.Nodes.{Nodes, ptr_at, num_nodes, is_node_live, node_children}
+use Rattle.plir_core.specs.Nodes.{Nodes, ptr_at, num_nodes, node_children}
 use Rattle.plir_core.specs.Stored.{IsStored}
 use Rattle.plir_core.specs.Edits.{with_new_op, with_new_region, with_new_regions}
 use Rattle.plir_core.specs.Made.{IsRegionAdded, IsMade, IsNewRegion, HasNewRegions}

@@ -1,21 +1,17 @@
 -- A tree whose nodes nothing uses.
-use Rattle.std.proofs.Common.{◌≡◌, ℕ, ◌+◌, ◌<◌, ◌≤◌, Bool, true, false, cond, List, length, get_or, Option, Some, None, refl, sym, ◌∙◌, ap, subst, arith, eqb, eq-eqb}
-use Rattle.std.specs.Prelude.{All, count_by}
+use Rattle.std.proofs.Common.{◌≡◌, ℕ, ◌<◌, ◌≤◌, Bool, true, false, cond, List, length, get_or, Option, Some, None, refl, ap, subst, arith, eq-eqb}
+use Rattle.std.specs.Prelude.{count_by}
 use Rattle.std.proofs.lemmas.Bool.{eqb-true}
 use Rattle.std.proofs.lemmas.List.Sums.{get_or-le-sum_by}
 use Rattle.plir_store.specs.Table.{Table, content_at}
-use Rattle.plir_core.specs.declared.ptr.Ptr.{Ptr}
-use Rattle.plir_core.specs.declared.ptr.Operation.{Operation as OperationKind}
-use Rattle.plir_core.specs.declared.ptr.BasicBlock.{BasicBlock as BasicBlockKind}
 use Rattle.plir_core.specs.declared.ptr.IRNode.{IRNode}
 use Rattle.plir_core.specs.declared.ptr.IRNode.TheVariants.{Operation, Region, BasicBlock}
-use Rattle.plir_core.specs.declared.value.Value.{Value}
 use Rattle.plir_core.specs.declared.value.DefiningEntity.{DefiningEntity}
 use Rattle.plir_core.specs.declared.value.DefiningEntity.TheVariants.{Op, Block}
 use Rattle.plir_core.specs.Contents.{OpView}
-use Rattle.plir_core.specs.Stored.{Seat, op, region, block, seat_of}
-use Rattle.plir_core.specs.ContextView.{ContextView, IsLive, IsAncestor, entity_node, operands_in, successors_in}
-use Rattle.plir_core.specs.Unused.{UsesNoneOf, IsUnusedOutside}
+use Rattle.plir_core.specs.Stored.{Seat, region, block, seat_of}
+use Rattle.plir_core.specs.ContextView.{ContextView, entity_node, operands_in, successors_in}
+use Rattle.plir_core.specs.Unused.{IsUnusedOutside}
 use Rattle.plir_core.specs.Uses.{is_seated, values_from, blocks_in, uses_held, uses_of, is_not_used}
 use Rattle.plir_core.specs.Walked.{IsClear}
 use Rattle.plir_core.proofs.Counting.{uses-none, held-none}
@@ -47,7 +43,7 @@ module _ {K A : Type 0} where
   values_some at None e = refl
   values_some at (Some v) e = omega arith
 
-  blocks_some : (at : Seat) (o : Option (OpView K A)) → uses_held at o ≡ 0 → blocks_in at (successors_in o) ≡ 0
+  pub blocks_some : (at : Seat) (o : Option (OpView K A)) → uses_held at o ≡ 0 → blocks_in at (successors_in o) ≡ 0
   blocks_some at None e = refl
   blocks_some at (Some v) e = omega arith
 

@@ -1,20 +1,19 @@
 -- The scan over all operations for one outside a tree that uses what is in it.
-use Rattle.std.proofs.Common.{◌≡◌, ℕ, ◌+◌, ◌<◌, ◌≤◌, Bool, true, false, List, length, slice_index_or, Option, Some, None, IsSome, ◌⊎◌, inl, inr, refl, sym, ◌∙◌, ap, subst, arith}
+use Rattle.std.proofs.Common.{◌≡◌, ℕ, ◌+◌, ◌<◌, ◌≤◌, Bool, true, false, List, length, slice_index_or, Some, None, inl, inr, refl, sym, ◌∙◌, ap, subst, arith}
 use Rattle.std.specs.Prelude.{All}
-use Rattle.std.proofs.lemmas.Bool.{cases_lt, cases_eq}
-use Rattle.std.proofs.lemmas.List.{get_or_default}
+use Rattle.std.proofs.lemmas.Bool.{cases_lt}
 use Rattle.plir_store.specs.Table.{content_at}
 use Rattle.plir_core.specs.declared.ptr.Ptr.{Ptr}
 use Rattle.plir_core.specs.declared.ptr.Operation.{Operation as OperationKind}
 use Rattle.plir_core.specs.declared.ptr.BasicBlock.{BasicBlock as BlockKind}
 use Rattle.plir_core.specs.declared.ptr.IRNode.{IRNode}
-use Rattle.plir_core.specs.declared.ptr.IRNode.TheVariants.{Operation, Region, BasicBlock}
+use Rattle.plir_core.specs.declared.ptr.IRNode.TheVariants.{Operation, BasicBlock}
 use Rattle.plir_core.specs.declared.value.Value.{Value}
 use Rattle.plir_core.specs.declared.value.DefiningEntity.{DefiningEntity}
 use Rattle.plir_core.specs.Above.{Reaches}
 use Rattle.plir_core.specs.Nodes.{Nodes, ptr_at, is_node_live, node_parent}
 use Rattle.plir_core.specs.Contents.{OpView, BlockView}
-use Rattle.plir_core.specs.ContextView.{ContextView, IsLive, IsAncestor, entity_node, operands_of, successors_of, operands_in, successors_in}
+use Rattle.plir_core.specs.ContextView.{ContextView, IsLive, IsAncestor, entity_node, operands_in, successors_in}
 use Rattle.plir_core.specs.Unused.{UsesNoneOf, IsUnusedAt, IsUnusedOutside}
 use Rattle.plir_core.proofs.Listing.{some_none, within_content}
 use Rattle.plir_core.proofs.Facts.{live_parts}

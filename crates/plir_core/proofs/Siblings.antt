@@ -1,12 +1,12 @@
 -- The children of a list by their places.
-use Rattle.std.proofs.Common.{◌≡◌, ℕ, zero, suc, ◌+◌, ◌<◌, true, false, cond, eqb, List, [], ◌∷◌, length, ◌^◌, ◌≤◌, Option, Some, None, ◌⊎◌, inl, inr, refl, sym, ◌∙◌, ap, subst, eq-eqb, add-one, arith}
+use Rattle.std.proofs.Common.{◌≡◌, ℕ, zero, suc, ◌+◌, ◌<◌, List, [], ◌∷◌, length, ◌^◌, ◌≤◌, Option, Some, None, refl, sym, ◌∙◌, ap, subst, eq-eqb, add-one, arith}
 use Rattle.std.specs.Prelude.{slice_get}
 use Rattle.std.proofs.lemmas.Bool.{ne_eqb}
 use Rattle.std.proofs.lemmas.Option.{same_Some, none-some, slice_get_within}
 use Rattle.plir_store.specs.MemberLaws.{Has-at, at-Has}
 use Rattle.plir_store.specs.Members.{Has, Distinct, head}
 use Rattle.plir_store.specs.ListLaws.{length-le_from_Distinct}
-use Rattle.plir_store.specs.Lists.{Lists, IsAgreed, children_at, parent_at, next_in, next_of, next_under}
+use Rattle.plir_store.specs.Lists.{Lists, IsAgreed, children_at, next_in, next_of}
 
 pub first_get : (xs : List ℕ) → head xs ≡ slice_get xs 0
 first_get [] = refl

@@ -1,25 +1,18 @@
 -- What the kind of the last operation of a block says of it.
-use Rattle.std.proofs.Common.{◌≡◌, ℕ, Bool, true, false, cond, List, [], ◌∷◌, Option, Some, None, ◌⊎◌, inl, inr, refl, sym, ◌∙◌, ap, subst}
-use Rattle.std.specs.Prelude.{option_map, IfSome}
-use Rattle.std.proofs.lemmas.Option.{same_Some, none-some}
-use Rattle.plir_store.specs.Members.{Has}
+use Rattle.std.proofs.Common.{◌≡◌, Bool, cond, Some, None, refl, sym, ◌∙◌, ap}
+use Rattle.std.specs.Prelude.{IfSome}
 use Rattle.plir_data.specs.declared.op_set.OpKind.{OpKind}
 use Rattle.plir_data.specs.declared.op_set.OpKind.TheVariants.{Module, Func, Constant, ForwardRef, Own}
-use Rattle.plir_store.specs.Lists.{children_at, last_from, last_of}
 use Rattle.plir_core.specs.declared.ptr.Ptr.{Ptr}
 use Rattle.plir_core.specs.declared.ptr.Operation.{Operation as OperationKind}
 use Rattle.plir_core.specs.declared.ptr.BasicBlock.{BasicBlock as BasicBlockKind}
-use Rattle.plir_core.specs.declared.ptr.IRNode.{IRNode}
 use Rattle.plir_core.specs.declared.ptr.IRNode.TheVariants.{Operation, BasicBlock}
 use Rattle.plir_core.specs.declared.interface.Interface.TheVariants.{Terminator}
-use Rattle.plir_core.specs.Nodes.{Nodes, op_node, is_node_live, node_last}
-use Rattle.plir_core.specs.Stored.{IsStored}
 use Rattle.plir_core.specs.Interfaces.{implements}
-use Rattle.plir_core.specs.Contents.{OpView}
 use Rattle.plir_core.specs.ContextView.{ContextView, IsLive, op_at, kind_in, kind_of, last_child}
 use Rattle.plir_core.specs.Terminator.{is_terminator_kind, if_terminator, terminator_of}
 use Rattle.plir_core.proofs.Listing.{some_value}
-use Rattle.plir_core.proofs.Seats.{live_some, some_live}
+use Rattle.plir_core.proofs.Seats.{live_some}
 
 module _ {K : Type 0} (t y b u : K → Bool) where
   ends : (k : OpKind K) → implements t y b u k Terminator ≡ is_terminator_kind t (Some k)

@@ -6,7 +6,7 @@ use Rattle.std.proofs.lemmas.Option.{same_Some, none-some, slice_get_within, sli
 use Rattle.plir_store.specs.Members.{Has, head}
 use Rattle.plir_store.specs.MemberLaws.{Has-at, at-Has}
 use Rattle.plir_core.specs.declared.ptr.IRNode.{IRNode}
-use Rattle.plir_core.specs.Above.{climb, Reaches}
+use Rattle.plir_core.specs.Above.{climb}
 use Rattle.plir_core.specs.Nodes.{Nodes, is_node_live, node_children, node_parent, node_next}
 use Rattle.plir_core.specs.Stored.{IsStored}
 use Rattle.plir_core.specs.Walked.{IsClear, IsClearBefore, IsCome}

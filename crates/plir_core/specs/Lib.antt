@@ -28,6 +28,7 @@
 --   Refused      IsUnmade: what a refused make leaves of the slots
 --   Erase        erased: the nodes without a tree; IsErased: what that leaves as it was; LosesOneChild: the children
 --                that are left
+--   Lasting      StandsBesideAfter: what stood beside an operation stays where that is erased
 --   Replaced     with_uses_replaced: a value has come in place of another one
 --   Unused       IsUnusedOutside: nothing outside a tree uses a value or a block of it
 --   Uses         uses_of: how often what is in a slot is used; Counts: that counts which are kept say so; IsSound
@@ -56,6 +57,7 @@ pub mod Placed
 pub mod Held
 pub mod Grown
 pub mod Erase
+pub mod Lasting
 pub mod Refused
 pub mod Replaced
 pub mod Unused

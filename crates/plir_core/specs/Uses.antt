@@ -9,7 +9,7 @@ use Rattle.plir_core.specs.declared.ptr.IRNode.TheVariants.{Operation, Region, B
 use Rattle.plir_core.specs.declared.value.Value.{Value}
 use Rattle.plir_core.specs.Contents.{OpView}
 use Rattle.plir_core.specs.Stored.{Seat, op, region, block, seat_of}
-use Rattle.plir_core.specs.ContextView.{ContextView, entity_node}
+use Rattle.plir_core.specs.ContextView.{ContextView, entity_node, operands_of}
 use Rattle.plir_core.specs.WellFormed.{IsWellFormed}
 
 -- The counts of the slots of operations and of blocks, from the first slot on.
@@ -110,6 +110,12 @@ IsBegun old now i = (j n : ℕ) →
 pub record IsSound {K A T : Type 0} (own_handles : A → List ℕ) (s : ContextView K A T) (u : Uses) : Type 0 where
   pub whole : IsWellFormed own_handles s
   pub counted : Counts u (uses_of s.nodes.ops)
+
+-- how often a node uses itself: an operation those of its operands that are its own results, other nodes nothing
+abbrev pub own_uses : {K A T : Type 0} → ContextView K A T → IRNode → ℕ
+own_uses s (Operation p) = values_from (op p.slot) (operands_of s p)
+own_uses s (Region p) = 0
+own_uses s (BasicBlock p) = 0
 
 -- whether no live operation uses a node
 abbrev pub is_not_used : {K A T : Type 0} → ContextView K A T → IRNode → Bool

@@ -1,5 +1,5 @@
 -- Which values are used, and how often.
-use Rattle.std.specs.Prelude.{◌≡◌, ℕ, Contains, List, length, count_by}
+use Rattle.std.specs.Prelude.{ℕ, Contains, List, length, count_by}
 use Rattle.plir_store.specs.Table.{content_at}
 use Rattle.plir_core.specs.declared.ptr.Ptr.{Ptr}
 use Rattle.plir_core.specs.declared.ptr.Operation.{Operation as OperationKind}

@@ -183,7 +183,10 @@ impl Ptr<BasicBlock> {
         ensures whole { IsWellFormed D.attr_handles ctx.now }
     {
         prove!(self.is_live(ctx), "the block is not live");
-        prove!(i < self.get_num_arguments(ctx), "there is none at this place");
+        prove!(
+            i < self.get_num_arguments(ctx),
+            "there is none at this place"
+        );
         ctx.nodes.block(self).arg_types[i]
     }
 
@@ -196,7 +199,10 @@ impl Ptr<BasicBlock> {
         ensures whole { IsWellFormed D.attr_handles ctx.now }
     {
         prove!(self.is_live(ctx), "the block is not live");
-        prove!(i < self.get_num_arguments(ctx), "there is none at this place");
+        prove!(
+            i < self.get_num_arguments(ctx),
+            "there is none at this place"
+        );
         let _types = &ctx.types;
         Value::new(DefiningEntity::Block(self), i)
     }
@@ -245,8 +251,14 @@ impl Ptr<BasicBlock> {
     {
         prove!(self.is_live(ctx), "the block is not live");
         prove!(region.is_live(ctx), "the region is not live");
-        prove!(self.get_parent_region(ctx).is_none(), "the block stands in a region already");
-        prove!(!IRNode::BasicBlock(self).is_ancestor(IRNode::Region(region), ctx), "the block stands above its new place");
+        prove!(
+            self.get_parent_region(ctx).is_none(),
+            "the block stands in a region already"
+        );
+        prove!(
+            !IRNode::BasicBlock(self).is_ancestor(IRNode::Region(region), ctx),
+            "it would stand in itself"
+        );
         ctx.nodes.push_block(self, region);
     }
 
@@ -318,8 +330,14 @@ impl Ptr<BasicBlock> {
     {
         prove!(self.is_live(ctx), "the block is not live");
         prove!(region.is_live(ctx), "the region is not live");
-        prove!(self.get_parent_region(ctx).is_none(), "the block stands in a region already");
-        prove!(!IRNode::BasicBlock(self).is_ancestor(IRNode::Region(region), ctx), "the block stands above its new place");
+        prove!(
+            self.get_parent_region(ctx).is_none(),
+            "the block stands in a region already"
+        );
+        prove!(
+            !IRNode::BasicBlock(self).is_ancestor(IRNode::Region(region), ctx),
+            "it would stand in itself"
+        );
         ctx.nodes.push_block_front(self, region);
     }
 
@@ -336,9 +354,18 @@ impl Ptr<BasicBlock> {
     {
         prove!(self.is_live(ctx), "the block is not live");
         prove!(mark.is_live(ctx), "the block is not live");
-        prove!(self.get_parent_region(ctx).is_none(), "the block stands in a region already");
-        prove!(mark.get_parent_region(ctx).is_some(), "the block that marks the place stands in no region");
-        prove!(!IRNode::BasicBlock(self).is_ancestor(IRNode::BasicBlock(mark), ctx), "the block stands above its new place");
+        prove!(
+            self.get_parent_region(ctx).is_none(),
+            "the block stands in a region already"
+        );
+        prove!(
+            mark.get_parent_region(ctx).is_some(),
+            "the block that marks the place stands in no region"
+        );
+        prove!(
+            !IRNode::BasicBlock(self).is_ancestor(IRNode::BasicBlock(mark), ctx),
+            "it would stand in itself"
+        );
         ctx.nodes.insert_block_before(self, mark);
     }
 
@@ -355,9 +382,18 @@ impl Ptr<BasicBlock> {
     {
         prove!(self.is_live(ctx), "the block is not live");
         prove!(mark.is_live(ctx), "the block is not live");
-        prove!(self.get_parent_region(ctx).is_none(), "the block stands in a region already");
-        prove!(mark.get_parent_region(ctx).is_some(), "the block that marks the place stands in no region");
-        prove!(!IRNode::BasicBlock(self).is_ancestor(IRNode::BasicBlock(mark), ctx), "the block stands above its new place");
+        prove!(
+            self.get_parent_region(ctx).is_none(),
+            "the block stands in a region already"
+        );
+        prove!(
+            mark.get_parent_region(ctx).is_some(),
+            "the block that marks the place stands in no region"
+        );
+        prove!(
+            !IRNode::BasicBlock(self).is_ancestor(IRNode::BasicBlock(mark), ctx),
+            "it would stand in itself"
+        );
         ctx.nodes.insert_block_after(self, mark);
     }
 

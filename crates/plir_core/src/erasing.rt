@@ -28,7 +28,8 @@ impl IRNode {
     }
 
     /// Whether no live operation outside the tree of this node, which is the node and all below it, has an operand that
-    /// is a value of the tree or a successor in it.
+    /// is a value of the tree or a successor in it. Counts tell it where the node has no children, and where nothing
+    /// uses any node of the tree, also in the tree; else, and where a count is not known, this looks at all operations.
     pub fn is_unused_outside<D: OpSet>(self, ctx: &Context<D>) -> bool
         ensures value { IsTrue result ↔ IsUnusedOutside ctx.now self }
         ensures whole { IsWellFormed D.attr_handles ctx.now }
@@ -107,7 +108,10 @@ impl Operation {
         ensures whole { IsWellFormed D.attr_handles ctx.new }
     {
         prove!(op.is_live(ctx), "the operation is not live");
-        prove!(IRNode::Operation(op).is_unused_outside(ctx), "what is erased is used outside");
+        prove!(
+            IRNode::Operation(op).is_unused_outside(ctx),
+            "what is erased is used outside"
+        );
         erase_tree(IRNode::Operation(op), ctx);
     }
 }
@@ -123,7 +127,10 @@ impl BasicBlock {
         ensures whole { IsWellFormed D.attr_handles ctx.new }
     {
         prove!(block.is_live(ctx), "the block is not live");
-        prove!(IRNode::BasicBlock(block).is_unused_outside(ctx), "what is erased is used outside");
+        prove!(
+            IRNode::BasicBlock(block).is_unused_outside(ctx),
+            "what is erased is used outside"
+        );
         erase_tree(IRNode::BasicBlock(block), ctx);
     }
 }

@@ -1,8 +1,9 @@
 //! Laws of contexts: each function does nothing, and its contract is the law.
-ghost use Rattle.std.specs.Prelude.{◌≡◌, ◌⊎◌, [], ◌∷◌, ◌++◌, ◌+◌, List, Some, reverse, slice_get};
+ghost use Rattle.std.specs.Prelude.{◌≡◌, ◌⊎◌, [], ◌∷◌, ◌++◌, ◌+◌, List, Option, Some, reverse, slice_get, option_map};
 ghost use Rattle.plir_core.specs.Above.{Reaches};
 ghost use Rattle.plir_core.specs.Contents.{OpView, BlockView};
 ghost use Rattle.plir_core.specs.Erase.{IsErased, LosesOneChild};
+ghost use Rattle.plir_core.specs.Lasting.{StandsBesideAfter};
 ghost use Rattle.plir_store.specs.Members.{head};
 ghost use Rattle.plir_core.specs.ContextView.{ContextView, IsLive, children, parent_of, IsIndexed};
 ghost use Rattle.plir_core.specs.ContextView.{first_child, last_child, next_sibling, prev_sibling};
@@ -87,6 +88,21 @@ pub fn regions_stand_in_operations<D: OpSet>(ctx: &Context<D>)
 pub fn erasure_takes_one_child<D: OpSet>(ctx: &Context<D>)
     ensures { (after : ContextView D.Kind D.Attr D.Ty) (gone : AnyNode) → IsErased ctx.now.nodes after.nodes gone →
         LosesOneChild ctx.now.nodes after.nodes gone }
+{
+    ctx.stands();
+}
+
+/// What stands right before or right after an operation is another one, and it stays where the operation is erased: a
+/// loop over the operations of a block may ask for it, erase the operation, and go on from there. It is called before
+/// the erasure; `after` is what that leaves, as its clause `tree` says, and `beside` is what `get_prev` or `get_next`
+/// answered.
+pub fn neighbours_outlast_an_erasure<D: OpSet>(ctx: &Context<D>, op: Ptr<Operation>)
+    ensures prev { (beside : Option (AnyPtr OperationKind)) (after : ContextView D.Kind D.Attr D.Ty) →
+        option_map AnyNode.Operation beside ≡ prev_sibling ctx.now (AnyNode.Operation op) →
+        IsErased ctx.now.nodes after.nodes (AnyNode.Operation op) → StandsBesideAfter ctx.now after op beside }
+    ensures next { (beside : Option (AnyPtr OperationKind)) (after : ContextView D.Kind D.Attr D.Ty) →
+        option_map AnyNode.Operation beside ≡ next_sibling ctx.now (AnyNode.Operation op) →
+        IsErased ctx.now.nodes after.nodes (AnyNode.Operation op) → StandsBesideAfter ctx.now after op beside }
 {
     ctx.stands();
 }

@@ -247,6 +247,7 @@ impl Ptr<Operation> {
         ensures whole { IsWellFormed D.attr_handles ctx.now }
     {
         prove!(self.is_live(ctx), "the operation is not live");
+        prove!(i < self.num_regions(ctx), "there is none at this place");
         ctx.nodes.region(self, i)
     }
 
@@ -316,7 +317,10 @@ impl Ptr<Operation> {
         ensures whole { IsWellFormed D.attr_handles ctx.now }
     {
         prove!(self.is_live(ctx), "the operation is not live");
-        prove!(i < self.get_num_operands(ctx), "there is none at this place");
+        prove!(
+            i < self.get_num_operands(ctx),
+            "there is none at this place"
+        );
         ctx.nodes.op(self).operands[i]
     }
 
@@ -339,7 +343,10 @@ impl Ptr<Operation> {
         ensures whole { IsWellFormed D.attr_handles ctx.now }
     {
         prove!(self.is_live(ctx), "the operation is not live");
-        prove!(i < self.get_num_successors(ctx), "there is none at this place");
+        prove!(
+            i < self.get_num_successors(ctx),
+            "there is none at this place"
+        );
         ctx.nodes.op(self).successors[i]
     }
 
@@ -387,8 +394,14 @@ impl Ptr<Operation> {
     {
         prove!(self.is_live(ctx), "the operation is not live");
         prove!(block.is_live(ctx), "the block is not live");
-        prove!(self.get_parent_block(ctx).is_none(), "the operation stands in a block already");
-        prove!(!IRNode::Operation(self).is_ancestor(IRNode::BasicBlock(block), ctx), "the operation stands above its new place");
+        prove!(
+            self.get_parent_block(ctx).is_none(),
+            "the operation stands in a block already"
+        );
+        prove!(
+            !IRNode::Operation(self).is_ancestor(IRNode::BasicBlock(block), ctx),
+            "it would stand in itself"
+        );
         ctx.nodes.push_op(self, block);
     }
 }

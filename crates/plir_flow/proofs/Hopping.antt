@@ -13,7 +13,6 @@ use Rattle.plir_store.specs.Members.{Has}
 use Rattle.plir_flow.specs.declared.hops.Hop.{Hop}
 use Rattle.plir_core.specs.ContextView.{ContextView}
 use Rattle.plir_store.specs.MemberLaws.{Has-append_left}
-use Rattle.plir_flow.specs.declared.edge_ends.RegionSuccessor.TheVariants.{Region as ToRegion}
 use Rattle.plir_flow.specs.RegionEdges.{EdgeView, IsFromRegion, IsStep, IsStepOn}
 use Rattle.plir_flow.specs.Hops.{IsHop, IsNoneFrom, IsLatest, AreLinked, AreHeads, IsReachedMore}
 use Rattle.plir_flow.proofs.TakenLists.{has-last, has-more, distinct-push, any-has}

@@ -1,7 +1,7 @@
 -- Lists in segments: what edits of one segment do to the flattening and to the sizes.
 use Rattle.std.proofs.Common.{◌≡◌, ◌≢◌, ℕ, zero, suc, ◌+◌, ◌-◌, ◌<◌, ◌≤◌, List, [], ◌∷◌, ◌++◌, length, map, take, drop, sum, Some, refl, sym, ap, ◌∙◌, arith}
 use Rattle.std.specs.Prelude.{insert, remove, slice_get, slice_set, slice_index_or, slice_range}
-use Rattle.std.proofs.lemmas.List.{nil_from_length, take-append-drop, length-take-le, length-drop, length-append, take_at, drop_at, drop-drop, append-nil, drop_all, length_push}
+use Rattle.std.proofs.lemmas.List.{nil_from_length, take-append-drop, length-take-le, length-drop, take_at, drop_at, drop-drop, append-nil, drop_all, length_push}
 use Rattle.std.proofs.lemmas.List.Edits.{insert-append_left, insert-append_right, remove-append_left, remove-append_right, insert_end}
 use Rattle.std.proofs.lemmas.List.Sums.{sum_by-cons}
 use Rattle.plir_flow.specs.Segments.{in_segments, flatten, segment_at, edit_at, start_in}

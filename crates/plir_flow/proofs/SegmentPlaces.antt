@@ -1,15 +1,15 @@
 -- The types in a segment, among the types of all operands.
-use Rattle.std.proofs.Common.{◌≡◌, ◌↔◌, ℕ, ◌+◌, ◌-◌, ◌<◌, ◌≤◌, Bool, List, length, map, Option, Some, None, IsSome, refl, sym, ap, subst, ◌∙◌, arith}
-use Rattle.std.specs.Prelude.{slice_get, option_map, option_and_then, IsNone, IfSome}
+use Rattle.std.proofs.Common.{◌≡◌, ◌↔◌, ℕ, ◌+◌, ◌-◌, ◌<◌, Bool, length, Option, Some, None, refl, sym, ap, subst, ◌∙◌, arith}
+use Rattle.std.specs.Prelude.{option_map, option_and_then, IsNone, IfSome}
 use Rattle.std.proofs.lemmas.List.{length-map}
-use Rattle.std.proofs.lemmas.Option.{slice_get-map, none-some}
+use Rattle.std.proofs.lemmas.Option.{slice_get-map}
 use Rattle.plir_data.specs.Types.{TypeView}
 use Rattle.plir_core.specs.declared.ptr.Ptr.{Ptr}
 use Rattle.plir_core.specs.declared.ptr.Operation.{Operation as OperationKind}
 use Rattle.plir_core.specs.ContextView.{ContextView, operands_of, type_of_value}
 use Rattle.plir_iface.specs.Counts.{operand_types}
 use Rattle.plir_iface.specs.Sides.{type_in}
-use Rattle.plir_iface.specs.TypeRules.{Passes, EachPasses, FailsFirst, IsFirstFailing, IsBetween}
+use Rattle.plir_iface.specs.TypeRules.{Passes, EachPasses, IsFirstFailing, IsBetween}
 use Rattle.plir_flow.specs.Segments.{segment_at, segments_of, segment_size, num_segments, sizes_of, start_in, IsSegmented}
 use Rattle.plir_flow.specs.SegmentTypes.{segment_types, FailsFirstIn}
 use Rattle.plir_flow.proofs.SegmentsPut.{size-is, value-is}

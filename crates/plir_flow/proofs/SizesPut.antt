@@ -1,12 +1,8 @@
 -- Sizes that are taken out to be edited, and put back.
-use Rattle.std.proofs.Common.{◌≡◌, ℕ, Bool, true, false, cond, List, [], ◌∷◌, Ordering, Less, Equal, Greater, Option, Some, None, IsSome, is_some, ◌&&◌, ◌==◌, nat_cmp, refl, sym, ap, subst, ◌∙◌}
+use Rattle.std.proofs.Common.{◌≡◌, true, Option, Some, None, IsSome, is_some, ◌&&◌, ◌==◌, refl, sym, ap, subst, ◌∙◌}
 use Rattle.std.specs.Prelude.{option_map}
-use Rattle.std.proofs.lemmas.Cmp.{nat_list_cmp_total}
-use Rattle.std.proofs.lemmas.Map.Lookups.{exact_bytes}
-use Rattle.std.specs.Ordering.{match_ordering, ordering_reverse, is_eq}
-use Rattle.std.specs.Cmp.Lexicographic.{slice_cmp}
 use Rattle.plir_data.specs.AttrView.{AttrView}
-use Rattle.plir_data.specs.Dictionary.{dict_get, dict_put}
+use Rattle.plir_data.specs.Dictionary.{dict_get}
 use Rattle.plir_data.specs.DictLaws.{put-put, get-put}
 use Rattle.plir_store.specs.Table.{version_at}
 use Rattle.plir_core.specs.declared.ptr.Ptr.{Ptr}

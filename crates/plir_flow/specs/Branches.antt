@@ -1,5 +1,5 @@
 -- The rules of branches and of successors, and how they are refused.
-use Rattle.std.specs.Prelude.{◌≡◌, ◌≢◌, ◌<◌, ◌+◌, ◌-◌, ℕ, List, [], ◌∷◌, ◌++◌, insert, remove, length, map, slice_get}
+use Rattle.std.specs.Prelude.{◌≡◌, ◌≢◌, ◌<◌, ◌+◌, ℕ, List, [], ◌∷◌, ◌++◌, insert, remove, length, map, slice_get}
 use Rattle.std.specs.Prelude.{slice_range, slice_set, Bool, true, false, ◌||◌, Option, Some, string_bytes}
 use Rattle.plir_data.specs.Dictionary.{dict_get, is_key}
 use Rattle.plir_data.specs.Types.{TypeView, IsLive as IsTypeLive}

@@ -1,5 +1,5 @@
 -- The rule of calls, and how it is refused.
-use Rattle.std.specs.Prelude.{◌≡◌, ◌<◌, ℕ, List, Bool, Option, Some, None, is_some, option_and_then, codes}
+use Rattle.std.specs.Prelude.{◌≡◌, ℕ, List, Bool, Option, Some, None, is_some, option_and_then, codes}
 use Rattle.plir_data.specs.AttrCalls.{type_in_attr}
 use Rattle.plir_data.specs.AttrView.{leaf, type_of}
 use Rattle.plir_data.specs.Dictionary.{dict_get, dict_put}

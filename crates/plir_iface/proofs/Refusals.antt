@@ -1,5 +1,5 @@
 -- What follows from a refusal by an error.
-use Rattle.std.proofs.Common.{◌≡◌, ◌<◌, ◌≤◌, ℕ, zero, List, Bool, Option, arith}
+use Rattle.std.proofs.Common.{◌<◌, ℕ, List, Bool, Option, arith}
 use Rattle.plir_data.specs.Types.{TypeView}
 use Rattle.plir_data.specs.declared.location.VerifyErr.{VerifyErr}
 use Rattle.plir_data.specs.declared.location.VerifyErr.TheVariants.{Refused, Memory}

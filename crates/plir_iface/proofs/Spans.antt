@@ -1,7 +1,7 @@
 -- A range of places is a span: from its first place on, and before the one behind its last.
-use Rattle.std.proofs.Common.{◌≡◌, ◌↔◌, ℕ, suc, ◌+◌, ◌<◌, ◌≤◌, ℤ, pos, negsuc, arith}
+use Rattle.std.proofs.Common.{ℕ, ◌+◌, ◌<◌, ◌≤◌, ℤ, pos, negsuc, arith}
 use Rattle.plir_iface.specs.IndexRange.{IsTooShort, IsUpTo, IsIndexRange}
-use Rattle.plir_iface.specs.Places.{NeedsMore, IsAmong, IsSpan}
+use Rattle.plir_iface.specs.Places.{IsSpan}
 use Rattle.plir_iface.specs.declared.index_range.IndexRange.TheVariants.{Range}
 use Rattle.plir_iface.specs.declared.places.Places.TheVariants.{Within}
 

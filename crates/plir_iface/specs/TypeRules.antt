@@ -1,5 +1,5 @@
 -- The rules of types: which types of an operation's operands or results must pass a test.
-use Rattle.std.specs.Prelude.{◌≡◌, ◌<◌, ◌≤◌, ℕ, ℤ, List, length, Bool, true, false, Option, Some, None}
+use Rattle.std.specs.Prelude.{◌≡◌, ◌<◌, ◌≤◌, ℕ, List, length, Bool, true, false, Option, Some, None}
 use Rattle.std.specs.Option.{option_map_or}
 use Rattle.plir_data.specs.Types.{TypeView, type_at}
 use Rattle.plir_core.specs.declared.ptr.Ptr.{Ptr}

@@ -1,5 +1,5 @@
 -- The operations of a block are replaced one after another.
-use Rattle.std.proofs.Common.{◌≡◌, ◌<◌, ℕ, zero, suc, arith, Bool, true, false, List, [], ◌∷◌, ◌++◌, length, Option, Some, None, option_map, ◌⊎◌, inl, inr, refl, sym, ap, subst, ◌∙◌, append_assoc}
+use Rattle.std.proofs.Common.{◌≡◌, ◌<◌, suc, arith, Bool, true, false, List, [], ◌∷◌, ◌++◌, length, Option, Some, None, option_map, inl, inr, refl, sym, ap, subst, ◌∙◌, append_assoc}
 use Rattle.std.proofs.lemmas.Option.{none-some, same_Some}
 use Rattle.plir_data.specs.declared.op_set.OpKind.{OpKind}
 use Rattle.plir_store.specs.Members.{Has, Distinct, head}
@@ -8,12 +8,12 @@ use Rattle.plir_core.specs.declared.ptr.Ptr.{Ptr}
 use Rattle.plir_core.specs.declared.ptr.Operation.{Operation as OperationKind}
 use Rattle.plir_core.specs.declared.ptr.BasicBlock.{BasicBlock as BasicBlockKind}
 use Rattle.plir_core.specs.declared.ptr.IRNode.{IRNode}
-use Rattle.plir_core.specs.declared.ptr.IRNode.TheVariants.{Operation, Region, BasicBlock}
+use Rattle.plir_core.specs.declared.ptr.IRNode.TheVariants.{Operation, BasicBlock}
 use Rattle.plir_core.specs.Forest.{look, IsForest}
-use Rattle.plir_core.specs.ContextView.{ContextView, IsLive, is_live, children, parent_of, given_out}
+use Rattle.plir_core.specs.ContextView.{ContextView, IsLive, is_live, children, parent_of}
 use Rattle.plir_walk.specs.Lawful.{Lawful}
 use Rattle.plir_passes.specs.Legal.{is_illegal, HasLegalChildren}
-use Rattle.plir_passes.specs.Rewritten.{BringsNoIllegal, IsConverted, IsRewriting, IsReplaced}
+use Rattle.plir_passes.specs.Rewritten.{BringsNoIllegal, IsConverted, IsReplaced}
 use Rattle.plir_passes.specs.Passing.{left_from, IsPassed}
 use Rattle.plir_passes.proofs.Nodes.{left-cut, not-both, never-true}
 use Rattle.plir_passes.proofs.Keeping.{converted-none, converted-then}

@@ -1,6 +1,6 @@
 -- What is kept of untouched nodes, by one change after another.
-use Rattle.std.proofs.Common.{◌≡◌, ℕ, zero, suc, Bool, true, false, List, [], ◌∷◌, ◌++◌, Option, Some, None, ◌⊎◌, inl, inr, refl, sym, ap, subst, ◌∙◌}
-use Rattle.std.proofs.lemmas.Option.{none-some, same_Some}
+use Rattle.std.proofs.Common.{◌≡◌, ℕ, zero, suc, Bool, true, Option, Some, None, refl, sym, ap, subst, ◌∙◌}
+use Rattle.std.proofs.lemmas.Option.{same_Some}
 use Rattle.plir_data.specs.declared.op_set.OpKind.{OpKind}
 use Rattle.plir_core.specs.declared.ptr.Ptr.{Ptr}
 use Rattle.plir_core.specs.declared.ptr.Operation.{Operation as OperationKind}
@@ -10,10 +10,10 @@ use Rattle.plir_core.specs.declared.ptr.IRNode.TheVariants.{Operation, Region, B
 use Rattle.plir_core.specs.Above.{climb, Reaches}
 use Rattle.plir_core.specs.Contents.{OpView}
 use Rattle.plir_core.specs.Forest.{look, IsForest}
-use Rattle.plir_core.specs.ContextView.{ContextView, IsLive, children, parent_of, kind_of, kind_in, op_at, entity_node}
+use Rattle.plir_core.specs.ContextView.{ContextView, IsLive, parent_of, kind_in, op_at, entity_node}
 use Rattle.plir_passes.specs.Legal.{is_illegal, is_kind, IsUntouched}
 use Rattle.plir_passes.specs.Kept.{Keeps, but_operands}
-use Rattle.plir_passes.specs.Rewritten.{BringsNoIllegal, IsConverted, IsRewriting}
+use Rattle.plir_passes.specs.Rewritten.{IsConverted, IsRewriting}
 use Rattle.plir_passes.proofs.Nodes.{climb-nothing, not-both}
 
 kind-but : {K A : Type 0} (o : Option (OpView K A)) → kind_in (but_operands o) ≡ kind_in o

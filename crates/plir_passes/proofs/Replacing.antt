@@ -1,9 +1,9 @@
 -- An operation is replaced by one that was made.
-use Rattle.std.proofs.Common.{◌≡◌, ℕ, zero, suc, Bool, true, false, List, [], ◌∷◌, ◌++◌, Option, Some, None, ◌⊎◌, inl, inr, refl, sym, ap, subst, ◌∙◌, append_assoc, slice_get}
-use Rattle.std.proofs.lemmas.Option.{none-some, same_Some}
+use Rattle.std.proofs.Common.{◌≡◌, ℕ, zero, suc, Bool, true, false, List, [], ◌∷◌, ◌++◌, Option, Some, None, inl, inr, refl, sym, ap, subst, ◌∙◌, append_assoc, slice_get}
+use Rattle.std.proofs.lemmas.Option.{same_Some}
 use Rattle.plir_data.specs.declared.op_set.OpKind.{OpKind}
-use Rattle.plir_store.specs.Members.{Has, Distinct}
-use Rattle.plir_store.specs.MemberLaws.{Has-split, Has-append_left, Has-append_right, Has-append_cases, Has-mid}
+use Rattle.plir_store.specs.Members.{Has}
+use Rattle.plir_store.specs.MemberLaws.{Has-split, Has-append_left, Has-append_right, Has-append_cases}
 use Rattle.plir_store.specs.Table.{content_at, is_live_at}
 use Rattle.plir_core.specs.declared.ptr.Ptr.{Ptr}
 use Rattle.plir_core.specs.declared.ptr.Operation.{Operation as OperationKind}
@@ -12,7 +12,6 @@ use Rattle.plir_core.specs.declared.ptr.IRNode.{IRNode}
 use Rattle.plir_core.specs.declared.ptr.IRNode.TheVariants.{Operation, Region, BasicBlock}
 use Rattle.plir_core.specs.Above.{climb, Reaches}
 use Rattle.plir_core.specs.Changes.{SameLive}
-use Rattle.plir_core.specs.Contents.{OpView}
 use Rattle.plir_core.specs.Erase.{IsErased}
 use Rattle.plir_core.specs.Made.{IsMade}
 use Rattle.plir_core.specs.Nodes.{Nodes, is_node_live}

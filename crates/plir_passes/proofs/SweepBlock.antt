@@ -1,20 +1,20 @@
 -- The loop over the operations of a block, the last one first.
-use Rattle.std.proofs.Common.{◌≡◌, ◌<◌, ◌≤◌, ◌+◌, ◌*◌, ℕ, zero, suc, arith, Bool, true, false, cond, List, [], ◌∷◌, ◌++◌, length, reverse, Option, Some, None, option_map, ◌⊎◌, inl, inr, refl, sym, ap, subst, ◌∙◌}
+use Rattle.std.proofs.Common.{◌≡◌, ◌<◌, ◌+◌, ℕ, zero, suc, arith, Bool, false, List, [], ◌∷◌, ◌++◌, length, reverse, Option, Some, None, option_map, inl, inr, refl, sym, ap, subst, ◌∙◌}
 use Rattle.std.specs.List.{flat_map}
 use Rattle.std.proofs.lemmas.List.{reverse-reverse, reverse-append, length-append, append_assoc}
 use Rattle.std.proofs.lemmas.Option.{none-some, same_Some}
 use Rattle.plir_store.specs.Members.{Has, Distinct, head}
-use Rattle.plir_store.specs.MemberLaws.{Has-append_left, Has-append_right, Has-mid, Distinct-cross}
+use Rattle.plir_store.specs.MemberLaws.{Has-mid, Distinct-cross}
 use Rattle.plir_core.specs.declared.ptr.Ptr.{Ptr}
 use Rattle.plir_core.specs.declared.ptr.Operation.{Operation as OperationKind}
 use Rattle.plir_core.specs.declared.ptr.BasicBlock.{BasicBlock as BasicBlockKind}
 use Rattle.plir_core.specs.declared.ptr.IRNode.{IRNode}
-use Rattle.plir_core.specs.declared.ptr.IRNode.TheVariants.{Operation, Region, BasicBlock}
+use Rattle.plir_core.specs.declared.ptr.IRNode.TheVariants.{Operation, BasicBlock}
 use Rattle.plir_core.specs.Erase.{IsErased, post_order, tree_of}
 use Rattle.plir_core.specs.Measures.{most_steps}
-use Rattle.plir_core.specs.Nodes.{Nodes, node_children, num_nodes}
+use Rattle.plir_core.specs.Nodes.{Nodes, node_children}
 use Rattle.plir_core.specs.Forest.{look, IsForest}
-use Rattle.plir_core.specs.ContextView.{ContextView, IsLive, is_live, num_live, children, parent_of}
+use Rattle.plir_core.specs.ContextView.{ContextView, IsLive, num_live, children, parent_of}
 use Rattle.plir_walk.specs.Lawful.{Lawful}
 use Rattle.plir_walk.specs.LawfulChanges.{LawfulChanges}
 use Rattle.plir_passes.specs.Passing.{left_upto}

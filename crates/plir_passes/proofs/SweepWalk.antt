@@ -1,5 +1,5 @@
 -- A walk that sweeps each block.
-use Rattle.std.proofs.Common.{◌≡◌, ◌≢◌, ◌<◌, ◌≤◌, ℕ, zero, suc, arith, Bool, true, false, cond, List, [], ◌∷◌, map, Option, Some, None, Result, Ok, Err, ◌⊎◌, inl, inr, refl, sym, ap, subst, ◌∙◌}
+use Rattle.std.proofs.Common.{◌≡◌, ℕ, arith, Bool, true, false, cond, List, [], ◌∷◌, map, Option, Some, None, Result, Ok, inl, inr, refl, sym, ap, subst, ◌∙◌}
 use Rattle.std.specs.declared.ops.ControlFlow.{ControlFlow}
 use Rattle.std.specs.declared.ops.ControlFlow.TheVariants.{Continue}
 use Rattle.plir_store.specs.Members.{Has}
@@ -15,16 +15,16 @@ use Rattle.plir_store.specs.MemberLaws.{Has-map}
 use Rattle.plir_walk.specs.Lawful.{Lawful}
 use Rattle.plir_core.specs.Above.{climb}
 use Rattle.plir_core.specs.Forest.{look, IsForest, IsBelow}
-use Rattle.plir_core.specs.ContextView.{ContextView, IsLive, is_live, num_live, children, parent_of}
+use Rattle.plir_core.specs.ContextView.{ContextView, is_live, children, parent_of}
 use Rattle.plir_walk.specs.declared.interruptible.WalkContinue.{WalkContinue}
-use Rattle.plir_walk.specs.declared.interruptible.WalkContinue.TheVariants.{Advance, Skip}
+use Rattle.plir_walk.specs.declared.interruptible.WalkContinue.TheVariants.{Advance}
 use Rattle.plir_walk.specs.declared.limit.CallLimit.{CallLimit}
 use Rattle.plir_walk.specs.declared.config.WalkConfig.{WalkConfig}
 use Rattle.plir_walk.specs.Config.{AllPost}
 use Rattle.plir_walk.specs.Calls.{Call, Relation, Chain}
 use Rattle.plir_walk.specs.Walked.{Walked, IsCallUnder}
 use Rattle.plir_walk.specs.CallLaws.{chain-each, kept_from_entry_to_exit, holds_under_root}
-use Rattle.plir_passes.specs.Dead.{IsUsedBy, HasNoDeadChild, HasNoDead}
+use Rattle.plir_passes.specs.Dead.{HasNoDeadChild, HasNoDead}
 use Rattle.plir_passes.specs.Swept.{IsSwept, IsSweptBy, Tells}
 use Rattle.plir_passes.proofs.Nodes.{climb-nothing}
 use Rattle.plir_walk.specs.TreeLaws.{reached-under}

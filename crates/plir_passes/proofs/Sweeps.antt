@@ -1,21 +1,21 @@
 -- Dead operations are erased one after another.
-use Rattle.std.proofs.Common.{◌≡◌, ◌≢◌, ℕ, zero, suc, Bool, true, false, not, List, [], ◌∷◌, ◌++◌, Option, Some, None, ◌⊎◌, inl, inr, refl, sym, ap, subst, ◌∙◌, slice_get}
+use Rattle.std.proofs.Common.{◌≡◌, ℕ, zero, suc, Bool, false, List, [], ◌∷◌, ◌++◌, Option, Some, None, ◌⊎◌, inl, inr, refl, sym, ap, subst, ◌∙◌, slice_get}
 use Rattle.std.specs.List.{filter}
-use Rattle.std.proofs.lemmas.Option.{none-some, same_Some}
+use Rattle.std.proofs.lemmas.Option.{same_Some}
 use Rattle.plir_store.specs.Members.{Has, Distinct}
 use Rattle.plir_store.specs.MemberLaws.{Has-split, Has-append_left, Has-append_right, Has-append_cases, Distinct-cross, Distinct-right}
 use Rattle.plir_core.specs.declared.ptr.Ptr.{Ptr}
 use Rattle.plir_core.specs.declared.ptr.Operation.{Operation as OperationKind}
 use Rattle.plir_core.specs.declared.ptr.BasicBlock.{BasicBlock as BasicBlockKind}
 use Rattle.plir_core.specs.declared.ptr.IRNode.{IRNode}
-use Rattle.plir_core.specs.declared.ptr.IRNode.TheVariants.{Operation, Region, BasicBlock}
+use Rattle.plir_core.specs.declared.ptr.IRNode.TheVariants.{Operation, BasicBlock}
 use Rattle.plir_core.specs.Above.{climb, Reaches}
 use Rattle.plir_core.specs.Erase.{IsErased}
 use Rattle.plir_core.specs.Forest.{look, IsForest}
 use Rattle.plir_core.specs.ContextView.{ContextView, IsLive, is_live, children, parent_of, kind_in, operands_in}
 use Rattle.plir_passes.specs.Legal.{is_kind}
-use Rattle.plir_passes.specs.Dead.{is_removable, Uses, IsUsedBy, AreDead}
-use Rattle.plir_passes.specs.Swept.{IsAmong, IsSwept}
+use Rattle.plir_passes.specs.Dead.{is_removable, IsUsedBy, AreDead}
+use Rattle.plir_passes.specs.Swept.{IsSwept}
 use Rattle.plir_passes.proofs.Filters.{filter-all, filter-twice, filter-without}
 use Rattle.plir_passes.proofs.Nodes.{op-tells, not-both, never-true, climb-nothing}
 

@@ -1,17 +1,17 @@
 -- What it is for an operation without regions to be unused.
-use Rattle.std.proofs.Common.{◌≡◌, ◌≢◌, ℕ, zero, List, Some, refl, sym, ap, subst, ◌∙◌}
+use Rattle.std.proofs.Common.{◌≡◌, ℕ, zero, List, Some, refl, ap, subst, ◌∙◌}
 use Rattle.std.specs.Prelude.{All, slice_get, slice_index_or}
 use Rattle.std.proofs.lemmas.Option.{slice_get_within, slice_get-get_or, get_or_from_slice_get}
 use Rattle.plir_core.specs.declared.ptr.Ptr.{Ptr}
 use Rattle.plir_core.specs.declared.ptr.Operation.{Operation as OperationKind}
 use Rattle.plir_core.specs.declared.ptr.IRNode.{IRNode}
-use Rattle.plir_core.specs.declared.ptr.IRNode.TheVariants.{Operation, BasicBlock}
+use Rattle.plir_core.specs.declared.ptr.IRNode.TheVariants.{Operation}
 use Rattle.plir_core.specs.declared.value.DefiningEntity.{DefiningEntity}
 use Rattle.plir_core.specs.declared.value.DefiningEntity.TheVariants.{Op, Block}
 use Rattle.plir_core.specs.Above.{Reaches}
-use Rattle.plir_core.specs.ContextView.{ContextView, IsLive, parent_of, operands_of, entity_node}
+use Rattle.plir_core.specs.ContextView.{ContextView, parent_of, operands_of, entity_node}
 use Rattle.plir_core.specs.Unused.{IsUnusedOutside}
-use Rattle.plir_passes.specs.Dead.{Uses, IsUsedByNone}
+use Rattle.plir_passes.specs.Dead.{IsUsedByNone}
 
 at_place : {A : Type 0} (P : A → Type 0) (xs : List A) (i : ℕ) (x : A) → slice_get xs i ≡ Some x → All P xs → P x
 at_place P xs i x e a = subst P (get_or_from_slice_get xs i x x e) (a i x (slice_get_within xs i x e))

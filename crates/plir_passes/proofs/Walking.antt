@@ -1,11 +1,10 @@
 -- A walk that replaces the illegal operations of each block.
-use Rattle.std.proofs.Common.{◌≡◌, ◌≢◌, ℕ, zero, suc, Bool, true, false, cond, List, [], ◌∷◌, ◌++◌, map, Option, Some, None, option_and_then, slice_get, Result, Ok, Err, ◌⊎◌, inl, inr, refl, sym, ap, subst, ◌∙◌}
-use Rattle.std.proofs.lemmas.Option.{none-some, same_Some}
+use Rattle.std.proofs.Common.{◌≡◌, ◌≢◌, ℕ, Bool, true, false, cond, List, [], ◌∷◌, map, Option, Some, None, Result, Ok, refl, sym, ap, subst, ◌∙◌}
 use Rattle.std.specs.declared.ops.ControlFlow.{ControlFlow}
 use Rattle.std.specs.declared.ops.ControlFlow.TheVariants.{Continue, Break}
 use Rattle.plir_data.specs.declared.op_set.OpKind.{OpKind}
 use Rattle.plir_store.specs.Members.{Has}
-use Rattle.plir_store.specs.MemberLaws.{Has-map, at-Has}
+use Rattle.plir_store.specs.MemberLaws.{Has-map}
 use Rattle.plir_store.specs.Lists.{children_at}
 use Rattle.plir_core.specs.declared.ptr.Ptr.{Ptr}
 use Rattle.plir_core.specs.declared.ptr.Operation.{Operation as OperationKind}
@@ -13,20 +12,18 @@ use Rattle.plir_core.specs.declared.ptr.Region.{Region as RegionKind}
 use Rattle.plir_core.specs.declared.ptr.BasicBlock.{BasicBlock as BasicBlockKind}
 use Rattle.plir_core.specs.declared.ptr.IRNode.{IRNode}
 use Rattle.plir_core.specs.declared.ptr.IRNode.TheVariants.{Operation, Region, BasicBlock}
-use Rattle.plir_core.specs.Above.{climb, Reaches}
-use Rattle.plir_core.specs.Forest.{Shape, look, IsForest, IsBelow}
+use Rattle.plir_core.specs.Above.{climb}
+use Rattle.plir_core.specs.Forest.{look, IsForest, IsBelow}
 use Rattle.plir_core.specs.Nodes.{region_node, block_node}
-use Rattle.plir_core.specs.ContextView.{ContextView, IsLive, is_live, children, parent_of, given_out}
+use Rattle.plir_core.specs.ContextView.{ContextView, is_live, children, parent_of, given_out}
 use Rattle.plir_walk.specs.declared.interruptible.WalkContinue.{WalkContinue}
 use Rattle.plir_walk.specs.declared.interruptible.WalkContinue.TheVariants.{Advance, Skip}
 use Rattle.plir_walk.specs.declared.limit.CallLimit.{CallLimit}
 use Rattle.plir_walk.specs.declared.config.WalkConfig.{WalkConfig}
 use Rattle.plir_walk.specs.Config.{AllPre}
 use Rattle.plir_walk.specs.Calls.{Call, Relation, Chain, NoBreak}
-use Rattle.plir_walk.specs.Tree.{Tree, IsUnder, Place, node_at}
 use Rattle.plir_walk.specs.TreeLaws.{reached-under}
 use Rattle.plir_walk.specs.Walked.{Walked, IsCallUnder}
-use Rattle.plir_walk.specs.Walk.{IsWalkWithin}
 use Rattle.plir_walk.specs.Lawful.{Lawful}
 use Rattle.plir_walk.specs.CallLaws.{chain-each, kept_from_entry_to_exit, holds_under_root}
 use Rattle.plir_passes.specs.Legal.{is_illegal, HasLegalChildren}

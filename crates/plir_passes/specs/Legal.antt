@@ -1,5 +1,5 @@
 -- Operations of illegal kinds, and what they are not above.
-use Rattle.std.specs.Prelude.{◌≡◌, Bool, true, false, Option, Some, None}
+use Rattle.std.specs.Prelude.{◌≡◌, Bool, false, Option, Some, None}
 use Rattle.plir_data.specs.declared.op_set.OpKind.{OpKind}
 use Rattle.plir_store.specs.Members.{Has}
 use Rattle.plir_core.specs.declared.ptr.IRNode.{IRNode}

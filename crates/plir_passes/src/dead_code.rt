@@ -129,9 +129,9 @@ fn sweep<D: EffectSet>(ctx: &mut Context<D>, root: Ptr<Operation>) -> bool
 }
 
 /// Erases the dead operations below an operation, until none is left there: those that have no effect and no region,
-/// end no block, and whose results are used by dead operations alone. All else stays as it was, in its order. Each look
-/// at an operation goes over all operations of the context, and one that is used before it in the order of blocks takes
-/// another sweep. Takes no memory.
+/// end no block, and whose results are used by dead operations alone. All else stays as it was, in its order. A look at
+/// an operation goes by the count of its uses and by its operands, over all operations of the context only where that
+/// count is not known; an operation that is used before it in the order of blocks takes another sweep. Takes no memory.
 pub fn eliminate_dead_code<D: EffectSet>(ctx: &mut Context<D>, root: Ptr<Operation>)
     requires { IsLive ctx.old (AnyNode.Operation root) }
     ensures swept { IsSwept D.has_effect D.is_terminator ctx.old ctx.new }

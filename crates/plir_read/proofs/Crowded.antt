@@ -1,11 +1,11 @@
 -- Where a node was refused for want of room, there is none afterwards.
-use Rattle.std.proofs.Common.{◌≡◌, ℕ, zero, suc, ◌+◌, ◌-◌, ◌<◌, ◌≤◌, ◌^◌, ◌==◌, ◌&&◌, Bool, true, false, true≢false, List, [], ◌∷◌, length, Some, None, is_some, get_or, ◌⊎◌, inl, inr, refl, sym, ap, subst, ◌∙◌, arith, cond, length-set, eq-eqb}
+use Rattle.std.proofs.Common.{◌≡◌, ℕ, zero, suc, ◌+◌, ◌-◌, ◌≤◌, ◌==◌, Bool, true, false, List, [], ◌∷◌, length, Some, None, is_some, get_or, inl, inr, refl, sym, ap, subst, ◌∙◌, arith, cond, length-set, eq-eqb}
 use Rattle.std.proofs.lemmas.Bool.{and_parts}
 use Rattle.std.proofs.lemmas.List.{length-append}
 use Rattle.std.proofs.lemmas.List.Sums.{sum_by-cons}
 use Rattle.std.specs.List.{count_by}
 use Rattle.plir_store.specs.Members.{Has}
-use Rattle.plir_store.specs.Table.{Cell, Table, IsTable, IsFreeSlot, no_cell, cell_at, content_at, version_at, is_live_at, num_full, slot_after, next_slot, with_new, with_new_in}
+use Rattle.plir_store.specs.Table.{Cell, Table, IsTable, IsFreeSlot, no_cell, content_at, version_at, is_live_at, num_full, slot_after, next_slot, with_new, with_new_in}
 use Rattle.plir_core.specs.declared.ptr.IRNode.{IRNode}
 use Rattle.plir_core.specs.declared.ptr.IRNode.TheVariants.{Operation, Region, BasicBlock}
 use Rattle.plir_core.specs.Edits.{SameNodes, with_new_op, with_new_region, with_new_regions}
@@ -14,7 +14,7 @@ use Rattle.plir_core.specs.Nodes.{Nodes, num_nodes, ptr_at}
 use Rattle.plir_core.specs.Refused.{IsUnmade}
 use Rattle.plir_core.specs.Room.{IsFullForOp, IsFullForBlock}
 use Rattle.plir_core.specs.Stored.{IsStored}
-use Rattle.plir_read.specs.Room.{AreSpent, IsCrowded}
+use Rattle.plir_read.specs.Room.{IsCrowded}
 
 -- ---- slots of one kind
 

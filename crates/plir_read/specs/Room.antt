@@ -1,5 +1,5 @@
 -- When there is no room for what a text needs next.
-use Rattle.std.specs.Prelude.{◌≡◌, ℕ, ◌+◌, ◌-◌, ◌<◌, ◌≤◌, ◌^◌, ◌⊎◌, length}
+use Rattle.std.specs.Prelude.{◌+◌, ◌-◌, ◌<◌, ◌≤◌, ◌^◌, ◌⊎◌, length}
 use Rattle.plir_store.specs.Table.{Table}
 use Rattle.plir_core.specs.Nodes.{Nodes, num_nodes}
 use Rattle.plir_core.specs.ContextView.{ContextView}

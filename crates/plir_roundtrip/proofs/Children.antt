@@ -1,5 +1,5 @@
 -- The children of nodes: their kinds, their places, and what can be read at or under them.
-use Rattle.std.proofs.Common.{◌≡◌, ℕ, zero, suc, ◌+◌, ◌<◌, ◌≤◌, Bool, true, false, cond, List, [], ◌∷◌, map, inl, inr, Some, refl, sym, ap, subst, ◌∙◌, arith, option_and_then}
+use Rattle.std.proofs.Common.{◌≡◌, ℕ, zero, suc, ◌+◌, ◌<◌, ◌≤◌, Bool, true, false, cond, List, [], ◌∷◌, map, inl, inr, Some, refl, sym, ap, subst, ◌∙◌, arith}
 use Rattle.std.specs.List.{range_with_len}
 use Rattle.std.specs.Prelude.{slice_get}
 use Rattle.plir_core.specs.declared.ptr.Ptr.{Ptr}
@@ -14,7 +14,6 @@ use Rattle.plir_store.specs.Members.{Has}
 use Rattle.plir_core.specs.Standing.{IsStanding}
 use Rattle.plir_core.specs.ContextView.{ContextView, is_live, children, limit}
 use Rattle.plir_core.specs.Measures.{depth}
-use Rattle.plir_walk.specs.Tree.{IsUnder}
 use Rattle.plir_walk.specs.TreeLaws.{under-child}
 use Rattle.plir_roundtrip.specs.Readable.{IsOpReadable, IsBlockReadable}
 use Rattle.plir_roundtrip.specs.ReadableParts.{AllReadable}

@@ -1,5 +1,5 @@
 -- A function is appended to a module that was made before it: what the call asks, and what it leaves of the module.
-use Rattle.std.proofs.Common.{◌≡◌, ℕ, ◌<◌, arith, true, [], ◌∷◌, length, option_and_then, slice_get, Some, inl, refl, sym, ap, subst, ◌∙◌}
+use Rattle.std.proofs.Common.{◌≡◌, ◌<◌, arith, true, [], ◌∷◌, length, option_and_then, slice_get, Some, inl, refl, sym, ap, subst, ◌∙◌}
 use Rattle.std.specs.Prelude.{All}
 use Rattle.std.proofs.lemmas.List.Elements.{All-cons, All-nil}
 use Rattle.std.proofs.lemmas.Option.{same_Some}

@@ -1,18 +1,24 @@
--- Erasures, one after another.
-use Rattle.std.proofs.Common.{◌≡◌, ℕ, zero, suc, Bool, true, false, not, cond, List, [], ◌∷◌, Some, inl, inr, refl, sym, ◌∙◌, ap, subst}
+-- Erasures, one after another, of trees and of leaves.
+use Rattle.std.proofs.Common.{◌≡◌, ℕ, zero, suc, Bool, true, false, not, cond, List, [], ◌∷◌, Option, Some, inl, inr, refl, sym, ◌∙◌, ap, subst}
 use Rattle.std.specs.List.{filter}
 use Rattle.std.proofs.lemmas.Bool.{cases_Bool, false_from_ne_true, false≢true}
 use Rattle.std.proofs.lemmas.Option.{same_Some}
 use Rattle.plir_store.specs.Members.{Has}
+use Rattle.plir_data.specs.declared.op_set.OpKind.{OpKind}
 use Rattle.plir_core.specs.Above.{climb, Reaches}
 use Rattle.plir_core.specs.Erase.{IsErased, LosesOneChild}
 use Rattle.plir_core.specs.Forest.{look, IsForest}
-use Rattle.plir_core.specs.ContextView.{ContextView, IsLive, is_live, children, parent_of}
+use Rattle.plir_core.specs.ContextView.{ContextView, IsLive, is_live, children, parent_of, kind_in, kind_of}
+use Rattle.plir_core.specs.Unused.{without_tree}
+use Rattle.plir_core.specs.declared.ptr.Ptr.{Ptr}
+use Rattle.plir_core.specs.declared.ptr.Operation.{Operation as OperationKind}
 use Rattle.plir_core.specs.declared.ptr.IRNode.{IRNode}
 use Rattle.plir_core.specs.declared.ptr.IRNode.TheVariants.{Operation, BasicBlock}
-use Rattle.plir_walk.specs.Thinned.{IsThinned}
+use Rattle.plir_walk.specs.Thinned.{IsThinned, IsOfKinds, IsThinnedOf, IsThinnedBelow}
 use Rattle.plir_walk.specs.Tree.{same}
 use Rattle.plir_walk.proofs.Nodes.{same_tells}
+use Rattle.plir_walk.proofs.Climbs.{climb-split}
+use Rattle.plir_walk.proofs.Lawfulness.{lawful-none, lawful-then, lawful-erased}
 
 all_kept : {A : Type 0} (keeps : A → Bool) (xs : List A) → ((x : A) → Has xs x → keeps x ≡ true) → filter keeps xs ≡ xs
 all_kept keeps [] h = refl
@@ -89,3 +95,43 @@ module _ {K A T : Type 0} where
       blocks = λ p l. e.blocks p l;
       types = same_types;
     }
+
+  module _ (kinds : Option (OpKind K) → Bool) where
+    pub below-none : (n : IRNode) (s : ContextView K A T) → IsForest (look s) → IsThinnedBelow kinds n s s
+    below-none n s w = record {
+      thinned = record { thinned = thinned-none s w; stays = λ m l f. l };
+      lawful = lawful-none (look s) n;
+      forest = w;
+    }
+
+    -- an operation that stays holds what it held, and so is of the kind that it was of
+    of-kinds-before : (s t : ContextView K A T) → IsThinned s t → (n : IRNode) → IsLive t n → IsOfKinds kinds t n → IsOfKinds kinds s n
+    of-kinds-before s t f n l k = (k.0, k.1, subst (λ o. kinds (kind_in o) ≡ true) (f.ops k.0 (subst (IsLive t) k.1 l)) k.2)
+
+    pub kinds-both : (s t u : ContextView K A T) → IsThinnedOf kinds s t → IsThinnedOf kinds t u → IsThinnedOf kinds s u
+    kinds-both s t u f g = record {
+      thinned = thinned-both s t u f.thinned g.thinned;
+      stays = λ n l no. (let m = f.stays n l no in g.stays n m (λ k. no (of-kinds-before s t f.thinned n m k)));
+    }
+
+    module _ (s t : ContextView K A T) (p : Ptr OperationKind) (w : IsForest (look s)) (loses : LosesOneChild s.nodes t.nodes (Operation p))
+        (leaf : children s (Operation p) ≡ []) (of_kind : kinds (kind_of s p) ≡ true) (after : t ≡ without_tree s (Operation p)) (e : IsErased s.nodes t.nodes (Operation p)) where
+      -- only the leaf itself stands at or below it
+      alone : (m : IRNode) (k : ℕ) → climb (parent_of s) k (Some m) ≡ Some (Operation p) → m ≡ Operation p
+      alone m zero c = same_Some m (Operation p) c
+      alone m (suc k) c =
+          let r = climb-split (look s) k m (Operation p) c in
+          absurd (subst (λ xs. Has xs r.0) leaf (w.parent_child (Operation p) r.0 r.2))
+
+      leaf-thins : IsThinnedOf kinds s t
+      leaf-thins = record {
+        thinned = thinned-erased s t (Operation p) w loses e (ap (λ z. z.types) after);
+        stays = λ m l no. e.live m (λ r. no (p, alone m r.0 r.1, of_kind)) ∙ l;
+      }
+
+      pub below-more : (n : IRNode) (r : ContextView K A T) → parent_of s (Operation p) ≡ Some n → IsThinnedBelow kinds n r s → IsThinnedBelow kinds n r t
+      below-more n r here h = record {
+        thinned = kinds-both r s t h.thinned leaf-thins;
+        lawful = lawful-then (look r) (look s) (look t) n h.forest h.lawful (lawful-erased s t n (Operation p) (0, here) e);
+        forest = h.forest;
+      }

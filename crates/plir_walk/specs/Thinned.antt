@@ -1,14 +1,17 @@
 -- What is left where trees of nodes are erased, one after another.
-use Rattle.std.specs.Prelude.{◌≡◌}
+use Rattle.std.specs.Prelude.{◌≡◌, Bool, true, [], Option, Some}
 use Rattle.std.specs.List.{filter}
+use Rattle.plir_data.specs.declared.op_set.OpKind.{OpKind}
 use Rattle.plir_core.specs.Erase.{IsErased}
 use Rattle.plir_core.specs.Forest.{look, IsForest}
-use Rattle.plir_core.specs.ContextView.{ContextView, IsLive, is_live, children, parent_of, op_at, block_at}
+use Rattle.plir_core.specs.Unused.{without_tree}
+use Rattle.plir_core.specs.ContextView.{ContextView, IsLive, is_live, children, parent_of, op_at, block_at, kind_of}
 use Rattle.plir_core.specs.declared.ptr.Ptr.{Ptr}
 use Rattle.plir_core.specs.declared.ptr.Operation.{Operation as OperationKind}
 use Rattle.plir_core.specs.declared.ptr.BasicBlock.{BasicBlock as BlockKind}
 use Rattle.plir_core.specs.declared.ptr.IRNode.{IRNode}
 use Rattle.plir_core.specs.declared.ptr.IRNode.TheVariants.{Operation, BasicBlock}
+use Rattle.plir_walk.specs.Lawful.{Lawful}
 
 -- From s to t some nodes are gone, and nothing else has changed.
 pub record IsThinned {K A T : Type 0} (s t : ContextView K A T) : Type 0 where
@@ -27,3 +30,37 @@ pub record ErasuresThin {K A T : Type 0} (s : ContextView K A T) : Type 0 where
   pub erased : (t : ContextView K A T) (n : IRNode) → IsErased s.nodes t.nodes n → t.types ≡ s.types → IsThinned s t
   pub none : (t : ContextView K A T) → IsForest (look t) → IsThinned t t
   pub both : (t u v : ContextView K A T) → IsThinned t u → IsThinned u v → IsThinned t v
+
+-- Some kinds of operations, by a test of them.
+module _ {K A T : Type 0} (kinds : Option (OpKind K) → Bool) where
+  -- a node is an operation of one of these kinds
+  abbrev pub IsOfKinds : ContextView K A T → IRNode → Type 0
+  IsOfKinds s n = (p : Ptr OperationKind) × (n ≡ Operation p) × (kinds (kind_of s p) ≡ true)
+
+  -- From s to t some operations of these kinds are gone, and nothing else has changed.
+  pub record IsThinnedOf (s t : ContextView K A T) : Type 0 where
+    -- nothing is new, and what is left stands where it stood, in its order, and holds what it held
+    pub thinned : IsThinned s t
+    -- each operation of another kind is there, and so are regions and blocks
+    pub stays : (n : IRNode) → IsLive s n → (IsOfKinds s n → ⊥) → IsLive t n
+
+  -- The same, where all that is gone was below n: s is a forest, and the change is lawful at n.
+  pub record IsThinnedBelow (n : IRNode) (s t : ContextView K A T) : Type 0 where
+    pub thinned : IsThinnedOf s t
+    pub lawful : Lawful (look s) n (look t)
+    pub forest : IsForest (look s)
+
+-- A callback at n that erases children of n which have no children, one after another: the context s is where it is
+-- about to erase the next one.
+pub record LeavesThin {K A T : Type 0} (s : ContextView K A T) : Type 0 where
+  -- none is erased
+  pub none : (kinds : Option (OpKind K) → Bool) (n : IRNode) (t : ContextView K A T) → IsForest (look t) →
+      IsThinnedBelow kinds n t t
+  -- p is, after others; the last two premises are the clauses of the call that erases it
+  pub more : (kinds : Option (OpKind K) → Bool) (n : IRNode) (r t : ContextView K A T) (p : Ptr OperationKind) →
+      IsThinnedBelow kinds n r s → parent_of s (Operation p) ≡ Some n → children s (Operation p) ≡ [] →
+      kinds (kind_of s p) ≡ true → t ≡ without_tree s (Operation p) → IsErased s.nodes t.nodes (Operation p) →
+      IsThinnedBelow kinds n r t
+  -- what was thinned by one call and then by another was thinned
+  pub both : (kinds : Option (OpKind K) → Bool) (t u v : ContextView K A T) → IsThinnedOf kinds t u →
+      IsThinnedOf kinds u v → IsThinnedOf kinds t v

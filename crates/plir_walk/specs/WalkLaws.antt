@@ -1,18 +1,21 @@
--- Laws of whole walks, for the proofs of passes: a walk of lawful calls is lawful at its root, which stays; and a walk
--- that may make as many calls as a context has nodes is never at its limit.
+-- Laws of whole walks, for the proofs of passes: a walk of lawful calls is lawful at its root, which stays; a walk that
+-- may make as many calls as a context has nodes is never at its limit; and what each call of a callback keeps of the
+-- context, the walk does.
 use Rattle.std.proofs.Common.{◌≡◌, ℕ, suc, ◌+◌, ◌≤◌, ◌^◌, arith, List, [], ◌∷◌, length, Result, Err, inl, inr, refl, ap}
-use Rattle.std.proofs.Common.{subst}
+use Rattle.std.proofs.Common.{sym, subst}
+use Rattle.std.specs.Borrow.{MutBor}
+use Rattle.std.specs.Fn.{Shared}
 use Rattle.std.specs.declared.ops.ControlFlow.{ControlFlow}
 use Rattle.plir_store.specs.Members.{Distinct}
 use Rattle.plir_core.specs.declared.ptr.IRNode.{IRNode}
-use Rattle.plir_core.specs.Forest.{look, IsForest}
+use Rattle.plir_core.specs.Forest.{look, Shape, IsForest}
 use Rattle.plir_core.specs.Standing.{IsStanding}
 use Rattle.plir_core.specs.ContextView.{ContextView, IsLive, children}
 use Rattle.plir_walk.specs.declared.interruptible.WalkContinue.{WalkContinue}
 use Rattle.plir_walk.specs.declared.limit.CallLimit.{CallLimit}
 use Rattle.plir_walk.specs.declared.config.WalkConfig.{WalkConfig}
 use Rattle.plir_walk.specs.Lists.{Pairs}
-use Rattle.plir_walk.specs.Calls.{Call, Relation, Chain, nodes_of}
+use Rattle.plir_walk.specs.Calls.{Advancing, Call, CallsBack, Relation, Chain, nodes_of}
 use Rattle.plir_walk.specs.Tree.{NodeBefore}
 use Rattle.plir_walk.specs.TreeLaws.{under-live}
 use Rattle.plir_walk.specs.Walk.{IsWalkWithin}
@@ -94,3 +97,20 @@ module _ {K A T : Type 0} where
         (let f = laws.above d d' n r w p.leaves l p.stands.under_root (each d t n a d' t' p.made) in
         (p.leaves, laws.stays d d' r w f l, f)))
         c c' s s' calls h w l
+
+-- What holds of the context as a walk begins holds of it as the walk ends, if each call of the callback keeps it: this
+-- is told by the callback's own clauses, of the context before the call and after it.
+pub holds_over_walk : {F C S : Type 0} {look : C → Shape} {w : WalkConfig} {c c' : C} {s s' : S} {r : IRNode} {limit : ℕ}
+    {answer : Result (ControlFlow (Unit {0}) WalkContinue) CallLimit} {f : F}
+    {g : Shared F (MutBor C × (MutBor S × (IRNode × Unit {0}))) (Unit {0} × (MutBor C × (MutBor S × Unit {0})))}
+    → (holds : C → Type 0) → Walked look w (Advancing (CallsBack g f)) c s r limit answer c' s'
+    → ((d d' : MutBor C) (t t' : MutBor S) (n : IRNode) → g.post f (d, (t, (n, tt))) (tt, (d', (t', tt))) →
+    holds d.now → holds d'.now) → holds c → holds c'
+holds_over_walk {look} {c} {c'} {s} {s'} {r} {f} {g} holds walked each =
+    kept_from_entry_to_exit (IsCallUnder look r (Advancing (CallsBack g f))) (λ d t e u. holds d → holds e)
+    (record { itself = λ d t x. x; on = λ d e i t u v h k x. k (h x) })
+    (λ d d' t t' n a p x.
+    (let b = p.made.1 in
+    subst holds b.leaves.0
+    (each b.context b.context_left b.state b.state_left n b.met (subst holds (sym b.shows.0) x))))
+    c c' s s' walked.calls walked.chain

@@ -20,7 +20,7 @@ ghost use Rattle.plir_walk.specs.ChangedBelow.{StepsBelow};
 ghost use Rattle.plir_walk.specs.LawfulChanges.{LawfulChanges};
 ghost use Rattle.plir_walk.specs.Laws.{BeforeOrders, PostReverseIsPreForwardReversed, SkipsAtPostOrder};
 ghost use Rattle.plir_walk.specs.Laws.{ShutsOutNothing, WalkedOnce};
-ghost use Rattle.plir_walk.specs.Thinned.{ErasuresThin};
+ghost use Rattle.plir_walk.specs.Thinned.{ErasuresThin, LeavesThin};
 
 use crate::config::WalkConfig;
 use crate::links::NodeLinks;
@@ -112,6 +112,17 @@ pub fn changes_below_compose<D: OpSet>()
 /// `after` say.
 pub fn erasures_thin<D: OpSet>(ctx: &Context<D>)
     ensures { ErasuresThin ctx.now }
+{
+    contexts_stand::<D>();
+    ctx.stands();
+    erasure_takes_one_child(ctx);
+}
+
+/// What a callback leaves that erases children of its node which have no children, as operations without regions: it is
+/// told which kinds of operations these are, all else stays, and the whole is a lawful change at the node. The law is
+/// called before each erasure. Between two of them `IsThinnedBelow` is all that has to be kept.
+pub fn leaves_thin<D: OpSet>(ctx: &Context<D>)
+    ensures { LeavesThin ctx.now }
 {
     contexts_stand::<D>();
     ctx.stands();

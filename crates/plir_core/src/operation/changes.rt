@@ -43,6 +43,11 @@ impl Ptr<Operation> {
         ensures whole { IsWellFormed D.attr_handles ctx.new }
     {
         prove!(self.is_live(ctx), "the operation is not live");
+        prove!(
+            i <= self.get_num_operands(ctx),
+            "there is none at this place"
+        );
+        prove!(value.is_live(ctx), "the value is not live");
         ctx.nodes.op_mut(self).operands.insert(i, value)?;
         ctx.uses.raise_value(value);
         Ok(())
@@ -58,7 +63,10 @@ impl Ptr<Operation> {
         ensures whole { IsWellFormed D.attr_handles ctx.new }
     {
         prove!(self.is_live(ctx), "the operation is not live");
-        prove!(i < self.get_num_operands(ctx), "there is none at this place");
+        prove!(
+            i < self.get_num_operands(ctx),
+            "there is none at this place"
+        );
         let value = ctx.nodes.op_mut(self).operands.remove(i);
         ctx.uses.lower_value(value);
         value
@@ -74,7 +82,11 @@ impl Ptr<Operation> {
         ensures whole { IsWellFormed D.attr_handles ctx.new }
     {
         prove!(self.is_live(ctx), "the operation is not live");
-        prove!(i < self.get_num_operands(ctx), "there is none at this place");
+        prove!(
+            i < self.get_num_operands(ctx),
+            "there is none at this place"
+        );
+        prove!(value.is_live(ctx), "the value is not live");
         let replaced = self.get_operand(ctx, i);
         ctx.nodes.op_mut(self).operands[i] = value;
         ctx.uses.raise_value(value);
@@ -149,8 +161,14 @@ impl Ptr<Operation> {
     {
         prove!(self.is_live(ctx), "the operation is not live");
         prove!(block.is_live(ctx), "the block is not live");
-        prove!(self.get_parent_block(ctx).is_none(), "the operation stands in a block already");
-        prove!(!IRNode::Operation(self).is_ancestor(IRNode::BasicBlock(block), ctx), "the operation stands above its new place");
+        prove!(
+            self.get_parent_block(ctx).is_none(),
+            "the operation stands in a block already"
+        );
+        prove!(
+            !IRNode::Operation(self).is_ancestor(IRNode::BasicBlock(block), ctx),
+            "it would stand in itself"
+        );
         ctx.nodes.push_op_front(self, block);
     }
 
@@ -167,9 +185,18 @@ impl Ptr<Operation> {
     {
         prove!(self.is_live(ctx), "the operation is not live");
         prove!(mark.is_live(ctx), "the operation is not live");
-        prove!(self.get_parent_block(ctx).is_none(), "the operation stands in a block already");
-        prove!(mark.get_parent_block(ctx).is_some(), "the operation that marks the place stands in no block");
-        prove!(!IRNode::Operation(self).is_ancestor(IRNode::Operation(mark), ctx), "the operation stands above its new place");
+        prove!(
+            self.get_parent_block(ctx).is_none(),
+            "the operation stands in a block already"
+        );
+        prove!(
+            mark.get_parent_block(ctx).is_some(),
+            "the operation that marks the place stands in no block"
+        );
+        prove!(
+            !IRNode::Operation(self).is_ancestor(IRNode::Operation(mark), ctx),
+            "it would stand in itself"
+        );
         ctx.nodes.insert_op_before(self, mark);
     }
 
@@ -186,9 +213,18 @@ impl Ptr<Operation> {
     {
         prove!(self.is_live(ctx), "the operation is not live");
         prove!(mark.is_live(ctx), "the operation is not live");
-        prove!(self.get_parent_block(ctx).is_none(), "the operation stands in a block already");
-        prove!(mark.get_parent_block(ctx).is_some(), "the operation that marks the place stands in no block");
-        prove!(!IRNode::Operation(self).is_ancestor(IRNode::Operation(mark), ctx), "the operation stands above its new place");
+        prove!(
+            self.get_parent_block(ctx).is_none(),
+            "the operation stands in a block already"
+        );
+        prove!(
+            mark.get_parent_block(ctx).is_some(),
+            "the operation that marks the place stands in no block"
+        );
+        prove!(
+            !IRNode::Operation(self).is_ancestor(IRNode::Operation(mark), ctx),
+            "it would stand in itself"
+        );
         ctx.nodes.insert_op_after(self, mark);
     }
 
@@ -241,6 +277,7 @@ impl Operation {
         ensures whole { IsWellFormed D.attr_handles ctx.new }
     {
         prove!(op.is_live(ctx), "the operation is not live");
+        prove!(i < op.num_regions(ctx), "there is none at this place");
         let region = op.get_region(ctx, i);
         erase_tree(IRNode::Region(region), ctx);
     }

@@ -1,18 +1,42 @@
 //! Whether anything outside a tree of nodes uses what is in it.
 ghost use Rattle.std.specs.Prelude.{◌≡◌, ◌<◌, All, Option, Some, None, IfSome, IsTrue, ◌↔◌, true, length};
+ghost use Rattle.plir_core.specs.Stored.{seat_of};
 ghost use Rattle.plir_store.specs.Table.{content_at};
 ghost use Rattle.plir_core.specs.Above.{Reaches};
 ghost use Rattle.plir_core.specs.Nodes.{is_node_live, node_parent, ptr_at};
 ghost use Rattle.plir_core.specs.ContextView.{IsLive, entity_node};
 ghost use Rattle.plir_core.specs.Unused.{UsesNoneOf, IsUnusedAt, IsUnusedOutside};
-ghost use Rattle.plir_core.specs.Uses.{is_not_used};
+ghost use Rattle.plir_core.specs.Uses.{is_not_used, is_seated, values_from, own_uses};
 ghost use Rattle.plir_core.specs.declared.ptr.IRNode.{IRNode};
 
 use crate::arena::Arena;
 use crate::context::Context;
 use crate::ptr::{BasicBlock, IRNode, Operation, Ptr};
-use crate::value::Value;
+use crate::value::{DefiningEntity, Value};
 use plir_data::OpSet;
+
+// Whether a value is a result of an operation, by its slot.
+fn is_result_of(value: Value, op: Ptr<Operation>) -> bool
+    ensures { result ≡ is_seated (seat_of (IRNode.Operation op)) (entity_node value.entity) }
+{
+    match value.defining_entity() {
+        DefiningEntity::Op(owner) => owner.slot == op.slot,
+        DefiningEntity::Block(_) => false,
+    }
+}
+
+// How many of some values are results of an operation.
+fn count_results_of(values: &[Value], op: Ptr<Operation>) -> usize
+    ensures { result ≡ values_from (seat_of (IRNode.Operation op)) values.now }
+{
+    let mut count = 0;
+    for value in values {
+        if is_result_of(*value, op) {
+            count += 1;
+        }
+    }
+    count
+}
 
 impl<O, B> Arena<O, B> {
     /// How many slots of operations there are, free ones among them.
@@ -118,11 +142,42 @@ impl<D: OpSet> Context<D> {
         false
     }
 
-    // Whether no live operation outside the tree under the root uses a value or a block of the tree.
+    // How often a node uses itself: how many operands of an operation are its own results.
+    fn num_own_uses(&self, node: IRNode) -> usize
+        requires { IsLive self.now node }
+        ensures { result ≡ own_uses self.now node }
+    {
+        match node {
+            IRNode::Operation(op) => count_results_of(&self.nodes.op(op).operands, op),
+            IRNode::Region(_) | IRNode::BasicBlock(_) => 0,
+        }
+    }
+
+    // Whether nothing but the node itself uses a node without children, if its count is known.
+    fn is_leaf_unused(&self, root: IRNode) -> Option<bool>
+        ensures { IfSome result (λ b. IsTrue b ↔ IsUnusedOutside self.now root) }
+    {
+        if !self.nodes.is_live(root) || self.nodes.first_child(root).is_some() {
+            return None;
+        }
+        match self.uses.known(root) {
+            Some(count) => Some(count as usize == self.num_own_uses(root)),
+            None => None,
+        }
+    }
+
+    // Whether no live operation outside the tree under the root uses a value or a block of the tree. For a node without
+    // children, and where nothing uses any node of the tree, the counts tell; else this looks at all operations.
     pub(crate) fn is_unused_outside(&self, root: IRNode) -> bool
         ensures { IsTrue result ↔ IsUnusedOutside self.now root }
     {
-        self.is_tree_known_unused(root) || self.is_unused_by_all(root)
+        if self.is_tree_known_unused(root) {
+            return true;
+        }
+        match self.is_leaf_unused(root) {
+            Some(answer) => answer,
+            None => self.is_unused_by_all(root),
+        }
     }
 
     // The same, by a look at all operations.

@@ -1,7 +1,5 @@
-use Rattle.plir_core.proofs.Added.{IsAdded-op}
-use Rattle.plir_core.proofs.Holds.{block_made, op_made, op_replaced, block_replaced, whole_same}
-use Rattle.std.proofs.Common.{◌≡◌, ◌∙◌, ◌≤◌, length, ap, sym, arith, None}
-use Rattle.plir_store.specs.Lists.{children_at, next_of}
+use Rattle.std.proofs.Common.{◌∙◌, sym, arith}
+use Rattle.plir_store.specs.Lists.{children_at}
 use Rattle.plir_core.proofs.arena.child_at.Goals as goal
 use Rattle.plir_core.proofs.arena.child_at.Goals.{in-Some, in-None}
 use Rattle.plir_core.proofs.Siblings.{next_at, child_in, none_past}

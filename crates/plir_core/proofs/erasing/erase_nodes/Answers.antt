@@ -1,8 +1,8 @@
 use Rattle.std.proofs.Common.{◌≡◌, sym, ◌∙◌, subst, rules}
 use Rattle.plir_core.specs.Stored.{IsStored}
-use Rattle.plir_core.specs.Erase.{erased, IsErased}
+use Rattle.plir_core.specs.Erase.{IsErased}
 use Rattle.plir_core.proofs.erasing.erase_nodes.Goals as goal
-use Rattle.plir_core.proofs.Erasures.{IsErasing, IsErasing-start, IsErasing-down, IsErasing-up, IsErasing-over, IsErasing-end, work-down, work-up, work_left}
+use Rattle.plir_core.proofs.Erasures.{IsErasing-start, IsErasing-down, IsErasing-up, IsErasing-over, IsErasing-end, work-down, work-up}
 use Rattle.plir_core.proofs.Loss.{IsErased-tree}
 
 pub loop-child-init : goal.loop-child-init

@@ -1,4 +1,4 @@
-use Rattle.std.proofs.Common.{◌≡◌, ℕ, ◌<◌}
+use Rattle.std.proofs.Common.{ℕ, ◌<◌}
 use Rattle.plir_flow.specs.Branches.{AgreesAt}
 use Rattle.plir_flow.proofs.forwarding.find_first_mismatch.Given as goal
 

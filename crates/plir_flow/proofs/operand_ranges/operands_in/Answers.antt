@@ -1,4 +1,4 @@
-use Rattle.std.proofs.Common.{arith, ap, subst, sym, ◌∙◌, List}
+use Rattle.std.proofs.Common.{subst, sym, ◌∙◌, List}
 use Rattle.std.specs.Prelude.{All}
 use Rattle.plir_core.specs.declared.value.Value.{Value}
 use Rattle.plir_core.specs.ContextView.{operands_of, IsValueLive}

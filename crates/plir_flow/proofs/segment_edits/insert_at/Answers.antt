@@ -2,7 +2,7 @@ use Rattle.std.proofs.Common.{List, [], sym, ap, ◌+◌, ◌∙◌}
 use Rattle.std.specs.Prelude.{insert, slice_set, unwrap_or}
 use Rattle.plir_core.specs.declared.value.Value.{Value}
 use Rattle.plir_core.specs.ContextView.{operands_of}
-use Rattle.plir_flow.specs.Segments.{edit_at, segments_of, in_op, sizes_of}
+use Rattle.plir_flow.specs.Segments.{edit_at, segments_of, in_op}
 use Rattle.plir_flow.proofs.SegmentsPut.{resegmented, live-kept, sizes-kept, put-together, inserted-values, inserted-sizes}
 use Rattle.plir_flow.proofs.segment_edits.insert_at.Goals as goal
 

@@ -1,8 +1,8 @@
 use Rattle.plir_core.specs.ContextView.{operands_of}
 use Rattle.std.proofs.Common.{◌≡◌, ◌+◌, arith, ℕ, List, length, take, ◌-◌, ap, subst, sym, ◌∙◌, ◌<◌}
-use Rattle.std.specs.Prelude.{remove, slice_get}
+use Rattle.std.specs.Prelude.{remove}
 use Rattle.plir_core.specs.declared.value.Value.{Value}
-use Rattle.plir_flow.specs.Segments.{edit_at, segment_at, segments_of, segment_size, sizes_of, start_in, IsResegmented}
+use Rattle.plir_flow.specs.Segments.{segment_at, segments_of, segment_size, sizes_of, start_in, IsResegmented}
 use Rattle.plir_flow.proofs.SegmentLists.{edit-same, popped}
 use Rattle.plir_flow.proofs.SegmentsPut.{size-is}
 use Rattle.plir_flow.proofs.segment_edits.pop_last.Goals as goal

@@ -1,7 +1,7 @@
-use Rattle.std.proofs.Common.{List, [], ◌∷◌, ◌++◌, ap, subst, ◌∙◌}
+use Rattle.std.proofs.Common.{List, [], ◌∷◌, ◌++◌, subst, ◌∙◌}
 use Rattle.std.specs.Prelude.{insert}
 use Rattle.plir_core.specs.declared.value.Value.{Value}
-use Rattle.plir_flow.specs.Segments.{edit_at, segment_at, segments_of, IsResegmented}
+use Rattle.plir_flow.specs.Segments.{segment_at, segments_of, IsResegmented}
 use Rattle.plir_flow.proofs.SegmentLists.{edit-same, pushed}
 use Rattle.plir_flow.proofs.SegmentsPut.{size-is}
 use Rattle.plir_flow.proofs.segment_edits.push_last.Goals as goal

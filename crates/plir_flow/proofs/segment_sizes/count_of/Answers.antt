@@ -1,4 +1,4 @@
-use Rattle.std.proofs.Common.{arith, ap, length}
+use Rattle.std.proofs.Common.{arith}
 use Rattle.plir_core.specs.ContextView.{operands_of}
 use Rattle.plir_flow.specs.Segments.{sizes_of}
 use Rattle.plir_flow.proofs.SegmentLists.{count-in}

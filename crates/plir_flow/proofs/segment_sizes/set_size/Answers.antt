@@ -1,4 +1,4 @@
-use Rattle.std.proofs.Common.{sym, ap, ◌∙◌}
+use Rattle.std.proofs.Common.{ap, ◌∙◌}
 use Rattle.std.specs.Prelude.{slice_set}
 use Rattle.plir_data.specs.AttrView.{leaf, unit}
 use Rattle.plir_core.specs.Changes.{with_op_edit}

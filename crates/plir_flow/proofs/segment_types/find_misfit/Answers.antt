@@ -1,7 +1,5 @@
-use Rattle.std.proofs.Common.{◌≡◌, ℕ, ◌+◌, arith, sym, ap, subst, ◌∙◌}
-use Rattle.plir_iface.specs.Counts.{operand_types}
-use Rattle.plir_iface.specs.TypeRules.{IsFirstFailing, IsBetween}
-use Rattle.plir_flow.specs.Segments.{sizes_of, segment_size, start_in}
+use Rattle.std.proofs.Common.{◌+◌, ap, ◌∙◌}
+use Rattle.plir_flow.specs.Segments.{sizes_of, start_in}
 use Rattle.plir_flow.proofs.SegmentPlaces.{first-in}
 use Rattle.plir_flow.proofs.segment_types.find_misfit.Goals as goal
 

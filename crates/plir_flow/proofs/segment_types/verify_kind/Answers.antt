@@ -1,5 +1,5 @@
-use Rattle.std.proofs.Common.{[], refl, sym, ap, ◌∙◌, arith}
-use Rattle.std.specs.Option.{option_map_or, option_and_then}
+use Rattle.std.proofs.Common.{[], sym, ap, ◌∙◌, arith}
+use Rattle.std.specs.Option.{option_map_or}
 use Rattle.plir_data.specs.TypeText.{type_text}
 use Rattle.plir_flow.proofs.Refusals.{refusal-aside}
 use Rattle.plir_flow.proofs.segment_types.verify_kind.Goals as goal

@@ -1,4 +1,4 @@
-use Rattle.std.proofs.Common.{Ok, refl, sym, ap, subst, arith, ◌∙◌}
+use Rattle.std.proofs.Common.{Ok, refl, ap, subst, arith, ◌∙◌}
 use Rattle.plir_core.specs.declared.ptr.IRNode.TheVariants.{Operation}
 use Rattle.plir_passes.specs.Rewritten.{IsConvertedAt}
 use Rattle.plir_passes.proofs.Walking.{walk-converted, legal-at-end}

@@ -1,5 +1,5 @@
 use Rattle.std.proofs.Common.{sym, subst}
-use Rattle.plir_core.specs.declared.ptr.IRNode.TheVariants.{Operation, Region, BasicBlock}
+use Rattle.plir_core.specs.declared.ptr.IRNode.TheVariants.{BasicBlock}
 use Rattle.plir_passes.specs.Legal.{HasLegalChildren}
 use Rattle.plir_passes.specs.Rewritten.{IsSettled}
 use Rattle.plir_passes.proofs.Keeping.{converted-none}

@@ -1,4 +1,4 @@
-use Rattle.std.proofs.Common.{◌≡◌, true, false, ◌⊎◌, inl, inr, refl}
+use Rattle.std.proofs.Common.{true, false, inl, inr}
 use Rattle.plir_core.specs.declared.ptr.IRNode.TheVariants.{Operation}
 use Rattle.plir_passes.proofs.Sweeps.{swept-none, swept-then}
 use Rattle.plir_passes.proofs.dead_code.eliminate_dead_code.Goals as goal

@@ -1,4 +1,4 @@
-use Rattle.std.proofs.Common.{refl, sym, ap, subst, arith}
+use Rattle.std.proofs.Common.{refl, ap, arith}
 use Rattle.plir_core.specs.declared.ptr.IRNode.TheVariants.{Operation}
 use Rattle.plir_walk.specs.Walked.{plain_answer}
 use Rattle.plir_passes.proofs.SweepWalk.{swept-by, walk-swept, walk-tells, clean-at-end}

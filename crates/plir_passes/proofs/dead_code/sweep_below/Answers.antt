@@ -1,4 +1,3 @@
-use Rattle.plir_core.specs.declared.ptr.IRNode.TheVariants.{BasicBlock}
 use Rattle.plir_passes.proofs.SweepWalk.{swept-op, swept-region, swept-block}
 use Rattle.plir_passes.proofs.dead_code.sweep_below.Goals as goal
 

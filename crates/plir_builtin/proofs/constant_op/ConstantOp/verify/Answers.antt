@@ -4,7 +4,6 @@ use Rattle.plir_data.specs.AttrLive.{HandlesLive}
 use Rattle.plir_data.specs.AttrSeen.{attr_view}
 use Rattle.plir_data.specs.Dictionary.{dict_get}
 use Rattle.plir_data.specs.Keys.{value_key}
-use Rattle.plir_builtin.specs.BuiltinOps.{value_of}
 use Rattle.plir_builtin.proofs.ConstantRefusals.{told_wider, untyped_fault, mismatch_fault}
 use Rattle.plir_builtin.proofs.constant_op.ConstantOp.verify.Goals as goal
 

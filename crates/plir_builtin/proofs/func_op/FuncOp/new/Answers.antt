@@ -1,4 +1,4 @@
-use Rattle.std.proofs.Common.{List, ℕ, [], Some, sym, subst, ap, ◌∙◌}
+use Rattle.std.proofs.Common.{[], Some, sym, subst, ap, ◌∙◌}
 use Rattle.std.specs.Prelude.{codes}
 use Rattle.plir_data.specs.declared.op_set.OpKind.TheVariants.{Func}
 use Rattle.plir_core.specs.Contents.{op_view}

@@ -1,4 +1,4 @@
-use Rattle.std.proofs.Common.{◌≡◌, refl}
+use Rattle.std.proofs.Common.{refl}
 use Rattle.plir_core.specs.Above.{Reaches}
 use Rattle.plir_core.specs.Nodes.{node_parent}
 use Rattle.plir_core.specs.declared.ptr.IRNode.TheVariants.{BasicBlock}

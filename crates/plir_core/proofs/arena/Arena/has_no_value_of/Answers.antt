@@ -1,4 +1,4 @@
-use Rattle.std.proofs.Common.{◌≡◌, refl, ap, ◌∙◌, subst, sym}
+use Rattle.std.proofs.Common.{refl, subst, sym}
 use Rattle.plir_core.specs.Above.{Reaches}
 use Rattle.plir_core.specs.Nodes.{node_parent}
 use Rattle.plir_core.specs.ContextView.{entity_node}

@@ -1,7 +1,6 @@
-use Rattle.std.proofs.Common.{◌≡◌, ◌∙◌, ◌+◌, ◌-◌, ◌^◌, ◌<◌, ◌≤◌, length, inl, inr, ap, sym, subst, arith}
+use Rattle.std.proofs.Common.{◌≡◌, ◌-◌, inr, ap, subst, arith}
 use Rattle.std.specs.Prelude.{Err}
 use Rattle.plir_core.specs.declared.arena.making.NodeErr.TheVariants.{TooManyNodes}
-use Rattle.plir_store.specs.Table.{next_slot}
 use Rattle.plir_core.specs.declared.ptr.IRNode.TheVariants.{Operation}
 use Rattle.plir_core.specs.Nodes.{Nodes}
 use Rattle.plir_core.specs.Erase.{IsErased}

@@ -1,4 +1,4 @@
-use Rattle.std.proofs.Common.{◌≡◌, sym, ◌∙◌, subst}
+use Rattle.std.proofs.Common.{sym, ◌∙◌, subst}
 use Rattle.plir_core.specs.Stored.{IsStored}
 use Rattle.plir_core.proofs.Walked.{IsCome-down, IsCome-after, IsClear-leaf}
 use Rattle.plir_core.proofs.arena.Arena.next_in_tree.Goals as goal

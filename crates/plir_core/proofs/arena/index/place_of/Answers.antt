@@ -1,5 +1,4 @@
-use Rattle.std.proofs.Common.{◌≡◌, ◌∙◌, ◌≤◌, ◌<◌, length, sym, subst, arith, Some, None}
-use Rattle.std.proofs.lemmas.Option.{none-some}
+use Rattle.std.proofs.Common.{◌∙◌, sym, subst, arith}
 use Rattle.plir_store.specs.Lists.{children_at}
 use Rattle.plir_core.proofs.arena.index.place_of.Goals as goal
 use Rattle.plir_core.proofs.Siblings.{IsSeeking, IsSeeking-start, IsSeeking-more, IsSeeking-on, next_at, child_in, children_few, none_past}

@@ -1,4 +1,4 @@
-use Rattle.std.proofs.Common.{◌≡◌, ◌∙◌, sym, ap, cond, Some, None}
+use Rattle.std.proofs.Common.{◌∙◌, sym, ap, cond, Some, None}
 use Rattle.plir_core.specs.declared.ptr.IRNode.TheVariants.{Operation}
 use Rattle.plir_core.proofs.block.Ptr+BasicBlock.get_terminator.Goals as goal
 use Rattle.plir_core.proofs.Terminators.{if_told}

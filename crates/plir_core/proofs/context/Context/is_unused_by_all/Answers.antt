@@ -1,4 +1,4 @@
-use Rattle.std.proofs.Common.{◌≡◌, refl, ap, subst, sym, ◌∙◌, ◌≤◌, length, arith, true}
+use Rattle.std.proofs.Common.{refl, ap, length, arith}
 use Rattle.plir_core.specs.ContextView.{ContextView}
 use Rattle.plir_core.proofs.context.Context.is_unused_by_all.Goals as goal
 use Rattle.plir_core.proofs.Scan.{IsUnusedBelow-none, IsUnusedBelow-more, IsUnusedBelow-all, true_unless}

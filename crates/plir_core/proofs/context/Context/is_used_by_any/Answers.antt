@@ -1,4 +1,4 @@
-use Rattle.std.proofs.Common.{◌≡◌, ◌≤◌, ap, refl, length, arith}
+use Rattle.std.proofs.Common.{ap, refl, length, arith}
 use borrow.Author.Count.{below_none, below_more}
 use Rattle.plir_core.specs.ContextView.{ContextView}
 use Rattle.plir_core.specs.ValueUses.{IsOperandAt}

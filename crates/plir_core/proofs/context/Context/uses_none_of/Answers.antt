@@ -1,4 +1,4 @@
-use Rattle.std.proofs.Common.{◌≡◌, ap, ◌∙◌}
+use Rattle.std.proofs.Common.{ap, ◌∙◌}
 use Rattle.plir_core.specs.Contents.{OpView}
 use Rattle.plir_core.proofs.context.Context.uses_none_of.Goals as goal
 use Rattle.plir_core.proofs.Scan.{none_told, operands_told, successors_told}

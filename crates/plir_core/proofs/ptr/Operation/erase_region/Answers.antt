@@ -1,4 +1,4 @@
-use Rattle.std.proofs.Common.{◌≡◌, suc, take, drop, ◌∙◌, ap, sym, subst}
+use Rattle.std.proofs.Common.{suc, take, drop, ◌∙◌, ap, sym, subst}
 use Rattle.plir_core.specs.declared.ptr.IRNode.TheVariants.{Operation, Region}
 use Rattle.plir_core.specs.Erase.{IsErased}
 use Rattle.plir_core.specs.ContextView.{children}

@@ -1,4 +1,4 @@
-use Rattle.std.proofs.Common.{◌≡◌, ◌∙◌, ◌<◌, refl, ap, sym, subst, length, arith}
+use Rattle.std.proofs.Common.{◌∙◌, ◌<◌, refl, ap, sym, subst, length, arith}
 use Rattle.plir_store.specs.Table.{content_at}
 use Rattle.plir_core.specs.Changes.{op_edited}
 use Rattle.plir_core.specs.Replaced.{op_replaced, cell_replaced}

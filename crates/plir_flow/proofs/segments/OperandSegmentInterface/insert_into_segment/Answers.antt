@@ -1,4 +1,3 @@
-use Rattle.std.proofs.Common.{◌≡◌}
 use Rattle.std.specs.Prelude.{insert}
 use Rattle.std.proofs.lemmas.Result.{on_ok_weaker}
 use Rattle.plir_flow.proofs.SegmentsPut.{rule-kept}

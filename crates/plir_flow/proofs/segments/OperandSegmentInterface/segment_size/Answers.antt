@@ -1,4 +1,4 @@
-use Rattle.std.proofs.Common.{sym, ap, length, ◌∙◌, arith}
+use Rattle.std.proofs.Common.{◌∙◌}
 use Rattle.plir_flow.proofs.SegmentsPut.{size-is}
 use Rattle.plir_flow.proofs.segments.OperandSegmentInterface.segment_size.Goals as goal
 

@@ -2,8 +2,7 @@ use Rattle.std.proofs.Common.{suc, zero, sym, ap, ◌∙◌}
 use Rattle.std.specs.Prelude.{option_map}
 use Rattle.plir_core.specs.Above.{climb, Reaches}
 use Rattle.plir_core.specs.ContextView.{parent_of}
-use Rattle.plir_core.specs.declared.ptr.IRNode.TheVariants.{Operation, Region, BasicBlock}
-use Rattle.plir_core.specs.Forest.{look}
+use Rattle.plir_core.specs.declared.ptr.IRNode.TheVariants.{Region, BasicBlock}
 use Rattle.plir_walk_tests.proofs.tests.changes.make_nest.Goals as goal
 
 pub child_at-requires : goal.child_at-requires

@@ -1,4 +1,4 @@
-use Rattle.std.proofs.Common.{◌≡◌, ◌≢◌, zero, suc, [], ◌∷◌, ◌++◌, rules}
+use Rattle.std.proofs.Common.{◌≢◌, zero, suc, [], ◌∷◌, ◌++◌, rules}
 use Rattle.std.proofs.lemmas.Option.{same_Some}
 use Rattle.plir_core.specs.Above.{Reaches}
 use Rattle.plir_core.specs.ContextView.{children}

@@ -1,7 +1,7 @@
 use Rattle.std.proofs.Common.{suc, zero, ap, refl, ◌∙◌}
 use Rattle.plir_core.specs.Above.{climb}
 use Rattle.plir_core.specs.ContextView.{parent_of}
-use Rattle.plir_core.specs.declared.ptr.IRNode.TheVariants.{Operation, Region, BasicBlock}
+use Rattle.plir_core.specs.declared.ptr.IRNode.TheVariants.{Operation, BasicBlock}
 use Rattle.plir_walk_tests.proofs.tests.pass.append.Goals as goal
 
 pub insert_at_back-requires-clause-not_above : goal.insert_at_back-requires-clause-not_above

@@ -1,5 +1,6 @@
-use Rattle.std.proofs.Common.{refl, ap}
-use Rattle.plir_core.specs.ContextView.{ContextView}
+use Rattle.std.proofs.Common.{refl, sym, ap, subst}
+use Rattle.plir_core.specs.ContextView.{ContextView, IsAncestor}
+use Rattle.plir_core.specs.declared.ptr.IRNode.TheVariants.{Operation}
 use Rattle.plir_core.proofs.operation.changes.Ptr+Operation.insert_after.Goals as goal
 use Rattle.plir_core.proofs.Counted.{Counts-linked}
 use Rattle.plir_core.proofs.Holds.{op_linked}
@@ -18,3 +19,7 @@ returns-clause-whole g c = (invariant_of-ctx g c).whole
 pub returns-clause-placed : goal.returns-clause-placed
 returns-clause-placed g c =
     op_after c.ctx.inside.nodes c.args.ctx.now.nodes (ap (λ (z : ContextView g.row.D-Kind.Denot g.row.D-Attr.Denot g.row.D-Ty.Denot). z.nodes) c.ctx.view_is) c.ctx.invariant.whole.stored c.insert_op_after.new.self c.args.self c.args.mark c.requires.live c.requires.mark_live c.insert_op_after.ensures.after
+
+pub insert_op_after-requires-clause-not_above : goal.insert_op_after-requires-clause-not_above
+insert_op_after-requires-clause-not_above g c =
+    subst (λ (z : ContextView g.row.D-Kind.Denot g.row.D-Attr.Denot g.row.D-Ty.Denot). IsAncestor z (Operation c.args.self) (Operation c.args.mark) → ⊥) (sym c.ctx.view_is) c.requires.not_above

@@ -1,4 +1,3 @@
-use Rattle.std.proofs.Common.{◌≡◌, sym, subst}
 use Rattle.plir_core.proofs.uses.counts.UseCounts.forget.Goals as goal
 use Rattle.plir_core.proofs.Counted.{Counts-freed_op}
 
