@@ -91,6 +91,6 @@ fn unit_types(alloc: Global, ctx: &mut Context<BuiltinSet>) -> Result<Vec<TypeHa
 {
     let unit = UnitType::get(ctx)?;
     let mut types = Vec::new(alloc);
-    types.push(unit.to_handle())?;
+    types.push(unit.into())?;
     Ok(types)
 }
