@@ -43,8 +43,8 @@ pub fn build_bare(
     Ok(root)
 }
 
-// A module, and its body.
-fn build_root(
+/// A module, and its body.
+pub fn build_root(
     alloc: Global,
     ctx: &mut Context<BuiltinSet>,
 ) -> Result<(Ptr<Operation>, Ptr<BasicBlock>), Stop>

@@ -21,6 +21,8 @@ pub enum Task {
     EraseAll,
     /// `erase-list N`: so many functions erased by one list of edits.
     EraseList,
+    /// `sweep N`: a dead chain of so many constants, beside one that is used, and the dead ones swept.
+    Sweep,
     /// `print N`: the module's text, so many times.
     Print,
     /// `read N`: the text that was printed last, read so many times.
@@ -57,6 +59,7 @@ fn read_task(word: &str) -> Option<Task> {
         "look-up" => Some(Task::LookUp),
         "erase-all" => Some(Task::EraseAll),
         "erase-list" => Some(Task::EraseList),
+        "sweep" => Some(Task::Sweep),
         "print" => Some(Task::Print),
         "read" => Some(Task::Read),
         _ => None,

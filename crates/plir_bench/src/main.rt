@@ -6,6 +6,7 @@ mod bench;
 mod building;
 mod command;
 mod stop;
+mod sweeping;
 mod symbols;
 mod texts;
 mod walking;
