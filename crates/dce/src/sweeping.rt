@@ -1,21 +1,20 @@
 //! Sweeping out dead operations.
-ghost use Rattle.std.specs.Prelude.{◌≡◌, [], Some, IsTrue};
-ghost use Rattle.plir_core.specs.ContextView.{ContextView, IsLive, children, parent_of};
-ghost use Rattle.plir_core.specs.Forest.{look};
+ghost use Rattle.std.specs.Prelude.{◌≡◌, true, [], Some, IsTrue};
+ghost use Rattle.plir_core.specs.ContextView.{ContextView, IsLive, children, parent_of, kind_of};
 ghost use Rattle.plir_core.specs.WellFormed.{IsWellFormed};
 ghost use Rattle.plir_core.specs.declared.ptr.IRNode.{IRNode as AnyNode};
-ghost use Rattle.plir_walk.specs.Lawful.{Lawful};
-ghost use Rattle.dce.specs.Swept.{IsDead, IsSwept};
+ghost use Rattle.plir_core.specs.Unused.{IsUnusedOutside};
+ghost use Rattle.dce.specs.Swept.{IsOpOf, IsSwept, IsSweptBelow, is_pure as is_kind_pure};
 
 use crate::effects::{EffectSet, is_pure};
-use plir_core::laws::nothing_stands_below_a_leaf;
+use plir_core::laws::neighbours_outlast_an_erasure;
 use plir_core::{BasicBlock, Context, IRNode, Operation, Ptr};
-use plir_walk::laws::{erasures_thin, lawful_changes};
+use plir_walk::laws::leaves_thin;
 use plir_walk::uninterruptible::mutable::walk_op;
 use plir_walk::{CallLimit, WALKCONFIG_POSTORDER_REVERSE};
 
 /// Erases the operations under an operation that have no effect and no regions, and whose results nothing uses, from
-/// the last one on.
+/// the last one on. The contract tells what may go, and that nothing else changes; that something goes is no part of it.
 ///
 /// # Errors
 ///
@@ -25,116 +24,96 @@ pub fn sweep<D: EffectSet>(ctx: &mut Context<D>, root: Ptr<Operation>) -> Result
     ensures swept { IsSwept D.has_effect ctx.old ctx.new }
     ensures whole { IsWellFormed D.attr_handles ctx.new }
 {
-    erasures_thin(ctx);
+    leaves_thin(ctx);
     ctx.stands();
     let sweep_node = |ctx: &mut Context<D>, _state: &mut (), node: IRNode|
         requires { IsLive ctx.old node }
-        ensures swept { (s : ContextView D.Kind D.Attr D.Ty) → IsSwept D.has_effect s ctx.old →
-            IsSwept D.has_effect s ctx.new }
-        ensures lawful { Lawful (look ctx.old) node (look ctx.new) }
+        ensures { IsSweptBelow D.has_effect node ctx.old ctx.new }
     {
         sweep_below(ctx, node);
     };
     let config = WALKCONFIG_POSTORDER_REVERSE;
-    let end = walk_op(
-        ctx,
-        &mut (),
-        &config,
-        root,
-        u64::from(u32::MAX),
-        sweep_node,
-    );
+    let end = walk_op(ctx, &mut (), &config, root, u64::from(u32::MAX), sweep_node);
     ctx.stands();
     end
 }
 
-// What is done at each node: a block is swept, nothing else is. What the context was swept from, it still is after it.
+// What is done at each node: a block is swept, nothing else is.
 fn sweep_below<D: EffectSet>(ctx: &mut Context<D>, node: IRNode)
     requires { IsLive ctx.old node }
-    ensures swept { (s : ContextView D.Kind D.Attr D.Ty) → IsSwept D.has_effect s ctx.old →
-        IsSwept D.has_effect s ctx.new }
-    ensures lawful { Lawful (look ctx.old) node (look ctx.new) }
+    ensures { IsSweptBelow D.has_effect node ctx.old ctx.new }
 {
-    lawful_changes::<D>();
-    if let IRNode::BasicBlock(block) = node {
-        sweep_ops(ctx, block);
-    }
+    let last = last_op(ctx, node);
+    sweep_ops(ctx, node, last);
 }
 
 /// Erases the operations of a block that have no effect and no regions, and whose results nothing uses, from the last
-/// one on.
+/// one on. The contract tells what may go, and that nothing else changes; that something goes is no part of it.
 pub fn sweep_block<D: EffectSet>(ctx: &mut Context<D>, block: Ptr<BasicBlock>)
     requires { IsLive ctx.old (AnyNode.BasicBlock block) }
-    ensures swept { IsSwept D.has_effect ctx.old ctx.new }
-    ensures lawful { Lawful (look ctx.old) (AnyNode.BasicBlock block) (look ctx.new) }
+    ensures swept { IsSweptBelow D.has_effect (AnyNode.BasicBlock block) ctx.old ctx.new }
     ensures whole { IsWellFormed D.attr_handles ctx.new }
 {
-    erasures_thin(ctx);
-    ctx.stands();
-    sweep_ops(ctx, block);
+    sweep_below(ctx, IRNode::BasicBlock(block));
     ctx.stands();
 }
 
-// Sweeps the operations of a block, the last one first.
-fn sweep_ops<D: EffectSet>(ctx: &mut Context<D>, block: Ptr<BasicBlock>)
-    requires { IsLive ctx.old (AnyNode.BasicBlock block) }
-    ensures swept { (s : ContextView D.Kind D.Attr D.Ty) → IsSwept D.has_effect s ctx.old →
-        IsSwept D.has_effect s ctx.new }
-    ensures lawful { Lawful (look ctx.old) (AnyNode.BasicBlock block) (look ctx.new) }
+// The last operation of a node, if it is a block that has one.
+fn last_op<D: EffectSet>(ctx: &Context<D>, node: IRNode) -> Option<Ptr<Operation>>
+    requires { IsLive ctx.now node }
+    ensures { IsOpOf ctx.now node result }
 {
-    lawful_changes::<D>();
+    match node {
+        IRNode::BasicBlock(block) => block.get_tail(ctx),
+        IRNode::Operation(_) | IRNode::Region(_) => None,
+    }
+}
+
+// Sweeps the operations of a node, if it is a block, the last one first.
+fn sweep_ops<D: EffectSet>(ctx: &mut Context<D>, node: IRNode, last: Option<Ptr<Operation>>)
+    requires live { IsLive ctx.old node }
+    requires here { IsOpOf ctx.old node last }
+    ensures { IsSweptBelow D.has_effect node ctx.old ctx.new }
+{
+    leaves_thin(ctx);
     ctx.stands();
-    let Some(mut op) = block.get_tail(ctx) else {
-        return;
-    };
+    let mut at = last;
     'ops: for _i in 0..ctx.num_live() {
-        let Some(before) = op.get_prev(ctx) else {
-            sweep_op(ctx, op);
+        let Some(op) = at else {
             break;
         };
-        sweep_op(ctx, op);
-        if !before.is_live(ctx) {
-            break;
-        }
-        op = before;
+        at = sweep_op(ctx, node, op);
     }
 }
 
-// Erases an operation, if it is dead.
-fn sweep_op<D: EffectSet>(ctx: &mut Context<D>, op: Ptr<Operation>)
-    requires { IsLive ctx.old (AnyNode.Operation op) }
-    ensures swept { (s : ContextView D.Kind D.Attr D.Ty) → IsSwept D.has_effect s ctx.old →
-        IsSwept D.has_effect s ctx.new }
-    ensures parents { (n : AnyNode) → IsLive ctx.new n → parent_of ctx.new n ≡ parent_of ctx.old n }
-    ensures lawful { (over : AnyNode) → parent_of ctx.old (AnyNode.Operation op) ≡ Some over →
-        Lawful (look ctx.old) over (look ctx.new) }
-{
-    lawful_changes::<D>();
-    if is_dead(ctx, op) {
-        erase_dead(ctx, op);
-    }
-}
-
-// Erases a dead operation.
-fn erase_dead<D: EffectSet>(ctx: &mut Context<D>, op: Ptr<Operation>)
+// Erases an operation of a block, if it is dead, and answers the one before it. What was swept so far below the block,
+// from any context on, still is with it.
+fn sweep_op<D: EffectSet>(
+    ctx: &mut Context<D>,
+    node: IRNode,
+    op: Ptr<Operation>,
+) -> Option<Ptr<Operation>>
     requires live { IsLive ctx.old (AnyNode.Operation op) }
-    requires dead { IsDead D.has_effect ctx.old op }
-    ensures swept { (s : ContextView D.Kind D.Attr D.Ty) → IsSwept D.has_effect s ctx.old →
-        IsSwept D.has_effect s ctx.new }
-    ensures parents { (n : AnyNode) → IsLive ctx.new n → parent_of ctx.new n ≡ parent_of ctx.old n }
-    ensures lawful { (over : AnyNode) → parent_of ctx.old (AnyNode.Operation op) ≡ Some over →
-        Lawful (look ctx.old) over (look ctx.new) }
+    requires here { parent_of ctx.old (AnyNode.Operation op) ≡ Some node }
+    ensures swept { (s : ContextView D.Kind D.Attr D.Ty) → IsSweptBelow D.has_effect node s ctx.old →
+        IsSweptBelow D.has_effect node s ctx.new }
+    ensures before { IsOpOf ctx.new node result }
 {
-    lawful_changes::<D>();
-    erasures_thin(ctx);
-    nothing_stands_below_a_leaf(ctx, IRNode::Operation(op));
-    Operation::erase(op, ctx);
+    leaves_thin(ctx);
+    neighbours_outlast_an_erasure(ctx, op);
+    let before = op.get_prev(ctx);
+    if is_dead(ctx, op) {
+        Operation::erase(op, ctx);
+    }
+    before
 }
 
 // Whether an operation has no effect and no region, and nothing else uses it.
 fn is_dead<D: EffectSet>(ctx: &Context<D>, op: Ptr<Operation>) -> bool
     requires { IsLive ctx.now (AnyNode.Operation op) }
-    ensures { IsTrue result → IsDead D.has_effect ctx.now op }
+    ensures pure { IsTrue result → is_kind_pure D.has_effect (kind_of ctx.now op) ≡ true }
+    ensures leaf { IsTrue result → children ctx.now (AnyNode.Operation op) ≡ [] }
+    ensures unused { IsTrue result → IsUnusedOutside ctx.now (AnyNode.Operation op) }
 {
     if !is_pure(ctx, op) || !has_no_region(ctx, op) {
         return false;

@@ -1,12 +1,11 @@
 use Rattle.plir_core.specs.declared.ptr.IRNode.TheVariants.{Operation}
-use Rattle.plir_walk.specs.CallLaws.{still_holds}
+use Rattle.plir_walk.specs.WalkLaws.{holds_over_walk}
 use Rattle.dce.specs.Swept.{IsSwept}
 use Rattle.dce.proofs.sweeping.sweep.Goals as goal
 
 pub returns-clause-swept : goal.returns-clause-swept
 returns-clause-swept g c =
     let s = c.args.ctx.now in
-    still_holds _ (λ d n. IsSwept g.D.EffectSet.has_effect s d)
-    (λ d d' t t' n a m p h. rw p.made.1.leaves.0 at (p.made.1.met.1.0 s (rw p.made.1.shows.0 h)))
-    s _ _ _ c.walk_op-end.ensures.calls c.walk_op-end.ensures.chain (Operation c.args.root)
-    (record { thinned = c.erasures_thin.ensures.none s c.stands.ensures.standing.forest; stays = λ n l f. l })
+    let law = c.leaves_thin.ensures in
+    holds_over_walk (IsSwept g.D.EffectSet.has_effect s) c.walk_op-end.ensures
+    (λ d d' t t' n m h. law.both _ s d.now d'.now h m.1.thinned) (law.none _ (Operation c.args.root) s c.stands.ensures.standing.forest).thinned

@@ -90,11 +90,11 @@ returns-then-not-is_ready-clause-scans g c =
 
 pub returns-then-not-is_ready-clause-agree : goal.returns-then-not-is_ready-clause-agree
 returns-then-not-is_ready-clause-agree g c = λ all.
-    absurd (not-both c.is_ready.result (c.is_ready.ensures.1 (lent-ready g.D.OpSet.is_symbol g.D.OpSet.is_symbol_table c.args.ctx.now c.args.tables.now c.args.table c.in_ok-cached.cached.now (c.in_ok-cached.ensures.agree all) c.requires)) c.if-not-is_ready.true)
+    absurd (not-both c.is_ready.result (c.is_ready.ensures.1 (lent-ready g.D.OpSet.is_symbol g.D.OpSet.is_symbol_table c.args.ctx.now c.args.tables.now c.args.table c.in_ok-cached.cached.now (c.in_ok-cached.ensures.agree all) c.requires.live)) c.if-not-is_ready.true)
 
 pub returns-then-not-is_ready-clause-refused : goal.returns-then-not-is_ready-clause-refused
 returns-then-not-is_ready-clause-refused g c = λ all.
-    absurd (not-both c.is_ready.result (c.is_ready.ensures.1 (lent-ready g.D.OpSet.is_symbol g.D.OpSet.is_symbol_table c.args.ctx.now c.args.tables.now c.args.table c.in_ok-cached.cached.now (c.in_ok-cached.ensures.agree all) c.requires)) c.if-not-is_ready.true)
+    absurd (not-both c.is_ready.result (c.is_ready.ensures.1 (lent-ready g.D.OpSet.is_symbol g.D.OpSet.is_symbol_table c.args.ctx.now c.args.tables.now c.args.table c.in_ok-cached.cached.now (c.in_ok-cached.ensures.agree all) c.requires.live)) c.if-not-is_ready.true)
 
 pub returns-then-not-is_ready-clause-given : goal.returns-then-not-is_ready-clause-given
 returns-then-not-is_ready-clause-given g c = λ given.
