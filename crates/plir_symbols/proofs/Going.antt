@@ -1,12 +1,11 @@
 -- Whether a symbol may go.
-use Rattle.std.proofs.Common.{◌≡◌, ◌↔◌, ℕ, Bool, true, false, true≢false, List, Option, Some, None, IsTrue, sym, ◌∙◌}
+use Rattle.std.proofs.Common.{◌≡◌, ◌↔◌, ℕ, Bool, true, false, true≢false, List, None, IsTrue, sym, ◌∙◌}
 use Rattle.std.proofs.lemmas.Option.{none-some}
 use Rattle.plir_core.specs.declared.ptr.Ptr.{Ptr}
 use Rattle.plir_core.specs.declared.ptr.Operation.{Operation as OperationKind}
 use Rattle.plir_core.specs.declared.ptr.IRNode.TheVariants.{Operation}
 use Rattle.plir_core.specs.Contents.{OpView}
 use Rattle.plir_core.specs.ContextView.{ContextView, kind_of, op_at}
-use Rattle.plir_core.specs.Unused.{IsUnusedOutside}
 use Rattle.plir_builtin.specs.Refusals.{IsSymbolNamed, RemoveRefused, Refusal, no_table, regions, blocks, no_symbol, unnamed, redefined, elsewhere, outside, not_there}
 use Rattle.plir_builtin.specs.Symbols.{body, is_symbol_kind, name_held}
 use Rattle.plir_core.specs.ContextView.{parent_of}

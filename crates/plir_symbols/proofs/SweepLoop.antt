@@ -1,5 +1,5 @@
 -- The loop over the symbols of a body, and the loop of rounds.
-use Rattle.std.proofs.Common.{◌≡◌, ◌≢◌, ◌<◌, ◌≤◌, ℕ, suc, arith, Bool, true, false, List, [], ◌∷◌, ◌++◌, length, Option, Some, None, option_map, ◌⊎◌, inl, inr, refl, sym, ap, subst, ◌∙◌}
+use Rattle.std.proofs.Common.{◌≡◌, ◌<◌, ◌≤◌, ℕ, suc, arith, Bool, true, false, List, [], ◌∷◌, ◌++◌, length, Option, Some, None, option_map, inl, inr, refl, sym, ap, subst, ◌∙◌}
 use Rattle.std.proofs.lemmas.List.{append_assoc}
 use Rattle.plir_store.specs.Members.{Has, Distinct, head}
 use Rattle.plir_store.specs.MemberLaws.{Has-append_cases, Has-mid}
@@ -14,10 +14,10 @@ use Rattle.plir_core.specs.Standing.{IsStanding}
 use Rattle.plir_walk.specs.Thinned.{IsThinned, ErasuresThin}
 use Rattle.plir_builtin.specs.Table.{Table}
 use Rattle.plir_builtin.specs.Symbols.{body, children_in}
-use Rattle.plir_symbols.specs.SymbolNames.{NameSet, IsAmong, IsNameUsed, AreUsedNames}
+use Rattle.plir_symbols.specs.SymbolNames.{NameSet, IsAmong, AreUsedNames}
 use Rattle.plir_symbols.specs.DeadSymbols.{MayGo, IsDead, HasNoDead}
 use Rattle.plir_symbols.specs.SweptSymbols.{AreSwept}
-use Rattle.plir_symbols.specs.Sweeping.{IsTableKept, IsSymbolErased, IsSweptAt, IsRound}
+use Rattle.plir_symbols.specs.Sweeping.{IsTableKept, IsSweptAt, IsRound}
 use Rattle.plir_symbols.proofs.Bodies.{fewer-erased, live-still, body-still}
 use Rattle.plir_symbols.proofs.Erasing.{swept-none, swept-one, swept-both, kept-none, kept-both}
 use Rattle.plir_symbols.proofs.Rest.{left_from, left-cut, headed, ended}

@@ -1,5 +1,5 @@
 -- What the queries of the toy's kinds answer.
-use Rattle.std.specs.Prelude.{◌≡◌, ℕ, Bool, true, false, List, [], ◌∷◌, Option, Some, None, codes, is_some}
+use Rattle.std.specs.Prelude.{ℕ, Bool, true, false, List, [], ◌∷◌, Option, Some, None, codes, is_some}
 use Rattle.plir_data.specs.Dictionary.{dict_get}
 use Rattle.plir_core.specs.Contents.{OpView}
 use Rattle.plir_builtin.specs.Symbols.{name_in}

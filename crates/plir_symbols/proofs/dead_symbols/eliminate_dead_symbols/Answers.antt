@@ -1,4 +1,4 @@
-use Rattle.std.proofs.Common.{IsOk, OnErr, ◌≡◌, refl, sym, ap, subst, ◌∙◌}
+use Rattle.std.proofs.Common.{IsOk, OnErr, ◌≡◌, refl, sym, subst}
 use Rattle.plir_builtin.specs.Agree.{AllAgree, AreGivenOut}
 use Rattle.plir_builtin.specs.Symbols.{body}
 use Rattle.plir_symbols.specs.DeadSymbols.{HasNoDead}

@@ -1,6 +1,6 @@
 use Rattle.std.proofs.Common.{sym, ◌∙◌}
 use Rattle.plir_symbols.specs.SymbolNames.{IsAmong}
-use Rattle.plir_symbols.proofs.Going.{refused, no-symbol, not-private, no-name}
+use Rattle.plir_symbols.proofs.Going.{refused, no-symbol, not-private}
 use Rattle.plir_symbols.proofs.dead_symbols.may_go.Goals as goal
 
 pub returns-then-not-is_symbol : goal.returns-then-not-is_symbol

@@ -1,9 +1,8 @@
-use Rattle.std.proofs.Common.{◌≡◌, sym, ap, subst, ◌∙◌}
-use Rattle.plir_core.specs.declared.ptr.IRNode.TheVariants.{Operation, BasicBlock}
+use Rattle.std.proofs.Common.{sym, ap, subst, ◌∙◌}
+use Rattle.plir_core.specs.declared.ptr.IRNode.TheVariants.{Operation}
 use Rattle.plir_core.specs.ContextView.{IsLive}
 use Rattle.plir_builtin.specs.Symbols.{body}
 use Rattle.plir_symbols.specs.SymbolNames.{AreUsedNames}
-use Rattle.plir_symbols.proofs.Going.{not-both}
 use Rattle.plir_symbols.proofs.SweepLoop.{rounds-start, rounds-live, rounds-body, rounds-more, rounds-clean}
 use Rattle.plir_symbols.proofs.dead_symbols.sweep_table.Goals as goal
 
