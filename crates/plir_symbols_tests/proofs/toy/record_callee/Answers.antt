@@ -7,5 +7,5 @@ use Rattle.plir_symbols_tests.proofs.toy.record_callee.Goals as goal
 pub returns-in-None : goal.returns-in-None
 returns-in-None g c = sym (ap (with_names c.args.used.now) (none-in (op_at c.args.ctx.now c.args.op) c.in-None.ensures))
 
-pub returns-in-Some : goal.returns-in-Some
-returns-in-Some g c = c.in_ok-insert.ensures.ok ∙ sym (ap (with_names c.args.used.now) (named-in (op_at c.args.ctx.now c.args.op) c.in-Some.name.now c.in-Some.ensures))
+pub returns-in_ok-insert-in-Some : goal.returns-in_ok-insert-in-Some
+returns-in_ok-insert-in-Some g c = c.in_ok-insert.ensures.ok ∙ sym (ap (with_names c.args.used.now) (named-in (op_at c.args.ctx.now c.args.op) c.in-Some.name.now c.in-Some.ensures))
