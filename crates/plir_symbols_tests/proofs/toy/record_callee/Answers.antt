@@ -8,4 +8,4 @@ pub returns-in-None : goal.returns-in-None
 returns-in-None g c = sym (ap (with_names c.args.used.now) (none-in (op_at c.args.ctx.now c.args.op) c.in-None.ensures))
 
 pub returns-in_ok-insert-in-Some : goal.returns-in_ok-insert-in-Some
-returns-in_ok-insert-in-Some g c = c.in_ok-insert.ensures.ok ∙ sym (ap (with_names c.args.used.now) (named-in (op_at c.args.ctx.now c.args.op) c.in-Some.name.now c.in-Some.ensures))
+returns-in_ok-insert-in-Some g c = c.in_ok-insert-in-Some.ensures.ok ∙ sym (ap (with_names c.args.used.now) (named-in (op_at c.args.ctx.now c.args.op) c.in-Some.name.now c.in-Some.ensures))
