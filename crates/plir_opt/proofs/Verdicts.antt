@@ -17,6 +17,7 @@ use Rattle.plir_walk.specs.declared.interruptible.WalkContinue.{WalkContinue}
 use Rattle.plir_walk.specs.declared.interruptible.WalkContinue.TheVariants.{Advance, Skip}
 use Rattle.plir_walk.specs.Calls.{Call, Chain, nodes_of, NoBreak}
 use Rattle.plir_walk.specs.OperationWalks.{AtOperations, OperationRelation, WalkedOperations}
+use Rattle.plir_walk.specs.Walk.{IsDue}
 use Rattle.plir_walk.specs.Walked.{IsCallUnder}
 use Rattle.plir_builtin.specs.OpRules.{HasModuleRules, HasFuncRules, HasConstantRules}
 use Rattle.plir_opt.specs.Verified.{HasRules, IsVerdict, IsVerified}
@@ -30,9 +31,9 @@ pub when-ok : {X E Q : Type 0} (r : Result X E) → (IsOk r → Q) → OnOk r Q
 when-ok (Ok x) f = f refl
 when-ok (Err e) f = tt
 
-pub never-ok : {X E Q : Type 0} (r : Result X E) → IsErr r → OnOk r Q
-never-ok (Ok x) h = absurd (let z : ⊥ = cc h in z)
-never-ok (Err e) h = tt
+pub never-ok : {X E : Type 0} (Q : Type 0) (r : Result X E) → IsErr r → OnOk r Q
+never-ok Q (Ok x) h = absurd (let z : ⊥ = cc h in z)
+never-ok Q (Err e) h = tt
 
 module _ {D K A T E : Type 0} (o : op_set.Ghosts D K A T E)
     (uses_hold : ContextView K A T → Ptr OperationKind → Type 0) (s : ContextView K A T) (p : Ptr OperationKind) where
@@ -127,7 +128,7 @@ module _ {D K A T E : Type 0} (o : op_set.Ghosts D K A T E)
       IsVerified o uses_hold c0 root
   at-end k h p under =
       let told-of = each h.calls c0 s0 c0 s1 refl h.chain in
-      let due = (
+      let due : IsDue w (look c0).children (Operation root) h.calls (Operation p) = (
         under,
         λ out. never-skips out.skipped.0.node out.skipped.0.answer
             (told-of out.skipped.0 out.skipped.1) out.skipped.3,

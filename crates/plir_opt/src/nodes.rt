@@ -34,6 +34,7 @@ pub fn put_node<D: OpSet>(
     }
 }
 
+// Puts the id of an operation, and its name as a symbol, if it has one.
 fn put_op<D: OpSet>(
     out: &mut String,
     ctx: &Context<D>,

@@ -266,7 +266,8 @@ fn an_operation_that_breaks_a_rule_is_refused(rt: HostRuntime) -> Result<(), Fai
         &rt,
         alloc,
         b"x = builtin.constant <builtin.integer <0: si64>> : builtin.integer si32",
-        "m.plir: The value attribute is of type builtin.integer si64, but the constant is of type builtin.integer si32\n",
+        "m.plir: The value attribute is of type builtin.integer si64, \
+but the constant is of type builtin.integer si32\n",
     )
 }
 

@@ -1,3 +1,5 @@
+use Rattle.std.proofs.Common.{arith}
+use Rattle.plir_opt.specs.declared.choices.Pass.TheVariants.{EraseNames}
 use Rattle.plir_opt.proofs.Passing.{leads-on, leads-end}
 use Rattle.plir_opt.proofs.transform.run_passes.Goals as goal
 
@@ -7,11 +9,12 @@ loop-pass-init g c = (c.requires, λ u rest. rest)
 pub loop-pass-preserved : goal.loop-pass-preserved
 loop-pass-preserved g c = (
   c.run_one.ensures.live,
-  leads-on g.D.EffectSet.has_effect g.D.OpSet.is_terminator c.args.root c.args.passes.now c.loop-pass.pass-index _
-      c.args.ctx.now c.loop-pass.ctx c.run_one.new.ctx c.loop-pass-test.true c.loop-pass.invariant.1 c.run_one.ensures.passed,
+  leads-on g.D.EffectSet.has_effect g.D.OpSet.is_terminator c.args.root c.args.passes.now c.loop-pass.pass-index
+      EraseNames c.args.ctx.now c.loop-pass.ctx c.run_one.new.ctx (omega arith) c.loop-pass.invariant.1
+      c.run_one.ensures.passed,
 )
 
 pub returns-clause-passed : goal.returns-clause-passed
 returns-clause-passed g c =
     leads-end g.D.EffectSet.has_effect g.D.OpSet.is_terminator c.args.root c.args.passes.now c.loop-pass.pass-index
-    c.args.ctx.now c.loop-pass.ctx c.loop-pass-test.false c.loop-pass.invariant.1
+    c.args.ctx.now c.loop-pass.ctx (omega arith) c.loop-pass.invariant.1
