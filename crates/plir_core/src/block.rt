@@ -255,10 +255,6 @@ impl Ptr<BasicBlock> {
             self.get_parent_region(ctx).is_none(),
             "the block stands in a region already"
         );
-        prove!(
-            !IRNode::BasicBlock(self).is_ancestor(IRNode::Region(region), ctx),
-            "it would stand in itself"
-        );
         ctx.nodes.push_block(self, region);
     }
 
@@ -334,10 +330,6 @@ impl Ptr<BasicBlock> {
             self.get_parent_region(ctx).is_none(),
             "the block stands in a region already"
         );
-        prove!(
-            !IRNode::BasicBlock(self).is_ancestor(IRNode::Region(region), ctx),
-            "it would stand in itself"
-        );
         ctx.nodes.push_block_front(self, region);
     }
 
@@ -362,10 +354,6 @@ impl Ptr<BasicBlock> {
             mark.get_parent_region(ctx).is_some(),
             "the block that marks the place stands in no region"
         );
-        prove!(
-            !IRNode::BasicBlock(self).is_ancestor(IRNode::BasicBlock(mark), ctx),
-            "it would stand in itself"
-        );
         ctx.nodes.insert_block_before(self, mark);
     }
 
@@ -389,10 +377,6 @@ impl Ptr<BasicBlock> {
         prove!(
             mark.get_parent_region(ctx).is_some(),
             "the block that marks the place stands in no region"
-        );
-        prove!(
-            !IRNode::BasicBlock(self).is_ancestor(IRNode::BasicBlock(mark), ctx),
-            "it would stand in itself"
         );
         ctx.nodes.insert_block_after(self, mark);
     }

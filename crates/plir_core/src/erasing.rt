@@ -108,10 +108,6 @@ impl Operation {
         ensures whole { IsWellFormed D.attr_handles ctx.new }
     {
         prove!(op.is_live(ctx), "the operation is not live");
-        prove!(
-            IRNode::Operation(op).is_unused_outside(ctx),
-            "what is erased is used outside"
-        );
         erase_tree(IRNode::Operation(op), ctx);
     }
 }
@@ -127,10 +123,6 @@ impl BasicBlock {
         ensures whole { IsWellFormed D.attr_handles ctx.new }
     {
         prove!(block.is_live(ctx), "the block is not live");
-        prove!(
-            IRNode::BasicBlock(block).is_unused_outside(ctx),
-            "what is erased is used outside"
-        );
         erase_tree(IRNode::BasicBlock(block), ctx);
     }
 }

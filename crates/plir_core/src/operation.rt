@@ -247,7 +247,6 @@ impl Ptr<Operation> {
         ensures whole { IsWellFormed D.attr_handles ctx.now }
     {
         prove!(self.is_live(ctx), "the operation is not live");
-        prove!(i < self.num_regions(ctx), "there is none at this place");
         ctx.nodes.region(self, i)
     }
 
@@ -397,10 +396,6 @@ impl Ptr<Operation> {
         prove!(
             self.get_parent_block(ctx).is_none(),
             "the operation stands in a block already"
-        );
-        prove!(
-            !IRNode::Operation(self).is_ancestor(IRNode::BasicBlock(block), ctx),
-            "it would stand in itself"
         );
         ctx.nodes.push_op(self, block);
     }

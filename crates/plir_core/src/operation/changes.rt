@@ -165,10 +165,6 @@ impl Ptr<Operation> {
             self.get_parent_block(ctx).is_none(),
             "the operation stands in a block already"
         );
-        prove!(
-            !IRNode::Operation(self).is_ancestor(IRNode::BasicBlock(block), ctx),
-            "it would stand in itself"
-        );
         ctx.nodes.push_op_front(self, block);
     }
 
@@ -193,10 +189,6 @@ impl Ptr<Operation> {
             mark.get_parent_block(ctx).is_some(),
             "the operation that marks the place stands in no block"
         );
-        prove!(
-            !IRNode::Operation(self).is_ancestor(IRNode::Operation(mark), ctx),
-            "it would stand in itself"
-        );
         ctx.nodes.insert_op_before(self, mark);
     }
 
@@ -220,10 +212,6 @@ impl Ptr<Operation> {
         prove!(
             mark.get_parent_block(ctx).is_some(),
             "the operation that marks the place stands in no block"
-        );
-        prove!(
-            !IRNode::Operation(self).is_ancestor(IRNode::Operation(mark), ctx),
-            "it would stand in itself"
         );
         ctx.nodes.insert_op_after(self, mark);
     }
@@ -277,7 +265,6 @@ impl Operation {
         ensures whole { IsWellFormed D.attr_handles ctx.new }
     {
         prove!(op.is_live(ctx), "the operation is not live");
-        prove!(i < op.num_regions(ctx), "there is none at this place");
         let region = op.get_region(ctx, i);
         erase_tree(IRNode::Region(region), ctx);
     }
