@@ -42,7 +42,7 @@ pub mod Counting
 pub mod Counted
 pub mod Walked
 pub mod NotUsed
-pub mod TreeUses
+pub mod LeafUnused
 pub mod ValueUses
 pub mod TimesUsed
 pub mod ReplacedUses
