@@ -173,25 +173,43 @@ fn a_graph_has_a_box_for_each_node_and_an_arrow_to_each_child(rt: HostRuntime) -
     )
 }
 
+/// A command line asks for these passes, without the option to verify behind each, and for a text.
+fn expect_passes(
+    rt: &impl Abort,
+    alloc: Global,
+    words: &[&str],
+    passes: &[Pass],
+) -> Result<(), Fail> {
+    let matches = command(alloc)?.try_get_matches_from(words)?;
+    let choices = choose(alloc, &matches)?;
+    assert_eq!(rt; choices.passes.as_slice(), passes);
+    assert_eq!(rt; choices.form, Form::Text);
+    assert!(rt; !choices.verify);
+    Ok(())
+}
+
 #[test]
 fn passes_run_in_the_order_of_the_command_line(rt: HostRuntime) -> Result<(), Fail> {
     let alloc = rt.alloc();
-    let orders = [
-        (
-            ["plir_opt", "--dce", "--erase-names"],
-            [Pass::Dce, Pass::EraseNames],
-        ),
-        (
-            ["plir_opt", "--erase-names", "--dce"],
-            [Pass::EraseNames, Pass::Dce],
-        ),
-    ];
-    for (words, passes) in &orders {
-        let matches = command(alloc)?.try_get_matches_from(words.as_slice())?;
-        let choices = choose(alloc, &matches)?;
-        assert_eq!(rt; choices.passes.as_slice(), passes.as_slice());
-        assert_eq!(rt; choices.form, Form::Text);
-        assert!(rt; !choices.verify);
+    expect_passes(
+        &rt,
+        alloc,
+        ["plir_opt", "--dce", "--erase-names"].as_slice(),
+        [Pass::Dce, Pass::EraseNames].as_slice(),
+    )?;
+    expect_passes(
+        &rt,
+        alloc,
+        ["plir_opt", "--erase-names", "--dce"].as_slice(),
+        [Pass::EraseNames, Pass::Dce].as_slice(),
+    )
+}
+
+/// A command line is refused with the status 2.
+fn expect_wrong(rt: &impl Abort, alloc: Global, words: &[&str]) -> Result<(), Fail> {
+    match command(alloc)?.try_get_matches_from(words) {
+        Ok(_) => return Err(Fail::from("the command line is not refused")),
+        Err(error) => assert_eq!(rt; error.exit_code(), 2),
     }
     Ok(())
 }
@@ -199,19 +217,10 @@ fn passes_run_in_the_order_of_the_command_line(rt: HostRuntime) -> Result<(), Fa
 #[test]
 fn a_wrong_command_line_is_refused_with_the_status_2(rt: HostRuntime) -> Result<(), Fail> {
     let alloc = rt.alloc();
-    let lines = [
-        ["plir_opt", "--walk", "--view"],
-        ["plir_opt", "--dce", "--dce"],
-        ["plir_opt", "m.plir", "n.plir"],
-        ["plir_opt", "--walks", "m.plir"],
-    ];
-    for words in &lines {
-        match command(alloc)?.try_get_matches_from(words.as_slice()) {
-            Ok(_) => return Err(Fail::from("the command line is not refused")),
-            Err(error) => assert_eq!(rt; error.exit_code(), 2),
-        }
-    }
-    Ok(())
+    expect_wrong(&rt, alloc, ["plir_opt", "--walk", "--view"].as_slice())?;
+    expect_wrong(&rt, alloc, ["plir_opt", "--dce", "--dce"].as_slice())?;
+    expect_wrong(&rt, alloc, ["plir_opt", "m.plir", "n.plir"].as_slice())?;
+    expect_wrong(&rt, alloc, ["plir_opt", "--walks", "m.plir"].as_slice())
 }
 
 #[test]
