@@ -14,7 +14,7 @@ use plir_walk::uninterruptible::mutable::walk_op;
 use plir_walk::{CallLimit, WALKCONFIG_POSTORDER_REVERSE};
 
 /// Erases the operations under an operation that have no effect and no regions, and whose results nothing uses, from
-/// the last one on. The contract tells what may go, and that nothing else changes; that something goes is no part of it.
+/// the last one on. The contract tells what may go, and that nothing else changes: to do nothing would be proved too.
 ///
 /// # Errors
 ///
@@ -48,7 +48,7 @@ fn sweep_below<D: EffectSet>(ctx: &mut Context<D>, node: IRNode)
 }
 
 /// Erases the operations of a block that have no effect and no regions, and whose results nothing uses, from the last
-/// one on. The contract tells what may go, and that nothing else changes; that something goes is no part of it.
+/// one on. The contract tells what may go, and that nothing else changes: to do nothing would be proved too.
 pub fn sweep_block<D: EffectSet>(ctx: &mut Context<D>, block: Ptr<BasicBlock>)
     requires { IsLive ctx.old (AnyNode.BasicBlock block) }
     ensures swept { IsSweptBelow D.has_effect (AnyNode.BasicBlock block) ctx.old ctx.new }
