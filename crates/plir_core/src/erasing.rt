@@ -28,8 +28,8 @@ impl IRNode {
     }
 
     /// Whether no live operation outside the tree of this node, which is the node and all below it, has an operand that
-    /// is a value of the tree or a successor in it. Counts tell it where the node has no children, and where nothing
-    /// uses any node of the tree, also in the tree; else, and where a count is not known, this looks at all operations.
+    /// is a value of the tree or a successor in it. This goes through the tree once, and climbs from the owner of
+    /// each operand and from each successor there; it looks at all operations only where a count of uses is not known.
     pub fn is_unused_outside<D: OpSet>(self, ctx: &Context<D>) -> bool
         ensures value { IsTrue result ↔ IsUnusedOutside ctx.now self }
         ensures whole { IsWellFormed D.attr_handles ctx.now }
