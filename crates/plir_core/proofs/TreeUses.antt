@@ -7,28 +7,30 @@ use Rattle.std.proofs.lemmas.List.Sums.{sum_by-cons}
 use Rattle.std.proofs.lemmas.List.{take_all}
 use Rattle.std.proofs.lemmas.Option.{same_Some, none-some}
 use Rattle.plir_store.specs.Table.{Table, content_at, without_slot}
-use Rattle.plir_store.specs.Members.{Has}
+use Rattle.plir_store.specs.Members.{Has, head}
 use Rattle.plir_core.specs.declared.ptr.Ptr.{Ptr}
 use Rattle.plir_core.specs.declared.ptr.Operation.{Operation as OperationKind}
+use Rattle.plir_core.specs.declared.ptr.Region.{Region as RegionKind}
 use Rattle.plir_core.specs.declared.ptr.IRNode.{IRNode}
 use Rattle.plir_core.specs.declared.ptr.IRNode.TheVariants.{Operation, Region, BasicBlock}
 use Rattle.plir_core.specs.declared.ptr.BasicBlock.{BasicBlock as BasicBlockKind}
 use Rattle.plir_core.specs.declared.value.Value.{Value}
 use Rattle.plir_core.specs.declared.value.DefiningEntity.{DefiningEntity}
 use Rattle.plir_core.specs.Above.{climb, Reaches}
-use Rattle.plir_core.specs.Nodes.{Nodes, ptr_at, is_node_live, node_parent}
+use Rattle.plir_core.specs.Nodes.{Nodes, ptr_at, is_node_live, node_children, node_parent}
 use Rattle.plir_core.specs.Contents.{OpView, BlockView}
 use Rattle.plir_core.specs.Stored.{Seat, op, region, block, seat_of, IsStored}
 use Rattle.plir_core.specs.ContextView.{ContextView, IsLive, IsAncestor, is_live, types_from, entity_node, operands_in, successors_in}
 use Rattle.plir_core.specs.WellFormed.{IsWellFormed}
 use Rattle.plir_core.specs.Erase.{without_node, without_nodes, tree_of, erased, IsErased}
 use Rattle.plir_core.specs.Unused.{IsUnusedOutside}
-use Rattle.plir_core.specs.Uses.{is_seated, hit, values_from, blocks_in, uses_held, uses_of, uses_by, uses_within, places_in}
+use Rattle.plir_core.specs.Uses.{is_seated, hit, values_from, blocks_in, uses_held, uses_of, uses_by, uses_within, uses_of_tree, uses_inside, places_in}
 use Rattle.plir_core.proofs.Listing.{some_is, some_value, content_without, content_gone}
 use Rattle.plir_core.proofs.Seats.{live_some, some_live, same_seat}
 use Rattle.plir_core.proofs.Freed.{ptr_one}
 use Rattle.plir_core.proofs.FreedNode.{freed-live, freed-dead, freed-stored}
-use Rattle.plir_core.proofs.Trees.{climb_nothing}
+use Rattle.plir_core.proofs.Facts.{parent-child}
+use Rattle.plir_core.proofs.Trees.{climb_last, climb_nothing}
 use Rattle.plir_core.proofs.Erased.{IsPeeled, IsPeeled-tree}
 use Rattle.plir_core.proofs.Loss.{IsErased-tree, in-tree, tree-in}
 use Rattle.plir_core.proofs.Counting.{uses-none, held-none, count_in}
@@ -81,11 +83,36 @@ sum_by-swap f (x ∷ xs) ys =
         sum_by-same (λ y. sum_by (λ z. f z y) (x ∷ xs)) (λ y. f x y + sum_by (λ z. f z y) xs) ys (λ y h. sum_by-cons (λ z. f z y) x xs) ∙ sum_by-plus (f x) (λ y. sum_by (λ z. f z y) xs) ys in
     omega arith
 
+-- two sums up to the greatest number are added
+pub min_more : (sum more have last all : ℕ) → have ≡ min sum (2 ^ 64 - 1) → last ≡ min more (2 ^ 64 - 1) → all ≡ min (have + last) (2 ^ 64 - 1) → all ≡ min (sum + more) (2 ^ 64 - 1)
+min_more sum more have last all a b c = omega arith
+
 zero_plus : (x : ℕ) → x ≡ 0 + x
 zero_plus x = omega arith
 
 plus_zero : (x : ℕ) → x ≡ x + 0
 plus_zero x = omega arith
+
+-- 1 for a slot that holds something, 0 for one that is free.
+one_gone : {C : Type 0} (t : Table C) (i j : ℕ) → IsSome (content_at t i) → cond {A = ℕ} (is_some (content_at t j)) 1 0 ≡ cond {A = ℕ} (eqb j i) 1 0 + cond {A = ℕ} (is_some (content_at (without_slot t i) j)) 1 0
+one_gone t i j some = elim (cases_eq j i) [
+  | inl q ↦
+      let a = ap (λ (b : Bool). cond {A = ℕ} b 1 0) (subst (λ z. is_some (content_at t z) ≡ true) (sym q) some) in
+      let b = ap (λ (b : Bool). cond {A = ℕ} b 1 0) (eq-eqb j i q) in
+      let c = ap (λ o. cond {A = ℕ} (is_some o) 1 0) (ap (content_at (without_slot t i)) q ∙ content_gone t i some) in
+      omega arith
+  | inr ne ↦
+      let b = ap (λ (b : Bool). cond {A = ℕ} b 1 0) (ne_eqb j i ne) in
+      let c = ap (λ o. cond {A = ℕ} (is_some o) 1 0) (content_without t i j ne) in
+      omega arith
+]
+
+is_one : {C : Type 0} (o : Option C) → IsSome o → cond {A = ℕ} (is_some o) 1 0 ≡ 1
+is_one o some = ap (λ (b : Bool). cond {A = ℕ} b 1 0) some
+
+none_held : {C : Type 0} (o : Option C) → (IsSome o → ⊥) → cond {A = ℕ} (is_some o) 1 0 ≡ 0
+none_held None n = refl
+none_held (Some v) n = absurd (n refl)
 
 -- A live operation or block sits in one place of a tree or in none: nodes are freed one after another.
 module _ {O B : Type 0} where
@@ -94,19 +121,6 @@ module _ {O B : Type 0} where
   held_once s (Operation p) = cond (is_some (content_at s.ops p.slot)) 1 0
   held_once s (Region p) = 0
   held_once s (BasicBlock p) = cond (is_some (content_at s.blocks p.slot)) 1 0
-
-  one_gone : {C : Type 0} (t : Table C) (i j : ℕ) → IsSome (content_at t i) → cond {A = ℕ} (is_some (content_at t j)) 1 0 ≡ cond {A = ℕ} (eqb j i) 1 0 + cond {A = ℕ} (is_some (content_at (without_slot t i) j)) 1 0
-  one_gone t i j some = elim (cases_eq j i) [
-    | inl q ↦
-        let a = ap (λ (b : Bool). cond {A = ℕ} b 1 0) (subst (λ z. is_some (content_at t z) ≡ true) (sym q) some) in
-        let b = ap (λ (b : Bool). cond {A = ℕ} b 1 0) (eq-eqb j i q) in
-        let c = ap (λ o. cond {A = ℕ} (is_some o) 1 0) (ap (content_at (without_slot t i)) q ∙ content_gone t i some) in
-        omega arith
-    | inr ne ↦
-        let b = ap (λ (b : Bool). cond {A = ℕ} b 1 0) (ne_eqb j i ne) in
-        let c = ap (λ o. cond {A = ℕ} (is_some o) 1 0) (content_without t i j ne) in
-        omega arith
-  ]
 
   held_once-freed : (s : Nodes O B) (n m : IRNode) → is_node_live s n ≡ true → held_once s m ≡ hit (seat_of n) m + held_once (without_node s n) m
   held_once-freed s (Operation q) (Operation p) live = one_gone s.ops q.slot p.slot (live_some s.ops q.slot q.version live)
@@ -127,17 +141,10 @@ module _ {O B : Type 0} where
       let c : sum_by (λ z. hit (seat_of z) m) (n ∷ ns) ≡ hit (seat_of n) m + sum_by (λ z. hit (seat_of z) m) ns = sum_by-cons (λ z. hit (seat_of z) m) n ns in
       omega arith
 
-  is_one : {C : Type 0} (o : Option C) → IsSome o → cond {A = ℕ} (is_some o) 1 0 ≡ 1
-  is_one o some = ap (λ (b : Bool). cond {A = ℕ} b 1 0) some
-
   held_once-live : (s : Nodes O B) (m : IRNode) → is_seated (seat_of m) m ≡ true → is_node_live s m ≡ true → held_once s m ≡ 1
   held_once-live s (Operation p) used live = is_one (content_at s.ops p.slot) (live_some s.ops p.slot p.version live)
   held_once-live s (Region p) used live = absurd (let f : ⊥ = cc in f)
   held_once-live s (BasicBlock p) used live = is_one (content_at s.blocks p.slot) (live_some s.blocks p.slot p.version live)
-
-  none_held : {C : Type 0} (o : Option C) → (IsSome o → ⊥) → cond {A = ℕ} (is_some o) 1 0 ≡ 0
-  none_held None n = refl
-  none_held (Some v) n = absurd (n refl)
 
   module _ (s : Nodes O B) (w : IsStored s) (root : IRNode) (live : is_node_live s root ≡ true) where
     gone : IsErased s (erased s root) root
@@ -179,6 +186,21 @@ module _ {O B : Type 0} where
         let b = held_once-live s m used here in
         let c = held_once-live (erased s root) m used (gone.live m out ∙ here) in
         omega arith
+
+-- Nothing stands under a node without children but itself.
+module _ {O B : Type 0} (s : Nodes O B) (w : IsStored s) (n : IRNode) (leaf : head (node_children s n) ≡ None) where
+  no_child : (ks : List IRNode) (y : IRNode) → head ks ≡ None → Has ks y → ⊥
+  no_child [] y f h = absurd h
+  no_child (x ∷ ks) y f h = none-some x (sym f)
+
+  pub alone : (m : IRNode) → Reaches (node_parent s) m n → m ≡ n
+  alone m r = in_steps r.0 r.1
+    where
+      in_steps : (k : ℕ) → climb (node_parent s) k (Some m) ≡ Some n → m ≡ n
+      in_steps zero e = same_Some m n e
+      in_steps (suc k) e =
+          let y = climb_last (node_parent s) k (Some m) n e in
+          absurd (no_child (node_children s n) y.0 leaf (parent-child s w n y.0 y.1.1))
 
 -- Nodes are freed one after another.
 module _ {K A : Type 0} where
@@ -227,7 +249,7 @@ module _ {K A : Type 0} (s : Nodes (OpView K A) (BlockView A)) (w : IsStored s) 
   abbrev used_by_rest : ℕ
   used_by_rest = sum_by (λ n. uses_of (erased s root).ops (seat_of n)) (tree_of s root)
 
-  uses-split : sum_by (λ n. uses_of s.ops (seat_of n)) (tree_of s root) ≡ used_by_rest + sum_by (uses_within s root) (tree_of s root)
+  uses-split : uses_of_tree s root ≡ used_by_rest + uses_inside s root
   uses-split =
       let t : List IRNode = tree_of s root in
       sum_by-same (λ n. uses_of s.ops (seat_of n)) (λ n. uses_of (erased s root).ops (seat_of n) + sum_by (uses_by s (seat_of n)) t) t (λ n h. uses_of-peeled (seat_of n) (uses_by s (seat_of n)) t s w (peeled s w root live) (λ m l. refl))
@@ -317,22 +339,28 @@ module _ {K A T : Type 0} (own : A → List ℕ) (s : ContextView K A T) (w : Is
           omega arith
 
   -- the tree is unused outside exactly where its nodes are used as often as it uses them itself
-  pub counted-unused : sum_by (λ n. uses_of s.nodes.ops (seat_of n)) (tree_of s.nodes root) ≡ sum_by (uses_within s.nodes root) (tree_of s.nodes root) → IsUnusedOutside s root
+  counted-unused : uses_of_tree s.nodes root ≡ uses_inside s.nodes root → IsUnusedOutside s root
   counted-unused e =
       let split = uses-split s.nodes w.stored root live in
       rest-unused (omega arith)
 
-  pub unused-counted : IsUnusedOutside s root → sum_by (λ n. uses_of s.nodes.ops (seat_of n)) (tree_of s.nodes root) ≡ sum_by (uses_within s.nodes root) (tree_of s.nodes root)
+  -- what nothing uses is unused outside
+  pub none-told : (uses : ℕ) → uses ≡ uses_of_tree s.nodes root → uses ≡ 0 → IsUnusedOutside s root
+  none-told uses is none =
+      let split = uses-split s.nodes w.stored root live in
+      rest-unused (omega arith)
+
+  unused-counted : IsUnusedOutside s root → uses_of_tree s.nodes root ≡ uses_inside s.nodes root
   unused-counted u =
       let split = uses-split s.nodes w.stored root live in
       let none = unused-rest u in
       omega arith
 
   -- what the sums tell, the second one up to the greatest number
-  pub tree-told : (uses inside sum : ℕ) → uses ≡ sum_by (λ n. uses_of s.nodes.ops (seat_of n)) (tree_of s.nodes root) → sum ≡ sum_by (uses_within s.nodes root) (tree_of s.nodes root) → inside ≡ min sum (2 ^ 64 - 1) → uses < 2 ^ 64 - 1 → IsTrue (uses == inside) ↔ IsUnusedOutside s root
-  tree-told uses inside sum is sum_is up_to fits = (
-    λ t. let e = eqb-true uses inside t in let q : uses ≡ sum = omega arith in counted-unused (sym is ∙ q ∙ sum_is),
-    λ u. let e : uses ≡ sum = is ∙ unused-counted u ∙ sym sum_is in eq-eqb uses inside (omega arith),
+  pub tree-told : (uses inside : ℕ) → uses ≡ uses_of_tree s.nodes root → inside ≡ min (uses_inside s.nodes root) (2 ^ 64 - 1) → uses < 2 ^ 64 - 1 → IsTrue (uses == inside) ↔ IsUnusedOutside s root
+  tree-told uses inside is up_to fits = (
+    λ t. let e = eqb-true uses inside t in let q : uses ≡ uses_inside s.nodes root = omega arith in counted-unused (sym is ∙ q),
+    λ u. let e : uses ≡ uses_inside s.nodes root = is ∙ unused-counted u in eq-eqb uses inside (omega arith),
   )
 
 -- Uses that are counted one by one: `node` tells what node an element is a use of.
@@ -373,6 +401,23 @@ within-op s root p v held =
     ap (λ o. sum_by (λ n. uses_held (seat_of n) o) (tree_of s root)) held
     ∙ sum_by-plus (λ n. values_from (seat_of n) v.operands) (λ n. blocks_in (seat_of n) v.successors) (tree_of s root)
 
+-- what was counted of an operation's operands and successors is what it uses within the tree: s is made of the fields, and
+-- t is the value
+pub within-told : {K A T : Type 0} (s t : ContextView K A T) → s ≡ t → (root n : IRNode) (p : Ptr OperationKind) (v : OpView K A) → n ≡ Operation p → content_at s.nodes.ops p.slot ≡ Some v →
+    (vs : List Value) (bs : List (Ptr BasicBlockKind)) → vs ≡ v.operands → bs ≡ v.successors → (a b all : ℕ) →
+    a ≡ sum_by (λ n. values_from (seat_of n) vs) (tree_of s.nodes root) → b ≡ sum_by (λ n. blocks_in (seat_of n) bs) (tree_of s.nodes root) →
+    all ≡ min (a + b) (2 ^ 64 - 1) → all ≡ min (uses_within t.nodes root n) (2 ^ 64 - 1)
+within-told {K} {A} {T} s t view root n p v is held vs bs ev eb a b all ea eb' told =
+    let split = within-op s.nodes root p v held in
+    let ea' : a ≡ sum_by (λ n. values_from (seat_of n) v.operands) (tree_of s.nodes root) = ea ∙ ap (λ xs. sum_by (λ n. values_from (seat_of n) xs) (tree_of s.nodes root)) ev in
+    let eb'' : b ≡ sum_by (λ n. blocks_in (seat_of n) v.successors) (tree_of s.nodes root) = eb' ∙ ap (λ xs. sum_by (λ n. blocks_in (seat_of n) xs) (tree_of s.nodes root)) eb in
+    let sum : a + b ≡ uses_within s.nodes root (Operation p) = omega arith in
+    let moved : uses_within s.nodes root (Operation p) ≡ uses_within t.nodes root n = ap (uses_within s.nodes root) (sym is) ∙ ap (λ (z : ContextView K A T). uses_within z.nodes root n) view in
+    told ∙ ap (λ k. min k (2 ^ 64 - 1)) (sum ∙ moved)
+
 -- a region uses nothing, nor does a block
-pub within-none : {K A : Type 0} (s : Nodes (OpView K A) (BlockView A)) (root m : IRNode) → ((at : Seat) → uses_by s at m ≡ 0) → uses_within s root m ≡ 0
-within-none s root m none = sum_by-zero (λ n. uses_by s (seat_of n) m) (tree_of s root) (λ n h. none (seat_of n))
+pub within-region : {K A : Type 0} (s : Nodes (OpView K A) (BlockView A)) (root n : IRNode) (p : Ptr RegionKind) → n ≡ Region p → 0 ≡ min (uses_within s root n) (2 ^ 64 - 1)
+within-region s root n p is = ap (λ k. min k (2 ^ 64 - 1)) (sym (sum_by-zero (λ m. uses_by s (seat_of m) (Region p)) (tree_of s root) (λ m h. refl)) ∙ ap (uses_within s root) (sym is))
+
+pub within-block : {K A : Type 0} (s : Nodes (OpView K A) (BlockView A)) (root n : IRNode) (p : Ptr BasicBlockKind) → n ≡ BasicBlock p → 0 ≡ min (uses_within s root n) (2 ^ 64 - 1)
+within-block s root n p is = ap (λ k. min k (2 ^ 64 - 1)) (sym (sum_by-zero (λ m. uses_by s (seat_of m) (BasicBlock p)) (tree_of s root) (λ m h. refl)) ∙ ap (uses_within s root) (sym is))

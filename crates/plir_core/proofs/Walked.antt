@@ -13,7 +13,7 @@ use Rattle.plir_core.specs.Nodes.{Nodes, is_node_live, node_children, node_paren
 use Rattle.plir_core.specs.Stored.{IsStored}
 use Rattle.plir_core.specs.Measures.{most_steps, depth_of}
 use Rattle.plir_core.specs.Erase.{post_order, tree_of}
-use Rattle.plir_core.specs.Walked.{tree_sum, IsAfter, IsCome, IsBehind, GoesOn, GoesOnBehind}
+use Rattle.plir_core.specs.Walked.{tree_sum, IsAfter, IsCome, IsBehind, GoesOn, GoesOnBehind, Ends}
 use Rattle.plir_core.proofs.Facts.{child-parent, child-live}
 use Rattle.plir_core.proofs.Depths.{depth-child, depth-le_most}
 use Rattle.plir_core.proofs.ChildPlaces.{next-place, front}
@@ -86,7 +86,7 @@ module _ {O B : Type 0} (s : Nodes O B) (w : IsStored s) where
           live = child-live s w n child (head-Has (node_children s n) child h);
           levels = suc c.levels;
           rest = sum_by (tree_sum g s) (drop (0 + 1) (node_children s n)) + c.rest;
-          after = (n, (0, (c.rest, (there, (refl, c.after)))));
+          after = (n, 0, c.rest, there, refl, c.after);
           whole = omega arith;
         }
 
@@ -120,9 +120,9 @@ module _ {O B : Type 0} (s : Nodes O B) (w : IsStored s) where
     IsCome-next n b before c ne next =
         let r = below n before c ne in
         let over = r.1.0 in
-        let place = r.1.1.0 in
-        let there : slice_get (node_children s over) place ≡ Some n = r.1.1.1.1.0 in
-        let sums = r.1.1.1.1.1.0 in
+        let place = r.1.1 in
+        let there : slice_get (node_children s over) place ≡ Some n = r.1.3 in
+        let sums = r.1.4 in
         let follows : slice_get (node_children s over) (place + 1) ≡ Some b = sym (next-place s w over n place there) ∙ next in
         let within = slice_get_within (node_children s over) (place + 1) b follows in
         let first = sum_by-drop_more (tree_sum g s) (node_children s over) (place + 1) b within in
@@ -131,8 +131,8 @@ module _ {O B : Type 0} (s : Nodes O B) (w : IsStored s) where
         record {
           live = child-live s w over b (Has-at (node_children s over) (place + 1) b follows);
           levels = suc r.0;
-          rest = sum_by (tree_sum g s) (drop (place + 1 + 1) (node_children s over)) + r.1.1.1.0;
-          after = (over, (place + 1, (r.1.1.1.0, (follows, (refl, r.1.1.1.1.1.1)))));
+          rest = sum_by (tree_sum g s) (drop (place + 1 + 1) (node_children s over)) + r.1.2;
+          after = (over, place + 1, r.1.2, follows, refl, r.1.5);
           whole = omega arith;
         }
 
@@ -141,17 +141,17 @@ module _ {O B : Type 0} (s : Nodes O B) (w : IsStored s) where
     IsBehind-up n over before c ne last under =
         let r = below n before c ne in
         let up = r.1.0 in
-        let place = r.1.1.0 in
-        let there : slice_get (node_children s up) place ≡ Some n = r.1.1.1.1.0 in
-        let sums = r.1.1.1.1.1.0 in
+        let place = r.1.1 in
+        let there : slice_get (node_children s up) place ≡ Some n = r.1.3 in
+        let sums = r.1.4 in
         let one : up ≡ over = same_Some up over (sym (child-parent s w up n (Has-at (node_children s up) place n there)) ∙ under) in
         let end = past (node_children s up) (place + 1) n (sym (next-place s w up n place there) ∙ last) in
         let none : sum_by (tree_sum g s) (drop (place + 1) (node_children s up)) ≡ 0 = ap (sum_by (tree_sum g s)) (drop_of_length-le (node_children s up) end) in
         let all = c.whole in
         record {
           levels = r.0;
-          rest = r.1.1.1.0;
-          after = subst (λ z. IsAfter g s root r.0 z r.1.1.1.0) one r.1.1.1.1.1.1;
+          rest = r.1.2;
+          after = subst (λ z. IsAfter g s root r.0 z r.1.2) one r.1.5;
           whole = omega arith;
         }
 
@@ -159,14 +159,14 @@ module _ {O B : Type 0} (s : Nodes O B) (w : IsStored s) where
     pub IsBehind-over : (n : IRNode) (before : ℕ) → IsBehind g s root n before → (n ≡ root → ⊥) → node_parent s n ≡ None → ⊥
     IsBehind-over n before c ne none =
         let r = below n before c ne in
-        none-some r.1.0 (sym none ∙ child-parent s w r.1.0 n (Has-at (node_children s r.1.0) r.1.1.0 n r.1.1.1.1.0))
+        none-some r.1.0 (sym none ∙ child-parent s w r.1.0 n (Has-at (node_children s r.1.0) r.1.1 n r.1.3))
 
     -- it ends at the root
     after-depth : (k : ℕ) (n : IRNode) (rest : ℕ) → IsAfter g s root k n rest → depth_of s n ≡ depth_of s root + k
     after-depth zero n rest a = let d = ap (depth_of s) a.0 in omega arith
     after-depth (suc k) n rest a =
-        let r = after-depth k a.0 a.1.1.0 a.1.1.1.1.1 in
-        let d = depth-child s w a.0 n (child-parent s w a.0 n (Has-at (node_children s a.0) a.1.0 n a.1.1.1.0)) in
+        let r = after-depth k a.0 a.2 a.5 in
+        let d = depth-child s w a.0 n (child-parent s w a.0 n (Has-at (node_children s a.0) a.1 n a.3)) in
         omega arith
 
     pub IsBehind-root : (before : ℕ) → IsBehind g s root root before → before ≡ tree_sum g s root
@@ -180,3 +180,16 @@ module _ {O B : Type 0} (s : Nodes O B) (w : IsStored s) where
 pub IsCome-after : {O B : Type 0} (s : Nodes O B) (w : IsStored s) (root n : IRNode) (r : Option IRNode) → head (node_children s n) ≡ None → IfSome r (GoesOnBehind s root n) → IfSome r (GoesOn s root n)
 IsCome-after s w root n None none h = tt
 IsCome-after s w root n (Some next) none h = λ g before c. h g (before + g n) (IsBehind-leaf s w root g n before c none)
+
+-- What is counted of a node comes to the sum as a walk goes on, and as it ends: s is made of the fields, and t is the
+-- value.
+module _ {O B : Type 0} (g : IRNode → ℕ) (s t : Nodes O B) (view : s ≡ t) (root n : IRNode) (before k : ℕ) (is : k ≡ g n) (come : IsCome g t root n before) where
+  pub IsCome-on : (next : IRNode) → GoesOn s root n next → IsCome g t root next (before + k)
+  IsCome-on next on =
+      let on_t : GoesOn t root n next = subst (λ z. GoesOn z root n next) view on in
+      subst (λ m. IsCome g t root next (before + m)) (sym is) (on_t g before come)
+
+  pub sum-ends : Ends s root n → before + k ≡ tree_sum g t root
+  sum-ends ends =
+      let ends_t : Ends t root n = subst (λ z. Ends z root n) view ends in
+      ap (λ m. before + m) is ∙ ends_t g before come

@@ -79,6 +79,13 @@ module _ {K A : Type 0} where
   abbrev pub uses_within : Nodes (OpView K A) (BlockView A) → IRNode → IRNode → ℕ
   uses_within s root m = sum_by (λ n. uses_by s (seat_of n) m) (tree_of s root)
 
+  -- how often all nodes of the tree under the root are used, and how often by nodes of the tree
+  abbrev pub uses_of_tree : Nodes (OpView K A) (BlockView A) → IRNode → ℕ
+  uses_of_tree s root = sum_by (λ n. uses_of s.ops (seat_of n)) (tree_of s root)
+
+  abbrev pub uses_inside : Nodes (OpView K A) (BlockView A) → IRNode → ℕ
+  uses_inside s root = sum_by (uses_within s root) (tree_of s root)
+
 -- the count that is kept for a seat, if there is one
 abbrev pub count_at : Uses → Seat → Option ℕ
 count_at u (op i) = slice_get u.ops i

@@ -137,15 +137,9 @@ fn is_ready<D: OpSet>(ctx: &Context<D>, cached: &SymbolTable, op: Ptr<Operation>
 /// tables of the collection agreed they do still.
 ///
 /// A round takes one walk of the table's tree, which puts the names that are used into a hashed set, and one look at
-<<<<<<< ours
 /// each symbol. What a symbol uses that goes may go in the next round, so there is at most one round more than the
-/// longest chain of dead symbols has. Where values or blocks of a dead symbol's tree are used, if only in the tree, the
-/// look at it goes over all operations of the context.
-=======
-/// each symbol. What a symbol uses that goes may go in the next round, so there is one round more than the longest
-/// chain of dead symbols has. The look at a symbol that no name uses goes through its tree, and over all operations of
-/// the context only where a count of uses is not known.
->>>>>>> theirs
+/// longest chain of dead symbols has. The look at a symbol that no name uses goes through its tree, and over all
+/// operations of the context only where a count of uses is not known.
 ///
 /// # Errors
 ///

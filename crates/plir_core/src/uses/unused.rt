@@ -1,5 +1,6 @@
 //! Whether anything outside a tree of nodes uses what is in it.
-ghost use Rattle.std.specs.Prelude.{◌≡◌, ◌<◌, All, Option, Some, None, IfSome, IsTrue, ◌↔◌, true, length, min, ◌≤◌, ◌-◌, ◌^◌};
+ghost use Rattle.std.specs.Prelude.{◌≡◌, ◌<◌, ◌≤◌, ◌-◌, ◌^◌, min, length, true, IsTrue, ◌↔◌, All};
+ghost use Rattle.std.specs.Prelude.{Option, Some, None, IfSome};
 ghost use Rattle.std.specs.List.{sum_by};
 ghost use Rattle.plir_core.specs.Erase.{tree_of};
 ghost use Rattle.plir_core.specs.Stored.{seat_of};
@@ -8,7 +9,8 @@ ghost use Rattle.plir_core.specs.Above.{Reaches};
 ghost use Rattle.plir_core.specs.Nodes.{is_node_live, node_parent, ptr_at};
 ghost use Rattle.plir_core.specs.ContextView.{IsLive, entity_node};
 ghost use Rattle.plir_core.specs.Unused.{UsesNoneOf, IsUnusedAt, IsUnusedOutside};
-ghost use Rattle.plir_core.specs.Uses.{is_not_used, is_seated, places_in, uses_of, values_from, blocks_in, uses_within};
+ghost use Rattle.plir_core.specs.Uses.{is_not_used, is_seated, places_in, uses_of, values_from, blocks_in};
+ghost use Rattle.plir_core.specs.Uses.{uses_within, uses_of_tree, uses_inside};
 ghost use Rattle.plir_core.specs.declared.ptr.IRNode.{IRNode};
 
 use crate::arena::Arena;
@@ -40,6 +42,19 @@ impl<O, B> Arena<O, B> {
         }
     }
 
+    // Whether a node stands in the tree under the root. Nothing but itself stands under a node without children.
+    fn is_in_tree(&self, root: IRNode, node: IRNode) -> bool
+        requires root { is_node_live self.now root ≡ true }
+        requires node { is_node_live self.now node ≡ true }
+        ensures { IsTrue result ↔ Reaches (node_parent self.now) node root }
+    {
+        let _limit = &self.limit;
+        if self.first_child(root).is_none() {
+            return node == root;
+        }
+        self.is_ancestor(root, node)
+    }
+
     // How many places a live operation or block has in the tree under the root: one or none.
     fn num_places(&self, root: IRNode, node: IRNode) -> usize
         requires root { is_node_live self.now root ≡ true }
@@ -47,7 +62,8 @@ impl<O, B> Arena<O, B> {
         ensures places { is_seated (seat_of node) node ≡ true → result ≡ places_in self.now root node }
         ensures once { result ≤ 1 }
     {
-        if self.is_ancestor(root, node) { 1 } else { 0 }
+        let _limit = &self.limit;
+        if self.is_in_tree(root, node) { 1 } else { 0 }
     }
 
     // How many of some values come from nodes of the tree under the root.
@@ -160,26 +176,59 @@ impl<D: OpSet> Context<D> {
         }
     }
 
+    // How often the nodes of the tree under the root are used in all, if each of their counts is known. A walk has no
+    // more steps than there are live nodes.
+    fn num_uses_of_tree(&self, root: IRNode) -> Option<usize>
+        requires { IsLive self.now root }
+        ensures sum { IfSome result (λ n. n ≡ uses_of_tree self.now.nodes root) }
+        ensures fits { IfSome result (λ n. n < 2 ^ 64 - 1) }
+    {
+        let mut at = root;
+        let mut uses: usize = 0;
+        for _step in 0..self.nodes.num_live() {
+            match self.known_uses(at) {
+                Some(count) => uses += count as usize,
+                None => return None,
+            }
+            match self.nodes.next_in_tree(root, at) {
+                Some(next) => at = next,
+                None => return Some(uses),
+            }
+        }
+        None
+    }
+
+    // How often the nodes of the tree under the root use nodes of it in all, or the greatest number.
+    fn num_uses_inside(&self, root: IRNode) -> Option<usize>
+        requires { IsLive self.now root }
+        ensures { IfSome result (λ n. n ≡ min (uses_inside self.now.nodes root) (2 ^ 64 - 1)) }
+    {
+        let mut at = root;
+        let mut uses: usize = 0;
+        for _step in 0..self.nodes.num_live() {
+            uses = uses.saturating_add(self.num_uses_within(root, at));
+            match self.nodes.next_in_tree(root, at) {
+                Some(next) => at = next,
+                None => return Some(uses),
+            }
+        }
+        None
+    }
+
     // Whether nothing outside the tree under the root uses what is in it, if each count in the tree is known: whether
-    // all its nodes are used as often as they use each other. A walk has no more steps than there are live nodes.
+    // its nodes are used as often as they use each other.
     fn is_tree_unused(&self, root: IRNode) -> Option<bool>
         ensures { IfSome result (λ b. IsTrue b ↔ IsUnusedOutside self.now root) }
     {
         if !self.nodes.is_live(root) {
             return None;
         }
-        let mut at = root;
-        let mut uses: usize = 0;
-        let mut within: usize = 0;
-        for _step in 0..self.nodes.num_live() {
-            uses += self.known_uses(at)? as usize;
-            within = within.saturating_add(self.num_uses_within(root, at));
-            match self.nodes.next_in_tree(root, at) {
-                Some(next) => at = next,
-                None => return Some(uses == within),
-            }
+        let uses = self.num_uses_of_tree(root)?;
+        if uses == 0 {
+            return Some(true);
         }
-        None
+        let inside = self.num_uses_inside(root)?;
+        Some(uses == inside)
     }
 
     // Whether no live operation outside the tree under the root uses a value or a block of the tree.

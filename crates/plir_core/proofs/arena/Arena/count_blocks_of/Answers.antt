@@ -14,8 +14,8 @@ loop-block-init g c = record {
 
 pub loop-block-preserved : goal.loop-block-preserved
 loop-block-preserved g c = record {
-  counted = block-more c.args.self.now c.args.root c.args.blocks.now c.loop-block.block-index _ c.loop-block.count c.num_places.result c.loop-block-test.true c.loop-block.invariant.counted c.num_places.ensures.places;
-  fits = let one = c.num_places.ensures.once in let fits = c.loop-block.invariant.fits in omega arith;
+  counted = block-more c.args.self.now c.args.root c.args.blocks.now c.loop-block.block-index _ c.loop-block.count c.num_places-count.result c.loop-block-test.true c.loop-block.invariant.counted c.num_places-count.ensures.places;
+  fits = let one = c.num_places-count.ensures.once in let fits = c.loop-block.invariant.fits in omega arith;
 }
 
 pub returns : goal.returns

@@ -1,12 +1,22 @@
-use Rattle.plir_core.proofs.TreeUses.{tree-told}
-use Rattle.plir_core.proofs.Walked.{IsCome-start}
+use Rattle.std.proofs.Common.{◌≡◌, true, refl, sym, ◌∙◌, ap, subst, rules}
+use Rattle.plir_core.specs.Nodes.{Nodes, is_node_live}
+use Rattle.plir_core.specs.Contents.{OpView, BlockView}
+use Rattle.plir_core.specs.ContextView.{ContextView, IsLive}
+use Rattle.plir_core.specs.WellFormed.{IsWellFormed}
+use Rattle.plir_core.proofs.TreeUses.{none-told, tree-told}
 use Rattle.plir_core.proofs.context.Context.is_tree_unused.Goals as goal
 
-pub loop-step-init : goal.loop-step-init
-loop-step-init g c = ?
+pub returns-then-uses-eq0 : goal.returns-then-uses-eq0
+returns-then-uses-eq0 g c =
+    let same = ap (λ (z : ContextView g.row.D-Kind.Denot g.row.D-Attr.Denot g.row.D-Ty.Denot). z.nodes) c.self.view_is in
+    let w = subst (IsWellFormed _) c.self.view_is c.self.invariant.whole in
+    let live : IsLive c.args.self.now c.args.root = subst (λ (z : Nodes (OpView g.row.D-Kind.Denot g.row.D-Attr.Denot) (BlockView g.row.D-Attr.Denot)). is_node_live z c.args.root ≡ true) same (sym c.is_live.ensures.value ∙ search rules) in
+    let zero : c.in_ok-uses.uses ≡ 0 = search rules in
+    (λ t. none-told _ c.args.self.now w c.args.root live c.in_ok-uses.uses c.in_ok-uses.ensures.sum zero, λ u. refl)
 
-pub loop-step-preserved : goal.loop-step-preserved
-loop-step-preserved g c = ?
-
-pub returns-in-None : goal.returns-in-None
-returns-in-None g c = ?
+pub returns : goal.returns
+returns g c =
+    let same = ap (λ (z : ContextView g.row.D-Kind.Denot g.row.D-Attr.Denot g.row.D-Ty.Denot). z.nodes) c.self.view_is in
+    let w = subst (IsWellFormed _) c.self.view_is c.self.invariant.whole in
+    let live : IsLive c.args.self.now c.args.root = subst (λ (z : Nodes (OpView g.row.D-Kind.Denot g.row.D-Attr.Denot) (BlockView g.row.D-Attr.Denot)). is_node_live z c.args.root ≡ true) same (sym c.is_live.ensures.value ∙ search rules) in
+    tree-told _ c.args.self.now w c.args.root live c.in_ok-uses.uses c.in_ok-inside.inside c.in_ok-uses.ensures.sum c.in_ok-inside.ensures c.in_ok-uses.ensures.fits
