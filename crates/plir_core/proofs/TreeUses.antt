@@ -80,7 +80,7 @@ sum_by-swap f (x ∷ xs) ys =
     let a = sum_by-cons (λ z. sum_by (f z) ys) x xs in
     let rest = sum_by-swap f xs ys in
     let b : sum_by (λ y. sum_by (λ z. f z y) (x ∷ xs)) ys ≡ sum_by (f x) ys + sum_by (λ y. sum_by (λ z. f z y) xs) ys =
-        sum_by-same (λ y. sum_by (λ z. f z y) (x ∷ xs)) (λ y. f x y + sum_by (λ z. f z y) xs) ys (λ y h. sum_by-cons (λ z. f z y) x xs) ∙ sum_by-plus (f x) (λ y. sum_by (λ z. f z y) xs) ys in
+    sum_by-same (λ y. sum_by (λ z. f z y) (x ∷ xs)) (λ y. f x y + sum_by (λ z. f z y) xs) ys (λ y h. sum_by-cons (λ z. f z y) x xs) ∙ sum_by-plus (f x) (λ y. sum_by (λ z. f z y) xs) ys in
     omega arith
 
 -- two sums up to the greatest number are added
@@ -374,8 +374,8 @@ module _ {X : Type 0} (node : X → IRNode) (xs : List X) (ns : List IRNode) whe
   pub hits-more : (i : ℕ) (d : X) (count more : ℕ) → i < length xs → count ≡ hits_so_far i → more ≡ sum_by (λ n. hit (seat_of n) (node (get_or xs i d))) ns → count + more ≡ hits_so_far (i + 1)
   hits-more i d count more h so_far is =
       let e : hits_so_far (i + 1) ≡ hits_so_far i + sum_by (λ n. hit (seat_of n) (node (get_or xs i d))) ns =
-          sum_by-same (λ n. count_by (λ x. is_seated (seat_of n) (node x)) (take (i + 1) xs)) (λ n. count_by (λ x. is_seated (seat_of n) (node x)) (take i xs) + hit (seat_of n) (node (get_or xs i d))) ns (λ n k. count_in (λ x. is_seated (seat_of n) (node x)) xs i d (is_seated (seat_of n) (node (get_or xs i d))) h refl)
-          ∙ sum_by-plus (λ n. count_by (λ x. is_seated (seat_of n) (node x)) (take i xs)) (λ n. hit (seat_of n) (node (get_or xs i d))) ns in
+      sum_by-same (λ n. count_by (λ x. is_seated (seat_of n) (node x)) (take (i + 1) xs)) (λ n. count_by (λ x. is_seated (seat_of n) (node x)) (take i xs) + hit (seat_of n) (node (get_or xs i d))) ns (λ n k. count_in (λ x. is_seated (seat_of n) (node x)) xs i d (is_seated (seat_of n) (node (get_or xs i d))) h refl)
+      ∙ sum_by-plus (λ n. count_by (λ x. is_seated (seat_of n) (node x)) (take i xs)) (λ n. hit (seat_of n) (node (get_or xs i d))) ns in
       omega arith
 
   pub hits-all : (i count : ℕ) → length xs ≤ i → count ≡ hits_so_far i → count ≡ sum_by (λ n. count_by (λ x. is_seated (seat_of n) (node x)) xs) ns

@@ -7,10 +7,13 @@ use Rattle.plir_core.proofs.TreeUses.{min_more}
 use Rattle.plir_core.proofs.context.Context.num_uses_inside.Goals as goal
 
 pub loop-step-init : goal.loop-step-init
-loop-step-init g c = (0, (
-  IsCome-start c.args.self.now.nodes (subst (λ (z : ContextView g.row.D-Kind.Denot g.row.D-Attr.Denot g.row.D-Ty.Denot). IsStored z.nodes) c.self.view_is c.self.invariant.whole.stored) c.args.root (uses_within c.args.self.now.nodes c.args.root) c.requires,
-  omega arith,
-))
+loop-step-init g c = (
+  0,
+  (
+    IsCome-start c.args.self.now.nodes (subst (λ (z : ContextView g.row.D-Kind.Denot g.row.D-Attr.Denot g.row.D-Ty.Denot). IsStored z.nodes) c.self.view_is c.self.invariant.whole.stored) c.args.root (uses_within c.args.self.now.nodes c.args.root) c.requires,
+    omega arith,
+  ),
+)
 
 pub loop-step-preserved : goal.loop-step-preserved
 loop-step-preserved g c =

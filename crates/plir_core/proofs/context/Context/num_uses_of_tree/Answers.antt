@@ -1,4 +1,4 @@
-use Rattle.std.proofs.Common.{sym, ap, subst, arith}
+use Rattle.std.proofs.Common.{ap, subst, arith}
 use Rattle.plir_core.specs.Stored.{seat_of, IsStored}
 use Rattle.plir_core.specs.ContextView.{ContextView}
 use Rattle.plir_core.specs.Uses.{uses_of}
