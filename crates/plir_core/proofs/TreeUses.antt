@@ -1,6 +1,6 @@
 -- How often the nodes of a tree are used: counted by the node that is used, and by the operation that uses it.
 use Rattle.std.proofs.Common.{◌≡◌, ℕ, zero, suc, ◌+◌, ◌<◌, ◌≤◌, Bool, true, false, cond, List, [], ◌∷◌, take, length, get_or, Option, Some, None, IsSome, is_some, inl, inr, refl, sym, ◌∙◌, ap, subst, arith, eqb, eq-eqb}
-use Rattle.std.specs.Prelude.{All, nat_lt, IsTrue, ◌↔◌, ◌==◌, ◌-◌, ◌^◌, min, count_by}
+use Rattle.std.specs.Prelude.{All, nat_lt, ◌-◌, ◌^◌, min, count_by}
 use Rattle.std.specs.List.{sum_by}
 use Rattle.std.proofs.lemmas.Bool.{cases_eq, eqb-true, and_parts, ne_eqb}
 use Rattle.std.proofs.lemmas.List.Sums.{sum_by-cons}
@@ -357,11 +357,12 @@ module _ {K A T : Type 0} (own : A → List ℕ) (s : ContextView K A T) (w : Is
       omega arith
 
   -- what the sums tell, the second one up to the greatest number
-  pub tree-told : (uses inside : ℕ) → uses ≡ uses_of_tree s.nodes root → inside ≡ min (uses_inside s.nodes root) (2 ^ 64 - 1) → uses < 2 ^ 64 - 1 → IsTrue (uses == inside) ↔ IsUnusedOutside s root
-  tree-told uses inside is up_to fits = (
-    λ t. let e = eqb-true uses inside t in let q : uses ≡ uses_inside s.nodes root = omega arith in counted-unused (sym is ∙ q),
-    λ u. let e : uses ≡ uses_inside s.nodes root = is ∙ unused-counted u in eq-eqb uses inside (omega arith),
-  )
+  module _ (uses inside : ℕ) (is : uses ≡ uses_of_tree s.nodes root) (up_to : inside ≡ min (uses_inside s.nodes root) (2 ^ 64 - 1)) (fits : uses < 2 ^ 64 - 1) where
+    pub told-unused : uses ≡ inside → IsUnusedOutside s root
+    told-unused e = let q : uses ≡ uses_inside s.nodes root = omega arith in counted-unused (sym is ∙ q)
+
+    pub unused-told : IsUnusedOutside s root → uses ≡ inside
+    unused-told u = let e : uses ≡ uses_inside s.nodes root = is ∙ unused-counted u in omega arith
 
 -- Uses that are counted one by one: `node` tells what node an element is a use of.
 module _ {X : Type 0} (node : X → IRNode) (xs : List X) (ns : List IRNode) where
