@@ -1,5 +1,6 @@
 -- The steps of a walk through a tree.
-use Rattle.std.proofs.Common.{◌≡◌, ℕ, zero, suc, ◌+◌, ◌-◌, ◌<◌, ◌≤◌, true, List, [], ◌∷◌, ◌++◌, drop, length, get_or, Option, Some, None, inl, inr, refl, sym, ◌∙◌, ap, subst, arith}
+use Rattle.std.proofs.Common.{◌≡◌, ℕ, zero, suc, ◌+◌, ◌-◌, ◌<◌, ◌≤◌, true, List, [], ◌∷◌, ◌++◌, drop, length, get_or}
+use Rattle.std.proofs.Common.{Option, Some, None, inl, inr, refl, sym, ◌∙◌, ap, subst, arith}
 use Rattle.std.specs.Prelude.{slice_get, IfSome}
 use Rattle.std.specs.List.{sum_by, flat_map}
 use Rattle.std.proofs.lemmas.Bool.{cases_lt}
@@ -21,7 +22,8 @@ use Rattle.plir_core.proofs.Trees.{flat_map-same}
 use Rattle.plir_core.proofs.Erased.{head-Has, depth-some}
 
 -- a sum over lists that are joined
-sum_by-flat_map : {X Y : Type 0} (g : Y → ℕ) (h : X → List Y) (xs : List X) → sum_by g (flat_map h xs) ≡ sum_by (λ x. sum_by g (h x)) xs
+sum_by-flat_map : {X Y : Type 0} (g : Y → ℕ) (h : X → List Y) (xs : List X) →
+    sum_by g (flat_map h xs) ≡ sum_by (λ x. sum_by g (h x)) xs
 sum_by-flat_map g h [] = refl
 sum_by-flat_map g h (x ∷ xs) =
     let a = sum_by-append g (h x) (flat_map h xs) in
@@ -37,10 +39,12 @@ past ks i d f = elim (cases_lt i (length ks)) [
 
 module _ {O B : Type 0} (s : Nodes O B) (w : IsStored s) where
   -- levels enough
-  enough : (f : ℕ) (n : IRNode) → most_steps s < depth_of s n + f → post_order (node_children s) f n ≡ post_order (node_children s) (suc f) n
+  enough : (f : ℕ) (n : IRNode) → most_steps s < depth_of s n + f →
+      post_order (node_children s) f n ≡ post_order (node_children s) (suc f) n
   enough zero n h = let d = depth-le_most s w n in absurd (omega arith)
   enough (suc f) n h =
-      ap (λ z. z ++ n ∷ []) (flat_map-same (post_order (node_children s) f) (post_order (node_children s) (suc f)) (node_children s n) (λ c under.
+      ap (λ z. z ++ n ∷ []) (flat_map-same (post_order (node_children s) f) (post_order (node_children s) (suc f))
+      (node_children s n) (λ c under.
       let d = depth-child s w n c (child-parent s w n c under) in
       enough f c (omega arith)))
 
@@ -51,7 +55,8 @@ module _ {O B : Type 0} (s : Nodes O B) (w : IsStored s) where
       with_levels : (f : ℕ) → most_steps s ≡ suc f → tree_of s n ≡ flat_map (tree_of s) (node_children s n) ++ n ∷ []
       with_levels f e =
           ap (λ k. post_order (node_children s) k n) e
-          ∙ ap (λ z. z ++ n ∷ []) (flat_map-same (post_order (node_children s) f) (tree_of s) (node_children s n) (λ c under.
+          ∙ ap (λ z. z ++ n ∷ []) (flat_map-same (post_order (node_children s) f) (tree_of s) (node_children s n)
+          (λ c under.
           let d = depth-child s w n c (child-parent s w n c under) in
           let one = depth-some s w n in
           enough f c (omega arith) ∙ ap (λ k. post_order (node_children s) k c) (sym e)))
@@ -74,11 +79,14 @@ module _ {O B : Type 0} (s : Nodes O B) (w : IsStored s) where
     }
 
     -- on to the first child
-    pub IsCome-down : (n child : IRNode) (before : ℕ) → IsCome g s root n before → head (node_children s n) ≡ Some child → IsCome g s root child (before + g n)
+    pub IsCome-down : (n child : IRNode) (before : ℕ) → IsCome g s root n before →
+        head (node_children s n) ≡ Some child → IsCome g s root child (before + g n)
     IsCome-down n child before c h =
         let there : slice_get (node_children s n) 0 ≡ Some child = sym (front (node_children s n)) ∙ h in
         let within = slice_get_within (node_children s n) 0 child there in
-        let first : sum_by (tree_sum g s) (node_children s n) ≡ tree_sum g s (get_or (node_children s n) 0 child) + sum_by (tree_sum g s) (drop (0 + 1) (node_children s n)) = sum_by-drop_more (tree_sum g s) (node_children s n) 0 child within in
+        let first : sum_by (tree_sum g s) (node_children s n) ≡ tree_sum g s
+        (get_or (node_children s n) 0 child) + sum_by (tree_sum g s) (drop (0 + 1) (node_children s n)) =
+        sum_by-drop_more (tree_sum g s) (node_children s n) 0 child within in
         let is = ap (tree_sum g s) (get_or_from_slice_get (node_children s n) 0 child child there) in
         let step = tree_sum-step g n in
         let all = c.whole in
@@ -91,10 +99,12 @@ module _ {O B : Type 0} (s : Nodes O B) (w : IsStored s) where
         }
 
     -- a node without children is gone by at once
-    pub IsBehind-leaf : (n : IRNode) (before : ℕ) → IsCome g s root n before → head (node_children s n) ≡ None → IsBehind g s root n (before + g n)
+    pub IsBehind-leaf : (n : IRNode) (before : ℕ) → IsCome g s root n before → head (node_children s n) ≡ None →
+        IsBehind g s root n (before + g n)
     IsBehind-leaf n before c none =
         let step = tree_sum-step g n in
-        let no : sum_by (tree_sum g s) (node_children s n) ≡ 0 = ap (sum_by (tree_sum g s)) (empty (node_children s n) none) in
+        let no : sum_by (tree_sum g s) (node_children s n) ≡ 0 = ap (sum_by (tree_sum g s))
+        (empty (node_children s n) none) in
         let all = c.whole in
         record {
           levels = c.levels;
@@ -108,7 +118,8 @@ module _ {O B : Type 0} (s : Nodes O B) (w : IsStored s) where
         empty (x ∷ ks) e = absurd (none-some x (sym e))
 
     -- below the root a node stands under another
-    below : (n : IRNode) (before : ℕ) (c : IsBehind g s root n before) → (n ≡ root → ⊥) → (k : ℕ) × IsAfter g s root (suc k) n c.rest
+    below : (n : IRNode) (before : ℕ) (c : IsBehind g s root n before) → (n ≡ root → ⊥) →
+        (k : ℕ) × IsAfter g s root (suc k) n c.rest
     below n before c ne = in_levels c.levels c.after
       where
         in_levels : (k : ℕ) → IsAfter g s root k n c.rest → (j : ℕ) × IsAfter g s root (suc j) n c.rest
@@ -116,14 +127,16 @@ module _ {O B : Type 0} (s : Nodes O B) (w : IsStored s) where
         in_levels (suc k) a = (k, a)
 
     -- on to the next child of the same node
-    pub IsCome-next : (n b : IRNode) (before : ℕ) → IsBehind g s root n before → (n ≡ root → ⊥) → node_next s n ≡ Some b → IsCome g s root b before
+    pub IsCome-next : (n b : IRNode) (before : ℕ) → IsBehind g s root n before → (n ≡ root → ⊥) →
+        node_next s n ≡ Some b → IsCome g s root b before
     IsCome-next n b before c ne next =
         let r = below n before c ne in
         let over = r.1.0 in
         let place = r.1.1 in
         let there : slice_get (node_children s over) place ≡ Some n = r.1.3 in
         let sums = r.1.4 in
-        let follows : slice_get (node_children s over) (place + 1) ≡ Some b = sym (next-place s w over n place there) ∙ next in
+        let follows : slice_get (node_children s over) (place + 1) ≡ Some b = sym (next-place s w over n place there)
+        ∙ next in
         let within = slice_get_within (node_children s over) (place + 1) b follows in
         let first = sum_by-drop_more (tree_sum g s) (node_children s over) (place + 1) b within in
         let is = ap (tree_sum g s) (get_or_from_slice_get (node_children s over) (place + 1) b b follows) in
@@ -137,16 +150,19 @@ module _ {O B : Type 0} (s : Nodes O B) (w : IsStored s) where
         }
 
     -- after the last child up to the parent
-    pub IsBehind-up : (n over : IRNode) (before : ℕ) → IsBehind g s root n before → (n ≡ root → ⊥) → node_next s n ≡ None → node_parent s n ≡ Some over → IsBehind g s root over before
+    pub IsBehind-up : (n over : IRNode) (before : ℕ) → IsBehind g s root n before → (n ≡ root → ⊥) →
+        node_next s n ≡ None → node_parent s n ≡ Some over → IsBehind g s root over before
     IsBehind-up n over before c ne last under =
         let r = below n before c ne in
         let up = r.1.0 in
         let place = r.1.1 in
         let there : slice_get (node_children s up) place ≡ Some n = r.1.3 in
         let sums = r.1.4 in
-        let one : up ≡ over = same_Some up over (sym (child-parent s w up n (Has-at (node_children s up) place n there)) ∙ under) in
+        let one : up ≡ over = same_Some up over (sym (child-parent s w up n (Has-at (node_children s up) place n there))
+        ∙ under) in
         let end = past (node_children s up) (place + 1) n (sym (next-place s w up n place there) ∙ last) in
-        let none : sum_by (tree_sum g s) (drop (place + 1) (node_children s up)) ≡ 0 = ap (sum_by (tree_sum g s)) (drop_of_length-le (node_children s up) end) in
+        let none : sum_by (tree_sum g s) (drop (place + 1) (node_children s up)) ≡ 0 = ap (sum_by (tree_sum g s))
+        (drop_of_length-le (node_children s up) end) in
         let all = c.whole in
         record {
           levels = r.0;
@@ -156,7 +172,8 @@ module _ {O B : Type 0} (s : Nodes O B) (w : IsStored s) where
         }
 
     -- below the root a node has a parent
-    pub IsBehind-over : (n : IRNode) (before : ℕ) → IsBehind g s root n before → (n ≡ root → ⊥) → node_parent s n ≡ None → ⊥
+    pub IsBehind-over : (n : IRNode) (before : ℕ) → IsBehind g s root n before → (n ≡ root → ⊥) →
+        node_parent s n ≡ None → ⊥
     IsBehind-over n before c ne none =
         let r = below n before c ne in
         none-some r.1.0 (sym none ∙ child-parent s w r.1.0 n (Has-at (node_children s r.1.0) r.1.1 n r.1.3))
@@ -177,13 +194,15 @@ module _ {O B : Type 0} (s : Nodes O B) (w : IsStored s) where
         in_levels (suc k) a = let d = after-depth (suc k) root c.rest a in absurd (omega arith)
 
 -- after a node without children
-pub IsCome-after : {O B : Type 0} (s : Nodes O B) (w : IsStored s) (root n : IRNode) (r : Option IRNode) → head (node_children s n) ≡ None → IfSome r (GoesOnBehind s root n) → IfSome r (GoesOn s root n)
+pub IsCome-after : {O B : Type 0} (s : Nodes O B) (w : IsStored s) (root n : IRNode) (r : Option IRNode) →
+    head (node_children s n) ≡ None → IfSome r (GoesOnBehind s root n) → IfSome r (GoesOn s root n)
 IsCome-after s w root n None none h = tt
 IsCome-after s w root n (Some next) none h = λ g before c. h g (before + g n) (IsBehind-leaf s w root g n before c none)
 
 -- What is counted of a node comes to the sum as a walk goes on, and as it ends: s is made of the fields, and t is the
 -- value.
-module _ {O B : Type 0} (g : IRNode → ℕ) (s t : Nodes O B) (view : s ≡ t) (root n : IRNode) (before k : ℕ) (is : k ≡ g n) (come : IsCome g t root n before) where
+module _ {O B : Type 0} (g : IRNode → ℕ) (s t : Nodes O B) (view : s ≡ t) (root n : IRNode) (before k : ℕ)
+    (is : k ≡ g n) (come : IsCome g t root n before) where
   pub IsCome-on : (next : IRNode) → GoesOn s root n next → IsCome g t root next (before + k)
   IsCome-on next on =
       let on_t : GoesOn t root n next = subst (λ z. GoesOn z root n next) view on in

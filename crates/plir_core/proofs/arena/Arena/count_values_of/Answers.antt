@@ -13,9 +13,12 @@ loop-value-init g c = record {
 
 pub loop-value-preserved : goal.loop-value-preserved
 loop-value-preserved g c = record {
-  counted = value-more c.args.self.now c.args.root c.args.values.now c.loop-value.value-index _ c.defining_entity.result c.node.result c.loop-value.count c.num_places-count.result c.defining_entity.ensures c.node.ensures c.loop-value-test.true c.loop-value.invariant.counted c.num_places-count.ensures.places;
+  counted = value-more c.args.self.now c.args.root c.args.values.now c.loop-value.value-index _ c.defining_entity.result
+      c.node.result c.loop-value.count c.num_places-count.result c.defining_entity.ensures c.node.ensures
+      c.loop-value-test.true c.loop-value.invariant.counted c.num_places-count.ensures.places;
   fits = let one = c.num_places-count.ensures.once in let fits = c.loop-value.invariant.fits in omega arith;
 }
 
 pub returns : goal.returns
-returns g c = hits-all (λ (v : Value). entity_node v.entity) c.args.values.now (tree_of c.args.self.now c.args.root) c.loop-value.value-index c.loop-value.count c.loop-value-test.false c.loop-value.invariant.counted
+returns g c = hits-all (λ (v : Value). entity_node v.entity) c.args.values.now (tree_of c.args.self.now c.args.root)
+    c.loop-value.value-index c.loop-value.count c.loop-value-test.false c.loop-value.invariant.counted

@@ -11,5 +11,7 @@ returns-then-is_none g c =
     let none : c.first_child.result ≡ None = search rules in
     let leaf : head (node_children c.args.self.now c.args.root) ≡ None = sym c.first_child.ensures ∙ none in (
       λ t. let same : c.args.node ≡ c.args.root = search rules in (0, ap (λ z. Some z) same),
-      λ r. let same : c.args.node ≡ c.args.root = alone c.args.self.now w c.args.root leaf c.args.node r in search rules,
+      λ r.
+          let same : c.args.node ≡ c.args.root = alone c.args.self.now w c.args.root leaf c.args.node r in
+          search rules,
     )

@@ -8,7 +8,8 @@ use Rattle.plir_core.proofs.arena.Arena.next_after.Given as goal
 abbrev pub invariant-loop-root : goal.invariant-loop-root
 invariant-loop-root g l = record {
   live : is_node_live l.self l.at ≡ true;
-  behind : (f : IRNode → ℕ) (before : ℕ) → IsBehind f l.self l.root l.fn.node before → IsBehind f l.self l.root l.at before;
+  behind : (f : IRNode → ℕ) (before : ℕ) → IsBehind f l.self l.root l.fn.node before →
+      IsBehind f l.self l.root l.at before;
 }
 
 abbrev pub decreases-loop-root : goal.decreases-loop-root
