@@ -28,9 +28,9 @@ impl IRNode {
     }
 
     /// Whether no live operation outside the tree of this node, which is the node and all below it, has an operand that
-    /// is a value of the tree or a successor in it. This goes through the tree, and where anything of it is used once
-    /// more, with a climb from the owner of each operand and from each successor where the tree is more than its root. It
-    /// looks at all operations only where a count of uses is not known.
+    /// is a value of the tree or a successor in it. This goes through the tree, and where anything of it is used a
+    /// second time, in which it climbs from the owner of each operand and from each successor if the tree is more than
+    /// its root. It looks at all operations only where a count of uses is not known.
     pub fn is_unused_outside<D: OpSet>(self, ctx: &Context<D>) -> bool
         ensures value { IsTrue result ↔ IsUnusedOutside ctx.now self }
         ensures whole { IsWellFormed D.attr_handles ctx.now }
