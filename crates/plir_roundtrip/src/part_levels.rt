@@ -10,7 +10,7 @@ ghost use Rattle.plir_core.specs.ContextView.{IsLive, kind_of};
 ghost use Rattle.plir_attr_text.specs.Terms.{entries_levels, levels, type_levels};
 ghost use Rattle.plir_attr_text.specs.Writable.{type_term};
 ghost use Rattle.plir_builtin.specs.BuiltinOps.{func_type_of, value_of};
-ghost use Rattle.plir_print.specs.Dictionaries.{is_shown, is_told};
+ghost use Rattle.plir_print.specs.Dictionaries.{is_shown, is_in_header};
 ghost use Rattle.plir_print.specs.ValueNames.{arguments_of};
 ghost use Rattle.plir_read.specs.OpTerms.{head_levels, header_levels, op_levels};
 ghost use Rattle.plir_roundtrip.specs.Written.{some_type_term, some_attr_term};
@@ -83,8 +83,8 @@ pub(crate) fn is_constant_within<D: OpSet>(
 }
 
 // Whether the header of an operation tells the attribute under a key, as it does where the dictionary stands apart.
-fn is_told<K: Copy>(kind: OpKind<K>, key: &str) -> bool
-    ensures { result ≡ is_told (Some kind) key.now }
+fn is_in_header<K: Copy>(kind: OpKind<K>, key: &str) -> bool
+    ensures { result ≡ is_in_header (Some kind) key.now }
 {
     match kind {
         OpKind::Module => key == ATTR_KEY_SYM_NAME,
@@ -99,7 +99,7 @@ fn is_told<K: Copy>(kind: OpKind<K>, key: &str) -> bool
 fn is_shown<D: OpSet>(kind: OpKind<D::Kind>, key: &str, value: &AttrObj<D>) -> bool
     ensures { result ≡ is_shown D.OpSet (Some kind) (key.now, attr_view value.now) }
 {
-    !(is_told(kind, key) || value.outline())
+    !(is_in_header(kind, key) || value.outline())
 }
 
 // An entry, which has no level where it is not printed.
