@@ -30,7 +30,7 @@ pub(crate) fn put_attr<D: OpSet>(
     put(out, text.as_str())
 }
 
-// Whether the attribute under a key is told by the header of an operation of a kind that has its dictionary apart.
+// Whether the attribute under a key stands in the header of an operation of a kind that has its dictionary apart.
 fn is_in_header<K: Copy>(kind: OpKind<K>, key: &str) -> bool
     ensures { result ≡ is_in_header (Some kind) key.now }
 {
@@ -43,8 +43,8 @@ fn is_in_header<K: Copy>(kind: OpKind<K>, key: &str) -> bool
     }
 }
 
-// Whether an entry is shown.
-fn is_shown<D: OpSet>(kind: OpKind<D::Kind>, key: &str, value: &AttrObj<D>) -> bool
+/// Whether an entry of an operation's dictionary is shown in its text: it neither stands in the header nor is outlined.
+pub fn is_shown<D: OpSet>(kind: OpKind<D::Kind>, key: &str, value: &AttrObj<D>) -> bool
     ensures { result ≡ is_shown D.OpSet (Some kind) (key.now, attr_view value.now) }
 {
     !(is_in_header(kind, key) || value.outline())

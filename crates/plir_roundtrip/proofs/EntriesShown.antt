@@ -88,7 +88,7 @@ module _ {A : Type 0} where
       by true rest = (h.0, below-filter test es a.0 h.1, rest)
       by false rest = rest
 
-  -- the name, and the type, that a header tells
+  -- the name, and the type, that a header shows
   pub name_there : (g : Option (AttrView A)) → is_some (name_in g) ≡ true → g ≡ Some (leaf (views.identifier (unwrap_or (name_in g) [])))
   name_there None e = absurd cc
   name_there (Some (leaf (views.identifier w))) e = refl
@@ -164,7 +164,7 @@ module _ {D K A T E : Type 0} (o : op_set.Ghosts D K A T E) (types : List (TypeV
       by true e rest = (d.0, entry_writable types o.attr_outlined a.0 a.1 (all 0 a (omega arith)) (not_or (is_in_header kind a.0) (is_outlined o.attr_outlined a.1) e), rest)
       by false e rest = rest
 
-  -- where the header tells nothing of a key, and it is not that of names, what stands under it is shown
+  -- where the header shows nothing of a key, and it is not that of names, what stands under it is shown
   pub shown_there : (es : List (List ℕ × AttrView A)) (k : List ℕ) → All (λ e. IsEntryReadable types e.0 e.1) es → is_in_header kind k ≡ false → is_key k names_key ≡ false → dict_get (shown_of o kind es) k ≡ dict_get es k
   shown_there es k all e f = get-filter (is_shown o kind) es k (λ i d lt same.
       let a = all i d lt in

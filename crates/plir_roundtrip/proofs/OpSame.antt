@@ -51,7 +51,7 @@ module _ {K A T : Type 0} (t : ContextView K A T) where
 -- ---- the same under each key
 
 module _ {D K A T E : Type 0} (o : op_set.Ghosts D K A T E) (s : ContextView K A T) (p : Ptr OperationKind) (b : IsBodyReadable s p) where
-  -- what is shown of an operation whose header tells no more than two keys
+  -- what is shown of an operation whose header shows no more than two keys
   shown_same : (k : List ℕ) → is_in_header (kind_of s p) k ≡ false → is_key k names_key ≡ false → dict_get (attributes_of s p) k ≡ dict_get (shown o s p) k
   shown_same k e f = sym (shown_there o s.types (kind_of s p) (attributes_of s p) k b.entries e f)
 
