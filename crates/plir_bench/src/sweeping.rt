@@ -62,7 +62,7 @@ fn add_user(
     let operands = last_results(alloc, ctx, body)?;
     let successors = Vec::new(alloc);
     let op = Operation::new(alloc, ctx, kind, types, operands, successors, 0)?;
-    op.insert_at_back(body, ctx);
+    op.insert_at_back(ctx, body);
     Ok(())
 }
 

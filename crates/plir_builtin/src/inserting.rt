@@ -39,10 +39,10 @@ pub(crate) fn put_at<D: OpSet>(
     ctx.stands();
     match point {
         OpInsertionPoint::Unset => unreachable!(),
-        OpInsertionPoint::AtBlockStart(b) => op.insert_at_front(b, ctx),
-        OpInsertionPoint::AtBlockEnd(b) => op.insert_at_back(b, ctx),
-        OpInsertionPoint::BeforeOperation(mark) => op.insert_before(mark, ctx),
-        OpInsertionPoint::AfterOperation(mark) => op.insert_after(mark, ctx),
+        OpInsertionPoint::AtBlockStart(b) => op.insert_at_front(ctx, b),
+        OpInsertionPoint::AtBlockEnd(b) => op.insert_at_back(ctx, b),
+        OpInsertionPoint::BeforeOperation(mark) => op.insert_before(ctx, mark),
+        OpInsertionPoint::AfterOperation(mark) => op.insert_after(ctx, mark),
     }
 }
 

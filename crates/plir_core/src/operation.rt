@@ -382,7 +382,7 @@ impl Ptr<Operation> {
     }
 
     /// Puts an operation that is in no block at the end of a block that it does not stand above.
-    pub fn insert_at_back<D: OpSet>(self, block: Ptr<BasicBlock>, ctx: &mut Context<D>)
+    pub fn insert_at_back<D: OpSet>(self, ctx: &mut Context<D>, block: Ptr<BasicBlock>)
         requires live { IsLive ctx.old (IRNode.Operation self) }
         requires target_live { IsLive ctx.old (IRNode.BasicBlock block) }
         requires unlinked { parent_of ctx.old (IRNode.Operation self) ≡ None }

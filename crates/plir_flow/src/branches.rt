@@ -137,7 +137,7 @@ pub trait BranchOpInterface<D: OpSet>: IsTerminatorInterface<D> {
         let op = self.get_operation();
         let _count = op.get_num_operands(ctx);
         let range = self.successor_operand_range(ctx, succ);
-        op.replace_operand(range.start + arg, operand, ctx);
+        op.replace_operand(ctx, range.start + arg, operand);
     }
 
     /// Accepts exactly where the operands stand as the operation wants them, and each successor gets values of the

@@ -100,6 +100,6 @@ pub trait SingleBlockRegionInterface<D: OpSet>: Op<D> {
         ensures whole { IsWellFormed D.attr_handles ctx.new }
     {
         let body = self.get_body(ctx, region);
-        op.insert_at_back(body, ctx);
+        op.insert_at_back(ctx, body);
     }
 }
