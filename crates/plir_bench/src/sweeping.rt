@@ -47,8 +47,8 @@ fn build_chain(
     Ok(())
 }
 
-// Puts an operation at the end of a block, which uses the first result of the one before it, if that has any.
-fn add_user(
+/// Puts an operation at the end of a block, which uses the first result of the one before it, if that has any.
+pub fn add_user(
     alloc: Global,
     ctx: &mut Context<BuiltinSet>,
     body: Ptr<BasicBlock>,
