@@ -69,7 +69,7 @@ fn add_function(
 {
     let name = name_of(alloc, number)?;
     let func = make_function(alloc, ctx, name)?;
-    func.insert_at_back(body, ctx);
+    func.insert_at_back(ctx, body);
     Ok(())
 }
 
@@ -94,7 +94,7 @@ fn add_bare(alloc: Global, ctx: &mut Context<BuiltinSet>, body: Ptr<BasicBlock>)
     let operands = Vec::new(alloc);
     let successors = Vec::new(alloc);
     let op = Operation::new(alloc, ctx, OpKind::Func, results, operands, successors, 1)?;
-    op.insert_at_back(body, ctx);
+    op.insert_at_back(ctx, body);
     add_block(alloc, ctx, op)
 }
 
@@ -105,6 +105,6 @@ fn add_block(alloc: Global, ctx: &mut Context<BuiltinSet>, op: Ptr<Operation>) -
 {
     let region = op.first_region(ctx).ok_or(Stop::Refused)?;
     let block = BasicBlock::new(alloc, ctx, None, Vec::new(alloc))?;
-    block.insert_at_back(region, ctx);
+    block.insert_at_back(ctx, region);
     Ok(())
 }

@@ -18,7 +18,7 @@ use plir_data::OpSet;
 
 impl IRNode {
     /// Whether the node is another one or stands above it.
-    pub fn is_ancestor<D: OpSet>(self, node: IRNode, ctx: &Context<D>) -> bool
+    pub fn is_ancestor<D: OpSet>(self, ctx: &Context<D>, node: IRNode) -> bool
         requires { IsLive ctx.now node }
         ensures value { IsTrue result ↔ IsAncestor ctx.now self node }
         ensures whole { IsWellFormed D.attr_handles ctx.now }

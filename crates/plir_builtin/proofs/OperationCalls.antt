@@ -16,7 +16,7 @@ use Rattle.plir_walk.specs.Lists.{Pairs}
 use Rattle.plir_walk.specs.Calls.{Call, Relation, Chain, nodes_of, NoBreak}
 use Rattle.plir_walk.specs.ShutOut.{IsSkipped}
 use Rattle.plir_walk.specs.Walked.{IsCallUnder}
-use Rattle.plir_builtin.specs.Handed.{OpRelation, AtOps, PassesOn, not_entering}
+use Rattle.plir_builtin.specs.TableWalks.{OpRelation, AtOps, PassesOn, not_entering}
 
 -- answers
 module _ {B : Type 0} where

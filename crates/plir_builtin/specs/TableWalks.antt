@@ -1,4 +1,4 @@
--- What is handed over where the table of an operation is walked.
+-- What is called where the table of an operation is walked.
 use Rattle.std.specs.Prelude.{◌≡◌, Bool, true, false, List, [], ◌∷◌, ◌++◌}
 use Rattle.std.specs.declared.ops.ControlFlow.{ControlFlow}
 use Rattle.std.specs.declared.ops.ControlFlow.TheVariants.{Continue, Break}
@@ -30,29 +30,30 @@ AtOps post c s (Operation p) a c' s' = post c s p a c' s'
 AtOps post c s (Region p) a c' s' = ⊥
 AtOps post c s (BasicBlock p) a c' s' = ⊥
 
--- An operation is to be handed over: it is below the region r, no table below r is above it, and it is not below an
+-- An operation is due: it is below the region r, no table below r is above it, and it is not below an
 -- operation whose call answered Skip. It may itself be a table.
-pub record IsToHand {C S B : Type 0} (is_table : Ptr OperationKind → Bool) (t : Tree) (r : IRNode)
+pub record IsDueInTable {C S B : Type 0} (is_table : Ptr OperationKind → Bool) (t : Tree) (r : IRNode)
     (calls : List (Call C S B)) (p : Ptr OperationKind) : Type 0 where
   pub below : IsProperlyUnder t r (Operation p)
   pub no_table : (q : Ptr OperationKind) → IsProperlyUnder t r (Operation q) →
       IsProperlyUnder t (Operation q) (Operation p) → is_table q ≡ false
   pub no_skip : (a : IRNode) → IsSkipped calls a → IsProperlyUnder t a (Operation p) → ⊥
 
--- the called operations are exactly those that are to be handed over
-abbrev pub HandsAll : {C S B : Type 0} → (Ptr OperationKind → Bool) → Tree → IRNode → List (Call C S B) → Type 0
-HandsAll is_table t r calls = (p : Ptr OperationKind)
-    → (Has (nodes_of calls) (Operation p) → IsToHand is_table t r calls p) ×
-    (IsToHand is_table t r calls p → Has (nodes_of calls) (Operation p))
+-- the called operations are exactly those that are due
+abbrev pub CallsAllInTable : {C S B : Type 0} → (Ptr OperationKind → Bool) → Tree → IRNode → List (Call C S B) → Type 0
+CallsAllInTable is_table t r calls = (p : Ptr OperationKind)
+    → (Has (nodes_of calls) (Operation p) → IsDueInTable is_table t r calls p) ×
+    (IsDueInTable is_table t r calls p → Has (nodes_of calls) (Operation p))
 
--- an operation is to be handed over, and is not after the node n
-abbrev pub IsToHandUpTo : {C S B : Type 0} → (Ptr OperationKind → Bool) → Tree → IRNode → List (Call C S B) → IRNode →
-    Ptr OperationKind → Type 0
-IsToHandUpTo is_table t r calls n p = IsToHand is_table t r calls p × (NodeBefore pre_forward t r n (Operation p) → ⊥)
+-- an operation is due, and is not after the node n
+abbrev pub IsDueInTableUpTo : {C S B : Type 0} → (Ptr OperationKind → Bool) → Tree → IRNode → List (Call C S B) →
+    IRNode → Ptr OperationKind → Type 0
+IsDueInTableUpTo is_table t r calls n p = IsDueInTable is_table t r calls p ×
+    (NodeBefore pre_forward t r n (Operation p) → ⊥)
 
 -- The last call, and only that one, answered with the break b. The called operations are exactly those that are to be
--- handed over and are not after that of the last call.
-pub record HandsUpToBreak {C S B : Type 0} (is_table : Ptr OperationKind → Bool) (t : Tree) (r : IRNode)
+-- called and are not after that of the last call.
+pub record CallsTableUpToBreak {C S B : Type 0} (is_table : Ptr OperationKind → Bool) (t : Tree) (r : IRNode)
     (calls : List (Call C S B)) (b : B) : Type 0 where
   pub front : List (Call C S B)
   pub end : Call C S B
@@ -60,34 +61,34 @@ pub record HandsUpToBreak {C S B : Type 0} (is_table : Ptr OperationKind → Boo
   pub broke : end.answer ≡ Break b
   pub none_before : NoBreak front
   pub exactly : (p : Ptr OperationKind)
-      → (Has (nodes_of calls) (Operation p) → IsToHandUpTo is_table t r calls end.node p) ×
-      (IsToHandUpTo is_table t r calls end.node p → Has (nodes_of calls) (Operation p))
+      → (Has (nodes_of calls) (Operation p) → IsDueInTableUpTo is_table t r calls end.node p) ×
+      (IsDueInTableUpTo is_table t r calls end.node p → Has (nodes_of calls) (Operation p))
 
 -- what the answer says of the calls
-abbrev pub HandAnswers : {C S B : Type 0} → (Ptr OperationKind → Bool) → Tree → IRNode → List (Call C S B) →
+abbrev pub TableWalkAnswers : {C S B : Type 0} → (Ptr OperationKind → Bool) → Tree → IRNode → List (Call C S B) →
     ControlFlow B WalkContinue → Type 0
-HandAnswers is_table t r calls (Continue k) = (k ≡ Advance) × NoBreak calls × HandsAll is_table t r calls
-HandAnswers is_table t r calls (Break b) = HandsUpToBreak is_table t r calls b
+TableWalkAnswers is_table t r calls (Continue k) = (k ≡ Advance) × NoBreak calls × CallsAllInTable is_table t r calls
+TableWalkAnswers is_table t r calls (Break b) = CallsTableUpToBreak is_table t r calls b
 
--- The called operations stand in the order of their places, PreOrder Forward, and are those that are to be handed over,
+-- The called operations stand in the order of their places, PreOrder Forward, and are those that are due,
 -- up to the first break.
-pub record IsHanding {C S B : Type 0} (is_table : Ptr OperationKind → Bool) (t : Tree) (r : IRNode)
+pub record IsTableWalk {C S B : Type 0} (is_table : Ptr OperationKind → Bool) (t : Tree) (r : IRNode)
     (calls : List (Call C S B)) (answer : ControlFlow B WalkContinue) : Type 0 where
   pub one_place : HasOnePlaceEach t r
   pub increasing : Pairs (NodeBefore pre_forward t r) (nodes_of calls)
-  pub answers : HandAnswers is_table t r calls answer
+  pub answers : TableWalkAnswers is_table t r calls answer
 
--- The operations below the one region of t were handed over: there is a list of calls, one after another from the entry
+-- The operations below the one region of t were called: there is a list of calls, one after another from the entry
 -- to the exit, that leave the context as it is. Each is a call that a walk from that region can make, in the callback's
 -- relation.
-pub record HandedOver {C S B : Type 0} (look : C → Shape) (is_table : C → Ptr OperationKind → Bool)
+pub record IsTableWalked {C S B : Type 0} (look : C → Shape) (is_table : C → Ptr OperationKind → Bool)
     (post : OpRelation C S B) (c : C) (s : S) (t : Ptr OperationKind) (answer : ControlFlow B WalkContinue) (s' : S) :
     Type 0 where
   pub region : Ptr RegionKind
   pub one_region : (look c).children (Operation t) ≡ Region region ∷ []
   pub calls : List (Call C S B)
   pub chain : Chain (IsCallUnder look (Region region) (AtOps post)) c s calls c s'
-  pub handing : IsHanding (is_table c) (look c).children (Region region) calls answer
+  pub handing : IsTableWalk (is_table c) (look c).children (Region region) calls answer
 
 -- the answer at a table, that is not to be entered
 abbrev pub not_entering : {B : Type 0} → Bool → ControlFlow B WalkContinue → ControlFlow B WalkContinue

@@ -1,4 +1,4 @@
--- From a walk at all nodes to the operations that were handed over.
+-- From a walk at all nodes to the operations that were called.
 use Rattle.std.proofs.Common.{◌≡◌, suc, Bool, Some, true, false, List, [], ◌∷◌, ◌++◌, inl, inr, refl, sym, ap, subst, ◌∙◌}
 use Rattle.std.specs.declared.ops.ControlFlow.{ControlFlow}
 use Rattle.std.specs.declared.ops.ControlFlow.TheVariants.{Continue, Break}
@@ -20,10 +20,10 @@ use Rattle.plir_walk.specs.Calls.{Call, Relation, nodes_of, NoBreak}
 use Rattle.plir_walk.specs.ShutOut.{IsSkipped}
 use Rattle.plir_walk.specs.Walk.{InOrder, IsDue, IsDueUpTo, CallsAllDue, CallsUpToLast, Answers}
 use Rattle.plir_walk.specs.Walked.{WalkedOver}
-use Rattle.plir_builtin.specs.Handed.{OpRelation, PassesOn, IsToHand, HandsAll, HandsUpToBreak, IsHanding, HandedOver}
+use Rattle.plir_builtin.specs.TableWalks.{OpRelation, PassesOn, IsDueInTable, CallsAllInTable, CallsTableUpToBreak, IsTableWalk, IsTableWalked}
 use Rattle.plir_builtin.proofs.Bodies.{not_region_op}
 use Rattle.plir_builtin.proofs.Seeking.{one-more}
-use Rattle.plir_builtin.proofs.HandedCalls.{Kept, node-called, none-breaks, last-breaks, kept-has, has-kept, kept-pairs, kept-no_break, kept-last, skipped-below, skipped-above, table-called, filtered}
+use Rattle.plir_builtin.proofs.OperationCalls.{Kept, node-called, none-breaks, last-breaks, kept-has, has-kept, kept-pairs, kept-no_break, kept-last, skipped-below, skipped-above, table-called, filtered}
 
 -- what stands under the one region of an operation stands under the operation
 pub under-region : (s : Shape) (op : Ptr OperationKind) (r : Ptr RegionKind) (n : IRNode) → s.children (Operation op) ≡ Region r ∷ [] → StandsUnder s (Region r) n → StandsUnder s (Operation op) n
@@ -50,8 +50,8 @@ module _ {C S B : Type 0} (is_table : Ptr OperationKind → Bool) (t : Tree) (re
   op-under : (p : Ptr OperationKind) → IsUnder t (Region reg) (Operation p) → IsProperlyUnder t (Region reg) (Operation p)
   op-under p u = elim (under-cases t (Region reg) (Operation p) u) [ inl e ↦ absurd (not_region_op p reg (sym e)) | inr h ↦ h ]
 
-  -- what is to be handed over was due
-  due-from : (p : Ptr OperationKind) → IsToHand is_table t (Region reg) hs p → IsDue pre_forward t (Region reg) xs (Operation p)
+  -- what is due was due
+  due-from : (p : Ptr OperationKind) → IsDueInTable is_table t (Region reg) hs p → IsDue pre_forward t (Region reg) xs (Operation p)
   due-from p h = (
     properly-under t (Region reg) (Operation p) h.below,
     λ o. elim (skipped-above is_table xs hs k o.ancestor o.skipped) [
@@ -62,10 +62,10 @@ module _ {C S B : Type 0} (is_table : Ptr OperationKind → Bool) (t : Tree) (re
     ],
   )
 
-  -- an operation that was due is to be handed over, where each table above it was skipped
+  -- an operation that was due is due, where each table above it was skipped
   hand-from : (p : Ptr OperationKind) → IsDue pre_forward t (Region reg) xs (Operation p)
       → ((q : Ptr OperationKind) → IsUnder t (Region reg) (Operation q) → IsProperlyUnder t (Operation q) (Operation p) → is_table q ≡ true → IsSkipped xs (Operation q))
-      → IsToHand is_table t (Region reg) hs p
+      → IsDueInTable is_table t (Region reg) hs p
   hand-from p d tables = record {
     below = op-under p d.0;
     no_table = λ q u v. not_true (is_table q) (λ e. d.1 (record {
@@ -97,7 +97,7 @@ module _ {C S B : Type 0} (is_table : Ptr OperationKind → Bool) (t : Tree) (re
     }),
   )
 
-  hands-all : NoBreak xs → CallsAllDue pre_forward t (Region reg) xs → HandsAll is_table t (Region reg) hs
+  hands-all : NoBreak xs → CallsAllDue pre_forward t (Region reg) xs → CallsAllInTable is_table t (Region reg) hs
   hands-all none all p = (
     λ i. let d = (all (Operation p)).0 (kept-has is_table xs hs k (Operation p) i) in
         hand-from p d (λ q u v e. elim (table-called is_table xs hs k q ((all (Operation q)).1 (due-above (Operation q) (Operation p) d u v)) e) [
@@ -121,7 +121,7 @@ module _ {C S B : Type 0} (is_table : Ptr OperationKind → Bool) (t : Tree) (re
               (node-before-own pre_forward all-pre t (Region reg) (Operation q) (Operation p) u v)))
         ]
 
-    hands-to : HandsUpToBreak is_table t (Region reg) hs b
+    hands-to : CallsTableUpToBreak is_table t (Region reg) hs b
     hands-to =
         let l = kept-last is_table front x b hs (subst (λ z. Kept is_table z hs) are k) broke none in
         record {
@@ -142,7 +142,7 @@ module _ {C S B : Type 0} (is_table : Ptr OperationKind → Bool) (t : Tree) (re
           );
         }
 
-  pub handing : (a : ControlFlow B WalkContinue) → Answers pre_forward t (Region reg) xs a → IsHanding is_table t (Region reg) hs a
+  pub handing : (a : ControlFlow B WalkContinue) → Answers pre_forward t (Region reg) xs a → IsTableWalk is_table t (Region reg) hs a
   handing (Continue m) h = record {
     one_place = order.one_place;
     increasing = kept-pairs is_table (NodeBefore pre_forward t (Region reg)) xs hs k order.increasing;
@@ -168,7 +168,7 @@ passes-again is_table post n a {d} {d'} {e} {s} {s'} {u} {u'} stays shows leaves
 pub handed-over : {C S B : Type 0} (look : C → Shape) (is_table : C → Ptr OperationKind → Bool) (post : OpRelation C S B) (from : Relation C S B)
     → ((c : C) (s : S) (n : IRNode) (a : ControlFlow B WalkContinue) (c' : C) (s' : S) → from c s n a c' s' → (c' ≡ c) × PassesOn is_table post c s n a c' s')
     → (c : C) (s : S) (op : Ptr OperationKind) (reg : Ptr RegionKind) (a : ControlFlow B WalkContinue) (s' : S)
-    → (look c).children (Operation op) ≡ Region reg ∷ [] → WalkedOver look pre_forward from c s (Region reg) a s' → HandedOver look is_table post c s op a s'
+    → (look c).children (Operation op) ≡ Region reg ∷ [] → WalkedOver look pre_forward from c s (Region reg) a s' → IsTableWalked look is_table post c s op a s'
 handed-over look is_table post from passes c s op reg a s' e w =
     let f = filtered look (Region reg) is_table post from passes c w.calls c s c s' refl w.chain in
     record {
