@@ -88,8 +88,8 @@ impl ConstantOp {
         Ok(ConstantOp { op })
     }
 
-    // The operation, without the op set to be named.
-    pub(crate) fn operation(self) -> Ptr<Operation>
+    /// The operation, without the op set to be named.
+    pub fn operation(self) -> Ptr<Operation>
         ensures { result ≡ self.op }
     {
         self.op

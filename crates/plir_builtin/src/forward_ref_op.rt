@@ -71,6 +71,13 @@ impl ForwardRefOp {
         Ok(ForwardRefOp { op })
     }
 
+    /// The operation, without the op set to be named.
+    pub fn operation(self) -> Ptr<Operation>
+        ensures { result ≡ self.op }
+    {
+        self.op
+    }
+
     /// The operation as a forward reference, if it is one.
     pub fn from_operation<D: OpSet>(ctx: &Context<D>, op: Ptr<Operation>) -> Option<ForwardRefOp>
         requires { IsLive ctx.now (AnyNode.Operation op) }

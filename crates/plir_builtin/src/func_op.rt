@@ -76,6 +76,13 @@ impl FuncOp {
         Ok(FuncOp { op })
     }
 
+    /// The operation, without the op set to be named.
+    pub fn operation(self) -> Ptr<Operation>
+        ensures { result ≡ self.op }
+    {
+        self.op
+    }
+
     /// The operation as a function, if it is one.
     pub fn from_operation<D: OpSet>(ctx: &Context<D>, op: Ptr<Operation>) -> Option<FuncOp>
         requires { IsLive ctx.now (AnyNode.Operation op) }

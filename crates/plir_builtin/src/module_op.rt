@@ -68,6 +68,13 @@ impl ModuleOp {
         Ok(ModuleOp { op })
     }
 
+    /// The operation, without the op set to be named.
+    pub fn operation(self) -> Ptr<Operation>
+        ensures { result ≡ self.op }
+    {
+        self.op
+    }
+
     /// The operation as a module, if it is one.
     pub fn from_operation<D: OpSet>(ctx: &Context<D>, op: Ptr<Operation>) -> Option<ModuleOp>
         requires { IsLive ctx.now (AnyNode.Operation op) }
