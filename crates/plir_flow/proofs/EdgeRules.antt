@@ -18,7 +18,8 @@ use Rattle.plir_flow.specs.declared.edge_ends.RegionSuccessor.TheVariants.{Regio
 use Rattle.plir_flow.specs.declared.region_edge_errors.EdgeFault.{EdgeFault}
 use Rattle.plir_flow.specs.declared.region_edge_errors.EdgeFault.TheVariants.{OtherReceivers, ForeignTerminator, ForeignRead, ForeignRegion, ForeignOperand, NoArgument, NoResult, ReceivedTwice, OtherType}
 use Rattle.plir_flow.specs.RegionEdges.{EdgeView, Flow, receivers_on}
-use Rattle.plir_flow.specs.RegionRule.{SameReceivers, HaveOtherReceivers, AreFirsts, IsReceiver, IsFaultOfFlow, IsFaultOfEdge, IsFaultOfEdges, no_receiver, target_region, IsFlowRight, IsFlowVerdict, IsFlowsVerdict, IsEdgeVerdict}
+use Rattle.plir_flow.specs.RegionRule.{SameReceivers, HaveOtherReceivers, IsReceiver, IsFaultOfFlow, IsFaultOfEdge, IsFaultOfEdges, no_receiver, IsFlowRight}
+use Rattle.plir_flow.specs.EdgeVerdicts.{AreFirsts, target_region, IsFlowVerdict, IsFlowsVerdict, IsEdgeVerdict}
 use Rattle.plir_flow.proofs.TakenLists.{each-has, each-from-has, mapped-all, mapped-at, distinct-push}
 use Rattle.plir_flow.proofs.Exact.{same-region-exact}
 

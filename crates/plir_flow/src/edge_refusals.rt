@@ -5,7 +5,8 @@ ghost use Rattle.plir_core.specs.ContextView.{IsLive};
 ghost use Rattle.plir_core.specs.WellFormed.{IsWellFormed};
 ghost use Rattle.plir_iface.specs.Verdict.{IsRefusalMemoryAside};
 ghost use Rattle.plir_flow.specs.RegionEdges.{AreEdgesLive};
-ghost use Rattle.plir_flow.specs.RegionRule.{HasEdgeRule, NamesLive, ReportsFault, ReportsEdgeFault, in_edges};
+ghost use Rattle.plir_flow.specs.RegionRule.{HasEdgeRule, ReportsFault, ReportsEdgeFault, in_edges};
+ghost use Rattle.plir_flow.specs.EdgeVerdicts.{NamesLive};
 
 use crate::edge_ends::RegionEdge;
 use crate::edge_rule::find_fault;

@@ -6,9 +6,9 @@ ghost use Rattle.plir_core.specs.WellFormed.{IsWellFormed};
 ghost use Rattle.plir_flow.specs.RegionEdges.{IsPointLive, IsSuccessorLive, IsFlowLive, IsUseLive, IsEdgeLive};
 ghost use Rattle.plir_flow.specs.RegionEdges.{AreEdgesLive};
 ghost use Rattle.plir_flow.specs.RegionRule.{source_at, type_of_use, no_receiver, IsOfOtherType, IsOwnPoint, IsOwnRead};
-ghost use Rattle.plir_flow.specs.RegionRule.{IsOwnSuccessor, IsReceiver, IsEdgeRight, IsFaultOfEdges, IsFlowVerdict};
-ghost use Rattle.plir_flow.specs.RegionRule.{IsFlowsVerdict};
-ghost use Rattle.plir_flow.specs.RegionRule.{IsEdgeVerdict, IsEdgesVerdict, AreFirsts, first_place, NamesLive};
+ghost use Rattle.plir_flow.specs.RegionRule.{IsOwnSuccessor, IsReceiver, IsEdgeRight, IsFaultOfEdges};
+ghost use Rattle.plir_flow.specs.EdgeVerdicts.{IsFlowVerdict, IsFlowsVerdict, IsEdgeVerdict, IsEdgesVerdict};
+ghost use Rattle.plir_flow.specs.EdgeVerdicts.{AreFirsts, first_place, NamesLive};
 
 use crate::edge_ends::{RegionBranchPoint, RegionEdge, RegionSuccessor};
 use crate::once::add;

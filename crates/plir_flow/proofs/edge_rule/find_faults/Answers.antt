@@ -2,7 +2,8 @@ use Rattle.std.proofs.Common.{◌<◌, ◌≤◌, ◌∙◌, sym, subst, arith, 
 use Rattle.std.specs.Prelude.{All}
 use Rattle.std.proofs.lemmas.List.{take_all}
 use Rattle.std.proofs.lemmas.List.Elements.{All-more}
-use Rattle.plir_flow.specs.RegionRule.{IsEdgeRight, first_place}
+use Rattle.plir_flow.specs.RegionRule.{IsEdgeRight}
+use Rattle.plir_flow.specs.EdgeVerdicts.{first_place}
 use Rattle.plir_flow.proofs.EdgeRules.{firsts-all}
 use Rattle.plir_flow.proofs.edge_rule.find_faults.Goals as goal
 

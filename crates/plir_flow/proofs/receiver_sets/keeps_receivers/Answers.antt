@@ -5,7 +5,7 @@ use Rattle.plir_flow.specs.Hops.{same_region}
 use Rattle.std.proofs.lemmas.Option.{slice_get-get_or, slice_get_within}
 use Rattle.std.proofs.lemmas.Result.{IfOk-weaker}
 use Rattle.plir_flow.specs.RegionEdges.{EdgeView}
-use Rattle.plir_flow.specs.RegionRule.{target_region, first_place}
+use Rattle.plir_flow.specs.EdgeVerdicts.{target_region, first_place}
 use Rattle.plir_flow.proofs.EdgeRules.{firsts-kept, firsts-broken, firsts-new, target-same}
 use Rattle.plir_flow.proofs.receiver_sets.keeps_receivers.Goals as goal
 
