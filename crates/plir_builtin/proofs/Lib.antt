@@ -25,3 +25,4 @@ pub mod UsesWalked
 pub mod UseChecks
 pub mod Single
 pub mod ConstantRefusals
+pub mod CountLoop
