@@ -19,9 +19,9 @@ pub mod Brought
 pub mod GivenOut
 pub mod NewNodes
 pub mod Seeking
-pub mod HandedCalls
+pub mod OperationCalls
 pub mod PassedOn
-pub mod Handing
+pub mod TableWalking
 pub mod UsesWalked
 pub mod UseChecks
 pub mod Single

@@ -168,7 +168,7 @@ impl SymbolTableCollection {
         if let Err(refused) = self.see_to(ctx, table) {
             return Err(SymbolEditErr::Table(refused));
         }
-        if IRNode::Operation(op).is_ancestor(IRNode::Operation(table), ctx) {
+        if IRNode::Operation(op).is_ancestor(ctx, IRNode::Operation(table)) {
             return Err(SymbolEditErr::WouldNest);
         }
         match self.insert_in(ctx, table, op, point) {

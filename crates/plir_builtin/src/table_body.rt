@@ -3,7 +3,7 @@ ghost use Rattle.std.specs.Prelude.{◌≡◌, ◌↔◌, Some, IfOk, IfErr, IfS
 ghost use Rattle.plir_core.specs.declared.ptr.IRNode.{IRNode as AnyNode};
 ghost use Rattle.plir_core.specs.ContextView.{IsLive, children};
 ghost use Rattle.plir_builtin.specs.Symbols.{body, only};
-ghost use Rattle.plir_builtin.specs.Refusals.{Tells, BodyRefused};
+ghost use Rattle.plir_builtin.specs.Refusals.{Reports, IsBodyRefusal};
 
 use crate::symbol_table::SymbolTable;
 use crate::symbol_table_err::SymbolTableErr;
@@ -97,7 +97,7 @@ pub(crate) fn find_body<D: OpSet>(
     requires { IsLive ctx.now (AnyNode.Operation op) }
     ensures body { IfOk result (λ b. body ctx.now op ≡ Some (AnyNode.BasicBlock b)) }
     ensures live { IfOk result (λ b. IsLive ctx.now (AnyNode.BasicBlock b)) }
-    ensures refused { IfErr result (Tells (BodyRefused ctx.now op)) }
+    ensures refused { IfErr result (Reports (IsBodyRefusal ctx.now op)) }
 {
     let any = AnyOp { op };
     match OneRegionInterface::<D>::verify(&any, ctx) {
