@@ -36,6 +36,13 @@ module _ {K A T : Type 0} (s : ContextView K A T) (c : Tables) (table : Ptr Oper
   pub ready-there : None ≡ get c table → ⊥
   ready-there none = none-some table (ap (option_map (λ (t : Table). t.op)) none ∙ ready.0)
 
+  pub ready-some : IsSome (get c table)
+  ready-some = at (get c table) ready.0
+    where
+      at : (o : Option Table) → option_map (λ (t : Table). t.op) o ≡ Some table → IsSome o
+      at None e = absurd (none-some table e)
+      at (Some t) e = refl
+
   module _ (tab : Table) (has : Some tab ≡ get c table) where
     pub ready-op : tab.op ≡ table
     ready-op = same_Some tab.op table (ap (option_map (λ (t : Table). t.op)) has ∙ ready.0)

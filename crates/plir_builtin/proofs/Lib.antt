@@ -2,6 +2,7 @@ pub mod MapViews
 pub mod SymbolLists
 pub mod Bodies
 pub mod SoleBlocks
+pub mod Soles
 pub mod Frames
 pub mod Edits
 pub mod Puts
@@ -25,3 +26,4 @@ pub mod UsesWalked
 pub mod UseChecks
 pub mod Single
 pub mod ConstantRefusals
+pub mod CountLoop

@@ -18,6 +18,7 @@ ghost use Rattle.plir_builtin.specs.Reading.{IsRead};
 ghost use Rattle.plir_builtin.specs.TableEdits.{IsRecorded, IsForgotten};
 
 use crate::inserting::{Plan, carry_out};
+use crate::scanning::count_symbols;
 use crate::symbol_table_err::SymbolTableErr;
 use crate::symbols::{SymbolOpInterfaceErr, is_symbol, is_table, symbol_name};
 use crate::table_body::{body_of, find_body};
@@ -66,6 +67,14 @@ impl SymbolTable {
     {
         let before = self.names.insert(name, op)?;
         Ok(before)
+    }
+
+    /// Makes room for so many names more.
+    pub(crate) fn reserve(&mut self, more: usize) -> Result<(), Memory>
+        ensures { self.new ≡ self.old }
+    {
+        self.names.reserve(more)?;
+        Ok(())
     }
 
     /// Takes the entry of a name out, if there is one.
@@ -164,6 +173,7 @@ impl SymbolTable {
         }
         let block = find_body(ctx, op)?;
         let mut table = SymbolTable::unread(alloc, op);
+        table.reserve(count_symbols(ctx, block))?;
         match table.read(ctx, block) {
             Ok(()) => Ok(table),
             Err(refused) => Err(refused.why),

@@ -10,7 +10,7 @@ ghost use Rattle.plir_builtin.specs.Symbols.{IsGood, body, is_table_kind, scan, 
 ghost use Rattle.plir_builtin.specs.SymbolUses.{HasTableRule, IsSymbolsRefusal, IsTableRuleRefusal, use_reported};
 
 use crate::reading::RefusedSymbol;
-use crate::scanning::find_symbol;
+use crate::scanning::{count_symbols, find_symbol};
 use crate::symbol_table::SymbolTable;
 use crate::symbol_table_err::SymbolTableErr;
 use crate::symbol_users::{SymbolUserSet, verify_uses};
@@ -75,8 +75,12 @@ fn verify_symbols<D: OpSet>(
     ensures ok { OnOk result (IsGood D.is_symbol D.is_symbol_table ctx.now op) }
     ensures refused { IfErr result (IsSymbolsRefusal D.is_symbol ctx.now op) }
 {
+    let block = body_of(ctx, op);
     let mut table = SymbolTable::unread(alloc, op);
-    match table.read(ctx, body_of(ctx, op)) {
+    if table.reserve(count_symbols(ctx, block)).is_err() {
+        return Err(VerifyErr::Memory);
+    }
+    match table.read(ctx, block) {
         Ok(()) => Ok(()),
         Err(refused) => Err(report(ctx, op, refused)),
     }
