@@ -8,3 +8,4 @@ pub mod Ascii
 pub mod Values
 pub mod ReadBack
 pub mod Asked
+pub mod Peeks

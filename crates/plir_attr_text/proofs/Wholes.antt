@@ -11,7 +11,7 @@ use Rattle.plir_attr_text.specs.TypeGrammar.{IsText, TypeWithin, IsInteger, Func
 use Rattle.plir_attr_text.specs.TypeReading.{integer_at, function_at, type_at}
 use Rattle.plir_attr_text.specs.Wholes.{end_at, whole}
 use Rattle.plir_attr_text.specs.Steps.{◌>>=◌}
-use Rattle.plir_attr_text.specs.Reading.{Fails, TellsNoPlace, is_of_text, fault_of}
+use Rattle.plir_attr_text.specs.Reading.{Fails, HasNoPlace, is_of_text, fault_of}
 use Rattle.plir_attr_text.specs.laws.StepLaws.{done, Fails-bind, Fails-from}
 use Rattle.plir_attr_text.specs.laws.ListsFound.{IsSound, whole_found}
 use Rattle.plir_attr_text.specs.laws.ListsAgain.{refused, only_one}
@@ -25,7 +25,7 @@ told Crowded f read e h n = absurd h
 told (At g left) f read e h n = h.0 ∙ ap (λ k. Err k) (sym e)
 
 -- no place is told where memory was wanting
-pub no_place : {X : Type 0} (stop : Stop) (e : ReadErr) (read : Result X Fault) → e.fault ≡ fault_of stop → ((stop ≡ OutOfMemory) ⊎ (stop ≡ Crowded) → (e.line ≡ 0) × (e.column ≡ 0)) → Fails stop read → TellsNoPlace e
+pub no_place : {X : Type 0} (stop : Stop) (e : ReadErr) (read : Result X Fault) → e.fault ≡ fault_of stop → ((stop ≡ OutOfMemory) ⊎ (stop ≡ Crowded) → (e.line ≡ 0) × (e.column ≡ 0)) → Fails stop read → HasNoPlace e
 no_place OutOfMemory e read is nowhere h = λ none. nowhere (inl refl)
 no_place Crowded e read is nowhere h = absurd h
 no_place (At f left) e read is nowhere h = λ none. absurd (true≢false (sym h.1 ∙ ap is_of_text (sym is) ∙ none))

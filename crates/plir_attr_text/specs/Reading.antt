@@ -41,8 +41,8 @@ abbrev pub ReadsFirst : {X Y : Type 0} → (X → Y → Type 0) → Result (X ×
 ReadsFirst means result read = Reads (λ x y. means x.0 y.0 × (x.1.now ≡ y.1)) result read
 
 -- where nothing is wrong with the text, no place is told
-abbrev pub TellsNoPlace : ReadErr → Type 0
-TellsNoPlace e = is_of_text e.fault ≡ false → (e.line ≡ 0) × (e.column ≡ 0)
+abbrev pub HasNoPlace : ReadErr → Type 0
+HasNoPlace e = is_of_text e.fault ≡ false → (e.line ≡ 0) × (e.column ≡ 0)
 
 -- the fault of a stop
 abbrev pub fault_of : Stop → Fault

@@ -1,6 +1,7 @@
 -- Strings: what stands between two `"`, with escapes.
 use Rattle.std.specs.Prelude.{ℕ, zero, suc, List, [], ◌∷◌, ◌++◌, length, Bool, ◌&&◌, nat_eq, nat_le, nat_lt, ◌||◌}
-use Rattle.std.specs.Prelude.{Option, Some, None, Result, Ok, Err, if◌then◌else◌, encode_utf8}
+use Rattle.std.specs.Prelude.{◌≡◌, Option, Some, None, Result, Ok, Err, if◌then◌else◌, encode_utf8}
+use Rattle.std.specs.List.{concat}
 use Rattle.plir_attr_text.specs.Bytes.{is_hex, front, past, hex_after}
 use Rattle.plir_attr_text.specs.Steps.{◌>>=◌}
 use Rattle.plir_attr_text.specs.declared.fault.Fault.{Fault}
@@ -44,6 +45,17 @@ unit_at (b ∷ bs) =
     if nat_eq b 34 then Ok (None, bs)
     else if nat_eq b 92 then (escape_at bs >>= λ x. Ok (Some (encode_utf8 x.0), x.1))
     else Ok (Some (b ∷ []), bs)
+
+-- The text begins with these units and the `"` that ends them, and rest is what stands behind it.
+abbrev pub AreUnits : List ℕ → List (List ℕ) → List ℕ → Type 0
+AreUnits bytes [] rest = unit_at bytes ≡ Ok (None, rest)
+AreUnits bytes (u ∷ us) rest = (more : List ℕ) × (unit_at bytes ≡ Ok (Some u, more)) × AreUnits more us rest
+
+-- q is what is quoted behind a `"`, up to the one that ends it, and rest is what stands behind that.
+abbrev pub IsQuoted : List ℕ → List ℕ → List ℕ → Type 0
+IsQuoted bytes q rest = (us : List (List ℕ)) × (concat us ≡ q) × AreUnits bytes us rest
+
+-- What a reader makes of it, step by step.
 
 -- bytes before what is quoted
 abbrev pub behind : List ℕ → Result (List ℕ × List ℕ) Fault → Result (List ℕ × List ℕ) Fault

@@ -2,7 +2,7 @@
 use Rattle.std.specs.Prelude.{◌≡◌, ℕ, List, [], ◌∷◌, Bool, ◌||◌, ◌&&◌, nat_eq, Result, Ok, Err, if◌then◌else◌}
 use Rattle.plir_data.specs.Identifier.{is_letter, is_digit}
 use Rattle.plir_attr_text.specs.Bytes.{is_blank, front, past, word_front, word_past, begins, tail_of, value_after}
-use Rattle.plir_attr_text.specs.Strings.{string_at}
+use Rattle.plir_attr_text.specs.Strings.{IsQuoted}
 use Rattle.plir_attr_text.specs.declared.fault.Fault.{Fault}
 use Rattle.plir_attr_text.specs.declared.fault.Fault.TheVariants.{Unexpected}
 
@@ -43,10 +43,7 @@ look bytes = token_at (past is_blank bytes)
 
 -- the token stands first in the text, and rest is what stands behind it
 abbrev pub Takes : List ℕ → Token → List ℕ → Type 0
-Takes bytes (quoted q) rest = (inside : List ℕ) × (look bytes ≡ Ok (sign 34, inside)) × (string_at inside ≡ Ok (
-  q,
-  rest,
-))
+Takes bytes (quoted q) rest = (inside : List ℕ) × (look bytes ≡ Ok (sign 34, inside)) × IsQuoted inside q rest
 Takes bytes (word w) rest = look bytes ≡ Ok (word w, rest)
 Takes bytes (digits n) rest = look bytes ≡ Ok (digits n, rest)
 Takes bytes (signed s n) rest = look bytes ≡ Ok (signed s n, rest)

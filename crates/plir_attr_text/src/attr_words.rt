@@ -79,10 +79,10 @@ pub fn identifier_of(alloc: Global, word: &[u8], left: usize) -> Result<Identifi
     ensures refused { IfErr result (λ stop. (stop ≡ OutOfMemory) ⊎ ((stop ≡ At Fault.Unexpected left) ×
         (is_identifier word.now ≡ false))) }
 {
-    let Some(text) = text_of(Vec::from_slice(alloc, word)?) else {
+    let Ok(text) = str::from_utf8(word) else {
         return Err(Stop::At(Fault::Unexpected, left));
     };
-    match Identifier::try_new(alloc, text.as_str()) {
+    match Identifier::try_new(alloc, text) {
         Ok(name) => Ok(name),
         Err(IdentifierErr::Malformed) => Err(Stop::At(Fault::Unexpected, left)),
         Err(IdentifierErr::Memory) => Err(Stop::OutOfMemory),

@@ -5,7 +5,7 @@ ghost use Rattle.plir_data.specs.AttrSeen.{attr_view};
 ghost use Rattle.plir_attr_text.specs.AttrAnswer.{IsAttrRead};
 ghost use Rattle.plir_attr_text.specs.Names.{Adds};
 ghost use Rattle.plir_attr_text.specs.Meaning.{IsMeant};
-ghost use Rattle.plir_attr_text.specs.Reading.{Reads, TellsNoPlace};
+ghost use Rattle.plir_attr_text.specs.Reading.{Reads, HasNoPlace};
 ghost use Rattle.plir_attr_text.specs.AttrReading.{attr_at};
 ghost use Rattle.plir_attr_text.specs.TypesIn.{IsInAttr};
 ghost use Rattle.plir_attr_text.specs.Wholes.{whole};
@@ -42,7 +42,7 @@ pub fn read_attr<D: OpSet, C: TypeStore<D>>(
     text: &str,
 ) -> Result<AttrObj<D>, ReadErr>
     ensures read { IsAttrRead D.attr_handles (C.types ctx.old) text.now result (C.types ctx.new) }
-    ensures placeless { IfErr result TellsNoPlace }
+    ensures placeless { IfErr result HasNoPlace }
     ensures rest { C.same_besides ctx.old ctx.new }
 {
     let bytes = text.as_bytes();

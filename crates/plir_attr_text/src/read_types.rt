@@ -7,7 +7,7 @@ ghost use Rattle.plir_attr_text.specs.TypeGrammar.{IsText, TypeWithin, IsInteger
 ghost use Rattle.plir_attr_text.specs.Parts.{IsPartOf};
 ghost use Rattle.plir_attr_text.specs.Names.{Adds, AreNamed, Grows, Names, StandsForType, StandsForInteger};
 ghost use Rattle.plir_attr_text.specs.Names.{StandsForFunction};
-ghost use Rattle.plir_attr_text.specs.Reading.{Reads, TellsNoPlace};
+ghost use Rattle.plir_attr_text.specs.Reading.{Reads, HasNoPlace};
 ghost use Rattle.plir_attr_text.specs.TypeReading.{integer_at, function_at, type_at};
 ghost use Rattle.plir_attr_text.specs.TypesIn.{IsInInteger, IsInFunction, IsInType};
 ghost use Rattle.plir_attr_text.specs.Wholes.{whole};
@@ -80,7 +80,7 @@ pub fn read_type<D: OpSet, C: TypeStore<D>>(
     ensures fault { IfErr result (λ e. e.fault ≢ Fault.Memory → whole (type_at 200) text.now ≡ Err e.fault) }
     ensures refused { IfErr result (λ e. e.fault ≢ Fault.Memory → (t : TypeTerm) → IsText (TypeWithin 200) text.now t →
         ⊥) }
-    ensures placeless { IfErr result TellsNoPlace }
+    ensures placeless { IfErr result HasNoPlace }
     ensures grown { Grows (C.types ctx.old) (C.types ctx.new) }
     ensures named { AreNamed (IsInType 200 text.now) (C.types ctx.old) (C.types ctx.new) }
     // The types that come are parts of the one that the text stands for.
@@ -104,7 +104,7 @@ pub fn read_integer_type<D: OpSet, C: TypeStore<D>>(
     ensures fault { IfErr result (λ e. e.fault ≢ Fault.Memory → whole integer_at text.now ≡ Err e.fault) }
     ensures refused { IfErr result (λ e. e.fault ≢ Fault.Memory → (x : Signedness × ℕ) → IsText IsInteger text.now x →
         ⊥) }
-    ensures placeless { IfErr result TellsNoPlace }
+    ensures placeless { IfErr result HasNoPlace }
     ensures grown { Grows (C.types ctx.old) (C.types ctx.new) }
     ensures named { AreNamed (IsInInteger text.now) (C.types ctx.old) (C.types ctx.new) }
     // Only the type that the text stands for comes.
@@ -130,7 +130,7 @@ pub fn read_function_type<D: OpSet, C: TypeStore<D>>(
         whole (function_at (type_at 199)) text.now ≡ Err e.fault) }
     ensures refused { IfErr result (λ e. e.fault ≢ Fault.Memory → (x : TypeTerms × TypeTerms) →
         IsText (FunctionWithin 200) text.now x → ⊥) }
-    ensures placeless { IfErr result TellsNoPlace }
+    ensures placeless { IfErr result HasNoPlace }
     ensures grown { Grows (C.types ctx.old) (C.types ctx.new) }
     ensures named { AreNamed (IsInFunction 199 text.now) (C.types ctx.old) (C.types ctx.new) }
     // The types that come are parts of the one that the text stands for.

@@ -5,7 +5,7 @@ ghost use Rattle.plir_attr_text.specs.declared.fault.Stop.TheVariants.{OutOfMemo
 ghost use Rattle.plir_data.specs.Identifier.{is_letter, is_digit};
 ghost use Rattle.plir_attr_text.specs.Bytes.{is_blank, is_in_name, front, past, word_past, begins, all_pass};
 ghost use Rattle.plir_attr_text.specs.Bytes.{value_after};
-ghost use Rattle.plir_attr_text.specs.Tokens.{look, is_mark};
+ghost use Rattle.plir_attr_text.specs.Tokens.{look, token_at, is_mark};
 ghost use Rattle.plir_attr_text.specs.Pieces.{token_of};
 ghost use Rattle.plir_attr_text.specs.Reading.{Gives};
 
@@ -122,12 +122,21 @@ pub fn begins_digit(bytes: &[u8]) -> bool
     }
 }
 
-fn begins_greater(bytes: &[u8]) -> bool
-    ensures { result ≡ begins (λ c. nat_eq c 62) bytes.now }
+pub fn begins_letter(bytes: &[u8]) -> bool
+    ensures { result ≡ begins is_letter bytes.now }
 {
     match bytes {
         [] => false,
-        [byte, ..] => *byte == b'>',
+        [byte, ..] => is_letter(*byte),
+    }
+}
+
+pub fn begins_byte(bytes: &[u8], sign: u8) -> bool
+    ensures { result ≡ begins (λ c. nat_eq c sign) bytes.now }
+{
+    match bytes {
+        [] => false,
+        [byte, ..] => *byte == sign,
     }
 }
 
@@ -165,13 +174,11 @@ pub fn unread_arrow_at(bytes: &[u8]) -> usize {
     }
 }
 
-// The first token, and what stands behind it.
-#[tactic(auto, unfolding(crate::specs::Tokens::look))]
-pub fn look(bytes: &[u8]) -> Result<(Piece<'_>, &[u8]), Stop>
-    ensures found { Gives (λ x. (token_of x.0, x.1.now)) result (look bytes.now) }
+// The token that begins at the first byte, and what stands behind it.
+pub fn token_at(bytes: &[u8]) -> Result<(Piece<'_>, &[u8]), Stop>
+    ensures found { Gives (λ x. (token_of x.0, x.1.now)) result (token_at bytes.now) }
     ensures steady { IfErr result (λ stop. stop ≢ OutOfMemory) }
 {
-    let bytes = past_blank(bytes);
     let [first, more @ ..] = bytes else {
         return Err(Stop::At(Fault::Unexpected, 0));
     };
@@ -186,11 +193,20 @@ pub fn look(bytes: &[u8]) -> Result<(Piece<'_>, &[u8]), Stop>
             Piece::Signed(*first == b'-', front_digits(more)),
             past_digits(more),
         ))
-    } else if *first == b'-' && begins_greater(more) {
+    } else if *first == b'-' && begins_byte(more, b'>') {
         Ok((Piece::Arrow, &more[1..]))
     } else {
         Ok((Piece::Sign(*first), more))
     }
+}
+
+// The first token, and what stands behind it.
+#[tactic(auto, unfolding(crate::specs::Tokens::look))]
+pub fn look(bytes: &[u8]) -> Result<(Piece<'_>, &[u8]), Stop>
+    ensures found { Gives (λ x. (token_of x.0, x.1.now)) result (look bytes.now) }
+    ensures steady { IfErr result (λ stop. stop ≢ OutOfMemory) }
+{
+    token_at(past_blank(bytes))
 }
 
 // Whether these are digits alone.

@@ -10,8 +10,8 @@ ghost use Rattle.plir_attr_text.specs.TypeReading.{type_head};
 
 use crate::fault::{Fault, Stop};
 use crate::tokens::{
-    Piece, all_digits, begins_digit, front_digits, left_at, look, magnitude, unread_arrow_at,
-    unread_id_at,
+    Piece, all_digits, begins_byte, begins_digit, begins_letter, front_digits, left_at, look,
+    magnitude, past_blank, token_at, unread_arrow_at, unread_id_at,
 };
 use plir_data::Signedness;
 
@@ -53,8 +53,11 @@ pub fn begin_level(levels: usize, bytes: &[u8]) -> Result<(), Stop>
     ensures read { Gives (λ u. u) result (level_at levels bytes.now) }
     ensures some { OnOk result (1 ≤ levels) }
 {
-    read_word(bytes)?;
-    if_level(levels, bytes)
+    let rest = past_blank(bytes);
+    if !begins_letter(rest) {
+        return Err(Stop::At(Fault::Unexpected, rest.len()));
+    }
+    if_level(levels, rest)
 }
 
 fn is_sign(piece: Piece<'_>, sign: u8) -> bool
@@ -91,14 +94,18 @@ pub fn read_arrow(bytes: &[u8]) -> Result<&[u8], Stop>
 }
 
 // What stands behind a sign, if it comes next.
-#[tactic(auto, unfolding(crate::specs::Lists::past_sign))]
+#[tactic(auto, unfolding(crate::specs::Lists::past_sign, crate::specs::Tokens::look))]
 pub fn past_sign(bytes: &[u8], sign: u8) -> Option<&[u8]>
     ensures { option_map (λ x. x.now) result ≡ past_sign sign bytes.now }
 {
-    match look(bytes) {
-        Ok((piece, rest)) => {
+    let rest = past_blank(bytes);
+    if !begins_byte(rest, sign) {
+        return None;
+    }
+    match token_at(rest) {
+        Ok((piece, behind)) => {
             if is_sign(piece, sign) {
-                Some(rest)
+                Some(behind)
             } else {
                 None
             }

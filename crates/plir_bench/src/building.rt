@@ -8,7 +8,6 @@ use crate::stop::Stop;
 use plir_builtin::{FuncOp, ModuleOp};
 use plir_core::{BasicBlock, Context, NodeErr, Operation, Ptr};
 use plir_data::{BuiltinSet, FunctionType, Identifier, OpKind};
-use plir_iface::Op;
 use std::alloc::Global;
 
 /// The name of the function of a number.
@@ -52,7 +51,7 @@ pub fn build_root(
 {
     let name = Identifier::try_new(alloc, "root")?;
     let module = ModuleOp::new(alloc, ctx, name)?;
-    let root = Op::<BuiltinSet>::get_operation(&module);
+    let root = module.operation();
     let region = root.first_region(ctx).ok_or(Stop::Refused)?;
     let body = region.get_head(ctx).ok_or(Stop::Refused)?;
     Ok((root, body))
@@ -69,7 +68,7 @@ fn add_function(
 {
     let name = name_of(alloc, number)?;
     let func = make_function(alloc, ctx, name)?;
-    func.insert_at_back(body, ctx);
+    func.insert_at_back(ctx, body);
     Ok(())
 }
 
@@ -83,7 +82,7 @@ fn make_function(
 {
     let ty = FunctionType::get(ctx, Vec::new(alloc), Vec::new(alloc))?;
     let func = FuncOp::new(alloc, ctx, name, ty)?;
-    Ok(Op::<BuiltinSet>::get_operation(&func))
+    Ok(func.operation())
 }
 
 fn add_bare(alloc: Global, ctx: &mut Context<BuiltinSet>, body: Ptr<BasicBlock>) -> Result<(), Stop>
@@ -94,7 +93,7 @@ fn add_bare(alloc: Global, ctx: &mut Context<BuiltinSet>, body: Ptr<BasicBlock>)
     let operands = Vec::new(alloc);
     let successors = Vec::new(alloc);
     let op = Operation::new(alloc, ctx, OpKind::Func, results, operands, successors, 1)?;
-    op.insert_at_back(body, ctx);
+    op.insert_at_back(ctx, body);
     add_block(alloc, ctx, op)
 }
 
@@ -105,6 +104,6 @@ fn add_block(alloc: Global, ctx: &mut Context<BuiltinSet>, op: Ptr<Operation>) -
 {
     let region = op.first_region(ctx).ok_or(Stop::Refused)?;
     let block = BasicBlock::new(alloc, ctx, None, Vec::new(alloc))?;
-    block.insert_at_back(region, ctx);
+    block.insert_at_back(ctx, region);
     Ok(())
 }

@@ -23,6 +23,8 @@ pub enum Task {
     EraseList,
     /// `sweep N`: a dead chain of so many constants, beside one that is used, and the dead ones swept.
     Sweep,
+    /// `convert N`: so many forward references in one block, each replaced by a constant.
+    Convert,
     /// `print N`: the module's text, so many times.
     Print,
     /// `read N`: the text that was printed last, read so many times.
@@ -60,6 +62,7 @@ fn read_task(word: &str) -> Option<Task> {
         "erase-all" => Some(Task::EraseAll),
         "erase-list" => Some(Task::EraseList),
         "sweep" => Some(Task::Sweep),
+        "convert" => Some(Task::Convert),
         "print" => Some(Task::Print),
         "read" => Some(Task::Read),
         _ => None,

@@ -5,6 +5,7 @@
 mod bench;
 mod building;
 mod command;
+mod converting;
 mod stop;
 mod sweeping;
 mod symbols;

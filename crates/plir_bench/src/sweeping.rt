@@ -47,8 +47,8 @@ fn build_chain(
     Ok(())
 }
 
-// Puts an operation at the end of a block, which uses the first result of the one before it, if that has any.
-fn add_user(
+/// Puts an operation at the end of a block, which uses the first result of the one before it, if that has any.
+pub fn add_user(
     alloc: Global,
     ctx: &mut Context<BuiltinSet>,
     body: Ptr<BasicBlock>,
@@ -62,7 +62,7 @@ fn add_user(
     let operands = last_results(alloc, ctx, body)?;
     let successors = Vec::new(alloc);
     let op = Operation::new(alloc, ctx, kind, types, operands, successors, 0)?;
-    op.insert_at_back(body, ctx);
+    op.insert_at_back(ctx, body);
     Ok(())
 }
 

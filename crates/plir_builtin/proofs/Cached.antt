@@ -17,9 +17,9 @@ use Rattle.plir_builtin.specs.Table.{Table, Tables}
 use Rattle.plir_builtin.specs.Symbols.{body, scan}
 use Rattle.plir_builtin.specs.Agree.{Agrees, AllAgree, AgreesAsLent, IsNewlyCached, IsCachedFor, IsReady}
 use Rattle.plir_builtin.specs.Insertion.{inserted}
-use Rattle.plir_builtin.specs.Refusals.{Refusal, told, told_or, TellsOnly, TellsOr, IsInsertErr, IsInsertGrowth, InsertRefused, RemoveRefused, IsPlaceable}
+use Rattle.plir_builtin.specs.Refusals.{Refusal, reported, reported_or, ReportsOnly, ReportsOr, IsInsertErr, IsInsertGrowth, IsInsertRefusal, IsRemoveRefusal, IsPlaceable}
 use Rattle.plir_builtin.specs.TableEdits.{IsRecorded, IsForgotten}
-use Rattle.plir_builtin.specs.SymbolEdits.{table_of, IsMember, IsMadeEdit, IsCallGrowth, IsCallRefused}
+use Rattle.plir_builtin.specs.SymbolEdits.{table_of, IsMember, IsMadeEdit, IsCallGrowth, IsCallRefusal}
 use Rattle.plir_builtin.specs.Applied.{IsCalled}
 use Rattle.std.proofs.Common.{cond, false}
 use Rattle.std.specs.FinMap.{get-insert}
@@ -35,6 +35,13 @@ use Rattle.plir_builtin.proofs.MapViews.{insert-has, ptr_total, ptr_same, ptr_re
 module _ {K A T : Type 0} (s : ContextView K A T) (c : Tables) (table : Ptr OperationKind) (ready : IsReady s c table) where
   pub ready-there : None ≡ get c table → ⊥
   ready-there none = none-some table (ap (option_map (λ (t : Table). t.op)) none ∙ ready.0)
+
+  pub ready-some : IsSome (get c table)
+  ready-some = at (get c table) ready.0
+    where
+      at : (o : Option Table) → option_map (λ (t : Table). t.op) o ≡ Some table → IsSome o
+      at None e = absurd (none-some table e)
+      at (Some t) e = refl
 
   module _ (tab : Table) (has : Some tab ≡ get c table) where
     pub ready-op : tab.op ≡ table
@@ -62,14 +69,14 @@ module _ {K A T : Type 0} (s : ContextView K A T) (c : Tables) (table : Ptr Oper
         at (Ok v) f k = subst (λ z. P t (insert c z u)) ready-op (f c (subst (P s) (sym (insert-has c tab.op tab (ap (get c) ready-op ∙ sym has))) h))
         at (Err x) f k = subst (λ z. P z (insert c table u)) (sym k.0) (subst (P s) (sym (ap (insert c table) k.1 ∙ insert-has c table tab (sym has))) h)
 
--- what is told, and what stands for it where memory was refused, said in other words
-pub told-map : (M N : Type 0) (P Q : Refusal → Type 0) (o : Option Refusal) → (M → N) → ((r : Refusal) → P r → Q r) → told_or M P o → told_or N Q o
-told-map M N P Q None m f h = m h
-told-map M N P Q (Some r) m f h = f r h
+-- what is reported, and what stands for it where memory was refused, said in other words
+pub reported-map : (M N : Type 0) (P Q : Refusal → Type 0) (o : Option Refusal) → (M → N) → ((r : Refusal) → P r → Q r) → reported_or M P o → reported_or N Q o
+reported-map M N P Q None m f h = m h
+reported-map M N P Q (Some r) m f h = f r h
 
--- what is told alone, and never that memory was refused
-pub told-only : (N : Type 0) (P : Refusal → Type 0) (o : Option Refusal) → ((r : Refusal) × (o ≡ Some r) × P r) → told_or N P o
-told-only N P o h = subst (told_or N P) (sym h.1) h.2
+-- what is reported alone, and never that memory was refused
+pub reported-only : (N : Type 0) (P : Refusal → Type 0) (o : Option Refusal) → ((r : Refusal) × (o ≡ Some r) × P r) → reported_or N P o
+reported-only N P o h = subst (reported_or N P) (sym h.1) h.2
 
 -- The same where all tables agree.
 module _ {K A T : Type 0} (w own own_table : K → Bool) (s : ContextView K A T) (c : Tables) (all : AllAgree own own_table s c) (table : Ptr OperationKind) (live : is_live s (Operation table) ≡ true) (tab : Table) (has : Some tab ≡ get c table) where
@@ -81,7 +88,7 @@ module _ {K A T : Type 0} (w own own_table : K → Bool) (s : ContextView K A T)
 
   -- what a call on the table leaves and answers
   called_so : (e : SymbolEdit) → table_of e ≡ table → (r : Result (Unit {0}) SymbolTableErr) (t : ContextView K A T) (u : Table) (n : Tables) → n ≡ insert c table u → AllAgree own own_table t n
-      → OnOk r (IsMadeEdit w own own_table s e t) → IfErr r (TellsOr (IsCallGrowth w own own_table s e) (IsCallRefused w own own_table s e)) → OnErr r ((t ≡ s) × (u ≡ tab)) → IsCalled w own own_table s c e r t n
+      → OnOk r (IsMadeEdit w own own_table s e t) → IfErr r (ReportsOr (IsCallGrowth w own own_table s e) (IsCallRefusal w own own_table s e)) → OnErr r ((t ≡ s) × (u ≡ tab)) → IsCalled w own own_table s c e r t n
   called_so e of (Ok v) t u n put agree made refused same = (made, (u, subst (λ z. n ≡ insert c z u) (sym of) put), agree)
   called_so e of (Err x) t u n put agree made refused same = (same.0, put ∙ ap (insert c table) same.1 ∙ insert-has c table tab (sym has), refused)
 
@@ -99,30 +106,30 @@ module _ {K A T : Type 0} (w own own_table : K → Bool) (s : ContextView K A T)
         )
         made (Err x) a b d = tt
 
-        why : (q : Result (Unit {0}) SymbolTableErr) → IfErr q (IsInsertErr own s (get tab.names) tab.op o p) → IfErr q (TellsOr (IsCallGrowth w own own_table s (Insert table o p)) (IsCallRefused w own own_table s (Insert table o p)))
+        why : (q : Result (Unit {0}) SymbolTableErr) → IfErr q (IsInsertErr own s (get tab.names) tab.op o p) → IfErr q (ReportsOr (IsCallGrowth w own own_table s (Insert table o p)) (IsCallRefusal w own own_table s (Insert table o p)))
         why (Ok v) h = tt
         why (Err x) h =
-            told-map (IsInsertGrowth own s (scan own s table) table o p) (IsCallGrowth w own own_table s (Insert table o p)) (InsertRefused own s (scan own s table) table o p) (IsCallRefused w own own_table s (Insert table o p)) (told x) (λ m. (away, m)) (λ f m. (away, m))
+            reported-map (IsInsertGrowth own s (scan own s table) table o p) (IsCallGrowth w own own_table s (Insert table o p)) (IsInsertRefusal own s (scan own s table) table o p) (IsCallRefusal w own own_table s (Insert table o p)) (reported x) (λ m. (away, m)) (λ f m. (away, m))
             (subst (λ z. IsInsertErr own s (scan own s z) z o p x) cached_at.0 (subst (λ f. IsInsertErr own s f tab.op o p x) names_same h))
 
     member_so : (q : Result (Unit {0}) SymbolTableErr) → OnOk q (IsForgotten own s tab o u) → OnOk q (IsMember w own own_table s table o)
     member_so (Ok v) a = ((a.name, a.named), a.member ∙ ap (body s) cached_at.0)
     member_so (Err x) a = tt
 
-    refused_so : (N : Type 0) (q : Result (Unit {0}) SymbolTableErr) → IfErr q (TellsOnly (RemoveRefused own s tab.op o)) → IfErr q (TellsOr N (RemoveRefused own s table o))
+    refused_so : (N : Type 0) (q : Result (Unit {0}) SymbolTableErr) → IfErr q (ReportsOnly (IsRemoveRefusal own s tab.op o)) → IfErr q (ReportsOr N (IsRemoveRefusal own s table o))
     refused_so N (Ok v) h = tt
-    refused_so N (Err x) h = told-only N (RemoveRefused own s table o) (told x) (subst (λ z. TellsOnly (RemoveRefused own s z o) x) cached_at.0 h)
+    refused_so N (Err x) h = reported-only N (IsRemoveRefusal own s table o) (reported x) (subst (λ z. ReportsOnly (IsRemoveRefusal own s z o) x) cached_at.0 h)
 
     both : (P Q : Type 0) (q : Result (Unit {0}) SymbolTableErr) → OnOk q P → OnOk q Q → OnOk q (P × Q)
     both P Q (Ok v) a b = (a, b)
     both P Q (Err x) a b = tt
 
-    pub remove-called : OnOk r (IsForgotten own s tab o u) → OnOk r (t ≡ with_op_unlinked s o) → IfErr r (TellsOnly (RemoveRefused own s tab.op o)) → IsCalled w own own_table s c (Remove table o) r t n
+    pub remove-called : OnOk r (IsForgotten own s tab o u) → OnOk r (t ≡ with_op_unlinked s o) → IfErr r (ReportsOnly (IsRemoveRefusal own s tab.op o)) → IsCalled w own own_table s c (Remove table o) r t n
     remove-called forgotten after refused =
         called_so (Remove table o) refl r t u n put agree (both (IsMember w own own_table s table o) (t ≡ with_op_unlinked s o) r (member_so r forgotten) after)
         (refused_so ⊥ r refused) same
 
-    pub erase-called : IsUnusedOutside s (Operation o) → OnOk r (IsForgotten own s tab o u) → OnOk r (t ≡ without_tree s (Operation o)) → IfErr r (TellsOnly (RemoveRefused own s tab.op o)) → IsCalled w own own_table s c (Erase table o) r t n
+    pub erase-called : IsUnusedOutside s (Operation o) → OnOk r (IsForgotten own s tab o u) → OnOk r (t ≡ without_tree s (Operation o)) → IfErr r (ReportsOnly (IsRemoveRefusal own s tab.op o)) → IsCalled w own own_table s c (Erase table o) r t n
     erase-called unused forgotten after refused =
         called_so (Erase table o) refl r t u n put agree (made r forgotten after) (refused_so ⊥ r refused) same
       where

@@ -9,23 +9,23 @@ use Rattle.plir_core.specs.declared.insertion_point.OpInsertionPoint.{OpInsertio
 use Rattle.plir_core.specs.ContextView.{ContextView, parent_of}
 use Rattle.plir_builtin.specs.declared.symbol_table_err.SymbolTableErr.{SymbolTableErr}
 use Rattle.plir_builtin.specs.Symbols.{body}
-use Rattle.plir_builtin.specs.Refusals.{Refusal, redefined, elsewhere, told, told_or, IsSymbolNamed, IsNotOthers, IsInsertErr, IsInsertGrowth, InsertRefused, IsPlaceable}
+use Rattle.plir_builtin.specs.Refusals.{Refusal, redefined, elsewhere, reported, reported_or, IsSymbolNamed, IsNotOthers, IsInsertErr, IsInsertGrowth, IsInsertRefusal, IsPlaceable}
 use Rattle.plir_builtin.specs.Plan.{IsPlace, IsPlanned}
 
--- one refusal is told, if memory isn't refused in its place
-told_alone : (M : Type 0) (P : Refusal → Type 0) (r : Refusal) (o : Option Refusal) → IfSome o (λ q. q ≡ r) → M → P r → told_or M P o
+-- one refusal is reported, if memory isn't refused in its place
+told_alone : (M : Type 0) (P : Refusal → Type 0) (r : Refusal) (o : Option Refusal) → IfSome o (λ q. q ≡ r) → M → P r → reported_or M P o
 told_alone M P r None h m p = m
 told_alone M P r (Some q) h m p = subst P (sym h) p
 
 module _ {K A T : Type 0} (w own : K → Bool) (s : ContextView K A T) (find : List ℕ → Option (Ptr OperationKind)) (t o : Ptr OperationKind) (p : Option OpInsertionPoint) (x : List ℕ) (named : IsSymbolNamed own s o x) where
-  pub insert-redefines : ((q : Ptr OperationKind) × (find x ≡ Some q) × (q ≡ o → ⊥)) → (e : SymbolTableErr) → IfSome (told e) (λ r. r ≡ redefined x) → IsInsertErr own s find t o p e
+  pub insert-redefines : ((q : Ptr OperationKind) × (find x ≡ Some q) × (q ≡ o → ⊥)) → (e : SymbolTableErr) → IfSome (reported e) (λ r. r ≡ redefined x) → IsInsertErr own s find t o p e
   insert-redefines other e h =
-      told_alone (IsInsertGrowth own s find t o p) (InsertRefused own s find t o p) (redefined x) (told e) h
+      told_alone (IsInsertGrowth own s find t o p) (IsInsertRefusal own s find t o p) (redefined x) (reported e) h
       (x, named, inl (named, other)) (named, other)
 
-  pub insert-elsewhere : IsNotOthers own s find o x → IsSome (parent_of s (Operation o)) → (parent_of s (Operation o) ≡ body s t → ⊥) → (e : SymbolTableErr) → IfSome (told e) (λ r. r ≡ elsewhere x) → IsInsertErr own s find t o p e
+  pub insert-elsewhere : IsNotOthers own s find o x → IsSome (parent_of s (Operation o)) → (parent_of s (Operation o) ≡ body s t → ⊥) → (e : SymbolTableErr) → IfSome (reported e) (λ r. r ≡ elsewhere x) → IsInsertErr own s find t o p e
   insert-elsewhere free linked out e h =
-      told_alone (IsInsertGrowth own s find t o p) (InsertRefused own s find t o p) (elsewhere x) (told e) h
+      told_alone (IsInsertGrowth own s find t o p) (IsInsertRefusal own s find t o p) (elsewhere x) (reported e) h
       (x, named, inr (inl (named, free, linked, out))) (named, free, linked, out)
 
   -- nothing else refuses it

@@ -2,6 +2,7 @@ pub mod MapViews
 pub mod SymbolLists
 pub mod Bodies
 pub mod SoleBlocks
+pub mod Soles
 pub mod Frames
 pub mod Edits
 pub mod Puts
@@ -18,10 +19,11 @@ pub mod Brought
 pub mod GivenOut
 pub mod NewNodes
 pub mod Seeking
-pub mod HandedCalls
+pub mod OperationCalls
 pub mod PassedOn
-pub mod Handing
+pub mod TableWalking
 pub mod UsesWalked
 pub mod UseChecks
 pub mod Single
 pub mod ConstantRefusals
+pub mod CountLoop

@@ -6,18 +6,12 @@ use Rattle.plir_core.specs.declared.ptr.Ptr.{Ptr}
 use Rattle.plir_core.specs.declared.ptr.Operation.{Operation as OperationKind}
 use Rattle.plir_core.specs.declared.ptr.IRNode.{IRNode}
 use Rattle.plir_core.specs.declared.ptr.IRNode.TheVariants.{Operation}
-use Rattle.plir_store.specs.Members.{head}
 use Rattle.plir_core.specs.ContextView.{ContextView, children}
 use Rattle.plir_iface.specs.Counts.{HasNRegions}
-use Rattle.plir_iface.specs.Regions.{HasOneBlock, HasSingleBlocks, body_of}
+use Rattle.plir_iface.specs.Regions.{HasOneBlock, HasSingleBlocks}
 use Rattle.plir_builtin.specs.Symbols.{only, body}
 
 -- lists of one element
-only-head : {X : Type 0} (xs : List X) (x : X) → length xs ≡ 1 → head xs ≡ Some x → only xs ≡ Some x
-only-head [] x n e = absurd (none-some x e)
-only-head (y ∷ []) x n e = e
-only-head (y ∷ z ∷ xs) x n e = absurd (omega (arith, n))
-
 only-length : {X : Type 0} (xs : List X) → IsSome (only xs) → length xs ≡ 1
 only-length [] h = absurd (true≢false (sym h))
 only-length (x ∷ []) h = refl
@@ -30,16 +24,7 @@ one-of (y ∷ []) x n e = (λ i. same_Some y x e i ∷ [])
 one-of (y ∷ z ∷ ys) x n e = absurd (omega (arith, n))
 
 module _ {K A T : Type 0} (s : ContextView K A T) (t : Ptr OperationKind) where
-  -- the first block of the first region is the body
-  pub sole-body : HasNRegions 1 s t → HasSingleBlocks s t → (b : IRNode) → body_of s t 0 ≡ Some b → body s t ≡ Some b
-  sole-body n a b e = at (children s (Operation t)) n a e
-    where
-      at : (rs : List IRNode) → length rs ≡ 1 → All (HasOneBlock s) rs → option_and_then (λ r. head (children s r)) (slice_get rs 0) ≡ Some b → option_and_then (λ r. only (children s r)) (only rs) ≡ Some b
-      at [] n a e = absurd (none-some b e)
-      at (r ∷ []) n a e = only-head (children s r) b (a 0 r (omega arith)) e
-      at (r ∷ q ∷ rs) n a e = absurd (omega (arith, n))
-
-  -- and where there is a body, there is one region with one block
+  -- where there is a body, there is one region with one block
   body-sole : IsSome (body s t) → HasNRegions 1 s t × HasSingleBlocks s t
   body-sole h = at (children s (Operation t)) h
     where
@@ -52,10 +37,7 @@ module _ {K A T : Type 0} (s : ContextView K A T) (t : Ptr OperationKind) where
       at (r ∷ []) h = (refl, all r (only-length (children s r) h))
       at (r ∷ q ∷ rs) h = absurd (true≢false (sym h))
 
-  pub body-one : IsSome (body s t) → HasNRegions 1 s t
-  body-one h = (body-sole h).0
-
-  pub body-single : IsSome (body s t) → HasSingleBlocks s t
+  body-single : IsSome (body s t) → HasSingleBlocks s t
   body-single h = (body-sole h).1
 
   pub sole-some : HasNRegions 1 s t → HasSingleBlocks s t → IsSome (body s t)

@@ -1,4 +1,4 @@
--- What the walk of a table says of the uses of the operations that it hands over, where each call checks one.
+-- What the walk of a table says of the uses of the operations that it calls at, where each call checks one.
 use Rattle.std.proofs.Common.{◌≡◌, Bool, true, List, [], ◌∷◌, inl, inr, refl, sym, ap, subst, ◌∙◌}
 use Rattle.std.specs.declared.ops.ControlFlow.{ControlFlow}
 use Rattle.std.specs.declared.ops.ControlFlow.TheVariants.{Continue, Break}
@@ -17,9 +17,9 @@ use Rattle.plir_walk.specs.Laws.{BeforeOrders, IsTotalOrder}
 use Rattle.plir_walk.specs.Tree.{IsProperlyUnder, NodeBefore}
 use Rattle.plir_walk.specs.Calls.{Call, Chain, nodes_of}
 use Rattle.plir_walk.specs.Walked.{IsCallUnder}
-use Rattle.plir_builtin.specs.Handed.{OpRelation, AtOps, IsToHand, HandedOver, HandsUpToBreak}
-use Rattle.plir_builtin.specs.SymbolUses.{IsHanded}
-use Rattle.plir_builtin.proofs.HandedCalls.{call-of, last-breaks, node-called, none-breaks, one_op}
+use Rattle.plir_builtin.specs.TableWalks.{OpRelation, AtOps, IsDueInTable, IsTableWalked, CallsTableUpToBreak}
+use Rattle.plir_builtin.specs.SymbolUses.{IsInTable}
+use Rattle.plir_builtin.proofs.OperationCalls.{call-of, last-breaks, node-called, none-breaks, one_op}
 
 same_region : (r q : Ptr RegionKind) → Region q ∷ [] ≡ Region r ∷ [] → q ≡ r
 same_region r q e = cc
@@ -63,9 +63,9 @@ module _ {C S B : Type 0} (look : C → Shape) (post : OpRelation C S B) (c0 : C
       → a ≡ Continue Advance → user p ≡ true → holds p)
       (breaks : (s : S) (p : Ptr OperationKind) (a : ControlFlow B WalkContinue) (s' : S) → post c0 s p a c0 s' → Inv s
       → (b : B) → a ≡ Break b → (user p ≡ true) × Refuses p b) where
-    -- what is handed over at the end is to be handed over by the calls
-    to-hand : (a : ControlFlow B WalkContinue) (h : HandedOver look is_table post c0 s t a s') (p : Ptr OperationKind)
-        → IsHanded (look c0).children (is_table c0) t p → IsToHand (is_table c0) (look c0).children (Region h.region) h.calls p
+    -- what is called at the end is due by the calls
+    to-hand : (a : ControlFlow B WalkContinue) (h : IsTableWalked look is_table post c0 s t a s') (p : Ptr OperationKind)
+        → IsInTable (look c0).children (is_table c0) t p → IsDueInTable (is_table c0) (look c0).children (Region h.region) h.calls p
     to-hand a h p o =
         let same : Region o.region ≡ Region h.region =
         ap Region (sym (same_region o.region h.region (sym h.one_region ∙ o.one_region))) in
@@ -78,7 +78,7 @@ module _ {C S B : Type 0} (look : C → Shape) (post : OpRelation C S B) (c0 : C
         }
 
     -- the uses of an operation hold whose call did not break
-    past : (a : ControlFlow B WalkContinue) (h : HandedOver look is_table post c0 s t a s') (p : Ptr OperationKind)
+    past : (a : ControlFlow B WalkContinue) (h : IsTableWalked look is_table post c0 s t a s') (p : Ptr OperationKind)
         (x : Call C S B) → Has h.calls x → x.node ≡ Operation p
         → ((b : B) → x.answer ≡ Break b → ⊥) → user p ≡ true → holds p
     past a h p x has node quiet u =
@@ -87,29 +87,29 @@ module _ {C S B : Type 0} (look : C → Shape) (post : OpRelation C S B) (c0 : C
         let met : post c0 x.state p x.answer c0 x.left = subst (λ q. post c0 x.state q x.answer c0 x.left) here m.met in
         advances x.state p x.answer x.left met m.inv (plain x.answer (never x.state p x.answer x.left met) quiet) u
 
-    holds-all : (k : WalkContinue) → HandedOver look is_table post c0 s t (Continue k) s' → (p : Ptr OperationKind)
-        → IsHanded (look c0).children (is_table c0) t p → user p ≡ true → holds p
+    holds-all : (k : WalkContinue) → IsTableWalked look is_table post c0 s t (Continue k) s' → (p : Ptr OperationKind)
+        → IsInTable (look c0).children (is_table c0) t p → user p ≡ true → holds p
     holds-all k h p o u =
         let x = call-of h.calls (Operation p) ((h.handing.answers.2 p).1 (to-hand (Continue k) h p o)) in
         past (Continue k) h p x.0 x.1 x.2 (none-breaks h.calls h.handing.answers.1 x.0 x.1) u
 
-    -- the first operation that is handed over whose uses are refused, and how
+    -- the first operation that is called whose uses are refused, and how
     pub record IsFirst (b : B) : Type 0 where
       pub op : Ptr OperationKind
-      pub handed : IsHanded (look c0).children (is_table c0) t op
+      pub handed : IsInTable (look c0).children (is_table c0) t op
       pub is_user : user op ≡ true
       pub refused : Refuses op b
-      pub before : (q : Ptr OperationKind) → IsHanded (look c0).children (is_table c0) t q → user q ≡ true
+      pub before : (q : Ptr OperationKind) → IsInTable (look c0).children (is_table c0) t q → user q ≡ true
           → NodeBefore pre_forward (look c0).children (Region handed.region) (Operation q) (Operation op) → holds q
 
     -- before the operation of the last call, all uses hold
-    holds-before : (b : B) (h : HandedOver look is_table post c0 s t (Break b) s')
+    holds-before : (b : B) (h : IsTableWalked look is_table post c0 s t (Break b) s')
         → IsTotalOrder pre_forward (look c0).children (Region h.region) → (p : Ptr OperationKind)
         → h.handing.answers.end.node ≡ Operation p
-        → (q : Ptr OperationKind) → IsHanded (look c0).children (is_table c0) t q → user q ≡ true
+        → (q : Ptr OperationKind) → IsInTable (look c0).children (is_table c0) t q → user q ≡ true
         → NodeBefore pre_forward (look c0).children (Region h.region) (Operation q) (Operation p) → holds q
     holds-before b h order p at q o u lt =
-        let k : HandsUpToBreak (is_table c0) (look c0).children (Region h.region) h.calls b = h.handing.answers in
+        let k : CallsTableUpToBreak (is_table c0) (look c0).children (Region h.region) h.calls b = h.handing.answers in
         let Less : IRNode → IRNode → Type 0 = NodeBefore pre_forward (look c0).children (Region h.region) in
         let within : Less k.end.node (Operation q) → ⊥ =
         λ e. order.irreflexive (Operation q)
@@ -121,9 +121,9 @@ module _ {C S B : Type 0} (look : C → Shape) (post : OpRelation C S B) (c0 : C
         order.irreflexive (Operation p) (subst (λ n. Less n (Operation p)) here lt) in
         past (Break b) h q x.0 x.1 x.2 quiet u
 
-    fails-one : (b : B) → BeforeOrders → HandedOver look is_table post c0 s t (Break b) s' → IsFirst b
+    fails-one : (b : B) → BeforeOrders → IsTableWalked look is_table post c0 s t (Break b) s' → IsFirst b
     fails-one b orders h =
-        let k : HandsUpToBreak (is_table c0) (look c0).children (Region h.region) h.calls b = h.handing.answers in
+        let k : CallsTableUpToBreak (is_table c0) (look c0).children (Region h.region) h.calls b = h.handing.answers in
         let has : Has h.calls k.end = subst (λ z. Has z k.end) (sym k.are) (Has-mid k.front [] k.end) in
         let m = each-made (Region h.region) h.calls c0 s c0 s' refl i h.chain k.end has in
         let to = ((k.exactly m.op).0
@@ -138,12 +138,12 @@ module _ {C S B : Type 0} (look : C → Shape) (post : OpRelation C S B) (c0 : C
           before = holds-before b h order m.op m.node;
         }
 
-    -- where the walk broke nowhere, all uses hold; where it broke, the first is told that does not
+    -- where the walk broke nowhere, all uses hold; where it broke, the first is reported that does not
     pub all-hold : (a : ControlFlow B WalkContinue) (k : WalkContinue) → a ≡ Continue k
-        → HandedOver look is_table post c0 s t a s'
-        → (p : Ptr OperationKind) → IsHanded (look c0).children (is_table c0) t p → user p ≡ true → holds p
-    all-hold a k e h = holds-all k (subst (λ z. HandedOver look is_table post c0 s t z s') e h)
+        → IsTableWalked look is_table post c0 s t a s'
+        → (p : Ptr OperationKind) → IsInTable (look c0).children (is_table c0) t p → user p ≡ true → holds p
+    all-hold a k e h = holds-all k (subst (λ z. IsTableWalked look is_table post c0 s t z s') e h)
 
     pub first-fails : (a : ControlFlow B WalkContinue) (b : B) → a ≡ Break b → BeforeOrders
-        → HandedOver look is_table post c0 s t a s' → IsFirst b
-    first-fails a b e orders h = fails-one b orders (subst (λ z. HandedOver look is_table post c0 s t z s') e h)
+        → IsTableWalked look is_table post c0 s t a s' → IsFirst b
+    first-fails a b e orders h = fails-one b orders (subst (λ z. IsTableWalked look is_table post c0 s t z s') e h)

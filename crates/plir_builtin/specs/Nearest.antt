@@ -11,7 +11,7 @@ use Rattle.plir_builtin.specs.declared.symbol_table_err.SymbolTableErr.{SymbolTa
 use Rattle.plir_builtin.specs.Table.{Tables}
 use Rattle.plir_builtin.specs.Symbols.{IsGood, is_table_kind, scan}
 use Rattle.plir_builtin.specs.Agree.{IsBrought}
-use Rattle.plir_builtin.specs.Refusals.{Tells, TableRefused}
+use Rattle.plir_builtin.specs.Refusals.{Reports, IsTableRefusal}
 
 -- the node, if it is an operation
 abbrev pub as_op : Option IRNode → Option (Ptr OperationKind)
@@ -61,7 +61,7 @@ module _ {K A T : Type 0} (own_symbol own_table : K → Bool) (s : ContextView K
   IsAnsweredNearest c c' n x r = (t : Option (Ptr OperationKind)) × IsNearest own_table s n t × IsAnswerOf c c' x t r
 
   -- none is cached for the nearest table, which is refused
-  abbrev pub NearestRefused : Tables → Ptr OperationKind → SymbolTableErr → Type 0
-  NearestRefused c n e =
+  abbrev pub IsNearestRefusal : Tables → Ptr OperationKind → SymbolTableErr → Type 0
+  IsNearestRefusal c n e =
       (t : Ptr OperationKind) × IsNearest own_table s n (Some t) × (map.get c t ≡ None)
-      × Tells (TableRefused own_symbol own_table s t) e
+      × Reports (IsTableRefusal own_symbol own_table s t) e

@@ -15,20 +15,20 @@ pub record IsRead (es : Symbols) (t : Table) : Type 0 where
   pub names : (x : List ℕ) → map.get t.names x ≡ find_named x es
 
 -- the first symbol of the list that is refused; one that repeats a name is o
-abbrev pub FirstRefused : Ptr OperationKind → Symbols → Refusal → Type 0
-FirstRefused o es unnamed = IsUnnamedFirst es
-FirstRefused o es (redefined x) = IsRepeatedAt x o es
-FirstRefused o es no_table = ⊥
-FirstRefused o es (regions m n) = ⊥
-FirstRefused o es blocks = ⊥
-FirstRefused o es no_symbol = ⊥
-FirstRefused o es (elsewhere x) = ⊥
-FirstRefused o es outside = ⊥
-FirstRefused o es not_there = ⊥
+abbrev pub IsFirstRefusalAt : Ptr OperationKind → Symbols → Refusal → Type 0
+IsFirstRefusalAt o es unnamed = IsUnnamedFirst es
+IsFirstRefusalAt o es (redefined x) = IsRepeatedAt x o es
+IsFirstRefusalAt o es no_table = ⊥
+IsFirstRefusalAt o es (regions m n) = ⊥
+IsFirstRefusalAt o es blocks = ⊥
+IsFirstRefusalAt o es no_symbol = ⊥
+IsFirstRefusalAt o es (elsewhere x) = ⊥
+IsFirstRefusalAt o es outside = ⊥
+IsFirstRefusalAt o es not_there = ⊥
 
 -- from t to u the symbols fs were read behind those that were read; the first that is refused is among them
 abbrev pub ReadsOn : Table → Symbols → Table → Type 0
 ReadsOn t fs u = (es : Symbols) → IsRead es t → IsRead (es ++ fs) u
 
 abbrev pub RefusesOn : Table → Ptr OperationKind → Symbols → Refusal → Type 0
-RefusesOn t o fs r = (es : Symbols) → IsRead es t → FirstRefused o (es ++ fs) r
+RefusesOn t o fs r = (es : Symbols) → IsRead es t → IsFirstRefusalAt o (es ++ fs) r

@@ -17,8 +17,8 @@ use Rattle.plir_builtin.specs.Table.{Tables, Table as CachedTable}
 use Rattle.plir_builtin.specs.Symbols.{IsGood, body, scan}
 use Rattle.plir_builtin.specs.Agree.{AllAgree, IsBrought}
 use Rattle.plir_builtin.specs.Insertion.{inserted}
-use Rattle.plir_builtin.specs.Refusals.{Refusal, told, IsSymbolNamed, IsNotOthers, IsPlaceable, IsInsertGrowth}
-use Rattle.plir_builtin.specs.Refusals.{InsertRefused, RemoveRefused, TableRefused}
+use Rattle.plir_builtin.specs.Refusals.{Refusal, reported, IsSymbolNamed, IsNotOthers, IsPlaceable, IsInsertGrowth}
+use Rattle.plir_builtin.specs.Refusals.{IsInsertRefusal, IsRemoveRefusal, IsTableRefusal}
 
 -- the operation of the table that is edited
 abbrev pub table_of : SymbolEdit → Ptr OperationKind
@@ -47,11 +47,11 @@ module _ {K A T : Type 0} (is_terminator own_symbol own_table : K → Bool) (s :
   IsMadeEdit (Erase t o) s' = IsMember t o × IsUnusedOutside s (Operation o) × (s' ≡ without_tree s (Operation o))
 
   -- the call on the table refuses
-  abbrev pub IsCallRefused : SymbolEdit → Refusal → Type 0
-  IsCallRefused (Insert t o p) r = (IsAncestor s (Operation o) (Operation t) → ⊥) ×
-      InsertRefused own_symbol s (scan own_symbol s t) t o p r
-  IsCallRefused (Remove t o) r = RemoveRefused own_symbol s t o r
-  IsCallRefused (Erase t o) r = RemoveRefused own_symbol s t o r
+  abbrev pub IsCallRefusal : SymbolEdit → Refusal → Type 0
+  IsCallRefusal (Insert t o p) r = (IsAncestor s (Operation o) (Operation t) → ⊥) ×
+      IsInsertRefusal own_symbol s (scan own_symbol s t) t o p r
+  IsCallRefusal (Remove t o) r = IsRemoveRefusal own_symbol s t o r
+  IsCallRefusal (Erase t o) r = IsRemoveRefusal own_symbol s t o r
 
   -- the edit would put an operation below itself; it would erase what is still used
   abbrev pub IsNesting : SymbolEdit → Type 0
@@ -72,22 +72,22 @@ module _ {K A T : Type 0} (is_terminator own_symbol own_table : K → Bool) (s :
   IsCallGrowth (Erase t o) = ⊥
 
   module _ (c : Tables) where
-    -- what a table tells that refuses an edit: that it is not good, or what the call refuses; it is refused memory
+    -- what a table reports that refuses an edit: that it is not good, or what the call refuses; it is refused memory
     -- where no table was cached, or where the call needs some
-    abbrev pub IsTableToldFor : SymbolEdit → Option Refusal → Type 0
-    IsTableToldFor e (Some r) =
-        TableRefused own_symbol own_table s (table_of e) r
-        ⊎ (IsGood own_symbol own_table s (table_of e) × IsCallRefused e r)
-    IsTableToldFor e None =
+    abbrev pub IsTableReportedFor : SymbolEdit → Option Refusal → Type 0
+    IsTableReportedFor e (Some r) =
+        IsTableRefusal own_symbol own_table s (table_of e) r
+        ⊎ (IsGood own_symbol own_table s (table_of e) × IsCallRefusal e r)
+    IsTableReportedFor e None =
         (map.get c (table_of e) ≡ None) ⊎ (IsGood own_symbol own_table s (table_of e) × IsCallGrowth e)
 
     -- Why an edit is refused: something that it names is dead; else the table is not good; else it would nest; else the
     -- call on the table refuses; else the operation is still used.
-    abbrev pub IsRefusedEdit : SymbolEdit → SymbolEditErr → Type 0
-    IsRefusedEdit e DeadPointer = IsEditLive e → ⊥
-    IsRefusedEdit e WouldNest = IsEditLive e × IsGood own_symbol own_table s (table_of e) × IsNesting e
-    IsRefusedEdit e StillUsed = IsEditLive e × IsGood own_symbol own_table s (table_of e) × IsStillUsed e
-    IsRefusedEdit e (Table x) = IsEditLive e × IsTableToldFor e (told x)
+    abbrev pub IsEditRefusal : SymbolEdit → SymbolEditErr → Type 0
+    IsEditRefusal e DeadPointer = IsEditLive e → ⊥
+    IsEditRefusal e WouldNest = IsEditLive e × IsGood own_symbol own_table s (table_of e) × IsNesting e
+    IsEditRefusal e StillUsed = IsEditLive e × IsGood own_symbol own_table s (table_of e) × IsStillUsed e
+    IsEditRefusal e (Table x) = IsEditLive e × IsTableReportedFor e (reported x)
 
     -- Where an edit is refused, each table that was cached stays as it was; for the edited one a new table may be
     -- cached.
@@ -100,7 +100,7 @@ module _ {K A T : Type 0} (is_terminator own_symbol own_table : K → Bool) (s :
     IsEdited e (Ok u) s' c' =
         IsEditLive e × IsGood own_symbol own_table s (table_of e) × IsMadeEdit e s'
         × ((t : CachedTable) × (c' ≡ map.insert c (table_of e) t))
-    IsEdited e (Err x) s' c' = (s' ≡ s) × IsRefusedEdit e x × IsAtMostBrought e c'
+    IsEdited e (Err x) s' c' = (s' ≡ s) × IsEditRefusal e x × IsAtMostBrought e c'
 
     -- the same, and all tables agree afterwards
     abbrev pub IsStep : SymbolEdit → Result (Unit {0}) SymbolEditErr → ContextView K A T → Tables → Type 0

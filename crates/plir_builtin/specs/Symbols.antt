@@ -14,7 +14,7 @@ use Rattle.plir_core.specs.Contents.{OpView}
 use Rattle.plir_core.specs.Changes.{with_op_edit}
 use Rattle.plir_core.specs.ContextView.{ContextView, children, op_at, kind_in, attributes_in}
 
--- whether operations of a kind are symbols, and whether they are symbol tables; `own` tells of the user's own kinds
+-- whether operations of a kind are symbols, and whether they are symbol tables; `own` answers for the user's own kinds
 abbrev pub is_symbol_kind : {K : Type 0} → (own : K → Bool) → Option (OpKind K) → Bool
 is_symbol_kind own (Some Module) = true
 is_symbol_kind own (Some Func) = true

@@ -45,6 +45,9 @@ impl SymbolTableCollection {
             IsSeenTo D.is_terminator D.is_symbol D.is_symbol_table ctx.now self.old op result self.new }
         ensures given { AreGivenOut ctx.now self.old → AreGivenOut ctx.now self.new }
     {
+        if self.is_ready(ctx, op) {
+            return Ok(());
+        }
         self.bring(ctx, op)?;
         if !self.is_ready(ctx, op) {
             return Err(SymbolTableErr::DoesNotImplementSymbolTableInterface);
@@ -165,7 +168,7 @@ impl SymbolTableCollection {
         if let Err(refused) = self.see_to(ctx, table) {
             return Err(SymbolEditErr::Table(refused));
         }
-        if IRNode::Operation(op).is_ancestor(IRNode::Operation(table), ctx) {
+        if IRNode::Operation(op).is_ancestor(ctx, IRNode::Operation(table)) {
             return Err(SymbolEditErr::WouldNest);
         }
         match self.insert_in(ctx, table, op, point) {
@@ -214,10 +217,10 @@ impl SymbolTableCollection {
         if let Err(refused) = self.see_to(ctx, table) {
             return Err(SymbolEditErr::Table(refused));
         }
-        if let Err(refused) = is_member(ctx, table, op) {
-            return Err(SymbolEditErr::Table(refused));
-        }
         if !IRNode::Operation(op).is_unused_outside(ctx) {
+            if let Err(refused) = is_member(ctx, table, op) {
+                return Err(SymbolEditErr::Table(refused));
+            }
             return Err(SymbolEditErr::StillUsed);
         }
         match self.erase_in(ctx, table, op) {

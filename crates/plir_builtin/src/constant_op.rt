@@ -15,15 +15,15 @@ ghost use Rattle.plir_core.specs.WellFormed.{IsWellFormed};
 ghost use Rattle.plir_core.specs.declared.ptr.IRNode.{IRNode as AnyNode};
 ghost use Rattle.plir_builtin.specs.BuiltinOps.{HasConstantValue, IsNewConstant, value_of};
 ghost use Rattle.plir_builtin.specs.OpRules.{HasConstantRules};
-ghost use Rattle.plir_builtin.specs.OpFaults.{IsConstantOpFault};
-ghost use Rattle.plir_builtin.specs.ConstantFaults.{IsConstantFault, TellsMismatch, TellsUntyped};
+ghost use Rattle.plir_builtin.specs.OpRefusals.{IsConstantOpRefusal};
+ghost use Rattle.plir_builtin.specs.ConstantFaults.{IsConstantFault, ReportsMismatch, ReportsUntyped};
 ghost use Rattle.plir_iface.specs.Counts.{HasNResults};
 ghost use Rattle.plir_iface.specs.Verdict.{IsRefusalMemoryAside};
 ghost use Rattle.plir_data.specs.Types.{IsLive as IsTypeLive};
 
 use crate::ATTR_KEY_CONSTANT_VALUE;
 use crate::op_making::{one_type, valued};
-use crate::op_verify_err::{OpVerifyErr, told};
+use crate::op_verify_err::{OpVerifyErr, reported};
 use plir_core::{Context, NodeErr, Operation, Ptr};
 use plir_data::{AttrObj, OpKind, OpSet, TypeHandle, VerifyErr, type_text};
 use plir_iface::{NOpdsInterface, OneResultInterface, Op, refusal};
@@ -88,8 +88,8 @@ impl ConstantOp {
         Ok(ConstantOp { op })
     }
 
-    // The operation, without the op set to be named.
-    pub(crate) fn operation(self) -> Ptr<Operation>
+    /// The operation, without the op set to be named.
+    pub fn operation(self) -> Ptr<Operation>
         ensures { result ≡ self.op }
     {
         self.op
@@ -122,7 +122,7 @@ impl ConstantOp {
     }
 
     /// Accepts exactly where a value stands under [`crate::ATTR_KEY_CONSTANT_VALUE`], it has a type, and that is the
-    /// type of the one result. Else it tells what is wrong first, in this order.
+    /// type of the one result. Else it reports what is wrong first, in this order.
     pub fn verify<D: OpSet>(
         &self,
         alloc: Global,
@@ -158,7 +158,7 @@ fn untyped<D: OpSet>(
     value: &AttrObj<D>,
 ) -> VerifyErr<ConstantOpVerifyErr>
     requires { IsLive ctx.now (AnyNode.Operation op) }
-    ensures told { IsRefusalMemoryAside ctx.now op (TellsUntyped D.attr_id (attr_view value.now)) result }
+    ensures reported { IsRefusalMemoryAside ctx.now op (ReportsUntyped D.attr_id (attr_view value.now)) result }
     ensures whole { IsWellFormed D.attr_handles ctx.now }
 {
     ctx.stands();
@@ -179,7 +179,7 @@ fn mismatched<D: OpSet>(
     requires live { IsLive ctx.now (AnyNode.Operation op) }
     requires given_live { IsTypeLive ctx.now.types given }
     requires wanted_live { IsTypeLive ctx.now.types wanted }
-    ensures told { IsRefusalMemoryAside ctx.now op (TellsMismatch D.type_id D.type_body_text ctx.now.types given
+    ensures reported { IsRefusalMemoryAside ctx.now op (ReportsMismatch D.type_id D.type_body_text ctx.now.types given
         wanted) result }
     ensures whole { IsWellFormed D.attr_handles ctx.now }
 {
@@ -211,7 +211,7 @@ impl<D: OpSet> OneResultInterface<D> for ConstantOp {}
 
 impl ConstantOp {
     /// Accepts exactly where the rules of all interfaces that a constant declares hold, and its own, memory aside: no
-    /// operand, one result, and a value of the result's type. Else tells the refusal of the first, in this order.
+    /// operand, one result, and a value of the result's type. Else reports the refusal of the first, in this order.
     pub fn verify_interfaces<D: OpSet>(
         &self,
         alloc: Global,
@@ -219,13 +219,13 @@ impl ConstantOp {
     ) -> Result<(), VerifyErr<OpVerifyErr<D::Err>>>
         requires { IsLive ctx.now (AnyNode.Operation self.now.op) }
         ensures ok { OnOk result (HasConstantRules D.attr_type ctx.now self.now.op) }
-        ensures refused { IfErr result (IsConstantOpFault ctx.now self.now.op D.attr_id D.attr_type D.type_id
+        ensures refused { IfErr result (IsConstantOpRefusal ctx.now self.now.op D.attr_id D.attr_type D.type_id
             D.type_body_text) }
         ensures whole { IsWellFormed D.attr_handles ctx.now }
     {
         ctx.stands();
-        told(NOpdsInterface::<D, 0>::verify(self, ctx))?;
-        told(OneResultInterface::<D>::verify(self, ctx))?;
-        told(self.verify(alloc, ctx))
+        reported(NOpdsInterface::<D, 0>::verify(self, ctx))?;
+        reported(OneResultInterface::<D>::verify(self, ctx))?;
+        reported(self.verify(alloc, ctx))
     }
 }

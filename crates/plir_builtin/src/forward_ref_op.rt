@@ -13,7 +13,7 @@ ghost use Rattle.plir_core.specs.ContextView.{IsLive, given_out, kind_of, limit,
 ghost use Rattle.plir_core.specs.WellFormed.{IsWellFormed};
 ghost use Rattle.plir_core.specs.declared.ptr.IRNode.{IRNode as AnyNode};
 ghost use Rattle.plir_builtin.specs.BuiltinOps.{IsNewForwardRef};
-ghost use Rattle.plir_builtin.specs.OpFaults.{IsForwardRefFault};
+ghost use Rattle.plir_builtin.specs.OpRefusals.{IsForwardRefRefusal};
 ghost use Rattle.plir_builtin.specs.ResultNames.{given_first, result_name};
 ghost use Rattle.plir_walk.specs.GivenNames.{name_at, names_at};
 ghost use Rattle.plir_core.specs.declared.value.DefiningEntity.{DefiningEntity};
@@ -22,7 +22,7 @@ ghost use Rattle.std.specs.Fmt.{decimal};
 ghost use Rattle.plir_iface.specs.Verdict.{IsRefusalMemoryAside};
 
 use crate::op_making::one_type;
-use crate::op_verify_err::{OpVerifyErr, told};
+use crate::op_verify_err::{OpVerifyErr, reported};
 use plir_core::{Context, NodeErr, Operation, Ptr};
 use plir_data::put::put;
 use plir_data::{Memory, OpKind, OpSet, UnitType, VerifyErr};
@@ -71,6 +71,13 @@ impl ForwardRefOp {
         Ok(ForwardRefOp { op })
     }
 
+    /// The operation, without the op set to be named.
+    pub fn operation(self) -> Ptr<Operation>
+        ensures { result ≡ self.op }
+    {
+        self.op
+    }
+
     /// The operation as a forward reference, if it is one.
     pub fn from_operation<D: OpSet>(ctx: &Context<D>, op: Ptr<Operation>) -> Option<ForwardRefOp>
         requires { IsLive ctx.now (AnyNode.Operation op) }
@@ -97,7 +104,7 @@ impl<D: OpSet> NOpdsInterface<D, 0> for ForwardRefOp {}
 impl<D: OpSet> OneResultInterface<D> for ForwardRefOp {}
 
 impl ForwardRefOp {
-    /// Refuses always: it tells the name of the result.
+    /// Refuses always: it reports the name of the result.
     pub fn verify<D: OpSet>(
         &self,
         alloc: Global,
@@ -116,8 +123,8 @@ impl ForwardRefOp {
         }
     }
 
-    /// Refuses always: tells the refusal of the first interface whose rule does not hold, of no operand and one result
-    /// in this order, else the name of the result.
+    /// Refuses always: reports the refusal of the first interface whose rule does not hold, of no operand and one
+    /// result in this order, else the name of the result.
     pub fn verify_interfaces<D: OpSet>(
         &self,
         alloc: Global,
@@ -125,13 +132,13 @@ impl ForwardRefOp {
     ) -> Result<(), VerifyErr<OpVerifyErr<D::Err>>>
         requires { IsLive ctx.now (AnyNode.Operation self.now.op) }
         ensures never { IsErr result }
-        ensures refused { IfErr result (IsForwardRefFault ctx.now self.now.op) }
+        ensures refused { IfErr result (IsForwardRefRefusal ctx.now self.now.op) }
         ensures whole { IsWellFormed D.attr_handles ctx.now }
     {
         ctx.stands();
-        told(NOpdsInterface::<D, 0>::verify(self, ctx))?;
-        told(OneResultInterface::<D>::verify(self, ctx))?;
-        told(self.verify(alloc, ctx))
+        reported(NOpdsInterface::<D, 0>::verify(self, ctx))?;
+        reported(OneResultInterface::<D>::verify(self, ctx))?;
+        reported(self.verify(alloc, ctx))
     }
 }
 

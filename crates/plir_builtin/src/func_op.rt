@@ -14,13 +14,13 @@ ghost use Rattle.plir_builtin.specs.BuiltinOps.{HasArguments, HasFuncType, IsFun
 ghost use Rattle.plir_builtin.specs.BuiltinOps.{func_type_of};
 ghost use Rattle.plir_builtin.specs.BuiltinOps.{IsFullForOneBlock};
 ghost use Rattle.plir_builtin.specs.OpRules.{HasFuncRules};
-ghost use Rattle.plir_builtin.specs.OpFaults.{IsFuncFault};
+ghost use Rattle.plir_builtin.specs.OpRefusals.{IsFuncRefusal};
 ghost use Rattle.plir_iface.specs.Counts.{HasNRegions};
 ghost use Rattle.plir_iface.specs.Verdict.{IsRefusal};
 
 use crate::ATTR_KEY_BUILTIN_FUNC_TYPE;
 use crate::op_making::{named_and_typed, new_with_block};
-use crate::op_verify_err::{OpVerifyErr, told};
+use crate::op_verify_err::{OpVerifyErr, reported};
 use crate::symbol_op::SymbolOpInterface;
 use plir_core::{BasicBlock, Context, NodeErr, Operation, Ptr};
 use plir_data::{
@@ -74,6 +74,13 @@ impl FuncOp {
         let attributes = named_and_typed(alloc, name, ty.into())?;
         let op = new_with_block(alloc, ctx, OpKind::Func, attributes, Some(label), arg_types)?;
         Ok(FuncOp { op })
+    }
+
+    /// The operation, without the op set to be named.
+    pub fn operation(self) -> Ptr<Operation>
+        ensures { result ≡ self.op }
+    {
+        self.op
     }
 
     /// The operation as a function, if it is one.
@@ -147,23 +154,23 @@ impl FuncOp {
     }
 
     /// Accepts exactly where the rules of all interfaces that a function declares hold, and its own: one region, a
-    /// name, no operand, no result, and a type of functions. Else tells the refusal of the first, in this order. Takes
-    /// no memory.
+    /// name, no operand, no result, and a type of functions. Else reports the refusal of the first, in this order.
+    /// Takes no memory.
     pub fn verify_interfaces<D: OpSet>(
         &self,
         ctx: &Context<D>,
     ) -> Result<(), VerifyErr<OpVerifyErr<D::Err>>>
         requires { IsLive ctx.now (AnyNode.Operation self.now.op) }
         ensures ok { IsOk result ↔ HasFuncRules ctx.now self.now.op }
-        ensures refused { IfErr result (IsFuncFault ctx.now self.now.op) }
+        ensures refused { IfErr result (IsFuncRefusal ctx.now self.now.op) }
         ensures whole { IsWellFormed D.attr_handles ctx.now }
     {
         ctx.stands();
-        told(OneRegionInterface::<D>::verify(self, ctx))?;
-        told(SymbolOpInterface::<D>::verify(self, ctx))?;
-        told(NOpdsInterface::<D, 0>::verify(self, ctx))?;
-        told(NResultsInterface::<D, 0>::verify(self, ctx))?;
-        told(self.verify(ctx))
+        reported(OneRegionInterface::<D>::verify(self, ctx))?;
+        reported(SymbolOpInterface::<D>::verify(self, ctx))?;
+        reported(NOpdsInterface::<D, 0>::verify(self, ctx))?;
+        reported(NResultsInterface::<D, 0>::verify(self, ctx))?;
+        reported(self.verify(ctx))
     }
 }
 

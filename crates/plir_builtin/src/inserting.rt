@@ -8,7 +8,7 @@ ghost use Rattle.plir_core.specs.InsertionPoint.{IsPointLive, insertion_block};
 ghost use Rattle.plir_core.specs.Terminator.{terminator_of};
 ghost use Rattle.plir_builtin.specs.Symbols.{body};
 ghost use Rattle.plir_builtin.specs.Insertion.{put_at, before_or_last, IsPutInto};
-ghost use Rattle.plir_builtin.specs.Refusals.{Tells, elsewhere, IsSymbolNamed, IsNotOthers, IsInsertErr};
+ghost use Rattle.plir_builtin.specs.Refusals.{Reports, elsewhere, IsSymbolNamed, IsNotOthers, IsInsertErr};
 ghost use Rattle.plir_builtin.specs.Plan.{IsPlace, IsPlanned};
 
 use crate::reading::redefined;
@@ -39,10 +39,10 @@ pub(crate) fn put_at<D: OpSet>(
     ctx.stands();
     match point {
         OpInsertionPoint::Unset => unreachable!(),
-        OpInsertionPoint::AtBlockStart(b) => op.insert_at_front(b, ctx),
-        OpInsertionPoint::AtBlockEnd(b) => op.insert_at_back(b, ctx),
-        OpInsertionPoint::BeforeOperation(mark) => op.insert_before(mark, ctx),
-        OpInsertionPoint::AfterOperation(mark) => op.insert_after(mark, ctx),
+        OpInsertionPoint::AtBlockStart(b) => op.insert_at_front(ctx, b),
+        OpInsertionPoint::AtBlockEnd(b) => op.insert_at_back(ctx, b),
+        OpInsertionPoint::BeforeOperation(mark) => op.insert_before(ctx, mark),
+        OpInsertionPoint::AfterOperation(mark) => op.insert_after(ctx, mark),
     }
 }
 
@@ -62,7 +62,7 @@ fn end_of<D: OpSet>(ctx: &Context<D>, block: Ptr<BasicBlock>) -> OpInsertionPoin
 
 /// The refusal of a symbol that stands in another block.
 fn elsewhere(alloc: Global, name: &Identifier) -> SymbolTableErr
-    ensures { Tells (λ r. r ≡ elsewhere name.now) result }
+    ensures { Reports (λ r. r ≡ elsewhere name.now) result }
 {
     match String::from_str(alloc, name.as_str()) {
         Ok(text) => SymbolTableErr::SymbolOpAlreadyInAnotherTable(text),

@@ -5,8 +5,8 @@ ghost use Rattle.plir_core.specs.declared.ptr.IRNode.{IRNode as AnyNode};
 ghost use Rattle.plir_core.specs.ContextView.{IsLive};
 ghost use Rattle.plir_builtin.specs.Symbols.{IsGood, scan};
 ghost use Rattle.plir_builtin.specs.Agree.{Agrees, AgreesAsLent, AllAgree, AreGivenOut, IsBrought, IsNewlyCached};
-ghost use Rattle.plir_builtin.specs.Nearest.{IsAnsweredNearest, IsFoundNearest, NearestRefused};
-ghost use Rattle.plir_builtin.specs.Refusals.{Tells, TableRefused};
+ghost use Rattle.plir_builtin.specs.Nearest.{IsAnsweredNearest, IsFoundNearest, IsNearestRefusal};
+ghost use Rattle.plir_builtin.specs.Refusals.{Reports, IsTableRefusal};
 
 use crate::collection::SymbolTableCollection;
 use crate::nearest::nearest_symbol_table;
@@ -31,7 +31,7 @@ impl SymbolTableCollection {
             IsNewlyCached D.is_symbol D.is_symbol_table ctx.now self.old op self.new) }
         ensures absent { OnErr result (map.get self.old op ≡ None) }
         ensures given { AreGivenOut ctx.now self.old → AreGivenOut ctx.now self.new }
-        ensures refused { IfErr result (Tells (TableRefused D.is_symbol D.is_symbol_table ctx.now op)) }
+        ensures refused { IfErr result (Reports (IsTableRefusal D.is_symbol D.is_symbol_table ctx.now op)) }
         ensures same { OnErr result (self.new ≡ self.old) }
     {
         ctx.stands();
@@ -60,7 +60,7 @@ impl SymbolTableCollection {
         ensures given { IfOk result (λ t. AreGivenOut ctx.now self.old →
             AreGivenOut ctx.now (map.insert self.old op t.now)) }
         ensures absent { OnErr result (map.get self.old op ≡ None) }
-        ensures refused { IfErr result (Tells (TableRefused D.is_symbol D.is_symbol_table ctx.now op)) }
+        ensures refused { IfErr result (Reports (IsTableRefusal D.is_symbol D.is_symbol_table ctx.now op)) }
     {
         if let Err(refused) = self.bring(ctx, op) {
             return Err(refused);
@@ -91,7 +91,7 @@ impl SymbolTableCollection {
         ensures recorded { IfOk result (λ r. IfSome (map.get self.new table) (λ t. r ≡ map.get t.names name.now)) }
         ensures kept { IsSome (map.get self.old table) → self.new ≡ self.old }
         ensures brought { OnOk result (IsBrought D.is_symbol D.is_symbol_table ctx.now self.old table self.new) }
-        ensures refused { IfErr result (Tells (TableRefused D.is_symbol D.is_symbol_table ctx.now table)) }
+        ensures refused { IfErr result (Reports (IsTableRefusal D.is_symbol D.is_symbol_table ctx.now table)) }
         ensures same { OnErr result ((self.new ≡ self.old) × (map.get self.old table ≡ None)) }
     {
         if let Err(refused) = self.bring(ctx, table) {
@@ -118,7 +118,7 @@ impl SymbolTableCollection {
         ensures given { AreGivenOut ctx.now self.old → AreGivenOut ctx.now self.new }
         ensures answered { IfOk result (IsAnsweredNearest D.is_symbol D.is_symbol_table ctx.now self.old self.new from
             name.now) }
-        ensures refused { IfErr result (NearestRefused D.is_symbol D.is_symbol_table ctx.now self.old from) }
+        ensures refused { IfErr result (IsNearestRefusal D.is_symbol D.is_symbol_table ctx.now self.old from) }
         ensures same { OnErr result (self.new ≡ self.old) }
     {
         match nearest_symbol_table(ctx, from) {

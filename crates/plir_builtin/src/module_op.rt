@@ -5,9 +5,9 @@
 //!    hold; and `from_operation`, which asks the kind.
 //! 3. An `impl` for each interface that it declares, and for their parents; most are empty.
 //! 4. A rule of its own, if it has one: a word, and a `verify` that accepts exactly where it holds.
-//! 5. The rules of all of these as a record (`specs/OpRules.antt`), how the first that is broken is told
-//!    (`specs/OpFaults.antt`), and `verify_interfaces`, which verifies them in that order; a law says that so each call
-//!                 that it offers may be made (`laws.rt`).
+//! 5. The rules of all of these as a record (`specs/OpRules.antt`), how the first that is broken is reported
+//!    (`specs/OpRefusals.antt`), and `verify_interfaces`, which verifies them in that order; a law says that so each
+//!    call that it offers may be made (`laws.rt`).
 ghost use Rattle.std.specs.Prelude.{◌≡◌, ◌↔◌, true, Some, Ok, OnOk, OnErr, IfOk, IfErr, IfSome, IsSome};
 ghost use Rattle.std.specs.Prelude.{◌<◌, ◌+◌, Err, IsErr};
 ghost use Rattle.plir_store.specs.Table.{next_slot};
@@ -20,10 +20,10 @@ ghost use Rattle.plir_core.specs.WellFormed.{IsWellFormed};
 ghost use Rattle.plir_core.specs.declared.ptr.IRNode.{IRNode as AnyNode};
 ghost use Rattle.plir_builtin.specs.BuiltinOps.{IsFullForOneBlock, IsModuleMade, IsNewModule};
 ghost use Rattle.plir_builtin.specs.OpRules.{HasModuleRules};
-ghost use Rattle.plir_builtin.specs.OpFaults.{IsModuleFault};
+ghost use Rattle.plir_builtin.specs.OpRefusals.{IsModuleRefusal};
 
 use crate::op_making::{named, new_with_block};
-use crate::op_verify_err::{OpVerifyErr, told};
+use crate::op_verify_err::{OpVerifyErr, reported};
 use crate::symbol_op::SymbolOpInterface;
 use crate::symbol_table_op::SymbolTableInterface;
 use crate::symbol_users::SymbolUserSet;
@@ -66,6 +66,13 @@ impl ModuleOp {
         let arg_types = Vec::new(alloc);
         let op = new_with_block(alloc, ctx, OpKind::Module, attributes, None, arg_types)?;
         Ok(ModuleOp { op })
+    }
+
+    /// The operation, without the op set to be named.
+    pub fn operation(self) -> Ptr<Operation>
+        ensures { result ≡ self.op }
+    {
+        self.op
     }
 
     /// The operation as a module, if it is one.
@@ -124,7 +131,7 @@ impl ModuleOp {
     }
 
     /// Accepts exactly where the rules of all interfaces that a module declares hold, memory aside: one region, of one
-    /// block, a symbol table that is right, a name, no operand and no result. Else tells the refusal of the first, in
+    /// block, a symbol table that is right, a name, no operand and no result. Else reports the refusal of the first, in
     /// this order.
     pub fn verify_interfaces<D: SymbolUserSet>(
         &self,
@@ -135,16 +142,16 @@ impl ModuleOp {
         requires module_kind { kind_of ctx.now self.now.op ≡ Some AnyKind.Module }
         ensures ok { OnOk result (HasModuleRules D.is_symbol D.is_symbol_table D.is_symbol_user D.uses_hold ctx.now
             self.now.op) }
-        ensures refused { IfErr result (IsModuleFault ctx.now self.now.op D.kind_id
+        ensures refused { IfErr result (IsModuleRefusal ctx.now self.now.op D.kind_id
             D.is_symbol D.is_symbol_table D.is_symbol_user D.uses_hold D.use_refusal) }
         ensures whole { IsWellFormed D.attr_handles ctx.now }
     {
         ctx.stands();
-        told(OneRegionInterface::<D>::verify(self, ctx))?;
-        told(SingleBlockRegionInterface::<D>::verify(self, ctx))?;
-        told(SymbolTableInterface::<D>::verify(self, alloc, ctx))?;
-        told(SymbolOpInterface::<D>::verify(self, ctx))?;
-        told(NOpdsInterface::<D, 0>::verify(self, ctx))?;
-        told(NResultsInterface::<D, 0>::verify(self, ctx))
+        reported(OneRegionInterface::<D>::verify(self, ctx))?;
+        reported(SingleBlockRegionInterface::<D>::verify(self, ctx))?;
+        reported(SymbolTableInterface::<D>::verify(self, alloc, ctx))?;
+        reported(SymbolOpInterface::<D>::verify(self, ctx))?;
+        reported(NOpdsInterface::<D, 0>::verify(self, ctx))?;
+        reported(NResultsInterface::<D, 0>::verify(self, ctx))
     }
 }

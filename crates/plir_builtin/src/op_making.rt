@@ -170,6 +170,6 @@ fn add_block<D: OpSet>(
     growth(ctx);
     let region = op.get_region(ctx, 0);
     let block = BasicBlock::new(alloc, ctx, label, arg_types)?;
-    block.insert_at_back(region, ctx);
+    block.insert_at_back(ctx, region);
     Ok(())
 }

@@ -1,6 +1,6 @@
 //! Why a builtin operation is not right.
 ghost use Rattle.std.specs.Prelude.{◌≡◌};
-ghost use Rattle.plir_builtin.specs.Told.{IsToldAs};
+ghost use Rattle.plir_builtin.specs.Reported.{IsReportedAs};
 
 use crate::constant_op::ConstantOpVerifyErr;
 use crate::forward_ref_op::ForwardRefOpExistenceErr;
@@ -139,8 +139,8 @@ impl<E> From<ForwardRefOpExistenceErr> for OpVerifyErr<E> {
 }
 
 /// The answer of a verifier, with its refusal as that of an operation.
-pub(crate) fn told<A, B: From<A>>(answer: Result<(), VerifyErr<A>>) -> Result<(), VerifyErr<B>>
-    ensures { IsToldAs B.from_gives answer result }
+pub(crate) fn reported<A, B: From<A>>(answer: Result<(), VerifyErr<A>>) -> Result<(), VerifyErr<B>>
+    ensures { IsReportedAs B.from_gives answer result }
 {
     match answer {
         Ok(()) => Ok(()),

@@ -3,8 +3,8 @@ ghost use Rattle.std.specs.Prelude.{◌≡◌, ◌++◌, [], Some, OnOk, IfErr};
 ghost use Rattle.plir_core.specs.declared.ptr.IRNode.{IRNode as AnyNode};
 ghost use Rattle.plir_core.specs.ContextView.{IsLive};
 ghost use Rattle.plir_builtin.specs.Symbols.{symbols_in, symbols_of};
-ghost use Rattle.plir_builtin.specs.Refusals.{Tells, redefined};
-ghost use Rattle.plir_builtin.specs.Reading.{IsRead, ReadsOn, RefusesOn, FirstRefused};
+ghost use Rattle.plir_builtin.specs.Refusals.{Reports, redefined};
+ghost use Rattle.plir_builtin.specs.Reading.{IsRead, ReadsOn, RefusesOn, IsFirstRefusalAt};
 
 use crate::symbol_table::SymbolTable;
 use crate::symbol_table_err::SymbolTableErr;
@@ -16,7 +16,7 @@ use std::alloc::Global;
 
 /// The refusal of a name that another symbol has.
 pub(crate) fn redefined(alloc: Global, name: &Identifier) -> SymbolTableErr
-    ensures { Tells (λ r. r ≡ redefined name.now) result }
+    ensures { Reports (λ r. r ≡ redefined name.now) result }
 {
     match String::from_str(alloc, name.as_str()) {
         Ok(text) => SymbolTableErr::SymbolRedefined(text),
@@ -41,7 +41,7 @@ impl SymbolTable {
         requires { IsLive ctx.now (AnyNode.Operation op) }
         ensures op { self.new.op ≡ self.old.op }
         ensures read { OnOk result (ReadsOn self.old (symbols_of D.is_symbol ctx.now op) self.new) }
-        ensures refused { IfErr result (Tells (RefusesOn self.old op (symbols_of D.is_symbol ctx.now op))) }
+        ensures refused { IfErr result (Reports (RefusesOn self.old op (symbols_of D.is_symbol ctx.now op))) }
     {
         if !is_symbol(ctx, op) {
             return Ok(());
@@ -69,7 +69,7 @@ impl SymbolTable {
         ensures live { IfErr result (λ e. IsLive ctx.now (AnyNode.Operation e.op)) }
         ensures read { OnOk result (IsRead
             (symbols_in D.is_symbol ctx.now (Some (AnyNode.BasicBlock block))) self.new) }
-        ensures refused { IfErr result (λ e. Tells (FirstRefused e.op
+        ensures refused { IfErr result (λ e. Reports (IsFirstRefusalAt e.op
             (symbols_in D.is_symbol ctx.now (Some (AnyNode.BasicBlock block)))) e.why) }
     {
         ctx.stands();

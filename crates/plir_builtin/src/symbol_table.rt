@@ -11,12 +11,14 @@ ghost use Rattle.plir_core.specs.Unused.{IsUnusedOutside, without_tree};
 ghost use Rattle.plir_builtin.specs.Symbols.{body};
 ghost use Rattle.plir_builtin.specs.Agree.{Agrees, KeepsAgreement, KeepsAllAgree, KeepsGivenOut};
 ghost use Rattle.plir_builtin.specs.Insertion.{inserted};
-ghost use Rattle.plir_builtin.specs.Refusals.{Tells, TellsOnly, IsSymbolNamed, IsPlaceable, IsInsertErr, RemoveRefused};
-ghost use Rattle.plir_builtin.specs.Refusals.{TableRefused};
+ghost use Rattle.plir_builtin.specs.Refusals.{Reports, ReportsOnly, IsSymbolNamed, IsPlaceable, IsInsertErr};
+ghost use Rattle.plir_builtin.specs.Refusals.{IsRemoveRefusal};
+ghost use Rattle.plir_builtin.specs.Refusals.{IsTableRefusal};
 ghost use Rattle.plir_builtin.specs.Reading.{IsRead};
 ghost use Rattle.plir_builtin.specs.TableEdits.{IsRecorded, IsForgotten};
 
 use crate::inserting::{Plan, carry_out};
+use crate::scanning::count_symbols;
 use crate::symbol_table_err::SymbolTableErr;
 use crate::symbols::{SymbolOpInterfaceErr, is_symbol, is_table, symbol_name};
 use crate::table_body::{body_of, find_body};
@@ -67,6 +69,14 @@ impl SymbolTable {
         Ok(before)
     }
 
+    /// Makes room for so many names more.
+    pub(crate) fn reserve(&mut self, more: usize) -> Result<(), Memory>
+        ensures { self.new ≡ self.old }
+    {
+        self.names.reserve(more)?;
+        Ok(())
+    }
+
     /// Takes the entry of a name out, if there is one.
     pub(crate) fn forget_name(&mut self, name: &Identifier)
         ensures { self.new ≡ record self.old { names = map.remove self.old.names name.now } }
@@ -98,7 +108,7 @@ fn member_name<D: OpSet>(
     requires op_live { IsLive ctx.now (AnyNode.Operation op) }
     ensures named { IfOk result (λ n. IsSymbolNamed D.is_symbol ctx.now op n.now) }
     ensures member { OnOk result (parent_of ctx.now (AnyNode.Operation op) ≡ body ctx.now table) }
-    ensures refused { IfErr result (TellsOnly (RemoveRefused D.is_symbol ctx.now table op)) }
+    ensures refused { IfErr result (ReportsOnly (IsRemoveRefusal D.is_symbol ctx.now table op)) }
 {
     if !is_symbol(ctx, op) {
         return Err(SymbolTableErr::DoesNotImplementSymbolOpInterface);
@@ -123,7 +133,7 @@ pub(crate) fn is_member<D: OpSet>(
     requires op_live { IsLive ctx.now (AnyNode.Operation op) }
     ensures named { OnOk result ((x : _) × IsSymbolNamed D.is_symbol ctx.now op x) }
     ensures member { OnOk result (parent_of ctx.now (AnyNode.Operation op) ≡ body ctx.now table) }
-    ensures refused { IfErr result (TellsOnly (RemoveRefused D.is_symbol ctx.now table op)) }
+    ensures refused { IfErr result (ReportsOnly (IsRemoveRefusal D.is_symbol ctx.now table op)) }
 {
     match member_name(ctx, table, op) {
         Ok(_name) => Ok(()),
@@ -156,13 +166,14 @@ impl SymbolTable {
         requires { IsLive ctx.now (AnyNode.Operation op) }
         ensures op { IfOk result (λ t. t.op ≡ op) }
         ensures agrees { IfOk result (Agrees D.is_symbol D.is_symbol_table ctx.now) }
-        ensures refused { IfErr result (Tells (TableRefused D.is_symbol D.is_symbol_table ctx.now op)) }
+        ensures refused { IfErr result (Reports (IsTableRefusal D.is_symbol D.is_symbol_table ctx.now op)) }
     {
         if !is_table(ctx, op) {
             return Err(SymbolTableErr::DoesNotImplementSymbolTableInterface);
         }
         let block = find_body(ctx, op)?;
         let mut table = SymbolTable::unread(alloc, op);
+        table.reserve(count_symbols(ctx, block))?;
         match table.read(ctx, block) {
             Ok(()) => Ok(table),
             Err(refused) => Err(refused.why),
@@ -174,7 +185,7 @@ impl SymbolTable {
     /// last. Refused by, in this order: `DoesNotImplementSymbolOpInterface`; `Unnamed`; `SymbolRedefined`, where the
     /// name is recorded for another operation; `SymbolOpAlreadyInAnotherTable`, where it stands in a block that is not
     /// the body; `InsertionPointNotInSameTable`, where it stands in no block and the point is not in the body. `Memory`
-    /// may come in place of the two that tell the name, and after all of them, where the name is recorded. After a
+    /// may come in place of the two that report the name, and after all of them, where the name is recorded. After a
     /// refusal all is as before.
     pub fn insert<D: OpSet>(
         &mut self,
@@ -204,7 +215,7 @@ impl SymbolTable {
         Ok(())
     }
 
-    /// Takes the name of a symbol in the body out of the table, or tells why the symbol is not removed.
+    /// Takes the name of a symbol in the body out of the table, or reports why the symbol is not removed.
     fn forget<D: OpSet>(
         &mut self,
         ctx: &Context<D>,
@@ -214,7 +225,7 @@ impl SymbolTable {
         requires at_body { IsSome (body ctx.now self.old.op) }
         requires op_live { IsLive ctx.now (AnyNode.Operation op) }
         ensures forgotten { OnOk result (IsForgotten D.is_symbol ctx.now self.old op self.new) }
-        ensures refused { IfErr result (TellsOnly (RemoveRefused D.is_symbol ctx.now self.old.op op)) }
+        ensures refused { IfErr result (ReportsOnly (IsRemoveRefusal D.is_symbol ctx.now self.old.op op)) }
         ensures same { OnErr result (self.new ≡ self.old) }
     {
         let name = member_name(ctx, self.op, op)?;
@@ -235,7 +246,7 @@ impl SymbolTable {
         requires op_live { IsLive ctx.old (AnyNode.Operation op) }
         ensures forgotten { OnOk result (IsForgotten D.is_symbol ctx.old self.old op self.new) }
         ensures after { OnOk result (ctx.new ≡ with_op_unlinked ctx.old op) }
-        ensures refused { IfErr result (TellsOnly (RemoveRefused D.is_symbol ctx.old self.old.op op)) }
+        ensures refused { IfErr result (ReportsOnly (IsRemoveRefusal D.is_symbol ctx.old self.old.op op)) }
         ensures same { OnErr result ((ctx.new ≡ ctx.old) × (self.new ≡ self.old)) }
         ensures agrees { OnOk result (KeepsAgreement D.is_symbol D.is_symbol_table ctx.old self.old ctx.new self.new) }
         ensures all_agree { OnOk result
@@ -263,7 +274,7 @@ impl SymbolTable {
         ensures forgotten { OnOk result (IsForgotten D.is_symbol ctx.old self.old op self.new) }
         ensures after { OnOk result (ctx.new ≡ without_tree ctx.old (AnyNode.Operation op)) }
         ensures tree { OnOk result (IsErased ctx.old.nodes ctx.new.nodes (AnyNode.Operation op)) }
-        ensures refused { IfErr result (TellsOnly (RemoveRefused D.is_symbol ctx.old self.old.op op)) }
+        ensures refused { IfErr result (ReportsOnly (IsRemoveRefusal D.is_symbol ctx.old self.old.op op)) }
         ensures same { OnErr result ((ctx.new ≡ ctx.old) × (self.new ≡ self.old)) }
         ensures agrees { OnOk result (KeepsAgreement D.is_symbol D.is_symbol_table ctx.old self.old ctx.new self.new) }
         ensures all_agree { OnOk result

@@ -14,10 +14,10 @@ pub enum SymbolTableErr {
     /// The operation is no symbol.
     #[error("Op does not implement SymbolOpInterface")]
     DoesNotImplementSymbolOpInterface,
-    /// Another symbol has the name that is told.
+    /// Another symbol has the name that is reported.
     #[error("Symbol redefined: {0}")]
     SymbolRedefined(String),
-    /// The symbol, whose name is told, stands in another block.
+    /// The symbol, whose name is reported, stands in another block.
     #[error("Symbol Op cannot be inserted as it is already in another symbol table")]
     SymbolOpAlreadyInAnotherTable(String),
     /// The insertion point is not in the table's body.

@@ -4,13 +4,13 @@ ghost use Rattle.plir_core.specs.declared.ptr.IRNode.{IRNode as AnyNode};
 ghost use Rattle.plir_core.specs.ContextView.{IsLive, kind_of};
 ghost use Rattle.plir_iface.specs.Counts.{HasNRegions};
 ghost use Rattle.plir_iface.specs.Regions.{HasSingleBlocks};
-ghost use Rattle.plir_builtin.specs.Refusals.{Tells};
-ghost use Rattle.plir_builtin.specs.Reading.{FirstRefused};
+ghost use Rattle.plir_builtin.specs.Refusals.{Reports};
+ghost use Rattle.plir_builtin.specs.Reading.{IsFirstRefusalAt};
 ghost use Rattle.plir_builtin.specs.Symbols.{IsGood, body, is_table_kind, scan, symbols};
-ghost use Rattle.plir_builtin.specs.SymbolUses.{HasTableRule, IsSymbolFault, IsTableFault, use_told};
+ghost use Rattle.plir_builtin.specs.SymbolUses.{HasTableRule, IsSymbolsRefusal, IsTableRuleRefusal, use_reported};
 
 use crate::reading::RefusedSymbol;
-use crate::scanning::find_symbol;
+use crate::scanning::{count_symbols, find_symbol};
 use crate::symbol_table::SymbolTable;
 use crate::symbol_table_err::SymbolTableErr;
 use crate::symbol_users::{SymbolUserSet, verify_uses};
@@ -38,16 +38,16 @@ pub enum SymbolTableInterfaceErr<E> {
     Use(E),
 }
 
-/// What a verifier tells of a symbol that the table of an operation refuses.
-fn tell<D: OpSet>(
+/// What a verifier reports of a symbol that the table of an operation refuses.
+fn report<D: OpSet>(
     ctx: &Context<D>,
     op: Ptr<Operation>,
     refused: RefusedSymbol,
 ) -> VerifyErr<SymbolTableInterfaceErr<D::Err>>
     requires op_live { IsLive ctx.now (AnyNode.Operation op) }
     requires symbol_live { IsLive ctx.now (AnyNode.Operation refused.op) }
-    requires refused { Tells (FirstRefused refused.op (symbols D.is_symbol ctx.now op)) refused.why }
-    ensures { IsSymbolFault D.is_symbol ctx.now op result }
+    requires refused { Reports (IsFirstRefusalAt refused.op (symbols D.is_symbol ctx.now op)) refused.why }
+    ensures { IsSymbolsRefusal D.is_symbol ctx.now op result }
 {
     let RefusedSymbol { op: symbol, why } = refused;
     match why {
@@ -73,18 +73,22 @@ fn verify_symbols<D: OpSet>(
     requires table { is_table_kind D.is_symbol_table (kind_of ctx.now op) ≡ true }
     requires at_body { IsSome (body ctx.now op) }
     ensures ok { OnOk result (IsGood D.is_symbol D.is_symbol_table ctx.now op) }
-    ensures refused { IfErr result (IsSymbolFault D.is_symbol ctx.now op) }
+    ensures refused { IfErr result (IsSymbolsRefusal D.is_symbol ctx.now op) }
 {
+    let block = body_of(ctx, op);
     let mut table = SymbolTable::unread(alloc, op);
-    match table.read(ctx, body_of(ctx, op)) {
+    if table.reserve(count_symbols(ctx, block)).is_err() {
+        return Err(VerifyErr::Memory);
+    }
+    match table.read(ctx, block) {
         Ok(()) => Ok(()),
-        Err(refused) => Err(tell(ctx, op, refused)),
+        Err(refused) => Err(report(ctx, op, refused)),
     }
 }
 
-/// What a verifier tells of uses that are refused.
+/// What a verifier reports of uses that are refused.
 fn tell_use<E>(refused: VerifyErr<E>) -> VerifyErr<SymbolTableInterfaceErr<E>>
-    ensures { result ≡ use_told refused }
+    ensures { result ≡ use_reported refused }
 {
     match refused {
         VerifyErr::Refused { loc, err } => VerifyErr::Refused {
@@ -106,7 +110,7 @@ fn verify_table<D: SymbolUserSet>(
     requires one_region { HasNRegions 1 ctx.now op }
     requires single_blocks { HasSingleBlocks ctx.now op }
     ensures ok { OnOk result (HasTableRule D.is_symbol D.is_symbol_table D.is_symbol_user D.uses_hold ctx.now op) }
-    ensures refused { IfErr result (IsTableFault D.is_symbol D.is_symbol_table D.is_symbol_user D.uses_hold
+    ensures refused { IfErr result (IsTableRuleRefusal D.is_symbol D.is_symbol_table D.is_symbol_user D.uses_hold
         D.use_refusal ctx.now op) }
 {
     if let Err(refused) = verify_symbols(alloc, ctx, op) {
@@ -131,9 +135,9 @@ pub trait SymbolTableInterface<D: OpSet>: SingleBlockRegionInterface<D> + OneReg
     }
 
     /// Accepts exactly where all symbols in the body have names, no two the same, and the uses of every symbol user
-    /// that the walk of the table hands over hold, memory aside: of nested tables too, but not of what stands in them.
-    /// Tells the first symbol without a name, at the table's location, or that repeats a name, at the symbol's own;
-    /// else the refusal of the first use, at the location that is told there.
+    /// that the walk of the table calls at hold, memory aside: of nested tables too, but not of what stands in them.
+    /// Reports the first symbol without a name, at the table's location, or that repeats a name, at the symbol's own;
+    /// else the refusal of the first use, at the location that is reported there.
     final fn verify(
         &self,
         alloc: Global,
@@ -147,7 +151,7 @@ pub trait SymbolTableInterface<D: OpSet>: SingleBlockRegionInterface<D> + OneReg
         requires single_blocks { HasSingleBlocks ctx.now (Self.pointer self.now) }
         ensures ok { OnOk result (HasTableRule D.is_symbol D.is_symbol_table D.is_symbol_user D.uses_hold ctx.now
             (Self.pointer self.now)) }
-        ensures refused { IfErr result (IsTableFault D.is_symbol D.is_symbol_table D.is_symbol_user D.uses_hold
+        ensures refused { IfErr result (IsTableRuleRefusal D.is_symbol D.is_symbol_table D.is_symbol_user D.uses_hold
             D.use_refusal ctx.now (Self.pointer self.now)) }
     {
         verify_table(alloc, ctx, self.get_operation())

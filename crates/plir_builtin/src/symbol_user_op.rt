@@ -3,7 +3,7 @@ ghost use Rattle.std.specs.Prelude.{◌≡◌, ℕ, List, Ok, IfOk, IfErr, OnOk}
 ghost use Rattle.plir_core.specs.declared.ptr.IRNode.{IRNode as AnyNode};
 ghost use Rattle.plir_core.specs.ContextView.{ContextView, IsLive};
 ghost use Rattle.plir_builtin.specs.Agree.{AllAgree, AreGivenOut};
-ghost use Rattle.plir_builtin.specs.SymbolUses.{IsUseRefused};
+ghost use Rattle.plir_builtin.specs.SymbolUses.{IsUseRefusal};
 ghost use Rattle.plir_data.specs.declared.location.Location.{Location as AnyLocation};
 
 use crate::collection::SymbolTableCollection;
@@ -20,11 +20,11 @@ pub trait SymbolUserOpInterface<D: OpSet>: Op<D> {
     // The uses of the operation are right.
     ghost has_right_uses: { Self → ContextView D.Kind D.Attr D.Ty → Type 0 };
 
-    // What may be told of uses that are not right: a location, and an error.
+    // What may be reported of uses that are not right: a location, and an error.
     ghost use_refusal: { Self → ContextView D.Kind D.Attr D.Ty → AnyLocation → D.Err → Type 0 };
 
     /// Accepts exactly where the uses are right, where all tables of the collection agree, memory aside; they agree
-    /// afterwards. Else tells what may be told of these uses.
+    /// afterwards. Else reports what may be reported of these uses.
     fn verify_symbol_uses(
         &self,
         ctx: &Context<D>,
@@ -34,7 +34,7 @@ pub trait SymbolUserOpInterface<D: OpSet>: Op<D> {
         ensures ok { AllAgree D.is_symbol D.is_symbol_table ctx.now tables.old
             → OnOk result (has_right_uses self.now ctx.now) }
         ensures refused { AllAgree D.is_symbol D.is_symbol_table ctx.now tables.old
-            → IfErr result (IsUseRefused (has_right_uses self.now ctx.now) (use_refusal self.now ctx.now)) }
+            → IfErr result (IsUseRefusal (has_right_uses self.now ctx.now) (use_refusal self.now ctx.now)) }
         ensures agree { AllAgree D.is_symbol D.is_symbol_table ctx.now tables.old
             → AllAgree D.is_symbol D.is_symbol_table ctx.now tables.new }
         ensures given { AreGivenOut ctx.now tables.old → AreGivenOut ctx.now tables.new };

@@ -5,8 +5,8 @@ ghost use Rattle.plir_core.specs.declared.ptr.Ptr.{Ptr as AnyPtr};
 ghost use Rattle.plir_core.specs.declared.ptr.IRNode.{IRNode as AnyNode};
 ghost use Rattle.plir_core.specs.ContextView.{ContextView, IsLive, children, kind_of};
 ghost use Rattle.plir_builtin.specs.Agree.{AllAgree, AreGivenOut};
-ghost use Rattle.plir_builtin.specs.Handed.{is_table_at};
-ghost use Rattle.plir_builtin.specs.SymbolUses.{is_user_kind, AllUsesHold, IsUseCheck, IsUseRefused, IsUsesRefusal};
+ghost use Rattle.plir_builtin.specs.TableWalks.{is_table_at};
+ghost use Rattle.plir_builtin.specs.SymbolUses.{is_user_kind, AllUsesHold, IsUseCheck, IsUseRefusal, IsUsesRefusal};
 ghost use Rattle.plir_data.specs.declared.location.Location.{Location as AnyLocation};
 
 use crate::collection::SymbolTableCollection;
@@ -24,13 +24,13 @@ pub trait SymbolUserSet: OpSet {
     // The uses of an operation are right.
     ghost uses_hold: { ContextView Self.Kind Self.Attr Self.Ty → AnyPtr OperationKind → Type 0 };
 
-    // What may be told of uses that are not right: a location, and an error.
+    // What may be reported of uses that are not right: a location, and an error.
     ghost use_refusal: { ContextView Self.Kind Self.Attr Self.Ty → AnyPtr OperationKind → AnyLocation → Self.Err
         → Type 0 };
 
     /// Accepts exactly where the uses of an operation are right, where all tables of the collection agree, memory
-    /// aside; they agree afterwards. Else tells what the set may tell of these uses. The verifier of tables asks it of
-    /// symbol users alone.
+    /// aside; they agree afterwards. Else reports what the set may report of these uses. The verifier of tables asks it
+    /// of symbol users alone.
     fn verify_symbol_uses(
         ctx: &Context<Self>,
         op: Ptr<Operation>,
@@ -40,7 +40,7 @@ pub trait SymbolUserSet: OpSet {
         ensures ok { AllAgree Self.is_symbol Self.is_symbol_table ctx.now tables.old
             → OnOk result (uses_hold ctx.now op) }
         ensures refused { AllAgree Self.is_symbol Self.is_symbol_table ctx.now tables.old
-            → IfErr result (IsUseRefused (uses_hold ctx.now op) (use_refusal ctx.now op)) }
+            → IfErr result (IsUseRefusal (uses_hold ctx.now op) (use_refusal ctx.now op)) }
         ensures agree { AllAgree Self.is_symbol Self.is_symbol_table ctx.now tables.old
             → AllAgree Self.is_symbol Self.is_symbol_table ctx.now tables.new }
         ensures given { AreGivenOut ctx.now tables.old → AreGivenOut ctx.now tables.new };
@@ -53,12 +53,12 @@ pub trait SymbolUses<D: OpSet>: OwnKind {
     // The uses of an operation are right.
     ghost uses_hold: { ContextView D.Kind D.Attr D.Ty → AnyPtr OperationKind → Type 0 };
 
-    // What may be told of uses that are not right: a location, and an error.
+    // What may be reported of uses that are not right: a location, and an error.
     ghost use_refusal: { ContextView D.Kind D.Attr D.Ty → AnyPtr OperationKind → AnyLocation → D.Err → Type 0 };
 
     /// Accepts exactly where the uses of an operation are right, where all tables of the collection agree, memory
-    /// aside; they agree afterwards. Else tells what the kinds may tell of these uses. The verifier of tables asks it
-    /// of symbol users alone.
+    /// aside; they agree afterwards. Else reports what the kinds may report of these uses. The verifier of tables asks
+    /// it of symbol users alone.
     fn verify_symbol_uses(
         ctx: &Context<D>,
         op: Ptr<Operation>,
@@ -67,7 +67,7 @@ pub trait SymbolUses<D: OpSet>: OwnKind {
         requires { IsLive ctx.now (AnyNode.Operation op) }
         ensures ok { AllAgree D.is_symbol D.is_symbol_table ctx.now tables.old → OnOk result (uses_hold ctx.now op) }
         ensures refused { AllAgree D.is_symbol D.is_symbol_table ctx.now tables.old
-            → IfErr result (IsUseRefused (uses_hold ctx.now op) (use_refusal ctx.now op)) }
+            → IfErr result (IsUseRefusal (uses_hold ctx.now op) (use_refusal ctx.now op)) }
         ensures agree { AllAgree D.is_symbol D.is_symbol_table ctx.now tables.old
             → AllAgree D.is_symbol D.is_symbol_table ctx.now tables.new }
         ensures given { AreGivenOut ctx.now tables.old → AreGivenOut ctx.now tables.new };
@@ -113,7 +113,8 @@ pub(crate) fn is_user<D: OpSet>(ctx: &Context<D>, op: Ptr<Operation>) -> bool
     kind_impls::<D>(op.kind(ctx), Interface::SymbolUser)
 }
 
-/// What is told of uses that are refused. (A walk's callback can't break with an `Err` of an op set that stands alone.)
+/// What is reported of uses that are refused. (A walk's callback can't break with an `Err` of an op set that stands
+/// alone.)
 #[derive(Drop)]
 struct RefusedUse<D: OpSet> {
     why: VerifyErr<D::Err>,
@@ -138,8 +139,8 @@ fn check_use<D: SymbolUserSet>(
     }
 }
 
-/// Accepts exactly where the uses of every symbol user hold that the walk of a table hands over; else tells what is
-/// told of the first whose uses don't.
+/// Accepts exactly where the uses of every symbol user hold that the walk of a table calls at; else reports what is
+/// reported of the first whose uses don't.
 pub(crate) fn verify_uses<D: SymbolUserSet>(
     alloc: Global,
     ctx: &Context<D>,

@@ -1,13 +1,14 @@
 //! The body of a table: the one block of its one region.
-ghost use Rattle.std.specs.Prelude.{◌≡◌, ◌↔◌, Some, IfOk, IfErr, IsSome, IsTrue};
+ghost use Rattle.std.specs.Prelude.{◌≡◌, ◌↔◌, Some, IfOk, IfErr, IfSome, IsSome, IsTrue, option_map};
 ghost use Rattle.plir_core.specs.declared.ptr.IRNode.{IRNode as AnyNode};
-ghost use Rattle.plir_core.specs.ContextView.{IsLive};
-ghost use Rattle.plir_builtin.specs.Symbols.{body};
-ghost use Rattle.plir_builtin.specs.Refusals.{Tells, BodyRefused};
+ghost use Rattle.plir_core.specs.ContextView.{IsLive, children};
+ghost use Rattle.plir_builtin.specs.Symbols.{body, only};
+ghost use Rattle.plir_builtin.specs.Refusals.{Reports, IsBodyRefusal};
 
 use crate::symbol_table::SymbolTable;
 use crate::symbol_table_err::SymbolTableErr;
-use plir_core::{BasicBlock, Context, Operation, Ptr};
+use plir_core::laws::{first_child_is_front, next_is_behind};
+use plir_core::{BasicBlock, Context, IRNode, Operation, Ptr, Region};
 use plir_data::{OpSet, VerifyErr};
 use plir_iface::{OneRegionInterface, Op, SingleBlockRegionInterface};
 
@@ -29,6 +30,52 @@ impl<D: OpSet> OneRegionInterface<D> for AnyOp {}
 
 impl<D: OpSet> SingleBlockRegionInterface<D> for AnyOp {}
 
+/// The region of an operation that has no other.
+fn only_region<D: OpSet>(ctx: &Context<D>, op: Ptr<Operation>) -> Option<Ptr<Region>>
+    requires { IsLive ctx.now (AnyNode.Operation op) }
+    ensures only { option_map AnyNode.Region result ≡ only (children ctx.now (AnyNode.Operation op)) }
+    ensures live { IfSome result (λ r. IsLive ctx.now (AnyNode.Region r)) }
+{
+    first_child_is_front(ctx, IRNode::Operation(op));
+    let Some(region) = op.first_region(ctx) else {
+        return None;
+    };
+    next_is_behind(ctx, IRNode::Region(region));
+    match region.get_next(ctx) {
+        Some(_) => None,
+        None => Some(region),
+    }
+}
+
+/// The block of a region that has no other.
+fn only_block<D: OpSet>(ctx: &Context<D>, region: Ptr<Region>) -> Option<Ptr<BasicBlock>>
+    requires { IsLive ctx.now (AnyNode.Region region) }
+    ensures only { option_map AnyNode.BasicBlock result ≡ only (children ctx.now (AnyNode.Region region)) }
+    ensures live { IfSome result (λ b. IsLive ctx.now (AnyNode.BasicBlock b)) }
+{
+    first_child_is_front(ctx, IRNode::Region(region));
+    let Some(block) = region.get_head(ctx) else {
+        return None;
+    };
+    next_is_behind(ctx, IRNode::BasicBlock(block));
+    match block.get_next(ctx) {
+        Some(_) => None,
+        None => Some(block),
+    }
+}
+
+/// The body of an operation, if it has one.
+fn sole_block<D: OpSet>(ctx: &Context<D>, op: Ptr<Operation>) -> Option<Ptr<BasicBlock>>
+    requires { IsLive ctx.now (AnyNode.Operation op) }
+    ensures body { option_map AnyNode.BasicBlock result ≡ body ctx.now op }
+    ensures live { IfSome result (λ b. IsLive ctx.now (AnyNode.BasicBlock b)) }
+{
+    match only_region(ctx, op) {
+        Some(region) => only_block(ctx, region),
+        None => None,
+    }
+}
+
 /// The body of an operation that has one.
 pub fn body_of<D: OpSet>(ctx: &Context<D>, op: Ptr<Operation>) -> Ptr<BasicBlock>
     requires live { IsLive ctx.now (AnyNode.Operation op) }
@@ -36,7 +83,10 @@ pub fn body_of<D: OpSet>(ctx: &Context<D>, op: Ptr<Operation>) -> Ptr<BasicBlock
     ensures body { body ctx.now op ≡ Some (AnyNode.BasicBlock result) }
     ensures live { IsLive ctx.now (AnyNode.BasicBlock result) }
 {
-    SingleBlockRegionInterface::<D>::get_body(&AnyOp { op }, ctx, 0)
+    match sole_block(ctx, op) {
+        Some(block) => block,
+        None => unreachable!(),
+    }
 }
 
 /// The body of an operation, or why it has none.
@@ -47,7 +97,7 @@ pub(crate) fn find_body<D: OpSet>(
     requires { IsLive ctx.now (AnyNode.Operation op) }
     ensures body { IfOk result (λ b. body ctx.now op ≡ Some (AnyNode.BasicBlock b)) }
     ensures live { IfOk result (λ b. IsLive ctx.now (AnyNode.BasicBlock b)) }
-    ensures refused { IfErr result (Tells (BodyRefused ctx.now op)) }
+    ensures refused { IfErr result (Reports (IsBodyRefusal ctx.now op)) }
 {
     let any = AnyOp { op };
     match OneRegionInterface::<D>::verify(&any, ctx) {
@@ -67,9 +117,7 @@ pub(crate) fn has_body<D: OpSet>(ctx: &Context<D>, op: Ptr<Operation>) -> bool
     requires { IsLive ctx.now (AnyNode.Operation op) }
     ensures { IsTrue result ↔ IsSome (body ctx.now op) }
 {
-    let any = AnyOp { op };
-    OneRegionInterface::<D>::verify(&any, ctx).is_ok()
-        && SingleBlockRegionInterface::<D>::verify(&any, ctx).is_ok()
+    sole_block(ctx, op).is_some()
 }
 
 impl SymbolTable {

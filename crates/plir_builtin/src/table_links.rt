@@ -27,7 +27,7 @@ pub trait TableLinks: NodeLinks {
 }
 
 impl<D: OpSet> TableLinks for Context<D> {
-    ghost use Rattle.plir_builtin.specs.Handed.{is_table_at};
+    ghost use Rattle.plir_builtin.specs.TableWalks.{is_table_at};
 
     ghost is_table_of = { is_table_at D.is_symbol_table };
 

@@ -5,7 +5,7 @@ ghost use Rattle.plir_core.specs.declared.ptr.Ptr.{Ptr as AnyPtr};
 ghost use Rattle.plir_core.specs.declared.ptr.IRNode.{IRNode as AnyNode};
 ghost use Rattle.plir_walk.specs.Lawful.{StandsUnder};
 ghost use Rattle.plir_walk.specs.Calls.{ReadsBack};
-ghost use Rattle.plir_builtin.specs.Handed.{HandedOver, PassesOn};
+ghost use Rattle.plir_builtin.specs.TableWalks.{IsTableWalked, PassesOn};
 
 use crate::table_links::TableLinks;
 use plir_core::{Context, IRNode, Operation, Ptr};
@@ -35,7 +35,7 @@ pub fn walk_symbol_table<
     requires one_region { length ((C.look ctx.now).children (AnyNode.Operation op)) ≡ 1 }
     requires callable { (c : _) (s : _) (p : AnyPtr OperationKind) → c.now ≡ ctx.now →
         StandsUnder (C.look ctx.now) (AnyNode.Operation op) (AnyNode.Operation p) → F.pre callback c s p }
-    ensures { HandedOver C.look C.is_table_of (ReadsBack F.Fn callback) ctx.now state.old op result state.new }
+    ensures { IsTableWalked C.look C.is_table_of (ReadsBack F.Fn callback) ctx.now state.old op result state.new }
 {
     ctx.forest();
     let region = ctx.one_region(op);

@@ -199,7 +199,7 @@ Counts-without_use u f g (BasicBlock p) c e (region i) = λ n q. absurd (let x :
 Counts-without_use u f g (BasicBlock p) c e (block i) = lowered_at u.blocks p.slot i (f (block i)) (g (block i)) (c (block i)) (e (block i))
 
 -- one element more is looked at
-count_in : {X : Type 0} (p : X → Bool) (xs : List X) (i : ℕ) (d : X) (b : Bool) → i < length xs → p (get_or xs i d) ≡ b →
+pub count_in : {X : Type 0} (p : X → Bool) (xs : List X) (i : ℕ) (d : X) (b : Bool) → i < length xs → p (get_or xs i d) ≡ b →
     count_by p (take (i + 1) xs) ≡ count_by p (take i xs) + cond b 1 0
 count_in p xs i d true h e = count_by_more_yes p xs i d h e
 count_in p xs i d false h e = omega (arith, count_by_more_no p xs i d h e)

@@ -42,7 +42,7 @@ pub mod Counting
 pub mod Counted
 pub mod Walked
 pub mod NotUsed
-pub mod LeafUnused
+pub mod TreeUses
 pub mod ValueUses
 pub mod TimesUsed
 pub mod ReplacedUses

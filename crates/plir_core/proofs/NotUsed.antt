@@ -1,4 +1,4 @@
--- A tree whose nodes nothing uses.
+-- Nodes that nothing uses.
 use Rattle.std.proofs.Common.{◌≡◌, ℕ, ◌<◌, ◌≤◌, Bool, true, false, cond, List, length, get_or, Option, Some, None, refl, ap, subst, arith, eq-eqb}
 use Rattle.std.specs.Prelude.{count_by}
 use Rattle.std.proofs.lemmas.Bool.{eqb-true}
@@ -9,11 +9,9 @@ use Rattle.plir_core.specs.declared.ptr.IRNode.TheVariants.{Operation, Region, B
 use Rattle.plir_core.specs.declared.value.DefiningEntity.{DefiningEntity}
 use Rattle.plir_core.specs.declared.value.DefiningEntity.TheVariants.{Op, Block}
 use Rattle.plir_core.specs.Contents.{OpView}
-use Rattle.plir_core.specs.Stored.{Seat, region, block, seat_of}
+use Rattle.plir_core.specs.Stored.{Seat, region, seat_of}
 use Rattle.plir_core.specs.ContextView.{ContextView, entity_node, operands_in, successors_in}
-use Rattle.plir_core.specs.Unused.{IsUnusedOutside}
 use Rattle.plir_core.specs.Uses.{is_seated, values_from, blocks_in, uses_held, uses_of, is_not_used}
-use Rattle.plir_core.specs.Walked.{IsClear}
 use Rattle.plir_core.proofs.Counting.{uses-none, held-none}
 use Rattle.plir_core.proofs.Counted.{count_none}
 
@@ -58,15 +56,3 @@ module _ {K A T : Type 0} (s : ContextView K A T) where
   -- what is not used is used by no operation
   pub unused_by : (n : IRNode) (i : ℕ) → is_not_used s n ≡ true → uses_held (seat_of n) (content_at s.nodes.ops i) ≡ 0
   unused_by n i e = held-none s.nodes.ops (seat_of n) i (eqb-true (uses_of s.nodes.ops (seat_of n)) 0 e)
-
-  pub IsUnusedOutside-clear : (root : IRNode) → IsClear (is_not_used s) s.nodes root → IsUnusedOutside s root
-  IsUnusedOutside-clear root clear p live out = record {
-    operands = λ k d h r.
-        let e = (get_or (operands_in (content_at s.nodes.ops p.slot)) k d).entity in
-        none_passes (λ v. is_seated (seat_of (entity_node e)) (entity_node v.entity)) (operands_in (content_at s.nodes.ops p.slot)) k d h (seated_value e)
-        (values_some (seat_of (entity_node e)) (content_at s.nodes.ops p.slot) (unused_by (entity_node e) p.slot (clear (entity_node e) r)));
-    successors = λ k d h r.
-        let b = get_or (successors_in (content_at s.nodes.ops p.slot)) k d in
-        none_passes (λ x. is_seated (block b.slot) (BasicBlock x)) (successors_in (content_at s.nodes.ops p.slot)) k d h (eq-eqb b.slot b.slot refl)
-        (blocks_some (block b.slot) (content_at s.nodes.ops p.slot) (unused_by (BasicBlock b) p.slot (clear (BasicBlock b) r)));
-  }

@@ -22,7 +22,7 @@ module _ {N : Type 0} where
     | inr j ↦ Has-append_right (f x) (flat_map f ms) a (flat_map-Has f ms m a j k)
   ]
 
-  flat_map-same : (f g : N → List N) (ms : List N) → ((m : N) → Has ms m → f m ≡ g m) → flat_map f ms ≡ flat_map g ms
+  pub flat_map-same : (f g : N → List N) (ms : List N) → ((m : N) → Has ms m → f m ≡ g m) → flat_map f ms ≡ flat_map g ms
   flat_map-same f g [] e = refl
   flat_map-same f g (m ∷ ms) e =
       let a = e m (inl refl) in

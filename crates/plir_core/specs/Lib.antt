@@ -1,9 +1,8 @@
 -- What the contracts of this crate cite.
 --
---   ContextView        ContextView K A T: what contracts see of a context; is_live, given_out, num_live, children,
---                parent_of, first_child,
---                last_child, next_sibling, prev_sibling, IsAncestor; op_at, block_at and the parts of what they hold;
---                is_value_live, type_of_value
+--   ContextView  ContextView K A T: what contracts see of a context; is_live, given_out, num_live, children, parent_of,
+--                first_child, last_child, next_sibling, prev_sibling, IsAncestor; op_at, block_at and the parts of what
+--                they hold; is_value_live, type_of_value
 --   Contents     OpView K A, BlockView A: what operations and blocks hold; op_view: an operation without a location
 --   Texts        pointer_text, node_text: pointers as texts write them, as op3v1
 --   WellFormed   IsWellFormed: what holds of every context
@@ -20,8 +19,7 @@
 --                HasNewRegions: the regions of a new operation
 --   Room         IsFullForOp and its kin: when there is no room for a new node
 --   Placed       IsPlaced: a node has come under another one, and nothing else has changed (IsPlacedFirst and its kin:
---                where);
---                IsUnlinked: it has left its parent
+--                where); IsUnlinked: it has left its parent
 --   Held         IsOpEdited, IsBlockEdited: what an operation or a block holds is edited, and nothing else has changed
 --   Grown        IsGrown: nodes are new below a node; Growth: how trees grow in many steps
 --   Lends        what a `&mut` into a node leaves
@@ -36,7 +34,7 @@
 --   ValueUses    HasUses: a value is an operand of a live operation; num_uses_of: how many operands are
 --   Walked       IsCome: how far a walk through a tree has come
 --   Terminator   terminator_of: the operation that ends a block
---   InsertionPoint  insertion_block: the block that an insertion point is in
+--   InsertionPoint insertion_block: the block that an insertion point is in
 pub mod Above
 pub mod Nodes
 pub mod Stored

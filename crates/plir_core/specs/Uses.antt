@@ -1,15 +1,18 @@
 -- How often operations and blocks are used, as values and as successors, and the counts that a context keeps.
 use Rattle.std.specs.Prelude.{◌≡◌, ℕ, zero, suc, ◌+◌, ◌-◌, ◌^◌, min, Bool, false, cond, ◌==◌, List, length}
 use Rattle.std.specs.Prelude.{Option, Some, None, ◌⊎◌, slice_get, slice_set, slice_index_or, count_by}
+use Rattle.std.specs.List.{sum_by}
 use Rattle.plir_store.specs.Table.{Table, content_at}
 use Rattle.plir_core.specs.declared.ptr.Ptr.{Ptr}
 use Rattle.plir_core.specs.declared.ptr.BasicBlock.{BasicBlock as BasicBlockKind}
 use Rattle.plir_core.specs.declared.ptr.IRNode.{IRNode}
 use Rattle.plir_core.specs.declared.ptr.IRNode.TheVariants.{Operation, Region, BasicBlock}
 use Rattle.plir_core.specs.declared.value.Value.{Value}
-use Rattle.plir_core.specs.Contents.{OpView}
+use Rattle.plir_core.specs.Contents.{OpView, BlockView}
+use Rattle.plir_core.specs.Nodes.{Nodes}
+use Rattle.plir_core.specs.Erase.{tree_of}
 use Rattle.plir_core.specs.Stored.{Seat, op, region, block, seat_of}
-use Rattle.plir_core.specs.ContextView.{ContextView, entity_node, operands_of}
+use Rattle.plir_core.specs.ContextView.{ContextView, entity_node}
 use Rattle.plir_core.specs.WellFormed.{IsWellFormed}
 
 -- The counts of the slots of operations and of blocks, from the first slot on.
@@ -49,6 +52,10 @@ values_from at vs = count_by (λ v. is_seated at (entity_node v.entity)) vs
 abbrev pub blocks_in : Seat → List (Ptr BasicBlockKind) → ℕ
 blocks_in at bs = count_by (λ b. is_seated at (BasicBlock b)) bs
 
+-- how many nodes of the tree under the root sit where an operation or block does
+abbrev pub places_in : {O B : Type 0} → Nodes O B → IRNode → IRNode → ℕ
+places_in s root m = sum_by (λ n. hit (seat_of n) m) (tree_of s root)
+
 module _ {K A : Type 0} where
   -- how often an operation uses what has a seat: its operands and its successors
   abbrev pub uses_in : Seat → OpView K A → ℕ
@@ -61,6 +68,23 @@ module _ {K A : Type 0} where
   -- how often all operations use it
   abbrev pub uses_of : Table (OpView K A) → Seat → ℕ
   uses_of t at = total (λ i. uses_held at (content_at t i)) (length t.slots)
+
+  -- how often a node uses what has a seat: only operations use anything
+  abbrev pub uses_by : Nodes (OpView K A) (BlockView A) → Seat → IRNode → ℕ
+  uses_by s at (Operation p) = uses_held at (content_at s.ops p.slot)
+  uses_by s at (Region p) = 0
+  uses_by s at (BasicBlock p) = 0
+
+  -- how often a node uses nodes of the tree under the root
+  abbrev pub uses_within : Nodes (OpView K A) (BlockView A) → IRNode → IRNode → ℕ
+  uses_within s root m = sum_by (λ n. uses_by s (seat_of n) m) (tree_of s root)
+
+  -- how often all nodes of the tree under the root are used, and how often by nodes of the tree
+  abbrev pub uses_of_tree : Nodes (OpView K A) (BlockView A) → IRNode → ℕ
+  uses_of_tree s root = sum_by (λ n. uses_of s.ops (seat_of n)) (tree_of s root)
+
+  abbrev pub uses_inside : Nodes (OpView K A) (BlockView A) → IRNode → ℕ
+  uses_inside s root = sum_by (uses_within s root) (tree_of s root)
 
 -- the count that is kept for a seat, if there is one
 abbrev pub count_at : Uses → Seat → Option ℕ
@@ -110,12 +134,6 @@ IsBegun old now i = (j n : ℕ) →
 pub record IsSound {K A T : Type 0} (own_handles : A → List ℕ) (s : ContextView K A T) (u : Uses) : Type 0 where
   pub whole : IsWellFormed own_handles s
   pub counted : Counts u (uses_of s.nodes.ops)
-
--- how often a node uses itself: an operation those of its operands that are its own results, other nodes nothing
-abbrev pub own_uses : {K A T : Type 0} → ContextView K A T → IRNode → ℕ
-own_uses s (Operation p) = values_from (op p.slot) (operands_of s p)
-own_uses s (Region p) = 0
-own_uses s (BasicBlock p) = 0
 
 -- whether no live operation uses a node
 abbrev pub is_not_used : {K A T : Type 0} → ContextView K A T → IRNode → Bool

@@ -1,41 +1,50 @@
--- A walk through a tree, each node before those below it: what passes a test on the way.
-use Rattle.std.specs.Prelude.{◌≡◌, ℕ, ◌<◌, ◌≤◌, Bool, true, Some, slice_get}
+-- A walk through a tree, each node before those below it, and the sum over the nodes that it has gone by.
+use Rattle.std.specs.Prelude.{◌≡◌, ℕ, zero, suc, ◌+◌, true, drop, Some, slice_get}
+use Rattle.std.specs.List.{sum_by}
 use Rattle.plir_core.specs.declared.ptr.IRNode.{IRNode}
-use Rattle.plir_core.specs.Above.{climb, Reaches}
-use Rattle.plir_core.specs.Nodes.{Nodes, is_node_live, node_children, node_parent}
+use Rattle.plir_core.specs.Nodes.{Nodes, is_node_live, node_children}
+use Rattle.plir_core.specs.Erase.{tree_of}
 
-module _ {O B : Type 0} (passes : IRNode → Bool) (s : Nodes O B) where
-  -- a node and all below it pass
-  abbrev pub IsClear : IRNode → Type 0
-  IsClear n = (m : IRNode) → Reaches (node_parent s) m n → passes m ≡ true
+-- the sum of what g gives for the nodes of the tree under n
+abbrev pub tree_sum : {O B : Type 0} → (IRNode → ℕ) → Nodes O B → IRNode → ℕ
+tree_sum g s n = sum_by g (tree_of s n)
 
-  -- all that stands below earlier children of the same node passes, and so do those children
-  pub record IsClearBefore (n : IRNode) : Type 0 where
-    pub over : IRNode
-    pub place : ℕ
-    pub there : slice_get (node_children s over) place ≡ Some n
-    pub earlier : (j : ℕ) (b : IRNode) → j < place → slice_get (node_children s over) j ≡ Some b → IsClear b
+module _ {O B : Type 0} (g : IRNode → ℕ) (s : Nodes O B) (root : IRNode) where
+  -- n stands `levels` levels below the root, and `rest` is the sum over what a walk through the tree of the root has
+  -- ahead after n and all below n
+  abbrev pub IsAfter : ℕ → IRNode → ℕ → Type 0
+  IsAfter zero n rest = (n ≡ root) × (rest ≡ 0)
+  IsAfter (suc levels) n rest = (over : IRNode) × (place : ℕ) × (more : ℕ) ×
+      (slice_get (node_children s over) place ≡ Some n) ×
+      (rest ≡ sum_by (tree_sum g s) (drop (place + 1) (node_children s over)) + more) × IsAfter levels over more
 
-  -- the walk from `root` has come to n: all that it has gone by passes
-  pub record IsCome (root n : IRNode) : Type 0 where
+  -- the walk from the root has come to n, and `before` is the sum over the nodes that it has gone by
+  pub record IsCome (n : IRNode) (before : ℕ) : Type 0 where
     pub live : is_node_live s n ≡ true
-    pub steps : ℕ
-    pub way : climb (node_parent s) steps (Some n) ≡ Some root
-    pub left : (k : ℕ) (a : IRNode) → k < steps → climb (node_parent s) k (Some n) ≡ Some a → IsClearBefore a
-    pub above : (k : ℕ) (a : IRNode) → 0 < k → k ≤ steps → climb (node_parent s) k (Some n) ≡ Some a → passes a ≡ true
+    pub levels : ℕ
+    pub rest : ℕ
+    pub after : IsAfter levels n rest
+    pub whole : before + tree_sum g s n + rest ≡ tree_sum g s root
 
--- What is true of any test.
+  -- it has gone by n too and by all below n
+  pub record IsBehind (n : IRNode) (before : ℕ) : Type 0 where
+    pub levels : ℕ
+    pub rest : ℕ
+    pub after : IsAfter levels n rest
+    pub whole : before + rest ≡ tree_sum g s root
+
+-- What is true of any sum.
 module _ {O B : Type 0} (s : Nodes O B) (root n : IRNode) where
-  -- a walk goes on to m once n and all below it pass, and once n passes
+  -- a walk goes on to m after n and all below it, and after n
   abbrev pub GoesOnBehind : IRNode → Type 0
-  GoesOnBehind m = (p : IRNode → Bool) → IsCome p s root n → IsClear p s n → IsCome p s root m
+  GoesOnBehind m = (g : IRNode → ℕ) (before : ℕ) → IsBehind g s root n before → IsCome g s root m before
 
   abbrev pub GoesOn : IRNode → Type 0
-  GoesOn m = (p : IRNode → Bool) → IsCome p s root n → p n ≡ true → IsCome p s root m
+  GoesOn m = (g : IRNode → ℕ) (before : ℕ) → IsCome g s root n before → IsCome g s root m (before + g n)
 
   -- it ends there
   abbrev pub EndsBehind : Type 0
-  EndsBehind = (p : IRNode → Bool) → IsCome p s root n → IsClear p s n → IsClear p s root
+  EndsBehind = (g : IRNode → ℕ) (before : ℕ) → IsBehind g s root n before → before ≡ tree_sum g s root
 
   abbrev pub Ends : Type 0
-  Ends = (p : IRNode → Bool) → IsCome p s root n → p n ≡ true → IsClear p s root
+  Ends = (g : IRNode → ℕ) (before : ℕ) → IsCome g s root n before → before + g n ≡ tree_sum g s root

@@ -240,7 +240,7 @@ impl Ptr<BasicBlock> {
     }
 
     /// Puts a block that is in no region at the end of a region that it does not stand above.
-    pub fn insert_at_back<D: OpSet>(self, region: Ptr<Region>, ctx: &mut Context<D>)
+    pub fn insert_at_back<D: OpSet>(self, ctx: &mut Context<D>, region: Ptr<Region>)
         requires live { IsLive ctx.old (IRNode.BasicBlock self) }
         requires target_live { IsLive ctx.old (IRNode.Region region) }
         requires unlinked { parent_of ctx.old (IRNode.BasicBlock self) ≡ None }
@@ -269,7 +269,7 @@ impl Ptr<BasicBlock> {
     }
 
     /// Gives the block a label in place of the one that it had, or takes that one.
-    pub fn set_label<D: OpSet>(self, label: Option<Identifier>, ctx: &mut Context<D>)
+    pub fn set_label<D: OpSet>(self, ctx: &mut Context<D>, label: Option<Identifier>)
         requires { IsLive ctx.old (IRNode.BasicBlock self) }
         ensures after { ctx.new ≡ with_block_edit ctx.old self (λ b. record b { label = label }) }
         ensures whole { IsWellFormed D.attr_handles ctx.new }
@@ -315,7 +315,7 @@ impl Ptr<BasicBlock> {
     }
 
     /// Puts a block that is in no region at the start of a region that it does not stand above.
-    pub fn insert_at_front<D: OpSet>(self, region: Ptr<Region>, ctx: &mut Context<D>)
+    pub fn insert_at_front<D: OpSet>(self, ctx: &mut Context<D>, region: Ptr<Region>)
         requires live { IsLive ctx.old (IRNode.BasicBlock self) }
         requires target_live { IsLive ctx.old (IRNode.Region region) }
         requires unlinked { parent_of ctx.old (IRNode.BasicBlock self) ≡ None }
@@ -334,7 +334,7 @@ impl Ptr<BasicBlock> {
     }
 
     /// Puts a block that is in no region right before one that is in a region, and that it does not stand above.
-    pub fn insert_before<D: OpSet>(self, mark: Ptr<BasicBlock>, ctx: &mut Context<D>)
+    pub fn insert_before<D: OpSet>(self, ctx: &mut Context<D>, mark: Ptr<BasicBlock>)
         requires live { IsLive ctx.old (IRNode.BasicBlock self) }
         requires mark_live { IsLive ctx.old (IRNode.BasicBlock mark) }
         requires unlinked { parent_of ctx.old (IRNode.BasicBlock self) ≡ None }
@@ -358,7 +358,7 @@ impl Ptr<BasicBlock> {
     }
 
     /// Puts a block that is in no region right after one that is in a region, and that it does not stand above.
-    pub fn insert_after<D: OpSet>(self, mark: Ptr<BasicBlock>, ctx: &mut Context<D>)
+    pub fn insert_after<D: OpSet>(self, ctx: &mut Context<D>, mark: Ptr<BasicBlock>)
         requires live { IsLive ctx.old (IRNode.BasicBlock self) }
         requires mark_live { IsLive ctx.old (IRNode.BasicBlock mark) }
         requires unlinked { parent_of ctx.old (IRNode.BasicBlock self) ≡ None }

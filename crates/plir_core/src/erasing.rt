@@ -18,7 +18,7 @@ use plir_data::OpSet;
 
 impl IRNode {
     /// Whether the node is another one or stands above it.
-    pub fn is_ancestor<D: OpSet>(self, node: IRNode, ctx: &Context<D>) -> bool
+    pub fn is_ancestor<D: OpSet>(self, ctx: &Context<D>, node: IRNode) -> bool
         requires { IsLive ctx.now node }
         ensures value { IsTrue result ↔ IsAncestor ctx.now self node }
         ensures whole { IsWellFormed D.attr_handles ctx.now }
@@ -28,8 +28,9 @@ impl IRNode {
     }
 
     /// Whether no live operation outside the tree of this node, which is the node and all below it, has an operand that
-    /// is a value of the tree or a successor in it. Counts tell it where the node has no children, and where nothing
-    /// uses any node of the tree, also in the tree; else, and where a count is not known, this looks at all operations.
+    /// is a value of the tree or a successor in it. This goes through the tree, and where anything of it is used a
+    /// second time, in which it climbs from the owner of each operand and from each successor if the tree is more than
+    /// its root. It looks at all operations only where a count of uses is not known.
     pub fn is_unused_outside<D: OpSet>(self, ctx: &Context<D>) -> bool
         ensures value { IsTrue result ↔ IsUnusedOutside ctx.now self }
         ensures whole { IsWellFormed D.attr_handles ctx.now }

@@ -237,7 +237,8 @@ impl Ptr<Operation> {
         ctx.nodes.num_regions(self)
     }
 
-    /// The region at a place, from 0, among those of the operation. It is found from the first one on, one by one.
+    /// The region at a place, from 0, among those of the operation. It is found from the first one on, one by one: a loop
+    /// over all goes by `first_region` and `get_next`.
     pub fn get_region<D: OpSet>(self, ctx: &Context<D>, i: usize) -> Ptr<Region>
         requires live { IsLive ctx.now (IRNode.Operation self) }
         requires below { i < length (children ctx.now (IRNode.Operation self)) }
@@ -382,7 +383,7 @@ impl Ptr<Operation> {
     }
 
     /// Puts an operation that is in no block at the end of a block that it does not stand above.
-    pub fn insert_at_back<D: OpSet>(self, block: Ptr<BasicBlock>, ctx: &mut Context<D>)
+    pub fn insert_at_back<D: OpSet>(self, ctx: &mut Context<D>, block: Ptr<BasicBlock>)
         requires live { IsLive ctx.old (IRNode.Operation self) }
         requires target_live { IsLive ctx.old (IRNode.BasicBlock block) }
         requires unlinked { parent_of ctx.old (IRNode.Operation self) ≡ None }

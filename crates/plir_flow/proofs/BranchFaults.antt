@@ -1,4 +1,4 @@
--- What is told of a mismatch is a fault of the branch.
+-- What is reported of a mismatch is a fault of the branch.
 use Rattle.std.proofs.Common.{ℕ, List}
 use Rattle.plir_data.specs.Types.{TypeView}
 use Rattle.plir_core.specs.declared.ptr.Ptr.{Ptr}
@@ -8,15 +8,15 @@ use Rattle.plir_flow.specs.declared.branch_errors.BranchOpInterfaceVerifyErr.{Br
 use Rattle.plir_flow.specs.declared.branch_errors.BranchOpInterfaceVerifyErr.TheVariants.{Layout, SuccessorOperandsMismatch, SuccessorOperandTypeMismatch}
 use Rattle.plir_flow.specs.declared.branch_errors.Mismatch.{Mismatch}
 use Rattle.plir_flow.specs.declared.branch_errors.Mismatch.TheVariants.{Count, Differ}
-use Rattle.plir_flow.specs.Branches.{Range, IsFirstMismatch, TellsMismatch, IsBranchFault}
+use Rattle.plir_flow.specs.Branches.{Range, IsFirstMismatch, ReportsMismatch, IsBranchFault}
 
 module _ {K A T E : Type 0} (own_id : T → List ℕ) (own_body : List (TypeView T) → T → List ℕ) (s : ContextView K A T) where
-  no-layout : (m : Mismatch) (e : E) → TellsMismatch own_id own_body s m (Layout e) → ⊥
+  no-layout : (m : Mismatch) (e : E) → ReportsMismatch own_id own_body s m (Layout e) → ⊥
   no-layout (Count p x) e t = t
   no-layout (Differ i f x) e t = t
 
-  pub told : (layout : Type 0) (refuses : E → Type 0) (op : Ptr OperationKind) (forwards : ℕ → Range) (m : Mismatch) → layout → IsFirstMismatch s op forwards m
-      → (e : BranchOpInterfaceVerifyErr E) → TellsMismatch own_id own_body s m e → IsBranchFault layout refuses own_id own_body s op forwards e
-  told layout refuses op forwards m l f (Layout e) t = absurd (no-layout m e t)
-  told layout refuses op forwards m l f (SuccessorOperandsMismatch p x) t = (l, (m, (f, t)))
-  told layout refuses op forwards m l f (SuccessorOperandTypeMismatch i g x) t = (l, (m, (f, t)))
+  pub reported : (layout : Type 0) (refuses : E → Type 0) (op : Ptr OperationKind) (forwards : ℕ → Range) (m : Mismatch) → layout → IsFirstMismatch s op forwards m
+      → (e : BranchOpInterfaceVerifyErr E) → ReportsMismatch own_id own_body s m e → IsBranchFault layout refuses own_id own_body s op forwards e
+  reported layout refuses op forwards m l f (Layout e) t = absurd (no-layout m e t)
+  reported layout refuses op forwards m l f (SuccessorOperandsMismatch p x) t = (l, (m, (f, t)))
+  reported layout refuses op forwards m l f (SuccessorOperandTypeMismatch i g x) t = (l, (m, (f, t)))

@@ -18,7 +18,8 @@ use Rattle.plir_flow.specs.declared.edge_ends.RegionSuccessor.TheVariants.{Regio
 use Rattle.plir_flow.specs.declared.region_edge_errors.EdgeFault.{EdgeFault}
 use Rattle.plir_flow.specs.declared.region_edge_errors.EdgeFault.TheVariants.{OtherReceivers, ForeignTerminator, ForeignRead, ForeignRegion, ForeignOperand, NoArgument, NoResult, ReceivedTwice, OtherType}
 use Rattle.plir_flow.specs.RegionEdges.{EdgeView, Flow, receivers_on}
-use Rattle.plir_flow.specs.RegionRule.{SameReceivers, HaveOtherReceivers, AreFirsts, IsReceiver, IsFlowBroken, IsBrokenAt, IsBroken, no_receiver, target_region, IsFlowRight, FlowSays, FlowsSay, EdgeSays}
+use Rattle.plir_flow.specs.RegionRule.{SameReceivers, HaveOtherReceivers, IsReceiver, IsFaultOfFlow, IsFaultOfEdge, IsFaultOfEdges, no_receiver, IsFlowRight}
+use Rattle.plir_flow.specs.EdgeVerdicts.{AreFirsts, target_region, IsFlowVerdict, IsFlowsVerdict, IsEdgeVerdict}
 use Rattle.plir_flow.proofs.TakenLists.{each-has, each-from-has, mapped-all, mapped-at, distinct-push}
 use Rattle.plir_flow.proofs.Exact.{same-region-exact}
 
@@ -155,12 +156,12 @@ firsts-all es n head w long d e hd he same v =
 
 -- faults
 module _ {K A T : Type 0} (s : ContextView K A T) (op : Ptr OperationKind) (p : RegionBranchPoint) where
-  pub no-receiver : (t : RegionSuccessor) (f : Flow) → (IsReceiver s op t f.1 → ⊥) → IsFlowBroken s op p t f (no_receiver t)
+  pub no-receiver : (t : RegionSuccessor) (f : Flow) → (IsReceiver s op t f.1 → ⊥) → IsFaultOfFlow s op p t f (no_receiver t)
   no-receiver (ToRegion r) f n = (refl, n)
   no-receiver After f n = (refl, n)
 
 module _ {K A T : Type 0} (is_terminator : K → Bool) (s : ContextView K A T) (op : Ptr OperationKind) (e : EdgeView) (f : Flow) (here : Has e.flows f) where
-  pub flow-breaks : (x : EdgeFault) → IsFlowBroken s op e.from e.to f x → IsBrokenAt is_terminator s op e x
+  pub flow-breaks : (x : EdgeFault) → IsFaultOfFlow s op e.from e.to f x → IsFaultOfEdge is_terminator s op e x
   flow-breaks OtherReceivers b = absurd b
   flow-breaks ForeignTerminator b = absurd b
   flow-breaks ForeignRead b = absurd b
@@ -171,8 +172,8 @@ module _ {K A T : Type 0} (is_terminator : K → Bool) (s : ContextView K A T) (
   flow-breaks ReceivedTwice b = absurd b
   flow-breaks (OtherType t u) b = (f, (here, b))
 
-pub edge-breaks : {K A T : Type 0} (is_terminator : K → Bool) (s : ContextView K A T) (op : Ptr OperationKind) (es : List EdgeView) (e : EdgeView) → Has es e → (x : EdgeFault) → IsBrokenAt is_terminator s op e x
-    → IsBroken is_terminator s op es x
+pub edge-breaks : {K A T : Type 0} (is_terminator : K → Bool) (s : ContextView K A T) (op : Ptr OperationKind) (es : List EdgeView) (e : EdgeView) → Has es e → (x : EdgeFault) → IsFaultOfEdge is_terminator s op e x
+    → IsFaultOfEdges is_terminator s op es x
 edge-breaks t s op es e here OtherReceivers b = absurd b
 edge-breaks t s op es e here ForeignTerminator b = (e, (here, b))
 edge-breaks t s op es e here ForeignRead b = (e, (here, b))
@@ -201,34 +202,34 @@ twice {A} {B} g (x ∷ xs) (suc i) d h k w = elim k [
     mapped (y ∷ ys) (suc j) b = inr (mapped ys j (omega arith))
 
 module _ {K A T : Type 0} (is_terminator : K → Bool) (s : ContextView K A T) (op : Ptr OperationKind) where
-  pub edge-told : (es : List EdgeView) (e : EdgeView) (r : Option EdgeFault) → Has es e → EdgeSays is_terminator s op e r → IfSome r (IsBroken is_terminator s op es)
-  edge-told es e None here told = tt
-  edge-told es e (Some x) here told = edge-breaks is_terminator s op es e here x told
+  pub edge-reported : (es : List EdgeView) (e : EdgeView) (r : Option EdgeFault) → Has es e → IsEdgeVerdict is_terminator s op e r → IfSome r (IsFaultOfEdges is_terminator s op es)
+  edge-reported es e None here reported = tt
+  edge-reported es e (Some x) here reported = edge-breaks is_terminator s op es e here x reported
 
   module _ (x e : EdgeView) (v : x ≡ e) (gs : List Flow) (g : gs ≡ x.flows) (i : ℕ) (d : Flow) (received now : List Value) (below : i < length gs) where
     abbrev Names : List Flow → List Value
     Names fs = map (λ (f : Flow). f.1) fs
 
-    stop : (r : Option EdgeFault) → received ≡ Names (take i x.flows) → FlowSays s op x.from x.to (get_or x.flows i d) received now r → i < length x.flows → is_some r ≡ true → FlowsSay is_terminator s op x r
-    stop None is told within some = absurd (let f : false ≡ true = some in cc)
+    stop : (r : Option EdgeFault) → received ≡ Names (take i x.flows) → IsFlowVerdict s op x.from x.to (get_or x.flows i d) received now r → i < length x.flows → is_some r ≡ true → IsFlowsVerdict is_terminator s op x r
+    stop None is reported within some = absurd (let f : false ≡ true = some in cc)
     stop (Some y) is (inl broken) within some = flow-breaks is_terminator s op x (get_or x.flows i d) (place-has x.flows i d within) y broken
     stop (Some y) is (inr (e, h)) within some =
-        subst (λ z. IsBrokenAt is_terminator s op x z) (sym e) (twice (λ (f : Flow). f.1) x.flows i d within (subst (λ l. Has l (get_or x.flows i d).1) is h))
+        subst (λ z. IsFaultOfEdge is_terminator s op x z) (sym e) (twice (λ (f : Flow). f.1) x.flows i d within (subst (λ l. Has l (get_or x.flows i d).1) is h))
 
     inside : i < length x.flows
     inside = subst (λ l. i < length l) g below
 
-    pub flows-stop : (r : Option EdgeFault) → received ≡ Names (take i e.flows) → FlowSays s op x.from x.to (get_or gs i d) received now r → is_some r ≡ true → FlowsSay is_terminator s op e r
-    flows-stop r is told some =
-        subst (λ (z : EdgeView). FlowsSay is_terminator s op z r) v
-        (stop r (is ∙ ap (λ (z : EdgeView). Names (take i z.flows)) (sym v)) (subst (λ l. FlowSays s op x.from x.to (get_or l i d) received now r) g told) inside some)
+    pub flows-stop : (r : Option EdgeFault) → received ≡ Names (take i e.flows) → IsFlowVerdict s op x.from x.to (get_or gs i d) received now r → is_some r ≡ true → IsFlowsVerdict is_terminator s op e r
+    flows-stop r is reported some =
+        subst (λ (z : EdgeView). IsFlowsVerdict is_terminator s op z r) v
+        (stop r (is ∙ ap (λ (z : EdgeView). Names (take i z.flows)) (sym v)) (subst (λ l. IsFlowVerdict s op x.from x.to (get_or l i d) received now r) g reported) inside some)
 
     abbrev Goes : EdgeView → Type 0
     Goes z = (now ≡ Names (take (i + 1) z.flows)) × All (IsFlowRight s op z.from z.to) (take (i + 1) z.flows) × Distinct now
 
     go : (r : Option EdgeFault) → received ≡ Names (take i x.flows) → All (IsFlowRight s op x.from x.to) (take i x.flows) → Distinct received
-        → FlowSays s op x.from x.to (get_or x.flows i d) received now r → is_some r ≡ false → Goes x
-    go (Some y) is all once told none = absurd (let f : true ≡ false = none in cc)
+        → IsFlowVerdict s op x.from x.to (get_or x.flows i d) received now r → is_some r ≡ false → Goes x
+    go (Some y) is all once reported none = absurd (let f : true ≡ false = none in cc)
     go None is all once (right, fresh, grown) none = (
       grown ∙ ap (λ l. l ++ (get_or x.flows i d).1 ∷ []) is ∙ mapped-at (λ (f : Flow). f.1) [] x.flows i d inside,
       All-more (IsFlowRight s op x.from x.to) x.flows i d inside all right,
@@ -236,10 +237,10 @@ module _ {K A T : Type 0} (is_terminator : K → Bool) (s : ContextView K A T) (
     )
 
     pub flows-go : (r : Option EdgeFault) → received ≡ Names (take i e.flows) → All (IsFlowRight s op e.from e.to) (take i e.flows) → Distinct received
-        → FlowSays s op x.from x.to (get_or gs i d) received now r → is_some r ≡ false → Goes e
-    flows-go r is all once told none =
+        → IsFlowVerdict s op x.from x.to (get_or gs i d) received now r → is_some r ≡ false → Goes e
+    flows-go r is all once reported none =
         subst Goes v (go r (is ∙ ap (λ (z : EdgeView). Names (take i z.flows)) (sym v)) (subst (λ (z : EdgeView). All (IsFlowRight s op z.from z.to) (take i z.flows)) (sym v) all) once
-        (subst (λ l. FlowSays s op x.from x.to (get_or l i d) received now r) g told) none)
+        (subst (λ l. IsFlowVerdict s op x.from x.to (get_or l i d) received now r) g reported) none)
 
 pub firsts-none : (es : List EdgeView) (head : RegionSuccessor → Option ℕ) → ((t : RegionSuccessor) → head t ≡ None) → AreFirsts es 0 head
 firsts-none es head empty = record {

@@ -64,8 +64,8 @@ module _ {K A T : Type 0} where
   HasNSuccs n s op = num_successors s op ≡ n
 
   -- it is refused with the number that is asked for and the one that is there
-  abbrev pub BreaksNSuccs : ℕ → ContextView K A T → Ptr OperationKind → VerifyErr NSuccsVerifyErr → Type 0
-  BreaksNSuccs n s op = IsRefusal s op (λ e. (e.0 ≡ n) × (e.1 ≡ num_successors s op))
+  abbrev pub IsNSuccsRefusal : ℕ → ContextView K A T → Ptr OperationKind → VerifyErr NSuccsVerifyErr → Type 0
+  IsNSuccsRefusal n s op = IsRefusal s op (λ e. (e.0 ≡ n) × (e.1 ≡ num_successors s op))
 
   -- the operands in a range of places, and their types
   abbrev pub operands_within : ContextView K A T → Ptr OperationKind → Range → List Value
@@ -103,27 +103,27 @@ module _ {K A T : Type 0} where
   NamesLive s (Count provided expected) = Unit {0}
   NamesLive s (Differ i forwarded expected) = IsTypeLive s.types forwarded × IsTypeLive s.types expected
 
-  -- What an error tells of a mismatch: its numbers, or the texts of its types.
-  abbrev pub TellsMismatch : {E : Type 0} → (own_id : T → List ℕ) (own_body : List (TypeView T) → T → List ℕ) →
+  -- What an error reports of a mismatch: its numbers, or the texts of its types.
+  abbrev pub ReportsMismatch : {E : Type 0} → (own_id : T → List ℕ) (own_body : List (TypeView T) → T → List ℕ) →
       ContextView K A T → Mismatch → BranchOpInterfaceVerifyErr E → Type 0
-  TellsMismatch own_id own_body s (Count p x) (SuccessorOperandsMismatch provided expected) = (provided ≡ p) ×
+  ReportsMismatch own_id own_body s (Count p x) (SuccessorOperandsMismatch provided expected) = (provided ≡ p) ×
       (expected ≡ x)
-  TellsMismatch own_id own_body s (Differ i f x) (SuccessorOperandTypeMismatch idx forwarded expected) =
+  ReportsMismatch own_id own_body s (Differ i f x) (SuccessorOperandTypeMismatch idx forwarded expected) =
       (idx ≡ i) × (string_bytes forwarded ≡ type_text own_id own_body s.types f) ×
       (string_bytes expected ≡ type_text own_id own_body s.types x)
-  TellsMismatch own_id own_body s _ _ = ⊥
+  ReportsMismatch own_id own_body s _ _ = ⊥
 
-  -- The layout is wrong, and this is its refusal; or it is right, and the error tells how the first successor's types
+  -- The layout is wrong, and this is its refusal; or it is right, and the error reports how the first successor's types
   -- do not agree.
   abbrev pub IsBranchFault : {E : Type 0} → (layout : Type 0) (layout_refusal : E → Type 0) (own_id : T → List ℕ)
       (own_body : List (TypeView T) → T → List ℕ)
       → ContextView K A T → Ptr OperationKind → (forwards : ℕ → Range) → BranchOpInterfaceVerifyErr E → Type 0
   IsBranchFault layout layout_refusal own_id own_body s op forwards (Layout e) = (layout → ⊥) × layout_refusal e
   IsBranchFault layout layout_refusal own_id own_body s op forwards e = layout ×
-      ((m : Mismatch) × (IsFirstMismatch s op forwards m × TellsMismatch own_id own_body s m e))
+      ((m : Mismatch) × (IsFirstMismatch s op forwards m × ReportsMismatch own_id own_body s m e))
 
   -- From s to t an operation has come to have these operands; what its successor i gets has become `values`, what the
-  -- others get is the same, and beside the attributes under these keys, which tell of the layout, nothing else has
+  -- others get is the same, and beside the attributes under these keys, which describe the layout, nothing else has
   -- changed.
   pub record IsReforwarded (s t : ContextView K A T) (op : Ptr OperationKind) (keys : List (List ℕ))
       (old new : ℕ → Range)
@@ -161,9 +161,9 @@ module _ {K A T : Type 0} where
   IsOperandReplaced s t op i v = t ≡ with_op_edit s op (λ o. record o { operands = slice_set o.operands i v })
 
 -- the refusal of a branch, at the operation's location; or memory was refused
-abbrev pub BreaksBranchRule : {D K A T E : Type 0} → op_set.Ghosts D K A T E →
-    (layout : ContextView K A T → Type 0) (tells : ContextView K A T → E → Type 0)
+abbrev pub IsBranchRuleRefusal : {D K A T E : Type 0} → op_set.Ghosts D K A T E →
+    (layout : ContextView K A T → Type 0) (reports : ContextView K A T → E → Type 0)
     → (forwards : ContextView K A T → ℕ → Range) → ContextView K A T → Ptr OperationKind →
     VerifyErr (BranchOpInterfaceVerifyErr E) → Type 0
-BreaksBranchRule o layout tells forwards s op = IsRefusalMemoryAside s op
-    (IsBranchFault (layout s) (tells s) o.type_id o.type_body_text s op (forwards s))
+IsBranchRuleRefusal o layout reports forwards s op = IsRefusalMemoryAside s op
+    (IsBranchFault (layout s) (reports s) o.type_id o.type_body_text s op (forwards s))

@@ -50,9 +50,9 @@ module _ {K A T : Type 0} where
     IsCallFault CalleeTypeAttrIncorrectTypeErr = (t : ℕ) ×
         ((callee_type_of s op ≡ Some t) × (IsMarked is_function s.types t → ⊥))
 
-    -- the same, told at the operation's location
-    abbrev pub BreaksCalleeType : VerifyErr CallOpInterfaceErr → Type 0
-    BreaksCalleeType = IsRefusal s op IsCallFault
+    -- the same, reported at the operation's location
+    abbrev pub IsCalleeTypeRefusal : VerifyErr CallOpInterfaceErr → Type 0
+    IsCalleeTypeRefusal = IsRefusal s op IsCallFault
 
   -- the attribute of a type has come under the key
   abbrev pub with_callee_type : ContextView K A T → Ptr OperationKind → ℕ → ContextView K A T

@@ -20,11 +20,11 @@ module _ (hops : List Hop) where
   IsLatest n r None = IsNoneFrom 0 n r
   IsLatest n r (Some k) = (k < n) × ((h : Hop) × ((slice_get hops k ≡ Some h) × (h.from ≡ r))) × IsNoneFrom (k + 1) n r
 
-  -- each hop tells the place of the one before from its region
+  -- each hop names the place of the one before from its region
   abbrev pub AreLinked : Type 0
   AreLinked = (i : ℕ) (h : Hop) → slice_get hops i ≡ Some h → IsLatest i h.from h.earlier
 
-  -- the last hop from each region stands where its head tells
+  -- the last hop from each region stands where its head names it
   abbrev pub AreHeads : (head : Ptr RegionKind → Option ℕ) → Type 0
   AreHeads head = (r : Ptr RegionKind) → IsLatest (length hops) r (head r)
 

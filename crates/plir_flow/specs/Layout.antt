@@ -8,6 +8,6 @@ use Rattle.plir_iface.specs.Verdict.{IsRefusalMemoryAside}
 -- At the operation's location, where the layout isn't right, by an error that the implementer names; or memory was
 -- refused.
 abbrev pub IsLayoutRefusal : {K A T E : Type 0}
-    → (right : ContextView K A T → Type 0) (tells : ContextView K A T → E → Type 0) →
+    → (right : ContextView K A T → Type 0) (reports : ContextView K A T → E → Type 0) →
     ContextView K A T → Ptr OperationKind → VerifyErr E → Type 0
-IsLayoutRefusal right tells s op = IsRefusalMemoryAside s op (λ e. (right s → ⊥) × tells s e)
+IsLayoutRefusal right reports s op = IsRefusalMemoryAside s op (λ e. (right s → ⊥) × reports s e)

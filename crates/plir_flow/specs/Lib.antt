@@ -12,6 +12,10 @@
 --                    to
 --   EdgeEquality     same_edge: when two edges are equal
 --   RegionRule       HasEdgeRule: the rule of region edges, and how it is refused
+--
+-- What private functions share.
+--
+--   EdgeVerdicts     IsEdgesVerdict and its kin: the first fault of edges, as far as they have been looked at
 --   Hops             how the steps between regions are kept, while those that are reached are looked for
 pub mod Segments
 pub mod SegmentRefusals
@@ -24,4 +28,5 @@ pub mod Paths
 pub mod RegionEdges
 pub mod EdgeEquality
 pub mod RegionRule
+pub mod EdgeVerdicts
 pub mod Hops

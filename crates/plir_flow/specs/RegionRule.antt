@@ -1,16 +1,13 @@
 -- The rule of region edges, and how it is refused.
-use Rattle.std.specs.Prelude.{◌≡◌, ◌⊎◌, ◌↔◌, ℕ, List, [], ◌∷◌, All, Bool, true, slice_get, Option, Some, None, ◌<◌}
-use Rattle.std.specs.Prelude.{◌++◌, string_bytes, option_and_then}
-use Rattle.std.specs.HashMap.{HashMap, get}
-use Rattle.std.specs.Option.{option_eq}
+use Rattle.std.specs.Prelude.{◌≡◌, ◌⊎◌, ◌↔◌, ℕ, List, All, Bool, true, slice_get, Option, Some}
+use Rattle.std.specs.Prelude.{string_bytes, option_and_then}
 use Rattle.plir_data.specs.declared.location.VerifyErr.{VerifyErr}
 use Rattle.plir_data.specs.declared.op_set.OpSet as op_set
 use Rattle.plir_data.specs.declared.location.VerifyErr.TheVariants.{Refused, Memory}
-use Rattle.plir_data.specs.Types.{TypeView, IsLive as IsTypeLive}
+use Rattle.plir_data.specs.Types.{TypeView}
 use Rattle.plir_data.specs.TypeText.{type_text}
 use Rattle.plir_core.specs.declared.ptr.Ptr.{Ptr}
 use Rattle.plir_core.specs.declared.ptr.Operation.{Operation as OperationKind}
-use Rattle.plir_core.specs.declared.ptr.Region.{Region as RegionKind}
 use Rattle.plir_core.specs.declared.ptr.IRNode.TheVariants.{Operation, Region}
 use Rattle.plir_core.specs.declared.value.Value.{Value}
 use Rattle.plir_core.specs.declared.value.DefiningEntity.{DefiningEntity}
@@ -42,7 +39,6 @@ use Rattle.plir_flow.specs.declared.region_edge_errors.EdgeFault.TheVariants.{Fo
 use Rattle.plir_flow.specs.declared.region_edge_errors.EdgeFault.TheVariants.{ForeignOperand, NoArgument, NoResult}
 use Rattle.plir_flow.specs.declared.region_edge_errors.EdgeFault.TheVariants.{ReceivedTwice, OtherType}
 use Rattle.plir_iface.specs.Verdict.{IsRefusalMemoryAside}
-use Rattle.plir_flow.specs.Hops.{same_region}
 use Rattle.plir_flow.specs.RegionEdges.{EdgeView, Flow, receivers_on}
 
 -- the refusal of a layout, as that of region edges
@@ -115,12 +111,12 @@ module _ {K A T : Type 0} (s : ContextView K A T) (op : Ptr OperationKind) (p : 
     pub types : type_of_use s f.0 ≡ type_of_value s f.1
 
   -- what flows breaks the point that a fault names
-  abbrev pub IsFlowBroken : Flow → EdgeFault → Type 0
-  IsFlowBroken f ForeignOperand = f.0.op ≡ source_at op p → ⊥
-  IsFlowBroken f NoArgument = (no_receiver t ≡ NoArgument) × (IsReceiver s op t f.1 → ⊥)
-  IsFlowBroken f NoResult = (no_receiver t ≡ NoResult) × (IsReceiver s op t f.1 → ⊥)
-  IsFlowBroken f (OtherType x y) = IsOfOtherType s f.0 f.1 (OtherType x y)
-  IsFlowBroken f _ = ⊥
+  abbrev pub IsFaultOfFlow : Flow → EdgeFault → Type 0
+  IsFaultOfFlow f ForeignOperand = f.0.op ≡ source_at op p → ⊥
+  IsFaultOfFlow f NoArgument = (no_receiver t ≡ NoArgument) × (IsReceiver s op t f.1 → ⊥)
+  IsFaultOfFlow f NoResult = (no_receiver t ≡ NoResult) × (IsReceiver s op t f.1 → ⊥)
+  IsFaultOfFlow f (OtherType x y) = IsOfOtherType s f.0 f.1 (OtherType x y)
+  IsFaultOfFlow f _ = ⊥
 
 module _ {K A T : Type 0} (is_terminator : K → Bool) (s : ContextView K A T) (op : Ptr OperationKind) where
   -- The points of the rule that speak of one edge, in their order.
@@ -137,98 +133,53 @@ module _ {K A T : Type 0} (is_terminator : K → Bool) (s : ContextView K A T) (
     pub each : All IsEdgeRight es
 
   -- an edge breaks the point that a fault names
-  abbrev pub IsBrokenAt : EdgeView → EdgeFault → Type 0
-  IsBrokenAt e OtherReceivers = ⊥
-  IsBrokenAt e ForeignTerminator = IsOwnPoint is_terminator s op e.from → ⊥
-  IsBrokenAt e ForeignRead = All (IsOwnRead op e.from) e.reads → ⊥
-  IsBrokenAt e ForeignRegion = IsOwnSuccessor s op e.to → ⊥
-  IsBrokenAt e ReceivedTwice = Distinct (receivers_on e) → ⊥
-  IsBrokenAt e x = (f : Flow) × (Has e.flows f × IsFlowBroken s op e.from e.to f x)
+  abbrev pub IsFaultOfEdge : EdgeView → EdgeFault → Type 0
+  IsFaultOfEdge e OtherReceivers = ⊥
+  IsFaultOfEdge e ForeignTerminator = IsOwnPoint is_terminator s op e.from → ⊥
+  IsFaultOfEdge e ForeignRead = All (IsOwnRead op e.from) e.reads → ⊥
+  IsFaultOfEdge e ForeignRegion = IsOwnSuccessor s op e.to → ⊥
+  IsFaultOfEdge e ReceivedTwice = Distinct (receivers_on e) → ⊥
+  IsFaultOfEdge e x = (f : Flow) × (Has e.flows f × IsFaultOfFlow s op e.from e.to f x)
 
   -- some edge breaks the point that a fault names
-  abbrev pub IsBroken : List EdgeView → EdgeFault → Type 0
-  IsBroken es OtherReceivers = HaveOtherReceivers es
-  IsBroken es f = (e : EdgeView) × (Has es e × IsBrokenAt e f)
-
--- What flows is right and goes to none of those that have received, and now its receiver is the last of these; or it
--- breaks the point that the fault names, or goes to one of those.
-abbrev pub FlowSays : {K A T : Type 0} → ContextView K A T → Ptr OperationKind → RegionBranchPoint → RegionSuccessor
-    → Flow →
-    (received now : List Value) → Option EdgeFault → Type 0
-FlowSays s op p t f received now None = IsFlowRight s op p t f × (Has received f.1 → ⊥) × (now ≡ received ++ f.1 ∷ [])
-FlowSays s op p t f received now (Some x) = IsFlowBroken s op p t f x ⊎ ((x ≡ ReceivedTwice) × Has received f.1)
-
-module _ {K A T : Type 0} (is_terminator : K → Bool) (s : ContextView K A T) (op : Ptr OperationKind) where
-  -- what flows on an edge is right, or the edge breaks the point that the fault names
-  abbrev pub FlowsSay : EdgeView → Option EdgeFault → Type 0
-  FlowsSay e None = All (IsFlowRight s op e.from e.to) e.flows × Distinct (receivers_on e)
-  FlowsSay e (Some x) = IsBrokenAt is_terminator s op e x
-
-  -- an edge is right, or it breaks the point that the fault names
-  abbrev pub EdgeSays : EdgeView → Option EdgeFault → Type 0
-  EdgeSays e None = IsEdgeRight is_terminator s op e
-  EdgeSays e (Some x) = IsBrokenAt is_terminator s op e x
-
-  -- the rule holds, or some edge breaks the point that the fault names
-  abbrev pub EdgesSay : List EdgeView → Option EdgeFault → Type 0
-  EdgesSay es None = HasEdgeRule is_terminator s op es
-  EdgesSay es (Some x) = IsBroken is_terminator s op es x
-
--- Of the first n edges each has the receivers of the one that its target's head tells, and a head tells an edge with
--- that target.
-pub record AreFirsts (es : List EdgeView) (n : ℕ) (head : RegionSuccessor → Option ℕ) : Type 0 where
-  pub seen : (j : ℕ) (d : EdgeView) → j < n → slice_get es j ≡ Some d → (i : ℕ) ×
-      ((e : EdgeView) × ((head d.to ≡ Some i) × (slice_get es i ≡ Some e) × SameReceivers e d))
-  pub heads : (t : RegionSuccessor) (i : ℕ) → head t ≡ Some i → (e : EdgeView) ×
-      ((slice_get es i ≡ Some e) × (e.to ≡ t))
-
--- the region that an edge leads to
-abbrev pub target_region : RegionSuccessor → Option (Ptr RegionKind)
-target_region (ToRegion r) = Some r
-target_region After = None
-
--- the place that a map has for the region of a target
-abbrev pub first_place : {S : Type 0} → HashMap (Option (Ptr RegionKind)) ℕ S → RegionSuccessor → Option ℕ
-first_place m t = get (option_eq same_region) m (target_region t)
-
--- the types that a fault names are types of the context
-abbrev pub NamesLive : {K A T : Type 0} → ContextView K A T → EdgeFault → Type 0
-NamesLive s (OtherType t u) = IsTypeLive s.types t × IsTypeLive s.types u
-NamesLive s _ = Unit {0}
+  abbrev pub IsFaultOfEdges : List EdgeView → EdgeFault → Type 0
+  IsFaultOfEdges es OtherReceivers = HaveOtherReceivers es
+  IsFaultOfEdges es f = (e : EdgeView) × (Has es e × IsFaultOfEdge e f)
 
 module _ {K A T E : Type 0} (own_id : T → List ℕ) (own_body : List (TypeView T) → T → List ℕ)
     (s : ContextView K A T) where
-  -- What an error tells of a fault: the point, and the texts of the types.
-  abbrev pub TellsFault : EdgeFault → RegionBranchOpInterfaceVerifyErr E → Type 0
-  TellsFault OtherReceivers ReceiverSetMismatch = Unit {0}
-  TellsFault ForeignTerminator InvalidTerminator = Unit {0}
-  TellsFault ForeignRead ReadNotOpOrSourceOperand = Unit {0}
-  TellsFault ForeignRegion ForeignRegionSuccessor = Unit {0}
-  TellsFault ForeignOperand OperandNotAtBranchPoint = Unit {0}
-  TellsFault NoArgument ReceiverNotRegionArgument = Unit {0}
-  TellsFault NoResult ReceiverNotResult = Unit {0}
-  TellsFault ReceivedTwice DuplicateReceiver = Unit {0}
-  TellsFault (OtherType t u) (FlowTypeMismatch operand receiver) =
+  -- What an error reports of a fault: the point, and the texts of the types.
+  abbrev pub ReportsFault : EdgeFault → RegionBranchOpInterfaceVerifyErr E → Type 0
+  ReportsFault OtherReceivers ReceiverSetMismatch = Unit {0}
+  ReportsFault ForeignTerminator InvalidTerminator = Unit {0}
+  ReportsFault ForeignRead ReadNotOpOrSourceOperand = Unit {0}
+  ReportsFault ForeignRegion ForeignRegionSuccessor = Unit {0}
+  ReportsFault ForeignOperand OperandNotAtBranchPoint = Unit {0}
+  ReportsFault NoArgument ReceiverNotRegionArgument = Unit {0}
+  ReportsFault NoResult ReceiverNotResult = Unit {0}
+  ReportsFault ReceivedTwice DuplicateReceiver = Unit {0}
+  ReportsFault (OtherType t u) (FlowTypeMismatch operand receiver) =
       (string_bytes operand ≡ type_text own_id own_body s.types t) ×
       (string_bytes receiver ≡ type_text own_id own_body s.types u)
-  TellsFault _ _ = ⊥
+  ReportsFault _ _ = ⊥
 
   module _ (is_terminator : K → Bool) (op : Ptr OperationKind) (es : List EdgeView) where
-    -- the error tells a point that some edge breaks
-    abbrev pub IsToldFault : RegionBranchOpInterfaceVerifyErr E → Type 0
-    IsToldFault e = (f : EdgeFault) × (IsBroken is_terminator s op es f × TellsFault f e)
+    -- the error reports a point that some edge breaks
+    abbrev pub ReportsEdgeFault : RegionBranchOpInterfaceVerifyErr E → Type 0
+    ReportsEdgeFault e = (f : EdgeFault) × (IsFaultOfEdges is_terminator s op es f × ReportsFault f e)
 
-    -- The layout is wrong, and this is its refusal; or it is right, and the error tells a point that some edge breaks.
-    abbrev pub IsEdgeRefusal : (layout : Type 0) (layout_refusal : E → Type 0) → RegionBranchOpInterfaceVerifyErr E →
+    -- The layout is wrong, and this is its refusal; or it is right, and the error reports a point that some edge
+    -- breaks.
+    abbrev pub IsEdgeRuleFault : (layout : Type 0) (layout_refusal : E → Type 0) → RegionBranchOpInterfaceVerifyErr E →
         Type 0
-    IsEdgeRefusal layout layout_refusal (Layout e) = (layout → ⊥) × layout_refusal e
-    IsEdgeRefusal layout layout_refusal e = layout × IsToldFault e
+    IsEdgeRuleFault layout layout_refusal (Layout e) = (layout → ⊥) × layout_refusal e
+    IsEdgeRuleFault layout layout_refusal e = layout × ReportsEdgeFault e
 
 -- the refusal of region edges, at the operation's location; or memory was refused
-abbrev pub BreaksEdgeRule : {D K A T E : Type 0} → op_set.Ghosts D K A T E →
-    (layout : ContextView K A T → Type 0) (tells : ContextView K A T → E → Type 0)
+abbrev pub IsEdgeRuleRefusal : {D K A T E : Type 0} → op_set.Ghosts D K A T E →
+    (layout : ContextView K A T → Type 0) (reports : ContextView K A T → E → Type 0)
     → (edges : ContextView K A T → List EdgeView) → ContextView K A T → Ptr OperationKind →
     VerifyErr (RegionBranchOpInterfaceVerifyErr E) → Type 0
-BreaksEdgeRule o layout tells edges s op =
-    IsRefusalMemoryAside s op (IsEdgeRefusal o.type_id o.type_body_text s o.is_terminator op (edges s) (layout s)
-    (tells s))
+IsEdgeRuleRefusal o layout reports edges s op =
+    IsRefusalMemoryAside s op (IsEdgeRuleFault o.type_id o.type_body_text s o.is_terminator op (edges s) (layout s)
+    (reports s))

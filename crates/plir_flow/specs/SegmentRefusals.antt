@@ -23,6 +23,6 @@ IsSegmentFault x s op (SegmentCountMismatch expected found) = IsSegmented s op �
     (found ≡ num_segments s op) × (found ≢ expected)
 
 -- the rule of segments is refused with its fault, at the operation's location
-abbrev pub BreaksSegments : {K A T : Type 0} → (expected : Option ℕ) → ContextView K A T → Ptr OperationKind →
+abbrev pub IsSegmentsRefusal : {K A T : Type 0} → (expected : Option ℕ) → ContextView K A T → Ptr OperationKind →
     VerifyErr OperandSegmentInterfaceVerifyErr → Type 0
-BreaksSegments x s op = IsRefusal s op (IsSegmentFault x s op)
+IsSegmentsRefusal x s op = IsRefusal s op (IsSegmentFault x s op)

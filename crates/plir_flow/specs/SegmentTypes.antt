@@ -57,9 +57,9 @@ module _ {K A T : Type 0} where
       IsSegmentWithout _ = ⊥
 
       -- How an operation breaks one of these rules: the refusal is at its location.
-      abbrev pub BreaksSegmentNOfType : (own_body : List (TypeView T) → T → List ℕ) → VerifyErr SegmentNOfTypeError →
+      abbrev pub IsSegmentNOfTypeRefusal : (own_body : List (TypeView T) → T → List ℕ) → VerifyErr SegmentNOfTypeError →
           Type 0
-      BreaksSegmentNOfType own_body = IsRefusalMemoryAside s op (IsSegmentOfOtherKind own_body)
+      IsSegmentNOfTypeRefusal own_body = IsRefusalMemoryAside s op (IsSegmentOfOtherKind own_body)
 
-      abbrev pub BreaksSegmentNImplsTy : VerifyErr (TypeRuleErr SegmentNOfTypeError TypeInterfaceImplsErr) → Type 0
-      BreaksSegmentNImplsTy = IsRefusal s op IsSegmentWithout
+      abbrev pub IsSegmentNImplsTyRefusal : VerifyErr (TypeRuleErr SegmentNOfTypeError TypeInterfaceImplsErr) → Type 0
+      IsSegmentNImplsTyRefusal = IsRefusal s op IsSegmentWithout

@@ -5,12 +5,12 @@ ghost use Rattle.plir_core.specs.declared.ptr.IRNode.{IRNode};
 ghost use Rattle.plir_core.specs.ContextView.{IsLive, IsValueLive, operands_of, successors_of};
 ghost use Rattle.plir_core.specs.WellFormed.{IsWellFormed};
 ghost use Rattle.plir_flow.specs.Layout.{IsLayoutRefusal};
-ghost use Rattle.plir_flow.specs.Branches.{num_successors, HasNSuccs, BreaksNSuccs, KeepsSizes, operands_within};
-ghost use Rattle.plir_flow.specs.Branches.{HasBranchRule, BreaksBranchRule, IsForwardedMore, IsForwardedLess};
+ghost use Rattle.plir_flow.specs.Branches.{num_successors, HasNSuccs, IsNSuccsRefusal, KeepsSizes, operands_within};
+ghost use Rattle.plir_flow.specs.Branches.{HasBranchRule, IsBranchRuleRefusal, IsForwardedMore, IsForwardedLess};
 ghost use Rattle.plir_flow.specs.Branches.{IsOperandReplaced};
 
 use crate::branch_errors::{BranchOpInterfaceVerifyErr, NSuccsVerifyErr};
-use crate::forwarding::{as_layout, find_first_mismatch, tell};
+use crate::forwarding::{as_layout, find_first_mismatch, report};
 use crate::operand_ranges::operands_in;
 use plir_core::{BasicBlock, Context, LessThanN, Ptr, Value};
 use plir_data::{Memory, OpSet, VerifyErr};
@@ -29,12 +29,12 @@ pub trait BranchOpInterface<D: OpSet>: IsTerminatorInterface<D> {
     ghost use Rattle.plir_core.specs.ContextView.{ContextView};
     ghost use Rattle.plir_flow.specs.Branches.{Range as Places};
 
-    // The operands stand as the operation wants them, and what a refusal tells where they don't.
+    // The operands stand as the operation wants them, and what a refusal reports where they don't.
     ghost has_layout: { Self → ContextView D.Kind D.Attr D.Ty → Type 0 };
 
     ghost refuses_layout: { Self → ContextView D.Kind D.Attr D.Ty → D.Err → Type 0 };
 
-    // The keys of the attributes that tell of the layout, as that of the sizes of segments, where they are kept: what
+    // The keys of the attributes that describe the layout, as that of the sizes of segments, where they are kept: what
     // stands under these changes as values are added and taken out, and what stands under any other key doesn't.
     ghost layout_keys: { Self → List (List ℕ) };
 
@@ -137,11 +137,11 @@ pub trait BranchOpInterface<D: OpSet>: IsTerminatorInterface<D> {
         let op = self.get_operation();
         let _count = op.get_num_operands(ctx);
         let range = self.successor_operand_range(ctx, succ);
-        op.replace_operand(range.start + arg, operand, ctx);
+        op.replace_operand(ctx, range.start + arg, operand);
     }
 
     /// Accepts exactly where the operands stand as the operation wants them, and each successor gets values of the
-    /// types of its arguments. Else it tells the refusal of the layout, or how the first successor doesn't.
+    /// types of its arguments. Else it reports the refusal of the layout, or how the first successor doesn't.
     final fn verify(
         &self,
         alloc: Global,
@@ -150,7 +150,7 @@ pub trait BranchOpInterface<D: OpSet>: IsTerminatorInterface<D> {
         requires { IsLive ctx.now (IRNode.Operation (Self.pointer self.now)) }
         ensures ok { OnOk result (HasBranchRule (has_layout self.now ctx.now) ctx.now (Self.pointer self.now)
             (forwards self.now ctx.now)) }
-        ensures refused { IfErr result (BreaksBranchRule D.OpSet (has_layout self.now) (refuses_layout self.now)
+        ensures refused { IfErr result (IsBranchRuleRefusal D.OpSet (has_layout self.now) (refuses_layout self.now)
             (forwards self.now) ctx.now (Self.pointer self.now)) }
         ensures whole { IsWellFormed D.attr_handles ctx.now }
     {
@@ -160,7 +160,7 @@ pub trait BranchOpInterface<D: OpSet>: IsTerminatorInterface<D> {
             Err(refused) => Err(as_layout(refused)),
             Ok(()) => match find_first_mismatch(ctx, self) {
                 None => Ok(()),
-                Some(mismatch) => Err(tell(alloc, ctx, op, mismatch)),
+                Some(mismatch) => Err(report(alloc, ctx, op, mismatch)),
             },
         }
     }
@@ -172,7 +172,7 @@ pub trait NSuccsInterface<D: OpSet, const N: usize>: BranchOpInterface<D> {
     final fn verify(&self, ctx: &Context<D>) -> Result<(), VerifyErr<NSuccsVerifyErr>>
         requires { IsLive ctx.now (IRNode.Operation (Self.pointer self.now)) }
         ensures ok { IsOk result ↔ HasNSuccs N ctx.now (Self.pointer self.now) }
-        ensures refused { IfErr result (BreaksNSuccs N ctx.now (Self.pointer self.now)) }
+        ensures refused { IfErr result (IsNSuccsRefusal N ctx.now (Self.pointer self.now)) }
         ensures whole { IsWellFormed D.attr_handles ctx.now }
     {
         let op = self.get_operation();
@@ -198,7 +198,7 @@ pub trait OneSuccInterface<D: OpSet>: BranchOpInterface<D> {
     final fn verify(&self, ctx: &Context<D>) -> Result<(), VerifyErr<NSuccsVerifyErr>>
         requires { IsLive ctx.now (IRNode.Operation (Self.pointer self.now)) }
         ensures ok { IsOk result ↔ HasNSuccs 1 ctx.now (Self.pointer self.now) }
-        ensures refused { IfErr result (BreaksNSuccs 1 ctx.now (Self.pointer self.now)) }
+        ensures refused { IfErr result (IsNSuccsRefusal 1 ctx.now (Self.pointer self.now)) }
         ensures whole { IsWellFormed D.attr_handles ctx.now }
     {
         let op = self.get_operation();

@@ -7,7 +7,7 @@ ghost use Rattle.plir_core.specs.WellFormed.{IsWellFormed};
 ghost use Rattle.plir_flow.specs.Branches.{operands_within};
 ghost use Rattle.plir_flow.specs.Layout.{IsLayoutRefusal};
 ghost use Rattle.plir_flow.specs.Calls.{callee_type_of, with_callee_type};
-ghost use Rattle.plir_flow.specs.Calls.{has_signature, HasCalleeType, BreaksCalleeType, IsCallFault, IsCalleeLive};
+ghost use Rattle.plir_flow.specs.Calls.{has_signature, HasCalleeType, IsCalleeTypeRefusal, IsCallFault, IsCalleeLive};
 
 use crate::operand_ranges::operands_in;
 use plir_core::{Context, Operation, Ptr, Value};
@@ -109,7 +109,7 @@ pub trait CallOpInterface<D: OpSet>: Op<D> {
     ghost use Rattle.plir_flow.specs.Branches.{Range as Places};
     ghost use Rattle.plir_flow.specs.declared.calls.CallOpCallable.{CallOpCallable as Callable};
 
-    // The operands stand as the operation wants them, and what a refusal tells where they don't.
+    // The operands stand as the operation wants them, and what a refusal reports where they don't.
     ghost has_call_layout: { Self → ContextView D.Kind D.Attr D.Ty → Type 0 };
 
     ghost refuses_call_layout: { Self → ContextView D.Kind D.Attr D.Ty → D.Err → Type 0 };
@@ -185,7 +185,7 @@ pub trait CallOpInterface<D: OpSet>: Op<D> {
     final fn verify(&self, ctx: &Context<D>) -> Result<(), VerifyErr<CallOpInterfaceErr>>
         requires { IsLive ctx.now (IRNode.Operation (Self.pointer self.now)) }
         ensures ok { IsOk result ↔ HasCalleeType (has_signature D.function_sig) ctx.now (Self.pointer self.now) }
-        ensures refused { IfErr result (BreaksCalleeType (has_signature D.function_sig) ctx.now
+        ensures refused { IfErr result (IsCalleeTypeRefusal (has_signature D.function_sig) ctx.now
             (Self.pointer self.now)) }
         ensures whole { IsWellFormed D.attr_handles ctx.now }
     {

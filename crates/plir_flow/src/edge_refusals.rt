@@ -5,7 +5,8 @@ ghost use Rattle.plir_core.specs.ContextView.{IsLive};
 ghost use Rattle.plir_core.specs.WellFormed.{IsWellFormed};
 ghost use Rattle.plir_iface.specs.Verdict.{IsRefusalMemoryAside};
 ghost use Rattle.plir_flow.specs.RegionEdges.{AreEdgesLive};
-ghost use Rattle.plir_flow.specs.RegionRule.{HasEdgeRule, NamesLive, TellsFault, IsToldFault, in_edges};
+ghost use Rattle.plir_flow.specs.RegionRule.{HasEdgeRule, ReportsFault, ReportsEdgeFault, in_edges};
+ghost use Rattle.plir_flow.specs.EdgeVerdicts.{NamesLive};
 
 use crate::edge_ends::RegionEdge;
 use crate::edge_rule::find_fault;
@@ -15,8 +16,8 @@ use plir_data::{OpSet, VerifyErr, type_text};
 use plir_iface::refusal;
 use std::alloc::Global;
 
-// The refusal that tells a fault.
-fn tell<D: OpSet>(
+// The refusal that reports a fault.
+fn report<D: OpSet>(
     alloc: Global,
     ctx: &Context<D>,
     op: Ptr<Operation>,
@@ -24,7 +25,7 @@ fn tell<D: OpSet>(
 ) -> VerifyErr<RegionBranchOpInterfaceVerifyErr<D::Err>>
     requires live { IsLive ctx.now (IRNode.Operation op) }
     requires names_live { NamesLive ctx.now fault }
-    ensures told { IsRefusalMemoryAside ctx.now op (TellsFault D.type_id D.type_body_text ctx.now fault) result }
+    ensures reported { IsRefusalMemoryAside ctx.now op (ReportsFault D.type_id D.type_body_text ctx.now fault) result }
     ensures whole { IsWellFormed D.attr_handles ctx.now }
 {
     ctx.stands();
@@ -50,7 +51,7 @@ fn tell<D: OpSet>(
     refusal(ctx, op, err)
 }
 
-/// Accepts exactly where the edges of an operation have their rule, and else tells the point that they break first.
+/// Accepts exactly where the edges of an operation have their rule, and else reports the point that they break first.
 pub(crate) fn verify_edges<D: OpSet>(
     alloc: Global,
     ctx: &Context<D>,
@@ -61,14 +62,14 @@ pub(crate) fn verify_edges<D: OpSet>(
     requires edges_live { AreEdgesLive ctx.now edges.now }
     ensures ok { OnOk result (HasEdgeRule D.is_terminator ctx.now op edges.now) }
     ensures refused { IfErr result (IsRefusalMemoryAside ctx.now op
-        (IsToldFault D.type_id D.type_body_text ctx.now D.is_terminator op edges.now)) }
+        (ReportsEdgeFault D.type_id D.type_body_text ctx.now D.is_terminator op edges.now)) }
     ensures whole { IsWellFormed D.attr_handles ctx.now }
 {
     ctx.stands();
     match find_fault(alloc, ctx, op, edges) {
         Err(_) => Err(VerifyErr::Memory),
         Ok(None) => Ok(()),
-        Ok(Some(fault)) => Err(tell(alloc, ctx, op, fault)),
+        Ok(Some(fault)) => Err(report(alloc, ctx, op, fault)),
     }
 }
 

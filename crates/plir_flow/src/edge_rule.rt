@@ -6,8 +6,9 @@ ghost use Rattle.plir_core.specs.WellFormed.{IsWellFormed};
 ghost use Rattle.plir_flow.specs.RegionEdges.{IsPointLive, IsSuccessorLive, IsFlowLive, IsUseLive, IsEdgeLive};
 ghost use Rattle.plir_flow.specs.RegionEdges.{AreEdgesLive};
 ghost use Rattle.plir_flow.specs.RegionRule.{source_at, type_of_use, no_receiver, IsOfOtherType, IsOwnPoint, IsOwnRead};
-ghost use Rattle.plir_flow.specs.RegionRule.{IsOwnSuccessor, IsReceiver, IsEdgeRight, IsBroken, FlowSays, FlowsSay};
-ghost use Rattle.plir_flow.specs.RegionRule.{EdgeSays, EdgesSay, AreFirsts, first_place, NamesLive};
+ghost use Rattle.plir_flow.specs.RegionRule.{IsOwnSuccessor, IsReceiver, IsEdgeRight, IsFaultOfEdges};
+ghost use Rattle.plir_flow.specs.EdgeVerdicts.{IsFlowVerdict, IsFlowsVerdict, IsEdgeVerdict, IsEdgesVerdict};
+ghost use Rattle.plir_flow.specs.EdgeVerdicts.{AreFirsts, first_place, NamesLive};
 
 use crate::edge_ends::{RegionBranchPoint, RegionEdge, RegionSuccessor};
 use crate::once::add;
@@ -140,7 +141,7 @@ fn find_flow_fault<D: OpSet>(
 ) -> Result<Option<EdgeFault>, Memory>
     requires successor_live { IsSuccessorLive ctx.now successor }
     requires flow_live { IsFlowLive ctx.now flow }
-    ensures told { IfOk result (FlowSays ctx.now op point successor flow received.old.keys received.new.keys) }
+    ensures reported { IfOk result (IsFlowVerdict ctx.now op point successor flow received.old.keys received.new.keys) }
     ensures live { IfOk result (λ f. IfSome f (NamesLive ctx.now)) }
     ensures whole { IsWellFormed D.attr_handles ctx.now }
 {
@@ -167,7 +168,7 @@ fn find_flows_fault<D: OpSet>(
 ) -> Result<Option<EdgeFault>, Memory>
     requires live { IsEdgeLive ctx.now edge.now }
     requires empty { received.old.keys ≡ [] }
-    ensures told { IfOk result (FlowsSay D.is_terminator ctx.now op edge.now) }
+    ensures reported { IfOk result (IsFlowsVerdict D.is_terminator ctx.now op edge.now) }
     ensures live { IfOk result (λ f. IfSome f (NamesLive ctx.now)) }
     ensures whole { IsWellFormed D.attr_handles ctx.now }
 {
@@ -189,7 +190,7 @@ pub(crate) fn find_edge_fault<D: OpSet>(
     edge: &RegionEdge,
 ) -> Result<Option<EdgeFault>, Memory>
     requires { IsEdgeLive ctx.now edge.now }
-    ensures told { IfOk result (EdgeSays D.is_terminator ctx.now op edge.now) }
+    ensures reported { IfOk result (IsEdgeVerdict D.is_terminator ctx.now op edge.now) }
     ensures live { IfOk result (λ f. IfSome f (NamesLive ctx.now)) }
     ensures whole { IsWellFormed D.attr_handles ctx.now }
 {
@@ -222,7 +223,7 @@ fn find_fault_at<D: OpSet>(
     requires firsts { AreFirsts edges.now place (first_place firsts.old) }
     ensures next { IfOk result (λ f. IsNone f → AreFirsts edges.now (place + 1) (first_place firsts.new)) }
     ensures right { IfOk result (λ f. IsNone f → HoldsAt (IsEdgeRight D.is_terminator ctx.now op) edges.now place) }
-    ensures broken { IfOk result (λ f. IfSome f (IsBroken D.is_terminator ctx.now op edges.now)) }
+    ensures broken { IfOk result (λ f. IfSome f (IsFaultOfEdges D.is_terminator ctx.now op edges.now)) }
     ensures live { IfOk result (λ f. IfSome f (NamesLive ctx.now)) }
     ensures whole { IsWellFormed D.attr_handles ctx.now }
 {
@@ -243,7 +244,7 @@ fn find_faults<D: OpSet>(
 ) -> Result<Option<EdgeFault>, Memory>
     requires live { AreEdgesLive ctx.now edges.now }
     requires firsts { AreFirsts edges.now 0 (first_place firsts.old) }
-    ensures told { IfOk result (EdgesSay D.is_terminator ctx.now op edges.now) }
+    ensures reported { IfOk result (IsEdgesVerdict D.is_terminator ctx.now op edges.now) }
     ensures live { IfOk result (λ f. IfSome f (NamesLive ctx.now)) }
     ensures whole { IsWellFormed D.attr_handles ctx.now }
 {
@@ -265,7 +266,7 @@ pub(crate) fn find_fault<D: OpSet>(
     edges: &[RegionEdge],
 ) -> Result<Option<EdgeFault>, Memory>
     requires { AreEdgesLive ctx.now edges.now }
-    ensures told { IfOk result (EdgesSay D.is_terminator ctx.now op edges.now) }
+    ensures reported { IfOk result (IsEdgesVerdict D.is_terminator ctx.now op edges.now) }
     ensures live { IfOk result (λ f. IfSome f (NamesLive ctx.now)) }
     ensures whole { IsWellFormed D.attr_handles ctx.now }
 {

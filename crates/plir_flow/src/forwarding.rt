@@ -5,7 +5,7 @@ ghost use Rattle.plir_core.specs.ContextView.{IsLive, operands_of};
 ghost use Rattle.plir_core.specs.WellFormed.{IsWellFormed};
 ghost use Rattle.plir_iface.specs.Verdict.{IsRefusalMemoryAside};
 ghost use Rattle.plir_flow.specs.Branches.{types_within, argument_types, AgreesThroughout, IsMismatch};
-ghost use Rattle.plir_flow.specs.Branches.{IsFirstMismatch, NamesLive, TellsMismatch, in_branch};
+ghost use Rattle.plir_flow.specs.Branches.{IsFirstMismatch, NamesLive, ReportsMismatch, in_branch};
 
 use crate::branch_errors::{BranchOpInterfaceVerifyErr, Mismatch};
 use crate::branches::BranchOpInterface;
@@ -71,8 +71,8 @@ pub(crate) fn find_first_mismatch<D: OpSet, O: BranchOpInterface<D>>(
     None
 }
 
-/// The refusal that tells a mismatch.
-pub(crate) fn tell<D: OpSet>(
+/// The refusal that reports a mismatch.
+pub(crate) fn report<D: OpSet>(
     alloc: Global,
     ctx: &Context<D>,
     op: Ptr<Operation>,
@@ -80,7 +80,8 @@ pub(crate) fn tell<D: OpSet>(
 ) -> VerifyErr<BranchOpInterfaceVerifyErr<D::Err>>
     requires live { IsLive ctx.now (IRNode.Operation op) }
     requires names_live { NamesLive ctx.now mismatch }
-    ensures told { IsRefusalMemoryAside ctx.now op (TellsMismatch D.type_id D.type_body_text ctx.now mismatch) result }
+    ensures reported { IsRefusalMemoryAside ctx.now op (ReportsMismatch D.type_id D.type_body_text ctx.now mismatch)
+        result }
     ensures whole { IsWellFormed D.attr_handles ctx.now }
 {
     ctx.stands();

@@ -1,7 +1,8 @@
 //! Whether edges with one target have one set of receivers.
 ghost use Rattle.std.specs.Prelude.{◌≡◌, ◌↔◌, ◌<◌, ◌+◌, All, IsTrue, IfOk, length, map};
 ghost use Rattle.plir_store.specs.Members.{Has};
-ghost use Rattle.plir_flow.specs.RegionRule.{SameReceivers, HaveOtherReceivers, AreFirsts, target_region, first_place};
+ghost use Rattle.plir_flow.specs.RegionRule.{SameReceivers, HaveOtherReceivers};
+ghost use Rattle.plir_flow.specs.EdgeVerdicts.{AreFirsts, target_region, first_place};
 
 use crate::edge_ends::{RegionEdge, RegionSuccessor};
 use crate::edge_lists::add_receivers;

@@ -12,7 +12,7 @@ ghost use Rattle.plir_flow.specs.Layout.{IsLayoutRefusal};
 ghost use Rattle.plir_flow.specs.RegionEdges.{IsFrom, IsTo, IsFromRegion, IsUseLive, IsFlowLive, AreEdgesLive};
 ghost use Rattle.plir_flow.specs.RegionEdges.{AreOperandsInto};
 ghost use Rattle.plir_flow.specs.RegionEdges.{flows_on, reads_on, receivers_on, regions_on, Reach};
-ghost use Rattle.plir_flow.specs.RegionRule.{HasEdgeRule, BreaksEdgeRule};
+ghost use Rattle.plir_flow.specs.RegionRule.{HasEdgeRule, IsEdgeRuleRefusal};
 
 use crate::edge_ends::{RegionBranchPoint, RegionEdge, RegionSuccessor};
 use crate::edge_lists::{keep_from, keep_to, reads, reads_in, receivers, regions_in};
@@ -40,7 +40,7 @@ pub trait RegionBranchOpInterface<D: OpSet>: Op<D> {
     ghost use Rattle.plir_core.specs.ContextView.{ContextView};
     ghost use Rattle.plir_flow.specs.RegionEdges.{EdgeView as Edge};
 
-    // The operation stands as its edges want it, and what a refusal tells where it doesn't.
+    // The operation stands as its edges want it, and what a refusal reports where it doesn't.
     ghost has_edges_layout: { Self → ContextView D.Kind D.Attr D.Ty → Type 0 };
 
     ghost refuses_edges_layout: { Self → ContextView D.Kind D.Attr D.Ty → D.Err → Type 0 };
@@ -245,8 +245,8 @@ pub trait RegionBranchOpInterface<D: OpSet>: Op<D> {
     /// Accepts exactly where the operation stands as its edges want it and the edges have their rule: two edges with
     /// one target have one set of receivers; edges start at the operation or at terminators in its regions, lead to its
     /// regions or behind it, read operands of the operation or of the one at their start, and pass operands of the one
-    /// at their start to arguments of the entry block or to results, each once and of the same type. Else it tells the
-    /// refusal of the layout, or the point that the first edge breaks that breaks one.
+    /// at their start to arguments of the entry block or to results, each once and of the same type. Else it reports
+    /// the refusal of the layout, or the point that the first edge breaks that breaks one.
     final fn verify(
         &self,
         alloc: Global,
@@ -256,7 +256,7 @@ pub trait RegionBranchOpInterface<D: OpSet>: Op<D> {
         ensures layout { OnOk result (has_edges_layout self.now ctx.now) }
         ensures rule { OnOk result (HasEdgeRule D.is_terminator ctx.now (Self.pointer self.now)
             (edges self.now ctx.now)) }
-        ensures refused { IfErr result (BreaksEdgeRule D.OpSet (has_edges_layout self.now)
+        ensures refused { IfErr result (IsEdgeRuleRefusal D.OpSet (has_edges_layout self.now)
             (refuses_edges_layout self.now) (edges self.now) ctx.now (Self.pointer self.now)) }
         ensures whole { IsWellFormed D.attr_handles ctx.now }
     {

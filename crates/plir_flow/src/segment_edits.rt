@@ -36,7 +36,7 @@ pub(crate) fn insert_at<D: OpSet>(
     laws::op_edits_keep_the_rest(ctx, op);
     let among = place_among(ctx, op, seg, place);
     let size = size_of(ctx, op, seg);
-    op.insert_operand(among, operand, ctx)?;
+    op.insert_operand(ctx, among, operand)?;
     set_size(ctx, op, seg, size + 1);
     Ok(())
 }
@@ -62,7 +62,7 @@ pub(crate) fn remove_at<D: OpSet>(
     laws::op_edits_keep_the_rest(ctx, op);
     let among = place_among(ctx, op, seg, place);
     let size = size_of(ctx, op, seg);
-    let operand = op.remove_operand(among, ctx);
+    let operand = op.remove_operand(ctx, among);
     set_size(ctx, op, seg, size - 1);
     operand
 }

@@ -8,8 +8,8 @@ ghost use Rattle.plir_iface.specs.TypeRules.{EachPasses};
 ghost use Rattle.plir_iface.specs.Verdict.{IsRefusal};
 ghost use Rattle.plir_flow.specs.Segments.{num_segments, IsSegmented, HasSegments};
 ghost use Rattle.plir_flow.specs.SegmentTypes.{segment_types, IsFirstFailingOperand, IsSegmentWithout};
-ghost use Rattle.plir_flow.specs.SegmentTypes.{HasSegmentNOfType, HasSegmentNImplsTy, BreaksSegmentNOfType};
-ghost use Rattle.plir_flow.specs.SegmentTypes.{BreaksSegmentNImplsTy};
+ghost use Rattle.plir_flow.specs.SegmentTypes.{HasSegmentNOfType, HasSegmentNImplsTy, IsSegmentNOfTypeRefusal};
+ghost use Rattle.plir_flow.specs.SegmentTypes.{IsSegmentNImplsTyRefusal};
 
 use crate::segment_sizes::{count_of, place_among, size_of, start_of};
 use crate::segments::OperandSegmentInterface;
@@ -62,7 +62,7 @@ fn verify_kind<D: OpSet, T: TypeMark<D>>(
     requires live { IsLive ctx.now (IRNode.Operation op) }
     requires segmented { IsSegmented ctx.now op }
     ensures ok { IsOk result ↔ HasSegmentNOfType T.marks ctx.now op seg }
-    ensures refused { IfErr result (BreaksSegmentNOfType T.marks ctx.now op seg T.NAME D.type_id D.type_body_text) }
+    ensures refused { IfErr result (IsSegmentNOfTypeRefusal T.marks ctx.now op seg T.NAME D.type_id D.type_body_text) }
     ensures whole { IsWellFormed D.attr_handles ctx.now }
 {
     if count_of(ctx, op) <= seg {
@@ -114,8 +114,8 @@ pub trait SegmentNOfType<D: OpSet, const N: usize, T: TypeMark<D>>: OperandSegme
         requires live { IsLive ctx.now (IRNode.Operation (Self.pointer self.now)) }
         requires rule { HasSegments (Self.expected self.now ctx.now) ctx.now (Self.pointer self.now) }
         ensures ok { IsOk result ↔ HasSegmentNOfType T.marks ctx.now (Self.pointer self.now) N }
-        ensures refused { IfErr result (BreaksSegmentNOfType T.marks ctx.now (Self.pointer self.now) N T.NAME D.type_id
-            D.type_body_text) }
+        ensures refused { IfErr result (IsSegmentNOfTypeRefusal T.marks ctx.now
+            (Self.pointer self.now) N T.NAME D.type_id D.type_body_text) }
         ensures whole { IsWellFormed D.attr_handles ctx.now }
     {
         verify_kind::<D, T>(alloc, ctx, self.get_operation(), N)
@@ -137,7 +137,7 @@ pub trait SegmentNImplsTy<
         requires live { IsLive ctx.now (IRNode.Operation (Self.pointer self.now)) }
         requires rule { HasSegments (Self.expected self.now ctx.now) ctx.now (Self.pointer self.now) }
         ensures ok { IsOk result ↔ HasSegmentNImplsTy I.marks ctx.now (Self.pointer self.now) N }
-        ensures refused { IfErr result (BreaksSegmentNImplsTy I.marks ctx.now (Self.pointer self.now) N I.NAME
+        ensures refused { IfErr result (IsSegmentNImplsTyRefusal I.marks ctx.now (Self.pointer self.now) N I.NAME
             D.type_id) }
         ensures whole { IsWellFormed D.attr_handles ctx.now }
     {

@@ -10,7 +10,7 @@ ghost use Rattle.plir_flow.specs.Segments.{flatten, segment_at, sizes_attr, with
 ghost use Rattle.plir_flow.specs.Segments.{segment_size, segment_places, segments_of};
 ghost use Rattle.plir_flow.specs.Segments.{IsSegmented, HasSegments, IsSegmentEdited, StandsInSegment};
 ghost use Rattle.plir_flow.specs.Segments.{IsOperandPutAt, IsOperandPutLast, IsOperandTakenAt, IsLastOperandTaken};
-ghost use Rattle.plir_flow.specs.SegmentRefusals.{IsSegmentFault, BreaksSegments};
+ghost use Rattle.plir_flow.specs.SegmentRefusals.{IsSegmentFault, IsSegmentsRefusal};
 
 use crate::operand_ranges::operands_in;
 use crate::segment_edits::{insert_at, pop_last, push_last, remove_at};
@@ -142,14 +142,14 @@ pub trait OperandSegmentInterface<D: OpSet>: Op<D> {
     ghost expected_kept: { (o : Self) → IsKeptBySegments (expected o) (Self.pointer o) };
 
     /// Accepts exactly where there is an attribute of sizes, the sum of the sizes, as a whole number, is the number of
-    /// operands, and there are as many segments as are expected. The first of these that doesn't hold is told.
+    /// operands, and there are as many segments as are expected. The first of these that doesn't hold is reported.
     final fn verify(
         &self,
         ctx: &Context<D>,
     ) -> Result<(), VerifyErr<OperandSegmentInterfaceVerifyErr>>
         requires { IsLive ctx.now (IRNode.Operation (Self.pointer self.now)) }
         ensures ok { IsOk result ↔ HasSegments (expected self.now ctx.now) ctx.now (Self.pointer self.now) }
-        ensures refused { IfErr result (BreaksSegments (expected self.now ctx.now) ctx.now (Self.pointer self.now)) }
+        ensures refused { IfErr result (IsSegmentsRefusal (expected self.now ctx.now) ctx.now (Self.pointer self.now)) }
         ensures whole { IsWellFormed D.attr_handles ctx.now }
     {
         let op = self.get_operation();

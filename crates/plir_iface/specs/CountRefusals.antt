@@ -17,26 +17,26 @@ use Rattle.plir_iface.specs.declared.counts.AtMostNOpdsVerifyErr.{AtMostNOpdsVer
 use Rattle.plir_iface.specs.declared.counts.AtLeastNOpdsVerifyErr.{AtLeastNOpdsVerifyErr}
 
 module _ {K A T : Type 0} (n : ℕ) (s : ContextView K A T) (op : Ptr OperationKind) where
-  abbrev pub BreaksNRegions : VerifyErr NRegionsVerifyErr → Type 0
-  BreaksNRegions = IsRefusal s op (λ e. (e.0 ≡ n) × (e.1 ≡ num_regions s op))
+  abbrev pub IsNRegionsRefusal : VerifyErr NRegionsVerifyErr → Type 0
+  IsNRegionsRefusal = IsRefusal s op (λ e. (e.0 ≡ n) × (e.1 ≡ num_regions s op))
 
-  abbrev pub BreaksAtMostNRegions : VerifyErr AtMostNRegionVerifyErr → Type 0
-  BreaksAtMostNRegions = IsRefusal s op (λ e. (e.0 ≡ n) × (e.1 ≡ num_regions s op))
+  abbrev pub IsAtMostNRegionsRefusal : VerifyErr AtMostNRegionVerifyErr → Type 0
+  IsAtMostNRegionsRefusal = IsRefusal s op (λ e. (e.0 ≡ n) × (e.1 ≡ num_regions s op))
 
-  abbrev pub BreaksNResults : VerifyErr NResultsVerifyErr → Type 0
-  BreaksNResults = IsRefusal s op (λ e. (e.0 ≡ n) × (e.1 ≡ num_results s op))
+  abbrev pub IsNResultsRefusal : VerifyErr NResultsVerifyErr → Type 0
+  IsNResultsRefusal = IsRefusal s op (λ e. (e.0 ≡ n) × (e.1 ≡ num_results s op))
 
-  abbrev pub BreaksAtMostNResults : VerifyErr AtMostNResultsVerifyErr → Type 0
-  BreaksAtMostNResults = IsRefusal s op (λ e. (e.0 ≡ n) × (e.1 ≡ num_results s op))
+  abbrev pub IsAtMostNResultsRefusal : VerifyErr AtMostNResultsVerifyErr → Type 0
+  IsAtMostNResultsRefusal = IsRefusal s op (λ e. (e.0 ≡ n) × (e.1 ≡ num_results s op))
 
-  abbrev pub BreaksAtLeastNResults : VerifyErr AtLeastNResultsVerifyErr → Type 0
-  BreaksAtLeastNResults = IsRefusal s op (λ e. (e.0 ≡ n) × (e.1 ≡ num_results s op))
+  abbrev pub IsAtLeastNResultsRefusal : VerifyErr AtLeastNResultsVerifyErr → Type 0
+  IsAtLeastNResultsRefusal = IsRefusal s op (λ e. (e.0 ≡ n) × (e.1 ≡ num_results s op))
 
-  abbrev pub BreaksNOpds : VerifyErr NOpdsVerifyErr → Type 0
-  BreaksNOpds = IsRefusal s op (λ e. (e.0 ≡ n) × (e.1 ≡ num_operands s op))
+  abbrev pub IsNOpdsRefusal : VerifyErr NOpdsVerifyErr → Type 0
+  IsNOpdsRefusal = IsRefusal s op (λ e. (e.0 ≡ n) × (e.1 ≡ num_operands s op))
 
-  abbrev pub BreaksAtMostNOpds : VerifyErr AtMostNOpdsVerifyErr → Type 0
-  BreaksAtMostNOpds = IsRefusal s op (λ e. (e.0 ≡ n) × (e.1 ≡ num_operands s op))
+  abbrev pub IsAtMostNOpdsRefusal : VerifyErr AtMostNOpdsVerifyErr → Type 0
+  IsAtMostNOpdsRefusal = IsRefusal s op (λ e. (e.0 ≡ n) × (e.1 ≡ num_operands s op))
 
-  abbrev pub BreaksAtLeastNOpds : VerifyErr AtLeastNOpdsVerifyErr → Type 0
-  BreaksAtLeastNOpds = IsRefusal s op (λ e. (e.0 ≡ n) × (e.1 ≡ num_operands s op))
+  abbrev pub IsAtLeastNOpdsRefusal : VerifyErr AtLeastNOpdsVerifyErr → Type 0
+  IsAtLeastNOpdsRefusal = IsRefusal s op (λ e. (e.0 ≡ n) × (e.1 ≡ num_operands s op))

@@ -2,13 +2,13 @@
 --
 --   Verdict      IsRefusal: how a verifier refuses
 --   Counts       how many regions, results and operands an operation has, and the rules of these numbers
---   CountRefusals  BreaksNRegions and kin: how the rules of counts are refused
+--   CountRefusals  IsNRegionsRefusal and kin: how the rules of counts are refused
 --   Regions      the rules of regions and blocks
 --   Sides        types_on, type_in: operands and results as lists of types
 --   SameTypes    the rules of one type
 --   Places       IsAmong, NeedsMore, IsLongEnough: places of a list that a rule is about
 --   TypeRules    the rules of types that pass a test
---   TypeRefusals IsFault: how types break a rule, and what an error tells of it
+--   TypeRefusals IsFault: how types break a rule, and what an error reports of it
 --   IndexRange   IsIndexRange: ranges of places in a list
 --   Ids          op_id: the ids of operations
 pub mod Verdict

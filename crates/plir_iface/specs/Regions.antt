@@ -26,9 +26,9 @@ module _ {K A T : Type 0} where
   body_of s op i = option_and_then (λ r. head (children s r)) (slice_get (regions_of s op) i)
 
   -- the rule is refused with the operation's id
-  abbrev pub BreaksSingleBlocks : (own_id : K → List ℕ) → ContextView K A T → Ptr OperationKind →
+  abbrev pub IsSingleBlocksRefusal : (own_id : K → List ℕ) → ContextView K A T → Ptr OperationKind →
       VerifyErr SingleBlockRegionVerifyErr → Type 0
-  BreaksSingleBlocks own_id s op = IsRefusal s op (λ e. IfSome (kind_of s op) (λ k. e.0.now ≡ op_id own_id k))
+  IsSingleBlocksRefusal own_id s op = IsRefusal s op (λ e. IfSome (kind_of s op) (λ k. e.0.now ≡ op_id own_id k))
 
   -- an operation doesn't stand above the first block of that region
   abbrev pub IsNotAboveBody : ContextView K A T → Ptr OperationKind → ℕ → Ptr OperationKind → Type 0

@@ -1,4 +1,4 @@
--- How the rules of types are refused: a fault of the types, and what an error tells of it.
+-- How the rules of types are refused: a fault of the types, and what an error reports of it.
 use Rattle.std.specs.Prelude.{◌≡◌, ◌<◌, ℕ, List, [], length, Bool, Option, string_bytes}
 use Rattle.std.specs.Option.{option_map_or, option_and_then}
 use Rattle.plir_data.specs.Types.{TypeView, type_at, type_id}
@@ -61,14 +61,15 @@ module _ {K A T : Type 0} (passes : TypeView T → Bool) (name : List ℕ) (own_
   IsFault side places ts (Few few) = (few.found ≡ length ts) × NeedsMore places (length ts) few.needed
   IsFault side places ts (Wrong m) = IsLongEnough places (length ts) × IsMisfit side (IsAmong places (length ts)) ts m
 
-  -- An error tells, as R says, of the first type of an operation's side that fails the test; or of how they break the
+  -- An error reports, as R says, of the first type of an operation's side that fails the test; or of how they break the
   -- rule of some places.
-  abbrev pub IsMisfitTold : {E : Type 0} → Ptr OperationKind → Side → (R : TypeMismatch → E → Type 0) → E → Type 0
-  IsMisfitTold op side R e = let ts = types_on side s op in (m : TypeMismatch) ×
+  abbrev pub ReportsMisfit : {E : Type 0} → Ptr OperationKind → Side → (R : TypeMismatch → E → Type 0) → E → Type 0
+  ReportsMisfit op side R e = let ts = types_on side s op in (m : TypeMismatch) ×
       (IsMisfit side (λ i. i < length ts) ts m × R m e)
 
-  abbrev pub IsFaultTold : {E : Type 0} → Ptr OperationKind → Side → Places → (R : TypeFault → E → Type 0) → E → Type 0
-  IsFaultTold op side places R e = (f : TypeFault) × (IsFault side places (types_on side s op) f × R f e)
+  abbrev pub ReportsTypeFault : {E : Type 0} → Ptr OperationKind → Side → Places → (R : TypeFault → E → Type 0) → E →
+      Type 0
+  ReportsTypeFault op side places R e = (f : TypeFault) × (IsFault side places (types_on side s op) f × R f e)
 
   -- the same of the first that fails, by its text
   abbrev pub IsOtherKind : (own_body : List (TypeView T) → T → List ℕ) → List (Option ℕ) → OtherKind → Type 0
@@ -76,102 +77,104 @@ module _ {K A T : Type 0} (passes : TypeView T → Bool) (name : List ℕ) (own_
       (o.wanted.now ≡ name) × ((i : ℕ) × (FailsFirst passes s (λ i. i < length ts) ts i ×
       (string_bytes o.found ≡ text_in own_id own_body s ts i)))
 
-  abbrev pub IsOtherKindTold : {E : Type 0} → (own_body : List (TypeView T) → T → List ℕ) → Ptr OperationKind → Side →
+  abbrev pub ReportsOtherKind : {E : Type 0} → (own_body : List (TypeView T) → T → List ℕ) → Ptr OperationKind → Side →
       (R : OtherKind → E → Type 0) → E → Type 0
-  IsOtherKindTold own_body op side R e = (o : OtherKind) × (IsOtherKind own_body (types_on side s op) o × R o e)
+  ReportsOtherKind own_body op side R e = (o : OtherKind) × (IsOtherKind own_body (types_on side s op) o × R o e)
 
--- What an error tells of a fault.
-abbrev pub TellsFewOperands : FewValues → NotEnoughOperandsErr → Type 0
-TellsFewOperands few e = (e.0 ≡ few.found) × (e.1 ≡ few.needed)
+-- What an error reports of a fault.
+abbrev pub ReportsFewOperands : FewValues → NotEnoughOperandsErr → Type 0
+ReportsFewOperands few e = (e.0 ≡ few.found) × (e.1 ≡ few.needed)
 
-abbrev pub TellsFewResults : FewValues → NotEnoughResultsErr → Type 0
-TellsFewResults few e = (e.0 ≡ few.found) × (e.1 ≡ few.needed)
+abbrev pub ReportsFewResults : FewValues → NotEnoughResultsErr → Type 0
+ReportsFewResults few e = (e.0 ≡ few.found) × (e.1 ≡ few.needed)
 
-abbrev pub TellsOtherOperand : OtherKind → AllOperandsOfTypeVerifyErr → Type 0
-TellsOtherOperand o e = (e.0 ≡ o.wanted) × (string_bytes e.1 ≡ string_bytes o.found)
+abbrev pub ReportsOtherOperand : OtherKind → AllOperandsOfTypeVerifyErr → Type 0
+ReportsOtherOperand o e = (e.0 ≡ o.wanted) × (string_bytes e.1 ≡ string_bytes o.found)
 
-abbrev pub TellsOtherResult : OtherKind → AllResultsOfTypeVerifyErr → Type 0
-TellsOtherResult o e = (e.0 ≡ o.wanted) × (string_bytes e.1 ≡ string_bytes o.found)
+abbrev pub ReportsOtherResult : OtherKind → AllResultsOfTypeVerifyErr → Type 0
+ReportsOtherResult o e = (e.0 ≡ o.wanted) × (string_bytes e.1 ≡ string_bytes o.found)
 
-abbrev pub TellsImpls : TypeMismatch → TypeInterfaceImplsErr → Type 0
-TellsImpls m (Operand i name id) = (m.side ≡ Operands) × (i ≡ m.place) × (name ≡ m.wanted) × (id ≡ m.found)
-TellsImpls m (Result i name id) = (m.side ≡ Results) × (i ≡ m.place) × (name ≡ m.wanted) × (id ≡ m.found)
-TellsImpls m (Segment i name id) = ⊥
+abbrev pub ReportsImpls : TypeMismatch → TypeInterfaceImplsErr → Type 0
+ReportsImpls m (Operand i name id) = (m.side ≡ Operands) × (i ≡ m.place) × (name ≡ m.wanted) × (id ≡ m.found)
+ReportsImpls m (Result i name id) = (m.side ≡ Results) × (i ≡ m.place) × (name ≡ m.wanted) × (id ≡ m.found)
+ReportsImpls m (Segment i name id) = ⊥
 
-abbrev pub TellsOperandN : TypeMismatch → OperandNOfTypeError → Type 0
-TellsOperandN m (OperandOfOtherKind name id) = (name ≡ m.wanted) × (id ≡ m.found)
+abbrev pub ReportsOperandN : TypeMismatch → OperandNOfTypeError → Type 0
+ReportsOperandN m (OperandOfOtherKind name id) = (name ≡ m.wanted) × (id ≡ m.found)
 
-abbrev pub TellsResultN : TypeMismatch → ResultNOfTypeError → Type 0
-TellsResultN m (ResultOfOtherKind name id) = (name ≡ m.wanted) × (id ≡ m.found)
+abbrev pub ReportsResultN : TypeMismatch → ResultNOfTypeError → Type 0
+ReportsResultN m (ResultOfOtherKind name id) = (name ≡ m.wanted) × (id ≡ m.found)
 
-abbrev pub TellsOperandsMN : TypeFault → OperandsMNOfTypeError → Type 0
-TellsOperandsMN (Few few) (NotEnoughOperands found needed) = (found ≡ few.found) × (needed ≡ few.needed)
-TellsOperandsMN (Wrong m) (UnexpectedOperandType i name id) = (i ≡ m.place) × (name ≡ m.wanted) × (id ≡ m.found)
-TellsOperandsMN _ _ = ⊥
+abbrev pub ReportsOperandsMN : TypeFault → OperandsMNOfTypeError → Type 0
+ReportsOperandsMN (Few few) (NotEnoughOperands found needed) = (found ≡ few.found) × (needed ≡ few.needed)
+ReportsOperandsMN (Wrong m) (UnexpectedOperandType i name id) = (i ≡ m.place) × (name ≡ m.wanted) × (id ≡ m.found)
+ReportsOperandsMN _ _ = ⊥
 
-abbrev pub TellsResultsMN : TypeFault → ResultsMNOfTypeError → Type 0
-TellsResultsMN (Few few) (NotEnoughResults found needed) = (found ≡ few.found) × (needed ≡ few.needed)
-TellsResultsMN (Wrong m) (UnexpectedResultType i name id) = (i ≡ m.place) × (name ≡ m.wanted) × (id ≡ m.found)
-TellsResultsMN _ _ = ⊥
+abbrev pub ReportsResultsMN : TypeFault → ResultsMNOfTypeError → Type 0
+ReportsResultsMN (Few few) (NotEnoughResults found needed) = (found ≡ few.found) × (needed ≡ few.needed)
+ReportsResultsMN (Wrong m) (UnexpectedResultType i name id) = (i ≡ m.place) × (name ≡ m.wanted) × (id ≡ m.found)
+ReportsResultsMN _ _ = ⊥
 
--- too few values are told as P says, and a wrong type as Q does
-abbrev pub TellsRule : {F E : Type 0} → (P : FewValues → F → Type 0) (Q : TypeMismatch → E → Type 0) → TypeFault →
+-- too few values are reported as P says, and a wrong type as Q does
+abbrev pub ReportsRule : {F E : Type 0} → (P : FewValues → F → Type 0) (Q : TypeMismatch → E → Type 0) → TypeFault →
     TypeRuleErr F E → Type 0
-TellsRule P Q (Few few) (TooFew e) = P few e
-TellsRule P Q (Wrong m) (WrongType e) = Q m e
-TellsRule P Q _ _ = ⊥
+ReportsRule P Q (Few few) (TooFew e) = P few e
+ReportsRule P Q (Wrong m) (WrongType e) = Q m e
+ReportsRule P Q _ _ = ⊥
 
 -- How an operation breaks a rule of types, each word named after its interface: the refusal is at the operation's
 -- location.
 module _ {K A T : Type 0} (marks : TypeView T → Bool) (name : List ℕ) (own_id : T → List ℕ) (s : ContextView K A T)
     (op : Ptr OperationKind) where
-  abbrev pub BreaksAllOperandsOfType : (own_body : List (TypeView T) → T → List ℕ) →
+  abbrev pub IsAllOperandsOfTypeRefusal : (own_body : List (TypeView T) → T → List ℕ) →
       VerifyErr AllOperandsOfTypeVerifyErr → Type 0
-  BreaksAllOperandsOfType own_body = IsRefusalMemoryAside s op
-      (IsOtherKindTold marks name own_id s own_body op Operands TellsOtherOperand)
+  IsAllOperandsOfTypeRefusal own_body = IsRefusalMemoryAside s op
+      (ReportsOtherKind marks name own_id s own_body op Operands ReportsOtherOperand)
 
-  abbrev pub BreaksAllOperandsImplsTy : VerifyErr TypeInterfaceImplsErr → Type 0
-  BreaksAllOperandsImplsTy = IsRefusal s op (IsMisfitTold marks name own_id s op Operands TellsImpls)
+  abbrev pub IsAllOperandsImplsTyRefusal : VerifyErr TypeInterfaceImplsErr → Type 0
+  IsAllOperandsImplsTyRefusal = IsRefusal s op (ReportsMisfit marks name own_id s op Operands ReportsImpls)
 
-  abbrev pub BreaksOperandNOfType : (n : ℕ) → VerifyErr (TypeRuleErr NotEnoughOperandsErr OperandNOfTypeError) → Type 0
-  BreaksOperandNOfType n = IsRefusal s op (IsFaultTold marks name own_id s op Operands (At n)
-      (TellsRule TellsFewOperands TellsOperandN))
-
-  abbrev pub BreaksOperandNImplsTy : (n : ℕ) → VerifyErr (TypeRuleErr NotEnoughOperandsErr TypeInterfaceImplsErr) →
+  abbrev pub IsOperandNOfTypeRefusal : (n : ℕ) → VerifyErr (TypeRuleErr NotEnoughOperandsErr OperandNOfTypeError) →
       Type 0
-  BreaksOperandNImplsTy n = IsRefusal s op (IsFaultTold marks name own_id s op Operands (At n)
-      (TellsRule TellsFewOperands TellsImpls))
+  IsOperandNOfTypeRefusal n = IsRefusal s op (ReportsTypeFault marks name own_id s op Operands (At n)
+      (ReportsRule ReportsFewOperands ReportsOperandN))
 
-  abbrev pub BreaksOperandsMNOfType : (m n : ℕ) → VerifyErr OperandsMNOfTypeError → Type 0
-  BreaksOperandsMNOfType m n = IsRefusal s op (IsFaultTold marks name own_id s op Operands (Within m (signed n))
-      TellsOperandsMN)
-
-  abbrev pub BreaksOperandsMNImplsTy : (m n : ℕ) → VerifyErr (TypeRuleErr NotEnoughOperandsErr TypeInterfaceImplsErr) →
+  abbrev pub IsOperandNImplsTyRefusal : (n : ℕ) → VerifyErr (TypeRuleErr NotEnoughOperandsErr TypeInterfaceImplsErr) →
       Type 0
-  BreaksOperandsMNImplsTy m n = IsRefusal s op (IsFaultTold marks name own_id s op Operands (Within m (signed n))
-      (TellsRule TellsFewOperands TellsImpls))
+  IsOperandNImplsTyRefusal n = IsRefusal s op (ReportsTypeFault marks name own_id s op Operands (At n)
+      (ReportsRule ReportsFewOperands ReportsImpls))
 
-  abbrev pub BreaksAllResultsOfType : (own_body : List (TypeView T) → T → List ℕ) →
+  abbrev pub IsOperandsMNOfTypeRefusal : (m n : ℕ) → VerifyErr OperandsMNOfTypeError → Type 0
+  IsOperandsMNOfTypeRefusal m n = IsRefusal s op (ReportsTypeFault marks name own_id s op Operands (Within m (signed n))
+      ReportsOperandsMN)
+
+  abbrev pub IsOperandsMNImplsTyRefusal : (m n : ℕ) → VerifyErr
+      (TypeRuleErr NotEnoughOperandsErr TypeInterfaceImplsErr) → Type 0
+  IsOperandsMNImplsTyRefusal m n = IsRefusal s op (ReportsTypeFault marks name own_id s op Operands
+      (Within m (signed n)) (ReportsRule ReportsFewOperands ReportsImpls))
+
+  abbrev pub IsAllResultsOfTypeRefusal : (own_body : List (TypeView T) → T → List ℕ) →
       VerifyErr AllResultsOfTypeVerifyErr → Type 0
-  BreaksAllResultsOfType own_body = IsRefusalMemoryAside s op
-      (IsOtherKindTold marks name own_id s own_body op Results TellsOtherResult)
+  IsAllResultsOfTypeRefusal own_body = IsRefusalMemoryAside s op
+      (ReportsOtherKind marks name own_id s own_body op Results ReportsOtherResult)
 
-  abbrev pub BreaksAllResultsImplsTy : VerifyErr TypeInterfaceImplsErr → Type 0
-  BreaksAllResultsImplsTy = IsRefusal s op (IsMisfitTold marks name own_id s op Results TellsImpls)
+  abbrev pub IsAllResultsImplsTyRefusal : VerifyErr TypeInterfaceImplsErr → Type 0
+  IsAllResultsImplsTyRefusal = IsRefusal s op (ReportsMisfit marks name own_id s op Results ReportsImpls)
 
-  abbrev pub BreaksResultNOfType : (n : ℕ) → VerifyErr (TypeRuleErr NotEnoughResultsErr ResultNOfTypeError) → Type 0
-  BreaksResultNOfType n = IsRefusal s op (IsFaultTold marks name own_id s op Results (At n)
-      (TellsRule TellsFewResults TellsResultN))
+  abbrev pub IsResultNOfTypeRefusal : (n : ℕ) → VerifyErr (TypeRuleErr NotEnoughResultsErr ResultNOfTypeError) → Type 0
+  IsResultNOfTypeRefusal n = IsRefusal s op (ReportsTypeFault marks name own_id s op Results (At n)
+      (ReportsRule ReportsFewResults ReportsResultN))
 
-  abbrev pub BreaksResultNImplsTy : (n : ℕ) → VerifyErr (TypeRuleErr NotEnoughResultsErr TypeInterfaceImplsErr) → Type 0
-  BreaksResultNImplsTy n = IsRefusal s op (IsFaultTold marks name own_id s op Results (At n)
-      (TellsRule TellsFewResults TellsImpls))
-
-  abbrev pub BreaksResultsMNOfType : (m n : ℕ) → VerifyErr ResultsMNOfTypeError → Type 0
-  BreaksResultsMNOfType m n = IsRefusal s op (IsFaultTold marks name own_id s op Results (Within m (signed n))
-      TellsResultsMN)
-
-  abbrev pub BreaksResultsMNImplsTy : (m n : ℕ) → VerifyErr (TypeRuleErr NotEnoughResultsErr TypeInterfaceImplsErr) →
+  abbrev pub IsResultNImplsTyRefusal : (n : ℕ) → VerifyErr (TypeRuleErr NotEnoughResultsErr TypeInterfaceImplsErr) →
       Type 0
-  BreaksResultsMNImplsTy m n = IsRefusal s op (IsFaultTold marks name own_id s op Results (Within m (signed n))
-      (TellsRule TellsFewResults TellsImpls))
+  IsResultNImplsTyRefusal n = IsRefusal s op (ReportsTypeFault marks name own_id s op Results (At n)
+      (ReportsRule ReportsFewResults ReportsImpls))
+
+  abbrev pub IsResultsMNOfTypeRefusal : (m n : ℕ) → VerifyErr ResultsMNOfTypeError → Type 0
+  IsResultsMNOfTypeRefusal m n = IsRefusal s op (ReportsTypeFault marks name own_id s op Results (Within m (signed n))
+      ReportsResultsMN)
+
+  abbrev pub IsResultsMNImplsTyRefusal : (m n : ℕ) → VerifyErr (TypeRuleErr NotEnoughResultsErr TypeInterfaceImplsErr) →
+      Type 0
+  IsResultsMNImplsTyRefusal m n = IsRefusal s op (ReportsTypeFault marks name own_id s op Results (Within m (signed n))
+      (ReportsRule ReportsFewResults ReportsImpls))

@@ -4,7 +4,7 @@ ghost use Rattle.plir_core.specs.declared.ptr.IRNode.{IRNode};
 ghost use Rattle.plir_core.specs.ContextView.{IsLive, parent_of};
 ghost use Rattle.plir_core.specs.WellFormed.{IsWellFormed};
 ghost use Rattle.plir_iface.specs.Counts.{regions_of};
-ghost use Rattle.plir_iface.specs.Regions.{HasOneBlock, HasSingleBlocks, BreaksSingleBlocks, IsNotAboveBody};
+ghost use Rattle.plir_iface.specs.Regions.{HasOneBlock, HasSingleBlocks, IsSingleBlocksRefusal, IsNotAboveBody};
 ghost use Rattle.plir_iface.specs.Regions.{IsAppendedToBody, body_of};
 
 use crate::ids::id_of_kind;
@@ -59,7 +59,7 @@ pub trait SingleBlockRegionInterface<D: OpSet>: Op<D> {
     final fn verify(&self, ctx: &Context<D>) -> Result<(), VerifyErr<SingleBlockRegionVerifyErr>>
         requires { IsLive ctx.now (IRNode.Operation (Self.pointer self.now)) }
         ensures ok { IsOk result ↔ HasSingleBlocks ctx.now (Self.pointer self.now) }
-        ensures refused { IfErr result (BreaksSingleBlocks D.kind_id ctx.now (Self.pointer self.now)) }
+        ensures refused { IfErr result (IsSingleBlocksRefusal D.kind_id ctx.now (Self.pointer self.now)) }
         ensures whole { IsWellFormed D.attr_handles ctx.now }
     {
         let op = self.get_operation();
@@ -100,6 +100,6 @@ pub trait SingleBlockRegionInterface<D: OpSet>: Op<D> {
         ensures whole { IsWellFormed D.attr_handles ctx.new }
     {
         let body = self.get_body(ctx, region);
-        op.insert_at_back(body, ctx);
+        op.insert_at_back(ctx, body);
     }
 }

@@ -6,7 +6,8 @@ ghost use Rattle.plir_core.specs.WellFormed.{IsWellFormed};
 ghost use Rattle.plir_iface.specs.Places.{IsCountable};
 ghost use Rattle.plir_iface.specs.Sides.{types_on};
 ghost use Rattle.plir_iface.specs.TypeRules.{AllPass, EachPasses, IsBetween, PassesAt};
-ghost use Rattle.plir_iface.specs.TypeRefusals.{IsFault, IsFaultTold, IsMisfit, IsMisfitTold, IsOtherKindTold, id_in};
+ghost use Rattle.plir_iface.specs.TypeRefusals.{IsFault, ReportsTypeFault, IsMisfit, ReportsMisfit, ReportsOtherKind};
+ghost use Rattle.plir_iface.specs.TypeRefusals.{id_in};
 ghost use Rattle.plir_iface.specs.Verdict.{IsRefusal, IsRefusalMemoryAside};
 
 use crate::ids::id_of_type;
@@ -86,7 +87,7 @@ pub(crate) fn verify_each<D: OpSet, Q: TypeTest<D>, E: From<TypeMismatch> + Drop
     requires { IsLive ctx.now (IRNode.Operation op) }
     ensures ok { IsOk result ↔ EachPasses Q.passes ctx.now (types_on side ctx.now op) }
     ensures refused { IfErr result (IsRefusal ctx.now op
-        (IsMisfitTold Q.passes Q.test_name D.type_id ctx.now op side E.from_gives)) }
+        (ReportsMisfit Q.passes Q.test_name D.type_id ctx.now op side E.from_gives)) }
     ensures whole { IsWellFormed D.attr_handles ctx.now }
 {
     let count = side.len(ctx, op);
@@ -108,7 +109,7 @@ pub(crate) fn verify_at<D: OpSet, Q: TypeTest<D>, E: From<TypeFault> + Drop>(
     requires countable { IsCountable places }
     ensures ok { IsOk result ↔ PassesAt Q.passes ctx.now places (types_on side ctx.now op) }
     ensures refused { IfErr result (IsRefusal ctx.now op
-        (IsFaultTold Q.passes Q.test_name D.type_id ctx.now op side places E.from_gives)) }
+        (ReportsTypeFault Q.passes Q.test_name D.type_id ctx.now op side places E.from_gives)) }
     ensures whole { IsWellFormed D.attr_handles ctx.now }
 {
     match find_fault::<D, Q>(ctx, op, side, places) {
@@ -127,7 +128,7 @@ pub(crate) fn verify_each_kind<D: OpSet, T: TypeMark<D>, E: From<OtherKind> + Dr
     requires { IsLive ctx.now (IRNode.Operation op) }
     ensures ok { IsOk result ↔ EachPasses T.marks ctx.now (types_on side ctx.now op) }
     ensures refused { IfErr result (IsRefusalMemoryAside ctx.now op
-        (IsOtherKindTold T.marks T.NAME D.type_id ctx.now D.type_body_text op side E.from_gives)) }
+        (ReportsOtherKind T.marks T.NAME D.type_id ctx.now D.type_body_text op side E.from_gives)) }
     ensures whole { IsWellFormed D.attr_handles ctx.now }
 {
     let count = side.len(ctx, op);

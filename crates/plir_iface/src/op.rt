@@ -3,8 +3,8 @@
 //! An interface of operations is a trait over `Op` with a `verify`. To add one: its rule, a definition in `specs/` that
 //! is named after it; its error, with the numbers that the rule compares; and the trait, whose `verify` ends in
 //! `accept_if` (`verdict.rt`) or, for a rule of types, in one of the three verifiers of `misfits.rt`. The two clauses
-//! `ok` and `refused` of `verify` read the same everywhere: it accepts exactly where the rule holds, and else tells the
-//! error at the operation's location.
+//! `ok` and `refused` of `verify` read the same everywhere: it accepts exactly where the rule holds, and else reports
+//! the error at the operation's location.
 ghost use Rattle.std.specs.Prelude.{◌≡◌, Some};
 ghost use Rattle.plir_core.specs.ContextView.{IsLive, location_of};
 ghost use Rattle.plir_core.specs.declared.ptr.IRNode.{IRNode as AnyNode};

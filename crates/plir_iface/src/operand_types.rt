@@ -6,9 +6,10 @@ ghost use Rattle.plir_core.specs.WellFormed.{IsWellFormed};
 ghost use Rattle.plir_iface.specs.Places.{IsOrdered, signed};
 ghost use Rattle.plir_iface.specs.TypeRules.{HasAllOperandsOfType, HasOperandNOfType, HasOperandsMNOfType};
 ghost use Rattle.plir_iface.specs.TypeRules.{HasAllOperandsImplsTy, HasOperandNImplsTy, HasOperandsMNImplsTy};
-ghost use Rattle.plir_iface.specs.TypeRefusals.{BreaksAllOperandsOfType, BreaksOperandNOfType, BreaksOperandsMNOfType};
-ghost use Rattle.plir_iface.specs.TypeRefusals.{BreaksAllOperandsImplsTy, BreaksOperandNImplsTy};
-ghost use Rattle.plir_iface.specs.TypeRefusals.{BreaksOperandsMNImplsTy};
+ghost use Rattle.plir_iface.specs.TypeRefusals.{IsAllOperandsOfTypeRefusal, IsOperandNOfTypeRefusal};
+ghost use Rattle.plir_iface.specs.TypeRefusals.{IsOperandsMNOfTypeRefusal};
+ghost use Rattle.plir_iface.specs.TypeRefusals.{IsAllOperandsImplsTyRefusal, IsOperandNImplsTyRefusal};
+ghost use Rattle.plir_iface.specs.TypeRefusals.{IsOperandsMNImplsTyRefusal};
 
 use crate::counts::NotEnoughOperandsErr;
 use crate::misfits::{verify_at, verify_each, verify_each_kind};
@@ -35,7 +36,7 @@ pub trait AllOperandsOfType<D: OpSet, T: TypeMark<D>>: Op<D> {
     ) -> Result<(), VerifyErr<AllOperandsOfTypeVerifyErr>>
         requires { IsLive ctx.now (IRNode.Operation (Self.pointer self.now)) }
         ensures ok { IsOk result ↔ HasAllOperandsOfType T.marks ctx.now (Self.pointer self.now) }
-        ensures refused { IfErr result (BreaksAllOperandsOfType T.marks T.NAME D.type_id ctx.now
+        ensures refused { IfErr result (IsAllOperandsOfTypeRefusal T.marks T.NAME D.type_id ctx.now
             (Self.pointer self.now) D.type_body_text) }
         ensures whole { IsWellFormed D.attr_handles ctx.now }
     {
@@ -54,7 +55,7 @@ pub trait AllOperandsImplsTy<D: OpSet, I: TypeInterfaceMark<D>>: Op<D> {
     final fn verify(&self, ctx: &Context<D>) -> Result<(), VerifyErr<TypeInterfaceImplsErr>>
         requires { IsLive ctx.now (IRNode.Operation (Self.pointer self.now)) }
         ensures ok { IsOk result ↔ HasAllOperandsImplsTy I.marks ctx.now (Self.pointer self.now) }
-        ensures refused { IfErr result (BreaksAllOperandsImplsTy I.marks I.NAME D.type_id ctx.now
+        ensures refused { IfErr result (IsAllOperandsImplsTyRefusal I.marks I.NAME D.type_id ctx.now
             (Self.pointer self.now)) }
         ensures whole { IsWellFormed D.attr_handles ctx.now }
     {
@@ -76,7 +77,7 @@ pub trait OperandNOfType<D: OpSet, const N: usize, T: TypeMark<D>>: Op<D> {
         requires live { IsLive ctx.now (IRNode.Operation (Self.pointer self.now)) }
         requires countable { N < 2 ^ 64 - 1 }
         ensures ok { IsOk result ↔ HasOperandNOfType T.marks ctx.now (Self.pointer self.now) N }
-        ensures refused { IfErr result (BreaksOperandNOfType T.marks T.NAME D.type_id ctx.now (Self.pointer self.now)
+        ensures refused { IfErr result (IsOperandNOfTypeRefusal T.marks T.NAME D.type_id ctx.now (Self.pointer self.now)
             N) }
         ensures whole { IsWellFormed D.attr_handles ctx.now }
     {
@@ -99,8 +100,8 @@ pub trait OperandNImplsTy<D: OpSet, const N: usize, I: TypeInterfaceMark<D>>: Op
         requires live { IsLive ctx.now (IRNode.Operation (Self.pointer self.now)) }
         requires countable { N < 2 ^ 64 - 1 }
         ensures ok { IsOk result ↔ HasOperandNImplsTy I.marks ctx.now (Self.pointer self.now) N }
-        ensures refused { IfErr result (BreaksOperandNImplsTy I.marks I.NAME D.type_id ctx.now (Self.pointer self.now)
-            N) }
+        ensures refused { IfErr result (IsOperandNImplsTyRefusal I.marks I.NAME D.type_id ctx.now
+            (Self.pointer self.now) N) }
         ensures whole { IsWellFormed D.attr_handles ctx.now }
     {
         verify_at::<D, Implementing<I>, TypeRuleErr<NotEnoughOperandsErr, TypeInterfaceImplsErr>>(
@@ -122,8 +123,8 @@ pub trait OperandsMNOfType<D: OpSet, const M: u32, const N: u32, T: TypeMark<D>>
         requires live { IsLive ctx.now (IRNode.Operation (Self.pointer self.now)) }
         requires ordered { IsOrdered M (signed N) }
         ensures ok { IsOk result ↔ HasOperandsMNOfType T.marks ctx.now (Self.pointer self.now) M N }
-        ensures refused { IfErr result (BreaksOperandsMNOfType T.marks T.NAME D.type_id ctx.now (Self.pointer self.now)
-            M N) }
+        ensures refused { IfErr result (IsOperandsMNOfTypeRefusal T.marks T.NAME D.type_id ctx.now
+            (Self.pointer self.now) M N) }
         ensures whole { IsWellFormed D.attr_handles ctx.now }
     {
         verify_at::<D, OfType<T>, OperandsMNOfTypeError>(
@@ -148,7 +149,7 @@ pub trait OperandsMNImplsTy<D: OpSet, const M: u32, const N: u32, I: TypeInterfa
         requires live { IsLive ctx.now (IRNode.Operation (Self.pointer self.now)) }
         requires ordered { IsOrdered M (signed N) }
         ensures ok { IsOk result ↔ HasOperandsMNImplsTy I.marks ctx.now (Self.pointer self.now) M N }
-        ensures refused { IfErr result (BreaksOperandsMNImplsTy I.marks I.NAME D.type_id ctx.now
+        ensures refused { IfErr result (IsOperandsMNImplsTyRefusal I.marks I.NAME D.type_id ctx.now
             (Self.pointer self.now) M N) }
         ensures whole { IsWellFormed D.attr_handles ctx.now }
     {

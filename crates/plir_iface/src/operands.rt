@@ -5,7 +5,7 @@ ghost use Rattle.plir_core.specs.ContextView.{IsLive, IsValueLive, operands_of};
 ghost use Rattle.plir_core.specs.WellFormed.{IsWellFormed};
 ghost use Rattle.plir_core.specs.declared.ptr.IRNode.{IRNode};
 ghost use Rattle.plir_iface.specs.Counts.{HasNOpds, HasAtMostNOpds, HasAtLeastNOpds, num_operands, operand_types};
-ghost use Rattle.plir_iface.specs.CountRefusals.{BreaksNOpds, BreaksAtMostNOpds, BreaksAtLeastNOpds};
+ghost use Rattle.plir_iface.specs.CountRefusals.{IsNOpdsRefusal, IsAtMostNOpdsRefusal, IsAtLeastNOpdsRefusal};
 ghost use Rattle.plir_iface.specs.Verdict.{IsRefusal};
 
 use crate::counts::{
@@ -23,7 +23,7 @@ pub trait NOpdsInterface<D: OpSet, const N: usize>: Op<D> {
     final fn verify(&self, ctx: &Context<D>) -> Result<(), VerifyErr<NOpdsVerifyErr>>
         requires { IsLive ctx.now (IRNode.Operation (Self.pointer self.now)) }
         ensures ok { IsOk result ↔ HasNOpds N ctx.now (Self.pointer self.now) }
-        ensures refused { IfErr result (BreaksNOpds N ctx.now (Self.pointer self.now)) }
+        ensures refused { IfErr result (IsNOpdsRefusal N ctx.now (Self.pointer self.now)) }
         ensures whole { IsWellFormed D.attr_handles ctx.now }
     {
         let op = self.get_operation();
@@ -60,7 +60,7 @@ pub trait AtMostNOpdsInterface<D: OpSet, const N: usize>: Op<D> {
     final fn verify(&self, ctx: &Context<D>) -> Result<(), VerifyErr<AtMostNOpdsVerifyErr>>
         requires { IsLive ctx.now (IRNode.Operation (Self.pointer self.now)) }
         ensures ok { IsOk result ↔ HasAtMostNOpds N ctx.now (Self.pointer self.now) }
-        ensures refused { IfErr result (BreaksAtMostNOpds N ctx.now (Self.pointer self.now)) }
+        ensures refused { IfErr result (IsAtMostNOpdsRefusal N ctx.now (Self.pointer self.now)) }
         ensures whole { IsWellFormed D.attr_handles ctx.now }
     {
         let op = self.get_operation();
@@ -75,7 +75,7 @@ pub trait OptionalOpdInterface<D: OpSet>: Op<D> {
     final fn verify(&self, ctx: &Context<D>) -> Result<(), VerifyErr<AtMostNOpdsVerifyErr>>
         requires { IsLive ctx.now (IRNode.Operation (Self.pointer self.now)) }
         ensures ok { IsOk result ↔ HasAtMostNOpds 1 ctx.now (Self.pointer self.now) }
-        ensures refused { IfErr result (BreaksAtMostNOpds 1 ctx.now (Self.pointer self.now)) }
+        ensures refused { IfErr result (IsAtMostNOpdsRefusal 1 ctx.now (Self.pointer self.now)) }
         ensures whole { IsWellFormed D.attr_handles ctx.now }
     {
         let op = self.get_operation();
@@ -105,7 +105,7 @@ pub trait AtLeastNOpdsInterface<D: OpSet, const N: usize>: Op<D> {
     final fn verify(&self, ctx: &Context<D>) -> Result<(), VerifyErr<AtLeastNOpdsVerifyErr>>
         requires { IsLive ctx.now (IRNode.Operation (Self.pointer self.now)) }
         ensures ok { IsOk result ↔ HasAtLeastNOpds N ctx.now (Self.pointer self.now) }
-        ensures refused { IfErr result (BreaksAtLeastNOpds N ctx.now (Self.pointer self.now)) }
+        ensures refused { IfErr result (IsAtLeastNOpdsRefusal N ctx.now (Self.pointer self.now)) }
         ensures whole { IsWellFormed D.attr_handles ctx.now }
     {
         let op = self.get_operation();
@@ -120,7 +120,7 @@ pub trait OneOpdInterface<D: OpSet>: Op<D> {
     final fn verify(&self, ctx: &Context<D>) -> Result<(), VerifyErr<NOpdsVerifyErr>>
         requires { IsLive ctx.now (IRNode.Operation (Self.pointer self.now)) }
         ensures ok { IsOk result ↔ HasNOpds 1 ctx.now (Self.pointer self.now) }
-        ensures refused { IfErr result (BreaksNOpds 1 ctx.now (Self.pointer self.now)) }
+        ensures refused { IfErr result (IsNOpdsRefusal 1 ctx.now (Self.pointer self.now)) }
         ensures whole { IsWellFormed D.attr_handles ctx.now }
     {
         let op = self.get_operation();

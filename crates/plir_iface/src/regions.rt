@@ -5,7 +5,7 @@ ghost use Rattle.plir_core.specs.ContextView.{IsLive};
 ghost use Rattle.plir_core.specs.WellFormed.{IsWellFormed};
 ghost use Rattle.plir_core.specs.declared.ptr.IRNode.{IRNode};
 ghost use Rattle.plir_iface.specs.Counts.{regions_of, HasNRegions, HasAtMostNRegions};
-ghost use Rattle.plir_iface.specs.CountRefusals.{BreaksNRegions, BreaksAtMostNRegions};
+ghost use Rattle.plir_iface.specs.CountRefusals.{IsNRegionsRefusal, IsAtMostNRegionsRefusal};
 
 use crate::counts::{AtMostNRegionVerifyErr, NRegionsVerifyErr};
 use crate::op::Op;
@@ -19,7 +19,7 @@ pub trait NRegionsInterface<D: OpSet, const N: usize>: Op<D> {
     final fn verify(&self, ctx: &Context<D>) -> Result<(), VerifyErr<NRegionsVerifyErr>>
         requires { IsLive ctx.now (IRNode.Operation (Self.pointer self.now)) }
         ensures ok { IsOk result ↔ HasNRegions N ctx.now (Self.pointer self.now) }
-        ensures refused { IfErr result (BreaksNRegions N ctx.now (Self.pointer self.now)) }
+        ensures refused { IfErr result (IsNRegionsRefusal N ctx.now (Self.pointer self.now)) }
         ensures whole { IsWellFormed D.attr_handles ctx.now }
     {
         let op = self.get_operation();
@@ -45,7 +45,7 @@ pub trait OneRegionInterface<D: OpSet>: Op<D> {
     final fn verify(&self, ctx: &Context<D>) -> Result<(), VerifyErr<NRegionsVerifyErr>>
         requires { IsLive ctx.now (IRNode.Operation (Self.pointer self.now)) }
         ensures ok { IsOk result ↔ HasNRegions 1 ctx.now (Self.pointer self.now) }
-        ensures refused { IfErr result (BreaksNRegions 1 ctx.now (Self.pointer self.now)) }
+        ensures refused { IfErr result (IsNRegionsRefusal 1 ctx.now (Self.pointer self.now)) }
         ensures whole { IsWellFormed D.attr_handles ctx.now }
     {
         let op = self.get_operation();
@@ -71,7 +71,7 @@ pub trait AtMostNRegionsInterface<D: OpSet, const N: usize>: Op<D> {
     final fn verify(&self, ctx: &Context<D>) -> Result<(), VerifyErr<AtMostNRegionVerifyErr>>
         requires { IsLive ctx.now (IRNode.Operation (Self.pointer self.now)) }
         ensures ok { IsOk result ↔ HasAtMostNRegions N ctx.now (Self.pointer self.now) }
-        ensures refused { IfErr result (BreaksAtMostNRegions N ctx.now (Self.pointer self.now)) }
+        ensures refused { IfErr result (IsAtMostNRegionsRefusal N ctx.now (Self.pointer self.now)) }
         ensures whole { IsWellFormed D.attr_handles ctx.now }
     {
         let op = self.get_operation();

@@ -6,8 +6,10 @@ ghost use Rattle.plir_core.specs.WellFormed.{IsWellFormed};
 ghost use Rattle.plir_iface.specs.Places.{IsOrdered, signed};
 ghost use Rattle.plir_iface.specs.TypeRules.{HasAllResultsOfType, HasResultNOfType, HasResultsMNOfType};
 ghost use Rattle.plir_iface.specs.TypeRules.{HasAllResultsImplsTy, HasResultNImplsTy, HasResultsMNImplsTy};
-ghost use Rattle.plir_iface.specs.TypeRefusals.{BreaksAllResultsOfType, BreaksResultNOfType, BreaksResultsMNOfType};
-ghost use Rattle.plir_iface.specs.TypeRefusals.{BreaksAllResultsImplsTy, BreaksResultNImplsTy, BreaksResultsMNImplsTy};
+ghost use Rattle.plir_iface.specs.TypeRefusals.{IsAllResultsOfTypeRefusal, IsResultNOfTypeRefusal};
+ghost use Rattle.plir_iface.specs.TypeRefusals.{IsResultsMNOfTypeRefusal};
+ghost use Rattle.plir_iface.specs.TypeRefusals.{IsAllResultsImplsTyRefusal, IsResultNImplsTyRefusal};
+ghost use Rattle.plir_iface.specs.TypeRefusals.{IsResultsMNImplsTyRefusal};
 
 use crate::counts::NotEnoughResultsErr;
 use crate::misfits::{verify_at, verify_each, verify_each_kind};
@@ -34,8 +36,8 @@ pub trait AllResultsOfType<D: OpSet, T: TypeMark<D>>: Op<D> {
     ) -> Result<(), VerifyErr<AllResultsOfTypeVerifyErr>>
         requires { IsLive ctx.now (IRNode.Operation (Self.pointer self.now)) }
         ensures ok { IsOk result ↔ HasAllResultsOfType T.marks ctx.now (Self.pointer self.now) }
-        ensures refused { IfErr result (BreaksAllResultsOfType T.marks T.NAME D.type_id ctx.now (Self.pointer self.now)
-            D.type_body_text) }
+        ensures refused { IfErr result (IsAllResultsOfTypeRefusal T.marks T.NAME D.type_id ctx.now
+            (Self.pointer self.now) D.type_body_text) }
         ensures whole { IsWellFormed D.attr_handles ctx.now }
     {
         verify_each_kind::<D, T, AllResultsOfTypeVerifyErr>(
@@ -53,7 +55,7 @@ pub trait AllResultsImplsTy<D: OpSet, I: TypeInterfaceMark<D>>: Op<D> {
     final fn verify(&self, ctx: &Context<D>) -> Result<(), VerifyErr<TypeInterfaceImplsErr>>
         requires { IsLive ctx.now (IRNode.Operation (Self.pointer self.now)) }
         ensures ok { IsOk result ↔ HasAllResultsImplsTy I.marks ctx.now (Self.pointer self.now) }
-        ensures refused { IfErr result (BreaksAllResultsImplsTy I.marks I.NAME D.type_id ctx.now
+        ensures refused { IfErr result (IsAllResultsImplsTyRefusal I.marks I.NAME D.type_id ctx.now
             (Self.pointer self.now)) }
         ensures whole { IsWellFormed D.attr_handles ctx.now }
     {
@@ -75,7 +77,7 @@ pub trait ResultNOfType<D: OpSet, const N: usize, T: TypeMark<D>>: Op<D> {
         requires live { IsLive ctx.now (IRNode.Operation (Self.pointer self.now)) }
         requires countable { N < 2 ^ 64 - 1 }
         ensures ok { IsOk result ↔ HasResultNOfType T.marks ctx.now (Self.pointer self.now) N }
-        ensures refused { IfErr result (BreaksResultNOfType T.marks T.NAME D.type_id ctx.now
+        ensures refused { IfErr result (IsResultNOfTypeRefusal T.marks T.NAME D.type_id ctx.now
             (Self.pointer self.now) N) }
         ensures whole { IsWellFormed D.attr_handles ctx.now }
     {
@@ -98,7 +100,7 @@ pub trait ResultNImplsTy<D: OpSet, const N: usize, I: TypeInterfaceMark<D>>: Op<
         requires live { IsLive ctx.now (IRNode.Operation (Self.pointer self.now)) }
         requires countable { N < 2 ^ 64 - 1 }
         ensures ok { IsOk result ↔ HasResultNImplsTy I.marks ctx.now (Self.pointer self.now) N }
-        ensures refused { IfErr result (BreaksResultNImplsTy I.marks I.NAME D.type_id ctx.now (Self.pointer self.now)
+        ensures refused { IfErr result (IsResultNImplsTyRefusal I.marks I.NAME D.type_id ctx.now (Self.pointer self.now)
             N) }
         ensures whole { IsWellFormed D.attr_handles ctx.now }
     {
@@ -120,8 +122,8 @@ pub trait ResultsMNOfType<D: OpSet, const M: u32, const N: u32, T: TypeMark<D>>:
         requires live { IsLive ctx.now (IRNode.Operation (Self.pointer self.now)) }
         requires ordered { IsOrdered M (signed N) }
         ensures ok { IsOk result ↔ HasResultsMNOfType T.marks ctx.now (Self.pointer self.now) M N }
-        ensures refused { IfErr result (BreaksResultsMNOfType T.marks T.NAME D.type_id ctx.now (Self.pointer self.now)
-            M N) }
+        ensures refused { IfErr result (IsResultsMNOfTypeRefusal T.marks T.NAME D.type_id ctx.now
+            (Self.pointer self.now) M N) }
         ensures whole { IsWellFormed D.attr_handles ctx.now }
     {
         verify_at::<D, OfType<T>, ResultsMNOfTypeError>(
@@ -145,8 +147,8 @@ pub trait ResultsMNImplsTy<D: OpSet, const M: u32, const N: u32, I: TypeInterfac
         requires live { IsLive ctx.now (IRNode.Operation (Self.pointer self.now)) }
         requires ordered { IsOrdered M (signed N) }
         ensures ok { IsOk result ↔ HasResultsMNImplsTy I.marks ctx.now (Self.pointer self.now) M N }
-        ensures refused { IfErr result (BreaksResultsMNImplsTy I.marks I.NAME D.type_id ctx.now (Self.pointer self.now)
-            M N) }
+        ensures refused { IfErr result (IsResultsMNImplsTyRefusal I.marks I.NAME D.type_id ctx.now
+            (Self.pointer self.now) M N) }
         ensures whole { IsWellFormed D.attr_handles ctx.now }
     {
         verify_at::<D, Implementing<I>, TypeRuleErr<NotEnoughResultsErr, TypeInterfaceImplsErr>>(

@@ -6,7 +6,7 @@ ghost use Rattle.plir_core.specs.WellFormed.{IsWellFormed};
 ghost use Rattle.plir_core.specs.declared.ptr.IRNode.{IRNode};
 ghost use Rattle.plir_iface.specs.Counts.{HasNResults, HasAtMostNResults, HasAtLeastNResults, num_results, result_at};
 ghost use Rattle.plir_iface.specs.Counts.{result_types};
-ghost use Rattle.plir_iface.specs.CountRefusals.{BreaksNResults, BreaksAtMostNResults, BreaksAtLeastNResults};
+ghost use Rattle.plir_iface.specs.CountRefusals.{IsNResultsRefusal, IsAtMostNResultsRefusal, IsAtLeastNResultsRefusal};
 ghost use Rattle.plir_iface.specs.Verdict.{IsRefusal};
 
 use crate::counts::{
@@ -23,7 +23,7 @@ pub trait NResultsInterface<D: OpSet, const N: usize>: Op<D> {
     final fn verify(&self, ctx: &Context<D>) -> Result<(), VerifyErr<NResultsVerifyErr>>
         requires { IsLive ctx.now (IRNode.Operation (Self.pointer self.now)) }
         ensures ok { IsOk result ↔ HasNResults N ctx.now (Self.pointer self.now) }
-        ensures refused { IfErr result (BreaksNResults N ctx.now (Self.pointer self.now)) }
+        ensures refused { IfErr result (IsNResultsRefusal N ctx.now (Self.pointer self.now)) }
         ensures whole { IsWellFormed D.attr_handles ctx.now }
     {
         let op = self.get_operation();
@@ -60,7 +60,7 @@ pub trait AtMostNResultsInterface<D: OpSet, const N: usize>: Op<D> {
     final fn verify(&self, ctx: &Context<D>) -> Result<(), VerifyErr<AtMostNResultsVerifyErr>>
         requires { IsLive ctx.now (IRNode.Operation (Self.pointer self.now)) }
         ensures ok { IsOk result ↔ HasAtMostNResults N ctx.now (Self.pointer self.now) }
-        ensures refused { IfErr result (BreaksAtMostNResults N ctx.now (Self.pointer self.now)) }
+        ensures refused { IfErr result (IsAtMostNResultsRefusal N ctx.now (Self.pointer self.now)) }
         ensures whole { IsWellFormed D.attr_handles ctx.now }
     {
         let op = self.get_operation();
@@ -75,7 +75,7 @@ pub trait OptionalResultInterface<D: OpSet>: Op<D> {
     final fn verify(&self, ctx: &Context<D>) -> Result<(), VerifyErr<AtMostNResultsVerifyErr>>
         requires { IsLive ctx.now (IRNode.Operation (Self.pointer self.now)) }
         ensures ok { IsOk result ↔ HasAtMostNResults 1 ctx.now (Self.pointer self.now) }
-        ensures refused { IfErr result (BreaksAtMostNResults 1 ctx.now (Self.pointer self.now)) }
+        ensures refused { IfErr result (IsAtMostNResultsRefusal 1 ctx.now (Self.pointer self.now)) }
         ensures whole { IsWellFormed D.attr_handles ctx.now }
     {
         let op = self.get_operation();
@@ -105,7 +105,7 @@ pub trait AtLeastNResultsInterface<D: OpSet, const N: usize>: Op<D> {
     final fn verify(&self, ctx: &Context<D>) -> Result<(), VerifyErr<AtLeastNResultsVerifyErr>>
         requires { IsLive ctx.now (IRNode.Operation (Self.pointer self.now)) }
         ensures ok { IsOk result ↔ HasAtLeastNResults N ctx.now (Self.pointer self.now) }
-        ensures refused { IfErr result (BreaksAtLeastNResults N ctx.now (Self.pointer self.now)) }
+        ensures refused { IfErr result (IsAtLeastNResultsRefusal N ctx.now (Self.pointer self.now)) }
         ensures whole { IsWellFormed D.attr_handles ctx.now }
     {
         let op = self.get_operation();
@@ -120,7 +120,7 @@ pub trait OneResultInterface<D: OpSet>: Op<D> {
     final fn verify(&self, ctx: &Context<D>) -> Result<(), VerifyErr<NResultsVerifyErr>>
         requires { IsLive ctx.now (IRNode.Operation (Self.pointer self.now)) }
         ensures ok { IsOk result ↔ HasNResults 1 ctx.now (Self.pointer self.now) }
-        ensures refused { IfErr result (BreaksNResults 1 ctx.now (Self.pointer self.now)) }
+        ensures refused { IfErr result (IsNResultsRefusal 1 ctx.now (Self.pointer self.now)) }
         ensures whole { IsWellFormed D.attr_handles ctx.now }
     {
         let op = self.get_operation();

@@ -1,7 +1,8 @@
 //! Refusals of types. An id is a type's id alone, as `dialect.name`.
-ghost use Rattle.plir_iface.specs.TypeRefusals.{TellsFewOperands, TellsFewResults, TellsOtherOperand, TellsOtherResult};
-ghost use Rattle.plir_iface.specs.TypeRefusals.{TellsImpls, TellsOperandN, TellsResultN, TellsOperandsMN};
-ghost use Rattle.plir_iface.specs.TypeRefusals.{TellsResultsMN, TellsRule};
+ghost use Rattle.plir_iface.specs.TypeRefusals.{ReportsFewOperands, ReportsFewResults, ReportsOtherOperand};
+ghost use Rattle.plir_iface.specs.TypeRefusals.{ReportsOtherResult};
+ghost use Rattle.plir_iface.specs.TypeRefusals.{ReportsImpls, ReportsOperandN, ReportsResultN, ReportsOperandsMN};
+ghost use Rattle.plir_iface.specs.TypeRefusals.{ReportsResultsMN, ReportsRule};
 
 use crate::counts::{NotEnoughOperandsErr, NotEnoughResultsErr};
 use crate::side::Side;
@@ -41,7 +42,7 @@ pub struct OtherKind {
 }
 
 impl From<TooFew> for NotEnoughOperandsErr {
-    ghost from_gives = { TellsFewOperands };
+    ghost from_gives = { ReportsFewOperands };
 
     fn from(few: TooFew) -> NotEnoughOperandsErr {
         NotEnoughOperandsErr(few.found, few.needed)
@@ -49,7 +50,7 @@ impl From<TooFew> for NotEnoughOperandsErr {
 }
 
 impl From<TooFew> for NotEnoughResultsErr {
-    ghost from_gives = { TellsFewResults };
+    ghost from_gives = { ReportsFewResults };
 
     fn from(few: TooFew) -> NotEnoughResultsErr {
         NotEnoughResultsErr(few.found, few.needed)
@@ -62,7 +63,7 @@ impl From<TooFew> for NotEnoughResultsErr {
 pub struct AllOperandsOfTypeVerifyErr(pub &'static str, pub String);
 
 impl From<OtherKind> for AllOperandsOfTypeVerifyErr {
-    ghost from_gives = { TellsOtherOperand };
+    ghost from_gives = { ReportsOtherOperand };
 
     fn from(other: OtherKind) -> AllOperandsOfTypeVerifyErr {
         AllOperandsOfTypeVerifyErr(other.wanted, other.found)
@@ -75,7 +76,7 @@ impl From<OtherKind> for AllOperandsOfTypeVerifyErr {
 pub struct AllResultsOfTypeVerifyErr(pub &'static str, pub String);
 
 impl From<OtherKind> for AllResultsOfTypeVerifyErr {
-    ghost from_gives = { TellsOtherResult };
+    ghost from_gives = { ReportsOtherResult };
 
     fn from(other: OtherKind) -> AllResultsOfTypeVerifyErr {
         AllResultsOfTypeVerifyErr(other.wanted, other.found)
@@ -97,7 +98,7 @@ pub enum TypeInterfaceImplsErr {
 }
 
 impl From<TypeMismatch> for TypeInterfaceImplsErr {
-    ghost from_gives = { TellsImpls };
+    ghost from_gives = { ReportsImpls };
 
     fn from(m: TypeMismatch) -> TypeInterfaceImplsErr {
         match m.side {
@@ -116,7 +117,7 @@ pub enum OperandNOfTypeError {
 }
 
 impl From<TypeMismatch> for OperandNOfTypeError {
-    ghost from_gives = { TellsOperandN };
+    ghost from_gives = { ReportsOperandN };
 
     fn from(m: TypeMismatch) -> OperandNOfTypeError {
         OperandNOfTypeError::AllOperandsOfTypeVerifyErr(m.wanted, m.found)
@@ -132,7 +133,7 @@ pub enum ResultNOfTypeError {
 }
 
 impl From<TypeMismatch> for ResultNOfTypeError {
-    ghost from_gives = { TellsResultN };
+    ghost from_gives = { ReportsResultN };
 
     fn from(m: TypeMismatch) -> ResultNOfTypeError {
         ResultNOfTypeError::AllResultsOfTypeVerifyErr(m.wanted, m.found)
@@ -151,7 +152,7 @@ pub enum OperandsMNOfTypeError {
 }
 
 impl From<TypeFault> for OperandsMNOfTypeError {
-    ghost from_gives = { TellsOperandsMN };
+    ghost from_gives = { ReportsOperandsMN };
 
     fn from(fault: TypeFault) -> OperandsMNOfTypeError {
         match fault {
@@ -177,7 +178,7 @@ pub enum ResultsMNOfTypeError {
 }
 
 impl From<TypeFault> for ResultsMNOfTypeError {
-    ghost from_gives = { TellsResultsMN };
+    ghost from_gives = { ReportsResultsMN };
 
     fn from(fault: TypeFault) -> ResultsMNOfTypeError {
         match fault {
@@ -202,7 +203,7 @@ pub enum TypeRuleErr<F, E> {
 }
 
 impl<F: From<TooFew>, E: From<TypeMismatch>> From<TypeFault> for TypeRuleErr<F, E> {
-    ghost from_gives = { TellsRule F.from_gives E.from_gives };
+    ghost from_gives = { ReportsRule F.from_gives E.from_gives };
 
     fn from(fault: TypeFault) -> TypeRuleErr<F, E> {
         match fault {

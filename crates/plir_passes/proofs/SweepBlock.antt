@@ -19,7 +19,7 @@ use Rattle.plir_walk.specs.Lawful.{Lawful}
 use Rattle.plir_walk.specs.LawfulChanges.{LawfulChanges}
 use Rattle.plir_passes.specs.Passing.{left_upto}
 use Rattle.plir_passes.specs.Dead.{IsUsedBy, HasNoDeadChild}
-use Rattle.plir_passes.specs.Swept.{IsSwept, IsSweptAt, Tells}
+use Rattle.plir_passes.specs.Swept.{IsSwept, IsSweptAt, IsFlagged}
 use Rattle.plir_passes.proofs.Nodes.{op-tells, not-both}
 use Rattle.plir_passes.proofs.Sweeps.{swept-none, swept-then, swept-erased}
 
@@ -65,12 +65,13 @@ module _ {K A T : Type 0} (effect ends : K → Bool) where
   fewer-erased : (s t : ContextView K A T) (n : IRNode) → IsErased s.nodes t.nodes n → num_live t < num_live s
   fewer-erased s t n e = omega (arith, e.count, tree-some s.nodes n)
 
-  -- From the start of the loop in s to s', the operations of the block b behind `at` are not dead, if nothing was erased.
+  -- From the start of the loop in s to s', the operations of the block b behind `at` are not dead, if nothing was
+  -- erased.
   pub record IsSweeping (s s' : ContextView K A T) (b : Ptr BasicBlockKind) (before erased : Bool) (at : Option (Ptr OperationKind)) : Type 0 where
     pub swept : IsSwept effect ends s s'
     pub lawful : Lawful (look s) (BasicBlock b) (look s')
     pub forest : IsForest (look s')
-    pub tells : Tells s before erased s'
+    pub tells : IsFlagged s before erased s'
     pub front : List IRNode
     pub back : List IRNode
     pub split : children s' (BasicBlock b) ≡ front ++ back

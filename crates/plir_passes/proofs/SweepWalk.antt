@@ -25,7 +25,7 @@ use Rattle.plir_walk.specs.Calls.{Call, Relation, Chain}
 use Rattle.plir_walk.specs.Walked.{Walked, IsCallUnder}
 use Rattle.plir_walk.specs.CallLaws.{chain-each, kept_from_entry_to_exit, holds_under_root}
 use Rattle.plir_passes.specs.Dead.{HasNoDeadChild, HasNoDead}
-use Rattle.plir_passes.specs.Swept.{IsSwept, IsSweptBy, Tells}
+use Rattle.plir_passes.specs.Swept.{IsSwept, IsSweptBy, IsFlagged}
 use Rattle.plir_passes.proofs.Nodes.{climb-nothing}
 use Rattle.plir_walk.specs.TreeLaws.{reached-under}
 use Rattle.plir_passes.proofs.Sweeps.{swept-none, swept-then}
@@ -60,7 +60,7 @@ module _ {K A T : Type 0} (effect ends : K → Bool) where
   pub swept-block : (s t : ContextView K A T) (flag flag' : Bool) (n : IRNode) (b : Ptr BasicBlockKind) → n ≡ BasicBlock b → IsSweptBy effect ends s flag (BasicBlock b) t flag' → IsSweptBy effect ends s flag n t flag'
   swept-block s t flag flag' n b e h = subst (λ z. IsSweptBy effect ends s flag z t flag') (sym e) h
 
-  tells-then : (c d e : ContextView K A T) (s t u : Bool) → Tells c s t d → Tells d t u e → Tells c s u e
+  tells-then : (c d e : ContextView K A T) (s t u : Bool) → IsFlagged c s t d → IsFlagged d t u e → IsFlagged c s u e
   tells-then c d e s t u f g = record {
     clear = λ h. (let k = g.clear h in let j = f.clear k.0 in (j.0, k.1 ∙ j.1));
     fewer = (let a = f.fewer in let b = g.fewer in omega (arith, a, b));
@@ -87,9 +87,9 @@ module _ {K A T : Type 0} (effect ends : K → Bool) where
         })
         (λ d d' t t' n a p w. (p.leaves, (each d t n a d' t' p.made).1.swept)) c c' s s' calls h w).1
 
-    pub walk-tells : (c c' : ContextView K A T) (s s' : Bool) (calls : List (Call (ContextView K A T) Bool B)) → Chain call c s calls c' s' → Tells c s s' c'
+    pub walk-tells : (c c' : ContextView K A T) (s s' : Bool) (calls : List (Call (ContextView K A T) Bool B)) → Chain call c s calls c' s' → IsFlagged c s s' c'
     walk-tells c c' s s' calls h =
-        kept_from_entry_to_exit call (λ c s c' s'. Tells c s s' c')
+        kept_from_entry_to_exit call (λ c s c' s'. IsFlagged c s s' c')
         (record {
           itself = λ d t. record { clear = λ f. (f, refl); fewer = omega arith; set = λ f. inl f };
           on = λ d e f t u v g k. tells-then d e f t u v g k;

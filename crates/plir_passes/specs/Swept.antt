@@ -41,7 +41,7 @@ module _ {K A T : Type 0} where
       ⊎ ((IsUsedBy effect ends s [] p → ⊥) × (flag' ≡ flag) × (t ≡ s))
 
   -- A flag that is clear tells that nothing was erased; one that is newly set, that something was.
-  pub record Tells (s : ContextView K A T) (flag flag' : Bool) (t : ContextView K A T) : Type 0 where
+  pub record IsFlagged (s : ContextView K A T) (flag flag' : Bool) (t : ContextView K A T) : Type 0 where
     pub clear : flag' ≡ false → (flag ≡ false) × (t ≡ s)
     pub fewer : num_live t ≤ num_live s
     pub set : flag' ≡ true → (flag ≡ true) ⊎ (num_live t < num_live s)
@@ -53,5 +53,5 @@ module _ {K A T : Type 0} where
       (flag' : Bool) : Type 0 where
     pub swept : IsSwept effect ends s t
     pub lawful : Lawful (look s) n (look t)
-    pub tells : Tells s flag flag' t
+    pub tells : IsFlagged s flag flag' t
     pub clean : flag' ≡ false → HasNoDeadChild effect ends t n

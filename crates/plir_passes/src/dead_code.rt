@@ -6,7 +6,7 @@ ghost use Rattle.plir_core.specs.ContextView.{IsLive, children};
 ghost use Rattle.plir_core.specs.Unused.{IsUnusedOutside};
 ghost use Rattle.plir_walk.specs.Lawful.{Lawful};
 ghost use Rattle.plir_passes.specs.Dead.{IsUsedBy, IsUsedByNone, HasNoDead};
-ghost use Rattle.plir_passes.specs.Swept.{IsSwept, IsSweptAt, IsSweptBy, Tells};
+ghost use Rattle.plir_passes.specs.Swept.{IsSwept, IsSweptAt, IsSweptBy, IsFlagged};
 
 use crate::effects::{EffectSet, is_removable};
 use plir_core::laws::{
@@ -97,7 +97,7 @@ fn sweep<D: EffectSet>(ctx: &mut Context<D>, root: Ptr<Operation>) -> bool
     requires { IsLive ctx.old (AnyNode.Operation root) }
     ensures swept { IsSwept D.has_effect D.is_terminator ctx.old ctx.new }
     ensures lawful { Lawful (look ctx.old) (AnyNode.Operation root) (look ctx.new) }
-    ensures tells { Tells ctx.old false result ctx.new }
+    ensures tells { IsFlagged ctx.old false result ctx.new }
     ensures clean { result ≡ false → HasNoDead D.has_effect D.is_terminator ctx.new (AnyNode.Operation root) }
     ensures stands { IsForest (look ctx.new) }
 {

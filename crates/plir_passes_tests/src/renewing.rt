@@ -69,7 +69,7 @@ impl Conversion<KindSet<ToyKind>> for Renew {
         replacements::<KindSet<ToyKind>>();
         ctx.stands();
         let new = make_new(self.alloc, ctx)?;
-        new.insert_before(op, ctx);
+        new.insert_before(ctx, op);
         if !IRNode::Operation(op).is_unused_outside(ctx) {
             return Err(RenewErr::Used);
         }

@@ -15,16 +15,16 @@ use Rattle.plir_core.specs.ContextView.{ContextView, attributes_of, kind_of}
 use Rattle.plir_attr_text.specs.OpSetTexts.{pair_text}
 use Rattle.plir_print.specs.Lists.{parted}
 
--- whether the attribute under a key is told by the header, of an operation of a kind that has its dictionary apart
-abbrev pub is_told : {K : Type 0} → Option (OpKind K) → (key : List ℕ) → Bool
-is_told (Some Module) key = bytes_eq key symbol_key
-is_told (Some Func) key = bytes_eq key symbol_key || bytes_eq key func_type_key
-is_told _ key = false
+-- whether the attribute under a key stands in the header, of an operation of a kind that has its dictionary apart
+abbrev pub is_in_header : {K : Type 0} → Option (OpKind K) → (key : List ℕ) → Bool
+is_in_header (Some Module) key = bytes_eq key symbol_key
+is_in_header (Some Func) key = bytes_eq key symbol_key || bytes_eq key func_type_key
+is_in_header _ key = false
 
 module _ {D K A T E : Type 0} (o : op_set.Ghosts D K A T E) where
-  -- whether an entry is shown: it is neither told by the header nor outlined
+  -- whether an entry is shown: it neither stands in the header nor is outlined
   abbrev pub is_shown : Option (OpKind K) → List ℕ × AttrView A → Bool
-  is_shown kind e = not (is_told kind e.0 || is_outlined o.attr_outlined e.1)
+  is_shown kind e = not (is_in_header kind e.0 || is_outlined o.attr_outlined e.1)
 
   -- the entries that are shown
   abbrev pub shown_of : Option (OpKind K) → List (List ℕ × AttrView A) → List (List ℕ × AttrView A)

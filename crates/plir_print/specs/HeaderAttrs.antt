@@ -1,4 +1,4 @@
--- The attributes that the headers of operations tell.
+-- The attributes that the headers of operations show.
 use Rattle.std.specs.Prelude.{◌≡◌, Bool, true, ◌&&◌, is_some, length, nat_eq, Option, None, Some}
 use Rattle.plir_data.specs.declared.op_set.OpKind.{OpKind}
 use Rattle.plir_data.specs.declared.op_set.OpKind.TheVariants.{Module, Func, Constant, ForwardRef, Own}
@@ -22,7 +22,7 @@ module _ {K A T : Type 0} (s : ContextView K A T) where
   has_header_of (Some (Own k)) p = true
   has_header_of None p = true
 
-  -- whether an operation has the attributes that its header tells
+  -- whether an operation has the attributes that its header shows
   abbrev pub has_header : Ptr OperationKind → Bool
   has_header p = has_header_of (kind_of s p) p
 

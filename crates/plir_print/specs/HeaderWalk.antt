@@ -1,4 +1,4 @@
--- The walk that looks for an operation without the attributes that its header tells.
+-- The walk that looks for an operation without the attributes that its header shows.
 use Rattle.std.specs.Prelude.{Bool, true, false}
 use Rattle.std.specs.declared.ops.ControlFlow.{ControlFlow}
 use Rattle.std.specs.declared.ops.ControlFlow.TheVariants.{Continue, Break}

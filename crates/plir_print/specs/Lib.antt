@@ -4,7 +4,7 @@
 --   ValueNames   value_name, block_name: the names of values and blocks in texts; results_of, arguments_of: these
 --                values in order
 --   Lists        parted: things with something between them
---   HeaderAttrs  has_header: an operation has the attributes that its header tells; IsPrintable: each one at or under a
+--   HeaderAttrs  has_header: an operation has the attributes that its header needs; IsPrintable: each one at or under a
 --                node has
 --   Dictionaries dictionary: the attributes of an operation that its text shows
 --   Headers      header: what stands before the attributes and regions of an operation

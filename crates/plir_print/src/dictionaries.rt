@@ -6,7 +6,7 @@ ghost use Rattle.plir_core.specs.declared.ptr.IRNode.{IRNode as AnyNode};
 ghost use Rattle.plir_core.specs.ContextView.{IsLive};
 ghost use Rattle.plir_print.specs.Lists.{Puts};
 ghost use Rattle.plir_attr_text.specs.OpSetTexts.{attribute_text};
-ghost use Rattle.plir_print.specs.Dictionaries.{dictionary, is_shown, is_told, shown_of, shown_text};
+ghost use Rattle.plir_print.specs.Dictionaries.{dictionary, is_shown, is_in_header, shown_of, shown_text};
 
 use crate::layout::put_between;
 use plir_attr_text::print_attr;
@@ -30,9 +30,9 @@ pub(crate) fn put_attr<D: OpSet>(
     put(out, text.as_str())
 }
 
-// Whether the attribute under a key is told by the header of an operation of a kind that has its dictionary apart.
-fn is_told<K: Copy>(kind: OpKind<K>, key: &str) -> bool
-    ensures { result ≡ is_told (Some kind) key.now }
+// Whether the attribute under a key stands in the header of an operation of a kind that has its dictionary apart.
+fn is_in_header<K: Copy>(kind: OpKind<K>, key: &str) -> bool
+    ensures { result ≡ is_in_header (Some kind) key.now }
 {
     match kind {
         OpKind::Module => key == ATTR_KEY_SYM_NAME,
@@ -43,11 +43,11 @@ fn is_told<K: Copy>(kind: OpKind<K>, key: &str) -> bool
     }
 }
 
-// Whether an entry is shown.
-fn is_shown<D: OpSet>(kind: OpKind<D::Kind>, key: &str, value: &AttrObj<D>) -> bool
+/// Whether an entry of an operation's dictionary is shown in its text: it neither stands in the header nor is outlined.
+pub fn is_shown<D: OpSet>(kind: OpKind<D::Kind>, key: &str, value: &AttrObj<D>) -> bool
     ensures { result ≡ is_shown D.OpSet (Some kind) (key.now, attr_view value.now) }
 {
-    !(is_told(kind, key) || value.outline())
+    !(is_in_header(kind, key) || value.outline())
 }
 
 // Puts the entries that are shown, with a comma and a space between them.

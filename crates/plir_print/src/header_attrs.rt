@@ -1,4 +1,4 @@
-//! The attributes that the headers of operations tell.
+//! The attributes that stand in the headers of operations.
 ghost use Rattle.std.specs.Prelude.{◌≡◌, IfSome, option_map};
 ghost use Rattle.plir_data.specs.AttrLive.{IsAttrLive};
 ghost use Rattle.plir_data.specs.AttrSeen.{attr_view};
@@ -13,7 +13,7 @@ use plir_core::{Context, Operation, Ptr};
 use plir_data::{AttrObj, OpKind, OpSet};
 
 /// The value of a constant, if it has one.
-pub(crate) fn find_value<D: OpSet>(ctx: &Context<D>, op: Ptr<Operation>) -> Option<&AttrObj<D>>
+pub fn find_value<D: OpSet>(ctx: &Context<D>, op: Ptr<Operation>) -> Option<&AttrObj<D>>
     requires { IsLive ctx.now (AnyNode.Operation op) }
     ensures value { option_map (λ a. attr_view a.now) result ≡ value_of ctx.now op }
     ensures live { IfSome result (λ a. IsAttrLive D.attr_handles ctx.now.types (attr_view a.now)) }
@@ -21,7 +21,7 @@ pub(crate) fn find_value<D: OpSet>(ctx: &Context<D>, op: Ptr<Operation>) -> Opti
     op.attributes(ctx).get(ATTR_KEY_CONSTANT_VALUE)
 }
 
-/// Whether an operation has the attributes that its header tells: a module or a function an identifier as its name, a
+/// Whether an operation has the attributes that its header needs: a module or a function an identifier as its name, a
 /// function a type too, a constant a value and one result. Of other operations nothing is asked.
 pub fn has_header<D: OpSet>(ctx: &Context<D>, op: Ptr<Operation>) -> bool
     requires { IsLive ctx.now (AnyNode.Operation op) }

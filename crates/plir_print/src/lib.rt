@@ -14,7 +14,8 @@ mod ops;
 mod printable;
 mod values;
 
+pub use dictionaries::is_shown;
 pub use edges::print_edge;
-pub use header_attrs::has_header;
+pub use header_attrs::{find_value, has_header};
 pub use ops::print_op;
 pub use printable::is_printable;

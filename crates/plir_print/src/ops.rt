@@ -78,8 +78,8 @@ fn put_closing(out: &mut String, indent: usize, node: IRNode) -> Result<(), Memo
     }
 }
 
-// Puts what stands before a child of a node: a new line before a block and an operation, and before the line a semicolon,
-// where other operations stand first.
+// Puts what stands before a child of a node: a new line before a block and an operation, and before the line a
+// semicolon, where other operations stand first.
 fn put_lead(out: &mut String, is_first: bool, indent: usize, over: IRNode) -> Result<(), Memory>
     ensures { OnOk result (Puts out.old out.new (lead is_first indent over)) }
 {
@@ -119,8 +119,8 @@ fn enter<D: OpSet>(
     }
 }
 
-// Goes on from a node that is left and is not the root, behind whose children all is put: to the next node under the same
-// one, or to the end of that.
+// Goes on from a node that is left and is not the root, behind whose children all is put: to the next node under the
+// same one, or to the end of that.
 fn go_on<D: OpSet>(
     out: &mut String,
     ctx: &Context<D>,

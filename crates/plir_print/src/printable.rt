@@ -14,7 +14,7 @@ use plir_walk::interruptible::immutable::walk_op;
 use plir_walk::interruptible::{WalkResult, walk_advance, walk_break};
 use std::ops::ControlFlow;
 
-// Breaks a walk off at an operation that lacks an attribute that its header tells.
+// Breaks a walk off at an operation that lacks an attribute that its header shows.
 fn look_at<D: OpSet>(ctx: &Context<D>, node: IRNode) -> WalkResult<()>
     requires { IsLive ctx.now node }
     ensures { result ≡ header_answer ctx.now node }
@@ -32,7 +32,7 @@ fn look_at<D: OpSet>(ctx: &Context<D>, node: IRNode) -> WalkResult<()>
     }
 }
 
-/// Whether each operation at or under an operation has the attributes that its header tells, as [`has_header`] says.
+/// Whether each operation at or under an operation has the attributes that its header shows, as [`has_header`] says.
 /// Takes no memory.
 pub fn is_printable<D: OpSet>(ctx: &Context<D>, op: Ptr<Operation>) -> bool
     requires { IsLive ctx.now (AnyNode.Operation op) }

@@ -4,7 +4,7 @@ use Rattle.std.specs.Prelude.{encode_utf8}
 use Rattle.plir_data.specs.Identifier.{is_letter, is_digit}
 use Rattle.plir_attr_text.specs.declared.fault.Fault.{Fault}
 use Rattle.plir_attr_text.specs.Bytes.{is_blank, is_in_name, is_hex, front, past, word_past, begins, tail_of}
-use Rattle.plir_attr_text.specs.Strings.{is_code, closed_code, code_at, escape_at, unit_at, behind, onward, content_at, string_at}
+use Rattle.plir_attr_text.specs.Strings.{is_code, closed_code, code_at, escape_at, unit_at, AreUnits}
 use Rattle.plir_attr_text.specs.Tokens.{Token, word, digits, signed, quoted, arrow, sign, is_mark, token_at, look, Takes, Begins}
 use Rattle.plir_attr_text.specs.Lists.{sign_at}
 use Rattle.plir_attr_text.specs.AttrReading.{name_at}
@@ -134,27 +134,15 @@ unit_end (b ∷ bs) x e =
       ]
     ]
 
-behind_ok : (before : List ℕ) (r : Result (List ℕ × List ℕ) Fault) (x : List ℕ × List ℕ) → behind before r ≡ Ok x → (y : List ℕ × List ℕ) × (r ≡ Ok y) × (y.1 ≡ x.1)
-behind_ok before (Ok y) x e = (y, refl, ap (λ (z : List ℕ × List ℕ). z.1) (ok_is (before ++ y.0, y.1) x e))
-behind_ok before (Err f) x e = absurd cc
-
-content_end : (n : ℕ) (bytes : List ℕ) (x : List ℕ × List ℕ) → content_at n bytes ≡ Ok x → IsEnd bytes x.1
-unfolding content_at
-content_end zero bytes x e = absurd cc
-content_end (suc n) bytes x e = let u = bind_ok (unit_at bytes) (λ v. onward (content_at n) v.0 v.1) x e in at (λ r y f. content_end n r y f) u.0 u.1 u.2
-  where
-    at : ((r : List ℕ) (y : List ℕ × List ℕ) → content_at n r ≡ Ok y → IsEnd r y.1) → (v : Option (List ℕ) × List ℕ) → unit_at bytes ≡ Ok v → onward (content_at n) v.0 v.1 ≡ Ok x → IsEnd bytes x.1
-    at rec (None, rest) f h = let k : rest ≡ x.1 = ap (λ (z : List ℕ × List ℕ). z.1) (ok_is ([], rest) x h) in subst (IsEnd bytes) k (unit_end bytes (None, rest) f)
-    at rec (Some more, rest) f h = let b = behind_ok more (content_at n rest) x h in subst (IsEnd bytes) b.2 (end_on bytes rest b.0.1 (unit_end bytes (Some more, rest) f) (rec rest b.0 b.1))
-
-string_end : (bytes : List ℕ) (x : List ℕ × List ℕ) → string_at bytes ≡ Ok x → IsEnd bytes x.1
-unfolding string_at
-string_end bytes x e = content_end (suc (length bytes)) bytes x e
+units_end : (us : List (List ℕ)) (bytes rest : List ℕ) → AreUnits bytes us rest → IsEnd bytes rest
+units_end [] bytes rest a = unit_end bytes (None, rest) a
+units_end (u ∷ us) bytes rest a = end_on bytes a.0 rest (unit_end bytes (Some u, a.0) a.1) (units_end us a.0 rest a.2)
 
 -- ---- what stands behind tokens
 
 takes_end : (bytes : List ℕ) (t : Token) (rest : List ℕ) → Takes bytes t rest → IsEnd bytes rest
-takes_end bytes (quoted q) rest p = end_on bytes p.0 rest (look_end bytes (sign 34, p.0) p.1) (string_end p.0 (q, rest) p.2)
+takes_end bytes (quoted q) rest p =
+    end_on bytes p.0 rest (look_end bytes (sign 34, p.0) p.1) (units_end p.2.0 p.0 rest p.2.2)
 takes_end bytes (word w) rest p = look_end bytes (word w, rest) p
 takes_end bytes (digits n) rest p = look_end bytes (digits n, rest) p
 takes_end bytes (signed s n) rest p = look_end bytes (signed s n, rest) p

@@ -7,7 +7,7 @@ use Rattle.plir_attr_text.specs.declared.fault.Stop.{Stop}
 use Rattle.plir_attr_text.specs.declared.fault.Stop.TheVariants.{OutOfMemory, Crowded, At}
 use Rattle.plir_attr_text.specs.laws.ListsAgain.{refused, only_one}
 use Rattle.plir_attr_text.specs.laws.ListsFound.{whole_found}
-use Rattle.plir_attr_text.specs.Reading.{Ends, Fails, TellsNoPlace, is_of_text, fault_of}
+use Rattle.plir_attr_text.specs.Reading.{Ends, Fails, HasNoPlace, is_of_text, fault_of}
 use Rattle.plir_attr_text.specs.laws.StepLaws.{done, Ends-bind, Ends-from}
 use Rattle.plir_attr_text.specs.Steps.{◌>>=◌}
 use Rattle.plir_attr_text.specs.TypeGrammar.{IsText}
@@ -33,7 +33,7 @@ told P Crowded f read e h is = absurd (is.1 e)
 told P (At g left) f read e h is = h.0 ∙ ap (λ k. Err k) (sym e)
 
 -- no place is told where memory or room was wanting
-pub no_place : {X : Type 0} (P : Type 0) (stop : Stop) (e : ReadErr) (read : Result X Fault) → e.fault ≡ fault_of stop → ((stop ≡ OutOfMemory) ⊎ (stop ≡ Crowded) → (e.line ≡ 0) × (e.column ≡ 0)) → Ends P stop read → TellsNoPlace e
+pub no_place : {X : Type 0} (P : Type 0) (stop : Stop) (e : ReadErr) (read : Result X Fault) → e.fault ≡ fault_of stop → ((stop ≡ OutOfMemory) ⊎ (stop ≡ Crowded) → (e.line ≡ 0) × (e.column ≡ 0)) → Ends P stop read → HasNoPlace e
 no_place P OutOfMemory e read is nowhere h = λ none. nowhere (inl refl)
 no_place P Crowded e read is nowhere h = λ none. nowhere (inr refl)
 no_place P (At f left) e read is nowhere h = λ none. absurd (true≢false (sym h.1 ∙ ap is_of_text (sym is) ∙ none))

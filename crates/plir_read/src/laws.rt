@@ -16,8 +16,8 @@ pub fn text_stands_for_one_operation()
         v ≡ w }
 {}
 
-/// In the order of a text the root of a tree comes first, and behind it come the trees of its children: no level is left
-/// out.
+/// In the order of a text the root of a tree comes first, and behind it come the trees of its children: no level is
+/// left out.
 pub fn root_comes_first<D: OpSet>(ctx: &Context<D>)
     ensures { (n : IRNode) → tree_in_order ctx.now.nodes n ≡ n ∷ below_in_order ctx.now.nodes n }
 {

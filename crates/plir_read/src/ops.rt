@@ -63,7 +63,7 @@ fn read_ops<'a, D: OpSet>(
             Ok(read) => read,
             Err(stop) => return Err(stop),
         };
-        op.insert_at_back(block, ctx);
+        op.insert_at_back(ctx, block);
         let (goes_on, behind) = past_semicolon(after);
         if goes_on {
             rest = behind;
@@ -138,7 +138,7 @@ fn read_body<'a, D: OpSet>(
             Ok(read) => read,
             Err(stop) => return Err(stop),
         };
-        block.insert_at_back(region, ctx);
+        block.insert_at_back(ctx, region);
         let (goes_on, behind) = past_brace(after);
         if goes_on {
             rest = behind;

@@ -4,7 +4,7 @@ ghost use Rattle.plir_core.specs.Made.{IsMade};
 ghost use Rattle.plir_core.specs.WellFormed.{IsWellFormed};
 ghost use Rattle.plir_core.specs.declared.ptr.IRNode.{IRNode};
 ghost use Rattle.plir_attr_text.specs.Names.{AreNamed};
-ghost use Rattle.plir_attr_text.specs.Reading.{TellsNoPlace};
+ghost use Rattle.plir_attr_text.specs.Reading.{HasNoPlace};
 ghost use Rattle.plir_attr_text.specs.TypeGrammar.{IsText};
 ghost use Rattle.plir_attr_text.specs.Wholes.{whole};
 ghost use Rattle.plir_read.specs.HeldTypes.{IsHeldByOp};
@@ -72,7 +72,7 @@ pub fn read_op<D: OpSet>(
     ensures slots { IfOk result (λ p. IsMadeInOrder ctx.old.nodes ctx.new.nodes (IRNode.Operation p)) }
     ensures fault { IfErr result (λ e. IsOfText e.fault → whole (op_at 200) text.now ≡ Err e.fault) }
     ensures refused { IfErr result (λ e. IsOfText e.fault → (w : OpTerm) → IsText (OpWithin 200) text.now w → ⊥) }
-    ensures placeless { IfErr result TellsNoPlace }
+    ensures placeless { IfErr result HasNoPlace }
     ensures crowded { IfErr result (λ e. e.fault ≡ Fault.TooManyNodes → HasNoRoom ctx.new) }
     ensures kept { KeepsOlder ctx.old ctx.new }
     ensures named { AreNamed (IsInText text.now) ctx.old.types ctx.new.types }

@@ -16,7 +16,7 @@ use Rattle.plir_data.specs.declared.op_set.OpSet as op_set
 use Rattle.plir_data.specs.Keys.{names_key}
 use Rattle.plir_attr_text.specs.Writable.{IsWritable}
 use Rattle.plir_builtin.specs.Symbols.{name_in}
-use Rattle.plir_print.specs.Dictionaries.{is_told, is_shown, shown_of}
+use Rattle.plir_print.specs.Dictionaries.{is_in_header, is_shown, shown_of}
 use Rattle.plir_roundtrip.specs.Readable.{IsEntryReadable}
 use Rattle.plir_roundtrip.proofs.PartsShown.{AreWritable}
 
@@ -88,7 +88,7 @@ module _ {A : Type 0} where
       by true rest = (h.0, below-filter test es a.0 h.1, rest)
       by false rest = rest
 
-  -- the name, and the type, that a header tells
+  -- the name, and the type, that a header shows
   pub name_there : (g : Option (AttrView A)) → is_some (name_in g) ≡ true → g ≡ Some (leaf (views.identifier (unwrap_or (name_in g) [])))
   name_there None e = absurd cc
   name_there (Some (leaf (views.identifier w))) e = refl
@@ -161,11 +161,11 @@ module _ {D K A T E : Type 0} (o : op_set.Ghosts D K A T E) (types : List (TypeV
   shown_writable (a ∷ es) d all = by (is_shown o kind a) refl (shown_writable es d.2 (λ i e lt. all (suc i) e (omega (arith, lt))))
     where
       by : (t : Bool) → is_shown o kind a ≡ t → AreWritable types (shown_of o kind es) → AreWritable types (cond t (a ∷ shown_of o kind es) (shown_of o kind es))
-      by true e rest = (d.0, entry_writable types o.attr_outlined a.0 a.1 (all 0 a (omega arith)) (not_or (is_told kind a.0) (is_outlined o.attr_outlined a.1) e), rest)
+      by true e rest = (d.0, entry_writable types o.attr_outlined a.0 a.1 (all 0 a (omega arith)) (not_or (is_in_header kind a.0) (is_outlined o.attr_outlined a.1) e), rest)
       by false e rest = rest
 
-  -- where the header tells nothing of a key, and it is not that of names, what stands under it is shown
-  pub shown_there : (es : List (List ℕ × AttrView A)) (k : List ℕ) → All (λ e. IsEntryReadable types e.0 e.1) es → is_told kind k ≡ false → is_key k names_key ≡ false → dict_get (shown_of o kind es) k ≡ dict_get es k
+  -- where the header shows nothing of a key, and it is not that of names, what stands under it is shown
+  pub shown_there : (es : List (List ℕ × AttrView A)) (k : List ℕ) → All (λ e. IsEntryReadable types e.0 e.1) es → is_in_header kind k ≡ false → is_key k names_key ≡ false → dict_get (shown_of o kind es) k ≡ dict_get es k
   shown_there es k all e f = get-filter (is_shown o kind) es k (λ i d lt same.
       let a = all i d lt in
       at (get_or es i d) a same)
@@ -173,6 +173,6 @@ module _ {D K A T E : Type 0} (o : op_set.Ghosts D K A T E) (types : List (TypeV
       at : (a : List ℕ × AttrView A) → IsEntryReadable types a.0 a.1 → is_key k a.0 ≡ true → is_shown o kind a ≡ true
       at a h same =
           let is : k ≡ a.0 = key_is k a.0 same in
-          let told : is_told kind a.0 ≡ false = subst (λ z. is_told kind z ≡ false) is e in
+          let told : is_in_header kind a.0 ≡ false = subst (λ z. is_in_header kind z ≡ false) is e in
           let outlined : is_outlined o.attr_outlined a.1 ≡ false = entry_kept types o.attr_outlined a.0 a.1 h (subst (λ z. is_key z names_key ≡ false) is f) in
           rw (told, outlined) refl

@@ -24,7 +24,7 @@ use Rattle.plir_walk.specs.GivenNames.{names_at, names_in, name_at}
 use Rattle.plir_builtin.specs.BuiltinOps.{value_of}
 use Rattle.plir_builtin.specs.ResultNames.{result_name}
 use Rattle.plir_builtin.specs.Symbols.{name_held}
-use Rattle.plir_print.specs.Dictionaries.{is_told, shown}
+use Rattle.plir_print.specs.Dictionaries.{is_in_header, shown}
 use Rattle.plir_read.specs.Heads.{module_attributes, func_attributes, constant_op, constant_attributes, names_attributes, argument_types, result_names}
 use Rattle.plir_read.specs.OpsStanding.{HoldsOp, HoldsBlock}
 use Rattle.plir_roundtrip.specs.Readable.{IsBodyReadable, IsConstantReadable, IsOpReadable}
@@ -51,8 +51,8 @@ module _ {K A T : Type 0} (t : ContextView K A T) where
 -- ---- the same under each key
 
 module _ {D K A T E : Type 0} (o : op_set.Ghosts D K A T E) (s : ContextView K A T) (p : Ptr OperationKind) (b : IsBodyReadable s p) where
-  -- what is shown of an operation whose header tells no more than two keys
-  shown_same : (k : List ℕ) → is_told (kind_of s p) k ≡ false → is_key k names_key ≡ false → dict_get (attributes_of s p) k ≡ dict_get (shown o s p) k
+  -- what is shown of an operation whose header shows no more than two keys
+  shown_same : (k : List ℕ) → is_in_header (kind_of s p) k ≡ false → is_key k names_key ≡ false → dict_get (attributes_of s p) k ≡ dict_get (shown o s p) k
   shown_same k e f = sym (shown_there o s.types (kind_of s p) (attributes_of s p) k b.entries e f)
 
   name_same : is_some (name_held (op_at s p)) ≡ true → (k : List ℕ) → is_key k symbol_key ≡ true → dict_get (attributes_of s p) k ≡ dict_get (module_attributes (symbol_of s p) (shown o s p)) k
@@ -66,7 +66,7 @@ module _ {D K A T E : Type 0} (o : op_set.Ghosts D K A T E) (s : ContextView K A
     where
       at : (u : Bool) → is_key k symbol_key ≡ u → dict_get (attributes_of s p) k ≡ dict_get (module_attributes (symbol_of s p) (shown o s p)) k
       at true is = name_same e k is
-      at false is = shown_same k (subst (λ z. is_told z k ≡ false) (sym kind) (other_bytes k symbol_key is)) other ∙ sym (get-other (shown o s p) symbol_key k (leaf (views.identifier (symbol_of s p))) is)
+      at false is = shown_same k (subst (λ z. is_in_header z k ≡ false) (sym kind) (other_bytes k symbol_key is)) other ∙ sym (get-other (shown o s p) symbol_key k (leaf (views.identifier (symbol_of s p))) is)
 
   pub func_holds_same : kind_of s p ≡ Some Func → is_some (name_held (op_at s p)) ≡ true → (h : ℕ) → dict_get (attributes_of s p) func_type_key ≡ Some (leaf (views.type_of h)) → HoldSame (attributes_of s p) (func_attributes (symbol_of s p) h (shown o s p))
   func_holds_same kind e h type k other = at (is_key k func_type_key) (is_key k symbol_key) refl refl
@@ -80,7 +80,7 @@ module _ {D K A T E : Type 0} (o : op_set.Ghosts D K A T E) (s : ContextView K A
           subst (λ z. dict_get (attributes_of s p) z ≡ dict_get (func_attributes (symbol_of s p) h (shown o s p)) z) (sym same) (type ∙ sym (get-put front func_type_key (leaf (views.type_of h))))
       at false true is name = name_same e k name ∙ sym (get-other front func_type_key k (leaf (views.type_of h)) is)
       at false false is name =
-          shown_same k (subst (λ z. is_told z k ≡ false) (sym kind) (rw (other_bytes k symbol_key name, other_bytes k func_type_key is) refl)) other
+          shown_same k (subst (λ z. is_in_header z k ≡ false) (sym kind) (rw (other_bytes k symbol_key name, other_bytes k func_type_key is) refl)) other
           ∙ sym (get-other (shown o s p) symbol_key k (leaf (views.identifier (symbol_of s p))) name)
           ∙ sym (get-other front func_type_key k (leaf (views.type_of h)) is)
 

@@ -64,7 +64,7 @@ module _ {K A T : Type 0} (s : ContextView K A T) where
   IsKindReadable (Some Constant) p = IsConstantReadable p
   IsKindReadable _ p = ⊥
 
-  -- a module, a function or a constant, with what its header tells, and without operands and successors
+  -- a module, a function or a constant, with what its header shows, and without operands and successors
   pub record IsOpReadable (p : Ptr OperationKind) : Type 0 where
     pub header : HasHeader s p
     pub kind : IsKindReadable (kind_of s p) p

@@ -1,29 +1,17 @@
 //! Whether the attributes of an operation or a block can be read.
-ghost use Rattle.std.specs.Prelude.{◌≡◌, ◌↔◌, All, IfSome, IsTrue, option_map};
+ghost use Rattle.std.specs.Prelude.{◌≡◌, ◌↔◌, All, IsTrue};
 ghost use Rattle.std.specs.List.{list_any};
 ghost use Rattle.plir_data.specs.AttrLive.{IsAttrLive, HandlesLive};
 ghost use Rattle.plir_data.specs.AttrSeen.{attr_view};
 ghost use Rattle.plir_data.specs.Dictionary.{IsDictionary, is_key};
-ghost use Rattle.plir_core.specs.declared.ptr.IRNode.{IRNode as AnyNode};
-ghost use Rattle.plir_core.specs.ContextView.{IsLive};
-ghost use Rattle.plir_builtin.specs.BuiltinOps.{value_of};
 ghost use Rattle.plir_roundtrip.specs.Readable.{HoldsOnly, IsEntryReadable};
 ghost use Rattle.plir_roundtrip.specs.ReadableParts.{keys_with};
 
 use plir_attr_text::is_writable;
 use plir_builtin::ATTR_KEY_CONSTANT_VALUE;
-use plir_core::{Context, Operation, Ptr};
+use plir_core::Context;
 use plir_data::{AttrObj, AttributeDict, OpSet};
 use plir_walk::ATTR_KEY_GIVEN_NAMES;
-
-/// The value of a constant, if it has one.
-pub(crate) fn find_value<D: OpSet>(ctx: &Context<D>, op: Ptr<Operation>) -> Option<&AttrObj<D>>
-    requires { IsLive ctx.now (AnyNode.Operation op) }
-    ensures value { option_map (λ a. attr_view a.now) result ≡ value_of ctx.now op }
-    ensures live { IfSome result (λ a. IsAttrLive D.attr_handles ctx.now.types (attr_view a.now)) }
-{
-    op.attributes(ctx).get(ATTR_KEY_CONSTANT_VALUE)
-}
 
 // Whether an attribute of a module or a function can be read: names under their own key alone.
 fn is_entry_readable<D: OpSet>(ctx: &Context<D>, key: &str, value: &AttrObj<D>) -> bool

@@ -6,12 +6,12 @@ ghost use Rattle.plir_roundtrip.specs.Readable.{IsBodyReadable, IsConstantReadab
 ghost use Rattle.plir_roundtrip.specs.Readable.{IsOpReadable, IsBlockReadable};
 ghost use Rattle.plir_roundtrip.specs.ReadableParts.{IsNodeReadable, IsValueWritable};
 
-use crate::entries::{are_entries_readable, find_value, holds_only};
+use crate::entries::{are_entries_readable, holds_only};
 use crate::values::{are_values_readable, is_name_or_none};
 use plir_attr_text::is_writable;
 use plir_core::{BasicBlock, Context, DefiningEntity, IRNode, Operation, Ptr};
 use plir_data::{OpKind, OpSet};
-use plir_print::has_header;
+use plir_print::{find_value, has_header};
 
 // What is asked of a module or a function.
 fn is_body_readable<D: OpSet>(ctx: &Context<D>, op: Ptr<Operation>) -> bool

@@ -10,18 +10,18 @@ ghost use Rattle.plir_core.specs.ContextView.{IsLive, kind_of};
 ghost use Rattle.plir_attr_text.specs.Terms.{entries_levels, levels, type_levels};
 ghost use Rattle.plir_attr_text.specs.Writable.{type_term};
 ghost use Rattle.plir_builtin.specs.BuiltinOps.{func_type_of, value_of};
-ghost use Rattle.plir_print.specs.Dictionaries.{is_shown, is_told};
+ghost use Rattle.plir_print.specs.Dictionaries.{is_shown};
 ghost use Rattle.plir_print.specs.ValueNames.{arguments_of};
 ghost use Rattle.plir_read.specs.OpTerms.{head_levels, header_levels, op_levels};
 ghost use Rattle.plir_roundtrip.specs.Written.{some_type_term, some_attr_term};
 ghost use Rattle.plir_roundtrip.specs.Written.{head_term, header_term, dictionary_term, constant_of};
 ghost use Rattle.plir_roundtrip.specs.WrittenLevels.{entry_level, result_levels, shown_levels, typed_levels};
 
-use crate::entries::find_value;
 use plir_attr_text::is_within_levels;
-use plir_builtin::{ATTR_KEY_BUILTIN_FUNC_TYPE, ATTR_KEY_SYM_NAME, find_func_type};
+use plir_builtin::find_func_type;
 use plir_core::{BasicBlock, Context, Operation, Ptr};
 use plir_data::{AttrObj, AttributeDict, OpKind, OpSet, TypeAttr, TypeHandle};
+use plir_print::{find_value, is_shown};
 
 // A type: as an attribute it has one level more.
 fn is_type_below<D: OpSet>(ctx: &Context<D>, handle: TypeHandle, left: usize) -> bool
@@ -80,26 +80,6 @@ pub(crate) fn is_constant_within<D: OpSet>(
     let is_value = is_value_below(ctx, op, left);
     let is_result = is_result_below(ctx, op, left);
     is_value && is_result
-}
-
-// Whether the header of an operation tells the attribute under a key, as it does where the dictionary stands apart.
-fn is_told<K: Copy>(kind: OpKind<K>, key: &str) -> bool
-    ensures { result ≡ is_told (Some kind) key.now }
-{
-    match kind {
-        OpKind::Module => key == ATTR_KEY_SYM_NAME,
-        OpKind::Func => key == ATTR_KEY_SYM_NAME || key == ATTR_KEY_BUILTIN_FUNC_TYPE,
-        OpKind::Constant => false,
-        OpKind::ForwardRef => false,
-        OpKind::Own(_) => false,
-    }
-}
-
-// Whether an entry stands in the dictionary that is printed.
-fn is_shown<D: OpSet>(kind: OpKind<D::Kind>, key: &str, value: &AttrObj<D>) -> bool
-    ensures { result ≡ is_shown D.OpSet (Some kind) (key.now, attr_view value.now) }
-{
-    !(is_told(kind, key) || value.outline())
 }
 
 // An entry, which has no level where it is not printed.

@@ -46,7 +46,7 @@ fn are_all_readable<D: OpSet>(ctx: &Context<D>, op: Ptr<Operation>) -> bool
 /// Whether an operation can be read back from its text: what the law of the round trip asks of it.
 ///
 /// So it is where each operation at or under it is a module, a function or a constant, with the attributes that its
-/// header tells, no operands and no successors; a module or a function has no results, one region, and attributes that
+/// header shows, no operands and no successors; a module or a function has no results, one region, and attributes that
 /// can be written, names under their own key alone; a constant has no region, a value that can be written, and no other
 /// attribute but the name of its result; a block has no attribute but the names of its arguments; results and arguments
 /// have builtin types; and the text has at most 200 levels. Takes no memory, and calls itself no deeper than those

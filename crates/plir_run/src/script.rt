@@ -13,7 +13,6 @@ use plir_builtin::laws::{new_nodes_keep_agreement, no_tables_agree};
 use plir_builtin::{FuncOp, ModuleOp, SymbolTableCollection};
 use plir_core::{Context, Operation, Ptr};
 use plir_data::{BuiltinSet, FunctionType, Identifier, OpSet};
-use plir_iface::Op;
 use plir_print::{is_printable, print_op};
 use plir_walk::{Direction, Order};
 use std::alloc::Global;
@@ -91,7 +90,7 @@ impl Script {
         self.ctx.stands();
         let made = ModuleOp::new(self.alloc, &mut self.ctx, name);
         new_nodes_keep_agreement(&self.ctx);
-        let op = Op::<BuiltinSet>::get_operation(&made?);
+        let op = made?.operation();
         self.root = Some(op);
         Ok(op)
     }
@@ -105,7 +104,7 @@ impl Script {
         self.ctx.stands();
         let made = ModuleOp::new(self.alloc, &mut self.ctx, name);
         new_nodes_keep_agreement(&self.ctx);
-        let op = Op::<BuiltinSet>::get_operation(&made?);
+        let op = made?.operation();
         insert(&mut self.ctx, &mut self.tables, target, op)?;
         Ok(op)
     }
@@ -129,7 +128,7 @@ impl Script {
         let ty = ty?;
         let made = FuncOp::new(self.alloc, &mut self.ctx, name, ty);
         new_nodes_keep_agreement(&self.ctx);
-        let op = Op::<BuiltinSet>::get_operation(&made?);
+        let op = made?.operation();
         insert(&mut self.ctx, &mut self.tables, target, op)
     }
 

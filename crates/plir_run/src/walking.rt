@@ -1,7 +1,7 @@
 //! How a walk is printed.
 ghost use Rattle.std.specs.Prelude.{◌≡◌, true, length};
 ghost use Rattle.plir_core.specs.ContextView.{IsLive, children};
-ghost use Rattle.plir_builtin.specs.Handed.{is_table_at};
+ghost use Rattle.plir_builtin.specs.TableWalks.{is_table_at};
 
 use crate::naming::{name_of, owner_of};
 use crate::stop::Stop;
@@ -41,7 +41,7 @@ pub fn print_walk<W: Write>(
     print_end(end, writer)
 }
 
-/// Writes a line for each operation that a walk of the table of an operation hands over, and then `advance`.
+/// Writes a line for each operation that a walk of the table of an operation calls at, and then `advance`.
 pub fn print_symbols<W: Write>(
     ctx: &Context<BuiltinSet>,
     table: Ptr<Operation>,

@@ -134,7 +134,7 @@ fn above<D: OpSet>(
     line: Line<'_>,
 ) -> Result<(), Stop> {
     let node = made.live(ctx, line.second)?;
-    answer.put_truth(made.node(line.first)?.is_ancestor(node, ctx));
+    answer.put_truth(made.node(line.first)?.is_ancestor(ctx, node));
     Ok(())
 }
 

@@ -37,7 +37,7 @@ fn change_operand<D: OpSet>(bench: &mut Bench<D>, line: Line<'_>) -> Result<(), 
         if place > op.get_num_operands(ctx) {
             return Err(Stop::Refused);
         }
-        op.insert_operand(place, value, ctx)?;
+        op.insert_operand(ctx, place, value)?;
         return Ok(());
     }
     if place >= op.get_num_operands(ctx) {
@@ -45,9 +45,9 @@ fn change_operand<D: OpSet>(bench: &mut Bench<D>, line: Line<'_>) -> Result<(), 
     }
     if line.command == "replace" {
         let value = made.value(ctx, line.third)?;
-        op.replace_operand(place, value, ctx);
+        op.replace_operand(ctx, place, value);
     } else {
-        let value = op.remove_operand(place, ctx);
+        let value = op.remove_operand(ctx, place);
         made.put_value(&mut bench.answer, value);
     }
     Ok(())
@@ -130,7 +130,7 @@ fn take<D: OpSet>(bench: &mut Bench<D>, line: Line<'_>) -> Result<(), Stop> {
 fn label<D: OpSet>(bench: &mut Bench<D>, line: Line<'_>) -> Result<(), Stop> {
     let label = label_of(bench.alloc, line.second)?;
     let block = bench.made.block(&bench.ctx, line.first)?;
-    block.set_label(label, &mut bench.ctx);
+    block.set_label(&mut bench.ctx, label);
     Ok(())
 }
 
@@ -139,6 +139,6 @@ fn set_location<D: OpSet>(bench: &mut Bench<D>, line: Line<'_>) -> Result<(), St
     let (Ok(line), Ok(column)) = (line.second.parse::<u32>(), line.third.parse::<u32>()) else {
         return Err(Stop::Refused);
     };
-    op.set_loc(Location::SrcPos { line, column }, &mut bench.ctx);
+    op.set_loc(&mut bench.ctx, Location::SrcPos { line, column });
     Ok(())
 }

@@ -60,13 +60,13 @@ fn put_op<D: OpSet>(
     requires block { IsLive ctx.old (AnyNode.BasicBlock block) }
 {
     if op.get_parent_block(ctx).is_some()
-        || IRNode::Operation(op).is_ancestor(IRNode::BasicBlock(block), ctx)
+        || IRNode::Operation(op).is_ancestor(ctx, IRNode::BasicBlock(block))
     {
         return Err(Stop::Refused);
     }
     match side {
-        Side::Front => op.insert_at_front(block, ctx),
-        Side::Back => op.insert_at_back(block, ctx),
+        Side::Front => op.insert_at_front(ctx, block),
+        Side::Back => op.insert_at_back(ctx, block),
         _ => return Err(Stop::Refused),
     }
     Ok(())
@@ -83,13 +83,13 @@ fn put_op_beside<D: OpSet>(
 {
     if op.get_parent_block(ctx).is_some()
         || mark.get_parent_block(ctx).is_none()
-        || IRNode::Operation(op).is_ancestor(IRNode::Operation(mark), ctx)
+        || IRNode::Operation(op).is_ancestor(ctx, IRNode::Operation(mark))
     {
         return Err(Stop::Refused);
     }
     match side {
-        Side::Before => op.insert_before(mark, ctx),
-        Side::After => op.insert_after(mark, ctx),
+        Side::Before => op.insert_before(ctx, mark),
+        Side::After => op.insert_after(ctx, mark),
         _ => return Err(Stop::Refused),
     }
     Ok(())
@@ -105,13 +105,13 @@ fn put_block<D: OpSet>(
     requires region { IsLive ctx.old (AnyNode.Region region) }
 {
     if block.get_parent_region(ctx).is_some()
-        || IRNode::BasicBlock(block).is_ancestor(IRNode::Region(region), ctx)
+        || IRNode::BasicBlock(block).is_ancestor(ctx, IRNode::Region(region))
     {
         return Err(Stop::Refused);
     }
     match side {
-        Side::Front => block.insert_at_front(region, ctx),
-        Side::Back => block.insert_at_back(region, ctx),
+        Side::Front => block.insert_at_front(ctx, region),
+        Side::Back => block.insert_at_back(ctx, region),
         _ => return Err(Stop::Refused),
     }
     Ok(())
@@ -128,13 +128,13 @@ fn put_block_beside<D: OpSet>(
 {
     if block.get_parent_region(ctx).is_some()
         || mark.get_parent_region(ctx).is_none()
-        || IRNode::BasicBlock(block).is_ancestor(IRNode::BasicBlock(mark), ctx)
+        || IRNode::BasicBlock(block).is_ancestor(ctx, IRNode::BasicBlock(mark))
     {
         return Err(Stop::Refused);
     }
     match side {
-        Side::Before => block.insert_before(mark, ctx),
-        Side::After => block.insert_after(mark, ctx),
+        Side::Before => block.insert_before(ctx, mark),
+        Side::After => block.insert_after(ctx, mark),
         _ => return Err(Stop::Refused),
     }
     Ok(())
@@ -191,6 +191,6 @@ fn erase_region<D: OpSet>(ctx: &mut Context<D>, region: Ptr<Region>) -> Result<(
     if !IRNode::Region(op.get_region(ctx, place)).is_unused_outside(ctx) {
         return Err(Stop::Refused);
     }
-    Operation::erase_region(op, place, ctx);
+    Operation::erase_region(op, ctx, place);
     Ok(())
 }

@@ -6,7 +6,7 @@ use Rattle.plir_core.specs.declared.ptr.Operation.{Operation as OperationKind}
 use Rattle.plir_core.specs.declared.ptr.IRNode.TheVariants.{Operation}
 use Rattle.plir_core.specs.Contents.{OpView}
 use Rattle.plir_core.specs.ContextView.{ContextView, kind_of, op_at}
-use Rattle.plir_builtin.specs.Refusals.{IsSymbolNamed, RemoveRefused, Refusal, no_table, regions, blocks, no_symbol, unnamed, redefined, elsewhere, outside, not_there}
+use Rattle.plir_builtin.specs.Refusals.{IsSymbolNamed, IsRemoveRefusal, Refusal, no_table, regions, blocks, no_symbol, unnamed, redefined, elsewhere, outside, not_there}
 use Rattle.plir_builtin.specs.Symbols.{body, is_symbol_kind, name_held}
 use Rattle.plir_core.specs.ContextView.{parent_of}
 use Rattle.plir_symbols.specs.SymbolNames.{is_private_in}
@@ -29,7 +29,7 @@ module _ {K A T : Type 0} (own : K → Bool) (is_private : OpView K A → Bool) 
   no-name e m = none-some m.name (e ∙ m.named.name)
 
 -- a symbol with a name that stands in the body is not refused to go
-pub not-refused : {K A T : Type 0} (own : K → Bool) (s : ContextView K A T) (table p : Ptr OperationKind) (x : List ℕ) → IsSymbolNamed own s p x → parent_of s (Operation p) ≡ body s table → (r : Refusal) → RemoveRefused own s table p r → ⊥
+pub not-refused : {K A T : Type 0} (own : K → Bool) (s : ContextView K A T) (table p : Ptr OperationKind) (x : List ℕ) → IsSymbolNamed own s p x → parent_of s (Operation p) ≡ body s table → (r : Refusal) → IsRemoveRefusal own s table p r → ⊥
 not-refused own s table p x named here no_symbol h = not-both (is_symbol_kind own (kind_of s p)) named.symbol h
 not-refused own s table p x named here not_there h = h.1 here
 not-refused own s table p x named here unnamed h = none-some x (sym h.2 ∙ named.name)

@@ -4,7 +4,7 @@ ghost use Rattle.plir_core.specs.declared.ptr.IRNode.{IRNode as AnyNode};
 ghost use Rattle.plir_core.specs.ContextView.{IsLive, parent_of};
 ghost use Rattle.plir_core.specs.Standing.{IsStanding};
 ghost use Rattle.plir_builtin.specs.Agree.{AllAgree, AreGivenOut};
-ghost use Rattle.plir_builtin.specs.Refusals.{TableRefused, Tells};
+ghost use Rattle.plir_builtin.specs.Refusals.{IsTableRefusal, Reports};
 ghost use Rattle.plir_builtin.specs.Symbols.{body, IsGood};
 ghost use Rattle.plir_symbols.specs.SymbolNames.{AreUsedNames, IsAmong};
 ghost use Rattle.plir_symbols.specs.DeadSymbols.{HasNoDead, MayGo};
@@ -138,8 +138,8 @@ fn is_ready<D: OpSet>(ctx: &Context<D>, cached: &SymbolTable, op: Ptr<Operation>
 ///
 /// A round takes one walk of the table's tree, which puts the names that are used into a hashed set, and one look at
 /// each symbol. What a symbol uses that goes may go in the next round, so there is at most one round more than the
-/// longest chain of dead symbols has. Where values or blocks of a dead symbol's tree are used, if only in the tree, the
-/// look at it goes over all operations of the context.
+/// longest chain of dead symbols has. The look at a symbol that no name uses goes through its tree, and over all
+/// operations of the context only where a count of uses is not known.
 ///
 /// # Errors
 ///
@@ -164,7 +164,7 @@ pub fn eliminate_dead_symbols<D: SymbolNames>(
         AllAgree D.is_symbol D.is_symbol_table ctx.new tables.new }
     ensures given { AreGivenOut ctx.old tables.old → AreGivenOut ctx.new tables.new }
     ensures refused { AllAgree D.is_symbol D.is_symbol_table ctx.old tables.old →
-        IfErr result (Tells (TableRefused D.is_symbol D.is_symbol_table ctx.old table)) }
+        IfErr result (Reports (IsTableRefusal D.is_symbol D.is_symbol_table ctx.old table)) }
 {
     ctx.stands();
     erasures_thin(ctx);

@@ -6,7 +6,7 @@ mod stop;
 use plir_builtin::{FuncOp, ModuleOp};
 use plir_core::{Context, IRNode};
 use plir_data::{BuiltinSet, FunctionType, Identifier};
-use plir_iface::{Op, SingleBlockRegionInterface};
+use plir_iface::SingleBlockRegionInterface;
 use plir_text::{is_printable, print_op};
 use plir_walk::WALKCONFIG_PREORDER_FORWARD;
 use plir_walk::uninterruptible::immutable::walk_op;
@@ -33,11 +33,11 @@ fn tour<W: Write>(
     ctx.stands();
     let ty = FunctionType::get(ctx, Vec::new(alloc), Vec::new(alloc))?;
     let func = FuncOp::new(alloc, ctx, Identifier::try_new(alloc, "area")?, ty)?;
-    let func = Op::<BuiltinSet>::get_operation(&func);
+    let func = func.operation();
     SingleBlockRegionInterface::append_operation(&module, ctx, func, 0);
 
     let mut count = 0u32;
-    let root = Op::<BuiltinSet>::get_operation(&module);
+    let root = module.operation();
     let visit = |_ctx: &Context<BuiltinSet>, count: &mut u32, _node: IRNode| {
         *count = count.saturating_add(1);
     };

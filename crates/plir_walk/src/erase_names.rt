@@ -32,7 +32,7 @@ fn unname<D: OpSet>(ctx: &mut Context<D>, node: IRNode)
         IRNode::Operation(op) => unname_entity(ctx, DefiningEntity::Op(op)),
         IRNode::BasicBlock(block) => {
             unname_entity(ctx, DefiningEntity::Block(block));
-            block.set_label(None, ctx);
+            block.set_label(ctx, None);
         }
         IRNode::Region(_) => {}
     }

@@ -7,7 +7,7 @@ use Rattle.plir_data.specs.Identifier.{is_letter, is_digit}
 use Rattle.plir_attr_text.specs.declared.fault.Fault.{Fault}
 use Rattle.plir_attr_text.specs.declared.fault.Fault.TheVariants.{Unexpected}
 use Rattle.plir_attr_text.specs.Bytes.{is_blank, past, begins, tail_of}
-use Rattle.plir_attr_text.specs.Strings.{unit_at, onward, behind, content_at, string_at}
+use Rattle.plir_attr_text.specs.Strings.{unit_at, AreUnits}
 use Rattle.plir_attr_text.specs.Tokens.{Token, word, digits, signed, quoted, arrow, sign, is_mark, token_at, look}
 use Rattle.plir_attr_text.specs.Tokens.{Takes}
 use Rattle.plir_attr_text.specs.Tokens.{Begins}
@@ -48,34 +48,16 @@ pub look-shorter : (bytes : List ℕ) (x : Token × List ℕ) → look bytes ≡
 unfolding look
 look-shorter bytes x e = omega (arith, token_at-shorter (past is_blank bytes) x e, past-length is_blank bytes)
 
-behind_ok : (front : List ℕ) (r : Result (List ℕ × List ℕ) Fault) (x : List ℕ × List ℕ) → behind front r ≡ Ok x →
-    (y : List ℕ × List ℕ) × (r ≡ Ok y) × (y.1 ≡ x.1)
-behind_ok front r x e = let a = bind_ok r (λ y. Ok (front ++ y.0, y.1)) x e in
-    (a.0, a.1, ap (λ (z : List ℕ × List ℕ). z.1) (ok_is _ x a.2))
-
-content-shorter : (n : ℕ) (bytes : List ℕ) (x : List ℕ × List ℕ) → content_at n bytes ≡ Ok x → length x.1 < length bytes
-unfolding content_at
-content-shorter zero bytes x e = absurd cc
-content-shorter (suc n) bytes x e = let u = bind_ok (unit_at bytes) (λ v. onward (content_at n) v.0 v.1) x e in
-    at (λ r y f. content-shorter n r y f) u.0 u.1 u.2
-  where
-    at : ((r : List ℕ) (y : List ℕ × List ℕ) → content_at n r ≡ Ok y → length y.1 < length r) →
-        (v : Option (List ℕ) × List ℕ) → unit_at bytes ≡ Ok v → onward (content_at n) v.0 v.1 ≡ Ok x →
-        length x.1 < length bytes
-    at rec (None, rest) f h = let k : rest ≡ x.1 = ap (λ (z : List ℕ × List ℕ). z.1) (ok_is ([], rest) x h) in
-        omega (arith, unit-shorter bytes (None, rest) f, ap length k)
-    at rec (Some front, rest) f h = let b = behind_ok front (content_at n rest) x h in
-        omega (arith, unit-shorter bytes (Some front, rest) f, rec rest b.0 b.1, ap length b.2)
-
-string-shorter : (bytes : List ℕ) (x : List ℕ × List ℕ) → string_at bytes ≡ Ok x → length x.1 < length bytes
-unfolding string_at
-string-shorter bytes x e = content-shorter (suc (length bytes)) bytes x e
+units-shorter : (us : List (List ℕ)) (bytes rest : List ℕ) → AreUnits bytes us rest → length rest < length bytes
+units-shorter [] bytes rest a = unit-shorter bytes (None, rest) a
+units-shorter (u ∷ us) bytes rest a =
+    omega (arith, unit-shorter bytes (Some u, a.0) a.1, units-shorter us a.0 rest a.2)
 
 pub Takes-shorter : (bytes : List ℕ) (t : Token) (rest : List ℕ) → Takes bytes t rest → length rest < length bytes
 Takes-shorter bytes (quoted q) rest p = omega (
   arith,
   look-shorter bytes (sign 34, p.0) p.1,
-  string-shorter p.0 (q, rest) p.2,
+  units-shorter p.2.0 p.0 rest p.2.2,
 )
 Takes-shorter bytes (word w) rest p = look-shorter bytes (word w, rest) p
 Takes-shorter bytes (digits n) rest p = look-shorter bytes (digits n, rest) p

@@ -22,6 +22,7 @@ use Rattle.plir_attr_text.specs.AttrGrammar.{truth, SpellsLiteral, IsBits, Spell
 use Rattle.plir_attr_text.specs.AttrGrammar.{SpellsValue, SpellsSize, SpellsName}
 use Rattle.plir_attr_text.specs.AttrReading.{name_at, bool_at, text_at, as_size, size_at, unless_unset, given_name_at}
 use Rattle.plir_attr_text.specs.AttrReading.{as_literal, literal_at, bits_of, value_of, value_at}
+use Rattle.plir_attr_text.specs.laws.Quoted.{quoted-found}
 use Rattle.plir_attr_text.specs.laws.StepLaws.{chosen, bind_ok, done, ok_is}
 use Rattle.plir_attr_text.specs.laws.Begun.{Begins-append, Begins-length, word_found, sign_found, past_sign_found}
 use Rattle.plir_attr_text.specs.laws.ListsFound.{FoundOne, IsSound}
@@ -136,7 +137,7 @@ string_found bytes x e =
             tokens = quoted b.0.0 ∷ [];
             begins = (
               b.0.1,
-              (a.0, sign_found 34 bytes a.0 a.1, b.1),
+              (a.0, sign_found 34 bytes a.0 a.1, quoted-found a.0 b.0.0 b.0.1 b.1),
               refl,
             );
             spelled = (IsUtf8-from_is_utf8 b.0.0 h.0, refl);

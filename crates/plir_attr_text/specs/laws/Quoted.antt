@@ -3,12 +3,13 @@ use Rattle.std.proofs.Common.{◌≡◌, ◌⊎◌, ℕ, zero, suc, ◌<◌, ◌
 use Rattle.std.proofs.Common.{◌++◌, length, Option, Some, None, Result, Ok, Err, refl, sym, ap, subst, arith, inl, inr}
 use Rattle.std.proofs.Common.{◌∙◌, append_assoc, append-nil}
 use Rattle.std.specs.Prelude.{encode_utf8}
+use Rattle.std.specs.List.{concat}
 use Rattle.plir_attr_text.specs.declared.fault.Fault.{Fault}
 use Rattle.plir_attr_text.specs.declared.fault.Stop.{Stop}
 use Rattle.plir_attr_text.specs.Bytes.{is_hex, front, past}
 use Rattle.plir_attr_text.specs.Steps.{◌>>=◌}
 use Rattle.plir_attr_text.specs.Strings.{is_code, closed_code, code_at, escape_at, unit_at, behind, onward, content_at}
-use Rattle.plir_attr_text.specs.Strings.{string_at}
+use Rattle.plir_attr_text.specs.Strings.{AreUnits, IsQuoted, string_at}
 use Rattle.plir_attr_text.specs.Reading.{Fails}
 use Rattle.plir_attr_text.specs.laws.Lexing.{past-length}
 use Rattle.plir_attr_text.specs.laws.StepLaws.{chosen, bind_ok, done, ok_is, Fails-bind, Fails-from}
@@ -130,3 +131,39 @@ module _ (front bytes : List ℕ) (total : Result (List ℕ × List ℕ) Fault) 
       let e : behind front (unit_at bytes >>= λ u. onward (content_at s.0) u.0 u.1) ≡ behind (front ++
       more) (content_at s.0 rest) = rw h (behind-behind front more (content_at s.0 rest)) in
       (s.0, omega (arith, unit-shorter bytes (Some more, rest) h), sym e ∙ s.2)
+
+-- ---- what a reader makes of a string, and what is quoted there
+
+units-found : (n : ℕ) (bytes : List ℕ) (x : List ℕ × List ℕ) → content_at n bytes ≡ Ok x → IsQuoted bytes x.0 x.1
+unfolding content_at
+units-found zero bytes x e = absurd cc
+units-found (suc n) bytes x e = let u = bind_ok (unit_at bytes) (λ v. onward (content_at n) v.0 v.1) x e in
+    at (λ r y f. units-found n r y f) u.0 u.1 u.2
+  where
+    Quoted-here : List ℕ × List ℕ → Type 0
+    Quoted-here z = IsQuoted bytes z.0 z.1
+
+    at : ((r : List ℕ) (y : List ℕ × List ℕ) → content_at n r ≡ Ok y → IsQuoted r y.0 y.1) →
+        (v : Option (List ℕ) × List ℕ) → unit_at bytes ≡ Ok v → onward (content_at n) v.0 v.1 ≡ Ok x →
+        Quoted-here x
+    at found (None, rest) f h = subst Quoted-here (ok_is ([], rest) x h) ([], refl, f)
+    at found (Some front, rest) f h =
+        let b = bind_ok (content_at n rest) (λ y. Ok (front ++ y.0, y.1)) x h in
+        let q = found rest b.0 b.1 in
+        subst Quoted-here (ok_is _ x b.2) (front ∷ q.0, ap (λ (v : List ℕ). front ++ v) q.1, (rest, f, q.2))
+
+pub quoted-found : (bytes q rest : List ℕ) → string_at bytes ≡ Ok (q, rest) → IsQuoted bytes q rest
+unfolding string_at
+quoted-found bytes q rest e = units-found (suc (length bytes)) bytes (q, rest) e
+
+units-read : (us : List (List ℕ)) (front bytes rest : List ℕ) (total : Result (List ℕ × List ℕ) Fault) →
+    AreUnits bytes us rest → GoesOn front bytes total → total ≡ Ok (front ++ concat us, rest)
+units-read [] front bytes rest total a g = ends front bytes total rest g a ∙
+    ap (λ (y : List ℕ). done (y, rest)) (sym (append-nil front))
+units-read (u ∷ us) front bytes rest total a g =
+    units-read us (front ++ u) a.0 rest total a.2 (goes_on front bytes total u a.0 g a.1) ∙
+    ap (λ (y : List ℕ). done (y, rest)) (append_assoc front u (concat us))
+
+pub quoted-read : (bytes q rest : List ℕ) → IsQuoted bytes q rest → string_at bytes ≡ Ok (q, rest)
+quoted-read bytes q rest p = units-read p.0 [] bytes rest (string_at bytes) p.2 (starts bytes) ∙
+    ap (λ (y : List ℕ). done (y, rest)) p.1

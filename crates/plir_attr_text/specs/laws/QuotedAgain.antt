@@ -11,7 +11,7 @@ use Rattle.plir_attr_text.specs.Tokens.{quoted, sign, look}
 use Rattle.plir_attr_text.specs.AttrGrammar.{SpellsString}
 use Rattle.std.specs.Str.{IsUtf8}
 use Rattle.plir_attr_text.specs.Written.{hex_digit, hex, is_control, escape, escaped, quotation}
-use Rattle.plir_attr_text.specs.laws.Quoted.{GoesOn, starts, ends, goes_on}
+use Rattle.plir_attr_text.specs.laws.Quoted.{GoesOn, starts, ends, goes_on, quoted-found}
 use Rattle.plir_attr_text.specs.laws.Printed.{front-run, past-run}
 use Rattle.plir_attr_text.specs.laws.Runs.{Shown}
 use Rattle.plir_attr_text.specs.laws.StepLaws.{done}
@@ -135,7 +135,7 @@ string-shown s u = record {
     (
       (escaped s ++ 34 ∷ []) ++ rest,
       look-quote ((escaped s ++ 34 ∷ []) ++ rest),
-      string_read s rest,
+      quoted-found ((escaped s ++ 34 ∷ []) ++ rest) s rest (string_read s rest),
     ),
     refl,
   );

@@ -87,13 +87,13 @@ fn insert<D: OpSet>(ctx: &mut Context<D>, table: Ptr<Operation>, op: Ptr<Operati
     if !op.is_live(ctx) || !is_free(ctx, table, op) {
         return false;
     }
-    if IRNode::Operation(op).is_ancestor(IRNode::BasicBlock(block), ctx) {
+    if IRNode::Operation(op).is_ancestor(ctx, IRNode::BasicBlock(block)) {
         return false;
     }
     match op.get_parent_block(ctx) {
         Some(over) => over == block,
         None => {
-            op.insert_at_back(block, ctx);
+            op.insert_at_back(ctx, block);
             true
         }
     }

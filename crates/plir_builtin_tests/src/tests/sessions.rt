@@ -235,7 +235,7 @@ fn edit<D: OpSet>(
         return Err(Stop::Refused);
     }
     match command {
-        "insert" if !IRNode::Operation(op).is_ancestor(over, ctx) => Ok(table.insert(
+        "insert" if !IRNode::Operation(op).is_ancestor(ctx, over) => Ok(table.insert(
             ctx, op, point,
         )),
         "remove" => Ok(table.remove(ctx, op)),

@@ -160,7 +160,7 @@ fn hand<D: OpSet>(bench: &mut Bench<D>, line: Line<'_>) -> Result<(), Stop> {
     Ok(())
 }
 
-// Walks a table and notes what is handed over; breaks the walk at `last`, or for want of memory.
+// Walks a table and notes what is called; breaks the walk at `last`, or for want of memory.
 fn hand_over<C: TableLinks>(
     ctx: &C,
     op: Ptr<Operation>,

@@ -30,9 +30,9 @@ impl Ptr<Operation> {
     /// before.
     pub fn insert_operand<D: OpSet>(
         self,
+        ctx: &mut Context<D>,
         i: usize,
         value: Value,
-        ctx: &mut Context<D>,
     ) -> Result<(), Memory>
         requires live { IsLive ctx.old (IRNode.Operation self) }
         requires within { i ≤ length (operands_of ctx.old self) }
@@ -54,7 +54,7 @@ impl Ptr<Operation> {
     }
 
     /// Takes the operand at a place, from 0, out; later ones move down.
-    pub fn remove_operand<D: OpSet>(self, i: usize, ctx: &mut Context<D>) -> Value
+    pub fn remove_operand<D: OpSet>(self, ctx: &mut Context<D>, i: usize) -> Value
         requires live { IsLive ctx.old (IRNode.Operation self) }
         requires below { i < length (operands_of ctx.old self) }
         ensures value { slice_get (operands_of ctx.old self) i ≡ Some result }
@@ -73,7 +73,7 @@ impl Ptr<Operation> {
     }
 
     /// Puts a value in place of the operand at a place, from 0.
-    pub fn replace_operand<D: OpSet>(self, i: usize, value: Value, ctx: &mut Context<D>)
+    pub fn replace_operand<D: OpSet>(self, ctx: &mut Context<D>, i: usize, value: Value)
         requires live { IsLive ctx.old (IRNode.Operation self) }
         requires below { i < length (operands_of ctx.old self) }
         requires value_live { IsValueLive ctx.old value }
@@ -140,7 +140,7 @@ impl Ptr<Operation> {
     }
 
     /// Says where the operation stands in a source text.
-    pub fn set_loc<D: OpSet>(self, location: Location, ctx: &mut Context<D>)
+    pub fn set_loc<D: OpSet>(self, ctx: &mut Context<D>, location: Location)
         requires { IsLive ctx.old (IRNode.Operation self) }
         ensures after { ctx.new ≡ with_op_edit ctx.old self (λ o. record o { location = location }) }
         ensures whole { IsWellFormed D.attr_handles ctx.new }
@@ -150,7 +150,7 @@ impl Ptr<Operation> {
     }
 
     /// Puts an operation that is in no block at the start of a block that it does not stand above.
-    pub fn insert_at_front<D: OpSet>(self, block: Ptr<BasicBlock>, ctx: &mut Context<D>)
+    pub fn insert_at_front<D: OpSet>(self, ctx: &mut Context<D>, block: Ptr<BasicBlock>)
         requires live { IsLive ctx.old (IRNode.Operation self) }
         requires target_live { IsLive ctx.old (IRNode.BasicBlock block) }
         requires unlinked { parent_of ctx.old (IRNode.Operation self) ≡ None }
@@ -169,7 +169,7 @@ impl Ptr<Operation> {
     }
 
     /// Puts an operation that is in no block right before one that is in a block, and that it does not stand above.
-    pub fn insert_before<D: OpSet>(self, mark: Ptr<Operation>, ctx: &mut Context<D>)
+    pub fn insert_before<D: OpSet>(self, ctx: &mut Context<D>, mark: Ptr<Operation>)
         requires live { IsLive ctx.old (IRNode.Operation self) }
         requires mark_live { IsLive ctx.old (IRNode.Operation mark) }
         requires unlinked { parent_of ctx.old (IRNode.Operation self) ≡ None }
@@ -193,7 +193,7 @@ impl Ptr<Operation> {
     }
 
     /// Puts an operation that is in no block right after one that is in a block, and that it does not stand above.
-    pub fn insert_after<D: OpSet>(self, mark: Ptr<Operation>, ctx: &mut Context<D>)
+    pub fn insert_after<D: OpSet>(self, ctx: &mut Context<D>, mark: Ptr<Operation>)
         requires live { IsLive ctx.old (IRNode.Operation self) }
         requires mark_live { IsLive ctx.old (IRNode.Operation mark) }
         requires unlinked { parent_of ctx.old (IRNode.Operation self) ≡ None }
@@ -255,7 +255,7 @@ impl Operation {
     /// Erases the region that `get_region` finds at a place, from 0, among those of an operation, with all below it,
     /// whose values and blocks nothing else uses (`IRNode::is_unused_outside`). Each node is freed after those below
     /// it, children in order. Later regions move down by one.
-    pub fn erase_region<D: OpSet>(op: Ptr<Operation>, i: usize, ctx: &mut Context<D>)
+    pub fn erase_region<D: OpSet>(op: Ptr<Operation>, ctx: &mut Context<D>, i: usize)
         requires live { IsLive ctx.old (IRNode.Operation op) }
         requires below { i < length (children ctx.old (IRNode.Operation op)) }
         requires unused { IsUnusedOutside ctx.old (child_at ctx.old (IRNode.Operation op) i) }

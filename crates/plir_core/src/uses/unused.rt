@@ -1,42 +1,23 @@
 //! Whether anything outside a tree of nodes uses what is in it.
-ghost use Rattle.std.specs.Prelude.{◌≡◌, ◌<◌, All, Option, Some, None, IfSome, IsTrue, ◌↔◌, true, length};
+ghost use Rattle.std.specs.Prelude.{◌≡◌, ◌<◌, ◌≤◌, ◌-◌, ◌^◌, min, length, true, IsTrue, ◌↔◌, All};
+ghost use Rattle.std.specs.Prelude.{Option, Some, None, IfSome};
+ghost use Rattle.std.specs.List.{sum_by};
+ghost use Rattle.plir_core.specs.Erase.{tree_of};
 ghost use Rattle.plir_core.specs.Stored.{seat_of};
 ghost use Rattle.plir_store.specs.Table.{content_at};
 ghost use Rattle.plir_core.specs.Above.{Reaches};
 ghost use Rattle.plir_core.specs.Nodes.{is_node_live, node_parent, ptr_at};
 ghost use Rattle.plir_core.specs.ContextView.{IsLive, entity_node};
 ghost use Rattle.plir_core.specs.Unused.{UsesNoneOf, IsUnusedAt, IsUnusedOutside};
-ghost use Rattle.plir_core.specs.Uses.{is_not_used, is_seated, values_from, own_uses};
+ghost use Rattle.plir_core.specs.Uses.{is_not_used, is_seated, places_in, uses_of, values_from, blocks_in};
+ghost use Rattle.plir_core.specs.Uses.{uses_within, uses_of_tree, uses_inside};
 ghost use Rattle.plir_core.specs.declared.ptr.IRNode.{IRNode};
 
 use crate::arena::Arena;
 use crate::context::Context;
 use crate::ptr::{BasicBlock, IRNode, Operation, Ptr};
-use crate::value::{DefiningEntity, Value};
+use crate::value::Value;
 use plir_data::OpSet;
-
-// Whether a value is a result of an operation, by its slot.
-fn is_result_of(value: Value, op: Ptr<Operation>) -> bool
-    ensures { result ≡ is_seated (seat_of (IRNode.Operation op)) (entity_node value.entity) }
-{
-    match value.defining_entity() {
-        DefiningEntity::Op(owner) => owner.slot == op.slot,
-        DefiningEntity::Block(_) => false,
-    }
-}
-
-// How many of some values are results of an operation.
-fn count_results_of(values: &[Value], op: Ptr<Operation>) -> usize
-    ensures { result ≡ values_from (seat_of (IRNode.Operation op)) values.now }
-{
-    let mut count = 0;
-    for value in values {
-        if is_result_of(*value, op) {
-            count += 1;
-        }
-    }
-    count
-}
 
 impl<O, B> Arena<O, B> {
     /// How many slots of operations there are, free ones among them.
@@ -59,6 +40,56 @@ impl<O, B> Arena<O, B> {
         } else {
             None
         }
+    }
+
+    // Whether a node stands in the tree under the root. Nothing but itself stands under a node without children.
+    fn is_in_tree(&self, root: IRNode, node: IRNode) -> bool
+        requires root { is_node_live self.now root ≡ true }
+        requires node { is_node_live self.now node ≡ true }
+        ensures { IsTrue result ↔ Reaches (node_parent self.now) node root }
+    {
+        let _limit = &self.limit;
+        if self.first_child(root).is_none() {
+            return node == root;
+        }
+        self.is_ancestor(root, node)
+    }
+
+    // How many places a live operation or block has in the tree under the root: one or none.
+    fn num_places(&self, root: IRNode, node: IRNode) -> usize
+        requires root { is_node_live self.now root ≡ true }
+        requires node { is_node_live self.now node ≡ true }
+        ensures places { is_seated (seat_of node) node ≡ true → result ≡ places_in self.now root node }
+        ensures once { result ≤ 1 }
+    {
+        let _limit = &self.limit;
+        if self.is_in_tree(root, node) { 1 } else { 0 }
+    }
+
+    // How many of some values come from nodes of the tree under the root.
+    fn count_values_of(&self, root: IRNode, values: &[Value]) -> usize
+        requires live { is_node_live self.now root ≡ true }
+        requires values_live { All (λ v. is_node_live self.now (entity_node v.entity) ≡ true) values.now }
+        ensures { result ≡ sum_by (λ n. values_from (seat_of n) values.now) (tree_of self.now root) }
+    {
+        let mut count = 0;
+        for value in values {
+            count += self.num_places(root, value.defining_entity().node());
+        }
+        count
+    }
+
+    // How many of some blocks stand in the tree under the root.
+    fn count_blocks_of(&self, root: IRNode, blocks: &[Ptr<BasicBlock>]) -> usize
+        requires live { is_node_live self.now root ≡ true }
+        requires blocks_live { All (λ b. is_node_live self.now (IRNode.BasicBlock b) ≡ true) blocks.now }
+        ensures { result ≡ sum_by (λ n. blocks_in (seat_of n) blocks.now) (tree_of self.now root) }
+    {
+        let mut count = 0;
+        for block in blocks {
+            count += self.num_places(root, IRNode::BasicBlock(*block));
+        }
+        count
     }
 
     // Whether none of the values comes from a node of the tree under the root.
@@ -112,69 +143,99 @@ impl<D: OpSet> Context<D> {
         }
     }
 
-    /// Whether a node is known to be used by nothing. No region is ever used.
+    // How often a node is used, if that is known. No region is ever used.
+    fn known_uses(&self, node: IRNode) -> Option<u32>
+        ensures { IfSome result (λ n. n ≡ uses_of self.now.nodes.ops (seat_of node)) }
+    {
+        match node {
+            IRNode::Region(_) => Some(0),
+            IRNode::Operation(_) | IRNode::BasicBlock(_) => self.uses.known(node),
+        }
+    }
+
+    /// Whether a node is known to be used by nothing.
     pub(crate) fn is_known_unused(&self, node: IRNode) -> bool
         ensures { IsTrue result → is_not_used self.now node ≡ true }
     {
-        match node {
-            IRNode::Region(_) => true,
-            IRNode::Operation(_) | IRNode::BasicBlock(_) => self.uses.known(node) == Some(0),
-        }
+        self.known_uses(node) == Some(0)
     }
 
-    // Whether each node of a tree is known to be used by nothing. A walk has no more steps than there are live nodes.
-    fn is_tree_known_unused(&self, root: IRNode) -> bool
-        ensures { IsTrue result → IsUnusedOutside self.now root }
-    {
-        if !self.nodes.is_live(root) {
-            return false;
-        }
-        let mut at = root;
-        for _step in 0..self.nodes.num_live() {
-            if !self.is_known_unused(at) {
-                return false;
-            }
-            match self.nodes.next_in_tree(root, at) {
-                Some(next) => at = next,
-                None => return true,
-            }
-        }
-        false
-    }
-
-    // How often a node uses itself: how many operands of an operation are its own results.
-    fn num_own_uses(&self, node: IRNode) -> usize
-        requires { IsLive self.now node }
-        ensures { result ≡ own_uses self.now node }
+    // How often a node uses nodes of the tree under the root, or the greatest number.
+    fn num_uses_within(&self, root: IRNode, node: IRNode) -> usize
+        requires root { IsLive self.now root }
+        requires node { IsLive self.now node }
+        ensures { result ≡ min (uses_within self.now.nodes root node) (2 ^ 64 - 1) }
     {
         match node {
-            IRNode::Operation(op) => count_results_of(&self.nodes.op(op).operands, op),
+            IRNode::Operation(op) => {
+                let data = self.nodes.op(op);
+                let values = self.nodes.count_values_of(root, &data.operands);
+                values.saturating_add(self.nodes.count_blocks_of(root, &data.successors))
+            }
             IRNode::Region(_) | IRNode::BasicBlock(_) => 0,
         }
     }
 
-    // Whether nothing but the node itself uses a node without children, if its count is known.
-    fn is_leaf_unused(&self, root: IRNode) -> Option<bool>
-        ensures { IfSome result (λ b. IsTrue b ↔ IsUnusedOutside self.now root) }
+    // How often the nodes of the tree under the root are used in all, if each of their counts is known. A walk has no
+    // more steps than there are live nodes.
+    fn num_uses_of_tree(&self, root: IRNode) -> Option<usize>
+        requires { IsLive self.now root }
+        ensures sum { IfSome result (λ n. n ≡ uses_of_tree self.now.nodes root) }
+        ensures fits { IfSome result (λ n. n < 2 ^ 64 - 1) }
     {
-        if !self.nodes.is_live(root) || self.nodes.first_child(root).is_some() {
-            return None;
+        let mut at = root;
+        let mut uses: usize = 0;
+        for _step in 0..self.nodes.num_live() {
+            match self.known_uses(at) {
+                Some(count) => uses += count as usize,
+                None => return None,
+            }
+            match self.nodes.next_in_tree(root, at) {
+                Some(next) => at = next,
+                None => return Some(uses),
+            }
         }
-        match self.uses.known(root) {
-            Some(count) => Some(count as usize == self.num_own_uses(root)),
-            None => None,
-        }
+        None
     }
 
-    // Whether no live operation outside the tree under the root uses a value or a block of the tree. For a node without
-    // children, and where nothing uses any node of the tree, the counts tell; else this looks at all operations.
+    // How often the nodes of the tree under the root use nodes of it in all, or the greatest number.
+    fn num_uses_inside(&self, root: IRNode) -> Option<usize>
+        requires { IsLive self.now root }
+        ensures { IfSome result (λ n. n ≡ min (uses_inside self.now.nodes root) (2 ^ 64 - 1)) }
+    {
+        let mut at = root;
+        let mut uses: usize = 0;
+        for _step in 0..self.nodes.num_live() {
+            uses = uses.saturating_add(self.num_uses_within(root, at));
+            match self.nodes.next_in_tree(root, at) {
+                Some(next) => at = next,
+                None => return Some(uses),
+            }
+        }
+        None
+    }
+
+    // Whether nothing outside the tree under the root uses what is in it, if each count in the tree is known: whether
+    // its nodes are used as often as they use each other.
+    fn is_tree_unused(&self, root: IRNode) -> Option<bool>
+        ensures { IfSome result (λ b. IsTrue b ↔ IsUnusedOutside self.now root) }
+    {
+        if !self.nodes.is_live(root) {
+            return None;
+        }
+        let uses = self.num_uses_of_tree(root)?;
+        if uses == 0 {
+            return Some(true);
+        }
+        let inside = self.num_uses_inside(root)?;
+        Some(uses == inside)
+    }
+
+    // Whether no live operation outside the tree under the root uses a value or a block of the tree.
     pub(crate) fn is_unused_outside(&self, root: IRNode) -> bool
         ensures { IsTrue result ↔ IsUnusedOutside self.now root }
     {
-        if self.is_tree_known_unused(root) {
-            return true;
-        }
-        match self.is_leaf_unused(root) {
+        match self.is_tree_unused(root) {
             Some(answer) => answer,
             None => self.is_unused_by_all(root),
         }

@@ -33,10 +33,10 @@ fn add_block(
     let Some(region) = op.first_region(ctx) else {
         return Err(Stop::Refused);
     };
-    if !region.is_live(ctx) || IRNode::BasicBlock(block).is_ancestor(IRNode::Region(region), ctx) {
+    if !region.is_live(ctx) || IRNode::BasicBlock(block).is_ancestor(ctx, IRNode::Region(region)) {
         return Err(Stop::Refused);
     }
-    block.insert_at_back(region, ctx);
+    block.insert_at_back(ctx, region);
     Ok(block)
 }
 
@@ -49,10 +49,10 @@ fn append(
     if !op.is_live(ctx) || !block.is_live(ctx) || op.get_parent_block(ctx).is_some() {
         return Err(Stop::Refused);
     }
-    if IRNode::Operation(op).is_ancestor(IRNode::BasicBlock(block), ctx) {
+    if IRNode::Operation(op).is_ancestor(ctx, IRNode::BasicBlock(block)) {
         return Err(Stop::Refused);
     }
-    op.insert_at_back(block, ctx);
+    op.insert_at_back(ctx, block);
     Ok(())
 }
 

@@ -16,7 +16,7 @@ pub fn append<D: OpSet>(bench: &mut Bench<D>, line: Line<'_>) -> Result<(), Stop
     }
     let body = SingleBlockRegionInterface::<D>::get_body(&any, ctx, 0);
     if op.get_parent_block(ctx).is_some()
-        || IRNode::Operation(op).is_ancestor(IRNode::BasicBlock(body), ctx)
+        || IRNode::Operation(op).is_ancestor(ctx, IRNode::BasicBlock(body))
     {
         return Err(Stop::Refused);
     }

@@ -30,7 +30,7 @@ pub fn print_line<D: OpSet>(bench: &mut Bench<D>, line: Line<'_>) -> Result<(), 
     Ok(())
 }
 
-// Whether the operation that an edge starts at has the attributes that its header tells.
+// Whether the operation that an edge starts at has the attributes that its header shows.
 fn has_point_header<D: OpSet>(ctx: &Context<D>, point: RegionBranchPoint) -> bool
     requires { IsPointLive ctx.now point }
     ensures { IsTrue result ↔ HasPointHeader ctx.now point }

@@ -71,7 +71,7 @@ pub fn make_nest<D: OpSet>(
     first_child_is_front(ctx, IRNode::Operation(op));
     child_at(ctx, IRNode::Operation(op), IRNode::Region(region), 0);
     let block = BasicBlock::new(alloc, ctx, None, Vec::new(alloc))?;
-    block.insert_at_back(region, ctx);
+    block.insert_at_back(ctx, region);
     Ok(Nest { op, region, block })
 }
 
@@ -98,7 +98,7 @@ fn new_op<D: OpSet>(
                 return Err(Refusal::Misplaced);
             }
             let op = Operation::new(alloc, ctx, kind, results, operands, successors, 1)?;
-            op.insert_at_back(block, ctx);
+            op.insert_at_back(ctx, block);
             Ok(op)
         }
     }
@@ -138,14 +138,14 @@ fn move_op<D: OpSet>(
     if !op.is_live(ctx) || !block.is_live(ctx) || moved == node {
         return Err(Refusal::Misplaced);
     }
-    let holds_moved = node.is_ancestor(moved, ctx);
-    let holds_target = node.is_ancestor(target, ctx);
-    let over_target = moved.is_ancestor(target, ctx);
+    let holds_moved = node.is_ancestor(ctx, moved);
+    let holds_target = node.is_ancestor(ctx, target);
+    let over_target = moved.is_ancestor(ctx, target);
     if !holds_moved || !holds_target || over_target {
         return Err(Refusal::Misplaced);
     }
     op.unlink(ctx);
-    op.insert_at_back(block, ctx);
+    op.insert_at_back(ctx, block);
     Ok(())
 }
 
@@ -162,7 +162,7 @@ fn erase_region<D: OpSet>(ctx: &mut Context<D>, op: Ptr<Operation>) -> Result<()
     if !IRNode::Region(region).is_unused_outside(ctx) {
         return Err(Refusal::Misplaced);
     }
-    Operation::erase_region(op, 0, ctx);
+    Operation::erase_region(op, ctx, 0);
     Ok(())
 }
 
@@ -191,7 +191,7 @@ fn append_block<D: OpSet>(
         return Err(Refusal::Misplaced);
     }
     let block = BasicBlock::new(alloc, ctx, None, Vec::new(alloc))?;
-    block.insert_at_back(region, ctx);
+    block.insert_at_back(ctx, region);
     Ok(())
 }
 
@@ -210,7 +210,7 @@ fn label<D: OpSet>(
     if !block.is_live(ctx) {
         return Err(Refusal::Misplaced);
     }
-    block.set_label(Some(name), ctx);
+    block.set_label(ctx, Some(name));
     Ok(())
 }
 

@@ -65,7 +65,7 @@ pub fn unlabel<D: OpSet>(
             return walk_break(NOT_DONE);
         }
         if let IRNode::BasicBlock(block) = node {
-            block.set_label(None, ctx);
+            block.set_label(ctx, None);
         }
         walk_advance()
     };

@@ -65,7 +65,7 @@ fn fill<D: OpSet>(
     lawful_changes::<D>();
     ctx.forest();
     let block = BasicBlock::new(alloc, ctx, None, Vec::new(alloc))?;
-    block.insert_at_back(region, ctx);
+    block.insert_at_back(ctx, region);
     Ok(block)
 }
 
@@ -89,7 +89,7 @@ fn append<D: OpSet>(
     let successors = Vec::new(alloc);
     let op = Operation::new(alloc, ctx, kind, results, operands, successors, 1)?;
     let region = op.get_region(ctx, 0);
-    op.insert_at_back(block, ctx);
+    op.insert_at_back(ctx, block);
     child_at(ctx, IRNode::Operation(op), IRNode::Region(region), 0);
     fill(alloc, ctx, region)
 }

@@ -1,7 +1,7 @@
 use Rattle.plir_builtin.specs.Agree.{AllAgree}
-use Rattle.plir_builtin.specs.SymbolUses.{is_user_kind, IsUseRefused}
+use Rattle.plir_builtin.specs.SymbolUses.{is_user_kind, IsUseRefusal}
 use Rattle.plir_core.specs.ContextView.{kind_of}
-use Rattle.plir_builtin.proofs.UseChecks.{agree-empty, first-told, use-again}
+use Rattle.plir_builtin.proofs.UseChecks.{agree-empty, first-reported, use-again}
 use Rattle.plir_builtin.proofs.UsesWalked.{all-hold, first-fails}
 use Rattle.plir_builtin.proofs.symbol_users.verify_uses.Goals as goal
 
@@ -18,7 +18,7 @@ returns-in-Break-clause-refused g c =
     _ c.new-tables.result
     (agree-empty S.is_symbol S.is_symbol_table s c.new-tables.result c.new-tables.ensures) c.args.op _
     (λ p. is_user_kind S.is_symbol_user (kind_of s p)) (U.uses_hold s)
-    (λ p b. IsUseRefused (U.uses_hold s p) (U.use_refusal s p) b.why)
+    (λ p b. IsUseRefusal (U.uses_hold s p) (U.use_refusal s p) b.why)
     (λ u p a u' h.
     (use-again S.is_symbol S.is_symbol_table S.is_symbol_user U.uses_hold U.use_refusal (λ r. r.why)
     p a h.shows h.leaves h.met.1).never_skips)
@@ -29,7 +29,7 @@ returns-in-Break-clause-refused g c =
     (use-again S.is_symbol S.is_symbol_table S.is_symbol_user U.uses_hold U.use_refusal (λ r. r.why)
     p a h.shows h.leaves h.met.1).breaks i)
     _ _ c.in-Break.is c.before_is_a_total_order.ensures c.walk_symbol_table.ensures in
-    first-told S.is_symbol_table S.is_symbol_user U.uses_hold U.use_refusal s c.args.op _ f.op
+    first-reported S.is_symbol_table S.is_symbol_user U.uses_hold U.use_refusal s c.args.op _ f.op
     (record { handed = f.handed; user = f.is_user }) f.refused
     (λ q u lt. f.before q u.handed u.user lt)
 
@@ -46,7 +46,7 @@ returns-clause-ok g c =
     _ c.new-tables.result
     (agree-empty S.is_symbol S.is_symbol_table s c.new-tables.result c.new-tables.ensures) c.args.op _
     (λ p. is_user_kind S.is_symbol_user (kind_of s p)) (U.uses_hold s)
-    (λ p b. IsUseRefused (U.uses_hold s p) (U.use_refusal s p) b.why)
+    (λ p b. IsUseRefusal (U.uses_hold s p) (U.use_refusal s p) b.why)
     (λ u p a u' h.
     (use-again S.is_symbol S.is_symbol_table S.is_symbol_user U.uses_hold U.use_refusal (λ r. r.why)
     p a h.shows h.leaves h.met.1).never_skips)

@@ -3,7 +3,7 @@ use Rattle.plir_store.specs.Members.{Has}
 use Rattle.plir_core.specs.declared.ptr.IRNode.TheVariants.{Operation, Region}
 use Rattle.plir_walk.specs.Lawful.{StandsUnder}
 use Rattle.plir_walk.specs.Calls.{ReadsBack}
-use Rattle.plir_builtin.proofs.Handing.{under-region, passes-again, handed-over}
+use Rattle.plir_builtin.proofs.TableWalking.{under-region, passes-again, handed-over}
 use Rattle.plir_builtin.proofs.walking.walk_symbol_table.Goals as goal
 
 pub walk_region-requires-clause-root_live : goal.walk_region-requires-clause-root_live

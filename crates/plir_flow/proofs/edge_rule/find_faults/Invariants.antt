@@ -1,6 +1,7 @@
 use Rattle.std.proofs.Common.{take}
 use Rattle.std.specs.Prelude.{All}
-use Rattle.plir_flow.specs.RegionRule.{AreFirsts, IsEdgeRight, first_place}
+use Rattle.plir_flow.specs.RegionRule.{IsEdgeRight}
+use Rattle.plir_flow.specs.EdgeVerdicts.{AreFirsts, first_place}
 use Rattle.plir_flow.proofs.edge_rule.find_faults.Given as goal
 
 abbrev pub invariant-loop-place : goal.invariant-loop-place

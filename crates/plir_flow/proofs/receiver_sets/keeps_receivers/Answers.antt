@@ -5,7 +5,7 @@ use Rattle.plir_flow.specs.Hops.{same_region}
 use Rattle.std.proofs.lemmas.Option.{slice_get-get_or, slice_get_within}
 use Rattle.std.proofs.lemmas.Result.{IfOk-weaker}
 use Rattle.plir_flow.specs.RegionEdges.{EdgeView}
-use Rattle.plir_flow.specs.RegionRule.{target_region, first_place}
+use Rattle.plir_flow.specs.EdgeVerdicts.{target_region, first_place}
 use Rattle.plir_flow.proofs.EdgeRules.{firsts-kept, firsts-broken, firsts-new, target-same}
 use Rattle.plir_flow.proofs.receiver_sets.keeps_receivers.Goals as goal
 
@@ -25,13 +25,13 @@ returns-in-Some-clause-yes c =
     let es = c.args.edges.now in
     let head = first_place c.args.firsts.now in
     let first = c.in-Some.first in
-    let told = ap (get (option_eq same_region) c.args.firsts.now) (sym c.region_of-target.ensures) ∙ sym (c.in-Some.ensures ∙ c.get.ensures.value) in
-    let r = c.requires.firsts.heads c.edge.inside.to first told in
+    let reported = ap (get (option_eq same_region) c.args.firsts.now) (sym c.region_of-target.ensures) ∙ sym (c.in-Some.ensures ∙ c.get.ensures.value) in
+    let r = c.requires.firsts.heads c.edge.inside.to first reported in
     let edge = c.index-edges-place.result in
     let here = slice_get-get_or es c.args.place edge c.requires.below ∙ ap (λ x. Some x) (sym c.index-edges-place.is) in
     let d = c.index-edges-first.result in
     let at = slice_get-get_or es first d (slice_get_within es first r.0 r.1.0) ∙ ap (λ x. Some x) (sym c.index-edges-first.is) in
-    let is = subst (λ (e : EdgeView). head e.to ≡ Some first) c.edge.view_is told in
+    let is = subst (λ (e : EdgeView). head e.to ≡ Some first) c.edge.view_is reported in
     IfOk-weaker c.have_same_receivers.result _ _ (λ b w t. firsts-kept es c.args.place head c.requires.firsts edge here first d is at (w.0 t)) c.have_same_receivers.ensures
 
 pub returns-in-Some-clause-no : goal.returns-in-Some-clause-no
@@ -39,13 +39,13 @@ returns-in-Some-clause-no c =
     let es = c.args.edges.now in
     let head = first_place c.args.firsts.now in
     let first = c.in-Some.first in
-    let told = ap (get (option_eq same_region) c.args.firsts.now) (sym c.region_of-target.ensures) ∙ sym (c.in-Some.ensures ∙ c.get.ensures.value) in
-    let r = c.requires.firsts.heads c.edge.inside.to first told in
+    let reported = ap (get (option_eq same_region) c.args.firsts.now) (sym c.region_of-target.ensures) ∙ sym (c.in-Some.ensures ∙ c.get.ensures.value) in
+    let r = c.requires.firsts.heads c.edge.inside.to first reported in
     let edge = c.index-edges-place.result in
     let here = slice_get-get_or es c.args.place edge c.requires.below ∙ ap (λ x. Some x) (sym c.index-edges-place.is) in
     let d = c.index-edges-first.result in
     let at = slice_get-get_or es first d (slice_get_within es first r.0 r.1.0) ∙ ap (λ x. Some x) (sym c.index-edges-first.is) in
-    let is = subst (λ (e : EdgeView). head e.to ≡ Some first) c.edge.view_is told in
+    let is = subst (λ (e : EdgeView). head e.to ≡ Some first) c.edge.view_is reported in
     IfOk-weaker c.have_same_receivers.result _ _ (λ b w n. firsts-broken es c.args.place head c.requires.firsts edge here first d is at (λ same. n (w.1 same))) c.have_same_receivers.ensures
 
 pub returns-in_ok-insert-in-None-clause-yes : goal.returns-in_ok-insert-in-None-clause-yes

@@ -1,5 +1,5 @@
 use Rattle.std.proofs.Common.{◌∙◌, refl}
-use Rattle.plir_builtin.specs.Refusals.{told}
+use Rattle.plir_builtin.specs.Refusals.{reported}
 use Rattle.plir_builtin.proofs.ReadLoop.{reading-start, reading-live, reading-refused, reading-more, reading-falls}
 use Rattle.plir_builtin.proofs.symbol_table.SymbolTable.read.Goals as goal
 
@@ -10,7 +10,7 @@ pub read_op-requires : goal.read_op-requires
 read_op-requires g c = reading-live g.D.OpSet.is_symbol c.args.ctx.now c.args.block c.stands.ensures.standing c.ops.at c.ops.self c.ops.invariant.reading c.in-Some.op c.in-Some.is
 
 pub returns-in-Err-clause-refused : goal.returns-in-Err-clause-refused
-returns-in-Err-clause-refused g c = reading-refused g.D.OpSet.is_symbol c.args.ctx.now c.args.block c.stands.ensures.standing c.ops.at c.ops.self c.ops.invariant.reading c.in-Some.op c.in-Some.is (told c.in-Err.why) c.in-Err.ensures.refused
+returns-in-Err-clause-refused g c = reading-refused g.D.OpSet.is_symbol c.args.ctx.now c.args.block c.stands.ensures.standing c.ops.at c.ops.self c.ops.invariant.reading c.in-Some.op c.in-Some.is (reported c.in-Err.why) c.in-Err.ensures.refused
 
 pub returns-in-Err-clause-live : goal.returns-in-Err-clause-live
 returns-in-Err-clause-live g c = reading-live g.D.OpSet.is_symbol c.args.ctx.now c.args.block c.stands.ensures.standing c.ops.at c.ops.self c.ops.invariant.reading c.in-Some.op c.in-Some.is

@@ -1,10 +1,10 @@
 use Rattle.std.proofs.Common.{◌≡◌, ◌∙◌, ◌++◌, ◌∷◌, [], None, cond, ap, sym, subst, is_some}
 use Rattle.std.specs.FinMap.{get}
-use Rattle.plir_builtin.specs.Reading.{IsRead, FirstRefused}
+use Rattle.plir_builtin.specs.Reading.{IsRead, IsFirstRefusalAt}
 use Rattle.plir_builtin.specs.Symbols.{Symbols, symbols_of}
 use Rattle.plir_builtin.specs.Refusals.{IsUnnamedFirst, IsRepeatedAt}
 use Rattle.plir_builtin.specs.TableEdits.{with_name}
-use Rattle.plir_builtin.proofs.ReadTables.{read-more, read-unnamed, read-repeated, not_some, told-first}
+use Rattle.plir_builtin.proofs.ReadTables.{read-more, read-unnamed, read-repeated, not_some, reported-first}
 use Rattle.plir_builtin.proofs.symbol_table.SymbolTable.read_op.Goals as goal
 
 pub returns-in_default-clause-refused : goal.returns-in_default-clause-refused
@@ -19,8 +19,8 @@ returns-then-is_some-clause-refused g c =
     let name = sym c.in-Some.ensures in
     let before = c.in_ok-before.ensures.before ∙ ap (get c.args.self.now.names) c.in_ok-copy.ensures in
     let some = sym (ap is_some before) ∙ sym c.is_some.ensures ∙ c.if-is_some.true in
-    told-first c.redefined.result c.in-Some.name.now c.redefined.ensures
-    (λ r. (es : Symbols) → IsRead es c.args.self.now → FirstRefused c.args.op (es ++ symbols_of g.D.OpSet.is_symbol c.args.ctx.now c.args.op) r)
+    reported-first c.redefined.result c.in-Some.name.now c.redefined.ensures
+    (λ r. (es : Symbols) → IsRead es c.args.self.now → IsFirstRefusalAt c.args.op (es ++ symbols_of g.D.OpSet.is_symbol c.args.ctx.now c.args.op) r)
     (λ es h. subst (λ z. IsRepeatedAt c.in-Some.name.now c.args.op (es ++ z)) (sym (λ i. cond (kind i) ((c.args.op, name i) ∷ []) [])) (read-repeated es c.args.self.now h c.args.op c.in-Some.name.now [] some))
 
 pub returns-clause-read : goal.returns-clause-read

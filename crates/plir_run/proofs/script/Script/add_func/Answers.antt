@@ -16,7 +16,7 @@ insert-requires-clause-target_live c = c.in_ok-made.ensures.made.keeps.live (Ope
 
 pub insert-requires-clause-not_above : goal.insert-requires-clause-not_above
 insert-requires-clause-not_above c =
-    subst (λ p. IsAncestor c.new-made.new.ctx (Operation p) (Operation c.in_ok-target.target) → ⊥) (sym c.get_operation-op.ensures)
+    subst (λ p. IsAncestor c.new-made.new.ctx (Operation p) (Operation c.in_ok-target.target) → ⊥) (sym c.operation-op.ensures)
     (c.in_ok-made.ensures.made.apart (Operation c.in_ok-target.target) (subst (λ ns. is_node_live ns (Operation c.in_ok-target.target) ≡ true) (sym c.get-ty.ensures.rest) c.in_ok-target.ensures))
 
 pub insert-requires-clause-agree : goal.insert-requires-clause-agree

@@ -1,0 +1,11 @@
+use Rattle.plir_core.specs.declared.ptr.IRNode.TheVariants.{BasicBlock}
+use Rattle.plir_core.specs.ContextView.{children}
+use Rattle.plir_builtin.specs.Left.{left_in}
+use Rattle.plir_builtin.proofs.CountLoop.{IsCounting}
+use Rattle.plir_builtin.proofs.scanning.count_symbols.Given as goal
+
+abbrev pub invariant-ops : goal.invariant-ops
+invariant-ops g l = IsCounting g.D.OpSet.is_symbol l.ctx l.fn.block l.at l.count
+
+abbrev pub decreases-ops : goal.decreases-ops
+decreases-ops g l = left_in (children l.ctx (BasicBlock l.fn.block)) l.at
