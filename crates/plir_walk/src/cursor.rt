@@ -3,6 +3,7 @@
 
 ghost use Rattle.std.specs.Prelude.{◌≡◌, true, false, option_map};
 ghost use Rattle.plir_walk.specs.Config.{order_of};
+ghost use Rattle.plir_walk.specs.Tree.{same};
 ghost use Rattle.plir_walk.specs.Step.{cursor_at, due_at, entered, goes_on, next_of, IsHop};
 
 use crate::config::{Order, WalkConfig};
@@ -95,6 +96,14 @@ fn enter_behind<C: NodeLinks>(
     }
 }
 
+/// Whether two nodes are the same.
+#[inline(always)]
+fn is_same(one: IRNode, other: IRNode) -> bool
+    ensures { result ≡ same one other }
+{
+    one == other
+}
+
 /// Where a walk stands next that leaves a node, and with it each node above that has no sibling behind it and is not
 /// called. None, if one of them is the root.
 #[inline(always)]
@@ -110,7 +119,7 @@ fn leave<C: NodeLinks>(
     ctx.forest();
     let mut here = node;
     'up: loop {
-        if here == root {
+        if is_same(here, root) {
             return None;
         }
         if let Some(next) = enter_behind(ctx, config, here) {

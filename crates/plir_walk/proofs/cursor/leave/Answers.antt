@@ -1,4 +1,5 @@
-use Rattle.std.proofs.Common.{rules, ◌≡◌, false, Some, refl, sym, ◌∙◌}
+use Rattle.std.proofs.Common.{◌≡◌, false, Some, refl, sym, ◌∙◌}
+use Rattle.plir_core.specs.Forest.{IsForest}
 use Rattle.plir_walk.specs.Step.{IsNotDue}
 use Rattle.plir_walk.specs.Tree.{same}
 use Rattle.plir_walk.proofs.Hops.{climbed, leave-next, leave-up, none-next, one-more}
@@ -10,7 +11,7 @@ returns-in-Some g c =
     let w = c.args.config.now in
     let s = g.C.NodeLinks.look c.args.ctx.now in
     let r = c.args.root in
-    let apart : same c.up.here r ≡ false = search rules in
+    let apart : same c.up.here r ≡ false = sym c.is_same.ensures ∙ c.if-is_same.false in
     climbed w s r c.args.node c.up.here c.up.invariant.1 (Some c.in-Some.next)
     (leave-next w s r c.up.here _ c.in-Some.next apart c.enter_behind.ensures c.in-Some.is)
 
@@ -20,7 +21,7 @@ returns-then-is_due g c =
     let s = g.C.NodeLinks.look c.args.ctx.now in
     let r = c.args.root in
     let a = c.in_ok-parent.parent in
-    let apart : same c.up.here r ≡ false = search rules in
+    let apart : same c.up.here r ≡ false = sym c.is_same.ensures ∙ c.if-is_same.false in
     let up : s.parent c.up.here ≡ Some a = sym c.parent.ensures ∙ c.in_ok-parent.was in
     let none = none-next w s r c.up.here _ c.enter_behind.ensures c.in_default.is in
     let step = leave-up w s r c.up.here a apart none up in
@@ -32,7 +33,7 @@ up-smaller g c =
     let s = g.C.NodeLinks.look c.args.ctx.now in
     let r = c.args.root in
     let a = c.in_ok-parent.parent in
-    let apart : same c.up.here r ≡ false = search rules in
+    let apart : same c.up.here r ≡ false = sym c.is_same.ensures ∙ c.if-is_same.false in
     let up : s.parent c.up.here ≡ Some a = sym c.parent.ensures ∙ c.in_ok-parent.was in
     let none = none-next w s r c.up.here _ c.enter_behind.ensures c.in_default.is in
     step-smaller w s c.forest.ensures r c.up.here false a false (leave-up w s r c.up.here a apart none up)
@@ -43,11 +44,12 @@ up-preserved g c =
     let s = g.C.NodeLinks.look c.args.ctx.now in
     let r = c.args.root in
     let a = c.in_ok-parent.parent in
-    let apart : same c.up.here r ≡ false = search rules in
+    let apart : same c.up.here r ≡ false = sym c.is_same.ensures ∙ c.if-is_same.false in
     let up : s.parent c.up.here ≡ Some a = sym c.parent.ensures ∙ c.in_ok-parent.was in
     let none = none-next w s r c.up.here _ c.enter_behind.ensures c.in_default.is in
     let step = leave-up w s r c.up.here a apart none up in
+    let f : IsForest s = c.forest.ensures in
     let passed = sym c.is_due.ensures ∙ c.if-is_due.false in (
-      c.forest.ensures.parent_live c.up.here a up,
+      f.parent_live c.up.here a up,
       λ o h. c.up.invariant.1 o (one-more w s r (IsNotDue w) c.up.here false a false o step passed h),
     )
