@@ -50,6 +50,6 @@ up-preserved g c =
     let step = leave-up w s r c.up.here a apart none up in
     let f : IsForest s = c.forest.ensures in
     let passed = sym c.is_due.ensures ∙ c.if-is_due.false in (
-      f.parent_live c.up.here a up,
+      f.parent_live a c.up.here up,
       λ o h. c.up.invariant.1 o (one-more w s r (IsNotDue w) c.up.here false a false o step passed h),
     )
