@@ -19,6 +19,7 @@ pub mod CallLaws
 pub mod TreeLaws
 pub mod WalkLaws
 pub mod Thinned
+pub mod OperationSteps
 pub mod OperationWalks
 pub mod OperationLaws
 pub mod GivenNames
