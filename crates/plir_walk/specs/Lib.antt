@@ -19,7 +19,6 @@ pub mod CallLaws
 pub mod TreeLaws
 pub mod WalkLaws
 pub mod Thinned
-pub mod OperationSteps
 pub mod OperationWalks
 pub mod OperationLaws
 pub mod GivenNames

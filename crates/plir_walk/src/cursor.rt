@@ -25,7 +25,7 @@ pub fn is_due(config: &WalkConfig, node: IRNode, entering: bool) -> bool
 
 /// Whether what is below a node comes next after a call there with this answer, or after none.
 #[inline(always)]
-pub fn goes_on(entering: bool, answer: WalkContinue) -> bool
+fn goes_on(entering: bool, answer: WalkContinue) -> bool
     ensures { result ≡ goes_on entering answer }
 {
     match answer {

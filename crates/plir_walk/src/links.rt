@@ -87,36 +87,6 @@ pub trait NodeLinks {
     fn next_taken<N: TypedNode>(&self, config: &WalkConfig, node: N) -> Option<N>
         requires { (look self.now).live (N.node node) ≡ true }
         ensures { option_map N.node result ≡ next_of config.now (look self.now) (N.node node) };
-
-    /// The region of an operation that a walk enters first.
-    fn first_region(&self, config: &WalkConfig, op: Ptr<Operation>) -> Option<Ptr<Region>>
-        requires { (look self.now).live (IRNode.Operation op) ≡ true }
-        ensures { option_map IRNode.Region result ≡ first_of config.now (look self.now) (IRNode.Operation op) };
-
-    /// The block of a region that a walk enters first.
-    fn first_block(&self, config: &WalkConfig, region: Ptr<Region>) -> Option<Ptr<BasicBlock>>
-        requires { (look self.now).live (IRNode.Region region) ≡ true }
-        ensures { option_map IRNode.BasicBlock result ≡ first_of config.now (look self.now) (IRNode.Region region) };
-
-    /// The operation of a block that a walk enters first.
-    fn first_op(&self, config: &WalkConfig, block: Ptr<BasicBlock>) -> Option<Ptr<Operation>>
-        requires { (look self.now).live (IRNode.BasicBlock block) ≡ true }
-        ensures { option_map IRNode.Operation result ≡ first_of config.now (look self.now) (IRNode.BasicBlock block) };
-
-    /// The block that an operation stands in.
-    fn block_above(&self, op: Ptr<Operation>) -> Option<Ptr<BasicBlock>>
-        requires { (look self.now).live (IRNode.Operation op) ≡ true }
-        ensures { option_map IRNode.BasicBlock result ≡ (look self.now).parent (IRNode.Operation op) };
-
-    /// The region that a block stands in.
-    fn region_above(&self, block: Ptr<BasicBlock>) -> Option<Ptr<Region>>
-        requires { (look self.now).live (IRNode.BasicBlock block) ≡ true }
-        ensures { option_map IRNode.Region result ≡ (look self.now).parent (IRNode.BasicBlock block) };
-
-    /// The operation that a region stands in.
-    fn op_above(&self, region: Ptr<Region>) -> Option<Ptr<Operation>>
-        requires { (look self.now).live (IRNode.Region region) ≡ true }
-        ensures { option_map IRNode.Operation result ≡ (look self.now).parent (IRNode.Region region) };
 }
 
 impl<D: OpSet> NodeLinks for Context<D> {
@@ -153,45 +123,6 @@ impl<D: OpSet> NodeLinks for Context<D> {
             Direction::Forward => node.next_sibling(self),
             Direction::Reverse => node.prev_sibling(self),
         }
-    }
-
-    #[inline(always)]
-    fn first_region(&self, config: &WalkConfig, op: Ptr<Operation>) -> Option<Ptr<Region>> {
-        match config.regions_in_op.1 {
-            Direction::Forward => op.first_region(self),
-            Direction::Reverse => op.last_region(self),
-        }
-    }
-
-    #[inline(always)]
-    fn first_block(&self, config: &WalkConfig, region: Ptr<Region>) -> Option<Ptr<BasicBlock>> {
-        match config.blocks_in_region.1 {
-            Direction::Forward => region.get_head(self),
-            Direction::Reverse => region.get_tail(self),
-        }
-    }
-
-    #[inline(always)]
-    fn first_op(&self, config: &WalkConfig, block: Ptr<BasicBlock>) -> Option<Ptr<Operation>> {
-        match config.ops_in_block.1 {
-            Direction::Forward => block.get_head(self),
-            Direction::Reverse => block.get_tail(self),
-        }
-    }
-
-    #[inline(always)]
-    fn block_above(&self, op: Ptr<Operation>) -> Option<Ptr<BasicBlock>> {
-        op.get_parent_block(self)
-    }
-
-    #[inline(always)]
-    fn region_above(&self, block: Ptr<BasicBlock>) -> Option<Ptr<Region>> {
-        block.get_parent_region(self)
-    }
-
-    #[inline(always)]
-    fn op_above(&self, region: Ptr<Region>) -> Option<Ptr<Operation>> {
-        region.get_parent_op(self)
     }
 }
 
