@@ -100,8 +100,8 @@ module _ {K A T : Type 0} where
 
 -- What holds of the context as a walk begins holds of it as the walk ends, if each call of the callback keeps it: this
 -- is told by the callback's own clauses, of the context before the call and after it.
-pub holds_over_walk : {F C S : Type 0} {look : C → Shape} {w : WalkConfig} {c c' : C} {s s' : S} {r : IRNode} {limit : ℕ}
-    {answer : Result (ControlFlow (Unit {0}) WalkContinue) CallLimit} {f : F}
+pub holds_over_walk : {F C S : Type 0} {look : C → Shape} {w : WalkConfig} {c c' : C} {s s' : S} {r : IRNode}
+    {limit : ℕ} {answer : Result (ControlFlow (Unit {0}) WalkContinue) CallLimit} {f : F}
     {g : Shared F (MutBor C × (MutBor S × (IRNode × Unit {0}))) (Unit {0} × (MutBor C × (MutBor S × Unit {0})))}
     → (holds : C → Type 0) → Walked look w (Advancing (CallsBack g f)) c s r limit answer c' s'
     → ((d d' : MutBor C) (t t' : MutBor S) (n : IRNode) → g.post f (d, (t, (n, tt))) (tt, (d', (t', tt))) →
