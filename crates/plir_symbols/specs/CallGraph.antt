@@ -15,7 +15,7 @@ use Rattle.plir_walk.specs.Tree.{IsUnder, NodeBefore}
 use Rattle.plir_builtin.specs.declared.symbol_table_err.SymbolTableErr.{SymbolTableErr}
 use Rattle.plir_builtin.specs.Maps.{ptr_code}
 use Rattle.plir_builtin.specs.Nearest.{IsNearest, IsFoundNearest}
-use Rattle.plir_builtin.specs.Refusals.{Refusal, Tells, TableRefused}
+use Rattle.plir_builtin.specs.Refusals.{Refusal, Reports, IsTableRefusal}
 use Rattle.plir_symbols.specs.declared.call_edges.CallEdge.{CallEdge}
 use Rattle.plir_symbols.specs.SymbolNames.{names_in}
 
@@ -80,8 +80,8 @@ module _ {K A T : Type 0} (own_symbol own_table : K → Bool) (s : ContextView K
 
   -- the nearest table of an operation is refused
   abbrev pub IsNearestRefused : Ptr OperationKind → SymbolTableErr → Type 0
-  IsNearestRefused p err = Tells (λ r. (t : Ptr OperationKind) × IsNearest own_table s p (Some t) ×
-      TableRefused own_symbol own_table s t r) err
+  IsNearestRefused p err = Reports (λ r. (t : Ptr OperationKind) × IsNearest own_table s p (Some t) ×
+      IsTableRefusal own_symbol own_table s t r) err
 
 module _ {K A T : Type 0} (own_symbol own_table : K → Bool) (names : OpView K A → List (List ℕ))
     (s : ContextView K A T) (root : Ptr OperationKind) where
@@ -94,5 +94,5 @@ module _ {K A T : Type 0} (own_symbol own_table : K → Bool) (names : OpView K 
 
   -- it is refused: some operation there uses a name, and its nearest table is refused
   abbrev pub IsGraphRefused : SymbolTableErr → Type 0
-  IsGraphRefused err = Tells (λ r. (p : Ptr OperationKind) × IsUser names s root p × ((t : Ptr OperationKind) ×
-      IsNearest own_table s p (Some t) × TableRefused own_symbol own_table s t r)) err
+  IsGraphRefused err = Reports (λ r. (p : Ptr OperationKind) × IsUser names s root p × ((t : Ptr OperationKind) ×
+      IsNearest own_table s p (Some t) × IsTableRefusal own_symbol own_table s t r)) err

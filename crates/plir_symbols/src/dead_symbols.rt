@@ -4,7 +4,7 @@ ghost use Rattle.plir_core.specs.declared.ptr.IRNode.{IRNode as AnyNode};
 ghost use Rattle.plir_core.specs.ContextView.{IsLive, parent_of};
 ghost use Rattle.plir_core.specs.Standing.{IsStanding};
 ghost use Rattle.plir_builtin.specs.Agree.{AllAgree, AreGivenOut};
-ghost use Rattle.plir_builtin.specs.Refusals.{TableRefused, Tells};
+ghost use Rattle.plir_builtin.specs.Refusals.{IsTableRefusal, Reports};
 ghost use Rattle.plir_builtin.specs.Symbols.{body, IsGood};
 ghost use Rattle.plir_symbols.specs.SymbolNames.{AreUsedNames, IsAmong};
 ghost use Rattle.plir_symbols.specs.DeadSymbols.{HasNoDead, MayGo};
@@ -166,7 +166,7 @@ pub fn eliminate_dead_symbols<D: SymbolNames>(
         AllAgree D.is_symbol D.is_symbol_table ctx.new tables.new }
     ensures given { AreGivenOut ctx.old tables.old → AreGivenOut ctx.new tables.new }
     ensures refused { AllAgree D.is_symbol D.is_symbol_table ctx.old tables.old →
-        IfErr result (Tells (TableRefused D.is_symbol D.is_symbol_table ctx.old table)) }
+        IfErr result (Reports (IsTableRefusal D.is_symbol D.is_symbol_table ctx.old table)) }
 {
     ctx.stands();
     erasures_thin(ctx);
