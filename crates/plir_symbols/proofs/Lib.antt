@@ -8,3 +8,5 @@ pub mod Going
 pub mod SweepLoop
 pub mod Scans
 pub mod Lent
+pub mod UsersWalked
+pub mod Edges

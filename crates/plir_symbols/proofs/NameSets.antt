@@ -1,6 +1,7 @@
 -- A hash set's keys beside the finite set that they are seen as, and names that are put into it.
-use Rattle.std.proofs.Common.{◌≡◌, ℕ, Bool, true, false, true≢false, cond, List, [], ◌∷◌, ◌⊎◌, inl, inr, refl, sym, subst, ◌∙◌}
-use Rattle.std.specs.Prelude.{nat_eq, ◌||◌}
+use Rattle.std.proofs.Common.{◌≡◌, ◌≤◌, ℕ, zero, suc, Bool, true, false, true≢false, cond, List, [], ◌∷◌, ◌⊎◌, Some, inl, inr, refl, sym, ap, subst, take, length, ◌∙◌}
+use Rattle.std.specs.Prelude.{nat_eq, ◌||◌, slice_get}
+use Rattle.std.proofs.lemmas.Option.{none-some, same_Some}
 use Rattle.std.specs.List.{list_any}
 use Rattle.std.specs.Ordering.{nat_cmp, eq_by_cmp, is_eq}
 use Rattle.std.specs.declared.cmp.Ordering.{Ordering}
@@ -82,3 +83,9 @@ with-has u (y ∷ ys) x h = elim (with-has (insert u y) ys x h) [
   ]
   | inr k ↦ inr (inr k)
 ]
+
+-- the name at a place is put in behind those before it
+pub with-next : (u : NameSet) (xs : List (List ℕ)) (i : ℕ) (x : List ℕ) → slice_get xs i ≡ Some x → with_names u (take (suc i) xs) ≡ insert (with_names u (take i xs)) x
+with-next u [] i x e = absurd (none-some x e)
+with-next u (y ∷ ys) zero x e = ap (insert u) (same_Some y x e)
+with-next u (y ∷ ys) (suc i) x e = with-next (insert u y) ys i x e

@@ -8,3 +8,5 @@ pub mod SymbolNames
 pub mod DeadSymbols
 pub mod SweptSymbols
 pub mod Sweeping
+pub mod CallGraph
+pub mod Calling

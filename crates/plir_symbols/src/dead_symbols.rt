@@ -108,6 +108,7 @@ fn sweep_table<D: SymbolNames>(
     ensures kept { IsTableKept D.is_symbol D.is_symbol_table ctx.old table.old ctx.new table.new }
     ensures body { body ctx.new table.old.op ≡ body ctx.old table.old.op }
     ensures stands { IsStanding ctx.new }
+    ensures live { IsLive ctx.new (AnyNode.Operation table.old.op) }
 {
     ctx.stands();
     erasures_thin(ctx);
@@ -153,6 +154,7 @@ pub fn eliminate_dead_symbols<D: SymbolNames>(
     table: Ptr<Operation>,
 ) -> Result<(), SymbolTableErr>
     requires live { IsLive ctx.old (AnyNode.Operation table) }
+    ensures live { IsLive ctx.new (AnyNode.Operation table) }
     ensures swept { AreSwept D.is_symbol D.is_private D.names_used ctx.old table ctx.new }
     ensures clean { OnOk result (HasNoDead D.is_symbol D.is_private D.names_used ctx.new table) }
     ensures good { AllAgree D.is_symbol D.is_symbol_table ctx.old tables.old →

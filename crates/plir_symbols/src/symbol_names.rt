@@ -1,5 +1,5 @@
 //! Which names operations use, and which symbols are private.
-ghost use Rattle.std.specs.Prelude.{◌≡◌, ℕ, Bool, List, IfOk, OnOk};
+ghost use Rattle.std.specs.Prelude.{◌≡◌, ◌<◌, ℕ, Bool, List, Some, IfOk, OnOk, length, slice_get};
 ghost use Rattle.plir_core.specs.declared.ptr.IRNode.{IRNode as AnyNode};
 ghost use Rattle.plir_core.specs.Contents.{OpView};
 ghost use Rattle.plir_core.specs.ContextView.{IsLive, op_at};
@@ -7,7 +7,7 @@ ghost use Rattle.plir_symbols.specs.SymbolNames.{with_names, names_in, is_privat
 
 use crate::names::UsedNames;
 use plir_core::{Context, IRNode, Operation, Ptr};
-use plir_data::{KindSet, Memory, OpSet, OwnKind};
+use plir_data::{Identifier, KindSet, Memory, OpSet, OwnKind};
 use plir_walk::WALKCONFIG_PREORDER_FORWARD;
 use plir_walk::interruptible::{WalkResult, walk_advance, walk_break};
 use plir_walk::operations::immutable::walk_ops;
@@ -23,14 +23,16 @@ pub trait SymbolNames: OpSet {
     // Whether a symbol is private, by what it holds.
     ghost is_private: { OpView Self.Kind Self.Attr → Bool };
 
-    /// Puts the names that an operation uses into a set.
-    fn record_names(
-        ctx: &Context<Self>,
-        op: Ptr<Operation>,
-        used: &mut UsedNames,
-    ) -> Result<(), Memory>
+    /// How many names an operation uses.
+    fn num_used_names(ctx: &Context<Self>, op: Ptr<Operation>) -> usize
         requires { IsLive ctx.now (AnyNode.Operation op) }
-        ensures { OnOk result (used.new ≡ with_names used.old (names_in names_used (op_at ctx.now op))) };
+        ensures { result ≡ length (names_in names_used (op_at ctx.now op)) };
+
+    /// The name at a place, from 0, among those that an operation uses.
+    fn used_name(ctx: &Context<Self>, op: Ptr<Operation>, place: usize) -> &Identifier
+        requires live { IsLive ctx.now (AnyNode.Operation op) }
+        requires below { place < length (names_in names_used (op_at ctx.now op)) }
+        ensures { slice_get (names_in names_used (op_at ctx.now op)) place ≡ Some result.now };
 
     /// Whether a symbol is private: nothing outside the table that it stands in uses its name, so that it may go where
     /// nothing in the table does.
@@ -48,14 +50,16 @@ pub trait SymbolNameKind<D: OpSet>: OwnKind {
     // Whether a symbol is private, by what it holds.
     ghost is_private: { OpView D.Kind D.Attr → Bool };
 
-    /// Puts the names that an operation uses into a set.
-    fn record_names(
-        ctx: &Context<D>,
-        op: Ptr<Operation>,
-        used: &mut UsedNames,
-    ) -> Result<(), Memory>
+    /// How many names an operation uses.
+    fn num_used_names(ctx: &Context<D>, op: Ptr<Operation>) -> usize
         requires { IsLive ctx.now (AnyNode.Operation op) }
-        ensures { OnOk result (used.new ≡ with_names used.old (names_in names_used (op_at ctx.now op))) };
+        ensures { result ≡ length (names_in names_used (op_at ctx.now op)) };
+
+    /// The name at a place, from 0, among those that an operation uses.
+    fn used_name(ctx: &Context<D>, op: Ptr<Operation>, place: usize) -> &Identifier
+        requires live { IsLive ctx.now (AnyNode.Operation op) }
+        requires below { place < length (names_in names_used (op_at ctx.now op)) }
+        ensures { slice_get (names_in names_used (op_at ctx.now op)) place ≡ Some result.now };
 
     /// Whether a symbol is private, as [`SymbolNames::is_private`] says.
     fn is_private(ctx: &Context<D>, op: Ptr<Operation>) -> bool
@@ -69,18 +73,34 @@ impl<K: OwnKind + SymbolNameKind<KindSet<K>>> SymbolNames for KindSet<K> {
     ghost is_private = { K.is_private };
 
     /// As the kinds say.
-    fn record_names(
-        ctx: &Context<Self>,
-        op: Ptr<Operation>,
-        used: &mut UsedNames,
-    ) -> Result<(), Memory> {
-        <K as SymbolNameKind<KindSet<K>>>::record_names(ctx, op, used)
+    fn num_used_names(ctx: &Context<Self>, op: Ptr<Operation>) -> usize {
+        <K as SymbolNameKind<KindSet<K>>>::num_used_names(ctx, op)
+    }
+
+    /// As the kinds say.
+    fn used_name(ctx: &Context<Self>, op: Ptr<Operation>, place: usize) -> &Identifier {
+        <K as SymbolNameKind<KindSet<K>>>::used_name(ctx, op, place)
     }
 
     /// As the kinds say.
     fn is_private(ctx: &Context<Self>, op: Ptr<Operation>) -> bool {
         <K as SymbolNameKind<KindSet<K>>>::is_private(ctx, op)
     }
+}
+
+// Puts the names that an operation uses into a set.
+fn record_names<D: SymbolNames>(
+    ctx: &Context<D>,
+    op: Ptr<Operation>,
+    used: &mut UsedNames,
+) -> Result<(), Memory>
+    requires { IsLive ctx.now (AnyNode.Operation op) }
+    ensures { OnOk result (used.new ≡ with_names used.old (names_in D.names_used (op_at ctx.now op))) }
+{
+    for place in 0..D::num_used_names(ctx, op) {
+        used.insert(D::used_name(ctx, op, place))?;
+    }
+    Ok(())
 }
 
 // Puts the names that an operation uses into a set, or breaks the walk off for want of memory.
@@ -92,7 +112,7 @@ fn record_at<D: SymbolNames>(
     requires { IsLive ctx.now (AnyNode.Operation op) }
     ensures { IsRecorded D.names_used ctx.now used.old op result used.new }
 {
-    match D::record_names(ctx, op, used) {
+    match record_names(ctx, op, used) {
         Ok(()) => walk_advance(),
         Err(refused) => walk_break(refused),
     }

@@ -1,16 +1,16 @@
 //! A toy op set: own kinds of operations, and nothing else.
-ghost use Rattle.std.specs.Prelude.{◌≡◌, OnOk, Some, option_map};
+ghost use Rattle.std.specs.Prelude.{◌≡◌, ◌<◌, Some, length, option_map, slice_get};
 ghost use Rattle.plir_data.specs.AttrSeen.{attr_view};
 ghost use Rattle.plir_data.specs.Dictionary.{dict_get};
 ghost use Rattle.plir_core.specs.ContextView.{IsLive, attributes_of, op_at};
 ghost use Rattle.plir_core.specs.declared.ptr.IRNode.{IRNode as AnyNode};
 ghost use Rattle.plir_builtin.specs.Symbols.{name_in};
-ghost use Rattle.plir_symbols.specs.SymbolNames.{is_private_in, names_in, with_names};
+ghost use Rattle.plir_symbols.specs.SymbolNames.{is_private_in, names_in};
 ghost use Rattle.plir_symbols_tests.specs.Kinds.{callee_key, callees, is_marked};
 
 use plir_core::{Context, Operation, Ptr};
-use plir_data::{AttrObj, Identifier, KindSet, Memory, NeverRefused, OpSet, OwnKind};
-use plir_symbols::{SymbolNameKind, UsedNames};
+use plir_data::{AttrObj, Identifier, KindSet, NeverRefused, OpSet, OwnKind};
+use plir_symbols::SymbolNameKind;
 
 /// The key that the name of a symbol stands under that an operation uses.
 pub const ATTR_KEY_CALLEE: &'static str = "toy_callee";
@@ -93,21 +93,26 @@ fn is_marked<D: OpSet>(ctx: &Context<D>, op: Ptr<Operation>) -> bool
     op.attributes(ctx).get(ATTR_KEY_PRIVATE).is_some()
 }
 
-// Puts the name that an operation uses into a set, if it uses one.
-fn record_callee<D: OpSet>(
-    ctx: &Context<D>,
-    op: Ptr<Operation>,
-    used: &mut UsedNames,
-) -> Result<(), Memory>
-    requires { IsLive ctx.now (AnyNode.Operation op) }
-    ensures { OnOk result (used.new ≡ with_names used.old (names_in callees (op_at ctx.now op))) }
+// The name that an operation uses, which uses one.
+fn sole_callee<D: OpSet>(ctx: &Context<D>, op: Ptr<Operation>, place: usize) -> &Identifier
+    requires live { IsLive ctx.now (AnyNode.Operation op) }
+    requires below { place < length (names_in callees (op_at ctx.now op)) }
+    ensures { slice_get (names_in callees (op_at ctx.now op)) place ≡ Some result.now }
 {
     match callee(ctx, op) {
-        Some(name) => {
-            used.insert(name)?;
-            Ok(())
-        }
-        None => Ok(()),
+        Some(name) => name,
+        None => unreachable!(),
+    }
+}
+
+// How many names an operation uses: one at most.
+fn num_callees<D: OpSet>(ctx: &Context<D>, op: Ptr<Operation>) -> usize
+    requires { IsLive ctx.now (AnyNode.Operation op) }
+    ensures { result ≡ length (names_in callees (op_at ctx.now op)) }
+{
+    match callee(ctx, op) {
+        Some(_) => 1,
+        None => 0,
     }
 }
 
@@ -116,12 +121,12 @@ impl SymbolNameKind<KindSet<ToyKind>> for ToyKind {
 
     ghost is_private = { is_marked };
 
-    fn record_names(
-        ctx: &Context<KindSet<ToyKind>>,
-        op: Ptr<Operation>,
-        used: &mut UsedNames,
-    ) -> Result<(), Memory> {
-        record_callee(ctx, op, used)
+    fn num_used_names(ctx: &Context<KindSet<ToyKind>>, op: Ptr<Operation>) -> usize {
+        num_callees(ctx, op)
+    }
+
+    fn used_name(ctx: &Context<KindSet<ToyKind>>, op: Ptr<Operation>, place: usize) -> &Identifier {
+        sole_callee(ctx, op, place)
     }
 
     fn is_private(ctx: &Context<KindSet<ToyKind>>, op: Ptr<Operation>) -> bool {

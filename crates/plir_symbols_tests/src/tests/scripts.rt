@@ -168,3 +168,89 @@ fn an_operation_that_is_no_table_is_refused(rt: HostRuntime) -> Result<(), Misma
         live o3 => yes";
     play_in(rt.alloc(), script)
 }
+
+#[test]
+fn edges_lead_to_what_the_nearest_table_has(rt: HostRuntime) -> Result<(), Mismatch> {
+    let script = "
+        op module 1 => o0
+        block => b0
+        back b0 r0
+        op func 1 => o1
+        set o1 builtin_sym_name builtin.identifier shared
+        back o1 b0
+        op module 1 => o2
+        set o2 builtin_sym_name builtin.identifier nested
+        back o2 b0
+        block => b1
+        back b1 r2
+        op func 1 => o3
+        set o3 builtin_sym_name builtin.identifier shared
+        back o3 b1
+        op call 0 => o4
+        set o4 toy_callee builtin.identifier shared
+        back o4 b1
+        op call 0 => o5
+        set o5 toy_callee builtin.identifier nested
+        back o5 b1
+        op call 0 => o6
+        set o6 toy_callee builtin.identifier shared
+        back o6 b0
+        op call 0 => o7
+        set o7 toy_callee builtin.identifier nested
+        front o7 b0
+        session edges o0 => o7 to o2 o4 to o3 o5 to - o6 to o1;
+        session edges o2; edges o4; edges o3 => o4 to o3 o5 to -; o4 to o3;;
+        session callees o0 o4; callees o0 o5; callers o0 o1; callers o0 o3; callers o2 o1 => o3;; o6; o4;;";
+    play_in(rt.alloc(), script)
+}
+
+#[test]
+fn an_operation_that_calls_itself_has_an_edge_to_itself(rt: HostRuntime) -> Result<(), Mismatch> {
+    let script = "
+        op module 1 => o0
+        set o0 toy_callee builtin.identifier first
+        block => b0
+        back b0 r0
+        op func 1 => o1
+        set o1 builtin_sym_name builtin.identifier first
+        set o1 toy_callee builtin.identifier first
+        back o1 b0
+        op func 1 => o2
+        set o2 builtin_sym_name builtin.identifier second
+        set o2 toy_callee builtin.identifier first
+        back o2 b0
+        session edges o0; callers o0 o1; callees o0 o1 => o0 to o1 o1 to o1 o2 to o1; o0 o1 o2; o1;
+        set o1 builtin_sym_name builtin.identifier third
+        session edges o0 => o0 to - o1 to - o2 to -;";
+    play_in(rt.alloc(), script)
+}
+
+#[test]
+fn an_edge_leads_nowhere_where_there_is_no_table(rt: HostRuntime) -> Result<(), Mismatch> {
+    let script = "
+        op call 0 => o0
+        set o0 toy_callee builtin.identifier any
+        op call 0 => o1
+        session edges o0; edges o1 => o0 to -;;";
+    play_in(rt.alloc(), script)
+}
+
+#[test]
+fn a_graph_is_refused_where_the_nearest_table_of_a_user_is(
+    rt: HostRuntime,
+) -> Result<(), Mismatch> {
+    let script = "
+        op module 1 => o0
+        block => b0
+        back b0 r0
+        op module 0 => o1
+        set o1 builtin_sym_name builtin.identifier empty
+        back o1 b0
+        op call 0 => o2
+        set o2 toy_callee builtin.identifier empty
+        back o2 b0
+        session edges o0 => o2 to o1;
+        set o1 toy_callee builtin.identifier empty
+        session edges o0; edges o2 => Expected 1 regions, found 0; o2 to o1;";
+    play_in(rt.alloc(), script)
+}

@@ -6,12 +6,12 @@ use plir_builtin::{SymbolTable, SymbolTableCollection, SymbolTableErr, symbol_na
 use plir_core::{Context, Operation, Ptr};
 use plir_data::{Identifier, OpSet};
 use plir_scripts::{Answer, Bench, Line, Made, Stop, split_word};
-use plir_symbols::{SymbolNames, eliminate_dead_symbols};
+use plir_symbols::{CallGraph, SymbolNames, call_graph, eliminate_dead_symbols};
 use std::alloc::Global;
 
-/// Makes the calls of `session CALL; CALL; ..` through one collection: `eliminate OP`, and `lookup OP NAME` in the
-/// table of an operation. Where a call is refused for want of memory, the table is compared with one that is made anew,
-/// and the call is made once more.
+/// Makes the calls of `session CALL; CALL; ..` through one collection: `eliminate OP`, `lookup OP NAME` in the table of
+/// an operation, `edges OP` of the call graph under an operation, and there `callees OP OP` and `callers OP OP`. Where a
+/// call is refused for want of memory, the table is compared with one that is made anew, and the call is made once more.
 pub fn session<D: SymbolNames>(bench: &mut Bench<D>, line: Line<'_>) -> Result<(), Stop> {
     let mut tables = SymbolTableCollection::new(bench.alloc);
     for words in line.text.split("; ") {
@@ -32,14 +32,59 @@ fn call<D: SymbolNames>(
     let (command, rest) = split_word(words);
     let (first, name) = split_word(rest);
     let table = bench.made.op(&bench.ctx, first)?;
-    if command == "lookup" {
-        return look_up(bench, tables, table, name);
+    match command {
+        "lookup" => look_up(bench, tables, table, name),
+        "eliminate" => eliminate(bench, tables, table),
+        _ => ask_graph(bench, tables, table, command, name),
     }
+}
+
+fn eliminate<D: SymbolNames>(
+    bench: &mut Bench<D>,
+    tables: &mut SymbolTableCollection,
+    table: Ptr<Operation>,
+) -> Result<(), Stop>
+    requires { IsLive bench.old.ctx (AnyNode.Operation table) }
+{
     match eliminate_dead_symbols(bench.alloc, &mut bench.ctx, tables, table) {
         Ok(()) => bench.answer.put(" done"),
         Err(refused) => put_refused(&mut bench.answer, refused)?,
     }
     Ok(())
+}
+
+// Makes the call graph under an operation, and writes what is asked of it.
+fn ask_graph<D: SymbolNames>(
+    bench: &mut Bench<D>,
+    tables: &mut SymbolTableCollection,
+    root: Ptr<Operation>,
+    command: &str,
+    word: &str,
+) -> Result<(), Stop>
+    requires { IsLive bench.old.ctx (AnyNode.Operation root) }
+{
+    let graph = match call_graph(bench.alloc, &bench.ctx, tables, root) {
+        Ok(graph) => graph,
+        Err(refused) => return put_refused(&mut bench.answer, refused),
+    };
+    let found = match command {
+        "edges" => return Ok(put_edges(bench, &graph)),
+        "callees" => graph.callees(bench.alloc, bench.made.op(&bench.ctx, word)?)?,
+        "callers" => graph.callers(bench.alloc, bench.made.op(&bench.ctx, word)?)?,
+        _ => return Err(Stop::Refused),
+    };
+    for op in &found {
+        bench.made.put_op(&mut bench.answer, Some(*op));
+    }
+    Ok(())
+}
+
+fn put_edges<D: OpSet>(bench: &mut Bench<D>, graph: &CallGraph) {
+    for edge in graph.edges() {
+        bench.made.put_op(&mut bench.answer, Some(edge.user));
+        bench.answer.put(" to");
+        bench.made.put_op(&mut bench.answer, edge.symbol);
+    }
 }
 
 fn look_up<D: OpSet>(

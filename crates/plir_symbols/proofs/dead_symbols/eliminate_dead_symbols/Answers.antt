@@ -1,4 +1,6 @@
 use Rattle.std.proofs.Common.{IsOk, OnErr, ◌≡◌, refl, sym, subst}
+use Rattle.plir_core.specs.declared.ptr.IRNode.TheVariants.{Operation}
+use Rattle.plir_core.specs.ContextView.{IsLive}
 use Rattle.plir_builtin.specs.Agree.{AllAgree, AreGivenOut}
 use Rattle.plir_builtin.specs.Symbols.{body}
 use Rattle.plir_symbols.specs.DeadSymbols.{HasNoDead}
@@ -99,3 +101,10 @@ returns-then-not-is_ready-clause-refused g c = λ all.
 pub returns-then-not-is_ready-clause-given : goal.returns-then-not-is_ready-clause-given
 returns-then-not-is_ready-clause-given g c = λ given.
     subst (AreGivenOut c.args.ctx.now) (sym (c.get_symbol_table.follows.holds c.in_ok-cached.cached.now (subst IsOk (sym c.in_ok-cached.was) refl))) (c.in_ok-cached.ensures.given given)
+
+pub returns-in_err-sweep_table-clause-live : goal.returns-in_err-sweep_table-clause-live
+returns-in_err-sweep_table-clause-live g c =
+    subst (λ q. IsLive c.sweep_table.new.ctx (Operation q)) (c.is_ready.ensures.0 c.if-not-is_ready.false).0 c.sweep_table.ensures.live
+
+pub returns-clause-live : goal.returns-clause-live
+returns-clause-live g c = subst (λ q. IsLive c.sweep_table.new.ctx (Operation q)) (c.is_ready.ensures.0 c.if-not-is_ready.false).0 c.sweep_table.ensures.live

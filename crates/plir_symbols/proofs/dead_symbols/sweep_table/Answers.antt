@@ -71,3 +71,11 @@ returns-then-not-erased-clause-clean g c =
     rounds-clean g.D.OpSet.is_symbol g.D.OpSet.is_symbol_table g.D.SymbolNames.is_private g.D.SymbolNames.names_used c.args.ctx.now c.args.table.now c.body_of-block.result c.rounds.ctx c.rounds.table c.rounds.invariant
     c.erasures_thin.ensures c.in_ok-used.used c.sweep_body-erased.result c.sweep_body-erased.new.ctx c.sweep_body-erased.new.table c.sweep_body-erased.ensures c.if-not-erased.true
     (subst (λ q. AreUsedNames g.D.SymbolNames.names_used c.rounds.ctx q c.in_ok-used.used) c.get_operation-op.ensures c.in_ok-used.ensures)
+
+pub returns-in_err-used-clause-live : goal.returns-in_err-used-clause-live
+returns-in_err-used-clause-live g c = c.rounds.invariant.live
+
+pub returns-then-not-erased-clause-live : goal.returns-then-not-erased-clause-live
+returns-then-not-erased-clause-live g c =
+    (rounds-more g.D.OpSet.is_symbol g.D.OpSet.is_symbol_table g.D.SymbolNames.is_private g.D.SymbolNames.names_used c.args.ctx.now c.args.table.now c.body_of-block.result c.rounds.ctx c.rounds.table c.rounds.invariant
+    c.erasures_thin.ensures c.in_ok-used.used c.sweep_body-erased.result c.sweep_body-erased.new.ctx c.sweep_body-erased.new.table c.sweep_body-erased.ensures).live
