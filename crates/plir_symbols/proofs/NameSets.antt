@@ -1,5 +1,5 @@
 -- A hash set's keys beside the finite set that they are seen as, and names that are put into it.
-use Rattle.std.proofs.Common.{◌≡◌, ◌≤◌, ℕ, zero, suc, Bool, true, false, true≢false, cond, List, [], ◌∷◌, ◌⊎◌, Some, inl, inr, refl, sym, ap, subst, take, length, ◌∙◌}
+use Rattle.std.proofs.Common.{◌≡◌, ℕ, zero, suc, Bool, true, false, true≢false, cond, List, [], ◌∷◌, ◌⊎◌, Some, inl, inr, refl, sym, ap, subst, take, ◌∙◌}
 use Rattle.std.specs.Prelude.{nat_eq, ◌||◌, slice_get}
 use Rattle.std.proofs.lemmas.Option.{none-some, same_Some}
 use Rattle.std.specs.List.{list_any}

@@ -1,6 +1,6 @@
 -- What a walk adds to a list of operations, where each call at an operation adds it, if it uses a name.
 use Rattle.std.proofs.Common.{◌≡◌, ◌≢◌, ◌<◌, ◌==◌, ℕ, zero, suc, Bool, true, false, true≢false, cond, List, [], ◌∷◌, ◌++◌, length, arith, inl, inr, refl, sym, ap, subst, ◌∙◌}
-use Rattle.std.proofs.lemmas.Bool.{ne_eqb, false≢true}
+use Rattle.std.proofs.lemmas.Bool.{ne_eqb}
 use Rattle.std.proofs.lemmas.List.{append_assoc, append-nil}
 use Rattle.std.specs.declared.ops.ControlFlow.{ControlFlow}
 use Rattle.std.specs.declared.ops.ControlFlow.TheVariants.{Continue, Break}
@@ -141,6 +141,11 @@ module _ {K A T : Type 0} (names : OpView K A → List (List ℕ)) (s : ContextV
           in_order = user-pairs _ nodes walked.walk.in_order.increasing;
         })
 
--- what is said of equal contexts
-pub put-again : {K A T B : Type 0} (names : OpView K A → List (List ℕ)) {c d : ContextView K A T} (ps ps' : List (Ptr OperationKind)) (p : Ptr OperationKind) (a : ControlFlow B WalkContinue) → c ≡ d → IsUserPut names c ps p a ps' → IsUserPut names d ps p a ps'
-put-again names ps ps' p a e h = subst (λ z. IsUserPut names z ps p a ps') e h
+-- what is said of equal contexts and lists
+pub put-again :
+    {K A T B : Type 0} (names : OpView K A → List (List ℕ)) {c d : ContextView K A T}
+    {ps qs ps' qs' : List (Ptr OperationKind)} (p : Ptr OperationKind) (a : ControlFlow B WalkContinue) → c ≡ d →
+    ps ≡ qs → ps' ≡ qs' → IsUserPut names c ps p a ps' → IsUserPut names d qs p a qs'
+put-again names {c} {d} {ps} {qs} {ps'} {qs'} p a context before after h =
+    subst (λ z. IsUserPut names d qs p a z) after
+    (subst (λ z. IsUserPut names d z p a ps') before (subst (λ z. IsUserPut names z ps p a ps') context h))

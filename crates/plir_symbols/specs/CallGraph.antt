@@ -15,7 +15,7 @@ use Rattle.plir_walk.specs.Tree.{IsUnder, NodeBefore}
 use Rattle.plir_builtin.specs.declared.symbol_table_err.SymbolTableErr.{SymbolTableErr}
 use Rattle.plir_builtin.specs.Maps.{ptr_code}
 use Rattle.plir_builtin.specs.Nearest.{IsNearest, IsFoundNearest}
-use Rattle.plir_builtin.specs.Refusals.{Refusal, Reports, IsTableRefusal}
+use Rattle.plir_builtin.specs.Refusals.{Reports, IsTableRefusal}
 use Rattle.plir_symbols.specs.declared.call_edges.CallEdge.{CallEdge}
 use Rattle.plir_symbols.specs.SymbolNames.{names_in}
 

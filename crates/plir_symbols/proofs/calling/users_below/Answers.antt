@@ -1,8 +1,18 @@
-use Rattle.std.proofs.Common.{refl, subst}
+use Rattle.std.proofs.Common.{List, ap}
+use Rattle.std.specs.Prelude.{Vec}
+use Rattle.std.specs.declared.alloc.Global.{Global}
+use Rattle.plir_core.specs.declared.ptr.Ptr.{Ptr}
+use Rattle.plir_core.specs.declared.ptr.Operation.{Operation as OperationKind}
 use Rattle.plir_symbols.proofs.UsersWalked.{walked-users, put-again}
 use Rattle.plir_symbols.proofs.calling.users_below.Goals as goal
+
+abbrev items : Vec (Ptr OperationKind) Global → List (Ptr OperationKind)
+items v = v.items
 
 pub returns-in-Continue : goal.returns-in-Continue
 returns-in-Continue g c =
     let names = g.D.SymbolNames.names_used in
-    walked-users names c.args.ctx.now (λ u. u.items) c.args.root _ _ _ _ c.in-Continue.is _ _ refl c.walk_ops.ensures
+    walked-users names c.args.ctx.now items c.args.root _
+    (λ d u p a d' u' h.
+    (h.stays, put-again names p a h.shows.0 (ap items h.shows.1) (ap items h.leaves) h.met.1))
+    _ _ c.in-Continue.is _ _ c.new-users.ensures.items c.walk_ops.ensures
