@@ -1,5 +1,6 @@
 -- A hash set's keys beside the finite set that they are seen as, and names that are put into it.
-use Rattle.std.proofs.Common.{◌≡◌, ℕ, zero, suc, Bool, true, false, true≢false, cond, List, [], ◌∷◌, ◌⊎◌, Some, inl, inr, refl, sym, ap, subst, take, ◌∙◌}
+use Rattle.std.proofs.Common.{◌≡◌, ℕ, zero, suc, Bool, true, false, true≢false, cond, List, [], ◌∷◌, ◌⊎◌, Some, inl}
+use Rattle.std.proofs.Common.{inr, refl, sym, ap, subst, take, ◌∙◌}
 use Rattle.std.specs.Prelude.{nat_eq, ◌||◌, slice_get}
 use Rattle.std.proofs.lemmas.Option.{none-some, same_Some}
 use Rattle.std.specs.List.{list_any}
@@ -85,7 +86,8 @@ with-has u (y ∷ ys) x h = elim (with-has (insert u y) ys x h) [
 ]
 
 -- the name at a place is put in behind those before it
-pub with-next : (u : NameSet) (xs : List (List ℕ)) (i : ℕ) (x : List ℕ) → slice_get xs i ≡ Some x → with_names u (take (suc i) xs) ≡ insert (with_names u (take i xs)) x
+pub with-next : (u : NameSet) (xs : List (List ℕ)) (i : ℕ) (x : List ℕ) → slice_get xs i ≡ Some x →
+    with_names u (take (suc i) xs) ≡ insert (with_names u (take i xs)) x
 with-next u [] i x e = absurd (none-some x e)
 with-next u (y ∷ ys) zero x e = ap (insert u) (same_Some y x e)
 with-next u (y ∷ ys) (suc i) x e = with-next (insert u y) ys i x e

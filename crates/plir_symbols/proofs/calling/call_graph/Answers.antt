@@ -9,8 +9,10 @@ pub put_edges-requires : goal.put_edges-requires
 put_edges-requires g c =
     let names = g.D.SymbolNames.names_used in
     let xs = c.deref-user-items.result.now in
-    let users = subst (AreUsers names c.args.ctx.now c.args.root) (sym c.deref-user-items.ensures.value) c.in_ok-users.ensures in
-    user-live names c.args.ctx.now c.args.root xs users c.loop-user.user-index _ (omega arith) c.stands.ensures.standing.forest c.requires
+    let users = subst (AreUsers names c.args.ctx.now c.args.root) (sym c.deref-user-items.ensures.value)
+    c.in_ok-users.ensures in
+    user-live names c.args.ctx.now c.args.root xs users c.loop-user.user-index _ (omega arith)
+    c.stands.ensures.standing.forest c.requires
 
 pub returns-in_err-put_edges-clause-agree : goal.returns-in_err-put_edges-clause-agree
 returns-in_err-put_edges-clause-agree g c = λ a. c.put_edges.ensures.agree (c.loop-user.invariant.0 a)
@@ -22,9 +24,12 @@ pub returns-in_err-put_edges-clause-refused : goal.returns-in_err-put_edges-clau
 returns-in_err-put_edges-clause-refused g c =
     let names = g.D.SymbolNames.names_used in
     let xs = c.deref-user-items.result.now in
-    let users = subst (AreUsers names c.args.ctx.now c.args.root) (sym c.deref-user-items.ensures.value) c.in_ok-users.ensures in
+    let users = subst (AreUsers names c.args.ctx.now c.args.root) (sym c.deref-user-items.ensures.value)
+    c.in_ok-users.ensures in
     let p = err_from_is_err_and c.from_residual-in_err-put_edges.result c.from_residual-in_err-put_edges.ensures.1 in
-    rw (p.1, p.2) (graph-refused g.D.OpSet.is_symbol g.D.OpSet.is_symbol_table c.args.ctx.now names c.args.root _ c.in_err-put_edges.field-0.0 (is-user names c.args.ctx.now c.args.root xs users c.loop-user.user-index _ (omega arith)) c.in_err-put_edges.ensures.refused)
+    rw (p.1, p.2) (graph-refused g.D.OpSet.is_symbol g.D.OpSet.is_symbol_table c.args.ctx.now names c.args.root _
+    c.in_err-put_edges.field-0.0 (is-user names c.args.ctx.now c.args.root xs users c.loop-user.user-index _
+    (omega arith)) c.in_err-put_edges.ensures.refused)
 
 pub loop-user-preserved : goal.loop-user-preserved
 loop-user-preserved g c =
@@ -37,8 +42,10 @@ loop-user-preserved g c =
     let new = c.put_edges.new.edges.items in (
       λ a. c.put_edges.ensures.agree (c.loop-user.invariant.0 a),
       λ d. c.put_edges.ensures.given (c.loop-user.invariant.1 d),
-      λ a. subst (λ k. AreEdges g.D.OpSet.is_symbol g.D.OpSet.is_symbol_table s (uses_of names s (take k xs)) new) (sym next)
-          (users-next g.D.OpSet.is_symbol g.D.OpSet.is_symbol_table s names xs i _ old new (omega arith) (c.loop-user.invariant.2 a)
+      λ a. subst (λ k. AreEdges g.D.OpSet.is_symbol g.D.OpSet.is_symbol_table s (uses_of names s (take k xs)) new)
+          (sym next)
+          (users-next g.D.OpSet.is_symbol g.D.OpSet.is_symbol_table s names xs i _ old new (omega arith)
+          (c.loop-user.invariant.2 a)
           (c.in_ok-put_edges.ensures.put (c.loop-user.invariant.0 a))),
     )
 
@@ -51,5 +58,6 @@ returns-clause-graph g c = λ a.
     subst (IsCallGraph g.D.OpSet.is_symbol g.D.OpSet.is_symbol_table names s c.args.root) (sym c.new.ensures) (record {
       users = c.in_ok-users.users.items;
       are_users = c.in_ok-users.ensures;
-      are_edges = subst (λ ps. AreEdges g.D.OpSet.is_symbol g.D.OpSet.is_symbol_table s (uses_of names s ps) c.loop-user.edges.items) all (c.loop-user.invariant.2 a);
+      are_edges = subst (λ ps. AreEdges g.D.OpSet.is_symbol g.D.OpSet.is_symbol_table s (uses_of names s ps)
+          c.loop-user.edges.items) all (c.loop-user.invariant.2 a);
     })

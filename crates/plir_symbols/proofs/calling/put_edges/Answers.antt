@@ -23,7 +23,11 @@ loop-place-preserved g c =
     let next : i + 1 ≡ suc i = omega arith in (
       λ a. c.edge_of.ensures.agree (c.loop-place.invariant.0 a),
       λ d. c.edge_of.ensures.given (c.loop-place.invariant.1 d),
-      λ a. subst (λ es. ArePutUpTo g.D.OpSet.is_symbol g.D.OpSet.is_symbol_table s names (i + 1) c.args.user old es) (sym c.in_ok-put_edge.ensures)
-          (subst (λ k. ArePutUpTo g.D.OpSet.is_symbol g.D.OpSet.is_symbol_table s names k c.args.user old (c.loop-place.edges.items ++ c.in_ok-edge.edge ∷ [])) (sym next)
-          (put-next g.D.OpSet.is_symbol g.D.OpSet.is_symbol_table s names i c.args.user c.used_name.result.now old c.loop-place.edges.items c.in_ok-edge.edge c.used_name.ensures (c.loop-place.invariant.2 a) (c.in_ok-edge.ensures.edge (c.loop-place.invariant.0 a)))),
+      λ a. subst (λ es. ArePutUpTo g.D.OpSet.is_symbol g.D.OpSet.is_symbol_table s names (i + 1) c.args.user old es)
+          (sym c.in_ok-put_edge.ensures)
+          (subst (λ k. ArePutUpTo g.D.OpSet.is_symbol g.D.OpSet.is_symbol_table s names k c.args.user old
+          (c.loop-place.edges.items ++ c.in_ok-edge.edge ∷ [])) (sym next)
+          (put-next g.D.OpSet.is_symbol g.D.OpSet.is_symbol_table s names i c.args.user c.used_name.result.now old
+          c.loop-place.edges.items c.in_ok-edge.edge c.used_name.ensures (c.loop-place.invariant.2 a)
+          (c.in_ok-edge.ensures.edge (c.loop-place.invariant.0 a)))),
     )

@@ -4,7 +4,9 @@ use Rattle.plir_symbols.proofs.calling.put_edges.Given as goal
 
 abbrev pub invariant-loop-place : goal.invariant-loop-place
 invariant-loop-place g l =
-    (AllAgree g.D.OpSet.is_symbol g.D.OpSet.is_symbol_table l.ctx l.fn.tables → AllAgree g.D.OpSet.is_symbol g.D.OpSet.is_symbol_table l.ctx l.tables)
+    (AllAgree g.D.OpSet.is_symbol g.D.OpSet.is_symbol_table l.ctx l.fn.tables →
+    AllAgree g.D.OpSet.is_symbol g.D.OpSet.is_symbol_table l.ctx l.tables)
     × (AreGivenOut l.ctx l.fn.tables → AreGivenOut l.ctx l.tables)
     × (AllAgree g.D.OpSet.is_symbol g.D.OpSet.is_symbol_table l.ctx l.fn.tables →
-    ArePutUpTo g.D.OpSet.is_symbol g.D.OpSet.is_symbol_table l.ctx g.D.SymbolNames.names_used l.place l.user l.fn.edges.items l.edges.items)
+    ArePutUpTo g.D.OpSet.is_symbol g.D.OpSet.is_symbol_table l.ctx g.D.SymbolNames.names_used l.place l.user
+    l.fn.edges.items l.edges.items)
