@@ -18,7 +18,7 @@ use Rattle.plir_store.specs.Members.{Has}
 use Rattle.plir_walk.specs.TreeLaws.{under-live}
 use Rattle.plir_builtin.specs.declared.symbol_table_err.SymbolTableErr.{SymbolTableErr}
 use Rattle.plir_builtin.specs.Nearest.{IsNearest, IsNearestRefusal}
-use Rattle.plir_builtin.specs.Refusals.{Refusal, IsTableRefusal, told}
+use Rattle.plir_builtin.specs.Refusals.{Refusal, IsTableRefusal, reported}
 use Rattle.plir_builtin.specs.Table.{Tables}
 use Rattle.plir_symbols.specs.declared.call_edges.CallEdge.{CallEdge}
 use Rattle.plir_symbols.specs.SymbolNames.{names_in}
@@ -108,7 +108,7 @@ module _ {K A T : Type 0} (own own_table : K → Bool) (s : ContextView K A T) w
   -- a refusal of the nearest table, of which none is cached
   pub nearest-refused : (c : Tables) (p : Ptr OperationKind) (err : SymbolTableErr) →
       IsNearestRefusal own own_table s c p err → IsNearestRefused own own_table s p err
-  nearest-refused c p err h = at (told err) h.3
+  nearest-refused c p err h = at (reported err) h.3
     where
       at : (o : Option Refusal) → IfSome o (IsTableRefusal own own_table s h.0) →
           IfSome o (λ r. (t : Ptr OperationKind) × IsNearest own_table s p (Some t) ×
@@ -118,7 +118,7 @@ module _ {K A T : Type 0} (own own_table : K → Bool) (s : ContextView K A T) w
 
   pub graph-refused : (names : OpView K A → List (List ℕ)) (root p : Ptr OperationKind) (err : SymbolTableErr) →
       IsUser names s root p → IsNearestRefused own own_table s p err → IsGraphRefused own own_table names s root err
-  graph-refused names root p err user h = at (told err) h
+  graph-refused names root p err user h = at (reported err) h
     where
       at : (o : Option Refusal) → IfSome o (λ r. (t : Ptr OperationKind) × IsNearest own_table s p (Some t) ×
           IsTableRefusal own own_table s t r)
