@@ -4,8 +4,8 @@ use Rattle.plir_symbols_tests.specs.Kinds.{callees}
 use Rattle.plir_symbols_tests.proofs.Held.{named-in, none-in, none-at, sole-at}
 use Rattle.plir_symbols_tests.proofs.toy.sole_callee.Goals as goal
 
-pub returns-in-Some : goal.returns-in-Some
-returns-in-Some g c =
+pub returns : goal.returns
+returns g c =
     let o = op_at c.args.ctx.now c.args.op in
     sole-at (names_in callees o) c.in-Some.name.now c.args.place (named-in o c.in-Some.name.now c.in-Some.ensures) c.requires.below
 
