@@ -7,7 +7,8 @@ use Rattle.plir_symbols_tests.proofs.toy.sole_callee.Goals as goal
 pub returns : goal.returns
 returns g c =
     let o = op_at c.args.ctx.now c.args.op in
-    sole-at (names_in callees o) c.in-Some.name.now c.args.place (named-in o c.in-Some.name.now c.in-Some.ensures) c.requires.below
+    sole-at (names_in callees o) c.in-Some.name.now c.args.place
+    (named-in o c.in-Some.name.now c.in-Some.ensures) c.requires.below
 
 pub unreachable-requires : goal.unreachable-requires
 unreachable-requires g c =
