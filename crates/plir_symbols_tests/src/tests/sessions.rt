@@ -10,8 +10,9 @@ use plir_symbols::{CallGraph, SymbolNames, call_graph, eliminate_dead_symbols};
 use std::alloc::Global;
 
 /// Makes the calls of `session CALL; CALL; ..` through one collection: `eliminate OP`, `lookup OP NAME` in the table of
-/// an operation, `edges OP` of the call graph under an operation, and there `callees OP OP` and `callers OP OP`. Where a
-/// call is refused for want of memory, the table is compared with one that is made anew, and the call is made once more.
+/// an operation, `edges OP` of the call graph under an operation, and there `callees OP OP` and `callers OP OP`. Where
+/// a call is refused for want of memory, the table is compared with one that is made anew, and the call is made once
+/// more.
 pub fn session<D: SymbolNames>(bench: &mut Bench<D>, line: Line<'_>) -> Result<(), Stop> {
     let mut tables = SymbolTableCollection::new(bench.alloc);
     for words in line.text.split("; ") {
