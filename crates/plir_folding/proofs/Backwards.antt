@@ -1,11 +1,10 @@
 -- What a value is worth after operands were folded it was worth before.
-use Rattle.std.proofs.Common.{◌≡◌, ◌&&◌, nat_lt, ℕ, zero, suc, ◌+◌, Bool, true, false, List, [], ◌∷◌, length, Option, Some, None, ◌⊎◌, inl, inr}
+use Rattle.std.proofs.Common.{◌≡◌, ℕ, zero, suc, ◌+◌, List, [], ◌∷◌, Option, Some, None, inl, inr}
 use Rattle.std.proofs.Common.{refl, sym, ap, subst, ◌∙◌, slice_get, arith}
 use Rattle.std.proofs.lemmas.Option.{none-some, same_Some}
 use Rattle.plir_store.specs.Members.{Has}
 use Rattle.plir_core.specs.declared.ptr.Ptr.{Ptr}
 use Rattle.plir_core.specs.declared.ptr.Operation.{Operation as OperationKind}
-use Rattle.plir_core.specs.declared.ptr.IRNode.{IRNode}
 use Rattle.plir_core.specs.declared.ptr.IRNode.TheVariants.{Operation}
 use Rattle.plir_core.specs.declared.value.Value.{Value}
 use Rattle.plir_core.specs.declared.value.DefiningEntity.{DefiningEntity}
@@ -14,10 +13,10 @@ use Rattle.plir_core.specs.Contents.{OpView}
 use Rattle.plir_core.specs.ContextView.{ContextView, IsLive, op_at, operands_in, operands_of, results_in, entity_node, IsValueLive, types_from, type_of_value}
 use Rattle.plir_core.specs.ContextView.{arguments_in}
 use Rattle.plir_core.specs.WellFormed.{IsWellFormed}
-use Rattle.plir_folding.specs.Worth.{Integer, maker_of, first_of, of_type, constant_by, constant_in, folded_by, folded_in, held_at, constant_of, worth, Evaluates}
-use Rattle.plir_folding.specs.Folded.{ArePaired, but_operands, constant_view, result_of, IsReplaced, IsSameOrReplaced, IsFolded}
+use Rattle.plir_folding.specs.Worth.{Integer, maker_of, first_of, of_type, constant_in, folded_by, folded_in, held_at, constant_of, worth, Evaluates}
+use Rattle.plir_folding.specs.Folded.{ArePaired, but_operands, constant_view, result_of, IsSameOrReplaced, IsFolded}
 use Rattle.plir_folding.proofs.Nodes.{and-left, all-has}
-use Rattle.plir_folding.proofs.Worths.{maker-entity, first-none, first-is, IsFoldOf, fold-apart, fold-joined, deeper, constant-worth}
+use Rattle.plir_folding.proofs.Worths.{maker-entity, first-none, first-is, fold-apart, fold-joined, deeper, constant-worth}
 
 -- what is paired with two values is two values
 paired-two : (R : Value → Value → Type 0) (vs : List Value) (x y : Value) → ArePaired R vs (x ∷ y ∷ [])

@@ -1,5 +1,5 @@
 -- Changes below a node, one after another.
-use Rattle.std.proofs.Common.{◌≡◌, ◌<◌, ◌≤◌, ℕ, zero, suc, arith, Bool, true, false, List, [], ◌∷◌, ◌++◌, length, Option, Some, None, ◌⊎◌, inl, inr}
+use Rattle.std.proofs.Common.{◌≡◌, ◌<◌, ◌≤◌, ◌+◌, ℕ, zero, suc, arith, Bool, true, false, List, [], ◌∷◌, ◌++◌, length, Option, Some, ◌⊎◌, inl, inr}
 use Rattle.std.proofs.Common.{refl, sym, ap, subst, ◌∙◌, append_assoc, slice_get}
 use Rattle.std.proofs.lemmas.Option.{none-some}
 use Rattle.plir_core.specs.declared.ptr.Ptr.{Ptr}
@@ -9,12 +9,11 @@ use Rattle.plir_core.specs.declared.ptr.IRNode.{IRNode}
 use Rattle.plir_core.specs.declared.ptr.IRNode.TheVariants.{Operation, BasicBlock}
 use Rattle.plir_core.specs.declared.value.Value.{Value}
 use Rattle.plir_core.specs.Changes.{SameLive}
-use Rattle.plir_core.specs.Forest.{look, IsForest}
 use Rattle.plir_core.specs.WellFormed.{IsWellFormed}
-use Rattle.plir_core.specs.ContextView.{ContextView, IsLive, children, parent_of, given_out, operands_of}
+use Rattle.plir_core.specs.ContextView.{ContextView, IsLive, parent_of, given_out, operands_of}
 use Rattle.plir_walk.specs.LawfulChanges.{LawfulChanges}
 use Rattle.plir_folding.specs.Worth.{Integer, IsUnfolded, IsSettled}
-use Rattle.plir_folding.specs.Folded.{ArePaired, IsFolded, Tells}
+use Rattle.plir_folding.specs.Folded.{ArePaired, Tells}
 use Rattle.plir_folding.specs.Folding.{IsFilledBefore, IsFoldedBelow, IsToldBy}
 use Rattle.plir_folding.proofs.Folds.{folded-none, folded-refused, folded-then, tells-then, tells-none}
 
@@ -31,7 +30,7 @@ within [] i x e = absurd (none-some x e)
 within (y ∷ xs) zero x e = omega arith
 within (y ∷ xs) (suc i) x e = (let h = within xs i x e in omega (arith, h))
 
-at-or-before : (j i : ℕ) → j < suc i → (j ≡ i) ⊎ (j < i)
+at-or-before : (j i : ℕ) → j < i + 1 → (j ≡ i) ⊎ (j < i)
 at-or-before j i h = elim (nat-cases j i) [ inl e ↦ inl e | inr (inl l) ↦ inr l | inr (inr g) ↦ absurd (omega (arith, h, g)) ]
   where
     nat-cases : (a b : ℕ) → (a ≡ b) ⊎ ((a < b) ⊎ (b < a))
@@ -94,7 +93,7 @@ module _ {K A T : Type 0} (fold : K → Integer → Integer → Option Integer) 
       pub folding-filled : IsFilledBefore s t b op
       folding-filled = filled-then s s' t b op r.filled g
 
-      pub folding-more : IsToldBy s' changed changed' t (λ c. IsUnfolded fold c op i) → IsFoldingOp fold own s t b op before changed' (suc i)
+      pub folding-more : IsToldBy s' changed changed' t (λ c. IsUnfolded fold c op i) → IsFoldingOp fold own s t b op before changed' (i + 1)
       folding-more told = record {
         below = folding-below;
         tells = tells-then fold own s s' t w r.below.whole r.below.folded f.folded before changed changed' r.tells told.tells;

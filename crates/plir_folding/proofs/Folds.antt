@@ -1,11 +1,10 @@
 -- Operands are folded one after another.
-use Rattle.std.proofs.Common.{◌≡◌, ℕ, zero, suc, Bool, true, false, List, [], ◌∷◌, Option, Some, None, ◌⊎◌, inl, inr, refl, sym, ap, subst, ◌∙◌}
+use Rattle.std.proofs.Common.{◌≡◌, ℕ, Bool, List, [], ◌∷◌, Option, Some, None, inl, inr, refl, sym, ap, subst, ◌∙◌}
 use Rattle.std.specs.List.{filter}
 use Rattle.std.proofs.lemmas.Option.{none-some, same_Some}
 use Rattle.plir_store.specs.Members.{Has}
 use Rattle.plir_core.specs.declared.ptr.Ptr.{Ptr}
 use Rattle.plir_core.specs.declared.ptr.Operation.{Operation as OperationKind}
-use Rattle.plir_core.specs.declared.ptr.IRNode.{IRNode}
 use Rattle.plir_core.specs.declared.ptr.IRNode.TheVariants.{Operation, BasicBlock}
 use Rattle.plir_core.specs.declared.value.Value.{Value}
 use Rattle.plir_core.specs.Contents.{OpView}
@@ -14,7 +13,7 @@ use Rattle.plir_core.specs.Forest.{look, IsForest}
 use Rattle.plir_core.specs.WellFormed.{IsWellFormed}
 use Rattle.plir_core.specs.ContextView.{ContextView, IsLive, is_live, children, op_at, operands_in, operands_of, entity_node, type_of_value}
 use Rattle.plir_folding.specs.Worth.{Integer, constant_of, worth}
-use Rattle.plir_folding.specs.Folded.{ArePaired, but_operands, constant_view, IsNewConstantOf, IsReplaced, IsSameOrReplaced, IsFolded, Tells}
+use Rattle.plir_folding.specs.Folded.{ArePaired, but_operands, constant_view, IsNewConstantOf, IsSameOrReplaced, IsFolded, Tells}
 use Rattle.plir_folding.proofs.Filters.{truth, not-both, filter-all, filter-twice}
 use Rattle.plir_folding.proofs.Nodes.{never-true}
 use Rattle.plir_folding.proofs.Worths.{constant-worth}

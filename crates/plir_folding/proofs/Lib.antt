@@ -8,4 +8,3 @@ pub mod Below
 pub mod Block
 pub mod Walking
 pub mod Room
-pub mod OwnKinds

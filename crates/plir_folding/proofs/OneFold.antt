@@ -1,5 +1,5 @@
 -- One operand is folded: a constant is made, put before the operand's user, and takes the operand's place.
-use Rattle.std.proofs.Common.{◌≡◌, ◌≢◌, ℕ, zero, suc, Bool, true, false, List, [], ◌∷◌, ◌++◌, Option, Some, None, ◌⊎◌, inl, inr}
+use Rattle.std.proofs.Common.{◌≡◌, ℕ, zero, suc, false, List, [], ◌∷◌, ◌++◌, Option, Some, None, inl, inr}
 use Rattle.std.proofs.Common.{refl, sym, ap, subst, ◌∙◌, slice_get, option_map}
 use Rattle.std.specs.Prelude.{slice_set}
 use Rattle.std.specs.List.{filter}
@@ -23,7 +23,6 @@ use Rattle.plir_core.specs.Made.{IsMade}
 use Rattle.plir_core.specs.Nodes.{Nodes, is_node_live}
 use Rattle.plir_core.specs.Placed.{MovesOnly, IsPlaced, IsPlacedBefore}
 use Rattle.plir_core.specs.Forest.{look, IsForest}
-use Rattle.plir_core.specs.WellFormed.{IsWellFormed}
 use Rattle.plir_core.specs.ContextView.{ContextView, IsLive, is_live, children, parent_of, op_at, block_at, operands_in, operands_of, results_in}
 use Rattle.plir_core.specs.ContextView.{types_from, type_of_value}
 use Rattle.plir_builtin.specs.BuiltinOps.{IsNewConstant}

@@ -1,15 +1,14 @@
 -- How many slots of operations hold none: each new constant takes one.
-use Rattle.std.proofs.Common.{◌≡◌, ◌<◌, ◌≤◌, ◌+◌, ◌^◌, ◌==◌, ℕ, zero, suc, min, arith, Bool, true, false, Option, Some, None, ◌⊎◌, inl, inr, refl, sym, ap, subst, ◌∙◌}
+use Rattle.std.proofs.Common.{◌≡◌, ◌<◌, ◌≤◌, ◌+◌, ◌^◌, ◌==◌, ℕ, zero, suc, arith, Bool, true, false, Option, Some, None, inl, inr, refl, sym, ap, subst, ◌∙◌}
 use Rattle.std.specs.Prelude.{◌&&◌, is_some, ◌-◌}
 use Rattle.std.proofs.lemmas.Bool.Decides.{eqb_tells}
-use Rattle.std.proofs.lemmas.Option.{none-some}
 use Rattle.plir_store.specs.Table.{Table, content_at, version_at, is_live_at}
 use Rattle.plir_core.specs.declared.ptr.Ptr.{Ptr}
 use Rattle.plir_core.specs.declared.ptr.Operation.{Operation as OperationKind}
 use Rattle.plir_core.specs.declared.ptr.IRNode.TheVariants.{Operation}
 use Rattle.plir_core.specs.Contents.{OpView}
-use Rattle.plir_core.specs.Nodes.{ptr_at, index_of}
-use Rattle.plir_core.specs.ContextView.{ContextView, IsLive, is_live, op_at, IsIndexed, given_out}
+use Rattle.plir_core.specs.Nodes.{ptr_at}
+use Rattle.plir_core.specs.ContextView.{ContextView, is_live, IsIndexed, given_out}
 use Rattle.plir_folding.specs.Worth.{Integer}
 use Rattle.plir_folding.specs.Folded.{IsFolded, IsNewConstantOf}
 use Rattle.plir_folding.proofs.Filters.{not-both}

@@ -12,7 +12,7 @@ use Rattle.plir_core.specs.declared.ptr.BasicBlock.{BasicBlock as BasicBlockKind
 use Rattle.plir_core.specs.declared.ptr.IRNode.{IRNode}
 use Rattle.plir_core.specs.declared.ptr.IRNode.TheVariants.{Operation, Region, BasicBlock}
 use Rattle.plir_core.specs.Above.{climb}
-use Rattle.plir_core.specs.Forest.{look, IsForest, IsBelow}
+use Rattle.plir_core.specs.Forest.{look, IsForest}
 use Rattle.plir_core.specs.Nodes.{region_node, block_node}
 use Rattle.plir_core.specs.WellFormed.{IsWellFormed}
 use Rattle.plir_core.specs.ContextView.{ContextView, is_live, children, parent_of}

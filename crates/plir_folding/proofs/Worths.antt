@@ -1,5 +1,5 @@
 -- What values are worth, as one sees who looks deeper, or after a change.
-use Rattle.std.proofs.Common.{◌≡◌, ◌==◌, ℕ, zero, suc, ◌+◌, Bool, true, false, cond, List, [], ◌∷◌, Option, Some, None, inl, inr}
+use Rattle.std.proofs.Common.{◌≡◌, ℕ, zero, suc, ◌+◌, List, [], ◌∷◌, Option, Some, None, inl, inr}
 use Rattle.std.proofs.Common.{refl, sym, ap, subst, ◌∙◌, arith}
 use Rattle.std.proofs.lemmas.Bool.Decides.{eqb_tells}
 use Rattle.std.proofs.lemmas.Option.{none-some, same_Some}
@@ -12,9 +12,9 @@ use Rattle.plir_core.specs.declared.value.Value.{Value}
 use Rattle.plir_core.specs.declared.value.DefiningEntity.{DefiningEntity}
 use Rattle.plir_core.specs.declared.value.DefiningEntity.TheVariants.{Op, Block}
 use Rattle.plir_core.specs.Contents.{OpView}
-use Rattle.plir_core.specs.ContextView.{ContextView, op_at}
-use Rattle.plir_folding.specs.Worth.{Integer, maker_in, of_both, of_two, of_type, first_of, constant_by, constant_in}
-use Rattle.plir_folding.specs.Worth.{folded_by, folded_in, held_at, made_by, constant_of, folded, worth, Evaluates}
+use Rattle.plir_core.specs.ContextView.{ContextView}
+use Rattle.plir_folding.specs.Worth.{Integer, maker_in, of_both, of_type, first_of, constant_by, constant_in}
+use Rattle.plir_folding.specs.Worth.{folded_by, folded_in, made_by, constant_of, folded, worth}
 
 -- a value that is the first result of an operation comes from it
 pub maker-entity : (e : DefiningEntity) (i : ℕ) (p : Ptr OperationKind) → maker_in e i ≡ Some p → (e ≡ Op p) × (i ≡ 0)

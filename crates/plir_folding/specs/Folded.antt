@@ -1,7 +1,6 @@
 -- What is left where operands have become constants.
-use Rattle.std.specs.Prelude.{◌≡◌, ℕ, Bool, true, false, List, [], ◌∷◌, ◌++◌, Option, Some, None, Result, Ok, Err, ◌⊎◌}
+use Rattle.std.specs.Prelude.{◌≡◌, Bool, true, false, List, [], ◌∷◌, Option, Some, None, ◌⊎◌}
 use Rattle.std.specs.List.{filter}
-use Rattle.plir_store.specs.Members.{Has}
 use Rattle.plir_data.specs.Dictionary.{dict_put}
 use Rattle.plir_data.specs.Keys.{value_key}
 use Rattle.plir_data.specs.declared.op_set.OpKind.TheVariants.{Constant}

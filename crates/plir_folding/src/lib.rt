@@ -4,7 +4,6 @@
 mod fold_set;
 mod folding;
 mod reading;
-pub mod scratch;
 
 pub use fold_set::{FoldKind, FoldSet};
 pub use folding::fold_constants;

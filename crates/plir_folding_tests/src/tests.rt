@@ -80,7 +80,7 @@ fn a_chain_of_sums_becomes_constants(rt: HostRuntime) -> Result<(), Mismatch> {
     let script = "
         type builtin.integer i8 => t0
         op func 1 => o0
-        block t0 => b0
+        block - t0 => b0
         back b0 r0
         op constant 0 t0 => o1
         set o1 builtin_constant_value builtin.integer <100: i8>

@@ -1,5 +1,5 @@
-use Rattle.std.proofs.Common.{◌≡◌, Some, None, [], ◌∷◌, refl, sym, ap, subst, ◌∙◌, arith, inr, length, ◌<◌}
-use Rattle.std.specs.Prelude.{All, IsSome}
+use Rattle.std.proofs.Common.{◌≡◌, None, [], refl, sym, ap, subst, ◌∙◌, arith, inr, length, ◌<◌}
+use Rattle.std.specs.Prelude.{IsSome}
 use Rattle.std.proofs.lemmas.List.Elements.{All-cons, All-nil}
 use Rattle.std.proofs.lemmas.Option.{same_Some}
 use Rattle.plir_data.specs.Types.{IsLive as IsTypeLive}
