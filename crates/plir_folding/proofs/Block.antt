@@ -14,7 +14,7 @@ use Rattle.plir_core.specs.WellFormed.{IsWellFormed}
 use Rattle.plir_core.specs.ContextView.{ContextView, IsLive, children, parent_of}
 use Rattle.plir_walk.specs.LawfulChanges.{LawfulChanges}
 use Rattle.plir_folding.specs.Worth.{Integer, IsSettled}
-use Rattle.plir_folding.specs.Folded.{Tells}
+use Rattle.plir_folding.specs.Folded.{Reports}
 use Rattle.plir_folding.specs.Folding.{left_from, AreChildrenSettled, IsFilledBefore, IsFoldedBelow, IsToldBy}
 use Rattle.plir_folding.proofs.Nodes.{left-cut, same-op}
 use Rattle.plir_folding.proofs.Folds.{tells-then, tells-none}
@@ -43,11 +43,11 @@ nothing-between xs ks ys e =
     none-of ks (omega (arith, a, b, c, d))
 
 module _ {K A T : Type 0} (fold : K → Integer → Integer → Option Integer) (own : A → List ℕ) where
-  -- From the start of the loop in s to s', no operand of the operations of the block b before `at` folds, if nothing was
-  -- folded.
+  -- From the start of the loop in s to s', no operand of the operations of the block b before `at` folds, if nothing
+  -- was folded.
   pub record IsFoldingBlock (s s' : ContextView K A T) (b : Ptr BasicBlockKind) (before changed : Bool) (at : Option (Ptr OperationKind)) : Type 0 where
     pub below : IsFoldedBelow fold own s (BasicBlock b) s'
-    pub tells : Tells s before changed s'
+    pub tells : Reports s before changed s'
     pub front : List IRNode
     pub back : List IRNode
     pub split : children s' (BasicBlock b) ≡ front ++ back

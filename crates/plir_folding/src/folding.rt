@@ -49,10 +49,10 @@ fn fold_operand<D: FoldSet>(
         return Ok(before);
     };
     let constant = MaterializableAttr::<D>::materialize(&integer, alloc, ctx)?;
-    constant.insert_before(op, ctx);
+    constant.insert_before(ctx, op);
     op_edits_keep_the_rest(ctx, op);
     let result = constant.get_result(ctx, 0);
-    op.replace_operand(place, result, ctx);
+    op.replace_operand(ctx, place, result);
     Ok(true)
 }
 
