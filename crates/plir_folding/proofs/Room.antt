@@ -1,6 +1,6 @@
 -- How many slots of operations hold none: each new constant takes one.
 use Rattle.std.proofs.Common.{◌≡◌, ◌<◌, ◌≤◌, ◌+◌, ◌^◌, ◌==◌, ℕ, zero, suc, arith, Bool, true, false, Option, Some, None, inl, inr, refl, sym, ap, subst, ◌∙◌}
-use Rattle.std.specs.Prelude.{◌&&◌, is_some, ◌-◌}
+use Rattle.std.specs.Prelude.{◌&&◌, is_some}
 use Rattle.std.proofs.lemmas.Bool.Decides.{eqb_tells}
 use Rattle.plir_store.specs.Table.{Table, content_at, version_at, is_live_at}
 use Rattle.plir_core.specs.declared.ptr.Ptr.{Ptr}
