@@ -53,13 +53,15 @@ returns-in-Ok-Continue-clause-told g c =
     let walked = c.walk_op-end.ensures in
     let whole = c.stands.ensures.whole in
     let forest = laws.forest s whole in
+    let is = c.in-Ok-Continue.is in
+    let field = rw is at c.in-Ok-Continue.field-0-is in
     record {
       tells = tells-at-end fold own _ r laws
           (λ d e n a d' e' p. folded-at fold own p.shows.0 p.shows.1 p.leaves.0 p.leaves.1 p.met.1)
-          _ s t _ _ _ _ _ (c.in-Ok-Continue.is ∙ ap Ok c.in-Ok-Continue.field-0-is) (refl, refl, refl) whole walked;
+          _ s t _ _ _ _ _ (is ∙ ap Ok field) (refl, refl, refl) whole walked;
       settled = settled-at-end fold own _ r laws
           (λ d e n a d' e' p. folded-at fold own p.shows.0 p.shows.1 p.leaves.0 p.leaves.1 p.met.1)
-          _ s t _ _ _ _ _ (c.in-Ok-Continue.is ∙ ap Ok c.in-Ok-Continue.field-0-is) (refl, refl, refl) whole walked
+          _ s t _ _ _ _ _ (is ∙ ap Ok field) (refl, refl, refl) whole walked
           (laws.forest t c.stands-2.ensures.whole);
     }
 
