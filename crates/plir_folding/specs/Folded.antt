@@ -1,0 +1,81 @@
+-- What is left where operands have become constants.
+use Rattle.std.specs.Prelude.{◌≡◌, Bool, true, false, List, [], ◌∷◌, Option, Some, None, ◌⊎◌}
+use Rattle.std.specs.List.{filter}
+use Rattle.plir_data.specs.Dictionary.{dict_put}
+use Rattle.plir_data.specs.Keys.{value_key}
+use Rattle.plir_data.specs.declared.op_set.OpKind.TheVariants.{Constant}
+use Rattle.plir_core.specs.declared.ptr.Ptr.{Ptr}
+use Rattle.plir_core.specs.declared.ptr.Operation.{Operation as OperationKind}
+use Rattle.plir_core.specs.declared.ptr.BasicBlock.{BasicBlock as BasicBlockKind}
+use Rattle.plir_core.specs.declared.ptr.IRNode.{IRNode}
+use Rattle.plir_core.specs.declared.ptr.IRNode.TheVariants.{Operation, BasicBlock}
+use Rattle.plir_core.specs.declared.value.Value.{Value}
+use Rattle.plir_core.specs.declared.value.DefiningEntity.TheVariants.{Op}
+use Rattle.plir_core.specs.Contents.{OpView, op_view}
+use Rattle.plir_core.specs.ContextView.{ContextView, IsLive, is_live, children, parent_of, op_at, block_at, operands_of}
+use Rattle.plir_core.specs.ContextView.{type_of_value}
+use Rattle.plir_folding.specs.Worth.{Integer, attr_of, Evaluates}
+
+-- two lists of values are as long, and R holds of those at the same places
+abbrev pub ArePaired : (Value → Value → Type 0) → List Value → List Value → Type 0
+ArePaired R [] [] = Unit {0}
+ArePaired R [] (w ∷ ws) = ⊥
+ArePaired R (v ∷ vs) [] = ⊥
+ArePaired R (v ∷ vs) (w ∷ ws) = R v w × ArePaired R vs ws
+
+module _ {K A : Type 0} where
+  -- what an operation holds but for its operands
+  abbrev pub but_operands : Option (OpView K A) → Option (OpView K A)
+  but_operands None = None
+  but_operands (Some v) = Some (record v { operands = [] })
+
+  -- what a constant of an integer holds that was made
+  abbrev pub constant_view : Integer → OpView K A
+  constant_view n = op_view Constant (n.type ∷ []) [] [] (dict_put [] value_key (attr_of n))
+
+-- the first result of an operation
+abbrev pub result_of : Ptr OperationKind → Value
+result_of p = record { entity = Op p; index = 0 }
+
+module _ {K A T : Type 0} where
+  -- From s to t an operation is new, and it is a constant of the integer n.
+  pub record IsNewConstantOf (s t : ContextView K A T) (p : Ptr OperationKind) (n : Integer) : Type 0 where
+    pub live : IsLive t (Operation p)
+    pub new : is_live s (Operation p) ≡ false
+    pub holds : op_at t p ≡ Some (constant_view n)
+
+  module _ (fold : K → Integer → Integer → Option Integer) where
+    -- From s to t a value v has another one in its place: a new constant of what v evaluates to, which is of v's type.
+    pub record IsReplaced (s t : ContextView K A T) (v w : Value) : Type 0 where
+      pub constant : Ptr OperationKind
+      pub integer : Integer
+      pub result : w ≡ result_of constant
+      pub made : IsNewConstantOf s t constant integer
+      pub worth : Evaluates fold s v integer
+      pub typed : type_of_value t w ≡ type_of_value s v
+
+    -- in the place of a value is that value, or a new constant of what it evaluates to
+    abbrev pub IsSameOrReplaced : ContextView K A T → ContextView K A T → Value → Value → Type 0
+    IsSameOrReplaced s t v w = (w ≡ v) ⊎ IsReplaced s t v w
+
+    -- From s to t operands were replaced by new constants of what they evaluate to, and nothing else has changed: each
+    -- node is there, where it stood, in its order, and holds what it held but for these operands; what is new are
+    -- constants.
+    pub record IsFolded (s t : ContextView K A T) : Type 0 where
+      pub live : (n : IRNode) → IsLive s n → IsLive t n
+      pub new : (n : IRNode) → IsLive t n → is_live s n ≡ false →
+          (p : Ptr OperationKind) × ((m : Integer) × ((n ≡ Operation p) × IsNewConstantOf s t p m))
+      pub children : (n : IRNode) → IsLive s n → filter (is_live s) (children t n) ≡ children s n
+      pub parents : (n : IRNode) → IsLive s n → parent_of t n ≡ parent_of s n
+      pub ops : (p : Ptr OperationKind) → IsLive s (Operation p) →
+          but_operands (op_at t p) ≡ but_operands (op_at s p)
+      pub operands : (p : Ptr OperationKind) → IsLive s (Operation p) →
+          ArePaired (IsSameOrReplaced s t) (operands_of s p) (operands_of t p)
+      pub blocks : (b : Ptr BasicBlockKind) → IsLive s (BasicBlock b) → block_at t b ≡ block_at s b
+      pub types : t.types ≡ s.types
+
+  -- A flag that is clear tells that nothing has changed; one that is newly set, that there is a new constant.
+  pub record Reports (s : ContextView K A T) (flag flag' : Bool) (t : ContextView K A T) : Type 0 where
+    pub clear : flag' ≡ false → (flag ≡ false) × (t ≡ s)
+    pub set : flag' ≡ true → (flag ≡ true) ⊎
+        ((p : Ptr OperationKind) × ((n : Integer) × IsNewConstantOf s t p n))

@@ -1,0 +1,9 @@
+-- What the contracts of this crate cite.
+--
+--   Worth    Evaluates: what values evaluate to; folded: what a value folds to whose operation stands on constants;
+--            IsSettled, AreSettled: no operand of an operation folds, and none below a node
+--   Folded   IsFolded: operands have become constants of what they evaluate to, and nothing else has changed
+--   Folding  how far the loops have come
+pub mod Worth
+pub mod Folded
+pub mod Folding

@@ -1,0 +1,203 @@
+//! Constant folding.
+ghost use Rattle.std.specs.Prelude.{◌≡◌, ◌<◌, false, Some, OnOk, IfOk, length};
+ghost use Rattle.plir_core.specs.declared.ptr.IRNode.{IRNode as AnyNode};
+ghost use Rattle.plir_core.specs.Forest.{look};
+ghost use Rattle.plir_core.specs.ContextView.{IsLive, operands_of, parent_of};
+ghost use Rattle.plir_core.specs.WellFormed.{IsWellFormed};
+ghost use Rattle.plir_walk.specs.Lawful.{Lawful};
+ghost use Rattle.plir_folding.specs.Worth.{AreSettled, IsSettled, IsUnfolded};
+ghost use Rattle.plir_folding.specs.Folded.{IsFolded};
+ghost use Rattle.plir_folding.specs.Folding.{AreChildrenSettled, IsFilledBefore, IsFoldedAt, IsFoldedBelow, IsToldBy};
+
+use crate::fold_set::FoldSet;
+use crate::reading::folded;
+use plir_builtin::MaterializableAttr;
+use plir_core::laws::{
+    contexts_stand, first_child_is_front, index_is_slot_and_one, next_is_behind,
+    op_edits_keep_the_rest,
+};
+use plir_core::{BasicBlock, Context, IRNode, NodeErr, Operation, Ptr};
+use plir_walk::WALKCONFIG_PREORDER_FORWARD;
+use plir_walk::interruptible::mutable::walk_op;
+use plir_walk::interruptible::{WalkResult, walk_advance, walk_break};
+use plir_walk::laws::{before_is_a_total_order, lawful_changes};
+use std::alloc::Global;
+use std::ops::ControlFlow;
+
+// Puts a new constant in place of an operand of an operation in a block, if the operand folds. The flag is set where it
+// did.
+fn fold_operand<D: FoldSet>(
+    alloc: Global,
+    ctx: &mut Context<D>,
+    block: Ptr<BasicBlock>,
+    op: Ptr<Operation>,
+    place: usize,
+    before: bool,
+) -> Result<bool, NodeErr>
+    requires live { IsLive ctx.old (AnyNode.Operation op) }
+    requires here { parent_of ctx.old (AnyNode.Operation op) ≡ Some (AnyNode.BasicBlock block) }
+    requires below { place < length (operands_of ctx.old op) }
+    ensures below { IsFoldedBelow D.fold D.attr_handles ctx.old (AnyNode.BasicBlock block) ctx.new }
+    ensures told { IfOk result (λ changed. IsToldBy ctx.old before changed ctx.new
+        (λ s. IsUnfolded D.fold s op place)) }
+    ensures filled { IsFilledBefore ctx.old ctx.new block op }
+{
+    lawful_changes::<D>();
+    ctx.stands();
+    let value = op.get_operand(ctx, place);
+    let Some(integer) = folded(ctx, value) else {
+        return Ok(before);
+    };
+    let constant = MaterializableAttr::<D>::materialize(&integer, alloc, ctx)?;
+    constant.insert_before(ctx, op);
+    op_edits_keep_the_rest(ctx, op);
+    let result = constant.get_result(ctx, 0);
+    op.replace_operand(ctx, place, result);
+    Ok(true)
+}
+
+// Puts new constants in place of those operands of an operation in a block that fold. The flag is set where there were
+// any.
+fn fold_op<D: FoldSet>(
+    alloc: Global,
+    ctx: &mut Context<D>,
+    block: Ptr<BasicBlock>,
+    op: Ptr<Operation>,
+    before: bool,
+) -> Result<bool, NodeErr>
+    requires live { IsLive ctx.old (AnyNode.Operation op) }
+    requires here { parent_of ctx.old (AnyNode.Operation op) ≡ Some (AnyNode.BasicBlock block) }
+    ensures below { IsFoldedBelow D.fold D.attr_handles ctx.old (AnyNode.BasicBlock block) ctx.new }
+    ensures told { IfOk result (λ changed. IsToldBy ctx.old before changed ctx.new (λ s. IsSettled D.fold s op)) }
+    ensures filled { IsFilledBefore ctx.old ctx.new block op }
+{
+    lawful_changes::<D>();
+    ctx.stands();
+    let mut changed = before;
+    let count = op.get_num_operands(ctx);
+    for place in 0..count {
+        let told = fold_operand(alloc, ctx, block, op, place, changed)?;
+        changed = told;
+    }
+    Ok(changed)
+}
+
+// Folds the operands of the operations of a block, the first one first. Those that come before a refusal are folded.
+fn fold_block<D: FoldSet>(
+    alloc: Global,
+    ctx: &mut Context<D>,
+    block: Ptr<BasicBlock>,
+    before: bool,
+) -> Result<bool, NodeErr>
+    requires { IsLive ctx.old (AnyNode.BasicBlock block) }
+    ensures below { IsFoldedBelow D.fold D.attr_handles ctx.old (AnyNode.BasicBlock block) ctx.new }
+    ensures told { IfOk result (λ changed. IsToldBy ctx.old before changed ctx.new
+        (λ s. AreChildrenSettled D.fold s (AnyNode.BasicBlock block))) }
+{
+    lawful_changes::<D>();
+    ctx.stands();
+    first_child_is_front(ctx, IRNode::BasicBlock(block));
+    let mut changed = before;
+    let mut at = block.get_head(ctx);
+    'ops: while let Some(op) = at {
+        next_is_behind(ctx, IRNode::Operation(op));
+        at = op.get_next(ctx);
+        let told = fold_op(alloc, ctx, block, op, changed)?;
+        changed = told;
+    }
+    Ok(changed)
+}
+
+// What is done at each node: in a block operands are folded, elsewhere nothing is done. The flag is set where something
+// was folded.
+fn fold_below<D: FoldSet>(
+    alloc: Global,
+    ctx: &mut Context<D>,
+    changed: &mut bool,
+    node: IRNode,
+) -> WalkResult<NodeErr>
+    requires { IsLive ctx.old node }
+    ensures { IsFoldedAt D.fold D.attr_handles ctx.old changed.old node result ctx.new changed.new }
+{
+    lawful_changes::<D>();
+    ctx.stands();
+    match node {
+        IRNode::Operation(_) => walk_advance(),
+        IRNode::Region(_) => walk_advance(),
+        IRNode::BasicBlock(block) => match fold_block(alloc, ctx, block, *changed) {
+            Ok(told) => {
+                *changed = told;
+                walk_advance()
+            }
+            Err(refusal) => walk_break(refusal),
+        },
+    }
+}
+
+// Folds the operands of all operations below an operation once. Answers whether there were any.
+fn fold_round<D: FoldSet>(
+    alloc: Global,
+    ctx: &mut Context<D>,
+    root: Ptr<Operation>,
+) -> Result<bool, NodeErr>
+    requires { IsLive ctx.old (AnyNode.Operation root) }
+    ensures below { IsFoldedBelow D.fold D.attr_handles ctx.old (AnyNode.Operation root) ctx.new }
+    ensures told { IfOk result (λ changed. IsToldBy ctx.old false changed ctx.new
+        (λ s. AreSettled D.fold s (AnyNode.Operation root))) }
+{
+    lawful_changes::<D>();
+    before_is_a_total_order();
+    contexts_stand::<D>();
+    ctx.stands();
+    let mut changed = false;
+    let fold_node = |ctx: &mut Context<D>, changed: &mut bool, node: IRNode| -> WalkResult<NodeErr>
+        requires { IsLive ctx.old node }
+        ensures { IsFoldedAt D.fold D.attr_handles ctx.old changed.old node result ctx.new changed.new }
+    { fold_below(alloc, ctx, changed, node) };
+    let config = WALKCONFIG_PREORDER_FORWARD;
+    let end = walk_op(
+        ctx,
+        &mut changed,
+        &config,
+        root,
+        u64::from(u32::MAX),
+        fold_node,
+    );
+    ctx.stands();
+    match end {
+        Ok(ControlFlow::Continue(_)) => Ok(changed),
+        Ok(ControlFlow::Break(refusal)) => Err(refusal),
+        Err(_) => unreachable!(),
+    }
+}
+
+/// Folds constants below an operation until no operand there folds: where an operand is the result of an operation of
+/// an own kind on two constants, and its kind says what it makes of them, a new constant of that is put right before
+/// the operand's user and takes the operand's place. The operation on constants stays; where nothing uses it any more,
+/// dead code elimination takes it. A look at an operation goes by its operands alone. An operand whose operation comes
+/// behind its user in the order of blocks takes another round.
+///
+/// # Errors
+///
+/// Where a constant was not made: what was folded before stays.
+pub fn fold_constants<D: FoldSet>(
+    alloc: Global,
+    ctx: &mut Context<D>,
+    root: Ptr<Operation>,
+) -> Result<(), NodeErr>
+    requires { IsLive ctx.old (AnyNode.Operation root) }
+    ensures settled { OnOk result (AreSettled D.fold ctx.new (AnyNode.Operation root)) }
+    ensures folded { IsFolded D.fold ctx.old ctx.new }
+    ensures lawful { Lawful (look ctx.old) (AnyNode.Operation root) (look ctx.new) }
+    ensures whole { IsWellFormed D.attr_handles ctx.new }
+{
+    lawful_changes::<D>();
+    ctx.stands();
+    'rounds: loop {
+        let changed = fold_round(alloc, ctx, root)?;
+        index_is_slot_and_one(ctx);
+        if !changed {
+            return Ok(());
+        }
+    }
+}
