@@ -170,7 +170,9 @@ fn an_operation_that_is_no_table_is_refused(rt: HostRuntime) -> Result<(), Misma
 }
 
 #[test]
-fn edges_lead_to_what_the_nearest_table_has(rt: HostRuntime) -> Result<(), Mismatch> {
+fn edges_lead_to_what_the_nearest_table_has_where_memory_is_refused(
+    rt: HostRuntime,
+) -> Result<(), Mismatch> {
     let script = "
         op module 1 => o0
         block => b0
