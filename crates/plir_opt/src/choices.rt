@@ -7,6 +7,8 @@ pub enum Pass {
     EraseNames,
     /// Erases dead operations.
     Dce,
+    /// Erases dead symbols of the operation that is read.
+    SymbolDce,
 }
 
 /// How an operation is printed.
@@ -18,6 +20,8 @@ pub enum Form {
     Walk,
     /// A graph in DOT.
     View,
+    /// A line for each use of a symbol.
+    CallGraph,
 }
 
 /// What a command line asks for.

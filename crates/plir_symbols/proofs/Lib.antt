@@ -10,3 +10,4 @@ pub mod Scans
 pub mod Lent
 pub mod UsersWalked
 pub mod Edges
+pub mod HeldNames
