@@ -7,8 +7,6 @@ pub enum Pass {
     EraseNames,
     /// Erases dead operations.
     Dce,
-    /// Erases dead symbols of the operation that is read.
-    SymbolDce,
 }
 
 /// How an operation is printed.
@@ -20,8 +18,6 @@ pub enum Form {
     Walk,
     /// A graph in DOT.
     View,
-    /// A line for each use of a symbol.
-    CallGraph,
 }
 
 /// What a command line asks for.

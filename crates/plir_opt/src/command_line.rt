@@ -12,13 +12,9 @@ const ERASE_NAMES: &str = "erase-names";
 
 const DCE: &str = "dce";
 
-const SYMBOL_DCE: &str = "symbol-dce";
-
 const WALK: &str = "walk";
 
 const VIEW: &str = "view";
-
-const CALL_GRAPH: &str = "call-graph";
 
 const ABOUT: &str =
     "Reads the text of one operation, verifies it, runs passes over it, and prints it";
@@ -48,15 +44,7 @@ fn with_forms<'a>(alloc: Global, command: Command<'a>) -> Result<Command<'a>, Al
         VIEW,
         "Print a graph in DOT: a box for each node, an arrow to each child",
     );
-    let call_graph = flag(
-        alloc,
-        CALL_GRAPH,
-        "Print a line for each use of a name: the operation, and the symbol in its nearest table",
-    );
-    command
-        .arg(walk.conflicts_with(VIEW)?.conflicts_with(CALL_GRAPH)?)?
-        .arg(view.conflicts_with(CALL_GRAPH)?)?
-        .arg(call_graph)
+    command.arg(walk.conflicts_with(VIEW)?)?.arg(view)
 }
 
 // The passes.
@@ -71,12 +59,7 @@ fn with_passes<'a>(alloc: Global, command: Command<'a>) -> Result<Command<'a>, A
         DCE,
         "Pass: erase what has no effect and whose results nothing uses",
     );
-    let symbol_dce = flag(
-        alloc,
-        SYMBOL_DCE,
-        "Pass: erase private symbols of the operation, a module, whose names nothing uses",
-    );
-    command.arg(erase_names)?.arg(dce)?.arg(symbol_dce)
+    command.arg(erase_names)?.arg(dce)
 }
 
 /// The words that the program takes.
@@ -98,14 +81,13 @@ fn flag_of(pass: Pass) -> &'static str {
     match pass {
         Pass::EraseNames => ERASE_NAMES,
         Pass::Dce => DCE,
-        Pass::SymbolDce => SYMBOL_DCE,
     }
 }
 
 // The passes that are asked for, in the order of the command line.
 fn asked_passes(alloc: Global, matches: &ArgMatches<'_>) -> Result<Vec<Pass>, AllocError> {
     let mut asked = Vec::new(alloc);
-    for pass in [Pass::EraseNames, Pass::Dce, Pass::SymbolDce] {
+    for pass in [Pass::EraseNames, Pass::Dce] {
         if matches.get_flag(flag_of(pass)) {
             asked.push((matches.index_of(flag_of(pass)), pass))?;
         }
@@ -120,8 +102,6 @@ fn asked_form(matches: &ArgMatches<'_>) -> Form {
         Form::Walk
     } else if matches.get_flag(VIEW) {
         Form::View
-    } else if matches.get_flag(CALL_GRAPH) {
-        Form::CallGraph
     } else {
         Form::Text
     }

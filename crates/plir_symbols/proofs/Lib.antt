@@ -10,4 +10,3 @@ pub mod Scans
 pub mod Lent
 pub mod UsersWalked
 pub mod Edges
-pub mod HeldNames

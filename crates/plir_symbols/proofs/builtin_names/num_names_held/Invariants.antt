@@ -1,9 +1,0 @@
-use Rattle.std.proofs.Common.{◌≡◌, ◌+◌, length}
-use Rattle.plir_data.specs.DictSeen.{pairs_view}
-use Rattle.plir_core.specs.ContextView.{attributes_of}
-use Rattle.plir_symbols.specs.BuiltinNames.{names_under}
-use Rattle.plir_symbols.proofs.builtin_names.num_names_held.Given as goal
-
-abbrev pub invariant-entries : goal.invariant-entries
-invariant-entries g l =
-    l.count + length (names_under (pairs_view l.key-iterator)) ≡ length (names_under (attributes_of l.ctx l.op)) + length (pairs_view l.key-iterator)
