@@ -1,10 +1,9 @@
 //! How a walk's cursor moves on.
 #![tactic(auto)]
 
-ghost use Rattle.std.specs.Prelude.{◌≡◌, true, false, option_map};
+ghost use Rattle.std.specs.Prelude.{◌≡◌, true, option_map};
 ghost use Rattle.plir_walk.specs.Config.{order_of};
-ghost use Rattle.plir_walk.specs.Tree.{same};
-ghost use Rattle.plir_walk.specs.Step.{cursor_at, due_at, entered, goes_on, next_of, IsHop};
+ghost use Rattle.plir_walk.specs.Step.{cursor_at, due_at, entered, goes_on, hop_of, left_from};
 
 use crate::config::{Order, WalkConfig};
 use crate::interruptible::WalkContinue;
@@ -58,78 +57,30 @@ fn enter<C: NodeLinks, N: TypedNode>(ctx: &C, config: &WalkConfig, node: N) -> (
     }
 }
 
-/// Where a walk stands next that enters the sibling behind a node. None, if there is none.
+/// Where a walk stands next that leaves a node. None, if that is the root.
 #[inline(always)]
-fn enter_next<C: NodeLinks, N: TypedNode>(
+fn leave<C: NodeLinks, N: TypedNode>(
     ctx: &C,
     config: &WalkConfig,
+    root: IRNode,
     node: N,
 ) -> Option<(IRNode, bool, bool)>
     requires { (C.look ctx.now).live (N.node node) ≡ true }
-    ensures { result ≡ option_map (cursor_at config.now)
-        (option_map (entered config.now (C.look ctx.now)) (next_of config.now (C.look ctx.now) (N.node node))) }
+    ensures { result ≡ option_map (cursor_at config.now) (left_from config.now (C.look ctx.now) root (N.node node)) }
 {
+    let here = node.node();
+    if here == root {
+        return None;
+    }
     match ctx.next_taken(config, node) {
         Some(sibling) => {
             ctx.forest();
             Some(enter(ctx, config, sibling))
         }
-        None => None,
-    }
-}
-
-/// The same behind a node of any kind.
-#[inline(always)]
-fn enter_behind<C: NodeLinks>(
-    ctx: &C,
-    config: &WalkConfig,
-    node: IRNode,
-) -> Option<(IRNode, bool, bool)>
-    requires { (C.look ctx.now).live node ≡ true }
-    ensures { result ≡ option_map (cursor_at config.now)
-        (option_map (entered config.now (C.look ctx.now)) (next_of config.now (C.look ctx.now) node)) }
-{
-    match node {
-        IRNode::Operation(op) => enter_next(ctx, config, op),
-        IRNode::Region(region) => enter_next(ctx, config, region),
-        IRNode::BasicBlock(block) => enter_next(ctx, config, block),
-    }
-}
-
-/// Whether two nodes are the same.
-#[inline(always)]
-fn is_same(one: IRNode, other: IRNode) -> bool
-    ensures { result ≡ same one other }
-{
-    one == other
-}
-
-/// Where a walk stands next that leaves a node, and with it each node above that has no sibling behind it and is not
-/// called. None, if one of them is the root.
-#[inline(always)]
-fn leave<C: NodeLinks>(
-    ctx: &C,
-    config: &WalkConfig,
-    root: IRNode,
-    node: IRNode,
-) -> Option<(IRNode, bool, bool)>
-    requires { (C.look ctx.now).live node ≡ true }
-    ensures { IsHop config.now (C.look ctx.now) root node false result }
-{
-    ctx.forest();
-    let mut here = node;
-    'up: loop {
-        if is_same(here, root) {
-            return None;
+        None => {
+            let parent = ctx.parent(here)?;
+            Some(cursor_at(config, parent, false))
         }
-        if let Some(next) = enter_behind(ctx, config, here) {
-            return Some(next);
-        }
-        let parent = ctx.parent(here)?;
-        if is_due(config, parent, false) {
-            return Some((parent, false, true));
-        }
-        here = parent;
     }
 }
 
@@ -143,7 +94,7 @@ fn hop_from<C: NodeLinks, N: TypedNode>(
     below: bool,
 ) -> Option<(IRNode, bool, bool)>
     requires { (C.look ctx.now).live (N.node node) ≡ true }
-    ensures { IsHop config.now (C.look ctx.now) root (N.node node) below result }
+    ensures { result ≡ option_map (cursor_at config.now) (hop_of config.now (C.look ctx.now) root (N.node node) below) }
 {
     if below {
         if let Some(child) = ctx.first_taken(config, node) {
@@ -153,10 +104,10 @@ fn hop_from<C: NodeLinks, N: TypedNode>(
             return Some(cursor_at(config, node.node(), false));
         }
     }
-    leave(ctx, config, root, node.node())
+    leave(ctx, config, root, node)
 }
 
-/// The same from a node of any kind.
+/// The same from a node of any kind: the kind is matched here, and nowhere else in a hop.
 #[inline(always)]
 fn hop<C: NodeLinks>(
     ctx: &C,
@@ -166,7 +117,7 @@ fn hop<C: NodeLinks>(
     below: bool,
 ) -> Option<(IRNode, bool, bool)>
     requires { (C.look ctx.now).live node ≡ true }
-    ensures { IsHop config.now (C.look ctx.now) root node below result }
+    ensures { result ≡ option_map (cursor_at config.now) (hop_of config.now (C.look ctx.now) root node below) }
 {
     match node {
         IRNode::Operation(op) => hop_from(ctx, config, root, op, below),
@@ -175,8 +126,7 @@ fn hop<C: NodeLinks>(
     }
 }
 
-/// Where a walk stands next that came to a node, entering or leaving it, where a call gave this answer, or none was
-/// due.
+/// Where a walk stands next that came to a node, entering or leaving it, where a call gave this answer, or none was due.
 #[inline(always)]
 pub fn onward<C: NodeLinks>(
     ctx: &C,
@@ -187,7 +137,8 @@ pub fn onward<C: NodeLinks>(
     answer: WalkContinue,
 ) -> Option<(IRNode, bool, bool)>
     requires { (C.look ctx.now).live node ≡ true }
-    ensures { IsHop config.now (C.look ctx.now) root node (goes_on entering answer) result }
+    ensures { result ≡ option_map (cursor_at config.now)
+        (hop_of config.now (C.look ctx.now) root node (goes_on entering answer)) }
 {
     let below = goes_on(entering, answer);
     hop(ctx, config, root, node, below)
