@@ -237,8 +237,8 @@ impl Ptr<Operation> {
         ctx.nodes.num_regions(self)
     }
 
-    /// The region at a place, from 0, among those of the operation. It is found from the first one on, one by one: a loop
-    /// over all goes by `first_region` and `get_next`.
+    /// The region at a place, from 0, among those of the operation. It is found from the first one on, one by one: a
+    /// loop over all goes by `first_region` and `get_next`.
     pub fn get_region<D: OpSet>(self, ctx: &Context<D>, i: usize) -> Ptr<Region>
         requires live { IsLive ctx.now (IRNode.Operation self) }
         requires below { i < length (children ctx.now (IRNode.Operation self)) }

@@ -30,8 +30,8 @@ impl Ptr<Region> {
         ctx.nodes.parent_of_region(self)
     }
 
-    /// The place of the region, from 0, among those of its operation. The regions before it are counted one by one: a loop
-    /// over all that needs their places counts as it goes by `get_next`.
+    /// The place of the region, from 0, among those of its operation. The regions before it are counted one by one: a
+    /// loop over all that needs their places counts as it goes by `get_next`.
     pub fn find_index_in_parent<D: OpSet>(self, ctx: &Context<D>) -> usize
         requires { IsLive ctx.now (IRNode.Region self) }
         ensures value { IfSome (parent_of ctx.now (IRNode.Region self))

@@ -1,5 +1,5 @@
--- What private functions share that find the first fault of region edges: what they answer so far, and the first edge of
--- each target.
+-- What private functions share that find the first fault of region edges: what they answer so far, and the first edge
+-- of each target.
 use Rattle.std.specs.Prelude.{◌≡◌, ◌⊎◌, ℕ, List, [], ◌∷◌, All, Bool, slice_get, Option, Some, None, ◌<◌, ◌++◌}
 use Rattle.std.specs.HashMap.{HashMap, get}
 use Rattle.std.specs.Option.{option_eq}

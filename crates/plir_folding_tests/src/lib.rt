@@ -1,5 +1,5 @@
-//! Tests of `plir_folding`, in a crate of their own, since a crate that holds its tests is proved twice, once with them;
-//! and what they are tried on: a toy op set.
+//! Tests of `plir_folding`, in a crate of their own, since a crate that holds its tests is proved twice, once with
+//! them; and what they are tried on: a toy op set.
 #![tactic(auto)]
 
 #[cfg(test)]

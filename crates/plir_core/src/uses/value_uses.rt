@@ -116,8 +116,8 @@ impl Value {
     }
 
     /// How many operands of live operations are the value: an operation that has it twice counts twice. The answer is
-    /// at most `usize::MAX`, and no machine holds so many operands. Where no value of its operation or block is used, and
-    /// that block is no successor, this looks at a count alone; else it looks at all operations.
+    /// at most `usize::MAX`, and no machine holds so many operands. Where no value of its operation or block is used,
+    /// and that block is no successor, this looks at a count alone; else it looks at all operations.
     pub fn num_uses<D: OpSet>(self, ctx: &Context<D>) -> usize
         requires { IsValueLive ctx.now self }
         ensures value { result ≡ min (num_uses_of ctx.now self) (2 ^ 64 - 1) }
