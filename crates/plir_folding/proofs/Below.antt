@@ -13,7 +13,7 @@ use Rattle.plir_core.specs.WellFormed.{IsWellFormed}
 use Rattle.plir_core.specs.ContextView.{ContextView, IsLive, parent_of, given_out, operands_of}
 use Rattle.plir_walk.specs.LawfulChanges.{LawfulChanges}
 use Rattle.plir_folding.specs.Worth.{Integer, IsUnfolded, IsSettled}
-use Rattle.plir_folding.specs.Folded.{ArePaired, Reports}
+use Rattle.plir_folding.specs.Folded.{ArePaired, IsFlagged}
 use Rattle.plir_folding.specs.Folding.{IsFilledBefore, IsFoldedBelow, IsToldBy}
 use Rattle.plir_folding.proofs.Folds.{folded-none, folded-refused, folded-then, tells-then, tells-none}
 
@@ -43,7 +43,7 @@ module _ {K A T : Type 0} (fold : K → Integer → Integer → Option Integer) 
   -- From the start of the loop in s to s', the operands before the place i do not fold, if nothing was folded.
   pub record IsFoldingOp (s s' : ContextView K A T) (b : Ptr BasicBlockKind) (op : Ptr OperationKind) (before changed : Bool) (i : ℕ) : Type 0 where
     pub below : IsFoldedBelow fold own s (BasicBlock b) s'
-    pub tells : Reports s before changed s'
+    pub tells : IsFlagged s before changed s'
     pub settled : changed ≡ false → (j : ℕ) → j < i → IsUnfolded fold s' op j
     pub filled : IsFilledBefore s s' b op
 

@@ -14,7 +14,7 @@ use Rattle.plir_core.specs.WellFormed.{IsWellFormed}
 use Rattle.plir_core.specs.ContextView.{ContextView, IsLive, children, parent_of}
 use Rattle.plir_walk.specs.LawfulChanges.{LawfulChanges}
 use Rattle.plir_folding.specs.Worth.{Integer, IsSettled}
-use Rattle.plir_folding.specs.Folded.{Reports}
+use Rattle.plir_folding.specs.Folded.{IsFlagged}
 use Rattle.plir_folding.specs.Folding.{left_from, AreChildrenSettled, IsFilledBefore, IsFoldedBelow, IsToldBy}
 use Rattle.plir_folding.proofs.Nodes.{left-cut, same-op}
 use Rattle.plir_folding.proofs.Folds.{tells-then, tells-none}
@@ -47,7 +47,7 @@ module _ {K A T : Type 0} (fold : K → Integer → Integer → Option Integer) 
   -- was folded.
   pub record IsFoldingBlock (s s' : ContextView K A T) (b : Ptr BasicBlockKind) (before changed : Bool) (at : Option (Ptr OperationKind)) : Type 0 where
     pub below : IsFoldedBelow fold own s (BasicBlock b) s'
-    pub tells : Reports s before changed s'
+    pub tells : IsFlagged s before changed s'
     pub front : List IRNode
     pub back : List IRNode
     pub split : children s' (BasicBlock b) ≡ front ++ back

@@ -13,7 +13,7 @@ use Rattle.plir_core.specs.Forest.{look, IsForest}
 use Rattle.plir_core.specs.WellFormed.{IsWellFormed}
 use Rattle.plir_core.specs.ContextView.{ContextView, IsLive, is_live, children, op_at, operands_in, operands_of, entity_node, type_of_value}
 use Rattle.plir_folding.specs.Worth.{Integer, constant_of, worth}
-use Rattle.plir_folding.specs.Folded.{ArePaired, but_operands, constant_view, IsNewConstantOf, IsSameOrReplaced, IsFolded, Reports}
+use Rattle.plir_folding.specs.Folded.{ArePaired, but_operands, constant_view, IsNewConstantOf, IsSameOrReplaced, IsFolded, IsFlagged}
 use Rattle.plir_folding.proofs.Filters.{truth, not-both, filter-all, filter-twice}
 use Rattle.plir_folding.proofs.Nodes.{never-true}
 use Rattle.plir_folding.proofs.Worths.{constant-worth}
@@ -140,7 +140,7 @@ module _ {K A T : Type 0} (fold : K → Integer → Integer → Option Integer) 
     }
 
     -- the flag tells of two changes
-    pub tells-then : (x y z : Bool) → Reports s x y t → Reports t y z u → Reports s x z u
+    pub tells-then : (x y z : Bool) → IsFlagged s x y t → IsFlagged t y z u → IsFlagged s x z u
     tells-then x y z h k = record {
       clear = λ e. (let b = k.clear e in let a = h.clear b.0 in (a.0, b.1 ∙ a.1));
       set = λ e. elim (k.set e) [
@@ -152,5 +152,5 @@ module _ {K A T : Type 0} (fold : K → Integer → Integer → Option Integer) 
       ];
     }
 
-  pub tells-none : (s : ContextView K A T) (x : Bool) → Reports s x x s
+  pub tells-none : (s : ContextView K A T) (x : Bool) → IsFlagged s x x s
   tells-none s x = record { clear = λ e. (e, refl); set = λ e. inl e }

@@ -27,7 +27,7 @@ use Rattle.plir_walk.specs.Walked.{Walked, IsCallUnder}
 use Rattle.plir_walk.specs.LawfulChanges.{LawfulChanges}
 use Rattle.plir_walk.specs.CallLaws.{chain-each, kept_from_entry_to_exit, holds_under_root}
 use Rattle.plir_folding.specs.Worth.{Integer, IsUnfolded, AreSettled}
-use Rattle.plir_folding.specs.Folded.{IsFolded, Reports}
+use Rattle.plir_folding.specs.Folded.{IsFolded, IsFlagged}
 use Rattle.plir_folding.specs.Folding.{AreChildrenSettled, IsFoldedBelow, IsToldBy, IsAnswered, IsFoldedAt}
 use Rattle.plir_folding.proofs.Nodes.{climb-nothing}
 use Rattle.plir_folding.proofs.Folds.{folded-none, folded-then, tells-then, tells-none}
@@ -103,9 +103,9 @@ module _ {K A T : Type 0} (fold : K → Integer → Integer → Option Integer) 
         go (Break b) f k = absurd (k b refl)
 
     abbrev Telling : ContextView K A T → Bool → ContextView K A T → Bool → Type 0
-    Telling c s c' s' = IsWellFormed own c → IsWellFormed own c' × IsFolded fold c c' × Reports c s s' c'
+    Telling c s c' s' = IsWellFormed own c → IsWellFormed own c' × IsFolded fold c c' × IsFlagged c s s' c'
 
-    pub walk-tells : (c c' : ContextView K A T) (s s' : Bool) (calls : List (Call (ContextView K A T) Bool B)) → IsWellFormed own c → Chain (Unbroken call) c s calls c' s' → Reports c s s' c'
+    pub walk-tells : (c c' : ContextView K A T) (s s' : Bool) (calls : List (Call (ContextView K A T) Bool B)) → IsWellFormed own c → Chain (Unbroken call) c s calls c' s' → IsFlagged c s s' c'
     walk-tells c c' s s' calls w h =
         (kept_from_entry_to_exit (Unbroken call) Telling
         (record {
@@ -151,7 +151,7 @@ module _ {K A T : Type 0} (fold : K → Integer → Integer → Option Integer) 
       unbroken : Chain (Unbroken call) c s walk.calls c' s'
       unbroken = unbroken-chain call c s walk.calls c' s' walk.chain (walk.at_exit pre).answers.1
 
-      pub tells-at-end : Reports c s s' c'
+      pub tells-at-end : IsFlagged c s s' c'
       tells-at-end = walk-tells c c' s s' walk.calls whole unbroken
 
       pub settled-at-end : IsForest (look c') → s' ≡ false → AreSettled fold c' r

@@ -75,7 +75,7 @@ module _ {K A T : Type 0} where
       pub types : t.types ≡ s.types
 
   -- A flag that is clear tells that nothing has changed; one that is newly set, that there is a new constant.
-  pub record Reports (s : ContextView K A T) (flag flag' : Bool) (t : ContextView K A T) : Type 0 where
+  pub record IsFlagged (s : ContextView K A T) (flag flag' : Bool) (t : ContextView K A T) : Type 0 where
     pub clear : flag' ≡ false → (flag ≡ false) × (t ≡ s)
     pub set : flag' ≡ true → (flag ≡ true) ⊎
         ((p : Ptr OperationKind) × ((n : Integer) × IsNewConstantOf s t p n))

@@ -16,7 +16,7 @@ use Rattle.plir_core.specs.WellFormed.{IsWellFormed}
 use Rattle.plir_walk.specs.Lawful.{Lawful}
 use Rattle.plir_walk.specs.Tree.{same}
 use Rattle.plir_folding.specs.Worth.{Integer, IsSettled}
-use Rattle.plir_folding.specs.Folded.{IsFolded, Reports}
+use Rattle.plir_folding.specs.Folded.{IsFolded, IsFlagged}
 
 -- how many of a list of nodes there are from an operation on
 abbrev pub left_from : List IRNode → Option (Ptr OperationKind) → ℕ
@@ -33,7 +33,7 @@ module _ {K A T : Type 0} where
   -- the flag tells whether anything has changed; where it is clear, P holds
   pub record IsToldBy (s : ContextView K A T) (flag flag' : Bool) (t : ContextView K A T)
       (P : ContextView K A T → Type 0) : Type 0 where
-    pub tells : Reports s flag flag' t
+    pub tells : IsFlagged s flag flag' t
     pub settled : flag' ≡ false → P t
 
   module _ (fold : K → Integer → Integer → Option Integer) where
