@@ -21,6 +21,7 @@
 --   Placed       IsPlaced: a node has come under another one, and nothing else has changed (IsPlacedFirst and its kin:
 --                where); IsUnlinked: it has left its parent
 --   Held         IsOpEdited, IsBlockEdited: what an operation or a block holds is edited, and nothing else has changed
+--   ButOperands  but_operands: what an operation holds but for its operands
 --   Grown        IsGrown: nodes are new below a node; Growth: how trees grow in many steps
 --   Lends        what a `&mut` into a node leaves
 --   Refused      IsUnmade: what a refused make leaves of the slots
@@ -53,6 +54,7 @@ pub mod Made
 pub mod Room
 pub mod Placed
 pub mod Held
+pub mod ButOperands
 pub mod Grown
 pub mod Erase
 pub mod Lasting

@@ -54,11 +54,7 @@ impl BasicBlock {
         ensures too_many { (result ≡ Err NodeErr.TooManyNodes) ↔ IsFullForBlock ctx.old.nodes }
         ensures whole { IsWellFormed D.attr_handles ctx.new }
     {
-        let data = BlockData {
-            label,
-            arg_types,
-            attributes: AttributeDict::new(alloc),
-        };
+        let data = BlockData::new(alloc, &ctx.nodes, label, arg_types)?;
         let block = ctx.nodes.make_block(data)?;
         ctx.uses.begin(IRNode::BasicBlock(block));
         Ok(block)
@@ -187,7 +183,7 @@ impl Ptr<BasicBlock> {
             i < self.get_num_arguments(ctx),
             "there is none at this place"
         );
-        ctx.nodes.block(self).arg_types[i]
+        ctx.nodes.block(self).arg_types.get(i)
     }
 
     /// The argument at a place, from 0.

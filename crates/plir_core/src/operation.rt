@@ -30,7 +30,7 @@ use crate::arena::making::NodeErr;
 use crate::context::Context;
 use crate::ptr::{BasicBlock, IRNode, Operation, Ptr, Region};
 use crate::value::{DefiningEntity, Value};
-use plir_data::{AttrObj, AttributeDict, Identifier, Location, Memory, OpKind, OpSet, TypeHandle};
+use plir_data::{AttrObj, AttributeDict, Identifier, Memory, OpKind, OpSet, TypeHandle};
 use std::alloc::Global;
 
 impl Operation {
@@ -111,14 +111,15 @@ impl Operation {
         ensures too_many_only { result ≡ Err NodeErr.TooManyNodes → IsFullForOp ctx.old.nodes num_regions }
         ensures whole { IsWellFormed D.attr_handles ctx.new }
     {
-        let data = OpData {
+        let data = OpData::new(
+            &ctx.nodes,
             kind,
             result_types,
             operands,
             successors,
             attributes,
-            location: Location::Unknown,
-        };
+            num_regions,
+        )?;
         let op = ctx.nodes.make_op_with_regions(data, num_regions)?;
         ctx.uses.begin(IRNode::Operation(op));
         ctx.uses.raise_op(ctx.nodes.op(op));
@@ -281,7 +282,7 @@ impl Ptr<Operation> {
     {
         prove!(self.is_live(ctx), "the operation is not live");
         prove!(i < self.get_num_results(ctx), "there is none at this place");
-        ctx.nodes.op(self).result_types[i]
+        ctx.nodes.op(self).result_types.get(i)
     }
 
     /// The result at a place, from 0.
@@ -347,7 +348,7 @@ impl Ptr<Operation> {
             i < self.get_num_successors(ctx),
             "there is none at this place"
         );
-        ctx.nodes.op(self).successors[i]
+        ctx.nodes.op(self).successors.get(i)
     }
 
     /// The attributes of the operation.

@@ -5,6 +5,8 @@ pub mod Table
 pub mod Places
 pub mod Lends
 pub mod Hops
+pub mod Few
 pub mod TableLaws
 pub mod MemberLaws
+pub mod FilterLaws
 pub mod ListLaws

@@ -1,7 +1,8 @@
-//! What a context keeps its nodes in: values in numbered slots under versions, and doubly linked lists of numbered
-//! children.
+//! What a context keeps its nodes in: values in numbered slots under versions, doubly linked lists of numbered children,
+//! and lists that are not changed once they are made.
 #![tactic(auto)]
 
 pub mod chains;
+pub mod few;
 mod hop;
 pub mod slots;

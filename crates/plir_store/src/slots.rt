@@ -6,6 +6,7 @@ ghost use Rattle.plir_store.specs.Places.{link_of, content_of};
 ghost use Rattle.plir_store.specs.Table.{Table, content_at, version_at, is_live_at, next_slot, num_full, with_new};
 ghost use Rattle.plir_store.specs.Table.{without_slot, is_nil, IsTable};
 
+use crate::hop::Hop;
 use std::alloc::Global;
 use std::marker::Model;
 use std::mem;
@@ -13,7 +14,7 @@ use std::mem;
 // What a slot holds: a value, or the number of the slot freed before it.
 #[derive(Drop)]
 enum Place<T> {
-    Vacant(Option<u32>),
+    Vacant(Hop),
     Full(T),
 }
 
@@ -29,7 +30,7 @@ pub struct Slots<T> {
     versions: Vec<u32>,
     places: Vec<Place<T>>,
     // The slot freed last, which names the one freed before it.
-    free: Option<u32>,
+    free: Hop,
     // How many places are full.
     live: u32,
 }
@@ -50,7 +51,7 @@ impl<T> Place<T> {
     ghost use Rattle.plir_store.specs.contracts.slots.Place.{the_row};
 
     // Takes the value out of a full place, and notes the slot freed before it.
-    fn vacate(&mut self, next: Option<u32>) -> T
+    fn vacate(&mut self, next: Hop) -> T
         requires { IsSome (content_of self.old) }
         ensures place { self.new ≡ Place.Vacant next }
         ensures value { content_of self.old ≡ Some result }
@@ -87,13 +88,13 @@ impl<T> Place<T> {
 
 impl<T: Drop> Place<T> {
     // Puts a value into a place, and returns the slot that it named.
-    fn fill(&mut self, value: T) -> Option<u32>
+    fn fill(&mut self, value: T) -> Hop
         ensures place { self.new ≡ Place.Full value }
         ensures next { result ≡ link_of self.old }
     {
         match mem::replace(self, Place::Full(value)) {
             Place::Vacant(next) => next,
-            Place::Full(_) => None,
+            Place::Full(_) => Hop::none(),
         }
     }
 }
@@ -133,7 +134,7 @@ impl<T> Slots<T> {
         Slots {
             versions: Vec::new(alloc),
             places: Vec::new(alloc),
-            free: None,
+            free: Hop::none(),
             live: 0,
         }
     }
@@ -208,7 +209,7 @@ impl<T> Slots<T> {
         ensures within { result ≤ length self.now.slots }
         ensures whole { IsTable self.now }
     {
-        match self.free {
+        match self.free.get() {
             Some(index) => index as usize,
             None => self.places.len(),
         }
@@ -219,7 +220,7 @@ impl<T> Slots<T> {
         ensures value { result ≡ is_nil self.now.free }
         ensures whole { IsTable self.now }
     {
-        self.free.is_none()
+        self.free.get().is_none()
     }
 
     /// Takes the value out of its slot, which is then the next to be used, or never again after its last version.
@@ -232,7 +233,7 @@ impl<T> Slots<T> {
     {
         let value = self.places[index as usize].vacate(self.free);
         if self.versions[index as usize] < u32::MAX {
-            self.free = Some(index);
+            self.free = Hop::to(index);
         }
         self.live -= 1;
         value
@@ -257,7 +258,7 @@ impl<T: Drop> Slots<T> {
         ensures count { OnOk result (num_full self.new ≡ num_full self.old + 1) }
         ensures whole { IsTable self.new }
     {
-        match self.free {
+        match self.free.get() {
             Some(index) => {
                 let next = self.places[index as usize].fill(value);
                 self.versions[index as usize] += 1;

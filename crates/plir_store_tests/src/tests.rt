@@ -3,8 +3,9 @@ ghost use Rattle.std.specs.Prelude.{◌≡◌, ◌<◌, ◌↔◌, None, IsTrue,
 ghost use Rattle.plir_store.specs.Lists.{parent_at};
 
 use plir_store::chains::Chains;
+use plir_store::few::Few;
 use plir_store::slots::Slots;
-use std::alloc::AllocError;
+use std::alloc::{AllocError, Global};
 use std::process::Abort;
 use std::test::Fail;
 
@@ -174,5 +175,42 @@ fn links_children_in_order_where_memory_is_refused(rt: HostRuntime) -> Result<()
     assert!(rt; chains.is_empty(1));
     chains.drop_list();
     assert_eq!(rt; (chains.num_lists(), chains.num_children()), (1, 4));
+    Ok(())
+}
+
+// The list of these items.
+fn make_list(alloc: Global, items: &[u32]) -> Result<Few<u32>, AllocError> {
+    Few::from_vec(Vec::from_slice(alloc, items)?)
+}
+
+// The same, made once more where memory was refused.
+fn list_of(alloc: Global, items: &[u32]) -> Result<Few<u32>, AllocError> {
+    match make_list(alloc, items) {
+        Ok(list) => Ok(list),
+        Err(_) => make_list(alloc, items),
+    }
+}
+
+#[test]
+fn lists_hold_what_they_are_made_of_where_memory_is_refused(rt: HostRuntime) -> Result<(), Fail> {
+    let none = list_of(rt.alloc(), &[])?;
+    assert_eq!(rt; none.len(), 0);
+    assert_eq!(rt; none.as_slice(), [].as_slice());
+    let one = list_of(rt.alloc(), &[7])?;
+    assert_eq!(rt; one.as_slice(), [7].as_slice());
+    let three = list_of(rt.alloc(), &[7, 8, 9])?;
+    assert_eq!(rt; three.len(), 3);
+    assert_eq!(rt; three.as_slice(), [7, 8, 9].as_slice());
+    Ok(())
+}
+
+#[test]
+fn items_of_a_list_are_found_by_index(rt: HostRuntime) -> Result<(), Fail> {
+    let one = Few::from_vec(vec![in rt.alloc(); 7]?)?;
+    assert_eq!(rt; one.len(), 1);
+    assert_eq!(rt; one.get(0), 7);
+    let three = Few::from_vec(vec![in rt.alloc(); 7, 8, 9]?)?;
+    assert_eq!(rt; three.len(), 3);
+    assert_eq!(rt; three.get(1), 8);
     Ok(())
 }

@@ -108,6 +108,29 @@ fn fill<T: Drop>(
 }
 
 impl<O, B> Arena<O, B> {
+    /// The refusal of an operation with so many regions, where the limit of live nodes would be passed.
+    pub(crate) fn check_room_for_op(&self, count: usize) -> Result<(), NodeErr>
+        ensures too_many { (result ≡ Err NodeErr.TooManyNodes) ↔ (self.now.limit < num_nodes self.now + 1 + count) }
+        ensures only { IfErr result (λ e. e ≡ NodeErr.TooManyNodes) }
+    {
+        let live = self.num_live();
+        if live == self.limit || count >= (self.limit - live) as usize {
+            return Err(NodeErr::TooManyNodes);
+        }
+        Ok(())
+    }
+
+    /// The refusal of a block, where there is no room for one.
+    pub(crate) fn check_room_for_block(&self) -> Result<(), NodeErr>
+        ensures too_many { (result ≡ Err NodeErr.TooManyNodes) ↔ IsFullForBlock self.now }
+        ensures only { IfErr result (λ e. e ≡ NodeErr.TooManyNodes) }
+    {
+        if self.num_live() == self.limit || self.blocks.next_slot() >= u32::MAX as usize {
+            return Err(NodeErr::TooManyNodes);
+        }
+        Ok(())
+    }
+
     /// A new region with no block, the last one of an operation. After a refusal all is as before.
     pub(crate) fn make_region(&mut self, op: Ptr<Operation>) -> Result<Ptr<Region>, NodeErr>
         requires { is_node_live self.old (IRNode.Operation op) ≡ true }

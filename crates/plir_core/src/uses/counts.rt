@@ -185,7 +185,7 @@ impl UseCounts {
         ensures { IsRaisedBy self.old self.new (λ at. uses_in at held.now) }
     {
         self.raise_values(&held.operands);
-        self.raise_blocks(&held.successors);
+        self.raise_blocks(held.successors.as_slice());
     }
 
     /// Takes what an operation uses off.
@@ -193,7 +193,7 @@ impl UseCounts {
         ensures { IsLoweredBy self.old self.new (λ at. uses_in at held.now) }
     {
         self.lower_values(&held.operands);
-        self.lower_blocks(&held.successors);
+        self.lower_blocks(held.successors.as_slice());
     }
 
     /// Takes what a node uses off, which is to be freed.

@@ -127,7 +127,7 @@ impl<D: OpSet> Context<D> {
     {
         let data = self.nodes.op(op);
         self.nodes.has_no_value_of(root, &data.operands)
-            && self.nodes.has_no_block_of(root, &data.successors)
+            && self.nodes.has_no_block_of(root, data.successors.as_slice())
     }
 
     // Whether the operation in a slot, if there is one, is in the tree under the root or uses nothing of it.
@@ -170,7 +170,7 @@ impl<D: OpSet> Context<D> {
             IRNode::Operation(op) => {
                 let data = self.nodes.op(op);
                 let values = self.nodes.count_values_of(root, &data.operands);
-                values.saturating_add(self.nodes.count_blocks_of(root, &data.successors))
+                values.saturating_add(self.nodes.count_blocks_of(root, data.successors.as_slice()))
             }
             IRNode::Region(_) | IRNode::BasicBlock(_) => 0,
         }

@@ -7,11 +7,11 @@ pub returns-in-Operation : goal.returns-in-Operation
 returns-in-Operation g c =
     let vs = c.deref.ensures.value ∙ ap (λ (v : OpView g.row.D-Kind.Denot g.row.D-Attr.Denot). v.operands)
     c.data.view_is in
-    let bs = c.deref-in-Operation.ensures.value ∙ ap (λ (v : OpView g.row.D-Kind.Denot g.row.D-Attr.Denot).
+    let bs = c.as_slice.ensures ∙ ap (λ (v : OpView g.row.D-Kind.Denot g.row.D-Attr.Denot).
     v.successors) c.data.view_is in
     within-told _ c.args.self.now c.self.view_is c.args.root c.args.node c.in-Operation.op c.op-data.result.now
     c.in-Operation.is c.op-data.ensures
-    c.deref.result.now c.deref-in-Operation.result.now vs bs c.count_values_of-values.result c.count_blocks_of.result _
+    c.deref.result.now c.as_slice.result.now vs bs c.count_values_of-values.result c.count_blocks_of.result _
     c.count_values_of-values.ensures c.count_blocks_of.ensures c.saturating_add.ensures
 
 pub returns-in-Region : goal.returns-in-Region

@@ -1,8 +1,9 @@
-use Rattle.std.proofs.Common.{ap, subst}
+use Rattle.std.proofs.Common.{[], ◌∙◌, refl, ap, subst}
 use Rattle.plir_core.specs.declared.ptr.IRNode.TheVariants.{BasicBlock}
 use Rattle.plir_core.specs.Contents.{OpView, BlockView}
 use Rattle.plir_core.specs.Nodes.{Nodes}
 use Rattle.plir_core.specs.ContextView.{ContextView}
+use Rattle.plir_core.specs.Edits.{with_new_block}
 use Rattle.plir_core.specs.Made.{IsMade}
 use Rattle.plir_core.proofs.ptr.BasicBlock.new.Goals as goal
 use Rattle.plir_core.proofs.Counted.{Counts-made_block}
@@ -11,9 +12,11 @@ use Rattle.plir_core.proofs.Holds.{block_new}
 
 pub invariant_of-ctx-2 : goal.invariant_of-ctx-2
 invariant_of-ctx-2 g c =
+    let ok = c.in_ok-block.ensures.ok ∙ ap (λ (v : BlockView g.row.D-Attr.Denot). with_new_block c.ctx.inside.nodes v)
+    c.in_ok-data.ensures.held in
     record {
-      whole = block_new g.D.OpSet.attr_handles _ c.args.ctx.now c.ctx.view_is c.ctx.invariant.whole c.make_block.new.self c.args.label c.args.arg_types.items c.new.result c.in_ok-block.ensures.ok c.new.ensures c.make_block.ensures.stored c.requires;
-      counted = Counts-made_block g.D.OpSet.attr_handles _ c.ctx.invariant.whole c.ctx.inside.uses c.begin.new.self (record { label = c.args.label; arg_types = c.args.arg_types.items; attributes = c.new.result }) c.make_block.new.self c.in_ok-block.block c.ctx.invariant.counted c.in_ok-block.ensures.ok c.in_ok-block.ensures.pointer c.begin.ensures;
+      whole = block_new g.D.OpSet.attr_handles _ c.args.ctx.now c.ctx.view_is c.ctx.invariant.whole c.make_block.new.self c.args.label c.args.arg_types.items [] ok refl c.make_block.ensures.stored c.requires;
+      counted = Counts-made_block g.D.OpSet.attr_handles _ c.ctx.invariant.whole c.ctx.inside.uses c.begin.new.self (record { label = c.args.label; arg_types = c.args.arg_types.items; attributes = [] }) c.make_block.new.self c.in_ok-block.block c.ctx.invariant.counted ok c.in_ok-block.ensures.pointer c.begin.ensures;
     }
 
 pub returns-clause-whole : goal.returns-clause-whole

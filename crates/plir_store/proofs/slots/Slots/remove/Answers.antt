@@ -22,7 +22,7 @@ index-requires g c =
 done : (g : _) (c : After-self-2-1 g) → IsSlots c.if-index-lt4294967295.self-inside.versions.items c.if-index-lt4294967295.self-inside.places.items c.if-index-lt4294967295.self-inside.free (c.if-index-lt4294967295.self-inside.live - 1) (without_slot c.args.self.now c.args.index)
 done g c = elim c.if-index-lt4294967295.branch [
   | then-index-lt4294967295 w ↦
-      rw w.self-inside-is (freed_read c.self.inside.versions.items c.self.inside.places.items c.self.inside.free c.self.inside.live c.args.self.now c.self.invariant c.self.view_is c.args.index c.requires c.index.result.now c.vacate-value.new.self c.index.ensures c.vacate-value.ensures.place w.if-index-lt4294967295.true)
+      rw (w.self-inside-is, w.to-self-inside.ensures) (freed_read c.self.inside.versions.items c.self.inside.places.items c.self.inside.free c.self.inside.live c.args.self.now c.self.invariant c.self.view_is c.args.index c.requires c.index.result.now c.vacate-value.new.self c.index.ensures c.vacate-value.ensures.place w.if-index-lt4294967295.true)
   | else-index-lt4294967295 w ↦
       rw w.self-inside-is (retired_read c.self.inside.versions.items c.self.inside.places.items c.self.inside.free c.self.inside.live c.args.self.now c.self.invariant c.self.view_is c.args.index c.requires c.index.result.now c.vacate-value.new.self c.index.ensures c.vacate-value.ensures.place w.if-index-lt4294967295.false)
 ]
