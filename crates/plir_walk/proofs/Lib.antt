@@ -23,6 +23,7 @@ pub mod Visiting
 pub mod Reading
 pub mod Advancing
 pub mod OperationCalls
+pub mod OperationHops
 pub mod Orders
 pub mod Lawfulness
 pub mod LawfulAbove

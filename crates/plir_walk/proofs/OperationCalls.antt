@@ -1,10 +1,14 @@
 -- Walks that come to every node and call at operations alone.
-use Rattle.std.proofs.Common.{◌≡◌, ℕ, Result, sym, subst}
+use Rattle.std.proofs.Common.{◌≡◌, ℕ, Result, Ok, ap, sym, subst}
+use Rattle.std.specs.Borrow.{Bor, MutBor}
+use Rattle.std.specs.Fn.{Shared}
 use Rattle.std.specs.declared.ops.ControlFlow.{ControlFlow}
+use Rattle.plir_core.specs.declared.ptr.Ptr.{Ptr}
+use Rattle.plir_core.specs.declared.ptr.Operation.{Operation as OperationKind}
 use Rattle.plir_core.specs.declared.ptr.IRNode.{IRNode}
 use Rattle.plir_core.specs.declared.ptr.IRNode.TheVariants.{Operation, BasicBlock, Region}
 use Rattle.plir_core.specs.Forest.{Shape}
-use Rattle.plir_walk.specs.Calls.{Relation}
+use Rattle.plir_walk.specs.Calls.{ReadsBack, Relation}
 use Rattle.plir_walk.specs.Lawful.{Lawful}
 use Rattle.plir_walk.specs.OperationLaws.{ops-chain, walked_operations}
 use Rattle.plir_walk.specs.OperationWalks.{AtEachNode, IsLawfulAtOperations, OperationRelation, WalkedOperations, WalkedOperationsWithin, operation_calls}
@@ -13,6 +17,7 @@ use Rattle.plir_walk.specs.declared.config.WalkConfig.{WalkConfig}
 use Rattle.plir_walk.specs.declared.interruptible.WalkContinue.{WalkContinue}
 use Rattle.plir_walk.specs.declared.limit.CallLimit.{CallLimit}
 use Rattle.plir_walk.proofs.Advancing.{Chain-map}
+use Rattle.plir_walk.proofs.Corollaries.{unchanged-lawful}
 use Rattle.plir_walk.proofs.Lawfulness.{lawful-none}
 
 -- what is done between the ends that a wrapper is shown and leaves
@@ -60,3 +65,19 @@ module _ {C S B : Type 0} (look : C → Shape) (post : OperationRelation C S B) 
           };
           chain = ops-chain look post r c s h.calls c' s' chain;
         }
+
+-- where a callback only reads the context, so does what is done at each node
+module _ {F C S B : Type 0} (look : C → Shape) (r : IRNode) (g : Shared F (Bor C × (MutBor S × (Ptr OperationKind × Unit {0}))) (ControlFlow B WalkContinue × (MutBor S × Unit {0}))) (f : F) where
+  each-stays : (c : C) (s : S) (n : IRNode) (a : ControlFlow B WalkContinue) (c' : C) (s' : S) → AtEachNode (ReadsBack g f) c s n a c' s' → c' ≡ c
+  each-stays c s (Operation p) a c' s' h = h.stays
+  each-stays c s (BasicBlock p) a c' s' h = h.1
+  each-stays c s (Region p) a c' s' h = h.1
+
+  pub reads-each : IsLawful look r (AtEachNode (ReadsBack g f))
+  reads-each c s n a c' s' p = unchanged-lawful (look c) (look c') n (ap look (each-stays c s n a c' s' p.made))
+
+  pub read-operations : (w : WalkConfig) (c : C) (s : S) (limit : ℕ) (a : ControlFlow B WalkContinue) (s' : S) → Walked look w (AtEachNode (ReadsBack g f)) c s r limit (Ok a) c s' → WalkedOperations look w (ReadsBack g f) c s r a s'
+  read-operations w c s limit a s' h =
+      let over = h.unchanged (λ d t n b d' t' p. let e = each-stays d t n b d' t' p.made in record { live = λ m. ap (λ z. (look z).live m) e; children = λ m. ap (λ z. (look z).children m) e }) in
+      over-operations look (ReadsBack g f) r (AtEachNode (ReadsBack g f)) (λ d t n b d' t' q. q) w c s a s'
+      (record { calls = h.calls; chain = h.chain; walk = record { in_order = over.in_order; answers = over.answers } })

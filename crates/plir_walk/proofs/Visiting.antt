@@ -5,7 +5,7 @@ use Rattle.std.specs.declared.ops.ControlFlow.{ControlFlow}
 use Rattle.std.specs.declared.ops.ControlFlow.TheVariants.{Break, Continue}
 use Rattle.plir_walk.specs.Calls.{Relation}
 use Rattle.plir_walk.specs.Config.{order_of}
-use Rattle.plir_walk.specs.Step.{due_at, goes_on, IsVisited}
+use Rattle.plir_walk.specs.Step.{due_at, goes_on, Hops, IsNotDue, IsVisited, Run}
 use Rattle.plir_walk.specs.Walked.{IsLawful, Walked}
 use Rattle.plir_walk.specs.declared.config.WalkConfig.{WalkConfig}
 use Rattle.plir_walk.specs.declared.interruptible.WalkContinue.{WalkContinue}
@@ -13,7 +13,7 @@ use Rattle.plir_walk.specs.declared.interruptible.WalkContinue.TheVariants.{Adva
 use Rattle.plir_core.specs.declared.ptr.IRNode.{IRNode}
 use Rattle.plir_core.specs.Forest.{IsForest, Shape}
 use Rattle.plir_walk.specs.Lawful.{StandsUnder}
-use Rattle.plir_walk.proofs.Hops.{Hops, Run, hops-left, run-smaller-as}
+use Rattle.plir_walk.proofs.Hops.{hops-left, run-smaller-as}
 use Rattle.plir_walk.proofs.Walking.{Walking, Halfway, moved, ended, passed, called-as, passed-as, broken-as, relimit}
 use Rattle.plir_walk.proofs.Walking.{walking-under}
 use Rattle.plir_walk.proofs.Measure.{size_of, called-smaller}
@@ -57,7 +57,7 @@ module _ {C S B : Type 0} (look : C → Shape) (w : WalkConfig) (post : Relation
 
   -- a run of steps leads to another cursor, or past the root
   run-moved : (limit : ℕ) (e : C) (st : S) (left k : ℕ) (c : IRNode) (below : Bool) (m : IRNode) (en : Bool)
-      → Half limit e st c below left → Run w (look e) r k c below (Some (m, en)) → To limit e st m en left
+      → Half limit e st c below left → Run w (look e) r (IsNotDue w) k c below (Some (m, en)) → To limit e st m en left
   run-moved limit e st left zero c below m en h z = moved look w post c0 s0 r limit e st c below left m en h (sym z)
   run-moved limit e st left (suc k) c below m en h z =
       let at = moved look w post c0 s0 r limit e st c below left z.0 z.1 h z.2 in
@@ -65,7 +65,7 @@ module _ {C S B : Type 0} (look : C → Shape) (w : WalkConfig) (post : Relation
       run-moved limit e st left k z.0 z.1 m en half z.4
 
   run-ended : (limit : ℕ) (e : C) (st : S) (left k : ℕ) (c : IRNode) (below : Bool)
-      → Half limit e st c below left → Run w (look e) r k c below None → Ends limit (Continue Advance) e st
+      → Half limit e st c below left → Run w (look e) r (IsNotDue w) k c below None → Ends limit (Continue Advance) e st
   run-ended limit e st left zero c below h z = ended look w post c0 s0 r limit e st c below left h (sym z)
   run-ended limit e st left (suc k) c below h z =
       let at = moved look w post c0 s0 r limit e st c below left z.0 z.1 h z.2 in
@@ -90,7 +90,8 @@ module _ {C S B : Type 0} (look : C → Shape) (w : WalkConfig) (post : Relation
         by false d n v = absurd (let z : Continue Advance ≡ Break b = sym v.0 ∙ q in cc)
 
     module _ (k : WalkContinue) (q : a ≡ Continue k) (below : Bool) (g : below ≡ goes_on en k) where
-      halfway : Half limit e' st' c below left'
+      -- half of it is done
+      pub halfway : Half limit e' st' c below left'
       halfway = by due d n v
         where
           by : (due : Bool) → By due (Half limit e' st' c below left')
@@ -105,13 +106,13 @@ module _ {C S B : Type 0} (look : C → Shape) (w : WalkConfig) (post : Relation
         -- the walk moves on to another cursor
         pub visit-moved : (m : IRNode) (en' : Bool) → o ≡ Some (m, en') → Cursor limit e' st' m en' left'
         visit-moved m en' z =
-            let run = subst (λ v. Run w (look e') r s.0 c below v) z s.1 in
+            let run = subst (λ v. Run w (look e') r (IsNotDue w) s.0 c below v) z s.1 in
             cursor limit e' st' m en' left' (run-moved limit e' st' left' s.0 c below m en' halfway run)
 
         -- the root was left
         pub visit-ended : o ≡ None → Ends limit (Continue Advance) e' st'
         visit-ended z =
-            run-ended limit e' st' left' s.0 c below halfway (subst (λ v. Run w (look e') r s.0 c below v) z s.1)
+            run-ended limit e' st' left' s.0 c below halfway (subst (λ v. Run w (look e') r (IsNotDue w) s.0 c below v) z s.1)
 
         -- less remains to be done
         pub visit-smaller : (m : IRNode) (en' : Bool) → o ≡ Some (m, en')
@@ -128,14 +129,14 @@ module _ {C S B : Type 0} (look : C → Shape) (w : WalkConfig) (post : Relation
                 called-smaller w (look e) (look e') f c m en en' left left' (omega (arith, p, t))
             by false d n v =
                 run-smaller-as look w e e' f r c en below m en' left left' (sym d) v.1 n
-                (g ∙ no-call a k en v.0 q) s.0 (subst (λ u. Run w (look e') r s.0 c below u) z s.1)
+                (g ∙ no-call a k en v.0 q) s.0 (subst (λ u. Run w (look e') r (IsNotDue w) s.0 c below u) z s.1)
 
         -- the same over one context, where no call is counted
         pub read-smaller : IsForest (look e') → (m : IRNode) (en' : Bool) → o ≡ Some (m, en')
             → left_at w (look e') m en' < left_at w (look e') c en
         read-smaller f m en' z =
-            hops-left w (look e') f r c en below m en' (by k g)
-            (s.0, subst (λ v. Run w (look e') r s.0 c below v) z s.1)
+            hops-left w (look e') f r (IsNotDue w) c en below m en' (by k g)
+            (s.0, subst (λ v. Run w (look e') r (IsNotDue w) s.0 c below v) z s.1)
           where
             by : (k : WalkContinue) → below ≡ goes_on en k → (below ≡ en) ⊎ (below ≡ false)
             by Advance g = inl g

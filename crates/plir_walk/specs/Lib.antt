@@ -17,9 +17,11 @@ pub mod Step
 pub mod Laws
 pub mod CallLaws
 pub mod TreeLaws
+pub mod NodeLaws
 pub mod WalkLaws
 pub mod Thinned
 pub mod OperationWalks
+pub mod OperationSteps
 pub mod OperationLaws
 pub mod GivenNames
 pub mod Placing

@@ -1,7 +1,7 @@
 -- One step of a walk's cursor: a node, and whether it is entered or left; and one hop, which is a run of steps. The
 -- walkers' loops go by it; the contracts of walks cite nothing of it.
-use Rattle.std.specs.Prelude.{◌≡◌, Bool, true, false, not, cond, List, [], ◌∷◌, reverse, Option, Some, None}
-use Rattle.std.specs.Prelude.{option_and_then, option_map}
+use Rattle.std.specs.Prelude.{◌≡◌, ℕ, zero, suc, Bool, true, false, not, cond, List, [], ◌∷◌, reverse}
+use Rattle.std.specs.Prelude.{Option, Some, None, option_and_then, option_map}
 use Rattle.plir_core.specs.declared.ptr.IRNode.{IRNode}
 use Rattle.plir_core.specs.Forest.{Shape, IsForest}
 use Rattle.std.specs.declared.ops.ControlFlow.{ControlFlow}
@@ -59,24 +59,29 @@ entered_by first PostOrder n = enter_or_leave first n
 abbrev pub entered : WalkConfig → Shape → IRNode → IRNode × Bool
 entered w s n = entered_by (first_of w s n) (order_of w n) n
 
--- where a walk stands next that leaves n: it enters the next sibling, or leaves the parent
-abbrev pub left_by : WalkConfig → Shape → Option IRNode → Option IRNode → Option (IRNode × Bool)
-left_by w s (Some k) up = Some (entered w s k)
-left_by w s None up = option_map (λ a. (a, false)) up
+-- A run of steps from n, of which each but the last leads to a node that is passed by.
+abbrev pub Run : WalkConfig → Shape → IRNode → (IRNode → Bool → Type 0) → ℕ → IRNode → Bool → Option (IRNode × Bool) →
+    Type 0
+Run w s root Passed zero n below o = o ≡ step_of w s root n below
+Run w s root Passed (suc k) n below o = (m : IRNode) × (entering : Bool) ×
+    (step_of w s root n below ≡ Some (m, entering)) × Passed m entering × Run w s root Passed k m entering o
 
-abbrev pub left_from : WalkConfig → Shape → IRNode → IRNode → Option (IRNode × Bool)
-left_from w s root n = cond (same n root) None (left_by w s (next_of w s n) (s.parent n))
+abbrev pub Runs : WalkConfig → Shape → IRNode → (IRNode → Bool → Type 0) → IRNode → Bool → Option (IRNode × Bool) →
+    Type 0
+Runs w s root Passed n below o = (k : ℕ) × Run w s root Passed k n below o
 
--- where a walk stands next that goes below n: it enters the first child, or leaves n
-abbrev pub sunk_by : WalkConfig → Shape → IRNode → IRNode → Option IRNode → Order → Option (IRNode × Bool)
-sunk_by w s root n (Some k) order = Some (k, true)
-sunk_by w s root n None PreOrder = left_from w s root n
-sunk_by w s root n None PostOrder = Some (n, false)
+-- no call is due at a cursor
+abbrev pub IsNotDue : WalkConfig → IRNode → Bool → Type 0
+IsNotDue w n entering = due_at (order_of w n) entering ≡ false
 
 -- One hop of a walk's cursor: a step, and further ones from where no call is due.
-abbrev pub hop_of : WalkConfig → Shape → IRNode → IRNode → Bool → Option (IRNode × Bool)
-hop_of w s root n true = sunk_by w s root n (first_of w s n) (order_of w n)
-hop_of w s root n false = left_from w s root n
+abbrev pub Hops : WalkConfig → Shape → IRNode → IRNode → Bool → Option (IRNode × Bool) → Type 0
+Hops w s root n below o = Runs w s root (IsNotDue w) n below o
+
+-- A hop leads to a cursor, told with whether its node is called now; or the walk ends.
+abbrev pub IsHop : WalkConfig → Shape → IRNode → IRNode → Bool → Option (IRNode × Bool × Bool) → Type 0
+IsHop w s root n below None = Hops w s root n below None
+IsHop w s root n below (Some c) = Hops w s root n below (Some (c.0, c.1)) × (c.2 ≡ due_at (order_of w c.0) c.1)
 
 -- a cursor with whether its node is called now
 abbrev pub cursor_at : WalkConfig → IRNode × Bool → IRNode × Bool × Bool

@@ -108,15 +108,17 @@ pub(crate) fn walk<C: NodeLinks, S, B: Drop, F: Fn(&C, &mut S, IRNode) -> WalkRe
     ensures { WalkedOver C.look config.now (ReadsBack F.Fn callback) ctx.now state.old root result state.new }
 {
     ctx.forest();
+    // A copy, which no callback can reach: where it is known, the loop has no branch on it.
+    let setting = *config;
     let mut node = root;
     let mut entering = true;
-    let mut due = is_due(config, root, true);
+    let mut due = is_due(&setting, root, true);
     'nodes: loop {
         let answer = match visit(ctx, state, root, node, due, &callback) {
             ControlFlow::Break(b) => return ControlFlow::Break(b),
             ControlFlow::Continue(answer) => answer,
         };
-        match onward(ctx, config, root, node, entering, answer) {
+        match onward(ctx, &setting, root, node, entering, answer) {
             Some((next, enter, call)) => {
                 node = next;
                 entering = enter;

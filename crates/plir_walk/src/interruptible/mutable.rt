@@ -135,10 +135,12 @@ pub(crate) fn walk<C: NodeLinks, S, B: Drop, F: Fn(&mut C, &mut S, IRNode) -> Wa
     ensures { Walked C.look config.now (CallsBack F.Fn callback) ctx.old state.old root limit result ctx.new state.new }
 {
     ctx.forest();
+    // A copy, which no callback can reach: where it is known, the loop has no branch on it.
+    let setting = *config;
     let mut left = limit;
     let mut node = root;
     let mut entering = true;
-    let mut due = is_due(config, root, true);
+    let mut due = is_due(&setting, root, true);
     'nodes: loop {
         if due {
             if left == 0 {
@@ -150,7 +152,7 @@ pub(crate) fn walk<C: NodeLinks, S, B: Drop, F: Fn(&mut C, &mut S, IRNode) -> Wa
             ControlFlow::Break(b) => return Ok(ControlFlow::Break(b)),
             ControlFlow::Continue(answer) => answer,
         };
-        match onward(ctx, config, root, node, entering, answer) {
+        match onward(ctx, &setting, root, node, entering, answer) {
             Some((next, enter, call)) => {
                 node = next;
                 entering = enter;

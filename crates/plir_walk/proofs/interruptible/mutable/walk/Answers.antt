@@ -1,7 +1,7 @@
-use Rattle.std.proofs.Common.{◌-◌, refl, sym, ◌∙◌, subst}
+use Rattle.std.proofs.Common.{refl, sym, ◌∙◌, subst}
 use Rattle.plir_walk.specs.Calls.{CallsBack}
 use Rattle.plir_walk.specs.Step.{goes_on}
-use Rattle.plir_walk.proofs.Hops.{hops, hop-at, hop-none}
+use Rattle.plir_walk.proofs.Hops.{hop-at, hop-none}
 use Rattle.plir_walk.proofs.Walking.{begin, limited}
 use Rattle.plir_walk.proofs.Visiting.{IsCounted, cursor, visit-broke, visit-moved, visit-ended, visit-smaller}
 use Rattle.plir_walk.proofs.interruptible.mutable.walk.Goals as goal
@@ -51,7 +51,7 @@ nodes-preserved g c =
     let r = c.args.root in
     let s = g.C.NodeLinks.look c.visit.new.ctx in
     let below = goes_on c.nodes.entering c.in-Continue.answer in
-    let at = hop-at w s r _ _ c.onward.ensures c.in-Some.next c.in-Some.enter c.in-Some.call c.in-Some.is in
+    let at = hop-at w s r c.nodes.node below _ c.onward.ensures c.in-Some.next c.in-Some.enter c.in-Some.call c.in-Some.is in
     let left = c.if-due.left in
     let counted : IsCounted due c.nodes.left left = elim c.if-due.branch [
       | then-due+else-left-eq0 v ↦
@@ -61,7 +61,7 @@ nodes-preserved g c =
       visit-moved g.C.NodeLinks.look w post c.args.ctx.now c.args.state.now c.args.root c.requires.lawful c.args.limit
           c.nodes.ctx c.visit.new.ctx c.nodes.state c.visit.new.state c.nodes.node c.nodes.entering due c.nodes.left left
           c.visit.result c.nodes.invariant.0 c.nodes.invariant.1 counted c.visit.ensures.visited c.in-Continue.answer c.in-Continue.is
-          below refl _ (hops w s r c.nodes.node below) c.in-Some.next c.in-Some.enter at.0,
+          below refl _ at.0 c.in-Some.next c.in-Some.enter refl,
       at.1,
     )
 
@@ -82,8 +82,7 @@ returns-in-None g c =
     visit-ended g.C.NodeLinks.look w post c.args.ctx.now c.args.state.now c.args.root c.requires.lawful c.args.limit
     c.nodes.ctx c.visit.new.ctx c.nodes.state c.visit.new.state c.nodes.node c.nodes.entering due c.nodes.left left
     c.visit.result c.nodes.invariant.0 c.nodes.invariant.1 counted c.visit.ensures.visited c.in-Continue.answer c.in-Continue.is
-    below refl _ (hops w s r c.nodes.node below)
-    (hop-none w s r _ _ c.onward.ensures c.in-None.is)
+    below refl _ (hop-none w s r c.nodes.node below _ c.onward.ensures c.in-None.is) refl
 
 pub nodes-smaller : goal.nodes-smaller
 nodes-smaller g c =
@@ -93,7 +92,7 @@ nodes-smaller g c =
     let r = c.args.root in
     let s = g.C.NodeLinks.look c.visit.new.ctx in
     let below = goes_on c.nodes.entering c.in-Continue.answer in
-    let at = hop-at w s r _ _ c.onward.ensures c.in-Some.next c.in-Some.enter c.in-Some.call c.in-Some.is in
+    let at = hop-at w s r c.nodes.node below _ c.onward.ensures c.in-Some.next c.in-Some.enter c.in-Some.call c.in-Some.is in
     let left = c.if-due.left in
     let counted : IsCounted due c.nodes.left left = elim c.if-due.branch [
       | then-due+else-left-eq0 v ↦
@@ -103,4 +102,4 @@ nodes-smaller g c =
     visit-smaller g.C.NodeLinks.look w post c.args.ctx.now c.args.state.now c.args.root c.requires.lawful c.args.limit
     c.nodes.ctx c.visit.new.ctx c.nodes.state c.visit.new.state c.nodes.node c.nodes.entering due c.nodes.left left
     c.visit.result c.nodes.invariant.0 c.nodes.invariant.1 counted c.visit.ensures.visited c.in-Continue.answer c.in-Continue.is
-    below refl _ (hops w s r c.nodes.node below) c.in-Some.next c.in-Some.enter at.0
+    below refl _ at.0 c.in-Some.next c.in-Some.enter refl
