@@ -1,5 +1,6 @@
 -- Items of a list in brackets that are read one after the other, while types come into a table.
-use Rattle.std.proofs.Common.{◌≡◌, ℕ, zero, suc, ◌<◌, List, [], ◌∷◌, ◌++◌, length, true, false, None, Result, Ok, refl, subst}
+use Rattle.std.proofs.Common.{◌≡◌, ℕ, zero, suc, ◌<◌, List, [], ◌∷◌, ◌++◌, length, true, false, None, Result, Ok, refl}
+use Rattle.std.proofs.Common.{subst}
 use Rattle.plir_data.specs.Types.{TypeView}
 use Rattle.plir_attr_text.specs.declared.fault.Fault.{Fault}
 use Rattle.plir_attr_text.specs.declared.fault.Stop.{Stop}
@@ -11,8 +12,12 @@ use Rattle.plir_attr_text.specs.Reading.{Fails}
 use Rattle.plir_attr_text.specs.laws.Fronts.{GoesOn, starts, ends_at_item, ends_behind, closes, goes_on}
 use Rattle.plir_attr_text.specs.laws.Growth.{Adds-itself, Adds-on, Adds-as}
 
--- what is held means the items read so far, the next one begins at rest, and only types that are written in the items before have come
-pub record Gathers {S T Y H : Type 0} (types : S → List (TypeView T)) (same : S → S → Type 0) (open_ close : ℕ) (read : List ℕ → Result (Y × List ℕ) Fault) (is_in : List ℕ → TypeTerm → Type 0) (means : List (TypeView T) → H → List Y → Type 0) (bytes : List ℕ) (first now : S) (held : H) (rest : List ℕ) : Type 0 where
+-- what is held means the items read so far, the next one begins at rest, and only types that are written in the items
+-- before have come
+pub record Gathers {S T Y H : Type 0} (types : S → List (TypeView T)) (same : S → S → Type 0) (open_ close : ℕ)
+    (read : List ℕ → Result (Y × List ℕ) Fault) (is_in : List ℕ → TypeTerm → Type 0)
+    (means : List (TypeView T) → H → List Y → Type 0) (bytes : List ℕ) (first now : S) (held : H) (rest : List ℕ) : Type
+    0 where
   pub kept : Adds types same (IsInList open_ close read is_in bytes) first now
   pub front : List Y
   pub meant : means (types now) held front
@@ -20,35 +25,75 @@ pub record Gathers {S T Y H : Type 0} (types : S → List (TypeView T)) (same : 
   pub going : GoesOn (separator_at close) read front rest (items_at open_ close read bytes)
 
 -- behind one more item
-behind_more : {Y : Type 0} (open_ close : ℕ) (read : List ℕ → Result (Y × List ℕ) Fault) (n : ℕ) (start rest next : List ℕ) (x : Y × List ℕ) → IsBehind open_ close read n start rest → read rest ≡ Ok x → separator_at close x.1 ≡ Ok (true, next) → IsBehind open_ close read (suc n) start next
+behind_more : {Y : Type 0} (open_ close : ℕ) (read : List ℕ → Result (Y × List ℕ) Fault) (n : ℕ)
+    (start rest next : List ℕ) (x : Y × List ℕ) → IsBehind open_ close read n start rest → read rest ≡ Ok x →
+    separator_at close x.1 ≡ Ok (true, next) → IsBehind open_ close read (suc n) start next
 behind_more open_ close read zero start rest next x h e s = (x, next, subst (λ l. read l ≡ Ok x) h e, s, refl)
-behind_more open_ close read (suc n) start rest next x h e s = (h.0, h.1, h.2, h.3, behind_more open_ close read n h.1 rest next x h.4 e s)
+behind_more open_ close read (suc n) start rest next x h e s =
+    (h.0, h.1, h.2, h.3, behind_more open_ close read n h.1 rest next x h.4 e s)
 
-module _ {S T Y H : Type 0} {types : S → List (TypeView T)} {same : S → S → Type 0} (open_ close : ℕ) (read : List ℕ → Result (Y × List ℕ) Fault) (is_in : List ℕ → TypeTerm → Type 0) (means : List (TypeView T) → H → List Y → Type 0) (bytes : List ℕ) where
-  pub begins : ((c : S) → same c c) → (c : S) (held : H) (start : List ℕ) → means (types c) held [] → sign_at open_ bytes ≡ Ok start → past_sign close start ≡ None → Gathers types same open_ close read is_in means bytes c c held start
-  begins itself c held start none p q = record { kept = Adds-itself itself c; front = []; meant = none; place = (start, zero, p, q, refl); going = starts open_ close read bytes start p q }
+module _ {S T Y H : Type 0} {types : S → List (TypeView T)} {same : S → S → Type 0} (open_ close : ℕ)
+    (read : List ℕ → Result (Y × List ℕ) Fault) (is_in : List ℕ → TypeTerm → Type 0)
+    (means : List (TypeView T) → H → List Y → Type 0) (bytes : List ℕ) where
+  pub begins : ((c : S) → same c c) → (c : S) (held : H) (start : List ℕ) → means (types c) held [] →
+      sign_at open_ bytes ≡ Ok start → past_sign close start ≡ None →
+      Gathers types same open_ close read is_in means bytes c c held start
+  begins itself c held start none p q =
+      record {
+        kept = Adds-itself itself c;
+        front = [];
+        meant = none;
+        place = (start, zero, p, q, refl);
+        going =
+            starts open_ close read bytes start p q;
+      }
 
   -- the types that the next item adds are written in the list
-  pub kept_on : ((a b c : S) → same a b → same b c → same a c) → (a b c : S) (held : H) (rest : List ℕ) → Gathers types same open_ close read is_in means bytes a b held rest → Adds types same (is_in rest) b c → Adds types same (IsInList open_ close read is_in bytes) a c
-  kept_on on a b c held rest so_far kept = Adds-on on a b c so_far.kept (Adds-as (λ t w. (rest, so_far.place, w)) b c kept)
+  pub kept_on : ((a b c : S) → same a b → same b c → same a c) → (a b c : S) (held : H) (rest : List ℕ) →
+      Gathers types same open_ close read is_in means bytes a b held rest → Adds types same (is_in rest) b c →
+      Adds types same (IsInList open_ close read is_in bytes) a c
+  kept_on on a b c held rest so_far kept =
+      Adds-on on a b c so_far.kept (Adds-as (λ t w. (rest, so_far.place, w)) b c kept)
 
-  module _ (on : (a b c : S) → same a b → same b c → same a c) (grown : (a b : List (TypeView T)) (held : H) (ys : List Y) → Grows a b → means a held ys → means b held ys) (a b c : S) (held : H) (rest : List ℕ) (so_far : Gathers types same open_ close read is_in means bytes a b held rest) (kept : Adds types same (is_in rest) b c) where
+  module _ (on : (a b c : S) → same a b → same b c → same a c)
+      (grown : (a b : List (TypeView T)) (held : H) (ys : List Y) → Grows a b → means a held ys → means b held ys)
+      (a b c : S) (held : H) (rest : List ℕ)
+      (so_far : Gathers types same open_ close read is_in means bytes a b held rest)
+      (kept : Adds types same (is_in rest) b c) where
     -- the next item, and what stands behind it
-    module _ (y : Y) (after : List ℕ) (is_read : read rest ≡ Ok (y, after)) (held' : H) (push : (front : List Y) → means (types c) held front → means (types c) held' (front ++ y ∷ [])) where
-      pub gathered : (behind : List ℕ) → separator_at close after ≡ Ok (false, behind) → (z : List Y × List ℕ) × (items_at open_ close read bytes ≡ Ok z) × (means (types c) held' z.0 × (behind ≡ z.1))
-      gathered behind s = ((so_far.front ++ y ∷ [], behind), closes (separator_at close) read so_far.front rest _ y after behind so_far.going is_read s, (push so_far.front (grown (types b) (types c) held so_far.front kept.grown so_far.meant), refl))
+    module _ (y : Y) (after : List ℕ) (is_read : read rest ≡ Ok (y, after)) (held' : H)
+        (push : (front : List Y) → means (types c) held front → means (types c) held' (front ++ y ∷ [])) where
+      pub gathered : (behind : List ℕ) → separator_at close after ≡ Ok (false, behind) → (z : List Y × List ℕ) ×
+          (items_at open_ close read bytes ≡ Ok z) × (means (types c) held' z.0 × (behind ≡ z.1))
+      gathered behind s = (
+        (so_far.front ++ y ∷ [], behind),
+        closes (separator_at close) read so_far.front rest _ y after behind so_far.going is_read s,
+        (push so_far.front (grown (types b) (types c) held so_far.front kept.grown so_far.meant), refl),
+      )
 
-      pub one_more : (behind : List ℕ) → separator_at close after ≡ Ok (true, behind) → length behind < length rest → Gathers types same open_ close read is_in means bytes a c held' behind
+      pub one_more : (behind : List ℕ) → separator_at close after ≡ Ok (true, behind) → length behind < length rest →
+          Gathers types same open_ close read is_in means bytes a c held' behind
       one_more behind s lt = record {
         kept = kept_on on a b c held rest so_far kept;
         front = so_far.front ++ y ∷ [];
         meant = push so_far.front (grown (types b) (types c) held so_far.front kept.grown so_far.meant);
-        place = (so_far.place.0, suc so_far.place.1, so_far.place.2, so_far.place.3, behind_more open_ close read so_far.place.1 so_far.place.0 rest behind (y, after) so_far.place.4 is_read s);
+        place = (
+          so_far.place.0,
+          suc so_far.place.1,
+          so_far.place.2,
+          so_far.place.3,
+          behind_more open_ close read so_far.place.1 so_far.place.0 rest behind (y, after) so_far.place.4 is_read s,
+        );
         going = goes_on (separator_at close) read so_far.front rest _ y after behind so_far.going is_read s lt;
       }
 
-  pub fails_at : (a b : S) (held : H) (rest : List ℕ) (e : Stop) → Gathers types same open_ close read is_in means bytes a b held rest → Fails e (read rest) → Fails e (items_at open_ close read bytes)
+  pub fails_at : (a b : S) (held : H) (rest : List ℕ) (e : Stop) →
+      Gathers types same open_ close read is_in means bytes a b held rest → Fails e (read rest) →
+      Fails e (items_at open_ close read bytes)
   fails_at a b held rest e so_far h = ends_at_item (separator_at close) read so_far.front rest _ ⊥ e so_far.going h
 
-  pub fails_behind : (a b : S) (held : H) (rest : List ℕ) (e : Stop) (y : Y) (after : List ℕ) → Gathers types same open_ close read is_in means bytes a b held rest → read rest ≡ Ok (y, after) → Fails e (separator_at close after) → Fails e (items_at open_ close read bytes)
-  fails_behind a b held rest e y after so_far h k = ends_behind (separator_at close) read so_far.front rest _ ⊥ e y after so_far.going h k
+  pub fails_behind : (a b : S) (held : H) (rest : List ℕ) (e : Stop) (y : Y) (after : List ℕ) →
+      Gathers types same open_ close read is_in means bytes a b held rest → read rest ≡ Ok (y, after) →
+      Fails e (separator_at close after) → Fails e (items_at open_ close read bytes)
+  fails_behind a b held rest e y after so_far h k =
+      ends_behind (separator_at close) read so_far.front rest _ ⊥ e y after so_far.going h k

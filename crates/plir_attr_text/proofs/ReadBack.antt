@@ -9,7 +9,7 @@ use Rattle.plir_data.specs.Laws.{IsDictOfItself}
 use Rattle.plir_data.specs.Types as types
 use Rattle.plir_data.specs.Types.{TypeView, IsTypeTable, type_at}
 use Rattle.plir_data.specs.declared.attributes.AttrObj.{AttrObj}
-use Rattle.plir_attr_text.specs.AttrAnswer.{IsReadable, IsReadBack}
+use Rattle.plir_attr_text.specs.AttrReadBack.{IsReadable, IsReadBack}
 use Rattle.plir_attr_text.specs.AttrText.{attr_text}
 use Rattle.plir_attr_text.specs.Meaning.{StandsFor}
 use Rattle.plir_attr_text.specs.Names.{Grows}
@@ -23,8 +23,14 @@ use Rattle.plir_attr_text.specs.laws.Meanings.{one_live, leaf_live}
 use Rattle.plir_attr_text.specs.laws.SameMeanings.{one_meaning}
 
 -- what a table has grown from is a table
-pub table_before : {T : Type 0} (own_handles : T → List ℕ) (old new : List (TypeView T)) → Grows old new → IsTypeTable own_handles new → IsTypeTable own_handles old
-table_before own_handles old new g whole = record { once = λ t i j p q. whole.once t i j (at_grown old new i t g p) (at_grown old new j t g q); before = λ t i p. whole.before t i (at_grown old new i t g p) }
+pub table_before : {T : Type 0} (own_handles : T → List ℕ) (old new : List (TypeView T)) → Grows old new →
+    IsTypeTable own_handles new → IsTypeTable own_handles old
+table_before own_handles old new g whole =
+    record {
+      once = λ t i j p q. whole.once t i j (at_grown old new i t g p) (at_grown old new j t g q);
+      before =
+          λ t i p. whole.before t i (at_grown old new i t g p);
+    }
 
 -- the handles in what can be written are of the table
 module _ {A T : Type 0} (own_handles : A → List ℕ) (table : List (TypeView T)) where
@@ -32,7 +38,8 @@ module _ {A T : Type 0} (own_handles : A → List ℕ) (table : List (TypeView T
   leaf_held (views.identifier w) h = leaf_live own_handles table (views.identifier w) refl
   leaf_held (views.string s) h = leaf_live own_handles table (views.string s) refl
   leaf_held (views.bool b) h = leaf_live own_handles table (views.bool b) refl
-  leaf_held (views.integer handle w b) h = let t = verified_type (type_at table handle) w h.3 in one_live own_handles table handle (slice_get_within table handle (types.integer t.0 w) t.1)
+  leaf_held (views.integer handle w b) h = let t = verified_type (type_at table handle) w h.3 in
+      one_live own_handles table handle (slice_get_within table handle (types.integer t.0 w) t.1)
   leaf_held views.unit h = leaf_live own_handles table views.unit refl
   leaf_held (views.type_of handle) h = one_live own_handles table handle h.0
   leaf_held (views.operand_segment_sizes ns) h = leaf_live own_handles table (views.operand_segment_sizes ns) refl
@@ -54,9 +61,15 @@ module _ {A T : Type 0} (own_handles : A → List ℕ) (table : List (TypeView T
     entries_live (entry k x es) h = (writable_live x h.0, entries_live es h.1)
 
 -- what the text of an attribute stands for in a table that has grown on
-module _ {A T : Type 0} (itself : IsDictOfItself (AttrView A)) (own_id : A → List ℕ) (own_body : List (TypeView T) → A → List ℕ) (type_id : T → List ℕ) (type_body : List (TypeView T) → T → List ℕ) (own_handles : T → List ℕ) (old new : List (TypeView T)) (g : Grows old new) (whole : IsTypeTable own_handles new) (bytes : List ℕ) (x : AttrView A) (is : bytes ≡ attr_text own_id own_body type_id type_body old x) (readable : IsReadable old x) where
+module _ {A T : Type 0} (itself : IsDictOfItself (AttrView A)) (own_id : A → List ℕ)
+    (own_body : List (TypeView T) → A → List ℕ) (type_id : T → List ℕ) (type_body : List (TypeView T) → T → List ℕ)
+    (own_handles : T → List ℕ) (old new : List (TypeView T)) (g : Grows old new) (whole : IsTypeTable own_handles new)
+    (bytes : List ℕ) (x : AttrView A) (is : bytes ≡ attr_text own_id own_body type_id type_body old x)
+    (readable : IsReadable old x) where
   pub stands : StandsFor 200 new bytes x
-  stands = subst (λ l. StandsFor 200 new l x) (sym is) (text_stands itself own_handles old (table_before own_handles old new g whole) own_id own_body type_id type_body 200 new g x readable.0 readable.1)
+  stands = subst (λ l. StandsFor 200 new l x) (sym is)
+      (text_stands itself own_handles old (table_before own_handles old new g whole) own_id own_body type_id type_body
+      200 new g x readable.0 readable.1)
 
   pub read_again : (y : AttrView A) → StandsFor 200 new bytes y → y ≡ x
   read_again y found = one_meaning own_handles new whole 200 200 bytes y x found stands
@@ -74,10 +87,15 @@ memory_alone faults.Memory h = refl
 memory_alone faults.TooManyNodes h = absurd (h (λ e. absurd cc))
 
 -- whatever the reader answers to the text of an attribute that can be read back
-module _ {D K A T E : Type 0} (itself : IsDictOfItself (AttrView A)) (own_id : A → List ℕ) (own_body : List (TypeView T) → A → List ℕ) (type_id : T → List ℕ) (type_body : List (TypeView T) → T → List ℕ) (attr_handles : A → List ℕ) (type_handles : T → List ℕ) where
-  pub read_back : (x : AttrView A) (bytes : List ℕ) (answer : Result (AttrObj D K A T E) ReadErr) → IsReadBack own_id own_body type_id type_body attr_handles type_handles x bytes answer
+module _ {D K A T E : Type 0} (itself : IsDictOfItself (AttrView A)) (own_id : A → List ℕ)
+    (own_body : List (TypeView T) → A → List ℕ) (type_id : T → List ℕ) (type_body : List (TypeView T) → T → List ℕ)
+    (attr_handles : A → List ℕ) (type_handles : T → List ℕ) where
+  pub read_back : (x : AttrView A) (bytes : List ℕ) (answer : Result (AttrObj D K A T E) ReadErr) →
+      IsReadBack own_id own_body type_id type_body attr_handles type_handles x bytes answer
   read_back x bytes (Ok a) printed old new whole readable is grown read =
-      read_again itself own_id own_body type_id type_body type_handles printed new (Grows-on printed old new grown read.grown) whole bytes x is readable (attr_view a) read.found
+      read_again itself own_id own_body type_id type_body type_handles printed new
+      (Grows-on printed old new grown read.grown) whole bytes x is readable (attr_view a) read.found
   read_back x bytes (Err e) printed old new whole readable is grown read =
-      let ours = stands itself own_id own_body type_id type_body type_handles printed new (Grows-on printed old new grown read.grown) whole bytes x is readable in
+      let ours = stands itself own_id own_body type_id type_body type_handles printed new
+      (Grows-on printed old new grown read.grown) whole bytes x is readable in
       memory_alone e.fault (λ other. read.refused other ours.0 ours.1)

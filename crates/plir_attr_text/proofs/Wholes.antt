@@ -1,5 +1,6 @@
 -- Readers of whole texts, and what they refuse.
-use Rattle.std.proofs.Common.{◌≡◌, ◌≢◌, ◌⊎◌, inl, ◌≤◌, ◌+◌, ℕ, suc, arith, true≢false, List, Result, Ok, Err, refl, sym, ap, ◌∙◌}
+use Rattle.std.proofs.Common.{◌≡◌, ◌≢◌, ◌⊎◌, inl, ◌≤◌, ◌+◌, ℕ, suc, arith, true≢false, List, Result, Ok, Err, refl, sym}
+use Rattle.std.proofs.Common.{ap, ◌∙◌}
 use Rattle.plir_data.specs.declared.types.Signedness.{Signedness}
 use Rattle.plir_attr_text.specs.declared.fault.Fault.{Fault}
 use Rattle.plir_attr_text.specs.declared.fault.Fault.TheVariants.{Memory}
@@ -11,7 +12,8 @@ use Rattle.plir_attr_text.specs.TypeGrammar.{IsText, TypeWithin, IsInteger, Func
 use Rattle.plir_attr_text.specs.TypeReading.{integer_at, function_at, type_at}
 use Rattle.plir_attr_text.specs.Wholes.{end_at, whole}
 use Rattle.plir_attr_text.specs.Steps.{◌>>=◌}
-use Rattle.plir_attr_text.specs.Reading.{Fails, HasNoPlace, is_of_text, fault_of}
+use Rattle.plir_attr_text.specs.Faults.{HasNoPlace, is_of_text}
+use Rattle.plir_attr_text.specs.Reading.{Fails, fault_of}
 use Rattle.plir_attr_text.specs.laws.StepLaws.{done, Fails-bind, Fails-from}
 use Rattle.plir_attr_text.specs.laws.ListsFound.{IsSound, whole_found}
 use Rattle.plir_attr_text.specs.laws.ListsAgain.{refused, only_one}
@@ -19,56 +21,74 @@ use Rattle.plir_attr_text.specs.laws.TypesFound.{integer_found, function_found, 
 use Rattle.plir_attr_text.specs.laws.TypesAgain.{integer_again, type_within_again, function_within_again}
 
 -- a fault that is told is the one that was met
-pub told : {X : Type 0} (stop : Stop) (f : Fault) (read : Result X Fault) → f ≡ fault_of stop → Fails stop read → f ≢ Memory → read ≡ Err f
+pub told : {X : Type 0} (stop : Stop) (f : Fault) (read : Result X Fault) → f ≡ fault_of stop → Fails stop read →
+    f ≢ Memory → read ≡ Err f
 told OutOfMemory f read e h n = absurd (n e)
 told Crowded f read e h n = absurd h
 told (At g left) f read e h n = h.0 ∙ ap (λ k. Err k) (sym e)
 
 -- no place is told where memory was wanting
-pub no_place : {X : Type 0} (stop : Stop) (e : ReadErr) (read : Result X Fault) → e.fault ≡ fault_of stop → ((stop ≡ OutOfMemory) ⊎ (stop ≡ Crowded) → (e.line ≡ 0) × (e.column ≡ 0)) → Fails stop read → HasNoPlace e
+pub no_place : {X : Type 0} (stop : Stop) (e : ReadErr) (read : Result X Fault) → e.fault ≡ fault_of stop →
+    ((stop ≡ OutOfMemory) ⊎ (stop ≡ Crowded) → (e.line ≡ 0) × (e.column ≡ 0)) → Fails stop read → HasNoPlace e
 no_place OutOfMemory e read is nowhere h = λ none. nowhere (inl refl)
 no_place Crowded e read is nowhere h = absurd h
 no_place (At f left) e read is nowhere h = λ none. absurd (true≢false (sym h.1 ∙ ap is_of_text (sym is) ∙ none))
 
-pub type_text_found : (n : ℕ) (bytes : List ℕ) (t : TypeTerm) → whole (type_at n) bytes ≡ Ok t → IsText (TypeWithin n) bytes t
+pub type_text_found : (n : ℕ) (bytes : List ℕ) (t : TypeTerm) → whole (type_at n) bytes ≡ Ok t →
+    IsText (TypeWithin n) bytes t
 type_text_found n bytes t e = whole_found (TypeWithin n) 41 (type_at n) (type_found n) bytes t e
 
-pub type_text_refused : (n : ℕ) (bytes : List ℕ) (f : Fault) → whole (type_at n) bytes ≡ Err f → (t : TypeTerm) → IsText (TypeWithin n) bytes t → ⊥
+pub type_text_refused : (n : ℕ) (bytes : List ℕ) (f : Fault) → whole (type_at n) bytes ≡ Err f → (t : TypeTerm) →
+    IsText (TypeWithin n) bytes t → ⊥
 type_text_refused n bytes f e t s = refused (type_at n) (TypeWithin n) (type_within_again n) bytes f e t s
 
-pub integer_text_found : (bytes : List ℕ) (x : Signedness × ℕ) → whole integer_at bytes ≡ Ok x → IsText IsInteger bytes x
+pub integer_text_found : (bytes : List ℕ) (x : Signedness × ℕ) → whole integer_at bytes ≡ Ok x →
+    IsText IsInteger bytes x
 integer_text_found bytes x e = whole_found IsInteger 41 integer_at integer_found bytes x e
 
-pub integer_text_refused : (bytes : List ℕ) (f : Fault) → whole integer_at bytes ≡ Err f → (x : Signedness × ℕ) → IsText IsInteger bytes x → ⊥
+pub integer_text_refused : (bytes : List ℕ) (f : Fault) → whole integer_at bytes ≡ Err f → (x : Signedness × ℕ) →
+    IsText IsInteger bytes x → ⊥
 integer_text_refused bytes f e x s = refused integer_at IsInteger integer_again bytes f e x s
 
 function_sound : (n : ℕ) → IsSound (FunctionWithin (suc n)) (function_at (type_at n))
-function_sound n bytes x e = let f = function_found n (type_at n) (type_found n) bytes x e in record { tokens = f.tokens; begins = f.begins; spelled = (f.spelled.0, omega (arith, f.spelled.1, f.spelled.2)) }
+function_sound n bytes x e = let f = function_found n (type_at n) (type_found n) bytes x e in
+    record { tokens = f.tokens; begins = f.begins; spelled = (f.spelled.0, omega (arith, f.spelled.1, f.spelled.2)) }
 
-pub function_text_found : (n : ℕ) (bytes : List ℕ) (x : TypeTerms × TypeTerms) → whole (function_at (type_at n)) bytes ≡ Ok x → IsText (FunctionWithin (suc n)) bytes x
-function_text_found n bytes x e = whole_found (FunctionWithin (suc n)) 41 (function_at (type_at n)) (function_sound n) bytes x e
+pub function_text_found : (n : ℕ) (bytes : List ℕ) (x : TypeTerms × TypeTerms) →
+    whole (function_at (type_at n)) bytes ≡ Ok x → IsText (FunctionWithin (suc n)) bytes x
+function_text_found n bytes x e =
+    whole_found (FunctionWithin (suc n)) 41 (function_at (type_at n)) (function_sound n) bytes x e
 
-pub function_text_refused : (n : ℕ) (bytes : List ℕ) (f : Fault) → whole (function_at (type_at n)) bytes ≡ Err f → (x : TypeTerms × TypeTerms) → IsText (FunctionWithin (suc n)) bytes x → ⊥
-function_text_refused n bytes f e x s = refused (function_at (type_at n)) (FunctionWithin (suc n)) (function_within_again n) bytes f e x s
+pub function_text_refused : (n : ℕ) (bytes : List ℕ) (f : Fault) → whole (function_at (type_at n)) bytes ≡ Err f →
+    (x : TypeTerms × TypeTerms) → IsText (FunctionWithin (suc n)) bytes x → ⊥
+function_text_refused n bytes f e x s =
+    refused (function_at (type_at n)) (FunctionWithin (suc n)) (function_within_again n) bytes f e x s
 
 module _ {A : Type 0} (read : List ℕ → Result (A × List ℕ) Fault) (bytes : List ℕ) where
   pub whole_fails : (e : Stop) → Fails e (read bytes) → Fails e (whole read bytes)
   unfolding whole
   whole_fails e h = Fails-bind e (read bytes) (λ x. end_at x.1 >>= λ u. Ok x.0) h
 
-  pub whole_fails_behind : (e : Stop) (x : A) (rest : List ℕ) → read bytes ≡ Ok (x, rest) → Fails e (end_at rest) → Fails e (whole read bytes)
+  pub whole_fails_behind : (e : Stop) (x : A) (rest : List ℕ) → read bytes ≡ Ok (x, rest) → Fails e (end_at rest) →
+      Fails e (whole read bytes)
   unfolding whole
   whole_fails_behind e x rest p h =
       let q : (end_at rest >>= λ u. done x) ≡ whole read bytes = rw p refl in
       Fails-from e _ _ q (Fails-bind e (end_at rest) (λ u. done x) h)
 
-  pub whole_read : (x : A) (rest : List ℕ) (u : Unit {0}) → read bytes ≡ Ok (x, rest) → end_at rest ≡ Ok u → whole read bytes ≡ Ok x
+  pub whole_read : (x : A) (rest : List ℕ) (u : Unit {0}) → read bytes ≡ Ok (x, rest) → end_at rest ≡ Ok u →
+      whole read bytes ≡ Ok x
   unfolding whole
   whole_read x rest u p q = rw (p, q) refl
 
-wider : (m n : ℕ) (bytes : List ℕ) (t : TypeTerm) → m ≤ n → IsText (TypeWithin m) bytes t → IsText (TypeWithin n) bytes t
-wider m n bytes t le s = record { tokens = s.tokens; are_tokens = s.are_tokens; spelled = (s.spelled.0, omega (arith, s.spelled.1)) }
+wider : (m n : ℕ) (bytes : List ℕ) (t : TypeTerm) → m ≤ n → IsText (TypeWithin m) bytes t →
+    IsText (TypeWithin n) bytes t
+wider m n bytes t le s =
+    record { tokens = s.tokens; are_tokens = s.are_tokens; spelled = (s.spelled.0, omega (arith, s.spelled.1)) }
 
 -- a text stands for one type at most
-pub one_type : (m n : ℕ) (bytes : List ℕ) (t u : TypeTerm) → IsText (TypeWithin m) bytes t → IsText (TypeWithin n) bytes u → t ≡ u
-one_type m n bytes t u s r = only_one (type_at (m + n)) (TypeWithin (m + n)) (type_within_again (m + n)) bytes t u (wider m (m + n) bytes t (omega arith) s) (wider n (m + n) bytes u (omega arith) r)
+pub one_type : (m n : ℕ) (bytes : List ℕ) (t u : TypeTerm) → IsText (TypeWithin m) bytes t →
+    IsText (TypeWithin n) bytes u → t ≡ u
+one_type m n bytes t u s r =
+    only_one (type_at (m + n)) (TypeWithin (m + n)) (type_within_again (m + n)) bytes t u
+    (wider m (m + n) bytes t (omega arith) s) (wider n (m + n) bytes u (omega arith) r)

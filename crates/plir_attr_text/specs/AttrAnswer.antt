@@ -1,55 +1,28 @@
--- What the reader of attributes answers, and that it reads back what was printed.
-use Rattle.std.specs.Prelude.{◌≡◌, ◌≢◌, ◌≤◌, ℕ, List, Result, Err, IfOk, IfErr, MatchResult}
+-- What the reader of attributes answers.
+use Rattle.std.specs.Prelude.{◌≢◌, ℕ, List, Result, IfOk, IfErr}
 use Rattle.plir_data.specs.AttrLive.{IsAttrLive}
 use Rattle.plir_data.specs.AttrSeen.{attr_view}
-use Rattle.plir_data.specs.AttrView.{AttrView}
-use Rattle.plir_data.specs.Types.{TypeView, IsTypeTable}
+use Rattle.plir_data.specs.Types.{TypeView}
 use Rattle.plir_data.specs.declared.attributes.AttrObj.{AttrObj}
 use Rattle.plir_attr_text.specs.AttrGrammar.{AttrWithin}
-use Rattle.plir_attr_text.specs.AttrReading.{attr_at}
-use Rattle.plir_attr_text.specs.AttrText.{attr_text}
 use Rattle.plir_attr_text.specs.Meaning.{StandsFor}
 use Rattle.plir_attr_text.specs.Names.{Grows, AreNamed}
 use Rattle.plir_attr_text.specs.Parts.{IsHeldBy}
-use Rattle.plir_attr_text.specs.Terms.{AttrTerm, levels}
+use Rattle.plir_attr_text.specs.Terms.{AttrTerm}
 use Rattle.plir_attr_text.specs.TypeGrammar.{IsText}
-use Rattle.plir_attr_text.specs.TypesIn.{IsInAttr}
-use Rattle.plir_attr_text.specs.Wholes.{whole}
-use Rattle.plir_attr_text.specs.Writable.{IsWritable, attr_term}
+use Rattle.plir_attr_text.specs.TypesWritten.{IsWrittenIn}
 use Rattle.plir_attr_text.specs.declared.fault.Fault.TheVariants.{Memory}
 use Rattle.plir_attr_text.specs.declared.fault.ReadErr.{ReadErr}
 
 module _ {D K A T E : Type 0} where
   -- The answer to a text, read with the type table `old`, which leaves the table `new`: an attribute that the text
-  -- stands for, with handles of the table; or memory was wanting, or the fault that is met first, and then the text
-  -- stands for no attribute. Types that are written in it have come last, as far as it was read, and no others: where
-  -- the text stands for an attribute, types that this one holds.
+  -- stands for, with handles of the table; or memory was wanting, or the text stands for no attribute. Types that are
+  -- written in it have come last, and no others: where the text stands for an attribute, types that this one holds.
   pub record IsAttrRead (own_handles : A → List ℕ) (old : List (TypeView T)) (text : List ℕ)
       (answer : Result (AttrObj D K A T E) ReadErr) (new : List (TypeView T)) : Type 0 where
     pub found : IfOk answer (λ a. StandsFor 200 new text (attr_view a))
     pub live : IfOk answer (λ a. IsAttrLive own_handles new (attr_view a))
-    pub fault : IfErr answer (λ e. e.fault ≢ Memory → whole (attr_at 200) text ≡ Err e.fault)
     pub refused : IfErr answer (λ e. e.fault ≢ Memory → (x : AttrTerm) → IsText (AttrWithin 200) text x → ⊥)
     pub grown : Grows old new
-    pub named : AreNamed (IsInAttr 200 text) old new
+    pub named : AreNamed (IsWrittenIn text) old new
     pub held : (x : AttrTerm) → IsText (AttrWithin 200) text x → AreNamed (λ t. IsHeldBy t x) old new
-
-  -- the answer is an attribute that is equal to this one, or memory was wanting
-  abbrev pub IsEqualOrMemory : AttrView A → Result (AttrObj D K A T E) ReadErr → Type 0
-  IsEqualOrMemory x answer = MatchResult answer (λ a. attr_view a ≡ x) (λ e. e.fault ≡ Memory)
-
--- An attribute that can be printed with the table `printed` and read back: nothing in it is of the user's own, its
--- integers have the widths of their types, and it has at most 200 levels.
-abbrev pub IsReadable : {A T : Type 0} (printed : List (TypeView T)) → AttrView A → Type 0
-IsReadable printed x = IsWritable printed x × (levels (attr_term printed x) ≤ 200)
-
-module _ {D K A T E : Type 0} (own_id : A → List ℕ) (own_body : List (TypeView T) → A → List ℕ) (type_id : T →
-    List ℕ) (type_body : List (TypeView T) → T → List ℕ) (attr_handles : A → List ℕ) (type_handles : T → List ℕ) where
-  -- Where the text is that of an attribute x that can be read back, printed with the table `printed`, and this is the
-  -- answer to it, read with a table `old` that has grown from that one, the answer is an attribute equal to x, or
-  -- memory was wanting. `new` is the table that the reader left.
-  abbrev pub IsReadBack : AttrView A → (text : List ℕ) → Result (AttrObj D K A T E) ReadErr → Type 0
-  IsReadBack x text answer =
-      (printed old new : List (TypeView T)) → IsTypeTable type_handles new → IsReadable printed x →
-      text ≡ attr_text own_id own_body type_id type_body printed x → Grows printed old →
-      IsAttrRead attr_handles old text answer new → IsEqualOrMemory x answer

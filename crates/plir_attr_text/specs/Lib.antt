@@ -11,12 +11,15 @@
 --   TypeReading, AttrReading     type_at, attr_at: types and attributes as they are read, with the first fault that is
 --   met
 --   Levels                       level_at: where a level begins
---   TypesIn                      which types are written in a text
+--   TypesIn                      which types are read in a text
+--   TypesWritten                 IsWrittenIn: which types are written in a text
+--   Faults                       IsOfText: which faults are of a text; HasNoPlace: where no place is told
 --   Reading                      Reads, Gives: what a reader answers, by what is read
 --   Written, AttrText            attr_text: the text of an attribute
 --   OpSetTexts                   attribute_text: the same by the answers of an op set
 --   Puts                         texts that are written one behind another
---   Writable, AttrAnswer         attributes that texts can stand for; what the reader of attributes answers
+--   Writable                     attributes that texts can stand for
+--   AttrAnswer, AttrReadBack     what the reader of attributes answers; that it reads back what was printed
 pub mod Bytes
 pub mod Steps
 pub mod Strings
@@ -30,6 +33,7 @@ pub mod Lists
 pub mod TypeReading
 pub mod Levels
 pub mod Wholes
+pub mod Faults
 pub mod Reading
 pub mod AttrGrammar
 pub mod Written
@@ -38,11 +42,13 @@ pub mod AttrText
 pub mod OpSetTexts
 pub mod AttrReading
 pub mod TypesIn
+pub mod TypesWritten
 pub mod Parts
 pub mod Meaning
 pub mod MeantBy
 pub mod Writable
 pub mod AttrAnswer
+pub mod AttrReadBack
 pub mod TextLaws
 -- Laws of these words, proved beside them; no contract cites them.
 pub mod laws

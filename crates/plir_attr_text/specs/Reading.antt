@@ -1,21 +1,14 @@
 -- Reading from left to right, with the first fault that is met.
 use Rattle.std.specs.Borrow.{Bor}
-use Rattle.std.specs.Prelude.{◌≡◌, ℕ, Bool, true, false, List, Result, Ok, Err}
+use Rattle.std.specs.Prelude.{◌≡◌, ℕ, true, List, Result, Ok, Err}
+use Rattle.plir_attr_text.specs.Faults.{is_of_text}
 use Rattle.plir_attr_text.specs.declared.fault.Fault.{Fault}
 use Rattle.plir_attr_text.specs.declared.fault.Fault.TheVariants.{Memory, TooManyNodes}
-use Rattle.plir_attr_text.specs.declared.fault.ReadErr.{ReadErr}
 use Rattle.plir_attr_text.specs.declared.fault.Stop.{Stop}
 use Rattle.plir_attr_text.specs.declared.fault.Stop.TheVariants.{OutOfMemory, Crowded, At}
 
--- whether something is wrong with the text: it isn't where memory or room for a node is wanting
-abbrev pub is_of_text : Fault → Bool
-is_of_text Memory = false
-is_of_text TooManyNodes = false
-is_of_text _ = true
-
 -- Reading met this fault of the text, unless memory was wanting. That there is room for no more nodes is an end only
--- where
--- `crowded` holds.
+-- where `crowded` holds.
 abbrev pub Ends : {Y : Type 0} (crowded : Type 0) → Stop → Result Y Fault → Type 0
 Ends crowded OutOfMemory read = Unit {0}
 Ends crowded Crowded read = crowded
@@ -39,10 +32,6 @@ Reads means (Err stop) read = Fails stop read
 abbrev pub ReadsFirst : {X Y : Type 0} → (X → Y → Type 0) → Result (X × Bor (List ℕ)) Stop → Result (Y × List ℕ) Fault →
     Type 0
 ReadsFirst means result read = Reads (λ x y. means x.0 y.0 × (x.1.now ≡ y.1)) result read
-
--- where nothing is wrong with the text, no place is told
-abbrev pub HasNoPlace : ReadErr → Type 0
-HasNoPlace e = is_of_text e.fault ≡ false → (e.line ≡ 0) × (e.column ≡ 0)
 
 -- the fault of a stop
 abbrev pub fault_of : Stop → Fault

@@ -1,4 +1,5 @@
--- Which types are written in a text: at each place of it where a type is read, as far as the text is read.
+-- Which types the steps of reading meet in a text: at each place of it where a type is read, as far as the text is
+-- read.
 use Rattle.std.specs.Prelude.{◌≡◌, ◌⊎◌, ℕ, zero, suc, List, true, None, Result, Ok}
 use Rattle.plir_data.specs.declared.types.Signedness.{Signedness}
 use Rattle.plir_attr_text.specs.Terms.{TypeTerm, integer_type, function_type, unit_type, TypeTerms, AttrTerm}

@@ -5,7 +5,8 @@
 --   ListsFound, TypesFound, LeavesFound, AttrsFound   what is read stands there
 --   ListsAgain, TypesAgain, LeavesAgain, AttrsAgain   what stands there is read
 --   Fronts, TypeSteps, AttrSteps   reading step by step, as loops and readers do
---   PartsFound   the types that are written in a text are held by what the text stands for
+--   PartsFound   the types that are read in a text are held by what the text stands for
+-- Ends, WrittenFound what is left of a text behind its first tokens; types that are read in a text are written in it
 --   Growth, Meanings   what is named and meant in tables that grow
 --   Handles, SameNames, SameMeanings   what one text names and means is one handle, one attribute
 --   Printed, Runs, QuotedAgain, TypesShown, AttrsShown   printed names, numbers, strings, types and attributes are
@@ -36,3 +37,5 @@ pub mod QuotedAgain
 pub mod TypesShown
 pub mod AttrsShown
 pub mod PartsFound
+pub mod Ends
+pub mod WrittenFound

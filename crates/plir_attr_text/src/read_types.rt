@@ -1,15 +1,17 @@
 //! The readers of texts of types.
 
-ghost use Rattle.std.specs.Prelude.{◌≡◌, ◌≢◌, ℕ, IfOk, IfErr, Err};
+ghost use Rattle.std.specs.Prelude.{◌≡◌, ◌≢◌, ◌⊎◌, ℕ, IfOk, IfErr};
 ghost use Rattle.plir_data.specs.declared.types.Signedness.{Signedness};
 ghost use Rattle.plir_attr_text.specs.Terms.{TypeTerm, TypeTerms, integer_type, function_type};
 ghost use Rattle.plir_attr_text.specs.TypeGrammar.{IsText, TypeWithin, IsInteger, FunctionWithin};
 ghost use Rattle.plir_attr_text.specs.Parts.{IsPartOf};
 ghost use Rattle.plir_attr_text.specs.Names.{Adds, AreNamed, Grows, Names, StandsForType, StandsForInteger};
 ghost use Rattle.plir_attr_text.specs.Names.{StandsForFunction};
-ghost use Rattle.plir_attr_text.specs.Reading.{Reads, HasNoPlace};
+ghost use Rattle.plir_attr_text.specs.Faults.{HasNoPlace};
+ghost use Rattle.plir_attr_text.specs.Reading.{Reads};
 ghost use Rattle.plir_attr_text.specs.TypeReading.{integer_at, function_at, type_at};
 ghost use Rattle.plir_attr_text.specs.TypesIn.{IsInInteger, IsInFunction, IsInType};
+ghost use Rattle.plir_attr_text.specs.TypesWritten.{IsWrittenIn, IsWrittenBare};
 ghost use Rattle.plir_attr_text.specs.Wholes.{whole};
 
 use crate::fault::{Fault, ReadErr, Stop};
@@ -77,12 +79,11 @@ pub fn read_type<D: OpSet, C: TypeStore<D>>(
     text: &str,
 ) -> Result<TypeHandle, ReadErr>
     ensures found { IfOk result (λ h. StandsForType 200 (C.types ctx.new) text.now h) }
-    ensures fault { IfErr result (λ e. e.fault ≢ Fault.Memory → whole (type_at 200) text.now ≡ Err e.fault) }
     ensures refused { IfErr result (λ e. e.fault ≢ Fault.Memory → (t : TypeTerm) → IsText (TypeWithin 200) text.now t →
         ⊥) }
     ensures placeless { IfErr result HasNoPlace }
     ensures grown { Grows (C.types ctx.old) (C.types ctx.new) }
-    ensures named { AreNamed (IsInType 200 text.now) (C.types ctx.old) (C.types ctx.new) }
+    ensures named { AreNamed (IsWrittenIn text.now) (C.types ctx.old) (C.types ctx.new) }
     // The types that come are parts of the one that the text stands for.
     ensures held { (t : TypeTerm) → IsText (TypeWithin 200) text.now t →
         AreNamed (λ u. IsPartOf u t) (C.types ctx.old) (C.types ctx.new) }
@@ -101,12 +102,11 @@ pub fn read_integer_type<D: OpSet, C: TypeStore<D>>(
     text: &str,
 ) -> Result<TypeHandle, ReadErr>
     ensures found { IfOk result (λ h. StandsForInteger (C.types ctx.new) text.now h) }
-    ensures fault { IfErr result (λ e. e.fault ≢ Fault.Memory → whole integer_at text.now ≡ Err e.fault) }
     ensures refused { IfErr result (λ e. e.fault ≢ Fault.Memory → (x : Signedness × ℕ) → IsText IsInteger text.now x →
         ⊥) }
     ensures placeless { IfErr result HasNoPlace }
     ensures grown { Grows (C.types ctx.old) (C.types ctx.new) }
-    ensures named { AreNamed (IsInInteger text.now) (C.types ctx.old) (C.types ctx.new) }
+    ensures named { AreNamed (IsWrittenBare text.now) (C.types ctx.old) (C.types ctx.new) }
     // Only the type that the text stands for comes.
     ensures held { (x : Signedness × ℕ) → IsText IsInteger text.now x →
         AreNamed (λ u. u ≡ integer_type x.0 x.1) (C.types ctx.old) (C.types ctx.new) }
@@ -126,13 +126,12 @@ pub fn read_function_type<D: OpSet, C: TypeStore<D>>(
     text: &str,
 ) -> Result<TypeHandle, ReadErr>
     ensures found { IfOk result (λ h. StandsForFunction 200 (C.types ctx.new) text.now h) }
-    ensures fault { IfErr result (λ e. e.fault ≢ Fault.Memory →
-        whole (function_at (type_at 199)) text.now ≡ Err e.fault) }
     ensures refused { IfErr result (λ e. e.fault ≢ Fault.Memory → (x : TypeTerms × TypeTerms) →
         IsText (FunctionWithin 200) text.now x → ⊥) }
     ensures placeless { IfErr result HasNoPlace }
     ensures grown { Grows (C.types ctx.old) (C.types ctx.new) }
-    ensures named { AreNamed (IsInFunction 199 text.now) (C.types ctx.old) (C.types ctx.new) }
+    ensures named { AreNamed (λ u. IsWrittenBare text.now u ⊎ IsWrittenIn text.now u) (C.types ctx.old) (C.types
+        ctx.new) }
     // The types that come are parts of the one that the text stands for.
     ensures held { (x : TypeTerms × TypeTerms) → IsText (FunctionWithin 200) text.now x →
         AreNamed (λ u. IsPartOf u (function_type x.0 x.1)) (C.types ctx.old) (C.types ctx.new) }

@@ -1,5 +1,6 @@
 -- Dictionaries that are read stand there, and those that stand there are read.
-use Rattle.std.proofs.Common.{◌≡◌, ℕ, suc, ◌≤◌, ◌++◌, List, [], ◌∷◌, codes, is_some, Result, Ok, refl, sym, ap, subst, ◌∙◌, arith, inl, inr}
+use Rattle.std.proofs.Common.{◌≡◌, ℕ, suc, ◌≤◌, ◌++◌, List, [], ◌∷◌, codes, is_some, Result, Ok, refl, sym, ap, subst}
+use Rattle.std.proofs.Common.{◌∙◌, arith, inl, inr}
 use Rattle.plir_attr_text.specs.declared.attr_words.AttrKind.TheVariants as kinds
 use Rattle.plir_attr_text.specs.declared.fault.Fault.{Fault}
 use Rattle.plir_attr_text.specs.Steps.{◌>>=◌, read_as}
@@ -34,7 +35,8 @@ looks_behind : (bytes : List ℕ) → look (32 ∷ bytes) ≡ look bytes
 unfolding look
 looks_behind bytes = refl
 
-items_behind : {A : Type 0} (read : List ℕ → Result (A × List ℕ) Fault) (bytes : List ℕ) → items_at 91 93 read (32 ∷ bytes) ≡ items_at 91 93 read bytes
+items_behind : {A : Type 0} (read : List ℕ → Result (A × List ℕ) Fault) (bytes : List ℕ) →
+    items_at 91 93 read (32 ∷ bytes) ≡ items_at 91 93 read bytes
 unfolding items_at sign_at
 items_behind read bytes = rw (looks_behind bytes) refl
 
@@ -49,9 +51,12 @@ Entries = List (List ℕ × AttrTerm) × List ℕ
 abbrev entries_at : ℕ → List ℕ → Result Entries Fault
 entries_at n bytes = items_at 91 93 (entry_at (attr_at n)) bytes
 
-reads_dict : (n : ℕ) (bytes : List ℕ) → attr_at (suc n) (with_id bytes) ≡ (entries_at n bytes >>= λ es. done (terms.dict (entries_of es.0), es.1))
+reads_dict : (n : ℕ) (bytes : List ℕ) →
+    attr_at (suc n) (with_id bytes) ≡ (entries_at n bytes >>= λ es. done (terms.dict (entries_of es.0), es.1))
 unfolding attr_at
-reads_dict n bytes = rw (reads_id bytes) (ap (λ (r : Result Entries Fault). r >>= λ es. done (terms.dict (entries_of es.0), es.1)) (items_behind (entry_at (attr_at n)) bytes))
+reads_dict n bytes = rw (reads_id bytes)
+    (ap (λ (r : Result Entries Fault). r >>= λ es. done (terms.dict (entries_of es.0), es.1))
+    (items_behind (entry_at (attr_at n)) bytes))
 
 record FoundEntries (n : ℕ) (bytes : List ℕ) (es : EntryTerms) (rest : List ℕ) : Type 0 where
   inner : List Token
@@ -59,17 +64,26 @@ record FoundEntries (n : ℕ) (bytes : List ℕ) (es : EntryTerms) (rest : List 
   spelled : SpellsEntries es inner
   within : entries_levels es ≤ n
 
-entries_found : (n : ℕ) (bytes : List ℕ) (x : Entries) → entries_at n bytes ≡ Ok x → FoundEntries n bytes (entries_of x.0) x.1
+entries_found : (n : ℕ) (bytes : List ℕ) (x : Entries) → entries_at n bytes ≡ Ok x →
+    FoundEntries n bytes (entries_of x.0) x.1
 entries_found n bytes x e =
-    let read : attr_at (suc n) (with_id bytes) ≡ Ok (terms.dict (entries_of x.0), x.1) = reads_dict n bytes ∙ rw e refl in
+    let read : attr_at (suc n) (with_id bytes) ≡ Ok (terms.dict (entries_of x.0), x.1) = reads_dict n bytes ∙
+    rw e refl in
     let f = attr_found (suc n) (with_id bytes) (terms.dict (entries_of x.0), x.1) read in
     let s = f.spelled.0 in
     let b = subst (λ ts. Begins (with_id bytes) ts x.1) s.2 f.begins in
-    let behind : b.0 ≡ 32 ∷ bytes = ap (λ (y : Token × List ℕ). y.1) (ok_is (word dict_id, b.0) (word dict_id, 32 ∷ bytes) (sym b.1 ∙ looks_id bytes)) in
+    let behind : b.0 ≡ 32 ∷ bytes =
+    ap (λ (y : Token × List ℕ). y.1)
+    (ok_is (word dict_id, b.0) (word dict_id, 32 ∷ bytes) (sym b.1 ∙ looks_id bytes)) in
     let inside = b.2 in
     record {
       inner = s.0;
-      begins = (inside.0, sym (looks_behind bytes) ∙ subst (λ (z : List ℕ). look z ≡ Ok (sign 91, inside.0)) behind inside.1, inside.2);
+      begins = (
+        inside.0,
+        sym (looks_behind bytes) ∙
+            subst (λ (z : List ℕ). look z ≡ Ok (sign 91, inside.0)) behind inside.1,
+        inside.2,
+      );
       spelled = s.1;
       within = omega (arith, f.spelled.1);
     }
@@ -87,14 +101,23 @@ entries_in (terms.given_names ns) = no_entries
 entries_in (terms.dict es) = es
 entries_in (terms.vec xs) = no_entries
 
-same_entries : (x : Entries) (es : EntryTerms) (rest : List ℕ) → done {A = AttrTerm × List ℕ} (terms.dict (entries_of x.0), x.1) ≡ done (terms.dict es, rest) → done {A = EntryTerms × List ℕ} (entries_of x.0, x.1) ≡ done (es, rest)
-same_entries x es rest e = ap (λ (y : AttrTerm × List ℕ). done {A = EntryTerms × List ℕ} (entries_in y.0, y.1)) (ok_is (terms.dict (entries_of x.0), x.1) (terms.dict es, rest) e)
+same_entries : (x : Entries) (es : EntryTerms) (rest : List ℕ) →
+    done {A = AttrTerm × List ℕ} (terms.dict (entries_of x.0), x.1) ≡ done (terms.dict es, rest) →
+    done {A = EntryTerms × List ℕ} (entries_of x.0, x.1) ≡ done (es, rest)
+same_entries x es rest e =
+    ap (λ (y : AttrTerm × List ℕ). done {A = EntryTerms × List ℕ} (entries_in y.0, y.1))
+    (ok_is (terms.dict (entries_of x.0), x.1) (terms.dict es, rest) e)
 
-entries_again : (n : ℕ) (es : EntryTerms) (inner : List Token) (bytes rest : List ℕ) → SpellsEntries es inner → entries_levels es ≤ n → Begins bytes (enclosed 91 inner 93) rest → read_as entries_of (entries_at n bytes) ≡ Ok (es, rest)
+entries_again : (n : ℕ) (es : EntryTerms) (inner : List Token) (bytes rest : List ℕ) → SpellsEntries es inner →
+    entries_levels es ≤ n → Begins bytes (enclosed 91 inner 93) rest →
+    read_as entries_of (entries_at n bytes) ≡ Ok (es, rest)
 entries_again n es inner bytes rest s le b =
-    let begins : Begins (with_id bytes) (word dict_id ∷ enclosed 91 inner 93) rest = (32 ∷ bytes, looks_id bytes, (b.0, looks_behind bytes ∙ b.1, b.2)) in
-    let read = attr_again (terms.dict es) (word dict_id ∷ enclosed 91 inner 93) (suc n) (with_id bytes) rest (inner, s, refl) (omega (arith, le)) begins in
-    let i = bind_ok (entries_at n bytes) (λ y. Ok (terms.dict (entries_of y.0), y.1)) (terms.dict es, rest) (sym (reads_dict n bytes) ∙ read) in
+    let begins : Begins (with_id bytes) (word dict_id ∷ enclosed 91 inner 93) rest =
+    (32 ∷ bytes, looks_id bytes, (b.0, looks_behind bytes ∙ b.1, b.2)) in
+    let read = attr_again (terms.dict es) (word dict_id ∷ enclosed 91 inner 93) (suc n) (with_id bytes) rest
+    (inner, s, refl) (omega (arith, le)) begins in
+    let i = bind_ok (entries_at n bytes) (λ y. Ok (terms.dict (entries_of y.0), y.1)) (terms.dict es, rest)
+    (sym (reads_dict n bytes) ∙ read) in
     rw (i.1) (same_entries i.0 es rest i.2)
 
 -- ---- dictionaries
@@ -105,19 +128,29 @@ DictionaryWithin n es ts = SpellsDictionary es ts × (entries_levels es ≤ n)
 pub dictionary_found : (n : ℕ) → IsSound (DictionaryWithin n) (dictionary_at n)
 unfolding dictionary_at
 dictionary_found n bytes x e =
-    elim (chosen (is_some (past_sign 91 bytes)) (read_as entries_of (entries_at n bytes)) (done (no_entries, bytes)) (done x) e) [
+    elim (chosen (is_some (past_sign 91 bytes)) (read_as entries_of (entries_at n bytes)) (done (no_entries, bytes))
+    (done x) e) [
       | inl h ↦
           let a = bind_ok (entries_at n bytes) (λ y. Ok (entries_of y.0, y.1)) x h.1 in
           let f = entries_found n bytes a.0 a.1 in
-          let found : FoundOne (DictionaryWithin n) bytes (entries_of a.0.0) a.0.1 = record { tokens = enclosed 91 f.inner 93; begins = f.begins; spelled = (inr (f.inner, f.spelled, refl), f.within) } in
+          let found : FoundOne (DictionaryWithin n) bytes (entries_of a.0.0) a.0.1 =
+          record {
+            tokens = enclosed 91 f.inner 93;
+            begins = f.begins;
+            spelled =
+                (inr (f.inner, f.spelled, refl), f.within);
+          } in
           subst (λ (y : EntryTerms × List ℕ). FoundOne (DictionaryWithin n) bytes y.0 y.1) (ok_is _ x a.2) found
       | inr h ↦
-          let none : FoundOne (DictionaryWithin n) bytes no_entries bytes = record { tokens = []; begins = refl; spelled = (inl (refl, refl), omega arith) } in
+          let none : FoundOne (DictionaryWithin n) bytes no_entries bytes =
+          record { tokens = []; begins = refl; spelled = (inl (refl, refl), omega arith) } in
           subst (λ (y : EntryTerms × List ℕ). FoundOne (DictionaryWithin n) bytes y.0 y.1) (ok_is _ x h.1) none
     ]
 
 -- a brace stands behind them
-pub dictionary_again : (n : ℕ) (es : EntryTerms) (ts : List Token) (bytes rest start : List ℕ) → SpellsDictionary es ts → entries_levels es ≤ n → Begins bytes ts rest → look rest ≡ Ok (sign 123, start) → dictionary_at n bytes ≡ Ok (es, rest)
+pub dictionary_again : (n : ℕ) (es : EntryTerms) (ts : List Token) (bytes rest start : List ℕ) →
+    SpellsDictionary es ts → entries_levels es ≤ n → Begins bytes ts rest → look rest ≡ Ok (sign 123, start) →
+    dictionary_at n bytes ≡ Ok (es, rest)
 unfolding dictionary_at
 dictionary_again n es ts bytes rest start s le b brace =
     elim s [

@@ -8,7 +8,8 @@ use Rattle.plir_read.specs.OpTerms.{Head, module_head, func_head}
 use Rattle.plir_read.specs.declared.heads.HeadData.{HeadData}
 use Rattle.plir_read.specs.declared.heads.HeadData.TheVariants.{Module, Func}
 
-pub IsHead-grown : {T : Type 0} (old new : List (TypeView T)) (h : HeadData) (d : Head) → Grows old new → IsHead old h d → IsHead new h d
+pub IsHead-grown : {T : Type 0} (old new : List (TypeView T)) (h : HeadData) (d : Head) → Grows old new →
+    IsHead old h d → IsHead new h d
 IsHead-grown old new (Module name) (module_head w) g e = e
 IsHead-grown old new (Module name) (func_head w t) g e = absurd e
 IsHead-grown old new (Func name handle) (module_head w) g e = absurd e

@@ -6,7 +6,6 @@ pub mod Crowded
 pub mod Gathered
 pub mod Loops
 pub mod HeadsGrown
-pub mod Ends
 pub mod TypesNamed
 pub mod Held
 pub mod Dictionaries

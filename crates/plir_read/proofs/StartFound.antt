@@ -1,5 +1,6 @@
 -- Names of results, ids and constants that are read stand there.
-use Rattle.std.proofs.Common.{◌≡◌, ℕ, ◌≤◌, ◌++◌, max, Bool, true, nat_eq, List, [], ◌∷◌, length, codes, Result, Ok, Err, refl, sym, ap, subst, ◌∙◌, arith, inl, inr}
+use Rattle.std.proofs.Common.{◌≡◌, ℕ, ◌≤◌, ◌++◌, max, Bool, true, nat_eq, List, [], ◌∷◌, length, codes, Result, Ok, Err}
+use Rattle.std.proofs.Common.{refl, sym, ap, subst, ◌∙◌, arith, inl, inr}
 use Rattle.std.specs.Str.{bytes_eq}
 use Rattle.std.proofs.lemmas.Bool.Decides.{Decides-eqb}
 use Rattle.std.proofs.lemmas.Slice.Eq.{bytes_eq-Decides}
@@ -21,7 +22,8 @@ use Rattle.plir_attr_text.specs.laws.LeavesFound.{name_found}
 use Rattle.plir_attr_text.specs.laws.TypesFound.{type_found}
 use Rattle.plir_attr_text.specs.laws.AttrsFound.{attr_found}
 use Rattle.plir_read.specs.OpGrammar.{typed_value}
-use Rattle.plir_read.specs.OpReading.{op_kind, op_id, names_at, if_name, names_before, start_at, named, value_at, constant_at, first_name}
+use Rattle.plir_read.specs.OpReading.{op_kind, op_id, names_at, if_name, names_before, start_at, named, value_at}
+use Rattle.plir_read.specs.OpReading.{constant_at, first_name}
 use Rattle.plir_read.specs.declared.heads.BodyKind.TheVariants.{Module, Func}
 use Rattle.plir_read.specs.declared.heads.HeadKind.{HeadKind}
 use Rattle.plir_read.specs.declared.heads.HeadKind.TheVariants.{Bodied, Constant, ForwardRef}
@@ -56,7 +58,8 @@ unfolding op_id
 id_found bytes x e =
     let a = bind_ok (word_at bytes) (λ w. op_kind w.0 >>= λ k. Ok (k, w.1)) x e in
     let b = bind_ok (op_kind a.0.0) (λ k. Ok (k, a.0.1)) x a.2 in
-    let is : look bytes ≡ Ok (word (id_of b.0), a.0.1) = word_found bytes a.0 a.1 ∙ ap (λ (w : List ℕ). done (word w, a.0.1)) (kind_is a.0.0 b.0 b.1) in
+    let is : look bytes ≡ Ok (word (id_of b.0), a.0.1) = word_found bytes a.0 a.1 ∙
+    ap (λ (w : List ℕ). done (word w, a.0.1)) (kind_is a.0.0 b.0 b.1) in
     subst (λ (y : HeadKind × List ℕ). look bytes ≡ Ok (word (id_of y.0), y.1)) (ok_is _ x b.2) is
 
 -- ---- names of results
@@ -73,7 +76,8 @@ Names ws ts = Chain SpellsIdentifier by_equals ws ts
 
 names_found : IsSound Names names_at
 unfolding names_at
-names_found bytes x e = several_found SpellsIdentifier by_equals (separator_at 61) equals_found name_at name_found _ bytes x e
+names_found bytes x e =
+    several_found SpellsIdentifier by_equals (separator_at 61) equals_found name_at name_found _ bytes x e
 
 -- no name, or names up to `=`
 abbrev NamesBefore : List (List ℕ) → List Token → Type 0
@@ -89,7 +93,8 @@ unfolding names_before
 before_found bytes x e = at (name_at bytes) e
   where
     at : (r : Result (List ℕ × List ℕ) Fault) → if_name bytes r ≡ Ok x → FoundOne NamesBefore bytes x.0 x.1
-    at (Ok w) h = let f = names_found bytes x h in record { tokens = f.tokens; begins = f.begins; spelled = some_before x.0 f.tokens f.spelled }
+    at (Ok w) h = let f = names_found bytes x h in
+        record { tokens = f.tokens; begins = f.begins; spelled = some_before x.0 f.tokens f.spelled }
     at (Err g) h =
         let none : FoundOne NamesBefore bytes [] bytes = record { tokens = []; begins = refl; spelled = refl } in
         subst (λ (y : List (List ℕ) × List ℕ). FoundOne NamesBefore bytes y.0 y.1) (ok_is ([], bytes) x h) none
@@ -102,21 +107,27 @@ pub record Opened (bytes : List ℕ) (ws : List (List ℕ)) (k : HeadKind) (rest
   spelled : NamesBefore ws names
   pub id : look behind ≡ Ok (word (id_of k), rest)
 
-pub start_found : (bytes : List ℕ) (x : (List (List ℕ) × HeadKind) × List ℕ) → start_at bytes ≡ Ok x → Opened bytes x.0.0 x.0.1 x.1
+pub start_found : (bytes : List ℕ) (x : (List (List ℕ) × HeadKind) × List ℕ) → start_at bytes ≡ Ok x →
+    Opened bytes x.0.0 x.0.1 x.1
 unfolding start_at
 start_found bytes x e =
     let a = bind_ok (names_before bytes) (λ ns. op_id ns.1 >>= λ k. Ok ((ns.0, k.0), k.1)) x e in
     let b = bind_ok (op_id a.0.1) (λ k. Ok ((a.0.0, k.0), k.1)) x a.2 in
     let f = before_found bytes a.0 a.1 in
-    let opened : Opened bytes a.0.0 b.0.0 b.0.1 = record { names = f.tokens; behind = a.0.1; begins = f.begins; spelled = f.spelled; id = id_found a.0.1 b.0 b.1 } in
+    let opened : Opened bytes a.0.0 b.0.0 b.0.1 =
+    record { names = f.tokens; behind = a.0.1; begins = f.begins; spelled = f.spelled; id = id_found a.0.1 b.0 b.1 }
+    in
     subst (λ (y : (List (List ℕ) × HeadKind) × List ℕ). Opened bytes y.0.0 y.0.1 y.1) (ok_is _ x b.2) opened
 
 pub named_is : (expected found : ℕ) (u : Unit {0}) → named expected found ≡ Ok u → expected ≡ found
 unfolding named
-named_is expected found u e = elim (chosen (nat_eq expected found) (done tt) (Err (NResultsVerifyErr expected found)) (done u) e) [ inl h ↦ (Decides-eqb expected found).0 h.0 | inr h ↦ absurd (let v = h.1 in cc) ]
+named_is expected found u e =
+    elim (chosen (nat_eq expected found) (done tt) (Err (NResultsVerifyErr expected found)) (done u) e)
+    [ inl h ↦ (Decides-eqb expected found).0 h.0 | inr h ↦ absurd (let v = h.1 in cc) ]
 
 -- no name stands before the id
-pub bare_id : (bytes : List ℕ) (ws : List (List ℕ)) (k : HeadKind) (rest : List ℕ) → Opened bytes ws k rest → 0 ≡ length ws → look bytes ≡ Ok (word (id_of k), rest)
+pub bare_id : (bytes : List ℕ) (ws : List (List ℕ)) (k : HeadKind) (rest : List ℕ) → Opened bytes ws k rest →
+    0 ≡ length ws → look bytes ≡ Ok (word (id_of k), rest)
 bare_id bytes [] k rest o e =
     let same : bytes ≡ o.behind = subst (λ ts. Begins bytes ts o.behind) o.spelled o.begins in
     subst (λ z. look z ≡ Ok (word (id_of k), rest)) (sym same) o.id
@@ -127,12 +138,19 @@ pub record NamedId (w bytes : List ℕ) (k : HeadKind) (rest : List ℕ) : Type 
   pub formed : is_identifier w ≡ true
   pub begins : Begins bytes (word w ∷ sign 61 ∷ word (id_of k) ∷ []) rest
 
-pub named_id : (bytes : List ℕ) (ws : List (List ℕ)) (k : HeadKind) (rest : List ℕ) → Opened bytes ws k rest → 1 ≡ length ws → NamedId (first_name ws) bytes k rest
+pub named_id : (bytes : List ℕ) (ws : List (List ℕ)) (k : HeadKind) (rest : List ℕ) → Opened bytes ws k rest →
+    1 ≡ length ws → NamedId (first_name ws) bytes k rest
 named_id bytes [] k rest o e = absurd cc
 named_id bytes (w ∷ []) k rest o e =
     let h = o.spelled in
-    let is : o.names ≡ word w ∷ sign 61 ∷ [] = h.4 ∙ ap (λ (ts : List Token). ts ++ h.1) h.2.1 ∙ ap (λ (ts : List Token). word w ∷ ts) h.3 in
-    record { formed = h.2.0; begins = Begins-append (word w ∷ sign 61 ∷ []) (word (id_of k) ∷ []) bytes o.behind rest (subst (λ ts. Begins bytes ts o.behind) is o.begins) (rest, o.id, refl) }
+    let is : o.names ≡ word w ∷ sign 61 ∷ [] = h.4 ∙ ap (λ (ts : List Token). ts ++ h.1) h.2.1 ∙
+    ap (λ (ts : List Token). word w ∷ ts) h.3 in
+    record {
+      formed = h.2.0;
+      begins =
+          Begins-append (word w ∷ sign 61 ∷ []) (word (id_of k) ∷ []) bytes o.behind rest
+          (subst (λ ts. Begins bytes ts o.behind) is o.begins) (rest, o.id, refl);
+    }
 named_id bytes (v ∷ w ∷ ws) k rest o e = absurd (omega (arith, e))
 
 -- ---- constants
@@ -144,16 +162,22 @@ ValueWithin n a ts = (attr : List Token) × AttrWithin n a attr × (ts ≡ enclo
 pub value_found : (n : ℕ) → IsSound (ValueWithin n) (value_at n)
 unfolding value_at
 value_found n bytes x e =
-    let a = bind_ok (sign_at 60 bytes) (λ start. attr_at n start >>= λ y. sign_at 62 y.1 >>= λ end. Ok (y.0, end)) x e in
+    let a = bind_ok (sign_at 60 bytes) (λ start. attr_at n start >>= λ y. sign_at 62 y.1 >>= λ end. Ok (y.0, end)) x e
+    in
     let b = bind_ok (attr_at n a.0) (λ y. sign_at 62 y.1 >>= λ end. Ok (y.0, end)) x a.2 in
     let d = bind_ok (sign_at 62 b.0.1) (λ end. Ok (b.0.0, end)) x b.2 in
     let f = attr_found n a.0 b.0 b.1 in
     let found : FoundOne (ValueWithin n) bytes b.0.0 d.0 = record {
       tokens = enclosed 60 f.tokens 62;
-      begins = (a.0, sign_found 60 bytes a.0 a.1, Begins-append f.tokens (sign 62 ∷ []) a.0 b.0.1 d.0 f.begins (d.0, sign_found 62 b.0.1 d.0 d.1, refl));
+      begins = (
+        a.0,
+        sign_found 60 bytes a.0 a.1,
+        Begins-append f.tokens (sign 62 ∷ []) a.0 b.0.1 d.0 f.begins (d.0, sign_found 62 b.0.1 d.0 d.1, refl),
+      );
       spelled = (f.tokens, f.spelled, refl);
     } in
-    subst (λ (y : AttrTerm × List ℕ). FoundOne (ValueWithin n) bytes y.0 y.1) {x = (b.0.0, d.0)} (ok_is (b.0.0, d.0) x d.2) found
+    subst (λ (y : AttrTerm × List ℕ). FoundOne (ValueWithin n) bytes y.0 y.1) {x = (b.0.0, d.0)}
+    (ok_is (b.0.0, d.0) x d.2) found
 
 -- what stands behind the id of a constant, with at most n levels in it
 pub record ConstantWithin (n : ℕ) (c : AttrTerm × TypeTerm) (ts : List Token) : Type 0 where
@@ -167,14 +191,16 @@ pub record ConstantWithin (n : ℕ) (c : AttrTerm × TypeTerm) (ts : List Token)
 pub constant_found : (n : ℕ) → IsSound (ConstantWithin n) (constant_at n)
 unfolding constant_at
 constant_found n bytes x e =
-    let a = bind_ok (value_at n bytes) (λ y. sign_at 58 y.1 >>= λ colon. type_at n colon >>= λ t. Ok ((y.0, t.0), t.1)) x e in
+    let a = bind_ok (value_at n bytes) (λ y. sign_at 58 y.1 >>= λ colon. type_at n colon >>= λ t. Ok ((y.0, t.0), t.1))
+    x e in
     let b = bind_ok (sign_at 58 a.0.1) (λ colon. type_at n colon >>= λ t. Ok ((a.0.0, t.0), t.1)) x a.2 in
     let d = bind_ok (type_at n b.0) (λ t. Ok ((a.0.0, t.0), t.1)) x b.2 in
     let v = value_found n bytes a.0 a.1 in
     let t = type_found n b.0 d.0 d.1 in
     let found : FoundOne (ConstantWithin n) bytes (a.0.0, d.0.0) d.0.1 = record {
       tokens = v.tokens ++ sign 58 ∷ t.tokens;
-      begins = Begins-append v.tokens (sign 58 ∷ t.tokens) bytes a.0.1 d.0.1 v.begins (b.0, sign_found 58 a.0.1 b.0 b.1, t.begins);
+      begins = Begins-append v.tokens (sign 58 ∷ t.tokens) bytes a.0.1 d.0.1 v.begins
+          (b.0, sign_found 58 a.0.1 b.0 b.1, t.begins);
       spelled = record {
         attr = v.spelled.0;
         type = t.tokens;

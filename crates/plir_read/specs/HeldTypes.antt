@@ -1,11 +1,7 @@
 -- The types that operations hold.
-use Rattle.std.specs.Prelude.{◌≡◌, ◌⊎◌, ℕ, List, [], ◌∷◌, Result, Ok, IfOk}
-use Rattle.plir_data.specs.Types.{TypeView}
-use Rattle.plir_attr_text.specs.Names.{AreNamed}
+use Rattle.std.specs.Prelude.{◌⊎◌, List, [], ◌∷◌}
 use Rattle.plir_attr_text.specs.Parts.{IsPartOf, IsHeldBy, IsHeldByEntry}
 use Rattle.plir_attr_text.specs.Terms.{TypeTerm, AttrTerm}
-use Rattle.plir_attr_text.specs.declared.fault.Fault.{Fault}
-use Rattle.plir_attr_text.specs.declared.fault.Stop.{Stop}
 use Rattle.plir_read.specs.OpTerms.{Head, module_head, func_head, Header, Argument, BlockHead, OpTerm, op_term}
 use Rattle.plir_read.specs.OpTerms.{constant_term, BlockTerms, no_blocks, block_before, OpTerms, no_ops, op_before}
 use Rattle.plir_read.specs.OpTerms.{ops_of, BlockTerm}
@@ -49,8 +45,3 @@ abbrev mutual
 -- the same of a block
 abbrev pub IsHeldByBlock : TypeTerm → BlockTerm → Type 0
 IsHeldByBlock t b = IsHeldByBlockHead t b.0 ⊎ IsHeldByOps t (ops_of b.1)
-
--- If it was read, each type that has come is held by what was read; `held` says which types that holds.
-abbrev pub HoldsNew : {X Y T : Type 0} (held : TypeTerm → Y → Type 0) → Result X Stop → Result (Y × List ℕ) Fault →
-    (old new : List (TypeView T)) → Type 0
-HoldsNew held result read old new = IfOk result (λ x. (y : _) → read ≡ Ok y → AreNamed (λ t. held t y.0) old new)

@@ -10,9 +10,9 @@
 --   Keeping      KeepsOlder: what reading leaves of a context as it was
 --   Slots        IsMadeInOrder: a tree's nodes come in the order of a text, each in the next slot of its kind
 --   Room         HasNoRoom: when there is no room for what a text needs next
---   Stopping     ReadsOn: reading into a context; IsOfText: faults of a text
---   TextTypes    IsInText: the types that are written in the text of an operation
+--   Stopping     ReadsOn: reading into a context
 --   HeldTypes    IsHeldByOp: the types that an operation holds
+--   OpsRead      ReadsOp: what the reader's own functions answer
 pub mod Suffixes
 pub mod OpTerms
 pub mod OpGrammar
@@ -23,5 +23,5 @@ pub mod Heads
 pub mod OpsStanding
 pub mod Keeping
 pub mod Slots
-pub mod TextTypes
 pub mod HeldTypes
+pub mod OpsRead

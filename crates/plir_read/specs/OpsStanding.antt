@@ -1,8 +1,6 @@
 -- The written operation that a node of a context stands for.
-use Rattle.std.specs.Borrow.{Bor}
-use Rattle.std.specs.Prelude.{◌≡◌, ℕ, List, [], ◌∷◌, Option, Some, Result}
+use Rattle.std.specs.Prelude.{◌≡◌, ℕ, List, [], ◌∷◌, Option, Some}
 use Rattle.plir_core.specs.declared.ptr.Ptr.{Ptr}
-use Rattle.plir_core.specs.declared.ptr.Operation.{Operation as OperationKind}
 use Rattle.plir_core.specs.declared.ptr.Region.{Region as RegionKind}
 use Rattle.plir_core.specs.declared.ptr.BasicBlock.{BasicBlock as BlockKind}
 use Rattle.plir_core.specs.declared.ptr.IRNode.{IRNode}
@@ -13,15 +11,11 @@ use Rattle.plir_core.specs.ContextView.{ContextView, children, op_at, block_at}
 use Rattle.plir_attr_text.specs.Meaning.{IsDictMeant}
 use Rattle.plir_attr_text.specs.Names.{Names, NamesAll}
 use Rattle.plir_attr_text.specs.Terms.{TypeTerm, AttrTerm}
-use Rattle.plir_attr_text.specs.declared.fault.Fault.{Fault}
-use Rattle.plir_attr_text.specs.declared.fault.Stop.{Stop}
 use Rattle.plir_attr_text.specs.TypeGrammar.{IsText}
 use Rattle.plir_read.specs.OpGrammar.{OpWithin}
 use Rattle.plir_read.specs.OpTerms.{Head, module_head, func_head, Header, BlockHead, OpTerm, op_term, constant_term}
 use Rattle.plir_read.specs.OpTerms.{BlockTerms, no_blocks, block_before, OpTerms, no_ops, op_before, ops_of, blocks_of}
 use Rattle.plir_read.specs.OpTerms.{BlockTerm}
-use Rattle.plir_read.specs.Room.{HasNoRoom}
-use Rattle.plir_read.specs.Stopping.{ReadsOnFirst}
 use Rattle.plir_read.specs.Heads.{module_op, func_op, result_names, IsConstant, constant_op, argument_types}
 use Rattle.plir_read.specs.Heads.{written_block}
 
@@ -86,20 +80,6 @@ module _ {K A T : Type 0} where
 
   abbrev pub HasOps : ContextView K A T → Ptr BlockKind → List OpTerm → Type 0
   HasOps s p os = AreOpsAt s (children s (BasicBlock p)) (ops_of os)
-
-  -- an operation, a block and a constant were read, and stand in the context at the pointer that is answered
-  abbrev pub ReadsOp : ContextView K A T → Result (Ptr OperationKind × Bor (List ℕ)) Stop
-      → Result (OpTerm × List ℕ) Fault →
-      Type 0
-  ReadsOp s = ReadsOnFirst (HasNoRoom s) (λ p. IsOpAt s (Operation p))
-
-  abbrev pub ReadsBlock : ContextView K A T → Result (Ptr BlockKind × Bor (List ℕ)) Stop →
-      Result (BlockTerm × List ℕ) Fault → Type 0
-  ReadsBlock s = ReadsOnFirst (HasNoRoom s) (λ p. IsBlockAt s (BasicBlock p))
-
-  abbrev pub ReadsConstant : ContextView K A T → (names : List (Option (List ℕ))) →
-      Result (Ptr OperationKind × Bor (List ℕ)) Stop → Result ((AttrTerm × TypeTerm) × List ℕ) Fault → Type 0
-  ReadsConstant s names = ReadsOnFirst (HasNoRoom s) (λ p. IsConstantAt s (Operation p) names)
 
   -- The whole text stands for the operation at n, with at most k levels open.
   abbrev pub StandsForOp : (k : ℕ) → ContextView K A T → (bytes : List ℕ) → IRNode → Type 0

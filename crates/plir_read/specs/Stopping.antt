@@ -1,9 +1,8 @@
 -- Reading into a context, with the first fault that is met.
 use Rattle.std.specs.Borrow.{Bor}
-use Rattle.std.specs.Prelude.{◌≡◌, ◌≢◌, ℕ, List, Result, Ok, Err}
+use Rattle.std.specs.Prelude.{◌≡◌, ℕ, List, Result, Ok, Err}
 use Rattle.plir_attr_text.specs.Reading.{Ends}
 use Rattle.plir_attr_text.specs.declared.fault.Fault.{Fault}
-use Rattle.plir_attr_text.specs.declared.fault.Fault.TheVariants.{Memory, TooManyNodes}
 use Rattle.plir_attr_text.specs.declared.fault.Stop.{Stop}
 use Rattle.plir_attr_text.specs.declared.fault.Stop.TheVariants.{OutOfMemory, Crowded, At}
 
@@ -27,7 +26,3 @@ abbrev pub IsRefusal : (crowded : Type 0) → Stop → Type 0
 IsRefusal crowded OutOfMemory = Unit {0}
 IsRefusal crowded Crowded = crowded
 IsRefusal crowded (At fault left) = ⊥
-
--- something is wrong with the text
-abbrev pub IsOfText : Fault → Type 0
-IsOfText f = (f ≢ Memory) × (f ≢ TooManyNodes)

@@ -3,10 +3,11 @@ ghost use Rattle.plir_attr_text.specs.Lists.{items_at};
 ghost use Rattle.plir_attr_text.specs.Names.{AreNamed, Grows};
 ghost use Rattle.plir_attr_text.specs.Parts.{IsPartOf};
 ghost use Rattle.plir_attr_text.specs.Reading.{ReadsFirst};
+ghost use Rattle.plir_attr_text.specs.TypesWritten.{IsWrittenIn};
 ghost use Rattle.plir_read.specs.Heads.{AreArguments, IsArgument, IsBlockHead};
-ghost use Rattle.plir_read.specs.HeldTypes.{IsHeldByArgument, IsHeldByBlockHead, HoldsNew};
+ghost use Rattle.plir_read.specs.HeldTypes.{IsHeldByArgument, IsHeldByBlockHead};
 ghost use Rattle.plir_read.specs.OpReading.{argument_at, block_head_at};
-ghost use Rattle.plir_read.specs.TextTypes.{IsInText};
+ghost use Rattle.plir_read.specs.OpsRead.{HoldsNew};
 
 use crate::names::{Suffix, given_name};
 use plir_attr_text::attr_words::read_name;
@@ -40,7 +41,7 @@ fn read_argument<'a, D: OpSet, C: TypeStore<D>>(
 ) -> Result<((Option<Identifier>, TypeHandle), &'a [u8]), Stop>
     ensures read { ReadsFirst (IsArgument (C.types ctx.new)) result (argument_at levels bytes.now) }
     ensures grown { Grows (C.types ctx.old) (C.types ctx.new) }
-    ensures named { AreNamed (IsInText bytes.now) (C.types ctx.old) (C.types ctx.new) }
+    ensures named { AreNamed (IsWrittenIn bytes.now) (C.types ctx.old) (C.types ctx.new) }
     ensures held { HoldsNew (λ t a. IsPartOf t a.1) result (argument_at levels bytes.now) (C.types ctx.old)
         (C.types ctx.new) }
     ensures rest { C.same_besides ctx.old ctx.new }
@@ -65,7 +66,7 @@ fn read_arguments<'a, D: OpSet, C: TypeStore<D>>(
 ) -> Result<(Arguments, &'a [u8]), Stop>
     ensures read { ReadsFirst (AreArguments (C.types ctx.new)) result (items_at 40 41 (argument_at levels) bytes.now) }
     ensures grown { Grows (C.types ctx.old) (C.types ctx.new) }
-    ensures named { AreNamed (IsInText bytes.now) (C.types ctx.old) (C.types ctx.new) }
+    ensures named { AreNamed (IsWrittenIn bytes.now) (C.types ctx.old) (C.types ctx.new) }
     ensures held { HoldsNew IsHeldByArgument result (items_at 40 41 (argument_at levels) bytes.now) (C.types ctx.old)
         (C.types ctx.new) }
     ensures rest { C.same_besides ctx.old ctx.new }
@@ -103,7 +104,7 @@ pub fn read_block_head<'a, D: OpSet, C: TypeStore<D>>(
 ) -> Result<(BlockHeadData, &'a [u8]), Stop>
     ensures read { ReadsFirst (IsBlockHead (C.types ctx.new)) result (block_head_at levels bytes.now) }
     ensures grown { Grows (C.types ctx.old) (C.types ctx.new) }
-    ensures named { AreNamed (IsInText bytes.now) (C.types ctx.old) (C.types ctx.new) }
+    ensures named { AreNamed (IsWrittenIn bytes.now) (C.types ctx.old) (C.types ctx.new) }
     ensures held { HoldsNew IsHeldByBlockHead result (block_head_at levels bytes.now) (C.types ctx.old)
         (C.types ctx.new) }
     ensures rest { C.same_besides ctx.old ctx.new }

@@ -8,13 +8,13 @@ ghost use Rattle.plir_attr_text.specs.MeantBy.{IsMeantBy};
 ghost use Rattle.plir_attr_text.specs.Names.{AreNamed, Grows};
 ghost use Rattle.plir_attr_text.specs.Parts.{IsHeldBy};
 ghost use Rattle.plir_attr_text.specs.Reading.{ReadsFirst};
+ghost use Rattle.plir_attr_text.specs.TypesWritten.{IsWrittenIn};
 ghost use Rattle.plir_read.specs.Heads.{IsConstant};
-ghost use Rattle.plir_read.specs.HeldTypes.{IsHeldByConstant, HoldsNew};
+ghost use Rattle.plir_read.specs.HeldTypes.{IsHeldByConstant};
 ghost use Rattle.plir_read.specs.Keeping.{KeepsOlder};
 ghost use Rattle.plir_read.specs.OpReading.{value_at, constant_at, named_constant_at};
-ghost use Rattle.plir_read.specs.OpsStanding.{ReadsConstant};
+ghost use Rattle.plir_read.specs.OpsRead.{ReadsConstant, HoldsNew};
 ghost use Rattle.plir_read.specs.Slots.{IsMadeInOrder};
-ghost use Rattle.plir_read.specs.TextTypes.{IsInText};
 
 use crate::making::make_constant;
 use crate::openings::expect_names;
@@ -43,7 +43,7 @@ fn read_value<'a, D: OpSet, C: TypeStore<D>>(
 ) -> Result<(AttrObj<D>, &'a [u8]), Stop>
     ensures read { ReadsFirst (IsMeantBy (C.types ctx.new)) result (value_at levels bytes.now) }
     ensures grown { Grows (C.types ctx.old) (C.types ctx.new) }
-    ensures named { AreNamed (IsInText bytes.now) (C.types ctx.old) (C.types ctx.new) }
+    ensures named { AreNamed (IsWrittenIn bytes.now) (C.types ctx.old) (C.types ctx.new) }
     ensures held { HoldsNew IsHeldBy result (value_at levels bytes.now) (C.types ctx.old) (C.types ctx.new) }
     ensures rest { C.same_besides ctx.old ctx.new }
 {
@@ -68,7 +68,7 @@ fn read_typed_value<'a, D: OpSet, C: TypeStore<D>>(
     ensures read { ReadsFirst (λ x. IsConstant (C.types ctx.new) (attr_view x.value) x.ty) result
         (constant_at levels bytes.now) }
     ensures grown { Grows (C.types ctx.old) (C.types ctx.new) }
-    ensures named { AreNamed (IsInText bytes.now) (C.types ctx.old) (C.types ctx.new) }
+    ensures named { AreNamed (IsWrittenIn bytes.now) (C.types ctx.old) (C.types ctx.new) }
     ensures held { HoldsNew IsHeldByConstant result (constant_at levels bytes.now) (C.types ctx.old) (C.types ctx.new) }
     ensures rest { C.same_besides ctx.old ctx.new }
 {
@@ -100,7 +100,7 @@ pub fn read_constant<'a, D: OpSet>(
     ensures made { IfOk result (λ x. IsMade ctx.old.nodes ctx.new.nodes (IRNode.Operation x.0)) }
     ensures slots { IfOk result (λ x. IsMadeInOrder ctx.old.nodes ctx.new.nodes (IRNode.Operation x.0)) }
     ensures kept { KeepsOlder ctx.old ctx.new }
-    ensures named { AreNamed (IsInText bytes.now) ctx.old.types ctx.new.types }
+    ensures named { AreNamed (IsWrittenIn bytes.now) ctx.old.types ctx.new.types }
     ensures held { HoldsNew IsHeldByConstant result (named_constant_at levels (length names.items) bytes.now)
         ctx.old.types ctx.new.types }
     ensures whole { IsWellFormed D.attr_handles ctx.new }

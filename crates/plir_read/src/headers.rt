@@ -3,10 +3,11 @@ ghost use Rattle.plir_attr_text.specs.Meaning.{IsDictMeant};
 ghost use Rattle.plir_attr_text.specs.Names.{AreNamed, Grows};
 ghost use Rattle.plir_attr_text.specs.Parts.{IsHeldByEntry};
 ghost use Rattle.plir_attr_text.specs.Reading.{ReadsFirst};
+ghost use Rattle.plir_attr_text.specs.TypesWritten.{IsWrittenIn};
 ghost use Rattle.plir_read.specs.Heads.{IsHeader};
-ghost use Rattle.plir_read.specs.HeldTypes.{IsHeldByHeader, HoldsNew};
+ghost use Rattle.plir_read.specs.HeldTypes.{IsHeldByHeader};
 ghost use Rattle.plir_read.specs.OpReading.{dictionary_at, header_at};
-ghost use Rattle.plir_read.specs.TextTypes.{IsInText};
+ghost use Rattle.plir_read.specs.OpsRead.{HoldsNew};
 
 use crate::heads::{BodyKind, HeadData, read_head};
 use plir_attr_text::attrs::read_entries;
@@ -32,7 +33,7 @@ fn read_dictionary<'a, D: OpSet, C: TypeStore<D>>(
 ) -> Result<(AttributeDict<D>, &'a [u8]), Stop>
     ensures read { ReadsFirst (λ x y. IsDictMeant (C.types ctx.new) y x) result (dictionary_at levels bytes.now) }
     ensures grown { Grows (C.types ctx.old) (C.types ctx.new) }
-    ensures named { AreNamed (IsInText bytes.now) (C.types ctx.old) (C.types ctx.new) }
+    ensures named { AreNamed (IsWrittenIn bytes.now) (C.types ctx.old) (C.types ctx.new) }
     ensures held { HoldsNew IsHeldByEntry result (dictionary_at levels bytes.now) (C.types ctx.old) (C.types ctx.new) }
     ensures rest { C.same_besides ctx.old ctx.new }
 {
@@ -57,7 +58,7 @@ pub fn read_header<'a, D: OpSet, C: TypeStore<D>>(
     ensures read { ReadsFirst (λ x. IsHeader (C.types ctx.new) x.head x.entries) result
         (header_at levels kind bytes.now) }
     ensures grown { Grows (C.types ctx.old) (C.types ctx.new) }
-    ensures named { AreNamed (IsInText bytes.now) (C.types ctx.old) (C.types ctx.new) }
+    ensures named { AreNamed (IsWrittenIn bytes.now) (C.types ctx.old) (C.types ctx.new) }
     ensures held { HoldsNew IsHeldByHeader result (header_at levels kind bytes.now) (C.types ctx.old)
         (C.types ctx.new) }
     ensures rest { C.same_besides ctx.old ctx.new }

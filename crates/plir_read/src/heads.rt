@@ -2,10 +2,11 @@
 ghost use Rattle.std.specs.Prelude.{◌≡◌, Ok};
 ghost use Rattle.plir_attr_text.specs.Names.{AreNamed, Grows};
 ghost use Rattle.plir_attr_text.specs.Reading.{ReadsFirst, Gives};
+ghost use Rattle.plir_attr_text.specs.TypesWritten.{IsWrittenIn};
 ghost use Rattle.plir_read.specs.Heads.{IsHead};
-ghost use Rattle.plir_read.specs.HeldTypes.{IsHeldByHead, HoldsNew};
+ghost use Rattle.plir_read.specs.HeldTypes.{IsHeldByHead};
 ghost use Rattle.plir_read.specs.OpReading.{op_kind, op_id, symbol_at, head_at, ends_block, semicolon_at, brace_at};
-ghost use Rattle.plir_read.specs.TextTypes.{IsInText};
+ghost use Rattle.plir_read.specs.OpsRead.{HoldsNew};
 
 use plir_attr_text::Fault;
 use plir_attr_text::attr_words::read_name;
@@ -116,7 +117,7 @@ pub fn read_head<'a, D: OpSet, C: TypeStore<D>>(
 ) -> Result<(HeadData, &'a [u8]), Stop>
     ensures read { ReadsFirst (IsHead (C.types ctx.new)) result (head_at levels kind bytes.now) }
     ensures grown { Grows (C.types ctx.old) (C.types ctx.new) }
-    ensures named { AreNamed (IsInText bytes.now) (C.types ctx.old) (C.types ctx.new) }
+    ensures named { AreNamed (IsWrittenIn bytes.now) (C.types ctx.old) (C.types ctx.new) }
     ensures held { HoldsNew IsHeldByHead result (head_at levels kind bytes.now) (C.types ctx.old) (C.types ctx.new) }
     ensures rest { C.same_besides ctx.old ctx.new }
 {

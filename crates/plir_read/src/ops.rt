@@ -6,15 +6,16 @@ ghost use Rattle.plir_core.specs.ContextView.{IsLive, children};
 ghost use Rattle.plir_core.specs.WellFormed.{IsWellFormed};
 ghost use Rattle.plir_core.specs.declared.ptr.IRNode.{IRNode};
 ghost use Rattle.plir_attr_text.specs.Names.{AreNamed};
-ghost use Rattle.plir_read.specs.HeldTypes.{IsHeldByBlock, IsHeldByBlocks, IsHeldByOp, IsHeldByOps, HoldsNew};
+ghost use Rattle.plir_attr_text.specs.TypesWritten.{IsWrittenIn};
+ghost use Rattle.plir_read.specs.HeldTypes.{IsHeldByBlock, IsHeldByBlocks, IsHeldByOp, IsHeldByOps};
 ghost use Rattle.plir_read.specs.Keeping.{KeepsBut, KeepsOlder};
 ghost use Rattle.plir_read.specs.OpReading.{op_at, bodied_at, ops_at, block_at, blocks_at};
 ghost use Rattle.plir_read.specs.OpTerms.{ops_of, blocks_of};
-ghost use Rattle.plir_read.specs.OpsStanding.{HasOps, HasBlocks, ReadsOp, ReadsBlock};
+ghost use Rattle.plir_read.specs.OpsRead.{ReadsOp, ReadsBlock, HoldsNew};
+ghost use Rattle.plir_read.specs.OpsStanding.{HasOps, HasBlocks};
 ghost use Rattle.plir_read.specs.Room.{HasNoRoom};
 ghost use Rattle.plir_read.specs.Slots.{IsMadeInOrder, IsGrownInOrder};
 ghost use Rattle.plir_read.specs.Stopping.{ReadsOnPast};
-ghost use Rattle.plir_read.specs.TextTypes.{IsInText};
 
 use crate::arguments::read_block_head;
 use crate::constants::read_constant;
@@ -45,7 +46,7 @@ fn read_ops<'a, D: OpSet>(
     ensures grown { IfOk result (λ x. IsGrown ctx.old.nodes ctx.new.nodes (IRNode.BasicBlock block)) }
     ensures slots { IfOk result (λ x. IsGrownInOrder ctx.old.nodes ctx.new.nodes (IRNode.BasicBlock block)) }
     ensures kept { KeepsBut ctx.old ctx.new (Some (IRNode.BasicBlock block)) }
-    ensures named { AreNamed (IsInText bytes.now) ctx.old.types ctx.new.types }
+    ensures named { AreNamed (IsWrittenIn bytes.now) ctx.old.types ctx.new.types }
     ensures held { HoldsNew (λ t os. IsHeldByOps t (ops_of os)) result (ops_at (op_at levels) bytes.now) ctx.old.types
         ctx.new.types }
     ensures whole { IsWellFormed D.attr_handles ctx.new }
@@ -85,7 +86,7 @@ fn read_block<'a, D: OpSet>(
     ensures made { IfOk result (λ x. IsMade ctx.old.nodes ctx.new.nodes (IRNode.BasicBlock x.0)) }
     ensures slots { IfOk result (λ x. IsMadeInOrder ctx.old.nodes ctx.new.nodes (IRNode.BasicBlock x.0)) }
     ensures kept { KeepsOlder ctx.old ctx.new }
-    ensures named { AreNamed (IsInText bytes.now) ctx.old.types ctx.new.types }
+    ensures named { AreNamed (IsWrittenIn bytes.now) ctx.old.types ctx.new.types }
     ensures held { HoldsNew IsHeldByBlock result
         (block_at (op_at levels) levels bytes.now) ctx.old.types ctx.new.types }
     ensures whole { IsWellFormed D.attr_handles ctx.new }
@@ -119,7 +120,7 @@ fn read_body<'a, D: OpSet>(
     ensures grown { IfOk result (λ x. IsGrown ctx.old.nodes ctx.new.nodes (IRNode.Region region)) }
     ensures slots { IfOk result (λ x. IsGrownInOrder ctx.old.nodes ctx.new.nodes (IRNode.Region region)) }
     ensures kept { KeepsBut ctx.old ctx.new (Some (IRNode.Region region)) }
-    ensures named { AreNamed (IsInText bytes.now) ctx.old.types ctx.new.types }
+    ensures named { AreNamed (IsWrittenIn bytes.now) ctx.old.types ctx.new.types }
     ensures held { HoldsNew (λ t bs. IsHeldByBlocks t (blocks_of bs)) result
         (blocks_at (op_at levels) levels bytes.now) ctx.old.types ctx.new.types }
     ensures whole { IsWellFormed D.attr_handles ctx.new }
@@ -164,7 +165,7 @@ fn read_bodied<'a, D: OpSet>(
     ensures made { IfOk result (λ x. IsMade ctx.old.nodes ctx.new.nodes (IRNode.Operation x.0)) }
     ensures slots { IfOk result (λ x. IsMadeInOrder ctx.old.nodes ctx.new.nodes (IRNode.Operation x.0)) }
     ensures kept { KeepsOlder ctx.old ctx.new }
-    ensures named { AreNamed (IsInText bytes.now) ctx.old.types ctx.new.types }
+    ensures named { AreNamed (IsWrittenIn bytes.now) ctx.old.types ctx.new.types }
     ensures held { HoldsNew IsHeldByOp result (bodied_at (op_at levels) levels kind names bytes.now) ctx.old.types
         ctx.new.types }
     ensures whole { IsWellFormed D.attr_handles ctx.new }
@@ -196,7 +197,7 @@ pub fn read_op_at<'a, D: OpSet>(
     ensures made { IfOk result (λ x. IsMade ctx.old.nodes ctx.new.nodes (IRNode.Operation x.0)) }
     ensures slots { IfOk result (λ x. IsMadeInOrder ctx.old.nodes ctx.new.nodes (IRNode.Operation x.0)) }
     ensures kept { KeepsOlder ctx.old ctx.new }
-    ensures named { AreNamed (IsInText bytes.now) ctx.old.types ctx.new.types }
+    ensures named { AreNamed (IsWrittenIn bytes.now) ctx.old.types ctx.new.types }
     ensures held { HoldsNew IsHeldByOp result (op_at levels bytes.now) ctx.old.types ctx.new.types }
     ensures whole { IsWellFormed D.attr_handles ctx.new }
 {

@@ -1,11 +1,12 @@
 //! The reader of texts of operations.
-ghost use Rattle.std.specs.Prelude.{◌≡◌, Ok, Err, IfOk, IfErr};
+ghost use Rattle.std.specs.Prelude.{◌≡◌, Ok, IfOk, IfErr};
 ghost use Rattle.plir_core.specs.Made.{IsMade};
 ghost use Rattle.plir_core.specs.WellFormed.{IsWellFormed};
 ghost use Rattle.plir_core.specs.declared.ptr.IRNode.{IRNode};
+ghost use Rattle.plir_attr_text.specs.Faults.{IsOfText, HasNoPlace};
 ghost use Rattle.plir_attr_text.specs.Names.{AreNamed};
-ghost use Rattle.plir_attr_text.specs.Reading.{HasNoPlace};
 ghost use Rattle.plir_attr_text.specs.TypeGrammar.{IsText};
+ghost use Rattle.plir_attr_text.specs.TypesWritten.{IsWrittenIn};
 ghost use Rattle.plir_attr_text.specs.Wholes.{whole};
 ghost use Rattle.plir_read.specs.HeldTypes.{IsHeldByOp};
 ghost use Rattle.plir_read.specs.Keeping.{KeepsOlder};
@@ -15,8 +16,7 @@ ghost use Rattle.plir_read.specs.OpTerms.{OpTerm};
 ghost use Rattle.plir_read.specs.OpsStanding.{IsOpAt, StandsForOp};
 ghost use Rattle.plir_read.specs.Room.{HasNoRoom};
 ghost use Rattle.plir_read.specs.Slots.{IsMadeInOrder};
-ghost use Rattle.plir_read.specs.Stopping.{ReadsOn, IsOfText};
-ghost use Rattle.plir_read.specs.TextTypes.{IsInText};
+ghost use Rattle.plir_read.specs.Stopping.{ReadsOn};
 
 use crate::ops::read_op_at;
 use plir_attr_text::fault::Stop;
@@ -38,7 +38,7 @@ fn whole_op<D: OpSet>(
     ensures made { IfOk result (λ p. IsMade ctx.old.nodes ctx.new.nodes (IRNode.Operation p)) }
     ensures slots { IfOk result (λ p. IsMadeInOrder ctx.old.nodes ctx.new.nodes (IRNode.Operation p)) }
     ensures kept { KeepsOlder ctx.old ctx.new }
-    ensures named { AreNamed (IsInText bytes.now) ctx.old.types ctx.new.types }
+    ensures named { AreNamed (IsWrittenIn bytes.now) ctx.old.types ctx.new.types }
     ensures held { IfOk result (λ p. (w : OpTerm) → whole (op_at 200) bytes.now ≡ Ok w →
         AreNamed (λ t. IsHeldByOp t w) ctx.old.types ctx.new.types) }
     ensures whole { IsWellFormed D.attr_handles ctx.new }
@@ -70,12 +70,11 @@ pub fn read_op<D: OpSet>(
     ensures found { IfOk result (λ p. StandsForOp 200 ctx.new text.now (IRNode.Operation p)) }
     ensures made { IfOk result (λ p. IsMade ctx.old.nodes ctx.new.nodes (IRNode.Operation p)) }
     ensures slots { IfOk result (λ p. IsMadeInOrder ctx.old.nodes ctx.new.nodes (IRNode.Operation p)) }
-    ensures fault { IfErr result (λ e. IsOfText e.fault → whole (op_at 200) text.now ≡ Err e.fault) }
     ensures refused { IfErr result (λ e. IsOfText e.fault → (w : OpTerm) → IsText (OpWithin 200) text.now w → ⊥) }
     ensures placeless { IfErr result HasNoPlace }
     ensures crowded { IfErr result (λ e. e.fault ≡ Fault.TooManyNodes → HasNoRoom ctx.new) }
     ensures kept { KeepsOlder ctx.old ctx.new }
-    ensures named { AreNamed (IsInText text.now) ctx.old.types ctx.new.types }
+    ensures named { AreNamed (IsWrittenIn text.now) ctx.old.types ctx.new.types }
     ensures held { IfOk result (λ p. (w : OpTerm) → IsText (OpWithin 200) text.now w →
         AreNamed (λ t. IsHeldByOp t w) ctx.old.types ctx.new.types) }
     ensures whole { IsWellFormed D.attr_handles ctx.new }

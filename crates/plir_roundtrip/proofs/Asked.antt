@@ -1,5 +1,6 @@
 -- What a test has asked of the first of some things, and what is left to ask.
-use Rattle.std.proofs.Common.{◌≡◌, ◌↔◌, ℕ, zero, suc, max, ◌+◌, ◌<◌, Bool, true, false, cond, ◌||◌, bytes_eq, List, [], ◌∷◌, length, drop, All, inl, inr, Some, None, refl, sym, ap, subst, ◌∙◌, arith, add-one}
+use Rattle.std.proofs.Common.{◌≡◌, ◌↔◌, ℕ, zero, suc, max, ◌+◌, ◌<◌, Bool, true, false, cond, ◌||◌, bytes_eq, List, []}
+use Rattle.std.proofs.Common.{◌∷◌, length, drop, All, inl, inr, Some, None, refl, sym, ap, subst, ◌∙◌, arith, add-one}
 use Rattle.std.specs.List.{list_any}
 use Rattle.std.specs.Prelude.{slice_get}
 use Rattle.std.proofs.lemmas.List.{nil_from_length}
@@ -55,7 +56,8 @@ module _ (R : Type 0) (m a b n : ℕ) where
 
 -- ---- what stands under no other keys
 
-any_same : (keys : List (List ℕ)) (k l : List ℕ) → k ≡ l → list_any (λ z. is_key k z) keys ≡ list_any (λ z. is_key l z) keys
+any_same : (keys : List (List ℕ)) (k l : List ℕ) → k ≡ l
+    → list_any (λ z. is_key k z) keys ≡ list_any (λ z. is_key l z) keys
 any_same keys k l e = ap (λ y. list_any (λ z. is_key y z) keys) e
 
 module _ {A : Type 0} (keys : List (List ℕ)) (R : Type 0) (es fs : List (List ℕ × A)) (e : List ℕ × A) where
@@ -63,7 +65,8 @@ module _ {A : Type 0} (keys : List (List ℕ)) (R : Type 0) (es fs : List (List 
   OnlyIn l = (k : List ℕ) → list_any (λ z. is_key k z) keys ≡ false → dict_get l k ≡ None
 
   -- an entry under one of the keys is not seen under others
-  not_seen : list_any (λ z. is_key e.0 z) keys ≡ true → (k : List ℕ) → list_any (λ z. is_key k z) keys ≡ false → dict_get (e ∷ fs) k ≡ dict_get fs k
+  not_seen : list_any (λ z. is_key e.0 z) keys ≡ true → (k : List ℕ) → list_any (λ z. is_key k z) keys ≡ false
+      → dict_get (e ∷ fs) k ≡ dict_get fs k
   not_seen among k other = by (is_key k e.0) refl
     where
       by : (t : Bool) → is_key k e.0 ≡ t → cond (is_key k e.0) (Some e.1) (dict_get fs k) ≡ dict_get fs k
@@ -72,8 +75,10 @@ module _ {A : Type 0} (keys : List (List ℕ)) (R : Type 0) (es fs : List (List 
 
   pub key_passed : es ≡ e ∷ fs → list_any (λ z. is_key e.0 z) keys ≡ true → (OnlyIn es ↔ R) → OnlyIn fs ↔ R
   key_passed is among all =
-      let h : OnlyIn (e ∷ fs) ↔ R = subst (λ l. OnlyIn l ↔ R) is all in
-      (λ others. h.0 (λ k other. not_seen among k other ∙ others k other), λ r k other. sym (not_seen among k other) ∙ h.1 r k other)
+      let h : OnlyIn (e ∷ fs) ↔ R = subst (λ l. OnlyIn l ↔ R) is all in (
+        λ others. h.0 (λ k other. not_seen among k other ∙ others k other),
+        λ r k other. sym (not_seen among k other) ∙ h.1 r k other,
+      )
 
   pub key_failed : es ≡ e ∷ fs → list_any (λ z. is_key e.0 z) keys ≡ false → (OnlyIn es ↔ R) → R → ⊥
   key_failed is other all r =
@@ -85,7 +90,8 @@ module _ {A : Type 0} (keys : List (List ℕ)) (R : Type 0) (es fs : List (List 
 key_bytes : (k l : List ℕ) → is_key k l ≡ bytes_eq k l
 key_bytes k l = is_eq-slice_cmp k l
 
-pub expected_names : (k : List ℕ) (b : Bool) → bytes_eq k names_key ≡ true → list_any (λ l. is_key k l) (keys_with b) ≡ true
+pub expected_names : (k : List ℕ) (b : Bool) → bytes_eq k names_key ≡ true
+    → list_any (λ l. is_key k l) (keys_with b) ≡ true
 expected_names k true e = let n : is_key k names_key ≡ true = key_bytes k names_key ∙ e in by (is_key k value_key) n
   where
     by : (t : Bool) → is_key k names_key ≡ true → (t || (is_key k names_key || false)) ≡ true
@@ -93,12 +99,16 @@ expected_names k true e = let n : is_key k names_key ≡ true = key_bytes k name
     by false n = ap (λ z. z || false) n
 expected_names k false e = ap (λ z. z || false) (key_bytes k names_key ∙ e)
 
-pub expected_none : (k : List ℕ) (b : Bool) → bytes_eq k names_key ≡ false → b ≡ false → list_any (λ l. is_key k l) (keys_with b) ≡ false
+pub expected_none : (k : List ℕ) (b : Bool) → bytes_eq k names_key ≡ false → b ≡ false
+    → list_any (λ l. is_key k l) (keys_with b) ≡ false
 expected_none k true e f = absurd (let z : ⊥ = cc in z)
 expected_none k false e f = ap (λ z. z || false) (key_bytes k names_key ∙ e)
 
-pub expected_value : (k : List ℕ) (b : Bool) → bytes_eq k names_key ≡ false → b ≡ true → list_any (λ l. is_key k l) (keys_with b) ≡ bytes_eq k value_key
-expected_value k true e f = ap (λ z. is_key k value_key || (z || false)) (key_bytes k names_key ∙ e) ∙ or_none (is_key k value_key) ∙ key_bytes k value_key
+pub expected_value : (k : List ℕ) (b : Bool) → bytes_eq k names_key ≡ false → b ≡ true
+    → list_any (λ l. is_key k l) (keys_with b) ≡ bytes_eq k value_key
+expected_value k true e f =
+    ap (λ z. is_key k value_key || (z || false)) (key_bytes k names_key ∙ e) ∙ or_none (is_key k value_key)
+    ∙ key_bytes k value_key
   where
     or_none : (t : Bool) → (t || false) ≡ t
     or_none true = refl

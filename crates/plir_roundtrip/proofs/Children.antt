@@ -1,5 +1,6 @@
 -- The children of nodes: their kinds, their places, and what can be read at or under them.
-use Rattle.std.proofs.Common.{◌≡◌, ℕ, zero, suc, ◌+◌, ◌<◌, ◌≤◌, Bool, true, false, cond, List, [], ◌∷◌, map, inl, inr, Some, refl, sym, ap, subst, ◌∙◌, arith}
+use Rattle.std.proofs.Common.{◌≡◌, ℕ, zero, suc, ◌+◌, ◌<◌, ◌≤◌, Bool, true, false, cond, List, [], ◌∷◌, map, inl, inr}
+use Rattle.std.proofs.Common.{Some, refl, sym, ap, subst, ◌∙◌, arith}
 use Rattle.std.specs.List.{range_with_len}
 use Rattle.std.specs.Prelude.{slice_get}
 use Rattle.plir_core.specs.declared.ptr.Ptr.{Ptr}
@@ -21,36 +22,43 @@ use Rattle.plir_roundtrip.specs.ReadableParts.{AllReadable}
 -- ---- kinds
 
 module _ {K A T : Type 0} (s : ContextView K A T) where
-  region_among : (live : Bool) (xs : List ℕ) (x : IRNode) → Has (cond live (map (region_node s.nodes) xs) []) x → (r : Ptr RegionKind) × (x ≡ Region r)
+  region_among : (live : Bool) (xs : List ℕ) (x : IRNode) → Has (cond live (map (region_node s.nodes) xs) []) x
+      → (r : Ptr RegionKind) × (x ≡ Region r)
   region_among true [] x h = absurd h
   region_among true (i ∷ xs) x (inl e) = (ptr_at s.nodes.regions i, sym e)
   region_among true (i ∷ xs) x (inr h) = region_among true xs x h
   region_among false xs x h = absurd h
 
-  block_among : (live : Bool) (xs : List ℕ) (x : IRNode) → Has (cond live (map (block_node s.nodes) xs) []) x → (b : Ptr BlockKind) × (x ≡ BasicBlock b)
+  block_among : (live : Bool) (xs : List ℕ) (x : IRNode) → Has (cond live (map (block_node s.nodes) xs) []) x
+      → (b : Ptr BlockKind) × (x ≡ BasicBlock b)
   block_among true [] x h = absurd h
   block_among true (i ∷ xs) x (inl e) = (ptr_at s.nodes.blocks i, sym e)
   block_among true (i ∷ xs) x (inr h) = block_among true xs x h
   block_among false xs x h = absurd h
 
-  op_among : (live : Bool) (xs : List ℕ) (x : IRNode) → Has (cond live (map (op_node s.nodes) xs) []) x → (p : Ptr OperationKind) × (x ≡ Operation p)
+  op_among : (live : Bool) (xs : List ℕ) (x : IRNode) → Has (cond live (map (op_node s.nodes) xs) []) x
+      → (p : Ptr OperationKind) × (x ≡ Operation p)
   op_among true [] x h = absurd h
   op_among true (i ∷ xs) x (inl e) = (ptr_at s.nodes.ops i, sym e)
   op_among true (i ∷ xs) x (inr h) = op_among true xs x h
   op_among false xs x h = absurd h
 
   -- the children of an operation are regions, those of a region blocks, and those of a block operations
-  pub child_of_op : (p : Ptr OperationKind) (x : IRNode) → Has (children s (Operation p)) x → (r : Ptr RegionKind) × (x ≡ Region r)
+  pub child_of_op : (p : Ptr OperationKind) (x : IRNode) → Has (children s (Operation p)) x
+      → (r : Ptr RegionKind) × (x ≡ Region r)
   child_of_op p x h = region_among (is_live s (Operation p)) (children_at s.nodes.regions_in_op p.slot) x h
 
-  pub child_of_region : (r : Ptr RegionKind) (x : IRNode) → Has (children s (Region r)) x → (b : Ptr BlockKind) × (x ≡ BasicBlock b)
+  pub child_of_region : (r : Ptr RegionKind) (x : IRNode) → Has (children s (Region r)) x
+      → (b : Ptr BlockKind) × (x ≡ BasicBlock b)
   child_of_region r x h = block_among (is_live s (Region r)) (children_at s.nodes.blocks_in_region r.slot) x h
 
-  pub child_of_block : (b : Ptr BlockKind) (x : IRNode) → Has (children s (BasicBlock b)) x → (p : Ptr OperationKind) × (x ≡ Operation p)
+  pub child_of_block : (b : Ptr BlockKind) (x : IRNode) → Has (children s (BasicBlock b)) x
+      → (p : Ptr OperationKind) × (x ≡ Operation p)
   child_of_block b x h = op_among (is_live s (BasicBlock b)) (children_at s.nodes.ops_in_block b.slot) x h
 
   -- the one region of an operation
-  pub only_region : (p : Ptr OperationKind) (x : IRNode) → children s (Operation p) ≡ x ∷ [] → (r : Ptr RegionKind) × (x ≡ Region r)
+  pub only_region : (p : Ptr OperationKind) (x : IRNode) → children s (Operation p) ≡ x ∷ []
+      → (r : Ptr RegionKind) × (x ≡ Region r)
   only_region p x e = child_of_op p x (there e)
     where
       there : {xs : List IRNode} → xs ≡ x ∷ [] → Has xs x
@@ -88,7 +96,8 @@ module _ {K A T : Type 0} (s : ContextView K A T) where
 
 -- ---- numbers in a row
 
-pub in_row : {X : Type 0} (f : ℕ → X) (a n : ℕ) (x : X) → Has (map f (range_with_len a n)) x → (i : ℕ) × (i < a + n) × (x ≡ f i)
+pub in_row : {X : Type 0} (f : ℕ → X) (a n : ℕ) (x : X) → Has (map f (range_with_len a n)) x
+    → (i : ℕ) × (i < a + n) × (x ≡ f i)
 in_row f a zero x h = absurd h
 in_row f a (suc n) x (inl e) = (a, omega arith, sym e)
 in_row f a (suc n) x (inr h) = let p = in_row f (a + 1) n x h in (p.0, omega (arith, p.1), p.2)

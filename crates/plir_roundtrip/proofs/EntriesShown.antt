@@ -1,5 +1,7 @@
 -- What the text of an operation shows of its attributes.
-use Rattle.std.proofs.Common.{◌≡◌, ℕ, suc, Bool, true, false, cond, not, ◌||◌, bytes_eq, List, [], ◌∷◌, All, Ordering, Less, Equal, Greater, Option, Some, None, nat_cmp, filter, get_or, is_some, unwrap_or, refl, sym, ap, subst, ◌∙◌, arith}
+use Rattle.std.proofs.Common.{◌≡◌, ℕ, suc, Bool, true, false, cond, not, ◌||◌, bytes_eq, List, [], ◌∷◌, All, Ordering}
+use Rattle.std.proofs.Common.{Less, Equal, Greater, Option, Some, None, nat_cmp, filter, get_or, is_some, unwrap_or}
+use Rattle.std.proofs.Common.{refl, sym, ap, subst, ◌∙◌, arith}
 use Rattle.std.proofs.lemmas.Cmp.{nat_list_cmp_total}
 use Rattle.std.proofs.lemmas.Map.Lookups.{exact_bytes}
 use Rattle.std.proofs.lemmas.Option.{same_Some, none-some}
@@ -53,26 +55,35 @@ other_bytes k l e = by (bytes_eq k l) refl
 
 module _ {A : Type 0} where
   -- what is said of all entries is said of the one under a key
-  pub at_key : (P : List ℕ → AttrView A → Type 0) (es : List (List ℕ × AttrView A)) (k : List ℕ) (x : AttrView A) → All (λ e. P e.0 e.1) es → dict_get es k ≡ Some x → (l : List ℕ) × P l x
+  pub at_key : (P : List ℕ → AttrView A → Type 0) (es : List (List ℕ × AttrView A)) (k : List ℕ) (x : AttrView A)
+      → All (λ e. P e.0 e.1) es → dict_get es k ≡ Some x → (l : List ℕ) × P l x
   at_key P [] k x all e = absurd (none-some x e)
-  at_key P (a ∷ es) k x all e = by (is_key k a.0) e (λ f. at_key P es k x (λ i d lt. all (suc i) d (omega (arith, lt))) f)
+  at_key P (a ∷ es) k x all e =
+      by (is_key k a.0) e (λ f. at_key P es k x (λ i d lt. all (suc i) d (omega (arith, lt))) f)
     where
-      by : (t : Bool) → cond t (Some a.1) (dict_get es k) ≡ Some x → (dict_get es k ≡ Some x → (l : List ℕ) × P l x) → (l : List ℕ) × P l x
+      by : (t : Bool) → cond t (Some a.1) (dict_get es k) ≡ Some x → (dict_get es k ≡ Some x → (l : List ℕ) × P l x)
+          → (l : List ℕ) × P l x
       by true f rest = (a.0, subst (P a.0) (same_Some a.1 x f) (all 0 a (omega arith)))
       by false f rest = rest f
 
   -- an entry that passes a test is found among those that do
-  pub get-filter : (test : List ℕ × AttrView A → Bool) (es : List (List ℕ × AttrView A)) (k : List ℕ) → All (λ e. is_key k e.0 ≡ true → test e ≡ true) es → dict_get (filter test es) k ≡ dict_get es k
+  pub get-filter : (test : List ℕ × AttrView A → Bool) (es : List (List ℕ × AttrView A)) (k : List ℕ)
+      → All (λ e. is_key k e.0 ≡ true → test e ≡ true) es → dict_get (filter test es) k ≡ dict_get es k
   get-filter test [] k all = refl
-  get-filter test (a ∷ es) k all = by (test a) (is_key k a.0) refl refl (all 0 a (omega arith)) (get-filter test es k (λ i d lt. all (suc i) d (omega (arith, lt))))
+  get-filter test (a ∷ es) k all =
+      by (test a) (is_key k a.0) refl refl (all 0 a (omega arith))
+      (get-filter test es k (λ i d lt. all (suc i) d (omega (arith, lt))))
     where
-      by : (t u : Bool) → test a ≡ t → is_key k a.0 ≡ u → (u ≡ true → t ≡ true) → dict_get (filter test es) k ≡ dict_get es k → dict_get (cond t (a ∷ filter test es) (filter test es)) k ≡ cond u (Some a.1) (dict_get es k)
+      by : (t u : Bool) → test a ≡ t → is_key k a.0 ≡ u → (u ≡ true → t ≡ true)
+          → dict_get (filter test es) k ≡ dict_get es k
+          → dict_get (cond t (a ∷ filter test es) (filter test es)) k ≡ cond u (Some a.1) (dict_get es k)
       by true true e f h rest = ap (λ z. cond z (Some a.1) (dict_get (filter test es) k)) f
       by true false e f h rest = ap (λ z. cond z (Some a.1) (dict_get (filter test es) k)) f ∙ rest
       by false true e f h rest = let g = h refl in absurd cc
       by false false e f h rest = rest
 
-  below-filter : (test : List ℕ × AttrView A → Bool) (es : List (List ℕ × AttrView A)) (k : List ℕ) → IsBelowAll k es → IsBelowAll k (filter test es)
+  below-filter : (test : List ℕ × AttrView A → Bool) (es : List (List ℕ × AttrView A)) (k : List ℕ) → IsBelowAll k es
+      → IsBelowAll k (filter test es)
   below-filter test [] k h = tt
   below-filter test (a ∷ es) k h = by (test a) (below-filter test es k h.1)
     where
@@ -80,7 +91,8 @@ module _ {A : Type 0} where
       by true rest = (h.0, rest)
       by false rest = rest
 
-  pub filter_dictionary : (test : List ℕ × AttrView A → Bool) (es : List (List ℕ × AttrView A)) → IsDictionary es → IsDictionary (filter test es)
+  pub filter_dictionary : (test : List ℕ × AttrView A → Bool) (es : List (List ℕ × AttrView A)) → IsDictionary es
+      → IsDictionary (filter test es)
   filter_dictionary test [] h = tt
   filter_dictionary test (a ∷ es) h = by (test a) (filter_dictionary test es h.2)
     where
@@ -89,7 +101,8 @@ module _ {A : Type 0} where
       by false rest = rest
 
   -- the name, and the type, that a header shows
-  pub name_there : (g : Option (AttrView A)) → is_some (name_in g) ≡ true → g ≡ Some (leaf (views.identifier (unwrap_or (name_in g) [])))
+  pub name_there : (g : Option (AttrView A)) → is_some (name_in g) ≡ true
+      → g ≡ Some (leaf (views.identifier (unwrap_or (name_in g) [])))
   name_there None e = absurd cc
   name_there (Some (leaf (views.identifier w))) e = refl
   name_there (Some (leaf (views.string s))) e = absurd cc
@@ -120,7 +133,8 @@ module _ {A : Type 0} where
 
 module _ {A T : Type 0} (types : List (TypeView T)) (own : A → Bool) where
   -- what is not outlined can be written
-  entry_writable : (k : List ℕ) (x : AttrView A) → IsEntryReadable types k x → is_outlined own x ≡ false → IsWritable types x
+  entry_writable : (k : List ℕ) (x : AttrView A) → IsEntryReadable types k x → is_outlined own x ≡ false
+      → IsWritable types x
   entry_writable k (leaf (views.identifier w)) h e = h
   entry_writable k (leaf (views.string s)) h e = h
   entry_writable k (leaf (views.bool b)) h e = h
@@ -134,7 +148,8 @@ module _ {A T : Type 0} (types : List (TypeView T)) (own : A → Bool) where
   entry_writable k (vec xs) h e = h
 
   -- what stands under another key than that of names is not outlined
-  entry_kept : (k : List ℕ) (x : AttrView A) → IsEntryReadable types k x → is_key k names_key ≡ false → is_outlined own x ≡ false
+  entry_kept : (k : List ℕ) (x : AttrView A) → IsEntryReadable types k x → is_key k names_key ≡ false
+      → is_outlined own x ≡ false
   entry_kept k (leaf (views.identifier w)) h e = refl
   entry_kept k (leaf (views.string s)) h e = refl
   entry_kept k (leaf (views.bool b)) h e = refl
@@ -156,16 +171,25 @@ not_or false false e = refl
 
 module _ {D K A T E : Type 0} (o : op_set.Ghosts D K A T E) (types : List (TypeView T)) (kind : Option (OpKind K)) where
   -- each entry that is shown can be written
-  pub shown_writable : (es : List (List ℕ × AttrView A)) → IsDictionary es → All (λ e. IsEntryReadable types e.0 e.1) es → AreWritable types (shown_of o kind es)
+  pub shown_writable : (es : List (List ℕ × AttrView A)) → IsDictionary es → All (λ e. IsEntryReadable types e.0 e.1) es
+      → AreWritable types (shown_of o kind es)
   shown_writable [] d all = tt
-  shown_writable (a ∷ es) d all = by (is_shown o kind a) refl (shown_writable es d.2 (λ i e lt. all (suc i) e (omega (arith, lt))))
+  shown_writable (a ∷ es) d all =
+      by (is_shown o kind a) refl (shown_writable es d.2 (λ i e lt. all (suc i) e (omega (arith, lt))))
     where
-      by : (t : Bool) → is_shown o kind a ≡ t → AreWritable types (shown_of o kind es) → AreWritable types (cond t (a ∷ shown_of o kind es) (shown_of o kind es))
-      by true e rest = (d.0, entry_writable types o.attr_outlined a.0 a.1 (all 0 a (omega arith)) (not_or (is_in_header kind a.0) (is_outlined o.attr_outlined a.1) e), rest)
+      by : (t : Bool) → is_shown o kind a ≡ t → AreWritable types (shown_of o kind es)
+          → AreWritable types (cond t (a ∷ shown_of o kind es) (shown_of o kind es))
+      by true e rest = (
+        d.0,
+        entry_writable types o.attr_outlined a.0 a.1 (all 0 a (omega arith))
+            (not_or (is_in_header kind a.0) (is_outlined o.attr_outlined a.1) e),
+        rest,
+      )
       by false e rest = rest
 
   -- where the header shows nothing of a key, and it is not that of names, what stands under it is shown
-  pub shown_there : (es : List (List ℕ × AttrView A)) (k : List ℕ) → All (λ e. IsEntryReadable types e.0 e.1) es → is_in_header kind k ≡ false → is_key k names_key ≡ false → dict_get (shown_of o kind es) k ≡ dict_get es k
+  pub shown_there : (es : List (List ℕ × AttrView A)) (k : List ℕ) → All (λ e. IsEntryReadable types e.0 e.1) es
+      → is_in_header kind k ≡ false → is_key k names_key ≡ false → dict_get (shown_of o kind es) k ≡ dict_get es k
   shown_there es k all e f = get-filter (is_shown o kind) es k (λ i d lt same.
       let a = all i d lt in
       at (get_or es i d) a same)
@@ -174,5 +198,6 @@ module _ {D K A T E : Type 0} (o : op_set.Ghosts D K A T E) (types : List (TypeV
       at a h same =
           let is : k ≡ a.0 = key_is k a.0 same in
           let told : is_in_header kind a.0 ≡ false = subst (λ z. is_in_header kind z ≡ false) is e in
-          let outlined : is_outlined o.attr_outlined a.1 ≡ false = entry_kept types o.attr_outlined a.0 a.1 h (subst (λ z. is_key z names_key ≡ false) is f) in
+          let outlined : is_outlined o.attr_outlined a.1 ≡ false =
+          entry_kept types o.attr_outlined a.0 a.1 h (subst (λ z. is_key z names_key ≡ false) is f) in
           rw (told, outlined) refl

@@ -1,5 +1,6 @@
 -- Tokens of things that are printed on lines and between signs.
-use Rattle.std.proofs.Common.{◌≡◌, ℕ, zero, suc, true, false, List, [], ◌∷◌, ◌++◌, replicate, Ok, refl, sym, ap, subst, ◌∙◌, append_assoc}
+use Rattle.std.proofs.Common.{◌≡◌, ℕ, zero, suc, true, false, List, [], ◌∷◌, ◌++◌, replicate, Ok, refl, sym, ap, subst}
+use Rattle.std.proofs.Common.{◌∙◌, append_assoc}
 use Rattle.plir_attr_text.specs.laws.Begun.{Begins-append}
 use Rattle.plir_attr_text.specs.Bytes.{is_blank, is_in_word}
 use Rattle.plir_attr_text.specs.laws.Printed.{Ends}
@@ -14,7 +15,8 @@ look-blank : (b : ℕ) (bytes : List ℕ) → is_blank b ≡ true → look (b �
 unfolding look
 look-blank b bytes h = rw h refl
 
-takes-behind : (b : ℕ) (bytes : List ℕ) (t : Token) (rest : List ℕ) → is_blank b ≡ true → Takes bytes t rest → Takes (b ∷ bytes) t rest
+takes-behind : (b : ℕ) (bytes : List ℕ) (t : Token) (rest : List ℕ) → is_blank b ≡ true → Takes bytes t rest
+    → Takes (b ∷ bytes) t rest
 takes-behind b bytes (quoted q) rest h p = (p.0, look-blank b bytes h ∙ p.1, p.2)
 takes-behind b bytes (word w) rest h p = look-blank b bytes h ∙ p
 takes-behind b bytes (digits n) rest h p = look-blank b bytes h ∙ p
@@ -57,12 +59,21 @@ abbrev pub Then : (E F : List Token → Type 0) → List Token → Type 0
 Then E F ts = (first others : List Token) × E first × F others × (ts ≡ first ++ others)
 
 module _ {F : List Token → Type 0} {more : List ℕ} (m : Tail F more) where
-  both-begun : (text : List ℕ) (tokens : List Token) → ((rest : List ℕ) → Ends is_in_word rest → Begins (text ++ rest) tokens rest) → (rest : List ℕ) → Ends is_in_word rest → Begins ((text ++ more) ++ rest) (tokens ++ m.run.tokens) rest
+  both-begun : (text : List ℕ) (tokens : List Token)
+      → ((rest : List ℕ) → Ends is_in_word rest → Begins (text ++ rest) tokens rest) → (rest : List ℕ)
+      → Ends is_in_word rest → Begins ((text ++ more) ++ rest) (tokens ++ m.run.tokens) rest
   both-begun text tokens begun rest e =
-      subst (λ bytes. Begins bytes (tokens ++ m.run.tokens) rest) (sym (append_assoc text more rest)) (Begins-append tokens m.run.tokens (text ++ (more ++ rest)) (more ++ rest) rest (begun (more ++ rest) (m.ends rest e)) (m.run.begun rest e))
+      subst (λ bytes. Begins bytes (tokens ++ m.run.tokens) rest) (sym (append_assoc text more rest))
+      (Begins-append tokens m.run.tokens (text ++ (more ++ rest)) (more ++ rest) rest
+      (begun (more ++ rest) (m.ends rest e)) (m.run.begun rest e))
 
   pub both-run : {E : List Token → Type 0} {text : List ℕ} → Run E text → Run (Then E F) (text ++ more)
-  both-run {E} {text} r = record { tokens = r.tokens ++ m.run.tokens; spelled = (r.tokens, m.run.tokens, r.spelled, m.run.spelled, refl); begun = both-begun text r.tokens r.begun }
+  both-run {E} {text} r =
+      record {
+        tokens = r.tokens ++ m.run.tokens;
+        spelled = (r.tokens, m.run.tokens, r.spelled, m.run.spelled, refl);
+        begun = both-begun text r.tokens r.begun;
+      }
 
   pub both-shown : {E : List Token → Type 0} {text : List ℕ} → Shown E text → Shown (Then E F) (text ++ more)
   both-shown {E} {text} p = record {
@@ -78,7 +89,8 @@ module _ {F : List Token → Type 0} {more : List ℕ} (m : Tail F more) where
 abbrev pub Behind : (c : ℕ) → (List Token → Type 0) → List Token → Type 0
 Behind c E ts = (behind : List Token) × E behind × (ts ≡ sign c ∷ behind)
 
-pub sign-shown : {E : List Token → Type 0} {text : List ℕ} (c : ℕ) → ((rest : List ℕ) → look (c ∷ rest) ≡ Ok (sign c, rest)) → Run E text → Shown (Behind c E) (c ∷ text)
+pub sign-shown : {E : List Token → Type 0} {text : List ℕ} (c : ℕ)
+    → ((rest : List ℕ) → look (c ∷ rest) ≡ Ok (sign c, rest)) → Run E text → Shown (Behind c E) (c ∷ text)
 sign-shown {E} {text} c seen r = record {
   first = sign c;
   others = r.tokens;
@@ -140,7 +152,13 @@ Between c d E ts = (inner : List Token) × E inner × (ts ≡ enclosed c inner d
 
 -- a brace on a line of its own, and a list in two of these
 closing : (n : ℕ) → Tail (λ ts. ts ≡ sign 125 ∷ []) (line n ++ 125 ∷ [])
-closing n = tail-shown 10 refl (line-shown n (record { first = sign 125; others = []; spelled = refl; begun = λ rest e. (rest, look-unbrace rest, refl) }))
+closing n =
+    tail-shown 10 refl (line-shown n
+    (record { first = sign 125; others = []; spelled = refl; begun = λ rest e. (rest, look-unbrace rest, refl) }))
 
-pub braced : {E : List Token → Type 0} {text : List ℕ} (n : ℕ) → Run E text → Shown (Between 123 125 E) (line n ++ (123 ∷ (text ++ (line n ++ 125 ∷ []))))
-braced n r = line-shown n (Shown-as (λ ts s. let both = s.1 in (both.0, both.2, s.2 ∙ ap (λ l. sign 123 ∷ l) (both.4 ∙ ap (λ l. both.0 ++ l) both.3))) (sign-shown 123 look-brace (both-run (closing n) r)))
+pub braced : {E : List Token → Type 0} {text : List ℕ} (n : ℕ) → Run E text
+    → Shown (Between 123 125 E) (line n ++ (123 ∷ (text ++ (line n ++ 125 ∷ []))))
+braced n r =
+    line-shown n (Shown-as
+    (λ ts s. let both = s.1 in (both.0, both.2, s.2 ∙ ap (λ l. sign 123 ∷ l) (both.4 ∙ ap (λ l. both.0 ++ l) both.3)))
+    (sign-shown 123 look-brace (both-run (closing n) r)))

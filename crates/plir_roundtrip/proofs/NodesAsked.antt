@@ -10,7 +10,9 @@ use Rattle.plir_core.specs.ContextView.{ContextView, children, attributes_of, re
 use Rattle.plir_roundtrip.specs.Readable.{IsEntryReadable, IsBodyReadable}
 use Rattle.plir_roundtrip.proofs.Asked.{one_long}
 
-pub body_when : {K A T : Type 0} (s : ContextView K A T) (p : Ptr OperationKind) (es : List (List ℕ × AttrView A)) (r : Bool) → length (result_types_of s p) ≡ 0 → length (children s (Operation p)) ≡ 1 → es ≡ attributes_of s p → IsDictionary es
+pub body_when : {K A T : Type 0} (s : ContextView K A T) (p : Ptr OperationKind) (es : List (List ℕ × AttrView A))
+    (r : Bool) → length (result_types_of s p) ≡ 0 → length (children s (Operation p)) ≡ 1 → es ≡ attributes_of s p
+    → IsDictionary es
     → (IsTrue r ↔ All (λ e. IsEntryReadable s.types e.0 e.1) es) → IsTrue r ↔ IsBodyReadable s p
 body_when s p es r none one is ascending each =
     let only = one_long (children s (Operation p)) one in (

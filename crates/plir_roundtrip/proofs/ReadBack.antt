@@ -18,7 +18,7 @@ use Rattle.plir_print.specs.OpText.{op_text, room}
 use Rattle.plir_read.specs.OpGrammar.{OpWithin}
 use Rattle.plir_read.specs.OpTerms.{OpTerm, op_levels}
 use Rattle.plir_read.specs.OpsStanding.{IsOpAt}
-use Rattle.plir_read.specs.Stopping.{IsOfText}
+use Rattle.plir_attr_text.specs.Faults.{IsOfText}
 use Rattle.plir_roundtrip.specs.OpAnswer.{IsReadBack}
 use Rattle.plir_roundtrip.specs.Readable.{IsReadable}
 use Rattle.plir_roundtrip.specs.Written.{op_term_of}
@@ -44,7 +44,8 @@ refusal_alone (faults.NResultsVerifyErr wanted found) h = absurd (h (λ e. absur
 refusal_alone faults.Memory h = inl refl
 refusal_alone faults.TooManyNodes h = inr refl
 
-module _ {D K A T E : Type 0} (o : op_set.Ghosts D K A T E) (s : ContextView K A T) (st : IsStanding s) (p : Ptr OperationKind) (readable : IsReadable o s p) where
+module _ {D K A T E : Type 0} (o : op_set.Ghosts D K A T E) (s : ContextView K A T) (st : IsStanding s)
+    (p : Ptr OperationKind) (readable : IsReadable o s p) where
   all_readable : AllReadable s (Operation p)
   all_readable = record { ops = readable.ops; blocks = readable.blocks }
 
@@ -55,19 +56,28 @@ module _ {D K A T E : Type 0} (o : op_set.Ghosts D K A T E) (s : ContextView K A
   pub stands : (n : ℕ) → op_levels (op_term_of o s p) ≤ n → IsText (OpWithin n) (op_text o s p) (op_term_of o s p)
   stands n le =
       let shown = op-shown o s st (room s (Operation p)) 0 (room s (Operation p)) p enough enough all_readable in
-      whole_text (OpWithin n) (op_term_of o s p) (op_text o s p) (record { first = shown.first; others = shown.others; spelled = (shown.spelled, le); begun = shown.begun })
+      whole_text (OpWithin n) (op_term_of o s p) (op_text o s p)
+      (record { first = shown.first; others = shown.others; spelled = (shown.spelled, le); begun = shown.begun })
 
 -- whatever the reader answers to the text of an operation that can be read back
-module _ {D K A T E : Type 0} (o : op_set.Ghosts D K A T E) (standing : (s : ContextView K A T) → IsWellFormed o.attr_handles s → IsStanding s) (itself : IsDictOfItself (AttrView A)) (one : IsOfOne) where
+module _ {D K A T E : Type 0} (o : op_set.Ghosts D K A T E)
+    (standing : (s : ContextView K A T) → IsWellFormed o.attr_handles s → IsStanding s)
+    (itself : IsDictOfItself (AttrView A)) (one : IsOfOne) where
   pub read_back : (text : List ℕ) (answer : Result (Ptr OperationKind) ReadErr) → IsReadBack o text answer
   read_back text (Ok q) printed old new p whole table readable is grown read =
       let st = standing printed whole in
-      let ours = subst (λ l. IsText (OpWithin 200) l (op_term_of o printed p)) (sym is) (stands o printed st p readable 200 readable.levels) in
+      let ours =
+      subst (λ l. IsText (OpWithin 200) l (op_term_of o printed p)) (sym is)
+      (stands o printed st p readable 200 readable.levels) in
       let found = read.found in
       let same = one 200 200 text found.0 (op_term_of o printed p) found.1 ours in
       let at = subst (λ w. IsOpAt new (Operation q) w) same found.2 in
-      λ place. op_same o printed new st whole itself (Grows-on printed.types old.types new.types grown read.kept.types) table place (room printed (Operation p)) p (Operation q) (enough o printed st p readable) (all_readable o printed st p readable) at
+      λ place. op_same o printed new st whole itself (Grows-on printed.types old.types new.types grown read.kept.types)
+      table place (room printed (Operation p)) p (Operation q) (enough o printed st p readable)
+      (all_readable o printed st p readable) at
   read_back text (Err e) printed old new p whole table readable is grown read =
       let st = standing printed whole in
-      let ours = subst (λ l. IsText (OpWithin 200) l (op_term_of o printed p)) (sym is) (stands o printed st p readable 200 readable.levels) in
+      let ours =
+      subst (λ l. IsText (OpWithin 200) l (op_term_of o printed p)) (sym is)
+      (stands o printed st p readable 200 readable.levels) in
       refusal_alone e.fault (λ other. read.refused other (op_term_of o printed p) ours)

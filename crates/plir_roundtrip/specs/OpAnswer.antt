@@ -1,5 +1,5 @@
 -- What the reader of operations answers, and that it reads back what was printed.
-use Rattle.std.specs.Prelude.{◌≡◌, ◌⊎◌, ℕ, true, List, Result, Err, IfOk, IfErr, MatchResult}
+use Rattle.std.specs.Prelude.{◌≡◌, ◌⊎◌, ℕ, true, List, Result, IfOk, IfErr, MatchResult}
 use Rattle.plir_data.specs.Identifier.{is_identifier}
 use Rattle.plir_data.specs.Types.{IsTypeTable}
 use Rattle.plir_data.specs.declared.op_set.OpSet as op_set
@@ -9,32 +9,29 @@ use Rattle.plir_core.specs.declared.ptr.IRNode.TheVariants.{Operation}
 use Rattle.plir_core.specs.Made.{IsMade}
 use Rattle.plir_core.specs.ContextView.{ContextView}
 use Rattle.plir_core.specs.WellFormed.{IsWellFormed}
+use Rattle.plir_attr_text.specs.Faults.{IsOfText}
 use Rattle.plir_attr_text.specs.Names.{Grows}
 use Rattle.plir_attr_text.specs.TypeGrammar.{IsText}
-use Rattle.plir_attr_text.specs.Wholes.{whole}
 use Rattle.plir_attr_text.specs.declared.fault.Fault.TheVariants.{Memory, TooManyNodes}
 use Rattle.plir_attr_text.specs.declared.fault.ReadErr.{ReadErr}
 use Rattle.plir_builtin.specs.BuiltinOps.{IsNewModule}
 use Rattle.plir_print.specs.OpText.{op_text}
 use Rattle.plir_read.specs.Keeping.{KeepsOlder}
 use Rattle.plir_read.specs.OpGrammar.{OpWithin}
-use Rattle.plir_read.specs.OpReading.{op_at}
 use Rattle.plir_read.specs.OpTerms.{OpTerm}
 use Rattle.plir_read.specs.OpsStanding.{StandsForOp}
-use Rattle.plir_read.specs.Stopping.{IsOfText}
 use Rattle.plir_roundtrip.specs.Readable.{IsReadable}
 use Rattle.plir_roundtrip.specs.SameTree.{IsSameTree}
 use Rattle.plir_roundtrip.specs.Written.{op_term_of}
 
 module _ {K A T : Type 0} where
   -- The answer to a text, read into the context `old`, which leaves the context `new`: an operation that the text
-  -- stands for, made anew; or memory or room was wanting, or the fault that is met first, and then the text stands for
-  -- no operation. What was there is as it was.
+  -- stands for, made anew; or memory or room was wanting, or the text stands for no operation. What was there
+  -- is as it was.
   pub record IsOpRead (old : ContextView K A T) (text : List ℕ) (answer : Result (Ptr OperationKind) ReadErr)
       (new : ContextView K A T) : Type 0 where
     pub found : IfOk answer (λ p. StandsForOp 200 new text (Operation p))
     pub made : IfOk answer (λ p. IsMade old.nodes new.nodes (Operation p))
-    pub fault : IfErr answer (λ e. IsOfText e.fault → whole (op_at 200) text ≡ Err e.fault)
     pub refused : IfErr answer (λ e. IsOfText e.fault → (w : OpTerm) → IsText (OpWithin 200) text w → ⊥)
     pub kept : KeepsOlder old new
 

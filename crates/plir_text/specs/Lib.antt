@@ -9,14 +9,16 @@ pub use Rattle.plir_attr_text.specs.Names
 pub use Rattle.plir_attr_text.specs.Parts
 pub use Rattle.plir_attr_text.specs.Meaning
 pub use Rattle.plir_attr_text.specs.TypesIn
+pub use Rattle.plir_attr_text.specs.TypesWritten
 pub use Rattle.plir_attr_text.specs.TypeReading
 pub use Rattle.plir_attr_text.specs.AttrReading
-pub use Rattle.plir_attr_text.specs.Reading
+pub use Rattle.plir_attr_text.specs.Faults
 pub use Rattle.plir_attr_text.specs.Wholes
 pub use Rattle.plir_attr_text.specs.AttrText
 pub use Rattle.plir_attr_text.specs.OpSetTexts
 pub use Rattle.plir_attr_text.specs.Writable
 pub use Rattle.plir_attr_text.specs.AttrAnswer
+pub use Rattle.plir_attr_text.specs.AttrReadBack
 -- Operations and edges, printed.
 pub use Rattle.plir_print.specs.Lists
 pub use Rattle.plir_print.specs.Dictionaries
@@ -32,8 +34,6 @@ pub use Rattle.plir_read.specs.OpsStanding
 pub use Rattle.plir_read.specs.Keeping
 pub use Rattle.plir_read.specs.Slots
 pub use Rattle.plir_read.specs.Room
-pub use Rattle.plir_read.specs.Stopping
-pub use Rattle.plir_read.specs.TextTypes
 pub use Rattle.plir_read.specs.HeldTypes
 -- What is read back.
 pub use Rattle.plir_roundtrip.specs.Readable

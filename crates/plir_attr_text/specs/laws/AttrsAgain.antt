@@ -227,7 +227,7 @@ mutual
 
 -- ---- whole texts
 
-attr_within_again : (n : ℕ) (t : AttrTerm) (ts : List Token) (bytes rest : List ℕ) → AttrWithin n t ts →
+pub attr_within_again : (n : ℕ) (t : AttrTerm) (ts : List Token) (bytes rest : List ℕ) → AttrWithin n t ts →
     Begins bytes ts rest → attr_at n bytes ≡ Ok (t, rest)
 attr_within_again n t ts bytes rest h b = attr_again t ts n bytes rest h.0 h.1 b
 

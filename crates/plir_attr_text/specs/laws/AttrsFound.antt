@@ -9,7 +9,7 @@ use Rattle.plir_attr_text.specs.declared.fault.Fault.{Fault}
 use Rattle.plir_attr_text.specs.declared.fault.Fault.TheVariants.{TooDeep}
 use Rattle.plir_attr_text.specs.Steps.{◌>>=◌}
 use Rattle.plir_attr_text.specs.Terms as terms
-use Rattle.plir_attr_text.specs.Terms.{AttrTerm, attrs_of, entries_of, levels, attrs_levels, entries_levels}
+use Rattle.plir_attr_text.specs.Terms.{AttrTerm, attrs_of, entries_of, attrs_levels, entries_levels}
 use Rattle.plir_attr_text.specs.Tokens.{Token, word, sign, look}
 use Rattle.plir_attr_text.specs.TypeGrammar.{enclosed}
 use Rattle.plir_attr_text.specs.Lists.{sign_at, items_at}
@@ -83,9 +83,10 @@ kind_is w k e =
       ]
     ]
 
-head_found : (bytes : List ℕ) (x : AttrKind × List ℕ) → attr_head bytes ≡ Ok x → look bytes ≡ Ok (word (id_of x.0), x.1)
+pub attr_head_found : (bytes : List ℕ) (x : AttrKind × List ℕ) → attr_head bytes ≡ Ok x →
+    look bytes ≡ Ok (word (id_of x.0), x.1)
 unfolding attr_head
-head_found bytes x e =
+attr_head_found bytes x e =
     let a = bind_ok (word_at bytes) (λ w. attr_kind w.0 >>= λ k. Ok (k, w.1)) x e in
     let b = bind_ok (attr_kind a.0.0) (λ k. Ok (k, a.0.1)) x a.2 in
     let is : look bytes ≡ Ok (word (id_of b.0), a.0.1) = word_found bytes a.0 a.1 ∙
@@ -145,7 +146,7 @@ entries_wrote n (e ∷ es) ts h =
       omega (arith, f.3.1, w.1),
     )
 
-entry_found : (n : ℕ) (read : List ℕ → Result (AttrTerm × List ℕ) Fault) → IsSound (AttrWithin n) read →
+pub entry_found : (n : ℕ) (read : List ℕ → Result (AttrTerm × List ℕ) Fault) → IsSound (AttrWithin n) read →
     IsSound (EntryWithin n) (entry_at read)
 unfolding entry_at
 entry_found n read sound bytes x e =
@@ -298,7 +299,7 @@ unfolding attr_at
 attr_found zero bytes x e = let a = bind_ok (word_at bytes) (λ w. Err TooDeep) x e in absurd (no_attr x a.2)
 attr_found (suc n) bytes x e =
     let a = bind_ok (attr_head bytes) (λ h. attr_body n (attr_at n) h.0 h.1) x e in
-    body_found n (attr_at n) (attr_found n) a.0.0 bytes a.0.1 x (head_found bytes a.0 a.1) a.2
+    body_found n (attr_at n) (attr_found n) a.0.0 bytes a.0.1 x (attr_head_found bytes a.0 a.1) a.2
 
 -- some token
 spelled-length : (t : AttrTerm) (ts : List Token) → Spells t ts → 1 ≤ length ts

@@ -37,7 +37,8 @@ unfolding text_at
 string_again s ts bytes rest h b =
     let c = subst (λ (y : List Token). Begins bytes y rest) h.1 b in
     let q = c.1 in
-    rw (sign_again 34 bytes q.0 q.1, quoted-read q.0 s c.0 q.2, is_utf8-from_IsUtf8 s h.0) (ap (λ (y : List ℕ). done (s, y)) c.2)
+    rw (sign_again 34 bytes q.0 q.1, quoted-read q.0 s c.0 q.2, is_utf8-from_IsUtf8 s h.0)
+    (ap (λ (y : List ℕ). done (s, y)) c.2)
 
 pub truth_again : (v : Bool) (ts : List Token) (bytes rest : List ℕ) → SpellsTruth v ts → Begins bytes ts rest →
     bool_at bytes ≡ Ok (v, rest)

@@ -222,12 +222,12 @@ kind_is w k e =
       ]
     ]
 
-head_found : (bytes : List ℕ) (x : TypeKind × List ℕ) → type_head bytes ≡ Ok x → look bytes ≡ Ok (
+pub type_head_found : (bytes : List ℕ) (x : TypeKind × List ℕ) → type_head bytes ≡ Ok x → look bytes ≡ Ok (
   word (type_id x.0),
   x.1,
 )
 unfolding type_head
-head_found bytes x e =
+type_head_found bytes x e =
     let a = bind_ok (word_at bytes) (λ w. type_kind w.0 >>= λ k. Ok (k, w.1)) x e in
     let b = bind_ok (type_kind a.0.0) (λ k. Ok (k, a.0.1)) x a.2 in
     let is : look bytes ≡ Ok (word (type_id b.0), a.0.1) = word_found bytes a.0 a.1 ∙
@@ -283,7 +283,7 @@ unfolding type_at
 type_found zero bytes x e = let a = bind_ok (word_at bytes) (λ w. Err TooDeep) x e in absurd (no_type x a.2)
 type_found (suc n) bytes x e =
     let a = bind_ok (type_head bytes) (λ h. type_body (type_at n) h.0 h.1) x e in
-    body_found n (type_at n) (type_found n) a.0.0 bytes a.0.1 x (head_found bytes a.0 a.1) a.2
+    body_found n (type_at n) (type_found n) a.0.0 bytes a.0.1 x (type_head_found bytes a.0 a.1) a.2
 
 -- some token
 spelled-length : (t : TypeTerm) (ts : List Token) → SpellsType t ts → 1 ≤ length ts

@@ -10,4 +10,9 @@ not_utf8 bs true e h = absurd (h (IsUtf8-from_is_utf8 bs e))
 not_utf8 bs false e h = refl
 
 pub returns-in_default-clause-refused : goal.returns-in_default-clause-refused
-returns-in_default-clause-refused c = inr (refl, no_identifier c.args.word.now (not_utf8 c.args.word.now (is_utf8 c.args.word.now) refl c.in_default.ensures.cases.0))
+returns-in_default-clause-refused c =
+    inr (
+      refl,
+      no_identifier c.args.word.now
+          (not_utf8 c.args.word.now (is_utf8 c.args.word.now) refl c.in_default.ensures.cases.0),
+    )

@@ -3,7 +3,8 @@ use Rattle.std.proofs.lemmas.Result.{err_from_is_err_and}
 use Rattle.plir_attr_text.specs.Lists.{separator_at}
 use Rattle.plir_attr_text.specs.AttrReading.{given_name_at}
 use Rattle.plir_attr_text.specs.laws.StepLaws.{done}
-use Rattle.plir_attr_text.specs.laws.Fronts.{no_open, nothing_inside, starts, ends_at_item, ends_behind, closes, goes_on}
+use Rattle.plir_attr_text.specs.laws.Fronts.{no_open, nothing_inside, starts, ends_at_item, ends_behind, closes}
+use Rattle.plir_attr_text.specs.laws.Fronts.{goes_on}
 use Rattle.plir_attr_text.specs.laws.Begun.{separator_at-shorter}
 use Rattle.plir_attr_text.specs.laws.LeavesFound.{given_name_at-shorter}
 use Rattle.plir_attr_text.proofs.attr_words.read_given_names.Goals as goal
@@ -14,26 +15,42 @@ returns-in_err-start c =
     rw (p.1, p.2) (no_open 91 93 given_name_at c.in_err-start.field-0.0 _ c.in_err-start.ensures)
 
 pub returns-in-Some : goal.returns-in-Some
-returns-in-Some c = rw c.new-names.ensures.items (nothing_inside 91 93 given_name_at _ _ _ c.in_ok-start.ensures (sym c.in-Some.ensures))
+returns-in-Some c = rw c.new-names.ensures.items
+    (nothing_inside 91 93 given_name_at _ _ _ c.in_ok-start.ensures (sym c.in-Some.ensures))
 
 pub names-init : goal.names-init
-names-init c = rw c.new-names.ensures.items (starts 91 93 given_name_at _ _ c.in_ok-start.ensures (sym c.in_default.ensures))
+names-init c = rw c.new-names.ensures.items
+    (starts 91 93 given_name_at _ _ c.in_ok-start.ensures (sym c.in_default.ensures))
 
 pub returns-in_err-name : goal.returns-in_err-name
 returns-in_err-name c =
     let p = err_from_is_err_and c.from_residual-in_err-name.result c.from_residual-in_err-name.ensures.1 in
-    rw (p.1, p.2) (ends_at_item (separator_at 93) given_name_at _ _ _ ⊥ c.in_err-name.field-0.0 c.names.invariant c.in_err-name.ensures)
+    rw (p.1, p.2) (ends_at_item (separator_at 93) given_name_at _ _ _ ⊥ c.in_err-name.field-0.0 c.names.invariant
+    c.in_err-name.ensures)
 
 pub returns-in_err-goes_on : goal.returns-in_err-goes_on
 returns-in_err-goes_on c =
     let p = err_from_is_err_and c.from_residual-in_err-goes_on.result c.from_residual-in_err-goes_on.ensures.1 in
-    rw (p.1, p.2) (ends_behind (separator_at 93) given_name_at _ _ _ ⊥ c.in_err-goes_on.field-0.0 c.in_ok-name.name c.in_ok-name.after.now c.names.invariant c.in_ok-name.ensures c.in_err-goes_on.ensures)
+    rw (p.1, p.2) (ends_behind (separator_at 93) given_name_at _ _ _ ⊥ c.in_err-goes_on.field-0.0 c.in_ok-name.name
+    c.in_ok-name.after.now c.names.invariant c.in_ok-name.ensures c.in_err-goes_on.ensures)
 
 pub returns-else-goes_on : goal.returns-else-goes_on
-returns-else-goes_on c = rw c.in_ok-push.ensures.items (closes (separator_at 93) given_name_at _ _ _ c.in_ok-name.name c.in_ok-name.after.now c.in_ok-goes_on.behind.now c.names.invariant c.in_ok-name.ensures (c.in_ok-goes_on.ensures ∙ ap (λ b. done (b, c.in_ok-goes_on.behind.now)) c.if-goes_on.false))
+returns-else-goes_on c =
+    rw c.in_ok-push.ensures.items
+    (closes (separator_at 93) given_name_at _ _ _ c.in_ok-name.name c.in_ok-name.after.now c.in_ok-goes_on.behind.now
+    c.names.invariant c.in_ok-name.ensures
+    (c.in_ok-goes_on.ensures ∙ ap (λ b. done (b, c.in_ok-goes_on.behind.now)) c.if-goes_on.false))
 
 pub names-smaller : goal.names-smaller
-names-smaller c = omega (arith, given_name_at-shorter c.names.rest.now (c.in_ok-name.name, c.in_ok-name.after.now) c.in_ok-name.ensures, separator_at-shorter 93 c.in_ok-name.after.now (c.in_ok-goes_on.goes_on, c.in_ok-goes_on.behind.now) c.in_ok-goes_on.ensures)
+names-smaller c = omega (
+  arith,
+  given_name_at-shorter c.names.rest.now (c.in_ok-name.name, c.in_ok-name.after.now) c.in_ok-name.ensures,
+  separator_at-shorter 93 c.in_ok-name.after.now (c.in_ok-goes_on.goes_on, c.in_ok-goes_on.behind.now)
+      c.in_ok-goes_on.ensures,
+)
 
 pub names-preserved : goal.names-preserved
-names-preserved c = rw c.in_ok-push.ensures.items (goes_on (separator_at 93) given_name_at _ _ _ c.in_ok-name.name c.in_ok-name.after.now c.in_ok-goes_on.behind.now c.names.invariant c.in_ok-name.ensures (c.in_ok-goes_on.ensures ∙ ap (λ b. done (b, c.in_ok-goes_on.behind.now)) c.if-goes_on.true) (names-smaller c))
+names-preserved c = rw c.in_ok-push.ensures.items
+    (goes_on (separator_at 93) given_name_at _ _ _ c.in_ok-name.name c.in_ok-name.after.now c.in_ok-goes_on.behind.now
+    c.names.invariant c.in_ok-name.ensures
+    (c.in_ok-goes_on.ensures ∙ ap (λ b. done (b, c.in_ok-goes_on.behind.now)) c.if-goes_on.true) (names-smaller c))

@@ -31,7 +31,11 @@ abbrev pub decreases-read_entries-entries : goal.decreases-read_entries-entries
 decreases-read_entries-entries g l = length l.rest
 
 abbrev pub invariant-read_items-items : goal.invariant-read_items-items
-invariant-read_items-items g l = Gathers g.C.TypeStore.types g.C.TypeStore.same_besides 91 93 (attr_at l.levels) (IsInAttr l.levels) ItemsFront l.bytes l.fn.ctx l.ctx (map attr_view l.items.items) l.rest
+invariant-read_items-items g l =
+    Gathers g.C.TypeStore.types g.C.TypeStore.same_besides 91 93 (attr_at l.levels) (IsInAttr l.levels) ItemsFront
+    l.bytes l.fn.ctx l.ctx (map attr_view l.items.items) l.rest
 
 abbrev pub invariant-read_entries-entries : goal.invariant-read_entries-entries
-invariant-read_entries-entries g l = Gathers g.C.TypeStore.types g.C.TypeStore.same_besides 91 93 (entry_at (attr_at l.levels)) (IsInEntry (IsInAttr l.levels)) DictFront l.bytes l.fn.ctx l.ctx l.entries l.rest
+invariant-read_entries-entries g l =
+    Gathers g.C.TypeStore.types g.C.TypeStore.same_besides 91 93 (entry_at (attr_at l.levels))
+    (IsInEntry (IsInAttr l.levels)) DictFront l.bytes l.fn.ctx l.ctx l.entries l.rest

@@ -14,7 +14,9 @@ pub is_function_within-are_types_within-requires-then-are_types_within :
     goal.is_function_within-are_types_within-requires-then-are_types_within
 is_function_within-are_types_within-requires-then-are_types_within g t c =
     let types = c.args.types.now in
-    let live : AllLive types c.res_types.result.now = subst (AllLive types) (sym c.res_types.ensures) (all_right (IsLive types) c.args.ty.now.0.0 c.args.ty.now.0.1 c.requires) in
+    let live : AllLive types c.res_types.result.now =
+    subst (AllLive types) (sym c.res_types.ensures)
+    (all_right (IsLive types) c.args.ty.now.0.0 c.args.ty.now.0.1 c.requires) in
     search rules
 
 pub is_type_within-returns-then-most-eq0 : goal.is_type_within-returns-then-most-eq0
@@ -27,17 +29,24 @@ is_type_within-returns-then-most-eq0 g t c =
 pub is_type_within-is_function_within-requires : goal.is_type_within-is_function_within-requires
 is_type_within-is_function_within-requires g t c =
     let types = c.args.types.now in
-    let below = held_below g.D.OpSet.type_handles types c.args.handle c.get.result.now (Function c.in-Function.ty) c.get.ensures.found c.get.ensures.whole c.in-Function.is in
-    let live : AllLive types (c.in-Function.ty.0.0 ++ c.in-Function.ty.0.1) = λ k d p. omega (arith, below k d p, c.requires) in
+    let below = held_below g.D.OpSet.type_handles types c.args.handle c.get.result.now (Function c.in-Function.ty)
+    c.get.ensures.found c.get.ensures.whole c.in-Function.is in
+    let live : AllLive types (c.in-Function.ty.0.0 ++ c.in-Function.ty.0.1) =
+    λ k d p. omega (arith, below k d p, c.requires) in
     search rules
 
 pub is_type_within-returns-in-Function : goal.is_type_within-returns-in-Function
 is_type_within-returns-in-Function g t c =
     let types = c.args.types.now in
-    asked_as (λ x. type_levels (type_term x) ≤ c.args.most) types (c.tree_of_a_handle.ensures types c.get.ensures.whole) c.args.handle c.get.result.now (Function c.in-Function.ty) c.is_function_within.result c.get.ensures.found c.in-Function.is (function_levels _ _ c.args.most c.is_function_within.result c.if-most-eq0.false c.is_function_within.ensures)
+    asked_as (λ x. type_levels (type_term x) ≤ c.args.most) types (c.tree_of_a_handle.ensures types c.get.ensures.whole)
+    c.args.handle c.get.result.now (Function c.in-Function.ty) c.is_function_within.result c.get.ensures.found
+    c.in-Function.is (function_levels _ _ c.args.most c.is_function_within.result c.if-most-eq0.false
+    c.is_function_within.ensures)
 
 pub is_type_within-returns-in_default : goal.is_type_within-returns-in_default
 is_type_within-returns-in_default g t c =
     let types = c.args.types.now in
     let x = c.get.result.now in
-    asked_as (λ y. type_levels (type_term y) ≤ c.args.most) types (c.tree_of_a_handle.ensures types c.get.ensures.whole) c.args.handle x x _ c.get.ensures.found refl (λ e. omega (arith, one_level (tree_of types) x c.in_default.not-Function, c.if-most-eq0.false), λ h. refl)
+    asked_as (λ y. type_levels (type_term y) ≤ c.args.most) types (c.tree_of_a_handle.ensures types c.get.ensures.whole)
+    c.args.handle x x _ c.get.ensures.found refl
+    (λ e. omega (arith, one_level (tree_of types) x c.in_default.not-Function, c.if-most-eq0.false), λ h. refl)

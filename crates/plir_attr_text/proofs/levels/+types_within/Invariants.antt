@@ -15,4 +15,5 @@ decreases-are_types_within g l = 3 * l.most + 1
 
 abbrev pub invariant-are_types_within-handles : goal.invariant-are_types_within-handles
 invariant-are_types_within-handles g l =
-    (types_levels (type_terms (trees_of (map (tree_of l.types) (drop l.handle-index l.handles)))) ≤ l.most) ↔ (types_levels (type_terms (trees_of (map (tree_of l.types) l.handles))) ≤ l.most)
+    (types_levels (type_terms (trees_of (map (tree_of l.types) (drop l.handle-index l.handles)))) ≤ l.most) ↔
+    (types_levels (type_terms (trees_of (map (tree_of l.types) l.handles))) ≤ l.most)

@@ -18,8 +18,11 @@ decreases-are_items_within g l = 2 * l.most + 1
 
 abbrev pub invariant-are_items_within-items : goal.invariant-are_items_within-items
 invariant-are_items_within-items g l =
-    (attrs_levels (attr_terms l.types (items_of (map attr_view (drop l.item-index l.item-items)))) ≤ l.most) ↔ (attrs_levels (attr_terms l.types (items_of (map attr_view l.item-items))) ≤ l.most)
+    (attrs_levels (attr_terms l.types (items_of (map attr_view (drop l.item-index l.item-items)))) ≤ l.most) ↔
+    (attrs_levels (attr_terms l.types (items_of (map attr_view l.item-items))) ≤ l.most)
 
 abbrev pub invariant-are_entries_within-entries : goal.invariant-are_entries_within-entries
 invariant-are_entries_within-entries g l =
-    ((entries_levels (entry_terms l.types (entries_of (pairs_view l.key-iterator))) ≤ l.most) ↔ (entries_levels (entry_terms l.types (entries_of l.attrs)) ≤ l.most)) × AreEntriesLive g.D.OpSet.attr_handles l.types (entries_of (pairs_view l.key-iterator))
+    ((entries_levels (entry_terms l.types (entries_of (pairs_view l.key-iterator))) ≤ l.most) ↔
+    (entries_levels (entry_terms l.types (entries_of l.attrs)) ≤ l.most)) ×
+    AreEntriesLive g.D.OpSet.attr_handles l.types (entries_of (pairs_view l.key-iterator))

@@ -26,9 +26,13 @@ decreases-put_items g l = items_bulk (map attr_view l.list.now.items) + 1
 abbrev pub invariant-put_items-items : goal.invariant-put_items-items
 invariant-put_items-items g l =
     let write = attr_text g.D.OpSet.attr_id g.D.OpSet.attr_text g.D.OpSet.type_id g.D.OpSet.type_body_text l.types in
-    string_bytes l.out ++ joined_from l.is_first write (map attr_view (drop l.item-index l.item-items)) ≡ string_bytes l.fn.out ++ joined write (map attr_view l.item-items)
+    string_bytes l.out ++
+    joined_from l.is_first write (map attr_view (drop l.item-index l.item-items)) ≡ string_bytes l.fn.out ++
+    joined write (map attr_view l.item-items)
 
 abbrev pub invariant-put_entries-entries : goal.invariant-put_entries-entries
 invariant-put_entries-entries g l =
     let write = entry_text g.D.OpSet.attr_id g.D.OpSet.attr_text g.D.OpSet.type_id g.D.OpSet.type_body_text l.types in
-    (string_bytes l.out ++ joined_from l.is_first write (pairs_view l.key-iterator) ≡ string_bytes l.fn.out ++ joined write l.dict) × AreEntriesLive g.D.OpSet.attr_handles l.types (entries_of (pairs_view l.key-iterator)) × (entries_bulk (pairs_view l.key-iterator) ≤ entries_bulk l.dict)
+    (string_bytes l.out ++ joined_from l.is_first write (pairs_view l.key-iterator) ≡ string_bytes l.fn.out ++
+    joined write l.dict) × AreEntriesLive g.D.OpSet.attr_handles l.types (entries_of (pairs_view l.key-iterator)) ×
+    (entries_bulk (pairs_view l.key-iterator) ≤ entries_bulk l.dict)

@@ -6,4 +6,5 @@ use Rattle.plir_attr_text.proofs.print_attrs.put_type_attr.Goals as goal
 pub returns : goal.returns
 returns g c =
     let text = type_text g.D.OpSet.type_id g.D.OpSet.type_body_text c.args.types.now in
-    two (string_bytes c.args.out.now) (codes "builtin.type ") (text c.args.value.0) c.in_ok-put.ensures.ok (c.in_ok-put_type.ensures ∙ ap (λ h. string_bytes c.put.new.out ++ text h) c.get_type.ensures)
+    two (string_bytes c.args.out.now) (codes "builtin.type ") (text c.args.value.0) c.in_ok-put.ensures.ok
+    (c.in_ok-put_type.ensures ∙ ap (λ h. string_bytes c.put.new.out ++ text h) c.get_type.ensures)

@@ -5,4 +5,5 @@ use Rattle.plir_attr_text.proofs.Joins.{ends}
 use Rattle.plir_attr_text.proofs.put.put_sizes.Goals as goal
 
 pub returns : goal.returns
-returns c = ends decimal _ _ c.sizes.is_first _ (drop_all c.sizes.size-index c.args.sizes.now (omega arith)) c.sizes.invariant
+returns c = ends decimal _ _ c.sizes.is_first _ (drop_all c.sizes.size-index c.args.sizes.now (omega arith))
+    c.sizes.invariant

@@ -4,4 +4,5 @@ use Rattle.plir_attr_text.specs.Written.{joined, joined_from}
 use Rattle.plir_attr_text.proofs.put.put_sizes.Given as goal
 
 abbrev pub invariant-sizes : goal.invariant-sizes
-invariant-sizes l = string_bytes l.out ++ joined_from l.is_first decimal (drop l.size-index l.sizes) ≡ string_bytes l.fn.out ++ joined decimal l.sizes
+invariant-sizes l = string_bytes l.out ++
+    joined_from l.is_first decimal (drop l.size-index l.sizes) ≡ string_bytes l.fn.out ++ joined decimal l.sizes

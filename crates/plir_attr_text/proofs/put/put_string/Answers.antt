@@ -4,4 +4,6 @@ use Rattle.plir_attr_text.proofs.Joins.{two}
 use Rattle.plir_attr_text.proofs.put.put_string.Goals as goal
 
 pub returns : goal.returns
-returns c = two (string_bytes c.args.out.now) (codes "builtin.string ") (quotation c.args.value.now) c.in_ok-put.ensures.ok (c.in_ok-put_quotation.ensures ∙ ap (λ w. string_bytes c.put.new.out ++ quotation w) c.as_str.ensures)
+returns c = two (string_bytes c.args.out.now) (codes "builtin.string ") (quotation c.args.value.now)
+    c.in_ok-put.ensures.ok
+    (c.in_ok-put_quotation.ensures ∙ ap (λ w. string_bytes c.put.new.out ++ quotation w) c.as_str.ensures)

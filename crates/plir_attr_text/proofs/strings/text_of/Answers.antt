@@ -10,8 +10,12 @@ not_utf8 bs false e h = refl
 
 pub returns-in-Ok : goal.returns-in-Ok
 returns-in-Ok c =
-    let same = ap (λ v. v.items) c.in-Ok.ensures.ok in
-    (same, subst (λ b. is_utf8 b ≡ true) same (is_utf8-from_IsUtf8 (string_bytes c.in-Ok.text) (IsUtf8-string_bytes c.in-Ok.text)))
+    let same = ap (λ v. v.items) c.in-Ok.ensures.ok in (
+      same,
+      subst (λ b. is_utf8 b ≡ true) same
+          (is_utf8-from_IsUtf8 (string_bytes c.in-Ok.text) (IsUtf8-string_bytes c.in-Ok.text)),
+    )
 
 pub returns : goal.returns
-returns c = not_utf8 c.args.bytes.items (is_utf8 c.args.bytes.items) refl (λ u. let h = c.in-Err.ensures.succeeds u in absurd cc)
+returns c = not_utf8 c.args.bytes.items (is_utf8 c.args.bytes.items) refl
+    (λ u. let h = c.in-Err.ensures.succeeds u in absurd cc)

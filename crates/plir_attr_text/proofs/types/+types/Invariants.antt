@@ -18,4 +18,6 @@ abbrev pub decreases-read_types-types : goal.decreases-read_types-types
 decreases-read_types-types g l = length l.rest
 
 abbrev pub invariant-read_types-types : goal.invariant-read_types-types
-invariant-read_types-types g l = Gathers g.C.TypeStore.types g.C.TypeStore.same_besides 40 41 (type_at l.levels) (IsInType l.levels) NamesFront l.bytes l.initial.ctx l.ctx l.types.items l.rest
+invariant-read_types-types g l =
+    Gathers g.C.TypeStore.types g.C.TypeStore.same_besides 40 41 (type_at l.levels) (IsInType l.levels) NamesFront
+    l.bytes l.initial.ctx l.ctx l.types.items l.rest

@@ -15,8 +15,11 @@ nothing b r (At f left) h n = rw (h.0) refl
 
 pub returns-in-Err : goal.returns-in-Err
 unfolding past_sign look
-returns-in-Err c = nothing c.args.sign (token_at c.past_blank-rest.result.now) c.in-Err.field-0 c.in-Err.ensures.found c.in-Err.ensures.steady ∙ ap (λ xs. behind_sign c.args.sign (token_at xs)) c.past_blank-rest.ensures
+returns-in-Err c = nothing c.args.sign (token_at c.past_blank-rest.result.now) c.in-Err.field-0 c.in-Err.ensures.found
+    c.in-Err.ensures.steady ∙ ap (λ xs. behind_sign c.args.sign (token_at xs)) c.past_blank-rest.ensures
 
 pub returns-then-not-begins_byte : goal.returns-then-not-begins_byte
 unfolding past_sign look
-returns-then-not-begins_byte c = other-sign c.args.sign c.past_blank-rest.result.now (sym c.begins_byte.ensures ∙ c.if-not-begins_byte.true) ∙ ap (λ xs. behind_sign c.args.sign (token_at xs)) c.past_blank-rest.ensures
+returns-then-not-begins_byte c =
+    other-sign c.args.sign c.past_blank-rest.result.now (sym c.begins_byte.ensures ∙ c.if-not-begins_byte.true) ∙
+    ap (λ xs. behind_sign c.args.sign (token_at xs)) c.past_blank-rest.ensures

@@ -12,4 +12,5 @@ decreases-are_builtin g l = 2 * above_all l.handles.now
 
 abbrev pub invariant-are_builtin-handles : goal.invariant-are_builtin-handles
 invariant-are_builtin-handles g l =
-    AreBuiltin (trees_of (map (tree_of l.types) (drop l.handle-index l.handles))) ↔ AreBuiltin (trees_of (map (tree_of l.types) l.handles))
+    AreBuiltin (trees_of (map (tree_of l.types) (drop l.handle-index l.handles))) ↔ AreBuiltin
+    (trees_of (map (tree_of l.types) l.handles))

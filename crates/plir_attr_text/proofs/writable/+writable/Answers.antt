@@ -1,4 +1,5 @@
-use Rattle.std.proofs.Common.{◌≡◌, ◌↔◌, ◌∙◌, ◌∷◌, ◌+◌, ◌<◌, ◌≤◌, true, ap, sym, subst, refl, arith, rules, map, string_bytes}
+use Rattle.std.proofs.Common.{◌≡◌, ◌↔◌, ◌∙◌, ◌∷◌, ◌+◌, ◌<◌, ◌≤◌, true, ap, sym, subst, refl, arith, rules, map}
+use Rattle.std.proofs.Common.{string_bytes}
 use Rattle.plir_data.specs.AttrDepth.{bulk, items_bulk, entries_bulk}
 use Rattle.plir_data.specs.AttrLive.{IsAttrLive, AreItemsLive, AreEntriesLive}
 use Rattle.plir_data.specs.AttrSeen.{attr_view}
@@ -14,16 +15,28 @@ use Rattle.plir_attr_text.proofs.writable.+writable.Goals as goal
 pub is_dict_writable-entries-init : goal.is_dict_writable-entries-init
 is_dict_writable-entries-init g t c =
     let types = c.args.types.now in
-    let seen : pairs_view c.into_iter-key-iterator.result ≡ c.args.attrs.now = ap pairs_view c.into_iter-key-iterator.ensures.into_iter_gives ∙ c.iter-key-items.ensures.entries in
-    (subst (λ es. AreEntriesWritable types (entries_of es) ↔ AreEntriesWritable types (entries_of c.args.attrs.now)) (sym seen) (λ h. h, λ h. h), subst (λ es. AreEntriesLive g.D.OpSet.attr_handles types (entries_of es)) (sym seen) c.requires, subst (λ es. entries_bulk es ≤ entries_bulk c.args.attrs.now) (sym seen) (omega arith))
+    let seen : pairs_view c.into_iter-key-iterator.result ≡ c.args.attrs.now =
+    ap pairs_view c.into_iter-key-iterator.ensures.into_iter_gives ∙ c.iter-key-items.ensures.entries in (
+      subst (λ es. AreEntriesWritable types (entries_of es) ↔ AreEntriesWritable types (entries_of c.args.attrs.now))
+          (sym seen) (λ h. h, λ h. h),
+      subst (λ es. AreEntriesLive g.D.OpSet.attr_handles types (entries_of es)) (sym seen) c.requires,
+      subst (λ es. entries_bulk es ≤ entries_bulk c.args.attrs.now) (sym seen) (omega arith),
+    )
 
 pub is_dict_writable-is_attr_writable-requires : goal.is_dict_writable-is_attr_writable-requires
 is_dict_writable-is_attr_writable-requires g t c =
     let types = c.args.types.now in
     let inv = c.entries.invariant in
     let step = ap pairs_view c.in-Some.ensures.steps in
-    let live : IsAttrLive g.D.OpSet.attr_handles types (attr_view c.in-Some.value.now) = (first_live g.D.OpSet.attr_handles types _ (pairs_view c.next.new.self) (string_bytes c.in-Some.key.now, attr_view c.in-Some.value.now) step inv.1).0 in
-    let smaller : bulk (attr_view c.in-Some.value.now) < entries_bulk c.args.attrs.now + 1 = omega (arith, (first_small (entries_bulk c.args.attrs.now) _ (pairs_view c.next.new.self) (string_bytes c.in-Some.key.now, attr_view c.in-Some.value.now) step inv.2).0) in
+    let live : IsAttrLive g.D.OpSet.attr_handles types (attr_view c.in-Some.value.now) =
+    (first_live g.D.OpSet.attr_handles types _ (pairs_view c.next.new.self)
+    (string_bytes c.in-Some.key.now, attr_view c.in-Some.value.now) step inv.1).0 in
+    let smaller : bulk (attr_view c.in-Some.value.now) < entries_bulk c.args.attrs.now + 1 =
+    omega (
+      arith,
+      (first_small (entries_bulk c.args.attrs.now) _ (pairs_view c.next.new.self)
+          (string_bytes c.in-Some.key.now, attr_view c.in-Some.value.now) step inv.2).0,
+    ) in
     search rules
 
 pub is_dict_writable-entries-preserved : goal.is_dict_writable-entries-preserved
@@ -31,22 +44,39 @@ is_dict_writable-entries-preserved g t c =
     let types = c.args.types.now in
     let inv = c.entries.invariant in
     let left = pairs_view c.next.new.self in
-    let step : pairs_view c.entries.key-iterator ≡ (string_bytes c.in-Some.key.now, attr_view c.in-Some.value.now) ∷ left = ap pairs_view c.in-Some.ensures.steps in
-    let passed : c.is_attr_writable.result ≡ true = cc in
-    (entry_passed types (AreEntriesWritable types (entries_of c.args.attrs.now)) _ left (string_bytes c.in-Some.key.now, attr_view c.in-Some.value.now) step (c.is_attr_writable.ensures.0 passed) inv.0, (first_live g.D.OpSet.attr_handles types _ left (string_bytes c.in-Some.key.now, attr_view c.in-Some.value.now) step inv.1).1, (first_small (entries_bulk c.args.attrs.now) _ left (string_bytes c.in-Some.key.now, attr_view c.in-Some.value.now) step inv.2).1)
+    let step : pairs_view
+    c.entries.key-iterator ≡ (string_bytes c.in-Some.key.now, attr_view c.in-Some.value.now) ∷ left =
+    ap pairs_view c.in-Some.ensures.steps in
+    let passed : c.is_attr_writable.result ≡ true = cc in (
+      entry_passed types (AreEntriesWritable types (entries_of c.args.attrs.now)) _ left
+          (string_bytes c.in-Some.key.now, attr_view c.in-Some.value.now) step (c.is_attr_writable.ensures.0 passed)
+          inv.0,
+      (first_live g.D.OpSet.attr_handles types _ left
+          (string_bytes c.in-Some.key.now, attr_view c.in-Some.value.now) step inv.1).1,
+      (first_small (entries_bulk c.args.attrs.now) _ left
+          (string_bytes c.in-Some.key.now, attr_view c.in-Some.value.now) step inv.2).1,
+    )
 
 pub is_dict_writable-returns-then-not-is_attr_writable : goal.is_dict_writable-returns-then-not-is_attr_writable
 is_dict_writable-returns-then-not-is_attr_writable g t c =
     let types = c.args.types.now in
     let left = pairs_view c.next.new.self in
-    let step : pairs_view c.entries.key-iterator ≡ (string_bytes c.in-Some.key.now, attr_view c.in-Some.value.now) ∷ left = ap pairs_view c.in-Some.ensures.steps in
-    (λ h. absurd (let f : ⊥ = cc in f), λ w. absurd (entry_failed types (AreEntriesWritable types (entries_of c.args.attrs.now)) _ left (string_bytes c.in-Some.key.now, attr_view c.in-Some.value.now) step (λ v. let passed : c.is_attr_writable.result ≡ true = c.is_attr_writable.ensures.1 v in let f : ⊥ = cc in f) c.entries.invariant.0 w.1))
+    let step : pairs_view
+    c.entries.key-iterator ≡ (string_bytes c.in-Some.key.now, attr_view c.in-Some.value.now) ∷ left =
+    ap pairs_view c.in-Some.ensures.steps in (
+      λ h. absurd (let f : ⊥ = cc in f),
+      λ w. absurd (entry_failed types (AreEntriesWritable types (entries_of c.args.attrs.now)) _ left
+          (string_bytes c.in-Some.key.now, attr_view c.in-Some.value.now) step
+          (λ v. let passed : c.is_attr_writable.result ≡ true = c.is_attr_writable.ensures.1 v in let f : ⊥ = cc in f)
+          c.entries.invariant.0 w.1),
+    )
 
 pub is_dict_writable-returns : goal.is_dict_writable-returns
 is_dict_writable-returns g t c =
     let types = c.args.types.now in
     let whole = subst IsDictionary (sym (pairs_again c.args.attrs.now)) c.iter-key-items.ensures.whole in
-    let all = c.entries.invariant.0.0 (subst (λ es. AreEntriesWritable types (entries_of es)) (sym (ap pairs_view c.in-None.ensures.steps.0)) tt) in
+    let all = c.entries.invariant.0.0
+    (subst (λ es. AreEntriesWritable types (entries_of es)) (sym (ap pairs_view c.in-None.ensures.steps.0)) tt) in
     (λ h. (whole, all), λ w. refl)
 
 pub are_items_writable-is_attr_writable-requires : goal.are_items_writable-is_attr_writable-requires
@@ -55,8 +85,14 @@ are_items_writable-is_attr_writable-requires g t c =
     let xs = c.deref-item-items.result.now in
     let i = c.items.item-index in
     let x = c.item-item.result in
-    let held = subst (λ ys. AreItemsLive g.D.OpSet.attr_handles types (items_of (map attr_view ys))) (sym c.deref-item-items.ensures.value) c.requires in
-    let live : IsAttrLive g.D.OpSet.attr_handles types (attr_view x) = subst (λ y. IsAttrLive g.D.OpSet.attr_handles types (attr_view y)) (sym c.item-item.is) (item_live g.D.OpSet.attr_handles types attr_view xs i x (omega arith) held) in
-    let below : bulk (attr_view x) < items_bulk (map attr_view xs) + 1 = subst (λ y. bulk (attr_view y) < items_bulk (map attr_view xs) + 1) (sym c.item-item.is) (omega (arith, item_small attr_view xs i x (omega arith))) in
-    let smaller : bulk (attr_view x) < items_bulk (map attr_view c.args.list.now.items) + 1 = subst (λ ys. bulk (attr_view x) < items_bulk (map attr_view ys) + 1) c.deref-item-items.ensures.value below in
+    let held = subst (λ ys. AreItemsLive g.D.OpSet.attr_handles types (items_of (map attr_view ys)))
+    (sym c.deref-item-items.ensures.value) c.requires in
+    let live : IsAttrLive g.D.OpSet.attr_handles types (attr_view x) =
+    subst (λ y. IsAttrLive g.D.OpSet.attr_handles types (attr_view y)) (sym c.item-item.is)
+    (item_live g.D.OpSet.attr_handles types attr_view xs i x (omega arith) held) in
+    let below : bulk (attr_view x) < items_bulk (map attr_view xs) + 1 =
+    subst (λ y. bulk (attr_view y) < items_bulk (map attr_view xs) + 1) (sym c.item-item.is)
+    (omega (arith, item_small attr_view xs i x (omega arith))) in
+    let smaller : bulk (attr_view x) < items_bulk (map attr_view c.args.list.now.items) + 1 =
+    subst (λ ys. bulk (attr_view x) < items_bulk (map attr_view ys) + 1) c.deref-item-items.ensures.value below in
     search rules

@@ -18,8 +18,11 @@ decreases-are_items_writable g l = items_bulk (map attr_view l.list.now.items) +
 
 abbrev pub invariant-are_items_writable-items : goal.invariant-are_items_writable-items
 invariant-are_items_writable-items g l =
-    AreItemsWritable l.types (items_of (map attr_view (drop l.item-index l.item-items))) ↔ AreItemsWritable l.types (items_of (map attr_view l.item-items))
+    AreItemsWritable l.types (items_of (map attr_view (drop l.item-index l.item-items))) ↔ AreItemsWritable l.types
+    (items_of (map attr_view l.item-items))
 
 abbrev pub invariant-is_dict_writable-entries : goal.invariant-is_dict_writable-entries
 invariant-is_dict_writable-entries g l =
-    (AreEntriesWritable l.types (entries_of (pairs_view l.key-iterator)) ↔ AreEntriesWritable l.types (entries_of l.attrs)) × AreEntriesLive g.D.OpSet.attr_handles l.types (entries_of (pairs_view l.key-iterator)) × (entries_bulk (pairs_view l.key-iterator) ≤ entries_bulk l.attrs)
+    (AreEntriesWritable l.types (entries_of (pairs_view l.key-iterator)) ↔ AreEntriesWritable l.types
+    (entries_of l.attrs)) × AreEntriesLive g.D.OpSet.attr_handles l.types (entries_of (pairs_view l.key-iterator)) ×
+    (entries_bulk (pairs_view l.key-iterator) ≤ entries_bulk l.attrs)

@@ -14,19 +14,32 @@ use Rattle.plir_read.proofs.Held.{none_come, held_is}
 use Rattle.plir_read.proofs.heads.read_head.Goals as goal
 
 pub returns-in_ok-name-in-Module-clause-read : goal.returns-in_ok-name-in-Module-clause-read
-returns-in_ok-name-in-Module-clause-read g c =
-    ((module_head c.in_ok-name-in-Module.name, c.in_ok-name-in-Module.rest.now), ap (λ k. head_at c.args.levels k c.args.bytes.now) c.in-Module.is ∙ module_read c.args.levels _ _ _ c.in_ok-name-in-Module.ensures, (refl, refl))
+returns-in_ok-name-in-Module-clause-read g c = (
+  (module_head c.in_ok-name-in-Module.name, c.in_ok-name-in-Module.rest.now),
+  ap (λ k. head_at c.args.levels k c.args.bytes.now) c.in-Module.is ∙
+      module_read c.args.levels _ _ _ c.in_ok-name-in-Module.ensures,
+  (refl, refl),
+)
 
 pub returns-in-Ok-clause-read : goal.returns-in-Ok-clause-read
 returns-in-Ok-clause-read g c =
-    let y = c.in-Ok.ensures.read in
-    ((func_head c.in_ok-name-in-Func.name y.0.0, c.in-Ok.read.1.now), ap (λ k. head_at c.args.levels k c.args.bytes.now) c.in-Func.is ∙ func_read c.args.levels _ _ _ _ _ y.0.0 c.in_ok-name-in-Func.ensures c.in_ok-colon-in-Func.ensures (behind_is _ y.0 c.in-Ok.read.1.now y.1 y.2.1), ((refl, y.2.0), refl))
+    let y = c.in-Ok.ensures.read in (
+      (func_head c.in_ok-name-in-Func.name y.0.0, c.in-Ok.read.1.now),
+      ap (λ k. head_at c.args.levels k c.args.bytes.now) c.in-Func.is ∙
+          func_read c.args.levels _ _ _ _ _ y.0.0 c.in_ok-name-in-Func.ensures c.in_ok-colon-in-Func.ensures
+          (behind_is _ y.0 c.in-Ok.read.1.now y.1 y.2.1),
+      ((refl, y.2.0), refl),
+    )
 
 pub returns-in-Ok-clause-named : goal.returns-in-Ok-clause-named
-returns-in-Ok-clause-named g c = type_named c.args.levels _ _ _ _ (func_start _ _ _ _ c.in_ok-name-in-Func.ensures c.in_ok-colon-in-Func.ensures) c.in-Ok.ensures.kept.named
+returns-in-Ok-clause-named g c =
+    type_named c.args.levels _ _ _ _ (func_start _ _ _ _ c.in_ok-name-in-Func.ensures c.in_ok-colon-in-Func.ensures)
+    c.in-Ok.ensures.kept.named
 
 pub returns-in-Err-clause-named : goal.returns-in-Err-clause-named
-returns-in-Err-clause-named g c = type_named c.args.levels _ _ _ _ (func_start _ _ _ _ c.in_ok-name-in-Func.ensures c.in_ok-colon-in-Func.ensures) c.in-Err.ensures.kept.named
+returns-in-Err-clause-named g c =
+    type_named c.args.levels _ _ _ _ (func_start _ _ _ _ c.in_ok-name-in-Func.ensures c.in_ok-colon-in-Func.ensures)
+    c.in-Err.ensures.kept.named
 
 pub returns-in_ok-name-in-Module-clause-held : goal.returns-in_ok-name-in-Module-clause-held
 returns-in_ok-name-in-Module-clause-held g c = λ y e. none_come (λ t. IsHeldByHead t y.0) _
@@ -36,5 +49,9 @@ returns-in-Ok-clause-held g c =
     let r = c.in-Ok.ensures.read in
     let z : Head × List ℕ = (func_head c.in_ok-name-in-Func.name r.0.0, c.in-Ok.read.1.now) in
     let whole : head_at c.args.levels c.args.kind c.args.bytes.now ≡ done z =
-    ap (λ k. head_at c.args.levels k c.args.bytes.now) c.in-Func.is ∙ func_read c.args.levels _ _ _ _ _ r.0.0 c.in_ok-name-in-Func.ensures c.in_ok-colon-in-Func.ensures (behind_is _ r.0 c.in-Ok.read.1.now r.1 r.2.1) in
-    λ y e. held_is IsHeldByHead _ z y _ _ whole e (named_by _ (λ u. IsPartOf u r.0.0) (λ u w. type_part c.args.levels _ r.0 u r.1 w) _ _ c.in-Ok.ensures.kept.named)
+    ap (λ k. head_at c.args.levels k c.args.bytes.now) c.in-Func.is ∙
+    func_read c.args.levels _ _ _ _ _ r.0.0 c.in_ok-name-in-Func.ensures c.in_ok-colon-in-Func.ensures
+    (behind_is _ r.0 c.in-Ok.read.1.now r.1 r.2.1) in
+    λ y e. held_is IsHeldByHead _ z y _ _ whole e
+    (named_by _ (λ u. IsPartOf u r.0.0) (λ u w. type_part c.args.levels _ r.0 u r.1 w) _ _
+    c.in-Ok.ensures.kept.named)

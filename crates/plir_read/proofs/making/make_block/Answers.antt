@@ -12,23 +12,38 @@ use Rattle.plir_read.proofs.making.make_block.Goals as goal
 
 pub returns-clause-made : goal.returns-clause-made
 returns-clause-made g c =
-    let f : BlockView g.row.D-Attr.Denot → BlockView g.row.D-Attr.Denot = λ b. record b { attributes = dict_put b.attributes names_key (leaf (given_names c.args.head.arguments.names.items)) } in
+    let f : BlockView g.row.D-Attr.Denot → BlockView g.row.D-Attr.Denot =
+    λ b. record b {
+      attributes =
+          dict_put b.attributes names_key (leaf (given_names c.args.head.arguments.names.items));
+    } in
     let b = c.in-Ok.ensures in
-    let edited = subst (λ z. IsBlockEdited c.new.new.ctx z c.in-Ok.block f) (sym c.in_ok-put_names.ensures.put) (c.block_edits_keep_the_rest.ensures f) in
-    let set : list_all is_none c.args.head.arguments.names.items ≡ false = ap (list_all is_none) (sym c.as_slice.ensures.value) ∙ sym c.all_unset-unset.ensures ∙ c.if-unset.false in
+    let edited = subst (λ z. IsBlockEdited c.new.new.ctx z c.in-Ok.block f) (sym c.in_ok-put_names.ensures.put)
+    (c.block_edits_keep_the_rest.ensures f) in
+    let set : list_all is_none c.args.head.arguments.names.items ≡ false =
+    ap (list_all is_none) (sym c.as_slice.ensures.value) ∙ sym c.all_unset-unset.ensures ∙ c.if-unset.false in
     named_block c.args.ctx.now c.put_names.new.ctx c.in-Ok.block c.args.head set
-    (IsNewBlock-edited c.args.ctx.now c.new.new.ctx c.put_names.new.ctx c.in-Ok.block _ f (record { made = b.made; held = b.held; empty = b.empty; types = ap (λ z. z.types) b.ok }) edited)
+    (IsNewBlock-edited c.args.ctx.now c.new.new.ctx c.put_names.new.ctx c.in-Ok.block _ f
+    (record { made = b.made; held = b.held; empty = b.empty; types = ap (λ z. z.types) b.ok }) edited)
 
 pub returns-then-unset-clause-slots : goal.returns-then-unset-clause-slots
 returns-then-unset-clause-slots g c =
     let b = c.in-Ok.ensures in
-    let v : BlockView g.row.D-Attr.Denot = record { label = c.args.head.label; arg_types = c.args.head.arguments.types.items; attributes = [] } in
+    let v : BlockView g.row.D-Attr.Denot =
+    record { label = c.args.head.label; arg_types = c.args.head.arguments.types.items; attributes = [] } in
     block_given c.args.ctx.now c.new.new.ctx c.stands.ensures.whole.stored v c.in-Ok.block b.ok b.made.new b.made.root
 
 pub returns-clause-slots : goal.returns-clause-slots
 returns-clause-slots g c =
     let b = c.in-Ok.ensures in
-    let v : BlockView g.row.D-Attr.Denot = record { label = c.args.head.label; arg_types = c.args.head.arguments.types.items; attributes = [] } in
-    let f : BlockView g.row.D-Attr.Denot → BlockView g.row.D-Attr.Denot = λ b. record b { attributes = dict_put b.attributes names_key (leaf (given_names c.args.head.arguments.names.items)) } in
-    let given = block_given c.args.ctx.now c.new.new.ctx c.stands.ensures.whole.stored v c.in-Ok.block b.ok b.made.new b.made.root in
-    given_edited c.args.ctx.now c.new.new.ctx c.put_names.new.ctx (BasicBlock c.in-Ok.block ∷ []) c.in-Ok.block f given c.in_ok-put_names.ensures.put
+    let v : BlockView g.row.D-Attr.Denot =
+    record { label = c.args.head.label; arg_types = c.args.head.arguments.types.items; attributes = [] } in
+    let f : BlockView g.row.D-Attr.Denot → BlockView g.row.D-Attr.Denot =
+    λ b. record b {
+      attributes =
+          dict_put b.attributes names_key (leaf (given_names c.args.head.arguments.names.items));
+    } in
+    let given = block_given c.args.ctx.now c.new.new.ctx c.stands.ensures.whole.stored v c.in-Ok.block b.ok b.made.new
+    b.made.root in
+    given_edited c.args.ctx.now c.new.new.ctx c.put_names.new.ctx (BasicBlock c.in-Ok.block ∷ []) c.in-Ok.block f given
+    c.in_ok-put_names.ensures.put

@@ -1,4 +1,5 @@
-use Rattle.std.proofs.Common.{◌≡◌, List, [], ◌∷◌, length, Some, refl, sym, subst, ap, ◌∙◌, Result, Ok, Err, OnErr, arith}
+use Rattle.std.proofs.Common.{◌≡◌, List, [], ◌∷◌, length, Some, refl, sym, subst, ap, ◌∙◌, Result, Ok, Err, OnErr}
+use Rattle.std.proofs.Common.{arith}
 use Rattle.std.specs.Prelude.{All}
 use Rattle.std.proofs.lemmas.List.Elements.{All-nil, All-cons}
 use Rattle.plir_data.specs.Types.{AllLive, IsLive as IsTypeLive}
@@ -27,13 +28,17 @@ same-attributes g c = refl
 pub with_attributes-requires-clause-types_live : goal.with_attributes-requires-clause-types_live
 with_attributes-requires-clause-types_live g c =
     let types = c.args.ctx.now.types in
-    subst (AllLive types) (sym c.in_ok-results.ensures.value) (All-cons (IsTypeLive types) c.args.constant.ty [] c.requires.type_live (All-nil (IsTypeLive types)))
+    subst (AllLive types) (sym c.in_ok-results.ensures.value)
+    (All-cons (IsTypeLive types) c.args.constant.ty [] c.requires.type_live (All-nil (IsTypeLive types)))
 
 pub with_attributes-requires-clause-operands_live : goal.with_attributes-requires-clause-operands_live
-with_attributes-requires-clause-operands_live g c = subst (All (IsValueLive c.args.ctx.now)) (sym c.new-operands.ensures.items) (All-nil (IsValueLive c.args.ctx.now))
+with_attributes-requires-clause-operands_live g c =
+    subst (All (IsValueLive c.args.ctx.now)) (sym c.new-operands.ensures.items) (All-nil (IsValueLive c.args.ctx.now))
 
 pub with_attributes-requires-clause-successors_live : goal.with_attributes-requires-clause-successors_live
-with_attributes-requires-clause-successors_live g c = subst (All (λ b. IsLive c.args.ctx.now (BasicBlock b))) (sym c.new-successors.ensures.items) (All-nil (λ b. IsLive c.args.ctx.now (BasicBlock b)))
+with_attributes-requires-clause-successors_live g c =
+    subst (All (λ b. IsLive c.args.ctx.now (BasicBlock b))) (sym c.new-successors.ensures.items)
+    (All-nil (λ b. IsLive c.args.ctx.now (BasicBlock b)))
 
 pub with_attributes-requires-clause-handles_live : goal.with_attributes-requires-clause-handles_live
 with_attributes-requires-clause-handles_live g c = c.in_ok-attributes.ensures.live _ c.requires.value_live
@@ -41,13 +46,17 @@ with_attributes-requires-clause-handles_live g c = c.in_ok-attributes.ensures.li
 pub returns-in-Ok-clause-slots : goal.returns-in-Ok-clause-slots
 returns-in-Ok-clause-slots g c =
     let o = c.in-Ok.ensures in
-    let v = op_view kinds.Constant c.in_ok-results.results.items c.new-operands.result.items c.new-successors.result.items c.in_ok-attributes.attributes in
-    leaf_given c.args.ctx.now c.with_attributes.new.ctx c.stands.ensures.whole.stored v c.in-Ok.op o.ok o.made.new o.made.root
+    let v = op_view kinds.Constant c.in_ok-results.results.items c.new-operands.result.items
+    c.new-successors.result.items c.in_ok-attributes.attributes in
+    leaf_given c.args.ctx.now c.with_attributes.new.ctx c.stands.ensures.whole.stored v c.in-Ok.op o.ok o.made.new
+    o.made.root
 
 pub returns-in-Err-clause-refused : goal.returns-in-Err-clause-refused
 returns-in-Err-clause-refused g c =
     let o = c.in-Err.ensures in
-    refused_as _ _ c.stop_of.result (λ e. op_crowded c.args.ctx.now.nodes c.with_attributes.new.ctx.nodes _ 0 (omega arith) c.stands.ensures.whole.stored (o.too_many_only (ap (λ x. Err x) e)) o.err.nodes o.slots) c.stop_of.ensures
+    refused_as _ _ c.stop_of.result
+    (λ e. op_crowded c.args.ctx.now.nodes c.with_attributes.new.ctx.nodes _ 0 (omega arith)
+    c.stands.ensures.whole.stored (o.too_many_only (ap (λ x. Err x) e)) o.err.nodes o.slots) c.stop_of.ensures
 
 pub returns-in_err-results-clause-kept : goal.returns-in_err-results-clause-kept
 returns-in_err-results-clause-kept g c =
@@ -59,10 +68,13 @@ returns-in-Ok-clause-made g c =
     let o = c.in-Ok.ensures in
     record {
       made = o.made;
-      held = o.held ∙ (λ i. Some (op_view kinds.Constant (c.in_ok-results.ensures.value i) (c.new-operands.ensures.items i) (c.new-successors.ensures.items i) (c.in_ok-attributes.ensures.value i)));
+      held = o.held ∙ (λ i. Some
+          (op_view kinds.Constant (c.in_ok-results.ensures.value i) (c.new-operands.ensures.items i)
+          (c.new-successors.ensures.items i) (c.in_ok-attributes.ensures.value i)));
       empty = none _ o.regions.count;
       types = ap (λ z. z.types) o.ok;
     }
 
 pub returns-in-Err-clause-kept : goal.returns-in-Err-clause-kept
-returns-in-Err-clause-kept g c = KeepsOlder-same c.args.ctx.now c.with_attributes.new.ctx c.in-Err.ensures.err c.in-Err.ensures.given
+returns-in-Err-clause-kept g c =
+    KeepsOlder-same c.args.ctx.now c.with_attributes.new.ctx c.in-Err.ensures.err c.in-Err.ensures.given

@@ -10,11 +10,16 @@ pub returns-in-Ok-clause-slots : goal.returns-in-Ok-clause-slots
 returns-in-Ok-clause-slots g c =
     let o = c.in-Ok.ensures in
     let r = c.get_region-region in
-    let v = op_view c.args.kind c.new-results.result.items c.new-operands.result.items c.new-successors.result.items c.args.attributes in
-    op_given c.args.ctx.now c.with_attributes.new.ctx c.stands.ensures.whole.stored v c.in-Ok.op r.result o.ok o.made.new o.made.root
-    (region_new c.args.ctx.now.nodes c.with_attributes.new.ctx.nodes (Operation c.in-Ok.op) (Region r.result) o.made o.regions r.ensures.value) r.ensures.live
+    let v = op_view c.args.kind c.new-results.result.items c.new-operands.result.items c.new-successors.result.items
+    c.args.attributes in
+    op_given c.args.ctx.now c.with_attributes.new.ctx c.stands.ensures.whole.stored v c.in-Ok.op r.result o.ok
+    o.made.new o.made.root
+    (region_new c.args.ctx.now.nodes c.with_attributes.new.ctx.nodes (Operation c.in-Ok.op) (Region r.result) o.made
+    o.regions r.ensures.value) r.ensures.live
 
 pub returns-in-Err-clause-refused : goal.returns-in-Err-clause-refused
 returns-in-Err-clause-refused g c =
     let o = c.in-Err.ensures in
-    refused_as _ _ c.stop_of.result (λ e. op_crowded c.args.ctx.now.nodes c.with_attributes.new.ctx.nodes _ 1 (omega arith) c.stands.ensures.whole.stored (o.too_many_only (ap (λ x. Err x) e)) o.err.nodes o.slots) c.stop_of.ensures
+    refused_as _ _ c.stop_of.result
+    (λ e. op_crowded c.args.ctx.now.nodes c.with_attributes.new.ctx.nodes _ 1 (omega arith)
+    c.stands.ensures.whole.stored (o.too_many_only (ap (λ x. Err x) e)) o.err.nodes o.slots) c.stop_of.ensures

@@ -9,7 +9,8 @@ use Rattle.plir_read.proofs.making.named.Goals as goal
 pub returns-clause-live : goal.returns-clause-live
 returns-clause-live g c =
     let own = g.D.OpSet.attr_handles in
-    λ types all. subst (HandlesLive own types) (sym c.in_ok-put_under.ensures.ok) (put_live own types c.args.entries _ _ (leaf_live own types (identifier c.new.result.0) refl) all)
+    λ types all. subst (HandlesLive own types) (sym c.in_ok-put_under.ensures.ok)
+    (put_live own types c.args.entries _ _ (leaf_live own types (identifier c.new.result.0) refl) all)
 
 pub returns-clause-value : goal.returns-clause-value
 returns-clause-value g c =

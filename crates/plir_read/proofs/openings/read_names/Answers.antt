@@ -14,29 +14,46 @@ names-init c = names_begin _ _ c.new-names.ensures.items
 pub returns-in_err-name : goal.returns-in_err-name
 returns-in_err-name c =
     let p = err_from_is_err_and c.from_residual.result c.from_residual.ensures.1 in
-    rw (p.1, p.2) (ends_at_item (separator_at 61) name_at _ _ _ ⊥ c.in_err-name.field-0.0 c.names.invariant.going c.in_err-name.ensures)
+    rw (p.1, p.2) (ends_at_item (separator_at 61) name_at _ _ _ ⊥ c.in_err-name.field-0.0 c.names.invariant.going
+    c.in_err-name.ensures)
 
 pub returns-in_err-goes_on : goal.returns-in_err-goes_on
 returns-in_err-goes_on c =
     let p = err_from_is_err_and c.from_residual-in_err-goes_on.result c.from_residual-in_err-goes_on.ensures.1 in
-    rw (p.1, p.2) (ends_behind (separator_at 61) name_at _ _ _ ⊥ c.in_err-goes_on.field-0.0 c.in_ok-name.name c.in_ok-name.after.now c.names.invariant.going c.in_ok-name.ensures c.in_err-goes_on.ensures)
+    rw (p.1, p.2) (ends_behind (separator_at 61) name_at _ _ _ ⊥ c.in_err-goes_on.field-0.0 c.in_ok-name.name
+    c.in_ok-name.after.now c.names.invariant.going c.in_ok-name.ensures c.in_err-goes_on.ensures)
 
 pub returns-else-goes_on : goal.returns-else-goes_on
 returns-else-goes_on c =
     let i = c.names.invariant in (
       (i.front ++ c.in_ok-name.name ∷ [], c.in_ok-goes_on.behind.now),
-      closes (separator_at 61) name_at i.front _ _ c.in_ok-name.name c.in_ok-name.after.now c.in_ok-goes_on.behind.now i.going c.in_ok-name.ensures (c.in_ok-goes_on.ensures ∙ ap (λ b. done (b, c.in_ok-goes_on.behind.now)) c.if-goes_on.false),
-      (result_push i.front c.in_ok-name.name _ _ c.in_ok-given.given c.in_ok-push.ensures.items i.named c.in_ok-given.ensures.given, refl),
+      closes (separator_at 61) name_at i.front _ _ c.in_ok-name.name c.in_ok-name.after.now c.in_ok-goes_on.behind.now
+          i.going c.in_ok-name.ensures
+          (c.in_ok-goes_on.ensures ∙ ap (λ b. done (b, c.in_ok-goes_on.behind.now)) c.if-goes_on.false),
+      (
+        result_push i.front c.in_ok-name.name _ _ c.in_ok-given.given c.in_ok-push.ensures.items i.named
+            c.in_ok-given.ensures.given,
+        refl,
+      ),
     )
 
 pub names-smaller : goal.names-smaller
-names-smaller c = omega (arith, name_at-shorter c.names.rest.now (c.in_ok-name.name, c.in_ok-name.after.now) c.in_ok-name.ensures, separator_at-shorter 61 c.in_ok-name.after.now (c.in_ok-goes_on.goes_on, c.in_ok-goes_on.behind.now) c.in_ok-goes_on.ensures)
+names-smaller c = omega (
+  arith,
+  name_at-shorter c.names.rest.now (c.in_ok-name.name, c.in_ok-name.after.now) c.in_ok-name.ensures,
+  separator_at-shorter 61 c.in_ok-name.after.now (c.in_ok-goes_on.goes_on, c.in_ok-goes_on.behind.now)
+      c.in_ok-goes_on.ensures,
+)
 
 pub names-preserved : goal.names-preserved
 names-preserved c =
     let i = c.names.invariant in
     record {
       front = i.front ++ c.in_ok-name.name ∷ [];
-      named = result_push i.front c.in_ok-name.name _ _ c.in_ok-given.given c.in_ok-push.ensures.items i.named c.in_ok-given.ensures.given;
-      going = goes_on (separator_at 61) name_at i.front _ _ c.in_ok-name.name c.in_ok-name.after.now c.in_ok-goes_on.behind.now i.going c.in_ok-name.ensures (c.in_ok-goes_on.ensures ∙ ap (λ b. done (b, c.in_ok-goes_on.behind.now)) c.if-goes_on.true) (names-smaller c);
+      named = result_push i.front c.in_ok-name.name _ _ c.in_ok-given.given c.in_ok-push.ensures.items i.named
+          c.in_ok-given.ensures.given;
+      going = goes_on (separator_at 61) name_at i.front _ _ c.in_ok-name.name c.in_ok-name.after.now
+          c.in_ok-goes_on.behind.now i.going c.in_ok-name.ensures
+          (c.in_ok-goes_on.ensures ∙ ap (λ b. done (b, c.in_ok-goes_on.behind.now)) c.if-goes_on.true)
+          (names-smaller c);
     }

@@ -30,9 +30,15 @@ abbrev pub decreases-read_body-inner : goal.decreases-read_body-inner
 decreases-read_body-inner g l = length l.rest
 
 abbrev pub invariant-read_ops-ops : goal.invariant-read_ops-ops
-invariant-read_ops-ops g l = OpsGather g.D.OpSet.attr_handles (op_at l.levels) l.initial.ctx l.ctx (BasicBlock l.block) l.rest (ops_at (op_at l.levels) l.bytes) × AreNamedSoFar l.bytes l.initial.ctx.types l.ctx.types l.rest
-    × HeldSoFar IsHeldByOp (λ t os. IsHeldByOps t (ops_of os)) semicolon_at (op_at l.levels) l.initial.ctx.types l.ctx.types l.rest (ops_at (op_at l.levels) l.bytes)
+invariant-read_ops-ops g l =
+    OpsGather g.D.OpSet.attr_handles (op_at l.levels) l.initial.ctx l.ctx (BasicBlock l.block) l.rest
+    (ops_at (op_at l.levels) l.bytes) × AreNamedSoFar l.bytes l.initial.ctx.types l.ctx.types l.rest
+    × HeldSoFar IsHeldByOp (λ t os. IsHeldByOps t (ops_of os)) semicolon_at (op_at l.levels) l.initial.ctx.types
+    l.ctx.types l.rest (ops_at (op_at l.levels) l.bytes)
 
 abbrev pub invariant-read_body-inner : goal.invariant-read_body-inner
-invariant-read_body-inner g l = BlocksGather g.D.OpSet.attr_handles (op_at l.levels) l.levels l.initial.ctx l.ctx (Region l.region) l.rest (blocks_at (op_at l.levels) l.levels l.bytes) × AreNamedSoFar l.bytes l.initial.ctx.types l.ctx.types l.rest
-    × HeldSoFar IsHeldByBlock (λ t bs. IsHeldByBlocks t (blocks_of bs)) brace_at (block_at (op_at l.levels) l.levels) l.initial.ctx.types l.ctx.types l.rest (blocks_at (op_at l.levels) l.levels l.bytes)
+invariant-read_body-inner g l =
+    BlocksGather g.D.OpSet.attr_handles (op_at l.levels) l.levels l.initial.ctx l.ctx (Region l.region) l.rest
+    (blocks_at (op_at l.levels) l.levels l.bytes) × AreNamedSoFar l.bytes l.initial.ctx.types l.ctx.types l.rest
+    × HeldSoFar IsHeldByBlock (λ t bs. IsHeldByBlocks t (blocks_of bs)) brace_at (block_at (op_at l.levels) l.levels)
+    l.initial.ctx.types l.ctx.types l.rest (blocks_at (op_at l.levels) l.levels l.bytes)

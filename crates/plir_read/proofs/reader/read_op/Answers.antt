@@ -13,11 +13,11 @@ returns-in-Ok-clause-found g c =
     let y = c.in-Ok.ensures.read in
     (y.0, op_text_found 200 _ y.0 (ap (whole (op_at 200)) (sym c.as_bytes-bytes.ensures.value) ∙ y.1), y.2)
 
-pub returns-in-Err-clause-fault : goal.returns-in-Err-clause-fault
-returns-in-Err-clause-fault g c = λ is. ap (whole (op_at 200)) (sym c.as_bytes-bytes.ensures.value) ∙ told _ c.in-Err.stop _ _ c.placed.ensures.fault c.in-Err.ensures.read is
-
 pub returns-in-Err-clause-refused : goal.returns-in-Err-clause-refused
-returns-in-Err-clause-refused g c = λ is w s. op_text_refused 200 _ _ (returns-in-Err-clause-fault g c is) w s
+returns-in-Err-clause-refused g c =
+    λ is w s. op_text_refused 200 _ _
+    (ap (whole (op_at 200)) (sym c.as_bytes-bytes.ensures.value) ∙
+    told _ c.in-Err.stop _ _ c.placed.ensures.fault c.in-Err.ensures.read is) w s
 
 pub returns-in-Ok-clause-named : goal.returns-in-Ok-clause-named
 returns-in-Ok-clause-named g c = behind_named _ _ _ _ ([], sym c.as_bytes-bytes.ensures.value) c.in-Ok.ensures.named
@@ -26,10 +26,14 @@ pub returns-in-Err-clause-named : goal.returns-in-Err-clause-named
 returns-in-Err-clause-named g c = behind_named _ _ _ _ ([], sym c.as_bytes-bytes.ensures.value) c.in-Err.ensures.named
 
 pub returns-in-Err-clause-placeless : goal.returns-in-Err-clause-placeless
-returns-in-Err-clause-placeless g c = no_place _ c.in-Err.stop _ _ c.placed.ensures.fault c.placed.ensures.nowhere c.in-Err.ensures.read
+returns-in-Err-clause-placeless g c =
+    no_place _ c.in-Err.stop _ _ c.placed.ensures.fault c.placed.ensures.nowhere c.in-Err.ensures.read
 
 pub returns-in-Err-clause-crowded : goal.returns-in-Err-clause-crowded
 returns-in-Err-clause-crowded g c = no_room _ c.in-Err.stop _ _ c.placed.ensures.fault c.in-Err.ensures.read
 
 pub returns-in-Ok-clause-held : goal.returns-in-Ok-clause-held
-returns-in-Ok-clause-held g c = λ w s. c.in-Ok.ensures.held w (ap (whole (op_at 200)) c.as_bytes-bytes.ensures.value ∙ whole_again (op_at 200) (OpWithin 200) (op_within_again 200) _ w s)
+returns-in-Ok-clause-held g c =
+    λ w s. c.in-Ok.ensures.held w
+    (ap (whole (op_at 200)) c.as_bytes-bytes.ensures.value ∙
+    whole_again (op_at 200) (OpWithin 200) (op_within_again 200) _ w s)

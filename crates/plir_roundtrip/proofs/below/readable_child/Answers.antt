@@ -6,15 +6,20 @@ use Rattle.plir_roundtrip.proofs.Children.{child_readable}
 use Rattle.plir_roundtrip.proofs.below.readable_child.Goals as goal
 
 pub returns-clause-readable : goal.returns-clause-readable
-returns-clause-readable g c = child_readable c.args.ctx.now c.args.over c.args.child (place_has (children c.args.ctx.now c.args.over) c.args.place c.args.child c.requires.there) c.requires.readable
+returns-clause-readable g c =
+    child_readable c.args.ctx.now c.args.over c.args.child
+    (place_has (children c.args.ctx.now c.args.over) c.args.place c.args.child c.requires.there) c.requires.readable
 
 pub returns-clause-within : goal.returns-clause-within
-returns-clause-within g c = slice_get_within (children c.args.ctx.now c.args.over) c.args.place c.args.child c.requires.there
+returns-clause-within g c =
+    slice_get_within (children c.args.ctx.now c.args.over) c.args.place c.args.child c.requires.there
 
 pub returns-clause-few : goal.returns-clause-few
 returns-clause-few g c =
     let st = c.stands.ensures.standing in
-    let n = st.measured.counted (children c.args.ctx.now c.args.over) (st.forest.once c.args.over) (λ x h. st.forest.child_live c.args.over x h) in
+    let n =
+    st.measured.counted (children c.args.ctx.now c.args.over) (st.forest.once c.args.over)
+    (λ x h. st.forest.child_live c.args.over x h) in
     let w = st.within in
     let f = st.limit_fits in
     omega arith

@@ -26,10 +26,14 @@ entries-preserved g c =
     let v = attr_view c.in-Some.value.now in
     let step : pairs_view c.entries.key-iterator ≡ (k, v) ∷ left = ap pairs_view c.in-Some.ensures.steps in
     let passed : c.is_entry_readable.result ≡ true = cc in
-    let here : IsEntryReadable types k v = subst (λ w. IsEntryReadable types w v) c.as_str.ensures.value (c.is_entry_readable.ensures.0 passed) in
+    let here : IsEntryReadable types k v =
+    subst (λ w. IsEntryReadable types w v) c.as_str.ensures.value (c.is_entry_readable.ensures.0 passed) in
     record {
-      readable = each_passed (λ e. IsEntryReadable types e.0 e.1) _ _ left (k, v) step here c.entries.invariant.readable;
-      live = All-tail (λ x. IsAttrLive own types x.1) (k, v) left (subst (HandlesLive own types) step c.entries.invariant.live);
+      readable =
+          each_passed (λ e. IsEntryReadable types e.0 e.1) _ _ left (k, v) step here c.entries.invariant.readable;
+      live =
+          All-tail (λ x. IsAttrLive own types x.1) (k, v) left
+          (subst (HandlesLive own types) step c.entries.invariant.live);
     }
 
 pub returns-then-not-is_entry_readable-clause-value : goal.returns-then-not-is_entry_readable-clause-value
@@ -41,6 +45,7 @@ returns-then-not-is_entry_readable-clause-value g c =
     let step : pairs_view c.entries.key-iterator ≡ (k, v) ∷ left = ap pairs_view c.in-Some.ensures.steps in (
       λ h. absurd (let f : ⊥ = cc in f),
       λ all. absurd (each_failed (λ e. IsEntryReadable types e.0 e.1) _ _ left (k, v) step (λ h.
-          let passed : c.is_entry_readable.result ≡ true = c.is_entry_readable.ensures.1 (subst (λ w. IsEntryReadable types w v) (sym c.as_str.ensures.value) h) in
+          let passed : c.is_entry_readable.result ≡ true =
+          c.is_entry_readable.ensures.1 (subst (λ w. IsEntryReadable types w v) (sym c.as_str.ensures.value) h) in
           let f : ⊥ = cc in f) c.entries.invariant.readable all),
     )

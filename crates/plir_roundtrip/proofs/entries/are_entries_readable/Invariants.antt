@@ -8,6 +8,7 @@ abbrev pub invariant-entries : goal.invariant-entries
 invariant-entries g l =
     let left = pairs_view l.key-iterator in
     record {
-      readable : All (λ e. IsEntryReadable l.ctx.types e.0 e.1) left ↔ All (λ e. IsEntryReadable l.ctx.types e.0 e.1) l.dict;
+      readable : All (λ e. IsEntryReadable l.ctx.types e.0 e.1) left ↔
+          All (λ e. IsEntryReadable l.ctx.types e.0 e.1) l.dict;
       live : HandlesLive g.D.OpSet.attr_handles l.ctx.types left;
     }

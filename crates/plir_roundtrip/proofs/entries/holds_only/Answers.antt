@@ -15,7 +15,9 @@ entries-preserved g c =
     let v = attr_view c.in-Some._value.now in
     let step : pairs_view c.entries.key-iterator ≡ (k, v) ∷ left = ap pairs_view c.in-Some.ensures.steps in
     let passed : c.is_key_expected.result ≡ true = cc in
-    let among : list_any (λ z. is_key k z) keys ≡ true = ap (λ w. list_any (λ z. is_key w z) keys) (sym c.as_str.ensures.value) ∙ sym c.is_key_expected.ensures ∙ passed in
+    let among : list_any (λ z. is_key k z) keys ≡ true =
+    ap (λ w. list_any (λ z. is_key w z) keys) (sym c.as_str.ensures.value) ∙ sym c.is_key_expected.ensures
+    ∙ passed in
     key_passed keys _ _ left (k, v) step among c.entries.invariant
 
 pub returns-then-not-is_key_expected : goal.returns-then-not-is_key_expected
@@ -26,5 +28,9 @@ returns-then-not-is_key_expected g c =
     let v = attr_view c.in-Some._value.now in
     let step : pairs_view c.entries.key-iterator ≡ (k, v) ∷ left = ap pairs_view c.in-Some.ensures.steps in
     let failed : c.is_key_expected.result ≡ false = cc in
-    let other : list_any (λ z. is_key k z) keys ≡ false = ap (λ w. list_any (λ z. is_key w z) keys) (sym c.as_str.ensures.value) ∙ sym c.is_key_expected.ensures ∙ failed in
-    (λ h. absurd (let f : ⊥ = cc in f), λ only. absurd (key_failed keys _ _ left (k, v) step other c.entries.invariant only))
+    let other : list_any (λ z. is_key k z) keys ≡ false =
+    ap (λ w. list_any (λ z. is_key w z) keys) (sym c.as_str.ensures.value) ∙ sym c.is_key_expected.ensures
+    ∙ failed in (
+      λ h. absurd (let f : ⊥ = cc in f),
+      λ only. absurd (key_failed keys _ _ left (k, v) step other c.entries.invariant only),
+    )

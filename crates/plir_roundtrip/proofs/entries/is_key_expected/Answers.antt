@@ -4,7 +4,8 @@ use Rattle.plir_roundtrip.proofs.Asked.{expected_names, expected_none, expected_
 use Rattle.plir_roundtrip.proofs.entries.is_key_expected.Goals as goal
 
 pub returns-then-eq : goal.returns-then-eq
-returns-then-eq c = let e : bytes_eq c.args.key.now names_key ≡ true = cc in sym (expected_names c.args.key.now c.args.has_value e)
+returns-then-eq c =
+    let e : bytes_eq c.args.key.now names_key ≡ true = cc in sym (expected_names c.args.key.now c.args.has_value e)
 
 pub returns-then-not-has_value : goal.returns-then-not-has_value
 returns-then-not-has_value c =

@@ -8,4 +8,5 @@ pub returns : goal.returns
 returns g c =
     let none : length (result_types_of c.args.ctx.now c.args.op) ≡ 0 = omega arith in
     let one : length (children c.args.ctx.now (Operation c.args.op)) ≡ 1 = omega arith in
-    body_when c.args.ctx.now c.args.op c.attributes.result.now c.are_entries_readable.result none one c.attributes.ensures.value c.are_entries_readable.ensures.ascending c.are_entries_readable.ensures.value
+    body_when c.args.ctx.now c.args.op c.attributes.result.now c.are_entries_readable.result none one
+    c.attributes.ensures.value c.are_entries_readable.ensures.ascending c.are_entries_readable.ensures.value

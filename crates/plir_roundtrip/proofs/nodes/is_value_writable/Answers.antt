@@ -9,5 +9,7 @@ pub returns-in-Some : goal.returns-in-Some
 returns-in-Some g c =
     let s = c.args.ctx.now in
     let v = attr_view c.in-Some.value.now in
-    let held : value_of s c.args.op ≡ Some v = sym c.in-Some.ensures.value in
-    (λ t x e. subst (IsWritable s.types) (same_Some v x (c.in-Some.ensures.value ∙ e)) (c.is_writable.ensures.0 t), λ h. c.is_writable.ensures.1 (h v held))
+    let held : value_of s c.args.op ≡ Some v = sym c.in-Some.ensures.value in (
+      λ t x e. subst (IsWritable s.types) (same_Some v x (c.in-Some.ensures.value ∙ e)) (c.is_writable.ensures.0 t),
+      λ h. c.is_writable.ensures.1 (h v held),
+    )

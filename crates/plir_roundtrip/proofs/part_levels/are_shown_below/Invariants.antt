@@ -8,6 +8,7 @@ abbrev pub invariant-entries : goal.invariant-entries
 invariant-entries g l =
     let rest = pairs_view l.key-iterator in
     record {
-      low : (shown_levels g.D.OpSet l.ctx.types (Some l.kind) rest < l.left) ↔ (shown_levels g.D.OpSet l.ctx.types (Some l.kind) l.dict < l.left);
+      low : (shown_levels g.D.OpSet l.ctx.types (Some l.kind) rest < l.left) ↔
+          (shown_levels g.D.OpSet l.ctx.types (Some l.kind) l.dict < l.left);
       live : HandlesLive g.D.OpSet.attr_handles l.ctx.types rest;
     }

@@ -9,6 +9,8 @@ pub returns : goal.returns
 returns g c =
     let o = g.D.OpSet in
     let s = c.args.ctx.now in
-    let same : shown_levels o s.types (Some c.kind.result) c.attributes.result.now ≡ entries_levels (dictionary_term o s c.args.op) =
-    ap (λ k. shown_levels o s.types k c.attributes.result.now) (sym c.kind.ensures.value) ∙ ap (shown_levels o s.types (kind_of s c.args.op)) c.attributes.ensures.value in
+    let same : shown_levels o s.types (Some c.kind.result) c.attributes.result.now ≡
+    entries_levels (dictionary_term o s c.args.op) =
+    ap (λ k. shown_levels o s.types k c.attributes.result.now) (sym c.kind.ensures.value)
+    ∙ ap (shown_levels o s.types (kind_of s c.args.op)) c.attributes.ensures.value in
     subst (λ n. IsTrue c.are_shown_below.result ↔ (n < c.args.left)) same c.are_shown_below.ensures

@@ -15,5 +15,7 @@ returns-then-not-are_all_readable-clause-value g c = (
 pub returns-clause-value : goal.returns-clause-value
 returns-clause-value g c =
     let yes : c.are_all_readable.result ≡ true = cc in
-    let all : AllReadable c.args.ctx.now (Operation c.args.op) = c.are_all_readable.ensures.0 yes in
-    (λ t. record { ops = all.ops; blocks = all.blocks; levels = c.is_op_within.ensures.0 t }, λ r. c.is_op_within.ensures.1 r.levels)
+    let all : AllReadable c.args.ctx.now (Operation c.args.op) = c.are_all_readable.ensures.0 yes in (
+      λ t. record { ops = all.ops; blocks = all.blocks; levels = c.is_op_within.ensures.0 t },
+      λ r. c.is_op_within.ensures.1 r.levels,
+    )
