@@ -13,21 +13,28 @@ use Rattle.plir_iface.specs.Verdict.{IsRefusalMemoryAside}
 use Rattle.plir_builtin.specs.BuiltinOps.{value_of}
 use Rattle.plir_builtin.specs.ConstantFaults.{IsConstantFault, ReportsMismatch, ReportsUntyped}
 use Rattle.plir_builtin.specs.declared.constant_op.ConstantOpVerifyErr.{ConstantOpVerifyErr}
-use Rattle.plir_builtin.specs.declared.constant_op.ConstantOpVerifyErr.TheVariants.{MissingValue, ValueNotTyped, ResultTypeMismatch}
+use Rattle.plir_builtin.specs.declared.constant_op.ConstantOpVerifyErr.TheVariants.{MissingValue, ValueNotTyped}
+use Rattle.plir_builtin.specs.declared.constant_op.ConstantOpVerifyErr.TheVariants.{ResultTypeMismatch}
 
 -- what is reported by one word is reported by a wider one
-pub told_wider : {K A T E : Type 0} (s : ContextView K A T) (op : Ptr OperationKind) (P Q : E → Type 0) → ((e : E) → P e → Q e) → (r : VerifyErr E) → IsRefusalMemoryAside s op P r → IsRefusalMemoryAside s op Q r
+pub told_wider : {K A T E : Type 0} (s : ContextView K A T) (op : Ptr OperationKind) (P Q : E → Type 0)
+    → ((e : E) → P e → Q e) → (r : VerifyErr E) → IsRefusalMemoryAside s op P r → IsRefusalMemoryAside s op Q r
 told_wider s op P Q wider (Refused loc err) h = (h.0, wider err h.1)
 told_wider s op P Q wider Memory h = tt
 
-module _ {K A T : Type 0} (attr_own_id : A → List ℕ) (attr_own_type : A → Option ℕ) (own_id : T → List ℕ) (own_body : List (TypeView T) → T → List ℕ) (s : ContextView K A T) (op : Ptr OperationKind) (x : AttrView A) (there : value_of s op ≡ Some x) where
-  pub untyped_fault : attr_type attr_own_type x ≡ None → (e : ConstantOpVerifyErr) → ReportsUntyped attr_own_id x e → IsConstantFault attr_own_id attr_own_type own_id own_body s op e
+module _ {K A T : Type 0} (attr_own_id : A → List ℕ) (attr_own_type : A → Option ℕ) (own_id : T → List ℕ)
+    (own_body : List (TypeView T) → T → List ℕ) (s : ContextView K A T) (op : Ptr OperationKind) (x : AttrView A)
+    (there : value_of s op ≡ Some x) where
+  pub untyped_fault : attr_type attr_own_type x ≡ None → (e : ConstantOpVerifyErr) → ReportsUntyped attr_own_id x e
+      → IsConstantFault attr_own_id attr_own_type own_id own_body s op e
   untyped_fault none MissingValue reported = absurd reported
   untyped_fault none (ValueNotTyped id) reported = (x, (there, none, reported))
   untyped_fault none (ResultTypeMismatch g w) reported = absurd reported
 
-  pub mismatch_fault : (t u : ℕ) → attr_type attr_own_type x ≡ Some t → slice_get (result_types_of s op) 0 ≡ Some u → t ≢ u → (e : ConstantOpVerifyErr) → ReportsMismatch own_id own_body s.types t u e
+  pub mismatch_fault : (t u : ℕ) → attr_type attr_own_type x ≡ Some t → slice_get (result_types_of s op) 0 ≡ Some u
+      → t ≢ u → (e : ConstantOpVerifyErr) → ReportsMismatch own_id own_body s.types t u e
       → IsConstantFault attr_own_id attr_own_type own_id own_body s op e
   mismatch_fault t u typed result other MissingValue reported = absurd reported
   mismatch_fault t u typed result other (ValueNotTyped id) reported = absurd reported
-  mismatch_fault t u typed result other (ResultTypeMismatch g w) reported = (x, (t, u, (there, typed, result, other, reported)))
+  mismatch_fault t u typed result other (ResultTypeMismatch g w) reported =
+      (x, (t, u, (there, typed, result, other, reported)))

@@ -37,7 +37,8 @@ module _ {B : Type 0} where
   still_breaks true b = refl
   still_breaks false b = refl
 
-  why_skips : (x : Bool) (a : ControlFlow B WalkContinue) → not_entering x a ≡ Continue Skip → (x ≡ true) ⊎ (a ≡ Continue Skip)
+  why_skips : (x : Bool) (a : ControlFlow B WalkContinue) → not_entering x a ≡ Continue Skip
+      → (x ≡ true) ⊎ (a ≡ Continue Skip)
   why_skips true a e = inl refl
   why_skips false a e = inr e
 
@@ -46,7 +47,8 @@ module _ {B : Type 0} where
   why_breaks true (Break c) b e = e
   why_breaks true (Continue k) b e = absurd (skip_not_break b e)
 
-  at_table : (x : Bool) (a : ControlFlow B WalkContinue) → x ≡ true → (not_entering x a ≡ Continue Skip) ⊎ ((b : B) × (not_entering x a ≡ Break b))
+  at_table : (x : Bool) (a : ControlFlow B WalkContinue) → x ≡ true
+      → (not_entering x a ≡ Continue Skip) ⊎ ((b : B) × (not_entering x a ≡ Break b))
   at_table true (Continue k) e = inl refl
   at_table true (Break b) e = inr (b, refl)
   at_table false a e = absurd (let h : ⊥ = cc e in h)
@@ -78,12 +80,14 @@ module _ {C S B : Type 0} where
   node-called (y ∷ xs) x (inl e) = inl (ap (λ z. z.node) e)
   node-called (y ∷ xs) x (inr h) = inr (node-called xs x h)
 
-  pub none-breaks : (xs : List (Call C S B)) → NoBreak xs → (x : Call C S B) → Has xs x → (b : B) → x.answer ≡ Break b → ⊥
+  pub none-breaks : (xs : List (Call C S B)) → NoBreak xs → (x : Call C S B) → Has xs x → (b : B) → x.answer ≡ Break b
+      → ⊥
   none-breaks [] n x h b e = absurd h
   none-breaks (y ∷ xs) n x (inl g) b e = n.0 b (ap (λ z. z.answer) g ∙ e)
   none-breaks (y ∷ xs) n x (inr h) b e = none-breaks xs n.1 x h b e
 
-  pub last-breaks : (xs : List (Call C S B)) (end : Call C S B) → NoBreak xs → (x : Call C S B) → Has (xs ++ end ∷ []) x → (b : B) → x.answer ≡ Break b → end ≡ x
+  pub last-breaks : (xs : List (Call C S B)) (end : Call C S B) → NoBreak xs → (x : Call C S B) → Has (xs ++ end ∷ []) x
+      → (b : B) → x.answer ≡ Break b → end ≡ x
   last-breaks [] end n x (inl g) b e = g
   last-breaks [] end n x (inr h) b e = absurd h
   last-breaks (y ∷ xs) end n x (inl g) b e = absurd (n.0 b (ap (λ z. z.answer) g ∙ e))
@@ -108,7 +112,8 @@ module _ {C S B : Type 0} (is_table : Ptr OperationKind → Bool) where
   kept-by x xs (h ∷ hs) p k = inl (p, k)
 
   -- each call that was made is one of the walk's
-  pub made-by : (xs hs : List (Call C S B)) → Kept xs hs → (h : Call C S B) → Has hs h → (x : Call C S B) × Has xs x × IsPassedOn x h
+  pub made-by : (xs hs : List (Call C S B)) → Kept xs hs → (h : Call C S B) → Has hs h
+      → (x : Call C S B) × Has xs x × IsPassedOn x h
   made-by [] [] k h i = absurd i
   made-by [] (g ∷ hs) k h i = absurd (not_empty g hs k)
   made-by (x ∷ xs) [] k h i = absurd i
@@ -117,14 +122,16 @@ module _ {C S B : Type 0} (is_table : Ptr OperationKind → Bool) where
   made-by (x ∷ xs) (g ∷ hs) (inr k) h (inr i) = let r = made-by xs hs k.1 h i in (r.0, inr r.1, r.2)
 
   -- and each call of the walk is passed by, or made one
-  pub made : (xs hs : List (Call C S B)) → Kept xs hs → (x : Call C S B) → Has xs x → IsPassedBy x ⊎ ((h : Call C S B) × Has hs h × IsPassedOn x h)
+  pub made : (xs hs : List (Call C S B)) → Kept xs hs → (x : Call C S B) → Has xs x
+      → IsPassedBy x ⊎ ((h : Call C S B) × Has hs h × IsPassedOn x h)
   made [] hs k x i = absurd i
   made (y ∷ xs) [] k x (inl e) = inl (subst (λ z. IsPassedBy z) e k.0)
   made (y ∷ xs) [] k x (inr i) = made xs [] k.1 x i
   made (y ∷ xs) (g ∷ hs) (inl k) x (inl e) = inl (subst (λ z. IsPassedBy z) e k.0)
   made (y ∷ xs) (g ∷ hs) (inl k) x (inr i) = made xs (g ∷ hs) k.1 x i
   made (y ∷ xs) (g ∷ hs) (inr k) x (inl e) = inr (g, inl refl, subst (λ z. IsPassedOn z g) e k.0)
-  made (y ∷ xs) (g ∷ hs) (inr k) x (inr i) = elim (made xs hs k.1 x i) [ inl p ↦ inl p | inr r ↦ inr (r.0, inr r.1, r.2) ]
+  made (y ∷ xs) (g ∷ hs) (inr k) x (inr i) =
+      elim (made xs hs k.1 x i) [ inl p ↦ inl p | inr r ↦ inr (r.0, inr r.1, r.2) ]
 
   pub kept-has : (xs hs : List (Call C S B)) → Kept xs hs → (n : IRNode) → Has (nodes_of hs) n → Has (nodes_of xs) n
   kept-has xs hs k n i =
@@ -132,7 +139,8 @@ module _ {C S B : Type 0} (is_table : Ptr OperationKind → Bool) where
       let x = made-by xs hs k h.0 h.1 in
       subst (λ z. Has (nodes_of xs) z) (x.2.at_x ∙ sym x.2.at_h ∙ h.2) (node-called xs x.0 x.1)
 
-  pub has-kept : (xs hs : List (Call C S B)) → Kept xs hs → (p : Ptr OperationKind) → Has (nodes_of xs) (Operation p) → Has (nodes_of hs) (Operation p)
+  pub has-kept : (xs hs : List (Call C S B)) → Kept xs hs → (p : Ptr OperationKind) → Has (nodes_of xs) (Operation p)
+      → Has (nodes_of hs) (Operation p)
   has-kept xs hs k p i =
       let x = call-of xs (Operation p) i in
       elim (made xs hs k x.0 x.1) [
@@ -140,7 +148,8 @@ module _ {C S B : Type 0} (is_table : Ptr OperationKind → Bool) where
         | inr h ↦ subst (λ z. Has (nodes_of hs) z) (h.2.at_h ∙ sym h.2.at_x ∙ x.2) (node-called hs h.0 h.1)
       ]
 
-  pub kept-pairs : (R : IRNode → IRNode → Type 0) (xs hs : List (Call C S B)) → Kept xs hs → Pairs R (nodes_of xs) → Pairs R (nodes_of hs)
+  pub kept-pairs : (R : IRNode → IRNode → Type 0) (xs hs : List (Call C S B)) → Kept xs hs → Pairs R (nodes_of xs)
+      → Pairs R (nodes_of hs)
   kept-pairs R [] [] k ps = tt
   kept-pairs R [] (g ∷ hs) k ps = absurd (not_empty g hs k)
   kept-pairs R (x ∷ xs) [] k ps = tt
@@ -153,10 +162,15 @@ module _ {C S B : Type 0} (is_table : Ptr OperationKind → Bool) where
   -- what was skipped
   pub skipped-below : (xs hs : List (Call C S B)) → Kept xs hs → (a : IRNode) → IsSkipped hs a → IsSkipped xs a
   skipped-below xs hs k a s =
-      let x = made-by xs hs k s.0 s.1 in
-      (x.0, x.1, x.2.at_x ∙ sym x.2.at_h ∙ s.2, x.2.answer ∙ ap (λ z. not_entering (is_table x.2.op) z) s.3 ∙ still_skips (is_table x.2.op))
+      let x = made-by xs hs k s.0 s.1 in (
+        x.0,
+        x.1,
+        x.2.at_x ∙ sym x.2.at_h ∙ s.2,
+        x.2.answer ∙ ap (λ z. not_entering (is_table x.2.op) z) s.3 ∙ still_skips (is_table x.2.op),
+      )
 
-  pub skipped-above : (xs hs : List (Call C S B)) → Kept xs hs → (a : IRNode) → IsSkipped xs a → ((p : Ptr OperationKind) × (a ≡ Operation p) × (is_table p ≡ true)) ⊎ IsSkipped hs a
+  pub skipped-above : (xs hs : List (Call C S B)) → Kept xs hs → (a : IRNode) → IsSkipped xs a
+      → ((p : Ptr OperationKind) × (a ≡ Operation p) × (is_table p ≡ true)) ⊎ IsSkipped hs a
   skipped-above xs hs k a s = elim (made xs hs k s.0 s.1) [
     | inl by ↦ absurd (advance_not_skip s.0.answer by.1 s.3)
     | inr h ↦ elim (why_skips (is_table h.2.op) h.0.answer (sym h.2.answer ∙ s.3)) [
@@ -166,21 +180,26 @@ module _ {C S B : Type 0} (is_table : Ptr OperationKind → Bool) where
   ]
 
   -- a call at a table answers Skip, or breaks
-  pub table-called : (xs hs : List (Call C S B)) → Kept xs hs → (q : Ptr OperationKind) → Has (nodes_of xs) (Operation q) → is_table q ≡ true
-      → IsSkipped xs (Operation q) ⊎ ((x : Call C S B) × Has xs x × (x.node ≡ Operation q) × ((b : B) × (x.answer ≡ Break b)))
+  pub table-called : (xs hs : List (Call C S B)) → Kept xs hs → (q : Ptr OperationKind)
+      → Has (nodes_of xs) (Operation q) → is_table q ≡ true
+      → IsSkipped xs (Operation q) ⊎
+      ((x : Call C S B) × Has xs x × (x.node ≡ Operation q) × ((b : B) × (x.answer ≡ Break b)))
   table-called xs hs k q i t =
       let x = call-of xs (Operation q) i in
       elim (made xs hs k x.0 x.1) [
         | inl by ↦ absurd (by.0 q x.2)
-        | inr h ↦ elim (at_table (is_table h.2.op) h.0.answer (ap is_table (one_op h.2.op q (sym h.2.at_x ∙ x.2)) ∙ t)) [
-          | inl e ↦ inl (x.0, x.1, x.2, h.2.answer ∙ e)
-          | inr e ↦ inr (x.0, x.1, x.2, (e.0, h.2.answer ∙ e.1))
-        ]
+        | inr
+            h ↦ elim (at_table (is_table h.2.op) h.0.answer (ap is_table (one_op h.2.op q (sym h.2.at_x ∙ x.2)) ∙ t)) [
+              | inl e ↦ inl (x.0, x.1, x.2, h.2.answer ∙ e)
+              | inr e ↦ inr (x.0, x.1, x.2, (e.0, h.2.answer ∙ e.1))
+            ]
       ]
 
   -- breaks
-  kept-goes_on : (x h : Call C S B) → IsPassedOn x h → ((b : B) → x.answer ≡ Break b → ⊥) → (b : B) → h.answer ≡ Break b → ⊥
-  kept-goes_on x h k n b e = n b (k.answer ∙ ap (λ z. not_entering (is_table k.op) z) e ∙ still_breaks (is_table k.op) b)
+  kept-goes_on : (x h : Call C S B) → IsPassedOn x h → ((b : B) → x.answer ≡ Break b → ⊥) → (b : B) → h.answer ≡ Break b
+      → ⊥
+  kept-goes_on x h k n b e =
+      n b (k.answer ∙ ap (λ z. not_entering (is_table k.op) z) e ∙ still_breaks (is_table k.op) b)
 
   pub kept-no_break : (xs hs : List (Call C S B)) → Kept xs hs → NoBreak xs → NoBreak hs
   kept-no_break [] [] k n = tt
@@ -197,7 +216,8 @@ module _ {C S B : Type 0} (is_table : Ptr OperationKind → Bool) where
     pub broke : end.answer ≡ Break b
     pub none_before : NoBreak front
 
-  pub kept-last : (front : List (Call C S B)) (x : Call C S B) (b : B) (hs : List (Call C S B)) → Kept (front ++ x ∷ []) hs → x.answer ≡ Break b → NoBreak front → IsLast hs x b
+  pub kept-last : (front : List (Call C S B)) (x : Call C S B) (b : B) (hs : List (Call C S B))
+      → Kept (front ++ x ∷ []) hs → x.answer ≡ Break b → NoBreak front → IsLast hs x b
   kept-last [] x b [] k e n = absurd (advance_not_break x.answer b k.0.1 e)
   kept-last [] x b (g ∷ hs) (inl k) e n = absurd (advance_not_break x.answer b k.0.1 e)
   kept-last [] x b (g ∷ hs) (inr k) e n = record {
@@ -222,32 +242,61 @@ module _ {C S B : Type 0} (is_table : Ptr OperationKind → Bool) where
       }
 
 -- the calls that a walk made
-module _ {C S B : Type 0} (look : C → Shape) (root : IRNode) (is_table : C → Ptr OperationKind → Bool) (post : OpRelation C S B) (from : Relation C S B)
-    (passes : (c : C) (s : S) (n : IRNode) (a : ControlFlow B WalkContinue) (c' : C) (s' : S) → from c s n a c' s' → (c' ≡ c) × PassesOn is_table post c s n a c' s') (c0 : C) where
+module _ {C S B : Type 0} (look : C → Shape) (root : IRNode) (is_table : C → Ptr OperationKind → Bool)
+    (post : OpRelation C S B) (from : Relation C S B)
+    (passes : (c : C) (s : S) (n : IRNode) (a : ControlFlow B WalkContinue) (c' : C) (s' : S) → from c s n a c' s'
+    → (c' ≡ c) × PassesOn is_table post c s n a c' s') (c0 : C) where
   pub record IsFiltered (c : C) (s : S) (xs : List (Call C S B)) (c' : C) (s' : S) : Type 0 where
     pub calls : List (Call C S B)
     pub chain : Chain (IsCallUnder look root (AtOps post)) c s calls c' s'
     pub kept : Kept (is_table c0) xs calls
 
-  goes-by : (c : C) (s : S) (x : Call C S B) (xs : List (Call C S B)) (c' : C) (s' : S) → IsPassedBy x → x.after ≡ c → x.left ≡ s → IsFiltered x.after x.left xs c' s' → IsFiltered c s (x ∷ xs) c' s'
+  goes-by : (c : C) (s : S) (x : Call C S B) (xs : List (Call C S B)) (c' : C) (s' : S) → IsPassedBy x → x.after ≡ c
+      → x.left ≡ s → IsFiltered x.after x.left xs c' s' → IsFiltered c s (x ∷ xs) c' s'
   goes-by c s x xs c' s' p e f r = record {
     calls = r.calls;
-    chain = subst (λ z. Chain (IsCallUnder look root (AtOps post)) c z r.calls c' s') f (subst (λ z. Chain (IsCallUnder look root (AtOps post)) z x.left r.calls c' s') e r.chain);
+    chain =
+        subst (λ z. Chain (IsCallUnder look root (AtOps post)) c z r.calls c' s') f
+        (subst (λ z. Chain (IsCallUnder look root (AtOps post)) z x.left r.calls c' s') e r.chain);
     kept = kept-by (is_table c0) x xs r.calls p r.kept;
   }
 
-  filter-step : (c : C) (s : S) (x : Call C S B) (xs : List (Call C S B)) (c' : C) (s' : S) → c ≡ c0 → x.before ≡ c → x.state ≡ s → x.after ≡ x.before
-      → (n : IRNode) → x.node ≡ n → StandsUnder (look x.before) root n → IsForest (look x.after) → PassesOn is_table post x.before x.state n x.answer x.after x.left → IsFiltered x.after x.left xs c' s' → IsFiltered c s (x ∷ xs) c' s'
+  filter-step : (c : C) (s : S) (x : Call C S B) (xs : List (Call C S B)) (c' : C) (s' : S) → c ≡ c0 → x.before ≡ c
+      → x.state ≡ s → x.after ≡ x.before
+      → (n : IRNode) → x.node ≡ n → StandsUnder (look x.before) root n → IsForest (look x.after)
+      → PassesOn is_table post x.before x.state n x.answer x.after x.left → IsFiltered x.after x.left xs c' s'
+      → IsFiltered c s (x ∷ xs) c' s'
   filter-step c s x xs c' s' e eb es ea (Operation p) en u l q r = record {
-    calls = record { before = x.before; state = x.state; node = Operation p; answer = q.0; after = x.after; left = x.left } ∷ r.calls;
+    calls =
+        record {
+          before = x.before;
+          state = x.state;
+          node = Operation p;
+          answer = q.0;
+          after = x.after;
+          left = x.left;
+        } ∷ r.calls;
     chain = (eb, es, record { stands = u; leaves = l; made = q.1 }, r.chain);
-    kept = inr (record { op = p; at_x = en; at_h = refl; answer = q.2 ∙ ap (λ z. not_entering (is_table z p) q.0) (eb ∙ e) }, r.kept);
+    kept =
+        inr (
+          record {
+            op = p;
+            at_x = en;
+            at_h = refl;
+            answer = q.2 ∙ ap (λ z. not_entering (is_table z p) q.0) (eb ∙ e);
+          },
+          r.kept,
+        );
   }
-  filter-step c s x xs c' s' e eb es ea (Region p) en u l q r = goes-by c s x xs c' s' ((λ o g. not_region (sym en ∙ g)), q.0) (ea ∙ eb) (q.1 ∙ es) r
-  filter-step c s x xs c' s' e eb es ea (BasicBlock p) en u l q r = goes-by c s x xs c' s' ((λ o g. not_block (sym en ∙ g)), q.0) (ea ∙ eb) (q.1 ∙ es) r
+  filter-step c s x xs c' s' e eb es ea (Region p) en u l q r =
+      goes-by c s x xs c' s' ((λ o g. not_region (sym en ∙ g)), q.0) (ea ∙ eb) (q.1 ∙ es) r
+  filter-step c s x xs c' s' e eb es ea (BasicBlock p) en u l q r =
+      goes-by c s x xs c' s' ((λ o g. not_block (sym en ∙ g)), q.0) (ea ∙ eb) (q.1 ∙ es) r
 
-  pub filtered : (xs : List (Call C S B)) (c : C) (s : S) (c' : C) (s' : S) → c ≡ c0 → Chain (IsCallUnder look root from) c s xs c' s' → IsFiltered c s xs c' s'
+  pub filtered : (xs : List (Call C S B)) (c : C) (s : S) (c' : C) (s' : S) → c ≡ c0
+      → Chain (IsCallUnder look root from) c s xs c' s' → IsFiltered c s xs c' s'
   filtered [] c s c' s' e h = record { calls = []; chain = h; kept = refl }
   filtered (x ∷ xs) c s c' s' e h =
       let p = passes x.before x.state x.node x.answer x.after x.left h.2.made in
-      filter-step c s x xs c' s' e h.0 h.1 p.0 x.node refl h.2.stands h.2.leaves p.1 (filtered xs x.after x.left c' s' (p.0 ∙ (h.0 ∙ e)) h.3)
+      filter-step c s x xs c' s' e h.0 h.1 p.0 x.node refl h.2.stands h.2.leaves p.1
+      (filtered xs x.after x.left c' s' (p.0 ∙ (h.0 ∙ e)) h.3)

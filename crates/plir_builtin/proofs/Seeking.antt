@@ -1,5 +1,6 @@
 -- The loop that seeks the nearest table.
-use Rattle.std.proofs.Common.{◌≡◌, ℕ, zero, suc, ◌+◌, ◌<◌, arith, Bool, true, false, Option, Some, None, inl, inr, refl, sym, ap, subst, ◌∙◌}
+use Rattle.std.proofs.Common.{◌≡◌, ℕ, zero, suc, ◌+◌, ◌<◌, arith, Bool, true, false, Option, Some, None, inl, inr, refl}
+use Rattle.std.proofs.Common.{sym, ap, subst, ◌∙◌}
 use Rattle.std.specs.Prelude.{option_map}
 use Rattle.std.proofs.lemmas.Bool.{cases_lt}
 use Rattle.std.proofs.lemmas.Option.{same_Some, none-some}
@@ -46,7 +47,8 @@ module _ {K A T : Type 0} (own : K → Bool) (s : ContextView K A T) (n : Ptr Op
   pub record IsSeeking (at : Option (Ptr OperationKind)) : Type 0 where
     pub steps : ℕ
     pub come : climb (op_over s) steps (Some n) ≡ at
-    pub none : (j : ℕ) (u : Ptr OperationKind) → j < steps → climb (op_over s) j (Some n) ≡ Some u → is_table_kind own (kind_in (op_at s u)) ≡ false
+    pub none : (j : ℕ) (u : Ptr OperationKind) → j < steps → climb (op_over s) j (Some n) ≡ Some u
+        → is_table_kind own (kind_in (op_at s u)) ≡ false
     pub live : (p : Ptr OperationKind) → at ≡ Some p → is_live s (Operation p) ≡ true
 
   pub seeking-start : is_live s (Operation n) ≡ true → IsSeeking (Some n)
@@ -57,7 +59,8 @@ module _ {K A T : Type 0} (own : K → Bool) (s : ContextView K A T) (n : Ptr Op
     live = λ p e. subst (λ z. is_live s (Operation z) ≡ true) (same_Some n p e) live;
   }
 
-  pub seeking-found : (at : Option (Ptr OperationKind)) → IsSeeking at → (p : Ptr OperationKind) → at ≡ Some p → is_table_kind own (kind_in (op_at s p)) ≡ true → IsNearest own s n (Some p)
+  pub seeking-found : (at : Option (Ptr OperationKind)) → IsSeeking at → (p : Ptr OperationKind) → at ≡ Some p
+      → is_table_kind own (kind_in (op_at s p)) ≡ true → IsNearest own s n (Some p)
   seeking-found at r p e t = (r.steps, r.come ∙ e, t, r.none)
 
   pub seeking-end : (at : Option (Ptr OperationKind)) → IsSeeking at → at ≡ None → IsNearest own s n None
@@ -68,7 +71,8 @@ module _ {K A T : Type 0} (own : K → Bool) (s : ContextView K A T) (n : Ptr Op
     climb-live zero m q e = w.forest.parent_live q m e
     climb-live (suc k) m q e = at (λ a h. climb-live k a q h) (parent_of s m) e
       where
-        at : ((a : IRNode) → climb (parent_of s) (suc k) (Some a) ≡ Some q → is_live s q ≡ true) → (o : Option IRNode) → climb (parent_of s) (suc k) o ≡ Some q → is_live s q ≡ true
+        at : ((a : IRNode) → climb (parent_of s) (suc k) (Some a) ≡ Some q → is_live s q ≡ true) → (o : Option IRNode)
+            → climb (parent_of s) (suc k) o ≡ Some q → is_live s q ≡ true
         at rest None h = absurd (none-some q h)
         at rest (Some a) h = rest a h
 
@@ -76,15 +80,18 @@ module _ {K A T : Type 0} (own : K → Bool) (s : ContextView K A T) (n : Ptr Op
     climb-depth zero m q e = let h = ap (depth s) (same_Some m q e) in omega (arith, h)
     climb-depth (suc k) m q e = at (λ a h. climb-depth k a q h) (parent_of s m) refl e
       where
-        at : ((a : IRNode) → climb (parent_of s) k (Some a) ≡ Some q → depth s q + k ≡ depth s a) → (o : Option IRNode) → parent_of s m ≡ o → climb (parent_of s) k o ≡ Some q → depth s q + suc k ≡ depth s m
+        at : ((a : IRNode) → climb (parent_of s) k (Some a) ≡ Some q → depth s q + k ≡ depth s a) → (o : Option IRNode)
+            → parent_of s m ≡ o → climb (parent_of s) k o ≡ Some q → depth s q + suc k ≡ depth s m
         at rest None f h = absurd (none-some q (sym (nothing (parent_of s) k) ∙ h))
         at rest (Some a) f h = let i = rest a h in let d = w.measured.deeper a m f in omega (arith, i, d)
 
-    module _ (at : Option (Ptr OperationKind)) (r : IsSeeking at) (p : Ptr OperationKind) (is : at ≡ Some p) (next : Option (Ptr OperationKind)) (e : option_map Operation next ≡ op_above s (Operation p)) where
+    module _ (at : Option (Ptr OperationKind)) (r : IsSeeking at) (p : Ptr OperationKind) (is : at ≡ Some p)
+        (next : Option (Ptr OperationKind)) (e : option_map Operation next ≡ op_above s (Operation p)) where
       next_is : next ≡ op_over s p
       next_is = sym (as_op-map next) ∙ ap as_op e
 
-      above_is : (q : Ptr OperationKind) → next ≡ Some q → climb (parent_of s) 3 (Some (Operation p)) ≡ Some (Operation q)
+      above_is : (q : Ptr OperationKind) → next ≡ Some q
+          → climb (parent_of s) 3 (Some (Operation p)) ≡ Some (Operation q)
       above_is q h = as_op-is (op_above s (Operation p)) q (sym next_is ∙ h)
 
       pub seeking-more : is_table_kind own (kind_in (op_at s p)) ≡ false → IsSeeking next
@@ -94,7 +101,8 @@ module _ {K A T : Type 0} (own : K → Bool) (s : ContextView K A T) (n : Ptr Op
         none = λ j u h c. elim (cases_lt j r.steps) [
           | inl less ↦ r.none j u less c
           | inr past ↦ let same : r.steps ≡ j = omega arith in
-              let here : p ≡ u = same_Some p u (sym is ∙ sym r.come ∙ ap (λ z. climb (op_over s) z (Some n)) same ∙ c) in
+              let here : p ≡ u =
+              same_Some p u (sym is ∙ sym r.come ∙ ap (λ z. climb (op_over s) z (Some n)) same ∙ c) in
               subst (λ z. is_table_kind own (kind_in (op_at s z)) ≡ false) here plain
         ];
         live = λ q h. climb-live 2 (Operation p) (Operation q) (above_is q h);
@@ -105,4 +113,6 @@ module _ {K A T : Type 0} (own : K → Bool) (s : ContextView K A T) (n : Ptr Op
         where
           falls : (o : Option (Ptr OperationKind)) → next ≡ o → levels_up (depth s) next < levels_up (depth s) (Some p)
           falls None h = subst (λ z. levels_up (depth s) z < levels_up (depth s) (Some p)) (sym h) (omega arith)
-          falls (Some q) h = let d = climb-depth 3 (Operation p) (Operation q) (above_is q h) in subst (λ z. levels_up (depth s) z < levels_up (depth s) (Some p)) (sym h) (omega (arith, d))
+          falls (Some q) h =
+              let d = climb-depth 3 (Operation p) (Operation q) (above_is q h) in
+              subst (λ z. levels_up (depth s) z < levels_up (depth s) (Some p)) (sym h) (omega (arith, d))

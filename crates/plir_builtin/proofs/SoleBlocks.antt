@@ -1,5 +1,6 @@
 -- An operation with one region that has one block has a body.
-use Rattle.std.proofs.Common.{◌≡◌, ℕ, zero, suc, ◌<◌, length, slice_get, get_or, arith, List, [], ◌∷◌, Option, Some, None, IsSome, All, true≢false, refl, sym, subst}
+use Rattle.std.proofs.Common.{◌≡◌, ℕ, zero, suc, ◌<◌, length, slice_get, get_or, arith, List, [], ◌∷◌, Option, Some}
+use Rattle.std.proofs.Common.{None, IsSome, All, true≢false, refl, sym, subst}
 use Rattle.std.specs.Prelude.{option_and_then}
 use Rattle.std.proofs.lemmas.Option.{same_Some, none-some}
 use Rattle.plir_core.specs.declared.ptr.Ptr.{Ptr}
@@ -32,7 +33,8 @@ module _ {K A T : Type 0} (s : ContextView K A T) (t : Ptr OperationKind) where
       all r one zero d k = one
       all r one (suc i) d k = absurd (omega (arith, k))
 
-      at : (rs : List IRNode) → IsSome (option_and_then (λ r. only (children s r)) (only rs)) → (length rs ≡ 1) × All (HasOneBlock s) rs
+      at : (rs : List IRNode) → IsSome (option_and_then (λ r. only (children s r)) (only rs))
+          → (length rs ≡ 1) × All (HasOneBlock s) rs
       at [] h = absurd (true≢false (sym h))
       at (r ∷ []) h = (refl, all r (only-length (children s r) h))
       at (r ∷ q ∷ rs) h = absurd (true≢false (sym h))
@@ -48,7 +50,8 @@ module _ {K A T : Type 0} (s : ContextView K A T) (t : Ptr OperationKind) where
       only-some (x ∷ []) n = refl
       only-some (x ∷ y ∷ xs) n = absurd (omega (arith, n))
 
-      at : (rs : List IRNode) → length rs ≡ 1 → All (HasOneBlock s) rs → IsSome (option_and_then (λ r. only (children s r)) (only rs))
+      at : (rs : List IRNode) → length rs ≡ 1 → All (HasOneBlock s) rs
+          → IsSome (option_and_then (λ r. only (children s r)) (only rs))
       at [] n a = absurd (omega (arith, n))
       at (r ∷ []) n a = only-some (children s r) (a 0 r (omega arith))
       at (r ∷ q ∷ rs) n a = absurd (omega (arith, n))

@@ -1,5 +1,6 @@
 -- From a walk at all nodes to the operations that were called.
-use Rattle.std.proofs.Common.{◌≡◌, suc, Bool, Some, true, false, List, [], ◌∷◌, ◌++◌, inl, inr, refl, sym, ap, subst, ◌∙◌}
+use Rattle.std.proofs.Common.{◌≡◌, suc, Bool, Some, true, false, List, [], ◌∷◌, ◌++◌, inl, inr, refl, sym, ap, subst}
+use Rattle.std.proofs.Common.{◌∙◌}
 use Rattle.std.specs.declared.ops.ControlFlow.{ControlFlow}
 use Rattle.std.specs.declared.ops.ControlFlow.TheVariants.{Continue, Break}
 use Rattle.plir_core.specs.declared.ptr.Ptr.{Ptr}
@@ -20,19 +21,24 @@ use Rattle.plir_walk.specs.Calls.{Call, Relation, nodes_of, NoBreak}
 use Rattle.plir_walk.specs.ShutOut.{IsSkipped}
 use Rattle.plir_walk.specs.Walk.{InOrder, IsDue, IsDueUpTo, CallsAllDue, CallsUpToLast, Answers}
 use Rattle.plir_walk.specs.Walked.{WalkedOver}
-use Rattle.plir_builtin.specs.TableWalks.{OpRelation, PassesOn, IsDueInTable, CallsAllInTable, CallsTableUpToBreak, IsTableWalk, IsTableWalked}
+use Rattle.plir_builtin.specs.TableWalks.{OpRelation, PassesOn, IsDueInTable, CallsAllInTable, CallsTableUpToBreak}
+use Rattle.plir_builtin.specs.TableWalks.{IsTableWalk, IsTableWalked}
 use Rattle.plir_builtin.proofs.Bodies.{not_region_op}
 use Rattle.plir_builtin.proofs.Seeking.{one-more}
-use Rattle.plir_builtin.proofs.OperationCalls.{Kept, node-called, none-breaks, last-breaks, kept-has, has-kept, kept-pairs, kept-no_break, kept-last, skipped-below, skipped-above, table-called, filtered}
+use Rattle.plir_builtin.proofs.OperationCalls.{Kept, node-called, none-breaks, last-breaks, kept-has, has-kept}
+use Rattle.plir_builtin.proofs.OperationCalls.{kept-pairs, kept-no_break, kept-last, skipped-below, skipped-above}
+use Rattle.plir_builtin.proofs.OperationCalls.{table-called, filtered}
 
 -- what stands under the one region of an operation stands under the operation
-pub under-region : (s : Shape) (op : Ptr OperationKind) (r : Ptr RegionKind) (n : IRNode) → s.children (Operation op) ≡ Region r ∷ [] → StandsUnder s (Region r) n → StandsUnder s (Operation op) n
+pub under-region : (s : Shape) (op : Ptr OperationKind) (r : Ptr RegionKind) (n : IRNode)
+    → s.children (Operation op) ≡ Region r ∷ [] → StandsUnder s (Region r) n → StandsUnder s (Operation op) n
 under-region s op r n e u = record {
   forest = u.forest;
   live = u.live;
   under_root = (
     suc u.under_root.0,
-    one-more s.parent u.under_root.0 (Some n) (Region r) u.under_root.1 ∙ u.forest.child_parent (Operation op) (Region r) (subst (λ z. Has z (Region r)) (sym e) (inl refl)),
+    one-more s.parent u.under_root.0 (Some n) (Region r) u.under_root.1
+        ∙ u.forest.child_parent (Operation op) (Region r) (subst (λ z. Has z (Region r)) (sym e) (inl refl)),
   );
 }
 
@@ -46,12 +52,16 @@ not_true : (b : Bool) → (b ≡ true → ⊥) → b ≡ false
 not_true true h = absurd (h refl)
 not_true false h = refl
 
-module _ {C S B : Type 0} (is_table : Ptr OperationKind → Bool) (t : Tree) (reg : Ptr RegionKind) (xs hs : List (Call C S B)) (k : Kept is_table xs hs) (order : InOrder pre_forward t (Region reg) xs) where
-  op-under : (p : Ptr OperationKind) → IsUnder t (Region reg) (Operation p) → IsProperlyUnder t (Region reg) (Operation p)
-  op-under p u = elim (under-cases t (Region reg) (Operation p) u) [ inl e ↦ absurd (not_region_op p reg (sym e)) | inr h ↦ h ]
+module _ {C S B : Type 0} (is_table : Ptr OperationKind → Bool) (t : Tree) (reg : Ptr RegionKind)
+    (xs hs : List (Call C S B)) (k : Kept is_table xs hs) (order : InOrder pre_forward t (Region reg) xs) where
+  op-under : (p : Ptr OperationKind) → IsUnder t (Region reg) (Operation p)
+      → IsProperlyUnder t (Region reg) (Operation p)
+  op-under p u =
+      elim (under-cases t (Region reg) (Operation p) u) [ inl e ↦ absurd (not_region_op p reg (sym e)) | inr h ↦ h ]
 
   -- what is due was due
-  due-from : (p : Ptr OperationKind) → IsDueInTable is_table t (Region reg) hs p → IsDue pre_forward t (Region reg) xs (Operation p)
+  due-from : (p : Ptr OperationKind) → IsDueInTable is_table t (Region reg) hs p
+      → IsDue pre_forward t (Region reg) xs (Operation p)
   due-from p h = (
     properly-under t (Region reg) (Operation p) h.below,
     λ o. elim (skipped-above is_table xs hs k o.ancestor o.skipped) [
@@ -64,7 +74,8 @@ module _ {C S B : Type 0} (is_table : Ptr OperationKind → Bool) (t : Tree) (re
 
   -- an operation that was due is due, where each table above it was skipped
   hand-from : (p : Ptr OperationKind) → IsDue pre_forward t (Region reg) xs (Operation p)
-      → ((q : Ptr OperationKind) → IsUnder t (Region reg) (Operation q) → IsProperlyUnder t (Operation q) (Operation p) → is_table q ≡ true → IsSkipped xs (Operation q))
+      → ((q : Ptr OperationKind) → IsUnder t (Region reg) (Operation q) → IsProperlyUnder t (Operation q) (Operation p)
+      → is_table q ≡ true → IsSkipped xs (Operation q))
       → IsDueInTable is_table t (Region reg) hs p
   hand-from p d tables = record {
     below = op-under p d.0;
@@ -85,7 +96,8 @@ module _ {C S B : Type 0} (is_table : Ptr OperationKind → Bool) (t : Tree) (re
   }
 
   -- what is above a due node is due
-  due-above : (a n : IRNode) → IsDue pre_forward t (Region reg) xs n → IsUnder t (Region reg) a → IsProperlyUnder t a n → IsDue pre_forward t (Region reg) xs a
+  due-above : (a n : IRNode) → IsDue pre_forward t (Region reg) xs n → IsUnder t (Region reg) a → IsProperlyUnder t a n
+      → IsDue pre_forward t (Region reg) xs a
   due-above a n d u v = (
     u,
     λ o. d.1 (record {
@@ -100,16 +112,19 @@ module _ {C S B : Type 0} (is_table : Ptr OperationKind → Bool) (t : Tree) (re
   hands-all : NoBreak xs → CallsAllDue pre_forward t (Region reg) xs → CallsAllInTable is_table t (Region reg) hs
   hands-all none all p = (
     λ i. let d = (all (Operation p)).0 (kept-has is_table xs hs k (Operation p) i) in
-        hand-from p d (λ q u v e. elim (table-called is_table xs hs k q ((all (Operation q)).1 (due-above (Operation q) (Operation p) d u v)) e) [
+        hand-from p d (λ q u v e. elim (table-called is_table xs hs k q
+        ((all (Operation q)).1 (due-above (Operation q) (Operation p) d u v)) e) [
           | inl s ↦ s
           | inr x ↦ absurd (none-breaks xs none x.0 x.1 x.3.0 x.3.1)
         ]),
     λ h. has-kept is_table xs hs k p ((all (Operation p)).1 (due-from p h)),
   )
 
-  module _ (front : List (Call C S B)) (x : Call C S B) (b : B) (are : xs ≡ front ++ x ∷ []) (broke : x.answer ≡ Break b) (none : NoBreak front) (upto : CallsUpToLast pre_forward t (Region reg) xs) where
+  module _ (front : List (Call C S B)) (x : Call C S B) (b : B) (are : xs ≡ front ++ x ∷ [])
+      (broke : x.answer ≡ Break b) (none : NoBreak front) (upto : CallsUpToLast pre_forward t (Region reg) xs) where
     tables-skipped : (p : Ptr OperationKind) → IsDueUpTo pre_forward t (Region reg) xs x (Operation p)
-        → (q : Ptr OperationKind) → IsUnder t (Region reg) (Operation q) → IsProperlyUnder t (Operation q) (Operation p) → is_table q ≡ true → IsSkipped xs (Operation q)
+        → (q : Ptr OperationKind) → IsUnder t (Region reg) (Operation q) → IsProperlyUnder t (Operation q) (Operation p)
+        → is_table q ≡ true → IsSkipped xs (Operation q)
     tables-skipped p d q u v e =
         elim (table-called is_table xs hs k q ((upto front x are (Operation q)).1 (
           due-above (Operation q) (Operation p) d.0 u v,
@@ -142,7 +157,8 @@ module _ {C S B : Type 0} (is_table : Ptr OperationKind → Bool) (t : Tree) (re
           );
         }
 
-  pub handing : (a : ControlFlow B WalkContinue) → Answers pre_forward t (Region reg) xs a → IsTableWalk is_table t (Region reg) hs a
+  pub handing : (a : ControlFlow B WalkContinue) → Answers pre_forward t (Region reg) xs a
+      → IsTableWalk is_table t (Region reg) hs a
   handing (Continue m) h = record {
     one_place = order.one_place;
     increasing = kept-pairs is_table (NodeBefore pre_forward t (Region reg)) xs hs k order.increasing;
@@ -155,8 +171,10 @@ module _ {C S B : Type 0} (is_table : Ptr OperationKind → Bool) (t : Tree) (re
   }
 
 -- a call of the closure, as one of the walk
-pub passes-again : {C S B : Type 0} (is_table : C → Ptr OperationKind → Bool) (post : OpRelation C S B) (n : IRNode) (a : ControlFlow B WalkContinue) {d d' e : C} {s s' u u' : S}
-    → d' ≡ d → (e ≡ d) × (u ≡ s) → u' ≡ s' → PassesOn is_table post e u n a e u' → (d' ≡ d) × PassesOn is_table post d s n a d' s'
+pub passes-again : {C S B : Type 0} (is_table : C → Ptr OperationKind → Bool) (post : OpRelation C S B) (n : IRNode)
+    (a : ControlFlow B WalkContinue) {d d' e : C} {s s' u u' : S}
+    → d' ≡ d → (e ≡ d) × (u ≡ s) → u' ≡ s' → PassesOn is_table post e u n a e u'
+    → (d' ≡ d) × PassesOn is_table post d s n a d' s'
 passes-again is_table post n a {d} {d'} {e} {s} {s'} {u} {u'} stays shows leaves q = (
   stays,
   subst (λ z. PassesOn is_table post d s n a z s') (sym stays)
@@ -165,10 +183,13 @@ passes-again is_table post n a {d} {d'} {e} {s} {s'} {u} {u'} stays shows leaves
       (subst (λ z. PassesOn is_table post e u n a e z) leaves q))),
 )
 
-pub handed-over : {C S B : Type 0} (look : C → Shape) (is_table : C → Ptr OperationKind → Bool) (post : OpRelation C S B) (from : Relation C S B)
-    → ((c : C) (s : S) (n : IRNode) (a : ControlFlow B WalkContinue) (c' : C) (s' : S) → from c s n a c' s' → (c' ≡ c) × PassesOn is_table post c s n a c' s')
+pub handed-over : {C S B : Type 0} (look : C → Shape) (is_table : C → Ptr OperationKind → Bool)
+    (post : OpRelation C S B) (from : Relation C S B)
+    → ((c : C) (s : S) (n : IRNode) (a : ControlFlow B WalkContinue) (c' : C) (s' : S) → from c s n a c' s'
+    → (c' ≡ c) × PassesOn is_table post c s n a c' s')
     → (c : C) (s : S) (op : Ptr OperationKind) (reg : Ptr RegionKind) (a : ControlFlow B WalkContinue) (s' : S)
-    → (look c).children (Operation op) ≡ Region reg ∷ [] → WalkedOver look pre_forward from c s (Region reg) a s' → IsTableWalked look is_table post c s op a s'
+    → (look c).children (Operation op) ≡ Region reg ∷ [] → WalkedOver look pre_forward from c s (Region reg) a s'
+    → IsTableWalked look is_table post c s op a s'
 handed-over look is_table post from passes c s op reg a s' e w =
     let f = filtered look (Region reg) is_table post from passes c w.calls c s c s' refl w.chain in
     record {

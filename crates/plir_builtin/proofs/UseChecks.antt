@@ -21,13 +21,16 @@ use Rattle.plir_walk.specs.Tree.{NodeBefore}
 use Rattle.plir_builtin.specs.declared.symbol_table_op.SymbolTableInterfaceErr.{SymbolTableInterfaceErr}
 
 -- where no table is cached, all agree
-pub agree-empty : {K A T : Type 0} (own own_table : K → Bool) (s : ContextView K A T) (c : Tables) → c ≡ map.empty → AllAgree own own_table s c
-agree-empty own own_table s c e p t h live = absurd (none-some t (sym (ap (λ (z : Tables). get z p) e ∙ get-empty ptr_cmp p) ∙ h))
+pub agree-empty : {K A T : Type 0} (own own_table : K → Bool) (s : ContextView K A T) (c : Tables) → c ≡ map.empty
+    → AllAgree own own_table s c
+agree-empty own own_table s c e p t h live =
+    absurd (none-some t (sym (ap (λ (z : Tables). get z p) e ∙ get-empty ptr_cmp p) ∙ h))
 
 module _ {K A T E B : Type 0} (own own_table user : K → Bool) (holds : UseRule K A T)
     (refusal : UseRefusal K A T E) (reported : B → VerifyErr E) where
   -- the same call, as the walk sees it
-  pub use-again : {e d : ContextView K A T} {u s u' s' : Tables} (p : Ptr OperationKind) (a : ControlFlow B WalkContinue)
+  pub use-again : {e d : ContextView K A T} {u s u' s' : Tables} (p : Ptr OperationKind)
+      (a : ControlFlow B WalkContinue)
       → (e ≡ d) × (u ≡ s) → u' ≡ s'
       → IsUseCheck own own_table user holds refusal reported e u p a u'
       → IsUseCheck own own_table user holds refusal reported d s p a s'

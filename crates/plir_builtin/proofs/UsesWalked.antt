@@ -24,14 +24,17 @@ use Rattle.plir_builtin.proofs.OperationCalls.{call-of, last-breaks, node-called
 same_region : (r q : Ptr RegionKind) → Region q ∷ [] ≡ Region r ∷ [] → q ≡ r
 same_region r q e = cc
 
-plain : {B : Type 0} (a : ControlFlow B WalkContinue) → (a ≡ Continue Skip → ⊥) → ((d : B) → a ≡ Break d → ⊥) → a ≡ Continue Advance
+plain : {B : Type 0} (a : ControlFlow B WalkContinue) → (a ≡ Continue Skip → ⊥) → ((d : B) → a ≡ Break d → ⊥)
+    → a ≡ Continue Advance
 plain (Continue Advance) f g = refl
 plain (Continue Skip) f g = absurd (f refl)
 plain (Break d) f g = absurd (g d refl)
 
 module _ {C S B : Type 0} (look : C → Shape) (post : OpRelation C S B) (c0 : C) (Inv : S → Type 0)
-    (stays : (c : C) (s : S) (p : Ptr OperationKind) (a : ControlFlow B WalkContinue) (c' : C) (s' : S) → post c s p a c' s' → c' ≡ c)
-    (keeps : (s : S) (p : Ptr OperationKind) (a : ControlFlow B WalkContinue) (s' : S) → post c0 s p a c0 s' → Inv s → Inv s') where
+    (stays : (c : C) (s : S) (p : Ptr OperationKind) (a : ControlFlow B WalkContinue) (c' : C) (s' : S)
+    → post c s p a c' s' → c' ≡ c)
+    (keeps : (s : S) (p : Ptr OperationKind) (a : ControlFlow B WalkContinue) (s' : S) → post c0 s p a c0 s' → Inv s
+    → Inv s') where
   -- a call that was made with a state that is right
   pub record IsMade (x : Call C S B) : Type 0 where
     pub op : Ptr OperationKind
@@ -39,15 +42,19 @@ module _ {C S B : Type 0} (look : C → Shape) (post : OpRelation C S B) (c0 : C
     pub inv : Inv x.state
     pub met : post c0 x.state op x.answer c0 x.left
 
-  made-at : (n : IRNode) (x : Call C S B) → x.node ≡ n → x.before ≡ c0 → Inv x.state → AtOps post x.before x.state n x.answer x.after x.left → IsMade x × (x.after ≡ c0) × Inv x.left
+  made-at : (n : IRNode) (x : Call C S B) → x.node ≡ n → x.before ≡ c0 → Inv x.state
+      → AtOps post x.before x.state n x.answer x.after x.left → IsMade x × (x.after ≡ c0) × Inv x.left
   made-at (Operation p) x en eb i h =
       let ea : x.after ≡ c0 = stays x.before x.state p x.answer x.after x.left h ∙ eb in
-      let m : post c0 x.state p x.answer c0 x.left = subst (λ z. post c0 x.state p x.answer z x.left) ea (subst (λ z. post z x.state p x.answer x.after x.left) eb h) in
+      let m : post c0 x.state p x.answer c0 x.left =
+      subst (λ z. post c0 x.state p x.answer z x.left) ea
+      (subst (λ z. post z x.state p x.answer x.after x.left) eb h) in
       (record { op = p; node = en; inv = i; met = m }, ea, keeps x.state p x.answer x.left m i)
   made-at (Region p) x en eb i h = absurd h
   made-at (BasicBlock p) x en eb i h = absurd h
 
-  each-made : (root : IRNode) (xs : List (Call C S B)) (c : C) (s : S) (c' : C) (s' : S) → c ≡ c0 → Inv s → Chain (IsCallUnder look root (AtOps post)) c s xs c' s' → (x : Call C S B) → Has xs x → IsMade x
+  each-made : (root : IRNode) (xs : List (Call C S B)) (c : C) (s : S) (c' : C) (s' : S) → c ≡ c0 → Inv s
+      → Chain (IsCallUnder look root (AtOps post)) c s xs c' s' → (x : Call C S B) → Has xs x → IsMade x
   each-made root [] c s c' s' e i h x has = absurd has
   each-made root (y ∷ xs) c s c' s' e i h x has =
       let m = made-at y.node y refl (h.0 ∙ e) (subst Inv (sym h.1) i) h.2.made in
@@ -64,14 +71,17 @@ module _ {C S B : Type 0} (look : C → Shape) (post : OpRelation C S B) (c0 : C
       (breaks : (s : S) (p : Ptr OperationKind) (a : ControlFlow B WalkContinue) (s' : S) → post c0 s p a c0 s' → Inv s
       → (b : B) → a ≡ Break b → (user p ≡ true) × Refuses p b) where
     -- what is called at the end is due by the calls
-    to-hand : (a : ControlFlow B WalkContinue) (h : IsTableWalked look is_table post c0 s t a s') (p : Ptr OperationKind)
-        → IsInTable (look c0).children (is_table c0) t p → IsDueInTable (is_table c0) (look c0).children (Region h.region) h.calls p
+    to-hand : (a : ControlFlow B WalkContinue) (h : IsTableWalked look is_table post c0 s t a s')
+        (p : Ptr OperationKind)
+        → IsInTable (look c0).children (is_table c0) t p
+        → IsDueInTable (is_table c0) (look c0).children (Region h.region) h.calls p
     to-hand a h p o =
         let same : Region o.region ≡ Region h.region =
         ap Region (sym (same_region o.region h.region (sym h.one_region ∙ o.one_region))) in
         record {
           below = subst (λ z. IsProperlyUnder (look c0).children z (Operation p)) same o.below;
-          no_table = λ q v w. o.no_table q (subst (λ z. IsProperlyUnder (look c0).children z (Operation q)) (sym same) v) w;
+          no_table =
+              λ q v w. o.no_table q (subst (λ z. IsProperlyUnder (look c0).children z (Operation q)) (sym same) v) w;
           no_skip = λ a y v.
               let m = each-made (Region h.region) h.calls c0 s c0 s' refl i h.chain y.0 y.1 in
               never y.0.state m.op y.0.answer y.0.left m.met y.3;

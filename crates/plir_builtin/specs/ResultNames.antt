@@ -13,7 +13,7 @@ abbrev pub given_first : Option (List ℕ) → List ℕ
 given_first None = []
 given_first (Some name) = name ++ codes "_"
 
--- the given name, the pointer, `_res`, and the place, as in `sum_op3v1_res0`
+-- the given name, the pointer, `_res`, and the index, as in `sum_op3v1_res0`
 abbrev pub result_name : {K A T : Type 0} → ContextView K A T → Ptr OperationKind → ℕ → List ℕ
 result_name s op i = given_first (name_at (names_at s (Op op)) i) ++ pointer_text (codes "op") op ++ codes "_res" ++
     decimal i

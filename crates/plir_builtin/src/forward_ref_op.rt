@@ -182,7 +182,7 @@ fn put_pointer(out: &mut String, op: Ptr<Operation>) -> Result<(), Memory>
     Ok(())
 }
 
-// Puts `_res` and a place.
+// Puts `_res` and an index.
 fn put_place(out: &mut String, place: usize) -> Result<(), Memory>
     ensures { OnOk result (string_bytes out.new ≡ string_bytes out.old ++ (codes "_res" ++ decimal place)) }
 {

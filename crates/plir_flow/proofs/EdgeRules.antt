@@ -1,5 +1,7 @@
 -- What follows for the rule of region edges from what is known of one edge more.
-use Rattle.std.proofs.Common.{◌≡◌, ◌↔◌, ℕ, zero, suc, ◌+◌, ◌<◌, ◌≤◌, Bool, true, false, cond, List, [], ◌∷◌, ◌++◌, length, take, map, get_or, Option, Some, None, inl, inr, refl, sym, ap, subst, ◌∙◌, arith, ◌&&◌}
+use Rattle.std.proofs.Common.{◌≡◌, ◌↔◌, ℕ, zero, suc, ◌+◌, ◌<◌, ◌≤◌, Bool, true, false, cond, List, [], ◌∷◌, ◌++◌}
+use Rattle.std.proofs.Common.{length, take, map, get_or, Option, Some, None, inl, inr, refl, sym, ap, subst, ◌∙◌, arith}
+use Rattle.std.proofs.Common.{◌&&◌}
 use Rattle.std.specs.Prelude.{All, IsTrue, slice_get}
 use Rattle.std.specs.Bool.{Decides}
 use Rattle.std.specs.Option.{option_eq, is_some, IfSome}
@@ -16,9 +18,13 @@ use Rattle.plir_flow.specs.declared.edge_ends.RegionBranchPoint.{RegionBranchPoi
 use Rattle.plir_flow.specs.declared.edge_ends.RegionSuccessor.{RegionSuccessor}
 use Rattle.plir_flow.specs.declared.edge_ends.RegionSuccessor.TheVariants.{Region as ToRegion, After}
 use Rattle.plir_flow.specs.declared.region_edge_errors.EdgeFault.{EdgeFault}
-use Rattle.plir_flow.specs.declared.region_edge_errors.EdgeFault.TheVariants.{OtherReceivers, ForeignTerminator, ForeignRead, ForeignRegion, ForeignOperand, NoArgument, NoResult, ReceivedTwice, OtherType}
+use Rattle.plir_flow.specs.declared.region_edge_errors.EdgeFault.TheVariants.{OtherReceivers, ForeignTerminator}
+use Rattle.plir_flow.specs.declared.region_edge_errors.EdgeFault.TheVariants.{ForeignRead, ForeignRegion}
+use Rattle.plir_flow.specs.declared.region_edge_errors.EdgeFault.TheVariants.{ForeignOperand, NoArgument, NoResult}
+use Rattle.plir_flow.specs.declared.region_edge_errors.EdgeFault.TheVariants.{ReceivedTwice, OtherType}
 use Rattle.plir_flow.specs.RegionEdges.{EdgeView, Flow, receivers_on}
-use Rattle.plir_flow.specs.RegionRule.{SameReceivers, HaveOtherReceivers, IsReceiver, IsFaultOfFlow, IsFaultOfEdge, IsFaultOfEdges, no_receiver, IsFlowRight}
+use Rattle.plir_flow.specs.RegionRule.{SameReceivers, HaveOtherReceivers, IsReceiver, IsFaultOfFlow, IsFaultOfEdge}
+use Rattle.plir_flow.specs.RegionRule.{IsFaultOfEdges, no_receiver, IsFlowRight}
 use Rattle.plir_flow.specs.EdgeVerdicts.{AreFirsts, target_region, IsFlowVerdict, IsFlowsVerdict, IsEdgeVerdict}
 use Rattle.plir_flow.proofs.TakenLists.{each-has, each-from-has, mapped-all, mapped-at, distinct-push}
 use Rattle.plir_flow.proofs.Exact.{same-region-exact}
@@ -29,21 +35,29 @@ has-mapped [] f h = absurd h
 has-mapped (g ∷ gs) f (inl e) = inl (ap (λ (o : Flow). o.1) e)
 has-mapped (g ∷ gs) f (inr h) = inr (has-mapped gs f h)
 
-pub within-from : (fs : List Flow) (vs : List Value) → All (λ (f : Flow). Has vs f.1) fs → (v : Value) → Has (map (λ (o : Flow). o.1) fs) v → Has vs v
-within-from fs vs all v h = each-has (Has vs) (map (λ (o : Flow). o.1) fs) v (mapped-all (λ (o : Flow). o.1) (λ (f : Flow). Has vs f.1) (Has vs) (λ f k. k) fs all) h
+pub within-from : (fs : List Flow) (vs : List Value) → All (λ (f : Flow). Has vs f.1) fs → (v : Value)
+    → Has (map (λ (o : Flow). o.1) fs) v → Has vs v
+within-from fs vs all v h =
+    each-has (Has vs) (map (λ (o : Flow). o.1) fs) v
+    (mapped-all (λ (o : Flow). o.1) (λ (f : Flow). Has vs f.1) (Has vs) (λ f k. k) fs all) h
 
-pub within-to : (fs : List Flow) (vs : List Value) → ((v : Value) → Has (map (λ (o : Flow). o.1) fs) v → Has vs v) → All (λ (f : Flow). Has vs f.1) fs
+pub within-to : (fs : List Flow) (vs : List Value) → ((v : Value) → Has (map (λ (o : Flow). o.1) fs) v → Has vs v)
+    → All (λ (f : Flow). Has vs f.1) fs
 within-to fs vs all = each-from-has (λ (f : Flow). Has vs f.1) fs (λ f h. all f.1 (has-mapped fs f h))
 
-pub within-like : (fs : List Flow) (us vs : List Value) → ((v : Value) → Has us v ↔ Has vs v) → All (λ (f : Flow). Has us f.1) fs ↔ All (λ (f : Flow). Has vs f.1) fs
+pub within-like : (fs : List Flow) (us vs : List Value) → ((v : Value) → Has us v ↔ Has vs v)
+    → All (λ (f : Flow). Has us f.1) fs ↔ All (λ (f : Flow). Has vs f.1) fs
 within-like fs us vs same = (
   λ a. within-to fs vs (λ v h. (same v).0 (within-from fs us a v h)),
   λ a. within-to fs us (λ v h. (same v).1 (within-from fs vs a v h)),
 )
 
-pub within-at : (b : Bool) (fs gs os ps : List Flow) → fs ≡ gs → os ≡ ps → (IsTrue b ↔ All (λ (f : Flow). Has (map (λ (o : Flow). o.1) os) f.1) fs) → IsTrue b ↔ All (λ (f : Flow). Has (map (λ (o : Flow). o.1) ps) f.1) gs
+pub within-at : (b : Bool) (fs gs os ps : List Flow) → fs ≡ gs → os ≡ ps
+    → (IsTrue b ↔ All (λ (f : Flow). Has (map (λ (o : Flow). o.1) os) f.1) fs)
+    → IsTrue b ↔ All (λ (f : Flow). Has (map (λ (o : Flow). o.1) ps) f.1) gs
 within-at b fs gs os ps e g w =
-    subst (λ l. IsTrue b ↔ All (λ (f : Flow). Has (map (λ (o : Flow). o.1) ps) f.1) l) e (subst (λ l. IsTrue b ↔ All (λ (f : Flow). Has (map (λ (o : Flow). o.1) l) f.1) fs) g w)
+    subst (λ l. IsTrue b ↔ All (λ (f : Flow). Has (map (λ (o : Flow). o.1) ps) f.1) l) e
+    (subst (λ l. IsTrue b ↔ All (λ (f : Flow). Has (map (λ (o : Flow). o.1) l) f.1) fs) g w)
 
 module _ (d e : EdgeView) where
   abbrev pub Within : EdgeView → EdgeView → Type 0
@@ -69,15 +83,18 @@ same-successor-exact (ToRegion p) (ToRegion q) = (
   λ e. ap (λ r. ToRegion r) ((same-region-exact p q).0 (grind arith)),
   λ e. let s : p ≡ q = cc in let h = (same-region-exact p q).1 s in grind (arith, h),
 )
-same-successor-exact (ToRegion p) After = (λ e. absurd (let f : false ≡ true = e in cc), λ e. absurd (let f : ToRegion p ≡ After = e in cc))
-same-successor-exact After (ToRegion q) = (λ e. absurd (let f : false ≡ true = e in cc), λ e. absurd (let f : After ≡ ToRegion q = e in cc))
+same-successor-exact (ToRegion p) After =
+    (λ e. absurd (let f : false ≡ true = e in cc), λ e. absurd (let f : ToRegion p ≡ After = e in cc))
+same-successor-exact After (ToRegion q) =
+    (λ e. absurd (let f : false ≡ true = e in cc), λ e. absurd (let f : After ≡ ToRegion q = e in cc))
 same-successor-exact After After = (λ e. refl, λ e. refl)
 
 and-true : (b : Bool) → b ≡ (b && true)
 and-true true = refl
 and-true false = refl
 
-pub target-same : (t u : RegionSuccessor) → option_eq same_region (target_region t) (target_region u) ≡ same_successor t u
+pub target-same : (t u : RegionSuccessor)
+    → option_eq same_region (target_region t) (target_region u) ≡ same_successor t u
 target-same (ToRegion p) (ToRegion q) = and-true (same_region p q)
 target-same (ToRegion p) After = refl
 target-same After (ToRegion q) = refl
@@ -89,25 +106,32 @@ has-at (y ∷ ys) zero x e = inl (same_Some y x e)
 has-at (y ∷ ys) (suc i) x e = inr (has-at ys i x e)
 
 -- the first edges with each target
-module _ (es : List EdgeView) (n : ℕ) (head : RegionSuccessor → Option ℕ) (w : AreFirsts es n head) (e : EdgeView) (here : slice_get es n ≡ Some e) where
-  pub firsts-kept : (i : ℕ) (d : EdgeView) → head e.to ≡ Some i → slice_get es i ≡ Some d → SameReceivers d e → AreFirsts es (n + 1) head
+module _ (es : List EdgeView) (n : ℕ) (head : RegionSuccessor → Option ℕ) (w : AreFirsts es n head) (e : EdgeView)
+    (here : slice_get es n ≡ Some e) where
+  pub firsts-kept : (i : ℕ) (d : EdgeView) → head e.to ≡ Some i → slice_get es i ≡ Some d → SameReceivers d e
+      → AreFirsts es (n + 1) head
   firsts-kept i d is at same = record { seen = seen; heads = w.heads }
     where
-      seen : (j : ℕ) (x : EdgeView) → j < n + 1 → slice_get es j ≡ Some x → (k : ℕ) × ((y : EdgeView) × ((head x.to ≡ Some k) × (slice_get es k ≡ Some y) × SameReceivers y x))
+      seen : (j : ℕ) (x : EdgeView) → j < n + 1 → slice_get es j ≡ Some x
+          → (k : ℕ) × ((y : EdgeView) × ((head x.to ≡ Some k) × (slice_get es k ≡ Some y) × SameReceivers y x))
       seen j x below got = elim (cases_eq j n) [
         | inl last ↦
             let one : e ≡ x = same_Some e x (sym here ∙ ap (slice_get es) (sym last) ∙ got) in
-            subst (λ (z : EdgeView). (k : ℕ) × ((y : EdgeView) × ((head z.to ≡ Some k) × (slice_get es k ≡ Some y) × SameReceivers y z))) one (i, (d, (is, at, same)))
+            subst (λ (z : EdgeView).
+            (k : ℕ) × ((y : EdgeView) × ((head z.to ≡ Some k) × (slice_get es k ≡ Some y) × SameReceivers y z))) one
+            (i, (d, (is, at, same)))
         | inr other ↦ w.seen j x (omega arith) got
       ]
 
-  pub firsts-broken : (i : ℕ) (d : EdgeView) → head e.to ≡ Some i → slice_get es i ≡ Some d → (SameReceivers d e → ⊥) → HaveOtherReceivers es
+  pub firsts-broken : (i : ℕ) (d : EdgeView) → head e.to ≡ Some i → slice_get es i ≡ Some d → (SameReceivers d e → ⊥)
+      → HaveOtherReceivers es
   firsts-broken i d is at other =
       let r = w.heads e.to i is in
       let one : r.0 ≡ d = same_Some r.0 d (sym r.1.0 ∙ at) in
       (d, (e, (has-at es i d at, has-at es n e here, subst (λ (z : EdgeView). z.to ≡ e.to) one r.1.1, other)))
 
-  pub firsts-new : head e.to ≡ None → (now : RegionSuccessor → Option ℕ) → ((t : RegionSuccessor) → now t ≡ cond (same_successor e.to t) (Some n) (head t)) → AreFirsts es (n + 1) now
+  pub firsts-new : head e.to ≡ None → (now : RegionSuccessor → Option ℕ)
+      → ((t : RegionSuccessor) → now t ≡ cond (same_successor e.to t) (Some n) (head t)) → AreFirsts es (n + 1) now
   firsts-new absent now is = record { seen = seen; heads = heads }
     where
       own : now e.to ≡ Some n
@@ -117,15 +141,21 @@ module _ (es : List EdgeView) (n : ℕ) (head : RegionSuccessor → Option ℕ) 
       others t k at = by (same_successor e.to t) refl
         where
           by : (b : Bool) → same_successor e.to t ≡ b → now t ≡ Some k
-          by true same = absurd (let f : e.to ≡ t = (same-successor-exact e.to t).0 same in let g : None ≡ Some k = sym absent ∙ ap head f ∙ at in cc)
+          by true same =
+              absurd (let f : e.to ≡ t = (same-successor-exact e.to t).0 same in
+              let g : None ≡ Some k = sym absent ∙ ap head f ∙ at in cc)
           by false differ = is t ∙ ap (λ b. cond b (Some n) (head t)) differ ∙ at
 
-      seen : (j : ℕ) (x : EdgeView) → j < n + 1 → slice_get es j ≡ Some x → (k : ℕ) × ((y : EdgeView) × ((now x.to ≡ Some k) × (slice_get es k ≡ Some y) × SameReceivers y x))
+      seen : (j : ℕ) (x : EdgeView) → j < n + 1 → slice_get es j ≡ Some x
+          → (k : ℕ) × ((y : EdgeView) × ((now x.to ≡ Some k) × (slice_get es k ≡ Some y) × SameReceivers y x))
       seen j x below got = elim (cases_eq j n) [
         | inl last ↦
             let one : e ≡ x = same_Some e x (sym here ∙ ap (slice_get es) (sym last) ∙ got) in
-            subst (λ (z : EdgeView). (k : ℕ) × ((y : EdgeView) × ((now z.to ≡ Some k) × (slice_get es k ≡ Some y) × SameReceivers y z))) one (n, (e, (own, here, λ v. (λ h. h, λ h. h))))
-        | inr other ↦ let r = w.seen j x (omega arith) got in (r.0, (r.1.0, (others x.to r.0 r.1.1.0, r.1.1.1, r.1.1.2)))
+            subst (λ (z : EdgeView).
+            (k : ℕ) × ((y : EdgeView) × ((now z.to ≡ Some k) × (slice_get es k ≡ Some y) × SameReceivers y z))) one
+            (n, (e, (own, here, λ v. (λ h. h, λ h. h))))
+        | inr
+            other ↦ let r = w.seen j x (omega arith) got in (r.0, (r.1.0, (others x.to r.0 r.1.1.0, r.1.1.1, r.1.1.2)))
       ]
 
       heads : (t : RegionSuccessor) (i : ℕ) → now t ≡ Some i → (y : EdgeView) × ((slice_get es i ≡ Some y) × (y.to ≡ t))
@@ -143,7 +173,8 @@ at-place [] x h = absurd h
 at-place (y ∷ ys) x (inl e) = (0, (omega arith, ap (λ z. Some z) e))
 at-place (y ∷ ys) x (inr h) = let r = at-place ys x h in (suc r.0, (omega (arith, r.1.0), r.1.1))
 
-pub firsts-all : (es : List EdgeView) (n : ℕ) (head : RegionSuccessor → Option ℕ) → AreFirsts es n head → length es ≤ n → (d e : EdgeView) → Has es d → Has es e → d.to ≡ e.to → SameReceivers d e
+pub firsts-all : (es : List EdgeView) (n : ℕ) (head : RegionSuccessor → Option ℕ) → AreFirsts es n head → length es ≤ n
+    → (d e : EdgeView) → Has es d → Has es e → d.to ≡ e.to → SameReceivers d e
 firsts-all es n head w long d e hd he same v =
     let i = at-place es d hd in
     let j = at-place es e he in
@@ -156,11 +187,13 @@ firsts-all es n head w long d e hd he same v =
 
 -- faults
 module _ {K A T : Type 0} (s : ContextView K A T) (op : Ptr OperationKind) (p : RegionBranchPoint) where
-  pub no-receiver : (t : RegionSuccessor) (f : Flow) → (IsReceiver s op t f.1 → ⊥) → IsFaultOfFlow s op p t f (no_receiver t)
+  pub no-receiver : (t : RegionSuccessor) (f : Flow) → (IsReceiver s op t f.1 → ⊥)
+      → IsFaultOfFlow s op p t f (no_receiver t)
   no-receiver (ToRegion r) f n = (refl, n)
   no-receiver After f n = (refl, n)
 
-module _ {K A T : Type 0} (is_terminator : K → Bool) (s : ContextView K A T) (op : Ptr OperationKind) (e : EdgeView) (f : Flow) (here : Has e.flows f) where
+module _ {K A T : Type 0} (is_terminator : K → Bool) (s : ContextView K A T) (op : Ptr OperationKind) (e : EdgeView)
+    (f : Flow) (here : Has e.flows f) where
   pub flow-breaks : (x : EdgeFault) → IsFaultOfFlow s op e.from e.to f x → IsFaultOfEdge is_terminator s op e x
   flow-breaks OtherReceivers b = absurd b
   flow-breaks ForeignTerminator b = absurd b
@@ -172,7 +205,8 @@ module _ {K A T : Type 0} (is_terminator : K → Bool) (s : ContextView K A T) (
   flow-breaks ReceivedTwice b = absurd b
   flow-breaks (OtherType t u) b = (f, (here, b))
 
-pub edge-breaks : {K A T : Type 0} (is_terminator : K → Bool) (s : ContextView K A T) (op : Ptr OperationKind) (es : List EdgeView) (e : EdgeView) → Has es e → (x : EdgeFault) → IsFaultOfEdge is_terminator s op e x
+pub edge-breaks : {K A T : Type 0} (is_terminator : K → Bool) (s : ContextView K A T) (op : Ptr OperationKind)
+    (es : List EdgeView) (e : EdgeView) → Has es e → (x : EdgeFault) → IsFaultOfEdge is_terminator s op e x
     → IsFaultOfEdges is_terminator s op es x
 edge-breaks t s op es e here OtherReceivers b = absurd b
 edge-breaks t s op es e here ForeignTerminator b = (e, (here, b))
@@ -188,7 +222,8 @@ pub place-has : {A : Type 0} (xs : List A) (i : ℕ) (d : A) → i < length xs �
 place-has xs i d h = has-at xs i (get_or xs i d) (slice_get-get_or xs i d h)
 
 -- an element that stands before stands twice
-pub twice : {A B : Type 0} (g : A → B) (xs : List A) (i : ℕ) (d : A) → i < length xs → Has (map g (take i xs)) (g (get_or xs i d)) → Distinct (map g xs) → ⊥
+pub twice : {A B : Type 0} (g : A → B) (xs : List A) (i : ℕ) (d : A) → i < length xs
+    → Has (map g (take i xs)) (g (get_or xs i d)) → Distinct (map g xs) → ⊥
 twice g [] i d h k w = omega arith
 twice g (x ∷ xs) zero d h k w = k
 twice {A} {B} g (x ∷ xs) (suc i) d h k w = elim k [
@@ -202,32 +237,43 @@ twice {A} {B} g (x ∷ xs) (suc i) d h k w = elim k [
     mapped (y ∷ ys) (suc j) b = inr (mapped ys j (omega arith))
 
 module _ {K A T : Type 0} (is_terminator : K → Bool) (s : ContextView K A T) (op : Ptr OperationKind) where
-  pub edge-reported : (es : List EdgeView) (e : EdgeView) (r : Option EdgeFault) → Has es e → IsEdgeVerdict is_terminator s op e r → IfSome r (IsFaultOfEdges is_terminator s op es)
+  pub edge-reported : (es : List EdgeView) (e : EdgeView) (r : Option EdgeFault) → Has es e
+      → IsEdgeVerdict is_terminator s op e r → IfSome r (IsFaultOfEdges is_terminator s op es)
   edge-reported es e None here reported = tt
   edge-reported es e (Some x) here reported = edge-breaks is_terminator s op es e here x reported
 
-  module _ (x e : EdgeView) (v : x ≡ e) (gs : List Flow) (g : gs ≡ x.flows) (i : ℕ) (d : Flow) (received now : List Value) (below : i < length gs) where
+  module _ (x e : EdgeView) (v : x ≡ e) (gs : List Flow) (g : gs ≡ x.flows) (i : ℕ) (d : Flow)
+      (received now : List Value) (below : i < length gs) where
     abbrev Names : List Flow → List Value
     Names fs = map (λ (f : Flow). f.1) fs
 
-    stop : (r : Option EdgeFault) → received ≡ Names (take i x.flows) → IsFlowVerdict s op x.from x.to (get_or x.flows i d) received now r → i < length x.flows → is_some r ≡ true → IsFlowsVerdict is_terminator s op x r
+    stop : (r : Option EdgeFault) → received ≡ Names (take i x.flows)
+        → IsFlowVerdict s op x.from x.to (get_or x.flows i d) received now r → i < length x.flows → is_some r ≡ true
+        → IsFlowsVerdict is_terminator s op x r
     stop None is reported within some = absurd (let f : false ≡ true = some in cc)
-    stop (Some y) is (inl broken) within some = flow-breaks is_terminator s op x (get_or x.flows i d) (place-has x.flows i d within) y broken
+    stop (Some y) is (inl broken) within some =
+        flow-breaks is_terminator s op x (get_or x.flows i d) (place-has x.flows i d within) y broken
     stop (Some y) is (inr (e, h)) within some =
-        subst (λ z. IsFaultOfEdge is_terminator s op x z) (sym e) (twice (λ (f : Flow). f.1) x.flows i d within (subst (λ l. Has l (get_or x.flows i d).1) is h))
+        subst (λ z. IsFaultOfEdge is_terminator s op x z) (sym e)
+        (twice (λ (f : Flow). f.1) x.flows i d within (subst (λ l. Has l (get_or x.flows i d).1) is h))
 
     inside : i < length x.flows
     inside = subst (λ l. i < length l) g below
 
-    pub flows-stop : (r : Option EdgeFault) → received ≡ Names (take i e.flows) → IsFlowVerdict s op x.from x.to (get_or gs i d) received now r → is_some r ≡ true → IsFlowsVerdict is_terminator s op e r
+    pub flows-stop : (r : Option EdgeFault) → received ≡ Names (take i e.flows)
+        → IsFlowVerdict s op x.from x.to (get_or gs i d) received now r → is_some r ≡ true
+        → IsFlowsVerdict is_terminator s op e r
     flows-stop r is reported some =
         subst (λ (z : EdgeView). IsFlowsVerdict is_terminator s op z r) v
-        (stop r (is ∙ ap (λ (z : EdgeView). Names (take i z.flows)) (sym v)) (subst (λ l. IsFlowVerdict s op x.from x.to (get_or l i d) received now r) g reported) inside some)
+        (stop r (is ∙ ap (λ (z : EdgeView). Names (take i z.flows)) (sym v))
+        (subst (λ l. IsFlowVerdict s op x.from x.to (get_or l i d) received now r) g reported) inside some)
 
     abbrev Goes : EdgeView → Type 0
-    Goes z = (now ≡ Names (take (i + 1) z.flows)) × All (IsFlowRight s op z.from z.to) (take (i + 1) z.flows) × Distinct now
+    Goes z =
+        (now ≡ Names (take (i + 1) z.flows)) × All (IsFlowRight s op z.from z.to) (take (i + 1) z.flows) × Distinct now
 
-    go : (r : Option EdgeFault) → received ≡ Names (take i x.flows) → All (IsFlowRight s op x.from x.to) (take i x.flows) → Distinct received
+    go : (r : Option EdgeFault) → received ≡ Names (take i x.flows)
+        → All (IsFlowRight s op x.from x.to) (take i x.flows) → Distinct received
         → IsFlowVerdict s op x.from x.to (get_or x.flows i d) received now r → is_some r ≡ false → Goes x
     go (Some y) is all once reported none = absurd (let f : true ≡ false = none in cc)
     go None is all once (right, fresh, grown) none = (
@@ -236,13 +282,16 @@ module _ {K A T : Type 0} (is_terminator : K → Bool) (s : ContextView K A T) (
       subst Distinct (sym grown) (distinct-push received (get_or x.flows i d).1 once fresh),
     )
 
-    pub flows-go : (r : Option EdgeFault) → received ≡ Names (take i e.flows) → All (IsFlowRight s op e.from e.to) (take i e.flows) → Distinct received
+    pub flows-go : (r : Option EdgeFault) → received ≡ Names (take i e.flows)
+        → All (IsFlowRight s op e.from e.to) (take i e.flows) → Distinct received
         → IsFlowVerdict s op x.from x.to (get_or gs i d) received now r → is_some r ≡ false → Goes e
     flows-go r is all once reported none =
-        subst Goes v (go r (is ∙ ap (λ (z : EdgeView). Names (take i z.flows)) (sym v)) (subst (λ (z : EdgeView). All (IsFlowRight s op z.from z.to) (take i z.flows)) (sym v) all) once
+        subst Goes v (go r (is ∙ ap (λ (z : EdgeView). Names (take i z.flows)) (sym v))
+        (subst (λ (z : EdgeView). All (IsFlowRight s op z.from z.to) (take i z.flows)) (sym v) all) once
         (subst (λ l. IsFlowVerdict s op x.from x.to (get_or l i d) received now r) g reported) none)
 
-pub firsts-none : (es : List EdgeView) (head : RegionSuccessor → Option ℕ) → ((t : RegionSuccessor) → head t ≡ None) → AreFirsts es 0 head
+pub firsts-none : (es : List EdgeView) (head : RegionSuccessor → Option ℕ) → ((t : RegionSuccessor) → head t ≡ None)
+    → AreFirsts es 0 head
 firsts-none es head empty = record {
   seen = λ j d h. absurd (omega arith);
   heads = λ t i at. absurd (let f : None ≡ Some i = sym (empty t) ∙ at in cc);

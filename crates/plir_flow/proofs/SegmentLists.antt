@@ -1,8 +1,11 @@
 -- Lists in segments: what edits of one segment do to the flattening and to the sizes.
-use Rattle.std.proofs.Common.{◌≡◌, ◌≢◌, ℕ, zero, suc, ◌+◌, ◌-◌, ◌<◌, ◌≤◌, List, [], ◌∷◌, ◌++◌, length, map, take, drop, sum, Some, refl, sym, ap, ◌∙◌, arith}
+use Rattle.std.proofs.Common.{◌≡◌, ◌≢◌, ℕ, zero, suc, ◌+◌, ◌-◌, ◌<◌, ◌≤◌, List, [], ◌∷◌, ◌++◌, length, map, take, drop}
+use Rattle.std.proofs.Common.{sum, Some, refl, sym, ap, ◌∙◌, arith}
 use Rattle.std.specs.Prelude.{insert, remove, slice_get, slice_set, slice_index_or, slice_range}
-use Rattle.std.proofs.lemmas.List.{nil_from_length, take-append-drop, length-take-le, length-drop, take_at, drop_at, drop-drop, append-nil, drop_all, length_push}
-use Rattle.std.proofs.lemmas.List.Edits.{insert-append_left, insert-append_right, remove-append_left, remove-append_right, insert_end}
+use Rattle.std.proofs.lemmas.List.{nil_from_length, take-append-drop, length-take-le, length-drop, take_at, drop_at}
+use Rattle.std.proofs.lemmas.List.{drop-drop, append-nil, drop_all, length_push}
+use Rattle.std.proofs.lemmas.List.Edits.{insert-append_left, insert-append_right, remove-append_left}
+use Rattle.std.proofs.lemmas.List.Edits.{remove-append_right, insert_end}
 use Rattle.std.proofs.lemmas.List.Sums.{sum_by-cons}
 use Rattle.plir_flow.specs.Segments.{in_segments, flatten, segment_at, edit_at, start_in}
 
@@ -34,13 +37,15 @@ module _ {V : Type 0} where
   sizes-in (n ∷ ns) vs le =
       let whole : n ≤ length vs = omega (arith, sum-cons n ns) in
       let rest : sum ns ≤ length (drop n vs) = omega (arith, sum-cons n ns, length-drop n vs) in
-      ap (λ z. z ∷ map length (in_segments ns (drop n vs))) (length-take-le n vs whole) ∙ ap (λ z. n ∷ z) (sizes-in ns (drop n vs) rest)
+      ap (λ z. z ∷ map length (in_segments ns (drop n vs))) (length-take-le n vs whole)
+      ∙ ap (λ z. n ∷ z) (sizes-in ns (drop n vs) rest)
 
   -- what is flattened comes back by its sizes
   pub in-flatten : (segs : List (List V)) → in_segments (map length segs) (flatten segs) ≡ segs
   in-flatten [] = refl
   in-flatten (seg ∷ segs) =
-      ap (λ z. z ∷ in_segments (map length segs) (drop (length seg) (seg ++ flatten segs))) (take_at seg (flatten segs) (length seg) refl)
+      ap (λ z. z ∷ in_segments (map length segs) (drop (length seg) (seg ++ flatten segs)))
+      (take_at seg (flatten segs) (length seg) refl)
       ∙ ap (λ z. seg ∷ in_segments (map length segs) z) (drop_at seg (flatten segs) (length seg) refl)
       ∙ ap (λ z. seg ∷ z) (in-flatten segs)
 
@@ -50,7 +55,8 @@ module _ {V : Type 0} where
   size-at (seg ∷ segs) zero = refl
   size-at (seg ∷ segs) (suc i) = size-at segs i
 
-  start-next : (seg : List V) (segs : List (List V)) (i : ℕ) → start_in (map length (seg ∷ segs)) (suc i) ≡ length seg + start_in (map length segs) i
+  start-next : (seg : List V) (segs : List (List V)) (i : ℕ)
+      → start_in (map length (seg ∷ segs)) (suc i) ≡ length seg + start_in (map length segs) i
   start-next seg segs i = sum-cons (length seg) (take i (map length segs))
 
   pub flatten-insert : (i k : ℕ) (v : V) (segs : List (List V)) → i < length segs → k ≤ length (segment_at segs i)
@@ -61,10 +67,12 @@ module _ {V : Type 0} where
       sym (insert-append_left seg (flatten segs) k v within) ∙ ap (λ z. insert (seg ++ flatten segs) z v) (sym at)
   flatten-insert (suc i) k v (seg ∷ segs) below within =
       let rest : i < length segs = omega arith in
-      let at : start_in (map length (seg ∷ segs)) (suc i) + k - length seg ≡ start_in (map length segs) i + k = omega (arith, start-next seg segs i) in
+      let at : start_in (map length (seg ∷ segs)) (suc i) + k - length seg ≡ start_in (map length segs) i + k =
+      omega (arith, start-next seg segs i) in
       let past : length seg ≤ start_in (map length (seg ∷ segs)) (suc i) + k = omega (arith, start-next seg segs i) in
       ap (λ z. seg ++ z) (flatten-insert i k v segs rest within ∙ ap (λ z. insert (flatten segs) z v) (sym at))
-      ∙ sym (insert-append_right seg (flatten segs) (length seg) (start_in (map length (seg ∷ segs)) (suc i) + k) v refl past)
+      ∙ sym (insert-append_right seg (flatten segs) (length seg) (start_in (map length (seg ∷ segs)) (suc i) + k) v refl
+      past)
 
   pub flatten-remove : (i k : ℕ) (segs : List (List V)) → i < length segs → k < length (segment_at segs i)
       → flatten (edit_at i (λ xs. remove xs k) segs) ≡ remove (flatten segs) (start_in (map length segs) i + k)
@@ -74,12 +82,15 @@ module _ {V : Type 0} where
       sym (remove-append_left seg (flatten segs) k within) ∙ ap (λ z. remove (seg ++ flatten segs) z) (sym at)
   flatten-remove (suc i) k (seg ∷ segs) below within =
       let rest : i < length segs = omega arith in
-      let at : start_in (map length (seg ∷ segs)) (suc i) + k - length seg ≡ start_in (map length segs) i + k = omega (arith, start-next seg segs i) in
+      let at : start_in (map length (seg ∷ segs)) (suc i) + k - length seg ≡ start_in (map length segs) i + k =
+      omega (arith, start-next seg segs i) in
       let past : length seg ≤ start_in (map length (seg ∷ segs)) (suc i) + k = omega (arith, start-next seg segs i) in
       ap (λ z. seg ++ z) (flatten-remove i k segs rest within ∙ ap (λ z. remove (flatten segs) z) (sym at))
-      ∙ sym (remove-append_right seg (flatten segs) (length seg) (start_in (map length (seg ∷ segs)) (suc i) + k) refl past)
+      ∙ sym (remove-append_right seg (flatten segs) (length seg) (start_in (map length (seg ∷ segs)) (suc i) + k) refl
+      past)
 
-  pub sizes-edit : (i : ℕ) (f : List V → List V) (segs : List (List V)) → map length (edit_at i f segs) ≡ slice_set (map length segs) i (length (f (segment_at segs i)))
+  pub sizes-edit : (i : ℕ) (f : List V → List V) (segs : List (List V))
+      → map length (edit_at i f segs) ≡ slice_set (map length segs) i (length (f (segment_at segs i)))
   sizes-edit i f [] = refl
   sizes-edit zero f (seg ∷ segs) = refl
   sizes-edit (suc i) f (seg ∷ segs) = ap (λ z. length seg ∷ z) (sizes-edit i f segs)
@@ -90,14 +101,17 @@ module _ {V : Type 0} where
   count-edit (suc i) f (seg ∷ segs) = ap suc (count-edit i f segs)
 
   -- where two edits do the same
-  pub edit-same : (i : ℕ) (f g : List V → List V) (segs : List (List V)) → f (segment_at segs i) ≡ g (segment_at segs i) → edit_at i f segs ≡ edit_at i g segs
+  pub edit-same : (i : ℕ) (f g : List V → List V) (segs : List (List V)) → f (segment_at segs i) ≡ g (segment_at segs i)
+      → edit_at i f segs ≡ edit_at i g segs
   edit-same i f g [] e = refl
   edit-same zero f g (seg ∷ segs) e = ap (λ z. z ∷ segs) e
   edit-same (suc i) f g (seg ∷ segs) e = ap (λ z. seg ∷ z) (edit-same i f g segs e)
 
   slice_get-append : (xs ys : List V) (k : ℕ) → slice_get (xs ++ ys) (length xs + k) ≡ slice_get ys k
   slice_get-append [] ys k = let e : 0 + k ≡ k = omega arith in ap (slice_get ys) e
-  slice_get-append (x ∷ xs) ys k = let e : suc (length xs) + k ≡ suc (length xs + k) = omega arith in ap (slice_get (x ∷ (xs ++ ys))) e ∙ slice_get-append xs ys k
+  slice_get-append (x ∷ xs) ys k =
+      let e : suc (length xs) + k ≡ suc (length xs + k) = omega arith in
+      ap (slice_get (x ∷ (xs ++ ys))) e ∙ slice_get-append xs ys k
 
   slice_get-front : (xs ys : List V) (k : ℕ) → k < length xs → slice_get (xs ++ ys) k ≡ slice_get xs k
   slice_get-front [] ys k le = absurd (omega arith)
@@ -113,11 +127,14 @@ module _ {V : Type 0} where
       ap (slice_get (seg ++ flatten segs)) at ∙ slice_get-front seg (flatten segs) k within
   value-at (suc i) k (seg ∷ segs) below within =
       let rest : i < length segs = omega arith in
-      let at : start_in (map length (seg ∷ segs)) (suc i) + k ≡ length seg + (start_in (map length segs) i + k) = omega (arith, start-next seg segs i) in
-      ap (slice_get (seg ++ flatten segs)) at ∙ slice_get-append seg (flatten segs) (start_in (map length segs) i + k) ∙ value-at i k segs rest within
+      let at : start_in (map length (seg ∷ segs)) (suc i) + k ≡ length seg + (start_in (map length segs) i + k) =
+      omega (arith, start-next seg segs i) in
+      ap (slice_get (seg ++ flatten segs)) at ∙ slice_get-append seg (flatten segs) (start_in (map length segs) i + k)
+      ∙ value-at i k segs rest within
 
   -- a segment stands in a row
-  pub segment-range : (ns : List ℕ) (i : ℕ) (vs : List V) → segment_at (in_segments ns vs) i ≡ slice_range vs (start_in ns i) (start_in ns i + slice_index_or ns i 0)
+  pub segment-range : (ns : List ℕ) (i : ℕ) (vs : List V)
+      → segment_at (in_segments ns vs) i ≡ slice_range vs (start_in ns i) (start_in ns i + slice_index_or ns i 0)
   segment-range [] zero vs = refl
   segment-range [] (suc i) vs = refl
   segment-range (n ∷ ns) zero vs = let e : 0 + n - 0 ≡ n = omega arith in ap (λ m. take m vs) (sym e)
@@ -144,12 +161,14 @@ module _ {V : Type 0} where
       ∙ ap (λ z. take (z - 1) xs) e
 
   -- an edit of one segment changes that one, and no other
-  pub edit-here : (i : ℕ) (f : List V → List V) (segs : List (List V)) → i < length segs → segment_at (edit_at i f segs) i ≡ f (segment_at segs i)
+  pub edit-here : (i : ℕ) (f : List V → List V) (segs : List (List V)) → i < length segs
+      → segment_at (edit_at i f segs) i ≡ f (segment_at segs i)
   edit-here i f [] below = absurd (omega arith)
   edit-here zero f (seg ∷ segs) below = refl
   edit-here (suc i) f (seg ∷ segs) below = edit-here i f segs (omega arith)
 
-  pub edit-others : (i j : ℕ) (f : List V → List V) (segs : List (List V)) → j ≢ i → segment_at (edit_at i f segs) j ≡ segment_at segs j
+  pub edit-others : (i j : ℕ) (f : List V → List V) (segs : List (List V)) → j ≢ i
+      → segment_at (edit_at i f segs) j ≡ segment_at segs j
   edit-others i j f [] other = refl
   edit-others zero zero f (seg ∷ segs) other = absurd (other refl)
   edit-others zero (suc j) f (seg ∷ segs) other = refl
@@ -162,7 +181,8 @@ module _ {V : Type 0} where
       let n : length (xs ++ v ∷ []) - 1 ≡ length xs = omega (arith, length_push xs v) in
       ap (λ k. take k (xs ++ v ∷ [])) n ∙ take_at xs (v ∷ []) (length xs) refl
 
-  pub edit-taken : (i : ℕ) (v : V) (segs : List (List V)) → edit_at i (λ xs. take (length xs - 1) xs) (edit_at i (λ xs. xs ++ v ∷ []) segs) ≡ segs
+  pub edit-taken : (i : ℕ) (v : V) (segs : List (List V))
+      → edit_at i (λ xs. take (length xs - 1) xs) (edit_at i (λ xs. xs ++ v ∷ []) segs) ≡ segs
   edit-taken i v [] = refl
   edit-taken zero v (seg ∷ segs) = ap (λ z. z ∷ segs) (put-taken seg v)
   edit-taken (suc i) v (seg ∷ segs) = ap (λ z. seg ∷ z) (edit-taken i v segs)

@@ -1,5 +1,6 @@
 -- Lists that are taken from other lists: what one more element makes of them.
-use Rattle.std.proofs.Common.{◌≡◌, ◌↔◌, ℕ, zero, suc, ◌+◌, ◌<◌, ◌≤◌, Bool, true, false, not, cond, List, [], ◌∷◌, ◌++◌, length, take, map, get_or, append_assoc, ◌⊎◌, inl, inr, refl, sym, ap, subst, ◌∙◌, arith}
+use Rattle.std.proofs.Common.{◌≡◌, ◌↔◌, ℕ, zero, suc, ◌+◌, ◌<◌, ◌≤◌, Bool, true, false, not, cond, List, [], ◌∷◌, ◌++◌}
+use Rattle.std.proofs.Common.{length, take, map, get_or, append_assoc, ◌⊎◌, inl, inr, refl, sym, ap, subst, ◌∙◌, arith}
 use Rattle.std.specs.Prelude.{All, IsTrue}
 use Rattle.std.specs.Bool.{Decides}
 use Rattle.std.specs.List.{list_any, items_where_true, flat_map}
@@ -19,18 +20,23 @@ module _ {A : Type 0} where
   has-last xs x = Has-append_right xs (x ∷ []) x (inl refl)
 
   pub has-more : (xs : List A) (y x : A) → Has (xs ++ y ∷ []) x → Has xs x ⊎ (y ≡ x)
-  has-more xs y x h = elim (Has-append_cases xs (y ∷ []) x h) [ inl a ↦ inl a | inr b ↦ elim b [ inl e ↦ inr e | inr n ↦ absurd n ] ]
+  has-more xs y x h =
+      elim (Has-append_cases xs (y ∷ []) x h) [ inl a ↦ inl a | inr b ↦ elim b [ inl e ↦ inr e | inr n ↦ absurd n ] ]
 
   pub distinct-push : (ys : List A) (x : A) → Distinct ys → (Has ys x → ⊥) → Distinct (ys ++ x ∷ [])
   distinct-push [] x d n = (λ h. h, tt)
-  distinct-push (y ∷ ys) x d n =
-      (λ h. elim (has-more ys x y h) [ inl a ↦ d.0 a | inr e ↦ n (inl (sym e)) ], distinct-push ys x d.1 (λ h. n (inr h)))
+  distinct-push (y ∷ ys) x d n = (
+    λ h. elim (has-more ys x y h) [ inl a ↦ d.0 a | inr e ↦ n (inl (sym e)) ],
+    distinct-push ys x d.1 (λ h. n (inr h)),
+  )
 
-  pub one-more : (xs : List A) (i : ℕ) (x : A) → i < length xs → x ≡ get_or xs i x → take i xs ++ x ∷ [] ≡ take (i + 1) xs
+  pub one-more : (xs : List A) (i : ℕ) (x : A) → i < length xs → x ≡ get_or xs i x
+      → take i xs ++ x ∷ [] ≡ take (i + 1) xs
   one-more xs i x h e = ap (λ y. take i xs ++ y ∷ []) e ∙ sym (take_more xs i x h)
 
   -- one element more of a list that is gone over
-  pub grown : (us xs : List A) (i : ℕ) (x : A) → i < length xs → x ≡ get_or xs i x → (us ++ take i xs) ++ x ∷ [] ≡ us ++ take (i + 1) xs
+  pub grown : (us xs : List A) (i : ℕ) (x : A) → i < length xs → x ≡ get_or xs i x
+      → (us ++ take i xs) ++ x ∷ [] ≡ us ++ take (i + 1) xs
   grown us xs i x h e = append_assoc us (take i xs) (x ∷ []) ∙ ap (λ l. us ++ l) (one-more xs i x h e)
 
   -- what holds of each element
@@ -44,8 +50,10 @@ module _ {A : Type 0} where
   each-from-has P (y ∷ ys) f = All-cons P y ys (f y (inl refl)) (each-from-has P ys (λ x h. f x (inr h)))
 
   -- those that a closure kept, which answers whether P holds
-  module _ {F : Type 0} (P : A → Type 0) (R : F → A → Bool → F → Type 0) (p : F) (says : (x : A) (b : Bool) (q : F) → R p x b q → (IsTrue b ↔ P x) × (q ≡ p)) where
-    those-true : (bs : List Bool) (xs : List A) (q r : F) → q ≡ p → length bs ≡ length xs → ReturnsInTurn R q bs xs r → AreThose P xs (items_where_true bs xs)
+  module _ {F : Type 0} (P : A → Type 0) (R : F → A → Bool → F → Type 0) (p : F)
+      (says : (x : A) (b : Bool) (q : F) → R p x b q → (IsTrue b ↔ P x) × (q ≡ p)) where
+    those-true : (bs : List Bool) (xs : List A) (q r : F) → q ≡ p → length bs ≡ length xs → ReturnsInTurn R q bs xs r
+        → AreThose P xs (items_where_true bs xs)
     those-true [] [] q r e n t = refl
     those-true [] (x ∷ xs) q r e n t = absurd (omega arith)
     those-true (b ∷ bs) [] q r e n t = absurd t
@@ -53,7 +61,8 @@ module _ {A : Type 0} where
         let s : (IsTrue b ↔ P x) × (j ≡ p) = says x b j (subst (λ f. R f x b j) e h) in
         by b s.0 (those-true bs xs j r s.1 (omega arith) t)
       where
-        by : (v : Bool) → (IsTrue v ↔ P x) → AreThose P xs (items_where_true bs xs) → AreThose P (x ∷ xs) (items_where_true (v ∷ bs) (x ∷ xs))
+        by : (v : Bool) → (IsTrue v ↔ P x) → AreThose P xs (items_where_true bs xs)
+            → AreThose P (x ∷ xs) (items_where_true (v ∷ bs) (x ∷ xs))
         by true s w = inl (s.0 refl, (items_where_true bs xs, (refl, w)))
         by false s w = inr (λ y. let g : false ≡ true = s.1 y in cc, w)
 
@@ -61,9 +70,11 @@ module _ {A : Type 0} where
     those-retained xs ys f = subst (AreThose P xs) (sym f.4) (those-true f.0 xs p f.1 refl f.2 f.3)
 
   -- those of more elements
-  pub those-yes : (P : A → Type 0) (xs ys : List A) (x : A) → AreThose P xs ys → P x → AreThose P (xs ++ x ∷ []) (ys ++ x ∷ [])
+  pub those-yes : (P : A → Type 0) (xs ys : List A) (x : A) → AreThose P xs ys → P x
+      → AreThose P (xs ++ x ∷ []) (ys ++ x ∷ [])
   those-yes P [] ys x e p = inl (p, ([], (ap (λ l. l ++ x ∷ []) e, refl)))
-  those-yes P (z ∷ xs) ys x (inl (q, (zs, (e, r)))) p = inl (q, (zs ++ x ∷ [], (ap (λ l. l ++ x ∷ []) e, those-yes P xs zs x r p)))
+  those-yes P (z ∷ xs) ys x (inl (q, (zs, (e, r)))) p =
+      inl (q, (zs ++ x ∷ [], (ap (λ l. l ++ x ∷ []) e, those-yes P xs zs x r p)))
   those-yes P (z ∷ xs) ys x (inr (n, r)) p = inr (n, those-yes P xs ys x r p)
 
   pub those-no : (P : A → Type 0) (xs ys : List A) (x : A) → AreThose P xs ys → (P x → ⊥) → AreThose P (xs ++ x ∷ []) ys
@@ -75,14 +86,18 @@ module _ {A : Type 0} where
   pub those-has : (P : A → Type 0) (xs ys : List A) (x : A) → AreThose P xs ys → Has ys x → Has xs x × P x
   those-has P [] ys x e h = absurd (subst (λ l. Has l x) e h)
   those-has P (z ∷ xs) ys x (inl (q, (zs, (e, r)))) h =
-      elim (subst (λ l. Has l x) e h) [ inl i ↦ (inl i, subst P i q) | inr j ↦ let k = those-has P xs zs x r j in (inr k.0, k.1) ]
+      elim (subst (λ l. Has l x) e h) [
+        | inl i ↦ (inl i, subst P i q)
+        | inr j ↦ let k = those-has P xs zs x r j in (inr k.0, k.1)
+      ]
   those-has P (z ∷ xs) ys x (inr (n, r)) h = let k = those-has P xs ys x r h in (inr k.0, k.1)
 
   pub those-all : (P : A → Type 0) (xs ys : List A) (x : A) → AreThose P xs ys → Has xs x → P x → Has ys x
   those-all P [] ys x e h p = absurd h
   those-all P (z ∷ xs) ys x (inl (q, (zs, (e, r)))) h p =
       subst (λ l. Has l x) (sym e) (elim h [ inl i ↦ inl i | inr j ↦ inr (those-all P xs zs x r j p) ])
-  those-all P (z ∷ xs) ys x (inr (n, r)) h p = elim h [ inl i ↦ absurd (n (subst P (sym i) p)) | inr j ↦ those-all P xs ys x r j p ]
+  those-all P (z ∷ xs) ys x (inr (n, r)) h p =
+      elim h [ inl i ↦ absurd (n (subst P (sym i) p)) | inr j ↦ those-all P xs ys x r j p ]
 
   -- no element
   pub once-none : IsOnceEach {A = A} [] []
@@ -100,7 +115,8 @@ module _ {A : Type 0} where
         no : false ≡ true → ⊥
         no e = cc
     any-has x (y ∷ ys) =
-        Decides-or (eq x y) (list_any (eq x) ys) (Decides-like (eq x y) (λ e. sym e) (λ e. sym e) (exact x y)) (any-has x ys)
+        Decides-or (eq x y) (list_any (eq x) ys) (Decides-like (eq x y) (λ e. sym e) (λ e. sym e) (exact x y))
+        (any-has x ys)
 
     pub any-is : (x : A) (ys : List A) → Decides (list_any (λ y. eq y x) ys) (Has ys x)
     any-is x [] = (λ e. absurd (let f : false ≡ true = e in cc), λ h. absurd h)
@@ -108,7 +124,9 @@ module _ {A : Type 0} where
 
     -- what an insertion says of whether the element is new
     pub fresh-says : (x : A) (ys : List A) (b : Bool) → b ≡ not (list_any (eq x) ys) → b ≡ true → Has ys x → ⊥
-    fresh-says x ys b e t h = let y : list_any (eq x) ys ≡ true = (any-has x ys).1 h in let n : b ≡ not true = e ∙ ap not y in let f : false ≡ true = sym n ∙ t in cc
+    fresh-says x ys b e t h =
+        let y : list_any (eq x) ys ≡ true = (any-has x ys).1 h in let n : b ≡ not true = e ∙ ap not y in
+        let f : false ≡ true = sym n ∙ t in cc
 
     pub twice-says : (x : A) (ys : List A) (b : Bool) → b ≡ not (list_any (eq x) ys) → b ≡ false → Has ys x
     twice-says x ys b e f = by (list_any (eq x) ys) refl
@@ -129,16 +147,30 @@ module _ {A : Type 0} where
 
         new : (y : A) → Has (ys ++ x ∷ []) y ↔ Has (xs ++ x ∷ []) y
         new y = (
-          λ k. elim (has-more ys x y k) [ inl a ↦ Has-append_left xs (x ∷ []) y ((w.same y).0 a) | inr e ↦ subst (Has (xs ++ x ∷ [])) e (has-last xs x) ],
-          λ k. elim (has-more xs x y k) [ inl a ↦ Has-append_left ys (x ∷ []) y ((w.same y).1 a) | inr e ↦ subst (Has (ys ++ x ∷ [])) e (has-last ys x) ],
+          λ k. elim (has-more ys x y k) [
+            | inl a ↦ Has-append_left xs (x ∷ []) y ((w.same y).0 a)
+            | inr e ↦ subst (Has (xs ++ x ∷ [])) e (has-last xs x)
+          ],
+          λ k. elim (has-more xs x y k) [
+            | inl a ↦ Has-append_left ys (x ∷ []) y ((w.same y).1 a)
+            | inr e ↦ subst (Has (ys ++ x ∷ [])) e (has-last ys x)
+          ],
         )
 
         -- what stands in a beginning of xs with x behind it, by what stands in one of xs
-        upto : (zs : List A) → length ys ≤ length zs → ((m : ℕ) → m ≤ length ys → take m zs ≡ take m ys) → ((y : A) → Has zs y ↔ Has (xs ++ x ∷ []) y)
+        upto : (zs : List A) → length ys ≤ length zs → ((m : ℕ) → m ≤ length ys → take m zs ≡ take m ys)
+            → ((y : A) → Has zs y ↔ Has (xs ++ x ∷ []) y)
             → (n : ℕ) → (m : ℕ) × ((m ≤ length zs) × ((y : A) → Has (take m zs) y ↔ Has (take n (xs ++ x ∷ [])) y))
         upto zs long begins all n = elim (cases_lt (length xs) n) [
-          | inr h ↦ let o = w.order n in (o.0, (omega (arith, o.1.0), λ y. rw (begins o.0 o.1.0, take-append-le n xs (x ∷ []) h) (o.1.1 y)))
-          | inl h ↦ (length zs, (omega arith, λ y. rw (take-length zs, take_all n (xs ++ x ∷ []) (omega (arith, length-append xs (x ∷ [])))) (all y)))
+          | inr h ↦ let o = w.order n in
+              (o.0, (omega (arith, o.1.0), λ y. rw (begins o.0 o.1.0, take-append-le n xs (x ∷ []) h) (o.1.1 y)))
+          | inl h ↦ (
+            length zs,
+            (
+              omega arith,
+              λ y. rw (take-length zs, take_all n (xs ++ x ∷ []) (omega (arith, length-append xs (x ∷ [])))) (all y),
+            ),
+          )
         ]
 
         by : (b : Bool) → list_any (eq x) ys ≡ b → IsOnceEach (xs ++ x ∷ []) (cond b ys (ys ++ x ∷ []))
@@ -150,10 +182,13 @@ module _ {A : Type 0} where
         by false e = record {
           once = distinct-push ys x w.once (λ h. let t : list_any (eq x) ys ≡ true = (any-has x ys).1 h in cc);
           same = new;
-          order = upto (ys ++ x ∷ []) (omega (arith, length-append ys (x ∷ []))) (λ m h. take-append-le m ys (x ∷ []) h) new;
+          order =
+              upto (ys ++ x ∷ []) (omega (arith, length-append ys (x ∷ []))) (λ m h. take-append-le m ys (x ∷ []) h)
+              new;
         }
 
-pub last-says : {A : Type 0} (eq : A → A → Bool) (x : A) (ys zs : List A) (b : Bool) → b ≡ not (list_any (eq x) ys) → zs ≡ insert_key eq ys x → b ≡ true → zs ≡ ys ++ x ∷ []
+pub last-says : {A : Type 0} (eq : A → A → Bool) (x : A) (ys zs : List A) (b : Bool) → b ≡ not (list_any (eq x) ys)
+    → zs ≡ insert_key eq ys x → b ≡ true → zs ≡ ys ++ x ∷ []
 last-says eq x ys zs b e is t = by (list_any (eq x) ys) refl
   where
     by : (v : Bool) → list_any (eq x) ys ≡ v → zs ≡ ys ++ x ∷ []
@@ -161,31 +196,44 @@ last-says eq x ys zs b e is t = by (list_any (eq x) ys) refl
     by false w = is ∙ ap (λ v. cond v ys (ys ++ x ∷ [])) w
 
 -- what stands on one element more
-pub joined-more : {A B : Type 0} (f : A → List B) (us : List B) (xs : List A) (i : ℕ) (x : A) → i < length xs → x ≡ get_or xs i x
+pub joined-more : {A B : Type 0} (f : A → List B) (us : List B) (xs : List A) (i : ℕ) (x : A) → i < length xs
+    → x ≡ get_or xs i x
     → (us ++ flat_map f (take i xs)) ++ f x ≡ us ++ flat_map f (take (i + 1) xs)
 joined-more f us xs i x h e = flat_map_more f us (take i xs) x ∙ ap (λ l. us ++ flat_map f l) (one-more xs i x h e)
 
-pub mapped-more : {A B : Type 0} (f : A → B) (us : List B) (xs : List A) (i : ℕ) (x : A) → i < length xs → x ≡ get_or xs i x
+pub mapped-more : {A B : Type 0} (f : A → B) (us : List B) (xs : List A) (i : ℕ) (x : A) → i < length xs
+    → x ≡ get_or xs i x
     → (us ++ map f (take i xs)) ++ f x ∷ [] ≡ us ++ map f (take (i + 1) xs)
-mapped-more f us xs i x h e = append_assoc us (map f (take i xs)) (f x ∷ []) ∙ ap (λ l. us ++ l) (sym (map-append f (take i xs) (x ∷ []))) ∙ ap (λ l. us ++ map f l) (one-more xs i x h e)
+mapped-more f us xs i x h e =
+    append_assoc us (map f (take i xs)) (f x ∷ []) ∙ ap (λ l. us ++ l) (sym (map-append f (take i xs) (x ∷ [])))
+    ∙ ap (λ l. us ++ map f l) (one-more xs i x h e)
 
 -- what is taken of one element more
-module _ {A B : Type 0} (P : A → Type 0) (f : A → List B) (xs : List A) (i : ℕ) (x : A) (h : i < length xs) (e : x ≡ get_or xs i x) where
-  pub taken-yes : (ys zs : List B) → AreTakenOnce P f (take i xs) ys → P x → ((us : List B) → IsOnceEach us ys → IsOnceEach (us ++ f x) zs) → AreTakenOnce P f (take (i + 1) xs) zs
+module _ {A B : Type 0} (P : A → Type 0) (f : A → List B) (xs : List A) (i : ℕ) (x : A) (h : i < length xs)
+    (e : x ≡ get_or xs i x) where
+  pub taken-yes : (ys zs : List B) → AreTakenOnce P f (take i xs) ys → P x
+      → ((us : List B) → IsOnceEach us ys → IsOnceEach (us ++ f x) zs) → AreTakenOnce P f (take (i + 1) xs) zs
   taken-yes ys zs (those, (t, o)) p more = (
     those ++ x ∷ [],
-    (subst (λ l. AreThose P l (those ++ x ∷ [])) (one-more xs i x h e) (those-yes P (take i xs) those x t p), subst (λ l. IsOnceEach l zs) (flat_map_more f [] those x) (more (flat_map f those) o)),
+    (
+      subst (λ l. AreThose P l (those ++ x ∷ [])) (one-more xs i x h e) (those-yes P (take i xs) those x t p),
+      subst (λ l. IsOnceEach l zs) (flat_map_more f [] those x) (more (flat_map f those) o),
+    ),
   )
 
   pub taken-no : (ys : List B) → AreTakenOnce P f (take i xs) ys → (P x → ⊥) → AreTakenOnce P f (take (i + 1) xs) ys
-  taken-no ys (those, (t, o)) n = (those, (subst (λ l. AreThose P l those) (one-more xs i x h e) (those-no P (take i xs) those x t n), o))
+  taken-no ys (those, (t, o)) n =
+      (those, (subst (λ l. AreThose P l those) (one-more xs i x h e) (those-no P (take i xs) those x t n), o))
 
 pub taken-none : {A B : Type 0} (P : A → Type 0) (f : A → List B) → AreTakenOnce P f [] []
 taken-none P f = ([], (refl, once-none))
 
-pub mapped-at : {A B : Type 0} (f : A → B) (us : List B) (xs : List A) (i : ℕ) (d : A) → i < length xs → (us ++ map f (take i xs)) ++ f (get_or xs i d) ∷ [] ≡ us ++ map f (take (i + 1) xs)
+pub mapped-at : {A B : Type 0} (f : A → B) (us : List B) (xs : List A) (i : ℕ) (d : A) → i < length xs
+    → (us ++ map f (take i xs)) ++ f (get_or xs i d) ∷ [] ≡ us ++ map f (take (i + 1) xs)
 mapped-at f us xs i d h =
-    append_assoc us (map f (take i xs)) (f (get_or xs i d) ∷ []) ∙ ap (λ l. us ++ l) (sym (map-append f (take i xs) (get_or xs i d ∷ []))) ∙ ap (λ l. us ++ map f l) (sym (take_more xs i d h))
+    append_assoc us (map f (take i xs)) (f (get_or xs i d) ∷ [])
+    ∙ ap (λ l. us ++ l) (sym (map-append f (take i xs) (get_or xs i d ∷ [])))
+    ∙ ap (λ l. us ++ map f l) (sym (take_more xs i d h))
 
 -- what holds of all that stands on some elements holds of what is taken of them
 module _ {A B : Type 0} (f : A → List B) (R : A → Type 0) (Q : B → Type 0) (on : (x : A) → R x → All Q (f x)) where
@@ -200,7 +248,9 @@ module _ {A B : Type 0} (f : A → List B) (R : A → Type 0) (Q : B → Type 0)
   joined-all xs r = each-from-has Q (flat_map f xs) (joined-has xs (λ x h. each-has R xs x r h))
 
   pub taken-all : (P : A → Type 0) (xs : List A) (ys : List B) → All R xs → AreTakenOnce P f xs ys → All Q ys
-  taken-all P xs ys r (those, (t, o)) = each-from-has Q ys (λ y h. joined-has those (λ x k. each-has R xs x r (those-has P xs those x t k).0) y ((o.same y).0 h))
+  taken-all P xs ys r (those, (t, o)) =
+      each-from-has Q ys
+      (λ y h. joined-has those (λ x k. each-has R xs x r (those-has P xs those x t k).0) y ((o.same y).0 h))
 
   pub once-all : (xs : List A) (ys : List B) → All R xs → IsOnceEach (flat_map f xs) ys → All Q ys
   once-all xs ys r o = each-from-has Q ys (λ y h. joined-has xs (λ x k. each-has R xs x r k) y ((o.same y).0 h))
@@ -209,8 +259,10 @@ pub those-live : {A : Type 0} (P R : A → Type 0) (xs ys : List A) → All R xs
 those-live P R xs ys r t = each-from-has R ys (λ x h. each-has R xs x r (those-has P xs ys x t h).0)
 
 -- what is taken once of those that P holds for
-pub taken-of : {A B : Type 0} (P : A → Type 0) (f : A → List B) (xs those : List A) (ys : List B) → AreThose P xs those → IsOnceEach (flat_map f those) ys → AreTakenOnce P f xs ys
+pub taken-of : {A B : Type 0} (P : A → Type 0) (f : A → List B) (xs those : List A) (ys : List B) → AreThose P xs those
+    → IsOnceEach (flat_map f those) ys → AreTakenOnce P f xs ys
 taken-of P f xs those ys t o = (those, (t, o))
 
-pub mapped-all : {A B : Type 0} (f : A → B) (R : A → Type 0) (Q : B → Type 0) → ((x : A) → R x → Q (f x)) → (xs : List A) → All R xs → All Q (map f xs)
+pub mapped-all : {A B : Type 0} (f : A → B) (R : A → Type 0) (Q : B → Type 0) → ((x : A) → R x → Q (f x))
+    → (xs : List A) → All R xs → All Q (map f xs)
 mapped-all f R Q on xs r = All-map Q f xs (All-weaker R (λ x. Q (f x)) on xs r)

@@ -33,7 +33,7 @@ abbrev pub in_branch : {E : Type 0} → VerifyErr E → VerifyErr (BranchOpInter
 in_branch (Refused loc err) = Refused loc (Layout err)
 in_branch Memory = Memory
 
--- a range of places: its first, and the one behind its last
+-- a range of indices: its first, and the one behind its last
 abbrev pub Range : Type 0
 Range = ℕ × ℕ
 
@@ -46,7 +46,7 @@ is_key_among (j ∷ js) k = is_key_among js k || is_key k j
 abbrev pub KeepsSizes : List (List ℕ) → Type 0
 KeepsSizes keys = is_key_among keys sizes_key ≡ true
 
--- Two lists of types are not the same: they have other lengths; or else this is the first place where they differ, with
+-- Two lists of types are not the same: they have other lengths; or else this is the first index where they differ, with
 -- the types there.
 abbrev pub IsMismatch : (given wanted : List (Option ℕ)) → Mismatch → Type 0
 IsMismatch given wanted (Count provided expected) = (provided ≡ length given) × (expected ≡ length wanted) ×
@@ -67,7 +67,7 @@ module _ {K A T : Type 0} where
   abbrev pub IsNSuccsRefusal : ℕ → ContextView K A T → Ptr OperationKind → VerifyErr NSuccsVerifyErr → Type 0
   IsNSuccsRefusal n s op = IsRefusal s op (λ e. (e.0 ≡ n) × (e.1 ≡ num_successors s op))
 
-  -- the operands in a range of places, and their types
+  -- the operands in a range of indices, and their types
   abbrev pub operands_within : ContextView K A T → Ptr OperationKind → Range → List Value
   operands_within s op r = slice_range (operands_of s op) r.0 r.1
 
@@ -141,7 +141,7 @@ module _ {K A T : Type 0} where
     pub here : operands_within t op (new i) ≡ values
     pub others : (j : ℕ) → j < num_successors s op → j ≢ i → operands_within t op (new j) ≡ operands_within s op (old j)
 
-  -- Its successor i gets one more value, behind the others; or one less, that for its argument at a place. What it
+  -- Its successor i gets one more value, behind the others; or one less, that for its argument at an index. What it
   -- forwards is a function of the context.
   module _ (keys : List (List ℕ)) (forwards : ContextView K A T → ℕ → Range) (s t : ContextView K A T)
       (op : Ptr OperationKind)

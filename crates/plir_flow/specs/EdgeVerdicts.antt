@@ -57,7 +57,7 @@ abbrev pub target_region : RegionSuccessor → Option (Ptr RegionKind)
 target_region (ToRegion r) = Some r
 target_region After = None
 
--- the place that a map has for the region of a target
+-- the index that a map has for the region of a target
 abbrev pub first_place : {S : Type 0} → HashMap (Option (Ptr RegionKind)) ℕ S → RegionSuccessor → Option ℕ
 first_place m t = get (option_eq same_region) m (target_region t)
 

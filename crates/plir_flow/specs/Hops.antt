@@ -1,4 +1,4 @@
--- Steps between regions in a row, with the place of the one before from the same region.
+-- Steps between regions in a row, with the index of the one before from the same region.
 use Rattle.std.specs.Prelude.{◌≡◌, ◌<◌, ◌+◌, ◌⊎◌, ◌↔◌, ◌≤◌, ℕ, List, take, length, Option, Some, None, slice_get, Bool}
 use Rattle.std.specs.Prelude.{true, ◌&&◌, nat_eq}
 use Rattle.plir_core.specs.declared.ptr.Ptr.{Ptr}
@@ -11,16 +11,16 @@ module _ (hops : List Hop) where
   abbrev pub IsHop : (a b : Ptr RegionKind) → Type 0
   IsHop a b = (i : ℕ) × ((h : Hop) × ((slice_get hops i ≡ Some h) × (h.from ≡ a) × (h.to ≡ b)))
 
-  -- no hop from the region stands from one place up to another
+  -- no hop from the region stands from one index up to another
   abbrev pub IsNoneFrom : (low high : ℕ) → Ptr RegionKind → Type 0
   IsNoneFrom low high r = (i : ℕ) (h : Hop) → low ≤ i → i < high → slice_get hops i ≡ Some h → h.from ≡ r → ⊥
 
-  -- the place is that of the last hop from the region among the first n, if there is one
+  -- the index is that of the last hop from the region among the first n, if there is one
   abbrev pub IsLatest : (n : ℕ) → Ptr RegionKind → Option ℕ → Type 0
   IsLatest n r None = IsNoneFrom 0 n r
   IsLatest n r (Some k) = (k < n) × ((h : Hop) × ((slice_get hops k ≡ Some h) × (h.from ≡ r))) × IsNoneFrom (k + 1) n r
 
-  -- each hop names the place of the one before from its region
+  -- each hop names the index of the one before from its region
   abbrev pub AreLinked : Type 0
   AreLinked = (i : ℕ) (h : Hop) → slice_get hops i ≡ Some h → IsLatest i h.from h.earlier
 

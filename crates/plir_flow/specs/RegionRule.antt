@@ -22,14 +22,26 @@ use Rattle.plir_flow.specs.declared.edge_ends.RegionBranchPoint.{RegionBranchPoi
 use Rattle.plir_flow.specs.declared.edge_ends.RegionBranchPoint.TheVariants.{Parent, Terminator}
 use Rattle.plir_flow.specs.declared.edge_ends.RegionSuccessor.{RegionSuccessor}
 use Rattle.plir_flow.specs.declared.edge_ends.RegionSuccessor.TheVariants.{Region as ToRegion, After}
-use Rattle.plir_flow.specs.declared.region_edge_errors.RegionBranchOpInterfaceVerifyErr.{RegionBranchOpInterfaceVerifyErr}
+use Rattle.plir_flow.specs.declared.region_edge_errors.RegionBranchOpInterfaceVerifyErr.{
+  RegionBranchOpInterfaceVerifyErr,
+}
 use Rattle.plir_flow.specs.declared.region_edge_errors.RegionBranchOpInterfaceVerifyErr.TheVariants.{Layout}
-use Rattle.plir_flow.specs.declared.region_edge_errors.RegionBranchOpInterfaceVerifyErr.TheVariants.{ReceiverSetMismatch}
+use Rattle.plir_flow.specs.declared.region_edge_errors.RegionBranchOpInterfaceVerifyErr.TheVariants.{
+  ReceiverSetMismatch,
+}
 use Rattle.plir_flow.specs.declared.region_edge_errors.RegionBranchOpInterfaceVerifyErr.TheVariants.{InvalidTerminator}
-use Rattle.plir_flow.specs.declared.region_edge_errors.RegionBranchOpInterfaceVerifyErr.TheVariants.{ReadNotOpOrSourceOperand}
-use Rattle.plir_flow.specs.declared.region_edge_errors.RegionBranchOpInterfaceVerifyErr.TheVariants.{ForeignRegionSuccessor}
-use Rattle.plir_flow.specs.declared.region_edge_errors.RegionBranchOpInterfaceVerifyErr.TheVariants.{OperandNotAtBranchPoint}
-use Rattle.plir_flow.specs.declared.region_edge_errors.RegionBranchOpInterfaceVerifyErr.TheVariants.{ReceiverNotRegionArgument}
+use Rattle.plir_flow.specs.declared.region_edge_errors.RegionBranchOpInterfaceVerifyErr.TheVariants.{
+  ReadNotOpOrSourceOperand,
+}
+use Rattle.plir_flow.specs.declared.region_edge_errors.RegionBranchOpInterfaceVerifyErr.TheVariants.{
+  ForeignRegionSuccessor,
+}
+use Rattle.plir_flow.specs.declared.region_edge_errors.RegionBranchOpInterfaceVerifyErr.TheVariants.{
+  OperandNotAtBranchPoint,
+}
+use Rattle.plir_flow.specs.declared.region_edge_errors.RegionBranchOpInterfaceVerifyErr.TheVariants.{
+  ReceiverNotRegionArgument,
+}
 use Rattle.plir_flow.specs.declared.region_edge_errors.RegionBranchOpInterfaceVerifyErr.TheVariants.{ReceiverNotResult}
 use Rattle.plir_flow.specs.declared.region_edge_errors.RegionBranchOpInterfaceVerifyErr.TheVariants.{DuplicateReceiver}
 use Rattle.plir_flow.specs.declared.region_edge_errors.RegionBranchOpInterfaceVerifyErr.TheVariants.{FlowTypeMismatch}

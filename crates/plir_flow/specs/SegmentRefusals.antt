@@ -8,7 +8,9 @@ use Rattle.plir_iface.specs.Verdict.{IsRefusal}
 use Rattle.plir_flow.specs.Segments.{sizes_under, sizes_of, num_segments, IsSegmented}
 use Rattle.plir_flow.specs.declared.segments.OperandSegmentInterfaceVerifyErr.{OperandSegmentInterfaceVerifyErr}
 use Rattle.plir_flow.specs.declared.segments.OperandSegmentInterfaceVerifyErr.TheVariants.{OperandSegmentSizesAttrErr}
-use Rattle.plir_flow.specs.declared.segments.OperandSegmentInterfaceVerifyErr.TheVariants.{OperandSegmentSizesTotalMismatchErr}
+use Rattle.plir_flow.specs.declared.segments.OperandSegmentInterfaceVerifyErr.TheVariants.{
+  OperandSegmentSizesTotalMismatchErr,
+}
 use Rattle.plir_flow.specs.declared.segments.OperandSegmentInterfaceVerifyErr.TheVariants.{SegmentCountMismatch}
 
 -- There are no sizes; or their sum is another number than that of the operands; or there are right sizes, but not as

@@ -31,11 +31,11 @@ module _ {K A T : Type 0} where
     abbrev pub HasSegmentNImplsTy : Type 0
     HasSegmentNImplsTy = (n < num_segments s op) × EachPasses passes s (segment_types s op n)
 
-    -- the place is the first in the segment whose type fails
+    -- the index is the first in the segment whose type fails
     abbrev pub FailsFirstIn : ℕ → Type 0
     FailsFirstIn i = FailsFirst passes s (λ k. k < length (segment_types s op n)) (segment_types s op n) i
 
-    -- the operand with that type stands at a place among all operands
+    -- the operand with that type stands at an index among all operands
     abbrev pub IsFirstFailingOperand : ℕ → Type 0
     IsFirstFailingOperand p = (i : ℕ) × (FailsFirstIn i ×
         (type_in (segment_types s op n) i ≡ type_in (operand_types s op) p))

@@ -26,11 +26,11 @@ module _ {V : Type 0} where
   abbrev pub flatten : List (List V) → List V
   flatten segs = flat_map (λ seg. seg) segs
 
-  -- the segment at a place; past the last it is empty
+  -- the segment at an index; past the last it is empty
   abbrev pub segment_at : List (List V) → ℕ → List V
   segment_at segs i = slice_index_or segs i []
 
-  -- the segments with the one at a place edited
+  -- the segments with the one at an index edited
   abbrev pub edit_at : ℕ → (List V → List V) → List (List V) → List (List V)
   edit_at i f [] = []
   edit_at zero f (seg ∷ segs) = f seg ∷ segs
@@ -82,11 +82,11 @@ module _ {K A T : Type 0} where
   abbrev pub num_segments : ContextView K A T → Ptr OperationKind → ℕ
   num_segments s op = length (sizes_of s op)
 
-  -- the size of the segment at a place; past the last it is 0
+  -- the size of the segment at an index; past the last it is 0
   abbrev pub segment_size : ContextView K A T → Ptr OperationKind → ℕ → ℕ
   segment_size s op i = slice_index_or (sizes_of s op) i 0
 
-  -- the places of the operands in a segment: the first, and the one behind the last
+  -- the indices of the operands in a segment: the first, and the one behind the last
   abbrev pub segment_places : ContextView K A T → Ptr OperationKind → ℕ → ℕ × ℕ
   segment_places s op i = (start_in (sizes_of s op) i, start_in (sizes_of s op) i + segment_size s op i)
 
@@ -150,11 +150,11 @@ module _ {K A T : Type 0} where
   abbrev pub IsSegmentEdited : (s t : ContextView K A T) → Ptr OperationKind → ℕ → (List Value → List Value) → Type 0
   IsSegmentEdited s t op seg f = IsResegmented s t op (edit_at seg f (segments_of s op))
 
-  -- the value stands at a place of a segment
+  -- the value stands at an index of a segment
   abbrev pub StandsInSegment : ContextView K A T → Ptr OperationKind → (seg place : ℕ) → Value → Type 0
   StandsInSegment s op seg place v = slice_get (segment_at (segments_of s op) seg) place ≡ Some v
 
-  -- Among the operands one more has come in at a place of a segment, or behind its last; or one has gone from there.
+  -- Among the operands one more has come in at an index of a segment, or behind its last; or one has gone from there.
   module _ (s t : ContextView K A T) (op : Ptr OperationKind) (seg : ℕ) where
     abbrev pub IsOperandPutAt : (place : ℕ) → Value → Type 0
     IsOperandPutAt place v = operands_of t op ≡ insert (operands_of s op) ((segment_places s op seg).0 + place) v

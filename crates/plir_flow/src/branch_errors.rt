@@ -16,7 +16,7 @@ pub enum BranchOpInterfaceVerifyErr<E> {
         provided: usize,
         expected: usize,
     },
-    /// A value has another type than the argument at its place: the place, and the texts of the types.
+    /// A value has another type than the argument at its index: the index, and the texts of the types.
     #[error("Forwarded operand at {idx} is of type {forwarded}, but should've been {expected}")]
     SuccessorOperandTypeMismatch {
         idx: usize,
@@ -35,6 +35,6 @@ pub struct NSuccsVerifyErr(pub usize, pub usize);
 pub(crate) enum Mismatch {
     /// There are so many values, but so many arguments.
     Count(usize, usize),
-    /// At a place there are these types of the value and of the argument.
+    /// At an index there are these types of the value and of the argument.
     Differ(usize, TypeHandle, TypeHandle),
 }

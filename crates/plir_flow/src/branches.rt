@@ -38,7 +38,7 @@ pub trait BranchOpInterface<D: OpSet>: IsTerminatorInterface<D> {
     // stands under these changes as values are added and taken out, and what stands under any other key doesn't.
     ghost layout_keys: { Self → List (List ℕ) };
 
-    // The places of the operands that are forwarded to a successor.
+    // The indices of the operands that are forwarded to a successor.
     ghost forwards: { Self → ContextView D.Kind D.Attr D.Ty → ℕ → Places };
 
     /// Accepts exactly where the operands stand as the operation wants them.
@@ -52,7 +52,7 @@ pub trait BranchOpInterface<D: OpSet>: IsTerminatorInterface<D> {
         ensures refused { IfErr result (IsLayoutRefusal (has_layout self.now) (refuses_layout self.now) ctx.now
             (Self.pointer self.now)) };
 
-    /// The places of the operands that are forwarded to a successor, from 0; they are among the operands.
+    /// The indices of the operands that are forwarded to a successor, from 0; they are among the operands.
     fn successor_operand_range(&self, ctx: &Context<D>, succ: usize) -> Range<usize>
         requires live { IsLive ctx.now (IRNode.Operation (Self.pointer self.now)) }
         requires layout { has_layout self.now ctx.now }
@@ -62,7 +62,7 @@ pub trait BranchOpInterface<D: OpSet>: IsTerminatorInterface<D> {
         ensures ordered { result.start ≤ result.end }
         ensures inside { result.end ≤ length (operands_of ctx.now (Self.pointer self.now)) };
 
-    /// Forwards one more value to a successor, from 0, behind those that it gets, and answers its place among them.
+    /// Forwards one more value to a successor, from 0, behind those that it gets, and answers its index among them.
     /// Where sizes of segments are kept, it has to get fewer than 4294967295. After a refusal all is as before.
     fn add_successor_operand(
         &self,
@@ -84,7 +84,7 @@ pub trait BranchOpInterface<D: OpSet>: IsTerminatorInterface<D> {
         ensures err { OnErr result (ctx.new ≡ ctx.old) }
         ensures whole { IsWellFormed D.attr_handles ctx.new };
 
-    /// Takes the value for the argument at a place, from 0, of a successor, from 0, out; those behind it move down.
+    /// Takes the value for the argument at an index of a successor, from 0, out; those behind it move down.
     fn remove_successor_operand(&self, ctx: &mut Context<D>, succ: usize, arg: usize) -> Value
         requires live { IsLive ctx.old (IRNode.Operation (Self.pointer self.now)) }
         requires layout { has_layout self.now ctx.old }
@@ -117,7 +117,7 @@ pub trait BranchOpInterface<D: OpSet>: IsTerminatorInterface<D> {
         operands_in(alloc, ctx, self.get_operation(), range)
     }
 
-    /// Forwards another value in place of the one for the argument at a place, from 0, of a successor, from 0.
+    /// Forwards another value in place of the one for the argument at an index of a successor, from 0.
     final fn set_successor_operand(
         &self,
         ctx: &mut Context<D>,
@@ -180,7 +180,7 @@ pub trait NSuccsInterface<D: OpSet, const N: usize>: BranchOpInterface<D> {
         accept_if(ctx, op, found == N, NSuccsVerifyErr(N, found))
     }
 
-    /// The successor at a place, from 0.
+    /// The successor at an index.
     final fn get_successor_i(&self, ctx: &Context<D>, i: LessThanN<N>) -> Ptr<BasicBlock>
         requires live { IsLive ctx.now (IRNode.Operation (Self.pointer self.now)) }
         requires rule { HasNSuccs N ctx.now (Self.pointer self.now) }

@@ -114,7 +114,7 @@ pub trait CallOpInterface<D: OpSet>: Op<D> {
 
     ghost refuses_call_layout: { Self → ContextView D.Kind D.Attr D.Ty → D.Err → Type 0 };
 
-    // What is called, and the places of the operands that are its arguments.
+    // What is called, and the indices of the operands that are its arguments.
     ghost called: { Self → ContextView D.Kind D.Attr D.Ty → Callable };
 
     ghost arguments: { Self → ContextView D.Kind D.Attr D.Ty → Places };
@@ -133,7 +133,7 @@ pub trait CallOpInterface<D: OpSet>: Op<D> {
         ensures value { IfOk result (λ c. c ≡ called self.now ctx.now) }
         ensures live { IsCalleeLive ctx.now (called self.now ctx.now) };
 
-    /// The places of the operands that are passed to what is called; they are among the operands.
+    /// The indices of the operands that are passed to what is called; they are among the operands.
     fn arg_range(&self, ctx: &Context<D>) -> Range<usize>
         requires live { IsLive ctx.now (IRNode.Operation (Self.pointer self.now)) }
         requires layout { has_call_layout self.now ctx.now }

@@ -73,7 +73,7 @@ pub(crate) fn verify_edges<D: OpSet>(
     }
 }
 
-/// The refusal of a layout as that of region edges, at the same place.
+/// The refusal of a layout as that of region edges, at the same location.
 pub(crate) fn as_edges_layout<E>(
     refused: VerifyErr<E>,
 ) -> VerifyErr<RegionBranchOpInterfaceVerifyErr<E>>

@@ -208,7 +208,7 @@ pub(crate) fn find_edge_fault<D: OpSet>(
     find_flows_fault(ctx, op, edge, &mut received)
 }
 
-/// The point that the edge at a place breaks, if it breaks one. `firsts` has the place of the first edge with each
+/// The point that the edge at an index breaks, if it breaks one. `firsts` has the index of the first edge with each
 /// target.
 fn find_fault_at<D: OpSet>(
     alloc: Global,

@@ -106,7 +106,7 @@ pub(crate) fn report<D: OpSet>(
     refusal(ctx, op, err)
 }
 
-/// The refusal of a layout as that of a branch, at the same place.
+/// The refusal of a layout as that of a branch, at the same location.
 pub(crate) fn as_layout<E>(refused: VerifyErr<E>) -> VerifyErr<BranchOpInterfaceVerifyErr<E>>
     ensures { result ≡ in_branch refused }
 {

@@ -17,7 +17,7 @@ use plir_data::{Memory, OpSet};
 use std::alloc::Global;
 use std::collections::HashMap;
 
-/// An edge from region to region, with the place of the one before it from the same region.
+/// An edge from region to region, with the index of the one before it from the same region.
 #[derive(Clone, Copy)]
 pub(crate) struct Hop {
     pub(crate) from: Ptr<Region>,

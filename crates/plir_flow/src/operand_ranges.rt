@@ -1,4 +1,4 @@
-//! The operands at places in a row.
+//! The operands at indices in a row.
 ghost use Rattle.std.specs.Prelude.{◌≡◌, ◌≤◌, All, IfOk, length, slice_range};
 ghost use Rattle.plir_core.specs.declared.ptr.IRNode.{IRNode};
 ghost use Rattle.plir_core.specs.ContextView.{IsLive, IsValueLive, operands_of};
@@ -9,7 +9,7 @@ use plir_data::{Memory, OpSet};
 use std::alloc::Global;
 use std::ops::Range;
 
-/// The operands of an operation in a range of places, in order.
+/// The operands of an operation in a range of indices, in order.
 pub(crate) fn operands_in<D: OpSet>(
     alloc: Global,
     ctx: &Context<D>,

@@ -57,7 +57,7 @@ fn region_of(successor: RegionSuccessor) -> Option<Ptr<Region>>
     }
 }
 
-/// Whether the edge at a place has the receivers of the first one with its target. The place of each first one is kept.
+/// Whether the edge at an index has the receivers of the first one with its target. Each first one's index is kept.
 pub(crate) fn keeps_receivers(
     alloc: Global,
     edges: &[RegionEdge],

@@ -12,7 +12,7 @@ use crate::segment_sizes::{place_among, set_size, size_of};
 use plir_core::{Context, Operation, Ptr, Value, laws};
 use plir_data::{Memory, OpSet};
 
-/// Puts a value into a segment at a place, from 0. The growth comes before the first change.
+/// Puts a value into a segment at an index. The growth comes before the first change.
 pub(crate) fn insert_at<D: OpSet>(
     ctx: &mut Context<D>,
     op: Ptr<Operation>,
@@ -41,7 +41,7 @@ pub(crate) fn insert_at<D: OpSet>(
     Ok(())
 }
 
-/// Takes the value at a place, from 0, out of a segment. Takes no memory.
+/// Takes the value at an index out of a segment. Takes no memory.
 pub(crate) fn remove_at<D: OpSet>(
     ctx: &mut Context<D>,
     op: Ptr<Operation>,
@@ -67,7 +67,7 @@ pub(crate) fn remove_at<D: OpSet>(
     operand
 }
 
-/// Puts a value at the end of a segment, and answers its place there. The growth comes before the first change.
+/// Puts a value at the end of a segment, and answers its index there. The growth comes before the first change.
 pub(crate) fn push_last<D: OpSet>(
     ctx: &mut Context<D>,
     op: Ptr<Operation>,

@@ -74,7 +74,7 @@ pub(crate) fn start_of<D: OpSet>(ctx: &Context<D>, op: Ptr<Operation>, seg: usiz
     total(&sizes[..seg]) as usize
 }
 
-/// The place among all operands of the one at a place, from 0, of a segment.
+/// The index among all operands of the one at an index of a segment.
 pub(crate) fn place_among<D: OpSet>(
     ctx: &Context<D>,
     op: Ptr<Operation>,

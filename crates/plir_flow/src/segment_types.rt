@@ -22,10 +22,10 @@ use plir_iface::{
 use std::alloc::Global;
 use thiserror::Error;
 
-/// How the types in the segment at a place are not of a kind.
+/// How the types in the segment at an index are not of a kind.
 #[derive(PartialEq, Eq, Drop, Debug, Error)]
 pub enum SegmentNOfTypeError {
-    /// There is no segment at the place.
+    /// There is no segment at the index.
     #[error("Op does not have operand segment at index {0}")]
     SegmentNotFound(usize),
     /// An operand has a type of another kind: the id that is asked for, and the type's text.
@@ -33,7 +33,7 @@ pub enum SegmentNOfTypeError {
     UnexpectedType(&'static str, String),
 }
 
-// The place among all operands of the first in a segment whose type fails a test.
+// The index among all operands of the first in a segment whose type fails a test.
 fn find_misfit<D: OpSet, Q: TypeTest<D>>(
     ctx: &Context<D>,
     op: Ptr<Operation>,
@@ -52,7 +52,7 @@ fn find_misfit<D: OpSet, Q: TypeTest<D>>(
     first_failing::<D, Q>(ctx, op, Side::Operands, start, end)
 }
 
-// Accepts exactly where there is a segment at a place, and all its types are a `T`.
+// Accepts exactly where there is a segment at an index, and all its types are a `T`.
 fn verify_kind<D: OpSet, T: TypeMark<D>>(
     alloc: Global,
     ctx: &Context<D>,
@@ -78,7 +78,7 @@ fn verify_kind<D: OpSet, T: TypeMark<D>>(
     Err(refusal(ctx, op, err))
 }
 
-// Accepts exactly where there is a segment at a place, and all its types implement `I`.
+// Accepts exactly where there is a segment at an index, and all its types implement `I`.
 fn verify_impls<D: OpSet, I: TypeInterfaceMark<D>>(
     ctx: &Context<D>,
     op: Ptr<Operation>,
@@ -102,9 +102,9 @@ fn verify_impls<D: OpSet, I: TypeInterfaceMark<D>>(
     Err(refusal(ctx, op, TypeRuleErr::WrongType(err)))
 }
 
-/// Operations whose operands in the segment at the place `N`, from 0, have a type of the kind `T`.
+/// Operations whose operands in the segment at the index `N` have a type of the kind `T`.
 pub trait SegmentNOfType<D: OpSet, const N: usize, T: TypeMark<D>>: OperandSegmentInterface<D> {
-    /// Accepts exactly where there is a segment at the place `N`, and each operand in it has a type of the kind `T`;
+    /// Accepts exactly where there is a segment at the index `N`, and each operand in it has a type of the kind `T`;
     /// the refusal names the first that hasn't.
     final fn verify(
         &self,
@@ -122,13 +122,13 @@ pub trait SegmentNOfType<D: OpSet, const N: usize, T: TypeMark<D>>: OperandSegme
     }
 }
 
-/// Operations whose operands in the segment at the place `N`, from 0, have a type that implements `I`.
+/// Operations whose operands in the segment at the index `N` have a type that implements `I`.
 pub trait SegmentNImplsTy<
     D: OpSet,
     const N: usize,
     I: TypeInterfaceMark<D>,
 >: OperandSegmentInterface<D> {
-    /// Accepts exactly where there is a segment at the place `N`, and each operand in it has a type that implements
+    /// Accepts exactly where there is a segment at the index `N`, and each operand in it has a type that implements
     /// `I`; the refusal names the first that hasn't.
     final fn verify(
         &self,

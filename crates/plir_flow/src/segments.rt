@@ -108,7 +108,7 @@ fn flatten_segments(
     Ok((values, OperandSegmentSizesAttr(sizes)))
 }
 
-// The places of the operands of a segment.
+// The indices of the operands of a segment.
 fn range_of<D: OpSet>(ctx: &Context<D>, op: Ptr<Operation>, seg: usize) -> Range<usize>
     requires live { IsLive ctx.now (IRNode.Operation op) }
     requires segmented { IsSegmented ctx.now op }
@@ -172,7 +172,7 @@ pub trait OperandSegmentInterface<D: OpSet>: Op<D> {
         flatten_segments(alloc, operands)
     }
 
-    /// The places of the operands of a segment, from 0.
+    /// The indices of the operands of a segment, from 0.
     final fn segment_range(&self, ctx: &Context<D>, seg: usize) -> Range<usize>
         requires live { IsLive ctx.now (IRNode.Operation (Self.pointer self.now)) }
         requires rule { HasSegments (expected self.now ctx.now) ctx.now (Self.pointer self.now) }
@@ -258,7 +258,7 @@ pub trait OperandSegmentInterface<D: OpSet>: Op<D> {
         sizes_of(ctx, self.get_operation())
     }
 
-    /// Puts a value at the end of a segment, from 0, and answers its place there. The segment has to be shorter than
+    /// Puts a value at the end of a segment, from 0, and answers its index there. The segment has to be shorter than
     /// 4294967295. After a refusal all is as before.
     final fn push_to_segment(
         &self,
@@ -298,7 +298,7 @@ pub trait OperandSegmentInterface<D: OpSet>: Op<D> {
         pop_last(ctx, self.get_operation(), seg)
     }
 
-    /// Puts a value into a segment, from 0, at a place, from 0; the values from that place on move up. The segment has
+    /// Puts a value into a segment, from 0, at an index in it; the values from that index on move up. The segment has
     /// to be shorter than 4294967295. After a refusal all is as before.
     final fn insert_into_segment(
         &self,
@@ -323,7 +323,7 @@ pub trait OperandSegmentInterface<D: OpSet>: Op<D> {
         insert_at(ctx, self.get_operation(), seg, place, operand)
     }
 
-    /// Takes the value at a place, from 0, out of a segment, from 0; later ones move down. Takes no memory.
+    /// Takes the value at an index out of a segment, from 0; later ones move down. Takes no memory.
     final fn remove_from_segment(&self, ctx: &mut Context<D>, seg: usize, place: usize) -> Value
         requires live { IsLive ctx.old (IRNode.Operation (Self.pointer self.now)) }
         requires rule { HasSegments (expected self.now ctx.old) ctx.old (Self.pointer self.now) }

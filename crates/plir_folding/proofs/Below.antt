@@ -1,6 +1,6 @@
 -- Changes below a node, one after another.
-use Rattle.std.proofs.Common.{◌≡◌, ◌<◌, ◌≤◌, ◌+◌, ℕ, zero, suc, arith, Bool, true, false, List, [], ◌∷◌, ◌++◌, length, Option, Some, ◌⊎◌, inl, inr}
-use Rattle.std.proofs.Common.{refl, sym, ap, subst, ◌∙◌, append_assoc, slice_get}
+use Rattle.std.proofs.Common.{◌≡◌, ◌<◌, ◌≤◌, ◌+◌, ℕ, zero, suc, arith, Bool, true, false, List, [], ◌∷◌, ◌++◌, length}
+use Rattle.std.proofs.Common.{Option, Some, ◌⊎◌, inl, inr, refl, sym, ap, subst, ◌∙◌, append_assoc, slice_get}
 use Rattle.std.proofs.lemmas.Option.{none-some}
 use Rattle.plir_core.specs.declared.ptr.Ptr.{Ptr}
 use Rattle.plir_core.specs.declared.ptr.Operation.{Operation as OperationKind}
@@ -31,72 +31,100 @@ within (y ∷ xs) zero x e = omega arith
 within (y ∷ xs) (suc i) x e = (let h = within xs i x e in omega (arith, h))
 
 at-or-before : (j i : ℕ) → j < i + 1 → (j ≡ i) ⊎ (j < i)
-at-or-before j i h = elim (nat-cases j i) [ inl e ↦ inl e | inr (inl l) ↦ inr l | inr (inr g) ↦ absurd (omega (arith, h, g)) ]
+at-or-before j i h =
+    elim (nat-cases j i) [ inl e ↦ inl e | inr (inl l) ↦ inr l | inr (inr g) ↦ absurd (omega (arith, h, g)) ]
   where
     nat-cases : (a b : ℕ) → (a ≡ b) ⊎ ((a < b) ⊎ (b < a))
     nat-cases zero zero = inl refl
     nat-cases zero (suc b) = inr (inl (omega arith))
     nat-cases (suc a) zero = inr (inr (omega arith))
-    nat-cases (suc a) (suc b) = elim (nat-cases a b) [ inl e ↦ inl (ap suc e) | inr (inl l) ↦ inr (inl (omega (arith, l))) | inr (inr g) ↦ inr (inr (omega (arith, g))) ]
+    nat-cases (suc a) (suc b) =
+        elim (nat-cases a b) [
+          | inl e ↦ inl (ap suc e)
+          | inr (inl l) ↦ inr (inl (omega (arith, l)))
+          | inr (inr g) ↦ inr (inr (omega (arith, g)))
+        ]
 
 module _ {K A T : Type 0} (fold : K → Integer → Integer → Option Integer) (own : A → List ℕ) where
   -- From the start of the loop in s to s', the operands before the place i do not fold, if nothing was folded.
-  pub record IsFoldingOp (s s' : ContextView K A T) (b : Ptr BasicBlockKind) (op : Ptr OperationKind) (before changed : Bool) (i : ℕ) : Type 0 where
+  pub record IsFoldingOp (s s' : ContextView K A T) (b : Ptr BasicBlockKind) (op : Ptr OperationKind)
+      (before changed : Bool) (i : ℕ) : Type 0 where
     pub below : IsFoldedBelow fold own s (BasicBlock b) s'
     pub tells : IsFlagged s before changed s'
     pub settled : changed ≡ false → (j : ℕ) → j < i → IsUnfolded fold s' op j
     pub filled : IsFilledBefore s s' b op
 
-module _ {K A T : Type 0} (fold : K → Integer → Integer → Option Integer) (own : A → List ℕ) (laws : LawfulChanges K A T own) where
+module _ {K A T : Type 0} (fold : K → Integer → Integer → Option Integer) (own : A → List ℕ)
+    (laws : LawfulChanges K A T own) where
   pub below-none : (s : ContextView K A T) (n : IRNode) → IsWellFormed own s → IsFoldedBelow fold own s n s
   below-none s n w = record { folded = folded-none fold s (laws.forest s w); lawful = laws.none s n; whole = w }
 
-  pub below-refused : (s t : ContextView K A T) (n : IRNode) → IsWellFormed own s → IsWellFormed own t → SameLive s t → ((m : IRNode) → given_out s m ≡ true → given_out t m ≡ true) → IsFoldedBelow fold own s n t
-  below-refused s t n w w' same given = record { folded = folded-refused fold s t (laws.forest s w) same; lawful = laws.refused s t n same given; whole = w' }
+  pub below-refused : (s t : ContextView K A T) (n : IRNode) → IsWellFormed own s → IsWellFormed own t → SameLive s t
+      → ((m : IRNode) → given_out s m ≡ true → given_out t m ≡ true) → IsFoldedBelow fold own s n t
+  below-refused s t n w w' same given =
+      record {
+        folded = folded-refused fold s t (laws.forest s w) same;
+        lawful = laws.refused s t n same given;
+        whole = w';
+      }
 
-  pub below-then : (s t u : ContextView K A T) (n : IRNode) → IsWellFormed own s → IsFoldedBelow fold own s n t → IsFoldedBelow fold own t n u → IsFoldedBelow fold own s n u
+  pub below-then : (s t u : ContextView K A T) (n : IRNode) → IsWellFormed own s → IsFoldedBelow fold own s n t
+      → IsFoldedBelow fold own t n u → IsFoldedBelow fold own s n u
   below-then s t u n w f g = record {
     folded = folded-then fold own s t u w f.whole f.folded g.folded;
     lawful = laws.both s t u n (laws.forest s w) f.lawful g.lawful;
     whole = g.whole;
   }
 
-  filled-then : (s t u : ContextView K A T) (b : Ptr BasicBlockKind) (op : Ptr OperationKind) → IsFilledBefore s t b op → IsFilledBefore t u b op → IsFilledBefore s u b op
+  filled-then : (s t u : ContextView K A T) (b : Ptr BasicBlockKind) (op : Ptr OperationKind) → IsFilledBefore s t b op
+      → IsFilledBefore t u b op → IsFilledBefore s u b op
   filled-then s t u b op f g xs ys e =
       let r = f xs ys e in
-      let q = g (xs ++ r.0) ys (r.1 ∙ sym (append_assoc xs r.0 (Operation op ∷ ys))) in
-      (r.0 ++ q.0, q.1 ∙ append_assoc xs r.0 (q.0 ++ Operation op ∷ ys) ∙ ap (λ z. xs ++ z) (sym (append_assoc r.0 q.0 (Operation op ∷ ys))))
+      let q = g (xs ++ r.0) ys (r.1 ∙ sym (append_assoc xs r.0 (Operation op ∷ ys))) in (
+        r.0 ++ q.0,
+        q.1 ∙ append_assoc xs r.0 (q.0 ++ Operation op ∷ ys)
+            ∙ ap (λ z. xs ++ z) (sym (append_assoc r.0 q.0 (Operation op ∷ ys))),
+      )
 
-  pub folding-start : (s : ContextView K A T) (b : Ptr BasicBlockKind) (op : Ptr OperationKind) (before : Bool) → IsWellFormed own s → IsFoldingOp fold own s s b op before before 0
-  folding-start s b op before w = record {
-    below = below-none s (BasicBlock b) w;
+module _ {K A T : Type 0} {fold : K → Integer → Integer → Option Integer} {own : A → List ℕ}
+    (laws : LawfulChanges K A T own) where
+  pub folding-start : {s : ContextView K A T} {b : Ptr BasicBlockKind} {op : Ptr OperationKind} {before : Bool}
+      → IsWellFormed own s → IsFoldingOp fold own s s b op before before 0
+  folding-start {s} {b} {op} {before} w = record {
+    below = below-none fold own laws s (BasicBlock b) w;
     tells = tells-none fold s before;
     settled = λ e j l. absurd (omega (arith, l));
     filled = λ xs ys e. ([], e);
   }
 
-  module _ (s s' : ContextView K A T) (b : Ptr BasicBlockKind) (op : Ptr OperationKind) (before changed : Bool) (i : ℕ) (w : IsWellFormed own s) (live : IsLive s (Operation op))
+  module _ {s s' : ContextView K A T} {b : Ptr BasicBlockKind} {op : Ptr OperationKind} {before changed : Bool} {i : ℕ}
+      (w : IsWellFormed own s) (live : IsLive s (Operation op))
       (r : IsFoldingOp fold own s s' b op before changed i) where
     pub folding-live : IsLive s' (Operation op)
     folding-live = r.below.folded.live (Operation op) live
 
-    pub folding-here : parent_of s (Operation op) ≡ Some (BasicBlock b) → parent_of s' (Operation op) ≡ Some (BasicBlock b)
+    pub folding-here : parent_of s (Operation op) ≡ Some (BasicBlock b)
+        → parent_of s' (Operation op) ≡ Some (BasicBlock b)
     folding-here e = r.below.folded.parents (Operation op) live ∙ e
 
     pub folding-count : length (operands_of s' op) ≡ length (operands_of s op)
     folding-count = paired-length _ (operands_of s op) (operands_of s' op) (r.below.folded.operands op live)
 
-    module _ (t : ContextView K A T) (changed' : Bool) (f : IsFoldedBelow fold own s' (BasicBlock b) t) (g : IsFilledBefore s' t b op) where
+    module _ {t : ContextView K A T} (f : IsFoldedBelow fold own s' (BasicBlock b) t)
+        (g : IsFilledBefore s' t b op) where
       pub folding-below : IsFoldedBelow fold own s (BasicBlock b) t
-      folding-below = below-then s s' t (BasicBlock b) w r.below f
+      folding-below = below-then fold own laws s s' t (BasicBlock b) w r.below f
 
       pub folding-filled : IsFilledBefore s t b op
-      folding-filled = filled-then s s' t b op r.filled g
+      folding-filled = filled-then fold own laws s s' t b op r.filled g
 
-      pub folding-more : IsToldBy s' changed changed' t (λ c. IsUnfolded fold c op i) → IsFoldingOp fold own s t b op before changed' (i + 1)
-      folding-more told = record {
+      pub folding-more : {changed' : Bool} → IsToldBy s' changed changed' t (λ c. IsUnfolded fold c op i)
+          → IsFoldingOp fold own s t b op before changed' (i + 1)
+      folding-more {changed'} told = record {
         below = folding-below;
-        tells = tells-then fold own s s' t w r.below.whole r.below.folded f.folded before changed changed' r.tells told.tells;
+        tells =
+            tells-then fold own s s' t w r.below.whole r.below.folded f.folded before changed changed' r.tells
+            told.tells;
         settled = λ e j l. elim (at-or-before j i l) [
           | inl is ↦ subst (IsUnfolded fold t op) (sym is) (told.settled e)
           | inr h ↦ (let k = told.tells.clear e in subst (λ z. IsUnfolded fold z op j) (sym k.1) (r.settled k.0 j h))

@@ -1,7 +1,7 @@
 -- The loop over the operations of a block.
-use Rattle.std.proofs.Common.{◌≡◌, ◌<◌, ℕ, suc, arith, Bool, false, List, [], ◌∷◌, ◌++◌, length, Option, Some, None, option_map, inl, inr}
-use Rattle.std.proofs.Common.{refl, sym, ap, subst, ◌∙◌, append_assoc, length-append}
-use Rattle.std.proofs.lemmas.Option.{none-some, same_Some}
+use Rattle.std.proofs.Common.{◌≡◌, ◌<◌, ℕ, suc, arith, Bool, false, List, [], ◌∷◌, ◌++◌, length, Option, Some, None}
+use Rattle.std.proofs.Common.{option_map, inl, inr, refl, sym, ap, subst, ◌∙◌, append_assoc, length-append}
+use Rattle.std.proofs.lemmas.List.{nil_from_length}
 use Rattle.plir_store.specs.Members.{Has, Distinct, head}
 use Rattle.plir_store.specs.MemberLaws.{Has-append_cases, Has-mid}
 use Rattle.plir_core.specs.declared.ptr.Ptr.{Ptr}
@@ -13,25 +13,12 @@ use Rattle.plir_core.specs.Forest.{look, IsForest}
 use Rattle.plir_core.specs.WellFormed.{IsWellFormed}
 use Rattle.plir_core.specs.ContextView.{ContextView, IsLive, children, parent_of}
 use Rattle.plir_walk.specs.LawfulChanges.{LawfulChanges}
+use Rattle.plir_walk.specs.NodeLaws.{left_from, same-op, left-cut, headed, ended}
 use Rattle.plir_folding.specs.Worth.{Integer, IsSettled}
 use Rattle.plir_folding.specs.Folded.{IsFlagged}
-use Rattle.plir_folding.specs.Folding.{left_from, AreChildrenSettled, IsFilledBefore, IsFoldedBelow, IsToldBy}
-use Rattle.plir_folding.proofs.Nodes.{left-cut, same-op}
+use Rattle.plir_folding.specs.Folding.{AreChildrenSettled, IsFilledBefore, IsFoldedBelow, IsToldBy}
 use Rattle.plir_folding.proofs.Folds.{tells-then, tells-none}
 use Rattle.plir_folding.proofs.Below.{below-none, below-then}
-
--- a list that begins with an operation, and one that does not begin
-headed : (xs : List IRNode) (op : Ptr OperationKind) → Some (Operation op) ≡ head xs → (ys : List IRNode) × (xs ≡ Operation op ∷ ys)
-headed [] op e = absurd (none-some (Operation op) (sym e))
-headed (x ∷ xs) op e = (xs, ap (λ z. z ∷ xs) (sym (same_Some (Operation op) x e)))
-
-ended : (xs : List IRNode) → None ≡ head xs → xs ≡ []
-ended [] e = refl
-ended (x ∷ xs) e = absurd (none-some x e)
-
-none-of : (xs : List IRNode) → length xs ≡ 0 → xs ≡ []
-none-of [] e = refl
-none-of (x ∷ xs) e = absurd (omega (arith, e))
 
 -- nothing has come between two parts of a list that is the same
 nothing-between : (xs ks ys : List IRNode) → xs ++ ys ≡ xs ++ (ks ++ ys) → ks ≡ []
@@ -40,12 +27,13 @@ nothing-between xs ks ys e =
     let b = length-append xs ys in
     let c = length-append xs (ks ++ ys) in
     let d = length-append ks ys in
-    none-of ks (omega (arith, a, b, c, d))
+    nil_from_length ks (omega (arith, a, b, c, d))
 
 module _ {K A T : Type 0} (fold : K → Integer → Integer → Option Integer) (own : A → List ℕ) where
   -- From the start of the loop in s to s', no operand of the operations of the block b before `at` folds, if nothing
   -- was folded.
-  pub record IsFoldingBlock (s s' : ContextView K A T) (b : Ptr BasicBlockKind) (before changed : Bool) (at : Option (Ptr OperationKind)) : Type 0 where
+  pub record IsFoldingBlock (s s' : ContextView K A T) (b : Ptr BasicBlockKind) (before changed : Bool)
+      (at : Option (Ptr OperationKind)) : Type 0 where
     pub below : IsFoldedBelow fold own s (BasicBlock b) s'
     pub tells : IsFlagged s before changed s'
     pub front : List IRNode
@@ -54,10 +42,12 @@ module _ {K A T : Type 0} (fold : K → Integer → Integer → Option Integer) 
     pub here : option_map Operation at ≡ head back
     pub clean : changed ≡ false → (p : Ptr OperationKind) → Has front (Operation p) → IsSettled fold s' p
 
-module _ {K A T : Type 0} (fold : K → Integer → Integer → Option Integer) (own : A → List ℕ) (laws : LawfulChanges K A T own) where
-  pub block-start : (s : ContextView K A T) (b : Ptr BasicBlockKind) (before : Bool) (at : Option (Ptr OperationKind)) → IsWellFormed own s → option_map Operation at ≡ head (children s (BasicBlock b))
+module _ {K A T : Type 0} {fold : K → Integer → Integer → Option Integer} {own : A → List ℕ}
+    (laws : LawfulChanges K A T own) where
+  pub block-start : {s : ContextView K A T} {b : Ptr BasicBlockKind} {before : Bool} {at : Option (Ptr OperationKind)}
+      → IsWellFormed own s → option_map Operation at ≡ head (children s (BasicBlock b))
       → IsFoldingBlock fold own s s b before before at
-  block-start s b before at w e = record {
+  block-start {s} {b} {before} {at} w e = record {
     below = below-none fold own laws s (BasicBlock b) w;
     tells = tells-none fold s before;
     front = [];
@@ -67,12 +57,15 @@ module _ {K A T : Type 0} (fold : K → Integer → Integer → Option Integer) 
     clean = λ f p h. absurd h;
   }
 
-  module _ (s s' : ContextView K A T) (b : Ptr BasicBlockKind) (before changed : Bool) (at : Option (Ptr OperationKind)) (w : IsWellFormed own s) (r : IsFoldingBlock fold own s s' b before changed at) where
+  module _ {s s' : ContextView K A T} {b : Ptr BasicBlockKind} {before changed : Bool} {at : Option (Ptr OperationKind)}
+      (w : IsWellFormed own s) (r : IsFoldingBlock fold own s s' b before changed at) where
     pub block-end : at ≡ None → changed ≡ false → AreChildrenSettled fold s' (BasicBlock b)
-    block-end e f p h = elim (Has-append_cases r.front r.back (Operation p) (subst (λ z. Has z (Operation p)) r.split h)) [
-      | inl x ↦ r.clean f p x
-      | inr y ↦ absurd (subst (λ z. Has z (Operation p)) (ended r.back (ap (option_map Operation) (sym e) ∙ r.here)) y)
-    ]
+    block-end e f p h =
+        elim (Has-append_cases r.front r.back (Operation p) (subst (λ z. Has z (Operation p)) r.split h)) [
+          | inl x ↦ r.clean f p x
+          | inr y ↦
+              absurd (subst (λ z. Has z (Operation p)) (ended r.back (ap (option_map Operation) (sym e) ∙ r.here)) y)
+        ]
 
     module _ (op : Ptr OperationKind) (is : at ≡ Some op) where
       forest : IsForest (look s')
@@ -93,23 +86,29 @@ module _ {K A T : Type 0} (fold : K → Integer → Integer → Option Integer) 
       pub block-parent : parent_of s' (Operation op) ≡ Some (BasicBlock b)
       block-parent = forest.child_parent (BasicBlock b) (Operation op) has
 
-      module _ (t : ContextView K A T) (next : Option (Ptr OperationKind)) (changed' : Bool) (f : IsFoldedBelow fold own s' (BasicBlock b) t) where
+      module _ {t : ContextView K A T} (f : IsFoldedBelow fold own s' (BasicBlock b) t) where
         pub block-below : IsFoldedBelow fold own s (BasicBlock b) t
         block-below = below-then fold own laws s s' t (BasicBlock b) w r.below f
 
-        module _ (behind : (xs ys : List IRNode) → children s' (BasicBlock b) ≡ xs ++ Operation op ∷ ys → option_map Operation next ≡ head ys) (g : IsFilledBefore s' t b op) where
+        module _ (next : Option (Ptr OperationKind))
+            (behind : (xs ys : List IRNode) → children s' (BasicBlock b) ≡ xs ++ Operation op ∷ ys
+            → option_map Operation next ≡ head ys) (g : IsFilledBefore s' t b op) where
           abbrev passed : List IRNode
           passed = r.front ++ ((g r.front rest.0 block-cut).0 ++ Operation op ∷ [])
 
           recut : children t (BasicBlock b) ≡ passed ++ rest.0
           recut =
               let k = g r.front rest.0 block-cut in
-              k.1 ∙ ap (λ z. r.front ++ z) (sym (append_assoc k.0 (Operation op ∷ []) rest.0)) ∙ sym (append_assoc r.front (k.0 ++ Operation op ∷ []) rest.0)
+              k.1 ∙ ap (λ z. r.front ++ z) (sym (append_assoc k.0 (Operation op ∷ []) rest.0))
+              ∙ sym (append_assoc r.front (k.0 ++ Operation op ∷ []) rest.0)
 
-          pub block-more : IsToldBy s' changed changed' t (λ c. IsSettled fold c op) → IsFoldingBlock fold own s t b before changed' next
-          block-more told = record {
+          pub block-more : {changed' : Bool} → IsToldBy s' changed changed' t (λ c. IsSettled fold c op)
+              → IsFoldingBlock fold own s t b before changed' next
+          block-more {changed'} told = record {
             below = block-below;
-            tells = tells-then fold own s s' t w r.below.whole r.below.folded f.folded before changed changed' r.tells told.tells;
+            tells =
+                tells-then fold own s s' t w r.below.whole r.below.folded f.folded before changed changed' r.tells
+                told.tells;
             front = passed;
             back = rest.0;
             split = recut;
@@ -117,7 +116,9 @@ module _ {K A T : Type 0} (fold : K → Integer → Integer → Option Integer) 
             clean = λ e p h.
                 (let k = told.tells.clear e in
                 let q = g r.front rest.0 block-cut in
-                let none = nothing-between r.front q.0 (Operation op ∷ rest.0) (sym block-cut ∙ ap (λ z. children z (BasicBlock b)) (sym k.1) ∙ q.1) in
+                let none =
+                nothing-between r.front q.0 (Operation op ∷ rest.0)
+                (sym block-cut ∙ ap (λ z. children z (BasicBlock b)) (sym k.1) ∙ q.1) in
                 elim (Has-append_cases r.front (q.0 ++ Operation op ∷ []) (Operation p) h) [
                   | inl x ↦ subst (λ z. IsSettled fold z p) (sym k.1) (r.clean k.0 p x)
                   | inr y ↦ elim (subst (λ z. Has (z ++ Operation op ∷ []) (Operation p)) none y) [
@@ -131,12 +132,17 @@ module _ {K A T : Type 0} (fold : K → Integer → Integer → Option Integer) 
           block-falls = go next (behind r.front rest.0 block-cut)
             where
               before-it : left_from (children s' (BasicBlock b)) at ≡ suc (length rest.0)
-              before-it = ap (left_from (children s' (BasicBlock b))) is ∙ ap (λ z. left_from z (Some op)) block-cut ∙ left-cut r.front rest.0 op (subst Distinct block-cut (forest.once (BasicBlock b)))
+              before-it =
+                  ap (left_from (children s' (BasicBlock b))) is ∙ ap (λ z. left_from z (Some op)) block-cut
+                  ∙ left-cut r.front rest.0 op (subst Distinct block-cut (forest.once (BasicBlock b)))
 
-              go : (o : Option (Ptr OperationKind)) → option_map Operation o ≡ head rest.0 → left_from (children t (BasicBlock b)) o < left_from (children s' (BasicBlock b)) at
+              go : (o : Option (Ptr OperationKind)) → option_map Operation o ≡ head rest.0
+                  → left_from (children t (BasicBlock b)) o < left_from (children s' (BasicBlock b)) at
               go None e = omega (arith, before-it)
               go (Some q) e =
                   let y = headed rest.0 q e in
                   let c = recut ∙ ap (λ z. passed ++ z) y.1 in
-                  let after = ap (λ z. left_from z (Some q)) c ∙ left-cut passed y.0 q (subst Distinct c ((laws.forest t f.whole).once (BasicBlock b))) in
+                  let after =
+                  ap (λ z. left_from z (Some q)) c
+                  ∙ left-cut passed y.0 q (subst Distinct c ((laws.forest t f.whole).once (BasicBlock b))) in
                   omega (arith, before-it, after, ap length y.1)

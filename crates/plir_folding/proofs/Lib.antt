@@ -1,5 +1,3 @@
-pub mod Filters
-pub mod Nodes
 pub mod Worths
 pub mod Backwards
 pub mod Folds

@@ -10,38 +10,41 @@ use Rattle.plir_store.specs.Table.{content_at, is_live_at}
 use Rattle.plir_data.specs.Dictionary.{dict_put}
 use Rattle.plir_data.specs.Keys.{value_key}
 use Rattle.plir_data.specs.declared.op_set.OpKind.TheVariants.{Constant}
+use Rattle.plir_store.specs.FilterLaws.{not-both, filter-all, filter-without}
 use Rattle.plir_core.specs.declared.ptr.Ptr.{Ptr}
 use Rattle.plir_core.specs.declared.ptr.Operation.{Operation as OperationKind}
 use Rattle.plir_core.specs.declared.ptr.BasicBlock.{BasicBlock as BasicBlockKind}
 use Rattle.plir_core.specs.declared.ptr.IRNode.{IRNode}
 use Rattle.plir_core.specs.declared.ptr.IRNode.TheVariants.{Operation, Region, BasicBlock}
 use Rattle.plir_core.specs.declared.value.Value.{Value}
-use Rattle.plir_core.specs.Above.{climb}
 use Rattle.plir_core.specs.Contents.{OpView, op_view}
 use Rattle.plir_core.specs.Held.{IsOpEdited}
 use Rattle.plir_core.specs.Made.{IsMade}
 use Rattle.plir_core.specs.Nodes.{Nodes, is_node_live}
 use Rattle.plir_core.specs.Placed.{MovesOnly, IsPlaced, IsPlacedBefore}
 use Rattle.plir_core.specs.Forest.{look, IsForest}
-use Rattle.plir_core.specs.ContextView.{ContextView, IsLive, is_live, children, parent_of, op_at, block_at, operands_in, operands_of, results_in}
-use Rattle.plir_core.specs.ContextView.{types_from, type_of_value}
+use Rattle.plir_core.specs.ContextView.{ContextView, IsLive, is_live, children, parent_of, op_at, block_at, operands_in}
+use Rattle.plir_core.specs.ContextView.{operands_of, results_in, types_from, type_of_value}
+use Rattle.plir_core.specs.ButOperands.{but_operands}
 use Rattle.plir_builtin.specs.BuiltinOps.{IsNewConstant}
 use Rattle.plir_walk.specs.Lawful.{Lawful}
 use Rattle.plir_walk.specs.LawfulChanges.{LawfulChanges}
+use Rattle.plir_walk.specs.NodeLaws.{ptr-tells, block-tells, reach-leaf}
 use Rattle.plir_folding.specs.Worth.{Integer, attr_of, maker_of, held_at, made_by, folded}
-use Rattle.plir_folding.specs.Folded.{ArePaired, but_operands, constant_view, result_of, IsNewConstantOf, IsReplaced, IsSameOrReplaced, IsFolded}
-use Rattle.plir_folding.proofs.Filters.{not-both, filter-all, filter-without}
-use Rattle.plir_folding.proofs.Nodes.{ptr-tells, block-tells, climb-nothing}
+use Rattle.plir_folding.specs.Folded.{ArePaired, constant_view, result_of, IsNewConstantOf, IsReplaced}
+use Rattle.plir_folding.specs.Folded.{IsSameOrReplaced, IsFolded}
 use Rattle.plir_folding.proofs.Worths.{maker-entity, folded-worth, folded-typed}
 use Rattle.plir_folding.proofs.Folds.{paired-self}
 
-moved-live : {O B : Type 0} (s t : Nodes O B) (x : IRNode) → MovesOnly s t x → (m : IRNode) → is_node_live t m ≡ is_node_live s m
+moved-live : {O B : Type 0} (s t : Nodes O B) (x : IRNode) → MovesOnly s t x → (m : IRNode)
+    → is_node_live t m ≡ is_node_live s m
 moved-live s t x e (Operation p) = ap (λ z. is_live_at z p.slot p.version) e.ops
 moved-live s t x e (Region p) = ap (λ z. is_live_at z p.slot p.version) e.regions
 moved-live s t x e (BasicBlock p) = ap (λ z. is_live_at z p.slot p.version) e.blocks
 
 -- a list with one value replaced is paired with the list
-paired-set : (R : Value → Value → Type 0) → ((v : Value) → R v v) → (vs : List Value) (i : ℕ) (x y : Value) → slice_get vs i ≡ Some x → R x y → ArePaired R vs (slice_set vs i y)
+paired-set : (R : Value → Value → Type 0) → ((v : Value) → R v v) → (vs : List Value) (i : ℕ) (x y : Value)
+    → slice_get vs i ≡ Some x → R x y → ArePaired R vs (slice_set vs i y)
 paired-set R same [] i x y e r = absurd (none-some x e)
 paired-set R same (v ∷ vs) zero x y e r = (subst (λ z. R z y) (sym (same_Some v x e)) r, paired-self R same vs)
 paired-set R same (v ∷ vs) (suc i) x y e r = (same v, paired-set R same vs i x y e r)
@@ -59,17 +62,9 @@ module _ {K A : Type 0} (i : ℕ) (y : Value) where
   operands-replaced (Some o) = refl
 
 module _ {K A T : Type 0} where
-  -- nothing climbs to what has no children, but itself
-  reach-leaf : (s : ContextView K A T) (x : IRNode) → IsForest (look s) → children s x ≡ [] → (k : ℕ) (m : IRNode) → climb (parent_of s) k (Some m) ≡ Some x → m ≡ x
-  reach-leaf s x w none zero m e = same_Some m x e
-  reach-leaf s x w none (suc k) m e = up (λ a f. reach-leaf s x w none k a f) (parent_of s m) refl
-    where
-      up : ((a : IRNode) → climb (parent_of s) k (Some a) ≡ Some x → a ≡ x) → (o : Option IRNode) → parent_of s m ≡ o → m ≡ x
-      up rest None q = absurd (climb-nothing (parent_of s) k x (ap (climb (parent_of s) k) (sym q) ∙ e))
-      up rest (Some a) q = absurd (subst (λ z. Has z m) none (w.parent_child x m (q ∙ ap Some (rest a (ap (climb (parent_of s) k) (sym q) ∙ e)))))
-
   -- a constant was made and put before op
-  module _ (own : A → List ℕ) (s t u : ContextView K A T) (b : Ptr BasicBlockKind) (op c : Ptr OperationKind) (w : IsForest (look s))
+  module _ (own : A → List ℕ) (s t u : ContextView K A T) (b : Ptr BasicBlockKind) (op c : Ptr OperationKind)
+      (w : IsForest (look s))
       (here : parent_of s (Operation op) ≡ Some (BasicBlock b)) (made : IsMade s.nodes t.nodes (Operation c))
       (placed : IsPlacedBefore t.nodes u.nodes (Operation c) (Operation op)) where
     over : IsLive s (BasicBlock b)
@@ -78,7 +73,8 @@ module _ {K A T : Type 0} where
     cut : (front : List IRNode) × (back : List IRNode) × (children s (BasicBlock b) ≡ front ++ Operation op ∷ back)
     cut = Has-split (children s (BasicBlock b)) (Operation op) (w.parent_child (BasicBlock b) (Operation op) here)
 
-    pub now : (xs ys : List IRNode) → children s (BasicBlock b) ≡ xs ++ Operation op ∷ ys → IsPlaced t.nodes u.nodes (Operation c) (BasicBlock b) (xs ++ Operation c ∷ Operation op ∷ ys)
+    pub now : (xs ys : List IRNode) → children s (BasicBlock b) ≡ xs ++ Operation op ∷ ys
+        → IsPlaced t.nodes u.nodes (Operation c) (BasicBlock b) (xs ++ Operation c ∷ Operation op ∷ ys)
     now xs ys e = placed (BasicBlock b) xs ys (made.children (BasicBlock b) over ∙ e)
 
     at : IsPlaced t.nodes u.nodes (Operation c) (BasicBlock b) (cut.0 ++ Operation c ∷ Operation op ∷ cut.1)
@@ -110,14 +106,20 @@ module _ {K A T : Type 0} where
 
     module _ (laws : LawfulChanges K A T own) (v : ContextView K A T) where
       pub lawful-fold : Lawful (look u) (BasicBlock b) (look v) → Lawful (look s) (BasicBlock b) (look v)
-      lawful-fold e = laws.both s u v (BasicBlock b) w (laws.placed s t u (BasicBlock b) (BasicBlock b) (Operation c) _ w (zero, refl) made at) e
+      lawful-fold e =
+          laws.both s u v (BasicBlock b) w
+          (laws.placed s t u (BasicBlock b) (BasicBlock b) (Operation c) _ w (zero, refl) made at) e
 
     -- and it took the place of an operand of op
-    module _ (fold : K → Integer → Integer → Option Integer) (own_type : A → Option ℕ) (v : ContextView K A T) (i : ℕ) (n : Integer) (x : Value) (w' : IsForest (look t))
+    module _ (fold : K → Integer → Integer → Option Integer) (own_type : A → Option ℕ) (v : ContextView K A T) (i : ℕ)
+        (n : Integer) (x : Value) (w' : IsForest (look t))
         (new : IsNewConstant own_type t c (attr_of n)) (types : t.types ≡ s.types) (moved_types : u.types ≡ t.types)
-        (edited : IsOpEdited u v op (replaced_in i (result_of c))) (operand : slice_get (operands_of s op) i ≡ Some x) (folds : folded fold s x ≡ Some n) where
+        (edited : IsOpEdited u v op (replaced_in i (result_of c))) (operand : slice_get (operands_of s op) i ≡ Some x)
+        (folds : folded fold s x ≡ Some n) where
       holds : op_at t c ≡ Some (constant_view n)
-      holds = new.holds ∙ ap (λ z. Some (op_view Constant (z ∷ []) [] [] (dict_put [] value_key (attr_of n)))) (sym (same_Some n.type new.type new.typed))
+      holds =
+          new.holds ∙ ap (λ z. Some (op_view Constant (z ∷ []) [] [] (dict_put [] value_key (attr_of n))))
+          (sym (same_Some n.type new.type new.typed))
 
       apart : c ≡ op → ⊥
       apart e = older (Operation op) op-live (ap Operation (sym e))
@@ -131,9 +133,13 @@ module _ {K A T : Type 0} where
 
       -- the constant's type is the operand's
       same-type : type_of_value v (result_of c) ≡ type_of_value s x
-      same-type = ap (λ z. slice_get (results_in z) 0) new-constant.holds ∙ sym (go (maker_of x) refl (folded-typed fold s x n folds))
+      same-type =
+          ap (λ z. slice_get (results_in z) 0) new-constant.holds
+          ∙ sym (go (maker_of x) refl (folded-typed fold s x n folds))
         where
-          go : (m : Option (Ptr OperationKind)) → maker_of x ≡ m → (o : OpView K A) × ((made_by s x ≡ Some o) × (o.result_types ≡ n.type ∷ [])) → type_of_value s x ≡ Some n.type
+          go : (m : Option (Ptr OperationKind)) → maker_of x ≡ m
+              → (o : OpView K A) × ((made_by s x ≡ Some o) × (o.result_types ≡ n.type ∷ []))
+              → type_of_value s x ≡ Some n.type
           go None q r = absurd (none-some r.0 (sym (ap (held_at s) q) ∙ r.1.0))
           go (Some p) q r =
               let e = maker-entity x.entity x.index p q in
@@ -161,16 +167,20 @@ module _ {K A T : Type 0} where
         | inl e ↦ subst (λ z. filter (is_live s) (children v z) ≡ children s z) (sym e)
             (ap (filter (is_live s)) (edited.keeps.children (BasicBlock b) ∙ at.children_over)
             ∙ filter-without (is_live s) cut.0 (Operation op ∷ cut.1) (Operation c) made.new
-            (λ y h. w.child_live (BasicBlock b) y (subst (λ z. Has z y) (sym cut.2) (Has-append_left cut.0 (Operation op ∷ cut.1) y h)))
-            (λ y h. w.child_live (BasicBlock b) y (subst (λ z. Has z y) (sym cut.2) (Has-append_right cut.0 (Operation op ∷ cut.1) y h)))
+            (λ y h. w.child_live (BasicBlock b) y
+            (subst (λ z. Has z y) (sym cut.2) (Has-append_left cut.0 (Operation op ∷ cut.1) y h)))
+            (λ y h. w.child_live (BasicBlock b) y
+            (subst (λ z. Has z y) (sym cut.2) (Has-append_right cut.0 (Operation op ∷ cut.1) y h)))
             ∙ sym cut.2)
-        | inr ne ↦ ap (filter (is_live s)) (edited.keeps.children m ∙ at.children m ne ∙ made.children m l) ∙ filter-all (is_live s) (children s m) (λ y h. w.child_live m y h)
+        | inr ne ↦ ap (filter (is_live s)) (edited.keeps.children m ∙ at.children m ne ∙ made.children m l)
+            ∙ filter-all (is_live s) (children s m) (λ y h. w.child_live m y h)
       ]
 
       but-kept : (p : Ptr OperationKind) → IsLive s (Operation p) → but_operands (op_at v p) ≡ but_operands (op_at s p)
       but-kept p l = elim (ptr-tells p op) [
         | inl e ↦ subst (λ z. but_operands (op_at v z) ≡ but_operands (op_at s z)) (sym e)
-            (ap but_operands edited.held ∙ but-replaced i (result_of c) (op_at u op) ∙ ap but_operands (op-u op op-live))
+            (ap but_operands edited.held ∙ but-replaced i (result_of c) (op_at u op)
+            ∙ ap but_operands (op-u op op-live))
         | inr ne ↦ ap but_operands (edited.ops p (live-u (Operation p) l) ne ∙ op-u p l)
       ]
 
@@ -181,9 +191,12 @@ module _ {K A T : Type 0} where
       operands-left p l = elim (ptr-tells p op) [
         | inl e ↦ subst (λ z. ArePaired R (operands_of s z) (operands_of v z)) (sym e)
             (subst (ArePaired R (operands_of s op))
-            (sym (ap operands_in edited.held ∙ operands-replaced i (result_of c) (op_at u op) ∙ ap (λ z. slice_set (operands_in z) i (result_of c)) (op-u op op-live)))
+            (sym (ap operands_in edited.held ∙ operands-replaced i (result_of c) (op_at u op)
+            ∙ ap (λ z. slice_set (operands_in z) i (result_of c)) (op-u op op-live)))
             (paired-set R (λ y. inl refl) (operands_of s op) i x (result_of c) operand (inr replaced)))
-        | inr ne ↦ subst (ArePaired R (operands_of s p)) (sym (ap operands_in (edited.ops p (live-u (Operation p) l) ne ∙ op-u p l))) (paired-self R (λ y. inl refl) (operands_of s p))
+        | inr ne ↦ subst (ArePaired R (operands_of s p))
+            (sym (ap operands_in (edited.ops p (live-u (Operation p) l) ne ∙ op-u p l)))
+            (paired-self R (λ y. inl refl) (operands_of s p))
       ]
 
       pub folded-one : IsFolded fold s v
@@ -198,5 +211,6 @@ module _ {K A T : Type 0} where
         types = edited.keeps.types ∙ moved_types ∙ types;
       }
 
-      pub filled-one : (xs ys : List IRNode) → children s (BasicBlock b) ≡ xs ++ Operation op ∷ ys → (ks : List IRNode) × (children v (BasicBlock b) ≡ xs ++ (ks ++ Operation op ∷ ys))
+      pub filled-one : (xs ys : List IRNode) → children s (BasicBlock b) ≡ xs ++ Operation op ∷ ys
+          → (ks : List IRNode) × (children v (BasicBlock b) ≡ xs ++ (ks ++ Operation op ∷ ys))
       filled-one xs ys e = (Operation c ∷ [], edited.keeps.children (BasicBlock b) ∙ (now xs ys e).children_over)

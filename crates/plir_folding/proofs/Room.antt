@@ -1,8 +1,10 @@
 -- How many slots of operations hold none: each new constant takes one.
-use Rattle.std.proofs.Common.{◌≡◌, ◌<◌, ◌≤◌, ◌+◌, ◌^◌, ◌==◌, ℕ, zero, suc, arith, Bool, true, false, Option, Some, None, inl, inr, refl, sym, ap, subst, ◌∙◌}
+use Rattle.std.proofs.Common.{◌≡◌, ◌<◌, ◌≤◌, ◌+◌, ◌^◌, ◌==◌, ℕ, zero, suc, arith, Bool, true, false, Option, Some, None}
+use Rattle.std.proofs.Common.{inl, inr, refl, sym, ap, subst, ◌∙◌}
 use Rattle.std.specs.Prelude.{◌&&◌, is_some}
 use Rattle.std.proofs.lemmas.Bool.Decides.{eqb_tells}
 use Rattle.plir_store.specs.Table.{Table, content_at, version_at, is_live_at}
+use Rattle.plir_store.specs.FilterLaws.{not-both}
 use Rattle.plir_core.specs.declared.ptr.Ptr.{Ptr}
 use Rattle.plir_core.specs.declared.ptr.Operation.{Operation as OperationKind}
 use Rattle.plir_core.specs.declared.ptr.IRNode.TheVariants.{Operation}
@@ -11,7 +13,6 @@ use Rattle.plir_core.specs.Nodes.{ptr_at}
 use Rattle.plir_core.specs.ContextView.{ContextView, is_live, IsIndexed, given_out}
 use Rattle.plir_folding.specs.Worth.{Integer}
 use Rattle.plir_folding.specs.Folded.{IsFolded, IsNewConstantOf}
-use Rattle.plir_folding.proofs.Filters.{not-both}
 
 -- 1 for nothing, and 0 for something
 abbrev pub vacant : {X : Type 0} → Option X → ℕ
@@ -33,8 +34,10 @@ module _ {X : Type 0} (f g : ℕ → Option X) (less : (i : ℕ) → vacant (g i
   unfolding vacant_below
   vacant-fewer zero i h fewer = absurd (omega (arith, h))
   vacant-fewer (suc n) i h fewer = elim (eqb_tells i n) [
-    | inl e ↦ (let a = subst (λ z. vacant (g z) < vacant (f z)) e.1 fewer in let b = vacant-less n in omega (arith, a, b))
-    | inr ne ↦ (let a = less n in let b = vacant-fewer n i (let d = ne.1 in omega (arith, h, d)) fewer in omega (arith, a, b))
+    | inl
+        e ↦ (let a = subst (λ z. vacant (g z) < vacant (f z)) e.1 fewer in let b = vacant-less n in omega (arith, a, b))
+    | inr ne ↦
+        (let a = less n in let b = vacant-fewer n i (let d = ne.1 in omega (arith, h, d)) fewer in omega (arith, a, b))
   ]
 
 module _ {C : Type 0} where
@@ -49,7 +52,8 @@ module _ {C : Type 0} where
   live-some : (t : Table C) (i v : ℕ) → is_live_at t i v ≡ true → (x : C) × (content_at t i ≡ Some x)
   live-some t i v l = go (content_at t i) refl l
     where
-      go : (o : Option C) → content_at t i ≡ o → is_some o && (version_at t i == v) ≡ true → (x : C) × (content_at t i ≡ Some x)
+      go : (o : Option C) → content_at t i ≡ o → is_some o && (version_at t i == v) ≡ true
+          → (x : C) × (content_at t i ≡ Some x)
       go None q l = absurd (not-both false l refl)
       go (Some x) q l = (x, q)
 
@@ -58,7 +62,8 @@ module _ {C : Type 0} where
     where
       go : (b : Bool) → b && (version_at t i == v) ≡ true → version_at t i ≡ v
       go false l = absurd (not-both false l refl)
-      go true l = elim (eqb_tells (version_at t i) v) [ inl h ↦ h.1 | inr h ↦ absurd (not-both (version_at t i == v) l h.0) ]
+      go true l =
+          elim (eqb_tells (version_at t i) v) [ inl h ↦ h.1 | inr h ↦ absurd (not-both (version_at t i == v) l h.0) ]
 
 module _ {K A T : Type 0} where
   -- how many slots of operations are vacant, of all that there may be
@@ -69,8 +74,10 @@ module _ {K A T : Type 0} where
     stays : (i : ℕ) → vacant (content_at t.nodes.ops i) ≤ vacant (content_at s.nodes.ops i)
     stays i = go (content_at s.nodes.ops i) refl
       where
-        go : (o : Option (OpView K A)) → content_at s.nodes.ops i ≡ o → vacant (content_at t.nodes.ops i) ≤ vacant (content_at s.nodes.ops i)
-        go None q = subst (λ z. vacant (content_at t.nodes.ops i) ≤ vacant z) (sym q) (at-most (content_at t.nodes.ops i))
+        go : (o : Option (OpView K A)) → content_at s.nodes.ops i ≡ o
+            → vacant (content_at t.nodes.ops i) ≤ vacant (content_at s.nodes.ops i)
+        go None q =
+            subst (λ z. vacant (content_at t.nodes.ops i) ≤ vacant z) (sym q) (at-most (content_at t.nodes.ops i))
           where
             at-most : (o : Option (OpView K A)) → vacant o ≤ 1
             at-most None = omega arith
@@ -80,7 +87,8 @@ module _ {K A T : Type 0} where
             let held = live-some t.nodes.ops i (version_at s.nodes.ops i) there in
             subst (λ z. vacant z ≤ vacant (content_at s.nodes.ops i)) (sym held.1) (omega arith)
 
-    module _ (p : Ptr OperationKind) (n : Integer) (new : IsNewConstantOf s t p n) (indexed : IsIndexed t) (given : given_out t (Operation p) ≡ true) where
+    module _ (p : Ptr OperationKind) (n : Integer) (new : IsNewConstantOf s t p n) (indexed : IsIndexed t)
+        (given : given_out t (Operation p) ≡ true) where
       -- the slot was vacant
       was-vacant : content_at s.nodes.ops p.slot ≡ None
       was-vacant = go (content_at s.nodes.ops p.slot) refl
@@ -90,8 +98,11 @@ module _ {K A T : Type 0} where
           go (Some v) q =
               let before = live-now s.nodes.ops p.slot v q in
               let after = f.live (Operation (ptr_at s.nodes.ops p.slot)) before in
-              let same = sym (live-version t.nodes.ops p.slot (version_at s.nodes.ops p.slot) after) ∙ live-version t.nodes.ops p.slot p.version new.live in
-              absurd (not-both (is_live s (Operation p)) (subst (λ z. is_live_at s.nodes.ops p.slot z ≡ true) same before) new.new)
+              let same =
+              sym (live-version t.nodes.ops p.slot (version_at s.nodes.ops p.slot) after)
+              ∙ live-version t.nodes.ops p.slot p.version new.live in
+              absurd (not-both (is_live s (Operation p))
+              (subst (λ z. is_live_at s.nodes.ops p.slot z ≡ true) same before) new.new)
 
       within : p.slot < 2 ^ 32
       within = (let e = indexed.ops p given in omega (arith, e))
@@ -99,4 +110,5 @@ module _ {K A T : Type 0} where
       pub less-room : room t < room s
       unfolding room
       less-room = vacant-fewer (content_at s.nodes.ops) (content_at t.nodes.ops) stays (2 ^ 32) p.slot within
-          (subst (λ z. vacant z < vacant (content_at s.nodes.ops p.slot)) (sym new.holds) (subst (λ z. 0 < vacant z) (sym was-vacant) (omega arith)))
+          (subst (λ z. vacant z < vacant (content_at s.nodes.ops p.slot)) (sym new.holds)
+          (subst (λ z. 0 < vacant z) (sym was-vacant) (omega arith)))

@@ -1,5 +1,5 @@
 -- What is left where operands have become constants.
-use Rattle.std.specs.Prelude.{◌≡◌, Bool, true, false, List, [], ◌∷◌, Option, Some, None, ◌⊎◌}
+use Rattle.std.specs.Prelude.{◌≡◌, Bool, true, false, List, [], ◌∷◌, Option, Some, ◌⊎◌}
 use Rattle.std.specs.List.{filter}
 use Rattle.plir_data.specs.Dictionary.{dict_put}
 use Rattle.plir_data.specs.Keys.{value_key}
@@ -14,9 +14,10 @@ use Rattle.plir_core.specs.declared.value.DefiningEntity.TheVariants.{Op}
 use Rattle.plir_core.specs.Contents.{OpView, op_view}
 use Rattle.plir_core.specs.ContextView.{ContextView, IsLive, is_live, children, parent_of, op_at, block_at, operands_of}
 use Rattle.plir_core.specs.ContextView.{type_of_value}
+use Rattle.plir_core.specs.ButOperands.{but_operands}
 use Rattle.plir_folding.specs.Worth.{Integer, attr_of, Evaluates}
 
--- two lists of values are as long, and R holds of those at the same places
+-- two lists of values are as long, and R holds of those at the same indices
 abbrev pub ArePaired : (Value → Value → Type 0) → List Value → List Value → Type 0
 ArePaired R [] [] = Unit {0}
 ArePaired R [] (w ∷ ws) = ⊥
@@ -24,11 +25,6 @@ ArePaired R (v ∷ vs) [] = ⊥
 ArePaired R (v ∷ vs) (w ∷ ws) = R v w × ArePaired R vs ws
 
 module _ {K A : Type 0} where
-  -- what an operation holds but for its operands
-  abbrev pub but_operands : Option (OpView K A) → Option (OpView K A)
-  but_operands None = None
-  but_operands (Some v) = Some (record v { operands = [] })
-
   -- what a constant of an integer holds that was made
   abbrev pub constant_view : Integer → OpView K A
   constant_view n = op_view Constant (n.type ∷ []) [] [] (dict_put [] value_key (attr_of n))

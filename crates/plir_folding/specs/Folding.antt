@@ -1,5 +1,5 @@
 -- How far the loops over blocks and operands have come.
-use Rattle.std.specs.Prelude.{◌≡◌, ℕ, suc, Bool, false, cond, List, [], ◌∷◌, ◌++◌, length, Option, Some, None}
+use Rattle.std.specs.Prelude.{◌≡◌, ℕ, Bool, false, List, ◌∷◌, ◌++◌, Option}
 use Rattle.std.specs.declared.ops.ControlFlow.{ControlFlow}
 use Rattle.std.specs.declared.ops.ControlFlow.TheVariants.{Continue, Break}
 use Rattle.plir_walk.specs.declared.interruptible.WalkContinue.{WalkContinue}
@@ -14,15 +14,8 @@ use Rattle.plir_core.specs.Forest.{look}
 use Rattle.plir_core.specs.ContextView.{ContextView, children}
 use Rattle.plir_core.specs.WellFormed.{IsWellFormed}
 use Rattle.plir_walk.specs.Lawful.{Lawful}
-use Rattle.plir_walk.specs.Tree.{same}
 use Rattle.plir_folding.specs.Worth.{Integer, IsSettled}
 use Rattle.plir_folding.specs.Folded.{IsFolded, IsFlagged}
-
--- how many of a list of nodes there are from an operation on
-abbrev pub left_from : List IRNode → Option (Ptr OperationKind) → ℕ
-left_from ns None = 0
-left_from [] (Some p) = 0
-left_from (n ∷ ns) (Some p) = cond (same n (Operation p)) (suc (length ns)) (left_from ns (Some p))
 
 module _ {K A T : Type 0} where
   -- From s to t nodes have come right before an operation of a block, and the block has changed no further.

@@ -1,5 +1,6 @@
 -- What integers values are known to be: constants, and what operations on constants fold to.
-use Rattle.std.specs.Prelude.{◌≡◌, ◌==◌, ℕ, zero, suc, cond, List, [], ◌∷◌, Option, Some, None, option_and_then, slice_get}
+use Rattle.std.specs.Prelude.{◌≡◌, ◌==◌, ℕ, zero, suc, cond, List, [], ◌∷◌, Option, Some, None, option_and_then}
+use Rattle.std.specs.Prelude.{slice_get}
 use Rattle.plir_data.specs.AttrView.{AttrView, leaf, integer}
 use Rattle.plir_data.specs.Dictionary.{dict_get}
 use Rattle.plir_data.specs.Keys.{value_key}
@@ -125,7 +126,7 @@ module _ {K A T : Type 0} where
     abbrev pub Evaluates : ContextView K A T → Value → Integer → Type 0
     Evaluates s v n = (d : ℕ) × (worth d s v ≡ Some n)
 
-    -- the operand of an operation at a place does not fold
+    -- the operand of an operation at an index does not fold
     abbrev pub IsUnfolded : ContextView K A T → Ptr OperationKind → ℕ → Type 0
     IsUnfolded s p i = (v : Value) → slice_get (operands_of s p) i ≡ Some v → folded s v ≡ None
 

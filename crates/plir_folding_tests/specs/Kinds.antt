@@ -1,5 +1,6 @@
 -- What the queries of the toy's kinds answer.
-use Rattle.std.specs.Prelude.{◌+◌, ◌%◌, ◌^◌, ◌==◌, ◌&&◌, ℕ, Bool, true, false, cond, pos, List, Option, Some, None, codes}
+use Rattle.std.specs.Prelude.{◌+◌, ◌%◌, ◌^◌, ◌==◌, ◌&&◌, ℕ, Bool, true, false, cond, pos, List, Option, Some, None}
+use Rattle.std.specs.Prelude.{codes}
 use Rattle.plir_data.specs.Integers.{bits_of, is_width}
 use Rattle.plir_folding.specs.Worth.{Integer}
 use Rattle.plir_folding_tests.specs.declared.toy.ToyKind.{ToyKind}

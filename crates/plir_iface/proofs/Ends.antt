@@ -1,5 +1,6 @@
 -- A list without repetition has one element exactly where its first is its last.
-use Rattle.std.proofs.Common.{◌≡◌, ◌↔◌, ℕ, suc, Bool, true, List, [], ◌∷◌, length, map, Some, None, inl, inr, refl, sym, ap, subst, ◌∙◌, arith, ◌&&◌, eqb}
+use Rattle.std.proofs.Common.{◌≡◌, ◌↔◌, ℕ, suc, Bool, true, List, [], ◌∷◌, length, map, Some, None, inl, inr, refl, sym}
+use Rattle.std.proofs.Common.{ap, subst, ◌∙◌, arith, ◌&&◌, eqb}
 use Rattle.std.specs.Prelude.{option_map, IsTrue}
 use Rattle.std.proofs.lemmas.Option.{same_Some, none-some}
 use Rattle.plir_store.specs.Members.{Has, Distinct, head}
@@ -17,7 +18,8 @@ last-in y [] = (y, (inl refl, refl))
 last-in y (x ∷ xs) = let r = last-in x xs in (r.0, (inr r.1.0, r.1.1))
 
 module _ {A : Type 0} (f : ℕ → A) (one : (i j : ℕ) → f i ≡ f j → i ≡ j) (a b : A) where
-  pub same-ends : (xs : List ℕ) → Distinct xs → Some a ≡ option_map f (head xs) → Some b ≡ option_map f (last_of xs) → (a ≡ b) ↔ (length (map f xs) ≡ 1)
+  pub same-ends : (xs : List ℕ) → Distinct xs → Some a ≡ option_map f (head xs) → Some b ≡ option_map f (last_of xs)
+      → (a ≡ b) ↔ (length (map f xs) ≡ 1)
   same-ends [] d e g = absurd (none-some a (sym e))
   same-ends (x ∷ []) d e g = (λ p. refl, λ p. same_Some a (f x) e ∙ sym (same_Some b (f x) g))
   same-ends (x ∷ y ∷ ys) d e g =
@@ -43,16 +45,20 @@ slot_of (Operation p) = p.slot
 slot_of (Region p) = p.slot
 slot_of (BasicBlock p) = p.slot
 
-module _ {O B : Type 0} (s : Nodes O B) (w : IsStored s) (r : Ptr RegionKind) (live : is_node_live s (Region r) ≡ true) where
+module _ {O B : Type 0} (s : Nodes O B) (w : IsStored s) (r : Ptr RegionKind)
+    (live : is_node_live s (Region r) ≡ true) where
   -- a region has one block exactly where its first block is its last
-  pub one-block : (a b : Ptr BasicBlockKind) → Some (BasicBlock a) ≡ node_first s (Region r) → Some (BasicBlock b) ≡ node_last s (Region r)
+  pub one-block : (a b : Ptr BasicBlockKind) → Some (BasicBlock a) ≡ node_first s (Region r)
+      → Some (BasicBlock b) ≡ node_last s (Region r)
       → (a ≡ b) ↔ (length (node_children s (Region r)) ≡ 1)
   one-block a b e g =
       let xs : List ℕ = children_at s.blocks_in_region r.slot in
       let at : ℕ → IRNode = block_node s in
       let p : Some (BasicBlock a) ≡ option_map at (head xs) = e ∙ rw live refl in
       let q : Some (BasicBlock b) ≡ option_map at (last_of xs) = g ∙ rw live refl in
-      let k : (BasicBlock a ≡ BasicBlock b) ↔ (length (map at xs) ≡ 1) = same-ends at (λ i j h. ap slot_of h) (BasicBlock a) (BasicBlock b) xs (w.blocks_listed.agreed.apart r.slot) p q in
+      let k : (BasicBlock a ≡ BasicBlock b) ↔ (length (map at xs) ≡ 1) =
+      same-ends at (λ i j h. ap slot_of h) (BasicBlock a) (BasicBlock b) xs (w.blocks_listed.agreed.apart r.slot) p
+      q in
       rw live (λ h. k.0 (ap BasicBlock h), λ h. let same : BasicBlock a ≡ BasicBlock b = k.1 h in cc)
 
   pub no-block : None ≡ node_first s (Region r) → length (node_children s (Region r)) ≡ 1 → ⊥
@@ -62,7 +68,8 @@ module _ {O B : Type 0} (s : Nodes O B) (w : IsStored s) (r : Ptr RegionKind) (l
   no-last-block e = rw live (no-last (block_node s) (children_at s.blocks_in_region r.slot) (e ∙ rw live refl))
 
 -- whether two pointers have one slot and one version
-pub same-ptr : {X : Type 0} (p q : Ptr X) (b : Bool) → b ≡ (eqb p.slot q.slot && (eqb p.version q.version && true)) → IsTrue b ↔ (p ≡ q)
+pub same-ptr : {X : Type 0} (p q : Ptr X) (b : Bool) → b ≡ (eqb p.slot q.slot && (eqb p.version q.version && true))
+    → IsTrue b ↔ (p ≡ q)
 same-ptr {X} p q b e = (
   λ h.
       let slots : p.slot ≡ q.slot = grind arith in

@@ -20,5 +20,8 @@ module _ (m : ℕ) (n : ℤ) (len start end : ℕ) (r : IsIndexRange m n len (Ra
   span-of-range = (
     λ needed h. r.0 h.0,
     let below : end < len = end-below in omega arith,
-    λ i. (λ p. (r.2 i).0 (p.0, let h : i < end + 1 = p.1 in omega arith), λ q. let w : (start ≤ i) × (i ≤ end) = (r.2 i).1 q in (w.0, let h : i ≤ end = w.1 in omega arith)),
+    λ i. (
+      λ p. (r.2 i).0 (p.0, let h : i < end + 1 = p.1 in omega arith),
+      λ q. let w : (start ≤ i) × (i ≤ end) = (r.2 i).1 q in (w.0, let h : i ≤ end = w.1 in omega arith),
+    ),
   )

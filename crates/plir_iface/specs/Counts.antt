@@ -8,7 +8,7 @@ use Rattle.plir_core.specs.declared.value.Value.{Value}
 use Rattle.plir_core.specs.declared.value.DefiningEntity.TheVariants.{Op}
 use Rattle.plir_core.specs.ContextView.{ContextView, children, operands_of, result_types_of, type_of_value}
 
--- the result of an operation at a place
+-- the result of an operation at an index
 abbrev pub result_at : Ptr OperationKind → ℕ → Value
 result_at op i = record { entity = Op op; index = i }
 

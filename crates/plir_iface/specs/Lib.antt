@@ -6,10 +6,10 @@
 --   Regions      the rules of regions and blocks
 --   Sides        types_on, type_in: operands and results as lists of types
 --   SameTypes    the rules of one type
---   Places       IsAmong, NeedsMore, IsLongEnough: places of a list that a rule is about
+--   Places       IsAmong, NeedsMore, IsLongEnough: indices of a list that a rule is about
 --   TypeRules    the rules of types that pass a test
 --   TypeRefusals IsFault: how types break a rule, and what an error reports of it
---   IndexRange   IsIndexRange: ranges of places in a list
+--   IndexRange   IsIndexRange: ranges of indices in a list
 --   Ids          op_id: the ids of operations
 pub mod Verdict
 pub mod Counts

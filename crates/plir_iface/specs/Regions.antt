@@ -21,7 +21,7 @@ module _ {K A T : Type 0} where
   abbrev pub HasSingleBlocks : ContextView K A T → Ptr OperationKind → Type 0
   HasSingleBlocks s op = All (HasOneBlock s) (regions_of s op)
 
-  -- the first block of the region at a place
+  -- the first block of the region at an index
   abbrev pub body_of : ContextView K A T → Ptr OperationKind → ℕ → Option IRNode
   body_of s op i = option_and_then (λ r. head (children s r)) (slice_get (regions_of s op) i)
 

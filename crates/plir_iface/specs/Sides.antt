@@ -7,7 +7,7 @@ use Rattle.plir_iface.specs.Counts.{operand_types, result_types}
 use Rattle.plir_iface.specs.declared.side.Side.{Side}
 use Rattle.plir_iface.specs.declared.side.Side.TheVariants.{Operands, Results}
 
--- the type at a place, if there is one
+-- the type at an index, if there is one
 abbrev pub type_in : List (Option ℕ) → ℕ → Option ℕ
 type_in ts i = option_and_then (λ t. t) (slice_get ts i)
 

@@ -27,19 +27,27 @@ use Rattle.plir_iface.specs.declared.type_errors.TypeFault.TheVariants.{Few, Wro
 use Rattle.plir_iface.specs.declared.type_errors.TypeInterfaceImplsErr.{TypeInterfaceImplsErr}
 use Rattle.plir_iface.specs.declared.type_errors.TypeInterfaceImplsErr.TheVariants.{Operand, Result, Segment}
 use Rattle.plir_iface.specs.declared.type_errors.OperandNOfTypeError.{OperandNOfTypeError}
-use Rattle.plir_iface.specs.declared.type_errors.OperandNOfTypeError.TheVariants.{AllOperandsOfTypeVerifyErr as OperandOfOtherKind}
+use Rattle.plir_iface.specs.declared.type_errors.OperandNOfTypeError.TheVariants.{
+  AllOperandsOfTypeVerifyErr as OperandOfOtherKind,
+}
 use Rattle.plir_iface.specs.declared.type_errors.ResultNOfTypeError.{ResultNOfTypeError}
-use Rattle.plir_iface.specs.declared.type_errors.ResultNOfTypeError.TheVariants.{AllResultsOfTypeVerifyErr as ResultOfOtherKind}
+use Rattle.plir_iface.specs.declared.type_errors.ResultNOfTypeError.TheVariants.{
+  AllResultsOfTypeVerifyErr as ResultOfOtherKind,
+}
 use Rattle.plir_iface.specs.declared.type_errors.OperandsMNOfTypeError.{OperandsMNOfTypeError}
 use Rattle.plir_iface.specs.declared.type_errors.OperandsMNOfTypeError.TheVariants.{NotEnoughOperands}
-use Rattle.plir_iface.specs.declared.type_errors.OperandsMNOfTypeError.TheVariants.{UnexpectedType as UnexpectedOperandType}
+use Rattle.plir_iface.specs.declared.type_errors.OperandsMNOfTypeError.TheVariants.{
+  UnexpectedType as UnexpectedOperandType,
+}
 use Rattle.plir_iface.specs.declared.type_errors.ResultsMNOfTypeError.{ResultsMNOfTypeError}
 use Rattle.plir_iface.specs.declared.type_errors.ResultsMNOfTypeError.TheVariants.{NotEnoughResults}
-use Rattle.plir_iface.specs.declared.type_errors.ResultsMNOfTypeError.TheVariants.{UnexpectedType as UnexpectedResultType}
+use Rattle.plir_iface.specs.declared.type_errors.ResultsMNOfTypeError.TheVariants.{
+  UnexpectedType as UnexpectedResultType,
+}
 use Rattle.plir_iface.specs.declared.type_errors.TypeRuleErr.{TypeRuleErr}
 use Rattle.plir_iface.specs.declared.type_errors.TypeRuleErr.TheVariants.{TooFew, WrongType}
 
--- the id of the type at a place, and its text
+-- the id of the type at an index, and its text
 abbrev pub id_in : {K A T : Type 0} (own_id : T → List ℕ) → ContextView K A T → List (Option ℕ) → ℕ → List ℕ
 id_in own_id s ts i = option_map_or (type_id own_id) (option_and_then (type_at s.types) (type_in ts i)) []
 
@@ -50,19 +58,19 @@ text_in own_id own_body s ts i = option_map_or (type_text own_id own_body s.type
 
 module _ {K A T : Type 0} (passes : TypeView T → Bool) (name : List ℕ) (own_id : T → List ℕ)
     (s : ContextView K A T) where
-  -- the first of these places whose type fails the test, with the name of what is asked for and the id of that type
+  -- the first of these indices whose type fails the test, with the name of what is asked for and the id of that type
   abbrev pub IsMisfit : Side → (among : ℕ → Type 0) → List (Option ℕ) → TypeMismatch → Type 0
   IsMisfit side among ts m = (m.side ≡ side) × FailsFirst passes s among ts m.place × (m.wanted.now ≡ name) ×
       (m.found.now ≡ id_in own_id s ts m.place)
 
-  -- How types break the rule of some places: there are too few, and so many are needed; or there are enough, and this
+  -- How types break the rule of some indices: there are too few, and so many are needed; or there are enough, and this
   -- is the first that fails.
   abbrev pub IsFault : Side → Places → List (Option ℕ) → TypeFault → Type 0
   IsFault side places ts (Few few) = (few.found ≡ length ts) × NeedsMore places (length ts) few.needed
   IsFault side places ts (Wrong m) = IsLongEnough places (length ts) × IsMisfit side (IsAmong places (length ts)) ts m
 
   -- An error reports, as R says, of the first type of an operation's side that fails the test; or of how they break the
-  -- rule of some places.
+  -- rule of some indices.
   abbrev pub ReportsMisfit : {E : Type 0} → Ptr OperationKind → Side → (R : TypeMismatch → E → Type 0) → E → Type 0
   ReportsMisfit op side R e = let ts = types_on side s op in (m : TypeMismatch) ×
       (IsMisfit side (λ i. i < length ts) ts m × R m e)

@@ -11,7 +11,7 @@ use Rattle.plir_iface.specs.Places.{IsLongEnough, IsAmong, signed}
 use Rattle.plir_iface.specs.declared.places.Places.{Places}
 use Rattle.plir_iface.specs.declared.places.Places.TheVariants.{At, Within}
 
--- the places from start on and before end
+-- the indices from start on and before end
 abbrev pub IsBetween : (start end i : ℕ) → Type 0
 IsBetween start end i = (start ≤ i) × (i < end)
 
@@ -23,15 +23,15 @@ module _ {K A T : Type 0} (passes : TypeView T → Bool) (s : ContextView K A T)
   abbrev pub Passes : Option ℕ → Type 0
   Passes t = passing t ≡ true
 
-  -- all types at these places pass
+  -- all types at these indices pass
   abbrev pub AllPass : (among : ℕ → Type 0) → List (Option ℕ) → Type 0
   AllPass among ts = (i : ℕ) → among i → Passes (type_in ts i)
 
-  -- the place is the first of these whose type fails
+  -- the index is the first of these whose type fails
   abbrev pub FailsFirst : (among : ℕ → Type 0) → List (Option ℕ) → ℕ → Type 0
   FailsFirst among ts i = among i × (Passes (type_in ts i) → ⊥) × ((k : ℕ) → among k → k < i → Passes (type_in ts k))
 
-  -- the first of these places whose type fails, or none if all pass
+  -- the first of these indices whose type fails, or none if all pass
   abbrev pub IsFirstFailing : (among : ℕ → Type 0) → List (Option ℕ) → Option ℕ → Type 0
   IsFirstFailing among ts None = AllPass among ts
   IsFirstFailing among ts (Some i) = FailsFirst among ts i
@@ -40,7 +40,7 @@ module _ {K A T : Type 0} (passes : TypeView T → Bool) (s : ContextView K A T)
   abbrev pub EachPasses : List (Option ℕ) → Type 0
   EachPasses ts = AllPass (λ i. i < length ts) ts
 
-  -- the list is long enough for these places, and all types at them pass
+  -- the list is long enough for these indices, and all types at them pass
   abbrev pub PassesAt : Places → List (Option ℕ) → Type 0
   PassesAt places ts = IsLongEnough places (length ts) × AllPass (IsAmong places (length ts)) ts
 

@@ -72,7 +72,7 @@ pub trait SingleBlockRegionInterface<D: OpSet>: Op<D> {
         )
     }
 
-    /// The block of the region at a place, from 0.
+    /// The block of the region at an index.
     final fn get_body(&self, ctx: &Context<D>, region: usize) -> Ptr<BasicBlock>
         requires live { IsLive ctx.now (IRNode.Operation (Self.pointer self.now)) }
         requires rule { HasSingleBlocks ctx.now (Self.pointer self.now) }
@@ -87,7 +87,7 @@ pub trait SingleBlockRegionInterface<D: OpSet>: Op<D> {
             .unwrap()
     }
 
-    /// Puts an operation that is in no block at the end of the block of the region at a place, from 0, which it does
+    /// Puts an operation that is in no block at the end of the block of the region at an index, which it does
     /// not stand above.
     final fn append_operation(&self, ctx: &mut Context<D>, op: Ptr<Operation>, region: usize)
         requires live { IsLive ctx.old (IRNode.Operation (Self.pointer self.now)) }

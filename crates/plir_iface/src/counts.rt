@@ -41,12 +41,12 @@ pub struct AtMostNOpdsVerifyErr(pub usize, pub usize);
 #[error("Expected at least {0} operands, but found {1} operands")]
 pub struct AtLeastNOpdsVerifyErr(pub usize, pub usize);
 
-/// An operation has no result at a place: how many it has, and how many are needed.
+/// An operation has no result at an index: how many it has, and how many are needed.
 #[derive(Clone, Copy, PartialEq, Eq, Debug, Error)]
 #[error("Op has only {0} results, but expected at least {1}")]
 pub struct NotEnoughResultsErr(pub usize, pub usize);
 
-/// An operation has no operand at a place: how many it has, and how many are needed.
+/// An operation has no operand at an index: how many it has, and how many are needed.
 #[derive(Clone, Copy, PartialEq, Eq, Debug, Error)]
 #[error("Op has only {0} operands, but expected at least {1}")]
 pub struct NotEnoughOperandsErr(pub usize, pub usize);

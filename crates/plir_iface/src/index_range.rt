@@ -1,18 +1,18 @@
-//! Ranges of places in a list, of which the last may be counted from its end.
+//! Ranges of indices in a list, of which the last may be counted from its end.
 ghost use Rattle.plir_iface.specs.IndexRange.{IsIndexRange};
 
-/// What a range of places is in a list of some length.
+/// What a range of indices is in a list of some length.
 #[derive(Clone, Copy, PartialEq, Eq, Debug)]
 pub enum IndexRange {
-    /// The places from `start` to `end`, both of them in it.
+    /// The indices from `start` to `end`, both of them in it.
     Range { start: usize, end: usize },
-    /// No place.
+    /// No index.
     Empty,
     /// The list is too short: so many entities are needed.
     TooFewEntities(usize),
 }
 
-/// The range of places from `m` to `n` in a list of `len` entities. A negative `n` counts from the end of the list: -1
+/// The range of indices from `m` to `n` in a list of `len` entities. A negative `n` counts from the end of the list: -1
 /// is its last entity.
 pub fn resolve_index_range(m: u32, n: i32, len: usize) -> IndexRange
     ensures { IsIndexRange m n len result }

@@ -19,14 +19,14 @@ pub enum RegionKind {
 pub trait RegionKindInterface<D: OpSet>: Op<D> {
     ghost use Rattle.plir_iface.specs.declared.kinds.RegionKind.{RegionKind};
 
-    // The kind of the region at a place.
+    // The kind of the region at an index.
     ghost region_kind: { Self → ℕ → RegionKind };
 
-    /// The kind of the region at a place, from 0.
+    /// The kind of the region at an index.
     fn get_region_kind(&self, region: usize) -> RegionKind
         ensures { result ≡ region_kind self.now region };
 
-    /// Whether values of the region at a place, from 0, must be defined before they are used.
+    /// Whether values of the region at an index must be defined before they are used.
     final fn has_ssa_dominance(&self, region: usize) -> bool
         ensures { IsTrue result ↔ (region_kind self.now region ≡ RegionKind.SSACFG) }
     {

@@ -1,4 +1,4 @@
-//! Verifiers of types, for operands and results alike: an interface names its side, its test, its places and its error.
+//! Verifiers of types, for operands and results alike: an interface names its side, test, indices and error.
 ghost use Rattle.std.specs.Prelude.{◌≡◌, ◌<◌, ◌≤◌, ◌↔◌, IsOk, IfErr, IfSome, IsNone, length};
 ghost use Rattle.plir_core.specs.declared.ptr.IRNode.{IRNode};
 ghost use Rattle.plir_core.specs.ContextView.{IsLive};
@@ -20,7 +20,7 @@ use plir_core::{Context, Operation, Ptr};
 use plir_data::{OpSet, TypeMark, TypeStore, VerifyErr, type_text};
 use std::alloc::Global;
 
-/// The id of the type at a place, from 0.
+/// The id of the type at an index.
 pub fn id_at<D: OpSet>(ctx: &Context<D>, op: Ptr<Operation>, side: Side, i: usize) -> &'static str
     requires live { IsLive ctx.now (IRNode.Operation op) }
     requires below { i < length (types_on side ctx.now op) }
@@ -30,7 +30,7 @@ pub fn id_at<D: OpSet>(ctx: &Context<D>, op: Ptr<Operation>, side: Side, i: usiz
     id_of_type(ctx.types().get(side.type_at(ctx, op, i)))
 }
 
-/// The first value, from the place `start` on and before `end`, whose type fails a test.
+/// The first value, from the index `start` on and before `end`, whose type fails a test.
 fn find_misfit<D: OpSet, Q: TypeTest<D>>(
     ctx: &Context<D>,
     op: Ptr<Operation>,
@@ -54,7 +54,7 @@ fn find_misfit<D: OpSet, Q: TypeTest<D>>(
     })
 }
 
-/// How the types at some places break the rule that there are enough of them and all pass a test.
+/// How the types at some indices break the rule that there are enough of them and all pass a test.
 fn find_fault<D: OpSet, Q: TypeTest<D>>(
     ctx: &Context<D>,
     op: Ptr<Operation>,
@@ -97,7 +97,7 @@ pub(crate) fn verify_each<D: OpSet, Q: TypeTest<D>, E: From<TypeMismatch> + Drop
     }
 }
 
-/// Accepts exactly where a side has types at some places and all of them pass a test; else refuses by how they break
+/// Accepts exactly where a side has types at some indices and all of them pass a test; else refuses by how they break
 /// that.
 pub(crate) fn verify_at<D: OpSet, Q: TypeTest<D>, E: From<TypeFault> + Drop>(
     ctx: &Context<D>,

@@ -67,9 +67,9 @@ pub trait AllOperandsImplsTy<D: OpSet, I: TypeInterfaceMark<D>>: Op<D> {
     }
 }
 
-/// Operations that have an operand at the place `N`, from 0, with a type of the kind `T`.
+/// Operations that have an operand at the index `N`, with a type of the kind `T`.
 pub trait OperandNOfType<D: OpSet, const N: usize, T: TypeMark<D>>: Op<D> {
-    /// Accepts exactly where there is an operand at the place `N`, and its type is of the kind `T`.
+    /// Accepts exactly where there is an operand at the index `N`, and its type is of the kind `T`.
     final fn verify(
         &self,
         ctx: &Context<D>,
@@ -90,9 +90,9 @@ pub trait OperandNOfType<D: OpSet, const N: usize, T: TypeMark<D>>: Op<D> {
     }
 }
 
-/// Operations that have an operand at the place `N`, from 0, with a type that implements `I`.
+/// Operations that have an operand at the index `N`, with a type that implements `I`.
 pub trait OperandNImplsTy<D: OpSet, const N: usize, I: TypeInterfaceMark<D>>: Op<D> {
-    /// Accepts exactly where there is an operand at the place `N`, and its type implements `I`.
+    /// Accepts exactly where there is an operand at the index `N`, and its type implements `I`.
     final fn verify(
         &self,
         ctx: &Context<D>,
@@ -113,12 +113,12 @@ pub trait OperandNImplsTy<D: OpSet, const N: usize, I: TypeInterfaceMark<D>>: Op
     }
 }
 
-/// Operations whose operands from the place `M` to the place `N` have a type of the kind `T`.
+/// Operations whose operands from the index `M` to the index `N` have a type of the kind `T`.
 /// The number `N` stands for the signed number of its 32 bits: a negative one counts from the last operand, which is
 /// -1.
 pub trait OperandsMNOfType<D: OpSet, const M: u32, const N: u32, T: TypeMark<D>>: Op<D> {
-    /// Accepts exactly where there are enough operands for the range of places, and those in it have a type of the kind
-    /// `T`.
+    /// Accepts exactly where there are enough operands for the range of indices, and those in it have a type of the
+    /// kind `T`.
     final fn verify(&self, ctx: &Context<D>) -> Result<(), VerifyErr<OperandsMNOfTypeError>>
         requires live { IsLive ctx.now (IRNode.Operation (Self.pointer self.now)) }
         requires ordered { IsOrdered M (signed N) }
@@ -131,16 +131,16 @@ pub trait OperandsMNOfType<D: OpSet, const M: u32, const N: u32, T: TypeMark<D>>
             ctx,
             self.get_operation(),
             Side::Operands,
-            Places::Within(M, N.cast_signed()),
+            Places::within(M, N),
         )
     }
 }
 
-/// Operations whose operands from the place `M` to the place `N` have a type that implements `I`.
+/// Operations whose operands from the index `M` to the index `N` have a type that implements `I`.
 /// The number `N` stands for the signed number of its 32 bits: a negative one counts from the last operand, which is
 /// -1.
 pub trait OperandsMNImplsTy<D: OpSet, const M: u32, const N: u32, I: TypeInterfaceMark<D>>: Op<D> {
-    /// Accepts exactly where there are enough operands for the range of places, and those in it have a type that
+    /// Accepts exactly where there are enough operands for the range of indices, and those in it have a type that
     /// implements `I`.
     final fn verify(
         &self,
@@ -157,7 +157,7 @@ pub trait OperandsMNImplsTy<D: OpSet, const M: u32, const N: u32, I: TypeInterfa
             ctx,
             self.get_operation(),
             Side::Operands,
-            Places::Within(M, N.cast_signed()),
+            Places::within(M, N),
         )
     }
 }

@@ -31,7 +31,7 @@ pub trait NOpdsInterface<D: OpSet, const N: usize>: Op<D> {
         accept_if(ctx, op, found == N, NOpdsVerifyErr(N, found))
     }
 
-    /// The operand at a place, from 0.
+    /// The operand at an index.
     final fn get_operand_i(&self, ctx: &Context<D>, i: LessThanN<N>) -> Value
         requires live { IsLive ctx.now (IRNode.Operation (Self.pointer self.now)) }
         requires rule { HasNOpds N ctx.now (Self.pointer self.now) }
@@ -42,7 +42,7 @@ pub trait NOpdsInterface<D: OpSet, const N: usize>: Op<D> {
         operand_at(ctx, self.get_operation(), i.i())
     }
 
-    /// The type of the operand at a place, from 0.
+    /// The type of the operand at an index.
     final fn operand_type_i(&self, ctx: &Context<D>, i: LessThanN<N>) -> TypeHandle
         requires live { IsLive ctx.now (IRNode.Operation (Self.pointer self.now)) }
         requires rule { HasNOpds N ctx.now (Self.pointer self.now) }
@@ -151,7 +151,7 @@ pub trait OneOpdInterface<D: OpSet>: Op<D> {
     }
 }
 
-/// The operand at the place `N`, from 0, if the operation has so many.
+/// The operand at the index `N`, if the operation has so many.
 pub fn verify_get_operand_n<D: OpSet, const N: usize>(
     op: Ptr<Operation>,
     ctx: &Context<D>,

@@ -1,19 +1,19 @@
-//! Places of a list that a rule is about.
-ghost use Rattle.std.specs.Prelude.{IfOk, IfErr};
-ghost use Rattle.plir_iface.specs.Places.{IsCountable, IsSpan, NeedsMore};
+//! Indices of a list that a rule is about.
+ghost use Rattle.std.specs.Prelude.{◌≡◌, IfOk, IfErr};
+ghost use Rattle.plir_iface.specs.Places.{IsCountable, IsSpan, NeedsMore, signed};
 
 use crate::index_range::{IndexRange, resolve_index_range};
 
-/// Places of a list, from 0.
+/// Indices of a list, from 0.
 #[derive(Clone, Copy)]
 pub enum Places {
-    /// One place.
+    /// One index.
     At(usize),
-    /// The places from the first to the last, which is counted from the list's end if it is negative.
+    /// The indices from the first to the last, which is counted from the list's end if it is negative.
     Within(u32, i32),
 }
 
-/// The places from `start` on and before `end`.
+/// The indices from `start` on and before `end`.
 #[derive(Clone, Copy)]
 pub struct Span {
     pub start: usize,
@@ -21,7 +21,14 @@ pub struct Span {
 }
 
 impl Places {
-    /// These places in a list of `len` entities, or how many entities are needed, if that is more than `len`.
+    /// The indices from `m` to the one that `n` stands for, as the signed number of its 32 bits.
+    pub(crate) fn within(m: u32, n: u32) -> Places
+        ensures { result ≡ Places.Within m (signed n) }
+    {
+        Places::Within(m, n.cast_signed())
+    }
+
+    /// These indices in a list of `len` entities, or how many entities are needed, if that is more than `len`.
     pub(crate) fn resolve(self, len: usize) -> Result<Span, usize>
         requires { IsCountable self }
         ensures ok { IfOk result (IsSpan self len) }

@@ -27,7 +27,7 @@ pub trait NRegionsInterface<D: OpSet, const N: usize>: Op<D> {
         accept_if(ctx, op, found == N, NRegionsVerifyErr(N, found))
     }
 
-    /// The region at a place, from 0.
+    /// The region at an index.
     final fn get_region_i(&self, ctx: &Context<D>, i: LessThanN<N>) -> Ptr<Region>
         requires live { IsLive ctx.now (IRNode.Operation (Self.pointer self.now)) }
         requires rule { HasNRegions N ctx.now (Self.pointer self.now) }

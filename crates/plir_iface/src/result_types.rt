@@ -67,9 +67,9 @@ pub trait AllResultsImplsTy<D: OpSet, I: TypeInterfaceMark<D>>: Op<D> {
     }
 }
 
-/// Operations that have a result at the place `N`, from 0, with a type of the kind `T`.
+/// Operations that have a result at the index `N`, with a type of the kind `T`.
 pub trait ResultNOfType<D: OpSet, const N: usize, T: TypeMark<D>>: Op<D> {
-    /// Accepts exactly where there is a result at the place `N`, and its type is of the kind `T`.
+    /// Accepts exactly where there is a result at the index `N`, and its type is of the kind `T`.
     final fn verify(
         &self,
         ctx: &Context<D>,
@@ -90,9 +90,9 @@ pub trait ResultNOfType<D: OpSet, const N: usize, T: TypeMark<D>>: Op<D> {
     }
 }
 
-/// Operations that have a result at the place `N`, from 0, with a type that implements `I`.
+/// Operations that have a result at the index `N`, with a type that implements `I`.
 pub trait ResultNImplsTy<D: OpSet, const N: usize, I: TypeInterfaceMark<D>>: Op<D> {
-    /// Accepts exactly where there is a result at the place `N`, and its type implements `I`.
+    /// Accepts exactly where there is a result at the index `N`, and its type implements `I`.
     final fn verify(
         &self,
         ctx: &Context<D>,
@@ -113,10 +113,10 @@ pub trait ResultNImplsTy<D: OpSet, const N: usize, I: TypeInterfaceMark<D>>: Op<
     }
 }
 
-/// Operations whose results from the place `M` to the place `N` have a type of the kind `T`.
+/// Operations whose results from the index `M` to the index `N` have a type of the kind `T`.
 /// The number `N` stands for the signed number of its 32 bits: a negative one counts from the last result, which is -1.
 pub trait ResultsMNOfType<D: OpSet, const M: u32, const N: u32, T: TypeMark<D>>: Op<D> {
-    /// Accepts exactly where there are enough results for the range of places, and those in it have a type of the kind
+    /// Accepts exactly where there are enough results for the range of indices, and those in it have a type of the kind
     /// `T`.
     final fn verify(&self, ctx: &Context<D>) -> Result<(), VerifyErr<ResultsMNOfTypeError>>
         requires live { IsLive ctx.now (IRNode.Operation (Self.pointer self.now)) }
@@ -130,15 +130,15 @@ pub trait ResultsMNOfType<D: OpSet, const M: u32, const N: u32, T: TypeMark<D>>:
             ctx,
             self.get_operation(),
             Side::Results,
-            Places::Within(M, N.cast_signed()),
+            Places::within(M, N),
         )
     }
 }
 
-/// Operations whose results from the place `M` to the place `N` have a type that implements `I`.
+/// Operations whose results from the index `M` to the index `N` have a type that implements `I`.
 /// The number `N` stands for the signed number of its 32 bits: a negative one counts from the last result, which is -1.
 pub trait ResultsMNImplsTy<D: OpSet, const M: u32, const N: u32, I: TypeInterfaceMark<D>>: Op<D> {
-    /// Accepts exactly where there are enough results for the range of places, and those in it have a type that
+    /// Accepts exactly where there are enough results for the range of indices, and those in it have a type that
     /// implements `I`.
     final fn verify(
         &self,
@@ -155,7 +155,7 @@ pub trait ResultsMNImplsTy<D: OpSet, const M: u32, const N: u32, I: TypeInterfac
             ctx,
             self.get_operation(),
             Side::Results,
-            Places::Within(M, N.cast_signed()),
+            Places::within(M, N),
         )
     }
 }

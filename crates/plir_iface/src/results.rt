@@ -31,7 +31,7 @@ pub trait NResultsInterface<D: OpSet, const N: usize>: Op<D> {
         accept_if(ctx, op, found == N, NResultsVerifyErr(N, found))
     }
 
-    /// The result at a place, from 0.
+    /// The result at an index.
     final fn get_result_i(&self, ctx: &Context<D>, i: LessThanN<N>) -> Value
         requires live { IsLive ctx.now (IRNode.Operation (Self.pointer self.now)) }
         requires rule { HasNResults N ctx.now (Self.pointer self.now) }
@@ -42,7 +42,7 @@ pub trait NResultsInterface<D: OpSet, const N: usize>: Op<D> {
         self.get_operation().get_result(ctx, i.i())
     }
 
-    /// The type of the result at a place, from 0.
+    /// The type of the result at an index.
     final fn result_type_i(&self, ctx: &Context<D>, i: LessThanN<N>) -> TypeHandle
         requires live { IsLive ctx.now (IRNode.Operation (Self.pointer self.now)) }
         requires rule { HasNResults N ctx.now (Self.pointer self.now) }
@@ -151,7 +151,7 @@ pub trait OneResultInterface<D: OpSet>: Op<D> {
     }
 }
 
-/// The result at the place `N`, from 0, if the operation has so many.
+/// The result at the index `N`, if the operation has so many.
 pub fn verify_get_result_n<D: OpSet, const N: usize>(
     op: Ptr<Operation>,
     ctx: &Context<D>,

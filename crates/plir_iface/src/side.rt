@@ -33,7 +33,7 @@ impl Side {
         }
     }
 
-    /// The type of the value at a place, from 0.
+    /// The type of the value at an index.
     pub fn type_at<D: OpSet>(self, ctx: &Context<D>, op: Ptr<Operation>, i: usize) -> TypeHandle
         requires live { IsLive ctx.now (IRNode.Operation op) }
         requires below { i < length (types_on self ctx.now op) }

@@ -83,16 +83,16 @@ impl From<OtherKind> for AllResultsOfTypeVerifyErr {
     }
 }
 
-/// A value has a type that does not implement an interface: its place, the interface's name and the type's id.
+/// A value has a type that does not implement an interface: its index, the interface's name and the type's id.
 #[derive(Clone, Copy, PartialEq, Eq, Debug, Error)]
 pub enum TypeInterfaceImplsErr {
-    /// The operand at a place.
+    /// The operand at an index.
     #[error("Expected operand {0} to implement {1}, but {2} does not")]
     Operand(usize, &'static str, &'static str),
-    /// The result at a place.
+    /// The result at an index.
     #[error("Expected result {0} to implement {1}, but {2} does not")]
     Result(usize, &'static str, &'static str),
-    /// An operand of the segment at a place.
+    /// An operand of the segment at an index.
     #[error("Expected operand segment {0} to implement {1}, but {2} does not")]
     Segment(usize, &'static str, &'static str),
 }
@@ -108,7 +108,7 @@ impl From<TypeMismatch> for TypeInterfaceImplsErr {
     }
 }
 
-/// The operand at a place has a type of another kind: the id that is asked for, and the one that is there.
+/// The operand at an index has a type of another kind: the id that is asked for, and the one that is there.
 #[derive(Clone, Copy, PartialEq, Eq, Debug, Error)]
 pub enum OperandNOfTypeError {
     /// The ids.
@@ -124,7 +124,7 @@ impl From<TypeMismatch> for OperandNOfTypeError {
     }
 }
 
-/// The result at a place has a type of another kind: the id that is asked for, and the one that is there.
+/// The result at an index has a type of another kind: the id that is asked for, and the one that is there.
 #[derive(Clone, Copy, PartialEq, Eq, Debug, Error)]
 pub enum ResultNOfTypeError {
     /// The ids.
@@ -140,13 +140,13 @@ impl From<TypeMismatch> for ResultNOfTypeError {
     }
 }
 
-/// The operands in a range of places are not as asked for.
+/// The operands in a range of indices are not as asked for.
 #[derive(Clone, Copy, PartialEq, Eq, Debug, Error)]
 pub enum OperandsMNOfTypeError {
     /// There are too few: how many there are, and how many are needed.
     #[error("Op has only {0} operands, but expected at least {1}")]
     NotEnoughOperands(usize, usize),
-    /// One has a type of another kind: its place, the id that is asked for, and the one that is there.
+    /// One has a type of another kind: its index, the id that is asked for, and the one that is there.
     #[error("Expected operand {0} to be of type {1}, but found {2}")]
     UnexpectedType(usize, &'static str, &'static str),
 }
@@ -166,13 +166,13 @@ impl From<TypeFault> for OperandsMNOfTypeError {
     }
 }
 
-/// The results in a range of places are not as asked for.
+/// The results in a range of indices are not as asked for.
 #[derive(Clone, Copy, PartialEq, Eq, Debug, Error)]
 pub enum ResultsMNOfTypeError {
     /// There are too few: how many there are, and how many are needed.
     #[error("Op has only {0} results, but expected at least {1}")]
     NotEnoughResults(usize, usize),
-    /// One has a type of another kind: its place, the id that is asked for, and the one that is there.
+    /// One has a type of another kind: its index, the id that is asked for, and the one that is there.
     #[error("Expected result {0} to be of type {1}, but found {2}")]
     UnexpectedType(usize, &'static str, &'static str),
 }

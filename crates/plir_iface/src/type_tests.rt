@@ -1,4 +1,4 @@
-//! Tests of types, and the places of a side whose types fail one.
+//! Tests of types, and the indices of a side whose types fail one.
 ghost use Rattle.std.specs.Prelude.{◌≡◌, ◌<◌, ◌≤◌, ◌↔◌, length, IsTrue};
 ghost use Rattle.plir_data.specs.Types.{TypeView};
 ghost use Rattle.plir_data.specs.TypeSeen.{type_view};
@@ -71,7 +71,7 @@ impl<D: OpSet, I: TypeInterfaceMark<D>> TypeTest<D> for Implementing<I> {
     }
 }
 
-/// Whether the type at a place, from 0, passes a test.
+/// Whether the type at an index passes a test.
 pub(crate) fn passes_at<D: OpSet, Q: TypeTest<D>>(
     ctx: &Context<D>,
     op: Ptr<Operation>,
@@ -86,7 +86,7 @@ pub(crate) fn passes_at<D: OpSet, Q: TypeTest<D>>(
     Q::test(ctx.types().get(side.type_at(ctx, op, i)))
 }
 
-/// The first place, from `start` on and before `end`, whose type fails a test.
+/// The first index, from `start` on and before `end`, whose type fails a test.
 pub fn first_failing<D: OpSet, Q: TypeTest<D>>(
     ctx: &Context<D>,
     op: Ptr<Operation>,

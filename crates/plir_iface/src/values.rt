@@ -8,7 +8,7 @@ ghost use Rattle.plir_core.specs.declared.ptr.IRNode.{IRNode};
 use plir_core::{Context, DefiningEntity, Operation, Ptr, Value};
 use plir_data::{OpSet, TypeHandle};
 
-/// The operand at a place, from 0, which is live as every operand is.
+/// The operand at an index, which is live as every operand is.
 pub(crate) fn operand_at<D: OpSet>(ctx: &Context<D>, op: Ptr<Operation>, i: usize) -> Value
     requires live { IsLive ctx.now (IRNode.Operation op) }
     requires below { i < length (operands_of ctx.now op) }
@@ -32,7 +32,7 @@ pub(crate) fn type_of<D: OpSet>(ctx: &Context<D>, value: Value) -> TypeHandle
     }
 }
 
-/// The type of the result at a place, from 0, which is a type of the context as that of every result is.
+/// The type of the result at an index, which is a type of the context as that of every result is.
 pub(crate) fn result_type_at<D: OpSet>(ctx: &Context<D>, op: Ptr<Operation>, i: usize) -> TypeHandle
     requires live { IsLive ctx.now (IRNode.Operation op) }
     requires below { i < length (result_types_of ctx.now op) }

@@ -1,9 +1,12 @@
 -- The operations of a block are replaced one after another.
-use Rattle.std.proofs.Common.{◌≡◌, ◌<◌, suc, arith, Bool, true, false, List, [], ◌∷◌, ◌++◌, length, Option, Some, None, option_map, inl, inr, refl, sym, ap, subst, ◌∙◌, append_assoc}
-use Rattle.std.proofs.lemmas.Option.{none-some, same_Some}
+use Rattle.std.proofs.Common.{◌≡◌, ◌<◌, suc, arith, Bool, true, false, List, [], ◌∷◌, ◌++◌, length, Option, Some, None}
+use Rattle.std.proofs.Common.{option_map, inl, inr, refl, sym, ap, subst, ◌∙◌, append_assoc}
+use Rattle.std.proofs.lemmas.Bool.{false_from_ne_true}
 use Rattle.plir_data.specs.declared.op_set.OpKind.{OpKind}
 use Rattle.plir_store.specs.Members.{Has, Distinct, head}
-use Rattle.plir_store.specs.MemberLaws.{Has-append_left, Has-append_right, Has-append_cases, Has-mid, Distinct-cross, Distinct-right}
+use Rattle.plir_store.specs.MemberLaws.{Has-append_left, Has-append_right, Has-append_cases, Has-mid, Distinct-cross}
+use Rattle.plir_store.specs.MemberLaws.{Distinct-right}
+use Rattle.plir_store.specs.FilterLaws.{not-both}
 use Rattle.plir_core.specs.declared.ptr.Ptr.{Ptr}
 use Rattle.plir_core.specs.declared.ptr.Operation.{Operation as OperationKind}
 use Rattle.plir_core.specs.declared.ptr.BasicBlock.{BasicBlock as BasicBlockKind}
@@ -12,25 +15,18 @@ use Rattle.plir_core.specs.declared.ptr.IRNode.TheVariants.{Operation, BasicBloc
 use Rattle.plir_core.specs.Forest.{look, IsForest}
 use Rattle.plir_core.specs.ContextView.{ContextView, IsLive, is_live, children, parent_of}
 use Rattle.plir_walk.specs.Lawful.{Lawful}
+use Rattle.plir_walk.specs.NodeLaws.{left_from, left-cut, headed, ended}
 use Rattle.plir_passes.specs.Legal.{is_illegal, HasLegalChildren}
 use Rattle.plir_passes.specs.Rewritten.{BringsNoIllegal, IsConverted, IsReplaced}
-use Rattle.plir_passes.specs.Passing.{left_from, IsPassed}
-use Rattle.plir_passes.proofs.Nodes.{left-cut, not-both, never-true}
+use Rattle.plir_passes.specs.Passing.{IsPassed}
 use Rattle.plir_passes.proofs.Keeping.{converted-none, converted-then}
-
--- a list that begins with an operation, and one that does not begin
-headed : (xs : List IRNode) (op : Ptr OperationKind) → Some (Operation op) ≡ head xs → (ys : List IRNode) × (xs ≡ Operation op ∷ ys)
-headed [] op e = absurd (none-some (Operation op) (sym e))
-headed (x ∷ xs) op e = (xs, ap (λ z. z ∷ xs) (sym (same_Some (Operation op) x e)))
-
-ended : (xs : List IRNode) → None ≡ head xs → xs ≡ []
-ended [] e = refl
-ended (x ∷ xs) e = absurd (none-some x e)
 
 module _ {K A T : Type 0} (illegal : OpKind K → Bool) where
   -- one operation of a block is passed: it is legal and stays
-  pub passed-legal : (s : ContextView K A T) (b : Ptr BasicBlockKind) (op : Ptr OperationKind) (next : Option (Ptr OperationKind))
-      → ((xs ys : List IRNode) → children s (BasicBlock b) ≡ xs ++ Operation op ∷ ys → option_map Operation next ≡ head ys)
+  pub passed-legal : (s : ContextView K A T) (b : Ptr BasicBlockKind) (op : Ptr OperationKind)
+      (next : Option (Ptr OperationKind))
+      → ((xs ys : List IRNode) → children s (BasicBlock b) ≡ xs ++ Operation op ∷ ys
+      → option_map Operation next ≡ head ys)
       → is_illegal illegal s (Operation op) ≡ false → IsPassed illegal s s b op next
   passed-legal s b op next behind legal xs ys q = (behind xs ys q, Operation op ∷ [], q, only)
     where
@@ -39,26 +35,32 @@ module _ {K A T : Type 0} (illegal : OpKind K → Bool) where
       only a (inr nay) = absurd nay
 
   -- or it has been replaced
-  module _ (s t : ContextView K A T) (b : Ptr BasicBlockKind) (op : Ptr OperationKind) (next : Option (Ptr OperationKind))
-      (behind : (xs ys : List IRNode) → children s (BasicBlock b) ≡ xs ++ Operation op ∷ ys → option_map Operation next ≡ head ys) where
-    pub passed-replaced : IsForest (look s) → IsForest (look t) → IsLive s (BasicBlock b) → BringsNoIllegal illegal s t → IsReplaced s t b op → IsPassed illegal s t b op next
+  module _ (s t : ContextView K A T) (b : Ptr BasicBlockKind) (op : Ptr OperationKind)
+      (next : Option (Ptr OperationKind))
+      (behind : (xs ys : List IRNode) → children s (BasicBlock b) ≡ xs ++ Operation op ∷ ys
+      → option_map Operation next ≡ head ys) where
+    pub passed-replaced : IsForest (look s) → IsForest (look t) → IsLive s (BasicBlock b) → BringsNoIllegal illegal s t
+        → IsReplaced s t b op → IsPassed illegal s t b op next
     passed-replaced w w' live brings r xs ys q =
         let p = r.place xs ys q in
-        (behind xs ys q, p.0, p.1, λ a h. never-true (is_illegal illegal t a) (bad p.0 p.1 a h))
+        (behind xs ys q, p.0, p.1, λ a h. false_from_ne_true (is_illegal illegal t a) (bad p.0 p.1 a h))
       where
-        bad : (ks : List IRNode) → children t (BasicBlock b) ≡ xs ++ (ks ++ ys) → (a : IRNode) → Has ks a → is_illegal illegal t a ≡ true → ⊥
+        bad : (ks : List IRNode) → children t (BasicBlock b) ≡ xs ++ (ks ++ ys) → (a : IRNode) → Has ks a
+            → is_illegal illegal t a ≡ true → ⊥
         bad ks e a h i =
             let here = subst (λ z. Has z a) (sym e) (Has-append_right xs (ks ++ ys) a (Has-append_left ks ys a h)) in
             let once = subst Distinct e (w'.once (BasicBlock b)) in
             let was = brings (BasicBlock b) a (w.live_given (BasicBlock b) live) here i in
             elim (Has-append_cases xs (Operation op ∷ ys) a (subst (λ z. Has z a) q was.0)) [
               | inl x ↦ Distinct-cross xs (ks ++ ys) once a x (Has-append_left ks ys a h)
-              | inr (inl o) ↦ not-both (is_live t (Operation op)) (subst (IsLive t) (sym o) (w'.child_live (BasicBlock b) a here)) r.gone
+              | inr (inl o) ↦ not-both (is_live t (Operation op))
+                  (subst (IsLive t) (sym o) (w'.child_live (BasicBlock b) a here)) r.gone
               | inr (inr y) ↦ Distinct-cross ks ys (Distinct-right xs (ks ++ ys) once) a h y
             ]
 
   -- From the start of the loop in s to s', the operations of the block b before `at` are legal.
-  pub record IsConverting (s s' : ContextView K A T) (b : Ptr BasicBlockKind) (at : Option (Ptr OperationKind)) : Type 0 where
+  pub record IsConverting (s s' : ContextView K A T) (b : Ptr BasicBlockKind) (at : Option (Ptr OperationKind)) : Type
+      0 where
     pub lawful : Lawful (look s) (BasicBlock b) (look s')
     pub converted : IsConverted illegal s s'
     pub forest : IsForest (look s')
@@ -69,9 +71,11 @@ module _ {K A T : Type 0} (illegal : OpKind K → Bool) where
     pub here : option_map Operation at ≡ head back
     pub legal : (a : IRNode) → Has front a → is_illegal illegal s' a ≡ false
 
-  pub converting-start : (s : ContextView K A T) (b : Ptr BasicBlockKind) (at : Option (Ptr OperationKind)) → Lawful (look s) (BasicBlock b) (look s) → IsForest (look s) → IsLive s (BasicBlock b)
-      → option_map Operation at ≡ head (children s (BasicBlock b)) → IsConverting s s b at
-  converting-start s b at l w v e = record {
+module _ {K A T : Type 0} {illegal : OpKind K → Bool} where
+  pub converting-start : {s : ContextView K A T} {b : Ptr BasicBlockKind} {at : Option (Ptr OperationKind)}
+      → Lawful (look s) (BasicBlock b) (look s) → IsForest (look s) → IsLive s (BasicBlock b)
+      → option_map Operation at ≡ head (children s (BasicBlock b)) → IsConverting illegal s s b at
+  converting-start {s} {b} {at} l w v e = record {
     lawful = l;
     converted = converted-none illegal s;
     forest = w;
@@ -83,7 +87,8 @@ module _ {K A T : Type 0} (illegal : OpKind K → Bool) where
     legal = λ a h. absurd h;
   }
 
-  module _ (s s' : ContextView K A T) (b : Ptr BasicBlockKind) (at : Option (Ptr OperationKind)) (r : IsConverting s s' b at) where
+  module _ {s s' : ContextView K A T} {b : Ptr BasicBlockKind} {at : Option (Ptr OperationKind)}
+      (r : IsConverting illegal s s' b at) where
     pub converting-end : at ≡ None → HasLegalChildren illegal s' (BasicBlock b)
     converting-end e a h = elim (Has-append_cases r.front r.back a (subst (λ z. Has z a) r.split h)) [
       | inl x ↦ r.legal a x
@@ -106,14 +111,18 @@ module _ {K A T : Type 0} (illegal : OpKind K → Bool) where
       pub converting-parent : parent_of s' (Operation op) ≡ Some (BasicBlock b)
       converting-parent = r.forest.child_parent (BasicBlock b) (Operation op) has
 
-      module _ (t : ContextView K A T) (next : Option (Ptr OperationKind)) (w : IsForest (look s)) (w' : IsForest (look t)) (p : IsPassed illegal s' t b op next) where
-        abbrev passed : (option_map Operation next ≡ head rest.0) × (ks : List IRNode) × (children t (BasicBlock b) ≡ r.front ++ (ks ++ rest.0)) × ((a : IRNode) → Has ks a → is_illegal illegal t a ≡ false)
+      module _ (t : ContextView K A T) (next : Option (Ptr OperationKind)) (w : IsForest (look s))
+          (w' : IsForest (look t)) (p : IsPassed illegal s' t b op next) where
+        abbrev passed : (option_map Operation next ≡ head rest.0) × (ks : List IRNode) ×
+            (children t (BasicBlock b) ≡ r.front ++ (ks ++ rest.0)) ×
+            ((a : IRNode) → Has ks a → is_illegal illegal t a ≡ false)
         passed = p r.front rest.0 cut
 
         recut : children t (BasicBlock b) ≡ (r.front ++ passed.1) ++ rest.0
         recut = passed.2 ∙ sym (append_assoc r.front passed.1 rest.0)
 
-        pub converting-more : Lawful (look s) (BasicBlock b) (look t) → IsConverted illegal s' t → IsLive t (BasicBlock b) → IsConverting s t b next
+        pub converting-more : Lawful (look s) (BasicBlock b) (look t) → IsConverted illegal s' t
+            → IsLive t (BasicBlock b) → IsConverting illegal s t b next
         converting-more l c v = record {
           lawful = l;
           converted = converted-then illegal s s' t w r.converted c;
@@ -124,8 +133,10 @@ module _ {K A T : Type 0} (illegal : OpKind K → Bool) where
           split = recut;
           here = passed.0;
           legal = λ a h. elim (Has-append_cases r.front passed.1 a h) [
-            | inl x ↦ never-true (is_illegal illegal t a) (λ i.
-                not-both (is_illegal illegal s' a) (c.legal (BasicBlock b) a (r.forest.live_given (BasicBlock b) r.live) (subst (λ z. Has z a) (sym recut) (Has-append_left (r.front ++ passed.1) rest.0 a h)) i).1 (r.legal a x))
+            | inl x ↦ false_from_ne_true (is_illegal illegal t a) (λ i.
+                not-both (is_illegal illegal s' a) (c.legal (BasicBlock b) a (r.forest.live_given (BasicBlock b) r.live)
+                (subst (λ z. Has z a) (sym recut) (Has-append_left (r.front ++ passed.1) rest.0 a h)) i).1
+                (r.legal a x))
             | inr y ↦ passed.3 a y
           ];
         }
@@ -134,12 +145,17 @@ module _ {K A T : Type 0} (illegal : OpKind K → Bool) where
         converting-falls = go next passed.0
           where
             before : left_from (children s' (BasicBlock b)) at ≡ suc (length rest.0)
-            before = ap (left_from (children s' (BasicBlock b))) is ∙ ap (λ z. left_from z (Some op)) cut ∙ left-cut r.front rest.0 op (subst Distinct cut (r.forest.once (BasicBlock b)))
+            before =
+                ap (left_from (children s' (BasicBlock b))) is ∙ ap (λ z. left_from z (Some op)) cut
+                ∙ left-cut r.front rest.0 op (subst Distinct cut (r.forest.once (BasicBlock b)))
 
-            go : (o : Option (Ptr OperationKind)) → option_map Operation o ≡ head rest.0 → left_from (children t (BasicBlock b)) o < left_from (children s' (BasicBlock b)) at
+            go : (o : Option (Ptr OperationKind)) → option_map Operation o ≡ head rest.0
+                → left_from (children t (BasicBlock b)) o < left_from (children s' (BasicBlock b)) at
             go None e = omega (arith, before)
             go (Some q) e =
                 let y = headed rest.0 q e in
                 let c = recut ∙ ap (λ z. (r.front ++ passed.1) ++ z) y.1 in
-                let after = ap (λ z. left_from z (Some q)) c ∙ left-cut (r.front ++ passed.1) y.0 q (subst Distinct c (w'.once (BasicBlock b))) in
+                let after =
+                ap (λ z. left_from z (Some q)) c
+                ∙ left-cut (r.front ++ passed.1) y.0 q (subst Distinct c (w'.once (BasicBlock b))) in
                 omega (arith, before, after, ap length y.1)

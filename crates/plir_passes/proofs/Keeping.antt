@@ -2,6 +2,7 @@
 use Rattle.std.proofs.Common.{◌≡◌, ℕ, zero, suc, Bool, true, Option, Some, None, refl, sym, ap, subst, ◌∙◌}
 use Rattle.std.proofs.lemmas.Option.{same_Some}
 use Rattle.plir_data.specs.declared.op_set.OpKind.{OpKind}
+use Rattle.plir_store.specs.FilterLaws.{not-both}
 use Rattle.plir_core.specs.declared.ptr.Ptr.{Ptr}
 use Rattle.plir_core.specs.declared.ptr.Operation.{Operation as OperationKind}
 use Rattle.plir_core.specs.declared.ptr.BasicBlock.{BasicBlock as BasicBlockKind}
@@ -11,10 +12,11 @@ use Rattle.plir_core.specs.Above.{climb, Reaches}
 use Rattle.plir_core.specs.Contents.{OpView}
 use Rattle.plir_core.specs.Forest.{look, IsForest}
 use Rattle.plir_core.specs.ContextView.{ContextView, IsLive, parent_of, kind_in, op_at, entity_node}
+use Rattle.plir_core.specs.ButOperands.{but_operands}
+use Rattle.plir_walk.specs.NodeLaws.{climb-nothing}
 use Rattle.plir_passes.specs.Legal.{is_illegal, is_kind, IsUntouched}
-use Rattle.plir_passes.specs.Kept.{Keeps, but_operands}
+use Rattle.plir_passes.specs.Kept.{Keeps}
 use Rattle.plir_passes.specs.Rewritten.{IsConverted, IsRewriting}
-use Rattle.plir_passes.proofs.Nodes.{climb-nothing, not-both}
 
 kind-but : {K A : Type 0} (o : Option (OpView K A)) → kind_in (but_operands o) ≡ kind_in o
 kind-but None = refl
@@ -32,7 +34,8 @@ module _ {K A T : Type 0} where
   }
 
   -- fewer nodes stand apart
-  pub keeps-fewer : (s t : ContextView K A T) (P Q : IRNode → Type 0) → ((n : IRNode) → Q n → P n) → Keeps s t P → Keeps s t Q
+  pub keeps-fewer : (s t : ContextView K A T) (P Q : IRNode → Type 0) → ((n : IRNode) → Q n → P n) → Keeps s t P
+      → Keeps s t Q
   keeps-fewer s t P Q less f = record {
     live = λ n l a. f.live n l (less n a);
     parents = λ n l a. f.parents n l (less n a);
@@ -43,41 +46,56 @@ module _ {K A T : Type 0} where
 
 module _ {K A T : Type 0} (illegal : OpKind K → Bool) where
   -- what stands right above an untouched node is untouched
-  untouched-up : (s : ContextView K A T) (n a : IRNode) → parent_of s n ≡ Some a → IsUntouched illegal s n → IsUntouched illegal s a
+  untouched-up : (s : ContextView K A T) (n a : IRNode) → parent_of s n ≡ Some a → IsUntouched illegal s n
+      → IsUntouched illegal s a
   untouched-up s n a e u x r = u x (suc r.0, ap (climb (parent_of s) r.0) e ∙ r.1)
 
   -- the way up from an untouched node is the one that it was
-  way-kept : (s t : ContextView K A T) → IsForest (look s) → Keeps s t (IsUntouched illegal s) → (k : ℕ) (n a : IRNode) → IsLive s n → IsUntouched illegal s n
-      → climb (parent_of t) k (Some n) ≡ Some a → (climb (parent_of s) k (Some n) ≡ Some a) × IsLive s a × IsUntouched illegal s a
-  way-kept s t w f zero n a l u e = (e, subst (IsLive s) (same_Some n a e) l, subst (IsUntouched illegal s) (same_Some n a e) u)
+  way-kept : (s t : ContextView K A T) → IsForest (look s) → Keeps s t (IsUntouched illegal s) → (k : ℕ) (n a : IRNode)
+      → IsLive s n → IsUntouched illegal s n
+      → climb (parent_of t) k (Some n) ≡ Some a
+      → (climb (parent_of s) k (Some n) ≡ Some a) × IsLive s a × IsUntouched illegal s a
+  way-kept s t w f zero n a l u e =
+      (e, subst (IsLive s) (same_Some n a e) l, subst (IsUntouched illegal s) (same_Some n a e) u)
   way-kept s t w f (suc k) n a l u e = up (λ b m v g. way-kept s t w f k b a m v g) (parent_of s n) refl
     where
-      up : ((b : IRNode) → IsLive s b → IsUntouched illegal s b → climb (parent_of t) k (Some b) ≡ Some a → (climb (parent_of s) k (Some b) ≡ Some a) × IsLive s a × IsUntouched illegal s a)
-          → (o : Option IRNode) → parent_of s n ≡ o → (climb (parent_of s) k (parent_of s n) ≡ Some a) × IsLive s a × IsUntouched illegal s a
-      up rest None q = absurd (climb-nothing (parent_of t) k a (ap (climb (parent_of t) k) (sym (f.parents n l u ∙ q)) ∙ e))
+      up : ((b : IRNode) → IsLive s b → IsUntouched illegal s b → climb (parent_of t) k (Some b) ≡ Some a
+          → (climb (parent_of s) k (Some b) ≡ Some a) × IsLive s a × IsUntouched illegal s a)
+          → (o : Option IRNode) → parent_of s n ≡ o
+          → (climb (parent_of s) k (parent_of s n) ≡ Some a) × IsLive s a × IsUntouched illegal s a
+      up rest None q =
+          absurd (climb-nothing (parent_of t) k a (ap (climb (parent_of t) k) (sym (f.parents n l u ∙ q)) ∙ e))
       up rest (Some b) q =
-          let r = rest b (w.parent_live b n q) (untouched-up s n b q u) (ap (climb (parent_of t) k) (sym (f.parents n l u ∙ q)) ∙ e) in
+          let r =
+          rest b (w.parent_live b n q) (untouched-up s n b q u)
+          (ap (climb (parent_of t) k) (sym (f.parents n l u ∙ q)) ∙ e) in
           (ap (climb (parent_of s) k) q ∙ r.0, r.1, r.2)
 
   -- an untouched node has the kind that it had
-  legal-kept : (s t : ContextView K A T) → Keeps s t (IsUntouched illegal s) → (n : IRNode) → IsLive s n → IsUntouched illegal s n → is_illegal illegal t n ≡ is_illegal illegal s n
-  legal-kept s t f (Operation p) l u = ap (is_kind illegal) (sym (kind-but (op_at t p)) ∙ ap kind_in (f.ops p l u) ∙ kind-but (op_at s p))
+  legal-kept : (s t : ContextView K A T) → Keeps s t (IsUntouched illegal s) → (n : IRNode) → IsLive s n
+      → IsUntouched illegal s n → is_illegal illegal t n ≡ is_illegal illegal s n
+  legal-kept s t f (Operation p) l u =
+      ap (is_kind illegal) (sym (kind-but (op_at t p)) ∙ ap kind_in (f.ops p l u) ∙ kind-but (op_at s p))
   legal-kept s t f (Region p) l u = refl
   legal-kept s t f (BasicBlock p) l u = refl
 
-  pub untouched-then : (s t : ContextView K A T) → IsForest (look s) → Keeps s t (IsUntouched illegal s) → (n : IRNode) → IsLive s n → IsUntouched illegal s n → IsUntouched illegal t n
+  pub untouched-then : (s t : ContextView K A T) → IsForest (look s) → Keeps s t (IsUntouched illegal s) → (n : IRNode)
+      → IsLive s n → IsUntouched illegal s n → IsUntouched illegal t n
   untouched-then s t w f n l u a r =
       let k = way-kept s t w f r.0 n a l u r.1 in
       legal-kept s t f a k.1 k.2 ∙ u a (r.0, k.0)
 
-  keeps-then : (s t u : ContextView K A T) → IsForest (look s) → Keeps s t (IsUntouched illegal s) → Keeps t u (IsUntouched illegal t) → Keeps s u (IsUntouched illegal s)
+  keeps-then : (s t u : ContextView K A T) → IsForest (look s) → Keeps s t (IsUntouched illegal s)
+      → Keeps t u (IsUntouched illegal t) → Keeps s u (IsUntouched illegal s)
   keeps-then s t u w f g =
       let still = untouched-then s t w f in
       record {
         live = λ n l a. g.live n (f.live n l a) (still n l a);
         parents = λ n l a. g.parents n (f.live n l a) (still n l a) ∙ f.parents n l a;
         ops = λ p l a. g.ops p (f.live (Operation p) l a) (still (Operation p) l a) ∙ f.ops p l a;
-        operands = λ p i v l a e m b. g.operands p i v (f.live (Operation p) l a) (still (Operation p) l a) (f.operands p i v l a e m b) (f.live (entity_node v.entity) m b) (still (entity_node v.entity) m b);
+        operands =
+            λ p i v l a e m b. g.operands p i v (f.live (Operation p) l a) (still (Operation p) l a)
+            (f.operands p i v l a e m b) (f.live (entity_node v.entity) m b) (still (entity_node v.entity) m b);
         blocks = λ b l a. g.blocks b (f.live (BasicBlock b) l a) (still (BasicBlock b) l a) ∙ f.blocks b l a;
       }
 
@@ -88,7 +106,8 @@ module _ {K A T : Type 0} (illegal : OpKind K → Bool) where
     given = λ n g. g;
   }
 
-  pub converted-then : (s t u : ContextView K A T) → IsForest (look s) → IsConverted illegal s t → IsConverted illegal t u → IsConverted illegal s u
+  pub converted-then : (s t u : ContextView K A T) → IsForest (look s) → IsConverted illegal s t
+      → IsConverted illegal t u → IsConverted illegal s u
   converted-then s t u w f g = record {
     kept = keeps-then s t u w f.kept g.kept;
     legal = λ n a d h i. (let r = g.legal n a (f.given n d) h i in f.legal n a d r.0 r.1);
@@ -96,9 +115,12 @@ module _ {K A T : Type 0} (illegal : OpKind K → Bool) where
   }
 
   -- one illegal operation is being replaced
-  pub converted-one : (s t : ContextView K A T) (b : Ptr BasicBlockKind) (op : Ptr OperationKind) → is_illegal illegal s (Operation op) ≡ true → IsRewriting illegal s t b op → IsConverted illegal s t
+  pub converted-one : (s t : ContextView K A T) (b : Ptr BasicBlockKind) (op : Ptr OperationKind)
+      → is_illegal illegal s (Operation op) ≡ true → IsRewriting illegal s t b op → IsConverted illegal s t
   converted-one s t b op i f = record {
-    kept = keeps-fewer s t (λ n. Reaches (parent_of s) n (Operation op) → ⊥) (IsUntouched illegal s) (λ n u r. not-both (is_illegal illegal s (Operation op)) i (u (Operation op) r)) f.kept;
+    kept =
+        keeps-fewer s t (λ n. Reaches (parent_of s) n (Operation op) → ⊥) (IsUntouched illegal s)
+        (λ n u r. not-both (is_illegal illegal s (Operation op)) i (u (Operation op) r)) f.kept;
     legal = f.legal;
     given = f.lawful.given;
   }

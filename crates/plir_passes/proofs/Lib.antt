@@ -1,9 +1,7 @@
-pub mod Nodes
 pub mod Keeping
 pub mod Converting
 pub mod Walking
 pub mod Replacing
-pub mod Filters
 pub mod Unused
 pub mod Sweeps
 pub mod SweepBlock

@@ -1,10 +1,12 @@
 -- An operation is replaced by one that was made.
-use Rattle.std.proofs.Common.{◌≡◌, ℕ, zero, suc, Bool, true, false, List, [], ◌∷◌, ◌++◌, Option, Some, None, inl, inr, refl, sym, ap, subst, ◌∙◌, append_assoc, slice_get}
+use Rattle.std.proofs.Common.{◌≡◌, ℕ, zero, suc, Bool, true, false, List, [], ◌∷◌, ◌++◌, Option, Some, None, inl, inr}
+use Rattle.std.proofs.Common.{refl, sym, ap, subst, ◌∙◌, append_assoc, slice_get}
 use Rattle.std.proofs.lemmas.Option.{same_Some}
 use Rattle.plir_data.specs.declared.op_set.OpKind.{OpKind}
 use Rattle.plir_store.specs.Members.{Has}
 use Rattle.plir_store.specs.MemberLaws.{Has-split, Has-append_left, Has-append_right, Has-append_cases}
 use Rattle.plir_store.specs.Table.{content_at, is_live_at}
+use Rattle.plir_store.specs.FilterLaws.{not-both}
 use Rattle.plir_core.specs.declared.ptr.Ptr.{Ptr}
 use Rattle.plir_core.specs.declared.ptr.Operation.{Operation as OperationKind}
 use Rattle.plir_core.specs.declared.ptr.BasicBlock.{BasicBlock as BasicBlockKind}
@@ -17,29 +19,36 @@ use Rattle.plir_core.specs.Made.{IsMade}
 use Rattle.plir_core.specs.Nodes.{Nodes, is_node_live}
 use Rattle.plir_core.specs.Placed.{MovesOnly, IsPlaced, IsPlacedBefore}
 use Rattle.plir_core.specs.Forest.{look, IsForest}
-use Rattle.plir_core.specs.ContextView.{ContextView, IsLive, is_live, children, parent_of, given_out, kind_in, op_at, block_at, operands_in}
+use Rattle.plir_core.specs.ContextView.{ContextView, IsLive, is_live, children, parent_of, given_out, kind_in, op_at}
+use Rattle.plir_core.specs.ContextView.{block_at, operands_in}
+use Rattle.plir_core.specs.ButOperands.{but_operands}
 use Rattle.plir_walk.specs.Lawful.{Lawful}
 use Rattle.plir_walk.specs.LawfulChanges.{LawfulChanges}
+use Rattle.plir_walk.specs.NodeLaws.{block-tells, climb-nothing}
 use Rattle.plir_passes.specs.Legal.{is_illegal, is_kind}
-use Rattle.plir_passes.specs.Kept.{Keeps, but_operands}
+use Rattle.plir_passes.specs.Kept.{Keeps}
 use Rattle.plir_passes.specs.Rewritten.{IsRewriting, IsReplaced}
-use Rattle.plir_passes.proofs.Nodes.{not-both, block-tells, climb-nothing}
 
-moved-live : {O B : Type 0} (s t : Nodes O B) (x : IRNode) → MovesOnly s t x → (m : IRNode) → is_node_live t m ≡ is_node_live s m
+moved-live : {O B : Type 0} (s t : Nodes O B) (x : IRNode) → MovesOnly s t x → (m : IRNode)
+    → is_node_live t m ≡ is_node_live s m
 moved-live s t x e (Operation p) = ap (λ z. is_live_at z p.slot p.version) e.ops
 moved-live s t x e (Region p) = ap (λ z. is_live_at z p.slot p.version) e.regions
 moved-live s t x e (BasicBlock p) = ap (λ z. is_live_at z p.slot p.version) e.blocks
 
 module _ {K A T : Type 0} (illegal : OpKind K → Bool) where
   -- a node that holds what it held has the kind that it had
-  same-legal : (s t : ContextView K A T) (a : IRNode) → ((p : Ptr OperationKind) → a ≡ Operation p → op_at t p ≡ op_at s p) → is_illegal illegal t a ≡ is_illegal illegal s a
+  same-legal : (s t : ContextView K A T) (a : IRNode)
+      → ((p : Ptr OperationKind) → a ≡ Operation p → op_at t p ≡ op_at s p)
+      → is_illegal illegal t a ≡ is_illegal illegal s a
   same-legal s t (Operation p) e = ap (λ z. is_kind illegal (kind_in z)) (e p refl)
   same-legal s t (Region p) e = refl
   same-legal s t (BasicBlock p) e = refl
 
   -- what was live is live, where it stood, and holds what it held
-  keeps-all : (s t : ContextView K A T) (P : IRNode → Type 0) → ((n : IRNode) → IsLive s n → P n → IsLive t n) → ((n : IRNode) → IsLive s n → P n → parent_of t n ≡ parent_of s n)
-      → ((p : Ptr OperationKind) → IsLive s (Operation p) → P (Operation p) → op_at t p ≡ op_at s p) → ((b : Ptr BasicBlockKind) → IsLive s (BasicBlock b) → P (BasicBlock b) → block_at t b ≡ block_at s b)
+  keeps-all : (s t : ContextView K A T) (P : IRNode → Type 0) → ((n : IRNode) → IsLive s n → P n → IsLive t n)
+      → ((n : IRNode) → IsLive s n → P n → parent_of t n ≡ parent_of s n)
+      → ((p : Ptr OperationKind) → IsLive s (Operation p) → P (Operation p) → op_at t p ≡ op_at s p)
+      → ((b : Ptr BasicBlockKind) → IsLive s (BasicBlock b) → P (BasicBlock b) → block_at t b ≡ block_at s b)
       → Keeps s t P
   keeps-all s t P live parents ops blocks = record {
     live = live;
@@ -49,17 +58,22 @@ module _ {K A T : Type 0} (illegal : OpKind K → Bool) where
     blocks = blocks;
   }
 
-  pub rewriting-refused : (s t : ContextView K A T) (b : Ptr BasicBlockKind) (op : Ptr OperationKind) → IsForest (look s) → Lawful (look s) (BasicBlock b) (look t) → SameLive s t → IsRewriting illegal s t b op
+  pub rewriting-refused : (s t : ContextView K A T) (b : Ptr BasicBlockKind) (op : Ptr OperationKind)
+      → IsForest (look s) → Lawful (look s) (BasicBlock b) (look t) → SameLive s t → IsRewriting illegal s t b op
   rewriting-refused s t b op w l same = record {
     lawful = l;
-    kept = keeps-all s t _ (λ n l a. same.nodes.live n ∙ l) (λ n l a. same.nodes.parents n) (λ p l a. same.nodes.ops p l) (λ q l a. same.nodes.blocks q l);
+    kept =
+        keeps-all s t _ (λ n l a. same.nodes.live n ∙ l) (λ n l a. same.nodes.parents n) (λ p l a. same.nodes.ops p l)
+        (λ q l a. same.nodes.blocks q l);
     legal = λ n a g h i.
         (let k : Has (children s n) a = subst (λ z. Has z a) (same.nodes.children n) h in
         (k, sym (same-legal s t a (λ p e. same.nodes.ops p (subst (IsLive s) e (w.child_live n a k)))) ∙ i));
   }
 
-  module _ (own : A → List ℕ) (laws : LawfulChanges K A T own) (s t u : ContextView K A T) (b : Ptr BasicBlockKind) (op x : Ptr OperationKind)
-      (w : IsForest (look s)) (here : parent_of s (Operation op) ≡ Some (BasicBlock b)) (made : IsMade s.nodes t.nodes (Operation x))
+  module _ (own : A → List ℕ) (laws : LawfulChanges K A T own) (s t u : ContextView K A T) (b : Ptr BasicBlockKind)
+      (op x : Ptr OperationKind)
+      (w : IsForest (look s)) (here : parent_of s (Operation op) ≡ Some (BasicBlock b))
+      (made : IsMade s.nodes t.nodes (Operation x))
       (placed : IsPlacedBefore t.nodes u.nodes (Operation x) (Operation op)) where
     over : IsLive s (BasicBlock b)
     over = w.parent_live (BasicBlock b) (Operation op) here
@@ -67,7 +81,8 @@ module _ {K A T : Type 0} (illegal : OpKind K → Bool) where
     cut : (front : List IRNode) × (back : List IRNode) × (children s (BasicBlock b) ≡ front ++ Operation op ∷ back)
     cut = Has-split (children s (BasicBlock b)) (Operation op) (w.parent_child (BasicBlock b) (Operation op) here)
 
-    now : (xs ys : List IRNode) → children s (BasicBlock b) ≡ xs ++ Operation op ∷ ys → IsPlaced t.nodes u.nodes (Operation x) (BasicBlock b) (xs ++ Operation x ∷ Operation op ∷ ys)
+    now : (xs ys : List IRNode) → children s (BasicBlock b) ≡ xs ++ Operation op ∷ ys
+        → IsPlaced t.nodes u.nodes (Operation x) (BasicBlock b) (xs ++ Operation x ∷ Operation op ∷ ys)
     now xs ys e = placed (BasicBlock b) xs ys (made.children (BasicBlock b) over ∙ e)
 
     at : IsPlaced t.nodes u.nodes (Operation x) (BasicBlock b) (cut.0 ++ Operation x ∷ Operation op ∷ cut.1)
@@ -88,13 +103,19 @@ module _ {K A T : Type 0} (illegal : OpKind K → Bool) where
     block-u : (q : Ptr BasicBlockKind) → IsLive s (BasicBlock q) → block_at u q ≡ block_at s q
     block-u q l = ap (λ z. content_at z q.slot) at.moved.blocks ∙ made.keeps.blocks q l
 
-    way-u : (k : ℕ) (n a : IRNode) → IsLive s n → climb (parent_of u) k (Some n) ≡ Some a → climb (parent_of s) k (Some n) ≡ Some a
+    way-u : (k : ℕ) (n a : IRNode) → IsLive s n → climb (parent_of u) k (Some n) ≡ Some a
+        → climb (parent_of s) k (Some n) ≡ Some a
     way-u zero n a l e = e
     way-u (suc k) n a l e = up (λ c m g. way-u k c a m g) (parent_of s n) refl
       where
-        up : ((c : IRNode) → IsLive s c → climb (parent_of u) k (Some c) ≡ Some a → climb (parent_of s) k (Some c) ≡ Some a) → (o : Option IRNode) → parent_of s n ≡ o → climb (parent_of s) k (parent_of s n) ≡ Some a
-        up rest None q = absurd (climb-nothing (parent_of u) k a (ap (climb (parent_of u) k) (sym q ∙ sym (parent-u n l)) ∙ e))
-        up rest (Some c) q = ap (climb (parent_of s) k) q ∙ rest c (w.parent_live c n q) (ap (climb (parent_of u) k) (sym q ∙ sym (parent-u n l)) ∙ e)
+        up : ((c : IRNode) → IsLive s c → climb (parent_of u) k (Some c) ≡ Some a
+            → climb (parent_of s) k (Some c) ≡ Some a) → (o : Option IRNode) → parent_of s n ≡ o
+            → climb (parent_of s) k (parent_of s n) ≡ Some a
+        up rest None q =
+            absurd (climb-nothing (parent_of u) k a (ap (climb (parent_of u) k) (sym q ∙ sym (parent-u n l)) ∙ e))
+        up rest (Some c) q =
+            ap (climb (parent_of s) k) q
+            ∙ rest c (w.parent_live c n q) (ap (climb (parent_of u) k) (sym q ∙ sym (parent-u n l)) ∙ e)
 
     -- a node that is there and was given out before was there before
     was-live : (n : IRNode) → IsLive u n → given_out s n ≡ true → IsLive s n
@@ -102,18 +123,25 @@ module _ {K A T : Type 0} (illegal : OpKind K → Bool) where
       where
         go : (z : Bool) → is_live s n ≡ z → is_live s n ≡ true
         go true e = e
-        go false e = absurd (not-both (given_out s n) g (made.fresh n (sym (moved-live t.nodes u.nodes (Operation x) at.moved n) ∙ l) e))
+        go false e =
+            absurd (not-both (given_out s n) g
+            (made.fresh n (sym (moved-live t.nodes u.nodes (Operation x) at.moved n) ∙ l) e))
 
     module _ (w' : IsForest (look u)) (legal : is_illegal illegal t (Operation x) ≡ false) where
       -- what stands under an older node stood there, but for the new one
-      brought-u : (n a : IRNode) → IsLive s n → Has (children u n) a → is_illegal illegal u a ≡ true → Has (children s n) a × (is_illegal illegal s a ≡ true)
+      brought-u : (n a : IRNode) → IsLive s n → Has (children u n) a → is_illegal illegal u a ≡ true
+          → Has (children s n) a × (is_illegal illegal s a ≡ true)
       brought-u n a l h i = elim (block-tells n b) [
         | inl e ↦
-            let k : Has (cut.0 ++ Operation x ∷ Operation op ∷ cut.1) a = subst (λ z. Has z a) at.children_over (subst (λ z. Has (children u z) a) e h) in
-            let old : Has (children s (BasicBlock b)) a → Has (children s n) a × (is_illegal illegal s a ≡ true) = λ h. (let z = kept (BasicBlock b) h in (subst (λ m. Has (children s m) a) (sym e) z.0, z.1)) in
+            let k : Has (cut.0 ++ Operation x ∷ Operation op ∷ cut.1) a =
+            subst (λ z. Has z a) at.children_over (subst (λ z. Has (children u z) a) e h) in
+            let old : Has (children s (BasicBlock b)) a → Has (children s n) a × (is_illegal illegal s a ≡ true) =
+            λ h. (let z = kept (BasicBlock b) h in (subst (λ m. Has (children s m) a) (sym e) z.0, z.1)) in
             elim (Has-append_cases cut.0 (Operation x ∷ Operation op ∷ cut.1) a k) [
               | inl f ↦ old (subst (λ z. Has z a) (sym cut.2) (Has-append_left cut.0 (Operation op ∷ cut.1) a f))
-              | inr (inl q) ↦ absurd (not-both (is_illegal illegal u (Operation x)) (subst (λ z. is_illegal illegal u z ≡ true) (sym q) i) (ap (λ z. is_kind illegal (kind_in (content_at z x.slot))) at.moved.ops ∙ legal))
+              | inr (inl q) ↦ absurd (not-both (is_illegal illegal u (Operation x))
+                  (subst (λ z. is_illegal illegal u z ≡ true) (sym q) i)
+                  (ap (λ z. is_kind illegal (kind_in (content_at z x.slot))) at.moved.ops ∙ legal))
               | inr (inr f) ↦ old (subst (λ z. Has z a) (sym cut.2) (Has-append_right cut.0 (Operation op ∷ cut.1) a f))
             ]
         | inr ne ↦ kept n (subst (λ z. Has z a) (at.children n ne ∙ made.children n l) h)
@@ -130,13 +158,19 @@ module _ {K A T : Type 0} (illegal : OpKind K → Bool) where
       }
 
       pub added-live : IsLive u (Operation op)
-      added-live = live-u (Operation op) (w.child_live (BasicBlock b) (Operation op) (w.parent_child (BasicBlock b) (Operation op) here))
+      added-live =
+          live-u (Operation op)
+          (w.child_live (BasicBlock b) (Operation op) (w.parent_child (BasicBlock b) (Operation op) here))
 
-      module _ (v : ContextView K A T) (w'' : IsForest (look v)) (erased : IsErased u.nodes v.nodes (Operation op)) where
+      module _ (v : ContextView K A T) (w'' : IsForest (look v))
+          (erased : IsErased u.nodes v.nodes (Operation op)) where
         parent-op : parent_of u (Operation op) ≡ Some (BasicBlock b)
-        parent-op = parent-u (Operation op) (w.child_live (BasicBlock b) (Operation op) (w.parent_child (BasicBlock b) (Operation op) here)) ∙ here
+        parent-op =
+            parent-u (Operation op)
+            (w.child_live (BasicBlock b) (Operation op) (w.parent_child (BasicBlock b) (Operation op) here)) ∙ here
 
-        apart : (n : IRNode) → IsLive s n → (Reaches (parent_of s) n (Operation op) → ⊥) → Reaches (parent_of u) n (Operation op) → ⊥
+        apart : (n : IRNode) → IsLive s n → (Reaches (parent_of s) n (Operation op) → ⊥)
+            → Reaches (parent_of u) n (Operation op) → ⊥
         apart n l a r = a (r.0, way-u r.0 n (Operation op) l r.1)
 
         live-v : (n : IRNode) → IsLive s n → (Reaches (parent_of s) n (Operation op) → ⊥) → IsLive v n
@@ -151,13 +185,17 @@ module _ {K A T : Type 0} (illegal : OpKind K → Bool) where
         stood n a h = elim (block-tells n b) [
           | inl e ↦
               let cut-u = at.children_over ∙ sym (append_assoc cut.0 (Operation x ∷ []) (Operation op ∷ cut.1)) in
-              let k = subst (λ z. Has z a) (erased.children_over (BasicBlock b) (cut.0 ++ Operation x ∷ []) cut.1 cut-u) (subst (λ z. Has (children v z) a) e h) in
-              subst (λ z. Has (children u z) a) (sym e) (subst (λ z. Has z a) (sym cut-u) (elim (Has-append_cases (cut.0 ++ Operation x ∷ []) cut.1 a k) [
+              let k =
+              subst (λ z. Has z a) (erased.children_over (BasicBlock b) (cut.0 ++ Operation x ∷ []) cut.1 cut-u)
+              (subst (λ z. Has (children v z) a) e h) in
+              subst (λ z. Has (children u z) a) (sym e)
+              (subst (λ z. Has z a) (sym cut-u) (elim (Has-append_cases (cut.0 ++ Operation x ∷ []) cut.1 a k) [
                 | inl f ↦ Has-append_left (cut.0 ++ Operation x ∷ []) (Operation op ∷ cut.1) a f
                 | inr f ↦ Has-append_right (cut.0 ++ Operation x ∷ []) (Operation op ∷ cut.1) a (inr f)
               ]))
           | inr ne ↦
-              subst (λ z. Has z a) (erased.children n (apart-v n (w''.parent_live n a (w''.child_parent n a h))) (λ q. ne (same_Some n (BasicBlock b) (sym q ∙ parent-op)))) h
+              subst (λ z. Has z a) (erased.children n (apart-v n (w''.parent_live n a (w''.child_parent n a h)))
+              (λ q. ne (same_Some n (BasicBlock b) (sym q ∙ parent-op)))) h
         ]
 
         same-v : (a : IRNode) → IsLive v a → is_illegal illegal v a ≡ is_illegal illegal u a
@@ -165,7 +203,9 @@ module _ {K A T : Type 0} (illegal : OpKind K → Bool) where
 
         pub rewriting-replaced : IsRewriting illegal s v b op
         rewriting-replaced = record {
-          lawful = laws.both s u v (BasicBlock b) w rewriting-added.lawful (laws.erased u v (BasicBlock b) (Operation op) (zero, parent-op) erased);
+          lawful =
+              laws.both s u v (BasicBlock b) w rewriting-added.lawful
+              (laws.erased u v (BasicBlock b) (Operation op) (zero, parent-op) erased);
           kept = keeps-all s v _ live-v
               (λ n l a. erased.parents n (apart n l a) ∙ parent-u n l)
               (λ p l a. erased.ops p (live-v (Operation p) l a) ∙ op-u p l)
@@ -173,7 +213,8 @@ module _ {K A T : Type 0} (illegal : OpKind K → Bool) where
           legal = λ n a g h i.
               (let up = w''.child_parent n a h in
               let k = stood n a h in
-              brought-u n a (was-live n (w'.parent_live n a (w'.child_parent n a k)) g) k (sym (same-v a (w''.child_live n a h)) ∙ i));
+              brought-u n a (was-live n (w'.parent_live n a (w'.child_parent n a k)) g) k
+              (sym (same-v a (w''.child_live n a h)) ∙ i));
         }
 
         pub replaced-one : IsReplaced s v b op
@@ -181,7 +222,8 @@ module _ {K A T : Type 0} (illegal : OpKind K → Bool) where
           gone = erased.gone (Operation op) (zero, refl);
           place = λ xs ys e. (
             Operation x ∷ [],
-            erased.children_over (BasicBlock b) (xs ++ Operation x ∷ []) ys ((now xs ys e).children_over ∙ sym (append_assoc xs (Operation x ∷ []) (Operation op ∷ ys)))
+            erased.children_over (BasicBlock b) (xs ++ Operation x ∷ []) ys
+                ((now xs ys e).children_over ∙ sym (append_assoc xs (Operation x ∷ []) (Operation op ∷ ys)))
                 ∙ append_assoc xs (Operation x ∷ []) ys,
           );
         }

@@ -1,30 +1,29 @@
 -- The loop over the operations of a block, the last one first.
-use Rattle.std.proofs.Common.{◌≡◌, ◌<◌, ◌+◌, ℕ, zero, suc, arith, Bool, false, List, [], ◌∷◌, ◌++◌, length, reverse, Option, Some, None, option_map, inl, inr, refl, sym, ap, subst, ◌∙◌}
-use Rattle.std.specs.List.{flat_map}
-use Rattle.std.proofs.lemmas.List.{reverse-reverse, reverse-append, length-append, append_assoc}
+use Rattle.std.proofs.Common.{◌≡◌, ◌<◌, ◌+◌, ℕ, zero, suc, arith, Bool, false, List, [], ◌∷◌, ◌++◌, length, reverse}
+use Rattle.std.proofs.Common.{Option, Some, None, option_map, inl, inr, refl, sym, ap, subst, ◌∙◌}
+use Rattle.std.proofs.lemmas.List.{reverse-reverse, reverse-append, length-append, append_assoc, append-nil}
 use Rattle.std.proofs.lemmas.Option.{none-some, same_Some}
 use Rattle.plir_store.specs.Members.{Has, Distinct, head}
 use Rattle.plir_store.specs.MemberLaws.{Has-mid, Distinct-cross}
+use Rattle.plir_store.specs.FilterLaws.{not-both}
 use Rattle.plir_core.specs.declared.ptr.Ptr.{Ptr}
 use Rattle.plir_core.specs.declared.ptr.Operation.{Operation as OperationKind}
 use Rattle.plir_core.specs.declared.ptr.BasicBlock.{BasicBlock as BasicBlockKind}
 use Rattle.plir_core.specs.declared.ptr.IRNode.{IRNode}
 use Rattle.plir_core.specs.declared.ptr.IRNode.TheVariants.{Operation, BasicBlock}
-use Rattle.plir_core.specs.Erase.{IsErased, post_order, tree_of}
-use Rattle.plir_core.specs.Measures.{most_steps}
-use Rattle.plir_core.specs.Nodes.{Nodes, node_children}
 use Rattle.plir_core.specs.Forest.{look, IsForest}
-use Rattle.plir_core.specs.ContextView.{ContextView, IsLive, num_live, children, parent_of}
+use Rattle.plir_core.specs.ContextView.{ContextView, IsLive, children, parent_of}
 use Rattle.plir_walk.specs.Lawful.{Lawful}
 use Rattle.plir_walk.specs.LawfulChanges.{LawfulChanges}
+use Rattle.plir_walk.specs.NodeLaws.{op-tells, same-op, fewer-erased}
 use Rattle.plir_passes.specs.Passing.{left_upto}
 use Rattle.plir_passes.specs.Dead.{IsUsedBy, HasNoDeadChild}
 use Rattle.plir_passes.specs.Swept.{IsSwept, IsSweptAt, IsFlagged}
-use Rattle.plir_passes.proofs.Nodes.{op-tells, not-both}
 use Rattle.plir_passes.proofs.Sweeps.{swept-none, swept-then, swept-erased}
 
 -- an operation that does not stand in front is the one after those in front
-upto-cut : (xs ys : List IRNode) (p : Ptr OperationKind) → (Has xs (Operation p) → ⊥) → left_upto (xs ++ Operation p ∷ ys) (Some p) ≡ suc (length xs)
+upto-cut : (xs ys : List IRNode) (p : Ptr OperationKind) → (Has xs (Operation p) → ⊥)
+    → left_upto (xs ++ Operation p ∷ ys) (Some p) ≡ suc (length xs)
 upto-cut [] ys p away = elim (op-tells (Operation p) p) [ inl e ↦ rw e.0 refl | inr e ↦ absurd (e.1 refl) ]
 upto-cut (x ∷ xs) ys p away = elim (op-tells x p) [
   | inl e ↦ absurd (away (inl e.1))
@@ -32,14 +31,17 @@ upto-cut (x ∷ xs) ys p away = elim (op-tells x p) [
 ]
 
 -- what is first in reverse is last
-last-of : (xs : List IRNode) (p : Ptr OperationKind) → Some (Operation p) ≡ head (reverse xs) → (front : List IRNode) × (xs ≡ front ++ Operation p ∷ [])
+last-of : (xs : List IRNode) (p : Ptr OperationKind) → Some (Operation p) ≡ head (reverse xs)
+    → (front : List IRNode) × (xs ≡ front ++ Operation p ∷ [])
 last-of xs p e = go (reverse xs) refl e
   where
-    go : (ys : List IRNode) → reverse xs ≡ ys → Some (Operation p) ≡ head ys → (front : List IRNode) × (xs ≡ front ++ Operation p ∷ [])
+    go : (ys : List IRNode) → reverse xs ≡ ys → Some (Operation p) ≡ head ys
+        → (front : List IRNode) × (xs ≡ front ++ Operation p ∷ [])
     go [] q e = absurd (none-some (Operation p) (sym e))
     go (y ∷ ys) q e = (
       reverse ys,
-      sym (reverse-reverse xs) ∙ ap reverse q ∙ ap (λ z. reverse (z ∷ ys)) (sym (same_Some (Operation p) y e)) ∙ reverse-append (Operation p ∷ []) ys,
+      sym (reverse-reverse xs) ∙ ap reverse q ∙ ap (λ z. reverse (z ∷ ys)) (sym (same_Some (Operation p) y e))
+          ∙ reverse-append (Operation p ∷ []) ys,
     )
 
 none-of : (xs : List IRNode) → None ≡ head (reverse xs) → xs ≡ []
@@ -49,25 +51,11 @@ none-of xs e = go (reverse xs) refl e
     go [] q e = sym (reverse-reverse xs) ∙ ap reverse q
     go (y ∷ ys) q e = absurd (none-some y e)
 
--- an erased tree has a node at least
-tree-some : {O B : Type 0} (s : Nodes O B) (n : IRNode) → 0 < length (tree_of s n)
-tree-some s n = go (most_steps s) (omega arith)
-  where
-    go : (k : ℕ) → 0 < k → 0 < length (post_order (node_children s) k n)
-    go zero h = absurd (omega (arith, h))
-    go (suc k) h = (let e = length-append (flat_map (post_order (node_children s) k) (node_children s n)) (n ∷ []) in omega (arith, e))
-
-append-none : (xs : List IRNode) → xs ++ [] ≡ xs
-append-none [] = refl
-append-none (x ∷ xs) = ap (λ z. x ∷ z) (append-none xs)
-
 module _ {K A T : Type 0} (effect ends : K → Bool) where
-  fewer-erased : (s t : ContextView K A T) (n : IRNode) → IsErased s.nodes t.nodes n → num_live t < num_live s
-  fewer-erased s t n e = omega (arith, e.count, tree-some s.nodes n)
-
   -- From the start of the loop in s to s', the operations of the block b behind `at` are not dead, if nothing was
   -- erased.
-  pub record IsSweeping (s s' : ContextView K A T) (b : Ptr BasicBlockKind) (before erased : Bool) (at : Option (Ptr OperationKind)) : Type 0 where
+  pub record IsSweeping (s s' : ContextView K A T) (b : Ptr BasicBlockKind) (before erased : Bool)
+      (at : Option (Ptr OperationKind)) : Type 0 where
     pub swept : IsSwept effect ends s s'
     pub lawful : Lawful (look s) (BasicBlock b) (look s')
     pub forest : IsForest (look s')
@@ -78,21 +66,25 @@ module _ {K A T : Type 0} (effect ends : K → Bool) where
     pub here : option_map Operation at ≡ head (reverse front)
     pub clean : erased ≡ false → (p : Ptr OperationKind) → Has back (Operation p) → IsUsedBy effect ends s' [] p → ⊥
 
-  pub sweeping-start : (s : ContextView K A T) (b : Ptr BasicBlockKind) (before : Bool) (at : Option (Ptr OperationKind)) → Lawful (look s) (BasicBlock b) (look s) → IsForest (look s)
-      → option_map Operation at ≡ head (reverse (children s (BasicBlock b))) → IsSweeping s s b before before at
-  sweeping-start s b before at l w e = record {
+module _ {K A T : Type 0} {effect ends : K → Bool} where
+  pub sweeping-start : {s : ContextView K A T} {b : Ptr BasicBlockKind} {before : Bool}
+      {at : Option (Ptr OperationKind)} → Lawful (look s) (BasicBlock b) (look s) → IsForest (look s)
+      → option_map Operation at ≡ head (reverse (children s (BasicBlock b)))
+      → IsSweeping effect ends s s b before before at
+  sweeping-start {s} {b} {before} {at} l w e = record {
     swept = swept-none effect ends s w;
     lawful = l;
     forest = w;
     tells = record { clear = λ f. (f, refl); fewer = omega arith; set = λ f. inl f };
     front = children s (BasicBlock b);
     back = [];
-    split = sym (append-none (children s (BasicBlock b)));
+    split = sym (append-nil (children s (BasicBlock b)));
     here = e;
     clean = λ f p h d. h;
   }
 
-  module _ (s s' : ContextView K A T) (b : Ptr BasicBlockKind) (before erased : Bool) (at : Option (Ptr OperationKind)) (r : IsSweeping s s' b before erased at) where
+  module _ {s s' : ContextView K A T} {b : Ptr BasicBlockKind} {before erased : Bool} {at : Option (Ptr OperationKind)}
+      (r : IsSweeping effect ends s s' b before erased at) where
     pub sweeping-end : at ≡ None → erased ≡ false → HasNoDeadChild effect ends s' (BasicBlock b)
     sweeping-end e f p h =
         let all = r.split ∙ ap (λ z. z ++ r.back) (none-of r.front (ap (option_map Operation) (sym e) ∙ r.here)) in
@@ -114,15 +106,21 @@ module _ {K A T : Type 0} (effect ends : K → Bool) where
       parent : parent_of s' (Operation op) ≡ Some (BasicBlock b)
       parent = r.forest.child_parent (BasicBlock b) (Operation op) has
 
-      module _ (own : A → List ℕ) (laws : LawfulChanges K A T own) (t : ContextView K A T) (erased' : Bool) (next : Option (Ptr OperationKind)) (w : IsForest (look s)) (w' : IsForest (look t))
-          (e : option_map Operation next ≡ head (reverse last.0)) (f : IsSweptAt effect ends s' erased op erased' t) where
-        pub sweeping-more : IsSweeping s t b before erased' next
-        sweeping-more = elim f as (λ z. IsSweeping s t b before erased' next) [
+      module _ {own : A → List ℕ} (laws : LawfulChanges K A T own) (t : ContextView K A T) (erased' : Bool)
+          (next : Option (Ptr OperationKind)) (w : IsForest (look s)) (w' : IsForest (look t))
+          (e : option_map Operation next ≡ head (reverse last.0))
+          (f : IsSweptAt effect ends s' erased op erased' t) where
+        pub sweeping-more : IsSweeping effect ends s t b before erased' next
+        sweeping-more = elim f as (λ z. IsSweeping effect ends s t b before erased' next) [
           | inl g ↦
               let less = fewer-erased s' t (Operation op) g.2 in
               record {
-                swept = swept-then effect ends s s' r.swept t (swept-erased effect ends s' t b op r.forest g.0 parent g.2 g.3);
-                lawful = laws.both s s' t (BasicBlock b) w r.lawful (laws.erased s' t (BasicBlock b) (Operation op) (zero, parent) g.2);
+                swept =
+                    swept-then effect ends s s' r.swept t
+                    (swept-erased effect ends s' t b op r.forest g.0 parent g.2 g.3);
+                lawful =
+                    laws.both s s' t (BasicBlock b) w r.lawful
+                    (laws.erased s' t (BasicBlock b) (Operation op) (zero, parent) g.2);
                 forest = w';
                 tells = record {
                   clear = λ clear. absurd (not-both erased' g.1 clear);
@@ -135,24 +133,22 @@ module _ {K A T : Type 0} (effect ends : K → Bool) where
                 here = e;
                 clean = λ clear. absurd (not-both erased' g.1 clear);
               }
-          | inr g ↦ subst (λ z. IsSweeping s z b before erased' next) (sym g.2) (subst (λ z. IsSweeping s s' b before z next) (sym g.1) (record {
-            swept = r.swept;
-            lawful = r.lawful;
-            forest = r.forest;
-            tells = r.tells;
-            front = last.0;
-            back = Operation op ∷ r.back;
-            split = sweeping-cut;
-            here = e;
-            clean = λ clear p h d. elim h [
-              | inl is ↦ g.0 (subst (IsUsedBy effect ends s' []) (sym (same-op op p is)) d)
-              | inr k ↦ r.clean clear p k d
-            ];
-          }))
+          | inr g ↦ subst (λ z. IsSweeping effect ends s z b before erased' next) (sym g.2)
+              (subst (λ z. IsSweeping effect ends s s' b before z next) (sym g.1) (record {
+                swept = r.swept;
+                lawful = r.lawful;
+                forest = r.forest;
+                tells = r.tells;
+                front = last.0;
+                back = Operation op ∷ r.back;
+                split = sweeping-cut;
+                here = e;
+                clean = λ clear p h d. elim h [
+                  | inl is ↦ g.0 (subst (IsUsedBy effect ends s' []) (sym (same-op op p is)) d)
+                  | inr k ↦ r.clean clear p k d
+                ];
+              }))
         ]
-          where
-            same-op : (p q : Ptr OperationKind) → Operation p ≡ Operation q → p ≡ q
-            same-op p q e = cc e
 
         children-then : (back : List IRNode) × (children t (BasicBlock b) ≡ last.0 ++ back)
         children-then = elim f as (λ z. (back : List IRNode) × (children t (BasicBlock b) ≡ last.0 ++ back)) [
@@ -166,13 +162,18 @@ module _ {K A T : Type 0} (effect ends : K → Bool) where
             now : left_upto (children s' (BasicBlock b)) at ≡ suc (length last.0)
             now =
                 ap (left_upto (children s' (BasicBlock b))) is ∙ ap (λ z. left_upto z (Some op)) sweeping-cut
-                ∙ upto-cut last.0 r.back op (λ h. Distinct-cross last.0 (Operation op ∷ r.back) (subst Distinct sweeping-cut (r.forest.once (BasicBlock b))) (Operation op) h (inl refl))
+                ∙ upto-cut last.0 r.back op (λ h. Distinct-cross last.0 (Operation op ∷ r.back)
+                (subst Distinct sweeping-cut (r.forest.once (BasicBlock b))) (Operation op) h (inl refl))
 
-            go : (o : Option (Ptr OperationKind)) → option_map Operation o ≡ head (reverse last.0) → left_upto (children t (BasicBlock b)) o < left_upto (children s' (BasicBlock b)) at
+            go : (o : Option (Ptr OperationKind)) → option_map Operation o ≡ head (reverse last.0)
+                → left_upto (children t (BasicBlock b)) o < left_upto (children s' (BasicBlock b)) at
             go None e = omega (arith, now)
             go (Some q) e =
                 let y = last-of last.0 q e in
-                let c = children-then.1 ∙ ap (λ z. z ++ children-then.0) y.1 ∙ append_assoc y.0 (Operation q ∷ []) children-then.0 in
+                let c =
+                children-then.1 ∙ ap (λ z. z ++ children-then.0) y.1
+                ∙ append_assoc y.0 (Operation q ∷ []) children-then.0 in
                 let after = ap (λ z. left_upto z (Some q)) c
-                ∙ upto-cut y.0 children-then.0 q (λ h. Distinct-cross y.0 (Operation q ∷ children-then.0) (subst Distinct c (w'.once (BasicBlock b))) (Operation q) h (inl refl)) in
+                ∙ upto-cut y.0 children-then.0 q (λ h. Distinct-cross y.0 (Operation q ∷ children-then.0)
+                (subst Distinct c (w'.once (BasicBlock b))) (Operation q) h (inl refl)) in
                 omega (arith, now, after, ap length y.1, length-append y.0 (Operation q ∷ []))

@@ -1,23 +1,26 @@
 -- Dead operations are erased one after another.
-use Rattle.std.proofs.Common.{◌≡◌, ℕ, zero, suc, Bool, false, List, [], ◌∷◌, ◌++◌, Option, Some, None, ◌⊎◌, inl, inr, refl, sym, ap, subst, ◌∙◌, slice_get}
+use Rattle.std.proofs.Common.{◌≡◌, zero, Bool, false, List, [], ◌∷◌, ◌++◌, Some, ◌⊎◌, inl, inr}
+use Rattle.std.proofs.Common.{refl, sym, ap, subst, ◌∙◌, slice_get}
 use Rattle.std.specs.List.{filter}
 use Rattle.std.proofs.lemmas.Option.{same_Some}
+use Rattle.std.proofs.lemmas.Bool.{false_from_ne_true}
 use Rattle.plir_store.specs.Members.{Has, Distinct}
-use Rattle.plir_store.specs.MemberLaws.{Has-split, Has-append_left, Has-append_right, Has-append_cases, Distinct-cross, Distinct-right}
+use Rattle.plir_store.specs.MemberLaws.{Has-split, Has-append_left, Has-append_right, Has-append_cases, Distinct-cross}
+use Rattle.plir_store.specs.MemberLaws.{Distinct-right}
+use Rattle.plir_store.specs.FilterLaws.{not-both, filter-all, filter-twice, filter-without}
 use Rattle.plir_core.specs.declared.ptr.Ptr.{Ptr}
 use Rattle.plir_core.specs.declared.ptr.Operation.{Operation as OperationKind}
 use Rattle.plir_core.specs.declared.ptr.BasicBlock.{BasicBlock as BasicBlockKind}
 use Rattle.plir_core.specs.declared.ptr.IRNode.{IRNode}
 use Rattle.plir_core.specs.declared.ptr.IRNode.TheVariants.{Operation, BasicBlock}
-use Rattle.plir_core.specs.Above.{climb, Reaches}
+use Rattle.plir_core.specs.Above.{Reaches}
 use Rattle.plir_core.specs.Erase.{IsErased}
 use Rattle.plir_core.specs.Forest.{look, IsForest}
 use Rattle.plir_core.specs.ContextView.{ContextView, IsLive, is_live, children, parent_of, kind_in, operands_in}
+use Rattle.plir_walk.specs.NodeLaws.{op-tells, reach-leaf}
 use Rattle.plir_passes.specs.Legal.{is_kind}
 use Rattle.plir_passes.specs.Dead.{is_removable, IsUsedBy, AreDead}
 use Rattle.plir_passes.specs.Swept.{IsSwept}
-use Rattle.plir_passes.proofs.Filters.{filter-all, filter-twice, filter-without}
-use Rattle.plir_passes.proofs.Nodes.{op-tells, not-both, never-true, climb-nothing}
 
 -- a list has an operation, or it has not
 has-or-not : (xs : List IRNode) (p : Ptr OperationKind) → Has xs (Operation p) ⊎ (Has xs (Operation p) → ⊥)
@@ -45,13 +48,18 @@ module _ {K A T : Type 0} (effect ends : K → Bool) where
 
   module _ (s t : ContextView K A T) (f : IsSwept effect ends s t) where
     -- an operation of t that is used by some alone was used by them and those that are gone
-    used-before : (ps : List (Ptr OperationKind)) (p : Ptr OperationKind) → IsUsedBy effect ends t ps p → IsUsedBy effect ends s (ps ++ f.gone) p
+    used-before : (ps : List (Ptr OperationKind)) (p : Ptr OperationKind) → IsUsedBy effect ends t ps p
+        → IsUsedBy effect ends s (ps ++ f.gone) p
     used-before ps p d = record {
       live = f.old (Operation p) d.live;
       removable = ap (λ z. is_kind (is_removable effect ends) (kind_in z)) (sym (f.ops p d.live)) ∙ d.removable;
       no_region = sym (f.regions p d.live) ∙ d.no_region;
       users = λ q l ne u. elim (f.left (Operation q) l) [
-        | inl k ↦ Has-append_left ps f.gone q (d.users q k ne (record { place = u.place; index = u.index; here = ap (λ z. slice_get (operands_in z) u.place) (f.ops q k) ∙ u.here }))
+        | inl k ↦ Has-append_left ps f.gone q (d.users q k ne (record {
+          place = u.place;
+          index = u.index;
+          here = ap (λ z. slice_get (operands_in z) u.place) (f.ops q k) ∙ u.here;
+        }))
         | inr g ↦ Has-append_right ps f.gone q (subst (Has f.gone) (same-op g.0 q g.1) g.2)
       ];
     }
@@ -69,14 +77,17 @@ module _ {K A T : Type 0} (effect ends : K → Bool) where
       dead = dead-before g.gone g.dead;
       away = λ p h. elim (Has-append_cases g.gone f.gone p h) [
         | inl k ↦ g.away p k
-        | inr k ↦ never-true (is_live u (Operation p)) (λ l. not-both (is_live t (Operation p)) (g.old (Operation p) l) (f.away p k))
+        | inr k ↦ false_from_ne_true (is_live u (Operation p))
+            (λ l. not-both (is_live t (Operation p)) (g.old (Operation p) l) (f.away p k))
       ];
       left = λ n l. elim (f.left n l) [
         | inl k ↦ elim (g.left n k) [ inl j ↦ inl j | inr j ↦ inr (j.0, j.1, Has-append_left g.gone f.gone j.0 j.2) ]
         | inr j ↦ inr (j.0, j.1, Has-append_right g.gone f.gone j.0 j.2)
       ];
       old = λ n l. f.old n (g.old n l);
-      children = λ n l. g.children n l ∙ ap (filter (is_live u)) (f.children n (g.old n l)) ∙ filter-twice (is_live t) (is_live u) (λ x k. g.old x k) (children s n);
+      children =
+          λ n l. g.children n l ∙ ap (filter (is_live u)) (f.children n (g.old n l))
+          ∙ filter-twice (is_live t) (is_live u) (λ x k. g.old x k) (children s n);
       regions = λ p l. g.regions p l ∙ f.regions p (g.old (Operation p) l);
       parents = λ n l. g.parents n l ∙ f.parents n (g.old n l);
       ops = λ p l. g.ops p l ∙ f.ops p (g.old (Operation p) l);
@@ -84,18 +95,11 @@ module _ {K A T : Type 0} (effect ends : K → Bool) where
       types = g.types ∙ f.types;
     }
 
-  -- nothing climbs to what has no children, but itself
-  reach-leaf : (s : ContextView K A T) (x : IRNode) → IsForest (look s) → children s x ≡ [] → (k : ℕ) (m : IRNode) → climb (parent_of s) k (Some m) ≡ Some x → m ≡ x
-  reach-leaf s x w none zero m e = same_Some m x e
-  reach-leaf s x w none (suc k) m e = up (λ a f. reach-leaf s x w none k a f) (parent_of s m) refl
-    where
-      up : ((a : IRNode) → climb (parent_of s) k (Some a) ≡ Some x → a ≡ x) → (o : Option IRNode) → parent_of s m ≡ o → m ≡ x
-      up rest None q = absurd (climb-nothing (parent_of s) k x (ap (climb (parent_of s) k) (sym q) ∙ e))
-      up rest (Some a) q = absurd (subst (λ z. Has z m) none (w.parent_child x m (q ∙ ap Some (rest a (ap (climb (parent_of s) k) (sym q) ∙ e)))))
-
   -- one that is dead is erased
-  module _ (s t : ContextView K A T) (b : Ptr BasicBlockKind) (p : Ptr OperationKind) (w : IsForest (look s)) (d : IsUsedBy effect ends s [] p)
-      (over : parent_of s (Operation p) ≡ Some (BasicBlock b)) (e : IsErased s.nodes t.nodes (Operation p)) (same : t.types ≡ s.types) where
+  module _ (s t : ContextView K A T) (b : Ptr BasicBlockKind) (p : Ptr OperationKind) (w : IsForest (look s))
+      (d : IsUsedBy effect ends s [] p)
+      (over : parent_of s (Operation p) ≡ Some (BasicBlock b)) (e : IsErased s.nodes t.nodes (Operation p))
+      (same : t.types ≡ s.types) where
     abbrev x : IRNode
     x = Operation p
 
@@ -117,12 +121,19 @@ module _ {K A T : Type 0} (effect ends : K → Bool) where
           let r = Has-split (children s n) x h in
           let once = subst Distinct r.2 (w.once n) in
           let live = λ (y : IRNode) (h : Has (children s n) y). w.child_live n y h in
-          let left = λ (y : IRNode) (h : Has r.0 y). live-of y (λ is. Distinct-cross r.0 (x ∷ r.1) once y h (inl (sym is))) (live y (subst (λ z. Has z y) (sym r.2) (Has-append_left r.0 (x ∷ r.1) y h))) in
-          let right = λ (y : IRNode) (h : Has r.1 y). live-of y (λ is. (Distinct-right r.0 (x ∷ r.1) once).0 (subst (Has r.1) is h)) (live y (subst (λ z. Has z y) (sym r.2) (Has-append_right r.0 (x ∷ r.1) y (inr h)))) in
-          e.children_over n r.0 r.1 r.2 ∙ sym (ap (filter (is_live t)) r.2 ∙ filter-without (is_live t) r.0 r.1 x gone-now left right)
+          let left =
+          λ (y : IRNode) (h : Has r.0 y). live-of y (λ is. Distinct-cross r.0 (x ∷ r.1) once y h (inl (sym is)))
+          (live y (subst (λ z. Has z y) (sym r.2) (Has-append_left r.0 (x ∷ r.1) y h))) in
+          let right =
+          λ (y : IRNode) (h : Has r.1 y). live-of y
+          (λ is. (Distinct-right r.0 (x ∷ r.1) once).0 (subst (Has r.1) is h))
+          (live y (subst (λ z. Has z y) (sym r.2) (Has-append_right r.0 (x ∷ r.1) y (inr h)))) in
+          e.children_over n r.0 r.1 r.2
+          ∙ sym (ap (filter (is_live t)) r.2 ∙ filter-without (is_live t) r.0 r.1 x gone-now left right)
       | inr f ↦
           e.children n (apart n (live-apart n k)) (λ q. f (w.parent_child n x q))
-          ∙ sym (filter-all (is_live t) (children s n) (λ y h. live-of y (λ is. f (subst (Has (children s n)) is h)) (w.child_live n y h)))
+          ∙ sym (filter-all (is_live t) (children s n)
+          (λ y h. live-of y (λ is. f (subst (Has (children s n)) is h)) (w.child_live n y h)))
     ]
 
     in-block : (q : Ptr OperationKind) → parent_of s x ≡ Some (Operation q) → ⊥

@@ -11,22 +11,22 @@ use Rattle.plir_core.specs.declared.value.DefiningEntity.TheVariants.{Op, Block}
 use Rattle.plir_core.specs.Above.{Reaches}
 use Rattle.plir_core.specs.ContextView.{ContextView, parent_of, operands_of, entity_node}
 use Rattle.plir_core.specs.Unused.{IsUnusedOutside}
+use Rattle.plir_walk.specs.NodeLaws.{same-op}
 use Rattle.plir_passes.specs.Dead.{IsUsedByNone}
 
 at_place : {A : Type 0} (P : A → Type 0) (xs : List A) (i : ℕ) (x : A) → slice_get xs i ≡ Some x → All P xs → P x
 at_place P xs i x e a = subst P (get_or_from_slice_get xs i x x e) (a i x (slice_get_within xs i x e))
 
-same-op : (p q : Ptr OperationKind) → Operation p ≡ Operation q → p ≡ q
-same-op p q e = cc e
-
 same-entity : (e : DefiningEntity) (p : Ptr OperationKind) → entity_node e ≡ Operation p → e ≡ Op p
 same-entity (Op q) p h = ap Op (same-op q p h)
 same-entity (Block b) p h = (let z : ⊥ = cc h in absurd z)
 
-module _ {K A T : Type 0} (s : ContextView K A T) (p : Ptr OperationKind) (leaf : (n : IRNode) → Reaches (parent_of s) n (Operation p) → n ≡ Operation p) where
+module _ {K A T : Type 0} (s : ContextView K A T) (p : Ptr OperationKind)
+    (leaf : (n : IRNode) → Reaches (parent_of s) n (Operation p) → n ≡ Operation p) where
   pub unused-by-none : IsUnusedOutside s (Operation p) → IsUsedByNone s p
   unused-by-none u q l ne uses =
-      at_place (λ v. Reaches (parent_of s) (entity_node v.entity) (Operation p) → ⊥) (operands_of s q) uses.place _ uses.here
+      at_place (λ v. Reaches (parent_of s) (entity_node v.entity) (Operation p) → ⊥) (operands_of s q) uses.place _
+      uses.here
       (u q l (λ r. ne (same-op q p (leaf (Operation q) r)))).operands (zero, refl)
 
   pub by-none-unused : IsUsedByNone s p → IsUnusedOutside s (Operation p)

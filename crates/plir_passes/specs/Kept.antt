@@ -1,18 +1,13 @@
 -- What a change leaves of the nodes that stand apart from it.
-use Rattle.std.specs.Prelude.{◌≡◌, ℕ, [], Option, Some, None, slice_get}
+use Rattle.std.specs.Prelude.{◌≡◌, ℕ, Some, slice_get}
 use Rattle.plir_core.specs.declared.ptr.Ptr.{Ptr}
 use Rattle.plir_core.specs.declared.ptr.Operation.{Operation as OperationKind}
 use Rattle.plir_core.specs.declared.ptr.BasicBlock.{BasicBlock as BasicBlockKind}
 use Rattle.plir_core.specs.declared.ptr.IRNode.{IRNode}
 use Rattle.plir_core.specs.declared.ptr.IRNode.TheVariants.{Operation, BasicBlock}
 use Rattle.plir_core.specs.declared.value.Value.{Value}
-use Rattle.plir_core.specs.Contents.{OpView}
 use Rattle.plir_core.specs.ContextView.{ContextView, IsLive, parent_of, op_at, block_at, operands_of, entity_node}
-
--- what an operation holds but for its operands
-abbrev pub but_operands : {K A : Type 0} → Option (OpView K A) → Option (OpView K A)
-but_operands None = None
-but_operands (Some v) = Some (record v { operands = [] })
+use Rattle.plir_core.specs.ButOperands.{but_operands}
 
 -- From s to t each node that stood apart is there, where it stood, and holds what it held; but an operand that is a
 -- value of a node that did not stand apart may be another one.

@@ -1,5 +1,5 @@
 -- The loop over the operations of a block, as they are replaced.
-use Rattle.std.specs.Prelude.{◌≡◌, ℕ, suc, Bool, false, cond, List, [], ◌∷◌, ◌++◌, length, Option, Some, None}
+use Rattle.std.specs.Prelude.{◌≡◌, ℕ, suc, Bool, false, cond, List, [], ◌∷◌, ◌++◌, Option, Some, None}
 use Rattle.std.specs.Prelude.{option_map}
 use Rattle.plir_data.specs.declared.op_set.OpKind.{OpKind}
 use Rattle.plir_store.specs.Members.{Has, head}
@@ -11,12 +11,6 @@ use Rattle.plir_core.specs.declared.ptr.IRNode.TheVariants.{Operation, BasicBloc
 use Rattle.plir_core.specs.ContextView.{ContextView, children}
 use Rattle.plir_walk.specs.Tree.{same}
 use Rattle.plir_passes.specs.Legal.{is_illegal}
-
--- how many of a list of nodes there are from an operation on
-abbrev pub left_from : List IRNode → Option (Ptr OperationKind) → ℕ
-left_from ns None = 0
-left_from [] (Some p) = 0
-left_from (n ∷ ns) (Some p) = cond (same n (Operation p)) (suc (length ns)) (left_from ns (Some p))
 
 -- From s to t, where the operation op of the block b stood there are legal operations, and what stood behind it begins
 -- with `next`.

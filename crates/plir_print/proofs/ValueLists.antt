@@ -14,8 +14,10 @@ module _ {K A T : Type 0} (s : ContextView K A T) (e : DefiningEntity) where
   length-values = length-map-range_with_len (λ i. record { entity = e; index = i }) 0 (length (types_from s e))
 
   -- the value at a place
-  pub value-there : (i : ℕ) → i < length (types_from s e) → slice_get (values_from s e) i ≡ Some (record { entity = e; index = i })
+  pub value-there : (i : ℕ) → i < length (types_from s e)
+      → slice_get (values_from s e) i ≡ Some (record { entity = e; index = i })
   value-there i below =
       let f : ℕ → Value = λ k. record { entity = e; index = k } in
       let within : i < length (values_from s e) = subst (λ n. i < n) (sym length-values) below in
-      slice_get-get_or (values_from s e) i (f i) within ∙ ap Some (get_or-map-range_with_len f 0 (length (types_from s e)) i i (f i) below (omega arith))
+      slice_get-get_or (values_from s e) i (f i) within
+      ∙ ap Some (get_or-map-range_with_len f 0 (length (types_from s e)) i i (f i) below (omega arith))

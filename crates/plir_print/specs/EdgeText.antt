@@ -20,7 +20,7 @@ use Rattle.plir_print.specs.ValueNames.{value_name}
 use Rattle.plir_print.specs.HeaderAttrs.{HasHeader}
 use Rattle.plir_print.specs.Headers.{header}
 
--- the place of a node, from 0, among nodes
+-- the index of a node among nodes
 abbrev pub place_among : IRNode → List IRNode → ℕ
 place_among n [] = 0
 place_among n (x ∷ xs) = cond (same x n) 0 (suc (place_among n xs))
@@ -30,11 +30,11 @@ module _ {K A T : Type 0} (s : ContextView K A T) where
   place_under n None = 0
   place_under n (Some over) = place_among n (children s over)
 
-  -- the place of a region among those of its operation
+  -- the index of a region among those of its operation
   abbrev pub region_place : Ptr RegionKind → ℕ
   region_place r = place_under (Region r) (parent_of s (Region r))
 
-  -- where an edge leads: `region` with the region's place, or `after`
+  -- where an edge leads: `region` with the region's index, or `after`
   abbrev pub successor_text : RegionSuccessor → List ℕ
   successor_text (ToRegion r) = codes "region " ++ decimal (region_place r)
   successor_text After = codes "after"

@@ -18,12 +18,12 @@ module _ {K A T : Type 0} (s : ContextView K A T) where
   abbrev pub block_name : Ptr BasicBlockKind → List ℕ
   block_name b = given_first (label_of s b) ++ pointer_text (codes "block") b
 
-  -- the given name, the pointer of the block, `_arg`, and the place, as in `x_block2v1_arg0`
+  -- the given name, the pointer of the block, `_arg`, and the index, as in `x_block2v1_arg0`
   abbrev pub argument_name : Ptr BasicBlockKind → ℕ → List ℕ
   argument_name b i = given_first (name_at (names_at s (Block b)) i) ++ pointer_text (codes "block") b ++ codes "_arg"
       ++ decimal i
 
-  -- the name of the value at a place among those that come from an operation or a block
+  -- the name of the value at an index among those that come from an operation or a block
   abbrev pub name_from : DefiningEntity → ℕ → List ℕ
   name_from (Op p) i = result_name s p i
   name_from (Block b) i = argument_name b i

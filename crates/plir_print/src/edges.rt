@@ -36,7 +36,7 @@ fn put_point<D: OpSet>(
     }
 }
 
-// The place of a region among those of its operation, which each region has.
+// The index of a region among those of its operation, which each region has.
 fn place_of<D: OpSet>(ctx: &Context<D>, region: Ptr<Region>) -> usize
     requires { IsLive ctx.now (AnyNode.Region region) }
     ensures { result ≡ region_place ctx.now region }
@@ -144,7 +144,7 @@ fn put_passing<D: OpSet>(
 }
 
 /// The text of an edge, as `parent -> region 0: [op1v1_res0 -> block1v1_arg0], reads: [op1v1_res0]`: where it starts,
-/// `parent` or the header of the terminator; where it leads, `after` or `region` with its place, from 0, in its
+/// `parent` or the header of the terminator; where it leads, `after` or `region` with its index in its
 /// operation; the operands that flow, each with the value that receives it; and the operands that may be read. What it
 /// takes is linear in the text and in the regions of that operation.
 pub fn print_edge<D: OpSet>(

@@ -23,7 +23,7 @@ fn put_given(out: &mut String, name: Option<&Identifier>) -> Result<(), Memory>
     Ok(())
 }
 
-// Puts the name of a result: the given name, the pointer, `_res` and the place.
+// Puts the name of a result: the given name, the pointer, `_res` and the index.
 fn put_result<D: OpSet>(
     out: &mut String,
     ctx: &Context<D>,
@@ -38,7 +38,7 @@ fn put_result<D: OpSet>(
     Ok(())
 }
 
-// Puts the name of an argument: the given name, the pointer of the block, `_arg` and the place.
+// Puts the name of an argument: the given name, the pointer of the block, `_arg` and the index.
 fn put_argument<D: OpSet>(
     out: &mut String,
     ctx: &Context<D>,

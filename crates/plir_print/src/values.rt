@@ -29,7 +29,7 @@ pub(crate) fn num_values<D: OpSet>(ctx: &Context<D>, list: ValueList) -> usize
     }
 }
 
-/// The value at a place, from 0.
+/// The value at an index.
 pub(crate) fn value_at<D: OpSet>(ctx: &Context<D>, list: ValueList, place: usize) -> Value
     requires live { IsLive ctx.now (holder list) }
     requires below { place < length (values_in ctx.now list) }

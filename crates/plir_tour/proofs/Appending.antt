@@ -1,5 +1,6 @@
 -- A function is appended to a module that was made before it: what the call asks, and what it leaves of the module.
-use Rattle.std.proofs.Common.{◌≡◌, ◌<◌, arith, true, [], ◌∷◌, length, option_and_then, slice_get, Some, inl, refl, sym, ap, subst, ◌∙◌}
+use Rattle.std.proofs.Common.{◌≡◌, ◌<◌, arith, true, [], ◌∷◌, length, option_and_then, slice_get, Some, inl, refl, sym}
+use Rattle.std.proofs.Common.{ap, subst, ◌∙◌}
 use Rattle.std.specs.Prelude.{All}
 use Rattle.std.proofs.lemmas.List.Elements.{All-cons, All-nil}
 use Rattle.std.proofs.lemmas.Option.{same_Some}
@@ -19,7 +20,8 @@ use Rattle.plir_iface.specs.Regions.{HasOneBlock, HasSingleBlocks, IsAppendedToB
 use Rattle.plir_builtin.specs.BuiltinOps.{HoldsOneBlock}
 
 -- The module m was made first, in s; then types were added, in t; then the function f was made, in u.
-module _ {K A T : Type 0} (s t u : ContextView K A T) (m f : Ptr OperationKind) {held : OpView K A} {block_held : BlockView A}
+module _ {K A T : Type 0} (s t u : ContextView K A T)
+    (m f : Ptr OperationKind) {held : OpView K A} {block_held : BlockView A}
     (tree : HoldsOneBlock s m held block_held) (stands : IsStanding s) (live : IsLive s (Operation m))
     (same : t.nodes ≡ s.nodes) (made : IsMade t.nodes u.nodes (Operation f)) where
   there : (n : IRNode) → IsLive s n → is_node_live t.nodes n ≡ true

@@ -8,4 +8,5 @@ returns-clause-swept g c =
     let s = c.args.ctx.now in
     let law = c.leaves_thin.ensures in
     holds_over_walk (IsSwept g.D.EffectSet.has_effect s) c.walk_op-end.ensures
-    (λ d d' t t' n m h. law.both _ s d.now d'.now h m.1.thinned) (law.none _ (Operation c.args.root) s c.stands.ensures.standing.forest).thinned
+    (λ d d' t t' n m h. law.both _ s d.now d'.now h m.1.thinned)
+    (law.none _ (Operation c.args.root) s c.stands.ensures.standing.forest).thinned

@@ -20,7 +20,8 @@ use Rattle.plir_builtin.proofs.op_making.new_with_block.Goals as goal
 pub erase-requires-clause-unused : goal.erase-requires-clause-unused
 erase-requires-clause-unused g c =
     let op = Operation c.in_ok-op.op in
-    subst (λ z. IsUnusedOutside z op) (sym c.in-Err.ensures.err) (c.what_was_made_is_unused.ensures c.with_attributes.new.ctx op c.in_ok-op.ensures.made)
+    subst (λ z. IsUnusedOutside z op) (sym c.in-Err.ensures.err)
+    (c.what_was_made_is_unused.ensures c.with_attributes.new.ctx op c.in_ok-op.ensures.made)
 
 pub returns-in-Ok-clause-made : goal.returns-in-Ok-clause-made
 returns-in-Ok-clause-made g c =
@@ -30,7 +31,8 @@ returns-in-Ok-clause-made g c =
     let region = Region added.region in
     let made = c.in_ok-op.ensures.made in
     let new = not_true (is_node_live s.nodes region) (λ old. made.apart region old (suc zero, added.over)) in
-    c.growth.ensures.made c.with_attributes.new.ctx.nodes c.add_block.new.ctx.nodes op region c.in_ok-op.ensures.whole.stored made added.region_live new added.grown
+    c.growth.ensures.made c.with_attributes.new.ctx.nodes c.add_block.new.ctx.nodes op region
+    c.in_ok-op.ensures.whole.stored made added.region_live new added.grown
 
 pub returns-in-Err-clause-err : goal.returns-in-Err-clause-err
 returns-in-Err-clause-err g c =
@@ -40,7 +42,8 @@ returns-in-Err-clause-err g c =
     let erased = subst (λ z. IsErased z.nodes v.nodes op) c.in-Err.ensures.err c.erase.ensures.tree in
     record {
       nodes = c.growth.ensures.unmade t.nodes v.nodes op c.in_ok-op.ensures.made erased;
-      types = ap (λ z. z.types) c.erase.ensures.after ∙ c.in-Err.ensures.types ∙ ap (λ z. z.types) c.in_ok-op.ensures.ok;
+      types =
+          ap (λ z. z.types) c.erase.ensures.after ∙ c.in-Err.ensures.types ∙ ap (λ z. z.types) c.in_ok-op.ensures.ok;
     }
 
 pub returns-in-Ok-clause-after : goal.returns-in-Ok-clause-after
@@ -54,8 +57,11 @@ returns-in-Ok-clause-after g c =
     subst (λ p. children v (Operation p) ≡ Region added.region ∷ []) c.in_ok-op.ensures.pointer added.only_region in
     record {
       region = added.region;
-      only_region = subst (λ u. children u (Operation (ptr_at u.nodes.ops (next_slot s.nodes.ops))) ≡ Region added.region ∷ []) made one;
-      after = added.after ∙ ap (λ u. with_first_block u added.region (block_view c.args.label c.args.arg_types.items)) made;
+      only_region =
+          subst (λ u. children u (Operation (ptr_at u.nodes.ops (next_slot s.nodes.ops))) ≡ Region added.region ∷ [])
+          made one;
+      after =
+          added.after ∙ ap (λ u. with_first_block u added.region (block_view c.args.label c.args.arg_types.items)) made;
     }
 
 -- an operation with a region was made: two more nodes are live, and blocks are as before

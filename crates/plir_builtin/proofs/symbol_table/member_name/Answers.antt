@@ -9,12 +9,19 @@ pub returns-then-not-stands_in-clause-refused : goal.returns-then-not-stands_in-
 returns-then-not-stands_in-clause-refused g c = (
   not_there,
   refl,
-  (sym c.is_symbol.ensures ∙ c.if-not-is_symbol.false, λ e. c.stands_in.ensures.no c.if-not-stands_in.true (e ∙ c.body_of.ensures.body)),
+  (
+    sym c.is_symbol.ensures ∙ c.if-not-is_symbol.false,
+    λ e. c.stands_in.ensures.no c.if-not-stands_in.true (e ∙ c.body_of.ensures.body),
+  ),
 )
 
 pub returns-in-None-clause-refused : goal.returns-in-None-clause-refused
 returns-in-None-clause-refused g c = (
   unnamed,
   refl,
-  (sym c.is_symbol.ensures ∙ c.if-not-is_symbol.false, c.stands_in.ensures.yes c.if-not-stands_in.false ∙ sym c.body_of.ensures.body, sym c.in-None.ensures),
+  (
+    sym c.is_symbol.ensures ∙ c.if-not-is_symbol.false,
+    c.stands_in.ensures.yes c.if-not-stands_in.false ∙ sym c.body_of.ensures.body,
+    sym c.in-None.ensures,
+  ),
 )

@@ -4,7 +4,8 @@ use Rattle.plir_builtin.proofs.UseChecks.{use-fault}
 use Rattle.plir_builtin.proofs.symbol_table_op.verify_table.Goals as goal
 
 pub verify_symbols-requires-clause-at_body : goal.verify_symbols-requires-clause-at_body
-verify_symbols-requires-clause-at_body g c = sole-some c.args.ctx.now c.args.op c.requires.one_region c.requires.single_blocks
+verify_symbols-requires-clause-at_body g c =
+    sole-some c.args.ctx.now c.args.op c.requires.one_region c.requires.single_blocks
 
 pub returns-in-Err-verify_uses-clause-refused : goal.returns-in-Err-verify_uses-clause-refused
 returns-in-Err-verify_uses-clause-refused g c =

@@ -9,4 +9,5 @@ returns-clause-live g c =
     let own = g.D.OpSet.attr_handles in
     let types = c.args.ctx.now.types in
     let handles = subst (HandlesLive own types) (sym c.attributes.ensures.value) c.attributes.ensures.live in
-    held_live own types c.as_type.result (attr_view c.in_ok-get.field-0.now) c.as_type.ensures.live (c.in_ok-get.ensures.live own types handles)
+    held_live own types c.as_type.result (attr_view c.in_ok-get.field-0.now) c.as_type.ensures.live
+    (c.in_ok-get.ensures.live own types handles)

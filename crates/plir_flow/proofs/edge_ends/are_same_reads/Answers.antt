@@ -4,4 +4,5 @@ use Rattle.std.specs.Cmp.Lexicographic.{pointwise_decides}
 use Rattle.plir_flow.proofs.edge_ends.are_same_reads.Goals as goal
 
 pub returns : goal.returns
-returns c = Decides-at c.eq.result _ c.eq.ensures (pointwise_decides (λ x y. search rules) c.args.reads.now c.args.others.now)
+returns c =
+    Decides-at c.eq.result _ c.eq.ensures (pointwise_decides (λ x y. search rules) c.args.reads.now c.args.others.now)

@@ -14,7 +14,10 @@ loop-edge-preserved c us w =
     let more = joined-more reads_on us es i c.edge-item.result below c.edge-item.is in
     let reads = c.deref.ensures.value in
     let view = ap reads_on c.edge.view_is in
-    rw (← more, ← view, ← reads) (c.in_ok-add_all.ensures (us ++ flat_map reads_on (take i es)) (c.loop-edge.invariant us w))
+    rw (← more, ← view, ← reads)
+    (c.in_ok-add_all.ensures (us ++ flat_map reads_on (take i es)) (c.loop-edge.invariant us w))
 
 pub returns : goal.returns
-returns c us w = subst (λ l. IsOnceEach (us ++ flat_map reads_on l) c.loop-edge.seen.keys) (take_all _ c.args.edges.now (omega arith)) (c.loop-edge.invariant us w)
+returns c us w =
+    subst (λ l. IsOnceEach (us ++ flat_map reads_on l) c.loop-edge.seen.keys)
+    (take_all _ c.args.edges.now (omega arith)) (c.loop-edge.invariant us w)

@@ -3,4 +3,5 @@ use Rattle.plir_flow.proofs.TakenLists.{those-retained}
 use Rattle.plir_flow.proofs.edge_lists.keep_to.Goals as goal
 
 pub returns : goal.returns
-returns c = those-retained _ _ _ (λ x b q k. search rules) c.args.edges.items c.retain.new.self.items c.retain.ensures.filtered
+returns c =
+    those-retained _ _ _ (λ x b q k. search rules) c.args.edges.items c.retain.new.self.items c.retain.ensures.filtered

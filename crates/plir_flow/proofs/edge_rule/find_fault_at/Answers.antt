@@ -8,5 +8,9 @@ pub returns-clause-broken : goal.returns-clause-broken
 returns-clause-broken g c =
     let es = c.args.edges.now in
     let e = c.index-edges-place.result in
-    let here = has-at es c.args.place e (slice_get-get_or es c.args.place e c.requires.below ∙ ap (λ x. Some x) (sym c.index-edges-place.is)) in
-    IfOk-weaker c.find_edge_fault.result _ _ (λ f reported. edge-reported g.D.OpSet.is_terminator c.args.ctx.now c.args.op es e f here reported) c.find_edge_fault.ensures.reported
+    let here =
+    has-at es c.args.place e
+    (slice_get-get_or es c.args.place e c.requires.below ∙ ap (λ x. Some x) (sym c.index-edges-place.is)) in
+    IfOk-weaker c.find_edge_fault.result _ _
+    (λ f reported. edge-reported g.D.OpSet.is_terminator c.args.ctx.now c.args.op es e f here reported)
+    c.find_edge_fault.ensures.reported

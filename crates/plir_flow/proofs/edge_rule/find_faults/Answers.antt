@@ -13,8 +13,11 @@ loop-place-preserved g c =
     let i = c.loop-place.place in
     let below : i < length es = omega arith in
     let no = sym c.is_some.ensures ∙ c.if-is_some.false in
-    let right = c.in_ok-found.ensures.right no in
-    (c.in_ok-found.ensures.next no, λ k d h. All-more (IsEdgeRight g.D.OpSet.is_terminator c.args.ctx.now c.args.op) es i d below c.loop-place.invariant.1 (right d) k d h)
+    let right = c.in_ok-found.ensures.right no in (
+      c.in_ok-found.ensures.next no,
+      λ k d h. All-more (IsEdgeRight g.D.OpSet.is_terminator c.args.ctx.now c.args.op) es
+          i d below c.loop-place.invariant.1 (right d) k d h,
+    )
 
 pub returns-clause-reported : goal.returns-clause-reported
 returns-clause-reported g c =
@@ -22,5 +25,7 @@ returns-clause-reported g c =
     let long : length es ≤ c.loop-place.place = omega arith in
     record {
       same = firsts-all es c.loop-place.place (first_place c.loop-place.firsts) c.loop-place.invariant.0 long;
-      each = subst (All (IsEdgeRight g.D.OpSet.is_terminator c.args.ctx.now c.args.op)) (take_all c.loop-place.place es long) c.loop-place.invariant.1;
+      each =
+          subst (All (IsEdgeRight g.D.OpSet.is_terminator c.args.ctx.now c.args.op))
+          (take_all c.loop-place.place es long) c.loop-place.invariant.1;
     }

@@ -15,9 +15,13 @@ loop-edge-preserved g c =
     let done = c.in_ok-add_edge.ensures in (
       done.linked,
       done.heads,
-      λ a b. subst (λ l. IsHop c.add_edge.new.hops.items a b ↔ IsStep s l a b) (one-more es i c.edge-item.result below c.edge-item.is)
-          (through (done.more a b) (through (sum-like (c.loop-edge.invariant.2 a b) (λ h. h, λ h. h)) (steps-more s (take i es) c.edge-item.result a b))),
+      λ a b. subst (λ l. IsHop c.add_edge.new.hops.items a b ↔ IsStep s l a b)
+          (one-more es i c.edge-item.result below c.edge-item.is)
+          (through (done.more a b) (through (sum-like (c.loop-edge.invariant.2 a b) (λ h. h, λ h. h))
+          (steps-more s (take i es) c.edge-item.result a b))),
     )
 
 pub returns-clause-steps : goal.returns-clause-steps
-returns-clause-steps g c = λ a b. subst (λ l. IsHop c.loop-edge.hops.items a b ↔ IsStep c.args.ctx.now l a b) (take_all _ c.args.edges.now (omega arith)) (c.loop-edge.invariant.2 a b)
+returns-clause-steps g c =
+    λ a b. subst (λ l. IsHop c.loop-edge.hops.items a b ↔ IsStep c.args.ctx.now l a b)
+    (take_all _ c.args.edges.now (omega arith)) (c.loop-edge.invariant.2 a b)

@@ -14,4 +14,7 @@ returns-clause-all g c =
     let S = IsStep c.args.ctx.now c.args.edges.now in
     let same = c.in_ok-add_edges.ensures.steps in
     let start = c.args.start in
-    IfOk-weaker c.list_reached.result _ _ (λ rs w b. through (subst (λ l. Has rs.items b ↔ LeadsTo (IsHop l) start b) c.deref.ensures.value (w b)) (leads-like H S (λ x y. (same x y).0) start b, leads-like S H (λ x y. (same x y).1) start b)) c.list_reached.ensures.all
+    IfOk-weaker c.list_reached.result _ _ (λ rs w b. through
+    (subst (λ l. Has rs.items b ↔ LeadsTo (IsHop l) start b) c.deref.ensures.value (w b))
+    (leads-like H S (λ x y. (same x y).0) start b, leads-like S H (λ x y. (same x y).1) start b))
+    c.list_reached.ensures.all

@@ -2,7 +2,9 @@ use Rattle.plir_flow.proofs.Popping.{still-below, not-empty, value-back, segment
 use Rattle.plir_flow.proofs.laws.push_then_pop.Goals as goal
 
 pub returns-clause-filled : goal.returns-clause-filled
-returns-clause-filled g c = λ s t op seg v p. (still-below s t op seg v p.segmented p.below p.edited, not-empty s t op seg v p.segmented p.below p.edited)
+returns-clause-filled g c =
+    λ s t op seg v p.
+    (still-below s t op seg v p.segmented p.below p.edited, not-empty s t op seg v p.segmented p.below p.edited)
 
 pub returns-clause-back : goal.returns-clause-back
 returns-clause-back g c = λ s t u op seg v w p q. (

@@ -10,9 +10,11 @@ loop-value-preserved g c xs w =
     let vs = c.args.values.now in
     let x = c.value-item.result in
     let below : i < length vs = omega arith in
-    rw (← grown xs vs i x below c.value-item.is) (c.in_ok-add.ensures.once (xs ++ take i vs) (c.loop-value.invariant xs w))
+    rw (← grown xs vs i x below c.value-item.is)
+    (c.in_ok-add.ensures.once (xs ++ take i vs) (c.loop-value.invariant xs w))
 
 pub returns : goal.returns
 returns g c xs w =
     let n : length c.args.values.now ≡ c.loop-value.value-index = omega arith in
-    subst (λ (l : List g.row.T.Denot). IsOnceEach (xs ++ l) c.loop-value.seen.keys) (take_all _ c.args.values.now (omega arith)) (c.loop-value.invariant xs w)
+    subst (λ (l : List g.row.T.Denot). IsOnceEach (xs ++ l) c.loop-value.seen.keys)
+    (take_all _ c.args.values.now (omega arith)) (c.loop-value.invariant xs w)

@@ -12,8 +12,10 @@ returns-then-not-branch c =
     let b = c.in_ok-receive_among.field-0 in
     let fs = c.deref.ensures.value ∙ ap flows_on c.first.view_is in
     let os = c.deref-2.ensures.value ∙ ap flows_on c.other.view_is in
-    let reported = within-at b _ _ _ _ fs os c.in_ok-receive_among.ensures in
-    (λ h. absurd (let f : false ≡ true = h in cc), λ same. absurd (same-not d e (λ w. let t : b ≡ true = reported.1 w in cc) same))
+    let reported = within-at b _ _ _ _ fs os c.in_ok-receive_among.ensures in (
+      λ h. absurd (let f : false ≡ true = h in cc),
+      λ same. absurd (same-not d e (λ w. let t : b ≡ true = reported.1 w in cc) same),
+    )
 
 pub returns : goal.returns
 returns c =
@@ -26,4 +28,5 @@ returns c =
     let is : b ≡ true = cc in
     let gs = c.deref-3.ensures.value ∙ ap flows_on c.other.view_is in
     let ps = c.deref-4.ensures.value ∙ ap flows_on c.first.view_is in
-    IfOk-weaker c.receive_among-2.result _ _ (λ v w. through (within-at v _ _ _ _ gs ps w) (same-if d e (reported.0 is))) c.receive_among-2.ensures
+    IfOk-weaker c.receive_among-2.result _ _
+    (λ v w. through (within-at v _ _ _ _ gs ps w) (same-if d e (reported.0 is))) c.receive_among-2.ensures

@@ -13,11 +13,15 @@ returns-clause-after g c =
     let segs : List (List Value) = segments_of s c.args.op in
     let length_is = c.size_of-size.ensures.value ∙ size-is s c.args.op c.requires.segmented c.args.seg in
     let some = subst (λ (n : ℕ). 0 < n) (sym c.size_of-size.ensures.value) c.requires.filled in
-    let same = edit-same c.args.seg (λ xs. remove xs (c.size_of-size.result - 1)) (λ xs. take (length xs - 1) xs) segs (popped (segment_at segs c.args.seg) c.size_of-size.result length_is some) in
+    let same =
+    edit-same c.args.seg (λ xs. remove xs (c.size_of-size.result - 1)) (λ xs. take (length xs - 1) xs) segs
+    (popped (segment_at segs c.args.seg) c.size_of-size.result length_is some) in
     subst (λ (z : List (List Value)). IsResegmented s c.remove_at.new.ctx c.args.op z) same c.remove_at.ensures.after
 
 pub returns-clause-operands : goal.returns-clause-operands
 returns-clause-operands g c =
     let s = c.args.ctx.now in
-    let place : start_in (sizes_of s c.args.op) c.args.seg + (c.size_of-size.result - 1) ≡ start_in (sizes_of s c.args.op) c.args.seg + segment_size s c.args.op c.args.seg - 1 = omega (arith, c.size_of-size.ensures.value, c.requires.filled) in
+    let place : start_in (sizes_of s c.args.op) c.args.seg + (c.size_of-size.result - 1) ≡
+    start_in (sizes_of s c.args.op) c.args.seg + segment_size s c.args.op c.args.seg - 1 =
+    omega (arith, c.size_of-size.ensures.value, c.requires.filled) in
     c.remove_at.ensures.operands ∙ ap (remove (operands_of s c.args.op)) place

@@ -11,5 +11,7 @@ returns-clause-ok g c =
     let s = c.args.ctx.now in
     let segs : List (List Value) = segments_of s c.args.op in
     let length_is = c.size_of-size.ensures.value ∙ size-is s c.args.op c.requires.segmented c.args.seg in
-    let same = edit-same c.args.seg (λ xs. insert xs c.size_of-size.result c.args.operand) (λ xs. xs ++ c.args.operand ∷ []) segs (pushed (segment_at segs c.args.seg) c.size_of-size.result c.args.operand length_is) in
+    let same =
+    edit-same c.args.seg (λ xs. insert xs c.size_of-size.result c.args.operand) (λ xs. xs ++ c.args.operand ∷ [])
+    segs (pushed (segment_at segs c.args.seg) c.size_of-size.result c.args.operand length_is) in
     subst (λ (z : List (List Value)). IsResegmented s c.insert_at.new.ctx c.args.op z) same c.in_ok-insert_at.ensures.ok

@@ -5,4 +5,5 @@ use Rattle.plir_flow.proofs.SegmentLists.{count-in}
 use Rattle.plir_flow.proofs.segment_sizes.count_of.Goals as goal
 
 pub returns-clause-count : goal.returns-clause-count
-returns-clause-count g c = grind (arith, count-in (sizes_of c.args.ctx.now c.args.op) (operands_of c.args.ctx.now c.args.op))
+returns-clause-count g c =
+    grind (arith, count-in (sizes_of c.args.ctx.now c.args.op) (operands_of c.args.ctx.now c.args.op))

@@ -1,41 +1,44 @@
 use Rattle.std.proofs.Common.{◌∙◌}
 use Rattle.plir_core.specs.declared.ptr.IRNode.TheVariants.{BasicBlock}
-use Rattle.plir_folding.proofs.Block.{block-start, block-live, block-parent, block-below, block-more, block-falls, block-end}
+use Rattle.plir_folding.proofs.Block.{block-start, block-live, block-parent, block-below, block-more, block-falls}
+use Rattle.plir_folding.proofs.Block.{block-end}
 use Rattle.plir_folding.proofs.folding.fold_block.Goals as goal
 
 pub ops-init : goal.ops-init
 ops-init g c =
-    block-start g.D.FoldSet.fold g.D.OpSet.attr_handles c.lawful_changes.ensures c.args.ctx.now c.args.block c.args.before c.get_head-at.result c.stands.ensures.whole
+    block-start c.lawful_changes.ensures c.stands.ensures.whole
     (c.get_head-at.ensures.value ∙ c.first_child_is_front.ensures.front)
 
 pub get_next-at-requires : goal.get_next-at-requires
 get_next-at-requires g c =
-    block-live g.D.FoldSet.fold g.D.OpSet.attr_handles c.lawful_changes.ensures c.args.ctx.now c.ops.ctx c.args.block c.args.before c.ops.changed c.ops.at c.stands.ensures.whole c.ops.invariant c.in-Some.op c.in-Some.is
+    block-live c.lawful_changes.ensures c.stands.ensures.whole c.ops.invariant c.in-Some.op c.in-Some.is
 
 pub fold_op-requires-clause-live : goal.fold_op-requires-clause-live
 fold_op-requires-clause-live g c =
-    block-live g.D.FoldSet.fold g.D.OpSet.attr_handles c.lawful_changes.ensures c.args.ctx.now c.ops.ctx c.args.block c.args.before c.ops.changed c.ops.at c.stands.ensures.whole c.ops.invariant c.in-Some.op c.in-Some.is
+    block-live c.lawful_changes.ensures c.stands.ensures.whole c.ops.invariant c.in-Some.op c.in-Some.is
 
 pub fold_op-requires-clause-here : goal.fold_op-requires-clause-here
 fold_op-requires-clause-here g c =
-    block-parent g.D.FoldSet.fold g.D.OpSet.attr_handles c.lawful_changes.ensures c.args.ctx.now c.ops.ctx c.args.block c.args.before c.ops.changed c.ops.at c.stands.ensures.whole c.ops.invariant c.in-Some.op c.in-Some.is
+    block-parent c.lawful_changes.ensures c.stands.ensures.whole c.ops.invariant c.in-Some.op c.in-Some.is
 
 pub ops-smaller : goal.ops-smaller
 ops-smaller g c =
-    block-falls g.D.FoldSet.fold g.D.OpSet.attr_handles c.lawful_changes.ensures c.args.ctx.now c.ops.ctx c.args.block c.args.before c.ops.changed c.ops.at c.stands.ensures.whole c.ops.invariant c.in-Some.op c.in-Some.is
-    c.fold_op.new.ctx c.get_next-at.result c.in_ok-told.told c.in_ok-told.ensures.below
-    (λ xs ys q. c.get_next-at.ensures.value ∙ c.next_is_behind.ensures (BasicBlock c.args.block) xs ys q) c.in_ok-told.ensures.filled
+    block-falls c.lawful_changes.ensures c.stands.ensures.whole c.ops.invariant c.in-Some.op c.in-Some.is
+    c.in_ok-told.ensures.below c.get_next-at.result
+    (λ xs ys q. c.get_next-at.ensures.value ∙ c.next_is_behind.ensures (BasicBlock c.args.block) xs ys q)
+    c.in_ok-told.ensures.filled
 
 pub ops-preserved : goal.ops-preserved
 ops-preserved g c =
-    block-more g.D.FoldSet.fold g.D.OpSet.attr_handles c.lawful_changes.ensures c.args.ctx.now c.ops.ctx c.args.block c.args.before c.ops.changed c.ops.at c.stands.ensures.whole c.ops.invariant c.in-Some.op c.in-Some.is
-    c.fold_op.new.ctx c.get_next-at.result c.in_ok-told.told c.in_ok-told.ensures.below
-    (λ xs ys q. c.get_next-at.ensures.value ∙ c.next_is_behind.ensures (BasicBlock c.args.block) xs ys q) c.in_ok-told.ensures.filled c.in_ok-told.ensures.told
+    block-more c.lawful_changes.ensures c.stands.ensures.whole c.ops.invariant c.in-Some.op c.in-Some.is
+    c.in_ok-told.ensures.below c.get_next-at.result
+    (λ xs ys q. c.get_next-at.ensures.value ∙ c.next_is_behind.ensures (BasicBlock c.args.block) xs ys q)
+    c.in_ok-told.ensures.filled c.in_ok-told.ensures.told
 
 pub returns-in_err-told-clause-below : goal.returns-in_err-told-clause-below
 returns-in_err-told-clause-below g c =
-    block-below g.D.FoldSet.fold g.D.OpSet.attr_handles c.lawful_changes.ensures c.args.ctx.now c.ops.ctx c.args.block c.args.before c.ops.changed c.ops.at c.stands.ensures.whole c.ops.invariant c.in-Some.op c.in-Some.is
-    c.fold_op.new.ctx c.get_next-at.result c.ops.changed c.in_err-told.ensures.below
+    block-below c.lawful_changes.ensures c.stands.ensures.whole c.ops.invariant c.in-Some.op c.in-Some.is
+    c.in_err-told.ensures.below
 
 pub returns-clause-below : goal.returns-clause-below
 returns-clause-below g c = c.ops.invariant.below
@@ -43,5 +46,6 @@ returns-clause-below g c = c.ops.invariant.below
 pub returns-clause-told : goal.returns-clause-told
 returns-clause-told g c = record {
   tells = c.ops.invariant.tells;
-  settled = block-end g.D.FoldSet.fold g.D.OpSet.attr_handles c.lawful_changes.ensures c.args.ctx.now c.ops.ctx c.args.block c.args.before c.ops.changed c.ops.at c.stands.ensures.whole c.ops.invariant c.in_default.is;
+  settled =
+      block-end c.lawful_changes.ensures c.stands.ensures.whole c.ops.invariant c.in_default.is;
 }

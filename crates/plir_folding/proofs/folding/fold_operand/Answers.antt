@@ -13,11 +13,14 @@ use Rattle.plir_folding.specs.Worth.{integer_of, folded}
 use Rattle.plir_folding.specs.Folded.{result_of}
 use Rattle.plir_folding.proofs.Folds.{tells-none}
 use Rattle.plir_folding.proofs.Below.{below-none, below-refused}
-use Rattle.plir_folding.proofs.OneFold.{live-u, new-live-u, op-u, new-op-u, lawful-fold, new-constant, folded-one, filled-one, replaced_in}
+use Rattle.plir_folding.proofs.OneFold.{live-u, new-live-u, op-u, new-op-u, lawful-fold, new-constant, folded-one}
+use Rattle.plir_folding.proofs.OneFold.{filled-one, replaced_in}
 use Rattle.plir_folding.proofs.folding.fold_operand.Goals as goal
 
 pub returns-in_default-clause-below : goal.returns-in_default-clause-below
-returns-in_default-clause-below g c = below-none g.D.FoldSet.fold g.D.OpSet.attr_handles c.lawful_changes.ensures c.args.ctx.now (BasicBlock c.args.block) c.stands.ensures.whole
+returns-in_default-clause-below g c =
+    below-none g.D.FoldSet.fold g.D.OpSet.attr_handles c.lawful_changes.ensures c.args.ctx.now (BasicBlock c.args.block)
+    c.stands.ensures.whole
 
 pub returns-in_default-clause-told : goal.returns-in_default-clause-told
 returns-in_default-clause-told g c = record {
@@ -31,51 +34,65 @@ pub returns-in_default-clause-filled : goal.returns-in_default-clause-filled
 returns-in_default-clause-filled g c = λ xs ys e. ([], e)
 
 pub materialize-requires : goal.materialize-requires
-materialize-requires g c = All-cons (IsTypeLive c.args.ctx.now.types) c.in-Some.integer.ty [] c.in-Some.ensures.live (All-nil (IsTypeLive c.args.ctx.now.types))
+materialize-requires g c =
+    All-cons (IsTypeLive c.args.ctx.now.types) c.in-Some.integer.ty [] c.in-Some.ensures.live
+    (All-nil (IsTypeLive c.args.ctx.now.types))
 
 pub insert_before-requires-clause-mark_live : goal.insert_before-requires-clause-mark_live
-insert_before-requires-clause-mark_live g c = c.in_ok-constant.ensures.made.keeps.live (Operation c.args.op) c.requires.live
+insert_before-requires-clause-mark_live g c =
+    c.in_ok-constant.ensures.made.keeps.live (Operation c.args.op) c.requires.live
 
 pub insert_before-requires-clause-linked : goal.insert_before-requires-clause-linked
-insert_before-requires-clause-linked g c = subst IsSome (sym (c.in_ok-constant.ensures.made.keeps.parents (Operation c.args.op) c.requires.live ∙ c.requires.here)) refl
+insert_before-requires-clause-linked g c =
+    subst IsSome
+    (sym (c.in_ok-constant.ensures.made.keeps.parents (Operation c.args.op) c.requires.live ∙ c.requires.here)) refl
 
 pub insert_before-requires-clause-not_above : goal.insert_before-requires-clause-not_above
 insert_before-requires-clause-not_above g c = c.in_ok-constant.ensures.made.apart (Operation c.args.op) c.requires.live
 
 pub op_edits_keep_the_rest-requires : goal.op_edits_keep_the_rest-requires
 op_edits_keep_the_rest-requires g c =
-    live-u g.D.OpSet.attr_handles c.args.ctx.now c.materialize.new.ctx c.insert_before.new.ctx c.args.block c.args.op c.in_ok-constant.constant c.stands.ensures.standing.forest
+    live-u g.D.OpSet.attr_handles c.args.ctx.now c.materialize.new.ctx c.insert_before.new.ctx c.args.block c.args.op
+    c.in_ok-constant.constant c.stands.ensures.standing.forest
     c.requires.here c.in_ok-constant.ensures.made c.insert_before.ensures.placed (Operation c.args.op) c.requires.live
 
 pub get_result-result-requires-clause-live : goal.get_result-result-requires-clause-live
 get_result-result-requires-clause-live g c =
-    new-live-u g.D.OpSet.attr_handles c.args.ctx.now c.materialize.new.ctx c.insert_before.new.ctx c.args.block c.args.op c.in_ok-constant.constant c.stands.ensures.standing.forest
+    new-live-u g.D.OpSet.attr_handles c.args.ctx.now c.materialize.new.ctx c.insert_before.new.ctx c.args.block
+    c.args.op c.in_ok-constant.constant c.stands.ensures.standing.forest
     c.requires.here c.in_ok-constant.ensures.made c.insert_before.ensures.placed
 
 pub get_result-result-requires-clause-below : goal.get_result-result-requires-clause-below
 get_result-result-requires-clause-below g c =
-    let same = new-op-u g.D.OpSet.attr_handles c.args.ctx.now c.materialize.new.ctx c.insert_before.new.ctx c.args.block c.args.op c.in_ok-constant.constant c.stands.ensures.standing.forest
+    let same =
+    new-op-u g.D.OpSet.attr_handles c.args.ctx.now c.materialize.new.ctx c.insert_before.new.ctx c.args.block
+    c.args.op c.in_ok-constant.constant c.stands.ensures.standing.forest
     c.requires.here c.in_ok-constant.ensures.made c.insert_before.ensures.placed in
     subst (λ z. 0 < length (results_in z)) (sym (same ∙ c.in_ok-constant.ensures.tree.holds)) (omega arith)
 
 pub replace_operand-requires-clause-live : goal.replace_operand-requires-clause-live
 replace_operand-requires-clause-live g c =
-    live-u g.D.OpSet.attr_handles c.args.ctx.now c.materialize.new.ctx c.insert_before.new.ctx c.args.block c.args.op c.in_ok-constant.constant c.stands.ensures.standing.forest
+    live-u g.D.OpSet.attr_handles c.args.ctx.now c.materialize.new.ctx c.insert_before.new.ctx c.args.block c.args.op
+    c.in_ok-constant.constant c.stands.ensures.standing.forest
     c.requires.here c.in_ok-constant.ensures.made c.insert_before.ensures.placed (Operation c.args.op) c.requires.live
 
 pub replace_operand-requires-clause-below : goal.replace_operand-requires-clause-below
 replace_operand-requires-clause-below g c =
-    let same = op-u g.D.OpSet.attr_handles c.args.ctx.now c.materialize.new.ctx c.insert_before.new.ctx c.args.block c.args.op c.in_ok-constant.constant c.stands.ensures.standing.forest
+    let same =
+    op-u g.D.OpSet.attr_handles c.args.ctx.now c.materialize.new.ctx c.insert_before.new.ctx c.args.block c.args.op
+    c.in_ok-constant.constant c.stands.ensures.standing.forest
     c.requires.here c.in_ok-constant.ensures.made c.insert_before.ensures.placed c.args.op c.requires.live in
     subst (λ z. c.args.place < length (operands_in z)) (sym same) c.requires.below
 
 pub returns-in_err-constant-clause-below : goal.returns-in_err-constant-clause-below
 returns-in_err-constant-clause-below g c =
-    below-refused g.D.FoldSet.fold g.D.OpSet.attr_handles c.lawful_changes.ensures c.args.ctx.now c.materialize.new.ctx (BasicBlock c.args.block) c.stands.ensures.whole
+    below-refused g.D.FoldSet.fold g.D.OpSet.attr_handles c.lawful_changes.ensures c.args.ctx.now c.materialize.new.ctx
+    (BasicBlock c.args.block) c.stands.ensures.whole
     c.in_err-constant.ensures.whole c.in_err-constant.ensures.err c.in_err-constant.ensures.given
 
 pub returns-in_err-constant-clause-filled : goal.returns-in_err-constant-clause-filled
-returns-in_err-constant-clause-filled g c = λ xs ys e. ([], c.in_err-constant.ensures.err.nodes.children (BasicBlock c.args.block) ∙ e)
+returns-in_err-constant-clause-filled g c =
+    λ xs ys e. ([], c.in_err-constant.ensures.err.nodes.children (BasicBlock c.args.block) ∙ e)
 
 pub returns-clause-below : goal.returns-clause-below
 returns-clause-below g c =
@@ -92,12 +109,18 @@ returns-clause-below g c =
     let e = c.in_ok-constant.ensures in
     let w = c.stands.ensures.standing.forest in
     let f = replaced_in c.args.place (result_of k) in
-    let after : v ≡ with_op_edit u op f = c.replace_operand.ensures.after ∙ ap (λ z. with_op_edit u op (replaced_in c.args.place z)) c.get_result-result.ensures.value in
+    let after : v ≡ with_op_edit u op f =
+    c.replace_operand.ensures.after
+    ∙ ap (λ z. with_op_edit u op (replaced_in c.args.place z)) c.get_result-result.ensures.value in
     let edited = subst (λ z. IsOpEdited u z op f) (sym after) (c.op_edits_keep_the_rest.ensures f) in
-    let lawful = subst (λ z. Lawful (look u) (BasicBlock b) (look z)) (sym after) (laws.op_edit u (BasicBlock b) op f) in
+    let lawful =
+    subst (λ z. Lawful (look u) (BasicBlock b) (look z)) (sym after) (laws.op_edit u (BasicBlock b) op f) in
     record {
-      folded = folded-one own s t u b op k w c.requires.here e.made c.insert_before.ensures.placed fold g.D.OpSet.attr_type v c.args.place (integer_of c.in-Some.integer) c.get_operand-value.result
-          (laws.forest t e.whole) e.tree e.types (ap (λ z. z.types) c.insert_before.ensures.after) edited c.get_operand-value.ensures.value (sym c.in-Some.ensures.value);
+      folded =
+          folded-one own s t u b op k w c.requires.here e.made c.insert_before.ensures.placed fold g.D.OpSet.attr_type v
+          c.args.place (integer_of c.in-Some.integer) c.get_operand-value.result
+          (laws.forest t e.whole) e.tree e.types (ap (λ z. z.types) c.insert_before.ensures.after) edited
+          c.get_operand-value.ensures.value (sym c.in-Some.ensures.value);
       lawful = lawful-fold own s t u b op k w c.requires.here e.made c.insert_before.ensures.placed laws v lawful;
       whole = c.replace_operand.ensures.whole;
     }
@@ -117,12 +140,21 @@ returns-clause-told g c =
     let e = c.in_ok-constant.ensures in
     let w = c.stands.ensures.standing.forest in
     let f = replaced_in c.args.place (result_of k) in
-    let after : v ≡ with_op_edit u op f = c.replace_operand.ensures.after ∙ ap (λ z. with_op_edit u op (replaced_in c.args.place z)) c.get_result-result.ensures.value in
+    let after : v ≡ with_op_edit u op f =
+    c.replace_operand.ensures.after
+    ∙ ap (λ z. with_op_edit u op (replaced_in c.args.place z)) c.get_result-result.ensures.value in
     let edited = subst (λ z. IsOpEdited u z op f) (sym after) (c.op_edits_keep_the_rest.ensures f) in
-    let made = new-constant own s t u b op k w c.requires.here e.made c.insert_before.ensures.placed fold g.D.OpSet.attr_type v c.args.place (integer_of c.in-Some.integer) c.get_operand-value.result
-    (laws.forest t e.whole) e.tree e.types (ap (λ z. z.types) c.insert_before.ensures.after) edited c.get_operand-value.ensures.value (sym c.in-Some.ensures.value) in
+    let made =
+    new-constant own s t u b op k w c.requires.here e.made c.insert_before.ensures.placed fold g.D.OpSet.attr_type v
+    c.args.place (integer_of c.in-Some.integer) c.get_operand-value.result
+    (laws.forest t e.whole) e.tree e.types (ap (λ z. z.types) c.insert_before.ensures.after) edited
+    c.get_operand-value.ensures.value (sym c.in-Some.ensures.value) in
     record {
-      tells = record { clear = λ h. absurd (let z : ⊥ = cc h in z); set = λ h. inr (k, (integer_of c.in-Some.integer, made)) };
+      tells =
+          record {
+            clear = λ h. absurd (let z : ⊥ = cc h in z);
+            set = λ h. inr (k, (integer_of c.in-Some.integer, made));
+          };
       settled = λ h. absurd (let z : ⊥ = cc h in z);
     }
 
@@ -141,7 +173,11 @@ returns-clause-filled g c =
     let e = c.in_ok-constant.ensures in
     let w = c.stands.ensures.standing.forest in
     let f = replaced_in c.args.place (result_of k) in
-    let after : v ≡ with_op_edit u op f = c.replace_operand.ensures.after ∙ ap (λ z. with_op_edit u op (replaced_in c.args.place z)) c.get_result-result.ensures.value in
+    let after : v ≡ with_op_edit u op f =
+    c.replace_operand.ensures.after
+    ∙ ap (λ z. with_op_edit u op (replaced_in c.args.place z)) c.get_result-result.ensures.value in
     let edited = subst (λ z. IsOpEdited u z op f) (sym after) (c.op_edits_keep_the_rest.ensures f) in
-    filled-one own s t u b op k w c.requires.here e.made c.insert_before.ensures.placed fold g.D.OpSet.attr_type v c.args.place (integer_of c.in-Some.integer) c.get_operand-value.result
-    (laws.forest t e.whole) e.tree e.types (ap (λ z. z.types) c.insert_before.ensures.after) edited c.get_operand-value.ensures.value (sym c.in-Some.ensures.value)
+    filled-one own s t u b op k w c.requires.here e.made c.insert_before.ensures.placed fold g.D.OpSet.attr_type v
+    c.args.place (integer_of c.in-Some.integer) c.get_operand-value.result
+    (laws.forest t e.whole) e.tree e.types (ap (λ z. z.types) c.insert_before.ensures.after) edited
+    c.get_operand-value.ensures.value (sym c.in-Some.ensures.value)

@@ -16,11 +16,14 @@ module _ {A : Type 0} (P : A → Type 0) (xs : List A) where
 pub returns-then-not-has_one_block-clause-value : goal.returns-then-not-has_one_block-clause-value
 returns-then-not-has_one_block-clause-value g c = (
   λ h. let b : true ≡ false = sym h in cc,
-  λ a. c.if-not-has_one_block.ensures.value.1 (at_place (HasOneBlock c.args.ctx.now) (regions_of c.args.ctx.now c.args.op) c.loop-place.place (Region c.in-Some.region) (sym c.loop-place.invariant.at ∙ ap (option_map Region) c.in-Some.is) a),
+  λ a. c.if-not-has_one_block.ensures.value.1 (at_place (HasOneBlock c.args.ctx.now)
+      (regions_of c.args.ctx.now c.args.op) c.loop-place.place (Region c.in-Some.region)
+      (sym c.loop-place.invariant.at ∙ ap (option_map Region) c.in-Some.is) a),
 )
 
 pub returns-clause-value : goal.returns-clause-value
 returns-clause-value g c = (
-  λ h. each_place (HasOneBlock c.args.ctx.now) (regions_of c.args.ctx.now c.args.op) c.loop-place.place (omega (arith, c.num_regions-place-end.ensures.value, c.loop-place-test.false)) c.loop-place.invariant.one,
+  λ h. each_place (HasOneBlock c.args.ctx.now) (regions_of c.args.ctx.now c.args.op) c.loop-place.place
+      (omega (arith, c.num_regions-place-end.ensures.value, c.loop-place-test.false)) c.loop-place.invariant.one,
   λ a. refl,
 )

@@ -8,5 +8,14 @@ returns-clause-refused g c =
     refusal-aside c.args.ctx.now c.args.op _ _
     (λ e h. (
       record { wanted = c.in-Some.misfit.wanted; found = c.in-Ok.found },
-      ((m.2, (c.in-Some.misfit.place, (rw c.len-count.ensures.value at first, rw c.type_at.ensures.value c.in-Ok.ensures))), rw h c.from.ensures),
+      (
+        (
+          m.2,
+          (
+            c.in-Some.misfit.place,
+            (rw c.len-count.ensures.value at first, rw c.type_at.ensures.value c.in-Ok.ensures),
+          ),
+        ),
+        rw h c.from.ensures,
+      ),
     )) c.refusal.result c.refusal.ensures.refused

@@ -13,7 +13,9 @@ returns-in-Operation g c =
     record {
       lawful = c.lawful_changes.ensures.none s c.args.node;
       converted = converted-none illegal s;
-      settled = subst (λ z. IsSettled illegal s c.args.node z) (sym c.walk_advance.ensures) (subst (HasLegalChildren illegal s) (sym c.in-Operation.is) (legal-under-op illegal s _));
+      settled =
+          subst (λ z. IsSettled illegal s c.args.node z) (sym c.walk_advance.ensures)
+          (subst (HasLegalChildren illegal s) (sym c.in-Operation.is) (legal-under-op illegal s _));
     }
 
 pub returns-in-Region : goal.returns-in-Region
@@ -23,7 +25,9 @@ returns-in-Region g c =
     record {
       lawful = c.lawful_changes.ensures.none s c.args.node;
       converted = converted-none illegal s;
-      settled = subst (λ z. IsSettled illegal s c.args.node z) (sym c.walk_advance-in-Region.ensures) (subst (HasLegalChildren illegal s) (sym c.in-Region.is) (legal-under-region illegal s _));
+      settled =
+          subst (λ z. IsSettled illegal s c.args.node z) (sym c.walk_advance-in-Region.ensures)
+          (subst (HasLegalChildren illegal s) (sym c.in-Region.is) (legal-under-region illegal s _));
     }
 
 pub returns-in-Ok : goal.returns-in-Ok
@@ -31,7 +35,8 @@ returns-in-Ok g c =
     let illegal = g.C.Conversion.illegal c.args.conversion.now in
     let t = c.convert_block.new.ctx in
     let n = BasicBlock c.in-BasicBlock.block in
-    at-block illegal c.args.ctx.now t c.args.node c.in-BasicBlock.block c.walk_advance-in-Ok.result c.in-BasicBlock.is c.in-Ok.ensures.lawful c.in-Ok.ensures.converted
+    at-block illegal c.args.ctx.now t c.args.node c.in-BasicBlock.block c.walk_advance-in-Ok.result c.in-BasicBlock.is
+    c.in-Ok.ensures.lawful c.in-Ok.ensures.converted
     (subst (λ z. IsSettled illegal t n z) (sym c.walk_advance-in-Ok.ensures) c.in-Ok.ensures.legal)
 
 pub returns-in-Err : goal.returns-in-Err
@@ -39,5 +44,6 @@ returns-in-Err g c =
     let illegal = g.C.Conversion.illegal c.args.conversion.now in
     let t = c.convert_block.new.ctx in
     let n = BasicBlock c.in-BasicBlock.block in
-    at-block illegal c.args.ctx.now t c.args.node c.in-BasicBlock.block c.walk_break.result c.in-BasicBlock.is c.in-Err.ensures.lawful c.in-Err.ensures.converted
+    at-block illegal c.args.ctx.now t c.args.node c.in-BasicBlock.block c.walk_break.result c.in-BasicBlock.is
+    c.in-Err.ensures.lawful c.in-Err.ensures.converted
     (subst (λ z. IsSettled illegal t n z) (sym c.walk_break.ensures) tt)

@@ -1,27 +1,27 @@
 use Rattle.std.proofs.Common.{◌∙◌}
 use Rattle.plir_core.specs.declared.ptr.IRNode.TheVariants.{BasicBlock}
-use Rattle.plir_passes.proofs.Converting.{converting-start, converting-live, converting-parent, converting-more, converting-falls, converting-end}
+use Rattle.plir_passes.proofs.Converting.{converting-start, converting-live, converting-parent, converting-more}
+use Rattle.plir_passes.proofs.Converting.{converting-falls, converting-end}
 use Rattle.plir_passes.proofs.Keeping.{converted-then}
 use Rattle.plir_passes.proofs.conversion.convert_block.Goals as goal
 
 pub ops-init : goal.ops-init
 ops-init g c =
-    converting-start (g.C.Conversion.illegal c.args.conversion.now) c.args.ctx.now c.args.block c.get_head-at.result
+    converting-start
     (c.lawful_changes.ensures.none c.args.ctx.now (BasicBlock c.args.block)) c.stands.ensures.standing.forest c.requires
     (c.get_head-at.ensures.value ∙ c.first_child_is_front.ensures.front)
 
 pub convert_op-requires-clause-live : goal.convert_op-requires-clause-live
-convert_op-requires-clause-live g c =
-    converting-live (g.C.Conversion.illegal c.args.conversion.now) c.args.ctx.now c.ops.ctx c.args.block c.ops.at c.ops.invariant c.in-Some.op c.in-Some.is
+convert_op-requires-clause-live g c = converting-live c.ops.invariant c.in-Some.op c.in-Some.is
 
 pub convert_op-requires-clause-here : goal.convert_op-requires-clause-here
-convert_op-requires-clause-here g c =
-    converting-parent (g.C.Conversion.illegal c.args.conversion.now) c.args.ctx.now c.ops.ctx c.args.block c.ops.at c.ops.invariant c.in-Some.op c.in-Some.is
+convert_op-requires-clause-here g c = converting-parent c.ops.invariant c.in-Some.op c.in-Some.is
 
 pub ops-smaller : goal.ops-smaller
 ops-smaller g c =
-    converting-falls (g.C.Conversion.illegal c.args.conversion.now) c.args.ctx.now c.ops.ctx c.args.block c.ops.at c.ops.invariant c.in-Some.op c.in-Some.is
-    c.convert_op.new.ctx c.in_ok-next.next c.stands.ensures.standing.forest c.in_ok-next.ensures.stands c.in_ok-next.ensures.passed
+    converting-falls c.ops.invariant c.in-Some.op c.in-Some.is
+    c.convert_op.new.ctx c.in_ok-next.next c.stands.ensures.standing.forest c.in_ok-next.ensures.stands
+    c.in_ok-next.ensures.passed
 
 pub ops-preserved : goal.ops-preserved
 ops-preserved g c =
@@ -29,18 +29,21 @@ ops-preserved g c =
     let t = c.convert_op.new.ctx in
     let n = BasicBlock c.args.block in
     let forest = c.stands.ensures.standing.forest in
-    let lawful = c.lawful_changes.ensures.both s c.ops.ctx t n forest c.ops.invariant.lawful c.in_ok-next.ensures.lawful in
-    converting-more (g.C.Conversion.illegal c.args.conversion.now) s c.ops.ctx c.args.block c.ops.at c.ops.invariant c.in-Some.op c.in-Some.is
+    let lawful =
+    c.lawful_changes.ensures.both s c.ops.ctx t n forest c.ops.invariant.lawful c.in_ok-next.ensures.lawful in
+    converting-more c.ops.invariant c.in-Some.op c.in-Some.is
     t c.in_ok-next.next forest c.in_ok-next.ensures.stands c.in_ok-next.ensures.passed
     lawful c.in_ok-next.ensures.converted (c.lawful_changes.ensures.stays s t n forest lawful c.requires)
 
 pub returns-in_err-next-clause-lawful : goal.returns-in_err-next-clause-lawful
 returns-in_err-next-clause-lawful g c =
-    c.lawful_changes.ensures.both c.args.ctx.now c.ops.ctx c.convert_op.new.ctx (BasicBlock c.args.block) c.stands.ensures.standing.forest c.ops.invariant.lawful c.in_err-next.ensures.lawful
+    c.lawful_changes.ensures.both c.args.ctx.now c.ops.ctx c.convert_op.new.ctx (BasicBlock c.args.block)
+    c.stands.ensures.standing.forest c.ops.invariant.lawful c.in_err-next.ensures.lawful
 
 pub returns-in_err-next-clause-converted : goal.returns-in_err-next-clause-converted
 returns-in_err-next-clause-converted g c =
-    converted-then (g.C.Conversion.illegal c.args.conversion.now) c.args.ctx.now c.ops.ctx c.convert_op.new.ctx c.stands.ensures.standing.forest c.ops.invariant.converted c.in_err-next.ensures.converted
+    converted-then (g.C.Conversion.illegal c.args.conversion.now) c.args.ctx.now c.ops.ctx c.convert_op.new.ctx
+    c.stands.ensures.standing.forest c.ops.invariant.converted c.in_err-next.ensures.converted
 
 pub returns-clause-lawful : goal.returns-clause-lawful
 returns-clause-lawful g c = c.ops.invariant.lawful
@@ -49,5 +52,4 @@ pub returns-clause-converted : goal.returns-clause-converted
 returns-clause-converted g c = c.ops.invariant.converted
 
 pub returns-clause-legal : goal.returns-clause-legal
-returns-clause-legal g c =
-    converting-end (g.C.Conversion.illegal c.args.conversion.now) c.args.ctx.now c.ops.ctx c.args.block c.ops.at c.ops.invariant c.in_default.is
+returns-clause-legal g c = converting-end c.ops.invariant c.in_default.is

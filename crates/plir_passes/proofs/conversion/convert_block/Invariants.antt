@@ -1,6 +1,6 @@
 use Rattle.plir_core.specs.declared.ptr.IRNode.TheVariants.{BasicBlock}
 use Rattle.plir_core.specs.ContextView.{children}
-use Rattle.plir_passes.specs.Passing.{left_from}
+use Rattle.plir_walk.specs.NodeLaws.{left_from}
 use Rattle.plir_passes.proofs.Converting.{IsConverting}
 use Rattle.plir_passes.proofs.conversion.convert_block.Given as goal
 

@@ -5,7 +5,8 @@ pub erase-requires-clause-unused : goal.erase-requires-clause-unused
 erase-requires-clause-unused g c = c.if-is_dead.ensures.unused refl
 
 pub returns-then-is_dead-clause-swept : goal.returns-then-is_dead-clause-swept
-returns-then-is_dead-clause-swept g c = inl (c.if-is_dead.ensures.answer.0 refl, refl, c.erase.ensures.tree, ap (λ z. z.types) c.erase.ensures.after)
+returns-then-is_dead-clause-swept g c =
+    inl (c.if-is_dead.ensures.answer.0 refl, refl, c.erase.ensures.tree, ap (λ z. z.types) c.erase.ensures.after)
 
 pub returns-then-is_dead-clause-stands : goal.returns-then-is_dead-clause-stands
 returns-then-is_dead-clause-stands g c = c.lawful_changes.ensures.forest c.erase.new.ctx c.erase.ensures.whole

@@ -32,13 +32,22 @@ entries-preserved-then-is_shown g c =
     let v = attr_view c.in-Some.value.now in
     let left = pairs_view c.next.new.self in
     let step : pairs_view l.key-iterator ≡ (k, v) ∷ left = ap pairs_view c.in-Some.ensures.steps in
-    let yes : shows (k, v) ≡ true = ap (λ w. shows (w, v)) (sym c.as_str.ensures.value) ∙ sym c.is_shown.ensures ∙ c.if-is_shown.true in
-    let first : filter shows (pairs_view l.key-iterator) ≡ (k, v) ∷ filter shows left = ap (filter shows) step ∙ ap (λ b. cond b ((k, v) ∷ filter shows left) (filter shows left)) yes in
-    let key : string_bytes c.put.new.out ≡ string_bytes c.put_between.new.out ++ k = c.in_ok-put.ensures.ok ∙ ap (λ w. string_bytes c.put_between.new.out ++ w) c.as_str-then-is_shown.ensures.value in
-    let pair : string_bytes c.put_attr.new.out ≡ string_bytes c.put_between.new.out ++ write (k, v) = on _ k _ _ _ key (on _ (codes " = ") (text v) _ _ c.in_ok-put-2.ensures.ok c.in_ok-put_attr.ensures) in
+    let yes : shows (k, v) ≡ true =
+    ap (λ w. shows (w, v)) (sym c.as_str.ensures.value) ∙ sym c.is_shown.ensures ∙ c.if-is_shown.true in
+    let first : filter shows (pairs_view l.key-iterator) ≡ (k, v) ∷ filter shows left =
+    ap (filter shows) step ∙ ap (λ b. cond b ((k, v) ∷ filter shows left) (filter shows left)) yes in
+    let key : string_bytes c.put.new.out ≡ string_bytes c.put_between.new.out ++ k =
+    c.in_ok-put.ensures.ok
+    ∙ ap (λ w. string_bytes c.put_between.new.out ++ w) c.as_str-then-is_shown.ensures.value in
+    let pair : string_bytes c.put_attr.new.out ≡ string_bytes c.put_between.new.out ++ write (k, v) =
+    on _ k _ _ _ key (on _ (codes " = ") (text v) _ _ c.in_ok-put-2.ensures.ok c.in_ok-put_attr.ensures) in
     record {
-      written = turn (codes ", ") write l.is_first _ _ _ _ (k, v) (filter shows (pairs_view l.key-iterator)) (filter shows left) c.in_ok-put_between.ensures pair first l.invariant.written;
-      live = All-tail (λ x. IsAttrLive o.attr_handles types x.1) (k, v) left (subst (HandlesLive o.attr_handles types) step l.invariant.live);
+      written =
+          turn (codes ", ") write l.is_first _ _ _ _ (k, v) (filter shows (pairs_view l.key-iterator))
+          (filter shows left) c.in_ok-put_between.ensures pair first l.invariant.written;
+      live =
+          All-tail (λ x. IsAttrLive o.attr_handles types x.1) (k, v) left
+          (subst (HandlesLive o.attr_handles types) step l.invariant.live);
     }
 
 pub entries-preserved : goal.entries-preserved
@@ -52,9 +61,15 @@ entries-preserved g c =
     let v = attr_view c.in-Some.value.now in
     let left = pairs_view c.next.new.self in
     let step : pairs_view l.key-iterator ≡ (k, v) ∷ left = ap pairs_view c.in-Some.ensures.steps in
-    let no : shows (k, v) ≡ false = ap (λ w. shows (w, v)) (sym c.as_str.ensures.value) ∙ sym c.is_shown.ensures ∙ c.if-is_shown.false in
-    let none : filter shows (pairs_view l.key-iterator) ≡ filter shows left = ap (filter shows) step ∙ ap (λ b. cond b ((k, v) ∷ filter shows left) (filter shows left)) no in
+    let no : shows (k, v) ≡ false =
+    ap (λ w. shows (w, v)) (sym c.as_str.ensures.value) ∙ sym c.is_shown.ensures ∙ c.if-is_shown.false in
+    let none : filter shows (pairs_view l.key-iterator) ≡ filter shows left =
+    ap (filter shows) step ∙ ap (λ b. cond b ((k, v) ∷ filter shows left) (filter shows left)) no in
     record {
-      written = ap (λ es. string_bytes l.out ++ parted_from l.is_first (codes ", ") write es) (sym none) ∙ l.invariant.written;
-      live = All-tail (λ x. IsAttrLive o.attr_handles types x.1) (k, v) left (subst (HandlesLive o.attr_handles types) step l.invariant.live);
+      written =
+          ap (λ es. string_bytes l.out ++ parted_from l.is_first (codes ", ") write es) (sym none)
+          ∙ l.invariant.written;
+      live =
+          All-tail (λ x. IsAttrLive o.attr_handles types x.1) (k, v) left
+          (subst (HandlesLive o.attr_handles types) step l.invariant.live);
     }

@@ -6,4 +6,6 @@ use Rattle.plir_print.specs.Dictionaries.{is_shown}
 use Rattle.plir_print.proofs.dictionaries.shows_some.Given as goal
 
 abbrev pub invariant-entries : goal.invariant-entries
-invariant-entries g l = filter (is_shown g.D.OpSet (Some l.kind)) l.dict ≡ filter (is_shown g.D.OpSet (Some l.kind)) (pairs_view l.key-iterator)
+invariant-entries g l =
+    filter (is_shown g.D.OpSet (Some l.kind)) l.dict ≡
+    filter (is_shown g.D.OpSet (Some l.kind)) (pairs_view l.key-iterator)

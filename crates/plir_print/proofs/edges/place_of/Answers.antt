@@ -11,13 +11,18 @@ returns-in-Some g c =
     let s = c.args.ctx.now in
     let r = c.args.region in
     let over = Operation c.in-Some.field-0 in
-    let parent : parent_of s (Region r) ≡ Some over = sym c.get_parent_op.ensures.value ∙ ap (option_map Operation) c.in-Some.is in
-    let there : slice_get (children s over) c.find_index_in_parent.result ≡ Some (Region r) = subst (λ (o : _). IfSome o (λ n. slice_get (children s n) c.find_index_in_parent.result ≡ Some (Region r))) parent c.find_index_in_parent.ensures.value in
-    sym (ap (place_under s (Region r)) parent ∙ place-there r (children s over) c.find_index_in_parent.result (c.stands.ensures.forest.once over) there)
+    let parent : parent_of s (Region r) ≡ Some over =
+    sym c.get_parent_op.ensures.value ∙ ap (option_map Operation) c.in-Some.is in
+    let there : slice_get (children s over) c.find_index_in_parent.result ≡ Some (Region r) =
+    subst (λ (o : _). IfSome o (λ n. slice_get (children s n) c.find_index_in_parent.result ≡ Some (Region r)))
+    parent c.find_index_in_parent.ensures.value in
+    sym (ap (place_under s (Region r)) parent
+    ∙ place-there r (children s over) c.find_index_in_parent.result (c.stands.ensures.forest.once over) there)
 
 pub returns-in-None : goal.returns-in-None
 returns-in-None g c =
     let s = c.args.ctx.now in
     let r = c.args.region in
-    let parent : parent_of s (Region r) ≡ None = sym c.get_parent_op.ensures.value ∙ ap (option_map Operation) c.in-None.is in
+    let parent : parent_of s (Region r) ≡ None =
+    sym c.get_parent_op.ensures.value ∙ ap (option_map Operation) c.in-None.is in
     sym (ap (place_under s (Region r)) parent)

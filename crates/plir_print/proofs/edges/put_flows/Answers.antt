@@ -5,4 +5,6 @@ use Rattle.plir_print.proofs.Pieces.{ended}
 use Rattle.plir_print.proofs.edges.put_flows.Goals as goal
 
 pub returns : goal.returns
-returns g c = ended (codes ", ") (flow_text c.args.ctx.now) c.flows.is_first _ _ (drop c.flows.flow-index c.args.flows.now) (drop_all c.flows.flow-index c.args.flows.now (omega arith)) c.flows.invariant
+returns g c =
+    ended (codes ", ") (flow_text c.args.ctx.now) c.flows.is_first _ _ (drop c.flows.flow-index c.args.flows.now)
+    (drop_all c.flows.flow-index c.args.flows.now (omega arith)) c.flows.invariant

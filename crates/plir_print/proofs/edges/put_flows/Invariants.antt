@@ -4,4 +4,6 @@ use Rattle.plir_print.specs.Lists.{parted, parted_from}
 use Rattle.plir_print.proofs.edges.put_flows.Given as goal
 
 abbrev pub invariant-flows : goal.invariant-flows
-invariant-flows g l = string_bytes l.out ++ parted_from l.is_first (codes ", ") (flow_text l.ctx) (drop l.flow-index l.flows) ≡ string_bytes l.fn.out ++ parted (codes ", ") (flow_text l.ctx) l.flows
+invariant-flows g l =
+    string_bytes l.out ++ parted_from l.is_first (codes ", ") (flow_text l.ctx) (drop l.flow-index l.flows) ≡
+    string_bytes l.fn.out ++ parted (codes ", ") (flow_text l.ctx) l.flows

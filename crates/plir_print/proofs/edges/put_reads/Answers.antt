@@ -5,4 +5,6 @@ use Rattle.plir_print.proofs.Pieces.{ended}
 use Rattle.plir_print.proofs.edges.put_reads.Goals as goal
 
 pub returns : goal.returns
-returns g c = ended (codes ", ") (use_text c.args.ctx.now) c.reads.is_first _ _ (drop c.reads.operand-index c.args.reads.now) (drop_all c.reads.operand-index c.args.reads.now (omega arith)) c.reads.invariant
+returns g c =
+    ended (codes ", ") (use_text c.args.ctx.now) c.reads.is_first _ _ (drop c.reads.operand-index c.args.reads.now)
+    (drop_all c.reads.operand-index c.args.reads.now (omega arith)) c.reads.invariant

@@ -9,9 +9,12 @@ pub arguments-preserved : goal.arguments-preserved
 arguments-preserved g c =
     let vs = arguments_of c.args.ctx.now c.args.block in
     let place = c.arguments.place in
-    turn (codes ", ") (argument_text g.D.OpSet c.args.ctx.now) c.arguments.is_first _ _ _ _ c.value_at.result (drop place vs) (drop (place + 1) vs) c.in_ok-put_between.ensures c.in_ok-put_argument.ensures (drop_at vs place c.value_at.result c.value_at.ensures.value) c.arguments.invariant
+    turn (codes ", ") (argument_text g.D.OpSet c.args.ctx.now) c.arguments.is_first _ _ _ _ c.value_at.result
+    (drop place vs) (drop (place + 1) vs) c.in_ok-put_between.ensures c.in_ok-put_argument.ensures
+    (drop_at vs place c.value_at.result c.value_at.ensures.value) c.arguments.invariant
 
 pub returns : goal.returns
 returns g c =
     let vs = arguments_of c.args.ctx.now c.args.block in
-    ended (codes ", ") (argument_text g.D.OpSet c.args.ctx.now) c.arguments.is_first _ _ (drop c.arguments.place vs) (drop_all c.arguments.place vs (omega arith)) c.arguments.invariant
+    ended (codes ", ") (argument_text g.D.OpSet c.args.ctx.now) c.arguments.is_first _ _ (drop c.arguments.place vs)
+    (drop_all c.arguments.place vs (omega arith)) c.arguments.invariant

@@ -8,4 +8,5 @@ abbrev pub invariant-arguments : goal.invariant-arguments
 invariant-arguments g l =
     let vs = values_in l.ctx l.arguments in
     let write = argument_text g.D.OpSet l.ctx in
-    string_bytes l.out ++ parted_from l.is_first (codes ", ") write (drop l.place vs) ≡ string_bytes l.fn.out ++ parted (codes ", ") write vs
+    string_bytes l.out ++ parted_from l.is_first (codes ", ") write (drop l.place vs) ≡
+    string_bytes l.fn.out ++ parted (codes ", ") write vs

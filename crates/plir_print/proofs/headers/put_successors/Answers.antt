@@ -9,9 +9,12 @@ pub successors-preserved : goal.successors-preserved
 successors-preserved g c =
     let bs = successors_of c.args.ctx.now c.args.op in
     let place = c.successors.place in
-    turn (codes ", ") (successor_text c.args.ctx.now) c.successors.is_first _ _ _ _ c.get_successor.result (drop place bs) (drop (place + 1) bs) c.in_ok-put_between.ensures c.in_ok-put_successor.ensures (drop_at bs place c.get_successor.result c.get_successor.ensures.value) c.successors.invariant
+    turn (codes ", ") (successor_text c.args.ctx.now) c.successors.is_first _ _ _ _ c.get_successor.result
+    (drop place bs) (drop (place + 1) bs) c.in_ok-put_between.ensures c.in_ok-put_successor.ensures
+    (drop_at bs place c.get_successor.result c.get_successor.ensures.value) c.successors.invariant
 
 pub returns : goal.returns
 returns g c =
     let bs = successors_of c.args.ctx.now c.args.op in
-    ended (codes ", ") (successor_text c.args.ctx.now) c.successors.is_first _ _ (drop c.successors.place bs) (drop_all c.successors.place bs (omega arith)) c.successors.invariant
+    ended (codes ", ") (successor_text c.args.ctx.now) c.successors.is_first _ _ (drop c.successors.place bs)
+    (drop_all c.successors.place bs (omega arith)) c.successors.invariant

@@ -8,4 +8,5 @@ abbrev pub invariant-successors : goal.invariant-successors
 invariant-successors g l =
     let bs = successors_of l.ctx l.op in
     let write = successor_text l.ctx in
-    string_bytes l.out ++ parted_from l.is_first (codes ", ") write (drop l.place bs) ≡ string_bytes l.fn.out ++ parted (codes ", ") write bs
+    string_bytes l.out ++ parted_from l.is_first (codes ", ") write (drop l.place bs) ≡
+    string_bytes l.fn.out ++ parted (codes ", ") write bs

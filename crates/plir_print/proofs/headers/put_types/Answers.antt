@@ -9,9 +9,12 @@ pub types-preserved : goal.types-preserved
 types-preserved g c =
     let vs = values_in c.args.ctx.now c.args.list in
     let place = c.types.place in
-    turn (codes ", ") (value_type_text g.D.OpSet c.args.ctx.now) c.types.is_first _ _ _ _ c.value_at.result (drop place vs) (drop (place + 1) vs) c.in_ok-put_between.ensures c.in_ok-put_value_type.ensures (drop_at vs place c.value_at.result c.value_at.ensures.value) c.types.invariant
+    turn (codes ", ") (value_type_text g.D.OpSet c.args.ctx.now) c.types.is_first _ _ _ _ c.value_at.result
+    (drop place vs) (drop (place + 1) vs) c.in_ok-put_between.ensures c.in_ok-put_value_type.ensures
+    (drop_at vs place c.value_at.result c.value_at.ensures.value) c.types.invariant
 
 pub returns : goal.returns
 returns g c =
     let vs = values_in c.args.ctx.now c.args.list in
-    ended (codes ", ") (value_type_text g.D.OpSet c.args.ctx.now) c.types.is_first _ _ (drop c.types.place vs) (drop_all c.types.place vs (omega arith)) c.types.invariant
+    ended (codes ", ") (value_type_text g.D.OpSet c.args.ctx.now) c.types.is_first _ _ (drop c.types.place vs)
+    (drop_all c.types.place vs (omega arith)) c.types.invariant

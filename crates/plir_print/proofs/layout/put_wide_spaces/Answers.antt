@@ -9,4 +9,5 @@ times-preserved c =
     c.in_ok-put.ensures.ok
     ∙ (ap (λ z. z ++ replicate 64 32) c.times.invariant
     ∙ (append_assoc old before (replicate 64 32)
-    ∙ ap (λ z. old ++ z) (replicate-append-replicate (64 * c.times._time) 64 32 ∙ ap (λ k. replicate k 32) (omega arith))))
+    ∙ ap (λ z. old ++ z)
+    (replicate-append-replicate (64 * c.times._time) 64 32 ∙ ap (λ k. replicate k 32) (omega arith))))

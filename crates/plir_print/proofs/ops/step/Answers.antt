@@ -4,8 +4,11 @@ use Rattle.plir_print.proofs.ops.step.Goals as goal
 
 pub returns-in_ok-enter : goal.returns-in_ok-enter
 returns-in_ok-enter g c =
-    subst (λ z. Steps g.D.OpSet c.args.ctx.now c.args.root (string_bytes c.args.out.now) (c.args.at.0, z, c.args.at.2) (string_bytes c.enter.new.out) (Some c.in_ok-enter.field-0)) (sym c.if-entering.true) (c.in_ok-enter.ensures c.args.root)
+    subst (λ z. Steps g.D.OpSet c.args.ctx.now c.args.root (string_bytes c.args.out.now) (c.args.at.0, z, c.args.at.2)
+    (string_bytes c.enter.new.out) (Some c.in_ok-enter.field-0)) (sym c.if-entering.true)
+    (c.in_ok-enter.ensures c.args.root)
 
 pub returns-else-entering : goal.returns-else-entering
 returns-else-entering g c =
-    subst (λ z. IfOk c.leave.result (Steps g.D.OpSet c.args.ctx.now c.args.root (string_bytes c.args.out.now) (c.args.at.0, z, c.args.at.2) (string_bytes c.leave.new.out))) (sym c.if-entering.false) c.leave.ensures
+    subst (λ z. IfOk c.leave.result (Steps g.D.OpSet c.args.ctx.now c.args.root (string_bytes c.args.out.now)
+    (c.args.at.0, z, c.args.at.2) (string_bytes c.leave.new.out))) (sym c.if-entering.false) c.leave.ensures

@@ -20,11 +20,15 @@ returns-in-Results-clause-value g c =
     let s = c.args.ctx.now in
     let e = Op c.in-Results.op in
     let below = subst (λ l. c.args.place < length (values_in s l)) c.in-Results.is c.requires.below in
-    ap (λ l. slice_get (values_in s l) c.args.place) c.in-Results.is ∙ value-there s e c.args.place (subst (λ n. c.args.place < n) (length-values s e) below) ∙ ap Some (sym c.get_result.ensures.value)
+    ap (λ l. slice_get (values_in s l) c.args.place) c.in-Results.is
+    ∙ value-there s e c.args.place (subst (λ n. c.args.place < n) (length-values s e) below)
+    ∙ ap Some (sym c.get_result.ensures.value)
 
 pub returns-in-Arguments-clause-value : goal.returns-in-Arguments-clause-value
 returns-in-Arguments-clause-value g c =
     let s = c.args.ctx.now in
     let e = Block c.in-Arguments.block in
     let below = subst (λ l. c.args.place < length (values_in s l)) c.in-Arguments.is c.requires.below in
-    ap (λ l. slice_get (values_in s l) c.args.place) c.in-Arguments.is ∙ value-there s e c.args.place (subst (λ n. c.args.place < n) (length-values s e) below) ∙ ap Some (sym c.get_argument.ensures.value)
+    ap (λ l. slice_get (values_in s l) c.args.place) c.in-Arguments.is
+    ∙ value-there s e c.args.place (subst (λ n. c.args.place < n) (length-values s e) below)
+    ∙ ap Some (sym c.get_argument.ensures.value)

@@ -8,7 +8,8 @@ returns-then-is_ready-clause-ready g c = c.is_ready.ensures.0 c.if-is_ready.true
 pub returns-then-is_ready-clause-brought : goal.returns-then-is_ready-clause-brought
 returns-then-is_ready-clause-brought g c = (
   (λ _. refl),
-  (λ none. absurd (ready-there c.args.ctx.now c.args.self.now c.args.op (c.is_ready.ensures.0 c.if-is_ready.true) (sym none))),
+  (λ none. absurd (ready-there c.args.ctx.now c.args.self.now c.args.op (c.is_ready.ensures.0 c.if-is_ready.true)
+      (sym none))),
 )
 
 pub returns-then-is_ready-clause-seen : goal.returns-then-is_ready-clause-seen
@@ -25,11 +26,14 @@ pub returns-then-not-is_ready-clause-seen : goal.returns-then-not-is_ready-claus
 returns-then-not-is_ready-clause-seen g c = λ all.
     absurd (true≢false (sym (c.is_ready-2.ensures.1
     (ready-for g.D.OpSet.is_symbol g.D.OpSet.is_symbol_table c.args.ctx.now c.bring.new.self c.args.op
-    (brought-for g.D.OpSet.is_symbol g.D.OpSet.is_symbol_table c.args.ctx.now c.args.self.now c.args.op c.requires c.bring.new.self c.in_ok-bring.ensures.kept c.in_ok-bring.ensures.made all)))
+    (brought-for g.D.OpSet.is_symbol g.D.OpSet.is_symbol_table c.args.ctx.now c.args.self.now c.args.op c.requires
+    c.bring.new.self c.in_ok-bring.ensures.kept c.in_ok-bring.ensures.made all)))
     ∙ c.if-not-is_ready.true))
 
 pub returns-clause-seen : goal.returns-clause-seen
 returns-clause-seen g c = λ all. (
-  brought-for g.D.OpSet.is_symbol g.D.OpSet.is_symbol_table c.args.ctx.now c.args.self.now c.args.op c.requires c.bring.new.self c.in_ok-bring.ensures.kept c.in_ok-bring.ensures.made all,
-  brought-agree g.D.OpSet.is_symbol g.D.OpSet.is_symbol_table c.args.ctx.now c.args.self.now c.args.op c.requires c.bring.new.self c.in_ok-bring.ensures.kept c.in_ok-bring.ensures.made all,
+  brought-for g.D.OpSet.is_symbol g.D.OpSet.is_symbol_table c.args.ctx.now c.args.self.now c.args.op c.requires
+      c.bring.new.self c.in_ok-bring.ensures.kept c.in_ok-bring.ensures.made all,
+  brought-agree g.D.OpSet.is_symbol g.D.OpSet.is_symbol_table c.args.ctx.now c.args.self.now c.args.op c.requires
+      c.bring.new.self c.in_ok-bring.ensures.kept c.in_ok-bring.ensures.made all,
 )

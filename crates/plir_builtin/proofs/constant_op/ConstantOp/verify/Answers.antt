@@ -12,7 +12,9 @@ returns-in_default-typed-clause-refused g c =
     let s = c.args.ctx.now in
     let op = c.args.self.now.op in
     let there = ap (λ es. dict_get es value_key) (sym c.attributes.ensures.value) ∙ sym c.in-Some.ensures.value in
-    told_wider s op _ _ (untyped_fault g.D.OpSet.attr_id g.D.OpSet.attr_type g.D.OpSet.type_id g.D.OpSet.type_body_text s op (attr_view c.in-Some.value.now) there (sym c.in_default-typed.ensures.value)) c.untyped.result c.untyped.ensures.reported
+    told_wider s op _ _ (untyped_fault g.D.OpSet.attr_id g.D.OpSet.attr_type g.D.OpSet.type_id g.D.OpSet.type_body_text
+    s op (attr_view c.in-Some.value.now) there (sym c.in_default-typed.ensures.value)) c.untyped.result
+    c.untyped.ensures.reported
 
 pub returns-then-eq-clause-ok : goal.returns-then-eq-clause-ok
 returns-then-eq-clause-ok g c =
@@ -38,4 +40,7 @@ returns-clause-refused g c =
     let op = c.args.self.now.op in
     let there = ap (λ es. dict_get es value_key) (sym c.attributes.ensures.value) ∙ sym c.in-Some.ensures.value in
     let other : c.in-Some-typed.given ≢ c.get_type-wanted.result = search rules in
-    told_wider s op _ _ (mismatch_fault g.D.OpSet.attr_id g.D.OpSet.attr_type g.D.OpSet.type_id g.D.OpSet.type_body_text s op (attr_view c.in-Some.value.now) there c.in-Some-typed.given c.get_type-wanted.result (sym c.in-Some-typed.ensures.value) c.get_type-wanted.ensures.value other) c.mismatched.result c.mismatched.ensures.reported
+    told_wider s op _ _ (mismatch_fault g.D.OpSet.attr_id g.D.OpSet.attr_type g.D.OpSet.type_id g.D.OpSet.type_body_text
+    s op (attr_view c.in-Some.value.now) there c.in-Some-typed.given c.get_type-wanted.result
+    (sym c.in-Some-typed.ensures.value) c.get_type-wanted.ensures.value other) c.mismatched.result
+    c.mismatched.ensures.reported

@@ -8,4 +8,5 @@ pub new-requires-clause-types_live : goal.new-requires-clause-types_live
 new-requires-clause-types_live g c =
     let types = c.get.new.ctx.types in
     let live = slice_get_within types c.in-Ok.ty _ c.in-Ok.ensures.ok.named in
-    subst (AllLive types) (sym c.in_ok-result_types.ensures.value) (all_one (IsLive types) c.into.result (subst (IsLive types) (sym c.into.ensures) live))
+    subst (AllLive types) (sym c.in_ok-result_types.ensures.value)
+    (all_one (IsLive types) c.into.result (subst (IsLive types) (sym c.into.ensures) live))

@@ -2,26 +2,40 @@ use Rattle.plir_builtin_tests.proofs.tests.one_collection.add_module.Goals as go
 
 -- where no module was made
 pub returns-in_err-module-clause-agree : goal.returns-in_err-module-clause-agree
-returns-in_err-module-clause-agree g c = c.new_nodes_keep_agreement.ensures.refused c.args.ctx.now c.args.tables.now c.stands.ensures.whole c.in_err-module.ensures.err c.requires.agree
+returns-in_err-module-clause-agree g c =
+    c.new_nodes_keep_agreement.ensures.refused c.args.ctx.now c.args.tables.now c.stands.ensures.whole
+    c.in_err-module.ensures.err c.requires.agree
 
 pub returns-in_err-module-clause-given : goal.returns-in_err-module-clause-given
-returns-in_err-module-clause-given g c = c.new_nodes_keep_agreement.ensures.given c.args.ctx.now c.args.tables.now c.new-made.ensures.given c.requires.given
+returns-in_err-module-clause-given g c =
+    c.new_nodes_keep_agreement.ensures.given c.args.ctx.now c.args.tables.now c.new-made.ensures.given c.requires.given
 
 -- where one was made
 pub returns-in_err-push-clause-agree : goal.returns-in_err-push-clause-agree
-returns-in_err-push-clause-agree g c = c.new_nodes_keep_agreement.ensures.made c.args.ctx.now _ c.args.tables.now c.stands.ensures.whole c.in_ok-module.ensures.made c.requires.given c.requires.agree
+returns-in_err-push-clause-agree g c =
+    c.new_nodes_keep_agreement.ensures.made c.args.ctx.now _ c.args.tables.now c.stands.ensures.whole
+    c.in_ok-module.ensures.made c.requires.given c.requires.agree
 
 pub returns-in_err-push-clause-given : goal.returns-in_err-push-clause-given
-returns-in_err-push-clause-given g c = c.new_nodes_keep_agreement.ensures.given c.args.ctx.now c.args.tables.now c.new-made.ensures.given c.requires.given
+returns-in_err-push-clause-given g c =
+    c.new_nodes_keep_agreement.ensures.given c.args.ctx.now c.args.tables.now c.new-made.ensures.given c.requires.given
 
 pub returns-in_err-replies-clause-agree : goal.returns-in_err-replies-clause-agree
-returns-in_err-replies-clause-agree g c = c.apply_all.ensures.agree (c.new_nodes_keep_agreement.ensures.made c.args.ctx.now _ c.args.tables.now c.stands.ensures.whole c.in_ok-module.ensures.made c.requires.given c.requires.agree)
+returns-in_err-replies-clause-agree g c =
+    c.apply_all.ensures.agree (c.new_nodes_keep_agreement.ensures.made c.args.ctx.now _ c.args.tables.now
+    c.stands.ensures.whole c.in_ok-module.ensures.made c.requires.given c.requires.agree)
 
 pub returns-clause-agree : goal.returns-clause-agree
-returns-clause-agree g c = c.apply_all.ensures.agree (c.new_nodes_keep_agreement.ensures.made c.args.ctx.now _ c.args.tables.now c.stands.ensures.whole c.in_ok-module.ensures.made c.requires.given c.requires.agree)
+returns-clause-agree g c =
+    c.apply_all.ensures.agree (c.new_nodes_keep_agreement.ensures.made c.args.ctx.now _ c.args.tables.now
+    c.stands.ensures.whole c.in_ok-module.ensures.made c.requires.given c.requires.agree)
 
 pub returns-in_err-replies-clause-given : goal.returns-in_err-replies-clause-given
-returns-in_err-replies-clause-given g c = c.apply_all.ensures.given (c.new_nodes_keep_agreement.ensures.given c.args.ctx.now c.args.tables.now c.new-made.ensures.given c.requires.given)
+returns-in_err-replies-clause-given g c =
+    c.apply_all.ensures.given (c.new_nodes_keep_agreement.ensures.given c.args.ctx.now c.args.tables.now
+    c.new-made.ensures.given c.requires.given)
 
 pub returns-clause-given : goal.returns-clause-given
-returns-clause-given g c = c.apply_all.ensures.given (c.new_nodes_keep_agreement.ensures.given c.args.ctx.now c.args.tables.now c.new-made.ensures.given c.requires.given)
+returns-clause-given g c =
+    c.apply_all.ensures.given (c.new_nodes_keep_agreement.ensures.given c.args.ctx.now c.args.tables.now
+    c.new-made.ensures.given c.requires.given)

@@ -10,5 +10,6 @@ returns-in-Some-clause-refused g c =
     let refuses = g.Self.BranchOpInterface.refuses_layout c.args.self.now s in
     let forwards = g.Self.BranchOpInterface.forwards c.args.self.now s in
     aside-weaker s op _ _
-    (reported g.D.OpSet.type_id g.D.OpSet.type_body_text s layout refuses op forwards c.in-Some.mismatch c.in-Ok.ensures.ok c.in-Some.ensures.some)
+    (reported g.D.OpSet.type_id g.D.OpSet.type_body_text s layout refuses op forwards c.in-Some.mismatch
+    c.in-Ok.ensures.ok c.in-Some.ensures.some)
     c.report.result (rw c.get_operation-op.ensures at c.report.ensures.reported)

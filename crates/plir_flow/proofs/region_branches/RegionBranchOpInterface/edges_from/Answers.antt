@@ -5,5 +5,8 @@ use Rattle.plir_flow.proofs.region_branches.RegionBranchOpInterface.edges_from.G
 
 pub returns-clause-live : goal.returns-clause-live
 returns-clause-live g c =
-    let all = subst (AreEdgesLive c.args.ctx.now) (sym c.in_ok-region_edges.ensures.value) c.in_ok-region_edges.ensures.live in
-    those-live (IsFrom c.args.point) (IsEdgeLive c.args.ctx.now) c.in_ok-region_edges.field-0.items c.keep_from.result.items all c.keep_from.ensures
+    let all =
+    subst (AreEdgesLive c.args.ctx.now) (sym c.in_ok-region_edges.ensures.value)
+    c.in_ok-region_edges.ensures.live in
+    those-live (IsFrom c.args.point) (IsEdgeLive c.args.ctx.now) c.in_ok-region_edges.field-0.items
+    c.keep_from.result.items all c.keep_from.ensures

@@ -7,5 +7,7 @@ use Rattle.plir_flow.proofs.region_branches.RegionBranchOpInterface.reachable_re
 pub returns-clause-live : goal.returns-clause-live
 returns-clause-live g c =
     let s = c.args.ctx.now in
-    let all = subst (AreEdgesLive s) (sym (c.deref.ensures.value ∙ c.in_ok-edges.ensures.value)) c.in_ok-edges.ensures.live in
-    IfOk-weaker c.reachable.result _ _ (λ rs w. reached-live s c.deref.result.now c.args.region rs.items all w) c.reachable.ensures.all
+    let all =
+    subst (AreEdgesLive s) (sym (c.deref.ensures.value ∙ c.in_ok-edges.ensures.value)) c.in_ok-edges.ensures.live in
+    IfOk-weaker c.reachable.result _ _ (λ rs w. reached-live s c.deref.result.now c.args.region rs.items all w)
+    c.reachable.ensures.all

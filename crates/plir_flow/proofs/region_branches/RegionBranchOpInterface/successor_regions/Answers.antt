@@ -10,5 +10,7 @@ use Rattle.plir_flow.proofs.region_branches.RegionBranchOpInterface.successor_re
 pub returns-clause-live : goal.returns-clause-live
 returns-clause-live g c =
     let s = c.args.ctx.now in
-    let all = subst (AreEdgesLive s) (sym (c.deref.ensures.value ∙ c.in_ok-edges.ensures.value)) c.in_ok-edges.ensures.live in
-    IfOk-weaker c.regions_in.result _ _ (λ us o. taken-all regions_on (IsEdgeLive s) (λ r. IsLive s (Region r)) (regions-live s) (IsFromRegion s c.args.region) c.deref.result.now us.items all o) c.regions_in.ensures.taken
+    let all =
+    subst (AreEdgesLive s) (sym (c.deref.ensures.value ∙ c.in_ok-edges.ensures.value)) c.in_ok-edges.ensures.live in
+    IfOk-weaker c.regions_in.result _ _ (λ us o. taken-all regions_on (IsEdgeLive s) (λ r. IsLive s (Region r))
+    (regions-live s) (IsFromRegion s c.args.region) c.deref.result.now us.items all o) c.regions_in.ensures.taken

@@ -11,6 +11,8 @@ returns-clause-value g c =
     let s = c.args.ctx.now in
     let op = c.get_operation-op.result in
     let here = ap (slice_range (operands_of s op) c.range_of.result.start) c.range_of.ensures.end
-    ∙ ap (λ a. slice_range (operands_of s op) a (start_in (sizes_of s op) c.args.seg + segment_size s op c.args.seg)) c.range_of.ensures.start
+    ∙ ap (λ a. slice_range (operands_of s op) a (start_in (sizes_of s op) c.args.seg + segment_size s op c.args.seg))
+    c.range_of.ensures.start
     ∙ sym (segment-range (sizes_of s op) c.args.seg (operands_of s op)) in
-    rw c.get_operation-op.ensures at (subst (λ (z : List Value). IfOk c.operands_in.result (λ vs. vs.items ≡ z)) here c.operands_in.ensures.value)
+    rw c.get_operation-op.ensures at (subst (λ (z : List Value). IfOk c.operands_in.result (λ vs. vs.items ≡ z)) here
+    c.operands_in.ensures.value)

@@ -12,6 +12,8 @@ returns-then-not-are_sources_live c =
 pub returns : goal.returns
 returns c =
     let sources : All (λ f. IsUseLive c.args.ctx.now f.0) c.args.flows.now = search rules in
-    let receivers : IsTrue c.are_receivers_live.result → All (λ f. IsValueLive c.args.ctx.now f.1) c.args.flows.now = search rules in
-    let found : All (λ f. IsValueLive c.args.ctx.now f.1) c.args.flows.now → IsTrue c.are_receivers_live.result = search rules in
+    let receivers : IsTrue c.are_receivers_live.result → All (λ f. IsValueLive c.args.ctx.now f.1) c.args.flows.now =
+    search rules in
+    let found : All (λ f. IsValueLive c.args.ctx.now f.1) c.args.flows.now → IsTrue c.are_receivers_live.result =
+    search rules in
     (λ h. λ k d b. (sources k d b, receivers h k d b), λ all. found (λ k d b. (all k d b).1))

@@ -6,8 +6,11 @@ pub returns-then-not-are_flows_live : goal.returns-then-not-are_flows_live
 returns-then-not-are_flows_live c =
     let wrong : IsTrue false → ⊥ = search rules in
     let refused : IsTrue c.are_flows_live.result → ⊥ = search rules in
-    let same : c.as_slice.result.now ≡ c.args.edge.now.flows = search rules in
-    (λ h. absurd (wrong h), λ live. absurd (refused (c.are_flows_live.ensures.1 (subst (All (IsFlowLive c.args.ctx.now)) (sym same) live.flows))))
+    let same : c.as_slice.result.now ≡ c.args.edge.now.flows = search rules in (
+      λ h. absurd (wrong h),
+      λ live.
+          absurd (refused (c.are_flows_live.ensures.1 (subst (All (IsFlowLive c.args.ctx.now)) (sym same) live.flows))),
+    )
 
 pub returns : goal.returns
 returns c =
@@ -18,6 +21,11 @@ returns c =
     let same : c.as_slice.result.now ≡ c.args.edge.now.flows = search rules in
     let same-2 : c.as_slice-2.result.now ≡ c.args.edge.now.reads = search rules in
     let flows = subst (All (IsFlowLive s)) same (c.are_flows_live.ensures.0 found) in (
-      λ h. record { from = from; to = to; flows = flows; reads = subst (All (IsUseLive s)) same-2 (c.are_reads_live.ensures.0 h) },
+      λ h. record {
+        from = from;
+        to = to;
+        flows = flows;
+        reads = subst (All (IsUseLive s)) same-2 (c.are_reads_live.ensures.0 h);
+      },
       λ live. c.are_reads_live.ensures.1 (subst (All (IsUseLive s)) (sym same-2) live.reads),
     )

@@ -5,7 +5,8 @@ use Rattle.plir_iface.proofs.places.Places.resolve.Goals as goal
 
 pub overflow_add-result-in-Range : goal.overflow_add-result-in-Range
 overflow_add-result-in-Range c =
-    let below : c.in-Range.end < c.args.len = end-below c.in-Within.m _ c.args.len c.in-Range.start c.in-Range.end c.in-Range.ensures in
+    let below : c.in-Range.end < c.args.len =
+    end-below c.in-Within.m _ c.args.len c.in-Range.start c.in-Range.end c.in-Range.ensures in
     omega (arith, c.ranges.len.fits)
 
 pub returns-in-Range-clause-ok : goal.returns-in-Range-clause-ok

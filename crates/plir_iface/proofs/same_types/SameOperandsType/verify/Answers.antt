@@ -2,4 +2,5 @@ use Rattle.plir_iface.proofs.Ends.{through}
 use Rattle.plir_iface.proofs.same_types.SameOperandsType.verify.Goals as goal
 
 pub returns-clause-ok : goal.returns-clause-ok
-returns-clause-ok g c = through c.accept_if.ensures.ok (rw c.get_operation-op.ensures at c.has_same_types-holds.ensures.value)
+returns-clause-ok g c =
+    through c.accept_if.ensures.ok (rw c.get_operation-op.ensures at c.has_same_types-holds.ensures.value)
