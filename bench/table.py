@@ -50,11 +50,12 @@ def rows(functions, part):
 
 
 def lists(largest, functions):
-    """Dead code and lists of erasures, each twice as long as the one before, and one of as many as the other rows have."""
+    """Dead code, conversions, sums and lists of erasures, each twice as long as the one before, and one of as many as the other rows have."""
     sizes = [largest // 8, largest // 4, largest // 2, largest, functions]
     swept = [Row(f"dead code swept, one of {2 * size:,} operations", ("plir",), ["sweep 1"], [f"sweep {size}"], 2 * size - 2) for size in sizes]
     converted = [Row(f"operations converted, one of {size:,}", ("plir",), ["convert 1"], [f"convert {size}"], size - 1) for size in sizes]
-    return swept + converted + [Row(f"list of {size:,} erasures, an erasure", BOTH, [f"build {size}"], [f"build {size}", f"erase-list {size}"], size) for size in sizes]
+    folded = [Row(f"constants folded, one of {size:,} sums", ("plir",), ["fold 1"], [f"fold {size}"], size - 1) for size in sizes]
+    return swept + converted + folded + [Row(f"list of {size:,} erasures, an erasure", BOTH, [f"build {size}"], [f"build {size}", f"erase-list {size}"], size) for size in sizes]
 
 
 def run(program, lines):

@@ -6,6 +6,7 @@ ghost use Rattle.plir_core.specs.declared.ptr.IRNode.{IRNode as AnyNode};
 use crate::building::{build_bare, build_functions};
 use crate::command::{Command, Task, read_command};
 use crate::converting::convert_references;
+use crate::folding::fold_chain;
 use crate::stop::Stop;
 use crate::sweeping::sweep_chains;
 use crate::symbols::{erase_by_list, erase_through_table, look_up_names, make_tables};
@@ -60,6 +61,7 @@ impl Bench {
             Task::EraseList => erase_by_list(self.alloc, ctx, self.root(ctx)?, number),
             Task::Sweep => sweep_chains(self.alloc, ctx, number),
             Task::Convert => convert_references(self.alloc, ctx, number),
+            Task::Fold => fold_chain(self.alloc, number),
             Task::Read => read_text(self.alloc, ctx, self.text.as_str(), number),
             Task::Print => self.print(ctx, number),
             _ => self.look(ctx, task, number),

@@ -1,13 +1,14 @@
 //! The modules that are measured.
-ghost use Rattle.std.specs.Prelude.{IfOk, OnOk};
+ghost use Rattle.std.specs.Prelude.{All, IfOk, OnOk};
+ghost use Rattle.plir_data.specs.Types.{AllLive};
 ghost use Rattle.plir_core.specs.Made.{IsMade};
-ghost use Rattle.plir_core.specs.ContextView.{IsLive};
+ghost use Rattle.plir_core.specs.ContextView.{IsLive, IsValueLive};
 ghost use Rattle.plir_core.specs.declared.ptr.IRNode.{IRNode as AnyNode};
 
 use crate::stop::Stop;
 use plir_builtin::{FuncOp, ModuleOp};
-use plir_core::{BasicBlock, Context, NodeErr, Operation, Ptr};
-use plir_data::{BuiltinSet, FunctionType, Identifier, OpKind};
+use plir_core::{BasicBlock, Context, NodeErr, Operation, Ptr, Value};
+use plir_data::{BuiltinSet, FunctionType, Identifier, OpKind, OpSet, TypeHandle};
 use std::alloc::Global;
 
 /// The name of the function of a number.
@@ -43,9 +44,9 @@ pub fn build_bare(
 }
 
 /// A module, and its body.
-pub fn build_root(
+pub fn build_root<D: OpSet>(
     alloc: Global,
-    ctx: &mut Context<BuiltinSet>,
+    ctx: &mut Context<D>,
 ) -> Result<(Ptr<Operation>, Ptr<BasicBlock>), Stop>
     ensures { IfOk result (λ x. IsLive ctx.new (AnyNode.BasicBlock x.1)) }
 {
@@ -106,4 +107,42 @@ fn add_block(alloc: Global, ctx: &mut Context<BuiltinSet>, op: Ptr<Operation>) -
     let block = BasicBlock::new(alloc, ctx, None, Vec::new(alloc))?;
     block.insert_at_back(ctx, region);
     Ok(())
+}
+
+/// Puts an operation without regions at the end of a block.
+pub fn add_op<D: OpSet>(
+    alloc: Global,
+    ctx: &mut Context<D>,
+    body: Ptr<BasicBlock>,
+    kind: OpKind<D::Kind>,
+    types: Vec<TypeHandle>,
+    operands: Vec<Value>,
+) -> Result<(), Stop>
+    requires body_live { IsLive ctx.old (AnyNode.BasicBlock body) }
+    requires types_live { AllLive ctx.old.types types.items }
+    requires operands_live { All (IsValueLive ctx.old) operands.items }
+    ensures { OnOk result (IsLive ctx.new (AnyNode.BasicBlock body)) }
+{
+    let successors = Vec::new(alloc);
+    let op = Operation::new(alloc, ctx, kind, types, operands, successors, 0)?;
+    op.insert_at_back(ctx, body);
+    Ok(())
+}
+
+/// The first result of the last operation of a block, or nothing where there is none.
+pub fn last_results<D: OpSet>(
+    alloc: Global,
+    ctx: &Context<D>,
+    body: Ptr<BasicBlock>,
+) -> Result<Vec<Value>, Stop>
+    requires { IsLive ctx.now (AnyNode.BasicBlock body) }
+    ensures { IfOk result (λ vs. All (IsValueLive ctx.now) vs.items) }
+{
+    let mut values = Vec::new(alloc);
+    if let Some(last) = body.get_tail(ctx) {
+        if last.get_num_results(ctx) > 0 {
+            values.push(last.get_result(ctx, 0))?;
+        }
+    }
+    Ok(values)
 }

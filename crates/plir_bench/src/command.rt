@@ -25,6 +25,8 @@ pub enum Task {
     Sweep,
     /// `convert N`: so many forward references in one block, each replaced by a constant.
     Convert,
+    /// `fold N`: a chain of so many sums of constants, and all of them folded.
+    Fold,
     /// `print N`: the module's text, so many times.
     Print,
     /// `read N`: the text that was printed last, read so many times.
@@ -63,6 +65,7 @@ fn read_task(word: &str) -> Option<Task> {
         "erase-list" => Some(Task::EraseList),
         "sweep" => Some(Task::Sweep),
         "convert" => Some(Task::Convert),
+        "fold" => Some(Task::Fold),
         "print" => Some(Task::Print),
         "read" => Some(Task::Read),
         _ => None,

@@ -1,12 +1,12 @@
 //! Dead code that is swept.
-ghost use Rattle.std.specs.Prelude.{◌≡◌, All, IfOk, OnOk};
+ghost use Rattle.std.specs.Prelude.{◌≡◌, IfOk, OnOk};
 ghost use Rattle.plir_data.specs.Types.{AllLive};
-ghost use Rattle.plir_core.specs.ContextView.{IsLive, IsValueLive};
+ghost use Rattle.plir_core.specs.ContextView.{IsLive};
 ghost use Rattle.plir_core.specs.declared.ptr.IRNode.{IRNode as AnyNode};
 
-use crate::building::build_root;
+use crate::building::{add_op, build_root, last_results};
 use crate::stop::Stop;
-use plir_core::{BasicBlock, Context, Operation, Ptr, Value};
+use plir_core::{BasicBlock, Context, Ptr};
 use plir_data::{BuiltinSet, NoMeaning, OpKind, TypeHandle, UnitType};
 use plir_passes::eliminate_dead_code;
 use std::alloc::Global;
@@ -60,28 +60,7 @@ pub fn add_user(
     ensures { OnOk result (IsLive ctx.new (AnyNode.BasicBlock body)) }
 {
     let operands = last_results(alloc, ctx, body)?;
-    let successors = Vec::new(alloc);
-    let op = Operation::new(alloc, ctx, kind, types, operands, successors, 0)?;
-    op.insert_at_back(ctx, body);
-    Ok(())
-}
-
-// The first result of the last operation of a block, or nothing where there is none.
-fn last_results(
-    alloc: Global,
-    ctx: &Context<BuiltinSet>,
-    body: Ptr<BasicBlock>,
-) -> Result<Vec<Value>, Stop>
-    requires { IsLive ctx.now (AnyNode.BasicBlock body) }
-    ensures { IfOk result (λ vs. All (IsValueLive ctx.now) vs.items) }
-{
-    let mut values = Vec::new(alloc);
-    if let Some(last) = body.get_tail(ctx) {
-        if last.get_num_results(ctx) > 0 {
-            values.push(last.get_result(ctx, 0))?;
-        }
-    }
-    Ok(values)
+    add_op(alloc, ctx, body, kind, types, operands)
 }
 
 // A list of one type, the unit.

@@ -4,6 +4,7 @@ use Rattle.plir_data.specs.declared.op_set.OpSet as op_set
 use Rattle.plir_core.specs.declared.ptr.Ptr.{Ptr}
 use Rattle.plir_core.specs.declared.ptr.Operation.{Operation as OperationKind}
 use Rattle.plir_core.specs.declared.ptr.IRNode.TheVariants.{Operation}
+use Rattle.plir_core.specs.Contents.{OpView}
 use Rattle.plir_core.specs.ContextView.{ContextView}
 use Rattle.plir_read.specs.OpsStanding.{StandsForOp}
 use Rattle.plir_print.specs.OpText.{op_text}
@@ -16,12 +17,12 @@ use Rattle.plir_opt.specs.Verified.{IsVerified}
 -- A text stands for an operation, which with all below it has the rules of its kind; the passes have gone over it, one
 -- after another; and where a text is asked for, what is printed is the operation's text then, and a line feed.
 pub record IsTransformed {D K A T E : Type 0} (o : op_set.Ghosts D K A T E) (effect : K → Bool)
-    (uses_hold : ContextView K A T → Ptr OperationKind → Type 0) (passes : List Pass) (form : Form)
-    (text printed : List ℕ) : Type 0 where
+    (uses_hold : ContextView K A T → Ptr OperationKind → Type 0) (private : OpView K A → Bool)
+    (names : OpView K A → List (List ℕ)) (passes : List Pass) (form : Form) (text printed : List ℕ) : Type 0 where
   pub root : Ptr OperationKind
   pub read : ContextView K A T
   pub left : ContextView K A T
   pub stands : StandsForOp 200 read text (Operation root)
   pub verified : IsVerified o uses_hold read root
-  pub passed : ArePassed effect o.is_terminator root passes read left
+  pub passed : ArePassed effect o.is_terminator o.is_symbol private names root passes read left
   pub prints : form ≡ Text → printed ≡ op_text o left root ++ codes "\n"

@@ -7,6 +7,8 @@ pub enum Pass {
     EraseNames,
     /// Erases dead operations.
     Dce,
+    /// Erases dead symbols of the operation, which is a symbol table.
+    SymbolDce,
 }
 
 /// How an operation is printed.
@@ -18,6 +20,8 @@ pub enum Form {
     Walk,
     /// A graph in DOT.
     View,
+    /// A graph in DOT of the functions, and of who uses which.
+    CallGraph,
 }
 
 /// What a command line asks for.

@@ -12,9 +12,13 @@ const ERASE_NAMES: &str = "erase-names";
 
 const DCE: &str = "dce";
 
+const SYMBOL_DCE: &str = "symbol-dce";
+
 const WALK: &str = "walk";
 
 const VIEW: &str = "view";
+
+const CALL_GRAPH: &str = "call-graph";
 
 const ABOUT: &str =
     "Reads the text of one operation, verifies it, runs passes over it, and prints it";
@@ -44,7 +48,15 @@ fn with_forms<'a>(alloc: Global, command: Command<'a>) -> Result<Command<'a>, Al
         VIEW,
         "Print a graph in DOT: a box for each node, an arrow to each child",
     );
-    command.arg(walk.conflicts_with(VIEW)?)?.arg(view)
+    let call_graph = flag(
+        alloc,
+        CALL_GRAPH,
+        "Print a call graph in DOT: a box for each function, an arrow to each that it uses",
+    );
+    command
+        .arg(walk.conflicts_with(VIEW)?.conflicts_with(CALL_GRAPH)?)?
+        .arg(view.conflicts_with(CALL_GRAPH)?)?
+        .arg(call_graph)
 }
 
 // The passes.
@@ -59,7 +71,12 @@ fn with_passes<'a>(alloc: Global, command: Command<'a>) -> Result<Command<'a>, A
         DCE,
         "Pass: erase what has no effect and whose results nothing uses",
     );
-    command.arg(erase_names)?.arg(dce)
+    let symbol_dce = flag(
+        alloc,
+        SYMBOL_DCE,
+        "Pass: erase private functions and modules right in the module that nothing uses",
+    );
+    command.arg(erase_names)?.arg(dce)?.arg(symbol_dce)
 }
 
 /// The words that the program takes.
@@ -81,13 +98,14 @@ fn flag_of(pass: Pass) -> &'static str {
     match pass {
         Pass::EraseNames => ERASE_NAMES,
         Pass::Dce => DCE,
+        Pass::SymbolDce => SYMBOL_DCE,
     }
 }
 
 // The passes that are asked for, in the order of the command line.
 fn asked_passes(alloc: Global, matches: &ArgMatches<'_>) -> Result<Vec<Pass>, AllocError> {
     let mut asked = Vec::new(alloc);
-    for pass in [Pass::EraseNames, Pass::Dce] {
+    for pass in [Pass::EraseNames, Pass::Dce, Pass::SymbolDce] {
         if matches.get_flag(flag_of(pass)) {
             asked.push((matches.index_of(flag_of(pass)), pass))?;
         }
@@ -102,6 +120,8 @@ fn asked_form(matches: &ArgMatches<'_>) -> Form {
         Form::Walk
     } else if matches.get_flag(VIEW) {
         Form::View
+    } else if matches.get_flag(CALL_GRAPH) {
+        Form::CallGraph
     } else {
         Form::Text
     }

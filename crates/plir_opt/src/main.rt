@@ -1,7 +1,8 @@
-//! Reads the text of one operation, verifies it, runs passes over it, and prints it: as a text, as a list of nodes or
-//! as a graph. So a pass is tried on a text with no program of one's own.
+//! Reads the text of one operation, verifies it, runs passes over it, and prints it: as a text, as a list of nodes, as
+//! a graph or as a call graph. So a pass is tried on a text with no program of one's own.
 #![tactic(auto)]
 
+mod calls;
 mod choices;
 mod command_line;
 mod excerpt;

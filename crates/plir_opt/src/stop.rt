@@ -1,5 +1,5 @@
 //! Why nothing is printed.
-use plir_builtin::OpVerifyErr;
+use plir_builtin::{OpVerifyErr, SymbolTableErr};
 use plir_data::{Location, Memory, VerifyErr};
 use plir_text::{Fault, ReadErr};
 use std::alloc::{AllocError, AllocFailed};
@@ -25,6 +25,11 @@ pub enum Stop<E> {
     Refused {
         loc: Location,
         err: OpVerifyErr<E>,
+    },
+    /// A symbol table is refused, as where the operation is none.
+    #[error("{err}")]
+    NoTable {
+        err: SymbolTableErr,
     },
     /// An operation lacks an attribute that its text tells.
     #[error("an operation lacks an attribute that its text tells")]
@@ -61,6 +66,15 @@ impl<E> From<VerifyErr<OpVerifyErr<E>>> for Stop<E> {
         match error {
             VerifyErr::Refused { loc, err } => Stop::Refused { loc, err },
             VerifyErr::Memory => Stop::OutOfMemory,
+        }
+    }
+}
+
+impl<E> From<SymbolTableErr> for Stop<E> {
+    fn from(error: SymbolTableErr) -> Stop<E> {
+        match error {
+            SymbolTableErr::Memory => Stop::OutOfMemory,
+            err => Stop::NoTable { err },
         }
     }
 }

@@ -23,6 +23,13 @@ const CONSTANT: &str = "builtin.constant <builtin.integer <7: si8>> : builtin.in
 
 const ENDS: &str = "    }\n}\n";
 
+/// Three functions, of which one uses a name that none has, and two are private, one of which nothing uses.
+const CALLS: &str = "builtin.module @m {^b():
+  builtin.func @main: builtin.function <()->()> [calls = builtin.identifier helper, last = builtin.identifier none] {};
+  builtin.func @helper: builtin.function <()->()> [sym_visibility = builtin.string \"private\"] {};
+  builtin.func @dead: builtin.function <()->()>
+    [calls = builtin.identifier helper, sym_visibility = builtin.string \"private\"] {}}";
+
 /// What the words of a command line make of a text.
 fn answer(
     alloc: Global,
@@ -53,9 +60,19 @@ fn expect(
 
 /// A text is refused, and this is told of it.
 fn expect_told(rt: &impl Abort, alloc: Global, text: &[u8], told: &str) -> Result<(), Fail> {
-    let words = ["plir_opt", "--dce"];
+    expect_told_under(rt, alloc, ["plir_opt", "--dce"].as_slice(), text, told)
+}
+
+/// The same under a command line.
+fn expect_told_under(
+    rt: &impl Abort,
+    alloc: Global,
+    words: &[&str],
+    text: &[u8],
+    told: &str,
+) -> Result<(), Fail> {
     let mut found = Vec::new(alloc);
-    match answer(alloc, words.as_slice(), text)? {
+    match answer(alloc, words, text)? {
         Ok(_) => return Err(Fail::from("the text is not refused")),
         Err(stop) => tell(alloc, &mut found, "m.plir", text, &stop)?,
     }
@@ -173,6 +190,98 @@ fn a_graph_has_a_box_for_each_node_and_an_arrow_to_each_child(rt: HostRuntime) -
     )
 }
 
+#[test]
+fn a_private_function_that_nothing_uses_is_erased(rt: HostRuntime) -> Result<(), Fail> {
+    expect(
+        &rt,
+        rt.alloc(),
+        ["plir_opt", "--symbol-dce", "--verify"].as_slice(),
+        CALLS,
+        [
+            MODULE,
+            "  ^b_block1v1():\n    builtin.func @main: builtin.function <()->()> \n",
+            "      [calls = builtin.identifier helper, last = builtin.identifier none]\n    {\n    };\n",
+            "    builtin.func @helper: builtin.function <()->()> \n",
+            "      [sym_visibility = builtin.string \"private\"]\n    {\n    }\n}\n",
+        ]
+        .as_slice(),
+    )
+}
+
+#[test]
+fn private_functions_are_erased_until_each_is_used(rt: HostRuntime) -> Result<(), Fail> {
+    expect(
+        &rt,
+        rt.alloc(),
+        ["plir_opt", "--symbol-dce", "--walk"].as_slice(),
+        "builtin.module @m {^b():
+          builtin.func @last: builtin.function <()->()> [sym_visibility = builtin.string \"private\"] {};
+          builtin.func @first: builtin.function <()->()>
+            [calls = builtin.identifier last, sym_visibility = builtin.string \"private\"] {};
+          builtin.func @itself: builtin.function <()->()>
+            [calls = builtin.identifier itself, sym_visibility = builtin.string \"private\"] {};
+          builtin.func @shown: builtin.function <()->()> [sym_visibility = builtin.string \"public\"] {}}",
+        [
+            "op1v1 builtin.module @m\n  region1v1\n    block1v1\n",
+            "      op4v1 builtin.func @itself\n        region4v1\n",
+            "      op5v1 builtin.func @shown\n        region5v1\n",
+        ]
+        .as_slice(),
+    )
+}
+
+#[test]
+fn symbols_are_erased_in_a_table_alone(rt: HostRuntime) -> Result<(), Fail> {
+    expect_told_under(
+        &rt,
+        rt.alloc(),
+        ["plir_opt", "--symbol-dce"].as_slice(),
+        b"builtin.func @f: builtin.function <()->()> {}",
+        "m.plir: Op does not implement SymbolTableInterface\n",
+    )
+}
+
+#[test]
+fn a_call_graph_has_a_box_for_each_function_and_an_arrow_for_each_use(
+    rt: HostRuntime,
+) -> Result<(), Fail> {
+    expect(
+        &rt,
+        rt.alloc(),
+        ["plir_opt", "--call-graph"].as_slice(),
+        CALLS,
+        [
+            "digraph calls {\n  node [shape=box];\n",
+            "  op2v1 [label=\"op2v1 builtin.func @main\"];\n",
+            "  op3v1 [label=\"op3v1 builtin.func @helper\"];\n",
+            "  op4v1 [label=\"op4v1 builtin.func @dead\"];\n",
+            "  op2v1 -> op3v1;\n  op2v1 -> nothing;\n  op4v1 -> op3v1;\n}\n",
+        ]
+        .as_slice(),
+    )
+}
+
+#[test]
+fn a_call_graph_has_no_box_for_a_module_that_uses_nothing(rt: HostRuntime) -> Result<(), Fail> {
+    expect(
+        &rt,
+        rt.alloc(),
+        ["plir_opt", "--symbol-dce", "--call-graph"].as_slice(),
+        "builtin.module @m {^b():
+          builtin.module @n [starts = builtin.identifier f] {^c():
+            builtin.func @f: builtin.function <()->()> [next = builtin.identifier f] {}};
+          builtin.func @f: builtin.function <()->()> {}}",
+        [
+            "digraph calls {\n  node [shape=box];\n",
+            "  op2v1 [label=\"op2v1 builtin.module @n\"];\n",
+            "  op3v1 [label=\"op3v1 builtin.func @f\"];\n",
+            "  op4v1 [label=\"op4v1 builtin.func @f\"];\n",
+            "  op2v1 -> op3v1;\n  op3v1 -> op3v1;\n}\n",
+        ]
+        .as_slice(),
+    )
+}
+
 /// A command line asks for these passes, without the option to verify behind each, and for a text.
 fn expect_passes(
     rt: &impl Abort,
@@ -202,6 +311,12 @@ fn passes_run_in_the_order_of_the_command_line(rt: HostRuntime) -> Result<(), Fa
         alloc,
         ["plir_opt", "--erase-names", "--dce"].as_slice(),
         [Pass::EraseNames, Pass::Dce].as_slice(),
+    )?;
+    expect_passes(
+        &rt,
+        alloc,
+        ["plir_opt", "--symbol-dce", "--dce"].as_slice(),
+        [Pass::SymbolDce, Pass::Dce].as_slice(),
     )
 }
 
@@ -218,6 +333,11 @@ fn expect_wrong(rt: &impl Abort, alloc: Global, words: &[&str]) -> Result<(), Fa
 fn a_wrong_command_line_is_refused_with_the_status_2(rt: HostRuntime) -> Result<(), Fail> {
     let alloc = rt.alloc();
     expect_wrong(&rt, alloc, ["plir_opt", "--walk", "--view"].as_slice())?;
+    expect_wrong(
+        &rt,
+        alloc,
+        ["plir_opt", "--call-graph", "--view"].as_slice(),
+    )?;
     expect_wrong(&rt, alloc, ["plir_opt", "--dce", "--dce"].as_slice())?;
     expect_wrong(&rt, alloc, ["plir_opt", "m.plir", "n.plir"].as_slice())?;
     expect_wrong(&rt, alloc, ["plir_opt", "--walks", "m.plir"].as_slice())

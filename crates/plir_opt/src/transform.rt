@@ -6,6 +6,7 @@ ghost use Rattle.plir_print.specs.OpText.{op_text};
 ghost use Rattle.plir_opt.specs.Passed.{ArePassed, IsPassed};
 ghost use Rattle.plir_opt.specs.Transformed.{IsTransformed};
 
+use crate::calls::draw_calls;
 use crate::choices::{Choices, Form, Pass};
 use crate::graph::draw;
 use crate::listing::list_nodes;
@@ -16,6 +17,7 @@ use plir_builtin::SymbolUserSet;
 use plir_core::{Context, Operation, Ptr};
 use plir_data::OpSet;
 use plir_passes::EffectSet;
+use plir_symbols::SymbolNames;
 use plir_text::{is_printable, print_op, read_op};
 use std::alloc::Global;
 
@@ -25,14 +27,14 @@ use std::alloc::Global;
 /// # Errors
 ///
 /// The first that holds of these: the bytes are no text, or a text that can't be read; an operation is refused, once
-/// all is read, or behind a pass; one can't be printed; or memory or room for a node is wanting.
-pub fn transform<D: EffectSet + SymbolUserSet>(
+/// all is read, or behind a pass; a symbol table is; one can't be printed; or memory or room for a node is wanting.
+pub fn transform<D: EffectSet + SymbolUserSet + SymbolNames>(
     alloc: Global,
     choices: &Choices,
     bytes: &[u8],
 ) -> Result<String, Stop<D::Err>>
-    ensures { IfOk result (λ t. IsTransformed D.OpSet D.has_effect D.uses_hold choices.now.passes.items choices.now.form
-        bytes.now (string_bytes t)) }
+    ensures { IfOk result (λ t. IsTransformed D.OpSet D.has_effect D.uses_hold D.is_private D.names_used
+        choices.now.passes.items choices.now.form bytes.now (string_bytes t)) }
 {
     match str::from_utf8(bytes) {
         Ok(text) => transform_text::<D>(alloc, choices, text),
@@ -41,13 +43,13 @@ pub fn transform<D: EffectSet + SymbolUserSet>(
 }
 
 // The same of a text.
-fn transform_text<D: EffectSet + SymbolUserSet>(
+fn transform_text<D: EffectSet + SymbolUserSet + SymbolNames>(
     alloc: Global,
     choices: &Choices,
     text: &str,
 ) -> Result<String, Stop<D::Err>>
-    ensures { IfOk result (λ t. IsTransformed D.OpSet D.has_effect D.uses_hold choices.now.passes.items choices.now.form
-        text.now (string_bytes t)) }
+    ensures { IfOk result (λ t. IsTransformed D.OpSet D.has_effect D.uses_hold D.is_private D.names_used
+        choices.now.passes.items choices.now.form text.now (string_bytes t)) }
 {
     let mut ctx = Context::<D>::new(alloc);
     let root = read_op(alloc, &mut ctx, text)?;
@@ -63,7 +65,7 @@ fn transform_text<D: EffectSet + SymbolUserSet>(
 }
 
 // Runs passes, one after another.
-fn run_passes<D: EffectSet + SymbolUserSet>(
+fn run_passes<D: EffectSet + SymbolUserSet + SymbolNames>(
     alloc: Global,
     verify: bool,
     passes: &[Pass],
@@ -72,7 +74,8 @@ fn run_passes<D: EffectSet + SymbolUserSet>(
 ) -> Result<(), Stop<D::Err>>
     requires { IsLive ctx.old (AnyNode.Operation root) }
     ensures live { IsLive ctx.new (AnyNode.Operation root) }
-    ensures passed { OnOk result (ArePassed D.has_effect D.is_terminator root passes.now ctx.old ctx.new) }
+    ensures passed { OnOk result (ArePassed D.has_effect D.is_terminator D.is_symbol D.is_private D.names_used root
+        passes.now ctx.old ctx.new) }
 {
     for pass in passes {
         run_one(alloc, verify, *pass, ctx, root)?;
@@ -81,7 +84,7 @@ fn run_passes<D: EffectSet + SymbolUserSet>(
 }
 
 // Runs a pass, and verifies behind it, if that is asked for.
-fn run_one<D: EffectSet + SymbolUserSet>(
+fn run_one<D: EffectSet + SymbolUserSet + SymbolNames>(
     alloc: Global,
     verify: bool,
     pass: Pass,
@@ -90,9 +93,10 @@ fn run_one<D: EffectSet + SymbolUserSet>(
 ) -> Result<(), Stop<D::Err>>
     requires { IsLive ctx.old (AnyNode.Operation root) }
     ensures live { IsLive ctx.new (AnyNode.Operation root) }
-    ensures passed { IsPassed D.has_effect D.is_terminator root pass ctx.old ctx.new }
+    ensures passed { OnOk result (IsPassed D.has_effect D.is_terminator D.is_symbol D.is_private D.names_used root pass
+        ctx.old ctx.new) }
 {
-    run_pass(pass, ctx, root);
+    run_pass(alloc, pass, ctx, root)?;
     if verify {
         verify_tree(alloc, ctx, root)?;
     }
@@ -100,7 +104,7 @@ fn run_one<D: EffectSet + SymbolUserSet>(
 }
 
 // An operation with all below it, as it is to be printed.
-fn print<D: OpSet>(
+fn print<D: SymbolNames>(
     alloc: Global,
     form: Form,
     ctx: &Context<D>,
@@ -113,6 +117,7 @@ fn print<D: OpSet>(
         Form::Text => print_text(alloc, ctx, root),
         Form::Walk => Ok(list_nodes(alloc, ctx, root)?),
         Form::View => Ok(draw(alloc, ctx, root)?),
+        Form::CallGraph => Ok(draw_calls(alloc, ctx, root)?),
     }
 }
 

@@ -1,8 +1,7 @@
 -- The body of a table, and that it stays where an operation in it is erased.
-use Rattle.std.proofs.Common.{◌≡◌, ◌<◌, ◌≤◌, ◌+◌, ℕ, zero, suc, arith, List, [], ◌∷◌, length, Option, Some, None, inl, refl, sym, ap, subst, ◌∙◌}
+use Rattle.std.proofs.Common.{◌≡◌, ◌<◌, ◌≤◌, ◌+◌, ℕ, zero, suc, arith, List, [], ◌∷◌, Option, Some, None, inl}
+use Rattle.std.proofs.Common.{refl, sym, ap, subst, ◌∙◌}
 use Rattle.std.specs.Prelude.{option_and_then}
-use Rattle.std.specs.List.{flat_map}
-use Rattle.std.proofs.lemmas.List.{length-append}
 use Rattle.std.proofs.lemmas.Option.{none-some, same_Some}
 use Rattle.plir_store.specs.Members.{Has}
 use Rattle.plir_core.specs.declared.ptr.Ptr.{Ptr}
@@ -11,11 +10,11 @@ use Rattle.plir_core.specs.declared.ptr.BasicBlock.{BasicBlock as BasicBlockKind
 use Rattle.plir_core.specs.declared.ptr.IRNode.{IRNode}
 use Rattle.plir_core.specs.declared.ptr.IRNode.TheVariants.{Operation, BasicBlock}
 use Rattle.plir_core.specs.Above.{climb, Reaches}
-use Rattle.plir_core.specs.Erase.{IsErased, post_order, tree_of}
-use Rattle.plir_core.specs.Measures.{depth, most_steps}
-use Rattle.plir_core.specs.Nodes.{Nodes, node_children}
+use Rattle.plir_core.specs.Erase.{IsErased}
+use Rattle.plir_core.specs.Measures.{depth}
 use Rattle.plir_core.specs.Standing.{IsStanding}
-use Rattle.plir_core.specs.ContextView.{ContextView, IsLive, children, num_live, parent_of}
+use Rattle.plir_core.specs.ContextView.{ContextView, IsLive, children, parent_of}
+use Rattle.plir_walk.specs.NodeLaws.{climb-nothing}
 use Rattle.plir_builtin.specs.Symbols.{body, only}
 
 only-is : {X : Type 0} (xs : List X) (x : X) → only xs ≡ Some x → xs ≡ x ∷ []
@@ -23,54 +22,48 @@ only-is [] x e = absurd (none-some x e)
 only-is (y ∷ []) x e = ap (λ z. z ∷ []) (same_Some y x e)
 only-is (y ∷ z ∷ xs) x e = absurd (none-some x e)
 
--- nothing is above nothing
-climb-nothing : {N : Type 0} (up : N → Option N) (k : ℕ) (a : N) → climb up k None ≡ Some a → ⊥
-climb-nothing up zero a e = none-some a e
-climb-nothing up (suc k) a e = none-some a e
-
--- an erased tree has a node at least
-tree-some : {O B : Type 0} (s : Nodes O B) (n : IRNode) → 0 < length (tree_of s n)
-tree-some s n = go (most_steps s) (omega arith)
-  where
-    go : (k : ℕ) → 0 < k → 0 < length (post_order (node_children s) k n)
-    go zero h = absurd (omega (arith, h))
-    go (suc k) h = (let e = length-append (flat_map (post_order (node_children s) k) (node_children s n)) (n ∷ []) in omega (arith, e))
-
 module _ {K A T : Type 0} where
-  pub fewer-erased : (s t : ContextView K A T) (n : IRNode) → IsErased s.nodes t.nodes n → num_live t < num_live s
-  fewer-erased s t n e = omega (arith, e.count, tree-some s.nodes n)
-
   -- the table has one region, which has one block
   pub record IsBody (s : ContextView K A T) (table : Ptr OperationKind) (b : IRNode) : Type 0 where
     pub region : IRNode
     pub one : children s (Operation table) ≡ region ∷ []
     pub block : children s region ≡ b ∷ []
 
-  pub body-is : (s : ContextView K A T) (table : Ptr OperationKind) (b : IRNode) → body s table ≡ Some b → IsBody s table b
+  pub body-is : (s : ContextView K A T) (table : Ptr OperationKind) (b : IRNode) → body s table ≡ Some b
+      → IsBody s table b
   body-is s table b e = at (only (children s (Operation table))) refl e
     where
-      at : (o : Option IRNode) → only (children s (Operation table)) ≡ o → option_and_then (λ r. only (children s r)) o ≡ Some b → IsBody s table b
+      at : (o : Option IRNode) → only (children s (Operation table)) ≡ o
+          → option_and_then (λ r. only (children s r)) o ≡ Some b → IsBody s table b
       at None q e = absurd (none-some b e)
-      at (Some r) q e = record { region = r; one = only-is (children s (Operation table)) r q; block = only-is (children s r) b e }
+      at (Some r) q e =
+          record { region = r; one = only-is (children s (Operation table)) r q; block = only-is (children s r) b e }
 
   is-body : (s : ContextView K A T) (table : Ptr OperationKind) (b : IRNode) → IsBody s table b → body s table ≡ Some b
   is-body s table b h = ap (λ z. option_and_then (λ r. only (children s r)) (only z)) h.one ∙ ap only h.block
 
   -- and that is live
-  pub body-live : (s : ContextView K A T) (table : Ptr OperationKind) (b : IRNode) → IsStanding s → body s table ≡ Some b → IsLive s b
-  body-live s table b w e = (let i = body-is s table b e in w.forest.child_live i.region b (subst (λ z. Has z b) (sym i.block) (inl refl)))
+  pub body-live : (s : ContextView K A T) (table : Ptr OperationKind) (b : IRNode) → IsStanding s
+      → body s table ≡ Some b → IsLive s b
+  body-live s table b w e =
+      (let i = body-is s table b e in w.forest.child_live i.region b (subst (λ z. Has z b) (sym i.block) (inl refl)))
 
   -- from a node up there are no fewer nodes above
-  shallower : (s : ContextView K A T) → IsStanding s → (k : ℕ) (m n : IRNode) → climb (parent_of s) k (Some m) ≡ Some n → depth s n ≤ depth s m
+  shallower : (s : ContextView K A T) → IsStanding s → (k : ℕ) (m n : IRNode) → climb (parent_of s) k (Some m) ≡ Some n
+      → depth s n ≤ depth s m
   shallower s w zero m n e = subst (λ z. depth s n ≤ depth s z) (sym (same_Some m n e)) (omega arith)
   shallower s w (suc k) m n e = at (λ a g. shallower s w k a n g) (parent_of s m) refl
     where
-      at : ((a : IRNode) → climb (parent_of s) k (Some a) ≡ Some n → depth s n ≤ depth s a) → (p : Option IRNode) → parent_of s m ≡ p → depth s n ≤ depth s m
+      at : ((a : IRNode) → climb (parent_of s) k (Some a) ≡ Some n → depth s n ≤ depth s a) → (p : Option IRNode)
+          → parent_of s m ≡ p → depth s n ≤ depth s m
       at rest None f = absurd (climb-nothing (parent_of s) k n (ap (climb (parent_of s) k) (sym f) ∙ e))
-      at rest (Some a) f = let i = rest a (ap (climb (parent_of s) k) (sym f) ∙ e) in let d = w.measured.deeper a m f in omega (arith, i, d)
+      at rest (Some a) f =
+          let i = rest a (ap (climb (parent_of s) k) (sym f) ∙ e) in let d = w.measured.deeper a m f in
+          omega (arith, i, d)
 
   -- an operation p in the body b of a table was erased
-  module _ (s t : ContextView K A T) (w : IsStanding s) (table p : Ptr OperationKind) (b : Ptr BasicBlockKind) (at_body : body s table ≡ Some (BasicBlock b)) (over : parent_of s (Operation p) ≡ Some (BasicBlock b))
+  module _ (s t : ContextView K A T) (w : IsStanding s) (table p : Ptr OperationKind) (b : Ptr BasicBlockKind)
+      (at_body : body s table ≡ Some (BasicBlock b)) (over : parent_of s (Operation p) ≡ Some (BasicBlock b))
       (e : IsErased s.nodes t.nodes (Operation p)) where
     here : IsBody s table (BasicBlock b)
     here = body-is s table (BasicBlock b) at_body
@@ -79,10 +72,14 @@ module _ {K A T : Type 0} where
     below-block = w.measured.deeper (BasicBlock b) (Operation p) over
 
     below-region : depth s (BasicBlock b) ≡ depth s here.region + 1
-    below-region = w.measured.deeper here.region (BasicBlock b) (w.forest.child_parent here.region (BasicBlock b) (subst (λ z. Has z (BasicBlock b)) (sym here.block) (inl refl)))
+    below-region =
+        w.measured.deeper here.region (BasicBlock b) (w.forest.child_parent here.region (BasicBlock b)
+        (subst (λ z. Has z (BasicBlock b)) (sym here.block) (inl refl)))
 
     below-table : depth s here.region ≡ depth s (Operation table) + 1
-    below-table = w.measured.deeper (Operation table) here.region (w.forest.child_parent (Operation table) here.region (subst (λ z. Has z here.region) (sym here.one) (inl refl)))
+    below-table =
+        w.measured.deeper (Operation table) here.region
+        (w.forest.child_parent (Operation table) here.region (subst (λ z. Has z here.region) (sym here.one) (inl refl)))
 
     apart : (m : IRNode) → depth s m < depth s (Operation p) → Reaches (parent_of s) m (Operation p) → ⊥
     apart m less r = (let d = shallower s w r.0 m (Operation p) r.1 in let z : ⊥ = omega (arith, d, less) in z)
@@ -90,10 +87,12 @@ module _ {K A T : Type 0} where
     children-still : (m : IRNode) → depth s m < depth s (BasicBlock b) → children t m ≡ children s m
     children-still m less =
         e.children m (apart m (omega (arith, less, below-block)))
-        (λ q. (let d = ap (depth s) (same_Some (BasicBlock b) m (sym over ∙ q)) in let z : ⊥ = omega (arith, d, less) in z))
+        (λ q. (let d = ap (depth s) (same_Some (BasicBlock b) m (sym over ∙ q)) in let z : ⊥ = omega (arith, d, less) in
+        z))
 
     pub live-still : IsLive s (Operation table) → IsLive t (Operation table)
-    live-still l = e.live (Operation table) (apart (Operation table) (omega (arith, below-block, below-region, below-table))) ∙ l
+    live-still l =
+        e.live (Operation table) (apart (Operation table) (omega (arith, below-block, below-region, below-table))) ∙ l
 
     pub body-still : body t table ≡ Some (BasicBlock b)
     body-still = is-body t table (BasicBlock b) (record {

@@ -22,7 +22,7 @@ use Rattle.plir_builtin.specs.Refusals.{Refusal, IsTableRefusal, reported}
 use Rattle.plir_builtin.specs.Table.{Tables}
 use Rattle.plir_symbols.specs.declared.call_edges.CallEdge.{CallEdge}
 use Rattle.plir_symbols.specs.SymbolNames.{names_in}
-use Rattle.plir_symbols.specs.CallGraph.{AreEdges, AreUsers, IsEdge, IsUser, IsGraphRefused, IsNearestRefused, uses_by}
+use Rattle.plir_symbols.specs.CallGraph.{AreEdges, AreUsers, IsEdge, IsUser, IsGraphRefusal, IsUserRefusal, uses_by}
 use Rattle.plir_symbols.specs.CallGraph.{uses_of}
 use Rattle.plir_symbols.specs.Calling.{AreEdgesPut}
 
@@ -107,7 +107,7 @@ module _ {K A T : Type 0} (own own_table : K → Bool) (s : ContextView K A T) w
 
   -- a refusal of the nearest table, of which none is cached
   pub nearest-refused : (c : Tables) (p : Ptr OperationKind) (err : SymbolTableErr) →
-      IsNearestRefusal own own_table s c p err → IsNearestRefused own own_table s p err
+      IsNearestRefusal own own_table s c p err → IsUserRefusal own own_table s p err
   nearest-refused c p err h = at (reported err) h.3
     where
       at : (o : Option Refusal) → IfSome o (IsTableRefusal own own_table s h.0) →
@@ -117,7 +117,7 @@ module _ {K A T : Type 0} (own own_table : K → Bool) (s : ContextView K A T) w
       at (Some r) k = (h.0, h.1, k)
 
   pub graph-refused : (names : OpView K A → List (List ℕ)) (root p : Ptr OperationKind) (err : SymbolTableErr) →
-      IsUser names s root p → IsNearestRefused own own_table s p err → IsGraphRefused own own_table names s root err
+      IsUser names s root p → IsUserRefusal own own_table s p err → IsGraphRefusal own own_table names s root err
   graph-refused names root p err user h = at (reported err) h
     where
       at : (o : Option Refusal) → IfSome o (λ r. (t : Ptr OperationKind) × IsNearest own_table s p (Some t) ×

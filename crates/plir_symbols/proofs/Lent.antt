@@ -21,7 +21,8 @@ some-is None h = absurd (true≢false (sym h))
 some-is (Some x) h = (x, refl)
 
 -- The table `tab` is lent for p out of the tables c, the context goes from s to t, and the table to u.
-module _ {K A T : Type 0} (own own_table : K → Bool) (s : ContextView K A T) (c : Tables) (p : Ptr OperationKind) (tab : Table) (lent : AgreesAsLent own own_table s c p tab) where
+module _ {K A T : Type 0} (own own_table : K → Bool) (s : ContextView K A T) (c : Tables) (p : Ptr OperationKind)
+    (tab : Table) (lent : AgreesAsLent own own_table s c p tab) where
   -- it is ready
   pub lent-ready : IsLive s (Operation p) → (tab.op ≡ p) × IsLive s (Operation tab.op) × IsSome (body s tab.op)
   lent-ready l = (lent.0, subst (λ q. IsLive s (Operation q)) (sym lent.0) l, lent.1.good.body)
@@ -37,18 +38,23 @@ module _ {K A T : Type 0} (own own_table : K → Bool) (s : ContextView K A T) (
       pub kept-agree : AllAgree own own_table t n
       kept-agree =
           subst (AllAgree own own_table t) (sym put)
-          (subst (λ q. AllAgree own own_table t (insert c q u)) lent.0 (kept.all_agree c (subst (λ q. AllAgree own own_table s (insert c q tab)) (sym lent.0) lent.2)))
+          (subst (λ q. AllAgree own own_table t (insert c q u)) lent.0
+          (kept.all_agree c (subst (λ q. AllAgree own own_table s (insert c q tab)) (sym lent.0) lent.2)))
 
 -- What was given out: by the table's own operation alone.
-module _ {K A T : Type 0} (own own_table : K → Bool) (s : ContextView K A T) (c : Tables) (p : Ptr OperationKind) (tab : Table) (is : tab.op ≡ p) (t : ContextView K A T) (u : Table) (kept : IsTableKept own own_table s tab t u) where
+module _ {K A T : Type 0} (own own_table : K → Bool) (s : ContextView K A T) (c : Tables) (p : Ptr OperationKind)
+    (tab : Table) (is : tab.op ≡ p) (t : ContextView K A T) (u : Table)
+    (kept : IsTableKept own own_table s tab t u) where
   pub kept-given : (n : Tables) → n ≡ insert c p u → AreGivenOut s (insert c p tab) → AreGivenOut t n
   kept-given n put given =
       subst (AreGivenOut t) (sym put)
-      (subst (λ q. AreGivenOut t (insert c q u)) is (kept.given c (subst (λ q. AreGivenOut s (insert c q tab)) (sym is) given)))
+      (subst (λ q. AreGivenOut t (insert c q u)) is
+      (kept.given c (subst (λ q. AreGivenOut s (insert c q tab)) (sym is) given)))
 
 -- scans of a good table, where its body stayed
 module _ {K A T : Type 0} (own own_table : K → Bool) (s t : ContextView K A T) (p : Ptr OperationKind) where
-  pub good-scans : IsThinned s t → IsStanding t → body t p ≡ body s p → IsGood own own_table s p → AreScansLeft own s p t
+  pub good-scans : IsThinned s t → IsStanding t → body t p ≡ body s p → IsGood own own_table s p
+      → AreScansLeft own s p t
   good-scans thin wt same good =
       let b = some-is (body s p) good.body in
       scans-left own s t p b.0 thin b.1 (same ∙ b.1) (body-live t p b.0 wt (same ∙ b.1)) good.apart

@@ -2,7 +2,6 @@ pub mod NameSets
 pub mod NamesWalked
 pub mod Thinning
 pub mod Bodies
-pub mod Rest
 pub mod Erasing
 pub mod Going
 pub mod SweepLoop
@@ -10,3 +9,4 @@ pub mod Scans
 pub mod Lent
 pub mod UsersWalked
 pub mod Edges
+pub mod HeldNames

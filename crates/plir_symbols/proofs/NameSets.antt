@@ -9,7 +9,8 @@ use Rattle.std.specs.declared.cmp.Ordering.{Ordering}
 use Rattle.std.specs.declared.cmp.Ordering.TheVariants.{Less, Equal, Greater}
 use Rattle.std.specs.Cmp.{eq_by_cmp_equiv}
 use Rattle.std.specs.Cmp.Lexicographic.{slice_cmp, pointwise, texts_ties}
-use Rattle.std.specs.FinSet.{contains, insert, from_list, contains-insert, contains-from_list, same_set, IsAntisymmetric, slice_cmp-IsAntisymmetric, nat_cmp-IsAntisymmetric}
+use Rattle.std.specs.FinSet.{contains, insert, from_list, contains-insert, contains-from_list, same_set}
+use Rattle.std.specs.FinSet.{IsAntisymmetric, slice_cmp-IsAntisymmetric, nat_cmp-IsAntisymmetric}
 use Rattle.std.proofs.lemmas.Cmp.{nat_list_cmp_total}
 use Rattle.plir_store.specs.Members.{Has}
 use Rattle.plir_symbols.specs.SymbolNames.{NameSet, with_names, IsAmong}
@@ -38,10 +39,13 @@ cond-or true c = refl
 cond-or false c = refl
 
 -- a key is put in
-pub put-seen : (ks ls : List (List ℕ)) (k : List ℕ) → ((q : List ℕ) → list_any (name_eq q) ls ≡ cond (name_eq k q) true (list_any (name_eq q) ks)) → seen ls ≡ insert (seen ks) k
+pub put-seen : (ks ls : List (List ℕ)) (k : List ℕ)
+    → ((q : List ℕ) → list_any (name_eq q) ls ≡ cond (name_eq k q) true (list_any (name_eq q) ks))
+    → seen ls ≡ insert (seen ks) k
 put-seen ks ls k h =
     same_set nat_list_cmp_total name_one _ _
-    (λ q. has-seen ls q ∙ h q ∙ (λ i. cond (turned k q i) true (sym (has-seen ks q) i)) ∙ cond-or (ties q k) (contains (seen ks) q) ∙ sym (contains-insert nat_list_cmp_total (seen ks) k q))
+    (λ q. has-seen ls q ∙ h q ∙ (λ i. cond (turned k q i) true (sym (has-seen ks q) i))
+    ∙ cond-or (ties q k) (contains (seen ks) q) ∙ sym (contains-insert nat_list_cmp_total (seen ks) k q))
 
 tied : (o : Ordering) → is_eq o ≡ true → o ≡ Equal
 tied Less e = absurd (true≢false (sym e))
@@ -70,9 +74,11 @@ or-left false c e = absurd (true≢false (sym e))
 pub with-more : (u : NameSet) (xs : List (List ℕ)) (x : List ℕ) → IsAmong u x ⊎ Has xs x → IsAmong (with_names u xs) x
 with-more u [] x (inl g) = g
 with-more u [] x (inr h) = absurd h
-with-more u (y ∷ ys) x (inl g) = with-more (insert u y) ys x (inl (contains-insert nat_list_cmp_total u y x ∙ or-right (ties x y) (contains u x) g))
+with-more u (y ∷ ys) x (inl g) =
+    with-more (insert u y) ys x (inl (contains-insert nat_list_cmp_total u y x ∙ or-right (ties x y) (contains u x) g))
 with-more u (y ∷ ys) x (inr (inl e)) =
-    with-more (insert u y) ys x (inl (contains-insert nat_list_cmp_total u y x ∙ or-left (ties x y) (contains u x) (subst (λ z. ties x z ≡ true) (sym e) (ties-itself x))))
+    with-more (insert u y) ys x (inl (contains-insert nat_list_cmp_total u y x
+    ∙ or-left (ties x y) (contains u x) (subst (λ z. ties x z ≡ true) (sym e) (ties-itself x))))
 with-more u (y ∷ ys) x (inr (inr h)) = with-more (insert u y) ys x (inr h)
 
 pub with-has : (u : NameSet) (xs : List (List ℕ)) (x : List ℕ) → IsAmong (with_names u xs) x → IsAmong u x ⊎ Has xs x

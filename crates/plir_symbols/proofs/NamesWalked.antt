@@ -1,5 +1,5 @@
 -- What a walk puts into a set, where each call at an operation puts the names in that the operation uses.
-use Rattle.std.proofs.Common.{◌≡◌, ◌≢◌, ℕ, true, true≢false, List, [], ◌∷◌, ◌⊎◌, inl, inr, refl, sym, subst, ◌∙◌}
+use Rattle.std.proofs.Common.{◌≡◌, ◌≢◌, ℕ, true≢false, List, [], ◌∷◌, ◌⊎◌, inl, inr, refl, sym, subst, ◌∙◌}
 use Rattle.std.specs.FinSet.{empty, contains-empty}
 use Rattle.std.specs.Ordering.{nat_cmp}
 use Rattle.std.specs.Cmp.Lexicographic.{slice_cmp}
@@ -21,14 +21,14 @@ use Rattle.plir_walk.specs.CallLaws.{chain-each}
 use Rattle.plir_walk.specs.OperationWalks.{OperationRelation, AtOperations, WalkedOperations, OperationAnswers}
 use Rattle.plir_walk.specs.TreeLaws.{reached-under, under-reached}
 use Rattle.plir_walk.specs.Walked.{IsCallUnder}
+use Rattle.plir_walk.specs.NodeLaws.{same-op}
 use Rattle.plir_symbols.specs.SymbolNames.{NameSet, with_names, names_in, IsAmong, AreUsedNames, IsRecorded}
 use Rattle.plir_symbols.proofs.NameSets.{with-more, with-has}
 
-same-op : (p q : Ptr OperationKind) → Operation p ≡ Operation q → p ≡ q
-same-op p q e = cc e
-
-module _ {K A T B : Type 0} (names : OpView K A → List (List ℕ)) (s : ContextView K A T) (table : Ptr OperationKind) (post : OperationRelation (ContextView K A T) NameSet B)
-    (each : (c : ContextView K A T) (u : NameSet) (p : Ptr OperationKind) (a : ControlFlow B WalkContinue) (c' : ContextView K A T) (u' : NameSet) → post c u p a c' u' → (c' ≡ c) × IsRecorded names c u p a u') where
+module _ {K A T B : Type 0} (names : OpView K A → List (List ℕ)) (s : ContextView K A T) (table : Ptr OperationKind)
+    (post : OperationRelation (ContextView K A T) NameSet B)
+    (each : (c : ContextView K A T) (u : NameSet) (p : Ptr OperationKind) (a : ControlFlow B WalkContinue)
+    (c' : ContextView K A T) (u' : NameSet) → post c u p a c' u' → (c' ≡ c) × IsRecorded names c u p a u') where
   abbrev OneCall : Type 0
   OneCall = Call (ContextView K A T) NameSet B
 
@@ -42,19 +42,23 @@ module _ {K A T B : Type 0} (names : OpView K A → List (List ℕ)) (s : Contex
     pub stays : x.after ≡ x.before
     pub put : x.left ≡ with_names x.state (names_in names (op_at x.before op))
 
-  advanced : (c : ContextView K A T) (u : NameSet) (p : Ptr OperationKind) (a : ControlFlow B WalkContinue) (u' : NameSet) → IsRecorded names c u p a u' → ((b : B) → a ≢ Break b) → u' ≡ with_names u (names_in names (op_at c p))
+  advanced : (c : ContextView K A T) (u : NameSet) (p : Ptr OperationKind) (a : ControlFlow B WalkContinue)
+      (u' : NameSet) → IsRecorded names c u p a u' → ((b : B) → a ≢ Break b)
+      → u' ≡ with_names u (names_in names (op_at c p))
   advanced c u p (Continue Advance) u' h k = h
   advanced c u p (Continue Skip) u' h k = absurd h
   advanced c u p (Break b) u' h k = absurd (k b refl)
 
-  done-at : (x : OneCall) (n : IRNode) → x.node ≡ n → AtOperations post x.before x.state n x.answer x.after x.left → ((b : B) → x.answer ≢ Break b) → IsDone x
+  done-at : (x : OneCall) (n : IRNode) → x.node ≡ n → AtOperations post x.before x.state n x.answer x.after x.left
+      → ((b : B) → x.answer ≢ Break b) → IsDone x
   done-at x (Operation p) e h k =
       let f = each x.before x.state p x.answer x.after x.left h in
       record { op = p; node = e; stays = f.0; put = advanced x.before x.state p x.answer x.left f.1 k }
   done-at x (Region p) e h k = absurd h
   done-at x (BasicBlock p) e h k = absurd h
 
-  no-skip : (c : ContextView K A T) (u : NameSet) (n : IRNode) (a : ControlFlow B WalkContinue) (c' : ContextView K A T) (u' : NameSet) → AtOperations post c u n a c' u' → a ≡ Continue Skip → ⊥
+  no-skip : (c : ContextView K A T) (u : NameSet) (n : IRNode) (a : ControlFlow B WalkContinue) (c' : ContextView K A T)
+      (u' : NameSet) → AtOperations post c u n a c' u' → a ≡ Continue Skip → ⊥
   no-skip c u (Operation p) a c' u' h e = subst (λ z. IsRecorded names c u p z u') e (each c u p a c' u' h).1
   no-skip c u (Region p) a c' u' h e = h
   no-skip c u (BasicBlock p) a c' u' h e = h
@@ -63,10 +67,12 @@ module _ {K A T B : Type 0} (names : OpView K A → List (List ℕ)) (s : Contex
   abbrev IsPut : List OneCall → List ℕ → Type 0
   IsPut calls x = (p : Ptr OperationKind) × Has (nodes_of calls) (Operation p) × Has (names_in names (op_at s p)) x
 
-  left-by : (y : OneCall) (u : NameSet) (d : IsDone y) → y.before ≡ s → y.state ≡ u → y.left ≡ with_names u (names_in names (op_at s d.op))
+  left-by : (y : OneCall) (u : NameSet) (d : IsDone y) → y.before ≡ s → y.state ≡ u
+      → y.left ≡ with_names u (names_in names (op_at s d.op))
   left-by y u d e f = d.put ∙ (λ i. with_names (f i) (names_in names (op_at (e i) d.op)))
 
-  put-all : (calls : List OneCall) (c : ContextView K A T) (u : NameSet) (c' : ContextView K A T) (u' : NameSet) → c ≡ s → Chain call c u calls c' u' → NoBreak calls → (x : List ℕ) → IsAmong u x ⊎ IsPut calls x → IsAmong u' x
+  put-all : (calls : List OneCall) (c : ContextView K A T) (u : NameSet) (c' : ContextView K A T) (u' : NameSet) → c ≡ s
+      → Chain call c u calls c' u' → NoBreak calls → (x : List ℕ) → IsAmong u x ⊎ IsPut calls x → IsAmong u' x
   put-all [] c u c' u' e h k x (inl g) = subst (λ z. IsAmong z x) (sym h.1) g
   put-all [] c u c' u' e h k x (inr g) = absurd g.1
   put-all (y ∷ ys) c u c' u' e h k x i =
@@ -82,7 +88,8 @@ module _ {K A T B : Type 0} (names : OpView K A → List (List ℕ)) (s : Contex
         ]
       ])
 
-  all-put : (calls : List OneCall) (c : ContextView K A T) (u : NameSet) (c' : ContextView K A T) (u' : NameSet) → c ≡ s → Chain call c u calls c' u' → NoBreak calls → (x : List ℕ) → IsAmong u' x → IsAmong u x ⊎ IsPut calls x
+  all-put : (calls : List OneCall) (c : ContextView K A T) (u : NameSet) (c' : ContextView K A T) (u' : NameSet) → c ≡ s
+      → Chain call c u calls c' u' → NoBreak calls → (x : List ℕ) → IsAmong u' x → IsAmong u x ⊎ IsPut calls x
   all-put [] c u c' u' e h k x i = inl (subst (λ z. IsAmong z x) h.1 i)
   all-put (y ∷ ys) c u c' u' e h k x i =
       let d = done-at y y.node refl h.2.made k.0 in
@@ -100,10 +107,12 @@ module _ {K A T B : Type 0} (names : OpView K A → List (List ℕ)) (s : Contex
   none-empty u x e h = true≢false (sym (subst (λ z. IsAmong z x) e h) ∙ contains-empty (slice_cmp nat_cmp) x)
 
   -- a walk that began with no name and went to its end has put those in that are used
-  pub walked-names : (w : WalkConfig) (answer : ControlFlow B WalkContinue) (k : WalkContinue) → answer ≡ Continue k → (u u' : NameSet) → u ≡ empty → IsForest (look s)
+  pub walked-names : (w : WalkConfig) (answer : ControlFlow B WalkContinue) (k : WalkContinue) → answer ≡ Continue k
+      → (u u' : NameSet) → u ≡ empty → IsForest (look s)
       → WalkedOperations look w post s u (Operation table) answer u' → AreUsedNames names s table u'
   walked-names w answer k is u u' none forest walked =
-      let answers = subst (λ z. OperationAnswers w (look s).children (Operation table) walked.calls z) is walked.walk.answers in
+      let answers =
+      subst (λ z. OperationAnswers w (look s).children (Operation table) walked.calls z) is walked.walk.answers in
       record {
         recorded = λ x i.
             (let under = reached-under (look s) forest i.below.0 (Operation i.user) (Operation table) i.below.1 in
@@ -111,21 +120,26 @@ module _ {K A T B : Type 0} (names : OpView K A → List (List ℕ)) (s : Contex
               under,
               λ shut.
                   (let y = shut.skipped in
-                  no-skip y.0.before y.0.state y.0.node y.0.answer y.0.after y.0.left (chain-each call s u walked.calls s u' walked.chain y.0 y.1).made y.3),
+                  no-skip y.0.before y.0.state y.0.node y.0.answer y.0.after y.0.left
+                  (chain-each call s u walked.calls s u' walked.chain y.0 y.1).made y.3),
             ) refl in
             put-all walked.calls s u s u' refl walked.chain answers.1 x (inr (i.user, called, i.uses)));
         used = λ x i. elim (all-put walked.calls s u s u' refl walked.chain answers.1 x i) [
           | inl g ↦ absurd (none-empty u x none g)
           | inr g ↦ record {
             user = g.0;
-            below = under-reached (look s) forest (Operation g.0) (Operation table) ((answers.2 (Operation g.0)).0 g.1).0.0;
+            below =
+                under-reached (look s) forest (Operation g.0) (Operation table) ((answers.2 (Operation g.0)).0 g.1).0.0;
             uses = g.2;
           }
         ];
       }
 
 -- what is said of equal contexts and sets
-pub recorded-again : {K A T B : Type 0} (names : OpView K A → List (List ℕ)) {c d : ContextView K A T} {u v u' v' : NameSet} (p : Ptr OperationKind) (a : ControlFlow B WalkContinue) → (c ≡ d) × (u ≡ v) → u' ≡ v'
+pub recorded-again : {K A T B : Type 0}
+    (names : OpView K A → List (List ℕ)) {c d : ContextView K A T} {u v u' v' : NameSet} (p : Ptr OperationKind)
+    (a : ControlFlow B WalkContinue) → (c ≡ d) × (u ≡ v) → u' ≡ v'
     → IsRecorded names c u p a u' → IsRecorded names d v p a v'
 recorded-again names {c} {d} {u} {v} {u'} {v'} p a shows leaves h =
-    subst (λ z. IsRecorded names d v p a z) leaves (subst (λ z. IsRecorded names d z p a u') shows.1 (subst (λ z. IsRecorded names z u p a u') shows.0 h))
+    subst (λ z. IsRecorded names d v p a z) leaves
+    (subst (λ z. IsRecorded names d z p a u') shows.1 (subst (λ z. IsRecorded names z u p a u') shows.0 h))

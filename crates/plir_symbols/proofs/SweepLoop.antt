@@ -1,8 +1,10 @@
 -- The loop over the symbols of a body, and the loop of rounds.
-use Rattle.std.proofs.Common.{◌≡◌, ◌<◌, ◌≤◌, ℕ, suc, arith, Bool, true, false, List, [], ◌∷◌, ◌++◌, length, Option, Some, None, option_map, inl, inr, refl, sym, ap, subst, ◌∙◌}
-use Rattle.std.proofs.lemmas.List.{append_assoc}
+use Rattle.std.proofs.Common.{◌≡◌, ◌<◌, ◌≤◌, ℕ, suc, arith, Bool, true, false, List, [], ◌∷◌, ◌++◌, length, Option}
+use Rattle.std.proofs.Common.{Some, None, option_map, inl, inr, refl, sym, ap, subst, ◌∙◌}
+use Rattle.std.proofs.lemmas.List.{append_assoc, append-nil}
 use Rattle.plir_store.specs.Members.{Has, Distinct, head}
 use Rattle.plir_store.specs.MemberLaws.{Has-append_cases, Has-mid}
+use Rattle.plir_store.specs.FilterLaws.{not-both}
 use Rattle.plir_core.specs.declared.ptr.Ptr.{Ptr}
 use Rattle.plir_core.specs.declared.ptr.Operation.{Operation as OperationKind}
 use Rattle.plir_core.specs.declared.ptr.BasicBlock.{BasicBlock as BasicBlockKind}
@@ -12,30 +14,22 @@ use Rattle.plir_core.specs.Contents.{OpView}
 use Rattle.plir_core.specs.ContextView.{ContextView, IsLive, children, num_live, parent_of}
 use Rattle.plir_core.specs.Standing.{IsStanding}
 use Rattle.plir_walk.specs.Thinned.{IsThinned, ErasuresThin}
+use Rattle.plir_walk.specs.NodeLaws.{left_from, same-op, left-cut, headed, ended, fewer-erased}
 use Rattle.plir_builtin.specs.Table.{Table}
 use Rattle.plir_builtin.specs.Symbols.{body, children_in}
 use Rattle.plir_symbols.specs.SymbolNames.{NameSet, IsAmong, AreUsedNames}
 use Rattle.plir_symbols.specs.DeadSymbols.{MayGo, IsDead, HasNoDead}
 use Rattle.plir_symbols.specs.SweptSymbols.{AreSwept}
 use Rattle.plir_symbols.specs.Sweeping.{IsTableKept, IsSweptAt, IsRound}
-use Rattle.plir_symbols.proofs.Bodies.{fewer-erased, live-still, body-still}
+use Rattle.plir_symbols.proofs.Bodies.{live-still, body-still}
 use Rattle.plir_symbols.proofs.Erasing.{swept-none, swept-one, swept-both, kept-none, kept-both}
-use Rattle.plir_symbols.proofs.Rest.{left_from, left-cut, headed, ended}
 use Rattle.plir_symbols.proofs.Thinning.{used-before}
 
-not-both : (b : Bool) → b ≡ true → b ≡ false → ⊥
-not-both b h k = (let z : ⊥ = cc (h, k) in z)
-
-append-none : (xs : List IRNode) → xs ++ [] ≡ xs
-append-none [] = refl
-append-none (x ∷ xs) = ap (λ z. x ∷ z) (append-none xs)
-
-same-op : (p q : Ptr OperationKind) → Operation p ≡ Operation q → p ≡ q
-same-op p q e = cc e
-
-module _ {K A T : Type 0} (own own_table : K → Bool) (is_private : OpView K A → Bool) (names : OpView K A → List (List ℕ)) where
+module _ {K A T : Type 0} (own own_table : K → Bool) (is_private : OpView K A → Bool)
+    (names : OpView K A → List (List ℕ)) where
   -- From the start of the loop in s to s', the symbols of the body b before `at` may not go, if nothing was erased.
-  pub record IsSweeping (s : ContextView K A T) (c : Table) (b : Ptr BasicBlockKind) (u : NameSet) (s' : ContextView K A T) (c' : Table) (erased : Bool) (at : Option (Ptr OperationKind)) : Type 0 where
+  pub record IsSweeping (s : ContextView K A T) (c : Table) (b : Ptr BasicBlockKind) (u : NameSet)
+      (s' : ContextView K A T) (c' : Table) (erased : Bool) (at : Option (Ptr OperationKind)) : Type 0 where
     pub swept : AreSwept own is_private names s c.op s'
     pub kept : IsTableKept own own_table s c s' c'
     pub standing : IsStanding s'
@@ -45,13 +39,28 @@ module _ {K A T : Type 0} (own own_table : K → Bool) (is_private : OpView K A 
     pub back : List IRNode
     pub split : children s' (BasicBlock b) ≡ front ++ back
     pub here : option_map Operation at ≡ head back
-    pub clear : erased ≡ false → (s' ≡ s) × (c' ≡ c) × ((p : Ptr OperationKind) → Has front (Operation p) → MayGo own is_private s' (IsAmong u) p → ⊥)
+    pub clear : erased ≡ false → (s' ≡ s) × (c' ≡ c) ×
+        ((p : Ptr OperationKind) → Has front (Operation p) → MayGo own is_private s' (IsAmong u) p → ⊥)
     pub fewer : num_live s' ≤ num_live s
     pub set : erased ≡ true → num_live s' < num_live s
 
-  pub sweeping-start : (s : ContextView K A T) (c : Table) (b : Ptr BasicBlockKind) (u : NameSet) (at : Option (Ptr OperationKind)) → IsThinned s s → IsStanding s → IsLive s (Operation c.op) → body s c.op ≡ Some (BasicBlock b)
-      → option_map Operation at ≡ head (children s (BasicBlock b)) → IsSweeping s c b u s c false at
-  sweeping-start s c b u at thin w l e first = record {
+  -- From the start of the rounds in s to s' symbols that were dead are gone; the table has its body still.
+  pub record IsRounds (s : ContextView K A T) (c : Table) (b : Ptr BasicBlockKind) (s' : ContextView K A T)
+      (c' : Table) : Type 0 where
+    pub swept : AreSwept own is_private names s c.op s'
+    pub kept : IsTableKept own own_table s c s' c'
+    pub standing : IsStanding s'
+    pub live : IsLive s' (Operation c.op)
+    pub at_body : body s' c.op ≡ Some (BasicBlock b)
+
+module _ {K A T : Type 0} {own own_table : K → Bool} {is_private : OpView K A → Bool}
+    {names : OpView K A → List (List ℕ)} where
+  pub sweeping-start : {s : ContextView K A T} {c : Table} {b : Ptr BasicBlockKind} {u : NameSet}
+      {at : Option (Ptr OperationKind)} → IsThinned s s → IsStanding s → IsLive s (Operation c.op)
+      → body s c.op ≡ Some (BasicBlock b)
+      → option_map Operation at ≡ head (children s (BasicBlock b))
+      → IsSweeping own own_table is_private names s c b u s c false at
+  sweeping-start {s} {c} {b} {u} {at} thin w l e first = record {
     swept = swept-none own is_private names c.op s thin;
     kept = kept-none own own_table s c;
     standing = w;
@@ -66,7 +75,9 @@ module _ {K A T : Type 0} (own own_table : K → Bool) (is_private : OpView K A 
     set = λ f. (let z : ⊥ = cc f in absurd z);
   }
 
-  module _ (s : ContextView K A T) (c : Table) (b : Ptr BasicBlockKind) (u : NameSet) (s' : ContextView K A T) (c' : Table) (erased : Bool) (at : Option (Ptr OperationKind)) (r : IsSweeping s c b u s' c' erased at) where
+  module _ {s : ContextView K A T} {c : Table} {b : Ptr BasicBlockKind} {u : NameSet} {s' : ContextView K A T}
+      {c' : Table} {erased : Bool} {at : Option (Ptr OperationKind)}
+      (r : IsSweeping own own_table is_private names s c b u s' c' erased at) where
     pub sweeping-table : IsLive s' (Operation c'.op)
     sweeping-table = subst (λ q. IsLive s' (Operation q)) (sym r.kept.op) r.live
 
@@ -82,8 +93,15 @@ module _ {K A T : Type 0} (own own_table : K → Bool) (is_private : OpView K A 
       body = r.at_body;
       clear = λ f.
           (let k = r.clear f in
-          let all = r.split ∙ ap (λ z. r.front ++ z) (ended r.back (ap (option_map Operation) (sym none) ∙ r.here)) ∙ append-none r.front in
-          (k.0, k.1, λ p h m. k.2 p (subst (λ z. Has z (Operation p)) all (subst (λ z. Has (children z (BasicBlock b)) (Operation p)) (sym k.0) h)) (subst (λ z. MayGo own is_private z (IsAmong u) p) (sym k.0) m)));
+          let all =
+          r.split ∙ ap (λ z. r.front ++ z) (ended r.back (ap (option_map Operation) (sym none) ∙ r.here))
+          ∙ append-nil r.front in (
+            k.0,
+            k.1,
+            λ p h m. k.2 p (subst (λ z. Has z (Operation p)) all
+                (subst (λ z. Has (children z (BasicBlock b)) (Operation p)) (sym k.0) h))
+                (subst (λ z. MayGo own is_private z (IsAmong u) p) (sym k.0) m),
+          ));
       set = r.set;
     }
 
@@ -106,8 +124,10 @@ module _ {K A T : Type 0} (own own_table : K → Bool) (is_private : OpView K A 
       pub sweeping-here : parent_of s' (Operation op) ≡ body s' c'.op
       sweeping-here = parent ∙ sym sweeping-body
 
-      module _ (used : AreUsedNames names s c.op u) (laws : ErasuresThin s) (t : ContextView K A T) (d : Table) (erased' : Bool) (next : Option (Ptr OperationKind)) (wt : IsStanding t)
-          (after : option_map Operation next ≡ head rest.0) (f : IsSweptAt own own_table is_private s' c' u erased op erased' t d) where
+      module _ (used : AreUsedNames names s c.op u) (laws : ErasuresThin s) (t : ContextView K A T) (d : Table)
+          (erased' : Bool) (next : Option (Ptr OperationKind)) (wt : IsStanding t)
+          (after : option_map Operation next ≡ head rest.0)
+          (f : IsSweptAt own own_table is_private s' c' u erased op erased' t d) where
         dead : MayGo own is_private s' (IsAmong u) op → IsDead own is_private names s' c.op op
         dead m = record {
           here = subst (λ z. Has (children_in s' z) (Operation op)) (sym r.at_body) has;
@@ -115,17 +135,21 @@ module _ {K A T : Type 0} (own own_table : K → Bool) (is_private : OpView K A 
             name = m.name;
             named = m.named;
             private = m.private;
-            free = λ i. m.free (used.recorded m.name (used-before s s' r.standing.forest r.swept.thinned names c.op m.name r.live i));
+            free =
+                λ i. m.free
+                (used.recorded m.name (used-before s s' r.standing.forest r.swept.thinned names c.op m.name r.live i));
             unused = m.unused;
           };
         }
 
-        pub sweeping-more : IsSweeping s c b u t d erased' next
-        sweeping-more = elim f as (λ z. IsSweeping s c b u t d erased' next) [
+        pub sweeping-more : IsSweeping own own_table is_private names s c b u t d erased' next
+        sweeping-more = elim f as (λ z. IsSweeping own own_table is_private names s c b u t d erased' next) [
           | inl g ↦
               let less = fewer-erased s' t (Operation op) g.2.tree in
               record {
-                swept = swept-one own is_private names c.op s s' t op r.swept (dead g.0) g.2.after (laws.both s s' t r.swept.thinned g.2.thinned);
+                swept =
+                    swept-one own is_private names c.op s s' t op r.swept (dead g.0) g.2.after
+                    (laws.both s s' t r.swept.thinned g.2.thinned);
                 kept = kept-both own own_table s s' t c c' d r.kept g.2.kept;
                 standing = wt;
                 live = live-still s' t r.standing c.op op b r.at_body parent g.2.tree r.live;
@@ -139,7 +163,9 @@ module _ {K A T : Type 0} (own own_table : K → Bool) (is_private : OpView K A 
                 set = λ f. (let had = r.fewer in omega (arith, less, had));
               }
           | inr g ↦
-              subst (λ z. IsSweeping s c b u z d erased' next) (sym g.2) (subst (λ z. IsSweeping s c b u s' z erased' next) (sym g.3) (subst (λ z. IsSweeping s c b u s' c' z next) (sym g.1) (record {
+              subst (λ z. IsSweeping own own_table is_private names s c b u z d erased' next) (sym g.2)
+              (subst (λ z. IsSweeping own own_table is_private names s c b u s' z erased' next) (sym g.3)
+              (subst (λ z. IsSweeping own own_table is_private names s c b u s' c' z next) (sym g.1) (record {
                 swept = r.swept;
                 kept = r.kept;
                 standing = r.standing;
@@ -156,7 +182,8 @@ module _ {K A T : Type 0} (own own_table : K → Bool) (is_private : OpView K A 
                       λ p h m. elim (Has-append_cases r.front (Operation op ∷ []) (Operation p) h) [
                         | inl i ↦ k.2 p i m
                         | inr i ↦ elim i [
-                          | inl same ↦ g.0 (subst (λ z. MayGo own is_private s' (IsAmong u) z) (sym (same-op op p same)) m)
+                          | inl same ↦
+                              g.0 (subst (λ z. MayGo own is_private s' (IsAmong u) z) (sym (same-op op p same)) m)
                           | inr none ↦ absurd none
                         ]
                       ],
@@ -169,33 +196,36 @@ module _ {K A T : Type 0} (own own_table : K → Bool) (is_private : OpView K A 
         recut : (xs : List IRNode) × (children t (BasicBlock b) ≡ xs ++ rest.0)
         recut = elim f as (λ z. (xs : List IRNode) × (children t (BasicBlock b) ≡ xs ++ rest.0)) [
           | inl g ↦ (r.front, g.2.tree.children_over (BasicBlock b) r.front rest.0 sweeping-cut)
-          | inr g ↦ (r.front ++ Operation op ∷ [], ap (λ z. children z (BasicBlock b)) g.2 ∙ sweeping-cut ∙ sym (append_assoc r.front (Operation op ∷ []) rest.0))
+          | inr g ↦ (
+            r.front ++ Operation op ∷ [],
+            ap (λ z. children z (BasicBlock b)) g.2 ∙ sweeping-cut
+                ∙ sym (append_assoc r.front (Operation op ∷ []) rest.0),
+          )
         ]
 
         pub sweeping-falls : left_from (children t (BasicBlock b)) next < left_from (children s' (BasicBlock b)) at
         sweeping-falls = go next after
           where
             before : left_from (children s' (BasicBlock b)) at ≡ suc (length rest.0)
-            before = ap (left_from (children s' (BasicBlock b))) is ∙ ap (λ z. left_from z (Some op)) sweeping-cut ∙ left-cut r.front rest.0 op (subst Distinct sweeping-cut (r.standing.forest.once (BasicBlock b)))
+            before =
+                ap (left_from (children s' (BasicBlock b))) is ∙ ap (λ z. left_from z (Some op)) sweeping-cut
+                ∙ left-cut r.front rest.0 op (subst Distinct sweeping-cut (r.standing.forest.once (BasicBlock b)))
 
-            go : (o : Option (Ptr OperationKind)) → option_map Operation o ≡ head rest.0 → left_from (children t (BasicBlock b)) o < left_from (children s' (BasicBlock b)) at
+            go : (o : Option (Ptr OperationKind)) → option_map Operation o ≡ head rest.0
+                → left_from (children t (BasicBlock b)) o < left_from (children s' (BasicBlock b)) at
             go None e = omega (arith, before)
             go (Some q) e =
                 let y = headed rest.0 q e in
                 let k = recut.1 ∙ ap (λ z. recut.0 ++ z) y.1 in
-                let now = ap (λ z. left_from z (Some q)) k ∙ left-cut recut.0 y.0 q (subst Distinct k (wt.forest.once (BasicBlock b))) in
+                let now =
+                ap (λ z. left_from z (Some q)) k
+                ∙ left-cut recut.0 y.0 q (subst Distinct k (wt.forest.once (BasicBlock b))) in
                 omega (arith, before, now, ap length y.1)
 
-  -- From the start of the rounds in s to s' symbols that were dead are gone; the table has its body still.
-  pub record IsRounds (s : ContextView K A T) (c : Table) (b : Ptr BasicBlockKind) (s' : ContextView K A T) (c' : Table) : Type 0 where
-    pub swept : AreSwept own is_private names s c.op s'
-    pub kept : IsTableKept own own_table s c s' c'
-    pub standing : IsStanding s'
-    pub live : IsLive s' (Operation c.op)
-    pub at_body : body s' c.op ≡ Some (BasicBlock b)
-
-  pub rounds-start : (s : ContextView K A T) (c : Table) (b : Ptr BasicBlockKind) → IsThinned s s → IsStanding s → IsLive s (Operation c.op) → body s c.op ≡ Some (BasicBlock b) → IsRounds s c b s c
-  rounds-start s c b thin w l e = record {
+  pub rounds-start : {s : ContextView K A T} {c : Table} {b : Ptr BasicBlockKind} → IsThinned s s → IsStanding s
+      → IsLive s (Operation c.op) → body s c.op ≡ Some (BasicBlock b)
+      → IsRounds own own_table is_private names s c b s c
+  rounds-start {s} {c} {b} thin w l e = record {
     swept = swept-none own is_private names c.op s thin;
     kept = kept-none own own_table s c;
     standing = w;
@@ -203,19 +233,23 @@ module _ {K A T : Type 0} (own own_table : K → Bool) (is_private : OpView K A 
     at_body = e;
   }
 
-  module _ (s : ContextView K A T) (c : Table) (b : Ptr BasicBlockKind) (s' : ContextView K A T) (c' : Table) (r : IsRounds s c b s' c') where
+  module _ {s : ContextView K A T} {c : Table} {b : Ptr BasicBlockKind} {s' : ContextView K A T} {c' : Table}
+      (r : IsRounds own own_table is_private names s c b s' c') where
     pub rounds-live : IsLive s' (Operation c'.op)
     rounds-live = subst (λ q. IsLive s' (Operation q)) (sym r.kept.op) r.live
 
     pub rounds-body : body s' c'.op ≡ Some (BasicBlock b)
     rounds-body = ap (λ q. body s' q) r.kept.op ∙ r.at_body
 
-    module _ (laws : ErasuresThin s) (u : NameSet) (erased : Bool) (t : ContextView K A T) (d : Table) (h : IsRound own own_table is_private names s' c' b u erased t d) where
-      pub rounds-more : IsRounds s c b t d
+    module _ (laws : ErasuresThin s) {u : NameSet} {erased : Bool} {t : ContextView K A T} {d : Table}
+        (h : IsRound own own_table is_private names s' c' b u erased t d) where
+      pub rounds-more : IsRounds own own_table is_private names s c b t d
       rounds-more =
           let swept = subst (λ q. AreSwept own is_private names s' q t) r.kept.op h.swept in
           record {
-            swept = swept-both own is_private names c.op s s' t r.swept swept (laws.both s s' t r.swept.thinned swept.thinned);
+            swept =
+                swept-both own is_private names c.op s s' t r.swept swept
+                (laws.both s s' t r.swept.thinned swept.thinned);
             kept = kept-both own own_table s s' t c c' d r.kept h.kept;
             standing = h.standing;
             live = subst (λ q. IsLive t (Operation q)) r.kept.op h.live;

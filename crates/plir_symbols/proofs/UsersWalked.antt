@@ -21,12 +21,10 @@ use Rattle.plir_walk.specs.CallLaws.{chain-each}
 use Rattle.plir_walk.specs.Lists.{Pairs}
 use Rattle.plir_walk.specs.OperationWalks.{OperationRelation, AtOperations, WalkedOperations, OperationAnswers}
 use Rattle.plir_walk.specs.Walked.{IsCallUnder}
+use Rattle.plir_walk.specs.NodeLaws.{same-op}
 use Rattle.plir_symbols.specs.SymbolNames.{names_in}
 use Rattle.plir_symbols.specs.CallGraph.{AreUsers}
 use Rattle.plir_symbols.specs.Calling.{IsUserPut, user_at}
-
-same-op : (p q : Ptr OperationKind) → Operation p ≡ Operation q → p ≡ q
-same-op p q e = cc e
 
 module _ {K A T : Type 0} (names : OpView K A → List (List ℕ)) (s : ContextView K A T) where
   abbrev count : Ptr OperationKind → ℕ

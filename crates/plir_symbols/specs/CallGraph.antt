@@ -79,8 +79,8 @@ module _ {K A T : Type 0} (own_symbol own_table : K → Bool) (s : ContextView K
   AreEdges (u ∷ us) (e ∷ es) = IsEdge u e × AreEdges us es
 
   -- the nearest table of an operation is refused
-  abbrev pub IsNearestRefused : Ptr OperationKind → SymbolTableErr → Type 0
-  IsNearestRefused p err = Reports (λ r. (t : Ptr OperationKind) × IsNearest own_table s p (Some t) ×
+  abbrev pub IsUserRefusal : Ptr OperationKind → SymbolTableErr → Type 0
+  IsUserRefusal p err = Reports (λ r. (t : Ptr OperationKind) × IsNearest own_table s p (Some t) ×
       IsTableRefusal own_symbol own_table s t r) err
 
 module _ {K A T : Type 0} (own_symbol own_table : K → Bool) (names : OpView K A → List (List ℕ))
@@ -93,6 +93,6 @@ module _ {K A T : Type 0} (own_symbol own_table : K → Bool) (names : OpView K 
     pub are_edges : AreEdges own_symbol own_table s (uses_of names s users) es
 
   -- it is refused: some operation there uses a name, and its nearest table is refused
-  abbrev pub IsGraphRefused : SymbolTableErr → Type 0
-  IsGraphRefused err = Reports (λ r. (p : Ptr OperationKind) × IsUser names s root p × ((t : Ptr OperationKind) ×
+  abbrev pub IsGraphRefusal : SymbolTableErr → Type 0
+  IsGraphRefusal err = Reports (λ r. (p : Ptr OperationKind) × IsUser names s root p × ((t : Ptr OperationKind) ×
       IsNearest own_table s p (Some t) × IsTableRefusal own_symbol own_table s t r)) err

@@ -3,7 +3,7 @@ ghost use Rattle.std.specs.Prelude.{◌≡◌, [], ◌∷◌, ◌++◌, IfErr, I
 ghost use Rattle.plir_core.specs.declared.ptr.IRNode.{IRNode as AnyNode};
 ghost use Rattle.plir_core.specs.ContextView.{IsLive};
 ghost use Rattle.plir_builtin.specs.Agree.{AllAgree, AreGivenOut};
-ghost use Rattle.plir_symbols.specs.CallGraph.{AreUsers, IsCallGraph, IsEdge, IsGraphRefused, IsNearestRefused};
+ghost use Rattle.plir_symbols.specs.CallGraph.{AreUsers, IsCallGraph, IsEdge, IsGraphRefusal, IsUserRefusal};
 ghost use Rattle.plir_symbols.specs.Calling.{AreEdgesPut, IsUserPut};
 
 use crate::call_edges::{CallEdge, CallGraph};
@@ -75,7 +75,7 @@ fn edge_of<D: SymbolNames>(
     ensures agree { AllAgree D.is_symbol D.is_symbol_table ctx.now tables.old →
         AllAgree D.is_symbol D.is_symbol_table ctx.now tables.new }
     ensures given { AreGivenOut ctx.now tables.old → AreGivenOut ctx.now tables.new }
-    ensures refused { IfErr result (IsNearestRefused D.is_symbol D.is_symbol_table ctx.now user) }
+    ensures refused { IfErr result (IsUserRefusal D.is_symbol D.is_symbol_table ctx.now user) }
 {
     let symbol = tables.lookup_symbol_in_nearest_table(ctx, user, name)?;
     Ok(CallEdge { user, symbol })
@@ -103,7 +103,7 @@ fn put_edges<D: SymbolNames>(
     ensures agree { AllAgree D.is_symbol D.is_symbol_table ctx.now tables.old →
         AllAgree D.is_symbol D.is_symbol_table ctx.now tables.new }
     ensures given { AreGivenOut ctx.now tables.old → AreGivenOut ctx.now tables.new }
-    ensures refused { IfErr result (IsNearestRefused D.is_symbol D.is_symbol_table ctx.now user) }
+    ensures refused { IfErr result (IsUserRefusal D.is_symbol D.is_symbol_table ctx.now user) }
 {
     for place in 0..D::num_used_names(ctx, user) {
         let edge = edge_of(ctx, tables, user, D::used_name(ctx, user, place))?;
@@ -135,7 +135,7 @@ pub fn call_graph<D: SymbolNames>(
     ensures agree { AllAgree D.is_symbol D.is_symbol_table ctx.now tables.old →
         AllAgree D.is_symbol D.is_symbol_table ctx.now tables.new }
     ensures given { AreGivenOut ctx.now tables.old → AreGivenOut ctx.now tables.new }
-    ensures refused { IfErr result (IsGraphRefused D.is_symbol D.is_symbol_table D.names_used ctx.now root) }
+    ensures refused { IfErr result (IsGraphRefusal D.is_symbol D.is_symbol_table D.names_used ctx.now root) }
 {
     ctx.stands();
     let users = users_below(alloc, ctx, root)?;

@@ -1,12 +1,14 @@
 //! Passes over symbols: those that nothing uses are erased, and the graph of who uses which is made.
 #![tactic(auto)]
 
+mod builtin_names;
 mod call_edges;
 mod calling;
 mod dead_symbols;
 mod names;
 mod symbol_names;
 
+pub use builtin_names::ATTR_KEY_SYM_VISIBILITY;
 pub use call_edges::{CallEdge, CallGraph};
 pub use calling::call_graph;
 pub use dead_symbols::eliminate_dead_symbols;

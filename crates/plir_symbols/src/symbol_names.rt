@@ -28,7 +28,7 @@ pub trait SymbolNames: OpSet {
         requires { IsLive ctx.now (AnyNode.Operation op) }
         ensures { result ≡ length (names_in names_used (op_at ctx.now op)) };
 
-    /// The name at a place, from 0, among those that an operation uses.
+    /// The name at an index among those that an operation uses.
     fn used_name(ctx: &Context<Self>, op: Ptr<Operation>, place: usize) -> &Identifier
         requires live { IsLive ctx.now (AnyNode.Operation op) }
         requires below { place < length (names_in names_used (op_at ctx.now op)) }
@@ -55,7 +55,7 @@ pub trait SymbolNameKind<D: OpSet>: OwnKind {
         requires { IsLive ctx.now (AnyNode.Operation op) }
         ensures { result ≡ length (names_in names_used (op_at ctx.now op)) };
 
-    /// The name at a place, from 0, among those that an operation uses.
+    /// The name at an index among those that an operation uses.
     fn used_name(ctx: &Context<D>, op: Ptr<Operation>, place: usize) -> &Identifier
         requires live { IsLive ctx.now (AnyNode.Operation op) }
         requires below { place < length (names_in names_used (op_at ctx.now op)) }

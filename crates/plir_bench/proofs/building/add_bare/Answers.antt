@@ -10,5 +10,7 @@ insert_at_back-requires-clause-not_above c = c.in_ok-op.ensures.made.apart (Basi
 pub returns : goal.returns
 returns c =
     let body = BasicBlock c.args.body in
-    let live = subst (λ s. IsLive s body) (sym c.insert_at_back.ensures.after) (c.in_ok-op.ensures.made.keeps.live body c.requires) in
+    let live =
+    subst (λ s. IsLive s body) (sym c.insert_at_back.ensures.after)
+    (c.in_ok-op.ensures.made.keeps.live body c.requires) in
     on_ok_weaker c.add_block.result (λ keeps. keeps body live) c.add_block.ensures

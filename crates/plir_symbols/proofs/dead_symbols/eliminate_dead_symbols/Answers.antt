@@ -1,4 +1,5 @@
 use Rattle.std.proofs.Common.{IsOk, OnErr, ◌≡◌, refl, sym, subst}
+use Rattle.plir_store.specs.FilterLaws.{not-both}
 use Rattle.plir_core.specs.declared.ptr.IRNode.TheVariants.{Operation}
 use Rattle.plir_core.specs.ContextView.{IsLive}
 use Rattle.plir_builtin.specs.Agree.{AllAgree, AreGivenOut}
@@ -6,27 +7,30 @@ use Rattle.plir_builtin.specs.Symbols.{body}
 use Rattle.plir_symbols.specs.DeadSymbols.{HasNoDead}
 use Rattle.plir_symbols.specs.SweptSymbols.{AreSwept}
 use Rattle.plir_symbols.proofs.Erasing.{swept-none}
-use Rattle.plir_symbols.proofs.Going.{not-both}
 use Rattle.plir_symbols.proofs.Lent.{lent-ready, lent-good, kept-good, kept-agree, kept-given, good-scans}
 use Rattle.plir_symbols.proofs.dead_symbols.eliminate_dead_symbols.Goals as goal
 
 pub returns-in_err-cached-clause-swept : goal.returns-in_err-cached-clause-swept
 returns-in_err-cached-clause-swept g c =
-    swept-none g.D.OpSet.is_symbol g.D.SymbolNames.is_private g.D.SymbolNames.names_used c.args.table c.args.ctx.now (c.erasures_thin.ensures.none c.args.ctx.now c.stands.ensures.standing.forest)
+    swept-none g.D.OpSet.is_symbol g.D.SymbolNames.is_private g.D.SymbolNames.names_used c.args.table c.args.ctx.now
+    (c.erasures_thin.ensures.none c.args.ctx.now c.stands.ensures.standing.forest)
 
 pub returns-in_err-cached-clause-scans : goal.returns-in_err-cached-clause-scans
 returns-in_err-cached-clause-scans g c =
-    good-scans g.D.OpSet.is_symbol g.D.OpSet.is_symbol_table c.args.ctx.now c.args.ctx.now c.args.table (c.erasures_thin.ensures.none c.args.ctx.now c.stands.ensures.standing.forest) c.stands.ensures.standing refl
+    good-scans g.D.OpSet.is_symbol g.D.OpSet.is_symbol_table c.args.ctx.now c.args.ctx.now c.args.table
+    (c.erasures_thin.ensures.none c.args.ctx.now c.stands.ensures.standing.forest) c.stands.ensures.standing refl
 
 pub returns-in_err-cached-clause-agree : goal.returns-in_err-cached-clause-agree
 returns-in_err-cached-clause-agree g c = λ all.
     subst (AllAgree g.D.OpSet.is_symbol g.D.OpSet.is_symbol_table c.args.ctx.now)
-    (sym (subst (λ r. OnErr r (c.get_symbol_table.follows.lender-at-none ≡ c.args.tables.now)) c.in_err-cached.was c.get_symbol_table.follows.holds-at-none)) all
+    (sym (subst (λ r. OnErr r (c.get_symbol_table.follows.lender-at-none ≡ c.args.tables.now)) c.in_err-cached.was
+    c.get_symbol_table.follows.holds-at-none)) all
 
 pub returns-in_err-cached-clause-given : goal.returns-in_err-cached-clause-given
 returns-in_err-cached-clause-given g c = λ given.
     subst (AreGivenOut c.args.ctx.now)
-    (sym (subst (λ r. OnErr r (c.get_symbol_table.follows.lender-at-none ≡ c.args.tables.now)) c.in_err-cached.was c.get_symbol_table.follows.holds-at-none)) given
+    (sym (subst (λ r. OnErr r (c.get_symbol_table.follows.lender-at-none ≡ c.args.tables.now)) c.in_err-cached.was
+    c.get_symbol_table.follows.holds-at-none)) given
 
 pub sweep_table-requires-clause-live : goal.sweep_table-requires-clause-live
 sweep_table-requires-clause-live g c = (c.is_ready.ensures.0 c.if-not-is_ready.false).1
@@ -36,75 +40,111 @@ sweep_table-requires-clause-at_body g c = (c.is_ready.ensures.0 c.if-not-is_read
 
 pub returns-in_err-sweep_table-clause-swept : goal.returns-in_err-sweep_table-clause-swept
 returns-in_err-sweep_table-clause-swept g c =
-    subst (λ q. AreSwept g.D.OpSet.is_symbol g.D.SymbolNames.is_private g.D.SymbolNames.names_used c.args.ctx.now q c.sweep_table.new.ctx) (c.is_ready.ensures.0 c.if-not-is_ready.false).0 c.sweep_table.ensures.swept
+    subst (λ q. AreSwept g.D.OpSet.is_symbol g.D.SymbolNames.is_private g.D.SymbolNames.names_used c.args.ctx.now q
+    c.sweep_table.new.ctx) (c.is_ready.ensures.0 c.if-not-is_ready.false).0 c.sweep_table.ensures.swept
 
 pub returns-in_err-sweep_table-clause-scans : goal.returns-in_err-sweep_table-clause-scans
 returns-in_err-sweep_table-clause-scans g c =
-    good-scans g.D.OpSet.is_symbol g.D.OpSet.is_symbol_table c.args.ctx.now c.sweep_table.new.ctx c.args.table c.sweep_table.ensures.swept.thinned c.sweep_table.ensures.stands
-    (subst (λ q. body c.sweep_table.new.ctx q ≡ body c.args.ctx.now q) (c.is_ready.ensures.0 c.if-not-is_ready.false).0 c.sweep_table.ensures.body)
+    good-scans g.D.OpSet.is_symbol g.D.OpSet.is_symbol_table c.args.ctx.now c.sweep_table.new.ctx c.args.table
+    c.sweep_table.ensures.swept.thinned c.sweep_table.ensures.stands
+    (subst (λ q. body c.sweep_table.new.ctx q ≡ body c.args.ctx.now q) (c.is_ready.ensures.0 c.if-not-is_ready.false).0
+    c.sweep_table.ensures.body)
 
 pub returns-in_err-sweep_table-clause-agree : goal.returns-in_err-sweep_table-clause-agree
 returns-in_err-sweep_table-clause-agree g c = λ all.
-    kept-agree g.D.OpSet.is_symbol g.D.OpSet.is_symbol_table c.args.ctx.now c.args.tables.now c.args.table c.in_ok-cached.cached.now (c.in_ok-cached.ensures.agree all) c.sweep_table.new.ctx c.sweep_table.new.table c.sweep_table.ensures.kept
-    (c.get_symbol_table.follows.lender c.sweep_table.new.table) (c.get_symbol_table.follows.holds c.sweep_table.new.table (subst IsOk (sym c.in_ok-cached.was) refl))
+    kept-agree g.D.OpSet.is_symbol g.D.OpSet.is_symbol_table c.args.ctx.now c.args.tables.now c.args.table
+    c.in_ok-cached.cached.now (c.in_ok-cached.ensures.agree all) c.sweep_table.new.ctx c.sweep_table.new.table
+    c.sweep_table.ensures.kept
+    (c.get_symbol_table.follows.lender c.sweep_table.new.table)
+    (c.get_symbol_table.follows.holds c.sweep_table.new.table (subst IsOk (sym c.in_ok-cached.was) refl))
 
 pub returns-in_err-sweep_table-clause-given : goal.returns-in_err-sweep_table-clause-given
 returns-in_err-sweep_table-clause-given g c = λ given.
-    kept-given g.D.OpSet.is_symbol g.D.OpSet.is_symbol_table c.args.ctx.now c.args.tables.now c.args.table c.in_ok-cached.cached.now (c.is_ready.ensures.0 c.if-not-is_ready.false).0 c.sweep_table.new.ctx c.sweep_table.new.table c.sweep_table.ensures.kept
-    (c.get_symbol_table.follows.lender c.sweep_table.new.table) (c.get_symbol_table.follows.holds c.sweep_table.new.table (subst IsOk (sym c.in_ok-cached.was) refl)) (c.in_ok-cached.ensures.given given)
+    kept-given g.D.OpSet.is_symbol g.D.OpSet.is_symbol_table c.args.ctx.now c.args.tables.now c.args.table
+    c.in_ok-cached.cached.now (c.is_ready.ensures.0 c.if-not-is_ready.false).0 c.sweep_table.new.ctx
+    c.sweep_table.new.table c.sweep_table.ensures.kept
+    (c.get_symbol_table.follows.lender c.sweep_table.new.table)
+    (c.get_symbol_table.follows.holds c.sweep_table.new.table (subst IsOk (sym c.in_ok-cached.was) refl))
+    (c.in_ok-cached.ensures.given given)
 
 pub returns-clause-swept : goal.returns-clause-swept
 returns-clause-swept g c =
-    subst (λ q. AreSwept g.D.OpSet.is_symbol g.D.SymbolNames.is_private g.D.SymbolNames.names_used c.args.ctx.now q c.sweep_table.new.ctx) (c.is_ready.ensures.0 c.if-not-is_ready.false).0 c.sweep_table.ensures.swept
+    subst (λ q. AreSwept g.D.OpSet.is_symbol g.D.SymbolNames.is_private g.D.SymbolNames.names_used c.args.ctx.now q
+    c.sweep_table.new.ctx) (c.is_ready.ensures.0 c.if-not-is_ready.false).0 c.sweep_table.ensures.swept
 
 pub returns-clause-clean : goal.returns-clause-clean
 returns-clause-clean g c =
-    subst (λ q. HasNoDead g.D.OpSet.is_symbol g.D.SymbolNames.is_private g.D.SymbolNames.names_used c.sweep_table.new.ctx q) (c.is_ready.ensures.0 c.if-not-is_ready.false).0 c.in_ok-sweep_table.ensures.clean
+    subst (λ q.
+    HasNoDead g.D.OpSet.is_symbol g.D.SymbolNames.is_private g.D.SymbolNames.names_used c.sweep_table.new.ctx q)
+    (c.is_ready.ensures.0 c.if-not-is_ready.false).0 c.in_ok-sweep_table.ensures.clean
 
 pub returns-clause-good : goal.returns-clause-good
 returns-clause-good g c = λ all. (
-  lent-good g.D.OpSet.is_symbol g.D.OpSet.is_symbol_table c.args.ctx.now c.args.tables.now c.args.table c.in_ok-cached.cached.now (c.in_ok-cached.ensures.agree all),
-  kept-good g.D.OpSet.is_symbol g.D.OpSet.is_symbol_table c.args.ctx.now c.args.tables.now c.args.table c.in_ok-cached.cached.now (c.in_ok-cached.ensures.agree all) c.sweep_table.new.ctx c.sweep_table.new.table c.sweep_table.ensures.kept,
+  lent-good g.D.OpSet.is_symbol g.D.OpSet.is_symbol_table c.args.ctx.now c.args.tables.now c.args.table
+      c.in_ok-cached.cached.now (c.in_ok-cached.ensures.agree all),
+  kept-good g.D.OpSet.is_symbol g.D.OpSet.is_symbol_table c.args.ctx.now c.args.tables.now c.args.table
+      c.in_ok-cached.cached.now (c.in_ok-cached.ensures.agree all) c.sweep_table.new.ctx c.sweep_table.new.table
+      c.sweep_table.ensures.kept,
 )
 
 pub returns-clause-scans : goal.returns-clause-scans
 returns-clause-scans g c =
-    good-scans g.D.OpSet.is_symbol g.D.OpSet.is_symbol_table c.args.ctx.now c.sweep_table.new.ctx c.args.table c.sweep_table.ensures.swept.thinned c.sweep_table.ensures.stands
-    (subst (λ q. body c.sweep_table.new.ctx q ≡ body c.args.ctx.now q) (c.is_ready.ensures.0 c.if-not-is_ready.false).0 c.sweep_table.ensures.body)
+    good-scans g.D.OpSet.is_symbol g.D.OpSet.is_symbol_table c.args.ctx.now c.sweep_table.new.ctx c.args.table
+    c.sweep_table.ensures.swept.thinned c.sweep_table.ensures.stands
+    (subst (λ q. body c.sweep_table.new.ctx q ≡ body c.args.ctx.now q) (c.is_ready.ensures.0 c.if-not-is_ready.false).0
+    c.sweep_table.ensures.body)
 
 pub returns-clause-agree : goal.returns-clause-agree
 returns-clause-agree g c = λ all.
-    kept-agree g.D.OpSet.is_symbol g.D.OpSet.is_symbol_table c.args.ctx.now c.args.tables.now c.args.table c.in_ok-cached.cached.now (c.in_ok-cached.ensures.agree all) c.sweep_table.new.ctx c.sweep_table.new.table c.sweep_table.ensures.kept
-    (c.get_symbol_table.follows.lender c.sweep_table.new.table) (c.get_symbol_table.follows.holds c.sweep_table.new.table (subst IsOk (sym c.in_ok-cached.was) refl))
+    kept-agree g.D.OpSet.is_symbol g.D.OpSet.is_symbol_table c.args.ctx.now c.args.tables.now c.args.table
+    c.in_ok-cached.cached.now (c.in_ok-cached.ensures.agree all) c.sweep_table.new.ctx c.sweep_table.new.table
+    c.sweep_table.ensures.kept
+    (c.get_symbol_table.follows.lender c.sweep_table.new.table)
+    (c.get_symbol_table.follows.holds c.sweep_table.new.table (subst IsOk (sym c.in_ok-cached.was) refl))
 
 pub returns-clause-given : goal.returns-clause-given
 returns-clause-given g c = λ given.
-    kept-given g.D.OpSet.is_symbol g.D.OpSet.is_symbol_table c.args.ctx.now c.args.tables.now c.args.table c.in_ok-cached.cached.now (c.is_ready.ensures.0 c.if-not-is_ready.false).0 c.sweep_table.new.ctx c.sweep_table.new.table c.sweep_table.ensures.kept
-    (c.get_symbol_table.follows.lender c.sweep_table.new.table) (c.get_symbol_table.follows.holds c.sweep_table.new.table (subst IsOk (sym c.in_ok-cached.was) refl)) (c.in_ok-cached.ensures.given given)
+    kept-given g.D.OpSet.is_symbol g.D.OpSet.is_symbol_table c.args.ctx.now c.args.tables.now c.args.table
+    c.in_ok-cached.cached.now (c.is_ready.ensures.0 c.if-not-is_ready.false).0 c.sweep_table.new.ctx
+    c.sweep_table.new.table c.sweep_table.ensures.kept
+    (c.get_symbol_table.follows.lender c.sweep_table.new.table)
+    (c.get_symbol_table.follows.holds c.sweep_table.new.table (subst IsOk (sym c.in_ok-cached.was) refl))
+    (c.in_ok-cached.ensures.given given)
 
 pub returns-then-not-is_ready-clause-swept : goal.returns-then-not-is_ready-clause-swept
 returns-then-not-is_ready-clause-swept g c =
-    swept-none g.D.OpSet.is_symbol g.D.SymbolNames.is_private g.D.SymbolNames.names_used c.args.table c.args.ctx.now (c.erasures_thin.ensures.none c.args.ctx.now c.stands.ensures.standing.forest)
+    swept-none g.D.OpSet.is_symbol g.D.SymbolNames.is_private g.D.SymbolNames.names_used c.args.table c.args.ctx.now
+    (c.erasures_thin.ensures.none c.args.ctx.now c.stands.ensures.standing.forest)
 
 pub returns-then-not-is_ready-clause-scans : goal.returns-then-not-is_ready-clause-scans
 returns-then-not-is_ready-clause-scans g c =
-    good-scans g.D.OpSet.is_symbol g.D.OpSet.is_symbol_table c.args.ctx.now c.args.ctx.now c.args.table (c.erasures_thin.ensures.none c.args.ctx.now c.stands.ensures.standing.forest) c.stands.ensures.standing refl
+    good-scans g.D.OpSet.is_symbol g.D.OpSet.is_symbol_table c.args.ctx.now c.args.ctx.now c.args.table
+    (c.erasures_thin.ensures.none c.args.ctx.now c.stands.ensures.standing.forest) c.stands.ensures.standing refl
 
 pub returns-then-not-is_ready-clause-agree : goal.returns-then-not-is_ready-clause-agree
 returns-then-not-is_ready-clause-agree g c = λ all.
-    absurd (not-both c.is_ready.result (c.is_ready.ensures.1 (lent-ready g.D.OpSet.is_symbol g.D.OpSet.is_symbol_table c.args.ctx.now c.args.tables.now c.args.table c.in_ok-cached.cached.now (c.in_ok-cached.ensures.agree all) c.requires.live)) c.if-not-is_ready.true)
+    absurd (not-both c.is_ready.result (c.is_ready.ensures.1 (lent-ready g.D.OpSet.is_symbol g.D.OpSet.is_symbol_table
+    c.args.ctx.now c.args.tables.now c.args.table c.in_ok-cached.cached.now (c.in_ok-cached.ensures.agree all)
+    c.requires.live)) c.if-not-is_ready.true)
 
 pub returns-then-not-is_ready-clause-refused : goal.returns-then-not-is_ready-clause-refused
 returns-then-not-is_ready-clause-refused g c = λ all.
-    absurd (not-both c.is_ready.result (c.is_ready.ensures.1 (lent-ready g.D.OpSet.is_symbol g.D.OpSet.is_symbol_table c.args.ctx.now c.args.tables.now c.args.table c.in_ok-cached.cached.now (c.in_ok-cached.ensures.agree all) c.requires.live)) c.if-not-is_ready.true)
+    absurd (not-both c.is_ready.result (c.is_ready.ensures.1 (lent-ready g.D.OpSet.is_symbol g.D.OpSet.is_symbol_table
+    c.args.ctx.now c.args.tables.now c.args.table c.in_ok-cached.cached.now (c.in_ok-cached.ensures.agree all)
+    c.requires.live)) c.if-not-is_ready.true)
 
 pub returns-then-not-is_ready-clause-given : goal.returns-then-not-is_ready-clause-given
 returns-then-not-is_ready-clause-given g c = λ given.
-    subst (AreGivenOut c.args.ctx.now) (sym (c.get_symbol_table.follows.holds c.in_ok-cached.cached.now (subst IsOk (sym c.in_ok-cached.was) refl))) (c.in_ok-cached.ensures.given given)
+    subst (AreGivenOut c.args.ctx.now)
+    (sym (c.get_symbol_table.follows.holds c.in_ok-cached.cached.now (subst IsOk (sym c.in_ok-cached.was) refl)))
+    (c.in_ok-cached.ensures.given given)
 
 pub returns-in_err-sweep_table-clause-live : goal.returns-in_err-sweep_table-clause-live
 returns-in_err-sweep_table-clause-live g c =
-    subst (λ q. IsLive c.sweep_table.new.ctx (Operation q)) (c.is_ready.ensures.0 c.if-not-is_ready.false).0 c.sweep_table.ensures.live
+    subst (λ q. IsLive c.sweep_table.new.ctx (Operation q)) (c.is_ready.ensures.0 c.if-not-is_ready.false).0
+    c.sweep_table.ensures.live
 
 pub returns-clause-live : goal.returns-clause-live
-returns-clause-live g c = subst (λ q. IsLive c.sweep_table.new.ctx (Operation q)) (c.is_ready.ensures.0 c.if-not-is_ready.false).0 c.sweep_table.ensures.live
+returns-clause-live g c =
+    subst (λ q. IsLive c.sweep_table.new.ctx (Operation q)) (c.is_ready.ensures.0 c.if-not-is_ready.false).0
+    c.sweep_table.ensures.live

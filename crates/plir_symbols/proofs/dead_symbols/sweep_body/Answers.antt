@@ -1,79 +1,56 @@
 use Rattle.std.proofs.Common.{refl, ◌∙◌}
 use Rattle.plir_core.specs.declared.ptr.IRNode.TheVariants.{BasicBlock}
 use Rattle.plir_symbols.proofs.Bodies.{body-live}
-use Rattle.plir_symbols.proofs.SweepLoop.{rest, sweeping-start, sweeping-table, sweeping-body, sweeping-live, sweeping-here, sweeping-cut, sweeping-more, sweeping-falls, sweeping-end}
+use Rattle.plir_symbols.proofs.SweepLoop.{rest, sweeping-start, sweeping-table, sweeping-body, sweeping-live}
+use Rattle.plir_symbols.proofs.SweepLoop.{sweeping-here, sweeping-cut, sweeping-more, sweeping-falls, sweeping-end}
 use Rattle.plir_symbols.proofs.dead_symbols.sweep_body.Goals as goal
 
 pub get_head-at-requires : goal.get_head-at-requires
-get_head-at-requires g c = body-live c.args.ctx.now c.args.table.now.op (BasicBlock c.args.block) c.stands.ensures.standing c.requires.body
+get_head-at-requires g c =
+    body-live c.args.ctx.now c.args.table.now.op (BasicBlock c.args.block) c.stands.ensures.standing c.requires.body
 
 pub symbols-init : goal.symbols-init
 symbols-init g c =
-    sweeping-start g.D.OpSet.is_symbol g.D.OpSet.is_symbol_table g.D.SymbolNames.is_private g.D.SymbolNames.names_used c.args.ctx.now c.args.table.now c.args.block c.args.used.now c.get_head-at.result
-    (c.erasures_thin.ensures.none c.args.ctx.now c.stands.ensures.standing.forest) c.stands.ensures.standing c.requires.table_live c.requires.body
-    (c.get_head-at.ensures.value ∙ c.first_child_is_front.ensures.front)
+    sweeping-start
+    (c.erasures_thin.ensures.none c.args.ctx.now c.stands.ensures.standing.forest) c.stands.ensures.standing
+    c.requires.table_live c.requires.body (c.get_head-at.ensures.value ∙ c.first_child_is_front.ensures.front)
 
 pub get_next-at-requires : goal.get_next-at-requires
-get_next-at-requires g c =
-    sweeping-live g.D.OpSet.is_symbol g.D.OpSet.is_symbol_table g.D.SymbolNames.is_private g.D.SymbolNames.names_used c.args.ctx.now c.args.table.now c.args.block c.args.used.now
-    c.symbols.ctx c.symbols.table c.symbols.erased c.symbols.at c.symbols.invariant c.in-Some.op c.in-Some.is
+get_next-at-requires g c = sweeping-live c.symbols.invariant c.in-Some.op c.in-Some.is
 
 pub sweep_symbol-erased-requires-clause-table_live : goal.sweep_symbol-erased-requires-clause-table_live
-sweep_symbol-erased-requires-clause-table_live g c =
-    sweeping-table g.D.OpSet.is_symbol g.D.OpSet.is_symbol_table g.D.SymbolNames.is_private g.D.SymbolNames.names_used c.args.ctx.now c.args.table.now c.args.block c.args.used.now
-    c.symbols.ctx c.symbols.table c.symbols.erased c.symbols.at c.symbols.invariant
+sweep_symbol-erased-requires-clause-table_live g c = sweeping-table c.symbols.invariant
 
 pub sweep_symbol-erased-requires-clause-at_body : goal.sweep_symbol-erased-requires-clause-at_body
 sweep_symbol-erased-requires-clause-at_body g c =
-    let e = sweeping-body g.D.OpSet.is_symbol g.D.OpSet.is_symbol_table g.D.SymbolNames.is_private g.D.SymbolNames.names_used c.args.ctx.now c.args.table.now c.args.block c.args.used.now
-    c.symbols.ctx c.symbols.table c.symbols.erased c.symbols.at c.symbols.invariant in
+    let e = sweeping-body c.symbols.invariant in
     rw e refl
 
 pub sweep_symbol-erased-requires-clause-op_live : goal.sweep_symbol-erased-requires-clause-op_live
-sweep_symbol-erased-requires-clause-op_live g c =
-    sweeping-live g.D.OpSet.is_symbol g.D.OpSet.is_symbol_table g.D.SymbolNames.is_private g.D.SymbolNames.names_used c.args.ctx.now c.args.table.now c.args.block c.args.used.now
-    c.symbols.ctx c.symbols.table c.symbols.erased c.symbols.at c.symbols.invariant c.in-Some.op c.in-Some.is
+sweep_symbol-erased-requires-clause-op_live g c = sweeping-live c.symbols.invariant c.in-Some.op c.in-Some.is
 
 pub sweep_symbol-erased-requires-clause-here : goal.sweep_symbol-erased-requires-clause-here
-sweep_symbol-erased-requires-clause-here g c =
-    sweeping-here g.D.OpSet.is_symbol g.D.OpSet.is_symbol_table g.D.SymbolNames.is_private g.D.SymbolNames.names_used c.args.ctx.now c.args.table.now c.args.block c.args.used.now
-    c.symbols.ctx c.symbols.table c.symbols.erased c.symbols.at c.symbols.invariant c.in-Some.op c.in-Some.is
+sweep_symbol-erased-requires-clause-here g c = sweeping-here c.symbols.invariant c.in-Some.op c.in-Some.is
 
 pub symbols-smaller : goal.symbols-smaller
 symbols-smaller g c =
-    let own = g.D.OpSet.is_symbol in
-    let own_table = g.D.OpSet.is_symbol_table in
-    let hidden = g.D.SymbolNames.is_private in
-    let names = g.D.SymbolNames.names_used in
-    let s = c.args.ctx.now in
-    let tab = c.args.table.now in
-    let b = c.args.block in
-    let u = c.args.used.now in
     let r = c.symbols.invariant in
-    let back = (rest own own_table hidden names s tab b u c.symbols.ctx c.symbols.table c.symbols.erased c.symbols.at r c.in-Some.op c.in-Some.is).0 in
-    let cut = sweeping-cut own own_table hidden names s tab b u c.symbols.ctx c.symbols.table c.symbols.erased c.symbols.at r c.in-Some.op c.in-Some.is in
-    sweeping-falls own own_table hidden names s tab b u c.symbols.ctx c.symbols.table c.symbols.erased c.symbols.at r c.in-Some.op c.in-Some.is
-    c.requires.used c.erasures_thin.ensures c.sweep_symbol-erased.new.ctx c.sweep_symbol-erased.new.table c.sweep_symbol-erased.result c.get_next-at.result c.stands-in-Some.ensures.standing
-    (c.get_next-at.ensures.value ∙ c.next_is_behind.ensures (BasicBlock b) r.front back cut) c.sweep_symbol-erased.ensures
+    let back = (rest r c.in-Some.op c.in-Some.is).0 in
+    let cut = sweeping-cut r c.in-Some.op c.in-Some.is in
+    sweeping-falls r c.in-Some.op c.in-Some.is c.requires.used c.erasures_thin.ensures c.sweep_symbol-erased.new.ctx
+    c.sweep_symbol-erased.new.table c.sweep_symbol-erased.result c.get_next-at.result c.stands-in-Some.ensures.standing
+    (c.get_next-at.ensures.value ∙ c.next_is_behind.ensures (BasicBlock c.args.block) r.front back cut)
+    c.sweep_symbol-erased.ensures
 
 pub symbols-preserved : goal.symbols-preserved
 symbols-preserved g c =
-    let own = g.D.OpSet.is_symbol in
-    let own_table = g.D.OpSet.is_symbol_table in
-    let hidden = g.D.SymbolNames.is_private in
-    let names = g.D.SymbolNames.names_used in
-    let s = c.args.ctx.now in
-    let tab = c.args.table.now in
-    let b = c.args.block in
-    let u = c.args.used.now in
     let r = c.symbols.invariant in
-    let back = (rest own own_table hidden names s tab b u c.symbols.ctx c.symbols.table c.symbols.erased c.symbols.at r c.in-Some.op c.in-Some.is).0 in
-    let cut = sweeping-cut own own_table hidden names s tab b u c.symbols.ctx c.symbols.table c.symbols.erased c.symbols.at r c.in-Some.op c.in-Some.is in
-    sweeping-more own own_table hidden names s tab b u c.symbols.ctx c.symbols.table c.symbols.erased c.symbols.at r c.in-Some.op c.in-Some.is
-    c.requires.used c.erasures_thin.ensures c.sweep_symbol-erased.new.ctx c.sweep_symbol-erased.new.table c.sweep_symbol-erased.result c.get_next-at.result c.stands-in-Some.ensures.standing
-    (c.get_next-at.ensures.value ∙ c.next_is_behind.ensures (BasicBlock b) r.front back cut) c.sweep_symbol-erased.ensures
+    let back = (rest r c.in-Some.op c.in-Some.is).0 in
+    let cut = sweeping-cut r c.in-Some.op c.in-Some.is in
+    sweeping-more r c.in-Some.op c.in-Some.is c.requires.used c.erasures_thin.ensures c.sweep_symbol-erased.new.ctx
+    c.sweep_symbol-erased.new.table c.sweep_symbol-erased.result c.get_next-at.result c.stands-in-Some.ensures.standing
+    (c.get_next-at.ensures.value ∙ c.next_is_behind.ensures (BasicBlock c.args.block) r.front back cut)
+    c.sweep_symbol-erased.ensures
 
 pub returns : goal.returns
-returns g c =
-    sweeping-end g.D.OpSet.is_symbol g.D.OpSet.is_symbol_table g.D.SymbolNames.is_private g.D.SymbolNames.names_used c.args.ctx.now c.args.table.now c.args.block c.args.used.now
-    c.symbols.ctx c.symbols.table c.symbols.erased c.symbols.at c.symbols.invariant c.in_default.is
+returns g c = sweeping-end c.symbols.invariant c.in_default.is

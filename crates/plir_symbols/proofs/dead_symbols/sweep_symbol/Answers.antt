@@ -1,10 +1,12 @@
 use Rattle.std.proofs.Common.{inl, inr, refl, ap}
+use Rattle.plir_store.specs.FilterLaws.{not-both}
 use Rattle.plir_core.specs.declared.ptr.IRNode.TheVariants.{Operation}
-use Rattle.plir_symbols.proofs.Going.{not-both, not-refused}
+use Rattle.plir_symbols.proofs.Going.{not-refused}
 use Rattle.plir_symbols.proofs.dead_symbols.sweep_symbol.Goals as goal
 
 pub returns-then-not-may_go : goal.returns-then-not-may_go
-returns-then-not-may_go g c = inr (λ m. not-both c.may_go.result (c.may_go.ensures.1 m) c.if-not-may_go.true, refl, refl, refl)
+returns-then-not-may_go g c =
+    inr (λ m. not-both c.may_go.result (c.may_go.ensures.1 m) c.if-not-may_go.true, refl, refl, refl)
 
 pub erase-requires-clause-unused : goal.erase-requires-clause-unused
 erase-requires-clause-unused g c = (c.may_go.ensures.0 c.if-not-may_go.false).unused
@@ -22,7 +24,9 @@ returns g c = inl (
   record {
     after = c.in-Ok.ensures.after;
     tree = c.in-Ok.ensures.tree;
-    thinned = c.erasures_thin.ensures.erased c.erase.new.ctx (Operation c.args.op) c.in-Ok.ensures.tree (ap (λ z. z.types) c.in-Ok.ensures.after);
+    thinned =
+        c.erasures_thin.ensures.erased c.erase.new.ctx (Operation c.args.op) c.in-Ok.ensures.tree
+        (ap (λ z. z.types) c.in-Ok.ensures.after);
     kept = record {
       op = ap (λ z. z.op) c.in-Ok.ensures.forgotten.table;
       agrees = c.in-Ok.ensures.agrees;

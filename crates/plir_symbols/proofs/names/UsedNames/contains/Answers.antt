@@ -4,4 +4,6 @@ use Rattle.plir_symbols.proofs.NameSets.{has-seen}
 use Rattle.plir_symbols.proofs.names.UsedNames.contains.Goals as goal
 
 pub returns : goal.returns
-returns c = c.contains.ensures ∙ sym (has-seen c.self.inside.names.keys c.args.name.now) ∙ ap (λ s. contains s c.args.name.now) c.self.view_is
+returns c =
+    c.contains.ensures ∙ sym (has-seen c.self.inside.names.keys c.args.name.now)
+    ∙ ap (λ s. contains s c.args.name.now) c.self.view_is

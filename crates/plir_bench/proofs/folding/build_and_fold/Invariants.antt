@@ -1,0 +1,7 @@
+use Rattle.plir_core.specs.ContextView.{IsLive}
+use Rattle.plir_core.specs.declared.ptr.IRNode.TheVariants.{BasicBlock}
+use Rattle.plir_bench.proofs.folding.build_and_fold.Given as goal
+
+-- the body is live
+abbrev pub invariant-loop : goal.invariant-loop
+invariant-loop l = IsLive l.ctx (BasicBlock l.body)
