@@ -9,7 +9,8 @@ use Rattle.plir_data.specs.Types as types
 use Rattle.plir_data.specs.Types.{TypeView, type_at, prints_as_signed}
 use Rattle.plir_data.specs.TypeText.{spaced, integer_text, type_text}
 use Rattle.plir_attr_text.specs.AttrGrammar.{truth}
-use Rattle.plir_attr_text.specs.Written.{quotation, joined, name_or_mark}
+use Rattle.plir_attr_text.specs.Written.{quotation, name_or_mark}
+use Rattle.plir_data.specs.TextParts.{parted}
 
 module _ {T : Type 0} where
   -- whether values of a type are written with a sign
@@ -36,8 +37,9 @@ module _ {A T : Type 0} (own_id : A → List ℕ) (own_body : List (TypeView T) 
       (codes ": " ++ (bare_text (type_text type_id type_body table handle) (type_at table handle) ++ codes ">")))
   leaf_text unit = codes "builtin.unit"
   leaf_text (type_of handle) = codes "builtin.type " ++ type_text type_id type_body table handle
-  leaf_text (operand_segment_sizes ns) = codes "builtin.operand_segment_sizes [" ++ (joined decimal ns ++ codes "]")
-  leaf_text (given_names ns) = codes "builtin.given_names [" ++ (joined name_or_mark ns ++ codes "]")
+  leaf_text (operand_segment_sizes ns) = codes "builtin.operand_segment_sizes [" ++
+      (parted (codes ", ") decimal ns ++ codes "]")
+  leaf_text (given_names ns) = codes "builtin.given_names [" ++ (parted (codes ", ") name_or_mark ns ++ codes "]")
   leaf_text (own a) = own_id a ++ spaced (own_body table a)
 
   abbrev mutual

@@ -17,7 +17,6 @@
 --   Reading                      Reads, Gives: what a reader answers, by what is read
 --   Written, AttrText            attr_text: the text of an attribute
 --   OpSetTexts                   attribute_text: the same by the answers of an op set
---   Puts                         texts that are written one behind another
 --   Writable                     attributes that texts can stand for
 --   AttrAnswer, AttrReadBack     what the reader of attributes answers; that it reads back what was printed
 pub mod Bytes
@@ -37,7 +36,6 @@ pub mod Faults
 pub mod Reading
 pub mod AttrGrammar
 pub mod Written
-pub mod Puts
 pub mod AttrText
 pub mod OpSetTexts
 pub mod AttrReading

@@ -1,5 +1,5 @@
 -- Strings and lists as they are printed.
-use Rattle.std.specs.Prelude.{ℕ, ◌+◌, ◌/◌, ◌%◌, List, [], ◌∷◌, ◌++◌, Bool, true, false, ◌||◌, nat_eq, nat_lt}
+use Rattle.std.specs.Prelude.{ℕ, ◌+◌, ◌/◌, ◌%◌, List, [], ◌∷◌, ◌++◌, Bool, ◌||◌, nat_eq, nat_lt}
 use Rattle.std.specs.Prelude.{if◌then◌else◌, codes, Option, Some, None, encode_utf8}
 
 -- a hexadecimal digit, in lower case
@@ -38,22 +38,6 @@ escape_char c = if nat_lt c 128 then escape c else encode_utf8 c
 -- a string with its quotes
 abbrev pub quotation : List ℕ → List ℕ
 quotation s = codes "\"" ++ (escaped s ++ codes "\"")
-
-module _ {X : Type 0} where
-  -- a comma and a space before each thing
-  abbrev pub joined_on : (X → List ℕ) → List X → List ℕ
-  joined_on write [] = []
-  joined_on write (x ∷ xs) = codes ", " ++ (write x ++ joined_on write xs)
-
-  -- things with a comma and a space between them
-  abbrev pub joined : (X → List ℕ) → List X → List ℕ
-  joined write [] = []
-  joined write (x ∷ xs) = write x ++ joined_on write xs
-
-  -- what is still to be written of things: nothing is before the first
-  abbrev pub joined_from : (is_first : Bool) → (X → List ℕ) → List X → List ℕ
-  joined_from true write xs = joined write xs
-  joined_from false write xs = joined_on write xs
 
 -- a given name, or `?`
 abbrev pub name_or_mark : Option (List ℕ) → List ℕ

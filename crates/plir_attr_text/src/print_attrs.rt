@@ -10,10 +10,10 @@ ghost use Rattle.plir_data.specs.Types.{IsLive, AllLive, type_at};
 ghost use Rattle.plir_data.specs.TypeText.{type_text};
 ghost use Rattle.plir_attr_text.specs.AttrText.{is_signed, bare_text};
 ghost use Rattle.plir_attr_text.specs.OpSetTexts.{attribute_text, plain_text, attributes_text, pairs_text};
-ghost use Rattle.plir_attr_text.specs.Puts.{Puts};
+ghost use Rattle.plir_data.specs.TextParts.{Puts};
 
 use crate::put::{put_bool, put_given_names, put_identifier, put_segments, put_string};
-use plir_data::put::{put, put_comma, put_integer_text, put_spaced};
+use plir_data::put::{put, put_between, put_integer_text, put_spaced};
 use plir_data::{
     APInt, AttrObj, AttributeDict, IntegerAttr, Memory, OpSet, TypeAttr, TypeHandle, TypeObj,
     TypeStore, TypeTable, type_text,
@@ -107,7 +107,7 @@ fn put_entries<D: OpSet>(
 {
     let mut is_first = true;
     'entries: for (key, value) in dict.iter() {
-        put_comma(out, is_first)?;
+        put_between(out, is_first, ", ")?;
         put(out, key.as_str())?;
         put(out, " = ")?;
         put_attr(out, alloc, types, value)?;
@@ -148,7 +148,7 @@ fn put_items<D: OpSet>(
 {
     let mut is_first = true;
     'items: for item in list {
-        put_comma(out, is_first)?;
+        put_between(out, is_first, ", ")?;
         put_attr(out, alloc, types, item)?;
         is_first = false;
     }

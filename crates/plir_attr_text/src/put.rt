@@ -3,12 +3,11 @@
 ghost use Rattle.std.specs.Prelude.{◌≡◌, ◌<◌, ◌++◌, OnOk, codes, ◌∷◌, []};
 ghost use Rattle.std.specs.Fmt.{decimal};
 ghost use Rattle.plir_attr_text.specs.AttrGrammar.{truth};
-ghost use Rattle.plir_attr_text.specs.Puts.{Puts};
+ghost use Rattle.plir_data.specs.TextParts.{Puts, parted};
 ghost use Rattle.plir_attr_text.specs.Written.{hex_digit, hex, is_control, escape, escape_char, escaped, quotation};
-ghost use Rattle.plir_attr_text.specs.Written.{joined};
 ghost use Rattle.plir_attr_text.specs.Written.{name_or_mark};
 
-use plir_data::put::{put, put_comma};
+use plir_data::put::{put, put_between};
 use plir_data::{
     BoolAttr, GivenNamesAttr, Identifier, IdentifierAttr, Memory, OperandSegmentSizesAttr,
     StringAttr,
@@ -33,11 +32,11 @@ fn put_number(out: &mut String, n: u32) -> Result<(), Memory>
 
 // Sizes of segments, with a comma and a space between them.
 fn put_sizes(out: &mut String, sizes: &[u32]) -> Result<(), Memory>
-    ensures { OnOk result (Puts out.old out.new (joined decimal sizes.now)) }
+    ensures { OnOk result (Puts out.old out.new (parted (codes ", ") decimal sizes.now)) }
 {
     let mut is_first = true;
     'sizes: for size in sizes {
-        put_comma(out, is_first)?;
+        put_between(out, is_first, ", ")?;
         put_number(out, *size)?;
         is_first = false;
     }
@@ -56,11 +55,11 @@ fn put_name(out: &mut String, name: &Option<Identifier>) -> Result<(), Memory>
 
 // Given names, with a comma and a space between them.
 fn put_names(out: &mut String, names: &[Option<Identifier>]) -> Result<(), Memory>
-    ensures { OnOk result (Puts out.old out.new (joined name_or_mark names.now)) }
+    ensures { OnOk result (Puts out.old out.new (parted (codes ", ") name_or_mark names.now)) }
 {
     let mut is_first = true;
     'names: for name in names {
-        put_comma(out, is_first)?;
+        put_between(out, is_first, ", ")?;
         put_name(out, name)?;
         is_first = false;
     }
@@ -193,7 +192,7 @@ pub fn put_bool(out: &mut String, value: BoolAttr) -> Result<(), Memory>
 // Sizes of segments as an attribute.
 pub fn put_segments(out: &mut String, value: &OperandSegmentSizesAttr) -> Result<(), Memory>
     ensures { OnOk result (Puts out.old out.new (codes "builtin.operand_segment_sizes [" ++
-        (joined decimal value.now ++ codes "]"))) }
+        (parted (codes ", ") decimal value.now ++ codes "]"))) }
 {
     put(out, "builtin.operand_segment_sizes [")?;
     put_sizes(out, value.0.as_slice())?;
@@ -203,8 +202,8 @@ pub fn put_segments(out: &mut String, value: &OperandSegmentSizesAttr) -> Result
 
 // Given names as an attribute.
 pub fn put_given_names(out: &mut String, value: &GivenNamesAttr) -> Result<(), Memory>
-    ensures { OnOk result (Puts out.old out.new (codes "builtin.given_names [" ++ (joined name_or_mark value.now ++
-        codes "]"))) }
+    ensures { OnOk result (Puts out.old out.new (codes "builtin.given_names [" ++
+        (parted (codes ", ") name_or_mark value.now ++ codes "]"))) }
 {
     put(out, "builtin.given_names [")?;
     put_names(out, value.names())?;

@@ -21,6 +21,8 @@
 --   AttrLive     IsAttrLive: the handles in an attribute name types of a table; HandlesLive: those in a dictionary
 --   LiveLaws     laws of live handles in lists and dictionaries, for the proofs of the crates above
 --   AttrVerify   attr_is_valid, IsRefusal: which attributes are valid, and how others are refused
+--   TextParts    Puts: a text has come behind what there was; parted: things with something between them
+--   TextLaws     laws of pieces that are put one behind another, for the proofs of the crates above
 --   TypeTree, TypeText   tree_of, type_text: a type as a whole, and its text
 --   NamesLent, EntryLent   LendsNames, LendsEntry: what becomes of given names, and of a dictionary's entry, that are
 --   lent
@@ -53,5 +55,7 @@ pub mod AttrVerify
 pub mod Laws
 pub mod NamesLent
 pub mod EntryLent
+pub mod TextParts
+pub mod TextLaws
 pub mod TypeTree
 pub mod TypeText

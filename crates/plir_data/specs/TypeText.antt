@@ -1,5 +1,5 @@
 -- The text of a type.
-use Rattle.std.specs.Prelude.{ℕ, Bool, true, false, List, [], ◌∷◌, ◌++◌, map, codes}
+use Rattle.std.specs.Prelude.{ℕ, List, [], ◌∷◌, ◌++◌, map, codes}
 use Rattle.std.specs.Fmt.{decimal}
 use Rattle.plir_data.specs.Types.{TypeView}
 use Rattle.plir_data.specs.TypeTree.{TypeTree, integer_tree, function_tree, unit_tree, own_tree, Trees, no_trees, tree}
@@ -17,11 +17,6 @@ letters Signless = codes "i"
 abbrev pub spaced : List ℕ → List ℕ
 spaced [] = []
 spaced (b ∷ bs) = 32 ∷ b ∷ bs
-
--- what stands before a type of several: nothing before the first
-abbrev pub comma : (is_first : Bool) → List ℕ
-comma true = []
-comma false = codes ", "
 
 -- an integer type behind its id
 abbrev pub integer_text : Signedness → (width : ℕ) → List ℕ

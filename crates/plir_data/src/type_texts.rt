@@ -6,7 +6,7 @@ ghost use Rattle.plir_data.specs.TypeText.{integer_text, spaced, type_text, type
 
 use crate::memory::Memory;
 use crate::op_set::OpSet;
-use crate::put::{put, put_comma, put_integer_text, put_spaced};
+use crate::put::{put, put_between, put_integer_text, put_spaced};
 use crate::type_store::TypeStore;
 use crate::types::{FunctionType, FunctionTypeInterface, IntegerType, TypeHandle, TypeObj};
 use std::alloc::Global;
@@ -76,7 +76,7 @@ fn put_types<D: OpSet, C: TypeStore<D>>(
 {
     let mut is_first = true;
     'handles: for handle in handles {
-        put_comma(out, is_first)?;
+        put_between(out, is_first, ", ")?;
         put_type(out, alloc, ctx, *handle)?;
         is_first = false;
     }

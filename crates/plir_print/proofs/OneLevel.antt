@@ -13,7 +13,7 @@ use Rattle.plir_store.specs.Members.{Has}
 use Rattle.plir_core.specs.Standing.{IsStanding}
 use Rattle.plir_core.specs.ContextView.{ContextView, children, limit}
 use Rattle.plir_core.specs.Measures.{depth}
-use Rattle.plir_print.specs.Lists.{before, parted_from}
+use Rattle.plir_data.specs.TextParts.{before, parted_from}
 use Rattle.plir_print.specs.OpText.{line, op_front, block_front, room, text_at, text_of, regions_text, blocks_text}
 use Rattle.plir_print.specs.OpText.{ops_text}
 

@@ -17,7 +17,7 @@ use Rattle.plir_core.specs.ContextView.{ContextView, IsLive, children, next_sibl
 use Rattle.plir_store.specs.Members.{Has, head}
 use Rattle.plir_store.specs.MemberLaws.{Has-map, Has-mid}
 use Rattle.plir_print.specs.HeaderAttrs.{IsPrintable}
-use Rattle.plir_print.specs.Lists.{before, parted_from}
+use Rattle.plir_data.specs.TextParts.{before, parted_from}
 use Rattle.plir_print.specs.OpText.{line, op_front, block_front, text_of}
 use Rattle.plir_print.specs.Steps.{Cursor, HangsIn, IsAt, IsBehind, IsNearer, Steps, closing, inner, children_text}
 use Rattle.plir_print.specs.Steps.{lead, opening, outer, own_rest, rank, ranks}

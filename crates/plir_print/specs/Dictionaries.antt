@@ -13,7 +13,7 @@ use Rattle.plir_core.specs.declared.ptr.Ptr.{Ptr}
 use Rattle.plir_core.specs.declared.ptr.Operation.{Operation as OperationKind}
 use Rattle.plir_core.specs.ContextView.{ContextView, attributes_of, kind_of}
 use Rattle.plir_attr_text.specs.OpSetTexts.{pair_text}
-use Rattle.plir_print.specs.Lists.{parted}
+use Rattle.plir_data.specs.TextParts.{parted}
 
 -- whether the attribute under a key stands in the header, of an operation of a kind that has its dictionary apart
 abbrev pub is_in_header : {K : Type 0} → Option (OpKind K) → (key : List ℕ) → Bool

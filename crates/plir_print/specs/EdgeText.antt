@@ -15,7 +15,7 @@ use Rattle.plir_flow.specs.declared.edge_ends.RegionBranchPoint.{RegionBranchPoi
 use Rattle.plir_flow.specs.declared.edge_ends.RegionBranchPoint.TheVariants.{Parent, Terminator}
 use Rattle.plir_flow.specs.declared.edge_ends.RegionSuccessor.{RegionSuccessor}
 use Rattle.plir_flow.specs.declared.edge_ends.RegionSuccessor.TheVariants.{Region as ToRegion, After}
-use Rattle.plir_print.specs.Lists.{parted}
+use Rattle.plir_data.specs.TextParts.{parted}
 use Rattle.plir_print.specs.ValueNames.{value_name}
 use Rattle.plir_print.specs.HeaderAttrs.{HasHeader}
 use Rattle.plir_print.specs.Headers.{header}

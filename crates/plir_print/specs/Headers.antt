@@ -13,7 +13,7 @@ use Rattle.plir_core.specs.ContextView.{ContextView, kind_of, op_at, operands_of
 use Rattle.plir_core.specs.ContextView.{type_of_value}
 use Rattle.plir_builtin.specs.Symbols.{name_held}
 use Rattle.plir_builtin.specs.BuiltinOps.{func_type_of, value_of}
-use Rattle.plir_print.specs.Lists.{parted}
+use Rattle.plir_data.specs.TextParts.{parted}
 use Rattle.plir_print.specs.ValueNames.{block_name, value_name, results_of}
 use Rattle.plir_attr_text.specs.OpSetTexts.{attribute_text}
 use Rattle.plir_print.specs.Dictionaries.{dictionary}

@@ -3,7 +3,6 @@
 --
 --   ValueNames   value_name, block_name: the names of values and blocks in texts; results_of, arguments_of: these
 --                values in order
---   Lists        parted: things with something between them
 --   HeaderAttrs  has_header: an operation has the attributes that its header needs; IsPrintable: each one at or under a
 --                node has
 --   Dictionaries dictionary: the attributes of an operation that its text shows
@@ -18,7 +17,6 @@
 --   HeaderWalk   header_answer: how the walk that looks at headers goes on
 --   Steps        Steps: one step of a printer through a tree, from a node that is entered or left to the next
 pub mod ValueNames
-pub mod Lists
 pub mod HeaderAttrs
 pub mod Dictionaries
 pub mod Headers

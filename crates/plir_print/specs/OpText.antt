@@ -15,7 +15,7 @@ use Rattle.plir_core.specs.declared.ptr.IRNode.TheVariants.{Operation, Region, B
 use Rattle.plir_core.specs.declared.value.Value.{Value}
 use Rattle.plir_core.specs.ContextView.{ContextView, children, kind_of, limit}
 use Rattle.plir_core.specs.Measures.{depth}
-use Rattle.plir_print.specs.Lists.{parted}
+use Rattle.plir_data.specs.TextParts.{parted}
 use Rattle.plir_print.specs.ValueNames.{block_name, value_name, results_of, arguments_of}
 use Rattle.plir_print.specs.Dictionaries.{dictionary_text, shown}
 use Rattle.plir_print.specs.Headers.{header, names_text, value_type_text}

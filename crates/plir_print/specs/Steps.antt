@@ -7,7 +7,7 @@ use Rattle.plir_core.specs.declared.ptr.IRNode.{IRNode}
 use Rattle.plir_core.specs.declared.ptr.IRNode.TheVariants.{Operation, Region, BasicBlock}
 use Rattle.plir_core.specs.Measures.{depth}
 use Rattle.plir_core.specs.ContextView.{ContextView, children, limit}
-use Rattle.plir_print.specs.Lists.{before}
+use Rattle.plir_data.specs.TextParts.{before}
 use Rattle.plir_print.specs.OpText.{line, op_front, block_front, room, text_of}
 
 -- how far in the children of a node stand that stands as far in as n columns

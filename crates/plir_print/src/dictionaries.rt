@@ -4,15 +4,14 @@ ghost use Rattle.plir_data.specs.AttrSeen.{attr_view};
 ghost use Rattle.plir_data.specs.AttrLive.{IsAttrLive, HandlesLive};
 ghost use Rattle.plir_core.specs.declared.ptr.IRNode.{IRNode as AnyNode};
 ghost use Rattle.plir_core.specs.ContextView.{IsLive};
-ghost use Rattle.plir_print.specs.Lists.{Puts};
+ghost use Rattle.plir_data.specs.TextParts.{Puts};
 ghost use Rattle.plir_attr_text.specs.OpSetTexts.{attribute_text};
 ghost use Rattle.plir_print.specs.Dictionaries.{dictionary, is_shown, is_in_header, shown_of, shown_text};
 
-use crate::layout::put_between;
 use plir_attr_text::print_attr;
 use plir_builtin::{ATTR_KEY_BUILTIN_FUNC_TYPE, ATTR_KEY_SYM_NAME};
 use plir_core::{Context, Operation, Ptr};
-use plir_data::put::put;
+use plir_data::put::{put, put_between};
 use plir_data::{AttrObj, AttributeDict, Memory, OpKind, OpSet};
 use std::alloc::Global;
 

@@ -4,16 +4,15 @@ ghost use Rattle.plir_core.specs.declared.ptr.IRNode.{IRNode as AnyNode};
 ghost use Rattle.plir_core.specs.ContextView.{IsLive};
 ghost use Rattle.plir_core.specs.WellFormed.{IsWellFormed};
 ghost use Rattle.plir_flow.specs.RegionEdges.{IsEdgeLive, IsFlowLive, IsPointLive, IsSuccessorLive, IsUseLive};
-ghost use Rattle.plir_print.specs.Lists.{Puts};
+ghost use Rattle.plir_data.specs.TextParts.{Puts};
 ghost use Rattle.plir_print.specs.EdgeText.{HasPointHeader, edge_text, flow_text, flows_text, passing_text, point_text};
 ghost use Rattle.plir_print.specs.EdgeText.{reads_text, region_place, successor_text, use_text};
 
 use crate::children::stands;
 use crate::headers::put_header;
-use crate::layout::put_between;
 use crate::names::put_value;
 use plir_core::{Context, Ptr, Region, Use, Value};
-use plir_data::put::put;
+use plir_data::put::{put, put_between};
 use plir_data::{Memory, OpSet};
 use plir_flow::{RegionBranchPoint, RegionEdge, RegionSuccessor};
 use std::alloc::Global;

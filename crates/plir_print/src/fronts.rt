@@ -2,18 +2,18 @@
 ghost use Rattle.std.specs.Prelude.{◌<◌, ◌^◌, OnOk};
 ghost use Rattle.plir_core.specs.declared.ptr.IRNode.{IRNode as AnyNode};
 ghost use Rattle.plir_core.specs.ContextView.{IsLive, IsValueLive};
-ghost use Rattle.plir_print.specs.Lists.{Puts};
+ghost use Rattle.plir_data.specs.TextParts.{Puts};
 ghost use Rattle.plir_print.specs.HeaderAttrs.{HasHeader};
 ghost use Rattle.plir_print.specs.OpText.{argument_text, arguments_text, block_front, op_front};
 ghost use Rattle.plir_print.specs.OpText.{dictionary_apart, dictionary_line, results_text, space_text};
 
 use crate::dictionaries::{put_dictionary, shows_some};
 use crate::headers::{put_header, put_names, put_value_type};
-use crate::layout::{put_between, put_line};
+use crate::layout::put_line;
 use crate::names::{put_block_name, put_value};
 use crate::values::{ValueList, num_values, value_at};
 use plir_core::{BasicBlock, Context, Operation, Ptr, Value};
-use plir_data::put::put;
+use plir_data::put::{put, put_between};
 use plir_data::{Memory, OpKind, OpSet};
 use std::alloc::Global;
 

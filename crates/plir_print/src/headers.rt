@@ -9,17 +9,16 @@ ghost use Rattle.plir_builtin.specs.Symbols.{name_held};
 ghost use Rattle.plir_print.specs.HeaderAttrs.{HasHeader, has_header_of};
 ghost use Rattle.plir_print.specs.Headers.{header, header_of, names_text, signature_text, successor_text};
 ghost use Rattle.plir_print.specs.Headers.{successors_text, symbol_text, types_text, uses_text, value_type_text};
-ghost use Rattle.plir_print.specs.Lists.{Puts};
+ghost use Rattle.plir_data.specs.TextParts.{Puts};
 ghost use Rattle.plir_print.specs.ValueLists.{holder, values_in};
 
 use crate::dictionaries::{put_attr, put_dictionary};
 use crate::header_attrs::find_value;
-use crate::layout::put_between;
 use crate::names::{put_block_name, put_value};
 use crate::values::{ValueList, num_values, value_at};
 use plir_builtin::{find_func_type, symbol_name};
 use plir_core::{BasicBlock, Context, Operation, Ptr, Value};
-use plir_data::put::put;
+use plir_data::put::{put, put_between};
 use plir_data::{Memory, OpKind, OpSet, TypeHandle, type_text};
 use std::alloc::Global;
 

@@ -1,17 +1,10 @@
-//! What stands between the parts of a text.
+//! New lines, and how far in they begin.
 ghost use Rattle.std.specs.Prelude.{◌*◌, OnOk, replicate};
-ghost use Rattle.plir_print.specs.Lists.{Puts, before};
+ghost use Rattle.plir_data.specs.TextParts.{Puts};
 ghost use Rattle.plir_print.specs.OpText.{line};
 
 use plir_data::Memory;
 use plir_data::put::put;
-
-/// Puts what stands between things, before all but the first.
-pub(crate) fn put_between(out: &mut String, is_first: bool, between: &str) -> Result<(), Memory>
-    ensures { OnOk result (Puts out.old out.new (before is_first between.now)) }
-{
-    if is_first { Ok(()) } else { put(out, between) }
-}
 
 // Puts so many times 64 spaces.
 fn put_wide_spaces(out: &mut String, times: usize) -> Result<(), Memory>

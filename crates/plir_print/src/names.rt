@@ -3,7 +3,7 @@ ghost use Rattle.std.specs.Prelude.{OnOk, option_map};
 ghost use Rattle.plir_core.specs.declared.ptr.IRNode.{IRNode as AnyNode};
 ghost use Rattle.plir_core.specs.ContextView.{IsLive, IsValueLive};
 ghost use Rattle.plir_builtin.specs.ResultNames.{given_first, result_name};
-ghost use Rattle.plir_print.specs.Lists.{Puts};
+ghost use Rattle.plir_data.specs.TextParts.{Puts};
 ghost use Rattle.plir_print.specs.ValueNames.{argument_name, block_name, value_name};
 
 use plir_core::{BasicBlock, Context, DefiningEntity, Operation, Ptr, Value};

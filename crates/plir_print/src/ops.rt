@@ -3,17 +3,17 @@ ghost use Rattle.std.specs.Prelude.{◌≡◌, ◌++◌, ◌^◌, ◌<◌, ℕ, 
 ghost use Rattle.plir_core.specs.declared.ptr.IRNode.{IRNode as AnyNode};
 ghost use Rattle.plir_core.specs.ContextView.{IsLive};
 ghost use Rattle.plir_core.specs.WellFormed.{IsWellFormed};
-ghost use Rattle.plir_print.specs.Lists.{Puts};
+ghost use Rattle.plir_data.specs.TextParts.{Puts};
 ghost use Rattle.plir_print.specs.HeaderAttrs.{IsPrintable};
 ghost use Rattle.plir_print.specs.OpText.{op_text};
 ghost use Rattle.plir_print.specs.Steps.{Steps, closing, inner, lead, opening, outer};
 
 use crate::children::{next_of, stands};
 use crate::fronts::{put_block_front, put_op_front};
-use crate::layout::{put_between, put_line};
+use crate::layout::put_line;
 use plir_core::laws::next_is_behind;
 use plir_core::{Context, IRNode, Operation, Ptr};
-use plir_data::put::put;
+use plir_data::put::{put, put_between};
 use plir_data::{Memory, OpSet};
 use plir_walk::NodeLinks;
 use std::alloc::Global;

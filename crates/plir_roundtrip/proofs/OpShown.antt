@@ -40,7 +40,7 @@ use Rattle.plir_builtin.specs.Symbols.{name_held}
 use Rattle.plir_print.specs.Dictionaries.{shown}
 use Rattle.plir_print.specs.HeaderAttrs.{has_header_of}
 use Rattle.plir_print.specs.Headers.{names_text, some_type_text, some_attr_text, header_of}
-use Rattle.plir_print.specs.Lists.{parted, parted_from}
+use Rattle.plir_data.specs.TextParts.{parted, parted_from}
 use Rattle.plir_print.specs.OpText.{line, equals_behind, space_behind, line_of, dictionary_of, results_text}
 use Rattle.plir_print.specs.OpText.{argument_text, block_front, text_at}
 use Rattle.plir_print.specs.ValueNames.{arguments_of}

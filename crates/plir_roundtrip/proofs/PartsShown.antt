@@ -14,7 +14,7 @@ use Rattle.plir_attr_text.specs.Terms.{TypeTerm, AttrTerm, EntryTerms, no_entrie
 use Rattle.plir_attr_text.specs.Tokens.{Token, word, sign}
 use Rattle.plir_attr_text.specs.TypeGrammar.{enclosed, SpellsType}
 use Rattle.plir_attr_text.specs.Writable.{IsWritable, entry_terms}
-use Rattle.plir_print.specs.Lists.{parted, parted_from}
+use Rattle.plir_data.specs.TextParts.{parted, parted_from}
 use Rattle.plir_print.specs.OpText.{line}
 use Rattle.plir_read.specs.OpGrammar.{symbol, SpellsHead, SpellsDictionary, SpellsArgument, SpellsBlockHead}
 use Rattle.plir_read.specs.OpGrammar.{SpellsConstant}

@@ -20,7 +20,6 @@ pub use Rattle.plir_attr_text.specs.Writable
 pub use Rattle.plir_attr_text.specs.AttrAnswer
 pub use Rattle.plir_attr_text.specs.AttrReadBack
 -- Operations and edges, printed.
-pub use Rattle.plir_print.specs.Lists
 pub use Rattle.plir_print.specs.Dictionaries
 pub use Rattle.plir_print.specs.HeaderAttrs
 pub use Rattle.plir_print.specs.OpText

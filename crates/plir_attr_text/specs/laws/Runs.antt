@@ -1,12 +1,13 @@
 -- Tokens of things that are printed one behind the other.
 use Rattle.std.proofs.Common.{◌≡◌, ◌||◌, ℕ, suc, Bool, true, false, nat_eq, List, [], ◌∷◌, ◌++◌, All, Ok, refl, sym}
+use Rattle.std.proofs.Common.{codes}
 use Rattle.std.proofs.Common.{subst, arith, append_assoc, ◌∙◌}
 use Rattle.plir_data.specs.Identifier.{is_letter, is_digit, all_in_identifier, is_identifier}
 use Rattle.plir_attr_text.specs.AttrGrammar.{SpellsMore, SpellsSeveral}
 use Rattle.plir_attr_text.specs.Bytes.{is_in_word}
 use Rattle.plir_attr_text.specs.Tokens.{Token, word, digits, signed, quoted, arrow, sign, look, Takes, Begins}
 use Rattle.plir_attr_text.specs.TypeGrammar.{enclosed}
-use Rattle.plir_attr_text.specs.Written.{joined, joined_on}
+use Rattle.plir_data.specs.TextParts.{parted, parted_from}
 use Rattle.plir_attr_text.specs.laws.Begun.{Begins-append}
 use Rattle.plir_attr_text.specs.laws.Printed.{Ends, has_one_point, is_word, look-word, look-spaced}
 use Rattle.plir_attr_text.specs.laws.TypesAgain.{parts}
@@ -184,12 +185,12 @@ module _ {E F : List Token → Type 0} {text more : List ℕ} (p : Shown E text)
 -- things with commas between them
 module _ {X : Type 0} (E : X → List Token → Type 0) (write : X → List ℕ) (P : X → Type 0) (each : (x : X) → P x →
     Shown (E x) (write x)) where
-  more-shown : (xs : List X) → All P xs → Tail (SpellsMore E xs) (joined_on write xs)
+  more-shown : (xs : List X) → All P xs → Tail (SpellsMore E xs) (parted_from false (codes ", ") write xs)
   more-shown [] all = nothing
   more-shown (x ∷ xs) all =
       behind_comma (each x (all 0 x (omega arith))) (more-shown xs (λ k d lt. all (suc k) d (omega (arith, lt))))
 
-  pub several-shown : (xs : List X) → All P xs → Run (SpellsSeveral E xs) (joined write xs)
+  pub several-shown : (xs : List X) → All P xs → Run (SpellsSeveral E xs) (parted (codes ", ") write xs)
   several-shown [] all = nothing.run
   several-shown (x ∷ xs) all =
       behind_first (each x (all 0 x (omega arith))) (more-shown xs (λ k d lt. all (suc k) d (omega (arith, lt))))

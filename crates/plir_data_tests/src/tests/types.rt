@@ -1,6 +1,6 @@
 //! The calls on types.
 use super::own::OwnSet;
-use plir_data::put::{put, put_comma, put_spaced};
+use plir_data::put::{put, put_between, put_spaced};
 use plir_data::{
     FunctionType, FunctionTypeInterface, FunctionTypeMark, IntegerType, OpSet, TypeInterfaceMark,
     TypeMark, TypeObj, TypeStore, TypedHandle,
@@ -68,8 +68,8 @@ pub fn show_marks<D: OpSet>(bench: &mut Bench<D>, line: Line<'_>) -> Result<(), 
 pub fn put_parts<D: OpSet>(bench: &mut Bench<D>, line: Line<'_>) -> Result<(), Stop> {
     let mut out = String::new(bench.alloc);
     put(&mut out, line.text)?;
-    put_comma(&mut out, true)?;
-    put_comma(&mut out, false)?;
+    put_between(&mut out, true, ", ")?;
+    put_between(&mut out, false, ", ")?;
     put_spaced(&mut out, "")?;
     put_spaced(&mut out, line.text)?;
     bench.answer.put(out.as_str());

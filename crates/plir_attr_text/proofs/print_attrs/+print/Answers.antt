@@ -10,8 +10,9 @@ use Rattle.plir_data.specs.DictSeen.{pairs_view}
 use Rattle.plir_data.specs.LiveLaws.{item_live, first_live}
 use Rattle.plir_data.specs.declared.attributes.AttrObj.{AttrObj}
 use Rattle.plir_attr_text.specs.AttrText.{attr_text, entry_text, items_text, entries_text}
-use Rattle.plir_attr_text.specs.Written.{joined, joined_from}
-use Rattle.plir_attr_text.proofs.Joins.{three, goes_on, ends, items_joined, entries_joined}
+use Rattle.plir_data.specs.TextParts.{parted}
+use Rattle.plir_data.specs.TextLaws.{three, turn, ended}
+use Rattle.plir_attr_text.proofs.Joins.{items_parted, entries_parted}
 use Rattle.plir_attr_text.proofs.print_attrs.+print.Goals as goal
 
 -- what is left of a list, seen, begins with the item that comes next
@@ -40,7 +41,7 @@ put_entries-entries-init g t c =
     c.args.types.now in
     let seen : pairs_view c.into_iter-key-iterator.result ≡ c.args.dict.now =
     ap pairs_view c.into_iter-key-iterator.ensures.into_iter_gives ∙ c.iter-key-items.ensures.entries in (
-      ap (λ es. string_bytes c.args.out.now ++ joined write es) seen,
+      ap (λ es. string_bytes c.args.out.now ++ parted (codes ", ") write es) seen,
       subst (λ es. AreEntriesLive g.D.OpSet.attr_handles c.args.types.now (entries_of es)) (sym seen) c.requires,
       subst (λ es. entries_bulk es ≤ entries_bulk c.args.dict.now) (sym seen) (omega arith),
     )
@@ -71,12 +72,12 @@ put_entries-entries-preserved g t c =
     let x = attr_view c.in-Some.value.now in
     let left = pairs_view c.next.new.self in
     let step : pairs_view l.key-iterator ≡ (k, x) ∷ left = ap pairs_view c.in-Some.ensures.steps in
-    let key = c.in_ok-put.ensures.ok ∙ ap (λ w. string_bytes c.put_comma.new.out ++ w) c.as_str.ensures.value in
+    let key = c.in_ok-put.ensures.ok ∙ ap (λ w. string_bytes c.put_between.new.out ++ w) c.as_str.ensures.value in
     let text = attr_text g.D.OpSet.attr_id g.D.OpSet.attr_text g.D.OpSet.type_id g.D.OpSet.type_body_text types in
-    let pair = three (string_bytes c.put_comma.new.out) k (codes " = ") (text x) key c.in_ok-put-2.ensures.ok
+    let pair = three (string_bytes c.put_between.new.out) k (codes " = ") (text x) key c.in_ok-put-2.ensures.ok
     c.in_ok-put_attr.ensures in
-    let written = goes_on write _ _ _ _ l.is_first (k, x) left c.in_ok-put_comma.ensures.ok pair
-    (ap (λ es. string_bytes l.out ++ joined_from l.is_first write es) (sym step) ∙ inv.0) in (
+    let written = turn (codes ", ") write l.is_first _ _ _ _ (k, x) (pairs_view l.key-iterator) left
+    c.in_ok-put_between.ensures.ok pair step inv.0 in (
       written,
       (first_live g.D.OpSet.attr_handles types _ left (k, x) step inv.1).1,
       (first_small (entries_bulk c.args.dict.now) _ left (k, x) step inv.2).1,
@@ -87,9 +88,10 @@ put_entries-returns g t c =
     let l = c.entries in
     let write = entry_text g.D.OpSet.attr_id g.D.OpSet.attr_text g.D.OpSet.type_id g.D.OpSet.type_body_text
     c.args.types.now in
-    ends write _ _ l.is_first (pairs_view l.key-iterator) (ap pairs_view c.in-None.ensures.steps.0) l.invariant.0 ∙
+    ended (codes ", ") write l.is_first _ _ (pairs_view l.key-iterator) (ap pairs_view c.in-None.ensures.steps.0)
+    l.invariant.0 ∙
     ap (λ bytes. string_bytes c.args.out.now ++ bytes)
-    (sym (entries_joined g.D.OpSet.attr_id g.D.OpSet.attr_text g.D.OpSet.type_id g.D.OpSet.type_body_text
+    (sym (entries_parted g.D.OpSet.attr_id g.D.OpSet.attr_text g.D.OpSet.type_id g.D.OpSet.type_body_text
     c.args.types.now c.args.dict.now))
 
 pub put_items-put_attr-requires : goal.put_items-put_attr-requires
@@ -118,9 +120,9 @@ put_items-items-preserved g t c =
     c.args.types.now in
     let x = c.item-item.result in
     let step = left_items xs l.item-index x x (omega arith) c.item-item.is in
-    goes_on write _ _ _ _ l.is_first (attr_view x) (map attr_view (drop (l.item-index + 1) xs))
-    c.in_ok-put_comma.ensures.ok c.in_ok-put_attr.ensures
-    (ap (λ ys. string_bytes l.out ++ joined_from l.is_first write ys) (sym step) ∙ l.invariant)
+    turn (codes ", ") write l.is_first _ _ _ _ (attr_view x) (map attr_view (drop l.item-index xs))
+    (map attr_view (drop (l.item-index + 1) xs)) c.in_ok-put_between.ensures.ok c.in_ok-put_attr.ensures step
+    l.invariant
 
 pub put_items-returns : goal.put_items-returns
 put_items-returns g t c =
@@ -128,9 +130,10 @@ put_items-returns g t c =
     let xs = c.deref-item-items.result.now in
     let write = attr_text g.D.OpSet.attr_id g.D.OpSet.attr_text g.D.OpSet.type_id g.D.OpSet.type_body_text
     c.args.types.now in
-    ends write _ _ l.is_first (map attr_view (drop l.item-index xs))
+    ended (codes ", ") write l.is_first _ _ (map attr_view (drop l.item-index xs))
     (ap (map attr_view) (drop_all l.item-index xs (omega arith))) l.invariant ∙
-    ap (λ ys. string_bytes c.args.out.now ++ joined write (map attr_view ys)) c.deref-item-items.ensures.value
+    ap (λ ys. string_bytes c.args.out.now ++ parted (codes ", ") write (map attr_view ys))
+    c.deref-item-items.ensures.value
     ∙ ap (λ bytes. string_bytes c.args.out.now ++ bytes)
-    (sym (items_joined g.D.OpSet.attr_id g.D.OpSet.attr_text g.D.OpSet.type_id g.D.OpSet.type_body_text
+    (sym (items_parted g.D.OpSet.attr_id g.D.OpSet.attr_text g.D.OpSet.type_id g.D.OpSet.type_body_text
     c.args.types.now (map attr_view c.args.list.now.items)))

@@ -1,11 +1,11 @@
-use Rattle.std.proofs.Common.{◌≡◌, ◌≤◌, ◌+◌, ◌++◌, drop, map, string_bytes}
+use Rattle.std.proofs.Common.{◌≡◌, ◌≤◌, ◌+◌, ◌++◌, drop, map, string_bytes, codes}
 use Rattle.plir_data.specs.AttrDepth.{bulk, items_bulk, entries_bulk}
 use Rattle.plir_data.specs.AttrLive.{AreEntriesLive}
 use Rattle.plir_data.specs.AttrView.{entries_of}
 use Rattle.plir_data.specs.AttrSeen.{attr_view}
 use Rattle.plir_data.specs.DictSeen.{pairs_view}
 use Rattle.plir_attr_text.specs.AttrText.{attr_text, entry_text}
-use Rattle.plir_attr_text.specs.Written.{joined, joined_from}
+use Rattle.plir_data.specs.TextParts.{parted, parted_from}
 use Rattle.plir_attr_text.proofs.print_attrs.+print.Given as goal
 
 abbrev pub decreases-put_attr : goal.decreases-put_attr
@@ -27,12 +27,15 @@ abbrev pub invariant-put_items-items : goal.invariant-put_items-items
 invariant-put_items-items g l =
     let write = attr_text g.D.OpSet.attr_id g.D.OpSet.attr_text g.D.OpSet.type_id g.D.OpSet.type_body_text l.types in
     string_bytes l.out ++
-    joined_from l.is_first write (map attr_view (drop l.item-index l.item-items)) ≡ string_bytes l.fn.out ++
-    joined write (map attr_view l.item-items)
+    parted_from l.is_first (codes ", ") write (map attr_view (drop l.item-index l.item-items)) ≡ string_bytes l.fn.out
+    ++
+    parted (codes ", ") write (map attr_view l.item-items)
 
 abbrev pub invariant-put_entries-entries : goal.invariant-put_entries-entries
 invariant-put_entries-entries g l =
     let write = entry_text g.D.OpSet.attr_id g.D.OpSet.attr_text g.D.OpSet.type_id g.D.OpSet.type_body_text l.types in
-    (string_bytes l.out ++ joined_from l.is_first write (pairs_view l.key-iterator) ≡ string_bytes l.fn.out ++
-    joined write l.dict) × AreEntriesLive g.D.OpSet.attr_handles l.types (entries_of (pairs_view l.key-iterator)) ×
+    (string_bytes l.out ++ parted_from l.is_first (codes ", ") write (pairs_view l.key-iterator) ≡ string_bytes l.fn.out
+    ++
+    parted (codes ", ") write l.dict) × AreEntriesLive g.D.OpSet.attr_handles l.types
+    (entries_of (pairs_view l.key-iterator)) ×
     (entries_bulk (pairs_view l.key-iterator) ≤ entries_bulk l.dict)

@@ -1,8 +1,9 @@
-use Rattle.std.proofs.Common.{◌≡◌, ◌++◌, drop, string_bytes}
+use Rattle.std.proofs.Common.{◌≡◌, ◌++◌, drop, string_bytes, codes}
 use Rattle.std.specs.Fmt.{decimal}
-use Rattle.plir_attr_text.specs.Written.{joined, joined_from}
+use Rattle.plir_data.specs.TextParts.{parted, parted_from}
 use Rattle.plir_attr_text.proofs.put.put_sizes.Given as goal
 
 abbrev pub invariant-sizes : goal.invariant-sizes
 invariant-sizes l = string_bytes l.out ++
-    joined_from l.is_first decimal (drop l.size-index l.sizes) ≡ string_bytes l.fn.out ++ joined decimal l.sizes
+    parted_from l.is_first (codes ", ") decimal (drop l.size-index l.sizes) ≡ string_bytes l.fn.out ++ parted
+    (codes ", ") decimal l.sizes

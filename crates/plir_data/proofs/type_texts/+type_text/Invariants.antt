@@ -19,4 +19,5 @@ invariant-put_types-handles g l =
     let types = g.C.TypeStore.types l.ctx in
     let id = g.D.OpSet.type_id in
     let body = g.D.OpSet.type_body_text in
-    string_bytes l.out ++ left_trees_text id (body types) l.is_first (trees_of (map (tree_of types) (drop l.handle-index l.handles))) ≡ string_bytes l.fn.out ++ types_text id body types l.handles
+    string_bytes l.out ++ left_trees_text id (body types) l.is_first (trees_of (map (tree_of types)
+    (drop l.handle-index l.handles))) ≡ string_bytes l.fn.out ++ types_text id body types l.handles

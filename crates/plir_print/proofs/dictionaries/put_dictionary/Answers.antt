@@ -3,8 +3,8 @@ use Rattle.std.specs.List.{filter}
 use Rattle.plir_core.specs.ContextView.{kind_of}
 use Rattle.plir_attr_text.specs.AttrText.{entry_text}
 use Rattle.plir_print.specs.Dictionaries.{is_shown, shown}
-use Rattle.plir_print.specs.Lists.{parted}
-use Rattle.plir_print.proofs.Pieces.{on}
+use Rattle.plir_data.specs.TextParts.{parted}
+use Rattle.plir_data.specs.TextLaws.{on}
 use Rattle.plir_print.proofs.dictionaries.put_dictionary.Goals as goal
 
 pub returns : goal.returns

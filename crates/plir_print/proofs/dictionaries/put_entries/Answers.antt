@@ -6,8 +6,8 @@ use Rattle.plir_data.specs.AttrSeen.{attr_view}
 use Rattle.plir_data.specs.DictSeen.{pairs_view}
 use Rattle.plir_attr_text.specs.AttrText.{attr_text, entry_text}
 use Rattle.plir_print.specs.Dictionaries.{is_shown}
-use Rattle.plir_print.specs.Lists.{parted_from}
-use Rattle.plir_print.proofs.Pieces.{on, turn}
+use Rattle.plir_data.specs.TextParts.{parted_from}
+use Rattle.plir_data.specs.TextLaws.{on, turn}
 use Rattle.plir_print.proofs.dictionaries.put_entries.Goals as goal
 
 pub put_attr-requires : goal.put_attr-requires
@@ -44,7 +44,7 @@ entries-preserved-then-is_shown g c =
     record {
       written =
           turn (codes ", ") write l.is_first _ _ _ _ (k, v) (filter shows (pairs_view l.key-iterator))
-          (filter shows left) c.in_ok-put_between.ensures pair first l.invariant.written;
+          (filter shows left) c.in_ok-put_between.ensures.ok pair first l.invariant.written;
       live =
           All-tail (λ x. IsAttrLive o.attr_handles types x.1) (k, v) left
           (subst (HandlesLive o.attr_handles types) step l.invariant.live);

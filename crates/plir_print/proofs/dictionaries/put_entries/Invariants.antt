@@ -5,7 +5,7 @@ use Rattle.plir_data.specs.AttrLive.{HandlesLive}
 use Rattle.plir_data.specs.DictSeen.{pairs_view}
 use Rattle.plir_attr_text.specs.AttrText.{entry_text}
 use Rattle.plir_print.specs.Dictionaries.{is_shown}
-use Rattle.plir_print.specs.Lists.{parted, parted_from}
+use Rattle.plir_data.specs.TextParts.{parted, parted_from}
 use Rattle.plir_print.proofs.dictionaries.put_entries.Given as goal
 
 abbrev pub invariant-entries : goal.invariant-entries

@@ -1,7 +1,7 @@
 use Rattle.std.proofs.Common.{codes, drop, arith}
 use Rattle.std.proofs.lemmas.List.{drop_all}
 use Rattle.plir_print.specs.EdgeText.{flow_text}
-use Rattle.plir_print.proofs.Pieces.{ended}
+use Rattle.plir_data.specs.TextLaws.{ended}
 use Rattle.plir_print.proofs.edges.put_flows.Goals as goal
 
 pub returns : goal.returns

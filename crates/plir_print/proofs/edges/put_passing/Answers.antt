@@ -1,7 +1,7 @@
 use Rattle.std.proofs.Common.{◌++◌, codes, string_bytes, ap, ◌∙◌}
 use Rattle.plir_print.specs.EdgeText.{flow_text, use_text}
-use Rattle.plir_print.specs.Lists.{parted}
-use Rattle.plir_print.proofs.Pieces.{on}
+use Rattle.plir_data.specs.TextParts.{parted}
+use Rattle.plir_data.specs.TextLaws.{on}
 use Rattle.plir_print.proofs.edges.put_passing.Goals as goal
 
 pub returns : goal.returns

@@ -1,6 +1,6 @@
 use Rattle.std.proofs.Common.{◌≡◌, ◌++◌, codes, drop, string_bytes}
 use Rattle.plir_print.specs.EdgeText.{use_text}
-use Rattle.plir_print.specs.Lists.{parted, parted_from}
+use Rattle.plir_data.specs.TextParts.{parted, parted_from}
 use Rattle.plir_print.proofs.edges.put_reads.Given as goal
 
 abbrev pub invariant-reads : goal.invariant-reads

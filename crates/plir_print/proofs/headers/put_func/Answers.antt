@@ -1,7 +1,7 @@
 use Rattle.std.proofs.Common.{◌≡◌, ◌++◌, Some, codes, string_bytes, sym, ap, ◌∙◌}
 use Rattle.plir_builtin.specs.BuiltinOps.{func_type_of}
 use Rattle.plir_print.specs.Headers.{some_type_text, symbol_text}
-use Rattle.plir_print.proofs.Pieces.{on}
+use Rattle.plir_data.specs.TextLaws.{on}
 use Rattle.plir_print.proofs.headers.put_func.Goals as goal
 
 pub returns : goal.returns

@@ -1,6 +1,6 @@
 use Rattle.std.proofs.Common.{◌≡◌, ◌++◌, Some, OnOk, codes, string_bytes, sym, ap, subst, ◌∙◌}
 use Rattle.plir_print.specs.Headers.{header_of, symbol_text}
-use Rattle.plir_print.proofs.Pieces.{on}
+use Rattle.plir_data.specs.TextLaws.{on}
 use Rattle.plir_print.proofs.headers.put_header_of.Goals as goal
 
 pub returns-in_ok-put_symbol-in-Module : goal.returns-in_ok-put_symbol-in-Module

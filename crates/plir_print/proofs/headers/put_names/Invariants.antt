@@ -1,5 +1,5 @@
 use Rattle.std.proofs.Common.{◌≡◌, ◌++◌, codes, drop, string_bytes}
-use Rattle.plir_print.specs.Lists.{parted, parted_from}
+use Rattle.plir_data.specs.TextParts.{parted, parted_from}
 use Rattle.plir_print.specs.ValueLists.{values_in}
 use Rattle.plir_print.specs.ValueNames.{value_name}
 use Rattle.plir_print.proofs.headers.put_names.Given as goal

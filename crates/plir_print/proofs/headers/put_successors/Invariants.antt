@@ -1,7 +1,7 @@
 use Rattle.std.proofs.Common.{◌≡◌, ◌++◌, codes, drop, string_bytes}
 use Rattle.plir_core.specs.ContextView.{successors_of}
 use Rattle.plir_print.specs.Headers.{successor_text}
-use Rattle.plir_print.specs.Lists.{parted, parted_from}
+use Rattle.plir_data.specs.TextParts.{parted, parted_from}
 use Rattle.plir_print.proofs.headers.put_successors.Given as goal
 
 abbrev pub invariant-successors : goal.invariant-successors

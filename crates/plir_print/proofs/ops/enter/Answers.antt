@@ -1,5 +1,5 @@
 use Rattle.std.proofs.Common.{string_bytes, sym, ◌∙◌}
-use Rattle.plir_print.proofs.Pieces.{on}
+use Rattle.plir_data.specs.TextLaws.{on}
 use Rattle.plir_print.proofs.Stepping.{enters-child, enters-leaf}
 use Rattle.plir_print.proofs.ops.enter.Goals as goal
 

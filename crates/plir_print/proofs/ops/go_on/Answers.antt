@@ -1,5 +1,5 @@
 use Rattle.std.proofs.Common.{sym, ◌∙◌}
-use Rattle.plir_print.proofs.Pieces.{on}
+use Rattle.plir_data.specs.TextLaws.{on}
 use Rattle.plir_print.proofs.Stepping.{leaves-over, leaves-up, leaves-alone}
 use Rattle.plir_print.proofs.ops.go_on.Goals as goal
 
