@@ -73,7 +73,8 @@ prev_get a (x ∷ xs) c (suc i) d e =
 -- what stands before the child at a place is the child at the place before
 prev_at : (s : Lists) → IsAgreed s → (p i c : ℕ) → slice_get (children_at s p) i ≡ Some c →
     prev_of s c ≡ before_or None (children_at s p) i
-prev_at s a p i c e = rw (a.owned p c (Has-at (children_at s p) i c e)) (prev_get None (children_at s p) c i (a.apart p) e)
+prev_at s a p i c e = rw (a.owned p c (Has-at (children_at s p) i c e)) (prev_get None (children_at s p) c i (a.apart p)
+    e)
 
 before_map : {A : Type 0} (f : ℕ → A) (xs : List ℕ) (i : ℕ) →
     option_map f (before_or None xs i) ≡ before_or None (map f xs) i

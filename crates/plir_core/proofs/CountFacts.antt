@@ -13,14 +13,16 @@ use Rattle.plir_core.specs.declared.value.DefiningEntity.{DefiningEntity}
 use Rattle.plir_core.specs.declared.value.DefiningEntity.TheVariants.{Op, Block}
 use Rattle.plir_core.specs.Nodes.{Nodes, ptr_at, is_node_live}
 use Rattle.plir_core.specs.Contents.{OpView, BlockView}
-use Rattle.plir_core.specs.ContextView.{ContextView, IsLive, IsValueLive, IsAncestor, is_live, entity_node, types_from, operands_in, successors_in, results_in, arguments_in}
+use Rattle.plir_core.specs.ContextView.{ContextView, IsLive, IsValueLive, IsAncestor, is_live, entity_node, types_from}
+use Rattle.plir_core.specs.ContextView.{operands_in, successors_in, results_in, arguments_in}
 use Rattle.plir_core.specs.WellFormed.{IsWellFormed, OpHoldsLive, BlockHoldsLive}
 use Rattle.plir_core.specs.Erase.{IsErased}
 use Rattle.plir_core.specs.Unused.{IsUnusedOutside}
 use Rattle.plir_core.proofs.Facts.{live_at}
 use Rattle.plir_core.proofs.Listing.{some_is}
 
-module _ {K A T : Type 0} (own : A → List ℕ) (s : ContextView K A T) (t : Nodes (OpView K A) (BlockView A)) (n : IRNode) (w : IsWellFormed own s) (u : IsUnusedOutside s n) (e : IsErased s.nodes t n) where
+module _ {K A T : Type 0} (own : A → List ℕ) (s : ContextView K A T) (t : Nodes (OpView K A) (BlockView A)) (n : IRNode)
+    (w : IsWellFormed own s) (u : IsUnusedOutside s n) (e : IsErased s.nodes t n) where
   abbrev after : ContextView K A T
   after = record s { nodes = t }
 
@@ -51,8 +53,10 @@ module _ {K A T : Type 0} (own : A → List ℕ) (s : ContextView K A T) (t : No
       let held : content_at s.nodes.ops o ≡ Some v = sym (e.ops p live) ∙ c in
       let h = w.holds.ops o v held in
       let none = u p (before (Operation p) live) (outside (Operation p) live) in
-      let uses : All (λ x. IsAncestor s n (entity_node x.entity) → ⊥) v.operands = subst (λ xs. All (λ x. IsAncestor s n (entity_node x.entity) → ⊥) xs) (ap operands_in held) none.operands in
-      let leads : All (λ b. IsAncestor s n (BasicBlock b) → ⊥) v.successors = subst (λ xs. All (λ b. IsAncestor s n (BasicBlock b) → ⊥) xs) (ap successors_in held) none.successors in
+      let uses : All (λ x. IsAncestor s n (entity_node x.entity) → ⊥) v.operands = subst
+      (λ xs. All (λ x. IsAncestor s n (entity_node x.entity) → ⊥) xs) (ap operands_in held) none.operands in
+      let leads : All (λ b. IsAncestor s n (BasicBlock b) → ⊥) v.successors = subst
+      (λ xs. All (λ b. IsAncestor s n (BasicBlock b) → ⊥) xs) (ap successors_in held) none.successors in
       record {
         operands = λ k d i. value_stays (slice_index_or v.operands k d) (h.operands k d i) (uses k d i);
         successors = λ k d i. e.live (BasicBlock (slice_index_or v.successors k d)) (leads k d i) ∙ h.successors k d i;

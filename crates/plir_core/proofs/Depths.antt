@@ -1,10 +1,12 @@
 -- How many nodes stand from a node up: one more than from its parent up, and no more than are live and one.
-use Rattle.std.proofs.Common.{◌≡◌, ℕ, zero, suc, ◌+◌, ◌*◌, ◌<◌, ◌≤◌, ◌^◌, Bool, true, false, cond, List, [], ◌∷◌, length, Option, Some, None, IsSome, is_some, inl, inr, refl, sym, ◌∙◌, ap, subst, arith}
+use Rattle.std.proofs.Common.{◌≡◌, ℕ, zero, suc, ◌+◌, ◌*◌, ◌<◌, ◌≤◌, ◌^◌, Bool, true, false, cond, List, [], ◌∷◌}
+use Rattle.std.proofs.Common.{length, Option, Some, None, IsSome, is_some, inl, inr, refl, sym, ◌∙◌, ap, subst, arith}
 use Rattle.std.specs.Prelude.{option_map}
 use Rattle.std.proofs.lemmas.Option.{same_Some, none-some}
 use Rattle.std.proofs.lemmas.List.Sums.{sum_by-set, count_by-le-length}
 use Rattle.plir_store.specs.Lists.{parent_at}
-use Rattle.plir_store.specs.Table.{Table, Cell, no_cell, cell_at, content_at, version_at, is_live_at, num_full, without_slot}
+use Rattle.plir_store.specs.Table.{Table, Cell, no_cell, cell_at, content_at, version_at, is_live_at, num_full}
+use Rattle.plir_store.specs.Table.{without_slot}
 use Rattle.plir_core.specs.Above.{climb, IsGrounded}
 use Rattle.plir_core.specs.declared.ptr.IRNode.{IRNode}
 use Rattle.plir_core.specs.declared.ptr.IRNode.TheVariants.{Operation, Region, BasicBlock}
@@ -16,7 +18,8 @@ use Rattle.plir_core.proofs.Listing.{within_content, content_without}
 use Rattle.plir_core.specs.Measures.{depth_from, most_steps, depth_of}
 
 -- past the end of a climb the depth stays
-pub depth_later : (up : Seat → Option Seat) (k m : ℕ) (o : Option Seat) → k ≤ m → climb up k o ≡ None → depth_from up m o ≡ depth_from up k o
+pub depth_later : (up : Seat → Option Seat) (k m : ℕ) (o : Option Seat) → k ≤ m → climb up k o ≡ None → depth_from up m
+    o ≡ depth_from up k o
 depth_later up zero zero o h e = refl
 depth_later up zero (suc m) o h e = rw e refl
 depth_later up (suc k) zero o h e = absurd (omega arith)
@@ -24,12 +27,14 @@ depth_later up (suc k) (suc m) None h e = refl
 depth_later up (suc k) (suc m) (Some n) h e = ap suc (depth_later up k m (up n) (omega arith) e)
 
 -- one step up is one node less
-pub depth_up : (up : Seat → Option Seat) (f : ℕ) (n : Seat) → climb up f (Some n) ≡ None → depth_from up f (Some n) ≡ depth_from up f (up n) + 1
+pub depth_up : (up : Seat → Option Seat) (f : ℕ) (n : Seat) → climb up f (Some n) ≡ None → depth_from up f (Some n) ≡
+    depth_from up f (up n) + 1
 depth_up up zero n e = absurd (none-some n (sym e))
 depth_up up (suc f) n e = let d = depth_later up f (suc f) (up n) (omega arith) e in omega arith
 
 -- where only the step from c is another, and c is not come by
-pub depth-frame : (up up' : Seat → Option Seat) (c : Seat) → ((n : Seat) → (n ≡ c → ⊥) → up' n ≡ up n) → (k : ℕ) (o : Option Seat) → ((j : ℕ) → climb up j o ≡ Some c → ⊥) → depth_from up' k o ≡ depth_from up k o
+pub depth-frame : (up up' : Seat → Option Seat) (c : Seat) → ((n : Seat) → (n ≡ c → ⊥) → up' n ≡ up n) → (k : ℕ)
+    (o : Option Seat) → ((j : ℕ) → climb up j o ≡ Some c → ⊥) → depth_from up' k o ≡ depth_from up k o
 depth-frame up up' c same zero o away = refl
 depth-frame up up' c same (suc k) None away = refl
 depth-frame up up' c same (suc k) (Some n) away =
@@ -92,7 +97,8 @@ module _ {T : Type 0} (t : Table T) where
   count_without i some =
       let in' : i < length t.slots = within_content t i some in
       let here : full (cell_at t i) ≡ 1 = full_some (content_at t i) some in
-      let c : num_full (without_slot t i) + full (cell_at t i) ≡ num_full t + 0 = sum_by-set full t.slots i (record { version = version_at t i; content = None }) no_cell in' in
+      let c : num_full (without_slot t i) + full (cell_at t i) ≡ num_full t + 0 = sum_by-set full t.slots i
+      (record { version = version_at t i; content = None }) no_cell in' in
       omega arith
 
   pub num_full-le : num_full t ≤ length t.slots
@@ -128,24 +134,30 @@ module _ {O B : Type 0} where
   emptied_other s (block i) (block j) ne e = rw (content_without s.blocks i j (λ q. ne (ap block (sym q)))) e
 
   -- different seats that hold nodes are no more than there are nodes
-  pub length-le_seated : (ns : List Seat) (s : Nodes O B) → Distinct ns → ((n : Seat) → Has ns n → IsSeated s n) → length ns ≤ num_nodes s
+  pub length-le_seated : (ns : List Seat) (s : Nodes O B) → Distinct ns → ((n : Seat) → Has ns n → IsSeated s n) →
+      length ns ≤ num_nodes s
   length-le_seated [] s d held = omega arith
   length-le_seated (n ∷ ns) s d held =
       let c = emptied_count s n (held n (inl refl)) in
-      let r = length-le_seated ns (emptied s n) d.1 (λ m h. emptied_other s n m (λ e. d.0 (subst (λ z. Has ns z) (sym e) h)) (held m (inr h))) in
+      let r = length-le_seated ns (emptied s n) d.1 (λ m h. emptied_other s n m (λ e. d.0
+      (subst (λ z. Has ns z) (sym e) h)) (held m (inr h))) in
       omega arith
 
 module _ {O B : Type 0} (s : Nodes O B) (w : IsStored s) where
-  over_seated : (f : ℕ → Seat) (o : Option ℕ) (m : Seat) → ((i : ℕ) → o ≡ Some i → IsSeated s (f i)) → option_map f o ≡ Some m → IsSeated s m
+  over_seated : (f : ℕ → Seat) (o : Option ℕ) (m : Seat) → ((i : ℕ) → o ≡ Some i → IsSeated s (f i)) → option_map f o ≡
+      Some m → IsSeated s m
   over_seated f None m each e = absurd (none-some m e)
   over_seated f (Some i) m each e = subst (IsSeated s) (same_Some (f i) m e) (each i refl)
 
   up_seated : (n m : Seat) → up s n ≡ Some m → IsSeated s m
   up_seated (op i) m e = over_seated block (parent_at s.ops_in_block i) m (λ j q. (w.ops_listed.linked_live i j q).1) e
-  up_seated (region i) m e = over_seated op (parent_at s.regions_in_op i) m (λ j q. (w.regions_listed.linked_live i j q).1) e
-  up_seated (block i) m e = over_seated region (parent_at s.blocks_in_region i) m (λ j q. (w.blocks_listed.linked_live i j q).1) e
+  up_seated (region i) m e = over_seated op (parent_at s.regions_in_op i) m
+      (λ j q. (w.regions_listed.linked_live i j q).1) e
+  up_seated (block i) m e = over_seated region (parent_at s.blocks_in_region i) m
+      (λ j q. (w.blocks_listed.linked_live i j q).1) e
 
-  trail_seated : (k : ℕ) (o : Option Seat) → ((m : Seat) → o ≡ Some m → IsSeated s m) → (n : Seat) → Has (trail (up s) k o) n → IsSeated s n
+  trail_seated : (k : ℕ) (o : Option Seat) → ((m : Seat) → o ≡ Some m → IsSeated s m) → (n : Seat) → Has
+      (trail (up s) k o) n → IsSeated s n
   unfolding trail
   trail_seated zero o start n h = absurd h
   trail_seated (suc k) None start n h = absurd h
@@ -157,13 +169,15 @@ module _ {O B : Type 0} (s : Nodes O B) (w : IsStored s) where
   -- from the node above a seat there are no more nodes than are live
   depth_over : (k : ℕ) (n : Seat) → depth_from (up s) k (up s n) ≤ num_nodes s
   depth_over k n =
-      let h = length-le_seated (trail (up s) k (up s n)) s (Distinct-trail (up s) w.grounded k (up s n)) (trail_seated k (up s n) (up_seated n)) in
+      let h = length-le_seated (trail (up s) k (up s n)) s (Distinct-trail (up s) w.grounded k (up s n))
+      (trail_seated k (up s n) (up_seated n)) in
       let e = length-trail (up s) k (up s n) in
       omega arith
 
   ended : (k : ℕ) (n : Seat) (o : Option Seat) → climb (up s) k (up s n) ≡ o → num_nodes s < k → o ≡ None
   ended k n None e h = refl
-  ended k n (Some m) e h = let long = depth_long (up s) k (up s n) m e in let short = depth_over k n in absurd (omega arith)
+  ended k n (Some m) e h = let long = depth_long (up s) k (up s n) m e in let short = depth_over k n in absurd
+      (omega arith)
 
   -- each climb ends
   pub climb_most : (n : Seat) → climb (up s) (most_steps s) (Some n) ≡ None
@@ -175,31 +189,38 @@ module _ {O B : Type 0} (s : Nodes O B) (w : IsStored s) where
       let e : most_steps s ≡ suc size = omega arith in
       rw e (ended size n (climb (up s) size (up s n)) refl (omega arith))
 
-  pub depth_falls : (n : Seat) → depth_from (up s) (most_steps s) (Some n) ≡ depth_from (up s) (most_steps s) (up s n) + 1
+  pub depth_falls : (n : Seat) → depth_from (up s) (most_steps s) (Some n) ≡ depth_from (up s) (most_steps s) (up s n) +
+      1
   depth_falls n = depth_up (up s) (most_steps s) n (climb_most n)
 
   -- k steps up are k levels
-  pub depth-seats : (k : ℕ) (n a : Seat) → climb (up s) k (Some n) ≡ Some a → depth_from (up s) (most_steps s) (Some n) ≡ depth_from (up s) (most_steps s) (Some a) + k
+  pub depth-seats : (k : ℕ) (n a : Seat) → climb (up s) k (Some n) ≡ Some a → depth_from (up s) (most_steps s) (Some n)
+      ≡ depth_from (up s) (most_steps s) (Some a) + k
   depth-seats zero n a e = let q = ap (depth_from (up s) (most_steps s)) e in omega arith
-  depth-seats (suc k) n a e = elim (up s n) as (λ o. up s n ≡ o → climb (up s) k o ≡ Some a → depth_from (up s) (most_steps s) (Some n) ≡ depth_from (up s) (most_steps s) (Some a) + suc k) [
-    | None ↦ λ f g. absurd (none-some a (sym (climb_none (up s) k) ∙ g))
-    | Some b ↦ λ f g.
-        let d = depth_falls n in
-        let q = ap (depth_from (up s) (most_steps s)) f in
-        let r = depth-seats k b a g in
-        omega arith
-  ] refl e
+  depth-seats (suc k) n a e = elim (up s n) as (λ o. up s n ≡ o → climb (up s) k o ≡ Some a → depth_from (up s)
+      (most_steps s) (Some n) ≡ depth_from (up s) (most_steps s) (Some a) + suc k) [
+        | None ↦ λ f g. absurd (none-some a (sym (climb_none (up s) k) ∙ g))
+        | Some b ↦ λ f g.
+            let d = depth_falls n in
+            let q = ap (depth_from (up s) (most_steps s)) f in
+            let r = depth-seats k b a g in
+            omega arith
+      ] refl e
 
   -- the seat of the parent is the one above
-  seat_over : (f : ℕ → IRNode) (g : ℕ → Seat) (b : Bool) (o : Option ℕ) (a : IRNode) → ((i : ℕ) → seat_of (f i) ≡ g i) → cond b (option_map f o) None ≡ Some a → option_map g o ≡ Some (seat_of a)
+  seat_over : (f : ℕ → IRNode) (g : ℕ → Seat) (b : Bool) (o : Option ℕ) (a : IRNode) → ((i : ℕ) → seat_of (f i) ≡ g i) →
+      cond b (option_map f o) None ≡ Some a → option_map g o ≡ Some (seat_of a)
   seat_over f g false o a each e = absurd (none-some a e)
   seat_over f g true None a each e = absurd (none-some a e)
   seat_over f g true (Some i) a each e = ap (λ z. Some z) (sym (each i) ∙ ap seat_of (same_Some (f i) a e))
 
   pub up_parent : (a x : IRNode) → node_parent s x ≡ Some a → up s (seat_of x) ≡ Some (seat_of a)
-  up_parent a (Operation p) e = seat_over (block_node s) block (is_live_at s.ops p.slot p.version) (parent_at s.ops_in_block p.slot) a (λ i. refl) e
-  up_parent a (Region p) e = seat_over (op_node s) op (is_live_at s.regions p.slot p.version) (parent_at s.regions_in_op p.slot) a (λ i. refl) e
-  up_parent a (BasicBlock p) e = seat_over (region_node s) region (is_live_at s.blocks p.slot p.version) (parent_at s.blocks_in_region p.slot) a (λ i. refl) e
+  up_parent a (Operation p) e = seat_over (block_node s) block (is_live_at s.ops p.slot p.version)
+      (parent_at s.ops_in_block p.slot) a (λ i. refl) e
+  up_parent a (Region p) e = seat_over (op_node s) op (is_live_at s.regions p.slot p.version)
+      (parent_at s.regions_in_op p.slot) a (λ i. refl) e
+  up_parent a (BasicBlock p) e = seat_over (region_node s) region (is_live_at s.blocks p.slot p.version)
+      (parent_at s.blocks_in_region p.slot) a (λ i. refl) e
 
   -- a child stands one level deeper than its parent
   pub depth-child : (a x : IRNode) → node_parent s x ≡ Some a → depth_of s x ≡ depth_of s a + 1

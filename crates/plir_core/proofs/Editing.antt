@@ -1,5 +1,6 @@
 -- An edit of what an operation or a block holds leaves all else as it was.
-use Rattle.std.proofs.Common.{◌≡◌, ℕ, List, [], ◌∷◌, map, Option, Some, None, IsSome, is_some, inl, inr, refl, sym, ◌∙◌, ap}
+use Rattle.std.proofs.Common.{◌≡◌, ℕ, List, [], ◌∷◌, map, Option, Some, None, IsSome, is_some, inl, inr, refl, sym, ◌∙◌}
+use Rattle.std.proofs.Common.{ap}
 use Rattle.std.specs.Prelude.{option_map}
 use Rattle.plir_store.specs.Table.{Table, Cell, content_at, version_at, is_live_at, with_content}
 use Rattle.plir_core.specs.declared.ptr.Ptr.{Ptr}
@@ -53,17 +54,27 @@ module _ {C : Type 0} (t u : Table C) (a : IsAlike t u) where
   given_alike p = rw (a.versions p.slot) refl
 
 -- Where operations and blocks are held alike, the nodes are the same.
-module _ {K A T : Type 0} (s : ContextView K A T) (ops : Table (OpView K A)) (blocks : Table (BlockView A)) (a : IsAlike s.nodes.ops ops) (b : IsAlike s.nodes.blocks blocks) where
+module _ {K A T : Type 0} (s : ContextView K A T) (ops : Table (OpView K A)) (blocks : Table (BlockView A))
+    (a : IsAlike s.nodes.ops ops) (b : IsAlike s.nodes.blocks blocks) where
   abbrev then_store : ContextView K A T
   then_store = record s { nodes = record s.nodes { ops = ops; blocks = blocks } }
 
   children_alike : (n : IRNode) → node_children then_store.nodes n ≡ node_children s.nodes n
   children_alike (Operation p) = rw (live_alike s.nodes.ops ops a p.slot p.version) refl
-  children_alike (Region p) = rw (map_alike _ _ (λ i. ap (λ z. BasicBlock z) (ptr_alike s.nodes.blocks blocks b i)) _) refl
-  children_alike (BasicBlock p) = rw (live_alike s.nodes.blocks blocks b p.slot p.version, map_alike _ _ (λ i. ap (λ z. Operation z) (ptr_alike s.nodes.ops ops a i)) _) refl
+  children_alike (Region p) = rw (map_alike _ _ (λ i. ap (λ z. BasicBlock z) (ptr_alike s.nodes.blocks blocks b i)) _)
+      refl
+  children_alike (BasicBlock p) = rw (
+    live_alike s.nodes.blocks blocks b p.slot p.version,
+    map_alike _ _
+        (λ i. ap (λ z. Operation z) (ptr_alike s.nodes.ops ops a i)) _,
+  ) refl
 
   parents_alike : (n : IRNode) → node_parent then_store.nodes n ≡ node_parent s.nodes n
-  parents_alike (Operation p) = rw (live_alike s.nodes.ops ops a p.slot p.version, option_alike _ _ (λ i. ap (λ z. BasicBlock z) (ptr_alike s.nodes.blocks blocks b i)) _) refl
+  parents_alike (Operation p) = rw (
+    live_alike s.nodes.ops ops a p.slot p.version,
+    option_alike _ _
+        (λ i. ap (λ z. BasicBlock z) (ptr_alike s.nodes.blocks blocks b i)) _,
+  ) refl
   parents_alike (Region p) = rw (option_alike _ _ (λ i. ap (λ z. Operation z) (ptr_alike s.nodes.ops ops a i)) _) refl
   parents_alike (BasicBlock p) = rw (live_alike s.nodes.blocks blocks b p.slot p.version) refl
 
@@ -87,11 +98,13 @@ module _ {K A T : Type 0} (s : ContextView K A T) (ops : Table (OpView K A)) (bl
       gives (Region p) = refl
       gives (BasicBlock p) = given_alike s.nodes.blocks blocks b p
 
-held_here : {C : Type 0} (t : Table C) (i : ℕ) (v : C) → IsSome (content_at t i) → content_at (with_content t i v) i ≡ Some v
+held_here : {C : Type 0} (t : Table C) (i : ℕ) (v : C) → IsSome (content_at t i) → content_at (with_content t i v) i ≡
+    Some v
 held_here {C} t i v some = ap (λ (z : Cell C). z.content) (here_held t i v some)
 
 module _ {K A T : Type 0} (s : ContextView K A T) where
-  pub op_is_edited : (p : Ptr OperationKind) (f : OpView K A → OpView K A) → IsLive s (Operation p) → IsOpEdited s (with_op_edit s p f) p f
+  pub op_is_edited : (p : Ptr OperationKind) (f : OpView K A → OpView K A) → IsLive s (Operation p) → IsOpEdited s
+      (with_op_edit s p f) p f
   op_is_edited p f live = in_slot (op_at s p) refl
     where
       some : IsSome (content_at s.nodes.ops p.slot)
@@ -100,7 +113,8 @@ module _ {K A T : Type 0} (s : ContextView K A T) where
       in_slot : (o : Option (OpView K A)) → op_at s p ≡ o → IsOpEdited s (op_edited s p.slot f o) p f
       in_slot None e = absurd (some_none _ some e)
       in_slot (Some v) e = record {
-        keeps = keeps_alike s (with_content s.nodes.ops p.slot (f v)) s.nodes.blocks (alike_held s.nodes.ops p.slot (f v) some) (alike_same s.nodes.blocks);
+        keeps = keeps_alike s (with_content s.nodes.ops p.slot (f v)) s.nodes.blocks
+            (alike_held s.nodes.ops p.slot (f v) some) (alike_same s.nodes.blocks);
         held = held_here s.nodes.ops p.slot (f v) some ∙ sym (ap (option_map f) e);
         ops = λ q l ne. elim (held_cases s.nodes.ops p.slot (f v) some q.slot) [
           | inl g ↦ absurd (ne (ptr_one s.nodes.ops p q live l g.0))
@@ -109,7 +123,8 @@ module _ {K A T : Type 0} (s : ContextView K A T) where
         blocks = λ b. refl;
       }
 
-  pub block_is_edited : (p : Ptr BasicBlockKind) (f : BlockView A → BlockView A) → IsLive s (BasicBlock p) → IsBlockEdited s (with_block_edit s p f) p f
+  pub block_is_edited : (p : Ptr BasicBlockKind) (f : BlockView A → BlockView A) → IsLive s (BasicBlock p) →
+      IsBlockEdited s (with_block_edit s p f) p f
   block_is_edited p f live = in_slot (block_at s p) refl
     where
       some : IsSome (content_at s.nodes.blocks p.slot)
@@ -118,7 +133,8 @@ module _ {K A T : Type 0} (s : ContextView K A T) where
       in_slot : (o : Option (BlockView A)) → block_at s p ≡ o → IsBlockEdited s (block_edited s p.slot f o) p f
       in_slot None e = absurd (some_none _ some e)
       in_slot (Some v) e = record {
-        keeps = keeps_alike s s.nodes.ops (with_content s.nodes.blocks p.slot (f v)) (alike_same s.nodes.ops) (alike_held s.nodes.blocks p.slot (f v) some);
+        keeps = keeps_alike s s.nodes.ops (with_content s.nodes.blocks p.slot (f v)) (alike_same s.nodes.ops)
+            (alike_held s.nodes.blocks p.slot (f v) some);
         held = held_here s.nodes.blocks p.slot (f v) some ∙ sym (ap (option_map f) e);
         blocks = λ q l ne. elim (held_cases s.nodes.blocks p.slot (f v) some q.slot) [
           | inl g ↦ absurd (ne (ptr_one s.nodes.blocks p q live l g.0))

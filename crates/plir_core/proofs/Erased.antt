@@ -1,5 +1,6 @@
 -- A tree is erased from its first leaf on.
-use Rattle.std.proofs.Common.{◌≡◌, ℕ, zero, suc, ◌+◌, ◌≤◌, true, List, [], ◌∷◌, Option, Some, inl, refl, sym, ◌∙◌, ap, subst, arith}
+use Rattle.std.proofs.Common.{◌≡◌, ℕ, zero, suc, ◌+◌, ◌≤◌, true, List, [], ◌∷◌, Option, Some, inl, refl, sym, ◌∙◌, ap}
+use Rattle.std.proofs.Common.{subst, arith}
 use Rattle.std.proofs.lemmas.Option.{same_Some, none-some}
 use Rattle.plir_core.specs.declared.ptr.IRNode.{IRNode}
 use Rattle.plir_core.specs.Above.{climb}
@@ -10,7 +11,8 @@ use Rattle.plir_core.specs.Erase.{post_order, without_node, without_nodes, tree_
 use Rattle.plir_core.proofs.Facts.{child-parent, parent-child, children-once, child-live}
 use Rattle.plir_core.proofs.Depths.{depth-child, depth-le, depth-le_most, depth_falls}
 use Rattle.plir_core.proofs.Trees.{IsTree, climb_step, climb_last, down-up, depth-climb, post_order-first, down-frame}
-use Rattle.plir_core.proofs.FreedNode.{freed-live, freed-children_here, freed-children, freed-most, freed-stored, freed-count}
+use Rattle.plir_core.proofs.FreedNode.{freed-live, freed-children_here, freed-children, freed-most, freed-stored}
+use Rattle.plir_core.proofs.FreedNode.{freed-count}
 use Rattle.plir_core.specs.Measures.{most_steps, depth_of}
 
 pub head-Has : (ns : List IRNode) (n : IRNode) → head ns ≡ Some n → Has ns n
@@ -31,7 +33,8 @@ module _ {O B : Type 0} where
   }
 
   -- what is reached by first children is live
-  way-live : (s : Nodes O B) (w : IsStored s) (k : ℕ) (n x : IRNode) → is_node_live s n ≡ true → climb (first_child s) k (Some n) ≡ Some x → is_node_live s x ≡ true
+  way-live : (s : Nodes O B) (w : IsStored s) (k : ℕ) (n x : IRNode) → is_node_live s n ≡ true → climb (first_child s) k
+      (Some n) ≡ Some x → is_node_live s x ≡ true
   way-live s w zero n x live e = subst (λ z. is_node_live s z ≡ true) (same_Some n x e) live
   way-live s w (suc k) n x live e =
       let r = climb_last (first_child s) k (Some n) x e in
@@ -49,7 +52,8 @@ module _ {O B : Type 0} where
       enough (suc f) h = rw none refl
 
   -- A node without children is reached from n by k + 1 first children, and freed.
-  module _ (s : Nodes O B) (w : IsStored s) (n x : IRNode) (k : ℕ) (live : is_node_live s n ≡ true) (way : climb (first_child s) (suc k) (Some n) ≡ Some x) (none : node_children s x ≡ []) where
+  module _ (s : Nodes O B) (w : IsStored s) (n x : IRNode) (k : ℕ) (live : is_node_live s n ≡ true)
+      (way : climb (first_child s) (suc k) (Some n) ≡ Some x) (none : node_children s x ≡ []) where
     abbrev tree : IsTree (node_children s) (node_parent s) (depth_of s)
     tree = IsTree-stored s w
 
@@ -57,7 +61,8 @@ module _ {O B : Type 0} where
     leaf_live = way-live s w (suc k) n x live way
 
     deep : depth_of s x ≡ depth_of s n + suc k
-    deep = depth-climb (node_children s) (node_parent s) (depth_of s) tree (suc k) x n (down-up (node_children s) (node_parent s) (depth_of s) tree (suc k) n x way)
+    deep = depth-climb (node_children s) (node_parent s) (depth_of s) tree (suc k) x n
+        (down-up (node_children s) (node_parent s) (depth_of s) tree (suc k) n x way)
 
     root_other : n ≡ x → ⊥
     root_other e = let d = deep in let c = ap (depth_of s) e in let b : ⊥ = omega arith in b
@@ -69,7 +74,8 @@ module _ {O B : Type 0} where
     less_stored = freed-stored s x leaf_live none w
 
     -- p is the parent of the leaf, with the leaf as its first child
-    module _ (p : IRNode) (rest : List IRNode) (to : climb (first_child s) k (Some n) ≡ Some p) (was : node_children s p ≡ x ∷ rest) where
+    module _ (p : IRNode) (rest : List IRNode) (to : climb (first_child s) k (Some n) ≡ Some p)
+        (was : node_children s p ≡ x ∷ rest) where
       under : node_parent s x ≡ Some p
       under = child-parent s w p x (subst (λ z. Has z x) (sym was) (inl refl))
 
@@ -84,11 +90,13 @@ module _ {O B : Type 0} where
           let d = deep in
           let one = depth-some s w n in
           let most = depth-le_most s w x in
-          post_order-first (node_children s) (node_parent s) (depth_of s) tree (node_children (without_node s x)) p x rest was is same none k (most_steps s) n way (omega arith)
+          post_order-first (node_children s) (node_parent s) (depth_of s) tree (node_children (without_node s x)) p x
+          rest was is same none k (most_steps s) n way (omega arith)
           ∙ ap (λ f. x ∷ post_order (node_children (without_node s x)) f n) (sym (freed-most s x))
 
       way_in : climb (first_child (without_node s x)) k (Some n) ≡ Some p
-      way_in = down-frame (node_children s) (node_parent s) (depth_of s) tree (node_children (without_node s x)) p x rest was is same none k n to
+      way_in = down-frame (node_children s) (node_parent s) (depth_of s) tree (node_children (without_node s x)) p x
+          rest was is same none k n to
 
     head_cons : (ks : List IRNode) → head ks ≡ Some x → (rest : List IRNode) × (ks ≡ x ∷ rest)
     head_cons [] e = absurd (none-some x e)
@@ -102,7 +110,8 @@ module _ {O B : Type 0} where
         tree_in r.0 c.0 r.1.0 c.1
 
     -- its parent is reached by first children, also afterwards
-    pub way-parent : (p : IRNode) → node_parent s x ≡ Some p → climb (first_child (without_node s x)) k (Some n) ≡ Some p
+    pub way-parent : (p : IRNode) → node_parent s x ≡ Some p → climb (first_child (without_node s x)) k (Some n) ≡ Some
+        p
     way-parent p e =
         let r = climb_last (first_child s) k (Some n) x way in
         let c = head_cons (node_children s r.0) r.1.1 in
@@ -122,7 +131,8 @@ module _ {O B : Type 0} where
     pub way : climb (first_child s) steps (Some n) ≡ Some leaf
     pub none : node_children s leaf ≡ []
 
-  leaf_from : (s : Nodes O B) (w : IsStored s) (n : IRNode) (g k : ℕ) (x : IRNode) → climb (first_child s) k (Some n) ≡ Some x → s.limit + 2 ≤ depth_of s x + g → FirstLeaf s n
+  leaf_from : (s : Nodes O B) (w : IsStored s) (n : IRNode) (g k : ℕ) (x : IRNode) → climb (first_child s) k (Some n) ≡
+      Some x → s.limit + 2 ≤ depth_of s x + g → FirstLeaf s n
   leaf_from s w n zero k x way h = let d = depth-le s w x in absurd (omega arith)
   leaf_from s w n (suc g) k x way h = elim (node_children s x) as (λ ks. node_children s x ≡ ks → FirstLeaf s n) [
     | [] ↦ λ e. record { steps = k; leaf = x; way = way; none = e }
@@ -139,7 +149,8 @@ module _ {O B : Type 0} where
   IsPeeled s [] = Unit {0}
   IsPeeled s (n ∷ ns) = (is_node_live s n ≡ true) × (node_children s n ≡ []) × IsPeeled (without_node s n) ns
 
-  IsPeeled-tree_in : (size : ℕ) (s : Nodes O B) (w : IsStored s) (n : IRNode) → is_node_live s n ≡ true → num_nodes s ≤ size → IsPeeled s (tree_of s n)
+  IsPeeled-tree_in : (size : ℕ) (s : Nodes O B) (w : IsStored s) (n : IRNode) → is_node_live s n ≡ true → num_nodes s ≤
+      size → IsPeeled s (tree_of s n)
   IsPeeled-tree_in zero s w n live h = let c = freed-count s n live in absurd (omega arith)
   IsPeeled-tree_in (suc size) s w n live h =
       let l = first_leaf s w n in
@@ -153,7 +164,8 @@ module _ {O B : Type 0} where
             subst (IsPeeled s) (sym (tree-first s w n l.leaf k live way l.none)) (
               leaf_live s w n l.leaf k live way l.none,
               l.none,
-              IsPeeled-tree_in size (without_node s l.leaf) (less_stored s w n l.leaf k live way l.none) n (root_live s w n l.leaf k live way l.none) (omega arith),
+              IsPeeled-tree_in size (without_node s l.leaf) (less_stored s w n l.leaf k live way l.none) n
+                  (root_live s w n l.leaf k live way l.none) (omega arith),
             )
       ] l.way
 

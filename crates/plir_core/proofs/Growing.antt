@@ -1,5 +1,6 @@
 -- How trees grow.
-use Rattle.std.proofs.Common.{◌≡◌, ℕ, zero, suc, Bool, true, false, Option, Some, None, inl, inr, refl, sym, ◌∙◌, ap, subst}
+use Rattle.std.proofs.Common.{◌≡◌, ℕ, zero, suc, Bool, true, false, Option, Some, None, inl, inr, refl, sym, ◌∙◌, ap}
+use Rattle.std.proofs.Common.{subst}
 use Rattle.std.proofs.lemmas.Option.{same_Some, none-some}
 use Rattle.plir_core.specs.declared.ptr.IRNode.{IRNode}
 use Rattle.plir_core.specs.declared.ptr.IRNode.TheVariants.{Operation, Region, BasicBlock}
@@ -30,12 +31,14 @@ Reaches-on up a b c r q = climb_on r.0 (Some a) r.1
     climb_on (suc k) (Some n) e = let j = climb_on k (up n) e in (suc j.0, j.1)
 
 -- What stands above nothing is reached by the same climb where all others have the parents that they had.
-module _ (up up' : IRNode → Option IRNode) (m : IRNode) (top : up m ≡ None) (same : (x : IRNode) → (x ≡ m → ⊥) → up' x ≡ up x) where
+module _ (up up' : IRNode → Option IRNode) (m : IRNode) (top : up m ≡ None) (same : (x : IRNode) → (x ≡ m → ⊥) → up' x ≡
+    up x) where
   climb_to_top : (k : ℕ) (o : Option IRNode) → climb up k o ≡ Some m → climb up' k o ≡ Some m
   climb_to_top zero o e = e
   climb_to_top (suc k) None e = absurd (none-some m e)
   climb_to_top (suc k) (Some x) e =
-      let other : x ≡ m → ⊥ = λ q. none-some m (sym (climb_nowhere up k) ∙ ap (climb up k) (sym top ∙ ap up (sym q)) ∙ e) in
+      let other : x ≡ m → ⊥ = λ q. none-some m (sym (climb_nowhere up k) ∙ ap (climb up k) (sym top ∙ ap up (sym q)) ∙
+      e) in
       rw (same x other) (climb_to_top k (up x) e)
 
 module _ {O B : Type 0} where
@@ -55,7 +58,8 @@ module _ {O B : Type 0} where
 
   pub placed_grown : (s : Nodes O B) → PlacedIsGrown s
   placed_grown s t u n over ks m x =
-      let reached : (y : IRNode) → Reaches (node_parent t) y n → Reaches (node_parent u) y n = λ y r. (r.0, climb_to_top (node_parent t) (node_parent u) n m.top x.moved.parents r.0 (Some y) r.1) in
+      let reached : (y : IRNode) → Reaches (node_parent t) y n → Reaches (node_parent u) y n =
+      λ y r. (r.0, climb_to_top (node_parent t) (node_parent u) n m.top x.moved.parents r.0 (Some y) r.1) in
       record {
         keeps = record {
           live = λ y e. moved_live t u n x.moved y ∙ m.keeps.live y e;
@@ -66,7 +70,8 @@ module _ {O B : Type 0} where
           limit = x.moved.limit ∙ m.keeps.limit;
         };
         children = λ y e ne. x.children y ne ∙ m.children y e;
-        below = λ y e f. Reaches-on (node_parent u) y n over (reached y (m.below y (sym (moved_live t u n x.moved y) ∙ e) f)) (1, x.parent);
+        below = λ y e f. Reaches-on (node_parent u) y n over (reached y (m.below y
+            (sym (moved_live t u n x.moved y) ∙ e) f)) (1, x.parent);
         fresh = λ y e f. m.fresh y (sym (moved_live t u n x.moved y) ∙ e) f;
       }
 
@@ -79,10 +84,12 @@ module _ {O B : Type 0} where
   }
 
   -- what is reached stays reached
-  kept_reached : (s t : Nodes O B) → IsStored s → KeepsLive s t → (m n : IRNode) → is_node_live s m ≡ true → Reaches (node_parent s) m n → Reaches (node_parent t) m n
+  kept_reached : (s t : Nodes O B) → IsStored s → KeepsLive s t → (m n : IRNode) → is_node_live s m ≡ true → Reaches
+      (node_parent s) m n → Reaches (node_parent t) m n
   kept_reached s t w k m n e r = (r.0, climb_kept s t w k r.0 m n e r.1)
 
-  not_given_before : (s t : Nodes O B) → KeepsLive s t → (m : IRNode) → was_given_out t m ≡ false → was_given_out s m ≡ false
+  not_given_before : (s t : Nodes O B) → KeepsLive s t → (m : IRNode) → was_given_out t m ≡ false → was_given_out s m ≡
+      false
   not_given_before s t k m f = elim (bool_cases (was_given_out s m)) [
     | inl e ↦ absurd (true_or (was_given_out t m) true (k.given m e) f)
     | inr e ↦ e
@@ -111,7 +118,8 @@ module _ {O B : Type 0} where
     top = x.keeps.parents n m.root ∙ m.top;
     below = λ y e f. elim (bool_cases (is_node_live t y)) [
       | inl g ↦ kept_reached t u w x.keeps y n g (m.below y g f)
-      | inr g ↦ Reaches-on (node_parent u) y over n (x.below y e g) (kept_reached t u w x.keeps over n here (m.below over here new))
+      | inr g ↦ Reaches-on (node_parent u) y over n (x.below y e g) (kept_reached t u w x.keeps over n here
+          (m.below over here new))
     ];
     fresh = λ y e f. elim (bool_cases (is_node_live t y)) [
       | inl g ↦ m.fresh y g f
@@ -121,4 +129,10 @@ module _ {O B : Type 0} where
   }
 
   pub growth : (s : Nodes O B) → IsStored s → Growth s
-  growth s w = record { placed = placed_grown s; region = region_grown s; twice = grown_twice s; made = made_grown s w; unmade = λ t u n m x. SameNodes-unmade s t u w n m x }
+  growth s w = record {
+    placed = placed_grown s;
+    region = region_grown s;
+    twice = grown_twice s;
+    made = made_grown s w;
+    unmade = λ t u n m x. SameNodes-unmade s t u w n m x;
+  }

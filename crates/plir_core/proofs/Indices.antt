@@ -15,7 +15,8 @@ given_within v a e h = grind arith
 index_at : {C X : Type 0} (t : Table C) → IsTable t → (p : Ptr X) → is_given_out t p ≡ true → index_of p ≡ p.slot + 1
 index_at {C} t w p e = elim (cases_lt p.slot (length t.slots)) [
   | inl h ↦ let f = w.num_slots in omega arith
-  | inr h ↦ absurd (given_within p.version (version_at t p.slot) (ap (λ (z : Cell C). z.version) (get_or_past t.slots p.slot no_cell h)) e)
+  | inr h ↦ absurd (given_within p.version (version_at t p.slot)
+      (ap (λ (z : Cell C). z.version) (get_or_past t.slots p.slot no_cell h)) e)
 ]
 
 pub indexed : {K A T : Type 0} (s : ContextView K A T) → IsStored s.nodes → IsIndexed s

@@ -18,7 +18,12 @@ module _ {C : Type 0} (t : Table C) (i : ℕ) (v w : C) (some : IsSome (content_
   -- of two writes the second stays
   written-again : with_content (with_content t i v) i w ≡ with_content t i w
   written-again =
-      ap (λ n. record t { slots = slice_set (slice_set t.slots i (record { version = version_at t i; content = Some v })) i (record { version = n; content = Some w }) }) (version_held t i v some i)
+      ap (λ n. record t {
+        slots = slice_set (slice_set t.slots i (record {
+          version = version_at t i;
+          content = Some v;
+        })) i (record { version = n; content = Some w });
+      }) (version_held t i v some i)
       ∙ ap (λ l. record t { slots = l }) (set-twice t.slots i _ _)
     where
       set-twice : (xs : List (Cell C)) (k : ℕ) (a b : Cell C) → slice_set (slice_set xs k a) k b ≡ slice_set xs k b
@@ -27,17 +32,21 @@ module _ {C : Type 0} (t : Table C) (i : ℕ) (v w : C) (some : IsSome (content_
       set-twice (x ∷ xs) (suc k) a b = ap (λ l. x ∷ l) (set-twice xs k a b)
 
 module _ {K A T : Type 0} (s : ContextView K A T) (p : Ptr OperationKind) where
-  pub edits-join : (f g : OpView K A → OpView K A) → with_op_edit (with_op_edit s p f) p g ≡ with_op_edit s p (λ o. g (f o))
+  pub edits-join : (f g : OpView K A → OpView K A) → with_op_edit (with_op_edit s p f) p g ≡ with_op_edit s p
+      (λ o. g (f o))
   edits-join f g = go (op_at s p) refl
     where
-      go : (o : Option (OpView K A)) → op_at s p ≡ o → with_op_edit (op_edited s p.slot f o) p g ≡ op_edited s p.slot (λ v. g (f v)) o
+      go : (o : Option (OpView K A)) → op_at s p ≡ o → with_op_edit (op_edited s p.slot f o) p g ≡ op_edited s p.slot
+          (λ v. g (f v)) o
       go None e = ap (op_edited s p.slot g) e
       go (Some v) e =
           let some : IsSome (op_at s p) = subst IsSome (sym e) refl in
           ap (op_edited (op_edited s p.slot f (Some v)) p.slot g) (written s.nodes.ops p.slot (f v) v some)
-          ∙ ap (λ t. record s { nodes = record s.nodes { ops = t } }) (written-again s.nodes.ops p.slot (f v) (g (f v)) some)
+          ∙ ap (λ t. record s { nodes = record s.nodes { ops = t } }) (written-again s.nodes.ops p.slot (f v) (g (f v))
+          some)
 
-  pub edits-same : (f g : OpView K A → OpView K A) → ((o : OpView K A) → op_at s p ≡ Some o → f o ≡ g o) → with_op_edit s p f ≡ with_op_edit s p g
+  pub edits-same : (f g : OpView K A → OpView K A) → ((o : OpView K A) → op_at s p ≡ Some o → f o ≡ g o) → with_op_edit
+      s p f ≡ with_op_edit s p g
   edits-same f g alike = go (op_at s p) refl
     where
       go : (o : Option (OpView K A)) → op_at s p ≡ o → op_edited s p.slot f o ≡ op_edited s p.slot g o

@@ -11,24 +11,29 @@ use Rattle.plir_core.specs.declared.ptr.IRNode.{IRNode}
 use Rattle.plir_core.specs.declared.ptr.IRNode.TheVariants.{Operation, Region, BasicBlock}
 use Rattle.plir_core.proofs.Facts.{parent-child}
 
-step : {N : Type 0} (up : N → Option N) (k : ℕ) (a : N) (o : Option N) → climb up (suc k) o ≡ Some a → ((m : N) → climb up (suc k) (Some m) ≡ Some a → (x : N) × (up x ≡ Some a)) → (x : N) × (up x ≡ Some a)
+step : {N : Type 0} (up : N → Option N) (k : ℕ) (a : N) (o : Option N) → climb up (suc k) o ≡ Some a →
+    ((m : N) → climb up (suc k) (Some m) ≡ Some a → (x : N) × (up x ≡ Some a)) → (x : N) × (up x ≡ Some a)
 step up k a None e more = absurd (none-some a e)
 step up k a (Some m) e more = more m e
 
 -- the last step of a climb
-climb-last : {N : Type 0} (up : N → Option N) (k : ℕ) (n a : N) → climb up (suc k) (Some n) ≡ Some a → (x : N) × (up x ≡ Some a)
+climb-last : {N : Type 0} (up : N → Option N) (k : ℕ) (n a : N) → climb up (suc k) (Some n) ≡ Some a → (x : N) ×
+    (up x ≡ Some a)
 climb-last up zero n a e = (n, e)
 climb-last up (suc k) n a e = step up k a (up n) e (λ m. climb-last up k m a)
 
 module _ {O B : Type 0} (s : Nodes O B) (w : IsStored s) where
-  pub reached-alone : (leaf n : IRNode) → node_children s leaf ≡ [] → (k : ℕ) → climb (node_parent s) k (Some n) ≡ Some leaf → n ≡ leaf
+  pub reached-alone : (leaf n : IRNode) → node_children s leaf ≡ [] → (k : ℕ) → climb (node_parent s) k (Some n) ≡ Some
+      leaf → n ≡ leaf
   reached-alone leaf n e zero q = same_Some n leaf q
-  reached-alone leaf n e (suc k) q = let r = climb-last (node_parent s) k n leaf q in absurd (subst (λ xs. Has xs r.0) e (parent-child s w leaf r.0 r.1))
+  reached-alone leaf n e (suc k) q = let r = climb-last (node_parent s) k n leaf q in absurd
+      (subst (λ xs. Has xs r.0) e (parent-child s w leaf r.0 r.1))
 
 ptr-cases : {X : Type 0} (p q : Ptr X) → (p ≡ q) ⊎ (p ≡ q → ⊥)
 ptr-cases {X} p q = elim (cases_eq p.slot q.slot) [
   | inl i ↦ elim (cases_eq p.version q.version) [
-    | inl v ↦ inl (ap (λ n. let z : Ptr X = record { slot = n; version = p.version; kind = record {} } in z) i ∙ ap (λ n. let z : Ptr X = record { slot = q.slot; version = n; kind = record {} } in z) v)
+    | inl v ↦ inl (ap (λ n. let z : Ptr X = record { slot = n; version = p.version; kind = record {} } in z) i ∙ ap
+        (λ n. let z : Ptr X = record { slot = q.slot; version = n; kind = record {} } in z) v)
     | inr n ↦ inr (λ e. n (ap (λ (z : Ptr X). z.version) e))
   ]
   | inr n ↦ inr (λ e. n (ap (λ (z : Ptr X). z.slot) e))

@@ -11,11 +11,13 @@ use Rattle.plir_core.specs.declared.ptr.BasicBlock.{BasicBlock as BasicBlockKind
 use Rattle.plir_core.specs.declared.ptr.IRNode.{IRNode}
 use Rattle.plir_core.specs.declared.ptr.IRNode.TheVariants.{Operation, Region, BasicBlock}
 use Rattle.plir_core.specs.Above.{climb, Reaches}
-use Rattle.plir_core.specs.Nodes.{Nodes, num_nodes, ptr_at, node_children, block_node, region_node, is_node_live, node_parent}
+use Rattle.plir_core.specs.Nodes.{Nodes, num_nodes, ptr_at, node_children, block_node, region_node, is_node_live}
+use Rattle.plir_core.specs.Nodes.{node_parent}
 use Rattle.plir_core.specs.Stored.{region, block, seat_of, up, IsStored}
 use Rattle.plir_core.specs.Edits.{IsFilled, room_child, room_list}
 use Rattle.plir_core.proofs.Listing.{IsMoved, IsMoved-out, within_content}
-use Rattle.plir_core.proofs.Changes.{IsStored-new_region, IsStored-link_op, IsStored-unlink_op, IsStored-link_block, IsStored-unlink_block, IsStored-held_op, IsStored-held_block}
+use Rattle.plir_core.proofs.Changes.{IsStored-new_region, IsStored-link_op, IsStored-unlink_op, IsStored-link_block}
+use Rattle.plir_core.proofs.Changes.{IsStored-unlink_block, IsStored-held_op, IsStored-held_block}
 use Rattle.plir_core.proofs.Seats.{same_ptr, live_some, parent_over, reach_seat}
 use Rattle.plir_store.specs.MemberLaws.{Has-at}
 
@@ -35,74 +37,128 @@ module _ {O B : Type 0} (s t : Nodes O B) (view : s ≡ t) (w : IsStored s) wher
   op_in : (o : Ptr OperationKind) → is_node_live t (Operation o) ≡ true → o.slot < length s.ops_in_block.parents
   op_in o live = let h = within_content s.ops o.slot (op_some o live) in omega (arith, w.ops_listed.child_places)
 
-  block_in : (o : Ptr BasicBlockKind) → is_node_live t (BasicBlock o) ≡ true → o.slot < length s.blocks_in_region.parents
-  block_in o live = let h = within_content s.blocks o.slot (block_some o live) in omega (arith, w.blocks_listed.child_places)
+  block_in : (o : Ptr BasicBlockKind) → is_node_live t (BasicBlock o) ≡ true → o.slot < length
+      s.blocks_in_region.parents
+  block_in o live = let h = within_content s.blocks o.slot (block_some o live) in omega
+      (arith, w.blocks_listed.child_places)
 
   -- a node that is not above another is not above it by its seat
-  away_from : (n a : IRNode) → is_node_live t n ≡ true → is_node_live t a ≡ true → (Reaches (node_parent t) n a → ⊥) → Reaches (up s) (seat_of n) (seat_of a) → ⊥
-  away_from n a l m away r = subst (λ z. Reaches (node_parent z) n a → ⊥) (sym view) away (reach_seat s w n a (live_of n l) (live_of a m) r)
+  away_from : (n a : IRNode) → is_node_live t n ≡ true → is_node_live t a ≡ true → (Reaches (node_parent t) n a → ⊥) →
+      Reaches (up s) (seat_of n) (seat_of a) → ⊥
+  away_from n a l m away r = subst (λ z. Reaches (node_parent z) n a → ⊥) (sym view) away
+      (reach_seat s w n a (live_of n l) (live_of a m) r)
 
-  pub region_made : (x : Table RegionKind) (l m n : Lists) (o : Ptr OperationKind) (i : ℕ) → is_node_live t (Operation o) ≡ true → i ≡ next_slot s.regions → IsFilled s.regions x (record {}) → l ≡ room_list s.blocks_in_region s.regions.free → m ≡ room_child s.regions_in_op s.regions.free → n ≡ with_last m o.slot i → IsAgreed l → IsAgreed m → IsAgreed n → num_nodes s < s.limit → IsStored (record s { regions = x; blocks_in_region = l; regions_in_op = n })
+  pub region_made : (x : Table RegionKind) (l m n : Lists) (o : Ptr OperationKind) (i : ℕ) → is_node_live t
+      (Operation o) ≡ true → i ≡ next_slot s.regions → IsFilled s.regions x (record {}) → l ≡ room_list
+      s.blocks_in_region s.regions.free → m ≡ room_child s.regions_in_op s.regions.free → n ≡ with_last m o.slot i →
+      IsAgreed l → IsAgreed m → IsAgreed n → num_nodes s < s.limit → IsStored (record s
+      { regions = x; blocks_in_region = l; regions_in_op = n })
   region_made x l m n o i live e f le me ne la ma na room =
       IsStored-new_region s w x l m n o.slot f le me (ne ∙ ap (with_last m o.slot) e) la ma na room (op_some o live)
 
   -- a node is put under a parent: f says where among its children
-  pub op_put : (f : Lists → ℕ → ℕ → Lists) → ((l : Lists) (c p : ℕ) → c < length l.parents → IsMoved l (f l p c) c (Some p)) → (o : Ptr OperationKind) (b : Ptr BasicBlockKind) (l : Lists) → is_node_live t (Operation o) ≡ true → is_node_live t (BasicBlock b) ≡ true → (Reaches (node_parent t) (BasicBlock b) (Operation o) → ⊥) → l ≡ f s.ops_in_block b.slot o.slot → IsAgreed l → IsStored (record s { ops_in_block = l })
+  pub op_put : (f : Lists → ℕ → ℕ → Lists) → ((l : Lists) (c p : ℕ) → c < length l.parents → IsMoved l (f l p c) c
+      (Some p)) → (o : Ptr OperationKind) (b : Ptr BasicBlockKind) (l : Lists) → is_node_live t (Operation o) ≡ true →
+      is_node_live t (BasicBlock b) ≡ true → (Reaches (node_parent t) (BasicBlock b) (Operation o) → ⊥) → l ≡ f
+      s.ops_in_block b.slot o.slot → IsAgreed l → IsStored (record s { ops_in_block = l })
   op_put f moved o b l live_o live_b away e a =
-      IsStored-link_op s w l o.slot b.slot (subst (λ z. IsMoved s.ops_in_block z o.slot (Some b.slot)) (sym e) (moved s.ops_in_block o.slot b.slot (op_in o live_o))) a (op_some o live_o) (block_some b live_b) (away_from (BasicBlock b) (Operation o) live_b live_o away)
+      IsStored-link_op s w l o.slot b.slot (subst (λ z. IsMoved s.ops_in_block z o.slot (Some b.slot)) (sym e)
+      (moved s.ops_in_block o.slot b.slot (op_in o live_o))) a (op_some o live_o) (block_some b live_b)
+      (away_from (BasicBlock b) (Operation o) live_b live_o away)
 
-  pub block_put : (f : Lists → ℕ → ℕ → Lists) → ((l : Lists) (c p : ℕ) → c < length l.parents → IsMoved l (f l p c) c (Some p)) → (b : Ptr BasicBlockKind) (r : Ptr RegionKind) (l : Lists) → is_node_live t (BasicBlock b) ≡ true → is_node_live t (Region r) ≡ true → (Reaches (node_parent t) (Region r) (BasicBlock b) → ⊥) → l ≡ f s.blocks_in_region r.slot b.slot → IsAgreed l → IsStored (record s { blocks_in_region = l })
+  pub block_put : (f : Lists → ℕ → ℕ → Lists) → ((l : Lists) (c p : ℕ) → c < length l.parents → IsMoved l (f l p c) c
+      (Some p)) → (b : Ptr BasicBlockKind) (r : Ptr RegionKind) (l : Lists) → is_node_live t (BasicBlock b) ≡ true →
+      is_node_live t (Region r) ≡ true → (Reaches (node_parent t) (Region r) (BasicBlock b) → ⊥) → l ≡ f
+      s.blocks_in_region r.slot b.slot → IsAgreed l → IsStored (record s { blocks_in_region = l })
   block_put f moved b r l live_b live_r away e a =
-      IsStored-link_block s w l b.slot r.slot (subst (λ z. IsMoved s.blocks_in_region z b.slot (Some r.slot)) (sym e) (moved s.blocks_in_region b.slot r.slot (block_in b live_b))) a (block_some b live_b) (region_some r live_r) (away_from (Region r) (BasicBlock b) live_r live_b away)
+      IsStored-link_block s w l b.slot r.slot (subst (λ z. IsMoved s.blocks_in_region z b.slot (Some r.slot)) (sym e)
+      (moved s.blocks_in_region b.slot r.slot (block_in b live_b))) a (block_some b live_b) (region_some r live_r)
+      (away_from (Region r) (BasicBlock b) live_r live_b away)
 
   -- the parent's slot of a node that has a parent
   mapped : {A C : Type 0} (f : A → C) (o : Option A) → IsSome (option_map f o) → (p : A) × (o ≡ Some p)
   mapped f None e = absurd (let x : ⊥ = cc in x)
   mapped f (Some p) e = (p, refl)
 
-  linked_op : (m : Ptr OperationKind) → is_node_live t (Operation m) ≡ true → IsSome (node_parent t (Operation m)) → (p : ℕ) × (parent_at s.ops_in_block m.slot ≡ Some p)
+  linked_op : (m : Ptr OperationKind) → is_node_live t (Operation m) ≡ true → IsSome (node_parent t (Operation m)) →
+      (p : ℕ) × (parent_at s.ops_in_block m.slot ≡ Some p)
   linked_op m live linked =
-      mapped (block_node s) (parent_at s.ops_in_block m.slot) (subst IsSome (parent_over s (Operation m) (live_of (Operation m) live)) (subst (λ z. IsSome (node_parent z (Operation m))) (sym view) linked))
+      mapped (block_node s) (parent_at s.ops_in_block m.slot) (subst IsSome (parent_over s (Operation m)
+      (live_of (Operation m) live)) (subst (λ z. IsSome (node_parent z (Operation m))) (sym view) linked))
 
-  linked_block : (m : Ptr BasicBlockKind) → is_node_live t (BasicBlock m) ≡ true → IsSome (node_parent t (BasicBlock m)) → (p : ℕ) × (parent_at s.blocks_in_region m.slot ≡ Some p)
+  linked_block : (m : Ptr BasicBlockKind) → is_node_live t (BasicBlock m) ≡ true → IsSome (node_parent t (BasicBlock m))
+      → (p : ℕ) × (parent_at s.blocks_in_region m.slot ≡ Some p)
   linked_block m live linked =
-      mapped (region_node s) (parent_at s.blocks_in_region m.slot) (subst IsSome (parent_over s (BasicBlock m) (live_of (BasicBlock m) live)) (subst (λ z. IsSome (node_parent z (BasicBlock m))) (sym view) linked))
+      mapped (region_node s) (parent_at s.blocks_in_region m.slot) (subst IsSome
+      (parent_over s (BasicBlock m) (live_of (BasicBlock m) live))
+      (subst (λ z. IsSome (node_parent z (BasicBlock m))) (sym view) linked))
 
   -- a node is put beside another one: f says on which side
-  pub op_put_beside : (f : Lists → ℕ → ℕ → Lists) → ((l : Lists) (c m p : ℕ) → c < length l.parents → parent_at l m ≡ Some p → IsMoved l (f l c m) c (Some p)) → (o m : Ptr OperationKind) (l : Lists) → is_node_live t (Operation o) ≡ true → is_node_live t (Operation m) ≡ true → IsSome (node_parent t (Operation m)) → (Reaches (node_parent t) (Operation m) (Operation o) → ⊥) → l ≡ f s.ops_in_block o.slot m.slot → IsAgreed l → IsStored (record s { ops_in_block = l })
+  pub op_put_beside : (f : Lists → ℕ → ℕ → Lists) → ((l : Lists) (c m p : ℕ) → c < length l.parents → parent_at l m ≡
+      Some p → IsMoved l (f l c m) c (Some p)) → (o m : Ptr OperationKind) (l : Lists) → is_node_live t (Operation o) ≡
+      true → is_node_live t (Operation m) ≡ true → IsSome (node_parent t (Operation m)) →
+      (Reaches (node_parent t) (Operation m) (Operation o) → ⊥) → l ≡ f s.ops_in_block o.slot m.slot → IsAgreed l →
+      IsStored (record s { ops_in_block = l })
   op_put_beside f moved o m l live_o live_m linked away e a =
       let p = linked_op m live_m linked in
-      IsStored-link_op s w l o.slot p.0 (subst (λ z. IsMoved s.ops_in_block z o.slot (Some p.0)) (sym e) (moved s.ops_in_block o.slot m.slot p.0 (op_in o live_o) p.1)) a (op_some o live_o) ((w.ops_listed.linked_live m.slot p.0 p.1).1)
-      (λ r. away_from (Operation m) (Operation o) live_m live_o away (suc r.0, ap (λ z. climb (up s) r.0 (option_map block z)) p.1 ∙ r.1))
+      IsStored-link_op s w l o.slot p.0 (subst (λ z. IsMoved s.ops_in_block z o.slot (Some p.0)) (sym e)
+      (moved s.ops_in_block o.slot m.slot p.0 (op_in o live_o) p.1)) a (op_some o live_o)
+      ((w.ops_listed.linked_live m.slot p.0 p.1).1)
+      (λ r. away_from (Operation m) (Operation o) live_m live_o away (
+        suc r.0,
+        ap
+            (λ z. climb (up s) r.0 (option_map block z)) p.1 ∙ r.1,
+      ))
 
-  pub block_put_beside : (f : Lists → ℕ → ℕ → Lists) → ((l : Lists) (c m p : ℕ) → c < length l.parents → parent_at l m ≡ Some p → IsMoved l (f l c m) c (Some p)) → (b m : Ptr BasicBlockKind) (l : Lists) → is_node_live t (BasicBlock b) ≡ true → is_node_live t (BasicBlock m) ≡ true → IsSome (node_parent t (BasicBlock m)) → (Reaches (node_parent t) (BasicBlock m) (BasicBlock b) → ⊥) → l ≡ f s.blocks_in_region b.slot m.slot → IsAgreed l → IsStored (record s { blocks_in_region = l })
+  pub block_put_beside : (f : Lists → ℕ → ℕ → Lists) → ((l : Lists) (c m p : ℕ) → c < length l.parents → parent_at l m ≡
+      Some p → IsMoved l (f l c m) c (Some p)) → (b m : Ptr BasicBlockKind) (l : Lists) → is_node_live t (BasicBlock b)
+      ≡ true → is_node_live t (BasicBlock m) ≡ true → IsSome (node_parent t (BasicBlock m)) →
+      (Reaches (node_parent t) (BasicBlock m) (BasicBlock b) → ⊥) → l ≡ f s.blocks_in_region b.slot m.slot → IsAgreed l
+      → IsStored (record s { blocks_in_region = l })
   block_put_beside f moved b m l live_b live_m linked away e a =
       let p = linked_block m live_m linked in
-      IsStored-link_block s w l b.slot p.0 (subst (λ z. IsMoved s.blocks_in_region z b.slot (Some p.0)) (sym e) (moved s.blocks_in_region b.slot m.slot p.0 (block_in b live_b) p.1)) a (block_some b live_b) ((w.blocks_listed.linked_live m.slot p.0 p.1).1)
-      (λ r. away_from (BasicBlock m) (BasicBlock b) live_m live_b away (suc r.0, ap (λ z. climb (up s) r.0 (option_map region z)) p.1 ∙ r.1))
+      IsStored-link_block s w l b.slot p.0 (subst (λ z. IsMoved s.blocks_in_region z b.slot (Some p.0)) (sym e)
+      (moved s.blocks_in_region b.slot m.slot p.0 (block_in b live_b) p.1)) a (block_some b live_b)
+      ((w.blocks_listed.linked_live m.slot p.0 p.1).1)
+      (λ r. away_from (BasicBlock m) (BasicBlock b) live_m live_b away (
+        suc r.0,
+        ap
+            (λ z. climb (up s) r.0 (option_map region z)) p.1 ∙ r.1,
+      ))
 
-  pub op_unlinked : (o : Ptr OperationKind) (l : Lists) → is_node_live t (Operation o) ≡ true → l ≡ without_child s.ops_in_block o.slot → IsAgreed l → IsStored (record s { ops_in_block = l })
+  pub op_unlinked : (o : Ptr OperationKind) (l : Lists) → is_node_live t (Operation o) ≡ true → l ≡ without_child
+      s.ops_in_block o.slot → IsAgreed l → IsStored (record s { ops_in_block = l })
   op_unlinked o l live e a =
-      IsStored-unlink_op s w l o.slot (subst (λ z. IsMoved s.ops_in_block z o.slot None) (sym e) (IsMoved-out s.ops_in_block o.slot (op_in o live))) a
+      IsStored-unlink_op s w l o.slot (subst (λ z. IsMoved s.ops_in_block z o.slot None) (sym e)
+      (IsMoved-out s.ops_in_block o.slot (op_in o live))) a
 
-  pub block_unlinked : (b : Ptr BasicBlockKind) (l : Lists) → is_node_live t (BasicBlock b) ≡ true → l ≡ without_child s.blocks_in_region b.slot → IsAgreed l → IsStored (record s { blocks_in_region = l })
+  pub block_unlinked : (b : Ptr BasicBlockKind) (l : Lists) → is_node_live t (BasicBlock b) ≡ true → l ≡ without_child
+      s.blocks_in_region b.slot → IsAgreed l → IsStored (record s { blocks_in_region = l })
   block_unlinked b l live e a =
-      IsStored-unlink_block s w l b.slot (subst (λ z. IsMoved s.blocks_in_region z b.slot None) (sym e) (IsMoved-out s.blocks_in_region b.slot (block_in b live))) a
+      IsStored-unlink_block s w l b.slot (subst (λ z. IsMoved s.blocks_in_region z b.slot None) (sym e)
+      (IsMoved-out s.blocks_in_region b.slot (block_in b live))) a
 
-  pub op_held : (o : Ptr OperationKind) (v : O) → is_node_live t (Operation o) ≡ true → IsStored (record s { ops = with_content s.ops o.slot v })
+  pub op_held : (o : Ptr OperationKind) (v : O) → is_node_live t (Operation o) ≡ true → IsStored
+      (record s { ops = with_content s.ops o.slot v })
   op_held o v live = IsStored-held_op s w o.slot v (op_some o live)
 
-  pub block_held : (b : Ptr BasicBlockKind) (v : B) → is_node_live t (BasicBlock b) ≡ true → IsStored (record s { blocks = with_content s.blocks b.slot v })
+  pub block_held : (b : Ptr BasicBlockKind) (v : B) → is_node_live t (BasicBlock b) ≡ true → IsStored
+      (record s { blocks = with_content s.blocks b.slot v })
   block_held b v live = IsStored-held_block s w b.slot v (block_some b live)
 
   -- the region at a place of an operation's list
-  pub region_within : (o : Ptr OperationKind) (i c : ℕ) → slice_get (children_at s.regions_in_op o.slot) i ≡ Some c → c < length s.regions.slots
-  region_within o i c e = within_content s.regions c ((w.regions_listed.linked_live c o.slot (w.regions_listed.agreed.owned o.slot c (Has-at (children_at s.regions_in_op o.slot) i c e))).0)
+  pub region_within : (o : Ptr OperationKind) (i c : ℕ) → slice_get (children_at s.regions_in_op o.slot) i ≡ Some c → c
+      < length s.regions.slots
+  region_within o i c e = within_content s.regions c ((w.regions_listed.linked_live c o.slot
+      (w.regions_listed.agreed.owned o.slot c (Has-at (children_at s.regions_in_op o.slot) i c e))).0)
 
-  pub region_at : (o : Ptr OperationKind) (i c : ℕ) (p : Ptr RegionKind) → is_node_live t (Operation o) ≡ true → slice_get (children_at s.regions_in_op o.slot) i ≡ Some c → p.slot ≡ c → p.version ≡ version_at s.regions c → slice_get (node_children t (Operation o)) i ≡ Some (Region p)
+  pub region_at : (o : Ptr OperationKind) (i c : ℕ) (p : Ptr RegionKind) → is_node_live t (Operation o) ≡ true →
+      slice_get (children_at s.regions_in_op o.slot) i ≡ Some c → p.slot ≡ c → p.version ≡ version_at s.regions c →
+      slice_get (node_children t (Operation o)) i ≡ Some (Region p)
   region_at o i c p live e f g =
       subst (λ z. slice_get (node_children z (Operation o)) i ≡ Some (Region p)) view
-      (ap (λ b. slice_get (cond b (map (region_node s) (children_at s.regions_in_op o.slot)) []) i) (live_of (Operation o) live)
+      (ap (λ b. slice_get (cond b (map (region_node s) (children_at s.regions_in_op o.slot)) []) i)
+      (live_of (Operation o) live)
       ∙ slice_get-map (region_node s) (children_at s.regions_in_op o.slot) i
       ∙ ap (option_map (region_node s)) e
       ∙ ap (λ z. Some (Region z)) (same_ptr (ptr_at s.regions c) p (sym f) (sym g)))

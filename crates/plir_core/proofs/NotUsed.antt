@@ -1,5 +1,6 @@
 -- Nodes that nothing uses.
-use Rattle.std.proofs.Common.{◌≡◌, ℕ, ◌<◌, ◌≤◌, Bool, true, false, cond, List, length, get_or, Option, Some, None, refl, ap, subst, arith, eq-eqb}
+use Rattle.std.proofs.Common.{◌≡◌, ℕ, ◌<◌, ◌≤◌, Bool, true, false, cond, List, length, get_or, Option, Some, None, refl}
+use Rattle.std.proofs.Common.{ap, subst, arith, eq-eqb}
 use Rattle.std.specs.Prelude.{count_by}
 use Rattle.std.proofs.lemmas.Bool.{eqb-true}
 use Rattle.std.proofs.lemmas.List.Sums.{get_or-le-sum_by}
@@ -27,8 +28,10 @@ region_unused {K} {A} t i = uses-none t (region i) (λ k. held (content_at t k))
     held : (o : Option (OpView K A)) → uses_held (region i) o ≡ 0
     held None = refl
     held (Some v) =
-        let a = count_none (λ x. is_seated (region i) (entity_node x.entity)) v.operands (λ k d b. never (entity_node (get_or v.operands k d).entity)) in
-        let z = count_none (λ x. is_seated (region i) (BasicBlock x)) v.successors (λ k d b. never (BasicBlock (get_or v.successors k d))) in
+        let a = count_none (λ x. is_seated (region i) (entity_node x.entity)) v.operands
+        (λ k d b. never (entity_node (get_or v.operands k d).entity)) in
+        let z = count_none (λ x. is_seated (region i) (BasicBlock x)) v.successors
+        (λ k d b. never (BasicBlock (get_or v.successors k d))) in
         omega arith
 
 -- a use is counted
@@ -45,7 +48,8 @@ module _ {K A : Type 0} where
   blocks_some at None e = refl
   blocks_some at (Some v) e = omega arith
 
-pub none_passes : {X : Type 0} (p : X → Bool) (xs : List X) (k : ℕ) (d : X) → k < length xs → p (get_or xs k d) ≡ true → count_by p xs ≡ 0 → ⊥
+pub none_passes : {X : Type 0} (p : X → Bool) (xs : List X) (k : ℕ) (d : X) → k < length xs → p (get_or xs k d) ≡ true →
+    count_by p xs ≡ 0 → ⊥
 none_passes p xs k d h e zero_all =
     let a = get_or-le-sum_by (λ x. cond (p x) 1 0) xs k d h in
     let b = ap (λ (z : Bool). cond {A = ℕ} z 1 0) e in

@@ -1,5 +1,6 @@
 -- A child is taken out of its list.
-use Rattle.std.proofs.Common.{◌≡◌, ℕ, ◌<◌, List, [], ◌∷◌, ◌++◌, map, length, Option, Some, None, ◌⊎◌, inl, inr, refl, sym, ◌∙◌, ap, subst, length-set, eq-eqb, arith}
+use Rattle.std.proofs.Common.{◌≡◌, ℕ, ◌<◌, List, [], ◌∷◌, ◌++◌, map, length, Option, Some, None, ◌⊎◌, inl, inr, refl}
+use Rattle.std.proofs.Common.{sym, ◌∙◌, ap, subst, length-set, eq-eqb, arith}
 use Rattle.std.proofs.lemmas.Bool.{cases_eq, ne_eqb}
 use Rattle.std.proofs.lemmas.List.{get_or-set_same, get_or-set_other}
 use Rattle.std.proofs.lemmas.Option.{same_Some, none-some}
@@ -25,7 +26,11 @@ without-Has : (c x : ℕ) (xs : List ℕ) → (x ≡ c → ⊥) → Has xs x →
 without-Has c x [] n i = i
 without-Has c x (y ∷ ys) n i = elim (cases_eq y c) [
   | inl e ↦ subst (λ z. Has z x) (sym (without-here c y ys e)) (elim i [ inl q ↦ absurd (n (sym q ∙ e)) | inr j ↦ j ])
-  | inr m ↦ subst (λ z. Has z x) (sym (without-past c y ys m)) (elim i [ inl q ↦ inl q | inr j ↦ inr (without-Has c x ys n j) ])
+  | inr m ↦ subst (λ z. Has z x) (sym (without-past c y ys m)) (elim i [
+    | inl q ↦ inl q
+    | inr j ↦ inr
+        (without-Has c x ys n j)
+  ])
 ]
 
 without-gone : (c : ℕ) (xs : List ℕ) → Distinct xs → Has (without c xs) c → ⊥
@@ -43,23 +48,28 @@ Distinct-without c (y ∷ ys) a = elim (cases_eq y c) [
 ]
 
 module _ (l : Lists) (a : IsAgreed l) where
-  under_here : (c p : ℕ) (o : Option ℕ) → parent_at l c ≡ o → o ≡ Some p → children_at (without_under l c o) p ≡ without c (children_at l p)
+  under_here : (c p : ℕ) (o : Option ℕ) → parent_at l c ≡ o → o ≡ Some p → children_at (without_under l c o) p ≡ without
+      c (children_at l p)
   under_here c p None e f = absurd (none-some p f)
   under_here c p (Some q) e f =
       let g : q ≡ p = same_Some q p f in
       let in' : q < length l.children = within_from_child l q c (a.held q c e) in
-      subst (λ z. children_at (without_under l c (Some q)) z ≡ without c (children_at l z)) g (get_or-set_same l.children q (without c (children_at l q)) [] in')
+      subst (λ z. children_at (without_under l c (Some q)) z ≡ without c (children_at l z)) g
+      (get_or-set_same l.children q (without c (children_at l q)) [] in')
 
   -- the list that it stood in
-  pub children_at-without_here : (c p : ℕ) → parent_at l c ≡ Some p → children_at (without_child l c) p ≡ without c (children_at l p)
+  pub children_at-without_here : (c p : ℕ) → parent_at l c ≡ Some p → children_at (without_child l c) p ≡ without c
+      (children_at l p)
   children_at-without_here c p e = under_here c p (parent_at l c) refl e
 
   under_other : (c q : ℕ) (o : Option ℕ) → (o ≡ Some q → ⊥) → children_at (without_under l c o) q ≡ children_at l q
   under_other c q None n = refl
-  under_other c q (Some p) n = get_or-set_other l.children p q (without c (children_at l p)) [] (λ e. n (ap (λ z. Some z) (sym e)))
+  under_other c q (Some p) n = get_or-set_other l.children p q (without c (children_at l p)) []
+      (λ e. n (ap (λ z. Some z) (sym e)))
 
   -- every other list
-  pub children_at-without_other : (c q : ℕ) → (parent_at l c ≡ Some q → ⊥) → children_at (without_child l c) q ≡ children_at l q
+  pub children_at-without_other : (c q : ℕ) → (parent_at l c ≡ Some q → ⊥) → children_at (without_child l c) q ≡
+      children_at l q
   children_at-without_other c q n = under_other c q (parent_at l c) n
 
   gone_under : (c : ℕ) (o : Option ℕ) → parent_at l c ≡ o → parent_at (without_under l c o) c ≡ None
@@ -78,13 +88,20 @@ module _ (l : Lists) (a : IsAgreed l) where
 
   option_cases : (o : Option ℕ) (p : ℕ) → (o ≡ Some p) ⊎ (o ≡ Some p → ⊥)
   option_cases None p = inr (λ e. none-some p e)
-  option_cases (Some q) p = elim (cases_eq q p) [ inl e ↦ inl (ap (λ z. Some z) e) | inr n ↦ inr (λ e. n (same_Some q p e)) ]
+  option_cases (Some q) p = elim (cases_eq q p) [
+    | inl e ↦ inl
+        (ap (λ z. Some z) e)
+    | inr n ↦ inr (λ e. n (same_Some q p e))
+  ]
 
   child_of : (c p x : ℕ) → Has (children_at (without_child l c) p) x → Has (children_at l p) x × (x ≡ c → ⊥)
   child_of c p x i = elim (option_cases (parent_at l c) p) [
     | inl e ↦
-        let j : Has (without c (children_at l p)) x = subst (λ z. Has z x) (children_at-without_here c p e) i in
-        (Has-without c x (children_at l p) j, λ q. without-gone c (children_at l p) (a.apart p) (subst (λ z. Has (without c (children_at l p)) z) q j))
+        let j : Has (without c (children_at l p)) x = subst (λ z. Has z x) (children_at-without_here c p e) i in (
+          Has-without c x (children_at l p) j,
+          λ q. without-gone c (children_at l p) (a.apart p)
+              (subst (λ z. Has (without c (children_at l p)) z) q j),
+        )
     | inr n ↦
         let j : Has (children_at l p) x = subst (λ z. Has z x) (children_at-without_other c p n) i in
         (j, λ q. n (a.owned p c (subst (λ z. Has (children_at l p) z) q j)))
@@ -129,10 +146,12 @@ module _ (l : Lists) (a : IsAgreed l) where
 -- f gives each number an image of its own
 module _ {A : Type 0} (f : ℕ → A) (one : (i j : ℕ) → f i ≡ f j → i ≡ j) (c : ℕ) where
   pub among : (ks : List ℕ) (xs ys : List A) → map f ks ≡ xs ++ f c ∷ ys → Has ks c
-  among ks xs ys t = let r = Has-map f ks (f c) (subst (λ z. Has z (f c)) (sym t) (Has-mid xs ys (f c))) in subst (λ z. Has ks z) (one r.0 c r.1.1) r.1.0
+  among ks xs ys t = let r = Has-map f ks (f c) (subst (λ z. Has z (f c)) (sym t) (Has-mid xs ys (f c))) in subst
+      (λ z. Has ks z) (one r.0 c r.1.1) r.1.0
 
   -- the images of a list without c, where the image of c stood between xs and ys
-  pub map-without : (ks : List ℕ) (xs ys : List A) → Distinct ks → map f ks ≡ xs ++ f c ∷ ys → map f (without c ks) ≡ xs ++ ys
+  pub map-without : (ks : List ℕ) (xs ys : List A) → Distinct ks → map f ks ≡ xs ++ f c ∷ ys → map f (without c ks) ≡ xs
+      ++ ys
   map-without [] [] ys a e = cc
   map-without [] (x ∷ xs) ys a e = cc
   map-without (k ∷ ks) [] ys a e =

@@ -1,5 +1,6 @@
 -- A value comes in place of another one.
-use Rattle.std.proofs.Common.{◌≡◌, ℕ, zero, suc, ◌+◌, ◌<◌, ◌≤◌, Bool, true, false, cond, List, [], ◌∷◌, length, map, get_or, Option, Some, None, refl, sym, ◌∙◌, ap, arith}
+use Rattle.std.proofs.Common.{◌≡◌, ℕ, zero, suc, ◌+◌, ◌<◌, ◌≤◌, Bool, true, false, cond, List, [], ◌∷◌, length, map}
+use Rattle.std.proofs.Common.{get_or, Option, Some, None, refl, sym, ◌∙◌, ap, arith}
 use Rattle.std.specs.Prelude.{All, option_map, slice_set}
 use Rattle.std.proofs.lemmas.List.Elements.{All-cons, All-head, All-tail}
 use Rattle.plir_store.specs.Table.{Cell, no_cell, content_at, cell_at}
@@ -31,12 +32,14 @@ module _ {X : Type 0} (f : X → X) where
   mapped-rest (x ∷ xs) (suc n) (suc k) d h = mapped-rest xs n k d (omega arith)
 
   -- one more
-  next : (xs : List X) (n : ℕ) (d c : X) → n < length xs → c ≡ f (get_or xs n d) → slice_set (first_mapped n xs) n c ≡ first_mapped (suc n) xs
+  next : (xs : List X) (n : ℕ) (d c : X) → n < length xs → c ≡ f (get_or xs n d) → slice_set (first_mapped n xs) n c ≡
+      first_mapped (suc n) xs
   next [] n d c h e = absurd (omega arith)
   next (x ∷ xs) zero d c h e = ap (λ z. z ∷ xs) e
   next (x ∷ xs) (suc n) d c h e = ap (λ l. f x ∷ l) (next xs n d c (omega arith) e)
 
-  same : (xs : List X) (n : ℕ) (d : X) → n < length xs → f (get_or xs n d) ≡ get_or xs n d → first_mapped n xs ≡ first_mapped (suc n) xs
+  same : (xs : List X) (n : ℕ) (d : X) → n < length xs → f (get_or xs n d) ≡ get_or xs n d → first_mapped n xs ≡
+      first_mapped (suc n) xs
   same [] n d h e = absurd (omega arith)
   same (x ∷ xs) zero d h e = ap (λ z. z ∷ xs) (sym e)
   same (x ∷ xs) (suc n) d h e = ap (λ l. f x ∷ l) (same xs n d (omega arith) e)
@@ -44,10 +47,12 @@ module _ {X : Type 0} (f : X → X) where
   plus_one : (xs : List X) (n : ℕ) → first_mapped (suc n) xs ≡ first_mapped (n + 1) xs
   plus_one xs n = let e : suc n ≡ n + 1 = omega arith in ap (λ k. first_mapped k xs) e
 
-  pub mapped-next : (xs : List X) (n : ℕ) (d c : X) → n < length xs → c ≡ f (get_or xs n d) → slice_set (first_mapped n xs) n c ≡ first_mapped (n + 1) xs
+  pub mapped-next : (xs : List X) (n : ℕ) (d c : X) → n < length xs → c ≡ f (get_or xs n d) → slice_set
+      (first_mapped n xs) n c ≡ first_mapped (n + 1) xs
   mapped-next xs n d c h e = next xs n d c h e ∙ plus_one xs n
 
-  pub mapped-same : (xs : List X) (n : ℕ) (d : X) → n < length xs → f (get_or xs n d) ≡ get_or xs n d → first_mapped n xs ≡ first_mapped (n + 1) xs
+  pub mapped-same : (xs : List X) (n : ℕ) (d : X) → n < length xs → f (get_or xs n d) ≡ get_or xs n d → first_mapped n
+      xs ≡ first_mapped (n + 1) xs
   mapped-same xs n d h e = same xs n d h e ∙ plus_one xs n
 
   pub mapped-all : (xs : List X) (n : ℕ) → length xs ≤ n → first_mapped n xs ≡ map f xs
@@ -61,7 +66,8 @@ module _ (v w : Value) where
   -- where all were good, and w is, all are
   pub All-replaced : (P : Value → Type 0) (xs : List Value) → P w → All P xs → All P (map (replaced v w) xs)
   All-replaced P [] p a = a
-  All-replaced P (x ∷ xs) p a = All-cons P (replaced v w x) (map (replaced v w) xs) (at (same_value x v)) (All-replaced P xs p (All-tail P x xs a))
+  All-replaced P (x ∷ xs) p a = All-cons P (replaced v w x) (map (replaced v w) xs) (at (same_value x v))
+      (All-replaced P xs p (All-tail P x xs a))
     where
       at : (b : Bool) → P (cond b w x)
       at true = p
@@ -71,12 +77,22 @@ module _ (v w : Value) where
 module _ {K A : Type 0} (v w : Value) where
   no_content : (c : Cell (OpView K A)) → c.content ≡ None → cell_replaced v w c ≡ c
   no_content c e =
-      ap (λ (o : Option (OpView K A)). let z : Cell (OpView K A) = record { version = c.version; content = option_map (op_replaced v w) o } in z) e
-      ∙ sym (ap (λ (o : Option (OpView K A)). let z : Cell (OpView K A) = record { version = c.version; content = o } in z) e)
+      ap (λ (o : Option (OpView K A)). let z : Cell (OpView K A) = record {
+        version = c.version;
+        content = option_map
+            (op_replaced v w) o;
+      } in z) e
+      ∙ sym (ap (λ (o : Option (OpView K A)). let z : Cell (OpView K A) = record { version = c.version; content = o } in
+      z) e)
 
-  some_content : (b c : Cell (OpView K A)) (o : OpView K A) → b ≡ c → b.content ≡ Some o → record { version = b.version; content = Some (op_replaced v w o) } ≡ cell_replaced v w c
+  some_content : (b c : Cell (OpView K A)) (o : OpView K A) → b ≡ c → b.content ≡ Some o → record
+      { version = b.version; content = Some (op_replaced v w o) } ≡ cell_replaced v w c
   some_content b c o same e =
-      sym (ap (λ (z : Option (OpView K A)). let y : Cell (OpView K A) = record { version = b.version; content = option_map (op_replaced v w) z } in y) e)
+      sym (ap (λ (z : Option (OpView K A)). let y : Cell (OpView K A) = record {
+        version = b.version;
+        content =
+            option_map (op_replaced v w) z;
+      } in y) e)
       ∙ ap (cell_replaced v w) same
 
 -- In the slots of a store.
@@ -96,22 +112,27 @@ module _ {K A T : Type 0} (v w : Value) where
       here : cell_at (replaced_to s n).nodes.ops n ≡ get_or s.nodes.ops.slots n no_cell
       here = mapped-rest (cell_replaced v w) s.nodes.ops.slots n n no_cell (omega arith)
 
-      go : (o : Option (OpView K A)) → content_at (replaced_to s n).nodes.ops n ≡ o → op_edited (replaced_to s n) n (op_replaced v w) o ≡ replaced_to s (n + 1)
+      go : (o : Option (OpView K A)) → content_at (replaced_to s n).nodes.ops n ≡ o → op_edited (replaced_to s n) n
+          (op_replaced v w) o ≡ replaced_to s (n + 1)
       go None e =
           ap (with_slots s) (mapped-same (cell_replaced v w) s.nodes.ops.slots n no_cell h
-          (no_content v w (get_or s.nodes.ops.slots n no_cell) (sym (ap (λ (c : Cell (OpView K A)). c.content) here) ∙ e)))
+          (no_content v w (get_or s.nodes.ops.slots n no_cell)
+          (sym (ap (λ (c : Cell (OpView K A)). c.content) here) ∙ e)))
       go (Some o) e =
           ap (with_slots s) (mapped-next (cell_replaced v w) s.nodes.ops.slots n no_cell _ h
           (some_content v w (cell_at (replaced_to s n).nodes.ops n) (get_or s.nodes.ops.slots n no_cell) o here e))
 
-  pub replaced-all : (s : ContextView K A T) (n : ℕ) → length s.nodes.ops.slots ≤ n → replaced_to s n ≡ with_uses_replaced s v w
+  pub replaced-all : (s : ContextView K A T) (n : ℕ) → length s.nodes.ops.slots ≤ n → replaced_to s n ≡
+      with_uses_replaced s v w
   replaced-all s n h = ap (with_slots s) (mapped-all (cell_replaced v w) s.nodes.ops.slots n h)
 
 -- w stays live
 module _ {K A T : Type 0} (s : ContextView K A T) (i : ℕ) (v w : Value) where
-  pub edited-live : (x : Value) → IsValueLive s x → IsValueLive (op_edited s i (op_replaced v w) (content_at s.nodes.ops i)) x
+  pub edited-live : (x : Value) → IsValueLive s x → IsValueLive (op_edited s i (op_replaced v w)
+      (content_at s.nodes.ops i)) x
   edited-live x live = go (content_at s.nodes.ops i) refl
     where
       go : (o : Option (OpView K A)) → content_at s.nodes.ops i ≡ o → IsValueLive (op_edited s i (op_replaced v w) o) x
       go None e = live
-      go (Some u) e = value_kept s (with_op_content s i (op_replaced v w u)) (op_content_keeps s i u (op_replaced v w u) e refl) x live
+      go (Some u) e = value_kept s (with_op_content s i (op_replaced v w u)) (op_content_keeps s i u (op_replaced v w u)
+          e refl) x live

@@ -1,5 +1,6 @@
 -- The scan over all operations for one outside a tree that uses what is in it.
-use Rattle.std.proofs.Common.{◌≡◌, ℕ, ◌+◌, ◌<◌, ◌≤◌, Bool, true, false, List, length, slice_index_or, Some, None, inl, inr, refl, sym, ◌∙◌, ap, subst, arith}
+use Rattle.std.proofs.Common.{◌≡◌, ℕ, ◌+◌, ◌<◌, ◌≤◌, Bool, true, false, List, length, slice_index_or, Some, None, inl}
+use Rattle.std.proofs.Common.{inr, refl, sym, ◌∙◌, ap, subst, arith}
 use Rattle.std.specs.Prelude.{All}
 use Rattle.std.proofs.lemmas.Bool.{cases_lt}
 use Rattle.plir_store.specs.Table.{content_at}
@@ -21,21 +22,26 @@ use Rattle.plir_core.proofs.Freed.{ptr_one}
 use Rattle.plir_core.proofs.Ancestors.{AllSoFar, AllSoFar-next, not_all}
 
 -- what holds of the entities of values, with the next value's entity read
-pub not_all_values : (P : DefiningEntity → Type 0) (vs : List Value) (n : ℕ) (d : Value) (x : DefiningEntity) → x ≡ (slice_index_or vs n d).entity → n < length vs → (P x → ⊥) → All (λ v. P v.entity) vs → ⊥
+pub not_all_values : (P : DefiningEntity → Type 0) (vs : List Value) (n : ℕ) (d : Value) (x : DefiningEntity) → x ≡
+    (slice_index_or vs n d).entity → n < length vs → (P x → ⊥) → All (λ v. P v.entity) vs → ⊥
 not_all_values P vs n d x e h not all = not_all (λ v. P v.entity) vs n d h (subst (λ z. P z → ⊥) e not) all
 
-pub more_values : (P : DefiningEntity → Type 0) (vs : List Value) (n : ℕ) (d : Value) (x : DefiningEntity) → x ≡ (slice_index_or vs n d).entity → AllSoFar (λ v. P v.entity) vs n → n < length vs → P x → AllSoFar (λ v. P v.entity) vs (n + 1)
+pub more_values : (P : DefiningEntity → Type 0) (vs : List Value) (n : ℕ) (d : Value) (x : DefiningEntity) → x ≡
+    (slice_index_or vs n d).entity → AllSoFar (λ v. P v.entity) vs n → n < length vs → P x → AllSoFar (λ v. P v.entity)
+    vs (n + 1)
 more_values P vs n d x e all h here = AllSoFar-next (λ v. P v.entity) vs n d all h (subst P e here)
 
 -- What an operation uses: s is made of the fields, and t is the value.
-module _ {K A T : Type 0} (s t : ContextView K A T) (view : s ≡ t) (n : IRNode) (op : Ptr OperationKind) (v : OpView K A) (held : content_at s.nodes.ops op.slot ≡ Some v) where
+module _ {K A T : Type 0} (s t : ContextView K A T) (view : s ≡ t) (n : IRNode) (op : Ptr OperationKind)
+    (v : OpView K A) (held : content_at s.nodes.ops op.slot ≡ Some v) where
   abbrev away_value : Value → Type 0
   away_value x = Reaches (node_parent s.nodes) (entity_node x.entity) n → ⊥
 
   abbrev away_block : Ptr BlockKind → Type 0
   away_block b = Reaches (node_parent s.nodes) (BasicBlock b) n → ⊥
 
-  pub none_told : (vs : List Value) (bs : List (Ptr BlockKind)) → vs ≡ v.operands → bs ≡ v.successors → All away_value vs → All away_block bs → UsesNoneOf t n op
+  pub none_told : (vs : List Value) (bs : List (Ptr BlockKind)) → vs ≡ v.operands → bs ≡ v.successors → All away_value
+      vs → All away_block bs → UsesNoneOf t n op
   none_told vs bs ev eb none_v none_b = subst (λ z. UsesNoneOf z n op) view (record {
     operands = subst (λ xs. All away_value xs) (ev ∙ sym (ap operands_in held)) none_v;
     successors = subst (λ xs. All away_block xs) (eb ∙ sym (ap successors_in held)) none_b;
@@ -74,13 +80,16 @@ module _ {K A T : Type 0} (s : ContextView K A T) (n : IRNode) where
   IsUnusedAt-outside i u op e live out = u op live out
 
   -- a slot with no operation
-  pub IsUnusedAt-none : (i : ℕ) (nodes : Nodes (OpView K A) (BlockView A)) → nodes ≡ s.nodes → content_at nodes.ops i ≡ None → IsUnusedAt s n i
+  pub IsUnusedAt-none : (i : ℕ) (nodes : Nodes (OpView K A) (BlockView A)) → nodes ≡ s.nodes → content_at nodes.ops i ≡
+      None → IsUnusedAt s n i
   IsUnusedAt-none i nodes is none op e live out =
       absurd (some_none (content_at s.nodes.ops op.slot) ((live_parts s.nodes.ops op.slot op.version live).0)
-      (ap (content_at s.nodes.ops) e ∙ ap (λ (z : Nodes (OpView K A) (BlockView A)). content_at z.ops i) (sym is) ∙ none))
+      (ap (content_at s.nodes.ops) e ∙ ap (λ (z : Nodes (OpView K A) (BlockView A)). content_at z.ops i) (sym is) ∙
+      none))
 
   -- the operation in the slot
-  module _ (i : ℕ) (nodes : Nodes (OpView K A) (BlockView A)) (is : nodes ≡ s.nodes) (p : Ptr OperationKind) (at : p ≡ ptr_at nodes.ops i) (here : is_node_live nodes (Operation p) ≡ true) where
+  module _ (i : ℕ) (nodes : Nodes (OpView K A) (BlockView A)) (is : nodes ≡ s.nodes) (p : Ptr OperationKind)
+      (at : p ≡ ptr_at nodes.ops i) (here : is_node_live nodes (Operation p) ≡ true) where
     live_here : IsLive s (Operation p)
     live_here = subst (λ z. is_node_live z (Operation p) ≡ true) is here
 

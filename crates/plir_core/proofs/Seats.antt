@@ -1,5 +1,6 @@
 -- Climbing from a live node is climbing from its seat.
-use Rattle.std.proofs.Common.{◌≡◌, ℕ, zero, suc, Bool, true, false, ◌&&◌, Option, Some, None, is_some, IsSome, refl, sym, ◌∙◌, ap, subst, eqb, eq-eqb}
+use Rattle.std.proofs.Common.{◌≡◌, ℕ, zero, suc, Bool, true, false, ◌&&◌, Option, Some, None, is_some, IsSome, refl}
+use Rattle.std.proofs.Common.{sym, ◌∙◌, ap, subst, eqb, eq-eqb}
 use Rattle.std.specs.Prelude.{option_map}
 use borrow.Author.Tests.{eqb-true}
 use Rattle.std.proofs.lemmas.Option.{same_Some, none-some}
@@ -33,7 +34,8 @@ module _ {T : Type 0} (t : Table T) where
   live_version i v e = eqb-true (version_at t i) v (and_right (is_some (content_at t i)) (eqb (version_at t i) v) e)
 
   pub some_live : (i : ℕ) → IsSome (content_at t i) → is_live_at t i (version_at t i) ≡ true
-  some_live i e = and_both (is_some (content_at t i)) (eqb (version_at t i) (version_at t i)) e (eq-eqb (version_at t i) (version_at t i) refl)
+  some_live i e = and_both (is_some (content_at t i)) (eqb (version_at t i) (version_at t i)) e
+      (eq-eqb (version_at t i) (version_at t i) refl)
 
 abbrev pointer : {X : Type 0} → ℕ → ℕ → Ptr X
 pointer i v = record { slot = i; version = v; kind = record {} }
@@ -46,13 +48,16 @@ module _ {O B : Type 0} (s : Nodes O B) where
   pub same_seat : (a b : IRNode) → is_node_live s a ≡ true → is_node_live s b ≡ true → seat_of a ≡ seat_of b → a ≡ b
   same_seat (Operation p) (Operation q) l m e =
       let f : p.slot ≡ q.slot = cc in
-      ap Operation (same_ptr p q f (sym (live_version s.ops p.slot p.version l) ∙ ap (version_at s.ops) f ∙ live_version s.ops q.slot q.version m))
+      ap Operation (same_ptr p q f (sym (live_version s.ops p.slot p.version l) ∙ ap (version_at s.ops) f ∙ live_version
+      s.ops q.slot q.version m))
   same_seat (Region p) (Region q) l m e =
       let f : p.slot ≡ q.slot = cc in
-      ap Region (same_ptr p q f (sym (live_version s.regions p.slot p.version l) ∙ ap (version_at s.regions) f ∙ live_version s.regions q.slot q.version m))
+      ap Region (same_ptr p q f (sym (live_version s.regions p.slot p.version l) ∙ ap (version_at s.regions) f ∙
+      live_version s.regions q.slot q.version m))
   same_seat (BasicBlock p) (BasicBlock q) l m e =
       let f : p.slot ≡ q.slot = cc in
-      ap BasicBlock (same_ptr p q f (sym (live_version s.blocks p.slot p.version l) ∙ ap (version_at s.blocks) f ∙ live_version s.blocks q.slot q.version m))
+      ap BasicBlock (same_ptr p q f (sym (live_version s.blocks p.slot p.version l) ∙ ap (version_at s.blocks) f ∙
+      live_version s.blocks q.slot q.version m))
   same_seat (Operation p) (Region q) l m e = cc
   same_seat (Operation p) (BasicBlock q) l m e = cc
   same_seat (Region p) (Operation q) l m e = cc
@@ -83,32 +88,43 @@ module _ {O B : Type 0} (s : Nodes O B) where
 
   module _ (w : IsStored s) where
     -- the node above is live
-    block_over : (i : ℕ) (o : Option ℕ) (a : IRNode) → parent_at s.ops_in_block i ≡ o → option_map (block_node s) o ≡ Some a → is_node_live s a ≡ true
+    block_over : (i : ℕ) (o : Option ℕ) (a : IRNode) → parent_at s.ops_in_block i ≡ o → option_map (block_node s) o ≡
+        Some a → is_node_live s a ≡ true
     block_over i None a e f = absurd (none-some a f)
-    block_over i (Some b) a e f = subst (λ z. is_node_live s z ≡ true) (same_Some (block_node s b) a f) (some_live s.blocks b ((w.ops_listed.linked_live i b e).1))
+    block_over i (Some b) a e f = subst (λ z. is_node_live s z ≡ true) (same_Some (block_node s b) a f)
+        (some_live s.blocks b ((w.ops_listed.linked_live i b e).1))
 
-    op_over : (i : ℕ) (o : Option ℕ) (a : IRNode) → parent_at s.regions_in_op i ≡ o → option_map (op_node s) o ≡ Some a → is_node_live s a ≡ true
+    op_over : (i : ℕ) (o : Option ℕ) (a : IRNode) → parent_at s.regions_in_op i ≡ o → option_map (op_node s) o ≡ Some a
+        → is_node_live s a ≡ true
     op_over i None a e f = absurd (none-some a f)
-    op_over i (Some b) a e f = subst (λ z. is_node_live s z ≡ true) (same_Some (op_node s b) a f) (some_live s.ops b ((w.regions_listed.linked_live i b e).1))
+    op_over i (Some b) a e f = subst (λ z. is_node_live s z ≡ true) (same_Some (op_node s b) a f)
+        (some_live s.ops b ((w.regions_listed.linked_live i b e).1))
 
-    region_over : (i : ℕ) (o : Option ℕ) (a : IRNode) → parent_at s.blocks_in_region i ≡ o → option_map (region_node s) o ≡ Some a → is_node_live s a ≡ true
+    region_over : (i : ℕ) (o : Option ℕ) (a : IRNode) → parent_at s.blocks_in_region i ≡ o → option_map (region_node s)
+        o ≡ Some a → is_node_live s a ≡ true
     region_over i None a e f = absurd (none-some a f)
-    region_over i (Some b) a e f = subst (λ z. is_node_live s z ≡ true) (same_Some (region_node s b) a f) (some_live s.regions b ((w.blocks_listed.linked_live i b e).1))
+    region_over i (Some b) a e f = subst (λ z. is_node_live s z ≡ true) (same_Some (region_node s b) a f)
+        (some_live s.regions b ((w.blocks_listed.linked_live i b e).1))
 
     pub over_live : (n a : IRNode) → node_over s n ≡ Some a → is_node_live s a ≡ true
     over_live (Operation p) a e = block_over p.slot (parent_at s.ops_in_block p.slot) a refl e
     over_live (Region p) a e = op_over p.slot (parent_at s.regions_in_op p.slot) a refl e
     over_live (BasicBlock p) a e = region_over p.slot (parent_at s.blocks_in_region p.slot) a refl e
 
-    climb_from : (k : ℕ) (o : Option IRNode) (a : IRNode) → ((b : IRNode) → o ≡ Some b → climb (up s) k (Some (seat_of b)) ≡ Some (seat_of a) → climb (node_parent s) k (Some b) ≡ Some a) → climb (up s) k (option_map seat_of o) ≡ Some (seat_of a) → climb (node_parent s) k o ≡ Some a
+    climb_from : (k : ℕ) (o : Option IRNode) (a : IRNode) → ((b : IRNode) → o ≡ Some b → climb (up s) k
+        (Some (seat_of b)) ≡ Some (seat_of a) → climb (node_parent s) k (Some b) ≡ Some a) → climb (up s) k
+        (option_map seat_of o) ≡ Some (seat_of a) → climb (node_parent s) k o ≡ Some a
     climb_from k None a ih e = absurd (none-some (seat_of a) (sym (climb_none (up s) k) ∙ e))
     climb_from k (Some b) a ih e = ih b refl e
 
     -- whoever is above a live node's seat is the seat of a node above it
-    climb_seat : (k : ℕ) (n a : IRNode) → is_node_live s n ≡ true → is_node_live s a ≡ true → climb (up s) k (Some (seat_of n)) ≡ Some (seat_of a) → climb (node_parent s) k (Some n) ≡ Some a
+    climb_seat : (k : ℕ) (n a : IRNode) → is_node_live s n ≡ true → is_node_live s a ≡ true → climb (up s) k
+        (Some (seat_of n)) ≡ Some (seat_of a) → climb (node_parent s) k (Some n) ≡ Some a
     climb_seat zero n a l m e = ap (λ z. Some z) (same_seat n a l m (same_Some (seat_of n) (seat_of a) e))
     climb_seat (suc k) n a l m e =
-        rw (parent_over n l) (climb_from k (node_over s n) a (λ b f g. climb_seat k b a (over_live n b f) m g) (ap (climb (up s) k) (sym (up_seat n)) ∙ e))
+        rw (parent_over n l) (climb_from k (node_over s n) a
+        (λ b f g. climb_seat k b a (over_live n b f) m g) (ap (climb (up s) k) (sym (up_seat n)) ∙ e))
 
-    pub reach_seat : (n a : IRNode) → is_node_live s n ≡ true → is_node_live s a ≡ true → Reaches (up s) (seat_of n) (seat_of a) → Reaches (node_parent s) n a
+    pub reach_seat : (n a : IRNode) → is_node_live s n ≡ true → is_node_live s a ≡ true → Reaches (up s) (seat_of n)
+        (seat_of a) → Reaches (node_parent s) n a
     reach_seat n a l m r = (r.0, climb_seat r.0 n a l m r.1)

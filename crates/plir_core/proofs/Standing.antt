@@ -1,5 +1,6 @@
 -- What every whole context keeps of the nodes that stand in it.
-use Rattle.std.proofs.Common.{◌≡◌, ℕ, suc, ◌+◌, ◌<◌, ◌≤◌, ◌^◌, List, [], ◌∷◌, map, length, Option, Some, None, inl, inr, refl, ap, subst, arith}
+use Rattle.std.proofs.Common.{◌≡◌, ℕ, suc, ◌+◌, ◌<◌, ◌≤◌, ◌^◌, List, [], ◌∷◌, map, length, Option, Some, None, inl, inr}
+use Rattle.std.proofs.Common.{refl, ap, subst, arith}
 use Rattle.plir_core.specs.declared.ptr.IRNode.{IRNode}
 use Rattle.plir_core.specs.declared.ptr.IRNode.TheVariants.{Operation, Region, BasicBlock}
 use Rattle.plir_store.specs.Members.{Has, Distinct}
@@ -22,7 +23,8 @@ seats_of [] x h = absurd h
 seats_of (n ∷ ns) x (inl e) = (n, inl refl, e)
 seats_of (n ∷ ns) x (inr h) = (let r = seats_of ns x h in (r.0, inr r.1, r.2))
 
-seats_apart : (ns : List IRNode) → ((a b : IRNode) → Has ns a → Has ns b → seat_of a ≡ seat_of b → a ≡ b) → Distinct ns → Distinct (map seat_of ns)
+seats_apart : (ns : List IRNode) → ((a b : IRNode) → Has ns a → Has ns b → seat_of a ≡ seat_of b → a ≡ b) → Distinct ns
+    → Distinct (map seat_of ns)
 seats_apart [] one d = tt
 seats_apart (n ∷ ns) one d = (
   λ h. (let r = seats_of ns (seat_of n) h in d.0 (subst (Has ns) (one r.0 n (inr r.1) (inl refl) r.2) r.1)),
@@ -42,7 +44,8 @@ module _ {K A T : Type 0} (s : ContextView K A T) where
   counted : (ns : List IRNode) → Distinct ns → ((n : IRNode) → Has ns n → IsLive s n) → length ns ≤ num_live s
   counted ns d live =
       let apart = seats_apart ns (λ a b h i e. same_seat s.nodes a b (live a h) (live b i) e) d in
-      let most = length-le_seated (map seat_of ns) s.nodes apart (λ x h. (let r = seats_of ns x h in subst (IsSeated s.nodes) r.2 (seated r.0 (live r.0 r.1)))) in
+      let most = length-le_seated (map seat_of ns) s.nodes apart
+      (λ x h. (let r = seats_of ns x h in subst (IsSeated s.nodes) r.2 (seated r.0 (live r.0 r.1)))) in
       subst (λ z. z ≤ num_live s) (length_seats ns) most
 
   module _ (w : IsStored s.nodes) where
@@ -52,7 +55,8 @@ module _ {K A T : Type 0} (s : ContextView K A T) where
       where
         go : (o : Option IRNode) → climb (parent_of s) k (Some x) ≡ o → o ≡ None
         go None e = refl
-        go (Some a) e = absurd (let p = depth-climb (node_children s.nodes) (node_parent s.nodes) (depth_of s.nodes) (IsTree-stored s.nodes w) k x a e in let q = depth-le s.nodes w x in omega (arith, p, q, more))
+        go (Some a) e = absurd (let p = depth-climb (node_children s.nodes) (node_parent s.nodes) (depth_of s.nodes)
+            (IsTree-stored s.nodes w) k x a e in let q = depth-le s.nodes w x in omega (arith, p, q, more))
 
     forest : IsForest (look s)
     forest = record {

@@ -24,12 +24,16 @@ module _ {K : Type 0} (t y b u : K → Bool) where
 
   module _ {A T : Type 0} (s : ContextView K A T) (o : Ptr OperationKind) (live : IsLive s (Operation o)) where
     -- what `op_impls` answers of a terminator
-    pub terminator_told : (r : Bool) → IfSome (kind_of s o) (λ k. r ≡ implements t y b u k Terminator) → is_terminator_kind t (kind_of s o) ≡ r
+    pub terminator_told : (r : Bool) → IfSome (kind_of s o) (λ k. r ≡ implements t y b u k Terminator) →
+        is_terminator_kind t (kind_of s o) ≡ r
     terminator_told r told =
         let v = some_value (op_at s o) (live_some s.nodes.ops o.slot o.version live) in
         let is : kind_of s o ≡ Some (v.0).kind = ap kind_in v.1 in
         let here : r ≡ implements t y b u (v.0).kind Terminator = rw is at told in
         ap (is_terminator_kind t) is ∙ sym (ends (v.0).kind) ∙ sym here
 
-    pub if_told : (r : Bool) (p : Ptr BasicBlockKind) → Some (Operation o) ≡ last_child s (BasicBlock p) → IfSome (kind_of s o) (λ k. r ≡ implements t y b u k Terminator) → terminator_of t s p ≡ cond r (Some (Operation o)) None
-    if_told r p e told = ap (if_terminator t s) (sym e) ∙ ap (λ z. cond z (Some (Operation o)) None) (terminator_told r told)
+    pub if_told : (r : Bool) (p : Ptr BasicBlockKind) → Some (Operation o) ≡ last_child s (BasicBlock p) → IfSome
+        (kind_of s o) (λ k. r ≡ implements t y b u k Terminator) → terminator_of t s p ≡ cond r (Some (Operation o))
+        None
+    if_told r p e told = ap (if_terminator t s) (sym e) ∙ ap
+        (λ z. cond z (Some (Operation o)) None) (terminator_told r told)

@@ -1,5 +1,6 @@
 -- What a dictionary stays, and what its entries make, put one after another.
-use Rattle.std.proofs.Common.{◌≡◌, ℕ, Bool, true, false, cond, List, [], ◌∷◌, map, Ordering, Less, Equal, Greater, nat_cmp, refl, ap, subst, sym, ◌∙◌, ◌++◌, append_assoc, append-nil}
+use Rattle.std.proofs.Common.{◌≡◌, ℕ, Bool, true, false, cond, List, [], ◌∷◌, map, Ordering, Less, Equal, Greater}
+use Rattle.std.proofs.Common.{nat_cmp, refl, ap, subst, sym, ◌∙◌, ◌++◌, append_assoc, append-nil}
 use Rattle.std.proofs.lemmas.Cmp.{nat_list_cmp_total}
 use Rattle.std.specs.Ordering.{match_ordering, ordering_reverse}
 use Rattle.std.specs.Cmp.Lexicographic.{slice_cmp}
@@ -11,32 +12,43 @@ module _ {V : Type 0} where
   below_all [] k l less below = tt
   below_all (e ∷ es) k l less below = (nat_list_cmp_total.trans k l e.0 less below.0, below_all es k l less below.1)
 
-  below_match : (o : Ordering) (l : List ℕ) (xs ys zs : List (List ℕ × V)) → IsBelowAll l xs → IsBelowAll l ys → IsBelowAll l zs → IsBelowAll l (match_ordering o xs ys zs)
+  below_match : (o : Ordering) (l : List ℕ) (xs ys zs : List (List ℕ × V)) → IsBelowAll l xs → IsBelowAll l ys →
+      IsBelowAll l zs → IsBelowAll l (match_ordering o xs ys zs)
   below_match Less l xs ys zs x y z = x
   below_match Equal l xs ys zs x y z = y
   below_match Greater l xs ys zs x y z = z
 
-  below_put : (es : List (List ℕ × V)) (k l : List ℕ) (v : V) → slice_cmp nat_cmp l k ≡ Less → IsBelowAll l es → IsBelowAll l (dict_put es k v)
+  below_put : (es : List (List ℕ × V)) (k l : List ℕ) (v : V) → slice_cmp nat_cmp l k ≡ Less → IsBelowAll l es →
+      IsBelowAll l (dict_put es k v)
   below_put [] k l v less below = (less, tt)
   below_put (e ∷ es) k l v less below =
-      below_match (slice_cmp nat_cmp k e.0) l ((k, v) ∷ e ∷ es) ((e.0, v) ∷ es) (e ∷ dict_put es k v) (less, (below.0, below.1)) (below.0, below.1) (below.0, below_put es k l v less below.1)
+      below_match (slice_cmp nat_cmp k e.0) l ((k, v) ∷ e ∷ es) ((e.0, v) ∷ es) (e ∷ dict_put es k v)
+      (less, (below.0, below.1)) (below.0, below.1) (below.0, below_put es k l v less below.1)
 
-  pub dictionary_put : (es : List (List ℕ × V)) (k : List ℕ) (v : V) → is_identifier k ≡ true → IsDictionary es → IsDictionary (dict_put es k v)
+  pub dictionary_put : (es : List (List ℕ × V)) (k : List ℕ) (v : V) → is_identifier k ≡ true → IsDictionary es →
+      IsDictionary (dict_put es k v)
   dictionary_put [] k v formed d = (formed, tt, tt)
   dictionary_put (e ∷ es) k v formed d = by (slice_cmp nat_cmp k e.0) refl (dictionary_put es k v formed d.2)
     where
-      by : (o : Ordering) → slice_cmp nat_cmp k e.0 ≡ o → IsDictionary (dict_put es k v) → IsDictionary (match_ordering o ((k, v) ∷ e ∷ es) ((e.0, v) ∷ es) (e ∷ dict_put es k v))
+      by : (o : Ordering) → slice_cmp nat_cmp k e.0 ≡ o → IsDictionary (dict_put es k v) → IsDictionary
+          (match_ordering o ((k, v) ∷ e ∷ es) ((e.0, v) ∷ es) (e ∷ dict_put es k v))
       by Less is rest = (formed, (is, below_all es k e.0 is d.1), d)
       by Equal is rest = d
-      by Greater is rest = (d.0, below_put es k e.0 v (nat_list_cmp_total.antisymm e.0 k ∙ ap ordering_reverse is) d.1, rest)
+      by Greater is rest = (
+        d.0,
+        below_put es k e.0 v (nat_list_cmp_total.antisymm e.0 k ∙ ap ordering_reverse is) d.1,
+        rest,
+      )
 
-  below_cond : (b : Bool) (l : List ℕ) (xs ys : List (List ℕ × V)) → IsBelowAll l xs → IsBelowAll l ys → IsBelowAll l (cond b xs ys)
+  below_cond : (b : Bool) (l : List ℕ) (xs ys : List (List ℕ × V)) → IsBelowAll l xs → IsBelowAll l ys → IsBelowAll l
+      (cond b xs ys)
   below_cond true l xs ys x y = x
   below_cond false l xs ys x y = y
 
   below_without : (es : List (List ℕ × V)) (k l : List ℕ) → IsBelowAll l es → IsBelowAll l (dict_without es k)
   below_without [] k l below = tt
-  below_without (e ∷ es) k l below = below_cond (is_key k e.0) l es (e ∷ dict_without es k) below.1 (below.0, below_without es k l below.1)
+  below_without (e ∷ es) k l below = below_cond (is_key k e.0) l es (e ∷ dict_without es k) below.1
+      (below.0, below_without es k l below.1)
 
   pub dictionary_without : (es : List (List ℕ × V)) (k : List ℕ) → IsDictionary es → IsDictionary (dict_without es k)
   dictionary_without [] k d = tt
@@ -48,20 +60,25 @@ module _ {V : Type 0} where
 
   -- ---- entries that are put one after another
 
-  below_at : (done : List (List ℕ × V)) (e : List ℕ × V) (more : List (List ℕ × V)) (k : List ℕ) → IsBelowAll k (done ++ e ∷ more) → slice_cmp nat_cmp k e.0 ≡ Less
+  below_at : (done : List (List ℕ × V)) (e : List ℕ × V) (more : List (List ℕ × V)) (k : List ℕ) → IsBelowAll k
+      (done ++ e ∷ more) → slice_cmp nat_cmp k e.0 ≡ Less
   below_at [] e more k below = below.0
   below_at (f ∷ done) e more k below = below_at done e more k below.1
 
   -- a key above all others comes last
-  put_last : (done : List (List ℕ × V)) (e : List ℕ × V) (more : List (List ℕ × V)) → IsDictionary (done ++ e ∷ more) → dict_put done e.0 e.1 ≡ done ++ e ∷ []
+  put_last : (done : List (List ℕ × V)) (e : List ℕ × V) (more : List (List ℕ × V)) → IsDictionary (done ++ e ∷ more) →
+      dict_put done e.0 e.1 ≡ done ++ e ∷ []
   put_last [] e more d = refl
   put_last (f ∷ done) e more d =
-      ap (λ o. match_ordering o (e ∷ f ∷ done) ((f.0, e.1) ∷ done) (f ∷ dict_put done e.0 e.1)) (nat_list_cmp_total.antisymm e.0 f.0 ∙ ap ordering_reverse (below_at done e more f.0 d.1)) ∙ ap (λ es. f ∷ es) (put_last done e more d.2)
+      ap (λ o. match_ordering o (e ∷ f ∷ done) ((f.0, e.1) ∷ done) (f ∷ dict_put done e.0 e.1))
+      (nat_list_cmp_total.antisymm e.0 f.0 ∙ ap ordering_reverse (below_at done e more f.0 d.1)) ∙ ap (λ es. f ∷ es)
+      (put_last done e more d.2)
 
   put_all_behind : (done more : List (List ℕ × V)) → IsDictionary (done ++ more) → dict_put_all done more ≡ done ++ more
   put_all_behind done [] d = sym (append-nil done)
   put_all_behind done (e ∷ more) d =
-      ap (λ es. dict_put_all es more) (put_last done e more d) ∙ put_all_behind (done ++ e ∷ []) more (subst IsDictionary (sym (append_assoc done (e ∷ []) more)) d) ∙ append_assoc done (e ∷ []) more
+      ap (λ es. dict_put_all es more) (put_last done e more d) ∙ put_all_behind (done ++ e ∷ []) more
+      (subst IsDictionary (sym (append_assoc done (e ∷ []) more)) d) ∙ append_assoc done (e ∷ []) more
 
   -- a dictionary is the dictionary of its own entries
   pub dict_of-itself : (es : List (List ℕ × V)) → IsDictionary es → dict_of es ≡ es

@@ -10,5 +10,7 @@ module _ {A X : Type 0} (own_eq : A → A → Bool) (view : X → AttrView A) wh
   no_items_equal (y ∷ ys) = search (rules)
 
   -- past the end of a list, only an empty list is equal to what is left
-  pub nothing_left : (xs ys : List X) (i : ℕ) → length xs ≤ i → items_eq own_eq (items_of (map view (drop i xs))) (items_of (map view ys)) ≡ (length ys == 0)
-  nothing_left xs ys i past = ap (λ zs. items_eq own_eq (items_of (map view zs)) (items_of (map view ys))) (drop_of_length-le xs past) ∙ no_items_equal ys
+  pub nothing_left : (xs ys : List X) (i : ℕ) → length xs ≤ i → items_eq own_eq (items_of (map view (drop i xs)))
+      (items_of (map view ys)) ≡ (length ys == 0)
+  nothing_left xs ys i past = ap (λ zs. items_eq own_eq (items_of (map view zs)) (items_of (map view ys)))
+      (drop_of_length-le xs past) ∙ no_items_equal ys

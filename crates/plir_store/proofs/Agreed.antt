@@ -1,14 +1,17 @@
 -- Lists that agree with the parents of their children.
-use Rattle.std.proofs.Common.{◌≡◌, ℕ, ◌<◌, true, false, cond, eqb, List, [], ◌∷◌, length, Option, Some, None, IfSome, inl, inr, refl}
+use Rattle.std.proofs.Common.{◌≡◌, ℕ, ◌<◌, true, false, cond, eqb, List, [], ◌∷◌, length, Option, Some, None, IfSome}
+use Rattle.std.proofs.Common.{inl, inr, refl}
 use Rattle.plir_store.specs.Members.{Has, head}
 use Rattle.plir_store.specs.ListLaws.{within_from_child}
-use Rattle.plir_store.specs.Lists.{Lists, IsAgreed, children_at, parent_at, last_of, last_from, next_in, prev_in, next_of, prev_of, next_under, prev_under}
+use Rattle.plir_store.specs.Lists.{Lists, IsAgreed, children_at, parent_at, last_of, last_from, next_in, prev_in}
+use Rattle.plir_store.specs.Lists.{next_of, prev_of, next_under, prev_under}
 
 first_within_in : (n : ℕ) (xs : List ℕ) → ((x : ℕ) → Has xs x → x < n) → IfSome (head xs) (λ j. j < n)
 first_within_in n [] h = tt
 first_within_in n (x ∷ xs) h = h x (inl refl)
 
-last_within_in : (n : ℕ) (a : Option ℕ) (xs : List ℕ) → IfSome a (λ j. j < n) → ((x : ℕ) → Has xs x → x < n) → IfSome (last_from a xs) (λ j. j < n)
+last_within_in : (n : ℕ) (a : Option ℕ) (xs : List ℕ) → IfSome a
+    (λ j. j < n) → ((x : ℕ) → Has xs x → x < n) → IfSome (last_from a xs) (λ j. j < n)
 last_within_in n a [] g h = g
 last_within_in n a (x ∷ xs) g h = last_within_in n (Some x) xs (h x (inl refl)) (λ y i. h y (inr i))
 
@@ -19,7 +22,8 @@ next_within_in n (x ∷ xs) c h = elim (eqb x c) as (λ b. IfSome (cond b (head 
   | false ↦ next_within_in n xs c (λ y i. h y (inr i))
 ]
 
-prev_within_in : (n : ℕ) (a : Option ℕ) (xs : List ℕ) (c : ℕ) → IfSome a (λ j. j < n) → ((x : ℕ) → Has xs x → x < n) → IfSome (prev_in a xs c) (λ j. j < n)
+prev_within_in : (n : ℕ) (a : Option ℕ) (xs : List ℕ) (c : ℕ) → IfSome a
+    (λ j. j < n) → ((x : ℕ) → Has xs x → x < n) → IfSome (prev_in a xs c) (λ j. j < n)
 prev_within_in n a [] c g h = tt
 prev_within_in n a (x ∷ xs) c g h = elim (eqb x c) as (λ b. IfSome (cond b a (prev_in (Some x) xs c)) (λ j. j < n)) [
   | true ↦ g

@@ -2,7 +2,8 @@
 use Rattle.std.proofs.Common.{◌≡◌, ℕ, List, [], ◌∷◌, ◌++◌, inl, inr, refl, sym, ap, eq-eqb}
 use Rattle.std.proofs.lemmas.Bool.{ne_eqb}
 use Rattle.plir_store.specs.Members.{Has, Distinct}
-use Rattle.plir_store.specs.MemberLaws.{Has-append_left, Has-append_right, Has-append_cases, Distinct-right, Distinct-cross}
+use Rattle.plir_store.specs.MemberLaws.{Has-append_left, Has-append_right, Has-append_cases, Distinct-right}
+use Rattle.plir_store.specs.MemberLaws.{Distinct-cross}
 use Rattle.plir_store.specs.Lists.{put_in, put_in_after, without}
 
 pub Distinct-insert : (c : ℕ) (xs ys : List ℕ) → (Has (xs ++ ys) c → ⊥) → Distinct (xs ++ ys) → Distinct (xs ++ c ∷ ys)
@@ -33,7 +34,11 @@ pub Distinct-mid_right : (c : ℕ) (xs ys : List ℕ) → Distinct (xs ++ c ∷ 
 Distinct-mid_right c xs ys a i = (Distinct-right xs (c ∷ ys) a).0 i
 
 pub Distinct-mid : (c : ℕ) (xs ys : List ℕ) → Distinct (xs ++ c ∷ ys) → Has (xs ++ ys) c → ⊥
-Distinct-mid c xs ys a i = elim (Has-append_cases xs ys c i) [ inl k ↦ Distinct-mid_left c xs ys a k | inr k ↦ Distinct-mid_right c xs ys a k ]
+Distinct-mid c xs ys a i = elim (Has-append_cases xs ys c i) [
+  | inl k ↦ Distinct-mid_left c xs ys a k
+  | inr k ↦
+      Distinct-mid_right c xs ys a k
+]
 
 -- a list cut at its element
 pub record Cut (x : ℕ) (xs : List ℕ) : Type 0 where
@@ -50,12 +55,16 @@ cut x (z ∷ zs) i = elim i [
 
 pub put_in-cut : (c m : ℕ) (xs ys : List ℕ) → (Has xs m → ⊥) → put_in c m (xs ++ m ∷ ys) ≡ xs ++ c ∷ m ∷ ys
 put_in-cut c m [] ys n = rw (eq-eqb m m refl) refl
-put_in-cut c m (x ∷ xs) ys n = rw (ne_eqb x m (λ e. n (inl e))) (ap (λ ws. x ∷ ws) (put_in-cut c m xs ys (λ i. n (inr i))))
+put_in-cut c m (x ∷ xs) ys n = rw (ne_eqb x m (λ e. n (inl e))) (ap (λ ws. x ∷ ws)
+    (put_in-cut c m xs ys (λ i. n (inr i))))
 
-pub put_in_after-cut : (c m : ℕ) (xs ys : List ℕ) → (Has xs m → ⊥) → put_in_after c m (xs ++ m ∷ ys) ≡ (xs ++ m ∷ []) ++ c ∷ ys
+pub put_in_after-cut : (c m : ℕ) (xs ys : List ℕ) → (Has xs m → ⊥) → put_in_after c m (xs ++ m ∷ ys) ≡ (xs ++ m ∷ []) ++
+    c ∷ ys
 put_in_after-cut c m [] ys n = rw (eq-eqb m m refl) refl
-put_in_after-cut c m (x ∷ xs) ys n = rw (ne_eqb x m (λ e. n (inl e))) (ap (λ ws. x ∷ ws) (put_in_after-cut c m xs ys (λ i. n (inr i))))
+put_in_after-cut c m (x ∷ xs) ys n = rw (ne_eqb x m (λ e. n (inl e))) (ap (λ ws. x ∷ ws)
+    (put_in_after-cut c m xs ys (λ i. n (inr i))))
 
 pub without-cut : (c : ℕ) (xs ys : List ℕ) → (Has xs c → ⊥) → without c (xs ++ c ∷ ys) ≡ xs ++ ys
 without-cut c [] ys n = rw (eq-eqb c c refl) refl
-without-cut c (x ∷ xs) ys n = rw (ne_eqb x c (λ e. n (inl e))) (ap (λ ws. x ∷ ws) (without-cut c xs ys (λ i. n (inr i))))
+without-cut c (x ∷ xs) ys n = rw (ne_eqb x c (λ e. n (inl e))) (ap (λ ws. x ∷ ws)
+    (without-cut c xs ys (λ i. n (inr i))))

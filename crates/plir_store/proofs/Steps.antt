@@ -1,16 +1,24 @@
 -- Each change of the links, as a change of the lists.
-use Rattle.std.proofs.Common.{◌≡◌, ℕ, ◌<◌, ◌≤◌, List, [], ◌∷◌, ◌++◌, length, Option, Some, None, IfSome, ◌⊎◌, inl, inr, refl, sym, ◌∙◌, ap, subst, arith, get_or, set, length-set}
+use Rattle.std.proofs.Common.{◌≡◌, ℕ, ◌<◌, ◌≤◌, List, [], ◌∷◌, ◌++◌, length, Option, Some, None, IfSome, ◌⊎◌, inl, inr}
+use Rattle.std.proofs.Common.{refl, sym, ◌∙◌, ap, subst, arith, get_or, set, length-set}
 use Rattle.std.proofs.lemmas.Bool.{cases_eq, cases_lt}
-use Rattle.std.proofs.lemmas.List.{get_or-set_same, get_or-set_other, get_or_past, length-map, get_or-map, same_lists, get_or_default}
+use Rattle.std.proofs.lemmas.List.{get_or-set_same, get_or-set_other, get_or_past, length-map, get_or-map, same_lists}
+use Rattle.std.proofs.lemmas.List.{get_or_default}
 use Rattle.std.proofs.lemmas.Option.{same_Some, none-some}
 use Rattle.plir_store.specs.Members.{Has, Distinct, head}
 use Rattle.plir_store.specs.declared.chains.Link.{Link}
 use Rattle.plir_store.specs.declared.chains.Ends.{Ends}
-use Rattle.plir_store.specs.Links.{no_link, no_ends, link_at, ends_at, after, before, put_first, put_last, put_next, put_prev, ends_in, links_in, ends_out, links_out, Joined, children_from, children_of, IsLinked}
+use Rattle.plir_store.specs.Links.{no_link, no_ends, link_at, ends_at, after, before, put_first, put_last, put_next}
+use Rattle.plir_store.specs.Links.{put_prev, ends_in, links_in, ends_out, links_out, Joined, children_from, children_of}
+use Rattle.plir_store.specs.Links.{IsLinked}
 use Rattle.plir_store.proofs.Members.{Distinct-insert, Distinct-remove, Distinct-mid}
 use Rattle.plir_store.specs.ListLaws.{length-le_from_Distinct}
 use Rattle.plir_store.proofs.Joined.{Joined-cut, back_is_in, walk_is, Joined-frame, Joined-insert, Joined-remove}
-use Rattle.plir_store.proofs.Writes.{after_put_same, after_put_other, after_put_elsewhere, after_put_back, before_put_same, before_put_other, before_put_elsewhere, before_put_front, after_set_other, before_set_other, parent_put_next, parent_put_prev, length-put_first, length-put_last, length-put_next, length-put_prev, within_from_parent}
+use Rattle.plir_store.proofs.Writes.{after_put_same, after_put_other, after_put_elsewhere, after_put_back}
+use Rattle.plir_store.proofs.Writes.{before_put_same, before_put_other, before_put_elsewhere, before_put_front}
+use Rattle.plir_store.proofs.Writes.{after_set_other, before_set_other, parent_put_next, parent_put_prev}
+use Rattle.plir_store.proofs.Writes.{length-put_first, length-put_last, length-put_next, length-put_prev}
+use Rattle.plir_store.proofs.Writes.{within_from_parent}
 use Rattle.plir_store.specs.MemberLaws.{Has-append_left, Has-append_right, Has-append_cases}
 
 Has-past : (ks : List (List ℕ)) (p x : ℕ) → Has (get_or ks p []) x → p < length ks
@@ -26,10 +34,12 @@ module _ (es : List Ends) (ls : List Link) (ks : List (List ℕ)) (k : IsLinked 
       same_lists (children_of es ls) ks (length-map es (children_from ls) ∙ sym k.as_many) (λ p d h.
       let within : p < length es = omega (arith, length-map es (children_from ls)) in
       let short : length (get_or ks p []) ≤ length ls =
-      length-le_from_Distinct (get_or ks p []) (length ls) (k.apart p) (λ x i. within_from_parent ls x p (k.owned p x i)) in
+      length-le_from_Distinct (get_or ks p []) (length ls) (k.apart p)
+      (λ x i. within_from_parent ls x p (k.owned p x i)) in
       let walked : children_from ls (ends_at es p) ≡ get_or ks p [] =
       walk_is (after es ls p) (before es ls p) (length ls) None (get_or ks p []) (k.joined p) short in
-      get_or-map (children_from ls) es p no_ends d within ∙ walked ∙ get_or_default ks p [] d (omega (arith, k.as_many)))
+      get_or-map (children_from ls) es p no_ends d within ∙ walked ∙ get_or_default ks p [] d
+      (omega (arith, k.as_many)))
 
   pub held_within : (p c : ℕ) → (link_at ls c).parent ≡ Some p → p < length es
   held_within p c e = let h : p < length ks = Has-past ks p c (k.held p c e) in omega (arith, k.as_many)
@@ -42,28 +52,39 @@ record IsPatch (es es' : List Ends) (ls ls' : List Link) (p c : ℕ) (l r : Opti
   pub else_before : (q : ℕ) → (q ≡ p → ⊥) → before es' ls' q None ≡ before es ls q None
   pub parents : (x : ℕ) → (x ≡ c → ⊥) → (link_at ls' x).parent ≡ (link_at ls x).parent
 
-module _ (es es' : List Ends) (ls ls' : List Link) (ks : List (List ℕ)) (p c : ℕ) (l r : Option ℕ) (k : IsLinked es ls ks) (patch : IsPatch es es' ls ls' p c l r) (l_in : (y : ℕ) → l ≡ Some y → Has (get_or ks p []) y) (r_in : (y : ℕ) → r ≡ Some y → Has (get_or ks p []) y) where
+module _ (es es' : List Ends) (ls ls' : List Link) (ks : List (List ℕ)) (p c : ℕ) (l r : Option ℕ)
+    (k : IsLinked es ls ks) (patch : IsPatch es es' ls ls' p c l r) (l_in : (y : ℕ) → l ≡ Some y → Has (get_or ks p [])
+    y) (r_in : (y : ℕ) → r ≡ Some y → Has (get_or ks p []) y) where
   -- nothing in another list is a neighbour
-  apart_from : (q x : ℕ) (n : Option ℕ) → ((y : ℕ) → n ≡ Some y → Has (get_or ks p []) y) → (q ≡ p → ⊥) → (link_at ls x).parent ≡ Some q → Some x ≡ n → ⊥
+  apart_from : (q x : ℕ) (n : Option ℕ) → ((y : ℕ) → n ≡ Some y → Has (get_or ks p []) y) → (q ≡ p → ⊥) →
+      (link_at ls x).parent ≡ Some q → Some x ≡ n → ⊥
   apart_from q x n n_in other e s = other (sym (same_Some p q (sym (k.owned p x (n_in x (sym s))) ∙ e)))
 
-  loose_from : (x : ℕ) (n : Option ℕ) → ((y : ℕ) → n ≡ Some y → Has (get_or ks p []) y) → (link_at ls x).parent ≡ None → Some x ≡ n → ⊥
+  loose_from : (x : ℕ) (n : Option ℕ) → ((y : ℕ) → n ≡ Some y → Has (get_or ks p []) y) → (link_at ls x).parent ≡ None →
+      Some x ≡ n → ⊥
   loose_from x n n_in e s = none-some p (sym e ∙ k.owned p x (n_in x (sym s)))
 
   -- the other lists stay joined
-  joined_elsewhere : (q : ℕ) → (q ≡ p → ⊥) → (Has (get_or ks q []) c → ⊥) → Joined (after es' ls' q) (before es' ls' q) None (get_or ks q []) None
+  joined_elsewhere : (q : ℕ) → (q ≡ p → ⊥) → (Has (get_or ks q []) c → ⊥) → Joined (after es' ls' q) (before es' ls' q)
+      None (get_or ks q []) None
   joined_elsewhere q other absent =
-      Joined-frame (after es ls q) (before es ls q) (after es' ls' q) (before es' ls' q) None None (get_or ks q []) (patch.else_after q other) (patch.else_before q other)
+      Joined-frame (after es ls q) (before es ls q) (after es' ls' q) (before es' ls' q) None None (get_or ks q [])
+      (patch.else_after q other) (patch.else_before q other)
       (λ x i.
-      let nc : Some x ≡ Some c → ⊥ = λ e. absent (subst (λ z. Has (get_or ks q []) z) (same_Some x c e) i) in
-      (patch.same_after q (Some x) (apart_from q x l l_in other (k.owned q x i)) nc, patch.same_before q (Some x) (apart_from q x r r_in other (k.owned q x i)) nc))
+      let nc : Some x ≡ Some c → ⊥ = λ e. absent (subst (λ z. Has (get_or ks q []) z) (same_Some x c e) i) in (
+        patch.same_after q (Some x) (apart_from q x l l_in other (k.owned q x i)) nc,
+        patch.same_before q (Some x)
+            (apart_from q x r r_in other (k.owned q x i)) nc,
+      ))
       (k.joined q)
 
   next_elsewhere : (x : ℕ) → (x ≡ c → ⊥) → (link_at ls x).parent ≡ None → (link_at ls' x).next ≡ None
-  next_elsewhere x n e = patch.same_after p (Some x) (loose_from x l l_in e) (λ s. n (same_Some x c s)) ∙ k.loose_next x e
+  next_elsewhere x n e = patch.same_after p (Some x) (loose_from x l l_in e)
+      (λ s. n (same_Some x c s)) ∙ k.loose_next x e
 
   prev_elsewhere : (x : ℕ) → (x ≡ c → ⊥) → (link_at ls x).parent ≡ None → (link_at ls' x).prev ≡ None
-  prev_elsewhere x n e = patch.same_before p (Some x) (loose_from x r r_in e) (λ s. n (same_Some x c s)) ∙ k.loose_prev x e
+  prev_elsewhere x n e = patch.same_before p (Some x) (loose_from x r r_in e)
+      (λ s. n (same_Some x c s)) ∙ k.loose_prev x e
 
 -- a write to one list of the lists
 at_set : (ks : List (List ℕ)) (p : ℕ) (new : List ℕ) → p < length ks → get_or (set ks p new) p [] ≡ new
@@ -85,19 +106,23 @@ Has-head : (y : ℕ) (us bs : List ℕ) → head bs ≡ Some y → Has (us ++ bs
 Has-head y us [] e = absurd (none-some y e)
 Has-head y us (b ∷ bs) e = Has-append_right us (b ∷ bs) y (inl (same_Some b y e))
 
-pub Has-back : (N P : Option ℕ → Option ℕ) (r : Option ℕ) (us bs : List ℕ) (y : ℕ) → Joined N P None us r → P r ≡ Some y → Has (us ++ bs) y
+pub Has-back : (N P : Option ℕ → Option ℕ) (r : Option ℕ) (us bs : List ℕ) (y : ℕ) → Joined N P None us r → P r ≡ Some y
+    → Has (us ++ bs) y
 Has-back N P r [] bs y j e = absurd (none-some y (sym j.1 ∙ e))
 Has-back N P r (u ∷ us) bs y j e =
     let t = back_is_in N P None r u us j in
     Has-append_left (u ∷ us) bs y (subst (λ z. Has (u ∷ us) z) (same_Some t.0 y (sym t.1.1 ∙ e)) t.1.0)
 
 -- each link within
-pub IfSome-within : (ls : List Link) (ks : List (List ℕ)) (p : ℕ) (a : Option ℕ) → ((p c : ℕ) → Has (get_or ks p []) c → (link_at ls c).parent ≡ Some p) → ((y : ℕ) → a ≡ Some y → Has (get_or ks p []) y) → IfSome a (λ x. x < length ls)
+pub IfSome-within : (ls : List Link) (ks : List (List ℕ)) (p : ℕ) (a : Option ℕ) →
+    ((p c : ℕ) → Has (get_or ks p []) c → (link_at ls c).parent ≡ Some p) → ((y : ℕ) → a ≡ Some y → Has (get_or ks p [])
+    y) → IfSome a (λ x. x < length ls)
 IfSome-within ls ks p None owned inside = tt
 IfSome-within ls ks p (Some y) owned inside = within_from_parent ls y p (owned p y (inside y refl))
 
 -- two places l and r that stand next to each other in the list of p, which is cut between them
-module _ (es : List Ends) (ls : List Link) (ks : List (List ℕ)) (p : ℕ) (l r : Option ℕ) (us bs : List ℕ) (k : IsLinked es ls ks) (whole : get_or ks p [] ≡ us ++ bs) (re : r ≡ head bs) (le : l ≡ before es ls p r) where
+module _ (es : List Ends) (ls : List Link) (ks : List (List ℕ)) (p : ℕ) (l r : Option ℕ) (us bs : List ℕ)
+    (k : IsLinked es ls ks) (whole : get_or ks p [] ≡ us ++ bs) (re : r ≡ head bs) (le : l ≡ before es ls p r) where
   gap_joined : Joined (after es ls p) (before es ls p) None (us ++ bs) None
   gap_joined = subst (λ xs. Joined (after es ls p) (before es ls p) None xs None) whole (k.joined p)
 
@@ -107,9 +132,12 @@ module _ (es : List Ends) (ls : List Link) (ks : List (List ℕ)) (p : ℕ) (l r
   pub gap_l_in : (y : ℕ) → l ≡ Some y → Has (get_or ks p []) y
   gap_l_in y e =
       let t = Joined-cut (after es ls p) (before es ls p) None us bs gap_joined in
-      rw whole (Has-back (after es ls p) (before es ls p) (head bs) us bs y t.0 (ap (before es ls p) (sym re) ∙ sym le ∙ e))
+      rw whole (Has-back (after es ls p) (before es ls p) (head bs) us bs y t.0 (ap (before es ls p) (sym re) ∙ sym le ∙
+      e))
 
-module _ (es : List Ends) (ls : List Link) (ks : List (List ℕ)) (p c : ℕ) (l r : Option ℕ) (us bs : List ℕ) (k : IsLinked es ls ks) (whole : get_or ks p [] ≡ us ++ bs) (p_in : p < length es) (c_in : c < length ls) (free : (link_at ls c).parent ≡ None) (re : r ≡ head bs) (le : l ≡ before es ls p r) where
+module _ (es : List Ends) (ls : List Link) (ks : List (List ℕ)) (p c : ℕ) (l r : Option ℕ) (us bs : List ℕ)
+    (k : IsLinked es ls ks) (whole : get_or ks p [] ≡ us ++ bs) (p_in : p < length es) (c_in : c < length ls)
+    (free : (link_at ls c).parent ≡ None) (re : r ≡ head bs) (le : l ≡ before es ls p r) where
   insert_joined : Joined (after es ls p) (before es ls p) None (us ++ bs) None
   insert_joined = gap_joined es ls ks p l r us bs k whole re le
 
@@ -135,7 +163,8 @@ module _ (es : List Ends) (ls : List Link) (ks : List (List ℕ)) (p c : ℕ) (l
   insert_l_within = rw (length-set ls c new_link) (IfSome-within ls ks p l k.owned insert_l_in)
 
   insert_r_within : IfSome r (λ x. x < length (put_next (set ls c new_link) l (Some c)))
-  insert_r_within = rw (length-put_next (set ls c new_link) l (Some c), length-set ls c new_link) (IfSome-within ls ks p r k.owned insert_r_in)
+  insert_r_within = rw (length-put_next (set ls c new_link) l (Some c), length-set ls c new_link)
+      (IfSome-within ls ks p r k.owned insert_r_in)
 
   insert_patch : IsPatch es (ends_in es p c l r) ls (links_in ls p c l r) p c l r
   insert_patch =
@@ -143,28 +172,38 @@ module _ (es : List Ends) (ls : List Link) (ks : List (List ℕ)) (p c : ℕ) (l
       let ls₂ = put_next ls₁ l (Some c) in
       let es₁ = put_first es p l (Some c) in
       record {
-        same_after = λ q w nl nc. after_put_back es₁ ls₂ p q r (Some c) w ∙ after_put_other es ls₁ p q l (Some c) w nl ∙ after_set_other es ls c new_link q w nc;
-        same_before = λ q w nr nc. before_put_other es₁ ls₂ p q r (Some c) w nr ∙ before_put_front es ls₁ p q l (Some c) w ∙ before_set_other es ls c new_link q w nc;
+        same_after = λ q w nl nc. after_put_back es₁ ls₂ p q r (Some c) w ∙ after_put_other es ls₁ p q l (Some c) w nl ∙
+            after_set_other es ls c new_link q w nc;
+        same_before = λ q w nr nc. before_put_other es₁ ls₂ p q r (Some c) w nr ∙ before_put_front es ls₁ p q l (Some c)
+            w ∙ before_set_other es ls c new_link q w nc;
         else_after = λ q n. after_put_back es₁ ls₂ p q r (Some c) None ∙ after_put_elsewhere es ls₁ p q l (Some c) n;
-        else_before = λ q n. before_put_elsewhere es₁ ls₂ p q r (Some c) n ∙ before_put_front es ls₁ p q l (Some c) None;
-        parents = λ x n. parent_put_prev ls₂ r (Some c) x ∙ parent_put_next ls₁ l (Some c) x ∙ ap (λ z. z.parent) (get_or-set_other ls c x new_link no_link n);
+        else_before = λ q n. before_put_elsewhere es₁ ls₂ p q r (Some c) n ∙ before_put_front es ls₁ p q l (Some c)
+            None;
+        parents = λ x n. parent_put_prev ls₂ r (Some c) x ∙ parent_put_next ls₁ l (Some c) x ∙ ap (λ z. z.parent)
+            (get_or-set_other ls c x new_link no_link n);
       }
 
   insert_parent : (link_at (links_in ls p c l r) c).parent ≡ Some p
   insert_parent =
-      parent_put_prev (put_next (set ls c new_link) l (Some c)) r (Some c) c ∙ parent_put_next (set ls c new_link) l (Some c) c ∙ ap (λ z. z.parent) (get_or-set_same ls c new_link no_link c_in)
+      parent_put_prev (put_next (set ls c new_link) l (Some c)) r (Some c) c ∙ parent_put_next (set ls c new_link) l
+      (Some c) c ∙ ap (λ z. z.parent) (get_or-set_same ls c new_link no_link c_in)
 
-  insert_here : Joined (after (ends_in es p c l r) (links_in ls p c l r) p) (before (ends_in es p c l r) (links_in ls p c l r) p) None (us ++ c ∷ bs) None
+  insert_here : Joined (after (ends_in es p c l r) (links_in ls p c l r) p) (before (ends_in es p c l r)
+      (links_in ls p c l r) p) None (us ++ c ∷ bs) None
   insert_here =
       let ls₁ = set ls c new_link in
       let ls₂ = put_next ls₁ l (Some c) in
       let es₁ = put_first es p l (Some c) in
       let p_in₁ : p < length es₁ = omega (arith, length-put_first es ls p l (Some c)) in
-      Joined-insert (after es ls p) (before es ls p) (after (ends_in es p c l r) (links_in ls p c l r) p) (before (ends_in es p c l r) (links_in ls p c l r) p) c us bs l r insert_joined (subst Distinct whole (k.apart p)) (λ i. insert_absent p (rw whole i)) re le
+      Joined-insert (after es ls p) (before es ls p) (after (ends_in es p c l r) (links_in ls p c l r) p)
+      (before (ends_in es p c l r) (links_in ls p c l r) p) c us bs l r insert_joined
+      (subst Distinct whole (k.apart p)) (λ i. insert_absent p (rw whole i)) re le
       (insert_patch.same_after p) (insert_patch.same_before p)
       (after_put_back es₁ ls₂ p p r (Some c) l ∙ after_put_same es ls₁ p l (Some c) p_in insert_l_within)
-      (before_put_other es₁ ls₂ p p r (Some c) (Some c) (λ e. insert_r_other (sym e)) ∙ before_put_front es ls₁ p p l (Some c) (Some c) ∙ ap (λ z. z.prev) (get_or-set_same ls c new_link no_link c_in))
-      (after_put_back es₁ ls₂ p p r (Some c) (Some c) ∙ after_put_other es ls₁ p p l (Some c) (Some c) (λ e. insert_l_other (sym e)) ∙ ap (λ z. z.next) (get_or-set_same ls c new_link no_link c_in))
+      (before_put_other es₁ ls₂ p p r (Some c) (Some c) (λ e. insert_r_other (sym e)) ∙ before_put_front es ls₁ p p l
+      (Some c) (Some c) ∙ ap (λ z. z.prev) (get_or-set_same ls c new_link no_link c_in))
+      (after_put_back es₁ ls₂ p p r (Some c) (Some c) ∙ after_put_other es ls₁ p p l (Some c) (Some c)
+      (λ e. insert_l_other (sym e)) ∙ ap (λ z. z.next) (get_or-set_same ls c new_link no_link c_in))
       (before_put_same es₁ ls₂ p r (Some c) p_in₁ insert_r_within)
 
   pub IsLinked-insert : IsLinked (ends_in es p c l r) (links_in ls p c l r) (set ks p (us ++ c ∷ bs))
@@ -174,15 +213,20 @@ module _ (es : List Ends) (ls : List Link) (ks : List (List ℕ)) (p c : ℕ) (l
       let ks' = set ks p (us ++ c ∷ bs) in
       let p_ks : p < length ks = omega (arith, k.as_many) in
       let here : get_or ks' p [] ≡ us ++ c ∷ bs = at_set ks p (us ++ c ∷ bs) p_ks in
-      let other : (q : ℕ) → (q ≡ p → ⊥) → get_or ks' q [] ≡ get_or ks q [] = λ q n. get_or-set_other ks p q (us ++ c ∷ bs) [] n in
+      let other : (q : ℕ) → (q ≡ p → ⊥) → get_or ks' q [] ≡ get_or ks q [] =
+      λ q n. get_or-set_other ks p q (us ++ c ∷ bs) [] n in
       record {
-        as_many = length-set ks p (us ++ c ∷ bs) ∙ k.as_many ∙ sym (length-put_first es ls p l (Some c)) ∙ sym (length-put_last (put_first es p l (Some c)) ls p r (Some c));
+        as_many = length-set ks p (us ++ c ∷ bs) ∙ k.as_many ∙ sym (length-put_first es ls p l (Some c)) ∙ sym
+            (length-put_last (put_first es p l (Some c)) ls p r (Some c));
         joined = λ q. elim (cases_eq q p) [
-          | inl e ↦ subst (λ w. Joined (after es' ls' w) (before es' ls' w) None (get_or ks' w []) None) (sym e) (rw here insert_here)
-          | inr n ↦ rw (other q n) (joined_elsewhere es es' ls ls' ks p c l r k insert_patch insert_l_in insert_r_in q n (insert_absent q))
+          | inl e ↦ subst (λ w. Joined (after es' ls' w) (before es' ls' w) None (get_or ks' w []) None) (sym e)
+              (rw here insert_here)
+          | inr n ↦ rw (other q n) (joined_elsewhere es es' ls ls' ks p c l r k insert_patch insert_l_in insert_r_in q n
+              (insert_absent q))
         ];
         apart = λ q. elim (cases_eq q p) [
-          | inl e ↦ subst (λ w. Distinct (get_or ks' w [])) (sym e) (rw here (Distinct-insert c us bs (λ i. insert_absent p (rw whole i)) (subst Distinct whole (k.apart p))))
+          | inl e ↦ subst (λ w. Distinct (get_or ks' w [])) (sym e) (rw here (Distinct-insert c us bs
+              (λ i. insert_absent p (rw whole i)) (subst Distinct whole (k.apart p))))
           | inr n ↦ rw (other q n) (k.apart q)
         ];
         owned = λ q x i. elim (cases_eq x c) [
@@ -191,34 +235,50 @@ module _ (es : List Ends) (ls : List Link) (ks : List (List ℕ)) (p c : ℕ) (l
             | inr n ↦ absurd (insert_absent q (subst (λ w. Has (get_or ks q []) w) e (rw (other q n) at i)))
           ]
           | inr m ↦ insert_patch.parents x m ∙ elim (cases_eq q p) [
-            | inl f ↦ k.owned q x (subst (λ w. Has (get_or ks w []) x) (sym f) (rw whole (elim (Has-uninsert x c us bs (subst (λ ws. Has ws x) here (subst (λ w. Has (get_or ks' w []) x) f i))) [ inl e ↦ absurd (m (sym e)) | inr j ↦ j ])))
+            | inl f ↦ k.owned q x (subst (λ w. Has (get_or ks w []) x) (sym f) (rw whole
+                (elim (Has-uninsert x c us bs (subst (λ ws. Has ws x) here (subst (λ w. Has (get_or ks' w []) x) f i)))
+                [ inl e ↦ absurd (m (sym e)) | inr j ↦ j ])))
             | inr n ↦ k.owned q x (rw (other q n) at i)
           ]
         ];
         held = λ q x e. elim (cases_eq x c) [
           | inl f ↦
-              let same : q ≡ p = same_Some q p (sym (subst (λ w. (link_at ls' w).parent ≡ Some q) f e) ∙ insert_parent) in
+              let same : q ≡ p = same_Some q p (sym (subst (λ w. (link_at ls' w).parent ≡ Some q) f e) ∙ insert_parent)
+              in
               subst (λ w. Has (get_or ks' w []) x) (sym same) (rw here (Has-append_right us (c ∷ bs) x (inl (sym f))))
           | inr m ↦
               let i : Has (get_or ks q []) x = k.held q x (sym (insert_patch.parents x m) ∙ e) in
               elim (cases_eq q p) [
-                | inl f ↦ subst (λ w. Has (get_or ks' w []) x) (sym f) (rw here (Has-insert x c us bs (subst (λ ws. Has ws x) whole (subst (λ w. Has (get_or ks w []) x) f i))))
+                | inl f ↦ subst (λ w. Has (get_or ks' w []) x) (sym f) (rw here (Has-insert x c us bs
+                    (subst (λ ws. Has ws x) whole (subst (λ w. Has (get_or ks w []) x) f i))))
                 | inr n ↦ rw (other q n) i
               ]
         ];
         loose_next = λ x e. elim (cases_eq x c) [
           | inl f ↦ absurd (none-some p (sym (subst (λ w. (link_at ls' w).parent ≡ None) f e) ∙ insert_parent))
-          | inr m ↦ next_elsewhere es es' ls ls' ks p c l r k insert_patch insert_l_in insert_r_in x m (sym (insert_patch.parents x m) ∙ e)
+          | inr m ↦ next_elsewhere es es' ls ls' ks p c l r k insert_patch insert_l_in insert_r_in x m
+              (sym (insert_patch.parents x m) ∙ e)
         ];
         loose_prev = λ x e. elim (cases_eq x c) [
           | inl f ↦ absurd (none-some p (sym (subst (λ w. (link_at ls' w).parent ≡ None) f e) ∙ insert_parent))
-          | inr m ↦ prev_elsewhere es es' ls ls' ks p c l r k insert_patch insert_l_in insert_r_in x m (sym (insert_patch.parents x m) ∙ e)
+          | inr m ↦ prev_elsewhere es es' ls ls' ks p c l r k insert_patch insert_l_in insert_r_in x m
+              (sym (insert_patch.parents x m) ∙ e)
         ];
-        num_lists = rw (length-put_last (put_first es p l (Some c)) ls p r (Some c), length-put_first es ls p l (Some c)) k.num_lists;
-        num_children = rw (length-put_prev (put_next (set ls c new_link) l (Some c)) r (Some c), length-put_next (set ls c new_link) l (Some c), length-set ls c new_link) k.num_children;
+        num_lists = rw (
+          length-put_last (put_first es p l (Some c)) ls p r (Some c),
+          length-put_first es ls p l
+              (Some c),
+        ) k.num_lists;
+        num_children = rw (
+          length-put_prev (put_next (set ls c new_link) l (Some c)) r (Some c),
+          length-put_next
+              (set ls c new_link) l (Some c),
+          length-set ls c new_link,
+        ) k.num_children;
       }
 
-module _ (es : List Ends) (ls : List Link) (ks : List (List ℕ)) (p c : ℕ) (us bs : List ℕ) (k : IsLinked es ls ks) (whole : get_or ks p [] ≡ us ++ c ∷ bs) (linked : (link_at ls c).parent ≡ Some p) where
+module _ (es : List Ends) (ls : List Link) (ks : List (List ℕ)) (p c : ℕ) (us bs : List ℕ) (k : IsLinked es ls ks)
+    (whole : get_or ks p [] ≡ us ++ c ∷ bs) (linked : (link_at ls c).parent ≡ Some p) where
   abbrev remove_l : Option ℕ
   remove_l = (link_at ls c).prev
 
@@ -280,19 +340,26 @@ module _ (es : List Ends) (ls : List Link) (ks : List (List ℕ)) (p c : ℕ) (u
       let ls₂ = put_prev ls₁ r l in
       let es₁ = put_first es p l r in
       record {
-        same_after = λ q w nl nc. after_set_other (put_last es₁ p r l) ls₂ c no_link q w nc ∙ after_put_back es₁ ls₁ p q r l w ∙ after_put_other es ls p q l r w nl;
-        same_before = λ q w nr nc. before_set_other (put_last es₁ p r l) ls₂ c no_link q w nc ∙ before_put_other es₁ ls₁ p q r l w nr ∙ before_put_front es ls p q l r w;
-        else_after = λ q n. after_set_other (put_last es₁ p r l) ls₂ c no_link q None (none-some c) ∙ after_put_back es₁ ls₁ p q r l None ∙ after_put_elsewhere es ls p q l r n;
-        else_before = λ q n. before_set_other (put_last es₁ p r l) ls₂ c no_link q None (none-some c) ∙ before_put_elsewhere es₁ ls₁ p q r l n ∙ before_put_front es ls p q l r None;
-        parents = λ x n. ap (λ z. z.parent) (get_or-set_other ls₂ c x no_link no_link n) ∙ parent_put_prev ls₁ r l x ∙ parent_put_next ls l r x;
+        same_after = λ q w nl nc. after_set_other (put_last es₁ p r l) ls₂ c no_link q w nc ∙ after_put_back es₁ ls₁ p q
+            r l w ∙ after_put_other es ls p q l r w nl;
+        same_before = λ q w nr nc. before_set_other (put_last es₁ p r l) ls₂ c no_link q w nc ∙ before_put_other es₁ ls₁
+            p q r l w nr ∙ before_put_front es ls p q l r w;
+        else_after = λ q n. after_set_other (put_last es₁ p r l) ls₂ c no_link q None (none-some c) ∙ after_put_back es₁
+            ls₁ p q r l None ∙ after_put_elsewhere es ls p q l r n;
+        else_before = λ q n. before_set_other (put_last es₁ p r l) ls₂ c no_link q None (none-some c) ∙
+            before_put_elsewhere es₁ ls₁ p q r l n ∙ before_put_front es ls p q l r None;
+        parents = λ x n. ap (λ z. z.parent) (get_or-set_other ls₂ c x no_link no_link n) ∙ parent_put_prev ls₁ r l x ∙
+            parent_put_next ls l r x;
       }
 
   remove_length : length (put_prev (put_next ls remove_l remove_r) remove_r remove_l) ≡ length ls
-  remove_length = length-put_prev (put_next ls remove_l remove_r) remove_r remove_l ∙ length-put_next ls remove_l remove_r
+  remove_length = length-put_prev (put_next ls remove_l remove_r) remove_r remove_l ∙ length-put_next ls remove_l
+      remove_r
 
   remove_link : link_at ls_out c ≡ no_link
   remove_link =
-      get_or-set_same (put_prev (put_next ls remove_l remove_r) remove_r remove_l) c no_link no_link (rw remove_length remove_c_in)
+      get_or-set_same (put_prev (put_next ls remove_l remove_r) remove_r remove_l) c no_link no_link
+      (rw remove_length remove_c_in)
 
   remove_here : Joined (after es_out ls_out p) (before es_out ls_out p) None (us ++ bs) None
   remove_here =
@@ -302,23 +369,31 @@ module _ (es : List Ends) (ls : List Link) (ks : List (List ℕ)) (p c : ℕ) (u
       let ls₂ = put_prev ls₁ r l in
       let es₁ = put_first es p l r in
       let p_in₁ : p < length es₁ = omega (arith, remove_p_in, length-put_first es ls p l r) in
-      Joined-remove (after es ls p) (before es ls p) (after es_out ls_out p) (before es_out ls_out p) c us bs l r remove_joined remove_apart refl refl (remove_patch.same_after p) (remove_patch.same_before p)
-      (after_set_other (put_last es₁ p r l) ls₂ c no_link p l remove_l_other ∙ after_put_back es₁ ls₁ p p r l l ∙ after_put_same es ls p l r remove_p_in remove_l_within)
-      (before_set_other (put_last es₁ p r l) ls₂ c no_link p r remove_r_other ∙ before_put_same es₁ ls₁ p r l p_in₁ remove_r_within)
+      Joined-remove (after es ls p) (before es ls p) (after es_out ls_out p) (before es_out ls_out p) c us bs l r
+      remove_joined remove_apart refl refl (remove_patch.same_after p) (remove_patch.same_before p)
+      (after_set_other (put_last es₁ p r l) ls₂ c no_link p l remove_l_other ∙ after_put_back es₁ ls₁ p p r l l ∙
+      after_put_same es ls p l r remove_p_in remove_l_within)
+      (before_set_other (put_last es₁ p r l) ls₂ c no_link p r remove_r_other ∙ before_put_same es₁ ls₁ p r l p_in₁
+      remove_r_within)
 
   pub IsLinked-remove : IsLinked es_out ls_out (set ks p (us ++ bs))
   IsLinked-remove =
       let ks' = set ks p (us ++ bs) in
       let p_ks : p < length ks = omega (arith, remove_p_in, k.as_many) in
       let here : get_or ks' p [] ≡ us ++ bs = at_set ks p (us ++ bs) p_ks in
-      let other : (q : ℕ) → (q ≡ p → ⊥) → get_or ks' q [] ≡ get_or ks q [] = λ q n. get_or-set_other ks p q (us ++ bs) [] n in
-      let gone : (q : ℕ) → (q ≡ p → ⊥) → Has (get_or ks q []) c → ⊥ = λ q n i. n (same_Some q p (sym (k.owned q c i) ∙ linked)) in
+      let other : (q : ℕ) → (q ≡ p → ⊥) → get_or ks' q [] ≡ get_or ks q [] =
+      λ q n. get_or-set_other ks p q (us ++ bs) [] n in
+      let gone : (q : ℕ) → (q ≡ p → ⊥) → Has (get_or ks q []) c → ⊥ =
+      λ q n i. n (same_Some q p (sym (k.owned q c i) ∙ linked)) in
       let parentless : (link_at ls_out c).parent ≡ None = ap (λ z. z.parent) remove_link in
       record {
-        as_many = length-set ks p (us ++ bs) ∙ k.as_many ∙ sym (length-put_first es ls p remove_l remove_r) ∙ sym (length-put_last (put_first es p remove_l remove_r) ls p remove_r remove_l);
+        as_many = length-set ks p (us ++ bs) ∙ k.as_many ∙ sym (length-put_first es ls p remove_l remove_r) ∙ sym
+            (length-put_last (put_first es p remove_l remove_r) ls p remove_r remove_l);
         joined = λ q. elim (cases_eq q p) [
-          | inl e ↦ subst (λ w. Joined (after es_out ls_out w) (before es_out ls_out w) None (get_or ks' w []) None) (sym e) (rw here remove_here)
-          | inr n ↦ rw (other q n) (joined_elsewhere es es_out ls ls_out ks p c remove_l remove_r k remove_patch remove_l_in remove_r_in q n (gone q n))
+          | inl e ↦ subst (λ w. Joined (after es_out ls_out w) (before es_out ls_out w) None (get_or ks' w []) None)
+              (sym e) (rw here remove_here)
+          | inr n ↦ rw (other q n) (joined_elsewhere es es_out ls ls_out ks p c remove_l remove_r k remove_patch
+              remove_l_in remove_r_in q n (gone q n))
         ];
         apart = λ q. elim (cases_eq q p) [
           | inl e ↦ subst (λ w. Distinct (get_or ks' w [])) (sym e) (rw here (Distinct-remove c us bs remove_apart))
@@ -328,7 +403,8 @@ module _ (es : List Ends) (ls : List Link) (ks : List (List ℕ)) (p c : ℕ) (u
           | inl f ↦
               let i' : Has (us ++ bs) x = subst (λ ws. Has ws x) here (subst (λ w. Has (get_or ks' w []) x) f i) in
               let m : x ≡ c → ⊥ = λ e. Distinct-mid c us bs remove_apart (subst (λ z. Has (us ++ bs) z) e i') in
-              remove_patch.parents x m ∙ k.owned q x (subst (λ w. Has (get_or ks w []) x) (sym f) (rw whole (Has-insert x c us bs i')))
+              remove_patch.parents x m ∙ k.owned q x (subst (λ w. Has (get_or ks w []) x) (sym f)
+              (rw whole (Has-insert x c us bs i')))
           | inr n ↦
               let i' : Has (get_or ks q []) x = rw (other q n) at i in
               remove_patch.parents x (λ e. gone q n (subst (λ z. Has (get_or ks q []) z) e i')) ∙ k.owned q x i'
@@ -338,18 +414,29 @@ module _ (es : List Ends) (ls : List Link) (ks : List (List ℕ)) (p c : ℕ) (u
           | inr m ↦
               let i : Has (get_or ks q []) x = k.held q x (sym (remove_patch.parents x m) ∙ e) in
               elim (cases_eq q p) [
-                | inl f ↦ subst (λ w. Has (get_or ks' w []) x) (sym f) (rw here (elim (Has-uninsert x c us bs (subst (λ ws. Has ws x) whole (subst (λ w. Has (get_or ks w []) x) f i))) [ inl g ↦ absurd (m (sym g)) | inr j ↦ j ]))
+                | inl f ↦ subst (λ w. Has (get_or ks' w []) x) (sym f) (rw here (elim
+                    (Has-uninsert x c us bs (subst (λ ws. Has ws x) whole (subst (λ w. Has (get_or ks w []) x) f i)))
+                    [ inl g ↦ absurd (m (sym g)) | inr j ↦ j ]))
                 | inr n ↦ rw (other q n) i
               ]
         ];
         loose_next = λ x e. elim (cases_eq x c) [
           | inl f ↦ subst (λ w. (link_at ls_out w).next ≡ None) (sym f) (ap (λ z. z.next) remove_link)
-          | inr m ↦ next_elsewhere es es_out ls ls_out ks p c remove_l remove_r k remove_patch remove_l_in remove_r_in x m (sym (remove_patch.parents x m) ∙ e)
+          | inr m ↦ next_elsewhere es es_out ls ls_out ks p c remove_l remove_r k remove_patch remove_l_in remove_r_in x
+              m (sym (remove_patch.parents x m) ∙ e)
         ];
         loose_prev = λ x e. elim (cases_eq x c) [
           | inl f ↦ subst (λ w. (link_at ls_out w).prev ≡ None) (sym f) (ap (λ z. z.prev) remove_link)
-          | inr m ↦ prev_elsewhere es es_out ls ls_out ks p c remove_l remove_r k remove_patch remove_l_in remove_r_in x m (sym (remove_patch.parents x m) ∙ e)
+          | inr m ↦ prev_elsewhere es es_out ls ls_out ks p c remove_l remove_r k remove_patch remove_l_in remove_r_in x
+              m (sym (remove_patch.parents x m) ∙ e)
         ];
-        num_lists = rw (length-put_last (put_first es p remove_l remove_r) ls p remove_r remove_l, length-put_first es ls p remove_l remove_r) k.num_lists;
-        num_children = rw (length-set (put_prev (put_next ls remove_l remove_r) remove_r remove_l) c no_link, remove_length) k.num_children;
+        num_lists = rw (
+          length-put_last (put_first es p remove_l remove_r) ls p remove_r remove_l,
+          length-put_first es
+              ls p remove_l remove_r,
+        ) k.num_lists;
+        num_children = rw (
+          length-set (put_prev (put_next ls remove_l remove_r) remove_r remove_l) c no_link,
+          remove_length,
+        ) k.num_children;
       }

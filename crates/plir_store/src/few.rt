@@ -1,5 +1,5 @@
 //! A list that is not changed once it is made.
-ghost use Rattle.std.specs.Prelude.{◌≡◌, ◌<◌, length, Some, IfOk, slice_get};
+ghost use Rattle.std.specs.Prelude.{◌≡◌, ◌<◌, length, Some, IfOk, IsOk, slice_get};
 ghost use Rattle.std.specs.Mem.{FitsInMemory};
 
 use std::alloc::AllocError;
@@ -35,7 +35,8 @@ impl<T: Copy> Few<T> {
     /// The items of a vector, in order. Memory is asked for only where there are two or more, and the error is that it
     /// ran out.
     pub fn from_vec(items: Vec<T>) -> Result<Few<T>, AllocError>
-        ensures { IfOk result (λ f. f ≡ items.items) }
+        ensures made { IfOk result (λ f. f ≡ items.items) }
+        ensures succeeds { length items.items < 2 → IsOk result }
     {
         match items.len() {
             0 => Ok(Few { items: Items::None }),

@@ -1,5 +1,6 @@
 -- Trees that agree under the root, and the order of nodes.
-use Rattle.std.proofs.Common.{◌≡◌, ℕ, List, [], ◌∷◌, Option, Some, None, slice_get, inl, inr, length, refl, sym, subst, arith, ◌∙◌, option_and_then}
+use Rattle.std.proofs.Common.{◌≡◌, ℕ, List, [], ◌∷◌, Option, Some, None, slice_get, inl, inr, length, refl, sym, subst}
+use Rattle.std.proofs.Common.{arith, ◌∙◌, option_and_then}
 use Rattle.std.proofs.Common.{Ok, Err, Result, MatchOption, length}
 use Rattle.std.specs.declared.ops.ControlFlow.{ControlFlow}
 use Rattle.std.specs.declared.ops.ControlFlow.TheVariants.{Break, Continue}
@@ -33,15 +34,18 @@ unchanged-lawful s s' n e = subst (λ (v : Shape). Lawful s n v) (sym e) (record
 
 -- Two trees that agree at each node under r have the same places under r.
 
-pub node-same : (t u : Tree) (p : Place) (r : IRNode) → ((n : IRNode) → IsUnder t r n → u n ≡ t n) → node_at u r p ≡ node_at t r p
+pub node-same : (t u : Tree) (p : Place) (r : IRNode) → ((n : IRNode) → IsUnder t r n → u n ≡ t n) → node_at u r p ≡
+    node_at t r p
 node-same t u [] r h = refl
 node-same t u (i ∷ p) r h = rw (h r ([], refl)) (go (slice_get (t r) i) refl (λ c k. node-same t u p c k))
   where
-    go : (o : Option IRNode) → slice_get (t r) i ≡ o → ((c : IRNode) → ((n : IRNode) → IsUnder t c n → u n ≡ t n) → node_at u c p ≡ node_at t c p) → option_and_then (λ c. node_at u c p) o ≡ option_and_then (λ c. node_at t c p) o
+    go : (o : Option IRNode) → slice_get (t r) i ≡ o → ((c : IRNode) → ((n : IRNode) → IsUnder t c n → u n ≡ t n) →
+        node_at u c p ≡ node_at t c p) → option_and_then (λ c. node_at u c p) o ≡ option_and_then (λ c. node_at t c p) o
     go None e ih = refl
     go (Some c) e ih = ih c (λ n k. h n (i ∷ k.0, step-down t r i c k.0 e ∙ k.1))
 
-pub before-same : (w : WalkConfig) (t u : Tree) (p q : Place) (r : IRNode) → ((n : IRNode) → IsUnder t r n → u n ≡ t n) → Before w t r p q → Before w u r p q
+pub before-same : (w : WalkConfig) (t u : Tree) (p q : Place) (r : IRNode) → ((n : IRNode) → IsUnder t r n → u n ≡ t n)
+    → Before w t r p q → Before w u r p q
 before-same w t u [] [] r h b = b
 before-same w t u [] (j ∷ q) r h b = b
 before-same w t u (i ∷ p) [] r h b = b
@@ -50,17 +54,22 @@ before-same w t u (i ∷ p) (j ∷ q) r h b = rw (h r ([], refl)) (elim b [
   | inr k ↦ inr (k.0, go (slice_get (t r) i) refl (λ c z v. before-same w t u p q c z v) k.1)
 ])
   where
-    go : (o : Option IRNode) → slice_get (t r) i ≡ o → ((c : IRNode) → ((n : IRNode) → IsUnder t c n → u n ≡ t n) → Before w t c p q → Before w u c p q) → MatchOption o ⊥ (λ c. Before w t c p q) → MatchOption o ⊥ (λ c. Before w u c p q)
+    go : (o : Option IRNode) → slice_get (t r) i ≡ o → ((c : IRNode) → ((n : IRNode) → IsUnder t c n → u n ≡ t n) →
+        Before w t c p q → Before w u c p q) → MatchOption o ⊥
+        (λ c. Before w t c p q) → MatchOption o ⊥ (λ c. Before w u c p q)
     go None e ih k = k
     go (Some c) e ih k = ih c (λ n v. h n (i ∷ v.0, step-down t r i c v.0 e ∙ v.1)) k
 
-pub under-same : (t u : Tree) (r : IRNode) → ((n : IRNode) → IsUnder t r n → u n ≡ t n) → (n : IRNode) → IsUnder u r n → IsUnder t r n
+pub under-same : (t u : Tree) (r : IRNode) → ((n : IRNode) → IsUnder t r n → u n ≡ t n) → (n : IRNode) → IsUnder u r n →
+    IsUnder t r n
 under-same t u r h n k = (k.0, sym (node-same t u k.0 r h) ∙ k.1)
 
-pub same-under : (t u : Tree) (r : IRNode) → ((n : IRNode) → IsUnder t r n → u n ≡ t n) → (n : IRNode) → IsUnder t r n → IsUnder u r n
+pub same-under : (t u : Tree) (r : IRNode) → ((n : IRNode) → IsUnder t r n → u n ≡ t n) → (n : IRNode) → IsUnder t r n →
+    IsUnder u r n
 same-under t u r h n k = (k.0, node-same t u k.0 r h ∙ k.1)
 
-pub node-before-same : (w : WalkConfig) (t u : Tree) (r a b : IRNode) → ((n : IRNode) → IsUnder t r n → u n ≡ t n) → NodeBefore w t r a b → NodeBefore w u r a b
+pub node-before-same : (w : WalkConfig) (t u : Tree) (r a b : IRNode) → ((n : IRNode) → IsUnder t r n → u n ≡ t n) →
+    NodeBefore w t r a b → NodeBefore w u r a b
 node-before-same w t u r a b h k = record {
   place_a = k.place_a;
   place_b = k.place_b;
@@ -69,10 +78,12 @@ node-before-same w t u r a b h k = record {
   before = before-same w t u k.place_a k.place_b r h k.before;
 }
 
-pub visits-same : (w : WalkConfig) (t u : Tree) (r : IRNode) (ns : List IRNode) → ((n : IRNode) → IsUnder t r n → u n ≡ t n) → Visits w t r ns → Visits w u r ns
+pub visits-same : (w : WalkConfig) (t u : Tree) (r : IRNode) (ns : List IRNode) →
+    ((n : IRNode) → IsUnder t r n → u n ≡ t n) → Visits w t r ns → Visits w u r ns
 visits-same w t u r ns h k = record {
   one_place = λ n p q e g. k.one_place n p q (sym (node-same t u p r h) ∙ e) (sym (node-same t u q r h) ∙ g);
-  increasing = Pairs-map (NodeBefore w t r) (NodeBefore w u r) ns (λ a b z. node-before-same w t u r a b h z) k.increasing;
+  increasing = Pairs-map (NodeBefore w t r) (NodeBefore w u r) ns
+      (λ a b z. node-before-same w t u r a b h z) k.increasing;
   distinct = k.distinct;
   under_root = λ n z. same-under t u r h n (k.under_root n z);
   none_left_out = λ n z. elim (k.none_left_out n (under-same t u r h n z)) [
@@ -86,11 +97,14 @@ abbrev pub Ends : {C S B : Type 0} → Tree → IRNode → List (Call C S B) →
 Ends t r calls (Continue k) = (k ≡ Advance) × NoBreak calls × ((n : IRNode) → IsUnder t r n → Has (nodes_of calls) n)
 Ends t r calls (Break b) = LastBreaks calls b
 
-abbrev pub EndsWithin : {C S B : Type 0} → Tree → IRNode → ℕ → List (Call C S B) → Result (ControlFlow B WalkContinue) CallLimit → Type 0
+abbrev pub EndsWithin : {C S B : Type 0} → Tree → IRNode → ℕ → List (Call C S B) → Result (ControlFlow B WalkContinue)
+    CallLimit → Type 0
 EndsWithin t r limit calls (Ok a) = Ends t r calls a
-EndsWithin t r limit calls (Err x) = (length calls ≡ limit) × NoBreak calls × ((n : IRNode) × IsUnder t r n × (Has (nodes_of calls) n → ⊥))
+EndsWithin t r limit calls (Err x) = (length calls ≡ limit) × NoBreak calls × ((n : IRNode) × IsUnder t r n ×
+    (Has (nodes_of calls) n → ⊥))
 
-pub ends-same : {C S B : Type 0} (t u : Tree) (r : IRNode) (limit : ℕ) (calls : List (Call C S B)) (a : Result (ControlFlow B WalkContinue) CallLimit)
+pub ends-same : {C S B : Type 0} (t u : Tree) (r : IRNode) (limit : ℕ) (calls : List (Call C S B))
+    (a : Result (ControlFlow B WalkContinue) CallLimit)
     → ((n : IRNode) → IsUnder t r n → u n ≡ t n) → EndsWithin t r limit calls a → EndsWithin u r limit calls a
 ends-same t u r limit calls (Ok (Continue x)) h k = (k.0, k.1, λ n z. k.2 n (under-same t u r h n z))
 ends-same t u r limit calls (Ok (Break b)) h k = k
@@ -110,15 +124,18 @@ before-asym w t r (i ∷ p) (j ∷ q) h k = elim h [
   | inl a ↦ elim k [ inl b ↦ earlier-asym (direction_of w r) i j a.1 b.1 | inr b ↦ a.0 (sym b.0) ]
   | inr a ↦ elim k [
     | inl b ↦ b.0 (sym a.0)
-    | inr b ↦ go (slice_get (t r) i) a.1 (subst (λ (v : ℕ). MatchOption (slice_get (t r) v) ⊥ (λ c. Before w t c q p)) b.0 b.1) (λ c u v. before-asym w t c p q u v)
+    | inr b ↦ go (slice_get (t r) i) a.1 (subst (λ (v : ℕ). MatchOption (slice_get (t r) v) ⊥ (λ c. Before w t c q p))
+        b.0 b.1) (λ c u v. before-asym w t c p q u v)
   ]
 ]
   where
-    go : (o : Option IRNode) → MatchOption o ⊥ (λ c. Before w t c p q) → MatchOption o ⊥ (λ c. Before w t c q p) → ((c : IRNode) → Before w t c p q → Before w t c q p → ⊥) → ⊥
+    go : (o : Option IRNode) → MatchOption o ⊥ (λ c. Before w t c p q) → MatchOption o ⊥ (λ c. Before w t c q p) →
+        ((c : IRNode) → Before w t c p q → Before w t c q p → ⊥) → ⊥
     go None u v ih = u
     go (Some c) u v ih = ih c u v
 
-pub node-before-asym : (w : WalkConfig) (t : Tree) (r a b : IRNode) → HasOnePlaceEach t r → NodeBefore w t r a b → NodeBefore w t r b a → ⊥
+pub node-before-asym : (w : WalkConfig) (t : Tree) (r a b : IRNode) → HasOnePlaceEach t r → NodeBefore w t r a b →
+    NodeBefore w t r b a → ⊥
 node-before-asym w t r a b one h k =
     before-asym w t r h.place_a h.place_b h.before
     (subst (λ (v : Place). Before w t r v h.place_a) (one b k.place_a h.place_b k.at_a h.at_b)

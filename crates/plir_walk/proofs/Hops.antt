@@ -10,7 +10,8 @@ use Rattle.plir_walk.specs.declared.config.WalkConfig.{WalkConfig}
 use Rattle.plir_walk.specs.declared.interruptible.WalkContinue.{WalkContinue}
 use Rattle.plir_walk.specs.declared.interruptible.WalkContinue.TheVariants.{Advance, Skip}
 use Rattle.plir_walk.specs.Config.{direction_of, order_of}
-use Rattle.plir_walk.specs.Step.{after, cursor_at, due_at, enter_or_leave, entered, entered_by, first_of, goes_on, next_of}
+use Rattle.plir_walk.specs.Step.{after, cursor_at, due_at, enter_or_leave, entered, entered_by, first_of, goes_on}
+use Rattle.plir_walk.specs.Step.{next_of}
 use Rattle.plir_walk.specs.Step.{step_of}
 use Rattle.plir_walk.specs.Step.{taken, Hops, IsHop, IsNotDue, Run, Runs}
 use Rattle.plir_walk.specs.Tree.{same}
@@ -22,7 +23,8 @@ use Rattle.plir_walk.proofs.Remaining as remaining
 
 module _ (w : WalkConfig) (s : Shape) (r : IRNode) where
   -- a run goes on from a node that is passed by
-  pub one-more : (P : IRNode → Bool → Type 0) (n : IRNode) (below : Bool) (m : IRNode) (en : Bool) (o : Option (IRNode × Bool))
+  pub one-more : (P : IRNode → Bool → Type 0) (n : IRNode) (below : Bool) (m : IRNode) (en : Bool)
+      (o : Option (IRNode × Bool))
       → step_of w s r n below ≡ Some (m, en) → P m en → Runs w s r P m en o → Runs w s r P n below o
   one-more P n below m en o e d h = (suc h.0, (m, en, e, d, h.1))
 
@@ -53,7 +55,8 @@ module _ (w : WalkConfig) (s : Shape) (r : IRNode) where
   leave-alone n d q = (0, sym (left-is n (next_of w s n) None d refl q))
 
   pub leave-next : (n : IRNode) (a : Option (IRNode × Bool × Bool)) (c : IRNode × Bool × Bool) → same n r ≡ false
-      → a ≡ option_map (cursor_at w) (option_map (entered w s) (next_of w s n)) → a ≡ Some c → IsHop w s r n false (Some c)
+      → a ≡ option_map (cursor_at w) (option_map (entered w s) (next_of w s n)) → a ≡ Some c → IsHop w s r n false
+      (Some c)
   leave-next n a c d e z = go (next_of w s n) refl (sym z ∙ e)
     where
       go : (nx : Option IRNode) → next_of w s n ≡ nx → Some c ≡ option_map (cursor_at w) (option_map (entered w s) nx)
@@ -104,7 +107,8 @@ module _ (w : WalkConfig) (s : Shape) (r : IRNode) where
   pub hop-at : (n : IRNode) (below : Bool) (a : Option (IRNode × Bool × Bool)) → IsHop w s r n below a
       → (m : IRNode) (en due : Bool) → a ≡ Some (m, en, due)
       → Hops w s r n below (Some (m, en)) × (due ≡ due_at (order_of w m) en)
-  hop-at n below a h m en due z = (let t : IRNode × Bool × Bool = (m, en, due) in subst (λ v. IsHop w s r n below v) z h)
+  hop-at n below a h m en due z = (let t : IRNode × Bool × Bool = (m, en, due) in subst
+      (λ v. IsHop w s r n below v) z h)
 
   pub hop-none : (n : IRNode) (below : Bool) (a : Option (IRNode × Bool × Bool)) → IsHop w s r n below a → a ≡ None
       → Hops w s r n below None
@@ -132,7 +136,8 @@ module _ (w : WalkConfig) (s : Shape) (f : IsForest s) where
         let more = run-left P k h.0 h.1 m en h.4 in
         omega (arith, one, more)
 
-    left-below : (n : IRNode) (en below : Bool) → (below ≡ en) ⊎ (below ≡ false) → left_at w s n below ≤ left_at w s n en
+    left-below : (n : IRNode) (en below : Bool) → (below ≡ en) ⊎ (below ≡ false) → left_at w s n below ≤ left_at w s n
+        en
     left-below n true true h = omega arith
     left-below n false false h = omega arith
     left-below n true false h = (let k = steps-children w s f n in omega (arith, k))
@@ -164,8 +169,10 @@ module _ (w : WalkConfig) (s : Shape) (f : IsForest s) where
         omega (arith, one, more)
 
 -- a run with no call, over the values that a loop has after its branches
-pub run-smaller-as : {C : Type 0} (look : C → Shape) (w : WalkConfig) (e e'' : C) (f : IsForest (look e'')) (r c : IRNode)
-    (en below : Bool) (n : IRNode) (en' : Bool) (left left' : ℕ) → due_at (order_of w c) en ≡ false → e'' ≡ e → left' ≡ left
+pub run-smaller-as : {C : Type 0} (look : C → Shape) (w : WalkConfig) (e e'' : C) (f : IsForest (look e''))
+    (r c : IRNode)
+    (en below : Bool) (n : IRNode) (en' : Bool) (left left' : ℕ) → due_at (order_of w c) en ≡ false → e'' ≡ e → left' ≡
+    left
     → below ≡ en → (k : ℕ) → Run w (look e'') r (IsNotDue w) k c below (Some (n, en'))
     → size_of w (look e'') left' n en' < size_of w (look e) left c en
 run-smaller-as look w e e'' f r c en below n en' left left' d pe pl pb k z =

@@ -1,5 +1,6 @@
 -- A lawful call at a node is lawful at each node that it stands under.
-use Rattle.std.proofs.Common.{◌≡◌, ◌≢◌, ℕ, zero, suc, ◌+◌, true, false, List, Some, ◌⊎◌, inl, inr, refl, sym, ap, subst, ◌∙◌, arith}
+use Rattle.std.proofs.Common.{◌≡◌, ◌≢◌, ℕ, zero, suc, ◌+◌, true, false, List, Some, ◌⊎◌, inl, inr, refl, sym, ap, subst}
+use Rattle.std.proofs.Common.{◌∙◌, arith}
 use Rattle.std.proofs.lemmas.Option.{same_Some}
 use Rattle.plir_store.specs.Members.{Has}
 use Rattle.plir_core.specs.declared.ptr.IRNode.{IRNode}
@@ -26,12 +27,14 @@ module _ (s t : Shape) (n r : IRNode) (w : IsForest s) (l : Lawful s n t) (under
     under_root : Reaches s.parent d r
 
   -- what stands below such a node afterwards stood under r, or is new
-  went-down : (k : ℕ) (m d : IRNode) → climb t.parent k (Some m) ≡ Some d → IsForest t → IsBeside d → Reaches s.parent m r ⊎ (s.given m ≡ false)
+  went-down : (k : ℕ) (m d : IRNode) → climb t.parent k (Some m) ≡ Some d → IsForest t → IsBeside d → Reaches s.parent m
+      r ⊎ (s.given m ≡ false)
   went-down zero m d e w' b = inl (subst (λ z. Reaches s.parent z r) (sym (same_Some m d e)) b.under_root)
   went-down (suc k) m d e w' b =
       let z = climb-split t k m d e in
       let y : IRNode = z.0 in
-      let same : t.children d ≡ s.children d = (l.kept d b.live (λ z. b.apart (suc z.0, z.1))).2 (λ z. b.apart (zero, ap Some z)) in
+      let same : t.children d ≡ s.children d = (l.kept d b.live
+      (λ z. b.apart (suc z.0, z.1))).2 (λ z. b.apart (zero, ap Some z)) in
       let has : Has (s.children d) y = subst (λ (z : List IRNode). Has z y) same (w'.parent_child d y z.2) in
       let was : s.parent y ≡ Some d = w.child_parent d y has in
       elim (same_tells y n) [
@@ -51,8 +54,10 @@ module _ (s t : Shape) (n r : IRNode) (w : IsForest s) (l : Lawful s n t) (under
       higher y was ne zero h = ne (same_Some y n h)
       higher y was ne (suc j) h = b.apart (j, sym (climb-bottom s j y d was) ∙ h)
 
-pub lawful-above : (s t : Shape) (n r : IRNode) → IsForest s → IsForest t → s.live r ≡ true → Reaches s.parent n r → Lawful s n t → Lawful s r t
-lawful-above s t n r w w' live under l = elim (same_tells n r) [ inl e ↦ subst (λ z. Lawful s z t) e.1 l | inr e ↦ strictly e.1 ]
+pub lawful-above : (s t : Shape) (n r : IRNode) → IsForest s → IsForest t → s.live r ≡ true → Reaches s.parent n r →
+    Lawful s n t → Lawful s r t
+lawful-above s t n r w w' live under l = elim (same_tells n r)
+    [ inl e ↦ subst (λ z. Lawful s z t) e.1 l | inr e ↦ strictly e.1 ]
   where
     strictly : n ≢ r → Lawful s r t
     strictly ne = record {
@@ -81,6 +86,7 @@ lawful-above s t n r w w' live under l = elim (same_tells n r) [ inl e ↦ subst
             cycle zero e = ne (sym (same_Some r n e))
             cycle (suc k) e = not-below-itself s w r (below-on s r n r (k, e) under)
 
-        strict : (m : IRNode) → IsBelow t r m → (k : ℕ) → climb s.parent k (Some m) ≡ Some r → IsBelow s r m ⊎ (s.given m ≡ false)
+        strict : (m : IRNode) → IsBelow t r m → (k : ℕ) → climb s.parent k (Some m) ≡ Some r → IsBelow s r m ⊎
+            (s.given m ≡ false)
         strict m z zero e = absurd (not-below-itself t w' r (subst (λ x. IsBelow t r x) (same_Some m r e) z))
         strict m z (suc k) e = inl (k, e)

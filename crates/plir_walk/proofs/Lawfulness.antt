@@ -1,5 +1,6 @@
 -- What a callback at a node may do to a context: the changes that are lawful, and one after another.
-use Rattle.std.proofs.Common.{◌≡◌, ◌≢◌, ℕ, zero, suc, ◌+◌, Bool, true, false, cond, List, Option, Some, None, ◌⊎◌, inl, inr, refl, sym, ap, subst, ◌∙◌, arith}
+use Rattle.std.proofs.Common.{◌≡◌, ◌≢◌, ℕ, zero, suc, ◌+◌, Bool, true, false, cond, List, Option, Some, None, ◌⊎◌, inl}
+use Rattle.std.proofs.Common.{inr, refl, sym, ap, subst, ◌∙◌, arith}
 use Rattle.std.proofs.lemmas.Option.{none-some, same_Some}
 use Rattle.plir_core.specs.declared.ptr.Ptr.{Ptr}
 use Rattle.plir_core.specs.declared.ptr.Operation.{Operation as OperationKind}
@@ -38,7 +39,8 @@ pub lawful-then : (s t u : Shape) (n : IRNode) → IsForest s → Lawful s n t �
 lawful-then s t u n w f g = record {
   kept = λ m v b.
       (let k = f.kept m v b in
-      let h = g.kept m k.0 (λ z. elim (f.below m z) [ inl y ↦ b y | inr y ↦ not-both (s.given m) (w.live_given m v) y ]) in
+      let h = g.kept m k.0 (λ z. elim (f.below m z) [ inl y ↦ b y | inr y ↦ not-both (s.given m) (w.live_given m v) y ])
+      in
       (h.0, h.1 ∙ k.1, λ ne. h.2 ne ∙ k.2 ne));
   below = λ m z. elim (g.below m z) [
     | inl y ↦ f.below m y
@@ -56,7 +58,9 @@ pub lawful-stays : (s t : Shape) (n : IRNode) → IsForest s → Lawful s n t �
 lawful-stays s t n w f v = (f.kept n v (not-below-itself s w n)).0
 
 -- a change that keeps live nodes, parents, children and what was given out
-pub lawful-same : (s t : Shape) (n : IRNode) → ((m : IRNode) → t.live m ≡ s.live m) → ((m : IRNode) → t.parent m ≡ s.parent m) → ((m : IRNode) → t.children m ≡ s.children m) → ((m : IRNode) → s.given m ≡ true → t.given m ≡ true) → Lawful s n t
+pub lawful-same : (s t : Shape) (n : IRNode) → ((m : IRNode) → t.live m ≡ s.live m) →
+    ((m : IRNode) → t.parent m ≡ s.parent m) → ((m : IRNode) → t.children m ≡ s.children m) →
+    ((m : IRNode) → s.given m ≡ true → t.given m ≡ true) → Lawful s n t
 lawful-same s t n live parent children given = record {
   kept = λ m v b. (live m ∙ v, parent m, λ k. children m);
   below = λ m z. inl (z.0, sym (climbs (suc z.0) (Some m)) ∙ z.1);
@@ -69,7 +73,8 @@ lawful-same s t n live parent children given = record {
     climbs (suc k) (Some m) = climbs k (t.parent m) ∙ ap (climb s.parent k) (parent m)
 
 -- where the parents of the nodes on the way are the same, so is the way
-pub climb-back : (s t : Shape) (P : IRNode → Type 0) → ((m a : IRNode) → P m → t.parent m ≡ Some a → (s.parent m ≡ Some a) × P a) → (k : ℕ) (m a : IRNode) → P m
+pub climb-back : (s t : Shape) (P : IRNode → Type 0) → ((m a : IRNode) → P m → t.parent m ≡ Some a →
+    (s.parent m ≡ Some a) × P a) → (k : ℕ) (m a : IRNode) → P m
     → climb t.parent k (Some m) ≡ Some a → (climb s.parent k (Some m) ≡ Some a) × P a
 climb-back s t P up zero m a p e = (e, subst P (same_Some m a e) p)
 climb-back s t P up (suc k) m a p e =
@@ -79,15 +84,18 @@ climb-back s t P up (suc k) m a p e =
     (climb-top s k m r.0 a z.0 y.0, y.1)
 
 -- j steps above k steps
-pub climb-plus : (s : Shape) (j k i : ℕ) (x y a : IRNode) → i ≡ j + k → climb s.parent k (Some x) ≡ Some y → climb s.parent j (Some y) ≡ Some a → climb s.parent i (Some x) ≡ Some a
-climb-plus s zero k i x y a q e g = (let h : k ≡ i = omega (arith, q) in subst (λ (v : ℕ). climb s.parent v (Some x) ≡ Some a) h (e ∙ g))
+pub climb-plus : (s : Shape) (j k i : ℕ) (x y a : IRNode) → i ≡ j + k → climb s.parent k (Some x) ≡ Some y → climb
+    s.parent j (Some y) ≡ Some a → climb s.parent i (Some x) ≡ Some a
+climb-plus s zero k i x y a q e g = (let h : k ≡ i = omega (arith, q) in subst
+    (λ (v : ℕ). climb s.parent v (Some x) ≡ Some a) h (e ∙ g))
 climb-plus s (suc j) k zero x y a q e g = absurd (omega (arith, q))
 climb-plus s (suc j) k (suc i) x y a q e g =
     let r = climb-split s j y a g in
     climb-top s i x r.0 a (climb-plus s j k i x y r.0 (omega (arith, q)) e r.1) r.2
 
 -- a node below another has a parent
-pub climb-first : (s : Shape) (k : ℕ) (x a : IRNode) → climb s.parent (suc k) (Some x) ≡ Some a → (p : IRNode) × (s.parent x ≡ Some p)
+pub climb-first : (s : Shape) (k : ℕ) (x a : IRNode) → climb s.parent (suc k) (Some x) ≡ Some a → (p : IRNode) ×
+    (s.parent x ≡ Some p)
 climb-first s zero x a e = (a, e)
 climb-first s (suc k) x a e = (let r = climb-split s (suc k) x a e in climb-first s k x r.0 r.1)
 
@@ -100,12 +108,14 @@ linked-live s m a e = go (is_node_live s m) (node_over s m) e
     go false o e = absurd (none-some a e)
 
 -- where nodes are moved, the same are live and given out
-pub moved-live : {O B : Type 0} (s t : Nodes O B) (x : IRNode) → MovesOnly s t x → (m : IRNode) → is_node_live t m ≡ is_node_live s m
+pub moved-live : {O B : Type 0} (s t : Nodes O B) (x : IRNode) → MovesOnly s t x → (m : IRNode) → is_node_live t m ≡
+    is_node_live s m
 moved-live s t x e (Operation p) = ap (λ z. is_live_at z p.slot p.version) e.ops
 moved-live s t x e (Region p) = ap (λ z. is_live_at z p.slot p.version) e.regions
 moved-live s t x e (BasicBlock p) = ap (λ z. is_live_at z p.slot p.version) e.blocks
 
-pub moved-given : {O B : Type 0} (s t : Nodes O B) (x : IRNode) → MovesOnly s t x → (m : IRNode) → was_given_out t m ≡ was_given_out s m
+pub moved-given : {O B : Type 0} (s t : Nodes O B) (x : IRNode) → MovesOnly s t x → (m : IRNode) → was_given_out t m ≡
+    was_given_out s m
 moved-given s t x e (Operation p) = ap (λ z. is_given_out z p) e.ops
 moved-given s t x e (Region p) = ap (λ z. is_given_out z p) e.regions
 moved-given s t x e (BasicBlock p) = ap (λ z. is_given_out z p) e.blocks
@@ -117,7 +127,11 @@ module _ {K A T : Type 0} (s t : ContextView K A T) where
     kept = λ m v nb.
         (let away = λ (r : Reaches (node_parent s.nodes) m x). nb (deep m r) in
         (e.live m away ∙ v, e.parents m away, λ ne. e.children m away (λ p. over m ne nb p)));
-    below = λ m z. inl (z.0, (climb-back (look s) (look t) (λ k. Unit {0}) (λ k a p q. (still k a q, tt)) (suc z.0) m n tt z.1).0);
+    below = λ m z. inl (
+      z.0,
+      (climb-back (look s) (look t) (λ k. Unit {0}) (λ k a p q. (still k a q, tt)) (suc z.0) m n
+          tt z.1).0,
+    );
     given = λ m g. e.given m ∙ g;
   }
     where
@@ -133,9 +147,11 @@ module _ {K A T : Type 0} (s t : ContextView K A T) where
           go (suc k) c = nb (k, sym (climb-bottom (look s) (suc k) x m p) ∙ c)
 
       still : (k a : IRNode) → node_parent t.nodes k ≡ Some a → node_parent s.nodes k ≡ Some a
-      still k a q = sym (e.parents k (λ r. not-both (is_node_live t.nodes k) (linked-live t.nodes k a q) (e.gone k r))) ∙ q
+      still k a q = sym (e.parents k (λ r. not-both (is_node_live t.nodes k) (linked-live t.nodes k a q) (e.gone k r)))
+          ∙ q
 
-  -- What was live stands where it stood, and the children of n at most, or of what is below it, are others. What is new was never given out.
+  -- What was live stands where it stood, and the children of n at most, or of what is below it, are others. What is new
+  -- was never given out.
   lawful-new : (n : IRNode) → IsForest (look s)
       → ((m : IRNode) → is_live s m ≡ true → is_live t m ≡ true)
       → ((m : IRNode) → is_live s m ≡ true → parent_of t m ≡ parent_of s m)
@@ -149,29 +165,36 @@ module _ {K A T : Type 0} (s t : ContextView K A T) where
     given = given;
   }
     where
-      go : (b : Bool) (m : IRNode) → is_live s m ≡ b → IsBelow (look t) n m → IsBelow (look s) n m ⊎ (given_out s m ≡ false)
+      go : (b : Bool) (m : IRNode) → is_live s m ≡ b → IsBelow (look t) n m → IsBelow (look s) n m ⊎
+          (given_out s m ≡ false)
       go true m l z = inl (
         z.0,
         (climb-back (look s) (look t) (λ k. is_live s k ≡ true) (λ k a p q.
-            (let h : parent_of s k ≡ Some a = sym (parents k p) ∙ q in (h, w.parent_live a k h))) (suc z.0) m n l z.1).0,
+            (let h : parent_of s k ≡ Some a = sym (parents k p) ∙ q in (h, w.parent_live a k h))) (suc z.0) m n l
+            z.1).0,
       )
       go false m l z =
           let up = climb-first (look t) z.0 m n z.1 in
           inr (fresh m (linked-live t.nodes m up.0 up.1) l)
 
   -- giving a region to n
-  pub lawful-region : (n r : IRNode) → IsForest (look s) → IsRegionAdded s.nodes t.nodes n r → Lawful (look s) n (look t)
+  pub lawful-region : (n r : IRNode) → IsForest (look s) → IsRegionAdded s.nodes t.nodes n r → Lawful (look s) n
+      (look t)
   lawful-region n r w e =
       let a = e.added in
-      lawful-new n w a.keeps.live a.keeps.parents (λ m l nb ne. a.children m l (λ q. ne (sym (same_Some n m q)))) a.keeps.given
+      lawful-new n w a.keeps.live a.keeps.parents (λ m l nb ne. a.children m l (λ q. ne (sym (same_Some n m q))))
+      a.keeps.given
       (λ m l d. subst (λ z. given_out s z ≡ false) (sym (a.only m l d)) a.fresh)
 
   -- no live node has changed
-  pub lawful-refused : (n : IRNode) → SameLive s t → ((m : IRNode) → given_out s m ≡ true → given_out t m ≡ true) → Lawful (look s) n (look t)
+  pub lawful-refused : (n : IRNode) → SameLive s t → ((m : IRNode) → given_out s m ≡ true → given_out t m ≡ true) →
+      Lawful (look s) n (look t)
   lawful-refused n e given = lawful-same (look s) (look t) n e.nodes.live e.nodes.parents e.nodes.children given
 
 -- making a tree, and putting it under n or below it
-pub lawful-placed : {K A T : Type 0} (s t u : ContextView K A T) (n x a : IRNode) (ks : List IRNode) → IsForest (look s) → Reaches (parent_of s) a n → IsMade s.nodes t.nodes x → IsPlaced t.nodes u.nodes x a ks → Lawful (look s) n (look u)
+pub lawful-placed : {K A T : Type 0} (s t u : ContextView K A T) (n x a : IRNode) (ks : List IRNode) → IsForest (look s)
+    → Reaches (parent_of s) a n → IsMade s.nodes t.nodes x → IsPlaced t.nodes u.nodes x a ks → Lawful (look s) n
+    (look u)
 lawful-placed s t u n x a ks w under made placed =
     lawful-new s u n w
     (λ m l. moved-live t.nodes u.nodes x placed.moved m ∙ made.keeps.live m l)
@@ -208,22 +231,38 @@ module _ {K A T : Type 0} (s : ContextView K A T) where
   op-edit-seen p f =
       let os = edited-slots s.nodes.ops p.slot f in
       let bs = same_slots s.nodes.blocks in
-      subst SeesTheSame (sym (op-edit-is s p f)) (record { live = refilled-live s _ _ os bs; parents = refilled-parents s _ _ os bs; children = refilled-children s _ _ os bs; given = refilled-given s _ _ os bs })
+      subst SeesTheSame (sym (op-edit-is s p f)) (record {
+        live = refilled-live s _ _ os bs;
+        parents = refilled-parents
+            s _ _ os bs;
+        children = refilled-children s _ _ os bs;
+        given = refilled-given s _ _ os bs;
+      })
 
   pub block-edit-seen : (p : Ptr BasicBlockKind) (f : BlockView A → BlockView A) → SeesTheSame (with_block_edit s p f)
   block-edit-seen p f =
       let os = same_slots s.nodes.ops in
       let bs = edited-slots s.nodes.blocks p.slot f in
-      subst SeesTheSame (sym (block-edit-is s p f)) (record { live = refilled-live s _ _ os bs; parents = refilled-parents s _ _ os bs; children = refilled-children s _ _ os bs; given = refilled-given s _ _ os bs })
+      subst SeesTheSame (sym (block-edit-is s p f)) (record {
+        live = refilled-live s _ _ os bs;
+        parents =
+            refilled-parents s _ _ os bs;
+        children = refilled-children s _ _ os bs;
+        given = refilled-given s _ _ os bs;
+      })
 
-  pub op-edit-lawful : (p : Ptr OperationKind) (f : OpView K A → OpView K A) (n : IRNode) → Lawful (look s) n (look (with_op_edit s p f))
+  pub op-edit-lawful : (p : Ptr OperationKind) (f : OpView K A → OpView K A) (n : IRNode) → Lawful (look s) n
+      (look (with_op_edit s p f))
   op-edit-lawful p f n = lawful-seen (with_op_edit s p f) n (op-edit-seen p f)
 
-  pub block-edit-lawful : (p : Ptr BasicBlockKind) (f : BlockView A → BlockView A) (n : IRNode) → Lawful (look s) n (look (with_block_edit s p f))
+  pub block-edit-lawful : (p : Ptr BasicBlockKind) (f : BlockView A → BlockView A) (n : IRNode) → Lawful (look s) n
+      (look (with_block_edit s p f))
   block-edit-lawful p f n = lawful-seen (with_block_edit s p f) n (block-edit-seen p f)
 
-  pub op-edit-shape : (p : Ptr OperationKind) (f : OpView K A → OpView K A) → SameShape (look s) (look (with_op_edit s p f))
+  pub op-edit-shape : (p : Ptr OperationKind) (f : OpView K A → OpView K A) → SameShape (look s)
+      (look (with_op_edit s p f))
   op-edit-shape p f = shape-seen (with_op_edit s p f) (op-edit-seen p f)
 
-  pub block-edit-shape : (p : Ptr BasicBlockKind) (f : BlockView A → BlockView A) → SameShape (look s) (look (with_block_edit s p f))
+  pub block-edit-shape : (p : Ptr BasicBlockKind) (f : BlockView A → BlockView A) → SameShape (look s)
+      (look (with_block_edit s p f))
   block-edit-shape p f = shape-seen (with_block_edit s p f) (block-edit-seen p f)

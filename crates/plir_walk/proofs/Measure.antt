@@ -1,4 +1,5 @@
-use Rattle.std.proofs.Common.{◌≡◌, ℕ, ◌+◌, ◌-◌, ◌*◌, ◌^◌, ◌<◌, ◌≤◌, Bool, true, false, List, [], ◌∷◌, Option, Some, None, inl, inr, refl, subst, arith, option_map}
+use Rattle.std.proofs.Common.{◌≡◌, ℕ, ◌+◌, ◌-◌, ◌*◌, ◌^◌, ◌<◌, ◌≤◌, Bool, true, false, List, [], ◌∷◌, Option, Some}
+use Rattle.std.proofs.Common.{None, inl, inr, refl, subst, arith, option_map}
 use Rattle.plir_walk.specs.Config.{direction_of, order_of}
 use Rattle.plir_store.specs.Members.{Has, head}
 use Rattle.plir_walk.specs.Step.{due_at, enter_or_leave, first_of, next_of, step_of, after, taken}
@@ -56,7 +57,8 @@ module _ (w : WalkConfig) (s : Shape) (f : IsForest s) where
   pub child-depth : (a k : IRNode) → Has (taken (direction_of w a) (s.children a)) k → depth_in s k ≡ depth_in s a + 1
   child-depth a k h = deeper s f a k (f.child_parent a k (Has-taken (direction_of w a) (s.children a) k h))
 
-  pub down-smaller : (c : IRNode) (o : Option IRNode) (n : IRNode) (en : Bool) → order_of w c ≡ PostOrder → first_of w s c ≡ o → enter_or_leave o c ≡ (n, en) → part w s n en < part w s c true
+  pub down-smaller : (c : IRNode) (o : Option IRNode) (n : IRNode) (en : Bool) → order_of w c ≡ PostOrder → first_of w s
+      c ≡ o → enter_or_leave o c ≡ (n, en) → part w s n en < part w s c true
   down-smaller c None n en d e z =
       let g : part w s c false < part w s c true = (rw d (let p = small c in omega (arith, p))) in
       subst (λ (v : IRNode × Bool). part w s v.0 v.1 < part w s c true) z g
@@ -67,7 +69,9 @@ module _ (w : WalkConfig) (s : Shape) (f : IsForest s) where
       let g : part w s k true < part w s c true = (rw d (omega (arith, p, q, m))) in
       subst (λ (v : IRNode × Bool). part w s v.0 v.1 < part w s c true) z g
 
-  pub up-smaller : (c a : IRNode) (o : Option IRNode) (n : IRNode) (en : Bool) → order_of w c ≡ PreOrder → s.parent c ≡ Some a → after c (taken (direction_of w a) (s.children a)) ≡ o → enter_or_leave o a ≡ (n, en) → part w s n en < part w s c false
+  pub up-smaller : (c a : IRNode) (o : Option IRNode) (n : IRNode) (en : Bool) → order_of w c ≡ PreOrder → s.parent c ≡
+      Some a → after c (taken (direction_of w a) (s.children a)) ≡ o → enter_or_leave o a ≡ (n, en) → part w s n en <
+      part w s c false
   up-smaller c a None n en d u e z =
       let p = deeper s f a c u in
       let q = part-leaving (order_of w a) (depth_in s a) in
@@ -80,7 +84,8 @@ module _ (w : WalkConfig) (s : Shape) (f : IsForest s) where
       let g : part w s k true < part w s c false = (rw d (omega (arith, p, q, m))) in
       subst (λ (v : IRNode × Bool). part w s v.0 v.1 < part w s c false) z g
 
-  pub step-smaller : (r c : IRNode) (en : Bool) (o : Order) (n : IRNode) (en' : Bool) → order_of w c ≡ o → due_at o en ≡ false → step_of w s r c en ≡ Some (n, en') → part w s n en' < part w s c en
+  pub step-smaller : (r c : IRNode) (en : Bool) (o : Order) (n : IRNode) (en' : Bool) → order_of w c ≡ o → due_at o en ≡
+      false → step_of w s r c en ≡ Some (n, en') → part w s n en' < part w s c en
   step-smaller r c true PreOrder n en' k d z = cc
   step-smaller r c true PostOrder n en' k d z = down-smaller c (first_of w s c) n en' k refl (some-is z)
     where
@@ -95,13 +100,17 @@ module _ (w : WalkConfig) (s : Shape) (f : IsForest s) where
       none-some : {A : Type 0} {x : A} → None ≡ Some x → ⊥
       none-some e = cc
 
-      go : (o : Option IRNode) → s.parent c ≡ o → option_map (λ a. enter_or_leave (next_of w s c) a) o ≡ Some (n, en') → part w s n en' < part w s c false
+      go : (o : Option IRNode) → s.parent c ≡ o → option_map
+          (λ a. enter_or_leave (next_of w s c) a) o ≡ Some (n, en') → part w s n en' < part w s c false
       go None e z = cc
       go (Some a) e z = up-smaller c a (after c (taken (direction_of w a) (s.children a))) n en' k e refl
           (let y : Some (enter_or_leave (next_of w s c) a) ≡ Some (n, en') = z in
           let x : next_of w s c ≡ after c (taken (direction_of w a) (s.children a)) = (rw e refl) in
-          let v : Some (enter_or_leave (after c (taken (direction_of w a) (s.children a))) a) ≡ Some (n, en') = (rw x at y) in cc v)
+          let v : Some (enter_or_leave (after c (taken (direction_of w a) (s.children a))) a) ≡ Some (n, en') =
+          (rw x at y) in cc v)
 
 -- a step with a call
-pub called-smaller : (w : WalkConfig) (s s' : Shape) (f' : IsForest s') (c n : IRNode) (en en' : Bool) (left left' : ℕ) → left ≡ left' + 1 → size_of w s' left' n en' < size_of w s left c en
-called-smaller w s s' f' c n en en' left left' h = (let p = part-bound (order_of w n) (depth_in s' n) en' (small w s' f' n) in rw h (omega (arith, p)))
+pub called-smaller : (w : WalkConfig) (s s' : Shape) (f' : IsForest s') (c n : IRNode) (en en' : Bool) (left left' : ℕ)
+    → left ≡ left' + 1 → size_of w s' left' n en' < size_of w s left c en
+called-smaller w s s' f' c n en en' left left' h = (let p = part-bound (order_of w n) (depth_in s' n) en'
+    (small w s' f' n) in rw h (omega (arith, p)))

@@ -1,6 +1,5 @@
 -- Whether two nodes are the same.
 use Rattle.std.proofs.Common.{◌≡◌, ◌≢◌, true, false, List, [], ◌∷◌, ◌++◌, ◌⊎◌, inl, inr, refl, sym, ap}
-use Rattle.std.proofs.lemmas.Bool.Decides.{eqb_tells}
 use Rattle.plir_core.specs.declared.ptr.Ptr.{Ptr}
 use Rattle.plir_core.specs.declared.ptr.IRNode.{IRNode}
 use Rattle.plir_core.specs.declared.ptr.IRNode.TheVariants.{Operation, BasicBlock, Region}
@@ -9,28 +8,32 @@ use Rattle.plir_walk.specs.Step.{after}
 use Rattle.plir_walk.specs.declared.config.Order.TheVariants.{PreOrder, PostOrder}
 use Rattle.plir_walk.specs.declared.config.WalkConfig.{WalkConfig}
 use Rattle.plir_walk.specs.Config.{order_of, AllPre, AllPost}
-use Rattle.plir_walk.specs.Tree.{same, same_ptr}
+use Rattle.plir_walk.specs.NodeLaws.{same_ptr_tells}
+use Rattle.plir_walk.specs.Tree.{same}
 use Rattle.plir_store.specs.Members.{Has, Distinct, head}
 
-pub same_ptr_tells : {T : Type 0} (p q : Ptr T) → ((same_ptr p q ≡ true) × (p ≡ q)) ⊎ ((same_ptr p q ≡ false) × (p ≢ q))
-same_ptr_tells p q = elim (eqb_tells p.slot q.slot) [
-  | inl s ↦ elim (eqb_tells p.version q.version) [
-    | inl v ↦ inl ((let a = s.0 in let b = v.0 in rw (a, b) refl), λ i. record { slot = s.1 i; version = v.1 i; kind = p.kind })
-    | inr v ↦ inr ((let a = s.0 in let b = v.0 in rw (a, b) refl), λ e. v.1 (ap (λ z. z.version) e))
-  ]
-  | inr s ↦ inr ((let h = s.0 in rw h refl), λ e. s.1 (ap (λ z. z.slot) e))
-]
-
 pub same_tells : (a b : IRNode) → ((same a b ≡ true) × (a ≡ b)) ⊎ ((same a b ≡ false) × (a ≢ b))
-same_tells (Operation p) (Operation q) = elim (same_ptr_tells p q) [ inl h ↦ inl (h.0, ap Operation h.1) | inr h ↦ inr (h.0, λ e. h.1 (cc e)) ]
+same_tells (Operation p) (Operation q) = elim (same_ptr_tells p q) [
+  | inl h ↦ inl (h.0, ap Operation h.1)
+  | inr h ↦ inr
+      (h.0, λ e. h.1 (cc e))
+]
 same_tells (Operation p) (BasicBlock q) = inr (refl, λ e. cc e)
 same_tells (Operation p) (Region q) = inr (refl, λ e. cc e)
 same_tells (BasicBlock p) (Operation q) = inr (refl, λ e. cc e)
-same_tells (BasicBlock p) (BasicBlock q) = elim (same_ptr_tells p q) [ inl h ↦ inl (h.0, ap BasicBlock h.1) | inr h ↦ inr (h.0, λ e. h.1 (cc e)) ]
+same_tells (BasicBlock p) (BasicBlock q) = elim (same_ptr_tells p q) [
+  | inl h ↦ inl (h.0, ap BasicBlock h.1)
+  | inr h ↦
+      inr (h.0, λ e. h.1 (cc e))
+]
 same_tells (BasicBlock p) (Region q) = inr (refl, λ e. cc e)
 same_tells (Region p) (Operation q) = inr (refl, λ e. cc e)
 same_tells (Region p) (BasicBlock q) = inr (refl, λ e. cc e)
-same_tells (Region p) (Region q) = elim (same_ptr_tells p q) [ inl h ↦ inl (h.0, ap Region h.1) | inr h ↦ inr (h.0, λ e. h.1 (cc e)) ]
+same_tells (Region p) (Region q) = elim (same_ptr_tells p q) [
+  | inl h ↦ inl (h.0, ap Region h.1)
+  | inr h ↦ inr
+      (h.0, λ e. h.1 (cc e))
+]
 
 -- one order at all levels is the order of each node
 pub pre-at : (w : WalkConfig) → AllPre w → (n : IRNode) → order_of w n ≡ PreOrder
@@ -44,7 +47,8 @@ post-at w h (BasicBlock p) = h.1
 post-at w h (Region p) = h.2
 
 -- what follows n where it stands
-pub after-at : (xs : List IRNode) (n : IRNode) (ys : List IRNode) → Distinct (xs ++ n ∷ ys) → after n (xs ++ n ∷ ys) ≡ head ys
+pub after-at : (xs : List IRNode) (n : IRNode) (ys : List IRNode) → Distinct (xs ++ n ∷ ys) → after n (xs ++ n ∷ ys) ≡
+    head ys
 after-at [] n ys d = elim (same_tells n n) [ inl e ↦ rw e.0 refl | inr e ↦ absurd (e.1 refl) ]
 after-at (x ∷ xs) n ys d = elim (same_tells x n) [
   | inl e ↦ absurd (d.0 (Has-append_right xs (n ∷ ys) x (inl (sym e.1))))

@@ -1,9 +1,11 @@
 -- Before is a total order, and what turns it round.
-use Rattle.std.proofs.Common.{◌≡◌, ◌≢◌, ℕ, List, [], ◌∷◌, Option, Some, None, slice_get, MatchOption, ◌⊎◌, inl, inr, reverse, refl, sym, ap, subst, arith, ◌∙◌}
+use Rattle.std.proofs.Common.{◌≡◌, ◌≢◌, ℕ, List, [], ◌∷◌, Option, Some, None, slice_get, MatchOption, ◌⊎◌, inl, inr}
+use Rattle.std.proofs.Common.{reverse, refl, sym, ap, subst, arith, ◌∙◌}
 use Rattle.std.proofs.lemmas.Bool.{cases_eq, cases_lt}
 use Rattle.std.proofs.lemmas.List.{reverse-append}
 use Rattle.std.specs.declared.ops.ControlFlow.TheVariants.{Continue}
-use Rattle.plir_walk.specs.declared.config.TheConstants.{WALKCONFIG_PREORDER_FORWARD as pre_forward, WALKCONFIG_POSTORDER_REVERSE as post_reverse}
+use Rattle.plir_walk.specs.declared.config.TheConstants.{WALKCONFIG_PREORDER_FORWARD as pre_forward}
+use Rattle.plir_walk.specs.declared.config.TheConstants.{WALKCONFIG_POSTORDER_REVERSE as post_reverse}
 use Rattle.plir_walk.specs.Calls.{Advancing, Call, Chain, Relation, nodes_of}
 use Rattle.plir_walk.specs.Config.{direction_of, order_of}
 use Rattle.plir_walk.specs.Laws.{BeforeOrders, PostReverseIsPreForwardReversed, WalkedOnce}
@@ -28,20 +30,30 @@ pub earlier-trans : (d : Direction) (i j k : ℕ) → Earlier d i j → Earlier 
 earlier-trans Forward i j k p q = (omega arith, omega arith)
 earlier-trans Reverse i j k p q = (omega arith, omega arith)
 
-pub before-trans : (w : WalkConfig) (t : Tree) (r : IRNode) (p q o : Place) → Before w t r p q → Before w t r q o → Before w t r p o
+pub before-trans : (w : WalkConfig) (t : Tree) (r : IRNode) (p q o : Place) → Before w t r p q → Before w t r q o →
+    Before w t r p o
 before-trans w t r [] [] o h k = absurd h
 before-trans w t r [] (j ∷ q) [] h k = absurd (no-both (order_of w r) h k)
 before-trans w t r [] (j ∷ q) (l ∷ o) h k = h
 before-trans w t r (i ∷ p) [] [] h k = absurd k
 before-trans w t r (i ∷ p) [] (l ∷ o) h k = absurd (no-both (order_of w r) k h)
 before-trans w t r (i ∷ p) (j ∷ q) [] h k = k
-before-trans w t r (i ∷ p) (j ∷ q) (l ∷ o) (inl h) (inl k) = let e = earlier-trans (direction_of w r) i j l h.1 k.1 in inl (e.1, e.0)
-before-trans w t r (i ∷ p) (j ∷ q) (l ∷ o) (inl h) (inr k) = inl (subst (λ (v : ℕ). (i ≢ v) × Earlier (direction_of w r) i v) k.0 h)
-before-trans w t r (i ∷ p) (j ∷ q) (l ∷ o) (inr h) (inl k) = inl (subst (λ (v : ℕ). (v ≢ l) × Earlier (direction_of w r) v l) (sym h.0) k)
+before-trans w t r (i ∷ p) (j ∷ q) (l ∷ o) (inl h) (inl k) = let e = earlier-trans (direction_of w r) i j l h.1 k.1 in
+    inl (e.1, e.0)
+before-trans w t r (i ∷ p) (j ∷ q) (l ∷ o) (inl h) (inr k) = inl
+    (subst (λ (v : ℕ). (i ≢ v) × Earlier (direction_of w r) i v) k.0 h)
+before-trans w t r (i ∷ p) (j ∷ q) (l ∷ o) (inr h) (inl k) = inl
+    (subst (λ (v : ℕ). (v ≢ l) × Earlier (direction_of w r) v l) (sym h.0) k)
 before-trans w t r (i ∷ p) (j ∷ q) (l ∷ o) (inr h) (inr k) =
-    inr (h.0 ∙ k.0, go (slice_get (t r) i) h.1 (subst (λ (v : ℕ). MatchOption (slice_get (t r) v) ⊥ (λ c. Before w t c q o)) (sym h.0) k.1) (λ c u v. before-trans w t c p q o u v))
+    inr (
+      h.0 ∙ k.0,
+      go (slice_get (t r) i) h.1 (subst (λ (v : ℕ). MatchOption (slice_get (t r) v) ⊥
+          (λ c. Before w t c q o)) (sym h.0) k.1) (λ c u v. before-trans w t c p q o u v),
+    )
   where
-    go : (x : Option IRNode) → MatchOption x ⊥ (λ c. Before w t c p q) → MatchOption x ⊥ (λ c. Before w t c q o) → ((c : IRNode) → Before w t c p q → Before w t c q o → Before w t c p o) → MatchOption x ⊥ (λ c. Before w t c p o)
+    go : (x : Option IRNode) → MatchOption x ⊥ (λ c. Before w t c p q) → MatchOption x ⊥ (λ c. Before w t c q o) →
+        ((c : IRNode) → Before w t c p q → Before w t c q o → Before w t c p o) → MatchOption x ⊥
+        (λ c. Before w t c p o)
     go None u v ih = u
     go (Some c) u v ih = ih c u v
 
@@ -53,7 +65,8 @@ pub earlier-cases : (d : Direction) (i j : ℕ) → i ≢ j → Earlier d i j �
 earlier-cases Forward i j n = elim (cases_lt i j) [ inl h ↦ inl h | inr h ↦ inr (omega (arith, n)) ]
 earlier-cases Reverse i j n = elim (cases_lt i j) [ inl h ↦ inr h | inr h ↦ inl (omega (arith, n)) ]
 
-pub before-total : (w : WalkConfig) (t : Tree) (r a b : IRNode) (p q : Place) → node_at t r p ≡ Some a → node_at t r q ≡ Some b → (p ≡ q) ⊎ (Before w t r p q ⊎ Before w t r q p)
+pub before-total : (w : WalkConfig) (t : Tree) (r a b : IRNode) (p q : Place) → node_at t r p ≡ Some a → node_at t r q ≡
+    Some b → (p ≡ q) ⊎ (Before w t r p q ⊎ Before w t r q p)
 before-total w t r a b [] [] e g = inl refl
 before-total w t r a b [] (j ∷ q) e g = elim (order-cases (order_of w r)) [ inl h ↦ inr (inl h) | inr h ↦ inr (inr h) ]
 before-total w t r a b (i ∷ p) [] e g = elim (order-cases (order_of w r)) [ inl h ↦ inr (inr h) | inr h ↦ inr (inl h) ]
@@ -71,7 +84,11 @@ before-total w t r a b (i ∷ p) (j ∷ q) e g = elim (cases_eq i j) [
           | inr z ↦ inr (inr (sym h, subst (λ (v : Option IRNode). MatchOption v ⊥ (λ c. Before w t c q p)) (sym x2) z))
         ])
       ])
-  | inr h ↦ inr (elim (earlier-cases (direction_of w r) i j h) [ inl z ↦ inl (inl (h, z)) | inr z ↦ inr (inl (λ k. h (sym k), z)) ])
+  | inr h ↦ inr (elim (earlier-cases (direction_of w r) i j h) [
+    | inl z ↦ inl (inl (h, z))
+    | inr z ↦ inr
+        (inl (λ k. h (sym k), z))
+  ])
 ]
 
 pub total-order : BeforeOrders
@@ -82,7 +99,8 @@ total-order w t r one = record {
     place_b = k.place_b;
     at_a = h.at_a;
     at_b = k.at_b;
-    before = before-trans w t r h.place_a h.place_b k.place_b h.before (subst (λ (v : Place). Before w t r v k.place_b) (one b k.place_a h.place_b k.at_a h.at_b) k.before);
+    before = before-trans w t r h.place_a h.place_b k.place_b h.before
+        (subst (λ (v : Place). Before w t r v k.place_b) (one b k.place_a h.place_b k.at_a h.at_b) k.before);
   };
   total = λ a b u v ne. elim (before-total w t r a b u.0 v.0 u.1 v.1) [
     | inl e ↦ absurd (ne (let z = sym u.1 ∙ (ap (node_at t r) e ∙ v.1) in cc z))
@@ -119,19 +137,36 @@ pub turn-earlier : (d : Direction) (i j : ℕ) → Earlier d i j → Earlier (tu
 turn-earlier Forward i j h = h
 turn-earlier Reverse i j h = h
 
-pub before-opposite : (w v : WalkConfig) (x : Opposite w v) (t : Tree) (r : IRNode) (p q : Place) → Before w t r p q → Before v t r q p
+pub before-opposite : (w v : WalkConfig) (x : Opposite w v) (t : Tree) (r : IRNode) (p q : Place) → Before w t r p q →
+    Before v t r q p
 before-opposite w v x t r [] [] h = h
 before-opposite w v x t r [] (j ∷ q) h = x.orders r ∙ flip-pre (order_of w r) h
 before-opposite w v x t r (i ∷ p) [] h = x.orders r ∙ flip-post (order_of w r) h
-before-opposite w v x t r (i ∷ p) (j ∷ q) (inl h) = inl (λ k. h.0 (sym k), subst (λ (d : Direction). Earlier d j i) (sym (x.directions r)) (turn-earlier (direction_of w r) i j h.1))
-before-opposite w v x t r (i ∷ p) (j ∷ q) (inr h) = inr (sym h.0, subst (λ (k : ℕ). MatchOption (slice_get (t r) k) ⊥ (λ c. Before v t c q p)) h.0 (go (slice_get (t r) i) h.1 (λ c u. before-opposite w v x t c p q u)))
+before-opposite w v x t r (i ∷ p) (j ∷ q) (inl h) = inl (
+  λ k. h.0 (sym k),
+  subst (λ (d : Direction). Earlier d j i)
+      (sym (x.directions r)) (turn-earlier (direction_of w r) i j h.1),
+)
+before-opposite w v x t r (i ∷ p) (j ∷ q) (inr h) = inr (
+  sym h.0,
+  subst (λ (k : ℕ). MatchOption (slice_get (t r) k) ⊥
+      (λ c. Before v t c q p)) h.0 (go (slice_get (t r) i) h.1 (λ c u. before-opposite w v x t c p q u)),
+)
   where
-    go : (o : Option IRNode) → MatchOption o ⊥ (λ c. Before w t c p q) → ((c : IRNode) → Before w t c p q → Before v t c q p) → MatchOption o ⊥ (λ c. Before v t c q p)
+    go : (o : Option IRNode) → MatchOption o ⊥ (λ c. Before w t c p q) → ((c : IRNode) → Before w t c p q → Before v t c
+        q p) → MatchOption o ⊥ (λ c. Before v t c q p)
     go None u ih = u
     go (Some c) u ih = ih c u
 
-pub node-before-opposite : (w v : WalkConfig) (x : Opposite w v) (t : Tree) (r a b : IRNode) → NodeBefore w t r a b → NodeBefore v t r b a
-node-before-opposite w v x t r a b h = record { place_a = h.place_b; place_b = h.place_a; at_a = h.at_b; at_b = h.at_a; before = before-opposite w v x t r h.place_a h.place_b h.before }
+pub node-before-opposite : (w v : WalkConfig) (x : Opposite w v) (t : Tree) (r a b : IRNode) → NodeBefore w t r a b →
+    NodeBefore v t r b a
+node-before-opposite w v x t r a b h = record {
+  place_a = h.place_b;
+  place_b = h.place_a;
+  at_a = h.at_b;
+  at_b = h.at_a;
+  before = before-opposite w v x t r h.place_a h.place_b h.before;
+}
 
 pub forward-back : Opposite pre_forward post_reverse
 forward-back = record {
@@ -151,7 +186,8 @@ pub Pairs-reverse : (R : IRNode → IRNode → Type 0) (xs : List IRNode) → Pa
 Pairs-reverse R [] h = h
 Pairs-reverse R (x ∷ xs) h =
     subst (λ (v : List IRNode). Pairs (λ a b. R b a) v) (sym (reverse-append (x ∷ []) xs))
-    (Pairs-append (λ a b. R b a) (reverse xs) (x ∷ []) (Pairs-reverse R xs h.1) (λ y k. absurd k, tt) (λ a b i k. elim k [
+    (Pairs-append (λ a b. R b a) (reverse xs) (x ∷ []) (Pairs-reverse R xs h.1) (λ y k. absurd k, tt)
+    (λ a b i k. elim k [
       | inl e ↦ subst (λ (v : IRNode). R v a) e (h.0 a (Has-reverse xs a i))
       | inr z ↦ absurd z
     ]))
@@ -161,7 +197,8 @@ Pairs-distinct R [] i h = tt
 Pairs-distinct R (x ∷ xs) i h = (λ k. i x (h.0 x k), Pairs-distinct R xs i h.1)
 
 -- two lists in one order with the same elements are the same
-pub ordered-same : (R : IRNode → IRNode → Type 0) → ((a b : IRNode) → R a b → R b a → ⊥) → (xs ys : List IRNode) → Pairs R xs → Pairs R ys → ((n : IRNode) → Has xs n → Has ys n) → ((n : IRNode) → Has ys n → Has xs n) → xs ≡ ys
+pub ordered-same : (R : IRNode → IRNode → Type 0) → ((a b : IRNode) → R a b → R b a → ⊥) → (xs ys : List IRNode) → Pairs
+    R xs → Pairs R ys → ((n : IRNode) → Has xs n → Has ys n) → ((n : IRNode) → Has ys n → Has xs n) → xs ≡ ys
 ordered-same R asym [] [] p q f g = refl
 ordered-same R asym [] (y ∷ ys) p q f g = absurd (g y (inl refl))
 ordered-same R asym (x ∷ xs) [] p q f g = absurd (f x (inl refl))
@@ -174,26 +211,39 @@ ordered-same R asym (x ∷ xs) (y ∷ ys) p q f g =
     let dy = λ (h : Has ys y). asym y y (q.0 y h) (q.0 y h) in
     let rest = ordered-same R asym xs ys p.1 q.1
     (λ n h. elim (f n (inr h)) [ inl e ↦ absurd (dx (subst (λ (v : IRNode). Has xs v) (sym (xy ∙ e)) h)) | inr k ↦ k ])
-    (λ n h. elim (g n (inr h)) [ inl e ↦ absurd (dy (subst (λ (v : IRNode). Has ys v) (sym (sym xy ∙ e)) h)) | inr k ↦ k ]) in
+    (λ n h. elim (g n (inr h)) [
+      | inl e ↦ absurd (dy (subst (λ (v : IRNode). Has ys v) (sym (sym xy ∙ e)) h))
+      | inr k ↦ k
+    ]) in
     rw (xy, rest) refl
 
 pub reversed : PostReverseIsPreForwardReversed
 reversed t r one = record {
-  before = λ a b. (λ h. node-before-opposite post_reverse pre_forward back-forward t r a b h, λ h. node-before-opposite pre_forward post_reverse forward-back t r b a h);
-  traversal = λ ns ms x y. ordered-same (NodeBefore post_reverse t r) (λ a b h k. node-before-asym post_reverse t r a b one h k) ns (reverse ms) x.increasing
-      (Pairs-map (λ a b. NodeBefore pre_forward t r b a) (NodeBefore post_reverse t r) (reverse ms) (λ a b h. node-before-opposite pre_forward post_reverse forward-back t r b a h) (Pairs-reverse (NodeBefore pre_forward t r) ms y.increasing))
+  before = λ a b. (
+    λ h. node-before-opposite post_reverse pre_forward back-forward t r a b h,
+    λ h. node-before-opposite
+        pre_forward post_reverse forward-back t r b a h,
+  );
+  traversal = λ ns ms x y. ordered-same (NodeBefore post_reverse t r) (λ a b h k. node-before-asym post_reverse t r a b
+      one h k) ns (reverse ms) x.increasing
+      (Pairs-map (λ a b. NodeBefore pre_forward t r b a) (NodeBefore post_reverse t r) (reverse ms)
+      (λ a b h. node-before-opposite pre_forward post_reverse forward-back t r b a h)
+      (Pairs-reverse (NodeBefore pre_forward t r) ms y.increasing))
       (λ n h. reverse-Has ms n ((y.exactly n).1 ((x.exactly n).0 h)))
       (λ n h. (x.exactly n).1 ((y.exactly n).0 (Has-reverse ms n h)));
 }
 
 -- a walk whose callback always advances calls each node once
 
-pub Chain-each : {C S B : Type 0} (P : Relation C S B) (c : C) (s : S) (xs : List (Call C S B)) (c' : C) (s' : S) → Chain P c s xs c' s' → (x : Call C S B) → Has xs x → P x.before x.state x.node x.answer x.after x.left
+pub Chain-each : {C S B : Type 0} (P : Relation C S B) (c : C) (s : S) (xs : List (Call C S B)) (c' : C) (s' : S) →
+    Chain P c s xs c' s' → (x : Call C S B) → Has xs x → P x.before x.state x.node x.answer x.after x.left
 Chain-each P c s [] c' s' h x k = absurd k
-Chain-each P c s (y ∷ xs) c' s' h x (inl e) = subst (λ (v : Call _ _ _). P v.before v.state v.node v.answer v.after v.left) e h.2
+Chain-each P c s (y ∷ xs) c' s' h x (inl e) = subst (λ (v : Call _ _ _). P v.before v.state v.node v.answer v.after
+    v.left) e h.2
 Chain-each P c s (y ∷ xs) c' s' h x (inr k) = Chain-each P y.after y.left xs c' s' h.3 x k
 
-pub once : {C S : Type 0} (look : C → Shape) (w : WalkConfig) (plain : C → S → IRNode → Unit {0} → C → S → Type 0) (c : C) (s : S) (r : IRNode) (s' : S)
+pub once : {C S : Type 0} (look : C → Shape) (w : WalkConfig) (plain : C → S → IRNode → Unit {0} → C → S → Type 0)
+    (c : C) (s : S) (r : IRNode) (s' : S)
     → WalkedOver look w (Advancing plain) c s r (Continue Advance) s' → WalkedOnce look w (Advancing plain) c s r s'
 once look w plain c s r s' h =
     let order = total-order w (look c).children r h.walk.in_order.one_place in
@@ -206,12 +256,14 @@ once look w plain c s r s' h =
           λ u. (h.walk.answers.2 n).1 (
             u,
             λ o.
-                (let k = Chain-each (IsCallUnder look r (Advancing plain)) c s h.calls c s' h.chain o.skipped.0 o.skipped.1 in
+                (let k = Chain-each (IsCallUnder look r (Advancing plain)) c s h.calls c s' h.chain o.skipped.0
+                o.skipped.1 in
                 let e = sym k.made.0 ∙ o.skipped.3 in
                 let z : ⊥ = cc e in z),
           ),
         );
-        once = Pairs-distinct (NodeBefore w (look c).children r) (nodes_of h.calls) order.irreflexive h.walk.in_order.increasing;
+        once = Pairs-distinct (NodeBefore w (look c).children r) (nodes_of h.calls) order.irreflexive
+            h.walk.in_order.increasing;
         increasing = h.walk.in_order.increasing;
       };
     }

@@ -30,20 +30,26 @@ module _ {N X : Type 0} (f : N → Option X) where
       later : (n : N) × Has ns n × (f n ≡ Some x) → (n : N) × Has (m ∷ ns) n × (f n ≡ Some x)
       later z = (z.0, inr z.1, z.2)
 
-      go : (o : Option X) → f m ≡ o → Has (add o (picked f ns)) x → (Has (picked f ns) x → (n : N) × Has ns n × (f n ≡ Some x)) → (n : N) × Has (m ∷ ns) n × (f n ≡ Some x)
+      go : (o : Option X) → f m ≡ o → Has (add o (picked f ns)) x → (Has (picked f ns) x → (n : N) × Has ns n ×
+          (f n ≡ Some x)) → (n : N) × Has (m ∷ ns) n × (f n ≡ Some x)
       go None e i rest = later (rest i)
       go (Some y) e (inl q) rest = (m, inl refl, e ∙ ap (λ z. Some z) q)
       go (Some y) e (inr i) rest = later (rest i)
 
   -- where no two elements give the same
-  pub Distinct-picked : (ns : List N) → ((a b : N) (x : X) → Has ns a → Has ns b → f a ≡ Some x → f b ≡ Some x → a ≡ b) → Distinct ns → Distinct (picked f ns)
+  pub Distinct-picked : (ns : List N) → ((a b : N) (x : X) → Has ns a → Has ns b → f a ≡ Some x → f b ≡ Some x → a ≡ b)
+      → Distinct ns → Distinct (picked f ns)
   unfolding picked
   Distinct-picked [] apart d = tt
   Distinct-picked (m ∷ ns) apart d = go (f m) refl (Distinct-picked ns (λ a b x h i. apart a b x (inr h) (inr i)) d.1)
     where
       go : (o : Option X) → f m ≡ o → Distinct (picked f ns) → Distinct (add o (picked f ns))
       go None e rest = rest
-      go (Some y) e rest = (λ h. (let z = picked-Has ns y h in d.0 (subst (Has ns) (sym (apart m z.0 y (inl refl) (inr z.1) e z.2)) z.1)), rest)
+      go (Some y) e rest = (
+        λ h. (let z = picked-Has ns y h in d.0 (subst (Has ns)
+            (sym (apart m z.0 y (inl refl) (inr z.1) e z.2)) z.1)),
+        rest,
+      )
 
 pub length-picked : {N X : Type 0} (f : N → X) (ns : List N) → length (picked (λ n. Some (f n)) ns) ≡ length ns
 unfolding picked

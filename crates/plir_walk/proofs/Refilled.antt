@@ -1,5 +1,6 @@
 -- Tables of which some contents have changed, and what a walk sees of their nodes.
-use Rattle.std.proofs.Common.{◌≡◌, ℕ, cond, ◌&&◌, nat_lt, nat_le, List, [], ◌∷◌, map, Option, Some, None, IsSome, inl, inr, refl, sym, ap, subst, ◌∙◌, length-set}
+use Rattle.std.proofs.Common.{◌≡◌, ℕ, cond, ◌&&◌, nat_lt, nat_le, List, [], ◌∷◌, map, Option, Some, None, IsSome, inl}
+use Rattle.std.proofs.Common.{inr, refl, sym, ap, subst, ◌∙◌, length-set}
 use Rattle.std.specs.Prelude.{option_map}
 use Rattle.plir_store.specs.Lists.{children_at, parent_at}
 use Rattle.plir_store.specs.Table.{Table, content_at, version_at, is_live_at}
@@ -65,26 +66,34 @@ module _ {C : Type 0} (f : C → C) where
         free = b.free ∙ a.free;
       }
 
-  pub refilled-apart : (is : List ℕ) (t : Table C) (j : ℕ) → (Has is j → ⊥) → content_at (refilled t f is) j ≡ content_at t j
+  pub refilled-apart : (is : List ℕ) (t : Table C) (j : ℕ) → (Has is j → ⊥) → content_at (refilled t f is) j ≡
+      content_at t j
   unfolding refilled
   refilled-apart [] t j apart = refl
-  refilled-apart (i ∷ is) t j apart = refilled-apart is (edited t i f) j (λ h. apart (inr h)) ∙ edited-other t i f j (λ e. apart (inl (sym e)))
+  refilled-apart (i ∷ is) t j apart = refilled-apart is (edited t i f) j
+      (λ h. apart (inr h)) ∙ edited-other t i f j (λ e. apart (inl (sym e)))
 
   -- a slot that comes once is edited once
-  pub refilled-here : (is : List ℕ) (t : Table C) (j : ℕ) → Distinct is → Has is j → content_at (refilled t f is) j ≡ option_map f (content_at t j)
+  pub refilled-here : (is : List ℕ) (t : Table C) (j : ℕ) → Distinct is → Has is j → content_at (refilled t f is) j ≡
+      option_map f (content_at t j)
   unfolding refilled
   refilled-here [] t j d h = absurd h
-  refilled-here (i ∷ is) t j d (inl e) = refilled-apart is (edited t i f) j (λ h. d.0 (subst (Has is) (sym e) h)) ∙ subst (λ z. content_at (edited t i f) z ≡ option_map f (content_at t z)) e (edited-here t i f)
-  refilled-here (i ∷ is) t j d (inr h) = refilled-here is (edited t i f) j d.1 h ∙ ap (option_map f) (edited-other t i f j (λ e. d.0 (subst (Has is) e h)))
+  refilled-here (i ∷ is) t j d (inl e) = refilled-apart is (edited t i f) j (λ h. d.0 (subst (Has is) (sym e) h)) ∙
+      subst (λ z. content_at (edited t i f) z ≡ option_map f (content_at t z)) e (edited-here t i f)
+  refilled-here (i ∷ is) t j d (inr h) = refilled-here is (edited t i f) j d.1 h ∙ ap (option_map f)
+      (edited-other t i f j (λ e. d.0 (subst (Has is) e h)))
 
 abbrev op_by : (ℕ → ℕ) → ℕ → IRNode
-op_by version j = Operation (let p : Ptr OperationKind = record { slot = j; version = version j; kind = record {} } in p)
+op_by version j = Operation (let p : Ptr OperationKind = record { slot = j; version = version j; kind = record {} } in
+    p)
 
 abbrev block_by : (ℕ → ℕ) → ℕ → IRNode
-block_by version j = BasicBlock (let p : Ptr BasicBlockKind = record { slot = j; version = version j; kind = record {} } in p)
+block_by version j = BasicBlock (let p : Ptr BasicBlockKind = record { slot = j; version = version j; kind = record {} }
+    in p)
 
 -- Other contents in the same slots: a walk sees nothing of it.
-module _ {K A T : Type 0} (s : ContextView K A T) (o : Table (OpView K A)) (b : Table (BlockView A)) (os : SameSlots s.nodes.ops o) (bs : SameSlots s.nodes.blocks b) where
+module _ {K A T : Type 0} (s : ContextView K A T) (o : Table (OpView K A)) (b : Table (BlockView A))
+    (os : SameSlots s.nodes.ops o) (bs : SameSlots s.nodes.blocks b) where
   abbrev now : ContextView K A T
   now = record s { nodes = record s.nodes { ops = o; blocks = b } }
 
@@ -105,15 +114,22 @@ module _ {K A T : Type 0} (s : ContextView K A T) (o : Table (OpView K A)) (b : 
   refilled-given (BasicBlock p) = ap (λ z. nat_lt 0 p.version && nat_le p.version z) (bs.versions p.slot)
 
   pub refilled-children : (m : IRNode) → children now m ≡ children s m
-  refilled-children (Operation p) = ap (λ l. cond l (map (region_node s.nodes) (children_at s.nodes.regions_in_op p.slot)) []) (refilled-live (Operation p))
-  refilled-children (Region p) = ap (λ f. cond (is_live_at s.nodes.regions p.slot p.version) (map (block_by f) (children_at s.nodes.blocks_in_region p.slot)) []) same-blocks
+  refilled-children (Operation p) = ap (λ l. cond l (map (region_node s.nodes) (children_at s.nodes.regions_in_op
+      p.slot)) []) (refilled-live (Operation p))
+  refilled-children (Region p) = ap (λ f. cond (is_live_at s.nodes.regions p.slot p.version)
+      (map (block_by f) (children_at s.nodes.blocks_in_region p.slot)) []) same-blocks
   refilled-children (BasicBlock p) =
-      ap (λ l. cond l (map (op_by (λ j. version_at o j)) (children_at s.nodes.ops_in_block p.slot)) []) (refilled-live (BasicBlock p))
+      ap (λ l. cond l (map (op_by (λ j. version_at o j)) (children_at s.nodes.ops_in_block p.slot)) [])
+      (refilled-live (BasicBlock p))
       ∙ ap (λ f. cond (is_live s (BasicBlock p)) (map (op_by f) (children_at s.nodes.ops_in_block p.slot)) []) same-ops
 
   pub refilled-parents : (m : IRNode) → parent_of now m ≡ parent_of s m
   refilled-parents (Operation p) =
-      ap (λ l. cond l (option_map (block_by (λ j. version_at b j)) (parent_at s.nodes.ops_in_block p.slot)) None) (refilled-live (Operation p))
-      ∙ ap (λ f. cond (is_live s (Operation p)) (option_map (block_by f) (parent_at s.nodes.ops_in_block p.slot)) None) same-blocks
-  refilled-parents (Region p) = ap (λ f. cond (is_live_at s.nodes.regions p.slot p.version) (option_map (op_by f) (parent_at s.nodes.regions_in_op p.slot)) None) same-ops
-  refilled-parents (BasicBlock p) = ap (λ l. cond l (option_map (region_node s.nodes) (parent_at s.nodes.blocks_in_region p.slot)) None) (refilled-live (BasicBlock p))
+      ap (λ l. cond l (option_map (block_by (λ j. version_at b j)) (parent_at s.nodes.ops_in_block p.slot)) None)
+      (refilled-live (Operation p))
+      ∙ ap (λ f. cond (is_live s (Operation p)) (option_map (block_by f) (parent_at s.nodes.ops_in_block p.slot)) None)
+      same-blocks
+  refilled-parents (Region p) = ap (λ f. cond (is_live_at s.nodes.regions p.slot p.version)
+      (option_map (op_by f) (parent_at s.nodes.regions_in_op p.slot)) None) same-ops
+  refilled-parents (BasicBlock p) = ap (λ l. cond l (option_map (region_node s.nodes)
+      (parent_at s.nodes.blocks_in_region p.slot)) None) (refilled-live (BasicBlock p))

@@ -1,5 +1,6 @@
 -- Nodes that lose their names one after another.
-use Rattle.std.proofs.Common.{◌≡◌, ℕ, suc, ◌+◌, ◌≤◌, ◌^◌, List, [], ◌∷◌, length, Option, Some, None, Ok, Err, Result, inl, inr, refl, sym, ap, subst, ◌∙◌, slice_get, arith}
+use Rattle.std.proofs.Common.{◌≡◌, ℕ, suc, ◌+◌, ◌≤◌, ◌^◌, List, [], ◌∷◌, length, Option, Some, None, Ok, Err, Result}
+use Rattle.std.proofs.Common.{inl, inr, refl, sym, ap, subst, ◌∙◌, slice_get, arith}
 use Rattle.std.specs.declared.ops.ControlFlow.TheVariants.{Continue}
 use Rattle.std.proofs.lemmas.Option.{same_Some, none-some}
 use Rattle.plir_core.specs.declared.ptr.Ptr.{Ptr}
@@ -30,7 +31,8 @@ use Rattle.plir_walk.proofs.Lawfulness.{lawful-same}
 use Rattle.plir_walk.proofs.NamedStores.{op-edit-is, block-edit-is, edited, edit-then}
 use Rattle.plir_walk.proofs.Orders.{total-order, Pairs-distinct, Chain-each}
 use Rattle.plir_walk.proofs.Picked.{picked, Has-picked, picked-Has, Distinct-picked}
-use Rattle.plir_walk.proofs.Refilled.{refilled, refilled-slots, refilled-apart, refilled-here, refilled-live, refilled-given, refilled-children, refilled-parents}
+use Rattle.plir_walk.proofs.Refilled.{refilled, refilled-slots, refilled-apart, refilled-here, refilled-live}
+use Rattle.plir_walk.proofs.Refilled.{refilled-given, refilled-children, refilled-parents}
 
 -- the slot of an operation, and of a block
 abbrev op_slot : IRNode → Option ℕ
@@ -49,14 +51,22 @@ module _ {K A T : Type 0} where
   all_unnamed s (n ∷ ns) = all_unnamed (without_names s n) ns
 
   abbrev at_once : ContextView K A T → List IRNode → ContextView K A T
-  at_once s ns = record s { nodes = record s.nodes { ops = refilled s.nodes.ops op_unnamed (picked op_slot ns); blocks = refilled s.nodes.blocks block_unnamed (picked block_slot ns) } }
+  at_once s ns = record s {
+    nodes = record s.nodes {
+      ops = refilled s.nodes.ops op_unnamed (picked op_slot ns);
+      blocks =
+          refilled s.nodes.blocks block_unnamed (picked block_slot ns);
+    };
+  }
 
   unnamed-at_once : (s : ContextView K A T) (ns : List IRNode) → all_unnamed s ns ≡ at_once s ns
   unfolding refilled picked
   unnamed-at_once s [] = refl
-  unnamed-at_once s (Operation p ∷ ns) = ap (λ z. all_unnamed z ns) (op-edit-is s p op_unnamed) ∙ unnamed-at_once (record s { nodes = record s.nodes { ops = edited s.nodes.ops p.slot op_unnamed } }) ns
+  unnamed-at_once s (Operation p ∷ ns) = ap (λ z. all_unnamed z ns) (op-edit-is s p op_unnamed) ∙ unnamed-at_once
+      (record s { nodes = record s.nodes { ops = edited s.nodes.ops p.slot op_unnamed } }) ns
   unnamed-at_once s (Region p ∷ ns) = unnamed-at_once s ns
-  unnamed-at_once s (BasicBlock p ∷ ns) = ap (λ z. all_unnamed z ns) (block-edit-is s p block_unnamed) ∙ unnamed-at_once (record s { nodes = record s.nodes { blocks = edited s.nodes.blocks p.slot block_unnamed } }) ns
+  unnamed-at_once s (BasicBlock p ∷ ns) = ap (λ z. all_unnamed z ns) (block-edit-is s p block_unnamed) ∙ unnamed-at_once
+      (record s { nodes = record s.nodes { blocks = edited s.nodes.blocks p.slot block_unnamed } }) ns
 
   -- one call keeps the shape, and is lawful
   module _ (s : ContextView K A T) (ns : List IRNode) where
@@ -79,13 +89,18 @@ module _ {K A T : Type 0} where
     at_once-given m = refilled-given s _ _ os bs m
 
   pub unnamed-lawful : (s t : ContextView K A T) (n m : IRNode) → t ≡ without_names s n → Lawful (look s) m (look t)
-  unnamed-lawful s t n m e = subst (λ z. Lawful (look s) m (look z)) (sym (e ∙ unnamed-at_once s (n ∷ []))) (lawful-same (look s) (look (at_once s (n ∷ []))) m (at_once-live s (n ∷ [])) (at_once-parents s (n ∷ [])) (at_once-children s (n ∷ [])) (λ k g. at_once-given s (n ∷ []) k ∙ g))
+  unnamed-lawful s t n m e = subst (λ z. Lawful (look s) m (look z)) (sym (e ∙ unnamed-at_once s (n ∷ [])))
+      (lawful-same (look s) (look (at_once s (n ∷ []))) m (at_once-live s (n ∷ [])) (at_once-parents s (n ∷ []))
+      (at_once-children s (n ∷ [])) (λ k g. at_once-given s (n ∷ []) k ∙ g))
 
   pub unnamed-shape : (s t : ContextView K A T) (n : IRNode) → t ≡ without_names s n → SameShape (look s) (look t)
-  unnamed-shape s t n e = subst (λ z. SameShape (look s) (look z)) (sym (e ∙ unnamed-at_once s (n ∷ []))) (record { live = at_once-live s (n ∷ []); children = at_once-children s (n ∷ []) })
+  unnamed-shape s t n e = subst (λ z. SameShape (look s) (look z)) (sym (e ∙ unnamed-at_once s (n ∷ [])))
+      (record { live = at_once-live s (n ∷ []); children = at_once-children s (n ∷ []) })
 
 -- a block whose attributes and then its label are edited
-pub block-unnamed : {K A T : Type 0} (s : ContextView K A T) (p : Ptr BasicBlockKind) → with_block_edit (with_block_edit s p (λ b. record b { attributes = unnamed b.attributes })) p (λ b. record b { label = None }) ≡ without_names s (BasicBlock p)
+pub block-unnamed : {K A T : Type 0} (s : ContextView K A T) (p : Ptr BasicBlockKind) → with_block_edit
+    (with_block_edit s p (λ b. record b { attributes = unnamed b.attributes })) p (λ b. record b { label = None }) ≡
+    without_names s (BasicBlock p)
 block-unnamed {A} s p =
     let clear : BlockView A → BlockView A = λ b. record b { attributes = unnamed b.attributes } in
     let plain : BlockView A → BlockView A = λ b. record b { label = None } in
@@ -97,9 +112,12 @@ block-unnamed {A} s p =
 module _ {K A T : Type 0} (s : ContextView K A T) where
   -- live nodes in one seat are one
   same-seat : (a b : IRNode) → IsLive s a → IsLive s b → seat_of a ≡ seat_of b → a ≡ b
-  same-seat (Operation p) (Operation q) l m e = ap Operation (ptr_one s.nodes.ops p q l m (let f : p.slot ≡ q.slot = cc in f))
-  same-seat (Region p) (Region q) l m e = ap Region (ptr_one s.nodes.regions p q l m (let f : p.slot ≡ q.slot = cc in f))
-  same-seat (BasicBlock p) (BasicBlock q) l m e = ap BasicBlock (ptr_one s.nodes.blocks p q l m (let f : p.slot ≡ q.slot = cc in f))
+  same-seat (Operation p) (Operation q) l m e = ap Operation (ptr_one s.nodes.ops p q l m
+      (let f : p.slot ≡ q.slot = cc in f))
+  same-seat (Region p) (Region q) l m e = ap Region (ptr_one s.nodes.regions p q l m
+      (let f : p.slot ≡ q.slot = cc in f))
+  same-seat (BasicBlock p) (BasicBlock q) l m e = ap BasicBlock (ptr_one s.nodes.blocks p q l m
+      (let f : p.slot ≡ q.slot = cc in f))
   same-seat (Operation p) (Region q) l m e = cc
   same-seat (Operation p) (BasicBlock q) l m e = cc
   same-seat (Region p) (Operation q) l m e = cc
@@ -108,7 +126,8 @@ module _ {K A T : Type 0} (s : ContextView K A T) where
   same-seat (BasicBlock p) (Region q) l m e = cc
 
   -- a node under a live one is live
-  under-live : (p : Place) (r n : IRNode) → IsForest (look s) → IsLive s r → node_at (children s) r p ≡ Some n → IsLive s n
+  under-live : (p : Place) (r n : IRNode) → IsForest (look s) → IsLive s r → node_at (children s) r p ≡ Some n → IsLive
+      s n
   under-live [] r n w l e = subst (IsLive s) (same_Some r n e) l
   under-live (i ∷ p) r n w l e =
       let z = and_then-some (λ c. node_at (children s) c p) (slice_get (children s r) i) n e in
@@ -125,17 +144,22 @@ module _ {K A T : Type 0} (s : ContextView K A T) where
   block-seat (BasicBlock p) i e = ap block (same_Some p.slot i e)
 
 -- the calls of a walk that takes the names of each node
-chain-unnamed : {K A T S B : Type 0} (P : Relation (ContextView K A T) S B) → ((c : ContextView K A T) (s : S) (n : IRNode) (a : _) (c' : ContextView K A T) (s' : S) → P c s n a c' s' → c' ≡ without_names c n)
-    → (calls : List (Call (ContextView K A T) S B)) (c : ContextView K A T) (s : S) (c' : ContextView K A T) (s' : S) → Chain P c s calls c' s' → c' ≡ all_unnamed c (nodes_of calls)
+chain-unnamed : {K A T S B : Type 0} (P : Relation (ContextView K A T) S B) → ((c : ContextView K A T) (s : S)
+    (n : IRNode) (a : _) (c' : ContextView K A T) (s' : S) → P c s n a c' s' → c' ≡ without_names c n)
+    → (calls : List (Call (ContextView K A T) S B)) (c : ContextView K A T) (s : S) (c' : ContextView K A T) (s' : S) →
+    Chain P c s calls c' s' → c' ≡ all_unnamed c (nodes_of calls)
 chain-unnamed P each [] c s c' s' h = h.0
-chain-unnamed P each (x ∷ xs) c s c' s' h = chain-unnamed P each xs x.after x.left c' s' h.3 ∙ ap (λ z. all_unnamed z (nodes_of xs)) (each x.before x.state x.node x.answer x.after x.left h.2 ∙ ap (λ z. without_names z x.node) h.0)
+chain-unnamed P each (x ∷ xs) c s c' s' h = chain-unnamed P each xs x.after x.left c' s' h.3 ∙ ap
+    (λ z. all_unnamed z (nodes_of xs)) (each x.before x.state x.node x.answer x.after x.left h.2 ∙ ap
+    (λ z. without_names z x.node) h.0)
 
 length-nodes : {C S B : Type 0} (calls : List (Call C S B)) → length (nodes_of calls) ≡ length calls
 length-nodes [] = refl
 length-nodes (x ∷ xs) = ap suc (length-nodes xs)
 
 -- each node under the root, and no other, lost its names once
-module _ {K A T : Type 0} (s : ContextView K A T) (w : IsForest (look s)) (r : IRNode) (l : IsLive s r) (ns : List IRNode) (d : Distinct ns)
+module _ {K A T : Type 0} (s : ContextView K A T) (w : IsForest (look s)) (r : IRNode) (l : IsLive s r)
+    (ns : List IRNode) (d : Distinct ns)
     (exactly : (n : IRNode) → (Has ns n → IsUnder (children s) r n) × (IsUnder (children s) r n → Has ns n)) where
   live-of : (n : IRNode) → Has ns n → IsLive s n
   live-of n h = let u = (exactly n).0 h in under-live s u.0 r n w l u.1
@@ -143,15 +167,24 @@ module _ {K A T : Type 0} (s : ContextView K A T) (w : IsForest (look s)) (r : I
   ops-apart : (a b : IRNode) (i : ℕ) → IsLive s a → IsLive s b → op_slot a ≡ Some i → op_slot b ≡ Some i → a ≡ b
   ops-apart a b i la lb e f = same-seat s a b la lb (op-seat s a i e ∙ sym (op-seat s b i f))
 
-  blocks-apart : (a b : IRNode) (i : ℕ) → IsLive s a → IsLive s b → block_slot a ≡ Some i → block_slot b ≡ Some i → a ≡ b
+  blocks-apart : (a b : IRNode) (i : ℕ) → IsLive s a → IsLive s b → block_slot a ≡ Some i → block_slot b ≡ Some i → a ≡
+      b
   blocks-apart a b i la lb e f = same-seat s a b la lb (block-seat s a i e ∙ sym (block-seat s b i f))
 
   unnamed-once : IsUnnamed s (at_once s ns) r
   unnamed-once = record {
-    ops_under = λ p u. refilled-here op_unnamed (picked op_slot ns) s.nodes.ops p.slot (Distinct-picked op_slot ns (λ a b i h k e f. ops-apart a b i (live-of a h) (live-of b k) e f) d) (Has-picked op_slot ns (Operation p) p.slot ((exactly (Operation p)).1 u) refl);
-    blocks_under = λ p u. refilled-here block_unnamed (picked block_slot ns) s.nodes.blocks p.slot (Distinct-picked block_slot ns (λ a b i h k e f. blocks-apart a b i (live-of a h) (live-of b k) e f) d) (Has-picked block_slot ns (BasicBlock p) p.slot ((exactly (BasicBlock p)).1 u) refl);
-    ops_apart = λ p live apart. refilled-apart op_unnamed (picked op_slot ns) s.nodes.ops p.slot (λ h. (let z = picked-Has op_slot ns p.slot h in apart ((exactly (Operation p)).0 (subst (Has ns) (ops-apart z.0 (Operation p) p.slot (live-of z.0 z.1) live z.2 refl) z.1))));
-    blocks_apart = λ p live apart. refilled-apart block_unnamed (picked block_slot ns) s.nodes.blocks p.slot (λ h. (let z = picked-Has block_slot ns p.slot h in apart ((exactly (BasicBlock p)).0 (subst (Has ns) (blocks-apart z.0 (BasicBlock p) p.slot (live-of z.0 z.1) live z.2 refl) z.1))));
+    ops_under = λ p u. refilled-here op_unnamed (picked op_slot ns) s.nodes.ops p.slot
+        (Distinct-picked op_slot ns (λ a b i h k e f. ops-apart a b i (live-of a h) (live-of b k) e f) d)
+        (Has-picked op_slot ns (Operation p) p.slot ((exactly (Operation p)).1 u) refl);
+    blocks_under = λ p u. refilled-here block_unnamed (picked block_slot ns) s.nodes.blocks p.slot
+        (Distinct-picked block_slot ns (λ a b i h k e f. blocks-apart a b i (live-of a h) (live-of b k) e f) d)
+        (Has-picked block_slot ns (BasicBlock p) p.slot ((exactly (BasicBlock p)).1 u) refl);
+    ops_apart = λ p live apart. refilled-apart op_unnamed (picked op_slot ns) s.nodes.ops p.slot
+        (λ h. (let z = picked-Has op_slot ns p.slot h in apart ((exactly (Operation p)).0
+        (subst (Has ns) (ops-apart z.0 (Operation p) p.slot (live-of z.0 z.1) live z.2 refl) z.1))));
+    blocks_apart = λ p live apart. refilled-apart block_unnamed (picked block_slot ns) s.nodes.blocks p.slot
+        (λ h. (let z = picked-Has block_slot ns p.slot h in apart ((exactly (BasicBlock p)).0
+        (subst (Has ns) (blocks-apart z.0 (BasicBlock p) p.slot (live-of z.0 z.1) live z.2 refl) z.1))));
     live = at_once-live s ns;
     children = at_once-children s ns;
     parents = at_once-parents s ns;
@@ -164,8 +197,11 @@ module _ {K A T : Type 0} (s : ContextView K A T) (w : IsForest (look s)) (r : I
   }
 
 -- What a walk leaves whose callback takes the names of each node.
-pub walk-unnamed : {K A T S : Type 0} (w : WalkConfig) (post : Relation (ContextView K A T) S (Unit {0})) (c : ContextView K A T) (s : S) (r : IRNode) (c' : ContextView K A T) (s' : S) (limit : ℕ) (result : Result (Unit {0}) CallLimit)
-    → Walked look w post c s r limit (plain_answer result) c' s' → ((d : ContextView K A T) (t : S) (n : IRNode) (a : _) (d' : ContextView K A T) (t' : S) → post d t n a d' t' → (a ≡ Continue Advance) × (d' ≡ without_names d n))
+pub walk-unnamed : {K A T S : Type 0} (w : WalkConfig) (post : Relation (ContextView K A T) S (Unit {0}))
+    (c : ContextView K A T) (s : S) (r : IRNode) (c' : ContextView K A T) (s' : S) (limit : ℕ)
+    (result : Result (Unit {0}) CallLimit)
+    → Walked look w post c s r limit (plain_answer result) c' s' → ((d : ContextView K A T) (t : S) (n : IRNode) (a : _)
+    (d' : ContextView K A T) (t' : S) → post d t n a d' t' → (a ≡ Continue Advance) × (d' ≡ without_names d n))
     → 2 ^ 32 ≤ limit + 1 → IsStanding c → IsLive c r → IsUnnamed c c' r
 walk-unnamed w post c s r c' s' limit result h each enough stands live = go result walk
   where
@@ -176,10 +212,12 @@ walk-unnamed w post c s r c' s' limit result h each enough stands live = go resu
     walk = h.unchanged (λ d t n a d' t' p. unnamed-shape d d' n (each d t n a d' t' p.made).1)
 
     once : Distinct (nodes_of h.calls)
-    once = Pairs-distinct (NodeBefore w (children c) r) (nodes_of h.calls) (total-order w (children c) r walk.in_order.one_place).irreflexive walk.in_order.increasing
+    once = Pairs-distinct (NodeBefore w (children c) r) (nodes_of h.calls) (total-order w (children c) r
+        walk.in_order.one_place).irreflexive walk.in_order.increasing
 
     left : c' ≡ at_once c (nodes_of h.calls)
-    left = chain-unnamed (IsCallUnder look r post) (λ d t n a d' t' p. (each d t n a d' t' p.made).1) h.calls c s c' s' h.chain ∙ unnamed-at_once c (nodes_of h.calls)
+    left = chain-unnamed (IsCallUnder look r post) (λ d t n a d' t' p. (each d t n a d' t' p.made).1) h.calls c s c' s'
+        h.chain ∙ unnamed-at_once c (nodes_of h.calls)
 
     not-shut : (n : IRNode) → IsShutOut w (children c) r h.calls n → ⊥
     not-shut n o =
@@ -189,8 +227,10 @@ walk-unnamed w post c s r c' s' limit result h each enough stands live = go resu
         let z : ⊥ = cc e in
         z
 
-    go : (x : Result (Unit {0}) CallLimit) → IsWalkWithin w (children c) r limit h.calls (plain_answer x) → IsUnnamed c c' r
-    go (Ok u) v = subst (λ z. IsUnnamed c z r) (sym left) (unnamed-once c forest r live (nodes_of h.calls) once (λ n. (v.in_order.under_root n, λ under. (v.answers.2 n).1 (under, not-shut n))))
+    go : (x : Result (Unit {0}) CallLimit) → IsWalkWithin w (children c) r limit h.calls (plain_answer x) → IsUnnamed c
+        c' r
+    go (Ok u) v = subst (λ z. IsUnnamed c z r) (sym left) (unnamed-once c forest r live (nodes_of h.calls) once
+        (λ n. (v.in_order.under_root n, λ under. (v.answers.2 n).1 (under, not-shut n))))
     go (Err x) v =
         let missed = v.answers.3 in
         let more = stands.measured.counted (missed.0 ∷ nodes_of h.calls) (missed.2, once) (λ n k. elim k [

@@ -27,7 +27,7 @@ left_from ns None = 0
 left_from [] (Some p) = 0
 left_from (n ∷ ns) (Some p) = cond (same n (Operation p)) (suc (length ns)) (left_from ns (Some p))
 
-same_ptr_tells : {T : Type 0} (p q : Ptr T) → ((same_ptr p q ≡ true) × (p ≡ q)) ⊎ ((same_ptr p q ≡ false) × (p ≢ q))
+pub same_ptr_tells : {T : Type 0} (p q : Ptr T) → ((same_ptr p q ≡ true) × (p ≡ q)) ⊎ ((same_ptr p q ≡ false) × (p ≢ q))
 same_ptr_tells p q = elim (eqb_tells p.slot q.slot) [
   | inl s ↦ elim (eqb_tells p.version q.version) [
     | inl v ↦ inl

@@ -81,7 +81,8 @@ impl<D: OpSet> OpData<D> {
         attributes: AttributeDict<D>,
         num_regions: usize,
     ) -> Result<OpData<D>, NodeErr>
-        ensures held { IfOk result (λ o. o ≡ op_view kind result_types.items operands.items successors.items attributes) }
+        ensures held { IfOk result
+            (λ o. o ≡ op_view kind result_types.items operands.items successors.items attributes) }
         ensures too_many { (result ≡ Err NodeErr.TooManyNodes) ↔
             (nodes.now.limit < num_nodes nodes.now + 1 + num_regions) }
     {

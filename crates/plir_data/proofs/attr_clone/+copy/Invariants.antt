@@ -8,4 +8,5 @@ abbrev pub invariant-copy_of_items-items : goal.invariant-copy_of_items-items
 invariant-copy_of_items-items g l = map attr_view l.copies.items ≡ map attr_view (take l.item-index l.item-items)
 
 abbrev pub invariant-copy_of_dict-entries : goal.invariant-copy_of_dict-entries
-invariant-copy_of_dict-entries g l = (pairs_view l.entries.items ++ pairs_view l.key-iterator ≡ l.dict) × (entries_bulk (pairs_view l.key-iterator) ≤ entries_bulk l.dict)
+invariant-copy_of_dict-entries g l = (pairs_view l.entries.items ++ pairs_view l.key-iterator ≡ l.dict) ×
+    (entries_bulk (pairs_view l.key-iterator) ≤ entries_bulk l.dict)

@@ -14,4 +14,5 @@ VecAttr::verify-returns g t c =
     let nothing : drop l.item-index items ≡ [] = drop_of_length-le items (omega (arith, c.items-test.false)) in
     let left : items_are_valid valid types (items_of (map attr_view (drop l.item-index items))) ≡ true =
     ap (λ xs. items_are_valid valid types (items_of (map attr_view xs))) nothing in
-    ap (λ xs. items_are_valid valid types (items_of xs)) (sym (ap (map attr_view) c.as_slice-items.ensures.value ∙ c.self.view_is)) ∙ l.invariant.1 (Ok tt) left
+    ap (λ xs. items_are_valid valid types (items_of xs)) (sym (ap (map attr_view) c.as_slice-items.ensures.value ∙
+    c.self.view_is)) ∙ l.invariant.1 (Ok tt) left

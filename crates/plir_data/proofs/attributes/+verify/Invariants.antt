@@ -16,5 +16,8 @@ invariant-VecAttr::verify-items g l =
     let refusal = g.D.OpSet.attr_refusal types in
     let left = items_of (map attr_view (drop l.item-index l.items)) in
     let all = items_of (map attr_view l.items) in (
-    AreItemsLive g.D.OpSet.attr_handles types left × ((r : Result (Unit {0}) (VerifyErr (AttrVerifyErr g.row.D-Err.Denot))) → IsVerdict (items_are_valid valid types left) (IsFirstRefusal valid refusal types left) r → IsVerdict (items_are_valid valid types all) (IsFirstRefusal valid refusal types all) r)
+    AreItemsLive g.D.OpSet.attr_handles types left × ((r : Result (Unit {0}) (VerifyErr
+    (AttrVerifyErr g.row.D-Err.Denot))) → IsVerdict (items_are_valid valid types left)
+    (IsFirstRefusal valid refusal types left) r → IsVerdict (items_are_valid valid types all)
+    (IsFirstRefusal valid refusal types all) r)
     )

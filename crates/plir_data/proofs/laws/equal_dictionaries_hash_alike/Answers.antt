@@ -12,8 +12,10 @@ returns-clause-equal g c =
     let own_eq = g.D.Attr.PartialEq.eq in
     let one = c.args.one.now in
     let other = c.args.other.now in (
-      λ yes. same_list one other (same_entries own_eq g.met.D.OpSet.attr_eq_exact (entries_of one) (entries_of other) (sym c.eq.ensures ∙ yes)),
-      λ same. c.eq.ensures ∙ ap (λ d. entries_eq own_eq (entries_of one) (entries_of d)) (sym same) ∙ entries_itself own_eq g.met.D.Attr.Eq.laws.refl (entries_of one),
+      λ yes. same_list one other (same_entries own_eq g.met.D.OpSet.attr_eq_exact (entries_of one) (entries_of other)
+          (sym c.eq.ensures ∙ yes)),
+      λ same. c.eq.ensures ∙ ap (λ d. entries_eq own_eq (entries_of one) (entries_of d)) (sym same) ∙ entries_itself
+          own_eq g.met.D.Attr.Eq.laws.refl (entries_of one),
     )
 
 pub returns-clause-alike : goal.returns-clause-alike
@@ -22,5 +24,7 @@ returns-clause-alike g c = λ yes begin.
     let one = c.args.one.now in
     let other = c.args.other.now in
     let words = λ (d : _). entries_words g.D.Attr.Hash.hash_input (entries_of d) in
-    let same = same_list one other (same_entries own_eq g.met.D.OpSet.attr_eq_exact (entries_of one) (entries_of other) (sym c.eq.ensures ∙ yes)) in
-    c.hash.ensures ∙ ap (λ s. fold g.H.Hasher.write s (words one)) begin ∙ ap (λ d. fold g.H.Hasher.write c.args.second.now (words d)) same ∙ sym c.hash-2.ensures
+    let same = same_list one other (same_entries own_eq g.met.D.OpSet.attr_eq_exact (entries_of one) (entries_of other)
+    (sym c.eq.ensures ∙ yes)) in
+    c.hash.ensures ∙ ap (λ s. fold g.H.Hasher.write s (words one)) begin ∙ ap (λ d. fold g.H.Hasher.write
+    c.args.second.now (words d)) same ∙ sym c.hash-2.ensures

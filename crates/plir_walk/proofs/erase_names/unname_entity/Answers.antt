@@ -6,4 +6,6 @@ use Rattle.plir_walk.proofs.NamedStores.{attributes-live}
 use Rattle.plir_walk.proofs.erase_names.unname_entity.Goals as goal
 
 pub returns-then-not-has_other-clause-live : goal.returns-then-not-has_other-clause-live
-returns-then-not-has_other-clause-live g c = subst (λ z. IsLive z (entity_node c.args.entity)) (sym c.remove_attr.ensures.after) (attributes-live c.args.ctx.now c.args.entity (λ es. dict_without es names_key) c.requires)
+returns-then-not-has_other-clause-live g c = subst (λ z. IsLive z (entity_node c.args.entity))
+    (sym c.remove_attr.ensures.after) (attributes-live c.args.ctx.now c.args.entity (λ es. dict_without es names_key)
+    c.requires)

@@ -1,4 +1,6 @@
-use Rattle.plir_walk.proofs.ChangedSoFar.{changed-begun, changed-lawful, changed-made, changed-refused, changed-region, changed-unlinked, changed-placed, changed-erased, changed-op-edit, changed-block-edit, unlinked-under}
+use Rattle.plir_walk.proofs.ChangedSoFar.{changed-begun, changed-lawful, changed-made, changed-refused, changed-region}
+use Rattle.plir_walk.proofs.ChangedSoFar.{changed-unlinked, changed-placed, changed-erased, changed-op-edit}
+use Rattle.plir_walk.proofs.ChangedSoFar.{changed-block-edit, unlinked-under}
 use Rattle.plir_walk.proofs.laws.changes_below_compose.Goals as goal
 use Rattle.plir_core.specs.Forest.{look}
 

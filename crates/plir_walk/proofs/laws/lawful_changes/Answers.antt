@@ -1,4 +1,6 @@
-use Rattle.plir_walk.proofs.Lawfulness.{lawful-none, lawful-then, lawful-stays, lawful-refused, lawful-placed, lawful-region, lawful-erased, op-edit-lawful, block-edit-lawful, op-edit-shape, block-edit-shape}
+use Rattle.plir_walk.proofs.Lawfulness.{lawful-none, lawful-then, lawful-stays, lawful-refused, lawful-placed}
+use Rattle.plir_walk.proofs.Lawfulness.{lawful-region, lawful-erased, op-edit-lawful, block-edit-lawful, op-edit-shape}
+use Rattle.plir_walk.proofs.Lawfulness.{block-edit-shape}
 use Rattle.plir_walk.proofs.LawfulAbove.{lawful-above}
 use Rattle.plir_walk.proofs.laws.lawful_changes.Goals as goal
 use Rattle.plir_core.specs.Forest.{look}

@@ -36,12 +36,18 @@ pub returns-in-Ok-clause-ok : goal.returns-in-Ok-clause-ok
 returns-in-Ok-clause-ok g c =
     let taken = sym (ap (option_map (λ ns. leaf (given_names ns))) c.in-Some.is) ∙ c.in_ok-names.ensures.taken in
     let after = c.in_ok-names.ensures.after (subst IsSome (sym c.in-Some.is) refl) in
-    let placed = c.in-Ok.ensures.ok ∙ ap (λ z. placed_name c.args.placing z c.args.i c.args.name) (c.names_mut.ensures.names ∙ sym (taken-names c.args.ctx.now c.take_names.new.ctx c.args.entity c.in-Some.names taken after)) in
-    c.put_back.ensures.after ∙ names-put c.args.ctx.now c.take_names.new.ctx c.args.entity c.in-Some.names taken after c.take_names.ensures.ascending c.place_name.new.names.items ∙ ap (with_names c.args.ctx.now c.args.entity) placed
+    let placed = c.in-Ok.ensures.ok ∙ ap (λ z. placed_name c.args.placing z c.args.i c.args.name)
+    (c.names_mut.ensures.names ∙ sym (taken-names c.args.ctx.now c.take_names.new.ctx c.args.entity c.in-Some.names
+    taken after)) in
+    c.put_back.ensures.after ∙ names-put c.args.ctx.now c.take_names.new.ctx c.args.entity c.in-Some.names taken after
+    c.take_names.ensures.ascending c.place_name.new.names.items ∙ ap (with_names c.args.ctx.now c.args.entity)
+    placed
 
 pub returns-in-Err-clause-err : goal.returns-in-Err-clause-err
 returns-in-Err-clause-err g c =
     let taken = sym (ap (option_map (λ ns. leaf (given_names ns))) c.in-Some.is) ∙ c.in_ok-names.ensures.taken in
     let after = c.in_ok-names.ensures.after (subst IsSome (sym c.in-Some.is) refl) in
     let same = c.in-Err.ensures.err ∙ c.names_mut.ensures.names in
-    c.restore_names.ensures.after ∙ ap (λ z. with_attributes c.take_names.new.ctx c.args.entity (λ es. dict_put es names_key (leaf (given_names z)))) same ∙ names-restored c.args.ctx.now c.take_names.new.ctx c.args.entity c.in-Some.names taken after c.take_names.ensures.ascending
+    c.restore_names.ensures.after ∙ ap (λ z. with_attributes c.take_names.new.ctx c.args.entity
+    (λ es. dict_put es names_key (leaf (given_names z)))) same ∙ names-restored c.args.ctx.now c.take_names.new.ctx
+    c.args.entity c.in-Some.names taken after c.take_names.ensures.ascending

@@ -22,11 +22,17 @@ pub returns-in-Some-clause-ok : goal.returns-in-Some-clause-ok
 returns-in-Some-clause-ok g c =
     let taken = sym (ap (option_map (λ ns. leaf (given_names ns))) c.in-Some.is) ∙ c.in_ok-names.ensures.taken in
     let after = c.in_ok-names.ensures.after (subst IsSome (sym c.in-Some.is) refl) in
-    let removed = c.remove_from.ensures ∙ ap (λ z. remove_name z c.args.i) (c.names_mut.ensures.names ∙ sym (taken-names c.args.ctx.now c.take_names.new.ctx c.args.entity c.in-Some.names taken after)) in
-    c.put_back.ensures.after ∙ names-put c.args.ctx.now c.take_names.new.ctx c.args.entity c.in-Some.names taken after c.take_names.ensures.ascending c.remove_from.new.names.items ∙ ap (with_names c.args.ctx.now c.args.entity) removed
+    let removed = c.remove_from.ensures ∙ ap (λ z. remove_name z c.args.i) (c.names_mut.ensures.names ∙ sym
+    (taken-names c.args.ctx.now c.take_names.new.ctx c.args.entity c.in-Some.names taken after)) in
+    c.put_back.ensures.after ∙ names-put c.args.ctx.now c.take_names.new.ctx c.args.entity c.in-Some.names taken after
+    c.take_names.ensures.ascending c.remove_from.new.names.items ∙ ap (with_names c.args.ctx.now c.args.entity)
+    removed
 
 pub returns-in_default-clause-ok : goal.returns-in_default-clause-ok
 returns-in_default-clause-ok g c =
     let absent = sym c.in_ok-names.ensures.taken ∙ ap (option_map (λ ns. leaf (given_names ns))) c.in_default.is in
-    let none = ap (λ z. remove_name z c.args.i) (no-names c.args.ctx.now c.args.entity absent) ∙ remove-past [] c.args.i (omega arith) in
-    c.take_names.ensures.absent (c.in_ok-names.was ∙ ap (λ z. Ok z) c.in_default.is) ∙ sym (names-unset c.args.ctx.now c.args.entity absent (remove_name (names_at c.args.ctx.now c.args.entity) c.args.i) (ap all_unset none))
+    let none = ap (λ z. remove_name z c.args.i) (no-names c.args.ctx.now c.args.entity absent) ∙ remove-past [] c.args.i
+    (omega arith) in
+    c.take_names.ensures.absent (c.in_ok-names.was ∙ ap (λ z. Ok z) c.in_default.is) ∙ sym
+    (names-unset c.args.ctx.now c.args.entity absent (remove_name (names_at c.args.ctx.now c.args.entity) c.args.i)
+    (ap all_unset none))

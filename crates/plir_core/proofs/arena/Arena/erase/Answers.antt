@@ -2,40 +2,51 @@ use Rattle.std.proofs.Common.{◌≡◌, sym, ◌∙◌, subst, rules}
 use Rattle.plir_core.specs.Stored.{IsStored}
 use Rattle.plir_core.specs.Erase.{IsErased}
 use Rattle.plir_core.proofs.arena.Arena.erase.Goals as goal
-use Rattle.plir_core.proofs.Erasures.{IsErasing-start, IsErasing-down, IsErasing-up, IsErasing-over, IsErasing-end, work-down, work-up}
+use Rattle.plir_core.proofs.Erasures.{IsErasing-start, IsErasing-down, IsErasing-up, IsErasing-over, IsErasing-end}
+use Rattle.plir_core.proofs.Erasures.{work-down, work-up}
 use Rattle.plir_core.proofs.Loss.{IsErased-tree}
 
 pub loop-child-init : goal.loop-child-init
-loop-child-init g c = IsErasing-start c.args.self.now c.args.root (subst IsStored c.self.view_is c.self.invariant) c.requires
+loop-child-init g c = IsErasing-start c.args.self.now c.args.root (subst IsStored c.self.view_is c.self.invariant)
+    c.requires
 
 pub loop-child-smaller-in-Some : goal.loop-child-smaller-in-Some
 loop-child-smaller-in-Some g c =
-    work-down c.args.self.now c.loop-child.self c.args.root c.loop-child.at c.in-Some.child c.loop-child.invariant (sym c.first_child.ensures ∙ c.in-Some.is)
+    work-down c.args.self.now c.loop-child.self c.args.root c.loop-child.at c.in-Some.child c.loop-child.invariant
+    (sym c.first_child.ensures ∙ c.in-Some.is)
 
 pub loop-child-preserved-in-Some : goal.loop-child-preserved-in-Some
 loop-child-preserved-in-Some g c =
-    IsErasing-down c.args.self.now c.loop-child.self c.args.root c.loop-child.at c.in-Some.child c.loop-child.invariant (sym c.first_child.ensures ∙ c.in-Some.is)
+    IsErasing-down c.args.self.now c.loop-child.self c.args.root c.loop-child.at c.in-Some.child c.loop-child.invariant
+    (sym c.first_child.ensures ∙ c.in-Some.is)
 
 pub returns-then-eq-clause-after : goal.returns-then-eq-clause-after
 returns-then-eq-clause-after g c =
     let at_root : c.loop-child.at ≡ c.args.root = search rules in
-    c.free.ensures.after ∙ IsErasing-end c.args.self.now c.loop-child.self c.args.root c.loop-child.at c.loop-child.invariant (sym c.first_child.ensures ∙ c.in-None.is) at_root
+    c.free.ensures.after ∙ IsErasing-end c.args.self.now c.loop-child.self c.args.root c.loop-child.at
+    c.loop-child.invariant (sym c.first_child.ensures ∙ c.in-None.is) at_root
 
 pub returns-then-eq-clause-tree : goal.returns-then-eq-clause-tree
 returns-then-eq-clause-tree g c =
-    subst (λ t. IsErased c.args.self.now t c.args.root) (sym (returns-then-eq-clause-after g c)) (IsErased-tree c.args.self.now (subst IsStored c.self.view_is c.self.invariant) c.args.root c.requires)
+    subst (λ t. IsErased c.args.self.now t c.args.root) (sym (returns-then-eq-clause-after g c))
+    (IsErased-tree c.args.self.now (subst IsStored c.self.view_is c.self.invariant) c.args.root c.requires)
 
 pub loop-child-smaller : goal.loop-child-smaller
 loop-child-smaller g c =
     let below : c.loop-child.at ≡ c.args.root → ⊥ = search rules in
-    rw c.free.ensures.after (work-up c.args.self.now c.loop-child.self c.args.root c.loop-child.at c.in-Some-over.parent c.loop-child.invariant (sym c.first_child.ensures ∙ c.in-None.is) below (sym c.parent-over.ensures ∙ c.in-Some-over.is))
+    rw c.free.ensures.after (work-up c.args.self.now c.loop-child.self c.args.root c.loop-child.at c.in-Some-over.parent
+    c.loop-child.invariant (sym c.first_child.ensures ∙ c.in-None.is) below (sym c.parent-over.ensures ∙
+    c.in-Some-over.is))
 
 pub loop-child-preserved : goal.loop-child-preserved
 loop-child-preserved g c =
     let below : c.loop-child.at ≡ c.args.root → ⊥ = search rules in
-    rw c.free.ensures.after (IsErasing-up c.args.self.now c.loop-child.self c.args.root c.loop-child.at c.in-Some-over.parent c.loop-child.invariant (sym c.first_child.ensures ∙ c.in-None.is) below (sym c.parent-over.ensures ∙ c.in-Some-over.is))
+    rw c.free.ensures.after (IsErasing-up c.args.self.now c.loop-child.self c.args.root c.loop-child.at
+    c.in-Some-over.parent c.loop-child.invariant (sym c.first_child.ensures ∙ c.in-None.is) below
+    (sym c.parent-over.ensures ∙ c.in-Some-over.is))
 
 pub unreachable-requires : goal.unreachable-requires
 unreachable-requires g c =
     let below : c.loop-child.at ≡ c.args.root → ⊥ = search rules in
-    IsErasing-over c.args.self.now c.loop-child.self c.args.root c.loop-child.at c.loop-child.invariant below (sym c.parent-over.ensures ∙ c.in-None-over.is)
+    IsErasing-over c.args.self.now c.loop-child.self c.args.root c.loop-child.at c.loop-child.invariant below
+    (sym c.parent-over.ensures ∙ c.in-None-over.is)

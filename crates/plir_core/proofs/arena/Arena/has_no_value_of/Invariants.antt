@@ -5,4 +5,5 @@ use Rattle.plir_core.proofs.Ancestors.{AllSoFar}
 use Rattle.plir_core.proofs.arena.Arena.has_no_value_of.Given as goal
 
 abbrev pub invariant-loop-value : goal.invariant-loop-value
-invariant-loop-value g l = AllSoFar (λ v. Reaches (node_parent l.self) (entity_node v.entity) l.root → ⊥) l.values l.value-index
+invariant-loop-value g l = AllSoFar (λ v. Reaches (node_parent l.self) (entity_node v.entity) l.root → ⊥) l.values
+    l.value-index

@@ -5,7 +5,9 @@ use Rattle.plir_core.proofs.Moves.{op_put}
 
 pub invariant_of-self : goal.invariant_of-self
 invariant_of-self g c =
-    op_put _ c.args.self.now c.self.view_is c.self.invariant with_first IsMoved-first c.args.op c.args.target _ c.requires.op_live c.requires.target_live c.requires.not_above c.push_front.ensures.after c.push_front.ensures.agreed
+    op_put _ c.args.self.now c.self.view_is c.self.invariant with_first IsMoved-first c.args.op c.args.target _
+    c.requires.op_live c.requires.target_live c.requires.not_above c.push_front.ensures.after
+    c.push_front.ensures.agreed
 
 pub returns-clause-stored : goal.returns-clause-stored
 returns-clause-stored g c = invariant_of-self g c

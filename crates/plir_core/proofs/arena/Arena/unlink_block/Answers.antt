@@ -3,7 +3,8 @@ use Rattle.plir_core.proofs.Moves.{block_unlinked}
 
 pub invariant_of-self : goal.invariant_of-self
 invariant_of-self g c =
-    block_unlinked _ c.args.self.now c.self.view_is c.self.invariant c.args.block _ c.requires c.remove.ensures.after c.remove.ensures.agreed
+    block_unlinked _ c.args.self.now c.self.view_is c.self.invariant c.args.block _ c.requires c.remove.ensures.after
+    c.remove.ensures.agreed
 
 pub returns-clause-stored : goal.returns-clause-stored
 returns-clause-stored g c = invariant_of-self g c

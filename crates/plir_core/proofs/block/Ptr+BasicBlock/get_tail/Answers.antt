@@ -3,7 +3,9 @@ use Rattle.plir_core.proofs.block.Ptr+BasicBlock.get_tail.Goals as goal
 use Rattle.plir_core.proofs.Answered.{last_told, last_stands}
 
 pub returns-clause-live : goal.returns-clause-live
-returns-clause-live g c = last_told g.D.OpSet.attr_handles _ c.args.ctx.now c.ctx.view_is c.ctx.invariant.whole Operation c.last_op.result (BasicBlock c.args.self) c.last_op.ensures
+returns-clause-live g c = last_told g.D.OpSet.attr_handles _ c.args.ctx.now c.ctx.view_is c.ctx.invariant.whole
+    Operation c.last_op.result (BasicBlock c.args.self) c.last_op.ensures
 
 pub returns-clause-here : goal.returns-clause-here
-returns-clause-here g c = last_stands g.D.OpSet.attr_handles _ c.args.ctx.now c.ctx.view_is c.ctx.invariant.whole Operation c.last_op.result (BasicBlock c.args.self) c.last_op.ensures
+returns-clause-here g c = last_stands g.D.OpSet.attr_handles _ c.args.ctx.now c.ctx.view_is c.ctx.invariant.whole
+    Operation c.last_op.result (BasicBlock c.args.self) c.last_op.ensures

@@ -6,7 +6,15 @@ use Rattle.plir_core.proofs.Holds.{block_attr_set}
 pub invariant_of-ctx : goal.invariant_of-ctx
 invariant_of-ctx g c =
     record {
-      whole = block_attr_set g.D.OpSet.attr_handles _ c.args.ctx.now c.ctx.view_is c.ctx.invariant.whole c.args.self (record { label = c.behind-ctx.inside.label; arg_types = c.behind-ctx.inside.arg_types; attributes = c.behind-ctx.inside.attributes }) c.insert.new.self c.args.key (attr_view c.args.value) c.requires.live (c.block_mut.ensures.value ∙ ap (λ z. Some z) (sym c.behind-ctx.view_is)) (inr c.in_err-insert.ensures.err) c.requires.handles;
+      whole = block_attr_set g.D.OpSet.attr_handles _ c.args.ctx.now c.ctx.view_is c.ctx.invariant.whole c.args.self
+          (record {
+            label = c.behind-ctx.inside.label;
+            arg_types = c.behind-ctx.inside.arg_types;
+            attributes =
+                c.behind-ctx.inside.attributes;
+          }) c.insert.new.self c.args.key (attr_view c.args.value) c.requires.live
+          (c.block_mut.ensures.value ∙ ap (λ z. Some z) (sym c.behind-ctx.view_is)) (inr c.in_err-insert.ensures.err)
+          c.requires.handles;
       counted = c.ctx.invariant.counted;
     }
 
@@ -16,7 +24,15 @@ returns-in_err-insert-clause-whole g c = (invariant_of-ctx g c).whole
 pub invariant_of-ctx-2 : goal.invariant_of-ctx-2
 invariant_of-ctx-2 g c =
     record {
-      whole = block_attr_set g.D.OpSet.attr_handles _ c.args.ctx.now c.ctx.view_is c.ctx.invariant.whole c.args.self (record { label = c.behind-ctx.inside.label; arg_types = c.behind-ctx.inside.arg_types; attributes = c.behind-ctx.inside.attributes }) c.insert.new.self c.args.key (attr_view c.args.value) c.requires.live (c.block_mut.ensures.value ∙ ap (λ z. Some z) (sym c.behind-ctx.view_is)) (inl c.in_ok-insert.ensures.ok) c.requires.handles;
+      whole = block_attr_set g.D.OpSet.attr_handles _ c.args.ctx.now c.ctx.view_is c.ctx.invariant.whole c.args.self
+          (record {
+            label = c.behind-ctx.inside.label;
+            arg_types = c.behind-ctx.inside.arg_types;
+            attributes =
+                c.behind-ctx.inside.attributes;
+          }) c.insert.new.self c.args.key (attr_view c.args.value) c.requires.live
+          (c.block_mut.ensures.value ∙ ap (λ z. Some z) (sym c.behind-ctx.view_is)) (inl c.in_ok-insert.ensures.ok)
+          c.requires.handles;
       counted = c.ctx.invariant.counted;
     }
 

@@ -8,8 +8,13 @@ use Rattle.plir_core.proofs.ValueUses.{no_operand}
 use Rattle.plir_core.proofs.context.Context.is_operand_in_slot.Goals as goal
 
 pub returns-in-None : goal.returns-in-None
-returns-in-None g c = (λ t. absurd (let f : ⊥ = cc in f), λ h. absurd (no_operand _ c.args.self.now c.self.view_is c.args.value c.args.slot (c.op_in_slot.ensures.none c.in-None.is) h))
+returns-in-None g c = (
+  λ t. absurd (let f : ⊥ = cc in f),
+  λ h. absurd (no_operand _ c.args.self.now c.self.view_is
+      c.args.value c.args.slot (c.op_in_slot.ensures.none c.in-None.is) h),
+)
 
 pub returns-in-Some : goal.returns-in-Some
 returns-in-Some g c =
-    subst (λ i. IsTrue c.has_operand.result ↔ Contains (operands_in (content_at c.args.self.now.nodes.ops i)) c.args.value) (ap (λ (z : Ptr OperationKind). z.slot) c.in-Some.ensures.here) c.has_operand.ensures
+    subst (λ i. IsTrue c.has_operand.result ↔ Contains (operands_in (content_at c.args.self.now.nodes.ops i))
+    c.args.value) (ap (λ (z : Ptr OperationKind). z.slot) c.in-Some.ensures.here) c.has_operand.ensures

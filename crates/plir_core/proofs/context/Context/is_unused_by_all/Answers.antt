@@ -14,6 +14,8 @@ loop-slot-preserved g c =
 pub returns : goal.returns
 returns g c = (
   λ t. IsUnusedBelow-all c.args.self.now c.args.root c.loop-slot.slot
-      (let same = ap (λ (z : ContextView g.row.D-Kind.Denot g.row.D-Attr.Denot g.row.D-Ty.Denot). length z.nodes.ops.slots) c.self.view_is in omega (arith, same, c.num_op_slots-slot-end.ensures)) c.loop-slot.invariant,
+      (let same = ap (λ (z : ContextView g.row.D-Kind.Denot g.row.D-Attr.Denot g.row.D-Ty.Denot). length
+      z.nodes.ops.slots) c.self.view_is in omega (arith, same, c.num_op_slots-slot-end.ensures))
+      c.loop-slot.invariant,
   λ u. refl,
 )

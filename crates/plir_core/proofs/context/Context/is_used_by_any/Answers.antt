@@ -15,7 +15,8 @@ loop-slot-preserved g c =
 
 pub returns-then-is_operand_in_slot : goal.returns-then-is_operand_in_slot
 returns-then-is_operand_in_slot g c = (
-  λ t. HasUses-at c.args.self.now c.args.value c.loop-slot.slot (c.is_operand_in_slot.ensures.0 c.if-is_operand_in_slot.true),
+  λ t. HasUses-at c.args.self.now c.args.value c.loop-slot.slot (c.is_operand_in_slot.ensures.0
+      c.if-is_operand_in_slot.true),
   λ h. refl,
 )
 
@@ -23,5 +24,6 @@ pub returns : goal.returns
 returns g c = (
   λ t. absurd (let f : ⊥ = cc in f),
   λ h. absurd (HasUses-none c.args.self.now c.args.value c.loop-slot.slot c.loop-slot.invariant
-      (let same = ap (λ (z : ContextView g.row.D-Kind.Denot g.row.D-Attr.Denot g.row.D-Ty.Denot). length z.nodes.ops.slots) c.self.view_is in omega (arith, same, c.num_op_slots-slot-end.ensures)) h),
+      (let same = ap (λ (z : ContextView g.row.D-Kind.Denot g.row.D-Attr.Denot g.row.D-Ty.Denot). length
+      z.nodes.ops.slots) c.self.view_is in omega (arith, same, c.num_op_slots-slot-end.ensures)) h),
 )

@@ -3,7 +3,9 @@ use Rattle.plir_core.proofs.operation.Ptr+Operation.get_prev.Goals as goal
 use Rattle.plir_core.proofs.Answered.{prev_told, prev_shares}
 
 pub returns-clause-live : goal.returns-clause-live
-returns-clause-live g c = prev_told g.D.OpSet.attr_handles _ c.args.ctx.now c.ctx.view_is c.ctx.invariant.whole Operation c.prev_op.result (Operation c.args.self) c.prev_op.ensures
+returns-clause-live g c = prev_told g.D.OpSet.attr_handles _ c.args.ctx.now c.ctx.view_is c.ctx.invariant.whole
+    Operation c.prev_op.result (Operation c.args.self) c.prev_op.ensures
 
 pub returns-clause-beside : goal.returns-clause-beside
-returns-clause-beside g c = prev_shares g.D.OpSet.attr_handles _ c.args.ctx.now c.ctx.view_is c.ctx.invariant.whole Operation c.prev_op.result (Operation c.args.self) c.prev_op.ensures
+returns-clause-beside g c = prev_shares g.D.OpSet.attr_handles _ c.args.ctx.now c.ctx.view_is c.ctx.invariant.whole
+    Operation c.prev_op.result (Operation c.args.self) c.prev_op.ensures

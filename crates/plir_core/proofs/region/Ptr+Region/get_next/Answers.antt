@@ -3,7 +3,9 @@ use Rattle.plir_core.proofs.region.Ptr+Region.get_next.Goals as goal
 use Rattle.plir_core.proofs.Answered.{next_told, next_shares}
 
 pub returns-clause-live : goal.returns-clause-live
-returns-clause-live g c = next_told g.D.OpSet.attr_handles _ c.args.ctx.now c.ctx.view_is c.ctx.invariant.whole Region c.next_region.result (Region c.args.self) c.next_region.ensures
+returns-clause-live g c = next_told g.D.OpSet.attr_handles _ c.args.ctx.now c.ctx.view_is c.ctx.invariant.whole Region
+    c.next_region.result (Region c.args.self) c.next_region.ensures
 
 pub returns-clause-beside : goal.returns-clause-beside
-returns-clause-beside g c = next_shares g.D.OpSet.attr_handles _ c.args.ctx.now c.ctx.view_is c.ctx.invariant.whole Region c.next_region.result (Region c.args.self) c.next_region.ensures
+returns-clause-beside g c = next_shares g.D.OpSet.attr_handles _ c.args.ctx.now c.ctx.view_is c.ctx.invariant.whole
+    Region c.next_region.result (Region c.args.self) c.next_region.ensures

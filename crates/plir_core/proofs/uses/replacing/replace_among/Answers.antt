@@ -13,10 +13,14 @@ loop-place-preserved c =
     let n = c.loop-place.place in
     let at = c.index.result.now in
     let e = c.len-place-end.ensures in
-    let seen : at ≡ get_or xs n at = c.index.ensures ∙ ap (λ l. get_or l n at) c.loop-place.invariant ∙ mapped-rest (replaced c.args.value c.args.other) xs n n at (omega arith) in
+    let seen : at ≡ get_or xs n at = c.index.ensures ∙ ap (λ l. get_or l n at) c.loop-place.invariant ∙ mapped-rest
+    (replaced c.args.value c.args.other) xs n n at (omega arith) in
     ap (λ l. slice_set l n c.in_place_of.result) c.loop-place.invariant
-    ∙ mapped-next (replaced c.args.value c.args.other) xs n at c.in_place_of.result (omega (arith, e, c.loop-place-test.true)) (c.in_place_of.ensures ∙ ap (replaced c.args.value c.args.other) seen)
+    ∙ mapped-next (replaced c.args.value c.args.other) xs n at c.in_place_of.result
+    (omega (arith, e, c.loop-place-test.true)) (c.in_place_of.ensures ∙ ap (replaced c.args.value c.args.other)
+    seen)
 
 pub returns : goal.returns
 returns c =
-    c.loop-place.invariant ∙ mapped-all (replaced c.args.value c.args.other) c.args.values.now.items c.loop-place.place (let e = c.len-place-end.ensures in omega (arith, e, c.loop-place-test.false))
+    c.loop-place.invariant ∙ mapped-all (replaced c.args.value c.args.other) c.args.values.now.items c.loop-place.place
+    (let e = c.len-place-end.ensures in omega (arith, e, c.loop-place-test.false))

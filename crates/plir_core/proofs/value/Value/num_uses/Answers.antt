@@ -6,6 +6,7 @@ use Rattle.plir_core.proofs.value.Value.num_uses.Goals as goal
 
 pub returns-then-is_known_unused-clause-value : goal.returns-then-is_known_unused-clause-value
 returns-then-is_known_unused-clause-value g c =
-    let not = subst (λ n. is_not_used c.args.ctx.now n ≡ true) (c.node.ensures ∙ ap entity_node c.defining_entity.ensures) (c.is_known_unused.ensures c.if-is_known_unused.true) in
+    let not = subst (λ n. is_not_used c.args.ctx.now n ≡ true) (c.node.ensures ∙ ap entity_node
+    c.defining_entity.ensures) (c.is_known_unused.ensures c.if-is_known_unused.true) in
     let e = none_used c.args.ctx.now c.args.self not in
     omega arith

@@ -5,4 +5,5 @@ use Rattle.plir_data.proofs.attributes.DictAttr.new.Given as goal
 
 abbrev pub invariant-loop-key : goal.invariant-loop-key
 invariant-loop-key g l =
-    dict_put_all l.dict (map (λ p. (p.0, attr_view p.1)) l.key-iterator.rest.items) ≡ dict_of (map (λ p. (p.0, attr_view p.1)) l.fn.pairs.items)
+    dict_put_all l.dict (map (λ p. (p.0, attr_view p.1)) l.key-iterator.rest.items) ≡ dict_of
+    (map (λ p. (p.0, attr_view p.1)) l.fn.pairs.items)

@@ -7,4 +7,5 @@ use Rattle.plir_data_tests.proofs.tests.entries.put_unit.Goals as goal
 
 pub returns-in-Some-clause-found : goal.returns-in-Some-clause-found
 returns-in-Some-clause-found g c = λ there.
-    subst (λ r. OnSome r (c.lookup_mut.follows.lender (AttrObj.Unit c.new.result) ≡ dict_put c.args.dict.now c.args.key.now (leaf unit))) c.in-Some.is (c.lookup_mut.follows.holds (AttrObj.Unit c.new.result))
+    subst (λ r. OnSome r (c.lookup_mut.follows.lender (AttrObj.Unit c.new.result) ≡ dict_put c.args.dict.now
+    c.args.key.now (leaf unit))) c.in-Some.is (c.lookup_mut.follows.holds (AttrObj.Unit c.new.result))

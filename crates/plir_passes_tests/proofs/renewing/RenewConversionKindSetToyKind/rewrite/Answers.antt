@@ -7,7 +7,8 @@ pub insert_before-requires-clause-mark_live : goal.insert_before-requires-clause
 insert_before-requires-clause-mark_live c = c.in_ok-new.ensures.made.keeps.live (Operation c.args.op) c.requires.live
 
 pub insert_before-requires-clause-linked : goal.insert_before-requires-clause-linked
-insert_before-requires-clause-linked c = subst IsSome (sym (c.in_ok-new.ensures.made.keeps.parents (Operation c.args.op) c.requires.live ∙ c.requires.here)) refl
+insert_before-requires-clause-linked c = subst IsSome (sym (c.in_ok-new.ensures.made.keeps.parents (Operation c.args.op)
+    c.requires.live ∙ c.requires.here)) refl
 
 pub insert_before-requires-clause-not_above : goal.insert_before-requires-clause-not_above
 insert_before-requires-clause-not_above c = c.in_ok-new.ensures.made.apart (Operation c.args.op) c.requires.live
@@ -19,14 +20,16 @@ erase-requires-clause-live c =
     let u = c.insert_before.new.ctx in
     let made = c.in_ok-new.ensures.made in
     let legal = c.in_ok-new.ensures.legal in
-    (c.replacements.ensures.added is_old s t u c.args._block c.args.op c.in_ok-new.new c.stands.ensures.whole c.insert_before.ensures.whole c.requires.here made legal c.insert_before.ensures.placed).1
+    (c.replacements.ensures.added is_old s t u c.args._block c.args.op c.in_ok-new.new c.stands.ensures.whole
+    c.insert_before.ensures.whole c.requires.here made legal c.insert_before.ensures.placed).1
 
 pub erase-requires-clause-unused : goal.erase-requires-clause-unused
 erase-requires-clause-unused c = c.if-not-is_unused_outside.ensures.value.0 refl
 
 pub returns-in_err-new-clause-rewriting : goal.returns-in_err-new-clause-rewriting
 returns-in_err-new-clause-rewriting c =
-    c.replacements.ensures.refused is_old c.args.ctx.now c.make_new.new.ctx c.args._block c.args.op c.stands.ensures.whole c.in_err-new.ensures.refused c.in_err-new.ensures.given
+    c.replacements.ensures.refused is_old c.args.ctx.now c.make_new.new.ctx c.args._block c.args.op
+    c.stands.ensures.whole c.in_err-new.ensures.refused c.in_err-new.ensures.given
 
 pub returns-then-not-is_unused_outside-clause-rewriting : goal.returns-then-not-is_unused_outside-clause-rewriting
 returns-then-not-is_unused_outside-clause-rewriting c =
@@ -35,7 +38,8 @@ returns-then-not-is_unused_outside-clause-rewriting c =
     let u = c.insert_before.new.ctx in
     let made = c.in_ok-new.ensures.made in
     let legal = c.in_ok-new.ensures.legal in
-    (c.replacements.ensures.added is_old s t u c.args._block c.args.op c.in_ok-new.new c.stands.ensures.whole c.insert_before.ensures.whole c.requires.here made legal c.insert_before.ensures.placed).0
+    (c.replacements.ensures.added is_old s t u c.args._block c.args.op c.in_ok-new.new c.stands.ensures.whole
+    c.insert_before.ensures.whole c.requires.here made legal c.insert_before.ensures.placed).0
 
 pub returns-clause-rewriting : goal.returns-clause-rewriting
 returns-clause-rewriting c =
@@ -44,7 +48,9 @@ returns-clause-rewriting c =
     let u = c.insert_before.new.ctx in
     let made = c.in_ok-new.ensures.made in
     let legal = c.in_ok-new.ensures.legal in
-    (c.replacements.ensures.replaced is_old s t u c.erase.new.ctx c.args._block c.args.op c.in_ok-new.new c.stands.ensures.whole c.insert_before.ensures.whole c.erase.ensures.whole c.requires.here made legal c.insert_before.ensures.placed c.erase.ensures.tree).0
+    (c.replacements.ensures.replaced is_old s t u c.erase.new.ctx c.args._block c.args.op c.in_ok-new.new
+    c.stands.ensures.whole c.insert_before.ensures.whole c.erase.ensures.whole c.requires.here made legal
+    c.insert_before.ensures.placed c.erase.ensures.tree).0
 
 pub returns-clause-done : goal.returns-clause-done
 returns-clause-done c =
@@ -53,4 +59,6 @@ returns-clause-done c =
     let u = c.insert_before.new.ctx in
     let made = c.in_ok-new.ensures.made in
     let legal = c.in_ok-new.ensures.legal in
-    (c.replacements.ensures.replaced is_old s t u c.erase.new.ctx c.args._block c.args.op c.in_ok-new.new c.stands.ensures.whole c.insert_before.ensures.whole c.erase.ensures.whole c.requires.here made legal c.insert_before.ensures.placed c.erase.ensures.tree).1
+    (c.replacements.ensures.replaced is_old s t u c.erase.new.ctx c.args._block c.args.op c.in_ok-new.new
+    c.stands.ensures.whole c.insert_before.ensures.whole c.erase.ensures.whole c.requires.here made legal
+    c.insert_before.ensures.placed c.erase.ensures.tree).1

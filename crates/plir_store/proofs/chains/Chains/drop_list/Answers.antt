@@ -4,10 +4,12 @@ use Rattle.plir_store.proofs.chains.Chains.drop_list.Goals as goal
 use Rattle.plir_store.proofs.chains.Chains.drop_list.Goals.{After-truncate}
 use Rattle.plir_store.proofs.Changes.{IsStore, IsAgreed-now, drop_list_done}
 
-done : (c : After-truncate) → IsStore c.truncate.new.self.items c.self.inside.links.items (without_last_list c.args.self.now)
+done : (c : After-truncate) → IsStore c.truncate.new.self.items c.self.inside.links.items
+    (without_last_list c.args.self.now)
 done c =
     let n : c.len.result ≡ length c.self.inside.ends.items = search rules in
-    rw (c.truncate.ensures.items, n) (drop_list_done c.self.inside.ends.items c.self.inside.links.items c.args.self.now c.self.invariant c.self.view_is c.requires.some c.requires.empty)
+    rw (c.truncate.ensures.items, n) (drop_list_done c.self.inside.ends.items c.self.inside.links.items c.args.self.now
+    c.self.invariant c.self.view_is c.requires.some c.requires.empty)
 
 pub invariant_of-self : goal.invariant_of-self
 invariant_of-self c = (done c).sound

@@ -4,10 +4,14 @@ use Rattle.plir_store.proofs.Changes.{IsAgreed-seen, prev_done}
 use Rattle.plir_store.proofs.chains.Chains.prev.Goals as goal
 
 pub returns-clause-value : goal.returns-clause-value
-returns-clause-value c = c.get.ensures ∙ prev_done c.self.inside.ends.items c.self.inside.links.items c.args.self.now c.self.invariant c.self.view_is c.args.child _ c.requires c.index.ensures
+returns-clause-value c = c.get.ensures ∙ prev_done c.self.inside.ends.items c.self.inside.links.items c.args.self.now
+    c.self.invariant c.self.view_is c.args.child _ c.requires c.index.ensures
 
 pub returns-clause-within : goal.returns-clause-within
-returns-clause-within c = rw (returns-clause-value c) (prev_of_within c.args.self.now (IsAgreed-seen c.self.inside.ends.items c.self.inside.links.items c.args.self.now c.self.invariant c.self.view_is) c.args.child)
+returns-clause-within c = rw (returns-clause-value c) (prev_of_within c.args.self.now
+    (IsAgreed-seen c.self.inside.ends.items c.self.inside.links.items c.args.self.now c.self.invariant c.self.view_is)
+    c.args.child)
 
 pub returns-clause-agreed : goal.returns-clause-agreed
-returns-clause-agreed c = IsAgreed-seen c.self.inside.ends.items c.self.inside.links.items c.args.self.now c.self.invariant c.self.view_is
+returns-clause-agreed c = IsAgreed-seen c.self.inside.ends.items c.self.inside.links.items c.args.self.now
+    c.self.invariant c.self.view_is

@@ -50,7 +50,8 @@ nodes-preserved g c =
     let node = c.nodes.node in
     let en = c.nodes.entering in
     let below = goes_on c.nodes.entering c.in-Continue.answer in
-    let at = hop-at w (look e) r c.nodes.node below _ c.onward.ensures c.in-Some.next c.in-Some.enter c.in-Some.call c.in-Some.is in
+    let at = hop-at w (look e) r c.nodes.node below _ c.onward.ensures c.in-Some.next c.in-Some.enter c.in-Some.call
+    c.in-Some.is in
     let may = allowed look w post e s0 r lawful c.nodes.invariant.0.0 due c.nodes.state node en c.nodes.invariant.0.1 in
     let made = more look w post e s0 r lawful c.nodes.invariant.0.0 due in
     let next =
@@ -92,7 +93,8 @@ nodes-smaller g c =
     let node = c.nodes.node in
     let en = c.nodes.entering in
     let below = goes_on c.nodes.entering c.in-Continue.answer in
-    let at = hop-at w (look e) r c.nodes.node below _ c.onward.ensures c.in-Some.next c.in-Some.enter c.in-Some.call c.in-Some.is in
+    let at = hop-at w (look e) r c.nodes.node below _ c.onward.ensures c.in-Some.next c.in-Some.enter c.in-Some.call
+    c.in-Some.is in
     let may = allowed look w post e s0 r lawful c.nodes.invariant.0.0 due c.nodes.state node en c.nodes.invariant.0.1 in
     let made = more look w post e s0 r lawful c.nodes.invariant.0.0 due in
     read-smaller look w post e s0 r lawful made e e c.nodes.state c.visit.new.state node en due may.0 0 c.visit.result

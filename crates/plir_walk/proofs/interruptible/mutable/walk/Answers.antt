@@ -51,7 +51,8 @@ nodes-preserved g c =
     let r = c.args.root in
     let s = g.C.NodeLinks.look c.visit.new.ctx in
     let below = goes_on c.nodes.entering c.in-Continue.answer in
-    let at = hop-at w s r c.nodes.node below _ c.onward.ensures c.in-Some.next c.in-Some.enter c.in-Some.call c.in-Some.is in
+    let at = hop-at w s r c.nodes.node below _ c.onward.ensures c.in-Some.next c.in-Some.enter c.in-Some.call
+    c.in-Some.is in
     let left = c.if-due.left in
     let counted : IsCounted due c.nodes.left left = elim c.if-due.branch [
       | then-due+else-left-eq0 v ↦
@@ -59,8 +60,10 @@ nodes-preserved g c =
       | else-due v ↦ subst (λ d. IsCounted d c.nodes.left left) (sym v.if-due.false) v.left-is
     ] in (
       visit-moved g.C.NodeLinks.look w post c.args.ctx.now c.args.state.now c.args.root c.requires.lawful c.args.limit
-          c.nodes.ctx c.visit.new.ctx c.nodes.state c.visit.new.state c.nodes.node c.nodes.entering due c.nodes.left left
-          c.visit.result c.nodes.invariant.0 c.nodes.invariant.1 counted c.visit.ensures.visited c.in-Continue.answer c.in-Continue.is
+          c.nodes.ctx c.visit.new.ctx c.nodes.state c.visit.new.state c.nodes.node c.nodes.entering due c.nodes.left
+          left
+          c.visit.result c.nodes.invariant.0 c.nodes.invariant.1 counted c.visit.ensures.visited c.in-Continue.answer
+          c.in-Continue.is
           below refl _ at.0 c.in-Some.next c.in-Some.enter refl,
       at.1,
     )
@@ -81,7 +84,8 @@ returns-in-None g c =
     ] in
     visit-ended g.C.NodeLinks.look w post c.args.ctx.now c.args.state.now c.args.root c.requires.lawful c.args.limit
     c.nodes.ctx c.visit.new.ctx c.nodes.state c.visit.new.state c.nodes.node c.nodes.entering due c.nodes.left left
-    c.visit.result c.nodes.invariant.0 c.nodes.invariant.1 counted c.visit.ensures.visited c.in-Continue.answer c.in-Continue.is
+    c.visit.result c.nodes.invariant.0 c.nodes.invariant.1 counted c.visit.ensures.visited c.in-Continue.answer
+    c.in-Continue.is
     below refl _ (hop-none w s r c.nodes.node below _ c.onward.ensures c.in-None.is) refl
 
 pub nodes-smaller : goal.nodes-smaller
@@ -92,7 +96,8 @@ nodes-smaller g c =
     let r = c.args.root in
     let s = g.C.NodeLinks.look c.visit.new.ctx in
     let below = goes_on c.nodes.entering c.in-Continue.answer in
-    let at = hop-at w s r c.nodes.node below _ c.onward.ensures c.in-Some.next c.in-Some.enter c.in-Some.call c.in-Some.is in
+    let at = hop-at w s r c.nodes.node below _ c.onward.ensures c.in-Some.next c.in-Some.enter c.in-Some.call
+    c.in-Some.is in
     let left = c.if-due.left in
     let counted : IsCounted due c.nodes.left left = elim c.if-due.branch [
       | then-due+else-left-eq0 v ↦
@@ -101,5 +106,6 @@ nodes-smaller g c =
     ] in
     visit-smaller g.C.NodeLinks.look w post c.args.ctx.now c.args.state.now c.args.root c.requires.lawful c.args.limit
     c.nodes.ctx c.visit.new.ctx c.nodes.state c.visit.new.state c.nodes.node c.nodes.entering due c.nodes.left left
-    c.visit.result c.nodes.invariant.0 c.nodes.invariant.1 counted c.visit.ensures.visited c.in-Continue.answer c.in-Continue.is
+    c.visit.result c.nodes.invariant.0 c.nodes.invariant.1 counted c.visit.ensures.visited c.in-Continue.answer
+    c.in-Continue.is
     below refl _ at.0 c.in-Some.next c.in-Some.enter refl

@@ -8,7 +8,8 @@ use Rattle.plir_walk.proofs.interruptible.mutable.walk.Given as goal
 
 abbrev pub invariant-nodes : goal.invariant-nodes
 invariant-nodes g l =
-    Cursor g.C.NodeLinks.look l.setting (CallsBack g.F.Fn l.fn.callback) l.fn.ctx l.fn.state l.root l.limit l.ctx l.state l.node l.entering l.left
+    Cursor g.C.NodeLinks.look l.setting (CallsBack g.F.Fn l.fn.callback) l.fn.ctx l.fn.state l.root l.limit l.ctx
+    l.state l.node l.entering l.left
     × (l.due ≡ due_at (order_of l.setting l.node) l.entering)
 
 abbrev pub decreases-nodes : goal.decreases-nodes

@@ -9,10 +9,12 @@ pub returns-in-Forward : goal.returns-in-Forward
 returns-in-Forward g c =
     let n = g.N.TypedNode.node c.args.node in
     let s = c.args.self.now.nodes in
-    c.first_child.ensures ∙ (first-is s n ∙ ap (λ d. head (taken d (node_children s n))) (sym c.in-Forward.is ∙ c.direction.ensures))
+    c.first_child.ensures ∙ (first-is s n ∙ ap (λ d. head (taken d (node_children s n)))
+    (sym c.in-Forward.is ∙ c.direction.ensures))
 
 pub returns-in-Reverse : goal.returns-in-Reverse
 returns-in-Reverse g c =
     let n = g.N.TypedNode.node c.args.node in
     let s = c.args.self.now.nodes in
-    c.last_child.ensures ∙ (last-is s n ∙ ap (λ d. head (taken d (node_children s n))) (sym c.in-Reverse.is ∙ c.direction.ensures))
+    c.last_child.ensures ∙ (last-is s n ∙ ap (λ d. head (taken d (node_children s n)))
+    (sym c.in-Reverse.is ∙ c.direction.ensures))

@@ -11,7 +11,8 @@ sink_region-requires g c =
     let s = g.C.NodeLinks.look c.args.ctx.now in
     let first : first_of w s (Operation c.args.op) ≡ Some (Region c.in-Some-Region.region) =
     sym c.first_taken.ensures ∙ (c.in-Some-Region.is ∙ ap Some c.in-Some-Region.field-0-is) in
-    rw c.in-Some-Region.field-0-is (first-live w s c.forest.ensures (Operation c.args.op) (Region c.in-Some-Region.region) first)
+    rw c.in-Some-Region.field-0-is (first-live w s c.forest.ensures (Operation c.args.op)
+    (Region c.in-Some-Region.region) first)
 
 pub returns-in-Some-Region-clause-sinks : goal.returns-in-Some-Region-clause-sinks
 returns-in-Some-Region-clause-sinks g c =
@@ -19,7 +20,8 @@ returns-in-Some-Region-clause-sinks g c =
     let s = g.C.NodeLinks.look c.args.ctx.now in
     let first : first_of w s (Operation c.args.op) ≡ Some (Region c.in-Some-Region.region) =
     sym c.first_taken.ensures ∙ (c.in-Some-Region.is ∙ ap Some c.in-Some-Region.field-0-is) in
-    let below : Sinks w s (Region c.in-Some-Region.region) c.sink_region.result = rw c.in-Some-Region.field-0-is at c.sink_region.ensures.sinks in
+    let below : Sinks w s (Region c.in-Some-Region.region) c.sink_region.result = rw c.in-Some-Region.field-0-is at
+    c.sink_region.ensures.sinks in
     sink-more w s (Operation c.args.op) (Region c.in-Some-Region.region) c.sink_region.result first refl below
 
 pub returns-in-Some : goal.returns-in-Some

@@ -11,7 +11,8 @@ sink_block-requires g c =
     let s = g.C.NodeLinks.look c.args.ctx.now in
     let first : first_of w s (Region c.args.region) ≡ Some (BasicBlock c.in-Some-BasicBlock.block) =
     sym c.first_taken.ensures ∙ (c.in-Some-BasicBlock.is ∙ ap Some c.in-Some-BasicBlock.field-0-is) in
-    rw c.in-Some-BasicBlock.field-0-is (first-live w s c.forest.ensures (Region c.args.region) (BasicBlock c.in-Some-BasicBlock.block) first)
+    rw c.in-Some-BasicBlock.field-0-is (first-live w s c.forest.ensures (Region c.args.region)
+    (BasicBlock c.in-Some-BasicBlock.block) first)
 
 pub returns-in-Some-BasicBlock-clause-sinks : goal.returns-in-Some-BasicBlock-clause-sinks
 returns-in-Some-BasicBlock-clause-sinks g c =
@@ -19,7 +20,8 @@ returns-in-Some-BasicBlock-clause-sinks g c =
     let s = g.C.NodeLinks.look c.args.ctx.now in
     let first : first_of w s (Region c.args.region) ≡ Some (BasicBlock c.in-Some-BasicBlock.block) =
     sym c.first_taken.ensures ∙ (c.in-Some-BasicBlock.is ∙ ap Some c.in-Some-BasicBlock.field-0-is) in
-    let below : Sinks w s (BasicBlock c.in-Some-BasicBlock.block) c.sink_block.result = rw c.in-Some-BasicBlock.field-0-is at c.sink_block.ensures.sinks in
+    let below : Sinks w s (BasicBlock c.in-Some-BasicBlock.block) c.sink_block.result = rw
+    c.in-Some-BasicBlock.field-0-is at c.sink_block.ensures.sinks in
     sink-more w s (Region c.args.region) (BasicBlock c.in-Some-BasicBlock.block) c.sink_block.result first refl below
 
 pub returns-in-Some : goal.returns-in-Some

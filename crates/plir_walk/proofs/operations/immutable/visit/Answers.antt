@@ -23,5 +23,6 @@ returns-in-Operation g c =
     } in
     subst (λ n. IsVisited look (AtEachNode post) e st n c.args.due c.callback.result e c.callback.new.arg3)
     (sym c.in-Operation.is)
-    (subst (λ d. IsVisited look (AtEachNode post) e st (Operation c.in-Operation.op) d c.callback.result e c.callback.new.arg3) (sym due)
+    (subst (λ d. IsVisited look (AtEachNode post) e st (Operation c.in-Operation.op) d c.callback.result e
+    c.callback.new.arg3) (sym due)
     (made, c.forest.ensures))

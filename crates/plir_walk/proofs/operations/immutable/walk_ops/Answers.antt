@@ -54,14 +54,16 @@ nodes-preserved g c =
     let node = c.nodes.node in
     let en = c.nodes.entering in
     let below = goes_on c.nodes.entering c.in-Continue.answer in
-    let to = op-hop-at w (look e) r node below _ c.onward.ensures c.in-Some.next c.in-Some.enter c.in-Some.call c.in-Some.is in
+    let to = op-hop-at w (look e) r node below _ c.onward.ensures c.in-Some.next c.in-Some.enter c.in-Some.call
+    c.in-Some.is in
     let may = allowed look w post e s0 r lawful c.nodes.invariant.0.0 due c.nodes.state node en c.nodes.invariant.0.1 in
     let made = more look w post e s0 r lawful c.nodes.invariant.0.0 due in
     let half =
     halfway look w post e s0 r lawful made e e c.nodes.state c.visit.new.state node en due may.0 0 c.visit.result
     may.1.0 c.nodes.invariant.1 may.1.1 c.visit.ensures c.in-Continue.answer c.in-Continue.is below refl in
     let next =
-    moved-past look w at e s0 r lawful to.0.0 made e c.visit.new.state node below c.in-Some.next c.in-Some.enter half to.0.1 in
+    moved-past look w at e s0 r lawful to.0.0 made e c.visit.new.state node below c.in-Some.next c.in-Some.enter half
+    to.0.1 in
     ((next.0, cursor look w post e s0 r next.0 e c.visit.new.state c.in-Some.next c.in-Some.enter 0 next.1), to.1)
 
 pub returns-in-None : goal.returns-in-None
@@ -96,5 +98,6 @@ nodes-smaller g c =
     let node = c.nodes.node in
     let en = c.nodes.entering in
     let below = goes_on c.nodes.entering c.in-Continue.answer in
-    let to = op-hop-at w (look e) r node below _ c.onward.ensures c.in-Some.next c.in-Some.enter c.in-Some.call c.in-Some.is in
+    let to = op-hop-at w (look e) r node below _ c.onward.ensures c.in-Some.next c.in-Some.enter c.in-Some.call
+    c.in-Some.is in
     answer-left w (look e) c.forest.ensures r _ node en c.in-Continue.answer c.in-Some.next c.in-Some.enter to.0

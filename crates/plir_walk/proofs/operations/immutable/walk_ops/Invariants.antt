@@ -9,7 +9,8 @@ use Rattle.plir_walk.proofs.operations.immutable.walk_ops.Given as goal
 
 abbrev pub invariant-nodes : goal.invariant-nodes
 invariant-nodes g l =
-    ((made : ℕ) × Cursor g.C.NodeLinks.look l.setting (AtEachNode (ReadsBack g.F.Fn l.fn.callback)) l.ctx l.fn.state l.root made l.ctx l.state l.node l.entering 0)
+    ((made : ℕ) × Cursor g.C.NodeLinks.look l.setting (AtEachNode (ReadsBack g.F.Fn l.fn.callback)) l.ctx l.fn.state
+    l.root made l.ctx l.state l.node l.entering 0)
     × (l.due ≡ due_at (order_of l.setting l.node) l.entering)
 
 abbrev pub decreases-nodes : goal.decreases-nodes

@@ -8,4 +8,5 @@ erase-requires-clause-unused g c = c.if-not-is_unused_outside.ensures.value.0 re
 pub returns : goal.returns
 returns g c =
     let e : c.in-Some.parent ≡ c.args.node = search rules in
-    c.lawful_changes.ensures.erased c.args.ctx.now c.erase.new.ctx c.args.node (Operation c.args.op) (zero, sym c.parent.ensures ∙ c.in-Some.is ∙ ap Some e) c.erase.ensures.tree
+    c.lawful_changes.ensures.erased c.args.ctx.now c.erase.new.ctx c.args.node (Operation c.args.op)
+    (zero, sym c.parent.ensures ∙ c.in-Some.is ∙ ap Some e) c.erase.ensures.tree

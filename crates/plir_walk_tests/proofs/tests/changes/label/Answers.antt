@@ -7,4 +7,5 @@ use Rattle.plir_walk_tests.proofs.tests.changes.label.Goals as goal
 pub returns : goal.returns
 returns g c =
     let block = BasicBlock c.args.block in
-    subst (λ z. Lawful (look c.args.ctx.now) block (look z)) (sym c.set_label.ensures.after) (c.lawful_changes.ensures.block_edit c.args.ctx.now block c.args.block _)
+    subst (λ z. Lawful (look c.args.ctx.now) block (look z)) (sym c.set_label.ensures.after)
+    (c.lawful_changes.ensures.block_edit c.args.ctx.now block c.args.block _)

@@ -14,7 +14,8 @@ strictly s n x other (suc k, e) = (k, e)
 
 pub insert_at_back-requires-clause-not_above : goal.insert_at_back-requires-clause-not_above
 insert_at_back-requires-clause-not_above g c = λ above.
-    let before = c.changes_below_compose.ensures.unlinked_under c.args.ctx.now c.unlink.new.ctx (Operation c.args.op) (BasicBlock c.args.block) c.unlink.ensures.unlinked above in
+    let before = c.changes_below_compose.ensures.unlinked_under c.args.ctx.now c.unlink.new.ctx (Operation c.args.op)
+    (BasicBlock c.args.block) c.unlink.ensures.unlinked above in
     let yes = c.is_ancestor-over_target.ensures.value.1 before in
     let no = c.if-over_target.false in
     (let z : ⊥ = cc (yes, no) in z)
@@ -30,8 +31,11 @@ returns g c =
     let begins = c.lawful_changes.ensures.forest s c.is_live.ensures.whole in
     let ends = c.lawful_changes.ensures.forest u c.insert_at_back.ensures.whole in
     let other : moved ≢ n = search rules in
-    let below : WasBelow (look s) n moved = λ v. strictly (look s) n moved other (c.is_ancestor-holds_moved.ensures.value.0 c.if-not-holds_moved.false) in
-    let under : WasUnder (look s) n block = λ v. c.is_ancestor-holds_target.ensures.value.0 c.if-not-holds_target.false in
+    let below : WasBelow (look s) n moved = λ v. strictly (look s) n moved other
+    (c.is_ancestor-holds_moved.ensures.value.0 c.if-not-holds_moved.false) in
+    let under : WasUnder (look s) n block = λ v. c.is_ancestor-holds_target.ensures.value.0 c.if-not-holds_target.false
+    in
     let steps = c.changes_below_compose.ensures in
     let out = steps.unlinked s s t n moved begins begins (steps.begun s n begins) below c.unlink.ensures.unlinked in
-    steps.lawful s u n begins ends (steps.placed s t u n moved block (children t block ++ moved ∷ []) out below under c.insert_at_back.ensures.placed)
+    steps.lawful s u n begins ends (steps.placed s t u n moved block (children t block ++ moved ∷ []) out below under
+    c.insert_at_back.ensures.placed)

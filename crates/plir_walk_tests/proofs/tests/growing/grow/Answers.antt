@@ -13,4 +13,5 @@ walk_op-requires-clause-lawful g c = λ d t n a d' t' p.
       | inl same ↦ subst (λ z. Lawful (look s) n (look z)) (sym same) (law.none s n)
       | inr added ↦ law.region s s' n added.0 forest added.1
     ] in
-    subst (λ z. Lawful (look z) n (look d')) p.made.shows.0 (subst (λ z. Lawful (look s) n (look z)) p.made.leaves.0 lawful)
+    subst (λ z. Lawful (look z) n (look d')) p.made.shows.0 (subst (λ z. Lawful (look s) n (look z)) p.made.leaves.0
+    lawful)

@@ -4,4 +4,5 @@ use Rattle.plir_walk_tests.proofs.tests.pass.module_with_function.Goals as goal
 pub returns : goal.returns
 returns g c =
     let op = Operation c.in_ok-op.op in
-    c.in_ok-append.ensures.kept op (c.in_ok-entry.ensures.kept op (c.in_ok-block.ensures.kept op c.in_ok-op.ensures.op_live))
+    c.in_ok-append.ensures.kept op (c.in_ok-entry.ensures.kept op (c.in_ok-block.ensures.kept op
+    c.in_ok-op.ensures.op_live))

@@ -8,12 +8,46 @@ use Rattle.plir_core.proofs.Holds.{op_attr_set}
 pub invariant_of-ctx : goal.invariant_of-ctx
 invariant_of-ctx g c =
     record {
-      whole = op_attr_set g.D.OpSet.attr_handles _ c.args.ctx.now c.ctx.view_is c.ctx.invariant.whole c.args.self (record { kind = c.behind-ctx.inside.kind; result_types = c.behind-ctx.inside.result_types; operands = c.behind-ctx.inside.operands.items; successors = c.behind-ctx.inside.successors; attributes = c.behind-ctx.inside.attributes; location = c.behind-ctx.inside.location }) c.replace.new.self c.args.key.now (attr_view c.args.value) c.requires.live (c.op_mut.ensures.value ∙ ap (λ z. Some z) (sym c.behind-ctx.view_is)) (either_way c.replace.result c.replace.ensures.put c.replace.ensures.same) c.requires.handles;
-      counted = Counts-attributes c.ctx.inside.uses c.ctx.inside.nodes.ops c.args.self.slot (record { kind = c.behind-ctx.inside.kind; result_types = c.behind-ctx.inside.result_types; operands = c.behind-ctx.inside.operands.items; successors = c.behind-ctx.inside.successors; attributes = c.behind-ctx.inside.attributes; location = c.behind-ctx.inside.location }) c.replace.new.self (c.op_mut.ensures.value ∙ ap (λ z. Some z) (sym c.behind-ctx.view_is)) c.ctx.invariant.counted;
+      whole = op_attr_set g.D.OpSet.attr_handles _ c.args.ctx.now c.ctx.view_is c.ctx.invariant.whole c.args.self
+          (record {
+            kind = c.behind-ctx.inside.kind;
+            result_types = c.behind-ctx.inside.result_types;
+            operands =
+                c.behind-ctx.inside.operands.items;
+            successors = c.behind-ctx.inside.successors;
+            attributes =
+                c.behind-ctx.inside.attributes;
+            location = c.behind-ctx.inside.location;
+          }) c.replace.new.self c.args.key.now
+          (attr_view c.args.value) c.requires.live (c.op_mut.ensures.value ∙ ap (λ z. Some z)
+          (sym c.behind-ctx.view_is)) (either_way c.replace.result c.replace.ensures.put c.replace.ensures.same)
+          c.requires.handles;
+      counted = Counts-attributes c.ctx.inside.uses c.ctx.inside.nodes.ops c.args.self.slot
+          (record {
+            kind = c.behind-ctx.inside.kind;
+            result_types = c.behind-ctx.inside.result_types;
+            operands =
+                c.behind-ctx.inside.operands.items;
+            successors = c.behind-ctx.inside.successors;
+            attributes =
+                c.behind-ctx.inside.attributes;
+            location = c.behind-ctx.inside.location;
+          }) c.replace.new.self
+          (c.op_mut.ensures.value ∙ ap (λ z. Some z) (sym c.behind-ctx.view_is)) c.ctx.invariant.counted;
     }
 
 pub returns-clause-whole : goal.returns-clause-whole
 returns-clause-whole g c = (invariant_of-ctx g c).whole
 
 pub returns-clause-live : goal.returns-clause-live
-returns-clause-live g c = op_attr_swapped g.D.OpSet.attr_handles _ c.args.ctx.now c.ctx.view_is c.ctx.invariant.whole attr_view c.replace.result c.args.self.slot (record { kind = c.behind-ctx.inside.kind; result_types = c.behind-ctx.inside.result_types; operands = c.behind-ctx.inside.operands.items; successors = c.behind-ctx.inside.successors; attributes = c.behind-ctx.inside.attributes; location = c.behind-ctx.inside.location }) (c.op_mut.ensures.value ∙ ap (λ z. Some z) (sym c.behind-ctx.view_is)) c.replace.ensures.live
+returns-clause-live g c = op_attr_swapped g.D.OpSet.attr_handles _ c.args.ctx.now c.ctx.view_is c.ctx.invariant.whole
+    attr_view c.replace.result c.args.self.slot (record {
+      kind = c.behind-ctx.inside.kind;
+      result_types =
+          c.behind-ctx.inside.result_types;
+      operands = c.behind-ctx.inside.operands.items;
+      successors =
+          c.behind-ctx.inside.successors;
+      attributes = c.behind-ctx.inside.attributes;
+      location = c.behind-ctx.inside.location;
+    }) (c.op_mut.ensures.value ∙ ap (λ z. Some z) (sym c.behind-ctx.view_is)) c.replace.ensures.live

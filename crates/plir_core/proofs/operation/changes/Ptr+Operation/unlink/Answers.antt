@@ -8,8 +8,10 @@ use Rattle.plir_core.proofs.Links.{op_alone}
 pub invariant_of-ctx : goal.invariant_of-ctx
 invariant_of-ctx g c =
     record {
-      whole = op_linked _ _ c.ctx.invariant.whole c.unlink_op.new.self _ c.unlink_op.ensures.after c.unlink_op.ensures.stored;
-      counted = Counts-linked c.ctx.inside.uses c.ctx.inside.nodes c.unlink_op.new.self _ c.unlink_op.ensures.after refl c.ctx.invariant.counted;
+      whole = op_linked _ _ c.ctx.invariant.whole c.unlink_op.new.self _ c.unlink_op.ensures.after
+          c.unlink_op.ensures.stored;
+      counted = Counts-linked c.ctx.inside.uses c.ctx.inside.nodes c.unlink_op.new.self _ c.unlink_op.ensures.after refl
+          c.ctx.invariant.counted;
     }
 
 pub returns-clause-whole : goal.returns-clause-whole
@@ -17,4 +19,6 @@ returns-clause-whole g c = (invariant_of-ctx g c).whole
 
 pub returns-clause-unlinked : goal.returns-clause-unlinked
 returns-clause-unlinked g c =
-    op_alone c.ctx.inside.nodes c.args.ctx.now.nodes (ap (λ (z : ContextView g.row.D-Kind.Denot g.row.D-Attr.Denot g.row.D-Ty.Denot). z.nodes) c.ctx.view_is) c.ctx.invariant.whole.stored c.unlink_op.new.self c.args.self c.requires c.unlink_op.ensures.after
+    op_alone c.ctx.inside.nodes c.args.ctx.now.nodes (ap (λ (z : ContextView g.row.D-Kind.Denot g.row.D-Attr.Denot
+    g.row.D-Ty.Denot). z.nodes) c.ctx.view_is) c.ctx.invariant.whole.stored c.unlink_op.new.self c.args.self
+    c.requires c.unlink_op.ensures.after

@@ -8,9 +8,12 @@ use Rattle.plir_core.proofs.Counting.{known_is}
 pub returns-in-Operation : goal.returns-in-Operation
 returns-in-Operation c = λ f k.
     subst (λ m. IfSome c.known.result (λ n. n ≡ f (seat_of m))) (sym c.in-Operation.is)
-    (known_is c.known.result c.self.inside.ops.items c.in-Operation.op.slot (f (op c.in-Operation.op.slot)) c.known.ensures (subst (λ u. Counts u f) (sym c.self.view_is) k (op c.in-Operation.op.slot)))
+    (known_is c.known.result c.self.inside.ops.items c.in-Operation.op.slot (f (op c.in-Operation.op.slot))
+    c.known.ensures (subst (λ u. Counts u f) (sym c.self.view_is) k (op c.in-Operation.op.slot)))
 
 pub returns-in-BasicBlock : goal.returns-in-BasicBlock
 returns-in-BasicBlock c = λ f k.
     subst (λ m. IfSome c.known-in-BasicBlock.result (λ n. n ≡ f (seat_of m))) (sym c.in-BasicBlock.is)
-    (known_is c.known-in-BasicBlock.result c.self.inside.blocks.items c.in-BasicBlock.block.slot (f (block c.in-BasicBlock.block.slot)) c.known-in-BasicBlock.ensures (subst (λ u. Counts u f) (sym c.self.view_is) k (block c.in-BasicBlock.block.slot)))
+    (known_is c.known-in-BasicBlock.result c.self.inside.blocks.items c.in-BasicBlock.block.slot
+    (f (block c.in-BasicBlock.block.slot)) c.known-in-BasicBlock.ensures (subst
+    (λ u. Counts u f) (sym c.self.view_is) k (block c.in-BasicBlock.block.slot)))

@@ -9,7 +9,9 @@ loop-block-init c = IsLowering-start (λ (b : Ptr BasicBlockKind). BasicBlock b)
 
 pub loop-block-preserved : goal.loop-block-preserved
 loop-block-preserved c =
-    IsLowering-more (λ (b : Ptr BasicBlockKind). BasicBlock b) c.args.blocks.now c.args.self.now c.loop-block.self c.lower.new.self c.loop-block.block-index _ c.lower.ensures c.loop-block.invariant c.loop-block-test.true
+    IsLowering-more (λ (b : Ptr BasicBlockKind). BasicBlock b) c.args.blocks.now c.args.self.now c.loop-block.self
+    c.lower.new.self c.loop-block.block-index _ c.lower.ensures c.loop-block.invariant c.loop-block-test.true
 
 pub returns : goal.returns
-returns c = IsLowering-end (λ (b : Ptr BasicBlockKind). BasicBlock b) c.args.blocks.now c.args.self.now c.loop-block.self c.loop-block.block-index c.loop-block.invariant c.loop-block-test.false
+returns c = IsLowering-end (λ (b : Ptr BasicBlockKind). BasicBlock b) c.args.blocks.now c.args.self.now
+    c.loop-block.self c.loop-block.block-index c.loop-block.invariant c.loop-block-test.false

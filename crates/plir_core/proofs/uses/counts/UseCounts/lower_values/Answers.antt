@@ -8,7 +8,10 @@ loop-value-init c = IsLowering-start (λ (v : Value). entity_node v.entity) c.ar
 
 pub loop-value-preserved : goal.loop-value-preserved
 loop-value-preserved c =
-    IsLowering-more (λ (v : Value). entity_node v.entity) c.args.values.now c.args.self.now c.loop-value.self c.lower_value.new.self c.loop-value.value-index _ c.lower_value.ensures c.loop-value.invariant c.loop-value-test.true
+    IsLowering-more (λ (v : Value). entity_node v.entity) c.args.values.now c.args.self.now c.loop-value.self
+    c.lower_value.new.self c.loop-value.value-index _ c.lower_value.ensures c.loop-value.invariant
+    c.loop-value-test.true
 
 pub returns : goal.returns
-returns c = IsLowering-end (λ (v : Value). entity_node v.entity) c.args.values.now c.args.self.now c.loop-value.self c.loop-value.value-index c.loop-value.invariant c.loop-value-test.false
+returns c = IsLowering-end (λ (v : Value). entity_node v.entity) c.args.values.now c.args.self.now c.loop-value.self
+    c.loop-value.value-index c.loop-value.invariant c.loop-value-test.false

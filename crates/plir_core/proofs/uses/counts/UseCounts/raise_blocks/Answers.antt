@@ -9,7 +9,9 @@ loop-block-init c = IsRaising-start (λ (b : Ptr BasicBlockKind). BasicBlock b) 
 
 pub loop-block-preserved : goal.loop-block-preserved
 loop-block-preserved c =
-    IsRaising-more (λ (b : Ptr BasicBlockKind). BasicBlock b) c.args.blocks.now c.args.self.now c.loop-block.self c.raise.new.self c.loop-block.block-index _ c.raise.ensures c.loop-block.invariant c.loop-block-test.true
+    IsRaising-more (λ (b : Ptr BasicBlockKind). BasicBlock b) c.args.blocks.now c.args.self.now c.loop-block.self
+    c.raise.new.self c.loop-block.block-index _ c.raise.ensures c.loop-block.invariant c.loop-block-test.true
 
 pub returns : goal.returns
-returns c = IsRaising-end (λ (b : Ptr BasicBlockKind). BasicBlock b) c.args.blocks.now c.args.self.now c.loop-block.self c.loop-block.block-index c.loop-block.invariant c.loop-block-test.false
+returns c = IsRaising-end (λ (b : Ptr BasicBlockKind). BasicBlock b) c.args.blocks.now c.args.self.now c.loop-block.self
+    c.loop-block.block-index c.loop-block.invariant c.loop-block-test.false
