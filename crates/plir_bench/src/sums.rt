@@ -1,10 +1,6 @@
 //! An own kind of operations that fold.
-ghost use Rattle.std.specs.Prelude.{◌≡◌, option_map};
-ghost use Rattle.plir_folding.specs.Worth.{integer_of};
-ghost use Rattle.plir_bench.specs.Sums.{sum_of};
-
-use plir_data::{APInt, IntegerAttr, NeverRefused, OwnKind};
-use plir_folding::FoldKind;
+use plir_data::{IntegerAttr, NeverRefused, OwnKind};
+use plir_folding::{FoldKind, wrapping_sum};
 
 /// The kind of operations that add two integers.
 #[derive(Clone, Copy, PartialEq, Eq, Debug)]
@@ -46,27 +42,12 @@ impl OwnKind for SumKind {
     }
 }
 
-// The sum of two integers of one type and width, modulo two to the width.
-fn sum_of(left: &IntegerAttr, right: &IntegerAttr) -> Option<IntegerAttr>
-    ensures { option_map integer_of result ≡ sum_of (integer_of left.now) (integer_of right.now) }
-{
-    let (one, other) = (left.value(), right.value());
-    if left.get_type() != right.get_type() || one.bw() != other.bw() {
-        return None;
-    }
-    let sum = one.to_u64().wrapping_add(other.to_u64());
-    match APInt::from_u64(sum, one.bw()) {
-        Some(value) => Some(IntegerAttr::new(left.get_type(), value)),
-        None => None,
-    }
-}
-
 impl FoldKind for SumKind {
-    ghost use Rattle.plir_bench.specs.Sums.{sum_of};
+    ghost use Rattle.plir_folding.specs.Sums.{wrapping_sum};
 
-    ghost fold = { λ _. sum_of };
+    ghost fold = { λ _. wrapping_sum };
 
     fn fold(self, left: &IntegerAttr, right: &IntegerAttr) -> Option<IntegerAttr> {
-        sum_of(left, right)
+        wrapping_sum(left, right)
     }
 }

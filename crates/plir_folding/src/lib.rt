@@ -4,6 +4,8 @@
 mod fold_set;
 mod folding;
 mod reading;
+mod sums;
 
 pub use fold_set::{FoldKind, FoldSet};
 pub use folding::fold_constants;
+pub use sums::wrapping_sum;

@@ -187,6 +187,60 @@ fn what_does_not_fold_stays(rt: HostRuntime) -> Result<(), Mismatch> {
 }
 
 #[test]
+fn sums_wrap_and_are_of_one_type_and_width(rt: HostRuntime) -> Result<(), Mismatch> {
+    let script = "
+        type builtin.integer si32 => t0
+        type builtin.integer i8 => t1
+        type builtin.integer ui64 => t2
+        type builtin.integer ui32 => t3
+        op func 1 => o0
+        block => b0
+        back b0 r0
+        op constant 0 t0 => o1
+        set o1 builtin_constant_value builtin.integer <7: si32>
+        op constant 0 t1 => o2
+        set o2 builtin_constant_value builtin.integer <200: i8>
+        op constant 0 t2 => o3
+        set o3 builtin_constant_value builtin.integer <18446744073709551615: ui64>
+        op constant 0 t3 => o4
+        set o4 builtin_constant_value builtin.integer <7: ui32>
+        op constant 0 t0 => o5
+        set o5 builtin_constant_value builtin.bool true
+        op add 0 t0 < o1.0 o1.0 => o6
+        op add 0 t1 < o2.0 o2.0 => o7
+        op add 0 t2 < o3.0 o3.0 => o8
+        op add 0 t0 < o1.0 o2.0 => o9
+        op add 0 t1 < o2.0 o1.0 => o10
+        op add 0 t0 < o1.0 o4.0 => o11
+        op add 0 t0 < o1.0 o5.0 => o12
+        op use 0 < o6.0 o7.0 o8.0 o9.0 o10.0 o11.0 o12.0 => o13
+        back o1 b0
+        back o2 b0
+        back o3 b0
+        back o4 b0
+        back o5 b0
+        back o6 b0
+        back o7 b0
+        back o8 b0
+        back o9 b0
+        back o10 b0
+        back o11 b0
+        back o12 b0
+        back o13 b0
+        count => 16
+        fold o0 => done
+        count => 19
+        operand o13 0 => 14
+        operand o13 1 => 144
+        operand o13 2 => 18446744073709551614
+        operand o13 3 => o9.0
+        operand o13 4 => o10.0
+        operand o13 5 => o11.0
+        operand o13 6 => o12.0";
+    play_in(rt.alloc(), script)
+}
+
+#[test]
 fn what_was_folded_before_a_refusal_stays(rt: HostRuntime) -> Result<(), Mismatch> {
     let script = "
         type builtin.integer si32 => t0

@@ -1,10 +1,6 @@
 //! A toy op set: own kinds of operations, and nothing else.
-ghost use Rattle.std.specs.Prelude.{◌≡◌, option_map};
-ghost use Rattle.plir_folding.specs.Worth.{integer_of};
-ghost use Rattle.plir_folding_tests.specs.Kinds.{sum_of};
-
-use plir_data::{APInt, IntegerAttr, NeverRefused, OwnKind};
-use plir_folding::FoldKind;
+use plir_data::{IntegerAttr, NeverRefused, OwnKind};
+use plir_folding::{FoldKind, wrapping_sum};
 
 /// The toy's kinds of operations.
 #[derive(Clone, Copy, PartialEq, Eq, Debug)]
@@ -58,21 +54,6 @@ impl OwnKind for ToyKind {
     }
 }
 
-// The sum of two integers of one type and width, modulo two to the width.
-fn sum_of(left: &IntegerAttr, right: &IntegerAttr) -> Option<IntegerAttr>
-    ensures { option_map integer_of result ≡ sum_of (integer_of left.now) (integer_of right.now) }
-{
-    let (one, other) = (left.value(), right.value());
-    if left.get_type() != right.get_type() || one.bw() != other.bw() {
-        return None;
-    }
-    let sum = one.to_u64().wrapping_add(other.to_u64());
-    match APInt::from_u64(sum, one.bw()) {
-        Some(value) => Some(IntegerAttr::new(left.get_type(), value)),
-        None => None,
-    }
-}
-
 impl FoldKind for ToyKind {
     ghost use Rattle.plir_folding_tests.specs.Kinds.{fold_of};
 
@@ -80,7 +61,7 @@ impl FoldKind for ToyKind {
 
     fn fold(self, left: &IntegerAttr, right: &IntegerAttr) -> Option<IntegerAttr> {
         match self {
-            ToyKind::Add => sum_of(left, right),
+            ToyKind::Add => wrapping_sum(left, right),
             ToyKind::Use | ToyKind::Yield => None,
         }
     }

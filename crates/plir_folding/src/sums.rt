@@ -1,0 +1,22 @@
+//! Sums of integers.
+ghost use Rattle.std.specs.Prelude.{◌≡◌, option_map};
+ghost use Rattle.plir_folding.specs.Worth.{integer_of};
+ghost use Rattle.plir_folding.specs.Sums.{wrapping_sum};
+
+use plir_data::{APInt, IntegerAttr};
+
+/// What an operation that adds makes of two integers: their sum modulo two to the width, where they are of one type and
+/// one width; none, where their types or widths differ. Takes no memory.
+pub fn wrapping_sum(left: &IntegerAttr, right: &IntegerAttr) -> Option<IntegerAttr>
+    ensures { option_map integer_of result ≡ wrapping_sum (integer_of left.now) (integer_of right.now) }
+{
+    let (one, other) = (left.value(), right.value());
+    if left.get_type() != right.get_type() || one.bw() != other.bw() {
+        return None;
+    }
+    let sum = one.to_u64().wrapping_add(other.to_u64());
+    match APInt::from_u64(sum, one.bw()) {
+        Some(value) => Some(IntegerAttr::new(left.get_type(), value)),
+        None => None,
+    }
+}
