@@ -93,7 +93,10 @@ class Bench {
     return found;
   }
 
-  uint64_t eraseThroughTable() {
+  // Of a module that is built for it.
+  uint64_t eraseThroughTable(uint64_t number) {
+    root = mlir::ModuleOp::create(place, llvm::StringRef("root"));
+    buildFunctions(number);
     auto ops = firstOperations(UINT64_MAX);
     SymbolTable table(root);
     for (Operation *op : ops) {
@@ -142,12 +145,12 @@ public:
       built = number;
       return word == "build" ? buildFunctions(number) : buildBare(number);
     }
+    if (word == "erase-all")
+      return eraseThroughTable(number);
     if (!root)
       return -1;
     if (word == "look-up")
       return lookUp(number);
-    if (word == "erase-all")
-      return eraseThroughTable();
     if (word == "erase-list")
       return eraseByList(number);
     uint64_t count = 0;

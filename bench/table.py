@@ -43,7 +43,7 @@ def rows(functions, part):
         Row("build bare, an operation", BOTH, ["bare 1"], [f"bare {functions}"], functions - 1, bytes_too=True),
         repeated("table, a symbol", BOTH, "table", functions, 20),
         repeated("look-up, a name", BOTH, "look-up", functions, 40),
-        Row("erasure through a table, a symbol", BOTH, [build, "table 1"], [build, "erase-all"], functions),
+        Row("erasure through a table, a symbol", BOTH, [build, "table 1"], [f"erase-all {functions}"], functions),
         repeated("print, a function", BOTH, "print", functions, 10),
         repeated("read, a function", BOTH, "read", functions, 5, before=["print 1"]),
     ]
