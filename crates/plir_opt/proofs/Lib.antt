@@ -2,4 +2,3 @@ mod Lines
 mod Verdicts
 mod Passing
 mod Printing
-mod Boxes
