@@ -310,11 +310,11 @@ module _ {T : Type 0} where
           (leads_past (Vacant head)) (slots_set (Vacant head)) (IsTable-retired t i some whole_now)
           (omega (arith, counted_now, num_full-without_slot t i some)))
 
-      pub freed_read : (n : ℕ) (s : Place T) → n ≡ get_or vs i n → s ≡ Vacant head → n < MAX_VERSION → IsSlots vs
-          (set ps i s) (Some i) (live - 1) (without_slot t i)
-      freed_read n s read new small =
+      pub freed_read : (n : ℕ) (s : Place T) (next : Option ℕ) → n ≡ get_or vs i n → s ≡ Vacant head → next ≡ Some i →
+          n < MAX_VERSION → IsSlots vs (set ps i s) next (live - 1) (without_slot t i)
+      freed_read n s next read new link small =
           let e = version_read i n (omega (arith, slot_within, k.as_many)) read in
-          rw new (freed_done (omega (arith, e)))
+          rw (new, link) (freed_done (omega (arith, e)))
 
       pub retired_read : (n : ℕ) (s : Place T) → n ≡ get_or vs i n → s ≡ Vacant head → MAX_VERSION ≤ n → IsSlots vs
           (set ps i s) head (live - 1) (without_slot t i)

@@ -232,10 +232,11 @@ impl<T> Slots<T> {
         ensures whole { IsTable self.new }
     {
         let value = self.places[index as usize].vacate(self.free);
-        if self.versions[index as usize] < u32::MAX {
+        self.live -= 1;
+        let is_retired = self.versions[index as usize] == u32::MAX;
+        if !is_retired {
             self.free = Hop::to(index);
         }
-        self.live -= 1;
         value
     }
 }
