@@ -2,3 +2,4 @@ mod Lines
 mod Verdicts
 mod Passing
 mod Printing
+mod Boxes

@@ -9,13 +9,23 @@ use Rattle.plir_core.specs.ContextView.{ContextView}
 use Rattle.plir_read.specs.OpsStanding.{StandsForOp}
 use Rattle.plir_print.specs.OpText.{op_text}
 use Rattle.plir_opt.specs.declared.choices.Form.{Form}
-use Rattle.plir_opt.specs.declared.choices.Form.TheVariants.{Text}
+use Rattle.plir_opt.specs.declared.choices.Form.TheVariants.{Text, CallGraph}
 use Rattle.plir_opt.specs.declared.choices.Pass.{Pass}
+use Rattle.plir_opt.specs.DrawnCalls.{IsDrawn}
 use Rattle.plir_opt.specs.Passed.{ArePassed}
 use Rattle.plir_opt.specs.Verified.{IsVerified}
 
+-- What is printed of an operation: where its text is asked for, that text and a line feed, and where its call graph is,
+-- a text that draws it. Of a list of the nodes or a graph of them nothing is said.
+module _ {D K A T E : Type 0} (o : op_set.Ghosts D K A T E) (names : OpView K A → List (List ℕ)) (s : ContextView K A T)
+    (root : Ptr OperationKind) where
+  abbrev pub IsPrintedAs : Form → List ℕ → Type 0
+  IsPrintedAs Text t = t ≡ op_text o s root ++ codes "\n"
+  IsPrintedAs CallGraph t = IsDrawn o names s root t
+  IsPrintedAs _ t = Unit {0}
+
 -- A text stands for an operation, which with all below it has the rules of its kind; the passes have gone over it, one
--- after another; and where a text is asked for, what is printed is the operation's text then, and a line feed.
+-- after another; and what is printed is what is asked for of the operation then.
 pub record IsTransformed {D K A T E : Type 0} (o : op_set.Ghosts D K A T E) (effect : K → Bool)
     (uses_hold : ContextView K A T → Ptr OperationKind → Type 0) (private : OpView K A → Bool)
     (names : OpView K A → List (List ℕ)) (passes : List Pass) (form : Form) (text printed : List ℕ) : Type 0 where
@@ -25,4 +35,4 @@ pub record IsTransformed {D K A T E : Type 0} (o : op_set.Ghosts D K A T E) (eff
   pub stands : StandsForOp 200 read text (Operation root)
   pub verified : IsVerified o uses_hold read root
   pub passed : ArePassed effect o.is_terminator o.is_symbol private names root passes read left
-  pub prints : form ≡ Text → printed ≡ op_text o left root ++ codes "\n"
+  pub prints : IsPrintedAs o names left root form printed

@@ -1,10 +1,15 @@
 //! The call graph of a tree, in DOT.
+ghost use Rattle.std.specs.Prelude.{◌≡◌, ◌++◌, IfOk, OnOk, string_bytes, Some};
+ghost use Rattle.std.specs.List.{flat_map};
 ghost use Rattle.plir_core.specs.ContextView.{IsLive};
 ghost use Rattle.plir_core.specs.declared.ptr.IRNode.{IRNode as AnyNode};
+ghost use Rattle.plir_opt.specs.DrawnCalls.{AreBoxesPut, IsBoxPut, IsDrawn, arrow, box, has_box, is_bare_symbol};
 
 use crate::nodes::put_node;
+use plir_builtin::laws::no_tables_agree;
 use plir_builtin::{SymbolTableCollection, SymbolTableErr};
-use plir_core::{Context, IRNode, Interface, Operation, Ptr, kind_impls};
+use plir_core::{Context, IRNode, Operation, Ptr};
+use plir_data::{OpKind, OpSet};
 use plir_symbols::{CallEdge, SymbolNames, call_graph};
 use plir_walk::WALKCONFIG_PREORDER_FORWARD;
 use plir_walk::interruptible::{WalkResult, walk_advance, walk_break};
@@ -12,44 +17,58 @@ use plir_walk::operations::immutable::walk_ops;
 use std::alloc::{AllocError, Global};
 use std::ops::ControlFlow;
 
-// Whether an operation has a box of its own: it is a symbol and no table, as a function is, or it uses a name.
+// Whether operations of a kind are symbols and no symbol tables, as functions are.
+fn is_bare_symbol<D: OpSet>(kind: OpKind<D::Kind>) -> bool
+    ensures { result ≡ is_bare_symbol D.OpSet (Some kind) }
+{
+    match kind {
+        OpKind::Func => true,
+        OpKind::Own(own) => D::is_symbol(own) && !D::is_symbol_table(own),
+        OpKind::Module | OpKind::Constant | OpKind::ForwardRef => false,
+    }
+}
+
+// Whether an operation has a box of its own: it uses a name, or is a symbol and no symbol table.
 fn has_box<D: SymbolNames>(ctx: &Context<D>, op: Ptr<Operation>) -> bool
     requires { IsLive ctx.now (AnyNode.Operation op) }
+    ensures { result ≡ has_box D.OpSet D.names_used ctx.now op }
 {
     if D::num_used_names(ctx, op) > 0 {
         return true;
     }
-    let kind = op.kind(ctx);
-    kind_impls::<D>(kind, Interface::Symbol) && !kind_impls::<D>(kind, Interface::SymbolTable)
+    is_bare_symbol::<D>(op.kind(ctx))
 }
 
-// Puts the box of an operation, if it has one.
-fn put_box<D: SymbolNames>(
+// Puts the box of an operation.
+fn put_box<D: OpSet>(
     text: &mut String,
     ctx: &Context<D>,
     op: Ptr<Operation>,
 ) -> Result<(), AllocError>
     requires { IsLive ctx.now (AnyNode.Operation op) }
+    ensures { OnOk result (string_bytes text.new ≡ string_bytes text.old ++ box D.kind_id ctx.now op) }
 {
-    if !has_box(ctx, op) {
-        return Ok(());
-    }
-    let node = IRNode::Operation(op);
-    write!(text, "  {node} [label=\"")?;
-    put_node(text, ctx, node)?;
-    text.push_str("\"];\n")
+    write!(text, "  {op} [label=\"")?;
+    put_node(text, ctx, IRNode::Operation(op))?;
+    text.push_str("\"];\n")?;
+    Ok(())
 }
 
-// Puts the arrow of a use.
-fn put_arrow(text: &mut String, edge: &CallEdge) -> Result<(), AllocError> {
-    let user = IRNode::Operation(edge.user);
-    write!(text, "  {user} -> ")?;
-    match edge.symbol {
-        Some(op) => {
-            let symbol = IRNode::Operation(op);
-            writeln!(text, "{symbol};")
-        }
-        None => text.push_str("nothing;\n"),
+// Puts the box of an operation, if it has one, or breaks the walk off for want of memory.
+fn put_box_at<D: SymbolNames>(
+    ctx: &Context<D>,
+    text: &mut String,
+    op: Ptr<Operation>,
+) -> WalkResult<AllocError>
+    requires { IsLive ctx.now (AnyNode.Operation op) }
+    ensures { IsBoxPut D.OpSet D.names_used ctx.now (string_bytes text.old) op result (string_bytes text.new) }
+{
+    if !has_box(ctx, op) {
+        return walk_advance();
+    }
+    match put_box(text, ctx, op) {
+        Ok(()) => walk_advance(),
+        Err(error) => walk_break(error),
     }
 }
 
@@ -60,20 +79,41 @@ fn put_boxes<D: SymbolNames>(
     root: Ptr<Operation>,
 ) -> Result<(), AllocError>
     requires { IsLive ctx.now (AnyNode.Operation root) }
+    ensures { OnOk result (AreBoxesPut D.OpSet D.names_used ctx.now root (string_bytes text.old)
+        (string_bytes text.new)) }
 {
-    let visit = |ctx: &Context<D>, text: &mut String, op: Ptr<Operation>| -> WalkResult<AllocError>
-        requires { IsLive ctx.now (AnyNode.Operation op) }
-    {
-        match put_box(text, ctx, op) {
-            Ok(()) => walk_advance(),
-            Err(error) => walk_break(error),
-        }
-    };
+    ctx.stands();
+    let put = |c: &Context<D>, t: &mut String, p: Ptr<Operation>| -> WalkResult<AllocError>
+        requires { IsLive c.now (AnyNode.Operation p) }
+        ensures { IsBoxPut D.OpSet D.names_used c.now (string_bytes t.old) p result (string_bytes t.new) }
+    { put_box_at(c, t, p) };
     let config = WALKCONFIG_PREORDER_FORWARD;
-    match walk_ops(ctx, text, &config, IRNode::Operation(root), visit) {
+    match walk_ops(ctx, text, &config, IRNode::Operation(root), put) {
         ControlFlow::Break(error) => Err(error),
         ControlFlow::Continue(_) => Ok(()),
     }
+}
+
+// Puts the arrow of an edge.
+fn put_arrow(text: &mut String, edge: &CallEdge) -> Result<(), AllocError>
+    ensures { OnOk result (string_bytes text.new ≡ string_bytes text.old ++ arrow edge.now) }
+{
+    let user = edge.user;
+    write!(text, "  {user} -> ")?;
+    match edge.symbol {
+        Some(symbol) => writeln!(text, "{symbol};"),
+        None => text.push_str("nothing;\n"),
+    }
+}
+
+// Puts the arrows of edges.
+fn put_arrows(text: &mut String, edges: &[CallEdge]) -> Result<(), AllocError>
+    ensures { OnOk result (string_bytes text.new ≡ string_bytes text.old ++ flat_map arrow edges.now) }
+{
+    for edge in edges {
+        put_arrow(text, edge)?;
+    }
+    Ok(())
 }
 
 /// The call graph in DOT of an operation and all below it: a box for each function, and for each other operation that
@@ -85,14 +125,14 @@ pub fn draw_calls<D: SymbolNames>(
     root: Ptr<Operation>,
 ) -> Result<String, SymbolTableErr>
     requires { IsLive ctx.now (AnyNode.Operation root) }
+    ensures { IfOk result (λ t. IsDrawn D.OpSet D.names_used ctx.now root (string_bytes t)) }
 {
     let mut tables = SymbolTableCollection::new(alloc);
+    no_tables_agree(ctx);
     let graph = call_graph(alloc, ctx, &mut tables, root)?;
     let mut text = String::from_str(alloc, "digraph calls {\n  node [shape=box];\n")?;
     put_boxes(&mut text, ctx, root)?;
-    for edge in graph.edges() {
-        put_arrow(&mut text, edge)?;
-    }
+    put_arrows(&mut text, graph.edges())?;
     text.push_str("}\n")?;
     Ok(text)
 }

@@ -1,14 +1,18 @@
 //! How a node is named: `op1v1 builtin.module @main`, `region1v1`, `block1v1`.
+ghost use Rattle.std.specs.Prelude.{◌≡◌, ◌++◌, OnOk, string_bytes};
 ghost use Rattle.plir_core.specs.ContextView.{IsLive};
 ghost use Rattle.plir_core.specs.declared.ptr.IRNode.{IRNode as AnyNode};
+ghost use Rattle.plir_opt.specs.NodeNames.{kind_id, node_name, op_words};
 
-use plir_builtin::ATTR_KEY_SYM_NAME;
+use plir_builtin::symbol_name;
 use plir_core::{Context, IRNode, Operation, Ptr};
-use plir_data::{AttrObj, OpKind, OpSet};
+use plir_data::{OpKind, OpSet};
 use std::alloc::AllocError;
 
 // The id of a kind of operations, as `dialect.name`.
-fn id_of<D: OpSet>(kind: OpKind<D::Kind>) -> &'static str {
+fn id_of<D: OpSet>(kind: OpKind<D::Kind>) -> &'static str
+    ensures { result.now ≡ kind_id D.kind_id kind }
+{
     match kind {
         OpKind::Module => "builtin.module",
         OpKind::Func => "builtin.func",
@@ -26,6 +30,7 @@ pub fn put_node<D: OpSet>(
     node: IRNode,
 ) -> Result<(), AllocError>
     requires { IsLive ctx.now node }
+    ensures { OnOk result (string_bytes out.new ≡ string_bytes out.old ++ node_name D.kind_id ctx.now node) }
 {
     write!(out, "{node}")?;
     match node {
@@ -41,11 +46,12 @@ fn put_op<D: OpSet>(
     op: Ptr<Operation>,
 ) -> Result<(), AllocError>
     requires { IsLive ctx.now (AnyNode.Operation op) }
+    ensures { OnOk result (string_bytes out.new ≡ string_bytes out.old ++ op_words D.kind_id ctx.now op) }
 {
     let id = id_of::<D>(op.kind(ctx));
     write!(out, " {id}")?;
-    if let Some(AttrObj::Identifier(name)) = op.attributes(ctx).get(ATTR_KEY_SYM_NAME) {
-        let name = name.as_ref().as_str();
+    if let Some(name) = symbol_name(ctx, op) {
+        let name = name.as_str();
         write!(out, " @{name}")?;
     }
     Ok(())

@@ -4,7 +4,7 @@ ghost use Rattle.plir_core.specs.ContextView.{IsLive};
 ghost use Rattle.plir_core.specs.declared.ptr.IRNode.{IRNode as AnyNode};
 ghost use Rattle.plir_print.specs.OpText.{op_text};
 ghost use Rattle.plir_opt.specs.Passed.{ArePassed, IsPassed};
-ghost use Rattle.plir_opt.specs.Transformed.{IsTransformed};
+ghost use Rattle.plir_opt.specs.Transformed.{IsTransformed, IsPrintedAs};
 
 use crate::calls::draw_calls;
 use crate::choices::{Choices, Form, Pass};
@@ -111,7 +111,7 @@ fn print<D: SymbolNames>(
     root: Ptr<Operation>,
 ) -> Result<String, Stop<D::Err>>
     requires { IsLive ctx.now (AnyNode.Operation root) }
-    ensures { IfOk result (λ t. form ≡ Form.Text → string_bytes t ≡ op_text D.OpSet ctx.now root ++ codes "\n") }
+    ensures { IfOk result (λ t. IsPrintedAs D.OpSet D.names_used ctx.now root form (string_bytes t)) }
 {
     match form {
         Form::Text => print_text(alloc, ctx, root),
