@@ -1,6 +1,8 @@
 -- What the contracts of this crate cite.
 --
 --   Identifier   is_identifier
+--   Inline       how an identifier holds its text
+--   NameLaws     a law of identifiers, for the proofs of the crates above
 --   Keys         the keys of attributes that the builtin dialect holds
 --   Types        TypeView T: a type as contracts see it; IsLive, AllLive, type_at, handles_of, IsInstantiated,
 --   IsTypeTable
@@ -29,6 +31,8 @@
 --   Laws         IsReordered, OrderIsNotSeen, IsDictOfItself: laws of dictionaries; IsMadeOfTrees: a law of types
 --   AttrCode, AttrFalls, AttrLaws   what the prover needs of attributes that hold attributes
 pub mod Identifier
+pub mod Inline
+pub mod NameLaws
 pub mod Keys
 pub mod Types
 pub mod Integers

@@ -101,7 +101,7 @@ fn copy_of_dict<D: OpSet>(
 {
     let mut entries = Vec::with_capacity(alloc, dict.len())?;
     'entries: for (key, value) in dict.iter() {
-        let name = String::from_str(alloc, key.as_str())?;
+        let name = key.try_clone(alloc)?;
         let copy = copy_of(alloc, value)?;
         entries.push((name, copy))?;
     }

@@ -1,8 +1,7 @@
 //! Equality of attributes: by value, a dictionary by its map.
 
-ghost use Rattle.std.specs.Prelude.{◌≡◌, map, nat_eq, string_bytes};
+ghost use Rattle.std.specs.Prelude.{◌≡◌, map};
 ghost use Rattle.plir_data.specs.AttrEq.{attr_eq, leaves_eq, items_eq, entries_eq};
-ghost use Rattle.std.specs.Cmp.Lexicographic.{pointwise};
 ghost use Rattle.plir_data.specs.AttrSeen.{attr_view};
 ghost use Rattle.plir_data.specs.AttrView.{items_of, entries_of};
 
@@ -144,17 +143,11 @@ fn are_same_dicts<D: OpSet>(ones: &AttributeDict<D>, others: &AttributeDict<D>) 
     let mut left = others.iter();
     'entries: for (key, one) in ones.iter() {
         match left.next() {
-            Some((name, other)) if is_same_text(key, name) && is_same(one, other) => {}
+            Some((name, other)) if key == name && is_same(one, other) => {}
             _ => return false,
         }
     }
     left.next().is_none()
-}
-
-fn is_same_text(one: &String, other: &String) -> bool
-    ensures { result ≡ pointwise nat_eq (string_bytes one.now) (string_bytes other.now) }
-{
-    one.as_str() == other.as_str()
 }
 
 // Whether two attributes are equal, neither of which holds others.

@@ -21,7 +21,7 @@ use std::marker::Model;
 #[derive(Drop)]
 #[derive_where(Debug)]
 pub struct AttributeDict<D: OpSet> {
-    pub(crate) entries: Vec<(String, AttrObj<D>)>,
+    pub(crate) entries: Vec<(Identifier, AttrObj<D>)>,
 }
 
 impl<D: OpSet> Model for AttributeDict<D> {
@@ -117,7 +117,7 @@ impl<D: OpSet> AttributeDict<D> {
                 let _old = put_at(&mut self.entries, at, value);
                 Ok(())
             }
-            Err(at) => insert_at(&mut self.entries, at, key.into_string(), value),
+            Err(at) => insert_at(&mut self.entries, at, key, value),
         }
     }
 

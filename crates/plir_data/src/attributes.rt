@@ -1,5 +1,5 @@
 //! Attributes: values that operations and blocks carry under keys. Here those that are lists or dictionaries, and the
-//! um of all.
+//! enum of all.
 
 ghost use Rattle.std.specs.Prelude.{◌≡◌, ℕ, List, [], Option, IfOk, IfSome, OnOk, OnErr, option_map, map};
 ghost use Rattle.plir_data.specs.AttrLive.{IsLiveWith};

@@ -5,21 +5,21 @@ ghost use Rattle.std.specs.Iterator.{at_most};
 ghost use Rattle.std.specs.Map.Iter.{TakesFirst, deref_pair};
 
 use crate::attributes::AttrObj;
+use crate::identifier::Identifier;
 use crate::op_set::OpSet;
 use std::marker::Model;
 
 /// The keys of a dictionary with their attributes, seen as those that are left.
 #[derive(Drop)]
 pub struct Entries<'a, D: OpSet> {
-    pub(crate) left: &'a [(String, AttrObj<D>)],
+    pub(crate) left: &'a [(Identifier, AttrObj<D>)],
 }
 
 impl<'a, D: OpSet> Model for Entries<'a, D> {
-    ghost use Rattle.std.specs.Prelude.{List, String};
-    ghost use Rattle.std.specs.declared.alloc.Global.{Global};
+    ghost use Rattle.std.specs.Prelude.{List, ℕ};
     ghost use Rattle.plir_data.specs.declared.attributes.AttrObj.{AttrObj};
 
-    ghost Value = { List (String Global × AttrObj D D.Kind D.Attr D.Ty D.Err) };
+    ghost Value = { List (List ℕ × AttrObj D D.Kind D.Attr D.Ty D.Err) };
 
     ghost use Rattle.std.specs.Coded.{codes};
     ghost use Rattle.plir_data.specs.AttrCode.{attr_code};
@@ -30,13 +30,13 @@ impl<'a, D: OpSet> Model for Entries<'a, D> {
 }
 
 impl<'a, D: OpSet> Iterator for Entries<'a, D> {
-    type Item = (&'a String, &'a AttrObj<D>);
+    type Item = (&'a Identifier, &'a AttrObj<D>);
 
     ghost next_gives = { TakesFirst deref_pair };
 
     ghost remaining = { λ s. at_most (length s) };
 
-    fn next(&mut self) -> Option<(&'a String, &'a AttrObj<D>)> {
+    fn next(&mut self) -> Option<(&'a Identifier, &'a AttrObj<D>)> {
         match self.left {
             [] => None,
             [first, rest @ ..] => {

@@ -1,30 +1,50 @@
 //! Names of symbols, keys of attributes, labels.
 
-ghost use Rattle.std.specs.Prelude.{◌≡◌, ◌↔◌, ◌≢◌, IfOk, OnOk, IsOk, IsTrue, true, ◌||◌, Some, nat_eq, string_bytes};
+ghost use Rattle.std.specs.Prelude.{◌≡◌, ◌≤◌, ◌↔◌, ◌≢◌, IfOk, OnOk, IsOk, IsTrue, true, ◌||◌, Some, nat_eq};
 ghost use Rattle.plir_data.specs.Identifier.{is_identifier, all_in_identifier, is_letter, is_digit};
+ghost use Rattle.plir_data.specs.Inline.{text_of, num_inline};
 
 use crate::memory::Memory;
 use std::alloc::Global;
 use std::cmp::Ordering;
+use std::fmt::{self, Debug, Formatter, Write};
 use std::hash::{Hash, Hasher};
 use std::marker::Model;
 use thiserror::Error;
 
-/// A name: an ASCII letter or `_`, and then letters, digits and `_`.
-#[derive(Debug, Drop)]
+// How many bytes of a text may stand in the identifier itself.
+const MOST_INLINE: usize = 22;
+
+// A text: up to 22 bytes by themselves with their number, and more in memory of their own.
+#[derive(Drop)]
+enum Text {
+    Inline(u8, [u8; MOST_INLINE]),
+    Apart(Box<String>),
+}
+
+/// A name: an ASCII letter or `_`, and then letters, digits and `_`. One of up to 22 characters takes no memory of its
+/// own.
 pub struct Identifier {
-    text: String,
+    text: Text,
+}
+
+// By hand, so that to let a name go is one call, however its text is held.
+impl Drop for Identifier {
+    fn drop(self) {
+        let Identifier { text: _text } = self;
+    }
 }
 
 impl Model for Identifier {
-    ghost use Rattle.std.specs.Prelude.{◌≡◌, List, ℕ, true, string_bytes};
+    ghost use Rattle.std.specs.Prelude.{◌≡◌, ◌≤◌, List, ℕ, true};
     ghost use Rattle.plir_data.specs.Identifier.{is_identifier};
+    ghost use Rattle.plir_data.specs.Inline.{text_of, num_inline};
 
     ghost Value = { List ℕ };
 
-    ghost view = { λ i. string_bytes i.text };
+    ghost view = { λ i. text_of i.text };
 
-    ghost invariant = { λ i. is_identifier (string_bytes i.text) ≡ true };
+    ghost invariant = { λ i. (is_identifier (text_of i.text) ≡ true) × (num_inline i.text ≤ 22) };
 }
 
 /// Why a text was not made an identifier.
@@ -66,6 +86,21 @@ pub fn is_identifier(text: &str) -> bool
     }
 }
 
+// The text of a string.
+fn copy_of(alloc: Global, text: &str) -> Result<Text, Memory>
+    ensures text { IfOk result (λ t. text_of t ≡ text.now) }
+    ensures inline { IfOk result (λ t. num_inline t ≤ 22) }
+{
+    let bytes = text.as_bytes();
+    if bytes.len() > MOST_INLINE {
+        let copy = String::from_str(alloc, text)?;
+        return Ok(Text::Apart(Box::new(alloc, copy)?));
+    }
+    let mut inline = [0; MOST_INLINE];
+    inline[..bytes.len()].copy_from_slice(bytes);
+    Ok(Text::Inline(bytes.len() as u8, inline))
+}
+
 impl Identifier {
     /// The identifier of a text; `Malformed` exactly where the text is none.
     pub fn try_new(alloc: Global, text: &str) -> Result<Identifier, IdentifierErr>
@@ -75,9 +110,9 @@ impl Identifier {
         if !is_identifier(text) {
             return Err(IdentifierErr::Malformed);
         }
-        match String::from_str(alloc, text) {
+        match copy_of(alloc, text) {
             Ok(text) => Ok(Identifier { text }),
-            Err(_) => Err(IdentifierErr::Memory),
+            Err(Memory) => Err(IdentifierErr::Memory),
         }
     }
 
@@ -86,24 +121,34 @@ impl Identifier {
         ensures text { result.now ≡ self.now }
         ensures formed { is_identifier self.now ≡ true }
     {
-        self.text.as_str()
-    }
-
-    /// The characters, taken out.
-    pub fn into_string(self) -> String
-        ensures text { string_bytes result ≡ self }
-        ensures formed { is_identifier self ≡ true }
-    {
-        self.text
+        match &self.text {
+            Text::Inline(len, bytes) => unsafe {
+                str::from_utf8_unchecked(&bytes[..*len as usize])
+            },
+            Text::Apart(text) => text.as_str(),
+        }
     }
 
     /// An equal identifier.
     pub fn try_clone(&self, alloc: Global) -> Result<Identifier, Memory>
         ensures { IfOk result (λ i. i ≡ self.now) }
     {
-        Ok(Identifier {
-            text: String::from_str(alloc, self.text.as_str())?,
-        })
+        match &self.text {
+            Text::Inline(len, bytes) => Ok(Identifier {
+                text: Text::Inline(*len, *bytes),
+            }),
+            Text::Apart(text) => Ok(Identifier {
+                text: copy_of(alloc, text.as_str())?,
+            }),
+        }
+    }
+}
+
+impl Debug for Identifier {
+    fn fmt<W: Write>(&self, f: &mut Formatter<W>) -> fmt::Result {
+        f.debug_struct("Identifier")
+            .field("text", &self.as_str())
+            .finish()
     }
 }
 

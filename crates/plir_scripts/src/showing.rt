@@ -126,7 +126,7 @@ fn put_attributes<D: OpSet>(
     }
     for (key, attr) in attributes.iter() {
         answer.put(" ");
-        answer.put(key);
+        answer.put(key.as_str());
         answer.put(" = ");
         if attr.is_live(ctx) {
             put_attr(alloc, ctx, answer, attr);

@@ -1,4 +1,4 @@
-use Rattle.std.proofs.Common.{◌≡◌, ◌∷◌, ◌≤◌, ap, arith, rules, string_bytes}
+use Rattle.std.proofs.Common.{◌≡◌, ◌∷◌, ◌≤◌, ap, arith, rules}
 use Rattle.plir_data.specs.AttrDepth.{entries_bulk}
 use Rattle.plir_data.specs.AttrSeen.{attr_view}
 use Rattle.plir_data.specs.DepthLaws.{first_small}
@@ -12,7 +12,7 @@ attribute_dict::AttributeDict::holds_live-is_live-requires g t c =
     let x = c.in-Some.value.now in
     let step = ap pairs_view c.in-Some.ensures.steps in
     let small = first_small (entries_bulk c.args.self.now) _ (pairs_view c.next.new.self)
-    (string_bytes c.in-Some.field-0-0.now, attr_view x) step c.entries.invariant.1 in
+    (c.in-Some.field-0-0.now, attr_view x) step c.entries.invariant.1 in
     let smaller = falls g.D.OpSet g.D.Attr.PartialEq g.D.Attr.Hash g.D.Attr.Debug g.D.Ty.PartialEq g.D.Ty.Hash
     g.D.Ty.Debug g.D.Err.Debug g.D.Err.Display x (entries_bulk c.args.self.now) small.0 in
     search rules

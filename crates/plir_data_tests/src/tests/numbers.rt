@@ -68,7 +68,7 @@ pub fn copy_identifier<D: OpSet>(bench: &mut Bench<D>, line: Line<'_>) -> Result
     if copy != name || copy.as_str() != line.text {
         answer.put("not ");
     }
-    answer.put(copy.into_string().as_str());
+    answer.put(copy.as_str());
     Ok(())
 }
 

@@ -102,6 +102,10 @@ fn tells_identifiers_where_memory_is_refused(rt: HostRuntime) -> Result<(), Mism
         is-identifier é => no
         identifier a b => refused
         identifier hello_world => hello_world
+        identifier builtin_constant_value => builtin_constant_value
+        identifier builtin_constant_values => builtin_constant_values
+        comes-before builtin_constant_value builtin_constant_values => yes
+        comes-before builtin_constant_values builtin_constant_value => no
         comes-before hello hello_world => yes
         comes-before hello_world hello => no
         comes-before hello hello => no";

@@ -53,12 +53,12 @@ put_entries-put_attr-requires g t c =
     let step = ap pairs_view c.in-Some.ensures.steps in
     let live : IsAttrLive g.D.OpSet.attr_handles types (attr_view c.in-Some.value.now) =
     (first_live g.D.OpSet.attr_handles types _ (pairs_view c.next.new.self)
-    (string_bytes c.in-Some.key.now, attr_view c.in-Some.value.now) step inv.1).0 in
+    (c.in-Some.key.now, attr_view c.in-Some.value.now) step inv.1).0 in
     let smaller : bulk (attr_view c.in-Some.value.now) < entries_bulk c.args.dict.now + 1 =
     omega (
       arith,
       (first_small (entries_bulk c.args.dict.now) _ (pairs_view c.next.new.self)
-          (string_bytes c.in-Some.key.now, attr_view c.in-Some.value.now) step inv.2).0,
+          (c.in-Some.key.now, attr_view c.in-Some.value.now) step inv.2).0,
     ) in
     search rules
 
@@ -68,11 +68,11 @@ put_entries-entries-preserved g t c =
     let l = c.entries in
     let inv = l.invariant in
     let write = entry_text g.D.OpSet.attr_id g.D.OpSet.attr_text g.D.OpSet.type_id g.D.OpSet.type_body_text types in
-    let k = string_bytes c.in-Some.key.now in
+    let k = c.in-Some.key.now in
     let x = attr_view c.in-Some.value.now in
     let left = pairs_view c.next.new.self in
     let step : pairs_view l.key-iterator ≡ (k, x) ∷ left = ap pairs_view c.in-Some.ensures.steps in
-    let key = c.in_ok-put.ensures.ok ∙ ap (λ w. string_bytes c.put_between.new.out ++ w) c.as_str.ensures.value in
+    let key = c.in_ok-put.ensures.ok ∙ ap (λ w. string_bytes c.put_between.new.out ++ w) c.as_str.ensures.text in
     let text = attr_text g.D.OpSet.attr_id g.D.OpSet.attr_text g.D.OpSet.type_id g.D.OpSet.type_body_text types in
     let pair = three (string_bytes c.put_between.new.out) k (codes " = ") (text x) key c.in_ok-put-2.ensures.ok
     c.in_ok-put_attr.ensures in

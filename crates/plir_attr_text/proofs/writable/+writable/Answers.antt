@@ -1,5 +1,4 @@
 use Rattle.std.proofs.Common.{◌≡◌, ◌↔◌, ◌∙◌, ◌∷◌, ◌+◌, ◌<◌, ◌≤◌, true, ap, sym, subst, refl, arith, rules, map}
-use Rattle.std.proofs.Common.{string_bytes}
 use Rattle.plir_data.specs.AttrDepth.{bulk, items_bulk, entries_bulk}
 use Rattle.plir_data.specs.AttrLive.{IsAttrLive, AreItemsLive, AreEntriesLive}
 use Rattle.plir_data.specs.AttrSeen.{attr_view}
@@ -30,12 +29,12 @@ is_dict_writable-is_attr_writable-requires g t c =
     let step = ap pairs_view c.in-Some.ensures.steps in
     let live : IsAttrLive g.D.OpSet.attr_handles types (attr_view c.in-Some.value.now) =
     (first_live g.D.OpSet.attr_handles types _ (pairs_view c.next.new.self)
-    (string_bytes c.in-Some.key.now, attr_view c.in-Some.value.now) step inv.1).0 in
+    (c.in-Some.key.now, attr_view c.in-Some.value.now) step inv.1).0 in
     let smaller : bulk (attr_view c.in-Some.value.now) < entries_bulk c.args.attrs.now + 1 =
     omega (
       arith,
       (first_small (entries_bulk c.args.attrs.now) _ (pairs_view c.next.new.self)
-          (string_bytes c.in-Some.key.now, attr_view c.in-Some.value.now) step inv.2).0,
+          (c.in-Some.key.now, attr_view c.in-Some.value.now) step inv.2).0,
     ) in
     search rules
 
@@ -45,16 +44,16 @@ is_dict_writable-entries-preserved g t c =
     let inv = c.entries.invariant in
     let left = pairs_view c.next.new.self in
     let step : pairs_view
-    c.entries.key-iterator ≡ (string_bytes c.in-Some.key.now, attr_view c.in-Some.value.now) ∷ left =
+    c.entries.key-iterator ≡ (c.in-Some.key.now, attr_view c.in-Some.value.now) ∷ left =
     ap pairs_view c.in-Some.ensures.steps in
     let passed : c.is_attr_writable.result ≡ true = cc in (
       entry_passed types (AreEntriesWritable types (entries_of c.args.attrs.now)) _ left
-          (string_bytes c.in-Some.key.now, attr_view c.in-Some.value.now) step (c.is_attr_writable.ensures.0 passed)
+          (c.in-Some.key.now, attr_view c.in-Some.value.now) step (c.is_attr_writable.ensures.0 passed)
           inv.0,
       (first_live g.D.OpSet.attr_handles types _ left
-          (string_bytes c.in-Some.key.now, attr_view c.in-Some.value.now) step inv.1).1,
+          (c.in-Some.key.now, attr_view c.in-Some.value.now) step inv.1).1,
       (first_small (entries_bulk c.args.attrs.now) _ left
-          (string_bytes c.in-Some.key.now, attr_view c.in-Some.value.now) step inv.2).1,
+          (c.in-Some.key.now, attr_view c.in-Some.value.now) step inv.2).1,
     )
 
 pub is_dict_writable-returns-then-not-is_attr_writable : goal.is_dict_writable-returns-then-not-is_attr_writable
@@ -62,11 +61,11 @@ is_dict_writable-returns-then-not-is_attr_writable g t c =
     let types = c.args.types.now in
     let left = pairs_view c.next.new.self in
     let step : pairs_view
-    c.entries.key-iterator ≡ (string_bytes c.in-Some.key.now, attr_view c.in-Some.value.now) ∷ left =
+    c.entries.key-iterator ≡ (c.in-Some.key.now, attr_view c.in-Some.value.now) ∷ left =
     ap pairs_view c.in-Some.ensures.steps in (
       λ h. absurd (let f : ⊥ = cc in f),
       λ w. absurd (entry_failed types (AreEntriesWritable types (entries_of c.args.attrs.now)) _ left
-          (string_bytes c.in-Some.key.now, attr_view c.in-Some.value.now) step
+          (c.in-Some.key.now, attr_view c.in-Some.value.now) step
           (λ v. let passed : c.is_attr_writable.result ≡ true = c.is_attr_writable.ensures.1 v in let f : ⊥ = cc in f)
           c.entries.invariant.0 w.1),
     )

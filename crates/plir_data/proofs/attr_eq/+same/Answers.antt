@@ -1,4 +1,4 @@
-use Rattle.std.proofs.Common.{arith, rules, ap, string_bytes, sym, ◌∙◌}
+use Rattle.std.proofs.Common.{arith, rules, ap, sym, ◌∙◌}
 use Rattle.plir_data.specs.AttrDepth.{entries_bulk}
 use Rattle.plir_data.specs.AttrSeen.{attr_view}
 use Rattle.plir_data.specs.DepthLaws.{first_small}
@@ -17,7 +17,7 @@ are_same_dicts-is_same-requires g t c =
     let x = c.in-Some.one.now in
     let step = ap pairs_view c.in-Some.ensures.steps in
     let small = first_small (entries_bulk c.args.ones.now) _ (pairs_view c.next.new.self)
-    (string_bytes c.in-Some.key.now, attr_view x) step c.entries.invariant.1 in
+    (c.in-Some.key.now, attr_view x) step c.entries.invariant.1 in
     let smaller = falls g.D.OpSet g.D.Attr.PartialEq g.D.Attr.Hash g.D.Attr.Debug g.D.Ty.PartialEq g.D.Ty.Hash
     g.D.Ty.Debug g.D.Err.Debug g.D.Err.Display x (entries_bulk c.args.ones.now) small.0 in
     search rules

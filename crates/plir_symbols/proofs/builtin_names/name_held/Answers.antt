@@ -1,4 +1,4 @@
-use Rattle.std.proofs.Common.{◌≡◌, ◌∷◌, ◌<◌, ◌-◌, suc, Some, None, length, string_bytes, arith, ap, subst, ◌∙◌}
+use Rattle.std.proofs.Common.{◌≡◌, ◌∷◌, ◌<◌, ◌-◌, suc, Some, None, length, arith, ap, subst, ◌∙◌}
 use Rattle.std.specs.Prelude.{slice_get}
 use Rattle.plir_data.specs.AttrSeen.{attr_view}
 use Rattle.plir_data.specs.DictSeen.{pairs_view}
@@ -16,34 +16,34 @@ entries-init g c =
 pub entries-preserved-in_default : goal.entries-preserved-in_default
 entries-preserved-in_default g c =
     let left = pairs_view c.next.new.self in
-    let k = string_bytes c.in-Some.key.now in
+    let k = c.in-Some.key.now in
     let v = attr_view c.in-Some.attribute.now in
     let step : pairs_view c.entries.key-iterator ≡ (k, v) ∷ left = ap pairs_view c.in-Some.ensures.steps in
     let none : None ≡ name_under (k, v) =
-    c.in_default.ensures ∙ ap (λ w. name_under (w, v)) c.as_str.ensures.value in
+    c.in_default.ensures ∙ ap (λ w. name_under (w, v)) c.as_str.ensures.text in
     passed-none _ left (k, v) c.entries.before _ step c.entries.invariant none
 
 pub returns-then-before-eq0 : goal.returns-then-before-eq0
 returns-then-before-eq0 g c =
     let left = pairs_view c.next.new.self in
-    let k = string_bytes c.in-Some.key.now in
+    let k = c.in-Some.key.now in
     let v = attr_view c.in-Some.attribute.now in
     let x = c.in-Some-name_under.name.now in
     let step : pairs_view c.entries.key-iterator ≡ (k, v) ∷ left = ap pairs_view c.in-Some.ensures.steps in
     let named : Some x ≡ name_under (k, v) =
-    c.in-Some-name_under.ensures ∙ ap (λ w. name_under (w, v)) c.as_str.ensures.value in
+    c.in-Some-name_under.ensures ∙ ap (λ w. name_under (w, v)) c.as_str.ensures.text in
     ap (λ z. slice_get z c.args.place) (in-held (op_at c.args.ctx.now c.args.op))
     ∙ found-here _ left (k, v) c.entries.before _ step c.entries.invariant x named c.if-before-eq0.true
 
 pub entries-preserved : goal.entries-preserved
 entries-preserved g c =
     let left = pairs_view c.next.new.self in
-    let k = string_bytes c.in-Some.key.now in
+    let k = c.in-Some.key.now in
     let v = attr_view c.in-Some.attribute.now in
     let x = c.in-Some-name_under.name.now in
     let step : pairs_view c.entries.key-iterator ≡ (k, v) ∷ left = ap pairs_view c.in-Some.ensures.steps in
     let named : Some x ≡ name_under (k, v) =
-    c.in-Some-name_under.ensures ∙ ap (λ w. name_under (w, v)) c.as_str.ensures.value in
+    c.in-Some-name_under.ensures ∙ ap (λ w. name_under (w, v)) c.as_str.ensures.text in
     let past : c.entries.before ≡ suc (c.entries.before - 1) = omega (arith, c.if-before-eq0.false) in
     passed-some _ left (k, v) c.entries.before _ step c.entries.invariant x named (c.entries.before - 1) past
 

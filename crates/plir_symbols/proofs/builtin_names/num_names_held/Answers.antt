@@ -1,4 +1,4 @@
-use Rattle.std.proofs.Common.{◌≡◌, ◌∷◌, true, false, length, string_bytes, sym, ap, ◌∙◌}
+use Rattle.std.proofs.Common.{◌≡◌, ◌∷◌, true, false, length, sym, ap, ◌∙◌}
 use Rattle.std.specs.Prelude.{is_some}
 use Rattle.plir_data.specs.AttrSeen.{attr_view}
 use Rattle.plir_data.specs.DictSeen.{pairs_view}
@@ -18,34 +18,34 @@ entries-init g c =
 pub entries-preserved-then-uses_name : goal.entries-preserved-then-uses_name
 entries-preserved-then-uses_name g c =
     let left = pairs_view c.next.new.self in
-    let k = string_bytes c.in-Some.key.now in
+    let k = c.in-Some.key.now in
     let v = attr_view c.in-Some.attribute.now in
     let step : pairs_view c.entries.key-iterator ≡ (k, v) ∷ left = ap pairs_view c.in-Some.ensures.steps in
     let yes : c.uses_name.result ≡ true = cc in
     let is : is_some (name_under (k, v)) ≡ true =
-    ap (λ w. is_some (name_under (w, v))) (sym c.as_str.ensures.value) ∙ sym c.uses_name.ensures ∙ yes in
+    ap (λ w. is_some (name_under (w, v))) (sym c.as_str.ensures.text) ∙ sym c.uses_name.ensures ∙ yes in
     counted-some _ left (k, v) c.entries.count _ step c.entries.invariant is
 
 pub overflow_sub-count : goal.overflow_sub-count
 overflow_sub-count g c =
     let left = pairs_view c.next.new.self in
-    let k = string_bytes c.in-Some.key.now in
+    let k = c.in-Some.key.now in
     let v = attr_view c.in-Some.attribute.now in
     let step : pairs_view c.entries.key-iterator ≡ (k, v) ∷ left = ap pairs_view c.in-Some.ensures.steps in
     let no : c.uses_name.result ≡ false = cc in
     let is : is_some (name_under (k, v)) ≡ false =
-    ap (λ w. is_some (name_under (w, v))) (sym c.as_str.ensures.value) ∙ sym c.uses_name.ensures ∙ no in
+    ap (λ w. is_some (name_under (w, v))) (sym c.as_str.ensures.text) ∙ sym c.uses_name.ensures ∙ no in
     counted-least _ left (k, v) c.entries.count _ step c.entries.invariant is
 
 pub entries-preserved : goal.entries-preserved
 entries-preserved g c =
     let left = pairs_view c.next.new.self in
-    let k = string_bytes c.in-Some.key.now in
+    let k = c.in-Some.key.now in
     let v = attr_view c.in-Some.attribute.now in
     let step : pairs_view c.entries.key-iterator ≡ (k, v) ∷ left = ap pairs_view c.in-Some.ensures.steps in
     let no : c.uses_name.result ≡ false = cc in
     let is : is_some (name_under (k, v)) ≡ false =
-    ap (λ w. is_some (name_under (w, v))) (sym c.as_str.ensures.value) ∙ sym c.uses_name.ensures ∙ no in
+    ap (λ w. is_some (name_under (w, v))) (sym c.as_str.ensures.text) ∙ sym c.uses_name.ensures ∙ no in
     counted-none _ left (k, v) c.entries.count _ step c.entries.invariant is
 
 pub returns : goal.returns
