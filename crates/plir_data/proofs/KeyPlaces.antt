@@ -1,5 +1,5 @@
 -- What stands at the place of a key, and edits there, beside the dictionary that the entries stand for.
-use Rattle.std.proofs.Common.{◌≡◌, ℕ, zero, suc, ◌+◌, ◌<◌, ◌≤◌, ◌⊎◌, inl, inr, true, cond, List, [], ◌∷◌, map, length}
+use Rattle.std.proofs.Common.{◌≡◌, ℕ, zero, suc, ◌+◌, ◌<◌, ◌⊎◌, inl, inr, true, cond, List, [], ◌∷◌, map, length}
 use Rattle.std.proofs.Common.{get_or, set, Ordering, Less, Equal, Greater, Option, Some, None, Result, Ok, Err, OnOk}
 use Rattle.std.proofs.Common.{OnErr, nat_cmp, refl, ap, subst, sym, ◌∙◌, arith}
 use Rattle.std.specs.List.{insert, remove}

@@ -1,8 +1,9 @@
 //! Names of symbols, keys of attributes, labels.
 
-ghost use Rattle.std.specs.Prelude.{◌≡◌, ◌≤◌, ◌↔◌, ◌≢◌, IfOk, OnOk, IsOk, IsTrue, true, ◌||◌, Some, nat_eq};
+ghost use Rattle.std.specs.Prelude.{◌≡◌, ◌<◌, ◌↔◌, ◌≢◌, Err, IfOk, OnOk, OnErr, IsOk, IsTrue, true, ◌||◌, Some};
+ghost use Rattle.std.specs.Prelude.{length, nat_eq};
 ghost use Rattle.plir_data.specs.Identifier.{is_identifier, all_in_identifier, is_letter, is_digit};
-ghost use Rattle.plir_data.specs.Inline.{text_of, num_inline};
+ghost use Rattle.plir_data.specs.Inline.{IsInPlace, text_of};
 
 use crate::memory::Memory;
 use std::alloc::Global;
@@ -36,15 +37,15 @@ impl Drop for Identifier {
 }
 
 impl Model for Identifier {
-    ghost use Rattle.std.specs.Prelude.{◌≡◌, ◌≤◌, List, ℕ, true};
+    ghost use Rattle.std.specs.Prelude.{◌≡◌, List, ℕ, true};
     ghost use Rattle.plir_data.specs.Identifier.{is_identifier};
-    ghost use Rattle.plir_data.specs.Inline.{text_of, num_inline};
+    ghost use Rattle.plir_data.specs.Inline.{IsInPlace, text_of};
 
     ghost Value = { List ℕ };
 
     ghost view = { λ i. text_of i.text };
 
-    ghost invariant = { λ i. (is_identifier (text_of i.text) ≡ true) × (num_inline i.text ≤ 22) };
+    ghost invariant = { λ i. (is_identifier (text_of i.text) ≡ true) × IsInPlace i.text };
 }
 
 /// Why a text was not made an identifier.
@@ -86,15 +87,25 @@ pub fn is_identifier(text: &str) -> bool
     }
 }
 
-// The text of a string.
+// The text of a string, in memory of its own.
+fn apart(alloc: Global, text: &str) -> Result<Text, Memory>
+    requires long { 22 < length text.now }
+    ensures text { IfOk result (λ t. text_of t ≡ text.now) }
+    ensures held { IfOk result IsInPlace }
+{
+    let copy = String::from_str(alloc, text)?;
+    Ok(Text::Apart(Box::new(alloc, copy)?))
+}
+
+// The text of a string, where its length says.
 fn copy_of(alloc: Global, text: &str) -> Result<Text, Memory>
     ensures text { IfOk result (λ t. text_of t ≡ text.now) }
-    ensures inline { IfOk result (λ t. num_inline t ≤ 22) }
+    ensures held { IfOk result IsInPlace }
+    ensures crowded { OnErr result (22 < length text.now) }
 {
     let bytes = text.as_bytes();
     if bytes.len() > MOST_INLINE {
-        let copy = String::from_str(alloc, text)?;
-        return Ok(Text::Apart(Box::new(alloc, copy)?));
+        return apart(alloc, text);
     }
     let mut inline = [0; MOST_INLINE];
     inline[..bytes.len()].copy_from_slice(bytes);
@@ -102,10 +113,12 @@ fn copy_of(alloc: Global, text: &str) -> Result<Text, Memory>
 }
 
 impl Identifier {
-    /// The identifier of a text; `Malformed` exactly where the text is none.
+    /// The identifier of a text; `Malformed` exactly where the text is none, and `Memory` only where it has more than
+    /// 22 characters.
     pub fn try_new(alloc: Global, text: &str) -> Result<Identifier, IdentifierErr>
         ensures made { IfOk result (λ i. i ≡ text.now) }
         ensures malformed { (result ≡ Err IdentifierErr.Malformed) ↔ (is_identifier text.now ≢ true) }
+        ensures crowded { result ≡ Err IdentifierErr.Memory → 22 < length text.now }
     {
         if !is_identifier(text) {
             return Err(IdentifierErr::Malformed);
@@ -129,16 +142,17 @@ impl Identifier {
         }
     }
 
-    /// An equal identifier.
+    /// An equal identifier. It is refused only where it has more than 22 characters.
     pub fn try_clone(&self, alloc: Global) -> Result<Identifier, Memory>
-        ensures { IfOk result (λ i. i ≡ self.now) }
+        ensures equal { IfOk result (λ i. i ≡ self.now) }
+        ensures crowded { OnErr result (22 < length self.now) }
     {
         match &self.text {
             Text::Inline(len, bytes) => Ok(Identifier {
                 text: Text::Inline(*len, *bytes),
             }),
             Text::Apart(text) => Ok(Identifier {
-                text: copy_of(alloc, text.as_str())?,
+                text: apart(alloc, text.as_str())?,
             }),
         }
     }

@@ -1,4 +1,4 @@
-use Rattle.std.proofs.Common.{◌≡◌, ◌∷◌, ◌≤◌, ap, arith, rules}
+use Rattle.std.proofs.Common.{ap, rules}
 use Rattle.plir_data.specs.AttrDepth.{entries_bulk}
 use Rattle.plir_data.specs.AttrSeen.{attr_view}
 use Rattle.plir_data.specs.DepthLaws.{first_small}

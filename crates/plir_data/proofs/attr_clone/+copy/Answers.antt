@@ -1,4 +1,4 @@
-use Rattle.std.proofs.Common.{◌≡◌, ◌++◌, ◌∷◌, ◌≤◌, [], append-nil, arith, rules, sym, ap, subst, ◌∙◌}
+use Rattle.std.proofs.Common.{◌≡◌, ◌++◌, ◌∷◌, append-nil, rules, sym, ap, subst, ◌∙◌}
 use Rattle.plir_data.specs.AttrDepth.{entries_bulk}
 use Rattle.plir_data.specs.AttrSeen.{attr_view}
 use Rattle.plir_data.specs.DepthLaws.{first_small}
@@ -25,7 +25,7 @@ copy_of_dict-entries-preserved g t c =
     let k = c.in-Some.key.now in
     let es = c.entries.entries.items in
     let step : pairs_view c.entries.key-iterator ≡ (k, x) ∷ left = ap pairs_view c.in-Some.ensures.steps in
-    let key : c.in_ok-name.name ≡ k = c.in_ok-name.ensures in
+    let key : c.in_ok-name.name ≡ k = c.in_ok-name.ensures.equal in
     let pair = ap (λ n. (n, attr_view c.in_ok-copy.copy)) key ∙ ap (λ y. (k, y)) c.in_ok-copy.ensures in
     let done = ap (λ fs. pairs_view fs ++ left) c.in_ok-push.ensures.items ∙ one_more
     (λ e. (e.0, attr_view e.1)) es (c.in_ok-name.name, c.in_ok-copy.copy) left ∙ ap

@@ -18,7 +18,7 @@ pub returns-then-is_some-clause-refused : goal.returns-then-is_some-clause-refus
 returns-then-is_some-clause-refused g c =
     let kind = sym c.is_symbol.ensures ∙ c.if-not-is_symbol.false in
     let name = sym c.in-Some.ensures in
-    let before = c.in_ok-before.ensures.before ∙ ap (get c.args.self.now.names) c.in_ok-copy.ensures in
+    let before = c.in_ok-before.ensures.before ∙ ap (get c.args.self.now.names) c.in_ok-copy.ensures.equal in
     let some = sym (ap is_some before) ∙ sym c.is_some.ensures ∙ c.if-is_some.true in
     reported-first c.redefined.result c.in-Some.name.now c.redefined.ensures
     (λ r. (es : Symbols) → IsRead es c.args.self.now
@@ -31,10 +31,10 @@ pub returns-clause-read : goal.returns-clause-read
 returns-clause-read g c = λ es h.
     let kind = sym c.is_symbol.ensures ∙ c.if-not-is_symbol.false in
     let name = sym c.in-Some.ensures in
-    let before = c.in_ok-before.ensures.before ∙ ap (get c.args.self.now.names) c.in_ok-copy.ensures in
+    let before = c.in_ok-before.ensures.before ∙ ap (get c.args.self.now.names) c.in_ok-copy.ensures.equal in
     let none : get c.args.self.now.names c.in-Some.name.now ≡ None =
     sym before ∙ not_some c.in_ok-before.before (sym c.is_some.ensures ∙ c.if-is_some.false) in
-    let made = c.in_ok-before.ensures.ok ∙ ap (λ n. with_name c.args.self.now n c.args.op) c.in_ok-copy.ensures in
+    let made = c.in_ok-before.ensures.ok ∙ ap (λ n. with_name c.args.self.now n c.args.op) c.in_ok-copy.ensures.equal in
     subst (λ t. IsRead (es ++ symbols_of g.D.OpSet.is_symbol c.args.ctx.now c.args.op) t) (sym made)
     (subst (λ z. IsRead (es ++ z) (with_name c.args.self.now c.in-Some.name.now c.args.op))
     (sym (λ i. cond (kind i) ((c.args.op, name i) ∷ []) []))

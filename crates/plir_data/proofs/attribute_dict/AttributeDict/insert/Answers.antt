@@ -1,11 +1,10 @@
-use Rattle.std.proofs.Common.{◌≡◌, ◌∙◌, ap, subst, sym, refl, Ok, Err, Some, None, OnOk}
+use Rattle.std.proofs.Common.{◌≡◌, ◌∙◌, ap, subst, sym, refl, Ok, Err, OnOk}
 use Rattle.plir_data.specs.AttrSeen.{attr_view}
 use Rattle.plir_data.specs.DictSeen.{pairs_view}
-use Rattle.plir_data.specs.Dictionary.{dict_get, dict_put, dict_without, IsDictionary}
+use Rattle.plir_data.specs.Dictionary.{dict_put, IsDictionary}
 use Rattle.plir_data.specs.Places.{KeysAscend, IsPlace}
-use Rattle.plir_data.proofs.Dictionaries.{dictionary_put, dictionary_without}
-use Rattle.plir_data.proofs.HeldHandles.{seen_live}
-use Rattle.plir_data.proofs.KeyPlaces.{keys_ascend, get_absent, got_by, put_by, without_found, without_absent}
+use Rattle.plir_data.proofs.Dictionaries.{dictionary_put}
+use Rattle.plir_data.proofs.KeyPlaces.{keys_ascend, put_by}
 use Rattle.plir_data.proofs.KeyPlaces.{found_formed, inserted, dictionary_inserted}
 use Rattle.plir_data.proofs.attribute_dict.AttributeDict.insert.Goals as goal
 

@@ -1,13 +1,12 @@
-use Rattle.std.proofs.Common.{◌≡◌, ◌∙◌, ap, subst, sym, refl, Ok, Err, Some, None}
+use Rattle.std.proofs.Common.{◌≡◌, ◌∙◌, ap, subst, sym, Ok, Err, Some}
 use Rattle.std.proofs.lemmas.List.{get_or_read}
 use Rattle.plir_data.specs.AttrSeen.{attr_view}
 use Rattle.plir_data.specs.DictSeen.{pairs_view}
-use Rattle.plir_data.specs.Dictionary.{dict_get, dict_put, dict_without, IsDictionary}
+use Rattle.plir_data.specs.Dictionary.{dict_get, dict_without, IsDictionary}
 use Rattle.plir_data.specs.Places.{KeysAscend, IsPlace}
-use Rattle.plir_data.proofs.Dictionaries.{dictionary_put, dictionary_without}
+use Rattle.plir_data.proofs.Dictionaries.{dictionary_without}
 use Rattle.plir_data.proofs.HeldHandles.{seen_live}
-use Rattle.plir_data.proofs.KeyPlaces.{keys_ascend, get_absent, got_by, put_by, without_found, without_absent}
-use Rattle.plir_data.proofs.KeyPlaces.{found_formed, inserted, dictionary_inserted}
+use Rattle.plir_data.proofs.KeyPlaces.{keys_ascend, get_absent, got_by, without_found, without_absent}
 use Rattle.plir_data.proofs.attribute_dict.AttributeDict.remove.Goals as goal
 
 pub place_of-requires : goal.place_of-requires
