@@ -68,6 +68,7 @@ impl ConstantOp {
         ensures err { OnErr result (SameLive ctx.old ctx.new) }
         ensures too_many { limit ctx.old < num_live ctx.old + 1 → IsErr result }
         ensures too_many_only { result ≡ Err NodeErr.TooManyNodes → IsFullForOp ctx.old.nodes 0 }
+        ensures crowded { result ≡ Err NodeErr.TooManyNodes → IsFullForOp ctx.new.nodes 0 }
         ensures whole { IsWellFormed D.attr_handles ctx.new }
     {
         ctx.stands();

@@ -21,6 +21,7 @@ pub mod Ancestors
 pub mod CountFacts
 pub mod Scan
 pub mod NewRegions
+pub mod SpentLeft
 pub mod ChildAt
 pub mod Terminators
 pub mod NewNodes

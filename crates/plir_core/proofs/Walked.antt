@@ -49,7 +49,7 @@ module _ {O B : Type 0} (s : Nodes O B) (w : IsStored s) where
       enough f c (omega arith)))
 
   -- a tree is those of the children and the node
-  tree_of-step : (n : IRNode) → tree_of s n ≡ flat_map (tree_of s) (node_children s n) ++ n ∷ []
+  pub tree_of-step : (n : IRNode) → tree_of s n ≡ flat_map (tree_of s) (node_children s n) ++ n ∷ []
   tree_of-step n = with_levels (most_steps s - 1) (omega arith)
     where
       with_levels : (f : ℕ) → most_steps s ≡ suc f → tree_of s n ≡ flat_map (tree_of s) (node_children s n) ++ n ∷ []

@@ -63,6 +63,7 @@ impl Operation {
             (op_view kind result_types.items operands.items successors.items []) num_regions) }
         ensures too_many { limit ctx.old < num_live ctx.old + 1 + num_regions → result ≡ Err NodeErr.TooManyNodes }
         ensures too_many_only { result ≡ Err NodeErr.TooManyNodes → IsFullForOp ctx.old.nodes num_regions }
+        ensures crowded { result ≡ Err NodeErr.TooManyNodes → IsFullForOp ctx.new.nodes num_regions }
         ensures whole { IsWellFormed D.attr_handles ctx.new }
     {
         let attributes = AttributeDict::new(alloc);
@@ -78,9 +79,9 @@ impl Operation {
     }
 
     /// A new operation in no block, with these attributes and so many new regions. `TooManyNodes` comes only where the
-    /// limit of live nodes would be passed, or the slot numbers of operations or regions are spent. After a refusal no
-    /// live node has changed, and the slots are as before or as where the operation and some of its regions were made
-    /// and freed again.
+    /// limit of live nodes would be passed, or the slot numbers of operations or regions are spent, and then there is
+    /// no room for it afterwards either. After a refusal no live node has changed, and the slots are as before or as
+    /// where the operation and some of its regions were made and freed again.
     pub fn with_attributes<D: OpSet>(
         ctx: &mut Context<D>,
         kind: OpKind<D::Kind>,
@@ -109,6 +110,7 @@ impl Operation {
             (op_view kind result_types.items operands.items successors.items attributes) num_regions) }
         ensures too_many { limit ctx.old < num_live ctx.old + 1 + num_regions → result ≡ Err NodeErr.TooManyNodes }
         ensures too_many_only { result ≡ Err NodeErr.TooManyNodes → IsFullForOp ctx.old.nodes num_regions }
+        ensures crowded { result ≡ Err NodeErr.TooManyNodes → IsFullForOp ctx.new.nodes num_regions }
         ensures whole { IsWellFormed D.attr_handles ctx.new }
     {
         let data = OpData::new(

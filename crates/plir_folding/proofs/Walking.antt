@@ -12,9 +12,12 @@ use Rattle.plir_core.specs.declared.ptr.Region.{Region as RegionKind}
 use Rattle.plir_core.specs.declared.ptr.BasicBlock.{BasicBlock as BasicBlockKind}
 use Rattle.plir_core.specs.declared.ptr.IRNode.{IRNode}
 use Rattle.plir_core.specs.declared.ptr.IRNode.TheVariants.{Operation, Region, BasicBlock}
+use Rattle.plir_core.specs.declared.arena.making.NodeErr.{NodeErr}
+use Rattle.plir_core.specs.declared.arena.making.NodeErr.TheVariants.{TooManyNodes}
 use Rattle.plir_core.specs.Above.{climb}
 use Rattle.plir_core.specs.Forest.{look, IsForest}
 use Rattle.plir_core.specs.Nodes.{region_node, block_node}
+use Rattle.plir_core.specs.Room.{IsFullForOp}
 use Rattle.plir_core.specs.WellFormed.{IsWellFormed}
 use Rattle.plir_core.specs.ContextView.{ContextView, IsLive, is_live, children, parent_of}
 use Rattle.plir_walk.specs.declared.interruptible.WalkContinue.{WalkContinue}
@@ -26,7 +29,7 @@ use Rattle.plir_walk.specs.Calls.{Call, Relation, Chain, NoBreak}
 use Rattle.plir_walk.specs.TreeLaws.{reached-under}
 use Rattle.plir_walk.specs.Walked.{Walked, IsCallUnder}
 use Rattle.plir_walk.specs.LawfulChanges.{LawfulChanges}
-use Rattle.plir_walk.specs.CallLaws.{chain-each, kept_from_entry_to_exit, holds_under_root}
+use Rattle.plir_walk.specs.CallLaws.{chain-each, kept_from_entry_to_exit, holds_under_root, left_by_the_break}
 use Rattle.plir_walk.specs.NodeLaws.{climb-nothing}
 use Rattle.plir_walk.specs.WalkLaws.{walk-lasts}
 use Rattle.plir_folding.specs.Worth.{Integer, IsUnfolded, AreSettled}
@@ -64,8 +67,8 @@ module _ {K A T : Type 0} (fold : K → Integer → Integer → Option Integer) 
       (λ i q e. cc e) q h)
 
   -- nothing is done at operations and regions
-  pub at-none : {B : Type 0} (laws : LawfulChanges K A T own) (s : ContextView K A T) (flag : Bool) (n m : IRNode)
-      (a : ControlFlow B WalkContinue) → n ≡ m → a ≡ Continue Advance → IsWellFormed own s
+  pub at-none : (laws : LawfulChanges K A T own) (s : ContextView K A T) (flag : Bool) (n m : IRNode)
+      (a : ControlFlow NodeErr WalkContinue) → n ≡ m → a ≡ Continue Advance → IsWellFormed own s
       → AreChildrenSettled fold s m → IsFoldedAt fold own s flag n a s flag
   at-none laws s flag n m a e f w h = record {
     below = below-none fold own laws s n w;
@@ -75,8 +78,8 @@ module _ {K A T : Type 0} (fold : K → Integer → Integer → Option Integer) 
   }
 
   -- what was done at a block
-  pub at-block : {B : Type 0} (s t : ContextView K A T) (flag flag' : Bool) (n : IRNode) (b : Ptr BasicBlockKind)
-      (a : ControlFlow B WalkContinue) → n ≡ BasicBlock b → IsFoldedBelow fold own s (BasicBlock b) t
+  pub at-block : (s t : ContextView K A T) (flag flag' : Bool) (n : IRNode) (b : Ptr BasicBlockKind)
+      (a : ControlFlow NodeErr WalkContinue) → n ≡ BasicBlock b → IsFoldedBelow fold own s (BasicBlock b) t
       → IsAnswered fold s flag (BasicBlock b) a t flag' → IsFoldedAt fold own s flag n a t flag'
   at-block s t flag flag' n b a e l f = record {
     below = subst (λ z. IsFoldedBelow fold own s z t) (sym e) l;
@@ -84,24 +87,24 @@ module _ {K A T : Type 0} (fold : K → Integer → Integer → Option Integer) 
   }
 
   -- what is promised of equal values
-  pub folded-at : {B : Type 0} {c d c' d' : ContextView K A T} {s t s' t' : Bool} {n : IRNode} {a : ControlFlow B
-      WalkContinue} → c ≡ d → s ≡ t → c' ≡ d' → s' ≡ t' → IsFoldedAt fold own c s n a c' s'
+  pub folded-at : {c d c' d' : ContextView K A T} {s t s' t' : Bool} {n : IRNode}
+      {a : ControlFlow NodeErr WalkContinue} → c ≡ d → s ≡ t → c' ≡ d' → s' ≡ t' → IsFoldedAt fold own c s n a c' s'
       → IsFoldedAt fold own d t n a d' t'
-  folded-at {B} {c} {d} {c'} {d'} {s} {t} {s'} {t'} {n} {a} e f e' f' h =
+  folded-at {c} {d} {c'} {d'} {s} {t} {s'} {t'} {n} {a} e f e' f' h =
       subst (λ z. IsFoldedAt fold own d t n a d' z) f'
       (subst (λ z. IsFoldedAt fold own d t n a z s') e'
       (subst (λ z. IsFoldedAt fold own d z n a c' s') f (subst (λ z. IsFoldedAt fold own z s n a c' s') e h)))
 
-  module _ {B : Type 0} (post : Relation (ContextView K A T) Bool B) (r : IRNode) (laws : LawfulChanges K A T own)
-      (each : (c : ContextView K A T) (s : Bool) (n : IRNode) (a : ControlFlow B WalkContinue) (c' : ContextView K A T)
-      (s' : Bool) → post c s n a c' s' → IsFoldedAt fold own c s n a c' s') where
-    abbrev call : Relation (ContextView K A T) Bool B
+  module _ (post : Relation (ContextView K A T) Bool NodeErr) (r : IRNode) (laws : LawfulChanges K A T own)
+      (each : (c : ContextView K A T) (s : Bool) (n : IRNode) (a : ControlFlow NodeErr WalkContinue)
+      (c' : ContextView K A T) (s' : Bool) → post c s n a c' s' → IsFoldedAt fold own c s n a c' s') where
+    abbrev call : Relation (ContextView K A T) Bool NodeErr
     call = IsCallUnder look r post
 
     abbrev Steady : ContextView K A T → Bool → ContextView K A T → Bool → Type 0
     Steady c s c' s' = IsWellFormed own c → IsWellFormed own c' × IsFolded fold c c'
 
-    pub walk-folded : (c c' : ContextView K A T) (s s' : Bool) (calls : List (Call (ContextView K A T) Bool B))
+    pub walk-folded : (c c' : ContextView K A T) (s s' : Bool) (calls : List (Call (ContextView K A T) Bool NodeErr))
         → IsWellFormed own c → Chain call c s calls c' s' → IsWellFormed own c' × IsFolded fold c c'
     walk-folded c c' s s' calls w h =
         kept_from_entry_to_exit call Steady
@@ -112,7 +115,7 @@ module _ {K A T : Type 0} (fold : K → Integer → Integer → Option Integer) 
         (λ d d' t t' n a p w. (let b = (each d t n a d' t' p.made).below in (b.whole, b.folded))) c c' s s' calls h w
 
     -- what a walk leaves of all below its root
-    pub walk-below : (c c' : ContextView K A T) (s s' : Bool) (calls : List (Call (ContextView K A T) Bool B))
+    pub walk-below : (c c' : ContextView K A T) (s s' : Bool) (calls : List (Call (ContextView K A T) Bool NodeErr))
         → IsWellFormed own c → IsLive c r → Chain call c s calls c' s' → IsFoldedBelow fold own c r c'
     walk-below c c' s s' calls w l h =
         let after = walk-folded c c' s s' calls w h in
@@ -121,11 +124,11 @@ module _ {K A T : Type 0} (fold : K → Integer → Integer → Option Integer) 
         (laws.forest c w) l h in
         record { folded = after.1; lawful = lasts.2; whole = after.0 }
 
-    told : (c c' : ContextView K A T) (s s' : Bool) (n : IRNode) (a : ControlFlow B WalkContinue)
+    told : (c c' : ContextView K A T) (s s' : Bool) (n : IRNode) (a : ControlFlow NodeErr WalkContinue)
         → Unbroken call c s n a c' s' → IsToldBy c s s' c' (λ z. AreChildrenSettled fold z n)
     told c c' s s' n a p = go a (each c s n a c' s' p.0.made).answered p.1
       where
-        go : (a : ControlFlow B WalkContinue) → IsAnswered fold c s n a c' s' → ((b : B) → a ≢ Break b)
+        go : (a : ControlFlow NodeErr WalkContinue) → IsAnswered fold c s n a c' s' → ((b : NodeErr) → a ≢ Break b)
             → IsToldBy c s s' c' (λ z. AreChildrenSettled fold z n)
         go (Continue Advance) f k = f
         go (Continue Skip) f k = absurd f
@@ -134,7 +137,7 @@ module _ {K A T : Type 0} (fold : K → Integer → Integer → Option Integer) 
     abbrev Telling : ContextView K A T → Bool → ContextView K A T → Bool → Type 0
     Telling c s c' s' = IsWellFormed own c → IsWellFormed own c' × IsFolded fold c c' × IsFlagged c s s' c'
 
-    pub walk-tells : (c c' : ContextView K A T) (s s' : Bool) (calls : List (Call (ContextView K A T) Bool B))
+    pub walk-tells : (c c' : ContextView K A T) (s s' : Bool) (calls : List (Call (ContextView K A T) Bool NodeErr))
         → IsWellFormed own c → Chain (Unbroken call) c s calls c' s' → IsFlagged c s s' c'
     walk-tells c c' s s' calls w h =
         (kept_from_entry_to_exit (Unbroken call) Telling
@@ -149,13 +152,13 @@ module _ {K A T : Type 0} (fold : K → Integer → Integer → Option Integer) 
         s' calls h w).2
 
     -- a call that folded nothing
-    abbrev Idle : Relation (ContextView K A T) Bool B
+    abbrev Idle : Relation (ContextView K A T) Bool NodeErr
     Idle c s n a c' s' = Unbroken call c s n a c' s' × (s' ≡ false)
 
     abbrev Clear : ContextView K A T → Bool → ContextView K A T → Bool → Type 0
     Clear c s c' s' = s' ≡ false → (s ≡ false) × (c' ≡ c)
 
-    clear-chain : (c c' : ContextView K A T) (s s' : Bool) (calls : List (Call (ContextView K A T) Bool B))
+    clear-chain : (c c' : ContextView K A T) (s s' : Bool) (calls : List (Call (ContextView K A T) Bool NodeErr))
         → Chain (Unbroken call) c s calls c' s' → Clear c s c' s'
     clear-chain c c' s s' calls h =
         kept_from_entry_to_exit (Unbroken call) Clear
@@ -166,24 +169,24 @@ module _ {K A T : Type 0} (fold : K → Integer → Integer → Option Integer) 
         (λ d d' t t' n a p. (told d d' t t' n a p).tells.clear) c c' s s' calls h
 
     -- where nothing was folded in the end, no call has folded anything
-    idle-chain : (c c' : ContextView K A T) (s s' : Bool) (calls : List (Call (ContextView K A T) Bool B))
+    idle-chain : (c c' : ContextView K A T) (s s' : Bool) (calls : List (Call (ContextView K A T) Bool NodeErr))
         → Chain (Unbroken call) c s calls c' s' → s' ≡ false → Chain Idle c s calls c' s'
     idle-chain c c' s s' [] h f = h
     idle-chain c c' s s' (x ∷ xs) h f =
         (h.0, h.1, (h.2, (clear-chain x.after c' x.left s' xs h.3 f).0), idle-chain x.after c' x.left s' xs h.3 f)
 
-    same-after : (c c' : ContextView K A T) (s s' : Bool) (n : IRNode) (a : ControlFlow B WalkContinue)
+    same-after : (c c' : ContextView K A T) (s s' : Bool) (n : IRNode) (a : ControlFlow NodeErr WalkContinue)
         → Idle c s n a c' s' → c' ≡ c
     same-after c c' s s' n a p = ((told c c' s s' n a p.0).tells.clear p.1).1
 
-    never-skips : (a : ControlFlow B WalkContinue) (c c' : ContextView K A T) (s s' : Bool) (n : IRNode)
+    never-skips : (a : ControlFlow NodeErr WalkContinue) (c c' : ContextView K A T) (s s' : Bool) (n : IRNode)
         → IsAnswered fold c s n a c' s' → a ≢ Continue Skip
     never-skips (Continue Advance) c c' s s' n f e = cc e
     never-skips (Continue Skip) c c' s s' n f e = f
     never-skips (Break b) c c' s s' n f e = cc e
 
     module _ (w : WalkConfig) (c c' : ContextView K A T) (s s' : Bool) (limit : ℕ)
-        (answer : Result (ControlFlow B WalkContinue) CallLimit) (k : WalkContinue) (e : answer ≡ Ok (Continue k))
+        (answer : Result (ControlFlow NodeErr WalkContinue) CallLimit) (k : WalkContinue) (e : answer ≡ Ok (Continue k))
         (pre : AllPre w)
         (whole : IsWellFormed own c) (walked : Walked look w post c s r limit answer c' s') where
       walk : Walked look w post c s r limit (Ok (Continue k)) c' s'
@@ -213,3 +216,12 @@ module _ {K A T : Type 0} (fold : K → Integer → Integer → Option Integer) 
               never-skips x.answer x.before x.after x.state x.left x.node
               (each x.before x.state x.node x.answer x.after x.left p.made).answered)) a under in
               h p (forest.parent_child a (Operation p) q)
+
+    -- where a walk was broken off for too many nodes, there is no room for one more constant
+    pub crowded-at-end : (w : WalkConfig) (c c' : ContextView K A T) (s s' : Bool) (limit : ℕ)
+        (answer : Result (ControlFlow NodeErr WalkContinue) CallLimit) (e : NodeErr) → answer ≡ Ok (Break e) → AllPre w
+        → Walked look w post c s r limit answer c' s' → e ≡ TooManyNodes → IsFullForOp c'.nodes 0
+    crowded-at-end w c c' s s' limit answer e is pre walked =
+        let walk = subst (λ z. Walked look w post c s r limit z c' s') is walked in
+        let last = left_by_the_break call c c' s s' walk.calls e walk.chain (walk.at_exit pre).answers.0 in
+        (each last.0 last.1 last.2 (Break e) c' s' last.3.made).answered

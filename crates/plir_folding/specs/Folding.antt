@@ -10,7 +10,10 @@ use Rattle.plir_core.specs.declared.ptr.Operation.{Operation as OperationKind}
 use Rattle.plir_core.specs.declared.ptr.BasicBlock.{BasicBlock as BasicBlockKind}
 use Rattle.plir_core.specs.declared.ptr.IRNode.{IRNode}
 use Rattle.plir_core.specs.declared.ptr.IRNode.TheVariants.{Operation, BasicBlock}
+use Rattle.plir_core.specs.declared.arena.making.NodeErr.{NodeErr}
+use Rattle.plir_core.specs.declared.arena.making.NodeErr.TheVariants.{TooManyNodes}
 use Rattle.plir_core.specs.Forest.{look}
+use Rattle.plir_core.specs.Room.{IsFullForOp}
 use Rattle.plir_core.specs.ContextView.{ContextView, children}
 use Rattle.plir_core.specs.WellFormed.{IsWellFormed}
 use Rattle.plir_walk.specs.Lawful.{Lawful}
@@ -42,15 +45,16 @@ module _ {K A T : Type 0} where
       pub lawful : Lawful (look s) n (look t)
       pub whole : IsWellFormed own_handles t
 
-    -- what the answer of a call at a node promises: it has gone on, or has broken the walk off
-    abbrev pub IsAnswered : {B : Type 0} → ContextView K A T → Bool → IRNode → ControlFlow B WalkContinue →
+    -- what the answer of a call at a node promises: it has gone on, or has broken the walk off, and where it did so for
+    -- too many nodes there is no room for one more constant
+    abbrev pub IsAnswered : ContextView K A T → Bool → IRNode → ControlFlow NodeErr WalkContinue →
         ContextView K A T → Bool → Type 0
     IsAnswered s flag n (Continue Advance) t flag' = IsToldBy s flag flag' t (λ c. AreChildrenSettled c n)
     IsAnswered s flag n (Continue Skip) t flag' = ⊥
-    IsAnswered s flag n (Break e) t flag' = Unit {0}
+    IsAnswered s flag n (Break e) t flag' = e ≡ TooManyNodes → IsFullForOp t.nodes 0
 
     -- the call at a node
-    pub record IsFoldedAt {B : Type 0} (own_handles : A → List ℕ) (s : ContextView K A T) (flag : Bool) (n : IRNode)
-        (answer : ControlFlow B WalkContinue) (t : ContextView K A T) (flag' : Bool) : Type 0 where
+    pub record IsFoldedAt (own_handles : A → List ℕ) (s : ContextView K A T) (flag : Bool) (n : IRNode)
+        (answer : ControlFlow NodeErr WalkContinue) (t : ContextView K A T) (flag' : Bool) : Type 0 where
       pub below : IsFoldedBelow own_handles s n t
       pub answered : IsAnswered s flag n answer t flag'

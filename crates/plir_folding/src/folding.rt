@@ -1,8 +1,9 @@
 //! Constant folding.
-ghost use Rattle.std.specs.Prelude.{◌≡◌, ◌<◌, false, Some, OnOk, IfOk, length};
+ghost use Rattle.std.specs.Prelude.{◌≡◌, ◌<◌, false, Some, Err, OnOk, IfOk, length};
 ghost use Rattle.plir_core.specs.declared.ptr.IRNode.{IRNode as AnyNode};
 ghost use Rattle.plir_core.specs.Forest.{look};
 ghost use Rattle.plir_core.specs.ContextView.{IsLive, operands_of, parent_of};
+ghost use Rattle.plir_core.specs.Room.{IsFullForOp};
 ghost use Rattle.plir_core.specs.WellFormed.{IsWellFormed};
 ghost use Rattle.plir_walk.specs.Lawful.{Lawful};
 ghost use Rattle.plir_folding.specs.Worth.{AreSettled, IsSettled, IsUnfolded};
@@ -41,6 +42,7 @@ fn fold_operand<D: FoldSet>(
     ensures told { IfOk result (λ changed. IsToldBy ctx.old before changed ctx.new
         (λ s. IsUnfolded D.fold s op place)) }
     ensures filled { IsFilledBefore ctx.old ctx.new block op }
+    ensures crowded { result ≡ Err NodeErr.TooManyNodes → IsFullForOp ctx.new.nodes 0 }
 {
     lawful_changes::<D>();
     ctx.stands();
@@ -70,6 +72,7 @@ fn fold_op<D: FoldSet>(
     ensures below { IsFoldedBelow D.fold D.attr_handles ctx.old (AnyNode.BasicBlock block) ctx.new }
     ensures told { IfOk result (λ changed. IsToldBy ctx.old before changed ctx.new (λ s. IsSettled D.fold s op)) }
     ensures filled { IsFilledBefore ctx.old ctx.new block op }
+    ensures crowded { result ≡ Err NodeErr.TooManyNodes → IsFullForOp ctx.new.nodes 0 }
 {
     lawful_changes::<D>();
     ctx.stands();
@@ -93,6 +96,7 @@ fn fold_block<D: FoldSet>(
     ensures below { IsFoldedBelow D.fold D.attr_handles ctx.old (AnyNode.BasicBlock block) ctx.new }
     ensures told { IfOk result (λ changed. IsToldBy ctx.old before changed ctx.new
         (λ s. AreChildrenSettled D.fold s (AnyNode.BasicBlock block))) }
+    ensures crowded { result ≡ Err NodeErr.TooManyNodes → IsFullForOp ctx.new.nodes 0 }
 {
     lawful_changes::<D>();
     ctx.stands();
@@ -144,6 +148,7 @@ fn fold_round<D: FoldSet>(
     ensures below { IsFoldedBelow D.fold D.attr_handles ctx.old (AnyNode.Operation root) ctx.new }
     ensures told { IfOk result (λ changed. IsToldBy ctx.old false changed ctx.new
         (λ s. AreSettled D.fold s (AnyNode.Operation root))) }
+    ensures crowded { result ≡ Err NodeErr.TooManyNodes → IsFullForOp ctx.new.nodes 0 }
 {
     lawful_changes::<D>();
     before_is_a_total_order();
@@ -179,7 +184,8 @@ fn fold_round<D: FoldSet>(
 ///
 /// # Errors
 ///
-/// Where a constant was not made: what was folded before stays.
+/// Where a constant was not made: what was folded before stays. `TooManyNodes` comes only where there is no room for
+/// one more constant in what is left.
 pub fn fold_constants<D: FoldSet>(
     alloc: Global,
     ctx: &mut Context<D>,
@@ -189,6 +195,7 @@ pub fn fold_constants<D: FoldSet>(
     ensures settled { OnOk result (AreSettled D.fold ctx.new (AnyNode.Operation root)) }
     ensures folded { IsFolded D.fold ctx.old ctx.new }
     ensures lawful { Lawful (look ctx.old) (AnyNode.Operation root) (look ctx.new) }
+    ensures crowded { result ≡ Err NodeErr.TooManyNodes → IsFullForOp ctx.new.nodes 0 }
     ensures whole { IsWellFormed D.attr_handles ctx.new }
 {
     lawful_changes::<D>();

@@ -1,8 +1,9 @@
--- Laws of the calls of a walk, for the proofs of passes: what each call keeps is kept from entry to exit, and what each
--- call establishes at its node, and later calls leave, holds at the exit of all nodes that the walk has called.
-use Rattle.std.proofs.Common.{◌≢◌, List, [], ◌∷◌, inl, inr, subst}
+-- Laws of the calls of a walk, for the proofs of passes: what each call keeps is kept from entry to exit; what each
+-- call establishes at its node, and later calls leave, holds at the exit of all nodes that the walk has called; and a
+-- walk that was broken off leaves what the call left that broke it.
+use Rattle.std.proofs.Common.{◌≢◌, List, [], ◌∷◌, ◌++◌, inl, inr, subst}
 use Rattle.std.specs.declared.ops.ControlFlow.{ControlFlow}
-use Rattle.std.specs.declared.ops.ControlFlow.TheVariants.{Continue}
+use Rattle.std.specs.declared.ops.ControlFlow.TheVariants.{Continue, Break}
 use Rattle.plir_store.specs.Members.{Has}
 use Rattle.plir_core.specs.declared.ptr.IRNode.{IRNode}
 use Rattle.plir_walk.specs.declared.config.WalkConfig.{WalkConfig}
@@ -10,7 +11,7 @@ use Rattle.plir_walk.specs.declared.interruptible.WalkContinue.{WalkContinue}
 use Rattle.plir_walk.specs.declared.interruptible.WalkContinue.TheVariants.{Skip}
 use Rattle.plir_walk.specs.Calls.{Call, Relation, Chain, nodes_of}
 use Rattle.plir_walk.specs.Tree.{Tree, IsUnder}
-use Rattle.plir_walk.specs.Walk.{IsDue, Answers}
+use Rattle.plir_walk.specs.Walk.{IsDue, Answers, LastBreaks}
 
 -- What is said of a context and a state, and of what they become, holds of each with itself, and goes on.
 pub record IsPreorder {C S : Type 0} (keeps : C → S → C → S → Type 0) : Type 0 where
@@ -48,6 +49,20 @@ module _ {C S B : Type 0} (post : Relation C S B) where
       let one = k x.before x.after x.state x.left x.node x.answer h.2 in
       let first = subst (λ z. keeps z s x.after x.left) h.0 (subst (λ z. keeps x.before z x.after x.left) h.1 one) in
       p.on c x.after c' s x.left s' first (kept_from_entry_to_exit keeps p k x.after c' x.left s' xs h.3)
+
+  -- the exit is what the last call leaves
+  left_by_the_last : (front : List (Call C S B)) (end : Call C S B) (c c' : C) (s s' : S) →
+      Chain post c s (front ++ end ∷ []) c' s' → post end.before end.state end.node end.answer c' s'
+  left_by_the_last [] end c c' s s' h = rw (h.3.0, h.3.1) h.2
+  left_by_the_last (x ∷ xs) end c c' s s' h = left_by_the_last xs end x.after c' x.left s' h.3
+
+  -- A walk that was broken off leaves what the call left that broke it.
+  pub left_by_the_break : (c c' : C) (s s' : S) (calls : List (Call C S B)) (b : B) → Chain post c s calls c' s' →
+      LastBreaks calls b → (d : C) × (t : S) × (n : IRNode) × post d t n (Break b) c' s'
+  left_by_the_break c c' s s' calls b h l =
+      let end = l.1 in
+      let made = left_by_the_last l.0 end c c' s s' (subst (λ xs. Chain post c s xs c' s') l.2 h) in
+      (end.before, end.state, end.node, subst (λ a. post end.before end.state end.node a c' s') l.3 made)
 
   module _ (holds : C → IRNode → Type 0) (left : IsLeft holds) where
     -- what holds of a node still does after the calls

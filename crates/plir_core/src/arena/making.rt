@@ -226,6 +226,7 @@ impl<O: Drop, B: Drop> Arena<O, B> {
         ensures slots { OnErr result (IsUnmade self.old self.new value count) }
         ensures too_many { self.old.limit < num_nodes self.old + 1 + count → result ≡ Err NodeErr.TooManyNodes }
         ensures too_many_only { result ≡ Err NodeErr.TooManyNodes → IsFullForOp self.old count }
+        ensures crowded { result ≡ Err NodeErr.TooManyNodes → IsFullForOp self.new count }
         ensures stored { IsStored self.new }
     {
         let live = self.num_live();

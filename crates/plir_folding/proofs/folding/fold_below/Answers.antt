@@ -1,4 +1,4 @@
-use Rattle.std.proofs.Common.{sym, subst}
+use Rattle.std.proofs.Common.{Err, ap, sym, subst}
 use Rattle.plir_core.specs.declared.ptr.IRNode.TheVariants.{BasicBlock}
 use Rattle.plir_folding.specs.Folding.{IsAnswered}
 use Rattle.plir_folding.proofs.Walking.{at-none, at-block, settled-under-op, settled-under-region}
@@ -41,4 +41,5 @@ returns-in-Err g c =
     let n = BasicBlock c.in-BasicBlock.block in
     at-block fold own s t c.args.changed.now c.args.changed.now c.args.node c.in-BasicBlock.block c.walk_break.result
     c.in-BasicBlock.is c.in-Err.ensures.below
-    (subst (λ z. IsAnswered fold s c.args.changed.now n z t c.args.changed.now) (sym c.walk_break.ensures) tt)
+    (subst (λ z. IsAnswered fold s c.args.changed.now n z t c.args.changed.now) (sym c.walk_break.ensures)
+    (λ e. c.in-Err.ensures.crowded (ap Err e)))

@@ -1,6 +1,7 @@
-use Rattle.std.proofs.Common.{Ok, refl, ap, arith, ◌∙◌}
+use Rattle.std.proofs.Common.{◌≡◌, Ok, refl, ap, arith, ◌∙◌}
+use Rattle.plir_core.specs.declared.arena.making.NodeErr.TheVariants.{TooManyNodes}
 use Rattle.plir_core.specs.declared.ptr.IRNode.TheVariants.{Operation}
-use Rattle.plir_folding.proofs.Walking.{folded-at, walk-below, tells-at-end, settled-at-end}
+use Rattle.plir_folding.proofs.Walking.{folded-at, walk-below, tells-at-end, settled-at-end, crowded-at-end}
 use Rattle.plir_walk.specs.WalkLaws.{never-at-limit, limit-at-exit, walk-lasts}
 use Rattle.plir_folding.proofs.folding.fold_round.Goals as goal
 
@@ -64,3 +65,12 @@ unreachable-requires g c =
     never-at-limit _ t r _ walked.calls _ c.before_is_a_total_order.ensures
     (c.contexts_stand.ensures t c.stands-2.ensures.whole) lasts.1 (omega arith)
     (limit-at-exit _ s t _ _ r _ _ _ c.in-Err.is (refl, refl, refl) walked)
+
+pub returns-in-Ok-Break-clause-crowded : goal.returns-in-Ok-Break-clause-crowded
+returns-in-Ok-Break-clause-crowded g c = λ e.
+    (let is = c.in-Ok-Break.is in
+    let field = rw is at c.in-Ok-Break.field-0-is in
+    crowded-at-end g.D.FoldSet.fold g.D.OpSet.attr_handles _ (Operation c.args.root) c.lawful_changes.ensures
+    (λ d e n a d' e' p. folded-at g.D.FoldSet.fold g.D.OpSet.attr_handles p.shows.0 p.shows.1 p.leaves.0 p.leaves.1
+    p.met.1) _ c.args.ctx.now c.walk_op-end.new.ctx _ _ _ _ c.in-Ok-Break.refusal (is ∙ ap Ok field)
+    (refl, refl, refl) c.walk_op-end.ensures (let q : c.in-Ok-Break.refusal ≡ TooManyNodes = cc in q))
