@@ -27,7 +27,8 @@ use Rattle.plir_walk.specs.NodeLaws.{same-op}
 use Rattle.plir_symbols.specs.declared.call_edges.CallEdge.{CallEdge}
 use Rattle.plir_symbols.specs.CallGraph.{IsCallGraph}
 use Rattle.plir_opt.specs.NodeNames.{op_name}
-use Rattle.plir_opt.specs.DrawnCalls.{AreBoxesPut, IsBoxPut, IsDrawn, arrow, box, box_of, has_box}
+use Rattle.plir_opt.specs.BoxesPut.{AreBoxesPut, IsBoxPut, box_of}
+use Rattle.plir_opt.specs.DrawnCalls.{IsDrawn, arrow, box, has_box}
 
 -- a box, put in three parts
 pub box-put : {K A T : Type 0} (own : K → List ℕ) (s : ContextView K A T) (p : Ptr OperationKind)

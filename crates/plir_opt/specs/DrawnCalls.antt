@@ -1,12 +1,8 @@
 -- The text of a call graph, in DOT.
-use Rattle.std.specs.Prelude.{◌≡◌, ◌&&◌, ◌||◌, ℕ, nat_lt, Bool, true, false, not, cond, List, [], ◌++◌, length, codes}
+use Rattle.std.specs.Prelude.{◌≡◌, ◌&&◌, ◌||◌, ℕ, nat_lt, Bool, not, List, ◌++◌, length, codes}
 use Rattle.std.specs.Prelude.{Option, Some, None}
 use Rattle.std.specs.List.{filter, flat_map}
-use Rattle.std.specs.declared.ops.ControlFlow.{ControlFlow}
-use Rattle.std.specs.declared.ops.ControlFlow.TheVariants.{Continue, Break}
 use Rattle.plir_store.specs.Members.{Has}
-use Rattle.plir_data.specs.declared.op_set.OpKind.{OpKind}
-use Rattle.plir_data.specs.declared.op_set.OpKind.TheVariants.{Func, Own}
 use Rattle.plir_data.specs.declared.op_set.OpSet as op_set
 use Rattle.plir_core.specs.declared.ptr.Ptr.{Ptr}
 use Rattle.plir_core.specs.declared.ptr.Operation.{Operation as OperationKind}
@@ -15,10 +11,9 @@ use Rattle.plir_core.specs.Contents.{OpView}
 use Rattle.plir_core.specs.ContextView.{ContextView, children, kind_of, op_at}
 use Rattle.plir_core.specs.Texts.{node_text}
 use Rattle.plir_walk.specs.declared.config.TheConstants.{WALKCONFIG_PREORDER_FORWARD as pre_forward}
-use Rattle.plir_walk.specs.declared.interruptible.WalkContinue.{WalkContinue}
-use Rattle.plir_walk.specs.declared.interruptible.WalkContinue.TheVariants.{Advance, Skip}
 use Rattle.plir_walk.specs.Lists.{Pairs}
 use Rattle.plir_walk.specs.Tree.{IsUnder, NodeBefore}
+use Rattle.plir_builtin.specs.Symbols.{is_symbol_kind, is_table_kind}
 use Rattle.plir_symbols.specs.declared.call_edges.CallEdge.{CallEdge}
 use Rattle.plir_symbols.specs.SymbolNames.{names_in}
 use Rattle.plir_symbols.specs.CallGraph.{IsCallGraph}
@@ -50,41 +45,19 @@ module _ {K A T : Type 0} (s : ContextView K A T) (root : Ptr OperationKind) whe
     pub all_ops : (p : Ptr OperationKind) → IsUnder (children s) (Operation root) (Operation p) → Has ps p
     pub in_order : Pairs (λ p q. NodeBefore pre_forward (children s) (Operation root) (Operation p) (Operation q)) ps
 
-module _ {D K A T E : Type 0} (o : op_set.Ghosts D K A T E) where
-  -- whether operations of a kind are symbols and no symbol tables, as functions are
-  abbrev pub is_bare_symbol : Option (OpKind K) → Bool
-  is_bare_symbol (Some Func) = true
-  is_bare_symbol (Some (Own k)) = o.is_symbol k && not (o.is_symbol_table k)
-  is_bare_symbol _ = false
+module _ {D K A T E : Type 0} (o : op_set.Ghosts D K A T E) (names : OpView K A → List (List ℕ))
+    (s : ContextView K A T) where
+  -- an operation has a box: it uses a name, or is a symbol and no symbol table
+  abbrev pub has_box : Ptr OperationKind → Bool
+  has_box p = nat_lt 0 (length (names_in names (op_at s p))) ||
+      (is_symbol_kind o.is_symbol (kind_of s p) && not (is_table_kind o.is_symbol_table (kind_of s p)))
 
-  module _ (names : OpView K A → List (List ℕ)) (s : ContextView K A T) where
-    -- an operation has a box: it uses a name, or is a symbol and no symbol table
-    abbrev pub has_box : Ptr OperationKind → Bool
-    has_box p = nat_lt 0 (length (names_in names (op_at s p))) || is_bare_symbol (kind_of s p)
-
-    -- its box, if it has one
-    abbrev pub box_of : Ptr OperationKind → List ℕ
-    box_of p = cond (has_box p) (box o.kind_id s p) []
-
-    -- What a call at an operation does to a text: its box is put behind it, if it has one, and the walk goes on; or it
-    -- is broken off.
-    abbrev pub IsBoxPut : {B : Type 0} → List ℕ → Ptr OperationKind → ControlFlow B WalkContinue → List ℕ → Type 0
-    IsBoxPut t p (Continue Advance) t' = t' ≡ t ++ box_of p
-    IsBoxPut t p (Continue Skip) t' = ⊥
-    IsBoxPut t p (Break b) t' = Unit {0}
-
-    module _ (root : Ptr OperationKind) where
-      -- behind a text stand the boxes of all operations at or below the root that have one
-      pub record AreBoxesPut (t t' : List ℕ) : Type 0 where
-        pub ops : List (Ptr OperationKind)
-        pub are_ops : AreOps s root ops
-        pub put : t' ≡ t ++ flat_map (box o.kind_id s) (filter has_box ops)
-
-      -- A text draws the call graph of the tree under the root: the boxes are those of all operations there that have
-      -- one, in the order of their places, and the arrows those of the edges of the call graph, in their order.
-      pub record IsDrawn (t : List ℕ) : Type 0 where
-        pub ops : List (Ptr OperationKind)
-        pub edges : List CallEdge
-        pub are_ops : AreOps s root ops
-        pub are_edges : IsCallGraph o.is_symbol o.is_symbol_table names s root edges
-        pub is_text : t ≡ graph_text o.kind_id s (filter has_box ops) edges
+  module _ (root : Ptr OperationKind) where
+    -- A text draws the call graph of the tree under the root: the boxes are those of all operations there that have
+    -- one, in the order of their places, and the arrows those of the edges of the call graph, in their order.
+    pub record IsDrawn (t : List ℕ) : Type 0 where
+      pub ops : List (Ptr OperationKind)
+      pub edges : List CallEdge
+      pub are_ops : AreOps s root ops
+      pub are_edges : IsCallGraph o.is_symbol o.is_symbol_table names s root edges
+      pub is_text : t ≡ graph_text o.kind_id s (filter has_box ops) edges

@@ -6,9 +6,11 @@
 --   Transformed  IsTransformed: what is printed for a text
 --   NodeNames    node_name: how lists and graphs name a node
 --   DrawnCalls   IsDrawn: a text draws the call graph of a tree
+--   BoxesPut     how the boxes of a call graph are put behind a text
 pub mod Passed
 pub mod Verified
 pub mod Excerpt
 pub mod Transformed
 pub mod NodeNames
 pub mod DrawnCalls
+pub mod BoxesPut

@@ -1,13 +1,13 @@
 -- The names of nodes, as lists and graphs write them.
 use Rattle.std.specs.Prelude.{List, [], ◌++◌, ℕ, codes, Option, Some, None}
 use Rattle.plir_data.specs.declared.op_set.OpKind.{OpKind}
-use Rattle.plir_data.specs.declared.op_set.OpKind.TheVariants.{Module, Func, Constant, ForwardRef, Own}
 use Rattle.plir_core.specs.declared.ptr.Ptr.{Ptr}
 use Rattle.plir_core.specs.declared.ptr.Operation.{Operation as OperationKind}
 use Rattle.plir_core.specs.declared.ptr.IRNode.{IRNode}
 use Rattle.plir_core.specs.declared.ptr.IRNode.TheVariants.{Operation, Region, BasicBlock}
 use Rattle.plir_core.specs.ContextView.{ContextView, kind_of, op_at}
 use Rattle.plir_core.specs.Texts.{node_text}
+use Rattle.plir_iface.specs.Ids.{op_id}
 use Rattle.plir_builtin.specs.Symbols.{name_held}
 
 -- a space, `@` and a symbol's name, where there is one
@@ -17,17 +17,10 @@ name_behind (Some x) = codes " @" ++ x
 
 -- `own` gives the ids of the user's own kinds.
 module _ {K : Type 0} (own : K → List ℕ) where
-  -- the id of a kind of operations
-  abbrev pub kind_id : OpKind K → List ℕ
-  kind_id Module = codes "builtin.module"
-  kind_id Func = codes "builtin.func"
-  kind_id Constant = codes "builtin.constant"
-  kind_id ForwardRef = codes "builtin.forward_ref"
-  kind_id (Own k) = own k
-
+  -- the id of a kind of operations, where there is one
   abbrev pub id_of : Option (OpKind K) → List ℕ
   id_of None = []
-  id_of (Some k) = kind_id k
+  id_of (Some k) = op_id own k
 
   module _ {A T : Type 0} (s : ContextView K A T) where
     -- what stands behind the pointer of an operation: its id, and its name as a symbol, if it has one

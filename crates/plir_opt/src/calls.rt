@@ -1,32 +1,22 @@
 //! The call graph of a tree, in DOT.
-ghost use Rattle.std.specs.Prelude.{◌≡◌, ◌++◌, IfOk, OnOk, string_bytes, Some};
+ghost use Rattle.std.specs.Prelude.{◌≡◌, ◌++◌, IfOk, OnOk, string_bytes};
 ghost use Rattle.std.specs.List.{flat_map};
 ghost use Rattle.plir_core.specs.ContextView.{IsLive};
 ghost use Rattle.plir_core.specs.declared.ptr.IRNode.{IRNode as AnyNode};
-ghost use Rattle.plir_opt.specs.DrawnCalls.{AreBoxesPut, IsBoxPut, IsDrawn, arrow, box, has_box, is_bare_symbol};
+ghost use Rattle.plir_opt.specs.BoxesPut.{AreBoxesPut, IsBoxPut};
+ghost use Rattle.plir_opt.specs.DrawnCalls.{IsDrawn, arrow, box, has_box};
 
 use crate::nodes::put_node;
 use plir_builtin::laws::no_tables_agree;
-use plir_builtin::{SymbolTableCollection, SymbolTableErr};
-use plir_core::{Context, IRNode, Operation, Ptr};
-use plir_data::{OpKind, OpSet};
+use plir_builtin::{SymbolTableCollection, SymbolTableErr, is_symbol};
+use plir_core::{Context, IRNode, Interface, Operation, Ptr, kind_impls};
+use plir_data::OpSet;
 use plir_symbols::{CallEdge, SymbolNames, call_graph};
 use plir_walk::WALKCONFIG_PREORDER_FORWARD;
 use plir_walk::interruptible::{WalkResult, walk_advance, walk_break};
 use plir_walk::operations::immutable::walk_ops;
 use std::alloc::{AllocError, Global};
 use std::ops::ControlFlow;
-
-// Whether operations of a kind are symbols and no symbol tables, as functions are.
-fn is_bare_symbol<D: OpSet>(kind: OpKind<D::Kind>) -> bool
-    ensures { result ≡ is_bare_symbol D.OpSet (Some kind) }
-{
-    match kind {
-        OpKind::Func => true,
-        OpKind::Own(own) => D::is_symbol(own) && !D::is_symbol_table(own),
-        OpKind::Module | OpKind::Constant | OpKind::ForwardRef => false,
-    }
-}
 
 // Whether an operation has a box of its own: it uses a name, or is a symbol and no symbol table.
 fn has_box<D: SymbolNames>(ctx: &Context<D>, op: Ptr<Operation>) -> bool
@@ -36,7 +26,7 @@ fn has_box<D: SymbolNames>(ctx: &Context<D>, op: Ptr<Operation>) -> bool
     if D::num_used_names(ctx, op) > 0 {
         return true;
     }
-    is_bare_symbol::<D>(op.kind(ctx))
+    is_symbol(ctx, op) && !kind_impls::<D>(op.kind(ctx), Interface::SymbolTable)
 }
 
 // Puts the box of an operation.

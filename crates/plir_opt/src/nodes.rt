@@ -2,7 +2,8 @@
 ghost use Rattle.std.specs.Prelude.{◌≡◌, ◌++◌, OnOk, string_bytes};
 ghost use Rattle.plir_core.specs.ContextView.{IsLive};
 ghost use Rattle.plir_core.specs.declared.ptr.IRNode.{IRNode as AnyNode};
-ghost use Rattle.plir_opt.specs.NodeNames.{kind_id, node_name, op_words};
+ghost use Rattle.plir_iface.specs.Ids.{op_id};
+ghost use Rattle.plir_opt.specs.NodeNames.{node_name, op_words};
 
 use plir_builtin::symbol_name;
 use plir_core::{Context, IRNode, Operation, Ptr};
@@ -11,7 +12,7 @@ use std::alloc::AllocError;
 
 // The id of a kind of operations, as `dialect.name`.
 fn id_of<D: OpSet>(kind: OpKind<D::Kind>) -> &'static str
-    ensures { result.now ≡ kind_id D.kind_id kind }
+    ensures { result.now ≡ op_id D.kind_id kind }
 {
     match kind {
         OpKind::Module => "builtin.module",
