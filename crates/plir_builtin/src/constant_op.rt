@@ -52,7 +52,7 @@ pub struct ConstantOp {
 
 impl ConstantOp {
     /// A new constant of a value that has a type (`AttrObj::typed` is the test), in no block. `TooManyNodes` comes only
-    /// where there is no room for it. After a refusal no live node has changed.
+    /// where there is no room for it, before the call and behind it. After a refusal no live node has changed.
     pub fn new<D: OpSet>(
         alloc: Global,
         ctx: &mut Context<D>,

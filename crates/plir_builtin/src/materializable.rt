@@ -18,8 +18,8 @@ use std::alloc::Global;
 
 /// Attributes from which an operation can be made whose result has their value.
 pub trait MaterializableAttr<D: OpSet>: TypedAttrInterface<D> {
-    /// A new constant of an equal attribute, in no block. `TooManyNodes` comes only where there is no room for it.
-    /// After a refusal no live node has changed.
+    /// A new constant of an equal attribute, in no block. `TooManyNodes` comes only where there is no room for it,
+    /// before the call and behind it. After a refusal no live node has changed.
     fn materialize(&self, alloc: Global, ctx: &mut Context<D>) -> Result<Ptr<Operation>, NodeErr>
         requires { IsAttrLive D.attr_handles ctx.old.types (Self.seen self.now) }
         ensures made { IfOk result (λ op. IsMade ctx.old.nodes ctx.new.nodes (AnyNode.Operation op)) }

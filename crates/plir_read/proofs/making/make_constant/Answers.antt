@@ -55,8 +55,8 @@ pub returns-in-Err-clause-refused : goal.returns-in-Err-clause-refused
 returns-in-Err-clause-refused g c =
     let o = c.in-Err.ensures in
     refused_as _ _ c.stop_of.result
-    (λ e. op_crowded c.args.ctx.now.nodes c.with_attributes.new.ctx.nodes _ 0 (omega arith)
-    c.stands.ensures.whole.stored (o.too_many_only (ap (λ x. Err x) e)) o.err.nodes o.slots) c.stop_of.ensures
+    (λ e. op_crowded c.with_attributes.new.ctx.nodes 0 (omega arith) o.whole.stored
+    (o.crowded (ap (λ x. Err x) e))) c.stop_of.ensures
 
 pub returns-in_err-results-clause-kept : goal.returns-in_err-results-clause-kept
 returns-in_err-results-clause-kept g c =

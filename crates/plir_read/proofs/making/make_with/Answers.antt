@@ -21,5 +21,5 @@ pub returns-in-Err-clause-refused : goal.returns-in-Err-clause-refused
 returns-in-Err-clause-refused g c =
     let o = c.in-Err.ensures in
     refused_as _ _ c.stop_of.result
-    (λ e. op_crowded c.args.ctx.now.nodes c.with_attributes.new.ctx.nodes _ 1 (omega arith)
-    c.stands.ensures.whole.stored (o.too_many_only (ap (λ x. Err x) e)) o.err.nodes o.slots) c.stop_of.ensures
+    (λ e. op_crowded c.with_attributes.new.ctx.nodes 1 (omega arith) o.whole.stored
+    (o.crowded (ap (λ x. Err x) e))) c.stop_of.ensures
