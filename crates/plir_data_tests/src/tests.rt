@@ -14,10 +14,8 @@ macro_rules! again {
 }
 
 mod conversions;
-mod copies;
 mod entries;
 mod numbers;
-mod own;
 mod scripts;
 mod types;
 mod values;

@@ -25,25 +25,49 @@ pub fn ask<D: OpSet>(bench: &mut Bench<D>, line: Line<'_>) -> Result<(), Stop> {
     match line.command {
         "text" | "typed" | "types" => ask_types(bench, line),
         "get" | "interfaces" | "point" | "use" => ask_contents(bench, line),
+        "unused" | "used" | "uses" => ask_uses(bench, line),
+        "show" => show_node(bench, line),
+        "fresh" => {
+            fresh::<D>(bench.alloc, &mut bench.answer);
+            Ok(())
+        }
         _ => ask_node(bench, line),
     }
 }
 
-// What stands where, and whether a node is there.
+// Whether a node is there, its number, what stands above it, and how many there are.
 fn ask_node<D: OpSet>(bench: &mut Bench<D>, line: Line<'_>) -> Result<(), Stop> {
     let (ctx, made, answer) = (&bench.ctx, &bench.made, &mut bench.answer);
     match line.command {
-        "fresh" => fresh::<D>(bench.alloc, answer),
-        "show" => show(bench.alloc, ctx, made, answer, made.live(ctx, line.first)?),
         "live" => answer.put_truth(made.node(line.first)?.is_live(ctx)),
-        "count" => answer.put_number(ctx.num_live() as usize),
         "number" => put_pointer(answer, made.node(line.first)?),
         "above" => above(ctx, made, answer, line)?,
-        "unused" => answer.put_truth(made.live(ctx, line.first)?.is_unused_outside(ctx)),
-        "used" => answer.put_truth(made.value(ctx, line.first)?.has_uses(ctx)),
-        "uses" => answer.put_number(made.value(ctx, line.first)?.num_uses(ctx)),
+        "count" => answer.put_number(ctx.num_live() as usize),
         _ => return Err(Stop::Refused),
     }
+    Ok(())
+}
+
+// Whether something uses a node or a value.
+fn ask_uses<D: OpSet>(bench: &mut Bench<D>, line: Line<'_>) -> Result<(), Stop> {
+    let (ctx, made, answer) = (&bench.ctx, &bench.made, &mut bench.answer);
+    match line.command {
+        "unused" => answer.put_truth(made.live(ctx, line.first)?.is_unused_outside(ctx)),
+        "used" => answer.put_truth(made.value(ctx, line.first)?.has_uses(ctx)),
+        _ => answer.put_number(made.value(ctx, line.first)?.num_uses(ctx)),
+    }
+    Ok(())
+}
+
+fn show_node<D: OpSet>(bench: &mut Bench<D>, line: Line<'_>) -> Result<(), Stop> {
+    let node = bench.made.live(&bench.ctx, line.first)?;
+    show(
+        bench.alloc,
+        &bench.ctx,
+        &bench.made,
+        &mut bench.answer,
+        node,
+    );
     Ok(())
 }
 

@@ -2,6 +2,7 @@
 ghost use Rattle.std.specs.Prelude.{[], IfOk};
 ghost use Rattle.plir_data.specs.AttrLive.{IsAttrLive};
 ghost use Rattle.plir_data.specs.AttrSeen.{attr_view};
+ghost use Rattle.plir_core.specs.ContextView.{IsLive};
 
 use crate::bench::Bench;
 use crate::line::{Line, number};
@@ -17,7 +18,9 @@ use std::alloc::Global;
 /// `label BLOCK` or `at OP LINE COLUMN`.
 pub fn change<D: OpSet>(bench: &mut Bench<D>, line: Line<'_>) -> Result<(), Stop> {
     match line.command {
-        "insert" | "remove" | "replace" => change_operand(bench, line),
+        "insert" => insert_operand(bench, line),
+        "remove" => remove_operand(bench, line),
+        "replace" => replace_operand(bench, line),
         "replace-all" => replace_all(bench, line),
         "set" => set(bench, line),
         "swap" => swap(bench, line),
@@ -27,29 +30,39 @@ pub fn change<D: OpSet>(bench: &mut Bench<D>, line: Line<'_>) -> Result<(), Stop
     }
 }
 
-// Writes the value that is taken out.
-fn change_operand<D: OpSet>(bench: &mut Bench<D>, line: Line<'_>) -> Result<(), Stop> {
+fn insert_operand<D: OpSet>(bench: &mut Bench<D>, line: Line<'_>) -> Result<(), Stop> {
     let (ctx, made) = (&mut bench.ctx, &bench.made);
     let op = made.op(ctx, line.first)?;
     let place = number(line.second)?;
-    if line.command == "insert" {
-        let value = made.value(ctx, line.third)?;
-        if place > op.get_num_operands(ctx) {
-            return Err(Stop::Refused);
-        }
-        op.insert_operand(ctx, place, value)?;
-        return Ok(());
+    let value = made.value(ctx, line.third)?;
+    if place > op.get_num_operands(ctx) {
+        return Err(Stop::Refused);
     }
+    op.insert_operand(ctx, place, value)?;
+    Ok(())
+}
+
+// Writes the value that is taken out.
+fn remove_operand<D: OpSet>(bench: &mut Bench<D>, line: Line<'_>) -> Result<(), Stop> {
+    let op = bench.made.op(&bench.ctx, line.first)?;
+    let place = number(line.second)?;
+    if place >= op.get_num_operands(&bench.ctx) {
+        return Err(Stop::Refused);
+    }
+    let value = op.remove_operand(&mut bench.ctx, place);
+    bench.made.put_value(&mut bench.answer, value);
+    Ok(())
+}
+
+fn replace_operand<D: OpSet>(bench: &mut Bench<D>, line: Line<'_>) -> Result<(), Stop> {
+    let (ctx, made) = (&mut bench.ctx, &bench.made);
+    let op = made.op(ctx, line.first)?;
+    let place = number(line.second)?;
+    let value = made.value(ctx, line.third)?;
     if place >= op.get_num_operands(ctx) {
         return Err(Stop::Refused);
     }
-    if line.command == "replace" {
-        let value = made.value(ctx, line.third)?;
-        op.replace_operand(ctx, place, value);
-    } else {
-        let value = op.remove_operand(ctx, place);
-        made.put_value(&mut bench.answer, value);
-    }
+    op.replace_operand(ctx, place, value);
     Ok(())
 }
 
@@ -78,13 +91,25 @@ pub fn attr_of<D: OpSet>(
 
 fn set<D: OpSet>(bench: &mut Bench<D>, line: Line<'_>) -> Result<(), Stop> {
     let value = attr_of(bench.alloc, &mut bench.ctx, line.tail)?;
+    let node = bench.made.live(&bench.ctx, line.first)?;
     let key = Identifier::try_new(bench.alloc, line.second)?;
-    match bench.made.live(&bench.ctx, line.first)? {
-        IRNode::Operation(op) => op.set_attr(&mut bench.ctx, key, value)?,
-        IRNode::BasicBlock(block) => block.set_attr(&mut bench.ctx, key, value)?,
-        IRNode::Region(_) => return Err(Stop::Refused),
+    set_at(&mut bench.ctx, node, key, value)
+}
+
+fn set_at<D: OpSet>(
+    ctx: &mut Context<D>,
+    node: IRNode,
+    key: Identifier,
+    value: AttrObj<D>,
+) -> Result<(), Stop>
+    requires live { IsLive ctx.old node }
+    requires value { IsAttrLive D.attr_handles ctx.old.types (attr_view value) }
+{
+    match node {
+        IRNode::Operation(op) => Ok(op.set_attr(ctx, key, value)?),
+        IRNode::BasicBlock(block) => Ok(block.set_attr(ctx, key, value)?),
+        IRNode::Region(_) => Err(Stop::Refused),
     }
-    Ok(())
 }
 
 // The truth value that an attribute is, or else its id.
@@ -99,12 +124,8 @@ fn word_of<D: OpSet>(attr: &AttrObj<D>) -> &'static str {
 // Writes `was` and the word of the attribute that stood there, or `back` and that of the one that is handed back.
 fn swap<D: OpSet>(bench: &mut Bench<D>, line: Line<'_>) -> Result<(), Stop> {
     let value = attr_of(bench.alloc, &mut bench.ctx, line.tail)?;
-    let swapped = match bench.made.live(&bench.ctx, line.first)? {
-        IRNode::Operation(op) => op.swap_attr(&mut bench.ctx, line.second, value),
-        IRNode::BasicBlock(block) => block.swap_attr(&mut bench.ctx, line.second, value),
-        IRNode::Region(_) => return Err(Stop::Refused),
-    };
-    let (word, attr) = match swapped {
+    let node = bench.made.live(&bench.ctx, line.first)?;
+    let (word, attr) = match swap_at(&mut bench.ctx, node, line.second, value)? {
         Ok(old) => ("was ", old),
         Err(new) => ("back ", new),
     };
@@ -113,18 +134,44 @@ fn swap<D: OpSet>(bench: &mut Bench<D>, line: Line<'_>) -> Result<(), Stop> {
     Ok(())
 }
 
+fn swap_at<D: OpSet>(
+    ctx: &mut Context<D>,
+    node: IRNode,
+    key: &str,
+    value: AttrObj<D>,
+) -> Result<Result<AttrObj<D>, AttrObj<D>>, Stop>
+    requires live { IsLive ctx.old node }
+    requires value { IsAttrLive D.attr_handles ctx.old.types (attr_view value) }
+{
+    match node {
+        IRNode::Operation(op) => Ok(op.swap_attr(ctx, key, value)),
+        IRNode::BasicBlock(block) => Ok(block.swap_attr(ctx, key, value)),
+        IRNode::Region(_) => Err(Stop::Refused),
+    }
+}
+
 // Writes the word of the attribute that is taken out, or `none`.
 fn take<D: OpSet>(bench: &mut Bench<D>, line: Line<'_>) -> Result<(), Stop> {
-    let taken = match bench.made.live(&bench.ctx, line.first)? {
-        IRNode::Operation(op) => op.remove_attr(&mut bench.ctx, line.second),
-        IRNode::BasicBlock(block) => block.remove_attr(&mut bench.ctx, line.second),
-        IRNode::Region(_) => return Err(Stop::Refused),
-    };
-    match &taken {
-        Some(attr) => bench.answer.put(word_of(attr)),
+    let node = bench.made.live(&bench.ctx, line.first)?;
+    match take_at(&mut bench.ctx, node, line.second)? {
+        Some(attr) => bench.answer.put(word_of(&attr)),
         None => bench.answer.put("none"),
     }
     Ok(())
+}
+
+fn take_at<D: OpSet>(
+    ctx: &mut Context<D>,
+    node: IRNode,
+    key: &str,
+) -> Result<Option<AttrObj<D>>, Stop>
+    requires { IsLive ctx.old node }
+{
+    match node {
+        IRNode::Operation(op) => Ok(op.remove_attr(ctx, key)),
+        IRNode::BasicBlock(block) => Ok(block.remove_attr(ctx, key)),
+        IRNode::Region(_) => Err(Stop::Refused),
+    }
 }
 
 fn label<D: OpSet>(bench: &mut Bench<D>, line: Line<'_>) -> Result<(), Stop> {

@@ -1,4 +1,5 @@
 //! The calls that make nodes and types.
+ghost use Rattle.std.specs.Prelude.{IfOk};
 ghost use Rattle.plir_core.specs.ContextView.{IsLive};
 ghost use Rattle.plir_core.specs.declared.ptr.IRNode.{IRNode as AnyNode};
 
@@ -36,21 +37,34 @@ fn kind_of<D: ScriptSet>(word: &str) -> Result<OpKind<D::Kind>, Stop> {
 }
 
 fn make_op<D: ScriptSet>(bench: &mut Bench<D>, line: Line<'_>) -> Result<(), Stop> {
-    let (alloc, ctx, made) = (bench.alloc, &mut bench.ctx, &mut bench.made);
     let kind = kind_of::<D>(line.first)?;
     let count = number(line.second)?;
-    let (front, successors) = line.tail.split_once('>').unwrap_or((line.tail, ""));
+    bench.made.ops.reserve(1)?;
+    bench.made.regions.reserve(count)?;
+    let op = new_op(bench, kind, line.tail, count)?;
+    bench.made.ops.push(op)?;
+    note_regions(&bench.ctx, &mut bench.made, op)?;
+    bench.made.put_op(&mut bench.answer, Some(op));
+    Ok(())
+}
+
+// A new operation with the results, operands and successors of a text.
+fn new_op<D: OpSet>(
+    bench: &mut Bench<D>,
+    kind: OpKind<D::Kind>,
+    parts: &str,
+    count: usize,
+) -> Result<Ptr<Operation>, Stop>
+    ensures { IfOk result (λ op. IsLive bench.new.ctx (AnyNode.Operation op)) }
+{
+    let (alloc, ctx, made) = (bench.alloc, &mut bench.ctx, &bench.made);
+    let (front, successors) = parts.split_once('>').unwrap_or((parts, ""));
     let (results, operands) = front.split_once('<').unwrap_or((front, ""));
-    made.ops.reserve(1)?;
-    made.regions.reserve(count)?;
     let results = made.types_named(alloc, ctx, results)?;
     let operands = made.values_named(alloc, ctx, operands)?;
     let successors = made.blocks_named(alloc, ctx, successors)?;
     let op = Operation::new(alloc, ctx, kind, results, operands, successors, count)?;
-    made.ops.push(op)?;
-    note_regions(ctx, made, op)?;
-    made.put_op(&mut bench.answer, Some(op));
-    Ok(())
+    Ok(op)
 }
 
 // Notes the regions of a new operation.

@@ -1,8 +1,9 @@
 //! The calls that read and print.
-use plir_attr_text::{
-    Fault, ReadErr, is_writable, read_attr, read_function_type, read_integer_type, read_type,
-};
-use plir_data::{AttrObj, OpSet};
+ghost use Rattle.plir_data.specs.AttrLive.{IsAttrLive};
+ghost use Rattle.plir_data.specs.AttrSeen.{attr_view};
+
+use plir_attr_text::{Fault, ReadErr, read_attr, read_function_type, read_integer_type, read_type};
+use plir_data::{AttrObj, OpSet, TypeHandle};
 use plir_scripts::{
     Bench, Line, Stop, nested_text, number, put_attr, put_fault, put_type_name, unfold,
 };
@@ -22,42 +23,55 @@ pub fn show_fault<D: OpSet>(bench: &mut Bench<D>, line: Line<'_>) -> Result<(), 
 pub fn read<D: OpSet>(bench: &mut Bench<D>, line: Line<'_>) -> Result<(), Stop> {
     let text = unfold(bench.alloc, line.text)?;
     bench.made.types.reserve(1)?;
-    let found = match line.command {
-        "read-integer" => read_integer_type(&mut bench.ctx, text.as_str()),
-        "read-function" => read_function_type(bench.alloc, &mut bench.ctx, text.as_str()),
-        _ => read_type(bench.alloc, &mut bench.ctx, text.as_str()),
-    };
-    match found {
+    match type_of(bench, line.command, text.as_str()) {
         Ok(handle) => put_type_name(&mut bench.made, &mut bench.answer, handle),
         Err(fault) => put_fault(&mut bench.answer, fault),
     }
 }
 
-/// `attr TEXT`, `verify TEXT`, `writable TEXT` or `typed-attr TEXT`: reads an attribute and writes its text, or what
-/// the call answers of it.
-pub fn ask_attr<D: OpSet>(bench: &mut Bench<D>, line: Line<'_>) -> Result<(), Stop> {
-    let text = unfold(bench.alloc, line.text)?;
-    bench.made.types.reserve(1)?;
-    let attr = match read_attr(bench.alloc, &mut bench.ctx, text.as_str()) {
-        Ok(attr) => attr,
-        Err(fault) => return put_fault(&mut bench.answer, fault),
-    };
-    let answer = &mut bench.answer;
-    match line.command {
-        "attr" => put_attr(bench.alloc, &bench.ctx, answer, &attr),
-        "writable" => answer.put_truth(is_writable(&bench.ctx, &attr)),
-        "verify" => match attr.verify(bench.alloc, &bench.ctx) {
-            Ok(()) => answer.put("ok"),
-            Err(refusal) => answer.put_shown(&refusal),
-        },
-        _ => return put_type_of(bench, &attr),
+// The type of a text, as a command reads it.
+fn type_of<D: OpSet>(
+    bench: &mut Bench<D>,
+    command: &str,
+    text: &str,
+) -> Result<TypeHandle, ReadErr> {
+    match command {
+        "read-integer" => read_integer_type(&mut bench.ctx, text),
+        "read-function" => read_function_type(bench.alloc, &mut bench.ctx, text),
+        _ => read_type(bench.alloc, &mut bench.ctx, text),
     }
-    Ok(())
 }
 
-// Writes the name of the attribute's type, or `none`.
-fn put_type_of<D: OpSet>(bench: &mut Bench<D>, attr: &AttrObj<D>) -> Result<(), Stop> {
-    match attr.typed() {
+/// `attr TEXT` or `verify TEXT`: reads an attribute and writes its text, or whether it is valid.
+pub fn ask_attr<D: OpSet>(bench: &mut Bench<D>, line: Line<'_>) -> Result<(), Stop> {
+    let text = unfold(bench.alloc, line.text)?;
+    match read_attr(bench.alloc, &mut bench.ctx, text.as_str()) {
+        Ok(attr) => {
+            put_asked(bench, line.command, &attr);
+            Ok(())
+        }
+        Err(fault) => put_fault(&mut bench.answer, fault),
+    }
+}
+
+// Writes the text of an attribute, or whether it is valid.
+fn put_asked<D: OpSet>(bench: &mut Bench<D>, command: &str, attr: &AttrObj<D>)
+    requires { IsAttrLive D.attr_handles bench.old.ctx.types (attr_view attr.now) }
+{
+    if command == "attr" {
+        return put_attr(bench.alloc, &bench.ctx, &mut bench.answer, attr);
+    }
+    match attr.verify(bench.alloc, &bench.ctx) {
+        Ok(()) => bench.answer.put("ok"),
+        Err(refusal) => bench.answer.put_shown(&refusal),
+    }
+}
+
+/// `typed-attr TEXT`: reads an attribute and writes the name of its type, or `none`.
+pub fn ask_type<D: OpSet>(bench: &mut Bench<D>, line: Line<'_>) -> Result<(), Stop> {
+    let text = unfold(bench.alloc, line.text)?;
+    bench.made.types.reserve(1)?;
+    match read_attr(bench.alloc, &mut bench.ctx, text.as_str())?.typed() {
         Some(handle) => put_type_name(&mut bench.made, &mut bench.answer, handle),
         None => {
             bench.answer.put("none");
@@ -82,10 +96,14 @@ pub fn read_nested<D: OpSet>(bench: &mut Bench<D>, line: Line<'_>) -> Result<(),
 // The fault of a text, if it isn't read.
 fn fault_of<D: OpSet>(bench: &mut Bench<D>, is_attr: bool, text: &str) -> Option<ReadErr> {
     if is_attr {
-        read_attr(bench.alloc, &mut bench.ctx, text).err()
+        fault_of_attr(bench, text)
     } else {
         read_type(bench.alloc, &mut bench.ctx, text).err()
     }
+}
+
+fn fault_of_attr<D: OpSet>(bench: &mut Bench<D>, text: &str) -> Option<ReadErr> {
+    read_attr(bench.alloc, &mut bench.ctx, text).err()
 }
 
 /// `beginnings-attr TEXT` or `beginnings-type TEXT`: reads each proper beginning of a text, and writes the first that

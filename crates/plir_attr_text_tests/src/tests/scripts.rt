@@ -1,16 +1,22 @@
 //! The scripts of texts, with their answers.
-use super::reading::{ask_attr, read, read_beginnings, read_nested, show_fault};
-use plir_scripts::{Bench, Layer, Line, Mismatch, NodeCalls, SampleSet, ScriptSet, Stop, play};
+use super::reading::{ask_attr, ask_type, read, read_beginnings, read_nested, show_fault};
+use super::writable::{ask_levels, ask_writable, read_back, write};
+use plir_scripts::{Bench, Layer, Line, Mismatch, NodeCalls, OwnSet, SampleSet, Stop, play};
 use std::alloc::Global;
 
 /// The calls of this crate, and those on nodes.
 struct TextCalls;
 
-impl<D: ScriptSet> Layer<D> for TextCalls {
+impl<D: OwnSet> Layer<D> for TextCalls {
     fn run(bench: &mut Bench<D>, line: Line<'_>) -> Result<(), Stop> {
         match line.command {
             "read-type" | "read-integer" | "read-function" => read(bench, line),
-            "attr" | "verify" | "writable" | "typed-attr" => ask_attr(bench, line),
+            "attr" | "verify" => ask_attr(bench, line),
+            "typed-attr" => ask_type(bench, line),
+            "writable" => ask_writable(bench, line),
+            "written" => write(bench, line),
+            "within" => ask_levels(bench, line),
+            "read-back" => read_back(bench, line),
             "nested-attr" | "nested-type" => read_nested(bench, line),
             "beginnings-attr" | "beginnings-type" => read_beginnings(bench, line),
             "fault" => show_fault(bench, line),
@@ -263,6 +269,44 @@ fn attributes_in_attributes(rt: HostRuntime) -> Result<(), Mismatch> {
 fn lists_with_types_are_writable(rt: HostRuntime) -> Result<(), Mismatch> {
     let script = "
         writable builtin.vec [builtin.vec [builtin.type builtin.integer si8]] => yes";
+    play_in(rt.alloc(), script)
+}
+
+#[test]
+fn integers_are_writable_in_the_width_of_their_type(rt: HostRuntime) -> Result<(), Mismatch> {
+    let script = "
+        type builtin.integer si8 => t0
+        writable builtin.integer <-3: si8> => yes
+        writable misfit t0 => no
+        writable under a misfit t0 => no";
+    play_in(rt.alloc(), script)
+}
+
+#[test]
+fn test_integer_is_read_back(rt: HostRuntime) -> Result<(), Mismatch> {
+    let script = "
+        within 2 builtin.integer <-3: si8> => yes
+        within 1 builtin.integer <-3: si8> => no
+        read-back builtin.integer <-3: si8> => yes";
+    play_in(rt.alloc(), script)
+}
+
+#[test]
+fn own_attributes_have_texts_that_stand_for_nothing(rt: HostRuntime) -> Result<(), Mismatch> {
+    let script = "
+        written own marked => sample.attr marked
+        written own => sample.attr
+        writable own marked => no
+        writable own => no
+        attr sample.attr => Unexpected at 1:1";
+    play_in(rt.alloc(), script)
+}
+
+#[test]
+fn own_attributes_are_printed_where_memory_is_refused(rt: HostRuntime) -> Result<(), Mismatch> {
+    let script = "
+        written own marked => sample.attr marked
+        written own => sample.attr";
     play_in(rt.alloc(), script)
 }
 

@@ -1,102 +1,64 @@
-//! Attributes that a text can stand for, and others.
+//! The calls that tell what a text can stand for, and of what attributes that no text has the texts are.
+ghost use Rattle.std.specs.Prelude.{IfOk};
+ghost use Rattle.plir_data.specs.AttrLive.{IsAttrLive};
+ghost use Rattle.plir_data.specs.AttrSeen.{attr_view};
 
 use plir_attr_text::laws::attr_is_read_back;
 use plir_attr_text::{is_within_levels, is_writable, print_attr, read_attr};
-use plir_data::{
-    APInt, AttrObj, AttributeDict, DictAttr, Identifier, IntegerAttr, IntegerType, Signedness,
-    TypeObj, TypeStore, TypeTable, type_text,
-};
-use plir_scripts::{SampleAttr, SampleSet, SampleType};
-use std::alloc::Global;
-use std::process::Abort;
-use std::test::Fail;
+use plir_data::{AttrObj, OpSet};
+use plir_scripts::{Bench, Line, OwnSet, Stop, number, put_attr, split_word, value_of};
 
-type Table = TypeTable<SampleSet>;
-
-type Attr = AttrObj<SampleSet>;
-
-#[test]
-fn integers_are_writable_in_the_width_of_their_type(rt: HostRuntime) {
-    let alloc = rt.alloc();
-    let mut table: Table = TypeTable::new(alloc);
-    let Ok(ty) = IntegerType::get(&mut table, 8, Signedness::Signed) else {
-        panic!(&rt; "out of memory");
-    };
-    let (Some(same), Some(wider)) = (APInt::from_i64(-3, 8), APInt::from_i64(-3, 9)) else {
-        panic!(&rt; "no value");
-    };
-    let same: Attr = AttrObj::Integer(IntegerAttr::new(ty, same));
-    assert!(&rt; is_writable(&table, &same));
-    let wider: Attr = AttrObj::Integer(IntegerAttr::new(ty, wider));
-    assert!(&rt; !is_writable(&table, &wider));
-    let Ok(key) = Identifier::try_new(alloc, "a") else {
-        panic!(&rt; "out of memory");
-    };
-    let mut attrs: AttributeDict<SampleSet> = AttributeDict::new(alloc);
-    match attrs.insert(key, wider) {
-        Ok(()) => assert!(&rt; !is_writable(&table, &AttrObj::Dict(DictAttr(attrs)))),
-        Err(_) => panic!(&rt; "out of memory"),
+// The attribute that is written so.
+fn live_value<D: OwnSet>(bench: &mut Bench<D>, written: &str) -> Result<AttrObj<D>, Stop>
+    ensures { IfOk result (λ attr. IsAttrLive D.attr_handles bench.new.ctx.types (attr_view attr)) }
+{
+    let attr = value_of(bench, written)?;
+    if attr.is_live(&bench.ctx) {
+        Ok(attr)
+    } else {
+        Err(Stop::Refused)
     }
 }
 
-#[test]
-fn test_integer_is_read_back(rt: HostRuntime) -> Result<(), Fail> {
-    let alloc = rt.alloc();
-    let mut table: Table = TypeTable::new(alloc);
-    let ty = IntegerType::get(&mut table, 8, Signedness::Signed)?;
-    let value = APInt::from_i64(-3, 8).ok_or("no value")?;
-    let attr: Attr = AttrObj::Integer(IntegerAttr::new(ty, value));
-    assert!(rt; is_within_levels(&table, &attr, 2));
-    assert!(rt; !is_within_levels(&table, &attr, 1));
-    let text = print_attr(alloc, &table, &attr)?;
-    let read = read_attr(alloc, &mut table, text.as_str());
-    attr_is_read_back::<SampleSet>(&attr, text.as_str(), &read);
-    match read {
-        Ok(read) => assert!(rt; read == attr),
-        Err(_) => panic!(rt; "not read"),
-    }
+/// `writable ATTR`: writes whether a text can stand for it.
+pub fn ask_writable<D: OwnSet>(bench: &mut Bench<D>, line: Line<'_>) -> Result<(), Stop> {
+    let attr = live_value(bench, line.text)?;
+    bench.answer.put_truth(is_writable(&bench.ctx, &attr));
     Ok(())
 }
 
-#[test]
-fn own_attributes_and_types_have_texts(rt: HostRuntime) -> Result<(), Fail> {
-    let alloc = rt.alloc();
-    let mut table: Table = TypeTable::new(alloc);
-    for (own, want) in [(true, "sample.attr marked"), (false, "sample.attr")] {
-        let attr: Attr = AttrObj::Own(SampleAttr(own));
-        let text = print_attr(alloc, &table, &attr)?;
-        assert_eq!(&rt; text.as_str(), want);
-        assert!(&rt; !is_writable(&table, &attr));
-    }
-    for (own, want) in [(true, "sample.type wide"), (false, "sample.type")] {
-        let handle = table.instantiate(TypeObj::Own(SampleType(own)))?;
-        let text = type_text(alloc, &table, handle)?;
-        assert_eq!(&rt; text.as_str(), want);
-    }
+/// `written ATTR`: writes its text.
+pub fn write<D: OwnSet>(bench: &mut Bench<D>, line: Line<'_>) -> Result<(), Stop> {
+    let attr = live_value(bench, line.text)?;
+    put_attr(bench.alloc, &bench.ctx, &mut bench.answer, &attr);
     Ok(())
 }
 
-// The text of an attribute of this op set's own, asked for once more where memory was refused.
-fn own_has_text(
-    rt: &impl Abort,
-    alloc: Global,
-    table: &Table,
-    is_marked: bool,
-    want: &str,
-) -> Result<(), Fail> {
-    let attr: Attr = AttrObj::Own(SampleAttr(is_marked));
-    let text = match print_attr(alloc, table, &attr) {
-        Ok(text) => text,
-        Err(_) => print_attr(alloc, table, &attr)?,
-    };
-    assert_eq!(rt; text.as_str(), want);
+/// `within COUNT ATTR`: writes whether it has no more than so many levels.
+pub fn ask_levels<D: OwnSet>(bench: &mut Bench<D>, line: Line<'_>) -> Result<(), Stop> {
+    let count = number(line.first)?;
+    let (_, written) = split_word(line.text);
+    let attr = live_value(bench, written)?;
+    let is_within = is_within_levels(&bench.ctx, &attr, count);
+    bench.answer.put_truth(is_within);
     Ok(())
 }
 
-#[test]
-fn own_attributes_are_printed_where_memory_is_refused(rt: HostRuntime) -> Result<(), Fail> {
-    let alloc = rt.alloc();
-    let table: Table = TypeTable::new(alloc);
-    own_has_text(&rt, alloc, &table, true, "sample.attr marked")?;
-    own_has_text(&rt, alloc, &table, false, "sample.attr")
+/// `read-back ATTR`: writes whether its text is read as the same again.
+pub fn read_back<D: OwnSet>(bench: &mut Bench<D>, line: Line<'_>) -> Result<(), Stop> {
+    let attr = live_value(bench, line.text)?;
+    let text = print_attr(bench.alloc, &bench.ctx, &attr)?;
+    let is_same = stands_for(bench, text.as_str(), &attr);
+    bench.answer.put_truth(is_same);
+    Ok(())
+}
+
+// Whether a text that was printed is read as this attribute.
+fn stands_for<D: OpSet>(bench: &mut Bench<D>, text: &str, attr: &AttrObj<D>) -> bool {
+    let read = read_attr(bench.alloc, &mut bench.ctx, text);
+    attr_is_read_back::<D>(attr, text, &read);
+    match &read {
+        Ok(read) => read == attr,
+        Err(_) => false,
+    }
 }

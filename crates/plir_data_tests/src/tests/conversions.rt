@@ -2,9 +2,9 @@
 ghost use Rattle.std.specs.Prelude.{◌≡◌, []};
 
 use plir_data::{
-    APInt, BoolAttr, GivenNamesAttr, Identifier, IdentifierAttr, IntegerAttr, IntegerType,
+    APInt, BoolAttr, GivenNamesAttr, Identifier, IdentifierAttr, IntegerAttr, IntegerType, OpSet,
     PrintOnceAttr, Signedness, StringAttr, TypeAttr, TypeHandle, TypeTable, Typed,
-    TypedAttrInterface, UnitAttr, VerifyErr,
+    TypedAttrInterface, TypedHandle, UnitAttr, VerifyErr,
 };
 use plir_scripts::{NotMarked, SampleAttr, SampleSet};
 use std::convert::AsStr;
@@ -37,7 +37,7 @@ fn lends_its_names_where_memory_is_refused(rt: HostRuntime) -> Result<(), Fail> 
 }
 
 // The type of what has one, through the bound.
-fn type_of<T: TypedAttrInterface<SampleSet>>(attr: &T) -> TypeHandle {
+fn type_of<D: OpSet, T: TypedAttrInterface<D>>(attr: &T) -> TypeHandle {
     attr.get_type()
 }
 
@@ -53,18 +53,33 @@ fn is_left_out<T: PrintOnceAttr<SampleSet>>(attr: &T) -> bool {
     attr.outline()
 }
 
+// An integer has this type.
+fn integer_has<D: OpSet>(rt: &impl Abort, table: &TypeTable<D>, ty: TypedHandle<IntegerType>) {
+    let seven = IntegerAttr::new(ty, APInt::from_u64(7, 8).expect(rt, "a width"));
+    assert!(rt; type_of::<D, _>(&seven) == ty.into());
+    assert!(rt; type_in(table, &seven) == ty.into());
+}
+
+// The attribute of a type has it, and becomes it again.
+fn type_has<D: OpSet>(rt: &impl Abort, table: &TypeTable<D>, handle: TypeHandle) {
+    let ty = TypeAttr::from(handle);
+    assert!(rt; type_of::<D, _>(&ty) == handle);
+    assert!(rt; type_in(table, &ty) == handle);
+    assert!(rt; TypeHandle::from(ty) == handle);
+}
+
+// What is of a type has it.
+fn has_its_type<D: OpSet>(rt: &impl Abort, table: &mut TypeTable<D>) -> Result<(), Fail> {
+    let si8 = again!(IntegerType::get(table, 8, Signedness::Signed));
+    integer_has(rt, table, si8);
+    type_has(rt, table, si8.into());
+    Ok(())
+}
+
 #[test]
 fn has_a_type(rt: HostRuntime) -> Result<(), Fail> {
     let mut table: TypeTable<SampleSet> = TypeTable::new(rt.alloc());
-    let si8 = again!(IntegerType::get(&mut table, 8, Signedness::Signed));
-    let seven = IntegerAttr::new(si8, APInt::from_u64(7, 8).expect(&rt, "a width"));
-    assert!(rt; type_of(&seven) == si8.into());
-    assert!(rt; type_in(&table, &seven) == si8.into());
-    let ty = TypeAttr::from(si8.into());
-    assert!(rt; type_of(&ty) == si8.into());
-    assert!(rt; type_in(&table, &ty) == si8.into());
-    assert!(rt; TypeHandle::from(ty) == si8.into());
-    Ok(())
+    has_its_type(&rt, &mut table)
 }
 
 #[test]

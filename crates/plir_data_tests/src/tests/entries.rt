@@ -3,11 +3,10 @@ ghost use Rattle.std.specs.Prelude.{◌≡◌, None, IsSome};
 ghost use Rattle.plir_data.specs.AttrView.{leaf, unit};
 ghost use Rattle.plir_data.specs.Dictionary.{dict_get, dict_put};
 
-use super::own::OwnSet;
-use super::values::{put_value, value_of};
+use super::values::put_value;
 use plir_data::laws::equal_dictionaries_hash_alike;
 use plir_data::{AttrObj, AttributeDict, DictAttr, Identifier, OpSet, UnitAttr};
-use plir_scripts::{Bench, Line, Stop, split_word};
+use plir_scripts::{Bench, Line, OwnSet, Stop, split_word, value_of};
 use std::hash::{DefaultHasher, Hasher};
 
 // The dictionary that is written so.
@@ -20,13 +19,24 @@ fn dict_of<D: OwnSet>(bench: &mut Bench<D>, written: &str) -> Result<DictAttr<D>
 
 /// `put KEY ATTR | DICT`: writes the dictionary with the entry put into it.
 pub fn put<D: OwnSet>(bench: &mut Bench<D>, line: Line<'_>) -> Result<(), Stop> {
-    let (entry, dict) = line.text.split_once(" | ").ok_or(Stop::Refused)?;
+    let (entry, written) = line.text.split_once(" | ").ok_or(Stop::Refused)?;
     let (key, value) = split_word(entry);
-    let key = Identifier::try_new(bench.alloc, key)?;
     let value = value_of(bench, value)?;
-    let mut dict = dict_of(bench, dict)?;
+    let dict = with_entry(bench, written, key, value)?;
+    put_value(bench, &dict)
+}
+
+// The dictionary that is written so, with an entry put into it.
+fn with_entry<D: OwnSet>(
+    bench: &mut Bench<D>,
+    written: &str,
+    key: &str,
+    value: AttrObj<D>,
+) -> Result<AttrObj<D>, Stop> {
+    let mut dict = dict_of(bench, written)?;
+    let key = Identifier::try_new(bench.alloc, key)?;
     dict.insert(bench.alloc, &key, value)?;
-    put_value(bench, &AttrObj::Dict(dict))
+    Ok(AttrObj::Dict(dict))
 }
 
 /// `lookup KEY DICT`, `lend KEY DICT`, `without KEY DICT` or `take KEY DICT`: what stands under a key, and what becomes
@@ -35,13 +45,33 @@ pub fn on_entry<D: OwnSet>(bench: &mut Bench<D>, line: Line<'_>) -> Result<(), S
     let (_, written) = split_word(line.text);
     let key = Identifier::try_new(bench.alloc, line.first)?;
     let mut dict = dict_of(bench, written)?;
-    match line.command {
-        "lookup" => return put_found(bench, &dict, &key),
-        "lend" => put_unit(&mut dict, &key),
-        "without" => dict.remove(&key),
-        _ => return take(bench, &mut dict.0, key.as_str()),
+    if has_changed(bench, line.command, &mut dict, &key)? {
+        put_value(bench, &AttrObj::Dict(dict))
+    } else {
+        Ok(())
     }
-    put_value(bench, &AttrObj::Dict(dict))
+}
+
+// Does what a command says; false where its answer is written then.
+fn has_changed<D: OpSet>(
+    bench: &mut Bench<D>,
+    command: &str,
+    dict: &mut DictAttr<D>,
+    key: &Identifier,
+) -> Result<bool, Stop> {
+    match command {
+        "lend" => put_unit(dict, key),
+        "without" => dict.remove(key),
+        "lookup" => {
+            put_found(bench, dict, key)?;
+            return Ok(false);
+        }
+        _ => {
+            take(bench, &mut dict.0, key.as_str())?;
+            return Ok(false);
+        }
+    }
+    Ok(true)
 }
 
 // Writes the attribute under a key, or `none`.
@@ -75,16 +105,22 @@ fn take<D: OpSet>(
     entries: &mut AttributeDict<D>,
     key: &str,
 ) -> Result<(), Stop> {
-    match entries.remove(key) {
-        Some(taken) => put_value(bench, &taken)?,
-        None => bench.answer.put("none"),
-    }
-    bench.answer.put(", left ");
-    bench.answer.put_number(entries.len());
-    bench
-        .answer
-        .put(if entries.is_empty() { ", empty" } else { "" });
+    put_taken(bench, entries.remove(key))?;
+    let answer = &mut bench.answer;
+    answer.put(", left ");
+    answer.put_number(entries.len());
+    answer.put(if entries.is_empty() { ", empty" } else { "" });
     Ok(())
+}
+
+fn put_taken<D: OpSet>(bench: &mut Bench<D>, taken: Option<AttrObj<D>>) -> Result<(), Stop> {
+    match &taken {
+        Some(taken) => put_value(bench, taken),
+        None => {
+            bench.answer.put("none");
+            Ok(())
+        }
+    }
 }
 
 /// `hash-alike DICT | DICT`: writes whether the two are equal, if they then hash alike.
@@ -92,9 +128,12 @@ pub fn compare_hashes<D: OwnSet>(bench: &mut Bench<D>, line: Line<'_>) -> Result
     let (one, other) = line.text.split_once(" | ").ok_or(Stop::Refused)?;
     let one = dict_of(bench, one)?;
     let other = dict_of(bench, other)?;
-    let (mut first, mut second) = (DefaultHasher::new(), DefaultHasher::new());
-    let are_equal = equal_dictionaries_hash_alike(&one, &other, &mut first, &mut second);
-    let are_alike = first.finish() == second.finish();
-    bench.answer.put_truth(are_equal && are_alike);
+    bench.answer.put_truth(hash_alike(&one, &other));
     Ok(())
+}
+
+fn hash_alike<D: OpSet>(one: &DictAttr<D>, other: &DictAttr<D>) -> bool {
+    let (mut first, mut second) = (DefaultHasher::new(), DefaultHasher::new());
+    let are_equal = equal_dictionaries_hash_alike(one, other, &mut first, &mut second);
+    are_equal && first.finish() == second.finish()
 }

@@ -3,10 +3,11 @@ use super::entries::{compare_hashes, on_entry, put};
 use super::numbers::{
     ask_identifier, compare_bits, compare_identifiers, copy_identifier, keep_bits,
 };
-use super::own::OwnSet;
 use super::types::{count, make_own, put_parts, show_marks, show_parts};
-use super::values::{ask_held_type, ask_outlined, ask_type, compare, copy, verify};
-use plir_scripts::{Bench, Layer, Line, Mismatch, NodeCalls, SampleSet, Stop, play};
+use super::values::{
+    ask_held_type, ask_outlined, ask_type, compare, copy, copy_entries, copy_inside, verify,
+};
+use plir_scripts::{Bench, Layer, Line, Mismatch, NodeCalls, OwnSet, SampleSet, Stop, play};
 use std::alloc::Global;
 
 /// The calls of this crate, and those on nodes, which make types by their texts.
@@ -26,6 +27,8 @@ impl<D: OwnSet> Layer<D> for DataCalls {
             "marks" => show_marks(bench, line),
             "put-parts" => put_parts(bench, line),
             "copy" => copy(bench, line),
+            "copy-inside" => copy_inside(bench, line),
+            "copy-entries" => copy_entries(bench, line),
             "same" => compare(bench, line),
             "outlined" => ask_outlined(bench, line),
             "type-of" => ask_type(bench, line),
@@ -266,6 +269,24 @@ fn copies_texts_and_lists_where_memory_is_refused(rt: HostRuntime) -> Result<(),
         copy builtin.operand_segment_sizes [1, 2, 3] => builtin.operand_segment_sizes [1, 2, 3] of builtin.operand_segment_sizes
         copy builtin.given_names [first, ?] => builtin.given_names [first, ?] of builtin.given_names
         copy own marked => sample.attr marked of sample.attr";
+    play_in(rt.alloc(), script)
+}
+
+#[test]
+fn copies_lists_where_memory_is_refused(rt: HostRuntime) -> Result<(), Mismatch> {
+    let script = "
+        copy-inside list builtin.string \"a\" ; builtin.string \"b\" => builtin.vec [builtin.string \"a\", builtin.string \"b\"]";
+    play_in(rt.alloc(), script)
+}
+
+#[test]
+fn keeps_the_last_of_a_repeated_key_where_memory_is_refused(
+    rt: HostRuntime,
+) -> Result<(), Mismatch> {
+    let script = "
+        copy-inside under b builtin.bool true ; a builtin.unit ; b builtin.bool false => builtin.dict [a = builtin.unit, b = builtin.bool false]
+        copy-entries under b builtin.bool true ; a builtin.unit ; b builtin.bool false => builtin.dict [a = builtin.unit, b = builtin.bool false]
+        same under b builtin.bool true ; a builtin.unit ; b builtin.bool false | builtin.dict [a = builtin.unit, b = builtin.bool false] => yes";
     play_in(rt.alloc(), script)
 }
 

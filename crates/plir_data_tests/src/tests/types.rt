@@ -1,11 +1,10 @@
 //! The calls on types.
-use super::own::OwnSet;
 use plir_data::put::{put, put_between, put_spaced};
 use plir_data::{
     FunctionType, FunctionTypeInterface, FunctionTypeMark, IntegerType, OpSet, TypeInterfaceMark,
     TypeMark, TypeObj, TypeStore, TypedHandle,
 };
-use plir_scripts::{Bench, Line, Stop, put_type_name};
+use plir_scripts::{Bench, Line, OwnSet, Stop, put_type_name};
 
 /// `own-type narrow` or `own-type wide`: writes the name of the type.
 pub fn make_own<D: OwnSet>(bench: &mut Bench<D>, line: Line<'_>) -> Result<(), Stop> {

@@ -1,56 +1,8 @@
-//! The calls on attributes. One is written by its text; `own` and `own marked` are the attributes of the op set,
-//! `misfit TYPE` is an integer of 16 bits in an integer type, `list A ; B ..` a list, and `under KEY A` a dictionary.
-use super::own::OwnSet;
-use plir_attr_text::read_attr;
-use plir_data::{
-    APInt, AttrObj, DictAttr, Identifier, IntegerAttr, IntegerType, OpSet, TypeHandle, TypedHandle,
-    VecAttr, VerifyErr,
-};
-use plir_scripts::{Bench, Line, Stop, put_attr, put_type_name, split_word};
+//! The calls on attributes, which are written as `value_of` of the interpreter has them.
+use plir_data::{AttrObj, DictAttr, OpSet, TypeHandle, VerifyErr};
+use plir_scripts::{Answer, Bench, Line, OwnSet, Stop, put_attr, put_type_name, value_of};
+use std::alloc::Global;
 use std::hash::{DefaultHasher, Hash, Hasher};
-
-/// The attribute that is written so.
-pub fn value_of<D: OwnSet>(bench: &mut Bench<D>, written: &str) -> Result<AttrObj<D>, Stop> {
-    let (word, rest) = split_word(written);
-    match word {
-        "list" => list_of(bench, rest),
-        "under" => entry_of(bench, rest),
-        _ => single(bench, written),
-    }
-}
-
-// The attribute that is neither a list nor a dictionary, or a text.
-fn single<D: OwnSet>(bench: &mut Bench<D>, written: &str) -> Result<AttrObj<D>, Stop> {
-    match split_word(written) {
-        ("own", mark) => Ok(AttrObj::Own(D::own_attr(mark == "marked"))),
-        ("misfit", name) => misfit(bench, name),
-        _ => Ok(read_attr(bench.alloc, &mut bench.ctx, written)?),
-    }
-}
-
-// An integer of 16 bits in the type of a name.
-fn misfit<D: OpSet>(bench: &Bench<D>, name: &str) -> Result<AttrObj<D>, Stop> {
-    let handle = bench.made.type_named(&bench.ctx, name)?;
-    let ty = TypedHandle::<IntegerType>::from_handle(handle, &bench.ctx).ok_or(Stop::Refused)?;
-    let value = APInt::from_u64(1, 16).ok_or(Stop::Refused)?;
-    Ok(AttrObj::Integer(IntegerAttr::new(ty, value)))
-}
-
-fn list_of<D: OwnSet>(bench: &mut Bench<D>, written: &str) -> Result<AttrObj<D>, Stop> {
-    let mut items = Vec::new(bench.alloc);
-    for item in written.split(" ; ") {
-        items.push(single(bench, item)?)?;
-    }
-    Ok(AttrObj::Vec(VecAttr::new(items)))
-}
-
-fn entry_of<D: OwnSet>(bench: &mut Bench<D>, written: &str) -> Result<AttrObj<D>, Stop> {
-    let (key, value) = split_word(written);
-    let mut pairs = Vec::with_capacity(bench.alloc, 1)?;
-    let key = Identifier::try_new(bench.alloc, key)?;
-    pairs.push((key, single(bench, value)?))?;
-    Ok(AttrObj::Dict(DictAttr::new(bench.alloc, pairs)?))
-}
 
 // The two attributes that are written in a line.
 fn two_values<D: OwnSet>(
@@ -80,26 +32,67 @@ pub fn put_value<D: OpSet>(bench: &mut Bench<D>, attr: &AttrObj<D>) -> Result<()
 pub fn copy<D: OwnSet>(bench: &mut Bench<D>, line: Line<'_>) -> Result<(), Stop> {
     let attr = value_of(bench, line.text)?;
     let copy = attr.try_clone(bench.alloc)?;
-    if copy != attr || hash_of(&copy) != hash_of(&attr) {
+    put_copy(bench, &attr, &copy)
+}
+
+fn put_copy<D: OpSet>(
+    bench: &mut Bench<D>,
+    attr: &AttrObj<D>,
+    copy: &AttrObj<D>,
+) -> Result<(), Stop> {
+    if copy != attr || hash_of(copy) != hash_of(attr) {
         bench.answer.put("another ");
     }
-    put_value(bench, &copy)?;
+    put_value(bench, copy)?;
     bench.answer.put(" of ");
     bench.answer.put(copy.get_attr_id());
     Ok(())
 }
 
+/// `copy-inside ATTR`: writes the text of a copy that the list or the dictionary makes of itself.
+pub fn copy_inside<D: OwnSet>(bench: &mut Bench<D>, line: Line<'_>) -> Result<(), Stop> {
+    let attr = value_of(bench, line.text)?;
+    let copy = inside_of(bench.alloc, &attr)?;
+    put_value(bench, &copy)
+}
+
+fn inside_of<D: OpSet>(alloc: Global, attr: &AttrObj<D>) -> Result<AttrObj<D>, Stop> {
+    match attr {
+        AttrObj::Vec(list) => Ok(AttrObj::Vec(list.try_clone(alloc)?)),
+        AttrObj::Dict(dict) => Ok(AttrObj::Dict(dict.try_clone(alloc)?)),
+        _ => Err(Stop::Refused),
+    }
+}
+
+/// `copy-entries ATTR`: writes the text of a dictionary of a copy that the entries make of themselves.
+pub fn copy_entries<D: OwnSet>(bench: &mut Bench<D>, line: Line<'_>) -> Result<(), Stop> {
+    let attr = value_of(bench, line.text)?;
+    let copy = entries_of(bench.alloc, &attr)?;
+    put_value(bench, &copy)
+}
+
+fn entries_of<D: OpSet>(alloc: Global, attr: &AttrObj<D>) -> Result<AttrObj<D>, Stop> {
+    match attr {
+        AttrObj::Dict(dict) => Ok(AttrObj::Dict(DictAttr(dict.0.try_clone(alloc)?))),
+        _ => Err(Stop::Refused),
+    }
+}
+
 /// `same ATTR | ATTR`: writes whether the two are equal, each asked about the other; equal ones hash alike.
 pub fn compare<D: OwnSet>(bench: &mut Bench<D>, line: Line<'_>) -> Result<(), Stop> {
     let (one, other) = two_values(bench, line)?;
-    bench.answer.put_truth(one == other);
-    if (other == one) != (one == other) {
-        bench.answer.put(", but not the other way");
-    }
-    if one == other && hash_of(&one) != hash_of(&other) {
-        bench.answer.put(", but hashed otherwise");
-    }
+    put_comparison(&mut bench.answer, &one, &other);
     Ok(())
+}
+
+fn put_comparison<D: OpSet>(answer: &mut Answer, one: &AttrObj<D>, other: &AttrObj<D>) {
+    answer.put_truth(one == other);
+    if (other == one) != (one == other) {
+        answer.put(", but not the other way");
+    }
+    if one == other && hash_of(one) != hash_of(other) {
+        answer.put(", but hashed otherwise");
+    }
 }
 
 /// `outlined ATTR`: writes whether it is printed once.
@@ -137,6 +130,10 @@ fn put_found<D: OwnSet>(bench: &mut Bench<D>, found: Option<TypeHandle>) -> Resu
 /// `verdict ATTR`: writes `valid`, or the text of the refusal.
 pub fn verify<D: OwnSet>(bench: &mut Bench<D>, line: Line<'_>) -> Result<(), Stop> {
     let attr = value_of(bench, line.text)?;
+    put_verdict(bench, &attr)
+}
+
+fn put_verdict<D: OpSet>(bench: &mut Bench<D>, attr: &AttrObj<D>) -> Result<(), Stop> {
     if !attr.is_live(&bench.ctx) {
         return Err(Stop::Refused);
     }

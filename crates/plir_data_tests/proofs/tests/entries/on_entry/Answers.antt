@@ -3,6 +3,3 @@ use Rattle.plir_data_tests.proofs.tests.entries.on_entry.Goals as goal
 
 pub same-dict : goal.same-dict
 same-dict g c = refl
-
-pub same-dict-in-without : goal.same-dict-in-without
-same-dict-in-without g c = refl
