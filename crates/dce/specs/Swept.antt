@@ -1,5 +1,5 @@
--- What is left when operations without effect are erased.
-use Rattle.std.specs.Prelude.{◌≡◌, Bool, true, false, not, Option, Some, None, IfSome}
+-- What is left when operations are erased that may go.
+use Rattle.std.specs.Prelude.{◌≡◌, Bool, true, false, not, ◌&&◌, Option, Some, None, IfSome}
 use Rattle.plir_data.specs.declared.op_set.OpKind.{OpKind}
 use Rattle.plir_data.specs.declared.op_set.OpKind.TheVariants.{Module, Func, Constant, ForwardRef, Own}
 use Rattle.plir_core.specs.declared.ptr.Ptr.{Ptr}
@@ -7,28 +7,26 @@ use Rattle.plir_core.specs.declared.ptr.Operation.{Operation as OperationKind}
 use Rattle.plir_core.specs.declared.ptr.IRNode.{IRNode}
 use Rattle.plir_core.specs.declared.ptr.IRNode.TheVariants.{Operation}
 use Rattle.plir_core.specs.ContextView.{ContextView, IsLive, parent_of}
-use Rattle.plir_walk.specs.Thinned.{IsThinnedOf, IsThinnedBelow}
+use Rattle.plir_walk.specs.Thinned.{IsThinnedBelow}
 
--- whether operations of a kind have no effect: constants have none, and of the user's own kinds the op set tells
-abbrev pub is_pure : {K : Type 0} → (K → Bool) → Option (OpKind K) → Bool
-is_pure has_effect None = false
-is_pure has_effect (Some Module) = false
-is_pure has_effect (Some Func) = false
-is_pure has_effect (Some Constant) = true
-is_pure has_effect (Some ForwardRef) = false
-is_pure has_effect (Some (Own k)) = not (has_effect k)
+-- whether operations of a kind may go where nothing uses their results: constants may, and of the user's own kinds
+-- those that have no effect and end no block
+abbrev pub is_removable : {K : Type 0} → (has_effect is_terminator : K → Bool) → Option (OpKind K) → Bool
+is_removable has_effect is_terminator None = false
+is_removable has_effect is_terminator (Some Module) = false
+is_removable has_effect is_terminator (Some Func) = false
+is_removable has_effect is_terminator (Some Constant) = true
+is_removable has_effect is_terminator (Some ForwardRef) = false
+is_removable has_effect is_terminator (Some (Own k)) = not (has_effect k) && not (is_terminator k)
 
-module _ {K A T : Type 0} (has_effect : K → Bool) where
-  -- From s to t operations without effect are gone, and nothing else has changed: nothing is new, what is left stands
-  -- where it stood, in its order, and holds what it held, and each operation that has an effect is there, and so are
-  -- regions and blocks. That nothing that is left uses a result of one that is gone is no part of this: it follows of
-  -- every context, whose operands are live values.
-  abbrev pub IsSwept : ContextView K A T → ContextView K A T → Type 0
-  IsSwept s t = IsThinnedOf (is_pure has_effect) s t
-
-  -- the same, where all that is gone was below n, and the change is lawful there
+module _ {K A T : Type 0} (has_effect is_terminator : K → Bool) where
+  -- From s to t operations below n are gone that had no effect and ended no block, and nothing else has changed:
+  -- nothing is new, what is left stands where it stood, in its order, and holds what it held; each operation of another
+  -- kind is there, and so are regions and blocks, and what does not stand below n is there. All of t is told by the
+  -- list of what is gone. That nothing that is left uses a result of one that is gone is no part of this: it follows
+  -- of every context, whose operands are live values.
   abbrev pub IsSweptBelow : IRNode → ContextView K A T → ContextView K A T → Type 0
-  IsSweptBelow n s t = IsThinnedBelow (is_pure has_effect) n s t
+  IsSweptBelow n s t = IsThinnedBelow (is_removable has_effect is_terminator) n s t
 
 -- an operation, if there is one, is live and stands in n
 abbrev pub IsOpOf : {K A T : Type 0} → ContextView K A T → IRNode → Option (Ptr OperationKind) → Type 0

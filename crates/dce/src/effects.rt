@@ -1,8 +1,8 @@
-//! Which operations have an effect.
+//! Which operations have an effect, and which may go.
 ghost use Rattle.std.specs.Prelude.{◌≡◌, Bool};
 ghost use Rattle.plir_core.specs.ContextView.{IsLive, kind_of};
 ghost use Rattle.plir_core.specs.declared.ptr.IRNode.{IRNode as AnyNode};
-ghost use Rattle.dce.specs.Swept.{is_pure};
+ghost use Rattle.dce.specs.Swept.{is_removable};
 
 use plir_core::{Context, Operation, Ptr};
 use plir_data::{OpKind, OpSet};
@@ -17,14 +17,15 @@ pub trait EffectSet: OpSet {
         ensures { result ≡ has_effect kind };
 }
 
-/// Whether an operation has no effect: constants have none, and of the user's own kinds the op set tells.
-pub(crate) fn is_pure<D: EffectSet>(ctx: &Context<D>, op: Ptr<Operation>) -> bool
+/// Whether an operation may go where nothing uses its results: constants may, and of the user's own kinds those that
+/// have no effect and end no block.
+pub(crate) fn is_removable<D: EffectSet>(ctx: &Context<D>, op: Ptr<Operation>) -> bool
     requires { IsLive ctx.now (AnyNode.Operation op) }
-    ensures { result ≡ is_pure D.has_effect (kind_of ctx.now op) }
+    ensures { result ≡ is_removable D.has_effect D.is_terminator (kind_of ctx.now op) }
 {
     match op.kind(ctx) {
         OpKind::Constant => true,
-        OpKind::Own(kind) => !D::has_effect(kind),
+        OpKind::Own(kind) => !D::has_effect(kind) && !D::is_terminator(kind),
         OpKind::Module | OpKind::Func | OpKind::ForwardRef => false,
     }
 }

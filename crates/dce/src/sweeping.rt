@@ -4,31 +4,32 @@ ghost use Rattle.plir_core.specs.ContextView.{ContextView, IsLive, children, par
 ghost use Rattle.plir_core.specs.WellFormed.{IsWellFormed};
 ghost use Rattle.plir_core.specs.declared.ptr.IRNode.{IRNode as AnyNode};
 ghost use Rattle.plir_core.specs.Unused.{IsUnusedOutside};
-ghost use Rattle.dce.specs.Swept.{IsOpOf, IsSwept, IsSweptBelow, is_pure as is_kind_pure};
+ghost use Rattle.dce.specs.Swept.{IsOpOf, IsSweptBelow, is_removable as is_kind_removable};
 
-use crate::effects::{EffectSet, is_pure};
+use crate::effects::{EffectSet, is_removable};
 use plir_core::laws::neighbours_outlast_an_erasure;
 use plir_core::{BasicBlock, Context, IRNode, Operation, Ptr};
-use plir_walk::laws::leaves_thin;
+use plir_walk::laws::{lawful_changes, leaves_thin};
 use plir_walk::uninterruptible::mutable::walk_op;
 use plir_walk::{CallLimit, WALKCONFIG_POSTORDER_REVERSE};
 
-/// Erases the operations under an operation that have no effect and no regions, and whose results nothing uses, from
-/// the last one on. The contract tells what may go, and that nothing else changes: to do nothing would be proved too.
+/// Erases the operations below an operation that have no effect and no regions and end no block, and whose results
+/// nothing uses, from the last one on. The contract tells what may go, and that nothing else changes: to do nothing
+/// would be proved too.
 ///
 /// # Errors
 ///
 /// [`CallLimit`] where there are more nodes than a walk may visit; what was erased until then is gone.
 pub fn sweep<D: EffectSet>(ctx: &mut Context<D>, root: Ptr<Operation>) -> Result<(), CallLimit>
     requires { IsLive ctx.old (AnyNode.Operation root) }
-    ensures swept { IsSwept D.has_effect ctx.old ctx.new }
+    ensures swept { IsSweptBelow D.has_effect D.is_terminator (AnyNode.Operation root) ctx.old ctx.new }
     ensures whole { IsWellFormed D.attr_handles ctx.new }
 {
-    leaves_thin(ctx);
+    lawful_changes::<D>();
     ctx.stands();
     let sweep_node = |ctx: &mut Context<D>, _state: &mut (), node: IRNode|
         requires { IsLive ctx.old node }
-        ensures { IsSweptBelow D.has_effect node ctx.old ctx.new }
+        ensures { IsSweptBelow D.has_effect D.is_terminator node ctx.old ctx.new }
     {
         sweep_below(ctx, node);
     };
@@ -41,17 +42,18 @@ pub fn sweep<D: EffectSet>(ctx: &mut Context<D>, root: Ptr<Operation>) -> Result
 // What is done at each node: a block is swept, nothing else is.
 fn sweep_below<D: EffectSet>(ctx: &mut Context<D>, node: IRNode)
     requires { IsLive ctx.old node }
-    ensures { IsSweptBelow D.has_effect node ctx.old ctx.new }
+    ensures { IsSweptBelow D.has_effect D.is_terminator node ctx.old ctx.new }
 {
     let last = last_op(ctx, node);
     sweep_ops(ctx, node, last);
 }
 
-/// Erases the operations of a block that have no effect and no regions, and whose results nothing uses, from the last
-/// one on. The contract tells what may go, and that nothing else changes: to do nothing would be proved too.
+/// Erases the operations of a block that have no effect and no regions and do not end it, and whose results nothing
+/// uses, from the last one on. The contract tells what may go, and that nothing else changes: to do nothing would be
+/// proved too.
 pub fn sweep_block<D: EffectSet>(ctx: &mut Context<D>, block: Ptr<BasicBlock>)
     requires { IsLive ctx.old (AnyNode.BasicBlock block) }
-    ensures swept { IsSweptBelow D.has_effect (AnyNode.BasicBlock block) ctx.old ctx.new }
+    ensures swept { IsSweptBelow D.has_effect D.is_terminator (AnyNode.BasicBlock block) ctx.old ctx.new }
     ensures whole { IsWellFormed D.attr_handles ctx.new }
 {
     sweep_below(ctx, IRNode::BasicBlock(block));
@@ -73,7 +75,7 @@ fn last_op<D: EffectSet>(ctx: &Context<D>, node: IRNode) -> Option<Ptr<Operation
 fn sweep_ops<D: EffectSet>(ctx: &mut Context<D>, node: IRNode, last: Option<Ptr<Operation>>)
     requires live { IsLive ctx.old node }
     requires here { IsOpOf ctx.old node last }
-    ensures { IsSweptBelow D.has_effect node ctx.old ctx.new }
+    ensures { IsSweptBelow D.has_effect D.is_terminator node ctx.old ctx.new }
 {
     leaves_thin(ctx);
     ctx.stands();
@@ -95,8 +97,8 @@ fn sweep_op<D: EffectSet>(
 ) -> Option<Ptr<Operation>>
     requires live { IsLive ctx.old (AnyNode.Operation op) }
     requires here { parent_of ctx.old (AnyNode.Operation op) ≡ Some node }
-    ensures swept { (s : ContextView D.Kind D.Attr D.Ty) → IsSweptBelow D.has_effect node s ctx.old →
-        IsSweptBelow D.has_effect node s ctx.new }
+    ensures swept { (s : ContextView D.Kind D.Attr D.Ty) → IsSweptBelow D.has_effect D.is_terminator node s ctx.old →
+        IsSweptBelow D.has_effect D.is_terminator node s ctx.new }
     ensures before { IsOpOf ctx.new node result }
 {
     leaves_thin(ctx);
@@ -108,14 +110,15 @@ fn sweep_op<D: EffectSet>(
     before
 }
 
-// Whether an operation has no effect and no region, and nothing else uses it.
+// Whether an operation may go by its kind, has no region, and nothing else uses it.
 fn is_dead<D: EffectSet>(ctx: &Context<D>, op: Ptr<Operation>) -> bool
     requires { IsLive ctx.now (AnyNode.Operation op) }
-    ensures pure { IsTrue result → is_kind_pure D.has_effect (kind_of ctx.now op) ≡ true }
+    ensures removable { IsTrue result →
+        is_kind_removable D.has_effect D.is_terminator (kind_of ctx.now op) ≡ true }
     ensures leaf { IsTrue result → children ctx.now (AnyNode.Operation op) ≡ [] }
     ensures unused { IsTrue result → IsUnusedOutside ctx.now (AnyNode.Operation op) }
 {
-    if !is_pure(ctx, op) || !has_no_region(ctx, op) {
+    if !is_removable(ctx, op) || !has_no_region(ctx, op) {
         return false;
     }
     IRNode::Operation(op).is_unused_outside(ctx)

@@ -5,6 +5,7 @@ ghost use Rattle.plir_core.specs.Made.{IsMade};
 ghost use Rattle.plir_core.specs.ContextView.{IsLive, given_out};
 ghost use Rattle.plir_core.specs.declared.ptr.IRNode.{IRNode as AnyNode};
 ghost use Rattle.plir_passes.specs.Legal.{is_illegal};
+ghost use Rattle.plir_passes.specs.Replacing.{IsReplacedByNew};
 ghost use Rattle.plir_bench.specs.Illegal.{is_reference};
 
 use crate::building::build_root;
@@ -28,6 +29,7 @@ fn make_constant(alloc: Global, ctx: &mut Context<BuiltinSet>) -> Result<Ptr<Ope
     ensures legal { IfOk result (λ p. is_illegal is_reference ctx.new (AnyNode.Operation p) ≡ false) }
     ensures refused { OnErr result (SameLive ctx.old ctx.new) }
     ensures given { (n : AnyNode) → given_out ctx.old n ≡ true → given_out ctx.new n ≡ true }
+    ensures types { ctx.new.types ≡ ctx.old.types }
 {
     let (results, operands, successors) = (Vec::new(alloc), Vec::new(alloc), Vec::new(alloc));
     let kind = OpKind::Constant;
@@ -39,6 +41,9 @@ impl Conversion<BuiltinSet> for Resolve {
     type Err = Stop;
 
     ghost illegal = { λ _. is_reference };
+
+    // On Ok the operation was replaced by one that was made.
+    ghost rewrites = { λ _ s _ op answer t. OnOk answer (IsReplacedByNew s t op) };
 
     fn is_illegal(&self, kind: OpKind<NoMeaning>) -> bool
         ensures { result ≡ is_reference kind }

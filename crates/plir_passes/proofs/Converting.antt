@@ -1,6 +1,7 @@
 -- The operations of a block are replaced one after another.
-use Rattle.std.proofs.Common.{◌≡◌, ◌<◌, suc, arith, Bool, true, false, List, [], ◌∷◌, ◌++◌, length, Option, Some, None}
-use Rattle.std.proofs.Common.{option_map, inl, inr, refl, sym, ap, subst, ◌∙◌, append_assoc}
+use Rattle.std.proofs.Common.{◌≡◌, ◌≢◌, ◌<◌, suc, arith, Bool, true, false, List, [], ◌∷◌, ◌++◌, length}
+use Rattle.std.proofs.Common.{Option, Some, None, Result, Ok, Err, option_map, inl, inr, refl, sym, ap, subst, ◌∙◌}
+use Rattle.std.proofs.Common.{append_assoc}
 use Rattle.std.proofs.lemmas.Bool.{false_from_ne_true}
 use Rattle.plir_data.specs.declared.op_set.OpKind.{OpKind}
 use Rattle.plir_store.specs.Members.{Has, Distinct, head}
@@ -18,8 +19,10 @@ use Rattle.plir_walk.specs.Lawful.{Lawful}
 use Rattle.plir_walk.specs.NodeLaws.{left_from, left-cut, headed, ended}
 use Rattle.plir_passes.specs.Legal.{is_illegal, HasLegalChildren}
 use Rattle.plir_passes.specs.Rewritten.{BringsNoIllegal, IsConverted, IsReplaced}
-use Rattle.plir_passes.specs.Passing.{IsPassed}
+use Rattle.plir_passes.specs.Rewrites.{Rewrites, IsBlockConverted}
+use Rattle.plir_passes.specs.Passing.{IsPassed, IsHanded, said}
 use Rattle.plir_passes.proofs.Keeping.{converted-none, converted-then}
+use Rattle.plir_passes.proofs.Handing.{AreHanded, handed-none, handed-all, handed-more, handed-refused}
 
 module _ {K A T : Type 0} (illegal : OpKind K → Bool) where
   -- one operation of a block is passed: it is legal and stays
@@ -58,7 +61,9 @@ module _ {K A T : Type 0} (illegal : OpKind K → Bool) where
               | inr (inr y) ↦ Distinct-cross ks ys (Distinct-right xs (ks ++ ys) once) a h y
             ]
 
-  -- From the start of the loop in s to s', the operations of the block b before `at` are legal.
+module _ {K A T E : Type 0} (illegal : OpKind K → Bool) (rewrites : Rewrites K A T E) where
+  -- From the start of the loop in s to s', the operations of the block b before `at` are legal, and those that were not
+  -- were handed to `rewrite`.
   pub record IsConverting (s s' : ContextView K A T) (b : Ptr BasicBlockKind) (at : Option (Ptr OperationKind)) : Type
       0 where
     pub lawful : Lawful (look s) (BasicBlock b) (look s')
@@ -70,11 +75,12 @@ module _ {K A T : Type 0} (illegal : OpKind K → Bool) where
     pub split : children s' (BasicBlock b) ≡ front ++ back
     pub here : option_map Operation at ≡ head back
     pub legal : (a : IRNode) → Has front a → is_illegal illegal s' a ≡ false
+    pub handed : AreHanded illegal rewrites s b s' back
 
-module _ {K A T : Type 0} {illegal : OpKind K → Bool} where
+module _ {K A T E : Type 0} {illegal : OpKind K → Bool} {rewrites : Rewrites K A T E} where
   pub converting-start : {s : ContextView K A T} {b : Ptr BasicBlockKind} {at : Option (Ptr OperationKind)}
       → Lawful (look s) (BasicBlock b) (look s) → IsForest (look s) → IsLive s (BasicBlock b)
-      → option_map Operation at ≡ head (children s (BasicBlock b)) → IsConverting illegal s s b at
+      → option_map Operation at ≡ head (children s (BasicBlock b)) → IsConverting illegal rewrites s s b at
   converting-start {s} {b} {at} l w v e = record {
     lawful = l;
     converted = converted-none illegal s;
@@ -85,15 +91,21 @@ module _ {K A T : Type 0} {illegal : OpKind K → Bool} where
     split = refl;
     here = e;
     legal = λ a h. absurd h;
+    handed = handed-none illegal rewrites s b;
   }
 
   module _ {s s' : ContextView K A T} {b : Ptr BasicBlockKind} {at : Option (Ptr OperationKind)}
-      (r : IsConverting illegal s s' b at) where
+      (r : IsConverting illegal rewrites s s' b at) where
     pub converting-end : at ≡ None → HasLegalChildren illegal s' (BasicBlock b)
     converting-end e a h = elim (Has-append_cases r.front r.back a (subst (λ z. Has z a) r.split h)) [
       | inl x ↦ r.legal a x
       | inr y ↦ absurd (subst (λ z. Has z a) (ended r.back (ap (option_map Operation) (sym e) ∙ r.here)) y)
     ]
+
+    pub converting-handed : at ≡ None → IsBlockConverted illegal rewrites s b (Ok tt) s'
+    converting-handed e =
+        handed-all illegal rewrites s b s' (subst (AreHanded illegal rewrites s b s')
+        (ended r.back (ap (option_map Operation) (sym e) ∙ r.here)) r.handed)
 
     module _ (op : Ptr OperationKind) (is : at ≡ Some op) where
       rest : (ys : List IRNode) × (r.back ≡ Operation op ∷ ys)
@@ -111,6 +123,20 @@ module _ {K A T : Type 0} {illegal : OpKind K → Bool} where
       pub converting-parent : parent_of s' (Operation op) ≡ Some (BasicBlock b)
       converting-parent = r.forest.child_parent (BasicBlock b) (Operation op) has
 
+      handed-here : AreHanded illegal rewrites s b s' (Operation op ∷ rest.0)
+      handed-here = subst (AreHanded illegal rewrites s b s') rest.1 r.handed
+
+      pub converting-refused : {X : Type 0} (t : ContextView K A T) (answer : Result X E) (e : E) → said answer ≡ Err e
+          → IsHanded illegal rewrites s' b op answer t → IsBlockConverted illegal rewrites s b (Err e) t
+      converting-refused t answer e err h =
+          handed-refused illegal rewrites s b s' op rest.0 handed-here t answer h e err
+
+      -- what stands behind the operation is another one
+      behind : (a : IRNode) → Has rest.0 a → a ≢ Operation op
+      behind a h e =
+          (Distinct-right r.front (Operation op ∷ rest.0) (subst Distinct cut (r.forest.once (BasicBlock b)))).0
+          (subst (Has rest.0) e h)
+
       module _ (t : ContextView K A T) (next : Option (Ptr OperationKind)) (w : IsForest (look s))
           (w' : IsForest (look t)) (p : IsPassed illegal s' t b op next) where
         abbrev passed : (option_map Operation next ≡ head rest.0) × (ks : List IRNode) ×
@@ -121,9 +147,13 @@ module _ {K A T : Type 0} {illegal : OpKind K → Bool} where
         recut : children t (BasicBlock b) ≡ (r.front ++ passed.1) ++ rest.0
         recut = passed.2 ∙ sym (append_assoc r.front passed.1 rest.0)
 
-        pub converting-more : Lawful (look s) (BasicBlock b) (look t) → IsConverted illegal s' t
-            → IsLive t (BasicBlock b) → IsConverting illegal s t b next
-        converting-more l c v = record {
+        pub converting-more : {X : Type 0} (answer : Result X E) → said answer ≡ Ok tt
+            → IsHanded illegal rewrites s' b op answer t
+            → ((a : IRNode) → Has (children s' (BasicBlock b)) a → a ≢ Operation op
+            → is_illegal illegal t a ≡ is_illegal illegal s' a)
+            → Lawful (look s) (BasicBlock b) (look t) → IsConverted illegal s' t
+            → IsLive t (BasicBlock b) → IsConverting illegal rewrites s t b next
+        converting-more answer ok h beside l c v = record {
           lawful = l;
           converted = converted-then illegal s s' t w r.converted c;
           forest = w';
@@ -139,6 +169,9 @@ module _ {K A T : Type 0} {illegal : OpKind K → Bool} where
                 (r.legal a x))
             | inr y ↦ passed.3 a y
           ];
+          handed = handed-more illegal rewrites s b s' op rest.0 handed-here t answer h ok (λ a k. beside a
+              (subst (λ z. Has z a) (sym cut) (Has-append_right r.front (Operation op ∷ rest.0) a (inr k)))
+              (behind a k));
         }
 
         pub converting-falls : left_from (children t (BasicBlock b)) next < left_from (children s' (BasicBlock b)) at

@@ -28,9 +28,13 @@ module _ {K A T : Type 0} where
   keeps-none s P = record {
     live = λ n l a. l;
     parents = λ n l a. refl;
+    children = λ picks only n l a. refl;
     ops = λ p l a. refl;
+    num_operands = λ p l a. refl;
     operands = λ p i v l a e m b. e;
     blocks = λ b l a. refl;
+    types = λ h x e. e;
+    limit = refl;
   }
 
   -- fewer nodes stand apart
@@ -39,9 +43,14 @@ module _ {K A T : Type 0} where
   keeps-fewer s t P Q less f = record {
     live = λ n l a. f.live n l (less n a);
     parents = λ n l a. f.parents n l (less n a);
+    children = λ picks only n l a.
+        f.children picks (λ m k. (let o = only m k in (o.0, less m o.1))) n l (less n a);
     ops = λ p l a. f.ops p l (less (Operation p) a);
+    num_operands = λ p l a. f.num_operands p l (less (Operation p) a);
     operands = λ p i v l a e m b. f.operands p i v l (less (Operation p) a) e m (less (entity_node v.entity) b);
     blocks = λ b l a. f.blocks b l (less (BasicBlock b) a);
+    types = f.types;
+    limit = f.limit;
   }
 
 module _ {K A T : Type 0} (illegal : OpKind K → Bool) where
@@ -71,19 +80,19 @@ module _ {K A T : Type 0} (illegal : OpKind K → Bool) where
           (ap (climb (parent_of t) k) (sym (f.parents n l u ∙ q)) ∙ e) in
           (ap (climb (parent_of s) k) q ∙ r.0, r.1, r.2)
 
-  -- an untouched node has the kind that it had
-  legal-kept : (s t : ContextView K A T) → Keeps s t (IsUntouched illegal s) → (n : IRNode) → IsLive s n
-      → IsUntouched illegal s n → is_illegal illegal t n ≡ is_illegal illegal s n
-  legal-kept s t f (Operation p) l u =
+  -- a node that stood apart has the kind that it had
+  pub legal-kept : (s t : ContextView K A T) (P : IRNode → Type 0) → Keeps s t P → (n : IRNode) → IsLive s n → P n
+      → is_illegal illegal t n ≡ is_illegal illegal s n
+  legal-kept s t P f (Operation p) l u =
       ap (is_kind illegal) (sym (kind-but (op_at t p)) ∙ ap kind_in (f.ops p l u) ∙ kind-but (op_at s p))
-  legal-kept s t f (Region p) l u = refl
-  legal-kept s t f (BasicBlock p) l u = refl
+  legal-kept s t P f (Region p) l u = refl
+  legal-kept s t P f (BasicBlock p) l u = refl
 
   pub untouched-then : (s t : ContextView K A T) → IsForest (look s) → Keeps s t (IsUntouched illegal s) → (n : IRNode)
       → IsLive s n → IsUntouched illegal s n → IsUntouched illegal t n
   untouched-then s t w f n l u a r =
       let k = way-kept s t w f r.0 n a l u r.1 in
-      legal-kept s t f a k.1 k.2 ∙ u a (r.0, k.0)
+      legal-kept s t (IsUntouched illegal s) f a k.1 k.2 ∙ u a (r.0, k.0)
 
   keeps-then : (s t u : ContextView K A T) → IsForest (look s) → Keeps s t (IsUntouched illegal s)
       → Keeps t u (IsUntouched illegal t) → Keeps s u (IsUntouched illegal s)
@@ -92,11 +101,19 @@ module _ {K A T : Type 0} (illegal : OpKind K → Bool) where
       record {
         live = λ n l a. g.live n (f.live n l a) (still n l a);
         parents = λ n l a. g.parents n (f.live n l a) (still n l a) ∙ f.parents n l a;
+        children = λ picks only n l a.
+            g.children picks (λ m k. (let o = only m k in (f.live m o.0 o.1, still m o.0 o.1))) n (f.live n l a)
+            (still n l a)
+            ∙ f.children picks only n l a;
         ops = λ p l a. g.ops p (f.live (Operation p) l a) (still (Operation p) l a) ∙ f.ops p l a;
+        num_operands =
+            λ p l a. g.num_operands p (f.live (Operation p) l a) (still (Operation p) l a) ∙ f.num_operands p l a;
         operands =
             λ p i v l a e m b. g.operands p i v (f.live (Operation p) l a) (still (Operation p) l a)
             (f.operands p i v l a e m b) (f.live (entity_node v.entity) m b) (still (entity_node v.entity) m b);
         blocks = λ b l a. g.blocks b (f.live (BasicBlock b) l a) (still (BasicBlock b) l a) ∙ f.blocks b l a;
+        types = λ h x e. g.types h x (f.types h x e);
+        limit = g.limit ∙ f.limit;
       }
 
   pub converted-none : (s : ContextView K A T) → IsConverted illegal s s

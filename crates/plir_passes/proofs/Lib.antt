@@ -1,6 +1,8 @@
 pub mod Keeping
+pub mod Handing
 pub mod Converting
 pub mod Walking
+pub mod WholeWalks
 pub mod Replacing
 pub mod Unused
 pub mod Sweeps

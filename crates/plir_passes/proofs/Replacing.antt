@@ -1,6 +1,8 @@
 -- An operation is replaced by one that was made.
-use Rattle.std.proofs.Common.{◌≡◌, ℕ, zero, suc, Bool, true, false, List, [], ◌∷◌, ◌++◌, Option, Some, None, inl, inr}
-use Rattle.std.proofs.Common.{refl, sym, ap, subst, ◌∙◌, append_assoc, slice_get}
+use Rattle.std.proofs.Common.{◌≡◌, ℕ, zero, suc, Bool, true, false, cond, List, [], ◌∷◌, ◌++◌, length}
+use Rattle.std.proofs.Common.{Option, Some, None, inl, inr, refl, sym, ap, subst, ◌∙◌, append_assoc, slice_get}
+use Rattle.std.specs.List.{filter}
+use Rattle.std.proofs.lemmas.Bool.{false_from_ne_true}
 use Rattle.std.proofs.lemmas.Option.{same_Some}
 use Rattle.plir_data.specs.declared.op_set.OpKind.{OpKind}
 use Rattle.plir_store.specs.Members.{Has}
@@ -13,21 +15,28 @@ use Rattle.plir_core.specs.declared.ptr.BasicBlock.{BasicBlock as BasicBlockKind
 use Rattle.plir_core.specs.declared.ptr.IRNode.{IRNode}
 use Rattle.plir_core.specs.declared.ptr.IRNode.TheVariants.{Operation, Region, BasicBlock}
 use Rattle.plir_core.specs.Above.{climb, Reaches}
-use Rattle.plir_core.specs.Changes.{SameLive}
+use Rattle.plir_core.specs.Changes.{SameLive, with_op_before}
 use Rattle.plir_core.specs.Erase.{IsErased}
 use Rattle.plir_core.specs.Made.{IsMade}
 use Rattle.plir_core.specs.Nodes.{Nodes, is_node_live}
 use Rattle.plir_core.specs.Placed.{MovesOnly, IsPlaced, IsPlacedBefore}
 use Rattle.plir_core.specs.Forest.{look, IsForest}
 use Rattle.plir_core.specs.ContextView.{ContextView, IsLive, is_live, children, parent_of, given_out, kind_in, op_at}
-use Rattle.plir_core.specs.ContextView.{block_at, operands_in}
+use Rattle.plir_core.specs.ContextView.{block_at, operands_in, limit}
+use Rattle.plir_core.specs.Unused.{without_tree}
 use Rattle.plir_core.specs.ButOperands.{but_operands}
 use Rattle.plir_walk.specs.Lawful.{Lawful}
 use Rattle.plir_walk.specs.LawfulChanges.{LawfulChanges}
 use Rattle.plir_walk.specs.NodeLaws.{block-tells, climb-nothing}
 use Rattle.plir_passes.specs.Legal.{is_illegal, is_kind}
-use Rattle.plir_passes.specs.Kept.{Keeps}
+use Rattle.plir_passes.specs.Kept.{Keeps, KeepsTypes, same-types}
 use Rattle.plir_passes.specs.Rewritten.{IsRewriting, IsReplaced}
+
+-- what a test refuses does not count
+filter-skip : {A : Type 0} (p : A → Bool) (xs ys : List A) (x : A) → p x ≡ false
+    → filter p (xs ++ x ∷ ys) ≡ filter p (xs ++ ys)
+filter-skip p [] ys x e = rw e refl
+filter-skip p (y ∷ xs) ys x e = ap (λ z. cond (p y) (y ∷ z) z) (filter-skip p xs ys x e)
 
 moved-live : {O B : Type 0} (s t : Nodes O B) (x : IRNode) → MovesOnly s t x → (m : IRNode)
     → is_node_live t m ≡ is_node_live s m
@@ -49,14 +58,24 @@ module _ {K A T : Type 0} (illegal : OpKind K → Bool) where
       → ((n : IRNode) → IsLive s n → P n → parent_of t n ≡ parent_of s n)
       → ((p : Ptr OperationKind) → IsLive s (Operation p) → P (Operation p) → op_at t p ≡ op_at s p)
       → ((b : Ptr BasicBlockKind) → IsLive s (BasicBlock b) → P (BasicBlock b) → block_at t b ≡ block_at s b)
-      → Keeps s t P
-  keeps-all s t P live parents ops blocks = record {
+      → ((picks : IRNode → Bool) → ((m : IRNode) → picks m ≡ true → IsLive s m × P m) → (n : IRNode) → IsLive s n
+      → P n → filter picks (children t n) ≡ filter picks (children s n))
+      → KeepsTypes s t → limit t ≡ limit s → Keeps s t P
+  keeps-all s t P live parents ops blocks children types same = record {
     live = live;
     parents = parents;
+    children = children;
     ops = λ p l a. ap but_operands (ops p l a);
+    num_operands = λ p l a. ap (λ z. length (operands_in z)) (ops p l a);
     operands = λ p i v l a e m b. ap (λ z. slice_get (operands_in z) i) (ops p l a) ∙ e;
     blocks = blocks;
+    types = types;
+    limit = same;
   }
+
+  -- types that are the same keep their handles
+  types-then : (s t u : ContextView K A T) → KeepsTypes s t → u.types ≡ t.types → KeepsTypes s u
+  types-then s t u f e h x k = same-types t u e h x (f h x k)
 
   pub rewriting-refused : (s t : ContextView K A T) (b : Ptr BasicBlockKind) (op : Ptr OperationKind)
       → IsForest (look s) → Lawful (look s) (BasicBlock b) (look t) → SameLive s t → IsRewriting illegal s t b op
@@ -64,7 +83,8 @@ module _ {K A T : Type 0} (illegal : OpKind K → Bool) where
     lawful = l;
     kept =
         keeps-all s t _ (λ n l a. same.nodes.live n ∙ l) (λ n l a. same.nodes.parents n) (λ p l a. same.nodes.ops p l)
-        (λ q l a. same.nodes.blocks q l);
+        (λ q l a. same.nodes.blocks q l) (λ picks only n l a. ap (filter picks) (same.nodes.children n))
+        (same-types s t same.types) same.nodes.limit;
     legal = λ n a g h i.
         (let k : Has (children s n) a = subst (λ z. Has z a) (same.nodes.children n) h in
         (k, sym (same-legal s t a (λ p e. same.nodes.ops p (subst (IsLive s) e (w.child_live n a k)))) ∙ i));
@@ -73,8 +93,8 @@ module _ {K A T : Type 0} (illegal : OpKind K → Bool) where
   module _ (own : A → List ℕ) (laws : LawfulChanges K A T own) (s t u : ContextView K A T) (b : Ptr BasicBlockKind)
       (op x : Ptr OperationKind)
       (w : IsForest (look s)) (here : parent_of s (Operation op) ≡ Some (BasicBlock b))
-      (made : IsMade s.nodes t.nodes (Operation x))
-      (placed : IsPlacedBefore t.nodes u.nodes (Operation x) (Operation op)) where
+      (made : IsMade s.nodes t.nodes (Operation x)) (types : KeepsTypes s t)
+      (placed : IsPlacedBefore t.nodes u.nodes (Operation x) (Operation op)) (put : u ≡ with_op_before t x op) where
     over : IsLive s (BasicBlock b)
     over = w.parent_live (BasicBlock b) (Operation op) here
 
@@ -102,6 +122,28 @@ module _ {K A T : Type 0} (illegal : OpKind K → Bool) where
 
     block-u : (q : Ptr BasicBlockKind) → IsLive s (BasicBlock q) → block_at u q ≡ block_at s q
     block-u q l = ap (λ z. content_at z q.slot) at.moved.blocks ∙ made.keeps.blocks q l
+
+    types-u : KeepsTypes s u
+    types-u = types-then s t u types (ap (λ z. z.types) put)
+
+    limit-u : limit u ≡ limit s
+    limit-u = at.moved.limit ∙ made.keeps.limit
+
+    -- a test that holds only of what was live refuses the new one
+    not-picked : (picks : IRNode → Bool) → ((m : IRNode) → picks m ≡ true → IsLive s m)
+        → picks (Operation x) ≡ false
+    not-picked picks only =
+        false_from_ne_true (picks (Operation x)) (λ k. older (Operation x) (only (Operation x) k) refl)
+
+    children-u : (picks : IRNode → Bool) → ((m : IRNode) → picks m ≡ true → IsLive s m) → (n : IRNode) → IsLive s n
+        → filter picks (children u n) ≡ filter picks (children s n)
+    children-u picks only n l = elim (block-tells n b) [
+      | inl e ↦ subst (λ z. filter picks (children u z) ≡ filter picks (children s z)) (sym e)
+          (ap (filter picks) at.children_over
+          ∙ filter-skip picks cut.0 (Operation op ∷ cut.1) (Operation x) (not-picked picks only)
+          ∙ ap (filter picks) (sym cut.2))
+      | inr ne ↦ ap (filter picks) (at.children n ne ∙ made.children n l)
+    ]
 
     way-u : (k : ℕ) (n a : IRNode) → IsLive s n → climb (parent_of u) k (Some n) ≡ Some a
         → climb (parent_of s) k (Some n) ≡ Some a
@@ -153,7 +195,8 @@ module _ {K A T : Type 0} (illegal : OpKind K → Bool) where
       pub rewriting-added : IsRewriting illegal s u b op
       rewriting-added = record {
         lawful = laws.placed s t u (BasicBlock b) (BasicBlock b) (Operation x) _ w (zero, refl) made at;
-        kept = keeps-all s u _ (λ n l a. live-u n l) (λ n l a. parent-u n l) (λ p l a. op-u p l) (λ q l a. block-u q l);
+        kept = keeps-all s u _ (λ n l a. live-u n l) (λ n l a. parent-u n l) (λ p l a. op-u p l) (λ q l a. block-u q l)
+            (λ picks only n l a. children-u picks (λ m k. (only m k).0) n l) types-u limit-u;
         legal = λ n a g h i. brought-u n a (was-live n (w'.parent_live n a (w'.child_parent n a h)) g) h i;
       }
 
@@ -163,7 +206,7 @@ module _ {K A T : Type 0} (illegal : OpKind K → Bool) where
           (w.child_live (BasicBlock b) (Operation op) (w.parent_child (BasicBlock b) (Operation op) here))
 
       module _ (v : ContextView K A T) (w'' : IsForest (look v))
-          (erased : IsErased u.nodes v.nodes (Operation op)) where
+          (erased : IsErased u.nodes v.nodes (Operation op)) (freed : v ≡ without_tree u (Operation op)) where
         parent-op : parent_of u (Operation op) ≡ Some (BasicBlock b)
         parent-op =
             parent-u (Operation op)
@@ -180,11 +223,34 @@ module _ {K A T : Type 0} (illegal : OpKind K → Bool) where
         apart-v : (n : IRNode) → IsLive v n → Reaches (parent_of u) n (Operation op) → ⊥
         apart-v n l r = not-both (is_live v n) l (erased.gone n r)
 
+        cut-u : children u (BasicBlock b) ≡ (cut.0 ++ Operation x ∷ []) ++ Operation op ∷ cut.1
+        cut-u = at.children_over ∙ sym (append_assoc cut.0 (Operation x ∷ []) (Operation op ∷ cut.1))
+
+        cut-v : children v (BasicBlock b) ≡ cut.0 ++ Operation x ∷ cut.1
+        cut-v =
+            erased.children_over (BasicBlock b) (cut.0 ++ Operation x ∷ []) cut.1 cut-u
+            ∙ append_assoc cut.0 (Operation x ∷ []) cut.1
+
+        children-v : (picks : IRNode → Bool)
+            → ((m : IRNode) → picks m ≡ true → IsLive s m × (Reaches (parent_of s) m (Operation op) → ⊥))
+            → (n : IRNode) → IsLive s n → (Reaches (parent_of s) n (Operation op) → ⊥)
+            → filter picks (children v n) ≡ filter picks (children s n)
+        children-v picks only n l a = elim (block-tells n b) [
+          | inl e ↦ subst (λ z. filter picks (children v z) ≡ filter picks (children s z)) (sym e)
+              (ap (filter picks) cut-v
+              ∙ filter-skip picks cut.0 cut.1 (Operation x) (not-picked picks (λ m k. (only m k).0))
+              ∙ sym (filter-skip picks cut.0 cut.1 (Operation op)
+              (false_from_ne_true (picks (Operation op)) (λ k. (only (Operation op) k).1 (zero, refl))))
+              ∙ ap (filter picks) (sym cut.2))
+          | inr ne ↦ ap (filter picks)
+              (erased.children n (apart n l a) (λ q. ne (same_Some n (BasicBlock b) (sym q ∙ parent-op)))
+              ∙ at.children n ne ∙ made.children n l)
+        ]
+
         -- what stands under a node stood there before the other one was erased
         stood : (n a : IRNode) → Has (children v n) a → Has (children u n) a
         stood n a h = elim (block-tells n b) [
           | inl e ↦
-              let cut-u = at.children_over ∙ sym (append_assoc cut.0 (Operation x ∷ []) (Operation op ∷ cut.1)) in
               let k =
               subst (λ z. Has z a) (erased.children_over (BasicBlock b) (cut.0 ++ Operation x ∷ []) cut.1 cut-u)
               (subst (λ z. Has (children v z) a) e h) in
@@ -209,7 +275,8 @@ module _ {K A T : Type 0} (illegal : OpKind K → Bool) where
           kept = keeps-all s v _ live-v
               (λ n l a. erased.parents n (apart n l a) ∙ parent-u n l)
               (λ p l a. erased.ops p (live-v (Operation p) l a) ∙ op-u p l)
-              (λ q l a. erased.blocks q (live-v (BasicBlock q) l a) ∙ block-u q l);
+              (λ q l a. erased.blocks q (live-v (BasicBlock q) l a) ∙ block-u q l)
+              children-v (types-then s u v types-u (ap (λ z. z.types) freed)) (erased.limit ∙ limit-u);
           legal = λ n a g h i.
               (let up = w''.child_parent n a h in
               let k = stood n a h in

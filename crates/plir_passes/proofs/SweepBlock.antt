@@ -1,5 +1,5 @@
 -- The loop over the operations of a block, the last one first.
-use Rattle.std.proofs.Common.{◌≡◌, ◌<◌, ◌+◌, ℕ, zero, suc, arith, Bool, false, List, [], ◌∷◌, ◌++◌, length, reverse}
+use Rattle.std.proofs.Common.{◌≡◌, ◌<◌, ℕ, zero, suc, arith, Bool, false, List, [], ◌∷◌, ◌++◌, length, reverse}
 use Rattle.std.proofs.Common.{Option, Some, None, option_map, inl, inr, refl, sym, ap, subst, ◌∙◌}
 use Rattle.std.proofs.lemmas.List.{reverse-reverse, reverse-append, length-append, append_assoc, append-nil}
 use Rattle.std.proofs.lemmas.Option.{none-some, same_Some}
@@ -117,7 +117,7 @@ module _ {K A T : Type 0} {effect ends : K → Bool} where
               record {
                 swept =
                     swept-then effect ends s s' r.swept t
-                    (swept-erased effect ends s' t b op r.forest g.0 parent g.2 g.3);
+                    (swept-erased effect ends s' t b op r.forest g.0 parent g.2 g.3 g.4);
                 lawful =
                     laws.both s s' t (BasicBlock b) w r.lawful
                     (laws.erased s' t (BasicBlock b) (Operation op) (zero, parent) g.2);

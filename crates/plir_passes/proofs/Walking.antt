@@ -31,7 +31,9 @@ use Rattle.plir_walk.specs.Lawful.{Lawful}
 use Rattle.plir_walk.specs.CallLaws.{chain-each, kept_from_entry_to_exit, holds_under_root}
 use Rattle.plir_walk.specs.NodeLaws.{climb-nothing}
 use Rattle.plir_passes.specs.Legal.{is_illegal, HasLegalChildren}
-use Rattle.plir_passes.specs.Rewritten.{IsConverted, IsConvertedAt, IsSettled}
+use Rattle.plir_passes.specs.Rewritten.{IsConverted}
+use Rattle.plir_passes.specs.Rewrites.{Rewrites, IsNodeConverted}
+use Rattle.plir_passes.specs.Converted.{IsConvertedAt, IsSettled}
 use Rattle.plir_passes.proofs.Keeping.{converted-none, converted-then}
 
 module _ {C S B : Type 0} (post : Relation C S B) where
@@ -63,26 +65,30 @@ module _ {K A T : Type 0} (illegal : OpKind K → Bool) where
       legal-images s (is_live s (Region p)) (children_at s.nodes.blocks_in_region p.slot) (block_node s.nodes)
       (λ i. refl) a h
 
+module _ {K A T B : Type 0} (illegal : OpKind K → Bool) (rewrites : Rewrites K A T B) where
   -- what was done at a block
-  pub at-block : {B : Type 0} (s t : ContextView K A T) (n : IRNode) (b : Ptr BasicBlockKind)
+  pub at-block : (s t : ContextView K A T) (n : IRNode) (b : Ptr BasicBlockKind)
       (a : ControlFlow B WalkContinue) → n ≡ BasicBlock b → Lawful (look s) (BasicBlock b) (look t)
       → IsConverted illegal s t
-      → IsSettled illegal t (BasicBlock b) a → IsConvertedAt illegal s n a t
-  at-block s t n b a e l c f = record {
+      → IsSettled illegal t (BasicBlock b) a → IsNodeConverted illegal rewrites s (BasicBlock b) a t
+      → IsConvertedAt illegal rewrites s n a t
+  at-block s t n b a e l c f h = record {
     lawful = subst (λ z. Lawful (look s) z (look t)) (sym e) l;
     converted = c;
     settled = subst (λ z. IsSettled illegal t z a) (sym e) f;
+    node = subst (λ z. IsNodeConverted illegal rewrites s z a t) (sym e) h;
   }
 
   -- what is promised of equal contexts
-  pub converted-by : {B : Type 0} {c d c' d' : ContextView K A T} {n : IRNode} {a : ControlFlow B WalkContinue}
-      → c ≡ d → c' ≡ d' → IsConvertedAt illegal c n a c' → IsConvertedAt illegal d n a d'
-  converted-by {B} {c} {d} {c'} {d'} {n} {a} e f h =
-      subst (λ z. IsConvertedAt illegal d n a z) f (subst (λ z. IsConvertedAt illegal z n a c') e h)
+  pub converted-by : {c d c' d' : ContextView K A T} {n : IRNode} {a : ControlFlow B WalkContinue}
+      → c ≡ d → c' ≡ d' → IsConvertedAt illegal rewrites c n a c' → IsConvertedAt illegal rewrites d n a d'
+  converted-by {c} {d} {c'} {d'} {n} {a} e f h =
+      subst (λ z. IsConvertedAt illegal rewrites d n a z) f
+      (subst (λ z. IsConvertedAt illegal rewrites z n a c') e h)
 
-  module _ {S B : Type 0} (post : Relation (ContextView K A T) S B) (r : IRNode)
+  module _ {S : Type 0} (post : Relation (ContextView K A T) S B) (r : IRNode)
       (each : (c : ContextView K A T) (s : S) (n : IRNode) (a : ControlFlow B WalkContinue) (c' : ContextView K A T)
-      (s' : S) → post c s n a c' s' → IsConvertedAt illegal c n a c') where
+      (s' : S) → post c s n a c' s' → IsConvertedAt illegal rewrites c n a c') where
     abbrev call : Relation (ContextView K A T) S B
     call = IsCallUnder look r post
 

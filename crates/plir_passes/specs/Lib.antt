@@ -2,8 +2,12 @@
 --
 --   Legal      is_illegal, HasLegalChildren, IsUntouched: operations of illegal kinds, and what is none and stands
 --              below none
---   Kept       Keeps: what a change leaves of the nodes that stand apart from it
+--   Kept       Keeps: what a change leaves of the nodes that stand apart from it, and of the types
 --   Rewritten  IsRewriting, IsReplaced: one operation is replaced; IsConverted: what many such changes leave
+--   Rewrites   IsRewrite: one call of `rewrite`; IsBlockConverted, IsConversion: the calls that convert a block, and
+--              all that stands below an operation
+--   Converted  IsConvertedAt: what the call of a walk at a node leaves
+--   ConversionLaws  kept_by_conversion: what each call of `rewrite` keeps, the conversion keeps
 --   Replacing  Replacements: what a rewrite may do
 --   Dead       IsUsedBy, AreDead, HasNoDead: dead operations, and that none is left
 --   Swept      IsSwept: dead operations are gone, and nothing else has changed
@@ -11,6 +15,9 @@
 pub mod Legal
 pub mod Kept
 pub mod Rewritten
+pub mod Rewrites
+pub mod Converted
+pub mod ConversionLaws
 pub mod Replacing
 pub mod Dead
 pub mod Swept

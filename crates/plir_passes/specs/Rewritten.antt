@@ -1,9 +1,5 @@
 -- How one operation is replaced by others, and what many such changes leave.
 use Rattle.std.specs.Prelude.{◌≡◌, Bool, true, false, List, ◌∷◌, ◌++◌}
-use Rattle.std.specs.declared.ops.ControlFlow.{ControlFlow}
-use Rattle.std.specs.declared.ops.ControlFlow.TheVariants.{Continue, Break}
-use Rattle.plir_walk.specs.declared.interruptible.WalkContinue.{WalkContinue}
-use Rattle.plir_walk.specs.declared.interruptible.WalkContinue.TheVariants.{Advance, Skip}
 use Rattle.plir_data.specs.declared.op_set.OpKind.{OpKind}
 use Rattle.plir_store.specs.Members.{Has}
 use Rattle.plir_core.specs.declared.ptr.Ptr.{Ptr}
@@ -15,7 +11,7 @@ use Rattle.plir_core.specs.Above.{Reaches}
 use Rattle.plir_core.specs.Forest.{look}
 use Rattle.plir_core.specs.ContextView.{ContextView, is_live, children, parent_of, given_out}
 use Rattle.plir_walk.specs.Lawful.{Lawful}
-use Rattle.plir_passes.specs.Legal.{is_illegal, HasLegalChildren, IsUntouched}
+use Rattle.plir_passes.specs.Legal.{is_illegal, IsUntouched}
 use Rattle.plir_passes.specs.Kept.{Keeps}
 
 module _ {K A T : Type 0} where
@@ -41,24 +37,10 @@ module _ {K A T : Type 0} where
     pub place : (xs ys : List IRNode) → children s (BasicBlock b) ≡ xs ++ Operation op ∷ ys → (ks : List IRNode) ×
         (children t (BasicBlock b) ≡ xs ++ (ks ++ ys))
 
-  -- From s to t illegal operations were replaced: what was none of them, and stood below none, is as it was, and no
-  -- older node has come to have an illegal one right under it.
+  -- From s to t illegal operations were replaced: what was none of them, and stood below none, is as it was, in its
+  -- order, and no older node has come to have an illegal one right under it. What was given out stays given out, and as
+  -- many nodes may be live; how many there are, and which slots are free, is what the rewrites make of it.
   pub record IsConverted (illegal : OpKind K → Bool) (s t : ContextView K A T) : Type 0 where
     pub kept : Keeps s t (IsUntouched illegal s)
     pub legal : BringsNoIllegal illegal s t
     pub given : (n : IRNode) → given_out s n ≡ true → given_out t n ≡ true
-
--- What the call at a node leaves of it, by its answer: it has no illegal child, or the call has broken the walk off.
-abbrev pub IsSettled : {K A T B : Type 0} → (OpKind K → Bool) → ContextView K A T → IRNode
-    → ControlFlow B WalkContinue →
-    Type 0
-IsSettled illegal s n (Continue Advance) = HasLegalChildren illegal s n
-IsSettled illegal s n (Continue Skip) = ⊥
-IsSettled illegal s n (Break e) = Unit {0}
-
--- The call at a node n: the tree below n has changed alone, illegal operations were replaced, and n is settled.
-pub record IsConvertedAt {K A T B : Type 0} (illegal : OpKind K → Bool) (s : ContextView K A T) (n : IRNode)
-    (answer : ControlFlow B WalkContinue) (t : ContextView K A T) : Type 0 where
-  pub lawful : Lawful (look s) n (look t)
-  pub converted : IsConverted illegal s t
-  pub settled : IsSettled illegal t n answer

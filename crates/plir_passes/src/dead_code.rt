@@ -14,7 +14,7 @@ use plir_core::laws::{
 };
 use plir_core::{BasicBlock, Context, IRNode, Operation, Ptr};
 use plir_walk::WALKCONFIG_POSTORDER_REVERSE;
-use plir_walk::laws::{before_is_a_total_order, lawful_changes};
+use plir_walk::laws::{before_is_a_total_order, erasures_thin, lawful_changes};
 use plir_walk::uninterruptible::mutable::walk_op;
 
 /// Whether an operation is of a kind that may go, has no region, and no other operation uses a result of it. All
@@ -51,6 +51,7 @@ fn sweep_op<D: EffectSet>(ctx: &mut Context<D>, op: Ptr<Operation>, erased: bool
     ensures stands { IsForest (look ctx.new) }
 {
     lawful_changes::<D>();
+    erasures_thin(ctx);
     ctx.stands();
     if is_dead(ctx, op) {
         Operation::erase(op, ctx);
@@ -129,7 +130,8 @@ fn sweep<D: EffectSet>(ctx: &mut Context<D>, root: Ptr<Operation>) -> bool
 }
 
 /// Erases the dead operations below an operation, until none is left there: those that have no effect and no region,
-/// end no block, and whose results are used by dead operations alone. All else stays as it was, in its order. A look at
+/// end no block, and whose results are used by dead operations alone. All else stays as it was, in its order; what is
+/// free now is used again, the slot freed last first. A look at
 /// an operation goes by the count of its uses and by its operands, over all operations of the context only where that
 /// count is not known; an operation that is used before it in the order of blocks takes another sweep. Takes no memory.
 pub fn eliminate_dead_code<D: EffectSet>(ctx: &mut Context<D>, root: Ptr<Operation>)

@@ -1,10 +1,11 @@
 //! A conversion of the toy: each `toy.old` is replaced by a `toy.new`.
-ghost use Rattle.std.specs.Prelude.{◌≡◌, true, false, IfOk, OnErr};
+ghost use Rattle.std.specs.Prelude.{◌≡◌, true, false, IfOk, OnErr, OnOk};
 ghost use Rattle.plir_core.specs.Changes.{SameLive};
 ghost use Rattle.plir_core.specs.Made.{IsMade};
 ghost use Rattle.plir_core.specs.ContextView.{given_out};
 ghost use Rattle.plir_core.specs.declared.ptr.IRNode.{IRNode as AnyNode};
 ghost use Rattle.plir_passes.specs.Legal.{is_illegal};
+ghost use Rattle.plir_passes.specs.Replacing.{IsReplacedByNew};
 ghost use Rattle.plir_passes_tests.specs.Kinds.{is_old};
 
 use crate::toy::ToyKind;
@@ -42,6 +43,7 @@ fn make_new(alloc: Global, ctx: &mut Context<KindSet<ToyKind>>) -> Result<Ptr<Op
     ensures legal { IfOk result (λ p. is_illegal is_old ctx.new (AnyNode.Operation p) ≡ false) }
     ensures refused { OnErr result (SameLive ctx.old ctx.new) }
     ensures given { (n : AnyNode) → given_out ctx.old n ≡ true → given_out ctx.new n ≡ true }
+    ensures types { ctx.new.types ≡ ctx.old.types }
 {
     let (results, operands, successors) = (Vec::new(alloc), Vec::new(alloc), Vec::new(alloc));
     let kind = OpKind::Own(ToyKind::New);
@@ -53,6 +55,9 @@ impl Conversion<KindSet<ToyKind>> for Renew {
     type Err = RenewErr;
 
     ghost illegal = { λ _. is_old };
+
+    // On Ok the operation was replaced by one that was made.
+    ghost rewrites = { λ _ s _ op answer t. OnOk answer (IsReplacedByNew s t op) };
 
     fn is_illegal(&self, kind: OpKind<ToyKind>) -> bool
         ensures { result ≡ is_old kind }

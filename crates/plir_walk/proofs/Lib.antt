@@ -35,3 +35,4 @@ pub mod Picked
 pub mod Refilled
 pub mod Unnaming
 pub mod Thinning
+pub mod Rooms

@@ -1,59 +1,30 @@
 -- Erasures, one after another, of trees and of leaves.
-use Rattle.std.proofs.Common.{◌≡◌, ℕ, zero, suc, Bool, true, false, not, cond, List, [], ◌∷◌, Option, Some, inl, inr}
+use Rattle.std.proofs.Common.{◌≡◌, ℕ, zero, suc, Bool, true, false, not, [], Option, Some, inl, inr}
 use Rattle.std.proofs.Common.{refl, sym, ◌∙◌, ap, subst}
-use Rattle.std.specs.List.{filter}
 use Rattle.std.proofs.lemmas.Bool.{false≢true}
 use Rattle.std.proofs.lemmas.Option.{same_Some}
-use Rattle.plir_store.specs.FilterLaws.{filter-all, filter-twice}
 use Rattle.plir_store.specs.Members.{Has}
 use Rattle.plir_data.specs.declared.op_set.OpKind.{OpKind}
 use Rattle.plir_core.specs.Above.{climb, Reaches}
-use Rattle.plir_core.specs.Erase.{IsErased, LosesOneChild}
+use Rattle.plir_core.specs.Erase.{IsErased, LosesOneChild, tree_of}
 use Rattle.plir_core.specs.Forest.{look, IsForest}
-use Rattle.plir_core.specs.ContextView.{ContextView, IsLive, is_live, children, parent_of, kind_in, kind_of}
+use Rattle.plir_core.specs.ContextView.{ContextView, IsLive, is_live, children, parent_of, kind_of}
 use Rattle.plir_core.specs.Unused.{without_tree}
 use Rattle.plir_core.specs.declared.ptr.Ptr.{Ptr}
 use Rattle.plir_core.specs.declared.ptr.Operation.{Operation as OperationKind}
 use Rattle.plir_core.specs.declared.ptr.IRNode.{IRNode}
-use Rattle.plir_core.specs.declared.ptr.IRNode.TheVariants.{Operation, BasicBlock}
-use Rattle.plir_walk.specs.Thinned.{IsThinned, IsOfKinds, IsThinnedOf, IsThinnedBelow}
+use Rattle.plir_core.specs.declared.ptr.IRNode.TheVariants.{Operation}
+use Rattle.plir_walk.specs.ThinnedLaws.{thinned-none, kinds-both}
+use Rattle.plir_walk.specs.Thinned.{IsThinned, IsThinnedOf, IsThinnedBelow}
+use Rattle.plir_walk.specs.NodeLaws.{filter-agree}
 use Rattle.plir_walk.specs.Tree.{same}
 use Rattle.plir_walk.proofs.Nodes.{same_tells}
 use Rattle.plir_walk.proofs.Climbs.{climb-split}
 use Rattle.plir_walk.proofs.Lawfulness.{lawful-none, lawful-then, lawful-erased}
 
--- two tests that agree on a list keep the same of it
-filter-agree : {A : Type 0} (p q : A → Bool) (xs : List A) → ((x : A) → Has xs x → p x ≡ q x) → filter p xs ≡ filter q
-    xs
-filter-agree p q [] h = refl
-filter-agree p q (x ∷ xs) h =
-    ap (λ b. cond b (x ∷ filter p xs) (filter p xs)) (h x (inl refl))
-    ∙ ap (λ zs. cond (q x) (x ∷ zs) zs) (filter-agree p q xs (λ y i. h y (inr i)))
-
 module _ {K A T : Type 0} where
-  pub thinned-none : (s : ContextView K A T) → IsForest (look s) → IsThinned s s
-  thinned-none s w = record {
-    old = λ n l. l;
-    children = λ n l. sym (filter-all (is_live s) (children s n) (λ x h. w.child_live n x h));
-    parents = λ n l. refl;
-    ops = λ p l. refl;
-    blocks = λ p l. refl;
-    types = refl;
-  }
-
-  pub thinned-both : (s t u : ContextView K A T) → IsThinned s t → IsThinned t u → IsThinned s u
-  thinned-both s t u f g = record {
-    old = λ n l. f.old n (g.old n l);
-    children = λ n l. g.children n l ∙ ap (filter (is_live u)) (f.children n (g.old n l)) ∙ filter-twice (is_live t)
-        (is_live u) (λ x k. g.old x k) (children s n);
-    parents = λ n l. g.parents n l ∙ f.parents n (g.old n l);
-    ops = λ p l. g.ops p l ∙ f.ops p (g.old (Operation p) l);
-    blocks = λ p l. g.blocks p l ∙ f.blocks p (g.old (BasicBlock p) l);
-    types = g.types ∙ f.types;
-  }
-
   module _ (s t : ContextView K A T) (n : IRNode) (w : IsForest (look s)) (loses : LosesOneChild s.nodes t.nodes n)
-      (e : IsErased s.nodes t.nodes n) (same_types : t.types ≡ s.types) where
+      (e : IsErased s.nodes t.nodes n) (after : t ≡ without_tree s n) where
     -- what is left does not stand below n
     apart : (m : IRNode) → IsLive t m → Reaches (parent_of s) m n → ⊥
     apart m l r = false≢true (sym (e.gone m r) ∙ l)
@@ -83,13 +54,18 @@ module _ {K A T : Type 0} where
 
     pub thinned-erased : IsThinned s t
     thinned-erased = record {
+      gone = tree_of s.nodes n;
+      after = after;
+      count = e.count;
       old = λ m l. sym (e.live m (apart m l)) ∙ l;
       children = λ m l. loses is_other not-itself others m (apart m l) ∙ filter-agree is_other (is_live t)
           (children s m) (agree m l);
       parents = λ m l. e.parents m (apart m l);
       ops = λ p l. e.ops p l;
       blocks = λ p l. e.blocks p l;
-      types = same_types;
+      types = ap (λ z. z.types) after;
+      limit = e.limit;
+      given = e.given;
     }
 
   module _ (kinds : Option (OpKind K) → Bool) where
@@ -98,22 +74,6 @@ module _ {K A T : Type 0} where
       thinned = record { thinned = thinned-none s w; stays = λ m l f. l };
       lawful = lawful-none (look s) n;
       forest = w;
-    }
-
-    -- an operation that stays holds what it held, and so is of the kind that it was of
-    of-kinds-before : (s t : ContextView K A T) → IsThinned s t → (n : IRNode) → IsLive t n → IsOfKinds kinds t n →
-        IsOfKinds kinds s n
-    of-kinds-before s t f n l k = (
-      k.0,
-      k.1,
-      subst (λ o. kinds (kind_in o) ≡ true) (f.ops k.0 (subst (IsLive t) k.1 l))
-          k.2,
-    )
-
-    pub kinds-both : (s t u : ContextView K A T) → IsThinnedOf kinds s t → IsThinnedOf kinds t u → IsThinnedOf kinds s u
-    kinds-both s t u f g = record {
-      thinned = thinned-both s t u f.thinned g.thinned;
-      stays = λ n l no. (let m = f.stays n l no in g.stays n m (λ k. no (of-kinds-before s t f.thinned n m k)));
     }
 
     module _ (s t : ContextView K A T) (p : Ptr OperationKind) (w : IsForest (look s))
@@ -129,14 +89,14 @@ module _ {K A T : Type 0} where
 
       leaf-thins : IsThinnedOf kinds s t
       leaf-thins = record {
-        thinned = thinned-erased s t (Operation p) w loses e (ap (λ z. z.types) after);
+        thinned = thinned-erased s t (Operation p) w loses e after;
         stays = λ m l no. e.live m (λ r. no (p, alone m r.0 r.1, of_kind)) ∙ l;
       }
 
       pub below-more : (n : IRNode) (r : ContextView K A T) → parent_of s (Operation p) ≡ Some n → IsThinnedBelow kinds
           n r s → IsThinnedBelow kinds n r t
       below-more n r here h = record {
-        thinned = kinds-both r s t h.thinned leaf-thins;
+        thinned = kinds-both kinds r s t h.thinned leaf-thins;
         lawful = lawful-then (look r) (look s) (look t) n h.forest h.lawful (lawful-erased s t n (Operation p) (0, here)
             e);
         forest = h.forest;

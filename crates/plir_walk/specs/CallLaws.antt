@@ -41,6 +41,18 @@ module _ {C S B : Type 0} (post : Relation C S B) where
   chain-each c s (y ∷ ys) c' s' h x (inl e) = subst (λ z. post z.before z.state z.node z.answer z.after z.left) e h.2
   chain-each c s (y ∷ ys) c' s' h x (inr i) = chain-each y.after y.left ys c' s' h.3 x i
 
+  -- calls in a relation are in each wider one
+  pub chain-wider : (wider : Relation C S B) → ((c c' : C) (s s' : S) (n : IRNode) (a : ControlFlow B WalkContinue) →
+      post c s n a c' s' → wider c s n a c' s') → (c c' : C) (s s' : S) (calls : List (Call C S B)) →
+      Chain post c s calls c' s' → Chain wider c s calls c' s'
+  chain-wider wider more c c' s s' [] h = h
+  chain-wider wider more c c' s s' (x ∷ xs) h = (
+    h.0,
+    h.1,
+    more x.before x.after x.state x.left x.node x.answer h.2,
+    chain-wider wider more x.after c' x.left s' xs h.3,
+  )
+
   -- What each call keeps holds from entry to exit: of all that a pass leaves as it was.
   pub kept_from_entry_to_exit : (keeps : C → S → C → S → Type 0) → IsPreorder keeps → IsKept keeps →
       (c c' : C) (s s' : S) (calls : List (Call C S B)) → Chain post c s calls c' s' → keeps c s c' s'

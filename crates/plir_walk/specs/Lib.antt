@@ -20,6 +20,7 @@ pub mod TreeLaws
 pub mod NodeLaws
 pub mod WalkLaws
 pub mod Thinned
+pub mod ThinnedLaws
 pub mod OperationWalks
 pub mod OperationSteps
 pub mod OperationLaws

@@ -1,8 +1,8 @@
--- Laws of nodes for the proofs of passes: when two are the same, and how much of a list of them there is from an
--- operation on, which a loop over the operations of a block goes by.
-use Rattle.std.proofs.Common.{◌≡◌, ◌≢◌, ◌<◌, ℕ, zero, suc, arith, true, false, cond, List, [], ◌∷◌, ◌++◌, length}
-use Rattle.std.proofs.Common.{Option, Some, None, ◌⊎◌, inl, inr, refl, sym, ap, subst, ◌∙◌}
-use Rattle.std.specs.List.{flat_map}
+-- Laws of nodes for the proofs of passes: when two are the same, how much of a list of them there is from an operation
+-- on, which a loop over the operations of a block goes by, and what stands beside what.
+use Rattle.std.proofs.Common.{◌≡◌, ◌≢◌, ◌<◌, ◌+◌, ℕ, zero, suc, arith, Bool, true, false, cond, List, []}
+use Rattle.std.proofs.Common.{◌∷◌, ◌++◌, length, Option, Some, None, ◌⊎◌, inl, inr, refl, sym, ap, subst, ◌∙◌}
+use Rattle.std.specs.List.{filter, flat_map}
 use Rattle.std.proofs.lemmas.List.{length-append}
 use Rattle.std.proofs.lemmas.Bool.Decides.{eqb_tells}
 use Rattle.std.proofs.lemmas.Option.{none-some, same_Some}
@@ -13,9 +13,9 @@ use Rattle.plir_core.specs.declared.ptr.Operation.{Operation as OperationKind}
 use Rattle.plir_core.specs.declared.ptr.BasicBlock.{BasicBlock as BasicBlockKind}
 use Rattle.plir_core.specs.declared.ptr.IRNode.{IRNode}
 use Rattle.plir_core.specs.declared.ptr.IRNode.TheVariants.{Operation, Region, BasicBlock}
-use Rattle.plir_core.specs.Above.{climb}
+use Rattle.plir_core.specs.Above.{climb, Reaches}
 use Rattle.plir_core.specs.Erase.{IsErased, post_order, tree_of}
-use Rattle.plir_core.specs.Measures.{most_steps}
+use Rattle.plir_core.specs.Measures.{most_steps, depth, IsMeasured}
 use Rattle.plir_core.specs.Nodes.{Nodes, node_children}
 use Rattle.plir_core.specs.Forest.{look, IsForest}
 use Rattle.plir_core.specs.ContextView.{ContextView, num_live, children, parent_of}
@@ -77,6 +77,14 @@ pub ended : (xs : List IRNode) → None ≡ head xs → xs ≡ []
 ended [] e = refl
 ended (x ∷ xs) e = absurd (none-some x e)
 
+-- two tests that agree on a list keep the same of it
+pub filter-agree : {A : Type 0} (p q : A → Bool) (xs : List A) → ((x : A) → Has xs x → p x ≡ q x)
+    → filter p xs ≡ filter q xs
+filter-agree p q [] h = refl
+filter-agree p q (x ∷ xs) h =
+    ap (λ b. cond b (x ∷ filter p xs) (filter p xs)) (h x (inl refl))
+    ∙ ap (λ zs. cond (q x) (x ∷ zs) zs) (filter-agree p q xs (λ y i. h y (inr i)))
+
 -- nothing is above nothing
 pub climb-nothing : {N : Type 0} (up : N → Option N) (k : ℕ) (a : N) → climb up k None ≡ Some a → ⊥
 climb-nothing up zero a e = none-some a e
@@ -109,3 +117,27 @@ module _ {K A T : Type 0} where
       up rest (Some a) q =
           absurd (subst (λ z. Has z m) none
           (w.parent_child x m (q ∙ ap Some (rest a (ap (climb (parent_of s) k) (sym q) ∙ e)))))
+
+  -- what climbs to a node stands as much deeper as it climbs
+  climb-depth : (s : ContextView K A T) → IsMeasured s → (k : ℕ) (x a : IRNode)
+      → climb (parent_of s) k (Some x) ≡ Some a → depth s x ≡ depth s a + k
+  climb-depth s m zero x a e = (let d = ap (depth s) (same_Some x a e) in omega (arith, d))
+  climb-depth s m (suc k) x a e = up (λ y f. climb-depth s m k y a f) (parent_of s x) refl
+    where
+      up : ((y : IRNode) → climb (parent_of s) k (Some y) ≡ Some a → depth s y ≡ depth s a + k) → (o : Option IRNode)
+          → parent_of s x ≡ o → depth s x ≡ depth s a + suc k
+      up rest None q = absurd (climb-nothing (parent_of s) k a (ap (climb (parent_of s) k) (sym q) ∙ e))
+      up rest (Some y) q =
+          (let r = rest y (ap (climb (parent_of s) k) (sym q) ∙ e) in
+          let d = m.deeper y x q in
+          omega (arith, r, d))
+
+  -- a child of a node stands below no other child of it
+  pub beside-apart : (s : ContextView K A T) → IsMeasured s → (b x a : IRNode) → parent_of s x ≡ Some b
+      → parent_of s a ≡ Some b → a ≢ x → Reaches (parent_of s) a x → ⊥
+  beside-apart s m b x a e f ne r =
+      let d = climb-depth s m r.0 a x r.1 in
+      let i = m.deeper b x e in
+      let j = m.deeper b a f in
+      let z : r.0 ≡ zero = omega (arith, d, i, j) in
+      ne (same_Some a x (subst (λ k. climb (parent_of s) k (Some a) ≡ Some x) z r.1))

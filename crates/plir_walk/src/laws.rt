@@ -20,7 +20,7 @@ ghost use Rattle.plir_walk.specs.ChangedBelow.{StepsBelow};
 ghost use Rattle.plir_walk.specs.LawfulChanges.{LawfulChanges};
 ghost use Rattle.plir_walk.specs.Laws.{BeforeOrders, PostReverseIsPreForwardReversed, SkipsAtPostOrder};
 ghost use Rattle.plir_walk.specs.Laws.{ShutsOutNothing, WalkedOnce};
-ghost use Rattle.plir_walk.specs.Thinned.{ErasuresThin, LeavesThin};
+ghost use Rattle.plir_walk.specs.Thinned.{ErasuresThin, LeavesThin, ThinningKeepsRoom};
 
 use crate::config::WalkConfig;
 use crate::links::NodeLinks;
@@ -117,6 +117,12 @@ pub fn erasures_thin<D: OpSet>(ctx: &Context<D>)
     ctx.stands();
     erasure_takes_one_child(ctx);
 }
+
+/// Where there was room for a new node there is room for it after erasures: as many nodes may be live, fewer are, and
+/// no slot is taken.
+pub fn thinning_keeps_room<D: OpSet>()
+    ensures { ThinningKeepsRoom D.Kind D.Attr D.Ty D.attr_handles }
+{}
 
 /// What a callback leaves that erases children of its node which have no children, as operations without regions: it is
 /// told which kinds of operations these are, all else stays, and the whole is a lawful change at the node. The law is

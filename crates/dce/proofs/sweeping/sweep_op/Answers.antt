@@ -9,7 +9,7 @@ erase-requires-clause-unused g c = c.if-is_dead.ensures.unused refl
 pub returns-then-is_dead-clause-swept : goal.returns-then-is_dead-clause-swept
 returns-then-is_dead-clause-swept g c =
     λ s h. c.leaves_thin.ensures.more _ _ s c.erase.new.ctx c.args.op h c.requires.here
-    (c.if-is_dead.ensures.leaf refl) (c.if-is_dead.ensures.pure refl) c.erase.ensures.after c.erase.ensures.tree
+    (c.if-is_dead.ensures.leaf refl) (c.if-is_dead.ensures.removable refl) c.erase.ensures.after c.erase.ensures.tree
 
 pub returns-then-is_dead-clause-before : goal.returns-then-is_dead-clause-before
 returns-then-is_dead-clause-before g c =

@@ -1,8 +1,10 @@
-use Rattle.std.proofs.Common.{sym, ap, ◌∙◌}
+use Rattle.std.proofs.Common.{inl, inr, refl, sym, ap, ◌∙◌}
+use Rattle.std.proofs.lemmas.Result.{err_from_is_err_and}
 use Rattle.plir_core.specs.declared.ptr.IRNode.TheVariants.{Operation, BasicBlock}
 use Rattle.plir_passes.specs.Legal.{is_kind}
 use Rattle.plir_passes.proofs.Converting.{passed-legal, passed-replaced}
 use Rattle.plir_passes.proofs.Keeping.{converted-none, converted-one}
+use Rattle.plir_passes.proofs.Handing.{beside-kept}
 use Rattle.plir_passes.proofs.conversion.convert_op.Goals as goal
 
 pub rewrite-requires-clause-due : goal.rewrite-requires-clause-due
@@ -24,6 +26,17 @@ returns-then-not-is_illegal-clause-passed g c =
     passed-legal illegal s c.args.block c.args.op c.get_next-next.result
     (λ xs ys q. c.get_next-next.ensures.value ∙ c.next_is_behind.ensures (BasicBlock c.args.block) xs ys q)
     (ap (is_kind illegal) c.kind-kind.ensures.value ∙ sym c.if-not-is_illegal.ensures)
+
+pub returns-then-not-is_illegal-clause-handed : goal.returns-then-not-is_illegal-clause-handed
+returns-then-not-is_illegal-clause-handed g c = inl (
+  ap (is_kind (g.C.Conversion.illegal c.args.conversion.now)) c.kind-kind.ensures.value
+      ∙ sym c.if-not-is_illegal.ensures,
+  refl,
+  refl,
+)
+
+pub returns-then-not-is_illegal-clause-beside : goal.returns-then-not-is_illegal-clause-beside
+returns-then-not-is_illegal-clause-beside g c = λ a h ne. refl
 
 pub returns-then-not-is_illegal-clause-stands : goal.returns-then-not-is_illegal-clause-stands
 returns-then-not-is_illegal-clause-stands g c =
@@ -54,9 +67,41 @@ returns-clause-passed g c =
     passed-replaced (g.C.Conversion.illegal c.args.conversion.now) s c.rewrite.new.ctx c.args.block c.args.op
     c.get_next-next.result
     (λ xs ys q. c.get_next-next.ensures.value ∙ c.next_is_behind.ensures (BasicBlock c.args.block) xs ys q)
-    forest c.stands.ensures.standing.forest
+    forest c.stands-2.ensures.standing.forest
     (forest.parent_live (BasicBlock c.args.block) (Operation c.args.op) c.requires.here)
     c.in_ok-rewrite.ensures.rewriting.legal c.in_ok-rewrite.ensures.done
 
 pub returns-clause-stands : goal.returns-clause-stands
-returns-clause-stands g c = c.stands.ensures.standing.forest
+returns-clause-stands g c = c.stands-2.ensures.standing.forest
+
+pub returns-in_err-rewrite-clause-handed : goal.returns-in_err-rewrite-clause-handed
+returns-in_err-rewrite-clause-handed g c =
+    let p = err_from_is_err_and c.from_residual.result c.from_residual.ensures.1 in
+    rw (p.1, p.2) (inr (record {
+      here = c.requires.here;
+      due = ap (is_kind (g.C.Conversion.illegal c.args.conversion.now)) c.kind-kind.ensures.value
+          ∙ sym c.if-not-is_illegal.ensures;
+      told = c.in_err-rewrite.ensures.told;
+      rewriting = c.in_err-rewrite.ensures.rewriting;
+      replaced = tt;
+    }))
+
+pub returns-in_err-rewrite-clause-beside : goal.returns-in_err-rewrite-clause-beside
+returns-in_err-rewrite-clause-beside g c =
+    beside-kept (g.C.Conversion.illegal c.args.conversion.now) c.args.ctx.now c.rewrite.new.ctx c.args.block c.args.op
+    c.stands.ensures.standing c.requires.here c.in_err-rewrite.ensures.rewriting
+
+pub returns-clause-handed : goal.returns-clause-handed
+returns-clause-handed g c = inr (record {
+  here = c.requires.here;
+  due = ap (is_kind (g.C.Conversion.illegal c.args.conversion.now)) c.kind-kind.ensures.value
+      ∙ sym c.if-not-is_illegal.ensures;
+  told = c.in_ok-rewrite.ensures.told;
+  rewriting = c.in_ok-rewrite.ensures.rewriting;
+  replaced = c.in_ok-rewrite.ensures.done;
+})
+
+pub returns-clause-beside : goal.returns-clause-beside
+returns-clause-beside g c =
+    beside-kept (g.C.Conversion.illegal c.args.conversion.now) c.args.ctx.now c.rewrite.new.ctx c.args.block c.args.op
+    c.stands.ensures.standing c.requires.here c.in_ok-rewrite.ensures.rewriting

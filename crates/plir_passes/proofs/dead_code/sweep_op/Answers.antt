@@ -1,4 +1,5 @@
-use Rattle.std.proofs.Common.{inl, inr, refl, ap}
+use Rattle.std.proofs.Common.{inl, inr, refl}
+use Rattle.plir_core.specs.declared.ptr.IRNode.TheVariants.{Operation}
 use Rattle.plir_passes.proofs.dead_code.sweep_op.Goals as goal
 
 pub erase-requires-clause-unused : goal.erase-requires-clause-unused
@@ -6,7 +7,13 @@ erase-requires-clause-unused g c = c.if-is_dead.ensures.unused refl
 
 pub returns-then-is_dead-clause-swept : goal.returns-then-is_dead-clause-swept
 returns-then-is_dead-clause-swept g c =
-    inl (c.if-is_dead.ensures.answer.0 refl, refl, c.erase.ensures.tree, ap (λ z. z.types) c.erase.ensures.after)
+    inl (
+      c.if-is_dead.ensures.answer.0 refl,
+      refl,
+      c.erase.ensures.tree,
+      c.erasures_thin.ensures.erased c.erase.new.ctx (Operation c.args.op) c.erase.ensures.tree c.erase.ensures.after,
+      c.erase.ensures.after,
+    )
 
 pub returns-then-is_dead-clause-stands : goal.returns-then-is_dead-clause-stands
 returns-then-is_dead-clause-stands g c = c.lawful_changes.ensures.forest c.erase.new.ctx c.erase.ensures.whole

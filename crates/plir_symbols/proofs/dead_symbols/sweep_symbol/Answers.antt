@@ -26,7 +26,7 @@ returns g c = inl (
     tree = c.in-Ok.ensures.tree;
     thinned =
         c.erasures_thin.ensures.erased c.erase.new.ctx (Operation c.args.op) c.in-Ok.ensures.tree
-        (ap (λ z. z.types) c.in-Ok.ensures.after);
+        c.in-Ok.ensures.after;
     kept = record {
       op = ap (λ z. z.op) c.in-Ok.ensures.forgotten.table;
       agrees = c.in-Ok.ensures.agrees;

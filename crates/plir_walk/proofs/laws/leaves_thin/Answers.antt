@@ -1,5 +1,6 @@
 use Rattle.plir_core.specs.declared.ptr.IRNode.TheVariants.{Operation}
-use Rattle.plir_walk.proofs.Thinning.{below-none, below-more, kinds-both}
+use Rattle.plir_walk.specs.ThinnedLaws.{kinds-both}
+use Rattle.plir_walk.proofs.Thinning.{below-none, below-more}
 use Rattle.plir_walk.proofs.laws.leaves_thin.Goals as goal
 
 pub returns : goal.returns

@@ -1,5 +1,6 @@
 use Rattle.std.proofs.Common.{IsSome, refl, sym, subst, ◌∙◌}
 use Rattle.plir_core.specs.declared.ptr.IRNode.TheVariants.{Operation}
+use Rattle.plir_passes.specs.Kept.{same-types}
 use Rattle.plir_bench.specs.Illegal.{is_reference}
 use Rattle.plir_bench.proofs.converting.ResolveConversionBuiltinSet.rewrite.Goals as goal
 
@@ -21,10 +22,11 @@ erase-requires-clause-live c =
     let t = c.make_constant.new.ctx in
     let u = c.insert_before.new.ctx in
     let made = c.in_ok-constant.ensures.made in
+    let types = same-types s t c.in_ok-constant.ensures.types in
     let legal = c.in_ok-constant.ensures.legal in
     (c.replacements.ensures.added is_reference s t u c.args._block c.args.op c.in_ok-constant.constant
-    c.stands.ensures.whole c.insert_before.ensures.whole c.requires.here made legal
-    c.insert_before.ensures.placed).1
+    c.stands.ensures.whole c.insert_before.ensures.whole c.requires.here made types legal
+    c.insert_before.ensures.placed c.insert_before.ensures.after).1
 
 pub erase-requires-clause-unused : goal.erase-requires-clause-unused
 erase-requires-clause-unused c = c.if-not-is_unused_outside.ensures.value.0 refl
@@ -40,10 +42,11 @@ returns-then-not-is_unused_outside-clause-rewriting c =
     let t = c.make_constant.new.ctx in
     let u = c.insert_before.new.ctx in
     let made = c.in_ok-constant.ensures.made in
+    let types = same-types s t c.in_ok-constant.ensures.types in
     let legal = c.in_ok-constant.ensures.legal in
     (c.replacements.ensures.added is_reference s t u c.args._block c.args.op c.in_ok-constant.constant
-    c.stands.ensures.whole c.insert_before.ensures.whole c.requires.here made legal
-    c.insert_before.ensures.placed).0
+    c.stands.ensures.whole c.insert_before.ensures.whole c.requires.here made types legal
+    c.insert_before.ensures.placed c.insert_before.ensures.after).0
 
 pub returns-clause-rewriting : goal.returns-clause-rewriting
 returns-clause-rewriting c =
@@ -51,10 +54,12 @@ returns-clause-rewriting c =
     let t = c.make_constant.new.ctx in
     let u = c.insert_before.new.ctx in
     let made = c.in_ok-constant.ensures.made in
+    let types = same-types s t c.in_ok-constant.ensures.types in
     let legal = c.in_ok-constant.ensures.legal in
     (c.replacements.ensures.replaced is_reference s t u c.erase.new.ctx c.args._block c.args.op
     c.in_ok-constant.constant c.stands.ensures.whole c.insert_before.ensures.whole c.erase.ensures.whole
-    c.requires.here made legal c.insert_before.ensures.placed c.erase.ensures.tree).0
+    c.requires.here made types legal c.insert_before.ensures.placed
+    c.insert_before.ensures.after c.erase.ensures.tree c.erase.ensures.after).0
 
 pub returns-clause-done : goal.returns-clause-done
 returns-clause-done c =
@@ -62,7 +67,19 @@ returns-clause-done c =
     let t = c.make_constant.new.ctx in
     let u = c.insert_before.new.ctx in
     let made = c.in_ok-constant.ensures.made in
+    let types = same-types s t c.in_ok-constant.ensures.types in
     let legal = c.in_ok-constant.ensures.legal in
     (c.replacements.ensures.replaced is_reference s t u c.erase.new.ctx c.args._block c.args.op
     c.in_ok-constant.constant c.stands.ensures.whole c.insert_before.ensures.whole c.erase.ensures.whole
-    c.requires.here made legal c.insert_before.ensures.placed c.erase.ensures.tree).1
+    c.requires.here made types legal c.insert_before.ensures.placed
+    c.insert_before.ensures.after c.erase.ensures.tree c.erase.ensures.after).1
+
+pub returns-clause-told : goal.returns-clause-told
+returns-clause-told c = record {
+  new = c.in_ok-constant.constant;
+  with_new = c.make_constant.new.ctx;
+  with_both = c.insert_before.new.ctx;
+  made = c.in_ok-constant.ensures.made;
+  placed = c.insert_before.ensures.placed;
+  erased = c.erase.ensures.tree;
+}
