@@ -51,6 +51,7 @@ module _ {K A T : Type 0} where
     abbrev pub HasNoDeadChild : ContextView K A T → IRNode → Type 0
     HasNoDeadChild s n = (p : Ptr OperationKind) → Has (children s n) (Operation p) → IsUsedBy s [] p → ⊥
 
-    -- no such operation is left below a node; so no dead one is
+    -- No operation is left below a node that may go and that no other uses. One that nothing but a dead operation outside
+    -- uses is not of these.
     abbrev pub HasNoDead : ContextView K A T → IRNode → Type 0
     HasNoDead s r = (p : Ptr OperationKind) → IsBelow (look s) r (Operation p) → IsUsedBy s [] p → ⊥

@@ -13,8 +13,9 @@ use Rattle.plir_walk.specs.Calls.{Call, Relation, Chain, nodes_of}
 use Rattle.plir_walk.specs.Tree.{Tree, IsUnder}
 use Rattle.plir_walk.specs.Walk.{IsDue, Answers, LastBreaks}
 
--- What is said of a context and a state, and of what they become, holds of each with itself, and goes on.
-pub record IsPreorder {C S : Type 0} (keeps : C → S → C → S → Type 0) : Type 0 where
+-- A relation from one context and state to another composes: it holds of each with itself, and of what two steps make of
+-- it if it holds of both.
+pub record Composes {C S : Type 0} (keeps : C → S → C → S → Type 0) : Type 0 where
   pub itself : (c : C) (s : S) → keeps c s c s
   pub on : (c d e : C) (s t u : S) → keeps c s d t → keeps d t e u → keeps c s e u
 
@@ -54,7 +55,7 @@ module _ {C S B : Type 0} (post : Relation C S B) where
   )
 
   -- What each call keeps holds from entry to exit: of all that a pass leaves as it was.
-  pub kept_from_entry_to_exit : (keeps : C → S → C → S → Type 0) → IsPreorder keeps → IsKept keeps →
+  pub kept_from_entry_to_exit : (keeps : C → S → C → S → Type 0) → Composes keeps → IsKept keeps →
       (c c' : C) (s s' : S) (calls : List (Call C S B)) → Chain post c s calls c' s' → keeps c s c' s'
   kept_from_entry_to_exit keeps p k c c' s s' [] h = rw (h.0, h.1) (p.itself c s)
   kept_from_entry_to_exit keeps p k c c' s s' (x ∷ xs) h =

@@ -29,13 +29,6 @@ use plir_core::laws::{contexts_stand, erasure_takes_one_child};
 use plir_core::{Context, IRNode, Operation, Ptr};
 use plir_data::OpSet;
 
-/// The default setting is [`crate::WALKCONFIG_PREORDER_FORWARD`].
-pub fn default_setting() -> WalkConfig
-    ensures { result ≡ pre_forward }
-{
-    WalkConfig::default()
-}
-
 /// Each of the four settings has one order and one direction at all levels, those of its name.
 pub fn settings_are_as_named()
     ensures preorder_forward { pre_forward ≡ uniform PreOrder Forward }
