@@ -1,3 +1,4 @@
+pub mod Pointers
 pub mod NameSets
 pub mod NamesWalked
 pub mod Thinning
@@ -8,5 +9,6 @@ pub mod SweepLoop
 pub mod Scans
 pub mod Lent
 pub mod UsersWalked
+pub mod Bringing
 pub mod Edges
 pub mod HeldNames

@@ -4,8 +4,9 @@ ghost use Rattle.plir_core.specs.declared.ptr.IRNode.{IRNode as AnyNode};
 ghost use Rattle.plir_core.specs.ContextView.{IsLive, parent_of};
 ghost use Rattle.plir_core.specs.Standing.{IsStanding};
 ghost use Rattle.plir_builtin.specs.Agree.{AllAgree, AreGivenOut};
-ghost use Rattle.plir_builtin.specs.Refusals.{IsTableRefusal, Reports};
+ghost use Rattle.plir_builtin.specs.Refusals.{IsTableRefusal, Reports, reported};
 ghost use Rattle.plir_builtin.specs.Symbols.{body, IsGood};
+ghost use Rattle.plir_symbols.specs.CachedTables.{IsOwnCached, IsOwnCachedOrSame};
 ghost use Rattle.plir_symbols.specs.SymbolNames.{AreUsedNames, IsAmong};
 ghost use Rattle.plir_symbols.specs.DeadSymbols.{HasNoDead, MayGo};
 ghost use Rattle.plir_symbols.specs.SweptSymbols.{AreScansLeft, AreSwept};
@@ -134,8 +135,8 @@ fn is_ready<D: OpSet>(ctx: &Context<D>, cached: &SymbolTable, op: Ptr<Operation>
 
 /// Erases the dead symbols of a table, each with all below it, until none is left: those in its body that are private,
 /// whose name no operation at or below the table uses, not even one below the symbol itself, and of whose tree nothing
-/// outside uses a value or a block. All else stays as it was, in its order. The table is then cached, and where all
-/// tables of the collection agreed they do still.
+/// outside uses a value or a block. All else stays as it was, in its order. The table is then cached, all others are
+/// cached as they were, and where all tables of the collection agreed they do still.
 ///
 /// A round takes one walk of the table's tree, which puts the names that are used into a hashed set, and one look at
 /// each symbol. What a symbol uses that goes may go in the next round, so there is at most one round more than the
@@ -167,6 +168,9 @@ pub fn eliminate_dead_symbols<D: SymbolNames>(
     ensures given { AreGivenOut ctx.old tables.old → AreGivenOut ctx.new tables.new }
     ensures refused { AllAgree D.is_symbol D.is_symbol_table ctx.old tables.old →
         IfErr result (Reports (IsTableRefusal D.is_symbol D.is_symbol_table ctx.old table)) }
+    ensures same { IfErr result (λ e. IsSome (reported e) → (ctx.new ≡ ctx.old) × (tables.new ≡ tables.old)) }
+    ensures cached { OnOk result (IsOwnCached tables.old table tables.new) }
+    ensures others { IsOwnCachedOrSame tables.old table tables.new }
 {
     ctx.stands();
     erasures_thin(ctx);

@@ -1,4 +1,5 @@
-use Rattle.std.proofs.Common.{IsOk, OnErr, ◌≡◌, refl, sym, subst}
+use Rattle.std.proofs.Common.{IsOk, OnErr, ◌≡◌, inl, inr, refl, sym, subst, ◌∙◌}
+use Rattle.std.proofs.lemmas.Result.{err_from_is_err_and}
 use Rattle.plir_store.specs.FilterLaws.{not-both}
 use Rattle.plir_core.specs.declared.ptr.IRNode.TheVariants.{Operation}
 use Rattle.plir_core.specs.ContextView.{IsLive}
@@ -7,7 +8,7 @@ use Rattle.plir_builtin.specs.Symbols.{body}
 use Rattle.plir_symbols.specs.DeadSymbols.{HasNoDead}
 use Rattle.plir_symbols.specs.SweptSymbols.{AreSwept}
 use Rattle.plir_symbols.proofs.Erasing.{swept-none}
-use Rattle.plir_symbols.proofs.Lent.{lent-ready, lent-good, kept-good, kept-agree, kept-given, good-scans}
+use Rattle.plir_symbols.proofs.Lent.{lent-ready, lent-good, kept-good, kept-agree, kept-given, good-scans, unready-same}
 use Rattle.plir_symbols.proofs.dead_symbols.eliminate_dead_symbols.Goals as goal
 
 pub returns-in_err-cached-clause-swept : goal.returns-in_err-cached-clause-swept
@@ -148,3 +149,53 @@ pub returns-clause-live : goal.returns-clause-live
 returns-clause-live g c =
     subst (λ q. IsLive c.sweep_table.new.ctx (Operation q)) (c.is_ready.ensures.0 c.if-not-is_ready.false).0
     c.sweep_table.ensures.live
+
+pub returns-in_err-cached-clause-same : goal.returns-in_err-cached-clause-same
+returns-in_err-cached-clause-same g c =
+    let p = err_from_is_err_and c.from_residual.result c.from_residual.ensures.1 in
+    rw (p.1, p.2) (λ some. (
+      refl,
+      subst (λ r. OnErr r (c.get_symbol_table.follows.lender-at-none ≡
+          c.args.tables.now)) c.in_err-cached.was c.get_symbol_table.follows.holds-at-none,
+    ))
+
+pub returns-in_err-cached-clause-others : goal.returns-in_err-cached-clause-others
+returns-in_err-cached-clause-others g c = inl (subst (λ r. OnErr r (c.get_symbol_table.follows.lender-at-none ≡
+    c.args.tables.now)) c.in_err-cached.was c.get_symbol_table.follows.holds-at-none)
+
+pub returns-then-not-is_ready-clause-same : goal.returns-then-not-is_ready-clause-same
+returns-then-not-is_ready-clause-same g c = λ some. (
+  refl,
+  (c.get_symbol_table.follows.holds c.in_ok-cached.cached.now (subst IsOk (sym c.in_ok-cached.was) refl))
+      ∙ unready-same g.D.OpSet.is_symbol g.D.OpSet.is_symbol_table c.args.ctx.now c.args.tables.now c.args.table
+      c.in_ok-cached.cached.now c.requires.live c.in_ok-cached.ensures.cached c.in_ok-cached.ensures.made
+      (λ ready. not-both c.is_ready.result (c.is_ready.ensures.1 ready) c.if-not-is_ready.true),
+)
+
+pub returns-then-not-is_ready-clause-others : goal.returns-then-not-is_ready-clause-others
+returns-then-not-is_ready-clause-others g c = inl
+    ((c.get_symbol_table.follows.holds c.in_ok-cached.cached.now (subst IsOk (sym c.in_ok-cached.was) refl))
+    ∙ unready-same g.D.OpSet.is_symbol g.D.OpSet.is_symbol_table c.args.ctx.now c.args.tables.now c.args.table
+    c.in_ok-cached.cached.now c.requires.live c.in_ok-cached.ensures.cached c.in_ok-cached.ensures.made
+    (λ ready. not-both c.is_ready.result (c.is_ready.ensures.1 ready) c.if-not-is_ready.true))
+
+pub returns-in_err-sweep_table-clause-others : goal.returns-in_err-sweep_table-clause-others
+returns-in_err-sweep_table-clause-others g c = inr (
+  c.sweep_table.new.table,
+  (c.get_symbol_table.follows.holds c.sweep_table.new.table (subst IsOk (sym c.in_ok-cached.was) refl)),
+  c.sweep_table.ensures.kept.op ∙ (c.is_ready.ensures.0 c.if-not-is_ready.false).0,
+)
+
+pub returns-clause-cached : goal.returns-clause-cached
+returns-clause-cached g c = (
+  c.sweep_table.new.table,
+  (c.get_symbol_table.follows.holds c.sweep_table.new.table (subst IsOk (sym c.in_ok-cached.was) refl)),
+  c.sweep_table.ensures.kept.op ∙ (c.is_ready.ensures.0 c.if-not-is_ready.false).0,
+)
+
+pub returns-clause-others : goal.returns-clause-others
+returns-clause-others g c = inr (
+  c.sweep_table.new.table,
+  (c.get_symbol_table.follows.holds c.sweep_table.new.table (subst IsOk (sym c.in_ok-cached.was) refl)),
+  c.sweep_table.ensures.kept.op ∙ (c.is_ready.ensures.0 c.if-not-is_ready.false).0,
+)
