@@ -1,11 +1,15 @@
 pub mod Pointers
-pub mod NameSets
-pub mod NamesWalked
+pub mod Grown
+pub mod ReachWalked
+pub mod KeptLoop
+pub mod Upward
 pub mod Thinning
 pub mod Bodies
 pub mod Erasing
 pub mod Going
 pub mod SweepLoop
+pub mod Rounds
+pub mod Searching
 pub mod Scans
 pub mod Lent
 pub mod UsersWalked
