@@ -10,17 +10,17 @@ use Rattle.plir_core.specs.ContextView.{ContextView}
 use Rattle.plir_opt.specs.declared.choices.Pass.{Pass}
 use Rattle.plir_opt.specs.Passed.{IsPassed, ArePassed}
 
-module _ {K A T : Type 0} (effect ends own : K → Bool) (private : OpView K A → Bool)
+module _ {K A T : Type 0} (effect ends own own_table : K → Bool) (private : OpView K A → Bool)
     (names : OpView K A → List (List ℕ)) (p : Ptr OperationKind) (all : List Pass) where
   abbrev Passed : List Pass → ContextView K A T → ContextView K A T → Type 0
-  Passed = ArePassed effect ends own private names p
+  Passed = ArePassed effect ends own own_table private names p
 
   -- what the passes from a place on make of t, all of them make of s
   abbrev pub Leads : ℕ → ContextView K A T → ContextView K A T → Type 0
   Leads i s t = (u : ContextView K A T) → Passed (drop i all) t u → Passed all s u
 
   pub leads-on : (i : ℕ) (d : Pass) (s t u : ContextView K A T) → i < length all → Leads i s t →
-      IsPassed effect ends own private names p (get_or all i d) t u → Leads (i + 1) s u
+      IsPassed effect ends own own_table private names p (get_or all i d) t u → Leads (i + 1) s u
   leads-on i d s t u below leads passed v rest =
       let next : i + 1 ≡ suc i = omega arith in
       leads v (subst (λ z. Passed z t v) (sym (drop-cons all i d below))

@@ -11,20 +11,22 @@ use Rattle.plir_walk.specs.Unnamed.{IsUnnamed}
 use Rattle.plir_passes.specs.Dead.{HasNoDead}
 use Rattle.plir_passes.specs.Swept.{IsSwept}
 use Rattle.plir_symbols.specs.DeadSymbols.{HasNoDead as HasNoDeadSymbol}
-use Rattle.plir_symbols.specs.SweptSymbols.{AreSwept}
+use Rattle.plir_symbols.specs.SweptSymbols.{AreSweeps, AreSwept}
 use Rattle.plir_opt.specs.declared.choices.Pass.{Pass}
 use Rattle.plir_opt.specs.declared.choices.Pass.TheVariants.{EraseNames, Dce, SymbolDce}
 
-module _ {K A T : Type 0} (effect ends own_symbol : K → Bool) (private : OpView K A → Bool)
+module _ {K A T : Type 0} (effect ends own_symbol own_table : K → Bool) (private : OpView K A → Bool)
     (names : OpView K A → List (List ℕ)) (p : Ptr OperationKind) where
   -- From s to t a pass has gone over the operation p and all below it: all names there are erased; or operations that
-  -- were dead are, below p alone, and no dead one is left there; or symbols of p are that were dead, and no dead one is
-  -- left.
+  -- were dead are, below p alone, and no dead one is left there; or exactly the dead symbols of p are, in their order
+  -- and until none is left.
   abbrev pub IsPassed : Pass → ContextView K A T → ContextView K A T → Type 0
   IsPassed EraseNames s t = IsUnnamed s t (Operation p)
   IsPassed Dce s t =
       IsSwept effect ends s t × Lawful (look s) (Operation p) (look t) × HasNoDead effect ends t (Operation p)
-  IsPassed SymbolDce s t = AreSwept own_symbol private names s p t × HasNoDeadSymbol own_symbol private names t p
+  IsPassed SymbolDce s t = AreSwept own_symbol private s t ×
+      ((ms : List (ContextView K A T)) × AreSweeps own_symbol private own_table names p s ms t) ×
+      HasNoDeadSymbol own_symbol private own_table names t p
 
   -- From s to t passes have gone over the operation p, one after another.
   abbrev pub ArePassed : List Pass → ContextView K A T → ContextView K A T → Type 0

@@ -34,5 +34,5 @@ pub record IsTransformed {D K A T E : Type 0} (o : op_set.Ghosts D K A T E) (eff
   pub left : ContextView K A T
   pub stands : StandsForOp 200 read text (Operation root)
   pub verified : IsVerified o uses_hold read root
-  pub passed : ArePassed effect o.is_terminator o.is_symbol private names root passes read left
+  pub passed : ArePassed effect o.is_terminator o.is_symbol o.is_symbol_table private names root passes read left
   pub prints : IsPrintedAs o names left root form printed

@@ -3,10 +3,11 @@ ghost use Rattle.std.specs.Prelude.{OnOk};
 ghost use Rattle.plir_core.specs.ContextView.{IsLive};
 ghost use Rattle.plir_core.specs.declared.ptr.IRNode.{IRNode as AnyNode};
 ghost use Rattle.plir_symbols.specs.DeadSymbols.{HasNoDead};
-ghost use Rattle.plir_symbols.specs.SweptSymbols.{AreSwept};
+ghost use Rattle.plir_symbols.specs.SweptSymbols.{AreSweeps, AreSwept};
 ghost use Rattle.plir_opt.specs.Passed.{IsPassed};
 
 use crate::choices::Pass;
+use plir_builtin::laws::no_tables_agree;
 use plir_builtin::{SymbolTableCollection, SymbolTableErr};
 use plir_core::{Context, Operation, Ptr};
 use plir_passes::{EffectSet, eliminate_dead_code};
@@ -23,9 +24,11 @@ fn erase_symbols<D: SymbolNames>(
 ) -> Result<(), SymbolTableErr>
     requires { IsLive ctx.old (AnyNode.Operation table) }
     ensures live { IsLive ctx.new (AnyNode.Operation table) }
-    ensures swept { AreSwept D.is_symbol D.is_private D.names_used ctx.old table ctx.new }
-    ensures clean { OnOk result (HasNoDead D.is_symbol D.is_private D.names_used ctx.new table) }
+    ensures swept { AreSwept D.is_symbol D.is_private ctx.old ctx.new }
+    ensures sweeps { (ms : _) × AreSweeps D.is_symbol D.is_private D.is_symbol_table D.names_used table ctx.old ms ctx.new }
+    ensures clean { OnOk result (HasNoDead D.is_symbol D.is_private D.is_symbol_table D.names_used ctx.new table) }
 {
+    no_tables_agree(ctx);
     let mut tables = SymbolTableCollection::new(alloc);
     eliminate_dead_symbols(alloc, ctx, &mut tables, table)
 }
@@ -43,7 +46,7 @@ pub fn run_pass<D: EffectSet + SymbolNames>(
 ) -> Result<(), SymbolTableErr>
     requires { IsLive ctx.old (AnyNode.Operation root) }
     ensures live { IsLive ctx.new (AnyNode.Operation root) }
-    ensures passed { OnOk result (IsPassed D.has_effect D.is_terminator D.is_symbol D.is_private D.names_used root pass
+    ensures passed { OnOk result (IsPassed D.has_effect D.is_terminator D.is_symbol D.is_symbol_table D.is_private D.names_used root pass
         ctx.old ctx.new) }
 {
     lawful_changes::<D>();

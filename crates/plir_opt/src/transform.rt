@@ -74,7 +74,7 @@ fn run_passes<D: EffectSet + SymbolUserSet + SymbolNames>(
 ) -> Result<(), Stop<D::Err>>
     requires { IsLive ctx.old (AnyNode.Operation root) }
     ensures live { IsLive ctx.new (AnyNode.Operation root) }
-    ensures passed { OnOk result (ArePassed D.has_effect D.is_terminator D.is_symbol D.is_private D.names_used root
+    ensures passed { OnOk result (ArePassed D.has_effect D.is_terminator D.is_symbol D.is_symbol_table D.is_private D.names_used root
         passes.now ctx.old ctx.new) }
 {
     for pass in passes {
@@ -93,7 +93,7 @@ fn run_one<D: EffectSet + SymbolUserSet + SymbolNames>(
 ) -> Result<(), Stop<D::Err>>
     requires { IsLive ctx.old (AnyNode.Operation root) }
     ensures live { IsLive ctx.new (AnyNode.Operation root) }
-    ensures passed { OnOk result (IsPassed D.has_effect D.is_terminator D.is_symbol D.is_private D.names_used root pass
+    ensures passed { OnOk result (IsPassed D.has_effect D.is_terminator D.is_symbol D.is_symbol_table D.is_private D.names_used root pass
         ctx.old ctx.new) }
 {
     run_pass(alloc, pass, ctx, root)?;

@@ -49,7 +49,7 @@ module _ {K A T : Type 0} where
       (let i = body-is s table b e in w.forest.child_live i.region b (subst (λ z. Has z b) (sym i.block) (inl refl)))
 
   -- from a node up there are no fewer nodes above
-  shallower : (s : ContextView K A T) → IsStanding s → (k : ℕ) (m n : IRNode) → climb (parent_of s) k (Some m) ≡ Some n
+  pub shallower : (s : ContextView K A T) → IsStanding s → (k : ℕ) (m n : IRNode) → climb (parent_of s) k (Some m) ≡ Some n
       → depth s n ≤ depth s m
   shallower s w zero m n e = subst (λ z. depth s n ≤ depth s z) (sym (same_Some m n e)) (omega arith)
   shallower s w (suc k) m n e = at (λ a g. shallower s w k a n g) (parent_of s m) refl

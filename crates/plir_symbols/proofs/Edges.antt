@@ -2,6 +2,7 @@
 use Rattle.std.proofs.Common.{◌≡◌, ◌<◌, ◌≤◌, ℕ, zero, suc, Bool, List, [], ◌∷◌, ◌++◌, length, map, take, get_or, Option}
 use Rattle.std.proofs.Common.{Some, None, IfSome, arith, inl, inr, refl, sym, ap, subst, ◌∙◌}
 use Rattle.std.specs.Prelude.{slice_get}
+use Rattle.std.specs.FinMap.{get}
 use Rattle.std.specs.List.{filter_map, cons_option}
 use Rattle.std.proofs.lemmas.Grind.{flat_map-append}
 use Rattle.std.proofs.lemmas.List.{append_assoc, append-nil, map-append, take_all}
@@ -105,24 +106,37 @@ module _ {K A T : Type 0} (own own_table : K → Bool) (s : ContextView K A T) w
         ∙ ap (uses_of names s) (sym (take-suc ps i p below))
         ) (h (uses_of names s (take i ps)) a)
 
-  -- a refusal of the nearest table, of which none is cached
+  -- a refusal of the nearest table, of which none is cached, and was none before
   pub nearest-refused : (c : Tables) (p : Ptr OperationKind) (err : SymbolTableErr) →
-      IsNearestRefusal own own_table s c p err → IsUserRefusal own own_table s p err
+      IsNearestRefusal own own_table s c p err → IsUserRefusal own own_table s c p err
   nearest-refused c p err h = at (reported err) h.3
     where
       at : (o : Option Refusal) → IfSome o (IsTableRefusal own own_table s h.0) →
-          IfSome o (λ r. (t : Ptr OperationKind) × IsNearest own_table s p (Some t) ×
+          IfSome o (λ r. (t : Ptr OperationKind) × IsNearest own_table s p (Some t) × (get c t ≡ None) ×
           IsTableRefusal own own_table s t r)
       at None k = tt
-      at (Some r) k = (h.0, h.1, k)
+      at (Some r) k = (h.0, h.1, h.2, k)
 
-  pub graph-refused : (names : OpView K A → List (List ℕ)) (root p : Ptr OperationKind) (err : SymbolTableErr) →
-      IsUser names s root p → IsUserRefusal own own_table s p err → IsGraphRefusal own own_table names s root err
-  graph-refused names root p err user h = at (reported err) h
+  pub refused-before : (c d : Tables) (p : Ptr OperationKind) (err : SymbolTableErr) →
+      ((t : Ptr OperationKind) → get d t ≡ None → get c t ≡ None) → IsUserRefusal own own_table s d p err →
+      IsUserRefusal own own_table s c p err
+  refused-before c d p err f h = at (reported err) h
     where
       at : (o : Option Refusal) → IfSome o (λ r. (t : Ptr OperationKind) × IsNearest own_table s p (Some t) ×
+          (get d t ≡ None) × IsTableRefusal own own_table s t r)
+          → IfSome o (λ r. (t : Ptr OperationKind) × IsNearest own_table s p (Some t) × (get c t ≡ None) ×
           IsTableRefusal own own_table s t r)
+      at None k = tt
+      at (Some r) k = (k.0, k.1, f k.0 k.2, k.3)
+
+  pub graph-refused : (names : OpView K A → List (List ℕ)) (root : Ptr OperationKind) (c : Tables)
+      (p : Ptr OperationKind) (err : SymbolTableErr) → IsUser names s root p → IsUserRefusal own own_table s c p err →
+      IsGraphRefusal own own_table names s root c err
+  graph-refused names root c p err user h = at (reported err) h
+    where
+      at : (o : Option Refusal) → IfSome o (λ r. (t : Ptr OperationKind) × IsNearest own_table s p (Some t) ×
+          (get c t ≡ None) × IsTableRefusal own own_table s t r)
           → IfSome o (λ r. (q : Ptr OperationKind) × IsUser names s root q × ((t : Ptr OperationKind) ×
-          IsNearest own_table s q (Some t) × IsTableRefusal own own_table s t r))
+          IsNearest own_table s q (Some t) × (get c t ≡ None) × IsTableRefusal own own_table s t r))
       at None k = tt
       at (Some r) k = (p, user, k)

@@ -18,14 +18,14 @@ pub refused : {P : Type 0} → (P → ⊥) → IsTrue false ↔ P
 refused f = (λ h. absurd (true≢false (sym h)), λ p. absurd (f p))
 
 module _ {K A T : Type 0} (own : K → Bool) (is_private : OpView K A → Bool) (s : ContextView K A T)
-    (in_use : List ℕ → Type 0) (p : Ptr OperationKind) where
-  pub no-symbol : is_symbol_kind own (kind_of s p) ≡ false → MayGo own is_private s in_use p → ⊥
+    (p : Ptr OperationKind) where
+  pub no-symbol : is_symbol_kind own (kind_of s p) ≡ false → MayGo own is_private s p → ⊥
   no-symbol e m = not-both (is_symbol_kind own (kind_of s p)) m.named.symbol e
 
-  pub not-private : is_private_in is_private (op_at s p) ≡ false → MayGo own is_private s in_use p → ⊥
+  pub not-private : is_private_in is_private (op_at s p) ≡ false → MayGo own is_private s p → ⊥
   not-private e m = not-both (is_private_in is_private (op_at s p)) m.private e
 
-  pub no-name : None ≡ name_held (op_at s p) → MayGo own is_private s in_use p → ⊥
+  pub no-name : None ≡ name_held (op_at s p) → MayGo own is_private s p → ⊥
   no-name e m = none-some m.name (e ∙ m.named.name)
 
 -- a symbol with a name that stands in the body is not refused to go

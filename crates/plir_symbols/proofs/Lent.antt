@@ -1,7 +1,7 @@
 -- A table that a collection lends, and that is kept, is put back.
-use Rattle.std.proofs.Common.{◌≡◌, Bool, true≢false, Option, Some, None, sym, subst, refl, ◌∙◌}
-use Rattle.std.specs.Prelude.{IsSome}
-use Rattle.std.specs.FinMap.{insert}
+use Rattle.std.proofs.Common.{◌≡◌, Bool, true≢false, Option, Some, None, sym, ap, subst, refl, ◌∙◌}
+use Rattle.std.specs.Prelude.{IfSome, IsSome}
+use Rattle.std.specs.FinMap.{get, insert}
 use Rattle.plir_core.specs.declared.ptr.Ptr.{Ptr}
 use Rattle.plir_core.specs.declared.ptr.Operation.{Operation as OperationKind}
 use Rattle.plir_core.specs.declared.ptr.IRNode.TheVariants.{Operation}
@@ -10,10 +10,11 @@ use Rattle.plir_core.specs.Standing.{IsStanding}
 use Rattle.plir_walk.specs.Thinned.{IsThinned}
 use Rattle.plir_builtin.specs.Table.{Table, Tables}
 use Rattle.plir_builtin.specs.Symbols.{body, IsGood}
-use Rattle.plir_builtin.specs.Agree.{AgreesAsLent, AllAgree, AreGivenOut}
+use Rattle.plir_builtin.specs.Agree.{Agrees, AgreesAsLent, AllAgree, AreGivenOut}
 use Rattle.plir_symbols.specs.SweptSymbols.{AreScansLeft}
 use Rattle.plir_symbols.specs.Sweeping.{IsTableKept}
 use Rattle.plir_symbols.proofs.Bodies.{body-live}
+use Rattle.plir_symbols.proofs.Pointers.{insert-has}
 use Rattle.plir_symbols.proofs.Scans.{scans-left}
 
 some-is : {X : Type 0} (o : Option X) → IsSome o → (x : X) × (o ≡ Some x)
@@ -40,6 +41,18 @@ module _ {K A T : Type 0} (own own_table : K → Bool) (s : ContextView K A T) (
           subst (AllAgree own own_table t) (sym put)
           (subst (λ q. AllAgree own own_table t (insert c q u)) lent.0
           (kept.all_agree c (subst (λ q. AllAgree own own_table s (insert c q tab)) (sym lent.0) lent.2)))
+
+-- A table that is lent and isn't ready was cached, and is put back as it was.
+module _ {K A T : Type 0} (own own_table : K → Bool) (s : ContextView K A T) (c : Tables) (p : Ptr OperationKind)
+    (tab : Table) (live : IsLive s (Operation p)) where
+  pub unready-same : IfSome (get c p) (λ u. tab ≡ u) → (get c p ≡ None → (tab.op ≡ p) × Agrees own own_table s tab) →
+      ((tab.op ≡ p) × IsLive s (Operation tab.op) × IsSome (body s tab.op) → ⊥) → insert c p tab ≡ c
+  unready-same cached made unready = at (get c p) refl cached
+    where
+      at : (o : Option Table) → get c p ≡ o → IfSome o (λ u. tab ≡ u) → insert c p tab ≡ c
+      at (Some u) e h = insert-has c p tab (e ∙ ap Some (sym h))
+      at None e h = (let m = made e in
+          absurd (unready (m.0, subst (λ q. IsLive s (Operation q)) (sym m.0) live, m.1.good.body)))
 
 -- What was given out: by the table's own operation alone.
 module _ {K A T : Type 0} (own own_table : K → Bool) (s : ContextView K A T) (c : Tables) (p : Ptr OperationKind)

@@ -2,6 +2,7 @@
 use Rattle.std.specs.Prelude.{◌≡◌, ◌<◌, ℕ, Bool, false, cond, List, [], ◌∷◌, length, map, Option, Some, None, refl}
 use Rattle.std.specs.List.{filter_map, flat_map}
 use Rattle.std.specs.Coded.{Coded, code_by, coded×, coded_list, coded_option}
+use Rattle.std.specs.FinMap as map
 use Rattle.plir_store.specs.Members.{Has}
 use Rattle.plir_core.specs.declared.ptr.Ptr.{Ptr}
 use Rattle.plir_core.specs.declared.ptr.Operation.{Operation as OperationKind}
@@ -16,7 +17,9 @@ use Rattle.plir_builtin.specs.declared.symbol_table_err.SymbolTableErr.{SymbolTa
 use Rattle.plir_builtin.specs.Maps.{ptr_code}
 use Rattle.plir_builtin.specs.Nearest.{IsNearest, IsFoundNearest}
 use Rattle.plir_builtin.specs.Refusals.{Reports, IsTableRefusal}
+use Rattle.plir_builtin.specs.Table.{Tables}
 use Rattle.plir_symbols.specs.declared.call_edges.CallEdge.{CallEdge}
+use Rattle.plir_symbols.specs.CachedTables.{IsNearestCached}
 use Rattle.plir_symbols.specs.SymbolNames.{names_in}
 
 -- edges are stored as a list of pairs of their fields
@@ -78,10 +81,10 @@ module _ {K A T : Type 0} (own_symbol own_table : K → Bool) (s : ContextView K
   AreEdges (u ∷ us) [] = ⊥
   AreEdges (u ∷ us) (e ∷ es) = IsEdge u e × AreEdges us es
 
-  -- the nearest table of an operation is refused
-  abbrev pub IsUserRefusal : Ptr OperationKind → SymbolTableErr → Type 0
-  IsUserRefusal p err = Reports (λ r. (t : Ptr OperationKind) × IsNearest own_table s p (Some t) ×
-      IsTableRefusal own_symbol own_table s t r) err
+  -- no table is cached for the nearest table of an operation, which is refused
+  abbrev pub IsUserRefusal : Tables → Ptr OperationKind → SymbolTableErr → Type 0
+  IsUserRefusal c p err = Reports (λ r. (t : Ptr OperationKind) × IsNearest own_table s p (Some t) ×
+      (map.get c t ≡ None) × IsTableRefusal own_symbol own_table s t r) err
 
 module _ {K A T : Type 0} (own_symbol own_table : K → Bool) (names : OpView K A → List (List ℕ))
     (s : ContextView K A T) (root : Ptr OperationKind) where
@@ -92,7 +95,15 @@ module _ {K A T : Type 0} (own_symbol own_table : K → Bool) (names : OpView K 
     pub are_users : AreUsers names s root users
     pub are_edges : AreEdges own_symbol own_table s (uses_of names s users) es
 
-  -- it is refused: some operation there uses a name, and its nearest table is refused
-  abbrev pub IsGraphRefusal : SymbolTableErr → Type 0
-  IsGraphRefusal err = Reports (λ r. (p : Ptr OperationKind) × IsUser names s root p × ((t : Ptr OperationKind) ×
-      IsNearest own_table s p (Some t) × IsTableRefusal own_symbol own_table s t r)) err
+  -- it is refused: some operation there uses a name, and no table is cached for its nearest table, which is refused
+  abbrev pub IsGraphRefusal : Tables → SymbolTableErr → Type 0
+  IsGraphRefusal c err = Reports (λ r. (p : Ptr OperationKind) × IsUser names s root p × ((t : Ptr OperationKind) ×
+      IsNearest own_table s p (Some t) × (map.get c t ≡ None) × IsTableRefusal own_symbol own_table s t r)) err
+
+  -- the table t is the nearest one of an operation there that uses a name
+  abbrev pub IsAsked : Ptr OperationKind → Type 0
+  IsAsked t = (p : Ptr OperationKind) × IsUser names s root p × IsNearest own_table s p (Some t)
+
+  -- the nearest table of each operation there that uses a name is cached
+  abbrev pub AreAllCached : Tables → Type 0
+  AreAllCached c = (p : Ptr OperationKind) → IsUser names s root p → IsNearestCached own_table s c p

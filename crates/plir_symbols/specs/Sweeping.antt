@@ -1,5 +1,5 @@
 -- What one step and one round of the pass over the symbols of a table leave.
-use Rattle.std.specs.Prelude.{◌≡◌, ◌<◌, ℕ, Bool, true, false, List, Some, ◌⊎◌}
+use Rattle.std.specs.Prelude.{◌≡◌, ◌<◌, Bool, true, false, Some, ◌⊎◌}
 use Rattle.plir_store.specs.Members.{Has}
 use Rattle.plir_core.specs.declared.ptr.Ptr.{Ptr}
 use Rattle.plir_core.specs.declared.ptr.Operation.{Operation as OperationKind}
@@ -14,9 +14,8 @@ use Rattle.plir_walk.specs.Thinned.{IsThinned}
 use Rattle.plir_builtin.specs.Table.{Table}
 use Rattle.plir_builtin.specs.Symbols.{body}
 use Rattle.plir_builtin.specs.Agree.{KeepsAgreement, KeepsAllAgree, KeepsGivenOut}
-use Rattle.plir_symbols.specs.SymbolNames.{NameSet, IsAmong}
 use Rattle.plir_symbols.specs.DeadSymbols.{MayGo}
-use Rattle.plir_symbols.specs.SweptSymbols.{AreSwept}
+use Rattle.plir_symbols.specs.SweptSymbols.{AreSwept, ops_that, without_each}
 
 module _ {K A T : Type 0} (own_symbol own_table : K → Bool) where
   -- The context goes from s to t and a table from c to d: it is the same operation's, and where it agreed, alone or
@@ -35,28 +34,25 @@ module _ {K A T : Type 0} (own_symbol own_table : K → Bool) where
     pub thinned : IsThinned s t
     pub kept : IsTableKept s c t d
 
+  -- A symbol goes and was erased, and the flag is set; or it stays, and nothing has changed.
+  abbrev pub IsSweptAt : ContextView K A T → Table → (goes flag : Bool) → Ptr OperationKind → Bool →
+      ContextView K A T → Table → Type 0
+  IsSweptAt s c goes flag p flag' t d =
+      ((goes ≡ true) × (flag' ≡ true) × IsSymbolErased s c p t d)
+      ⊎ ((goes ≡ false) × (flag' ≡ flag) × (t ≡ s) × (d ≡ c))
+
   module _ (is_private : OpView K A → Bool) where
-    -- A symbol that may go was erased, and the flag is set; or it may not go, and nothing has changed.
-    abbrev pub IsSweptAt : ContextView K A T → Table → NameSet → Bool → Ptr OperationKind → Bool → ContextView K A T →
-        Table → Type 0
-    IsSweptAt s c u flag p flag' t d =
-        (MayGo own_symbol is_private s (IsAmong u) p × (flag' ≡ true) × IsSymbolErased s c p t d)
-        ⊎ ((MayGo own_symbol is_private s (IsAmong u) p → ⊥) × (flag' ≡ flag) × (t ≡ s) × (d ≡ c))
-
-    -- no operation of a block is a symbol that may go
-    abbrev pub HasNoneToGo : ContextView K A T → NameSet → Ptr BasicBlockKind → Type 0
-    HasNoneToGo s u b = (p : Ptr OperationKind) → Has (children s (BasicBlock b)) (Operation p) →
-        MayGo own_symbol is_private s (IsAmong u) p → ⊥
-
-    -- What a round over the body b leaves: symbols that were dead are gone, the table is kept, and it still has its
-    -- body. Where the flag is clear nothing has changed, and no symbol of the body may go; where it is set there are
-    -- fewer nodes.
-    pub record IsRound (names : OpView K A → List (List ℕ)) (s : ContextView K A T) (c : Table) (b : Ptr BasicBlockKind)
-        (u : NameSet) (flag : Bool) (t : ContextView K A T) (d : Table) : Type 0 where
-      pub swept : AreSwept own_symbol is_private names s c.op t
+    -- What a round over the body b leaves: the operations there that go were erased in their order, which could go
+    -- then; the table is kept, and it still has its body. Where the flag is clear none goes, and nothing has changed;
+    -- where it is set there are fewer nodes.
+    pub record IsRound (s : ContextView K A T) (c : Table) (b : Ptr BasicBlockKind) (goes : Ptr OperationKind → Bool)
+        (flag : Bool) (t : ContextView K A T) (d : Table) : Type 0 where
+      pub swept : AreSwept own_symbol is_private s t
+      pub after : t ≡ without_each s (ops_that goes (children s (BasicBlock b)))
       pub kept : IsTableKept s c t d
       pub standing : IsStanding t
       pub live : IsLive t (Operation c.op)
       pub body : body t c.op ≡ Some (BasicBlock b)
-      pub clear : flag ≡ false → (t ≡ s) × (d ≡ c) × HasNoneToGo s u b
+      pub clear : flag ≡ false → (t ≡ s) × (d ≡ c) × ((p : Ptr OperationKind) →
+          Has (children s (BasicBlock b)) (Operation p) → goes p ≡ false)
       pub set : flag ≡ true → num_live t < num_live s

@@ -1,10 +1,14 @@
 //! Call graphs as they are made: each name that an operation uses is looked up in the nearest table.
-ghost use Rattle.std.specs.Prelude.{◌≡◌, [], ◌∷◌, ◌++◌, IfErr, IfOk, OnOk};
+ghost use Rattle.std.specs.Prelude.{◌≡◌, ◌<◌, [], ◌∷◌, ◌++◌, IfErr, IfOk, OnOk, Some, length};
 ghost use Rattle.plir_core.specs.declared.ptr.IRNode.{IRNode as AnyNode};
-ghost use Rattle.plir_core.specs.ContextView.{IsLive};
+ghost use Rattle.plir_core.specs.ContextView.{IsLive, op_at};
 ghost use Rattle.plir_builtin.specs.Agree.{AllAgree, AreGivenOut};
-ghost use Rattle.plir_symbols.specs.CallGraph.{AreUsers, IsCallGraph, IsEdge, IsGraphRefusal, IsUserRefusal};
+ghost use Rattle.plir_builtin.specs.Nearest.{IsNearest};
+ghost use Rattle.plir_symbols.specs.CachedTables.{AreBrought, IsNearestCached};
+ghost use Rattle.plir_symbols.specs.CallGraph.{AreAllCached, AreUsers, IsAsked, IsCallGraph, IsEdge, IsGraphRefusal};
+ghost use Rattle.plir_symbols.specs.CallGraph.{IsUserRefusal};
 ghost use Rattle.plir_symbols.specs.Calling.{AreEdgesPut, IsUserPut};
+ghost use Rattle.plir_symbols.specs.SymbolNames.{names_in};
 
 use crate::call_edges::{CallEdge, CallGraph};
 use crate::symbol_names::SymbolNames;
@@ -75,7 +79,10 @@ fn edge_of<D: SymbolNames>(
     ensures agree { AllAgree D.is_symbol D.is_symbol_table ctx.now tables.old →
         AllAgree D.is_symbol D.is_symbol_table ctx.now tables.new }
     ensures given { AreGivenOut ctx.now tables.old → AreGivenOut ctx.now tables.new }
-    ensures refused { IfErr result (IsUserRefusal D.is_symbol D.is_symbol_table ctx.now user) }
+    ensures brought { AreBrought D.is_symbol_table ctx.now D.is_symbol
+        (λ t. IsNearest D.is_symbol_table ctx.now user (Some t)) tables.old tables.new }
+    ensures cached { OnOk result (IsNearestCached D.is_symbol_table ctx.now tables.new user) }
+    ensures refused { IfErr result (IsUserRefusal D.is_symbol D.is_symbol_table ctx.now tables.old user) }
 {
     let symbol = tables.lookup_symbol_in_nearest_table(ctx, user, name)?;
     Ok(CallEdge { user, symbol })
@@ -103,7 +110,11 @@ fn put_edges<D: SymbolNames>(
     ensures agree { AllAgree D.is_symbol D.is_symbol_table ctx.now tables.old →
         AllAgree D.is_symbol D.is_symbol_table ctx.now tables.new }
     ensures given { AreGivenOut ctx.now tables.old → AreGivenOut ctx.now tables.new }
-    ensures refused { IfErr result (IsUserRefusal D.is_symbol D.is_symbol_table ctx.now user) }
+    ensures brought { AreBrought D.is_symbol_table ctx.now D.is_symbol
+        (λ t. IsNearest D.is_symbol_table ctx.now user (Some t)) tables.old tables.new }
+    ensures cached { 0 < length (names_in D.names_used (op_at ctx.now user)) →
+        OnOk result (IsNearestCached D.is_symbol_table ctx.now tables.new user) }
+    ensures refused { IfErr result (IsUserRefusal D.is_symbol D.is_symbol_table ctx.now tables.old user) }
 {
     for place in 0..D::num_used_names(ctx, user) {
         let edge = edge_of(ctx, tables, user, D::used_name(ctx, user, place))?;
@@ -115,14 +126,16 @@ fn put_edges<D: SymbolNames>(
 /// The call graph of an operation and all below it: an edge for each name that one of these operations uses, from that
 /// operation to the symbol that a scan of its nearest table finds, or to none, where nothing there bears the name or
 /// there is no table at or above it. The edges stand in the order of the operations' places, and those of one operation
-/// in the order of its names. Tables that were not cached and are asked are cached then.
+/// in the order of its names. The nearest table of each operation that uses a name is cached then; what was cached is
+/// as it was.
 ///
 /// This takes one walk, and a look-up for each name.
 ///
 /// # Errors
 ///
-/// As [`SymbolTableCollection::lookup_symbol_in_nearest_table`]: where the nearest table of an operation that uses a
-/// name is refused as by [`plir_builtin::SymbolTable::new`], or `Memory`. Tables may be cached then that were not.
+/// As [`SymbolTableCollection::lookup_symbol_in_nearest_table`]: where no table is cached for the nearest table of an
+/// operation that uses a name, and [`plir_builtin::SymbolTable::new`] refuses it, or `Memory`. Some of the others may
+/// be cached then that were not.
 pub fn call_graph<D: SymbolNames>(
     alloc: Global,
     ctx: &Context<D>,
@@ -135,7 +148,10 @@ pub fn call_graph<D: SymbolNames>(
     ensures agree { AllAgree D.is_symbol D.is_symbol_table ctx.now tables.old →
         AllAgree D.is_symbol D.is_symbol_table ctx.now tables.new }
     ensures given { AreGivenOut ctx.now tables.old → AreGivenOut ctx.now tables.new }
-    ensures refused { IfErr result (IsGraphRefusal D.is_symbol D.is_symbol_table D.names_used ctx.now root) }
+    ensures brought { AreBrought D.is_symbol_table ctx.now D.is_symbol
+        (IsAsked D.is_symbol D.is_symbol_table D.names_used ctx.now root) tables.old tables.new }
+    ensures cached { OnOk result (AreAllCached D.is_symbol D.is_symbol_table D.names_used ctx.now root tables.new) }
+    ensures refused { IfErr result (IsGraphRefusal D.is_symbol D.is_symbol_table D.names_used ctx.now root tables.old) }
 {
     ctx.stands();
     let users = users_below(alloc, ctx, root)?;

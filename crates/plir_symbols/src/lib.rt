@@ -5,12 +5,12 @@ mod builtin_names;
 mod call_edges;
 mod calling;
 mod dead_symbols;
-mod names;
+mod reached;
+mod reaching;
 mod symbol_names;
 
 pub use builtin_names::ATTR_KEY_SYM_VISIBILITY;
 pub use call_edges::{CallEdge, CallGraph};
 pub use calling::call_graph;
 pub use dead_symbols::eliminate_dead_symbols;
-pub use names::UsedNames;
 pub use symbol_names::{SymbolNameKind, SymbolNames};

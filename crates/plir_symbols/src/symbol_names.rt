@@ -1,18 +1,12 @@
 //! Which names operations use, and which symbols are private.
-ghost use Rattle.std.specs.Prelude.{◌≡◌, ◌<◌, ℕ, Bool, List, Some, IfOk, OnOk, length, slice_get};
+ghost use Rattle.std.specs.Prelude.{◌≡◌, ◌<◌, ℕ, Bool, List, Some, length, slice_get};
 ghost use Rattle.plir_core.specs.declared.ptr.IRNode.{IRNode as AnyNode};
 ghost use Rattle.plir_core.specs.Contents.{OpView};
 ghost use Rattle.plir_core.specs.ContextView.{IsLive, op_at};
-ghost use Rattle.plir_symbols.specs.SymbolNames.{with_names, names_in, is_private_in, AreUsedNames, IsRecorded};
+ghost use Rattle.plir_symbols.specs.SymbolNames.{is_private_in, names_in};
 
-use crate::names::UsedNames;
-use plir_core::{Context, IRNode, Operation, Ptr};
-use plir_data::{Identifier, KindSet, Memory, OpSet, OwnKind};
-use plir_walk::WALKCONFIG_PREORDER_FORWARD;
-use plir_walk::interruptible::{WalkResult, walk_advance, walk_break};
-use plir_walk::operations::immutable::walk_ops;
-use std::alloc::Global;
-use std::ops::ControlFlow;
+use plir_core::{Context, Operation, Ptr};
+use plir_data::{Identifier, KindSet, OpSet, OwnKind};
 
 /// An op set that tells which names its operations use, and which of its symbols are private, by what an operation
 /// holds: what is erased or moved elsewhere changes neither.
@@ -85,57 +79,5 @@ impl<K: OwnKind + SymbolNameKind<KindSet<K>>> SymbolNames for KindSet<K> {
     /// As the kinds say.
     fn is_private(ctx: &Context<Self>, op: Ptr<Operation>) -> bool {
         <K as SymbolNameKind<KindSet<K>>>::is_private(ctx, op)
-    }
-}
-
-// Puts the names that an operation uses into a set.
-fn record_names<D: SymbolNames>(
-    ctx: &Context<D>,
-    op: Ptr<Operation>,
-    used: &mut UsedNames,
-) -> Result<(), Memory>
-    requires { IsLive ctx.now (AnyNode.Operation op) }
-    ensures { OnOk result (used.new ≡ with_names used.old (names_in D.names_used (op_at ctx.now op))) }
-{
-    for place in 0..D::num_used_names(ctx, op) {
-        used.insert(D::used_name(ctx, op, place))?;
-    }
-    Ok(())
-}
-
-// Puts the names that an operation uses into a set, or breaks the walk off for want of memory.
-fn record_at<D: SymbolNames>(
-    ctx: &Context<D>,
-    used: &mut UsedNames,
-    op: Ptr<Operation>,
-) -> WalkResult<Memory>
-    requires { IsLive ctx.now (AnyNode.Operation op) }
-    ensures { IsRecorded D.names_used ctx.now used.old op result used.new }
-{
-    match record_names(ctx, op, used) {
-        Ok(()) => walk_advance(),
-        Err(refused) => walk_break(refused),
-    }
-}
-
-/// The names that operations at or below a table use, found by one walk.
-pub(crate) fn used_names<D: SymbolNames>(
-    alloc: Global,
-    ctx: &Context<D>,
-    table: Ptr<Operation>,
-) -> Result<UsedNames, Memory>
-    requires { IsLive ctx.now (AnyNode.Operation table) }
-    ensures { IfOk result (AreUsedNames D.names_used ctx.now table) }
-{
-    ctx.stands();
-    let mut used = UsedNames::new(alloc);
-    let record = |c: &Context<D>, u: &mut UsedNames, p: Ptr<Operation>| -> WalkResult<Memory>
-        requires { IsLive c.now (AnyNode.Operation p) }
-        ensures { IsRecorded D.names_used c.now u.old p result u.new }
-    { record_at(c, u, p) };
-    let root = IRNode::Operation(table);
-    match walk_ops(ctx, &mut used, &WALKCONFIG_PREORDER_FORWARD, root, record) {
-        ControlFlow::Continue(_) => Ok(used),
-        ControlFlow::Break(refused) => Err(refused),
     }
 }

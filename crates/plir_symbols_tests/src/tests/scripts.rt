@@ -78,7 +78,7 @@ fn private_symbols_go_that_only_dead_ones_use_where_memory_is_refused(
 }
 
 #[test]
-fn a_symbol_that_uses_its_own_name_stays(rt: HostRuntime) -> Result<(), Mismatch> {
+fn a_symbol_that_uses_its_own_name_goes(rt: HostRuntime) -> Result<(), Mismatch> {
     let script = "
         op module 1 => o0
         block => b0
@@ -92,11 +92,53 @@ fn a_symbol_that_uses_its_own_name_stays(rt: HostRuntime) -> Result<(), Mismatch
         op call 0 => o2
         set o2 toy_callee builtin.identifier again
         back o2 b1
+        set o0 toy_callee builtin.identifier again
         session eliminate o0; lookup o0 again => done; o1;
-        erase o2
+        set o0 toy_callee builtin.unit
         session lookup o0 again; eliminate o0; lookup o0 again => o1; done; -;
         live o1 => no
+        live o2 => no
         count => 3";
+    play_in(rt.alloc(), script)
+}
+
+#[test]
+fn symbols_go_that_use_one_another_alone_where_memory_is_refused(
+    rt: HostRuntime,
+) -> Result<(), Mismatch> {
+    let script = "
+        op module 1 => o0
+        block => b0
+        back b0 r0
+        op func 1 => o1
+        op func 1 => o2
+        op func 1 => o3
+        op func 1 => o4
+        op func 1 => o5
+        set o1 builtin_sym_name builtin.identifier main
+        set o2 builtin_sym_name builtin.identifier even
+        set o3 builtin_sym_name builtin.identifier odd
+        set o4 builtin_sym_name builtin.identifier to
+        set o5 builtin_sym_name builtin.identifier fro
+        set o2 toy_private builtin.unit
+        set o3 toy_private builtin.unit
+        set o4 toy_private builtin.unit
+        set o5 toy_private builtin.unit
+        set o1 toy_callee builtin.identifier even
+        set o2 toy_callee builtin.identifier odd
+        set o3 toy_callee builtin.identifier even
+        set o4 toy_callee builtin.identifier fro
+        set o5 toy_callee builtin.identifier to
+        back o1 b0
+        back o4 b0
+        back o2 b0
+        back o5 b0
+        back o3 b0
+        session lookup o0 to; eliminate o0; lookup o0 even; lookup o0 odd; lookup o0 to => o4; done; o2; o3; -;
+        show b0 => -, in r0 o0, between - -, operations o1 o2 o3 to o3, terminator -, arguments 0
+        set o1 toy_callee builtin.unit
+        session eliminate o0; lookup o0 main; lookup o0 even => done; o1; -;
+        show b0 => -, in r0 o0, between - -, operations o1 to o1, terminator -, arguments 0";
     play_in(rt.alloc(), script)
 }
 
@@ -122,7 +164,7 @@ fn a_symbol_whose_value_is_used_outside_stays(rt: HostRuntime) -> Result<(), Mis
 }
 
 #[test]
-fn names_are_used_below_nested_tables_and_not_outside(rt: HostRuntime) -> Result<(), Mismatch> {
+fn a_name_means_what_the_nearest_table_has(rt: HostRuntime) -> Result<(), Mismatch> {
     let script = "
         op module 1 => o0
         block => b0
@@ -147,7 +189,7 @@ fn names_are_used_below_nested_tables_and_not_outside(rt: HostRuntime) -> Result
         op call 0 => o5
         set o5 toy_callee builtin.identifier inner
         back o5 b0
-        session eliminate o0; lookup o0 outer; lookup o2 inner => done; o1; o3;
+        session eliminate o0; lookup o0 outer; lookup o2 inner => done; -; o3;
         session lookup o2 inner; eliminate o2; lookup o2 inner; lookup o2 user => o3; done; -; o4;";
     play_in(rt.alloc(), script)
 }

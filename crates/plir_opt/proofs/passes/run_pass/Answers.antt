@@ -9,7 +9,7 @@ returns-in-EraseNames-clause-live g c = c.erase_given_names.ensures.live (Operat
 
 pub returns-in-EraseNames-clause-passed : goal.returns-in-EraseNames-clause-passed
 returns-in-EraseNames-clause-passed g c =
-    subst (λ z. IsPassed g.D.EffectSet.has_effect g.D.OpSet.is_terminator g.D.OpSet.is_symbol
+    subst (λ z. IsPassed g.D.EffectSet.has_effect g.D.OpSet.is_terminator g.D.OpSet.is_symbol g.D.OpSet.is_symbol_table
     g.D.SymbolNames.is_private g.D.SymbolNames.names_used c.args.root z c.args.ctx.now
     c.erase_given_names.new.ctx) (sym c.in-EraseNames.is) c.erase_given_names.ensures
 
@@ -20,7 +20,7 @@ returns-in-Dce-clause-live g c =
 
 pub returns-in-Dce-clause-passed : goal.returns-in-Dce-clause-passed
 returns-in-Dce-clause-passed g c =
-    subst (λ z. IsPassed g.D.EffectSet.has_effect g.D.OpSet.is_terminator g.D.OpSet.is_symbol
+    subst (λ z. IsPassed g.D.EffectSet.has_effect g.D.OpSet.is_terminator g.D.OpSet.is_symbol g.D.OpSet.is_symbol_table
     g.D.SymbolNames.is_private g.D.SymbolNames.names_used c.args.root z c.args.ctx.now
     c.eliminate_dead_code.new.ctx) (sym c.in-Dce.is)
     (c.eliminate_dead_code.ensures.swept, c.eliminate_dead_code.ensures.lawful, c.eliminate_dead_code.ensures.clean)
@@ -28,6 +28,6 @@ returns-in-Dce-clause-passed g c =
 pub returns-in-SymbolDce-clause-passed : goal.returns-in-SymbolDce-clause-passed
 returns-in-SymbolDce-clause-passed g c =
     on-ok c.erase_symbols.result (λ clean. subst (λ z. IsPassed g.D.EffectSet.has_effect g.D.OpSet.is_terminator
-    g.D.OpSet.is_symbol g.D.SymbolNames.is_private g.D.SymbolNames.names_used c.args.root z c.args.ctx.now
-    c.erase_symbols.new.ctx) (sym c.in-SymbolDce.is) (c.erase_symbols.ensures.swept, clean))
+    g.D.OpSet.is_symbol g.D.OpSet.is_symbol_table g.D.SymbolNames.is_private g.D.SymbolNames.names_used c.args.root z c.args.ctx.now
+    c.erase_symbols.new.ctx) (sym c.in-SymbolDce.is) (c.erase_symbols.ensures.swept, c.erase_symbols.ensures.sweeps, clean))
     c.erase_symbols.ensures.clean

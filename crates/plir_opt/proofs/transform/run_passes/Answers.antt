@@ -9,7 +9,7 @@ loop-pass-init g c = (c.requires, λ u rest. rest)
 pub loop-pass-preserved : goal.loop-pass-preserved
 loop-pass-preserved g c = (
   c.run_one.ensures.live,
-  leads-on g.D.EffectSet.has_effect g.D.OpSet.is_terminator g.D.OpSet.is_symbol
+  leads-on g.D.EffectSet.has_effect g.D.OpSet.is_terminator g.D.OpSet.is_symbol g.D.OpSet.is_symbol_table
       g.D.SymbolNames.is_private g.D.SymbolNames.names_used c.args.root c.args.passes.now c.loop-pass.pass-index
       EraseNames c.args.ctx.now c.loop-pass.ctx c.run_one.new.ctx (omega arith) c.loop-pass.invariant.1
       c.in_ok-run_one.ensures.passed,
@@ -17,6 +17,6 @@ loop-pass-preserved g c = (
 
 pub returns-clause-passed : goal.returns-clause-passed
 returns-clause-passed g c =
-    leads-end g.D.EffectSet.has_effect g.D.OpSet.is_terminator g.D.OpSet.is_symbol
+    leads-end g.D.EffectSet.has_effect g.D.OpSet.is_terminator g.D.OpSet.is_symbol g.D.OpSet.is_symbol_table
     g.D.SymbolNames.is_private g.D.SymbolNames.names_used c.args.root c.args.passes.now c.loop-pass.pass-index
     c.args.ctx.now c.loop-pass.ctx (omega arith) c.loop-pass.invariant.1

@@ -6,5 +6,5 @@ use Rattle.plir_opt.proofs.transform.run_passes.Given as goal
 abbrev pub invariant-loop-pass : goal.invariant-loop-pass
 invariant-loop-pass g l =
     IsLive l.ctx (Operation l.root)
-    × Leads g.D.EffectSet.has_effect g.D.OpSet.is_terminator g.D.OpSet.is_symbol
+    × Leads g.D.EffectSet.has_effect g.D.OpSet.is_terminator g.D.OpSet.is_symbol g.D.OpSet.is_symbol_table
     g.D.SymbolNames.is_private g.D.SymbolNames.names_used l.root l.passes l.pass-index l.fn.ctx l.ctx

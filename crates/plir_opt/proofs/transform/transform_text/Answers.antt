@@ -21,7 +21,7 @@ returns g c =
       stands = c.in_ok-root.ensures.found;
       verified = c.in_ok-verify_tree.ensures;
       passed =
-          subst (λ z. ArePassed g.D.EffectSet.has_effect g.D.OpSet.is_terminator g.D.OpSet.is_symbol
+          subst (λ z. ArePassed g.D.EffectSet.has_effect g.D.OpSet.is_terminator g.D.OpSet.is_symbol g.D.OpSet.is_symbol_table
           g.D.SymbolNames.is_private g.D.SymbolNames.names_used c.in_ok-root.root z c.read_op.new.ctx
           c.run_passes.new.ctx) c.as_slice.ensures.value c.in_ok-run_passes.ensures.passed;
       prints = prints;

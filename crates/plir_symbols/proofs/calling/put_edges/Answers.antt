@@ -1,5 +1,8 @@
-use Rattle.std.proofs.Common.{◌≡◌, suc, ◌+◌, [], ◌∷◌, ◌++◌, arith, sym, subst}
-use Rattle.plir_symbols.proofs.Edges.{ArePutUpTo, put-next}
+use Rattle.std.proofs.Common.{◌≡◌, suc, ◌+◌, [], ◌∷◌, ◌++◌, Some, arith, refl, sym, subst}
+use Rattle.std.proofs.lemmas.Result.{err_from_is_err_and}
+use Rattle.plir_builtin.specs.Nearest.{IsNearest}
+use Rattle.plir_symbols.proofs.Bringing.{absent-before, brought-both, brought-none}
+use Rattle.plir_symbols.proofs.Edges.{ArePutUpTo, put-next, put-none, refused-before}
 use Rattle.plir_symbols.proofs.calling.put_edges.Goals as goal
 
 pub returns-in_err-edge-clause-agree : goal.returns-in_err-edge-clause-agree
@@ -30,4 +33,40 @@ loop-place-preserved g c =
           (put-next g.D.OpSet.is_symbol g.D.OpSet.is_symbol_table s names i c.args.user c.used_name.result.now old
           c.loop-place.edges.items c.in_ok-edge.edge c.used_name.ensures (c.loop-place.invariant.2 a)
           (c.in_ok-edge.ensures.edge (c.loop-place.invariant.0 a)))),
+      brought-both g.D.OpSet.is_symbol g.D.OpSet.is_symbol_table s
+          (λ t. IsNearest g.D.OpSet.is_symbol_table s c.args.user (Some t)) _ _ _ c.loop-place.invariant.3
+          c.edge_of.ensures.brought,
+      λ less. c.in_ok-edge.ensures.cached,
     )
+
+pub returns-in_err-edge-clause-brought : goal.returns-in_err-edge-clause-brought
+returns-in_err-edge-clause-brought g c =
+    brought-both g.D.OpSet.is_symbol g.D.OpSet.is_symbol_table c.args.ctx.now
+    (λ t. IsNearest g.D.OpSet.is_symbol_table c.args.ctx.now c.args.user (Some t)) _ _ _ c.loop-place.invariant.3
+    c.edge_of.ensures.brought
+
+pub returns-in_err-put_edge-clause-brought : goal.returns-in_err-put_edge-clause-brought
+returns-in_err-put_edge-clause-brought g c =
+    brought-both g.D.OpSet.is_symbol g.D.OpSet.is_symbol_table c.args.ctx.now
+    (λ t. IsNearest g.D.OpSet.is_symbol_table c.args.ctx.now c.args.user (Some t)) _ _ _ c.loop-place.invariant.3
+    c.edge_of.ensures.brought
+
+pub returns-in_err-edge-clause-refused : goal.returns-in_err-edge-clause-refused
+returns-in_err-edge-clause-refused g c =
+    let p = err_from_is_err_and c.from_residual.result c.from_residual.ensures.1 in
+    rw (p.1, p.2) (refused-before g.D.OpSet.is_symbol g.D.OpSet.is_symbol_table c.args.ctx.now c.args.tables.now
+    c.loop-place.tables c.args.user c.in_err-edge.field-0.0
+    (absent-before g.D.OpSet.is_symbol g.D.OpSet.is_symbol_table c.args.ctx.now
+    (λ t. IsNearest g.D.OpSet.is_symbol_table c.args.ctx.now c.args.user (Some t)) _ _ c.loop-place.invariant.3)
+    c.in_err-edge.ensures.refused)
+
+pub loop-place-init : goal.loop-place-init
+loop-place-init g c = (
+  λ a. a,
+  λ d. d,
+  λ a. put-none g.D.OpSet.is_symbol g.D.OpSet.is_symbol_table c.args.ctx.now g.D.SymbolNames.names_used c.args.user
+      c.args.edges.now.items,
+  brought-none g.D.OpSet.is_symbol g.D.OpSet.is_symbol_table c.args.ctx.now
+      (λ t. IsNearest g.D.OpSet.is_symbol_table c.args.ctx.now c.args.user (Some t)) _ _ refl,
+  λ less. absurd (omega (arith, less)),
+)

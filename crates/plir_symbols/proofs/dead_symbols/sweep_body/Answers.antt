@@ -1,8 +1,10 @@
 use Rattle.std.proofs.Common.{refl, ◌∙◌}
 use Rattle.plir_core.specs.declared.ptr.IRNode.TheVariants.{BasicBlock}
 use Rattle.plir_symbols.proofs.Bodies.{body-live}
+use Rattle.plir_symbols.proofs.Rounds.{not-true}
 use Rattle.plir_symbols.proofs.SweepLoop.{rest, sweeping-start, sweeping-table, sweeping-body, sweeping-live}
 use Rattle.plir_symbols.proofs.SweepLoop.{sweeping-here, sweeping-cut, sweeping-more, sweeping-falls, sweeping-end}
+use Rattle.plir_symbols.proofs.SweepLoop.{sweeping-goes, sweeping-had}
 use Rattle.plir_symbols.proofs.dead_symbols.sweep_body.Goals as goal
 
 pub get_head-at-requires : goal.get_head-at-requires
@@ -32,24 +34,34 @@ sweep_symbol-erased-requires-clause-op_live g c = sweeping-live c.symbols.invari
 pub sweep_symbol-erased-requires-clause-here : goal.sweep_symbol-erased-requires-clause-here
 sweep_symbol-erased-requires-clause-here g c = sweeping-here c.symbols.invariant c.in-Some.op c.in-Some.is
 
+pub sweep_symbol-erased-requires-clause-may_go : goal.sweep_symbol-erased-requires-clause-may_go
+sweep_symbol-erased-requires-clause-may_go g c = λ e.
+    let r = c.symbols.invariant in
+    sweeping-goes r c.in-Some.op c.in-Some.is
+    (c.requires.may_go c.in-Some.op (sweeping-had r c.in-Some.op c.in-Some.is) e)
+
 pub symbols-smaller : goal.symbols-smaller
 symbols-smaller g c =
     let r = c.symbols.invariant in
-    let back = (rest r c.in-Some.op c.in-Some.is).0 in
-    let cut = sweeping-cut r c.in-Some.op c.in-Some.is in
-    sweeping-falls r c.in-Some.op c.in-Some.is c.requires.used c.erasures_thin.ensures c.sweep_symbol-erased.new.ctx
-    c.sweep_symbol-erased.new.table c.sweep_symbol-erased.result c.get_next-at.result c.stands-in-Some.ensures.standing
-    (c.get_next-at.ensures.value ∙ c.next_is_behind.ensures (BasicBlock c.args.block) r.front back cut)
+    let op = c.in-Some.op in
+    let is = c.in-Some.is in
+    sweeping-falls r op is (λ e. c.requires.may_go op (sweeping-had r op is) (not-true _ e)) c.erasures_thin.ensures
+    c.sweep_symbol-erased.new.ctx c.sweep_symbol-erased.new.table c.sweep_symbol-erased.result c.get_next-at.result
+    c.stands-in-Some.ensures.standing
+    (c.get_next-at.ensures.value ∙ c.next_is_behind.ensures (BasicBlock c.args.block) r.front (rest r op is).0
+    (sweeping-cut r op is))
     c.sweep_symbol-erased.ensures
 
 pub symbols-preserved : goal.symbols-preserved
 symbols-preserved g c =
     let r = c.symbols.invariant in
-    let back = (rest r c.in-Some.op c.in-Some.is).0 in
-    let cut = sweeping-cut r c.in-Some.op c.in-Some.is in
-    sweeping-more r c.in-Some.op c.in-Some.is c.requires.used c.erasures_thin.ensures c.sweep_symbol-erased.new.ctx
-    c.sweep_symbol-erased.new.table c.sweep_symbol-erased.result c.get_next-at.result c.stands-in-Some.ensures.standing
-    (c.get_next-at.ensures.value ∙ c.next_is_behind.ensures (BasicBlock c.args.block) r.front back cut)
+    let op = c.in-Some.op in
+    let is = c.in-Some.is in
+    sweeping-more r op is (λ e. c.requires.may_go op (sweeping-had r op is) (not-true _ e)) c.erasures_thin.ensures
+    c.sweep_symbol-erased.new.ctx c.sweep_symbol-erased.new.table c.sweep_symbol-erased.result c.get_next-at.result
+    c.stands-in-Some.ensures.standing
+    (c.get_next-at.ensures.value ∙ c.next_is_behind.ensures (BasicBlock c.args.block) r.front (rest r op is).0
+    (sweeping-cut r op is))
     c.sweep_symbol-erased.ensures
 
 pub returns : goal.returns

@@ -1,5 +1,5 @@
 use Rattle.plir_core.specs.ContextView.{num_live}
-use Rattle.plir_symbols.proofs.SweepLoop.{IsRounds}
+use Rattle.plir_symbols.proofs.Rounds.{IsRounds}
 use Rattle.plir_symbols.proofs.dead_symbols.sweep_table.Given as goal
 
 abbrev pub invariant-rounds : goal.invariant-rounds
