@@ -2,7 +2,7 @@ pub mod Frames
 pub mod SlotLaws
 pub mod TreesInOrder
 pub mod NamesGiven
-pub mod Crowded
+pub mod RoomLaws
 pub mod Gathered
 pub mod Loops
 pub mod HeadsGrown
@@ -12,6 +12,7 @@ pub mod Dictionaries
 pub mod StartFound
 pub mod OpFound
 pub mod OpEnds
+pub mod Beginnings
 pub mod StartAgain
 pub mod OpAgain
 pub mod OpSteps

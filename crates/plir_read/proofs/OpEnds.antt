@@ -10,7 +10,7 @@ use Rattle.plir_attr_text.specs.Tokens.{sign, word}
 use Rattle.plir_attr_text.specs.TypeGrammar.{TypeWithin}
 use Rattle.plir_attr_text.specs.TypeReading.{type_at}
 use Rattle.plir_attr_text.specs.laws.TypesFound.{type_found}
-use Rattle.plir_read.specs.OpGrammar.{OpWithin}
+use Rattle.plir_read.specs.OpGrammar.{OpWithin, BlockWithin}
 use Rattle.plir_read.specs.OpReading.{start_at, symbol_at, argument_at, block_head_at, head_at, dictionary_at}
 use Rattle.plir_read.specs.OpReading.{header_at, value_at, semicolon_at, brace_at, block_at, op_at}
 use Rattle.plir_read.specs.OpTerms.{Head, module_head, func_head, Header, Argument, BlockHead, BlockTerm, OpTerm}
@@ -20,7 +20,7 @@ use Rattle.plir_read.specs.declared.heads.HeadKind.{HeadKind}
 use Rattle.plir_read.proofs.Dictionaries.{DictionaryWithin, dictionary_found}
 use Rattle.plir_attr_text.specs.laws.Ends.{IsEnd, end_on, begins_end, found_end, takes_end, sign_end, name_end}
 use Rattle.plir_read.proofs.OpFound.{ArgumentWithin, argument_found, BlockHeadWithin, block_head_found, by_semicolon}
-use Rattle.plir_read.proofs.OpFound.{semicolon_found, by_brace, brace_found, BlockWithin, block_found, op_found}
+use Rattle.plir_read.proofs.OpFound.{semicolon_found, by_brace, brace_found, block_found, op_found}
 use Rattle.plir_read.proofs.StartFound.{id_of, start_found, ValueWithin, value_found}
 
 type_end : (n : ℕ) (bytes : List ℕ) (x : TypeTerm × List ℕ) → type_at n bytes ≡ Ok x → IsEnd bytes x.1

@@ -22,7 +22,7 @@ use Rattle.plir_read.specs.OpTerms.{Head, module_head, func_head, Header, Argume
 use Rattle.plir_read.specs.OpTerms.{constant_term, BlockTerm, ops_of, blocks_of, head_levels, header_levels}
 use Rattle.plir_read.specs.OpTerms.{arguments_levels, block_levels, ops_levels, blocks_levels}
 use Rattle.plir_read.specs.OpGrammar.{symbol, SpellsHead, SpellsHeader, SpellsArgument, SpellsBlockHead, SpellsOp}
-use Rattle.plir_read.specs.OpGrammar.{SpellsOps, SpellsMoreOps, SpellsBlocks, OpWithin}
+use Rattle.plir_read.specs.OpGrammar.{SpellsOps, SpellsMoreOps, SpellsBlocks, OpWithin, OpsWithin, BlockWithin}
 use Rattle.plir_read.specs.OpReading.{start_at, named, first_name, symbol_at, argument_at, block_head_at, head_at}
 use Rattle.plir_read.specs.OpReading.{dictionary_at, header_at, ends_block, behind_semicolon, semicolon_at}
 use Rattle.plir_read.specs.OpReading.{behind_brace, brace_at, ops_at, block_at, blocks_at, constant_at}
@@ -195,10 +195,10 @@ head_found n Func bytes rest x id e =
     } in
     subst (λ (y : Head × List ℕ). FoundOne (HeadWithin n) bytes y.0 y.1) (ok_is _ x d.2) found
 
-abbrev HeaderWithin : ℕ → Header → List Token → Type 0
+abbrev pub HeaderWithin : ℕ → Header → List Token → Type 0
 HeaderWithin n h ts = SpellsHeader h ts × (header_levels h ≤ n)
 
-header_found : (n : ℕ) (k : BodyKind) (bytes rest : List ℕ) (x : Header × List ℕ) →
+pub header_found : (n : ℕ) (k : BodyKind) (bytes rest : List ℕ) (x : Header × List ℕ) →
     look bytes ≡ Ok (word (id_of (Bodied k)), rest) → header_at n k rest ≡ Ok x →
     FoundOne (HeaderWithin n) bytes x.0 x.1
 unfolding header_at
@@ -216,9 +216,6 @@ header_found n k bytes rest x id e =
 
 -- ---- operations and blocks
 
-abbrev pub OpsWithin : ℕ → List OpTerm → List Token → Type 0
-OpsWithin n os ts = SpellsOps (ops_of os) ts × (ops_levels (ops_of os) ≤ n)
-
 more_wrote : (n : ℕ) (os : List OpTerm) (ts : List Token) → After (OpWithin n) by_semicolon os ts →
     SpellsMoreOps (ops_of os) ts × (ops_levels (ops_of os) ≤ n)
 more_wrote n [] ts h = (h, omega arith)
@@ -226,7 +223,7 @@ more_wrote n (o ∷ os) ts h =
     let w = more_wrote n os h.1 h.3 in
     ((h.0, h.1, h.2.0, w.0, h.4), omega (arith, h.2.1, w.1))
 
-ops_wrote : (n : ℕ) (os : List OpTerm) (ts : List Token) → Chain (OpWithin n) by_semicolon os ts → OpsWithin n os ts
+pub ops_wrote : (n : ℕ) (os : List OpTerm) (ts : List Token) → Chain (OpWithin n) by_semicolon os ts → OpsWithin n os ts
 ops_wrote n [] ts h = absurd h
 ops_wrote n (o ∷ os) ts h =
     let w = more_wrote n os h.1 h.3 in
@@ -247,16 +244,6 @@ ops_found n read sound bytes x e =
           bytes x h.1 in
           record { tokens = f.tokens; begins = f.begins; spelled = ops_wrote n x.0 f.tokens f.spelled }
     ]
-
--- a block, as it stands among others
-pub record BlockWithin (n : ℕ) (b : BlockTerm) (ts : List Token) : Type 0 where
-  pub head : List Token
-  pub inside : List Token
-  pub head_spelled : SpellsBlockHead b.0 head
-  pub head_within : block_levels b.0 ≤ n
-  pub spelled : SpellsOps (ops_of b.1) inside
-  pub within : ops_levels (ops_of b.1) ≤ n
-  pub tokens : ts ≡ head ++ inside
 
 pub block_found : (n : ℕ) (read : List ℕ → Result (OpTerm × List ℕ) Fault) → IsSound (OpWithin n) read →
     IsSound (BlockWithin n) (block_at read n)
@@ -282,11 +269,11 @@ block_found n read sound bytes x e =
     subst (λ (y : BlockTerm × List ℕ). FoundOne (BlockWithin n) bytes y.0 y.1) (ok_is _ x b.2) found
 
 -- blocks up to the closing brace
-record WroteBlocks (n : ℕ) (bs : List BlockTerm) (ts : List Token) : Type 0 where
-  body : List Token
-  spelled : SpellsBlocks (blocks_of bs) body
-  within : blocks_levels (blocks_of bs) ≤ n
-  tokens : ts ≡ body ++ sign 125 ∷ []
+pub record WroteBlocks (n : ℕ) (bs : List BlockTerm) (ts : List Token) : Type 0 where
+  pub body : List Token
+  pub spelled : SpellsBlocks (blocks_of bs) body
+  pub within : blocks_levels (blocks_of bs) ≤ n
+  pub tokens : ts ≡ body ++ sign 125 ∷ []
 
 wrote_block : (n : ℕ) (b : BlockTerm) (bs : List BlockTerm) (first more : List Token) → BlockWithin n b first →
     WroteBlocks n bs more → WroteBlocks n (b ∷ bs) (first ++ more)
@@ -307,7 +294,7 @@ blocks_wrote n [] ts h = record { body = []; spelled = refl; within = omega arit
 blocks_wrote n (b ∷ bs) ts h =
     subst (WroteBlocks n (b ∷ bs)) (sym h.4) (wrote_block n b bs h.0 h.1 h.2 (blocks_wrote n bs h.1 h.3))
 
-chain_wrote : (n : ℕ) (bs : List BlockTerm) (ts : List Token) → Chain (BlockWithin n) by_brace bs ts →
+pub chain_wrote : (n : ℕ) (bs : List BlockTerm) (ts : List Token) → Chain (BlockWithin n) by_brace bs ts →
     WroteBlocks n bs ts
 chain_wrote n [] ts h = absurd h
 chain_wrote n (b ∷ bs) ts h =

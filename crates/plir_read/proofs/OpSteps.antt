@@ -24,9 +24,12 @@ use Rattle.plir_read.specs.OpReading.{op_id, names_before, start_at, named, firs
 use Rattle.plir_read.specs.OpReading.{block_head_at, head_at, dictionary_at, header_at, ends_block, ops_at, block_at}
 use Rattle.plir_read.specs.OpReading.{blocks_at, value_at, constant_at, named_constant_at, bodied_at, behind_id, op_at}
 use Rattle.plir_read.specs.OpReading.{semicolon_at, brace_at}
-use Rattle.plir_read.specs.Heads.{result_names}
+use Rattle.plir_data.specs.AttrView.{AttrView}
+use Rattle.plir_data.specs.Types.{TypeView}
+use Rattle.plir_read.specs.Heads.{result_names, IsConstant}
 use Rattle.plir_read.specs.OpsStanding.{IsConstantAt, IsOpAt}
-use Rattle.plir_read.specs.Room.{HasNoRoom}
+use Rattle.plir_read.specs.OpGrammar.{OpWithin}
+use Rattle.plir_read.specs.Room.{IsFullFor, HaveCome, LacksRoom, one_leaf, op_count}
 use Rattle.plir_read.specs.Stopping.{ReadsOn, IsRefusal}
 use Rattle.plir_read.specs.Suffixes.{given_name}
 use Rattle.plir_read.specs.declared.names.Suffix.TheVariants as kinds
@@ -34,6 +37,7 @@ use Rattle.plir_read.specs.declared.heads.HeadKind.{HeadKind}
 use Rattle.plir_read.specs.declared.heads.HeadKind.TheVariants.{Bodied, Constant}
 use Rattle.plir_read.specs.declared.heads.BodyKind.{BodyKind}
 use Rattle.plir_read.specs.declared.heads.BodyKind.TheVariants.{Module, Func}
+use Rattle.plir_read.proofs.Beginnings.{Ends-map, read_lacks_room}
 use Rattle.plir_read.proofs.StartFound.{named_is}
 
 -- a fault of the readers below is a fault here
@@ -118,7 +122,7 @@ unfolding start_at
 start_is bytes rest end ws k p q = rw (p, q) refl
 
 -- as many names are given as are written
-as_many : (ws : List (List ℕ)) (names : List (Option (List ℕ))) → names ≡ result_names ws → length ws ≡ length names
+pub as_many : (ws : List (List ℕ)) (names : List (Option (List ℕ))) → names ≡ result_names ws → length ws ≡ length names
 as_many ws names e = sym (ap length e ∙ length-map ws (given_name kinds.OpResult))
 
 -- one name is given where one is written
@@ -146,6 +150,17 @@ pub named_constant_is : (n names : ℕ) (bytes : List ℕ) (c : (AttrTerm × Typ
     → named_constant_at n names bytes ≡ Ok c → constant_at n bytes ≡ Ok c
 unfolding named_constant_at
 named_constant_is n names bytes c e = let u = bind_ok (named 1 names) (λ u. constant_at n bytes) c e in u.2
+
+pub is_named_constant : (n names : ℕ) (bytes : List ℕ) (u : Unit {0}) (c : (AttrTerm × TypeTerm) × List ℕ)
+    → named 1 names ≡ Ok u → constant_at n bytes ≡ Ok c → named_constant_at n names bytes ≡ Ok c
+unfolding named_constant_at
+is_named_constant n names bytes u c p q = rw p q
+
+-- a constant that is held is the same one in an equal table
+pub constant_still : {A T : Type 0} (xs ys : List (TypeView T)) (value : AttrView A) (handle : ℕ)
+    (k : AttrTerm × TypeTerm) → ys ≡ xs → IsConstant xs value handle k → IsConstant ys value handle k
+constant_still {A} {T} xs ys value handle k e h =
+    subst (λ (l : List (TypeView T)). IsConstant l value handle k) (sym e) h
 
 -- ---- an operation
 
@@ -206,13 +221,14 @@ constant_at_id n bytes rest ws names k lt e is given =
     ∙ ap (λ m. named_constant_at (n - 1) m rest >>= λ c. done (constant_term (first_name ws) c.0.0 c.0.1, c.1))
     (as_many ws names given)
 
-pub ReadsOn-from : {X Y : Type 0} (P : Type 0) (means : X → Y → Type 0) (r : Result X Stop)
-    (read total : Result Y Fault) → total ≡ read → ReadsOn P means r read → ReadsOn P means r total
-ReadsOn-from P means (Ok x) read total e h = (h.0, e ∙ h.1, h.2)
-ReadsOn-from P means (Err stop) read total e h = Ends-from P stop read total (sym e) h
+-- what is read under another name, where there is no room for another reason
+pub ReadsOn-as : {X Y : Type 0} (P Q : Type 0) (means : X → Y → Type 0) (r : Result X Stop)
+    (read total : Result Y Fault) → total ≡ read → (P → Q) → ReadsOn P means r read → ReadsOn Q means r total
+ReadsOn-as P Q means (Ok x) read total e f h = (h.0, e ∙ h.1, h.2)
+ReadsOn-as P Q means (Err stop) read total e f h = Ends-map P Q stop total f (Ends-from P stop read total (sym e) h)
 
 -- a constant is read behind its id, with the one name that stands before that
-module _ {K A T X : Type 0} (s : ContextView K A T) (node : X → IRNode) (after : X → List ℕ) (n : ℕ)
+module _ {K A T X : Type 0} (s t : ContextView K A T) (node : X → IRNode) (after : X → List ℕ) (n : ℕ)
     (bytes rest : List ℕ) (ws : List (List ℕ)) (names : List (Option (List ℕ))) (given : names ≡ result_names ws) where
   abbrev as_constant : (AttrTerm × TypeTerm) × List ℕ → OpTerm × List ℕ
   as_constant c = (constant_term (first_name ws) c.0.0 c.0.1, c.1)
@@ -227,19 +243,29 @@ module _ {K A T X : Type 0} (s : ContextView K A T) (node : X → IRNode) (after
   one_name_given c e = let u = bind_ok (named 1 (length names)) (λ u. constant_at (n - 1) rest) c e in
       one_given ws names given (named_is 1 (length names) u.0 u.1)
 
+  -- a constant was read that has no room
+  abbrev IsFullForConstant : Type 0
+  IsFullForConstant =
+      (c : _) × (named_constant_at (n - 1) (length names) rest ≡ Ok c) × IsFullFor s.nodes one_leaf
+
   pub constant_reads : (r : Result X Stop) (k : HeadKind) → 0 < n → start_at bytes ≡ Ok ((ws, k), rest) → k ≡ Constant
-      → ReadsOn (HasNoRoom s) (λ x y. IsConstantAt s (node x) names y.0 × (after x ≡ y.1)) r
+      → ReadsOn IsFullForConstant
+      (λ x y. (IsConstantAt t (node x) names y.0 × HaveCome s.nodes t.nodes one_leaf) × (after x ≡ y.1)) r
       (named_constant_at (n - 1) (length names) rest) →
-      ReadsOn (HasNoRoom s) (λ x y. IsOpAt s (node x) y.0 × (after x ≡ y.1)) r (op_at n bytes)
+      ReadsOn (LacksRoom op_count (OpWithin n) s.nodes bytes (op_at n bytes))
+      (λ x y. (IsOpAt t (node x) y.0 × HaveCome s.nodes t.nodes (op_count y.0)) × (after x ≡ y.1)) r (op_at n bytes)
   constant_reads (Ok x) k lt e is h =
       let total = constant_behind k lt e is in (
         as_constant h.0,
         total ∙ rw (h.1) refl,
-        (subst (λ z. IsConstantAt s (node x) z h.0.0) (one_name_given h.0 h.1) h.2.0, h.2.1),
+        ((subst (λ z. IsConstantAt t (node x) z h.0.0) (one_name_given h.0 h.1) h.2.0.0, h.2.0.1), h.2.1),
       )
   constant_reads (Err stop) k lt e is h =
-      Ends-from (HasNoRoom s) stop _ _ (sym (constant_behind k lt e is))
-      (Ends-bind (HasNoRoom s) stop _ (λ c. done (as_constant c)) h)
+      let total = constant_behind k lt e is in
+      Ends-map IsFullForConstant _ stop (op_at n bytes)
+      (λ c. read_lacks_room s.nodes n bytes (as_constant c.0) (total ∙ rw (c.1) refl) c.2)
+      (Ends-from IsFullForConstant stop _ _ (sym total)
+      (Ends-bind IsFullForConstant stop _ (λ c. done (as_constant c)) h))
 
 module _ (read : List ℕ → Result (OpTerm × List ℕ) Fault) (n : ℕ) (k : BodyKind) (names : ℕ) where
   -- what is read behind the id of a module or a function

@@ -1,6 +1,6 @@
 -- Readers of whole texts of operations, and what they refuse.
 use Rattle.std.proofs.Common.{◌≡◌, ◌⊎◌, inl, inr, ◌≤◌, ◌+◌, ℕ, Bool, true, false, true≢false, List, Result, Ok, Err}
-use Rattle.std.proofs.Common.{refl, sym, ap, arith, ◌∙◌}
+use Rattle.std.proofs.Common.{refl, sym, ap, subst, arith, ◌∙◌}
 use Rattle.plir_attr_text.specs.declared.fault.Fault.{Fault}
 use Rattle.plir_attr_text.specs.declared.fault.Fault.TheVariants.{Memory, TooManyNodes}
 use Rattle.plir_attr_text.specs.declared.fault.ReadErr.{ReadErr}
@@ -10,7 +10,7 @@ use Rattle.plir_attr_text.specs.laws.ListsAgain.{refused, only_one}
 use Rattle.plir_attr_text.specs.laws.ListsFound.{whole_found}
 use Rattle.plir_attr_text.specs.Faults.{IsOfText, HasNoPlace, is_of_text}
 use Rattle.plir_attr_text.specs.Reading.{Ends, Fails, fault_of}
-use Rattle.plir_attr_text.specs.laws.StepLaws.{done, Ends-bind, Ends-from}
+use Rattle.plir_attr_text.specs.laws.StepLaws.{bind_ok, done, ok_is, Ends-bind, Ends-from}
 use Rattle.plir_attr_text.specs.Steps.{◌>>=◌}
 use Rattle.plir_attr_text.specs.TypeGrammar.{IsText}
 use Rattle.plir_attr_text.specs.Wholes.{end_at, whole}
@@ -69,6 +69,14 @@ module _ {A : Type 0} (read : List ℕ → Result (A × List ℕ) Fault) (bytes 
       whole read bytes ≡ Ok x
   unfolding whole
   whole_read x rest u p q = rw (p, q) refl
+
+  -- what is read of the whole stands first in it
+  pub whole_first : (x : A) → whole read bytes ≡ Ok x → (rest : List ℕ) × (read bytes ≡ Ok (x, rest))
+  unfolding whole
+  whole_first x e =
+      let a = bind_ok (read bytes) (λ x. end_at x.1 >>= λ u. Ok x.0) x e in
+      let b = bind_ok (end_at a.0.1) (λ u. done a.0.0) x a.2 in
+      (a.0.1, subst (λ (z : A). read bytes ≡ Ok (z, a.0.1)) (ok_is a.0.0 x b.2) a.1)
 
 wider : (m n : ℕ) (bytes : List ℕ) (w : OpTerm) → m ≤ n → IsText (OpWithin m) bytes w → IsText (OpWithin n) bytes w
 wider m n bytes w le s =

@@ -9,7 +9,8 @@
 --                stands for
 --   Keeping      KeepsOlder: what reading leaves of a context as it was
 --   Slots        IsMadeInOrder: a tree's nodes come in the order of a text, each in the next slot of its kind
---   Room         HasNoRoom: when there is no room for what a text needs next
+--   Room         IsFullFor: whether the nodes that a text stands for have room; BeginsTooMany: that those with which it
+--                begins have none
 --   Stopping     ReadsOn: reading into a context
 --   HeldTypes    IsHeldByOp: the types that an operation holds
 --   OpsRead      ReadsOp: what the reader's own functions answer

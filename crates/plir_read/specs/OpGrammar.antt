@@ -7,7 +7,7 @@ use Rattle.plir_attr_text.specs.Terms.{TypeTerm, AttrTerm, EntryTerms, no_entrie
 use Rattle.plir_attr_text.specs.TypeGrammar.{enclosed, SpellsType}
 use Rattle.plir_read.specs.OpTerms.{Head, module_head, func_head, Header, Argument, BlockHead, OpTerm, op_term}
 use Rattle.plir_read.specs.OpTerms.{constant_term, BlockTerms, no_blocks, block_before, OpTerms, no_ops, op_before}
-use Rattle.plir_read.specs.OpTerms.{op_levels}
+use Rattle.plir_read.specs.OpTerms.{BlockTerm, ops_of, blocks_of, op_levels, block_levels, ops_levels, blocks_levels}
 
 -- `@name`
 abbrev pub symbol : List ℕ → List Token
@@ -75,3 +75,24 @@ abbrev mutual
 -- an operation, with at most n levels open
 abbrev pub OpWithin : ℕ → OpTerm → List Token → Type 0
 OpWithin n x ts = SpellsOp x ts × (op_levels x ≤ n)
+
+-- the operations of a block likewise
+abbrev pub OpsWithin : ℕ → List OpTerm → List Token → Type 0
+OpsWithin n os ts = SpellsOps (ops_of os) ts × (ops_levels (ops_of os) ≤ n)
+
+-- a block as it stands among others
+pub record BlockWithin (n : ℕ) (b : BlockTerm) (ts : List Token) : Type 0 where
+  pub head : List Token
+  pub inside : List Token
+  pub head_spelled : SpellsBlockHead b.0 head
+  pub head_within : block_levels b.0 ≤ n
+  pub spelled : SpellsOps (ops_of b.1) inside
+  pub within : ops_levels (ops_of b.1) ≤ n
+  pub tokens : ts ≡ head ++ inside
+
+-- blocks in braces
+pub record BodyWithin (n : ℕ) (bs : List BlockTerm) (ts : List Token) : Type 0 where
+  pub body : List Token
+  pub spelled : SpellsBlocks (blocks_of bs) body
+  pub within : blocks_levels (blocks_of bs) ≤ n
+  pub tokens : ts ≡ enclosed 123 body 125

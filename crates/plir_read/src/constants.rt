@@ -96,7 +96,7 @@ pub fn read_constant<'a, D: OpSet>(
     left: usize,
     bytes: &'a [u8],
 ) -> Result<(Ptr<Operation>, &'a [u8]), Stop>
-    ensures read { ReadsConstant ctx.new names.items result (named_constant_at levels (length names.items) bytes.now) }
+    ensures read { ReadsConstant ctx.old ctx.new levels names.items bytes.now result }
     ensures made { IfOk result (λ x. IsMade ctx.old.nodes ctx.new.nodes (IRNode.Operation x.0)) }
     ensures slots { IfOk result (λ x. IsMadeInOrder ctx.old.nodes ctx.new.nodes (IRNode.Operation x.0)) }
     ensures kept { KeepsOlder ctx.old ctx.new }

@@ -11,11 +11,8 @@ ghost use Rattle.plir_read.specs.HeldTypes.{IsHeldByBlock, IsHeldByBlocks, IsHel
 ghost use Rattle.plir_read.specs.Keeping.{KeepsBut, KeepsOlder};
 ghost use Rattle.plir_read.specs.OpReading.{op_at, bodied_at, ops_at, block_at, blocks_at};
 ghost use Rattle.plir_read.specs.OpTerms.{ops_of, blocks_of};
-ghost use Rattle.plir_read.specs.OpsRead.{ReadsOp, ReadsBlock, HoldsNew};
-ghost use Rattle.plir_read.specs.OpsStanding.{HasOps, HasBlocks};
-ghost use Rattle.plir_read.specs.Room.{HasNoRoom};
+ghost use Rattle.plir_read.specs.OpsRead.{ReadsOp, ReadsBodied, ReadsBlock, ReadsOps, ReadsBody, HoldsNew};
 ghost use Rattle.plir_read.specs.Slots.{IsMadeInOrder, IsGrownInOrder};
-ghost use Rattle.plir_read.specs.Stopping.{ReadsOnPast};
 
 use crate::arguments::read_block_head;
 use crate::constants::read_constant;
@@ -42,7 +39,7 @@ fn read_ops<'a, D: OpSet>(
 ) -> Result<&'a [u8], Stop>
     requires live { IsLive ctx.old (IRNode.BasicBlock block) }
     requires empty { children ctx.old (IRNode.BasicBlock block) ≡ [] }
-    ensures read { ReadsOnPast (HasNoRoom ctx.new) (HasOps ctx.new block) result (ops_at (op_at levels) bytes.now) }
+    ensures read { ReadsOps ctx.old ctx.new levels block bytes.now result }
     ensures grown { IfOk result (λ x. IsGrown ctx.old.nodes ctx.new.nodes (IRNode.BasicBlock block)) }
     ensures slots { IfOk result (λ x. IsGrownInOrder ctx.old.nodes ctx.new.nodes (IRNode.BasicBlock block)) }
     ensures kept { KeepsBut ctx.old ctx.new (Some (IRNode.BasicBlock block)) }
@@ -82,7 +79,7 @@ fn read_block<'a, D: OpSet>(
     levels: usize,
     bytes: &'a [u8],
 ) -> Result<(Ptr<BasicBlock>, &'a [u8]), Stop>
-    ensures read { ReadsBlock ctx.new result (block_at (op_at levels) levels bytes.now) }
+    ensures read { ReadsBlock ctx.old ctx.new levels bytes.now result }
     ensures made { IfOk result (λ x. IsMade ctx.old.nodes ctx.new.nodes (IRNode.BasicBlock x.0)) }
     ensures slots { IfOk result (λ x. IsMadeInOrder ctx.old.nodes ctx.new.nodes (IRNode.BasicBlock x.0)) }
     ensures kept { KeepsOlder ctx.old ctx.new }
@@ -115,8 +112,7 @@ fn read_body<'a, D: OpSet>(
 ) -> Result<&'a [u8], Stop>
     requires live { IsLive ctx.old (IRNode.Region region) }
     requires empty { children ctx.old (IRNode.Region region) ≡ [] }
-    ensures read { ReadsOnPast (HasNoRoom ctx.new) (HasBlocks ctx.new region) result
-        (blocks_at (op_at levels) levels bytes.now) }
+    ensures read { ReadsBody ctx.old ctx.new levels region bytes.now result }
     ensures grown { IfOk result (λ x. IsGrown ctx.old.nodes ctx.new.nodes (IRNode.Region region)) }
     ensures slots { IfOk result (λ x. IsGrownInOrder ctx.old.nodes ctx.new.nodes (IRNode.Region region)) }
     ensures kept { KeepsBut ctx.old ctx.new (Some (IRNode.Region region)) }
@@ -161,7 +157,7 @@ fn read_bodied<'a, D: OpSet>(
     left: usize,
     bytes: &'a [u8],
 ) -> Result<(Ptr<Operation>, &'a [u8]), Stop>
-    ensures read { ReadsOp ctx.new result (bodied_at (op_at levels) levels kind names bytes.now) }
+    ensures read { ReadsBodied ctx.old ctx.new levels kind names bytes.now result }
     ensures made { IfOk result (λ x. IsMade ctx.old.nodes ctx.new.nodes (IRNode.Operation x.0)) }
     ensures slots { IfOk result (λ x. IsMadeInOrder ctx.old.nodes ctx.new.nodes (IRNode.Operation x.0)) }
     ensures kept { KeepsOlder ctx.old ctx.new }
@@ -193,7 +189,7 @@ pub fn read_op_at<'a, D: OpSet>(
     levels: usize,
     bytes: &'a [u8],
 ) -> Result<(Ptr<Operation>, &'a [u8]), Stop>
-    ensures read { ReadsOp ctx.new result (op_at levels bytes.now) }
+    ensures read { ReadsOp ctx.old ctx.new levels bytes.now result }
     ensures made { IfOk result (λ x. IsMade ctx.old.nodes ctx.new.nodes (IRNode.Operation x.0)) }
     ensures slots { IfOk result (λ x. IsMadeInOrder ctx.old.nodes ctx.new.nodes (IRNode.Operation x.0)) }
     ensures kept { KeepsOlder ctx.old ctx.new }

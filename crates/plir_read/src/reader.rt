@@ -13,10 +13,10 @@ ghost use Rattle.plir_read.specs.Keeping.{KeepsOlder};
 ghost use Rattle.plir_read.specs.OpGrammar.{OpWithin};
 ghost use Rattle.plir_read.specs.OpReading.{op_at};
 ghost use Rattle.plir_read.specs.OpTerms.{OpTerm};
-ghost use Rattle.plir_read.specs.OpsStanding.{IsOpAt, StandsForOp};
-ghost use Rattle.plir_read.specs.Room.{HasNoRoom};
+ghost use Rattle.plir_read.specs.OpsRead.{ReadsWhole};
+ghost use Rattle.plir_read.specs.OpsStanding.{StandsForOp};
+ghost use Rattle.plir_read.specs.Room.{BeginsTooMany, HaveCome, IsFullFor, op_count};
 ghost use Rattle.plir_read.specs.Slots.{IsMadeInOrder};
-ghost use Rattle.plir_read.specs.Stopping.{ReadsOn};
 
 use crate::ops::read_op_at;
 use plir_attr_text::fault::Stop;
@@ -33,8 +33,7 @@ fn whole_op<D: OpSet>(
     ctx: &mut Context<D>,
     bytes: &[u8],
 ) -> Result<Ptr<Operation>, Stop>
-    ensures read { ReadsOn (HasNoRoom ctx.new) (λ p w. IsOpAt ctx.new (IRNode.Operation p) w) result
-        (whole (op_at 200) bytes.now) }
+    ensures read { ReadsWhole ctx.old ctx.new 200 bytes.now result }
     ensures made { IfOk result (λ p. IsMade ctx.old.nodes ctx.new.nodes (IRNode.Operation p)) }
     ensures slots { IfOk result (λ p. IsMadeInOrder ctx.old.nodes ctx.new.nodes (IRNode.Operation p)) }
     ensures kept { KeepsOlder ctx.old ctx.new }
@@ -55,8 +54,8 @@ fn whole_op<D: OpSet>(
 /// made in the order of their first characters in the text, each in the next slot of its kind. The name and the type in
 /// a header win over those in its dictionary. A refused text may leave new nodes that stand nowhere, and types; what
 /// was there before is as it was. Types that are new are held by the operation that was read; where the text is
-/// refused, they are written in it. `TooManyNodes` comes only where the context has no room for an operation and its
-/// region, or for a block.
+/// refused, they are written in it. `TooManyNodes` comes only where the text, as far as it is read, has more nodes than
+/// the context had room for: one of them would pass the limit, or the slot numbers of its kind are spent.
 ///
 /// A fault stands at the text's end where the text ends within a token or before one, and at the first character of a
 /// token that can't stand there; the first character of a level that is one too many comes before any fault inside it.
@@ -72,7 +71,12 @@ pub fn read_op<D: OpSet>(
     ensures slots { IfOk result (λ p. IsMadeInOrder ctx.old.nodes ctx.new.nodes (IRNode.Operation p)) }
     ensures refused { IfErr result (λ e. IsOfText e.fault → (w : OpTerm) → IsText (OpWithin 200) text.now w → ⊥) }
     ensures placeless { IfErr result HasNoPlace }
-    ensures crowded { IfErr result (λ e. e.fault ≡ Fault.TooManyNodes → HasNoRoom ctx.new) }
+    ensures come { IfOk result (λ p. (w : OpTerm) → IsText (OpWithin 200) text.now w →
+        HaveCome ctx.old.nodes ctx.new.nodes (op_count w)) }
+    ensures begins { IfErr result (λ e. e.fault ≡ Fault.TooManyNodes →
+        BeginsTooMany op_count (OpWithin 200) ctx.old.nodes text.now) }
+    ensures crowded { IfErr result (λ e. e.fault ≡ Fault.TooManyNodes → (w : OpTerm) →
+        IsText (OpWithin 200) text.now w → IsFullFor ctx.old.nodes (op_count w)) }
     ensures kept { KeepsOlder ctx.old ctx.new }
     ensures named { AreNamed (IsWrittenIn text.now) ctx.old.types ctx.new.types }
     ensures held { IfOk result (λ p. (w : OpTerm) → IsText (OpWithin 200) text.now w →

@@ -1,4 +1,7 @@
-use Rattle.std.proofs.Common.{subst}
+use Rattle.std.proofs.Common.{◌≡◌, ◌∙◌, Ok, sym, subst}
+use Rattle.std.proofs.lemmas.Result.{err_from_is_err_and}
+use Rattle.plir_read.specs.OpReading.{named}
+use Rattle.plir_read.specs.Room.{HaveCome, IsFullFor, one_leaf}
 use Rattle.plir_core.specs.declared.ptr.IRNode.TheVariants.{Operation}
 use Rattle.plir_read.specs.Slots.{IsMadeInOrder}
 use Rattle.plir_read.proofs.OpMade.{value_live, result_live, KeepsOlder-typed, KeepsOlder-on}
@@ -6,7 +9,7 @@ use Rattle.plir_read.proofs.TreesInOrder.{leaf_in_order}
 use Rattle.plir_read.proofs.TypesNamed.{named_still}
 use Rattle.plir_read.specs.HeldTypes.{IsHeldByConstant}
 use Rattle.plir_read.proofs.Held.{come_still}
-use Rattle.plir_read.proofs.OpSteps.{named_constant_is}
+use Rattle.plir_read.proofs.OpSteps.{Ends-refused, refused_as, named_constant_is, is_named_constant, constant_still}
 use Rattle.plir_read.proofs.constants.read_constant.Goals as goal
 
 pub make_constant-requires-clause-value_live : goal.make_constant-requires-clause-value_live
@@ -41,3 +44,39 @@ pub returns-clause-held : goal.returns-clause-held
 returns-clause-held g c =
     λ y e. come_still (λ t. IsHeldByConstant t y.0) _ _ _ c.in_ok-op.ensures.made.types
     (c.in_ok-constant.ensures.held y (named_constant_is c.args.levels _ c.args.bytes.now y e))
+
+pub returns-in_err-op-clause-read : goal.returns-in_err-op-clause-read
+returns-in_err-op-clause-read g c =
+    let p = err_from_is_err_and c.from_residual-in_err-op.result c.from_residual-in_err-op.ensures.1 in
+    let y = c.in_ok-constant.ensures.read in
+    let many = subst (λ m. named 1 m ≡ Ok tt) (c.len.ensures ∙ c.args.names.ok.0) c.in_ok-expect_names.ensures in
+    rw (p.1, p.2) (Ends-refused _ c.in_err-op.field-0.0 _
+    (refused_as _ _ c.in_err-op.field-0.0
+    (λ full. (
+      y.0,
+      is_named_constant c.args.levels _ c.args.bytes.now tt y.0 many y.1,
+      subst (λ z. IsFullFor z one_leaf) c.in_ok-constant.ensures.rest full,
+    )) c.in_err-op.ensures.refused))
+
+pub returns-clause-read : goal.returns-clause-read
+returns-clause-read g c =
+    let y = c.in_ok-constant.ensures.read in
+    let m = c.in_ok-op.ensures.made in
+    let many = subst (λ n. named 1 n ≡ Ok tt) (c.len.ensures ∙ c.args.names.ok.0) c.in_ok-expect_names.ensures in (
+      y.0,
+      is_named_constant c.args.levels _ c.args.bytes.now tt y.0 many y.1,
+      (
+        (
+          (
+            _,
+            _,
+            constant_still _ _ _ _ y.0.0 m.types y.2.0,
+            m.held,
+            m.empty,
+          ),
+          subst (λ z. HaveCome z c.make_constant.new.ctx.nodes one_leaf) c.in_ok-constant.ensures.rest
+              c.in_ok-op.ensures.come,
+        ),
+        y.2.1,
+      ),
+    )

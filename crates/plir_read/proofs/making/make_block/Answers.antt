@@ -1,4 +1,4 @@
-use Rattle.std.proofs.Common.{◌≡◌, false, [], ◌∷◌, is_none, ap, sym, subst, ◌∙◌}
+use Rattle.std.proofs.Common.{◌≡◌, false, [], ◌∷◌, Err, is_none, ap, sym, subst, ◌∙◌}
 use Rattle.std.specs.List.{list_all}
 use Rattle.plir_data.specs.AttrView.{leaf, given_names}
 use Rattle.plir_data.specs.Dictionary.{dict_put}
@@ -7,7 +7,10 @@ use Rattle.plir_core.specs.Contents.{BlockView}
 use Rattle.plir_core.specs.Held.{IsBlockEdited}
 use Rattle.plir_core.specs.declared.ptr.IRNode.TheVariants.{BasicBlock}
 use Rattle.plir_read.proofs.OpMade.{IsNewBlock-edited, named_block}
+use Rattle.plir_read.proofs.RoomLaws.{block_comes, block_full, edit_comes}
+use Rattle.plir_read.proofs.OpSteps.{refused_as}
 use Rattle.plir_read.proofs.SlotLaws.{block_given, given_edited}
+use Rattle.plir_read.specs.Room.{one_block}
 use Rattle.plir_read.proofs.making.make_block.Goals as goal
 
 pub returns-clause-made : goal.returns-clause-made
@@ -47,3 +50,19 @@ returns-clause-slots g c =
     b.made.root in
     given_edited c.args.ctx.now c.new.new.ctx c.put_names.new.ctx (BasicBlock c.in-Ok.block ∷ []) c.in-Ok.block f given
     c.in_ok-put_names.ensures.put
+
+pub returns-then-unset-clause-come : goal.returns-then-unset-clause-come
+returns-then-unset-clause-come g c =
+    block_comes c.args.ctx.now c.stands.ensures.whole.stored c.new.new.ctx _ c.in-Ok.ensures.ok
+
+pub returns-clause-come : goal.returns-clause-come
+returns-clause-come g c =
+    edit_comes c.args.ctx.now c.new.new.ctx one_block
+    (block_comes c.args.ctx.now c.stands.ensures.whole.stored c.new.new.ctx _ c.in-Ok.ensures.ok) c.in-Ok.block _
+    c.put_names.new.ctx c.in_ok-put_names.ensures.put
+
+pub returns-in-Err-clause-refused : goal.returns-in-Err-clause-refused
+returns-in-Err-clause-refused g c =
+    refused_as _ _ c.stop_of.result
+    (λ e. block_full c.args.ctx.now.nodes c.stands.ensures.whole.stored
+    (c.in-Err.ensures.too_many.0 (ap (λ x. Err x) e))) c.stop_of.ensures

@@ -7,7 +7,7 @@ use Rattle.plir_data.specs.declared.op_set.OpKind.TheVariants as kinds
 use Rattle.plir_core.specs.Contents.{op_view}
 use Rattle.plir_core.specs.ContextView.{IsLive, IsValueLive}
 use Rattle.plir_core.specs.declared.ptr.IRNode.TheVariants.{BasicBlock}
-use Rattle.plir_read.proofs.Crowded.{op_crowded}
+use Rattle.plir_read.proofs.RoomLaws.{op_full, leaf_comes}
 use Rattle.plir_attr_text.specs.laws.Growth.{Grows-itself}
 use Rattle.plir_read.proofs.OpMade.{KeepsOlder-same, KeepsOlder-typed}
 use Rattle.plir_read.proofs.OpSteps.{refused_as}
@@ -55,8 +55,12 @@ pub returns-in-Err-clause-refused : goal.returns-in-Err-clause-refused
 returns-in-Err-clause-refused g c =
     let o = c.in-Err.ensures in
     refused_as _ _ c.stop_of.result
-    (λ e. op_crowded c.with_attributes.new.ctx.nodes 0 (omega arith) o.whole.stored
-    (o.crowded (ap (λ x. Err x) e))) c.stop_of.ensures
+    (λ e. op_full c.args.ctx.now.nodes 0 c.stands.ensures.whole.stored
+    (o.too_many_only (ap (λ x. Err x) e))) c.stop_of.ensures
+
+pub returns-in-Ok-clause-come : goal.returns-in-Ok-clause-come
+returns-in-Ok-clause-come g c =
+    leaf_comes c.args.ctx.now c.stands.ensures.whole.stored c.with_attributes.new.ctx _ c.in-Ok.ensures.ok
 
 pub returns-in_err-results-clause-kept : goal.returns-in_err-results-clause-kept
 returns-in_err-results-clause-kept g c =

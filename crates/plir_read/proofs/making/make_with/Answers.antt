@@ -1,7 +1,7 @@
-use Rattle.std.proofs.Common.{ap, Err, arith}
+use Rattle.std.proofs.Common.{ap, Err}
 use Rattle.plir_core.specs.Contents.{op_view}
 use Rattle.plir_core.specs.declared.ptr.IRNode.TheVariants.{Operation, Region}
-use Rattle.plir_read.proofs.Crowded.{op_crowded}
+use Rattle.plir_read.proofs.RoomLaws.{op_full, op_comes}
 use Rattle.plir_read.proofs.OpSteps.{refused_as}
 use Rattle.plir_read.proofs.SlotLaws.{op_given, region_new}
 use Rattle.plir_read.proofs.making.make_with.Goals as goal
@@ -21,5 +21,9 @@ pub returns-in-Err-clause-refused : goal.returns-in-Err-clause-refused
 returns-in-Err-clause-refused g c =
     let o = c.in-Err.ensures in
     refused_as _ _ c.stop_of.result
-    (λ e. op_crowded c.with_attributes.new.ctx.nodes 1 (omega arith) o.whole.stored
-    (o.crowded (ap (λ x. Err x) e))) c.stop_of.ensures
+    (λ e. op_full c.args.ctx.now.nodes 1 c.stands.ensures.whole.stored
+    (o.too_many_only (ap (λ x. Err x) e))) c.stop_of.ensures
+
+pub returns-in-Ok-clause-come : goal.returns-in-Ok-clause-come
+returns-in-Ok-clause-come g c =
+    op_comes c.args.ctx.now c.stands.ensures.whole.stored c.with_attributes.new.ctx _ c.in-Ok.ensures.ok

@@ -1,6 +1,8 @@
-use Rattle.std.proofs.Common.{◌≡◌, ◌-◌, ◌∙◌, length, [], None, Ok, refl, sym, ap, subst, arith, inl, inr, ℕ, List}
+use Rattle.std.proofs.Common.{◌≡◌, ◌-◌, ◌∙◌, length, [], ◌∷◌, None, Ok, refl, sym, ap, subst, arith, inl, inr, ℕ, List}
 use Rattle.std.proofs.lemmas.Result.{err_from_is_err_and}
 use Rattle.plir_core.specs.declared.ptr.IRNode.TheVariants.{Operation, Region, BasicBlock}
+use Rattle.plir_attr_text.specs.Tokens.{sign}
+use Rattle.plir_attr_text.specs.laws.Begun.{sign_found}
 use Rattle.plir_attr_text.specs.laws.Growth.{Grows-itself}
 use Rattle.plir_attr_text.specs.laws.Meanings.{IsDictMeant-live}
 use Rattle.plir_attr_text.specs.laws.TypeSteps.{behind_is}
@@ -8,15 +10,24 @@ use Rattle.plir_read.specs.HeldTypes.{IsHeldByHeader, IsHeldByBlockHead, IsHeldB
 use Rattle.plir_read.specs.HeldTypes.{IsHeldByConstant, IsHeldByOp, IsHeldByOps}
 use Rattle.plir_read.specs.OpTerms.{op_term, constant_term, ops_of, blocks_of, OpTerm, BlockTerm}
 use Rattle.plir_read.specs.OpReading.{op_at, first_name, bodied_at, block_at, semicolon_at, brace_at}
+use Rattle.plir_read.specs.OpGrammar.{OpWithin, BlockWithin}
+use Rattle.plir_read.specs.OpsRead.{list_count, body_count}
+use Rattle.plir_read.specs.Room.{IsFullFor, HaveCome, one_op, one_block, op_count, block_count}
 use Rattle.plir_read.specs.Slots.{IsMadeInOrder}
 use Rattle.plir_read.proofs.Gathered as gathered
 use Rattle.plir_read.proofs.Gathered.{IsGrown-itself, KeepsBut-itself}
 use Rattle.plir_read.proofs.OpFound.{op_at-shorter, block_at-shorter, semicolon_at-shorter, brace_at-shorter}
+use Rattle.plir_read.proofs.OpFound.{by_semicolon, semicolon_found, by_brace, brace_found, op_found, block_found}
+use Rattle.plir_read.proofs.Beginnings.{Ends-map, room_begins, room_next, room_all, ops_lack_room, block_lacks_room}
+use Rattle.plir_read.proofs.Beginnings.{inside_lacks_room, blocks_lack_room, bodied_lacks_room, body_lacks_room}
+use Rattle.plir_read.proofs.Beginnings.{op_lacks_room}
+use Rattle.plir_read.proofs.RoomLaws.{ops_counted, blocks_counted, come_itself, come_on}
+use Rattle.plir_read.proofs.StartFound.{named_is}
 use Rattle.plir_read.proofs.OpMade.{arguments_live, block_kept, block_made, block_stands, op_kept, op_made, body_kept}
 use Rattle.plir_read.proofs.OpMade.{op_stands, head_live, KeepsOlder-typed, KeepsOlder-on}
 use Rattle.plir_attr_text.specs.laws.Ends.{end_itself, end_on, sign_end}
 use Rattle.plir_read.proofs.OpEnds.{block_head_end, header_end, start_end, op_end, block_end, semicolon_end, brace_end}
-use Rattle.plir_read.proofs.OpSteps.{from_start, ReadsOn-from, bodied_behind, constant_at_id, constant_reads, no_start}
+use Rattle.plir_read.proofs.OpSteps.{from_start, ReadsOn-as, as_many, Ends-refused, refused_as, bodied_behind, constant_at_id, constant_reads, no_start}
 use Rattle.plir_read.proofs.OpSteps.{no_level, no_head, no_body, bodied_read, no_operations, operations, no_block_head}
 use Rattle.plir_read.proofs.OpSteps.{no_block, block_read, no_brace, no_blocks_inside, blocks}
 use Rattle.plir_read.proofs.TreesInOrder.{none_in_order, root_in_order, op_in_order}
@@ -43,6 +54,17 @@ read_block-returns-in_err-block-clause-kept g t c =
     KeepsOlder-on _ _ _ (KeepsOlder-typed c.args.ctx.now c.read_block_head-read.new.ctx c.in_ok-head.ensures.rest
     c.in_ok-head.ensures.grown) c.in_err-block.ensures.kept
 
+pub read_block-returns-in_err-block-clause-read : goal.read_block-returns-in_err-block-clause-read
+read_block-returns-in_err-block-clause-read g t c =
+    let p = err_from_is_err_and c.from_residual-in_err-block.result c.from_residual-in_err-block.ensures.1 in
+    let h = c.in_ok-head.ensures.read in
+    let s = c.args.ctx.now.nodes in
+    rw (p.1, p.2) (Ends-refused _ c.in_err-block.field-0.0 _
+    (refused_as _ _ c.in_err-block.field-0.0
+    (λ full. block_lacks_room c.args.levels s s _ c.in_ok-head.rest.now h.0.0
+    (behind_is _ h.0 c.in_ok-head.rest.now h.1 h.2.1)
+    (subst (λ z. IsFullFor z one_block) c.in_ok-head.ensures.rest full)) c.in_err-block.ensures.refused))
+
 pub read_block-returns-in-Ok-clause-read : goal.read_block-returns-in-Ok-clause-read
 read_block-returns-in-Ok-clause-read g t c =
     let h = c.in_ok-head.ensures.read in
@@ -51,12 +73,18 @@ read_block-returns-in-Ok-clause-read g t c =
       block_read (op_at c.args.levels) c.args.levels _ h.0.0 _ _ y.0.0 (behind_is _ h.0 c.in_ok-head.rest.now h.1 h.2.1)
           (behind_is _ y.0 c.in-Ok.end.now y.1 y.2.1),
       (
-        record {
-          head = block_stands c.args.ctx.now c.read_block_head-read.new.ctx c.make_block.new.ctx
-              c.read_ops.new.ctx c.in_ok-block.block c.in_ok-head.head c.in_ok-head.ensures.rest
-              c.in_ok-head.ensures.grown c.in_ok-block.ensures.made h.0.0 h.2.0 c.in-Ok.ensures.kept;
-          ops = y.2.0;
-        },
+        (
+          record {
+            head = block_stands c.args.ctx.now c.read_block_head-read.new.ctx c.make_block.new.ctx
+                c.read_ops.new.ctx c.in_ok-block.block c.in_ok-head.head c.in_ok-head.ensures.rest
+                c.in_ok-head.ensures.grown c.in_ok-block.ensures.made h.0.0 h.2.0 c.in-Ok.ensures.kept;
+            ops = y.2.0.0;
+          },
+          come_on c.args.ctx.now.nodes c.make_block.new.ctx.nodes c.read_ops.new.ctx.nodes one_block
+              (list_count y.0.0)
+              (subst (λ z. HaveCome z c.make_block.new.ctx.nodes one_block) c.in_ok-head.ensures.rest
+              c.in_ok-block.ensures.come) y.2.0.1,
+        ),
         refl,
       ),
     )
@@ -89,8 +117,12 @@ read_block-returns-in-Err-clause-kept g t c =
 pub read_block-returns-in-Err-clause-read : goal.read_block-returns-in-Err-clause-read
 read_block-returns-in-Err-clause-read g t c =
     let h = c.in_ok-head.ensures.read in
-    no_block (op_at c.args.levels) _ c.args.levels c.in-Err.stop _ h.0.0 _
-    (behind_is _ h.0 c.in_ok-head.rest.now h.1 h.2.1) c.in-Err.ensures.read
+    let head = behind_is _ h.0 c.in_ok-head.rest.now h.1 h.2.1 in
+    Ends-map _ _ c.in-Err.stop _
+    (inside_lacks_room c.args.levels c.args.ctx.now.nodes c.make_block.new.ctx.nodes _ c.in_ok-head.rest.now h.0.0 head
+    (subst (λ z. HaveCome z c.make_block.new.ctx.nodes one_block) c.in_ok-head.ensures.rest
+    c.in_ok-block.ensures.come))
+    (no_block (op_at c.args.levels) _ c.args.levels c.in-Err.stop _ h.0.0 _ head c.in-Err.ensures.read)
 
 pub read_block-returns-in_err-block-clause-named : goal.read_block-returns-in_err-block-clause-named
 read_block-returns-in_err-block-clause-named g t c =
@@ -142,7 +174,7 @@ pub read_body-returns-in-Some-clause-read : goal.read_body-returns-in-Some-claus
 read_body-returns-in-Some-clause-read g t c = (
   ([], c.in-Some.rest.now),
   no_blocks_inside (op_at c.args.levels) c.args.levels _ _ _ c.in_ok-start.ensures (sym c.in-Some.ensures),
-  (c.requires.empty, refl),
+  ((c.requires.empty, come_itself c.args.ctx.now.nodes), refl),
 )
 
 pub read_body-returns-in-Some-clause-slots : goal.read_body-returns-in-Some-clause-slots
@@ -172,11 +204,19 @@ read_body-inner-init g t c = (
       (block_at (op_at c.args.levels) c.args.levels) _ _ _
       (from_start brace_at (block_at (op_at c.args.levels) c.args.levels) c.in_ok-start.start.now _
       (blocks (op_at c.args.levels) c.args.levels _ _ c.in_ok-start.ensures (sym c.in_default.ensures))),
+  room_begins (BlockWithin c.args.levels) by_brace block_count brace_at (block_at (op_at c.args.levels) c.args.levels)
+      (sign 123 ∷ []) c.args.ctx.now.nodes c.args.bytes.now c.in_ok-start.start.now _
+      (c.in_ok-start.start.now, sign_found 123 _ _ c.in_ok-start.ensures, refl)
+      (from_start brace_at (block_at (op_at c.args.levels) c.args.levels) c.in_ok-start.start.now _
+      (blocks (op_at c.args.levels) c.args.levels _ _ c.in_ok-start.ensures (sym c.in_default.ensures))),
 )
 
 pub read_body-returns-in-Err-clause-read : goal.read_body-returns-in-Err-clause-read
 read_body-returns-in-Err-clause-read g t c =
-    gathered.not_read _ _ _ _ _ _ _ _ _ _ _ _ _ _ c.in-Err.stop c.inner.invariant.0 c.in-Err.ensures.read
+    Ends-map _ _ c.in-Err.stop _
+    (blocks_lack_room c.args.levels c.args.ctx.now.nodes c.inner.ctx.nodes c.args.bytes.now c.inner.rest.now
+    c.inner.invariant.3)
+    (gathered.not_read _ _ _ _ _ _ _ _ _ _ _ _ _ _ c.in-Err.stop c.inner.invariant.0 c.in-Err.ensures.read)
 
 pub read_body-returns-in-Err-clause-named : goal.read_body-returns-in-Err-clause-named
 read_body-returns-in-Err-clause-named g t c =
@@ -218,7 +258,7 @@ read_body-inner-preserved g t c =
       in_order = c.in-Ok.ensures.slots;
       kept = c.in-Ok.ensures.kept;
       stands =
-          y.2.0;
+          y.2.0.0;
       there = c.in-Ok.ensures.whole;
       placed = c.insert_at_back.ensures.placed;
       types =
@@ -238,6 +278,13 @@ read_body-inner-preserved g t c =
           c.in-Ok.ensures.kept.types (c.in-Ok.ensures.held y.0 y.1) (ap (λ z. z.types) c.insert_at_back.ensures.after)
           (c.past_brace-goes_on.ensures ∙ ap (λ b. Ok (b, c.past_brace-goes_on.result.1.now)) c.if-goes_on.true)
           (read_body-inner-smaller g t c),
+      room_next (BlockWithin c.args.levels) by_brace block_count brace_at
+          (block_at (op_at c.args.levels) c.args.levels) (sign 123 ∷ []) brace_found
+          (block_found c.args.levels (op_at c.args.levels) (op_found c.args.levels)) _ _ _ _ _ c.inner.invariant.3 _ _ _
+          y.0.0 c.in-Ok.read.1.now (behind_is _ y.0 c.in-Ok.read.1.now y.1 y.2.1) y.2.0.1
+          c.insert_at_back.ensures.placed.moved c.past_brace-goes_on.result.1.now
+          (c.past_brace-goes_on.ensures ∙ ap (λ b. Ok (b, c.past_brace-goes_on.result.1.now)) c.if-goes_on.true)
+          (read_body-inner-smaller g t c),
     )
 
 pub read_body-returns-else-goes_on : goal.read_body-returns-else-goes_on
@@ -252,7 +299,7 @@ read_body-returns-else-goes_on g t c =
       in_order = c.in-Ok.ensures.slots;
       kept = c.in-Ok.ensures.kept;
       stands =
-          y.2.0;
+          y.2.0.0;
       there = c.in-Ok.ensures.whole;
       placed = c.insert_at_back.ensures.placed;
       types =
@@ -261,7 +308,26 @@ read_body-returns-else-goes_on g t c =
     (behind_is _ y.0 c.in-Ok.read.1.now y.1 y.2.1)
     (c.past_brace-goes_on.ensures ∙ ap (λ b. Ok (b, c.past_brace-goes_on.result.1.now)) c.if-goes_on.false) in
     record {
-      read = ((r.all, c.past_brace-goes_on.result.1.now), r.gives, (r.stand, refl));
+      read = (
+        (r.all, c.past_brace-goes_on.result.1.now),
+        r.gives,
+        (
+          (
+            r.stand,
+            subst (HaveCome c.args.ctx.now.nodes c.insert_at_back.new.ctx.nodes) (sym (blocks_counted r.all))
+                (room_all (BlockWithin c.args.levels) by_brace block_count brace_at
+                (block_at (op_at c.args.levels) c.args.levels) (sign 123 ∷ []) brace_found
+                (block_found c.args.levels (op_at c.args.levels) (op_found c.args.levels)) _ _ _ _ _
+                c.inner.invariant.3 _ _ _ y.0.0 c.in-Ok.read.1.now
+                (behind_is _ y.0 c.in-Ok.read.1.now y.1 y.2.1) y.2.0.1 c.insert_at_back.ensures.placed.moved
+                c.past_brace-goes_on.result.1.now
+                (c.past_brace-goes_on.ensures ∙
+                ap (λ b. Ok (b, c.past_brace-goes_on.result.1.now)) c.if-goes_on.false) r.all
+                c.past_brace-goes_on.result.1.now r.gives),
+          ),
+          refl,
+        ),
+      );
       grown = r.grown;
       slots = r.in_order;
       kept = r.kept;
@@ -281,7 +347,7 @@ pub read_ops-returns-then-ends_block-clause-read : goal.read_ops-returns-then-en
 read_ops-returns-then-ends_block-clause-read g t c = (
   ([], c.args.bytes.now),
   no_operations (op_at c.args.levels) _ (sym c.ends_block.ensures ∙ c.if-ends_block.true),
-  (c.requires.empty, refl),
+  ((c.requires.empty, come_itself c.args.ctx.now.nodes), refl),
 )
 
 pub read_ops-returns-then-ends_block-clause-slots : goal.read_ops-returns-then-ends_block-clause-slots
@@ -311,11 +377,17 @@ read_ops-ops-init g t c = (
   held_begins IsHeldByOp (λ t os. IsHeldByOps t (ops_of os)) semicolon_at (op_at c.args.levels) _ _ _
       (from_start semicolon_at (op_at c.args.levels) c.args.bytes.now _
       (operations (op_at c.args.levels) _ (sym c.ends_block.ensures ∙ c.if-ends_block.false))),
+  room_begins (OpWithin c.args.levels) by_semicolon op_count semicolon_at (op_at c.args.levels) []
+      c.args.ctx.now.nodes c.args.bytes.now c.args.bytes.now _ refl
+      (from_start semicolon_at (op_at c.args.levels) c.args.bytes.now _
+      (operations (op_at c.args.levels) _ (sym c.ends_block.ensures ∙ c.if-ends_block.false))),
 )
 
 pub read_ops-returns-in-Err-clause-read : goal.read_ops-returns-in-Err-clause-read
 read_ops-returns-in-Err-clause-read g t c =
-    gathered.not_read _ _ _ _ _ _ _ _ _ _ _ _ _ _ c.in-Err.stop c.ops.invariant.0 c.in-Err.ensures.read
+    Ends-map _ _ c.in-Err.stop _
+    (ops_lack_room c.args.levels c.args.ctx.now.nodes c.ops.ctx.nodes c.args.bytes.now c.ops.rest.now c.ops.invariant.3)
+    (gathered.not_read _ _ _ _ _ _ _ _ _ _ _ _ _ _ c.in-Err.stop c.ops.invariant.0 c.in-Err.ensures.read)
 
 pub read_ops-returns-in-Err-clause-named : goal.read_ops-returns-in-Err-clause-named
 read_ops-returns-in-Err-clause-named g t c =
@@ -357,7 +429,7 @@ read_ops-ops-preserved g t c =
       in_order = c.in-Ok.ensures.slots;
       kept = c.in-Ok.ensures.kept;
       stands =
-          y.2.0;
+          y.2.0.0;
       there = c.in-Ok.ensures.whole;
       placed = c.insert_at_back.ensures.placed;
       types =
@@ -377,6 +449,12 @@ read_ops-ops-preserved g t c =
           (ap (λ z. z.types) c.insert_at_back.ensures.after)
           (c.past_semicolon-goes_on.ensures ∙ ap (λ b. Ok (b, c.past_semicolon-goes_on.result.1.now)) c.if-goes_on.true)
           (read_ops-ops-smaller g t c),
+      room_next (OpWithin c.args.levels) by_semicolon op_count semicolon_at (op_at c.args.levels) [] semicolon_found
+          (op_found c.args.levels) _ _ _ _ _ c.ops.invariant.3 _ _ _ y.0.0 c.in-Ok.read.1.now
+          (behind_is _ y.0 c.in-Ok.read.1.now y.1 y.2.1) y.2.0.1 c.insert_at_back.ensures.placed.moved
+          c.past_semicolon-goes_on.result.1.now
+          (c.past_semicolon-goes_on.ensures ∙ ap (λ b. Ok (b, c.past_semicolon-goes_on.result.1.now)) c.if-goes_on.true)
+          (read_ops-ops-smaller g t c),
     )
 
 pub read_ops-returns-else-goes_on : goal.read_ops-returns-else-goes_on
@@ -391,7 +469,7 @@ read_ops-returns-else-goes_on g t c =
       in_order = c.in-Ok.ensures.slots;
       kept = c.in-Ok.ensures.kept;
       stands =
-          y.2.0;
+          y.2.0.0;
       there = c.in-Ok.ensures.whole;
       placed = c.insert_at_back.ensures.placed;
       types =
@@ -401,7 +479,24 @@ read_ops-returns-else-goes_on g t c =
     (c.past_semicolon-goes_on.ensures ∙ ap (λ b. Ok (b, c.past_semicolon-goes_on.result.1.now)) c.if-goes_on.false)
     in
     record {
-      read = ((r.all, c.past_semicolon-goes_on.result.1.now), r.gives, (r.stand, refl));
+      read = (
+        (r.all, c.past_semicolon-goes_on.result.1.now),
+        r.gives,
+        (
+          (
+            r.stand,
+            subst (HaveCome c.args.ctx.now.nodes c.insert_at_back.new.ctx.nodes) (sym (ops_counted r.all))
+                (room_all (OpWithin c.args.levels) by_semicolon op_count semicolon_at (op_at c.args.levels) []
+                semicolon_found (op_found c.args.levels) _ _ _ _ _ c.ops.invariant.3 _ _ _ y.0.0 c.in-Ok.read.1.now
+                (behind_is _ y.0 c.in-Ok.read.1.now y.1 y.2.1) y.2.0.1 c.insert_at_back.ensures.placed.moved
+                c.past_semicolon-goes_on.result.1.now
+                (c.past_semicolon-goes_on.ensures ∙
+                ap (λ b. Ok (b, c.past_semicolon-goes_on.result.1.now)) c.if-goes_on.false) r.all
+                c.past_semicolon-goes_on.result.1.now r.gives),
+          ),
+          refl,
+        ),
+      );
       grown = r.grown;
       slots = r.in_order;
       kept = r.kept;
@@ -442,6 +537,18 @@ read_bodied-returns-in_err-op-clause-kept g t c =
     KeepsOlder-on _ _ _ (KeepsOlder-typed c.args.ctx.now c.read_header-read.new.ctx c.in_ok-header.ensures.rest
     c.in_ok-header.ensures.grown) c.in_err-op.ensures.kept
 
+pub read_bodied-returns-in_err-op-clause-read : goal.read_bodied-returns-in_err-op-clause-read
+read_bodied-returns-in_err-op-clause-read g t c =
+    let p = err_from_is_err_and c.from_residual-in_err-op.result c.from_residual-in_err-op.ensures.1 in
+    let h = c.in_ok-header.ensures.read in
+    let s = c.args.ctx.now.nodes in
+    rw (p.1, p.2) (Ends-refused _ c.in_err-op.field-0.0 _
+    (refused_as _ _ c.in_err-op.field-0.0
+    (λ full. bodied_lacks_room c.args.levels c.args.kind c.args.names s s c.args.bytes.now c.in_ok-header.behind.now
+    h.0.0 (named_is 0 c.args.names _ c.in_ok-expect_names.ensures)
+    (behind_is _ h.0 c.in_ok-header.behind.now h.1 h.2.1)
+    (subst (λ z. IsFullFor z one_op) c.in_ok-header.ensures.rest full)) c.in_err-op.ensures.refused))
+
 pub read_bodied-returns-in-Ok-clause-read : goal.read_bodied-returns-in-Ok-clause-read
 read_bodied-returns-in-Ok-clause-read g t c =
     let h = c.in_ok-header.ensures.read in
@@ -451,10 +558,15 @@ read_bodied-returns-in-Ok-clause-read g t c =
           c.in_ok-expect_names.ensures (behind_is _ h.0 c.in_ok-header.behind.now h.1 h.2.1)
           (behind_is _ y.0 c.in-Ok.end.now y.1 y.2.1),
       (
-        op_stands c.args.ctx.now c.read_header-read.new.ctx c.make_op.new.ctx c.read_body.new.ctx c.in_ok-op.op
-            c.in_ok-op.region _ (c.contexts_stand.ensures _ c.in_ok-op.ensures.whole) c.in_ok-header.ensures.rest
-            c.in_ok-header.ensures.grown c.in_ok-op.ensures.made c.in_ok-header.header.head
-            c.in_ok-header.header.entries h.0.0 y.0.0 h.2.0 refl c.in-Ok.ensures.kept y.2.0,
+        (
+          op_stands c.args.ctx.now c.read_header-read.new.ctx c.make_op.new.ctx c.read_body.new.ctx c.in_ok-op.op
+              c.in_ok-op.region _ (c.contexts_stand.ensures _ c.in_ok-op.ensures.whole) c.in_ok-header.ensures.rest
+              c.in_ok-header.ensures.grown c.in_ok-op.ensures.made c.in_ok-header.header.head
+              c.in_ok-header.header.entries h.0.0 y.0.0 h.2.0 refl c.in-Ok.ensures.kept y.2.0.0,
+          come_on c.args.ctx.now.nodes c.make_op.new.ctx.nodes c.read_body.new.ctx.nodes one_op (body_count y.0.0)
+              (subst (λ z. HaveCome z c.make_op.new.ctx.nodes one_op) c.in_ok-header.ensures.rest
+              c.in_ok-op.ensures.come) y.2.0.1,
+        ),
         refl,
       ),
     )
@@ -493,8 +605,13 @@ read_bodied-returns-in-Err-clause-kept g t c =
 pub read_bodied-returns-in-Err-clause-read : goal.read_bodied-returns-in-Err-clause-read
 read_bodied-returns-in-Err-clause-read g t c =
     let h = c.in_ok-header.ensures.read in
-    no_body (op_at c.args.levels) c.args.levels c.args.kind c.args.names _ c.in-Err.stop _ c.args.bytes.now _ h.0.0
-    c.in_ok-expect_names.ensures (behind_is _ h.0 c.in_ok-header.behind.now h.1 h.2.1) c.in-Err.ensures.read
+    let head = behind_is _ h.0 c.in_ok-header.behind.now h.1 h.2.1 in
+    Ends-map _ _ c.in-Err.stop _
+    (body_lacks_room c.args.levels c.args.kind c.args.names c.args.ctx.now.nodes c.make_op.new.ctx.nodes
+    c.args.bytes.now c.in_ok-header.behind.now h.0.0 (named_is 0 c.args.names _ c.in_ok-expect_names.ensures) head
+    (subst (λ z. HaveCome z c.make_op.new.ctx.nodes one_op) c.in_ok-header.ensures.rest c.in_ok-op.ensures.come))
+    (no_body (op_at c.args.levels) c.args.levels c.args.kind c.args.names _ c.in-Err.stop _ c.args.bytes.now _ h.0.0
+    c.in_ok-expect_names.ensures head c.in-Err.ensures.read)
 
 pub read_bodied-returns-in_err-op-clause-named : goal.read_bodied-returns-in_err-op-clause-named
 read_bodied-returns-in_err-op-clause-named g t c =
@@ -559,15 +676,23 @@ read_op_at-returns-in-Bodied-clause-read g t c =
     let behind = bodied_behind c.args.levels c.args.bytes.now c.in_ok-opening.rest.now y.0.0.0
     c.in_ok-opening.opening.names.items y.0.0.1 c.in-Bodied.body (omega (arith, c.in_ok-begin_level.ensures.some))
     start (sym y.2.0.kind ∙ c.in-Bodied.is) y.2.0.names in
+    let many = sym (c.len.ensures ∙ c.in_ok-opening.opening.names.ok.0) in
     let same = ap (λ m. bodied_at (op_at (c.args.levels - 1)) (c.args.levels - 1) c.in-Bodied.body m
-    c.in_ok-opening.rest.now) (sym (c.len.ensures ∙ c.in_ok-opening.opening.names.ok.0)) in
-    ReadsOn-from _ _ c.read_bodied.result _ _ (behind ∙ same) c.read_bodied.ensures.read
+    c.in_ok-opening.rest.now) many in
+    ReadsOn-as _ _ _ c.read_bodied.result _ _ (behind ∙ same)
+    (λ h. (
+      op_lacks_room c.args.ctx.now.nodes c.args.levels c.in-Bodied.body y.0.0.0 _ c.args.bytes.now
+          c.in_ok-opening.rest.now (omega (arith, c.in_ok-begin_level.ensures.some))
+          (start ∙ ap (λ k. Ok ((y.0.0.0, k), c.in_ok-opening.rest.now)) (sym y.2.0.kind ∙ c.in-Bodied.is))
+          (as_many y.0.0.0 c.in_ok-opening.opening.names.items y.2.0.names ∙ many) h.0,
+      λ x e. h.1 x (sym (behind ∙ same) ∙ e),
+    )) c.read_bodied.ensures.read
 
 pub read_op_at-returns-in-Constant-clause-read : goal.read_op_at-returns-in-Constant-clause-read
 read_op_at-returns-in-Constant-clause-read g t c =
     let y = c.in_ok-opening.ensures in
     let start = behind_is _ y.0 c.in_ok-opening.rest.now y.1 y.2.1 in
-    constant_reads _ (λ x. Operation x.0) (λ x. x.1.now) c.args.levels c.args.bytes.now c.in_ok-opening.rest.now y.0.0.0
+    constant_reads c.args.ctx.now c.read_constant.new.ctx (λ x. Operation x.0) (λ x. x.1.now) c.args.levels c.args.bytes.now c.in_ok-opening.rest.now y.0.0.0
     c.in_ok-opening.opening.names.items y.2.0.names c.read_constant.result y.0.0.1
     (omega (arith, c.in_ok-begin_level.ensures.some)) start (sym y.2.0.kind ∙ c.in-Constant.is)
     c.read_constant.ensures.read

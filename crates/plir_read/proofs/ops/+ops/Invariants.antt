@@ -1,4 +1,9 @@
-use Rattle.std.proofs.Common.{◌+◌, ◌*◌, length}
+use Rattle.std.proofs.Common.{◌+◌, ◌*◌, [], ◌∷◌, length}
+use Rattle.plir_attr_text.specs.Tokens.{sign}
+use Rattle.plir_read.specs.OpGrammar.{OpWithin, BlockWithin}
+use Rattle.plir_read.specs.Room.{op_count, block_count}
+use Rattle.plir_read.proofs.Beginnings.{RoomSoFar}
+use Rattle.plir_read.proofs.OpFound.{by_semicolon, by_brace}
 use Rattle.plir_core.specs.declared.ptr.IRNode.TheVariants.{Region, BasicBlock}
 use Rattle.plir_read.specs.OpReading.{op_at, ops_at, block_at, blocks_at, semicolon_at, brace_at}
 use Rattle.plir_read.specs.OpTerms.{ops_of, blocks_of}
@@ -35,6 +40,8 @@ invariant-read_ops-ops g l =
     (ops_at (op_at l.levels) l.bytes) × AreNamedSoFar l.bytes l.initial.ctx.types l.ctx.types l.rest
     × HeldSoFar IsHeldByOp (λ t os. IsHeldByOps t (ops_of os)) semicolon_at (op_at l.levels) l.initial.ctx.types
     l.ctx.types l.rest (ops_at (op_at l.levels) l.bytes)
+    × RoomSoFar (OpWithin l.levels) by_semicolon op_count semicolon_at (op_at l.levels) [] l.initial.ctx.nodes
+    l.ctx.nodes l.bytes l.rest (ops_at (op_at l.levels) l.bytes)
 
 abbrev pub invariant-read_body-inner : goal.invariant-read_body-inner
 invariant-read_body-inner g l =
@@ -42,3 +49,5 @@ invariant-read_body-inner g l =
     (blocks_at (op_at l.levels) l.levels l.bytes) × AreNamedSoFar l.bytes l.initial.ctx.types l.ctx.types l.rest
     × HeldSoFar IsHeldByBlock (λ t bs. IsHeldByBlocks t (blocks_of bs)) brace_at (block_at (op_at l.levels) l.levels)
     l.initial.ctx.types l.ctx.types l.rest (blocks_at (op_at l.levels) l.levels l.bytes)
+    × RoomSoFar (BlockWithin l.levels) by_brace block_count brace_at (block_at (op_at l.levels) l.levels)
+    (sign 123 ∷ []) l.initial.ctx.nodes l.ctx.nodes l.bytes l.rest (blocks_at (op_at l.levels) l.levels l.bytes)
