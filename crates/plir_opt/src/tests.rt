@@ -223,7 +223,6 @@ fn private_functions_are_erased_until_each_is_used(rt: HostRuntime) -> Result<()
           builtin.func @shown: builtin.function <()->()> [sym_visibility = builtin.string \"public\"] {}}",
         [
             "op1v1 builtin.module @m\n  region1v1\n    block1v1\n",
-            "      op4v1 builtin.func @itself\n        region4v1\n",
             "      op5v1 builtin.func @shown\n        region5v1\n",
         ]
         .as_slice(),
