@@ -83,6 +83,17 @@ module _ {K A T : Type 0} (fold : K → Integer → Integer → Option Integer) 
       go (Op p) l = but-results (op_at t p) (op_at s p) (f.ops p l)
       go (Block b) l = ap arguments_in (f.blocks b l)
 
+  -- a value that is there is a constant of what it was one of
+  pub constant-stays : (v : Value) → IsLive s (entity_node v.entity) → constant_of s v ≡ constant_of t v
+  constant-stays v l = go (maker_of v) refl
+    where
+      go : (m : Option (Ptr OperationKind)) → maker_of v ≡ m
+          → constant_in (held_at s (maker_of v)) ≡ constant_in (held_at t (maker_of v))
+      go None q = rw q refl
+      go (Some p) q =
+          (let there = subst (λ z. IsLive s (entity_node z)) (maker-entity v.entity v.index p q).0 l in
+          rw q (but-constant (op_at s p) (op_at t p) (sym (f.ops p there))))
+
   pub back : (d : ℕ) (v : Value) (n : Integer) → IsLive s (entity_node v.entity) → worth fold d t v ≡ Some n
       → Evaluates fold s v n
   back zero v n live e = absurd (none-some n e)

@@ -63,7 +63,7 @@ module _ {K A T : Type 0} (fold : K → Integer → Integer → Option Integer) 
       → ((m : IRNode) → given_out s m ≡ true → given_out t m ≡ true) → IsFoldedBelow fold own s n t
   below-refused s t n w w' same given =
       record {
-        folded = folded-refused fold s t (laws.forest s w) same;
+        folded = folded-refused fold s t (laws.forest s w) same given;
         lawful = laws.refused s t n same given;
         whole = w';
       }

@@ -1,5 +1,6 @@
 -- Operands are folded one after another.
-use Rattle.std.proofs.Common.{◌≡◌, ℕ, Bool, List, [], ◌∷◌, Option, Some, None, inl, inr, refl, sym, ap, subst, ◌∙◌}
+use Rattle.std.proofs.Common.{◌≡◌, ℕ, zero, suc, Bool, true, false, cond, List, [], ◌∷◌, ◌++◌, Option, Some, None}
+use Rattle.std.proofs.Common.{inl, inr, refl, sym, ap, subst, ◌∙◌, slice_get}
 use Rattle.std.specs.List.{filter}
 use Rattle.std.proofs.lemmas.Option.{none-some, same_Some}
 use Rattle.std.proofs.lemmas.Bool.{false_from_ne_true, cases_Bool}
@@ -7,6 +8,8 @@ use Rattle.plir_store.specs.Members.{Has}
 use Rattle.plir_store.specs.FilterLaws.{not-both, filter-all, filter-twice}
 use Rattle.plir_core.specs.declared.ptr.Ptr.{Ptr}
 use Rattle.plir_core.specs.declared.ptr.Operation.{Operation as OperationKind}
+use Rattle.plir_core.specs.declared.ptr.BasicBlock.{BasicBlock as BasicBlockKind}
+use Rattle.plir_core.specs.declared.ptr.IRNode.{IRNode}
 use Rattle.plir_core.specs.declared.ptr.IRNode.TheVariants.{Operation, BasicBlock}
 use Rattle.plir_core.specs.declared.value.Value.{Value}
 use Rattle.plir_core.specs.Contents.{OpView}
@@ -14,13 +17,12 @@ use Rattle.plir_core.specs.Changes.{SameLive}
 use Rattle.plir_core.specs.Forest.{look, IsForest}
 use Rattle.plir_core.specs.WellFormed.{IsWellFormed}
 use Rattle.plir_core.specs.ContextView.{ContextView, IsLive, is_live, children, op_at, operands_in, operands_of}
-use Rattle.plir_core.specs.ContextView.{entity_node, type_of_value}
+use Rattle.plir_core.specs.ContextView.{entity_node, type_of_value, given_out}
 use Rattle.plir_core.specs.ButOperands.{but_operands}
 use Rattle.plir_folding.specs.Worth.{Integer, constant_of, worth}
-use Rattle.plir_folding.specs.Folded.{ArePaired, constant_view, IsNewConstantOf, IsSameOrReplaced}
-use Rattle.plir_folding.specs.Folded.{IsFolded, IsFlagged}
-use Rattle.plir_folding.proofs.Worths.{constant-worth}
-use Rattle.plir_folding.proofs.Backwards.{view-constant, operand-live, type-kept, back}
+use Rattle.plir_folding.specs.Folded.{ArePaired, constant_view, result_of, IsNewConstantOf, IsForUser}
+use Rattle.plir_folding.specs.Folded.{IsSameOrReplaced, IsFolded, IsFlagged}
+use Rattle.plir_folding.proofs.Backwards.{view-constant, operand-live, type-kept, constant-stays, back}
 
 -- a list is paired with itself
 pub paired-self : (R : Value → Value → Type 0) → ((v : Value) → R v v) → (vs : List Value) → ArePaired R vs vs
@@ -43,6 +45,66 @@ paired-none R [] [] e h = refl
 paired-none R [] (w ∷ ws) e h = absurd h
 paired-none R (v ∷ vs) ws e h = absurd (let z : ⊥ = cc e in z)
 
+-- what stands at an index of a list is paired with what stands there in the other
+paired-at : (R : Value → Value → Type 0) (vs ws : List Value) (i : ℕ) (v : Value) → ArePaired R vs ws
+    → slice_get vs i ≡ Some v → (w : Value) × (slice_get ws i ≡ Some w) × R v w
+paired-at R [] ws i v h e = absurd (none-some v e)
+paired-at R (x ∷ vs) [] i v h e = absurd h
+paired-at R (x ∷ vs) (w ∷ ws) zero v h e = (w, (refl, subst (λ z. R z w) (same_Some x v e) h.0))
+paired-at R (x ∷ vs) (w ∷ ws) (suc i) v h e = paired-at R vs ws i v h.1 e
+
+head-is : {X : Type 0} {x y : X} {xs ys : List X} → x ∷ xs ≡ y ∷ ys → x ≡ y
+head-is e = cc e
+
+tail-is : {X : Type 0} {x y : X} {xs ys : List X} → x ∷ xs ≡ y ∷ ys → xs ≡ ys
+tail-is e = cc e
+
+-- what a test lets through is found where it was, with what the test refuses around it
+filter-cut : {X : Type 0} (p : X → Bool) (xs as : List X) (x : X) (bs : List X) → filter p xs ≡ as ++ x ∷ bs
+    → (ys : List X) × (zs : List X) × (xs ≡ ys ++ x ∷ zs) × (filter p zs ≡ bs) × (filter p ys ≡ as)
+filter-cut p [] [] x bs e = absurd (let z : ⊥ = cc e in z)
+filter-cut p [] (a ∷ as) x bs e = absurd (let z : ⊥ = cc e in z)
+filter-cut {X} p (w ∷ xs) as x bs e = elim (cases_Bool (p w)) [
+  | inl l ↦ passes as l (sym (kept (p w) l) ∙ e)
+  | inr l ↦ (let r = filter-cut p xs as x bs (sym (left (p w) l) ∙ e) in
+    (w ∷ r.0, (r.1.0, (ap (λ z. w ∷ z) r.1.1.0, (r.1.1.1.0, left-of r.0 l ∙ r.1.1.1.1)))))
+]
+  where
+    kept : (b : Bool) → b ≡ true → cond b (w ∷ filter p xs) (filter p xs) ≡ w ∷ filter p xs
+    kept b h = rw h refl
+
+    left : (b : Bool) → b ≡ false → cond b (w ∷ filter p xs) (filter p xs) ≡ filter p xs
+    left b h = rw h refl
+
+    left-of : (ys : List X) → p w ≡ false → filter p (w ∷ ys) ≡ filter p ys
+    left-of ys h = rw h refl
+
+    kept-of : (ys : List X) → p w ≡ true → filter p (w ∷ ys) ≡ w ∷ filter p ys
+    kept-of ys h = rw h refl
+
+    passes : (as : List X) → p w ≡ true → w ∷ filter p xs ≡ as ++ x ∷ bs
+        → (ys : List X) × (zs : List X) × (w ∷ xs ≡ ys ++ x ∷ zs) × (filter p zs ≡ bs) × (filter p ys ≡ as)
+    passes [] l k = ([], (xs, (ap (λ z. z ∷ xs) (head-is k), (tail-is k, refl))))
+    passes (a ∷ as) l k =
+        (let r = filter-cut p xs as x bs (tail-is k) in
+        (w ∷ r.0, (r.1.0, (ap (λ z. w ∷ z) r.1.1.0, (r.1.1.1.0, kept-of r.0 l ∙ ap (λ z. w ∷ z) r.1.1.1.1
+        ∙ ap (λ z. z ∷ as) (head-is k))))))
+
+-- what a test lets through is among what is left
+Has-kept : {X : Type 0} (p : X → Bool) (xs : List X) (y : X) → Has xs y → p y ≡ true → Has (filter p xs) y
+Has-kept p [] y h e = absurd h
+Has-kept {X} p (x ∷ xs) y h e = by (p x) refl (λ k. Has-kept p xs y k e) h
+  where
+    by : (b : Bool) → p x ≡ b → (Has xs y → Has (filter p xs) y) → Has (x ∷ xs) y
+        → Has (cond b (x ∷ filter p xs) (filter p xs)) y
+    by true d rest (inl g) = inl g
+    by true d rest (inr g) = inr (rest g)
+    by false d rest (inl g) = absurd (not-both (p y) e (ap p (sym g) ∙ d))
+    by false d rest (inr g) = rest g
+
+same-op : {p q : Ptr OperationKind} → Operation p ≡ Operation q → p ≡ q
+same-op e = cc e
+
 module _ {K A : Type 0} where
   -- an operation is told by what it holds but for its operands, and these
   whole-again : (o : Option (OpView K A)) (v : OpView K A) → but_operands o ≡ but_operands (Some v)
@@ -58,19 +120,25 @@ module _ {K A T : Type 0} (fold : K → Integer → Integer → Option Integer) 
   folded-none s w = record {
     live = λ n l. l;
     new = λ n l e. absurd (not-both (is_live s n) l e);
+    for_user = λ p l e. absurd (not-both (is_live s (Operation p)) l e);
     children = λ n l. filter-all (is_live s) (children s n) (λ x h. w.child_live n x h);
     parents = λ n l. refl;
     ops = λ p l. refl;
     operands = λ p l. paired-self (IsSameOrReplaced fold s s) (λ v. inl refl) (operands_of s p);
     blocks = λ b l. refl;
     types = refl;
+    limit = refl;
+    given = λ n g. g;
   }
 
   -- a make that was refused
-  pub folded-refused : (s t : ContextView K A T) → IsForest (look s) → SameLive s t → IsFolded fold s t
-  folded-refused s t w same = record {
+  pub folded-refused : (s t : ContextView K A T) → IsForest (look s) → SameLive s t
+      → ((n : IRNode) → given_out s n ≡ true → given_out t n ≡ true) → IsFolded fold s t
+  folded-refused s t w same given = record {
     live = λ n l. same.nodes.live n ∙ l;
     new = λ n l e. absurd (not-both (is_live s n) (sym (same.nodes.live n) ∙ l) e);
+    for_user =
+        λ p l e. absurd (not-both (is_live s (Operation p)) (sym (same.nodes.live (Operation p)) ∙ l) e);
     children =
         λ n l. ap (filter (is_live s)) (same.nodes.children n)
         ∙ filter-all (is_live s) (children s n) (λ x h. w.child_live n x h);
@@ -82,6 +150,8 @@ module _ {K A T : Type 0} (fold : K → Integer → Integer → Option Integer) 
         (paired-self (IsSameOrReplaced fold s t) (λ v. inl refl) (operands_of s p));
     blocks = λ b l. same.nodes.blocks b l;
     types = same.types;
+    limit = same.nodes.limit;
+    given = given;
   }
 
   -- a constant stays that is new
@@ -90,6 +160,7 @@ module _ {K A T : Type 0} (fold : K → Integer → Integer → Option Integer) 
   constant-kept s t u g p n c = record {
     live = g.live (Operation p) c.live;
     new = c.new;
+    fresh = c.fresh;
     holds = whole-again (op_at u p) (constant_view n) (g.ops p c.live ∙ ap but_operands c.holds)
         (paired-none (IsSameOrReplaced fold t u) (operands_of t p) (operands_of u p) (ap operands_in c.holds)
         (g.operands p c.live));
@@ -103,17 +174,43 @@ module _ {K A T : Type 0} (fold : K → Integer → Integer → Option Integer) 
     new =
         false_from_ne_true (is_live s (Operation p))
         (λ l. not-both (is_live t (Operation p)) (f.live (Operation p) l) c.new);
+    fresh =
+        false_from_ne_true (given_out s (Operation p))
+        (λ l. not-both (given_out t (Operation p)) (f.given (Operation p) l) c.fresh);
     holds = c.holds;
   }
 
+  -- what is not there afterwards was not there before
+  was-absent : (s t : ContextView K A T) → IsFolded fold s t → (n : IRNode) → is_live t n ≡ false → is_live s n ≡ false
+  was-absent s t f n e = false_from_ne_true (is_live s n) (λ l. not-both (is_live t n) (f.live n l) e)
+
+  -- a constant has no operand
+  no-operand : (s t : ContextView K A T) (p : Ptr OperationKind) (n : Integer) (i : ℕ) (v : Value)
+      → IsNewConstantOf s t p n → slice_get (operands_of t p) i ≡ Some v → ⊥
+  no-operand s t p n i v c e = none-some v (sym (ap (λ z. slice_get (operands_in z) i) c.holds) ∙ e)
+
+  -- a block, or an operation that has an operand, was there
+  block-old : (s t : ContextView K A T) → IsFolded fold s t → (b : Ptr BasicBlockKind) → IsLive t (BasicBlock b)
+      → IsLive s (BasicBlock b)
+  block-old s t f b l = elim (cases_Bool (is_live s (BasicBlock b))) [
+    | inl k ↦ k
+    | inr k ↦ (let r = f.new (BasicBlock b) l k in absurd (let z : ⊥ = cc r.1.1.0 in z))
+  ]
+
   module _ (own : A → List ℕ) (s t u : ContextView K A T) (w : IsWellFormed own s) (w' : IsWellFormed own t)
       (f : IsFolded fold s t) (g : IsFolded fold t u) where
+    -- what was no constant afterwards was none before
+    unknown-before : (x y : Value) → IsLive s (entity_node x.entity) → y ≡ x → constant_of t y ≡ None
+        → constant_of s x ≡ None
+    unknown-before x y l e k = constant-stays fold own s t w f x l ∙ ap (constant_of t) (sym e) ∙ k
+
     replaced-then : (p : Ptr OperationKind) (x y z : Value) → Has (operands_of s p) x → IsSameOrReplaced fold s t x y
         → IsSameOrReplaced fold t u y z → IsSameOrReplaced fold s u x z
     replaced-then p x y z h (inl e) (inl d) = inl (d ∙ e)
     replaced-then p x y z h (inl e) (inr i) =
         let there = operand-live own s w p x h in
         inr (record {
+          unknown = unknown-before x y there e i.unknown;
           constant = i.constant;
           integer = i.integer;
           result = i.result;
@@ -126,6 +223,7 @@ module _ {K A T : Type 0} (fold : K → Integer → Integer → Option Integer) 
     replaced-then p x y z h (inr i) (inl d) =
         let there = subst (λ v. IsLive t (entity_node v.entity)) (sym i.result) i.made.live in
         inr (record {
+          unknown = i.unknown;
           constant = i.constant;
           integer = i.integer;
           result = d ∙ i.result;
@@ -134,17 +232,66 @@ module _ {K A T : Type 0} (fold : K → Integer → Integer → Option Integer) 
           typed = ap (type_of_value u) d ∙ type-kept fold own t u w' g y there ∙ i.typed;
         })
     replaced-then p x y z h (inr i) (inr j) =
-        let is =
-        constant-worth fold t j.worth.0 y i.integer j.integer
-        (ap (constant_of t) i.result ∙ view-constant t i.constant i.integer i.made.holds) j.worth.1 in
-        inr (record {
-          constant = j.constant;
-          integer = i.integer;
-          result = j.result;
-          made = constant-later s t u f j.constant i.integer (subst (IsNewConstantOf t u j.constant) (sym is) j.made);
-          worth = i.worth;
-          typed = j.typed ∙ i.typed;
+        absurd (none-some i.integer
+        (sym j.unknown ∙ ap (constant_of t) i.result ∙ view-constant t i.constant i.integer i.made.holds))
+
+    -- what stands at an index of paired lists is paired
+    same-constant : (p q : Ptr OperationKind) (i : ℕ) (n : Integer) → IsLive t (Operation q) → IsNewConstantOf s t p n
+        → slice_get (operands_of t q) i ≡ Some (result_of p) → slice_get (operands_of u q) i ≡ Some (result_of p)
+    same-constant p q i n l c e =
+        (let r = paired-at (IsSameOrReplaced fold t u) (operands_of t q) (operands_of u q) i (result_of p)
+        (g.operands q l) e in
+        elim r.1.1 [
+          | inl same ↦ r.1.0 ∙ ap Some same
+          | inr k ↦ absurd (none-some n (sym k.unknown ∙ view-constant t p n c.holds))
+        ])
+
+    -- a constant stays before its user
+    user-kept : (p : Ptr OperationKind) (n : Integer) → IsNewConstantOf s t p n → IsForUser s t p → IsForUser s u p
+    user-kept p n c r =
+        (let k = g.children (BasicBlock r.block) (f.live (BasicBlock r.block) r.over) ∙ r.stands in
+        let x = filter-cut (is_live t) (children u (BasicBlock r.block)) r.front (Operation p)
+        (r.between ++ Operation r.user ∷ r.back) k in
+        let y = filter-cut (is_live t) x.1.0 r.between (Operation r.user) r.back x.1.1.1.0 in
+        record {
+          user = r.user;
+          index = r.index;
+          block = r.block;
+          front = x.0;
+          between = y.0;
+          back = y.1.0;
+          old = r.old;
+          over = r.over;
+          used = same-constant p r.user r.index n (f.live (Operation r.user) r.old) c r.used;
+          stands = x.1.1.0 ∙ ap (λ z. x.0 ++ Operation p ∷ z) y.1.1.0;
+          among = λ m h. elim (cases_Bool (is_live t m)) [
+            | inl l ↦ r.among m (subst (λ z. Has z m) y.1.1.1.1 (Has-kept (is_live t) y.0 m h l))
+            | inr e ↦ was-absent s t f m e
+          ];
         })
+
+    -- a constant that is new since stands before its user
+    user-later : (p : Ptr OperationKind) → IsForUser t u p → IsForUser s u p
+    user-later p r = record {
+      user = r.user;
+      index = r.index;
+      block = r.block;
+      front = r.front;
+      between = r.between;
+      back = r.back;
+      old =
+          elim (cases_Bool (is_live s (Operation r.user))) [
+            | inl l ↦ l
+            | inr e ↦ (let k = f.new (Operation r.user) r.old e in
+              let q = same-op k.1.1.0 in
+              absurd (no-operand s u k.0 k.1.0 r.index (result_of p) (constant-kept s t u g k.0 k.1.0 k.1.1.1)
+              (subst (λ z. slice_get (operands_of u z) r.index ≡ Some (result_of p)) q r.used)))
+          ];
+      over = block-old s t f r.block r.over;
+      used = r.used;
+      stands = r.stands;
+      among = λ m h. was-absent s t f m (r.among m h);
+    }
 
     pub folded-then : IsFolded fold s u
     folded-then = record {
@@ -152,6 +299,12 @@ module _ {K A T : Type 0} (fold : K → Integer → Integer → Option Integer) 
       new = λ n l e. elim (cases_Bool (is_live t n)) [
         | inl k ↦ (let r = f.new n k e in (r.0, (r.1.0, (r.1.1.0, constant-kept s t u g r.0 r.1.0 r.1.1.1))))
         | inr k ↦ (let r = g.new n l k in (r.0, (r.1.0, (r.1.1.0, constant-later s t u f r.0 r.1.0 r.1.1.1))))
+      ];
+      for_user = λ p l e. elim (cases_Bool (is_live t (Operation p))) [
+        | inl k ↦ (let r = f.new (Operation p) k e in
+          let q = same-op r.1.1.0 in
+          user-kept p r.1.0 (subst (λ z. IsNewConstantOf s t z r.1.0) (sym q) r.1.1.1) (f.for_user p k e))
+        | inr k ↦ user-later p (g.for_user p l k)
       ];
       children =
           λ n l. sym (filter-twice (is_live t) (is_live s) (λ x k. f.live x k) (children u n))
@@ -164,6 +317,8 @@ module _ {K A T : Type 0} (fold : K → Integer → Integer → Option Integer) 
           (λ x y z h. replaced-then p x y z h) (f.operands p l) (g.operands p (f.live (Operation p) l));
       blocks = λ b l. g.blocks b (f.live (BasicBlock b) l) ∙ f.blocks b l;
       types = g.types ∙ f.types;
+      limit = g.limit ∙ f.limit;
+      given = λ n h. g.given n (f.given n h);
     }
 
     -- the flag tells of two changes

@@ -7,6 +7,7 @@ use Rattle.std.proofs.lemmas.Option.{none-some, same_Some}
 use Rattle.plir_store.specs.Members.{Has}
 use Rattle.plir_store.specs.MemberLaws.{Has-split, Has-append_left, Has-append_right}
 use Rattle.plir_store.specs.Table.{content_at, is_live_at}
+use Rattle.plir_core.specs.Nodes.{is_given_out, was_given_out}
 use Rattle.plir_data.specs.Dictionary.{dict_put}
 use Rattle.plir_data.specs.Keys.{value_key}
 use Rattle.plir_data.specs.declared.op_set.OpKind.TheVariants.{Constant}
@@ -31,9 +32,9 @@ use Rattle.plir_walk.specs.Lawful.{Lawful}
 use Rattle.plir_walk.specs.LawfulChanges.{LawfulChanges}
 use Rattle.plir_walk.specs.NodeLaws.{ptr-tells, block-tells, reach-leaf}
 use Rattle.plir_folding.specs.Worth.{Integer, attr_of, maker_of, held_at, made_by, folded}
-use Rattle.plir_folding.specs.Folded.{ArePaired, constant_view, result_of, IsNewConstantOf, IsReplaced}
-use Rattle.plir_folding.specs.Folded.{IsSameOrReplaced, IsFolded}
-use Rattle.plir_folding.proofs.Worths.{maker-entity, folded-worth, folded-typed}
+use Rattle.plir_folding.specs.Folded.{ArePaired, constant_view, result_of, IsNewConstantOf, IsForUser}
+use Rattle.plir_folding.specs.Folded.{IsReplaced, IsSameOrReplaced, IsFolded}
+use Rattle.plir_folding.proofs.Worths.{maker-entity, folded-worth, folded-typed, folded-unknown}
 use Rattle.plir_folding.proofs.Folds.{paired-self}
 
 moved-live : {O B : Type 0} (s t : Nodes O B) (x : IRNode) → MovesOnly s t x → (m : IRNode)
@@ -41,6 +42,19 @@ moved-live : {O B : Type 0} (s t : Nodes O B) (x : IRNode) → MovesOnly s t x �
 moved-live s t x e (Operation p) = ap (λ z. is_live_at z p.slot p.version) e.ops
 moved-live s t x e (Region p) = ap (λ z. is_live_at z p.slot p.version) e.regions
 moved-live s t x e (BasicBlock p) = ap (λ z. is_live_at z p.slot p.version) e.blocks
+
+moved-given : {O B : Type 0} (s t : Nodes O B) (x : IRNode) → MovesOnly s t x → (m : IRNode)
+    → was_given_out t m ≡ was_given_out s m
+moved-given s t x e (Operation p) = ap (λ z. is_given_out z p) e.ops
+moved-given s t x e (Region p) = ap (λ z. is_given_out z p) e.regions
+moved-given s t x e (BasicBlock p) = ap (λ z. is_given_out z p) e.blocks
+
+-- what was set at an index of a list stands there
+set-there : {X : Type 0} (xs : List X) (i : ℕ) (x y : X) → slice_get xs i ≡ Some x
+    → slice_get (slice_set xs i y) i ≡ Some y
+set-there [] i x y e = absurd (none-some x e)
+set-there (z ∷ xs) zero x y e = refl
+set-there (z ∷ xs) (suc i) x y e = set-there xs i x y e
 
 -- a list with one value replaced is paired with the list
 paired-set : (R : Value → Value → Type 0) → ((v : Value) → R v v) → (vs : List Value) (i : ℕ) (x y : Value)
@@ -128,6 +142,7 @@ module _ {K A T : Type 0} where
       new-constant = record {
         live = edited.keeps.live (Operation c) ∙ new-live-u;
         new = made.new;
+        fresh = made.fresh (Operation c) made.root made.new;
         holds = edited.ops c new-live-u apart ∙ new-op-u ∙ holds;
       }
 
@@ -148,6 +163,7 @@ module _ {K A T : Type 0} where
 
       replaced : IsReplaced fold s v x (result_of c)
       replaced = record {
+        unknown = folded-unknown fold s x n folds;
         constant = c;
         integer = n;
         result = refl;
@@ -199,16 +215,39 @@ module _ {K A T : Type 0} where
             (paired-self R (λ y. inl refl) (operands_of s p))
       ]
 
+      -- it stands right before op, which uses it
+      for-op : IsForUser s v c
+      for-op = record {
+        user = op;
+        index = i;
+        block = b;
+        front = cut.0;
+        between = [];
+        back = cut.1;
+        old = op-live;
+        over = over;
+        used =
+            ap (λ z. slice_get (operands_in z) i) edited.held
+            ∙ ap (λ z. slice_get z i) (operands-replaced i (result_of c) (op_at u op))
+            ∙ ap (λ z. slice_get (slice_set (operands_in z) i (result_of c)) i) (op-u op op-live)
+            ∙ set-there (operands_of s op) i x (result_of c) operand;
+        stands = edited.keeps.children (BasicBlock b) ∙ at.children_over;
+        among = λ m h. absurd h;
+      }
+
       pub folded-one : IsFolded fold s v
       folded-one = record {
         live = λ m l. edited.keeps.live m ∙ live-u m l;
         new = λ m l e. (c, (n, (only-new m l e, new-constant)));
+        for_user = λ p l e. (let is : p ≡ c = cc (only-new (Operation p) l e) in subst (IsForUser s v) (sym is) for-op);
         children = children-left;
         parents = λ m l. edited.keeps.parents m ∙ parent-u m l;
         ops = but-kept;
         operands = operands-left;
         blocks = λ q l. edited.blocks q ∙ block-u q l;
         types = edited.keeps.types ∙ moved_types ∙ types;
+        limit = edited.keeps.limit ∙ at.moved.limit ∙ made.keeps.limit;
+        given = λ m g. edited.keeps.given m ∙ moved-given t.nodes u.nodes (Operation c) at.moved m ∙ made.keeps.given m g;
       }
 
       pub filled-one : (xs ys : List IRNode) → children s (BasicBlock b) ≡ xs ++ Operation op ∷ ys

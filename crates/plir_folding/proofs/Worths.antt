@@ -188,3 +188,14 @@ module _ {K A T : Type 0} (fold : K → Integer → Integer → Option Integer) 
       go (Some o) q e =
           let r = fold-apart fold (constant_of s) o.kind o.operands o.result_types n e in
           (o, (q, of-type-is o.result_types (fold r.own r.one r.other) n r.made))
+
+  -- a value that folds is no constant
+  pub folded-unknown : (s : ContextView K A T) (v : Value) (n : Integer) → folded fold s v ≡ Some n
+      → constant_of s v ≡ None
+  folded-unknown s v n e = go (made_by s v) e
+    where
+      go : (o : Option (OpView K A)) → folded_in fold (constant_of s) o ≡ Some n → constant_in o ≡ None
+      go None e = absurd (none-some n e)
+      go (Some o) e =
+          (let r = fold-apart fold (constant_of s) o.kind o.operands o.result_types n e in
+          own-no-constant fold o.kind r.own o.attributes r.kind)
