@@ -1,19 +1,13 @@
 //! Laws of texts.
 
-ghost use Rattle.std.specs.Prelude.{◌≡◌, ◌↔◌, ℕ, List, Ok};
+ghost use Rattle.std.specs.Prelude.{◌≡◌, ℕ, List};
 ghost use Rattle.plir_data.specs.AttrSeen.{attr_view};
 ghost use Rattle.plir_data.specs.Types.{TypeView, IsTypeTable};
-ghost use Rattle.plir_attr_text.specs.AttrGrammar.{AttrWithin};
 ghost use Rattle.plir_attr_text.specs.AttrReadBack.{IsReadBack};
-ghost use Rattle.plir_attr_text.specs.AttrReading.{attr_at};
-ghost use Rattle.plir_attr_text.specs.Parts.{IsPartOf, IsHeldBy};
-ghost use Rattle.plir_attr_text.specs.Terms.{TypeTerm, AttrTerm};
-ghost use Rattle.plir_attr_text.specs.TypesIn.{IsInType, IsInAttr};
+ghost use Rattle.plir_attr_text.specs.Terms.{TypeTerm};
 ghost use Rattle.plir_attr_text.specs.TypeGrammar.{IsText, TypeWithin};
 ghost use Rattle.plir_attr_text.specs.Names.{Names};
 ghost use Rattle.plir_attr_text.specs.TextLaws.{IsOfOneAttr, TextStands};
-ghost use Rattle.plir_attr_text.specs.TypeReading.{type_at};
-ghost use Rattle.plir_attr_text.specs.Wholes.{whole};
 
 use crate::fault::ReadErr;
 use plir_data::laws::dictionary_is_that_of_its_entries;
@@ -25,35 +19,10 @@ pub fn text_stands_for_one_type()
         IsText (TypeWithin n) bytes u → t ≡ u }
 {}
 
-/// The reader's steps find a type in a whole text exactly where the text stands for it. So a text in which they meet a
-/// fault stands for no type.
-pub fn text_is_read_as_its_type()
-    ensures { (n : ℕ) (text : List ℕ) (t : TypeTerm) → (whole (type_at n) text ≡ Ok t) ↔ IsText (TypeWithin n) text t }
-{}
-
-/// A type that the reader's steps meet in a text that stands for a type is that type, or one that it is made of.
-pub fn type_in_a_text_is_part_of_its_type()
-    ensures { (n : ℕ) (text : List ℕ) (t u : TypeTerm) → IsText (TypeWithin n) text u → IsInType n text t →
-        IsPartOf t u }
-{}
-
-/// A type that the reader's steps meet in a text that stands for an attribute is the type of an integer in it, or part
-/// of a type in it.
-pub fn type_in_a_text_is_held_by_its_attribute()
-    ensures { (n : ℕ) (text : List ℕ) (t : TypeTerm) (x : AttrTerm) → IsText (AttrWithin n) text x → IsInAttr n text t →
-        IsHeldBy t x }
-{}
-
 /// A type that is written is named by one handle of a table at most.
 pub fn written_type_has_one_handle<D: OpSet>()
     ensures { (types : List (TypeView D.Ty)) → IsTypeTable D.type_handles types → (t : TypeTerm) (h k : ℕ) →
         Names types h t → Names types k t → h ≡ k }
-{}
-
-/// The reader's steps find an attribute in a whole text exactly where the text stands for it. So a text in which they
-/// meet a fault stands for no attribute.
-pub fn text_is_read_as_its_attribute()
-    ensures { (n : ℕ) (text : List ℕ) (x : AttrTerm) → (whole (attr_at n) text ≡ Ok x) ↔ IsText (AttrWithin n) text x }
 {}
 
 /// A text stands for one attribute at most.

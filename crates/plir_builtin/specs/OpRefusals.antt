@@ -1,6 +1,6 @@
 -- How builtin operations break the rules of their interfaces: the refusal is that of the first rule that is broken, in
--- the order in which the rules stand here; those before it hold.
-use Rattle.std.specs.Prelude.{◌≡◌, ⊤, ℕ, Bool, List, Option, string_bytes}
+-- the order in which the rules stand here; those before it hold. Memory is wanting only behind them too.
+use Rattle.std.specs.Prelude.{◌≡◌, ⊤, ℕ, Bool, List, Option, IsSome, string_bytes}
 use Rattle.plir_data.specs.Types.{TypeView}
 use Rattle.plir_data.specs.declared.location.VerifyErr.{VerifyErr}
 use Rattle.plir_data.specs.declared.location.VerifyErr.TheVariants.{Refused, Memory}
@@ -11,7 +11,7 @@ use Rattle.plir_iface.specs.Counts.{HasNRegions, HasNOpds, HasNResults}
 use Rattle.plir_iface.specs.CountRefusals.{IsNRegionsRefusal, IsNOpdsRefusal, IsNResultsRefusal}
 use Rattle.plir_iface.specs.Regions.{HasSingleBlocks, IsSingleBlocksRefusal}
 use Rattle.plir_iface.specs.Verdict.{IsRefusal}
-use Rattle.plir_builtin.specs.BuiltinOps.{HasFuncType}
+use Rattle.plir_builtin.specs.BuiltinOps.{HasFuncType, HasConstantValue, value_of}
 use Rattle.plir_builtin.specs.ConstantFaults.{IsConstantFault}
 use Rattle.plir_builtin.specs.ResultNames.{result_name}
 use Rattle.plir_builtin.specs.SymbolUses.{HasTableRule, IsTableRuleRefusal, UseRule, UseRefusal}
@@ -68,7 +68,8 @@ module _ {K A T : Type 0} (s : ContextView K A T) (op : Ptr OperationKind) where
         HasNRegions 1 s op × HasSingleBlocks s op × HasTableRule own_symbol own_table own_user uses_hold s op ×
         HasSymbolName s op × HasNOpds 0 s op × IsResultsRefusal 0 (Refused l e)
     IsModuleRefusal (Refused l _) = ⊥
-    IsModuleRefusal Memory = Unit {0}
+    -- (for what is looked up in its table)
+    IsModuleRefusal Memory = HasNRegions 1 s op × HasSingleBlocks s op
 
   -- of a function
   abbrev pub IsFuncRefusal : {E : Type 0} → VerifyErr (OpVerifyErr E) → Type 0
@@ -92,7 +93,9 @@ module _ {K A T : Type 0} (s : ContextView K A T) (op : Ptr OperationKind) where
         HasNOpds 0 s op × HasNResults 1 s op × IsRefusal s op
         (IsConstantFault attr_own_id attr_own_type own_id own_body s op) (Refused l e)
     IsConstantOpRefusal (Refused l _) = ⊥
-    IsConstantOpRefusal Memory = Unit {0}
+    -- (for the texts that tell what is wrong with its value)
+    IsConstantOpRefusal Memory =
+        HasNOpds 0 s op × HasNResults 1 s op × (HasConstantValue attr_own_type s op → ⊥) × IsSome (value_of s op)
 
   -- of a forward reference, which none is right
   abbrev pub IsForwardRefRefusal : {E : Type 0} → VerifyErr (OpVerifyErr E) → Type 0
@@ -101,4 +104,5 @@ module _ {K A T : Type 0} (s : ContextView K A T) (op : Ptr OperationKind) where
   IsForwardRefRefusal (Refused l (ForwardRefExistence e)) =
       HasNOpds 0 s op × HasNResults 1 s op × IsRefusal s op (λ x. string_bytes x.0 ≡ result_name s op 0) (Refused l e)
   IsForwardRefRefusal (Refused l _) = ⊥
-  IsForwardRefRefusal Memory = Unit {0}
+  -- (for the name)
+  IsForwardRefRefusal Memory = HasNOpds 0 s op × HasNResults 1 s op

@@ -137,6 +137,10 @@ module _ {K A T : Type 0} (s : ContextView K A T) where
   IsBodyRefusal t outside = ⊥
   IsBodyRefusal t not_there = ⊥
 
+-- an operation is a symbol table and has a body, so that its symbols are looked at
+abbrev pub IsTableWithBody : {K A T : Type 0} (own_table : K → Bool) → ContextView K A T → Ptr OperationKind → Type 0
+IsTableWithBody own_table s t = (is_table_kind own_table (kind_in (op_at s t)) ≡ true) × IsSome (body s t)
+
 -- a table for t is refused
 module _ {K A T : Type 0} (own_symbol own_table : K → Bool) (s : ContextView K A T) where
   abbrev pub IsTableRefusal : Ptr OperationKind → Refusal → Type 0

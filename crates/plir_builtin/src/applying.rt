@@ -1,6 +1,6 @@
 //! Edits of symbols over cached tables, one after another.
 ghost use Rattle.std.specs.Prelude.{◌≡◌, Some, None, IfOk, IfErr, IfSome, IsSome, IsTrue, OnOk, OnErr, ◌↔◌, true};
-ghost use Rattle.std.specs.Prelude.{false};
+ghost use Rattle.std.specs.Prelude.{false, [], IsOk};
 ghost use Rattle.std.specs.FinMap as map;
 ghost use Rattle.plir_core.specs.declared.ptr.IRNode.{IRNode as AnyNode};
 ghost use Rattle.plir_core.specs.InsertionPoint.{IsPointLive};
@@ -246,7 +246,7 @@ impl SymbolTableCollection {
         }
     }
 
-    /// Makes edits one after another and answers each. `Memory` comes before the first edit. While all tables agree,
+    /// Makes edits one after another and answers each. `Memory` comes before the first edit, if there is one. While all tables agree,
     /// each edit is answered and made as scans of the bodies say, whatever is cached, and all tables agree after it. A
     /// refused edit changes no node and no table that was cached; its own table may have been newly cached.
     pub fn apply_all<D: OpSet>(
@@ -261,6 +261,7 @@ impl SymbolTableCollection {
             AllAgree D.is_symbol D.is_symbol_table ctx.new self.new }
         ensures given { AreGivenOut ctx.old self.old → AreGivenOut ctx.new self.new }
         ensures same { OnErr result ((ctx.new ≡ ctx.old) × (self.new ≡ self.old)) }
+        ensures none { edits.items ≡ [] → IsOk result }
     {
         let mut replies = Vec::with_capacity(self.alloc, edits.len())?;
         for edit in &edits {

@@ -1,6 +1,6 @@
 //! Constants.
 ghost use Rattle.std.specs.Prelude.{◌≡◌, ◌↔◌, true, Some, OnOk, OnErr, IfErr, IfOk, IfSome, IsSome};
-ghost use Rattle.std.specs.Prelude.{◌<◌, ◌+◌, Err, IsErr};
+ghost use Rattle.std.specs.Prelude.{◌<◌, ◌+◌, Err, IsErr, IsOk};
 ghost use Rattle.plir_store.specs.Table.{next_slot};
 ghost use Rattle.plir_data.specs.declared.op_set.OpKind.{OpKind as AnyKind};
 ghost use Rattle.plir_data.specs.AttrCalls.{attr_type};
@@ -123,7 +123,8 @@ impl ConstantOp {
     }
 
     /// Accepts exactly where a value stands under [`crate::ATTR_KEY_CONSTANT_VALUE`], it has a type, and that is the
-    /// type of the one result. Else it reports what is wrong first, in this order.
+    /// type of the one result. Else it reports what is wrong first, in this order. `Memory` comes only where a value is
+    /// there and is refused: its refusal has texts.
     pub fn verify<D: OpSet>(
         &self,
         alloc: Global,
@@ -132,8 +133,10 @@ impl ConstantOp {
         requires live { IsLive ctx.now (AnyNode.Operation self.now.op) }
         requires one_result { HasNResults 1 ctx.now self.now.op }
         ensures ok { OnOk result (HasConstantValue D.attr_type ctx.now self.now.op) }
+        ensures accepted { HasConstantValue D.attr_type ctx.now self.now.op → IsOk result }
         ensures refused { IfErr result (IsRefusalMemoryAside ctx.now self.now.op
             (IsConstantFault D.attr_id D.attr_type D.type_id D.type_body_text ctx.now self.now.op)) }
+        ensures memory { result ≡ Err VerifyErr.Memory → IsSome (value_of ctx.now self.now.op) }
         ensures whole { IsWellFormed D.attr_handles ctx.now }
     {
         ctx.stands();

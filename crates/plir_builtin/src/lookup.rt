@@ -6,7 +6,7 @@ ghost use Rattle.plir_core.specs.ContextView.{IsLive};
 ghost use Rattle.plir_builtin.specs.Symbols.{IsGood, scan};
 ghost use Rattle.plir_builtin.specs.Agree.{Agrees, AgreesAsLent, AllAgree, AreGivenOut, IsBrought, IsNewlyCached};
 ghost use Rattle.plir_builtin.specs.Nearest.{IsAnsweredNearest, IsFoundNearest, IsNearestRefusal};
-ghost use Rattle.plir_builtin.specs.Refusals.{Reports, IsTableRefusal};
+ghost use Rattle.plir_builtin.specs.Refusals.{Reports, IsTableRefusal, IsTableWithBody};
 
 use crate::collection::SymbolTableCollection;
 use crate::nearest::nearest_symbol_table;
@@ -32,6 +32,7 @@ impl SymbolTableCollection {
         ensures absent { OnErr result (map.get self.old op ≡ None) }
         ensures given { AreGivenOut ctx.now self.old → AreGivenOut ctx.now self.new }
         ensures refused { IfErr result (Reports (IsTableRefusal D.is_symbol D.is_symbol_table ctx.now op)) }
+        ensures memory { result ≡ Err SymbolTableErr.Memory → IsTableWithBody D.is_symbol_table ctx.now op }
         ensures same { OnErr result (self.new ≡ self.old) }
     {
         ctx.stands();
@@ -61,6 +62,7 @@ impl SymbolTableCollection {
             AreGivenOut ctx.now (map.insert self.old op t.now)) }
         ensures absent { OnErr result (map.get self.old op ≡ None) }
         ensures refused { IfErr result (Reports (IsTableRefusal D.is_symbol D.is_symbol_table ctx.now op)) }
+        ensures memory { result ≡ Err SymbolTableErr.Memory → IsTableWithBody D.is_symbol_table ctx.now op }
     {
         if let Err(refused) = self.bring(ctx, op) {
             return Err(refused);
@@ -92,6 +94,7 @@ impl SymbolTableCollection {
         ensures kept { IsSome (map.get self.old table) → self.new ≡ self.old }
         ensures brought { OnOk result (IsBrought D.is_symbol D.is_symbol_table ctx.now self.old table self.new) }
         ensures refused { IfErr result (Reports (IsTableRefusal D.is_symbol D.is_symbol_table ctx.now table)) }
+        ensures memory { result ≡ Err SymbolTableErr.Memory → IsTableWithBody D.is_symbol_table ctx.now table }
         ensures same { OnErr result ((self.new ≡ self.old) × (map.get self.old table ≡ None)) }
     {
         if let Err(refused) = self.bring(ctx, table) {

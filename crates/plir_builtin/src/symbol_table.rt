@@ -1,6 +1,6 @@
 //! Symbol tables: the symbols in the body of an operation, by their names.
 ghost use Rattle.std.specs.Prelude.{◌≡◌, [], Some, None, OnOk, OnErr, IsSome, option_map};
-ghost use Rattle.std.specs.Prelude.{IfOk, IfErr, IfSome, true, false};
+ghost use Rattle.std.specs.Prelude.{IfOk, Err, IfErr, IfSome, true, false};
 ghost use Rattle.std.specs.FinMap as map;
 ghost use Rattle.plir_core.specs.declared.ptr.IRNode.{IRNode as AnyNode};
 ghost use Rattle.plir_core.specs.ContextView.{IsLive, IsAncestor, parent_of};
@@ -13,7 +13,7 @@ ghost use Rattle.plir_builtin.specs.Agree.{Agrees, KeepsAgreement, KeepsAllAgree
 ghost use Rattle.plir_builtin.specs.Insertion.{inserted};
 ghost use Rattle.plir_builtin.specs.Refusals.{Reports, ReportsOnly, IsSymbolNamed, IsPlaceable, IsInsertErr};
 ghost use Rattle.plir_builtin.specs.Refusals.{IsRemoveRefusal};
-ghost use Rattle.plir_builtin.specs.Refusals.{IsTableRefusal};
+ghost use Rattle.plir_builtin.specs.Refusals.{IsTableRefusal, IsTableWithBody};
 ghost use Rattle.plir_builtin.specs.Reading.{IsRead};
 ghost use Rattle.plir_builtin.specs.TableEdits.{IsRecorded, IsForgotten};
 
@@ -157,7 +157,7 @@ impl SymbolTable {
     /// The table of an operation, with the symbols that stand in its body. Refused by, in this order:
     /// `DoesNotImplementSymbolTableInterface`; `Regions`, where it has not one region; `Body`, where that has not one
     /// block; at the first symbol that has no name, or that of an earlier one, `Unnamed` or `SymbolRedefined`. `Memory`
-    /// may come in place of any of them.
+    /// may come in place of the last two, and where the symbols are recorded.
     pub fn new<D: OpSet>(
         alloc: Global,
         ctx: &Context<D>,
@@ -167,6 +167,7 @@ impl SymbolTable {
         ensures op { IfOk result (λ t. t.op ≡ op) }
         ensures agrees { IfOk result (Agrees D.is_symbol D.is_symbol_table ctx.now) }
         ensures refused { IfErr result (Reports (IsTableRefusal D.is_symbol D.is_symbol_table ctx.now op)) }
+        ensures memory { result ≡ Err SymbolTableErr.Memory → IsTableWithBody D.is_symbol_table ctx.now op }
     {
         if !is_table(ctx, op) {
             return Err(SymbolTableErr::DoesNotImplementSymbolTableInterface);

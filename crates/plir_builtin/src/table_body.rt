@@ -1,5 +1,5 @@
 //! The body of a table: the one block of its one region.
-ghost use Rattle.std.specs.Prelude.{◌≡◌, ◌↔◌, Some, IfOk, IfErr, IfSome, IsSome, IsTrue, option_map};
+ghost use Rattle.std.specs.Prelude.{◌≡◌, ◌↔◌, Some, IfOk, Err, IfErr, IfSome, IsSome, IsTrue, option_map};
 ghost use Rattle.plir_core.specs.declared.ptr.IRNode.{IRNode as AnyNode};
 ghost use Rattle.plir_core.specs.ContextView.{IsLive, children};
 ghost use Rattle.plir_builtin.specs.Symbols.{body, only};
@@ -98,6 +98,7 @@ pub(crate) fn find_body<D: OpSet>(
     ensures body { IfOk result (λ b. body ctx.now op ≡ Some (AnyNode.BasicBlock b)) }
     ensures live { IfOk result (λ b. IsLive ctx.now (AnyNode.BasicBlock b)) }
     ensures refused { IfErr result (Reports (IsBodyRefusal ctx.now op)) }
+    ensures sure { result ≡ Err SymbolTableErr.Memory → ⊥ }
 {
     let any = AnyOp { op };
     match OneRegionInterface::<D>::verify(&any, ctx) {

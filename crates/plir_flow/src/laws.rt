@@ -1,5 +1,5 @@
 //! Laws of segments and of region edges: each function that takes no context does nothing, and its contract is the law.
-ghost use Rattle.std.specs.Prelude.{◌≡◌, ◌≢◌, ◌<◌, ◌≤◌, ◌↔◌, ◌+◌, ℕ, List, Some, IsTrue, IfOk, length, map, sum};
+ghost use Rattle.std.specs.Prelude.{◌≡◌, ◌≢◌, ◌<◌, ◌≤◌, ◌↔◌, ◌+◌, ℕ, List, Some, IsTrue, length, map, sum};
 ghost use Rattle.plir_core.specs.declared.ptr.IRNode.{IRNode};
 ghost use Rattle.plir_core.specs.declared.ptr.Operation.{Operation as OperationKind};
 ghost use Rattle.plir_core.specs.declared.ptr.Ptr.{Ptr as AnyPtr};
@@ -7,16 +7,14 @@ ghost use Rattle.plir_core.specs.declared.value.Value.{Value as AnyValue};
 ghost use Rattle.plir_core.specs.ContextView.{ContextView, IsLive, operands_of, successors_of};
 ghost use Rattle.plir_flow.specs.Branches.{num_successors, operands_within};
 ghost use Rattle.plir_flow.specs.EdgeEquality.{same_edge};
-ghost use Rattle.plir_flow.specs.RegionEdges.{EdgeView, Reach};
+ghost use Rattle.plir_flow.specs.RegionEdges.{EdgeView};
 ghost use Rattle.plir_flow.specs.Segments.{in_segments, flatten, segment_at, edit_at, SegmentEdit, put_last, take_last};
 ghost use Rattle.plir_flow.specs.Segments.{num_segments};
 ghost use Rattle.plir_flow.specs.Segments.{segment_size, segment_places, segments_of, IsSegmented};
 ghost use Rattle.plir_flow.specs.Segments.{CanBePopped, IsKeptBySegments, PopsWhatWasPushed};
 
-use crate::region_branches::RegionBranchOpInterface;
-use plir_core::{Context, Operation, Ptr, Region};
-use plir_data::{Memory, OpSet};
-use std::alloc::Global;
+use plir_core::{Context, Operation, Ptr};
+use plir_data::OpSet;
 
 /// Where the sum of sizes is the number of values, the values in segments are the one list of lists with these sizes
 /// and this flattening; where it isn't, there is none.
@@ -78,17 +76,3 @@ pub fn push_then_pop<D: OpSet>()
 pub fn equal_edges_are_the_same()
     ensures { (d e : EdgeView) → IsTrue (same_edge d e) ↔ (d ≡ e) }
 {}
-
-/// A region is repetitive exactly if a path of one edge or more between regions leads from it back to it.
-pub fn repetitive_is_on_a_cycle<D: OpSet, O: RegionBranchOpInterface<D>>(
-    alloc: Global,
-    ctx: &Context<D>,
-    op: &O,
-    region: Ptr<Region>,
-) -> Result<bool, Memory>
-    requires live { IsLive ctx.now (IRNode.Operation (O.pointer op.now)) }
-    requires layout { O.has_edges_layout op.now ctx.now }
-    ensures { IfOk result (λ b. IsTrue b ↔ Reach ctx.now (O.edges op.now ctx.now) region region) }
-{
-    op.is_repetitive_region(alloc, ctx, region)
-}

@@ -1,10 +1,8 @@
 //! Laws of the words in which reading is told: each function does nothing, and its contract is the law.
-ghost use Rattle.std.specs.Prelude.{◌≡◌, ◌↔◌, ◌∷◌, ℕ, List, Ok};
+ghost use Rattle.std.specs.Prelude.{◌≡◌, ◌∷◌, ℕ, List};
 ghost use Rattle.plir_core.specs.declared.ptr.IRNode.{IRNode};
 ghost use Rattle.plir_attr_text.specs.TypeGrammar.{IsText};
-ghost use Rattle.plir_attr_text.specs.Wholes.{whole};
 ghost use Rattle.plir_read.specs.OpGrammar.{OpWithin};
-ghost use Rattle.plir_read.specs.OpReading.{op_at};
 ghost use Rattle.plir_read.specs.OpTerms.{OpTerm};
 ghost use Rattle.plir_read.specs.Slots.{tree_in_order, below_in_order};
 
@@ -16,12 +14,6 @@ use plir_data::OpSet;
 pub fn text_stands_for_one_operation()
     ensures { (m n : ℕ) (bytes : List ℕ) (v w : OpTerm) → IsText (OpWithin m) bytes v → IsText (OpWithin n) bytes w →
         v ≡ w }
-{}
-
-/// The reader's steps find an operation in a whole text exactly where the text stands for it, as it is written. So a
-/// text in which they meet a fault stands for no operation.
-pub fn text_is_read_as_its_operation()
-    ensures { (n : ℕ) (text : List ℕ) (w : OpTerm) → (whole (op_at n) text ≡ Ok w) ↔ IsText (OpWithin n) text w }
 {}
 
 /// In the order of a text the root of a tree comes first, and behind it come the trees of its children: no level is

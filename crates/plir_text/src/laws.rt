@@ -1,15 +1,11 @@
 //! The laws of texts: what is printed is read back, a text stands for one thing, and no text leaves out what it is of.
 
 pub use plir_attr_text::laws::{
-    attr_is_read_back, text_is_read_as_its_attribute, text_is_read_as_its_type,
-    text_stands_for_its_attribute, text_stands_for_one_attribute, text_stands_for_one_type,
-    type_in_a_text_is_held_by_its_attribute, type_in_a_text_is_part_of_its_type,
-    written_type_has_one_handle,
+    attr_is_read_back, text_stands_for_its_attribute, text_stands_for_one_attribute,
+    text_stands_for_one_type, written_type_has_one_handle,
 };
 pub use plir_print::laws::texts_leave_out_no_level;
-pub use plir_read::laws::{
-    root_comes_first, text_is_read_as_its_operation, text_stands_for_one_operation,
-};
+pub use plir_read::laws::{root_comes_first, text_stands_for_one_operation};
 pub use plir_roundtrip::laws::{
     new_modules_can_be_read_back, op_is_read_back, text_stands_for_its_operation,
 };

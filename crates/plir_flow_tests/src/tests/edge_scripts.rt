@@ -66,8 +66,6 @@ fn edges_are_listed_and_followed_where_memory_is_refused(rt: HostRuntime) -> Res
         edges o1 reachable r0 | parent r0 o1/0>b0.0 o1/0; o2 r1 o2/0>b1.0 o1/0; o3 r1 o3/0>b1.0 -; o3 after o3/0>o1.0 o3/0 => r1
         edges o1 repetitive r0 | parent r0 o1/0>b0.0 o1/0; o2 r1 o2/0>b1.0 o1/0; o3 r1 o3/0>b1.0 -; o3 after o3/0>o1.0 o3/0 => no
         edges o1 repetitive r1 | parent r0 o1/0>b0.0 o1/0; o2 r1 o2/0>b1.0 o1/0; o3 r1 o3/0>b1.0 -; o3 after o3/0>o1.0 o3/0 => yes
-        edges o1 cycle r0 | parent r0 o1/0>b0.0 o1/0; o2 r1 o2/0>b1.0 o1/0; o3 r1 o3/0>b1.0 -; o3 after o3/0>o1.0 o3/0 => no
-        edges o1 cycle r1 | parent r0 o1/0>b0.0 o1/0; o2 r1 o2/0>b1.0 o1/0; o3 r1 o3/0>b1.0 -; o3 after o3/0>o1.0 o3/0 => yes
         edges o1 reachable r2 | parent r0 o1/0>b0.0 o1/0; o2 r1 o2/0>b1.0 o1/0; o3 r1 o3/0>b1.0 -; o3 after o3/0>o1.0 o3/0
         edges o1 successors r0 | parent r0 o1/0>b0.0 o1/0; o2 r1 o2/0>b1.0 o1/0; o3 r1 o3/0>b1.0 -; o3 after o3/0>o1.0 o3/0 => r1
         edges o1 successors r1 | parent r0 o1/0>b0.0 o1/0; o2 r1 o2/0>b1.0 o1/0; o3 r1 o3/0>b1.0 -; o3 after o3/0>o1.0 o3/0 => r1

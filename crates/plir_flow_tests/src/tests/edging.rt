@@ -6,7 +6,7 @@ use super::edge_reading::{point_of, region_of, successor_of};
 use super::grouping::{put_values, put_verdict};
 use plir_core::{Context, Ptr, Region, Use, Value};
 use plir_data::OpSet;
-use plir_flow::{RegionBranchOpInterface, RegionBranchPoint, RegionEdge, RegionSuccessor, laws};
+use plir_flow::{RegionBranchOpInterface, RegionBranchPoint, RegionEdge, RegionSuccessor};
 use plir_scripts::{Answer, Line, Made, Stop, split_word};
 use std::alloc::Global;
 
@@ -86,7 +86,7 @@ pub fn ask_edges<D: OpSet, O: RegionBranchOpInterface<D>>(
     }
     let (name, _) = split_word(line.tail);
     match question {
-        "reachable" | "reached" | "repetitive" | "cycle" | "successors" | "reads" => {
+        "reachable" | "reached" | "repetitive" | "successors" | "reads" => {
             ask_region(alloc, ctx, made, answer, op, question, name)
         }
         "flows" | "incoming" => ask_flows(alloc, ctx, made, answer, op, question, name),
@@ -112,7 +112,6 @@ fn ask_region<D: OpSet, O: RegionBranchOpInterface<D>>(
         "reached" => answer.put_number(op.reachable_regions(alloc, ctx, region)?.len()),
         "reachable" => put_regions(made, answer, &op.reachable_regions(alloc, ctx, region)?),
         "repetitive" => answer.put_truth(op.is_repetitive_region(alloc, ctx, region)?),
-        "cycle" => answer.put_truth(laws::repetitive_is_on_a_cycle(alloc, ctx, op, region)?),
         "successors" => put_regions(made, answer, &op.successor_regions(alloc, ctx, region)?),
         _ => put_uses(
             made,
