@@ -29,20 +29,24 @@ abbrev pub past : (ℕ → Bool) → List ℕ → List ℕ
 past p [] = []
 past p (b ∷ bs) = if p b then past p bs else b ∷ bs
 
--- What a word goes on with: letters, digits and `_`, and one `.` among them, since an id has one.
-abbrev pub word_front : List ℕ → List ℕ
-word_front [] = []
-word_front (b ∷ bs) = if is_in_name b then b ∷ word_front bs else if nat_eq b 46 then b ∷ front is_in_name bs else []
-
--- what stands behind that
-abbrev pub word_past : List ℕ → List ℕ
-word_past [] = []
-word_past (b ∷ bs) = if is_in_name b then word_past bs else if nat_eq b 46 then past is_in_name bs else b ∷ bs
-
 -- the first byte passes
 abbrev pub begins : (ℕ → Bool) → List ℕ → Bool
 begins p [] = false
 begins p (b ∷ bs) = p b
+
+-- a point, and a name behind it
+abbrev pub is_point : ℕ → List ℕ → Bool
+is_point b bs = nat_eq b 46 && begins is_letter bs
+
+-- What a word goes on with: letters, digits and `_`, and one `.` among them with a name behind it, as an id has it.
+abbrev pub word_front : List ℕ → List ℕ
+word_front [] = []
+word_front (b ∷ bs) = if is_in_name b then b ∷ word_front bs else if is_point b bs then b ∷ front is_in_name bs else []
+
+-- what stands behind that
+abbrev pub word_past : List ℕ → List ℕ
+word_past [] = []
+word_past (b ∷ bs) = if is_in_name b then word_past bs else if is_point b bs then past is_in_name bs else b ∷ bs
 
 -- what stands behind the first byte
 abbrev pub tail_of : List ℕ → List ℕ

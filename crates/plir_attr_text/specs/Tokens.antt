@@ -27,7 +27,7 @@ abbrev pub number_of : List ℕ → ℕ
 number_of bytes = value_after 0 (front is_digit bytes)
 
 -- The token that begins at the first byte, and what stands behind it. A string begins as the sign `"`. A second point
--- in a word is a sign behind it.
+-- in a word is a sign behind it, and so is one with no name behind it.
 abbrev pub token_at : List ℕ → Result (Token × List ℕ) Fault
 token_at [] = Err Unexpected
 token_at (b ∷ bs) =

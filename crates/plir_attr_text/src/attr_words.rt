@@ -32,9 +32,9 @@ pub enum AttrKind {
     GivenNames,
 }
 
-// What the id of an attribute names, with this many bytes left where it stands.
+// What the id of an attribute names, with `rest` behind it and this many bytes left where it stands.
 #[tactic(auto, unfolding(crate::specs::AttrReading::attr_kind))]
-fn attr_kind(word: &[u8], left: usize) -> Result<AttrKind, Stop>
+fn attr_kind(word: &[u8], rest: &[u8], left: usize) -> Result<AttrKind, Stop>
     ensures { Gives (λ k. k) result (attr_kind word.now) }
 {
     if word == b"builtin.identifier".as_slice() {
@@ -58,7 +58,7 @@ fn attr_kind(word: &[u8], left: usize) -> Result<AttrKind, Stop>
     } else if word == b"builtin.given_names".as_slice() {
         Ok(AttrKind::GivenNames)
     } else {
-        Err(Stop::At(Fault::Unexpected, unread_id_at(word, left)))
+        Err(Stop::At(Fault::Unexpected, unread_id_at(word, rest, left)))
     }
 }
 
@@ -68,7 +68,7 @@ pub fn read_attr_head(bytes: &[u8]) -> Result<(AttrKind, &[u8]), Stop>
     ensures { Gives (λ x. (x.0, x.1.now)) result (attr_head bytes.now) }
 {
     let (word, rest) = read_word(bytes)?;
-    let kind = attr_kind(word, left_at(bytes))?;
+    let kind = attr_kind(word, rest, left_at(bytes))?;
     Ok((kind, rest))
 }
 

@@ -78,14 +78,15 @@ fn past_name(bytes: &[u8]) -> &[u8]
     rest
 }
 
-// What stands behind a word: an id has one point, so a second one is no part of it.
+// What stands behind a word: an id has one point and a name behind it, so another point is no part of a word.
 fn past_word(bytes: &[u8]) -> &[u8]
     ensures { result.now ≡ word_past bytes.now }
 {
     let mut rest = bytes;
     while let [byte, tail @ ..] = rest {
         if !is_in_name(*byte) {
-            return if *byte == b'.' { past_name(tail) } else { rest };
+            let goes_on = *byte == b'.' && begins_letter(tail);
+            return if goes_on { past_name(tail) } else { rest };
         }
         rest = tail;
     }
@@ -145,18 +146,16 @@ pub fn left_at(bytes: &[u8]) -> usize {
     past_blank(bytes).len()
 }
 
-// Whether a point stands in these bytes, and something behind it.
-fn is_whole_id(bytes: &[u8]) -> bool {
-    match bytes {
-        [.., b'.'] => false,
-        _ => bytes.contains(&b'.'),
-    }
+// Whether a text ends at a point, or before one.
+pub fn ends_at_point(rest: &[u8]) -> bool {
+    rest.is_empty() || rest == b".".as_slice()
 }
 
-// How many bytes are left where a word has its fault that is no id which may come there, with `left` where it stands:
-// where the text is cut in the id the fault stands at the text's end, else at the word's first character.
-pub fn unread_id_at(word: &[u8], left: usize) -> usize {
-    if word.len() == left && !is_whole_id(word) {
+// How many bytes are left where a word has its fault that is no id which may come there, with `rest` behind it and
+// `left` where it stands: where the text is cut in the id the fault stands at the text's end, else at the word's first
+// character.
+pub fn unread_id_at(word: &[u8], rest: &[u8], left: usize) -> usize {
+    if ends_at_point(rest) && !word.contains(&b'.') {
         0
     } else {
         left

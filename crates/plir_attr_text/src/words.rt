@@ -129,9 +129,9 @@ pub fn read_separator(bytes: &[u8], close: u8) -> Result<(bool, &[u8]), Stop>
     }
 }
 
-// What the id of a type names, with this many bytes left where it stands.
+// What the id of a type names, with `rest` behind it and this many bytes left where it stands.
 #[tactic(auto, unfolding(crate::specs::TypeReading::type_kind))]
-fn type_kind(word: &[u8], left: usize) -> Result<TypeKind, Stop>
+fn type_kind(word: &[u8], rest: &[u8], left: usize) -> Result<TypeKind, Stop>
     ensures { Gives (λ k. k) result (type_kind word.now) }
 {
     if word == b"builtin.integer".as_slice() {
@@ -141,7 +141,7 @@ fn type_kind(word: &[u8], left: usize) -> Result<TypeKind, Stop>
     } else if word == b"builtin.unit".as_slice() {
         Ok(TypeKind::Unit)
     } else {
-        Err(Stop::At(Fault::Unexpected, unread_id_at(word, left)))
+        Err(Stop::At(Fault::Unexpected, unread_id_at(word, rest, left)))
     }
 }
 
@@ -151,7 +151,7 @@ pub fn read_type_head(bytes: &[u8]) -> Result<(TypeKind, &[u8]), Stop>
     ensures { Gives (λ x. (x.0, x.1.now)) result (type_head bytes.now) }
 {
     let (word, rest) = read_word(bytes)?;
-    let kind = type_kind(word, left_at(bytes))?;
+    let kind = type_kind(word, rest, left_at(bytes))?;
     Ok((kind, rest))
 }
 

@@ -6,6 +6,9 @@ use std::alloc::{AllocError, Global};
 /// The name of the argument that is the file.
 pub const FILE: &str = "FILE";
 
+/// The version of pliron that names and behaviour are taken from.
+const VERSION: &str = "0.20.0";
+
 const VERIFY: &str = "verify";
 
 const ERASE_NAMES: &str = "erase-names";
@@ -86,6 +89,7 @@ pub fn command<'a>(alloc: Global) -> Result<Command<'a>, AllocError> {
     );
     let verify = flag(alloc, VERIFY, "Verify behind each pass too");
     let command = Command::new(alloc, "plir_opt")
+        .version(VERSION)
         .about(ABOUT)
         .after_help(AFTER)
         .arg(file)?

@@ -319,6 +319,19 @@ fn passes_run_in_the_order_of_the_command_line(rt: HostRuntime) -> Result<(), Fa
     )
 }
 
+#[test]
+fn the_version_is_that_of_pliron(rt: HostRuntime) -> Result<(), Fail> {
+    let alloc = rt.alloc();
+    match command(alloc)?.try_get_matches_from(["plir_opt", "--version"].as_slice()) {
+        Ok(_) => return Err(Fail::from("the command line is not refused")),
+        Err(error) => {
+            let told = format!(in alloc; "{error}")?;
+            assert_eq!(&rt; told.as_str(), "plir_opt 0.20.0\n");
+        }
+    }
+    Ok(())
+}
+
 /// A command line is refused with the status 2.
 fn expect_wrong(rt: &impl Abort, alloc: Global, words: &[&str]) -> Result<(), Fail> {
     match command(alloc)?.try_get_matches_from(words) {

@@ -39,9 +39,9 @@ pub enum HeadData {
     Func(Identifier, TypeHandle),
 }
 
-// What the id of an operation names, with this many bytes left where it stands.
+// What the id of an operation names, with `rest` behind it and this many bytes left where it stands.
 #[tactic(auto, unfolding(crate::specs::OpReading::op_kind))]
-fn op_kind(word: &[u8], left: usize) -> Result<HeadKind, Stop>
+fn op_kind(word: &[u8], rest: &[u8], left: usize) -> Result<HeadKind, Stop>
     ensures { Gives (λ k. k) result (op_kind word.now) }
 {
     if word == b"builtin.module".as_slice() {
@@ -53,7 +53,7 @@ fn op_kind(word: &[u8], left: usize) -> Result<HeadKind, Stop>
     } else if word == b"builtin.forward_ref".as_slice() {
         Ok(HeadKind::ForwardRef)
     } else {
-        Err(Stop::At(Fault::Unexpected, unread_id_at(word, left)))
+        Err(Stop::At(Fault::Unexpected, unread_id_at(word, rest, left)))
     }
 }
 
@@ -63,7 +63,7 @@ pub fn read_op_id(bytes: &[u8]) -> Result<(HeadKind, &[u8]), Stop>
     ensures { Gives (λ x. (x.0, x.1.now)) result (op_id bytes.now) }
 {
     let (word, rest) = read_word(bytes)?;
-    let kind = op_kind(word, left_at(bytes))?;
+    let kind = op_kind(word, rest, left_at(bytes))?;
     Ok((kind, rest))
 }
 

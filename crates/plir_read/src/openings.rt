@@ -9,7 +9,7 @@ use crate::names::{Suffix, given_name};
 use plir_attr_text::Fault;
 use plir_attr_text::attr_words::read_name;
 use plir_attr_text::fault::Stop;
-use plir_attr_text::tokens::left_at;
+use plir_attr_text::tokens::{ends_at_point, left_at};
 use plir_attr_text::words::read_separator;
 use plir_data::Identifier;
 use std::alloc::Global;
@@ -47,10 +47,19 @@ fn read_names_before(alloc: Global, bytes: &[u8]) -> Result<(Vec<Option<Identifi
     ensures { ReadsFirst (λ x ws. x.items ≡ result_names ws) result (names_before bytes.now) }
 {
     match read_name(alloc, bytes) {
-        Ok(_) => read_names(alloc, bytes),
+        Ok((_, after)) => match read_names(alloc, bytes) {
+            Err(Stop::At(fault, left)) => Err(Stop::At(fault, unread_name_at(after, left))),
+            answer => answer,
+        },
         Err(Stop::At(_, _)) => Ok((Vec::new(alloc), bytes)),
         Err(stop) => Err(stop),
     }
+}
+
+// How many bytes are left where names have their fault, with `after` behind the first and `left` where it was met: where
+// the text is cut behind that one it may be cut in an id, and the fault stands at the text's end.
+fn unread_name_at(after: &[u8], left: usize) -> usize {
+    if ends_at_point(after) { 0 } else { left }
 }
 
 // Names of results, and the id.

@@ -3,7 +3,7 @@ use Rattle.std.proofs.Common.{◌≡◌, ℕ, suc, ◌+◌, ◌-◌, ◌*◌, �
 use Rattle.std.proofs.Common.{length, get_or, take, drop, Ok, refl, sym, ap, subst, ◌∙◌, length-append, arith}
 use Rattle.std.proofs.lemmas.List.{take_all}
 use Rattle.plir_data.specs.Identifier.{is_letter}
-use Rattle.plir_attr_text.specs.Bytes.{is_in_name, front, past, word_front, word_past, value_after, hex_value}
+use Rattle.plir_attr_text.specs.Bytes.{is_in_name, is_point, front, past, word_front, word_past, value_after, hex_value}
 use Rattle.plir_attr_text.specs.Bytes.{hex_after}
 use Rattle.plir_attr_text.specs.Tokens.{word, token_at}
 use Rattle.plir_attr_text.specs.laws.StepLaws.{done}
@@ -68,7 +68,7 @@ front-joined p (b ∷ bs) = at (p b) (front p bs) (past p bs) (front-joined p bs
 
 word-joined : (bytes : List ℕ) → word_front bytes ++ word_past bytes ≡ bytes
 word-joined [] = refl
-word-joined (b ∷ bs) = at (is_in_name b) (nat_eq b 46) (word_front bs) (word_past bs) (front is_in_name bs)
+word-joined (b ∷ bs) = at (is_in_name b) (is_point b bs) (word_front bs) (word_past bs) (front is_in_name bs)
     (past is_in_name bs) (word-joined bs) (front-joined is_in_name bs)
   where
     at : (t u : Bool) (ws vs xs ys : List ℕ) → ws ++ vs ≡ bs → xs ++ ys ≡ bs → cond t (b ∷ ws)

@@ -14,8 +14,8 @@ use Rattle.plir_data.specs.TypeText.{letters, integer_text}
 use Rattle.plir_data.specs.declared.types.Signedness.{Signedness}
 use Rattle.plir_data.specs.declared.types.Signedness.TheVariants.{Signed, Unsigned, Signless}
 use Rattle.plir_attr_text.specs.AttrGrammar.{SpellsValue}
-use Rattle.plir_attr_text.specs.Bytes.{is_blank, is_in_name, is_in_word, front, past, word_front, word_past, all_pass}
-use Rattle.plir_attr_text.specs.Bytes.{is_digits, value_after}
+use Rattle.plir_attr_text.specs.Bytes.{is_blank, is_in_name, is_in_word, is_point, front, past, word_front, word_past}
+use Rattle.plir_attr_text.specs.Bytes.{all_pass, begins, is_digits, value_after}
 use Rattle.plir_attr_text.specs.Tokens.{Token, word, digits, signed, sign, number_of, token_at, look, Begins}
 use Rattle.plir_attr_text.specs.TypeGrammar.{SpellsInteger}
 use Rattle.plir_attr_text.specs.laws.StepLaws.{done}
@@ -48,10 +48,10 @@ digit_no_blank b h = grind (arith, nat_tests)
 
 -- ---- words
 
--- letters, digits and `_`, and one `.` among them or none
+-- letters, digits and `_`, and one `.` among them with a name behind it, or none
 abbrev pub has_one_point : List ℕ → Bool
 has_one_point [] = true
-has_one_point (b ∷ bs) = if is_in_name b then has_one_point bs else (nat_eq b 46 && all_pass is_in_name bs)
+has_one_point (b ∷ bs) = if is_in_name b then has_one_point bs else (is_point b bs && all_pass is_in_name bs)
 
 -- a word that begins with a letter
 abbrev pub is_word : List ℕ → Bool
@@ -82,21 +82,29 @@ word_ended (b ∷ bs) e =
     let name : is_in_name b ≡ false = name_ends (b ∷ bs) e in
     (rw (name, point_ends b e) refl, rw (name, point_ends b e) refl)
 
+begins-on : (w rest : List ℕ) → begins is_letter w ≡ true → begins is_letter (w ++ rest) ≡ true
+begins-on [] rest h = absurd cc
+begins-on (b ∷ w) rest h = h
+
 word-run : (w rest : List ℕ) → has_one_point w ≡ true → Ends is_in_word rest
     → (word_front (w ++ rest) ≡ w) × (word_past (w ++ rest) ≡ rest)
 word-run [] rest h e = word_ended rest e
-word-run (b ∷ w) rest h e = at (is_in_name b) (nat_eq b 46) (λ k. word-run w rest k e) h
+word-run (b ∷ w) rest h e =
+    at (is_in_name b) (nat_eq b 46) (begins is_letter w) (begins is_letter (w ++ rest)) (λ k. begins-on w rest k)
+    (λ k. word-run w rest k e) h
   where
-    at : (t u : Bool) → (has_one_point w ≡ true → (word_front (w ++ rest) ≡ w) × (word_past (w ++ rest) ≡ rest))
-        → cond t (has_one_point w) (u && all_pass is_in_name w) ≡ true
-        → (cond t (b ∷ word_front (w ++ rest)) (cond u (b ∷ front is_in_name (w ++ rest)) []) ≡ b ∷
-        w) × (cond t (word_past (w ++ rest)) (cond u (past is_in_name (w ++ rest)) (b ∷ (w ++ rest))) ≡ rest)
-    at true u rec k = let r = rec k in (ap (λ (l : List ℕ). b ∷ l) r.0, r.1)
-    at false true rec k = (
+    at : (t u v v' : Bool) → (v ≡ true → v' ≡ true)
+        → (has_one_point w ≡ true → (word_front (w ++ rest) ≡ w) × (word_past (w ++ rest) ≡ rest))
+        → cond t (has_one_point w) ((u && v) && all_pass is_in_name w) ≡ true
+        → (cond t (b ∷ word_front (w ++ rest)) (cond (u && v') (b ∷ front is_in_name (w ++ rest)) []) ≡ b ∷
+        w) × (cond t (word_past (w ++ rest)) (cond (u && v') (past is_in_name (w ++ rest)) (b ∷ (w ++ rest))) ≡ rest)
+    at true u v v' on rec k = let r = rec k in (ap (λ (l : List ℕ). b ∷ l) r.0, r.1)
+    at false true true v' on rec k = rw (on refl) (
       ap (λ (l : List ℕ). b ∷ l) (front-run is_in_name w rest k (name_ends rest e)),
       past-run is_in_name w rest k (name_ends rest e),
     )
-    at false false rec k = absurd cc
+    at false true false v' on rec k = absurd cc
+    at false false v v' on rec k = absurd cc
 
 pub look-word : (w rest : List ℕ) → is_word w ≡ true → Ends is_in_word rest → look (w ++ rest) ≡ Ok (word w, rest)
 unfolding look

@@ -208,6 +208,8 @@ fn test_integer_attribute_signs(rt: HostRuntime) -> Result<(), Mismatch> {
 #[test]
 fn integers_that_are_refused(rt: HostRuntime) -> Result<(), Mismatch> {
     let script = "
+        attr builtin.bool true. => Unexpected at 1:18
+        attr builtin.bool. true => Unexpected at 1:13
         attr builtin.integer <256: ui8> => IntegerOutOfRange at 1:18
         attr builtin.integer <-129: ui8> => IntegerOutOfRange at 1:18
         attr builtin.integer <2: i1> => IntegerOutOfRange at 1:18

@@ -83,6 +83,11 @@ fn texts_that_stand_for_no_operation(rt: HostRuntime) -> Result<(), Mismatch> {
         read x => Unexpected at 1:2
         read a = b => Unexpected at 1:6
         read builtin. => Unexpected at 1:9
+        read a, b. = builtin.forward_ref => Unexpected at 1:5
+        read a. = builtin.forward_ref => Unexpected at 1:2
+        read a, b. => Unexpected at 1:5
+        read builtin.module @m. {} => Unexpected at 1:18
+        read builtin. module @m {} => Unexpected at 1:8
         read builtin.module.x @m {} => Unexpected at 1:15
         read a , b , c = builtin.module. @m {} => NResultsVerifyErr(0, 3) at 1:13
         read a.b.c = builtin.module @m {} => Unexpected at 1:1
