@@ -18,6 +18,7 @@ pub mod EditLists
 pub mod Brought
 pub mod GivenOut
 pub mod NewNodes
+pub mod StayedTables
 pub mod Seeking
 pub mod OperationCalls
 pub mod PassedOn

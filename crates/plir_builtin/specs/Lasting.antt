@@ -1,11 +1,16 @@
--- What agreement lasts through: nodes and types that are made.
-use Rattle.std.specs.Prelude.{◌≡◌, ℕ, Bool, true, List}
+-- What agreement lasts through: nodes and types that are made, and changes that leave tables as they were.
+use Rattle.std.specs.Prelude.{◌≡◌, ◌⊎◌, ℕ, Bool, true, List, Some, IsSome}
+use Rattle.std.specs.FinMap.{get}
+use Rattle.plir_core.specs.declared.ptr.Ptr.{Ptr}
+use Rattle.plir_core.specs.declared.ptr.Operation.{Operation as OperationKind}
 use Rattle.plir_core.specs.declared.ptr.IRNode.{IRNode}
+use Rattle.plir_core.specs.declared.ptr.IRNode.TheVariants.{Operation}
 use Rattle.plir_core.specs.Changes.{SameLive}
 use Rattle.plir_core.specs.Made.{IsMade}
-use Rattle.plir_core.specs.ContextView.{ContextView, given_out}
+use Rattle.plir_core.specs.ContextView.{ContextView, IsLive, given_out, kind_in, op_at}
 use Rattle.plir_core.specs.WellFormed.{IsWellFormed}
-use Rattle.plir_builtin.specs.Table.{Tables}
+use Rattle.plir_builtin.specs.Symbols.{is_table_kind, body, symbols}
+use Rattle.plir_builtin.specs.Table.{Table, Tables}
 use Rattle.plir_builtin.specs.Agree.{AllAgree, AreGivenOut}
 
 module _ {K A T : Type 0} (own_symbol own_table : K → Bool) (own_handles : A → List ℕ) (t : ContextView K A T) where
@@ -30,3 +35,23 @@ module _ {K A T : Type 0} (own_symbol own_table : K → Bool) (own_handles : A �
 abbrev pub StaysGivenOut : {K A T : Type 0} → ContextView K A T → Type 0
 StaysGivenOut {K} {A} {T} t = (s : ContextView K A T) (c : Tables) →
     ((n : IRNode) → given_out s n ≡ true → given_out t n ≡ true) → AreGivenOut s c → AreGivenOut t c
+
+module _ {K A T : Type 0} (own_symbol own_table : K → Bool) (s t : ContextView K A T) where
+  -- From s to t an operation has stayed a table: it is of a table kind if it was, has a body if it had one, and the same
+  -- symbols stand in it in their order, with the names that they had.
+  pub record StaysTable (p : Ptr OperationKind) : Type 0 where
+    pub kind : is_table_kind own_table (kind_in (op_at s p)) ≡ true →
+        is_table_kind own_table (kind_in (op_at t p)) ≡ true
+    pub body : IsSome (body s p) → IsSome (body t p)
+    pub symbols : symbols own_symbol t p ≡ symbols own_symbol s p
+
+  -- Each table that is cached for an operation which is live in t, or is its, was cached so for a live one in s, and its
+  -- operation has stayed a table.
+  abbrev pub StayTables : Tables → Type 0
+  StayTables c = (p : Ptr OperationKind) (tab : Table) → get c p ≡ Some tab →
+      IsLive t (Operation tab.op) ⊎ IsLive t (Operation p) →
+      (IsLive s (Operation tab.op) ⊎ IsLive s (Operation p)) × StaysTable tab.op
+
+  -- where all cached tables have stayed tables, those that agreed agree
+  abbrev pub LastsOverTables : Type 0
+  LastsOverTables = (c : Tables) → StayTables c → AllAgree own_symbol own_table s c → AllAgree own_symbol own_table t c

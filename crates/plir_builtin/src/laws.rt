@@ -4,7 +4,9 @@ ghost use Rattle.plir_iface.specs.Counts.{HasNOpds, HasNRegions, HasNResults};
 ghost use Rattle.plir_iface.specs.Regions.{HasSingleBlocks};
 ghost use Rattle.plir_builtin.specs.Agree.{AllAgree, AreGivenOut};
 ghost use Rattle.plir_builtin.specs.BuiltinOps.{HasConstantValue, HasFuncType};
-ghost use Rattle.plir_builtin.specs.Lasting.{LastsOverNodes, LastsOverRefusals, LastsOverTypes, StaysGivenOut};
+ghost use Rattle.plir_builtin.specs.Lasting.{LastsOverNodes, LastsOverRefusals, LastsOverTables, LastsOverTypes};
+ghost use Rattle.plir_builtin.specs.Lasting.{StaysGivenOut};
+ghost use Rattle.plir_core.specs.ContextView.{ContextView};
 ghost use Rattle.plir_builtin.specs.OpRules.{HasConstantRules, HasFuncRules, HasModuleRules};
 ghost use Rattle.plir_builtin.specs.Symbols.{HasSymbolName, IsGood};
 
@@ -36,6 +38,12 @@ pub fn new_nodes_keep_agreement<D: OpSet>(ctx: &Context<D>)
     contexts_stand::<D>();
     ctx.stands();
 }
+
+/// Tables agree as they did over each change that leaves their operations the tables that they were: what else such a
+/// change did, below symbols or beside them, is of no matter. So a collection may serve before and after it.
+pub fn stayed_tables_agree<D: OpSet>()
+    ensures { (s t : ContextView D.Kind D.Attr D.Ty) → LastsOverTables D.is_symbol D.is_symbol_table s t }
+{}
 
 /// A module that `verify_interfaces` accepts is what each call of its interfaces asks: its region and its body may be
 /// taken, its symbols looked up, and its name read.
