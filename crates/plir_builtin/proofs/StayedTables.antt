@@ -1,6 +1,7 @@
 -- Tables whose operations have stayed tables agree as they did.
-use Rattle.std.proofs.Common.{◌≡◌, Bool, List, refl, sym, ap, subst, ◌∙◌}
-use Rattle.plir_core.specs.ContextView.{ContextView}
+use Rattle.std.proofs.Common.{◌≡◌, Bool, inl, inr, sym, ap, subst, ◌∙◌}
+use Rattle.plir_core.specs.declared.ptr.IRNode.TheVariants.{Operation}
+use Rattle.plir_core.specs.ContextView.{ContextView, IsLive}
 use Rattle.plir_builtin.specs.Table.{Table, Tables}
 use Rattle.plir_builtin.specs.Symbols.{AllNamed, NamesDiffer, IsGood, find_named}
 use Rattle.plir_builtin.specs.Agree.{Agrees, AllAgree}
@@ -23,4 +24,6 @@ module _ {K A T : Type 0} (own own_table : K → Bool) (s t : ContextView K A T)
   stayed-agree c stay all p tab has live =
       (let was = stay p tab has live in
       let b = all p tab has was.0 in
-      (b.0, stayed-agrees tab was.1 b.1))
+      let alive : IsLive s (Operation tab.op) =
+      elim was.0 [ inl l ↦ l | inr l ↦ subst (λ z. IsLive s (Operation z)) (sym b.0) l ] in
+      (b.0, stayed-agrees tab (was.1 alive) b.1))

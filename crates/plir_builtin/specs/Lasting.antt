@@ -50,7 +50,7 @@ module _ {K A T : Type 0} (own_symbol own_table : K → Bool) (s t : ContextView
   abbrev pub StayTables : Tables → Type 0
   StayTables c = (p : Ptr OperationKind) (tab : Table) → get c p ≡ Some tab →
       IsLive t (Operation tab.op) ⊎ IsLive t (Operation p) →
-      (IsLive s (Operation tab.op) ⊎ IsLive s (Operation p)) × StaysTable tab.op
+      (IsLive s (Operation tab.op) ⊎ IsLive s (Operation p)) × (IsLive s (Operation tab.op) → StaysTable tab.op)
 
   -- where all cached tables have stayed tables, those that agreed agree
   abbrev pub LastsOverTables : Type 0

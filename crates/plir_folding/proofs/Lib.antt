@@ -6,3 +6,4 @@ pub mod Below
 pub mod Block
 pub mod Walking
 pub mod Room
+pub mod StayedTables

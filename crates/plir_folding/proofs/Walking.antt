@@ -39,7 +39,7 @@ use Rattle.plir_folding.proofs.Folds.{folded-none, folded-then, tells-then, tell
 use Rattle.plir_folding.proofs.Below.{below-none}
 
 -- among images that are no operations there is no operation
-no-op-image : (b : Bool) (is : List ℕ) (f : ℕ → IRNode) → ((i : ℕ) (p : Ptr OperationKind) → f i ≡ Operation p → ⊥)
+pub no-op-image : (b : Bool) (is : List ℕ) (f : ℕ → IRNode) → ((i : ℕ) (p : Ptr OperationKind) → f i ≡ Operation p → ⊥)
     → (p : Ptr OperationKind) → Has (cond b (map f is) []) (Operation p) → ⊥
 no-op-image true is f each p h = (let r = Has-map f is (Operation p) h in each r.0 p r.1.1)
 no-op-image false is f each p h = h

@@ -3,6 +3,7 @@
 
 mod fold_set;
 mod folding;
+pub mod laws;
 mod reading;
 mod sums;
 
