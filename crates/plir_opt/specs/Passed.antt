@@ -28,7 +28,9 @@ module _ {K A T : Type 0} (effect ends own_symbol own_table : K → Bool) (priva
       ((ms : List (ContextView K A T)) × AreSweeps own_symbol private own_table names p s ms t) ×
       HasNoDeadSymbol own_symbol private own_table names t p
 
-  -- From s to t passes have gone over the operation p, one after another.
-  abbrev pub ArePassed : List Pass → ContextView K A T → ContextView K A T → Type 0
-  ArePassed [] s t = t ≡ s
-  ArePassed (x ∷ xs) s t = (u : ContextView K A T) × IsPassed x s u × ArePassed xs u t
+  -- From s to t passes have gone over the operation p, one after another, and behind each `stands` holds.
+  abbrev pub ArePassed : (stands : ContextView K A T → Type 0) → List Pass → ContextView K A T → ContextView K A T
+      → Type 0
+  ArePassed stands [] s t = t ≡ s
+  ArePassed stands (x ∷ xs) s t =
+      (u : ContextView K A T) × IsPassed x s u × stands u × ArePassed stands xs u t

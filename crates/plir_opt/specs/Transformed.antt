@@ -1,5 +1,5 @@
 -- What is printed for a text.
-use Rattle.std.specs.Prelude.{◌≡◌, ℕ, Bool, List, ◌++◌, codes}
+use Rattle.std.specs.Prelude.{◌≡◌, ℕ, Bool, true, List, ◌++◌, codes}
 use Rattle.plir_data.specs.declared.op_set.OpSet as op_set
 use Rattle.plir_core.specs.declared.ptr.Ptr.{Ptr}
 use Rattle.plir_core.specs.declared.ptr.Operation.{Operation as OperationKind}
@@ -25,14 +25,17 @@ module _ {D K A T E : Type 0} (o : op_set.Ghosts D K A T E) (names : OpView K A 
   IsPrintedAs _ t = Unit {0}
 
 -- A text stands for an operation, which with all below it has the rules of its kind; the passes have gone over it, one
--- after another; and what is printed is what is asked for of the operation then.
+-- after another, and behind each all there have the rules of their kinds again, if that is to be verified; and what is
+-- printed is what is asked for of the operation then.
 pub record IsTransformed {D K A T E : Type 0} (o : op_set.Ghosts D K A T E) (effect : K → Bool)
     (uses_hold : ContextView K A T → Ptr OperationKind → Type 0) (private : OpView K A → Bool)
-    (names : OpView K A → List (List ℕ)) (passes : List Pass) (form : Form) (text printed : List ℕ) : Type 0 where
+    (names : OpView K A → List (List ℕ)) (verify : Bool) (passes : List Pass) (form : Form)
+    (text printed : List ℕ) : Type 0 where
   pub root : Ptr OperationKind
   pub read : ContextView K A T
   pub left : ContextView K A T
   pub stands : StandsForOp 200 read text (Operation root)
   pub verified : IsVerified o uses_hold read root
-  pub passed : ArePassed effect o.is_terminator o.is_symbol o.is_symbol_table private names root passes read left
+  pub passed : ArePassed effect o.is_terminator o.is_symbol o.is_symbol_table private names root
+      (λ s. verify ≡ true → IsVerified o uses_hold s root) passes read left
   pub prints : IsPrintedAs o names left root form printed

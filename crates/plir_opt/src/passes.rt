@@ -25,7 +25,8 @@ fn erase_symbols<D: SymbolNames>(
     requires { IsLive ctx.old (AnyNode.Operation table) }
     ensures live { IsLive ctx.new (AnyNode.Operation table) }
     ensures swept { AreSwept D.is_symbol D.is_private ctx.old ctx.new }
-    ensures sweeps { (ms : _) × AreSweeps D.is_symbol D.is_private D.is_symbol_table D.names_used table ctx.old ms ctx.new }
+    ensures sweeps { (ms : _) × AreSweeps D.is_symbol D.is_private D.is_symbol_table D.names_used table ctx.old ms
+        ctx.new }
     ensures clean { OnOk result (HasNoDead D.is_symbol D.is_private D.is_symbol_table D.names_used ctx.new table) }
 {
     no_tables_agree(ctx);
@@ -46,8 +47,8 @@ pub fn run_pass<D: EffectSet + SymbolNames>(
 ) -> Result<(), SymbolTableErr>
     requires { IsLive ctx.old (AnyNode.Operation root) }
     ensures live { IsLive ctx.new (AnyNode.Operation root) }
-    ensures passed { OnOk result (IsPassed D.has_effect D.is_terminator D.is_symbol D.is_symbol_table D.is_private D.names_used root pass
-        ctx.old ctx.new) }
+    ensures passed { OnOk result (IsPassed D.has_effect D.is_terminator D.is_symbol D.is_symbol_table D.is_private
+        D.names_used root pass ctx.old ctx.new) }
 {
     lawful_changes::<D>();
     ctx.stands();

@@ -1,10 +1,11 @@
 //! From the bytes of a text to what is printed.
-ghost use Rattle.std.specs.Prelude.{◌≡◌, ◌++◌, codes, IfOk, OnOk, string_bytes};
+ghost use Rattle.std.specs.Prelude.{◌≡◌, ◌++◌, true, codes, IfOk, OnOk, string_bytes};
 ghost use Rattle.plir_core.specs.ContextView.{IsLive};
 ghost use Rattle.plir_core.specs.declared.ptr.IRNode.{IRNode as AnyNode};
 ghost use Rattle.plir_print.specs.OpText.{op_text};
 ghost use Rattle.plir_opt.specs.Passed.{ArePassed, IsPassed};
 ghost use Rattle.plir_opt.specs.Transformed.{IsTransformed, IsPrintedAs};
+ghost use Rattle.plir_opt.specs.Verified.{IsVerified};
 
 use crate::calls::draw_calls;
 use crate::choices::{Choices, Form, Pass};
@@ -34,7 +35,7 @@ pub fn transform<D: EffectSet + SymbolUserSet + SymbolNames>(
     bytes: &[u8],
 ) -> Result<String, Stop<D::Err>>
     ensures { IfOk result (λ t. IsTransformed D.OpSet D.has_effect D.uses_hold D.is_private D.names_used
-        choices.now.passes.items choices.now.form bytes.now (string_bytes t)) }
+        choices.now.verify choices.now.passes.items choices.now.form bytes.now (string_bytes t)) }
 {
     match str::from_utf8(bytes) {
         Ok(text) => transform_text::<D>(alloc, choices, text),
@@ -49,7 +50,7 @@ fn transform_text<D: EffectSet + SymbolUserSet + SymbolNames>(
     text: &str,
 ) -> Result<String, Stop<D::Err>>
     ensures { IfOk result (λ t. IsTransformed D.OpSet D.has_effect D.uses_hold D.is_private D.names_used
-        choices.now.passes.items choices.now.form text.now (string_bytes t)) }
+        choices.now.verify choices.now.passes.items choices.now.form text.now (string_bytes t)) }
 {
     let mut ctx = Context::<D>::new(alloc);
     let root = read_op(alloc, &mut ctx, text)?;
@@ -74,8 +75,8 @@ fn run_passes<D: EffectSet + SymbolUserSet + SymbolNames>(
 ) -> Result<(), Stop<D::Err>>
     requires { IsLive ctx.old (AnyNode.Operation root) }
     ensures live { IsLive ctx.new (AnyNode.Operation root) }
-    ensures passed { OnOk result (ArePassed D.has_effect D.is_terminator D.is_symbol D.is_symbol_table D.is_private D.names_used root
-        passes.now ctx.old ctx.new) }
+    ensures passed { OnOk result (ArePassed D.has_effect D.is_terminator D.is_symbol D.is_symbol_table D.is_private
+        D.names_used root (λ s. verify ≡ true → IsVerified D.OpSet D.uses_hold s root) passes.now ctx.old ctx.new) }
 {
     for pass in passes {
         run_one(alloc, verify, *pass, ctx, root)?;
@@ -93,8 +94,9 @@ fn run_one<D: EffectSet + SymbolUserSet + SymbolNames>(
 ) -> Result<(), Stop<D::Err>>
     requires { IsLive ctx.old (AnyNode.Operation root) }
     ensures live { IsLive ctx.new (AnyNode.Operation root) }
-    ensures passed { OnOk result (IsPassed D.has_effect D.is_terminator D.is_symbol D.is_symbol_table D.is_private D.names_used root pass
-        ctx.old ctx.new) }
+    ensures passed { OnOk result (IsPassed D.has_effect D.is_terminator D.is_symbol D.is_symbol_table D.is_private
+        D.names_used root pass ctx.old ctx.new) }
+    ensures verified { OnOk result (verify ≡ true → IsVerified D.OpSet D.uses_hold ctx.new root) }
 {
     run_pass(alloc, pass, ctx, root)?;
     if verify {
