@@ -60,14 +60,14 @@ tail-is : {X : Type 0} {x y : X} {xs ys : List X} → x ∷ xs ≡ y ∷ ys → 
 tail-is e = cc e
 
 -- what a test lets through is found where it was, with what the test refuses around it
-filter-cut : {X : Type 0} (p : X → Bool) (xs as : List X) (x : X) (bs : List X) → filter p xs ≡ as ++ x ∷ bs
-    → (ys : List X) × (zs : List X) × (xs ≡ ys ++ x ∷ zs) × (filter p zs ≡ bs) × (filter p ys ≡ as)
-filter-cut p [] [] x bs e = absurd (let z : ⊥ = cc e in z)
-filter-cut p [] (a ∷ as) x bs e = absurd (let z : ⊥ = cc e in z)
-filter-cut {X} p (w ∷ xs) as x bs e = elim (cases_Bool (p w)) [
-  | inl l ↦ passes as l (sym (kept (p w) l) ∙ e)
-  | inr l ↦ (let r = filter-cut p xs as x bs (sym (left (p w) l) ∙ e) in
-    (w ∷ r.0, (r.1.0, (ap (λ z. w ∷ z) r.1.1.0, (r.1.1.1.0, left-of r.0 l ∙ r.1.1.1.1)))))
+filter-cut : {X : Type 0} (p : X → Bool) (xs front : List X) (x : X) (back : List X) → filter p xs ≡ front ++ x ∷ back
+    → (ys : List X) × (zs : List X) × (xs ≡ ys ++ x ∷ zs) × (filter p zs ≡ back) × (filter p ys ≡ front)
+filter-cut p [] [] x back e = absurd (let z : ⊥ = cc e in z)
+filter-cut p [] (a ∷ front) x back e = absurd (let z : ⊥ = cc e in z)
+filter-cut {X} p (w ∷ xs) front x back e = elim (cases_Bool (p w)) [
+  | inl l ↦ passes front l (sym (kept (p w) l) ∙ e)
+  | inr l ↦ (let r = filter-cut p xs front x back (sym (left (p w) l) ∙ e) in
+      (w ∷ r.0, (r.1.0, (ap (λ z. w ∷ z) r.1.1.0, (r.1.1.1.0, left-of r.0 l ∙ r.1.1.1.1)))))
 ]
   where
     kept : (b : Bool) → b ≡ true → cond b (w ∷ filter p xs) (filter p xs) ≡ w ∷ filter p xs
@@ -82,13 +82,24 @@ filter-cut {X} p (w ∷ xs) as x bs e = elim (cases_Bool (p w)) [
     kept-of : (ys : List X) → p w ≡ true → filter p (w ∷ ys) ≡ w ∷ filter p ys
     kept-of ys h = rw h refl
 
-    passes : (as : List X) → p w ≡ true → w ∷ filter p xs ≡ as ++ x ∷ bs
-        → (ys : List X) × (zs : List X) × (w ∷ xs ≡ ys ++ x ∷ zs) × (filter p zs ≡ bs) × (filter p ys ≡ as)
+    passes : (front : List X) → p w ≡ true → w ∷ filter p xs ≡ front ++ x ∷ back
+        → (ys : List X) × (zs : List X) × (w ∷ xs ≡ ys ++ x ∷ zs) × (filter p zs ≡ back) × (filter p ys ≡ front)
     passes [] l k = ([], (xs, (ap (λ z. z ∷ xs) (head-is k), (tail-is k, refl))))
-    passes (a ∷ as) l k =
-        (let r = filter-cut p xs as x bs (tail-is k) in
-        (w ∷ r.0, (r.1.0, (ap (λ z. w ∷ z) r.1.1.0, (r.1.1.1.0, kept-of r.0 l ∙ ap (λ z. w ∷ z) r.1.1.1.1
-        ∙ ap (λ z. z ∷ as) (head-is k))))))
+    passes (a ∷ front) l k =
+        (let r = filter-cut p xs front x back (tail-is k) in (
+          w ∷ r.0,
+          (
+            r.1.0,
+            (
+              ap (λ z. w ∷ z) r.1.1.0,
+              (
+                r.1.1.1.0,
+                kept-of r.0 l ∙ ap (λ z. w ∷ z) r.1.1.1.1
+                    ∙ ap (λ z. z ∷ front) (head-is k),
+              ),
+            ),
+          ),
+        ))
 
 -- what a test lets through is among what is left
 Has-kept : {X : Type 0} (p : X → Bool) (xs : List X) (y : X) → Has xs y → p y ≡ true → Has (filter p xs) y
@@ -283,9 +294,9 @@ module _ {K A T : Type 0} (fold : K → Integer → Integer → Option Integer) 
           elim (cases_Bool (is_live s (Operation r.user))) [
             | inl l ↦ l
             | inr e ↦ (let k = f.new (Operation r.user) r.old e in
-              let q = same-op k.1.1.0 in
-              absurd (no-operand s u k.0 k.1.0 r.index (result_of p) (constant-kept s t u g k.0 k.1.0 k.1.1.1)
-              (subst (λ z. slice_get (operands_of u z) r.index ≡ Some (result_of p)) q r.used)))
+                let q = same-op k.1.1.0 in
+                absurd (no-operand s u k.0 k.1.0 r.index (result_of p) (constant-kept s t u g k.0 k.1.0 k.1.1.1)
+                (subst (λ z. slice_get (operands_of u z) r.index ≡ Some (result_of p)) q r.used)))
           ];
       over = block-old s t f r.block r.over;
       used = r.used;
@@ -302,8 +313,8 @@ module _ {K A T : Type 0} (fold : K → Integer → Integer → Option Integer) 
       ];
       for_user = λ p l e. elim (cases_Bool (is_live t (Operation p))) [
         | inl k ↦ (let r = f.new (Operation p) k e in
-          let q = same-op r.1.1.0 in
-          user-kept p r.1.0 (subst (λ z. IsNewConstantOf s t z r.1.0) (sym q) r.1.1.1) (f.for_user p k e))
+            let q = same-op r.1.1.0 in
+            user-kept p r.1.0 (subst (λ z. IsNewConstantOf s t z r.1.0) (sym q) r.1.1.1) (f.for_user p k e))
         | inr k ↦ user-later p (g.for_user p l k)
       ];
       children =

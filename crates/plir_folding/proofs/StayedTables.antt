@@ -78,8 +78,8 @@ module _ {K A T : Type 0} (fold : K → Integer → Integer → Option Integer) 
   was-live p given l = elim (cases_Bool (is_live s (Operation p))) [
     | inl k ↦ k
     | inr e ↦ (let r = f.new (Operation p) l e in
-      let q : Operation p ≡ Operation r.0 = r.1.1.0 in
-      absurd (not-both (given_out s (Operation p)) given (ap (given_out s) q ∙ r.1.1.1.fresh)))
+        let q : Operation p ≡ Operation r.0 = r.1.1.0 in
+        absurd (not-both (given_out s (Operation p)) given (ap (given_out s) q ∙ r.1.1.1.fresh)))
   ]
 
   -- where no operation stands right below a node, the same stands there
@@ -92,7 +92,7 @@ module _ {K A T : Type 0} (fold : K → Integer → Integer → Option Integer) 
       old x h = elim (cases_Bool (is_live s x)) [
         | inl k ↦ k
         | inr e ↦ (let r = f.new x (w'.child_live n x h) e in
-          absurd (none r.0 (subst (Has (children t n)) r.1.1.0 h)))
+            absurd (none r.0 (subst (Has (children t n)) r.1.1.0 h)))
       ]
 
   same-regions : (p : Ptr OperationKind) → IsLive s (Operation p) → children t (Operation p) ≡ children s (Operation p)
@@ -125,17 +125,17 @@ module _ {K A T : Type 0} (fold : K → Integer → Integer → Option Integer) 
   same-symbols [] h = refl
   same-symbols (Operation p ∷ xs) h = elim (cases_Bool (is_live s (Operation p))) [
     | inl k ↦ (let b = f.ops p k in
-      rw k (ap (λ z. cond (is_symbol_kind own z) ((p, name_held (op_at t p)) ∷ symbols_among own (op_at t) xs)
-      (symbols_among own (op_at t) xs)) (but-kind (op_at t p) (op_at s p) b)
-      ∙ ap (λ z. cond (is_symbol_kind own (kind_in (op_at s p))) ((p, z) ∷ symbols_among own (op_at t) xs)
-      (symbols_among own (op_at t) xs)) (but-name (op_at t p) (op_at s p) b)
-      ∙ ap (λ z. cond (is_symbol_kind own (kind_in (op_at s p))) ((p, name_held (op_at s p)) ∷ z) z)
-      (same-symbols xs (λ x g. h x (inr g)))))
+        rw k (ap (λ z. cond (is_symbol_kind own z) ((p, name_held (op_at t p)) ∷ symbols_among own (op_at t) xs)
+        (symbols_among own (op_at t) xs)) (but-kind (op_at t p) (op_at s p) b)
+        ∙ ap (λ z. cond (is_symbol_kind own (kind_in (op_at s p))) ((p, z) ∷ symbols_among own (op_at t) xs)
+        (symbols_among own (op_at t) xs)) (but-name (op_at t p) (op_at s p) b)
+        ∙ ap (λ z. cond (is_symbol_kind own (kind_in (op_at s p))) ((p, name_held (op_at s p)) ∷ z) z)
+        (same-symbols xs (λ x g. h x (inr g)))))
     | inr e ↦ (let r = f.new (Operation p) (h (Operation p) (inl refl)) e in
-      let q : p ≡ r.0 = cc r.1.1.0 in
-      let holds = ap (op_at t) q ∙ r.1.1.1.holds in
-      rw e (ap (λ z. cond (is_symbol_kind own (kind_in z)) ((p, name_held (op_at t p)) ∷ symbols_among own (op_at t) xs)
-      (symbols_among own (op_at t) xs)) holds ∙ same-symbols xs (λ x g. h x (inr g))))
+        let q : p ≡ r.0 = cc r.1.1.0 in
+        let holds = ap (op_at t) q ∙ r.1.1.1.holds in
+        rw e (ap (λ z. cond (is_symbol_kind own (kind_in z)) ((p, name_held (op_at t p)) ∷ symbols_among own (op_at t) xs)
+        (symbols_among own (op_at t) xs)) holds ∙ same-symbols xs (λ x g. h x (inr g))))
   ]
   same-symbols (Region p ∷ xs) h = elim (cases_Bool (is_live s (Region p))) [
     | inl k ↦ rw k (same-symbols xs (λ x g. h x (inr g)))
