@@ -1,4 +1,4 @@
-use Rattle.std.proofs.Common.{◌≡◌, ◌<◌, ◌≤◌, ℕ, Some, IsTrue, ap, sym, subst, ◌∙◌, arith}
+use Rattle.std.proofs.Common.{◌≡◌, ◌<◌, ◌≤◌, IsTrue, ap, sym, subst, ◌∙◌, arith}
 use Rattle.plir_data.specs.Hashed.{past, StandsAt, Latest, hash_from}
 use Rattle.plir_data.proofs.HashedLists.{sought_first, sought_next, sought_at, sought_earlier}
 use Rattle.plir_data.proofs.hashed.HashedList.find.Goals as goal

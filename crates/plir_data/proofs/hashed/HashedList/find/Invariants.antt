@@ -1,4 +1,4 @@
-use Rattle.std.proofs.Common.{◌≡◌, ℕ, IsTrue}
+use Rattle.std.proofs.Common.{◌≡◌, IsTrue}
 use Rattle.plir_data.specs.Hashed.{past, hash_from}
 use Rattle.plir_data.proofs.HashedLists.{IsSought}
 use Rattle.plir_data.proofs.hashed.HashedList.find.Given as goal
