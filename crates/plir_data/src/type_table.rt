@@ -1,7 +1,7 @@
 //! The table of types.
 
-ghost use Rattle.std.specs.Prelude.{◌≡◌, ◌↔◌, ℕ, List, [], Option, Some, OnErr, IfOk, IsTrue, length, slice_get, ⊤};
-ghost use Rattle.plir_data.specs.Types.{TypeView, IsLive, AllLive, IsInstantiated, IsTypeTable, IsGrown, handles_of};
+ghost use Rattle.std.specs.Prelude.{◌≡◌, ◌↔◌, ℕ, List, [], Option, Some, OnErr, IfOk, IsTrue, length, ⊤};
+ghost use Rattle.plir_data.specs.Types.{TypeView, IsLive, AllLive, IsInstantiated, IsTypeTable, handles_of};
 ghost use Rattle.plir_data.specs.Types.{type_at};
 ghost use Rattle.plir_data.specs.TypeSeen.{type_view};
 
