@@ -1,6 +1,7 @@
 pub mod Bulk
 pub mod Dictionaries
 pub mod Equality
+pub mod HashedLists
 pub mod HeldHandles
 pub mod KeyPlaces
 pub mod Reordered

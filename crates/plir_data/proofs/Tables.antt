@@ -12,7 +12,7 @@ use Rattle.plir_data.specs.declared.types.TypeObj.TheVariants.{Integer, Function
 
 module _ {X : Type 0} where
   -- what stands at a place of a list with one thing more
-  at_push : (xs : List X) (x y : X) (i : ℕ) → slice_get (xs ++ x ∷ []) i ≡ Some y → (slice_get xs i ≡ Some y) ⊎
+  pub at_push : (xs : List X) (x y : X) (i : ℕ) → slice_get (xs ++ x ∷ []) i ≡ Some y → (slice_get xs i ≡ Some y) ⊎
       ((i ≡ length xs) × (x ≡ y))
   at_push [] x y zero e = inr (refl, (let f : x ≡ y = cc in f))
   at_push [] x y (suc i) e = absurd (let f : ⊥ = cc in f)

@@ -9,6 +9,7 @@
 --   Integers     bits_of, signed_of, literal: integers of some bits, as numbers and as digits
 --   TypeSeen     type_view: a `TypeObj` as a TypeView
 --   TypeNames    the names of the marks of builtin types
+--   Hashed       what a list keeps beside its things, so that a thing is found by its hash
 --   Verify       IsVerdict: what a verifier answers
 --   AttrView     AttrView A: an attribute as contracts see it, with its leaves, items and entries
 --   AttrSeen     attr_view: an `AttrObj` as an AttrView
@@ -35,6 +36,7 @@ pub mod Inline
 pub mod NameLaws
 pub mod Keys
 pub mod Types
+pub mod Hashed
 pub mod Integers
 pub mod TypeSeen
 pub mod TypeNames

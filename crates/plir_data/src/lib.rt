@@ -10,6 +10,7 @@ mod attr_verify;
 mod attribute_dict;
 mod attributes;
 mod entries;
+mod hashed;
 mod identifier;
 pub mod keys;
 mod kind_set;

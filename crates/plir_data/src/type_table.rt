@@ -1,22 +1,22 @@
 //! The table of types.
 
-ghost use Rattle.std.specs.Prelude.{◌≡◌, ◌↔◌, ℕ, List, [], Option, Some, OnErr, IfOk, IsTrue, length, slice_get, ⊤};
-ghost use Rattle.plir_data.specs.Types.{TypeView, IsLive, AllLive, IsInstantiated, IsTypeTable, IsGrown, handles_of};
+ghost use Rattle.std.specs.Prelude.{◌≡◌, ◌↔◌, ℕ, List, [], Option, Some, OnErr, IfOk, IsTrue, length, ⊤};
+ghost use Rattle.plir_data.specs.Types.{TypeView, IsLive, AllLive, IsInstantiated, IsTypeTable, handles_of};
 ghost use Rattle.plir_data.specs.Types.{type_at};
 ghost use Rattle.plir_data.specs.TypeSeen.{type_view};
 
+use crate::hashed::HashedList;
 use crate::memory::Memory;
 use crate::op_set::OpSet;
 use crate::type_store::TypeStore;
 use crate::types::{TypeHandle, TypeObj};
-use indexmap::IndexSet;
 use std::alloc::Global;
 use std::marker::Model;
 
 /// Types, each once, in order of creation. A type is looked up by its hash.
 #[derive(Drop)]
 pub struct TypeTable<D: OpSet> {
-    objects: IndexSet<TypeObj<D>>,
+    objects: HashedList<TypeObj<D>>,
 }
 
 impl<D: OpSet> Model for TypeTable<D> {
@@ -26,9 +26,9 @@ impl<D: OpSet> Model for TypeTable<D> {
 
     ghost Value = { List (TypeView D.Ty) };
 
-    ghost view = { λ t. map type_view t.objects.keys };
+    ghost view = { λ t. map type_view t.objects };
 
-    ghost invariant = { λ t. IsTypeTable D.type_handles (map type_view t.objects.keys) };
+    ghost invariant = { λ t. IsTypeTable D.type_handles (map type_view t.objects) };
 }
 
 impl<D: OpSet> TypeTable<D> {
@@ -37,7 +37,7 @@ impl<D: OpSet> TypeTable<D> {
         ensures { result ≡ [] }
     {
         TypeTable {
-            objects: IndexSet::new(alloc),
+            objects: HashedList::new(alloc),
         }
     }
 
@@ -76,18 +76,8 @@ impl<D: OpSet> TypeTable<D> {
         ensures found { type_at self.now handle ≡ Some (type_view result.now) }
         ensures whole { IsTypeTable D.type_handles self.now }
     {
-        self.objects.get_index(handle.index()).unwrap()
+        &self.objects.as_slice()[handle.index()]
     }
-}
-
-// The place of a type among those of a table; one that isn't there yet comes last.
-fn add<D: OpSet>(objects: &mut IndexSet<TypeObj<D>>, value: TypeObj<D>) -> Result<usize, Memory>
-    ensures place { IfOk result (λ i. slice_get objects.new.keys i ≡ Some value) }
-    ensures grown { IsGrown objects.old.keys value objects.new.keys }
-    ensures err { OnErr result (objects.new.keys ≡ objects.old.keys) }
-{
-    let (index, _) = objects.insert_full(value)?;
-    Ok(index)
 }
 
 impl<D: OpSet> TypeStore<D> for TypeTable<D> {
@@ -109,7 +99,7 @@ impl<D: OpSet> TypeStore<D> for TypeTable<D> {
         ensures err { OnErr result (self.new ≡ self.old) }
         ensures rest { ⊤ }
     {
-        let index = add(&mut self.objects, value)?;
+        let index = self.objects.insert_full(value)?;
         Ok(TypeHandle::new(index))
     }
 
