@@ -27,11 +27,11 @@ option_alike f g e None = refl
 option_alike f g e (Some x) = ap (λ z. Some z) (e x)
 
 -- The slots of u are in use as those of t are, under the same versions.
-record IsAlike {C : Type 0} (t u : Table C) : Type 0 where
-  full : (i : ℕ) → is_some (content_at u i) ≡ is_some (content_at t i)
-  versions : (i : ℕ) → version_at u i ≡ version_at t i
+pub record IsAlike {C : Type 0} (t u : Table C) : Type 0 where
+  pub full : (i : ℕ) → is_some (content_at u i) ≡ is_some (content_at t i)
+  pub versions : (i : ℕ) → version_at u i ≡ version_at t i
 
-alike_same : {C : Type 0} (t : Table C) → IsAlike t t
+pub alike_same : {C : Type 0} (t : Table C) → IsAlike t t
 alike_same t = record { full = λ i. refl; versions = λ i. refl }
 
 alike_held : {C : Type 0} (t : Table C) (i : ℕ) (v : C) → IsSome (content_at t i) → IsAlike t (with_content t i v)
@@ -56,7 +56,7 @@ module _ {C : Type 0} (t u : Table C) (a : IsAlike t u) where
 -- Where operations and blocks are held alike, the nodes are the same.
 module _ {K A T : Type 0} (s : ContextView K A T) (ops : Table (OpView K A)) (blocks : Table (BlockView A))
     (a : IsAlike s.nodes.ops ops) (b : IsAlike s.nodes.blocks blocks) where
-  abbrev then_store : ContextView K A T
+  abbrev pub then_store : ContextView K A T
   then_store = record s { nodes = record s.nodes { ops = ops; blocks = blocks } }
 
   children_alike : (n : IRNode) → node_children then_store.nodes n ≡ node_children s.nodes n
@@ -78,7 +78,7 @@ module _ {K A T : Type 0} (s : ContextView K A T) (ops : Table (OpView K A)) (bl
   parents_alike (Region p) = rw (option_alike _ _ (λ i. ap (λ z. Operation z) (ptr_alike s.nodes.ops ops a i)) _) refl
   parents_alike (BasicBlock p) = rw (live_alike s.nodes.blocks blocks b p.slot p.version) refl
 
-  keeps_alike : KeepsNodes s then_store
+  pub keeps_alike : KeepsNodes s then_store
   keeps_alike = record {
     live = λ n. lives n;
     given = λ n. gives n;

@@ -47,3 +47,5 @@ pub mod TreeUses
 pub mod ValueUses
 pub mod TimesUsed
 pub mod ReplacedUses
+pub mod Rewiring
+pub mod ResultUses

@@ -13,7 +13,7 @@ use Rattle.plir_core.proofs.Counting.{total_none}
 use Rattle.plir_core.proofs.NotUsed.{none_passes, seated_value, unused_by, values_some}
 
 -- a test that holds nowhere, by what it would tell
-not_same : {P : Type 0} (b : Bool) → (b ≡ true → P) → (P → ⊥) → b ≡ false
+pub not_same : {P : Type 0} (b : Bool) → (b ≡ true → P) → (P → ⊥) → b ≡ false
 not_same true tells n = absurd (n (tells refl))
 not_same false tells n = refl
 

@@ -29,7 +29,9 @@
 --                that are left
 --   Lasting      StandsBesideAfter: what stood beside an operation stays where that is erased
 --   Replaced     with_uses_replaced: a value has come in place of another one
+--   Rewired      IsRewired: a value has come in place of another one, and nothing else has changed
 --   Unused       IsUnusedOutside: nothing outside a tree uses a value or a block of it
+--   Results      HasNoUsedResult: no result of an operation is used
 --   Uses         uses_of: how often what is in a slot is used; Counts: that counts which are kept say so; IsSound
 --   SameValue    same_ptr, same_value: whether two pointers and two values are the same
 --   ValueUses    HasUses: a value is an operand of a live operation; num_uses_of: how many operands are
@@ -67,3 +69,5 @@ pub mod SameValue
 pub mod ValueUses
 pub mod Terminator
 pub mod InsertionPoint
+pub mod Rewired
+pub mod Results

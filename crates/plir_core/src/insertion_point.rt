@@ -50,6 +50,7 @@ impl OpInsertionPoint {
         ensures live { IfSome result (λ block. IsLive ctx.now (IRNode.BasicBlock block)) }
         ensures whole { IsWellFormed D.attr_handles ctx.now }
     {
+        prove!(self.is_live(ctx), "what the point names is not live");
         let _types = &ctx.types;
         match self {
             OpInsertionPoint::Unset => None,

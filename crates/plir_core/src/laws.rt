@@ -1,5 +1,5 @@
 //! Laws of contexts: each function does nothing, and its contract is the law.
-ghost use Rattle.std.specs.Prelude.{◌≡◌, ◌⊎◌, [], ◌∷◌, ◌++◌, ◌+◌, List, Option, Some, reverse, slice_get, option_map};
+ghost use Rattle.std.specs.Prelude.{◌≡◌, ◌⊎◌, [], ◌∷◌, ◌++◌, ◌+◌, All, List, Option, Some, reverse, slice_get, option_map};
 ghost use Rattle.plir_core.specs.Above.{Reaches};
 ghost use Rattle.plir_core.specs.Contents.{OpView, BlockView};
 ghost use Rattle.plir_core.specs.Erase.{IsErased, LosesOneChild};
@@ -14,6 +14,7 @@ ghost use Rattle.plir_core.specs.Held.{IsOpEdited, IsBlockEdited};
 ghost use Rattle.plir_core.specs.Held.{OpEditsJoin, OpEditsAgree, BlockEditsJoin, BlockEditsAgree};
 ghost use Rattle.plir_core.specs.Grown.{Growth};
 ghost use Rattle.plir_core.specs.Made.{IsMade};
+ghost use Rattle.plir_core.specs.Results.{HasNoUsedResult};
 ghost use Rattle.plir_core.specs.Unused.{IsUnusedOutside};
 ghost use Rattle.plir_core.specs.declared.ptr.IRNode.{IRNode as AnyNode};
 ghost use Rattle.plir_core.specs.declared.ptr.Operation.{Operation as OperationKind};
@@ -151,6 +152,16 @@ pub fn block_edits_join<D: OpSet>(ctx: &Context<D>, block: Ptr<BasicBlock>)
 pub fn what_was_made_is_unused<D: OpSet>(ctx: &Context<D>)
     ensures { (made : ContextView D.Kind D.Attr D.Ty) (root : AnyNode) → IsMade ctx.now.nodes made.nodes root →
         IsUnusedOutside made root }
+{
+    ctx.stands();
+}
+
+/// An operation can be erased whose results nothing uses, as after `Value::replace_all_uses_with` for each of them, and
+/// in whose regions nothing is used from outside them, as where it has none: that is what `Operation::erase` asks for.
+/// It is called before the erasure.
+pub fn unused_results_can_be_erased<D: OpSet>(ctx: &Context<D>, op: Ptr<Operation>)
+    ensures { HasNoUsedResult ctx.now op → All (IsUnusedOutside ctx.now) (children ctx.now (AnyNode.Operation op)) →
+        IsUnusedOutside ctx.now (AnyNode.Operation op) }
 {
     ctx.stands();
 }

@@ -113,6 +113,11 @@ impl Operation {
         ensures crowded { result ≡ Err NodeErr.TooManyNodes → IsFullForOp ctx.new.nodes num_regions }
         ensures whole { IsWellFormed D.attr_handles ctx.new }
     {
+        prove!(ctx.are_values_live(&operands), "an operand is not live");
+        prove!(
+            ctx.are_blocks_live(&successors),
+            "a successor is not live"
+        );
         let data = OpData::new(
             &ctx.nodes,
             kind,

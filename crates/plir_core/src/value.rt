@@ -1,6 +1,6 @@
 //! Values: the results of operations and the arguments of blocks.
-ghost use Rattle.std.specs.Prelude.{◌≡◌, ◌<◌, Some};
-ghost use Rattle.plir_core.specs.ContextView.{entity_node, IsValueLive, is_value_live, type_of_value};
+ghost use Rattle.std.specs.Prelude.{◌≡◌, ◌<◌, ◌↔◌, All, IsTrue, Some};
+ghost use Rattle.plir_core.specs.ContextView.{entity_node, IsLive, IsValueLive, is_value_live, type_of_value};
 ghost use Rattle.plir_data.specs.Types.{IsLive as IsTypeLive};
 ghost use Rattle.plir_core.specs.WellFormed.{IsWellFormed};
 ghost use Rattle.plir_core.specs.declared.ptr.IRNode.{IRNode};
@@ -82,5 +82,31 @@ impl Value {
             DefiningEntity::Op(op) => op.get_type(ctx, self.index()),
             DefiningEntity::Block(block) => block.get_type(ctx, self.index()),
         }
+    }
+}
+
+impl<D: OpSet> Context<D> {
+    // Whether each of some values is live.
+    pub(crate) fn are_values_live(&self, values: &[Value]) -> bool
+        ensures { IsTrue result ↔ All (IsValueLive self.now) values.now }
+    {
+        for value in values {
+            if !value.is_live(self) {
+                return false;
+            }
+        }
+        true
+    }
+
+    // Whether each of some blocks is live.
+    pub(crate) fn are_blocks_live(&self, blocks: &[Ptr<BasicBlock>]) -> bool
+        ensures { IsTrue result ↔ All (λ b. IsLive self.now (IRNode.BasicBlock b)) blocks.now }
+    {
+        for block in blocks {
+            if !block.is_live(self) {
+                return false;
+            }
+        }
+        true
     }
 }

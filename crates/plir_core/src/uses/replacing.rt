@@ -3,6 +3,7 @@ ghost use Rattle.std.specs.Prelude.{◌≡◌, ◌<◌, length, map};
 ghost use Rattle.plir_store.specs.Table.{content_at};
 ghost use Rattle.plir_core.specs.Changes.{with_op_edit, op_edited};
 ghost use Rattle.plir_core.specs.Replaced.{replaced, op_replaced, with_uses_replaced};
+ghost use Rattle.plir_core.specs.Rewired.{IsRewired};
 ghost use Rattle.plir_core.specs.ContextView.{IsLive, IsValueLive};
 ghost use Rattle.plir_core.specs.WellFormed.{IsWellFormed};
 ghost use Rattle.plir_core.specs.declared.ptr.IRNode.{IRNode};
@@ -52,14 +53,18 @@ fn replace_in_slot<D: OpSet>(ctx: &mut Context<D>, slot: u32, value: Value, othe
 }
 
 impl Value {
-    /// Puts another value in place of this one, wherever it is an operand of a live operation. All else stays as it is.
-    /// This looks at all operations, since no list of uses is kept.
+    /// Puts another value in place of this one, wherever it is an operand of a live operation. All else stays as it is:
+    /// the same nodes stand where they stood, with their types, attributes and successors. After it nothing uses this
+    /// value, unless the other one is this one; so an operation each of whose results was replaced, and which has no
+    /// regions, can be erased (`laws::unused_results_can_be_erased`). This looks at all operations, since no list of
+    /// uses is kept.
     pub fn replace_all_uses_with<D: OpSet>(self, ctx: &mut Context<D>, other: Value)
-        requires live { IsValueLive ctx.old self }
         requires other_live { IsValueLive ctx.old other }
         ensures after { ctx.new ≡ with_uses_replaced ctx.old self other }
+        ensures rewired { IsRewired ctx.old ctx.new self other }
         ensures whole { IsWellFormed D.attr_handles ctx.new }
     {
+        prove!(other.is_live(ctx), "the other value is not live");
         for slot in 0..ctx.nodes.num_op_slots() {
             replace_in_slot(ctx, slot, self, other);
         }

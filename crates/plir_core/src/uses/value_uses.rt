@@ -1,6 +1,6 @@
 //! Whether values are used, and how often.
 ghost use Rattle.std.specs.Prelude.{◌≡◌, ◌<◌, ◌-◌, ◌^◌, ◌↔◌, IsTrue, Contains, length, min};
-ghost use Rattle.plir_core.specs.ContextView.{IsLive, IsValueLive, operands_of};
+ghost use Rattle.plir_core.specs.ContextView.{IsLive, operands_of};
 ghost use Rattle.plir_core.specs.WellFormed.{IsWellFormed};
 ghost use Rattle.plir_core.specs.ValueUses.{IsOperandAt, HasUses, times_in, uses_in_slot, num_uses_of};
 ghost use Rattle.plir_core.specs.declared.ptr.IRNode.{IRNode};
@@ -104,7 +104,6 @@ impl Value {
     /// Whether the value is an operand of a live operation. Where no value of its operation or block is used, and that
     /// block is no successor, this looks at a count alone; else it looks at all operations.
     pub fn has_uses<D: OpSet>(self, ctx: &Context<D>) -> bool
-        requires { IsValueLive ctx.now self }
         ensures value { IsTrue result ↔ HasUses ctx.now self }
         ensures whole { IsWellFormed D.attr_handles ctx.now }
     {
@@ -119,7 +118,6 @@ impl Value {
     /// at most `usize::MAX`, and no machine holds so many operands. Where no value of its operation or block is used,
     /// and that block is no successor, this looks at a count alone; else it looks at all operations.
     pub fn num_uses<D: OpSet>(self, ctx: &Context<D>) -> usize
-        requires { IsValueLive ctx.now self }
         ensures value { result ≡ min (num_uses_of ctx.now self) (2 ^ 64 - 1) }
         ensures whole { IsWellFormed D.attr_handles ctx.now }
     {

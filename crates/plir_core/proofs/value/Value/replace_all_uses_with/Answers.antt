@@ -4,6 +4,8 @@ use Rattle.plir_core.specs.Changes.{op_edited}
 use Rattle.plir_core.specs.Replaced.{op_replaced, cell_replaced}
 use Rattle.plir_core.specs.ContextView.{ContextView, IsValueLive}
 use Rattle.plir_core.proofs.ReplacedUses.{mapped-length, replaced-next, replaced-all, edited-live}
+use Rattle.plir_core.specs.Rewired.{IsRewired}
+use Rattle.plir_core.proofs.Rewiring.{is_rewired}
 use Rattle.plir_core.proofs.value.Value.replace_all_uses_with.Goals as goal
 
 pub loop-slot-init : goal.loop-slot-init
@@ -38,3 +40,8 @@ returns-clause-after g c =
     c.ctx.view_is in
     c.loop-slot.invariant.0 ∙ replaced-all c.args.self c.args.other c.args.ctx.now c.loop-slot.slot
     (omega (arith, same, c.num_op_slots-slot-end.ensures, c.loop-slot-test.false))
+
+pub returns-clause-rewired : goal.returns-clause-rewired
+returns-clause-rewired g c =
+    subst (λ z. IsRewired c.args.ctx.now z c.args.self c.args.other) (sym (returns-clause-after g c))
+    (is_rewired c.args.ctx.now c.args.self c.args.other)
