@@ -101,6 +101,14 @@ impl<D: OpSet> TypeStore<D> for Context<D> {
         self.types.types()
     }
 
+    fn holds_type(&self, handle: TypeHandle) -> bool {
+        self.types.is_live(handle)
+    }
+
+    fn holds_types(&self, handles: &[TypeHandle]) -> bool {
+        self.types.are_live(handles)
+    }
+
     fn instantiate(&mut self, value: TypeObj<D>) -> Result<TypeHandle, Memory>
         requires { AllLive self.old.types (handles_of D.type_handles (type_view value)) }
         ensures ok { IfOk result (λ h. IsInstantiated self.old.types (type_view value) h self.new.types) }

@@ -65,9 +65,10 @@ impl APInt {
         })
     }
 
-    /// The width in bits.
+    /// The width in bits, from 1 to 64.
     pub fn bw(&self) -> u32
-        ensures { result ≡ self.now.width }
+        ensures value { result ≡ self.now.width }
+        ensures within { IsTrue (is_width result) }
     {
         self.width
     }

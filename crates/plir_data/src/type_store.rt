@@ -23,6 +23,15 @@ pub trait TypeStore<D: OpSet> {
         ensures value { result.now ≡ types self.now }
         ensures whole { IsTypeTable D.type_handles (types self.now) };
 
+    /// Whether a handle names a type. This and `holds_types` are for an own type or attribute that is asked whether
+    /// the handles that it holds are live: the table that `types` hands out can't be asked there.
+    fn holds_type(&self, handle: TypeHandle) -> bool
+        ensures { IsTrue result ↔ IsLive (types self.now) handle };
+
+    /// Whether all of these handles name types.
+    fn holds_types(&self, handles: &[TypeHandle]) -> bool
+        ensures { IsTrue result ↔ AllLive (types self.now) handles.now };
+
     /// The handle of a type: if the table hasn't it yet, it comes last. Nothing else changes, and after a refusal
     /// nothing at all.
     fn instantiate(&mut self, value: TypeObj<D>) -> Result<TypeHandle, Memory>

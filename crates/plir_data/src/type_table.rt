@@ -93,6 +93,14 @@ impl<D: OpSet> TypeStore<D> for TypeTable<D> {
         self
     }
 
+    fn holds_type(&self, handle: TypeHandle) -> bool {
+        self.is_live(handle)
+    }
+
+    fn holds_types(&self, handles: &[TypeHandle]) -> bool {
+        self.are_live(handles)
+    }
+
     fn instantiate(&mut self, value: TypeObj<D>) -> Result<TypeHandle, Memory>
         requires { AllLive self.old (handles_of D.type_handles (type_view value)) }
         ensures ok { IfOk result (λ h. IsInstantiated self.old (type_view value) h self.new) }
