@@ -49,3 +49,6 @@ pub mod TimesUsed
 pub mod ReplacedUses
 pub mod Rewiring
 pub mod ResultUses
+pub mod Apart
+pub mod Transfer
+pub mod Splits

@@ -86,8 +86,7 @@ module _ (v w : Value) where
   came : (xs : List Value) (y : Value) → Contains (map (replaced v w) xs) y → (x : Value) × (Contains xs x ×
       (replaced v w x ≡ y))
   came xs y c =
-      let short = subst (λ z. c.0 < z) (length-map xs (replaced v w)) c.1 in
-      (
+      let short = subst (λ z. c.0 < z) (length-map xs (replaced v w)) c.1 in (
         get_or xs c.0 y,
         (Contains-get_or xs c.0 y short, sym (get_or-map (replaced v w) xs c.0 y y short) ∙ c.2),
       )

@@ -20,6 +20,8 @@
 --   Room         IsFullForOp and its kin: when there is no room for a new node
 --   Placed       IsPlaced: a node has come under another one, and nothing else has changed (IsPlacedFirst and its kin:
 --                where); IsUnlinked: it has left its parent
+--   Moved        IsMovedBefore and its kin: a node was moved; IsTransferred: children of one node have come under
+--                another one; IsSplit: a node has got the last children of another one
 --   Held         IsOpEdited, IsBlockEdited: what an operation or a block holds is edited, and nothing else has changed
 --   ButOperands  but_operands: what an operation holds but for its operands
 --   Grown        IsGrown: nodes are new below a node; Growth: how trees grow in many steps
@@ -71,3 +73,4 @@ pub mod Terminator
 pub mod InsertionPoint
 pub mod Rewired
 pub mod Results
+pub mod Moved

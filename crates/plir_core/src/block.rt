@@ -20,6 +20,8 @@ ghost use Rattle.plir_core.specs.Changes.{with_block_before, with_block_after, w
 ghost use Rattle.plir_core.specs.declared.ptr.IRNode.{IRNode};
 ghost use Rattle.plir_core.specs.declared.value.DefiningEntity.{DefiningEntity};
 
+mod splicing;
+
 use crate::arena::contents::BlockData;
 use crate::arena::making::NodeErr;
 use crate::context::Context;

@@ -24,6 +24,7 @@ ghost use Rattle.plir_core.specs.declared.ptr.IRNode.{IRNode};
 ghost use Rattle.plir_core.specs.declared.value.DefiningEntity.{DefiningEntity};
 
 mod changes;
+mod moving;
 
 use crate::arena::contents::OpData;
 use crate::arena::making::NodeErr;
@@ -114,10 +115,7 @@ impl Operation {
         ensures whole { IsWellFormed D.attr_handles ctx.new }
     {
         prove!(ctx.are_values_live(&operands), "an operand is not live");
-        prove!(
-            ctx.are_blocks_live(&successors),
-            "a successor is not live"
-        );
+        prove!(ctx.are_blocks_live(&successors), "a successor is not live");
         let data = OpData::new(
             &ctx.nodes,
             kind,
