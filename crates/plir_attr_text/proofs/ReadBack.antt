@@ -1,6 +1,7 @@
 -- What a printed attribute is read as.
 use Rattle.std.proofs.Common.{◌≡◌, ◌≢◌, ℕ, List, Result, Ok, Err, refl, sym, subst}
 use Rattle.std.proofs.lemmas.Option.{slice_get_within}
+use Rattle.plir_data.specs.OwnParts.{Part}
 use Rattle.plir_data.specs.AttrLive.{IsAttrLive, AreItemsLive, AreEntriesLive}
 use Rattle.plir_data.specs.AttrSeen.{attr_view}
 use Rattle.plir_data.specs.AttrView as views
@@ -62,7 +63,7 @@ module _ {A T : Type 0} (own_handles : A → List ℕ) (table : List (TypeView T
 
 -- what the text of an attribute stands for in a table that has grown on
 module _ {A T : Type 0} (itself : IsDictOfItself (AttrView A)) (own_id : A → List ℕ)
-    (own_body : List (TypeView T) → A → List ℕ) (type_id : T → List ℕ) (type_body : List (TypeView T) → T → List ℕ)
+    (own_body : A → List Part) (type_id : T → List ℕ) (type_body : T → List Part)
     (own_handles : T → List ℕ) (old new : List (TypeView T)) (g : Grows old new) (whole : IsTypeTable own_handles new)
     (bytes : List ℕ) (x : AttrView A) (is : bytes ≡ attr_text own_id own_body type_id type_body old x)
     (readable : IsReadable old x) where
@@ -88,7 +89,7 @@ memory_alone faults.TooManyNodes h = absurd (h (λ e. absurd cc))
 
 -- whatever the reader answers to the text of an attribute that can be read back
 module _ {D K A T E : Type 0} (itself : IsDictOfItself (AttrView A)) (own_id : A → List ℕ)
-    (own_body : List (TypeView T) → A → List ℕ) (type_id : T → List ℕ) (type_body : List (TypeView T) → T → List ℕ)
+    (own_body : A → List Part) (type_id : T → List ℕ) (type_body : T → List Part)
     (attr_handles : A → List ℕ) (type_handles : T → List ℕ) where
   pub read_back : (x : AttrView A) (bytes : List ℕ) (answer : Result (AttrObj D K A T E) ReadErr) →
       IsReadBack own_id own_body type_id type_body attr_handles type_handles x bytes answer

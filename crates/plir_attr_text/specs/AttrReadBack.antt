@@ -1,5 +1,6 @@
 -- That the reader of attributes reads back what was printed.
 use Rattle.std.specs.Prelude.{◌≡◌, ◌≤◌, ℕ, List, Result, MatchResult}
+use Rattle.plir_data.specs.OwnParts.{Part}
 use Rattle.plir_data.specs.AttrSeen.{attr_view}
 use Rattle.plir_data.specs.AttrView.{AttrView}
 use Rattle.plir_data.specs.Types.{TypeView, IsTypeTable}
@@ -22,8 +23,8 @@ module _ {D K A T E : Type 0} where
 abbrev pub IsReadable : {A T : Type 0} (printed : List (TypeView T)) → AttrView A → Type 0
 IsReadable printed x = IsWritable printed x × (levels (attr_term printed x) ≤ 200)
 
-module _ {D K A T E : Type 0} (own_id : A → List ℕ) (own_body : List (TypeView T) → A → List ℕ) (type_id : T →
-    List ℕ) (type_body : List (TypeView T) → T → List ℕ) (attr_handles : A → List ℕ) (type_handles : T → List ℕ) where
+module _ {D K A T E : Type 0} (own_id : A → List ℕ) (own_body : A → List Part) (type_id : T →
+    List ℕ) (type_body : T → List Part) (attr_handles : A → List ℕ) (type_handles : T → List ℕ) where
   -- Where the text is that of an attribute x that can be read back, printed with the table `printed`, and this is the
   -- answer to it, read with a table `old` that has grown from that one, the answer is an attribute equal to x, or
   -- memory was wanting. `new` is the table that the reader left.

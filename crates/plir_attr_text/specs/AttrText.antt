@@ -1,13 +1,14 @@
 -- The text of an attribute.
 use Rattle.std.specs.Prelude.{ℕ, List, [], ◌++◌, Bool, false, codes, Option, Some}
 use Rattle.std.specs.Fmt.{decimal}
+use Rattle.plir_data.specs.OwnParts.{Part, behind_id}
 use Rattle.plir_data.specs.AttrView.{Leaf, identifier, string, bool, integer, unit, type_of, operand_segment_sizes}
 use Rattle.plir_data.specs.AttrView.{given_names, own, AttrView, leaf, dict, vec, Items, no_items, item, Entries}
 use Rattle.plir_data.specs.AttrView.{no_entries, entry}
 use Rattle.plir_data.specs.Integers.{literal}
 use Rattle.plir_data.specs.Types as types
 use Rattle.plir_data.specs.Types.{TypeView, type_at, prints_as_signed}
-use Rattle.plir_data.specs.TypeText.{spaced, integer_text, type_text}
+use Rattle.plir_data.specs.TypeText.{integer_text, type_text}
 use Rattle.plir_attr_text.specs.AttrGrammar.{truth}
 use Rattle.plir_attr_text.specs.Written.{quotation, name_or_mark}
 use Rattle.plir_data.specs.TextParts.{parted}
@@ -24,10 +25,10 @@ module _ {T : Type 0} where
   bare_text whole (Some (types.integer s width)) = integer_text s width
   bare_text whole _ = whole
 
--- `own_id` and `own_body` give the two parts of the text of an attribute of the user's own, `type_id` and `type_body`
--- those of a type.
-module _ {A T : Type 0} (own_id : A → List ℕ) (own_body : List (TypeView T) → A → List ℕ) (type_id : T →
-    List ℕ) (type_body : List (TypeView T) → T → List ℕ) (table : List (TypeView T)) where
+-- `own_id` and `own_body` give the id of an attribute of the user's own and the parts behind it, `type_id` and
+-- `type_body` those of a type.
+module _ {A T : Type 0} (own_id : A → List ℕ) (own_body : A → List Part) (type_id : T →
+    List ℕ) (type_body : T → List Part) (table : List (TypeView T)) where
   abbrev pub leaf_text : Leaf A → List ℕ
   leaf_text (identifier w) = codes "builtin.identifier " ++ w
   leaf_text (string s) = codes "builtin.string " ++ quotation s
@@ -40,7 +41,7 @@ module _ {A T : Type 0} (own_id : A → List ℕ) (own_body : List (TypeView T) 
   leaf_text (operand_segment_sizes ns) = codes "builtin.operand_segment_sizes [" ++
       (parted (codes ", ") decimal ns ++ codes "]")
   leaf_text (given_names ns) = codes "builtin.given_names [" ++ (parted (codes ", ") name_or_mark ns ++ codes "]")
-  leaf_text (own a) = own_id a ++ spaced (own_body table a)
+  leaf_text (own a) = own_id a ++ behind_id (type_text type_id type_body table) (own_body a)
 
   abbrev mutual
     pub attr_text : AttrView A → List ℕ

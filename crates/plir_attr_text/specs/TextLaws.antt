@@ -1,6 +1,7 @@
 -- Laws of texts of attributes.
 use Rattle.std.specs.Prelude.{◌≡◌, ◌≤◌, ℕ, List}
 use Rattle.plir_data.specs.AttrView.{AttrView}
+use Rattle.plir_data.specs.OwnParts.{Part}
 use Rattle.plir_data.specs.Types.{TypeView, IsTypeTable}
 use Rattle.plir_attr_text.specs.AttrText.{attr_text}
 use Rattle.plir_attr_text.specs.Meaning.{StandsFor}
@@ -14,9 +15,9 @@ IsOfOneAttr A {T} own_handles = (m n : ℕ) (types : List (TypeView T)) → IsTy
     → (bytes : List ℕ) (x y : AttrView A) → StandsFor m types bytes x → StandsFor n types bytes y → x ≡ y
 
 -- The text of an attribute stands for it, with as many levels as it has, also in a table that has grown on. The
--- functions give ids, texts and type handles of the user's own attributes and types.
-abbrev pub TextStands : {A T : Type 0} → (A → List ℕ) → (List (TypeView T) → A → List ℕ) → (T → List ℕ) →
-    (List (TypeView T) → T → List ℕ) → (T → List ℕ) → Type 0
+-- functions give ids, parts of texts and type handles of the user's own attributes and types.
+abbrev pub TextStands : {A T : Type 0} → (A → List ℕ) → (A → List Part) → (T → List ℕ) → (T → List Part) →
+    (T → List ℕ) → Type 0
 TextStands {A} {T} own_id own_body type_id type_body own_handles = (n : ℕ) (old new : List (TypeView T)) →
     IsTypeTable own_handles old → Grows old new
     → (x : AttrView A) → IsWritable old x → levels (attr_term old x) ≤ n →

@@ -13,10 +13,10 @@ ghost use Rattle.plir_attr_text.specs.OpSetTexts.{attribute_text, plain_text, at
 ghost use Rattle.plir_data.specs.TextParts.{Puts};
 
 use crate::put::{put_bool, put_given_names, put_identifier, put_segments, put_string};
-use plir_data::put::{put, put_between, put_integer_text, put_spaced};
+use plir_data::put::{put, put_between, put_integer_text};
 use plir_data::{
     APInt, AttrObj, AttributeDict, IntegerAttr, Memory, OpSet, TypeAttr, TypeHandle, TypeObj,
-    TypeStore, TypeTable, type_text,
+    TypeStore, TypeTable, put_own_text, type_text,
 };
 use std::alloc::Global;
 
@@ -248,8 +248,8 @@ fn put_own<D: OpSet>(
     requires { AllLive types.now (D.attr_handles value.now) }
     ensures { OnOk result (Puts out.old out.new (plain_text D.OpSet types.now (own value.now))) }
 {
-    let body = D::attr_text(alloc, value, types)?;
+    let text = D::attr_text(alloc, value)?;
     put(out, D::attr_id(value))?;
-    put_spaced(out, body.as_str())?;
+    put_own_text(out, alloc, types, &text)?;
     Ok(())
 }

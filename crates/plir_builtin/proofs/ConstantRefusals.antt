@@ -1,9 +1,9 @@
 -- Refusals of constants are reported as their faults.
 use Rattle.std.proofs.Common.{◌≡◌, ℕ, List, Option, Some, None}
 use Rattle.std.specs.Prelude.{◌≢◌, slice_get}
+use Rattle.plir_data.specs.OwnParts.{Part}
 use Rattle.plir_data.specs.AttrCalls.{attr_type}
 use Rattle.plir_data.specs.AttrView.{AttrView}
-use Rattle.plir_data.specs.Types.{TypeView}
 use Rattle.plir_data.specs.declared.location.VerifyErr.{VerifyErr}
 use Rattle.plir_data.specs.declared.location.VerifyErr.TheVariants.{Refused, Memory}
 use Rattle.plir_core.specs.declared.ptr.Ptr.{Ptr}
@@ -23,7 +23,7 @@ told_wider s op P Q wider (Refused loc err) h = (h.0, wider err h.1)
 told_wider s op P Q wider Memory h = tt
 
 module _ {K A T : Type 0} (attr_own_id : A → List ℕ) (attr_own_type : A → Option ℕ) (own_id : T → List ℕ)
-    (own_body : List (TypeView T) → T → List ℕ) (s : ContextView K A T) (op : Ptr OperationKind) (x : AttrView A)
+    (own_body : T → List Part) (s : ContextView K A T) (op : Ptr OperationKind) (x : AttrView A)
     (there : value_of s op ≡ Some x) where
   pub untyped_fault : attr_type attr_own_type x ≡ None → (e : ConstantOpVerifyErr) → ReportsUntyped attr_own_id x e
       → IsConstantFault attr_own_id attr_own_type own_id own_body s op e

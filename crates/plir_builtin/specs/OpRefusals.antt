@@ -1,7 +1,7 @@
 -- How builtin operations break the rules of their interfaces: the refusal is that of the first rule that is broken, in
 -- the order in which the rules stand here; those before it hold. Memory is wanting only behind them too.
 use Rattle.std.specs.Prelude.{◌≡◌, ⊤, ℕ, Bool, List, Option, IsSome, string_bytes}
-use Rattle.plir_data.specs.Types.{TypeView}
+use Rattle.plir_data.specs.OwnParts.{Part}
 use Rattle.plir_data.specs.declared.location.VerifyErr.{VerifyErr}
 use Rattle.plir_data.specs.declared.location.VerifyErr.TheVariants.{Refused, Memory}
 use Rattle.plir_core.specs.declared.ptr.Ptr.{Ptr}
@@ -84,7 +84,7 @@ module _ {K A T : Type 0} (s : ContextView K A T) (op : Ptr OperationKind) where
   IsFuncRefusal Memory = ⊥
 
   module _ {E : Type 0} (attr_own_id : A → List ℕ) (attr_own_type : A → Option ℕ) (own_id : T → List ℕ)
-      (own_body : List (TypeView T) → T → List ℕ) where
+      (own_body : T → List Part) where
     -- of a constant
     abbrev pub IsConstantOpRefusal : VerifyErr (OpVerifyErr E) → Type 0
     IsConstantOpRefusal (Refused l (NOpds e)) = IsOperandsRefusal 0 (Refused l e)

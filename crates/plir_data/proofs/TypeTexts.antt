@@ -1,14 +1,14 @@
--- Texts of lists of types, from the front on.
-use Rattle.std.proofs.Common.{◌≡◌, ℕ, zero, suc, ◌<◌, ◌≤◌, max, Bool, true, false, List, [], ◌∷◌, ◌++◌, length, get_or}
-use Rattle.std.proofs.Common.{All, Some, refl, sym, ap, subst, ◌∙◌, arith, append_assoc, append-nil}
-use Rattle.std.specs.Prelude.{codes}
-use Rattle.plir_data.specs.TextParts.{before}
-use Rattle.plir_data.specs.TypeTree.{TypeTree, Trees, no_trees, tree}
+-- Handles below one, and the text of a type as it was read.
+use Rattle.std.proofs.Common.{◌≡◌, ℕ, zero, suc, ◌<◌, ◌≤◌, max, List, [], ◌∷◌, ◌++◌, length, get_or, map}
+use Rattle.std.proofs.Common.{All, Some, sym, ap, subst, ◌∙◌, arith}
+use Rattle.std.specs.Prelude.{Contains}
+use Rattle.std.proofs.lemmas.List.Elements.{All-cons, All-head, All-nil, All-tail}
+use Rattle.plir_data.specs.OwnParts.{Part, chars, held, held_in}
 use Rattle.plir_data.specs.TypeSeen.{type_view}
-use Rattle.plir_data.specs.TypeText.{tree_text, type_text, type_text_over}
+use Rattle.plir_data.specs.TypeText.{type_text, type_text_over}
 use Rattle.plir_data.specs.Types.{TypeView, IsTypeTable, handles_of, type_at}
 use Rattle.plir_data.specs.declared.types.TypeObj.{TypeObj}
-use Rattle.plir_data.proofs.TypeTrees.{left_trees_text, type_text-over}
+use Rattle.plir_data.proofs.TypeTrees.{all_included, type_text-over}
 
 -- one more than the largest
 abbrev pub above_all : List ℕ → ℕ
@@ -29,29 +29,6 @@ above_all_upto (k ∷ ns) n all = omega (
       (λ i d p. all (suc i) d (omega (arith, p))),
 )
 
-module _ {T : Type 0} (own_id own_body : T → List ℕ) where
-  left_first : (is_first : Bool) (t : TypeTree T) (ts : Trees T) → left_trees_text own_id own_body is_first (tree t ts)
-      ≡ before is_first (codes ", ") ++ (tree_text own_id own_body t ++ left_trees_text own_id own_body false ts)
-  left_first true t ts = refl
-  left_first false t ts = refl
-
-  -- what is written once the next type is
-  pub goes_on : (old out new total : List ℕ) (is_first : Bool) (t : TypeTree T) (ts : Trees T) → out ≡ old ++ before
-      is_first (codes ", ") → new ≡ out ++ tree_text own_id own_body t → old ++ left_trees_text own_id own_body is_first
-      (tree t ts) ≡ total → new ++ left_trees_text own_id own_body false ts ≡ total
-  goes_on old out new total is_first t ts ahead behind so_far =
-      ap (λ bytes. bytes ++ left_trees_text own_id own_body false ts) (behind ∙ ap
-      (λ bytes. bytes ++ tree_text own_id own_body t) ahead) ∙ append_assoc (old ++ before is_first (codes ", "))
-      (tree_text own_id own_body t) (left_trees_text own_id own_body false ts) ∙ append_assoc old
-      (before is_first (codes ", ")) (tree_text own_id own_body t ++ left_trees_text own_id own_body false ts) ∙ ap
-      (λ bytes. old ++ bytes) (sym (left_first is_first t ts)) ∙ so_far
-
-  -- with no type left, all is written
-  pub ends : (out total : List ℕ) (is_first : Bool) → out ++ left_trees_text own_id own_body is_first no_trees ≡ total →
-      out ≡ total
-  ends out total true written = sym (append-nil out) ∙ written
-  ends out total false written = sym (append-nil out) ∙ written
-
 pub above_left : (ms ns : List ℕ) → above_all ms ≤ above_all (ms ++ ns)
 above_left [] ns = omega arith
 above_left (m ∷ ms) ns = omega (arith, above_left ms ns)
@@ -60,14 +37,46 @@ pub above_right : (ms ns : List ℕ) → above_all ns ≤ above_all (ms ++ ns)
 above_right [] ns = omega arith
 above_right (m ∷ ms) ns = omega (arith, above_right ms ns)
 
+-- The handles in parts are below what those that a type holds are below.
+pub above_held : (xs ys : List ℕ) → ((h : ℕ) → Contains xs h → Contains ys h) → above_all xs ≤ above_all ys
+above_held xs ys included = above_all_upto xs (above_all ys)
+    (all_included (λ k. k < above_all ys) xs ys included (λ i d within. above_each ys i d within))
+
+-- What holds of the handles in parts holds of those in the first of them, and in the others.
+first_held : (P : ℕ → Type 0) (p : Part) (ps : List Part) → All P (held_in (p ∷ ps)) → All P (held_in (p ∷ []))
+first_held P (chars s) ps all = All-nil P
+first_held P (held h) ps all = All-cons P h [] (All-head P h (held_in ps) all) (All-nil P)
+
+others_held : (P : ℕ → Type 0) (p : Part) (ps : List Part) → All P (held_in (p ∷ ps)) → All P (held_in ps)
+others_held P (chars s) ps all = all
+others_held P (held h) ps all = All-tail P h (held_in ps) all
+
+module _ {X : Type 0} (see : X → Part) where
+  -- so it holds of those in the part at a place
+  pub held_at : (P : ℕ → Type 0) (xs : List X) (i : ℕ) (d : X) → i < length xs → All P (held_in (map see xs)) →
+      All P (held_in (see (get_or xs i d) ∷ []))
+  held_at P [] i d within all = absurd (omega (arith, within))
+  held_at P (x ∷ xs) zero d within all = first_held P (see x) (map see xs) all
+  held_at P (x ∷ xs) (suc i) d within all =
+      held_at P xs i d (omega (arith, within)) (others_held P (see x) (map see xs) all)
+
+  pub above_at : (xs : List X) (i : ℕ) (d : X) → i < length xs →
+      above_all (held_in (see (get_or xs i d) ∷ [])) ≤ above_all (held_in (map see xs))
+  above_at xs i d within =
+      let all = held_in (map see xs) in
+      above_all_upto (held_in (see (get_or xs i d) ∷ [])) (above_all all)
+      (held_at (λ k. k < above_all all) xs i d within (λ j e p. above_each all j e p))
+
 -- The type of a handle as it was read: its text, and that it holds smaller handles alone.
-module _ {D K A T E : Type 0} (own_id : T → List ℕ) (own_body : List (TypeView T) → T → List ℕ)
-    (own_handles : T → List ℕ) (types table : List (TypeView T)) (h : ℕ) (x y : TypeObj D K A T E) where
-  pub read_text : table ≡ types → type_at table h ≡ Some (type_view x) → IsTypeTable own_handles table → x ≡ y →
+module _ {D K A T E : Type 0} (own_handles : T → List ℕ) (types table : List (TypeView T)) (h : ℕ)
+    (x y : TypeObj D K A T E) where
+  pub read_text : (own_id : T → List ℕ) (own_body : T → List Part) → ((t : T) (h : ℕ) →
+      Contains (held_in (own_body t)) h → Contains (own_handles t) h) → table ≡ types →
+      type_at table h ≡ Some (type_view x) → IsTypeTable own_handles table → x ≡ y →
       type_text own_id own_body types h ≡ type_text_over own_id own_body types (type_view y)
-  read_text same at whole is =
-      type_text-over own_id own_body own_handles types (subst (IsTypeTable own_handles) same whole) h (type_view y)
-      (ap (λ ts. type_at ts h) (sym same) ∙ at ∙ ap (λ z. Some (type_view z)) is)
+  read_text own_id own_body own_held same at whole is =
+      type_text-over own_handles types (subst (IsTypeTable own_handles) same whole) own_id own_body own_held h
+      (type_view y) (ap (λ ts. type_at ts h) (sym same) ∙ at ∙ ap (λ z. Some (type_view z)) is)
 
   pub read_below : type_at table h ≡ Some (type_view x) → IsTypeTable own_handles table → x ≡ y → All
       (λ k. k < h) (handles_of own_handles (type_view y))

@@ -26,6 +26,9 @@
 --   AttrVerify   attr_is_valid, IsRefusal: which attributes are valid, and how others are refused
 --   TextParts    Puts: a text has come behind what there was; parted: things with something between them
 --   TextLaws     laws of pieces that are put one behind another, for the proofs of the crates above
+--   OwnParts     Part, behind_id: the text of an own type or attribute, in parts
+--   PartSeen     part_view: an `OwnPart` as a Part
+--   Unrolled     unrolled: what is made of a type with all that its handles name
 --   TypeTree, TypeText   tree_of, type_text: a type as a whole, and its text
 --   NamesLent, EntryLent   LendsNames, LendsEntry: what becomes of given names, and of a dictionary's entry, that are
 --   lent
@@ -63,5 +66,8 @@ pub mod NamesLent
 pub mod EntryLent
 pub mod TextParts
 pub mod TextLaws
+pub mod OwnParts
+pub mod PartSeen
+pub mod Unrolled
 pub mod TypeTree
 pub mod TypeText

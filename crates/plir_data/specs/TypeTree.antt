@@ -1,6 +1,7 @@
--- A type as a whole, with the types that its handles name in their places.
-use Rattle.std.specs.Prelude.{ℕ, zero, suc, List, [], ◌∷◌, map, Option, Some, None}
-use Rattle.plir_data.specs.Types.{TypeView, integer, function, unit, own, type_at}
+-- A type as a whole, with the types that its handles name in their places. One of the user's own stands as it is.
+use Rattle.std.specs.Prelude.{ℕ, List, [], ◌∷◌, map}
+use Rattle.plir_data.specs.Types.{TypeView, integer, function, unit, own}
+use Rattle.plir_data.specs.Unrolled.{unrolled}
 use Rattle.plir_data.specs.declared.types.Signedness.{Signedness}
 
 mutual
@@ -27,16 +28,6 @@ module _ {T : Type 0} where
   tree_over grown unit = unit_tree
   tree_over grown (own t) = own_tree t
 
-  abbrev pub tree_if : (grown : ℕ → TypeTree T) → Option (TypeView T) → TypeTree T
-  tree_if grown (Some t) = tree_over grown t
-  tree_if grown None = unit_tree
-
-  -- the tree of a handle, by at most n types above one another
-  unfoldable pub tree_within : ℕ → List (TypeView T) → ℕ → TypeTree T
-  tree_within zero types handle = unit_tree
-  tree_within (suc n) types handle = tree_if (tree_within n types) (type_at types handle)
-
-  -- The tree of a handle. The handles that a type holds are smaller than its own, so no more than that many types stand
-  -- above one another.
+  -- the tree of the type that a handle names; where it names none, that of the unit type
   abbrev pub tree_of : List (TypeView T) → ℕ → TypeTree T
-  tree_of types handle = tree_within (suc handle) types handle
+  tree_of = unrolled tree_over unit_tree

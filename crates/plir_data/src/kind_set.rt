@@ -5,6 +5,7 @@ ghost use Rattle.std.specs.Prelude.{◌≡◌, ℕ, List, Bool};
 use crate::location::VerifyErr;
 use crate::memory::Memory;
 use crate::op_set::OpSet;
+use crate::own_text::OwnText;
 use crate::type_store::TypeStore;
 use crate::types::TypeHandle;
 use std::alloc::Global;
@@ -126,7 +127,7 @@ impl<K: OwnKind> OpSet for KindSet<K> {
 
     ghost attr_id = { λ _. codes "none.meaning" };
 
-    ghost attr_text = { λ _ _. [] };
+    ghost attr_text = { λ _. [] };
 
     ghost attr_type = { λ _. None };
 
@@ -134,7 +135,7 @@ impl<K: OwnKind> OpSet for KindSet<K> {
 
     ghost type_id = { λ _. codes "none.meaning" };
 
-    ghost type_body_text = { λ _ _. [] };
+    ghost type_body_text = { λ _. [] };
 
     ghost function_sig = { λ _. None };
 
@@ -170,12 +171,8 @@ impl<K: OwnKind> OpSet for KindSet<K> {
         "none.meaning"
     }
 
-    fn attr_text<C: TypeStore<Self>>(
-        alloc: Global,
-        _attr: &NoMeaning,
-        _ctx: &C,
-    ) -> Result<String, Memory> {
-        Ok(String::new(alloc))
+    fn attr_text(alloc: Global, _attr: &NoMeaning) -> Result<OwnText, Memory> {
+        Ok(OwnText::new(alloc))
     }
 
     fn attr_type(_attr: &NoMeaning) -> Option<TypeHandle> {
@@ -206,12 +203,8 @@ impl<K: OwnKind> OpSet for KindSet<K> {
         "none.meaning"
     }
 
-    fn type_body_text<C: TypeStore<Self>>(
-        alloc: Global,
-        _ty: &NoMeaning,
-        _ctx: &C,
-    ) -> Result<String, Memory> {
-        Ok(String::new(alloc))
+    fn type_body_text(alloc: Global, _ty: &NoMeaning) -> Result<OwnText, Memory> {
+        Ok(OwnText::new(alloc))
     }
 
     fn function_sig(_ty: &NoMeaning) -> Option<(&[TypeHandle], &[TypeHandle])> {
@@ -233,4 +226,8 @@ impl<K: OwnKind> OpSet for KindSet<K> {
     ghost arguments_held = { λ t p h e m. absurd (none-some p e) };
 
     ghost results_held = { λ t p h e m. absurd (none-some p e) };
+
+    ghost attr_text_held = { λ a h m. m };
+
+    ghost type_body_text_held = { λ t h m. m };
 }

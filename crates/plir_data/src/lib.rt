@@ -19,6 +19,7 @@ mod liveness;
 mod location;
 mod memory;
 mod op_set;
+mod own_text;
 mod places;
 mod plain_attrs;
 pub mod put;
@@ -40,11 +41,12 @@ pub use kind_set::{BuiltinSet, KindSet, NeverRefused, NoMeaning, OwnKind};
 pub use location::{Location, VerifyErr};
 pub use memory::Memory;
 pub use op_set::{OpKind, OpSet};
+pub use own_text::{OwnPart, OwnText};
 pub use plain_attrs::{BoolAttr, IntegerAttr, TypeAttr, UnitAttr};
 pub use text_attrs::{IdentifierAttr, StringAttr};
 pub use type_store::TypeStore;
 pub use type_table::TypeTable;
-pub use type_texts::type_text;
+pub use type_texts::{put_own_text, type_text};
 pub use typed_handle::{FunctionTypeMark, MarkName, TypeInterfaceMark, TypeMark, TypedHandle};
 pub use types::{
     FunctionType, FunctionTypeInterface, IntegerType, Signedness, TypeHandle, TypeObj, TypeSig,

@@ -1,12 +1,14 @@
 //! What a user of the library adds to it: operation kinds, attributes and types of their own.
 
 ghost use Rattle.std.specs.Prelude.{◌≡◌, ℕ, List, Bool, true, Option, Some, IfOk, IfErr, OnOk, IsTrue, ◌↔◌, IsOk};
-ghost use Rattle.std.specs.Prelude.{Contains, All, option_map, string_bytes};
+ghost use Rattle.std.specs.Prelude.{Contains, All, option_map};
+ghost use Rattle.plir_data.specs.OwnParts.{Part, held_in};
 ghost use Rattle.plir_data.specs.Types.{TypeView, AllLive};
 ghost use Rattle.plir_data.specs.Verify.{IsVerdict};
 
 use crate::location::VerifyErr;
 use crate::memory::Memory;
+use crate::own_text::OwnText;
 use crate::type_store::TypeStore;
 use crate::types::TypeHandle;
 use std::alloc::Global;
@@ -54,7 +56,7 @@ pub trait OpSet: Sized {
 
     ghost attr_id: { Self.Attr → List ℕ };
 
-    ghost attr_text: { List (TypeView Self.Ty) → Self.Attr → List ℕ };
+    ghost attr_text: { Self.Attr → List Part };
 
     ghost attr_type: { Self.Attr → Option ℕ };
 
@@ -62,7 +64,7 @@ pub trait OpSet: Sized {
 
     ghost type_id: { Self.Ty → List ℕ };
 
-    ghost type_body_text: { List (TypeView Self.Ty) → Self.Ty → List ℕ };
+    ghost type_body_text: { Self.Ty → List Part };
 
     ghost function_sig: { Self.Ty → Option (List ℕ × List ℕ) };
 
@@ -100,14 +102,9 @@ pub trait OpSet: Sized {
     fn attr_id(attr: &Self::Attr) -> &'static str
         ensures { result.now ≡ attr_id attr.now };
 
-    /// The text of an own attribute behind its id; it may be empty.
-    fn attr_text<C: TypeStore<Self>>(
-        alloc: Global,
-        attr: &Self::Attr,
-        ctx: &C,
-    ) -> Result<String, Memory>
-        requires { AllLive (C.types ctx.now) (attr_handles attr.now) }
-        ensures { IfOk result (λ s. string_bytes s ≡ attr_text (C.types ctx.now) attr.now) };
+    /// The text of an own attribute behind its id, in parts; there may be none.
+    fn attr_text(alloc: Global, attr: &Self::Attr) -> Result<OwnText, Memory>
+        ensures { IfOk result (λ parts. parts ≡ attr_text attr.now) };
 
     /// The type of an own attribute that has one.
     fn attr_type(attr: &Self::Attr) -> Option<TypeHandle>
@@ -139,14 +136,9 @@ pub trait OpSet: Sized {
     fn type_id(ty: &Self::Ty) -> &'static str
         ensures { result.now ≡ type_id ty.now };
 
-    /// The text of an own type behind its id; it may be empty.
-    fn type_body_text<C: TypeStore<Self>>(
-        alloc: Global,
-        ty: &Self::Ty,
-        ctx: &C,
-    ) -> Result<String, Memory>
-        requires { AllLive (C.types ctx.now) (type_handles ty.now) }
-        ensures { IfOk result (λ s. string_bytes s ≡ type_body_text (C.types ctx.now) ty.now) };
+    /// The text of an own type behind its id, in parts; there may be none.
+    fn type_body_text(alloc: Global, ty: &Self::Ty) -> Result<OwnText, Memory>
+        ensures { IfOk result (λ parts. parts ≡ type_body_text ty.now) };
 
     /// The types of arguments and results, where an own type is a type of functions.
     fn function_sig(ty: &Self::Ty) -> Option<(&[TypeHandle], &[TypeHandle])>
@@ -157,6 +149,7 @@ pub trait OpSet: Sized {
         ensures { IsTrue result ↔ AllLive (C.types ctx.now) (type_handles ty.now) };
 
     // Equality tells own values apart exactly as contracts do, and what a query hands out is among the handles held.
+    // So is what a text writes out.
     ghost attr_eq_exact: { (a b : Self.Attr) → IsTrue (Self.Attr.eq a b) → a ≡ b };
 
     ghost type_eq_exact: { (a b : Self.Ty) → IsTrue (Self.Ty.eq a b) → a ≡ b };
@@ -167,5 +160,10 @@ pub trait OpSet: Sized {
         Contains (type_handles t) h };
 
     ghost results_held: { (t : Self.Ty) (p : List ℕ × List ℕ) (h : ℕ) → function_sig t ≡ Some p → Contains p.1 h →
+        Contains (type_handles t) h };
+
+    ghost attr_text_held: { (a : Self.Attr) (h : ℕ) → Contains (held_in (attr_text a)) h → Contains (attr_handles a) h };
+
+    ghost type_body_text_held: { (t : Self.Ty) (h : ℕ) → Contains (held_in (type_body_text t)) h →
         Contains (type_handles t) h };
 }

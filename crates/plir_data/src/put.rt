@@ -3,7 +3,7 @@
 
 ghost use Rattle.std.specs.Prelude.{◌≡◌, OnErr, OnOk, string_bytes};
 ghost use Rattle.plir_data.specs.TextParts.{Puts, before};
-ghost use Rattle.plir_data.specs.TypeText.{integer_text, letters, spaced};
+ghost use Rattle.plir_data.specs.TypeText.{integer_text, letters};
 
 use crate::ap_int::put_decimal;
 use crate::memory::Memory;
@@ -24,20 +24,6 @@ pub fn put_between(out: &mut String, is_first: bool, between: &str) -> Result<()
     ensures err { OnErr result (string_bytes out.new ≡ string_bytes out.old) }
 {
     if is_first { Ok(()) } else { put(out, between) }
-}
-
-/// Puts a text behind a space, where it isn't empty.
-pub fn put_spaced(out: &mut String, text: &str) -> Result<(), Memory>
-    ensures ok { OnOk result (Puts out.old out.new (spaced text.now)) }
-    ensures err { OnErr result (string_bytes out.new ≡ string_bytes out.old) }
-{
-    if text.is_empty() {
-        return Ok(());
-    }
-    let mut whole = String::new(*out.allocator());
-    put(&mut whole, " ")?;
-    put(&mut whole, text)?;
-    put(out, &whole)
 }
 
 /// Puts an integer type without its id, as `si32`.

@@ -1,12 +1,15 @@
 //! The texts of types.
 
-ghost use Rattle.std.specs.Prelude.{◌≡◌, ◌++◌, IfOk, OnOk, codes, string_bytes};
-ghost use Rattle.plir_data.specs.Types.{IsLive, AllLive, function};
-ghost use Rattle.plir_data.specs.TypeText.{integer_text, spaced, type_text, types_text, type_text_over};
+ghost use Rattle.std.specs.Prelude.{◌≡◌, ◌++◌, ◌∷◌, [], IfOk, OnOk, codes, map, string_bytes};
+ghost use Rattle.plir_data.specs.OwnParts.{behind_id, held_in, part_text, parts_text};
+ghost use Rattle.plir_data.specs.PartSeen.{part_view};
+ghost use Rattle.plir_data.specs.Types.{IsLive, AllLive, function, own};
+ghost use Rattle.plir_data.specs.TypeText.{integer_text, type_text, types_text, type_text_over};
 
 use crate::memory::Memory;
 use crate::op_set::OpSet;
-use crate::put::{put, put_between, put_integer_text, put_spaced};
+use crate::own_text::{OwnPart, OwnText};
+use crate::put::{put, put_between, put_integer_text};
 use crate::type_store::TypeStore;
 use crate::types::{FunctionType, FunctionTypeInterface, IntegerType, TypeHandle, TypeObj};
 use std::alloc::Global;
@@ -83,6 +86,7 @@ fn put_types<D: OpSet, C: TypeStore<D>>(
     Ok(())
 }
 
+#[cycle(type_text)]
 fn put_own_type<D: OpSet, C: TypeStore<D>>(
     out: &mut String,
     alloc: Global,
@@ -91,12 +95,66 @@ fn put_own_type<D: OpSet, C: TypeStore<D>>(
 ) -> Result<(), Memory>
     requires { AllLive (C.types ctx.now) (D.type_handles ty.now) }
     ensures { OnOk result (string_bytes out.new ≡ string_bytes out.old ++
-        (D.type_id ty.now ++ spaced (D.type_body_text (C.types ctx.now) ty.now))) }
+        type_text_over D.type_id D.type_body_text (C.types ctx.now) (own ty.now)) }
 {
-    let body = D::type_body_text(alloc, ty, ctx)?;
+    let text = D::type_body_text(alloc, ty)?;
     put(out, D::type_id(ty))?;
-    put_spaced(out, body.as_str())?;
+    put_own_text(out, alloc, ctx, &text)?;
     Ok(())
+}
+
+/// Puts what stands behind the id of an own type or attribute: a space and its parts, where there are any.
+#[cycle(type_text)]
+pub fn put_own_text<D: OpSet, C: TypeStore<D>>(
+    out: &mut String,
+    alloc: Global,
+    ctx: &C,
+    text: &OwnText,
+) -> Result<(), Memory>
+    requires { AllLive (C.types ctx.now) (held_in text.now) }
+    ensures { OnOk result (string_bytes out.new ≡ string_bytes out.old ++
+        behind_id (type_text D.type_id D.type_body_text (C.types ctx.now)) text.now) }
+{
+    if text.is_empty() {
+        return Ok(());
+    }
+    put(out, " ")?;
+    put_parts(out, alloc, ctx, text.parts())?;
+    Ok(())
+}
+
+#[cycle(type_text)]
+fn put_parts<D: OpSet, C: TypeStore<D>>(
+    out: &mut String,
+    alloc: Global,
+    ctx: &C,
+    parts: &[OwnPart],
+) -> Result<(), Memory>
+    requires { AllLive (C.types ctx.now) (held_in (map part_view parts.now)) }
+    ensures { OnOk result (string_bytes out.new ≡ string_bytes out.old ++
+        parts_text (type_text D.type_id D.type_body_text (C.types ctx.now)) (map part_view parts.now)) }
+{
+    'parts: for part in parts {
+        put_part(out, alloc, ctx, part)?;
+    }
+    Ok(())
+}
+
+#[cycle(type_text)]
+fn put_part<D: OpSet, C: TypeStore<D>>(
+    out: &mut String,
+    alloc: Global,
+    ctx: &C,
+    part: &OwnPart,
+) -> Result<(), Memory>
+    requires { AllLive (C.types ctx.now) (held_in (part_view part.now ∷ [])) }
+    ensures { OnOk result (string_bytes out.new ≡ string_bytes out.old ++
+        part_text (type_text D.type_id D.type_body_text (C.types ctx.now)) (part_view part.now)) }
+{
+    match part {
+        OwnPart::Text(text) => put(out, text.as_str()),
+        OwnPart::Type(handle) => put_type(out, alloc, ctx, *handle),
+    }
 }
 
 fn put_integer_type(out: &mut String, ty: &IntegerType) -> Result<(), Memory>

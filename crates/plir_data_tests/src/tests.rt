@@ -15,6 +15,7 @@ macro_rules! again {
 
 mod conversions;
 mod entries;
+mod holders;
 mod numbers;
 mod scripts;
 mod types;

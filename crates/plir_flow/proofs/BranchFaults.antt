@@ -1,6 +1,6 @@
 -- What is reported of a mismatch is a fault of the branch.
 use Rattle.std.proofs.Common.{ℕ, List}
-use Rattle.plir_data.specs.Types.{TypeView}
+use Rattle.plir_data.specs.OwnParts.{Part}
 use Rattle.plir_core.specs.declared.ptr.Ptr.{Ptr}
 use Rattle.plir_core.specs.declared.ptr.Operation.{Operation as OperationKind}
 use Rattle.plir_core.specs.ContextView.{ContextView}
@@ -12,7 +12,7 @@ use Rattle.plir_flow.specs.declared.branch_errors.Mismatch.{Mismatch}
 use Rattle.plir_flow.specs.declared.branch_errors.Mismatch.TheVariants.{Count, Differ}
 use Rattle.plir_flow.specs.Branches.{Range, IsFirstMismatch, ReportsMismatch, IsBranchFault}
 
-module _ {K A T E : Type 0} (own_id : T → List ℕ) (own_body : List (TypeView T) → T → List ℕ)
+module _ {K A T E : Type 0} (own_id : T → List ℕ) (own_body : T → List Part)
     (s : ContextView K A T) where
   no-layout : (m : Mismatch) (e : E) → ReportsMismatch own_id own_body s m (Layout e) → ⊥
   no-layout (Count p x) e t = t

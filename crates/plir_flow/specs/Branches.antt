@@ -1,8 +1,9 @@
 -- The rules of branches and of successors, and how they are refused.
 use Rattle.std.specs.Prelude.{◌≡◌, ◌≢◌, ◌<◌, ◌+◌, ℕ, List, [], ◌∷◌, ◌++◌, insert, remove, length, map, slice_get}
 use Rattle.std.specs.Prelude.{slice_range, slice_set, Bool, true, false, ◌||◌, Option, Some, string_bytes}
+use Rattle.plir_data.specs.OwnParts.{Part}
 use Rattle.plir_data.specs.Dictionary.{dict_get, is_key}
-use Rattle.plir_data.specs.Types.{TypeView, IsLive as IsTypeLive}
+use Rattle.plir_data.specs.Types.{IsLive as IsTypeLive}
 use Rattle.plir_data.specs.TypeText.{type_text}
 use Rattle.plir_data.specs.declared.location.VerifyErr.{VerifyErr}
 use Rattle.plir_data.specs.declared.op_set.OpSet as op_set
@@ -104,7 +105,7 @@ module _ {K A T : Type 0} where
   NamesLive s (Differ i forwarded expected) = IsTypeLive s.types forwarded × IsTypeLive s.types expected
 
   -- What an error reports of a mismatch: its numbers, or the texts of its types.
-  abbrev pub ReportsMismatch : {E : Type 0} → (own_id : T → List ℕ) (own_body : List (TypeView T) → T → List ℕ) →
+  abbrev pub ReportsMismatch : {E : Type 0} → (own_id : T → List ℕ) (own_body : T → List Part) →
       ContextView K A T → Mismatch → BranchOpInterfaceVerifyErr E → Type 0
   ReportsMismatch own_id own_body s (Count p x) (SuccessorOperandsMismatch provided expected) = (provided ≡ p) ×
       (expected ≡ x)
@@ -116,7 +117,7 @@ module _ {K A T : Type 0} where
   -- The layout is wrong, and this is its refusal; or it is right, and the error reports how the first successor's types
   -- do not agree.
   abbrev pub IsBranchFault : {E : Type 0} → (layout : Type 0) (layout_refusal : E → Type 0) (own_id : T → List ℕ)
-      (own_body : List (TypeView T) → T → List ℕ)
+      (own_body : T → List Part)
       → ContextView K A T → Ptr OperationKind → (forwards : ℕ → Range) → BranchOpInterfaceVerifyErr E → Type 0
   IsBranchFault layout layout_refusal own_id own_body s op forwards (Layout e) = (layout → ⊥) × layout_refusal e
   IsBranchFault layout layout_refusal own_id own_body s op forwards e = layout ×

@@ -1,10 +1,10 @@
 -- The rule of region edges, and how it is refused.
 use Rattle.std.specs.Prelude.{◌≡◌, ◌⊎◌, ◌↔◌, ℕ, List, All, Bool, true, slice_get, Option, Some}
 use Rattle.std.specs.Prelude.{string_bytes, option_and_then}
+use Rattle.plir_data.specs.OwnParts.{Part}
 use Rattle.plir_data.specs.declared.location.VerifyErr.{VerifyErr}
 use Rattle.plir_data.specs.declared.op_set.OpSet as op_set
 use Rattle.plir_data.specs.declared.location.VerifyErr.TheVariants.{Refused, Memory}
-use Rattle.plir_data.specs.Types.{TypeView}
 use Rattle.plir_data.specs.TypeText.{type_text}
 use Rattle.plir_core.specs.declared.ptr.Ptr.{Ptr}
 use Rattle.plir_core.specs.declared.ptr.Operation.{Operation as OperationKind}
@@ -158,7 +158,7 @@ module _ {K A T : Type 0} (is_terminator : K → Bool) (s : ContextView K A T) (
   IsFaultOfEdges es OtherReceivers = HaveOtherReceivers es
   IsFaultOfEdges es f = (e : EdgeView) × (Has es e × IsFaultOfEdge e f)
 
-module _ {K A T E : Type 0} (own_id : T → List ℕ) (own_body : List (TypeView T) → T → List ℕ)
+module _ {K A T E : Type 0} (own_id : T → List ℕ) (own_body : T → List Part)
     (s : ContextView K A T) where
   -- What an error reports of a fault: the point, and the texts of the types.
   abbrev pub ReportsFault : EdgeFault → RegionBranchOpInterfaceVerifyErr E → Type 0

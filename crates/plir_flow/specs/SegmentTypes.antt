@@ -1,5 +1,6 @@
 -- The rules of the types in one segment, and how they are refused.
 use Rattle.std.specs.Prelude.{◌≡◌, ◌<◌, ◌≤◌, ℕ, List, length, map, Bool, Option, string_bytes}
+use Rattle.plir_data.specs.OwnParts.{Part}
 use Rattle.plir_data.specs.Types.{TypeView}
 use Rattle.plir_data.specs.declared.location.VerifyErr.{VerifyErr}
 use Rattle.plir_core.specs.declared.ptr.Ptr.{Ptr}
@@ -42,7 +43,7 @@ module _ {K A T : Type 0} where
 
     module _ (name : List ℕ) (own_id : T → List ℕ) where
       -- There is no segment n; or it is there, and the text is that of the first type in it that fails.
-      abbrev pub IsSegmentOfOtherKind : (own_body : List (TypeView T) → T → List ℕ) → SegmentNOfTypeError → Type 0
+      abbrev pub IsSegmentOfOtherKind : (own_body : T → List Part) → SegmentNOfTypeError → Type 0
       IsSegmentOfOtherKind own_body (SegmentNotFound i) = (i ≡ n) × (num_segments s op ≤ n)
       IsSegmentOfOtherKind own_body (UnexpectedType wanted found) =
           (n < num_segments s op) × (wanted.now ≡ name) ×
@@ -57,7 +58,7 @@ module _ {K A T : Type 0} where
       IsSegmentWithout _ = ⊥
 
       -- How an operation breaks one of these rules: the refusal is at its location.
-      abbrev pub IsSegmentNOfTypeRefusal : (own_body : List (TypeView T) → T → List ℕ) → VerifyErr SegmentNOfTypeError →
+      abbrev pub IsSegmentNOfTypeRefusal : (own_body : T → List Part) → VerifyErr SegmentNOfTypeError →
           Type 0
       IsSegmentNOfTypeRefusal own_body = IsRefusalMemoryAside s op (IsSegmentOfOtherKind own_body)
 

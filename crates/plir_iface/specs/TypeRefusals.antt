@@ -1,6 +1,7 @@
 -- How the rules of types are refused: a fault of the types, and what an error reports of it.
 use Rattle.std.specs.Prelude.{◌≡◌, ◌<◌, ℕ, List, [], length, Bool, Option, string_bytes}
 use Rattle.std.specs.Option.{option_map_or, option_and_then}
+use Rattle.plir_data.specs.OwnParts.{Part}
 use Rattle.plir_data.specs.Types.{TypeView, type_at, type_id}
 use Rattle.plir_data.specs.TypeText.{type_text}
 use Rattle.plir_data.specs.declared.location.VerifyErr.{VerifyErr}
@@ -51,7 +52,7 @@ use Rattle.plir_iface.specs.declared.type_errors.TypeRuleErr.TheVariants.{TooFew
 abbrev pub id_in : {K A T : Type 0} (own_id : T → List ℕ) → ContextView K A T → List (Option ℕ) → ℕ → List ℕ
 id_in own_id s ts i = option_map_or (type_id own_id) (option_and_then (type_at s.types) (type_in ts i)) []
 
-abbrev pub text_in : {K A T : Type 0} (own_id : T → List ℕ) (own_body : List (TypeView T) → T → List ℕ)
+abbrev pub text_in : {K A T : Type 0} (own_id : T → List ℕ) (own_body : T → List Part)
     → ContextView K A T →
     List (Option ℕ) → ℕ → List ℕ
 text_in own_id own_body s ts i = option_map_or (type_text own_id own_body s.types) (type_in ts i) []
@@ -80,12 +81,12 @@ module _ {K A T : Type 0} (passes : TypeView T → Bool) (name : List ℕ) (own_
   ReportsTypeFault op side places R e = (f : TypeFault) × (IsFault side places (types_on side s op) f × R f e)
 
   -- the same of the first that fails, by its text
-  abbrev pub IsOtherKind : (own_body : List (TypeView T) → T → List ℕ) → List (Option ℕ) → OtherKind → Type 0
+  abbrev pub IsOtherKind : (own_body : T → List Part) → List (Option ℕ) → OtherKind → Type 0
   IsOtherKind own_body ts o =
       (o.wanted.now ≡ name) × ((i : ℕ) × (FailsFirst passes s (λ i. i < length ts) ts i ×
       (string_bytes o.found ≡ text_in own_id own_body s ts i)))
 
-  abbrev pub ReportsOtherKind : {E : Type 0} → (own_body : List (TypeView T) → T → List ℕ) → Ptr OperationKind → Side →
+  abbrev pub ReportsOtherKind : {E : Type 0} → (own_body : T → List Part) → Ptr OperationKind → Side →
       (R : OtherKind → E → Type 0) → E → Type 0
   ReportsOtherKind own_body op side R e = (o : OtherKind) × (IsOtherKind own_body (types_on side s op) o × R o e)
 
@@ -134,7 +135,7 @@ ReportsRule P Q _ _ = ⊥
 -- location.
 module _ {K A T : Type 0} (marks : TypeView T → Bool) (name : List ℕ) (own_id : T → List ℕ) (s : ContextView K A T)
     (op : Ptr OperationKind) where
-  abbrev pub IsAllOperandsOfTypeRefusal : (own_body : List (TypeView T) → T → List ℕ) →
+  abbrev pub IsAllOperandsOfTypeRefusal : (own_body : T → List Part) →
       VerifyErr AllOperandsOfTypeVerifyErr → Type 0
   IsAllOperandsOfTypeRefusal own_body = IsRefusalMemoryAside s op
       (ReportsOtherKind marks name own_id s own_body op Operands ReportsOtherOperand)
@@ -161,7 +162,7 @@ module _ {K A T : Type 0} (marks : TypeView T → Bool) (name : List ℕ) (own_i
   IsOperandsMNImplsTyRefusal m n = IsRefusal s op (ReportsTypeFault marks name own_id s op Operands
       (Within m (signed n)) (ReportsRule ReportsFewOperands ReportsImpls))
 
-  abbrev pub IsAllResultsOfTypeRefusal : (own_body : List (TypeView T) → T → List ℕ) →
+  abbrev pub IsAllResultsOfTypeRefusal : (own_body : T → List Part) →
       VerifyErr AllResultsOfTypeVerifyErr → Type 0
   IsAllResultsOfTypeRefusal own_body = IsRefusalMemoryAside s op
       (ReportsOtherKind marks name own_id s own_body op Results ReportsOtherResult)

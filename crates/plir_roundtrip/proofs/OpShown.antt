@@ -131,7 +131,7 @@ module _ {D K A T E : Type 0} (o : op_set.Ghosts D K A T E) (s : ContextView K A
       → Shown (SpellsType (some_type_term s.types x)) (some_type_text o s x)
   some_type-shown x h e b =
       subst (λ z. Shown (SpellsType (some_type_term s.types z)) (some_type_text o s z)) (sym e)
-      (type-shown o.type_id (o.type_body_text s.types) (tree_of s.types h) b)
+      (type-shown o.type_id o.type_body_text s.types h b)
 
   some_attr-shown : (x : Option (AttrView A)) (a : AttrView A) → x ≡ Some a → IsWritable s.types a
       → Shown (Spells (some_attr_term s.types x)) (some_attr_text o s x)

@@ -1,6 +1,7 @@
 -- Dictionaries, heads of blocks, headers and constants, as they are printed.
 use Rattle.std.proofs.Common.{◌≡◌, ℕ, true, false, List, [], ◌∷◌, ◌++◌, codes, map, inl, inr, refl, sym, ap, ◌∙◌}
 use Rattle.std.proofs.Common.{append_assoc}
+use Rattle.plir_data.specs.OwnParts.{Part}
 use Rattle.plir_data.specs.AttrView as views
 use Rattle.plir_data.specs.AttrView.{AttrView}
 use Rattle.plir_data.specs.Identifier.{is_identifier}
@@ -32,8 +33,8 @@ module _ {A T : Type 0} (table : List (TypeView T)) where
   AreWritable [] = Unit {0}
   AreWritable (e ∷ es) = (is_identifier e.0 ≡ true) × IsWritable table e.1 × AreWritable es
 
-module _ {A T : Type 0} (own_id : A → List ℕ) (own_body : List (TypeView T) → A → List ℕ) (type_id : T → List ℕ)
-    (type_body : List (TypeView T) → T → List ℕ) (table : List (TypeView T)) where
+module _ {A T : Type 0} (own_id : A → List ℕ) (own_body : A → List Part) (type_id : T → List ℕ)
+    (type_body : T → List Part) (table : List (TypeView T)) where
   abbrev write : List ℕ × AttrView A → List ℕ
   write e = entry_text own_id own_body type_id type_body table e
 

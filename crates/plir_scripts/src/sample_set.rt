@@ -2,7 +2,7 @@
 //! marked, and a type that may have a body text.
 use crate::script_set::ScriptSet;
 use plir_data::{
-    Location, Memory, OpSet, OutlinedAttr, PrintOnceAttr, TypeHandle, TypeStore, VerifyErr,
+    Location, Memory, OpSet, OutlinedAttr, OwnText, PrintOnceAttr, TypeHandle, TypeStore, VerifyErr,
 };
 use std::alloc::Global;
 use thiserror::Error;
@@ -32,7 +32,8 @@ pub struct NotMarked;
 pub struct SampleSet;
 
 impl OpSet for SampleSet {
-    ghost use Rattle.std.specs.Prelude.{[], None, true, false, codes, cond, ⊤};
+    ghost use Rattle.std.specs.Prelude.{[], ◌∷◌, Contains, None, true, false, codes, cond, ⊤};
+    ghost use Rattle.plir_data.specs.OwnParts.{chars, held_in};
     ghost use Rattle.std.proofs.Common.{rules};
     ghost use Rattle.plir_scripts.specs.Kinds.{ends_block, id_of};
 
@@ -56,7 +57,7 @@ impl OpSet for SampleSet {
 
     ghost attr_id = { λ _. codes "sample.attr" };
 
-    ghost attr_text = { λ _ a. cond a.0 (codes "marked") [] };
+    ghost attr_text = { λ a. cond a.0 (chars (codes "marked") ∷ []) [] };
 
     ghost attr_type = { λ _. None };
 
@@ -64,7 +65,7 @@ impl OpSet for SampleSet {
 
     ghost type_id = { λ _. codes "sample.type" };
 
-    ghost type_body_text = { λ _ t. cond t.0 (codes "wide") [] };
+    ghost type_body_text = { λ t. cond t.0 (chars (codes "wide") ∷ []) [] };
 
     ghost function_sig = { λ _. None };
 
@@ -103,15 +104,12 @@ impl OpSet for SampleSet {
         "sample.attr"
     }
 
-    fn attr_text<C: TypeStore<Self>>(
-        alloc: Global,
-        attr: &SampleAttr,
-        _ctx: &C,
-    ) -> Result<String, Memory> {
-        if !attr.0 {
-            return Ok(String::new(alloc));
+    fn attr_text(alloc: Global, attr: &SampleAttr) -> Result<OwnText, Memory> {
+        let mut text = OwnText::new(alloc);
+        if attr.0 {
+            text.text("marked")?;
         }
-        Ok(String::from_str(alloc, "marked")?)
+        Ok(text)
     }
 
     fn attr_type(_attr: &SampleAttr) -> Option<TypeHandle> {
@@ -156,15 +154,12 @@ impl OpSet for SampleSet {
         "sample.type"
     }
 
-    fn type_body_text<C: TypeStore<Self>>(
-        alloc: Global,
-        ty: &SampleType,
-        _ctx: &C,
-    ) -> Result<String, Memory> {
-        if !ty.0 {
-            return Ok(String::new(alloc));
+    fn type_body_text(alloc: Global, ty: &SampleType) -> Result<OwnText, Memory> {
+        let mut text = OwnText::new(alloc);
+        if ty.0 {
+            text.text("wide")?;
         }
-        Ok(String::from_str(alloc, "wide")?)
+        Ok(text)
     }
 
     fn function_sig(_ty: &SampleType) -> Option<(&[TypeHandle], &[TypeHandle])> {
@@ -186,6 +181,12 @@ impl OpSet for SampleSet {
     ghost arguments_held = { λ t p h e m. absurd (none-some p e) };
 
     ghost results_held = { λ t p h e m. absurd (none-some p e) };
+
+    ghost attr_text_held = { λ a h m. elim a.0 as (λ b. Contains (held_in (cond b (chars (codes "marked") ∷ []) [])) h →
+        Contains [] h) [ true ↦ λ e. e | false ↦ λ e. e ] m };
+
+    ghost type_body_text_held = { λ t h m. elim t.0 as (λ b. Contains (held_in (cond b (chars (codes "wide") ∷ []) [])) h →
+        Contains [] h) [ true ↦ λ e. e | false ↦ λ e. e ] m };
 }
 
 impl OutlinedAttr<SampleSet> for SampleAttr {

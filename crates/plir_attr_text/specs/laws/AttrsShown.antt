@@ -3,6 +3,7 @@ use Rattle.std.proofs.Common.{◌≡◌, ℕ, ◌<◌, ◌≤◌, ◌^◌, Bool,
 use Rattle.std.proofs.Common.{None, Ok, codes, refl, sym, ap, subst, ◌∙◌, arith, append-nil, append_assoc}
 use Rattle.std.proofs.lemmas.Bool.Decides.{Decides-eqb}
 use Rattle.std.specs.Fmt.{decimal}
+use Rattle.plir_data.specs.OwnParts.{Part}
 use Rattle.plir_data.specs.AttrVerify.{is_of_width}
 use Rattle.plir_data.specs.AttrView as views
 use Rattle.plir_data.specs.AttrView.{Leaf, AttrView, leaf, dict, vec, Items, no_items, item, Entries, no_entries, entry}
@@ -105,8 +106,8 @@ module _ {T : Type 0} where
   verified_type (Some (types.own t)) w e = absurd cc
   verified_type None w e = absurd cc
 
-module _ {A T : Type 0} (own_id : A → List ℕ) (own_body : List (TypeView T) → A → List ℕ) (type_id : T →
-    List ℕ) (type_body : List (TypeView T) → T → List ℕ) (table : List (TypeView T)) where
+module _ {A T : Type 0} (own_id : A → List ℕ) (own_body : A → List Part) (type_id : T →
+    List ℕ) (type_body : T → List Part) (table : List (TypeView T)) where
   abbrev text_by : (h w b : ℕ) → Option (TypeView T) → List ℕ
   text_by h w b o = codes "builtin.integer <" ++
       (literal (is_signed o) w b ++ (codes ": " ++ (bare_text (type_text type_id type_body table h) o ++ codes ">")))
@@ -125,7 +126,7 @@ module _ {A T : Type 0} (own_id : A → List ℕ) (own_body : List (TypeView T) 
   leaf-shown (views.integer handle w b) h = integer-shown handle w b (record { some = h.0; few = h.1; below = h.2 }) h.3
   leaf-shown views.unit h = word-shown (codes "builtin.unit") refl
   leaf-shown (views.type_of handle) h =
-      behind_id (codes "builtin.type") refl (type-shown type_id (type_body table) (tree_of table handle) h.1)
+      behind_id (codes "builtin.type") refl (type-shown type_id type_body table handle h.1)
   leaf-shown (views.operand_segment_sizes ns) h =
       listed (codes "builtin.operand_segment_sizes") refl (several-shown SpellsSize decimal (λ n. n < 2 ^ 32) size-shown
       ns h)
@@ -190,8 +191,8 @@ module _ {E F : List Token → Type 0} {text more : List ℕ} (k : List ℕ) (h 
 
 -- ---- attributes in attributes
 
-module _ {A T : Type 0} (own_id : A → List ℕ) (own_body : List (TypeView T) → A → List ℕ) (type_id : T →
-    List ℕ) (type_body : List (TypeView T) → T → List ℕ) (table : List (TypeView T)) where
+module _ {A T : Type 0} (own_id : A → List ℕ) (own_body : A → List Part) (type_id : T →
+    List ℕ) (type_body : T → List Part) (table : List (TypeView T)) where
   mutual
     pub attr-shown : (x : AttrView A) → IsWritable table x →
         Shown (Spells (attr_term table x)) (attr_text own_id own_body type_id type_body table x)
@@ -272,8 +273,8 @@ module _ {A T : Type 0} (itself : IsDictOfItself (AttrView A)) (own_handles : T 
     entries_meant (entry k x es) h = (x, pairs_of es, attr_meant x h.0, entries_meant es h.1, refl)
 
   -- the text of an attribute stands for it, with as many levels as it has, also in a table that has grown on
-  pub text_stands : (own_id : A → List ℕ) (own_body : List (TypeView T) → A → List ℕ) (type_id : T →
-      List ℕ) (type_body : List (TypeView T) → T → List ℕ) (n : ℕ) (new : List (TypeView T)) → Grows table new →
+  pub text_stands : (own_id : A → List ℕ) (own_body : A → List Part) (type_id : T →
+      List ℕ) (type_body : T → List Part) (n : ℕ) (new : List (TypeView T)) → Grows table new →
       (x : AttrView A) → IsWritable table x → levels (attr_term table x) ≤ n →
       StandsFor n new (attr_text own_id own_body type_id type_body table x) x
   text_stands own_id own_body type_id type_body n new g x h le =

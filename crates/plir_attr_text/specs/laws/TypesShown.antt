@@ -1,12 +1,14 @@
 -- The text of a type stands for it.
-use Rattle.std.proofs.Common.{◌≡◌, ℕ, zero, suc, ◌<◌, List, [], ◌∷◌, ◌++◌, ◌^◌, inl, inr, length, map, Option, Some}
+use Rattle.std.proofs.Common.{◌≡◌, ℕ, zero, suc, ◌<◌, false, List, [], ◌∷◌, ◌++◌, ◌^◌, inl, inr, length, map, Option, Some}
 use Rattle.std.proofs.Common.{None, All, Ok, codes, refl, sym, ap, subst, ◌∙◌, arith, append_assoc}
 use Rattle.std.proofs.lemmas.Option.{slice_get_cases}
 use Rattle.plir_data.specs.LiveLaws.{all_left, all_right}
 use Rattle.plir_data.specs.Types.{TypeView, integer, function, unit, own, IsTypeTable, type_at}
-use Rattle.plir_data.specs.TypeTree.{TypeTree, integer_tree, function_tree, unit_tree, own_tree, Trees, no_trees, tree}
-use Rattle.plir_data.specs.TypeTree.{trees_of, tree_over, tree_if, tree_within, tree_of}
-use Rattle.plir_data.specs.TypeText.{integer_text, tree_text, trees_text, more_trees_text}
+use Rattle.plir_data.specs.OwnParts.{Part}
+use Rattle.plir_data.specs.TextParts.{parted, parted_from}
+use Rattle.plir_data.specs.TypeTree.{TypeTree, unit_tree, trees_of, tree_over, tree_of}
+use Rattle.plir_data.specs.TypeText.{integer_text, text_over, type_text}
+use Rattle.plir_data.specs.Unrolled.{unrolled_if, unrolled_within}
 use Rattle.plir_attr_text.specs.Names.{Names, NamesAll}
 use Rattle.plir_attr_text.specs.Tokens.{Token, word, sign, arrow, look, Begins}
 use Rattle.plir_attr_text.specs.TypeGrammar.{enclosed, in_angles, SpellsInteger, SpellsType, SpellsTypes}
@@ -91,26 +93,55 @@ module _ {E F : List Token → Type 0} {first second : List ℕ} (p : Run E firs
     );
   }
 
--- ---- types by their trees
+-- the tree of a handle, by at most n types above one another
+abbrev tree_within : {T : Type 0} → List (TypeView T) → ℕ → ℕ → TypeTree T
+tree_within types n = unrolled_within tree_over unit_tree n types
 
-module _ {T : Type 0} (own_id own_body : T → List ℕ) where
-  mutual
-    pub type-shown : (t : TypeTree T) → IsBuiltin t → Shown (SpellsType (type_term t)) (tree_text own_id own_body t)
-    type-shown (integer_tree s w) b = behind_id (codes "builtin.integer") refl (integer_type-shown s w b)
-    type-shown (function_tree as_ rs) b =
+-- ---- texts of types, by their trees
+
+module _ {T : Type 0} (own_id : T → List ℕ) (own_body : T → List Part) where
+  -- a type, where the text of each that its handles name stands for the tree of that
+  module _ (grown : ℕ → TypeTree T) (text : ℕ → List ℕ) (each : (h : ℕ) → IsBuiltin (grown h) →
+      Shown (SpellsType (type_term (grown h))) (text h)) where
+    more_types-shown : (hs : List ℕ) → AreBuiltin (trees_of (map grown hs)) →
+        Tail (SpellsMoreTypes (type_terms (trees_of (map grown hs)))) (parted_from false (codes ", ") text hs)
+    more_types-shown [] b = nothing
+    more_types-shown (h ∷ hs) b = behind_comma (each h b.0) (more_types-shown hs b.1)
+
+    types-shown : (hs : List ℕ) → AreBuiltin (trees_of (map grown hs)) →
+        Run (SpellsTypes (type_terms (trees_of (map grown hs)))) (parted (codes ", ") text hs)
+    types-shown [] b = nothing.run
+    types-shown (h ∷ hs) b = behind_first (each h b.0) (more_types-shown hs b.1)
+
+    over-shown : (t : TypeView T) → IsBuiltin (tree_over grown t) →
+        Shown (SpellsType (type_term (tree_over grown t))) (text_over own_id own_body text t)
+    over-shown (integer s w) b = behind_id (codes "builtin.integer") refl (integer_type-shown s w b)
+    over-shown (function as_ rs) b =
         Shown-as (λ ts s. (s.1.0, s.1.1, s.1.2, s.1.3, s.2 ∙ ap (λ l. word (codes "builtin.function") ∷ l) s.1.4))
         (behind_id (codes "builtin.function") refl (signature-shown (types-shown as_ b.0) (types-shown rs b.1)))
-    type-shown unit_tree b = word-shown (codes "builtin.unit") refl
-    type-shown (own_tree t) b = absurd b
+    over-shown unit b = word-shown (codes "builtin.unit") refl
+    over-shown (own t) b = absurd b
 
-    types-shown : (ts : Trees T) → AreBuiltin ts → Run (SpellsTypes (type_terms ts)) (trees_text own_id own_body ts)
-    types-shown no_trees b = nothing.run
-    types-shown (tree t ts) b = behind_first (type-shown t b.0) (more_types-shown ts b.1)
+  module _ (types : List (TypeView T)) where
+    abbrev text_within : ℕ → ℕ → List ℕ
+    text_within n = unrolled_within (text_over own_id own_body) (codes "builtin.unit") n types
 
-    more_types-shown : (ts : Trees T) → AreBuiltin ts →
-        Tail (SpellsMoreTypes (type_terms ts)) (more_trees_text own_id own_body ts)
-    more_types-shown no_trees b = nothing
-    more_types-shown (tree t ts) b = behind_comma (type-shown t b.0) (more_types-shown ts b.1)
+    within-shown : (n h : ℕ) → IsBuiltin (tree_within types n h) →
+        Shown (SpellsType (type_term (tree_within types n h))) (text_within n h)
+    unfolding unrolled_within
+    within-shown zero h b = word-shown (codes "builtin.unit") refl
+    within-shown (suc n) h b = by (type_at types h) b
+      where
+        by : (o : Option (TypeView T)) → IsBuiltin (unrolled_if tree_over unit_tree (tree_within types n) o) →
+            Shown (SpellsType (type_term (unrolled_if tree_over unit_tree (tree_within types n) o)))
+            (unrolled_if (text_over own_id own_body) (codes "builtin.unit") (text_within n) o)
+        by (Some t) c = over-shown (tree_within types n) (text_within n) (within-shown n) t c
+        by None c = word-shown (codes "builtin.unit") refl
+
+    -- the text of a builtin type that a handle names
+    pub type-shown : (h : ℕ) → IsBuiltin (tree_of types h) →
+        Shown (SpellsType (type_term (tree_of types h))) (type_text own_id own_body types h)
+    type-shown h b = within-shown (suc h) h b
 
 -- ---- types by their handles
 
@@ -143,17 +174,17 @@ module _ {T : Type 0} (own_handles : T → List ℕ) (types : List (TypeView T))
     one_named grown h each unit is b = is
     one_named grown h each (own t) is b = absurd b
 
-    within_named : (n h : ℕ) → h < n → h < length types → IsBuiltin (tree_within n types h) →
-        Names types h (type_term (tree_within n types h))
-    unfolding tree_within
+    within_named : (n h : ℕ) → h < n → h < length types → IsBuiltin (tree_within types n h) →
+        Names types h (type_term (tree_within types n h))
+    unfolding unrolled_within
     within_named zero h lt live b = absurd (omega (arith, lt))
     within_named (suc n) h lt live b =
         by (type_at types h) refl (λ k less. within_named n k (omega (arith, lt, less)) (omega (arith, live, less))) b
       where
-        by : (o : Option (TypeView T)) → type_at types h ≡ o → ((k : ℕ) → k < h → IsBuiltin (tree_within n types k) →
-            Names types k (type_term (tree_within n types k))) → IsBuiltin (tree_if (tree_within n types) o) →
-            Names types h (type_term (tree_if (tree_within n types) o))
-        by (Some t) is each c = one_named (tree_within n types) h each t is c
+        by : (o : Option (TypeView T)) → type_at types h ≡ o → ((k : ℕ) → k < h → IsBuiltin (tree_within types n k) →
+            Names types k (type_term (tree_within types n k))) → IsBuiltin (unrolled_if tree_over unit_tree (tree_within types n) o) →
+            Names types h (type_term (unrolled_if tree_over unit_tree (tree_within types n) o))
+        by (Some t) is each c = one_named (tree_within types n) h each t is c
         by None is each c = absurd (elim ((slice_get_cases types h).1) [
           | inl s ↦ let e : None ≡ Some s.0 = sym is ∙ s.2 in
               absurd cc

@@ -12,7 +12,8 @@ use crate::tests::many::new_func;
 use plir_builtin::{SymbolTableCollection, SymbolTableErr, SymbolUserOpInterface, SymbolUserSet};
 use plir_core::{Context, Operation, Ptr};
 use plir_data::{
-    AttrObj, Identifier, IdentifierAttr, Location, Memory, OpSet, TypeHandle, TypeStore, VerifyErr,
+    AttrObj, Identifier, IdentifierAttr, Location, Memory, OpSet, OwnText, TypeHandle, TypeStore,
+    VerifyErr,
 };
 use plir_iface::Op;
 use plir_scripts::{InContext, ScriptSet, Stop, in_new_context};
@@ -68,7 +69,7 @@ impl OpSet for LinkSet {
 
     ghost attr_id = { λ _. codes "link.attr" };
 
-    ghost attr_text = { λ _ _. [] };
+    ghost attr_text = { λ _. [] };
 
     ghost attr_type = { λ _. None };
 
@@ -76,7 +77,7 @@ impl OpSet for LinkSet {
 
     ghost type_id = { λ _. codes "link.type" };
 
-    ghost type_body_text = { λ _ _. [] };
+    ghost type_body_text = { λ _. [] };
 
     ghost function_sig = { λ _. None };
 
@@ -112,12 +113,8 @@ impl OpSet for LinkSet {
         "link.attr"
     }
 
-    fn attr_text<C: TypeStore<Self>>(
-        alloc: Global,
-        _attr: &Unused,
-        _ctx: &C,
-    ) -> Result<String, Memory> {
-        Ok(String::new(alloc))
+    fn attr_text(alloc: Global, _attr: &Unused) -> Result<OwnText, Memory> {
+        Ok(OwnText::new(alloc))
     }
 
     fn attr_type(_attr: &Unused) -> Option<TypeHandle> {
@@ -148,12 +145,8 @@ impl OpSet for LinkSet {
         "link.type"
     }
 
-    fn type_body_text<C: TypeStore<Self>>(
-        alloc: Global,
-        _ty: &Unused,
-        _ctx: &C,
-    ) -> Result<String, Memory> {
-        Ok(String::new(alloc))
+    fn type_body_text(alloc: Global, _ty: &Unused) -> Result<OwnText, Memory> {
+        Ok(OwnText::new(alloc))
     }
 
     fn function_sig(_ty: &Unused) -> Option<(&[TypeHandle], &[TypeHandle])> {
@@ -175,6 +168,10 @@ impl OpSet for LinkSet {
     ghost arguments_held = { λ t p h e m. absurd (none-some p e) };
 
     ghost results_held = { λ t p h e m. absurd (none-some p e) };
+
+    ghost attr_text_held = { λ a h m. m };
+
+    ghost type_body_text_held = { λ t h m. m };
 }
 
 impl ScriptSet for LinkSet {

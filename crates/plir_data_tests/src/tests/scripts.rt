@@ -185,7 +185,7 @@ fn writes_own_types_where_memory_is_refused(rt: HostRuntime) -> Result<(), Misma
 #[test]
 fn puts_parts_of_texts_where_memory_is_refused(rt: HostRuntime) -> Result<(), Mismatch> {
     let script = "
-        put-parts a => a,  a";
+        put-parts a => a, a";
     play_in(rt.alloc(), script)
 }
 

@@ -1,5 +1,5 @@
 //! The calls on types.
-use plir_data::put::{put, put_between, put_spaced};
+use plir_data::put::{put, put_between};
 use plir_data::{
     FunctionType, FunctionTypeInterface, FunctionTypeMark, IntegerType, OpSet, TypeInterfaceMark,
     TypeMark, TypeObj, TypeStore, TypedHandle,
@@ -62,15 +62,13 @@ pub fn show_marks<D: OpSet>(bench: &mut Bench<D>, line: Line<'_>) -> Result<(), 
     Ok(())
 }
 
-/// `put-parts TEXT`: writes a comma for the first of two parts and none for the second, and the text behind a space,
-/// but none behind nothing.
+/// `put-parts TEXT`: writes the text twice, with a comma before the second and none before the first.
 pub fn put_parts<D: OpSet>(bench: &mut Bench<D>, line: Line<'_>) -> Result<(), Stop> {
     let mut out = String::new(bench.alloc);
-    put(&mut out, line.text)?;
     put_between(&mut out, true, ", ")?;
+    put(&mut out, line.text)?;
     put_between(&mut out, false, ", ")?;
-    put_spaced(&mut out, "")?;
-    put_spaced(&mut out, line.text)?;
+    put(&mut out, line.text)?;
     bench.answer.put(out.as_str());
     Ok(())
 }
