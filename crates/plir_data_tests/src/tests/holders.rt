@@ -37,7 +37,7 @@ fn routine(
 }
 
 #[test]
-fn writes_the_types_that_a_type_holds(rt: HostRuntime) -> Result<(), Fail> {
+fn writes_the_types_that_a_type_holds_where_memory_is_refused(rt: HostRuntime) -> Result<(), Fail> {
     let alloc = rt.alloc();
     let mut types: Types = TypeTable::new(alloc);
     let si8 = again!(IntegerType::get(&mut types, 8, Signedness::Signed)).into();
@@ -58,7 +58,7 @@ fn writes_the_types_that_a_type_holds(rt: HostRuntime) -> Result<(), Fail> {
 }
 
 #[test]
-fn writes_the_type_that_an_attribute_holds(rt: HostRuntime) -> Result<(), Fail> {
+fn writes_the_type_that_an_attribute_holds_where_memory_is_refused(rt: HostRuntime) -> Result<(), Fail> {
     let alloc = rt.alloc();
     let mut types: Types = TypeTable::new(alloc);
     let si8 = again!(IntegerType::get(&mut types, 8, Signedness::Signed)).into();
