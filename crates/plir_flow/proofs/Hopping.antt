@@ -7,7 +7,6 @@ use Rattle.std.specs.List.{list_any}
 use Rattle.std.proofs.lemmas.Bool.{cases_lt, cases_eq}
 use Rattle.std.proofs.lemmas.List.{take-append-le, length-append, length_push}
 use Rattle.std.proofs.lemmas.Option.{same_Some}
-use Rattle.indexmap.specs.IndexSet.{insert_key}
 use Rattle.plir_core.specs.declared.ptr.Ptr.{Ptr}
 use Rattle.plir_core.specs.declared.ptr.Region.{Region as RegionKind}
 use Rattle.plir_store.specs.Members.{Has}
@@ -15,6 +14,7 @@ use Rattle.plir_flow.specs.declared.hops.Hop.{Hop}
 use Rattle.plir_core.specs.ContextView.{ContextView}
 use Rattle.plir_store.specs.MemberLaws.{Has-append_left}
 use Rattle.plir_flow.specs.RegionEdges.{EdgeView, IsFromRegion, IsStep, IsStepOn}
+use Rattle.plir_flow.specs.Taken.{put_once}
 use Rattle.plir_flow.specs.Hops.{IsHop, IsNoneFrom, IsLatest, AreLinked, AreHeads, IsReachedMore}
 use Rattle.plir_flow.proofs.TakenLists.{has-last, has-more, distinct-push, any-has}
 
@@ -44,7 +44,7 @@ module _ {N : Type 0} where
   -- one more comes
   pub more-insert : (eq : N → N → Bool) → ((a b : N) → Decides (eq a b) (a ≡ b))
       → (P : N → Type 0) (xs ys : List N) (y : N) → IsReachedMore P xs ys
-      → IsReachedMore (λ x. P x ⊎ (y ≡ x)) xs (insert_key eq ys y)
+      → IsReachedMore (λ x. P x ⊎ (y ≡ x)) xs (put_once eq ys y)
   more-insert eq exact P xs ys y w = by (list_any (eq y) ys) refl
     where
       by : (b : Bool) → list_any (eq y) ys ≡ b → IsReachedMore (λ x. P x ⊎ (y ≡ x)) xs (cond b ys (ys ++ y ∷ []))
@@ -216,7 +216,7 @@ module _ (hops : List Hop) (r : Ptr RegionKind) where
     pub hop-done : (n k : ℕ) (g : Hop) (xs ys : List (Ptr RegionKind)) → AreLinked hops → n ≤ length hops
         → IsLatest hops n r (Some k) → IsReachedMore (IsHopFrom n) xs ys → slice_get hops k ≡ Some g
         → (m : ℕ) ×
-        ((m ≤ length hops) × IsLatest hops m r g.earlier × IsReachedMore (IsHopFrom m) xs (insert_key eq ys g.to))
+        ((m ≤ length hops) × IsLatest hops m r g.earlier × IsReachedMore (IsHopFrom m) xs (put_once eq ys g.to))
     hop-done n k g xs ys linked fits latest w here =
         let own : g.from ≡ r =
         ap (λ (z : Hop). z.from) (same_Some g latest.1.0 (sym here ∙ latest.1.1.0)) ∙ latest.1.1.1 in (
@@ -224,7 +224,7 @@ module _ (hops : List Hop) (r : Ptr RegionKind) where
           (
             omega (arith, latest.0),
             subst (λ z. IsLatest hops k z g.earlier) own (linked k g here),
-            more-like _ _ xs (insert_key eq ys g.to) (more-insert eq exact (IsHopFrom n) xs ys g.to w)
+            more-like _ _ xs (put_once eq ys g.to) (more-insert eq exact (IsHopFrom n) xs ys g.to w)
                 (from-next n k g latest.0 here own latest.2),
           ),
         )

@@ -10,10 +10,9 @@ use Rattle.std.proofs.lemmas.List.{map-append, take_more, flat_map_more, take-ap
 use Rattle.std.proofs.lemmas.Bool.{cases_lt}
 use Rattle.std.proofs.Math.Seq.{take-length}
 use Rattle.std.proofs.lemmas.List.Elements.{All-tail, All-head, All-cons, All-map, All-weaker}
-use Rattle.indexmap.specs.IndexSet.{insert_key}
 use Rattle.plir_store.specs.MemberLaws.{Has-append_left, Has-append_right, Has-append_cases}
 use Rattle.plir_store.specs.Members.{Has, Distinct}
-use Rattle.plir_flow.specs.Taken.{AreThose, IsOnceEach, AreTakenOnce}
+use Rattle.plir_flow.specs.Taken.{AreThose, IsOnceEach, AreTakenOnce, put_once}
 
 module _ {A : Type 0} where
   pub has-last : (xs : List A) (x : A) → Has (xs ++ x ∷ []) x
@@ -136,7 +135,7 @@ module _ {A : Type 0} where
         by false is = absurd (let n : b ≡ not false = e ∙ ap not is in let g : true ≡ false = sym n ∙ f in cc)
 
     -- one element more
-    pub once-more : (xs ys : List A) (x : A) → IsOnceEach xs ys → IsOnceEach (xs ++ x ∷ []) (insert_key eq ys x)
+    pub once-more : (xs ys : List A) (x : A) → IsOnceEach xs ys → IsOnceEach (xs ++ x ∷ []) (put_once eq ys x)
     once-more xs ys x w = by (list_any (eq x) ys) refl
       where
         there : Has ys x → (y : A) → Has ys y ↔ Has (xs ++ x ∷ []) y
@@ -187,13 +186,21 @@ module _ {A : Type 0} where
               new;
         }
 
-pub last-says : {A : Type 0} (eq : A → A → Bool) (x : A) (ys zs : List A) (b : Bool) → b ≡ not (list_any (eq x) ys)
-    → zs ≡ insert_key eq ys x → b ≡ true → zs ≡ ys ++ x ∷ []
-last-says eq x ys zs b e is t = by (list_any (eq x) ys) refl
-  where
-    by : (v : Bool) → list_any (eq x) ys ≡ v → zs ≡ ys ++ x ∷ []
-    by true w = absurd (let n : b ≡ not true = e ∙ ap not w in let y : false ≡ true = sym n ∙ t in cc)
-    by false w = is ∙ ap (λ v. cond v ys (ys ++ x ∷ [])) w
+-- the list after an element was put, by what was told of it: nothing new came, or it stands last
+module _ {A : Type 0} (eq : A → A → Bool) (x : A) (ys zs : List A) (b : Bool) where
+  pub put-twice : b ≡ not (list_any (eq x) ys) → b ≡ false → zs ≡ ys → put_once eq ys x ≡ zs
+  put-twice e f is = by (list_any (eq x) ys) refl
+    where
+      by : (v : Bool) → list_any (eq x) ys ≡ v → put_once eq ys x ≡ zs
+      by true w = ap (λ v. cond v ys (ys ++ x ∷ [])) w ∙ sym is
+      by false w = absurd (let n : b ≡ not false = e ∙ ap not w in let g : true ≡ false = sym n ∙ f in cc)
+
+  pub put-fresh : b ≡ not (list_any (eq x) ys) → b ≡ true → zs ≡ ys ++ x ∷ [] → put_once eq ys x ≡ zs
+  put-fresh e t is = by (list_any (eq x) ys) refl
+    where
+      by : (v : Bool) → list_any (eq x) ys ≡ v → put_once eq ys x ≡ zs
+      by true w = absurd (let n : b ≡ not true = e ∙ ap not w in let y : false ≡ true = sym n ∙ t in cc)
+      by false w = ap (λ v. cond v ys (ys ++ x ∷ [])) w ∙ sym is
 
 -- what stands on one element more
 pub joined-more : {A B : Type 0} (f : A → List B) (us : List B) (xs : List A) (i : ℕ) (x : A) → i < length xs

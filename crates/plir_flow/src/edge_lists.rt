@@ -7,8 +7,7 @@ ghost use Rattle.plir_flow.specs.RegionEdges.{IsFrom, IsTo, IsPointIn, IsPointLi
 ghost use Rattle.plir_flow.specs.RegionEdges.{reads_on, receivers_on, regions_on, region_in};
 
 use crate::edge_ends::{RegionBranchPoint, RegionEdge, RegionSuccessor};
-use crate::once::{add, add_all, list};
-use indexmap::IndexSet;
+use crate::once::Once;
 use plir_core::{Context, Ptr, Region, Use, Value};
 use plir_data::{Memory, OpSet};
 use std::alloc::Global;
@@ -44,12 +43,12 @@ pub(crate) fn keep_to(mut edges: Vec<RegionEdge>, successor: RegionSuccessor) ->
 }
 
 // Puts what is read on edges behind what was, each once.
-fn add_reads(seen: &mut IndexSet<Use<Value>>, edges: &[RegionEdge]) -> Result<(), Memory>
-    ensures { OnOk result ((us : List _) → IsOnceEach us seen.old.keys →
-        IsOnceEach (us ++ flat_map reads_on edges.now) seen.new.keys) }
+fn add_reads(seen: &mut Once<Use<Value>>, edges: &[RegionEdge]) -> Result<(), Memory>
+    ensures { OnOk result ((us : List _) → IsOnceEach us seen.old →
+        IsOnceEach (us ++ flat_map reads_on edges.now) seen.new) }
 {
     for edge in edges {
-        add_all(seen, &edge.reads)?;
+        seen.add_all(&edge.reads)?;
     }
     Ok(())
 }
@@ -58,29 +57,29 @@ fn add_reads(seen: &mut IndexSet<Use<Value>>, edges: &[RegionEdge]) -> Result<()
 pub(crate) fn reads(alloc: Global, edges: &[RegionEdge]) -> Result<Vec<Use<Value>>, Memory>
     ensures { IfOk result (λ us. IsOnceEach (flat_map reads_on edges.now) us.items) }
 {
-    let mut seen = IndexSet::new(alloc);
+    let mut seen = Once::new(alloc);
     add_reads(&mut seen, edges)?;
-    list(alloc, &seen)
+    Ok(seen.into_list())
 }
 
 /// Puts the values that receive behind those that did, each once.
 pub(crate) fn add_receivers(
-    seen: &mut IndexSet<Value>,
+    seen: &mut Once<Value>,
     flows: &[(Use<Value>, Value)],
 ) -> Result<(), Memory>
-    ensures { OnOk result ((vs : List _) → IsOnceEach vs seen.old.keys →
-        IsOnceEach (vs ++ map (λ f. f.1) flows.now) seen.new.keys) }
+    ensures { OnOk result ((vs : List _) → IsOnceEach vs seen.old →
+        IsOnceEach (vs ++ map (λ f. f.1) flows.now) seen.new) }
 {
     for flow in flows {
-        add(seen, flow.1)?;
+        seen.add(flow.1)?;
     }
     Ok(())
 }
 
 // Puts the receivers on edges behind those that were, each once.
-fn add_receivers_on(seen: &mut IndexSet<Value>, edges: &[RegionEdge]) -> Result<(), Memory>
-    ensures { OnOk result ((vs : List _) → IsOnceEach vs seen.old.keys →
-        IsOnceEach (vs ++ flat_map receivers_on edges.now) seen.new.keys) }
+fn add_receivers_on(seen: &mut Once<Value>, edges: &[RegionEdge]) -> Result<(), Memory>
+    ensures { OnOk result ((vs : List _) → IsOnceEach vs seen.old →
+        IsOnceEach (vs ++ flat_map receivers_on edges.now) seen.new) }
 {
     for edge in edges {
         add_receivers(seen, &edge.flows)?;
@@ -92,9 +91,9 @@ fn add_receivers_on(seen: &mut IndexSet<Value>, edges: &[RegionEdge]) -> Result<
 pub(crate) fn receivers(alloc: Global, edges: &[RegionEdge]) -> Result<Vec<Value>, Memory>
     ensures { IfOk result (λ vs. IsOnceEach (flat_map receivers_on edges.now) vs.items) }
 {
-    let mut seen = IndexSet::new(alloc);
+    let mut seen = Once::new(alloc);
     add_receivers_on(&mut seen, edges)?;
-    list(alloc, &seen)
+    Ok(seen.into_list())
 }
 
 // Whether a terminator whose parent region this is stands at a point.
@@ -117,11 +116,11 @@ fn add_reads_in<D: OpSet>(
     ctx: &Context<D>,
     edges: &[RegionEdge],
     region: Ptr<Region>,
-    seen: &mut IndexSet<Use<Value>>,
+    seen: &mut Once<Use<Value>>,
 ) -> Result<(), Memory>
     requires live { AreEdgesLive ctx.now edges.now }
-    requires empty { seen.old.keys ≡ [] }
-    ensures taken { OnOk result (AreTakenOnce (IsFromRegion ctx.now region) reads_on edges.now seen.new.keys) }
+    requires empty { seen.old ≡ [] }
+    ensures taken { OnOk result (AreTakenOnce (IsFromRegion ctx.now region) reads_on edges.now seen.new) }
     ensures whole { IsWellFormed D.attr_handles ctx.now }
 {
     ctx.stands();
@@ -129,7 +128,7 @@ fn add_reads_in<D: OpSet>(
         if !is_point_in(ctx, edge.from, region) {
             continue;
         }
-        add_all(seen, &edge.reads)?;
+        seen.add_all(&edge.reads)?;
     }
     Ok(())
 }
@@ -146,18 +145,18 @@ pub(crate) fn reads_in<D: OpSet>(
     ensures whole { IsWellFormed D.attr_handles ctx.now }
 {
     ctx.stands();
-    let mut seen = IndexSet::new(alloc);
+    let mut seen = Once::new(alloc);
     add_reads_in(ctx, edges, region, &mut seen)?;
-    list(alloc, &seen)
+    Ok(seen.into_list())
 }
 
 // Puts the region that an edge leads to behind those that are there, if it leads to one and that is not there yet.
-fn add_region(seen: &mut IndexSet<Ptr<Region>>, successor: RegionSuccessor) -> Result<(), Memory>
-    ensures { OnOk result ((rs : List _) → IsOnceEach rs seen.old.keys →
-        IsOnceEach (rs ++ region_in successor) seen.new.keys) }
+fn add_region(seen: &mut Once<Ptr<Region>>, successor: RegionSuccessor) -> Result<(), Memory>
+    ensures { OnOk result ((rs : List _) → IsOnceEach rs seen.old →
+        IsOnceEach (rs ++ region_in successor) seen.new) }
 {
     if let RegionSuccessor::Region(region) = successor {
-        add(seen, region)?;
+        seen.add(region)?;
     }
     Ok(())
 }
@@ -167,11 +166,11 @@ fn add_regions_in<D: OpSet>(
     ctx: &Context<D>,
     edges: &[RegionEdge],
     region: Ptr<Region>,
-    seen: &mut IndexSet<Ptr<Region>>,
+    seen: &mut Once<Ptr<Region>>,
 ) -> Result<(), Memory>
     requires live { AreEdgesLive ctx.now edges.now }
-    requires empty { seen.old.keys ≡ [] }
-    ensures taken { OnOk result (AreTakenOnce (IsFromRegion ctx.now region) regions_on edges.now seen.new.keys) }
+    requires empty { seen.old ≡ [] }
+    ensures taken { OnOk result (AreTakenOnce (IsFromRegion ctx.now region) regions_on edges.now seen.new) }
     ensures whole { IsWellFormed D.attr_handles ctx.now }
 {
     ctx.stands();
@@ -196,7 +195,7 @@ pub(crate) fn regions_in<D: OpSet>(
     ensures whole { IsWellFormed D.attr_handles ctx.now }
 {
     ctx.stands();
-    let mut seen = IndexSet::new(alloc);
+    let mut seen = Once::new(alloc);
     add_regions_in(ctx, edges, region, &mut seen)?;
-    list(alloc, &seen)
+    Ok(seen.into_list())
 }

@@ -11,10 +11,9 @@ ghost use Rattle.plir_flow.specs.EdgeVerdicts.{IsFlowVerdict, IsFlowsVerdict, Is
 ghost use Rattle.plir_flow.specs.EdgeVerdicts.{AreFirsts, first_place, NamesLive};
 
 use crate::edge_ends::{RegionBranchPoint, RegionEdge, RegionSuccessor};
-use crate::once::add;
+use crate::once::Once;
 use crate::receiver_sets::keeps_receivers;
 use crate::region_edge_errors::EdgeFault;
-use indexmap::IndexSet;
 use plir_core::{Context, DefiningEntity, Interface, Operation, Ptr, Region, Use, Value, op_impls};
 use plir_data::{Memory, OpSet};
 use std::alloc::Global;
@@ -137,11 +136,11 @@ fn find_flow_fault<D: OpSet>(
     point: RegionBranchPoint,
     successor: RegionSuccessor,
     flow: (Use<Value>, Value),
-    received: &mut IndexSet<Value>,
+    received: &mut Once<Value>,
 ) -> Result<Option<EdgeFault>, Memory>
     requires successor_live { IsSuccessorLive ctx.now successor }
     requires flow_live { IsFlowLive ctx.now flow }
-    ensures reported { IfOk result (IsFlowVerdict ctx.now op point successor flow received.old.keys received.new.keys) }
+    ensures reported { IfOk result (IsFlowVerdict ctx.now op point successor flow received.old received.new) }
     ensures live { IfOk result (λ f. IfSome f (NamesLive ctx.now)) }
     ensures whole { IsWellFormed D.attr_handles ctx.now }
 {
@@ -153,7 +152,7 @@ fn find_flow_fault<D: OpSet>(
     if !is_receiver(ctx, op, successor, receiver) {
         return Ok(Some(receiver_fault(successor)));
     }
-    if !add(received, receiver)? {
+    if !received.add(receiver)? {
         return Ok(Some(EdgeFault::ReceivedTwice));
     }
     Ok(find_type_fault(ctx, operand, receiver))
@@ -164,10 +163,10 @@ fn find_flows_fault<D: OpSet>(
     ctx: &Context<D>,
     op: Ptr<Operation>,
     edge: &RegionEdge,
-    received: &mut IndexSet<Value>,
+    received: &mut Once<Value>,
 ) -> Result<Option<EdgeFault>, Memory>
     requires live { IsEdgeLive ctx.now edge.now }
-    requires empty { received.old.keys ≡ [] }
+    requires empty { received.old ≡ [] }
     ensures reported { IfOk result (IsFlowsVerdict D.is_terminator ctx.now op edge.now) }
     ensures live { IfOk result (λ f. IfSome f (NamesLive ctx.now)) }
     ensures whole { IsWellFormed D.attr_handles ctx.now }
@@ -204,7 +203,7 @@ pub(crate) fn find_edge_fault<D: OpSet>(
     if !is_own_successor(ctx, op, edge.to) {
         return Ok(Some(EdgeFault::ForeignRegion));
     }
-    let mut received = IndexSet::new(alloc);
+    let mut received = Once::new(alloc);
     find_flows_fault(ctx, op, edge, &mut received)
 }
 

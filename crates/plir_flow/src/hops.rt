@@ -10,8 +10,7 @@ ghost use Rattle.plir_flow.specs.RegionEdges.{AreEdgesLive, IsStep, IsStepOn, Is
 ghost use Rattle.plir_flow.specs.Hops.{IsHop, AreLinked, AreHeads, IsReachedMore, same_region};
 
 use crate::edge_ends::{RegionBranchPoint, RegionEdge, RegionSuccessor};
-use crate::once::list;
-use indexmap::IndexSet;
+use crate::once::Once;
 use plir_core::{Context, Ptr, Region};
 use plir_data::{Memory, OpSet};
 use std::alloc::Global;
@@ -30,16 +29,16 @@ fn add_targets(
     heads: &HashMap<Ptr<Region>, usize>,
     hops: &[Hop],
     region: Ptr<Region>,
-    reached: &mut IndexSet<Ptr<Region>>,
+    reached: &mut Once<Ptr<Region>>,
 ) -> Result<(), Memory>
     requires linked { AreLinked hops.now }
     requires heads { AreHeads hops.now (get same_region heads.now) }
-    ensures { OnOk result (IsReachedMore (IsHop hops.now region) reached.old.keys reached.new.keys) }
+    ensures { OnOk result (IsReachedMore (IsHop hops.now region) reached.old reached.new) }
 {
     let mut at = heads.get(&region).copied();
     while let Some(place) = at {
         let hop = hops[place];
-        reached.insert(hop.to)?;
+        reached.add(hop.to)?;
         at = hop.earlier;
     }
     Ok(())
@@ -132,13 +131,13 @@ fn add_reached(
     heads: &HashMap<Ptr<Region>, usize>,
     hops: &[Hop],
     start: Ptr<Region>,
-    reached: &mut IndexSet<Ptr<Region>>,
+    reached: &mut Once<Ptr<Region>>,
 ) -> Result<(), Memory>
     requires linked { AreLinked hops.now }
     requires heads { AreHeads hops.now (get same_region heads.now) }
-    requires empty { reached.old.keys ≡ [] }
-    ensures all { OnOk result ((b : PtrTo RegionKind) → Has reached.new.keys b ↔ LeadsTo (IsHop hops.now) start b) }
-    ensures once { OnOk result (Distinct reached.new.keys) }
+    requires empty { reached.old ≡ [] }
+    ensures all { OnOk result ((b : PtrTo RegionKind) → Has reached.new b ↔ LeadsTo (IsHop hops.now) start b) }
+    ensures once { OnOk result (Distinct reached.new) }
 {
     add_targets(heads, hops, start, reached)?;
     let mut next = 0;
@@ -162,9 +161,9 @@ fn list_reached(
     ensures all { IfOk result (λ rs. (b : PtrTo RegionKind) → Has rs.items b ↔ LeadsTo (IsHop hops.now) start b) }
     ensures once { IfOk result (λ rs. Distinct rs.items) }
 {
-    let mut reached = IndexSet::new(alloc);
+    let mut reached = Once::new(alloc);
     add_reached(heads, hops, start, &mut reached)?;
-    list(alloc, &reached)
+    Ok(reached.into_list())
 }
 
 /// The regions that paths of one edge or more lead to from a region, each once.

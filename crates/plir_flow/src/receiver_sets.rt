@@ -6,18 +6,17 @@ ghost use Rattle.plir_flow.specs.EdgeVerdicts.{AreFirsts, target_region, first_p
 
 use crate::edge_ends::{RegionEdge, RegionSuccessor};
 use crate::edge_lists::add_receivers;
-use crate::once::has;
-use indexmap::IndexSet;
+use crate::once::Once;
 use plir_core::{Ptr, Region, Use, Value};
 use plir_data::Memory;
 use std::alloc::Global;
 use std::collections::HashMap;
 
 // Whether what flows goes to values of a set alone.
-fn are_received(flows: &[(Use<Value>, Value)], among: &IndexSet<Value>) -> bool
-    ensures { IsTrue result ↔ All (λ f. Has among.now.keys f.1) flows.now }
+fn are_received(flows: &[(Use<Value>, Value)], among: &Once<Value>) -> bool
+    ensures { IsTrue result ↔ All (λ f. Has among.now f.1) flows.now }
 {
-    flows.iter().all(|flow| has(among, flow.1))
+    flows.iter().all(|flow| among.has(flow.1))
 }
 
 // Whether what flows goes to receivers of others alone.
@@ -28,7 +27,7 @@ fn receive_among(
 ) -> Result<bool, Memory>
     ensures { IfOk result (λ b. IsTrue b ↔ All (λ f. Has (map (λ o. o.1) others.now) f.1) flows.now) }
 {
-    let mut among = IndexSet::new(alloc);
+    let mut among = Once::new(alloc);
     add_receivers(&mut among, others)?;
     Ok(are_received(flows, &among))
 }

@@ -8,5 +8,5 @@ use Rattle.plir_flow.proofs.edge_lists.add_reads.Given as goal
 
 abbrev pub invariant-loop-edge : goal.invariant-loop-edge
 invariant-loop-edge l =
-    (us : List (Use Value)) → IsOnceEach us l.initial.seen.keys
-    → IsOnceEach (us ++ flat_map reads_on (take l.edge-index l.edges)) l.seen.keys
+    (us : List (Use Value)) → IsOnceEach us l.initial.seen
+    → IsOnceEach (us ++ flat_map reads_on (take l.edge-index l.edges)) l.seen

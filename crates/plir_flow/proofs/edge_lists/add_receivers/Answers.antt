@@ -10,10 +10,10 @@ loop-flow-preserved c vs w =
     let i = c.loop-flow.flow-index in
     let fs = c.args.flows.now in
     let below : i < length fs = omega arith in
-    subst (λ l. IsOnceEach l c.add.new.seen.keys) (mapped-at (λ (f : Flow). f.1) vs fs i _ below)
+    subst (λ l. IsOnceEach l c.add.new.self) (mapped-at (λ (f : Flow). f.1) vs fs i _ below)
     (c.in_ok-add.ensures.once (vs ++ map (λ (f : Flow). f.1) (take i fs)) (c.loop-flow.invariant vs w))
 
 pub returns : goal.returns
 returns c vs w =
-    subst (λ l. IsOnceEach (vs ++ map (λ (f : Flow). f.1) l) c.loop-flow.seen.keys)
+    subst (λ l. IsOnceEach (vs ++ map (λ (f : Flow). f.1) l) c.loop-flow.seen)
     (take_all _ c.args.flows.now (omega arith)) (c.loop-flow.invariant vs w)

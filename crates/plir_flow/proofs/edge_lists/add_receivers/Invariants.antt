@@ -6,5 +6,5 @@ use Rattle.plir_flow.proofs.edge_lists.add_receivers.Given as goal
 
 abbrev pub invariant-loop-flow : goal.invariant-loop-flow
 invariant-loop-flow l =
-    (vs : List Value) → IsOnceEach vs l.initial.seen.keys
-    → IsOnceEach (vs ++ map (λ (f : Flow). f.1) (take l.flow-index l.flows)) l.seen.keys
+    (vs : List Value) → IsOnceEach vs l.initial.seen
+    → IsOnceEach (vs ++ map (λ (f : Flow). f.1) (take l.flow-index l.flows)) l.seen

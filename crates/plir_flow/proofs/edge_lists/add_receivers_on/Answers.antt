@@ -19,5 +19,5 @@ loop-edge-preserved c us w =
 
 pub returns : goal.returns
 returns c us w =
-    subst (λ l. IsOnceEach (us ++ flat_map receivers_on l) c.loop-edge.seen.keys)
+    subst (λ l. IsOnceEach (us ++ flat_map receivers_on l) c.loop-edge.seen)
     (take_all _ c.args.edges.now (omega arith)) (c.loop-edge.invariant us w)

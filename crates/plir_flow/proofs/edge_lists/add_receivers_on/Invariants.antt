@@ -7,5 +7,5 @@ use Rattle.plir_flow.proofs.edge_lists.add_receivers_on.Given as goal
 
 abbrev pub invariant-loop-edge : goal.invariant-loop-edge
 invariant-loop-edge l =
-    (vs : List Value) → IsOnceEach vs l.initial.seen.keys
-    → IsOnceEach (vs ++ flat_map receivers_on (take l.edge-index l.edges)) l.seen.keys
+    (vs : List Value) → IsOnceEach vs l.initial.seen
+    → IsOnceEach (vs ++ flat_map receivers_on (take l.edge-index l.edges)) l.seen

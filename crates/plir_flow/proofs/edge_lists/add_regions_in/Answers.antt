@@ -14,7 +14,7 @@ loop-edge-preserved-then-not-is_point_in g c =
     let es = c.args.edges.now in
     let below : i < length es = omega arith in
     taken-no (IsFromRegion c.args.ctx.now c.args.region) regions_on es i c.edge-item.result below c.edge-item.is
-    c.loop-edge.seen.keys c.loop-edge.invariant
+    c.loop-edge.seen c.loop-edge.invariant
     (λ p. let no : false ≡ true =
     c.if-not-is_point_in.ensures.value.1
     (subst (λ (e : EdgeView). IsPointIn c.args.ctx.now c.args.region e.from) (sym c.edge.view_is) p) in cc)
@@ -26,12 +26,12 @@ loop-edge-preserved g c =
     let below : i < length es = omega arith in
     let is : true ≡ true = λ k. true in
     taken-yes (IsFromRegion c.args.ctx.now c.args.region) regions_on es i c.edge-item.result below c.edge-item.is
-    c.loop-edge.seen.keys _ c.loop-edge.invariant
+    c.loop-edge.seen _ c.loop-edge.invariant
     (subst (λ (e : EdgeView). IsPointIn c.args.ctx.now c.args.region e.from) c.edge.view_is
     (c.if-not-is_point_in.ensures.value.0 is))
     (λ us o. rw (← ap regions_on c.edge.view_is) (c.in_ok-add_region.ensures us o))
 
 pub returns-clause-taken : goal.returns-clause-taken
 returns-clause-taken g c =
-    subst (λ l. AreTakenOnce (IsFromRegion c.args.ctx.now c.args.region) regions_on l c.loop-edge.seen.keys)
+    subst (λ l. AreTakenOnce (IsFromRegion c.args.ctx.now c.args.region) regions_on l c.loop-edge.seen)
     (take_all _ c.args.edges.now (omega arith)) c.loop-edge.invariant

@@ -20,7 +20,6 @@ pub loop-at-preserved : goal.loop-at-preserved
 loop-at-preserved c =
     let w = c.loop-at.invariant in
     let latest = subst (IsLatest c.args.hops.now w.0 c.args.region) c.in-Some.is w.1.1 in
-    let keys = c.in_ok-insert.ensures.keys in
     let below = slice_get-get_or c.args.hops.now c.in-Some.place _ (omega (arith, latest.0, w.1.0)) in
-    rw keys (hop-done c.args.hops.now c.args.region same_region same-region-exact w.0 c.in-Some.place _
-    c.args.reached.now.keys c.loop-at.reached.keys c.requires.linked w.1.0 latest w.1.2 below)
+    rw c.in_ok-add.ensures.put (hop-done c.args.hops.now c.args.region same_region same-region-exact w.0 c.in-Some.place _
+    c.args.reached.now c.loop-at.reached c.requires.linked w.1.0 latest w.1.2 below)

@@ -6,7 +6,7 @@ use Rattle.plir_flow.proofs.hops.add_targets.Given as goal
 abbrev pub invariant-loop-at : goal.invariant-loop-at
 invariant-loop-at l =
     (n : ℕ) × ((n ≤ length l.hops) × IsLatest l.hops n l.fn.region l.at ×
-    IsReachedMore (IsHopFrom l.hops l.fn.region n) l.initial.reached.keys l.reached.keys)
+    IsReachedMore (IsHopFrom l.hops l.fn.region n) l.initial.reached l.reached)
 
 abbrev left : Option ℕ → ℕ
 left None = 0

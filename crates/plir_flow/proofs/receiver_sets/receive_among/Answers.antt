@@ -8,6 +8,6 @@ use Rattle.plir_flow.proofs.receiver_sets.receive_among.Goals as goal
 
 pub returns : goal.returns
 returns c =
-    let w = c.in_ok-add_receivers.ensures [] (subst (IsOnceEach []) (sym c.new-among.ensures.empty) once-none) in
+    let w = c.in_ok-add_receivers.ensures [] (subst (IsOnceEach []) (sym c.new-among.ensures) once-none) in
     through c.are_received.ensures
-    (within-like c.args.flows.now c.add_receivers.new.seen.keys (map (λ (o : Flow). o.1) c.args.others.now) w.same)
+    (within-like c.args.flows.now c.add_receivers.new.seen (map (λ (o : Flow). o.1) c.args.others.now) w.same)

@@ -2,7 +2,7 @@ use Rattle.std.proofs.Common.{◌≡◌, subst, ◌++◌, ◌<◌, arith, take, 
 use Rattle.std.proofs.lemmas.List.{take_all}
 use Rattle.plir_flow.specs.Taken.{IsOnceEach}
 use Rattle.plir_flow.proofs.TakenLists.{grown}
-use Rattle.plir_flow.proofs.once.add_all.Goals as goal
+use Rattle.plir_flow.proofs.once.Once.add_all.Goals as goal
 
 pub loop-value-preserved : goal.loop-value-preserved
 loop-value-preserved g c xs w =
@@ -16,5 +16,5 @@ loop-value-preserved g c xs w =
 pub returns : goal.returns
 returns g c xs w =
     let n : length c.args.values.now ≡ c.loop-value.value-index = omega arith in
-    subst (λ (l : List g.row.T.Denot). IsOnceEach (xs ++ l) c.loop-value.seen.keys)
+    subst (λ (l : List g.row.T.Denot). IsOnceEach (xs ++ l) c.loop-value.self)
     (take_all _ c.args.values.now (omega arith)) (c.loop-value.invariant xs w)
