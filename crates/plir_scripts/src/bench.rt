@@ -44,10 +44,16 @@ pub struct NodeCalls;
 impl<D: ScriptSet> Layer<D> for NodeCalls {
     fn run(bench: &mut Bench<D>, line: Line<'_>) -> Result<(), Stop> {
         match line.command {
-            "op" | "block" | "region" | "type" => make(bench, line),
-            "front" | "back" | "before" | "after" | "unlink" | "erase" => {
-                link(&mut bench.ctx, &bench.made, line)
-            }
+            "op" | "block" | "split" | "region" | "type" => make(bench, line),
+            "front"
+            | "back"
+            | "before"
+            | "after"
+            | "move-before"
+            | "move-after"
+            | "splice"
+            | "unlink"
+            | "erase" => { link(&mut bench.ctx, &bench.made, line) }
             "insert"
             | "remove"
             | "replace"

@@ -18,13 +18,16 @@ enum Side {
 }
 
 /// Does what a line says that changes links: `front NODE IN`, `back NODE IN`, `before NODE MARK`, `after NODE MARK`,
-/// `unlink NODE` or `erase NODE`.
+/// `move-before OP MARK`, `move-after OP MARK`, `splice BLOCK IN`, `splice BLOCK MARK`, `unlink NODE` or `erase NODE`.
 pub fn link<D: OpSet>(ctx: &mut Context<D>, made: &Made, line: Line<'_>) -> Result<(), Stop> {
     match line.command {
         "front" => put(ctx, made, line, Side::Front),
         "back" => put(ctx, made, line, Side::Back),
         "before" => put(ctx, made, line, Side::Before),
         "after" => put(ctx, made, line, Side::After),
+        "move-before" => move_op(ctx, made, line, Side::Before),
+        "move-after" => move_op(ctx, made, line, Side::After),
+        "splice" => splice(ctx, made, line),
         "unlink" => unlink(ctx, made, line),
         "erase" => erase(ctx, made, line),
         _ => Err(Stop::Refused),
@@ -135,6 +138,47 @@ fn put_block_beside<D: OpSet>(
     match side {
         Side::Before => block.insert_before(ctx, mark),
         Side::After => block.insert_after(ctx, mark),
+        _ => return Err(Stop::Refused),
+    }
+    Ok(())
+}
+
+// Moves an operation right before or right after another one.
+fn move_op<D: OpSet>(
+    ctx: &mut Context<D>,
+    made: &Made,
+    line: Line<'_>,
+    side: Side,
+) -> Result<(), Stop> {
+    let op = made.op(ctx, line.first)?;
+    let mark = made.op(ctx, line.second)?;
+    if mark.get_parent_block(ctx).is_none()
+        || IRNode::Operation(op).is_ancestor(ctx, IRNode::Operation(mark))
+    {
+        return Err(Stop::Refused);
+    }
+    match side {
+        Side::Before => op.move_before(ctx, mark),
+        Side::After => op.move_after(ctx, mark),
+        _ => return Err(Stop::Refused),
+    }
+    Ok(())
+}
+
+// Moves all operations of a block to the end of another one, or right before an operation.
+fn splice<D: OpSet>(ctx: &mut Context<D>, made: &Made, line: Line<'_>) -> Result<(), Stop> {
+    let IRNode::BasicBlock(block) = made.live(ctx, line.first)? else {
+        return Err(Stop::Refused);
+    };
+    let place = made.live(ctx, line.second)?;
+    if IRNode::BasicBlock(block).is_ancestor(ctx, place) {
+        return Err(Stop::Refused);
+    }
+    match place {
+        IRNode::BasicBlock(target) => block.splice_at_back(ctx, target),
+        IRNode::Operation(mark) if mark.get_parent_block(ctx).is_some() => {
+            block.splice_before(ctx, mark);
+        }
         _ => return Err(Stop::Refused),
     }
     Ok(())

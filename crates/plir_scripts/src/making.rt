@@ -15,11 +15,12 @@ use plir_data::{Identifier, OpKind, OpSet, TypeHandle};
 use std::alloc::{AllocError, Global};
 
 /// Makes what a line says, and writes its name: `op KIND REGIONS RESULT_TYPES < OPERANDS > SUCCESSORS`, where `<` and
-/// `>` may be left out, `block LABEL ARGUMENT_TYPES`, where `-` is no label, `region OP` or `type TEXT`.
+/// `>` may be left out, `block LABEL ARGUMENT_TYPES`, where `-` is no label, `split OP`, `region OP` or `type TEXT`.
 pub fn make<D: ScriptSet>(bench: &mut Bench<D>, line: Line<'_>) -> Result<(), Stop> {
     match line.command {
         "op" => make_op(bench, line),
         "block" => make_block(bench, line),
+        "split" => split_block(bench, line),
         "region" => make_region(bench, line),
         _ => make_type(bench, line),
     }
@@ -89,6 +90,22 @@ fn make_block<D: OpSet>(bench: &mut Bench<D>, line: Line<'_>) -> Result<(), Stop
     let block = BasicBlock::new(bench.alloc, &mut bench.ctx, label, types)?;
     bench.made.blocks.push(block)?;
     bench.made.put_block(&mut bench.answer, Some(block));
+    Ok(())
+}
+
+// Splits the block of an operation before it.
+fn split_block<D: OpSet>(bench: &mut Bench<D>, line: Line<'_>) -> Result<(), Stop> {
+    let op = bench.made.op(&bench.ctx, line.first)?;
+    bench.made.blocks.reserve(1)?;
+    let Some(block) = op.get_parent_block(&bench.ctx) else {
+        return Err(Stop::Refused);
+    };
+    if block.get_parent_region(&bench.ctx).is_none() {
+        return Err(Stop::Refused);
+    }
+    let new = block.split_block(bench.alloc, &mut bench.ctx, op)?;
+    bench.made.blocks.push(new)?;
+    bench.made.put_block(&mut bench.answer, Some(new));
     Ok(())
 }
 

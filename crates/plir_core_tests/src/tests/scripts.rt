@@ -271,6 +271,82 @@ fn blocks_and_regions_are_put_where_memory_is_refused(rt: HostRuntime) -> Result
 }
 
 #[test]
+fn operations_are_moved_where_memory_is_refused(rt: HostRuntime) -> Result<(), Mismatch> {
+    let script = "
+        op module 1 => o0
+        block => b0
+        back b0 r0
+        op constant 0 => o1
+        op constant 0 => o2
+        op func 1 => o3
+        block => b1
+        back b1 r1
+        op constant 0 => o4
+        back o1 b0
+        back o2 b0
+        back o3 b0
+        back o4 b1
+        move-before o2 o1
+        show b0 => -, in r0 o0, between - -, operations o2 o1 o3 to o3, terminator -, arguments 0
+        move-after o2 o3
+        show b0 => -, in r0 o0, between - -, operations o1 o3 o2 to o2, terminator -, arguments 0
+        move-before o1 o4
+        show b1 => -, in r1 o3, between - -, operations o1 o4 to o4, terminator -, arguments 0
+        move-after o1 o1 => refused
+        move-before o3 o4 => refused
+        move-before o1 o0 => refused
+        op constant 0 => o5
+        move-after o5 o1
+        show b1 => -, in r1 o3, between - -, operations o1 o5 o4 to o4, terminator -, arguments 0
+        show b0 => -, in r0 o0, between - -, operations o3 o2 to o2, terminator -, arguments 0
+        count => 10";
+    play_in(rt.alloc(), 100, script)
+}
+
+#[test]
+fn blocks_are_spliced_and_split_where_memory_is_refused(rt: HostRuntime) -> Result<(), Mismatch> {
+    let script = "
+        op module 1 => o0
+        block => b0
+        block => b1
+        back b0 r0
+        back b1 r0
+        op constant 0 => o1
+        op constant 0 => o2
+        op constant 0 => o3
+        op func 1 => o4
+        block => b2
+        back b2 r1
+        back o1 b0
+        back o2 b0
+        back o3 b1
+        back o4 b1
+        splice b0 o4
+        show b0 => -, in r0 o0, between - b1, operations to -, terminator -, arguments 0
+        show b1 => -, in r0 o0, between b0 -, operations o3 o1 o2 o4 to o4, terminator -, arguments 0
+        splice b1 b0
+        show b0 => -, in r0 o0, between - b1, operations o3 o1 o2 o4 to o4, terminator -, arguments 0
+        show b1 => -, in r0 o0, between b0 -, operations to -, terminator -, arguments 0
+        splice b0 b0 => refused
+        splice b0 b2 => refused
+        splice b0 o0 => refused
+        split o1 => b3
+        show b0 => -, in r0 o0, between - b3, operations o3 to o3, terminator -, arguments 0
+        show b3 => -, in r0 o0, between b0 b1, operations o1 o2 o4 to o4, terminator -, arguments 0
+        split o3 => b4
+        show b0 => -, in r0 o0, between - b4, operations to -, terminator -, arguments 0
+        show b4 => -, in r0 o0, between b0 b3, operations o3 to o3, terminator -, arguments 0
+        split o4 => b5
+        show b3 => -, in r0 o0, between b4 b5, operations o1 o2 to o2, terminator -, arguments 0
+        show b5 => -, in r0 o0, between b3 b1, operations o4 to o4, terminator -, arguments 0
+        split o0 => refused
+        splice b1 b5
+        show b5 => -, in r0 o0, between b3 b1, operations o4 to o4, terminator -, arguments 0
+        count => 13";
+    play_in(rt.alloc(), 13, script)
+}
+
+#[test]
 fn operands_are_put_in_and_taken_out_where_memory_is_refused(
     rt: HostRuntime,
 ) -> Result<(), Mismatch> {
