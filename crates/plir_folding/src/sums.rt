@@ -15,8 +15,6 @@ pub fn wrapping_sum(left: &IntegerAttr, right: &IntegerAttr) -> Option<IntegerAt
         return None;
     }
     let sum = one.to_u64().wrapping_add(other.to_u64());
-    match APInt::from_u64(sum, one.bw()) {
-        Some(value) => Some(IntegerAttr::new(left.get_type(), value)),
-        None => None,
-    }
+    let value = APInt::from_u64(sum, one.bw()).unwrap();
+    Some(IntegerAttr::new(left.get_type(), value))
 }

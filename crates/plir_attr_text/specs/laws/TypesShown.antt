@@ -130,13 +130,15 @@ module _ {T : Type 0} (own_id : T → List ℕ) (own_body : T → List Part) whe
         Shown (SpellsType (type_term (tree_within types n h))) (text_within n h)
     unfolding unrolled_within
     within-shown zero h b = word-shown (codes "builtin.unit") refl
-    within-shown (suc n) h b = by (type_at types h) b
+    within-shown (suc n) h b = by (type_at types h) b (within-shown n)
       where
         by : (o : Option (TypeView T)) → IsBuiltin (unrolled_if tree_over unit_tree (tree_within types n) o) →
+            ((k : ℕ) → IsBuiltin (tree_within types n k) →
+            Shown (SpellsType (type_term (tree_within types n k))) (text_within n k)) →
             Shown (SpellsType (type_term (unrolled_if tree_over unit_tree (tree_within types n) o)))
             (unrolled_if (text_over own_id own_body) (codes "builtin.unit") (text_within n) o)
-        by (Some t) c = over-shown (tree_within types n) (text_within n) (within-shown n) t c
-        by None c = word-shown (codes "builtin.unit") refl
+        by (Some t) c each = over-shown (tree_within types n) (text_within n) each t c
+        by None c each = word-shown (codes "builtin.unit") refl
 
     -- the text of a builtin type that a handle names
     pub type-shown : (h : ℕ) → IsBuiltin (tree_of types h) →
@@ -182,7 +184,8 @@ module _ {T : Type 0} (own_handles : T → List ℕ) (types : List (TypeView T))
         by (type_at types h) refl (λ k less. within_named n k (omega (arith, lt, less)) (omega (arith, live, less))) b
       where
         by : (o : Option (TypeView T)) → type_at types h ≡ o → ((k : ℕ) → k < h → IsBuiltin (tree_within types n k) →
-            Names types k (type_term (tree_within types n k))) → IsBuiltin (unrolled_if tree_over unit_tree (tree_within types n) o) →
+            Names types k (type_term (tree_within types n k))) →
+            IsBuiltin (unrolled_if tree_over unit_tree (tree_within types n) o) →
             Names types h (type_term (unrolled_if tree_over unit_tree (tree_within types n) o))
         by (Some t) is each c = one_named (tree_within types n) h each t is c
         by None is each c = absurd (elim ((slice_get_cases types h).1) [
