@@ -11,5 +11,6 @@ mod editing;
 mod grouped;
 mod grouping;
 mod looping;
+mod refusing;
 mod scripts;
 mod switch;

@@ -1,5 +1,5 @@
 //! Any operation, with the interfaces of symbols and of symbol tables.
-ghost use Rattle.std.specs.Prelude.{◌≡◌, ◌↔◌, IfSome, IsSome, IsTrue};
+ghost use Rattle.std.specs.Prelude.{◌↔◌, IsSome, IsTrue};
 ghost use Rattle.plir_core.specs.ContextView.{IsLive};
 ghost use Rattle.plir_core.specs.declared.ptr.IRNode.{IRNode as AnyNode};
 ghost use Rattle.plir_iface.specs.Counts.{HasNRegions};
@@ -8,8 +8,9 @@ ghost use Rattle.plir_builtin_tests.specs.Links.{IsFoundIn};
 
 use plir_builtin::{SymbolOpInterface, SymbolTableInterface};
 use plir_core::{Context, Operation, Ptr};
-use plir_data::{Identifier, OpSet};
+use plir_data::{Identifier, Memory, OpSet};
 use plir_iface::{OneRegionInterface, Op, SingleBlockRegionInterface};
+use std::alloc::Global;
 
 /// An operation, of whatever kind.
 #[derive(Clone, Copy)]
@@ -33,8 +34,8 @@ impl<D: OpSet> SymbolOpInterface<D> for Around {}
 
 impl<D: OpSet> SymbolTableInterface<D> for Around {}
 
-// Whether an operation has one region, of one block.
-fn has_body<D: OpSet, T: SymbolTableInterface<D>>(ctx: &Context<D>, table: &T) -> bool
+/// Whether an operation has one region, of one block.
+pub fn has_body<D: OpSet, T: SymbolTableInterface<D>>(ctx: &Context<D>, table: &T) -> bool
     requires { IsLive ctx.now (AnyNode.Operation (T.pointer table.now)) }
     ensures { IsTrue result ↔ (HasNRegions 1 ctx.now (T.pointer table.now) ×
         HasSingleBlocks ctx.now (T.pointer table.now)) }
@@ -72,21 +73,6 @@ pub fn scan<D: OpSet>(
     first_in(ctx, &Around { op: table }, name)
 }
 
-/// The operation around which this is, if it has one region, of one block.
-pub fn with_body<D: OpSet>(ctx: &Context<D>, op: Ptr<Operation>) -> Option<Around>
-    requires { IsLive ctx.now (AnyNode.Operation op) }
-    ensures it { IfSome result (λ a. a.op ≡ op) }
-    ensures one_region { IsSome result → HasNRegions 1 ctx.now op }
-    ensures single_blocks { IsSome result → HasSingleBlocks ctx.now op }
-{
-    let around = Around { op };
-    if has_body(ctx, &around) {
-        Some(around)
-    } else {
-        None
-    }
-}
-
 // The name of a symbol, if it has one.
 fn name_in<'a, D: OpSet, S: SymbolOpInterface<D>>(
     ctx: &'a Context<D>,
@@ -105,4 +91,28 @@ pub fn symbol_name<D: OpSet>(ctx: &Context<D>, op: Ptr<Operation>) -> Option<&Id
     requires { IsLive ctx.now (AnyNode.Operation op) }
 {
     name_in(ctx, &Around { op })
+}
+
+// Names a symbol.
+fn rename<D: OpSet, S: SymbolOpInterface<D>>(
+    alloc: Global,
+    ctx: &mut Context<D>,
+    symbol: &S,
+    name: Identifier,
+) -> Result<(), Memory>
+    requires { IsLive ctx.old (AnyNode.Operation (S.pointer symbol.now)) }
+{
+    symbol.set_symbol_name(alloc, ctx, name)
+}
+
+/// Names a symbol.
+pub fn set_symbol_name<D: OpSet>(
+    alloc: Global,
+    ctx: &mut Context<D>,
+    op: Ptr<Operation>,
+    name: Identifier,
+) -> Result<(), Memory>
+    requires { IsLive ctx.old (AnyNode.Operation op) }
+{
+    rename(alloc, ctx, &Around { op }, name)
 }

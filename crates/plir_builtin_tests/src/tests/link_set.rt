@@ -273,36 +273,45 @@ impl<D: OpSet> Op<D> for LinkOp {
     }
 }
 
-impl SymbolUserOpInterface<LinkSet> for LinkOp {
+/// An op set with a refusal of a symbol that is not there. Calls are generic in it: over the op set itself, whose parts
+/// are all written out in a proof, they take several times as long to prove.
+trait Linking: OpSet {
+    /// The refusal.
+    fn not_linked() -> Self::Err;
+}
+
+impl Linking for LinkSet {
+    fn not_linked() -> NotLinked {
+        NotLinked
+    }
+}
+
+impl<D: Linking> SymbolUserOpInterface<D> for LinkOp {
     ghost use Rattle.plir_core.specs.ContextView.{location_of};
     ghost use Rattle.plir_builtin_tests.specs.Links.{IsLinked, names_in_use};
 
     ghost names_used = { λ o s. names_in_use s o.op };
 
-    ghost has_right_uses = { λ o s. IsLinked (λ k. k.symbol) s o.op };
+    ghost has_right_uses = { λ o s. IsLinked D.is_symbol s o.op };
 
     ghost use_refusal = { λ o s loc e. location_of s o.op ≡ Some loc };
 
     fn verify_symbol_uses(
         &self,
-        ctx: &Context<LinkSet>,
+        ctx: &Context<D>,
         tables: &mut SymbolTableCollection,
-    ) -> Result<(), VerifyErr<NotLinked>> {
+    ) -> Result<(), VerifyErr<D::Err>> {
         match is_linked(ctx, tables, self.op) {
             Ok(true) => Ok(()),
             Ok(false) => Err(VerifyErr::Refused {
                 loc: self.op.loc(ctx),
-                err: NotLinked,
+                err: D::not_linked(),
             }),
             Err(Memory) => Err(VerifyErr::Memory),
         }
     }
 
-    fn used_symbols(
-        &self,
-        alloc: Global,
-        ctx: &Context<LinkSet>,
-    ) -> Result<Vec<Identifier>, Memory> {
+    fn used_symbols(&self, alloc: Global, ctx: &Context<D>) -> Result<Vec<Identifier>, Memory> {
         let mut names = Vec::new(alloc);
         if let Some(name) = used_symbol(ctx, self.op) {
             names.push(name.try_clone(alloc)?)?;
@@ -334,10 +343,10 @@ struct TellsItsName {
     alloc: Global,
 }
 
-impl InContext<LinkSet> for TellsItsName {
+impl<D: Linking> InContext<D> for TellsItsName {
     type Answer = Result<bool, Stop>;
 
-    fn run(self, ctx: &mut Context<LinkSet>) -> Result<bool, Stop> {
+    fn run(self, ctx: &mut Context<D>) -> Result<bool, Stop> {
         tells_its_name(self.alloc, ctx)
     }
 }
@@ -347,12 +356,12 @@ fn an_operation_tells_the_name_that_it_uses_where_memory_is_refused(
     rt: HostRuntime,
 ) -> Result<(), Stop> {
     let alloc = rt.alloc();
-    assert!(rt; in_new_context(alloc, TellsItsName { alloc })?);
+    assert!(rt; in_new_context::<LinkSet, _>(alloc, TellsItsName { alloc })?);
     Ok(())
 }
 
 // Whether an operation tells no name at first, and that of the symbol that it uses later.
-fn tells_its_name(alloc: Global, ctx: &mut Context<LinkSet>) -> Result<bool, Stop> {
+fn tells_its_name<D: Linking>(alloc: Global, ctx: &mut Context<D>) -> Result<bool, Stop> {
     let op = match new_func(alloc, ctx, 1) {
         Ok(op) => op,
         Err(_) => new_func(alloc, ctx, 1)?,
@@ -372,17 +381,21 @@ fn are_one(names: &[Identifier], name: &str) -> bool {
 }
 
 // The names that an operation uses, if it is live.
-fn names_of(alloc: Global, ctx: &Context<LinkSet>, user: LinkOp) -> Result<Vec<Identifier>, Stop> {
+fn names_of<D: Linking>(
+    alloc: Global,
+    ctx: &Context<D>,
+    user: LinkOp,
+) -> Result<Vec<Identifier>, Stop> {
     if !user.op.is_live(ctx) {
         return Err(Stop::Refused);
     }
-    Ok(SymbolUserOpInterface::<LinkSet>::used_symbols(&user, alloc, ctx)?)
+    Ok(SymbolUserOpInterface::<D>::used_symbols(&user, alloc, ctx)?)
 }
 
 // The same, asked for once more where memory was refused.
-fn names_again(
+fn names_again<D: Linking>(
     alloc: Global,
-    ctx: &Context<LinkSet>,
+    ctx: &Context<D>,
     user: LinkOp,
 ) -> Result<Vec<Identifier>, Stop> {
     match names_of(alloc, ctx, user) {

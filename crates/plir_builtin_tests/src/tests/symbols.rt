@@ -1,12 +1,8 @@
 //! The calls on symbols, and those that verify what operations declare.
-ghost use Rattle.std.specs.Prelude.{◌≡◌, IfOk, IsTrue, true};
-ghost use Rattle.plir_core.specs.ContextView.{IsLive, kind_of};
+ghost use Rattle.plir_core.specs.ContextView.{IsLive};
 ghost use Rattle.plir_core.specs.declared.ptr.IRNode.{IRNode as AnyNode};
-ghost use Rattle.plir_builtin.specs.Symbols.{is_table_kind};
-ghost use Rattle.plir_iface.specs.Counts.{HasNRegions};
-ghost use Rattle.plir_iface.specs.Regions.{HasSingleBlocks};
 
-use crate::tests::around::{Around, symbol_name, with_body};
+use crate::tests::around::{Around, has_body, set_symbol_name, symbol_name};
 use plir_builtin::{
     ConstantOp, ForwardRefOp, FuncOp, ModuleOp, SymbolOpInterface, SymbolTable,
     SymbolTableInterface, SymbolUserSet,
@@ -21,62 +17,86 @@ use std::fmt::Display;
 /// symbol in the body of an operation, `right OP` verifies a table, `declared OP` all that a builtin operation
 /// declares, and `past OP OP NAME` renames a symbol past its table.
 pub fn symbol<D: SymbolUserSet>(bench: &mut Bench<D>, line: Line<'_>) -> Result<(), Stop> {
+    let op = bench.made.op(&bench.ctx, line.first)?;
     match line.command {
-        "symbol" => rename(bench, line),
-        "name" => tell_name(bench, line),
-        "scan" => scan(bench, line),
-        "right" => verify_table(bench, line),
-        "declared" => verify_declared(bench, line),
-        _ => rename_past(bench, line),
+        "declared" => verify_declared(bench, op),
+        "past" => rename_past(bench, op, line),
+        _ => call_any(bench, &Around { op }, line),
     }
 }
 
-fn rename<D: OpSet>(bench: &mut Bench<D>, line: Line<'_>) -> Result<(), Stop> {
-    let op = bench.made.op(&bench.ctx, line.first)?;
-    let name = Identifier::try_new(bench.alloc, line.second)?;
-    SymbolOpInterface::<D>::set_symbol_name(&Around { op }, bench.alloc, &mut bench.ctx, name)?;
+// Does what a line says of any operation.
+fn call_any<D: SymbolUserSet, O: SymbolOpInterface<D> + SymbolTableInterface<D>>(
+    bench: &mut Bench<D>,
+    op: &O,
+    line: Line<'_>,
+) -> Result<(), Stop>
+    requires { IsLive bench.old.ctx (AnyNode.Operation (O.pointer op.now)) }
+{
+    match line.command {
+        "symbol" => rename(bench, op, line.second),
+        "name" => tell_name(bench, op),
+        "scan" => scan(bench, op, line.second),
+        _ => verify_table(bench, op),
+    }
+}
+
+fn rename<D: OpSet, S: SymbolOpInterface<D>>(
+    bench: &mut Bench<D>,
+    symbol: &S,
+    name: &str,
+) -> Result<(), Stop>
+    requires { IsLive bench.old.ctx (AnyNode.Operation (S.pointer symbol.now)) }
+{
+    let name = Identifier::try_new(bench.alloc, name)?;
+    symbol.set_symbol_name(bench.alloc, &mut bench.ctx, name)?;
     Ok(())
 }
 
-fn tell_name<D: OpSet>(bench: &mut Bench<D>, line: Line<'_>) -> Result<(), Stop> {
+fn tell_name<D: OpSet, S: SymbolOpInterface<D>>(
+    bench: &mut Bench<D>,
+    symbol: &S,
+) -> Result<(), Stop>
+    requires { IsLive bench.old.ctx (AnyNode.Operation (S.pointer symbol.now)) }
+{
     let (ctx, answer) = (&bench.ctx, &mut bench.answer);
-    let symbol = Around {
-        op: bench.made.op(ctx, line.first)?,
-    };
-    match SymbolOpInterface::<D>::verify(&symbol, ctx) {
+    match SymbolOpInterface::<D>::verify(symbol, ctx) {
         Ok(()) => {
-            let name = SymbolOpInterface::<D>::get_symbol_name(&symbol, ctx);
-            answer.put(name.as_str());
+            answer.put(symbol.get_symbol_name(ctx).as_str());
             Ok(())
         }
         Err(refused) => put_refusal(answer, refused),
     }
 }
 
-// The operation of a name, which has one region, of one block.
-fn op_with_body<D: OpSet>(bench: &Bench<D>, name: &str) -> Result<Around, Stop>
-    ensures live { IfOk result (λ a. IsLive bench.now.ctx (AnyNode.Operation a.op)) }
-    ensures one_region { IfOk result (λ a. HasNRegions 1 bench.now.ctx a.op) }
-    ensures single_blocks { IfOk result (λ a. HasSingleBlocks bench.now.ctx a.op) }
+fn scan<D: OpSet, T: SymbolTableInterface<D>>(
+    bench: &mut Bench<D>,
+    table: &T,
+    name: &str,
+) -> Result<(), Stop>
+    requires { IsLive bench.old.ctx (AnyNode.Operation (T.pointer table.now)) }
 {
-    let op = bench.made.op(&bench.ctx, name)?;
-    with_body(&bench.ctx, op).ok_or(Stop::Refused)
-}
-
-fn scan<D: OpSet>(bench: &mut Bench<D>, line: Line<'_>) -> Result<(), Stop> {
-    let table = op_with_body(bench, line.first)?;
-    let name = Identifier::try_new(bench.alloc, line.second)?;
-    let found = SymbolTableInterface::<D>::lookup(&table, &bench.ctx, &name);
+    if !has_body(&bench.ctx, table) {
+        return Err(Stop::Refused);
+    }
+    let name = Identifier::try_new(bench.alloc, name)?;
+    let found = table.lookup(&bench.ctx, &name);
     bench.made.put_op(&mut bench.answer, found);
     Ok(())
 }
 
-fn verify_table<D: SymbolUserSet>(bench: &mut Bench<D>, line: Line<'_>) -> Result<(), Stop> {
-    let table = op_with_body(bench, line.first)?;
-    if !op_impls(&bench.ctx, table.op, Interface::SymbolTable) {
+fn verify_table<D: SymbolUserSet, T: SymbolTableInterface<D>>(
+    bench: &mut Bench<D>,
+    table: &T,
+) -> Result<(), Stop>
+    requires { IsLive bench.old.ctx (AnyNode.Operation (T.pointer table.now)) }
+{
+    if !has_body(&bench.ctx, table)
+        || !op_impls(&bench.ctx, table.get_operation(), Interface::SymbolTable)
+    {
         return Err(Stop::Refused);
     }
-    let verdict = SymbolTableInterface::<D>::verify(&table, bench.alloc, &bench.ctx);
+    let verdict = SymbolTableInterface::<D>::verify(table, bench.alloc, &bench.ctx);
     put_verdict(&mut bench.answer, verdict)
 }
 
@@ -110,9 +130,10 @@ fn put_refusal<E: Display + Drop>(answer: &mut Answer, refused: VerifyErr<E>) ->
     }
 }
 
-fn verify_declared<D: SymbolUserSet>(bench: &mut Bench<D>, line: Line<'_>) -> Result<(), Stop> {
+fn verify_declared<D: SymbolUserSet>(bench: &mut Bench<D>, op: Ptr<Operation>) -> Result<(), Stop>
+    requires { IsLive bench.old.ctx (AnyNode.Operation op) }
+{
     let (alloc, ctx, answer) = (bench.alloc, &bench.ctx, &mut bench.answer);
-    let op = bench.made.op(ctx, line.first)?;
     if let Some(module) = ModuleOp::from_operation(ctx, op) {
         return put_verdict(answer, module.verify_interfaces(alloc, ctx));
     }
@@ -130,9 +151,14 @@ fn verify_declared<D: SymbolUserSet>(bench: &mut Bench<D>, line: Line<'_>) -> Re
 
 // Writes what a table finds under the old name of a symbol and under the new one, after the symbol was renamed past it;
 // takes the symbol out, and writes what is found under the old name then.
-fn rename_past<D: OpSet>(bench: &mut Bench<D>, line: Line<'_>) -> Result<(), Stop> {
+fn rename_past<D: OpSet>(
+    bench: &mut Bench<D>,
+    over: Ptr<Operation>,
+    line: Line<'_>,
+) -> Result<(), Stop>
+    requires { IsLive bench.old.ctx (AnyNode.Operation over) }
+{
     let (alloc, made, answer) = (bench.alloc, &bench.made, &mut bench.answer);
-    let over = made.op(&bench.ctx, line.first)?;
     let op = made.op(&bench.ctx, line.second)?;
     let new = Identifier::try_new(alloc, line.third)?;
     let old = name_of(alloc, &bench.ctx, op)?;
@@ -140,7 +166,7 @@ fn rename_past<D: OpSet>(bench: &mut Bench<D>, line: Line<'_>) -> Result<(), Sto
     let Ok(mut table) = SymbolTable::new(alloc, &bench.ctx, over) else {
         return Err(Stop::Refused);
     };
-    SymbolOpInterface::<D>::set_symbol_name(&Around { op }, alloc, &mut bench.ctx, new)?;
+    set_symbol_name(alloc, &mut bench.ctx, op, new)?;
     made.put_op(answer, table.lookup(&old));
     made.put_op(answer, table.lookup(&found));
     if take_out(&mut bench.ctx, &mut table, op) {

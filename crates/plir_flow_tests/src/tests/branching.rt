@@ -2,60 +2,78 @@
 ghost use Rattle.plir_core.specs.ContextView.{IsLive};
 ghost use Rattle.plir_core.specs.declared.ptr.IRNode.{IRNode as AnyNode};
 
-use super::cond_branch::CondBranch;
 use super::grouping::{put_values, put_verdict};
 use plir_core::{Context, LessThanN};
 use plir_data::OpSet;
 use plir_flow::{BranchOpInterface, NSuccsInterface, OneSuccInterface};
-use plir_scripts::{Answer, Line, Made, SampleSet, Stop, number};
+use plir_scripts::{Answer, Bench, Line, Made, Stop, number};
 use std::alloc::Global;
 
-/// `branch OP RULE` verifies.
-pub fn verify_branch(
-    alloc: Global,
-    ctx: &Context<SampleSet>,
-    answer: &mut Answer,
-    op: &CondBranch,
-    rule: &str,
+/// The calls on a branch: `forwarded`, `add`, `drop` and `reset`; any other one verifies.
+pub fn call_branch<D: OpSet, B: BranchOpInterface<D>>(
+    bench: &mut Bench<D>,
+    op: &B,
+    line: Line<'_>,
 ) -> Result<(), Stop>
-    requires { IsLive ctx.now (AnyNode.Operation op.now.op) }
+    requires { IsLive bench.old.ctx (AnyNode.Operation (B.pointer op.now)) }
 {
-    match rule {
-        "NSuccs<2>" => put_verdict(answer, NSuccsInterface::<SampleSet, 2>::verify(op, ctx)),
-        "OneSucc" => put_verdict(answer, OneSuccInterface::<SampleSet>::verify(op, ctx)),
-        _ => put_verdict(
-            answer,
-            BranchOpInterface::<SampleSet>::verify(op, alloc, ctx),
-        ),
+    let (alloc, ctx, made, answer) = (bench.alloc, &mut bench.ctx, &bench.made, &mut bench.answer);
+    match line.command {
+        "add" => add(alloc, ctx, made, answer, op, line),
+        "drop" => take_out(alloc, ctx, made, answer, op, line),
+        "reset" => reset(alloc, ctx, made, op, line),
+        "forwarded" => ask_forwarded(alloc, ctx, made, answer, op, number(line.second)?),
+        _ => {
+            put_verdict(answer, BranchOpInterface::<D>::verify(op, alloc, ctx));
+            Ok(())
+        }
+    }
+}
+
+/// `branch OP RULE` verifies by a rule of numbers of successors, `successor OP` writes the last of two successors, or
+/// the one; the other calls are those on any branch.
+pub fn call_counted<D: OpSet, B: NSuccsInterface<D, 2> + OneSuccInterface<D>>(
+    bench: &mut Bench<D>,
+    op: &B,
+    line: Line<'_>,
+) -> Result<(), Stop>
+    requires { IsLive bench.old.ctx (AnyNode.Operation (B.pointer op.now)) }
+{
+    let (ctx, answer) = (&bench.ctx, &mut bench.answer);
+    match (line.command, line.second) {
+        ("successor", _) => return ask_successor(ctx, &bench.made, answer, op),
+        ("branch", "NSuccs<2>") => put_verdict(answer, NSuccsInterface::<D, 2>::verify(op, ctx)),
+        ("branch", "OneSucc") => put_verdict(answer, OneSuccInterface::<D>::verify(op, ctx)),
+        _ => return call_branch(bench, op, line),
     }
     Ok(())
 }
 
-/// `successor OP` writes the last of two successors, or the one.
-pub fn ask_successor(
-    ctx: &Context<SampleSet>,
+// Writes the last of two successors, or the one.
+fn ask_successor<D: OpSet, B: NSuccsInterface<D, 2> + OneSuccInterface<D>>(
+    ctx: &Context<D>,
     made: &Made,
     answer: &mut Answer,
-    op: &CondBranch,
+    op: &B,
 ) -> Result<(), Stop>
-    requires { IsLive ctx.now (AnyNode.Operation op.now.op) }
+    requires { IsLive ctx.now (AnyNode.Operation (B.pointer op.now)) }
 {
     let last: LessThanN<2> = LessThanN::new(1).ok_or(Stop::Refused)?;
-    if NSuccsInterface::<SampleSet, 2>::verify(op, ctx).is_ok() {
-        let block = NSuccsInterface::<SampleSet, 2>::get_successor_i(op, ctx, last);
+    if NSuccsInterface::<D, 2>::verify(op, ctx).is_ok() {
+        let block = NSuccsInterface::<D, 2>::get_successor_i(op, ctx, last);
         made.put_block(answer, Some(block));
         return Ok(());
     }
-    if OneSuccInterface::<SampleSet>::verify(op, ctx).is_err() {
+    if OneSuccInterface::<D>::verify(op, ctx).is_err() {
         return Err(Stop::Refused);
     }
-    let block = OneSuccInterface::<SampleSet>::get_successor(op, ctx);
+    let block = OneSuccInterface::<D>::get_successor(op, ctx);
     made.put_block(answer, Some(block));
     Ok(())
 }
 
-/// `forwarded OP SUCCESSOR` writes the places of the values that a successor gets, and the values.
-pub fn ask_forwarded<D: OpSet, B: BranchOpInterface<D>>(
+// `forwarded OP SUCCESSOR` writes the places of the values that a successor gets, and the values.
+fn ask_forwarded<D: OpSet, B: BranchOpInterface<D>>(
     alloc: Global,
     ctx: &Context<D>,
     made: &Made,
@@ -81,8 +99,8 @@ pub fn ask_forwarded<D: OpSet, B: BranchOpInterface<D>>(
     Ok(())
 }
 
-/// `add OP SUCCESSOR VALUE` writes the place.
-pub fn add<D: OpSet, B: BranchOpInterface<D>>(
+// `add OP SUCCESSOR VALUE` writes the place.
+fn add<D: OpSet, B: BranchOpInterface<D>>(
     alloc: Global,
     ctx: &mut Context<D>,
     made: &Made,
@@ -104,8 +122,8 @@ pub fn add<D: OpSet, B: BranchOpInterface<D>>(
     Ok(())
 }
 
-/// `drop OP SUCCESSOR ARGUMENT` writes the value that is taken out.
-pub fn take_out<D: OpSet, B: BranchOpInterface<D>>(
+// `drop OP SUCCESSOR ARGUMENT` writes the value that is taken out.
+fn take_out<D: OpSet, B: BranchOpInterface<D>>(
     alloc: Global,
     ctx: &mut Context<D>,
     made: &Made,
@@ -127,8 +145,8 @@ pub fn take_out<D: OpSet, B: BranchOpInterface<D>>(
     Ok(())
 }
 
-/// `reset OP SUCCESSOR ARGUMENT VALUE`.
-pub fn reset<D: OpSet, B: BranchOpInterface<D>>(
+// `reset OP SUCCESSOR ARGUMENT VALUE`.
+fn reset<D: OpSet, B: BranchOpInterface<D>>(
     alloc: Global,
     ctx: &mut Context<D>,
     made: &Made,

@@ -1,9 +1,9 @@
 //! Calls of a value and of a name.
+use super::refusing::Refusing;
 use plir_core::{Context, Operation, Ptr};
-use plir_data::{Identifier, Memory, VerifyErr};
+use plir_data::{Identifier, Memory, OpSet, VerifyErr};
 use plir_flow::{CallOpCallable, CallOpInterface};
 use plir_iface::Op;
-use plir_scripts::{NotMarked, SampleSet};
 use std::alloc::Global;
 use std::ops::Range;
 
@@ -13,7 +13,7 @@ pub struct ValueCall {
     pub op: Ptr<Operation>,
 }
 
-impl Op<SampleSet> for ValueCall {
+impl<D: OpSet> Op<D> for ValueCall {
     ghost pointer = { λ o. o.op };
 
     fn get_operation(&self) -> Ptr<Operation> {
@@ -21,7 +21,7 @@ impl Op<SampleSet> for ValueCall {
     }
 }
 
-impl CallOpInterface<SampleSet> for ValueCall {
+impl<D: Refusing> CallOpInterface<D> for ValueCall {
     ghost use Rattle.std.specs.Prelude.{◌<◌, length, slice_index_or};
     ghost use Rattle.plir_core.specs.ContextView.{operands_of};
     ghost use Rattle.plir_iface.specs.Counts.{result_at};
@@ -36,11 +36,7 @@ impl CallOpInterface<SampleSet> for ValueCall {
     ghost arguments = { λ o s. (1, length (operands_of s o.op)) };
 
     // A refusal takes memory here, for a text that isn't used.
-    fn verify_call_layout(
-        &self,
-        alloc: Global,
-        ctx: &Context<SampleSet>,
-    ) -> Result<(), VerifyErr<NotMarked>> {
+    fn verify_call_layout(&self, alloc: Global, ctx: &Context<D>) -> Result<(), VerifyErr<D::Err>> {
         if self.op.get_num_operands(ctx) > 0 {
             return Ok(());
         }
@@ -49,15 +45,15 @@ impl CallOpInterface<SampleSet> for ValueCall {
         }
         Err(VerifyErr::Refused {
             loc: self.op.loc(ctx),
-            err: NotMarked,
+            err: D::refusal(),
         })
     }
 
-    fn callee(&self, _alloc: Global, ctx: &Context<SampleSet>) -> Result<CallOpCallable, Memory> {
+    fn callee(&self, _alloc: Global, ctx: &Context<D>) -> Result<CallOpCallable, Memory> {
         Ok(CallOpCallable::Indirect(self.op.get_operand(ctx, 0)))
     }
 
-    fn arg_range(&self, ctx: &Context<SampleSet>) -> Range<usize> {
+    fn arg_range(&self, ctx: &Context<D>) -> Range<usize> {
         1..self.op.get_num_operands(ctx)
     }
 }
@@ -68,7 +64,7 @@ pub struct NamedCall {
     pub op: Ptr<Operation>,
 }
 
-impl Op<SampleSet> for NamedCall {
+impl<D: OpSet> Op<D> for NamedCall {
     ghost pointer = { λ o. o.op };
 
     fn get_operation(&self) -> Ptr<Operation> {
@@ -76,7 +72,7 @@ impl Op<SampleSet> for NamedCall {
     }
 }
 
-impl CallOpInterface<SampleSet> for NamedCall {
+impl<D: OpSet> CallOpInterface<D> for NamedCall {
     ghost use Rattle.std.specs.Prelude.{length, codes};
     ghost use Rattle.plir_core.specs.ContextView.{operands_of};
     ghost use Rattle.plir_flow.specs.declared.calls.CallOpCallable.TheVariants.{Direct};
@@ -92,19 +88,19 @@ impl CallOpInterface<SampleSet> for NamedCall {
     fn verify_call_layout(
         &self,
         _alloc: Global,
-        _ctx: &Context<SampleSet>,
-    ) -> Result<(), VerifyErr<NotMarked>> {
+        _ctx: &Context<D>,
+    ) -> Result<(), VerifyErr<D::Err>> {
         Ok(())
     }
 
-    fn callee(&self, alloc: Global, _ctx: &Context<SampleSet>) -> Result<CallOpCallable, Memory> {
+    fn callee(&self, alloc: Global, _ctx: &Context<D>) -> Result<CallOpCallable, Memory> {
         match Identifier::try_new(alloc, "f") {
             Ok(name) => Ok(CallOpCallable::Direct(name)),
             Err(_) => Err(Memory),
         }
     }
 
-    fn arg_range(&self, ctx: &Context<SampleSet>) -> Range<usize> {
+    fn arg_range(&self, ctx: &Context<D>) -> Range<usize> {
         0..self.op.get_num_operands(ctx)
     }
 }

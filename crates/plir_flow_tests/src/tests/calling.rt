@@ -2,16 +2,37 @@
 ghost use Rattle.plir_core.specs.ContextView.{IsLive};
 ghost use Rattle.plir_core.specs.declared.ptr.IRNode.{IRNode as AnyNode};
 
-use super::call_ops::{NamedCall, ValueCall};
 use super::grouping::{put_values, put_verdict};
-use plir_core::{Context, Operation, Ptr};
+use plir_core::Context;
 use plir_data::OpSet;
 use plir_flow::{CallOpCallable, CallOpInterface};
-use plir_scripts::{Answer, Bench, Line, Made, SampleSet, Stop, put_type_name};
+use plir_scripts::{Answer, Bench, Line, Made, Stop, put_type_name};
 use std::alloc::Global;
 
-/// `layout OP KIND`, `call OP KIND` and `args OP KIND`: the kind is `value` or `name`.
-pub fn ask_call<D: OpSet, C: CallOpInterface<D> + Drop>(
+/// The calls on a call: `layout OP KIND`, `call OP KIND` and `args OP KIND`, `callee-type OP` and `set-callee OP TYPE`.
+pub fn call<D: OpSet, C: CallOpInterface<D> + Drop>(
+    bench: &mut Bench<D>,
+    op: &C,
+    line: Line<'_>,
+) -> Result<(), Stop>
+    requires { IsLive bench.old.ctx (AnyNode.Operation (C.pointer op.now)) }
+{
+    match line.command {
+        "callee-type" => ask_type(bench, op),
+        "set-callee" => set_type(bench, op, line),
+        _ => ask_call(
+            bench.alloc,
+            &bench.ctx,
+            &bench.made,
+            &mut bench.answer,
+            op,
+            line.command,
+        ),
+    }
+}
+
+// `layout OP KIND`, `call OP KIND` and `args OP KIND`.
+fn ask_call<D: OpSet, C: CallOpInterface<D> + Drop>(
     alloc: Global,
     ctx: &Context<D>,
     made: &Made,
@@ -40,26 +61,8 @@ pub fn ask_call<D: OpSet, C: CallOpInterface<D> + Drop>(
     Ok(())
 }
 
-/// The same by the kind of the call.
-pub fn ask_kind(
-    alloc: Global,
-    ctx: &Context<SampleSet>,
-    made: &Made,
-    answer: &mut Answer,
-    op: Ptr<Operation>,
-    line: Line<'_>,
-) -> Result<(), Stop>
-    requires { IsLive ctx.now (AnyNode.Operation op) }
-{
-    match line.second {
-        "value" => ask_call(alloc, ctx, made, answer, &ValueCall { op }, line.command),
-        "name" => ask_call(alloc, ctx, made, answer, &NamedCall { op }, line.command),
-        _ => Err(Stop::Refused),
-    }
-}
-
-/// `callee-type OP`.
-pub fn ask_type<D: OpSet, C: CallOpInterface<D>>(bench: &mut Bench<D>, op: &C) -> Result<(), Stop>
+// `callee-type OP`.
+fn ask_type<D: OpSet, C: CallOpInterface<D>>(bench: &mut Bench<D>, op: &C) -> Result<(), Stop>
     requires { IsLive bench.old.ctx (AnyNode.Operation (C.pointer op.now)) }
 {
     if op.verify(&bench.ctx).is_err() {
@@ -69,8 +72,8 @@ pub fn ask_type<D: OpSet, C: CallOpInterface<D>>(bench: &mut Bench<D>, op: &C) -
     put_type_name(&mut bench.made, &mut bench.answer, ty)
 }
 
-/// `set-callee OP TYPE`.
-pub fn set_type<D: OpSet, C: CallOpInterface<D>>(
+// `set-callee OP TYPE`.
+fn set_type<D: OpSet, C: CallOpInterface<D>>(
     bench: &mut Bench<D>,
     op: &C,
     line: Line<'_>,

@@ -1,11 +1,11 @@
 //! A conditional branch: an operation with two successors, whose operands stand in three segments.
+use super::refusing::Refusing;
 use plir_core::{Context, Operation, Ptr, Value};
-use plir_data::{Memory, VerifyErr};
+use plir_data::{Memory, OpSet, VerifyErr};
 use plir_flow::{
     BranchOpInterface, NSuccsInterface, OneSuccInterface, OperandSegmentInterface, laws,
 };
 use plir_iface::{IsTerminatorInterface, Op};
-use plir_scripts::{NotMarked, SampleSet};
 use std::alloc::Global;
 use std::ops::Range;
 
@@ -16,7 +16,7 @@ pub struct CondBranch {
     pub op: Ptr<Operation>,
 }
 
-impl Op<SampleSet> for CondBranch {
+impl<D: OpSet> Op<D> for CondBranch {
     ghost pointer = { λ o. o.op };
 
     fn get_operation(&self) -> Ptr<Operation> {
@@ -24,21 +24,21 @@ impl Op<SampleSet> for CondBranch {
     }
 }
 
-impl IsTerminatorInterface<SampleSet> for CondBranch {}
+impl<D: OpSet> IsTerminatorInterface<D> for CondBranch {}
 
-impl OperandSegmentInterface<SampleSet> for CondBranch {
+impl<D: OpSet> OperandSegmentInterface<D> for CondBranch {
     ghost use Rattle.std.specs.Prelude.{Some, refl};
 
     ghost expected = { λ _ _. Some 3 };
 
-    fn expected_num_segments(&self, _ctx: &Context<SampleSet>) -> Option<usize> {
+    fn expected_num_segments(&self, _ctx: &Context<D>) -> Option<usize> {
         Some(3)
     }
 
     ghost expected_kept = { λ o s t segs live edited. refl };
 }
 
-impl BranchOpInterface<SampleSet> for CondBranch {
+impl<D: Refusing> BranchOpInterface<D> for CondBranch {
     ghost use Rattle.std.specs.Prelude.{Some, [], ◌∷◌, ◌+◌};
     ghost use Rattle.plir_flow.specs.Segments.{HasSegments, segment_places, sizes_key};
     ghost use Rattle.plir_flow.specs.Branches.{HasNSuccs};
@@ -55,9 +55,9 @@ impl BranchOpInterface<SampleSet> for CondBranch {
     fn verify_successor_operand_layout(
         &self,
         alloc: Global,
-        ctx: &Context<SampleSet>,
-    ) -> Result<(), VerifyErr<NotMarked>> {
-        let has_segments = OperandSegmentInterface::<SampleSet>::verify(self, ctx).is_ok();
+        ctx: &Context<D>,
+    ) -> Result<(), VerifyErr<D::Err>> {
+        let has_segments = OperandSegmentInterface::<D>::verify(self, ctx).is_ok();
         if has_segments && self.op.get_num_successors(ctx) == 2 {
             return Ok(());
         }
@@ -66,17 +66,17 @@ impl BranchOpInterface<SampleSet> for CondBranch {
         }
         Err(VerifyErr::Refused {
             loc: self.op.loc(ctx),
-            err: NotMarked,
+            err: D::refusal(),
         })
     }
 
-    fn successor_operand_range(&self, ctx: &Context<SampleSet>, succ: usize) -> Range<usize> {
+    fn successor_operand_range(&self, ctx: &Context<D>, succ: usize) -> Range<usize> {
         self.segment_range(ctx, succ + 1)
     }
 
     fn add_successor_operand(
         &self,
-        ctx: &mut Context<SampleSet>,
+        ctx: &mut Context<D>,
         succ: usize,
         operand: Value,
     ) -> Result<usize, Memory> {
@@ -85,18 +85,13 @@ impl BranchOpInterface<SampleSet> for CondBranch {
         self.push_to_segment(ctx, succ + 1, operand)
     }
 
-    fn remove_successor_operand(
-        &self,
-        ctx: &mut Context<SampleSet>,
-        succ: usize,
-        arg: usize,
-    ) -> Value {
+    fn remove_successor_operand(&self, ctx: &mut Context<D>, succ: usize, arg: usize) -> Value {
         laws::segments_stand_in_a_row(ctx, self.op);
         laws::edits_of_one_segment();
         self.remove_from_segment(ctx, succ + 1, arg)
     }
 }
 
-impl NSuccsInterface<SampleSet, 2> for CondBranch {}
+impl<D: Refusing> NSuccsInterface<D, 2> for CondBranch {}
 
-impl OneSuccInterface<SampleSet> for CondBranch {}
+impl<D: Refusing> OneSuccInterface<D> for CondBranch {}

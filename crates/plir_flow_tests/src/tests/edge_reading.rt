@@ -1,8 +1,9 @@
 //! Edges as a script writes them: `FROM TO FLOWS READS`. An edge starts at `parent` or at an operation, and leads to a
 //! region or to `after`; what flows is written as `o0/1>b0.0`, what is read as `o0/1`, both parted by commas, or `-`.
 use plir_core::{Context, IRNode, Ptr, Region, Use, Value};
+use plir_data::OpSet;
 use plir_flow::{RegionBranchPoint, RegionEdge, RegionSuccessor};
-use plir_scripts::{Made, SampleSet, Stop, number, split_word};
+use plir_scripts::{Made, Stop, number, split_word};
 use std::alloc::Global;
 
 /// The region of a name.
@@ -54,9 +55,9 @@ fn reads_of(alloc: Global, made: &Made, words: &str) -> Result<Vec<Use<Value>>, 
 }
 
 // What words parted by commas say flows.
-fn flows_of(
+fn flows_of<D: OpSet>(
     alloc: Global,
-    ctx: &Context<SampleSet>,
+    ctx: &Context<D>,
     made: &Made,
     words: &str,
 ) -> Result<Vec<(Use<Value>, Value)>, Stop> {
@@ -72,9 +73,9 @@ fn flows_of(
 }
 
 // The edge of a text.
-fn edge_of(
+fn edge_of<D: OpSet>(
     alloc: Global,
-    ctx: &Context<SampleSet>,
+    ctx: &Context<D>,
     made: &Made,
     text: &str,
 ) -> Result<RegionEdge, Stop> {
@@ -90,9 +91,9 @@ fn edge_of(
 }
 
 /// The edges of a text, parted by `; `.
-pub fn edges_of(
+pub fn edges_of<D: OpSet>(
     alloc: Global,
-    ctx: &Context<SampleSet>,
+    ctx: &Context<D>,
     made: &Made,
     text: &str,
 ) -> Result<Vec<RegionEdge>, Stop> {

@@ -3,6 +3,7 @@ use super::edge_reading::{edges_of, region_of};
 use super::edged::Edged;
 use super::edging::{ask_edges, put_same, verify_loop};
 use super::looping::Loop;
+use super::refusing::Refusing;
 use plir_scripts::{Bench, Layer, Line, Mismatch, NodeCalls, SampleSet, Stop, play, split_word};
 use std::fmt::Write;
 
@@ -10,8 +11,8 @@ use std::fmt::Write;
 /// edges.
 struct EdgeCalls;
 
-impl Layer<SampleSet> for EdgeCalls {
-    fn run(bench: &mut Bench<SampleSet>, line: Line<'_>) -> Result<(), Stop> {
+impl<D: Refusing> Layer<D> for EdgeCalls {
+    fn run(bench: &mut Bench<D>, line: Line<'_>) -> Result<(), Stop> {
         if line.command == "loop" {
             return ask_loop(bench, line);
         }
@@ -31,7 +32,7 @@ impl Layer<SampleSet> for EdgeCalls {
 }
 
 // The loop of an operation, its region, the region's block and the operation that ends that.
-fn ask_loop(bench: &mut Bench<SampleSet>, line: Line<'_>) -> Result<(), Stop> {
+fn ask_loop<D: Refusing>(bench: &mut Bench<D>, line: Line<'_>) -> Result<(), Stop> {
     let (ctx, made, answer) = (&bench.ctx, &bench.made, &mut bench.answer);
     let (_, end) = split_word(line.tail);
     let any = Loop {

@@ -4,11 +4,11 @@ ghost use Rattle.plir_core.specs.ContextView.{IsValueLive};
 ghost use Rattle.plir_flow.specs.RegionEdges.{IsEdgeLive, AreEdgesLive, IsFlowLive, IsPointLive, IsSuccessorLive};
 ghost use Rattle.plir_flow.specs.RegionEdges.{IsUseLive};
 
+use super::refusing::Refusing;
 use plir_core::{Context, IRNode, Operation, Ptr, Use, Value};
-use plir_data::{Memory, VerifyErr};
+use plir_data::{Memory, OpSet, VerifyErr};
 use plir_flow::{RegionBranchOpInterface, RegionBranchPoint, RegionEdge, RegionSuccessor};
 use plir_iface::Op;
-use plir_scripts::{NotMarked, SampleSet};
 use std::alloc::Global;
 
 /// An operation, and the edges along which control passes between its regions.
@@ -18,7 +18,7 @@ pub struct Edged<'a> {
     pub edges: &'a [RegionEdge],
 }
 
-impl Op<SampleSet> for Edged<'_> {
+impl<D: OpSet> Op<D> for Edged<'_> {
     ghost pointer = { λ o. o.op };
 
     fn get_operation(&self) -> Ptr<Operation> {
@@ -27,7 +27,7 @@ impl Op<SampleSet> for Edged<'_> {
 }
 
 // Whether what stands at the start of an edge is live.
-fn is_point_live(ctx: &Context<SampleSet>, point: RegionBranchPoint) -> bool
+fn is_point_live<D: OpSet>(ctx: &Context<D>, point: RegionBranchPoint) -> bool
     ensures { IsTrue result ↔ IsPointLive ctx.now point }
 {
     match point {
@@ -37,7 +37,7 @@ fn is_point_live(ctx: &Context<SampleSet>, point: RegionBranchPoint) -> bool
 }
 
 // Whether what an edge leads to is live.
-fn is_successor_live(ctx: &Context<SampleSet>, successor: RegionSuccessor) -> bool
+fn is_successor_live<D: OpSet>(ctx: &Context<D>, successor: RegionSuccessor) -> bool
     ensures { IsTrue result ↔ IsSuccessorLive ctx.now successor }
 {
     match successor {
@@ -47,28 +47,28 @@ fn is_successor_live(ctx: &Context<SampleSet>, successor: RegionSuccessor) -> bo
 }
 
 // Whether there is such an operand.
-fn is_use_live(ctx: &Context<SampleSet>, read: Use<Value>) -> bool
+fn is_use_live<D: OpSet>(ctx: &Context<D>, read: Use<Value>) -> bool
     ensures { IsTrue result ↔ IsUseLive ctx.now read }
 {
     read.user_op().is_live(ctx) && read.opd_idx() < read.user_op().get_num_operands(ctx)
 }
 
 // Whether there are the operands that flow.
-fn are_sources_live(ctx: &Context<SampleSet>, flows: &[(Use<Value>, Value)]) -> bool
+fn are_sources_live<D: OpSet>(ctx: &Context<D>, flows: &[(Use<Value>, Value)]) -> bool
     ensures { IsTrue result ↔ All (λ f. IsUseLive ctx.now f.0) flows.now }
 {
     flows.iter().all(|flow| is_use_live(ctx, flow.0))
 }
 
 // Whether there are the values that receive them.
-fn are_receivers_live(ctx: &Context<SampleSet>, flows: &[(Use<Value>, Value)]) -> bool
+fn are_receivers_live<D: OpSet>(ctx: &Context<D>, flows: &[(Use<Value>, Value)]) -> bool
     ensures { IsTrue result ↔ All (λ f. IsValueLive ctx.now f.1) flows.now }
 {
     flows.iter().all(|flow| flow.1.is_live(ctx))
 }
 
 // Whether all that flows is there.
-fn are_flows_live(ctx: &Context<SampleSet>, flows: &[(Use<Value>, Value)]) -> bool
+fn are_flows_live<D: OpSet>(ctx: &Context<D>, flows: &[(Use<Value>, Value)]) -> bool
     ensures { IsTrue result ↔ All (IsFlowLive ctx.now) flows.now }
 {
     if !are_sources_live(ctx, flows) {
@@ -78,14 +78,14 @@ fn are_flows_live(ctx: &Context<SampleSet>, flows: &[(Use<Value>, Value)]) -> bo
 }
 
 // Whether all that is read is there.
-fn are_reads_live(ctx: &Context<SampleSet>, reads: &[Use<Value>]) -> bool
+fn are_reads_live<D: OpSet>(ctx: &Context<D>, reads: &[Use<Value>]) -> bool
     ensures { IsTrue result ↔ All (IsUseLive ctx.now) reads.now }
 {
     reads.iter().all(|read| is_use_live(ctx, *read))
 }
 
 // Whether all that an edge names is there.
-fn is_edge_live(ctx: &Context<SampleSet>, edge: &RegionEdge) -> bool
+fn is_edge_live<D: OpSet>(ctx: &Context<D>, edge: &RegionEdge) -> bool
     ensures { IsTrue result ↔ IsEdgeLive ctx.now edge.now }
 {
     if !is_point_live(ctx, edge.from) || !is_successor_live(ctx, edge.to) {
@@ -98,7 +98,7 @@ fn is_edge_live(ctx: &Context<SampleSet>, edge: &RegionEdge) -> bool
 }
 
 // Whether all that edges name is there.
-fn are_edges_live(ctx: &Context<SampleSet>, edges: &[RegionEdge]) -> bool
+fn are_edges_live<D: OpSet>(ctx: &Context<D>, edges: &[RegionEdge]) -> bool
     ensures { IsTrue result ↔ AreEdgesLive ctx.now edges.now }
 {
     edges.iter().all(|edge| is_edge_live(ctx, edge))
@@ -115,7 +115,7 @@ fn copy_edges(alloc: Global, edges: &[RegionEdge]) -> Result<Vec<RegionEdge>, Me
     Ok(copies)
 }
 
-impl RegionBranchOpInterface<SampleSet> for Edged<'_> {
+impl<D: Refusing> RegionBranchOpInterface<D> for Edged<'_> {
     ghost use Rattle.plir_flow.specs.RegionEdges.{AreEdgesLive};
 
     ghost has_edges_layout = { λ o s. AreEdgesLive s o.edges.now };
@@ -128,8 +128,8 @@ impl RegionBranchOpInterface<SampleSet> for Edged<'_> {
     fn verify_region_edges_layout(
         &self,
         alloc: Global,
-        ctx: &Context<SampleSet>,
-    ) -> Result<(), VerifyErr<NotMarked>> {
+        ctx: &Context<D>,
+    ) -> Result<(), VerifyErr<D::Err>> {
         if are_edges_live(ctx, self.edges) {
             return Ok(());
         }
@@ -138,15 +138,11 @@ impl RegionBranchOpInterface<SampleSet> for Edged<'_> {
         }
         Err(VerifyErr::Refused {
             loc: self.op.loc(ctx),
-            err: NotMarked,
+            err: D::refusal(),
         })
     }
 
-    fn region_edges(
-        &self,
-        alloc: Global,
-        _ctx: &Context<SampleSet>,
-    ) -> Result<Vec<RegionEdge>, Memory> {
+    fn region_edges(&self, alloc: Global, _ctx: &Context<D>) -> Result<Vec<RegionEdge>, Memory> {
         copy_edges(alloc, self.edges)
     }
 }

@@ -7,7 +7,7 @@ use super::grouped::Grouped;
 use plir_core::{Context, Value};
 use plir_data::{FunctionTypeMark, Memory, OpSet, OperandSegmentSizesAttr, UnitType, VerifyErr};
 use plir_flow::{OperandSegmentInterface, SegmentNImplsTy, SegmentNOfType};
-use plir_scripts::{Answer, Bench, Line, Made, SampleSet, Stop, number, split_word};
+use plir_scripts::{Answer, Bench, Line, Made, Stop, number, split_word};
 use std::alloc::Global;
 use std::fmt::Display;
 
@@ -48,30 +48,29 @@ pub fn verify<D: OpSet, O: OperandSegmentInterface<D>>(
 }
 
 /// `types OP RULE`: the rules of the types in one segment.
-pub fn verify_types(
-    alloc: Global,
-    ctx: &Context<SampleSet>,
-    answer: &mut Answer,
-    op: &Grouped,
-    rule: &str,
-) -> Result<(), Stop>
-    requires { IsLive ctx.now (AnyNode.Operation op.now.op) }
+pub fn verify_types<
+    D: OpSet,
+    O: SegmentNOfType<D, 1, UnitType>
+        + SegmentNOfType<D, 2, UnitType>
+        + SegmentNImplsTy<D, 1, FunctionTypeMark>,
+>(alloc: Global, ctx: &Context<D>, answer: &mut Answer, op: &O, rule: &str) -> Result<(), Stop>
+    requires { IsLive ctx.now (AnyNode.Operation (O.pointer op.now)) }
 {
-    if OperandSegmentInterface::<SampleSet>::verify(op, ctx).is_err() {
+    if OperandSegmentInterface::<D>::verify(op, ctx).is_err() {
         return Err(Stop::Refused);
     }
     match rule {
         "SegmentNOfType<1, Unit>" => put_verdict(
             answer,
-            SegmentNOfType::<SampleSet, 1, UnitType>::verify(op, alloc, ctx),
+            SegmentNOfType::<D, 1, UnitType>::verify(op, alloc, ctx),
         ),
         "SegmentNOfType<2, Unit>" => put_verdict(
             answer,
-            SegmentNOfType::<SampleSet, 2, UnitType>::verify(op, alloc, ctx),
+            SegmentNOfType::<D, 2, UnitType>::verify(op, alloc, ctx),
         ),
         "SegmentNImplsTy<1, Function>" => put_verdict(
             answer,
-            SegmentNImplsTy::<SampleSet, 1, FunctionTypeMark>::verify(op, ctx),
+            SegmentNImplsTy::<D, 1, FunctionTypeMark>::verify(op, ctx),
         ),
         _ => return Err(Stop::Refused),
     }
@@ -148,7 +147,7 @@ pub fn ask_segment<D: OpSet, O: OperandSegmentInterface<D>>(
 }
 
 /// `flatten VALUES / VALUES ..` writes the values of all segments and their sizes.
-pub fn flatten(bench: &mut Bench<SampleSet>, line: Line<'_>) -> Result<(), Stop> {
+pub fn flatten<D: OpSet>(bench: &mut Bench<D>, line: Line<'_>) -> Result<(), Stop> {
     let (alloc, ctx, made) = (bench.alloc, &bench.ctx, &bench.made);
     let mut segments = Vec::new(alloc);
     for names in line.text.split('/') {
@@ -158,20 +157,20 @@ pub fn flatten(bench: &mut Bench<SampleSet>, line: Line<'_>) -> Result<(), Stop>
         }
         segments.push(values)?;
     }
-    let (values, sizes) = flat(alloc, segments)?;
+    let (values, sizes) = flat::<D>(alloc, segments)?;
     put_values(made, &mut bench.answer, values.as_slice());
     bench.answer.put(" /");
     put_sizes(&mut bench.answer, &sizes);
     Ok(())
 }
 
-fn flat(
+fn flat<D: OpSet>(
     alloc: Global,
     segments: Vec<Vec<Value>>,
 ) -> Result<(Vec<Value>, OperandSegmentSizesAttr), Memory>
     requires { All (λ seg. length seg.items < 2 ^ 32) segments.items }
 {
-    <Grouped as OperandSegmentInterface<SampleSet>>::compute_segment_sizes(alloc, segments)
+    <Grouped as OperandSegmentInterface<D>>::compute_segment_sizes(alloc, segments)
 }
 
 /// `sizes OP SIZES` puts sizes under their key.

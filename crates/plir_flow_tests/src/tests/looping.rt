@@ -4,11 +4,11 @@ ghost use Rattle.plir_core.specs.ContextView.{IsLive};
 ghost use Rattle.plir_core.specs.declared.ptr.IRNode.{IRNode as AnyNode};
 ghost use Rattle.plir_flow_tests.specs.Loops.{AreNested, IsLoop};
 
+use super::refusing::Refusing;
 use plir_core::{BasicBlock, Context, Operation, Ptr, Region, Use, Value};
 use plir_data::{Memory, OpSet, VerifyErr};
 use plir_flow::{RegionBranchOpInterface, RegionBranchPoint, RegionEdge, RegionSuccessor};
 use plir_iface::Op;
-use plir_scripts::{NotMarked, SampleSet};
 use std::alloc::Global;
 
 /// A loop. Its first operand flows into its region, as the first argument of the body; the first operand of the
@@ -21,7 +21,7 @@ pub struct Loop {
     pub end: Ptr<Operation>,
 }
 
-impl Op<SampleSet> for Loop {
+impl<D: OpSet> Op<D> for Loop {
     ghost pointer = { λ o. o.op };
 
     fn get_operation(&self) -> Ptr<Operation> {
@@ -75,7 +75,7 @@ fn edge(
     })
 }
 
-impl RegionBranchOpInterface<SampleSet> for Loop {
+impl<D: Refusing> RegionBranchOpInterface<D> for Loop {
     ghost use Rattle.plir_flow_tests.specs.Loops.{IsLoop, loop_edges};
 
     ghost has_edges_layout = { λ o s. IsLoop s o.op o.region o.body o.end };
@@ -87,22 +87,18 @@ impl RegionBranchOpInterface<SampleSet> for Loop {
     fn verify_region_edges_layout(
         &self,
         _alloc: Global,
-        ctx: &Context<SampleSet>,
-    ) -> Result<(), VerifyErr<NotMarked>> {
+        ctx: &Context<D>,
+    ) -> Result<(), VerifyErr<D::Err>> {
         if self.is_loop(ctx) {
             return Ok(());
         }
         Err(VerifyErr::Refused {
             loc: self.op.loc(ctx),
-            err: NotMarked,
+            err: D::refusal(),
         })
     }
 
-    fn region_edges(
-        &self,
-        alloc: Global,
-        ctx: &Context<SampleSet>,
-    ) -> Result<Vec<RegionEdge>, Memory> {
+    fn region_edges(&self, alloc: Global, ctx: &Context<D>) -> Result<Vec<RegionEdge>, Memory> {
         let operand = Use::new(self.op, 0);
         let argument = self.body.get_argument(ctx, 0);
         let handed_on = Use::new(self.end, 0);

@@ -2,25 +2,28 @@
 ghost use Rattle.plir_core.specs.ContextView.{IsLive};
 ghost use Rattle.plir_core.specs.declared.ptr.IRNode.{IRNode as AnyNode};
 
-use super::branching::{add, ask_forwarded, ask_successor, reset, take_out, verify_branch};
-use super::call_ops::ValueCall;
-use super::calling::{ask_kind, ask_type, set_type};
+use super::branching::{call_branch, call_counted};
+use super::call_ops::{NamedCall, ValueCall};
+use super::calling::call;
 use super::cond_branch::CondBranch;
 use super::editing::edit;
 use super::grouped::Grouped;
 use super::grouping::{
     ask_all, ask_segment, ask_size, expected_of, flatten, set_sizes, verify, verify_types,
 };
-use super::switch::{Switch, call_switch};
+use super::refusing::Refusing;
+use super::switch::Switch;
 use plir_data::OpSet;
-use plir_flow::{BranchOpInterface, OperandSegmentInterface, laws};
-use plir_scripts::{Bench, Layer, Line, Mismatch, NodeCalls, SampleSet, Stop, number, play};
+use plir_flow::{OperandSegmentInterface, laws};
+use plir_scripts::{
+    Bench, Layer, Line, Mismatch, NodeCalls, SampleSet, ScriptSet, Stop, number, play,
+};
 
 /// The calls on segments, and those on nodes.
 struct SegmentCalls;
 
-impl Layer<SampleSet> for SegmentCalls {
-    fn run(bench: &mut Bench<SampleSet>, line: Line<'_>) -> Result<(), Stop> {
+impl<D: ScriptSet> Layer<D> for SegmentCalls {
+    fn run(bench: &mut Bench<D>, line: Line<'_>) -> Result<(), Stop> {
         match line.command {
             "flatten" => return flatten(bench, line),
             "verify"
@@ -78,8 +81,8 @@ fn call_segments<D: OpSet, O: OperandSegmentInterface<D>>(
 /// The calls on branches, and those on segments.
 struct BranchCalls;
 
-impl Layer<SampleSet> for BranchCalls {
-    fn run(bench: &mut Bench<SampleSet>, line: Line<'_>) -> Result<(), Stop> {
+impl<D: Refusing> Layer<D> for BranchCalls {
+    fn run(bench: &mut Bench<D>, line: Line<'_>) -> Result<(), Stop> {
         if !matches!(
             line.command,
             "branch" | "successor" | "forwarded" | "add" | "drop" | "reset"
@@ -87,38 +90,15 @@ impl Layer<SampleSet> for BranchCalls {
             return SegmentCalls::run(bench, line);
         }
         let op = bench.made.op(&bench.ctx, line.first)?;
-        let op = CondBranch { op };
-        let (alloc, ctx, answer) = (bench.alloc, &bench.ctx, &mut bench.answer);
-        match line.command {
-            "branch" => verify_branch(alloc, ctx, answer, &op, line.second),
-            "successor" => ask_successor(ctx, &bench.made, answer, &op),
-            _ => call_forwarded(bench, &op, line),
-        }
-    }
-}
-
-// The calls on what a branch forwards.
-fn call_forwarded<D: OpSet, B: BranchOpInterface<D>>(
-    bench: &mut Bench<D>,
-    op: &B,
-    line: Line<'_>,
-) -> Result<(), Stop>
-    requires { IsLive bench.old.ctx (AnyNode.Operation (B.pointer op.now)) }
-{
-    let (alloc, ctx, made, answer) = (bench.alloc, &mut bench.ctx, &bench.made, &mut bench.answer);
-    match line.command {
-        "add" => add(alloc, ctx, made, answer, op, line),
-        "drop" => take_out(alloc, ctx, made, answer, op, line),
-        "reset" => reset(alloc, ctx, made, op, line),
-        _ => ask_forwarded(alloc, ctx, made, answer, op, number(line.second)?),
+        call_counted(bench, &CondBranch { op }, line)
     }
 }
 
 /// The calls on switches, and those on segments.
 struct SwitchCalls;
 
-impl Layer<SampleSet> for SwitchCalls {
-    fn run(bench: &mut Bench<SampleSet>, line: Line<'_>) -> Result<(), Stop> {
+impl<D: Refusing> Layer<D> for SwitchCalls {
+    fn run(bench: &mut Bench<D>, line: Line<'_>) -> Result<(), Stop> {
         if !matches!(
             line.command,
             "switch" | "forwarded" | "add" | "drop" | "reset"
@@ -126,15 +106,15 @@ impl Layer<SampleSet> for SwitchCalls {
             return SegmentCalls::run(bench, line);
         }
         let op = bench.made.op(&bench.ctx, line.first)?;
-        call_switch(bench, &Switch { op }, line)
+        call_branch(bench, &Switch { op }, line)
     }
 }
 
-/// The calls on calls, and those on nodes.
+/// The calls on calls, and those on nodes. The kind of a call is `name`, or else that of a value.
 struct CallCalls;
 
-impl Layer<SampleSet> for CallCalls {
-    fn run(bench: &mut Bench<SampleSet>, line: Line<'_>) -> Result<(), Stop> {
+impl<D: Refusing> Layer<D> for CallCalls {
+    fn run(bench: &mut Bench<D>, line: Line<'_>) -> Result<(), Stop> {
         if !matches!(
             line.command,
             "layout" | "call" | "args" | "callee-type" | "set-callee"
@@ -142,17 +122,10 @@ impl Layer<SampleSet> for CallCalls {
             return NodeCalls::run(bench, line);
         }
         let op = bench.made.op(&bench.ctx, line.first)?;
-        match line.command {
-            "callee-type" => ask_type(bench, &ValueCall { op }),
-            "set-callee" => set_type(bench, &ValueCall { op }, line),
-            _ => ask_kind(
-                bench.alloc,
-                &bench.ctx,
-                &bench.made,
-                &mut bench.answer,
-                op,
-                line,
-            ),
+        if line.second == "name" {
+            call(bench, &NamedCall { op }, line)
+        } else {
+            call(bench, &ValueCall { op }, line)
         }
     }
 }

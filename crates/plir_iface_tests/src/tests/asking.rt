@@ -2,7 +2,6 @@
 ghost use Rattle.plir_core.specs.ContextView.{IsLive};
 ghost use Rattle.plir_core.specs.declared.ptr.IRNode.{IRNode as AnyNode};
 
-use super::any_op::AnyOp;
 use plir_core::{Context, LessThanN, Value};
 use plir_data::{OpSet, TypeHandle};
 use plir_iface::{
@@ -37,14 +36,11 @@ fn put_value(made: &Made, answer: &mut Answer, value: Option<Value>) {
 }
 
 /// The accessors of two results or operands and of one: the last of two.
-pub fn ask_counted<D: OpSet>(
-    ctx: &Context<D>,
-    made: &Made,
-    answer: &mut Answer,
-    op: &AnyOp,
-    name: &str,
-) -> Result<(), Stop>
-    requires { IsLive ctx.now (AnyNode.Operation op.now.op) }
+pub fn ask_counted<
+    D: OpSet,
+    O: NResultsInterface<D, 2> + NOpdsInterface<D, 2> + OneResultInterface<D> + OneOpdInterface<D>,
+>(ctx: &Context<D>, made: &Made, answer: &mut Answer, op: &O, name: &str) -> Result<(), Stop>
+    requires { IsLive ctx.now (AnyNode.Operation (O.pointer op.now)) }
 {
     let last: LessThanN<2> = LessThanN::new(1).ok_or(Stop::Refused)?;
     match name {
@@ -97,14 +93,11 @@ pub fn ask_counted<D: OpSet>(
 }
 
 /// The accessors of regions.
-pub fn ask_regions<D: OpSet>(
-    ctx: &Context<D>,
-    made: &Made,
-    answer: &mut Answer,
-    op: &AnyOp,
-    name: &str,
-) -> Result<(), Stop>
-    requires { IsLive ctx.now (AnyNode.Operation op.now.op) }
+pub fn ask_regions<
+    D: OpSet,
+    O: OneRegionInterface<D> + NRegionsInterface<D, 2> + SingleBlockRegionInterface<D>,
+>(ctx: &Context<D>, made: &Made, answer: &mut Answer, op: &O, name: &str) -> Result<(), Stop>
+    requires { IsLive ctx.now (AnyNode.Operation (O.pointer op.now)) }
 {
     let last: LessThanN<2> = LessThanN::new(1).ok_or(Stop::Refused)?;
     let region = match name {
@@ -116,7 +109,7 @@ pub fn ask_regions<D: OpSet>(
         }
         "SingleBlockRegion.get_body" => {
             if SingleBlockRegionInterface::<D>::verify(op, ctx).is_err()
-                || op.op.num_regions(ctx) == 0
+                || op.get_operation().num_regions(ctx) == 0
             {
                 return Err(Stop::Refused);
             }
@@ -131,14 +124,15 @@ pub fn ask_regions<D: OpSet>(
 }
 
 /// The accessors that have no condition.
-pub fn ask_freely<D: OpSet>(
-    ctx: &Context<D>,
-    made: &Made,
-    answer: &mut Answer,
-    op: &AnyOp,
-    name: &str,
-) -> Result<(), Stop>
-    requires { IsLive ctx.now (AnyNode.Operation op.now.op) }
+pub fn ask_freely<
+    D: OpSet,
+    O: OptionalResultInterface<D>
+        + OptionalOpdInterface<D>
+        + SameOperandsAndResultType<D>
+        + AtMostOneRegionInterface<D>
+        + RegionKindInterface<D>,
+>(ctx: &Context<D>, made: &Made, answer: &mut Answer, op: &O, name: &str) -> Result<(), Stop>
+    requires { IsLive ctx.now (AnyNode.Operation (O.pointer op.now)) }
 {
     match name {
         "OptionalResult.get_result_opt" => put_value(made, answer, op.get_result_opt(ctx)),
@@ -156,11 +150,11 @@ pub fn ask_freely<D: OpSet>(
         "has_ssa_dominance(1)" => answer.put_truth(RegionKindInterface::<D>::has_ssa_dominance(
             op, 1,
         )),
-        "verify_get_operand_n<2>" => match verify_get_operand_n::<D, 2>(op.op, ctx) {
+        "verify_get_operand_n<2>" => match verify_get_operand_n::<D, 2>(op.get_operation(), ctx) {
             Ok(value) => made.put_value(answer, value),
             Err(refusal) => answer.put_shown(&refusal),
         },
-        "verify_get_result_n<0>" => match verify_get_result_n::<D, 0>(op.op, ctx) {
+        "verify_get_result_n<0>" => match verify_get_result_n::<D, 0>(op.get_operation(), ctx) {
             Ok(value) => made.put_value(answer, value),
             Err(refusal) => answer.put_shown(&refusal),
         },

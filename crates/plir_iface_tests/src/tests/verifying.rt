@@ -2,7 +2,6 @@
 ghost use Rattle.plir_core.specs.ContextView.{IsLive};
 ghost use Rattle.plir_core.specs.declared.ptr.IRNode.{IRNode as AnyNode};
 
-use super::any_op::AnyOp;
 use plir_core::Context;
 use plir_data::{FunctionTypeMark, IntegerType, Memory, OpSet, UnitType, VerifyErr};
 use plir_iface::{
@@ -38,13 +37,27 @@ fn put_free(answer: &mut Answer, verdict: Result<(), Memory>) {
 }
 
 /// Interfaces of numbers of results and operands, and of regions.
-pub fn verify_counts<D: OpSet>(
-    ctx: &Context<D>,
-    answer: &mut Answer,
-    op: &AnyOp,
-    name: &str,
-) -> Result<(), Stop>
-    requires { IsLive ctx.now (AnyNode.Operation op.now.op) }
+pub fn verify_counts<
+    D: OpSet,
+    O: NResultsInterface<D, 2>
+        + OneResultInterface<D>
+        + AtMostNResultsInterface<D, 2>
+        + OptionalResultInterface<D>
+        + AtLeastNResultsInterface<D, 2>
+        + NOpdsInterface<D, 2>
+        + OneOpdInterface<D>
+        + AtMostNOpdsInterface<D, 2>
+        + OptionalOpdInterface<D>
+        + AtLeastNOpdsInterface<D, 2>
+        + NRegionsInterface<D, 2>
+        + OneRegionInterface<D>
+        + AtMostOneRegionInterface<D>
+        + RegionKindInterface<D>
+        + IsTerminatorInterface<D>
+        + NoTerminatorInterface<D>
+        + IsolatedFromAboveInterface<D>,
+>(ctx: &Context<D>, answer: &mut Answer, op: &O, name: &str) -> Result<(), Stop>
+    requires { IsLive ctx.now (AnyNode.Operation (O.pointer op.now)) }
 {
     match name {
         "NResults<2>" => put_verdict(answer, NResultsInterface::<D, 2>::verify(op, ctx)),
@@ -84,14 +97,15 @@ pub fn verify_counts<D: OpSet>(
 }
 
 /// Interfaces of types of all operands and results.
-pub fn verify_types<D: OpSet>(
-    alloc: Global,
-    ctx: &Context<D>,
-    answer: &mut Answer,
-    op: &AnyOp,
-    name: &str,
-) -> Result<(), Stop>
-    requires { IsLive ctx.now (AnyNode.Operation op.now.op) }
+pub fn verify_types<
+    D: OpSet,
+    O: SameOperandsAndResultType<D>
+        + AllOperandsOfType<D, UnitType>
+        + AllResultsOfType<D, UnitType>
+        + AllOperandsImplsTy<D, FunctionTypeMark>
+        + AllResultsImplsTy<D, FunctionTypeMark>,
+>(alloc: Global, ctx: &Context<D>, answer: &mut Answer, op: &O, name: &str) -> Result<(), Stop>
+    requires { IsLive ctx.now (AnyNode.Operation (O.pointer op.now)) }
 {
     match name {
         "SameOperandsType" => put_verdict(answer, SameOperandsType::<D>::verify(op, ctx)),
@@ -122,13 +136,19 @@ pub fn verify_types<D: OpSet>(
 }
 
 /// Interfaces of types at places.
-pub fn verify_places<D: OpSet>(
-    ctx: &Context<D>,
-    answer: &mut Answer,
-    op: &AnyOp,
-    name: &str,
-) -> Result<(), Stop>
-    requires { IsLive ctx.now (AnyNode.Operation op.now.op) }
+pub fn verify_places<
+    D: OpSet,
+    O: OperandNOfType<D, 0, UnitType>
+        + ResultNOfType<D, 0, UnitType>
+        + OperandNImplsTy<D, 1, FunctionTypeMark>
+        + ResultNImplsTy<D, 1, FunctionTypeMark>
+        + OperandsMNOfType<D, 1, 4294967295, IntegerType>
+        + OperandsMNOfType<D, 0, 2, IntegerType>
+        + ResultsMNOfType<D, 0, 2, IntegerType>
+        + OperandsMNImplsTy<D, 0, 1, FunctionTypeMark>
+        + ResultsMNImplsTy<D, 0, 4294967295, FunctionTypeMark>,
+>(ctx: &Context<D>, answer: &mut Answer, op: &O, name: &str) -> Result<(), Stop>
+    requires { IsLive ctx.now (AnyNode.Operation (O.pointer op.now)) }
 {
     match name {
         "OperandNOfType<0, Unit>" => put_verdict(
