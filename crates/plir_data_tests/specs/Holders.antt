@@ -1,5 +1,5 @@
 -- The types of the op set whose types hold types.
-use Rattle.std.specs.Prelude.{◌≡◌, ℕ, List, [], ◌∷◌, ◌++◌, codes, Option, Some, None, Contains}
+use Rattle.std.specs.Prelude.{ℕ, List, [], ◌∷◌, ◌++◌, codes, Option, Some, None}
 use Rattle.std.specs.Fmt.{decimal}
 use Rattle.plir_data.specs.OwnParts.{Part, chars, held}
 use Rattle.plir_data_tests.specs.declared.holder_set.HolderType.{HolderType}

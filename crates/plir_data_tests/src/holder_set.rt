@@ -1,7 +1,7 @@
 //! An op set whose types and attributes hold types: a tensor of elements of a type, a routine, which is a function with
 //! effects, and an attribute that fills a tensor with one number.
 
-ghost use Rattle.std.specs.Prelude.{◌≡◌, ◌++◌, IfOk, OnOk, string_bytes};
+ghost use Rattle.std.specs.Prelude.{◌≡◌, ◌++◌, ◌∷◌, [], IfOk, OnOk};
 ghost use Rattle.std.specs.Fmt.{decimal};
 ghost use Rattle.plir_data.specs.OwnParts.{chars};
 ghost use Rattle.plir_data_tests.specs.Holders.{body_of, spaced_types};
