@@ -4,11 +4,11 @@ use Rattle.std.proofs.Common.{All, codes, refl, ap, ◌∙◌, arith}
 use Rattle.std.specs.Prelude.{Contains}
 use Rattle.std.proofs.lemmas.List.Elements.{All-contains, All-contains_itself}
 use Rattle.plir_data.specs.LiveLaws.{all_left, all_right}
-use Rattle.plir_data.specs.OwnParts.{Part, chars, held, held_in, parts_text, behind_id}
+use Rattle.plir_data.specs.OwnParts.{Part, chars, held, held_in, part_text, parts_text, behind_id}
 use Rattle.plir_data.specs.TextParts.{before, parted, parted_from}
 use Rattle.plir_data.specs.Types.{TypeView, integer, function, unit, own, IsTypeTable, handles_of, type_at}
-use Rattle.plir_data.specs.TypeTree.{trees_of, tree_over, tree_of, function_tree}
-use Rattle.plir_data.specs.TypeText.{text_over, type_text, type_text_over}
+use Rattle.plir_data.specs.TypeTree.{TypeTree, Trees, trees_of, tree_over, tree_of, function_tree}
+use Rattle.plir_data.specs.TypeText.{integer_text, text_over, type_text, type_text_over}
 use Rattle.plir_data.specs.Unrolled.{unrolled_if, unrolled_within, unrolled}
 
 -- what holds of all things of a list holds of all of another that has no more

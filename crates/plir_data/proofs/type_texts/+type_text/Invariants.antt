@@ -2,7 +2,7 @@ use Rattle.std.proofs.Common.{◌≡◌, ◌+◌, ◌*◌, ◌++◌, true, [], �
 use Rattle.plir_data.specs.OwnParts.{held_in, parts_text}
 use Rattle.plir_data.specs.PartSeen.{part_view}
 use Rattle.plir_data.specs.TextParts.{parted_from}
-use Rattle.plir_data.specs.TypeText.{type_text}
+use Rattle.plir_data.specs.TypeText.{type_text, types_text}
 use Rattle.plir_data.proofs.TypeTexts.{above_all}
 use Rattle.plir_data.proofs.type_texts.+type_text.Given as goal
 
