@@ -3,7 +3,7 @@ use Rattle.plir_flow.specs.RegionEdges.{IsFlowLive, IsPointLive, IsSuccessorLive
 use Rattle.plir_flow_tests.proofs.tests.edged.is_edge_live.Goals as goal
 
 pub returns-then-not-are_flows_live : goal.returns-then-not-are_flows_live
-returns-then-not-are_flows_live c =
+returns-then-not-are_flows_live g c =
     let wrong : IsTrue false → ⊥ = search rules in
     let refused : IsTrue c.are_flows_live.result → ⊥ = search rules in
     let same : c.as_slice.result.now ≡ c.args.edge.now.flows = search rules in (
@@ -13,7 +13,7 @@ returns-then-not-are_flows_live c =
     )
 
 pub returns : goal.returns
-returns c =
+returns g c =
     let s = c.args.ctx.now in
     let from : IsPointLive s c.args.edge.now.from = search rules in
     let to : IsSuccessorLive s c.args.edge.now.to = search rules in
