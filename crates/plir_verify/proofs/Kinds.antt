@@ -1,6 +1,5 @@
 -- The rules of one kind are all that an operation of it needs, and its refusal is the operation's.
-use Rattle.std.proofs.Common.{◌≡◌, ℕ, List, Some, inl, inr, refl, subst}
-use Rattle.plir_data.specs.Types.{TypeView}
+use Rattle.std.proofs.Common.{◌≡◌, Some, Result, Ok, Err, IsOk, IsErr, OnOk, IfErr, inl, inr, refl}
 use Rattle.plir_data.specs.declared.location.VerifyErr.{VerifyErr}
 use Rattle.plir_data.specs.declared.location.VerifyErr.TheVariants.{Refused, Memory}
 use Rattle.plir_data.specs.declared.op_set.OpKind.TheVariants.{Module, Func, Constant, ForwardRef, Own}
@@ -13,7 +12,8 @@ use Rattle.plir_builtin.specs.OpRules.{HasModuleRules, HasFuncRules, HasConstant
 use Rattle.plir_builtin.specs.OpRefusals.{IsModuleRefusal, IsFuncRefusal, IsConstantOpRefusal, IsForwardRefRefusal}
 use Rattle.plir_builtin.specs.SymbolUses.{UseRule, UseRefusal, IsUseRefusal}
 use Rattle.plir_verify.specs.Rules.{HasKindRules}
-use Rattle.plir_verify.specs.RuleRefusals.{IsKindRefusal, of_builtin, of_own}
+use Rattle.plir_verify.specs.declared.tree_err.TreeVerifyErr.{TreeVerifyErr}
+use Rattle.plir_verify.specs.RuleRefusals.{IsKindVerdict, IsOwn, of_builtin, of_own}
 
 module _ {D K A T E : Type 0} (o : op_set.Ghosts D K A T E) (uses_hold rule : UseRule K A T) (s : ContextView K A T)
     (p : Ptr OperationKind) where
@@ -55,31 +55,38 @@ module _ {D K A T E : Type 0} (o : op_set.Ghosts D K A T E) (uses_hold rule : Us
   }
 
   module _ (use_refusal rule_refusal : UseRefusal K A T E) where
-    abbrev Told : VerifyErr _ → Type 0
-    Told v = IsKindRefusal o uses_hold use_refusal rule rule_refusal s p v
+    abbrev Verdict : Result (Unit {0}) (VerifyErr (TreeVerifyErr E)) → Type 0
+    Verdict r = IsKindVerdict o uses_hold use_refusal rule rule_refusal s p r
 
-    pub module-refused : kind_of s p ≡ Some Module → (v : VerifyErr (OpVerifyErr E))
-        → IsModuleRefusal s p o.kind_id o.is_symbol o.is_symbol_table o.is_symbol_user uses_hold use_refusal v
-        → Told (of_builtin v)
-    module-refused k (Refused l e) h = inl (k, h)
-    module-refused k Memory h = tt
+    pub module-verdict : kind_of s p ≡ Some Module → (r : Result (Unit {0}) (VerifyErr (OpVerifyErr E)))
+        → OnOk r (HasModuleRules o.is_symbol o.is_symbol_table o.is_symbol_user uses_hold s p)
+        → IfErr r (IsModuleRefusal s p o.kind_id o.is_symbol o.is_symbol_table o.is_symbol_user uses_hold use_refusal)
+        → Verdict (of_builtin r)
+    module-verdict k (Ok u) f h = of-module k f
+    module-verdict k (Err (Refused l e)) f h = inl (k, h)
+    module-verdict k (Err Memory) f h = tt
 
-    pub func-refused : kind_of s p ≡ Some Func → (v : VerifyErr (OpVerifyErr E)) → IsFuncRefusal s p v
-        → Told (of_builtin v)
-    func-refused k (Refused l e) h = inr (inl (k, h))
-    func-refused k Memory h = tt
+    pub func-verdict : kind_of s p ≡ Some Func → (r : Result (Unit {0}) (VerifyErr (OpVerifyErr E)))
+        → (IsOk r → HasFuncRules s p) → IfErr r (IsFuncRefusal s p) → Verdict (of_builtin r)
+    func-verdict k (Ok u) f h = of-func k (f refl)
+    func-verdict k (Err (Refused l e)) f h = inr (inl (k, h))
+    func-verdict k (Err Memory) f h = tt
 
-    pub constant-refused : kind_of s p ≡ Some Constant → (v : VerifyErr (OpVerifyErr E))
-        → IsConstantOpRefusal s p o.attr_id o.attr_type o.type_id o.type_body_text v → Told (of_builtin v)
-    constant-refused k (Refused l e) h = inr (inr (inl (k, h)))
-    constant-refused k Memory h = tt
+    pub constant-verdict : kind_of s p ≡ Some Constant → (r : Result (Unit {0}) (VerifyErr (OpVerifyErr E)))
+        → OnOk r (HasConstantRules o.attr_type s p)
+        → IfErr r (IsConstantOpRefusal s p o.attr_id o.attr_type o.type_id o.type_body_text) → Verdict (of_builtin r)
+    constant-verdict k (Ok u) f h = of-constant k f
+    constant-verdict k (Err (Refused l e)) f h = inr (inr (inl (k, h)))
+    constant-verdict k (Err Memory) f h = tt
 
-    pub forward-ref-refused : kind_of s p ≡ Some ForwardRef → (v : VerifyErr (OpVerifyErr E))
-        → IsForwardRefRefusal s p v → Told (of_builtin v)
-    forward-ref-refused k (Refused l e) h = inr (inr (inr (k, h)))
-    forward-ref-refused k Memory h = tt
+    pub forward-ref-verdict : kind_of s p ≡ Some ForwardRef → (r : Result (Unit {0}) (VerifyErr (OpVerifyErr E)))
+        → IsErr r → IfErr r (IsForwardRefRefusal s p) → Verdict (of_builtin r)
+    forward-ref-verdict k (Ok u) f h = absurd (let z : ⊥ = cc f in z)
+    forward-ref-verdict k (Err (Refused l e)) f h = inr (inr (inr (k, h)))
+    forward-ref-verdict k (Err Memory) f h = tt
 
-    pub own-refused : (k : K) → kind_of s p ≡ Some (Own k) → (v : VerifyErr E)
-        → IsUseRefusal (rule s p) (rule_refusal s p) v → Told (of_own v)
-    own-refused k e (Refused l err) h = (k, e, h)
-    own-refused k e Memory h = tt
+    pub own-verdict : IsOwn s p → (r : Result (Unit {0}) (VerifyErr E))
+        → OnOk r (rule s p) → IfErr r (IsUseRefusal (rule s p) (rule_refusal s p)) → Verdict (of_own r)
+    own-verdict k (Ok u) f h = of-own k.0 k.1 f
+    own-verdict k (Err (Refused l err)) f h = (k, h)
+    own-verdict k (Err Memory) f h = tt

@@ -1,2 +1,4 @@
 pub mod Kinds
 pub mod Walked
+pub mod Reported
+pub mod Held

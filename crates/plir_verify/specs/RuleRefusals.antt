@@ -26,14 +26,21 @@ use Rattle.plir_verify.specs.declared.tree_err.TreeVerifyErr.{TreeVerifyErr}
 use Rattle.plir_verify.specs.declared.tree_err.TreeVerifyErr.TheVariants.{Op, Own, Attr}
 use Rattle.plir_verify.specs.Rules.{HasKindRules, HasRules, IsValid}
 
--- what the refusal of a builtin operation, and of an own one, is reported as
-abbrev pub of_builtin : {E : Type 0} → VerifyErr (OpVerifyErr E) → VerifyErr (TreeVerifyErr E)
-of_builtin (Refused l e) = Refused l (Op e)
-of_builtin Memory = Memory
+-- what the answer of the verifier of a builtin operation, and of an own one, is reported as
+abbrev pub of_builtin : {E : Type 0} → Result (Unit {0}) (VerifyErr (OpVerifyErr E)) →
+    Result (Unit {0}) (VerifyErr (TreeVerifyErr E))
+of_builtin (Ok u) = Ok u
+of_builtin (Err (Refused l e)) = Err (Refused l (Op e))
+of_builtin (Err Memory) = Err Memory
 
-abbrev pub of_own : {E : Type 0} → VerifyErr E → VerifyErr (TreeVerifyErr E)
-of_own (Refused l e) = Refused l (Own e)
-of_own Memory = Memory
+abbrev pub of_own : {E : Type 0} → Result (Unit {0}) (VerifyErr E) → Result (Unit {0}) (VerifyErr (TreeVerifyErr E))
+of_own (Ok u) = Ok u
+of_own (Err (Refused l e)) = Err (Refused l (Own e))
+of_own (Err Memory) = Err Memory
+
+-- an operation is of a kind of the user's own
+abbrev pub IsOwn : {K A T : Type 0} → ContextView K A T → Ptr OperationKind → Type 0
+IsOwn {K} s p = (k : K) × (kind_of s p ≡ Some (OwnKind k))
 
 module _ {D K A T E : Type 0} (o : op_set.Ghosts D K A T E) (s : ContextView K A T) (p : Ptr OperationKind) where
   -- Of what an operation holds an attribute is the first that is not valid, and this error may be reported of it.
@@ -60,7 +67,7 @@ module _ {D K A T E : Type 0} (o : op_set.Ghosts D K A T E) (uses_hold : UseRule
       (Refused l e))
       ⊎ ((kind_of s p ≡ Some ForwardRef) × IsForwardRefRefusal s p (Refused l e))))
   IsKindRefusal p (Refused l (Own e)) =
-      (k : K) × (kind_of s p ≡ Some (OwnKind k)) × IsUseRefusal (rule s p) (rule_refusal s p) (Refused l e)
+      IsOwn s p × IsUseRefusal (rule s p) (rule_refusal s p) (Refused l e)
   IsKindRefusal p (Refused l (Attr e)) = ⊥
   IsKindRefusal p Memory = Unit {0}
 

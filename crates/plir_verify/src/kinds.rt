@@ -3,7 +3,7 @@ ghost use Rattle.std.specs.Prelude.{◌≡◌, Some};
 ghost use Rattle.plir_data.specs.declared.op_set.OpKind.{OpKind as AnyKind};
 ghost use Rattle.plir_core.specs.ContextView.{IsLive, kind_of};
 ghost use Rattle.plir_core.specs.declared.ptr.IRNode.{IRNode as AnyNode};
-ghost use Rattle.plir_verify.specs.RuleRefusals.{IsKindVerdict};
+ghost use Rattle.plir_verify.specs.RuleRefusals.{IsKindVerdict, IsOwn};
 
 use crate::tree_err::{TreeVerifyErr, of_builtin, of_own};
 use crate::verify_set::VerifySet;
@@ -22,12 +22,9 @@ fn verify_module<D: VerifySet>(
     requires of_kind { kind_of ctx.now op ≡ Some AnyKind.Module }
     ensures { IsKindVerdict D.OpSet D.uses_hold D.use_refusal D.rule D.rule_refusal ctx.now op result }
 {
-    let Some(module) = ModuleOp::from_operation(ctx, op) else {
-        unreachable!()
-    };
-    match module.verify_interfaces(alloc, ctx) {
-        Ok(()) => Ok(()),
-        Err(refused) => Err(of_builtin(refused)),
+    match ModuleOp::from_operation(ctx, op) {
+        Some(module) => of_builtin(module.verify_interfaces(alloc, ctx)),
+        None => unreachable!(),
     }
 }
 
@@ -40,12 +37,9 @@ fn verify_func<D: VerifySet>(
     requires of_kind { kind_of ctx.now op ≡ Some AnyKind.Func }
     ensures { IsKindVerdict D.OpSet D.uses_hold D.use_refusal D.rule D.rule_refusal ctx.now op result }
 {
-    let Some(func) = FuncOp::from_operation(ctx, op) else {
-        unreachable!()
-    };
-    match func.verify_interfaces(ctx) {
-        Ok(()) => Ok(()),
-        Err(refused) => Err(of_builtin(refused)),
+    match FuncOp::from_operation(ctx, op) {
+        Some(func) => of_builtin(func.verify_interfaces(ctx)),
+        None => unreachable!(),
     }
 }
 
@@ -59,12 +53,9 @@ fn verify_constant<D: VerifySet>(
     requires of_kind { kind_of ctx.now op ≡ Some AnyKind.Constant }
     ensures { IsKindVerdict D.OpSet D.uses_hold D.use_refusal D.rule D.rule_refusal ctx.now op result }
 {
-    let Some(constant) = ConstantOp::from_operation(ctx, op) else {
-        unreachable!()
-    };
-    match constant.verify_interfaces(alloc, ctx) {
-        Ok(()) => Ok(()),
-        Err(refused) => Err(of_builtin(refused)),
+    match ConstantOp::from_operation(ctx, op) {
+        Some(constant) => of_builtin(constant.verify_interfaces(alloc, ctx)),
+        None => unreachable!(),
     }
 }
 
@@ -78,12 +69,9 @@ fn verify_forward_ref<D: VerifySet>(
     requires of_kind { kind_of ctx.now op ≡ Some AnyKind.ForwardRef }
     ensures { IsKindVerdict D.OpSet D.uses_hold D.use_refusal D.rule D.rule_refusal ctx.now op result }
 {
-    let Some(forward_ref) = ForwardRefOp::from_operation(ctx, op) else {
-        unreachable!()
-    };
-    match forward_ref.verify_interfaces(alloc, ctx) {
-        Ok(()) => unreachable!(),
-        Err(refused) => Err(of_builtin(refused)),
+    match ForwardRefOp::from_operation(ctx, op) {
+        Some(forward_ref) => of_builtin(forward_ref.verify_interfaces(alloc, ctx)),
+        None => unreachable!(),
     }
 }
 
@@ -92,16 +80,12 @@ fn verify_own<D: VerifySet>(
     alloc: Global,
     ctx: &Context<D>,
     op: Ptr<Operation>,
-    kind: D::Kind,
 ) -> Result<(), VerifyErr<TreeVerifyErr<D::Err>>>
     requires live { IsLive ctx.now (AnyNode.Operation op) }
-    requires of_kind { kind_of ctx.now op ≡ Some (AnyKind.Own kind) }
+    requires of_kind { IsOwn ctx.now op }
     ensures { IsKindVerdict D.OpSet D.uses_hold D.use_refusal D.rule D.rule_refusal ctx.now op result }
 {
-    match D::verify_op(alloc, ctx, op, kind) {
-        Ok(()) => Ok(()),
-        Err(refused) => Err(of_own(refused)),
-    }
+    of_own(D::verify_op(alloc, ctx, op))
 }
 
 /// Verifies an operation by the verifier of its kind.
@@ -118,6 +102,6 @@ pub(crate) fn verify_kind<D: VerifySet>(
         OpKind::Func => verify_func(ctx, op),
         OpKind::Constant => verify_constant(alloc, ctx, op),
         OpKind::ForwardRef => verify_forward_ref(alloc, ctx, op),
-        OpKind::Own(kind) => verify_own(alloc, ctx, op, kind),
+        OpKind::Own(_) => verify_own(alloc, ctx, op),
     }
 }

@@ -23,30 +23,34 @@ pub enum TreeVerifyErr<E: StdError> {
     Attr(AttrVerifyErr<E>),
 }
 
-/// The refusal of a builtin operation as that of an operation of a tree.
+/// The answer of the verifier of a builtin operation as that of an operation of a tree.
 pub(crate) fn of_builtin<E: StdError>(
-    refused: VerifyErr<OpVerifyErr<E>>,
-) -> VerifyErr<TreeVerifyErr<E>>
-    ensures { result ≡ of_builtin refused }
+    answer: Result<(), VerifyErr<OpVerifyErr<E>>>,
+) -> Result<(), VerifyErr<TreeVerifyErr<E>>>
+    ensures { result ≡ of_builtin answer }
 {
-    match refused {
-        VerifyErr::Refused { loc, err } => VerifyErr::Refused {
+    match answer {
+        Ok(()) => Ok(()),
+        Err(VerifyErr::Refused { loc, err }) => Err(VerifyErr::Refused {
             loc,
             err: TreeVerifyErr::Op(err),
-        },
-        VerifyErr::Memory => VerifyErr::Memory,
+        }),
+        Err(VerifyErr::Memory) => Err(VerifyErr::Memory),
     }
 }
 
-/// The refusal of an own operation as that of an operation of a tree.
-pub(crate) fn of_own<E: StdError>(refused: VerifyErr<E>) -> VerifyErr<TreeVerifyErr<E>>
-    ensures { result ≡ of_own refused }
+/// The answer of the verifier of an own operation as that of an operation of a tree.
+pub(crate) fn of_own<E: StdError>(
+    answer: Result<(), VerifyErr<E>>,
+) -> Result<(), VerifyErr<TreeVerifyErr<E>>>
+    ensures { result ≡ of_own answer }
 {
-    match refused {
-        VerifyErr::Refused { loc, err } => VerifyErr::Refused {
+    match answer {
+        Ok(()) => Ok(()),
+        Err(VerifyErr::Refused { loc, err }) => Err(VerifyErr::Refused {
             loc,
             err: TreeVerifyErr::Own(err),
-        },
-        VerifyErr::Memory => VerifyErr::Memory,
+        }),
+        Err(VerifyErr::Memory) => Err(VerifyErr::Memory),
     }
 }

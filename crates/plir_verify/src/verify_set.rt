@@ -1,11 +1,10 @@
 //! What operations of own kinds must meet.
-ghost use Rattle.std.specs.Prelude.{◌≡◌, Some, IfErr, OnOk};
+ghost use Rattle.std.specs.Prelude.{IfErr, OnOk};
 ghost use Rattle.plir_data.specs.declared.location.Location.{Location as AnyLocation};
-ghost use Rattle.plir_data.specs.declared.op_set.OpKind.{OpKind as AnyKind};
 ghost use Rattle.plir_core.specs.declared.ptr.IRNode.{IRNode as AnyNode};
 ghost use Rattle.plir_core.specs.declared.ptr.Operation.{Operation as OperationKind};
 ghost use Rattle.plir_core.specs.declared.ptr.Ptr.{Ptr as AnyPtr};
-ghost use Rattle.plir_core.specs.ContextView.{ContextView, IsLive, kind_of};
+ghost use Rattle.plir_core.specs.ContextView.{ContextView, IsLive};
 ghost use Rattle.plir_builtin.specs.SymbolUses.{IsUseRefusal};
 
 use plir_builtin::{SymbolUserSet, SymbolUses};
@@ -28,10 +27,8 @@ pub trait VerifySet: SymbolUserSet {
         alloc: Global,
         ctx: &Context<Self>,
         op: Ptr<Operation>,
-        kind: Self::Kind,
     ) -> Result<(), VerifyErr<Self::Err>>
-        requires live { IsLive ctx.now (AnyNode.Operation op) }
-        requires of_kind { kind_of ctx.now op ≡ Some (AnyKind.Own kind) }
+        requires { IsLive ctx.now (AnyNode.Operation op) }
         ensures ok { OnOk result (rule ctx.now op) }
         ensures refused { IfErr result (IsUseRefusal (rule ctx.now op) (rule_refusal ctx.now op)) };
 }
@@ -39,21 +36,20 @@ pub trait VerifySet: SymbolUserSet {
 /// Own kinds of operations that say what these must meet, in an op set `D`: what [`VerifySet`] is for the op set of such
 /// kinds alone, `KindSet<Self>`.
 pub trait VerifyKind<D: OpSet>: OwnKind {
-    // What an operation of the kind must meet.
+    // What an operation of one of the kinds must meet.
     ghost rule: { ContextView D.Kind D.Attr D.Ty → AnyPtr OperationKind → Type 0 };
 
     // What may be reported of one that does not: a location, and an error.
     ghost rule_refusal: { ContextView D.Kind D.Attr D.Ty → AnyPtr OperationKind → AnyLocation → D.Err → Type 0 };
 
-    /// Accepts exactly where an operation of the kind meets what it asks, memory aside; else reports what the kind may
-    /// report of it.
+    /// Accepts exactly where an operation of one of the kinds meets what its kind asks, memory aside; else reports what
+    /// the kinds may report of it.
     fn verify_op(
-        self,
         alloc: Global,
         ctx: &Context<D>,
         op: Ptr<Operation>,
     ) -> Result<(), VerifyErr<D::Err>>
-        requires live { IsLive ctx.now (AnyNode.Operation op) }
+        requires { IsLive ctx.now (AnyNode.Operation op) }
         ensures ok { OnOk result (rule ctx.now op) }
         ensures refused { IfErr result (IsUseRefusal (rule ctx.now op) (rule_refusal ctx.now op)) };
 }
@@ -67,7 +63,6 @@ impl VerifyKind<BuiltinSet> for NoMeaning {
 
     /// Accepts: no builtin operation is of this kind.
     fn verify_op(
-        self,
         _alloc: Global,
         _ctx: &Context<BuiltinSet>,
         _op: Ptr<Operation>,
@@ -86,8 +81,7 @@ impl<K: OwnKind + SymbolUses<KindSet<K>> + VerifyKind<KindSet<K>>> VerifySet for
         alloc: Global,
         ctx: &Context<Self>,
         op: Ptr<Operation>,
-        kind: K,
     ) -> Result<(), VerifyErr<K::Err>> {
-        <K as VerifyKind<KindSet<K>>>::verify_op(kind, alloc, ctx, op)
+        <K as VerifyKind<KindSet<K>>>::verify_op(alloc, ctx, op)
     }
 }
