@@ -1,6 +1,7 @@
 -- Refusals of constants are reported as their faults.
-use Rattle.std.proofs.Common.{◌≡◌, ℕ, List, Option, Some, None}
-use Rattle.std.specs.Prelude.{◌≢◌, slice_get}
+use Rattle.std.proofs.Common.{◌≡◌, ℕ, List, Option, Some, None, refl, sym, ap, subst, ◌∙◌}
+use Rattle.std.specs.Prelude.{◌≢◌, IsSome, slice_get}
+use Rattle.std.proofs.lemmas.Option.{none-some, same_Some}
 use Rattle.plir_data.specs.OwnParts.{Part}
 use Rattle.plir_data.specs.AttrCalls.{attr_type}
 use Rattle.plir_data.specs.AttrView.{AttrView}
@@ -10,7 +11,7 @@ use Rattle.plir_core.specs.declared.ptr.Ptr.{Ptr}
 use Rattle.plir_core.specs.declared.ptr.Operation.{Operation as OperationKind}
 use Rattle.plir_core.specs.ContextView.{ContextView, result_types_of}
 use Rattle.plir_iface.specs.Verdict.{IsRefusalMemoryAside}
-use Rattle.plir_builtin.specs.BuiltinOps.{value_of}
+use Rattle.plir_builtin.specs.BuiltinOps.{HasConstantValue, value_of}
 use Rattle.plir_builtin.specs.ConstantFaults.{IsConstantFault, ReportsMismatch, ReportsUntyped}
 use Rattle.plir_builtin.specs.declared.constant_op.ConstantOpVerifyErr.{ConstantOpVerifyErr}
 use Rattle.plir_builtin.specs.declared.constant_op.ConstantOpVerifyErr.TheVariants.{MissingValue, ValueNotTyped}
@@ -38,3 +39,20 @@ module _ {K A T : Type 0} (attr_own_id : A → List ℕ) (attr_own_type : A → 
   mismatch_fault t u typed result other (ValueNotTyped id) reported = absurd reported
   mismatch_fault t u typed result other (ResultTypeMismatch g w) reported =
       (x, (t, u, (there, typed, result, other, reported)))
+
+-- a value without a type, or of another type than the result's, breaks the rule of constants
+module _ {K A T : Type 0} (own_type : A → Option ℕ) (s : ContextView K A T) (op : Ptr OperationKind) (x : AttrView A)
+    (there : value_of s op ≡ Some x) where
+  type-of : (h : HasConstantValue own_type s op) → attr_type own_type x ≡ Some h.type
+  type-of h = ap (attr_type own_type) (same_Some x h.value (sym there ∙ h.there)) ∙ h.typed
+
+  pub untyped_broken : attr_type own_type x ≡ None → HasConstantValue own_type s op → ⊥
+  untyped_broken none h = none-some h.type (sym none ∙ type-of h)
+
+  pub mismatch_broken : (t u : ℕ) → attr_type own_type x ≡ Some t → slice_get (result_types_of s op) 0 ≡ Some u
+      → t ≢ u → HasConstantValue own_type s op → ⊥
+  mismatch_broken t u typed result other h =
+      other (same_Some t h.type (sym typed ∙ type-of h) ∙ sym (same_Some u h.type (sym result ∙ h.result)))
+
+  pub value_there : IsSome (value_of s op)
+  value_there = subst IsSome (sym there) refl

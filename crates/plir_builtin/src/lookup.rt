@@ -62,7 +62,6 @@ impl SymbolTableCollection {
             AreGivenOut ctx.now (map.insert self.old op t.now)) }
         ensures absent { OnErr result (map.get self.old op ≡ None) }
         ensures refused { IfErr result (Reports (IsTableRefusal D.is_symbol D.is_symbol_table ctx.now op)) }
-        ensures memory { result ≡ Err SymbolTableErr.Memory → IsTableWithBody D.is_symbol_table ctx.now op }
     {
         if let Err(refused) = self.bring(ctx, op) {
             return Err(refused);
