@@ -43,9 +43,11 @@ fn writes_the_types_that_a_type_holds_where_memory_is_refused(rt: HostRuntime) -
     let si8 = again!(IntegerType::get(&mut types, 8, Signedness::Signed)).into();
     let row = again!(tensor(&mut types, 4, si8));
     let table = again!(tensor(&mut types, 2, row));
+    assert!(rt; types.holds_type(table));
     let text = again!(type_text(alloc, &types, table));
     assert!(rt; text.as_str() == "holder.tensor <2 x holder.tensor <4 x builtin.integer si8>>");
     let called = again!(routine(alloc, &mut types, row, si8));
+    assert!(rt; types.holds_type(called));
     let text = again!(type_text(alloc, &types, called));
     let arguments = "from holder.tensor <4 x builtin.integer si8> builtin.integer si8";
     assert!(rt; text.as_str().starts_with("holder.routine "));
@@ -58,7 +60,9 @@ fn writes_the_types_that_a_type_holds_where_memory_is_refused(rt: HostRuntime) -
 }
 
 #[test]
-fn writes_the_type_that_an_attribute_holds_where_memory_is_refused(rt: HostRuntime) -> Result<(), Fail> {
+fn writes_the_type_that_an_attribute_holds_where_memory_is_refused(
+    rt: HostRuntime,
+) -> Result<(), Fail> {
     let alloc = rt.alloc();
     let mut types: Types = TypeTable::new(alloc);
     let si8 = again!(IntegerType::get(&mut types, 8, Signedness::Signed)).into();
