@@ -50,7 +50,7 @@ paired-at : (R : Value → Value → Type 0) (vs ws : List Value) (i : ℕ) (v :
     → slice_get vs i ≡ Some v → (w : Value) × (slice_get ws i ≡ Some w) × R v w
 paired-at R [] ws i v h e = absurd (none-some v e)
 paired-at R (x ∷ vs) [] i v h e = absurd h
-paired-at R (x ∷ vs) (w ∷ ws) zero v h e = (w, (refl, subst (λ z. R z w) (same_Some x v e) h.0))
+paired-at R (x ∷ vs) (w ∷ ws) zero v h e = (w, refl, subst (λ z. R z w) (same_Some x v e) h.0)
 paired-at R (x ∷ vs) (w ∷ ws) (suc i) v h e = paired-at R vs ws i v h.1 e
 
 head-is : {X : Type 0} {x y : X} {xs ys : List X} → x ∷ xs ≡ y ∷ ys → x ≡ y
@@ -59,47 +59,49 @@ head-is e = cc e
 tail-is : {X : Type 0} {x y : X} {xs ys : List X} → x ∷ xs ≡ y ∷ ys → xs ≡ ys
 tail-is e = cc e
 
--- what a test lets through is found where it was, with what the test refuses around it
+-- A list is cut at an element: what a test lets through of what stands before it, and behind it, is this.
+record CutAt {X : Type 0} (p : X → Bool) (xs front : List X) (x : X) (back : List X) : Type 0 where
+  pub before : List X
+  pub behind : List X
+  pub whole : xs ≡ before ++ x ∷ behind
+  pub left : filter p before ≡ front
+  pub right : filter p behind ≡ back
+
+-- what a test lets through is found where it was
 filter-cut : {X : Type 0} (p : X → Bool) (xs front : List X) (x : X) (back : List X) → filter p xs ≡ front ++ x ∷ back
-    → (ys : List X) × (zs : List X) × (xs ≡ ys ++ x ∷ zs) × (filter p zs ≡ back) × (filter p ys ≡ front)
+    → CutAt p xs front x back
 filter-cut p [] [] x back e = absurd (let z : ⊥ = cc e in z)
 filter-cut p [] (a ∷ front) x back e = absurd (let z : ⊥ = cc e in z)
-filter-cut {X} p (w ∷ xs) front x back e = elim (cases_Bool (p w)) [
-  | inl l ↦ passes front l (sym (kept (p w) l) ∙ e)
-  | inr l ↦ (let r = filter-cut p xs front x back (sym (left (p w) l) ∙ e) in
-      (w ∷ r.0, (r.1.0, (ap (λ z. w ∷ z) r.1.1.0, (r.1.1.1.0, left-of r.0 l ∙ r.1.1.1.1)))))
-]
+filter-cut {X} p (w ∷ xs) front x back e = by (p w) refl front (λ f k. filter-cut p xs f x back k) e
   where
-    kept : (b : Bool) → b ≡ true → cond b (w ∷ filter p xs) (filter p xs) ≡ w ∷ filter p xs
-    kept b h = rw h refl
-
-    left : (b : Bool) → b ≡ false → cond b (w ∷ filter p xs) (filter p xs) ≡ filter p xs
-    left b h = rw h refl
-
-    left-of : (ys : List X) → p w ≡ false → filter p (w ∷ ys) ≡ filter p ys
-    left-of ys h = rw h refl
-
-    kept-of : (ys : List X) → p w ≡ true → filter p (w ∷ ys) ≡ w ∷ filter p ys
-    kept-of ys h = rw h refl
-
-    passes : (front : List X) → p w ≡ true → w ∷ filter p xs ≡ front ++ x ∷ back
-        → (ys : List X) × (zs : List X) × (w ∷ xs ≡ ys ++ x ∷ zs) × (filter p zs ≡ back) × (filter p ys ≡ front)
-    passes [] l k = ([], (xs, (ap (λ z. z ∷ xs) (head-is k), (tail-is k, refl))))
-    passes (a ∷ front) l k =
-        (let r = filter-cut p xs front x back (tail-is k) in (
-          w ∷ r.0,
-          (
-            r.1.0,
-            (
-              ap (λ z. w ∷ z) r.1.1.0,
-              (
-                r.1.1.1.0,
-                kept-of r.0 l ∙ ap (λ z. w ∷ z) r.1.1.1.1
-                    ∙ ap (λ z. z ∷ front) (head-is k),
-              ),
-            ),
-          ),
-        ))
+    by : (b : Bool) → p w ≡ b → (front : List X)
+        → ((f : List X) → filter p xs ≡ f ++ x ∷ back → CutAt p xs f x back)
+        → cond b (w ∷ filter p xs) (filter p xs) ≡ front ++ x ∷ back → CutAt p (w ∷ xs) front x back
+    by true l [] rest k = record {
+      before = [];
+      behind = xs;
+      whole = ap (λ z. z ∷ xs) (head-is k);
+      left = refl;
+      right = tail-is k;
+    }
+    by true l (a ∷ f) rest k =
+        (let r = rest f (tail-is k) in
+        record {
+          before = w ∷ r.before;
+          behind = r.behind;
+          whole = ap (λ z. w ∷ z) r.whole;
+          left = rw l (ap (λ z. w ∷ z) r.left ∙ ap (λ z. z ∷ f) (head-is k));
+          right = r.right;
+        })
+    by false l front rest k =
+        (let r = rest front k in
+        record {
+          before = w ∷ r.before;
+          behind = r.behind;
+          whole = ap (λ z. w ∷ z) r.whole;
+          left = rw l r.left;
+          right = r.right;
+        })
 
 -- what a test lets through is among what is left
 Has-kept : {X : Type 0} (p : X → Bool) (xs : List X) (y : X) → Has xs y → p y ≡ true → Has (filter p xs) y
@@ -252,8 +254,8 @@ module _ {K A T : Type 0} (fold : K → Integer → Integer → Option Integer) 
     same-constant p q i n l c e =
         (let r = paired-at (IsSameOrReplaced fold t u) (operands_of t q) (operands_of u q) i (result_of p)
         (g.operands q l) e in
-        elim r.1.1 [
-          | inl same ↦ r.1.0 ∙ ap Some same
+        elim r.2 [
+          | inl same ↦ r.1 ∙ ap Some same
           | inr k ↦ absurd (none-some n (sym k.unknown ∙ view-constant t p n c.holds))
         ])
 
@@ -263,20 +265,20 @@ module _ {K A T : Type 0} (fold : K → Integer → Integer → Option Integer) 
         (let k = g.children (BasicBlock r.block) (f.live (BasicBlock r.block) r.over) ∙ r.stands in
         let x = filter-cut (is_live t) (children u (BasicBlock r.block)) r.front (Operation p)
         (r.between ++ Operation r.user ∷ r.back) k in
-        let y = filter-cut (is_live t) x.1.0 r.between (Operation r.user) r.back x.1.1.1.0 in
+        let y = filter-cut (is_live t) x.behind r.between (Operation r.user) r.back x.right in
         record {
           user = r.user;
           index = r.index;
           block = r.block;
-          front = x.0;
-          between = y.0;
-          back = y.1.0;
+          front = x.before;
+          between = y.before;
+          back = y.behind;
           old = r.old;
           over = r.over;
           used = same-constant p r.user r.index n (f.live (Operation r.user) r.old) c r.used;
-          stands = x.1.1.0 ∙ ap (λ z. x.0 ++ Operation p ∷ z) y.1.1.0;
+          stands = x.whole ∙ ap (λ z. x.before ++ Operation p ∷ z) y.whole;
           among = λ m h. elim (cases_Bool (is_live t m)) [
-            | inl l ↦ r.among m (subst (λ z. Has z m) y.1.1.1.1 (Has-kept (is_live t) y.0 m h l))
+            | inl l ↦ r.among m (subst (λ z. Has z m) y.left (Has-kept (is_live t) y.before m h l))
             | inr e ↦ was-absent s t f m e
           ];
         })

@@ -1,4 +1,4 @@
-pub mod Kinds
+pub mod OfKinds
 pub mod Walked
 pub mod Reported
-pub mod Held
+pub mod Entries

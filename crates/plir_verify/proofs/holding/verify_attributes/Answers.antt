@@ -1,7 +1,7 @@
 use Rattle.std.proofs.Common.{◌≡◌, ◌∷◌, sym, ap, ◌∙◌}
 use Rattle.plir_data.specs.AttrSeen.{attr_view}
 use Rattle.plir_data.specs.DictSeen.{pairs_view}
-use Rattle.plir_verify.proofs.Held.{begins, goes-on, all-verified, invalid-found}
+use Rattle.plir_verify.proofs.Entries.{begins, goes-on, all-verified, invalid-found}
 use Rattle.plir_verify.proofs.holding.verify_attributes.Goals as goal
 
 pub entries-init : goal.entries-init

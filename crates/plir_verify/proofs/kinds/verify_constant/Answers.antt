@@ -6,7 +6,7 @@ use Rattle.plir_core.specs.ContextView.{IsLive, kind_of}
 use Rattle.plir_builtin.specs.OpRules.{HasConstantRules}
 use Rattle.plir_builtin.specs.OpRefusals.{IsConstantOpRefusal}
 use Rattle.plir_verify.specs.RuleRefusals.{IsKindVerdict}
-use Rattle.plir_verify.proofs.Kinds.{constant-verdict}
+use Rattle.plir_verify.proofs.OfKinds.{constant-verdict}
 use Rattle.plir_verify.proofs.kinds.verify_constant.Goals as goal
 
 pub verify_interfaces-requires : goal.verify_interfaces-requires

@@ -5,7 +5,7 @@ use Rattle.plir_core.specs.declared.ptr.IRNode.TheVariants.{Operation}
 use Rattle.plir_core.specs.ContextView.{IsLive, kind_of}
 use Rattle.plir_builtin.specs.OpRefusals.{IsForwardRefRefusal}
 use Rattle.plir_verify.specs.RuleRefusals.{IsKindVerdict}
-use Rattle.plir_verify.proofs.Kinds.{forward-ref-verdict}
+use Rattle.plir_verify.proofs.OfKinds.{forward-ref-verdict}
 use Rattle.plir_verify.proofs.kinds.verify_forward_ref.Goals as goal
 
 pub verify_interfaces-requires : goal.verify_interfaces-requires

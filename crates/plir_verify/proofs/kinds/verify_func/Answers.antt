@@ -6,7 +6,7 @@ use Rattle.plir_core.specs.ContextView.{IsLive, kind_of}
 use Rattle.plir_builtin.specs.OpRules.{HasFuncRules}
 use Rattle.plir_builtin.specs.OpRefusals.{IsFuncRefusal}
 use Rattle.plir_verify.specs.RuleRefusals.{IsKindVerdict}
-use Rattle.plir_verify.proofs.Kinds.{func-verdict}
+use Rattle.plir_verify.proofs.OfKinds.{func-verdict}
 use Rattle.plir_verify.proofs.kinds.verify_func.Goals as goal
 
 pub verify_interfaces-requires : goal.verify_interfaces-requires

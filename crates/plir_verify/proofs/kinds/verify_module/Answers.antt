@@ -6,7 +6,7 @@ use Rattle.plir_core.specs.ContextView.{IsLive, kind_of}
 use Rattle.plir_builtin.specs.OpRules.{HasModuleRules}
 use Rattle.plir_builtin.specs.OpRefusals.{IsModuleRefusal}
 use Rattle.plir_verify.specs.RuleRefusals.{IsKindVerdict}
-use Rattle.plir_verify.proofs.Kinds.{module-verdict}
+use Rattle.plir_verify.proofs.OfKinds.{module-verdict}
 use Rattle.plir_verify.proofs.kinds.verify_module.Goals as goal
 
 pub verify_interfaces-requires-clause-live : goal.verify_interfaces-requires-clause-live

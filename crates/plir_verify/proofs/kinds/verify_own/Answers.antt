@@ -1,6 +1,6 @@
 use Rattle.std.proofs.Common.{sym, subst}
 use Rattle.plir_verify.specs.RuleRefusals.{IsKindVerdict}
-use Rattle.plir_verify.proofs.Kinds.{own-verdict}
+use Rattle.plir_verify.proofs.OfKinds.{own-verdict}
 use Rattle.plir_verify.proofs.kinds.verify_own.Goals as goal
 
 pub returns : goal.returns
