@@ -1,7 +1,10 @@
 -- The attributes that an operation holds, one after another.
-use Rattle.std.proofs.Common.{◌≡◌, true, false, ℕ, List, [], ◌∷◌, ◌++◌, Result, Ok, Err, inl, inr, sym, subst, ◌∙◌}
+use Rattle.std.proofs.Common.{◌≡◌, Bool, true, false, ℕ, List, [], ◌∷◌, ◌++◌, Result, Ok, Err, inl, inr, sym, subst, ◌∙◌}
 use Rattle.std.proofs.Common.{append_assoc, refl, ap}
+use Rattle.std.specs.Prelude.{All}
+use Rattle.std.proofs.lemmas.List.Elements.{All-head, All-tail}
 use Rattle.plir_store.specs.Members.{Has}
+use Rattle.plir_data.specs.AttrLive.{HandlesLive, IsAttrLive}
 use Rattle.plir_data.specs.AttrVerify.{attr_is_valid, IsRefusal}
 use Rattle.plir_data.specs.AttrView.{AttrView}
 use Rattle.plir_data.specs.Verify.{IsVerdict}
@@ -15,8 +18,13 @@ use Rattle.plir_core.specs.ContextView.{ContextView, attributes_of}
 use Rattle.plir_verify.specs.Rules.{IsValid}
 use Rattle.plir_verify.specs.RuleRefusals.{AreVerified}
 
+-- what holds of all of a list holds of one of them
+all-at : {X : Type 0} (P : X → Type 0) (xs : List X) (y : X) (ys : List X) → All P (xs ++ y ∷ ys) → P y
+all-at P [] y ys h = All-head P y ys h
+all-at P (x ∷ xs) y ys h = all-at P xs y ys (All-tail P x (xs ++ y ∷ ys) h)
+
 module _ {D K A T E : Type 0} (o : op_set.Ghosts D K A T E) (s : ContextView K A T) (p : Ptr OperationKind) where
-  abbrev is_valid : List ℕ × AttrView A → _
+  abbrev is_valid : List ℕ × AttrView A → Bool
   is_valid e = attr_is_valid (o.attr_is_valid s.types) s.types e.1
 
   -- All before those that are left are valid.
@@ -24,6 +32,14 @@ module _ {D K A T E : Type 0} (o : op_set.Ghosts D K A T E) (s : ContextView K A
     pub front : List (List ℕ × AttrView A)
     pub held : attributes_of s p ≡ front ++ left
     pub before : (e : List ℕ × AttrView A) → Has front e → is_valid e ≡ true
+
+  -- what is to be looked at next is live
+  pub entry-live : (own : A → List ℕ) (left more : List (List ℕ × AttrView A)) (y : List ℕ × AttrView A)
+      → left ≡ y ∷ more → IsVerifying left → HandlesLive own s.types (attributes_of s p)
+      → IsAttrLive own s.types y.1
+  entry-live own left more y e h live =
+      all-at (λ z. IsAttrLive own s.types z.1) h.front y more
+      (subst (All (λ z. IsAttrLive own s.types z.1)) (h.held ∙ ap (λ z. h.front ++ z) e) live)
 
   pub begins : (left : List (List ℕ × AttrView A)) → left ≡ attributes_of s p → IsVerifying left
   begins left e = record { front = []; held = sym e; before = λ x h. absurd h }

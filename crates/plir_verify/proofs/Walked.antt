@@ -123,7 +123,7 @@ module _ {K A T S B : Type 0} (w : WalkConfig) (post : OperationRelation (Contex
   -- the operation at which a call broke
   broke-at : (n : IRNode) (a : ControlFlow B WalkContinue) (b : B) → Verdict n a → a ≡ Break b
       → (p : Ptr OperationKind) × (n ≡ Operation p) × Refused p b
-  broke-at (Operation p) a b v e = (p, (refl, stops p b (subst (λ z. Told c0 p z) e v)))
+  broke-at (Operation p) a b v e = (p, refl, stops p b (subst (λ z. Told c0 p z) e v))
   broke-at (Region r) a b v e = absurd v
   broke-at (BasicBlock q) a b v e = absurd v
 
@@ -131,26 +131,26 @@ module _ {K A T S B : Type 0} (w : WalkConfig) (post : OperationRelation (Contex
   at-break b orders h =
       let last = h.walk.answers.0 in
       let front = last.0 in
-      let end = last.1.0 in
-      let are = last.1.1.0 in
+      let end = last.1 in
+      let are = last.2 in
       let up = h.walk.answers.1 front end are in
       let has : Has h.calls end = subst (λ z. Has z end) (sym are) (Has-mid front [] end) in
-      let r = broke-at end.node end.answer b (told-of (Break b) h end has) last.1.1.1.0 in
-      let called = subst (λ z. Has (nodes_of h.calls) z) r.1.0 (node-called h.calls end has) in
+      let r = broke-at end.node end.answer b (told-of (Break b) h end has) last.3 in
+      let called = subst (λ z. Has (nodes_of h.calls) z) r.1 (node-called h.calls end has) in
       let order = orders w (look c0).children (Operation root) h.walk.in_order.one_place in
       let Less : IRNode → IRNode → Type 0 = NodeBefore w (look c0).children (Operation root) in
       record {
         op = r.0;
         under = ((up (Operation r.0)).0 called).0.0.0;
-        refused = r.1.1;
+        refused = r.2;
         before = λ q under lt.
             let within : Less end.node (Operation q) → ⊥ = λ e.
             order.irreflexive (Operation q) (order.transitive (Operation q) (Operation r.0) (Operation q) lt
-            (subst (λ n. Less n (Operation q)) r.1.0 e)) in
+            (subst (λ n. Less n (Operation q)) r.1 e)) in
             let x = call-of h.calls (Operation q) ((up (Operation q)).1 (due (Break b) h q under, within) refl) in
             past (Break b) h q x.0 x.1 x.2 (λ d e.
-            let is : end ≡ x.0 = last-breaks front end last.1.1.1.1 x.0 (subst (λ z. Has z x.0) are x.1) d e in
-            let same : Operation q ≡ Operation r.0 = sym x.2 ∙ (sym (ap (λ z. z.node) is) ∙ r.1.0) in
+            let is : end ≡ x.0 = last-breaks front end last.4 x.0 (subst (λ z. Has z x.0) are x.1) d e in
+            let same : Operation q ≡ Operation r.0 = sym x.2 ∙ (sym (ap (λ z. z.node) is) ∙ r.1) in
             order.irreflexive (Operation r.0) (subst (λ n. Less n (Operation r.0)) same lt));
       }
 

@@ -22,8 +22,9 @@ fn verify_attributes<D: OpSet>(
 {
     ctx.stands();
     'entries: for (_, attribute) in op.attributes(ctx).iter() {
-        if let Err(refused) = attribute.verify(alloc, ctx) {
-            return Err(refused);
+        match attribute.verify(alloc, ctx) {
+            Ok(()) => {}
+            Err(refused) => return Err(refused),
         }
     }
     Ok(())

@@ -30,7 +30,7 @@ fn look_at<D: VerifySet>(
     op: Ptr<Operation>,
 ) -> WalkResult<RefusedOp<D>>
     requires { IsLive ctx.now (AnyNode.Operation op) }
-    ensures { IsCallVerdict D.OpSet D.uses_hold D.use_refusal D.rule D.rule_refusal (λ r. r.why) ctx.now op result }
+    ensures { IsCallVerdict D.OpSet D.uses_hold D.use_refusal D.rule D.rule_refusal ctx.now (λ r. r.why) op result }
 {
     match verify_held(alloc, ctx, op) {
         Ok(()) => walk_advance(),
@@ -55,7 +55,7 @@ pub fn verify_tree<D: VerifySet>(
         RefusedOp<D>,
     >
         requires { IsLive ctx.now (AnyNode.Operation op) }
-        ensures { IsCallVerdict D.OpSet D.uses_hold D.use_refusal D.rule D.rule_refusal (λ r. r.why) ctx.now op result }
+        ensures { IsCallVerdict D.OpSet D.uses_hold D.use_refusal D.rule D.rule_refusal ctx.now (λ r. r.why) op result }
     { look_at(*alloc, ctx, op) };
     let mut state = alloc;
     let config = WALKCONFIG_PREORDER_FORWARD;

@@ -12,10 +12,10 @@ returns-in-Continue-clause-ok g c =
     let V = g.D.VerifySet in
     let s = c.args.ctx.now in
     all-right _ _
-    (λ d p a. IsCallVerdict S U.uses_hold U.use_refusal V.rule V.rule_refusal (λ r. r.why) d p a)
+    (λ d p a. IsCallVerdict S U.uses_hold U.use_refusal V.rule V.rule_refusal d (λ r. r.why) p a)
     (λ d t p a d' t' h. (
       h.stays,
-      subst (λ z. IsCallVerdict S U.uses_hold U.use_refusal V.rule V.rule_refusal (λ r. r.why) z p a) h.shows.0
+      subst (λ z. IsCallVerdict S U.uses_hold U.use_refusal V.rule V.rule_refusal z (λ r. r.why) p a) h.shows.0
           h.met.1,
     ))
     s c.args.root _ _ (HasRules S U.uses_hold V.rule s)
@@ -29,10 +29,10 @@ returns-in-Break-clause-refused g c =
     let V = g.D.VerifySet in
     let s = c.args.ctx.now in
     let f = first-refused _ _
-    (λ d p a. IsCallVerdict S U.uses_hold U.use_refusal V.rule V.rule_refusal (λ r. r.why) d p a)
+    (λ d p a. IsCallVerdict S U.uses_hold U.use_refusal V.rule V.rule_refusal d (λ r. r.why) p a)
     (λ d t p a d' t' h. (
       h.stays,
-      subst (λ z. IsCallVerdict S U.uses_hold U.use_refusal V.rule V.rule_refusal (λ r. r.why) z p a) h.shows.0
+      subst (λ z. IsCallVerdict S U.uses_hold U.use_refusal V.rule V.rule_refusal z (λ r. r.why) p a) h.shows.0
           h.met.1,
     ))
     s c.args.root _ _ (HasRules S U.uses_hold V.rule s)
