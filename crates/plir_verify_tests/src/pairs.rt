@@ -1,13 +1,7 @@
 //! A set of own kinds, one of which asks for two operands.
-ghost use Rattle.std.specs.Prelude.{◌≡◌, ◌↔◌, IsOk, IfErr, length};
-ghost use Rattle.plir_core.specs.declared.ptr.IRNode.{IRNode};
-ghost use Rattle.plir_core.specs.ContextView.{IsLive, operands_of};
-ghost use Rattle.plir_iface.specs.Verdict.{IsRefusal};
-
 use plir_builtin::{SymbolTableCollection, SymbolUses};
 use plir_core::{Context, Operation, Ptr};
 use plir_data::{KindSet, OpKind, OwnKind, VerifyErr};
-use plir_iface::accept_if;
 use plir_verify::VerifyKind;
 use std::alloc::Global;
 use thiserror::Error;
@@ -82,18 +76,6 @@ impl SymbolUses<KindSet<PairKind>> for PairKind {
     }
 }
 
-// Accepts exactly where an operation has two operands.
-fn verify_pair(
-    ctx: &Context<KindSet<PairKind>>,
-    op: Ptr<Operation>,
-) -> Result<(), VerifyErr<NotAPair>>
-    requires { IsLive ctx.now (IRNode.Operation op) }
-    ensures ok { IsOk result ↔ (length (operands_of ctx.now op) ≡ 2) }
-    ensures refused { IfErr result (IsRefusal ctx.now op (λ e. e ≡ NotAPair)) }
-{
-    accept_if(ctx, op, op.get_num_operands(ctx) == 2, NotAPair)
-}
-
 impl VerifyKind<KindSet<PairKind>> for PairKind {
     ghost use Rattle.std.specs.Prelude.{◌≡◌, Some};
     ghost use Rattle.plir_core.specs.ContextView.{location_of};
@@ -109,7 +91,15 @@ impl VerifyKind<KindSet<PairKind>> for PairKind {
         op: Ptr<Operation>,
     ) -> Result<(), VerifyErr<NotAPair>> {
         match op.kind(ctx) {
-            OpKind::Own(PairKind::Pair) => verify_pair(ctx, op),
+            OpKind::Own(PairKind::Pair) => {
+                if op.get_num_operands(ctx) == 2 {
+                    return Ok(());
+                }
+                Err(VerifyErr::Refused {
+                    loc: op.loc(ctx),
+                    err: NotAPair,
+                })
+            }
             _ => Ok(()),
         }
     }
