@@ -5,7 +5,7 @@ ghost use Rattle.plir_core.specs.declared.ptr.IRNode.{IRNode as AnyNode};
 ghost use Rattle.dce.specs.Swept.{is_removable};
 
 use plir_core::{Context, Operation, Ptr};
-use plir_data::{OpKind, OpSet};
+use plir_data::{KindSet, OpKind, OpSet, OwnKind};
 
 /// An op set that tells which of its kinds have an effect.
 pub trait EffectSet: OpSet {
@@ -15,6 +15,24 @@ pub trait EffectSet: OpSet {
     /// Whether an operation of the kind does something besides its results.
     fn has_effect(kind: Self::Kind) -> bool
         ensures { result ≡ has_effect kind };
+}
+
+/// Kinds of a user's own that tell whether they have an effect: the op set of them, [`KindSet`], then tells it.
+pub trait EffectKind: OwnKind {
+    // Whether an operation of the kind does something besides its results.
+    ghost has_effect: { Self → Bool };
+
+    /// Whether an operation of the kind does something besides its results.
+    fn has_effect(self) -> bool
+        ensures { result ≡ has_effect self };
+}
+
+impl<K: EffectKind> EffectSet for KindSet<K> {
+    ghost has_effect = { K.has_effect };
+
+    fn has_effect(kind: K) -> bool {
+        kind.has_effect()
+    }
 }
 
 /// Whether an operation may go where nothing uses its results: constants may, and of the user's own kinds those that

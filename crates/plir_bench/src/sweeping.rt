@@ -26,7 +26,7 @@ pub fn sweep_chains(
         return Err(Stop::Refused);
     }
     let built = ctx.num_live();
-    eliminate_dead_code(ctx, root);
+    eliminate_dead_code(alloc, ctx, root)?;
     Ok(u64::from(built.saturating_sub(ctx.num_live())))
 }
 

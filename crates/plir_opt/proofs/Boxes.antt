@@ -1,6 +1,6 @@
 -- What a walk puts behind a text, where each call at an operation puts its box, if it has one.
 use Rattle.std.proofs.Common.{◌≡◌, ◌≢◌, ℕ, Bool, true, false, cond, List, [], ◌∷◌, ◌++◌, inl, inr, refl, sym, ap}
-use Rattle.std.proofs.Common.{subst, ◌∙◌, codes}
+use Rattle.std.proofs.Common.{subst, ◌∙◌, codes, ◌||◌, ◌&&◌, not, nat_lt, length}
 use Rattle.std.proofs.lemmas.List.{append_assoc, append-nil}
 use Rattle.std.specs.List.{filter, flat_map}
 use Rattle.std.specs.declared.ops.ControlFlow.{ControlFlow}
@@ -12,7 +12,7 @@ use Rattle.plir_core.specs.declared.ptr.Operation.{Operation as OperationKind}
 use Rattle.plir_core.specs.declared.ptr.IRNode.{IRNode}
 use Rattle.plir_core.specs.declared.ptr.IRNode.TheVariants.{Operation, Region, BasicBlock}
 use Rattle.plir_core.specs.Contents.{OpView}
-use Rattle.plir_core.specs.ContextView.{ContextView}
+use Rattle.plir_core.specs.ContextView.{ContextView, kind_of, op_at}
 use Rattle.plir_core.specs.Forest.{look}
 use Rattle.plir_core.specs.Texts.{node_text}
 use Rattle.plir_walk.specs.declared.config.TheConstants.{WALKCONFIG_PREORDER_FORWARD as pre_forward}
@@ -25,10 +25,12 @@ use Rattle.plir_walk.specs.OperationWalks.{OperationRelation, AtOperations, Walk
 use Rattle.plir_walk.specs.Walked.{IsCallUnder}
 use Rattle.plir_walk.specs.NodeLaws.{same-op}
 use Rattle.plir_symbols.specs.declared.call_edges.CallEdge.{CallEdge}
+use Rattle.plir_builtin.specs.Symbols.{is_symbol_kind, is_table_kind}
+use Rattle.plir_symbols.specs.SymbolNames.{names_in}
 use Rattle.plir_symbols.specs.CallGraph.{IsCallGraph}
 use Rattle.plir_opt.specs.NodeNames.{op_name}
 use Rattle.plir_opt.specs.BoxesPut.{AreBoxesPut, IsBoxPut, box_of}
-use Rattle.plir_opt.specs.DrawnCalls.{IsDrawn, arrow, box, has_box}
+use Rattle.plir_opt.specs.DrawnCalls.{IsDrawn, arrow, box, has_box, is_end}
 
 -- a box, put in three parts
 pub box-put : {K A T : Type 0} (own : K → List ℕ) (s : ContextView K A T) (p : Ptr OperationKind)
@@ -78,17 +80,17 @@ op-pairs R (Region p ∷ ns) h = op-pairs R ns h.1
 op-pairs R (BasicBlock p ∷ ns) h = op-pairs R ns h.1
 
 module _ {D K A T E : Type 0} (o : op_set.Ghosts D K A T E) (names : OpView K A → List (List ℕ))
-    (s : ContextView K A T) where
+    (s : ContextView K A T) (ends : Ptr OperationKind → Bool) where
   -- the boxes of those that have one, one after another
   boxes : (ps : List (Ptr OperationKind)) →
-      flat_map (box_of o names s) ps ≡ flat_map (box o.kind_id s) (filter (has_box o names s) ps)
+      flat_map (box_of o names s ends) ps ≡ flat_map (box o.kind_id s) (filter (has_box o names s ends) ps)
   boxes [] = refl
-  boxes (p ∷ ps) = by (has_box o names s p) (boxes ps)
+  boxes (p ∷ ps) = by (has_box o names s ends p) (boxes ps)
     where
       by : (b : Bool) →
-          flat_map (box_of o names s) ps ≡ flat_map (box o.kind_id s) (filter (has_box o names s) ps) →
-          cond b (box o.kind_id s p) [] ++ flat_map (box_of o names s) ps
-          ≡ flat_map (box o.kind_id s) (cond b (p ∷ filter (has_box o names s) ps) (filter (has_box o names s) ps))
+          flat_map (box_of o names s ends) ps ≡ flat_map (box o.kind_id s) (filter (has_box o names s ends) ps) →
+          cond b (box o.kind_id s p) [] ++ flat_map (box_of o names s ends) ps
+          ≡ flat_map (box o.kind_id s) (cond b (p ∷ filter (has_box o names s ends) ps) (filter (has_box o names s ends) ps))
       by true rest = ap (λ z. box o.kind_id s p ++ z) rest
       by false rest = rest
 
@@ -96,7 +98,7 @@ module _ {D K A T E : Type 0} (o : op_set.Ghosts D K A T E) (names : OpView K A 
       (post : OperationRelation (ContextView K A T) S B)
       (each : (c : ContextView K A T) (u : S) (p : Ptr OperationKind) (a : ControlFlow B WalkContinue)
       (c' : ContextView K A T) (u' : S) → post c u p a c' u' →
-      (c' ≡ c) × IsBoxPut o names c (text u) p a (text u')) where
+      (c' ≡ c) × IsBoxPut o names c ends (text u) p a (text u')) where
     abbrev OneCall : Type 0
     OneCall = Call (ContextView K A T) S B
 
@@ -108,10 +110,10 @@ module _ {D K A T E : Type 0} (o : op_set.Ghosts D K A T E) (names : OpView K A 
       pub op : Ptr OperationKind
       pub node : x.node ≡ Operation op
       pub stays : x.after ≡ x.before
-      pub put : text x.left ≡ text x.state ++ box_of o names x.before op
+      pub put : text x.left ≡ text x.state ++ box_of o names x.before ends op
 
     advanced : (c : ContextView K A T) (t : List ℕ) (p : Ptr OperationKind) (a : ControlFlow B WalkContinue)
-        (t' : List ℕ) → IsBoxPut o names c t p a t' → ((b : B) → a ≢ Break b) → t' ≡ t ++ box_of o names c p
+        (t' : List ℕ) → IsBoxPut o names c ends t p a t' → ((b : B) → a ≢ Break b) → t' ≡ t ++ box_of o names c ends p
     advanced c t p (Continue Advance) t' h k = h
     advanced c t p (Continue Skip) t' h k = absurd h
     advanced c t p (Break b) t' h k = absurd (k b refl)
@@ -131,30 +133,30 @@ module _ {D K A T E : Type 0} (o : op_set.Ghosts D K A T E) (names : OpView K A 
 
     no-skip : (c : ContextView K A T) (u : S) (n : IRNode) (a : ControlFlow B WalkContinue) (c' : ContextView K A T)
         (u' : S) → AtOperations post c u n a c' u' → a ≡ Continue Skip → ⊥
-    no-skip c u (Operation p) a c' u' h e = subst (λ z. IsBoxPut o names c (text u) p z (text u')) e
+    no-skip c u (Operation p) a c' u' h e = subst (λ z. IsBoxPut o names c ends (text u) p z (text u')) e
         (each c u p a c' u' h).1
     no-skip c u (Region p) a c' u' h e = h
     no-skip c u (BasicBlock p) a c' u' h e = h
 
     all-put : (calls : List OneCall) (c : ContextView K A T) (u : S) (c' : ContextView K A T) (u' : S) → c ≡ s →
         Chain call c u calls c' u' → NoBreak calls →
-        text u' ≡ text u ++ flat_map (box_of o names s) (ops_in (nodes_of calls))
+        text u' ≡ text u ++ flat_map (box_of o names s ends) (ops_in (nodes_of calls))
     all-put [] c u c' u' e h k = ap text h.1 ∙ sym (append-nil (text u))
     all-put (y ∷ ys) c u c' u' e h k =
         let d = done-at y y.node refl h.2.made k.0 in
         let at = h.0 ∙ e in
-        let put = d.put ∙ ap (λ z. text z ++ box_of o names y.before d.op) h.1
-        ∙ ap (λ z. text u ++ box_of o names z d.op) at in
+        let put = d.put ∙ ap (λ z. text z ++ box_of o names y.before ends d.op) h.1
+        ∙ ap (λ z. text u ++ box_of o names z ends d.op) at in
         let rest = all-put ys y.after y.left c' u' (d.stays ∙ at) h.3 k.1 in
         rest
-        ∙ ap (λ z. z ++ flat_map (box_of o names s) (ops_in (nodes_of ys))) put
-        ∙ append_assoc (text u) (box_of o names s d.op) (flat_map (box_of o names s) (ops_in (nodes_of ys)))
-        ∙ ap (λ z. text u ++ flat_map (box_of o names s) (ops_in (z ∷ nodes_of ys))) (sym d.node)
+        ∙ ap (λ z. z ++ flat_map (box_of o names s ends) (ops_in (nodes_of ys))) put
+        ∙ append_assoc (text u) (box_of o names s ends d.op) (flat_map (box_of o names s ends) (ops_in (nodes_of ys)))
+        ∙ ap (λ z. text u ++ flat_map (box_of o names s ends) (ops_in (z ∷ nodes_of ys))) (sym d.node)
 
     -- a walk that went to its end has put exactly the boxes of those that have one, in order
     pub walked-boxes : (answer : ControlFlow B WalkContinue) (k : WalkContinue) → answer ≡ Continue k → (u u' : S) →
         WalkedOperations look pre_forward post s u (Operation root) answer u' →
-        AreBoxesPut o names s root (text u) (text u')
+        AreBoxesPut o names s ends root (text u) (text u')
     walked-boxes answer k is u u' walked =
         let answers = subst (λ z. OperationAnswers pre_forward (look s).children (Operation root) walked.calls z) is
         walked.walk.answers in
@@ -179,31 +181,44 @@ module _ {D K A T E : Type 0} (o : op_set.Ghosts D K A T E) (names : OpView K A 
 -- what is said of equal contexts and texts
 pub put-again :
     {D K A T E B : Type 0} (o : op_set.Ghosts D K A T E) (names : OpView K A → List (List ℕ))
-    {c d : ContextView K A T} {t u t' u' : List ℕ} (p : Ptr OperationKind) (a : ControlFlow B WalkContinue) → c ≡ d →
-    t ≡ u → t' ≡ u' → IsBoxPut o names c t p a t' → IsBoxPut o names d u p a u'
-put-again o names {c} {d} {t} {u} {t'} {u'} p a context before after h =
-    subst (λ z. IsBoxPut o names d u p a z) after
-    (subst (λ z. IsBoxPut o names d z p a t') before (subst (λ z. IsBoxPut o names z t p a t') context h))
+    (ends : Ptr OperationKind → Bool) {c d : ContextView K A T} {t u t' u' : List ℕ} (p : Ptr OperationKind) (a : ControlFlow B WalkContinue) → c ≡ d →
+    t ≡ u → t' ≡ u' → IsBoxPut o names c ends t p a t' → IsBoxPut o names d ends u p a u'
+put-again o names ends {c} {d} {t} {u} {t'} {u'} p a context before after h =
+    subst (λ z. IsBoxPut o names d ends u p a z) after
+    (subst (λ z. IsBoxPut o names d ends z p a t') before (subst (λ z. IsBoxPut o names z ends t p a t') context h))
+
+-- two tests that answer alike pick the same
+filter-alike : {X : Type 0} (f g : X → Bool) → ((x : X) → f x ≡ g x) → (xs : List X) → filter f xs ≡ filter g xs
+filter-alike f g same [] = refl
+filter-alike f g same (x ∷ xs) =
+    ap (λ b. cond b (x ∷ filter f xs) (filter f xs)) (same x)
+    ∙ ap (λ zs. cond (g x) (x ∷ zs) zs) (filter-alike f g same xs)
 
 -- a text that is made of its parts draws the call graph
 pub drawn :
     {D K A T E : Type 0} (o : op_set.Ghosts D K A T E) (names : OpView K A → List (List ℕ)) (s : ContextView K A T)
-    (root : Ptr OperationKind) (es fs : List CallEdge) (t u v w : List ℕ) →
-    t ≡ codes "digraph calls {\n  node [shape=box];\n" → AreBoxesPut o names s root t u → fs ≡ es →
+    (ends : Ptr OperationKind → Bool) (root : Ptr OperationKind) (es fs : List CallEdge) (t u v w : List ℕ) →
+    ((p : Ptr OperationKind) → ends p ≡ is_end es p) →
+    t ≡ codes "digraph calls {\n  node [shape=box];\n" → AreBoxesPut o names s ends root t u → fs ≡ es →
     v ≡ u ++ flat_map arrow fs → w ≡ v ++ codes "}\n" → IsCallGraph o.is_symbol o.is_symbol_table names s root es →
     IsDrawn o names s root w
-drawn o names s root es fs t u v w first put same third fourth graph =
+drawn o names s ends root es fs t u v w alike first put same third fourth graph =
     let head = codes "digraph calls {\n  node [shape=box];\n" in
-    let drawn_boxes = flat_map (box o.kind_id s) (filter (has_box o names s) put.ops) in
+    let those = λ (test : Ptr OperationKind → Bool). flat_map (box o.kind_id s) (filter (has_box o names s test) put.ops) in
+    let drawn_boxes = those (is_end es) in
     let arrows = flat_map arrow es in
     let end = codes "}\n" in
+    let picks = filter-alike (has_box o names s ends) (has_box o names s (is_end es))
+    (λ p. ap (λ b. nat_lt 0 (length (names_in names (op_at s p))) || ((is_symbol_kind o.is_symbol (kind_of s p) &&
+    not (is_table_kind o.is_symbol_table (kind_of s p))) || b)) (alike p)) put.ops in
     record {
       ops = put.ops;
       edges = es;
       are_ops = put.are_ops;
       are_edges = graph;
       is_text = fourth
-          ∙ ap (λ z. z ++ end) (third ∙ ap (λ z. z ++ flat_map arrow fs) (put.put ∙ ap (λ z. z ++ drawn_boxes) first)
+          ∙ ap (λ z. z ++ end) (third ∙ ap (λ z. z ++ flat_map arrow fs) (put.put
+          ∙ ap (λ z. t ++ flat_map (box o.kind_id s) z) picks ∙ ap (λ z. z ++ drawn_boxes) first)
           ∙ ap (λ z. (head ++ drawn_boxes) ++ flat_map arrow z) same)
           ∙ append_assoc (head ++ drawn_boxes) arrows end
           ∙ append_assoc head drawn_boxes (arrows ++ end);

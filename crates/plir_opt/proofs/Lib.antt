@@ -1,5 +1,7 @@
 mod Lines
-mod Verdicts
 mod Passing
 mod Printing
 mod Boxes
+mod NodesPut
+mod Ending
+mod Stopping

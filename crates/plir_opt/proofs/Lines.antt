@@ -1,54 +1,70 @@
--- The lines of a text and what stands below one, as far as a loop has come.
-use Rattle.std.proofs.Common.{◌≡◌, ℕ, zero, suc, ◌-◌, ◌<◌, ◌==◌, List, [], ◌∷◌, length, true, false, take, get_or}
-use Rattle.std.proofs.Common.{arith, refl, sym, ap, ◌∙◌, eq-eqb}
-use Rattle.std.proofs.lemmas.Bool.{cond-true, cond-false, ne_eqb}
-use Rattle.plir_opt.specs.Excerpt.{behind, first_line, is_first_byte, blank, blanks}
+-- The lines of a text, as far as a loop has come.
+use Rattle.std.proofs.Common.{◌≡◌, ℕ, zero, suc, ◌+◌, ◌-◌, ◌<◌, ◌≤◌, ◌==◌, List, [], length, drop, arith, refl, sym, ap, ◌∙◌}
+use Rattle.std.proofs.Common.{◌++◌, ◌∷◌, take, chars, encode_utf8}
+use Rattle.std.proofs.lemmas.List.{append_assoc, append-nil, drop_all}
+use Rattle.std.proofs.lemmas.Str.{cons_from_encodes, length-le-encodes}
+use Rattle.std.proofs.Math.Seq.{take-nil}
+use Rattle.std.specs.List.{after_first, flat_map, position_or_len}
+use Rattle.std.specs.Str.{encode_utf8_all}
+use Rattle.plir_opt.specs.Excerpt.{behind, below}
 
--- up to the first line feed
-pub cut_at : (bs : List ℕ) (i : ℕ) → i < length bs → ((k : ℕ) → k < i → get_or bs k 0 ≡ 10 → ⊥) →
-    get_or bs i 0 ≡ 10 → take i bs ≡ first_line bs
-cut_at [] i l n e = absurd (omega (arith, l))
-cut_at (b ∷ bs) zero l n e = sym (cond-true (b == 10) [] (b ∷ first_line bs) (eq-eqb b 10 e))
-cut_at (b ∷ bs) (suc i) l n e =
-    ap (λ z. b ∷ z) (cut_at bs i (omega (arith, l)) (λ k h. n (suc k) (omega (arith, h))) e)
-    ∙ sym (cond-false (b == 10) [] (b ∷ first_line bs) (ne_eqb b 10 (n 0 (omega arith))))
+behind-nothing : (n : ℕ) → behind n [] ≡ []
+behind-nothing zero = refl
+behind-nothing (suc n) = behind-nothing n
 
--- all, where there is none
-pub uncut : (bs : List ℕ) → ((k : ℕ) → k < length bs → get_or bs k 0 ≡ 10 → ⊥) → bs ≡ first_line bs
-uncut [] n = refl
-uncut (b ∷ bs) n =
-    ap (λ z. b ∷ z) (uncut bs (λ k h. n (suc k) (omega (arith, h))))
-    ∙ sym (cond-false (b == 10) [] (b ∷ first_line bs) (ne_eqb b 10 (n 0 (omega arith))))
+-- one line feed further
+pub behind_feed : (n : ℕ) (bs : List ℕ) → 0 < n → behind n bs ≡ behind (n - 1) (after_first (λ b. b == 10) bs)
+behind_feed zero bs l = absurd (omega (arith, l))
+behind_feed (suc n) bs l =
+    let e : n ≡ suc n - 1 = omega arith in
+    ap (λ k. behind k (after_first (λ b. b == 10) bs)) e
 
--- one line feed further, or one other byte
-pub behind_none : (bs : List ℕ) → behind 0 bs ≡ bs
-behind_none [] = refl
-behind_none (b ∷ bs) = refl
+-- where there is none
+pub behind_last : (n : ℕ) (bs : List ℕ) → 0 < n → position_or_len (λ b. b == 10) bs ≡ length bs → behind n bs ≡ []
+behind_last n bs l none =
+    behind_feed n bs l
+    ∙ ap (behind (n - 1)) (drop_all (position_or_len (λ b. b == 10) bs + 1) bs (omega (arith, none)))
+    ∙ behind-nothing (n - 1)
 
-pub behind_feed : (n b : ℕ) (bs : List ℕ) → 0 < n → b ≡ 10 → behind n (b ∷ bs) ≡ behind (n - 1) bs
-behind_feed n b bs l e =
-    cond-false (n == 0) (b ∷ bs) _ (ne_eqb n 0 (λ z. absurd (omega (arith, l, z))))
-    ∙ ap (λ k. behind k bs) (cond-true (b == 10) (n - 1) n (eq-eqb b 10 e))
+-- a step of the loop over line feeds
+pub ruleset feeds = (behind_feed, behind_last)
 
-pub behind_other : (n b : ℕ) (bs : List ℕ) → 0 < n → (b ≡ 10 → ⊥) → behind n (b ∷ bs) ≡ behind n bs
-behind_other n b bs l e =
-    cond-false (n == 0) (b ∷ bs) _ (ne_eqb n 0 (λ z. absurd (omega (arith, l, z))))
-    ∙ ap (λ k. behind k bs) (cond-false (b == 10) (n - 1) n (ne_eqb b 10 e))
+-- What stands below characters is put, up to what stands below the first `left` of those that the rest spells.
+pub record Remains (old all now : List ℕ) (left : ℕ) (rest : List ℕ) : Type 0 where
+  pub come : List ℕ
+  pub spell : encode_utf8_all come ≡ rest
+  pub put : now ++ flat_map below (take left come) ≡ old ++ flat_map below all
 
--- one character further, or one byte that goes on with a character
-pub blanks_full : (b : ℕ) (bs : List ℕ) → is_first_byte b ≡ true → blanks 0 (b ∷ bs) ≡ []
-blanks_full b bs f = cond-true (is_first_byte b) [] (blanks 0 bs) f
+module _ (old all : List ℕ) where
+  pub remains_next : (now next : List ℕ) (left c : ℕ) (rest rest' : List ℕ) → Remains old all now left rest →
+      (left ≡ 0 → ⊥) → rest ≡ encode_utf8 c ++ rest' → next ≡ now ++ below c → Remains old all next (left - 1) rest'
+  remains_next now next zero c rest rest' h some step put = absurd (some refl)
+  remains_next now next (suc left) c rest rest' h some step put =
+      let f = cons_from_encodes h.come rest' c (h.spell ∙ step) in
+      let less : suc left - 1 ≡ left = omega arith in
+      record {
+        come = f.0;
+        spell = f.2;
+        put =
+            ap (λ k. next ++ flat_map below (take k f.0)) less
+            ∙ ap (λ z. z ++ flat_map below (take left f.0)) put
+            ∙ append_assoc now (below c) (flat_map below (take left f.0))
+            ∙ sym (ap (λ z. now ++ flat_map below (take (suc left) z)) f.1)
+            ∙ h.put;
+      }
 
-pub blanks_first : (n b : ℕ) (bs : List ℕ) → is_first_byte b ≡ true → 0 < n →
-    blanks n (b ∷ bs) ≡ blank b ∷ blanks (n - 1) bs
-blanks_first n b bs f l =
-    cond-true (is_first_byte b) _ (blanks n bs) f
-    ∙ cond-false (n == 0) [] (blank b ∷ blanks (n - 1) bs) (ne_eqb n 0 (λ z. absurd (omega (arith, l, z))))
+  pub remains_full : (now : List ℕ) (left : ℕ) (rest : List ℕ) → Remains old all now left rest → left ≡ 0 →
+      now ≡ old ++ flat_map below all
+  remains_full now left rest h none =
+      sym (append-nil now) ∙ sym (ap (λ k. now ++ flat_map below (take k h.come)) none) ∙ h.put
 
-pub blanks_other : (n b : ℕ) (bs : List ℕ) → is_first_byte b ≡ false → blanks n (b ∷ bs) ≡ blanks n bs
-blanks_other n b bs f = cond-false (is_first_byte b) _ (blanks n bs) f
-
--- a step of the loop over line feeds, and of that over characters
-pub ruleset feeds = (behind_none, behind_feed, behind_other)
-
-pub ruleset spaces = (blanks_full, blanks_first, blanks_other)
+  pub remains_end : (now : List ℕ) (left : ℕ) (rest : List ℕ) → Remains old all now left rest → length rest ≡ 0 →
+      now ≡ old ++ flat_map below all
+  remains_end now left rest h none = sym (append-nil now) ∙ ap (λ z. now ++ flat_map below z) (sym nothing) ∙ h.put
+    where
+      nothing : take left h.come ≡ []
+      nothing = by h.come (omega (arith, length-le-encodes h.come, ap length h.spell, none))
+        where
+          by : (xs : List ℕ) → length xs ≤ 0 → take left xs ≡ []
+          by [] l = take-nil left
+          by (x ∷ xs) l = absurd (omega (arith, l))

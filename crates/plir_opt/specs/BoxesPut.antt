@@ -1,6 +1,6 @@
 -- How boxes are put behind a text, as the functions that draw a call graph promise one another.
-use Rattle.std.specs.Prelude.{◌≡◌, ℕ, cond, List, [], ◌++◌}
-use Rattle.std.specs.List.{filter, flat_map}
+use Rattle.std.specs.Prelude.{◌≡◌, ℕ, Bool, cond, List, [], ◌++◌}
+use Rattle.std.specs.List.{filter, flat_map, list_any}
 use Rattle.std.specs.declared.ops.ControlFlow.{ControlFlow}
 use Rattle.std.specs.declared.ops.ControlFlow.TheVariants.{Continue, Break}
 use Rattle.plir_data.specs.declared.op_set.OpSet as op_set
@@ -10,13 +10,19 @@ use Rattle.plir_core.specs.Contents.{OpView}
 use Rattle.plir_core.specs.ContextView.{ContextView}
 use Rattle.plir_walk.specs.declared.interruptible.WalkContinue.{WalkContinue}
 use Rattle.plir_walk.specs.declared.interruptible.WalkContinue.TheVariants.{Advance, Skip}
+use Rattle.plir_symbols.specs.Reaching.{ptr_eq}
+use Rattle.plir_opt.specs.declared.ends.Ends.{Ends}
 use Rattle.plir_opt.specs.DrawnCalls.{AreOps, box, has_box}
 
+-- whether an operation is one of those at which arrows end, as they are collected
+abbrev pub has_end : Ends → Ptr OperationKind → Bool
+has_end ends p = list_any (ptr_eq p) ends.marks.keys
+
 module _ {D K A T E : Type 0} (o : op_set.Ghosts D K A T E) (names : OpView K A → List (List ℕ))
-    (s : ContextView K A T) where
+    (s : ContextView K A T) (ends : Ptr OperationKind → Bool) where
   -- the box of an operation, if it has one
   abbrev pub box_of : Ptr OperationKind → List ℕ
-  box_of p = cond (has_box o names s p) (box o.kind_id s p) []
+  box_of p = cond (has_box o names s ends p) (box o.kind_id s p) []
 
   -- What a call at an operation does to a text: its box is put behind it, if it has one, and the walk goes on; or it
   -- is broken off.
@@ -30,4 +36,4 @@ module _ {D K A T E : Type 0} (o : op_set.Ghosts D K A T E) (names : OpView K A 
     pub record AreBoxesPut (t t' : List ℕ) : Type 0 where
       pub ops : List (Ptr OperationKind)
       pub are_ops : AreOps s root ops
-      pub put : t' ≡ t ++ flat_map (box o.kind_id s) (filter (has_box o names s) ops)
+      pub put : t' ≡ t ++ flat_map (box o.kind_id s) (filter (has_box o names s ends) ops)

@@ -1,7 +1,7 @@
 -- The text of a call graph, in DOT.
 use Rattle.std.specs.Prelude.{◌≡◌, ◌&&◌, ◌||◌, ℕ, nat_lt, Bool, not, List, ◌++◌, length, codes}
 use Rattle.std.specs.Prelude.{Option, Some, None}
-use Rattle.std.specs.List.{filter, flat_map}
+use Rattle.std.specs.List.{filter, flat_map, list_any}
 use Rattle.plir_store.specs.Members.{Has}
 use Rattle.plir_data.specs.declared.op_set.OpSet as op_set
 use Rattle.plir_core.specs.declared.ptr.Ptr.{Ptr}
@@ -16,7 +16,7 @@ use Rattle.plir_walk.specs.Tree.{IsUnder, NodeBefore}
 use Rattle.plir_builtin.specs.Symbols.{is_symbol_kind, is_table_kind}
 use Rattle.plir_symbols.specs.declared.call_edges.CallEdge.{CallEdge}
 use Rattle.plir_symbols.specs.SymbolNames.{names_in}
-use Rattle.plir_symbols.specs.CallGraph.{IsCallGraph}
+use Rattle.plir_symbols.specs.CallGraph.{IsCallGraph, is_found}
 use Rattle.plir_opt.specs.NodeNames.{op_name}
 
 -- where an arrow ends: at a symbol, or at `nothing`
@@ -27,6 +27,10 @@ arrow_end (Some p) = node_text (Operation p)
 -- the line of an arrow: from the operation that uses a name to the symbol that bears it
 abbrev pub arrow : CallEdge → List ℕ
 arrow e = codes "  " ++ (node_text (Operation e.user) ++ (codes " -> " ++ (arrow_end e.symbol ++ codes ";\n")))
+
+-- whether one of the arrows ends at an operation
+abbrev pub is_end : List CallEdge → Ptr OperationKind → Bool
+is_end es p = list_any (λ e. is_found p e.symbol) es
 
 module _ {K A T : Type 0} (own : K → List ℕ) (s : ContextView K A T) where
   -- the line of a box, in which the operation's name stands
@@ -47,10 +51,10 @@ module _ {K A T : Type 0} (s : ContextView K A T) (root : Ptr OperationKind) whe
 
 module _ {D K A T E : Type 0} (o : op_set.Ghosts D K A T E) (names : OpView K A → List (List ℕ))
     (s : ContextView K A T) where
-  -- an operation has a box: it uses a name, or is a symbol and no symbol table
-  abbrev pub has_box : Ptr OperationKind → Bool
-  has_box p = nat_lt 0 (length (names_in names (op_at s p))) ||
-      (is_symbol_kind o.is_symbol (kind_of s p) && not (is_table_kind o.is_symbol_table (kind_of s p)))
+  -- an operation has a box: it uses a name, or is a symbol and no symbol table, or an arrow ends at it
+  abbrev pub has_box : (ends : Ptr OperationKind → Bool) → Ptr OperationKind → Bool
+  has_box ends p = nat_lt 0 (length (names_in names (op_at s p))) ||
+      ((is_symbol_kind o.is_symbol (kind_of s p) && not (is_table_kind o.is_symbol_table (kind_of s p))) || ends p)
 
   module _ (root : Ptr OperationKind) where
     -- A text draws the call graph of the tree under the root: the boxes are those of all operations there that have
@@ -60,4 +64,4 @@ module _ {D K A T E : Type 0} (o : op_set.Ghosts D K A T E) (names : OpView K A 
       pub edges : List CallEdge
       pub are_ops : AreOps s root ops
       pub are_edges : IsCallGraph o.is_symbol o.is_symbol_table names s root edges
-      pub is_text : t ≡ graph_text o.kind_id s (filter has_box ops) edges
+      pub is_text : t ≡ graph_text o.kind_id s (filter (has_box (is_end edges)) ops) edges

@@ -1,5 +1,6 @@
 -- What passes leave.
-use Rattle.std.specs.Prelude.{◌≡◌, ℕ, Bool, List, [], ◌∷◌}
+use Rattle.std.specs.Prelude.{◌≡◌, ℕ, Bool, true, List, [], ◌∷◌}
+use Rattle.plir_data.specs.declared.op_set.OpSet as op_set
 use Rattle.plir_core.specs.declared.ptr.Ptr.{Ptr}
 use Rattle.plir_core.specs.declared.ptr.Operation.{Operation as OperationKind}
 use Rattle.plir_core.specs.declared.ptr.IRNode.TheVariants.{Operation}
@@ -10,8 +11,10 @@ use Rattle.plir_walk.specs.Lawful.{Lawful}
 use Rattle.plir_walk.specs.Unnamed.{IsUnnamed}
 use Rattle.plir_passes.specs.Dead.{HasNoDead}
 use Rattle.plir_passes.specs.Swept.{IsSwept}
+use Rattle.plir_builtin.specs.SymbolUses.{UseRule}
 use Rattle.plir_symbols.specs.DeadSymbols.{HasNoDead as HasNoDeadSymbol}
 use Rattle.plir_symbols.specs.SweptSymbols.{AreSweeps, AreSwept}
+use Rattle.plir_verify.specs.Rules.{AllHaveRules}
 use Rattle.plir_opt.specs.declared.choices.Pass.{Pass}
 use Rattle.plir_opt.specs.declared.choices.Pass.TheVariants.{EraseNames, Dce, SymbolDce}
 
@@ -34,3 +37,16 @@ module _ {K A T : Type 0} (effect ends own_symbol own_table : K → Bool) (priva
   ArePassed stands [] s t = t ≡ s
   ArePassed stands (x ∷ xs) s t =
       (u : ContextView K A T) × IsPassed x s u × stands u × ArePassed stands xs u t
+
+module _ {D K A T E : Type 0} (o : op_set.Ghosts D K A T E) (effect : K → Bool) (private : OpView K A → Bool)
+    (names : OpView K A → List (List ℕ)) (root : Ptr OperationKind) where
+  -- the same of one pass, by what an op set tells
+  abbrev pub IsRun : Pass → ContextView K A T → ContextView K A T → Type 0
+  IsRun = IsPassed effect o.is_terminator o.is_symbol o.is_symbol_table private names root
+
+  -- From s to t passes were run over the operation root, one after another, and behind each all at and below root is
+  -- right, if that is to be verified.
+  abbrev pub AreRun : (uses_hold rule : UseRule K A T) → (verify : Bool) → List Pass → ContextView K A T
+      → ContextView K A T → Type 0
+  AreRun uses_hold rule verify = ArePassed effect o.is_terminator o.is_symbol o.is_symbol_table private names root
+      (λ s. verify ≡ true → AllHaveRules o uses_hold rule s root)

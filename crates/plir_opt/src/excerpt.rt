@@ -1,91 +1,91 @@
 //! A line of a text, and a caret below one of its columns.
-ghost use Rattle.std.specs.Prelude.{◌≡◌, ◌++◌, IfOk, OnOk};
-ghost use Rattle.plir_opt.specs.Excerpt.{behind, blank, blanks, excerpt_of, first_line, is_first_byte};
+ghost use Rattle.std.specs.Prelude.{◌≡◌, ◌++◌, IfOk, OnOk, chars, string_bytes, take};
+ghost use Rattle.std.specs.List.{flat_map};
+ghost use Rattle.plir_opt.specs.Excerpt.{behind, below, columns_of, excerpt_of, first_line, spaces};
 
 use std::alloc::{AllocError, Global};
+use unicode_width::UnicodeWidthChar;
 
-/// The line of a number from 1, a caret below the column of a number from 1 on the next line, and a line feed. Columns
-/// count characters; below a tab stands a tab, below any other character a space. Past the line's last character the
-/// caret stands right behind it.
-pub fn excerpt(
-    alloc: Global,
-    text: &[u8],
-    line: usize,
-    column: usize,
-) -> Result<Vec<u8>, AllocError>
-    ensures { IfOk result (λ v. v.items ≡ excerpt_of text.now line column) }
+/// The line of a number from 1, a caret below the character of a number from 1 on the next line, and a line feed. Below
+/// a tab stands a tab, below any other character as many spaces as a terminal gives it columns. Past the line's last
+/// character the caret stands right behind it.
+pub fn excerpt(alloc: Global, text: &str, line: usize, column: usize) -> Result<String, AllocError>
+    ensures { IfOk result (λ s. string_bytes s ≡ excerpt_of text.now line column) }
 {
     let shown = first_line(behind(text, line.saturating_sub(1)));
-    let mut lines = Vec::new(alloc);
-    lines.extend_from_slice(shown)?;
-    lines.push(b'\n')?;
-    put_blanks(&mut lines, shown, column.saturating_sub(1))?;
-    lines.extend_from_slice(b"^\n")?;
+    let mut lines = String::from_str(alloc, shown)?;
+    lines.push_str("\n")?;
+    put_below(&mut lines, shown, column.saturating_sub(1))?;
+    lines.push_str("^\n")?;
     Ok(lines)
 }
 
 // What stands behind so many line feeds; nothing, where there are fewer.
 #[tactic(auto, using(crate::proofs::Lines::feeds))]
-fn behind(text: &[u8], feeds: usize) -> &[u8]
+fn behind(text: &str, feeds: usize) -> &str
     ensures { result.now ≡ behind feeds text.now }
 {
     let mut rest = text;
-    let mut left = feeds;
-    while left > 0 {
-        let Some((first, others)) = rest.split_first() else {
-            return rest;
-        };
-        rest = others;
-        if *first == b'\n' {
-            left -= 1;
+    for _ in 0..feeds {
+        match rest.split_once('\n') {
+            Some((_, others)) => rest = others,
+            None => return "",
         }
     }
     rest
 }
 
 // What stands before the first line feed.
-#[tactic(auto, using(crate::proofs::Lines::uncut))]
-fn first_line(text: &[u8]) -> &[u8]
+fn first_line(text: &str) -> &str
     ensures { result.now ≡ first_line text.now }
 {
-    for (i, byte) in text.iter().enumerate() {
-        if *byte == b'\n' {
-            return &text[..i];
-        }
+    match text.split_once('\n') {
+        Some((line, _)) => line,
+        None => text,
     }
-    text
 }
 
-// Puts what stands below so many characters of a line: below a tab a tab, below any other a space.
-#[tactic(auto, using(crate::proofs::Lines::spaces))]
-fn put_blanks(out: &mut Vec<u8>, line: &[u8], columns: usize) -> Result<(), AllocError>
-    ensures { OnOk result (out.new.items ≡ out.old.items ++ blanks columns line.now) }
+// Puts what stands below so many characters of a line.
+fn put_below(out: &mut String, line: &str, characters: usize) -> Result<(), AllocError>
+    ensures { OnOk result (string_bytes out.new ≡ string_bytes out.old ++
+        flat_map below (take characters (chars line.now))) }
 {
-    let mut left = columns;
-    let mut rest = line;
-    while let Some((byte, others)) = rest.split_first() {
-        rest = others;
-        if is_first_byte(*byte) {
-            if left == 0 {
-                return Ok(());
-            }
-            left -= 1;
-            out.push(blank(*byte))?;
+    let mut left = characters;
+    'chars: for c in line.chars() {
+        if left == 0 {
+            return Ok(());
         }
+        left -= 1;
+        put_below_one(out, c)?;
     }
     Ok(())
 }
 
-// What stands below a character of this first byte.
-fn blank(byte: u8) -> u8
-    ensures { result ≡ blank byte }
+// Puts what stands below a character.
+fn put_below_one(out: &mut String, c: char) -> Result<(), AllocError>
+    ensures { OnOk result (string_bytes out.new ≡ string_bytes out.old ++ below c) }
 {
-    if byte == b'\t' { b'\t' } else { b' ' }
+    if c == '\t' {
+        out.push_str("\t")
+    } else {
+        put_spaces(out, columns_of(c))
+    }
 }
 
-// Whether a byte is the first of a character, and not one that goes on with it.
-fn is_first_byte(byte: u8) -> bool
-    ensures { result ≡ is_first_byte byte }
+// Puts so many spaces.
+fn put_spaces(out: &mut String, count: usize) -> Result<(), AllocError>
+    ensures { OnOk result (string_bytes out.new ≡ string_bytes out.old ++ spaces count) }
 {
-    byte < 128 || byte > 191
+    for _ in 0..count {
+        out.push_str(" ")?;
+    }
+    Ok(())
+}
+
+// How many columns a terminal gives a character: none to one that is put over the one before it, two to a wide one. A
+// control character counts one.
+fn columns_of(c: char) -> usize
+    ensures { result ≡ columns_of c }
+{
+    c.width().unwrap_or(1)
 }

@@ -5,6 +5,7 @@
 mod calls;
 mod choices;
 mod command_line;
+mod ends;
 mod excerpt;
 mod graph;
 mod listing;
@@ -16,7 +17,6 @@ mod telling;
 #[cfg(test)]
 mod tests;
 mod transform;
-mod verifying;
 
 use clap::ArgMatches;
 use clap::error::ErrorKind;

@@ -1,10 +1,12 @@
 //! The passes, each by its name.
-ghost use Rattle.std.specs.Prelude.{OnOk};
+ghost use Rattle.std.specs.Prelude.{IfErr, OnOk};
 ghost use Rattle.plir_core.specs.ContextView.{IsLive};
 ghost use Rattle.plir_core.specs.declared.ptr.IRNode.{IRNode as AnyNode};
+ghost use Rattle.plir_builtin.specs.Refusals.{IsTableRefusal, Reports};
 ghost use Rattle.plir_symbols.specs.DeadSymbols.{HasNoDead};
 ghost use Rattle.plir_symbols.specs.SweptSymbols.{AreSweeps, AreSwept};
-ghost use Rattle.plir_opt.specs.Passed.{IsPassed};
+ghost use Rattle.plir_opt.specs.Passed.{IsRun};
+ghost use Rattle.plir_opt.specs.Stopped.{IsPassRefusal};
 
 use crate::choices::Pass;
 use plir_builtin::laws::no_tables_agree;
@@ -28,6 +30,7 @@ fn erase_symbols<D: SymbolNames>(
     ensures sweeps { (ms : _) × AreSweeps D.is_symbol D.is_private D.is_symbol_table D.names_used table ctx.old ms
         ctx.new }
     ensures clean { OnOk result (HasNoDead D.is_symbol D.is_private D.is_symbol_table D.names_used ctx.new table) }
+    ensures refused { IfErr result (Reports (IsTableRefusal D.is_symbol D.is_symbol_table ctx.old table)) }
 {
     no_tables_agree(ctx);
     let mut tables = SymbolTableCollection::new(alloc);
@@ -38,7 +41,8 @@ fn erase_symbols<D: SymbolNames>(
 ///
 /// # Errors
 ///
-/// Where dead symbols are to be erased: as [`eliminate_dead_symbols`].
+/// Where dead code is to be eliminated: as [`eliminate_dead_code`]; where dead symbols are: as
+/// [`eliminate_dead_symbols`].
 pub fn run_pass<D: EffectSet + SymbolNames>(
     alloc: Global,
     pass: Pass,
@@ -47,8 +51,8 @@ pub fn run_pass<D: EffectSet + SymbolNames>(
 ) -> Result<(), SymbolTableErr>
     requires { IsLive ctx.old (AnyNode.Operation root) }
     ensures live { IsLive ctx.new (AnyNode.Operation root) }
-    ensures passed { OnOk result (IsPassed D.has_effect D.is_terminator D.is_symbol D.is_symbol_table D.is_private
-        D.names_used root pass ctx.old ctx.new) }
+    ensures passed { OnOk result (IsRun D.OpSet D.has_effect D.is_private D.names_used root pass ctx.old ctx.new) }
+    ensures refused { IfErr result (IsPassRefusal D.is_symbol D.is_symbol_table ctx.old root pass) }
 {
     lawful_changes::<D>();
     ctx.stands();
@@ -58,7 +62,7 @@ pub fn run_pass<D: EffectSet + SymbolNames>(
             Ok(())
         }
         Pass::Dce => {
-            eliminate_dead_code(ctx, root);
+            eliminate_dead_code(alloc, ctx, root)?;
             Ok(())
         }
         Pass::SymbolDce => erase_symbols(alloc, ctx, root),

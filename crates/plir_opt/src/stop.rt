@@ -1,7 +1,8 @@
 //! Why nothing is printed.
-use plir_builtin::{OpVerifyErr, SymbolTableErr};
+use plir_builtin::SymbolTableErr;
 use plir_data::{Location, Memory, VerifyErr};
 use plir_text::{Fault, ReadErr};
+use plir_verify::TreeVerifyErr;
 use std::alloc::{AllocError, AllocFailed};
 use std::error::Error as StdError;
 use thiserror::Error;
@@ -9,7 +10,7 @@ use thiserror::Error;
 /// Why nothing is printed. The text is what is told behind the file's name and the place.
 #[derive(Debug, Drop, Error)]
 #[error_bound(E: StdError)]
-pub enum Stop<E> {
+pub enum Stop<E: StdError> {
     /// The bytes are no text.
     #[error("not UTF-8")]
     NoText,
@@ -24,7 +25,7 @@ pub enum Stop<E> {
     #[error("{err}")]
     Refused {
         loc: Location,
-        err: OpVerifyErr<E>,
+        err: TreeVerifyErr<E>,
     },
     /// A symbol table is refused, as where the operation is none.
     #[error("{err}")]
@@ -42,7 +43,12 @@ pub enum Stop<E> {
     OutOfMemory,
 }
 
-impl<E> From<ReadErr> for Stop<E> {
+impl<E: StdError> From<ReadErr> for Stop<E> {
+    ghost use Rattle.std.specs.Prelude.{◌≡◌};
+    ghost use Rattle.plir_opt.specs.StopOf.{of_reader};
+
+    ghost from_gives = { λ e s. s ≡ of_reader e };
+
     fn from(error: ReadErr) -> Stop<E> {
         let ReadErr {
             line,
@@ -61,8 +67,13 @@ impl<E> From<ReadErr> for Stop<E> {
     }
 }
 
-impl<E> From<VerifyErr<OpVerifyErr<E>>> for Stop<E> {
-    fn from(error: VerifyErr<OpVerifyErr<E>>) -> Stop<E> {
+impl<E: StdError> From<VerifyErr<TreeVerifyErr<E>>> for Stop<E> {
+    ghost use Rattle.std.specs.Prelude.{◌≡◌};
+    ghost use Rattle.plir_opt.specs.StopOf.{of_verifier};
+
+    ghost from_gives = { λ e s. s ≡ of_verifier e };
+
+    fn from(error: VerifyErr<TreeVerifyErr<E>>) -> Stop<E> {
         match error {
             VerifyErr::Refused { loc, err } => Stop::Refused { loc, err },
             VerifyErr::Memory => Stop::OutOfMemory,
@@ -70,7 +81,12 @@ impl<E> From<VerifyErr<OpVerifyErr<E>>> for Stop<E> {
     }
 }
 
-impl<E> From<SymbolTableErr> for Stop<E> {
+impl<E: StdError> From<SymbolTableErr> for Stop<E> {
+    ghost use Rattle.std.specs.Prelude.{◌≡◌};
+    ghost use Rattle.plir_opt.specs.StopOf.{of_table};
+
+    ghost from_gives = { λ e s. s ≡ of_table e };
+
     fn from(error: SymbolTableErr) -> Stop<E> {
         match error {
             SymbolTableErr::Memory => Stop::OutOfMemory,
@@ -79,19 +95,34 @@ impl<E> From<SymbolTableErr> for Stop<E> {
     }
 }
 
-impl<E> From<Memory> for Stop<E> {
+impl<E: StdError> From<Memory> for Stop<E> {
+    ghost use Rattle.std.specs.Prelude.{◌≡◌};
+    ghost use Rattle.plir_opt.specs.declared.stop.Stop.TheVariants as Variants;
+
+    ghost from_gives = { λ _ s. s ≡ Variants.OutOfMemory };
+
     fn from(_error: Memory) -> Stop<E> {
         Stop::OutOfMemory
     }
 }
 
-impl<E> From<AllocError> for Stop<E> {
+impl<E: StdError> From<AllocError> for Stop<E> {
+    ghost use Rattle.std.specs.Prelude.{◌≡◌};
+    ghost use Rattle.plir_opt.specs.declared.stop.Stop.TheVariants as Variants;
+
+    ghost from_gives = { λ _ s. s ≡ Variants.OutOfMemory };
+
     fn from(_error: AllocError) -> Stop<E> {
         Stop::OutOfMemory
     }
 }
 
-impl<E, T: Drop> From<AllocFailed<T>> for Stop<E> {
+impl<E: StdError, T: Drop> From<AllocFailed<T>> for Stop<E> {
+    ghost use Rattle.std.specs.Prelude.{◌≡◌};
+    ghost use Rattle.plir_opt.specs.declared.stop.Stop.TheVariants as Variants;
+
+    ghost from_gives = { λ _ s. s ≡ Variants.OutOfMemory };
+
     fn from(_error: AllocFailed<T>) -> Stop<E> {
         Stop::OutOfMemory
     }

@@ -261,7 +261,27 @@ fn a_call_graph_has_a_box_for_each_function_and_an_arrow_for_each_use(
 }
 
 #[test]
-fn a_call_graph_has_no_box_for_a_module_that_uses_nothing(rt: HostRuntime) -> Result<(), Fail> {
+fn a_call_graph_has_a_box_for_a_module_that_is_used(rt: HostRuntime) -> Result<(), Fail> {
+    expect(
+        &rt,
+        rt.alloc(),
+        ["plir_opt", "--call-graph"].as_slice(),
+        "builtin.module @m {^b():
+          builtin.module @n {^c():};
+          builtin.func @f: builtin.function <()->()> [starts = builtin.identifier n] {};
+          builtin.module @o {^d():}}",
+        [
+            "digraph calls {\n  node [shape=box];\n",
+            "  op2v1 [label=\"op2v1 builtin.module @n\"];\n",
+            "  op3v1 [label=\"op3v1 builtin.func @f\"];\n",
+            "  op3v1 -> op2v1;\n}\n",
+        ]
+        .as_slice(),
+    )
+}
+
+#[test]
+fn a_call_graph_has_no_box_for_a_module_that_no_arrow_touches(rt: HostRuntime) -> Result<(), Fail> {
     expect(
         &rt,
         rt.alloc(),
@@ -422,29 +442,53 @@ fn bytes_that_are_no_text_are_refused(rt: HostRuntime) -> Result<(), Fail> {
     )
 }
 
-#[test]
-fn a_caret_stands_below_its_column(rt: HostRuntime) -> Result<(), Fail> {
-    let alloc = rt.alloc();
-    let text = b"ab\n\tc\xe2\x82\xacd\n";
-    assert_eq!(rt;
-        excerpt(alloc, text.as_slice(), 1, 1)?.as_slice(),
-        b"ab\n^\n".as_slice()
-    );
-    assert_eq!(rt;
-        excerpt(alloc, text.as_slice(), 1, 3)?.as_slice(),
-        b"ab\n  ^\n".as_slice()
-    );
-    assert_eq!(rt;
-        excerpt(alloc, text.as_slice(), 2, 4)?.as_slice(),
-        b"\tc\xe2\x82\xacd\n\t  ^\n".as_slice()
-    );
-    assert_eq!(rt;
-        excerpt(alloc, text.as_slice(), 3, 1)?.as_slice(),
-        b"\n^\n".as_slice()
-    );
-    assert_eq!(rt;
-        excerpt(alloc, text.as_slice(), 9, 9)?.as_slice(),
-        b"\n^\n".as_slice()
-    );
+/// Of a text this is shown for a line and a column.
+fn expect_excerpt(
+    rt: &impl Abort,
+    alloc: Global,
+    text: &str,
+    place: (usize, usize),
+    shown: &str,
+) -> Result<(), Fail> {
+    let (line, column) = place;
+    assert_eq!(rt; excerpt(alloc, text, line, column)?.as_str(), shown);
     Ok(())
+}
+
+#[test]
+fn a_caret_stands_below_its_character(rt: HostRuntime) -> Result<(), Fail> {
+    let alloc = rt.alloc();
+    let text = "ab\n\tc\u{20ac}d\n";
+    expect_excerpt(&rt, alloc, text, (1, 1), "ab\n^\n")?;
+    expect_excerpt(&rt, alloc, text, (1, 3), "ab\n  ^\n")?;
+    expect_excerpt(&rt, alloc, text, (2, 4), "\tc\u{20ac}d\n\t  ^\n")?;
+    expect_excerpt(&rt, alloc, text, (3, 1), "\n^\n")?;
+    expect_excerpt(&rt, alloc, text, (9, 9), "\n^\n")
+}
+
+#[test]
+fn a_caret_counts_the_columns_of_a_terminal(rt: HostRuntime) -> Result<(), Fail> {
+    let alloc = rt.alloc();
+    // Two wide characters, and a letter with an accent over it.
+    expect_excerpt(
+        &rt,
+        alloc,
+        "\u{6f22}\u{5b57}x",
+        (1, 3),
+        "\u{6f22}\u{5b57}x\n    ^\n",
+    )?;
+    expect_excerpt(&rt, alloc, "e\u{301}x", (1, 3), "e\u{301}x\n ^\n")?;
+    // A control character counts one.
+    expect_excerpt(&rt, alloc, "\u{1}x", (1, 2), "\u{1}x\n ^\n")
+}
+
+#[test]
+fn a_fault_behind_wide_characters_has_its_caret_below_it(rt: HostRuntime) -> Result<(), Fail> {
+    expect_told(
+        &rt,
+        rt.alloc(),
+        b"x = builtin.constant <builtin.string \"\xe6\xbc\xa2\"> ? builtin.unit",
+        "m.plir:1:43: no token that can stand there\n\
+x = builtin.constant <builtin.string \"\u{6f22}\"> ? builtin.unit\n                                           ^\n",
+    )
 }

@@ -6,5 +6,7 @@ pub mod WholeWalks
 pub mod Replacing
 pub mod Unused
 pub mod Sweeps
-pub mod SweepBlock
-pub mod SweepWalk
+pub mod Lists
+pub mod ListWalk
+pub mod Using
+pub mod Pending

@@ -1,22 +1,21 @@
 -- Dead operations are erased one after another.
-use Rattle.std.proofs.Common.{◌≡◌, ◌<◌, ℕ, zero, suc, arith, Bool, false, List, [], ◌∷◌, ◌++◌, Some, inl, inr}
-use Rattle.std.proofs.Common.{refl, sym, ap, subst, ◌∙◌, slice_get}
+use Rattle.std.proofs.Common.{◌≡◌, ◌<◌, ℕ, zero, suc, arith, Bool, true, false, cond, List, [], ◌∷◌, ◌++◌, map, Some}
+use Rattle.std.proofs.Common.{inl, inr, refl, sym, ap, subst, ◌∙◌, slice_get}
 use Rattle.std.specs.List.{flat_map}
-use Rattle.std.proofs.lemmas.Option.{same_Some}
 use Rattle.std.proofs.lemmas.Bool.{false_from_ne_true}
 use Rattle.plir_store.specs.Members.{Has}
-use Rattle.plir_store.specs.MemberLaws.{Has-append_left, Has-append_right, Has-append_cases}
+use Rattle.plir_store.specs.MemberLaws.{Has-append_left, Has-append_right, Has-append_cases, Has-map}
+use Rattle.plir_store.specs.Lists.{children_at}
 use Rattle.plir_store.specs.FilterLaws.{not-both}
 use Rattle.plir_core.specs.declared.ptr.Ptr.{Ptr}
 use Rattle.plir_core.specs.declared.ptr.Operation.{Operation as OperationKind}
-use Rattle.plir_core.specs.declared.ptr.BasicBlock.{BasicBlock as BasicBlockKind}
 use Rattle.plir_core.specs.declared.ptr.IRNode.{IRNode}
-use Rattle.plir_core.specs.declared.ptr.IRNode.TheVariants.{Operation, BasicBlock}
+use Rattle.plir_core.specs.declared.ptr.IRNode.TheVariants.{Operation}
 use Rattle.plir_core.specs.Above.{Reaches}
 use Rattle.plir_core.specs.Erase.{IsErased, post_order, without_nodes}
 use Rattle.plir_core.specs.Forest.{look, IsForest}
 use Rattle.plir_core.specs.Measures.{most_steps}
-use Rattle.plir_core.specs.Nodes.{node_children}
+use Rattle.plir_core.specs.Nodes.{node_children, region_node}
 use Rattle.plir_core.specs.Unused.{without_tree}
 use Rattle.plir_core.specs.ContextView.{ContextView, IsLive, is_live, parent_of, kind_in, operands_in}
 use Rattle.plir_walk.specs.NodeLaws.{op-tells, reach-leaf}
@@ -25,6 +24,12 @@ use Rattle.plir_walk.specs.ThinnedLaws.{thinned-none, thinned-both}
 use Rattle.plir_passes.specs.Legal.{is_kind}
 use Rattle.plir_passes.specs.Dead.{is_removable, IsUsedBy, AreDead}
 use Rattle.plir_passes.specs.Swept.{IsSwept, without_op, without_ops}
+
+-- among images that are no operations there is no operation
+no-op-image : (b : Bool) (is : List ℕ) (f : ℕ → IRNode) → ((i : ℕ) (p : Ptr OperationKind) → f i ≡ Operation p → ⊥)
+    → (p : Ptr OperationKind) → Has (cond b (map f is) []) (Operation p) → ⊥
+no-op-image true is f each p h = (let r = Has-map f is (Operation p) h in each r.0 p r.1.1)
+no-op-image false is f each p h = h
 
 module _ {K A T : Type 0} (effect ends : K → Bool) where
   pub swept-none : (s : ContextView K A T) → IsForest (look s) → IsSwept effect ends s s
@@ -89,9 +94,8 @@ module _ {K A T : Type 0} (effect ends : K → Bool) where
     }
 
   -- one that is dead is erased
-  module _ (s t : ContextView K A T) (b : Ptr BasicBlockKind) (p : Ptr OperationKind) (w : IsForest (look s))
-      (d : IsUsedBy effect ends s [] p)
-      (over : parent_of s (Operation p) ≡ Some (BasicBlock b)) (e : IsErased s.nodes t.nodes (Operation p))
+  module _ (s t : ContextView K A T) (p : Ptr OperationKind) (w : IsForest (look s)) (d : IsUsedBy effect ends s [] p)
+      (e : IsErased s.nodes t.nodes (Operation p))
       (thin : IsThinned s t) (freed : t ≡ without_tree s (Operation p)) where
     abbrev x : IRNode
     x = Operation p
@@ -102,11 +106,17 @@ module _ {K A T : Type 0} (effect ends : K → Bool) where
     gone-now : is_live t x ≡ false
     gone-now = e.gone x (zero, refl)
 
-    live-apart : (n : IRNode) → IsLive t n → n ≡ x → ⊥
+    pub live-apart : (n : IRNode) → IsLive t n → n ≡ x → ⊥
     live-apart n k is = not-both (is_live t x) (subst (IsLive t) is k) gone-now
 
+    -- it stands in no operation, whose children are regions
     in-block : (q : Ptr OperationKind) → parent_of s x ≡ Some (Operation q) → ⊥
-    in-block q h = (let e = same_Some (Operation q) (BasicBlock b) (sym h ∙ over) in let z : ⊥ = cc e in z)
+    in-block q h = no-op-image (is_live s (Operation q)) (children_at s.nodes.regions_in_op q.slot)
+        (region_node s.nodes) (λ i r f. cc f) p (w.parent_child (Operation q) x h)
+
+    -- each other node stays
+    pub others-stay : (n : IRNode) → IsLive s n → (n ≡ x → ⊥) → IsLive t n
+    others-stay n l ne = e.live n (apart n ne) ∙ l
 
     -- the tree of an operation without regions is that operation
     alone : (k : ℕ) → 0 < k → post_order (node_children s.nodes) k x ≡ x ∷ []
@@ -126,7 +136,7 @@ module _ {K A T : Type 0} (effect ends : K → Bool) where
       away = λ q h. elim h [ inl is ↦ subst (λ z. is_live t (Operation z) ≡ false) is gone-now | inr nay ↦ absurd nay ];
       left = λ n l. elim (op-tells n p) [
         | inl is ↦ inr (p, is.1, inl refl)
-        | inr ne ↦ inl (e.live n (apart n ne.1) ∙ l)
+        | inr ne ↦ inl (others-stay n l ne.1)
       ];
       regions = λ q k. e.children (Operation q) (apart (Operation q) (live-apart (Operation q) k)) (in-block q);
       thinned = thin;

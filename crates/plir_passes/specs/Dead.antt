@@ -33,6 +33,11 @@ module _ {K A T : Type 0} where
   IsUsedByNone s p = (q : Ptr OperationKind) → IsLive s (Operation q) → q ≢ p → Uses s q p → ⊥
 
   module _ (effect ends : K → Bool) where
+    -- an operation is of a kind that may go, and has no region
+    pub record MayGo (s : ContextView K A T) (p : Ptr OperationKind) : Type 0 where
+      pub removable : is_kind (is_removable effect ends) (kind_of s p) ≡ true
+      pub no_region : children s (Operation p) ≡ []
+
     -- An operation is of a kind that may go, has no region, and no other operation uses a result of it but those of a
     -- list.
     pub record IsUsedBy (s : ContextView K A T) (others : List (Ptr OperationKind))
@@ -46,10 +51,6 @@ module _ {K A T : Type 0} where
     abbrev pub AreDead : ContextView K A T → List (Ptr OperationKind) → Type 0
     AreDead s [] = Unit {0}
     AreDead s (p ∷ ps) = IsUsedBy s ps p × AreDead s ps
-
-    -- no child of a node is an operation that may go and that no other uses
-    abbrev pub HasNoDeadChild : ContextView K A T → IRNode → Type 0
-    HasNoDeadChild s n = (p : Ptr OperationKind) → Has (children s n) (Operation p) → IsUsedBy s [] p → ⊥
 
     -- No operation is left below a node that may go and that no other uses. One that nothing but a dead operation outside
     -- uses is not of these.

@@ -11,6 +11,7 @@
 --   Replacing  Replacements: what a rewrite may do
 --   Dead       IsUsedBy, AreDead, HasNoDead: dead operations, and that none is left
 --   Swept      IsSwept: dead operations are gone, and nothing else has changed
+--   Worklists  which operations are listed, and which wait to be looked at
 --   Passing    how far the loops over a block have come
 pub mod Legal
 pub mod Kept
@@ -21,4 +22,5 @@ pub mod ConversionLaws
 pub mod Replacing
 pub mod Dead
 pub mod Swept
+pub mod Worklists
 pub mod Passing

@@ -1,5 +1,5 @@
 -- The loop over the operations of a block, as they are replaced.
-use Rattle.std.specs.Prelude.{◌≡◌, ℕ, suc, Bool, false, cond, List, [], ◌∷◌, ◌++◌, Option, Some, None}
+use Rattle.std.specs.Prelude.{◌≡◌, Bool, false, List, ◌∷◌, ◌++◌, Option}
 use Rattle.std.specs.Prelude.{option_map, Result, Ok, Err, ◌⊎◌}
 use Rattle.plir_data.specs.declared.op_set.OpKind.{OpKind}
 use Rattle.plir_store.specs.Members.{Has, head}
@@ -9,7 +9,6 @@ use Rattle.plir_core.specs.declared.ptr.BasicBlock.{BasicBlock as BasicBlockKind
 use Rattle.plir_core.specs.declared.ptr.IRNode.{IRNode}
 use Rattle.plir_core.specs.declared.ptr.IRNode.TheVariants.{Operation, BasicBlock}
 use Rattle.plir_core.specs.ContextView.{ContextView, children}
-use Rattle.plir_walk.specs.Tree.{same}
 use Rattle.plir_passes.specs.Legal.{is_illegal}
 use Rattle.plir_passes.specs.Rewrites.{Rewrites, IsRewrite}
 
@@ -34,9 +33,3 @@ abbrev pub IsHanded : {K A T E X : Type 0} → (OpKind K → Bool) → Rewrites 
 IsHanded illegal rewrites s b op answer t =
     ((is_illegal illegal s (Operation op) ≡ false) × (said answer ≡ Ok tt) × (t ≡ s))
     ⊎ IsRewrite illegal rewrites (record { before = s; block = b; op = op; answer = said answer; after = t })
-
--- how many of a list of nodes there are up to an operation
-abbrev pub left_upto : List IRNode → Option (Ptr OperationKind) → ℕ
-left_upto ns None = 0
-left_upto [] (Some p) = 0
-left_upto (n ∷ ns) (Some p) = cond (same n (Operation p)) 1 (suc (left_upto ns (Some p)))

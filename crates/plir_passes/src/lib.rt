@@ -5,6 +5,7 @@ mod conversion;
 mod dead_code;
 mod effects;
 pub mod laws;
+mod worklist;
 
 pub use conversion::{Conversion, convert, convert_block};
 pub use dead_code::{eliminate_dead_code, is_dead};

@@ -18,3 +18,12 @@ pub mod OpAgain
 pub mod OpSteps
 pub mod OpMade
 pub mod OpWhole
+pub mod LevelsFirst
+pub mod Deciding
+pub mod OneToken
+pub mod OneByOne
+pub mod DecidedTypes
+pub mod DecidedValues
+pub mod DecidedAttrs
+pub mod DecidedOps
+pub mod DecidedTexts

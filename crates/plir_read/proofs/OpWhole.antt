@@ -14,6 +14,7 @@ use Rattle.plir_attr_text.specs.laws.StepLaws.{bind_ok, done, ok_is, Ends-bind, 
 use Rattle.plir_attr_text.specs.Steps.{◌>>=◌}
 use Rattle.plir_attr_text.specs.TypeGrammar.{IsText}
 use Rattle.plir_attr_text.specs.Wholes.{end_at, whole}
+use Rattle.plir_read.specs.FaultsMet.{Meets}
 use Rattle.plir_read.specs.OpGrammar.{OpWithin}
 use Rattle.plir_read.specs.OpReading.{op_at}
 use Rattle.plir_read.specs.OpTerms.{OpTerm}
@@ -27,6 +28,19 @@ op_text_found n bytes w e = whole_found (OpWithin n) 41 (op_at n) (op_found n) b
 pub op_text_refused : (n : ℕ) (bytes : List ℕ) (f : Fault) → whole (op_at n) bytes ≡ Err f → (w : OpTerm) →
     IsText (OpWithin n) bytes w → ⊥
 op_text_refused n bytes f e w s = refused (op_at n) (OpWithin n) (op_within_again n) bytes f e w s
+
+-- a text stands for an operation or meets a fault
+pub stands_or_meets : (n : ℕ) (text : List ℕ) → ((w : OpTerm) × IsText (OpWithin n) text w) ⊎
+    ((f : Fault) × Meets n text f)
+stands_or_meets n text = at (whole (op_at n) text) refl
+  where
+    at : (r : Result OpTerm Fault) → whole (op_at n) text ≡ r → ((w : OpTerm) × IsText (OpWithin n) text w) ⊎
+        ((f : Fault) × Meets n text f)
+    at (Ok w) e = inl (w, op_text_found n text w e)
+    at (Err f) e = inr (f, e)
+
+pub one_fault : (n : ℕ) (text : List ℕ) (f g : Fault) → Meets n text f → Meets n text g → f ≡ g
+one_fault n text f g d e = let both = sym d ∙ e in cc
 
 -- a fault that is told is the one that was met
 pub told : {X : Type 0} (P : Type 0) (stop : Stop) (f : Fault) (read : Result X Fault) → f ≡ fault_of stop →

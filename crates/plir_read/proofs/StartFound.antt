@@ -64,14 +64,14 @@ id_found bytes x e =
 
 -- ---- names of results
 
-abbrev by_equals : Bool → List Token
+abbrev pub by_equals : Bool → List Token
 by_equals b = sign (separator 61 b) ∷ []
 
 equals_found : (bytes : List ℕ) (s : Bool × List ℕ) → separator_at 61 bytes ≡ Ok s → Begins bytes (by_equals s.0) s.1
 equals_found bytes s e = (s.1, separator_found 61 bytes s e, refl)
 
 -- names up to `=`
-abbrev Names : List (List ℕ) → List Token → Type 0
+abbrev pub Names : List (List ℕ) → List Token → Type 0
 Names ws ts = Chain SpellsIdentifier by_equals ws ts
 
 names_found : IsSound Names names_at
@@ -80,7 +80,7 @@ names_found bytes x e =
     several_found SpellsIdentifier by_equals (separator_at 61) equals_found name_at name_found _ bytes x e
 
 -- no name, or names up to `=`
-abbrev NamesBefore : List (List ℕ) → List Token → Type 0
+abbrev pub NamesBefore : List (List ℕ) → List Token → Type 0
 NamesBefore [] ts = ts ≡ []
 NamesBefore (w ∷ ws) ts = Names (w ∷ ws) ts
 
@@ -104,7 +104,7 @@ pub record Opened (bytes : List ℕ) (ws : List (List ℕ)) (k : HeadKind) (rest
   pub names : List Token
   pub behind : List ℕ
   pub begins : Begins bytes names behind
-  spelled : NamesBefore ws names
+  pub spelled : NamesBefore ws names
   pub id : look behind ≡ Ok (word (id_of k), rest)
 
 pub start_found : (bytes : List ℕ) (x : (List (List ℕ) × HeadKind) × List ℕ) → start_at bytes ≡ Ok x →

@@ -4,6 +4,7 @@
 --   OpTerms      operations as they are written
 --   OpGrammar    which tokens stand for an operation
 --   OpReading    op_at: operations as they are read, with the first fault that is met
+--   FaultsMet    Meets: which fault a text meets
 --   Heads        what operations and blocks hold, by what is written before their bodies
 --   OpsStanding  IsOpAt: the written operation that a node of a context stands for; StandsForOp: the one that a text
 --                stands for
@@ -18,6 +19,7 @@ pub mod Suffixes
 pub mod OpTerms
 pub mod OpGrammar
 pub mod OpReading
+pub mod FaultsMet
 pub mod Room
 pub mod Stopping
 pub mod Heads

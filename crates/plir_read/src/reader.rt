@@ -8,6 +8,7 @@ ghost use Rattle.plir_attr_text.specs.Names.{AreNamed};
 ghost use Rattle.plir_attr_text.specs.TypeGrammar.{IsText};
 ghost use Rattle.plir_attr_text.specs.TypesWritten.{IsWrittenIn};
 ghost use Rattle.plir_attr_text.specs.Wholes.{whole};
+ghost use Rattle.plir_read.specs.FaultsMet.{Meets};
 ghost use Rattle.plir_read.specs.HeldTypes.{IsHeldByOp};
 ghost use Rattle.plir_read.specs.Keeping.{KeepsOlder};
 ghost use Rattle.plir_read.specs.OpGrammar.{OpWithin};
@@ -57,10 +58,10 @@ fn whole_op<D: OpSet>(
 /// refused, they are written in it. `TooManyNodes` comes only where the text, as far as it is read, has more nodes than
 /// the context had room for: one of them would pass the limit, or the slot numbers of its kind are spent.
 ///
-/// A fault stands at the text's end where the text ends within a token or before one, and at the first character of a
-/// token that can't stand there; the first character of a level that is one too many comes before any fault inside it.
-/// A forward reference is refused at its id, and so is an operation before which another number of names stands than
-/// it has results.
+/// A fault is the first that the text meets. It stands at the text's end where the text ends within a token or before
+/// one, and at the first character of a token that can't stand there; the first character of a level that is one too
+/// many comes before any fault inside it. A forward reference is refused at its id, and so is an operation before which
+/// another number of names stands than it has results.
 pub fn read_op<D: OpSet>(
     alloc: Global,
     ctx: &mut Context<D>,
@@ -70,6 +71,7 @@ pub fn read_op<D: OpSet>(
     ensures made { IfOk result (λ p. IsMade ctx.old.nodes ctx.new.nodes (IRNode.Operation p)) }
     ensures slots { IfOk result (λ p. IsMadeInOrder ctx.old.nodes ctx.new.nodes (IRNode.Operation p)) }
     ensures refused { IfErr result (λ e. IsOfText e.fault → (w : OpTerm) → IsText (OpWithin 200) text.now w → ⊥) }
+    ensures met { IfErr result (λ e. IsOfText e.fault → Meets 200 text.now e.fault) }
     ensures placeless { IfErr result HasNoPlace }
     ensures come { IfOk result (λ p. (w : OpTerm) → IsText (OpWithin 200) text.now w →
         HaveCome ctx.old.nodes ctx.new.nodes (op_count w)) }

@@ -42,8 +42,9 @@ fn uses_name<D: OpSet>(key: &str, attribute: &AttrObj<D>) -> bool
     name_under(key, attribute).is_some()
 }
 
-// How many names an operation uses: as many as it has entries, without those that use none.
-fn num_names_held<D: OpSet>(ctx: &Context<D>, op: Ptr<Operation>) -> usize
+/// How many names stand as identifiers in an operation's dictionary, under any key but that of a symbol's own name: as
+/// many as a builtin operation uses. An own kind that uses names as those do can answer so.
+pub fn num_names_held<D: OpSet>(ctx: &Context<D>, op: Ptr<Operation>) -> usize
     requires { IsLive ctx.now (AnyNode.Operation op) }
     ensures { result ≡ length (names_in names_held (op_at ctx.now op)) }
 {
@@ -58,8 +59,8 @@ fn num_names_held<D: OpSet>(ctx: &Context<D>, op: Ptr<Operation>) -> usize
     count
 }
 
-// The name at a place among those that an operation uses.
-fn name_held<D: OpSet>(ctx: &Context<D>, op: Ptr<Operation>, place: usize) -> &Identifier
+/// The name at a place among these, in the order of the keys.
+pub fn name_held<D: OpSet>(ctx: &Context<D>, op: Ptr<Operation>, place: usize) -> &Identifier
     requires live { IsLive ctx.now (AnyNode.Operation op) }
     requires below { place < length (names_in names_held (op_at ctx.now op)) }
     ensures { slice_get (names_in names_held (op_at ctx.now op)) place ≡ Some result.now }
@@ -87,8 +88,8 @@ fn is_text<D: OpSet>(attribute: &AttrObj<D>, text: &str) -> bool
     }
 }
 
-// Whether a symbol is private.
-fn is_marked_private<D: OpSet>(ctx: &Context<D>, op: Ptr<Operation>) -> bool
+/// Whether the text `private` stands under [`ATTR_KEY_SYM_VISIBILITY`].
+pub fn is_marked_private<D: OpSet>(ctx: &Context<D>, op: Ptr<Operation>) -> bool
     requires { IsLive ctx.now (AnyNode.Operation op) }
     ensures { result ≡ is_private_in is_marked_private (op_at ctx.now op) }
 {

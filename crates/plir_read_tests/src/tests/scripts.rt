@@ -100,6 +100,19 @@ fn texts_that_stand_for_no_operation(rt: HostRuntime) -> Result<(), Mismatch> {
 }
 
 #[test]
+fn the_first_of_several_faults_is_told(rt: HostRuntime) -> Result<(), Mismatch> {
+    let script = "
+        read a, b = builtin.module @ => NResultsVerifyErr(0, 2) at 1:8
+        read a, b = builtin.forward_ref @ => ForwardRefOpExistenceErr at 1:8
+        read a b = builtin.module @ => Unexpected at 1:3
+        read builtin.module @m {^b(): x = builtin.module @ => NResultsVerifyErr(0, 1) at 1:30
+        read x = builtin.constant <builtin.integer <256: ui8>> : builtin.integer si4294967296 => IntegerOutOfRange at 1:40
+        read x = builtin.constant <builtin.integer <9: i0>> : y => IntegerWidthUnsupported at 1:43
+        read x = builtin.constant <builtin.unit> : builtin.integer si4294967296 y => IntegerOutOfRange at 1:57";
+    play_in(rt.alloc(), 100, script)
+}
+
+#[test]
 fn names_with_nothing_before_their_suffix_give_none(rt: HostRuntime) -> Result<(), Mismatch> {
     let script = "
         read _op1v1_res0 = builtin.constant <builtin.integer <0: si64>> : builtin.integer si64 => o0 op1v1_res0 = builtin.constant <builtin.integer <0: si64>> : builtin.integer si64

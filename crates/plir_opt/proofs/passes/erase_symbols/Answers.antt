@@ -13,3 +13,9 @@ returns-clause-clean g c =
     c.eliminate_dead_symbols.ensures.clean
     (subst (λ q. AllAgree g.D.OpSet.is_symbol g.D.OpSet.is_symbol_table c.args.ctx.now q) (sym c.new-tables.ensures)
     c.no_tables_agree.ensures.agree)
+
+pub returns-clause-refused : goal.returns-clause-refused
+returns-clause-refused g c =
+    c.eliminate_dead_symbols.ensures.refused
+    (subst (λ q. AllAgree g.D.OpSet.is_symbol g.D.OpSet.is_symbol_table c.args.ctx.now q) (sym c.new-tables.ensures)
+    c.no_tables_agree.ensures.agree)

@@ -1,14 +1,12 @@
+use Rattle.std.proofs.Common.{take}
 use Rattle.plir_core.specs.declared.ptr.IRNode.TheVariants.{Operation}
 use Rattle.plir_core.specs.ContextView.{IsLive}
-use Rattle.std.proofs.Common.{◌≡◌, true}
-use Rattle.plir_opt.specs.Verified.{IsVerified}
-use Rattle.plir_opt.proofs.Passing.{Leads}
+use Rattle.plir_opt.specs.Passed.{AreRun}
 use Rattle.plir_opt.proofs.transform.run_passes.Given as goal
 
+-- the passes so far were run
 abbrev pub invariant-loop-pass : goal.invariant-loop-pass
 invariant-loop-pass g l =
     IsLive l.ctx (Operation l.root)
-    × Leads g.D.EffectSet.has_effect g.D.OpSet.is_terminator g.D.OpSet.is_symbol g.D.OpSet.is_symbol_table
-    g.D.SymbolNames.is_private g.D.SymbolNames.names_used l.root
-    (λ s. l.verify ≡ true → IsVerified g.D.OpSet g.D.SymbolUserSet.uses_hold s l.root) l.passes l.pass-index l.fn.ctx
-    l.ctx
+    × AreRun g.D.OpSet g.D.EffectSet.has_effect g.D.SymbolNames.is_private g.D.SymbolNames.names_used l.root
+    g.D.SymbolUserSet.uses_hold g.D.VerifySet.rule l.verify (take l.pass-index l.passes) l.fn.ctx l.ctx

@@ -28,6 +28,11 @@ returns-in-Err-clause-refused g c =
     (ap (whole (op_at 200)) (sym c.as_bytes-bytes.ensures.value) ∙
     told _ c.in-Err.stop _ _ c.placed.ensures.fault c.in-Err.ensures.read is) w s
 
+pub returns-in-Err-clause-met : goal.returns-in-Err-clause-met
+returns-in-Err-clause-met g c =
+    λ is. ap (whole (op_at 200)) (sym c.as_bytes-bytes.ensures.value) ∙
+    told _ c.in-Err.stop _ _ c.placed.ensures.fault c.in-Err.ensures.read is
+
 pub returns-in-Ok-clause-named : goal.returns-in-Ok-clause-named
 returns-in-Ok-clause-named g c = behind_named _ _ _ _ ([], sym c.as_bytes-bytes.ensures.value) c.in-Ok.ensures.named
 

@@ -1,0 +1,5 @@
+mod Shapes
+mod Staying
+mod Names
+mod Moving
+mod Passing

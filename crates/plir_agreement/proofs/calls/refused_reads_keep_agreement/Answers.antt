@@ -1,0 +1,7 @@
+use Rattle.plir_agreement.proofs.Moving.{older-lasts}
+use Rattle.plir_agreement.proofs.calls.refused_reads_keep_agreement.Goals as goal
+
+pub returns : goal.returns
+returns g c = λ tables s t w w'.
+    older-lasts g.D.OpSet.is_symbol g.D.OpSet.is_symbol_table tables s t (c.stayed_tables_agree.ensures s t)
+    (c.lawful_changes.ensures.forest s w) (c.lawful_changes.ensures.forest t w')

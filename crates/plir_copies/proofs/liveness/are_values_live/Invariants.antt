@@ -1,0 +1,8 @@
+use Rattle.std.proofs.Common.{map}
+use Rattle.std.specs.Prelude.{All}
+use Rattle.std.specs.Map.Iter.{deref_pair}
+use Rattle.plir_core.specs.ContextView.{IsValueLive}
+use Rattle.plir_copies.proofs.liveness.are_values_live.Given as goal
+
+abbrev pub invariant-entries : goal.invariant-entries
+invariant-entries g l = All (λ e. IsValueLive l.ctx e.1) (map deref_pair l.yielded)

@@ -1,0 +1,13 @@
+//! Copies: maps that say what stands in place of values and blocks, and the copying of operations under them.
+#![tactic(auto)]
+
+mod blocks;
+mod copying;
+mod liveness;
+mod reading;
+mod value_map;
+
+pub use blocks::clone_block_into;
+pub use copying::clone_op_into;
+pub use liveness::images_stay_live;
+pub use value_map::ValueMap;

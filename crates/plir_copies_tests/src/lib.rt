@@ -1,0 +1,5 @@
+//! Tests of `plir_copies`, in a crate of their own, since a crate that holds its tests is proved twice, once with them.
+#![tactic(auto)]
+
+#[cfg(test)]
+mod tests;

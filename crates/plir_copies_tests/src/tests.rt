@@ -1,0 +1,3 @@
+//! Copies of operations, as scripts.
+mod copying;
+mod scripts;

@@ -1,0 +1,106 @@
+-- A walk that lists the operations that may go.
+use Rattle.std.proofs.Common.{◌≡◌, ◌≢◌, Bool, List, [], ◌∷◌, inl, inr, refl, sym, ap, subst, ◌∙◌}
+use Rattle.std.specs.declared.ops.ControlFlow.{ControlFlow}
+use Rattle.std.specs.declared.ops.ControlFlow.TheVariants.{Continue, Break}
+use Rattle.plir_store.specs.Members.{Has}
+use Rattle.plir_core.specs.declared.ptr.Ptr.{Ptr}
+use Rattle.plir_core.specs.declared.ptr.Operation.{Operation as OperationKind}
+use Rattle.plir_core.specs.declared.ptr.IRNode.{IRNode}
+use Rattle.plir_core.specs.declared.ptr.IRNode.TheVariants.{Operation, Region, BasicBlock}
+use Rattle.plir_core.specs.ContextView.{ContextView, IsAncestor}
+use Rattle.plir_core.specs.Forest.{look, IsForest}
+use Rattle.plir_walk.specs.declared.config.TheConstants.{WALKCONFIG_PREORDER_FORWARD as pre_forward}
+use Rattle.plir_walk.specs.declared.interruptible.WalkContinue.{WalkContinue}
+use Rattle.plir_walk.specs.declared.interruptible.WalkContinue.TheVariants.{Advance, Skip}
+use Rattle.plir_walk.specs.Calls.{Call, Relation, Chain, nodes_of, NoBreak}
+use Rattle.plir_walk.specs.OperationWalks.{OperationRelation, AtOperations, WalkedOperations, OperationAnswers}
+use Rattle.plir_walk.specs.TreeLaws.{reached-under, under-reached}
+use Rattle.plir_walk.specs.Walked.{IsCallUnder}
+use Rattle.plir_walk.specs.NodeLaws.{same-op}
+use Rattle.plir_passes.specs.Dead.{MayGo}
+use Rattle.plir_passes.specs.declared.worklist.Worklist.{Worklist}
+use Rattle.plir_passes.specs.Worklists.{AreListed, IsListedAt}
+use Rattle.plir_passes.proofs.Lists.{listed-as, listed-both, listed-none}
+
+module _ {K A T : Type 0} (effect ends : K → Bool) (s : ContextView K A T) {B : Type 0} (root : Ptr OperationKind)
+    (post : OperationRelation (ContextView K A T) Worklist B)
+    (each : (d : ContextView K A T) (u : Worklist) (p : Ptr OperationKind) (a : ControlFlow B WalkContinue)
+    (d' : ContextView K A T) (u' : Worklist) → post d u p a d' u' →
+    (d' ≡ d) × (d ≡ s → IsListedAt effect ends s u p a u')) where
+  abbrev OneCall : Type 0
+  OneCall = Call (ContextView K A T) Worklist B
+
+  abbrev call : Relation (ContextView K A T) Worklist B
+  call = IsCallUnder look (Operation root) (AtOperations post)
+
+  -- what a call is
+  record IsMade (x : OneCall) : Type 0 where
+    pub op : Ptr OperationKind
+    pub node : x.node ≡ Operation op
+    pub stays : x.after ≡ x.before
+    pub made : IsListedAt effect ends s x.state op x.answer x.left
+
+  made-at : (x : OneCall) (n : IRNode) → x.node ≡ n → x.before ≡ s →
+      AtOperations post x.before x.state n x.answer x.after x.left → IsMade x
+  made-at x (Operation p) e f h =
+      let k = each x.before x.state p x.answer x.after x.left h in
+      record { op = p; node = e; stays = k.0; made = k.1 f }
+  made-at x (Region p) e f h = absurd h
+  made-at x (BasicBlock p) e f h = absurd h
+
+  -- an operation that was called may go
+  abbrev IsCalled : List OneCall → Ptr OperationKind → Type 0
+  IsCalled calls q = Has (nodes_of calls) (Operation q) × MayGo effect ends s q
+
+  goes-on : (u : Worklist) (p : Ptr OperationKind) (a : ControlFlow B WalkContinue) (u' : Worklist) →
+      ((b : B) → a ≢ Break b) → IsListedAt effect ends s u p a u' →
+      (a ≡ Continue Advance) × AreListed (λ q. (q ≡ p) × MayGo effect ends s q) u u'
+  goes-on u p (Continue Advance) u' k h = (refl, h)
+  goes-on u p (Continue Skip) u' k h = absurd h
+  goes-on u p (Break b) u' k h = absurd (k b refl)
+
+  all-listed : (calls : List OneCall) (d : ContextView K A T) (u : Worklist) (d' : ContextView K A T) (u' : Worklist) →
+      d ≡ s → Chain call d u calls d' u' → NoBreak calls →
+      ((x : OneCall) → Has calls x → x.answer ≡ Continue Skip → ⊥) × AreListed (IsCalled calls) u u'
+  all-listed [] d u d' u' e h k = (λ x i. absurd i, listed-none u u' h.1 (λ q c. c.0))
+  all-listed (y ∷ ys) d u d' u' e h k =
+      let m = made-at y y.node refl (h.0 ∙ e) h.2.made in
+      let first = goes-on y.state m.op y.answer y.left k.0 m.made in
+      let rest = all-listed ys y.after y.left d' u' (m.stays ∙ h.0 ∙ e) h.3 k.1 in (
+        λ x i f. elim i [
+          | inl same ↦ (let z : ⊥ = cc (first.0, ap (λ (c : OneCall). c.answer) same, f) in z)
+          | inr more ↦ rest.0 x more f
+        ],
+        listed-both u y.left u' (λ q c. elim c.0 [
+          | inl same ↦ inl (same-op q m.op (sym same ∙ m.node), c.1)
+          | inr more ↦ inr (more, c.1)
+        ]) (λ q c. (inl (m.node ∙ ap Operation (sym c.0)), c.1)) (λ q c. (inr c.0, c.1))
+            (subst (λ z. AreListed (λ q. (q ≡ m.op) × MayGo effect ends s q) z y.left) h.1 first.1) rest.1,
+      )
+
+  -- a walk that went to its end has listed what may go at or below the root
+  pub walked-listed : IsForest (look s) → (answer : ControlFlow B WalkContinue) (k : WalkContinue) → answer ≡ Continue k
+      → (u u' : Worklist) → WalkedOperations look pre_forward post s u (Operation root) answer u' →
+      AreListed (λ q. IsAncestor s (Operation root) (Operation q) × MayGo effect ends s q) u u'
+  walked-listed forest answer k is u u' walked =
+      let answers = subst (λ z. OperationAnswers pre_forward (look s).children (Operation root) walked.calls z) is
+      walked.walk.answers in
+      let all = all-listed walked.calls s u s u' refl walked.chain answers.1 in
+      listed-as u u'
+      (λ q c. (under-reached (look s) forest (Operation q) (Operation root) ((answers.2 (Operation q)).0 c.0).0.0, c.1))
+      (λ q c. (
+        (answers.2 (Operation q)).1 (
+          reached-under (look s) forest c.0.0 (Operation q) (Operation root) c.0.1,
+          λ out. all.0 out.skipped.0 out.skipped.1 out.skipped.3,
+        ) refl,
+        c.1,
+      )) all.1
+
+-- what is said of equal contexts and lists
+pub listed-again : {K A T B : Type 0} (effect ends : K → Bool) {c d : ContextView K A T} {u v u' v' : Worklist}
+    (p : Ptr OperationKind) (a : ControlFlow B WalkContinue) → c ≡ d → u ≡ v → u' ≡ v' →
+    IsListedAt effect ends c u p a u' → IsListedAt effect ends d v p a v'
+listed-again effect ends {c} {d} {u} {v} {u'} {v'} p a context before after h =
+    subst (λ z. IsListedAt effect ends d v p a z) after
+    (subst (λ z. IsListedAt effect ends d z p a u') before
+    (subst (λ z. IsListedAt effect ends z u p a u') context h))

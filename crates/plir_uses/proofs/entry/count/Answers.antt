@@ -1,0 +1,25 @@
+use Rattle.std.proofs.Common.{◌≡◌, ◌∙◌, ◌<◌, length, sym, rules, arith}
+use Rattle.plir_uses.proofs.Walks.{within_here, within_on, count_on}
+use Rattle.plir_uses.proofs.entry.count.Goals as goal
+
+pub index-requires : goal.index-requires
+index-requires c =
+    let n : c.loop-step._step < length c.args.entries.now.items = search rules in
+    let h = within_here c.args.entries.now.items c.loop-step._step c.in-Some.x c.loop-step.at
+    (sym c.get.ensures ∙ c.in-Some.is) n c.loop-step.invariant.within in
+    search rules
+
+pub loop-step-preserved : goal.loop-step-preserved
+loop-step-preserved c =
+    let n : c.loop-step._step < length c.args.entries.now.items = search rules in
+    let at = sym c.get.ensures ∙ c.in-Some.is in
+    let h = within_here c.args.entries.now.items c.loop-step._step c.in-Some.x c.loop-step.at at n
+    c.loop-step.invariant.within in
+    let one = count_on c.args.entries.now.items c.loop-step._step c.in-Some.x c.loop-step.at at n c.index.result.now
+    c.index.ensures h in
+    record {
+      rest = omega (arith, one, c.loop-step.invariant.rest);
+      counted = omega (arith, c.loop-step.invariant.counted);
+      within = within_on c.args.entries.now.items c.loop-step._step c.in-Some.x c.loop-step.at at n c.index.result.now
+          c.index.ensures h c.loop-step.invariant.within;
+    }

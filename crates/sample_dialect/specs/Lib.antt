@@ -1,0 +1,4 @@
+-- What the contracts of this crate cite.
+--
+--   Answers   what the queries of the kinds answer
+pub mod Answers
