@@ -24,6 +24,7 @@ use Rattle.plir_core.specs.Edits.{SameNodes, with_new_op, with_new_block, with_n
 use Rattle.plir_core.specs.Nodes.{Nodes, ptr_at, is_node_live}
 use Rattle.plir_core.specs.Stored.{Seat, op, region, block, seat_of}
 use Rattle.plir_core.specs.ContextView.{ContextView, IsLive, is_live, entity_node, types_from, operands_of, operands_in}
+use Rattle.plir_core.specs.ContextView.{successors_of, successors_in}
 use Rattle.plir_core.specs.WellFormed.{IsWellFormed}
 use Rattle.plir_core.specs.Erase.{without_node}
 use Rattle.plir_core.specs.Uses.{Uses, is_seated, hit, values_from, blocks_in, uses_in, uses_held, uses_of, Counts}
@@ -118,6 +119,33 @@ Counts-rewritten {K} {A} u mid now t i old new read was is c low high =
     let f = ap (uses_in at) same in
     omega arith)
 
+-- an operation comes to use the node x once more and the node y once less
+pub Counts-swapped : {K A : Type 0} (u mid now : Uses) (t : Table (OpView K A)) (i : ℕ) (old new : OpView K A)
+    (x y : IRNode) → content_at t i ≡ Some old →
+    ((at : Seat) → uses_in at new + hit at y ≡ uses_in at old + hit at x) → Counts u (uses_of t) → mid ≡ with_use u x →
+    now ≡ without_use mid y → Counts now (uses_of (with_content t i new))
+Counts-swapped u mid now t i old new x y was swap c is is' =
+    let f : Seat → ℕ = λ at. uses_of t at + hit at x in
+    let up : Counts mid f = subst (λ z. Counts z f) (sym is) (Counts-with_use u (uses_of t) f x c (λ at. refl)) in
+    subst (λ z. Counts z (uses_of (with_content t i new))) (sym is') (Counts-without_use mid f
+    (uses_of (with_content t i new)) y up (λ at.
+    let e = uses-edited t i old new was at in
+    let a = swap at in
+    omega arith))
+
+-- a block comes in place of a successor
+pub Counts-redirected : {K A : Type 0} (u mid now : Uses) (t : Table (OpView K A)) (i n : ℕ) (o : OpView K A)
+    (x y : Ptr BasicBlockKind) (xs : List (Ptr BasicBlockKind)) → content_at t i ≡ Some o → slice_get o.successors n ≡
+    Some y → xs ≡ slice_set o.successors n x → Counts u (uses_of t) → mid ≡ with_use u (BasicBlock x) → now ≡
+    without_use mid (BasicBlock y) → Counts now (uses_of (with_content t i (record o { successors = xs })))
+Counts-redirected u mid now t i n o x y xs was there put =
+    let seen : Seat → Ptr BasicBlockKind → ℕ = λ at b. hit at (BasicBlock b) in
+    Counts-swapped u mid now t i o (record o { successors = xs }) (BasicBlock x) (BasicBlock y) was (λ at.
+    let a = ap (blocks_in at) put in
+    let b = sum_by-set (seen at) o.successors n x y (slice_get_within o.successors n y there) in
+    let d = ap (seen at) (get_or_from_slice_get o.successors n y y there) in
+    omega arith)
+
 -- An operation's operands are edited, and the use of a value is counted or taken off.
 module _ {K A : Type 0} (u u' : Uses) (t : Table (OpView K A)) (i n : ℕ) (o : OpView K A)
     (was : content_at t i ≡ Some o) (x : Value) (xs : List Value) (c : Counts u (uses_of t)) where
@@ -152,16 +180,11 @@ module _ {K A : Type 0} (u u' : Uses) (t : Table (OpView K A)) (i n : ℕ) (o : 
       ≡ with_use u (entity_node x.entity) → u' ≡ without_use mid (entity_node y.entity) → Counts u'
       (uses_of (with_content t i edited))
   Counts-replaced mid y there put is is' =
-      let f : Seat → ℕ = λ at. uses_of t at + hit at (entity_node x.entity) in
-      let up : Counts mid f = subst (λ z. Counts z f) (sym is) (Counts-with_use u (uses_of t) f (entity_node x.entity) c
-      (λ at. refl)) in
-      subst (λ z. Counts z (uses_of (with_content t i edited))) (sym is') (Counts-without_use mid f
-      (uses_of (with_content t i edited)) (entity_node y.entity) up (λ at.
-      let e = uses-edited t i o edited was at in
+      Counts-swapped u mid u' t i o edited (entity_node x.entity) (entity_node y.entity) was (λ at.
       let a = ap (values_from at) put in
       let b = sum_by-set (seen at) o.operands n x y (slice_get_within o.operands n y there) in
       let d = ap (seen at) (get_or_from_slice_get o.operands n y y there) in
-      omega arith))
+      omega arith) c is is'
 
 -- the operands of an operation by what it holds: s is made of the fields, and t is the value
 module _ {K A T : Type 0} (s t : ContextView K A T) (view : s ≡ t) (p : Ptr OperationKind) (n : ℕ) (o : OpView K A)
@@ -174,6 +197,14 @@ module _ {K A T : Type 0} (s t : ContextView K A T) (view : s ≡ t) (p : Ptr Op
 
   pub operand_there : (y : Value) → slice_get (operands_of t p) n ≡ Some y → slice_get o.operands n ≡ Some y
   operand_there y e = ap (λ xs. slice_get xs n) (sym listed) ∙ e
+
+  -- and its successors
+  pub successor_there : (y : Ptr BasicBlockKind) → slice_get (successors_of t p) n ≡ Some y → slice_get o.successors n ≡
+      Some y
+  successor_there y e =
+      let same : successors_of t p ≡ o.successors = ap (λ (z : ContextView K A T). successors_of z p) (sym view) ∙ ap
+      successors_in was in
+      ap (λ xs. slice_get xs n) (sym same) ∙ e
 
 pub count_none : {X : Type 0} (p : X → Bool) (xs : List X) → All (λ x. p x ≡ false) xs → count_by p xs ≡ 0
 count_none p [] a = refl

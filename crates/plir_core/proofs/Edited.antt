@@ -14,7 +14,9 @@ use Rattle.plir_data.specs.AttrLive.{IsAttrLive, IsLiveWith}
 use Rattle.plir_core.specs.Contents.{OpView, BlockView}
 use Rattle.plir_core.specs.declared.ptr.Ptr.{Ptr}
 use Rattle.plir_core.specs.declared.ptr.Operation.{Operation as OperationKind}
-use Rattle.plir_core.specs.ContextView.{ContextView, IsValueLive, operands_of}
+use Rattle.plir_core.specs.declared.ptr.BasicBlock.{BasicBlock as BasicBlockKind}
+use Rattle.plir_core.specs.declared.ptr.IRNode.TheVariants.{BasicBlock}
+use Rattle.plir_core.specs.ContextView.{ContextView, IsLive, IsValueLive, operands_of}
 use Rattle.plir_core.specs.WellFormed.{OpHoldsLive, BlockHoldsLive, IsWellFormed}
 use Rattle.plir_core.specs.Replaced.{replaced}
 use Rattle.plir_core.specs.Changes.{with_op_content, with_block_content}
@@ -66,6 +68,16 @@ module _ {K A T : Type 0} (own : A → List ℕ) (s t : ContextView K A T) (view
   operands_edited i u xs was keeps = op_edited i u (record u { operands = xs }) was refl (λ h. record {
     operands = keeps h.operands;
     successors = h.successors;
+    result_types = h.result_types;
+    attributes = h.attributes;
+  })
+
+  successors_edited : (i : ℕ) (u : OpView K A) (xs : List (Ptr BasicBlockKind)) → content_at s.nodes.ops i ≡ Some u →
+      (All (λ b. IsLive s (BasicBlock b)) u.successors → All (λ b. IsLive s (BasicBlock b)) xs) → IsWellFormed own
+      (with_op_content s i (record u { successors = xs }))
+  successors_edited i u xs was keeps = op_edited i u (record u { successors = xs }) was refl (λ h. record {
+    operands = h.operands;
+    successors = keeps h.successors;
     result_types = h.result_types;
     attributes = h.attributes;
   })
@@ -125,6 +137,14 @@ module _ {K A T : Type 0} (own : A → List ℕ) (s t : ContextView K A T) (view
       (record u { operands = xs }))
   operand_replaced i n u x xs was e l = operands_edited i u xs was
       (λ a. subst (All (IsValueLive s)) (sym e) (All-set (IsValueLive s) u.operands n x (value_live x l) a))
+
+  pub successor_replaced : (i n : ℕ) (u : OpView K A) (x : Ptr BasicBlockKind) (xs : List (Ptr BasicBlockKind)) →
+      content_at s.nodes.ops i ≡ Some u → xs ≡ slice_set u.successors n x → IsLive t (BasicBlock x) → IsWellFormed own
+      (with_op_content s i (record u { successors = xs }))
+  successor_replaced i n u x xs was e l =
+      let live : IsLive s (BasicBlock x) = subst (λ z. IsLive z (BasicBlock x)) (sym view) l in
+      successors_edited i u xs was (λ a. subst (All (λ b. IsLive s (BasicBlock b))) (sym e)
+      (All-set (λ b. IsLive s (BasicBlock b)) u.successors n x live a))
 
   pub operands_replaced : (i : ℕ) (u : OpView K A) (v w : Value) (xs : List Value) → content_at s.nodes.ops i ≡ Some u →
       xs ≡ map (replaced v w) u.operands → IsValueLive t w → IsWellFormed own (with_op_content s i

@@ -58,6 +58,7 @@ impl<D: ScriptSet> Layer<D> for NodeCalls {
             | "remove"
             | "replace"
             | "replace-all"
+            | "redirect"
             | "set"
             | "swap"
             | "take"

@@ -14,14 +14,15 @@ use plir_data::{AttrObj, Identifier, Location, OpSet};
 use std::alloc::Global;
 
 /// Does what a line says that changes contents: `insert OP PLACE VALUE`, `remove OP PLACE`, `replace OP PLACE VALUE`,
-/// `replace-all VALUE VALUE`, `set NODE KEY ATTRIBUTE`, `swap NODE KEY ATTRIBUTE`, `take NODE KEY`, `label BLOCK NAME`,
-/// `label BLOCK` or `at OP LINE COLUMN`.
+/// `replace-all VALUE VALUE`, `redirect OP PLACE BLOCK`, `set NODE KEY ATTRIBUTE`, `swap NODE KEY ATTRIBUTE`,
+/// `take NODE KEY`, `label BLOCK NAME`, `label BLOCK` or `at OP LINE COLUMN`.
 pub fn change<D: OpSet>(bench: &mut Bench<D>, line: Line<'_>) -> Result<(), Stop> {
     match line.command {
         "insert" => insert_operand(bench, line),
         "remove" => remove_operand(bench, line),
         "replace" => replace_operand(bench, line),
         "replace-all" => replace_all(bench, line),
+        "redirect" => set_successor(bench, line),
         "set" => set(bench, line),
         "swap" => swap(bench, line),
         "take" => take(bench, line),
@@ -72,6 +73,19 @@ fn replace_all<D: OpSet>(bench: &mut Bench<D>, line: Line<'_>) -> Result<(), Sto
     let value = made.value(ctx, line.first)?;
     let other = made.value(ctx, line.second)?;
     value.replace_all_uses_with(ctx, other);
+    Ok(())
+}
+
+// Puts a block in place of a successor.
+fn set_successor<D: OpSet>(bench: &mut Bench<D>, line: Line<'_>) -> Result<(), Stop> {
+    let (ctx, made) = (&mut bench.ctx, &bench.made);
+    let op = made.op(ctx, line.first)?;
+    let place = number(line.second)?;
+    let block = made.block(ctx, line.third)?;
+    if place >= op.get_num_successors(ctx) {
+        return Err(Stop::Refused);
+    }
+    op.set_successor(ctx, place, block);
     Ok(())
 }
 

@@ -1,5 +1,5 @@
-//! A list that is not changed once it is made.
-ghost use Rattle.std.specs.Prelude.{◌≡◌, ◌<◌, length, Some, IfOk, IsOk, slice_get};
+//! A list whose length never changes once it is made.
+ghost use Rattle.std.specs.Prelude.{◌≡◌, ◌<◌, length, Some, IfOk, IsOk, slice_get, slice_set};
 ghost use Rattle.std.specs.Mem.{FitsInMemory};
 
 use std::alloc::AllocError;
@@ -14,7 +14,7 @@ enum Items<T> {
     Many(Box<Vec<T>>),
 }
 
-/// A list that is not changed once it is made. One item stands in it, and more in memory of their own: so it takes 16
+/// A list whose length never changes once it is made. One item stands in it, and more in memory of their own: so it takes 16
 /// bytes where an item takes 8 or less.
 #[derive(Drop)]
 pub struct Few<T> {
@@ -61,6 +61,18 @@ impl<T: Copy> Few<T> {
             Items::None => unreachable!(),
             Items::One(item) => *item,
             Items::Many(items) => items[i],
+        }
+    }
+
+    /// Puts an item in place of the one at a place, from 0.
+    pub fn set(&mut self, i: usize, item: T)
+        requires { i < length self.old }
+        ensures { self.new ≡ slice_set self.old i item }
+    {
+        match &mut self.items {
+            Items::None => unreachable!(),
+            Items::One(only) => *only = item,
+            Items::Many(items) => items[i] = item,
         }
     }
 }

@@ -1,5 +1,5 @@
 //! What a context keeps its nodes in: values in numbered slots under versions, doubly linked lists of numbered
-//! children, and lists that are not changed once they are made.
+//! children, and lists of a fixed length.
 #![tactic(auto)]
 
 pub mod chains;

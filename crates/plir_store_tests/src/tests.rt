@@ -214,3 +214,14 @@ fn items_of_a_list_are_found_by_index(rt: HostRuntime) -> Result<(), Fail> {
     assert_eq!(rt; three.get(1), 8);
     Ok(())
 }
+
+#[test]
+fn an_item_is_put_in_place_of_another(rt: HostRuntime) -> Result<(), Fail> {
+    let mut one = list_of(rt.alloc(), &[7])?;
+    one.set(0, 5);
+    assert_eq!(rt; one.as_slice(), [5].as_slice());
+    let mut three = list_of(rt.alloc(), &[7, 8, 9])?;
+    three.set(1, 5);
+    assert_eq!(rt; three.as_slice(), [7, 5, 9].as_slice());
+    Ok(())
+}

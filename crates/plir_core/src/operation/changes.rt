@@ -1,7 +1,8 @@
-//! Calls that change an operation: its operands, attributes and location, where it is linked, its regions.
+//! Calls that change an operation: its operands, successors, attributes and location, where it is linked, its regions.
 ghost use Rattle.std.specs.Prelude.{◌≡◌, ◌<◌, ◌≤◌, Some, OnOk, OnErr, length, slice_get, slice_set, insert, remove};
 ghost use Rattle.std.specs.Prelude.{None, IfOk, IfErr, IfSome, option_map, IsSome, ◌-◌, ◌↔◌, true, false};
 ghost use Rattle.plir_core.specs.ContextView.{IsLive, IsValueLive, operands_of, attributes_of, location_of, IsAncestor};
+ghost use Rattle.plir_core.specs.ContextView.{successors_of};
 ghost use Rattle.plir_core.specs.ContextView.{parent_of, given_out, limit, children};
 ghost use Rattle.plir_core.specs.WellFormed.{IsWellFormed};
 ghost use Rattle.plir_core.specs.Changes.{with_op_edit, with_op_first, with_op_before, with_op_after};
@@ -91,6 +92,27 @@ impl Ptr<Operation> {
         ctx.nodes.op_mut(self).operands[i] = value;
         ctx.uses.raise_value(value);
         ctx.uses.lower_value(replaced);
+    }
+
+    /// Puts a block in place of the successor at a place, from 0.
+    pub fn set_successor<D: OpSet>(self, ctx: &mut Context<D>, i: usize, block: Ptr<BasicBlock>)
+        requires live { IsLive ctx.old (IRNode.Operation self) }
+        requires below { i < length (successors_of ctx.old self) }
+        requires block_live { IsLive ctx.old (IRNode.BasicBlock block) }
+        ensures after { ctx.new ≡ with_op_edit ctx.old self
+            (λ o. record o { successors = slice_set o.successors i block }) }
+        ensures whole { IsWellFormed D.attr_handles ctx.new }
+    {
+        prove!(self.is_live(ctx), "the operation is not live");
+        prove!(
+            i < self.get_num_successors(ctx),
+            "there is none at this place"
+        );
+        prove!(block.is_live(ctx), "the block is not live");
+        let replaced = self.get_successor(ctx, i);
+        ctx.nodes.op_mut(self).successors.set(i, block);
+        ctx.uses.raise(IRNode::BasicBlock(block));
+        ctx.uses.lower(IRNode::BasicBlock(replaced));
     }
 
     /// Takes the attribute under a key out, if there is one.

@@ -109,7 +109,7 @@ impl UseCounts {
     }
 
     /// Counts one use more of a node.
-    fn raise(&mut self, node: IRNode)
+    pub(crate) fn raise(&mut self, node: IRNode)
         ensures { self.new ≡ with_use self.old node }
     {
         match node {
@@ -120,7 +120,7 @@ impl UseCounts {
     }
 
     /// Counts one use fewer of a node.
-    fn lower(&mut self, node: IRNode)
+    pub(crate) fn lower(&mut self, node: IRNode)
         ensures { self.new ≡ without_use self.old node }
     {
         match node {

@@ -385,6 +385,36 @@ fn operands_are_put_in_and_taken_out_where_memory_is_refused(
 }
 
 #[test]
+fn a_successor_is_set_and_uses_are_counted(rt: HostRuntime) -> Result<(), Mismatch> {
+    let script = "
+        block - => b0
+        block - => b1
+        op yield 0 < > b0 b0 => o0
+        unused b0 => no
+        unused b1 => yes
+        redirect o0 0 b1
+        show o0 => yield Unknown, in - - -, between - -, regions, from - to -, operands, successors b1 b0, results 0
+        unused b0 => no
+        unused b1 => no
+        redirect o0 1 b1
+        show o0 => yield Unknown, in - - -, between - -, regions, from - to -, operands, successors b1 b1, results 0
+        unused b0 => yes
+        unused b1 => no
+        redirect o0 0 b1
+        redirect o0 2 b0 => refused
+        erase b0
+        redirect o0 0 b0 => refused
+        op yield 0 < > b1 => o1
+        block - => b2
+        redirect o1 0 b2
+        show o1 => yield Unknown, in - - -, between - -, regions, from - to -, operands, successors b2, results 0
+        erase o0
+        unused b1 => yes
+        unused b2 => no";
+    play_in(rt.alloc(), 100, script)
+}
+
+#[test]
 fn attributes_labels_and_locations_are_set_where_memory_is_refused(
     rt: HostRuntime,
 ) -> Result<(), Mismatch> {
