@@ -28,7 +28,7 @@ use Rattle.plir_core.proofs.NewNodes.{apart_new}
 use Rattle.plir_core.specs.Made.{KeepsLive, IsAdded, IsRegionAdded, IsMade}
 use Rattle.plir_core.proofs.Listing.{within_content, parent_at-room_child, parent_at-room_list, children_at-room_child}
 use Rattle.plir_core.proofs.Listing.{children_at-room_list, children-room_child, loose, childless, some_none}
-use Rattle.plir_core.proofs.Seats.{live_some, live_version, some_live, same_ptr}
+use Rattle.plir_core.proofs.Seats.{live_some, live_version, some_live, ptr_of_parts}
 
 -- a map whose function changes at no element
 map_on : {A : Type 0} (f g : ℕ → A) (xs : List ℕ) → ((i : ℕ) → Has xs i → f i ≡ g i) → map f xs ≡ map g xs
@@ -62,7 +62,7 @@ module _ {C : Type 0} (t : Table C) (v : C) (w : IsTable t) where
   version_other i n = ap (λ (z : Cell C). z.version) (cell_at-with_new_other t v i n)
 
   ptr_grown : {X : Type 0} (i : ℕ) → IsSome (content_at t i) → ptr_at {X = X} (with_new t v) i ≡ ptr_at t i
-  ptr_grown i some = same_ptr (ptr_at (with_new t v) i) (ptr_at t i) refl (version_other i (not_here i some))
+  ptr_grown i some = ptr_of_parts (ptr_at (with_new t v) i) (ptr_at t i) refl (version_other i (not_here i some))
 
   live_grown : (i x : ℕ) → is_live_at t i x ≡ true → is_live_at (with_new t v) i x ≡ true
   live_grown i x e = let n = not_here i (live_some t i x e) in rw (content_other i n, version_other i n) e
@@ -102,7 +102,7 @@ module _ {C : Type 0} (t : Table C) (v : C) (w : IsTable t) where
     ptr_only : (q : Ptr X) → is_live_at (with_new t v) q.slot q.version ≡ true → is_live_at t q.slot q.version ≡ false →
         q ≡ p
     ptr_only q e f = elim (cases_eq q.slot (next_slot t)) [
-      | inl h ↦ same_ptr q (ptr_at (with_new t v) (next_slot t)) h (sym (live_version (with_new t v) q.slot q.version e)
+      | inl h ↦ ptr_of_parts q (ptr_at (with_new t v) (next_slot t)) h (sym (live_version (with_new t v) q.slot q.version e)
           ∙ ap (version_at (with_new t v)) h) ∙ sym is
       | inr n ↦ absurd (true_false (rw (content_other q.slot n, version_other q.slot n) at e) f)
     ]
@@ -331,7 +331,7 @@ module _ {O B : Type 0} (s : Nodes O B) (w : IsStored s) where
         fresh = ptr_fresh s.regions v w.region_slots p is;
         added = ptr_live s.regions v w.region_slots p is;
         placed = rw (ptr_live s.regions v w.region_slots p is, slot_is s.regions v w.region_slots p is, here)
-            (ap (λ z. Some (Operation z)) (same_ptr (ptr_at s.ops o.slot) o refl
+            (ap (λ z. Some (Operation z)) (ptr_of_parts (ptr_at s.ops o.slot) o refl
             (live_version s.ops o.slot o.version live)));
         leaf = rw (
           ptr_live s.regions v w.region_slots p is,
@@ -348,7 +348,7 @@ module _ {O B : Type 0} (s : Nodes O B) (w : IsStored s) where
       }
     where
       same_op : (q : Ptr OperationKind) → q.slot ≡ o.slot → is_live_at s.ops q.slot q.version ≡ true → q ≡ o
-      same_op q g e = same_ptr q o g (sym (live_version s.ops q.slot q.version e) ∙ ap (version_at s.ops) g ∙
+      same_op q g e = ptr_of_parts q o g (sym (live_version s.ops q.slot q.version e) ∙ ap (version_at s.ops) g ∙
           live_version s.ops o.slot o.version live)
 
   -- the regions of o with the new one

@@ -17,6 +17,9 @@ use Rattle.plir_store.specs.Members.{Has, Distinct}
 use Rattle.plir_core.specs.Nodes.{Nodes, ptr_at, is_node_live, node_children, op_node, block_node, region_node}
 use Rattle.plir_core.specs.Stored.{IsListing, IsStored}
 use Rattle.plir_core.specs.Placed.{IsPlaced, IsUnlinked}
+use Rattle.plir_core.specs.declared.arena.moving.Point.{Point}
+use Rattle.plir_core.specs.declared.arena.moving.Point.TheVariants.{AtFront, AtBack, Before, After}
+use Rattle.plir_core.specs.Points.{CanBePut, IsPutAt, with_op_put, with_block_put}
 use Rattle.plir_core.proofs.Facts.{live_parts, ptr_is, child-parent, parent-live, slot_of}
 use Rattle.plir_core.proofs.Freed.{bool_cases, ptr_one, wrong_child}
 use Rattle.plir_core.proofs.Listing.{within_content}
@@ -355,7 +358,7 @@ module _ {O B : Type 0} (s t : Nodes O B) (view : s ≡ t) (w : IsStored s) wher
       (sym e) (subst (IsPlaced s n' m over) f x))
 
   -- at the start and at the end
-  pub op_first : (n : Nodes O B) (o : Ptr OperationKind) (b : Ptr BlockKind) → is_node_live t (Operation o) ≡ true →
+  op_first : (n : Nodes O B) (o : Ptr OperationKind) (b : Ptr BlockKind) → is_node_live t (Operation o) ≡ true →
       is_node_live t (BasicBlock b) ≡ true → n ≡ record s { ops_in_block = with_first s.ops_in_block b.slot o.slot } →
       IsPlaced t n (Operation o) (BasicBlock b) (Operation o ∷ node_children t (BasicBlock b))
   op_first n o b live_o live_b e =
@@ -366,7 +369,7 @@ module _ {O B : Type 0} (s t : Nodes O B) (view : s ≡ t) (w : IsStored s) wher
       (op_put s w (with_first s.ops_in_block b.slot o.slot) o b (o.slot ∷ children_at s.ops_in_block b.slot) lo lb
       (IsPut-first s.ops_in_block o.slot b.slot (op_within s w o lo) (block_over s w b lb)))
 
-  pub op_last : (n : Nodes O B) (o : Ptr OperationKind) (b : Ptr BlockKind) → is_node_live t (Operation o) ≡ true →
+  op_last : (n : Nodes O B) (o : Ptr OperationKind) (b : Ptr BlockKind) → is_node_live t (Operation o) ≡ true →
       is_node_live t (BasicBlock b) ≡ true → n ≡ record s { ops_in_block = with_last s.ops_in_block b.slot o.slot } →
       IsPlaced t n (Operation o) (BasicBlock b) (node_children t (BasicBlock b) ++ Operation o ∷ [])
   op_last n o b live_o live_b e =
@@ -377,7 +380,7 @@ module _ {O B : Type 0} (s t : Nodes O B) (view : s ≡ t) (w : IsStored s) wher
       (op_put s w (with_last s.ops_in_block b.slot o.slot) o b (children_at s.ops_in_block b.slot ++ o.slot ∷ []) lo lb
       (IsPut-last s.ops_in_block o.slot b.slot (op_within s w o lo) (block_over s w b lb)))
 
-  pub block_first : (n : Nodes O B) (b : Ptr BlockKind) (r : Ptr RegionKind) → is_node_live t (BasicBlock b) ≡ true →
+  block_first : (n : Nodes O B) (b : Ptr BlockKind) (r : Ptr RegionKind) → is_node_live t (BasicBlock b) ≡ true →
       is_node_live t (Region r) ≡ true → n ≡ record s { blocks_in_region = with_first s.blocks_in_region r.slot b.slot }
       → IsPlaced t n (BasicBlock b) (Region r) (BasicBlock b ∷ node_children t (Region r))
   block_first n b r live_b live_r e =
@@ -388,7 +391,7 @@ module _ {O B : Type 0} (s t : Nodes O B) (view : s ≡ t) (w : IsStored s) wher
       (block_put s w (with_first s.blocks_in_region r.slot b.slot) b r (b.slot ∷ children_at s.blocks_in_region r.slot)
       lb lr (IsPut-first s.blocks_in_region b.slot r.slot (block_within s w b lb) (region_over s w r lr)))
 
-  pub block_last : (n : Nodes O B) (b : Ptr BlockKind) (r : Ptr RegionKind) → is_node_live t (BasicBlock b) ≡ true →
+  block_last : (n : Nodes O B) (b : Ptr BlockKind) (r : Ptr RegionKind) → is_node_live t (BasicBlock b) ≡ true →
       is_node_live t (Region r) ≡ true → n ≡ record s { blocks_in_region = with_last s.blocks_in_region r.slot b.slot }
       → IsPlaced t n (BasicBlock b) (Region r) (node_children t (Region r) ++ BasicBlock b ∷ [])
   block_last n b r live_b live_r e =
@@ -437,7 +440,7 @@ module _ {O B : Type 0} (s t : Nodes O B) (view : s ≡ t) (w : IsStored s) wher
       (Has-mid xs ys (BasicBlock m))))
 
   -- beside a mark m
-  pub op_before : (n : Nodes O B) (o m : Ptr OperationKind) → is_node_live t (Operation o) ≡ true → is_node_live t
+  op_before : (n : Nodes O B) (o m : Ptr OperationKind) → is_node_live t (Operation o) ≡ true → is_node_live t
       (Operation m) ≡ true → n ≡ record s { ops_in_block = with_before s.ops_in_block o.slot m.slot } → (a : IRNode)
       (xs ys : List IRNode) → node_children t a ≡ xs ++ Operation m ∷ ys → IsPlaced t n (Operation o) a
       (xs ++ Operation o ∷ Operation m ∷ ys)
@@ -456,7 +459,7 @@ module _ {O B : Type 0} (s t : Nodes O B) (view : s ≡ t) (w : IsStored s) wher
       Operation o lo v.0 v.1.1 (λ i j f. ap slot_of f) m lm xs ys h) (op_within s w o lo)
       (block_over s w v.0 v.1.1))))
 
-  pub op_after : (n : Nodes O B) (o m : Ptr OperationKind) → is_node_live t (Operation o) ≡ true → is_node_live t
+  op_after : (n : Nodes O B) (o m : Ptr OperationKind) → is_node_live t (Operation o) ≡ true → is_node_live t
       (Operation m) ≡ true → n ≡ record s { ops_in_block = with_after s.ops_in_block o.slot m.slot } → (a : IRNode)
       (xs ys : List IRNode) → node_children t a ≡ xs ++ Operation m ∷ ys → IsPlaced t n (Operation o) a
       (xs ++ Operation m ∷ Operation o ∷ ys)
@@ -475,7 +478,7 @@ module _ {O B : Type 0} (s t : Nodes O B) (view : s ≡ t) (w : IsStored s) wher
       Operation o lo v.0 v.1.1 (λ i j f. ap slot_of f) m lm xs ys h) (op_within s w o lo)
       (block_over s w v.0 v.1.1))))
 
-  pub block_before : (n : Nodes O B) (b m : Ptr BlockKind) → is_node_live t (BasicBlock b) ≡ true → is_node_live t
+  block_before : (n : Nodes O B) (b m : Ptr BlockKind) → is_node_live t (BasicBlock b) ≡ true → is_node_live t
       (BasicBlock m) ≡ true → n ≡ record s { blocks_in_region = with_before s.blocks_in_region b.slot m.slot } →
       (a : IRNode) (xs ys : List IRNode) → node_children t a ≡ xs ++ BasicBlock m ∷ ys → IsPlaced t n (BasicBlock b) a
       (xs ++ BasicBlock b ∷ BasicBlock m ∷ ys)
@@ -494,7 +497,7 @@ module _ {O B : Type 0} (s t : Nodes O B) (view : s ≡ t) (w : IsStored s) wher
       w.blocks_listed BasicBlock b lb v.0 v.1.1 (λ i j f. ap slot_of f) m lm xs ys h) (block_within s w b lb)
       (region_over s w v.0 v.1.1))))
 
-  pub block_after : (n : Nodes O B) (b m : Ptr BlockKind) → is_node_live t (BasicBlock b) ≡ true → is_node_live t
+  block_after : (n : Nodes O B) (b m : Ptr BlockKind) → is_node_live t (BasicBlock b) ≡ true → is_node_live t
       (BasicBlock m) ≡ true → n ≡ record s { blocks_in_region = with_after s.blocks_in_region b.slot m.slot } →
       (a : IRNode) (xs ys : List IRNode) → node_children t a ≡ xs ++ BasicBlock m ∷ ys → IsPlaced t n (BasicBlock b) a
       (xs ++ BasicBlock m ∷ BasicBlock b ∷ ys)
@@ -512,6 +515,21 @@ module _ {O B : Type 0} (s t : Nodes O B) (view : s ≡ t) (w : IsStored s) wher
       (IsPut-after s.blocks_in_region b.slot m.slot (v.0).slot (over_mark s.blocks_in_region s.blocks s.regions
       w.blocks_listed BasicBlock b lb v.0 v.1.1 (λ i j f. ap slot_of f) m lm xs ys h) (block_within s w b lb)
       (region_over s w v.0 v.1.1))))
+
+  -- at a point
+  pub op_put_there : (n : Nodes O B) (o : Ptr OperationKind) (at : Point BlockKind OperationKind) → CanBePut t BasicBlock
+      Operation o at → n ≡ with_op_put s o at → IsPutAt t BasicBlock Operation n o at
+  op_put_there n o (AtFront b) c = op_first n o b c.live c.named_live
+  op_put_there n o (AtBack b) c = op_last n o b c.live c.named_live
+  op_put_there n o (Before m) c = op_before n o m c.live c.named_live
+  op_put_there n o (After m) c = op_after n o m c.live c.named_live
+
+  pub block_put_there : (n : Nodes O B) (b : Ptr BlockKind) (at : Point RegionKind BlockKind) → CanBePut t Region
+      BasicBlock b at → n ≡ with_block_put s b at → IsPutAt t Region BasicBlock n b at
+  block_put_there n b (AtFront r) c = block_first n b r c.live c.named_live
+  block_put_there n b (AtBack r) c = block_last n b r c.live c.named_live
+  block_put_there n b (Before m) c = block_before n b m c.live c.named_live
+  block_put_there n b (After m) c = block_after n b m c.live c.named_live
 
   -- out of a list
   pub op_alone : (n : Nodes O B) (o : Ptr OperationKind) → is_node_live t (Operation o) ≡ true → n ≡ record s

@@ -2,7 +2,8 @@
 use Rattle.std.proofs.Common.{◌≡◌, ℕ, suc, ◌<◌, length, Option, Some, None, IsSome, refl, sym, ◌∙◌, ap, subst, arith}
 use Rattle.std.specs.Prelude.{option_map, true, cond, map, [], slice_get}
 use Rattle.std.proofs.lemmas.Option.{slice_get-map}
-use Rattle.plir_store.specs.Lists.{Lists, IsAgreed, children_at, parent_at, with_last, without_child}
+use Rattle.plir_store.specs.Lists.{Lists, IsAgreed, children_at, parent_at, with_first, with_last, with_before}
+use Rattle.plir_store.specs.Lists.{with_after, without_child}
 use Rattle.plir_store.specs.Table.{Table, content_at, version_at, next_slot, with_content}
 use Rattle.plir_core.specs.declared.ptr.Ptr.{Ptr}
 use Rattle.plir_core.specs.declared.ptr.Operation.{Operation as OperationKind}
@@ -10,15 +11,19 @@ use Rattle.plir_core.specs.declared.ptr.Region.{Region as RegionKind}
 use Rattle.plir_core.specs.declared.ptr.BasicBlock.{BasicBlock as BasicBlockKind}
 use Rattle.plir_core.specs.declared.ptr.IRNode.{IRNode}
 use Rattle.plir_core.specs.declared.ptr.IRNode.TheVariants.{Operation, Region, BasicBlock}
+use Rattle.plir_core.specs.declared.arena.moving.Point.{Point}
+use Rattle.plir_core.specs.declared.arena.moving.Point.TheVariants.{AtFront, AtBack, Before, After}
+use Rattle.plir_core.specs.Points.{CanBePut, IsPointIn, put_at}
 use Rattle.plir_core.specs.Above.{climb, Reaches}
 use Rattle.plir_core.specs.Nodes.{Nodes, num_nodes, ptr_at, node_children, block_node, region_node, is_node_live}
 use Rattle.plir_core.specs.Nodes.{node_parent}
 use Rattle.plir_core.specs.Stored.{region, block, seat_of, up, IsStored}
 use Rattle.plir_core.specs.Edits.{IsFilled, room_child, room_list}
-use Rattle.plir_core.proofs.Listing.{IsMoved, IsMoved-out, within_content}
+use Rattle.plir_core.proofs.Listing.{IsMoved, IsMoved-first, IsMoved-last, IsMoved-before, IsMoved-after}
+use Rattle.plir_core.proofs.Listing.{IsMoved-out, within_content}
 use Rattle.plir_core.proofs.Changes.{IsStored-new_region, IsStored-link_op, IsStored-unlink_op, IsStored-link_block}
 use Rattle.plir_core.proofs.Changes.{IsStored-unlink_block, IsStored-held_op, IsStored-held_block}
-use Rattle.plir_core.proofs.Seats.{same_ptr, live_some, parent_over, reach_seat}
+use Rattle.plir_core.proofs.Seats.{ptr_of_parts, live_some, parent_over, reach_seat}
 use Rattle.plir_store.specs.MemberLaws.{Has-at}
 
 module _ {O B : Type 0} (s t : Nodes O B) (view : s ≡ t) (w : IsStored s) where
@@ -34,13 +39,21 @@ module _ {O B : Type 0} (s t : Nodes O B) (view : s ≡ t) (w : IsStored s) wher
   block_some : (o : Ptr BasicBlockKind) → is_node_live t (BasicBlock o) ≡ true → IsSome (content_at s.blocks o.slot)
   block_some o live = live_some s.blocks o.slot o.version (live_of (BasicBlock o) live)
 
-  op_in : (o : Ptr OperationKind) → is_node_live t (Operation o) ≡ true → o.slot < length s.ops_in_block.parents
+  pub op_in : (o : Ptr OperationKind) → is_node_live t (Operation o) ≡ true → o.slot < length s.ops_in_block.parents
   op_in o live = let h = within_content s.ops o.slot (op_some o live) in omega (arith, w.ops_listed.child_places)
 
-  block_in : (o : Ptr BasicBlockKind) → is_node_live t (BasicBlock o) ≡ true → o.slot < length
+  pub block_in : (o : Ptr BasicBlockKind) → is_node_live t (BasicBlock o) ≡ true → o.slot < length
       s.blocks_in_region.parents
   block_in o live = let h = within_content s.blocks o.slot (block_some o live) in omega
       (arith, w.blocks_listed.child_places)
+
+  block_on : (b : Ptr BasicBlockKind) → is_node_live t (BasicBlock b) ≡ true → b.slot < length s.ops_in_block.children
+  block_on b live = let h = within_content s.blocks b.slot (block_some b live) in omega
+      (arith, w.ops_listed.parent_places)
+
+  region_on : (r : Ptr RegionKind) → is_node_live t (Region r) ≡ true → r.slot < length s.blocks_in_region.children
+  region_on r live = let h = within_content s.regions r.slot (region_some r live) in omega
+      (arith, w.blocks_listed.parent_places)
 
   -- a node that is not above another is not above it by its seat
   away_from : (n a : IRNode) → is_node_live t n ≡ true → is_node_live t a ≡ true → (Reaches (node_parent t) n a → ⊥) →
@@ -57,7 +70,7 @@ module _ {O B : Type 0} (s t : Nodes O B) (view : s ≡ t) (w : IsStored s) wher
       IsStored-new_region s w x l m n o.slot f le me (ne ∙ ap (with_last m o.slot) e) la ma na room (op_some o live)
 
   -- a node is put under a parent: f says where among its children
-  pub op_put : (f : Lists → ℕ → ℕ → Lists) → ((l : Lists) (c p : ℕ) → c < length l.parents → IsMoved l (f l p c) c
+  op_put : (f : Lists → ℕ → ℕ → Lists) → ((l : Lists) (c p : ℕ) → c < length l.parents → IsMoved l (f l p c) c
       (Some p)) → (o : Ptr OperationKind) (b : Ptr BasicBlockKind) (l : Lists) → is_node_live t (Operation o) ≡ true →
       is_node_live t (BasicBlock b) ≡ true → (Reaches (node_parent t) (BasicBlock b) (Operation o) → ⊥) → l ≡ f
       s.ops_in_block b.slot o.slot → IsAgreed l → IsStored (record s { ops_in_block = l })
@@ -66,7 +79,7 @@ module _ {O B : Type 0} (s t : Nodes O B) (view : s ≡ t) (w : IsStored s) wher
       (moved s.ops_in_block o.slot b.slot (op_in o live_o))) a (op_some o live_o) (block_some b live_b)
       (away_from (BasicBlock b) (Operation o) live_b live_o away)
 
-  pub block_put : (f : Lists → ℕ → ℕ → Lists) → ((l : Lists) (c p : ℕ) → c < length l.parents → IsMoved l (f l p c) c
+  block_put : (f : Lists → ℕ → ℕ → Lists) → ((l : Lists) (c p : ℕ) → c < length l.parents → IsMoved l (f l p c) c
       (Some p)) → (b : Ptr BasicBlockKind) (r : Ptr RegionKind) (l : Lists) → is_node_live t (BasicBlock b) ≡ true →
       is_node_live t (Region r) ≡ true → (Reaches (node_parent t) (Region r) (BasicBlock b) → ⊥) → l ≡ f
       s.blocks_in_region r.slot b.slot → IsAgreed l → IsStored (record s { blocks_in_region = l })
@@ -79,6 +92,10 @@ module _ {O B : Type 0} (s t : Nodes O B) (view : s ≡ t) (w : IsStored s) wher
   mapped : {A C : Type 0} (f : A → C) (o : Option A) → IsSome (option_map f o) → (p : A) × (o ≡ Some p)
   mapped f None e = absurd (let x : ⊥ = cc in x)
   mapped f (Some p) e = (p, refl)
+
+  not_mapped : {A C : Type 0} (f : A → C) (o : Option A) → option_map f o ≡ None → o ≡ None
+  not_mapped f None e = refl
+  not_mapped f (Some p) e = absurd (let x : ⊥ = cc in x)
 
   linked_op : (m : Ptr OperationKind) → is_node_live t (Operation m) ≡ true → IsSome (node_parent t (Operation m)) →
       (p : ℕ) × (parent_at s.ops_in_block m.slot ≡ Some p)
@@ -94,7 +111,7 @@ module _ {O B : Type 0} (s t : Nodes O B) (view : s ≡ t) (w : IsStored s) wher
       (subst (λ z. IsSome (node_parent z (BasicBlock m))) (sym view) linked))
 
   -- a node is put beside another one: f says on which side
-  pub op_put_beside : (f : Lists → ℕ → ℕ → Lists) → ((l : Lists) (c m p : ℕ) → c < length l.parents → parent_at l m ≡
+  op_put_beside : (f : Lists → ℕ → ℕ → Lists) → ((l : Lists) (c m p : ℕ) → c < length l.parents → parent_at l m ≡
       Some p → IsMoved l (f l c m) c (Some p)) → (o m : Ptr OperationKind) (l : Lists) → is_node_live t (Operation o) ≡
       true → is_node_live t (Operation m) ≡ true → IsSome (node_parent t (Operation m)) →
       (Reaches (node_parent t) (Operation m) (Operation o) → ⊥) → l ≡ f s.ops_in_block o.slot m.slot → IsAgreed l →
@@ -110,7 +127,7 @@ module _ {O B : Type 0} (s t : Nodes O B) (view : s ≡ t) (w : IsStored s) wher
             (λ z. climb (up s) r.0 (option_map block z)) p.1 ∙ r.1,
       ))
 
-  pub block_put_beside : (f : Lists → ℕ → ℕ → Lists) → ((l : Lists) (c m p : ℕ) → c < length l.parents → parent_at l m ≡
+  block_put_beside : (f : Lists → ℕ → ℕ → Lists) → ((l : Lists) (c m p : ℕ) → c < length l.parents → parent_at l m ≡
       Some p → IsMoved l (f l c m) c (Some p)) → (b m : Ptr BasicBlockKind) (l : Lists) → is_node_live t (BasicBlock b)
       ≡ true → is_node_live t (BasicBlock m) ≡ true → IsSome (node_parent t (BasicBlock m)) →
       (Reaches (node_parent t) (BasicBlock m) (BasicBlock b) → ⊥) → l ≡ f s.blocks_in_region b.slot m.slot → IsAgreed l
@@ -125,6 +142,51 @@ module _ {O B : Type 0} (s t : Nodes O B) (view : s ≡ t) (w : IsStored s) wher
         ap
             (λ z. climb (up s) r.0 (option_map region z)) p.1 ∙ r.1,
       ))
+
+  -- what a point names has a place in the lists
+  pub op_point_in : (o : Ptr OperationKind) (at : Point BasicBlockKind OperationKind) → CanBePut t BasicBlock Operation o
+      at → IsPointIn s.ops_in_block at
+  op_point_in o (AtFront b) c = block_on b c.named_live
+  op_point_in o (AtBack b) c = block_on b c.named_live
+  op_point_in o (Before m) c = op_in m c.named_live
+  op_point_in o (After m) c = op_in m c.named_live
+
+  pub block_point_in : (b : Ptr BasicBlockKind) (at : Point RegionKind BasicBlockKind) → CanBePut t Region BasicBlock b
+      at → IsPointIn s.blocks_in_region at
+  block_point_in b (AtFront r) c = region_on r c.named_live
+  block_point_in b (AtBack r) c = region_on r c.named_live
+  block_point_in b (Before m) c = block_in m c.named_live
+  block_point_in b (After m) c = block_in m c.named_live
+
+  -- what is put is in no list
+  pub op_loose : (o : Ptr OperationKind) (at : Point BasicBlockKind OperationKind) → CanBePut t BasicBlock Operation o at
+      → parent_at s.ops_in_block o.slot ≡ None
+  op_loose o at c = not_mapped (block_node s) (parent_at s.ops_in_block o.slot)
+      (sym (parent_over s (Operation o) (live_of (Operation o) c.live)) ∙ ap (λ z. node_parent z (Operation o)) view ∙
+      c.unlinked)
+
+  pub block_loose : (b : Ptr BasicBlockKind) (at : Point RegionKind BasicBlockKind) → CanBePut t Region BasicBlock b at →
+      parent_at s.blocks_in_region b.slot ≡ None
+  block_loose b at c = not_mapped (region_node s) (parent_at s.blocks_in_region b.slot)
+      (sym (parent_over s (BasicBlock b) (live_of (BasicBlock b) c.live)) ∙ ap (λ z. node_parent z (BasicBlock b)) view ∙
+      c.unlinked)
+
+  -- a node is put at a point
+  pub op_put_at : (o : Ptr OperationKind) (at : Point BasicBlockKind OperationKind) (l : Lists) → CanBePut t BasicBlock
+      Operation o at → l ≡ put_at s.ops_in_block o.slot at → IsAgreed l → IsStored (record s { ops_in_block = l })
+  op_put_at o (AtFront b) l c = op_put with_first IsMoved-first o b l c.live c.named_live c.not_above
+  op_put_at o (AtBack b) l c = op_put with_last IsMoved-last o b l c.live c.named_live c.not_above
+  op_put_at o (Before m) l c = op_put_beside with_before IsMoved-before o m l c.live c.named_live c.linked c.not_above
+  op_put_at o (After m) l c = op_put_beside with_after IsMoved-after o m l c.live c.named_live c.linked c.not_above
+
+  pub block_put_at : (b : Ptr BasicBlockKind) (at : Point RegionKind BasicBlockKind) (l : Lists) → CanBePut t Region
+      BasicBlock b at → l ≡ put_at s.blocks_in_region b.slot at → IsAgreed l → IsStored
+      (record s { blocks_in_region = l })
+  block_put_at b (AtFront r) l c = block_put with_first IsMoved-first b r l c.live c.named_live c.not_above
+  block_put_at b (AtBack r) l c = block_put with_last IsMoved-last b r l c.live c.named_live c.not_above
+  block_put_at b (Before m) l c = block_put_beside with_before IsMoved-before b m l c.live c.named_live c.linked
+      c.not_above
+  block_put_at b (After m) l c = block_put_beside with_after IsMoved-after b m l c.live c.named_live c.linked c.not_above
 
   pub op_unlinked : (o : Ptr OperationKind) (l : Lists) → is_node_live t (Operation o) ≡ true → l ≡ without_child
       s.ops_in_block o.slot → IsAgreed l → IsStored (record s { ops_in_block = l })
@@ -161,4 +223,4 @@ module _ {O B : Type 0} (s t : Nodes O B) (view : s ≡ t) (w : IsStored s) wher
       (live_of (Operation o) live)
       ∙ slice_get-map (region_node s) (children_at s.regions_in_op o.slot) i
       ∙ ap (option_map (region_node s)) e
-      ∙ ap (λ z. Some (Region z)) (same_ptr (ptr_at s.regions c) p (sym f) (sym g)))
+      ∙ ap (λ z. Some (Region z)) (ptr_of_parts (ptr_at s.regions c) p (sym f) (sym g)))

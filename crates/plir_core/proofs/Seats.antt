@@ -40,23 +40,23 @@ module _ {T : Type 0} (t : Table T) where
 abbrev pointer : {X : Type 0} → ℕ → ℕ → Ptr X
 pointer i v = record { slot = i; version = v; kind = record {} }
 
-pub same_ptr : {X : Type 0} (p q : Ptr X) → p.slot ≡ q.slot → p.version ≡ q.version → p ≡ q
-same_ptr p q e f = ap (λ z. pointer z p.version) e ∙ ap (λ v. pointer q.slot v) f
+pub ptr_of_parts : {X : Type 0} (p q : Ptr X) → p.slot ≡ q.slot → p.version ≡ q.version → p ≡ q
+ptr_of_parts p q e f = ap (λ z. pointer z p.version) e ∙ ap (λ v. pointer q.slot v) f
 
 module _ {O B : Type 0} (s : Nodes O B) where
   -- live nodes in one seat are one
   pub same_seat : (a b : IRNode) → is_node_live s a ≡ true → is_node_live s b ≡ true → seat_of a ≡ seat_of b → a ≡ b
   same_seat (Operation p) (Operation q) l m e =
       let f : p.slot ≡ q.slot = cc in
-      ap Operation (same_ptr p q f (sym (live_version s.ops p.slot p.version l) ∙ ap (version_at s.ops) f ∙ live_version
+      ap Operation (ptr_of_parts p q f (sym (live_version s.ops p.slot p.version l) ∙ ap (version_at s.ops) f ∙ live_version
       s.ops q.slot q.version m))
   same_seat (Region p) (Region q) l m e =
       let f : p.slot ≡ q.slot = cc in
-      ap Region (same_ptr p q f (sym (live_version s.regions p.slot p.version l) ∙ ap (version_at s.regions) f ∙
+      ap Region (ptr_of_parts p q f (sym (live_version s.regions p.slot p.version l) ∙ ap (version_at s.regions) f ∙
       live_version s.regions q.slot q.version m))
   same_seat (BasicBlock p) (BasicBlock q) l m e =
       let f : p.slot ≡ q.slot = cc in
-      ap BasicBlock (same_ptr p q f (sym (live_version s.blocks p.slot p.version l) ∙ ap (version_at s.blocks) f ∙
+      ap BasicBlock (ptr_of_parts p q f (sym (live_version s.blocks p.slot p.version l) ∙ ap (version_at s.blocks) f ∙
       live_version s.blocks q.slot q.version m))
   same_seat (Operation p) (Region q) l m e = cc
   same_seat (Operation p) (BasicBlock q) l m e = cc

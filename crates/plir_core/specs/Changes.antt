@@ -1,12 +1,14 @@
 -- What the calls that change a context make of it.
 use Rattle.std.specs.Prelude.{◌≡◌, ℕ, Option, Some, None}
-use Rattle.plir_store.specs.Lists.{with_first, with_last, with_before, with_after, without_child}
+use Rattle.plir_store.specs.Lists.{without_child}
 use Rattle.plir_store.specs.Table.{with_content, next_slot}
 use Rattle.plir_core.specs.declared.ptr.Ptr.{Ptr}
 use Rattle.plir_core.specs.declared.ptr.Operation.{Operation as OperationKind}
 use Rattle.plir_core.specs.declared.ptr.Region.{Region as RegionKind}
 use Rattle.plir_core.specs.declared.ptr.BasicBlock.{BasicBlock as BasicBlockKind}
 use Rattle.plir_core.specs.Contents.{OpView, BlockView}
+use Rattle.plir_core.specs.Points.{with_op_put, with_block_put}
+use Rattle.plir_core.specs.declared.arena.moving.Point.TheVariants.{AtFront, AtBack, Before, After}
 use Rattle.plir_core.specs.Edits.{SameNodes, with_new_op, with_new_block, with_new_region, with_new_regions}
 use Rattle.plir_core.specs.ContextView.{ContextView, op_at, block_at}
 
@@ -21,55 +23,31 @@ module _ {K A T : Type 0} where
 
   -- an operation at the end of a block, and a block at the end of a region
   abbrev pub with_op_last : ContextView K A T → Ptr OperationKind → Ptr BasicBlockKind → ContextView K A T
-  with_op_last s op block = record s {
-    nodes = record s.nodes
-        { ops_in_block = with_last s.nodes.ops_in_block block.slot op.slot };
-  }
+  with_op_last s op block = record s { nodes = with_op_put s.nodes op (AtBack block) }
 
   abbrev pub with_block_last : ContextView K A T → Ptr BasicBlockKind → Ptr RegionKind → ContextView K A T
-  with_block_last s block region = record s {
-    nodes = record s.nodes
-        { blocks_in_region = with_last s.nodes.blocks_in_region region.slot block.slot };
-  }
+  with_block_last s block region = record s { nodes = with_block_put s.nodes block (AtBack region) }
 
   -- an operation at the start of a block, and a block at the start of a region
   abbrev pub with_op_first : ContextView K A T → Ptr OperationKind → Ptr BasicBlockKind → ContextView K A T
-  with_op_first s op block = record s {
-    nodes = record s.nodes
-        { ops_in_block = with_first s.nodes.ops_in_block block.slot op.slot };
-  }
+  with_op_first s op block = record s { nodes = with_op_put s.nodes op (AtFront block) }
 
   abbrev pub with_block_first : ContextView K A T → Ptr BasicBlockKind → Ptr RegionKind → ContextView K A T
-  with_block_first s block region = record s {
-    nodes = record s.nodes
-        { blocks_in_region = with_first s.nodes.blocks_in_region region.slot block.slot };
-  }
+  with_block_first s block region = record s { nodes = with_block_put s.nodes block (AtFront region) }
 
   -- an operation right before another one, which is the mark, and a block likewise
   abbrev pub with_op_before : ContextView K A T → Ptr OperationKind → Ptr OperationKind → ContextView K A T
-  with_op_before s op mark = record s {
-    nodes = record s.nodes
-        { ops_in_block = with_before s.nodes.ops_in_block op.slot mark.slot };
-  }
+  with_op_before s op mark = record s { nodes = with_op_put s.nodes op (Before mark) }
 
   abbrev pub with_block_before : ContextView K A T → Ptr BasicBlockKind → Ptr BasicBlockKind → ContextView K A T
-  with_block_before s block mark = record s {
-    nodes = record s.nodes
-        { blocks_in_region = with_before s.nodes.blocks_in_region block.slot mark.slot };
-  }
+  with_block_before s block mark = record s { nodes = with_block_put s.nodes block (Before mark) }
 
   -- an operation right after the mark, and a block likewise
   abbrev pub with_op_after : ContextView K A T → Ptr OperationKind → Ptr OperationKind → ContextView K A T
-  with_op_after s op mark = record s {
-    nodes = record s.nodes
-        { ops_in_block = with_after s.nodes.ops_in_block op.slot mark.slot };
-  }
+  with_op_after s op mark = record s { nodes = with_op_put s.nodes op (After mark) }
 
   abbrev pub with_block_after : ContextView K A T → Ptr BasicBlockKind → Ptr BasicBlockKind → ContextView K A T
-  with_block_after s block mark = record s {
-    nodes = record s.nodes
-        { blocks_in_region = with_after s.nodes.blocks_in_region block.slot mark.slot };
-  }
+  with_block_after s block mark = record s { nodes = with_block_put s.nodes block (After mark) }
 
   -- an operation in no block, and a block in no region, with all below it as it was
   abbrev pub with_op_unlinked : ContextView K A T → Ptr OperationKind → ContextView K A T

@@ -14,12 +14,13 @@
 --   Edits        what they make of the nodes
 --   Nodes        the nodes with their slots, and the words of ContextView over them
 --   Stored       IsStored: what holds of the slots and lists in which the nodes are kept
---   Above        climb, Reaches: what stands above what
+--   Above        climb, Reaches: what stands above what; EndsWithin, IsGrounded: each climb ends
 --   Made         IsMade: a tree is new, and nothing else has changed; IsRegionAdded: one region is;
 --                HasNewRegions: the regions of a new operation
 --   Room         IsFullForOp and its kin: when there is no room for a new node
 --   Placed       IsPlaced: a node has come under another one, and nothing else has changed (IsPlacedFirst and its kin:
 --                where); IsUnlinked: it has left its parent
+--   Points       put_at: where a node is put among others; CanBePut: what that asks; IsPutAt: what it leaves
 --   Moved        IsMovedBefore and its kin: a node was moved; IsTransferred: children of one node have come under
 --                another one; IsSplit: a node has got the last children of another one
 --   Held         IsOpEdited, IsBlockEdited: what an operation or a block holds is edited, and nothing else has changed
@@ -57,6 +58,7 @@ pub mod Changes
 pub mod Made
 pub mod Room
 pub mod Placed
+pub mod Points
 pub mod Held
 pub mod ButOperands
 pub mod Grown

@@ -15,7 +15,7 @@ pub(crate) mod contents;
 mod erasing;
 mod index;
 pub(crate) mod making;
-mod moving;
+pub(crate) mod moving;
 mod tree_walk;
 
 use crate::ptr::{BasicBlock, IRNode, Operation, Ptr, Region};

@@ -24,8 +24,10 @@ mod splicing;
 
 use crate::arena::contents::BlockData;
 use crate::arena::making::NodeErr;
+use crate::arena::moving::Point;
 use crate::context::Context;
 use crate::interface::{Interface, op_impls};
+use crate::placing::put_block;
 use crate::ptr::{BasicBlock, IRNode, Operation, Ptr, Region};
 use crate::value::{DefiningEntity, Value};
 use plir_data::{AttrObj, AttributeDict, Identifier, Memory, OpSet, TypeHandle};
@@ -247,13 +249,8 @@ impl Ptr<BasicBlock> {
         ensures placed { IsPlacedLast ctx.old.nodes ctx.new.nodes (IRNode.BasicBlock self) (IRNode.Region region) }
         ensures whole { IsWellFormed D.attr_handles ctx.new }
     {
-        prove!(self.is_live(ctx), "the block is not live");
         prove!(region.is_live(ctx), "the region is not live");
-        prove!(
-            self.get_parent_region(ctx).is_none(),
-            "the block stands in a region already"
-        );
-        ctx.nodes.push_block(self, region);
+        put_block(ctx, self, Point::AtBack(region));
     }
 
     /// The label of the block, if it has one.
@@ -322,13 +319,8 @@ impl Ptr<BasicBlock> {
         ensures placed { IsPlacedFirst ctx.old.nodes ctx.new.nodes (IRNode.BasicBlock self) (IRNode.Region region) }
         ensures whole { IsWellFormed D.attr_handles ctx.new }
     {
-        prove!(self.is_live(ctx), "the block is not live");
         prove!(region.is_live(ctx), "the region is not live");
-        prove!(
-            self.get_parent_region(ctx).is_none(),
-            "the block stands in a region already"
-        );
-        ctx.nodes.push_block_front(self, region);
+        put_block(ctx, self, Point::AtFront(region));
     }
 
     /// Puts a block that is in no region right before one that is in a region, and that it does not stand above.
@@ -342,17 +334,12 @@ impl Ptr<BasicBlock> {
         ensures placed { IsPlacedBefore ctx.old.nodes ctx.new.nodes (IRNode.BasicBlock self) (IRNode.BasicBlock mark) }
         ensures whole { IsWellFormed D.attr_handles ctx.new }
     {
-        prove!(self.is_live(ctx), "the block is not live");
         prove!(mark.is_live(ctx), "the block is not live");
-        prove!(
-            self.get_parent_region(ctx).is_none(),
-            "the block stands in a region already"
-        );
         prove!(
             mark.get_parent_region(ctx).is_some(),
             "the block that marks the place stands in no region"
         );
-        ctx.nodes.insert_block_before(self, mark);
+        put_block(ctx, self, Point::Before(mark));
     }
 
     /// Puts a block that is in no region right after one that is in a region, and that it does not stand above.
@@ -366,17 +353,12 @@ impl Ptr<BasicBlock> {
         ensures placed { IsPlacedBehind ctx.old.nodes ctx.new.nodes (IRNode.BasicBlock self) (IRNode.BasicBlock mark) }
         ensures whole { IsWellFormed D.attr_handles ctx.new }
     {
-        prove!(self.is_live(ctx), "the block is not live");
         prove!(mark.is_live(ctx), "the block is not live");
-        prove!(
-            self.get_parent_region(ctx).is_none(),
-            "the block stands in a region already"
-        );
         prove!(
             mark.get_parent_region(ctx).is_some(),
             "the block that marks the place stands in no region"
         );
-        ctx.nodes.insert_block_after(self, mark);
+        put_block(ctx, self, Point::After(mark));
     }
 
     /// Takes the block out of its region, with all below it. One that is in no region stays as it is.

@@ -11,6 +11,7 @@ pub mod laws;
 mod less_than;
 mod node;
 mod operation;
+mod placing;
 mod ptr;
 mod region;
 mod uses;

@@ -28,7 +28,9 @@ mod moving;
 
 use crate::arena::contents::OpData;
 use crate::arena::making::NodeErr;
+use crate::arena::moving::Point;
 use crate::context::Context;
+use crate::placing::put_op;
 use crate::ptr::{BasicBlock, IRNode, Operation, Ptr, Region};
 use crate::value::{DefiningEntity, Value};
 use plir_data::{AttrObj, AttributeDict, Identifier, Memory, OpKind, OpSet, TypeHandle};
@@ -398,12 +400,7 @@ impl Ptr<Operation> {
         ensures placed { IsPlacedLast ctx.old.nodes ctx.new.nodes (IRNode.Operation self) (IRNode.BasicBlock block) }
         ensures whole { IsWellFormed D.attr_handles ctx.new }
     {
-        prove!(self.is_live(ctx), "the operation is not live");
         prove!(block.is_live(ctx), "the block is not live");
-        prove!(
-            self.get_parent_block(ctx).is_none(),
-            "the operation stands in a block already"
-        );
-        ctx.nodes.push_op(self, block);
+        put_op(ctx, self, Point::AtBack(block));
     }
 }

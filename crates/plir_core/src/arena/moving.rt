@@ -1,137 +1,61 @@
 //! How nodes are linked and unlinked in the arena.
-ghost use Rattle.std.specs.Prelude.{◌≡◌, None, IsSome, true};
-ghost use Rattle.plir_store.specs.Lists.{with_first, with_last, with_before, with_after, without_child};
-ghost use Rattle.plir_core.specs.Above.{Reaches};
-ghost use Rattle.plir_core.specs.Nodes.{is_node_live, node_parent};
+ghost use Rattle.std.specs.Prelude.{◌≡◌, ◌<◌, None, length, true};
+ghost use Rattle.plir_store.specs.Lists.{IsAgreed, parent_at, without_child};
+ghost use Rattle.plir_core.specs.Nodes.{is_node_live};
+ghost use Rattle.plir_core.specs.Points.{CanBePut, IsPointIn, put_at, with_op_put, with_block_put};
 ghost use Rattle.plir_core.specs.Stored.{IsStored};
 ghost use Rattle.plir_core.specs.declared.ptr.IRNode.{IRNode};
 
 use crate::arena::Arena;
 use crate::ptr::{BasicBlock, Operation, Ptr, Region};
+use plir_store::chains::Chains;
+
+/// Where a node is put: among the children, of the kind `C`, of a node of the kind `P`.
+#[derive(Clone, Copy)]
+pub(crate) enum Point<P, C> {
+    /// At the start of those of a node.
+    AtFront(Ptr<P>),
+    /// At the end of those of a node.
+    AtBack(Ptr<P>),
+    /// Right before a child, the mark.
+    Before(Ptr<C>),
+    /// Right after a child, the mark.
+    After(Ptr<C>),
+}
+
+// Puts a child that is in no list at a point.
+fn put<P, C>(lists: &mut Chains, child: u32, at: Point<P, C>)
+    requires child_in { child < length lists.old.parents }
+    requires point_in { IsPointIn lists.old at }
+    requires loose { parent_at lists.old child ≡ None }
+    ensures after { lists.new ≡ put_at lists.old child at }
+    ensures agreed { IsAgreed lists.new }
+{
+    match at {
+        Point::AtFront(parent) => lists.push_front(parent.slot, child),
+        Point::AtBack(parent) => lists.push_back(parent.slot, child),
+        Point::Before(mark) => lists.insert_before(child, mark.slot),
+        Point::After(mark) => lists.insert_after(child, mark.slot),
+    }
+}
 
 impl<O, B> Arena<O, B> {
-    /// Puts an operation that is in no block at the end of a block that it does not stand above.
-    pub(crate) fn push_op(&mut self, op: Ptr<Operation>, target: Ptr<BasicBlock>)
-        requires op_live { is_node_live self.old (IRNode.Operation op) ≡ true }
-        requires target_live { is_node_live self.old (IRNode.BasicBlock target) ≡ true }
-        requires unlinked { node_parent self.old (IRNode.Operation op) ≡ None }
-        requires not_above { Reaches (node_parent self.old) (IRNode.BasicBlock target) (IRNode.Operation op) → ⊥ }
-        ensures after { self.new ≡ record self.old {
-          ops_in_block =
-              with_last self.old.ops_in_block target.slot op.slot;
-        } }
+    /// Puts an operation that is in no block at a point.
+    pub(crate) fn put_op(&mut self, op: Ptr<Operation>, at: Point<BasicBlock, Operation>)
+        requires { CanBePut self.old IRNode.BasicBlock IRNode.Operation op at }
+        ensures after { self.new ≡ with_op_put self.old op at }
         ensures stored { IsStored self.new }
     {
-        self.ops_in_block.push_back(target.slot, op.slot);
+        put(&mut self.ops_in_block, op.slot, at);
     }
 
-    /// Puts a block that is in no region at the end of a region that it does not stand above.
-    pub(crate) fn push_block(&mut self, block: Ptr<BasicBlock>, target: Ptr<Region>)
-        requires block_live { is_node_live self.old (IRNode.BasicBlock block) ≡ true }
-        requires target_live { is_node_live self.old (IRNode.Region target) ≡ true }
-        requires unlinked { node_parent self.old (IRNode.BasicBlock block) ≡ None }
-        requires not_above { Reaches (node_parent self.old) (IRNode.Region target) (IRNode.BasicBlock block) → ⊥ }
-        ensures after { self.new ≡ record self.old {
-          blocks_in_region =
-              with_last self.old.blocks_in_region target.slot block.slot;
-        } }
+    /// Puts a block that is in no region at a point.
+    pub(crate) fn put_block(&mut self, block: Ptr<BasicBlock>, at: Point<Region, BasicBlock>)
+        requires { CanBePut self.old IRNode.Region IRNode.BasicBlock block at }
+        ensures after { self.new ≡ with_block_put self.old block at }
         ensures stored { IsStored self.new }
     {
-        self.blocks_in_region.push_back(target.slot, block.slot);
-    }
-
-    /// Puts an operation that is in no block at the start of a block that it does not stand above.
-    pub(crate) fn push_op_front(&mut self, op: Ptr<Operation>, target: Ptr<BasicBlock>)
-        requires op_live { is_node_live self.old (IRNode.Operation op) ≡ true }
-        requires target_live { is_node_live self.old (IRNode.BasicBlock target) ≡ true }
-        requires unlinked { node_parent self.old (IRNode.Operation op) ≡ None }
-        requires not_above { Reaches (node_parent self.old) (IRNode.BasicBlock target) (IRNode.Operation op) → ⊥ }
-        ensures after { self.new ≡ record self.old {
-          ops_in_block =
-              with_first self.old.ops_in_block target.slot op.slot;
-        } }
-        ensures stored { IsStored self.new }
-    {
-        self.ops_in_block.push_front(target.slot, op.slot);
-    }
-
-    /// Puts a block that is in no region at the start of a region that it does not stand above.
-    pub(crate) fn push_block_front(&mut self, block: Ptr<BasicBlock>, target: Ptr<Region>)
-        requires block_live { is_node_live self.old (IRNode.BasicBlock block) ≡ true }
-        requires target_live { is_node_live self.old (IRNode.Region target) ≡ true }
-        requires unlinked { node_parent self.old (IRNode.BasicBlock block) ≡ None }
-        requires not_above { Reaches (node_parent self.old) (IRNode.Region target) (IRNode.BasicBlock block) → ⊥ }
-        ensures after { self.new ≡ record self.old {
-          blocks_in_region =
-              with_first self.old.blocks_in_region target.slot block.slot;
-        } }
-        ensures stored { IsStored self.new }
-    {
-        self.blocks_in_region.push_front(target.slot, block.slot);
-    }
-
-    /// Puts an operation that is in no block right before one that is in a block, and that it does not stand above.
-    pub(crate) fn insert_op_before(&mut self, op: Ptr<Operation>, mark: Ptr<Operation>)
-        requires op_live { is_node_live self.old (IRNode.Operation op) ≡ true }
-        requires mark_live { is_node_live self.old (IRNode.Operation mark) ≡ true }
-        requires unlinked { node_parent self.old (IRNode.Operation op) ≡ None }
-        requires linked { IsSome (node_parent self.old (IRNode.Operation mark)) }
-        requires not_above { Reaches (node_parent self.old) (IRNode.Operation mark) (IRNode.Operation op) → ⊥ }
-        ensures after { self.new ≡ record self.old {
-          ops_in_block =
-              with_before self.old.ops_in_block op.slot mark.slot;
-        } }
-        ensures stored { IsStored self.new }
-    {
-        self.ops_in_block.insert_before(op.slot, mark.slot);
-    }
-
-    /// Puts a block that is in no region right before one that is in a region, and that it does not stand above.
-    pub(crate) fn insert_block_before(&mut self, block: Ptr<BasicBlock>, mark: Ptr<BasicBlock>)
-        requires block_live { is_node_live self.old (IRNode.BasicBlock block) ≡ true }
-        requires mark_live { is_node_live self.old (IRNode.BasicBlock mark) ≡ true }
-        requires unlinked { node_parent self.old (IRNode.BasicBlock block) ≡ None }
-        requires linked { IsSome (node_parent self.old (IRNode.BasicBlock mark)) }
-        requires not_above { Reaches (node_parent self.old) (IRNode.BasicBlock mark) (IRNode.BasicBlock block) → ⊥ }
-        ensures after { self.new ≡ record self.old {
-          blocks_in_region =
-              with_before self.old.blocks_in_region block.slot mark.slot;
-        } }
-        ensures stored { IsStored self.new }
-    {
-        self.blocks_in_region.insert_before(block.slot, mark.slot);
-    }
-
-    /// Puts an operation that is in no block right after one that is in a block, and that it does not stand above.
-    pub(crate) fn insert_op_after(&mut self, op: Ptr<Operation>, mark: Ptr<Operation>)
-        requires op_live { is_node_live self.old (IRNode.Operation op) ≡ true }
-        requires mark_live { is_node_live self.old (IRNode.Operation mark) ≡ true }
-        requires unlinked { node_parent self.old (IRNode.Operation op) ≡ None }
-        requires linked { IsSome (node_parent self.old (IRNode.Operation mark)) }
-        requires not_above { Reaches (node_parent self.old) (IRNode.Operation mark) (IRNode.Operation op) → ⊥ }
-        ensures after { self.new ≡ record self.old {
-          ops_in_block =
-              with_after self.old.ops_in_block op.slot mark.slot;
-        } }
-        ensures stored { IsStored self.new }
-    {
-        self.ops_in_block.insert_after(op.slot, mark.slot);
-    }
-
-    /// Puts a block that is in no region right after one that is in a region, and that it does not stand above.
-    pub(crate) fn insert_block_after(&mut self, block: Ptr<BasicBlock>, mark: Ptr<BasicBlock>)
-        requires block_live { is_node_live self.old (IRNode.BasicBlock block) ≡ true }
-        requires mark_live { is_node_live self.old (IRNode.BasicBlock mark) ≡ true }
-        requires unlinked { node_parent self.old (IRNode.BasicBlock block) ≡ None }
-        requires linked { IsSome (node_parent self.old (IRNode.BasicBlock mark)) }
-        requires not_above { Reaches (node_parent self.old) (IRNode.BasicBlock mark) (IRNode.BasicBlock block) → ⊥ }
-        ensures after { self.new ≡ record self.old {
-          blocks_in_region =
-              with_after self.old.blocks_in_region block.slot mark.slot;
-        } }
-        ensures stored { IsStored self.new }
-    {
-        self.blocks_in_region.insert_after(block.slot, mark.slot);
+        put(&mut self.blocks_in_region, block.slot, at);
     }
 
     /// Takes an operation out of its block, if it is in one.

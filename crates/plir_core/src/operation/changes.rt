@@ -20,8 +20,10 @@ ghost use Rattle.plir_core.specs.Erase.{IsErased};
 ghost use Rattle.plir_core.specs.Unused.{IsUnusedOutside, without_tree, child_at};
 
 use crate::arena::making::NodeErr;
+use crate::arena::moving::Point;
 use crate::context::Context;
 use crate::erasing::erase_tree;
+use crate::placing::put_op;
 use crate::ptr::{BasicBlock, IRNode, Operation, Ptr, Region};
 use crate::value::Value;
 use plir_data::{AttrObj, Location, Memory, OpSet};
@@ -181,13 +183,8 @@ impl Ptr<Operation> {
         ensures placed { IsPlacedFirst ctx.old.nodes ctx.new.nodes (IRNode.Operation self) (IRNode.BasicBlock block) }
         ensures whole { IsWellFormed D.attr_handles ctx.new }
     {
-        prove!(self.is_live(ctx), "the operation is not live");
         prove!(block.is_live(ctx), "the block is not live");
-        prove!(
-            self.get_parent_block(ctx).is_none(),
-            "the operation stands in a block already"
-        );
-        ctx.nodes.push_op_front(self, block);
+        put_op(ctx, self, Point::AtFront(block));
     }
 
     /// Puts an operation that is in no block right before one that is in a block, and that it does not stand above.
@@ -201,17 +198,12 @@ impl Ptr<Operation> {
         ensures placed { IsPlacedBefore ctx.old.nodes ctx.new.nodes (IRNode.Operation self) (IRNode.Operation mark) }
         ensures whole { IsWellFormed D.attr_handles ctx.new }
     {
-        prove!(self.is_live(ctx), "the operation is not live");
         prove!(mark.is_live(ctx), "the operation is not live");
-        prove!(
-            self.get_parent_block(ctx).is_none(),
-            "the operation stands in a block already"
-        );
         prove!(
             mark.get_parent_block(ctx).is_some(),
             "the operation that marks the place stands in no block"
         );
-        ctx.nodes.insert_op_before(self, mark);
+        put_op(ctx, self, Point::Before(mark));
     }
 
     /// Puts an operation that is in no block right after one that is in a block, and that it does not stand above.
@@ -225,17 +217,12 @@ impl Ptr<Operation> {
         ensures placed { IsPlacedBehind ctx.old.nodes ctx.new.nodes (IRNode.Operation self) (IRNode.Operation mark) }
         ensures whole { IsWellFormed D.attr_handles ctx.new }
     {
-        prove!(self.is_live(ctx), "the operation is not live");
         prove!(mark.is_live(ctx), "the operation is not live");
-        prove!(
-            self.get_parent_block(ctx).is_none(),
-            "the operation stands in a block already"
-        );
         prove!(
             mark.get_parent_block(ctx).is_some(),
             "the operation that marks the place stands in no block"
         );
-        ctx.nodes.insert_op_after(self, mark);
+        put_op(ctx, self, Point::After(mark));
     }
 
     /// Takes the operation out of its block, with all below it. One that is in no block stays as it is.

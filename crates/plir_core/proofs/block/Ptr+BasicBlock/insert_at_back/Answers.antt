@@ -1,30 +1,10 @@
-use Rattle.std.proofs.Common.{refl, sym, ap, subst}
-use Rattle.plir_core.specs.ContextView.{ContextView, IsAncestor}
-use Rattle.plir_core.specs.declared.ptr.IRNode.TheVariants.{BasicBlock, Region}
 use Rattle.plir_core.proofs.block.Ptr+BasicBlock.insert_at_back.Goals as goal
-use Rattle.plir_core.proofs.Counted.{Counts-linked}
-use Rattle.plir_core.proofs.Holds.{block_linked}
-use Rattle.plir_core.proofs.Links.{block_last}
 
-pub invariant_of-ctx : goal.invariant_of-ctx
-invariant_of-ctx g c =
-    record {
-      whole = block_linked _ _ c.ctx.invariant.whole c.push_block.new.self _ c.push_block.ensures.after
-          c.push_block.ensures.stored;
-      counted = Counts-linked c.ctx.inside.uses c.ctx.inside.nodes c.push_block.new.self _ c.push_block.ensures.after
-          refl c.ctx.invariant.counted;
-    }
-
-pub returns-clause-whole : goal.returns-clause-whole
-returns-clause-whole g c = (invariant_of-ctx g c).whole
-
-pub returns-clause-placed : goal.returns-clause-placed
-returns-clause-placed g c =
-    block_last c.ctx.inside.nodes c.args.ctx.now.nodes (ap (λ (z : ContextView g.row.D-Kind.Denot g.row.D-Attr.Denot
-    g.row.D-Ty.Denot). z.nodes) c.ctx.view_is) c.ctx.invariant.whole.stored c.push_block.new.self c.args.self
-    c.args.region c.requires.live c.requires.target_live c.push_block.ensures.after
-
-pub push_block-requires-clause-not_above : goal.push_block-requires-clause-not_above
-push_block-requires-clause-not_above g c =
-    subst (λ (z : ContextView g.row.D-Kind.Denot g.row.D-Attr.Denot g.row.D-Ty.Denot). IsAncestor z
-    (BasicBlock c.args.self) (Region c.args.region) → ⊥) (sym c.ctx.view_is) c.requires.not_above
+pub put_block-requires : goal.put_block-requires
+put_block-requires g c = record {
+  live = c.requires.live;
+  named_live = c.requires.target_live;
+  unlinked = c.requires.unlinked;
+  linked = tt;
+  not_above = c.requires.not_above;
+}
