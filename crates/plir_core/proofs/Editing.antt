@@ -56,10 +56,10 @@ module _ {C : Type 0} (t u : Table C) (a : IsAlike t u) where
 -- Where operations and blocks are held alike, the nodes are the same.
 module _ {K A T : Type 0} (s : ContextView K A T) (ops : Table (OpView K A)) (blocks : Table (BlockView A))
     (a : IsAlike s.nodes.ops ops) (b : IsAlike s.nodes.blocks blocks) where
-  abbrev pub then_store : ContextView K A T
-  then_store = record s { nodes = record s.nodes { ops = ops; blocks = blocks } }
+  abbrev pub with_held : ContextView K A T
+  with_held = record s { nodes = record s.nodes { ops = ops; blocks = blocks } }
 
-  children_alike : (n : IRNode) → node_children then_store.nodes n ≡ node_children s.nodes n
+  children_alike : (n : IRNode) → node_children with_held.nodes n ≡ node_children s.nodes n
   children_alike (Operation p) = rw (live_alike s.nodes.ops ops a p.slot p.version) refl
   children_alike (Region p) = rw (map_alike _ _ (λ i. ap (λ z. BasicBlock z) (ptr_alike s.nodes.blocks blocks b i)) _)
       refl
@@ -69,7 +69,7 @@ module _ {K A T : Type 0} (s : ContextView K A T) (ops : Table (OpView K A)) (bl
         (λ i. ap (λ z. Operation z) (ptr_alike s.nodes.ops ops a i)) _,
   ) refl
 
-  parents_alike : (n : IRNode) → node_parent then_store.nodes n ≡ node_parent s.nodes n
+  parents_alike : (n : IRNode) → node_parent with_held.nodes n ≡ node_parent s.nodes n
   parents_alike (Operation p) = rw (
     live_alike s.nodes.ops ops a p.slot p.version,
     option_alike _ _
@@ -78,7 +78,7 @@ module _ {K A T : Type 0} (s : ContextView K A T) (ops : Table (OpView K A)) (bl
   parents_alike (Region p) = rw (option_alike _ _ (λ i. ap (λ z. Operation z) (ptr_alike s.nodes.ops ops a i)) _) refl
   parents_alike (BasicBlock p) = rw (live_alike s.nodes.blocks blocks b p.slot p.version) refl
 
-  pub keeps_alike : KeepsNodes s then_store
+  pub keeps_alike : KeepsNodes s with_held
   keeps_alike = record {
     live = λ n. lives n;
     given = λ n. gives n;
@@ -88,12 +88,12 @@ module _ {K A T : Type 0} (s : ContextView K A T) (ops : Table (OpView K A)) (bl
     limit = refl;
   }
     where
-      lives : (n : IRNode) → is_node_live then_store.nodes n ≡ is_node_live s.nodes n
+      lives : (n : IRNode) → is_node_live with_held.nodes n ≡ is_node_live s.nodes n
       lives (Operation p) = live_alike s.nodes.ops ops a p.slot p.version
       lives (Region p) = refl
       lives (BasicBlock p) = live_alike s.nodes.blocks blocks b p.slot p.version
 
-      gives : (n : IRNode) → was_given_out then_store.nodes n ≡ was_given_out s.nodes n
+      gives : (n : IRNode) → was_given_out with_held.nodes n ≡ was_given_out s.nodes n
       gives (Operation p) = given_alike s.nodes.ops ops a p
       gives (Region p) = refl
       gives (BasicBlock p) = given_alike s.nodes.blocks blocks b p

@@ -95,13 +95,13 @@ module _ {K A : Type 0} (v w : Value) where
       } in y) e)
       ∙ ap (cell_replaced v w) same
 
--- In the slots of a store.
+-- In the slots of a context.
 module _ {K A T : Type 0} (v w : Value) where
-  -- the store with other slots of operations
+  -- the context with other slots of operations
   abbrev with_slots : ContextView K A T → List (Cell (OpView K A)) → ContextView K A T
   with_slots s l = record s { nodes = record s.nodes { ops = record s.nodes.ops { slots = l } } }
 
-  -- the store where the operations of the first n slots have it
+  -- the context where the operations of the first n slots have it
   abbrev pub replaced_to : ContextView K A T → ℕ → ContextView K A T
   replaced_to s n = with_slots s (first_mapped (cell_replaced v w) n s.nodes.ops.slots)
 

@@ -168,7 +168,7 @@ module _ {K A : Type 0} (v w : Value) where
   mapped_operands None = refl
   mapped_operands (Some o) = refl
 
--- In a store.
+-- In a context.
 module _ {K A T : Type 0} (s : ContextView K A T) (v w : Value) where
   abbrev after : ContextView K A T
   after = with_uses_replaced s v w

@@ -12,7 +12,11 @@ module _ {N : Type 0} where
   abbrev pub Reaches : (N → Option N) → N → N → Type 0
   Reaches up n a = (k : ℕ) × (climb up k (Some n) ≡ Some a)
 
+  -- each climb ends within k steps
+  abbrev pub EndsWithin : (N → Option N) → ℕ → Type 0
+  EndsWithin up k = (n : N) → climb up k (Some n) ≡ None
+
   -- nothing stands above itself: each climb ends
   pub record IsGrounded (up : N → Option N) : Type 0 where
     pub height : ℕ
-    pub ends : (n : N) → climb up height (Some n) ≡ None
+    pub ends : EndsWithin up height

@@ -1,8 +1,8 @@
 -- What can be seen of the nodes of a context, and what holds of it: they make a forest.
-use Rattle.std.specs.Prelude.{◌≡◌, ℕ, suc, ◌^◌, Bool, true, List, Option, Some, None}
+use Rattle.std.specs.Prelude.{◌≡◌, ℕ, suc, ◌^◌, Bool, true, List, Option, Some}
 use Rattle.plir_store.specs.Members.{Has, Distinct}
 use Rattle.plir_core.specs.declared.ptr.IRNode.{IRNode}
-use Rattle.plir_core.specs.Above.{climb}
+use Rattle.plir_core.specs.Above.{climb, EndsWithin}
 use Rattle.plir_core.specs.ContextView.{ContextView, children, parent_of, is_live, given_out}
 
 -- What can be seen of the nodes: the children of each node in order (none, if it is dead), the node right above it,
@@ -36,4 +36,4 @@ pub record IsForest (s : Shape) : Type 0 where
   pub child_live : (a x : IRNode) → Has (s.children a) x → s.live x ≡ true
   pub parent_live : (a x : IRNode) → s.parent x ≡ Some a → s.live a ≡ true
   pub live_given : (x : IRNode) → s.live x ≡ true → s.given x ≡ true
-  pub ends : (x : IRNode) → climb s.parent (2 ^ 40) (Some x) ≡ None
+  pub ends : EndsWithin s.parent (2 ^ 40)

@@ -19,7 +19,7 @@ module _ {K A : Type 0} where
   cell_replaced v w c = record { version = c.version; content = option_map (op_replaced v w) c.content }
 
 module _ {K A T : Type 0} where
-  -- the store with w in place of each operand that is v, and all else as it was
+  -- the context with w in place of each operand that is v, and all else as it was
   abbrev pub with_uses_replaced : ContextView K A T → Value → Value → ContextView K A T
   with_uses_replaced s v w = record s {
     nodes = record s.nodes

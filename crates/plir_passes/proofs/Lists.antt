@@ -8,7 +8,7 @@ use Rattle.plir_store.specs.MemberLaws.{Has-append_cases, Has-append_left, Has-a
 use Rattle.plir_core.specs.declared.ptr.Ptr.{Ptr}
 use Rattle.plir_core.specs.declared.ptr.Operation.{Operation as OperationKind}
 use Rattle.plir_walk.specs.NodeLaws.{same_ptr_tells}
-use Rattle.plir_walk.specs.Tree.{same_ptr}
+use Rattle.plir_core.specs.SameValue.{same_ptr}
 use Rattle.plir_passes.specs.declared.worklist.Worklist.{Worklist}
 use Rattle.plir_passes.specs.Worklists.{AreListed, IsListed, WaitAgain, Waits, ptr_eq}
 

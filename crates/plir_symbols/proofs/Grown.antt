@@ -12,7 +12,7 @@ use Rattle.plir_store.specs.MemberLaws.{Has-append_right}
 use Rattle.plir_core.specs.declared.ptr.Ptr.{Ptr}
 use Rattle.plir_core.specs.declared.ptr.Operation.{Operation as OperationKind}
 use Rattle.plir_walk.specs.NodeLaws.{same_ptr_tells}
-use Rattle.plir_walk.specs.Tree.{same_ptr}
+use Rattle.plir_core.specs.SameValue.{same_ptr}
 use Rattle.plir_symbols.specs.declared.reached.Reached.{Reached}
 use Rattle.plir_symbols.specs.Reaching.{IsGrown, IsWhole, is_among, ops_of, ptr_eq}
 use Rattle.plir_symbols.proofs.Edges.{take-next}

@@ -13,7 +13,7 @@ use Rattle.plir_core.specs.declared.ptr.BasicBlock.{BasicBlock as BasicBlockKind
 use Rattle.plir_core.specs.declared.ptr.IRNode.TheVariants.{Operation, BasicBlock}
 use Rattle.plir_core.specs.Contents.{OpView}
 use Rattle.plir_core.specs.ContextView.{ContextView, IsAncestor, IsLive, children, kind_in, op_at}
-use Rattle.plir_walk.specs.Tree.{same_ptr}
+use Rattle.plir_core.specs.SameValue.{same_ptr}
 use Rattle.plir_builtin.specs.Symbols.{body, is_table_kind}
 use Rattle.plir_builtin.specs.Table.{Table}
 use Rattle.plir_symbols.specs.SymbolNames.{names_in}

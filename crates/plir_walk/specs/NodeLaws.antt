@@ -19,7 +19,8 @@ use Rattle.plir_core.specs.Measures.{most_steps, depth, IsMeasured}
 use Rattle.plir_core.specs.Nodes.{Nodes, node_children}
 use Rattle.plir_core.specs.Forest.{look, IsForest}
 use Rattle.plir_core.specs.ContextView.{ContextView, num_live, children, parent_of}
-use Rattle.plir_walk.specs.Tree.{same, same_ptr}
+use Rattle.plir_core.specs.SameValue.{same_ptr}
+use Rattle.plir_walk.specs.Tree.{same}
 
 -- how many of a list of nodes there are from an operation on
 abbrev pub left_from : List IRNode → Option (Ptr OperationKind) → ℕ

@@ -1,9 +1,9 @@
 -- Trees, places in them, and the order of places.
-use Rattle.std.specs.Prelude.{◌≡◌, ◌≢◌, ℕ, ◌<◌, Bool, false, ◌&&◌, ◌==◌, List, [], ◌∷◌, Option, Some, slice_get}
+use Rattle.std.specs.Prelude.{◌≡◌, ◌≢◌, ℕ, ◌<◌, Bool, false, List, [], ◌∷◌, Option, Some, slice_get}
 use Rattle.std.specs.Prelude.{option_and_then, MatchOption, ◌⊎◌}
-use Rattle.plir_core.specs.declared.ptr.Ptr.{Ptr}
 use Rattle.plir_core.specs.declared.ptr.IRNode.{IRNode}
 use Rattle.plir_core.specs.declared.ptr.IRNode.TheVariants.{Operation, BasicBlock, Region}
+use Rattle.plir_core.specs.SameValue.{same_ptr}
 use Rattle.plir_walk.specs.declared.config.Order.TheVariants.{PreOrder, PostOrder}
 use Rattle.plir_walk.specs.declared.config.Direction.{Direction}
 use Rattle.plir_walk.specs.declared.config.Direction.TheVariants.{Forward, Reverse}
@@ -13,10 +13,6 @@ use Rattle.plir_walk.specs.Config.{order_of, direction_of}
 -- A tree gives the children of each node.
 abbrev pub Tree : Type 0
 Tree = IRNode → List IRNode
-
--- whether two pointers are the same
-abbrev pub same_ptr : {T : Type 0} → Ptr T → Ptr T → Bool
-same_ptr p q = (p.slot == q.slot) && (p.version == q.version)
 
 -- whether two nodes are the same: of one kind, with one slot and one version
 abbrev pub same : IRNode → IRNode → Bool

@@ -37,7 +37,7 @@ pub record SameSlots {C : Type 0} (t u : Table C) : Type 0 where
   pub free : u.free ≡ t.free
 
 module _ {K A T : Type 0} where
-  -- the store s with what operations and blocks hold in t
+  -- the context s with what operations and blocks hold in t
   abbrev pub with_contents_of : ContextView K A T → ContextView K A T → ContextView K A T
   with_contents_of t s = record s { nodes = record s.nodes { ops = t.nodes.ops; blocks = t.nodes.blocks } }
 
