@@ -138,11 +138,7 @@ fn is_point_live<D: OpSet>(ctx: &Context<D>, point: Option<OpInsertionPoint>) ->
 {
     match point {
         None => true,
-        Some(OpInsertionPoint::Unset) => true,
-        Some(OpInsertionPoint::AtBlockStart(block)) => block.is_live(ctx),
-        Some(OpInsertionPoint::AtBlockEnd(block)) => block.is_live(ctx),
-        Some(OpInsertionPoint::BeforeOperation(op)) => op.is_live(ctx),
-        Some(OpInsertionPoint::AfterOperation(op)) => op.is_live(ctx),
+        Some(point) => point.is_live(ctx),
     }
 }
 

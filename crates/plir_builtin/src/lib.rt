@@ -45,7 +45,7 @@ pub use symbol_table_err::SymbolTableErr;
 pub use symbol_table_op::{SymbolTableInterface, SymbolTableInterfaceErr};
 pub use symbol_user_op::SymbolUserOpInterface;
 pub use symbol_users::{SymbolUserSet, SymbolUses};
-pub use symbols::{SymbolOpInterfaceErr, is_symbol, symbol_name};
+pub use symbols::{SymbolOpInterfaceErr, is_symbol, name_in, symbol_name};
 pub use table_body::body_of;
 pub use table_links::TableLinks;
 pub use walking::{SymbolTableWalkerCallback, walk_symbol_table};

@@ -31,8 +31,8 @@ pub(crate) fn is_table<D: OpSet>(ctx: &Context<D>, op: Ptr<Operation>) -> bool
     kind_impls::<D>(op.kind(ctx), Interface::SymbolTable)
 }
 
-/// The name in an attribute.
-fn name_of<D: OpSet>(attribute: &AttrObj<D>) -> Option<&Identifier>
+/// The name in an attribute, if it is one.
+pub fn name_in<D: OpSet>(attribute: &AttrObj<D>) -> Option<&Identifier>
     ensures { option_map (λ n. n.now) result ≡ name_in (Some (attr_view attribute.now)) }
 {
     match attribute {
@@ -47,5 +47,5 @@ pub fn symbol_name<D: OpSet>(ctx: &Context<D>, op: Ptr<Operation>) -> Option<&Id
     ensures { option_map (λ n. n.now) result ≡ name_held (op_at ctx.now op) }
 {
     let attribute = op.attributes(ctx).get(ATTR_KEY_SYM_NAME)?;
-    name_of(attribute)
+    name_in(attribute)
 }

@@ -8,22 +8,12 @@ ghost use Rattle.plir_symbols.specs.BuiltinNames.{is_marked_private, is_text, na
 ghost use Rattle.plir_symbols.specs.SymbolNames.{is_private_in, names_in};
 
 use crate::symbol_names::SymbolNameKind;
-use plir_builtin::ATTR_KEY_SYM_NAME;
+use plir_builtin::{ATTR_KEY_SYM_NAME, name_in};
 use plir_core::{Context, Operation, Ptr};
 use plir_data::{AttrObj, BuiltinSet, Identifier, NoMeaning, OpSet};
 
 /// The key that a symbol's visibility stands under, where it has one: in a private one that is the text `private`.
 pub const ATTR_KEY_SYM_VISIBILITY: &'static str = "sym_visibility";
-
-// The name in an attribute.
-fn name_of<D: OpSet>(attribute: &AttrObj<D>) -> Option<&Identifier>
-    ensures { option_map (λ n. n.now) result ≡ name_in (Some (attr_view attribute.now)) }
-{
-    match attribute {
-        AttrObj::Identifier(name) => Some(name.as_ref()),
-        _ => None,
-    }
-}
 
 // The name that an entry of an operation's dictionary uses, if it uses one.
 fn name_under<'a, D: OpSet>(key: &str, attribute: &'a AttrObj<D>) -> Option<&'a Identifier>
@@ -32,7 +22,7 @@ fn name_under<'a, D: OpSet>(key: &str, attribute: &'a AttrObj<D>) -> Option<&'a 
     if key == ATTR_KEY_SYM_NAME {
         return None;
     }
-    name_of(attribute)
+    name_in(attribute)
 }
 
 // Whether an entry of an operation's dictionary uses a name.

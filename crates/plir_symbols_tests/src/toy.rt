@@ -1,6 +1,5 @@
 //! A toy op set: own kinds of operations, and nothing else.
 ghost use Rattle.std.specs.Prelude.{◌≡◌, ◌<◌, Some, length, option_map, slice_get};
-ghost use Rattle.plir_data.specs.AttrSeen.{attr_view};
 ghost use Rattle.plir_data.specs.Dictionary.{dict_get};
 ghost use Rattle.plir_core.specs.ContextView.{IsLive, attributes_of, op_at};
 ghost use Rattle.plir_core.specs.declared.ptr.IRNode.{IRNode as AnyNode};
@@ -8,8 +7,9 @@ ghost use Rattle.plir_builtin.specs.Symbols.{name_in};
 ghost use Rattle.plir_symbols.specs.SymbolNames.{is_private_in, names_in};
 ghost use Rattle.plir_symbols_tests.specs.Kinds.{callee_key, callees, is_marked};
 
+use plir_builtin::name_in;
 use plir_core::{Context, Operation, Ptr};
-use plir_data::{AttrObj, Identifier, KindSet, NeverRefused, OpSet, OwnKind};
+use plir_data::{Identifier, KindSet, NeverRefused, OpSet, OwnKind};
 use plir_symbols::SymbolNameKind;
 
 /// The key that the name of a symbol stands under that an operation uses.
@@ -67,22 +67,12 @@ impl OwnKind for ToyKind {
     }
 }
 
-// The name in an attribute.
-fn name_of<D: OpSet>(attribute: &AttrObj<D>) -> Option<&Identifier>
-    ensures { option_map (λ n. n.now) result ≡ name_in (Some (attr_view attribute.now)) }
-{
-    match attribute {
-        AttrObj::Identifier(name) => Some(name.as_ref()),
-        _ => None,
-    }
-}
-
 // The name that an operation uses, if it uses one.
 fn callee<D: OpSet>(ctx: &Context<D>, op: Ptr<Operation>) -> Option<&Identifier>
     requires { IsLive ctx.now (AnyNode.Operation op) }
     ensures { option_map (λ n. n.now) result ≡ name_in (dict_get (attributes_of ctx.now op) callee_key) }
 {
-    name_of(op.attributes(ctx).get(ATTR_KEY_CALLEE)?)
+    name_in(op.attributes(ctx).get(ATTR_KEY_CALLEE)?)
 }
 
 // Whether something stands under the key of private symbols.

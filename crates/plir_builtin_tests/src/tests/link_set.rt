@@ -1,15 +1,15 @@
 //! An op set whose operations are symbols, tables and users of symbols as their kinds say.
 ghost use Rattle.std.specs.Prelude.{◌≡◌, ◌↔◌, IfOk, IsTrue, Some, option_map};
-ghost use Rattle.plir_data.specs.AttrSeen.{attr_view};
 ghost use Rattle.plir_core.specs.ContextView.{IsLive};
 ghost use Rattle.plir_core.specs.declared.ptr.IRNode.{IRNode as AnyNode};
 ghost use Rattle.plir_builtin.specs.Agree.{AllAgree, AreGivenOut};
-ghost use Rattle.plir_builtin.specs.Symbols.{name_in};
 ghost use Rattle.plir_builtin_tests.specs.Links.{IsFoundIn, IsLinked, used_name};
 
 use crate::tests::around::scan;
 use crate::tests::many::new_func;
-use plir_builtin::{SymbolTableCollection, SymbolTableErr, SymbolUserOpInterface, SymbolUserSet};
+use plir_builtin::{
+    SymbolTableCollection, SymbolTableErr, SymbolUserOpInterface, SymbolUserSet, name_in,
+};
 use plir_core::{Context, Operation, Ptr};
 use plir_data::{
     AttrObj, Identifier, IdentifierAttr, Location, Memory, OpSet, OwnText, TypeHandle, TypeStore,
@@ -193,22 +193,12 @@ impl ScriptSet for LinkSet {
     }
 }
 
-// The name in an attribute.
-fn name_of<D: OpSet>(attribute: &AttrObj<D>) -> Option<&Identifier>
-    ensures { option_map (λ n. n.now) result ≡ name_in (Some (attr_view attribute.now)) }
-{
-    match attribute {
-        AttrObj::Identifier(name) => Some(name.as_ref()),
-        _ => None,
-    }
-}
-
 // The name of the symbol that an operation uses.
 fn used_symbol<D: OpSet>(ctx: &Context<D>, op: Ptr<Operation>) -> Option<&Identifier>
     requires { IsLive ctx.now (AnyNode.Operation op) }
     ensures { option_map (λ n. n.now) result ≡ used_name ctx.now op }
 {
-    name_of(op.attributes(ctx).get(ATTR_KEY_USES)?)
+    name_in(op.attributes(ctx).get(ATTR_KEY_USES)?)
 }
 
 // Whether a symbol of a name stands in the body of an operation.

@@ -8,4 +8,4 @@ use Rattle.plir_symbols.proofs.builtin_names.name_under.Goals as goal
 pub returns : goal.returns
 returns g c =
     let other : bytes_eq c.args.key.now symbol_key ≡ false = cc in
-    other-name c.args.key.now (attr_view c.args.attribute.now) _ other c.name_of.ensures
+    other-name c.args.key.now (attr_view c.args.attribute.now) _ other c.name_in.ensures
