@@ -12,8 +12,8 @@ use Rattle.plir_core.specs.Stored.{IsStored}
 use Rattle.plir_walk.specs.declared.config.Direction.{Direction}
 use Rattle.plir_walk.specs.declared.config.Direction.TheVariants.{Forward, Reverse}
 use Rattle.plir_walk.specs.declared.config.WalkConfig.{WalkConfig}
-use Rattle.plir_walk.specs.Config.{direction_of, direction_above}
-use Rattle.plir_walk.specs.Step.{after, taken}
+use Rattle.plir_walk.specs.Config.{direction_of}
+use Rattle.plir_walk.specs.Step.{after, direction_above, taken}
 use Rattle.plir_walk.proofs.ListLinks.{next-is, prev-is}
 
 module _ {O B : Type 0} (w : WalkConfig) (s : Nodes O B) where

@@ -21,12 +21,6 @@ order_of w n = (pair_of w n).0
 abbrev pub direction_of : WalkConfig → IRNode → Direction
 direction_of w n = (pair_of w n).1
 
--- how a node and its siblings are taken, by the kind of what they stand in
-abbrev pub direction_above : WalkConfig → IRNode → Direction
-direction_above w (Operation p) = w.ops_in_block.1
-direction_above w (BasicBlock p) = w.blocks_in_region.1
-direction_above w (Region p) = w.regions_in_op.1
-
 -- all levels are PreOrder
 abbrev pub AllPre : WalkConfig → Type 0
 AllPre w = (w.regions_in_op.0 ≡ PreOrder) × (w.ops_in_block.0 ≡ PreOrder) × (w.blocks_in_region.0 ≡ PreOrder)
@@ -34,7 +28,3 @@ AllPre w = (w.regions_in_op.0 ≡ PreOrder) × (w.ops_in_block.0 ≡ PreOrder) �
 -- all levels are PostOrder
 abbrev pub AllPost : WalkConfig → Type 0
 AllPost w = (w.regions_in_op.0 ≡ PostOrder) × (w.ops_in_block.0 ≡ PostOrder) × (w.blocks_in_region.0 ≡ PostOrder)
-
--- the setting with one order and one direction at all levels
-abbrev pub uniform : Order → Direction → WalkConfig
-uniform o d = record { regions_in_op = (o, d); ops_in_block = (o, d); blocks_in_region = (o, d) }

@@ -4,6 +4,8 @@ use Rattle.std.specs.declared.ops.ControlFlow.TheVariants.{Continue}
 use Rattle.plir_walk.specs.declared.interruptible.WalkContinue.TheVariants.{Skip}
 use Rattle.plir_core.specs.declared.ptr.IRNode.{IRNode}
 use Rattle.plir_core.specs.Forest.{Shape}
+use Rattle.plir_walk.specs.declared.config.Direction.{Direction}
+use Rattle.plir_walk.specs.declared.config.Order.{Order}
 use Rattle.plir_walk.specs.declared.config.Order.TheVariants.{PostOrder}
 use Rattle.plir_walk.specs.declared.config.WalkConfig.{WalkConfig}
 use Rattle.plir_walk.specs.declared.config.TheConstants.{WALKCONFIG_PREORDER_FORWARD as pre_forward}
@@ -15,6 +17,10 @@ use Rattle.plir_walk.specs.Tree.{Tree, IsUnder, HasOnePlaceEach, NodeBefore}
 use Rattle.plir_walk.specs.Calls.{Call, Relation, Chain, nodes_of}
 use Rattle.plir_walk.specs.ShutOut.{IsShutOut}
 use Rattle.plir_walk.specs.Walked.{IsCallUnder}
+
+-- the setting with one order and one direction at all levels
+abbrev pub uniform : Order → Direction → WalkConfig
+uniform o d = record { regions_in_op = (o, d); ops_in_block = (o, d); blocks_in_region = (o, d) }
 
 -- Before is a total order on the nodes under r: no node is before itself, what is before a node is before what that one
 -- is before, and of two different nodes one is before the other.

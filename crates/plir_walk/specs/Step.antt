@@ -3,6 +3,7 @@
 use Rattle.std.specs.Prelude.{◌≡◌, ℕ, zero, suc, Bool, true, false, not, cond, List, [], ◌∷◌, reverse}
 use Rattle.std.specs.Prelude.{Option, Some, None, option_and_then, option_map}
 use Rattle.plir_core.specs.declared.ptr.IRNode.{IRNode}
+use Rattle.plir_core.specs.declared.ptr.IRNode.TheVariants.{Operation, BasicBlock, Region}
 use Rattle.plir_core.specs.Forest.{Shape, IsForest}
 use Rattle.std.specs.declared.ops.ControlFlow.{ControlFlow}
 use Rattle.std.specs.declared.ops.ControlFlow.TheVariants.{Continue}
@@ -17,6 +18,12 @@ use Rattle.plir_walk.specs.declared.interruptible.WalkContinue.TheVariants.{Adva
 use Rattle.plir_store.specs.Members.{head}
 use Rattle.plir_walk.specs.Config.{direction_of, order_of}
 use Rattle.plir_walk.specs.Tree.{same}
+
+-- how a node and its siblings are taken, by the kind of what they stand in
+abbrev pub direction_above : WalkConfig → IRNode → Direction
+direction_above w (Operation p) = w.ops_in_block.1
+direction_above w (BasicBlock p) = w.blocks_in_region.1
+direction_above w (Region p) = w.regions_in_op.1
 
 -- the node that follows n in a list
 abbrev pub after : IRNode → List IRNode → Option IRNode

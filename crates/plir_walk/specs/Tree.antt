@@ -17,14 +17,9 @@ Tree = IRNode → List IRNode
 -- whether two nodes are the same: of one kind, with one slot and one version
 abbrev pub same : IRNode → IRNode → Bool
 same (Operation p) (Operation q) = same_ptr p q
-same (Operation p) (BasicBlock q) = false
-same (Operation p) (Region q) = false
-same (BasicBlock p) (Operation q) = false
 same (BasicBlock p) (BasicBlock q) = same_ptr p q
-same (BasicBlock p) (Region q) = false
-same (Region p) (Operation q) = false
-same (Region p) (BasicBlock q) = false
 same (Region p) (Region q) = same_ptr p q
+same _ _ = false
 
 -- A place under a node is the list of child positions on the way from it.
 abbrev pub Place : Type 0

@@ -2,7 +2,7 @@
 #![tactic(auto)]
 
 ghost use Rattle.std.specs.Prelude.{◌≡◌};
-ghost use Rattle.plir_walk.specs.Config.{order_of, direction_of, direction_above};
+ghost use Rattle.plir_walk.specs.Config.{order_of, direction_of};
 
 use plir_core::IRNode;
 
@@ -45,18 +45,6 @@ impl WalkConfig {
             IRNode::Operation(_) => self.regions_in_op,
             IRNode::BasicBlock(_) => self.ops_in_block,
             IRNode::Region(_) => self.blocks_in_region,
-        }
-    }
-
-    /// The direction for what stands right above a node, and so for the node and its siblings.
-    #[inline(always)]
-    pub(crate) fn direction_above(&self, node: IRNode) -> Direction
-        ensures { result ≡ direction_above self.now node }
-    {
-        match node {
-            IRNode::Operation(_) => self.ops_in_block.1,
-            IRNode::BasicBlock(_) => self.blocks_in_region.1,
-            IRNode::Region(_) => self.regions_in_op.1,
         }
     }
 }

@@ -2,7 +2,6 @@
 #![tactic(auto)]
 
 ghost use Rattle.std.specs.Prelude.{◌≡◌, List, true};
-ghost use Rattle.plir_walk.specs.Config.{uniform};
 ghost use Rattle.plir_walk.specs.declared.config.Direction.TheVariants.{Forward, Reverse};
 ghost use Rattle.plir_walk.specs.declared.config.Order.TheVariants.{PreOrder, PostOrder};
 ghost use Rattle.plir_walk.specs.declared.config.TheConstants.{WALKCONFIG_PREORDER_FORWARD as pre_forward};
@@ -19,7 +18,7 @@ ghost use Rattle.plir_walk.specs.Calls.{Advancing, Call, ReadsBack};
 ghost use Rattle.plir_walk.specs.ChangedBelow.{StepsBelow};
 ghost use Rattle.plir_walk.specs.LawfulChanges.{LawfulChanges};
 ghost use Rattle.plir_walk.specs.Laws.{BeforeOrders, PostReverseIsPreForwardReversed, SkipsAtPostOrder};
-ghost use Rattle.plir_walk.specs.Laws.{ShutsOutNothing, WalkedOnce};
+ghost use Rattle.plir_walk.specs.Laws.{ShutsOutNothing, WalkedOnce, uniform};
 ghost use Rattle.plir_walk.specs.Thinned.{ErasuresThin, LeavesThin, ThinningKeepsRoom};
 
 use crate::config::WalkConfig;

@@ -7,8 +7,8 @@ ghost use Rattle.plir_core.specs.declared.ptr.IRNode.{IRNode as AnyNode};
 ghost use Rattle.plir_core.specs.ContextView.{IsLive, first_child, last_child, next_sibling, prev_sibling};
 ghost use Rattle.plir_core.specs.Forest.{Shape, IsForest};
 ghost use Rattle.plir_core.specs.WellFormed.{IsWellFormed};
-ghost use Rattle.plir_walk.specs.Config.{direction_of, direction_above, order_of};
-ghost use Rattle.plir_walk.specs.Step.{first_of, next_of};
+ghost use Rattle.plir_walk.specs.Config.{direction_of, order_of};
+ghost use Rattle.plir_walk.specs.Step.{direction_above, first_of, next_of};
 
 use crate::config::{Direction, Order, WalkConfig};
 use plir_core::laws::contexts_stand;
