@@ -109,7 +109,7 @@ module _ {C S B : Type 0} (is_table : Ptr OperationKind → Bool) (t : Tree) (re
     }),
   )
 
-  hands-all : NoBreak xs → CallsAllDue pre_forward t (Region reg) xs → CallsAllInTable is_table t (Region reg) hs
+  hands-all : NoBreak xs → CallsAllDue pre_forward t (Region reg) (IsDue pre_forward t (Region reg)) xs → CallsAllInTable is_table t (Region reg) hs
   hands-all none all p = (
     λ i. let d = (all (Operation p)).0 (kept-has is_table xs hs k (Operation p) i) in
         hand-from p d (λ q u v e. elim (table-called is_table xs hs k q
@@ -121,8 +121,10 @@ module _ {C S B : Type 0} (is_table : Ptr OperationKind → Bool) (t : Tree) (re
   )
 
   module _ (front : List (Call C S B)) (x : Call C S B) (b : B) (are : xs ≡ front ++ x ∷ [])
-      (broke : x.answer ≡ Break b) (none : NoBreak front) (upto : CallsUpToLast pre_forward t (Region reg) xs) where
-    tables-skipped : (p : Ptr OperationKind) → IsDueUpTo pre_forward t (Region reg) xs x (Operation p)
+      (broke : x.answer ≡ Break b) (none : NoBreak front) (upto : CallsUpToLast pre_forward t (Region reg)
+      (IsDue pre_forward t (Region reg)) xs xs) where
+    tables-skipped : (p : Ptr OperationKind) → IsDueUpTo pre_forward t (Region reg)
+        (IsDue pre_forward t (Region reg)) xs x.node (Operation p)
         → (q : Ptr OperationKind) → IsUnder t (Region reg) (Operation q) → IsProperlyUnder t (Operation q) (Operation p)
         → is_table q ≡ true → IsSkipped xs (Operation q)
     tables-skipped p d q u v e =

@@ -21,7 +21,8 @@ use Rattle.plir_walk.specs.declared.interruptible.WalkContinue.TheVariants.{Adva
 use Rattle.plir_walk.specs.Calls.{Call, Relation, Chain, nodes_of, NoBreak}
 use Rattle.plir_walk.specs.CallLaws.{chain-each}
 use Rattle.plir_walk.specs.Lists.{Pairs}
-use Rattle.plir_walk.specs.OperationWalks.{OperationRelation, AtOperations, WalkedOperations, OperationAnswers}
+use Rattle.plir_walk.specs.OperationWalks.{OperationRelation, AtOperations, IsOperationDue, WalkedOperations}
+use Rattle.plir_walk.specs.Walk.{AnswersBy}
 use Rattle.plir_walk.specs.Walked.{IsCallUnder}
 use Rattle.plir_walk.specs.NodeLaws.{same-op}
 use Rattle.plir_symbols.specs.declared.call_edges.CallEdge.{CallEdge}
@@ -158,20 +159,21 @@ module _ {D K A T E : Type 0} (o : op_set.Ghosts D K A T E) (names : OpView K A 
         WalkedOperations look pre_forward post s u (Operation root) answer u' →
         AreBoxesPut o names s ends root (text u) (text u')
     walked-boxes answer k is u u' walked =
-        let answers = subst (λ z. OperationAnswers pre_forward (look s).children (Operation root) walked.calls z) is
-        walked.walk.answers in
+        let t = (look s).children in
+        let answers = subst (λ z. AnswersBy pre_forward t (Operation root) (IsOperationDue pre_forward t (Operation root))
+        walked.calls z) is walked.walk.answers in
         let nodes = nodes_of walked.calls in
         record {
           ops = ops_in nodes;
           are_ops = record {
             only_ops = λ p h. ((answers.2 (Operation p)).0 (op-has nodes p h)).0.0;
-            all_ops = λ p under. has-op nodes p ((answers.2 (Operation p)).1 (
+            all_ops = λ p under. has-op nodes p ((answers.2 (Operation p)).1 ((
               under,
               λ shut.
                   (let y = shut.skipped in
                   no-skip y.0.before y.0.state y.0.node y.0.answer y.0.after y.0.left
                   (chain-each call s u walked.calls s u' walked.chain y.0 y.1).made y.3),
-            ) refl);
+            ), refl));
             in_order = op-pairs _ nodes walked.walk.in_order.increasing;
           };
           put = all-put walked.calls s u s u' refl walked.chain answers.1

@@ -13,7 +13,8 @@ use Rattle.plir_walk.specs.declared.config.TheConstants.{WALKCONFIG_PREORDER_FOR
 use Rattle.plir_walk.specs.declared.interruptible.WalkContinue.{WalkContinue}
 use Rattle.plir_walk.specs.declared.interruptible.WalkContinue.TheVariants.{Advance, Skip}
 use Rattle.plir_walk.specs.Calls.{Call, Relation, Chain, nodes_of, NoBreak}
-use Rattle.plir_walk.specs.OperationWalks.{OperationRelation, AtOperations, WalkedOperations, OperationAnswers}
+use Rattle.plir_walk.specs.OperationWalks.{OperationRelation, AtOperations, IsOperationDue, WalkedOperations}
+use Rattle.plir_walk.specs.Walk.{AnswersBy}
 use Rattle.plir_walk.specs.TreeLaws.{reached-under, under-reached}
 use Rattle.plir_walk.specs.Walked.{IsCallUnder}
 use Rattle.plir_walk.specs.NodeLaws.{same-op}
@@ -83,16 +84,17 @@ module _ {K A T : Type 0} (effect ends : K → Bool) (s : ContextView K A T) {B 
       → (u u' : Worklist) → WalkedOperations look pre_forward post s u (Operation root) answer u' →
       AreListed (λ q. IsAncestor s (Operation root) (Operation q) × MayGo effect ends s q) u u'
   walked-listed forest answer k is u u' walked =
-      let answers = subst (λ z. OperationAnswers pre_forward (look s).children (Operation root) walked.calls z) is
-      walked.walk.answers in
+      let t = (look s).children in
+      let answers = subst (λ z. AnswersBy pre_forward t (Operation root) (IsOperationDue pre_forward t (Operation root))
+      walked.calls z) is walked.walk.answers in
       let all = all-listed walked.calls s u s u' refl walked.chain answers.1 in
       listed-as u u'
       (λ q c. (under-reached (look s) forest (Operation q) (Operation root) ((answers.2 (Operation q)).0 c.0).0.0, c.1))
       (λ q c. (
-        (answers.2 (Operation q)).1 (
+        (answers.2 (Operation q)).1 ((
           reached-under (look s) forest c.0.0 (Operation q) (Operation root) c.0.1,
           λ out. all.0 out.skipped.0 out.skipped.1 out.skipped.3,
-        ) refl,
+        ), refl),
         c.1,
       )) all.1
 

@@ -18,12 +18,11 @@ use Rattle.plir_walk.specs.declared.config.TheConstants.{WALKCONFIG_PREORDER_FOR
 use Rattle.plir_walk.specs.declared.interruptible.WalkContinue.{WalkContinue}
 use Rattle.plir_walk.specs.declared.interruptible.WalkContinue.TheVariants.{Advance, Skip}
 use Rattle.plir_walk.specs.Calls.{Call, Relation, Chain, nodes_of, NoBreak}
-use Rattle.plir_walk.specs.OperationWalks.{OperationRelation, AtOperations, WalkedOperations, OperationAnswers}
-use Rattle.plir_walk.specs.OperationWalks.{CallsAllDueOperations}
+use Rattle.plir_walk.specs.OperationWalks.{OperationRelation, AtOperations, IsOperationDue, WalkedOperations}
 use Rattle.plir_walk.specs.ShutOut.{IsShutOut}
 use Rattle.plir_walk.specs.TreeLaws.{reached-under, under-reached, under-cases, properly-trans, pre-order}
 use Rattle.plir_walk.specs.Tree.{IsUnder, IsProperlyUnder}
-use Rattle.plir_walk.specs.Walk.{IsDue}
+use Rattle.plir_walk.specs.Walk.{AnswersBy, CallsAllDue, IsDue}
 use Rattle.plir_walk.specs.Walked.{IsCallUnder}
 use Rattle.plir_walk.specs.NodeLaws.{same-op}
 use Rattle.plir_builtin.specs.Table.{Table}
@@ -101,7 +100,9 @@ module _ {K A T : Type 0} (own_table : K → Bool) (names : OpView K A → List 
       (subst (λ z. IsGrown (IsOf m.op) z y.left) h.1 first) rest
 
   module _ (forest : IsForest (look s)) (calls : List OneCall) (u u' : Reached) (chain : Chain call s u calls s u')
-      (goes_on : NoBreak calls) (all : CallsAllDueOperations pre_forward (children s) (Operation root) calls) where
+      (goes_on : NoBreak calls)
+      (all : CallsAllDue pre_forward (children s) (Operation root)
+      (IsOperationDue pre_forward (children s) (Operation root)) calls) where
     abbrev shut : IRNode → Type 0
     shut n = IsShutOut pre_forward (children s) (Operation root) calls n
 
@@ -156,7 +157,7 @@ module _ {K A T : Type 0} (own_table : K → Bool) (names : OpView K A → List 
                 | inl t ↦ elim (under-cases (children s) (Operation m) (Operation p) over) [
                   | inl same ↦ ap table_at (same-op m p same) ∙ off
                   | inr proper ↦
-                      let called = (all (Operation m)).1 (
+                      let called = (all (Operation m)).1 ((
                         under,
                         λ out. due.1 (record {
                           ancestor = out.ancestor;
@@ -165,7 +166,7 @@ module _ {K A T : Type 0} (own_table : K → Bool) (names : OpView K A → List 
                           order = out.order;
                           skipped = out.skipped;
                         }),
-                      ) refl in
+                      ), refl) in
                       absurd (due.1 (record {
                         ancestor = Operation m;
                         under_root = under;
@@ -179,7 +180,7 @@ module _ {K A T : Type 0} (own_table : K → Bool) (names : OpView K A → List 
 
     open-called : (p : Ptr OperationKind) → IsOpenUnder own_table names s c root p → Has (nodes_of calls) (Operation p)
     open-called p free =
-        (all (Operation p)).1 (
+        (all (Operation p)).1 ((
           reached-under (look s) forest free.0.0 (Operation p) (Operation root) free.0.1,
           λ out.
               (let x = out.skipped in
@@ -190,7 +191,7 @@ module _ {K A T : Type 0} (own_table : K → Bool) (names : OpView K A → List 
               (under-reached (look s) forest out.ancestor (Operation root) out.under_root))
               (subst (λ z. IsAncestor s z (Operation p)) at
               (under-reached (look s) forest (Operation p) out.ancestor (out.above.0 ∷ out.above.1, out.above.2))))),
-        ) refl
+        ), refl)
 
     walked-grown : IsGrown (IsCalled calls) u u' → IsGrown (IsToldUnder own_table names s c root) u u'
     walked-grown h =
@@ -202,8 +203,9 @@ module _ {K A T : Type 0} (own_table : K → Bool) (names : OpView K A → List 
       → (u u' : Reached) → WalkedOperations look pre_forward post s u (Operation root) answer u' →
       IsGrown (IsToldUnder own_table names s c root) u u'
   walked-reached forest answer k is u u' walked =
-      let answers = subst (λ z. OperationAnswers pre_forward (look s).children (Operation root) walked.calls z) is
-      walked.walk.answers in
+      let t = (look s).children in
+      let answers = subst (λ z. AnswersBy pre_forward t (Operation root) (IsOperationDue pre_forward t (Operation root))
+      walked.calls z) is walked.walk.answers in
       walked-grown forest walked.calls u u' walked.chain answers.1 answers.2
       (all-grown walked.calls s u s u' refl walked.chain answers.1)
 

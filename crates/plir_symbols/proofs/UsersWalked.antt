@@ -19,7 +19,8 @@ use Rattle.plir_walk.specs.declared.interruptible.WalkContinue.TheVariants.{Adva
 use Rattle.plir_walk.specs.Calls.{Call, Relation, Chain, nodes_of, NoBreak}
 use Rattle.plir_walk.specs.CallLaws.{chain-each}
 use Rattle.plir_walk.specs.Lists.{Pairs}
-use Rattle.plir_walk.specs.OperationWalks.{OperationRelation, AtOperations, WalkedOperations, OperationAnswers}
+use Rattle.plir_walk.specs.OperationWalks.{OperationRelation, AtOperations, IsOperationDue, WalkedOperations}
+use Rattle.plir_walk.specs.Walk.{AnswersBy}
 use Rattle.plir_walk.specs.Walked.{IsCallUnder}
 use Rattle.plir_walk.specs.NodeLaws.{same-op}
 use Rattle.plir_symbols.specs.SymbolNames.{names_in}
@@ -151,21 +152,22 @@ module _ {K A T : Type 0} (names : OpView K A → List (List ℕ)) (s : ContextV
         items u ≡ []
         → WalkedOperations look pre_forward post s u (Operation root) answer u' → AreUsers names s root (items u')
     walked-users answer k is u u' none walked =
-        let answers = subst (λ z. OperationAnswers pre_forward (look s).children (Operation root) walked.calls z) is
-        walked.walk.answers in
+        let t = (look s).children in
+        let answers = subst (λ z. AnswersBy pre_forward t (Operation root) (IsOperationDue pre_forward t (Operation root))
+        walked.calls z) is walked.walk.answers in
         let nodes = nodes_of walked.calls in
         let put : items u' ≡ users_in nodes = all-put walked.calls s u s u' refl walked.chain answers.1
         ∙ ap (λ z. z ++ users_in nodes) none in
         subst (AreUsers names s root) (sym put) (record {
           only_users = λ p h.
               (let f = has-user nodes p h in record { below = ((answers.2 (Operation p)).0 f.0).0.0; uses = f.1 });
-          all_users = λ p i. user-has nodes p ((answers.2 (Operation p)).1 (
+          all_users = λ p i. user-has nodes p ((answers.2 (Operation p)).1 ((
             i.below,
             λ shut.
                 (let y = shut.skipped in
                 no-skip y.0.before y.0.state y.0.node y.0.answer y.0.after y.0.left
                 (chain-each call s u walked.calls s u' walked.chain y.0 y.1).made y.3),
-          ) refl) i.uses;
+          ), refl)) i.uses;
           in_order = user-pairs _ nodes walked.walk.in_order.increasing;
         })
 

@@ -109,7 +109,7 @@ module _ {K A T S B : Type 0} (w : WalkConfig) (post : OperationRelation (Contex
   at-end : (k : WalkContinue) → WalkedOperations look w post c0 s0 (Operation root) (Continue k) s1
       → (p : Ptr OperationKind) → IsUnder (look c0).children (Operation root) (Operation p) → Right p
   at-end k h p under =
-      let x = call-of h.calls (Operation p) ((h.walk.answers.2 (Operation p)).1 (due (Continue k) h p under) refl) in
+      let x = call-of h.calls (Operation p) ((h.walk.answers.2 (Operation p)).1 (due (Continue k) h p under, refl)) in
       past (Continue k) h p x.0 x.1 x.2 (none-breaks h.calls h.walk.answers.1 x.0 x.1)
 
   -- The first operation that is refused, and how.
@@ -147,7 +147,7 @@ module _ {K A T S B : Type 0} (w : WalkConfig) (post : OperationRelation (Contex
             let within : Less end.node (Operation q) → ⊥ = λ e.
             order.irreflexive (Operation q) (order.transitive (Operation q) (Operation r.0) (Operation q) lt
             (subst (λ n. Less n (Operation q)) r.1 e)) in
-            let x = call-of h.calls (Operation q) ((up (Operation q)).1 (due (Break b) h q under, within) refl) in
+            let x = call-of h.calls (Operation q) ((up (Operation q)).1 ((due (Break b) h q under, refl), within)) in
             past (Break b) h q x.0 x.1 x.2 (λ d e.
             let is : end ≡ x.0 = last-breaks front end last.4 x.0 (subst (λ z. Has z x.0) are x.1) d e in
             let same : Operation q ≡ Operation r.0 = sym x.2 ∙ (sym (ap (λ z. z.node) is) ∙ r.1) in

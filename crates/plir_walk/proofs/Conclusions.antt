@@ -9,7 +9,7 @@ use Rattle.plir_walk.specs.Config.{AllPost, AllPre, order_of}
 use Rattle.plir_walk.specs.Lists.{Pairs}
 use Rattle.plir_store.specs.Members.{Has}
 use Rattle.plir_walk.specs.Tree.{HasOnePlaceEach, IsUnder, NodeBefore, Place, Tree, node_at, same}
-use Rattle.plir_walk.specs.Walk.{Answers, AnswersWithin, CallsAllDue, CallsUpToLast, InOrder, IsWalkWithin}
+use Rattle.plir_walk.specs.Walk.{Answers, AnswersWithin, CallsAllDue, CallsUpToLast, InOrder, IsDue, IsWalkWithin}
 use Rattle.plir_walk.specs.Walked.{IsCallUnder, KeepsShape, Walked}
 use Rattle.plir_walk.specs.declared.config.Order.{Order}
 use Rattle.plir_walk.specs.declared.config.WalkConfig.{WalkConfig}
@@ -61,13 +61,14 @@ module _ {C S B : Type 0} (w : WalkConfig) (u : Tree) (r : IRNode) (calls : List
         (λ a b h. cut-node-before w u calls v.distinct r a b h) v.increasing;
   }
 
-  pub all-due : ((n : IRNode) → IsUnder (cut w calls u) r n → Has (nodes_of calls) n) → CallsAllDue w u r calls
+  pub all-due : ((n : IRNode) → IsUnder (cut w calls u) r n → Has (nodes_of calls) n) → CallsAllDue w u r (IsDue w u r)
+      calls
   all-due all n = (
     λ h. under-due w u calls v.distinct r n one (v.under_root n h),
     λ h. all n (due-under-cut w u calls v.distinct r n h),
   )
 
-  pub up-to-last : CallsUpToLast w u r calls
+  pub up-to-last : CallsUpToLast w u r (IsDue w u r) calls calls
   up-to-last front end e n =
       let ns : nodes_of calls ≡ nodes_of front ++ end.node ∷ [] = ap nodes_of e ∙ nodes-append front (end ∷ []) in
       let pairs : Pairs (NodeBefore w u r) (nodes_of front ++ end.node ∷ []) = subst

@@ -10,7 +10,8 @@ use Rattle.plir_core.specs.declared.ptr.IRNode.TheVariants.{Operation, BasicBloc
 use Rattle.plir_core.specs.Forest.{Shape}
 use Rattle.plir_walk.specs.Calls.{ReadsBack, Relation}
 use Rattle.plir_walk.specs.Lawful.{Lawful}
-use Rattle.plir_walk.specs.OperationLaws.{ops-chain, walked_operations}
+use Rattle.plir_walk.specs.AsRead.{tree_read}
+use Rattle.plir_walk.specs.OperationLaws.{operations_within, ops-chain, walked_operations}
 use Rattle.plir_walk.specs.OperationWalks.{AtEachNode, IsLawfulAtOperations, OperationRelation, WalkedOperations}
 use Rattle.plir_walk.specs.OperationWalks.{WalkedOperationsWithin, operation_calls}
 use Rattle.plir_walk.specs.Walked.{IsCallUnder, IsLawful, Walked, WalkedOver}
@@ -78,6 +79,8 @@ module _ {C S B : Type 0} (look : C → Shape) (post : OperationRelation C S B) 
             unchanged = λ k. h.unchanged (λ d t n b d' t' p. k d t n b d' t' (wrapped d t n b d' t' p));
           };
           chain = ops-chain look post r c s h.calls c' s' chain;
+          as_read = operations_within look post r c s h.calls c' s' chain w (tree_read look w h.calls c') limit a
+              h.as_read;
         }
 
 -- where a callback only reads the context, so does what is done at each node

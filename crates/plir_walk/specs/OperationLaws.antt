@@ -1,6 +1,7 @@
 -- Laws of walks that call at operations alone, for the proofs of passes: what is done at each node, taken at operations
 -- alone, still goes from the entry to the exit, and is a walk of the operations.
-use Rattle.std.proofs.Common.{◌≡◌, Bool, true, false, cond, List, [], ◌∷◌, ◌++◌, inl, inr, refl, sym, ap, subst, ◌∙◌}
+use Rattle.std.proofs.Common.{◌≡◌, ℕ, Bool, true, false, cond, List, [], ◌∷◌, ◌++◌, Result, Ok, Err, inl, inr}
+use Rattle.std.proofs.Common.{refl, sym, ap, subst, ◌∙◌}
 use Rattle.std.specs.List.{filter}
 use Rattle.std.proofs.lemmas.Bool.{cases_Bool, false≢true, true≢false}
 use Rattle.std.proofs.lemmas.List.Elements.{filter-append}
@@ -14,13 +15,15 @@ use Rattle.plir_core.specs.Forest.{Shape}
 use Rattle.plir_walk.specs.CallLaws.{chain-each}
 use Rattle.plir_walk.specs.Calls.{Call, Chain, NoBreak, Relation, nodes_of}
 use Rattle.plir_walk.specs.Lists.{Pairs}
-use Rattle.plir_walk.specs.OperationWalks.{AtEachNode, AtOperations, CallsOperationsUpToLast, IsOperationWalk}
-use Rattle.plir_walk.specs.OperationWalks.{OperationAnswers, OperationRelation, is_operation, operation_calls}
+use Rattle.plir_walk.specs.OperationWalks.{AreOperationsCalled, AtEachNode, AtOperations, IsOperationDue}
+use Rattle.plir_walk.specs.OperationWalks.{OperationRelation, is_operation, operation_calls}
 use Rattle.plir_walk.specs.ShutOut.{IsShutOut}
 use Rattle.plir_walk.specs.Tree.{NodeBefore, Tree}
-use Rattle.plir_walk.specs.Walk.{Answers, CallsUpToLast, InOrder, IsDue, IsWalk}
+use Rattle.plir_walk.specs.Walk.{Answers, AnswersBy, CallsUpToLast, InOrder, IsDue, IsDueUpTo, IsWalk, IsWalkOf}
+use Rattle.plir_walk.specs.Walk.{IsWalkWithin}
 use Rattle.plir_walk.specs.Walked.{IsCallUnder}
 use Rattle.plir_walk.specs.declared.config.WalkConfig.{WalkConfig}
+use Rattle.plir_walk.specs.declared.limit.CallLimit.{CallLimit}
 use Rattle.plir_walk.specs.declared.interruptible.WalkContinue.{WalkContinue}
 use Rattle.plir_walk.specs.declared.interruptible.WalkContinue.TheVariants.{Advance}
 
@@ -190,27 +193,36 @@ module _ {C S B : Type 0} (look : C → Shape) (post : OperationRelation C S B) 
         increasing = ops-Pairs (NodeBefore w t r) xs h.increasing;
       }
 
-      ops-up-to : (end : Call C S B) (front : List (Call C S B)) → xs ≡ front ++ end ∷ [] →
-          is_operation end.node ≡ true → CallsUpToLast w t r xs → CallsOperationsUpToLast w t r (operation_calls xs)
-      ops-up-to end front e op up front' end' g n =
-          let split = ap operation_calls e ∙ last-kept (λ y. is_operation y.node) front end op in
-          let same = last-same (operation_calls front) front' end end' (sym split ∙ g) in
+      -- exactly the due operations were called that are not after the last node that the walk came to
+      pub ops-up-to : CallsUpToLast w t r (IsDue w t r) xs xs →
+          CallsUpToLast w t r (IsOperationDue w t r) (operation_calls xs) xs
+      ops-up-to up front end e n =
           let here = up front end e n in (
-            λ h. (let m = nodes-ops xs n h in let d = here.0 m.0 in
-                ((due-fewer n d.0, λ k. d.1 (subst (λ z. NodeBefore w t r z.node n) (sym same) k)), m.1)),
-            λ d o. (let not_after = λ (k : NodeBefore w t r end.node n).
-                d.1 (subst (λ z. NodeBefore w t r z.node n) same k) in
-                ops-nodes xs n (here.1 (due-more n d.0, not_after)) o),
+            λ h. (let m = nodes-ops xs n h in let d = here.0 m.0 in ((due-fewer n d.0, m.1), d.1)),
+            λ d. ops-nodes xs n (here.1 (due-more n d.0.0, d.1)) d.0.1,
           )
 
+      abbrev up-to : Call C S B → IRNode → Type 0
+      up-to end n = IsDueUpTo w t r (IsOperationDue w t r) (operation_calls xs) end.node n
+
+      -- the last of the calls at operations is the last of all, if this is one
+      ops-up-to-last : (end : Call C S B) (front : List (Call C S B)) → xs ≡ front ++ end ∷ [] →
+          is_operation end.node ≡ true → CallsUpToLast w t r (IsOperationDue w t r) (operation_calls xs) xs →
+          CallsUpToLast w t r (IsOperationDue w t r) (operation_calls xs) (operation_calls xs)
+      ops-up-to-last end front e op up front' end' g =
+          let split = ap operation_calls e ∙ last-kept (λ y. is_operation y.node) front end op in
+          let same = last-same (operation_calls front) front' end end' (sym split ∙ g) in
+          subst (λ z. (n : IRNode) → (Has (nodes_of (operation_calls xs)) n → up-to z n) ×
+              (up-to z n → Has (nodes_of (operation_calls xs)) n)) same (up front end e)
+
       pub ops-answers : (a : ControlFlow B WalkContinue) → Answers w t r xs a →
-          OperationAnswers w t r (operation_calls xs) a
+          AnswersBy w t r (IsOperationDue w t r) (operation_calls xs) a
       ops-answers (Continue k) h = (
         h.0,
         ops-NoBreak xs h.1,
         λ n. (
           λ i. (let m = nodes-ops xs n i in (due-fewer n ((h.2 n).0 m.0), m.1)),
-          λ d o. ops-nodes xs n ((h.2 n).1 (due-more n d)) o,
+          λ d. ops-nodes xs n ((h.2 n).1 (due-more n d.0)) d.1,
         ),
       )
       ops-answers (Break b) h =
@@ -219,12 +231,20 @@ module _ {C S B : Type 0} (look : C → Shape) (post : OperationRelation C S B) 
           let last = subst (λ z. Has z end) (sym h.0.2) (ends front end) in
           let op = is-op end last (λ e. let d : ⊥ = cc (h.0.3, e) in d) in
           let split = ap operation_calls h.0.2 ∙ last-kept (λ y. is_operation y.node) front end op in
-          ((operation_calls front, end, split, h.0.3, ops-NoBreak front h.0.4), ops-up-to end front h.0.2 op h.1)
+          ((operation_calls front, end, split, h.0.3, ops-NoBreak front h.0.4),
+          ops-up-to-last end front h.0.2 op (ops-up-to h.1))
         where
           ends : (front : List (Call C S B)) (end : Call C S B) → Has (front ++ end ∷ []) end
           ends front end = Has-mid front [] end
 
       -- the calls at operations are a walk of the operations
       pub walked_operations : (a : ControlFlow B WalkContinue) → IsWalk w t r xs a →
-          IsOperationWalk w t r (operation_calls xs) a
+          IsWalkOf w t r (IsOperationDue w t r) (operation_calls xs) a
       walked_operations a h = record { in_order = ops-in-order h.in_order; answers = ops-answers a h.answers }
+
+      -- and of a walk with a limit those at the operations, up to the last node that it came to
+      pub operations_within : (limit : ℕ) (a : Result (ControlFlow B WalkContinue) CallLimit) →
+          IsWalkWithin w t r limit xs a → AreOperationsCalled w t r xs (operation_calls xs) a
+      operations_within limit (Ok a) h = walked_operations a (record { in_order = h.in_order; answers = h.answers })
+      operations_within limit (Err x) h =
+          (ops-in-order h.in_order, ops-NoBreak xs h.answers.1, ops-up-to h.answers.2)

@@ -1,9 +1,8 @@
 -- Walks that call at operations alone: what their calls are, and their contract.
-use Rattle.std.specs.Prelude.{◌≡◌, ℕ, Bool, true, false, List, [], ◌∷◌, ◌++◌, Result}
+use Rattle.std.specs.Prelude.{◌≡◌, ℕ, Bool, true, false, List, Result, Ok, Err}
 use Rattle.std.specs.List.{filter}
 use Rattle.std.specs.declared.ops.ControlFlow.{ControlFlow}
-use Rattle.std.specs.declared.ops.ControlFlow.TheVariants.{Continue, Break}
-use Rattle.plir_store.specs.Members.{Has}
+use Rattle.std.specs.declared.ops.ControlFlow.TheVariants.{Continue}
 use Rattle.plir_core.specs.Forest.{Shape}
 use Rattle.plir_core.specs.declared.ptr.Ptr.{Ptr}
 use Rattle.plir_core.specs.declared.ptr.Operation.{Operation as OperationKind}
@@ -13,17 +12,17 @@ use Rattle.plir_walk.specs.declared.interruptible.WalkContinue.{WalkContinue}
 use Rattle.plir_walk.specs.declared.interruptible.WalkContinue.TheVariants.{Advance}
 use Rattle.plir_walk.specs.declared.limit.CallLimit.{CallLimit}
 use Rattle.plir_walk.specs.declared.config.WalkConfig.{WalkConfig}
+use Rattle.plir_walk.specs.AsRead.{tree_read}
 use Rattle.plir_walk.specs.Lawful.{Lawful}
 use Rattle.plir_walk.specs.Tree.{Tree}
-use Rattle.plir_walk.specs.Calls.{Call, Relation, Chain, nodes_of, NoBreak}
-use Rattle.plir_walk.specs.Walk.{IsDue, IsDueUpTo, InOrder, LastBreaks}
+use Rattle.plir_walk.specs.Calls.{Call, Relation, Chain, NoBreak}
+use Rattle.plir_walk.specs.Walk.{CallsUpToLast, InOrder, IsDue, IsWalkOf}
 use Rattle.plir_walk.specs.Walked.{IsCallUnder, Walked}
 
 -- whether a node is an operation
 abbrev pub is_operation : IRNode → Bool
 is_operation (Operation p) = true
-is_operation (BasicBlock p) = false
-is_operation (Region p) = false
+is_operation _ = false
 
 -- What a callback at operations may do: the context and the state before, the operation, the answer, the context and
 -- the state after.
@@ -54,29 +53,17 @@ abbrev pub operation_calls : {C S B : Type 0} → List (Call C S B) → List (Ca
 operation_calls calls = filter (λ x. is_operation x.node) calls
 
 module _ {C S B : Type 0} (w : WalkConfig) (t : Tree) (r : IRNode) where
-  -- the called nodes are exactly the due operations
-  abbrev pub CallsAllDueOperations : List (Call C S B) → Type 0
-  CallsAllDueOperations calls = (n : IRNode) →
-      (Has (nodes_of calls) n → IsDue w t r calls n × (is_operation n ≡ true)) ×
-      (IsDue w t r calls n → is_operation n ≡ true → Has (nodes_of calls) n)
+  -- n is a due operation
+  abbrev pub IsOperationDue : List (Call C S B) → IRNode → Type 0
+  IsOperationDue calls n = IsDue w t r calls n × (is_operation n ≡ true)
 
-  -- the called nodes are exactly the due operations that are not after the last of them (none, if there is no call)
-  abbrev pub CallsOperationsUpToLast : List (Call C S B) → Type 0
-  CallsOperationsUpToLast calls = (front : List (Call C S B)) (end : Call C S B) → calls ≡ front ++ end ∷ [] →
-      (n : IRNode) → (Has (nodes_of calls) n → IsDueUpTo w t r calls end n × (is_operation n ≡ true)) ×
-      (IsDueUpTo w t r calls end n → is_operation n ≡ true → Has (nodes_of calls) n)
-
-  -- What the answer of a walk says of its calls at operations. Where it went to its end, no call broke, and exactly the
-  -- due operations were called. Where it was broken, the last call answered so, and exactly the due operations that are
-  -- not after it were called.
-  abbrev pub OperationAnswers : List (Call C S B) → ControlFlow B WalkContinue → Type 0
-  OperationAnswers calls (Continue k) = (k ≡ Advance) × NoBreak calls × CallsAllDueOperations calls
-  OperationAnswers calls (Break b) = LastBreaks calls b × CallsOperationsUpToLast calls
-
-  -- The calls, and the answer, are a walk of the operations of the tree t under the root r.
-  pub record IsOperationWalk (calls : List (Call C S B)) (answer : ControlFlow B WalkContinue) : Type 0 where
-    pub in_order : InOrder w t r calls
-    pub answers : OperationAnswers calls answer
+  -- What calls at operations are, of a walk with a limit that came to the nodes of `visits`: a walk of the operations.
+  -- At the limit none broke, and exactly the due operations that are not after the last of these nodes were called.
+  abbrev pub AreOperationsCalled : (visits calls : List (Call C S B)) →
+      Result (ControlFlow B WalkContinue) CallLimit → Type 0
+  AreOperationsCalled visits calls (Ok a) = IsWalkOf w t r IsOperationDue calls a
+  AreOperationsCalled visits calls (Err x) = InOrder w t r calls × NoBreak calls ×
+      CallsUpToLast w t r IsOperationDue calls visits
 
 -- A walk that leaves the context c as it is: there is a list of calls at operations that a walk from r can make, one
 -- after another from the entry to the exit, that is a walk of the operations of the context's tree.
@@ -84,13 +71,16 @@ pub record WalkedOperations {C S B : Type 0} (look : C → Shape) (w : WalkConfi
     (c : C) (s : S) (r : IRNode) (answer : ControlFlow B WalkContinue) (s' : S) : Type 0 where
   pub calls : List (Call C S B)
   pub chain : Chain (IsCallUnder look r (AtOperations post)) c s calls c s'
-  pub walk : IsOperationWalk w (look c).children r calls answer
+  pub walk : IsWalkOf w (look c).children r (IsOperationDue w (look c).children r) calls answer
 
 -- A walk whose calls at operations may change the context from c to c'. It comes to at most `limit` nodes, as a walk
 -- does whose callback does at a region or a block nothing; and of these the calls at operations go, one after another,
--- from the entry to the exit. OperationLaws says of which trees they are a walk of the operations.
+-- from the entry to the exit, and are those at the operations of the tree as read. OperationLaws says of which other
+-- trees they are a walk of the operations.
 pub record WalkedOperationsWithin {C S B : Type 0} (look : C → Shape) (w : WalkConfig)
     (post : OperationRelation C S B) (c : C) (s : S) (r : IRNode) (limit : ℕ)
     (answer : Result (ControlFlow B WalkContinue) CallLimit) (c' : C) (s' : S) : Type 0 where
   pub walked : Walked look w (AtEachNode post) c s r limit answer c' s'
   pub chain : Chain (IsCallUnder look r (AtOperations post)) c s (operation_calls walked.calls) c' s'
+  pub as_read : AreOperationsCalled w (tree_read look w walked.calls c') r walked.calls (operation_calls walked.calls)
+      answer

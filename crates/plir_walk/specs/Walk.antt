@@ -29,37 +29,46 @@ module _ {C S B : Type 0} (w : WalkConfig) (t : Tree) (r : IRNode) where
     pub under_root : (n : IRNode) → Has (nodes_of calls) n → IsUnder t r n
     pub increasing : Pairs (NodeBefore w t r) (nodes_of calls)
 
-  -- the called nodes are exactly the due ones
-  abbrev pub CallsAllDue : List (Call C S B) → Type 0
-  CallsAllDue calls = (n : IRNode) → (Has (nodes_of calls) n → IsDue calls n) × (IsDue calls n → Has (nodes_of calls) n)
+  -- A walk calls what is due to it: `Due` is to be due as above, or that and a test of the node.
+  module _ (Due : List (Call C S B) → IRNode → Type 0) (calls : List (Call C S B)) where
+    -- the called nodes are exactly the due ones
+    abbrev pub CallsAllDue : Type 0
+    CallsAllDue = (n : IRNode) → (Has (nodes_of calls) n → Due calls n) × (Due calls n → Has (nodes_of calls) n)
 
-  -- n is due, and not after the last of the calls
-  abbrev pub IsDueUpTo : List (Call C S B) → Call C S B → IRNode → Type 0
-  IsDueUpTo calls end n = IsDue calls n × (NodeBefore w t r end.node n → ⊥)
+    -- n is due, and not after `end`
+    abbrev pub IsDueUpTo : (end n : IRNode) → Type 0
+    IsDueUpTo end n = Due calls n × (NodeBefore w t r end n → ⊥)
 
-  -- the called nodes are exactly the due ones that are not after the last of them (none, if there is no call)
-  abbrev pub CallsUpToLast : List (Call C S B) → Type 0
-  CallsUpToLast calls = (front : List (Call C S B)) (end : Call C S B) → calls ≡ front ++ end ∷ [] → (n : IRNode)
-      → (Has (nodes_of calls) n → IsDueUpTo calls end n) × (IsDueUpTo calls end n → Has (nodes_of calls) n)
+    -- the called nodes are exactly the due ones that are not after the last node that was visited (none, if none was)
+    abbrev pub CallsUpToLast : (visits : List (Call C S B)) → Type 0
+    CallsUpToLast visits = (front : List (Call C S B)) (end : Call C S B) → visits ≡ front ++ end ∷ [] → (n : IRNode) →
+        (Has (nodes_of calls) n → IsDueUpTo end.node n) × (IsDueUpTo end.node n → Has (nodes_of calls) n)
 
-  -- What the answer of a walk says of its calls. Where it went to its end, no call broke, and exactly the due nodes
-  -- were called. Where it was broken, the last call answered so, and exactly the due nodes that are not after it were
-  -- called.
+    -- What the answer of a walk says of its calls. Where it went to its end, no call broke, and exactly the due nodes
+    -- were called. Where it was broken, the last call answered so, and exactly the due nodes that are not after it were
+    -- called.
+    abbrev pub AnswersBy : ControlFlow B WalkContinue → Type 0
+    AnswersBy (Continue k) = (k ≡ Advance) × NoBreak calls × CallsAllDue
+    AnswersBy (Break b) = LastBreaks calls b × CallsUpToLast calls
+
+    -- The calls, and the answer, are a walk of what is due of the tree t under the root r.
+    pub record IsWalkOf (answer : ControlFlow B WalkContinue) : Type 0 where
+      pub in_order : InOrder calls
+      pub answers : AnswersBy answer
+
+  -- a walk of all nodes
   abbrev pub Answers : List (Call C S B) → ControlFlow B WalkContinue → Type 0
-  Answers calls (Continue k) = (k ≡ Advance) × NoBreak calls × CallsAllDue calls
-  Answers calls (Break b) = LastBreaks calls b × CallsUpToLast calls
+  Answers = AnswersBy IsDue
+
+  abbrev pub IsWalk : List (Call C S B) → ControlFlow B WalkContinue → Type 0
+  IsWalk = IsWalkOf IsDue
 
   -- The same of a walk with a limit. At the limit exactly `limit` calls were made, none broke, exactly the due nodes
   -- that are not after the last of them were called, and at least one due node was not called.
   abbrev pub AnswersWithin : ℕ → List (Call C S B) → Result (ControlFlow B WalkContinue) CallLimit → Type 0
   AnswersWithin limit calls (Ok a) = Answers calls a
-  AnswersWithin limit calls (Err x) = (length calls ≡ limit) × NoBreak calls × CallsUpToLast calls ×
+  AnswersWithin limit calls (Err x) = (length calls ≡ limit) × NoBreak calls × CallsUpToLast IsDue calls calls ×
       ((n : IRNode) × IsDue calls n × (Has (nodes_of calls) n → ⊥))
-
-  -- The calls, and the answer, are a walk of the tree t under the root r.
-  pub record IsWalk (calls : List (Call C S B)) (answer : ControlFlow B WalkContinue) : Type 0 where
-    pub in_order : InOrder calls
-    pub answers : Answers calls answer
 
   -- The calls, and the answer, are a walk with a limit.
   pub record IsWalkWithin (limit : ℕ) (calls : List (Call C S B))
