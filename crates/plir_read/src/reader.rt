@@ -77,7 +77,7 @@ pub fn read_op<D: OpSet>(
         HaveCome ctx.old.nodes ctx.new.nodes (op_count w)) }
     ensures begins { IfErr result (λ e. e.fault ≡ Fault.TooManyNodes →
         BeginsTooMany op_count (OpWithin 200) ctx.old.nodes text.now) }
-    ensures crowded { IfErr result (λ e. e.fault ≡ Fault.TooManyNodes → (w : OpTerm) →
+    ensures too_many_only { IfErr result (λ e. e.fault ≡ Fault.TooManyNodes → (w : OpTerm) →
         IsText (OpWithin 200) text.now w → IsFullFor ctx.old.nodes (op_count w)) }
     ensures kept { KeepsOlder ctx.old ctx.new }
     ensures named { AreNamed (IsWrittenIn text.now) ctx.old.types ctx.new.types }

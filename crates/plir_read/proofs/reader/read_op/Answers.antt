@@ -48,8 +48,8 @@ returns-in-Err-clause-begins g c =
     λ e. subst (BeginsTooMany op_count (OpWithin 200) c.args.ctx.now.nodes) c.as_bytes-bytes.ensures.value
     (no_room _ c.in-Err.stop _ _ c.placed.ensures.fault c.in-Err.ensures.read e).0
 
-pub returns-in-Err-clause-crowded : goal.returns-in-Err-clause-crowded
-returns-in-Err-clause-crowded g c =
+pub returns-in-Err-clause-too_many_only : goal.returns-in-Err-clause-too_many_only
+returns-in-Err-clause-too_many_only g c =
     λ e w s. let total = ap (whole (op_at 200)) c.as_bytes-bytes.ensures.value ∙
     whole_again (op_at 200) (OpWithin 200) (op_within_again 200) _ w s in
     let first = whole_first (op_at 200) _ w total in
