@@ -167,13 +167,16 @@ module _ {D K A T E : Type 0} (o : op_set.Ghosts D K A T E) (names : OpView K A 
           ops = ops_in nodes;
           are_ops = record {
             only_ops = λ p h. ((answers.2 (Operation p)).0 (op-has nodes p h)).0.0;
-            all_ops = λ p under. has-op nodes p ((answers.2 (Operation p)).1 ((
-              under,
-              λ shut.
-                  (let y = shut.skipped in
-                  no-skip y.0.before y.0.state y.0.node y.0.answer y.0.after y.0.left
-                  (chain-each call s u walked.calls s u' walked.chain y.0 y.1).made y.3),
-            ), refl));
+            all_ops = λ p under. has-op nodes p ((answers.2 (Operation p)).1 (
+              (
+                under,
+                λ shut.
+                    (let y = shut.skipped in
+                    no-skip y.0.before y.0.state y.0.node y.0.answer y.0.after y.0.left
+                    (chain-each call s u walked.calls s u' walked.chain y.0 y.1).made y.3),
+              ),
+              refl,
+            ));
             in_order = op-pairs _ nodes walked.walk.in_order.increasing;
           };
           put = all-put walked.calls s u s u' refl walked.chain answers.1

@@ -91,10 +91,13 @@ module _ {K A T : Type 0} (effect ends : K → Bool) (s : ContextView K A T) {B 
       listed-as u u'
       (λ q c. (under-reached (look s) forest (Operation q) (Operation root) ((answers.2 (Operation q)).0 c.0).0.0, c.1))
       (λ q c. (
-        (answers.2 (Operation q)).1 ((
-          reached-under (look s) forest c.0.0 (Operation q) (Operation root) c.0.1,
-          λ out. all.0 out.skipped.0 out.skipped.1 out.skipped.3,
-        ), refl),
+        (answers.2 (Operation q)).1 (
+          (
+            reached-under (look s) forest c.0.0 (Operation q) (Operation root) c.0.1,
+            λ out. all.0 out.skipped.0 out.skipped.1 out.skipped.3,
+          ),
+          refl,
+        ),
         c.1,
       )) all.1
 

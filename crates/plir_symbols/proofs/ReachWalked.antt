@@ -157,16 +157,19 @@ module _ {K A T : Type 0} (own_table : K → Bool) (names : OpView K A → List 
                 | inl t ↦ elim (under-cases (children s) (Operation m) (Operation p) over) [
                   | inl same ↦ ap table_at (same-op m p same) ∙ off
                   | inr proper ↦
-                      let called = (all (Operation m)).1 ((
-                        under,
-                        λ out. due.1 (record {
-                          ancestor = out.ancestor;
-                          under_root = out.under_root;
-                          above = properly-trans (children s) out.ancestor (Operation m) (Operation p) out.above proper;
-                          order = out.order;
-                          skipped = out.skipped;
-                        }),
-                      ), refl) in
+                      let called = (all (Operation m)).1 (
+                        (
+                          under,
+                          λ out. due.1 (record {
+                            ancestor = out.ancestor;
+                            under_root = out.under_root;
+                            above = properly-trans (children s) out.ancestor (Operation m) (Operation p) out.above proper;
+                            order = out.order;
+                            skipped = out.skipped;
+                          }),
+                        ),
+                        refl,
+                      ) in
                       absurd (due.1 (record {
                         ancestor = Operation m;
                         under_root = under;
@@ -180,18 +183,21 @@ module _ {K A T : Type 0} (own_table : K → Bool) (names : OpView K A → List 
 
     open-called : (p : Ptr OperationKind) → IsOpenUnder own_table names s c root p → Has (nodes_of calls) (Operation p)
     open-called p free =
-        (all (Operation p)).1 ((
-          reached-under (look s) forest free.0.0 (Operation p) (Operation root) free.0.1,
-          λ out.
-              (let x = out.skipped in
-              let t = is-table x.0 x.1 x.3 in
-              let at = sym x.2 ∙ t.1 in
-              not-both (table_at t.0) t.2 (free.1 t.0
-              (subst (λ z. IsAncestor s (Operation root) z) at
-              (under-reached (look s) forest out.ancestor (Operation root) out.under_root))
-              (subst (λ z. IsAncestor s z (Operation p)) at
-              (under-reached (look s) forest (Operation p) out.ancestor (out.above.0 ∷ out.above.1, out.above.2))))),
-        ), refl)
+        (all (Operation p)).1 (
+          (
+            reached-under (look s) forest free.0.0 (Operation p) (Operation root) free.0.1,
+            λ out.
+                (let x = out.skipped in
+                let t = is-table x.0 x.1 x.3 in
+                let at = sym x.2 ∙ t.1 in
+                not-both (table_at t.0) t.2 (free.1 t.0
+                (subst (λ z. IsAncestor s (Operation root) z) at
+                (under-reached (look s) forest out.ancestor (Operation root) out.under_root))
+                (subst (λ z. IsAncestor s z (Operation p)) at
+                (under-reached (look s) forest (Operation p) out.ancestor (out.above.0 ∷ out.above.1, out.above.2))))),
+          ),
+          refl,
+        )
 
     walked-grown : IsGrown (IsCalled calls) u u' → IsGrown (IsToldUnder own_table names s c root) u u'
     walked-grown h =

@@ -161,13 +161,16 @@ module _ {K A T : Type 0} (names : OpView K A → List (List ℕ)) (s : ContextV
         subst (AreUsers names s root) (sym put) (record {
           only_users = λ p h.
               (let f = has-user nodes p h in record { below = ((answers.2 (Operation p)).0 f.0).0.0; uses = f.1 });
-          all_users = λ p i. user-has nodes p ((answers.2 (Operation p)).1 ((
-            i.below,
-            λ shut.
-                (let y = shut.skipped in
-                no-skip y.0.before y.0.state y.0.node y.0.answer y.0.after y.0.left
-                (chain-each call s u walked.calls s u' walked.chain y.0 y.1).made y.3),
-          ), refl)) i.uses;
+          all_users = λ p i. user-has nodes p ((answers.2 (Operation p)).1 (
+            (
+              i.below,
+              λ shut.
+                  (let y = shut.skipped in
+                  no-skip y.0.before y.0.state y.0.node y.0.answer y.0.after y.0.left
+                  (chain-each call s u walked.calls s u' walked.chain y.0 y.1).made y.3),
+            ),
+            refl,
+          )) i.uses;
           in_order = user-pairs _ nodes walked.walk.in_order.increasing;
         })
 

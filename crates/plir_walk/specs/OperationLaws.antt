@@ -213,7 +213,7 @@ module _ {C S B : Type 0} (look : C → Shape) (post : OperationRelation C S B) 
           let split = ap operation_calls e ∙ last-kept (λ y. is_operation y.node) front end op in
           let same = last-same (operation_calls front) front' end end' (sym split ∙ g) in
           subst (λ z. (n : IRNode) → (Has (nodes_of (operation_calls xs)) n → up-to z n) ×
-              (up-to z n → Has (nodes_of (operation_calls xs)) n)) same (up front end e)
+          (up-to z n → Has (nodes_of (operation_calls xs)) n)) same (up front end e)
 
       pub ops-answers : (a : ControlFlow B WalkContinue) → Answers w t r xs a →
           AnswersBy w t r (IsOperationDue w t r) (operation_calls xs) a
@@ -230,9 +230,10 @@ module _ {C S B : Type 0} (look : C → Shape) (post : OperationRelation C S B) 
           let end = h.0.1 in
           let last = subst (λ z. Has z end) (sym h.0.2) (ends front end) in
           let op = is-op end last (λ e. let d : ⊥ = cc (h.0.3, e) in d) in
-          let split = ap operation_calls h.0.2 ∙ last-kept (λ y. is_operation y.node) front end op in
-          ((operation_calls front, end, split, h.0.3, ops-NoBreak front h.0.4),
-          ops-up-to-last end front h.0.2 op (ops-up-to h.1))
+          let split = ap operation_calls h.0.2 ∙ last-kept (λ y. is_operation y.node) front end op in (
+            (operation_calls front, end, split, h.0.3, ops-NoBreak front h.0.4),
+            ops-up-to-last end front h.0.2 op (ops-up-to h.1),
+          )
         where
           ends : (front : List (Call C S B)) (end : Call C S B) → Has (front ++ end ∷ []) end
           ends front end = Has-mid front [] end
