@@ -11,14 +11,16 @@ use std::test::Fail;
 
 // Puts a value into the next slot, once more where memory was refused, and returns the slot and its version.
 fn put(rt: &impl Abort, slots: &mut Slots<u32>, value: u32) -> Result<(u32, u32), Fail> {
-    let before = (slots.len(), slots.live(), slots.next_slot());
+    let (len, live, next) = (slots.len(), slots.live(), slots.next_slot());
     assert!(rt; slots.next_slot() < 100);
     assert!(rt; slots.live() < 100);
     let index = match slots.insert(value) {
         Ok(index) => index,
         Err(back) => {
             assert_eq!(rt; back, value);
-            assert_eq!(rt; (slots.len(), slots.live(), slots.next_slot()), before);
+            assert_eq!(rt; slots.len(), len);
+            assert_eq!(rt; slots.live(), live);
+            assert_eq!(rt; slots.next_slot(), next);
             assert!(rt; slots.next_slot() < 100);
             assert!(rt; slots.live() < 100);
             slots.insert(back).map_err(|_| AllocError)?
@@ -34,27 +36,73 @@ fn take(rt: &impl Abort, slots: &mut Slots<u32>, index: u32, version: u32) -> u3
     slots.remove(index)
 }
 
+// Puts a value into the next slot, which has this number and gets this version.
+fn puts(
+    rt: &impl Abort,
+    slots: &mut Slots<u32>,
+    value: u32,
+    index: u32,
+    version: u32,
+) -> Result<(), Fail> {
+    let (slot, given) = put(rt, slots, value)?;
+    assert_eq!(rt; slot, index);
+    assert_eq!(rt; given, version);
+    Ok(())
+}
+
+// Takes this value out of a slot.
+fn takes(rt: &impl Abort, slots: &mut Slots<u32>, index: u32, version: u32, value: u32) {
+    assert_eq!(rt; take(rt, slots, index, version), value);
+}
+
+// The next slot has this number, and is a new one or not.
+fn has_next(rt: &impl Abort, slots: &Slots<u32>, index: usize, is_new: bool) {
+    assert_eq!(rt; slots.next_slot(), index);
+    assert_eq!(rt; slots.needs_slot(), is_new);
+}
+
+// There are so many slots, so many of which hold a value.
+fn holds(rt: &impl Abort, slots: &Slots<u32>, len: usize, live: u32) {
+    assert_eq!(rt; slots.len(), len);
+    assert_eq!(rt; slots.live(), live);
+}
+
+// A slot holds a value under this version, or it does not.
+fn is_live(rt: &impl Abort, slots: &Slots<u32>, index: u32, version: u32, wanted: bool) {
+    assert_eq!(rt; slots.is_live(index, version), wanted);
+}
+
+// Another value for a slot, which then holds that one.
+fn changes(rt: &impl Abort, slots: &mut Slots<u32>, index: u32, version: u32, value: u32) {
+    assert!(rt; slots.is_live(index, version));
+    *slots.get_mut(index) = value;
+    assert!(rt; slots.is_live(index, version));
+    assert_eq!(rt; *slots.get(index), value);
+}
+
+// Slots as they are filled and freed in turn.
+fn fill_and_free(rt: &impl Abort, slots: &mut Slots<u32>) -> Result<(), Fail> {
+    puts(rt, slots, 10, 0, 1)?;
+    puts(rt, slots, 11, 1, 1)?;
+    puts(rt, slots, 12, 2, 1)?;
+    takes(rt, slots, 0, 1, 10);
+    takes(rt, slots, 2, 1, 12);
+    has_next(rt, slots, 2, false);
+    puts(rt, slots, 13, 2, 2)?;
+    puts(rt, slots, 14, 0, 2)?;
+    has_next(rt, slots, 3, true);
+    puts(rt, slots, 15, 3, 1)?;
+    Ok(())
+}
+
 #[test]
 fn uses_the_slot_freed_last_first_where_memory_is_refused(rt: HostRuntime) -> Result<(), Fail> {
     let mut slots = Slots::new(rt.alloc());
-    assert_eq!(rt; put(&rt, &mut slots, 10)?, (0, 1));
-    assert_eq!(rt; put(&rt, &mut slots, 11)?, (1, 1));
-    assert_eq!(rt; put(&rt, &mut slots, 12)?, (2, 1));
-    assert_eq!(rt; take(&rt, &mut slots, 0, 1), 10);
-    assert_eq!(rt; take(&rt, &mut slots, 2, 1), 12);
-    assert_eq!(rt; slots.next_slot(), 2);
-    assert!(rt; !slots.needs_slot());
-    assert_eq!(rt; put(&rt, &mut slots, 13)?, (2, 2));
-    assert_eq!(rt; put(&rt, &mut slots, 14)?, (0, 2));
-    assert!(rt; slots.needs_slot());
-    assert_eq!(rt; put(&rt, &mut slots, 15)?, (3, 1));
-    assert_eq!(rt; (slots.len(), slots.live()), (4, 4));
-    assert!(rt; !slots.is_live(2, 1));
-    assert!(rt; !slots.is_live(9, 1));
-    assert!(rt; slots.is_live(2, 2));
-    *slots.get_mut(2) = 33;
-    assert!(rt; slots.is_live(2, 2));
-    assert_eq!(rt; *slots.get(2), 33);
+    fill_and_free(&rt, &mut slots)?;
+    holds(&rt, &slots, 4, 4);
+    is_live(&rt, &slots, 2, 1, false);
+    is_live(&rt, &slots, 9, 1, false);
+    changes(&rt, &mut slots, 2, 2, 33);
     Ok(())
 }
 
@@ -79,14 +127,18 @@ fn add_child(rt: &impl Abort, chains: &mut Chains) -> Result<(), Fail> {
     Ok(())
 }
 
-// One more list and one more child if they are needed, each once more where memory was refused.
-fn add_if(rt: &impl Abort, chains: &mut Chains, needed: bool) -> Result<(), Fail> {
+// One more list, or one more child, if it is needed, once more where memory was refused.
+fn add_list_if(rt: &impl Abort, chains: &mut Chains, needed: bool) -> Result<(), Fail> {
     let before = chains.num_lists();
     assert!(rt; before < 100);
     if chains.add_list_if(needed).is_err() {
         assert_eq!(rt; chains.num_lists(), before);
         chains.add_list_if(needed)?;
     }
+    Ok(())
+}
+
+fn add_child_if(rt: &impl Abort, chains: &mut Chains, needed: bool) -> Result<(), Fail> {
     let before = chains.num_children();
     assert!(rt; before < 100);
     if chains.add_child_if(needed).is_err() {
@@ -96,15 +148,44 @@ fn add_if(rt: &impl Abort, chains: &mut Chains, needed: bool) -> Result<(), Fail
     Ok(())
 }
 
+// One more list and one more child if they are needed.
+fn add_if(rt: &impl Abort, chains: &mut Chains, needed: bool) -> Result<(), Fail> {
+    add_list_if(rt, chains, needed)?;
+    add_child_if(rt, chains, needed)
+}
+
+// There are so many lists and so many children.
+fn has(rt: &impl Abort, chains: &Chains, lists: usize, children: usize) {
+    assert_eq!(rt; chains.num_lists(), lists);
+    assert_eq!(rt; chains.num_children(), children);
+}
+
 #[test]
 fn adds_what_is_needed_where_memory_is_refused(rt: HostRuntime) -> Result<(), Fail> {
     let mut chains = Chains::new(rt.alloc());
     add_if(&rt, &mut chains, false)?;
-    assert_eq!(rt; (chains.num_lists(), chains.num_children()), (0, 0));
+    has(&rt, &chains, 0, 0);
     add_if(&rt, &mut chains, true)?;
     add_if(&rt, &mut chains, true)?;
-    assert_eq!(rt; (chains.num_lists(), chains.num_children()), (2, 2));
+    has(&rt, &chains, 2, 2);
     Ok(())
+}
+
+// A child stands in this list.
+fn is_in(rt: &impl Abort, chains: &Chains, list: u32, child: u32) {
+    assert!(rt; (child as usize) < chains.num_children());
+    assert!(rt; chains.parent(child) == Some(list));
+}
+
+// The child after one, or before one.
+fn next(rt: &impl Abort, chains: &Chains, child: u32) -> Option<u32> {
+    assert!(rt; (child as usize) < chains.num_children());
+    chains.next(child)
+}
+
+fn prev(rt: &impl Abort, chains: &Chains, child: u32) -> Option<u32> {
+    assert!(rt; (child as usize) < chains.num_children());
+    chains.prev(child)
 }
 
 // The list has these children, read from its start, and from its end.
@@ -112,23 +193,21 @@ fn reads_on(rt: &impl Abort, chains: &Chains, list: u32, want: &[u32]) {
     assert!(rt; (list as usize) < chains.num_lists());
     let mut at = chains.first(list);
     for child in want {
-        assert_eq!(rt; at, Some(*child));
-        assert!(rt; (*child as usize) < chains.num_children());
-        assert_eq!(rt; chains.parent(*child), Some(list));
-        at = chains.next(*child);
+        assert!(rt; at == Some(*child));
+        is_in(rt, chains, list, *child);
+        at = next(rt, chains, *child);
     }
-    assert_eq!(rt; at, None);
+    assert!(rt; at.is_none());
 }
 
 fn reads_back(rt: &impl Abort, chains: &Chains, list: u32, want: &[u32]) {
     assert!(rt; (list as usize) < chains.num_lists());
     let mut at = chains.last(list);
     for child in want {
-        assert_eq!(rt; at, Some(*child));
-        assert!(rt; (*child as usize) < chains.num_children());
-        at = chains.prev(*child);
+        assert!(rt; at == Some(*child));
+        at = prev(rt, chains, *child);
     }
-    assert_eq!(rt; at, None);
+    assert!(rt; at.is_none());
 }
 
 // The child is there, and in no list.
@@ -138,43 +217,84 @@ fn is_loose(chains: &Chains, child: u32) -> bool
     (child as usize) < chains.num_children() && chains.parent(child).is_none()
 }
 
-#[test]
-fn links_children_in_order_where_memory_is_refused(rt: HostRuntime) -> Result<(), Fail> {
-    let mut chains = Chains::new(rt.alloc());
-    add_list(&rt, &mut chains)?;
-    add_list(&rt, &mut chains)?;
-    for _ in 0..5 {
-        add_child(&rt, &mut chains)?;
+// Puts a child that is in no list to the front of a list, or to its back.
+fn push_front(rt: &impl Abort, chains: &mut Chains, list: u32, child: u32) {
+    assert!(rt; (list as usize) < chains.num_lists());
+    assert!(rt; is_loose(chains, child));
+    chains.push_front(list, child);
+}
+
+fn push_back(rt: &impl Abort, chains: &mut Chains, list: u32, child: u32) {
+    assert!(rt; (list as usize) < chains.num_lists());
+    assert!(rt; is_loose(chains, child));
+    chains.push_back(list, child);
+}
+
+// Puts a child that is in no list before another one, or after it.
+fn insert_before(rt: &impl Abort, chains: &mut Chains, child: u32, mark: u32) {
+    assert!(rt; is_loose(chains, child));
+    assert!(rt; (mark as usize) < chains.num_children());
+    chains.insert_before(child, mark);
+}
+
+fn insert_after(rt: &impl Abort, chains: &mut Chains, child: u32, mark: u32) {
+    assert!(rt; is_loose(chains, child));
+    assert!(rt; (mark as usize) < chains.num_children());
+    chains.insert_after(child, mark);
+}
+
+// Takes children out of their list.
+fn remove(rt: &impl Abort, chains: &mut Chains, children: &[u32]) {
+    for child in children {
+        assert!(rt; (*child as usize) < chains.num_children());
+        chains.remove(*child);
     }
-    assert!(rt; 1 < chains.num_lists());
-    assert!(rt; is_loose(&chains, 1));
-    chains.push_back(0, 1);
-    assert!(rt; is_loose(&chains, 0));
-    chains.push_front(0, 0);
-    assert!(rt; is_loose(&chains, 3));
-    chains.push_back(0, 3);
-    assert!(rt; is_loose(&chains, 2));
-    chains.insert_before(2, 3);
-    assert!(rt; is_loose(&chains, 4));
-    chains.insert_after(4, 3);
-    reads_on(&rt, &chains, 0, &[0, 1, 2, 3, 4]);
-    reads_back(&rt, &chains, 0, &[4, 3, 2, 1, 0]);
-    chains.remove(2);
-    chains.remove(0);
-    chains.remove(4);
-    reads_on(&rt, &chains, 0, &[1, 3]);
-    reads_back(&rt, &chains, 0, &[3, 1]);
+}
+
+// Lets the last child go, which is in no list.
+fn drop_child(rt: &impl Abort, chains: &mut Chains) {
     assert!(rt; chains.num_children() == 5);
-    assert!(rt; is_loose(&chains, 4));
+    assert!(rt; is_loose(chains, 4));
     chains.drop_child();
-    assert!(rt; is_loose(&chains, 2));
-    chains.push_front(1, 2);
-    reads_on(&rt, &chains, 1, &[2]);
-    chains.remove(2);
+}
+
+// Lets the last list go, which is empty.
+fn drop_list(rt: &impl Abort, chains: &mut Chains) {
     assert!(rt; chains.num_lists() == 2);
     assert!(rt; chains.is_empty(1));
     chains.drop_list();
-    assert_eq!(rt; (chains.num_lists(), chains.num_children()), (1, 4));
+}
+
+// Two lists and five children.
+fn add_all(rt: &impl Abort, chains: &mut Chains) -> Result<(), Fail> {
+    add_list(rt, chains)?;
+    add_list(rt, chains)?;
+    for _ in 0..5 {
+        add_child(rt, chains)?;
+    }
+    Ok(())
+}
+
+#[test]
+fn links_children_in_order_where_memory_is_refused(rt: HostRuntime) -> Result<(), Fail> {
+    let mut chains = Chains::new(rt.alloc());
+    add_all(&rt, &mut chains)?;
+    push_back(&rt, &mut chains, 0, 1);
+    push_front(&rt, &mut chains, 0, 0);
+    push_back(&rt, &mut chains, 0, 3);
+    insert_before(&rt, &mut chains, 2, 3);
+    insert_after(&rt, &mut chains, 4, 3);
+    reads_on(&rt, &chains, 0, &[0, 1, 2, 3, 4]);
+    reads_back(&rt, &chains, 0, &[4, 3, 2, 1, 0]);
+    remove(&rt, &mut chains, &[2, 0, 4]);
+    reads_on(&rt, &chains, 0, &[1, 3]);
+    reads_back(&rt, &chains, 0, &[3, 1]);
+    drop_child(&rt, &mut chains);
+    push_front(&rt, &mut chains, 1, 2);
+    reads_on(&rt, &chains, 1, &[2]);
+    remove(&rt, &mut chains, &[2]);
+    drop_list(&rt, &mut chains);
+    has(&rt, &chains, 1, 4);
     Ok(())
 }
 
@@ -191,28 +311,35 @@ fn list_of(alloc: Global, items: &[u32]) -> Result<Few<u32>, AllocError> {
     }
 }
 
+// A list of these items holds them.
+fn holds_items(rt: &impl Abort, alloc: Global, items: &[u32]) -> Result<(), Fail> {
+    let list = list_of(alloc, items)?;
+    assert_eq!(rt; list.len(), items.len());
+    assert!(rt; list.as_slice() == items);
+    Ok(())
+}
+
 #[test]
 fn lists_hold_what_they_are_made_of_where_memory_is_refused(rt: HostRuntime) -> Result<(), Fail> {
-    let none = list_of(rt.alloc(), &[])?;
-    assert_eq!(rt; none.len(), 0);
-    assert_eq!(rt; none.as_slice(), [].as_slice());
-    let one = list_of(rt.alloc(), &[7])?;
-    assert_eq!(rt; one.as_slice(), [7].as_slice());
-    let three = list_of(rt.alloc(), &[7, 8, 9])?;
-    assert_eq!(rt; three.len(), 3);
-    assert_eq!(rt; three.as_slice(), [7, 8, 9].as_slice());
+    holds_items(&rt, rt.alloc(), &[])?;
+    holds_items(&rt, rt.alloc(), &[7])?;
+    holds_items(&rt, rt.alloc(), &[7, 8, 9])
+}
+
+// An item of a list of these items is found by its place.
+fn finds(rt: &impl Abort, alloc: Global, items: &[u32], place: usize) -> Result<(), Fail> {
+    let list = make_list(alloc, items)?;
+    assert_eq!(rt; list.len(), items.len());
+    assert!(rt; place < list.len());
+    assert!(rt; place < items.len());
+    assert_eq!(rt; list.get(place), items[place]);
     Ok(())
 }
 
 #[test]
 fn items_of_a_list_are_found_by_index(rt: HostRuntime) -> Result<(), Fail> {
-    let one = Few::from_vec(vec![in rt.alloc(); 7]?)?;
-    assert_eq!(rt; one.len(), 1);
-    assert_eq!(rt; one.get(0), 7);
-    let three = Few::from_vec(vec![in rt.alloc(); 7, 8, 9]?)?;
-    assert_eq!(rt; three.len(), 3);
-    assert_eq!(rt; three.get(1), 8);
-    Ok(())
+    finds(&rt, rt.alloc(), &[7], 0)?;
+    finds(&rt, rt.alloc(), &[7, 8, 9], 1)
 }
 
 #[test]
