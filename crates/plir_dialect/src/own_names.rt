@@ -40,8 +40,14 @@ pub trait OwnNames<D: OpSet>: OwnKind {
         ensures { result ≡ is_private_in (is_private self) (op_at ctx.now op) };
 }
 
-/// Where a set has no kinds of its own, what builtin operations use counts.
-impl<D: OpSet> OwnNames<D> for NoMeaning {
+/// Own kinds of operations that tell the names that are used and the symbols that are private as builtin operations do:
+/// so they are [`OwnNames`] in each op set, without a word more.
+pub trait NamesAsBuiltin: OwnKind {}
+
+// No operation is of this kind.
+impl NamesAsBuiltin for NoMeaning {}
+
+impl<D: OpSet, K: NamesAsBuiltin> OwnNames<D> for K {
     ghost use Rattle.plir_symbols.specs.BuiltinNames.{is_marked_private, names_held};
 
     ghost names_used = { λ _. names_held };

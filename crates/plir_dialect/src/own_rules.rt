@@ -14,7 +14,7 @@ use crate::own_type::OwnType;
 use crate::own_uses::OwnUses;
 use crate::verdicts::{of_first, of_kind, of_second};
 use plir_core::{Context, Operation, Ptr};
-use plir_data::{NeverRefused, NoMeaning, OpKind, OpSet, OwnKind, VerifyErr};
+use plir_data::{NoMeaning, OpKind, OpSet, OwnKind, VerifyErr};
 use plir_verify::VerifySet;
 use std::alloc::Global;
 
@@ -41,20 +41,26 @@ pub trait OwnRules<D: OpSet>: OwnKind {
         ensures refused { IfErr result (IsUseRefusal (rule self ctx.now op) (rule_refusal self ctx.now op)) };
 }
 
-impl<D: OpSet> OwnRules<D> for NoMeaning {
+/// Own kinds of operations that ask nothing of them: so they are [`OwnRules`] in each op set, without a word more.
+pub trait NoRules: OwnKind {}
+
+// No operation is of this kind.
+impl NoRules for NoMeaning {}
+
+impl<D: OpSet, K: NoRules> OwnRules<D> for K {
     ghost use Rattle.std.specs.Prelude.{⊤};
 
     ghost rule = { λ _ _ _. ⊤ };
 
     ghost rule_refusal = { λ _ _ _ _ _. ⊥ };
 
-    /// Accepts: no operation is of this kind.
+    /// Accepts.
     fn verify_op(
         self,
         _alloc: Global,
         _ctx: &Context<D>,
         _op: Ptr<Operation>,
-    ) -> Result<(), VerifyErr<NeverRefused>> {
+    ) -> Result<(), VerifyErr<K::Err>> {
         Ok(())
     }
 }

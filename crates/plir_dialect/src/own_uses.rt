@@ -15,7 +15,7 @@ use crate::own_type::OwnType;
 use crate::verdicts::{of_first, of_kind, of_second};
 use plir_builtin::{SymbolTableCollection, SymbolUserSet};
 use plir_core::{Context, Operation, Ptr};
-use plir_data::{NeverRefused, NoMeaning, OpKind, OpSet, OwnKind, VerifyErr};
+use plir_data::{NoMeaning, OpKind, OpSet, OwnKind, VerifyErr};
 
 /// Own kinds of operations that say which uses of symbols are right, in an op set `D` that they are part of. Kinds that
 /// use no symbols accept. Kinds that don't look at attributes and types of that set say it for each `D`, and can be
@@ -47,20 +47,26 @@ pub trait OwnUses<D: OpSet>: OwnKind {
         ensures given { AreGivenOut ctx.now tables.old → AreGivenOut ctx.now tables.new };
 }
 
-impl<D: OpSet> OwnUses<D> for NoMeaning {
+/// Own kinds of operations that use no symbols: so they are [`OwnUses`] in each op set, without a word more.
+pub trait NoUses: OwnKind {}
+
+// No operation is of this kind.
+impl NoUses for NoMeaning {}
+
+impl<D: OpSet, K: NoUses> OwnUses<D> for K {
     ghost use Rattle.std.specs.Prelude.{⊤};
 
     ghost uses_hold = { λ _ _ _. ⊤ };
 
     ghost use_refusal = { λ _ _ _ _ _. ⊥ };
 
-    /// Accepts: no operation is of this kind.
+    /// Accepts.
     fn verify_symbol_uses(
         self,
         _ctx: &Context<D>,
         _op: Ptr<Operation>,
         _tables: &mut SymbolTableCollection,
-    ) -> Result<(), VerifyErr<NeverRefused>> {
+    ) -> Result<(), VerifyErr<K::Err>> {
         Ok(())
     }
 }
