@@ -1,6 +1,10 @@
-//! Two dialects over `plir_dialect`, each as a crate of its own would have it, and both in one op set.
+//! Three dialects over `plir_dialect`, each as a crate of its own would have it, joined in one op set, and the tests of
+//! that set.
 #![tactic(auto)]
 
 pub mod both;
 pub mod my;
+pub mod note;
+#[cfg(test)]
+mod tests;
 pub mod toy;

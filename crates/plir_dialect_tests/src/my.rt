@@ -3,15 +3,11 @@ ghost use Rattle.std.specs.Prelude.{◌≡◌, ◌++◌, ◌∷◌, [], OnOk};
 ghost use Rattle.std.specs.Fmt.{decimal};
 ghost use Rattle.plir_data.specs.OwnParts.{chars};
 
-use plir_builtin::SymbolTableCollection;
 use plir_core::{Context, Operation, Ptr};
-use plir_data::{
-    Identifier, IntegerAttr, Location, Memory, OpSet, OwnKind, OwnText, TypeHandle, VerifyErr,
-};
-use plir_dialect::{Dialect, LiveTypes, OwnAttr, OwnNames, OwnRules, OwnType, OwnUses};
+use plir_data::{IntegerAttr, Location, Memory, OpSet, OwnKind, OwnText, TypeHandle, VerifyErr};
+use plir_dialect::{Dialect, LiveTypes, NamesAsBuiltin, NoUses, OwnAttr, OwnRules, OwnType};
 use plir_folding::FoldKind;
 use plir_passes::EffectKind;
-use plir_symbols::{is_marked_private, name_held, num_names_held};
 use std::alloc::Global;
 use thiserror::Error;
 
@@ -124,22 +120,9 @@ impl FoldKind for MyKind {
     }
 }
 
-impl<D: OpSet> OwnUses<D> for MyKind {
-    ghost use Rattle.std.specs.Prelude.{⊤};
+impl NoUses for MyKind {}
 
-    ghost uses_hold = { λ _ _ _. ⊤ };
-
-    ghost use_refusal = { λ _ _ _ _ _. ⊥ };
-
-    fn verify_symbol_uses(
-        self,
-        _ctx: &Context<D>,
-        _op: Ptr<Operation>,
-        _tables: &mut SymbolTableCollection,
-    ) -> Result<(), VerifyErr<NotOneValue>> {
-        Ok(())
-    }
-}
+impl NamesAsBuiltin for MyKind {}
 
 impl<D: OpSet> OwnRules<D> for MyKind {
     ghost use Rattle.std.specs.Prelude.{◌≡◌, Some};
@@ -163,29 +146,6 @@ impl<D: OpSet> OwnRules<D> for MyKind {
             }),
             _ => Ok(()),
         }
-    }
-}
-
-impl<D: OpSet> OwnNames<D> for MyKind {
-    ghost use Rattle.plir_symbols.specs.BuiltinNames.{is_marked_private, names_held};
-
-    ghost names_used = { λ _. names_held };
-
-    ghost is_private = { λ _. is_marked_private };
-
-    /// As a builtin operation.
-    fn num_used_names(self, ctx: &Context<D>, op: Ptr<Operation>) -> usize {
-        num_names_held(ctx, op)
-    }
-
-    /// As a builtin operation.
-    fn used_name(self, ctx: &Context<D>, op: Ptr<Operation>, place: usize) -> &Identifier {
-        name_held(ctx, op, place)
-    }
-
-    /// As a builtin operation.
-    fn is_private(self, ctx: &Context<D>, op: Ptr<Operation>) -> bool {
-        is_marked_private(ctx, op)
     }
 }
 

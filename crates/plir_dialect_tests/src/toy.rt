@@ -1,12 +1,11 @@
 //! A dialect of kinds alone, as a crate of its own would have it: sums and negations.
-use plir_builtin::SymbolTableCollection;
 use plir_core::{Context, Operation, Ptr};
-use plir_data::{Identifier, IntegerAttr, NeverRefused, OpSet, OwnKind, VerifyErr};
-use plir_dialect::{Dialect, OwnNames, OwnRules, OwnUses};
+use plir_data::{IntegerAttr, OpSet, OwnKind, VerifyErr};
+use plir_dialect::{Dialect, NamesAsBuiltin, NoUses, OwnRules};
 use plir_folding::{FoldKind, wrapping_sum};
 use plir_passes::EffectKind;
-use plir_symbols::{is_marked_private, name_held, num_names_held};
 use std::alloc::Global;
+use thiserror::Error;
 
 /// The kinds.
 #[derive(Clone, Copy, PartialEq, Eq, Debug)]
@@ -17,6 +16,11 @@ pub enum ToyKind {
     Neg,
 }
 
+/// An operation that adds two values has not two operands.
+#[derive(Clone, Copy, PartialEq, Eq, Debug, Error)]
+#[error("adds not two values")]
+pub struct NotTwoValues;
+
 /// The dialect.
 pub type Toy = Dialect<ToyKind>;
 
@@ -24,7 +28,7 @@ impl OwnKind for ToyKind {
     ghost use Rattle.std.specs.Prelude.{false};
     ghost use Rattle.plir_dialect_tests.specs.Toy.{id_of};
 
-    type Err = NeverRefused;
+    type Err = NotTwoValues;
 
     ghost is_terminator = { λ _. false };
 
@@ -83,59 +87,31 @@ impl FoldKind for ToyKind {
     }
 }
 
-impl<D: OpSet> OwnUses<D> for ToyKind {
-    ghost use Rattle.std.specs.Prelude.{⊤};
+impl NoUses for ToyKind {}
 
-    ghost uses_hold = { λ _ _ _. ⊤ };
-
-    ghost use_refusal = { λ _ _ _ _ _. ⊥ };
-
-    fn verify_symbol_uses(
-        self,
-        _ctx: &Context<D>,
-        _op: Ptr<Operation>,
-        _tables: &mut SymbolTableCollection,
-    ) -> Result<(), VerifyErr<NeverRefused>> {
-        Ok(())
-    }
-}
+impl NamesAsBuiltin for ToyKind {}
 
 impl<D: OpSet> OwnRules<D> for ToyKind {
-    ghost use Rattle.std.specs.Prelude.{⊤};
+    ghost use Rattle.std.specs.Prelude.{◌≡◌, Some};
+    ghost use Rattle.plir_core.specs.ContextView.{location_of};
+    ghost use Rattle.plir_dialect_tests.specs.Toy.{IsRight};
 
-    ghost rule = { λ _ _ _. ⊤ };
+    ghost rule = { IsRight };
 
-    ghost rule_refusal = { λ _ _ _ _ _. ⊥ };
+    ghost rule_refusal = { λ _ s op loc _. location_of s op ≡ Some loc };
 
     fn verify_op(
         self,
         _alloc: Global,
-        _ctx: &Context<D>,
-        _op: Ptr<Operation>,
-    ) -> Result<(), VerifyErr<NeverRefused>> {
-        Ok(())
-    }
-}
-
-impl<D: OpSet> OwnNames<D> for ToyKind {
-    ghost use Rattle.plir_symbols.specs.BuiltinNames.{is_marked_private, names_held};
-
-    ghost names_used = { λ _. names_held };
-
-    ghost is_private = { λ _. is_marked_private };
-
-    /// As a builtin operation.
-    fn num_used_names(self, ctx: &Context<D>, op: Ptr<Operation>) -> usize {
-        num_names_held(ctx, op)
-    }
-
-    /// As a builtin operation.
-    fn used_name(self, ctx: &Context<D>, op: Ptr<Operation>, place: usize) -> &Identifier {
-        name_held(ctx, op, place)
-    }
-
-    /// As a builtin operation.
-    fn is_private(self, ctx: &Context<D>, op: Ptr<Operation>) -> bool {
-        is_marked_private(ctx, op)
+        ctx: &Context<D>,
+        op: Ptr<Operation>,
+    ) -> Result<(), VerifyErr<NotTwoValues>> {
+        match self {
+            ToyKind::Add if op.get_num_operands(ctx) != 2 => Err(VerifyErr::Refused {
+                loc: op.loc(ctx),
+                err: NotTwoValues,
+            }),
+            _ => Ok(()),
+        }
     }
 }
