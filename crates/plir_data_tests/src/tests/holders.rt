@@ -3,7 +3,7 @@ use crate::holder_set::{Dense, HolderSet, HolderType, Tensor};
 use plir_attr_text::print_attr;
 use plir_data::{
     AttrObj, IntegerType, Memory, Signedness, TypeHandle, TypeObj, TypeSig, TypeStore, TypeTable,
-    type_text,
+    VecAttr, type_text,
 };
 use std::alloc::Global;
 use std::test::Fail;
@@ -72,6 +72,30 @@ fn writes_the_type_that_an_attribute_holds_where_memory_is_refused(
     assert!(rt; attr.is_live(&types));
     let text = again!(print_attr(alloc, &types, &attr));
     assert!(rt; text.as_str() == "holder.dense <7> : holder.tensor <4 x builtin.integer si8>");
+    Ok(())
+}
+
+// A list of two own attributes, each with a type.
+fn pair(alloc: Global, ty: TypeHandle) -> Result<AttrObj<HolderSet>, Memory> {
+    let seven = AttrObj::Own(Dense { value: 7, ty });
+    let eight = AttrObj::Own(Dense { value: 8, ty });
+    let items = Vec::from_array(alloc, [seven, eight])?;
+    Ok(AttrObj::Vec(VecAttr::new(items)))
+}
+
+#[test]
+fn writes_the_own_attributes_of_a_list_where_memory_is_refused(
+    rt: HostRuntime,
+) -> Result<(), Fail> {
+    let alloc = rt.alloc();
+    let mut types: Types = TypeTable::new(alloc);
+    let si8 = again!(IntegerType::get(&mut types, 8, Signedness::Signed)).into();
+    let list = again!(pair(alloc, si8));
+    assert!(rt; list.is_live(&types));
+    let text = again!(print_attr(alloc, &types, &list));
+    let written =
+        "builtin.vec [holder.dense <7> : builtin.integer si8, holder.dense <8> : builtin.integer si8]";
+    assert!(rt; text.as_str() == written);
     Ok(())
 }
 
