@@ -2,12 +2,12 @@
 //!
 //! 1. A struct around a pointer, with an `impl` of `Op` whose ghost `pointer` is that pointer.
 //! 2. A constructor, which says by `IsMade` that a tree is new, and by a word of `specs/BuiltinOps.antt` what its nodes
-//!    hold; and `from_operation`, which asks the kind.
+//!    hold; `new_with_block` makes one with a block in it. And `from_operation`, which asks the kind.
 //! 3. An `impl` for each interface that it declares, and for their parents; most are empty.
 //! 4. A rule of its own, if it has one: a word, and a `verify` that accepts exactly where it holds.
 //! 5. The rules of all of these as a record (`specs/OpRules.antt`), how the first that is broken is reported
-//!    (`specs/OpRefusals.antt`), and `verify_interfaces`, which verifies them in that order; a law says that so each
-//!    call that it offers may be made (`laws.rt`).
+//!    (`specs/OpRefusals.antt`), and `verify_interfaces`, which verifies them in that order, each `reported` as a
+//!    refusal of the operation; a law says that so each call that it offers may be made (`laws.rt`).
 ghost use Rattle.std.specs.Prelude.{◌≡◌, ◌↔◌, true, Some, Ok, OnOk, OnErr, IfOk, IfErr, IfSome, IsSome};
 ghost use Rattle.std.specs.Prelude.{◌<◌, ◌+◌, Err, IsErr};
 ghost use Rattle.plir_store.specs.Table.{next_slot};

@@ -1,4 +1,4 @@
-//! What the constructors of builtin operations share.
+//! What the constructors of builtin operations share, and those of a user's own may call.
 ghost use Rattle.std.specs.Prelude.{◌≡◌, true, List, [], ◌∷◌, OnOk, OnErr, IfOk};
 ghost use Rattle.std.specs.Prelude.{◌↔◌, ◌<◌, ◌+◌, Err, IsErr, IfErr};
 ghost use Rattle.plir_store.specs.Table.{next_slot};
@@ -30,8 +30,9 @@ use plir_data::{
 };
 use std::alloc::Global;
 
-/// Puts an attribute under a key that is an identifier. After a refusal all is as before.
-pub(crate) fn put_under<D: OpSet>(
+/// Puts an attribute under a key that is an identifier, into the attributes that a new operation gets, say. After a
+/// refusal, for want of memory alone, all is as before.
+pub fn put_under<D: OpSet>(
     alloc: Global,
     attributes: &mut AttributeDict<D>,
     key: &str,
@@ -51,8 +52,8 @@ pub(crate) fn put_under<D: OpSet>(
     }
 }
 
-/// A dictionary with a name and nothing else.
-pub(crate) fn named<D: OpSet>(alloc: Global, name: Identifier) -> Result<AttributeDict<D>, NodeErr>
+/// The attributes of a new symbol: its name and nothing else. Refused for want of memory alone.
+pub fn named<D: OpSet>(alloc: Global, name: Identifier) -> Result<AttributeDict<D>, NodeErr>
     ensures value { IfOk result (λ es. es ≡ module_attributes name) }
     ensures memory { IfErr result (λ e. e ≡ NodeErr.Memory) }
     ensures live { IfOk result (λ es. (types : List (TypeView D.Ty)) → HandlesLive D.attr_handles types es) }
@@ -108,9 +109,9 @@ pub(crate) fn one_type(alloc: Global, ty: TypeHandle) -> Result<Vec<TypeHandle>,
 }
 
 /// A new operation with these attributes and one region, which holds one new block with a label, if it has one, and
-/// arguments of these types. `TooManyNodes` comes only where there is no room for the three. After a refusal no live
-/// node has changed.
-pub(crate) fn new_with_block<D: OpSet>(
+/// arguments of these types; it has no operands, results and successors, and stands in no block. `TooManyNodes` comes
+/// only where there is no room for the three. After a refusal no live node has changed.
+pub fn new_with_block<D: OpSet>(
     alloc: Global,
     ctx: &mut Context<D>,
     kind: OpKind<D::Kind>,

@@ -138,8 +138,9 @@ impl<E> From<ForwardRefOpExistenceErr> for OpVerifyErr<E> {
     }
 }
 
-/// The answer of a verifier, with its refusal as that of an operation.
-pub(crate) fn reported<A, B: From<A>>(answer: Result<(), VerifyErr<A>>) -> Result<(), VerifyErr<B>>
+/// The answer of a verifier, with its refusal as that of another type, at the same location: so the verifier of an
+/// operation answers what those of its interfaces answer.
+pub fn reported<A, B: From<A>>(answer: Result<(), VerifyErr<A>>) -> Result<(), VerifyErr<B>>
     ensures { IsReportedAs B.from_gives answer result }
 {
     match answer {
