@@ -1,8 +1,8 @@
 //! Two of the dialects in one op set, and all three.
-use crate::my::My;
-use crate::note::Note;
-use crate::toy::Toy;
-use plir_dialect::{Joined, Joining};
+use crate::my::{HasMy, My, MyKind};
+use crate::note::{Note, NoteKind};
+use crate::toy::{Toy, ToyKind};
+use plir_dialect::{Joined, Joining, OneOf};
 
 /// The pair of the two dialects.
 pub struct ToyAndMy;
@@ -42,4 +42,14 @@ impl Joining for BothAndNote {
     ghost attr_ids_differ = { λ a b e. Prim.search rules };
 
     ghost type_ids_differ = { λ t u e. Prim.search rules };
+}
+
+impl HasMy for All {
+    ghost use Rattle.plir_dialect.specs.declared.one_of.OneOf.TheVariants.{First, Second};
+
+    ghost of_my = { λ kind. First (Second kind) };
+
+    fn of_my(kind: MyKind) -> OneOf<OneOf<ToyKind, MyKind>, NoteKind> {
+        OneOf::First(OneOf::Second(kind))
+    }
 }

@@ -2,6 +2,7 @@
 //! that set.
 #![tactic(auto)]
 
+pub mod batch_op;
 pub mod both;
 pub mod my;
 pub mod note;

@@ -2,11 +2,14 @@
 ghost use Rattle.std.specs.Prelude.{◌≡◌, ◌++◌, ◌∷◌, [], OnOk};
 ghost use Rattle.std.specs.Fmt.{decimal};
 ghost use Rattle.plir_data.specs.OwnParts.{chars};
+ghost use Rattle.plir_dialect_tests.specs.declared.my.MyKind.{MyKind};
 
+use plir_builtin::reported;
 use plir_core::{Context, Operation, Ptr};
 use plir_data::{IntegerAttr, Location, Memory, OpSet, OwnKind, OwnText, TypeHandle, VerifyErr};
 use plir_dialect::{Dialect, LiveTypes, NamesAsBuiltin, NoUses, OwnAttr, OwnRules, OwnType};
 use plir_folding::FoldKind;
+use plir_iface::{NOpdsInterface, NOpdsVerifyErr, Op};
 use plir_passes::EffectKind;
 use std::alloc::Global;
 use thiserror::Error;
@@ -18,6 +21,8 @@ pub enum MyKind {
     Fill,
     /// Shows a value.
     Show,
+    /// Carries out what its block holds.
+    Batch,
 }
 
 /// A tensor that is filled with one number.
@@ -50,6 +55,51 @@ pub struct Tensor {
 
 /// The dialect.
 pub type My = Dialect<MyKind, Dense, Tensor>;
+
+/// An op set that the dialect is a part of. The constructors of its operations are generic in it: so they serve each set
+/// that the dialect is joined to.
+pub trait HasMy: OpSet {
+    // A kind of the dialect, as one of the set.
+    ghost of_my: { MyKind → Self.Kind };
+
+    /// A kind of the dialect, as one of the set.
+    fn of_my(kind: MyKind) -> Self::Kind
+        ensures { result ≡ of_my kind };
+}
+
+impl HasMy for My {
+    ghost of_my = { λ kind. kind };
+
+    fn of_my(kind: MyKind) -> MyKind {
+        kind
+    }
+}
+
+/// An operation that shows a value: its one operand.
+#[derive(Clone, Copy)]
+struct ShowOp {
+    op: Ptr<Operation>,
+}
+
+impl<D: OpSet> Op<D> for ShowOp {
+    ghost pointer = { λ it. it.op };
+
+    fn get_operation(&self) -> Ptr<Operation> {
+        self.op
+    }
+}
+
+impl<D: OpSet> NOpdsInterface<D, 1> for ShowOp {}
+
+impl From<NOpdsVerifyErr> for NotOneValue {
+    ghost use Rattle.std.specs.Prelude.{⊤};
+
+    ghost from_gives = { λ _ _. ⊤ };
+
+    fn from(_err: NOpdsVerifyErr) -> NotOneValue {
+        NotOneValue
+    }
+}
 
 // A number in decimal digits.
 fn put_number(body: &mut OwnText, alloc: Global, n: u32) -> Result<(), Memory>
@@ -96,6 +146,7 @@ impl OwnKind for MyKind {
         match self {
             MyKind::Fill => "my.fill",
             MyKind::Show => "my.show",
+            MyKind::Batch => "my.batch",
         }
     }
 }
@@ -106,7 +157,7 @@ impl EffectKind for MyKind {
     ghost has_effect = { has_effect_of };
 
     fn has_effect(self) -> bool {
-        matches!(self, MyKind::Show)
+        !matches!(self, MyKind::Fill)
     }
 }
 
@@ -140,10 +191,7 @@ impl<D: OpSet> OwnRules<D> for MyKind {
         op: Ptr<Operation>,
     ) -> Result<(), VerifyErr<NotOneValue>> {
         match self {
-            MyKind::Show if op.get_num_operands(ctx) != 1 => Err(VerifyErr::Refused {
-                loc: op.loc(ctx),
-                err: NotOneValue,
-            }),
+            MyKind::Show => reported(NOpdsInterface::<D, 1>::verify(&ShowOp { op }, ctx)),
             _ => Ok(()),
         }
     }

@@ -1,6 +1,6 @@
 //! An op set with the parts of all three dialects.
 use crate::both::All;
-use crate::my::{Dense, MyKind, Tensor};
+use crate::my::{Dense, HasMy, MyKind, Tensor};
 use crate::note::NoteKind;
 use crate::toy::ToyKind;
 use plir_dialect::OneOf;
@@ -10,12 +10,9 @@ use plir_verify::VerifySet;
 /// An op set with the kinds of three dialects, and the attribute and the type of one of them. The calls of the tests are
 /// generic in it: over the op set itself, whose parts are all written out in a proof, they take several times as long to
 /// prove.
-pub trait AllParts: EffectSet + VerifySet {
+pub trait AllParts: EffectSet + VerifySet + HasMy {
     /// A kind of the first.
     fn toy(kind: ToyKind) -> Self::Kind;
-
-    /// A kind of the second.
-    fn my(kind: MyKind) -> Self::Kind;
 
     /// The kind of the third.
     fn note() -> Self::Kind;
@@ -30,10 +27,6 @@ pub trait AllParts: EffectSet + VerifySet {
 impl AllParts for All {
     fn toy(kind: ToyKind) -> OneOf<OneOf<ToyKind, MyKind>, NoteKind> {
         OneOf::First(OneOf::First(kind))
-    }
-
-    fn my(kind: MyKind) -> OneOf<OneOf<ToyKind, MyKind>, NoteKind> {
-        OneOf::First(OneOf::Second(kind))
     }
 
     fn note() -> OneOf<OneOf<ToyKind, MyKind>, NoteKind> {

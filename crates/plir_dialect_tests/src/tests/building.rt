@@ -1,5 +1,6 @@
 //! Calls that build a tree, and test the conditions of what they call.
 use super::all_parts::AllParts;
+use crate::batch_op::BatchOp;
 use crate::my::{Dense, MyKind, Tensor};
 use plir_builtin::ModuleOp;
 use plir_core::{BasicBlock, Context, IRNode, Operation, Ptr};
@@ -108,6 +109,30 @@ pub fn add<D: AllParts>(
     Ok(op)
 }
 
+// A new batch.
+fn new_batch<D: AllParts>(
+    alloc: Global,
+    ctx: &mut Context<D>,
+    ty: TypeHandle,
+) -> Result<Ptr<Operation>, Stop> {
+    if !ctx.holds_type(ty) {
+        return Err(Stop::Refused);
+    }
+    let name = Identifier::try_new(alloc, "both")?;
+    Ok(BatchOp::new(alloc, ctx, name, ty)?.operation())
+}
+
+/// A new batch at the end of the block.
+pub fn add_batch<D: AllParts>(
+    alloc: Global,
+    ctx: &mut Context<D>,
+    place: Place,
+) -> Result<Ptr<Operation>, Stop> {
+    let op = again!(new_batch(alloc, ctx, place.ty));
+    append(ctx, op, place.block)?;
+    Ok(op)
+}
+
 // Puts the own attribute with a number under the key `value` of an operation.
 fn set_value<D: AllParts>(
     alloc: Global,
@@ -130,7 +155,7 @@ pub fn fill<D: AllParts>(
     place: Place,
     value: u32,
 ) -> Result<Ptr<Operation>, Stop> {
-    let op = add(alloc, ctx, place, D::my(MyKind::Fill), true, &[])?;
+    let op = add(alloc, ctx, place, D::of_my(MyKind::Fill), true, &[])?;
     let attr = Dense {
         value,
         ty: place.ty,

@@ -1,6 +1,6 @@
 //! A tree of operations of three dialects: printed, verified and swept.
 use super::all_parts::AllParts;
-use super::building::{Place, add, erase, fill, place};
+use super::building::{Place, add, add_batch, erase, fill, place};
 use crate::both::All;
 use crate::my::MyKind;
 use crate::toy::ToyKind;
@@ -20,10 +20,14 @@ const SWEPT: &str = "builtin.module @m
     op2v1_res0 = my.fill () [] [value = my.dense <7> : my.tensor <4 x builtin.integer si8>]: <()->(my.tensor <4 x builtin.integer si8>)>;
     op3v1_res0 = toy.add (op2v1_res0, op2v1_res0) [] []: <(my.tensor <4 x builtin.integer si8>, my.tensor <4 x builtin.integer si8>)->(my.tensor <4 x builtin.integer si8>)>;
     note.here () [] []: <()->()>;
-    my.show (op3v1_res0) [] []: <(my.tensor <4 x builtin.integer si8>)->()>
+    my.show (op3v1_res0) [] []: <(my.tensor <4 x builtin.integer si8>)->()>;
+    my.batch () [] [builtin_sym_name = builtin.identifier both]: <()->()> 
+    {
+      ^block2v1(block2v1_arg0: my.tensor <4 x builtin.integer si8>):
+    }
 }";
 
-// A module that shows the sum of a tensor with itself; a note stands before that.
+// A module that shows the sum of a tensor with itself, with a note before that and a batch behind it.
 fn build<D: AllParts>(alloc: Global, ctx: &mut Context<D>) -> Result<Place, Stop> {
     let place = place(alloc, ctx)?;
     let seven = fill(alloc, ctx, place, 7)?;
@@ -36,7 +40,8 @@ fn build<D: AllParts>(alloc: Global, ctx: &mut Context<D>) -> Result<Place, Stop
         &[seven, seven],
     )?;
     add(alloc, ctx, place, D::note(), false, &[])?;
-    add(alloc, ctx, place, D::my(MyKind::Show), false, &[sum])?;
+    add(alloc, ctx, place, D::of_my(MyKind::Show), false, &[sum])?;
+    add_batch(alloc, ctx, place)?;
     Ok(place)
 }
 
@@ -92,7 +97,7 @@ fn what_is_dead_of_each_dialect_is_swept_where_memory_is_refused(
 ) -> Result<(), Fail> {
     let alloc = rt.alloc();
     let (before, left, text) = in_new_context::<All, _>(alloc, Sweeps { alloc })?;
-    assert!(rt; before == 10 && left == 7);
+    assert!(rt; before == 13 && left == 10);
     assert!(rt; text.as_str() == SWEPT);
     Ok(())
 }
@@ -142,7 +147,7 @@ impl<D: AllParts> InContext<D> for Verifies {
         let (alloc, root) = (self.alloc, place.module);
         let sum = add(alloc, ctx, place, D::toy(ToyKind::Add), true, &[])?;
         let is_sum_refused = is_refused_for(alloc, ctx, root, sum, "adds not two values")?;
-        let show = add(alloc, ctx, place, D::my(MyKind::Show), false, &[])?;
+        let show = add(alloc, ctx, place, D::of_my(MyKind::Show), false, &[])?;
         let is_show_refused = is_refused_for(alloc, ctx, root, show, "shows not one value")?;
         let large = fill(alloc, ctx, place, 256)?;
         let is_large_refused = is_refused_for(alloc, ctx, root, large, "more than 255")?;
