@@ -15,8 +15,8 @@ use plir_core::{Context, NodeErr, Operation, Ptr};
 use plir_data::{Identifier, OpKind, TypeHandle};
 use std::alloc::Global;
 
-/// Operations on one tensor that are carried out together: they stand in a block, whose argument is the tensor. It has a
-/// name.
+/// Operations on one tensor that are carried out together: they stand in a block, whose argument is the tensor. They
+/// have a name.
 #[derive(Clone, Copy)]
 pub struct BatchOp {
     op: Ptr<Operation>,

@@ -56,8 +56,8 @@ pub struct Tensor {
 /// The dialect.
 pub type My = Dialect<MyKind, Dense, Tensor>;
 
-/// An op set that the dialect is a part of. The constructors of its operations are generic in it: so they serve each set
-/// that the dialect is joined to.
+/// An op set that the dialect is a part of. The constructors of its operations are generic in it: so they serve each
+/// set that the dialect is joined to.
 pub trait HasMy: OpSet {
     // A kind of the dialect, as one of the set.
     ghost of_my: { MyKind → Self.Kind };

@@ -7,9 +7,9 @@ use plir_dialect::OneOf;
 use plir_passes::EffectSet;
 use plir_verify::VerifySet;
 
-/// An op set with the kinds of three dialects, and the attribute and the type of one of them. The calls of the tests are
-/// generic in it: over the op set itself, whose parts are all written out in a proof, they take several times as long to
-/// prove.
+/// An op set with the kinds of three dialects, and the attribute and the type of one of them. The calls of the tests
+/// are generic in it: over the op set itself, whose parts are all written out in a proof, they take several times as
+/// long to prove.
 pub trait AllParts: EffectSet + VerifySet + HasMy {
     /// A kind of the first.
     fn toy(kind: ToyKind) -> Self::Kind;
