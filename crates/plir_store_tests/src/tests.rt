@@ -1,5 +1,5 @@
 //! What no clause says: that the calls succeed, and what they do in worked examples.
-ghost use Rattle.std.specs.Prelude.{◌≡◌, ◌<◌, ◌↔◌, None, IsTrue, length};
+ghost use Rattle.std.specs.Prelude.{◌≡◌, ◌<◌, ◌↔◌, IfOk, None, IsTrue, length};
 ghost use Rattle.plir_store.specs.Lists.{parent_at};
 
 use plir_store::chains::Chains;
@@ -299,12 +299,16 @@ fn links_children_in_order_where_memory_is_refused(rt: HostRuntime) -> Result<()
 }
 
 // The list of these items.
-fn make_list(alloc: Global, items: &[u32]) -> Result<Few<u32>, AllocError> {
+fn make_list(alloc: Global, items: &[u32]) -> Result<Few<u32>, AllocError>
+    ensures { IfOk result (λ l. l ≡ items.now) }
+{
     Few::from_vec(Vec::from_slice(alloc, items)?)
 }
 
 // The same, made once more where memory was refused.
-fn list_of(alloc: Global, items: &[u32]) -> Result<Few<u32>, AllocError> {
+fn list_of(alloc: Global, items: &[u32]) -> Result<Few<u32>, AllocError>
+    ensures { IfOk result (λ l. l ≡ items.now) }
+{
     match make_list(alloc, items) {
         Ok(list) => Ok(list),
         Err(_) => make_list(alloc, items),
