@@ -1,0 +1,2 @@
+mod SitesWalked
+mod Ranges
