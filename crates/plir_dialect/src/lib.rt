@@ -4,6 +4,7 @@
 
 mod dialect;
 mod effects;
+mod flows;
 mod folds;
 mod joined;
 pub mod laws;

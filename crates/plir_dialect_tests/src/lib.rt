@@ -4,6 +4,7 @@
 
 pub mod batch_op;
 pub mod both;
+pub mod flow;
 pub mod my;
 pub mod note;
 #[cfg(test)]
