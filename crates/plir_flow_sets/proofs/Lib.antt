@@ -1,2 +1,1 @@
 mod SitesWalked
-mod Ranges

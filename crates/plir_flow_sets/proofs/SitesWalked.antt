@@ -1,10 +1,7 @@
 -- What a walk adds to a list of operations, where each call at an operation adds it, if it calls a certain function.
 use Rattle.std.proofs.Common.{◌≡◌, ◌≢◌, ℕ, Bool, true, false, true≢false, cond, List, [], ◌∷◌, ◌++◌, Option, Some, None}
 use Rattle.std.proofs.Common.{inl, inr, refl, sym, ap, subst, ◌∙◌}
-use Rattle.std.specs.Prelude.{nat_eq}
-use Rattle.std.specs.Bool.{Decides}
 use Rattle.std.specs.Cmp.{unsigned_Decides}
-use Rattle.std.specs.Cmp.Lexicographic.{pointwise}
 use Rattle.std.proofs.lemmas.List.{append_assoc, append-nil}
 use Rattle.std.proofs.lemmas.Slice.Eq.{slice_eq-Decides}
 use Rattle.std.specs.declared.ops.ControlFlow.{ControlFlow}
@@ -23,7 +20,8 @@ use Rattle.plir_walk.specs.declared.interruptible.WalkContinue.TheVariants.{Adva
 use Rattle.plir_walk.specs.Calls.{Call, Relation, Chain, nodes_of, NoBreak}
 use Rattle.plir_walk.specs.CallLaws.{chain-each}
 use Rattle.plir_walk.specs.Lists.{Pairs}
-use Rattle.plir_walk.specs.OperationWalks.{OperationRelation, AtOperations, WalkedOperations, OperationAnswers}
+use Rattle.plir_walk.specs.OperationWalks.{OperationRelation, AtOperations, IsOperationDue, WalkedOperations}
+use Rattle.plir_walk.specs.Walk.{AnswersBy}
 use Rattle.plir_walk.specs.Walked.{IsCallUnder}
 use Rattle.plir_walk.specs.NodeLaws.{same-op}
 use Rattle.plir_flow.specs.declared.calls.CallOpCallable.{CallOpCallable}
@@ -180,8 +178,9 @@ module _ {K A T : Type 0} (calls : OpView K A → Option CallView) (name : List 
         → WalkedOperations look pre_forward post s u (Operation root) answer u' →
         AreCallSites calls name s root (items u')
     walked-sites answer k is u u' none walked =
-        let answers = subst (λ z. OperationAnswers pre_forward (look s).children (Operation root) walked.calls z) is
-        walked.walk.answers in
+        let t = (look s).children in
+        let answers = subst (λ z. AnswersBy pre_forward t (Operation root) (IsOperationDue pre_forward t (Operation root))
+        walked.calls z) is walked.walk.answers in
         let nodes = nodes_of walked.calls in
         let put : items u' ≡ sites_in nodes = all-put walked.calls s u s u' refl walked.chain answers.1
         ∙ ap (λ z. z ++ sites_in nodes) none in
@@ -194,12 +193,15 @@ module _ {K A T : Type 0} (calls : OpView K A → Option CallView) (name : List 
                     is-call-of name (told_of calls s p) f.1;
               });
           all_sites = λ p i. site-has nodes p ((answers.2 (Operation p)).1 (
-            i.below,
-            λ shut.
-                (let y = shut.skipped in
-                no-skip y.0.before y.0.state y.0.node y.0.answer y.0.after y.0.left
-                (chain-each call s u walked.calls s u' walked.chain y.0 y.1).made y.3),
-          ) refl) (call-of-is name (told_of calls s p) i.calls_it);
+            (
+              i.below,
+              λ shut.
+                  (let y = shut.skipped in
+                  no-skip y.0.before y.0.state y.0.node y.0.answer y.0.after y.0.left
+                  (chain-each call s u walked.calls s u' walked.chain y.0 y.1).made y.3),
+            ),
+            refl,
+          )) (call-of-is name (told_of calls s p) i.calls_it);
           in_order = site-pairs _ nodes walked.walk.in_order.increasing;
         })
 

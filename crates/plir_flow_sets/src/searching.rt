@@ -63,7 +63,7 @@ pub fn call_sites<D: CallSet>(
     let mut sites = Vec::new(alloc);
     let put = |c: &Context<D>, u: &mut Vec<Ptr<Operation>>, p: Ptr<Operation>| -> WalkResult<Memory>
         requires { IsLive c.now (AnyNode.Operation p) }
-        ensures { IsSitePut D.call name.now c.now u.old.items p result u.new.items }
+        ensures { IsSitePut D.call name.entry.now c.now u.old.items p result u.new.items }
     { put_site(c, u, p, name) };
     match walk_ops(
         ctx,
