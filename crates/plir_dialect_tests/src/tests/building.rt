@@ -45,7 +45,7 @@ fn tensor<D: AllParts>(ctx: &mut Context<D>, length: u32) -> Result<TypeHandle, 
 }
 
 /// A module to build in.
-pub fn place<D: AllParts>(alloc: Global, ctx: &mut Context<D>) -> Result<Place, Stop> {
+pub fn make_place<D: AllParts>(alloc: Global, ctx: &mut Context<D>) -> Result<Place, Stop> {
     let (module, block) = again!(new_module(alloc, ctx));
     let ty = again!(tensor(ctx, 4));
     Ok(Place { module, block, ty })

@@ -1,6 +1,6 @@
 //! A tree of operations of three dialects: printed, verified and swept.
 use super::all_parts::AllParts;
-use super::building::{Place, add, add_batch, erase, fill, place};
+use super::building::{Place, add, add_batch, erase, fill, make_place};
 use crate::both::All;
 use crate::my::MyKind;
 use crate::toy::ToyKind;
@@ -29,7 +29,7 @@ const SWEPT: &str = "builtin.module @m
 
 // A module that shows the sum of a tensor with itself, with a note before that and a batch behind it.
 fn build<D: AllParts>(alloc: Global, ctx: &mut Context<D>) -> Result<Place, Stop> {
-    let place = place(alloc, ctx)?;
+    let place = make_place(alloc, ctx)?;
     let seven = fill(alloc, ctx, place, 7)?;
     let sum = add(
         alloc,
