@@ -45,22 +45,22 @@ module _ {A : Type 0} where
       IsToldCall (by_own_kind call_of) s op (named_callee s op) (named_arguments s op)
   named_call_told s op call = call_told_by (op_at s op) call.kind call.named
 
+both_true : (b c : Bool) → b ≡ true → c ≡ true → (b && c) ≡ true
+both_true true c e f = f
+both_true false c e f = absurd (true≢false (sym e))
+
+first_true : (b c : Bool) → (b && c) ≡ true → b ≡ true
+first_true true c e = refl
+first_true false c e = e
+
+second_true : (b c : Bool) → (b && c) ≡ true → c ≡ true
+second_true true c e = e
+second_true false c e = absurd (true≢false (sym e))
+
 module _ {K A : Type 0} where
   -- the sizes under the key, by what is held
   abbrev sizes_held : Option (OpView K A) → Option (List ℕ)
   sizes_held held = option_and_then sizes_in (dict_get (attributes_in held) sizes_key)
-
-  both_true : (b c : Bool) → b ≡ true → c ≡ true → (b && c) ≡ true
-  both_true true c e f = f
-  both_true false c e f = absurd (true≢false (sym e))
-
-  first_true : (b c : Bool) → (b && c) ≡ true → b ≡ true
-  first_true true c e = refl
-  first_true false c e = e
-
-  second_true : (b c : Bool) → (b && c) ≡ true → c ≡ true
-  second_true true c e = e
-  second_true false c e = absurd (true≢false (sym e))
 
   module _ (o : OpView K A) where
     -- the test of sizes is exact
