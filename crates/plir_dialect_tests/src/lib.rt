@@ -1,5 +1,4 @@
-//! Three dialects over `plir_dialect`, each as a crate of its own would have it, joined in one op set, and the tests of
-//! that set.
+//! Three dialects over `plir_dialect`, each as a crate of its own would have it, joined in one op set.
 #![tactic(auto)]
 
 pub mod batch_op;
@@ -7,6 +6,4 @@ pub mod both;
 pub mod flow;
 pub mod my;
 pub mod note;
-#[cfg(test)]
-mod tests;
 pub mod toy;
