@@ -1,4 +1,7 @@
 //! The scripts.
+ghost use Rattle.plir_core.specs.ContextView.{IsLive};
+ghost use Rattle.plir_core.specs.declared.ptr.IRNode.{IRNode as AnyNode};
+
 use super::asking::{ask_call, ask_edges, ask_forwarded, ask_returned, ask_sites};
 use super::structs;
 use crate::cond_branch::CondBranch;
@@ -66,7 +69,9 @@ fn ask_struct(bench: &mut Bench<FlowSet>, line: Line<'_>) -> Result<(), Stop> {
 }
 
 // `sizes OP SIZES` says how many operands stand in each segment.
-fn set_sizes(bench: &mut Bench<FlowSet>, branch: &CondBranch, line: Line<'_>) -> Result<(), Stop> {
+fn set_sizes(bench: &mut Bench<FlowSet>, branch: &CondBranch, line: Line<'_>) -> Result<(), Stop>
+    requires { IsLive bench.old.ctx (AnyNode.Operation branch.now.op) }
+{
     let mut sizes = Vec::new(bench.alloc);
     let (_, words) = split_word(line.text);
     for word in words.split_whitespace() {
