@@ -1,7 +1,7 @@
 /* Preloaded into a program: its Nth request for memory is refused (REFUSE=memory:N), its Nth read or write fails
-   (REFUSE=io:N), or its Nth read or write of several bytes moves one byte alone (REFUSE=short:N). Where that request
-   came, the file that REFUSED names is made. Under REFUSE=all all memory is refused from a request of TO_REFUSE bytes
-   on up to one of TO_GRANT bytes, and the file is made there. */
+   (REFUSE=io:N), or its Nth read or write of several bytes moves one byte alone (REFUSE=short:N), or each moves one byte
+   and the Nth fails (REFUSE=bytes:N). Where that request came, the file that REFUSED names is made. Under REFUSE=all
+   all memory is refused from a request of TO_REFUSE bytes on up to one of TO_GRANT bytes, and the file is made there. */
 #define _GNU_SOURCE
 #include <dlfcn.h>
 #include <errno.h>
@@ -11,7 +11,7 @@
 #include <sys/uio.h>
 #include <unistd.h>
 
-static enum { NOTHING, MEMORY, IO, SHORT, ALL } what;
+static enum { NOTHING, MEMORY, IO, SHORT, BYTES, ALL } what;
 static long nth, count;
 
 /* Sizes that no machine grants: the two words of a test. */
@@ -24,6 +24,7 @@ __attribute__((constructor)) static void begin(void) {
     if (refuse && !strncmp(refuse, "memory:", 7)) what = MEMORY, nth = atol(refuse + 7);
     else if (refuse && !strncmp(refuse, "io:", 3)) what = IO, nth = atol(refuse + 3);
     else if (refuse && !strncmp(refuse, "short:", 6)) what = SHORT, nth = atol(refuse + 6);
+    else if (refuse && !strncmp(refuse, "bytes:", 6)) what = BYTES, nth = atol(refuse + 6);
     else if (refuse && !strcmp(refuse, "all")) what = ALL;
 }
 
@@ -70,13 +71,17 @@ int posix_memalign(void **p, size_t a, size_t n) {
     return *p ? 0 : ENOMEM;
 }
 
+/* Whether a read or write fails. */
+static int fails(void) { return is_due(IO) || is_due(BYTES); }
+
+/* How many bytes it moves, of those that are asked for. */
+static size_t moved(size_t n) { return n > 1 && (what == BYTES || is_due(SHORT)) ? 1 : n; }
+
 ssize_t read(int file, void *bytes, size_t n) {
-    if (is_due(IO)) { errno = EIO; return -1; }
-    if (n > 1 && is_due(SHORT)) n = 1;
-    return REAL(read)(file, bytes, n);
+    if (fails()) { errno = EIO; return -1; }
+    return REAL(read)(file, bytes, moved(n));
 }
 ssize_t write(int file, const void *bytes, size_t n) {
-    if (is_due(IO)) { errno = EIO; return -1; }
-    if (n > 1 && is_due(SHORT)) n = 1;
-    return REAL(write)(file, bytes, n);
+    if (fails()) { errno = EIO; return -1; }
+    return REAL(write)(file, bytes, moved(n));
 }

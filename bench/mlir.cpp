@@ -126,6 +126,15 @@ class Bench {
     return text.size();
   }
 
+  uint64_t lookUpTypes(uint64_t number) {
+    auto typeOf = [&](unsigned width) { return mlir::IntegerType::get(&context, width, mlir::IntegerType::Signed); };
+    auto first = typeOf(0);
+    uint64_t count = 0;
+    for (uint64_t turn = 0; turn < number; turn++)
+      count += typeOf(turn % 1000) == first;
+    return count;
+  }
+
   // What is read stays, as what is built does.
   bool read() {
     mlir::ParserConfig config(&context, /*verifyAfterParse=*/false);
@@ -147,6 +156,8 @@ public:
     }
     if (word == "erase-all")
       return eraseThroughTable(number);
+    if (word == "types")
+      return lookUpTypes(number);
     if (!root)
       return -1;
     if (word == "look-up")

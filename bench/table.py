@@ -46,6 +46,7 @@ def rows(functions, part):
         Row("erasure through a table, a symbol", BOTH, [build, "table 1"], [f"erase-all {functions}"], functions),
         repeated("print, a function", BOTH, "print", functions, 10),
         repeated("read, a function", BOTH, "read", functions, 5, before=["print 1"]),
+        Row("type asked for again, a type", BOTH, ["types 1000"], [f"types {1000 + 10 * functions}"], 10 * functions),
     ]
 
 

@@ -11,6 +11,7 @@ use crate::stop::Stop;
 use crate::sweeping::sweep_chains;
 use crate::symbols::{erase_by_list, erase_through_table, look_up_names, make_tables};
 use crate::texts::{print_root, read_text};
+use crate::types::look_up_types;
 use crate::walking::{walk_mutably, walk_nodes, walk_operations};
 use plir_core::{Context, Operation, Ptr};
 use plir_data::BuiltinSet;
@@ -64,6 +65,7 @@ impl Bench {
             Task::Fold => fold_chain(self.alloc, number),
             Task::Read => read_text(self.alloc, ctx, self.text.as_str(), number),
             Task::Print => self.print(ctx, number),
+            Task::Types => look_up_types(ctx, number),
             _ => self.look(ctx, task, number),
         }
     }

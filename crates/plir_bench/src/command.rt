@@ -31,6 +31,8 @@ pub enum Task {
     Print,
     /// `read N`: the text that was printed last, read so many times.
     Read,
+    /// `types N`: so many integer types asked for, a thousand widths in turn.
+    Types,
 }
 
 /// A line: what is measured, and a number, 1 where none is given.
@@ -68,6 +70,7 @@ fn read_task(word: &str) -> Option<Task> {
         "fold" => Some(Task::Fold),
         "print" => Some(Task::Print),
         "read" => Some(Task::Read),
+        "types" => Some(Task::Types),
         _ => None,
     }
 }

@@ -1,3 +1,4 @@
+// SPDX-License-Identifier: Apache-2.0
 //! Carries out the commands of standard input, one a line, and prints what each has counted. Times and instructions are
 //! taken from outside.
 #![tactic(auto)]
@@ -12,6 +13,7 @@ mod sums;
 mod sweeping;
 mod symbols;
 mod texts;
+mod types;
 mod walking;
 
 use bench::Bench;

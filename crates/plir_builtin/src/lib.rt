@@ -1,3 +1,4 @@
+// SPDX-License-Identifier: Apache-2.0
 //! The builtin dialect: symbols, the tables that look them up by their names, the verifier of tables, and the four
 //! operations.
 #![tactic(auto)]

@@ -20,7 +20,7 @@ module _ {X : Type 0} (f : X → X) where
   one_more : (i : ℕ) → suc i + 1 ≡ suc (i + 1)
   one_more i = omega arith
 
-  front-next : (xs : List X) (i : ℕ) (x : X) → slice_get xs i ≡ Some x
+  pub front-next : (xs : List X) (i : ℕ) (x : X) → slice_get xs i ≡ Some x
       → slice_set (front xs i xs) i (f x) ≡ front xs (i + 1) xs
   front-next [] i x e = absurd (none-some x e)
   front-next (y ∷ xs) zero x e = ap (λ z. f z ∷ xs) (sym (same_Some y x e))

@@ -5,3 +5,12 @@ pub mod Values
 pub mod Keeping
 pub mod Edits
 pub mod NewBlocks
+pub mod Twins
+pub mod Whole
+pub mod Mapped
+pub mod Children
+pub mod Become
+pub mod Changing
+pub mod Adding
+pub mod Below
+pub mod Finished

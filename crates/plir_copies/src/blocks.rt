@@ -82,8 +82,8 @@ fn set_attributes<D: OpSet>(
     Ok(())
 }
 
-// A block in no region that holds what another one holds. It has no operation.
-fn copy_block<D: OpSet>(
+/// A block in no region that holds what another one holds. It has no operation.
+pub(crate) fn copy_block<D: OpSet>(
     alloc: Global,
     ctx: &mut Context<D>,
     block: Ptr<BasicBlock>,
@@ -114,8 +114,8 @@ fn copy_block<D: OpSet>(
     }
 }
 
-// Puts the arguments of the copy of a block in place of those of the block.
-fn map_arguments<D: OpSet>(
+/// Puts the arguments of the copy of a block in place of those of the block.
+pub(crate) fn map_arguments<D: OpSet>(
     ctx: &Context<D>,
     map: &mut ValueMap,
     block: Ptr<BasicBlock>,

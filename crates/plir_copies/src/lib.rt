@@ -1,3 +1,4 @@
+// SPDX-License-Identifier: Apache-2.0
 //! Copies: maps that say what stands in place of values and blocks, and the copying of operations under them.
 #![tactic(auto)]
 
@@ -5,9 +6,11 @@ mod blocks;
 mod copying;
 mod liveness;
 mod reading;
+mod trees;
 mod value_map;
 
 pub use blocks::clone_block_into;
 pub use copying::clone_op_into;
 pub use liveness::images_stay_live;
+pub use trees::{clone_block_tree_into, clone_tree_into};
 pub use value_map::ValueMap;

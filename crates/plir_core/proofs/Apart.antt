@@ -1,10 +1,10 @@
 -- A node is moved, and what does not stand below it keeps what stands above it.
-use Rattle.std.proofs.Common.{◌≡◌, ℕ, zero, suc, true, Option, Some, None, IsSome, refl, sym, ◌∙◌, ap, subst}
+use Rattle.std.proofs.Common.{◌≡◌, ℕ, zero, suc, Option, Some, None, refl, sym, ◌∙◌, ap}
 use Rattle.plir_core.specs.declared.ptr.IRNode.{IRNode}
 use Rattle.plir_core.specs.declared.ptr.IRNode.TheVariants.{Operation, Region, BasicBlock}
 use Rattle.plir_core.specs.Above.{climb, Reaches}
 use Rattle.plir_core.specs.Nodes.{Nodes, is_node_live, node_parent}
-use Rattle.plir_core.specs.Placed.{MovesOnly, IsUnlinked}
+use Rattle.plir_core.specs.Placed.{MovesOnly}
 use Rattle.plir_store.specs.Table.{is_live_at}
 use Rattle.plir_core.proofs.Trees.{climb_nothing}
 

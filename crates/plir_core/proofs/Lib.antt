@@ -48,6 +48,8 @@ pub mod ValueUses
 pub mod TimesUsed
 pub mod ReplacedUses
 pub mod Rewiring
+pub mod OnlyResult
+pub mod Rest
 pub mod ResultUses
 pub mod Apart
 pub mod Transfer

@@ -8,17 +8,16 @@ use Rattle.std.proofs.lemmas.List.Sums.{sum_by-cons}
 use Rattle.plir_store.specs.Table.{Cell, no_cell, content_at, cell_at}
 use Rattle.plir_core.specs.declared.ptr.Ptr.{Ptr}
 use Rattle.plir_core.specs.declared.ptr.Operation.{Operation as OperationKind}
-use Rattle.plir_core.specs.declared.ptr.IRNode.{IRNode}
 use Rattle.plir_core.specs.declared.ptr.IRNode.TheVariants.{Operation}
 use Rattle.plir_core.specs.declared.value.Value.{Value}
 use Rattle.plir_core.specs.declared.value.DefiningEntity.{DefiningEntity}
 use Rattle.plir_core.specs.declared.value.DefiningEntity.TheVariants.{Op, Block}
 use Rattle.plir_core.specs.Contents.{OpView}
-use Rattle.plir_core.specs.ContextView.{ContextView, IsLive, is_value_live, type_of_value, types_from, entity_node, op_at}
+use Rattle.plir_core.specs.ContextView.{ContextView, IsLive, types_from, entity_node, op_at}
 use Rattle.plir_core.specs.ContextView.{operands_of, operands_in, results_in}
 use Rattle.plir_core.specs.Held.{KeepsNodes}
 use Rattle.plir_core.specs.Replaced.{replaced, op_replaced, cell_replaced, with_uses_replaced}
-use Rattle.plir_core.specs.Rewired.{SameUses, IsRewired}
+use Rattle.plir_core.specs.Rewired.{IsRewired}
 use Rattle.plir_core.specs.SameValue.{same_value, value-exact}
 use Rattle.plir_core.specs.Uses.{total}
 use Rattle.plir_core.specs.ValueUses.{HasUses, times_in, uses_in_slot, num_uses_of}
@@ -27,7 +26,7 @@ use Rattle.plir_core.proofs.Freed.{bool_cases}
 use Rattle.plir_core.proofs.TimesUsed.{not_same}
 
 -- sums of numbers that are the same, or are sums
-total_same : (f g : ℕ → ℕ) → ((k : ℕ) → f k ≡ g k) → (n : ℕ) → total f n ≡ total g n
+pub total_same : (f g : ℕ → ℕ) → ((k : ℕ) → f k ≡ g k) → (n : ℕ) → total f n ≡ total g n
 total_same f g e zero = refl
 total_same f g e (suc n) =
     let a = total_same f g e n in
@@ -48,31 +47,31 @@ mapped_at f d e (x ∷ xs) zero = refl
 mapped_at f d e (x ∷ xs) (suc i) = mapped_at f d e xs i
 
 -- how often y is x: once or not
-abbrev time : Value → Value → ℕ
+abbrev pub time : Value → Value → ℕ
 time x y = cond (same_value y x) 1 0
 
-time_same : (x y : Value) → y ≡ x → time x y ≡ 1
+pub time_same : (x y : Value) → y ≡ x → time x y ≡ 1
 time_same x y e = ap (λ b. cond {A = ℕ} b 1 0) ((value-exact y x).1 e)
 
-time_other : (x y : Value) → (y ≡ x → ⊥) → time x y ≡ 0
+pub time_other : (x y : Value) → (y ≡ x → ⊥) → time x y ≡ 0
 time_other x y n = ap (λ b. cond {A = ℕ} b 1 0) (not_same (same_value y x) (value-exact y x).0 n)
 
 -- Among values.
 module _ (v w : Value) where
-  told : (x : Value) → (x ≡ v) ⊎ (x ≡ v → ⊥)
+  pub told : (x : Value) → (x ≡ v) ⊎ (x ≡ v → ⊥)
   told x = elim (bool_cases (same_value x v)) [
     | inl e ↦ inl ((value-exact x v).0 e)
     | inr e ↦ inr (λ q. let a = (value-exact x v).1 q in let b : ⊥ = cc in b)
   ]
 
   -- w stands where v stood, and any other value where it stood
-  at_v : (x : Value) → x ≡ v → replaced v w x ≡ w
+  pub at_v : (x : Value) → x ≡ v → replaced v w x ≡ w
   at_v x e = ap (λ b. cond b w x) ((value-exact x v).1 e)
 
-  at_other : (x : Value) → (x ≡ v → ⊥) → replaced v w x ≡ x
+  pub at_other : (x : Value) → (x ≡ v → ⊥) → replaced v w x ≡ x
   at_other x n = ap (λ b. cond b w x) (not_same (same_value x v) (value-exact x v).0 n)
 
-  at_w : replaced v w w ≡ w
+  pub at_w : replaced v w w ≡ w
   at_w = elim (told w) [ inl q ↦ at_v w q | inr n ↦ at_other w n ]
 
   put : (xs : List Value) (x y : Value) → replaced v w x ≡ y → Contains xs x → Contains (map (replaced v w) xs) y

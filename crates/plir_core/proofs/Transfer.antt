@@ -14,7 +14,6 @@ use Rattle.plir_core.specs.Stored.{IsStored}
 use Rattle.plir_core.proofs.Apart.{moved_apart, still_apart}
 use Rattle.plir_core.proofs.ChildPlaces.{next-behind}
 use Rattle.plir_core.proofs.Facts.{child-parent, child-live, parent-child}
-use Rattle.plir_core.proofs.Leaves.{node-cases}
 use Rattle.plir_core.proofs.Listing.{some_is, some_value}
 use Rattle.plir_core.proofs.Splits.{nothing_first}
 use Rattle.plir_core.proofs.Trees.{climb_step}

@@ -1,3 +1,4 @@
+// SPDX-License-Identifier: Apache-2.0
 //! The context: operations, regions and blocks, the values between them, and the calls that read and change them.
 #![tactic(auto)]
 

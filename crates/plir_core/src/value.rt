@@ -35,6 +35,14 @@ impl DefiningEntity {
             DefiningEntity::Block(block) => IRNode::BasicBlock(block),
         }
     }
+
+    // The slot of the operation or block.
+    pub(crate) fn slot(self) -> u32 {
+        match self {
+            DefiningEntity::Op(op) => op.slot,
+            DefiningEntity::Block(block) => block.slot,
+        }
+    }
 }
 
 impl Value {

@@ -1,3 +1,4 @@
+// SPDX-License-Identifier: Apache-2.0
 //! The data that an IR is made of: names, places, types and attributes, and the set of a user's own.
 #![tactic(auto)]
 

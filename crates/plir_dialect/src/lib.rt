@@ -1,3 +1,4 @@
+// SPDX-License-Identifier: Apache-2.0
 //! Op sets of small parts: kinds of operations, attributes and types of one's own, each of which says what its own
 //! values tell; two such sets in one; and what passes ask of them.
 #![tactic(auto)]

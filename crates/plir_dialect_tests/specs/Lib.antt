@@ -1,7 +1,5 @@
 -- What the contracts of this crate cite.
 --
---   Toy, My   id_of: the ids of two dialects' kinds; fold_of, has_effect, IsRight: what passes and the verifier ask
---   MyLaws    a law of what holds one handle
-pub mod Toy
-pub mod My
-pub mod MyLaws
+--   View   id_of, is_name: the ids of the kinds, and which of them use symbols; has_effect, IsRight, AreUsesRight: what
+--   passes and the verifiers ask
+pub mod View

@@ -1,9 +1,8 @@
-//! Three dialects over `plir_dialect`, each as a crate of its own would have it, joined in one op set.
+// SPDX-License-Identifier: Apache-2.0
+//! Kinds of two crates in one op set: sums of `joined_dialects`, and views of this crate.
 #![tactic(auto)]
 
-pub mod batch_op;
-pub mod both;
-pub mod flow;
-pub mod my;
-pub mod note;
-pub mod toy;
+pub mod joined;
+#[cfg(test)]
+mod tests;
+pub mod view;

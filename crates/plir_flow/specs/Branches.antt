@@ -56,6 +56,11 @@ IsMismatch given wanted (Differ i forwarded expected) =
     (length given ≡ length wanted) × (type_in given i ≡ Some forwarded) × (type_in wanted i ≡ Some expected) ×
     (forwarded ≢ expected) × ((k : ℕ) → k < i → type_in given k ≡ type_in wanted k)
 
+-- a mismatch is one of types, and not of numbers
+abbrev pub IsOfTypes : Mismatch → Type 0
+IsOfTypes (Count provided expected) = ⊥
+IsOfTypes (Differ i forwarded expected) = Unit {0}
+
 module _ {K A T : Type 0} where
   abbrev pub num_successors : ContextView K A T → Ptr OperationKind → ℕ
   num_successors s op = length (successors_of s op)
@@ -98,6 +103,11 @@ module _ {K A T : Type 0} where
       (i : ℕ) × ((b : Ptr BasicBlockKind) × ((slice_get (successors_of s op) i ≡ Some b) ×
       IsMismatch (types_within s op (forwards i)) (argument_types s b) m ×
       ((k : ℕ) → k < i → AgreesAt s op forwards k)))
+
+  -- each successor before the first whose types do not agree gets the right ones, and that one gets as many values as it
+  -- has arguments
+  abbrev pub DifferInTypes : ContextView K A T → Ptr OperationKind → (forwards : ℕ → Range) → Type 0
+  DifferInTypes s op forwards = (m : Mismatch) × (IsFirstMismatch s op forwards m × IsOfTypes m)
 
   -- the types that a mismatch names are types of the context
   abbrev pub NamesLive : ContextView K A T → Mismatch → Type 0

@@ -104,6 +104,11 @@ abbrev pub no_receiver : RegionSuccessor → EdgeFault
 no_receiver (ToRegion r) = NoArgument
 no_receiver After = NoResult
 
+-- a fault is one of types
+abbrev pub IsOfTypes : EdgeFault → Type 0
+IsOfTypes (OtherType x y) = Unit {0}
+IsOfTypes _ = ⊥
+
 -- the type of the operand at a use
 abbrev pub type_of_use : {K A T : Type 0} → ContextView K A T → Use Value → Option ℕ
 type_of_use s u = option_and_then (type_of_value s) (slice_get (operands_of s u.op) u.index)

@@ -1,13 +1,13 @@
 //! The interface of operations that branch to other blocks.
 ghost use Rattle.std.specs.Prelude.{◌≡◌, ◌↔◌, ◌<◌, ◌≤◌, ◌+◌, ◌-◌, ◌^◌, ℕ};
-ghost use Rattle.std.specs.Prelude.{Some, All, IsOk, IfOk, IfErr, OnOk, OnErr, length, slice_get};
+ghost use Rattle.std.specs.Prelude.{◌⊎◌, Some, Err, All, IsOk, IfOk, IfErr, OnOk, OnErr, length, slice_get};
 ghost use Rattle.plir_core.specs.declared.ptr.IRNode.{IRNode};
 ghost use Rattle.plir_core.specs.ContextView.{IsLive, IsValueLive, operands_of, successors_of};
 ghost use Rattle.plir_core.specs.WellFormed.{IsWellFormed};
 ghost use Rattle.plir_flow.specs.Layout.{IsLayoutRefusal};
 ghost use Rattle.plir_flow.specs.Branches.{num_successors, HasNSuccs, IsNSuccsRefusal, KeepsSizes, operands_within};
 ghost use Rattle.plir_flow.specs.Branches.{HasBranchRule, IsBranchRuleRefusal, IsForwardedMore, IsForwardedLess};
-ghost use Rattle.plir_flow.specs.Branches.{IsOperandReplaced};
+ghost use Rattle.plir_flow.specs.Branches.{DifferInTypes, IsOperandReplaced};
 
 use crate::branch_errors::{BranchOpInterfaceVerifyErr, NSuccsVerifyErr};
 use crate::forwarding::{as_layout, find_first_mismatch, report};
@@ -34,6 +34,9 @@ pub trait BranchOpInterface<D: OpSet>: IsTerminatorInterface<D> {
 
     ghost refuses_layout: { Self → ContextView D.Kind D.Attr D.Ty → D.Err → Type 0 };
 
+    // Where the check of the layout may want memory, as for the text of its refusal.
+    ghost layout_wants_memory: { Self → ContextView D.Kind D.Attr D.Ty → Type 0 };
+
     // The keys of the attributes that describe the layout, as that of the sizes of segments, where they are kept: what
     // stands under these changes as values are added and taken out, and what stands under any other key doesn't.
     ghost layout_keys: { Self → List (List ℕ) };
@@ -50,7 +53,8 @@ pub trait BranchOpInterface<D: OpSet>: IsTerminatorInterface<D> {
         requires { IsLive ctx.now (IRNode.Operation (Self.pointer self.now)) }
         ensures ok { OnOk result (has_layout self.now ctx.now) }
         ensures refused { IfErr result (IsLayoutRefusal (has_layout self.now) (refuses_layout self.now) ctx.now
-            (Self.pointer self.now)) };
+            (Self.pointer self.now)) }
+        ensures memory { result ≡ Err VerifyErr.Memory → layout_wants_memory self.now ctx.now };
 
     /// The indices of the operands that are forwarded to a successor, from 0; they are among the operands.
     fn successor_operand_range(&self, ctx: &Context<D>, succ: usize) -> Range<usize>
@@ -141,7 +145,8 @@ pub trait BranchOpInterface<D: OpSet>: IsTerminatorInterface<D> {
     }
 
     /// Accepts exactly where the operands stand as the operation wants them, and each successor gets values of the
-    /// types of its arguments. Else it reports the refusal of the layout, or how the first successor doesn't.
+    /// types of its arguments. Else it reports the refusal of the layout, or how the first successor doesn't. `Memory`
+    /// comes only where the check of the layout may want it, or for the texts of two types.
     final fn verify(
         &self,
         alloc: Global,
@@ -152,6 +157,8 @@ pub trait BranchOpInterface<D: OpSet>: IsTerminatorInterface<D> {
             (forwards self.now ctx.now)) }
         ensures refused { IfErr result (IsBranchRuleRefusal D.OpSet (has_layout self.now) (refuses_layout self.now)
             (forwards self.now) ctx.now (Self.pointer self.now)) }
+        ensures memory { result ≡ Err VerifyErr.Memory → layout_wants_memory self.now ctx.now ⊎
+            DifferInTypes ctx.now (Self.pointer self.now) (forwards self.now ctx.now) }
         ensures whole { IsWellFormed D.attr_handles ctx.now }
     {
         let op = self.get_operation();

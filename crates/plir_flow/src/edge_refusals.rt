@@ -5,7 +5,7 @@ ghost use Rattle.plir_core.specs.ContextView.{IsLive};
 ghost use Rattle.plir_core.specs.WellFormed.{IsWellFormed};
 ghost use Rattle.plir_iface.specs.Verdict.{IsRefusalMemoryAside};
 ghost use Rattle.plir_flow.specs.RegionEdges.{AreEdgesLive};
-ghost use Rattle.plir_flow.specs.RegionRule.{HasEdgeRule, ReportsFault, ReportsEdgeFault, in_edges};
+ghost use Rattle.plir_flow.specs.RegionRule.{HasEdgeRule, IsOfTypes, ReportsFault, ReportsEdgeFault, in_edges};
 ghost use Rattle.plir_flow.specs.EdgeVerdicts.{NamesLive};
 
 use crate::edge_ends::RegionEdge;
@@ -16,7 +16,7 @@ use plir_data::{OpSet, VerifyErr, type_text};
 use plir_iface::refusal;
 use std::alloc::Global;
 
-// The refusal that reports a fault.
+// The refusal that reports a fault. Memory is wanted for the texts of types alone.
 fn report<D: OpSet>(
     alloc: Global,
     ctx: &Context<D>,
@@ -26,6 +26,7 @@ fn report<D: OpSet>(
     requires live { IsLive ctx.now (IRNode.Operation op) }
     requires names_live { NamesLive ctx.now fault }
     ensures reported { IsRefusalMemoryAside ctx.now op (ReportsFault D.type_id D.type_body_text ctx.now fault) result }
+    ensures memory { result ≡ VerifyErr.Memory → IsOfTypes fault }
     ensures whole { IsWellFormed D.attr_handles ctx.now }
 {
     ctx.stands();

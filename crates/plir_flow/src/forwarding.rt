@@ -5,7 +5,7 @@ ghost use Rattle.plir_core.specs.ContextView.{IsLive, operands_of};
 ghost use Rattle.plir_core.specs.WellFormed.{IsWellFormed};
 ghost use Rattle.plir_iface.specs.Verdict.{IsRefusalMemoryAside};
 ghost use Rattle.plir_flow.specs.Branches.{types_within, argument_types, AgreesThroughout, IsMismatch};
-ghost use Rattle.plir_flow.specs.Branches.{IsFirstMismatch, NamesLive, ReportsMismatch, in_branch};
+ghost use Rattle.plir_flow.specs.Branches.{IsFirstMismatch, IsOfTypes, NamesLive, ReportsMismatch, in_branch};
 
 use crate::branch_errors::{BranchOpInterfaceVerifyErr, Mismatch};
 use crate::branches::BranchOpInterface;
@@ -71,7 +71,7 @@ pub(crate) fn find_first_mismatch<D: OpSet, O: BranchOpInterface<D>>(
     None
 }
 
-/// The refusal that reports a mismatch.
+/// The refusal that reports a mismatch. Memory is wanted for the texts of types alone.
 pub(crate) fn report<D: OpSet>(
     alloc: Global,
     ctx: &Context<D>,
@@ -82,6 +82,7 @@ pub(crate) fn report<D: OpSet>(
     requires names_live { NamesLive ctx.now mismatch }
     ensures reported { IsRefusalMemoryAside ctx.now op (ReportsMismatch D.type_id D.type_body_text ctx.now mismatch)
         result }
+    ensures memory { result ≡ VerifyErr.Memory → IsOfTypes mismatch }
     ensures whole { IsWellFormed D.attr_handles ctx.now }
 {
     ctx.stands();

@@ -1,3 +1,4 @@
+// SPDX-License-Identifier: Apache-2.0
 //! How control and values flow between operations: operands in segments, branches, calls and edges between regions.
 #![tactic(auto)]
 

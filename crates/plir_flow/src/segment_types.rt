@@ -1,5 +1,5 @@
 //! Interfaces of operations whose operands in one segment have a type that is asked for.
-ghost use Rattle.std.specs.Prelude.{◌↔◌, ◌<◌, IsOk, IfErr, IsNone, IfSome};
+ghost use Rattle.std.specs.Prelude.{◌≡◌, ◌↔◌, ◌<◌, Err, IsOk, IfErr, IsNone, IfSome};
 ghost use Rattle.plir_core.specs.declared.ptr.IRNode.{IRNode};
 ghost use Rattle.plir_core.specs.ContextView.{IsLive};
 ghost use Rattle.plir_core.specs.WellFormed.{IsWellFormed};
@@ -63,6 +63,7 @@ fn verify_kind<D: OpSet, T: TypeMark<D>>(
     requires segmented { IsSegmented ctx.now op }
     ensures ok { IsOk result ↔ HasSegmentNOfType T.marks ctx.now op seg }
     ensures refused { IfErr result (IsSegmentNOfTypeRefusal T.marks ctx.now op seg T.NAME D.type_id D.type_body_text) }
+    ensures memory { result ≡ Err VerifyErr.Memory → seg < num_segments ctx.now op }
     ensures whole { IsWellFormed D.attr_handles ctx.now }
 {
     if count_of(ctx, op) <= seg {
@@ -105,7 +106,7 @@ fn verify_impls<D: OpSet, I: TypeInterfaceMark<D>>(
 /// Operations whose operands in the segment at the index `N` have a type of the kind `T`.
 pub trait SegmentNOfType<D: OpSet, const N: usize, T: TypeMark<D>>: OperandSegmentInterface<D> {
     /// Accepts exactly where there is a segment at the index `N`, and each operand in it has a type of the kind `T`;
-    /// the refusal names the first that hasn't.
+    /// the refusal names the first that hasn't. `Memory` comes only where there is a segment, for that type's text.
     final fn verify(
         &self,
         alloc: Global,
@@ -116,6 +117,7 @@ pub trait SegmentNOfType<D: OpSet, const N: usize, T: TypeMark<D>>: OperandSegme
         ensures ok { IsOk result ↔ HasSegmentNOfType T.marks ctx.now (Self.pointer self.now) N }
         ensures refused { IfErr result (IsSegmentNOfTypeRefusal T.marks ctx.now
             (Self.pointer self.now) N T.NAME D.type_id D.type_body_text) }
+        ensures memory { result ≡ Err VerifyErr.Memory → N < num_segments ctx.now (Self.pointer self.now) }
         ensures whole { IsWellFormed D.attr_handles ctx.now }
     {
         verify_kind::<D, T>(alloc, ctx, self.get_operation(), N)

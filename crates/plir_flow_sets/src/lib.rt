@@ -1,3 +1,4 @@
+// SPDX-License-Identifier: Apache-2.0
 //! What an op set tells of how control and values flow: which operations call, return and branch, with which operands,
 //! and along which edges control passes between their regions.
 #![tactic(auto)]

@@ -1,10 +1,6 @@
-//! A dialect whose operations call, return, branch and pass control to a region, as a crate of its own would have it,
-//! and tests of what its op set tells.
+// SPDX-License-Identifier: Apache-2.0
+//! Tests of what an op set tells of calls, branches and regions.
 #![tactic(auto)]
 
-pub mod cond_branch;
-pub mod kinds;
-pub mod named_call;
-pub mod scope;
 #[cfg(test)]
 mod tests;

@@ -1,6 +1,6 @@
 -- Changes below a node, one after another.
 use Rattle.std.proofs.Common.{◌≡◌, ◌<◌, ◌≤◌, ◌+◌, ℕ, zero, suc, arith, Bool, true, false, List, [], ◌∷◌, ◌++◌, length}
-use Rattle.std.proofs.Common.{Option, Some, ◌⊎◌, inl, inr, refl, sym, ap, subst, ◌∙◌, append_assoc, slice_get}
+use Rattle.std.proofs.Common.{Option, Some, None, ◌⊎◌, inl, inr, refl, sym, ap, subst, ◌∙◌, append_assoc, slice_get}
 use Rattle.std.proofs.lemmas.Option.{none-some}
 use Rattle.plir_core.specs.declared.ptr.Ptr.{Ptr}
 use Rattle.plir_core.specs.declared.ptr.Operation.{Operation as OperationKind}
@@ -8,12 +8,15 @@ use Rattle.plir_core.specs.declared.ptr.BasicBlock.{BasicBlock as BasicBlockKind
 use Rattle.plir_core.specs.declared.ptr.IRNode.{IRNode}
 use Rattle.plir_core.specs.declared.ptr.IRNode.TheVariants.{Operation, BasicBlock}
 use Rattle.plir_core.specs.declared.value.Value.{Value}
+use Rattle.plir_core.specs.Above.{climb}
 use Rattle.plir_core.specs.Changes.{SameLive}
+use Rattle.plir_core.specs.Forest.{look, IsBelow, IsForest}
 use Rattle.plir_core.specs.WellFormed.{IsWellFormed}
-use Rattle.plir_core.specs.ContextView.{ContextView, IsLive, parent_of, given_out, operands_of}
+use Rattle.plir_core.specs.ContextView.{ContextView, IsAncestor, IsLive, parent_of, given_out, operands_of}
 use Rattle.plir_walk.specs.LawfulChanges.{LawfulChanges}
+use Rattle.plir_walk.specs.NodeLaws.{climb-nothing}
 use Rattle.plir_folding.specs.Worth.{Integer, IsUnfolded, IsSettled}
-use Rattle.plir_folding.specs.Folded.{ArePaired, IsFlagged}
+use Rattle.plir_folding.specs.Folded.{ArePaired, IsFlagged, IsFolded}
 use Rattle.plir_folding.specs.Folding.{IsFilledBefore, IsFoldedBelow, IsToldBy}
 use Rattle.plir_folding.proofs.Folds.{folded-none, folded-refused, folded-then, tells-then, tells-none}
 
@@ -76,6 +79,15 @@ module _ {K A T : Type 0} (fold : K → Integer → Integer → Option Integer) 
     whole = g.whole;
   }
 
+  -- folding below a node is folding below each that it stands under
+  pub below-above : (s t : ContextView K A T) (n r : IRNode) → IsWellFormed own s → IsLive s r → IsAncestor s r n
+      → IsFoldedBelow fold own s n t → IsFoldedBelow fold own s r t
+  below-above s t n r w live over f = record {
+    folded = f.folded;
+    lawful = laws.above s t n r (laws.forest s w) (laws.forest t f.whole) live over f.lawful;
+    whole = f.whole;
+  }
+
   filled-then : (s t u : ContextView K A T) (b : Ptr BasicBlockKind) (op : Ptr OperationKind) → IsFilledBefore s t b op
       → IsFilledBefore t u b op → IsFilledBefore s u b op
   filled-then s t u b op f g xs ys e =
@@ -85,6 +97,44 @@ module _ {K A T : Type 0} (fold : K → Integer → Integer → Option Integer) 
         q.1 ∙ append_assoc xs r.0 (q.0 ++ Operation op ∷ ys)
             ∙ ap (λ z. xs ++ z) (sym (append_assoc r.0 q.0 (Operation op ∷ ys))),
       )
+
+-- what stands below a node is live, and stands in something that is the node or stands below it
+module _ {K A T : Type 0} (s : ContextView K A T) (r n : IRNode) (b : IsBelow (look s) r n) where
+  pub below-parent : (a : IRNode) × (parent_of s n ≡ Some a)
+  below-parent = go (parent_of s n) refl
+    where
+      go : (o : Option IRNode) → parent_of s n ≡ o → (a : IRNode) × (parent_of s n ≡ Some a)
+      go None q = absurd (climb-nothing (parent_of s) b.0 r (ap (climb (parent_of s) b.0) (sym q) ∙ b.1))
+      go (Some a) q = (a, q)
+
+  pub below-live : IsForest (look s) → IsLive s n
+  below-live w = (let up = below-parent in w.child_live up.0 n (w.parent_child up.0 n up.1))
+
+  pub below-over : (a : IRNode) → parent_of s n ≡ Some a → IsAncestor s r a
+  below-over a q = (b.0, ap (climb (parent_of s) b.0) (sym q) ∙ b.1)
+
+module _ {K A T : Type 0} (fold : K → Integer → Integer → Option Integer) (s t : ContextView K A T)
+    (w : IsForest (look s)) (f : IsFolded fold s t) where
+  climb-same : (k : ℕ) (n : IRNode) → IsLive s n
+      → climb (parent_of t) k (Some n) ≡ climb (parent_of s) k (Some n)
+  climb-same zero n l = refl
+  climb-same (suc k) n l =
+      ap (climb (parent_of t) k) (f.parents n l) ∙ up (λ a m. climb-same k a m) (parent_of s n) refl
+    where
+      none : (k : ℕ) → climb (parent_of t) k None ≡ climb (parent_of s) k None
+      none zero = refl
+      none (suc k) = refl
+
+      up : ((a : IRNode) → IsLive s a → climb (parent_of t) k (Some a) ≡ climb (parent_of s) k (Some a))
+          → (o : Option IRNode) → parent_of s n ≡ o
+          → climb (parent_of t) k (parent_of s n) ≡ climb (parent_of s) k (parent_of s n)
+      up rest None q = ap (climb (parent_of t) k) q ∙ none k ∙ ap (climb (parent_of s) k) (sym q)
+      up rest (Some a) q =
+          ap (climb (parent_of t) k) q ∙ rest a (w.parent_live a n q) ∙ ap (climb (parent_of s) k) (sym q)
+
+  -- what stood below a node before operands were folded stands there afterwards
+  pub still-below : (r n : IRNode) → IsBelow (look s) r n → IsBelow (look t) r n
+  still-below r n b = (b.0, climb-same (suc b.0) n (below-live s r n b w) ∙ b.1)
 
 module _ {K A T : Type 0} {fold : K → Integer → Integer → Option Integer} {own : A → List ℕ}
     (laws : LawfulChanges K A T own) where
@@ -137,3 +187,20 @@ module _ {K A T : Type 0} {fold : K → Integer → Integer → Option Integer} 
         let k = within (operands_of s' op) j v at in
         let c = folding-count in
         r.settled e j (omega (arith, all, k, c)) v at
+
+-- An operation p that stood below a root at the start s, when all that was done up to t was folding below the root.
+module _ {K A T : Type 0} {fold : K → Integer → Integer → Option Integer} {own : A → List ℕ}
+    (laws : LawfulChanges K A T own) {s t : ContextView K A T} {root : Ptr OperationKind} (w : IsWellFormed own s)
+    (f : IsFoldedBelow fold own s (Operation root) t) (p : Ptr OperationKind)
+    (b : IsBelow (look s) (Operation root) (Operation p)) where
+  pub step-live : IsLive t (Operation p)
+  step-live = f.folded.live (Operation p) (below-live s (Operation root) (Operation p) b (laws.forest s w))
+
+  -- folding in its block, which is folding below all that it stands below, is more of the same
+  pub step-folded : {u : ContextView K A T} → IsLive s (Operation root)
+      → ((n : IRNode) → IsLive t n → IsBelow (look t) n (Operation p) → IsFoldedBelow fold own t n u)
+      → IsFoldedBelow fold own s (Operation root) u
+  step-folded {u} live h =
+      below-then fold own laws s t u (Operation root) w f
+      (h (Operation root) (f.folded.live (Operation root) live)
+      (still-below fold s t (laws.forest s w) f.folded (Operation root) (Operation p) b))

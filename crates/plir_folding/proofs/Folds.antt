@@ -12,6 +12,7 @@ use Rattle.plir_core.specs.declared.ptr.BasicBlock.{BasicBlock as BasicBlockKind
 use Rattle.plir_core.specs.declared.ptr.IRNode.{IRNode}
 use Rattle.plir_core.specs.declared.ptr.IRNode.TheVariants.{Operation, BasicBlock}
 use Rattle.plir_core.specs.declared.value.Value.{Value}
+use Rattle.plir_core.specs.declared.value.DefiningEntity.TheVariants.{Op}
 use Rattle.plir_core.specs.Contents.{OpView}
 use Rattle.plir_core.specs.Changes.{SameLive}
 use Rattle.plir_core.specs.Forest.{look, IsForest}
@@ -52,6 +53,15 @@ paired-at R [] ws i v h e = absurd (none-some v e)
 paired-at R (x ∷ vs) [] i v h e = absurd h
 paired-at R (x ∷ vs) (w ∷ ws) zero v h e = (w, refl, subst (λ z. R z w) (same_Some x v e) h.0)
 paired-at R (x ∷ vs) (w ∷ ws) (suc i) v h e = paired-at R vs ws i v h.1 e
+
+-- and the other way round
+paired-back : (R : Value → Value → Type 0) (vs ws : List Value) (i : ℕ) (w : Value) → ArePaired R vs ws
+    → slice_get ws i ≡ Some w → (v : Value) × (slice_get vs i ≡ Some v) × R v w
+paired-back R [] [] i w h e = absurd (none-some w e)
+paired-back R [] (x ∷ ws) i w h e = absurd h
+paired-back R (v ∷ vs) [] i w h e = absurd h
+paired-back R (v ∷ vs) (x ∷ ws) zero w h e = (v, refl, subst (λ z. R v z) (same_Some x w e) h.0)
+paired-back R (v ∷ vs) (x ∷ ws) (suc i) w h e = paired-back R vs ws i w h.1 e
 
 head-is : {X : Type 0} {x y : X} {xs ys : List X} → x ∷ xs ≡ y ∷ ys → x ≡ y
 head-is e = cc e
@@ -117,6 +127,9 @@ Has-kept {X} p (x ∷ xs) y h e = by (p x) refl (λ k. Has-kept p xs y k e) h
 
 same-op : {p q : Ptr OperationKind} → Operation p ≡ Operation q → p ≡ q
 same-op e = cc e
+
+same-result : {p q : Ptr OperationKind} → result_of p ≡ result_of q → p ≡ q
+same-result {p} {q} e = let k : Op p ≡ Op q = ap (λ v. v.entity) e in cc k
 
 module _ {K A : Type 0} where
   -- an operation is told by what it holds but for its operands, and these
@@ -259,6 +272,23 @@ module _ {K A T : Type 0} (fold : K → Integer → Integer → Option Integer) 
           | inr k ↦ absurd (none-some n (sym k.unknown ∙ view-constant t p n c.holds))
         ])
 
+    -- what uses a constant that was there used it before
+    used-before : (p q : Ptr OperationKind) (i : ℕ) (n : Integer) → IsNewConstantOf s t p n → IsLive u (Operation q)
+        → slice_get (operands_of u q) i ≡ Some (result_of p)
+        → IsLive t (Operation q) × (slice_get (operands_of t q) i ≡ Some (result_of p))
+    used-before p q i n c l e = elim (cases_Bool (is_live t (Operation q))) [
+      | inl k ↦ (let r = paired-back (IsSameOrReplaced fold t u) (operands_of t q) (operands_of u q) i (result_of p)
+          (g.operands q k) e in
+          elim r.2 [
+            | inl same ↦ (k, r.1 ∙ ap Some (sym same))
+            | inr j ↦ absurd (not-both (is_live t (Operation p)) c.live
+                (subst (λ z. is_live t (Operation z) ≡ false) (sym (same-result j.result)) j.made.new))
+          ])
+      | inr k ↦ (let r = g.new (Operation q) l k in
+          absurd (no-operand t u r.0 r.1.0 i (result_of p) r.1.1.1
+          (subst (λ z. slice_get (operands_of u z) i ≡ Some (result_of p)) (same-op r.1.1.0) e)))
+    ]
+
     -- a constant stays before its user
     user-kept : (p : Ptr OperationKind) (n : Integer) → IsNewConstantOf s t p n → IsForUser s t p → IsForUser s u p
     user-kept p n c r =
@@ -276,6 +306,7 @@ module _ {K A T : Type 0} (fold : K → Integer → Integer → Option Integer) 
           old = r.old;
           over = r.over;
           used = same-constant p r.user r.index n (f.live (Operation r.user) r.old) c r.used;
+          alone = λ q i l e. (let k = used-before p q i n c l e in r.alone q i k.0 k.1);
           stands = x.whole ∙ ap (λ z. x.before ++ Operation p ∷ z) y.whole;
           among = λ m h. elim (cases_Bool (is_live t m)) [
             | inl l ↦ r.among m (subst (λ z. Has z m) y.left (Has-kept (is_live t) y.before m h l))
@@ -302,6 +333,7 @@ module _ {K A T : Type 0} (fold : K → Integer → Integer → Option Integer) 
           ];
       over = block-old s t f r.block r.over;
       used = r.used;
+      alone = r.alone;
       stands = r.stands;
       among = λ m h. was-absent s t f m (r.among m h);
     }

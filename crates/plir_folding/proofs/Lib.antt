@@ -5,5 +5,7 @@ pub mod OneFold
 pub mod Below
 pub mod Block
 pub mod Walking
+pub mod Worklists
+pub mod ListWalk
 pub mod Room
 pub mod StayedTables

@@ -1,11 +1,12 @@
 -- One operand is folded: a constant is made, put before the operand's user, and takes the operand's place.
 use Rattle.std.proofs.Common.{◌≡◌, ℕ, zero, suc, false, List, [], ◌∷◌, ◌++◌, Option, Some, None, inl, inr}
-use Rattle.std.proofs.Common.{refl, sym, ap, subst, ◌∙◌, slice_get, option_map}
+use Rattle.std.proofs.Common.{refl, sym, ap, subst, ◌∙◌, slice_get, option_map, ◌⊎◌}
 use Rattle.std.specs.Prelude.{slice_set}
 use Rattle.std.specs.List.{filter}
+use Rattle.std.proofs.lemmas.Bool.{cases_Bool}
 use Rattle.std.proofs.lemmas.Option.{none-some, same_Some}
 use Rattle.plir_store.specs.Members.{Has}
-use Rattle.plir_store.specs.MemberLaws.{Has-split, Has-append_left, Has-append_right}
+use Rattle.plir_store.specs.MemberLaws.{Has-at, Has-split, Has-append_left, Has-append_right}
 use Rattle.plir_store.specs.Table.{content_at, is_live_at}
 use Rattle.plir_core.specs.Nodes.{is_given_out, was_given_out}
 use Rattle.plir_data.specs.Dictionary.{dict_put}
@@ -27,6 +28,7 @@ use Rattle.plir_core.specs.Forest.{look, IsForest}
 use Rattle.plir_core.specs.ContextView.{ContextView, IsLive, is_live, children, parent_of, op_at, block_at, operands_in}
 use Rattle.plir_core.specs.ContextView.{operands_of, results_in, types_from, type_of_value}
 use Rattle.plir_core.specs.ButOperands.{but_operands}
+use Rattle.plir_core.specs.WellFormed.{IsWellFormed}
 use Rattle.plir_builtin.specs.BuiltinOps.{IsNewConstant}
 use Rattle.plir_walk.specs.Lawful.{Lawful}
 use Rattle.plir_walk.specs.LawfulChanges.{LawfulChanges}
@@ -35,6 +37,7 @@ use Rattle.plir_folding.specs.Worth.{Integer, attr_of, maker_of, held_at, made_b
 use Rattle.plir_folding.specs.Folded.{ArePaired, constant_view, result_of, IsNewConstantOf, IsForUser}
 use Rattle.plir_folding.specs.Folded.{IsReplaced, IsSameOrReplaced, IsFolded}
 use Rattle.plir_folding.proofs.Worths.{maker-entity, folded-worth, folded-typed, folded-unknown}
+use Rattle.plir_folding.proofs.Backwards.{operand-live}
 use Rattle.plir_folding.proofs.Folds.{paired-self}
 
 moved-live : {O B : Type 0} (s t : Nodes O B) (x : IRNode) → MovesOnly s t x → (m : IRNode)
@@ -55,6 +58,18 @@ set-there : {X : Type 0} (xs : List X) (i : ℕ) (x y : X) → slice_get xs i �
 set-there [] i x y e = absurd (none-some x e)
 set-there (z ∷ xs) zero x y e = refl
 set-there (z ∷ xs) (suc i) x y e = set-there xs i x y e
+
+-- what stands in a list in which something was set is that, at its index, or what stood there
+set-at : {X : Type 0} (xs : List X) (i j : ℕ) (y z : X) → slice_get (slice_set xs i y) j ≡ Some z
+    → (j ≡ i) ⊎ (slice_get xs j ≡ Some z)
+set-at [] i j y z e = inr e
+set-at (x ∷ xs) zero zero y z e = inl refl
+set-at (x ∷ xs) zero (suc j) y z e = inr e
+set-at (x ∷ xs) (suc i) zero y z e = inr e
+set-at (x ∷ xs) (suc i) (suc j) y z e = elim (set-at xs i j y z e) [
+  | inl k ↦ inl (ap (λ n. suc n) k)
+  | inr k ↦ inr k
+]
 
 -- a list with one value replaced is paired with the list
 paired-set : (R : Value → Value → Type 0) → ((v : Value) → R v v) → (vs : List Value) (i : ℕ) (x y : Value)
@@ -200,24 +215,55 @@ module _ {K A T : Type 0} where
         | inr ne ↦ ap but_operands (edited.ops p (live-u (Operation p) l) ne ∙ op-u p l)
       ]
 
+      -- the operands of op are those that it had, with the constant among them
+      op-operands : operands_of v op ≡ slice_set (operands_of s op) i (result_of c)
+      op-operands =
+          ap operands_in edited.held ∙ operands-replaced i (result_of c) (op_at u op)
+          ∙ ap (λ z. slice_set (operands_in z) i (result_of c)) (op-u op op-live)
+
       abbrev R : Value → Value → Type 0
       R y z = IsSameOrReplaced fold s v y z
 
       operands-left : (p : Ptr OperationKind) → IsLive s (Operation p) → ArePaired R (operands_of s p) (operands_of v p)
       operands-left p l = elim (ptr-tells p op) [
         | inl e ↦ subst (λ z. ArePaired R (operands_of s z) (operands_of v z)) (sym e)
-            (subst (ArePaired R (operands_of s op))
-            (sym (ap operands_in edited.held ∙ operands-replaced i (result_of c) (op_at u op)
-            ∙ ap (λ z. slice_set (operands_in z) i (result_of c)) (op-u op op-live)))
+            (subst (ArePaired R (operands_of s op)) (sym op-operands)
             (paired-set R (λ y. inl refl) (operands_of s op) i x (result_of c) operand (inr replaced)))
         | inr ne ↦ subst (ArePaired R (operands_of s p))
             (sym (ap operands_in (edited.ops p (live-u (Operation p) l) ne ∙ op-u p l)))
             (paired-self R (λ y. inl refl) (operands_of s p))
       ]
 
+      -- nothing used it before it was made
+      unused : IsWellFormed own s → (q : Ptr OperationKind) (j : ℕ) → slice_get (operands_of s q) j ≡ Some (result_of c)
+          → ⊥
+      unused whole q j e =
+          not-both (is_live s (Operation c))
+          (operand-live own s whole q (result_of c) (Has-at (operands_of s q) j (result_of c) e)) made.new
+
+      -- so nothing else uses it
+      used-alone : IsWellFormed own s → (q : Ptr OperationKind) (j : ℕ) → IsLive v (Operation q)
+          → slice_get (operands_of v q) j ≡ Some (result_of c) → (q ≡ op) × (j ≡ i)
+      used-alone whole q j l e = elim (ptr-tells q op) [
+        | inl is ↦ elim (set-at (operands_of s op) i j (result_of c) (result_of c)
+            (sym (ap (λ z. slice_get z j) op-operands)
+            ∙ subst (λ z. slice_get (operands_of v z) j ≡ Some (result_of c)) is e)) [
+              | inl k ↦ (is, k)
+              | inr k ↦ absurd (unused whole op j k)
+            ]
+        | inr ne ↦ elim (cases_Bool (is_live s (Operation q))) [
+          | inl k ↦ absurd (unused whole q j
+              (sym (ap (λ z. slice_get (operands_in z) j) (edited.ops q (live-u (Operation q) k) ne ∙ op-u q k)) ∙ e))
+          | inr k ↦ (let is : q ≡ c = cc (only-new (Operation q) l k) in
+              absurd (none-some (result_of c)
+              (sym (ap (λ z. slice_get (operands_in z) j) new-constant.holds)
+              ∙ subst (λ z. slice_get (operands_of v z) j ≡ Some (result_of c)) is e)))
+        ]
+      ]
+
       -- it stands right before op, which uses it
-      for-op : IsForUser s v c
-      for-op = record {
+      for-op : IsWellFormed own s → IsForUser s v c
+      for-op whole = record {
         user = op;
         index = i;
         block = b;
@@ -226,20 +272,19 @@ module _ {K A T : Type 0} where
         back = cut.1;
         old = op-live;
         over = over;
-        used =
-            ap (λ z. slice_get (operands_in z) i) edited.held
-            ∙ ap (λ z. slice_get z i) (operands-replaced i (result_of c) (op_at u op))
-            ∙ ap (λ z. slice_get (slice_set (operands_in z) i (result_of c)) i) (op-u op op-live)
-            ∙ set-there (operands_of s op) i x (result_of c) operand;
+        used = ap (λ z. slice_get z i) op-operands ∙ set-there (operands_of s op) i x (result_of c) operand;
+        alone = used-alone whole;
         stands = edited.keeps.children (BasicBlock b) ∙ at.children_over;
         among = λ m h. absurd h;
       }
 
-      pub folded-one : IsFolded fold s v
-      folded-one = record {
+      pub folded-one : IsWellFormed own s → IsFolded fold s v
+      folded-one whole = record {
         live = λ m l. edited.keeps.live m ∙ live-u m l;
         new = λ m l e. (c, (n, (only-new m l e, new-constant)));
-        for_user = λ p l e. (let is : p ≡ c = cc (only-new (Operation p) l e) in subst (IsForUser s v) (sym is) for-op);
+        for_user =
+            λ p l e. (let is : p ≡ c = cc (only-new (Operation p) l e) in
+            subst (IsForUser s v) (sym is) (for-op whole));
         children = children-left;
         parents = λ m l. edited.keeps.parents m ∙ parent-u m l;
         ops = but-kept;

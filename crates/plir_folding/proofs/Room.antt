@@ -87,6 +87,10 @@ module _ {K A T : Type 0} where
             let held = live-some t.nodes.ops i (version_at s.nodes.ops i) there in
             subst (λ z. vacant z ≤ vacant (content_at s.nodes.ops i)) (sym held.1) (omega arith)
 
+    pub no-more-room : room t ≤ room s
+    unfolding room
+    no-more-room = vacant-less (content_at s.nodes.ops) (content_at t.nodes.ops) stays (2 ^ 32)
+
     module _ (p : Ptr OperationKind) (n : Integer) (new : IsNewConstantOf s t p n) (indexed : IsIndexed t)
         (given : given_out t (Operation p) ≡ true) where
       -- the slot was vacant

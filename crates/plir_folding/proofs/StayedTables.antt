@@ -1,9 +1,8 @@
 -- Folding leaves symbol tables as they were: what is new are constants, which are no symbols.
-use Rattle.std.proofs.Common.{◌≡◌, Bool, true, false, cond, List, [], ◌∷◌, map, Option, Some, None, ◌⊎◌, inl, inr}
-use Rattle.std.proofs.Common.{refl, sym, ap, subst, ◌∙◌, ℕ}
+use Rattle.std.proofs.Common.{◌≡◌, Bool, true, false, cond, List, [], ◌∷◌, map, Option, Some, None, inl, inr}
+use Rattle.std.proofs.Common.{refl, sym, ap, subst, ◌∙◌}
 use Rattle.std.specs.Prelude.{IsSome, option_and_then}
 use Rattle.std.specs.List.{filter}
-use Rattle.std.specs.FinMap.{get}
 use Rattle.std.proofs.lemmas.Option.{none-some, same_Some}
 use Rattle.std.proofs.lemmas.Bool.{cases_Bool}
 use Rattle.plir_store.specs.Lists.{children_at}
@@ -22,9 +21,9 @@ use Rattle.plir_core.specs.ContextView.{ContextView, IsLive, is_live, given_out,
 use Rattle.plir_core.specs.ButOperands.{but_operands}
 use Rattle.plir_builtin.specs.Agree.{AreGivenOut}
 use Rattle.plir_builtin.specs.Lasting.{StaysTable, StayTables}
-use Rattle.plir_builtin.specs.Symbols.{is_symbol_kind, is_table_kind, name_held, only, body, children_in}
+use Rattle.plir_builtin.specs.Symbols.{is_symbol_kind, is_table_kind, name_held, only, body}
 use Rattle.plir_builtin.specs.Symbols.{symbols_among, symbols_in}
-use Rattle.plir_builtin.specs.Table.{Table, Tables}
+use Rattle.plir_builtin.specs.Table.{Tables}
 use Rattle.plir_folding.specs.Worth.{Integer}
 use Rattle.plir_folding.specs.Folded.{IsFolded}
 use Rattle.plir_folding.proofs.Walking.{no-op-image}

@@ -46,7 +46,7 @@ no-op-image false is f each p h = h
 
 module _ {C S B : Type 0} (post : Relation C S B) where
   -- a call that did not break
-  abbrev Unbroken : Relation C S B
+  abbrev pub Unbroken : Relation C S B
   Unbroken c s n a c' s' = post c s n a c' s' × ((b : B) → a ≢ Break b)
 
   pub unbroken-chain : (c : C) (s : S) (calls : List (Call C S B)) (c' : C) (s' : S) → Chain post c s calls c' s'

@@ -43,7 +43,8 @@ module _ {K A T : Type 0} where
     pub holds : op_at t p ≡ Some (constant_view n)
 
   -- From s to t an operation has come for one that uses it: its first result is an operand of an operation that was
-  -- there, and it stands before this one in its block, with nothing between them but what has come too.
+  -- there, and no other operand; and it stands before this one in its block, with nothing between them but what has come
+  -- too.
   pub record IsForUser (s t : ContextView K A T) (p : Ptr OperationKind) : Type 0 where
     pub user : Ptr OperationKind
     pub index : ℕ
@@ -54,6 +55,8 @@ module _ {K A T : Type 0} where
     pub old : IsLive s (Operation user)
     pub over : IsLive s (BasicBlock block)
     pub used : slice_get (operands_of t user) index ≡ Some (result_of p)
+    pub alone : (q : Ptr OperationKind) (i : ℕ) → IsLive t (Operation q) →
+        slice_get (operands_of t q) i ≡ Some (result_of p) → (q ≡ user) × (i ≡ index)
     pub stands : children t (BasicBlock block) ≡ front ++ Operation p ∷ (between ++ Operation user ∷ back)
     pub among : (n : IRNode) → Has between n → is_live s n ≡ false
 
@@ -75,8 +78,8 @@ module _ {K A T : Type 0} where
 
     -- From s to t operands that were no constants were replaced by new constants of what they evaluate to, and nothing
     -- else has changed: each node is there, where it stood, in its order, and holds what it held but for these operands.
-    -- What is new are constants, each for one that uses it: so there is none without a use, no more than operands
-    -- changed, and each comes before its users.
+    -- What is new are constants, each for one that uses it alone: so there is none without a use, one for each operand
+    -- that changed, and each comes before its user.
     pub record IsFolded (s t : ContextView K A T) : Type 0 where
       pub live : (n : IRNode) → IsLive s n → IsLive t n
       pub new : (n : IRNode) → IsLive t n → is_live s n ≡ false →

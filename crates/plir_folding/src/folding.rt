@@ -1,7 +1,7 @@
 //! Constant folding.
 ghost use Rattle.std.specs.Prelude.{◌≡◌, ◌<◌, false, Some, Err, OnOk, IfOk, length};
 ghost use Rattle.plir_core.specs.declared.ptr.IRNode.{IRNode as AnyNode};
-ghost use Rattle.plir_core.specs.Forest.{look};
+ghost use Rattle.plir_core.specs.Forest.{look, IsBelow};
 ghost use Rattle.plir_core.specs.ContextView.{IsLive, operands_of, parent_of};
 ghost use Rattle.plir_core.specs.Room.{IsFullForOp};
 ghost use Rattle.plir_core.specs.WellFormed.{IsWellFormed};
@@ -12,6 +12,7 @@ ghost use Rattle.plir_folding.specs.Folding.{AreChildrenSettled, IsFilledBefore,
 
 use crate::fold_set::FoldSet;
 use crate::reading::folded;
+use crate::worklist::{Step, list_below};
 use plir_builtin::MaterializableAttr;
 use plir_core::laws::{
     contexts_stand, first_child_is_front, index_is_slot_and_one, next_is_behind,
@@ -176,16 +177,59 @@ fn fold_round<D: FoldSet>(
     }
 }
 
+// Folds the operands of an operation in the block that it stands in.
+fn fold_there<D: FoldSet>(
+    alloc: Global,
+    ctx: &mut Context<D>,
+    op: Ptr<Operation>,
+) -> Result<(), NodeErr>
+    requires { IsLive ctx.old (AnyNode.Operation op) }
+    ensures below { (n : AnyNode) → IsLive ctx.old n → IsBelow (look ctx.old) n (AnyNode.Operation op) →
+        IsFoldedBelow D.fold D.attr_handles ctx.old n ctx.new }
+    ensures crowded { result ≡ Err NodeErr.TooManyNodes → IsFullForOp ctx.new.nodes 0 }
+{
+    lawful_changes::<D>();
+    ctx.stands();
+    if let Some(block) = op.get_parent_block(ctx) {
+        fold_op(alloc, ctx, block, op, false)?;
+    }
+    Ok(())
+}
+
+// Folds the operands of the operations below an operation, those of each behind those of what makes its operands.
+fn fold_makers_first<D: FoldSet>(
+    alloc: Global,
+    ctx: &mut Context<D>,
+    root: Ptr<Operation>,
+) -> Result<(), NodeErr>
+    requires { IsLive ctx.old (AnyNode.Operation root) }
+    ensures below { IsFoldedBelow D.fold D.attr_handles ctx.old (AnyNode.Operation root) ctx.new }
+    ensures crowded { result ≡ Err NodeErr.TooManyNodes → IsFullForOp ctx.new.nodes 0 }
+{
+    lawful_changes::<D>();
+    ctx.stands();
+    let mut list = list_below(alloc, ctx, root)?;
+    'steps: while let Some(step) = list.take() {
+        match step {
+            Step::Prepare(op) => list.prepare(ctx, op)?,
+            Step::Fold(op) => fold_there(alloc, ctx, op)?,
+        }
+    }
+    Ok(())
+}
+
 /// Folds constants below an operation until no operand there folds: where an operand is the result of an operation of
 /// an own kind on two constants, and its kind says what it makes of them, a new constant of that is put right before
 /// the operand's user and takes the operand's place. The operation on constants stays; where nothing uses it any more,
-/// dead code elimination takes it. A look at an operation goes by its operands alone. An operand whose operation comes
-/// behind its user in the order of blocks takes another round.
+/// dead code elimination takes it. A look at an operation goes by its operands alone, and in whatever order operations
+/// are laid out, there are three rounds over the tree at most: the first folds all where each stands behind those that
+/// it uses, and a second one sees that; where that still folds something, the operations are listed, each is folded
+/// behind those that make its operands, and a third round sees that all is done.
 ///
 /// # Errors
 ///
-/// Where a constant was not made: what was folded before stays. `TooManyNodes` comes only where there is no room for
-/// one more constant in what is left.
+/// Where a constant was not made, or there is no memory to list operations: what was folded before stays.
+/// `TooManyNodes` comes only where there is no room for one more constant in what is left.
 pub fn fold_constants<D: FoldSet>(
     alloc: Global,
     ctx: &mut Context<D>,
@@ -200,11 +244,16 @@ pub fn fold_constants<D: FoldSet>(
 {
     lawful_changes::<D>();
     ctx.stands();
+    let found = fold_round(alloc, ctx, root)?;
+    if !found {
+        return Ok(());
+    }
     'rounds: loop {
         let changed = fold_round(alloc, ctx, root)?;
         index_is_slot_and_one(ctx);
         if !changed {
             return Ok(());
         }
+        fold_makers_first(alloc, ctx, root)?;
     }
 }

@@ -12,8 +12,8 @@ use plir_builtin::ATTR_KEY_CONSTANT_VALUE;
 use plir_core::{Context, DefiningEntity, Operation, Ptr, Value};
 use plir_data::{AttrObj, IntegerAttr, OpKind, OpSet};
 
-// The operation whose first result a value is, if it is one.
-fn maker_of<D: OpSet>(ctx: &Context<D>, value: Value) -> Option<Ptr<Operation>>
+/// The operation whose first result a value is, if it is one.
+pub fn maker_of<D: OpSet>(ctx: &Context<D>, value: Value) -> Option<Ptr<Operation>>
     requires { IsValueLive ctx.now value }
     ensures maker { result ≡ maker_of value }
     ensures live { IfSome result (λ op. IsLive ctx.now (AnyNode.Operation op)) }

@@ -1,6 +1,8 @@
-//! Constant folding over a toy op set, as scripts.
+//! Constant folding over a toy op set, as scripts; and of long chains.
+mod chains;
+
 use crate::ToyKind;
-use plir_core::{Context, DefiningEntity, Value};
+use plir_core::{Context, DefiningEntity, NodeErr, Value};
 use plir_data::keys::ATTR_KEY_CONSTANT_VALUE;
 use plir_data::{AttrObj, KindSet, OpKind};
 use plir_folding::fold_constants;
@@ -31,9 +33,15 @@ impl Layer<KindSet<ToyKind>> for FoldCalls {
     }
 }
 
+// Folds constants. What is folded before memory is refused stays, so the call is made once more right then.
 fn fold(bench: &mut Bench<KindSet<ToyKind>>, line: Line<'_>) -> Result<(), Stop> {
     let op = bench.made.op(&bench.ctx, line.first)?;
-    fold_constants(bench.alloc, &mut bench.ctx, op)?;
+    let mut end = fold_constants(bench.alloc, &mut bench.ctx, op);
+    if matches!(end, Err(NodeErr::Memory)) {
+        let op = bench.made.op(&bench.ctx, line.first)?;
+        end = fold_constants(bench.alloc, &mut bench.ctx, op);
+    }
+    end?;
     bench.answer.put("done");
     Ok(())
 }
@@ -112,7 +120,7 @@ fn a_chain_of_sums_becomes_constants(rt: HostRuntime) -> Result<(), Mismatch> {
 }
 
 #[test]
-fn an_operand_that_stands_behind_its_user_takes_another_round(
+fn operands_that_stand_behind_their_users_fold_where_memory_is_refused(
     rt: HostRuntime,
 ) -> Result<(), Mismatch> {
     let script = "

@@ -12,7 +12,8 @@ abbrev pub IsRefusal : {K A T E : Type 0} → ContextView K A T → Ptr Operatio
 IsRefusal s op P (Refused loc err) = (location_of s op ≡ Some loc) × P err
 IsRefusal s op P Memory = ⊥
 
--- The same, or memory for the text of that error was refused.
+-- The same, or memory was refused: of that this word says nothing more. Where a verifier tells what it may want memory
+-- for, a clause of its own does.
 abbrev pub IsRefusalMemoryAside : {K A T E : Type 0} → ContextView K A T → Ptr OperationKind → (P : E → Type 0) →
     VerifyErr E → Type 0
 IsRefusalMemoryAside s op P (Refused loc err) = (location_of s op ≡ Some loc) × P err

@@ -1,3 +1,4 @@
+// SPDX-License-Identifier: Apache-2.0
 //! What operations may be: interfaces of counts, regions and types, each a trait with a rule, the verifier of the rule,
 //! and the calls that the rule makes good.
 #![tactic(auto)]

@@ -1,3 +1,4 @@
+// SPDX-License-Identifier: Apache-2.0
 //! Reads the text of one operation, verifies it, runs passes over it, and prints it: as a text, as a list of nodes, as
 //! a graph or as a call graph. So a pass is tried on a text with no program of one's own.
 #![tactic(auto)]
@@ -14,8 +15,6 @@ mod passes;
 mod source;
 mod stop;
 mod telling;
-#[cfg(test)]
-mod tests;
 mod transform;
 
 use clap::ArgMatches;

@@ -1,3 +1,4 @@
+// SPDX-License-Identifier: Apache-2.0
 //! Passes over the contracts of the crates below: conversion of illegal operations, and dead code elimination.
 #![tactic(auto)]
 

@@ -1,3 +1,4 @@
+// SPDX-License-Identifier: Apache-2.0
 //! The texts of operations and of edges between regions.
 #![tactic(auto)]
 

@@ -1,3 +1,4 @@
+// SPDX-License-Identifier: Apache-2.0
 //! The reader of texts of operations: constants, modules and functions, with names of results, dictionaries, blocks,
 //! their arguments and their labels.
 #![tactic(auto)]

@@ -1,3 +1,4 @@
+// SPDX-License-Identifier: Apache-2.0
 //! The law of the round trip: what is printed and read back is the same tree.
 #![tactic(auto)]
 

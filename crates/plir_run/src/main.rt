@@ -1,3 +1,4 @@
+// SPDX-License-Identifier: Apache-2.0
 //! Runs a script from standard input: builds modules and functions, and walks them.
 #![tactic(auto)]
 
@@ -8,8 +9,6 @@ mod run;
 mod script;
 mod stop;
 mod tables;
-#[cfg(test)]
-mod tests;
 mod walking;
 mod writing;
 

@@ -1,3 +1,4 @@
+// SPDX-License-Identifier: Apache-2.0
 //! An interpreter of scripts, for tests. A line of a script is a call on nodes that earlier lines have made, and its
 //! answer.
 //!

@@ -6,8 +6,14 @@ use plir_store::chains::Chains;
 use plir_store::few::Few;
 use plir_store::slots::Slots;
 use std::alloc::{AllocError, Global};
+use std::fmt::Debug;
 use std::process::Abort;
 use std::test::Fail;
+
+// Two values are the same.
+fn equal<T: PartialEq + Debug + Drop>(rt: &impl Abort, found: T, wanted: T) {
+    assert_eq!(rt; found, wanted);
+}
 
 // Puts a value into the next slot, once more where memory was refused, and returns the slot and its version.
 fn put(rt: &impl Abort, slots: &mut Slots<u32>, value: u32) -> Result<(u32, u32), Fail> {
@@ -17,10 +23,10 @@ fn put(rt: &impl Abort, slots: &mut Slots<u32>, value: u32) -> Result<(u32, u32)
     let index = match slots.insert(value) {
         Ok(index) => index,
         Err(back) => {
-            assert_eq!(rt; back, value);
-            assert_eq!(rt; slots.len(), len);
-            assert_eq!(rt; slots.live(), live);
-            assert_eq!(rt; slots.next_slot(), next);
+            equal(rt, back, value);
+            equal(rt, slots.len(), len);
+            equal(rt, slots.live(), live);
+            equal(rt, slots.next_slot(), next);
             assert!(rt; slots.next_slot() < 100);
             assert!(rt; slots.live() < 100);
             slots.insert(back).map_err(|_| AllocError)?
@@ -45,31 +51,31 @@ fn puts(
     version: u32,
 ) -> Result<(), Fail> {
     let (slot, given) = put(rt, slots, value)?;
-    assert_eq!(rt; slot, index);
-    assert_eq!(rt; given, version);
+    equal(rt, slot, index);
+    equal(rt, given, version);
     Ok(())
 }
 
 // Takes this value out of a slot.
 fn takes(rt: &impl Abort, slots: &mut Slots<u32>, index: u32, version: u32, value: u32) {
-    assert_eq!(rt; take(rt, slots, index, version), value);
+    equal(rt, take(rt, slots, index, version), value);
 }
 
 // The next slot has this number, and is a new one or not.
 fn has_next(rt: &impl Abort, slots: &Slots<u32>, index: usize, is_new: bool) {
-    assert_eq!(rt; slots.next_slot(), index);
-    assert_eq!(rt; slots.needs_slot(), is_new);
+    equal(rt, slots.next_slot(), index);
+    equal(rt, slots.needs_slot(), is_new);
 }
 
 // There are so many slots, so many of which hold a value.
 fn holds(rt: &impl Abort, slots: &Slots<u32>, len: usize, live: u32) {
-    assert_eq!(rt; slots.len(), len);
-    assert_eq!(rt; slots.live(), live);
+    equal(rt, slots.len(), len);
+    equal(rt, slots.live(), live);
 }
 
 // A slot holds a value under this version, or it does not.
 fn is_live(rt: &impl Abort, slots: &Slots<u32>, index: u32, version: u32, wanted: bool) {
-    assert_eq!(rt; slots.is_live(index, version), wanted);
+    equal(rt, slots.is_live(index, version), wanted);
 }
 
 // Another value for a slot, which then holds that one.
@@ -77,7 +83,7 @@ fn changes(rt: &impl Abort, slots: &mut Slots<u32>, index: u32, version: u32, va
     assert!(rt; slots.is_live(index, version));
     *slots.get_mut(index) = value;
     assert!(rt; slots.is_live(index, version));
-    assert_eq!(rt; *slots.get(index), value);
+    equal(rt, *slots.get(index), value);
 }
 
 // Slots as they are filled and freed in turn.
@@ -111,7 +117,7 @@ fn add_list(rt: &impl Abort, chains: &mut Chains) -> Result<(), Fail> {
     let before = chains.num_lists();
     assert!(rt; before < 100);
     if chains.add_list().is_err() {
-        assert_eq!(rt; chains.num_lists(), before);
+        equal(rt, chains.num_lists(), before);
         chains.add_list()?;
     }
     Ok(())
@@ -121,7 +127,7 @@ fn add_child(rt: &impl Abort, chains: &mut Chains) -> Result<(), Fail> {
     let before = chains.num_children();
     assert!(rt; before < 100);
     if chains.add_child().is_err() {
-        assert_eq!(rt; chains.num_children(), before);
+        equal(rt, chains.num_children(), before);
         chains.add_child()?;
     }
     Ok(())
@@ -132,7 +138,7 @@ fn add_list_if(rt: &impl Abort, chains: &mut Chains, needed: bool) -> Result<(),
     let before = chains.num_lists();
     assert!(rt; before < 100);
     if chains.add_list_if(needed).is_err() {
-        assert_eq!(rt; chains.num_lists(), before);
+        equal(rt, chains.num_lists(), before);
         chains.add_list_if(needed)?;
     }
     Ok(())
@@ -142,7 +148,7 @@ fn add_child_if(rt: &impl Abort, chains: &mut Chains, needed: bool) -> Result<()
     let before = chains.num_children();
     assert!(rt; before < 100);
     if chains.add_child_if(needed).is_err() {
-        assert_eq!(rt; chains.num_children(), before);
+        equal(rt, chains.num_children(), before);
         chains.add_child_if(needed)?;
     }
     Ok(())
@@ -156,8 +162,8 @@ fn add_if(rt: &impl Abort, chains: &mut Chains, needed: bool) -> Result<(), Fail
 
 // There are so many lists and so many children.
 fn has(rt: &impl Abort, chains: &Chains, lists: usize, children: usize) {
-    assert_eq!(rt; chains.num_lists(), lists);
-    assert_eq!(rt; chains.num_children(), children);
+    equal(rt, chains.num_lists(), lists);
+    equal(rt, chains.num_children(), children);
 }
 
 #[test]
@@ -318,7 +324,7 @@ fn list_of(alloc: Global, items: &[u32]) -> Result<Few<u32>, AllocError>
 // A list of these items holds them.
 fn holds_items(rt: &impl Abort, alloc: Global, items: &[u32]) -> Result<(), Fail> {
     let list = list_of(alloc, items)?;
-    assert_eq!(rt; list.len(), items.len());
+    equal(rt, list.len(), items.len());
     assert!(rt; list.as_slice() == items);
     Ok(())
 }
@@ -333,10 +339,10 @@ fn lists_hold_what_they_are_made_of_where_memory_is_refused(rt: HostRuntime) -> 
 // An item of a list of these items is found by its place.
 fn finds(rt: &impl Abort, alloc: Global, items: &[u32], place: usize) -> Result<(), Fail> {
     let list = make_list(alloc, items)?;
-    assert_eq!(rt; list.len(), items.len());
+    equal(rt, list.len(), items.len());
     assert!(rt; place < list.len());
     assert!(rt; place < items.len());
-    assert_eq!(rt; list.get(place), items[place]);
+    equal(rt, list.get(place), items[place]);
     Ok(())
 }
 
@@ -350,9 +356,9 @@ fn items_of_a_list_are_found_by_index(rt: HostRuntime) -> Result<(), Fail> {
 fn an_item_is_put_in_place_of_another(rt: HostRuntime) -> Result<(), Fail> {
     let mut one = list_of(rt.alloc(), &[7])?;
     one.set(0, 5);
-    assert_eq!(rt; one.as_slice(), [5].as_slice());
+    equal(&rt, one.as_slice(), [5].as_slice());
     let mut three = list_of(rt.alloc(), &[7, 8, 9])?;
     three.set(1, 5);
-    assert_eq!(rt; three.as_slice(), [7, 5, 9].as_slice());
+    equal(&rt, three.as_slice(), [7, 5, 9].as_slice());
     Ok(())
 }

@@ -1,3 +1,4 @@
+// SPDX-License-Identifier: Apache-2.0
 //! Passes over symbols: those that nothing uses are erased, and the graph of who uses which is made.
 #![tactic(auto)]
 

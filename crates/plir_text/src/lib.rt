@@ -1,3 +1,4 @@
+// SPDX-License-Identifier: Apache-2.0
 //! All texts: types, attributes, operations and edges between regions, printed and read; the tests whether a thing can
 //! be printed or read back, and the laws of texts. A program that prints or reads lists this crate.
 #![tactic(auto)]

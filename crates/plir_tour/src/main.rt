@@ -1,3 +1,4 @@
+// SPDX-License-Identifier: Apache-2.0
 //! A module with a function in it is built, walked, verified and printed.
 #![tactic(auto)]
 

@@ -1,3 +1,4 @@
+// SPDX-License-Identifier: Apache-2.0
 //! Lists of uses: for each value of an operation or a block the places where it is used.
 #![tactic(auto)]
 

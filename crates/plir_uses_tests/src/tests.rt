@@ -5,6 +5,7 @@ ghost use Rattle.plir_uses.specs.Owned.{slot_of};
 use plir_uses::lists::{Listed, UseLists};
 use plir_uses::site::{Owner, Site};
 use std::alloc::AllocError;
+use std::fmt::Debug;
 use std::process::Abort;
 use std::test::Fail;
 
@@ -29,6 +30,11 @@ fn is_slot_of(owner: Owner, slot: u32) -> bool
     }
 }
 
+// Two values are the same.
+fn equal<T: PartialEq + Debug + Drop>(rt: &impl Abort, found: T, wanted: T) {
+    assert_eq!(rt; found, wanted);
+}
+
 // So many values for an owner, which is the next one of its kind, or is closed; once more where memory was refused.
 fn open(
     rt: &impl Abort,
@@ -42,7 +48,7 @@ fn open(
     assert!(rt; slot as usize <= uses.num_owners(owner));
     assert!(rt; uses.num_values(owner) == 0);
     if uses.open(owner, count).is_err() {
-        assert_eq!(rt; uses.num_owners(owner), before);
+        equal(rt, uses.num_owners(owner), before);
         assert!(rt; slot as usize <= uses.num_owners(owner));
         assert!(rt; uses.num_values(owner) == 0);
         uses.open(owner, count)?;
@@ -76,19 +82,19 @@ fn remove(rt: &impl Abort, uses: &mut UseLists, owner: Owner, index: usize, list
 
 // The list has these places, the one that came last first.
 fn reads(rt: &impl Abort, uses: &UseLists, owner: Owner, index: usize, want: &[Site]) {
-    assert_eq!(rt; uses.len(owner, index), want.len());
+    equal(rt, uses.len(owner, index), want.len());
     let mut next = uses.first(owner, index);
     for site in want {
         match next {
             None => panic!(rt; "the list is too short"),
             Some(listed) => {
-                assert_eq!(rt; listed.site, *site);
+                equal(rt, listed.site, *site);
                 assert!(rt; uses.is_listed(owner, index, listed.site));
                 next = uses.next(owner, index, listed);
             }
         }
     }
-    assert_eq!(rt; next, None);
+    equal(rt, next, None);
 }
 
 #[test]
@@ -96,15 +102,23 @@ fn lists_uses_the_last_one_first_where_memory_is_refused(rt: HostRuntime) -> Res
     let mut uses = UseLists::new(rt.alloc());
     open(&rt, &mut uses, FIRST, 0, 2)?;
     open(&rt, &mut uses, BLOCK, 0, 1)?;
-    assert_eq!(rt; (uses.num_owners(FIRST), uses.num_owners(BLOCK)), (1, 1));
-    assert_eq!(rt; (uses.num_values(FIRST), uses.num_values(BLOCK)), (2, 1));
+    equal(
+        &rt,
+        (uses.num_owners(FIRST), uses.num_owners(BLOCK)),
+        (1, 1),
+    );
+    equal(
+        &rt,
+        (uses.num_values(FIRST), uses.num_values(BLOCK)),
+        (2, 1),
+    );
     reserve(&mut uses, 4)?;
-    assert_eq!(rt; uses.spare(), 4);
+    equal(&rt, uses.spare(), 4);
     let one = add(&rt, &mut uses, FIRST, 0, at(1, 0));
     let two = add(&rt, &mut uses, FIRST, 0, at(1, 1));
     let three = add(&rt, &mut uses, FIRST, 0, at(2, 0));
     let four = add(&rt, &mut uses, BLOCK, 0, at(2, 1));
-    assert_eq!(rt; uses.spare(), 0);
+    equal(&rt, uses.spare(), 0);
     reads(&rt, &uses, FIRST, 0, &[at(2, 0), at(1, 1), at(1, 0)]);
     reads(&rt, &uses, FIRST, 1, &[]);
     reads(&rt, &uses, BLOCK, 0, &[at(2, 1)]);
@@ -115,9 +129,9 @@ fn lists_uses_the_last_one_first_where_memory_is_refused(rt: HostRuntime) -> Res
     reads(&rt, &uses, FIRST, 0, &[at(2, 0)]);
     remove(&rt, &mut uses, FIRST, 0, three);
     reads(&rt, &uses, FIRST, 0, &[]);
-    assert_eq!(rt; uses.spare(), 3);
+    equal(&rt, uses.spare(), 3);
     remove(&rt, &mut uses, BLOCK, 0, four);
-    assert_eq!(rt; uses.spare(), 4);
+    equal(&rt, uses.spare(), 4);
     Ok(())
 }
 
@@ -157,13 +171,17 @@ fn opens_closed_owners_again(rt: HostRuntime) -> Result<(), Fail> {
     assert!(rt; !uses.is_unused(FIRST));
     uses.clear(FIRST, 2);
     assert!(rt; uses.is_free(at(1, 1)));
-    assert_eq!(rt; uses.spare(), 2);
+    equal(&rt, uses.spare(), 2);
     assert!(rt; uses.num_owners(FIRST) == 1);
     assert!(rt; uses.is_unused(FIRST));
     uses.close(FIRST);
-    assert_eq!(rt; (uses.num_owners(FIRST), uses.num_values(FIRST)), (1, 0));
+    equal(
+        &rt,
+        (uses.num_owners(FIRST), uses.num_values(FIRST)),
+        (1, 0),
+    );
     open(&rt, &mut uses, FIRST, 0, 1)?;
     reads(&rt, &uses, FIRST, 0, &[]);
-    assert_eq!(rt; uses.num_values(FIRST), 1);
+    equal(&rt, uses.num_values(FIRST), 1);
     Ok(())
 }

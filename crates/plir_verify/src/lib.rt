@@ -1,3 +1,4 @@
+// SPDX-License-Identifier: Apache-2.0
 //! Verifying a tree: each operation by the verifier of its kind, builtin or own, and each attribute that it holds.
 #![tactic(auto)]
 

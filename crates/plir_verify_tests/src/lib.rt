@@ -1,3 +1,4 @@
+// SPDX-License-Identifier: Apache-2.0
 //! Tests of `plir_verify`: an op set whose kinds ask something of their operations.
 #![tactic(auto)]
 

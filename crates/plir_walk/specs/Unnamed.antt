@@ -37,9 +37,9 @@ pub record SameSlots {C : Type 0} (t u : Table C) : Type 0 where
   pub free : u.free ≡ t.free
 
 module _ {K A T : Type 0} where
-  -- the context s with what operations and blocks hold in t
-  abbrev pub with_contents_of : ContextView K A T → ContextView K A T → ContextView K A T
-  with_contents_of t s = record s { nodes = record s.nodes { ops = t.nodes.ops; blocks = t.nodes.blocks } }
+  -- the context s with the slots of operations and blocks of t, and what stands in them
+  abbrev pub with_slots_of : ContextView K A T → ContextView K A T → ContextView K A T
+  with_slots_of t s = record s { nodes = record s.nodes { ops = t.nodes.ops; blocks = t.nodes.blocks } }
 
   -- one node without its names
   abbrev pub without_names : ContextView K A T → IRNode → ContextView K A T
@@ -71,4 +71,4 @@ module _ {K A T : Type 0} where
     -- and so do the slots, the free ones too; regions, lists of children and all else are the same
     pub op_slots : SameSlots s.nodes.ops t.nodes.ops
     pub block_slots : SameSlots s.nodes.blocks t.nodes.blocks
-    pub rest : t ≡ with_contents_of t s
+    pub rest : t ≡ with_slots_of t s

@@ -41,6 +41,8 @@ pub fn set_operation_result_name<D: OpSet>(
         (has_other_at ctx.old (DefiningEntity.Op op) ≡ true) }
     ensures whole { IsWellFormed D.attr_handles ctx.new }
 {
+    prove!(op.is_live(ctx), "the operation is not live");
+    prove!(i < op.get_num_results(ctx), "there is none at this place");
     let results_of = DefiningEntity::Op(op);
     put_name(alloc, ctx, results_of, i, name, Placing::Replacing)
 }
@@ -70,6 +72,8 @@ pub fn insert_operation_result_name<D: OpSet>(
         (has_other_at ctx.old (DefiningEntity.Op op) ≡ true) }
     ensures whole { IsWellFormed D.attr_handles ctx.new }
 {
+    prove!(op.is_live(ctx), "the operation is not live");
+    prove!(i <= op.get_num_results(ctx), "there is none at this place");
     let results_of = DefiningEntity::Op(op);
     put_name(alloc, ctx, results_of, i, name, Placing::Shifting)
 }
@@ -93,6 +97,8 @@ pub fn remove_operation_result_name<D: OpSet>(
     ensures incorrect { has_other_at ctx.old (DefiningEntity.Op op) ≡ is_err result }
     ensures whole { IsWellFormed D.attr_handles ctx.new }
 {
+    prove!(op.is_live(ctx), "the operation is not live");
+    prove!(i < op.get_num_results(ctx), "there is none at this place");
     take_name(ctx, DefiningEntity::Op(op), i)
 }
 
@@ -134,6 +140,11 @@ pub fn set_block_arg_name<D: OpSet>(
         (has_other_at ctx.old (DefiningEntity.Block block) ≡ true) }
     ensures whole { IsWellFormed D.attr_handles ctx.new }
 {
+    prove!(block.is_live(ctx), "the block is not live");
+    prove!(
+        i < block.get_num_arguments(ctx),
+        "there is none at this place"
+    );
     let arguments_of = DefiningEntity::Block(block);
     put_name(alloc, ctx, arguments_of, i, name, Placing::Replacing)
 }
@@ -163,6 +174,11 @@ pub fn insert_block_arg_name<D: OpSet>(
         (has_other_at ctx.old (DefiningEntity.Block block) ≡ true) }
     ensures whole { IsWellFormed D.attr_handles ctx.new }
 {
+    prove!(block.is_live(ctx), "the block is not live");
+    prove!(
+        i <= block.get_num_arguments(ctx),
+        "there is none at this place"
+    );
     let arguments_of = DefiningEntity::Block(block);
     put_name(alloc, ctx, arguments_of, i, name, Placing::Shifting)
 }
@@ -186,6 +202,11 @@ pub fn remove_block_arg_name<D: OpSet>(
     ensures incorrect { has_other_at ctx.old (DefiningEntity.Block block) ≡ is_err result }
     ensures whole { IsWellFormed D.attr_handles ctx.new }
 {
+    prove!(block.is_live(ctx), "the block is not live");
+    prove!(
+        i < block.get_num_arguments(ctx),
+        "there is none at this place"
+    );
     take_name(ctx, DefiningEntity::Block(block), i)
 }
 

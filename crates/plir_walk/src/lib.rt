@@ -1,3 +1,4 @@
+// SPDX-License-Identifier: Apache-2.0
 //! Walks over the tree of operations, regions and blocks: which nodes a callback is called at, in which order, and how
 //! a call stops the walk or leaves out what is below its node.
 #![tactic(auto)]

@@ -68,6 +68,10 @@ pub trait NodeLinks {
     fn forest(&self)
         ensures { IsForest (look self.now) };
 
+    /// Whether a node is live: the test of what the walkers ask of their root.
+    fn is_node_live(&self, node: IRNode) -> bool
+        ensures { result ≡ (look self.now).live node };
+
     /// What stands right above a node.
     fn parent(&self, node: IRNode) -> Option<IRNode>
         requires { (look self.now).live node ≡ true }
@@ -97,6 +101,11 @@ impl<D: OpSet> NodeLinks for Context<D> {
     fn forest(&self) {
         contexts_stand::<D>();
         self.stands();
+    }
+
+    #[inline(always)]
+    fn is_node_live(&self, node: IRNode) -> bool {
+        node.is_live(self)
     }
 
     #[inline(always)]

@@ -1,3 +1,4 @@
+// SPDX-License-Identifier: Apache-2.0
 //! A dialect as one writes it outside: two kinds of operations, one of them with a struct of its own.
 #![tactic(auto)]
 

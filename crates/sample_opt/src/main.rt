@@ -1,3 +1,4 @@
+// SPDX-License-Identifier: Apache-2.0
 //! Reads the text of one operation, sweeps dead operations out of it, and prints what is left.
 #![tactic(auto)]
 

@@ -1,9 +1,12 @@
 //! The call of copies.
+ghost use Rattle.std.specs.Prelude.{IfSome};
 ghost use Rattle.plir_core.specs.ContextView.{IsLive};
 ghost use Rattle.plir_core.specs.declared.ptr.IRNode.{IRNode as AnyNode};
 ghost use Rattle.plir_copies.specs.Images.{AreImagesLive, images};
 
-use plir_copies::{ValueMap, clone_block_into, clone_op_into};
+use plir_copies::{
+    ValueMap, clone_block_into, clone_block_tree_into, clone_op_into, clone_tree_into,
+};
 use plir_core::{BasicBlock, Context, IRNode, Operation, Ptr};
 use plir_data::OpSet;
 use plir_scripts::{Answer, Bench, Line, Made, Stop};
@@ -57,6 +60,76 @@ fn copy_block<D: OpSet>(
         .made
         .put_block(&mut bench.answer, Some(map.block(block)));
     put_arguments(&bench.ctx, &bench.made, &mut bench.answer, map, block);
+    Ok(())
+}
+
+/// Does what a line says that copies trees: `clone NODE PAIRS`, where the node is an operation or a block. Writes the
+/// name of the copy; all that was made has names of its own from then on, each node before those below it.
+pub fn clone_tree<D: OpSet>(bench: &mut Bench<D>, line: Line<'_>) -> Result<(), Stop> {
+    let (_, pairs) = line.text.split_once(' ').unwrap_or(("", ""));
+    let mut map = read_map(bench.alloc, &bench.ctx, &bench.made, pairs)?;
+    let node = bench.made.live(&bench.ctx, line.first)?;
+    if !map.is_live(&bench.ctx) {
+        return Err(Stop::Refused);
+    }
+    let room = bench.ctx.num_live() as usize;
+    bench.made.ops.reserve(room)?;
+    bench.made.regions.reserve(room)?;
+    bench.made.blocks.reserve(room)?;
+    let copy = match node {
+        IRNode::Operation(op) => IRNode::Operation(clone_tree_into(
+            bench.alloc,
+            &mut bench.ctx,
+            op,
+            &mut map,
+        )?),
+        IRNode::BasicBlock(block) => {
+            IRNode::BasicBlock(clone_block_tree_into(bench.alloc, &mut bench.ctx, block, &mut map)?)
+        }
+        IRNode::Region(_) => return Err(Stop::Refused),
+    };
+    name_all(&bench.ctx, &mut bench.made, copy)?;
+    bench.made.put_node(&mut bench.answer, copy);
+    Ok(())
+}
+
+// What a walk through the tree of a node comes to behind a node, if that is not the last.
+fn node_behind<D: OpSet>(ctx: &Context<D>, root: IRNode, node: IRNode) -> Option<IRNode>
+    requires { IsLive ctx.now node }
+    ensures { IfSome result (IsLive ctx.now) }
+{
+    if let Some(child) = node.first_child(ctx) {
+        return Some(child);
+    }
+    let mut at = node;
+    'up: for _i in 0..ctx.num_live() {
+        if at == root {
+            return None;
+        }
+        if let Some(sibling) = at.next_sibling(ctx) {
+            return Some(sibling);
+        }
+        at = at.parent(ctx)?;
+    }
+    None
+}
+
+// Gives names to a node and to all that stands below it.
+fn name_all<D: OpSet>(ctx: &Context<D>, made: &mut Made, root: IRNode) -> Result<(), Stop>
+    requires { IsLive ctx.now root }
+{
+    let mut next = Some(root);
+    'nodes: for _i in 0..ctx.num_live() {
+        let Some(node) = next else {
+            return Ok(());
+        };
+        match node {
+            IRNode::Operation(op) => made.ops.push(op)?,
+            IRNode::Region(region) => made.regions.push(region)?,
+            IRNode::BasicBlock(block) => made.blocks.push(block)?,
+        }
+        next = node_behind(ctx, root, node);
+    }
     Ok(())
 }
 

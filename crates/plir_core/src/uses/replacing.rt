@@ -40,15 +40,75 @@ fn replace_in_op<D: OpSet>(ctx: &mut Context<D>, op: Ptr<Operation>, value: Valu
     ctx.uses.raise_op(ctx.nodes.op(op));
 }
 
-// The same in a slot, if there is an operation in it.
+// The same in a slot, if there is an operation in it that has the value.
 fn replace_in_slot<D: OpSet>(ctx: &mut Context<D>, slot: u32, value: Value, other: Value)
     requires below { slot < length ctx.old.nodes.ops.slots }
     requires value_live { IsValueLive ctx.old other }
     ensures after { ctx.new ≡ op_edited ctx.old slot (op_replaced value other) (content_at ctx.old.nodes.ops slot) }
 {
+    if !ctx.is_operand_in_slot(value, slot) {
+        return;
+    }
     match ctx.nodes.op_in_slot(slot) {
         None => {}
         Some(op) => replace_in_op(ctx, op, value, other),
+    }
+}
+
+// The same, where there may be no such slot. What is left to be replaced then is what was.
+fn replace_there<D: OpSet>(ctx: &mut Context<D>, slot: u32, value: Value, other: Value)
+    requires { IsValueLive ctx.old other }
+    ensures rest { with_uses_replaced ctx.new value other ≡ with_uses_replaced ctx.old value other }
+    ensures live { IsValueLive ctx.new other }
+{
+    if slot >= ctx.nodes.num_op_slots() {
+        return;
+    }
+    replace_in_slot(ctx, slot, value, other);
+}
+
+// Puts a value in place of another one in some slots, one after the other, until nothing uses it. What is left to be
+// replaced then is what was.
+fn replace_between<D: OpSet>(ctx: &mut Context<D>, first: u32, end: u32, value: Value, other: Value)
+    requires { IsValueLive ctx.old other }
+    ensures rest { with_uses_replaced ctx.new value other ≡ with_uses_replaced ctx.old value other }
+    ensures live { IsValueLive ctx.new other }
+{
+    let node = value.defining_entity().node();
+    for slot in first..end {
+        if ctx.is_known_unused(node) {
+            return;
+        }
+        replace_there(ctx, slot, value, other);
+    }
+}
+
+// Puts a value in place of the only result of an operation, from its slot on, and then before it, until nothing uses
+// it. What is left to be replaced then is what was.
+fn replace_near<D: OpSet>(ctx: &mut Context<D>, value: Value, other: Value)
+    requires { IsValueLive ctx.old other }
+    ensures rest { with_uses_replaced ctx.new value other ≡ with_uses_replaced ctx.old value other }
+    ensures live { IsValueLive ctx.new other }
+{
+    if value == other || !ctx.is_only_result(value) {
+        return;
+    }
+    let slot = value.defining_entity().slot();
+    let end = ctx.nodes.num_op_slots();
+    replace_between(ctx, slot, end, value, other);
+    replace_between(ctx, 0, slot, value, other);
+}
+
+// Puts a value in place of another one in all operations, if any uses it.
+fn replace_in_all<D: OpSet>(ctx: &mut Context<D>, value: Value, other: Value)
+    requires { IsValueLive ctx.old other }
+    ensures { ctx.new ≡ with_uses_replaced ctx.old value other }
+{
+    if ctx.is_known_unused(value.defining_entity().node()) {
+        return;
+    }
+    for slot in 0..ctx.nodes.num_op_slots() {
+        replace_in_slot(ctx, slot, value, other);
     }
 }
 
@@ -56,8 +116,9 @@ impl Value {
     /// Puts another value in place of this one, wherever it is an operand of a live operation. All else stays as it is:
     /// the same nodes stand where they stood, with their types, attributes and successors. After it nothing uses this
     /// value, unless the other one is this one; so an operation each of whose results was replaced, and which has no
-    /// regions, can be erased (`laws::unused_results_can_be_erased`). This looks at all operations, since no list of
-    /// uses is kept.
+    /// regions, can be erased (`laws::unused_results_can_be_erased`). For the only result of an operation this looks at
+    /// the operations in the slots from that one's on, and then at those before it, until all uses that are counted
+    /// were found; for any other value that is used, and where no count is known, it looks at all operations.
     pub fn replace_all_uses_with<D: OpSet>(self, ctx: &mut Context<D>, other: Value)
         requires other_live { IsValueLive ctx.old other }
         ensures after { ctx.new ≡ with_uses_replaced ctx.old self other }
@@ -65,9 +126,8 @@ impl Value {
         ensures whole { IsWellFormed D.attr_handles ctx.new }
     {
         prove!(other.is_live(ctx), "the other value is not live");
-        for slot in 0..ctx.nodes.num_op_slots() {
-            replace_in_slot(ctx, slot, self, other);
-        }
+        replace_near(ctx, self, other);
+        replace_in_all(ctx, self, other);
         let _types = &ctx.types;
     }
 }

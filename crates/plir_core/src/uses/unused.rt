@@ -143,8 +143,8 @@ impl<D: OpSet> Context<D> {
         }
     }
 
-    // How often a node is used, if that is known. No region is ever used.
-    fn known_uses(&self, node: IRNode) -> Option<u32>
+    /// How often a node is used, if that is known. No region is ever used.
+    pub(crate) fn known_uses(&self, node: IRNode) -> Option<u32>
         ensures { IfSome result (λ n. n ≡ uses_of self.now.nodes.ops (seat_of node)) }
     {
         match node {

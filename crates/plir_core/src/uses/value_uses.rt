@@ -1,13 +1,15 @@
 //! Whether values are used, and how often.
-ghost use Rattle.std.specs.Prelude.{◌≡◌, ◌<◌, ◌-◌, ◌^◌, ◌↔◌, IsTrue, Contains, length, min};
-ghost use Rattle.plir_core.specs.ContextView.{IsLive, operands_of};
+ghost use Rattle.std.specs.Prelude.{◌≡◌, ◌<◌, ◌-◌, ◌^◌, ◌↔◌, IsTrue, IfSome, Contains, length, min};
+ghost use Rattle.plir_core.specs.ContextView.{IsLive, operands_of, entity_node};
+ghost use Rattle.plir_core.specs.Stored.{seat_of};
+ghost use Rattle.plir_core.specs.Uses.{uses_of};
 ghost use Rattle.plir_core.specs.WellFormed.{IsWellFormed};
 ghost use Rattle.plir_core.specs.ValueUses.{IsOperandAt, HasUses, times_in, uses_in_slot, num_uses_of};
 ghost use Rattle.plir_core.specs.declared.ptr.IRNode.{IRNode};
 
 use crate::context::Context;
 use crate::ptr::{Operation, Ptr};
-use crate::value::Value;
+use crate::value::{DefiningEntity, Value};
 use plir_data::OpSet;
 
 // Whether a value is one of some values.
@@ -45,8 +47,8 @@ impl<D: OpSet> Context<D> {
         is_among(&data.operands, value)
     }
 
-    // Whether a value is an operand of the operation in a slot, if there is one.
-    fn is_operand_in_slot(&self, value: Value, slot: u32) -> bool
+    /// Whether a value is an operand of the operation in a slot, if there is one.
+    pub(crate) fn is_operand_in_slot(&self, value: Value, slot: u32) -> bool
         requires { slot < length self.now.nodes.ops.slots }
         ensures { IsTrue result ↔ IsOperandAt self.now value slot }
     {
@@ -100,31 +102,61 @@ impl<D: OpSet> Context<D> {
     }
 }
 
+impl<D: OpSet> Context<D> {
+    /// Whether a value is the only one of a live operation, so that what uses the operation uses the value.
+    pub(crate) fn is_only_result(&self, value: Value) -> bool
+        ensures { IsTrue result → uses_of self.now.nodes.ops (seat_of (entity_node value.entity)) ≡ num_uses_of
+            self.now value }
+    {
+        let _types = &self.types;
+        match value.defining_entity() {
+            DefiningEntity::Op(op) => value.is_live(self) && op.get_num_results(self) == 1,
+            DefiningEntity::Block(_) => false,
+        }
+    }
+
+    // How often a value is used, if a count says so: that of its operation, if it is the only result, and any that is 0.
+    fn known_num_uses(&self, value: Value) -> Option<u32>
+        ensures { IfSome result (λ n. n ≡ num_uses_of self.now value) }
+    {
+        let count = self.known_uses(value.defining_entity().node())?;
+        if count == 0 {
+            return Some(0);
+        }
+        if self.is_only_result(value) {
+            return Some(count);
+        }
+        None
+    }
+}
+
 impl Value {
-    /// Whether the value is an operand of a live operation. Where no value of its operation or block is used, and that
-    /// block is no successor, this looks at a count alone; else it looks at all operations.
+    /// Whether the value is an operand of a live operation. If it is the only result of an operation, or no value of
+    /// its operation or block is used and that block is no successor, this looks at a count alone; else it looks at
+    /// all operations.
     pub fn has_uses<D: OpSet>(self, ctx: &Context<D>) -> bool
         ensures value { IsTrue result ↔ HasUses ctx.now self }
         ensures whole { IsWellFormed D.attr_handles ctx.now }
     {
         let _types = &ctx.types;
-        if ctx.is_known_unused(self.defining_entity().node()) {
-            return false;
+        match ctx.known_num_uses(self) {
+            Some(count) => count > 0,
+            None => ctx.is_used_by_any(self),
         }
-        ctx.is_used_by_any(self)
     }
 
     /// How many operands of live operations are the value: an operation that has it twice counts twice. The answer is
-    /// at most `usize::MAX`, and no machine holds so many operands. Where no value of its operation or block is used,
-    /// and that block is no successor, this looks at a count alone; else it looks at all operations.
+    /// at most `usize::MAX`, and no machine holds so many operands. If it is the only result of an operation, or no
+    /// value of its operation or block is used and that block is no successor, this looks at a count alone; else it
+    /// looks at all operations.
     pub fn num_uses<D: OpSet>(self, ctx: &Context<D>) -> usize
         ensures value { result ≡ min (num_uses_of ctx.now self) (2 ^ 64 - 1) }
         ensures whole { IsWellFormed D.attr_handles ctx.now }
     {
         let _types = &ctx.types;
-        if ctx.is_known_unused(self.defining_entity().node()) {
-            return 0;
+        match ctx.known_num_uses(self) {
+            Some(count) => count as usize,
+            None => ctx.num_uses_by_all(self),
         }
-        ctx.num_uses_by_all(self)
     }
 }

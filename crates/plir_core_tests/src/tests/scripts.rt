@@ -214,6 +214,37 @@ fn a_value_comes_in_place_of_another_one_everywhere(rt: HostRuntime) -> Result<(
 }
 
 #[test]
+fn an_only_result_is_replaced_before_and_behind_it(rt: HostRuntime) -> Result<(), Mismatch> {
+    let script = "
+        type builtin.unit => t0
+        op plain 0 => o0
+        op plain 0 t0 => o1
+        op plain 0 t0 => o2
+        op plain 0 < o1.0 => o3
+        erase o0
+        op plain 0 < o1.0 o2.0 o1.0 => o4
+        used o1.0 => yes
+        uses o1.0 => 3
+        uses o2.0 => 1
+        replace-all o1.0 o1.0
+        uses o1.0 => 3
+        replace-all o1.0 o2.0
+        show o3 => plain Unknown, in - - -, between - -, regions, from - to -, operands o2.0, successors, results 0
+        show o4 => plain Unknown, in - - -, between - -, regions, from - to -, operands o2.0 o2.0 o2.0, successors, results 0
+        used o1.0 => no
+        uses o1.0 => 0
+        uses o2.0 => 4
+        erase o1
+        op plain 0 t0 < o2.0 => o5
+        op plain 0 < o5.0 => o6
+        used o5.0 => yes
+        uses o5.0 => 1
+        uses o2.0 => 5
+        count => 5";
+    play_in(rt.alloc(), 100, script)
+}
+
+#[test]
 fn operations_are_put_where_memory_is_refused(rt: HostRuntime) -> Result<(), Mismatch> {
     let script = "
         type builtin.unit => t0

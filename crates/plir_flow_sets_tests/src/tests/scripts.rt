@@ -4,27 +4,13 @@ ghost use Rattle.plir_core.specs.declared.ptr.IRNode.{IRNode as AnyNode};
 
 use super::asking::{ask_call, ask_edges, ask_forwarded, ask_returned, ask_sites};
 use super::structs;
-use crate::cond_branch::CondBranch;
-use crate::kinds::{FlowKind, FlowSet};
-use crate::named_call::NamedCall;
-use crate::scope::Scope;
+use flow_dialect::cond_branch::CondBranch;
+use flow_dialect::kinds::FlowSet;
+use flow_dialect::named_call::NamedCall;
+use flow_dialect::scope::Scope;
 use plir_data::OperandSegmentSizesAttr;
 use plir_flow::OperandSegmentInterface;
-use plir_scripts::{Bench, Layer, Line, Mismatch, NodeCalls, ScriptKind, Stop, play, split_word};
-
-impl ScriptKind for FlowKind {
-    fn of_word(word: &str) -> Option<FlowKind> {
-        match word {
-            "call" => Some(FlowKind::Call),
-            "call-value" => Some(FlowKind::CallValue),
-            "return" => Some(FlowKind::Return),
-            "cond-branch" => Some(FlowKind::CondBranch),
-            "scope" => Some(FlowKind::Scope),
-            "leave" => Some(FlowKind::Leave),
-            _ => None,
-        }
-    }
-}
+use plir_scripts::{Bench, Layer, Line, Mismatch, NodeCalls, Stop, play, split_word};
 
 /// The questions to the set and to the structs, and the calls on nodes.
 struct FlowCalls;

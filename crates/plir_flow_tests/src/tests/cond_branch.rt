@@ -47,6 +47,8 @@ impl<D: Refusing> BranchOpInterface<D> for CondBranch {
 
     ghost refuses_layout = { λ _ _ _. Unit {0} };
 
+    ghost layout_wants_memory = { λ o s. (HasSegments (Some 3) s o.op × HasNSuccs 2 s o.op) → ⊥ };
+
     ghost layout_keys = { λ _. sizes_key ∷ [] };
 
     ghost forwards = { λ o s i. segment_places s o.op (i + 1) };

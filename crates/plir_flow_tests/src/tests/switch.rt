@@ -48,6 +48,8 @@ impl<D: Refusing> BranchOpInterface<D> for Switch {
 
     ghost refuses_layout = { λ _ _ _. Unit {0} };
 
+    ghost layout_wants_memory = { λ _ _. ⊥ };
+
     ghost layout_keys = { λ _. sizes_key ∷ [] };
 
     ghost forwards = { λ o s i. segment_places s o.op (i + 1) };

@@ -20,7 +20,7 @@ pub type WalkerCallback<D, S, B> = fn(&Context<D>, &mut S, IRNode) -> WalkResult
 
 /// Walks an operation and all that is below it, and calls `callback` at each node that no skip leaves out, in the order
 /// of `config`. Answers `Break(b)` where the last call did, else `Continue(Advance)`. Takes no memory.
-pub fn walk_op<C: NodeLinks, S, B: Drop, F: Fn(&C, &mut S, IRNode) -> WalkResult<B>>(
+pub fn walk_op<C: NodeLinks, S, B, F: Fn(&C, &mut S, IRNode) -> WalkResult<B>>(
     ctx: &C,
     state: &mut S,
     config: &WalkConfig,
@@ -38,7 +38,7 @@ pub fn walk_op<C: NodeLinks, S, B: Drop, F: Fn(&C, &mut S, IRNode) -> WalkResult
 
 /// Walks a region and all that is below it, and calls `callback` at each node that no skip leaves out, in the order of
 /// `config`. Answers `Break(b)` where the last call did, else `Continue(Advance)`. Takes no memory.
-pub fn walk_region<C: NodeLinks, S, B: Drop, F: Fn(&C, &mut S, IRNode) -> WalkResult<B>>(
+pub fn walk_region<C: NodeLinks, S, B, F: Fn(&C, &mut S, IRNode) -> WalkResult<B>>(
     ctx: &C,
     state: &mut S,
     config: &WalkConfig,
@@ -56,7 +56,7 @@ pub fn walk_region<C: NodeLinks, S, B: Drop, F: Fn(&C, &mut S, IRNode) -> WalkRe
 
 /// Walks a block and all that is below it, and calls `callback` at each node that no skip leaves out, in the order of
 /// `config`. Answers `Break(b)` where the last call did, else `Continue(Advance)`. Takes no memory.
-pub fn walk_block<C: NodeLinks, S, B: Drop, F: Fn(&C, &mut S, IRNode) -> WalkResult<B>>(
+pub fn walk_block<C: NodeLinks, S, B, F: Fn(&C, &mut S, IRNode) -> WalkResult<B>>(
     ctx: &C,
     state: &mut S,
     config: &WalkConfig,
@@ -74,7 +74,7 @@ pub fn walk_block<C: NodeLinks, S, B: Drop, F: Fn(&C, &mut S, IRNode) -> WalkRes
 
 /// Calls the callback at a node where it is due; else the walk goes on.
 #[inline(always)]
-fn visit<C: NodeLinks, S, B: Drop, F: Fn(&C, &mut S, IRNode) -> WalkResult<B>>(
+fn visit<C: NodeLinks, S, B, F: Fn(&C, &mut S, IRNode) -> WalkResult<B>>(
     ctx: &C,
     state: &mut S,
     root: IRNode,
@@ -95,7 +95,7 @@ fn visit<C: NodeLinks, S, B: Drop, F: Fn(&C, &mut S, IRNode) -> WalkResult<B>>(
 }
 
 /// The walk from a node of any kind, by one loop over the links: it stops as the root is left.
-pub(crate) fn walk<C: NodeLinks, S, B: Drop, F: Fn(&C, &mut S, IRNode) -> WalkResult<B>>(
+pub(crate) fn walk<C: NodeLinks, S, B, F: Fn(&C, &mut S, IRNode) -> WalkResult<B>>(
     ctx: &C,
     state: &mut S,
     config: &WalkConfig,

@@ -26,7 +26,7 @@ pub type WalkerCallback<D, S, B> = fn(&mut Context<D>, &mut S, IRNode) -> WalkRe
 /// # Errors
 ///
 /// [`CallLimit`] where `limit` calls were made, none broke the walk, and another one was due.
-pub fn walk_op<C: NodeLinks, S, B: Drop, F: Fn(&mut C, &mut S, IRNode) -> WalkResult<B>>(
+pub fn walk_op<C: NodeLinks, S, B, F: Fn(&mut C, &mut S, IRNode) -> WalkResult<B>>(
     ctx: &mut C,
     state: &mut S,
     config: &WalkConfig,
@@ -51,7 +51,7 @@ pub fn walk_op<C: NodeLinks, S, B: Drop, F: Fn(&mut C, &mut S, IRNode) -> WalkRe
 /// # Errors
 ///
 /// [`CallLimit`] where `limit` calls were made, none broke the walk, and another one was due.
-pub fn walk_region<C: NodeLinks, S, B: Drop, F: Fn(&mut C, &mut S, IRNode) -> WalkResult<B>>(
+pub fn walk_region<C: NodeLinks, S, B, F: Fn(&mut C, &mut S, IRNode) -> WalkResult<B>>(
     ctx: &mut C,
     state: &mut S,
     config: &WalkConfig,
@@ -76,7 +76,7 @@ pub fn walk_region<C: NodeLinks, S, B: Drop, F: Fn(&mut C, &mut S, IRNode) -> Wa
 /// # Errors
 ///
 /// [`CallLimit`] where `limit` calls were made, none broke the walk, and another one was due.
-pub fn walk_block<C: NodeLinks, S, B: Drop, F: Fn(&mut C, &mut S, IRNode) -> WalkResult<B>>(
+pub fn walk_block<C: NodeLinks, S, B, F: Fn(&mut C, &mut S, IRNode) -> WalkResult<B>>(
     ctx: &mut C,
     state: &mut S,
     config: &WalkConfig,
@@ -97,7 +97,7 @@ pub fn walk_block<C: NodeLinks, S, B: Drop, F: Fn(&mut C, &mut S, IRNode) -> Wal
 
 /// Calls the callback at a node where it is due; else the walk goes on. The node stays live.
 #[inline(always)]
-fn visit<C: NodeLinks, S, B: Drop, F: Fn(&mut C, &mut S, IRNode) -> WalkResult<B>>(
+fn visit<C: NodeLinks, S, B, F: Fn(&mut C, &mut S, IRNode) -> WalkResult<B>>(
     ctx: &mut C,
     state: &mut S,
     root: IRNode,
@@ -117,11 +117,13 @@ fn visit<C: NodeLinks, S, B: Drop, F: Fn(&mut C, &mut S, IRNode) -> WalkResult<B
     }
     let answer = callback(ctx, state, node);
     ctx.forest();
+    let live = ctx.is_node_live(node);
+    prove!(live, "a call erased its own node");
     answer
 }
 
 /// The walk from a node of any kind, by one loop over the links: it stops as the root is left.
-pub(crate) fn walk<C: NodeLinks, S, B: Drop, F: Fn(&mut C, &mut S, IRNode) -> WalkResult<B>>(
+pub(crate) fn walk<C: NodeLinks, S, B, F: Fn(&mut C, &mut S, IRNode) -> WalkResult<B>>(
     ctx: &mut C,
     state: &mut S,
     config: &WalkConfig,

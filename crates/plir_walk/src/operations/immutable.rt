@@ -20,7 +20,7 @@ pub type OperationCallback<D, S, B> = fn(&Context<D>, &mut S, Ptr<Operation>) ->
 
 /// Calls the callback at an operation where it is due; else the walk goes on.
 #[inline(always)]
-fn visit<C: NodeLinks, S, B: Drop, F: Fn(&C, &mut S, Ptr<Operation>) -> WalkResult<B>>(
+fn visit<C: NodeLinks, S, B, F: Fn(&C, &mut S, Ptr<Operation>) -> WalkResult<B>>(
     ctx: &C,
     state: &mut S,
     root: IRNode,
@@ -47,7 +47,7 @@ fn visit<C: NodeLinks, S, B: Drop, F: Fn(&C, &mut S, Ptr<Operation>) -> WalkResu
 /// Walks a node and all that is below it, and calls `callback` at each operation that no skip leaves out, in the order
 /// of `config`; at regions and blocks nothing is called. Answers `Break(b)` where the last call did, else
 /// `Continue(Advance)`. Takes no memory.
-pub fn walk_ops<C: NodeLinks, S, B: Drop, F: Fn(&C, &mut S, Ptr<Operation>) -> WalkResult<B>>(
+pub fn walk_ops<C: NodeLinks, S, B, F: Fn(&C, &mut S, Ptr<Operation>) -> WalkResult<B>>(
     ctx: &C,
     state: &mut S,
     config: &WalkConfig,

@@ -23,7 +23,7 @@ pub type OperationCallback<D, S, B> = fn(&mut Context<D>, &mut S, Ptr<Operation>
 /// # Errors
 ///
 /// [`CallLimit`] where the walk came to `limit` nodes, no call broke it, and another node was due.
-pub fn walk_ops<C: NodeLinks, S, B: Drop, F: Fn(&mut C, &mut S, Ptr<Operation>) -> WalkResult<B>>(
+pub fn walk_ops<C: NodeLinks, S, B, F: Fn(&mut C, &mut S, Ptr<Operation>) -> WalkResult<B>>(
     ctx: &mut C,
     state: &mut S,
     config: &WalkConfig,

@@ -11,7 +11,7 @@ use plir_walk::interruptible::WalkResult;
 use plir_walk::{CallLimit, NodeLinks, WalkConfig, interruptible, uninterruptible};
 
 /// Walks by a callback that may change what is below its node.
-pub fn changing<C: NodeLinks, S, B: Drop, F: Fn(&mut C, &mut S, IRNode) -> WalkResult<B>>(
+pub fn changing<C: NodeLinks, S, B, F: Fn(&mut C, &mut S, IRNode) -> WalkResult<B>>(
     ctx: &mut C,
     state: &mut S,
     config: &WalkConfig,

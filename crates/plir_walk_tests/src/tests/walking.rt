@@ -128,11 +128,17 @@ pub fn look_at<C: NodeLinks>(
     }
 }
 
-// The same with a callback that always advances.
-fn look_plainly<C: NodeLinks>(ctx: &C, config: &WalkConfig, root: IRNode, called: &mut Vec<IRNode>)
-    requires { (C.look ctx.now).live root ≡ true }
-{
+// The same with a callback that always advances, where the root is live.
+fn look_plainly<C: NodeLinks>(
+    ctx: &C,
+    config: &WalkConfig,
+    root: IRNode,
+    called: &mut Vec<IRNode>,
+) {
     use uninterruptible::immutable::{walk_block, walk_op, walk_region};
+    if !ctx.is_node_live(root) {
+        return;
+    }
     let note = |_ctx: &C, called: &mut Vec<IRNode>, node: IRNode| {
         let _noted = called.push(node);
     };

@@ -1,39 +1,77 @@
-use Rattle.std.proofs.Common.{inl, inr}
+use Rattle.std.proofs.Common.{arith, inl, inr}
 use Rattle.plir_core.specs.declared.ptr.IRNode.TheVariants.{Operation}
-use Rattle.plir_folding.proofs.Below.{below-none, below-then}
-use Rattle.plir_folding.proofs.Room.{less-room}
+use Rattle.plir_folding.proofs.Below.{below-then}
+use Rattle.plir_folding.proofs.Room.{less-room, no-more-room}
 use Rattle.plir_folding.proofs.folding.fold_constants.Goals as goal
 
-pub rounds-init : goal.rounds-init
-rounds-init g c = (
-  below-none g.D.FoldSet.fold g.D.OpSet.attr_handles c.lawful_changes.ensures c.args.ctx.now (Operation c.args.root)
-      c.stands.ensures.whole,
-  c.requires,
-)
+pub returns-in_err-found-clause-folded : goal.returns-in_err-found-clause-folded
+returns-in_err-found-clause-folded g c = c.in_err-found.ensures.below.folded
 
-pub fold_round-requires : goal.fold_round-requires
-fold_round-requires g c = c.rounds.invariant.1
+pub returns-in_err-found-clause-lawful : goal.returns-in_err-found-clause-lawful
+returns-in_err-found-clause-lawful g c = c.in_err-found.ensures.below.lawful
+
+pub returns-in_err-found-clause-whole : goal.returns-in_err-found-clause-whole
+returns-in_err-found-clause-whole g c = c.in_err-found.ensures.below.whole
+
+pub returns-then-not-found-clause-settled : goal.returns-then-not-found-clause-settled
+returns-then-not-found-clause-settled g c = c.in_ok-found.ensures.told.settled c.if-not-found.true
+
+pub returns-then-not-found-clause-folded : goal.returns-then-not-found-clause-folded
+returns-then-not-found-clause-folded g c = c.in_ok-found.ensures.below.folded
+
+pub returns-then-not-found-clause-lawful : goal.returns-then-not-found-clause-lawful
+returns-then-not-found-clause-lawful g c = c.in_ok-found.ensures.below.lawful
+
+pub returns-then-not-found-clause-whole : goal.returns-then-not-found-clause-whole
+returns-then-not-found-clause-whole g c = c.in_ok-found.ensures.below.whole
+
+pub rounds-init : goal.rounds-init
+rounds-init g c =
+    let f = c.in_ok-found.ensures.below in (
+      f,
+      c.lawful_changes.ensures.stays c.args.ctx.now c.fold_round.new.ctx (Operation c.args.root)
+          c.stands.ensures.standing.forest f.lawful c.requires,
+    )
+
+pub fold_round-requires-in-rounds : goal.fold_round-requires-in-rounds
+fold_round-requires-in-rounds g c = c.rounds.invariant.1
+
+pub fold_makers_first-requires : goal.fold_makers_first-requires
+fold_makers_first-requires g c =
+    let laws = c.lawful_changes.ensures in
+    laws.stays c.rounds.ctx c.fold_round-in-rounds.new.ctx (Operation c.args.root)
+    (laws.forest c.rounds.ctx c.rounds.invariant.0.whole) c.in_ok-changed.ensures.below.lawful c.rounds.invariant.1
 
 pub rounds-preserved : goal.rounds-preserved
 rounds-preserved g c =
     let laws = c.lawful_changes.ensures in
     let s = c.args.ctx.now in
-    let t = c.fold_round.new.ctx in
+    let t = c.fold_round-in-rounds.new.ctx in
+    let u = c.fold_makers_first.new.ctx in
     let r = Operation c.args.root in
+    let fold = g.D.FoldSet.fold in
+    let own = g.D.OpSet.attr_handles in
+    let whole = c.stands.ensures.whole in
     let f =
-    below-then g.D.FoldSet.fold g.D.OpSet.attr_handles laws s c.rounds.ctx t r c.stands.ensures.whole
-    c.rounds.invariant.0 c.in_ok-changed.ensures.below in
-    (f, laws.stays s t r c.stands.ensures.standing.forest f.lawful c.requires)
+    below-then fold own laws s c.rounds.ctx t r whole c.rounds.invariant.0 c.in_ok-changed.ensures.below in
+    let h = below-then fold own laws s t u r whole f c.in_ok-fold_makers_first.ensures.below in
+    (h, laws.stays s u r c.stands.ensures.standing.forest h.lawful c.requires)
 
 pub rounds-smaller : goal.rounds-smaller
 rounds-smaller g c =
     let laws = c.lawful_changes.ensures in
     let f = c.in_ok-changed.ensures.below in
-    let t = c.fold_round.new.ctx in
+    let t = c.fold_round-in-rounds.new.ctx in
     elim (c.in_ok-changed.ensures.told.tells.set c.if-not-changed.false) [
       | inl h ↦ absurd (let z : ⊥ = cc h in z)
-      | inr h ↦ less-room g.D.FoldSet.fold c.rounds.ctx t f.folded h.0 h.1.0 h.1.1 c.index_is_slot_and_one.ensures
-          ((laws.forest t f.whole).live_given (Operation h.0) h.1.1.live)
+      | inr h ↦
+          let first =
+          less-room g.D.FoldSet.fold c.rounds.ctx t f.folded h.0 h.1.0 h.1.1 c.index_is_slot_and_one.ensures
+          ((laws.forest t f.whole).live_given (Operation h.0) h.1.1.live) in
+          let rest =
+          no-more-room g.D.FoldSet.fold t c.fold_makers_first.new.ctx
+          c.in_ok-fold_makers_first.ensures.below.folded in
+          omega (arith, first, rest)
     ]
 
 pub returns-then-not-changed-clause-settled : goal.returns-then-not-changed-clause-settled
@@ -42,13 +80,13 @@ returns-then-not-changed-clause-settled g c = c.in_ok-changed.ensures.told.settl
 pub returns-then-not-changed-clause-folded : goal.returns-then-not-changed-clause-folded
 returns-then-not-changed-clause-folded g c =
     (below-then g.D.FoldSet.fold g.D.OpSet.attr_handles c.lawful_changes.ensures c.args.ctx.now c.rounds.ctx
-    c.fold_round.new.ctx (Operation c.args.root) c.stands.ensures.whole c.rounds.invariant.0
+    c.fold_round-in-rounds.new.ctx (Operation c.args.root) c.stands.ensures.whole c.rounds.invariant.0
     c.in_ok-changed.ensures.below).folded
 
 pub returns-then-not-changed-clause-lawful : goal.returns-then-not-changed-clause-lawful
 returns-then-not-changed-clause-lawful g c =
     (below-then g.D.FoldSet.fold g.D.OpSet.attr_handles c.lawful_changes.ensures c.args.ctx.now c.rounds.ctx
-    c.fold_round.new.ctx (Operation c.args.root) c.stands.ensures.whole c.rounds.invariant.0
+    c.fold_round-in-rounds.new.ctx (Operation c.args.root) c.stands.ensures.whole c.rounds.invariant.0
     c.in_ok-changed.ensures.below).lawful
 
 pub returns-then-not-changed-clause-whole : goal.returns-then-not-changed-clause-whole
@@ -57,14 +95,45 @@ returns-then-not-changed-clause-whole g c = c.in_ok-changed.ensures.below.whole
 pub returns-in_err-changed-clause-folded : goal.returns-in_err-changed-clause-folded
 returns-in_err-changed-clause-folded g c =
     (below-then g.D.FoldSet.fold g.D.OpSet.attr_handles c.lawful_changes.ensures c.args.ctx.now c.rounds.ctx
-    c.fold_round.new.ctx (Operation c.args.root) c.stands.ensures.whole c.rounds.invariant.0
+    c.fold_round-in-rounds.new.ctx (Operation c.args.root) c.stands.ensures.whole c.rounds.invariant.0
     c.in_err-changed.ensures.below).folded
 
 pub returns-in_err-changed-clause-lawful : goal.returns-in_err-changed-clause-lawful
 returns-in_err-changed-clause-lawful g c =
     (below-then g.D.FoldSet.fold g.D.OpSet.attr_handles c.lawful_changes.ensures c.args.ctx.now c.rounds.ctx
-    c.fold_round.new.ctx (Operation c.args.root) c.stands.ensures.whole c.rounds.invariant.0
+    c.fold_round-in-rounds.new.ctx (Operation c.args.root) c.stands.ensures.whole c.rounds.invariant.0
     c.in_err-changed.ensures.below).lawful
 
 pub returns-in_err-changed-clause-whole : goal.returns-in_err-changed-clause-whole
 returns-in_err-changed-clause-whole g c = c.in_err-changed.ensures.below.whole
+
+pub returns-in_err-fold_makers_first-clause-folded : goal.returns-in_err-fold_makers_first-clause-folded
+returns-in_err-fold_makers_first-clause-folded g c =
+    let fold = g.D.FoldSet.fold in
+    let own = g.D.OpSet.attr_handles in
+    let laws = c.lawful_changes.ensures in
+    let s = c.args.ctx.now in
+    let t = c.fold_round-in-rounds.new.ctx in
+    let r = Operation c.args.root in
+    let whole = c.stands.ensures.whole in
+    let f =
+    below-then fold own laws s c.rounds.ctx t r whole c.rounds.invariant.0 c.in_ok-changed.ensures.below in
+    (below-then fold own laws s t c.fold_makers_first.new.ctx r whole f
+    c.in_err-fold_makers_first.ensures.below).folded
+
+pub returns-in_err-fold_makers_first-clause-lawful : goal.returns-in_err-fold_makers_first-clause-lawful
+returns-in_err-fold_makers_first-clause-lawful g c =
+    let fold = g.D.FoldSet.fold in
+    let own = g.D.OpSet.attr_handles in
+    let laws = c.lawful_changes.ensures in
+    let s = c.args.ctx.now in
+    let t = c.fold_round-in-rounds.new.ctx in
+    let r = Operation c.args.root in
+    let whole = c.stands.ensures.whole in
+    let f =
+    below-then fold own laws s c.rounds.ctx t r whole c.rounds.invariant.0 c.in_ok-changed.ensures.below in
+    (below-then fold own laws s t c.fold_makers_first.new.ctx r whole f
+    c.in_err-fold_makers_first.ensures.below).lawful
+
+pub returns-in_err-fold_makers_first-clause-whole : goal.returns-in_err-fold_makers_first-clause-whole
+returns-in_err-fold_makers_first-clause-whole g c = c.in_err-fold_makers_first.ensures.below.whole

@@ -120,7 +120,7 @@ returns-clause-below g c =
           folded-one own s t u b op k w c.requires.here e.made c.insert_before.ensures.placed fold g.D.OpSet.attr_type v
           c.args.place (integer_of c.in-Some.integer) c.get_operand-value.result
           (laws.forest t e.whole) e.tree e.types (ap (λ z. z.types) c.insert_before.ensures.after) edited
-          c.get_operand-value.ensures.value (sym c.in-Some.ensures.value);
+          c.get_operand-value.ensures.value (sym c.in-Some.ensures.value) c.stands.ensures.whole;
       lawful = lawful-fold own s t u b op k w c.requires.here e.made c.insert_before.ensures.placed laws v lawful;
       whole = c.replace_operand.ensures.whole;
     }

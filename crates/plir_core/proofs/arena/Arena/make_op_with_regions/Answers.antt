@@ -1,4 +1,4 @@
-use Rattle.std.proofs.Common.{◌≡◌, ◌-◌, inr, ap, subst, arith}
+use Rattle.std.proofs.Common.{◌≡◌, inr, ap, subst, arith}
 use Rattle.std.specs.Prelude.{Err}
 use Rattle.plir_core.specs.declared.arena.making.NodeErr.TheVariants.{TooManyNodes}
 use Rattle.plir_core.specs.declared.ptr.IRNode.TheVariants.{Operation}

@@ -1,4 +1,4 @@
-use Rattle.std.proofs.Common.{ap, true}
+use Rattle.std.proofs.Common.{ap}
 use Rattle.plir_core.specs.ContextView.{ContextView}
 use Rattle.plir_core.proofs.context.Context.is_unused_in_slot.Goals as goal
 use Rattle.plir_core.proofs.Scan.{IsUnusedAt-op, IsUnusedAt-in, IsUnusedAt-told, true_unless}

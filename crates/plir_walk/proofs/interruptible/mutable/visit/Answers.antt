@@ -1,4 +1,4 @@
-use Rattle.std.proofs.Common.{rules, ◌≡◌, true, refl, sym, subst}
+use Rattle.std.proofs.Common.{rules, ◌≡◌, true, false, refl, sym, subst, ◌∙◌}
 use Rattle.plir_walk.specs.Calls.{CallsBack}
 use Rattle.plir_walk.specs.Step.{IsVisited}
 use Rattle.plir_walk.proofs.Climbs.{not-below-itself}
@@ -25,8 +25,9 @@ returns-clause-visited g c =
     subst (λ d. IsVisited look post e st n d a c.callback-answer.new.arg2 c.callback-answer.new.arg3)
     (sym due) (made, c.forest.ensures)
 
-pub returns-clause-live : goal.returns-clause-live
-returns-clause-live g c =
+-- the node is live still, so the program goes on
+pub prove-unreachable-requires : goal.prove-unreachable-requires
+prove-unreachable-requires g c =
     let look = g.C.NodeLinks.look in
     let e = c.args.ctx.now in
     let st = c.args.state.now in
@@ -45,4 +46,6 @@ returns-clause-live g c =
     let stands = c.requires.stands in
     let lawful = c.requires.lawful e st n a c.callback-answer.new.arg2 c.callback-answer.new.arg3
     (record { stands = stands; leaves = c.forest.ensures; made = made }) in
-    (lawful.kept n stands.live (not-below-itself (look e) stands.forest n)).0
+    let live = (lawful.kept n stands.live (not-below-itself (look e) stands.forest n)).0 in
+    let not : false ≡ true = sym c.if-prove.true ∙ c.is_node_live-live.ensures ∙ live in
+    cc not

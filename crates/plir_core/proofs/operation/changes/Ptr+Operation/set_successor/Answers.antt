@@ -1,4 +1,4 @@
-use Rattle.std.proofs.Common.{◌∙◌, refl, ap, sym, Some}
+use Rattle.std.proofs.Common.{◌∙◌, ap, sym, Some}
 use Rattle.plir_core.specs.Contents.{OpView}
 use Rattle.plir_core.proofs.operation.changes.Ptr+Operation.set_successor.Goals as goal
 use Rattle.plir_core.proofs.Counted.{Counts-redirected, successor_there}

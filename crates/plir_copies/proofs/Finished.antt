@@ -1,0 +1,93 @@
+-- What is left where a tree has been copied, and where that was refused.
+use Rattle.std.proofs.Common.{◌≡◌, List, [], ◌∷◌, refl, sym, ap, subst, inl, inr}
+use Rattle.std.proofs.lemmas.Option.{none-some}
+use Rattle.plir_store.specs.Members.{Has, Distinct}
+use Rattle.plir_core.specs.declared.ptr.IRNode.{IRNode}
+use Rattle.plir_core.specs.declared.ptr.IRNode.TheVariants.{Operation, Region, BasicBlock}
+use Rattle.plir_core.specs.ContextView.{ContextView, IsLive, IsAncestor, children}
+use Rattle.plir_core.specs.Forest.{look, IsForest}
+use Rattle.plir_core.specs.Grown.{Growth}
+use Rattle.plir_core.specs.Made.{IsMade}
+use Rattle.plir_core.specs.Measures.{IsMeasured}
+use Rattle.plir_copies.specs.declared.trees.Twin.{Twin}
+use Rattle.plir_copies.specs.Images.{Images, AreImagesLive, no_images, over}
+use Rattle.plir_copies.specs.Trees.{IsCopyOfTree}
+use Rattle.plir_copies.specs.Twins.{AreOfOneKind, CanStandAlone, HoldsAs, IsTwin, IsCopying, AreChanged, copies_of, with_twins}
+use Rattle.plir_copies.proofs.Become.{holds-copies}
+use Rattle.plir_copies.proofs.Below.{holds-now}
+use Rattle.plir_copies.proofs.Keeping.{images-keep}
+use Rattle.plir_copies.proofs.Mapped.{live-all, live-over}
+use Rattle.plir_copies.proofs.Whole.{IsWholeCopy, has-become, made-changed, tree-copied, whole-copy, copies_in}
+
+-- a copy of what can stand alone can stand alone
+pub stands-alone : (n c : IRNode) → AreOfOneKind n c → CanStandAlone n → CanStandAlone c
+stands-alone (Operation p) (Operation q) k a = tt
+stands-alone (BasicBlock p) (BasicBlock q) k a = tt
+stands-alone (Operation p) (Region q) k a = k
+stands-alone (Operation p) (BasicBlock q) k a = tt
+stands-alone (BasicBlock p) (Operation q) k a = tt
+stands-alone (BasicBlock p) (Region q) k a = k
+stands-alone (Region p) c k a = absurd a
+
+module _ {K A T : Type 0} (s t : ContextView K A T) (root copy : IRNode) where
+  -- the root alone has been copied
+  pub begun : Growth s.nodes → IsForest (look s) → IsMeasured s → IsMade s.nodes t.nodes copy → t.types ≡ s.types
+      → IsLive s root → HoldsAs s t root copy → children t copy ≡ []
+      → IsCopying s t root copy [] (record { node = root; copy = copy } ∷ [])
+  begun growth forest measured made types live holds leaf = record {
+    growth = growth;
+    forest = forest;
+    measured = measured;
+    made = made;
+    types = types;
+    first = inl refl;
+    nodes = (λ h. h, tt);
+    copies = (λ h. h, tt);
+    each = λ w h. elim h [
+      | inl e ↦ subst (IsTwin s t) e (record { live = live; copy_live = made.root; new = made.new; holds = holds })
+      | inr z ↦ absurd z
+    ];
+    below = λ w h. elim h [
+      | inl e ↦ subst (λ z. IsAncestor s root z.node) e (0, refl)
+      | inr z ↦ absurd z
+    ];
+    whole = λ w h. absurd h;
+    bare = λ w h. elim h [ inl e ↦ subst (λ z. children t z.copy ≡ []) e leaf | inr z ↦ absurd z ];
+    over = λ w h. elim h [ inl e ↦ inl (ap (λ z. z.node) (sym e)) | inr z ↦ absurd z ];
+  }
+
+  module _ (ws : List Twin) (h : IsCopying s t root copy ws []) where
+    w : IsWholeCopy s t root copy ws
+    w = whole-copy s t root copy ws h
+
+    pub node-live : (x : Twin) → Has ws x → IsLive t x.node
+    node-live x m = h.made.keeps.live x.node (w.each x m).live
+
+    pub copy-live : (x : Twin) → Has ws x → IsLive t x.copy
+    copy-live x m = (w.each x m).copy_live
+
+    pub holds-same : (x : Twin) → Has ws x → HoldsAs t t x.node x.copy
+    holds-same x m = holds-now s t h.made.keeps x.node x.copy (w.each x m).live (w.each x m).holds
+
+    pub copies-once : Distinct (copies_of ws)
+    copies-once = w.copies
+
+    -- what is put in place is live
+    pub all-live : (m n : Images) → n ≡ over (with_twins t no_images ws) m → AreImagesLive s m → AreImagesLive t n
+    all-live m n e l =
+        subst (AreImagesLive t) (sym e) (live-over t (with_twins t no_images ws) m
+        (live-all t ws no_images (record { values = λ v x i. absurd (none-some x i); blocks = λ b x i. absurd (none-some x i) })
+        copy-live holds-same) (images-keep s t m h.made.keeps l))
+
+    module _ (u : ContextView K A T) (m n : Images) (e : n ≡ over (with_twins t no_images ws) m)
+        (changed : AreChanged t u n (copies_of ws)) where
+      pub made-whole : IsMade s.nodes u.nodes copy
+      made-whole = made-changed s t root copy ws w u n changed
+
+      pub copied-whole : IsCopyOfTree s u root copy m n
+      copied-whole = record {
+        copies = copies_in ws;
+        top = has-become s t root copy ws w (record { node = root; copy = copy }) w.first;
+        tree = tree-copied s t root copy ws w u n changed;
+        mapped = holds-copies s t root copy ws w m n e;
+      }

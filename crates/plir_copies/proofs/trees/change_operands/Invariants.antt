@@ -1,0 +1,12 @@
+use Rattle.plir_core.specs.ContextView.{operands_of}
+use Rattle.plir_core.specs.WellFormed.{IsWellFormed}
+use Rattle.plir_core.specs.Held.{IsOpEdited}
+use Rattle.plir_copies.specs.Images.{images}
+use Rattle.plir_copies.proofs.Edits.{half_set}
+use Rattle.plir_copies.proofs.trees.change_operands.Given as goal
+
+abbrev pub invariant-loop-i : goal.invariant-loop-i
+invariant-loop-i g l = record {
+  edited : IsOpEdited l.fn.ctx l.ctx l.op (half_set (images l.map) (operands_of l.fn.ctx l.op) l.i);
+  formed : IsWellFormed g.D.OpSet.attr_handles l.ctx;
+}

@@ -1,0 +1,12 @@
+use Rattle.plir_core.specs.ContextView.{successors_of}
+use Rattle.plir_core.specs.WellFormed.{IsWellFormed}
+use Rattle.plir_core.specs.Held.{IsOpEdited}
+use Rattle.plir_copies.specs.Images.{images}
+use Rattle.plir_copies.proofs.Changing.{half_put}
+use Rattle.plir_copies.proofs.trees.change_successors.Given as goal
+
+abbrev pub invariant-loop-i : goal.invariant-loop-i
+invariant-loop-i g l = record {
+  edited : IsOpEdited l.fn.ctx l.ctx l.op (half_put (images l.map) (successors_of l.fn.ctx l.op) l.i);
+  formed : IsWellFormed g.D.OpSet.attr_handles l.ctx;
+}

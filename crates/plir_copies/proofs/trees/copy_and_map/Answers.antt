@@ -1,0 +1,86 @@
+use Rattle.std.proofs.Common.{◌∙◌, ◌++◌, ◌∷◌, [], ap, subst, sym}
+use Rattle.plir_store.specs.Members.{Has}
+use Rattle.plir_copies.specs.Images.{images, no_images, over}
+use Rattle.plir_copies.specs.Twins.{IsCopying, with_twins}
+use Rattle.plir_copies.proofs.Finished.{copy-live, holds-same, node-live}
+use Rattle.plir_copies.proofs.trees.copy_and_map.Goals as goal
+
+pub copy_below-requires : goal.copy_below-requires
+copy_below-requires g c = (
+  c.requires.0,
+  c.args.root.node,
+  c.args.root.copy,
+  subst (IsCopying c.requires.0 c.args.ctx.now c.args.root.node c.args.root.copy []) (sym (c.in_ok-push.ensures.items ∙ ap (λ l. l ++ c.args.root ∷ []) c.new-twins.ensures.items))
+      c.requires.1,
+)
+
+pub map_twins-requires-clause-live : goal.map_twins-requires-clause-live
+map_twins-requires-clause-live g c =
+    let s = c.requires.0 in
+    let node = c.args.root.node in
+    let copy = c.args.root.copy in
+    let begun = subst (IsCopying s c.args.ctx.now node copy []) (sym (c.in_ok-push.ensures.items ∙ ap (λ l. l ++ c.args.root ∷ []) c.new-twins.ensures.items)) c.requires.1 in
+    λ w m. node-live s c.copy_below.new.ctx node copy c.copy_below.new.twins.items
+    (c.in_ok-copy_below.ensures.ok s node copy begun) w (subst (λ l. Has l w) c.as_slice.ensures.value m)
+
+pub map_twins-requires-clause-copy_live : goal.map_twins-requires-clause-copy_live
+map_twins-requires-clause-copy_live g c =
+    let s = c.requires.0 in
+    let node = c.args.root.node in
+    let copy = c.args.root.copy in
+    let begun = subst (IsCopying s c.args.ctx.now node copy []) (sym (c.in_ok-push.ensures.items ∙ ap (λ l. l ++ c.args.root ∷ []) c.new-twins.ensures.items)) c.requires.1 in
+    λ w m. copy-live s c.copy_below.new.ctx node copy c.copy_below.new.twins.items
+    (c.in_ok-copy_below.ensures.ok s node copy begun) w (subst (λ l. Has l w) c.as_slice.ensures.value m)
+
+pub map_twins-requires-clause-same : goal.map_twins-requires-clause-same
+map_twins-requires-clause-same g c =
+    let s = c.requires.0 in
+    let node = c.args.root.node in
+    let copy = c.args.root.copy in
+    let begun = subst (IsCopying s c.args.ctx.now node copy []) (sym (c.in_ok-push.ensures.items ∙ ap (λ l. l ++ c.args.root ∷ []) c.new-twins.ensures.items)) c.requires.1 in
+    λ w m. holds-same s c.copy_below.new.ctx node copy c.copy_below.new.twins.items
+    (c.in_ok-copy_below.ensures.ok s node copy begun) w (subst (λ l. Has l w) c.as_slice.ensures.value m)
+
+pub returns-clause-ok : goal.returns-clause-ok
+returns-clause-ok g c =
+    let node = c.args.root.node in
+    let copy = c.args.root.copy in
+    λ s h. c.in_ok-copy_below.ensures.ok s node copy (subst (IsCopying s c.args.ctx.now node copy [])
+    (sym (c.in_ok-push.ensures.items ∙ ap (λ l. l ++ c.args.root ∷ []) c.new-twins.ensures.items)) h)
+
+pub returns-clause-mapped : goal.returns-clause-mapped
+returns-clause-mapped g c =
+    let u = c.copy_below.new.ctx in
+    c.in_ok-extend.ensures.ok ∙ ap (λ z. over z (images c.args.map.now)) (c.in_ok-map_twins.ensures
+    ∙ ap (λ m. with_twins u m c.as_slice.result.now) c.new-images.ensures ∙ ap (with_twins u no_images) c.as_slice.ensures.value)
+
+pub returns-clause-made : goal.returns-clause-made
+returns-clause-made g c =
+    let node = c.args.root.node in
+    let copy = c.args.root.copy in
+    λ s h. c.in_ok-copy_below.ensures.made s node copy (subst (IsCopying s c.args.ctx.now node copy [])
+    (sym (c.in_ok-push.ensures.items ∙ ap (λ l. l ++ c.args.root ∷ []) c.new-twins.ensures.items)) h)
+
+pub returns-in_err-push-clause-made : goal.returns-in_err-push-clause-made
+returns-in_err-push-clause-made g c = λ s h. h.made
+
+pub returns-in_err-copy_below-clause-made : goal.returns-in_err-copy_below-clause-made
+returns-in_err-copy_below-clause-made g c =
+    let node = c.args.root.node in
+    let copy = c.args.root.copy in
+    λ s h. c.in_err-copy_below.ensures.made s node copy (subst (IsCopying s c.args.ctx.now node copy [])
+    (sym (c.in_ok-push.ensures.items ∙ ap (λ l. l ++ c.args.root ∷ []) c.new-twins.ensures.items)) h)
+
+pub returns-in_err-map_twins-clause-made : goal.returns-in_err-map_twins-clause-made
+returns-in_err-map_twins-clause-made g c =
+    let node = c.args.root.node in
+    let copy = c.args.root.copy in
+    λ s h. c.in_ok-copy_below.ensures.made s node copy (subst (IsCopying s c.args.ctx.now node copy [])
+    (sym (c.in_ok-push.ensures.items ∙ ap (λ l. l ++ c.args.root ∷ []) c.new-twins.ensures.items)) h)
+
+pub returns-in_err-extend-clause-made : goal.returns-in_err-extend-clause-made
+returns-in_err-extend-clause-made g c =
+    let node = c.args.root.node in
+    let copy = c.args.root.copy in
+    λ s h. c.in_ok-copy_below.ensures.made s node copy (subst (IsCopying s c.args.ctx.now node copy [])
+    (sym (c.in_ok-push.ensures.items ∙ ap (λ l. l ++ c.args.root ∷ []) c.new-twins.ensures.items)) h)

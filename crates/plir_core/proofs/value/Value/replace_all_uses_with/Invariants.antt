@@ -1,7 +1,0 @@
-use Rattle.std.proofs.Common.{◌≡◌}
-use Rattle.plir_core.specs.ContextView.{IsValueLive}
-use Rattle.plir_core.proofs.ReplacedUses.{replaced_to}
-use Rattle.plir_core.proofs.value.Value.replace_all_uses_with.Given as goal
-
-abbrev pub invariant-loop-slot : goal.invariant-loop-slot
-invariant-loop-slot g l = (l.ctx ≡ replaced_to l.self l.other l.fn.ctx l.slot) × IsValueLive l.ctx l.other

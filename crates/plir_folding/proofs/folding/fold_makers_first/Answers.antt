@@ -1,0 +1,63 @@
+use Rattle.std.proofs.Common.{subst}
+use Rattle.plir_core.specs.declared.ptr.IRNode.TheVariants.{Operation}
+use Rattle.plir_core.specs.Forest.{look, IsBelow}
+use Rattle.plir_folding.specs.Worklists.{op_of}
+use Rattle.plir_folding.proofs.Below.{below-none, step-folded, step-live}
+use Rattle.plir_folding.proofs.Worklists.{of-left, of-prepared, of-taken}
+use Rattle.plir_folding.proofs.folding.fold_makers_first.Goals as goal
+
+pub returns-in_err-list-clause-below : goal.returns-in_err-list-clause-below
+returns-in_err-list-clause-below g c =
+    below-none g.D.FoldSet.fold g.D.OpSet.attr_handles c.lawful_changes.ensures c.args.ctx.now (Operation c.args.root)
+    c.stands.ensures.whole
+
+pub steps-init : goal.steps-init
+steps-init g c = (
+  below-none g.D.FoldSet.fold g.D.OpSet.attr_handles c.lawful_changes.ensures c.args.ctx.now (Operation c.args.root)
+      c.stands.ensures.whole,
+  c.in_ok-list.ensures,
+)
+
+pub prepare-requires : goal.prepare-requires
+prepare-requires g c =
+    let below =
+    of-taken _ c.steps.list c.take.new.self c.in-Some.step c.in-Some.ensures.listed c.in-Some.ensures.waiting
+    c.steps.invariant.1 in
+    step-live c.lawful_changes.ensures c.stands.ensures.whole c.steps.invariant.0 c.in-Prepare.op
+    (subst (λ z. IsBelow (look c.args.ctx.now) (Operation c.args.root) (Operation (op_of z))) c.in-Prepare.is below)
+
+pub steps-preserved-in-Continue-branch-2 : goal.steps-preserved-in-Continue-branch-2
+steps-preserved-in-Continue-branch-2 g c =
+    let left =
+    of-left _ c.steps.list c.take.new.self c.in-Some.step c.in-Some.ensures.listed c.in-Some.ensures.waiting
+    c.steps.invariant.1 in
+    (c.steps.invariant.0, of-prepared _ c.take.new.self c.prepare.new.self left c.in_ok-prepare-in-Prepare.ensures)
+
+pub fold_there-requires : goal.fold_there-requires
+fold_there-requires g c =
+    let below =
+    of-taken _ c.steps.list c.take.new.self c.in-Some.step c.in-Some.ensures.listed c.in-Some.ensures.waiting
+    c.steps.invariant.1 in
+    step-live c.lawful_changes.ensures c.stands.ensures.whole c.steps.invariant.0 c.in-Fold.op
+    (subst (λ z. IsBelow (look c.args.ctx.now) (Operation c.args.root) (Operation (op_of z))) c.in-Fold.is below)
+
+pub steps-preserved : goal.steps-preserved
+steps-preserved g c =
+    let below =
+    of-taken _ c.steps.list c.take.new.self c.in-Some.step c.in-Some.ensures.listed c.in-Some.ensures.waiting
+    c.steps.invariant.1 in
+    let left =
+    of-left _ c.steps.list c.take.new.self c.in-Some.step c.in-Some.ensures.listed c.in-Some.ensures.waiting
+    c.steps.invariant.1 in (
+      step-folded c.lawful_changes.ensures c.stands.ensures.whole c.steps.invariant.0 c.in-Fold.op
+          (subst (λ z. IsBelow (look c.args.ctx.now) (Operation c.args.root) (Operation (op_of z))) c.in-Fold.is below) c.requires c.in_ok-fold_there-in-Fold.ensures.below,
+      left,
+    )
+
+pub returns-in_err-fold_there-in-Fold-clause-below : goal.returns-in_err-fold_there-in-Fold-clause-below
+returns-in_err-fold_there-in-Fold-clause-below g c =
+    let below =
+    of-taken _ c.steps.list c.take.new.self c.in-Some.step c.in-Some.ensures.listed c.in-Some.ensures.waiting
+    c.steps.invariant.1 in
+    step-folded c.lawful_changes.ensures c.stands.ensures.whole c.steps.invariant.0 c.in-Fold.op
+    (subst (λ z. IsBelow (look c.args.ctx.now) (Operation c.args.root) (Operation (op_of z))) c.in-Fold.is below) c.requires c.in_err-fold_there-in-Fold.ensures.below

@@ -1,0 +1,1 @@
+print('x = builtin.constant <builtin.string "\ne\u0301\\q')

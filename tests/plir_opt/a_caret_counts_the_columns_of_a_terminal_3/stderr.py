@@ -1,0 +1,1 @@
+print("<stdin>:2:2: no escape\n\u0001\\q\n ^")

@@ -1,0 +1,1 @@
+print('x = builtin.constant <builtin.string "\n\u0001\\q')

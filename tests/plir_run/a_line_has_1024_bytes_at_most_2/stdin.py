@@ -1,0 +1,1 @@
+print("module " + "a" * 1017)

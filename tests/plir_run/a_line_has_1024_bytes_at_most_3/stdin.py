@@ -1,0 +1,1 @@
+print("module " + "a" * 1018, end="")

@@ -1,0 +1,1 @@
+print("module m\n" * 2_000 + "text", end="")
