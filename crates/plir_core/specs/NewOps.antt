@@ -23,8 +23,8 @@ module _ {K A T : Type 0} (s t : ContextView K A T) (v : OpView K A) (n : ℕ) w
     pub made : IsMade s.nodes t.nodes (Operation p)
     pub regions : HasNewRegions t.nodes (Operation p) n
 
-  -- From s to t such an operation was refused: no live node has changed, and the slots are as before, or as where it and
-  -- some of its regions were made and freed again.
+  -- From s to t such an operation was refused: no live node has changed, and the slots are as before, or as where it
+  -- and some of its regions were made and freed again.
   pub record IsOpUnmade : Type 0 where
     pub same : SameLive s t
     pub slots : IsUnmade s.nodes t.nodes v n

@@ -45,7 +45,8 @@ module _ {D K A T E : Type 0} (o : op_set.Ghosts D K A T E) (s : ContextView K A
   agree-still n e = subst (TablesAgree o s) (sym e) agrees
 
   -- they are cached for what is given out in t, where what was given out stays so
-  given-still : (t : ContextView K A T) → ((m : AnyNode) → given_out s m ≡ true → given_out t m ≡ true) → AreGivenOut t c
+  given-still : (t : ContextView K A T) → ((m : AnyNode) → given_out s m ≡ true → given_out t m ≡ true)
+      → AreGivenOut t c
   given-still t given p w is =
       let both = agrees.given p w is in (given (AnyNode.Operation p) both.0, given (AnyNode.Operation w.op) both.1)
 

@@ -64,8 +64,8 @@ fn text_of<D: OpSet>(alloc: Global, ctx: &Context<D>, op: Ptr<Operation>) -> Res
     Ok(print_op(alloc, ctx, op)?)
 }
 
-/// Builds the tree with what is dead, and sweeps it: how many nodes were live before and behind, and the text of what is
-/// left.
+/// Builds the tree with what is dead, and sweeps it: how many nodes were live before and behind, and the text of what
+/// is left.
 pub fn sweep_dead<D: EffectSet + HasBoth>(
     alloc: Global,
     ctx: &mut Context<D>,

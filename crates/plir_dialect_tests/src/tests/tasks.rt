@@ -1,5 +1,5 @@
-//! What is done with trees of operations of both crates. Each is generic in the set, and one function alone does it over
-//! the joined one, whose parts are all written out in a proof.
+//! What is done with trees of operations of both crates. Each is generic in the set, and one function alone does it
+//! over the joined one, whose parts are all written out in a proof.
 use super::kinds::HasBoth;
 use super::names::find_name;
 use super::passes::{fold_sum, sweep_dead};

@@ -40,8 +40,8 @@ fn verdicts<D: VerifySet>(
     Ok(again!(format!(in alloc; "{found}, then {left}")))
 }
 
-/// Builds the tree, and puts a wrong operation of each crate into it, one after another: what the verifier says of each,
-/// and of the tree without it.
+/// Builds the tree, and puts a wrong operation of each crate into it, one after another: what the verifier says of
+/// each, and of the tree without it.
 pub fn verify_wrong<D: VerifySet + HasBoth>(
     alloc: Global,
     ctx: &mut Context<D>,
