@@ -237,7 +237,7 @@ fn put_ends_under<D: EffectSet>(
     first_child_is_front(ctx, region);
     let mut place: usize = 0;
     let mut at = region.first_child(ctx);
-    'blocks: while let Some(block) = at {
+    'parts: while let Some(block) = at {
         child_at(ctx, region, block, place);
         put_ends_in(ctx, block, reached)?;
         at = block.next_sibling(ctx);
