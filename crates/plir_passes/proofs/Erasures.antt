@@ -1,8 +1,11 @@
 -- Operations are erased one after another, each with all below it.
-use Rattle.std.proofs.Common.{◌≡◌, ℕ, zero, suc, Bool, true, false, List, get_or, All, Option, Some, None, ◌⊎◌, inl, inr}
+use Rattle.std.proofs.Common.{◌≡◌, ◌+◌, ℕ, zero, suc, Bool, true, false, List, [], ◌∷◌, ◌++◌, take, get_or, All, Option, Some, None, ◌⊎◌, inl, inr}
 use Rattle.std.proofs.Common.{refl, sym, ap, subst, ◌∙◌}
+use Rattle.std.specs.Prelude.{slice_get}
 use Rattle.std.proofs.lemmas.Bool.{false_from_ne_true}
 use Rattle.plir_store.specs.FilterLaws.{not-both}
+use Rattle.plir_store.specs.Members.{Has}
+use Rattle.plir_store.specs.MemberLaws.{Has-append_cases, Has-append_left, Has-append_right}
 use Rattle.plir_core.specs.declared.ptr.Ptr.{Ptr}
 use Rattle.plir_core.specs.declared.ptr.Operation.{Operation as OperationKind}
 use Rattle.plir_core.specs.declared.ptr.IRNode.{IRNode}
@@ -16,7 +19,10 @@ use Rattle.plir_core.specs.Unused.{IsUnusedOutside}
 use Rattle.plir_walk.specs.Thinned.{IsThinned}
 use Rattle.plir_walk.specs.ThinnedLaws.{thinned-both, thinned-none}
 use Rattle.plir_walk.specs.NodeLaws.{climb-nothing}
+use Rattle.plir_passes.specs.declared.marks.Marks.{Marks}
 use Rattle.plir_passes.specs.Cutting.{AreErased}
+use Rattle.plir_passes.specs.Marked.{is_among, ops_of}
+use Rattle.plir_passes.proofs.Marking.{take-one}
 
 all-still : {X : Type 0} (P Q : X → Type 0) → ((x : X) → P x → Q x) → (xs : List X) → All P xs → All Q xs
 all-still P Q f xs h = λ k d less. f (get_or xs k d) (h k d less)
@@ -129,3 +135,43 @@ module _ {K A T : Type 0} where
     thinned = h.thinned;
     forest = h.forest;
   }
+
+-- an operation is one of some, and not among those that are reached
+abbrev pub IsLooseIn : List (Ptr OperationKind) → Marks → Ptr OperationKind → Type 0
+IsLooseIn ps reached q = Has ps q × (is_among (ops_of reached) q ≡ false)
+
+-- the loop over all operations
+module _ {K A T : Type 0} (ops : List (Ptr OperationKind)) (reached : Marks) (r s : ContextView K A T) (i : ℕ)
+    (p : Ptr OperationKind) (at : slice_get ops i ≡ Some p) where
+  last-in : (q : Ptr OperationKind) → Has (take (i + 1) ops) q → Has (take i ops) q ⊎ (q ≡ p)
+  last-in q has = elim (Has-append_cases (take i ops) (p ∷ []) q (subst (λ z. Has z q) (take-one ops i p at) has)) [
+    | inl old ↦ inl old
+    | inr new ↦ elim new [ inl same ↦ inr (sym same) | inr none ↦ absurd none ]
+  ]
+
+  in-last : (q : Ptr OperationKind) → Has (take i ops) q ⊎ (q ≡ p) → Has (take (i + 1) ops) q
+  in-last q (inl old) = subst (λ z. Has z q) (sym (take-one ops i p at)) (Has-append_left (take i ops) (p ∷ []) q old)
+  in-last q (inr same) =
+      subst (λ z. Has z q) (sym (take-one ops i p at)) (Has-append_right (take i ops) (p ∷ []) q (inl (sym same)))
+
+  -- it is not reached, and goes
+  pub erase-next : (t : ContextView K A T) → is_among (ops_of reached) p ≡ false →
+      AreErased (IsLooseIn (take i ops) reached) r s → AreErased (λ q. q ≡ p) s t →
+      AreErased (IsLooseIn (take (i + 1) ops) reached) r t
+  erase-next t off h k =
+      erased-both r s t
+      (λ q f. elim (last-in q f.0) [ inl old ↦ inl (old, f.1) | inr same ↦ inr same ])
+      (λ q f. (in-last q (inl f.0), f.1))
+      (λ q same. (in-last q (inr same), subst (λ z. is_among (ops_of reached) z ≡ false) (sym same) off)) h k
+
+  -- it is reached, and stays
+  pub erase-kept : is_among (ops_of reached) p ≡ true → AreErased (IsLooseIn (take i ops) reached) r s →
+      AreErased (IsLooseIn (take (i + 1) ops) reached) r s
+  erase-kept on h =
+      erased-as r s
+      (λ q f. elim (last-in q f.0) [
+        | inl old ↦ (old, f.1)
+        | inr same ↦ absurd (not-both (is_among (ops_of reached) q)
+            (subst (λ z. is_among (ops_of reached) z ≡ true) (sym same) on) f.1)
+      ])
+      (λ q f. (in-last q (inl f.0), f.1)) h

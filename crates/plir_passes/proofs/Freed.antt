@@ -35,37 +35,34 @@ module _ {C : Type 0} (t : Table C) (i : ℕ) (v : C) (some : IsSome (content_at
     | inr n ↦ ap (λ (z : Cell C). z.version) (cell_at-with_content_other t i v j n)
   ]
 
+  -- the slots xs, of which j is freed under the version n
+  abbrev FreedIn : List (Cell C) → ℕ → ℕ → Table C
+  FreedIn xs j n = record {
+    slots = set xs j (record { version = n; content = None });
+    free = cond (n == MAX_VERSION) t.free (j ∷ t.free);
+  }
+
+  abbrev filled : List (Cell C)
+  filled = set t.slots i (record { version = version_at t i; content = Some v })
+
   -- the slot is freed
   freed-here : without_slot (with_content t i v) i ≡ without_slot t i
   freed-here =
-      ap (W (set t.slots i (record { version = version_at t i; content = Some v }))) (version-same i)
+      ap (FreedIn filled i) (version-same i)
       ∙ ap (λ (xs : List (Cell C)). record { slots = xs; free = cond (version_at t i == MAX_VERSION) t.free (i ∷ t.free) })
       (set-set t.slots i (record { version = version_at t i; content = Some v })
       (record { version = version_at t i; content = None }))
-    where
-      abbrev W : List (Cell C) → ℕ → Table C
-      W xs n = record {
-        slots = set xs i (record { version = n; content = None });
-        free = cond (n == MAX_VERSION) t.free (i ∷ t.free);
-      }
 
   -- another one is
   freed-other : (j : ℕ) → (j ≡ i → ⊥) → without_slot (with_content t i v) j ≡ with_content (without_slot t j) i v
   freed-other j n =
-      ap Z (version-same j)
+      ap (FreedIn filled j) (version-same j)
       ∙ ap (λ (xs : List (Cell C)). record { slots = xs; free = cond (version_at t j == MAX_VERSION) t.free (j ∷ t.free) })
       (set_comm t.slots i j (record { version = version_at t i; content = Some v })
       (record { version = version_at t j; content = None }) (λ e. n (sym e))
       ∙ ap (λ k. set (set t.slots j (record { version = version_at t j; content = None })) i
       (record { version = k; content = Some v }))
       (sym (ap (λ (z : Cell C). z.version) (cell_at-without_slot_other t j i (λ e. n (sym e))))))
-    where
-      abbrev Z : ℕ → Table C
-      Z k = record {
-        slots = set (set t.slots i (record { version = version_at t i; content = Some v })) j
-            (record { version = k; content = None });
-        free = cond (k == MAX_VERSION) t.free (j ∷ t.free);
-      }
 
 -- an operation that is no longer live where nodes were freed was one of them, or in the slot of one
 module _ {O B : Type 0} where
@@ -82,26 +79,24 @@ module _ {O B : Type 0} where
   freed-slot (BasicBlock p ∷ ns) s q live gone = freed-slot ns (without_node s (BasicBlock p)) q live gone
 
 module _ {K A : Type 0} where
-  abbrev Held : Type 0
-  Held = Nodes (OpView K A) (BlockView A)
+  -- the operation p is freed, and then others
+  abbrev then : List IRNode → Nodes (OpView K A) (BlockView A) → Ptr OperationKind → Table (OpView K A) →
+      Nodes (OpView K A) (BlockView A)
+  then ns s p o = without_nodes (record s { ops = o; ops_in_block = without_child s.ops_in_block p.slot }) ns
 
   -- where a slot of operations is freed, it is the same what it held
-  pub freed-same : (ns : List IRNode) (s : Held) (i : ℕ) (v : OpView K A) → IsSome (content_at s.ops i) → HasSlot ns i →
+  pub freed-same : (ns : List IRNode) (s : Nodes (OpView K A) (BlockView A)) (i : ℕ) (v : OpView K A) → IsSome (content_at s.ops i) → HasSlot ns i →
       without_nodes (record s { ops = with_content s.ops i v }) ns ≡ without_nodes s ns
   freed-same [] s i v some has = absurd has
   freed-same (Operation p ∷ ns) s i v some has = elim (cases_eq p.slot i) [
-    | inl e ↦ ap then (subst (λ j. without_slot (with_content s.ops i v) j ≡ without_slot s.ops j) (sym e)
+    | inl e ↦ ap (then ns s p) (subst (λ j. without_slot (with_content s.ops i v) j ≡ without_slot s.ops j) (sym e)
         (freed-here s.ops i v some))
-    | inr n ↦ ap then (freed-other s.ops i v some p.slot n)
+    | inr n ↦ ap (then ns s p) (freed-other s.ops i v some p.slot n)
         ∙ freed-same ns (without_node s (Operation p)) i v
         (subst IsSome (sym (ap (λ (c : Cell (OpView K A)). c.content)
         (cell_at-without_slot_other s.ops p.slot i (λ e. n (sym e))))) some)
         (elim has [ inl e ↦ absurd (n e) | inr more ↦ more ])
   ]
-    where
-      abbrev then : Table (OpView K A) → Held
-      then o =
-          without_nodes (record s { ops = o; ops_in_block = without_child s.ops_in_block p.slot }) ns
   freed-same (Region p ∷ ns) s i v some has = freed-same ns (without_node s (Region p)) i v some has
   freed-same (BasicBlock p ∷ ns) s i v some has = freed-same ns (without_node s (BasicBlock p)) i v some has
 

@@ -168,10 +168,10 @@ module _ {K A T : Type 0} (effect ends : K → Bool) (s : ContextView K A T) (r 
         -- so nothing uses it
         pub cut-unused : IsUnusedOutside m (Operation p)
         cut-unused u l out = elim (cases_Bool (is_among (ops_of marked) u)) [
-          | inl yes ↦ reached-uses u ((right u).0 yes)
-              (cut.ops u (before-live (Operation u) l) (λ x. not-both (is_among (ops_of marked) u) yes x.1))
-          | inr no ↦ elim (cases_Bool (is_among (ops_of under) u)) [
-            | inl here ↦ cut-uses p u (among-has (ops_of under) u here, no) out
+          | inl on ↦ reached-uses u ((right u).0 on)
+              (cut.ops u (before-live (Operation u) l) (λ x. not-both (is_among (ops_of marked) u) on x.1))
+          | inr off ↦ elim (cases_Bool (is_among (ops_of under) u)) [
+            | inl here ↦ cut-uses p u (among-has (ops_of under) u here, off) out
             | inr away ↦ outer-uses u
                 (alone u (before-live (Operation u) l)
                 (λ a. not-both (is_among (ops_of under) u) (has-among (ops_of under) u ((is u).1 a)) away))
@@ -186,15 +186,15 @@ module _ {K A T : Type 0} (effect ends : K → Bool) (s : ContextView K A T) (r 
 
         stays : (n : IRNode) → IsLive s n →
             ((p : Ptr OperationKind) → IsUnreached effect ends s r p → IsAncestor s (Operation p) n → ⊥) → IsLive t n
-        stays n l no =
-            e.left n (cut.keeps.live n ∙ l) (λ q d a. no q (loose-unreached q d) (before (Operation q) n a))
+        stays n l apart =
+            e.left n (cut.keeps.live n ∙ l) (λ q d a. apart q (loose-unreached q d) (before (Operation q) n a))
 
         pub all-left : IsReachedLeft effect ends s r t
         all-left = record {
           ops = λ p under. (
             λ l. elim (cases_Bool (is_among (ops_of marked) p)) [
-              | inl yes ↦ (right p).0 yes
-              | inr no ↦ absurd (not-both (is_live t (Operation p)) l (e.gone p ((is p).1 under, no)))
+              | inl on ↦ (right p).0 on
+              | inr off ↦ absurd (not-both (is_live t (Operation p)) l (e.gone p ((is p).1 under, off)))
             ],
             λ h. stays (Operation p) (under-live s w (Operation r) (Operation p) under live)
                 (λ q unreached above. unreached.1 (up-reached q p unreached.0 above h)),
@@ -205,31 +205,31 @@ module _ {K A T : Type 0} (effect ends : K → Bool) (s : ContextView K A T) (r 
 
         -- what is not below the root is left
         outside : (n : IRNode) → IsLive s n → (IsBelow (look s) (Operation r) n → ⊥) → IsLive t n
-        outside n l no =
+        outside n l apart =
             stays n l (λ p unreached above.
             (let f = below p unreached in
             let more : above.0 + suc f.0 ≡ suc (above.0 + f.0) = omega arith in
-            no (above.0 + f.0,
+            apart (above.0 + f.0,
             ap (λ k. climb (parent_of s) k (Some n)) (sym more)
             ∙ climb-on (parent_of s) above.0 (suc f.0) n (Operation p) (Some (Operation r)) above.1 f.1)))
 
         -- a child of a node that is not below the root, and not the root, is not below the root
         beside : (n x : IRNode) → n ≢ Operation r → (IsBelow (look s) (Operation r) n → ⊥) → Has (children s n) x →
             IsBelow (look s) (Operation r) x → ⊥
-        beside n x ne no has b = at b.0 (ap (climb (parent_of s) b.0) (sym (w.child_parent n x has)) ∙ b.1)
+        beside n x ne apart has b = at b.0 (ap (climb (parent_of s) b.0) (sym (w.child_parent n x has)) ∙ b.1)
           where
             at : (k : ℕ) → climb (parent_of s) k (Some n) ≡ Some (Operation r) → ⊥
             at zero f = ne (same_Some n (Operation r) f)
-            at (suc k) f = no (k, f)
+            at (suc k) f = apart (k, f)
 
         pub all-lawful : Lawful (look s) (Operation r) (look t)
         all-lawful = record {
-          kept = λ n l no. (
-            outside n l no,
-            thin.parents n (outside n l no),
-            λ ne. thin.children n (outside n l no)
+          kept = λ n l apart. (
+            outside n l apart,
+            thin.parents n (outside n l apart),
+            λ ne. thin.children n (outside n l apart)
                 ∙ filter-all (is_live t) (children s n)
-                (λ x has. outside x (w.child_live n x has) (beside n x ne no has)),
+                (λ x has. outside x (w.child_live n x has) (beside n x ne apart has)),
           );
           below = λ n b.
               (let f = first-step (parent_of t) b.0 n (Operation r) b.1 in
