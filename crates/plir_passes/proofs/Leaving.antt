@@ -46,7 +46,7 @@ module _ {K A T : Type 0} (effect ends : K → Bool) (s : ContextView K A T) (r 
   needed : (p q : Ptr OperationKind) → reached p → IsUnder s r q → Needs ends s p q → reached q
   needed p q h under need = (suc h.0, (p, h.1, (under, need)))
 
-  root-reached : reached r
+  pub root-reached : reached r
   root-reached = (zero, ((zero, refl), inl refl))
 
   -- what stands above a reached operation, and not above the root, is reached

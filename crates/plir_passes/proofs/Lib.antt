@@ -20,3 +20,5 @@ pub mod Leaving
 pub mod Cuts
 pub mod Ending
 pub mod Needing
+pub mod Remaining
+pub mod NoneDead

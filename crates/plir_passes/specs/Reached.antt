@@ -87,9 +87,13 @@ module _ {K A T : Type 0} (effect ends : K → Bool) (s : ContextView K A T) (r 
   abbrev pub IsReached : Ptr OperationKind → Type 0
   IsReached q = IsReachedFrom StaysItself NeedsUnder q
 
-  -- a dead operation is the root or stands below it, and is not reached
+  -- an operation is the root or stands below it, and is not reached
   abbrev pub IsUnreached : Ptr OperationKind → Type 0
   IsUnreached q = IsUnder s r q × (IsReached q → ⊥)
+
+  -- each operation at or below the root is reached
+  abbrev pub AreAllReached : Type 0
+  AreAllReached = (q : Ptr OperationKind) → IsUnder s r q → IsReached q
 
   -- From s to t, of the operations at or below the root exactly those are left that are reached, and each node is
   -- left that stands at or below none that is not. What is left stands where it stood, in its order, and holds what

@@ -7,8 +7,9 @@ ghost use Rattle.plir_core.specs.Forest.{look};
 ghost use Rattle.plir_core.specs.Unused.{IsUnusedOutside};
 ghost use Rattle.plir_walk.specs.Lawful.{Lawful};
 ghost use Rattle.plir_passes.specs.Cutting.{AreErased, IsCut, IsLoose, UsesNothing};
+ghost use Rattle.plir_passes.specs.Dead.{HasNoDead};
 ghost use Rattle.plir_passes.specs.Marked.{IsWhole, is_among, ops_of};
-ghost use Rattle.plir_passes.specs.Reached.{IsReachedLeft};
+ghost use Rattle.plir_passes.specs.Reached.{AreAllReached, IsReachedLeft};
 
 use crate::effects::EffectSet;
 use crate::marks::Marks;
@@ -113,20 +114,21 @@ fn erase_all<D: EffectSet>(ctx: &mut Context<D>, under: &Marks, reached: &Marks)
     }
 }
 
-/// Erases the operations at or below an operation that are not reached from it. Reached is the root; what does something
-/// besides its results; what an operand of a reached operation comes from, and the operation whose block is a successor
-/// of one; the operation that a reached one stands in; and what ends a block of a reached one. So operations with
-/// regions go in which nothing has an effect, and operations that use one another alone, also in a circle. Nothing
-/// outside may use a value or a block of the root's tree (`IRNode::is_unused_outside`). All else stays as it was, in
-/// its order. Operations that stand in one that goes are freed before it; else those go first that stand first.
+/// Erases what is not reached from an operation, of the operations below it, each with all that stands below that.
+/// Reached is the operation itself, and each below it that does something besides its results; and of a reached one all
+/// that it needs: what its operands come from, the operations whose blocks are its successors, the one that it stands
+/// in, and what ends its blocks. So operations go in whose regions nothing has an effect, and operations that use one
+/// another alone, also in a circle. All else stays as it was, in its order. In which order nodes are freed is left open,
+/// and so is which free slot is used next.
 ///
-/// Two walks' worth of looks tell what is reached: each operation is looked at once. What goes is first let go of what
-/// it uses, so that no order of erasure is asked for.
+/// Nothing outside may use a value or a block of the operation's tree, as `IRNode::is_unused_outside` tells. One walk
+/// lists what stands below the operation, and each operation that is reached is looked at once. What goes lets go of
+/// its operands and successors first, so that nothing has to be asked about uses.
 ///
 /// # Errors
 ///
-/// [`Memory`] where there is none for the lists of what stands below the root and of what is reached; then nothing has
-/// changed.
+/// [`Memory`] where there is none for the lists of what stands below the operation and of what is reached; then nothing
+/// has changed.
 pub fn eliminate_unreached_code<D: EffectSet>(
     alloc: Global,
     ctx: &mut Context<D>,
@@ -135,6 +137,8 @@ pub fn eliminate_unreached_code<D: EffectSet>(
     requires live { IsLive ctx.old (AnyNode.Operation root) }
     requires unused { IsUnusedOutside ctx.old (AnyNode.Operation root) }
     ensures left { OnOk result (IsReachedLeft D.has_effect D.is_terminator ctx.old root ctx.new) }
+    ensures clean { OnOk result (AreAllReached D.has_effect D.is_terminator ctx.new root) }
+    ensures none_dead { OnOk result (HasNoDead D.has_effect D.is_terminator ctx.new (AnyNode.Operation root)) }
     ensures lawful { Lawful (look ctx.old) (AnyNode.Operation root) (look ctx.new) }
     ensures err { OnErr result (ctx.new ≡ ctx.old) }
 {
@@ -144,5 +148,6 @@ pub fn eliminate_unreached_code<D: EffectSet>(
     let reached = reached_ops(alloc, ctx, root, &under)?;
     cut_all(ctx, &under, &reached);
     erase_all(ctx, &under, &reached);
+    ctx.stands();
     Ok(())
 }

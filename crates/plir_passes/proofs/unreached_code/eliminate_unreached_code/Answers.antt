@@ -1,5 +1,8 @@
+use Rattle.std.proofs.Common.{inl, refl, zero}
 use Rattle.plir_core.specs.declared.ptr.IRNode.TheVariants.{Operation}
 use Rattle.plir_passes.proofs.Leaving.{all-lawful, all-left, cut-unused, loose-in-block, loose-live}
+use Rattle.plir_passes.proofs.NoneDead.{none-dead}
+use Rattle.plir_passes.proofs.Remaining.{all-reached}
 use Rattle.plir_passes.proofs.unreached_code.eliminate_unreached_code.Goals as goal
 
 pub returns-in_err-under-clause-lawful : goal.returns-in_err-under-clause-lawful
@@ -40,3 +43,31 @@ returns-clause-lawful g c =
     c.stands.ensures.standing.forest c.requires.live c.requires.unused c.in_ok-under.under c.in_ok-reached.reached
     c.in_ok-under.ensures.under c.in_ok-reached.ensures.reached c.cut_all.new.ctx c.cut_all.ensures.cut
     c.cut_all.ensures.none c.erase_all.new.ctx c.erase_all.ensures
+
+pub returns-clause-clean : goal.returns-clause-clean
+returns-clause-clean g c =
+    let effect = g.D.EffectSet.has_effect in
+    let ends = g.D.OpSet.is_terminator in
+    let s = c.args.ctx.now in
+    let root = c.args.root in
+    let forest = c.stands.ensures.standing.forest in
+    let left = all-left effect ends s root forest c.requires.live c.requires.unused c.in_ok-under.under
+    c.in_ok-reached.reached c.in_ok-under.ensures.under c.in_ok-reached.ensures.reached c.cut_all.new.ctx
+    c.cut_all.ensures.cut c.cut_all.ensures.none c.erase_all.new.ctx c.erase_all.ensures in
+    all-reached effect ends s root forest c.requires.live c.requires.unused c.erase_all.new.ctx
+    c.erase_all.ensures.forest left
+
+pub returns-clause-none_dead : goal.returns-clause-none_dead
+returns-clause-none_dead g c =
+    let effect = g.D.EffectSet.has_effect in
+    let ends = g.D.OpSet.is_terminator in
+    let s = c.args.ctx.now in
+    let root = c.args.root in
+    let t = c.erase_all.new.ctx in
+    let forest = c.stands.ensures.standing.forest in
+    let left = all-left effect ends s root forest c.requires.live c.requires.unused c.in_ok-under.under
+    c.in_ok-reached.reached c.in_ok-under.ensures.under c.in_ok-reached.ensures.reached c.cut_all.new.ctx
+    c.cut_all.ensures.cut c.cut_all.ensures.none t c.erase_all.ensures in
+    let all = all-reached effect ends s root forest c.requires.live c.requires.unused t c.erase_all.ensures.forest left in
+    none-dead t c.stands-2.ensures.standing effect ends root
+    ((left.ops root (zero, refl)).1 (zero, ((zero, refl), inl refl))) all
