@@ -1,5 +1,5 @@
 -- How far the loops have come that let operations go of what they use.
-use Rattle.std.proofs.Common.{◌≡◌, ◌<◌, ◌+◌, ℕ, arith, true, false, drop, List, [], ◌∷◌, ◌++◌, length, take, Option, Some, None, ◌⊎◌}
+use Rattle.std.proofs.Common.{◌≡◌, ◌<◌, ◌+◌, ℕ, arith, true, false, drop, List, [], ◌∷◌, length, take, Option, Some, None, ◌⊎◌}
 use Rattle.std.proofs.Common.{inl, inr, refl, sym, ap, subst, ◌∙◌}
 use Rattle.std.specs.Prelude.{option_map, remove, slice_get, slice_set}
 use Rattle.std.proofs.lemmas.List.{take-append-drop, take_more_set}

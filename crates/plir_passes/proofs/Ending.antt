@@ -1,18 +1,15 @@
 -- Which operations end a block of an operation, by its regions and their blocks.
-use Rattle.std.proofs.Common.{◌≡◌, ◌<◌, ◌≤◌, ◌^◌, ◌+◌, ℕ, arith, Bool, true, List, length, take, Option, Some, None}
-use Rattle.std.proofs.Common.{inl, inr, refl, sym, ap, subst, ◌∙◌}
+use Rattle.std.proofs.Common.{◌≡◌, ◌<◌, ◌≤◌, ◌^◌, ℕ, arith, Bool, true, List, length, Some, None}
+use Rattle.std.proofs.Common.{inl, inr, refl, sym, ap, ◌∙◌}
 use Rattle.std.specs.Prelude.{slice_get}
 use Rattle.std.proofs.lemmas.Option.{none-some, same_Some, slice_get_cases}
-use Rattle.plir_store.specs.Members.{Has}
 use Rattle.plir_core.specs.declared.ptr.Ptr.{Ptr}
 use Rattle.plir_core.specs.declared.ptr.Operation.{Operation as OperationKind}
 use Rattle.plir_core.specs.declared.ptr.IRNode.{IRNode}
 use Rattle.plir_core.specs.declared.ptr.IRNode.TheVariants.{Operation}
 use Rattle.plir_core.specs.Above.{climb}
-use Rattle.plir_core.specs.Forest.{look, IsForest}
 use Rattle.plir_core.specs.Standing.{IsStanding}
-use Rattle.plir_core.specs.ContextView.{ContextView, IsLive, children, kind_of, limit, num_live, parent_of}
-use Rattle.plir_walk.specs.NodeLaws.{same-op}
+use Rattle.plir_core.specs.ContextView.{ContextView, children, kind_of, parent_of}
 use Rattle.plir_passes.specs.Legal.{is_kind}
 use Rattle.plir_passes.specs.Reached.{StandsIn, ends_block}
 use Rattle.plir_passes.specs.Seeking.{IsEnd, Through}
@@ -53,7 +50,12 @@ module _ {K A T : Type 0} (s : ContextView K A T) (w : IsStanding s) where
         let f = first-step (parent_of s) 2 (Operation q) (Operation p) h.0 in
         let g = first-step (parent_of s) 1 f.0 (Operation p) f.2 in
         let k = first-step (parent_of s) 0 g.0 (Operation p) g.2 in
-        let top : k.0 ≡ Operation p = same_Some k.0 (Operation p) k.2 in
-        (g.0, w.forest.parent_child (Operation p) g.0 (k.1 ∙ ap Some top),
-        (f.0, w.forest.parent_child g.0 f.0 g.1,
-        (Operation q, w.forest.parent_child f.0 (Operation q) f.1, (refl, h.1))))
+        let top : k.0 ≡ Operation p = same_Some k.0 (Operation p) k.2 in (
+          g.0,
+          w.forest.parent_child (Operation p) g.0 (k.1 ∙ ap Some top),
+          (
+            f.0,
+            w.forest.parent_child g.0 f.0 g.1,
+            (Operation q, w.forest.parent_child f.0 (Operation q) f.1, (refl, h.1)),
+          ),
+        )

@@ -1,22 +1,21 @@
 -- What is left where operations are freed does not depend on what they held.
-use Rattle.std.proofs.Common.{◌≡◌, ◌≢◌, ℕ, ◌+◌, Bool, true, false, cond, List, [], ◌∷◌, length, Option, Some, None, IsSome}
-use Rattle.std.proofs.Common.{◌⊎◌, inl, inr, refl, sym, ap, subst, ◌∙◌, set, get_or}
+use Rattle.std.proofs.Common.{◌≡◌, ℕ, ◌+◌, true, false, cond, List, [], ◌∷◌, Option, Some, None, IsSome}
+use Rattle.std.proofs.Common.{inl, inr, refl, sym, ap, subst, ◌∙◌, set}
 use Rattle.std.specs.Prelude.{◌==◌, is_some, ◌&&◌}
-use Rattle.std.proofs.lemmas.Bool.{cases_Bool, cases_eq}
+use Rattle.std.proofs.lemmas.Bool.{cases_eq}
 use Rattle.std.proofs.lemmas.List.{set-set, set_comm}
 use Rattle.std.specs.List.{filter}
 use Rattle.plir_store.specs.FilterLaws.{not-both}
 use Rattle.plir_store.specs.Lists.{without_child}
-use Rattle.plir_store.specs.Table.{Cell, MAX_VERSION, Table, cell_at, content_at, is_live_at, num_full, version_at, with_content}
+use Rattle.plir_store.specs.Table.{Cell, MAX_VERSION, Table, content_at, num_full, version_at, with_content}
 use Rattle.plir_store.specs.Table.{without_slot}
 use Rattle.plir_store.specs.TableLaws.{cell_at-with_content, cell_at-with_content_other, cell_at-without_slot_other}
 use Rattle.plir_store.specs.TableLaws.{num_full-with_content, within_from_content}
 use Rattle.plir_core.specs.declared.ptr.Ptr.{Ptr}
 use Rattle.plir_core.specs.declared.ptr.Operation.{Operation as OperationKind}
-use Rattle.plir_core.specs.declared.ptr.BasicBlock.{BasicBlock as BlockKind}
 use Rattle.plir_core.specs.declared.ptr.IRNode.{IRNode}
 use Rattle.plir_core.specs.declared.ptr.IRNode.TheVariants.{Operation, Region, BasicBlock}
-use Rattle.plir_core.specs.Changes.{op_edited, with_op_content, with_op_edit}
+use Rattle.plir_core.specs.Changes.{op_edited, with_op_edit}
 use Rattle.plir_core.specs.Contents.{BlockView, OpView}
 use Rattle.plir_core.specs.Erase.{without_node, without_nodes}
 use Rattle.plir_core.specs.Held.{IsOpEdited}

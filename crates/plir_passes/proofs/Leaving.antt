@@ -1,8 +1,6 @@
 -- What is left where the operations that are not reached are cut and erased.
-use Rattle.std.proofs.Common.{◌≡◌, ◌≢◌, ◌↔◌, ◌<◌, ◌+◌, ℕ, arith, zero, suc, Bool, true, false, IsTrue, List, get_or, length, All}
-use Rattle.std.proofs.Common.{Option, Some, None, ◌⊎◌, inl, inr, refl, sym, ap, subst, ◌∙◌}
-use Rattle.std.specs.Prelude.{slice_get}
-use Rattle.std.specs.List.{filter}
+use Rattle.std.proofs.Common.{◌≡◌, ◌≢◌, ◌↔◌, ◌<◌, ◌+◌, ℕ, arith, zero, suc, Bool, IsTrue, List, get_or, length, All}
+use Rattle.std.proofs.Common.{Some, None, inl, inr, refl, sym, ap, subst, ◌∙◌}
 use Rattle.std.proofs.lemmas.Bool.{cases_Bool}
 use Rattle.std.proofs.lemmas.Option.{none-some, same_Some, slice_get-get_or}
 use Rattle.plir_store.specs.FilterLaws.{filter-all, not-both}
@@ -12,8 +10,7 @@ use Rattle.plir_core.specs.declared.ptr.Ptr.{Ptr}
 use Rattle.plir_core.specs.declared.ptr.Operation.{Operation as OperationKind}
 use Rattle.plir_core.specs.declared.ptr.BasicBlock.{BasicBlock as BlockKind}
 use Rattle.plir_core.specs.declared.ptr.IRNode.{IRNode}
-use Rattle.plir_core.specs.declared.ptr.IRNode.TheVariants.{Operation, Region, BasicBlock}
-use Rattle.plir_core.specs.declared.value.Value.{Value}
+use Rattle.plir_core.specs.declared.ptr.IRNode.TheVariants.{Operation, BasicBlock}
 use Rattle.plir_core.specs.declared.value.DefiningEntity.{DefiningEntity}
 use Rattle.plir_core.specs.declared.value.DefiningEntity.TheVariants.{Op, Block}
 use Rattle.plir_core.specs.Above.{climb}
@@ -22,7 +19,7 @@ use Rattle.plir_core.specs.ContextView.{operands_of, parent_of, children, succes
 use Rattle.plir_core.specs.Forest.{look, IsBelow, IsForest}
 use Rattle.plir_core.specs.Unused.{IsUnusedOutside, UsesNoneOf}
 use Rattle.plir_walk.specs.Lawful.{Lawful}
-use Rattle.plir_walk.specs.NodeLaws.{climb-nothing, same-op}
+use Rattle.plir_walk.specs.NodeLaws.{same-op}
 use Rattle.plir_walk.specs.Thinned.{IsThinned}
 use Rattle.plir_passes.specs.declared.marks.Marks.{Marks}
 use Rattle.plir_passes.specs.Cutting.{AreErased, IsCut, IsLoose, UsesNothing}
@@ -209,9 +206,11 @@ module _ {K A T : Type 0} (effect ends : K → Bool) (s : ContextView K A T) (r 
             stays n l (λ p unreached above.
             (let f = below p unreached in
             let more : above.0 + suc f.0 ≡ suc (above.0 + f.0) = omega arith in
-            apart (above.0 + f.0,
-            ap (λ k. climb (parent_of s) k (Some n)) (sym more)
-            ∙ climb-on (parent_of s) above.0 (suc f.0) n (Operation p) (Some (Operation r)) above.1 f.1)))
+            apart (
+              above.0 + f.0,
+              ap (λ k. climb (parent_of s) k (Some n)) (sym more)
+                  ∙ climb-on (parent_of s) above.0 (suc f.0) n (Operation p) (Some (Operation r)) above.1 f.1,
+            )))
 
         -- a child of a node that is not below the root, and not the root, is not below the root
         beside : (n x : IRNode) → n ≢ Operation r → (IsBelow (look s) (Operation r) n → ⊥) → Has (children s n) x →

@@ -1,6 +1,6 @@
 -- Where all is reached, no operation is left that may go and that no other uses.
-use Rattle.std.proofs.Common.{◌≡◌, ◌≢◌, ◌+◌, ℕ, zero, suc, arith, Bool, true, false, true≢false, List, [], ◌∷◌, Option}
-use Rattle.std.proofs.Common.{Some, None, ◌⊎◌, inl, inr, refl, sym, ap, subst, ◌∙◌}
+use Rattle.std.proofs.Common.{◌≡◌, ◌≢◌, ◌+◌, ℕ, zero, suc, arith, Bool, true, false, true≢false, [], Option}
+use Rattle.std.proofs.Common.{Some, None, inl, inr, refl, sym, ap, subst, ◌∙◌}
 use Rattle.std.specs.Prelude.{not, ◌&&◌}
 use Rattle.std.proofs.lemmas.Option.{same_Some}
 use Rattle.plir_data.specs.declared.op_set.OpKind.{OpKind}
@@ -17,8 +17,8 @@ use Rattle.plir_core.specs.declared.value.DefiningEntity.{DefiningEntity}
 use Rattle.plir_core.specs.declared.value.DefiningEntity.TheVariants.{Op, Block}
 use Rattle.plir_core.specs.Above.{climb}
 use Rattle.plir_core.specs.ContextView.{ContextView, IsLive, children, kind_of, operands_of, parent_of}
-use Rattle.plir_core.specs.Forest.{look, IsForest, IsBelow}
-use Rattle.plir_core.specs.Measures.{IsMeasured, depth}
+use Rattle.plir_core.specs.Forest.{look, IsBelow}
+use Rattle.plir_core.specs.Measures.{depth}
 use Rattle.plir_core.specs.Standing.{IsStanding}
 use Rattle.plir_walk.specs.NodeLaws.{ptr-tells}
 use Rattle.plir_passes.specs.Dead.{HasNoDead, IsUsedBy, is_removable}

@@ -1,10 +1,8 @@
 //! Which operations below a root are reached.
-ghost use Rattle.std.specs.Prelude.{◌≡◌, ◌↔◌, ◌≢◌, None, Some, true, IfOk, IsTrue, OnOk};
+ghost use Rattle.std.specs.Prelude.{◌≡◌, ◌↔◌, true, IfOk, IsTrue, OnOk};
 ghost use Rattle.plir_store.specs.Members.{Has};
 ghost use Rattle.plir_core.specs.declared.ptr.IRNode.{IRNode as AnyNode};
-ghost use Rattle.plir_core.specs.declared.value.Value.{Value as AnyValue};
-ghost use Rattle.plir_core.specs.ContextView.{IsLive, children, entity_node, kind_of, op_above, operands_of};
-ghost use Rattle.plir_core.specs.ContextView.{successors_of};
+ghost use Rattle.plir_core.specs.ContextView.{IsLive, entity_node, kind_of};
 ghost use Rattle.plir_passes.specs.Legal.{is_kind};
 ghost use Rattle.plir_passes.specs.Marked.{IsGrown, IsMarkedAt, IsWhole, is_among, ops_of};
 ghost use Rattle.plir_passes.specs.Reached.{HasOperandFrom, HasSuccessorOf, IsBlockOf, IsFrom, IsReached, IsUnder};

@@ -1,5 +1,5 @@
 //! Elimination of operations that are not reached.
-ghost use Rattle.std.specs.Prelude.{◌≡◌, ◌≢◌, ◌<◌, false, [], None, Some, OnErr, OnOk, length};
+ghost use Rattle.std.specs.Prelude.{◌≡◌, ◌≢◌, [], None, OnErr, OnOk};
 ghost use Rattle.plir_store.specs.Members.{Has};
 ghost use Rattle.plir_core.specs.declared.ptr.IRNode.{IRNode as AnyNode};
 ghost use Rattle.plir_core.specs.ContextView.{IsLive, operands_of, parent_of, successors_of};
@@ -8,7 +8,7 @@ ghost use Rattle.plir_core.specs.Unused.{IsUnusedOutside};
 ghost use Rattle.plir_walk.specs.Lawful.{Lawful};
 ghost use Rattle.plir_passes.specs.Cutting.{AreErased, IsCut, IsLoose, UsesNothing};
 ghost use Rattle.plir_passes.specs.Dead.{HasNoDead};
-ghost use Rattle.plir_passes.specs.Marked.{IsWhole, is_among, ops_of};
+ghost use Rattle.plir_passes.specs.Marked.{IsWhole};
 ghost use Rattle.plir_passes.specs.Reached.{AreAllReached, IsReachedLeft};
 
 use crate::effects::EffectSet;
@@ -26,7 +26,6 @@ fn drop_operands<D: EffectSet>(ctx: &mut Context<D>, op: Ptr<Operation>)
     ensures cut { IsCut (λ q. q ≡ op) ctx.old ctx.new }
     ensures none { operands_of ctx.new op ≡ [] }
 {
-    ctx.stands();
     let mut left = op.get_num_operands(ctx);
     'operands: while left > 0 {
         left -= 1;
@@ -36,18 +35,13 @@ fn drop_operands<D: EffectSet>(ctx: &mut Context<D>, op: Ptr<Operation>)
 }
 
 // Puts one block in place of all successors of an operation.
-fn turn_successors<D: EffectSet>(
-    ctx: &mut Context<D>,
-    op: Ptr<Operation>,
-    block: Ptr<BasicBlock>,
-)
+fn turn_successors<D: EffectSet>(ctx: &mut Context<D>, op: Ptr<Operation>, block: Ptr<BasicBlock>)
     requires live { IsLive ctx.old (AnyNode.Operation op) }
     requires block_live { IsLive ctx.old (AnyNode.BasicBlock block) }
     ensures cut { IsCut (λ q. q ≡ op) ctx.old ctx.new }
     ensures all { (b : _) → Has (successors_of ctx.new op) b → b ≡ block }
     ensures operands { operands_of ctx.new op ≡ operands_of ctx.old op }
 {
-    ctx.stands();
     let count = op.get_num_successors(ctx);
     for place in 0..count {
         op_edits_keep_the_rest(ctx, op);
@@ -77,7 +71,6 @@ fn cut_all<D: EffectSet>(ctx: &mut Context<D>, under: &Marks, reached: &Marks)
     ensures cut { IsCut (IsLoose under.now reached.now) ctx.old ctx.new }
     ensures none { (q : _) → IsLoose under.now reached.now q → UsesNothing ctx.new q }
 {
-    ctx.stands();
     for place in 0..under.len() {
         let op = under.at(place);
         if !reached.contains(op) {

@@ -1,4 +1,4 @@
-use Rattle.std.proofs.Common.{◌≡◌, ◌∙◌, ◌+◌, ◌-◌, ◌<◌, arith, length, sym}
+use Rattle.std.proofs.Common.{◌∙◌, ◌+◌, ◌-◌, ◌<◌, arith, length, sym}
 use Rattle.std.proofs.lemmas.Option.{slice_get_within}
 use Rattle.plir_core.specs.ContextView.{children}
 use Rattle.plir_passes.specs.Seeking.{IsEnd, Through}

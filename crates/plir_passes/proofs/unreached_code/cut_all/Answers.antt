@@ -16,15 +16,17 @@ loop-place-init g c = record { cut = cut-none c.args.ctx.now; none = λ q has no
 pub cut_op-requires-clause-live : goal.cut_op-requires-clause-live
 cut_op-requires-clause-live g c =
     c.loop-place.invariant.cut.keeps.live (Operation c.at-op.result)
-    ∙ c.requires.live c.at-op.result
-    (Has-at (ops_of c.args.under.now) c.loop-place.place c.at-op.result c.at-op.ensures,
-    sym c.contains.ensures ∙ c.if-not-contains.true)
+    ∙ c.requires.live c.at-op.result (
+      Has-at (ops_of c.args.under.now) c.loop-place.place c.at-op.result c.at-op.ensures,
+      sym c.contains.ensures ∙ c.if-not-contains.true,
+    )
 
 pub cut_op-requires-clause-in_block : goal.cut_op-requires-clause-in_block
 cut_op-requires-clause-in_block g c = λ none.
-    c.requires.in_block c.at-op.result
-    (Has-at (ops_of c.args.under.now) c.loop-place.place c.at-op.result c.at-op.ensures,
-    sym c.contains.ensures ∙ c.if-not-contains.true)
+    c.requires.in_block c.at-op.result (
+      Has-at (ops_of c.args.under.now) c.loop-place.place c.at-op.result c.at-op.ensures,
+      sym c.contains.ensures ∙ c.if-not-contains.true,
+    )
     (sym (c.loop-place.invariant.cut.keeps.parents (Operation c.at-op.result)) ∙ none)
 
 pub loop-place-preserved : goal.loop-place-preserved

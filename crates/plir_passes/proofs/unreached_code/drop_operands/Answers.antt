@@ -1,4 +1,4 @@
-use Rattle.std.proofs.Common.{◌≡◌, ◌<◌, ◌-◌, ◌∙◌, arith, length, sym}
+use Rattle.std.proofs.Common.{◌<◌, ◌-◌, ◌∙◌, arith, length, sym}
 use Rattle.std.proofs.lemmas.List.{nil_from_length}
 use Rattle.plir_core.specs.declared.ptr.IRNode.TheVariants.{Operation}
 use Rattle.plir_core.specs.ContextView.{operands_of}

@@ -16,9 +16,10 @@ pub erase_live-requires : goal.erase_live-requires
 erase_live-requires g c = λ live.
     unused-still c.args.ctx.now c.loop-place.ctx c.loop-place.invariant.forest c.loop-place.invariant.thinned
     (Operation c.at-op.result) live
-    (c.requires.unused c.at-op.result
-    (Has-at (ops_of c.args.under.now) c.loop-place.place c.at-op.result c.at-op.ensures,
-    sym c.contains.ensures ∙ c.if-not-contains.true))
+    (c.requires.unused c.at-op.result (
+      Has-at (ops_of c.args.under.now) c.loop-place.place c.at-op.result c.at-op.ensures,
+      sym c.contains.ensures ∙ c.if-not-contains.true,
+    ))
 
 pub loop-place-preserved : goal.loop-place-preserved
 loop-place-preserved g c =
