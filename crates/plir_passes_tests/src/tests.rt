@@ -1,7 +1,10 @@
 //! Passes over a toy op set, as scripts.
+ghost use Rattle.plir_core.specs.ContextView.{IsLive};
+ghost use Rattle.plir_core.specs.declared.ptr.IRNode.{IRNode as AnyNode};
+
 use crate::{Renew, RenewErr, ToyKind};
-use plir_core::IRNode;
-use plir_data::KindSet;
+use plir_core::{IRNode, Operation, Ptr};
+use plir_data::{KindSet, Memory};
 use plir_passes::{convert, eliminate_dead_code, eliminate_unreached_code};
 use plir_scripts::{Bench, Layer, Line, Mismatch, NodeCalls, ScriptKind, Stop, play};
 use std::alloc::Global;
@@ -56,18 +59,27 @@ fn eliminate(bench: &mut Bench<KindSet<ToyKind>>, word: &str) -> Result<(), Stop
     Ok(())
 }
 
-// Eliminates what is not reached, where nothing outside uses what is below the root. The call that is refused memory
-// has changed nothing, and is made once more right then.
-fn reach(bench: &mut Bench<KindSet<ToyKind>>, word: &str) -> Result<(), Stop> {
-    let op = bench.made.op(&bench.ctx, word)?;
+// Eliminates what is not reached from an operation, where nothing outside uses what is below it.
+fn reach_from(bench: &mut Bench<KindSet<ToyKind>>, op: Ptr<Operation>) -> Result<(), Memory>
+    requires { IsLive bench.old.ctx (AnyNode.Operation op) }
+{
     if !IRNode::Operation(op).is_unused_outside(&bench.ctx) {
         bench.answer.put("used");
         return Ok(());
     }
-    if eliminate_unreached_code(bench.alloc, &mut bench.ctx, op).is_err() {
-        eliminate_unreached_code(bench.alloc, &mut bench.ctx, op)?;
-    }
+    eliminate_unreached_code(bench.alloc, &mut bench.ctx, op)?;
     bench.answer.put("done");
+    Ok(())
+}
+
+// The same of an operation by its name. A call that is refused memory has changed nothing, and is made once more right
+// then.
+fn reach(bench: &mut Bench<KindSet<ToyKind>>, word: &str) -> Result<(), Stop> {
+    let op = bench.made.op(&bench.ctx, word)?;
+    if reach_from(bench, op).is_err() {
+        let op = bench.made.op(&bench.ctx, word)?;
+        reach_from(bench, op)?;
+    }
     Ok(())
 }
 
