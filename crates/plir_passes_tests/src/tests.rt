@@ -332,7 +332,9 @@ fn an_operation_with_a_region_goes_in_which_nothing_has_an_effect(
 }
 
 #[test]
-fn operations_that_use_one_another_alone_go(rt: HostRuntime) -> Result<(), Mismatch> {
+fn operations_that_use_one_another_alone_go_where_memory_is_refused(
+    rt: HostRuntime,
+) -> Result<(), Mismatch> {
     let script = "
         type builtin.unit => t0
         op func 1 => o0
