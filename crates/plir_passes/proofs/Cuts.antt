@@ -1,5 +1,6 @@
 -- How far the loops have come that let operations go of what they use.
-use Rattle.std.proofs.Common.{◌≡◌, ◌<◌, ◌+◌, ℕ, arith, true, false, drop, List, [], ◌∷◌, length, take, Option, Some, None, ◌⊎◌}
+use Rattle.std.proofs.Common.{◌≡◌, ◌<◌, ◌+◌, ℕ, arith, true, false, drop, List, [], ◌∷◌, length, take, Option, Some}
+use Rattle.std.proofs.Common.{None, ◌⊎◌}
 use Rattle.std.proofs.Common.{inl, inr, refl, sym, ap, subst, ◌∙◌}
 use Rattle.std.specs.Prelude.{option_map, remove, slice_get, slice_set}
 use Rattle.std.proofs.lemmas.List.{take-append-drop, take_more_set}
@@ -61,7 +62,8 @@ module _ {K A T : Type 0} (r s t : ContextView K A T) (p : Ptr OperationKind) wh
       t ≡ with_op_edit s p (without_operand i) →
       length (operands_of t p) + 1 ≡ length (operands_of s p)
   operand-less i less e after =
-      ap (λ z. length (operands_of z p) + 1) after ∙ ap (λ o. length (operands_in o) + 1) e.held ∙ fewer i (op_at s p) less
+      ap (λ z. length (operands_of z p) + 1) after ∙ ap (λ o. length (operands_in o) + 1) e.held
+      ∙ fewer i (op_at s p) less
 
   module _ (i : ℕ) (b : Ptr BlockKind) (less : i < length (successors_of s p))
       (e : IsOpEdited s (with_op_edit s p (with_successor i b)) p
@@ -95,9 +97,11 @@ CutUpTo under reached k t = (q : Ptr OperationKind) → Has (take k (ops_of unde
 -- the loop over all operations
 module _ {K A T : Type 0} (under reached : Marks) (r s : ContextView K A T) (i : ℕ) (p : Ptr OperationKind)
     (at : slice_get (ops_of under) i ≡ Some p) where
-  pub last-cases : (q : Ptr OperationKind) → Has (take (i + 1) (ops_of under)) q → Has (take i (ops_of under)) q ⊎ (q ≡ p)
+  pub last-cases : (q : Ptr OperationKind) → Has (take (i + 1) (ops_of under)) q →
+      Has (take i (ops_of under)) q ⊎ (q ≡ p)
   last-cases q has =
-      elim (Has-append_cases (take i (ops_of under)) (p ∷ []) q (subst (λ z. Has z q) (take-one (ops_of under) i p at) has)) [
+      elim (Has-append_cases (take i (ops_of under)) (p ∷ []) q
+      (subst (λ z. Has z q) (take-one (ops_of under) i p at) has)) [
         | inl old ↦ inl old
         | inr new ↦ elim new [ inl same ↦ inr (sym same) | inr none ↦ absurd none ]
       ]

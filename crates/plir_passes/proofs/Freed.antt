@@ -41,6 +41,10 @@ module _ {C : Type 0} (t : Table C) (i : ℕ) (v : C) (some : IsSome (content_at
     free = cond (n == MAX_VERSION) t.free (j ∷ t.free);
   }
 
+  -- the free slots, once j is one of them
+  abbrev free_after : ℕ → List ℕ
+  free_after j = cond (version_at t j == MAX_VERSION) t.free (j ∷ t.free)
+
   abbrev filled : List (Cell C)
   filled = set t.slots i (record { version = version_at t i; content = Some v })
 
@@ -48,7 +52,7 @@ module _ {C : Type 0} (t : Table C) (i : ℕ) (v : C) (some : IsSome (content_at
   freed-here : without_slot (with_content t i v) i ≡ without_slot t i
   freed-here =
       ap (FreedIn filled i) (version-same i)
-      ∙ ap (λ (xs : List (Cell C)). record { slots = xs; free = cond (version_at t i == MAX_VERSION) t.free (i ∷ t.free) })
+      ∙ ap (λ (xs : List (Cell C)). record { slots = xs; free = free_after i })
       (set-set t.slots i (record { version = version_at t i; content = Some v })
       (record { version = version_at t i; content = None }))
 
@@ -56,7 +60,7 @@ module _ {C : Type 0} (t : Table C) (i : ℕ) (v : C) (some : IsSome (content_at
   freed-other : (j : ℕ) → (j ≡ i → ⊥) → without_slot (with_content t i v) j ≡ with_content (without_slot t j) i v
   freed-other j n =
       ap (FreedIn filled j) (version-same j)
-      ∙ ap (λ (xs : List (Cell C)). record { slots = xs; free = cond (version_at t j == MAX_VERSION) t.free (j ∷ t.free) })
+      ∙ ap (λ (xs : List (Cell C)). record { slots = xs; free = free_after j })
       (set_comm t.slots i j (record { version = version_at t i; content = Some v })
       (record { version = version_at t j; content = None }) (λ e. n (sym e))
       ∙ ap (λ k. set (set t.slots j (record { version = version_at t j; content = None })) i
@@ -84,7 +88,8 @@ module _ {K A : Type 0} where
   then ns s p o = without_nodes (record s { ops = o; ops_in_block = without_child s.ops_in_block p.slot }) ns
 
   -- where a slot of operations is freed, it is the same what it held
-  pub freed-same : (ns : List IRNode) (s : Nodes (OpView K A) (BlockView A)) (i : ℕ) (v : OpView K A) → IsSome (content_at s.ops i) → HasSlot ns i →
+  pub freed-same : (ns : List IRNode) (s : Nodes (OpView K A) (BlockView A)) (i : ℕ) (v : OpView K A) →
+      IsSome (content_at s.ops i) → HasSlot ns i →
       without_nodes (record s { ops = with_content s.ops i v }) ns ≡ without_nodes s ns
   freed-same [] s i v some has = absurd has
   freed-same (Operation p ∷ ns) s i v some has = elim (cases_eq p.slot i) [

@@ -89,7 +89,9 @@ module _ {K A T : Type 0} (effect ends : K → Bool) (s : ContextView K A T) (r 
       where
         at : (k : ℕ) → climb (parent_of s) k (Some (Operation q)) ≡ Some (Operation r) → (j : ℕ) ×
             (climb (parent_of s) (suc j) (Some (Operation q)) ≡ Some (Operation r))
-        at zero e = absurd (d.1 (subst reached (sym (same-op q r (same_Some (Operation q) (Operation r) e))) root-reached))
+        at zero e =
+            (let same = same-op q r (same_Some (Operation q) (Operation r) e) in
+            absurd (d.1 (subst reached (sym same) root-reached)))
         at (suc k) e = (k, e)
 
     pub loose-in-block : (q : Ptr OperationKind) → loose q → parent_of s (Operation q) ≢ None

@@ -1,5 +1,6 @@
 -- Operations that are put behind those that are marked.
-use Rattle.std.proofs.Common.{◌≡◌, ◌↔◌, ◌≤◌, ◌+◌, ℕ, Bool, true, false, true≢false, cond, List, [], ◌∷◌, ◌++◌, take, length}
+use Rattle.std.proofs.Common.{◌≡◌, ◌↔◌, ◌≤◌, ◌+◌, ℕ, Bool, true, false, true≢false, cond, List, [], ◌∷◌, ◌++◌, take}
+use Rattle.std.proofs.Common.{length}
 use Rattle.std.proofs.Common.{◌⊎◌, Some, inl, inr, refl, sym, ap, subst, ◌∙◌}
 use Rattle.std.specs.Prelude.{◌&&◌, nat_eq, not, slice_get}
 use Rattle.std.specs.List.{list_any}
@@ -161,7 +162,8 @@ module _ {P Q R : Ptr OperationKind → Type 0} where
 -- ---- what is put for one thing after another
 
 -- a list up to behind the place of an element
-pub take-one : {X : Type 0} (xs : List X) (i : ℕ) (x : X) → slice_get xs i ≡ Some x → take (i + 1) xs ≡ take i xs ++ x ∷ []
+pub take-one : {X : Type 0} (xs : List X) (i : ℕ) (x : X) → slice_get xs i ≡ Some x →
+    take (i + 1) xs ≡ take i xs ++ x ∷ []
 take-one xs i x at =
     take_more xs i x (slice_get_within xs i x at) ∙ ap (λ z. take i xs ++ z ∷ []) (get_or_from_slice_get xs i x x at)
 

@@ -49,9 +49,11 @@ module _ {K A T : Type 0} (effect ends : K → Bool) (s : ContextView K A T) (r 
   needs-after : (p q : Ptr OperationKind) → IsLive t (Operation p) → IsLive t (Operation q) → reached q →
       Needs ends s p q → Needs ends t p q
   needs-after p q lp lq h (inl f) =
-      inl (f.0, subst (λ z. Has z f.0) (sym (ap operands_in (left.thinned.ops p lp))) f.1, from-after q f.0.entity h f.2)
+      let has = subst (λ z. Has z f.0) (sym (ap operands_in (left.thinned.ops p lp))) f.1 in
+      inl (f.0, has, from-after q f.0.entity h f.2)
   needs-after p q lp lq h (inr (inl f)) =
-      inr (inl (f.0, subst (λ z. Has z f.0) (sym (ap successors_in (left.thinned.ops p lp))) f.1, block-after q f.0 h f.2))
+      let has = subst (λ z. Has z f.0) (sym (ap successors_in (left.thinned.ops p lp))) f.1 in
+      inr (inl (f.0, has, block-after q f.0 h f.2))
   needs-after p q lp lq h (inr (inr (inl stands))) =
       inr (inr (inl (climb-same s t forest left.thinned 3 (Operation p) lp ∙ stands)))
   needs-after p q lp lq h (inr (inr (inr f))) =

@@ -111,8 +111,8 @@ fn erase_all<D: EffectSet>(ctx: &mut Context<D>, under: &Marks, reached: &Marks)
 /// Reached is the operation itself, and each below it that does something besides its results; and of a reached one all
 /// that it needs: what its operands come from, the operations whose blocks are its successors, the one that it stands
 /// in, and what ends its blocks. So operations go in whose regions nothing has an effect, and operations that use one
-/// another alone, also in a circle. All else stays as it was, in its order. In which order nodes are freed is left open,
-/// and so is which free slot is used next.
+/// another alone, also in a circle. All else stays as it was, in its order. In which order nodes are freed is left
+/// open, and so is which free slot is used next.
 ///
 /// Nothing outside may use a value or a block of the operation's tree, as `IRNode::is_unused_outside` tells. One walk
 /// lists what stands below the operation, and each operation that is reached is looked at once. What goes lets go of

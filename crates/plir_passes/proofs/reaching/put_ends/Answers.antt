@@ -8,10 +8,12 @@ use Rattle.plir_passes.proofs.Marking.{each-all, each-next, each-none, grown-as}
 use Rattle.plir_passes.proofs.reaching.put_ends.Goals as goal
 
 pub regions-init : goal.regions-init
-regions-init g c = record {
-  at = c.first_child-at.ensures.value ∙ c.first_child_is_front.ensures.place;
-  grown = each-none (Through c.args.ctx.now (Through c.args.ctx.now (IsEnd g.D.OpSet.is_terminator c.args.ctx.now))) (children c.args.ctx.now (Operation c.args.op)) c.args.reached.now;
-}
+regions-init g c =
+    let P = Through c.args.ctx.now (Through c.args.ctx.now (IsEnd g.D.OpSet.is_terminator c.args.ctx.now)) in
+    record {
+      at = c.first_child-at.ensures.value ∙ c.first_child_is_front.ensures.place;
+      grown = each-none P (children c.args.ctx.now (Operation c.args.op)) c.args.reached.now;
+    }
 
 pub child_at-requires : goal.child_at-requires
 child_at-requires g c = sym c.regions.invariant.at ∙ c.in-Some.is
@@ -31,17 +33,23 @@ regions-smaller g c =
     less
 
 pub regions-preserved : goal.regions-preserved
-regions-preserved g c = record {
-  at = c.next_sibling-at.ensures.value ∙ c.child_at.ensures.next;
-  grown = each-next (Through c.args.ctx.now (Through c.args.ctx.now (IsEnd g.D.OpSet.is_terminator c.args.ctx.now))) (children c.args.ctx.now (Operation c.args.op)) c.regions.place c.in-Some.region
-      c.args.reached.now c.regions.reached c.put_ends_under.new.reached (sym c.regions.invariant.at ∙ c.in-Some.is)
-      c.regions.invariant.grown c.in_ok-put_ends_under.ensures;
-}
+regions-preserved g c =
+    let P = Through c.args.ctx.now (Through c.args.ctx.now (IsEnd g.D.OpSet.is_terminator c.args.ctx.now)) in
+    record {
+      at = c.next_sibling-at.ensures.value ∙ c.child_at.ensures.next;
+      grown = each-next P (children c.args.ctx.now (Operation c.args.op))
+          c.regions.place c.in-Some.region
+          c.args.reached.now c.regions.reached c.put_ends_under.new.reached (sym c.regions.invariant.at ∙ c.in-Some.is)
+          c.regions.invariant.grown c.in_ok-put_ends_under.ensures;
+    }
 
 pub returns : goal.returns
 returns g c =
+    let P = Through c.args.ctx.now (Through c.args.ctx.now (IsEnd g.D.OpSet.is_terminator c.args.ctx.now)) in
     grown-as _ _
     (λ q h. through-inner c.args.ctx.now c.stands.ensures.standing g.D.OpSet.is_terminator c.args.op q h)
     (λ q h. inner-through c.args.ctx.now c.stands.ensures.standing g.D.OpSet.is_terminator c.args.op q h)
-    (each-all (Through c.args.ctx.now (Through c.args.ctx.now (IsEnd g.D.OpSet.is_terminator c.args.ctx.now))) (children c.args.ctx.now (Operation c.args.op)) c.regions.place c.args.reached.now
-    c.regions.reached (past-end _ c.regions.place (sym c.regions.invariant.at ∙ c.in_default.is)) c.regions.invariant.grown)
+    (each-all P (children c.args.ctx.now (Operation c.args.op))
+    c.regions.place c.args.reached.now
+    c.regions.reached (past-end _ c.regions.place (sym c.regions.invariant.at ∙ c.in_default.is))
+    c.regions.invariant.grown)

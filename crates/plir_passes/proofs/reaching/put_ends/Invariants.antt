@@ -10,7 +10,9 @@ use Rattle.plir_passes.proofs.reaching.put_ends.Given as goal
 abbrev pub invariant-regions : goal.invariant-regions
 invariant-regions g l = record {
   at : l.at ≡ slice_get (children l.ctx (Operation l.op)) l.place;
-  grown : IsGrown (AnyOf (Through l.ctx (Through l.ctx (IsEnd g.D.OpSet.is_terminator l.ctx))) (take l.place (children l.ctx (Operation l.op)))) l.fn.reached l.reached;
+  grown : IsGrown
+      (AnyOf (Through l.ctx (Through l.ctx (IsEnd g.D.OpSet.is_terminator l.ctx)))
+      (take l.place (children l.ctx (Operation l.op)))) l.fn.reached l.reached;
 }
 
 abbrev pub decreases-regions : goal.decreases-regions

@@ -7,10 +7,12 @@ use Rattle.plir_passes.proofs.Marking.{each-all, each-next, each-none}
 use Rattle.plir_passes.proofs.reaching.put_ends_in.Goals as goal
 
 pub ops-init : goal.ops-init
-ops-init g c = record {
-  at = c.first_child-at.ensures.value ∙ c.first_child_is_front.ensures.place;
-  grown = each-none (IsEnd g.D.OpSet.is_terminator c.args.ctx.now) (children c.args.ctx.now c.args.block) c.args.reached.now;
-}
+ops-init g c =
+    let P = IsEnd g.D.OpSet.is_terminator c.args.ctx.now in
+    record {
+      at = c.first_child-at.ensures.value ∙ c.first_child_is_front.ensures.place;
+      grown = each-none P (children c.args.ctx.now c.args.block) c.args.reached.now;
+    }
 
 pub child_at-requires : goal.child_at-requires
 child_at-requires g c = sym c.ops.invariant.at ∙ c.in-Some.is
@@ -30,14 +32,17 @@ ops-smaller g c =
     less
 
 pub ops-preserved : goal.ops-preserved
-ops-preserved g c = record {
-  at = c.next_sibling-at.ensures.value ∙ c.child_at.ensures.next;
-  grown = each-next (IsEnd g.D.OpSet.is_terminator c.args.ctx.now) (children c.args.ctx.now c.args.block) c.ops.place c.in-Some.op
-      c.args.reached.now c.ops.reached c.put_end.new.reached (sym c.ops.invariant.at ∙ c.in-Some.is)
-      c.ops.invariant.grown c.in_ok-put_end.ensures;
-}
+ops-preserved g c =
+    let P = IsEnd g.D.OpSet.is_terminator c.args.ctx.now in
+    record {
+      at = c.next_sibling-at.ensures.value ∙ c.child_at.ensures.next;
+      grown = each-next P (children c.args.ctx.now c.args.block) c.ops.place c.in-Some.op
+          c.args.reached.now c.ops.reached c.put_end.new.reached (sym c.ops.invariant.at ∙ c.in-Some.is)
+          c.ops.invariant.grown c.in_ok-put_end.ensures;
+    }
 
 pub returns : goal.returns
 returns g c =
-    each-all (IsEnd g.D.OpSet.is_terminator c.args.ctx.now) (children c.args.ctx.now c.args.block) c.ops.place c.args.reached.now
+    let P = IsEnd g.D.OpSet.is_terminator c.args.ctx.now in
+    each-all P (children c.args.ctx.now c.args.block) c.ops.place c.args.reached.now
     c.ops.reached (past-end _ c.ops.place (sym c.ops.invariant.at ∙ c.in_default.is)) c.ops.invariant.grown

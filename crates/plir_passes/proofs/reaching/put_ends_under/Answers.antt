@@ -7,10 +7,12 @@ use Rattle.plir_passes.proofs.Marking.{each-all, each-next, each-none}
 use Rattle.plir_passes.proofs.reaching.put_ends_under.Goals as goal
 
 pub parts-init : goal.parts-init
-parts-init g c = record {
-  at = c.first_child-at.ensures.value ∙ c.first_child_is_front.ensures.place;
-  grown = each-none (Through c.args.ctx.now (IsEnd g.D.OpSet.is_terminator c.args.ctx.now)) (children c.args.ctx.now c.args.region) c.args.reached.now;
-}
+parts-init g c =
+    let P = Through c.args.ctx.now (IsEnd g.D.OpSet.is_terminator c.args.ctx.now) in
+    record {
+      at = c.first_child-at.ensures.value ∙ c.first_child_is_front.ensures.place;
+      grown = each-none P (children c.args.ctx.now c.args.region) c.args.reached.now;
+    }
 
 pub child_at-requires : goal.child_at-requires
 child_at-requires g c = sym c.parts.invariant.at ∙ c.in-Some.is
@@ -30,14 +32,17 @@ parts-smaller g c =
     less
 
 pub parts-preserved : goal.parts-preserved
-parts-preserved g c = record {
-  at = c.next_sibling-at.ensures.value ∙ c.child_at.ensures.next;
-  grown = each-next (Through c.args.ctx.now (IsEnd g.D.OpSet.is_terminator c.args.ctx.now)) (children c.args.ctx.now c.args.region) c.parts.place c.in-Some.block
-      c.args.reached.now c.parts.reached c.put_ends_in.new.reached (sym c.parts.invariant.at ∙ c.in-Some.is)
-      c.parts.invariant.grown c.in_ok-put_ends_in.ensures;
-}
+parts-preserved g c =
+    let P = Through c.args.ctx.now (IsEnd g.D.OpSet.is_terminator c.args.ctx.now) in
+    record {
+      at = c.next_sibling-at.ensures.value ∙ c.child_at.ensures.next;
+      grown = each-next P (children c.args.ctx.now c.args.region) c.parts.place c.in-Some.block
+          c.args.reached.now c.parts.reached c.put_ends_in.new.reached (sym c.parts.invariant.at ∙ c.in-Some.is)
+          c.parts.invariant.grown c.in_ok-put_ends_in.ensures;
+    }
 
 pub returns : goal.returns
 returns g c =
-    each-all (Through c.args.ctx.now (IsEnd g.D.OpSet.is_terminator c.args.ctx.now)) (children c.args.ctx.now c.args.region) c.parts.place c.args.reached.now
+    let P = Through c.args.ctx.now (IsEnd g.D.OpSet.is_terminator c.args.ctx.now) in
+    each-all P (children c.args.ctx.now c.args.region) c.parts.place c.args.reached.now
     c.parts.reached (past-end _ c.parts.place (sym c.parts.invariant.at ∙ c.in_default.is)) c.parts.invariant.grown

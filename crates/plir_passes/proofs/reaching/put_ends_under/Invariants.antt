@@ -9,7 +9,9 @@ use Rattle.plir_passes.proofs.reaching.put_ends_under.Given as goal
 abbrev pub invariant-parts : goal.invariant-parts
 invariant-parts g l = record {
   at : l.at ≡ slice_get (children l.ctx l.region) l.place;
-  grown : IsGrown (AnyOf (Through l.ctx (IsEnd g.D.OpSet.is_terminator l.ctx)) (take l.place (children l.ctx l.region))) l.fn.reached l.reached;
+  grown : IsGrown
+      (AnyOf (Through l.ctx (IsEnd g.D.OpSet.is_terminator l.ctx))
+      (take l.place (children l.ctx l.region))) l.fn.reached l.reached;
 }
 
 abbrev pub decreases-parts : goal.decreases-parts

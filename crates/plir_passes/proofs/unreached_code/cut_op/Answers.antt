@@ -12,7 +12,8 @@ turn_successors-requires-clause-live g c =
 
 pub unreachable-requires : goal.unreachable-requires
 unreachable-requires g c =
-    c.requires.in_block (sym (c.drop_operands.ensures.cut.keeps.parents (Operation c.args.op)) ∙ sym c.in-None.ensures.value)
+    let same = c.drop_operands.ensures.cut.keeps.parents (Operation c.args.op) in
+    c.requires.in_block (sym same ∙ sym c.in-None.ensures.value)
 
 pub returns-clause-cut : goal.returns-clause-cut
 returns-clause-cut g c =

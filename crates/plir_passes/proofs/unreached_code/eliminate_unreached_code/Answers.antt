@@ -68,6 +68,7 @@ returns-clause-none_dead g c =
     let left = all-left effect ends s root forest c.requires.live c.requires.unused c.in_ok-under.under
     c.in_ok-reached.reached c.in_ok-under.ensures.under c.in_ok-reached.ensures.reached c.cut_all.new.ctx
     c.cut_all.ensures.cut c.cut_all.ensures.none t c.erase_all.ensures in
-    let all = all-reached effect ends s root forest c.requires.live c.requires.unused t c.erase_all.ensures.forest left in
+    let all = all-reached effect ends s root forest c.requires.live c.requires.unused t c.erase_all.ensures.forest
+    left in
     none-dead t c.stands-2.ensures.standing effect ends root
     ((left.ops root (zero, refl)).1 (zero, ((zero, refl), inl refl))) all
