@@ -10,3 +10,15 @@ pub mod Lists
 pub mod ListWalk
 pub mod Using
 pub mod Pending
+pub mod Marking
+pub mod MarkWalk
+pub mod Searching
+pub mod Upward
+pub mod Freed
+pub mod Erasures
+pub mod Leaving
+pub mod Cuts
+pub mod Ending
+pub mod Needing
+pub mod Remaining
+pub mod NoneDead

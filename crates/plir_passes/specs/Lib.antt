@@ -12,6 +12,10 @@
 --   Dead       IsUsedBy, AreDead, HasNoDead: dead operations, and that none is left
 --   Swept      IsSwept: dead operations are gone, and nothing else has changed
 --   Worklists  which operations are listed, and which wait to be looked at
+--   Marked     which operations are marked, in the order in which they were
+--   Reached    IsReached: what is reached from a root; IsReachedLeft: that is left, and nothing else has changed
+--   Seeking    what is of a kind that ends a block, below a node
+--   Cutting    IsCut, AreErased: operations let go of what they use, and are gone
 --   Passing    how far the loops over a block have come
 pub mod Legal
 pub mod Kept
@@ -23,4 +27,8 @@ pub mod Replacing
 pub mod Dead
 pub mod Swept
 pub mod Worklists
+pub mod Marked
+pub mod Reached
+pub mod Seeking
+pub mod Cutting
 pub mod Passing

@@ -179,6 +179,9 @@ fn sweep_op<D: EffectSet>(
 /// once, and once more for each operand that an erased user of it had. A look goes by the count of its uses, and by its
 /// operands where it is used, over all operations of the context only where that count is not known.
 ///
+/// Operations with regions stay, and those that use one another in a circle: where nothing outside uses what is below
+/// the operation, [`eliminate_unreached_code`](crate::eliminate_unreached_code) takes these too.
+///
 /// # Errors
 ///
 /// [`Memory`] where there is none for the list of what may go; what was erased until then was dead.

@@ -1,7 +1,11 @@
 //! Passes over a toy op set, as scripts.
+ghost use Rattle.plir_core.specs.ContextView.{IsLive};
+ghost use Rattle.plir_core.specs.declared.ptr.IRNode.{IRNode as AnyNode};
+
 use crate::{Renew, RenewErr, ToyKind};
-use plir_data::KindSet;
-use plir_passes::{convert, eliminate_dead_code};
+use plir_core::{IRNode, Operation, Ptr};
+use plir_data::{KindSet, Memory};
+use plir_passes::{convert, eliminate_dead_code, eliminate_unreached_code};
 use plir_scripts::{Bench, Layer, Line, Mismatch, NodeCalls, ScriptKind, Stop, play};
 use std::alloc::Global;
 
@@ -19,16 +23,19 @@ impl ScriptKind for ToyKind {
     }
 }
 
-/// The calls of this crate, `eliminate OP` and `renew OP`, and those on nodes.
+/// The calls of this crate, `eliminate OP`, `reach OP` and `renew OP`, and those on nodes.
 struct PassCalls;
 
 impl Layer<KindSet<ToyKind>> for PassCalls {
     fn run(bench: &mut Bench<KindSet<ToyKind>>, line: Line<'_>) -> Result<(), Stop> {
-        if !matches!(line.command, "eliminate" | "renew") {
+        if !matches!(line.command, "eliminate" | "reach" | "renew") {
             return NodeCalls::run(bench, line);
         }
         if line.command == "eliminate" {
             return eliminate(bench, line.first);
+        }
+        if line.command == "reach" {
+            return reach(bench, line.first);
         }
         let op = bench.made.op(&bench.ctx, line.first)?;
         let renew = Renew { alloc: bench.alloc };
@@ -49,6 +56,30 @@ fn eliminate(bench: &mut Bench<KindSet<ToyKind>>, word: &str) -> Result<(), Stop
         eliminate_dead_code(bench.alloc, &mut bench.ctx, op)?;
     }
     bench.answer.put("done");
+    Ok(())
+}
+
+// Eliminates what is not reached from an operation, where nothing outside uses what is below it.
+fn reach_from(bench: &mut Bench<KindSet<ToyKind>>, op: Ptr<Operation>) -> Result<(), Memory>
+    requires { IsLive bench.old.ctx (AnyNode.Operation op) }
+{
+    if !IRNode::Operation(op).is_unused_outside(&bench.ctx) {
+        bench.answer.put("used");
+        return Ok(());
+    }
+    eliminate_unreached_code(bench.alloc, &mut bench.ctx, op)?;
+    bench.answer.put("done");
+    Ok(())
+}
+
+// The same of an operation by its name. A call that is refused memory has changed nothing, and is made once more right
+// then.
+fn reach(bench: &mut Bench<KindSet<ToyKind>>, word: &str) -> Result<(), Stop> {
+    let op = bench.made.op(&bench.ctx, word)?;
+    if reach_from(bench, op).is_err() {
+        let op = bench.made.op(&bench.ctx, word)?;
+        reach_from(bench, op)?;
+    }
     Ok(())
 }
 
@@ -254,5 +285,118 @@ fn an_old_operation_that_is_used_is_refused(rt: HostRuntime) -> Result<(), Misma
         renew o0 => used
         live o1 => yes
         live o2 => yes";
+    play_in(rt.alloc(), script)
+}
+
+#[test]
+fn an_operation_with_a_region_goes_in_which_nothing_has_an_effect(
+    rt: HostRuntime,
+) -> Result<(), Mismatch> {
+    let script = "
+        type builtin.unit => t0
+        op func 1 => o0
+        block => b0
+        back b0 r0
+        op add 1 t0 => o1
+        block - t0 => b1
+        back b1 r1
+        op add 0 t0 < b1.0 => o2
+        op yield 0 < o2.0 => o3
+        op add 1 t0 => o4
+        block => b2
+        back b2 r2
+        op add 0 t0 => o5
+        op call 0 => o6
+        op yield 0 < o5.0 => o7
+        op add 0 t0 => o8
+        op yield 0 => o9
+        back o1 b0
+        back o4 b0
+        back o9 b0
+        back o2 b1
+        back o3 b1
+        back o5 b2
+        back o6 b2
+        back o7 b2
+        back o8 b2
+        count => 16
+        reach o0 => done
+        show b0 => -, in r0 o0, between - -, operations o4 o9 to o9, terminator o9, arguments 0
+        show b2 => -, in r2 o4, between - -, operations o5 o6 o7 to o7, terminator o7, arguments 0
+        live o3 => no
+        live b1 => no
+        count => 10
+        reach o0 => done
+        count => 10";
+    play_in(rt.alloc(), script)
+}
+
+#[test]
+fn operations_that_use_one_another_alone_go_where_memory_is_refused(
+    rt: HostRuntime,
+) -> Result<(), Mismatch> {
+    let script = "
+        type builtin.unit => t0
+        op func 1 => o0
+        block => b0
+        back b0 r0
+        op add 0 t0 => o1
+        op add 0 t0 < o1.0 o1.0 => o2
+        insert o1 0 o2.0
+        op add 0 t0 => o3
+        insert o3 0 o3.0
+        op add 1 t0 => o4
+        block => b1
+        back b1 r1
+        op add 1 t0 => o5
+        block => b2
+        back b2 r2
+        op yield 0 < o5.0 > b2 => o6
+        op yield 0 < o4.0 > b1 => o7
+        op add 0 t0 => o8
+        op load 0 < o8.0 => o9
+        back o1 b0
+        back o2 b0
+        back o3 b0
+        back o4 b0
+        back o5 b0
+        back o9 b0
+        back o8 b0
+        back o6 b1
+        back o7 b2
+        reach o0 => done
+        show b0 => -, in r0 o0, between - -, operations o9 o8 to o8, terminator -, arguments 0
+        count => 5";
+    play_in(rt.alloc(), script)
+}
+
+#[test]
+fn what_a_reached_operation_needs_stays(rt: HostRuntime) -> Result<(), Mismatch> {
+    let script = "
+        type builtin.unit => t0
+        op func 1 => o0
+        block => b0
+        back b0 r0
+        op add 1 t0 => o1
+        block - t0 => b1
+        back b1 r1
+        op load 0 < b1.0 => o2
+        op add 1 t0 => o3
+        block => b2
+        back b2 r2
+        op load 0 > b2 => o4
+        op add 0 t0 => o5
+        back o1 b0
+        back o3 b0
+        back o2 b0
+        back o4 b0
+        back o5 b0
+        reach o0 => done
+        show b0 => -, in r0 o0, between - -, operations o1 o3 o2 o4 to o4, terminator -, arguments 0
+        count => 11
+        op func 0 < o1.0 => o6
+        reach o0 => used
+        reach o5 => refused
+        reach o1 => used";
     play_in(rt.alloc(), script)
 }
