@@ -1,0 +1,145 @@
+//! The command line.
+use crate::choices::{Choices, Form, Pass};
+use clap::{Arg, ArgAction, ArgMatches, Command};
+use std::alloc::{AllocError, Global};
+
+/// What a program says of itself.
+pub struct About {
+    /// Its name.
+    pub name: &'static str,
+    /// Its version.
+    pub version: &'static str,
+    /// What it does, in a line.
+    pub about: &'static str,
+}
+
+/// The name of the argument that is the file.
+pub const FILE: &str = "FILE";
+
+const VERIFY: &str = "verify";
+
+const ERASE_NAMES: &str = "erase-names";
+
+const DCE: &str = "dce";
+
+const SYMBOL_DCE: &str = "symbol-dce";
+
+const WALK: &str = "walk";
+
+const VIEW: &str = "view";
+
+const CALL_GRAPH: &str = "call-graph";
+
+const AFTER: &str =
+    "The operation and all below it are verified once they are read. Passes run in the order of the \
+command line. Nothing goes to the standard output before all has gone well. The status is 1 where the text can't be \
+read, an operation is refused or memory runs out, and 2 for a wrong command line.";
+
+// An option without a value.
+fn flag<'a>(alloc: Global, id: &'a str, help: &'a str) -> Arg<'a> {
+    Arg::new(alloc, id)
+        .long(id)
+        .help(help)
+        .action(ArgAction::SetTrue)
+}
+
+// The options that choose how the operation is printed: one of them at most.
+fn with_forms<'a>(alloc: Global, command: Command<'a>) -> Result<Command<'a>, AllocError> {
+    let walk = flag(
+        alloc,
+        WALK,
+        "Print a line for each node, parents first and further out",
+    );
+    let view = flag(
+        alloc,
+        VIEW,
+        "Print a graph in DOT: a box for each node, an arrow to each child",
+    );
+    let call_graph = flag(
+        alloc,
+        CALL_GRAPH,
+        "Print a call graph in DOT: a box for each function, an arrow to each that it uses",
+    );
+    command
+        .arg(walk.conflicts_with(VIEW)?.conflicts_with(CALL_GRAPH)?)?
+        .arg(view.conflicts_with(CALL_GRAPH)?)?
+        .arg(call_graph)
+}
+
+// The passes.
+fn with_passes<'a>(alloc: Global, command: Command<'a>) -> Result<Command<'a>, AllocError> {
+    let erase_names = flag(
+        alloc,
+        ERASE_NAMES,
+        "Pass: take out the names of results and arguments, and the labels of blocks",
+    );
+    let dce = flag(
+        alloc,
+        DCE,
+        "Pass: erase what has no effect and whose results nothing uses",
+    );
+    let symbol_dce = flag(
+        alloc,
+        SYMBOL_DCE,
+        "Pass: erase private functions and modules right in the module that nothing uses",
+    );
+    command.arg(erase_names)?.arg(dce)?.arg(symbol_dce)
+}
+
+/// The words that a program takes.
+pub fn command<'a>(alloc: Global, about: &About) -> Result<Command<'a>, AllocError> {
+    let file = Arg::new(alloc, FILE).help(
+        "The file with the text; the standard input, if none is named",
+    );
+    let verify = flag(alloc, VERIFY, "Verify behind each pass too");
+    let command = Command::new(alloc, about.name)
+        .version(about.version)
+        .about(about.about)
+        .after_help(AFTER)
+        .arg(file)?
+        .arg(verify)?;
+    with_forms(alloc, with_passes(alloc, command)?)
+}
+
+// The option that asks for a pass.
+fn flag_of(pass: Pass) -> &'static str {
+    match pass {
+        Pass::EraseNames => ERASE_NAMES,
+        Pass::Dce => DCE,
+        Pass::SymbolDce => SYMBOL_DCE,
+    }
+}
+
+// The passes that are asked for, in the order of the command line.
+fn asked_passes(alloc: Global, matches: &ArgMatches<'_>) -> Result<Vec<Pass>, AllocError> {
+    let mut asked = Vec::new(alloc);
+    for pass in [Pass::EraseNames, Pass::Dce, Pass::SymbolDce] {
+        if matches.get_flag(flag_of(pass)) {
+            asked.push((matches.index_of(flag_of(pass)), pass))?;
+        }
+    }
+    asked.sort_by_key(|(place, _)| *place)?;
+    asked.iter().map(|(_, pass)| *pass).collect(alloc)
+}
+
+// How the operation is to be printed.
+fn asked_form(matches: &ArgMatches<'_>) -> Form {
+    if matches.get_flag(WALK) {
+        Form::Walk
+    } else if matches.get_flag(VIEW) {
+        Form::View
+    } else if matches.get_flag(CALL_GRAPH) {
+        Form::CallGraph
+    } else {
+        Form::Text
+    }
+}
+
+/// What a command line asks for.
+pub fn choose(alloc: Global, matches: &ArgMatches<'_>) -> Result<Choices, AllocError> {
+    Ok(Choices {
+        verify: matches.get_flag(VERIFY),
+        passes: asked_passes(alloc, matches)?,
+        form: asked_form(matches),
+    })
+}

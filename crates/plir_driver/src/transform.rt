@@ -1,0 +1,149 @@
+//! From the bytes of a text to what is printed.
+ghost use Rattle.std.specs.Prelude.{◌≡◌, ◌++◌, ◌⊎◌, true, codes, IfErr, IfOk, OnOk, string_bytes};
+ghost use Rattle.plir_core.specs.ContextView.{IsLive};
+ghost use Rattle.plir_core.specs.declared.ptr.IRNode.{IRNode as AnyNode};
+ghost use Rattle.plir_print.specs.OpText.{op_text};
+ghost use Rattle.plir_verify.specs.Rules.{AllHaveRules};
+ghost use Rattle.plir_driver.specs.Passed.{AreRun, IsRun};
+ghost use Rattle.plir_driver.specs.Stopped.{IsStopped, IsStoppedAt, IsStoppedIn, IsUnprinted};
+ghost use Rattle.plir_driver.specs.Transformed.{IsTransformed, IsPrintedAs};
+
+use crate::calls::draw_calls;
+use crate::choices::{Choices, Form, Pass};
+use crate::graph::draw;
+use crate::listing::list_nodes;
+use crate::passes::run_pass;
+use crate::stop::Stop;
+use plir_core::{Context, Operation, Ptr};
+use plir_passes::EffectSet;
+use plir_symbols::SymbolNames;
+use plir_text::{is_printable, print_op, read_op};
+use plir_verify::{VerifySet, verify_tree};
+use std::alloc::Global;
+
+/// What is printed for the bytes of a text: they are read as an operation, which is verified, taken through the passes,
+/// and printed.
+///
+/// # Errors
+///
+/// The first that holds of these: the bytes are no text, or a text that can't be read; an operation is refused, once
+/// all is read, or behind a pass; a symbol table is; one can't be printed; or memory or room for a node is wanting.
+pub fn transform<D: EffectSet + VerifySet + SymbolNames>(
+    alloc: Global,
+    choices: &Choices,
+    bytes: &[u8],
+) -> Result<String, Stop<D::Err>>
+    ensures transformed { IfOk result (λ t. IsTransformed D.OpSet D.has_effect D.uses_hold D.rule D.is_private
+        D.names_used choices.now.verify choices.now.passes.items choices.now.form bytes.now (string_bytes t)) }
+    ensures stopped { IfErr result (IsStopped D.OpSet D.has_effect D.uses_hold D.use_refusal D.rule D.rule_refusal
+        D.is_private D.names_used choices.now.verify choices.now.passes.items choices.now.form bytes.now) }
+{
+    match str::from_utf8(bytes) {
+        Ok(text) => transform_text::<D>(alloc, choices, text),
+        Err(_) => Err(Stop::NoText),
+    }
+}
+
+// The same of a text.
+fn transform_text<D: EffectSet + VerifySet + SymbolNames>(
+    alloc: Global,
+    choices: &Choices,
+    text: &str,
+) -> Result<String, Stop<D::Err>>
+    ensures transformed { IfOk result (λ t. IsTransformed D.OpSet D.has_effect D.uses_hold D.rule D.is_private
+        D.names_used choices.now.verify choices.now.passes.items choices.now.form text.now (string_bytes t)) }
+    ensures stopped { IfErr result (IsStopped D.OpSet D.has_effect D.uses_hold D.use_refusal D.rule D.rule_refusal
+        D.is_private D.names_used choices.now.verify choices.now.passes.items choices.now.form text.now) }
+{
+    let mut ctx = Context::<D>::new(alloc);
+    let root = read_op(alloc, &mut ctx, text)?;
+    verify_tree(alloc, &ctx, root)?;
+    run_passes(
+        alloc,
+        choices.verify,
+        choices.passes.as_slice(),
+        &mut ctx,
+        root,
+    )?;
+    print(alloc, choices.form, &ctx, root)
+}
+
+// Runs passes, one after another.
+fn run_passes<D: EffectSet + VerifySet + SymbolNames>(
+    alloc: Global,
+    verify: bool,
+    passes: &[Pass],
+    ctx: &mut Context<D>,
+    root: Ptr<Operation>,
+) -> Result<(), Stop<D::Err>>
+    requires { IsLive ctx.old (AnyNode.Operation root) }
+    ensures live { IsLive ctx.new (AnyNode.Operation root) }
+    ensures passed { OnOk result (AreRun D.OpSet D.has_effect D.is_private D.names_used root D.uses_hold D.rule verify
+        passes.now ctx.old ctx.new) }
+    ensures stopped { IfErr result (IsStoppedIn D.OpSet D.has_effect D.uses_hold D.use_refusal D.rule D.rule_refusal
+        D.is_private D.names_used root verify passes.now ctx.old) }
+{
+    for pass in passes {
+        run_one(alloc, verify, *pass, ctx, root)?;
+    }
+    Ok(())
+}
+
+// Runs a pass, and verifies behind it, if that is asked for.
+fn run_one<D: EffectSet + VerifySet + SymbolNames>(
+    alloc: Global,
+    verify: bool,
+    pass: Pass,
+    ctx: &mut Context<D>,
+    root: Ptr<Operation>,
+) -> Result<(), Stop<D::Err>>
+    requires { IsLive ctx.old (AnyNode.Operation root) }
+    ensures live { IsLive ctx.new (AnyNode.Operation root) }
+    ensures passed { OnOk result (IsRun D.OpSet D.has_effect D.is_private D.names_used root pass ctx.old ctx.new) }
+    ensures verified { OnOk result (verify ≡ true → AllHaveRules D.OpSet D.uses_hold D.rule ctx.new root) }
+    ensures stopped { IfErr result (IsStoppedAt D.OpSet D.has_effect D.uses_hold D.use_refusal D.rule D.rule_refusal
+        D.is_private D.names_used root verify pass ctx.old) }
+{
+    run_pass(alloc, pass, ctx, root)?;
+    if verify {
+        verify_tree(alloc, ctx, root)?;
+    }
+    Ok(())
+}
+
+// An operation with all below it, as it is to be printed.
+fn print<D: SymbolNames>(
+    alloc: Global,
+    form: Form,
+    ctx: &Context<D>,
+    root: Ptr<Operation>,
+) -> Result<String, Stop<D::Err>>
+    requires { IsLive ctx.now (AnyNode.Operation root) }
+    ensures printed { IfOk result (λ t. IsPrintedAs D.OpSet D.names_used ctx.now root form (string_bytes t)) }
+    ensures unprinted { IfErr result (IsUnprinted D.OpSet D.names_used root form ctx.now) }
+{
+    match form {
+        Form::Text => print_text(alloc, ctx, root),
+        Form::Walk => Ok(list_nodes(alloc, ctx, root)?),
+        Form::View => Ok(draw(alloc, ctx, root)?),
+        Form::CallGraph => Ok(draw_calls(alloc, ctx, root)?),
+    }
+}
+
+// The text of an operation with all below it, and a line feed.
+fn print_text<D: SymbolNames>(
+    alloc: Global,
+    ctx: &Context<D>,
+    root: Ptr<Operation>,
+) -> Result<String, Stop<D::Err>>
+    requires { IsLive ctx.now (AnyNode.Operation root) }
+    ensures text { IfOk result (λ t. string_bytes t ≡ op_text D.OpSet ctx.now root ++ codes "\n") }
+    ensures unprinted { IfErr result (IsUnprinted D.OpSet D.names_used root Form.Text ctx.now) }
+{
+    if !is_printable(ctx, root) {
+        return Err(Stop::Unprintable);
+    }
+    let mut text = print_op(alloc, ctx, root)?;
+    text.push_str("\n")?;
+    Ok(text)
+}
