@@ -5,3 +5,4 @@ mod Boxes
 mod NodesPut
 mod Ending
 mod Stopping
+mod Naming

@@ -9,6 +9,7 @@
 --   NodeNames    node_name: how lists and graphs name a node
 --   NodeLines    IsListed, IsGraphed: a text lists the nodes of a tree, or draws them
 --   DrawnCalls   IsDrawn: a text draws the call graph of a tree
+--   Pipelines    AreNames: words are the names of passes; AreRefused: one of them is not
 --   BoxesPut     how the boxes of a call graph are put behind a text
 pub mod Passed
 pub mod Excerpt
@@ -20,3 +21,4 @@ pub mod NodeNames
 pub mod NodeLines
 pub mod DrawnCalls
 pub mod BoxesPut
+pub mod Pipelines

@@ -1,4 +1,6 @@
 //! What is done with an operation, and how it is printed.
+ghost use Rattle.std.specs.Prelude.{◌≡◌};
+ghost use Rattle.plir_driver.specs.Pipelines.{pass_name};
 
 /// A pass over an operation and all below it.
 #[derive(Clone, Copy, Debug, PartialEq, Eq)]
@@ -9,6 +11,19 @@ pub enum Pass {
     Dce,
     /// Erases dead symbols of the operation, which is a symbol table.
     SymbolDce,
+}
+
+impl Pass {
+    /// The name under which a command line asks for it.
+    pub fn name(self) -> &'static str
+        ensures { result.now ≡ pass_name self }
+    {
+        match self {
+            Pass::EraseNames => "erase-names",
+            Pass::Dce => "dce",
+            Pass::SymbolDce => "symbol-dce",
+        }
+    }
 }
 
 /// How an operation is printed.

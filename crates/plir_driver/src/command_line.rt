@@ -1,5 +1,10 @@
 //! The command line.
+ghost use Rattle.std.specs.Prelude.{IfErr, IfOk};
+ghost use Rattle.clap.specs.Matches.{first_value, found_of};
+ghost use Rattle.plir_driver.specs.Pipelines.{AreGiven, IsRefusedGiven};
+
 use crate::choices::{Choices, Form, Pass};
+use crate::pipeline::{PipelineErr, passes_named};
 use clap::{Arg, ArgAction, ArgMatches, Command};
 use std::alloc::{AllocError, Global};
 
@@ -18,11 +23,7 @@ pub const FILE: &str = "FILE";
 
 const VERIFY: &str = "verify";
 
-const ERASE_NAMES: &str = "erase-names";
-
-const DCE: &str = "dce";
-
-const SYMBOL_DCE: &str = "symbol-dce";
+const PASS_PIPELINE: &str = "pass-pipeline";
 
 const WALK: &str = "walk";
 
@@ -66,24 +67,35 @@ fn with_forms<'a>(alloc: Global, command: Command<'a>) -> Result<Command<'a>, Al
         .arg(call_graph)
 }
 
-// The passes.
+// The passes, each by an option of its own, or all by their names.
 fn with_passes<'a>(alloc: Global, command: Command<'a>) -> Result<Command<'a>, AllocError> {
     let erase_names = flag(
         alloc,
-        ERASE_NAMES,
+        Pass::EraseNames.name(),
         "Pass: take out the names of results and arguments, and the labels of blocks",
     );
     let dce = flag(
         alloc,
-        DCE,
+        Pass::Dce.name(),
         "Pass: erase what has no effect and whose results nothing uses",
     );
     let symbol_dce = flag(
         alloc,
-        SYMBOL_DCE,
+        Pass::SymbolDce.name(),
         "Pass: erase private functions and modules right in the module that nothing uses",
     );
-    command.arg(erase_names)?.arg(dce)?.arg(symbol_dce)
+    let pipeline = Arg::new(alloc, PASS_PIPELINE)
+        .long(PASS_PIPELINE)
+        .value_name("PASSES")
+        .help("Passes by their names, with commas between them, in the order in which they run")
+        .conflicts_with(Pass::EraseNames.name())?
+        .conflicts_with(Pass::Dce.name())?
+        .conflicts_with(Pass::SymbolDce.name())?;
+    command
+        .arg(erase_names)?
+        .arg(dce)?
+        .arg(symbol_dce)?
+        .arg(pipeline)
 }
 
 /// The words that a program takes.
@@ -101,21 +113,12 @@ pub fn command<'a>(alloc: Global, about: &About) -> Result<Command<'a>, AllocErr
     with_forms(alloc, with_passes(alloc, command)?)
 }
 
-// The option that asks for a pass.
-fn flag_of(pass: Pass) -> &'static str {
-    match pass {
-        Pass::EraseNames => ERASE_NAMES,
-        Pass::Dce => DCE,
-        Pass::SymbolDce => SYMBOL_DCE,
-    }
-}
-
-// The passes that are asked for, in the order of the command line.
+// The passes that options of their own ask for, in the order of the command line.
 fn asked_passes(alloc: Global, matches: &ArgMatches<'_>) -> Result<Vec<Pass>, AllocError> {
     let mut asked = Vec::new(alloc);
     for pass in [Pass::EraseNames, Pass::Dce, Pass::SymbolDce] {
-        if matches.get_flag(flag_of(pass)) {
-            asked.push((matches.index_of(flag_of(pass)), pass))?;
+        if matches.get_flag(pass.name()) {
+            asked.push((matches.index_of(pass.name()), pass))?;
         }
     }
     asked.sort_by_key(|(place, _)| *place)?;
@@ -136,10 +139,21 @@ fn asked_form(matches: &ArgMatches<'_>) -> Form {
 }
 
 /// What a command line asks for.
-pub fn choose(alloc: Global, matches: &ArgMatches<'_>) -> Result<Choices, AllocError> {
+///
+/// # Errors
+///
+/// As [`passes_named`], where passes are given by their names.
+pub fn choose<'a>(alloc: Global, matches: &ArgMatches<'a>) -> Result<Choices, PipelineErr<'a>>
+    ensures named { IfOk result (λ c. AreGiven (first_value (found_of matches.now) PASS_PIPELINE.now) c.passes.items) }
+    ensures refused { IfErr result (IsRefusedGiven (first_value (found_of matches.now) PASS_PIPELINE.now)) }
+{
+    let passes = match matches.get_str(PASS_PIPELINE) {
+        Some(names) => passes_named(alloc, names)?,
+        None => asked_passes(alloc, matches)?,
+    };
     Ok(Choices {
         verify: matches.get_flag(VERIFY),
-        passes: asked_passes(alloc, matches)?,
+        passes,
         form: asked_form(matches),
     })
 }

@@ -13,6 +13,7 @@ mod graph;
 mod listing;
 mod nodes;
 mod passes;
+mod pipeline;
 mod running;
 mod source;
 pub mod stop;

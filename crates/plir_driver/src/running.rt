@@ -1,13 +1,16 @@
 //! A program's run, from its command line to its status.
+use crate::choices::Choices;
 use crate::command_line::{About, FILE, choose, command};
+use crate::pipeline::PipelineErr;
 use crate::source::read_source;
 use crate::telling::tell;
 use crate::transform::transform;
-use clap::ArgMatches;
 use clap::error::ErrorKind;
+use clap::{ArgMatches, Command};
 use plir_passes::EffectSet;
 use plir_symbols::SymbolNames;
 use plir_verify::VerifySet;
+use std::alloc::AllocError;
 use std::env;
 use std::io::{self, Write};
 use std::process::ExitCode;
@@ -24,22 +27,36 @@ pub fn opt_main<D: EffectSet + VerifySet + SymbolNames>(
     about: &About,
 ) -> anyhow::Result<ExitCode> {
     let words: Vec<String> = env::args(rt)?.collect(rt.alloc())?;
-    let command = command(rt.alloc(), about)?;
-    match command.try_get_matches_from(words.as_slice()) {
-        Ok(matches) => run::<D>(rt, &matches),
-        Err(error) => {
-            error.print(rt)?;
-            Ok(status_of(&error))
-        }
+    let mut command = command(rt.alloc(), about)?;
+    match command.try_get_matches_from_mut(words.as_slice()) {
+        Ok(matches) => run_chosen::<D>(rt, &mut command, &matches),
+        Err(error) => refuse(rt, &error),
     }
 }
 
-// The status where the command line asks for no run: 0 for help, 2 for a mistake, 1 where memory is wanting.
-fn status_of(error: &clap::Error) -> ExitCode {
-    match error.kind() {
+// Tells why the command line asks for no run. The status is 0 for help, 2 for a mistake, 1 where memory is wanting.
+fn refuse(rt: &HostRuntime, error: &clap::Error) -> anyhow::Result<ExitCode> {
+    error.print(rt)?;
+    Ok(match error.kind() {
         ErrorKind::DisplayHelp | ErrorKind::DisplayVersion => ExitCode::SUCCESS,
         ErrorKind::OutOfMemory => ExitCode::FAILURE,
         _ => ExitCode::from(2),
+    })
+}
+
+// Runs what is asked for, if each name of a pass is one.
+fn run_chosen<D: EffectSet + VerifySet + SymbolNames>(
+    rt: &HostRuntime,
+    command: &mut Command<'_>,
+    matches: &ArgMatches<'_>,
+) -> anyhow::Result<ExitCode> {
+    match choose(rt.alloc(), matches) {
+        Ok(choices) => run::<D>(rt, matches, &choices),
+        Err(PipelineErr::NoPass { name }) => {
+            let what = format!(in rt.alloc(); "'{name}' is the name of no pass")?;
+            refuse(rt, &command.error(ErrorKind::InvalidValue, what.as_str())?)
+        }
+        Err(PipelineErr::OutOfMemory) => refuse(rt, &AllocError.into()),
     }
 }
 
@@ -48,8 +65,8 @@ fn status_of(error: &clap::Error) -> ExitCode {
 fn run<D: EffectSet + VerifySet + SymbolNames>(
     rt: &HostRuntime,
     matches: &ArgMatches<'_>,
+    choices: &Choices,
 ) -> anyhow::Result<ExitCode> {
-    let choices = choose(rt.alloc(), matches)?;
     let file = matches.get_str(FILE);
     let name = file.unwrap_or("<stdin>");
     let bytes = match read_source(rt, file) {
@@ -59,7 +76,7 @@ fn run<D: EffectSet + VerifySet + SymbolNames>(
             return Ok(ExitCode::FAILURE);
         }
     };
-    match transform::<D>(rt.alloc(), &choices, bytes.as_slice()) {
+    match transform::<D>(rt.alloc(), choices, bytes.as_slice()) {
         Ok(text) => {
             io::writer(rt).write_all(text.as_bytes())?;
             Ok(ExitCode::SUCCESS)
