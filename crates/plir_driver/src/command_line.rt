@@ -21,6 +21,9 @@ pub struct About {
 /// The name of the argument that is the file.
 pub const FILE: &str = "FILE";
 
+/// The name of the argument that is the file of the output.
+pub const OUTPUT: &str = "output";
+
 const VERIFY: &str = "verify";
 
 const PASS_PIPELINE: &str = "pass-pipeline";
@@ -33,8 +36,8 @@ const CALL_GRAPH: &str = "call-graph";
 
 const AFTER: &str =
     "The operation and all below it are verified once they are read. Passes run in the order of the \
-command line. Nothing goes to the standard output before all has gone well. The status is 1 where the text can't be \
-read, an operation is refused or memory runs out, and 2 for a wrong command line.";
+command line. Nothing is printed before all has gone well. The status is 1 where the text can't be read, an operation \
+is refused or memory runs out, and 2 for a wrong command line.";
 
 // An option without a value.
 fn flag<'a>(alloc: Global, id: &'a str, help: &'a str) -> Arg<'a> {
@@ -103,12 +106,17 @@ pub fn command<'a>(alloc: Global, about: &About) -> Result<Command<'a>, AllocErr
     let file = Arg::new(alloc, FILE).help(
         "The file with the text; the standard input, if none is named",
     );
+    let output = Arg::new(alloc, OUTPUT)
+        .short('o')
+        .value_name("OUT")
+        .help("The file that what is printed goes to; the standard output, if none is named");
     let verify = flag(alloc, VERIFY, "Verify behind each pass too");
     let command = Command::new(alloc, about.name)
         .version(about.version)
         .about(about.about)
         .after_help(AFTER)
         .arg(file)?
+        .arg(output)?
         .arg(verify)?;
     with_forms(alloc, with_passes(alloc, command)?)
 }

@@ -12,6 +12,7 @@ mod excerpt;
 mod graph;
 mod listing;
 mod nodes;
+mod output;
 mod passes;
 mod pipeline;
 mod running;

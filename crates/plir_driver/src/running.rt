@@ -1,6 +1,7 @@
 //! A program's run, from its command line to its status.
 use crate::choices::Choices;
-use crate::command_line::{About, FILE, choose, command};
+use crate::command_line::{About, FILE, OUTPUT, choose, command};
+use crate::output::write_output;
 use crate::pipeline::PipelineErr;
 use crate::source::read_source;
 use crate::telling::tell;
@@ -12,7 +13,7 @@ use plir_symbols::SymbolNames;
 use plir_verify::VerifySet;
 use std::alloc::AllocError;
 use std::env;
-use std::io::{self, Write};
+use std::io;
 use std::process::ExitCode;
 
 /// The whole of a program over an op set, as its command line asks for it: it reads the text of one operation, verifies
@@ -60,8 +61,8 @@ fn run_chosen<D: EffectSet + VerifySet + SymbolNames>(
     }
 }
 
-// Reads, transforms and prints. Nothing goes to the standard output where the status is not 0, but for what was written
-// when the output itself failed.
+// Reads, transforms and prints. Nothing is printed where the status is not 0, but for what was written when the output
+// itself failed.
 fn run<D: EffectSet + VerifySet + SymbolNames>(
     rt: &HostRuntime,
     matches: &ArgMatches<'_>,
@@ -71,19 +72,27 @@ fn run<D: EffectSet + VerifySet + SymbolNames>(
     let name = file.unwrap_or("<stdin>");
     let bytes = match read_source(rt, file) {
         Ok(bytes) => bytes,
-        Err(error) => {
-            eprintln!(rt; "{name}: {error}")?;
-            return Ok(ExitCode::FAILURE);
-        }
+        Err(error) => return fail(rt, name, &error),
     };
     match transform::<D>(rt.alloc(), choices, bytes.as_slice()) {
-        Ok(text) => {
-            io::writer(rt).write_all(text.as_bytes())?;
-            Ok(ExitCode::SUCCESS)
-        }
+        Ok(text) => put_out(rt, matches.get_str(OUTPUT), text.as_str()),
         Err(stop) => {
             tell(rt.alloc(), &mut rt.stderr(), name, bytes.as_slice(), &stop)?;
             Ok(ExitCode::FAILURE)
         }
     }
+}
+
+// Prints what is to be printed.
+fn put_out(rt: &HostRuntime, file: Option<&str>, text: &str) -> anyhow::Result<ExitCode> {
+    match write_output(rt, file, text) {
+        Ok(()) => Ok(ExitCode::SUCCESS),
+        Err(error) => fail(rt, file.unwrap_or("<stdout>"), &error),
+    }
+}
+
+// Tells why a file can't be read or written.
+fn fail(rt: &HostRuntime, name: &str, error: &io::Error) -> anyhow::Result<ExitCode> {
+    eprintln!(rt; "{name}: {error}")?;
+    Ok(ExitCode::FAILURE)
 }
