@@ -10,6 +10,7 @@
 --   NodeLines    IsListed, IsGraphed: a text lists the nodes of a tree, or draws them
 --   DrawnCalls   IsDrawn: a text draws the call graph of a tree
 --   Pipelines    AreNames: words are the names of passes; AreRefused: one of them is not
+--   Dumps        AreToldOf: what is told of passes as they run
 --   BoxesPut     how the boxes of a call graph are put behind a text
 pub mod Passed
 pub mod Excerpt
@@ -22,3 +23,4 @@ pub mod NodeLines
 pub mod DrawnCalls
 pub mod BoxesPut
 pub mod Pipelines
+pub mod Dumps

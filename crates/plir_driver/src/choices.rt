@@ -48,4 +48,15 @@ pub struct Choices {
     pub passes: Vec<Pass>,
     /// How the operation is printed.
     pub form: Form,
+    /// What is told of the passes as they run.
+    pub reports: Reports,
+}
+
+/// What is told of passes as they run.
+#[derive(Drop)]
+pub struct Reports {
+    /// The passes in front of which the operation is told.
+    pub before: Vec<Pass>,
+    /// Whether the operation is told behind each pass.
+    pub after_all: bool,
 }

@@ -1,9 +1,9 @@
 //! The command line.
-ghost use Rattle.std.specs.Prelude.{IfErr, IfOk};
+ghost use Rattle.std.specs.Prelude.{◌⊎◌, IfErr, IfOk};
 ghost use Rattle.clap.specs.Matches.{first_value, found_of};
 ghost use Rattle.plir_driver.specs.Pipelines.{AreGiven, IsRefusedGiven};
 
-use crate::choices::{Choices, Form, Pass};
+use crate::choices::{Choices, Form, Pass, Reports};
 use crate::pipeline::{PipelineErr, passes_named};
 use clap::{Arg, ArgAction, ArgMatches, Command};
 use std::alloc::{AllocError, Global};
@@ -26,7 +26,13 @@ pub const OUTPUT: &str = "output";
 
 const VERIFY: &str = "verify";
 
+const VERIFY_EACH: &str = "verify-each";
+
 const PASS_PIPELINE: &str = "pass-pipeline";
+
+const PRINT_BEFORE: &str = "print-before";
+
+const PRINT_AFTER_ALL: &str = "print-after-all";
 
 const WALK: &str = "walk";
 
@@ -101,6 +107,20 @@ fn with_passes<'a>(alloc: Global, command: Command<'a>) -> Result<Command<'a>, A
         .arg(pipeline)
 }
 
+// What is told of passes as they run.
+fn with_reports<'a>(alloc: Global, command: Command<'a>) -> Result<Command<'a>, AllocError> {
+    let before = Arg::new(alloc, PRINT_BEFORE)
+        .long(PRINT_BEFORE)
+        .value_name("PASSES")
+        .help("Print the operation to the standard error in front of these passes, named as in a pipeline");
+    let after_all = flag(
+        alloc,
+        PRINT_AFTER_ALL,
+        "Print the operation to the standard error behind each pass",
+    );
+    command.arg(before)?.arg(after_all)
+}
+
 /// The words that a program takes.
 pub fn command<'a>(alloc: Global, about: &About) -> Result<Command<'a>, AllocError> {
     let file = Arg::new(alloc, FILE).help(
@@ -110,7 +130,7 @@ pub fn command<'a>(alloc: Global, about: &About) -> Result<Command<'a>, AllocErr
         .short('o')
         .value_name("OUT")
         .help("The file that what is printed goes to; the standard output, if none is named");
-    let verify = flag(alloc, VERIFY, "Verify behind each pass too");
+    let verify = flag(alloc, VERIFY, "Verify behind each pass too").visible_alias(VERIFY_EACH)?;
     let command = Command::new(alloc, about.name)
         .version(about.version)
         .about(about.about)
@@ -118,7 +138,8 @@ pub fn command<'a>(alloc: Global, about: &About) -> Result<Command<'a>, AllocErr
         .arg(file)?
         .arg(output)?
         .arg(verify)?;
-    with_forms(alloc, with_passes(alloc, command)?)
+    let command = with_reports(alloc, with_passes(alloc, command)?)?;
+    with_forms(alloc, command)
 }
 
 // The passes that options of their own ask for, in the order of the command line.
@@ -146,6 +167,21 @@ fn asked_form(matches: &ArgMatches<'_>) -> Form {
     }
 }
 
+// What is to be told of passes.
+fn asked_reports<'a>(alloc: Global, matches: &ArgMatches<'a>) -> Result<Reports, PipelineErr<'a>>
+    ensures named { IfOk result (λ r. AreGiven (first_value (found_of matches.now) PRINT_BEFORE.now) r.before.items) }
+    ensures refused { IfErr result (IsRefusedGiven (first_value (found_of matches.now) PRINT_BEFORE.now)) }
+{
+    let before = match matches.get_str(PRINT_BEFORE) {
+        Some(names) => passes_named(alloc, names)?,
+        None => Vec::new(alloc),
+    };
+    Ok(Reports {
+        before,
+        after_all: matches.get_flag(PRINT_AFTER_ALL),
+    })
+}
+
 /// What a command line asks for.
 ///
 /// # Errors
@@ -153,7 +189,10 @@ fn asked_form(matches: &ArgMatches<'_>) -> Form {
 /// As [`passes_named`], where passes are given by their names.
 pub fn choose<'a>(alloc: Global, matches: &ArgMatches<'a>) -> Result<Choices, PipelineErr<'a>>
     ensures named { IfOk result (λ c. AreGiven (first_value (found_of matches.now) PASS_PIPELINE.now) c.passes.items) }
-    ensures refused { IfErr result (IsRefusedGiven (first_value (found_of matches.now) PASS_PIPELINE.now)) }
+    ensures told { IfOk result (λ c. AreGiven (first_value (found_of matches.now) PRINT_BEFORE.now)
+        c.reports.before.items) }
+    ensures refused { IfErr result (λ e. IsRefusedGiven (first_value (found_of matches.now) PASS_PIPELINE.now) e
+        ⊎ IsRefusedGiven (first_value (found_of matches.now) PRINT_BEFORE.now) e) }
 {
     let passes = match matches.get_str(PASS_PIPELINE) {
         Some(names) => passes_named(alloc, names)?,
@@ -163,5 +202,6 @@ pub fn choose<'a>(alloc: Global, matches: &ArgMatches<'a>) -> Result<Choices, Pi
         verify: matches.get_flag(VERIFY),
         passes,
         form: asked_form(matches),
+        reports: asked_reports(alloc, matches)?,
     })
 }

@@ -74,7 +74,10 @@ fn run<D: EffectSet + VerifySet + SymbolNames>(
         Ok(bytes) => bytes,
         Err(error) => return fail(rt, name, &error),
     };
-    match transform::<D>(rt.alloc(), choices, bytes.as_slice()) {
+    let mut log = String::new(rt.alloc());
+    let printed = transform::<D>(rt.alloc(), choices, bytes.as_slice(), &mut log);
+    rt.eprint(log.as_str())?;
+    match printed {
         Ok(text) => put_out(rt, matches.get_str(OUTPUT), text.as_str()),
         Err(stop) => {
             tell(rt.alloc(), &mut rt.stderr(), name, bytes.as_slice(), &stop)?;

@@ -4,12 +4,14 @@ ghost use Rattle.plir_core.specs.ContextView.{IsLive};
 ghost use Rattle.plir_core.specs.declared.ptr.IRNode.{IRNode as AnyNode};
 ghost use Rattle.plir_print.specs.OpText.{op_text};
 ghost use Rattle.plir_verify.specs.Rules.{AllHaveRules};
+ghost use Rattle.plir_driver.specs.Dumps.{AreTold, AreToldOf, IsToldOf};
 ghost use Rattle.plir_driver.specs.Passed.{AreRun, IsRun};
 ghost use Rattle.plir_driver.specs.Stopped.{IsStopped, IsStoppedAt, IsStoppedIn, IsUnprinted};
 ghost use Rattle.plir_driver.specs.Transformed.{IsTransformed, IsPrintedAs};
 
 use crate::calls::draw_calls;
-use crate::choices::{Choices, Form, Pass};
+use crate::choices::{Choices, Form, Pass, Reports};
+use crate::dumps::{is_told_before, put_dump};
 use crate::graph::draw;
 use crate::listing::list_nodes;
 use crate::passes::run_pass;
@@ -22,7 +24,7 @@ use plir_verify::{VerifySet, verify_tree};
 use std::alloc::Global;
 
 /// What is printed for the bytes of a text: they are read as an operation, which is verified, taken through the passes,
-/// and printed.
+/// and printed. What is told of the passes as they run is put behind the log.
 ///
 /// # Errors
 ///
@@ -32,14 +34,17 @@ pub fn transform<D: EffectSet + VerifySet + SymbolNames>(
     alloc: Global,
     choices: &Choices,
     bytes: &[u8],
+    log: &mut String,
 ) -> Result<String, Stop<D::Err>>
     ensures transformed { IfOk result (λ t. IsTransformed D.OpSet D.has_effect D.uses_hold D.rule D.is_private
         D.names_used choices.now.verify choices.now.passes.items choices.now.form bytes.now (string_bytes t)) }
     ensures stopped { IfErr result (IsStopped D.OpSet D.has_effect D.uses_hold D.use_refusal D.rule D.rule_refusal
         D.is_private D.names_used choices.now.verify choices.now.passes.items choices.now.form bytes.now) }
+    ensures told { OnOk result (AreToldOf D.OpSet D.has_effect D.is_private D.names_used choices.now.reports
+        choices.now.passes.items bytes.now (string_bytes log.old) (string_bytes log.new)) }
 {
     match str::from_utf8(bytes) {
-        Ok(text) => transform_text::<D>(alloc, choices, text),
+        Ok(text) => transform_text::<D>(alloc, choices, text, log),
         Err(_) => Err(Stop::NoText),
     }
 }
@@ -49,11 +54,14 @@ fn transform_text<D: EffectSet + VerifySet + SymbolNames>(
     alloc: Global,
     choices: &Choices,
     text: &str,
+    log: &mut String,
 ) -> Result<String, Stop<D::Err>>
     ensures transformed { IfOk result (λ t. IsTransformed D.OpSet D.has_effect D.uses_hold D.rule D.is_private
         D.names_used choices.now.verify choices.now.passes.items choices.now.form text.now (string_bytes t)) }
     ensures stopped { IfErr result (IsStopped D.OpSet D.has_effect D.uses_hold D.use_refusal D.rule D.rule_refusal
         D.is_private D.names_used choices.now.verify choices.now.passes.items choices.now.form text.now) }
+    ensures told { OnOk result (AreToldOf D.OpSet D.has_effect D.is_private D.names_used choices.now.reports
+        choices.now.passes.items text.now (string_bytes log.old) (string_bytes log.new)) }
 {
     let mut ctx = Context::<D>::new(alloc);
     let root = read_op(alloc, &mut ctx, text)?;
@@ -62,8 +70,10 @@ fn transform_text<D: EffectSet + VerifySet + SymbolNames>(
         alloc,
         choices.verify,
         choices.passes.as_slice(),
+        &choices.reports,
         &mut ctx,
         root,
+        log,
     )?;
     print(alloc, choices.form, &ctx, root)
 }
@@ -73,8 +83,10 @@ fn run_passes<D: EffectSet + VerifySet + SymbolNames>(
     alloc: Global,
     verify: bool,
     passes: &[Pass],
+    reports: &Reports,
     ctx: &mut Context<D>,
     root: Ptr<Operation>,
+    log: &mut String,
 ) -> Result<(), Stop<D::Err>>
     requires { IsLive ctx.old (AnyNode.Operation root) }
     ensures live { IsLive ctx.new (AnyNode.Operation root) }
@@ -82,10 +94,38 @@ fn run_passes<D: EffectSet + VerifySet + SymbolNames>(
         passes.now ctx.old ctx.new) }
     ensures stopped { IfErr result (IsStoppedIn D.OpSet D.has_effect D.uses_hold D.use_refusal D.rule D.rule_refusal
         D.is_private D.names_used root verify passes.now ctx.old) }
+    ensures told { OnOk result (AreTold D.OpSet D.has_effect D.is_private D.names_used reports.now root passes.now
+        ctx.old ctx.new (string_bytes log.old) (string_bytes log.new)) }
 {
     for pass in passes {
-        run_one(alloc, verify, *pass, ctx, root)?;
+        run_told(alloc, verify, *pass, reports, ctx, root, log)?;
     }
+    Ok(())
+}
+
+// Runs a pass, and tells the operation in front of it and behind it, as far as that is asked for.
+fn run_told<D: EffectSet + VerifySet + SymbolNames>(
+    alloc: Global,
+    verify: bool,
+    pass: Pass,
+    reports: &Reports,
+    ctx: &mut Context<D>,
+    root: Ptr<Operation>,
+    log: &mut String,
+) -> Result<(), Stop<D::Err>>
+    requires { IsLive ctx.old (AnyNode.Operation root) }
+    ensures live { IsLive ctx.new (AnyNode.Operation root) }
+    ensures passed { OnOk result (IsRun D.OpSet D.has_effect D.is_private D.names_used root pass ctx.old ctx.new) }
+    ensures verified { OnOk result (verify ≡ true → AllHaveRules D.OpSet D.uses_hold D.rule ctx.new root) }
+    ensures stopped { IfErr result (IsStoppedAt D.OpSet D.has_effect D.uses_hold D.use_refusal D.rule D.rule_refusal
+        D.is_private D.names_used root verify pass ctx.old) }
+    ensures told { OnOk result (IsToldOf D.OpSet root reports.now pass ctx.old ctx.new (string_bytes log.old)
+        (string_bytes log.new)) }
+{
+    let before = is_told_before(reports, pass);
+    put_dump(log, alloc, before, "Before", pass, ctx, root)?;
+    run_one(alloc, verify, pass, ctx, root)?;
+    put_dump(log, alloc, reports.after_all, "After", pass, ctx, root)?;
     Ok(())
 }
 

@@ -1,0 +1,63 @@
+-- What is told of passes as they run.
+use Rattle.std.specs.Prelude.{◌≡◌, ◌⊎◌, ℕ, Bool, true, List, [], ◌∷◌, ◌++◌, codes}
+use Rattle.std.specs.List.{Contains}
+use Rattle.plir_data.specs.declared.op_set.OpSet as op_set
+use Rattle.plir_core.specs.declared.ptr.Ptr.{Ptr}
+use Rattle.plir_core.specs.declared.ptr.Operation.{Operation as OperationKind}
+use Rattle.plir_core.specs.declared.ptr.IRNode.TheVariants.{Operation}
+use Rattle.plir_core.specs.Contents.{OpView}
+use Rattle.plir_core.specs.ContextView.{ContextView}
+use Rattle.plir_print.specs.HeaderAttrs.{IsPrintable}
+use Rattle.plir_print.specs.OpText.{op_text}
+use Rattle.plir_read.specs.OpsStanding.{StandsForOp}
+use Rattle.plir_driver.specs.declared.choices.Pass.{Pass}
+use Rattle.plir_driver.specs.declared.choices.Reports.{Reports}
+use Rattle.plir_driver.specs.Passed.{IsRun}
+use Rattle.plir_driver.specs.Pipelines.{pass_name}
+
+-- what is shown, under a line that names a moment and a pass, and an empty line behind it
+abbrev pub dump : (moment : List ℕ) → Pass → List ℕ → List ℕ
+dump moment pass shown =
+    codes "// -----// IR Dump " ++ (moment ++ (codes " " ++ (pass_name pass ++ (codes " //----- //\n" ++ (shown
+    ++ codes "\n\n")))))
+
+module _ {D K A T E : Type 0} (o : op_set.Ghosts D K A T E) (root : Ptr OperationKind) where
+  -- the text of the operation; or, where an operation lacks an attribute that its text tells, that it does
+  abbrev pub IsShown : ContextView K A T → List ℕ → Type 0
+  IsShown s shown =
+      (IsPrintable s (Operation root) × (shown ≡ op_text o s root))
+      ⊎ ((IsPrintable s (Operation root) → ⊥) × (shown ≡ codes "an operation lacks an attribute that its text tells"))
+
+  -- it stands behind a text, under its line
+  abbrev pub IsDumped : (moment : List ℕ) → Pass → ContextView K A T → List ℕ → List ℕ → Type 0
+  IsDumped moment pass s t t' = (shown : List ℕ) × IsShown s shown × (t' ≡ t ++ dump moment pass shown)
+
+  -- it does where P holds, and else nothing is put
+  pub record IsDumpedWhere (P : Type 0) (moment : List ℕ) (pass : Pass) (s : ContextView K A T) (t t' : List ℕ)
+      : Type 0 where
+    pub asked : P → IsDumped moment pass s t t'
+    pub unasked : (P → ⊥) → t' ≡ t
+
+  -- A pass went from s to u: the operation as it was in s stands behind a text, if it is to be told in front of the
+  -- pass, and then as it is in u, if it is to be told behind each.
+  pub record IsToldOf (reports : Reports) (pass : Pass) (s u : ContextView K A T) (t t' : List ℕ) : Type 0 where
+    pub between : List ℕ
+    pub before : IsDumpedWhere (Contains reports.before.items pass) (codes "Before") pass s t between
+    pub after : IsDumpedWhere (reports.after_all ≡ true) (codes "After") pass u between t'
+
+module _ {D K A T E : Type 0} (o : op_set.Ghosts D K A T E) (effect : K → Bool) (private : OpView K A → Bool)
+    (names : OpView K A → List (List ℕ)) (reports : Reports) where
+  -- From s to t passes were run over the operation root, one after another, and of each is told what is to be.
+  abbrev pub AreTold : Ptr OperationKind → List Pass → ContextView K A T → ContextView K A T → List ℕ → List ℕ → Type 0
+  AreTold root [] s t w w' = (t ≡ s) × (w' ≡ w)
+  AreTold root (x ∷ xs) s t w w' =
+      (u : ContextView K A T) × (v : List ℕ) × IsRun o effect private names root x s u
+      × IsToldOf o root reports x s u w v × AreTold root xs u t v w'
+
+  -- A text stands for an operation, and of the passes over it is told what is to be.
+  pub record AreToldOf (passes : List Pass) (text w w' : List ℕ) : Type 0 where
+    pub root : Ptr OperationKind
+    pub read : ContextView K A T
+    pub left : ContextView K A T
+    pub stands : StandsForOp 200 read text (Operation root)
+    pub told : AreTold root passes read left w w'
