@@ -6,3 +6,4 @@ mod NodesPut
 mod Ending
 mod Stopping
 mod Naming
+mod Cutting

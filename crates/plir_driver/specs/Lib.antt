@@ -11,6 +11,7 @@
 --   DrawnCalls   IsDrawn: a text draws the call graph of a tree
 --   Pipelines    AreNames: words are the names of passes; AreRefused: one of them is not
 --   Dumps        AreToldOf: what is told of passes as they run
+--   Parts        parts_of: the parts of an input
 --   BoxesPut     how the boxes of a call graph are put behind a text
 pub mod Passed
 pub mod Excerpt
@@ -24,3 +25,4 @@ pub mod DrawnCalls
 pub mod BoxesPut
 pub mod Pipelines
 pub mod Dumps
+pub mod Parts

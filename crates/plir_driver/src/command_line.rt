@@ -24,6 +24,9 @@ pub const FILE: &str = "FILE";
 /// The name of the argument that is the file of the output.
 pub const OUTPUT: &str = "output";
 
+/// The name of the option by which an input has several parts.
+pub const SPLIT: &str = "split-input-file";
+
 const VERIFY: &str = "verify";
 
 const VERIFY_EACH: &str = "verify-each";
@@ -42,7 +45,8 @@ const CALL_GRAPH: &str = "call-graph";
 
 const AFTER: &str =
     "The operation and all below it are verified once they are read. Passes run in the order of the \
-command line. Nothing is printed before all has gone well. The status is 1 where the text can't be read, an operation \
+command line. Nothing is printed before all has gone well, but for the parts that go well of an input that is cut, which \
+go to the standard output. The status is 1 where the text can't be read, an operation \
 is refused or memory runs out, and 2 for a wrong command line.";
 
 // An option without a value.
@@ -130,6 +134,11 @@ pub fn command<'a>(alloc: Global, about: &About) -> Result<Command<'a>, AllocErr
         .short('o')
         .value_name("OUT")
         .help("The file that what is printed goes to; the standard output, if none is named");
+    let split = flag(
+        alloc,
+        SPLIT,
+        "Cut the input at lines `// -----`, and handle each part alone",
+    );
     let verify = flag(alloc, VERIFY, "Verify behind each pass too").visible_alias(VERIFY_EACH)?;
     let command = Command::new(alloc, about.name)
         .version(about.version)
@@ -137,6 +146,7 @@ pub fn command<'a>(alloc: Global, about: &About) -> Result<Command<'a>, AllocErr
         .after_help(AFTER)
         .arg(file)?
         .arg(output)?
+        .arg(split)?
         .arg(verify)?;
     let command = with_reports(alloc, with_passes(alloc, command)?)?;
     with_forms(alloc, command)

@@ -14,6 +14,7 @@ mod graph;
 mod listing;
 mod nodes;
 mod output;
+mod parts;
 mod passes;
 mod pipeline;
 mod running;

@@ -1,7 +1,8 @@
 //! A program's run, from its command line to its status.
 use crate::choices::Choices;
-use crate::command_line::{About, FILE, OUTPUT, choose, command};
-use crate::output::write_output;
+use crate::command_line::{About, FILE, OUTPUT, SPLIT, choose, command};
+use crate::output::{is_standard, write_output};
+use crate::parts::{MARK, Part, parts_of};
 use crate::pipeline::PipelineErr;
 use crate::source::read_source;
 use crate::telling::tell;
@@ -61,8 +62,8 @@ fn run_chosen<D: EffectSet + VerifySet + SymbolNames>(
     }
 }
 
-// Reads, transforms and prints. Nothing is printed where the status is not 0, but for what was written when the output
-// itself failed.
+// Reads, transforms and prints. Where the status is not 0 no file is written, and the standard output has the parts that
+// went well of an input that is cut, or what was written when the output itself failed.
 fn run<D: EffectSet + VerifySet + SymbolNames>(
     rt: &HostRuntime,
     matches: &ArgMatches<'_>,
@@ -74,14 +75,72 @@ fn run<D: EffectSet + VerifySet + SymbolNames>(
         Ok(bytes) => bytes,
         Err(error) => return fail(rt, name, &error),
     };
+    let output = matches.get_str(OUTPUT);
+    if matches.get_flag(SPLIT) {
+        return run_parts::<D>(rt, choices, name, bytes.as_slice(), output);
+    }
+    match handle::<D>(rt, choices, name, bytes.as_slice())? {
+        Some(text) => put_out(rt, output, text.as_str()),
+        None => Ok(ExitCode::FAILURE),
+    }
+}
+
+// Handles each part of an input alone, and prints what comes of those that go well, with a mark between each two.
+fn run_parts<D: EffectSet + VerifySet + SymbolNames>(
+    rt: &HostRuntime,
+    choices: &Choices,
+    name: &str,
+    bytes: &[u8],
+    output: Option<&str>,
+) -> anyhow::Result<ExitCode> {
+    let mut all = String::new(rt.alloc());
+    let mut is_well = true;
+    for (place, part) in parts_of(rt.alloc(), bytes)?.iter().enumerate() {
+        if place > 0 {
+            writeln!(all, "{MARK}")?;
+        }
+        match handle_part::<D>(rt, choices, name, part)? {
+            Some(text) => all.push_str(text.as_str())?,
+            None => is_well = false,
+        }
+    }
+    if is_well {
+        return put_out(rt, output, all.as_str());
+    }
+    if is_standard(output) {
+        write_output(rt, None, all.as_str())?;
+    }
+    Ok(ExitCode::FAILURE)
+}
+
+// What is printed for a part of an input, if anything is.
+fn handle_part<D: EffectSet + VerifySet + SymbolNames>(
+    rt: &HostRuntime,
+    choices: &Choices,
+    name: &str,
+    part: &Part,
+) -> anyhow::Result<Option<String>> {
+    let line = part.line;
+    let name = format!(in rt.alloc(); "within split at {name}:{line} offset ")?;
+    handle::<D>(rt, choices, name.as_str(), part.bytes.as_slice())
+}
+
+// What is printed for the bytes of a text, if anything is; what is told of the passes and of a refusal goes to the
+// standard error.
+fn handle<D: EffectSet + VerifySet + SymbolNames>(
+    rt: &HostRuntime,
+    choices: &Choices,
+    name: &str,
+    bytes: &[u8],
+) -> anyhow::Result<Option<String>> {
     let mut log = String::new(rt.alloc());
-    let printed = transform::<D>(rt.alloc(), choices, bytes.as_slice(), &mut log);
+    let printed = transform::<D>(rt.alloc(), choices, bytes, &mut log);
     rt.eprint(log.as_str())?;
     match printed {
-        Ok(text) => put_out(rt, matches.get_str(OUTPUT), text.as_str()),
+        Ok(text) => Ok(Some(text)),
         Err(stop) => {
-            tell(rt.alloc(), &mut rt.stderr(), name, bytes.as_slice(), &stop)?;
-            Ok(ExitCode::FAILURE)
+            tell(rt.alloc(), &mut rt.stderr(), name, bytes, &stop)?;
+            Ok(None)
         }
     }
 }
