@@ -7,3 +7,4 @@ mod Ending
 mod Stopping
 mod Naming
 mod Cutting
+mod Logging

@@ -12,3 +12,7 @@ if-err (Err e) f h = f e h
 pub on-ok : {X E P Q : Type 0} (r : Result X E) → (P → Q) → OnOk r P → OnOk r Q
 on-ok (Ok x) f h = f h
 on-ok (Err e) f h = tt
+
+pub all-ok : {X E P : Type 0} (r : Result X E) → P → OnOk r P
+all-ok (Ok x) p = p
+all-ok (Err e) p = tt

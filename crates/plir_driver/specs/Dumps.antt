@@ -45,14 +45,23 @@ module _ {D K A T E : Type 0} (o : op_set.Ghosts D K A T E) (root : Ptr Operatio
     pub before : IsDumpedWhere (Contains reports.before.items pass) (codes "Before") pass s t between
     pub after : IsDumpedWhere (reports.after_all ≡ true) (codes "After") pass u between t'
 
+-- From s to t something was done for each of a list, one after another, and from w to w' a text has grown by what was
+-- told of each.
+abbrev pub AreDone : {C X : Type 0} → (Done : X → C → C → List ℕ → List ℕ → Type 0) → List X → C → C → List ℕ → List ℕ
+    → Type 0
+AreDone Done [] s t w w' = (t ≡ s) × (w' ≡ w)
+AreDone {C} Done (x ∷ xs) s t w w' = (u : C) × (v : List ℕ) × Done x s u w v × AreDone Done xs u t v w'
+
 module _ {D K A T E : Type 0} (o : op_set.Ghosts D K A T E) (effect : K → Bool) (private : OpView K A → Bool)
     (names : OpView K A → List (List ℕ)) (reports : Reports) where
-  -- From s to t passes were run over the operation root, one after another, and of each is told what is to be.
-  abbrev pub AreTold : Ptr OperationKind → List Pass → ContextView K A T → ContextView K A T → List ℕ → List ℕ → Type 0
-  AreTold root [] s t w w' = (t ≡ s) × (w' ≡ w)
-  AreTold root (x ∷ xs) s t w w' =
-      (u : ContextView K A T) × (v : List ℕ) × IsRun o effect private names root x s u
-      × IsToldOf o root reports x s u w v × AreTold root xs u t v w'
+  module _ (root : Ptr OperationKind) where
+    -- from s to u a pass was run over the operation root, and of it is told what is to be
+    abbrev pub IsRunTold : Pass → ContextView K A T → ContextView K A T → List ℕ → List ℕ → Type 0
+    IsRunTold pass s u t t' = IsRun o effect private names root pass s u × IsToldOf o root reports pass s u t t'
+
+    -- passes were, one after another
+    abbrev pub AreTold : List Pass → ContextView K A T → ContextView K A T → List ℕ → List ℕ → Type 0
+    AreTold = AreDone IsRunTold
 
   -- A text stands for an operation, and of the passes over it is told what is to be.
   pub record AreToldOf (passes : List Pass) (text w w' : List ℕ) : Type 0 where

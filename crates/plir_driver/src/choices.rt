@@ -2,6 +2,15 @@
 ghost use Rattle.std.specs.Prelude.{◌≡◌};
 ghost use Rattle.plir_driver.specs.Pipelines.{pass_name};
 
+/// The name of the pass that takes out names and labels.
+pub const ERASE_NAMES: &str = "erase-names";
+
+/// The name of the pass that erases dead operations.
+pub const DCE: &str = "dce";
+
+/// The name of the pass that erases dead symbols.
+pub const SYMBOL_DCE: &str = "symbol-dce";
+
 /// A pass over an operation and all below it.
 #[derive(Clone, Copy, Debug, PartialEq, Eq)]
 pub enum Pass {
@@ -19,9 +28,9 @@ impl Pass {
         ensures { result.now ≡ pass_name self }
     {
         match self {
-            Pass::EraseNames => "erase-names",
-            Pass::Dce => "dce",
-            Pass::SymbolDce => "symbol-dce",
+            Pass::EraseNames => ERASE_NAMES,
+            Pass::Dce => DCE,
+            Pass::SymbolDce => SYMBOL_DCE,
         }
     }
 }

@@ -3,7 +3,7 @@ ghost use Rattle.std.specs.Prelude.{◌⊎◌, IfErr, IfOk};
 ghost use Rattle.clap.specs.Matches.{first_value, found_of};
 ghost use Rattle.plir_driver.specs.Pipelines.{AreGiven, IsRefusedGiven};
 
-use crate::choices::{Choices, Form, Pass, Reports};
+use crate::choices::{Choices, DCE, ERASE_NAMES, Form, Pass, Reports, SYMBOL_DCE};
 use crate::pipeline::{PipelineErr, passes_named};
 use clap::{Arg, ArgAction, ArgMatches, Command};
 use std::alloc::{AllocError, Global};
@@ -80,35 +80,39 @@ fn with_forms<'a>(alloc: Global, command: Command<'a>) -> Result<Command<'a>, Al
         .arg(call_graph)
 }
 
+// The option that names all passes.
+fn pipeline<'a>(alloc: Global) -> Result<Arg<'a>, AllocError> {
+    Arg::new(alloc, PASS_PIPELINE)
+        .long(PASS_PIPELINE)
+        .value_name("PASSES")
+        .help("Passes by their names, with commas between them, in the order in which they run")
+        .conflicts_with(ERASE_NAMES)?
+        .conflicts_with(DCE)?
+        .conflicts_with(SYMBOL_DCE)
+}
+
 // The passes, each by an option of its own, or all by their names.
 fn with_passes<'a>(alloc: Global, command: Command<'a>) -> Result<Command<'a>, AllocError> {
     let erase_names = flag(
         alloc,
-        Pass::EraseNames.name(),
+        ERASE_NAMES,
         "Pass: take out the names of results and arguments, and the labels of blocks",
     );
     let dce = flag(
         alloc,
-        Pass::Dce.name(),
+        DCE,
         "Pass: erase what has no effect and whose results nothing uses",
     );
     let symbol_dce = flag(
         alloc,
-        Pass::SymbolDce.name(),
+        SYMBOL_DCE,
         "Pass: erase private functions and modules right in the module that nothing uses",
     );
-    let pipeline = Arg::new(alloc, PASS_PIPELINE)
-        .long(PASS_PIPELINE)
-        .value_name("PASSES")
-        .help("Passes by their names, with commas between them, in the order in which they run")
-        .conflicts_with(Pass::EraseNames.name())?
-        .conflicts_with(Pass::Dce.name())?
-        .conflicts_with(Pass::SymbolDce.name())?;
     command
         .arg(erase_names)?
         .arg(dce)?
         .arg(symbol_dce)?
-        .arg(pipeline)
+        .arg(pipeline(alloc)?)
 }
 
 // What is told of passes as they run.
