@@ -40,7 +40,7 @@ module _ {D K A T E : Type 0} (o : op_set.Ghosts D K A T E) (root : Ptr Operatio
 
   -- A pass went from s to u: the operation as it was in s stands behind a text, if it is to be told in front of the
   -- pass, and then as it is in u, if it is to be told behind each.
-  pub record IsToldOf (reports : Reports) (pass : Pass) (s u : ContextView K A T) (t t' : List ℕ) : Type 0 where
+  pub record IsPassLogged (reports : Reports) (pass : Pass) (s u : ContextView K A T) (t t' : List ℕ) : Type 0 where
     pub between : List ℕ
     pub before : IsDumpedWhere (Contains reports.before.items pass) (codes "Before") pass s t between
     pub after : IsDumpedWhere (reports.after_all ≡ true) (codes "After") pass u between t'
@@ -56,17 +56,17 @@ module _ {D K A T E : Type 0} (o : op_set.Ghosts D K A T E) (effect : K → Bool
     (names : OpView K A → List (List ℕ)) (reports : Reports) where
   module _ (root : Ptr OperationKind) where
     -- from s to u a pass was run over the operation root, and of it is told what is to be
-    abbrev pub IsRunTold : Pass → ContextView K A T → ContextView K A T → List ℕ → List ℕ → Type 0
-    IsRunTold pass s u t t' = IsRun o effect private names root pass s u × IsToldOf o root reports pass s u t t'
+    abbrev pub IsRunLogged : Pass → ContextView K A T → ContextView K A T → List ℕ → List ℕ → Type 0
+    IsRunLogged pass s u t t' = IsRun o effect private names root pass s u × IsPassLogged o root reports pass s u t t'
 
     -- passes were, one after another
-    abbrev pub AreTold : List Pass → ContextView K A T → ContextView K A T → List ℕ → List ℕ → Type 0
-    AreTold = AreDone IsRunTold
+    abbrev pub AreLogged : List Pass → ContextView K A T → ContextView K A T → List ℕ → List ℕ → Type 0
+    AreLogged = AreDone IsRunLogged
 
   -- A text stands for an operation, and of the passes over it is told what is to be.
-  pub record AreToldOf (passes : List Pass) (text w w' : List ℕ) : Type 0 where
+  pub record IsLogged (passes : List Pass) (text w w' : List ℕ) : Type 0 where
     pub root : Ptr OperationKind
     pub read : ContextView K A T
     pub left : ContextView K A T
     pub stands : StandsForOp 200 read text (Operation root)
-    pub told : AreTold root passes read left w w'
+    pub told : AreLogged root passes read left w w'

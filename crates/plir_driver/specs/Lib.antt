@@ -10,7 +10,7 @@
 --   NodeLines    IsListed, IsGraphed: a text lists the nodes of a tree, or draws them
 --   DrawnCalls   IsDrawn: a text draws the call graph of a tree
 --   Pipelines    AreNames: words are the names of passes; AreRefused: one of them is not
---   Dumps        AreToldOf: what is told of passes as they run
+--   Dumps        IsLogged: what is told of passes as they run
 --   Parts        parts_of: the parts of an input
 --   BoxesPut     how the boxes of a call graph are put behind a text
 pub mod Passed

@@ -11,8 +11,8 @@ use plir_data::{Memory, OpSet};
 use plir_text::{is_printable, print_op};
 use std::alloc::Global;
 
-/// Whether the operation is told in front of a pass.
-pub fn is_told_before(reports: &Reports, pass: Pass) -> bool
+/// Whether the operation is dumped in front of a pass.
+pub fn is_dumped_before(reports: &Reports, pass: Pass) -> bool
     ensures { IsTrue result ↔ Contains reports.now.before.items pass }
 {
     reports.before.as_slice().contains(&pass)

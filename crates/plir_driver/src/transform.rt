@@ -4,14 +4,14 @@ ghost use Rattle.plir_core.specs.ContextView.{IsLive};
 ghost use Rattle.plir_core.specs.declared.ptr.IRNode.{IRNode as AnyNode};
 ghost use Rattle.plir_print.specs.OpText.{op_text};
 ghost use Rattle.plir_verify.specs.Rules.{AllHaveRules};
-ghost use Rattle.plir_driver.specs.Dumps.{AreTold, AreToldOf, IsToldOf};
+ghost use Rattle.plir_driver.specs.Dumps.{AreLogged, IsLogged, IsPassLogged};
 ghost use Rattle.plir_driver.specs.Passed.{AreRun, IsRun};
 ghost use Rattle.plir_driver.specs.Stopped.{IsStopped, IsStoppedAt, IsStoppedIn, IsUnprinted};
 ghost use Rattle.plir_driver.specs.Transformed.{IsTransformed, IsPrintedAs};
 
 use crate::calls::draw_calls;
 use crate::choices::{Choices, Form, Pass, Reports};
-use crate::dumps::{is_told_before, put_dump};
+use crate::dumps::{is_dumped_before, put_dump};
 use crate::graph::draw;
 use crate::listing::list_nodes;
 use crate::passes::run_pass;
@@ -40,7 +40,7 @@ pub fn transform<D: EffectSet + VerifySet + SymbolNames>(
         D.names_used choices.now.verify choices.now.passes.items choices.now.form bytes.now (string_bytes t)) }
     ensures stopped { IfErr result (IsStopped D.OpSet D.has_effect D.uses_hold D.use_refusal D.rule D.rule_refusal
         D.is_private D.names_used choices.now.verify choices.now.passes.items choices.now.form bytes.now) }
-    ensures told { OnOk result (AreToldOf D.OpSet D.has_effect D.is_private D.names_used choices.now.reports
+    ensures logged { OnOk result (IsLogged D.OpSet D.has_effect D.is_private D.names_used choices.now.reports
         choices.now.passes.items bytes.now (string_bytes log.old) (string_bytes log.new)) }
 {
     match str::from_utf8(bytes) {
@@ -60,7 +60,7 @@ fn transform_text<D: EffectSet + VerifySet + SymbolNames>(
         D.names_used choices.now.verify choices.now.passes.items choices.now.form text.now (string_bytes t)) }
     ensures stopped { IfErr result (IsStopped D.OpSet D.has_effect D.uses_hold D.use_refusal D.rule D.rule_refusal
         D.is_private D.names_used choices.now.verify choices.now.passes.items choices.now.form text.now) }
-    ensures told { OnOk result (AreToldOf D.OpSet D.has_effect D.is_private D.names_used choices.now.reports
+    ensures logged { OnOk result (IsLogged D.OpSet D.has_effect D.is_private D.names_used choices.now.reports
         choices.now.passes.items text.now (string_bytes log.old) (string_bytes log.new)) }
 {
     let mut ctx = Context::<D>::new(alloc);
@@ -94,7 +94,7 @@ fn run_passes<D: EffectSet + VerifySet + SymbolNames>(
         passes.now ctx.old ctx.new) }
     ensures stopped { IfErr result (IsStoppedIn D.OpSet D.has_effect D.uses_hold D.use_refusal D.rule D.rule_refusal
         D.is_private D.names_used root verify passes.now ctx.old) }
-    ensures told { OnOk result (AreTold D.OpSet D.has_effect D.is_private D.names_used reports.now root passes.now
+    ensures logged { OnOk result (AreLogged D.OpSet D.has_effect D.is_private D.names_used reports.now root passes.now
         ctx.old ctx.new (string_bytes log.old) (string_bytes log.new)) }
 {
     for pass in passes {
@@ -119,10 +119,10 @@ fn run_told<D: EffectSet + VerifySet + SymbolNames>(
     ensures verified { OnOk result (verify ≡ true → AllHaveRules D.OpSet D.uses_hold D.rule ctx.new root) }
     ensures stopped { IfErr result (IsStoppedAt D.OpSet D.has_effect D.uses_hold D.use_refusal D.rule D.rule_refusal
         D.is_private D.names_used root verify pass ctx.old) }
-    ensures told { OnOk result (IsToldOf D.OpSet root reports.now pass ctx.old ctx.new (string_bytes log.old)
+    ensures logged { OnOk result (IsPassLogged D.OpSet root reports.now pass ctx.old ctx.new (string_bytes log.old)
         (string_bytes log.new)) }
 {
-    let before = is_told_before(reports, pass);
+    let before = is_dumped_before(reports, pass);
     put_dump(log, alloc, before, "Before", pass, ctx, root)?;
     run_one(alloc, verify, pass, ctx, root)?;
     put_dump(log, alloc, reports.after_all, "After", pass, ctx, root)?;

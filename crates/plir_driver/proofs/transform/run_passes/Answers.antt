@@ -3,7 +3,7 @@ use Rattle.std.proofs.lemmas.Result.{err_from_is_err_and}
 use Rattle.plir_verify.specs.Rules.{AllHaveRules}
 use Rattle.plir_driver.specs.declared.choices.Pass.TheVariants.{EraseNames}
 use Rattle.plir_driver.specs.Stopped.{IsStoppedIn}
-use Rattle.plir_driver.specs.Dumps.{IsRunTold}
+use Rattle.plir_driver.specs.Dumps.{IsRunLogged}
 use Rattle.plir_driver.proofs.Logging.{done-all, done-to}
 use Rattle.plir_driver.proofs.Passing.{parted, passed-all, passed-to}
 use Rattle.plir_driver.proofs.transform.run_passes.Goals as goal
@@ -19,16 +19,16 @@ loop-pass-preserved g c = (
       (λ s. c.args.verify ≡ true → AllHaveRules g.D.OpSet g.D.SymbolUserSet.uses_hold g.D.VerifySet.rule s c.args.root)
       c.args.passes.now c.loop-pass.pass-index EraseNames c.args.ctx.now c.loop-pass.ctx c.run_told.new.ctx (omega arith)
       c.loop-pass.invariant.1 c.in_ok-run_told.ensures.passed c.in_ok-run_told.ensures.verified,
-  done-to (IsRunTold g.D.OpSet g.D.EffectSet.has_effect g.D.SymbolNames.is_private g.D.SymbolNames.names_used
+  done-to (IsRunLogged g.D.OpSet g.D.EffectSet.has_effect g.D.SymbolNames.is_private g.D.SymbolNames.names_used
       c.args.reports.now c.args.root) c.args.passes.now c.loop-pass.pass-index EraseNames c.args.ctx.now
       c.loop-pass.ctx c.run_told.new.ctx (string_bytes c.args.log.now) (string_bytes c.loop-pass.log)
       (string_bytes c.run_told.new.log) (omega arith) c.loop-pass.invariant.2
-      (c.in_ok-run_told.ensures.passed, c.in_ok-run_told.ensures.told),
+      (c.in_ok-run_told.ensures.passed, c.in_ok-run_told.ensures.logged),
 )
 
-pub returns-clause-told : goal.returns-clause-told
-returns-clause-told g c =
-    done-all (IsRunTold g.D.OpSet g.D.EffectSet.has_effect g.D.SymbolNames.is_private g.D.SymbolNames.names_used
+pub returns-clause-logged : goal.returns-clause-logged
+returns-clause-logged g c =
+    done-all (IsRunLogged g.D.OpSet g.D.EffectSet.has_effect g.D.SymbolNames.is_private g.D.SymbolNames.names_used
     c.args.reports.now c.args.root) c.args.passes.now c.loop-pass.pass-index c.args.ctx.now c.loop-pass.ctx
     (string_bytes c.args.log.now) (string_bytes c.loop-pass.log) (omega arith) c.loop-pass.invariant.2
 

@@ -1,5 +1,5 @@
 use Rattle.std.proofs.Common.{IfErr, IfOk, OnOk, inl, subst, string_bytes}
-use Rattle.plir_driver.specs.Dumps.{AreToldOf}
+use Rattle.plir_driver.specs.Dumps.{IsLogged}
 use Rattle.plir_driver.specs.Stopped.{IsStopped}
 use Rattle.plir_driver.specs.Transformed.{IsTransformed}
 use Rattle.plir_driver.proofs.transform.transform.Goals as goal
@@ -21,9 +21,9 @@ returns-in-Ok-clause-stopped g c =
 pub returns-in-Err-clause-stopped : goal.returns-in-Err-clause-stopped
 returns-in-Err-clause-stopped g c = inl c.in-Err.ensures.cases.0
 
-pub returns-in-Ok-clause-told : goal.returns-in-Ok-clause-told
-returns-in-Ok-clause-told g c =
-    subst (λ z. OnOk c.transform_text.result (AreToldOf g.D.OpSet g.D.EffectSet.has_effect g.D.SymbolNames.is_private
+pub returns-in-Ok-clause-logged : goal.returns-in-Ok-clause-logged
+returns-in-Ok-clause-logged g c =
+    subst (λ z. OnOk c.transform_text.result (IsLogged g.D.OpSet g.D.EffectSet.has_effect g.D.SymbolNames.is_private
     g.D.SymbolNames.names_used c.args.choices.now.reports c.args.choices.now.passes.items z
     (string_bytes c.args.log.now) (string_bytes c.transform_text.new.log))) c.in-Ok.ensures.cases.0
-    c.transform_text.ensures.told
+    c.transform_text.ensures.logged

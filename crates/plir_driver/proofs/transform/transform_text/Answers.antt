@@ -4,7 +4,7 @@ use Rattle.plir_read.specs.OpGrammar.{OpWithin}
 use Rattle.plir_read.specs.Room.{BeginsTooMany, op_count}
 use Rattle.plir_driver.specs.Passed.{AreRun}
 use Rattle.plir_driver.specs.Stopped.{IsStoppedIn}
-use Rattle.plir_driver.specs.Dumps.{AreTold}
+use Rattle.plir_driver.specs.Dumps.{AreLogged}
 use Rattle.plir_driver.proofs.Printing.{all-ok, if-err, if-ok}
 use Rattle.plir_driver.proofs.Stopping.{unread, wrong}
 use Rattle.plir_driver.proofs.transform.transform_text.Goals as goal
@@ -87,16 +87,16 @@ returns-clause-stopped g c =
       ),
     )) c.print.ensures.unprinted
 
-pub returns-clause-told : goal.returns-clause-told
-returns-clause-told g c =
+pub returns-clause-logged : goal.returns-clause-logged
+returns-clause-logged g c =
     all-ok c.print.result (record {
       root = c.in_ok-root.root;
       read = c.read_op.new.ctx;
       left = c.run_passes.new.ctx;
       stands = c.in_ok-root.ensures.found;
       told =
-          subst (λ z. AreTold g.D.OpSet g.D.EffectSet.has_effect g.D.SymbolNames.is_private g.D.SymbolNames.names_used
+          subst (λ z. AreLogged g.D.OpSet g.D.EffectSet.has_effect g.D.SymbolNames.is_private g.D.SymbolNames.names_used
           c.args.choices.now.reports c.in_ok-root.root z c.read_op.new.ctx c.run_passes.new.ctx
           (string_bytes c.args.log.now) (string_bytes c.run_passes.new.log)) c.as_slice.ensures.value
-          c.in_ok-run_passes.ensures.told;
+          c.in_ok-run_passes.ensures.logged;
     })
