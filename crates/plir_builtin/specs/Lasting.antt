@@ -7,7 +7,7 @@ use Rattle.plir_core.specs.declared.ptr.IRNode.{IRNode}
 use Rattle.plir_core.specs.declared.ptr.IRNode.TheVariants.{Operation}
 use Rattle.plir_core.specs.Changes.{SameLive}
 use Rattle.plir_core.specs.Made.{IsMade}
-use Rattle.plir_core.specs.ContextView.{ContextView, IsLive, given_out, kind_in, op_at}
+use Rattle.plir_core.specs.ContextView.{ContextView, IsLive, kind_in, op_at}
 use Rattle.plir_core.specs.WellFormed.{IsWellFormed}
 use Rattle.plir_builtin.specs.Symbols.{is_table_kind, body, symbols}
 use Rattle.plir_builtin.specs.Table.{Table, Tables}
@@ -30,11 +30,6 @@ module _ {K A T : Type 0} (own_symbol own_table : K → Bool) (own_handles : A �
   abbrev pub LastsOverTypes : Type 0
   LastsOverTypes = (s : ContextView K A T) (c : Tables) → IsWellFormed own_handles s → t.nodes ≡ s.nodes →
       AllAgree own_symbol own_table s c → AllAgree own_symbol own_table t c
-
--- where what was given out still counts as given out, tables are cached for it as before
-abbrev pub StaysGivenOut : {K A T : Type 0} → ContextView K A T → Type 0
-StaysGivenOut {K} {A} {T} t = (s : ContextView K A T) (c : Tables) →
-    ((n : IRNode) → given_out s n ≡ true → given_out t n ≡ true) → AreGivenOut s c → AreGivenOut t c
 
 module _ {K A T : Type 0} (own_symbol own_table : K → Bool) (s t : ContextView K A T) where
   -- From s to t an operation has stayed a table: it is of a table kind if it was, has a body if it had one, and the same

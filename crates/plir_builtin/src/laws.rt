@@ -5,7 +5,6 @@ ghost use Rattle.plir_iface.specs.Regions.{HasSingleBlocks};
 ghost use Rattle.plir_builtin.specs.Agree.{AllAgree, AreGivenOut};
 ghost use Rattle.plir_builtin.specs.BuiltinOps.{HasConstantValue, HasFuncType};
 ghost use Rattle.plir_builtin.specs.Lasting.{LastsOverNodes, LastsOverRefusals, LastsOverTables, LastsOverTypes};
-ghost use Rattle.plir_builtin.specs.Lasting.{StaysGivenOut};
 ghost use Rattle.plir_core.specs.ContextView.{ContextView};
 ghost use Rattle.plir_builtin.specs.OpRules.{HasConstantRules, HasFuncRules, HasModuleRules};
 ghost use Rattle.plir_builtin.specs.Symbols.{HasSymbolName, IsGood};
@@ -33,7 +32,6 @@ pub fn new_nodes_keep_agreement<D: OpSet>(ctx: &Context<D>)
     ensures made { LastsOverNodes D.is_symbol D.is_symbol_table D.attr_handles ctx.now }
     ensures refused { LastsOverRefusals D.is_symbol D.is_symbol_table D.attr_handles ctx.now }
     ensures types { LastsOverTypes D.is_symbol D.is_symbol_table D.attr_handles ctx.now }
-    ensures given { StaysGivenOut ctx.now }
 {
     contexts_stand::<D>();
     ctx.stands();

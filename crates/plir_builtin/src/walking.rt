@@ -24,12 +24,12 @@ pub type SymbolTableWalkerCallback<D, S, B> = fn(
 /// Hands the operations below the one region of a table over to `callback`, in PreOrder Forward: nested tables too, but
 /// nothing that is below them, nor what is below an operation at which `callback` answers `Skip`. Answers `Break(b)`
 /// where the last call did, else `Continue(Advance)`. Takes no memory.
-pub fn walk_symbol_table<
-    C: TableLinks,
-    S,
-    B: Drop,
-    F: Fn(&C, &mut S, Ptr<Operation>) -> WalkResult<B>,
->(op: Ptr<Operation>, ctx: &C, state: &mut S, callback: F) -> WalkResult<B>
+pub fn walk_symbol_table<C: TableLinks, S, B, F: Fn(&C, &mut S, Ptr<Operation>) -> WalkResult<B>>(
+    op: Ptr<Operation>,
+    ctx: &C,
+    state: &mut S,
+    callback: F,
+) -> WalkResult<B>
     requires op_live { (C.look ctx.now).live (AnyNode.Operation op) ≡ true }
     requires table { C.is_table_of ctx.now op ≡ true }
     requires one_region { length ((C.look ctx.now).children (AnyNode.Operation op)) ≡ 1 }

@@ -28,6 +28,7 @@
 --   Grown        IsGrown: nodes are new below a node; Growth: how trees grow in many steps
 --   Lends        what a `&mut` into a node leaves
 --   Refused      IsUnmade: what a refused make leaves of the slots
+--   NewOps       IsOpMade, IsOpUnmade: what making an operation leaves, and a refusal of that
 --   Erase        erased: the nodes without a tree; IsErased: what that leaves as it was; LosesOneChild: the children
 --                that are left
 --   Lasting      StandsBesideAfter: what stood beside an operation stays where that is erased
@@ -65,6 +66,7 @@ pub mod Grown
 pub mod Erase
 pub mod Lasting
 pub mod Refused
+pub mod NewOps
 pub mod Replaced
 pub mod Unused
 pub mod Uses

@@ -5,11 +5,8 @@ ghost use Rattle.plir_data.specs.Types.{IsLive as IsTypeLive, AllLive};
 ghost use Rattle.plir_data.specs.AttrLive.{IsAttrLive, HandlesLive};
 ghost use Rattle.plir_data.specs.AttrSeen.{attr_view};
 ghost use Rattle.plir_data.specs.Dictionary.{dict_put};
-ghost use Rattle.plir_store.specs.Table.{next_slot};
-ghost use Rattle.plir_core.specs.Made.{IsMade, HasNewRegions};
-ghost use Rattle.plir_core.specs.Refused.{IsUnmade};
+ghost use Rattle.plir_core.specs.NewOps.{IsOpMade, IsOpUnmade};
 ghost use Rattle.plir_core.specs.Contents.{op_view};
-ghost use Rattle.plir_core.specs.Nodes.{ptr_at};
 ghost use Rattle.plir_core.specs.ContextView.{IsLive, IsValueLive, IsAncestor, is_live, children, parent_of, op_above};
 ghost use Rattle.plir_core.specs.ContextView.{region_above, first_child, last_child, next_sibling, prev_sibling, op_at};
 ghost use Rattle.plir_core.specs.ContextView.{kind_of};
@@ -19,7 +16,7 @@ ghost use Rattle.plir_core.specs.WellFormed.{IsWellFormed};
 ghost use Rattle.plir_core.specs.Room.{IsFullForOp};
 ghost use Rattle.plir_core.specs.Placed.{IsPlacedLast};
 ghost use Rattle.plir_core.specs.Unused.{child_at};
-ghost use Rattle.plir_core.specs.Changes.{with_op_edit, with_op_last, with_op, SameLive};
+ghost use Rattle.plir_core.specs.Changes.{with_op_edit, with_op_last};
 ghost use Rattle.plir_core.specs.declared.ptr.IRNode.{IRNode};
 ghost use Rattle.plir_core.specs.declared.value.DefiningEntity.{DefiningEntity};
 
@@ -51,19 +48,11 @@ impl Operation {
         requires types_live { AllLive ctx.old.types result_types.items }
         requires operands_live { All (IsValueLive ctx.old) operands.items }
         requires successors_live { All (λ b. IsLive ctx.old (IRNode.BasicBlock b)) successors.items }
-        ensures ok { OnOk result (ctx.new ≡ with_op ctx.old
+        ensures made { IfOk result (IsOpMade ctx.old ctx.new
             (op_view kind result_types.items operands.items successors.items []) num_regions) }
-        ensures held { IfOk result (λ p. op_at ctx.new p ≡ Some
-            (op_view kind result_types.items operands.items successors.items [])) }
-        ensures pointer { IfOk result (λ p. p ≡ ptr_at ctx.new.nodes.ops (next_slot ctx.old.nodes.ops)) }
-        ensures live { IfOk result (λ p. IsLive ctx.new (IRNode.Operation p)) }
-        ensures fresh { IfOk result (λ p. given_out ctx.old (IRNode.Operation p) ≡ false) }
+        ensures unmade { OnErr result (IsOpUnmade ctx.old ctx.new
+            (op_view kind result_types.items operands.items successors.items []) num_regions) }
         ensures given { (n : IRNode) → given_out ctx.old n ≡ true → given_out ctx.new n ≡ true }
-        ensures made { IfOk result (λ p. IsMade ctx.old.nodes ctx.new.nodes (IRNode.Operation p)) }
-        ensures regions { IfOk result (λ p. HasNewRegions ctx.new.nodes (IRNode.Operation p) num_regions) }
-        ensures err { OnErr result (SameLive ctx.old ctx.new) }
-        ensures slots { OnErr result (IsUnmade ctx.old.nodes ctx.new.nodes
-            (op_view kind result_types.items operands.items successors.items []) num_regions) }
         ensures too_many { limit ctx.old < num_live ctx.old + 1 + num_regions → result ≡ Err NodeErr.TooManyNodes }
         ensures too_many_only { result ≡ Err NodeErr.TooManyNodes → IsFullForOp ctx.old.nodes num_regions }
         ensures crowded { result ≡ Err NodeErr.TooManyNodes → IsFullForOp ctx.new.nodes num_regions }
@@ -98,19 +87,11 @@ impl Operation {
         requires operands_live { All (IsValueLive ctx.old) operands.items }
         requires successors_live { All (λ b. IsLive ctx.old (IRNode.BasicBlock b)) successors.items }
         requires handles_live { HandlesLive D.attr_handles ctx.old.types attributes }
-        ensures ok { OnOk result (ctx.new ≡ with_op ctx.old
+        ensures made { IfOk result (IsOpMade ctx.old ctx.new
             (op_view kind result_types.items operands.items successors.items attributes) num_regions) }
-        ensures held { IfOk result (λ p. op_at ctx.new p ≡ Some
-            (op_view kind result_types.items operands.items successors.items attributes)) }
-        ensures pointer { IfOk result (λ p. p ≡ ptr_at ctx.new.nodes.ops (next_slot ctx.old.nodes.ops)) }
-        ensures live { IfOk result (λ p. IsLive ctx.new (IRNode.Operation p)) }
-        ensures fresh { IfOk result (λ p. given_out ctx.old (IRNode.Operation p) ≡ false) }
+        ensures unmade { OnErr result (IsOpUnmade ctx.old ctx.new
+            (op_view kind result_types.items operands.items successors.items attributes) num_regions) }
         ensures given { (n : IRNode) → given_out ctx.old n ≡ true → given_out ctx.new n ≡ true }
-        ensures made { IfOk result (λ p. IsMade ctx.old.nodes ctx.new.nodes (IRNode.Operation p)) }
-        ensures regions { IfOk result (λ p. HasNewRegions ctx.new.nodes (IRNode.Operation p) num_regions) }
-        ensures err { OnErr result (SameLive ctx.old ctx.new) }
-        ensures slots { OnErr result (IsUnmade ctx.old.nodes ctx.new.nodes
-            (op_view kind result_types.items operands.items successors.items attributes) num_regions) }
         ensures too_many { limit ctx.old < num_live ctx.old + 1 + num_regions → result ≡ Err NodeErr.TooManyNodes }
         ensures too_many_only { result ≡ Err NodeErr.TooManyNodes → IsFullForOp ctx.old.nodes num_regions }
         ensures crowded { result ≡ Err NodeErr.TooManyNodes → IsFullForOp ctx.new.nodes num_regions }

@@ -101,7 +101,7 @@ fn apart(alloc: Global, text: &str) -> Result<Text, Memory>
 fn copy_of(alloc: Global, text: &str) -> Result<Text, Memory>
     ensures text { IfOk result (λ t. text_of t ≡ text.now) }
     ensures held { IfOk result IsInPlace }
-    ensures crowded { OnErr result (22 < length text.now) }
+    ensures long { OnErr result (22 < length text.now) }
 {
     let bytes = text.as_bytes();
     if bytes.len() > MOST_INLINE {
@@ -118,7 +118,7 @@ impl Identifier {
     pub fn try_new(alloc: Global, text: &str) -> Result<Identifier, IdentifierErr>
         ensures made { IfOk result (λ i. i ≡ text.now) }
         ensures malformed { (result ≡ Err IdentifierErr.Malformed) ↔ (is_identifier text.now ≢ true) }
-        ensures crowded { result ≡ Err IdentifierErr.Memory → 22 < length text.now }
+        ensures long { result ≡ Err IdentifierErr.Memory → 22 < length text.now }
     {
         if !is_identifier(text) {
             return Err(IdentifierErr::Malformed);
@@ -145,7 +145,7 @@ impl Identifier {
     /// An equal identifier. It is refused only where it has more than 22 characters.
     pub fn try_clone(&self, alloc: Global) -> Result<Identifier, Memory>
         ensures equal { IfOk result (λ i. i ≡ self.now) }
-        ensures crowded { OnErr result (22 < length self.now) }
+        ensures long { OnErr result (22 < length self.now) }
     {
         match &self.text {
             Text::Inline(len, bytes) => Ok(Identifier {

@@ -19,5 +19,6 @@ mod flow;
 mod kinds;
 mod names;
 mod passes;
+mod tasks;
 mod types;
 mod verdicts;

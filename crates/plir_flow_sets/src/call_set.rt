@@ -26,7 +26,7 @@ impl Callee<'_> {
     /// The same, owned. It is refused only where it is a name of more than 22 characters.
     pub fn to_callable(self, alloc: Global) -> Result<CallOpCallable, Memory>
         ensures same { IfOk result (λ c. c ≡ callable_of self.entry) }
-        ensures crowded { OnErr result (HasLongName self.entry) }
+        ensures long { OnErr result (HasLongName self.entry) }
     {
         match self {
             Callee::Direct(name) => Ok(CallOpCallable::Direct(name.try_clone(alloc)?)),

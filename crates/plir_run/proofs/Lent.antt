@@ -13,7 +13,7 @@ use Rattle.plir_core.specs.WellFormed.{IsWellFormed}
 use Rattle.plir_builtin.specs.declared.symbol_table_err.SymbolTableErr.{SymbolTableErr}
 use Rattle.plir_builtin.specs.Table.{Table, Tables}
 use Rattle.plir_builtin.specs.Agree.{AgreesAsLent, AreGivenOut, AllAgree, KeepsAllAgree, KeepsGivenOut}
-use Rattle.plir_builtin.specs.Lasting.{LastsOverNodes, LastsOverRefusals, LastsOverTypes, StaysGivenOut}
+use Rattle.plir_builtin.specs.Lasting.{LastsOverNodes, LastsOverRefusals, LastsOverTypes}
 use Rattle.plir_run.specs.Agreement.{TablesAgree}
 
 -- The table `tab` is lent for p out of the tables c.
@@ -44,22 +44,26 @@ module _ {D K A T E : Type 0} (o : op_set.Ghosts D K A T E) (s : ContextView K A
   pub agree-still : (n : Tables) → n ≡ c → TablesAgree o s n
   agree-still n e = subst (TablesAgree o s) (sym e) agrees
 
-  -- they agree with t, where what was given out stays so: once a tree of new nodes was made, once none was, and once a
-  -- type was made
-  module _ (whole : IsWellFormed o.attr_handles s) (t : ContextView K A T) (stays : StaysGivenOut t) where
+  -- they are cached for what is given out in t, where what was given out stays so
+  given-still : (t : ContextView K A T) → ((m : AnyNode) → given_out s m ≡ true → given_out t m ≡ true) → AreGivenOut t c
+  given-still t given p w is =
+      let both = agrees.given p w is in (given (AnyNode.Operation p) both.0, given (AnyNode.Operation w.op) both.1)
+
+  -- they agree with t then: once a tree of new nodes was made, once none was, and once a type was made
+  module _ (whole : IsWellFormed o.attr_handles s) (t : ContextView K A T) where
     pub agree-made : LastsOverNodes o.is_symbol o.is_symbol_table o.attr_handles t → (n : AnyNode)
         → IsMade s.nodes t.nodes n → ((m : AnyNode) → given_out s m ≡ true → given_out t m ≡ true) → TablesAgree o t c
     agree-made lasts n made given =
-        record { agree = lasts s n c whole made agrees.given agrees.agree; given = stays s c given agrees.given }
+        record { agree = lasts s n c whole made agrees.given agrees.agree; given = given-still t given }
 
     pub agree-refused : LastsOverRefusals o.is_symbol o.is_symbol_table o.attr_handles t → SameLive s t
         → ((m : AnyNode) → given_out s m ≡ true → given_out t m ≡ true) → TablesAgree o t c
     agree-refused lasts same given =
-        record { agree = lasts s c whole same agrees.agree; given = stays s c given agrees.given }
+        record { agree = lasts s c whole same agrees.agree; given = given-still t given }
 
     pub agree-typed : LastsOverTypes o.is_symbol o.is_symbol_table o.attr_handles t → t.nodes ≡ s.nodes
         → TablesAgree o t c
     agree-typed lasts same = record {
       agree = lasts s c whole same agrees.agree;
-      given = stays s c (λ m is. subst (λ ns. was_given_out ns m ≡ true) (sym same) is) agrees.given;
+      given = given-still t (λ m is. subst (λ ns. was_given_out ns m ≡ true) (sym same) is);
     }

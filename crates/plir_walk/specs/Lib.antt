@@ -1,7 +1,24 @@
--- What the walks promise, from the ground up: settings and trees, places and their order, lawful calls, lists of
--- calls, what a skip shuts out, the walk, the tree as read, and the two contracts; what a callback may do to a context;
--- laws for the proofs of passes, of calls, of trees and of whole walks; walks of operations alone, with their laws;
--- then the names that are given to results and arguments.
+-- What the walks promise, from the ground up; what a callback may do to a context; laws for the proofs of passes; walks of
+-- operations alone; and the names that are given to results and arguments.
+--
+--   Lists, Tree      Pairs; Tree, Place, IsUnder, NodeBefore: trees, places in them, and the order of places
+--   Config           order_of, direction_of: how a setting takes each node
+--   Lawful           Lawful: how a call at a node may change what a walk sees of a context
+--   Calls            Call, Chain, CallsBack: calls of a callback, one after another; ReadsBack: of one that reads
+--   ShutOut          IsShutOut: what the answer Skip leaves out
+--   Walk             IsWalk, IsWalkWithin: what it is for calls and an answer to be a walk of a tree, also within a limit
+--   AsRead           tree_read: the tree as a list of calls reads it
+--   Walked           Walked, WalkedOver: the contracts of the walkers
+--   LawfulChanges    LawfulChanges: which changes of a context are lawful at a node
+--   ChangedBelow     ChangedBelow, StepsBelow: what a callback has done so far, in many steps
+--   Step             Hops, Runs: the cursor of a walk, step by step
+--   Laws, CallLaws, TreeLaws, NodeLaws, WalkLaws
+--                    laws of settings and traversals, of what calls keep, of trees, of nodes, of whole walks
+--   Thinned          IsThinned: trees of nodes are gone, and nothing else has changed; ThinnedLaws: its laws
+--   OperationWalks   WalkedOperations: the contract of walks that call at operations alone; OperationSteps: their steps;
+--                    OperationLaws: their laws
+--   GivenNames       names_of, named: names of results and arguments; Placing: how one comes among the others
+--   Unnamed          IsUnnamed: what is left where all names under a node are erased
 pub mod Lists
 pub mod Config
 pub mod Tree

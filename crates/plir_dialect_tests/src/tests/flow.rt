@@ -70,18 +70,37 @@ fn tell_new<D: CallSet + BranchSet + RegionEdgeSet>(
     tell(alloc, ctx, op)
 }
 
+/// An op set with a kind that returns and one that branches.
+trait HasJumps: OpSet {
+    /// The kind that returns.
+    fn returns() -> Self::Kind;
+
+    /// The kind that branches.
+    fn jumps() -> Self::Kind;
+}
+
+impl HasJumps for Flow {
+    fn returns() -> Self::Kind {
+        OneOf::First(ReturnKind)
+    }
+
+    fn jumps() -> Self::Kind {
+        OneOf::Second(JumpKind)
+    }
+}
+
 /// Asks what is told of an operation of each dialect.
 #[derive(Drop)]
 struct AsksBoth {
     alloc: Global,
 }
 
-impl InContext<Flow> for AsksBoth {
+impl<D: CallSet + BranchSet + RegionEdgeSet + HasJumps> InContext<D> for AsksBoth {
     type Answer = Result<(Told, Told), NodeErr>;
 
-    fn run(self, ctx: &mut Context<Flow>) -> Result<(Told, Told), NodeErr> {
-        let first = tell_new(self.alloc, ctx, OneOf::First(ReturnKind))?;
-        let second = tell_new(self.alloc, ctx, OneOf::Second(JumpKind))?;
+    fn run(self, ctx: &mut Context<D>) -> Result<(Told, Told), NodeErr> {
+        let first = tell_new(self.alloc, ctx, D::returns())?;
+        let second = tell_new(self.alloc, ctx, D::jumps())?;
         Ok((first, second))
     }
 }

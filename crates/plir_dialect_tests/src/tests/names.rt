@@ -1,11 +1,11 @@
 //! What operations of both crates name.
 use super::building::{add_func, add_last, make_place, set_name};
 use super::kinds::HasBoth;
-use crate::joined::Both;
+use super::tasks::{Task, do_in_both};
 use crate::view::ViewKind;
 use plir_builtin::SymbolTableCollection;
 use plir_core::{Context, Operation, Ptr};
-use plir_scripts::{InContext, Stop, in_new_context};
+use plir_scripts::Stop;
 use plir_symbols::{SymbolNames, call_graph};
 use std::alloc::Global;
 use std::test::Fail;
@@ -29,30 +29,22 @@ fn first_named<D: SymbolNames>(
     }
 }
 
-// Puts a function into a module, and an operation that names it.
-#[derive(Drop)]
-struct Names {
+/// Puts a function into a module, and an operation that names it: whether it is told to name the function.
+pub fn find_name<D: SymbolNames + HasBoth>(
     alloc: Global,
-}
-
-impl<D: SymbolNames + HasBoth> InContext<D> for Names {
-    type Answer = Result<bool, Stop>;
-
-    // Whether the operation is told to name the function.
-    fn run(self, ctx: &mut Context<D>) -> Result<bool, Stop> {
-        let (alloc, place) = (self.alloc, make_place(self.alloc, ctx)?);
-        let func = add_func(alloc, ctx, &place, "f")?;
-        let op = add_last(alloc, ctx, &place, D::view(ViewKind::Name), &[])?;
-        again!(set_name(alloc, ctx, op, "f"));
-        let (user, symbol) = again!(first_named(alloc, ctx, place.module));
-        Ok(user == op && symbol == Some(func))
-    }
+    ctx: &mut Context<D>,
+) -> Result<String, Stop> {
+    let place = make_place(alloc, ctx)?;
+    let func = add_func(alloc, ctx, &place, "f")?;
+    let op = add_last(alloc, ctx, &place, D::view(ViewKind::Name), &[])?;
+    again!(set_name(alloc, ctx, op, "f"));
+    let (user, symbol) = again!(first_named(alloc, ctx, place.module));
+    let is_named = user == op && symbol == Some(func);
+    Ok(again!(format!(in alloc; "{is_named}")))
 }
 
 #[test]
 fn an_operation_names_a_function_where_memory_is_refused(rt: HostRuntime) -> Result<(), Fail> {
-    let alloc = rt.alloc();
-    let names = Names { alloc };
-    assert!(rt; in_new_context::<Both, _>(alloc, names)?);
+    assert!(rt; do_in_both(rt.alloc(), Task::Name)?.as_str() == "true");
     Ok(())
 }

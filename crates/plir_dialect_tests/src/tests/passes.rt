@@ -1,7 +1,7 @@
 //! What passes leave of a tree of operations of both crates, by its text.
 use super::building::{Place, add, add_constant, add_last, build, make_place};
 use super::kinds::HasBoth;
-use crate::joined::Both;
+use super::tasks::{Task, do_in_both};
 use crate::view::ViewKind;
 use joined_dialects::toy::ToyKind;
 use plir_core::{Context, Operation, Ptr};
@@ -9,12 +9,13 @@ use plir_data::OpSet;
 use plir_folding::{FoldSet, fold_constants};
 use plir_passes::{EffectSet, eliminate_dead_code};
 use plir_print::{is_printable, print_op};
-use plir_scripts::{InContext, Stop, in_new_context};
+use plir_scripts::Stop;
 use std::alloc::Global;
 use std::test::Fail;
 
-// What is left of the tree when it is swept.
-const SWEPT: &str = "builtin.module @m 
+// How many nodes were live before the tree is swept and behind, and what is left.
+const SWEPT: &str = "9 nodes, then 7
+builtin.module @m 
 {
   ^block1v1():
     op2v1_res0 = toy.neg () [] []: <()->(builtin.integer si8)>;
@@ -63,33 +64,23 @@ fn text_of<D: OpSet>(alloc: Global, ctx: &Context<D>, op: Ptr<Operation>) -> Res
     Ok(print_op(alloc, ctx, op)?)
 }
 
-// Builds the tree with what is dead, and sweeps it.
-#[derive(Drop)]
-struct Sweeps {
+/// Builds the tree with what is dead, and sweeps it: how many nodes were live before and behind, and the text of what is
+/// left.
+pub fn sweep_dead<D: EffectSet + HasBoth>(
     alloc: Global,
-}
-
-impl<D: EffectSet + HasBoth> InContext<D> for Sweeps {
-    type Answer = Result<(u32, u32, String), Stop>;
-
-    // The text of what is left, and how many nodes were live before and behind.
-    fn run(self, ctx: &mut Context<D>) -> Result<(u32, u32, String), Stop> {
-        let (place, sum) = build(self.alloc, ctx)?;
-        add_dead(self.alloc, ctx, &place, sum)?;
-        let before = ctx.num_live();
-        again!(sweep(self.alloc, ctx, place.module));
-        let text = again!(text_of(self.alloc, ctx, place.module));
-        Ok((before, ctx.num_live(), text))
-    }
+    ctx: &mut Context<D>,
+) -> Result<String, Stop> {
+    let (place, sum) = build(alloc, ctx)?;
+    add_dead(alloc, ctx, &place, sum)?;
+    let before = ctx.num_live();
+    again!(sweep(alloc, ctx, place.module));
+    let (left, text) = (ctx.num_live(), again!(text_of(alloc, ctx, place.module)));
+    Ok(again!(format!(in alloc; "{before} nodes, then {left}\n{text}")))
 }
 
 #[test]
 fn what_is_dead_of_either_crate_goes_where_memory_is_refused(rt: HostRuntime) -> Result<(), Fail> {
-    let alloc = rt.alloc();
-    let sweeps = Sweeps { alloc };
-    let (before, left, text) = in_new_context::<Both, _>(alloc, sweeps)?;
-    assert!(rt; before == 9 && left == 7);
-    assert!(rt; text.as_str() == SWEPT);
+    assert!(rt; do_in_both(rt.alloc(), Task::Sweep)?.as_str() == SWEPT);
     Ok(())
 }
 
@@ -101,32 +92,23 @@ fn fold<D: FoldSet>(alloc: Global, ctx: &mut Context<D>, root: Ptr<Operation>) -
     Ok(fold_constants(alloc, ctx, root)?)
 }
 
-// Shows the sum of two constants, folds it, and sweeps what is dead then.
-#[derive(Drop)]
-struct Folds {
+/// Shows the sum of two constants, folds it, and sweeps what is dead then: the text of what is left.
+pub fn fold_sum<D: EffectSet + FoldSet + HasBoth>(
     alloc: Global,
-}
-
-impl<D: EffectSet + FoldSet + HasBoth> InContext<D> for Folds {
-    type Answer = Result<String, Stop>;
-
-    // The text of what is left.
-    fn run(self, ctx: &mut Context<D>) -> Result<String, Stop> {
-        let (alloc, place) = (self.alloc, make_place(self.alloc, ctx)?);
-        let two = add_constant(alloc, ctx, &place, 2)?;
-        let three = add_constant(alloc, ctx, &place, 3)?;
-        let sum = add(alloc, ctx, &place, D::toy(ToyKind::Add), &[two, three])?;
-        add_last(alloc, ctx, &place, D::view(ViewKind::Show), &[sum])?;
-        again!(fold(alloc, ctx, place.module));
-        again!(sweep(alloc, ctx, place.module));
-        Ok(again!(text_of(alloc, ctx, place.module)))
-    }
+    ctx: &mut Context<D>,
+) -> Result<String, Stop> {
+    let place = make_place(alloc, ctx)?;
+    let two = add_constant(alloc, ctx, &place, 2)?;
+    let three = add_constant(alloc, ctx, &place, 3)?;
+    let sum = add(alloc, ctx, &place, D::toy(ToyKind::Add), &[two, three])?;
+    add_last(alloc, ctx, &place, D::view(ViewKind::Show), &[sum])?;
+    again!(fold(alloc, ctx, place.module));
+    again!(sweep(alloc, ctx, place.module));
+    Ok(again!(text_of(alloc, ctx, place.module)))
 }
 
 #[test]
 fn what_one_crate_sums_is_folded_where_memory_is_refused(rt: HostRuntime) -> Result<(), Fail> {
-    let alloc = rt.alloc();
-    let folds = Folds { alloc };
-    assert!(rt; in_new_context::<Both, _>(alloc, folds)?.as_str() == FOLDED);
+    assert!(rt; do_in_both(rt.alloc(), Task::Fold)?.as_str() == FOLDED);
     Ok(())
 }

@@ -60,64 +60,100 @@ fn four_bytes<D: HasTensors>(types: &mut TypeTable<D>) -> Result<TypeHandle, Sto
 }
 
 // The text of four tensors of four bytes.
-fn type_written<D: HasTensors>(alloc: Global) -> Result<String, Stop> {
-    let mut types: TypeTable<D> = TypeTable::new(alloc);
-    let row = again!(four_bytes(&mut types));
-    let rows = again!(four_of(&mut types, row));
+fn type_written<D: HasTensors>(alloc: Global, types: &mut TypeTable<D>) -> Result<String, Stop> {
+    let row = again!(four_bytes(types));
+    let rows = again!(four_of(types, row));
     if !types.holds_type(rows) {
         return Err(Stop::Refused);
     }
-    Ok(again!(type_text(alloc, &types, rows)))
+    Ok(again!(type_text(alloc, types, rows)))
 }
 
 // The text of a copy of what fills a tensor with a number.
-fn copy_written<D: HasTensors>(alloc: Global, value: u32) -> Result<String, Stop> {
-    let mut types: TypeTable<D> = TypeTable::new(alloc);
-    let ty = again!(four_bytes(&mut types));
+fn copy_written<D: HasTensors>(
+    alloc: Global,
+    types: &mut TypeTable<D>,
+    value: u32,
+) -> Result<String, Stop> {
+    let ty = again!(four_bytes(types));
     let attr: AttrObj<D> = AttrObj::Own(D::dense(Dense { value, ty }));
     let copy = again!(attr.try_clone(alloc));
-    if !copy.is_live(&types) || copy.typed() != Some(ty) {
+    if !copy.is_live(types) || copy.typed() != Some(ty) {
         return Err(Stop::Refused);
     }
-    Ok(again!(print_attr(alloc, &types, &copy)))
+    Ok(again!(print_attr(alloc, types, &copy)))
 }
 
-// What the verifier says of what fills a tensor with a number: nothing, or the text of its refusal.
-fn verdict<D: HasTensors>(alloc: Global, value: u32) -> Result<String, Stop> {
-    let mut types: TypeTable<D> = TypeTable::new(alloc);
-    let ty = again!(four_bytes(&mut types));
+// What the verifier says of what fills a tensor with a number: `nothing` where it accepts, or the text of its refusal.
+fn verdict<D: HasTensors>(
+    alloc: Global,
+    types: &mut TypeTable<D>,
+    value: u32,
+) -> Result<String, Stop> {
+    let ty = again!(four_bytes(types));
     let attr: AttrObj<D> = AttrObj::Own(D::dense(Dense { value, ty }));
-    if !attr.is_live(&types) {
+    if !attr.is_live(types) {
         return Err(Stop::Refused);
     }
-    match attr.verify(alloc, &types) {
-        Ok(()) => Ok(String::new(alloc)),
+    match attr.verify(alloc, types) {
+        Ok(()) => Ok(again!(format!(in alloc; "nothing"))),
         Err(VerifyErr::Refused { err, .. }) => Ok(again!(format!(in alloc; "{err}"))),
         Err(VerifyErr::Memory) => Err(Stop::Memory),
     }
 }
 
+// What is asked in a new table of types.
+#[derive(Clone, Copy)]
+enum Question {
+    // How a type is written.
+    Type,
+    // How a copy of what fills a tensor with a number is written.
+    Copy(u32),
+    // What the verifier says of what fills a tensor with a number.
+    Verdict(u32),
+}
+
+// What is answered.
+fn answer<D: HasTensors>(alloc: Global, question: Question) -> Result<String, Stop> {
+    let mut types: TypeTable<D> = TypeTable::new(alloc);
+    match question {
+        Question::Type => type_written(alloc, &mut types),
+        Question::Copy(value) => copy_written(alloc, &mut types, value),
+        Question::Verdict(value) => verdict(alloc, &mut types, value),
+    }
+}
+
+// What is answered in the dialect itself.
+fn answer_alone(alloc: Global, question: Question) -> Result<String, Stop> {
+    answer::<My>(alloc, question)
+}
+
+// What is answered in the set that it is joined to.
+fn answer_joined(alloc: Global, question: Question) -> Result<String, Stop> {
+    answer::<Both>(alloc, question)
+}
+
 #[test]
 fn types_are_written_where_memory_is_refused(rt: HostRuntime) -> Result<(), Fail> {
     let written = "my.tensor <4 x my.tensor <4 x builtin.integer si8>>";
-    assert!(rt; type_written::<My>(rt.alloc())?.as_str() == written);
-    assert!(rt; type_written::<Both>(rt.alloc())?.as_str() == written);
+    assert!(rt; answer_alone(rt.alloc(), Question::Type)?.as_str() == written);
+    assert!(rt; answer_joined(rt.alloc(), Question::Type)?.as_str() == written);
     Ok(())
 }
 
 #[test]
 fn attributes_are_copied_and_written_where_memory_is_refused(rt: HostRuntime) -> Result<(), Fail> {
     let written = "my.dense <7> : my.tensor <4 x builtin.integer si8>";
-    assert!(rt; copy_written::<My>(rt.alloc(), 7)?.as_str() == written);
-    assert!(rt; copy_written::<Both>(rt.alloc(), 7)?.as_str() == written);
+    assert!(rt; answer_alone(rt.alloc(), Question::Copy(7))?.as_str() == written);
+    assert!(rt; answer_joined(rt.alloc(), Question::Copy(7))?.as_str() == written);
     Ok(())
 }
 
 #[test]
 fn attributes_are_verified_where_memory_is_refused(rt: HostRuntime) -> Result<(), Fail> {
-    assert!(rt; verdict::<My>(rt.alloc(), 255)?.as_str() == "");
-    assert!(rt; verdict::<My>(rt.alloc(), 256)?.as_str() == "more than 255");
-    assert!(rt; verdict::<Both>(rt.alloc(), 255)?.as_str() == "");
-    assert!(rt; verdict::<Both>(rt.alloc(), 256)?.as_str() == "more than 255");
+    assert!(rt; answer_alone(rt.alloc(), Question::Verdict(255))?.as_str() == "nothing");
+    assert!(rt; answer_alone(rt.alloc(), Question::Verdict(256))?.as_str() == "more than 255");
+    assert!(rt; answer_joined(rt.alloc(), Question::Verdict(255))?.as_str() == "nothing");
+    assert!(rt; answer_joined(rt.alloc(), Question::Verdict(256))?.as_str() == "more than 255");
     Ok(())
 }

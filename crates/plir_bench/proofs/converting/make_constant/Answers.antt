@@ -5,4 +5,4 @@ use Rattle.plir_bench.specs.Illegal.{is_reference}
 use Rattle.plir_bench.proofs.converting.make_constant.Goals as goal
 
 pub returns-clause-legal : goal.returns-clause-legal
-returns-clause-legal c = ap (λ z. is_kind is_reference (kind_in z)) c.in_ok-constant.ensures.held
+returns-clause-legal c = ap (λ z. is_kind is_reference (kind_in z)) c.in_ok-constant.ensures.made.held

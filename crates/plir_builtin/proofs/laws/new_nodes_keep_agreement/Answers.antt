@@ -1,5 +1,3 @@
-use Rattle.plir_core.specs.declared.ptr.IRNode.TheVariants.{Operation}
-use Rattle.plir_builtin.proofs.GivenOut.{given-later}
 use Rattle.plir_builtin.proofs.NewNodes.{made-agree, same-agree, typed-agree}
 use Rattle.plir_builtin.proofs.laws.new_nodes_keep_agreement.Goals as goal
 
@@ -17,6 +15,3 @@ pub returns-clause-types : goal.returns-clause-types
 returns-clause-types g c =
     λ s tables whole same all. typed-agree s c.args.ctx.now (c.contexts_stand.ensures s whole) g.D.OpSet.is_symbol
     g.D.OpSet.is_symbol_table tables same all
-
-pub returns-clause-given : goal.returns-clause-given
-returns-clause-given g c = λ s tables stay given. given-later s c.args.ctx.now (λ p. stay (Operation p)) tables given

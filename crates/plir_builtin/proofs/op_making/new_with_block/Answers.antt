@@ -21,7 +21,7 @@ pub erase-requires-clause-unused : goal.erase-requires-clause-unused
 erase-requires-clause-unused g c =
     let op = Operation c.in_ok-op.op in
     subst (λ z. IsUnusedOutside z op) (sym c.in-Err.ensures.err)
-    (c.what_was_made_is_unused.ensures c.with_attributes.new.ctx op c.in_ok-op.ensures.made)
+    (c.what_was_made_is_unused.ensures c.with_attributes.new.ctx op c.in_ok-op.ensures.made.made)
 
 pub returns-in-Ok-clause-made : goal.returns-in-Ok-clause-made
 returns-in-Ok-clause-made g c =
@@ -29,7 +29,7 @@ returns-in-Ok-clause-made g c =
     let op = Operation c.in_ok-op.op in
     let added = c.in-Ok.ensures.added in
     let region = Region added.region in
-    let made = c.in_ok-op.ensures.made in
+    let made = c.in_ok-op.ensures.made.made in
     let new = not_true (is_node_live s.nodes region) (λ old. made.apart region old (suc zero, added.over)) in
     c.growth.ensures.made c.with_attributes.new.ctx.nodes c.add_block.new.ctx.nodes op region
     c.in_ok-op.ensures.whole.stored made added.region_live new added.grown
@@ -41,9 +41,10 @@ returns-in-Err-clause-err g c =
     let op = Operation c.in_ok-op.op in
     let erased = subst (λ z. IsErased z.nodes v.nodes op) c.in-Err.ensures.err c.erase.ensures.tree in
     record {
-      nodes = c.growth.ensures.unmade t.nodes v.nodes op c.in_ok-op.ensures.made erased;
+      nodes = c.growth.ensures.unmade t.nodes v.nodes op c.in_ok-op.ensures.made.made erased;
       types =
-          ap (λ z. z.types) c.erase.ensures.after ∙ c.in-Err.ensures.types ∙ ap (λ z. z.types) c.in_ok-op.ensures.ok;
+          ap (λ z. z.types) c.erase.ensures.after ∙ c.in-Err.ensures.types
+          ∙ ap (λ z. z.types) c.in_ok-op.ensures.made.after;
     }
 
 pub returns-in-Ok-clause-after : goal.returns-in-Ok-clause-after
@@ -54,7 +55,8 @@ returns-in-Ok-clause-after g c =
     let held = op_view c.args.kind [] [] [] c.args.attributes in
     let made : v ≡ with_op s held 1 = search rules in
     let one : children v (Operation (ptr_at v.nodes.ops (next_slot s.nodes.ops))) ≡ Region added.region ∷ [] =
-    subst (λ p. children v (Operation p) ≡ Region added.region ∷ []) c.in_ok-op.ensures.pointer added.only_region in
+    subst (λ p. children v (Operation p) ≡ Region added.region ∷ []) c.in_ok-op.ensures.made.pointer
+    added.only_region in
     record {
       region = added.region;
       only_region =

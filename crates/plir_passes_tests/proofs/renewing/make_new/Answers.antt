@@ -5,4 +5,4 @@ use Rattle.plir_passes_tests.specs.Kinds.{is_old}
 use Rattle.plir_passes_tests.proofs.renewing.make_new.Goals as goal
 
 pub returns-clause-legal : goal.returns-clause-legal
-returns-clause-legal c = ap (λ z. is_kind is_old (kind_in z)) c.in_ok-new.ensures.held
+returns-clause-legal c = ap (λ z. is_kind is_old (kind_in z)) c.in_ok-new.ensures.made.held

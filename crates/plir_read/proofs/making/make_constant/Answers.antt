@@ -45,10 +45,10 @@ with_attributes-requires-clause-handles_live g c = c.in_ok-attributes.ensures.li
 
 pub returns-in-Ok-clause-slots : goal.returns-in-Ok-clause-slots
 returns-in-Ok-clause-slots g c =
-    let o = c.in-Ok.ensures in
+    let o = c.in-Ok.ensures.made in
     let v = op_view kinds.Constant c.in_ok-results.results.items c.new-operands.result.items
     c.new-successors.result.items c.in_ok-attributes.attributes in
-    leaf_given c.args.ctx.now c.with_attributes.new.ctx c.stands.ensures.whole.stored v c.in-Ok.op o.ok o.made.new
+    leaf_given c.args.ctx.now c.with_attributes.new.ctx c.stands.ensures.whole.stored v c.in-Ok.op o.after o.made.new
     o.made.root
 
 pub returns-in-Err-clause-refused : goal.returns-in-Err-clause-refused
@@ -60,7 +60,7 @@ returns-in-Err-clause-refused g c =
 
 pub returns-in-Ok-clause-come : goal.returns-in-Ok-clause-come
 returns-in-Ok-clause-come g c =
-    leaf_comes c.args.ctx.now c.stands.ensures.whole.stored c.with_attributes.new.ctx _ c.in-Ok.ensures.ok
+    leaf_comes c.args.ctx.now c.stands.ensures.whole.stored c.with_attributes.new.ctx _ c.in-Ok.ensures.made.after
 
 pub returns-in_err-results-clause-kept : goal.returns-in_err-results-clause-kept
 returns-in_err-results-clause-kept g c =
@@ -69,16 +69,16 @@ returns-in_err-results-clause-kept g c =
 
 pub returns-in-Ok-clause-made : goal.returns-in-Ok-clause-made
 returns-in-Ok-clause-made g c =
-    let o = c.in-Ok.ensures in
+    let o = c.in-Ok.ensures.made in
     record {
       made = o.made;
       held = o.held ∙ (λ i. Some
           (op_view kinds.Constant (c.in_ok-results.ensures.value i) (c.new-operands.ensures.items i)
           (c.new-successors.ensures.items i) (c.in_ok-attributes.ensures.value i)));
       empty = none _ o.regions.count;
-      types = ap (λ z. z.types) o.ok;
+      types = ap (λ z. z.types) o.after;
     }
 
 pub returns-in-Err-clause-kept : goal.returns-in-Err-clause-kept
 returns-in-Err-clause-kept g c =
-    KeepsOlder-same c.args.ctx.now c.with_attributes.new.ctx c.in-Err.ensures.err c.in-Err.ensures.given
+    KeepsOlder-same c.args.ctx.now c.with_attributes.new.ctx c.in-Err.ensures.unmade.same c.in-Err.ensures.given

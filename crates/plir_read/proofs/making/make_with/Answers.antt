@@ -8,11 +8,11 @@ use Rattle.plir_read.proofs.making.make_with.Goals as goal
 
 pub returns-in-Ok-clause-slots : goal.returns-in-Ok-clause-slots
 returns-in-Ok-clause-slots g c =
-    let o = c.in-Ok.ensures in
+    let o = c.in-Ok.ensures.made in
     let r = c.get_region-region in
     let v = op_view c.args.kind c.new-results.result.items c.new-operands.result.items c.new-successors.result.items
     c.args.attributes in
-    op_given c.args.ctx.now c.with_attributes.new.ctx c.stands.ensures.whole.stored v c.in-Ok.op r.result o.ok
+    op_given c.args.ctx.now c.with_attributes.new.ctx c.stands.ensures.whole.stored v c.in-Ok.op r.result o.after
     o.made.new o.made.root
     (region_new c.args.ctx.now.nodes c.with_attributes.new.ctx.nodes (Operation c.in-Ok.op) (Region r.result) o.made
     o.regions r.ensures.value) r.ensures.live
@@ -26,4 +26,4 @@ returns-in-Err-clause-refused g c =
 
 pub returns-in-Ok-clause-come : goal.returns-in-Ok-clause-come
 returns-in-Ok-clause-come g c =
-    op_comes c.args.ctx.now c.stands.ensures.whole.stored c.with_attributes.new.ctx _ c.in-Ok.ensures.ok
+    op_comes c.args.ctx.now c.stands.ensures.whole.stored c.with_attributes.new.ctx _ c.in-Ok.ensures.made.after

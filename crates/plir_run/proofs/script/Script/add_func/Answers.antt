@@ -9,10 +9,10 @@ pub returns-in_err-made : goal.returns-in_err-made
 returns-in_err-made c =
     let typed =
     agree-typed _ _ _ c.requires.agree c.stands.ensures.whole c.get-ty.new.ctx
-    c.new_nodes_keep_agreement.ensures.given c.new_nodes_keep_agreement.ensures.types c.get-ty.ensures.rest in
+    c.new_nodes_keep_agreement.ensures.types c.get-ty.ensures.rest in
     record {
       agree =
-          agree-refused _ _ _ typed c.stands-2.ensures.whole _ c.new_nodes_keep_agreement-2.ensures.given
+          agree-refused _ _ _ typed c.stands-2.ensures.whole _
           c.new_nodes_keep_agreement-2.ensures.refused c.in_err-made.ensures.err c.new-made.ensures.given;
     }
 
@@ -34,6 +34,6 @@ pub insert-requires-clause-agree : goal.insert-requires-clause-agree
 insert-requires-clause-agree c =
     let typed =
     agree-typed _ _ _ c.requires.agree c.stands.ensures.whole c.get-ty.new.ctx
-    c.new_nodes_keep_agreement.ensures.given c.new_nodes_keep_agreement.ensures.types c.get-ty.ensures.rest in
-    agree-made _ _ _ typed c.stands-2.ensures.whole _ c.new_nodes_keep_agreement-2.ensures.given
+    c.new_nodes_keep_agreement.ensures.types c.get-ty.ensures.rest in
+    agree-made _ _ _ typed c.stands-2.ensures.whole _
     c.new_nodes_keep_agreement-2.ensures.made _ c.in_ok-made.ensures.made c.new-made.ensures.given

@@ -7,7 +7,7 @@ use Rattle.plir_run.proofs.script.Script.make_module.Goals as goal
 pub returns-in_err-made : goal.returns-in_err-made
 returns-in_err-made c = record {
   agree =
-      agree-refused _ _ _ c.requires.agree c.stands.ensures.whole _ c.new_nodes_keep_agreement.ensures.given
+      agree-refused _ _ _ c.requires.agree c.stands.ensures.whole _
       c.new_nodes_keep_agreement.ensures.refused c.in_err-made.ensures.err c.new-made.ensures.given;
 }
 
@@ -23,5 +23,5 @@ insert-requires-clause-not_above c =
 
 pub insert-requires-clause-agree : goal.insert-requires-clause-agree
 insert-requires-clause-agree c =
-    agree-made _ _ _ c.requires.agree c.stands.ensures.whole _ c.new_nodes_keep_agreement.ensures.given
+    agree-made _ _ _ c.requires.agree c.stands.ensures.whole _
     c.new_nodes_keep_agreement.ensures.made _ c.in_ok-made.ensures.made c.new-made.ensures.given

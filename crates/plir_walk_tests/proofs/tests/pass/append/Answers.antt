@@ -5,11 +5,11 @@ use Rattle.plir_core.specs.declared.ptr.IRNode.TheVariants.{Operation, BasicBloc
 use Rattle.plir_walk_tests.proofs.tests.pass.append.Goals as goal
 
 pub insert_at_back-requires-clause-not_above : goal.insert_at_back-requires-clause-not_above
-insert_at_back-requires-clause-not_above g c = c.in_ok-op.ensures.made.apart (BasicBlock c.args.block) c.requires
+insert_at_back-requires-clause-not_above g c = c.in_ok-op.ensures.made.made.apart (BasicBlock c.args.block) c.requires
 
 pub returns-clause-kept : goal.returns-clause-kept
 returns-clause-kept g c = λ n live. c.fill.ensures.kept n ((c.growth.ensures.placed _ _ (Operation c.in_ok-op.op)
-    (BasicBlock c.args.block) _ c.in_ok-op.ensures.made c.insert_at_back.ensures.placed).keeps.live n live)
+    (BasicBlock c.args.block) _ c.in_ok-op.ensures.made.made c.insert_at_back.ensures.placed).keeps.live n live)
 
 pub returns-clause-lawful : goal.returns-clause-lawful
 returns-clause-lawful g c =
@@ -17,7 +17,7 @@ returns-clause-lawful g c =
     let u = c.insert_at_back.new.ctx in
     let block = BasicBlock c.args.block in
     let placed = c.lawful_changes.ensures.placed s c.new.new.ctx u block block (Operation c.in_ok-op.op) _
-    c.forest.ensures (zero, refl) c.in_ok-op.ensures.made c.insert_at_back.ensures.placed in
+    c.forest.ensures (zero, refl) c.in_ok-op.ensures.made.made c.insert_at_back.ensures.placed in
     let filled = c.fill.ensures.lawful block (
       suc (suc zero),
       ap (climb (parent_of u) (suc zero))
