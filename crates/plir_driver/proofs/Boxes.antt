@@ -24,11 +24,11 @@ use Rattle.plir_walk.specs.Lists.{Pairs}
 use Rattle.plir_walk.specs.OperationWalks.{OperationRelation, AtOperations, IsOperationDue, WalkedOperations}
 use Rattle.plir_walk.specs.Walk.{AnswersBy}
 use Rattle.plir_walk.specs.Walked.{IsCallUnder}
-use Rattle.plir_walk.specs.NodeLaws.{same-op}
 use Rattle.plir_symbols.specs.declared.call_edges.CallEdge.{CallEdge}
 use Rattle.plir_builtin.specs.Symbols.{is_symbol_kind, is_table_kind}
 use Rattle.plir_symbols.specs.SymbolNames.{names_in}
 use Rattle.plir_symbols.specs.CallGraph.{IsCallGraph}
+use Rattle.plir_driver.proofs.OpsAmong.{has-op, op-has, op-pairs, ops_in}
 use Rattle.plir_driver.specs.NodeNames.{op_name}
 use Rattle.plir_driver.specs.BoxesPut.{AreBoxesPut, IsBoxPut, box_of}
 use Rattle.plir_driver.specs.DrawnCalls.{IsDrawn, arrow, box, has_box, is_end}
@@ -45,40 +45,6 @@ box-put own s p t u v w first second third =
     ∙ append_assoc (t ++ front) (op_name own s p) (codes "\"];\n")
     ∙ append_assoc t front rest
     ∙ ap (λ z. t ++ (codes "  " ++ z)) (append_assoc (node_text (Operation p)) (codes " [label=\"") rest)
-
--- the operations among some nodes
-abbrev ops_in : List IRNode → List (Ptr OperationKind)
-ops_in [] = []
-ops_in (Operation p ∷ ns) = p ∷ ops_in ns
-ops_in (Region p ∷ ns) = ops_in ns
-ops_in (BasicBlock p ∷ ns) = ops_in ns
-
-has-op : (ns : List IRNode) (p : Ptr OperationKind) → Has ns (Operation p) → Has (ops_in ns) p
-has-op [] p h = absurd h
-has-op (Operation q ∷ ns) p (inl same) = inl (same-op q p same)
-has-op (Operation q ∷ ns) p (inr k) = inr (has-op ns p k)
-has-op (Region q ∷ ns) p h = elim h [
-  | inl same ↦ absurd (let z : ⊥ = cc same in z)
-  | inr k ↦ has-op ns p k
-]
-has-op (BasicBlock q ∷ ns) p h = elim h [
-  | inl same ↦ absurd (let z : ⊥ = cc same in z)
-  | inr k ↦ has-op ns p k
-]
-
-op-has : (ns : List IRNode) (p : Ptr OperationKind) → Has (ops_in ns) p → Has ns (Operation p)
-op-has [] p h = absurd h
-op-has (Operation q ∷ ns) p (inl same) = inl (ap Operation same)
-op-has (Operation q ∷ ns) p (inr k) = inr (op-has ns p k)
-op-has (Region q ∷ ns) p h = inr (op-has ns p h)
-op-has (BasicBlock q ∷ ns) p h = inr (op-has ns p h)
-
-op-pairs : (R : IRNode → IRNode → Type 0) (ns : List IRNode) → Pairs R ns →
-    Pairs (λ p q. R (Operation p) (Operation q)) (ops_in ns)
-op-pairs R [] h = tt
-op-pairs R (Operation p ∷ ns) h = (λ q k. h.0 (Operation q) (op-has ns q k), op-pairs R ns h.1)
-op-pairs R (Region p ∷ ns) h = op-pairs R ns h.1
-op-pairs R (BasicBlock p ∷ ns) h = op-pairs R ns h.1
 
 module _ {D K A T E : Type 0} (o : op_set.Ghosts D K A T E) (names : OpView K A → List (List ℕ))
     (s : ContextView K A T) (ends : Ptr OperationKind → Bool) where

@@ -8,3 +8,5 @@ mod Stopping
 mod Naming
 mod Cutting
 mod Logging
+mod OpsAmong
+mod Counting

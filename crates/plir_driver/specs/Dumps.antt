@@ -12,6 +12,7 @@ use Rattle.plir_print.specs.OpText.{op_text}
 use Rattle.plir_read.specs.OpsStanding.{StandsForOp}
 use Rattle.plir_driver.specs.declared.choices.Pass.{Pass}
 use Rattle.plir_driver.specs.declared.choices.Reports.{Reports}
+use Rattle.plir_driver.specs.Counts.{AreCountsPut}
 use Rattle.plir_driver.specs.Passed.{IsRun}
 use Rattle.plir_driver.specs.Pipelines.{pass_name}
 
@@ -39,11 +40,15 @@ module _ {D K A T E : Type 0} (o : op_set.Ghosts D K A T E) (root : Ptr Operatio
     pub unasked : (P → ⊥) → t' ≡ t
 
   -- A pass went from s to u: the operation as it was in s stands behind a text, if it is to be told in front of the
-  -- pass, and then as it is in u, if it is to be told behind each.
+  -- pass; then as it is in u, if it is to be told behind each; and then how many operations there were and are, if that
+  -- is to be told.
   pub record IsPassLogged (reports : Reports) (pass : Pass) (s u : ContextView K A T) (t t' : List ℕ) : Type 0 where
     pub between : List ℕ
+    pub dumped : List ℕ
     pub before : IsDumpedWhere (Contains reports.before.items pass) (codes "Before") pass s t between
-    pub after : IsDumpedWhere (reports.after_all ≡ true) (codes "After") pass u between t'
+    pub after : IsDumpedWhere (reports.after_all ≡ true) (codes "After") pass u between dumped
+    pub counted : reports.stats ≡ true → AreCountsPut root pass s u dumped t'
+    pub uncounted : (reports.stats ≡ true → ⊥) → t' ≡ dumped
 
 -- From s to t something was done for each of a list, one after another, and from w to w' a text has grown by what was
 -- told of each.

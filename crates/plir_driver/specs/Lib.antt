@@ -12,6 +12,7 @@
 --   Pipelines    AreNames: words are the names of passes; AreRefused: one of them is not
 --   Dumps        IsLogged: what is told of passes as they run
 --   Parts        parts_of: the parts of an input
+--   Counts       IsCount: how many operations there are; AreCountsPut: what is told of that
 --   BoxesPut     how the boxes of a call graph are put behind a text
 pub mod Passed
 pub mod Excerpt
@@ -26,3 +27,4 @@ pub mod BoxesPut
 pub mod Pipelines
 pub mod Dumps
 pub mod Parts
+pub mod Counts

@@ -68,4 +68,6 @@ pub struct Reports {
     pub before: Vec<Pass>,
     /// Whether the operation is told behind each pass.
     pub after_all: bool,
+    /// Whether it is told how many operations there are in front of each pass, and how many behind it.
+    pub stats: bool,
 }

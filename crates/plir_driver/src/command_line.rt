@@ -37,6 +37,8 @@ const PRINT_BEFORE: &str = "print-before";
 
 const PRINT_AFTER_ALL: &str = "print-after-all";
 
+const STATS: &str = "stats";
+
 const WALK: &str = "walk";
 
 const VIEW: &str = "view";
@@ -126,7 +128,12 @@ fn with_reports<'a>(alloc: Global, command: Command<'a>) -> Result<Command<'a>, 
         PRINT_AFTER_ALL,
         "Print the operation to the standard error behind each pass",
     );
-    command.arg(before)?.arg(after_all)
+    let stats = flag(
+        alloc,
+        STATS,
+        "Tell on the standard error how many operations there are in front of each pass and behind it",
+    );
+    command.arg(before)?.arg(after_all)?.arg(stats)
 }
 
 /// The words that a program takes.
@@ -193,6 +200,7 @@ fn asked_reports<'a>(alloc: Global, matches: &ArgMatches<'a>) -> Result<Reports,
     Ok(Reports {
         before,
         after_all: matches.get_flag(PRINT_AFTER_ALL),
+        stats: matches.get_flag(STATS),
     })
 }
 

@@ -7,6 +7,7 @@
 mod calls;
 pub mod choices;
 mod command_line;
+mod counts;
 mod dumps;
 mod ends;
 mod excerpt;

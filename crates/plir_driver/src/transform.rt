@@ -11,6 +11,7 @@ ghost use Rattle.plir_driver.specs.Transformed.{IsTransformed, IsPrintedAs};
 
 use crate::calls::draw_calls;
 use crate::choices::{Choices, Form, Pass, Reports};
+use crate::counts::{count_if, put_counts};
 use crate::dumps::{is_dumped_before, put_dump};
 use crate::graph::draw;
 use crate::listing::list_nodes;
@@ -103,7 +104,7 @@ fn run_passes<D: EffectSet + VerifySet + SymbolNames>(
     Ok(())
 }
 
-// Runs a pass, and tells the operation in front of it and behind it, as far as that is asked for.
+// Runs a pass, and tells what is asked for in front of it and behind it.
 fn run_told<D: EffectSet + VerifySet + SymbolNames>(
     alloc: Global,
     verify: bool,
@@ -124,8 +125,10 @@ fn run_told<D: EffectSet + VerifySet + SymbolNames>(
 {
     let before = is_dumped_before(reports, pass);
     put_dump(log, alloc, before, "Before", pass, ctx, root)?;
+    let operations = count_if(reports.stats, ctx, root);
     run_one(alloc, verify, pass, ctx, root)?;
     put_dump(log, alloc, reports.after_all, "After", pass, ctx, root)?;
+    put_counts(log, reports.stats, pass, operations, ctx, root)?;
     Ok(())
 }
 
