@@ -1,7 +1,7 @@
 -- What is told of passes, as far as a loop has come.
 use Rattle.std.proofs.Common.{◌≡◌, ℕ, Bool, true, false, suc, ◌+◌, ◌<◌, ◌≤◌, List, [], ◌∷◌, ◌++◌, length, take, get_or}
 use Rattle.std.proofs.Common.{arith, sym, subst, refl, ap, ◌∙◌}
-use Rattle.std.proofs.lemmas.List.{take_all}
+use Rattle.std.proofs.lemmas.List.{append_assoc, take_all}
 use Rattle.std.proofs.Math.Seq.{take-suc}
 use Rattle.plir_data.specs.declared.op_set.OpSet as op_set
 use Rattle.plir_core.specs.declared.ptr.Ptr.{Ptr}
@@ -38,9 +38,23 @@ pub dumped-where :
     IsDumpedWhere o root P moment pass s w w'
 dumped-where o root P moment pass s w w' true to from put none = record {
   asked = λ p. put refl;
-  unasked = λ no. absurd (no (from refl));
+  unasked = λ never. absurd (never (from refl));
 }
 dumped-where o root P moment pass s w w' false to from put none = record {
   asked = λ p. put (to p);
-  unasked = λ no. none refl;
+  unasked = λ never. none refl;
 }
+
+-- what is put in three parts
+pub dump-put : (old head shown end one two new : List ℕ) → one ≡ old ++ head → two ≡ one ++ shown → new ≡ two ++ end →
+    new ≡ old ++ (head ++ (shown ++ end))
+dump-put old head shown end one two new first second third =
+    third
+    ∙ ap (λ z. z ++ end) (second ∙ ap (λ z. z ++ shown) first)
+    ∙ append_assoc (old ++ head) shown end
+    ∙ append_assoc old head (shown ++ end)
+
+-- what holds where a test fails
+pub uncounted : {P : Type 0} (asked : Bool) → (asked ≡ false → P) → (asked ≡ true → ⊥) → P
+uncounted true f never = absurd (never refl)
+uncounted false f never = f refl

@@ -16,11 +16,10 @@ use Rattle.plir_driver.specs.Counts.{AreCountsPut}
 use Rattle.plir_driver.specs.Passed.{IsRun}
 use Rattle.plir_driver.specs.Pipelines.{pass_name}
 
--- what is shown, under a line that names a moment and a pass, and an empty line behind it
-abbrev pub dump : (moment : List ℕ) → Pass → List ℕ → List ℕ
-dump moment pass shown =
-    codes "// -----// IR Dump " ++ (moment ++ (codes " " ++ (pass_name pass ++ (codes " //----- //\n" ++ (shown
-    ++ codes "\n\n")))))
+-- the line that names a moment and a pass
+abbrev pub dump_head : (moment : List ℕ) → Pass → List ℕ
+dump_head moment pass =
+    codes "// -----// IR Dump " ++ (moment ++ (codes " " ++ (pass_name pass ++ codes " //----- //\n")))
 
 module _ {D K A T E : Type 0} (o : op_set.Ghosts D K A T E) (root : Ptr OperationKind) where
   -- the text of the operation; or, where an operation lacks an attribute that its text tells, that it does
@@ -29,9 +28,9 @@ module _ {D K A T E : Type 0} (o : op_set.Ghosts D K A T E) (root : Ptr Operatio
       (IsPrintable s (Operation root) × (shown ≡ op_text o s root))
       ⊎ ((IsPrintable s (Operation root) → ⊥) × (shown ≡ codes "an operation lacks an attribute that its text tells"))
 
-  -- it stands behind a text, under its line
+  -- it stands behind a text, under its line and with an empty line behind it
   abbrev pub IsDumped : (moment : List ℕ) → Pass → ContextView K A T → List ℕ → List ℕ → Type 0
-  IsDumped moment pass s t t' = (shown : List ℕ) × IsShown s shown × (t' ≡ t ++ dump moment pass shown)
+  IsDumped moment pass s t t' = (shown : List ℕ) × IsShown s shown × (t' ≡ t ++ (dump_head moment pass ++ (shown ++ codes "\n\n")))
 
   -- it does where P holds, and else nothing is put
   pub record IsDumpedWhere (P : Type 0) (moment : List ℕ) (pass : Pass) (s : ContextView K A T) (t t' : List ℕ)

@@ -42,6 +42,14 @@ pub fn count_if<D: OpSet>(is_asked: bool, ctx: &Context<D>, root: Ptr<Operation>
     if is_asked { count_operations(ctx, root) } else { 0 }
 }
 
+// Puts two numbers of operations behind the name of a pass.
+fn put_line(log: &mut String, pass: Pass, before: usize, after: usize) -> Result<(), AllocError>
+    ensures { OnOk result (string_bytes log.new ≡ string_bytes log.old ++ counts_line pass before after) }
+{
+    let name = pass.name();
+    writeln!(log, "{name}: {before} operations before, {after} after")
+}
+
 /// Puts how many operations there were in front of a pass, and how many there are behind it, where that is asked for.
 pub fn put_counts<D: OpSet>(
     log: &mut String,
@@ -59,7 +67,6 @@ pub fn put_counts<D: OpSet>(
     if !is_asked {
         return Ok(());
     }
-    let name = pass.name();
     let after = count_operations(ctx, root);
-    writeln!(log, "{name}: {before} operations before, {after} after")
+    put_line(log, pass, before, after)
 }

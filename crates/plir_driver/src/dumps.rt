@@ -3,13 +3,13 @@ ghost use Rattle.std.specs.Prelude.{◌≡◌, ◌↔◌, ◌++◌, false, true,
 ghost use Rattle.std.specs.List.{Contains};
 ghost use Rattle.plir_core.specs.ContextView.{IsLive};
 ghost use Rattle.plir_core.specs.declared.ptr.IRNode.{IRNode as AnyNode};
-ghost use Rattle.plir_driver.specs.Dumps.{IsDumped, IsShown};
+ghost use Rattle.plir_driver.specs.Dumps.{IsDumped, IsShown, dump_head};
 
 use crate::choices::{Pass, Reports};
 use plir_core::{Context, Operation, Ptr};
 use plir_data::{Memory, OpSet};
 use plir_text::{is_printable, print_op};
-use std::alloc::Global;
+use std::alloc::{AllocError, Global};
 
 /// Whether the operation is dumped in front of a pass.
 pub fn is_dumped_before(reports: &Reports, pass: Pass) -> bool
@@ -38,6 +38,14 @@ fn put_shown<D: OpSet>(
     Ok(())
 }
 
+// Puts the line that names a moment and a pass.
+fn put_head(log: &mut String, moment: &str, pass: Pass) -> Result<(), AllocError>
+    ensures { OnOk result (string_bytes log.new ≡ string_bytes log.old ++ dump_head moment.now pass) }
+{
+    let name = pass.name();
+    writeln!(log, "// -----// IR Dump {moment} {name} //----- //")
+}
+
 /// Puts the operation under a line that names a moment and a pass, and an empty line behind it, where that is asked for.
 pub fn put_dump<D: OpSet>(
     log: &mut String,
@@ -56,8 +64,7 @@ pub fn put_dump<D: OpSet>(
     if !is_asked {
         return Ok(());
     }
-    let name = pass.name();
-    writeln!(log, "// -----// IR Dump {moment} {name} //----- //")?;
+    put_head(log, moment, pass)?;
     put_shown(log, alloc, ctx, root)?;
     log.push_str("\n\n")?;
     Ok(())
