@@ -35,8 +35,10 @@ module _ {K A T : Type 0} (s : ContextView K A T) (root : Ptr OperationKind)
       u' ≡ min (u + length (ops_in (nodes_of calls))) most
   all-counted [] c u c' u' below h = omega (arith, h.1, below)
   all-counted (y ∷ ys) c u c' u' below h =
-      let f = subst (λ z. IsCounted z y.node y.left) h.1 (each y.before y.state y.node y.answer y.after y.left h.2.made).1 in
-      one-more u y.left u' y.node (nodes_of ys) f (all-counted ys y.after y.left c' u' (bound u y.left y.node below f) h.3)
+      let made = each y.before y.state y.node y.answer y.after y.left h.2.made in
+      let f = subst (λ z. IsCounted z y.node y.left) h.1 made.1 in
+      let rest = all-counted ys y.after y.left c' u' (bound u y.left y.node below f) h.3 in
+      one-more u y.left u' y.node (nodes_of ys) f rest
     where
       bound : (u v : ℕ) (n : IRNode) → u ≤ most → IsCounted u n v → v ≤ most
       bound u v (Operation p) l e = omega (arith, e)

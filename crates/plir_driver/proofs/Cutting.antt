@@ -42,7 +42,8 @@ module _ (ls : List (Bor (List ℕ))) (i : ℕ) (d : Bor (List ℕ)) where
   joined_next was mid put below so_far some fed here =
       let front = map (λ (l : Bor (List ℕ)). l.now) (take i ls) in
       let line = (get_or ls i d).now in
-      let there : 0 < length front = omega (arith, length-map {A = Bor (List ℕ)} {B = List ℕ} (take i ls) (λ l. l.now), length-take i ls) in
+      let as_many = length-map {A = Bor (List ℕ)} {B = List ℕ} (take i ls) (λ l. l.now) in
+      let there : 0 < length front = omega (arith, as_many, length-take i ls) in
       here ∙ ap (λ z. z ++ line) (fed ∙ ap (λ z. z ++ 10 ∷ []) so_far)
       ∙ append_assoc (join_with_byte 10 front) (10 ∷ []) line
       ∙ sym (ap (join_with_byte 10) (more below) ∙ join-push 10 front line there)
@@ -57,7 +58,8 @@ onto-map : {A B : Type 0} (f : A → B) (x : A) (ps : List (List A)) →
 onto-map f x [] = refl
 onto-map f x (p ∷ ps) = refl
 
-cut-one : {A B : Type 0} (f : A → B) (b : Bool) (x : A) (ps : List (List A)) (qs : List (List B)) → map (map f) ps ≡ qs →
+cut-one : {A B : Type 0} (f : A → B) (b : Bool) (x : A) (ps : List (List A)) (qs : List (List B)) →
+    map (map f) ps ≡ qs →
     map (map f) (cond b ([] ∷ ps) (onto_first x ps)) ≡ cond b ([] ∷ qs) (onto_first (f x) qs)
 cut-one f true x ps qs e = ap (λ z. [] ∷ z) e
 cut-one f false x ps qs e = onto-map f x ps ∙ ap (onto_first (f x)) e

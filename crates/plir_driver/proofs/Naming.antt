@@ -17,7 +17,6 @@ zip-push R [] (b ∷ ys) x y h r = absurd h
 zip-push R (a ∷ xs) [] x y h r = absurd h
 zip-push R (a ∷ xs) (b ∷ ys) x y h r = (h.0, zip-push R xs ys x y h.1 r)
 
-
 module _ (ws : List (Bor (List ℕ))) (i : ℕ) (d : Bor (List ℕ)) where
   -- the words in front of a place, the one there, and the rest
   parted : i < length ws →
@@ -36,9 +35,10 @@ module _ (ws : List (Bor (List ℕ))) (i : ℕ) (d : Bor (List ℕ)) where
     names_next p more put below so_far here =
         let next : i + 1 ≡ suc i = omega arith in
         let e = ap (map (λ w. w.now)) (ap (λ k. take k ws) next ∙ take-suc ws i d below)
-            ∙ map-append (λ w. w.now) (take i ws) (get_or ws i d ∷ []) in
+        ∙ map-append (λ w. w.now) (take i ws) (get_or ws i d ∷ []) in
         subst (λ z. AreNames (map (λ w. w.now) (take (i + 1) ws)) z) (sym put)
-        (subst (λ z. AreNames z (passes ++ p ∷ [])) (sym e) (zip-push Names (map (λ w. w.now) (take i ws)) passes (get_or ws i d).now p so_far here))
+        (subst (λ z. AreNames z (passes ++ p ∷ [])) (sym e)
+        (zip-push Names (map (λ w. w.now) (take i ws)) passes (get_or ws i d).now p so_far here))
 
     -- the word at a place is refused
     pub refused_at : (e : PipelineErr) → i < length ws → AreNames (map (λ w. w.now) (take i ws)) passes →

@@ -30,7 +30,8 @@ module _ {D K A T E : Type 0} (o : op_set.Ghosts D K A T E) (root : Ptr Operatio
 
   -- it stands behind a text, under its line and with an empty line behind it
   abbrev pub IsDumped : (moment : List ℕ) → Pass → ContextView K A T → List ℕ → List ℕ → Type 0
-  IsDumped moment pass s t t' = (shown : List ℕ) × IsShown s shown × (t' ≡ t ++ (dump_head moment pass ++ (shown ++ codes "\n\n")))
+  IsDumped moment pass s t t' =
+      (shown : List ℕ) × IsShown s shown × (t' ≡ t ++ (dump_head moment pass ++ (shown ++ codes "\n\n")))
 
   -- it does where P holds, and else nothing is put
   pub record IsDumpedWhere (P : Type 0) (moment : List ℕ) (pass : Pass) (s : ContextView K A T) (t t' : List ℕ)

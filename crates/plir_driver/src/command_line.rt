@@ -47,9 +47,9 @@ const CALL_GRAPH: &str = "call-graph";
 
 const AFTER: &str =
     "The operation and all below it are verified once they are read. Passes run in the order of the \
-command line. Nothing is printed before all has gone well, but for the parts that go well of an input that is cut, which \
-go to the standard output. The status is 1 where the text can't be read, an operation \
-is refused or memory runs out, and 2 for a wrong command line.";
+command line. Nothing is printed before all has gone well, but for the parts that go well of an input \
+that is cut, which go to the standard output. The status is 1 where the text can't be read, an \
+operation is refused or memory runs out, and 2 for a wrong command line.";
 
 // An option without a value.
 fn flag<'a>(alloc: Global, id: &'a str, help: &'a str) -> Arg<'a> {
@@ -122,7 +122,9 @@ fn with_reports<'a>(alloc: Global, command: Command<'a>) -> Result<Command<'a>, 
     let before = Arg::new(alloc, PRINT_BEFORE)
         .long(PRINT_BEFORE)
         .value_name("PASSES")
-        .help("Print the operation to the standard error in front of these passes, named as in a pipeline");
+        .help(
+            "Print the operation to the standard error in front of these passes, named as in a pipeline",
+        );
     let after_all = flag(
         alloc,
         PRINT_AFTER_ALL,
@@ -141,10 +143,9 @@ pub fn command<'a>(alloc: Global, about: &About) -> Result<Command<'a>, AllocErr
     let file = Arg::new(alloc, FILE).help(
         "The file with the text; the standard input, if none is named",
     );
-    let output = Arg::new(alloc, OUTPUT)
-        .short('o')
-        .value_name("OUT")
-        .help("The file that what is printed goes to; the standard output, if none is named");
+    let output = Arg::new(alloc, OUTPUT).short('o').value_name("OUT").help(
+        "The file that what is printed goes to; the standard output, if none is named",
+    );
     let split = flag(
         alloc,
         SPLIT,

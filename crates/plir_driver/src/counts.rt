@@ -39,7 +39,11 @@ pub fn count_if<D: OpSet>(is_asked: bool, ctx: &Context<D>, root: Ptr<Operation>
     requires { IsLive ctx.now (AnyNode.Operation root) }
     ensures { is_asked ≡ true → IsCount ctx.now root result }
 {
-    if is_asked { count_operations(ctx, root) } else { 0 }
+    if is_asked {
+        count_operations(ctx, root)
+    } else {
+        0
+    }
 }
 
 // Puts two numbers of operations behind the name of a pass.

@@ -46,7 +46,8 @@ fn put_head(log: &mut String, moment: &str, pass: Pass) -> Result<(), AllocError
     writeln!(log, "// -----// IR Dump {moment} {name} //----- //")
 }
 
-/// Puts the operation under a line that names a moment and a pass, and an empty line behind it, where that is asked for.
+/// Puts the operation under a line that names a moment and a pass, and an empty line behind it, where that is asked
+/// for.
 pub fn put_dump<D: OpSet>(
     log: &mut String,
     alloc: Global,
@@ -57,8 +58,8 @@ pub fn put_dump<D: OpSet>(
     root: Ptr<Operation>,
 ) -> Result<(), Memory>
     requires { IsLive ctx.now (AnyNode.Operation root) }
-    ensures asked { is_asked ≡ true → OnOk result (IsDumped D.OpSet root moment.now pass ctx.now (string_bytes log.old)
-        (string_bytes log.new)) }
+    ensures asked { is_asked ≡ true → OnOk result (IsDumped D.OpSet root moment.now pass ctx.now
+        (string_bytes log.old) (string_bytes log.new)) }
     ensures unasked { is_asked ≡ false → (result ≡ Ok tt) × (log.new ≡ log.old) }
 {
     if !is_asked {

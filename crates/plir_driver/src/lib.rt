@@ -1,7 +1,7 @@
 // SPDX-License-Identifier: Apache-2.0
-//! A program over the operations of an op set, in one call: it reads the text of one operation, verifies it, runs passes
-//! over it, and prints it: as a text, as a list of nodes, as a graph or as a call graph. So a pass is tried on a text of
-//! any dialect by a program of a few lines.
+//! A program over the operations of an op set, in one call: it reads the text of one operation, verifies it, runs
+//! passes over it, and prints it: as a text, as a list of nodes, as a graph or as a call graph. So a pass is tried on a
+//! text of any dialect by a program of a few lines.
 #![tactic(auto)]
 
 mod calls;
@@ -25,4 +25,6 @@ mod telling;
 pub mod transform;
 
 pub use command_line::About;
+pub use parts::{MARK, Part, parts_of};
+pub use pipeline::{PipelineErr, passes_named};
 pub use running::opt_main;

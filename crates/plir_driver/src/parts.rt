@@ -32,10 +32,7 @@ fn is_mark(line: &[u8]) -> bool
 }
 
 // The lines of each part.
-fn cut<'a, 'b>(
-    alloc: Global,
-    lines: &'b [&'a [u8]],
-) -> Result<Vec<&'b [&'a [u8]]>, AllocError>
+fn cut<'a, 'b>(alloc: Global, lines: &'b [&'a [u8]]) -> Result<Vec<&'b [&'a [u8]]>, AllocError>
     ensures { IfOk result (λ v. map (λ p. p.now) v.items ≡ slice_split (λ l. is_mark l.now) lines.entry.now) }
 {
     lines.split(|line| is_mark(line)).collect(alloc)

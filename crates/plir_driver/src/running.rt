@@ -13,13 +13,12 @@ use plir_passes::EffectSet;
 use plir_symbols::SymbolNames;
 use plir_verify::VerifySet;
 use std::alloc::AllocError;
-use std::env;
-use std::io;
 use std::process::ExitCode;
+use std::{env, io};
 
-/// The whole of a program over an op set, as its command line asks for it: it reads the text of one operation, verifies
-/// it, runs passes over it, and prints it. The status is 0, or 1 where the text can't be read, an operation is refused
-/// or memory runs out, or 2 for a wrong command line.
+/// The whole of a program over an op set, as its command line asks for it: it reads the text of one operation,
+/// verifies it, runs passes over it, and prints it. The status is 0, or 1 where the text can't be read, an operation is
+/// refused or memory runs out, or 2 for a wrong command line.
 ///
 /// # Errors
 ///
@@ -62,8 +61,8 @@ fn run_chosen<D: EffectSet + VerifySet + SymbolNames>(
     }
 }
 
-// Reads, transforms and prints. Where the status is not 0 no file is written, and the standard output has the parts that
-// went well of an input that is cut, or what was written when the output itself failed.
+// Reads, transforms and prints. Where the status is not 0 no file is written, and the standard output has the parts
+// that went well of an input that is cut, or what was written when the output itself failed.
 fn run<D: EffectSet + VerifySet + SymbolNames>(
     rt: &HostRuntime,
     matches: &ArgMatches<'_>,
