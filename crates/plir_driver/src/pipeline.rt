@@ -9,10 +9,7 @@ use std::alloc::{AllocError, AllocFailed, Global};
 #[derive(Debug, Drop)]
 pub enum PipelineErr<'a> {
     /// What stands between two commas is no pass's name.
-    NoPass {
-        /// What stands there.
-        name: &'a str,
-    },
+    NoPass { name: &'a str },
     /// A growth was refused.
     OutOfMemory,
 }
