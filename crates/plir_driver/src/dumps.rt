@@ -8,7 +8,7 @@ ghost use Rattle.plir_driver.specs.Dumps.{IsDumped, IsShown, dump_head};
 use crate::choices::{Pass, Reports};
 use plir_core::{Context, Operation, Ptr};
 use plir_data::{Memory, OpSet};
-use plir_text::{is_printable, print_op};
+use plir_print::{is_printable, print_op};
 use std::alloc::{AllocError, Global};
 
 /// Whether the operation is dumped in front of a pass.

@@ -1,7 +1,7 @@
 //! Why nothing is printed.
+use plir_attr_text::{Fault, ReadErr};
 use plir_builtin::SymbolTableErr;
 use plir_data::{Location, Memory, VerifyErr};
-use plir_text::{Fault, ReadErr};
 use plir_verify::TreeVerifyErr;
 use std::alloc::{AllocError, AllocFailed};
 use std::error::Error as StdError;

@@ -19,8 +19,9 @@ use crate::passes::run_pass;
 use crate::stop::Stop;
 use plir_core::{Context, Operation, Ptr};
 use plir_passes::EffectSet;
+use plir_print::{is_printable, print_op};
+use plir_read::read_op;
 use plir_symbols::SymbolNames;
-use plir_text::{is_printable, print_op, read_op};
 use plir_verify::{VerifySet, verify_tree};
 use std::alloc::Global;
 
