@@ -1,0 +1,12 @@
+mod Lines
+mod Passing
+mod Printing
+mod Boxes
+mod NodesPut
+mod Ending
+mod Stopping
+mod Naming
+mod Cutting
+mod Logging
+mod OpsAmong
+mod Counting

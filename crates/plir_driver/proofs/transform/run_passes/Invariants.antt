@@ -1,0 +1,15 @@
+use Rattle.std.proofs.Common.{take, string_bytes}
+use Rattle.plir_core.specs.declared.ptr.IRNode.TheVariants.{Operation}
+use Rattle.plir_core.specs.ContextView.{IsLive}
+use Rattle.plir_driver.specs.Dumps.{AreLogged}
+use Rattle.plir_driver.specs.Passed.{AreRun}
+use Rattle.plir_driver.proofs.transform.run_passes.Given as goal
+
+-- the passes so far were run, and of them is told what is to be
+abbrev pub invariant-loop-pass : goal.invariant-loop-pass
+invariant-loop-pass g l =
+    IsLive l.ctx (Operation l.root)
+    × AreRun g.D.OpSet g.D.EffectSet.has_effect g.D.SymbolNames.is_private g.D.SymbolNames.names_used l.root
+    g.D.SymbolUserSet.uses_hold g.D.VerifySet.rule l.verify (take l.pass-index l.passes) l.fn.ctx l.ctx
+    × AreLogged g.D.OpSet g.D.EffectSet.has_effect g.D.SymbolNames.is_private g.D.SymbolNames.names_used l.reports l.root
+    (take l.pass-index l.passes) l.fn.ctx l.ctx (string_bytes l.fn.log) (string_bytes l.log)

@@ -1,0 +1,39 @@
+-- How many operations there are.
+use Rattle.std.specs.Prelude.{◌≡◌, ℕ, ◌+◌, ◌-◌, ◌^◌, min, List, ◌++◌, codes, length}
+use Rattle.std.specs.Fmt.{decimal}
+use Rattle.plir_core.specs.declared.ptr.Ptr.{Ptr}
+use Rattle.plir_core.specs.declared.ptr.Operation.{Operation as OperationKind}
+use Rattle.plir_core.specs.declared.ptr.IRNode.{IRNode}
+use Rattle.plir_core.specs.declared.ptr.IRNode.TheVariants.{Operation, Region, BasicBlock}
+use Rattle.plir_core.specs.ContextView.{ContextView}
+use Rattle.plir_driver.specs.declared.choices.Pass.{Pass}
+use Rattle.plir_driver.specs.DrawnCalls.{AreOps}
+use Rattle.plir_driver.specs.Pipelines.{pass_name}
+
+-- the greatest number that is told
+abbrev pub most : ℕ
+most = 2 ^ 64 - 1
+
+-- a node is counted, if it is an operation
+abbrev pub IsCounted : ℕ → IRNode → ℕ → Type 0
+IsCounted n (Operation p) n' = n' ≡ min (n + 1) most
+IsCounted n (Region p) n' = n' ≡ n
+IsCounted n (BasicBlock p) n' = n' ≡ n
+
+-- so many operations stand at or below root, or the greatest number that is told is
+pub record IsCount {K A T : Type 0} (s : ContextView K A T) (root : Ptr OperationKind) (n : ℕ) : Type 0 where
+  pub ops : List (Ptr OperationKind)
+  pub are_ops : AreOps s root ops
+  pub number : n ≡ min (length ops) most
+
+-- the line of a pass: how many operations there were in front of it, and how many behind it
+abbrev pub counts_line : Pass → (before after : ℕ) → List ℕ
+counts_line pass before after =
+    pass_name pass ++ (codes ": " ++ (decimal before ++ (codes " operations before, " ++ (decimal after
+    ++ codes " after\n"))))
+
+module _ {K A T : Type 0} (root : Ptr OperationKind) where
+  -- behind a text stands the line of a pass that went from s to u
+  abbrev pub AreCountsPut : Pass → (s u : ContextView K A T) → List ℕ → List ℕ → Type 0
+  AreCountsPut pass s u t t' =
+      (m : ℕ) × (n : ℕ) × IsCount s root m × IsCount u root n × (t' ≡ t ++ counts_line pass m n)

@@ -1,0 +1,32 @@
+-- Which errors of the calls below are told as which.
+use Rattle.std.specs.Prelude.{ℕ}
+use Rattle.plir_data.specs.declared.location.VerifyErr.{VerifyErr}
+use Rattle.plir_data.specs.declared.location.VerifyErr.TheVariants as of_verifiers
+use Rattle.plir_attr_text.specs.declared.fault.Fault.{Fault}
+use Rattle.plir_attr_text.specs.declared.fault.Fault.TheVariants as faults
+use Rattle.plir_attr_text.specs.declared.fault.ReadErr.{ReadErr}
+use Rattle.plir_builtin.specs.declared.symbol_table_err.SymbolTableErr.{SymbolTableErr}
+use Rattle.plir_builtin.specs.declared.symbol_table_err.SymbolTableErr.TheVariants as of_tables
+use Rattle.plir_verify.specs.declared.tree_err.TreeVerifyErr.{TreeVerifyErr}
+use Rattle.plir_driver.specs.declared.stop.Stop.{Stop}
+use Rattle.plir_driver.specs.declared.stop.Stop.TheVariants.{Unread, Refused, NoTable, TooManyNodes, OutOfMemory}
+
+module _ {E : Type 0} where
+  -- a fault of a text at its place, or what was wanting
+  abbrev pub of_fault : (line column : ℕ) → Fault → Stop E
+  of_fault line column faults.Memory = OutOfMemory
+  of_fault line column faults.TooManyNodes = TooManyNodes
+  of_fault line column fault = Unread line column fault
+
+  abbrev pub of_reader : ReadErr → Stop E
+  of_reader e = of_fault e.line e.column e.fault
+
+  -- what a verifier reports
+  abbrev pub of_verifier : VerifyErr (TreeVerifyErr E) → Stop E
+  of_verifier (of_verifiers.Refused loc e) = Refused loc e
+  of_verifier of_verifiers.Memory = OutOfMemory
+
+  -- what a symbol table reports
+  abbrev pub of_table : SymbolTableErr → Stop E
+  of_table of_tables.Memory = OutOfMemory
+  of_table e = NoTable e

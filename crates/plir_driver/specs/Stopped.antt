@@ -1,0 +1,122 @@
+-- Why nothing is printed for a text.
+use Rattle.std.specs.Prelude.{◌≡◌, ℕ, ◌-◌, ◌^◌, ◌⊎◌, Bool, true, List, ◌∷◌, ◌++◌}
+use Rattle.std.specs.FinMap as map
+use Rattle.std.specs.Str.{IsUtf8}
+use Rattle.plir_data.specs.declared.location.VerifyErr.TheVariants as of_verifiers
+use Rattle.plir_data.specs.declared.op_set.OpSet as op_set
+use Rattle.plir_core.specs.declared.ptr.Ptr.{Ptr}
+use Rattle.plir_core.specs.declared.ptr.Operation.{Operation as OperationKind}
+use Rattle.plir_core.specs.declared.ptr.IRNode.TheVariants.{Operation}
+use Rattle.plir_core.specs.Contents.{BlockView, OpView}
+use Rattle.plir_core.specs.ContextView.{ContextView}
+use Rattle.plir_core.specs.Edits.{empty}
+use Rattle.plir_core.specs.Nodes.{Nodes}
+use Rattle.plir_attr_text.specs.Faults.{IsOfText}
+use Rattle.plir_attr_text.specs.TypeGrammar.{IsText}
+use Rattle.plir_builtin.specs.declared.symbol_table_err.SymbolTableErr.{SymbolTableErr}
+use Rattle.plir_builtin.specs.declared.symbol_table_err.SymbolTableErr.TheVariants as of_tables
+use Rattle.plir_builtin.specs.Refusals.{IsTableRefusal, Reports}
+use Rattle.plir_builtin.specs.SymbolUses.{UseRefusal, UseRule}
+use Rattle.plir_read.specs.OpGrammar.{OpWithin}
+use Rattle.plir_read.specs.OpsStanding.{StandsForOp}
+use Rattle.plir_read.specs.OpTerms.{OpTerm}
+use Rattle.plir_read.specs.Room.{BeginsTooMany, op_count}
+use Rattle.plir_print.specs.HeaderAttrs.{IsPrintable}
+use Rattle.plir_symbols.specs.CallGraph.{IsGraphRefusal}
+use Rattle.plir_verify.specs.Rules.{AllHaveRules}
+use Rattle.plir_verify.specs.RuleRefusals.{IsTreeRefusal}
+use Rattle.plir_driver.specs.declared.choices.Form.{Form}
+use Rattle.plir_driver.specs.declared.choices.Form.TheVariants.{Text, CallGraph}
+use Rattle.plir_driver.specs.declared.choices.Pass.{Pass}
+use Rattle.plir_driver.specs.declared.choices.Pass.TheVariants.{Dce, SymbolDce}
+use Rattle.plir_driver.specs.declared.stop.Stop.{Stop}
+use Rattle.plir_driver.specs.declared.stop.Stop.TheVariants.{NoText, Unread, Refused, NoTable, Unprintable}
+use Rattle.plir_driver.specs.declared.stop.Stop.TheVariants.{TooManyNodes, OutOfMemory}
+use Rattle.plir_driver.specs.Passed.{AreRun, IsRun}
+
+-- the nodes of a new context
+abbrev pub no_nodes : {K A : Type 0} → Nodes (OpView K A) (BlockView A)
+no_nodes = empty (2 ^ 32 - 1)
+
+-- The bytes are no text; or they are one, and something is wrong with it, and no operation is written so; or it begins
+-- with more nodes than a new context has room for; or memory is wanting.
+module _ (K A : Type 0) {E : Type 0} where
+  abbrev pub IsUnread : List ℕ → Stop E → Type 0
+  IsUnread bytes NoText = IsUtf8 bytes → ⊥
+  IsUnread bytes (Unread line column fault) =
+      IsUtf8 bytes × IsOfText fault × ((w : OpTerm) → IsText (OpWithin 200) bytes w → ⊥)
+  IsUnread bytes TooManyNodes = BeginsTooMany op_count (OpWithin 200) (no_nodes {K = K} {A = A}) bytes
+  IsUnread bytes OutOfMemory = Unit {0}
+  IsUnread bytes _ = ⊥
+
+module _ {K A T : Type 0} (own_symbol own_table : K → Bool) (s : ContextView K A T) (root : Ptr OperationKind) where
+  -- a pass refuses the operation: it is to be a symbol table, and that is refused; or dead code is to go, and memory is
+  -- wanting
+  abbrev pub IsPassRefusal : Pass → SymbolTableErr → Type 0
+  IsPassRefusal Dce e = e ≡ of_tables.Memory
+  IsPassRefusal SymbolDce e = Reports (IsTableRefusal own_symbol own_table s root) e
+  IsPassRefusal _ e = ⊥
+
+module _ {D K A T E : Type 0} (o : op_set.Ghosts D K A T E) (uses_hold : UseRule K A T)
+    (use_refusal : UseRefusal K A T E) (rule : UseRule K A T) (rule_refusal : UseRefusal K A T E)
+    (root : Ptr OperationKind) where
+  -- the first operation at or below root that is not right is reported, or memory is wanting
+  abbrev pub IsWrong : ContextView K A T → Stop E → Type 0
+  IsWrong s (Refused l e) = IsTreeRefusal o uses_hold use_refusal rule rule_refusal s root (of_verifiers.Refused l e)
+  IsWrong s OutOfMemory = Unit {0}
+  IsWrong s _ = ⊥
+
+module _ {D K A T E : Type 0} (o : op_set.Ghosts D K A T E) (names : OpView K A → List (List ℕ))
+    (root : Ptr OperationKind) where
+  -- The text of the operation is asked for, and an operation lacks an attribute that its text tells; or its call graph
+  -- is, and a table that it takes is refused; or memory is wanting.
+  abbrev pub IsUnprinted : Form → ContextView K A T → Stop E → Type 0
+  IsUnprinted form s Unprintable = (form ≡ Text) × (IsPrintable s (Operation root) → ⊥)
+  IsUnprinted form s (NoTable e) =
+      (form ≡ CallGraph) × IsGraphRefusal o.is_symbol o.is_symbol_table names s root map.empty e
+  IsUnprinted form s OutOfMemory = Unit {0}
+  IsUnprinted form s _ = ⊥
+
+module _ {D K A T E : Type 0} (o : op_set.Ghosts D K A T E) (effect : K → Bool) (uses_hold : UseRule K A T)
+    (use_refusal : UseRefusal K A T E) (rule : UseRule K A T) (rule_refusal : UseRefusal K A T E)
+    (private : OpView K A → Bool) (names : OpView K A → List (List ℕ)) (root : Ptr OperationKind) where
+  -- A pass over s refuses the operation; or it leaves t, which is verified, and something is wrong there; or memory is
+  -- wanting.
+  abbrev pub IsStoppedAt : (verify : Bool) → Pass → ContextView K A T → Stop E → Type 0
+  IsStoppedAt verify pass s (NoTable e) = IsPassRefusal o.is_symbol o.is_symbol_table s root pass e
+  IsStoppedAt verify pass s (Refused l e) =
+      (verify ≡ true) × ((t : ContextView K A T) × IsRun o effect private names root pass s t
+      × IsWrong o uses_hold use_refusal rule rule_refusal root t (Refused l e))
+  IsStoppedAt verify pass s OutOfMemory = Unit {0}
+  IsStoppedAt verify pass s _ = ⊥
+
+  -- One of the passes is where it stops: those in front of it were run, from s to `here`.
+  pub record IsStoppedIn (verify : Bool) (passes : List Pass) (s : ContextView K A T) (stop : Stop E) : Type 0 where
+    pub front : List Pass
+    pub pass : Pass
+    pub back : List Pass
+    pub here : ContextView K A T
+    pub asked : passes ≡ front ++ pass ∷ back
+    pub run : AreRun o effect private names root uses_hold rule verify front s here
+    pub stops : IsStoppedAt verify pass here stop
+
+  -- Behind the reading: something is wrong with what was read; or it is right, and one of the passes is where it stops,
+  -- or all of them were run, and what they left is not printed.
+  abbrev pub IsStoppedBehind : Bool → List Pass → Form → ContextView K A T → Stop E → Type 0
+  IsStoppedBehind verify passes form s stop =
+      IsWrong o uses_hold use_refusal rule rule_refusal root s stop ⊎ (AllHaveRules o uses_hold rule s root ×
+      (IsStoppedIn verify passes s stop
+      ⊎ ((t : ContextView K A T) × AreRun o effect private names root uses_hold rule verify passes s t
+      × IsUnprinted o names root form t stop)))
+
+-- Why nothing is printed for some bytes: they are not read; or they are a text that stands for an operation, and it
+-- stops behind that.
+abbrev pub IsStopped : {D K A T E : Type 0} → (o : op_set.Ghosts D K A T E) → (effect : K → Bool) →
+    (uses_hold : UseRule K A T) → (use_refusal : UseRefusal K A T E) → (rule : UseRule K A T) →
+    (rule_refusal : UseRefusal K A T E) → (private : OpView K A → Bool) → (names : OpView K A → List (List ℕ)) →
+    Bool → List Pass → Form → List ℕ → Stop E → Type 0
+IsStopped {D} {K} {A} {T} {E} o effect uses_hold use_refusal rule rule_refusal private names verify passes form bytes
+    stop =
+    IsUnread K A bytes stop
+    ⊎ ((root : Ptr OperationKind) × (read : ContextView K A T) × StandsForOp 200 read bytes (Operation root)
+    × IsStoppedBehind o effect uses_hold use_refusal rule rule_refusal private names root verify passes form read stop)

@@ -1,0 +1,42 @@
+-- What is printed for a text.
+use Rattle.std.specs.Prelude.{◌≡◌, ℕ, Bool, List, ◌++◌, codes}
+use Rattle.plir_data.specs.declared.op_set.OpSet as op_set
+use Rattle.plir_core.specs.declared.ptr.Ptr.{Ptr}
+use Rattle.plir_core.specs.declared.ptr.Operation.{Operation as OperationKind}
+use Rattle.plir_core.specs.declared.ptr.IRNode.TheVariants.{Operation}
+use Rattle.plir_core.specs.Contents.{OpView}
+use Rattle.plir_core.specs.ContextView.{ContextView}
+use Rattle.plir_builtin.specs.SymbolUses.{UseRule}
+use Rattle.plir_read.specs.OpsStanding.{StandsForOp}
+use Rattle.plir_print.specs.OpText.{op_text}
+use Rattle.plir_verify.specs.Rules.{AllHaveRules}
+use Rattle.plir_driver.specs.declared.choices.Form.{Form}
+use Rattle.plir_driver.specs.declared.choices.Form.TheVariants.{Text, Walk, View, CallGraph}
+use Rattle.plir_driver.specs.declared.choices.Pass.{Pass}
+use Rattle.plir_driver.specs.DrawnCalls.{IsDrawn}
+use Rattle.plir_driver.specs.NodeLines.{IsGraphed, IsListed}
+use Rattle.plir_driver.specs.Passed.{AreRun}
+
+-- What is printed of an operation: where its text is asked for, that text and a line feed; where a list of the nodes, a
+-- graph of them or the call graph is, a text that lists or draws it.
+module _ {D K A T E : Type 0} (o : op_set.Ghosts D K A T E) (names : OpView K A → List (List ℕ)) (s : ContextView K A T)
+    (root : Ptr OperationKind) where
+  abbrev pub IsPrintedAs : Form → List ℕ → Type 0
+  IsPrintedAs Text t = t ≡ op_text o s root ++ codes "\n"
+  IsPrintedAs Walk t = IsListed o.kind_id s root t
+  IsPrintedAs View t = IsGraphed o.kind_id s root t
+  IsPrintedAs CallGraph t = IsDrawn o names s root t
+
+-- A text stands for an operation, which with all below it is right; the passes were run over it, one after another, and
+-- behind each all there is right again, if that is to be verified; and what is printed is what is asked for of the
+-- operation then.
+pub record IsTransformed {D K A T E : Type 0} (o : op_set.Ghosts D K A T E) (effect : K → Bool)
+    (uses_hold rule : UseRule K A T) (private : OpView K A → Bool) (names : OpView K A → List (List ℕ))
+    (verify : Bool) (passes : List Pass) (form : Form) (text printed : List ℕ) : Type 0 where
+  pub root : Ptr OperationKind
+  pub read : ContextView K A T
+  pub left : ContextView K A T
+  pub stands : StandsForOp 200 read text (Operation root)
+  pub verified : AllHaveRules o uses_hold rule read root
+  pub passed : AreRun o effect private names root uses_hold rule verify passes read left
+  pub prints : IsPrintedAs o names left root form printed

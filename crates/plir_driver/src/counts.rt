@@ -1,0 +1,76 @@
+//! How many operations there are.
+ghost use Rattle.std.specs.Prelude.{◌≡◌, ◌++◌, ℕ, false, true, Ok, OnOk, string_bytes};
+ghost use Rattle.plir_core.specs.ContextView.{IsLive};
+ghost use Rattle.plir_core.specs.declared.ptr.IRNode.{IRNode as AnyNode};
+ghost use Rattle.plir_driver.specs.Counts.{IsCount, IsCounted, counts_line};
+
+use crate::choices::Pass;
+use plir_core::{Context, IRNode, Operation, Ptr};
+use plir_data::OpSet;
+use plir_walk::WALKCONFIG_PREORDER_FORWARD;
+use plir_walk::uninterruptible::immutable::walk_op;
+use std::alloc::AllocError;
+
+// Counts a node, if it is an operation.
+fn count_node(count: &mut usize, node: IRNode)
+    ensures { IsCounted count.old node count.new }
+{
+    if let IRNode::Operation(_) = node {
+        *count = count.saturating_add(1);
+    }
+}
+
+// How many operations there are: the one that is named, and those below it.
+fn count_operations<D: OpSet>(ctx: &Context<D>, root: Ptr<Operation>) -> usize
+    requires { IsLive ctx.now (AnyNode.Operation root) }
+    ensures { IsCount ctx.now root result }
+{
+    ctx.stands();
+    let mut count = 0usize;
+    let add = |_c: &Context<D>, n: &mut usize, node: IRNode|
+        ensures { IsCounted n.old node n.new }
+    { count_node(n, node) };
+    walk_op(ctx, &mut count, &WALKCONFIG_PREORDER_FORWARD, root, add);
+    count
+}
+
+/// How many operations there are, where that is asked for.
+pub fn count_if<D: OpSet>(is_asked: bool, ctx: &Context<D>, root: Ptr<Operation>) -> usize
+    requires { IsLive ctx.now (AnyNode.Operation root) }
+    ensures { is_asked ≡ true → IsCount ctx.now root result }
+{
+    if is_asked {
+        count_operations(ctx, root)
+    } else {
+        0
+    }
+}
+
+// Puts two numbers of operations behind the name of a pass.
+fn put_line(log: &mut String, pass: Pass, before: usize, after: usize) -> Result<(), AllocError>
+    ensures { OnOk result (string_bytes log.new ≡ string_bytes log.old ++ counts_line pass before after) }
+{
+    let name = pass.name();
+    writeln!(log, "{name}: {before} operations before, {after} after")
+}
+
+/// Puts how many operations there were in front of a pass, and how many there are behind it, where that is asked for.
+pub fn put_counts<D: OpSet>(
+    log: &mut String,
+    is_asked: bool,
+    pass: Pass,
+    before: usize,
+    ctx: &Context<D>,
+    root: Ptr<Operation>,
+) -> Result<(), AllocError>
+    requires { IsLive ctx.now (AnyNode.Operation root) }
+    ensures asked { is_asked ≡ true → OnOk result ((after : ℕ) × IsCount ctx.now root after ×
+        (string_bytes log.new ≡ string_bytes log.old ++ counts_line pass before after)) }
+    ensures unasked { is_asked ≡ false → (result ≡ Ok tt) × (log.new ≡ log.old) }
+{
+    if !is_asked {
+        return Ok(());
+    }
+    let after = count_operations(ctx, root);
+    put_line(log, pass, before, after)
+}

@@ -1,0 +1,193 @@
+//! From the bytes of a text to what is printed.
+ghost use Rattle.std.specs.Prelude.{◌≡◌, ◌++◌, ◌⊎◌, true, codes, IfErr, IfOk, OnOk, string_bytes};
+ghost use Rattle.plir_core.specs.ContextView.{IsLive};
+ghost use Rattle.plir_core.specs.declared.ptr.IRNode.{IRNode as AnyNode};
+ghost use Rattle.plir_print.specs.OpText.{op_text};
+ghost use Rattle.plir_verify.specs.Rules.{AllHaveRules};
+ghost use Rattle.plir_driver.specs.Dumps.{AreLogged, IsLogged, IsPassLogged};
+ghost use Rattle.plir_driver.specs.Passed.{AreRun, IsRun};
+ghost use Rattle.plir_driver.specs.Stopped.{IsStopped, IsStoppedAt, IsStoppedIn, IsUnprinted};
+ghost use Rattle.plir_driver.specs.Transformed.{IsTransformed, IsPrintedAs};
+
+use crate::calls::draw_calls;
+use crate::choices::{Choices, Form, Pass, Reports};
+use crate::counts::{count_if, put_counts};
+use crate::dumps::{is_dumped_before, put_dump};
+use crate::graph::draw;
+use crate::listing::list_nodes;
+use crate::passes::run_pass;
+use crate::stop::Stop;
+use plir_core::{Context, Operation, Ptr};
+use plir_passes::EffectSet;
+use plir_print::{is_printable, print_op};
+use plir_read::read_op;
+use plir_symbols::SymbolNames;
+use plir_verify::{VerifySet, verify_tree};
+use std::alloc::Global;
+
+/// What is printed for the bytes of a text: they are read as an operation, which is verified, taken through the passes,
+/// and printed. What is told of the passes as they run is put behind the log.
+///
+/// # Errors
+///
+/// The first that holds of these: the bytes are no text, or a text that can't be read; an operation is refused, once
+/// all is read, or behind a pass; a symbol table is; one can't be printed; or memory or room for a node is wanting.
+pub fn transform<D: EffectSet + VerifySet + SymbolNames>(
+    alloc: Global,
+    choices: &Choices,
+    bytes: &[u8],
+    log: &mut String,
+) -> Result<String, Stop<D::Err>>
+    ensures transformed { IfOk result (λ t. IsTransformed D.OpSet D.has_effect D.uses_hold D.rule D.is_private
+        D.names_used choices.now.verify choices.now.passes.items choices.now.form bytes.now (string_bytes t)) }
+    ensures stopped { IfErr result (IsStopped D.OpSet D.has_effect D.uses_hold D.use_refusal D.rule D.rule_refusal
+        D.is_private D.names_used choices.now.verify choices.now.passes.items choices.now.form bytes.now) }
+    ensures logged { OnOk result (IsLogged D.OpSet D.has_effect D.is_private D.names_used choices.now.reports
+        choices.now.passes.items bytes.now (string_bytes log.old) (string_bytes log.new)) }
+{
+    match str::from_utf8(bytes) {
+        Ok(text) => transform_text::<D>(alloc, choices, text, log),
+        Err(_) => Err(Stop::NoText),
+    }
+}
+
+// The same of a text.
+fn transform_text<D: EffectSet + VerifySet + SymbolNames>(
+    alloc: Global,
+    choices: &Choices,
+    text: &str,
+    log: &mut String,
+) -> Result<String, Stop<D::Err>>
+    ensures transformed { IfOk result (λ t. IsTransformed D.OpSet D.has_effect D.uses_hold D.rule D.is_private
+        D.names_used choices.now.verify choices.now.passes.items choices.now.form text.now (string_bytes t)) }
+    ensures stopped { IfErr result (IsStopped D.OpSet D.has_effect D.uses_hold D.use_refusal D.rule D.rule_refusal
+        D.is_private D.names_used choices.now.verify choices.now.passes.items choices.now.form text.now) }
+    ensures logged { OnOk result (IsLogged D.OpSet D.has_effect D.is_private D.names_used choices.now.reports
+        choices.now.passes.items text.now (string_bytes log.old) (string_bytes log.new)) }
+{
+    let mut ctx = Context::<D>::new(alloc);
+    let root = read_op(alloc, &mut ctx, text)?;
+    verify_tree(alloc, &ctx, root)?;
+    run_passes(
+        alloc,
+        choices.verify,
+        choices.passes.as_slice(),
+        &choices.reports,
+        &mut ctx,
+        root,
+        log,
+    )?;
+    print(alloc, choices.form, &ctx, root)
+}
+
+// Runs passes, one after another.
+fn run_passes<D: EffectSet + VerifySet + SymbolNames>(
+    alloc: Global,
+    verify: bool,
+    passes: &[Pass],
+    reports: &Reports,
+    ctx: &mut Context<D>,
+    root: Ptr<Operation>,
+    log: &mut String,
+) -> Result<(), Stop<D::Err>>
+    requires { IsLive ctx.old (AnyNode.Operation root) }
+    ensures live { IsLive ctx.new (AnyNode.Operation root) }
+    ensures passed { OnOk result (AreRun D.OpSet D.has_effect D.is_private D.names_used root D.uses_hold D.rule verify
+        passes.now ctx.old ctx.new) }
+    ensures stopped { IfErr result (IsStoppedIn D.OpSet D.has_effect D.uses_hold D.use_refusal D.rule D.rule_refusal
+        D.is_private D.names_used root verify passes.now ctx.old) }
+    ensures logged { OnOk result (AreLogged D.OpSet D.has_effect D.is_private D.names_used reports.now root passes.now
+        ctx.old ctx.new (string_bytes log.old) (string_bytes log.new)) }
+{
+    for pass in passes {
+        run_told(alloc, verify, *pass, reports, ctx, root, log)?;
+    }
+    Ok(())
+}
+
+// Runs a pass, and tells what is asked for in front of it and behind it.
+fn run_told<D: EffectSet + VerifySet + SymbolNames>(
+    alloc: Global,
+    verify: bool,
+    pass: Pass,
+    reports: &Reports,
+    ctx: &mut Context<D>,
+    root: Ptr<Operation>,
+    log: &mut String,
+) -> Result<(), Stop<D::Err>>
+    requires { IsLive ctx.old (AnyNode.Operation root) }
+    ensures live { IsLive ctx.new (AnyNode.Operation root) }
+    ensures passed { OnOk result (IsRun D.OpSet D.has_effect D.is_private D.names_used root pass ctx.old ctx.new) }
+    ensures verified { OnOk result (verify ≡ true → AllHaveRules D.OpSet D.uses_hold D.rule ctx.new root) }
+    ensures stopped { IfErr result (IsStoppedAt D.OpSet D.has_effect D.uses_hold D.use_refusal D.rule D.rule_refusal
+        D.is_private D.names_used root verify pass ctx.old) }
+    ensures logged { OnOk result (IsPassLogged D.OpSet root reports.now pass ctx.old ctx.new (string_bytes log.old)
+        (string_bytes log.new)) }
+{
+    let before = is_dumped_before(reports, pass);
+    put_dump(log, alloc, before, "Before", pass, ctx, root)?;
+    let operations = count_if(reports.stats, ctx, root);
+    run_one(alloc, verify, pass, ctx, root)?;
+    put_dump(log, alloc, reports.after_all, "After", pass, ctx, root)?;
+    put_counts(log, reports.stats, pass, operations, ctx, root)?;
+    Ok(())
+}
+
+// Runs a pass, and verifies behind it, if that is asked for.
+fn run_one<D: EffectSet + VerifySet + SymbolNames>(
+    alloc: Global,
+    verify: bool,
+    pass: Pass,
+    ctx: &mut Context<D>,
+    root: Ptr<Operation>,
+) -> Result<(), Stop<D::Err>>
+    requires { IsLive ctx.old (AnyNode.Operation root) }
+    ensures live { IsLive ctx.new (AnyNode.Operation root) }
+    ensures passed { OnOk result (IsRun D.OpSet D.has_effect D.is_private D.names_used root pass ctx.old ctx.new) }
+    ensures verified { OnOk result (verify ≡ true → AllHaveRules D.OpSet D.uses_hold D.rule ctx.new root) }
+    ensures stopped { IfErr result (IsStoppedAt D.OpSet D.has_effect D.uses_hold D.use_refusal D.rule D.rule_refusal
+        D.is_private D.names_used root verify pass ctx.old) }
+{
+    run_pass(alloc, pass, ctx, root)?;
+    if verify {
+        verify_tree(alloc, ctx, root)?;
+    }
+    Ok(())
+}
+
+// An operation with all below it, as it is to be printed.
+fn print<D: SymbolNames>(
+    alloc: Global,
+    form: Form,
+    ctx: &Context<D>,
+    root: Ptr<Operation>,
+) -> Result<String, Stop<D::Err>>
+    requires { IsLive ctx.now (AnyNode.Operation root) }
+    ensures printed { IfOk result (λ t. IsPrintedAs D.OpSet D.names_used ctx.now root form (string_bytes t)) }
+    ensures unprinted { IfErr result (IsUnprinted D.OpSet D.names_used root form ctx.now) }
+{
+    match form {
+        Form::Text => print_text(alloc, ctx, root),
+        Form::Walk => Ok(list_nodes(alloc, ctx, root)?),
+        Form::View => Ok(draw(alloc, ctx, root)?),
+        Form::CallGraph => Ok(draw_calls(alloc, ctx, root)?),
+    }
+}
+
+// The text of an operation with all below it, and a line feed.
+fn print_text<D: SymbolNames>(
+    alloc: Global,
+    ctx: &Context<D>,
+    root: Ptr<Operation>,
+) -> Result<String, Stop<D::Err>>
+    requires { IsLive ctx.now (AnyNode.Operation root) }
+    ensures text { IfOk result (λ t. string_bytes t ≡ op_text D.OpSet ctx.now root ++ codes "\n") }
+    ensures unprinted { IfErr result (IsUnprinted D.OpSet D.names_used root Form.Text ctx.now) }
+{
+    if !is_printable(ctx, root) {
+        return Err(Stop::Unprintable);
+    }
+    let mut text = print_op(alloc, ctx, root)?;
+    text.push_str("\n")?;
+    Ok(text)
+}

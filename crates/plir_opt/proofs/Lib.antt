@@ -1,7 +1,0 @@
-mod Lines
-mod Passing
-mod Printing
-mod Boxes
-mod NodesPut
-mod Ending
-mod Stopping

@@ -1,8 +1,0 @@
-use Rattle.std.proofs.Common.{◌≡◌, ◌-◌}
-use denote.Text.{Utf8}
-use denote.Shadow.{shadow}
-use Rattle.plir_opt.specs.Excerpt.{behind}
-use Rattle.plir_opt.proofs.excerpt.behind.Given as goal
-
-abbrev pub invariant-loop : goal.invariant-loop
-invariant-loop l = shadow (Utf8 l.rest) × (behind (l.feeds - l.counter) l.rest ≡ behind l.fn.feeds l.fn.text)
