@@ -1,0 +1,2 @@
+pub mod GivenValues
+pub mod Giving
