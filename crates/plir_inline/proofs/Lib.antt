@@ -1,2 +1,5 @@
 pub mod GivenValues
 pub mod Giving
+pub mod Lists
+pub mod Taking
+pub mod Steps
