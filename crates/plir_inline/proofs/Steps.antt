@@ -36,7 +36,7 @@ use Rattle.plir_inline.proofs.Lists.{append-none, block-same, contained, has-ind
 below-of : (i j : ℕ) → nat_lt i j ≡ true → i < j
 below-of i j e = grind arith
 
-climb-none : {N : Type 0} (up : N → Option N) (k : ℕ) → climb up k None ≡ None
+pub climb-none : {N : Type 0} (up : N → Option N) (k : ℕ) → climb up k None ≡ None
 climb-none up zero = refl
 climb-none up (suc k) = refl
 
@@ -59,7 +59,7 @@ entity-block (Op p) b e = absurd (let z : ⊥ = cc in z)
 entity-block (Block p) b e = ap Block (block-same p b e)
 
 -- what an operation uses is live
-operands-live : {K A T : Type 0} (own : A → List ℕ) (s : ContextView K A T) → IsWellFormed own s
+pub operands-live : {K A T : Type 0} (own : A → List ℕ) (s : ContextView K A T) → IsWellFormed own s
     → (p : Ptr OperationKind) → All (IsValueLive s) (operands_of s p)
 operands-live own s whole p = go (op_at s p) refl
   where
