@@ -145,7 +145,7 @@ module _ {K A T : Type 0} (own : A → List ℕ) (s t : ContextView K A T) (call
   image n live new = let r = made.below n live new in image-from r.0 n r.1
 
   pub call-operands : operands_of t call ≡ operands_of s call
-  call-operands = ap operands_in (made.keeps.ops call h.call_live)
+  call-operands = ap operands_in (made.keeps.ops call h.stand.call_live)
 
   pub last-operands : operands_of t (k.copies.op h.last) ≡ values_in m (operands_of s h.last)
   last-operands = ap operands_in (k.tree (Operation h.last) last-below).holds ∙ under-operands m (op_at s h.last)
@@ -164,10 +164,10 @@ module _ {K A T : Type 0} (own : A → List ℕ) (s t : ContextView K A T) (call
     where
       go : (x : Value) → Has (operands_of s h.last) x → value_in m x ≡ v → (o : Option Value) → m.value x ≡ o → ⊥
       go x hx e None q =
-          h.none_back x hx (ap (λ z. z.entity) (ap (λ o. unwrap_or o x) (sym q) ∙ e) ∙ is)
+          h.end.none_back x hx (ap (λ z. z.entity) (ap (λ o. unwrap_or o x) (sym q) ∙ e) ∙ is)
       go x hx e (Some w) q =
           let same : w ≡ v = ap (λ o. unwrap_or o x) (sym q) ∙ e in
-          image-new x w q (subst (λ z. IsLive s (entity_node z)) (sym (ap (λ z. z.entity) same ∙ is)) h.call_live)
+          image-new x w q (subst (λ z. IsLive s (entity_node z)) (sym (ap (λ z. z.entity) same ∙ is)) h.stand.call_live)
 
   -- no copy branches to the copy of the block
   no-branch : (p : Ptr OperationKind) → IsLive t (Operation p) → Has (successors_of t p) copy → ⊥
@@ -195,7 +195,7 @@ module _ {K A T : Type 0} (own : A → List ℕ) (s t : ContextView K A T) (call
             let same : k.copies.block b ≡ w = same_Some (k.copies.block b) w (sym (k.mapped.blocks b up) ∙ x) in
             let is : w ≡ copy = ap (λ o. unwrap_or o b) (sym x) ∙ e in
             let at = block-same b block (top-only (BasicBlock b) up (ap BasicBlock (same ∙ is))) in
-            h.no_branch q below (subst (Has (successors_of s q)) at hb))) ∙ x)
+            h.stand.no_branch q below (subst (Has (successors_of s q)) at hb))) ∙ x)
 
       branches : (q : Ptr OperationKind) → IsAncestor s (BasicBlock block) (Operation q)
           → Has (successors_of t (k.copies.op q)) copy → ⊥
@@ -213,26 +213,26 @@ module _ {K A T : Type 0} (own : A → List ℕ) (s t : ContextView K A T) (call
 
   pub can-put : CanPut t call copy
   can-put = record {
-    call_live = made.keeps.live (Operation call) h.call_live;
+    call_live = made.keeps.live (Operation call) h.stand.call_live;
     block_live = made.root;
-    in_block = subst (λ o. IsSome o) (sym (made.keeps.parents (Operation call) h.call_live)) h.in_block;
-    leaf = made.children (Operation call) h.call_live ∙ h.leaf;
+    in_block = subst (λ o. IsSome o) (sym (made.keeps.parents (Operation call) h.stand.call_live)) h.stand.in_block;
+    leaf = made.children (Operation call) h.stand.call_live ∙ h.stand.leaf;
     alone = made.top;
-    apart = made.apart (Operation call) h.call_live;
+    apart = made.apart (Operation call) h.stand.call_live;
     body = map (node_copy k.copies) h.body;
     last = k.copies.op h.last;
     ends = copy-ends;
-    last_leaf = (k.tree (Operation h.last) last-below).children ∙ ap (map (node_copy k.copies)) h.last_leaf;
-    last_bare = ap results_in (k.tree (Operation h.last) last-below).holds ∙ under-results m (op_at s h.last) ∙ h.last_bare;
-    arguments = ap length call-operands ∙ sym (length-map (type_of_value s) (operands_of s call)) ∙ ap length h.arguments
+    last_leaf = (k.tree (Operation h.last) last-below).children ∙ ap (map (node_copy k.copies)) h.end.leaf;
+    last_bare = ap results_in (k.tree (Operation h.last) last-below).holds ∙ under-results m (op_at s h.last) ∙ h.end.bare;
+    arguments = ap length call-operands ∙ sym (length-map (type_of_value s) (operands_of s call)) ∙ ap length h.stand.arguments
         ∙ length-map (λ ty. Some ty) (arg_types_of s block)
         ∙ sym (ap (λ b. length (arg_types_of t b)) (sym top) ∙ ap (λ x. length (arguments_in x))
         (k.tree (BasicBlock block) (0, refl)).holds);
     results = ap length last-operands ∙ length-map (value_in m) (operands_of s h.last)
-        ∙ sym (length-map (type_of_value s) (operands_of s h.last)) ∙ ap length h.results
+        ∙ sym (length-map (type_of_value s) (operands_of s h.last)) ∙ ap length h.end.results
         ∙ length-map (λ ty. Some ty) (result_types_of s call)
-        ∙ sym (ap (λ x. length (results_in x)) (made.keeps.ops call h.call_live));
-    none_own = subst (NoneFrom (Op call)) (sym call-operands) h.none_own;
+        ∙ sym (ap (λ x. length (results_in x)) (made.keeps.ops call h.stand.call_live));
+    none_own = subst (NoneFrom (Op call)) (sym call-operands) h.stand.none_own;
     none_inner = subst (NoneFrom (Block copy)) (sym call-operands) (none-inner call);
     none_back = none-back;
     no_branch = no-branch;

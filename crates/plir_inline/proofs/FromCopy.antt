@@ -146,13 +146,13 @@ module _ {K A T : Type 0} (own : A → List ℕ) (s t : ContextView K A T) (call
   body-stays : (n : IRNode) → IsInBody s u call block h.last k.copies m n
       → Stays t call copy (k.copies.op h.last) (node_copy k.copies n)
   body-stays n i = record {
-    not_call = λ e. not-copy own s t call block copy h whole fs ft made m k n (Operation call) i.below h.call_live e;
+    not_call = λ e. not-copy own s t call block copy h whole fs ft made m k n (Operation call) i.below h.stand.call_live e;
     not_block = λ e. i.not_block (top-only own s t call block copy h whole fs ft made m k n i.below e);
     not_last = last-only n i.below i.not_block i.not_last;
   }
 
   call-parent : parent_of t (Operation call) ≡ parent_of s (Operation call)
-  call-parent = made.keeps.parents (Operation call) h.call_live
+  call-parent = made.keeps.parents (Operation call) h.stand.call_live
 
   parent-live : (n : IRNode) → parent_of t (Operation call) ≡ Some n → IsLive s n
   parent-live n e = fs.parent_live n (Operation call) (sym call-parent ∙ e)

@@ -1,6 +1,5 @@
 -- A copy of a block is put in place of a call.
-use Rattle.std.specs.Prelude.{◌≡◌, IsSome, List, [], ◌∷◌, ◌++◌, Some, false, map, option_map, true}
-use Rattle.plir_store.specs.Members.{Has}
+use Rattle.std.specs.Prelude.{◌≡◌, ℕ, IsSome, List, [], ◌∷◌, ◌++◌, Some, false, map, option_map, true}
 use Rattle.plir_core.specs.declared.ptr.Ptr.{Ptr}
 use Rattle.plir_core.specs.declared.ptr.Operation.{Operation as OperationKind}
 use Rattle.plir_core.specs.declared.ptr.BasicBlock.{BasicBlock as BlockKind}
@@ -10,38 +9,52 @@ use Rattle.plir_core.specs.declared.value.Value.{Value}
 use Rattle.plir_core.specs.declared.value.DefiningEntity.TheVariants.{Op, Block}
 use Rattle.plir_core.specs.Contents.{OpView}
 use Rattle.plir_core.specs.ContextView.{ContextView, IsLive, IsAncestor, arg_types_of, block_at, children, given_out}
-use Rattle.plir_core.specs.ContextView.{is_live, limit, op_at, operands_of, parent_of, result_types_of, successors_of}
+use Rattle.plir_core.specs.ContextView.{is_live, limit, op_at, operands_of, parent_of, result_types_of}
 use Rattle.plir_core.specs.ContextView.{type_of_value}
 use Rattle.plir_copies.specs.Images.{Images, blocks_in, no_images, value_in}
 use Rattle.plir_copies.specs.Trees.{Copies, HoldsCopies, node_copy}
+use Rattle.plir_inline.specs.Branches.{NoBranchBack}
 use Rattle.plir_inline.specs.Given.{NoneFrom, given, with_operands_by}
 
--- A copy of the block can come in place of the call.
-pub record CanInline {K A T : Type 0} (s : ContextView K A T) (call : Ptr OperationKind) (block : Ptr BlockKind) : Type 0 where
+-- each value is of the type at its place, and there are as many
+abbrev pub AreOfTypes : {K A T : Type 0} → ContextView K A T → List Value → List ℕ → Type 0
+AreOfTypes s vs ts = map (type_of_value s) vs ≡ map Some ts
+
+-- The call stands where what is in the block can come.
+pub record CanStand {K A T : Type 0} (s : ContextView K A T) (call : Ptr OperationKind) (block : Ptr BlockKind) : Type 0 where
   pub call_live : IsLive s (Operation call)
   pub block_live : IsLive s (BasicBlock block)
   -- the call stands in a block, where the copies come
   pub in_block : IsSome (parent_of s (Operation call))
   -- it has no regions, which would be lost
   pub leaf : children s (Operation call) ≡ []
+  -- no operand of it is a result of its own, in whose place that may come
+  pub none_own : NoneFrom (Op call) (operands_of s call)
+  -- its operands are as many as the block's arguments, and of their types
+  pub arguments : AreOfTypes s (operands_of s call) (arg_types_of s block)
   -- it does not stand below the block, which is to stay as it is
   pub outside : IsAncestor s (BasicBlock block) (Operation call) → ⊥
-  -- the block has a last operation, without regions and results, which would be lost
+  -- no operation below the block branches to it: no copy of the block is left to which the operation's copy could
+  pub no_branch : NoBranchBack s block
+
+-- What an operation hands back can come in place of the call's results.
+pub record CanEnd {K A T : Type 0} (s : ContextView K A T) (call last : Ptr OperationKind) : Type 0 where
+  -- it has no regions and no results, which would be lost
+  pub leaf : children s (Operation last) ≡ []
+  pub bare : result_types_of s last ≡ []
+  -- what it hands back is as much as the call has results, and of their types
+  pub results : AreOfTypes s (operands_of s last) (result_types_of s call)
+  -- and none of it is a result of the call, in whose place it comes
+  pub none_back : NoneFrom (Op call) (operands_of s last)
+
+-- A copy of the block can come in place of the call.
+pub record CanInline {K A T : Type 0} (s : ContextView K A T) (call : Ptr OperationKind) (block : Ptr BlockKind) : Type 0 where
+  pub stand : CanStand s call block
+  -- the block has a last operation
   pub body : List IRNode
   pub last : Ptr OperationKind
   pub ends : children s (BasicBlock block) ≡ body ++ Operation last ∷ []
-  pub last_leaf : children s (Operation last) ≡ []
-  pub last_bare : result_types_of s last ≡ []
-  -- the call's operands are as many as the block's arguments, and of their types; what the last operation hands back
-  -- likewise fits the call's results
-  pub arguments : map (type_of_value s) (operands_of s call) ≡ map Some (arg_types_of s block)
-  pub results : map (type_of_value s) (operands_of s last) ≡ map Some (result_types_of s call)
-  -- neither is a result of the call, in whose place it may come
-  pub none_own : NoneFrom (Op call) (operands_of s call)
-  pub none_back : NoneFrom (Op call) (operands_of s last)
-  -- no operation below the block branches to the block, of which no copy is left
-  pub no_branch : (p : Ptr OperationKind) → IsAncestor s (BasicBlock block) (Operation p) →
-      Has (successors_of s p) block → ⊥
+  pub end : CanEnd s call last
 
 module _ {K A T : Type 0} (s t : ContextView K A T) (call : Ptr OperationKind) (block : Ptr BlockKind)
     (last : Ptr OperationKind) (c : Copies) (m : Images) where

@@ -9,8 +9,8 @@ ghost use Rattle.plir_inline.specs.Given.{IsGiven, NoneFrom, given};
 use plir_core::{Context, DefiningEntity, Operation, Ptr, Value};
 use plir_data::OpSet;
 
-// The value of an operation or a block at a place, from 0.
-fn value_of<D: OpSet>(ctx: &Context<D>, owner: DefiningEntity, i: usize) -> Value
+/// The value of an operation or a block at a place, from 0.
+pub(crate) fn value_of<D: OpSet>(ctx: &Context<D>, owner: DefiningEntity, i: usize) -> Value
     requires live { IsLive ctx.now (entity_node owner) }
     requires below { i < length (types_from ctx.now owner) }
     ensures value { result ≡ value_at owner i }
