@@ -5,3 +5,5 @@ pub mod Taking
 pub mod Steps
 pub mod Copied
 pub mod FromCopy
+pub mod BranchCalls
+pub mod Prefixes

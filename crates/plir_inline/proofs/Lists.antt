@@ -2,8 +2,8 @@
 use Rattle.std.proofs.Common.{◌≡◌, ℕ, suc, zero, Bool, true, false, true≢false, ◌<◌, ◌⊎◌, inl, inr, refl, sym, ap, subst, ◌∙◌}
 use Rattle.std.proofs.Common.{List, [], ◌∷◌, ◌++◌, map, length, Option, Some, None}
 use Rattle.std.specs.Prelude.{IsSome, reverse, slice_index_or, Contains}
-use Rattle.std.proofs.lemmas.List.{reverse-append}
-use Rattle.std.proofs.lemmas.Option.{slice_get-get_or}
+use Rattle.std.proofs.lemmas.List.{reverse-append, reverse-reverse}
+use Rattle.std.proofs.lemmas.Option.{none-some, same_Some, slice_get-get_or}
 use Rattle.plir_store.specs.Members.{Has, head}
 use Rattle.plir_store.specs.MemberLaws.{Has-at}
 use Rattle.plir_core.specs.declared.ptr.Ptr.{Ptr}
@@ -69,3 +69,12 @@ module _ {X : Type 0} where
 pub map-end : {X Y : Type 0} (f : X → Y) (xs : List X) (x : X) → map f (xs ++ x ∷ []) ≡ map f xs ++ f x ∷ []
 map-end f [] x = refl
 map-end f (y ∷ xs) x = ap (λ zs. f y ∷ zs) (map-end f xs x)
+
+-- what stands first in the reversed list is the last element
+pub from-back : {X : Type 0} (xs : List X) (x : X) → head (reverse xs) ≡ Some x → (front : List X) × (xs ≡ front ++ x ∷ [])
+from-back xs x e = go (reverse xs) refl e
+  where
+    go : (zs : List _) → reverse xs ≡ zs → head zs ≡ Some x → (front : List _) × (xs ≡ front ++ x ∷ [])
+    go [] r h = absurd (none-some x h)
+    go (z ∷ zs) r h =
+        (reverse zs, sym (reverse-reverse xs) ∙ ap reverse r ∙ reverse-append (z ∷ []) zs ∙ ap (λ y. reverse zs ++ y ∷ []) (same_Some z x h))

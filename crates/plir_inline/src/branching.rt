@@ -50,7 +50,7 @@ pub(crate) fn has_no_branch_back<D: OpSet>(ctx: &Context<D>, block: Ptr<BasicBlo
     ctx.stands();
     let look = |ctx: &Context<D>, _state: &mut (), node: IRNode| -> WalkResult<()>
         requires { IsLive ctx.now node }
-        ensures { result ≡ branch_answer block.entry ctx.now node }
+        ensures { result ≡ branch_answer block ctx.now node }
     { look_at(ctx, node, block) };
     match walk_block(ctx, &mut (), &WALKCONFIG_PREORDER_FORWARD, block, look) {
         ControlFlow::Break(()) => false,

@@ -7,8 +7,18 @@ ghost use Rattle.plir_inline.specs.Given.{NoneFrom};
 ghost use Rattle.plir_inline.specs.Inlined.{AreOfTypes};
 
 use crate::values::value_of;
-use plir_core::{Context, DefiningEntity, Operation, Ptr};
+use plir_core::{Context, DefiningEntity, Operation, Ptr, Value};
 use plir_data::OpSet;
+
+// Whether a value is a result of an operation.
+fn is_result_of(value: Value, op: Ptr<Operation>) -> bool
+    ensures { IsTrue result ↔ (value.entity ≡ AnyEntity.Op op) }
+{
+    match value.defining_entity() {
+        DefiningEntity::Op(from) => from == op,
+        DefiningEntity::Block(_) => false,
+    }
+}
 
 /// Whether no operand of an operation is a result of another one.
 pub(crate) fn uses_none_of<D: OpSet>(
@@ -20,7 +30,7 @@ pub(crate) fn uses_none_of<D: OpSet>(
     ensures { IsTrue result ↔ NoneFrom (AnyEntity.Op other) (operands_of ctx.now op) }
 {
     for i in 0..op.get_num_operands(ctx) {
-        if op.get_operand(ctx, i).defining_entity() == DefiningEntity::Op(other) {
+        if is_result_of(op.get_operand(ctx, i), other) {
             return false;
         }
     }
