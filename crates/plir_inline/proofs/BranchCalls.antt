@@ -104,8 +104,8 @@ module _ {K A T S : Type 0} (w : WalkConfig) (post : Relation (ContextView K A T
       ) in
       let x = call-of h.calls (Operation p) called in
       none-breaks h.calls h.walk.answers.1 x.0 x.1 tt (
-        each h.calls c0 s0 c0 s1 refl h.chain x.0 x.1 ∙ ap (branch_answer b c0) x.2
-        ∙ ap answer_for (has-found (successors_of c0 p) b has))
+      each h.calls c0 s0 c0 s1 refl h.chain x.0 x.1 ∙ ap (branch_answer b c0) x.2
+      ∙ ap answer_for (has-found (successors_of c0 p) b has))
 
   -- one that was broken off has seen an operation that branches to the block
   at-break : (u : Unit {0}) → WalkedOver look w post c0 s0 (BasicBlock b) (Break u) s1 → NoBranchBack c0 b → ⊥

@@ -192,10 +192,10 @@ module _ {K A T : Type 0} (own : A → List ℕ) (s t : ContextView K A T) (call
           copy-new b (successors-live own s whole q b hb) (ap (λ o. unwrap_or o b) (sym x) ∙ e)
       to-copy q b below hb e (Some w) x =
           none-some w (sym (k.mapped.other_blocks b (λ up.
-            let same : k.copies.block b ≡ w = same_Some (k.copies.block b) w (sym (k.mapped.blocks b up) ∙ x) in
-            let is : w ≡ copy = ap (λ o. unwrap_or o b) (sym x) ∙ e in
-            let at = block-same b block (top-only (BasicBlock b) up (ap BasicBlock (same ∙ is))) in
-            h.stand.no_branch q below (subst (Has (successors_of s q)) at hb))) ∙ x)
+          let same : k.copies.block b ≡ w = same_Some (k.copies.block b) w (sym (k.mapped.blocks b up) ∙ x) in
+          let is : w ≡ copy = ap (λ o. unwrap_or o b) (sym x) ∙ e in
+          let at = block-same b block (top-only (BasicBlock b) up (ap BasicBlock (same ∙ is))) in
+          h.stand.no_branch q below (subst (Has (successors_of s q)) at hb))) ∙ x)
 
       branches : (q : Ptr OperationKind) → IsAncestor s (BasicBlock block) (Operation q)
           → Has (successors_of t (k.copies.op q)) copy → ⊥

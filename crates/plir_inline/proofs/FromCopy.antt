@@ -193,13 +193,18 @@ module _ {K A T : Type 0} (own : A → List ℕ) (s t : ContextView K A T) (call
   new-copied : (n : IRNode) → IsLive u n → is_live s n ≡ false
       → (o : IRNode) × (IsInBody s u call block h.last k.copies m o × (node_copy k.copies o ≡ n))
   new-copied n l new =
-      let r = image own s t call block copy h whole fs ft made m k n (was-live n l) new in
-      (r.0, (record {
-        below = r.1.0;
-        not_block = λ e. true≢false (sym l ∙ ap (is_live u) (sym r.1.1 ∙ ap (node_copy k.copies) e ∙ k.top)
-            ∙ is-put.block_gone);
-        not_last = λ e. true≢false (sym l ∙ ap (is_live u) (sym r.1.1 ∙ ap (node_copy k.copies) e) ∙ is-put.last_gone);
-      }, r.1.1))
+      let r = image own s t call block copy h whole fs ft made m k n (was-live n l) new in (
+        r.0,
+        (
+          record {
+            below = r.1.0;
+            not_block = λ e. true≢false (sym l ∙ ap (is_live u) (sym r.1.1 ∙ ap (node_copy k.copies) e ∙ k.top)
+                ∙ is-put.block_gone);
+            not_last = λ e. true≢false (sym l ∙ ap (is_live u) (sym r.1.1 ∙ ap (node_copy k.copies) e) ∙ is-put.last_gone);
+          },
+          r.1.1,
+        ),
+      )
 
   pub inlined : t.types ≡ s.types → IsInlined s u call block
   inlined types =

@@ -84,24 +84,24 @@ module _ (e : DefiningEntity) (vs : List Value) where
           ap (replaced (value_at e i) w) (given-other i v off)
           ∙ replaced-miss (value_at e i) w v (λ is. off (ap (λ z. z.entity) is)) ∙ sym (given-other (i + 1) v off)
       | inl is ↦ elim (three_ways v.index i) [
-          | inl less ↦
-              let x = slice_index_or vs v.index v in
-              ap (replaced (value_at e i) w) (given-hit i v is less)
-              ∙ replaced-miss (value_at e i) w x (λ same.
-                none x (has-at v.index v (omega (arith, less, within))) (ap (λ z. z.entity) same))
-              ∙ sym (given-hit (i + 1) v is (omega (arith, less)))
-          | inr (inl here) ↦
-              let same : v ≡ value_at e i = (λ j. record { entity = is j; index = here j }) in
-              ap (replaced (value_at e i) w) (given-past i v (omega (arith, here)))
-              ∙ replaced-hit (value_at e i) w v same
-              ∙ sym (given-hit (i + 1) v is (omega (arith, here))
-              ∙ get_or_from_slice_get vs v.index w v (ap (slice_get vs) here ∙ at))
-          | inr (inr more) ↦
-              ap (replaced (value_at e i) w) (given-past i v (omega (arith, more)))
-              ∙ replaced-miss (value_at e i) w v (λ same.
-                let at_i : v.index ≡ i = ap (λ z. z.index) same in omega (arith, at_i, more))
-              ∙ sym (given-past (i + 1) v (omega (arith, more)))
-        ]
+        | inl less ↦
+            let x = slice_index_or vs v.index v in
+            ap (replaced (value_at e i) w) (given-hit i v is less)
+            ∙ replaced-miss (value_at e i) w x (λ same.
+            none x (has-at v.index v (omega (arith, less, within))) (ap (λ z. z.entity) same))
+            ∙ sym (given-hit (i + 1) v is (omega (arith, less)))
+        | inr (inl here) ↦
+            let same : v ≡ value_at e i = (λ j. record { entity = is j; index = here j }) in
+            ap (replaced (value_at e i) w) (given-past i v (omega (arith, here)))
+            ∙ replaced-hit (value_at e i) w v same
+            ∙ sym (given-hit (i + 1) v is (omega (arith, here))
+            ∙ get_or_from_slice_get vs v.index w v (ap (slice_get vs) here ∙ at))
+        | inr (inr more) ↦
+            ap (replaced (value_at e i) w) (given-past i v (omega (arith, more)))
+            ∙ replaced-miss (value_at e i) w v (λ same.
+            let at_i : v.index ≡ i = ap (λ z. z.index) same in omega (arith, at_i, more))
+            ∙ sym (given-past (i + 1) v (omega (arith, more)))
+      ]
     ]
 
     -- what has been given is none of those in whose place it came
@@ -109,13 +109,13 @@ module _ (e : DefiningEntity) (vs : List Value) where
     given-gone v own below = elim (entity-told v.entity e) [
       | inr off ↦ off (ap (λ z. z.entity) (sym (given-other (length vs) v off)) ∙ own)
       | inl is ↦ elim (two_ways v.index (length vs)) [
-          | inl less ↦
-              none (slice_index_or vs v.index v) (has-at v.index v less)
-              (ap (λ z. z.entity) (sym (given-hit (length vs) v is less)) ∙ own)
-          | inr past ↦
-              let same : (given e vs v).index ≡ v.index = ap (λ z. z.index) (given-past (length vs) v past) in
-              omega (arith, same, below, past)
-        ]
+        | inl less ↦
+            none (slice_index_or vs v.index v) (has-at v.index v less)
+            (ap (λ z. z.entity) (sym (given-hit (length vs) v is less)) ∙ own)
+        | inr past ↦
+            let same : (given e vs v).index ≡ v.index = ap (λ z. z.index) (given-past (length vs) v past) in
+            omega (arith, same, below, past)
+      ]
     ]
 
   -- a value has stayed, or has become one that is given
@@ -123,7 +123,7 @@ module _ (e : DefiningEntity) (vs : List Value) where
   given-cases v = elim (entity-told v.entity e) [
     | inr off ↦ inl (given-other (length vs) v off)
     | inl is ↦ elim (two_ways v.index (length vs)) [
-        | inl less ↦ inr (subst (Has vs) (sym (given-hit (length vs) v is less)) (has-at v.index v less))
-        | inr past ↦ inl (given-past (length vs) v past)
-      ]
+      | inl less ↦ inr (subst (Has vs) (sym (given-hit (length vs) v is less)) (has-at v.index v less))
+      | inr past ↦ inl (given-past (length vs) v past)
+    ]
   ]

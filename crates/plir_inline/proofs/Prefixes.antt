@@ -37,7 +37,7 @@ pub block-next : (xs : List (Ptr BlockKind)) (b x : Ptr BlockKind) (i : ℕ) →
     → has_block (take i xs) b ≡ false → has_block (take (i + 1) xs) b ≡ false
 block-next xs b x i at off none = not-true (has_block (take (i + 1) xs) b) (λ yes.
     elim (Has-append_cases (take i xs) (x ∷ []) b (subst (λ zs. Has zs b) (take-next xs i x at)
-      (found-has (take (i + 1) xs) b yes))) [
+    (found-has (take (i + 1) xs) b yes))) [
       | inl has ↦ (let z : true ≡ false = sym (has-found (take i xs) b has) ∙ none in cc)
       | inr has ↦ elim has [ inl e ↦ off e | inr z ↦ z ]
     ])

@@ -172,7 +172,7 @@ module _ {K A T : Type 0} (s : ContextView K A T) (call : Ptr OperationKind) (bl
             → children b n ≡ children s n
         children-other n not_last not_block =
             t1.children n not_last (λ e.
-              not_block (sym (same_Some (BasicBlock block) n (sym (hg.keeps.parents (Operation h.last) ∙ last-parent) ∙ e))))
+            not_block (sym (same_Some (BasicBlock block) n (sym (hg.keeps.parents (Operation h.last) ∙ last-parent) ∙ e))))
             ∙ hg.keeps.children n
 
         pub block-live : IsLive b (BasicBlock block)
@@ -200,8 +200,10 @@ module _ {K A T : Type 0} (s : ContextView K A T) (call : Ptr OperationKind) (bl
             gone-parent = ap (λ z. cond z (node_over b.nodes (Operation h.last)) None) t1.gone
 
         pub not-above : IsAncestor b (BasicBlock block) (Operation call) → ⊥
-        not-above r = h.apart (r.0,
-          climb-cut (parent_of s) (parent_of b) cut-last r.0 (Operation call) (BasicBlock block) r.1)
+        not-above r = h.apart (
+          r.0,
+          climb-cut (parent_of s) (parent_of b) cut-last r.0 (Operation call) (BasicBlock block) r.1,
+        )
 
         module _ (d : ContextView K A T)
             (sp : IsSplicedBefore b.nodes d.nodes (BasicBlock block) (Operation call)) where
@@ -248,7 +250,7 @@ module _ {K A T : Type 0} (s : ContextView K A T) (call : Ptr OperationKind) (bl
           parent-block-d : parent_of d (BasicBlock block) ≡ None
           parent-block-d =
               tr.parents (BasicBlock block) (λ has.
-                none-some (BasicBlock block) (sym h.alone ∙ in-body (BasicBlock block) has))
+              none-some (BasicBlock block) (sym h.alone ∙ in-body (BasicBlock block) has))
               ∙ parent-block
 
           pub call-leaf : children d (Operation call) ≡ []
@@ -282,7 +284,7 @@ module _ {K A T : Type 0} (s : ContextView K A T) (call : Ptr OperationKind) (bl
             pub block-leaf : children e (BasicBlock block) ≡ []
             block-leaf =
                 t2.children (BasicBlock block) (λ x. cc) (λ x.
-                  over-not-block (same_Some over (BasicBlock block) (sym parent-call-d ∙ x)))
+                over-not-block (same_Some over (BasicBlock block) (sym parent-call-d ∙ x)))
                 ∙ tr.left
 
             pub block-live-e : IsLive e (BasicBlock block)

@@ -50,11 +50,7 @@ fn num_values<D: OpSet>(ctx: &Context<D>, owner: DefiningEntity) -> usize
 
 /// Whether the operands of an operation are as many as the results of an operation, or the arguments of a block, and of
 /// their types.
-pub(crate) fn fits<D: OpSet>(
-    ctx: &Context<D>,
-    giver: Ptr<Operation>,
-    owner: DefiningEntity,
-) -> bool
+pub(crate) fn fits<D: OpSet>(ctx: &Context<D>, giver: Ptr<Operation>, owner: DefiningEntity) -> bool
     requires giver_live { IsLive ctx.now (AnyNode.Operation giver) }
     requires live { IsLive ctx.now (entity_node owner) }
     ensures { IsTrue result ↔ AreOfTypes ctx.now (operands_of ctx.now giver) (types_from ctx.now owner) }

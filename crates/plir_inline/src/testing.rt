@@ -49,11 +49,7 @@ fn can_end<D: OpSet>(ctx: &Context<D>, call: Ptr<Operation>, last: Ptr<Operation
 
 /// Whether [`inline_block`](crate::inline_block) can put a copy of what stands in a block in place of a call: exactly
 /// where its condition holds. This looks at all that stands below the block, and climbs from the call.
-pub fn can_inline<D: OpSet>(
-    ctx: &Context<D>,
-    call: Ptr<Operation>,
-    block: Ptr<BasicBlock>,
-) -> bool
+pub fn can_inline<D: OpSet>(ctx: &Context<D>, call: Ptr<Operation>, block: Ptr<BasicBlock>) -> bool
     ensures { IsTrue result ↔ CanInline ctx.now call block }
 {
     ctx.stands();

@@ -44,12 +44,7 @@ const CALL: &'static str = "
         back o8 b1";
 
 // Plays a script behind another one. Where memory for the text is refused, it is asked for once more.
-fn play_behind(
-    alloc: Global,
-    max_nodes: u32,
-    front: &str,
-    script: &str,
-) -> Result<(), Mismatch> {
+fn play_behind(alloc: Global, max_nodes: u32, front: &str, script: &str) -> Result<(), Mismatch> {
     let whole = match format!(in alloc; "{front}{script}") {
         Ok(whole) => whole,
         Err(_) => format!(in alloc; "{front}{script}")?,

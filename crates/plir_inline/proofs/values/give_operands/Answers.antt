@@ -46,8 +46,7 @@ loop-i-preserved g c =
     let at : slice_get vs i ≡ Some w =
     ap (λ xs. slice_get xs i) (sym (giver-same s t e vs i c.args.giver c.loop-i.invariant.0 c.requires.none_own))
     ∙ c.get_operand-operand.ensures.value in
-    let within : i < length vs = omega (arith, c.loop-i-test.true, c.get_num_operands-i-end.ensures.value) in
-    (
+    let within : i < length vs = omega (arith, c.loop-i-test.true, c.get_num_operands-i-end.ensures.value) in (
       given-next s t u (given_first e vs i) (given_first e vs (i + 1)) (value_at e i) w c.loop-i.invariant.0
           (subst (λ v. IsRewired t u v w) c.value_of.ensures.value c.replace_all_uses_with.ensures.rewired)
           (given-more e vs c.requires.none_own i w within at),
