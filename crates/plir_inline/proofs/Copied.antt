@@ -1,15 +1,14 @@
 -- What is known of the copy of a block that can be inlined.
-use Rattle.std.proofs.Common.{◌≡◌, ℕ, zero, suc, Bool, true, false, true≢false, ◌&&◌, ◌⊎◌, inl, inr, refl, sym, ap, subst}
+use Rattle.std.proofs.Common.{◌≡◌, ℕ, zero, suc, false, true≢false, inl, inr, refl, sym, ap, subst}
 use Rattle.std.proofs.Common.{◌∙◌, List, [], ◌∷◌, ◌++◌, map, length, Option, Some, None, option_map}
-use Rattle.std.specs.Prelude.{All, IsSome, slice_index_or}
+use Rattle.std.specs.Prelude.{All, IsSome}
 use Rattle.std.specs.Option.{unwrap_or}
 use Rattle.std.specs.Cmp.{first_so}
 use Rattle.std.proofs.lemmas.Option.{get_or_from_slice_get, none-some, same_Some, slice_get_within}
-use Rattle.plir_store.specs.Members.{Distinct, Has}
-use Rattle.plir_store.specs.MemberLaws.{Distinct-cross, Has-append_cases, Has-map, Has-mid, at-Has, map-Has}
+use Rattle.plir_store.specs.Members.{Has}
+use Rattle.plir_store.specs.MemberLaws.{Has-map, Has-mid, at-Has, map-Has}
 use Rattle.plir_core.specs.declared.ptr.Ptr.{Ptr}
 use Rattle.plir_core.specs.declared.ptr.Operation.{Operation as OperationKind}
-use Rattle.plir_core.specs.declared.ptr.Region.{Region as RegionKind}
 use Rattle.plir_core.specs.declared.ptr.BasicBlock.{BasicBlock as BlockKind}
 use Rattle.plir_core.specs.declared.ptr.IRNode.{IRNode}
 use Rattle.plir_core.specs.declared.ptr.IRNode.TheVariants.{Operation, Region, BasicBlock}
@@ -18,15 +17,15 @@ use Rattle.plir_core.specs.declared.value.DefiningEntity.{DefiningEntity}
 use Rattle.plir_core.specs.declared.value.DefiningEntity.TheVariants.{Op, Block}
 use Rattle.plir_core.specs.Above.{climb}
 use Rattle.plir_core.specs.Contents.{OpView}
-use Rattle.plir_core.specs.ContextView.{ContextView, IsAncestor, IsLive, IsValueLive, arg_types_of, arguments_in, block_at}
+use Rattle.plir_core.specs.ContextView.{ContextView, IsAncestor, IsLive, IsValueLive, arg_types_of, arguments_in}
 use Rattle.plir_core.specs.ContextView.{children, entity_node, is_live, op_at, operands_in, operands_of, parent_of}
-use Rattle.plir_core.specs.ContextView.{result_types_of, results_in, successors_in, successors_of, type_of_value, types_from}
+use Rattle.plir_core.specs.ContextView.{result_types_of, results_in, successors_in, successors_of, type_of_value}
 use Rattle.plir_core.specs.Forest.{IsForest, look}
 use Rattle.plir_core.specs.Made.{IsMade}
 use Rattle.plir_core.specs.WellFormed.{IsWellFormed}
 use Rattle.plir_copies.specs.Images.{Images, block_in, blocks_in, no_images, value_in, values_in}
 use Rattle.plir_copies.specs.Copied.{op_under}
-use Rattle.plir_copies.specs.Trees.{Copies, IsCopied, IsCopyOfTree, entity_copy, node_copy, value_copy}
+use Rattle.plir_copies.specs.Trees.{Copies, IsCopyOfTree, entity_copy, node_copy, value_copy}
 use Rattle.plir_inline.specs.Given.{NoneFrom}
 use Rattle.plir_inline.specs.Inlined.{CanInline}
 use Rattle.plir_inline.specs.Put.{CanPut}

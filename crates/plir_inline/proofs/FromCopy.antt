@@ -1,5 +1,5 @@
 -- What is left where the copy of a block is put in place of a call.
-use Rattle.std.proofs.Common.{◌≡◌, ℕ, zero, suc, true, false, true≢false, ◌⊎◌, inl, inr, refl, sym, ap, subst}
+use Rattle.std.proofs.Common.{◌≡◌, ℕ, zero, suc, false, true≢false, inl, inr, refl, sym, ap, subst}
 use Rattle.std.proofs.Common.{◌∙◌, List, [], ◌∷◌, ◌++◌, map, Option, Some, None, option_map}
 use Rattle.std.proofs.lemmas.Option.{none-some, same_Some}
 use Rattle.plir_store.specs.Members.{Distinct, Has}
@@ -13,21 +13,20 @@ use Rattle.plir_core.specs.declared.value.Value.{Value}
 use Rattle.plir_core.specs.declared.value.DefiningEntity.TheVariants.{Op, Block}
 use Rattle.plir_core.specs.Above.{climb}
 use Rattle.plir_core.specs.Contents.{OpView}
-use Rattle.plir_core.specs.ContextView.{ContextView, IsAncestor, IsLive, block_at, children, entity_node, is_live, op_at}
+use Rattle.plir_core.specs.ContextView.{ContextView, IsAncestor, IsLive, children, is_live, op_at}
 use Rattle.plir_core.specs.ContextView.{operands_in, operands_of, parent_of}
 use Rattle.plir_core.specs.Forest.{IsForest, look}
 use Rattle.plir_core.specs.Made.{IsMade}
 use Rattle.plir_core.specs.WellFormed.{IsWellFormed}
-use Rattle.plir_copies.specs.Images.{Images, blocks_in, no_images, value_in, values_in}
+use Rattle.plir_copies.specs.Images.{Images, blocks_in, no_images, value_in}
 use Rattle.plir_copies.specs.Copied.{op_under}
-use Rattle.plir_copies.specs.Trees.{Copies, IsCopyOfTree, node_copy}
+use Rattle.plir_copies.specs.Trees.{IsCopyOfTree, node_copy}
 use Rattle.plir_inline.specs.Given.{given, with_operands_by}
 use Rattle.plir_inline.specs.Inlined.{CanInline, HoldsTheSame, IsInBody, IsInlined, IsInlinedNode, answered, copied}
-use Rattle.plir_inline.specs.Inlined.{op_inlined}
 use Rattle.plir_inline.specs.Put.{IsPut, Stays, inside, put}
 use Rattle.plir_inline.proofs.GivenValues.{given-other}
 use Rattle.plir_inline.proofs.Giving.{map-as}
-use Rattle.plir_inline.proofs.Lists.{map-end, node-told}
+use Rattle.plir_inline.proofs.Lists.{map-end}
 use Rattle.plir_inline.proofs.Steps.{climb-none}
 use Rattle.plir_inline.proofs.Copied.{call-operands, copy-ends, has-last, image, last-below, last-operands, none-inner}
 use Rattle.plir_inline.proofs.Copied.{not-copy, top, top-only}

@@ -1,16 +1,15 @@
 -- What values become that are given others.
 use Rattle.std.proofs.Common.{◌≡◌, ◌+◌, ◌<◌, ◌≤◌, ℕ, arith, Bool, true, false, true≢false, cond, ◌&&◌, nat_lt, ◌⊎◌, inl, inr}
-use Rattle.std.proofs.Common.{List, [], ◌∷◌, length, map, Some, refl, sym, ap, subst, ◌∙◌}
+use Rattle.std.proofs.Common.{List, length, Some, refl, sym, ap, subst, ◌∙◌}
 use Rattle.std.specs.Prelude.{slice_get, slice_index_or}
 use Rattle.std.proofs.lemmas.Option.{get_or_from_slice_get, slice_get-get_or}
-use Rattle.std.specs.Cmp.{first_so, second_so}
 use Rattle.plir_store.specs.Members.{Has}
 use Rattle.plir_store.specs.MemberLaws.{Has-at}
 use Rattle.plir_core.specs.declared.value.Value.{Value}
 use Rattle.plir_core.specs.declared.value.DefiningEntity.{DefiningEntity}
 use Rattle.plir_core.specs.SameValue.{same_entity, same_value, entity-exact, value-exact}
 use Rattle.plir_core.specs.Replaced.{replaced}
-use Rattle.plir_copies.specs.Copied.{is_among_first, value_at}
+use Rattle.plir_copies.specs.Copied.{value_at}
 use Rattle.plir_inline.specs.Given.{NoneFrom, given, given_first}
 
 pub bool_cases : (b : Bool) → (b ≡ true) ⊎ (b ≡ false)

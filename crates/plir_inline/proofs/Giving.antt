@@ -1,6 +1,6 @@
 -- What contexts keep where values are given others.
-use Rattle.std.proofs.Common.{◌≡◌, ◌+◌, ◌<◌, ℕ, suc, arith, Bool, true, ◌&&◌, nat_lt, List, [], ◌∷◌, length, map, Option, Some, None}
-use Rattle.std.proofs.Common.{inl, inr, refl, sym, ap, subst, ◌∙◌, option_map}
+use Rattle.std.proofs.Common.{◌≡◌, ℕ, suc, List, [], ◌∷◌, length, map, Option, Some, None}
+use Rattle.std.proofs.Common.{inl, inr, refl, sym, ap, ◌∙◌, option_map}
 use Rattle.plir_store.specs.Members.{Has}
 use Rattle.plir_store.specs.Table.{content_at}
 use Rattle.plir_core.specs.declared.ptr.Ptr.{Ptr}
@@ -9,8 +9,8 @@ use Rattle.plir_core.specs.declared.value.Value.{Value}
 use Rattle.plir_core.specs.declared.value.DefiningEntity.{DefiningEntity}
 use Rattle.plir_core.specs.declared.value.DefiningEntity.TheVariants.{Op, Block}
 use Rattle.plir_core.specs.Contents.{OpView}
-use Rattle.plir_core.specs.ContextView.{ContextView, IsLive, IsValueLive, op_at, operands_in, operands_of, results_in}
-use Rattle.plir_core.specs.ContextView.{arguments_in, successors_in, types_from, is_live, entity_node}
+use Rattle.plir_core.specs.ContextView.{ContextView, op_at, operands_in, operands_of, results_in}
+use Rattle.plir_core.specs.ContextView.{arguments_in, successors_in, types_from}
 use Rattle.plir_core.specs.Held.{KeepsNodes}
 use Rattle.plir_core.specs.Replaced.{op_replaced, replaced}
 use Rattle.plir_core.specs.Rewired.{IsRewired}

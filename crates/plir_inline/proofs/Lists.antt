@@ -1,5 +1,5 @@
 -- Nodes and lists: what is told apart, and lists that end with an element.
-use Rattle.std.proofs.Common.{◌≡◌, ℕ, suc, zero, Bool, true, false, true≢false, ◌<◌, ◌⊎◌, inl, inr, refl, sym, ap, subst, ◌∙◌}
+use Rattle.std.proofs.Common.{◌≡◌, ℕ, true≢false, ◌<◌, ◌⊎◌, inl, inr, refl, sym, ap, subst, ◌∙◌}
 use Rattle.std.proofs.Common.{List, [], ◌∷◌, ◌++◌, map, length, Option, Some, None}
 use Rattle.std.specs.Prelude.{IsSome, reverse, slice_index_or, Contains}
 use Rattle.std.proofs.lemmas.List.{reverse-append, reverse-reverse}

@@ -1,6 +1,6 @@
 -- What holds of the first elements of a list, one more at a time.
-use Rattle.std.proofs.Common.{◌≡◌, ◌+◌, ◌<◌, ℕ, zero, suc, arith, Bool, true, false, cond, ◌&&◌, eqb, not, List, [], ◌∷◌, ◌++◌, take, map, length}
-use Rattle.std.proofs.Common.{Option, Some, None, inl, inr, refl, sym, ap, subst, ◌∙◌, option_map}
+use Rattle.std.proofs.Common.{◌≡◌, ◌+◌, ℕ, zero, suc, arith, Bool, true, false, ◌&&◌, eqb, not, List, [], ◌∷◌, ◌++◌, take, map}
+use Rattle.std.proofs.Common.{Some, inl, inr, refl, sym, ap, subst, ◌∙◌}
 use Rattle.std.specs.Prelude.{◌↔◌, IsTrue, slice_get}
 use Rattle.std.proofs.lemmas.List.{take_more}
 use Rattle.std.proofs.lemmas.Option.{get_or_from_slice_get, none-some, same_Some, slice_get_within}
@@ -10,11 +10,9 @@ use Rattle.plir_core.specs.declared.ptr.Ptr.{Ptr}
 use Rattle.plir_core.specs.declared.ptr.BasicBlock.{BasicBlock as BlockKind}
 use Rattle.plir_core.specs.declared.value.Value.{Value}
 use Rattle.plir_core.specs.declared.value.DefiningEntity.{DefiningEntity}
-use Rattle.plir_core.specs.SameValue.{same_ptr, ptr-exact}
 use Rattle.plir_inline.specs.Branches.{has_block}
 use Rattle.plir_inline.specs.Given.{NoneFrom}
 use Rattle.plir_inline.proofs.BranchCalls.{found-has, has-found}
-use Rattle.plir_inline.proofs.GivenValues.{bool_cases}
 
 module _ {X : Type 0} where
   -- one more of the first elements

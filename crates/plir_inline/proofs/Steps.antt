@@ -1,11 +1,11 @@
 -- The steps by which a block is put in place of a call.
-use Rattle.std.proofs.Common.{◌≡◌, ℕ, zero, suc, ◌<◌, ◌+◌, arith, Bool, true, false, true≢false, cond, ◌⊎◌, inl, inr, refl, sym}
+use Rattle.std.proofs.Common.{◌≡◌, ℕ, zero, suc, ◌<◌, arith, true, true≢false, cond, ◌⊎◌, inl, inr, refl, sym}
 use Rattle.std.specs.Cmp.{second_so}
 use Rattle.std.proofs.Common.{nat_lt, ap, subst, ◌∙◌, List, [], ◌∷◌, ◌++◌, map, length, Option, Some, None, option_map}
 use Rattle.std.specs.Prelude.{All, IsSome, slice_index_or}
 use Rattle.std.proofs.lemmas.Option.{none-some, same_Some}
 use Rattle.plir_store.specs.Members.{Has}
-use Rattle.plir_store.specs.MemberLaws.{Has-append_left, Has-map, Has-mid, Has-split, map-Has}
+use Rattle.plir_store.specs.MemberLaws.{Has-append_left, Has-map, Has-mid, Has-split}
 use Rattle.plir_store.specs.Table.{content_at, is_live_at}
 use Rattle.plir_core.specs.declared.ptr.Ptr.{Ptr}
 use Rattle.plir_core.specs.declared.ptr.Operation.{Operation as OperationKind}
@@ -16,9 +16,8 @@ use Rattle.plir_core.specs.declared.value.Value.{Value}
 use Rattle.plir_core.specs.declared.value.DefiningEntity.{DefiningEntity}
 use Rattle.plir_core.specs.declared.value.DefiningEntity.TheVariants.{Op, Block}
 use Rattle.plir_core.specs.Above.{Reaches, climb}
-use Rattle.plir_core.specs.Contents.{OpView}
 use Rattle.plir_core.specs.ContextView.{ContextView, IsAncestor, IsLive, arg_types_of, block_at, children, given_out}
-use Rattle.plir_core.specs.ContextView.{IsValueLive, arguments_in, entity_node, is_live, limit, op_at, operands_in, operands_of, parent_of}
+use Rattle.plir_core.specs.ContextView.{IsValueLive, arguments_in, entity_node, is_live, op_at, operands_in, operands_of, parent_of}
 use Rattle.plir_core.specs.ContextView.{result_types_of, results_in, successors_in, successors_of, types_from}
 use Rattle.plir_core.specs.Unused.{IsUnusedOutside}
 use Rattle.plir_core.specs.WellFormed.{IsWellFormed}
@@ -26,11 +25,11 @@ use Rattle.plir_core.specs.Forest.{IsForest, look}
 use Rattle.plir_core.specs.Moved.{IsSplicedBefore, IsTransferred}
 use Rattle.plir_core.specs.Nodes.{is_given_out, node_over}
 use Rattle.plir_core.specs.Results.{HasNoUsedResult}
-use Rattle.plir_inline.specs.Given.{IsGiven, NoneFrom, given, with_operands_by}
+use Rattle.plir_inline.specs.Given.{IsGiven, NoneFrom, with_operands_by}
 use Rattle.plir_inline.specs.Put.{CanPut, IsPut, Stays, inside, put}
 use Rattle.plir_inline.specs.Taken.{IsTaken}
 use Rattle.plir_inline.proofs.GivenValues.{given-cases, given-gone}
-use Rattle.plir_inline.proofs.Giving.{by-operands, by-results, by-successors, given-operands, given-types, length-map}
+use Rattle.plir_inline.proofs.Giving.{by-operands, by-results, by-successors, given-types, length-map}
 use Rattle.plir_inline.proofs.Lists.{append-none, block-same, contained, has-index, node-told, some-of}
 
 below-of : (i j : ℕ) → nat_lt i j ≡ true → i < j

@@ -1,7 +1,6 @@
 -- What is left where a node without children is erased.
-use Rattle.std.proofs.Common.{◌≡◌, refl, sym, subst, ◌∙◌}
+use Rattle.std.proofs.Common.{◌≡◌, refl}
 use Rattle.plir_core.specs.declared.ptr.IRNode.{IRNode}
-use Rattle.plir_core.specs.declared.ptr.IRNode.TheVariants.{Operation, BasicBlock}
 use Rattle.plir_core.specs.Above.{Reaches}
 use Rattle.plir_core.specs.ContextView.{ContextView, parent_of}
 use Rattle.plir_core.specs.Erase.{IsErased}

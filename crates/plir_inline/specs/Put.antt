@@ -1,5 +1,5 @@
 -- A block that stands alone is put in place of a call.
-use Rattle.std.specs.Prelude.{◌≡◌, IsSome, List, [], ◌∷◌, ◌++◌, None, Some, false, length, map, option_map, true}
+use Rattle.std.specs.Prelude.{◌≡◌, IsSome, List, [], ◌∷◌, ◌++◌, None, Some, false, length, map, option_map}
 use Rattle.plir_store.specs.Members.{Has}
 use Rattle.plir_core.specs.declared.ptr.Ptr.{Ptr}
 use Rattle.plir_core.specs.declared.ptr.Operation.{Operation as OperationKind}

@@ -37,7 +37,17 @@ fn copy_tree<D: OpSet>(
     Ok(copy)
 }
 
-/// Puts a copy of what stands in a block, as the one block of a function's body, in place of a call.
+/// Puts a copy of what stands in a block, as the one block of a function's body, but for its last operation, in place of
+/// a call: each argument of the block is replaced by the call's operand at its place, and each use of a result of the
+/// call by what the last operation's operand at its place has become. Then the call is gone. The block and all else stay
+/// as they are, but that an operation that used a result of the call uses what came in its place.
+/// [`can_inline`](crate::can_inline) tells whether the condition holds.
+///
+/// # Errors
+///
+/// What the copy of the block's tree is refused for: [`NodeErr::Memory`] where there is none, and
+/// [`NodeErr::TooManyNodes`] where there is no room for as many nodes as the tree has, of which the copies of the block
+/// and of its last operation are freed again. After a refusal no live node has changed.
 pub fn inline_block<D: OpSet>(
     alloc: Global,
     ctx: &mut Context<D>,

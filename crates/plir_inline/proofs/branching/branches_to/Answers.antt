@@ -1,10 +1,8 @@
-use Rattle.std.proofs.Common.{◌≡◌, ◌∙◌, false, refl, sym, subst, take}
+use Rattle.std.proofs.Common.{◌∙◌, sym, subst}
 use Rattle.std.proofs.lemmas.Bool.{false≢true}
-use Rattle.std.proofs.lemmas.List.{take_all}
 use Rattle.plir_store.specs.Members.{Has}
 use Rattle.plir_store.specs.MemberLaws.{Has-at}
 use Rattle.plir_core.specs.ContextView.{successors_of}
-use Rattle.plir_inline.specs.Branches.{has_block}
 use Rattle.plir_inline.proofs.BranchCalls.{has-found}
 use Rattle.plir_inline.proofs.Prefixes.{block-next, same-ptr}
 use Rattle.plir_inline.proofs.branching.branches_to.Goals as goal

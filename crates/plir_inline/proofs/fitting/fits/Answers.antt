@@ -1,10 +1,8 @@
-use Rattle.std.proofs.Common.{◌≡◌, ◌∙◌, ◌≤◌, Some, ap, arith, false, length, map, refl, sym, subst}
+use Rattle.std.proofs.Common.{◌≡◌, ◌∙◌, Some, ap, map, sym}
 use Rattle.std.specs.Prelude.{slice_get}
 use Rattle.std.proofs.lemmas.Bool.{false≢true}
-use Rattle.std.proofs.lemmas.List.{take_all}
 use Rattle.std.proofs.lemmas.Option.{same_Some}
 use Rattle.plir_core.specs.ContextView.{operands_of, type_of_value, types_from}
-use Rattle.plir_inline.proofs.Giving.{length-map}
 use Rattle.plir_inline.proofs.Prefixes.{alike, differ, same-next, slice-map}
 use Rattle.plir_inline.proofs.fitting.fits.Goals as goal
 

@@ -1,4 +1,4 @@
-use Rattle.std.proofs.Common.{◌≡◌, ◌∙◌, ◌≤◌, arith, false, length, refl, sym, subst}
+use Rattle.std.proofs.Common.{◌∙◌, ◌≤◌, arith, length, refl, sym, subst}
 use Rattle.std.proofs.lemmas.Bool.{false≢true}
 use Rattle.std.proofs.lemmas.List.{take_all}
 use Rattle.plir_store.specs.MemberLaws.{Has-at}

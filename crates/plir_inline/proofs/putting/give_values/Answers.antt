@@ -3,7 +3,7 @@ use Rattle.plir_core.specs.declared.ptr.IRNode.TheVariants.{Operation}
 use Rattle.plir_core.specs.declared.value.DefiningEntity.TheVariants.{Op, Block}
 use Rattle.plir_core.specs.ContextView.{IsLive, operands_of, result_types_of}
 use Rattle.plir_inline.specs.Given.{IsGiven, NoneFrom, given}
-use Rattle.plir_inline.specs.Put.{inside, put}
+use Rattle.plir_inline.specs.Put.{inside}
 use Rattle.plir_inline.proofs.Giving.{given-both, given-operands, given-types, length-map}
 use Rattle.plir_inline.proofs.Steps.{last-live, none-back}
 use Rattle.plir_inline.proofs.putting.give_values.Goals as goal

@@ -1,5 +1,5 @@
-use Rattle.std.proofs.Common.{◌≡◌, ◌∙◌, ap, sym, subst, []}
-use Rattle.plir_core.specs.declared.ptr.IRNode.TheVariants.{Operation, BasicBlock}
+use Rattle.std.proofs.Common.{◌≡◌, ◌∙◌, sym, subst, []}
+use Rattle.plir_core.specs.declared.ptr.IRNode.TheVariants.{Operation}
 use Rattle.plir_core.specs.ContextView.{IsLive, children}
 use Rattle.plir_core.specs.Results.{HasNoUsedResult}
 use Rattle.plir_inline.specs.Given.{IsGiven}

@@ -1,4 +1,4 @@
-use Rattle.std.proofs.Common.{◌≡◌, ◌<◌, ap, sym, subst, length, arith, []}
+use Rattle.std.proofs.Common.{ap, sym, subst, arith}
 use Rattle.plir_core.specs.declared.ptr.IRNode.TheVariants.{Operation}
 use Rattle.std.specs.Prelude.{All}
 use Rattle.plir_core.specs.Unused.{IsUnusedOutside}
