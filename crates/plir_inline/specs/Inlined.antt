@@ -21,7 +21,8 @@ abbrev pub AreOfTypes : {K A T : Type 0} → ContextView K A T → List Value �
 AreOfTypes s vs ts = map (type_of_value s) vs ≡ map Some ts
 
 -- The call stands where what is in the block can come.
-pub record CanStand {K A T : Type 0} (s : ContextView K A T) (call : Ptr OperationKind) (block : Ptr BlockKind) : Type 0 where
+pub record CanStand {K A T : Type 0} (s : ContextView K A T) (call : Ptr OperationKind)
+    (block : Ptr BlockKind) : Type 0 where
   pub call_live : IsLive s (Operation call)
   pub block_live : IsLive s (BasicBlock block)
   -- the call stands in a block, where the copies come
@@ -48,7 +49,8 @@ pub record CanEnd {K A T : Type 0} (s : ContextView K A T) (call last : Ptr Oper
   pub none_back : NoneFrom (Op call) (operands_of s last)
 
 -- A copy of the block can come in place of the call.
-pub record CanInline {K A T : Type 0} (s : ContextView K A T) (call : Ptr OperationKind) (block : Ptr BlockKind) : Type 0 where
+pub record CanInline {K A T : Type 0} (s : ContextView K A T) (call : Ptr OperationKind)
+    (block : Ptr BlockKind) : Type 0 where
   pub stand : CanStand s call block
   -- the block has a last operation
   pub body : List IRNode
@@ -69,7 +71,10 @@ module _ {K A T : Type 0} (s t : ContextView K A T) (call : Ptr OperationKind) (
 
   -- what a copied operation holds: the same, but for its operands and successors
   abbrev pub op_inlined : OpView K A → OpView K A
-  op_inlined o = record o { operands = map (λ v. answered (copied v)) o.operands; successors = blocks_in m o.successors }
+  op_inlined o = record o {
+    operands = map (λ v. answered (copied v)) o.operands;
+    successors = blocks_in m o.successors;
+  }
 
   abbrev pub HoldsTheSame : IRNode → Type 0
   HoldsTheSame (Operation p) = op_at t (c.op p) ≡ option_map op_inlined (op_at s p)
@@ -91,7 +96,8 @@ module _ {K A T : Type 0} (s t : ContextView K A T) (call : Ptr OperationKind) (
 
 -- From s to t copies of what stands in the block, but for its last operation, have come in place of the call, in their
 -- order, and nothing else has changed but for the uses of the call's results.
-pub record IsInlined {K A T : Type 0} (s t : ContextView K A T) (call : Ptr OperationKind) (block : Ptr BlockKind) : Type 0 where
+pub record IsInlined {K A T : Type 0} (s t : ContextView K A T) (call : Ptr OperationKind)
+    (block : Ptr BlockKind) : Type 0 where
   -- the block's last operation, and those before it
   pub body : List IRNode
   pub last : Ptr OperationKind
@@ -101,7 +107,8 @@ pub record IsInlined {K A T : Type 0} (s t : ContextView K A T) (call : Ptr Oper
   pub images : Images
   pub mapped : HoldsCopies s (BasicBlock block) copies no_images images
   -- all that stands below the block but its last operation is copied
-  pub tree : (n : IRNode) → IsInBody s t call block last copies images n → IsInlinedNode s t call block last copies images n
+  pub tree : (n : IRNode) → IsInBody s t call block last copies images n →
+      IsInlinedNode s t call block last copies images n
   -- the copies of the block's operations stand in place of the call
   pub here : (over : IRNode) (xs ys : List IRNode) → children s over ≡ xs ++ Operation call ∷ ys →
       children t over ≡ xs ++ map (node_copy copies) body ++ ys

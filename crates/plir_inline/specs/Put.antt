@@ -14,7 +14,8 @@ use Rattle.plir_inline.specs.Given.{NoneFrom, given, with_operands_by}
 
 -- A block stands alone and ends with an operation that hands back as many values as a call has results; the call has as
 -- many operands as the block has arguments.
-pub record CanPut {K A T : Type 0} (s : ContextView K A T) (call : Ptr OperationKind) (block : Ptr BlockKind) : Type 0 where
+pub record CanPut {K A T : Type 0} (s : ContextView K A T) (call : Ptr OperationKind)
+    (block : Ptr BlockKind) : Type 0 where
   pub call_live : IsLive s (Operation call)
   pub block_live : IsLive s (BasicBlock block)
   pub in_block : IsSome (parent_of s (Operation call))

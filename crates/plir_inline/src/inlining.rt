@@ -37,10 +37,10 @@ fn copy_tree<D: OpSet>(
     Ok(copy)
 }
 
-/// Puts a copy of what stands in a block, as the one block of a function's body, but for its last operation, in place of
-/// a call: each argument of the block is replaced by the call's operand at its place, and each use of a result of the
-/// call by what the last operation's operand at its place has become. Then the call is gone. The block and all else stay
-/// as they are, but that an operation that used a result of the call uses what came in its place.
+/// Puts a copy of what stands in a block, as the one block of a function's body, but for its last operation, in place
+/// of a call: each argument of the block is replaced by the call's operand at its place, and each use of a result of
+/// the call by what the last operation's operand at its place has become. Then the call is gone. The block and all else
+/// stay as they are, but that an operation that used a result of the call uses what came in its place.
 /// [`can_inline`](crate::can_inline) tells whether the condition holds.
 ///
 /// # Errors
