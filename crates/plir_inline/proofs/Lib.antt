@@ -1,0 +1,9 @@
+pub mod GivenValues
+pub mod Giving
+pub mod Lists
+pub mod Taking
+pub mod Steps
+pub mod Copied
+pub mod FromCopy
+pub mod BranchCalls
+pub mod Prefixes

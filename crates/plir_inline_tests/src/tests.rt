@@ -1,0 +1,3 @@
+//! Inlining, as scripts.
+mod inlining;
+mod scripts;
