@@ -20,7 +20,7 @@ returns-in_err-module-clause-agree g c =
 
 pub returns-in_err-module-clause-given : goal.returns-in_err-module-clause-given
 returns-in_err-module-clause-given g c =
-    given-still _ _ c.args.tables.now c.new-made.ensures.given c.requires.given
+    given-still c.args.ctx.now c.new-made.new.ctx c.args.tables.now c.new-made.ensures.given c.requires.given
 
 -- where one was made
 pub returns-in_err-push-clause-agree : goal.returns-in_err-push-clause-agree
@@ -30,7 +30,7 @@ returns-in_err-push-clause-agree g c =
 
 pub returns-in_err-push-clause-given : goal.returns-in_err-push-clause-given
 returns-in_err-push-clause-given g c =
-    given-still _ _ c.args.tables.now c.new-made.ensures.given c.requires.given
+    given-still c.args.ctx.now c.new-made.new.ctx c.args.tables.now c.new-made.ensures.given c.requires.given
 
 pub returns-in_err-replies-clause-agree : goal.returns-in_err-replies-clause-agree
 returns-in_err-replies-clause-agree g c =
@@ -44,8 +44,10 @@ returns-clause-agree g c =
 
 pub returns-in_err-replies-clause-given : goal.returns-in_err-replies-clause-given
 returns-in_err-replies-clause-given g c =
-    c.apply_all.ensures.given (given-still _ _ c.args.tables.now c.new-made.ensures.given c.requires.given)
+    c.apply_all.ensures.given (given-still c.args.ctx.now c.new-made.new.ctx c.args.tables.now
+    c.new-made.ensures.given c.requires.given)
 
 pub returns-clause-given : goal.returns-clause-given
 returns-clause-given g c =
-    c.apply_all.ensures.given (given-still _ _ c.args.tables.now c.new-made.ensures.given c.requires.given)
+    c.apply_all.ensures.given (given-still c.args.ctx.now c.new-made.new.ctx c.args.tables.now
+    c.new-made.ensures.given c.requires.given)
