@@ -1,11 +1,8 @@
 -- Whether a text can stand for a type or an attribute, asked of its parts.
 use Rattle.std.proofs.Common.{◌≡◌, ◌↔◌, ℕ, Bool, true, false, List, [], ◌∷◌, Some, IsTrue, refl, sym, ap, subst, ◌∙◌}
-use Rattle.plir_data.specs.AttrView.{AttrView, entries_of}
-use Rattle.plir_data.specs.Laws.{IsMadeOfTrees}
-use Rattle.plir_data.specs.Types.{TypeView, type_at}
-use Rattle.plir_data.specs.TypeSeen.{type_view}
 use Rattle.plir_data.specs.TypeTree.{TypeTree, tree_over, tree_of}
-use Rattle.plir_data.specs.declared.types.TypeObj.{TypeObj}
+use Rattle.plir_data.specs.{AttrView.AttrView, AttrView.entries_of, Laws.IsMadeOfTrees, Types.TypeView, Types.type_at}
+use Rattle.plir_data.specs.{TypeSeen.type_view, declared.types.TypeObj.TypeObj}
 use Rattle.plir_attr_text.specs.Writable.{IsWritable, AreEntriesWritable, pairs_of}
 
 -- what is asked of the type of a handle, as it was read

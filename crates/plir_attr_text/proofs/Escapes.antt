@@ -1,10 +1,8 @@
 -- Strings, escaped by bytes and by characters.
 use Rattle.std.proofs.Common.{◌≡◌, ℕ, suc, ◌<◌, ◌≤◌, Bool, true, false, cond, nat_eq, nat_lt, List, [], ◌∷◌, ◌++◌}
 use Rattle.std.proofs.Common.{length, get_or, refl, sym, ap, ◌∙◌, arith, inl, inr, append_assoc, append-nil}
-use Rattle.std.proofs.Math.Utf8.{encode}
-use Rattle.std.proofs.lemmas.Bool.{cases_lt, ltb-false}
-use Rattle.std.proofs.lemmas.Bool.Decides.{nat_tests, Decides-ltb}
-use Rattle.std.proofs.lemmas.Str.{inside_one, encode_ascii}
+use Rattle.std.proofs.{Math.Utf8.encode, lemmas.Bool.cases_lt, lemmas.Bool.ltb-false, lemmas.Bool.Decides.nat_tests}
+use Rattle.std.proofs.{lemmas.Bool.Decides.Decides-ltb, lemmas.Str.inside_one, lemmas.Str.encode_ascii}
 use Rattle.plir_attr_text.specs.Written.{escape, escape_char, escaped}
 
 -- a byte of a character that is no ASCII character stands for itself

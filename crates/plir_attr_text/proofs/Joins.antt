@@ -1,12 +1,10 @@
 -- Lists and dictionaries as they are printed.
 use Rattle.std.proofs.Common.{◌≡◌, ℕ, false, List, [], ◌∷◌, ◌++◌, refl, sym, ap, ◌∙◌, append_assoc}
 use Rattle.std.specs.Prelude.{codes}
-use Rattle.plir_data.specs.OwnParts.{Part}
 use Rattle.plir_data.specs.AttrView.{AttrView, items_of, entries_of}
-use Rattle.plir_data.specs.Types.{TypeView}
+use Rattle.plir_data.specs.{OwnParts.Part, Types.TypeView, TextParts.parted, TextParts.parted_from}
 use Rattle.plir_attr_text.specs.AttrText.{attr_text, entry_text, items_text, more_items_text, entries_text}
 use Rattle.plir_attr_text.specs.AttrText.{more_entries_text}
-use Rattle.plir_data.specs.TextParts.{parted, parted_from}
 
 module _ {A T : Type 0} (own_id : A → List ℕ) (own_body : A → List Part) (type_id : T → List ℕ)
     (type_body : T → List Part) (table : List (TypeView T)) where

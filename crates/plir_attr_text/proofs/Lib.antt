@@ -1,8 +1,11 @@
 pub mod TypeLevels
 pub mod TypesIn
 pub mod Gathering
+pub mod Behind
 pub mod Wholes
+pub mod Texts
 pub mod Escapes
+pub mod Held
 pub mod Joins
 pub mod Ascii
 pub mod Values

@@ -2,14 +2,10 @@
 use Rattle.std.proofs.Common.{◌≡◌, ℕ, Bool, true, false, true≢false, List, [], ◌∷◌, Some, None, cond, nat_eq, refl, sym}
 use Rattle.std.specs.Prelude.{◌&&◌, if◌then◌else◌, Result, Ok, Err}
 use Rattle.plir_data.specs.Identifier.{is_letter, is_digit}
-use Rattle.plir_attr_text.specs.declared.fault.Fault.{Fault}
-use Rattle.plir_attr_text.specs.declared.fault.Fault.TheVariants.{Unexpected}
 use Rattle.plir_attr_text.specs.Bytes.{past, word_front, word_past, begins, tail_of}
 use Rattle.plir_attr_text.specs.Tokens.{Token, word, digits, signed, arrow, sign, token_at, is_mark, number_of}
-use Rattle.plir_attr_text.specs.Lists.{behind_sign}
-use Rattle.plir_attr_text.specs.Levels.{if_level}
-use Rattle.plir_attr_text.specs.Steps.{◌>>=◌}
-use Rattle.plir_attr_text.specs.TypeReading.{as_word}
+use Rattle.plir_attr_text.specs.{declared.fault.Fault.Fault, declared.fault.Fault.TheVariants.Unexpected}
+use Rattle.plir_attr_text.specs.{Lists.behind_sign, Levels.if_level, Steps.◌>>=◌, TypeReading.as_word}
 
 -- a token that begins with another byte is not the sign
 pub other-sign : (b : ℕ) (xs : List ℕ) → begins (λ c. nat_eq c b) xs ≡ false → None ≡ behind_sign b (token_at xs)

@@ -1,27 +1,20 @@
 -- What a printed attribute is read as.
 use Rattle.std.proofs.Common.{◌≡◌, ◌≢◌, ℕ, List, Result, Ok, Err, refl, sym, subst}
 use Rattle.std.proofs.lemmas.Option.{slice_get_within}
-use Rattle.plir_data.specs.OwnParts.{Part}
 use Rattle.plir_data.specs.AttrLive.{IsAttrLive, AreItemsLive, AreEntriesLive}
-use Rattle.plir_data.specs.AttrSeen.{attr_view}
+use Rattle.plir_data.specs.{OwnParts.Part, AttrSeen.attr_view}
 use Rattle.plir_data.specs.AttrView as views
 use Rattle.plir_data.specs.AttrView.{Leaf, AttrView, leaf, dict, vec, Items, no_items, item, Entries, no_entries, entry}
 use Rattle.plir_data.specs.Laws.{IsDictOfItself}
 use Rattle.plir_data.specs.Types as types
-use Rattle.plir_data.specs.Types.{TypeView, IsTypeTable, type_at}
-use Rattle.plir_data.specs.declared.attributes.AttrObj.{AttrObj}
-use Rattle.plir_attr_text.specs.AttrReadBack.{IsReadable, IsReadBack}
-use Rattle.plir_attr_text.specs.AttrText.{attr_text}
-use Rattle.plir_attr_text.specs.Meaning.{StandsFor}
-use Rattle.plir_attr_text.specs.Names.{Grows}
+use Rattle.plir_data.specs.{Types.TypeView, Types.IsTypeTable, Types.type_at, declared.attributes.AttrObj.AttrObj}
 use Rattle.plir_attr_text.specs.Writable.{IsLeafWritable, IsWritable, AreItemsWritable, AreEntriesWritable}
-use Rattle.plir_attr_text.specs.declared.fault.ReadErr.{ReadErr}
-use Rattle.plir_attr_text.specs.declared.fault.Fault.{Fault}
+use Rattle.plir_attr_text.specs.{AttrReadBack.IsReadable, AttrReadBack.IsReadBack, declared.fault.ReadErr.ReadErr}
+use Rattle.plir_attr_text.specs.{AttrText.attr_text, Meaning.StandsFor, Names.Grows, declared.fault.Fault.Fault}
 use Rattle.plir_attr_text.specs.declared.fault.Fault.TheVariants as faults
 use Rattle.plir_attr_text.specs.laws.AttrsShown.{verified_type, text_stands}
-use Rattle.plir_attr_text.specs.laws.Growth.{at_grown, Grows-on}
-use Rattle.plir_attr_text.specs.laws.Meanings.{one_live, leaf_live}
-use Rattle.plir_attr_text.specs.laws.SameMeanings.{one_meaning}
+use Rattle.plir_attr_text.specs.{laws.Growth.at_grown, laws.Growth.Grows-on, laws.Meanings.one_live}
+use Rattle.plir_attr_text.specs.{laws.Meanings.leaf_live, laws.SameMeanings.one_meaning}
 
 -- what a table has grown from is a table
 pub table_before : {T : Type 0} (own_handles : T → List ℕ) (old new : List (TypeView T)) → Grows old new →

@@ -1,12 +1,10 @@
 -- How many levels types have as they are written.
 use Rattle.std.proofs.Common.{◌≡◌, ◌↔◌, ℕ, suc, max, ◌-◌, ◌≤◌, Bool, IsTrue, refl, arith}
-use Rattle.plir_data.specs.TypeSeen.{type_view}
 use Rattle.plir_data.specs.TypeTree.{TypeTree, integer_tree, function_tree, unit_tree, own_tree, tree_over}
 use Rattle.plir_data.specs.declared.types.FunctionType.{FunctionType}
-use Rattle.plir_data.specs.declared.types.TypeObj.{TypeObj}
 use Rattle.plir_data.specs.declared.types.TypeObj.TheVariants.{Integer, Function, Unit, Own}
-use Rattle.plir_attr_text.specs.Terms.{type_levels}
-use Rattle.plir_attr_text.specs.Writable.{type_term}
+use Rattle.plir_data.specs.{TypeSeen.type_view, declared.types.TypeObj.TypeObj}
+use Rattle.plir_attr_text.specs.{Terms.type_levels, Writable.type_term}
 
 -- the type itself is a level
 pub some_level : {T : Type 0} (t : TypeTree T) → type_levels (type_term t) ≤ 0 → ⊥

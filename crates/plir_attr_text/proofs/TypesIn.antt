@@ -1,13 +1,10 @@
 -- Where the parts of a text stand in which types are written.
 use Rattle.std.proofs.Common.{◌≡◌, ℕ, zero, suc, ◌-◌, ◌<◌, List, Ok, inl, inr, subst, arith}
-use Rattle.plir_attr_text.specs.declared.words.TypeKind.{TypeKind}
-use Rattle.plir_attr_text.specs.declared.attr_words.AttrKind.{AttrKind}
-use Rattle.plir_attr_text.specs.Terms.{TypeTerm}
-use Rattle.plir_attr_text.specs.Lists.{sign_at, items_at}
-use Rattle.plir_attr_text.specs.TypeReading.{arrow_at, type_head, type_at}
-use Rattle.plir_attr_text.specs.AttrReading.{name_at, attr_head}
 use Rattle.plir_attr_text.specs.TypesIn.{IsInTypeBody, IsInType, IsInFunction, IsInTypes, IsInEntry, IsInAttr}
 use Rattle.plir_attr_text.specs.TypesIn.{IsBehindId}
+use Rattle.plir_attr_text.specs.{declared.words.TypeKind.TypeKind, declared.attr_words.AttrKind.AttrKind}
+use Rattle.plir_attr_text.specs.{Terms.TypeTerm, Lists.sign_at, Lists.items_at, TypeReading.arrow_at}
+use Rattle.plir_attr_text.specs.{TypeReading.type_head, TypeReading.type_at, AttrReading.name_at, AttrReading.attr_head}
 
 -- behind the id of a type
 pub in_type : (n : ℕ) (bytes rest : List ℕ) (k : TypeKind) → 0 < n → type_head bytes ≡ Ok (k, rest) → (t : TypeTerm) →

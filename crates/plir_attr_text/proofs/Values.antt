@@ -1,12 +1,8 @@
 -- Values of integers.
 use Rattle.std.proofs.Common.{◌≡◌, ℕ, ◌<◌, ◌≤◌, ◌-◌, ◌%◌, ◌^◌, Bool, true, false, Ok, sym, ap, subst, ◌∙◌}
-use Rattle.std.proofs.Math.Nat.{mod-eq_of_lt, mod-lt}
-use Rattle.std.proofs.lemmas.Nat.{pow_pos}
-use Rattle.plir_attr_text.specs.AttrGrammar.{IsBits}
-use Rattle.plir_attr_text.specs.AttrReading.{bits_of, value_of}
-use Rattle.plir_attr_text.specs.laws.LeavesAgain.{value_of_again}
-use Rattle.plir_attr_text.specs.laws.LeavesFound.{bits_found}
-use Rattle.plir_attr_text.specs.laws.StepLaws.{done}
+use Rattle.std.proofs.{Math.Nat.mod-eq_of_lt, Math.Nat.mod-lt, lemmas.Nat.pow_pos}
+use Rattle.plir_attr_text.specs.{AttrGrammar.IsBits, AttrReading.bits_of, AttrReading.value_of}
+use Rattle.plir_attr_text.specs.{laws.LeavesAgain.value_of_again, laws.LeavesFound.bits_found, laws.StepLaws.done}
 
 pub bits-below : (s : Bool) (m w b : ℕ) → IsBits s m w b → b < 2 ^ w
 bits-below true m w b h = subst (λ (n : ℕ). n < 2 ^ w) (sym h.1) (mod-lt (2 ^ w - m) (pow_pos w))

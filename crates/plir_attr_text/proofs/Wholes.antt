@@ -1,24 +1,19 @@
 -- Readers of whole texts, and what they refuse.
 use Rattle.std.proofs.Common.{◌≡◌, ◌≢◌, ◌⊎◌, inl, ◌≤◌, ◌+◌, ℕ, suc, arith, true≢false, List, Result, Ok, Err, refl, sym}
-use Rattle.std.proofs.Common.{ap, ◌∙◌}
+use Rattle.std.proofs.Common.{ap, ◌∙◌, subst}
 use Rattle.plir_data.specs.declared.types.Signedness.{Signedness}
-use Rattle.plir_attr_text.specs.declared.fault.Fault.{Fault}
-use Rattle.plir_attr_text.specs.declared.fault.Fault.TheVariants.{Memory}
-use Rattle.plir_attr_text.specs.declared.fault.ReadErr.{ReadErr}
-use Rattle.plir_attr_text.specs.declared.fault.Stop.{Stop}
 use Rattle.plir_attr_text.specs.declared.fault.Stop.TheVariants.{OutOfMemory, Crowded, At}
-use Rattle.plir_attr_text.specs.Terms.{TypeTerm, TypeTerms}
 use Rattle.plir_attr_text.specs.TypeGrammar.{IsText, TypeWithin, IsInteger, FunctionWithin}
-use Rattle.plir_attr_text.specs.TypeReading.{integer_at, function_at, type_at}
-use Rattle.plir_attr_text.specs.Wholes.{end_at, whole}
-use Rattle.plir_attr_text.specs.Steps.{◌>>=◌}
-use Rattle.plir_attr_text.specs.Faults.{HasNoPlace, is_of_text}
-use Rattle.plir_attr_text.specs.Reading.{Fails, fault_of}
-use Rattle.plir_attr_text.specs.laws.StepLaws.{done, Fails-bind, Fails-from}
-use Rattle.plir_attr_text.specs.laws.ListsFound.{IsSound, whole_found}
-use Rattle.plir_attr_text.specs.laws.ListsAgain.{refused, only_one}
 use Rattle.plir_attr_text.specs.laws.TypesFound.{integer_found, function_found, type_found}
 use Rattle.plir_attr_text.specs.laws.TypesAgain.{integer_again, type_within_again, function_within_again}
+use Rattle.plir_attr_text.specs.laws.StepLaws.{Fails-bind, Fails-from}
+use Rattle.plir_attr_text.specs.{declared.fault.Fault.Fault, declared.fault.Fault.TheVariants.Memory}
+use Rattle.plir_attr_text.specs.{declared.fault.ReadErr.ReadErr, declared.fault.Stop.Stop, Terms.TypeTerm}
+use Rattle.plir_attr_text.specs.{Terms.TypeTerms, TypeReading.integer_at, TypeReading.function_at, TypeReading.type_at}
+use Rattle.plir_attr_text.specs.{Wholes.end_at, Wholes.whole, Steps.◌>>=◌, Faults.HasNoPlace, Faults.is_of_text}
+use Rattle.plir_attr_text.specs.{Reading.Fails, Reading.Reads, Reading.fault_of, laws.StepLaws.done}
+use Rattle.plir_attr_text.specs.{laws.ListsFound.IsSound, laws.ListsFound.whole_found, laws.ListsAgain.refused}
+use Rattle.plir_attr_text.specs.{laws.ListsAgain.only_one}
 
 -- a fault that is told is the one that was met
 pub told : {X : Type 0} (stop : Stop) (f : Fault) (read : Result X Fault) → f ≡ fault_of stop → Fails stop read →
@@ -69,17 +64,17 @@ module _ {A : Type 0} (read : List ℕ → Result (A × List ℕ) Fault) (bytes 
   unfolding whole
   whole_fails e h = Fails-bind e (read bytes) (λ x. end_at x.1 >>= λ u. Ok x.0) h
 
-  pub whole_fails_behind : (e : Stop) (x : A) (rest : List ℕ) → read bytes ≡ Ok (x, rest) → Fails e (end_at rest) →
-      Fails e (whole read bytes)
+  -- what was read, where the text ends behind it
+  pub whole_reads : {X : Type 0} (means : X → A → Type 0) (x : X) (rest : List ℕ) (y : A × List ℕ) → read bytes ≡ Ok y →
+      means x y.0 → rest ≡ y.1 → (r : Result X Stop) → Reads (λ z (u : Unit {0}). z ≡ x) r (end_at rest) →
+      Reads means r (whole read bytes)
   unfolding whole
-  whole_fails_behind e x rest p h =
-      let q : (end_at rest >>= λ u. done x) ≡ whole read bytes = rw p refl in
-      Fails-from e _ _ q (Fails-bind e (end_at rest) (λ u. done x) h)
-
-  pub whole_read : (x : A) (rest : List ℕ) (u : Unit {0}) → read bytes ≡ Ok (x, rest) → end_at rest ≡ Ok u →
-      whole read bytes ≡ Ok x
-  unfolding whole
-  whole_read x rest u p q = rw (p, q) refl
+  whole_reads means x rest y e m here (Ok z) h =
+      let ends : end_at y.1 ≡ Ok h.0 = subst (λ l. end_at l ≡ Ok h.0) here h.1 in
+      (y.0, rw (e, ends) refl, subst (λ w. means w y.0) (sym h.2) m)
+  whole_reads means x rest y e m here (Err stop) h =
+      let q : (end_at rest >>= λ u. done y.0) ≡ whole read bytes = rw (e, here) refl in
+      Fails-from stop _ _ q (Fails-bind stop (end_at rest) (λ u. done y.0) h)
 
 wider : (m n : ℕ) (bytes : List ℕ) (t : TypeTerm) → m ≤ n → IsText (TypeWithin m) bytes t →
     IsText (TypeWithin n) bytes t

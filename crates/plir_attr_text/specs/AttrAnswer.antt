@@ -1,18 +1,10 @@
 -- What the reader of attributes answers.
 use Rattle.std.specs.Prelude.{◌≢◌, ℕ, List, Result, IfOk, IfErr}
-use Rattle.plir_data.specs.AttrLive.{IsAttrLive}
-use Rattle.plir_data.specs.AttrSeen.{attr_view}
-use Rattle.plir_data.specs.Types.{TypeView}
 use Rattle.plir_data.specs.declared.attributes.AttrObj.{AttrObj}
-use Rattle.plir_attr_text.specs.AttrGrammar.{AttrWithin}
-use Rattle.plir_attr_text.specs.Meaning.{StandsFor}
-use Rattle.plir_attr_text.specs.Names.{Grows, AreNamed}
-use Rattle.plir_attr_text.specs.Parts.{IsHeldBy}
-use Rattle.plir_attr_text.specs.Terms.{AttrTerm}
-use Rattle.plir_attr_text.specs.TypeGrammar.{IsText}
-use Rattle.plir_attr_text.specs.TypesWritten.{IsWrittenIn}
-use Rattle.plir_attr_text.specs.declared.fault.Fault.TheVariants.{Memory}
-use Rattle.plir_attr_text.specs.declared.fault.ReadErr.{ReadErr}
+use Rattle.plir_data.specs.{AttrLive.IsAttrLive, AttrSeen.attr_view, Types.TypeView}
+use Rattle.plir_attr_text.specs.{AttrGrammar.AttrWithin, Meaning.StandsFor, Names.Grows, Names.AreNamed, Parts.IsHeldBy}
+use Rattle.plir_attr_text.specs.{Terms.AttrTerm, TypeGrammar.IsText, TypesWritten.IsWrittenIn}
+use Rattle.plir_attr_text.specs.{declared.fault.Fault.TheVariants.Memory, declared.fault.ReadErr.ReadErr}
 
 module _ {D K A T E : Type 0} where
   -- The answer to a text, read with the type table `old`, which leaves the table `new`: an attribute that the text

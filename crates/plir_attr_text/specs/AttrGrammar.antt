@@ -1,8 +1,7 @@
 -- Which tokens stand for an attribute.
 use Rattle.std.specs.Prelude.{◌≡◌, ℕ, ◌-◌, ◌^◌, ◌%◌, ◌<◌, ◌≤◌, List, [], ◌∷◌, ◌++◌, Bool, true, false, Option, Some}
 use Rattle.std.specs.Prelude.{None, codes, IsUtf8}
-use Rattle.plir_data.specs.declared.types.Signedness.{Signedness}
-use Rattle.plir_data.specs.Identifier.{is_identifier}
+use Rattle.plir_data.specs.{declared.types.Signedness.Signedness, Identifier.is_identifier}
 use Rattle.plir_attr_text.specs.Terms as terms
 use Rattle.plir_attr_text.specs.Terms.{AttrTerm, AttrTerms, no_attrs, attr_before, EntryTerms, no_entries, entry_before}
 use Rattle.plir_attr_text.specs.Terms.{levels}

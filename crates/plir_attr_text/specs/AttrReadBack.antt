@@ -1,17 +1,10 @@
 -- That the reader of attributes reads back what was printed.
 use Rattle.std.specs.Prelude.{◌≡◌, ◌≤◌, ℕ, List, Result, MatchResult}
-use Rattle.plir_data.specs.OwnParts.{Part}
-use Rattle.plir_data.specs.AttrSeen.{attr_view}
-use Rattle.plir_data.specs.AttrView.{AttrView}
-use Rattle.plir_data.specs.Types.{TypeView, IsTypeTable}
 use Rattle.plir_data.specs.declared.attributes.AttrObj.{AttrObj}
-use Rattle.plir_attr_text.specs.AttrAnswer.{IsAttrRead}
-use Rattle.plir_attr_text.specs.AttrText.{attr_text}
-use Rattle.plir_attr_text.specs.Names.{Grows}
-use Rattle.plir_attr_text.specs.Terms.{levels}
-use Rattle.plir_attr_text.specs.Writable.{IsWritable, attr_term}
+use Rattle.plir_data.specs.{OwnParts.Part, AttrSeen.attr_view, AttrView.AttrView, Types.TypeView, Types.IsTypeTable}
 use Rattle.plir_attr_text.specs.declared.fault.Fault.TheVariants.{Memory}
-use Rattle.plir_attr_text.specs.declared.fault.ReadErr.{ReadErr}
+use Rattle.plir_attr_text.specs.{AttrAnswer.IsAttrRead, AttrText.attr_text, Names.Grows, Terms.levels}
+use Rattle.plir_attr_text.specs.{Writable.IsWritable, Writable.attr_term, declared.fault.ReadErr.ReadErr}
 
 module _ {D K A T E : Type 0} where
   -- the answer is an attribute that is equal to this one, or memory was wanting

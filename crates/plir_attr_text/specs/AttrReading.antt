@@ -2,21 +2,15 @@
 use Rattle.std.specs.Prelude.{ℕ, zero, suc, ◌-◌, ◌%◌, ◌^◌, List, Bool, true, false, Option, Some, None, Result, Ok, Err}
 use Rattle.std.specs.Prelude.{codes, nat_lt, nat_le, if◌then◌else◌}
 use Rattle.std.specs.Str.{bytes_eq, is_utf8}
-use Rattle.plir_data.specs.Identifier.{is_identifier}
-use Rattle.plir_data.specs.declared.types.Signedness.{Signedness}
-use Rattle.plir_data.specs.Integers.{is_width}
-use Rattle.plir_attr_text.specs.Steps.{◌>>=◌, read_as}
-use Rattle.plir_attr_text.specs.Strings.{string_at}
+use Rattle.plir_data.specs.{Identifier.is_identifier, declared.types.Signedness.Signedness, Integers.is_width}
+use Rattle.plir_attr_text.specs.{Steps.◌>>=◌, Steps.read_as, Strings.string_at}
 use Rattle.plir_attr_text.specs.Terms as terms
-use Rattle.plir_attr_text.specs.Terms.{AttrTerm, attrs_of, entries_of}
 use Rattle.plir_attr_text.specs.Tokens.{Token, word, digits, signed, quoted, arrow, sign, look}
-use Rattle.plir_attr_text.specs.Lists.{sign_at, past_sign, items_at}
-use Rattle.plir_attr_text.specs.TypeReading.{word_at, integer_at, type_at}
-use Rattle.plir_attr_text.specs.Levels.{level_at}
-use Rattle.plir_attr_text.specs.declared.fault.Fault.{Fault}
 use Rattle.plir_attr_text.specs.declared.fault.Fault.TheVariants.{Unexpected, TooDeep, IntegerOutOfRange}
 use Rattle.plir_attr_text.specs.declared.fault.Fault.TheVariants.{IntegerWidthUnsupported}
-use Rattle.plir_attr_text.specs.declared.attr_words.AttrKind.{AttrKind}
+use Rattle.plir_attr_text.specs.{Terms.AttrTerm, Terms.attrs_of, Terms.entries_of, Lists.sign_at, Lists.past_sign}
+use Rattle.plir_attr_text.specs.{Lists.items_at, TypeReading.word_at, TypeReading.integer_at, TypeReading.type_at}
+use Rattle.plir_attr_text.specs.{Levels.level_at, declared.fault.Fault.Fault, declared.attr_words.AttrKind.AttrKind}
 use Rattle.plir_attr_text.specs.declared.attr_words.AttrKind.TheVariants as kinds
 
 -- the kind of attribute that an id names

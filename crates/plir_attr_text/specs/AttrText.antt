@@ -1,17 +1,14 @@
 -- The text of an attribute.
 use Rattle.std.specs.Prelude.{ℕ, List, [], ◌++◌, Bool, false, codes, Option, Some}
 use Rattle.std.specs.Fmt.{decimal}
-use Rattle.plir_data.specs.OwnParts.{Part, behind_id}
 use Rattle.plir_data.specs.AttrView.{Leaf, identifier, string, bool, integer, unit, type_of, operand_segment_sizes}
 use Rattle.plir_data.specs.AttrView.{given_names, own, AttrView, leaf, dict, vec, Items, no_items, item, Entries}
 use Rattle.plir_data.specs.AttrView.{no_entries, entry}
-use Rattle.plir_data.specs.Integers.{literal}
+use Rattle.plir_data.specs.{OwnParts.Part, OwnParts.behind_id, Integers.literal}
 use Rattle.plir_data.specs.Types as types
-use Rattle.plir_data.specs.Types.{TypeView, type_at, prints_as_signed}
-use Rattle.plir_data.specs.TypeText.{integer_text, type_text}
-use Rattle.plir_attr_text.specs.AttrGrammar.{truth}
-use Rattle.plir_attr_text.specs.Written.{quotation, name_or_mark}
-use Rattle.plir_data.specs.TextParts.{parted}
+use Rattle.plir_data.specs.{Types.TypeView, Types.type_at, Types.prints_as_signed, TypeText.integer_text}
+use Rattle.plir_data.specs.{TypeText.type_text, TextParts.parted}
+use Rattle.plir_attr_text.specs.{AttrGrammar.truth, Written.quotation, Written.name_or_mark}
 
 module _ {T : Type 0} where
   -- whether values of a type are written with a sign

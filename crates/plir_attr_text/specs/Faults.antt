@@ -1,8 +1,7 @@
 -- Which faults are of a text.
 use Rattle.std.specs.Prelude.{◌≡◌, ◌≢◌, Bool, true, false}
-use Rattle.plir_attr_text.specs.declared.fault.Fault.{Fault}
 use Rattle.plir_attr_text.specs.declared.fault.Fault.TheVariants.{Memory, TooManyNodes}
-use Rattle.plir_attr_text.specs.declared.fault.ReadErr.{ReadErr}
+use Rattle.plir_attr_text.specs.{declared.fault.Fault.Fault, declared.fault.ReadErr.ReadErr}
 
 -- whether something is wrong with the text: it isn't where memory or room for a node is wanting
 abbrev pub is_of_text : Fault → Bool

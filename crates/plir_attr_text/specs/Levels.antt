@@ -1,9 +1,7 @@
 -- Where a level begins.
 use Rattle.std.specs.Prelude.{ℕ, List, Result, Ok, Err, nat_le, if◌then◌else◌}
-use Rattle.plir_attr_text.specs.Steps.{◌>>=◌}
-use Rattle.plir_attr_text.specs.TypeReading.{word_at}
-use Rattle.plir_attr_text.specs.declared.fault.Fault.{Fault}
 use Rattle.plir_attr_text.specs.declared.fault.Fault.TheVariants.{TooDeep}
+use Rattle.plir_attr_text.specs.{Steps.◌>>=◌, TypeReading.word_at, declared.fault.Fault.Fault}
 
 -- one level more is left
 unfoldable pub if_level : ℕ → Result (Unit {0}) Fault

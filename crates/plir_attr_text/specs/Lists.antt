@@ -1,10 +1,8 @@
 -- Things one behind another, and lists in brackets with commas between their items, as they are read.
 use Rattle.std.specs.Prelude.{ℕ, zero, suc, List, [], ◌∷◌, length, Bool, true, false, Option, Some, None, Result, Ok}
 use Rattle.std.specs.Prelude.{Err, nat_eq, if◌then◌else◌}
-use Rattle.plir_attr_text.specs.Steps.{◌>>=◌}
 use Rattle.plir_attr_text.specs.Tokens.{Token, word, digits, signed, quoted, arrow, sign, look}
-use Rattle.plir_attr_text.specs.declared.fault.Fault.{Fault}
-use Rattle.plir_attr_text.specs.declared.fault.Fault.TheVariants.{Unexpected}
+use Rattle.plir_attr_text.specs.{Steps.◌>>=◌, declared.fault.Fault.Fault, declared.fault.Fault.TheVariants.Unexpected}
 
 abbrev pub is_sign : ℕ → Token → Bool
 is_sign b (sign c) = nat_eq c b

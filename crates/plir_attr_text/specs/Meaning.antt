@@ -7,9 +7,7 @@ use Rattle.plir_data.specs.AttrView.{AttrView, leaf, dict, vec, items_of, entrie
 use Rattle.plir_data.specs.Dictionary.{dict_of}
 use Rattle.plir_attr_text.specs.Terms as terms
 use Rattle.plir_attr_text.specs.Terms.{AttrTerm, AttrTerms, no_attrs, attr_before, EntryTerms, no_entries, entry_before}
-use Rattle.plir_attr_text.specs.Names.{Names}
-use Rattle.plir_attr_text.specs.TypeGrammar.{IsText}
-use Rattle.plir_attr_text.specs.AttrGrammar.{AttrWithin}
+use Rattle.plir_attr_text.specs.{Names.Names, TypeGrammar.IsText, AttrGrammar.AttrWithin}
 
 module _ {A T : Type 0} where
   abbrev mutual

@@ -1,10 +1,7 @@
 -- That what a reader holds is meant by what is written.
 use Rattle.std.specs.Prelude.{◌≡◌, ℕ, map, List}
-use Rattle.plir_data.specs.AttrSeen.{attr_view}
-use Rattle.plir_data.specs.Types.{TypeView}
-use Rattle.plir_data.specs.declared.attributes.AttrObj.{AttrObj}
-use Rattle.plir_attr_text.specs.Meaning.{IsMeant, AreMeant}
-use Rattle.plir_attr_text.specs.Terms.{AttrTerm, attrs_of}
+use Rattle.plir_data.specs.{AttrSeen.attr_view, Types.TypeView, declared.attributes.AttrObj.AttrObj}
+use Rattle.plir_attr_text.specs.{Meaning.IsMeant, Meaning.AreMeant, Terms.AttrTerm, Terms.attrs_of}
 
 module _ {D K A T E : Type 0} (types : List (TypeView T)) where
   -- an attribute, and attributes in order

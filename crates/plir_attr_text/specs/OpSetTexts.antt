@@ -1,7 +1,6 @@
 -- The texts of attributes, by the answers of an op set as `D.OpSet` gives them.
 use Rattle.std.specs.Prelude.{ℕ, List}
-use Rattle.plir_data.specs.AttrView.{AttrView, Items, Entries, Leaf}
-use Rattle.plir_data.specs.Types.{TypeView}
+use Rattle.plir_data.specs.{AttrView.AttrView, AttrView.Items, AttrView.Entries, AttrView.Leaf, Types.TypeView}
 use Rattle.plir_data.specs.declared.op_set.OpSet as op_set
 use Rattle.plir_attr_text.specs.AttrText.{attr_text, leaf_text, items_text, entries_text, entry_text}
 

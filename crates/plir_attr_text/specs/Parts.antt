@@ -2,8 +2,8 @@
 use Rattle.std.specs.Prelude.{◌≡◌, ◌⊎◌}
 use Rattle.plir_attr_text.specs.Terms as terms
 use Rattle.plir_attr_text.specs.Terms.{TypeTerm, integer_type, function_type, unit_type, TypeTerms, no_types}
-use Rattle.plir_attr_text.specs.Terms.{type_before}
-use Rattle.plir_attr_text.specs.Terms.{AttrTerm, AttrTerms, no_attrs, attr_before, EntryTerms, no_entries, entry_before}
+use Rattle.plir_attr_text.specs.Terms.{type_before, AttrTerm, AttrTerms, no_attrs, attr_before, EntryTerms, no_entries}
+use Rattle.plir_attr_text.specs.Terms.{entry_before}
 
 abbrev mutual
   -- the first type is the second, or one that it is made of

@@ -1,7 +1,6 @@
 -- A token as the reader sees it.
 use Rattle.plir_attr_text.specs.Tokens.{Token, word, digits, signed, arrow, sign}
-use Rattle.plir_attr_text.specs.Bytes.{value_after}
-use Rattle.plir_attr_text.specs.declared.tokens.Piece.{Piece}
+use Rattle.plir_attr_text.specs.{Bytes.value_after, declared.tokens.Piece.Piece}
 use Rattle.plir_attr_text.specs.declared.tokens.Piece.TheVariants as pieces
 
 abbrev pub token_of : Piece → Token

@@ -1,11 +1,10 @@
 -- Reading from left to right, with the first fault that is met.
 use Rattle.std.specs.Borrow.{Bor}
-use Rattle.std.specs.Prelude.{◌≡◌, ℕ, true, List, Result, Ok, Err}
-use Rattle.plir_attr_text.specs.Faults.{is_of_text}
-use Rattle.plir_attr_text.specs.declared.fault.Fault.{Fault}
+use Rattle.std.specs.Prelude.{◌≡◌, ◌⊎◌, ℕ, true, List, Result, Ok, Err}
 use Rattle.plir_attr_text.specs.declared.fault.Fault.TheVariants.{Memory, TooManyNodes}
-use Rattle.plir_attr_text.specs.declared.fault.Stop.{Stop}
 use Rattle.plir_attr_text.specs.declared.fault.Stop.TheVariants.{OutOfMemory, Crowded, At}
+use Rattle.plir_attr_text.specs.declared.fault.ReadErr.{ReadErr}
+use Rattle.plir_attr_text.specs.{Faults.is_of_text, declared.fault.Fault.Fault, declared.fault.Stop.Stop}
 
 -- Reading met this fault of the text, unless memory was wanting. That there is room for no more nodes is an end only
 -- where `crowded` holds.
@@ -38,3 +37,11 @@ abbrev pub fault_of : Stop → Fault
 fault_of OutOfMemory = Memory
 fault_of Crowded = TooManyNodes
 fault_of (At fault left) = fault
+
+-- What is answered to a whole text: what was read, or the fault of the stop, with no place where nothing is wrong with
+-- the text.
+abbrev pub IsAnswerOf : {X : Type 0} → Result X Stop → Result X ReadErr → Type 0
+IsAnswerOf (Ok x) (Ok y) = y ≡ x
+IsAnswerOf (Err stop) (Err e) = (e.fault ≡ fault_of stop) × ((stop ≡ OutOfMemory) ⊎ (stop ≡ Crowded) → (e.line ≡ 0) ×
+    (e.column ≡ 0))
+IsAnswerOf _ _ = ⊥

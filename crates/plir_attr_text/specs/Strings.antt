@@ -1,11 +1,10 @@
 -- Strings: what stands between two `"`, with escapes.
-use Rattle.std.specs.Prelude.{ℕ, zero, suc, List, [], ◌∷◌, ◌++◌, length, Bool, ◌&&◌, nat_eq, nat_le, nat_lt, ◌||◌}
-use Rattle.std.specs.Prelude.{◌≡◌, Option, Some, None, Result, Ok, Err, if◌then◌else◌, encode_utf8}
+use Rattle.std.specs.Prelude.{ℕ, zero, suc, List, [], ◌∷◌, ◌++◌, length, Bool, ◌&&◌, nat_eq, nat_le, nat_lt, ◌||◌, ◌≡◌}
+use Rattle.std.specs.Prelude.{Option, Some, None, Result, Ok, Err, if◌then◌else◌, encode_utf8}
 use Rattle.std.specs.List.{concat}
 use Rattle.plir_attr_text.specs.Bytes.{is_hex, front, past, hex_after}
-use Rattle.plir_attr_text.specs.Steps.{◌>>=◌}
-use Rattle.plir_attr_text.specs.declared.fault.Fault.{Fault}
 use Rattle.plir_attr_text.specs.declared.fault.Fault.TheVariants.{Unexpected, BadEscape}
+use Rattle.plir_attr_text.specs.{Steps.◌>>=◌, declared.fault.Fault.Fault}
 
 -- the number of a character
 abbrev pub is_scalar : ℕ → Bool

@@ -1,13 +1,8 @@
 -- Laws of texts of attributes.
 use Rattle.std.specs.Prelude.{◌≡◌, ◌≤◌, ℕ, List}
-use Rattle.plir_data.specs.AttrView.{AttrView}
-use Rattle.plir_data.specs.OwnParts.{Part}
-use Rattle.plir_data.specs.Types.{TypeView, IsTypeTable}
-use Rattle.plir_attr_text.specs.AttrText.{attr_text}
-use Rattle.plir_attr_text.specs.Meaning.{StandsFor}
-use Rattle.plir_attr_text.specs.Names.{Grows}
-use Rattle.plir_attr_text.specs.Terms.{levels}
+use Rattle.plir_data.specs.{AttrView.AttrView, OwnParts.Part, Types.TypeView, Types.IsTypeTable}
 use Rattle.plir_attr_text.specs.Writable.{IsWritable, attr_term}
+use Rattle.plir_attr_text.specs.{AttrText.attr_text, Meaning.StandsFor, Names.Grows, Terms.levels}
 
 -- a text stands for one attribute at most
 abbrev pub IsOfOneAttr : (A : Type 0) {T : Type 0} → (T → List ℕ) → Type 0

@@ -2,9 +2,8 @@
 use Rattle.std.specs.Prelude.{◌≡◌, ℕ, List, [], ◌∷◌, Bool, ◌||◌, ◌&&◌, nat_eq, Result, Ok, Err, if◌then◌else◌}
 use Rattle.plir_data.specs.Identifier.{is_letter, is_digit}
 use Rattle.plir_attr_text.specs.Bytes.{is_blank, front, past, word_front, word_past, begins, tail_of, value_after}
-use Rattle.plir_attr_text.specs.Strings.{IsQuoted}
-use Rattle.plir_attr_text.specs.declared.fault.Fault.{Fault}
 use Rattle.plir_attr_text.specs.declared.fault.Fault.TheVariants.{Unexpected}
+use Rattle.plir_attr_text.specs.{Strings.IsQuoted, declared.fault.Fault.Fault}
 
 pub data Token : Type 0 where
   -- an identifier, an id, or the letters and digits of an integer type

@@ -1,11 +1,9 @@
 -- Which tokens stand for a type.
 use Rattle.std.specs.Prelude.{◌≡◌, ℕ, ◌^◌, ◌<◌, ◌≤◌, List, [], ◌∷◌, ◌++◌, true, codes}
-use Rattle.plir_data.specs.declared.types.Signedness.{Signedness}
-use Rattle.plir_data.specs.TypeText.{letters}
+use Rattle.plir_data.specs.{declared.types.Signedness.Signedness, TypeText.letters}
 use Rattle.plir_attr_text.specs.Bytes.{is_digits, value_after}
 use Rattle.plir_attr_text.specs.Terms.{TypeTerm, integer_type, function_type, unit_type, TypeTerms, no_types}
-use Rattle.plir_attr_text.specs.Terms.{type_before}
-use Rattle.plir_attr_text.specs.Terms.{type_levels}
+use Rattle.plir_attr_text.specs.Terms.{type_before, type_levels}
 use Rattle.plir_attr_text.specs.Tokens.{Token, word, arrow, sign, IsTokens}
 
 -- `si`, `ui` or `i` and the digits of a width, which stand in one word

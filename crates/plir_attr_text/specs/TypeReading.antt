@@ -1,18 +1,15 @@
 -- Types as they are read.
 use Rattle.std.specs.Prelude.{ℕ, zero, suc, ◌^◌, List, [], ◌∷◌, Result, Ok, Err, codes, nat_eq, nat_lt, if◌then◌else◌}
 use Rattle.std.specs.Str.{bytes_eq}
-use Rattle.plir_data.specs.Identifier.{is_digit}
-use Rattle.plir_data.specs.declared.types.Signedness.{Signedness}
 use Rattle.plir_data.specs.declared.types.Signedness.TheVariants.{Signed, Unsigned, Signless}
+use Rattle.plir_data.specs.{Identifier.is_digit, declared.types.Signedness.Signedness}
 use Rattle.plir_attr_text.specs.Bytes.{front, begins, all_pass, value_after}
-use Rattle.plir_attr_text.specs.Steps.{◌>>=◌}
 use Rattle.plir_attr_text.specs.Terms.{TypeTerm, integer_type, function_type, unit_type, TypeTerms, types_of}
 use Rattle.plir_attr_text.specs.Tokens.{Token, word, digits, signed, quoted, arrow, sign, look}
-use Rattle.plir_attr_text.specs.Lists.{sign_at, items_at}
-use Rattle.plir_attr_text.specs.declared.fault.Fault.{Fault}
 use Rattle.plir_attr_text.specs.declared.fault.Fault.TheVariants.{Unexpected, TooDeep, IntegerOutOfRange}
 use Rattle.plir_attr_text.specs.declared.words.TypeKind.{TypeKind}
 use Rattle.plir_attr_text.specs.declared.words.TypeKind.TheVariants.{Integer, Function, Unit}
+use Rattle.plir_attr_text.specs.{Steps.◌>>=◌, Lists.sign_at, Lists.items_at, declared.fault.Fault.Fault}
 
 abbrev pub as_word : Token → List ℕ → Result (List ℕ × List ℕ) Fault
 as_word (word w) rest = Ok (w, rest)

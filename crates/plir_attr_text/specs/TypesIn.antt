@@ -6,10 +6,9 @@ use Rattle.plir_attr_text.specs.Terms.{TypeTerm, integer_type, function_type, un
 use Rattle.plir_attr_text.specs.Lists.{sign_at, past_sign, separator_at, items_at}
 use Rattle.plir_attr_text.specs.TypeReading.{arrow_at, integer_at, function_at, type_head, type_at}
 use Rattle.plir_attr_text.specs.AttrReading.{name_at, value_at, entry_at, attr_head, attr_at}
-use Rattle.plir_attr_text.specs.declared.fault.Fault.{Fault}
-use Rattle.plir_attr_text.specs.declared.words.TypeKind.{TypeKind}
 use Rattle.plir_attr_text.specs.declared.words.TypeKind.TheVariants.{Integer, Function, Unit}
 use Rattle.plir_attr_text.specs.declared.attr_words.AttrKind.{AttrKind}
+use Rattle.plir_attr_text.specs.{declared.fault.Fault.Fault, declared.words.TypeKind.TypeKind}
 use Rattle.plir_attr_text.specs.declared.attr_words.AttrKind.TheVariants as kinds
 
 module _ {A : Type 0} (open_ close : ℕ) (read : List ℕ → Result (A × List ℕ) Fault) where

@@ -1,9 +1,7 @@
 -- Readers over whole texts.
 use Rattle.std.specs.Prelude.{ℕ, List, [], ◌∷◌, Result, Ok, Err}
-use Rattle.plir_attr_text.specs.Bytes.{is_blank, past}
-use Rattle.plir_attr_text.specs.Steps.{◌>>=◌}
-use Rattle.plir_attr_text.specs.declared.fault.Fault.{Fault}
 use Rattle.plir_attr_text.specs.declared.fault.Fault.TheVariants.{Unexpected}
+use Rattle.plir_attr_text.specs.{Bytes.is_blank, Bytes.past, Steps.◌>>=◌, declared.fault.Fault.Fault}
 
 abbrev pub if_none_left : List ℕ → Result (Unit {0}) Fault
 if_none_left [] = Ok tt

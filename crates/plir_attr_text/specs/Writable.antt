@@ -1,23 +1,19 @@
 -- Attributes that texts can stand for, and how they are written.
 use Rattle.std.specs.Prelude.{◌≡◌, ℕ, ◌^◌, ◌<◌, ◌≤◌, map, List, [], ◌∷◌, All, true, Option, Some, None}
 use Rattle.std.specs.Str.{IsUtf8}
-use Rattle.plir_data.specs.AttrVerify.{is_of_width}
 use Rattle.plir_data.specs.AttrView.{Leaf, identifier, string, bool, integer, unit, type_of, operand_segment_sizes}
 use Rattle.plir_data.specs.AttrView.{given_names, own, AttrView, leaf, dict, vec, Items, no_items, item, Entries}
 use Rattle.plir_data.specs.AttrView.{no_entries, entry}
-use Rattle.plir_data.specs.Dictionary.{IsDictionary}
-use Rattle.plir_data.specs.Identifier.{is_identifier}
+use Rattle.plir_data.specs.{AttrVerify.is_of_width, Dictionary.IsDictionary, Identifier.is_identifier}
 use Rattle.plir_data.specs.Types as types
-use Rattle.plir_data.specs.Types.{TypeView, IsLive, type_at}
 use Rattle.plir_data.specs.TypeTree.{TypeTree, integer_tree, function_tree, unit_tree, own_tree, Trees, no_trees, tree}
 use Rattle.plir_data.specs.TypeTree.{trees_of, tree_of}
-use Rattle.plir_data.specs.declared.types.Signedness.{Signedness}
 use Rattle.plir_data.specs.declared.types.Signedness.TheVariants.{Signless}
+use Rattle.plir_data.specs.{Types.TypeView, Types.IsLive, Types.type_at, declared.types.Signedness.Signedness}
 use Rattle.plir_attr_text.specs.Terms as terms
 use Rattle.plir_attr_text.specs.Terms.{TypeTerm, integer_type, function_type, unit_type, TypeTerms, no_types}
-use Rattle.plir_attr_text.specs.Terms.{type_before}
-use Rattle.plir_attr_text.specs.Terms.{types_levels, AttrTerm, AttrTerms, no_attrs, attr_before, EntryTerms}
-use Rattle.plir_attr_text.specs.Terms.{entry_before}
+use Rattle.plir_attr_text.specs.Terms.{type_before, types_levels, AttrTerm, AttrTerms, no_attrs, attr_before}
+use Rattle.plir_attr_text.specs.Terms.{EntryTerms, entry_before}
 
 module _ {T : Type 0} where
   -- a type that is made of builtin types alone, with widths below two to the 32

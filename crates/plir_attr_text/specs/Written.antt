@@ -1,6 +1,6 @@
 -- Strings and lists as they are printed.
-use Rattle.std.specs.Prelude.{ℕ, ◌+◌, ◌/◌, ◌%◌, List, [], ◌∷◌, ◌++◌, Bool, ◌||◌, nat_eq, nat_lt}
-use Rattle.std.specs.Prelude.{if◌then◌else◌, codes, Option, Some, None, encode_utf8}
+use Rattle.std.specs.Prelude.{ℕ, ◌+◌, ◌/◌, ◌%◌, List, [], ◌∷◌, ◌++◌, Bool, ◌||◌, nat_eq, nat_lt, if◌then◌else◌, codes}
+use Rattle.std.specs.Prelude.{Option, Some, None, encode_utf8}
 
 -- a hexadecimal digit, in lower case
 abbrev pub hex_digit : ℕ → ℕ

@@ -2,13 +2,10 @@
 
 ghost use Rattle.std.specs.Prelude.{◌≡◌, ◌≤◌, ◌^◌, ◌⊎◌, IfOk, IfErr, true, false, string_bytes};
 ghost use Rattle.plir_attr_text.specs.declared.fault.Stop.TheVariants.{OutOfMemory, At};
-ghost use Rattle.plir_data.specs.Identifier.{is_identifier};
-ghost use Rattle.plir_attr_text.specs.Bytes.{value_after};
-ghost use Rattle.plir_attr_text.specs.Reading.{Gives};
-ghost use Rattle.plir_attr_text.specs.Lists.{items_at};
 ghost use Rattle.plir_attr_text.specs.AttrReading.{attr_kind, attr_head, name_at, bool_at, text_at, size_at};
-ghost use Rattle.plir_attr_text.specs.AttrReading.{given_name_at};
-ghost use Rattle.plir_attr_text.specs.AttrReading.{literal_at, bits_of, value_of, value_at};
+ghost use Rattle.plir_attr_text.specs.AttrReading.{given_name_at, literal_at, bits_of, value_of, value_at};
+ghost use Rattle.plir_attr_text.specs.{Bytes.value_after, Reading.Gives, Lists.items_at};
+ghost use Rattle.plir_data.specs.Identifier.{is_identifier};
 
 use crate::fault::{Fault, Stop};
 use crate::strings::{read_quoted, text_of};

@@ -2,17 +2,12 @@
 
 ghost use Rattle.plir_data.specs.AttrSeen.{attr_view};
 ghost use Rattle.plir_data.specs.AttrView.{leaf, identifier, string, bool, operand_segment_sizes, given_names};
-ghost use Rattle.plir_attr_text.specs.Terms.{entries_of};
-ghost use Rattle.plir_attr_text.specs.Names.{Adds};
-ghost use Rattle.plir_attr_text.specs.Meaning.{IsDictMeant};
 ghost use Rattle.plir_attr_text.specs.MeantBy.{IsMeantBy, AreMeantBy, IsEntryMeantBy};
-ghost use Rattle.plir_attr_text.specs.Reading.{Gives, ReadsFirst};
-ghost use Rattle.plir_attr_text.specs.Steps.{read_as};
-ghost use Rattle.plir_attr_text.specs.Lists.{items_at};
 ghost use Rattle.plir_attr_text.specs.AttrReading.{name_at, text_at, bool_at, size_at, given_name_at, entry_at};
-ghost use Rattle.plir_attr_text.specs.AttrReading.{attr_body};
-ghost use Rattle.plir_attr_text.specs.AttrReading.{attr_at};
+ghost use Rattle.plir_attr_text.specs.AttrReading.{attr_body, attr_at};
 ghost use Rattle.plir_attr_text.specs.TypesIn.{IsInEntry, IsInAttr, IsBehindId};
+ghost use Rattle.plir_attr_text.specs.{Terms.entries_of, Names.Adds, Meaning.IsDictMeant, Reading.Gives};
+ghost use Rattle.plir_attr_text.specs.{Reading.ReadsFirst, Steps.read_as, Lists.items_at};
 
 use crate::attr_words::{
     AttrKind, read_attr_head, read_bool, read_given_names, read_name, read_sizes, read_text,

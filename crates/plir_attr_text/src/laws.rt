@@ -1,13 +1,9 @@
 //! Laws of texts.
 
 ghost use Rattle.std.specs.Prelude.{◌≡◌, ℕ, List};
-ghost use Rattle.plir_data.specs.AttrSeen.{attr_view};
-ghost use Rattle.plir_data.specs.Types.{TypeView, IsTypeTable};
-ghost use Rattle.plir_attr_text.specs.AttrReadBack.{IsReadBack};
-ghost use Rattle.plir_attr_text.specs.Terms.{TypeTerm};
-ghost use Rattle.plir_attr_text.specs.TypeGrammar.{IsText, TypeWithin};
-ghost use Rattle.plir_attr_text.specs.Names.{Names};
-ghost use Rattle.plir_attr_text.specs.TextLaws.{IsOfOneAttr, TextStands};
+ghost use Rattle.plir_data.specs.{AttrSeen.attr_view, Types.TypeView, Types.IsTypeTable};
+ghost use Rattle.plir_attr_text.specs.{AttrReadBack.IsReadBack, Terms.TypeTerm, TypeGrammar.IsText};
+ghost use Rattle.plir_attr_text.specs.{TypeGrammar.TypeWithin, Names.Names, TextLaws.IsOfOneAttr, TextLaws.TextStands};
 
 use crate::fault::ReadErr;
 use plir_data::laws::dictionary_is_that_of_its_entries;

@@ -2,10 +2,8 @@
 
 ghost use Rattle.std.specs.Prelude.{◌↔◌, ◌≤◌, ◌++◌, IsTrue, map};
 ghost use Rattle.plir_data.specs.AttrLive.{IsAttrLive, AreItemsLive, AreEntriesLive};
-ghost use Rattle.plir_data.specs.AttrSeen.{attr_view};
 ghost use Rattle.plir_data.specs.AttrView.{items_of, entries_of};
-ghost use Rattle.plir_data.specs.TypeTree.{tree_of};
-ghost use Rattle.plir_data.specs.Types.{IsLive, AllLive};
+ghost use Rattle.plir_data.specs.{AttrSeen.attr_view, TypeTree.tree_of, Types.IsLive, Types.AllLive};
 ghost use Rattle.plir_attr_text.specs.Terms.{levels, attrs_levels, entries_levels, type_levels};
 ghost use Rattle.plir_attr_text.specs.Writable.{attr_term, attr_terms, entry_terms, type_term, handles_levels};
 

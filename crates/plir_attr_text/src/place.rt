@@ -1,9 +1,9 @@
 //! Where a fault stands.
 
 ghost use Rattle.std.specs.Prelude.{◌≡◌, ◌⊎◌};
-ghost use Rattle.plir_attr_text.specs.Reading.{Gives, fault_of};
-ghost use Rattle.plir_attr_text.specs.Wholes.{end_at};
 ghost use Rattle.plir_attr_text.specs.declared.fault.Stop.TheVariants.{OutOfMemory, Crowded};
+ghost use Rattle.plir_attr_text.specs.{Reading.Gives, Reading.Reads, Reading.IsAnswerOf, Reading.fault_of};
+ghost use Rattle.plir_attr_text.specs.{Wholes.end_at};
 
 use crate::fault::{Fault, ReadErr, Stop};
 use crate::tokens::past_blank;
@@ -18,6 +18,14 @@ pub fn read_end(bytes: &[u8]) -> Result<(), Stop>
         return Err(Stop::At(Fault::Unexpected, rest.len()));
     }
     Ok(())
+}
+
+// What was read, where only white space stands behind it.
+pub fn ended<T: Drop>(read: T, rest: &[u8]) -> Result<T, Stop>
+    ensures { Reads (λ x u. x ≡ read) result (end_at rest.now) }
+{
+    read_end(rest)?;
+    Ok(read)
 }
 
 // A fault that is none of the text.
@@ -47,6 +55,16 @@ pub fn placed(bytes: &[u8], stop: Stop) -> ReadErr
                 fault,
             }
         }
+    }
+}
+
+// What was read, or why it was not, and where.
+pub fn with_place<T>(bytes: &[u8], read: Result<T, Stop>) -> Result<T, ReadErr>
+    ensures { IsAnswerOf read result }
+{
+    match read {
+        Ok(read) => Ok(read),
+        Err(stop) => Err(placed(bytes, stop)),
     }
 }
 

@@ -2,15 +2,12 @@
 
 ghost use Rattle.std.specs.Prelude.{◌≡◌, IfOk, OnOk, map, string_bytes, true};
 ghost use Rattle.plir_data.specs.AttrLive.{IsAttrLive, AreItemsLive, AreEntriesLive};
-ghost use Rattle.plir_data.specs.AttrSeen.{attr_view};
 ghost use Rattle.plir_data.specs.AttrView.{integer, own, type_of, dict as dict_view, vec, items_of, entries_of};
 ghost use Rattle.plir_data.specs.AttrView.{is_leaf};
-ghost use Rattle.plir_data.specs.Integers.{literal};
 ghost use Rattle.plir_data.specs.Types.{IsLive, AllLive, type_at};
-ghost use Rattle.plir_data.specs.TypeText.{type_text};
+ghost use Rattle.plir_data.specs.{AttrSeen.attr_view, Integers.literal, TypeText.type_text, TextParts.Puts};
 ghost use Rattle.plir_attr_text.specs.AttrText.{is_signed, bare_text};
 ghost use Rattle.plir_attr_text.specs.OpSetTexts.{attribute_text, plain_text, attributes_text, pairs_text};
-ghost use Rattle.plir_data.specs.TextParts.{Puts};
 
 use crate::put::{put_bool, put_given_names, put_identifier, put_segments, put_string};
 use plir_data::put::{put, put_between, put_integer_text};

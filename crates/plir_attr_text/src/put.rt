@@ -3,9 +3,9 @@
 ghost use Rattle.std.specs.Prelude.{◌≡◌, ◌<◌, ◌++◌, OnOk, codes, ◌∷◌, []};
 ghost use Rattle.std.specs.Fmt.{decimal};
 ghost use Rattle.plir_attr_text.specs.AttrGrammar.{truth};
-ghost use Rattle.plir_data.specs.TextParts.{Puts, parted};
 ghost use Rattle.plir_attr_text.specs.Written.{hex_digit, hex, is_control, escape, escape_char, escaped, quotation};
 ghost use Rattle.plir_attr_text.specs.Written.{name_or_mark};
+ghost use Rattle.plir_data.specs.TextParts.{Puts, parted};
 
 use plir_data::put::{put, put_between};
 use plir_data::{

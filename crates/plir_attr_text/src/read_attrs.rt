@@ -2,23 +2,16 @@
 
 ghost use Rattle.std.specs.Prelude.{IfErr};
 ghost use Rattle.plir_data.specs.AttrSeen.{attr_view};
-ghost use Rattle.plir_attr_text.specs.AttrAnswer.{IsAttrRead};
-ghost use Rattle.plir_attr_text.specs.Names.{Adds};
-ghost use Rattle.plir_attr_text.specs.Meaning.{IsMeant};
-ghost use Rattle.plir_attr_text.specs.Faults.{HasNoPlace};
-ghost use Rattle.plir_attr_text.specs.Reading.{Reads};
-ghost use Rattle.plir_attr_text.specs.AttrReading.{attr_at};
-ghost use Rattle.plir_attr_text.specs.TypesIn.{IsInAttr};
-ghost use Rattle.plir_attr_text.specs.Wholes.{whole};
+ghost use Rattle.plir_attr_text.specs.{AttrAnswer.IsAttrRead, Names.Adds, Meaning.IsMeant, Faults.HasNoPlace};
+ghost use Rattle.plir_attr_text.specs.{Reading.Reads, AttrReading.attr_at, TypesIn.IsInAttr, Wholes.whole};
 
 use crate::attrs::read_attr_at;
 use crate::fault::{ReadErr, Stop};
-use crate::place::{placed, read_end};
+use crate::place::{ended, with_place};
 use crate::read_types::MAX_LEVELS;
 use plir_data::{AttrObj, OpSet, TypeStore};
 use std::alloc::Global;
 
-#[tactic(auto, unfolding(crate::specs::Wholes::whole))]
 fn whole_attr<D: OpSet, C: TypeStore<D>>(
     alloc: Global,
     ctx: &mut C,
@@ -27,12 +20,10 @@ fn whole_attr<D: OpSet, C: TypeStore<D>>(
     ensures read { Reads (λ a x. IsMeant (C.types ctx.new) x (attr_view a)) result (whole (attr_at 200) bytes.now) }
     ensures kept { Adds C.types C.same_besides (IsInAttr 200 bytes.now) ctx.old ctx.new }
 {
-    let (attr, rest) = match read_attr_at(alloc, ctx, MAX_LEVELS, bytes) {
-        Ok(read) => read,
-        Err(stop) => return Err(stop),
-    };
-    read_end(rest)?;
-    Ok(attr)
+    match read_attr_at(alloc, ctx, MAX_LEVELS, bytes) {
+        Ok(read) => ended(read.0, read.1),
+        Err(stop) => Err(stop),
+    }
 }
 
 /// The attribute that a text stands for, as `builtin.vec [builtin.bool true]`. Types that the text names
@@ -47,8 +38,6 @@ pub fn read_attr<D: OpSet, C: TypeStore<D>>(
     ensures rest { C.same_besides ctx.old ctx.new }
 {
     let bytes = text.as_bytes();
-    match whole_attr(alloc, ctx, bytes) {
-        Ok(attr) => Ok(attr),
-        Err(stop) => Err(placed(bytes, stop)),
-    }
+    let read = whole_attr(alloc, ctx, bytes);
+    with_place(bytes, read)
 }

@@ -4,18 +4,15 @@ ghost use Rattle.std.specs.Prelude.{◌≡◌, ◌≢◌, ◌⊎◌, ℕ, IfOk, 
 ghost use Rattle.plir_data.specs.declared.types.Signedness.{Signedness};
 ghost use Rattle.plir_attr_text.specs.Terms.{TypeTerm, TypeTerms, integer_type, function_type};
 ghost use Rattle.plir_attr_text.specs.TypeGrammar.{IsText, TypeWithin, IsInteger, FunctionWithin};
-ghost use Rattle.plir_attr_text.specs.Parts.{IsPartOf};
 ghost use Rattle.plir_attr_text.specs.Names.{Adds, AreNamed, Grows, Names, StandsForType, StandsForInteger};
 ghost use Rattle.plir_attr_text.specs.Names.{StandsForFunction};
-ghost use Rattle.plir_attr_text.specs.Faults.{HasNoPlace};
-ghost use Rattle.plir_attr_text.specs.Reading.{Reads};
 ghost use Rattle.plir_attr_text.specs.TypeReading.{integer_at, function_at, type_at};
 ghost use Rattle.plir_attr_text.specs.TypesIn.{IsInInteger, IsInFunction, IsInType};
 ghost use Rattle.plir_attr_text.specs.TypesWritten.{IsWrittenIn, IsWrittenBare};
-ghost use Rattle.plir_attr_text.specs.Wholes.{whole};
+ghost use Rattle.plir_attr_text.specs.{Parts.IsPartOf, Faults.HasNoPlace, Reading.Reads, Wholes.whole};
 
 use crate::fault::{Fault, ReadErr, Stop};
-use crate::place::{placed, read_end};
+use crate::place::{ended, with_place};
 use crate::types::{read_function, read_integer_handle, read_type_at};
 use plir_data::{OpSet, TypeHandle, TypeStore};
 use std::alloc::Global;
@@ -23,7 +20,6 @@ use std::alloc::Global;
 // How many levels of a text may be open at one place.
 pub const MAX_LEVELS: usize = 200;
 
-#[tactic(auto, unfolding(crate::specs::Wholes::whole))]
 fn whole_type<D: OpSet, C: TypeStore<D>>(
     alloc: Global,
     ctx: &mut C,
@@ -32,28 +28,22 @@ fn whole_type<D: OpSet, C: TypeStore<D>>(
     ensures read { Reads (λ h t. Names (C.types ctx.new) h t) result (whole (type_at 200) bytes.now) }
     ensures kept { Adds C.types C.same_besides (IsInType 200 bytes.now) ctx.old ctx.new }
 {
-    let (handle, rest) = match read_type_at(alloc, ctx, MAX_LEVELS, bytes) {
-        Ok(read) => read,
-        Err(stop) => return Err(stop),
-    };
-    read_end(rest)?;
-    Ok(handle)
+    match read_type_at(alloc, ctx, MAX_LEVELS, bytes) {
+        Ok(read) => ended(read.0, read.1),
+        Err(stop) => Err(stop),
+    }
 }
 
-#[tactic(auto, unfolding(crate::specs::Wholes::whole))]
 fn whole_integer<D: OpSet, C: TypeStore<D>>(ctx: &mut C, bytes: &[u8]) -> Result<TypeHandle, Stop>
     ensures read { Reads (λ h x. Names (C.types ctx.new) h (integer_type x.0 x.1)) result (whole integer_at bytes.now) }
     ensures kept { Adds C.types C.same_besides (IsInInteger bytes.now) ctx.old ctx.new }
 {
-    let (handle, rest) = match read_integer_handle(ctx, bytes) {
-        Ok(read) => read,
-        Err(stop) => return Err(stop),
-    };
-    read_end(rest)?;
-    Ok(handle)
+    match read_integer_handle(ctx, bytes) {
+        Ok(read) => ended(read.0, read.1),
+        Err(stop) => Err(stop),
+    }
 }
 
-#[tactic(auto, unfolding(crate::specs::Wholes::whole))]
 fn whole_function<D: OpSet, C: TypeStore<D>>(
     alloc: Global,
     ctx: &mut C,
@@ -63,12 +53,10 @@ fn whole_function<D: OpSet, C: TypeStore<D>>(
         (whole (function_at (type_at 199)) bytes.now) }
     ensures kept { Adds C.types C.same_besides (IsInFunction 199 bytes.now) ctx.old ctx.new }
 {
-    let (handle, rest) = match read_function(alloc, ctx, MAX_LEVELS - 1, bytes) {
-        Ok(read) => read,
-        Err(stop) => return Err(stop),
-    };
-    read_end(rest)?;
-    Ok(handle)
+    match read_function(alloc, ctx, MAX_LEVELS - 1, bytes) {
+        Ok(read) => ended(read.0, read.1),
+        Err(stop) => Err(stop),
+    }
 }
 
 /// The type that a text stands for, as `builtin.function <(builtin.integer si32)->()>`. Types that the
@@ -90,10 +78,8 @@ pub fn read_type<D: OpSet, C: TypeStore<D>>(
     ensures rest { C.same_besides ctx.old ctx.new }
 {
     let bytes = text.as_bytes();
-    match whole_type(alloc, ctx, bytes) {
-        Ok(handle) => Ok(handle),
-        Err(stop) => Err(placed(bytes, stop)),
-    }
+    let read = whole_type(alloc, ctx, bytes);
+    with_place(bytes, read)
 }
 
 /// The integer type that a text stands for, without its id, as `si32`.
@@ -113,10 +99,8 @@ pub fn read_integer_type<D: OpSet, C: TypeStore<D>>(
     ensures rest { C.same_besides ctx.old ctx.new }
 {
     let bytes = text.as_bytes();
-    match whole_integer(ctx, bytes) {
-        Ok(handle) => Ok(handle),
-        Err(stop) => Err(placed(bytes, stop)),
-    }
+    let read = whole_integer(ctx, bytes);
+    with_place(bytes, read)
 }
 
 /// The function type that a text stands for, without its id, as `<(builtin.integer si32)->()>`.
@@ -138,8 +122,6 @@ pub fn read_function_type<D: OpSet, C: TypeStore<D>>(
     ensures rest { C.same_besides ctx.old ctx.new }
 {
     let bytes = text.as_bytes();
-    match whole_function(alloc, ctx, bytes) {
-        Ok(handle) => Ok(handle),
-        Err(stop) => Err(placed(bytes, stop)),
-    }
+    let read = whole_function(alloc, ctx, bytes);
+    with_place(bytes, read)
 }

@@ -5,8 +5,7 @@ ghost use Rattle.std.specs.Prelude.{option_map, true, false, string_bytes};
 ghost use Rattle.std.specs.Str.{is_utf8};
 ghost use Rattle.plir_attr_text.specs.Bytes.{is_hex, front, past, hex_value, hex_after};
 ghost use Rattle.plir_attr_text.specs.Strings.{is_code, code_at, escape_at, unit_at, string_at};
-ghost use Rattle.plir_attr_text.specs.Units.{bytes_of};
-ghost use Rattle.plir_attr_text.specs.Reading.{Gives};
+ghost use Rattle.plir_attr_text.specs.{Units.bytes_of, Reading.Gives};
 
 use crate::fault::{Fault, Stop};
 use crate::tokens::is_digit;

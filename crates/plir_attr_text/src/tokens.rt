@@ -2,12 +2,10 @@
 
 ghost use Rattle.std.specs.Prelude.{◌≡◌, ◌≤◌, ◌^◌, ◌+◌, ◌-◌, ◌*◌, ◌≢◌, MatchOption, IfErr, nat_eq};
 ghost use Rattle.plir_attr_text.specs.declared.fault.Stop.TheVariants.{OutOfMemory};
-ghost use Rattle.plir_data.specs.Identifier.{is_letter, is_digit};
 ghost use Rattle.plir_attr_text.specs.Bytes.{is_blank, is_in_name, front, past, word_past, begins, all_pass};
 ghost use Rattle.plir_attr_text.specs.Bytes.{value_after};
-ghost use Rattle.plir_attr_text.specs.Tokens.{look, token_at, is_mark};
-ghost use Rattle.plir_attr_text.specs.Pieces.{token_of};
-ghost use Rattle.plir_attr_text.specs.Reading.{Gives};
+ghost use Rattle.plir_attr_text.specs.{Tokens.look, Tokens.token_at, Tokens.is_mark, Pieces.token_of, Reading.Gives};
+ghost use Rattle.plir_data.specs.Identifier.{is_letter, is_digit};
 
 use crate::fault::{Fault, Stop};
 

@@ -3,11 +3,10 @@
 ghost use Rattle.std.specs.Prelude.{◌≡◌, ◌++◌, ℕ, IfOk, OnErr};
 ghost use Rattle.plir_data.specs.Types.{AllLive, IsInstantiated, function, unit};
 ghost use Rattle.plir_attr_text.specs.Terms.{TypeTerm, integer_type, function_type, types_of};
-ghost use Rattle.plir_attr_text.specs.Names.{Adds, Names, NamesAll};
-ghost use Rattle.plir_attr_text.specs.Reading.{Gives, ReadsFirst};
-ghost use Rattle.plir_attr_text.specs.Lists.{items_at};
 ghost use Rattle.plir_attr_text.specs.TypeReading.{integer_at, function_at, type_at};
 ghost use Rattle.plir_attr_text.specs.TypesIn.{IsInInteger, IsInTypes, IsInFunction, IsInType};
+ghost use Rattle.plir_attr_text.specs.{Names.Adds, Names.Names, Names.NamesAll, Reading.Gives, Reading.ReadsFirst};
+ghost use Rattle.plir_attr_text.specs.{Lists.items_at};
 
 use crate::fault::Stop;
 use crate::words::{

@@ -1,12 +1,10 @@
 //! Words, signs and lists' separators.
 
 ghost use Rattle.std.specs.Prelude.{◌≡◌, ◌≤◌, OnOk, option_map, nat_eq};
-ghost use Rattle.plir_attr_text.specs.Pieces.{token_of};
-ghost use Rattle.plir_attr_text.specs.Reading.{Gives};
-ghost use Rattle.plir_attr_text.specs.Levels.{if_level, level_at};
 ghost use Rattle.plir_attr_text.specs.Lists.{is_sign, sign_at, past_sign, separator_at};
 ghost use Rattle.plir_attr_text.specs.TypeReading.{word_at, arrow_at, type_kind, width_of, integer_of, integer_at};
 ghost use Rattle.plir_attr_text.specs.TypeReading.{type_head};
+ghost use Rattle.plir_attr_text.specs.{Pieces.token_of, Reading.Gives, Levels.if_level, Levels.level_at};
 
 use crate::fault::{Fault, Stop};
 use crate::tokens::{

@@ -3,11 +3,9 @@
 ghost use Rattle.std.specs.Prelude.{◌≡◌, ◌↔◌, ◌^◌, ◌<◌, All, IsTrue, map, true};
 ghost use Rattle.std.specs.Str.{IsUtf8};
 ghost use Rattle.plir_data.specs.AttrLive.{IsAttrLive, AreItemsLive, AreEntriesLive};
-ghost use Rattle.plir_data.specs.AttrSeen.{attr_view};
 ghost use Rattle.plir_data.specs.AttrView.{dict, integer, items_of, entries_of, is_leaf};
-ghost use Rattle.plir_data.specs.Identifier.{is_identifier};
 ghost use Rattle.plir_data.specs.TypeTree.{trees_of, tree_of};
-ghost use Rattle.plir_data.specs.Types.{IsLive, AllLive};
+ghost use Rattle.plir_data.specs.{AttrSeen.attr_view, Identifier.is_identifier, Types.IsLive, Types.AllLive};
 ghost use Rattle.plir_attr_text.specs.Writable.{IsBuiltin, AreBuiltin, IsNameOrMark, IsLeafWritable, IsWritable};
 ghost use Rattle.plir_attr_text.specs.Writable.{AreItemsWritable};
 

@@ -1,20 +1,13 @@
 -- What the parts of an attribute, as they are read, make of the whole.
 use Rattle.std.proofs.Common.{◌≡◌, ℕ, zero, suc, ◌-◌, ◌<◌, List, Result, Ok, Err, refl, sym, ap, subst, ◌∙◌, arith}
-use Rattle.plir_data.specs.AttrView.{AttrView}
-use Rattle.plir_attr_text.specs.declared.fault.Fault.{Fault}
-use Rattle.plir_attr_text.specs.declared.fault.Stop.{Stop}
+use Rattle.plir_data.specs.{AttrView.AttrView, Types.TypeView}
 use Rattle.plir_attr_text.specs.declared.fault.Stop.TheVariants.{OutOfMemory, Crowded, At}
-use Rattle.plir_attr_text.specs.declared.attr_words.AttrKind.{AttrKind}
-use Rattle.plir_attr_text.specs.Steps.{◌>>=◌, read_as}
-use Rattle.plir_attr_text.specs.Terms.{AttrTerm}
-use Rattle.plir_attr_text.specs.Meaning.{IsMeant}
-use Rattle.plir_data.specs.Types.{TypeView}
-use Rattle.plir_attr_text.specs.TypeReading.{word_at}
-use Rattle.plir_attr_text.specs.Levels.{level_at}
-use Rattle.plir_attr_text.specs.laws.TypeSteps.{level-word, level-deep}
 use Rattle.plir_attr_text.specs.AttrReading.{attr_kind, attr_head, attr_body, attr_at}
-use Rattle.plir_attr_text.specs.Reading.{Fails, Gives, Reads}
 use Rattle.plir_attr_text.specs.laws.StepLaws.{done, bind_ok, ok_is, Fails-bind, Fails-from}
+use Rattle.plir_attr_text.specs.{declared.fault.Fault.Fault, declared.fault.Stop.Stop}
+use Rattle.plir_attr_text.specs.{declared.attr_words.AttrKind.AttrKind, Steps.◌>>=◌, Steps.read_as, Terms.AttrTerm}
+use Rattle.plir_attr_text.specs.{Meaning.IsMeant, TypeReading.word_at, Levels.level_at, laws.TypeSteps.level-word}
+use Rattle.plir_attr_text.specs.{laws.TypeSteps.level-deep, Reading.Fails, Reading.Gives, Reading.Reads}
 
 pub attr_at-body : (n : ℕ) (bytes rest : List ℕ) (k : AttrKind) → 0 < n → attr_head bytes ≡ Ok (k, rest) →
     attr_at n bytes ≡ attr_body (n - 1) (attr_at (n - 1)) k rest

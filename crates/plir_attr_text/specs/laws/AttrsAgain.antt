@@ -1,6 +1,6 @@
 -- Attributes that stand there are read.
-use Rattle.std.proofs.Common.{◌≡◌, ℕ, zero, suc, ◌<◌, ◌≤◌, ◌+◌, ◌-◌, true, List, [], ◌∷◌, codes, None, Result, Ok, Err}
-use Rattle.std.proofs.Common.{refl, sym, ap, subst, ◌∙◌, arith}
+use Rattle.std.proofs.Common.{◌≡◌, ℕ, zero, suc, ◌<◌, ◌≤◌, ◌+◌, ◌-◌, true, List, [], ◌∷◌, None, Result, Ok, Err, refl}
+use Rattle.std.proofs.Common.{sym, ap, subst, ◌∙◌, arith}
 use Rattle.plir_data.specs.Identifier.{is_identifier}
 use Rattle.plir_attr_text.specs.declared.attr_words.AttrKind.{AttrKind}
 use Rattle.plir_attr_text.specs.declared.attr_words.AttrKind.TheVariants as kinds
@@ -8,23 +8,18 @@ use Rattle.plir_attr_text.specs.declared.fault.Fault.{Fault}
 use Rattle.plir_attr_text.specs.Terms as terms
 use Rattle.plir_attr_text.specs.Terms.{AttrTerm, AttrTerms, no_attrs, attr_before, EntryTerms, no_entries, entry_before}
 use Rattle.plir_attr_text.specs.Terms.{attrs_of, entries_of, levels, attrs_levels, entries_levels}
-use Rattle.plir_attr_text.specs.Tokens.{Token, word, sign, look, Begins}
-use Rattle.plir_attr_text.specs.TypeGrammar.{enclosed, IsText}
-use Rattle.plir_attr_text.specs.Lists.{sign_at, past_sign}
 use Rattle.plir_attr_text.specs.AttrGrammar.{Spells, SpellsItems, SpellsMoreItems, SpellsEntries, SpellsMoreEntries}
 use Rattle.plir_attr_text.specs.AttrGrammar.{AttrWithin}
 use Rattle.plir_attr_text.specs.AttrReading.{attr_kind, attr_head, name_at, size_at, given_name_at, entry_at, attr_body}
 use Rattle.plir_attr_text.specs.AttrReading.{attr_at}
-use Rattle.plir_attr_text.specs.Wholes.{whole}
-use Rattle.plir_attr_text.specs.laws.StepLaws.{done}
-use Rattle.plir_attr_text.specs.laws.Begun.{word_again, sign_again}
-use Rattle.plir_attr_text.specs.laws.ListsFound.{More, Several, whole_found}
 use Rattle.plir_attr_text.specs.laws.ListsAgain.{IsRead, several_read, word_opens, refused, only_one}
-use Rattle.plir_attr_text.specs.laws.TypesAgain.{type_again}
-use Rattle.plir_attr_text.specs.laws.AttrsFound.{id_of, attr_found}
-use Rattle.plir_attr_text.specs.laws.AttrSteps.{attr_at-body}
 use Rattle.plir_attr_text.specs.laws.LeavesAgain.{name_again, string_again, truth_again, sizes_read, names_read}
 use Rattle.plir_attr_text.specs.laws.LeavesAgain.{value_again}
+use Rattle.plir_attr_text.specs.{Tokens.Token, Tokens.word, Tokens.sign, Tokens.look, Tokens.Begins}
+use Rattle.plir_attr_text.specs.{TypeGrammar.enclosed, TypeGrammar.IsText, Lists.sign_at, Lists.past_sign, Wholes.whole}
+use Rattle.plir_attr_text.specs.{laws.StepLaws.done, laws.Begun.word_again, laws.Begun.sign_again, laws.ListsFound.More}
+use Rattle.plir_attr_text.specs.{laws.ListsFound.Several, laws.ListsFound.whole_found, laws.TypesAgain.type_again}
+use Rattle.plir_attr_text.specs.{laws.AttrsFound.id_of, laws.AttrsFound.attr_found, laws.AttrSteps.attr_at-body}
 
 kind_again : (k : AttrKind) → attr_kind (id_of k) ≡ Ok k
 unfolding attr_kind
@@ -47,6 +42,13 @@ head_again k bytes mid e = rw (word_again bytes (id_of k) mid e, kind_again k) r
 body_again : (n : ℕ) (k : AttrKind) (bytes mid : List ℕ) (r : Result (AttrTerm × List ℕ) Fault) → 0 < n →
     look bytes ≡ Ok (word (id_of k), mid) → attr_body (n - 1) (attr_at (n - 1)) k mid ≡ r → attr_at n bytes ≡ r
 body_again n k bytes mid r lt e h = attr_at-body n bytes mid k lt (head_again k bytes mid e) ∙ h
+
+inner_again : (n : ℕ) (k : AttrKind) (bytes mid : List ℕ) (r : Result (AttrTerm × List ℕ) Fault) →
+    look bytes ≡ Ok (word (id_of k), mid) → attr_body n (attr_at n) k mid ≡ r → attr_at (suc n) bytes ≡ r
+inner_again n k bytes mid r e h =
+    let same : suc n - 1 ≡ n = omega arith in
+    body_again (suc n) k bytes mid r (omega arith) e
+    (subst (λ (m : ℕ). attr_body m (attr_at m) k mid ≡ r) (sym same) h)
 
 -- the attributes, and the entries, as lists
 abbrev pub attr_list : AttrTerms → List AttrTerm
@@ -71,39 +73,42 @@ pub entry_again : (read : List ℕ → Result (AttrTerm × List ℕ) Fault) (k :
 unfolding entry_at
 entry_again read k t bytes mid behind rest p q r = rw (p, q, r) refl
 
-entry_reads : (read : List ℕ → Result (AttrTerm × List ℕ) Fault) (k : List ℕ) (t : AttrTerm) (ts : List Token)
-    (bytes rest : List ℕ) → is_identifier k ≡ true → ((from : List ℕ) → Begins from ts rest →
-    read from ≡ Ok (t, rest)) → Begins bytes (word k ∷ sign 61 ∷ ts) rest → entry_at read bytes ≡ Ok ((k, t), rest)
-entry_reads read k t ts bytes rest id reads b =
-    let e = b.2 in
-    entry_again read k t bytes b.0 e.0 rest (name_again k (word k ∷ []) bytes b.0 (id, refl) (b.0, b.1, refl))
-    (sign_again 61 b.0 e.0 e.1) (reads e.0 e.2)
+entry_reads : (k : List ℕ) (t : AttrTerm) (ts : List Token) (n : ℕ) → is_identifier k ≡ true →
+    ((bytes rest : List ℕ) → Begins bytes ts rest → attr_at n bytes ≡ Ok (t, rest)) →
+    IsRead 93 (entry_at (attr_at n)) (k, t) (word k ∷ sign 61 ∷ ts)
+entry_reads k t ts n id reads = record {
+  reads = λ bytes rest b. (let e = b.2 in
+      entry_again (attr_at n) k t bytes b.0 e.0 rest (name_again k (word k ∷ []) bytes b.0 (id, refl) (b.0, b.1, refl))
+      (sign_again 61 b.0 e.0 e.1) (reads e.0 rest e.2));
+  opens = λ bytes rest b. word_opens 93 k (sign 61 ∷ ts) bytes rest b;
+}
 
 -- an attribute begins with a word
+opens : (id : List ℕ) (more ts : List Token) (close : ℕ) (bytes rest : List ℕ) → ts ≡ word id ∷ more →
+    Begins bytes ts rest → past_sign close bytes ≡ None
+opens id more ts close bytes rest e b =
+    word_opens close id more bytes rest (subst (λ (y : List Token). Begins bytes y rest) e b)
+
 attr_opens : (t : AttrTerm) (ts : List Token) (close : ℕ) (bytes rest : List ℕ) → Spells t ts → Begins bytes ts rest →
     past_sign close bytes ≡ None
-attr_opens (terms.identifier w) ts close bytes rest h b = word_opens close (codes "builtin.identifier") h.0 bytes rest
-    (subst (λ (y : List Token). Begins bytes y rest) h.2 b)
-attr_opens (terms.string s) ts close bytes rest h b = word_opens close (codes "builtin.string") h.0 bytes rest
-    (subst (λ (y : List Token). Begins bytes y rest) h.2 b)
-attr_opens (terms.bool v) ts close bytes rest h b =
-    word_opens close (codes "builtin.bool") h.0 bytes rest (subst (λ (y : List Token). Begins bytes y rest) h.2 b)
-attr_opens (terms.integer s w n) ts close bytes rest h b = word_opens close (codes "builtin.integer") h.0 bytes rest
-    (subst (λ (y : List Token). Begins bytes y rest) h.2 b)
-attr_opens terms.unit ts close bytes rest h b =
-    word_opens close (codes "builtin.unit") [] bytes rest (subst (λ (y : List Token). Begins bytes y rest) h b)
-attr_opens (terms.type t) ts close bytes rest h b =
-    word_opens close (codes "builtin.type") h.0 bytes rest (subst (λ (y : List Token). Begins bytes y rest) h.2 b)
+attr_opens (terms.identifier w) ts close bytes rest h b = opens (id_of kinds.Identifier) h.0 ts close bytes rest h.2 b
+attr_opens (terms.string s) ts close bytes rest h b = opens (id_of kinds.String) h.0 ts close bytes rest h.2 b
+attr_opens (terms.bool v) ts close bytes rest h b = opens (id_of kinds.Bool) h.0 ts close bytes rest h.2 b
+attr_opens (terms.integer s w n) ts close bytes rest h b = opens (id_of kinds.Integer) h.0 ts close bytes rest h.2 b
+attr_opens terms.unit ts close bytes rest h b = opens (id_of kinds.Unit) [] ts close bytes rest h b
+attr_opens (terms.type t) ts close bytes rest h b = opens (id_of kinds.TypeOf) h.0 ts close bytes rest h.2 b
 attr_opens (terms.operand_segment_sizes ns) ts close bytes rest h b =
-    word_opens close (codes "builtin.operand_segment_sizes") (enclosed 91 h.0 93) bytes rest
-    (subst (λ (y : List Token). Begins bytes y rest) h.2 b)
+    opens (id_of kinds.OperandSegmentSizes) (enclosed 91 h.0 93) ts close bytes rest h.2 b
 attr_opens (terms.given_names ns) ts close bytes rest h b =
-    word_opens close (codes "builtin.given_names") (enclosed 91 h.0 93) bytes rest
-    (subst (λ (y : List Token). Begins bytes y rest) h.2 b)
-attr_opens (terms.dict es) ts close bytes rest h b = word_opens close (codes "builtin.dict") (enclosed 91 h.0 93) bytes
-    rest (subst (λ (y : List Token). Begins bytes y rest) h.2 b)
-attr_opens (terms.vec xs) ts close bytes rest h b = word_opens close (codes "builtin.vec") (enclosed 91 h.0 93) bytes
-    rest (subst (λ (y : List Token). Begins bytes y rest) h.2 b)
+    opens (id_of kinds.GivenNames) (enclosed 91 h.0 93) ts close bytes rest h.2 b
+attr_opens (terms.dict es) ts close bytes rest h b =
+    opens (id_of kinds.Dict) (enclosed 91 h.0 93) ts close bytes rest h.2 b
+attr_opens (terms.vec xs) ts close bytes rest h b =
+    opens (id_of kinds.Vec) (enclosed 91 h.0 93) ts close bytes rest h.2 b
+
+attr_reads : (t : AttrTerm) (ts : List Token) (n : ℕ) → Spells t ts →
+    ((bytes rest : List ℕ) → Begins bytes ts rest → attr_at n bytes ≡ Ok (t, rest)) → IsRead 93 (attr_at n) t ts
+attr_reads t ts n h reads = record { reads = reads; opens = λ bytes rest b. attr_opens t ts 93 bytes rest h b }
 
 mutual
   pub attr_again : (t : AttrTerm) (ts : List Token) (n : ℕ) (bytes rest : List ℕ) → Spells t ts → levels t ≤ n →
@@ -143,27 +148,18 @@ mutual
   attr_again (terms.dict es) ts zero bytes rest h le b = absurd (omega arith)
   attr_again (terms.dict es) ts (suc n) bytes rest h le b =
       let c = subst (λ (y : List Token). Begins bytes y rest) h.2 b in
-      let same : suc n - 1 ≡ n = omega arith in
-      let inner : attr_body n (attr_at n) kinds.Dict c.0 ≡ Ok (terms.dict es, rest) =
-      rw (
+      inner_again n kinds.Dict bytes c.0 (Ok (terms.dict es, rest)) c.1 (rw (
         several_read 93 refl (entry_at (attr_at n)) 91 (entry_list es) h.0 c.0 rest
             (entries_again es h.0 n h.1 (omega arith)) c.2,
         entries_of-entry_list es,
-      ) refl in
-      body_again (suc n) kinds.Dict bytes c.0 (Ok (terms.dict es, rest)) (omega arith) c.1
-      (subst (λ (m : ℕ). attr_body m (attr_at m) kinds.Dict c.0 ≡ Ok (terms.dict es, rest)) (sym same) inner)
+      ) refl)
   attr_again (terms.vec xs) ts zero bytes rest h le b = absurd (omega arith)
   attr_again (terms.vec xs) ts (suc n) bytes rest h le b =
       let c = subst (λ (y : List Token). Begins bytes y rest) h.2 b in
-      let same : suc n - 1 ≡ n = omega arith in
-      let inner : attr_body n (attr_at n) kinds.Vec c.0 ≡ Ok (terms.vec xs, rest) =
-      rw (
-        several_read 93 refl (attr_at n) 91 (attr_list xs) h.0 c.0 rest (attrs_again xs h.0 n h.1 (omega arith))
-            c.2,
+      inner_again n kinds.Vec bytes c.0 (Ok (terms.vec xs, rest)) c.1 (rw (
+        several_read 93 refl (attr_at n) 91 (attr_list xs) h.0 c.0 rest (attrs_again xs h.0 n h.1 (omega arith)) c.2,
         attrs_of-attr_list xs,
-      ) refl in
-      body_again (suc n) kinds.Vec bytes c.0 (Ok (terms.vec xs, rest)) (omega arith) c.1
-      (subst (λ (m : ℕ). attr_body m (attr_at m) kinds.Vec c.0 ≡ Ok (terms.vec xs, rest)) (sym same) inner)
+      ) refl)
 
   attrs_again : (xs : AttrTerms) (ts : List Token) (n : ℕ) → SpellsItems xs ts → attrs_levels xs ≤ n →
       Several (IsRead 93 (attr_at n)) (attr_list xs) ts
@@ -171,11 +167,7 @@ mutual
   attrs_again (attr_before t xs) ts n h le = (
     h.0,
     h.1,
-    record {
-      reads = λ bytes rest b. attr_again t h.0 n bytes rest h.2 (omega arith) b;
-      opens = λ bytes
-          rest b. attr_opens t h.0 93 bytes rest h.2 b;
-    },
+    attr_reads t h.0 n h.2 (λ bytes rest b. attr_again t h.0 n bytes rest h.2 (omega arith) b),
     more_attrs_again xs h.1 n h.3 (omega arith),
     h.4,
   )
@@ -186,11 +178,7 @@ mutual
   more_attrs_again (attr_before t xs) ts n h le = (
     h.0,
     h.1,
-    record {
-      reads = λ bytes rest b. attr_again t h.0 n bytes rest h.2 (omega arith) b;
-      opens = λ bytes
-          rest b. attr_opens t h.0 93 bytes rest h.2 b;
-    },
+    attr_reads t h.0 n h.2 (λ bytes rest b. attr_again t h.0 n bytes rest h.2 (omega arith) b),
     more_attrs_again xs h.1 n h.3 (omega arith),
     h.4,
   )
@@ -201,11 +189,7 @@ mutual
   entries_again (entry_before k t es) ts n h le = (
     word k ∷ sign 61 ∷ h.0,
     h.1,
-    record {
-      reads = λ bytes rest b. entry_reads (attr_at n) k t h.0 bytes rest h.2 (λ from c. attr_again t h.0 n from
-          rest h.3 (omega arith) c) b;
-      opens = λ bytes rest b. word_opens 93 k (sign 61 ∷ h.0) bytes rest b;
-    },
+    entry_reads k t h.0 n h.2 (λ bytes rest b. attr_again t h.0 n bytes rest h.3 (omega arith) b),
     more_entries_again es h.1 n h.4 (omega arith),
     h.5,
   )
@@ -216,11 +200,7 @@ mutual
   more_entries_again (entry_before k t es) ts n h le = (
     word k ∷ sign 61 ∷ h.0,
     h.1,
-    record {
-      reads = λ bytes rest b. entry_reads (attr_at n) k t h.0 bytes rest h.2 (λ from c. attr_again t h.0 n from
-          rest h.3 (omega arith) c) b;
-      opens = λ bytes rest b. word_opens 93 k (sign 61 ∷ h.0) bytes rest b;
-    },
+    entry_reads k t h.0 n h.2 (λ bytes rest b. attr_again t h.0 n bytes rest h.3 (omega arith) b),
     more_entries_again es h.1 n h.4 (omega arith),
     h.5,
   )

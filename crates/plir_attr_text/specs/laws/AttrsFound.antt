@@ -1,30 +1,25 @@
 -- Attributes that are read stand there.
 use Rattle.std.proofs.Common.{◌≡◌, ◌⊎◌, ℕ, zero, suc, ◌<◌, ◌≤◌, cond, List, [], ◌∷◌, ◌++◌, length, codes, Result, Ok}
 use Rattle.std.proofs.Common.{Err, refl, ap, subst, ◌∙◌, arith, inl, inr}
-use Rattle.std.specs.Str.{bytes_eq}
 use Rattle.std.proofs.lemmas.Slice.Eq.{bytes_eq-Decides}
+use Rattle.std.specs.Str.{bytes_eq}
 use Rattle.plir_attr_text.specs.declared.attr_words.AttrKind.{AttrKind}
 use Rattle.plir_attr_text.specs.declared.attr_words.AttrKind.TheVariants as kinds
-use Rattle.plir_attr_text.specs.declared.fault.Fault.{Fault}
-use Rattle.plir_attr_text.specs.declared.fault.Fault.TheVariants.{TooDeep}
-use Rattle.plir_attr_text.specs.Steps.{◌>>=◌}
+use Rattle.plir_attr_text.specs.{declared.fault.Fault.Fault, declared.fault.Fault.TheVariants.TooDeep, Steps.◌>>=◌}
 use Rattle.plir_attr_text.specs.Terms as terms
 use Rattle.plir_attr_text.specs.Terms.{AttrTerm, attrs_of, entries_of, attrs_levels, entries_levels}
-use Rattle.plir_attr_text.specs.Tokens.{Token, word, sign, look}
-use Rattle.plir_attr_text.specs.TypeGrammar.{enclosed}
-use Rattle.plir_attr_text.specs.Lists.{sign_at, items_at}
+use Rattle.plir_attr_text.specs.Tokens.{Token, word, sign, look, Begins}
 use Rattle.plir_attr_text.specs.TypeReading.{word_at, type_at}
 use Rattle.plir_attr_text.specs.AttrGrammar.{SpellsIdentifier, SpellsSize, SpellsName, Spells, SpellsItems}
-use Rattle.plir_attr_text.specs.AttrGrammar.{SpellsMoreItems}
-use Rattle.plir_attr_text.specs.AttrGrammar.{SpellsEntries, SpellsMoreEntries, AttrWithin}
+use Rattle.plir_attr_text.specs.AttrGrammar.{SpellsMoreItems, SpellsEntries, SpellsMoreEntries, AttrWithin}
 use Rattle.plir_attr_text.specs.AttrReading.{attr_kind, attr_head, name_at, text_at, bool_at, size_at, given_name_at}
 use Rattle.plir_attr_text.specs.AttrReading.{value_at, entry_at, attr_body, attr_at}
 use Rattle.plir_attr_text.specs.laws.StepLaws.{chosen, bind_ok, done, ok_is}
 use Rattle.plir_attr_text.specs.laws.Begun.{Begins-append, word_found, sign_found}
 use Rattle.plir_attr_text.specs.laws.ListsFound.{FoundOne, IsSound, More, Several, items_found}
-use Rattle.plir_attr_text.specs.laws.TypesFound.{type_found}
 use Rattle.plir_attr_text.specs.laws.LeavesFound.{name_found, string_found, truth_found, size_found, given_name_found}
 use Rattle.plir_attr_text.specs.laws.LeavesFound.{value_found, found-shorter}
+use Rattle.plir_attr_text.specs.{TypeGrammar.enclosed, Lists.sign_at, Lists.items_at, laws.TypesFound.type_found}
 
 -- ---- ids
 
@@ -168,128 +163,68 @@ entry_found n read sound bytes x e =
 
 -- ---- an attribute
 
+-- what was read behind an id, and its tokens there, as the attribute
+module _ (n : ℕ) (k : AttrKind) (bytes rest : List ℕ) (id : look bytes ≡ Ok (word (id_of k), rest))
+    (x : AttrTerm × List ℕ) where
+  id_found : (ts : List Token) (t : AttrTerm) (end : List ℕ) → done (t, end) ≡ done x → Begins rest ts end →
+      AttrWithin (suc n) t (word (id_of k) ∷ ts) → FoundOne (AttrWithin (suc n)) bytes x.0 x.1
+  id_found ts t end same begins spelled =
+      let found : FoundOne (AttrWithin (suc n)) bytes t end =
+      record { tokens = word (id_of k) ∷ ts; begins = (rest, id, begins); spelled = spelled } in
+      subst (λ (y : AttrTerm × List ℕ). FoundOne (AttrWithin (suc n)) bytes y.0 y.1) (ok_is _ x same) found
+
 body_found : (n : ℕ) (read : List ℕ → Result (AttrTerm × List ℕ) Fault) → IsSound (AttrWithin n) read →
     (k : AttrKind) (bytes rest : List ℕ) (x : AttrTerm × List ℕ) → look bytes ≡ Ok (word (id_of k), rest) →
     attr_body n read k rest ≡ Ok x → FoundOne (AttrWithin (suc n)) bytes x.0 x.1
 body_found n read sound kinds.Identifier bytes rest x id e =
     let a = bind_ok (name_at rest) (λ w. Ok (terms.identifier w.0, w.1)) x e in
     let f = name_found rest a.0 a.1 in
-    let found : FoundOne (AttrWithin (suc n)) bytes (terms.identifier a.0.0) a.0.1 =
-    record {
-      tokens = word (id_of kinds.Identifier) ∷
-          f.tokens;
-      begins = (rest, id, f.begins);
-      spelled = ((f.tokens, f.spelled, refl), omega arith);
-    } in
-    subst (λ (y : AttrTerm × List ℕ). FoundOne (AttrWithin (suc n)) bytes y.0 y.1) (ok_is _ x a.2) found
+    id_found n kinds.Identifier bytes rest id x f.tokens (terms.identifier a.0.0) a.0.1 a.2 f.begins
+    ((f.tokens, f.spelled, refl), omega arith)
 body_found n read sound kinds.String bytes rest x id e =
     let a = bind_ok (text_at rest) (λ s. Ok (terms.string s.0, s.1)) x e in
     let f = string_found rest a.0 a.1 in
-    let found : FoundOne (AttrWithin (suc n)) bytes (terms.string a.0.0) a.0.1 =
-    record {
-      tokens = word (id_of kinds.String) ∷
-          f.tokens;
-      begins = (rest, id, f.begins);
-      spelled = ((f.tokens, f.spelled, refl), omega arith);
-    } in
-    subst (λ (y : AttrTerm × List ℕ). FoundOne (AttrWithin (suc n)) bytes y.0 y.1) (ok_is _ x a.2) found
+    id_found n kinds.String bytes rest id x f.tokens (terms.string a.0.0) a.0.1 a.2 f.begins
+    ((f.tokens, f.spelled, refl), omega arith)
 body_found n read sound kinds.Bool bytes rest x id e =
     let a = bind_ok (bool_at rest) (λ b. Ok (terms.bool b.0, b.1)) x e in
     let f = truth_found rest a.0 a.1 in
-    let found : FoundOne (AttrWithin (suc n)) bytes (terms.bool a.0.0) a.0.1 =
-    record {
-      tokens = word (id_of kinds.Bool) ∷
-          f.tokens;
-      begins = (rest, id, f.begins);
-      spelled = ((f.tokens, f.spelled, refl), omega arith);
-    } in
-    subst (λ (y : AttrTerm × List ℕ). FoundOne (AttrWithin (suc n)) bytes y.0 y.1) (ok_is _ x a.2) found
+    id_found n kinds.Bool bytes rest id x f.tokens (terms.bool a.0.0) a.0.1 a.2 f.begins
+    ((f.tokens, f.spelled, refl), omega arith)
 body_found n read sound kinds.Integer bytes rest x id e =
     let a = bind_ok (value_at n rest) (λ v. Ok (terms.integer v.0.0.0 v.0.0.1 v.0.1, v.1)) x e in
     let f = value_found n rest a.0 a.1 in
-    let found : FoundOne (AttrWithin (suc n)) bytes (terms.integer a.0.0.0.0 a.0.0.0.1 a.0.0.1) a.0.1 =
-    record {
-      tokens = word (id_of kinds.Integer) ∷
-          f.tokens;
-      begins = (rest, id, f.begins);
-      spelled = ((f.tokens, f.spelled.0, refl), omega (arith, f.spelled.1));
-    }
-    in
-    subst (λ (y : AttrTerm × List ℕ). FoundOne (AttrWithin (suc n)) bytes y.0 y.1) (ok_is _ x a.2) found
+    id_found n kinds.Integer bytes rest id x f.tokens (terms.integer a.0.0.0.0 a.0.0.0.1 a.0.0.1) a.0.1 a.2
+    f.begins ((f.tokens, f.spelled.0, refl), omega (arith, f.spelled.1))
 body_found n read sound kinds.Dict bytes rest x id e =
     let a = bind_ok (items_at 91 93 (entry_at read) rest) (λ es. Ok (terms.dict (entries_of es.0), es.1)) x e in
     let f = items_found (EntryWithin n) 93 (entry_at read) (entry_found n read sound) 91 rest a.0 a.1 in
     let w = entries_wrote n a.0.0 f.tokens f.spelled in
-    let found : FoundOne (AttrWithin (suc n)) bytes (terms.dict (entries_of a.0.0)) a.0.1 =
-    record {
-      tokens = word (id_of kinds.Dict) ∷ enclosed 91 f.tokens 93;
-      begins = (
-        rest,
-        id,
-        f.begins,
-      );
-      spelled = ((f.tokens, w.0, refl), omega (arith, w.1));
-    } in
-    subst (λ (y : AttrTerm × List ℕ). FoundOne (AttrWithin (suc n)) bytes y.0 y.1) (ok_is _ x a.2) found
+    id_found n kinds.Dict bytes rest id x (enclosed 91 f.tokens 93) (terms.dict (entries_of a.0.0)) a.0.1 a.2
+    f.begins ((f.tokens, w.0, refl), omega (arith, w.1))
 body_found n read sound kinds.Vec bytes rest x id e =
     let a = bind_ok (items_at 91 93 read rest) (λ xs. Ok (terms.vec (attrs_of xs.0), xs.1)) x e in
     let f = items_found (AttrWithin n) 93 read sound 91 rest a.0 a.1 in
     let w = items_wrote n a.0.0 f.tokens f.spelled in
-    let found : FoundOne (AttrWithin (suc n)) bytes (terms.vec (attrs_of a.0.0)) a.0.1 =
-    record {
-      tokens = word (id_of kinds.Vec) ∷ enclosed 91 f.tokens 93;
-      begins = (
-        rest,
-        id,
-        f.begins,
-      );
-      spelled = ((f.tokens, w.0, refl), omega (arith, w.1));
-    } in
-    subst (λ (y : AttrTerm × List ℕ). FoundOne (AttrWithin (suc n)) bytes y.0 y.1) (ok_is _ x a.2) found
+    id_found n kinds.Vec bytes rest id x (enclosed 91 f.tokens 93) (terms.vec (attrs_of a.0.0)) a.0.1 a.2 f.begins
+    ((f.tokens, w.0, refl), omega (arith, w.1))
 body_found n read sound kinds.Unit bytes rest x id e =
-    let found : FoundOne (AttrWithin (suc n)) bytes terms.unit rest =
-    record { tokens = word (id_of kinds.Unit) ∷ []; begins = (rest, id, refl); spelled = (refl, omega arith) } in
-    subst (λ (y : AttrTerm × List ℕ). FoundOne (AttrWithin (suc n)) bytes y.0 y.1) (ok_is _ x e) found
+    id_found n kinds.Unit bytes rest id x [] terms.unit rest e refl (refl, omega arith)
 body_found n read sound kinds.TypeOf bytes rest x id e =
     let a = bind_ok (type_at n rest) (λ t. Ok (terms.type t.0, t.1)) x e in
     let f = type_found n rest a.0 a.1 in
-    let found : FoundOne (AttrWithin (suc n)) bytes (terms.type a.0.0) a.0.1 =
-    record {
-      tokens = word (id_of kinds.TypeOf) ∷
-          f.tokens;
-      begins = (rest, id, f.begins);
-      spelled = ((f.tokens, f.spelled.0, refl), omega (arith, f.spelled.1));
-    }
-    in
-    subst (λ (y : AttrTerm × List ℕ). FoundOne (AttrWithin (suc n)) bytes y.0 y.1) (ok_is _ x a.2) found
+    id_found n kinds.TypeOf bytes rest id x f.tokens (terms.type a.0.0) a.0.1 a.2 f.begins
+    ((f.tokens, f.spelled.0, refl), omega (arith, f.spelled.1))
 body_found n read sound kinds.OperandSegmentSizes bytes rest x id e =
     let a = bind_ok (items_at 91 93 size_at rest) (λ ns. Ok (terms.operand_segment_sizes ns.0, ns.1)) x e in
     let f = items_found SpellsSize 93 size_at size_found 91 rest a.0 a.1 in
-    let found : FoundOne (AttrWithin (suc n)) bytes (terms.operand_segment_sizes a.0.0) a.0.1 =
-    record {
-      tokens = word (id_of kinds.OperandSegmentSizes) ∷ enclosed 91 f.tokens 93;
-      begins = (
-        rest,
-        id,
-        f.begins,
-      );
-      spelled = ((f.tokens, f.spelled, refl), omega arith);
-    } in
-    subst (λ (y : AttrTerm × List ℕ). FoundOne (AttrWithin (suc n)) bytes y.0 y.1) (ok_is _ x a.2) found
+    id_found n kinds.OperandSegmentSizes bytes rest id x (enclosed 91 f.tokens 93)
+    (terms.operand_segment_sizes a.0.0) a.0.1 a.2 f.begins ((f.tokens, f.spelled, refl), omega arith)
 body_found n read sound kinds.GivenNames bytes rest x id e =
     let a = bind_ok (items_at 91 93 given_name_at rest) (λ ns. Ok (terms.given_names ns.0, ns.1)) x e in
     let f = items_found SpellsName 93 given_name_at given_name_found 91 rest a.0 a.1 in
-    let found : FoundOne (AttrWithin (suc n)) bytes (terms.given_names a.0.0) a.0.1 =
-    record {
-      tokens = word (id_of kinds.GivenNames) ∷ enclosed 91 f.tokens 93;
-      begins = (
-        rest,
-        id,
-        f.begins,
-      );
-      spelled = ((f.tokens, f.spelled, refl), omega arith);
-    } in
-    subst (λ (y : AttrTerm × List ℕ). FoundOne (AttrWithin (suc n)) bytes y.0 y.1) (ok_is _ x a.2) found
+    id_found n kinds.GivenNames bytes rest id x (enclosed 91 f.tokens 93) (terms.given_names a.0.0) a.0.1 a.2 f.begins
+    ((f.tokens, f.spelled, refl), omega arith)
 
 no_attr : (x : AttrTerm × List ℕ) → Err TooDeep ≡ done x → ⊥
 no_attr x e = cc

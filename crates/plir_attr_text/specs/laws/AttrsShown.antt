@@ -3,42 +3,33 @@ use Rattle.std.proofs.Common.{◌≡◌, ℕ, ◌<◌, ◌≤◌, ◌^◌, Bool,
 use Rattle.std.proofs.Common.{None, Ok, codes, refl, sym, ap, subst, ◌∙◌, arith, append-nil, append_assoc}
 use Rattle.std.proofs.lemmas.Bool.Decides.{Decides-eqb}
 use Rattle.std.specs.Fmt.{decimal}
-use Rattle.plir_data.specs.OwnParts.{Part}
-use Rattle.plir_data.specs.AttrVerify.{is_of_width}
+use Rattle.plir_data.specs.{OwnParts.Part, AttrVerify.is_of_width}
 use Rattle.plir_data.specs.AttrView as views
 use Rattle.plir_data.specs.AttrView.{Leaf, AttrView, leaf, dict, vec, Items, no_items, item, Entries, no_entries, entry}
 use Rattle.plir_data.specs.AttrView.{items_of, entries_of}
-use Rattle.plir_data.specs.Dictionary.{IsDictionary}
 use Rattle.plir_data.specs.Identifier.{is_identifier, is_letter, is_digit}
-use Rattle.plir_data.specs.Integers.{literal}
-use Rattle.plir_data.specs.Laws.{IsDictOfItself}
-use Rattle.plir_data.specs.TypeText.{type_text}
+use Rattle.plir_data.specs.{Dictionary.IsDictionary, Integers.literal, Laws.IsDictOfItself, TypeText.type_text}
 use Rattle.plir_data.specs.Types as types
 use Rattle.plir_data.specs.Types.{TypeView, IsTypeTable, type_at, prints_as_signed}
-use Rattle.plir_data.specs.TypeTree.{tree_of}
-use Rattle.plir_data.specs.declared.types.Signedness.{Signedness}
+use Rattle.plir_data.specs.{declared.types.Signedness.Signedness}
 use Rattle.plir_attr_text.specs.AttrGrammar.{truth, SpellsIdentifier, SpellsSize, SpellsName, Spells, SpellsItems}
 use Rattle.plir_attr_text.specs.AttrGrammar.{SpellsMoreItems, SpellsEntries, SpellsMoreEntries}
 use Rattle.plir_attr_text.specs.AttrText.{is_signed, bare_text, leaf_text, attr_text, items_text, more_items_text}
 use Rattle.plir_attr_text.specs.AttrText.{entries_text, more_entries_text}
-use Rattle.plir_attr_text.specs.Bytes.{is_in_word}
 use Rattle.plir_attr_text.specs.Meaning.{IsMeant, AreMeant, AreEntriesMeant, StandsFor}
-use Rattle.plir_attr_text.specs.Names.{Grows}
+use Rattle.plir_attr_text.specs.{Bytes.is_in_word, Names.Grows}
 use Rattle.plir_attr_text.specs.Terms as terms
-use Rattle.plir_attr_text.specs.Terms.{levels}
-use Rattle.plir_attr_text.specs.Tokens.{Token, word, digits, sign, look, Begins}
 use Rattle.plir_attr_text.specs.Writable.{IsNameOrMark, pairs_of, IsLeafWritable, IsWritable, AreItemsWritable}
 use Rattle.plir_attr_text.specs.Writable.{AreEntriesWritable, leaf_term, attr_term, attr_terms, entry_terms}
 use Rattle.plir_attr_text.specs.Writable.{signedness_of}
-use Rattle.plir_attr_text.specs.Written.{name_or_mark}
 use Rattle.plir_attr_text.specs.laws.Printed.{Ends, IsValue, is_word, look-word, look-spaced, look-decimal, value_text}
 use Rattle.plir_attr_text.specs.laws.Printed.{value_spelled, integer-begins}
-use Rattle.plir_attr_text.specs.laws.QuotedAgain.{string-shown}
-use Rattle.plir_attr_text.specs.laws.Meanings.{IsMeant-grown}
 use Rattle.plir_attr_text.specs.laws.Runs.{Run, Shown, Tail, Shown-as, Run-as, Tail-as, behind_id, word-shown}
-use Rattle.plir_attr_text.specs.laws.Runs.{identifier_is_word}
-use Rattle.plir_attr_text.specs.laws.Runs.{listed, nothing, behind_first, behind_comma, begins-spaced, several-shown}
-use Rattle.plir_attr_text.specs.laws.TypesShown.{type-shown, type_named}
+use Rattle.plir_attr_text.specs.laws.Runs.{identifier_is_word, listed, nothing, behind_first, behind_comma}
+use Rattle.plir_attr_text.specs.laws.Runs.{begins-spaced, several-shown}
+use Rattle.plir_attr_text.specs.{Terms.levels, Tokens.Token, Tokens.word, Tokens.digits, Tokens.sign, Tokens.look}
+use Rattle.plir_attr_text.specs.{Tokens.Begins, Written.name_or_mark, laws.QuotedAgain.string-shown}
+use Rattle.plir_attr_text.specs.{laws.Meanings.IsMeant-grown, laws.TypesShown.type-shown, laws.TypesShown.type_named}
 
 -- ---- leaves
 

@@ -1,21 +1,16 @@
 -- Tokens that stand first in a text.
-use Rattle.std.proofs.Common.{◌≡◌, ℕ, zero, suc, ◌+◌, ◌<◌, ◌≤◌, Bool, true, false, cond, nat_eq, ◌&&◌, List, [], ◌∷◌}
-use Rattle.std.proofs.Common.{◌++◌, length, Option, Some, None, Result, Ok, Err, refl, sym, ap, subst, ◌∙◌, arith, inl}
-use Rattle.std.proofs.Common.{inr}
+use Rattle.std.proofs.Common.{◌≡◌, ℕ, suc, ◌+◌, ◌<◌, ◌≤◌, Bool, true, false, cond, nat_eq, ◌&&◌, List, [], ◌∷◌, ◌++◌}
+use Rattle.std.proofs.Common.{length, Some, None, Result, Ok, Err, refl, sym, ap, subst, ◌∙◌, arith, inl, inr}
 use Rattle.std.proofs.lemmas.Bool.Decides.{Decides-eqb}
 use Rattle.plir_data.specs.Identifier.{is_letter, is_digit}
-use Rattle.plir_attr_text.specs.declared.fault.Fault.{Fault}
-use Rattle.plir_attr_text.specs.declared.fault.Fault.TheVariants.{Unexpected}
-use Rattle.plir_attr_text.specs.Bytes.{is_blank, past, begins, tail_of}
-use Rattle.plir_attr_text.specs.Strings.{unit_at, AreUnits}
 use Rattle.plir_attr_text.specs.Tokens.{Token, word, digits, signed, quoted, arrow, sign, is_mark, token_at, look}
-use Rattle.plir_attr_text.specs.Tokens.{Takes}
-use Rattle.plir_attr_text.specs.Tokens.{Begins}
+use Rattle.plir_attr_text.specs.Tokens.{Takes, Begins}
 use Rattle.plir_attr_text.specs.Lists.{is_sign, sign_at, behind_sign, past_sign, separator_at}
 use Rattle.plir_attr_text.specs.TypeReading.{as_word, word_at, as_arrow, arrow_at}
-use Rattle.plir_attr_text.specs.laws.StepLaws.{chosen, bind_ok, done, ok_is}
-use Rattle.plir_attr_text.specs.laws.Lexing.{past-length, word_past-length}
-use Rattle.plir_attr_text.specs.laws.Quoted.{unit-shorter}
+use Rattle.plir_attr_text.specs.{declared.fault.Fault.Fault, declared.fault.Fault.TheVariants.Unexpected}
+use Rattle.plir_attr_text.specs.{Bytes.is_blank, Bytes.past, Bytes.begins, Bytes.tail_of, Strings.AreUnits}
+use Rattle.plir_attr_text.specs.{laws.StepLaws.chosen, laws.StepLaws.bind_ok, laws.StepLaws.done, laws.StepLaws.ok_is}
+use Rattle.plir_attr_text.specs.{laws.Lexing.past-length, laws.Lexing.word_past-length, laws.Quoted.unit-shorter}
 
 -- ---- each token takes a byte or more
 

@@ -1,14 +1,10 @@
 -- What is left of a text behind tokens that it begins with.
 use Rattle.std.proofs.Common.{◌≡◌, ℕ, zero, suc, List, [], ◌∷◌, ◌++◌, true, Result, Ok, refl, sym, subst}
-use Rattle.plir_attr_text.specs.declared.fault.Fault.{Fault}
 use Rattle.plir_attr_text.specs.Tokens.{Token, arrow, sign, Takes, Begins}
-use Rattle.plir_attr_text.specs.Lists.{sign_at}
-use Rattle.plir_attr_text.specs.TypeReading.{arrow_at}
-use Rattle.plir_attr_text.specs.AttrReading.{name_at}
-use Rattle.plir_attr_text.specs.TypesIn.{IsBehind, IsItemAt}
 use Rattle.plir_attr_text.specs.laws.Begun.{Begins-append, arrow_found, sign_found, separator_found}
 use Rattle.plir_attr_text.specs.laws.LeavesFound.{name_found}
-use Rattle.plir_attr_text.specs.laws.ListsFound.{IsSound}
+use Rattle.plir_attr_text.specs.{declared.fault.Fault.Fault, Lists.sign_at, TypeReading.arrow_at, AttrReading.name_at}
+use Rattle.plir_attr_text.specs.{TypesIn.IsBehind, TypesIn.IsItemAt, laws.ListsFound.IsSound}
 
 -- the rest stands behind tokens that the text begins with
 abbrev pub IsEnd : (bytes rest : List ℕ) → Type 0

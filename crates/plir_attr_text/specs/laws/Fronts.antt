@@ -1,13 +1,11 @@
 -- Reading things one after the other, as a loop does.
 use Rattle.std.proofs.Common.{◌≡◌, ℕ, zero, suc, ◌≤◌, ◌<◌, List, [], ◌∷◌, ◌++◌, length, Bool, true, false, Some, None}
 use Rattle.std.proofs.Common.{Result, Ok, Err, refl, sym, ap, ◌∙◌, append_assoc, arith}
-use Rattle.plir_attr_text.specs.declared.fault.Fault.{Fault}
-use Rattle.plir_attr_text.specs.declared.fault.Stop.{Stop}
-use Rattle.plir_attr_text.specs.Steps.{◌>>=◌}
 use Rattle.plir_attr_text.specs.Lists.{sign_at, past_sign, separator_at, with_first, if_more, more_at, unless_closed}
 use Rattle.plir_attr_text.specs.Lists.{items_at}
-use Rattle.plir_attr_text.specs.Reading.{Ends, Fails}
 use Rattle.plir_attr_text.specs.laws.StepLaws.{Ends-bind, Ends-from, Fails-bind}
+use Rattle.plir_attr_text.specs.{declared.fault.Fault.Fault, declared.fault.Stop.Stop, Steps.◌>>=◌, Reading.Ends}
+use Rattle.plir_attr_text.specs.{Reading.Fails}
 
 -- what was read before, and what is still read
 abbrev pub with_front : {A : Type 0} → List A → Result (List A × List ℕ) Fault → Result (List A × List ℕ) Fault

@@ -1,12 +1,10 @@
 -- Tables of types that grow, and what handles name in them.
 use Rattle.std.proofs.Common.{◌≡◌, ℕ, zero, suc, ◌<◌, ◌+◌, inl, inr, List, [], ◌∷◌, ◌++◌, length, Some, slice_get, refl}
 use Rattle.std.proofs.Common.{sym, ap, subst, ◌∙◌, append-nil, append_assoc, length-append, arith}
-use Rattle.std.proofs.lemmas.Bool.{cases_lt}
-use Rattle.std.proofs.lemmas.Option.{slice_get_within}
+use Rattle.std.proofs.{lemmas.Bool.cases_lt, lemmas.Option.slice_get_within}
 use Rattle.plir_data.specs.Types.{TypeView, integer, function, unit, IsInstantiated, AllLive, type_at}
 use Rattle.plir_attr_text.specs.Terms.{TypeTerm, integer_type, function_type, unit_type, TypeTerms, no_types}
-use Rattle.plir_attr_text.specs.Terms.{type_before}
-use Rattle.plir_attr_text.specs.Terms.{types_of}
+use Rattle.plir_attr_text.specs.Terms.{type_before, types_of}
 use Rattle.plir_attr_text.specs.Names.{Grows, AreNamed, Adds, Names, NamesAll}
 
 module _ {T : Type 0} where

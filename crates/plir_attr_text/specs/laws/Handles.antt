@@ -1,9 +1,8 @@
 -- Handles in lists, and those that a type holds.
 use Rattle.std.proofs.Common.{◌≡◌, ℕ, zero, suc, ◌<◌, ◌≤◌, max, List, [], ◌∷◌, ◌++◌, length, get_or, All, Some, ap, ◌∙◌}
 use Rattle.std.proofs.Common.{arith}
-use Rattle.plir_data.specs.TypeSeen.{type_view}
 use Rattle.plir_data.specs.Types.{TypeView, IsTypeTable, handles_of, type_at}
-use Rattle.plir_data.specs.declared.types.TypeObj.{TypeObj}
+use Rattle.plir_data.specs.{TypeSeen.type_view, declared.types.TypeObj.TypeObj}
 
 -- one more than the largest
 abbrev pub above_all : List ℕ → ℕ

@@ -1,28 +1,19 @@
 -- The parts of attributes that hold no other are read where they stand.
 use Rattle.std.proofs.Common.{◌≡◌, ℕ, ◌≤◌, ◌-◌, ◌^◌, Bool, true, false, nat_le, List, [], ◌∷◌, Option, Some, None, Ok}
 use Rattle.std.proofs.Common.{codes, refl, sym, ap, subst, ◌∙◌}
-use Rattle.std.proofs.lemmas.Bool.{le-leb}
-use Rattle.std.proofs.lemmas.Bool.Decides.{Decides-ltb}
-use Rattle.std.proofs.lemmas.Str.{is_utf8-from_IsUtf8}
-use Rattle.plir_data.specs.Integers.{is_width}
-use Rattle.plir_data.specs.declared.types.Signedness.{Signedness}
+use Rattle.std.proofs.{lemmas.Bool.le-leb, lemmas.Bool.Decides.Decides-ltb, lemmas.Str.is_utf8-from_IsUtf8}
+use Rattle.plir_data.specs.{Integers.is_width, declared.types.Signedness.Signedness}
 use Rattle.plir_attr_text.specs.Tokens.{Token, word, digits, signed, quoted, arrow, sign, Takes, Begins}
-use Rattle.plir_attr_text.specs.Lists.{past_sign}
 use Rattle.plir_attr_text.specs.AttrGrammar.{SpellsLiteral, IsBits, SpellsIdentifier, SpellsString, SpellsTruth}
-use Rattle.plir_attr_text.specs.AttrGrammar.{SpellsValue}
-use Rattle.plir_attr_text.specs.AttrGrammar.{SpellsSize, SpellsName}
+use Rattle.plir_attr_text.specs.AttrGrammar.{SpellsValue, SpellsSize, SpellsName}
 use Rattle.plir_attr_text.specs.AttrReading.{name_at, bool_at, text_at, size_at, given_name_at, literal_at, bits_of}
 use Rattle.plir_attr_text.specs.AttrReading.{value_of, value_at}
 use Rattle.plir_attr_text.specs.TypeReading.{word_at, integer_of, integer_at}
-use Rattle.plir_attr_text.specs.Levels.{if_level, level_at}
-use Rattle.plir_attr_text.specs.Steps.{◌>>=◌}
-use Rattle.plir_attr_text.specs.laws.Quoted.{quoted-read}
-use Rattle.plir_attr_text.specs.laws.StepLaws.{bind_ok, done}
 use Rattle.plir_attr_text.specs.laws.Begun.{Begins-split, word_again, sign_again, past_sign_again, no_sign}
-use Rattle.plir_attr_text.specs.laws.ListsFound.{More, Several}
-use Rattle.plir_attr_text.specs.laws.ListsAgain.{IsRead, word_opens}
-use Rattle.plir_attr_text.specs.laws.TypesFound.{both}
-use Rattle.plir_attr_text.specs.laws.TypesAgain.{integer_again}
+use Rattle.plir_attr_text.specs.{Lists.past_sign, Levels.if_level, Levels.level_at, Steps.◌>>=◌}
+use Rattle.plir_attr_text.specs.{laws.Quoted.quoted-read, laws.StepLaws.bind_ok, laws.StepLaws.done}
+use Rattle.plir_attr_text.specs.{laws.ListsFound.Several, laws.ListsFound.several_as, laws.ListsAgain.IsRead}
+use Rattle.plir_attr_text.specs.{laws.ListsAgain.word_opens, laws.TypesFound.both, laws.TypesAgain.integer_again}
 
 pub name_again : (w : List ℕ) (ts : List Token) (bytes rest : List ℕ) → SpellsIdentifier w ts → Begins bytes ts rest →
     name_at bytes ≡ Ok (w, rest)
@@ -65,33 +56,11 @@ size_opens n ts bytes rest h b =
     let c = subst (λ (y : List Token). Begins bytes y rest) h.1 b in
     no_sign 93 bytes (digits n, c.0) c.1 refl
 
-more_sizes : (ns : List ℕ) (ts : List Token) → More SpellsSize ns ts → More (IsRead 93 size_at) ns ts
-more_sizes [] ts h = h
-more_sizes (n ∷ ns) ts h = (
-  h.0,
-  h.1,
-  record {
-    reads = λ bytes rest b. size_reads n h.0 bytes rest h.2 b;
-    opens = λ bytes rest b. size_opens n
-        h.0 bytes rest h.2 b;
-  },
-  more_sizes ns h.1 h.3,
-  h.4,
-)
-
 pub sizes_read : (ns : List ℕ) (ts : List Token) → Several SpellsSize ns ts → Several (IsRead 93 size_at) ns ts
-sizes_read [] ts h = h
-sizes_read (n ∷ ns) ts h = (
-  h.0,
-  h.1,
-  record {
-    reads = λ bytes rest b. size_reads n h.0 bytes rest h.2 b;
-    opens = λ bytes rest b. size_opens n
-        h.0 bytes rest h.2 b;
-  },
-  more_sizes ns h.1 h.3,
-  h.4,
-)
+sizes_read ns ts h = several_as SpellsSize (IsRead 93 size_at) (λ n us g. record {
+  reads = λ bytes rest b. size_reads n us bytes rest g b;
+  opens = λ bytes rest b. size_opens n us bytes rest g b;
+}) ns ts h
 
 -- an unset name
 abbrev unset : Option (List ℕ)
@@ -115,35 +84,12 @@ given_opens None ts bytes rest h b =
 given_opens (Some w) ts bytes rest h b =
     word_opens 93 w [] bytes rest (subst (λ (y : List Token). Begins bytes y rest) h.1 b)
 
-more_names : (ns : List (Option (List ℕ))) (ts : List Token) → More SpellsName ns ts →
-    More (IsRead 93 given_name_at) ns ts
-more_names [] ts h = h
-more_names (n ∷ ns) ts h = (
-  h.0,
-  h.1,
-  record {
-    reads = λ bytes rest b. given_reads n h.0 bytes rest h.2 b;
-    opens = λ bytes rest b. given_opens
-        n h.0 bytes rest h.2 b;
-  },
-  more_names ns h.1 h.3,
-  h.4,
-)
-
 pub names_read : (ns : List (Option (List ℕ))) (ts : List Token) → Several SpellsName ns ts →
     Several (IsRead 93 given_name_at) ns ts
-names_read [] ts h = h
-names_read (n ∷ ns) ts h = (
-  h.0,
-  h.1,
-  record {
-    reads = λ bytes rest b. given_reads n h.0 bytes rest h.2 b;
-    opens = λ bytes rest b. given_opens
-        n h.0 bytes rest h.2 b;
-  },
-  more_names ns h.1 h.3,
-  h.4,
-)
+names_read ns ts h = several_as SpellsName (IsRead 93 given_name_at) (λ n us g. record {
+  reads = λ bytes rest b. given_reads n us bytes rest g b;
+  opens = λ bytes rest b. given_opens n us bytes rest g b;
+}) ns ts h
 
 -- ---- integers
 

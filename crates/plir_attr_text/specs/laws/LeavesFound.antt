@@ -2,32 +2,22 @@
 use Rattle.std.proofs.Common.{◌≡◌, ℕ, ◌<◌, ◌≤◌, ◌-◌, ◌^◌, Bool, true, false, cond, nat_lt, nat_le, List, [], ◌∷◌, ◌++◌}
 use Rattle.std.proofs.Common.{length, Option, Some, None, Result, Ok, Err, codes, refl, sym, ap, subst, ◌∙◌, arith, inl}
 use Rattle.std.proofs.Common.{inr}
+use Rattle.std.proofs.{lemmas.Bool.leb-true, lemmas.Bool.Decides.Decides-ltb, lemmas.Slice.Eq.bytes_eq-Decides}
+use Rattle.std.proofs.{lemmas.Str.IsUtf8-from_is_utf8}
 use Rattle.std.specs.Str.{bytes_eq, is_utf8}
-use Rattle.std.proofs.lemmas.Bool.{leb-true}
-use Rattle.std.proofs.lemmas.Bool.Decides.{Decides-ltb}
-use Rattle.std.proofs.lemmas.Slice.Eq.{bytes_eq-Decides}
-use Rattle.std.proofs.lemmas.Str.{IsUtf8-from_is_utf8}
-use Rattle.plir_data.specs.Identifier.{is_identifier}
-use Rattle.plir_data.specs.Integers.{is_width}
-use Rattle.plir_data.specs.declared.types.Signedness.{Signedness}
-use Rattle.plir_attr_text.specs.declared.fault.Fault.{Fault}
+use Rattle.plir_data.specs.{Identifier.is_identifier, Integers.is_width, declared.types.Signedness.Signedness}
 use Rattle.plir_attr_text.specs.declared.fault.Fault.TheVariants.{Unexpected}
-use Rattle.plir_attr_text.specs.Steps.{◌>>=◌}
-use Rattle.plir_attr_text.specs.Strings.{string_at}
 use Rattle.plir_attr_text.specs.Tokens.{Token, word, digits, signed, quoted, arrow, sign, look, Takes, Begins}
-use Rattle.plir_attr_text.specs.Lists.{past_sign, sign_at}
-use Rattle.plir_attr_text.specs.TypeReading.{word_at, integer_at}
-use Rattle.plir_attr_text.specs.Levels.{if_level, level_at}
 use Rattle.plir_attr_text.specs.AttrGrammar.{truth, SpellsLiteral, IsBits, SpellsIdentifier, SpellsString, SpellsTruth}
 use Rattle.plir_attr_text.specs.AttrGrammar.{SpellsValue, SpellsSize, SpellsName}
 use Rattle.plir_attr_text.specs.AttrReading.{name_at, bool_at, text_at, as_size, size_at, unless_unset, given_name_at}
 use Rattle.plir_attr_text.specs.AttrReading.{as_literal, literal_at, bits_of, value_of, value_at}
-use Rattle.plir_attr_text.specs.laws.Quoted.{quoted-found}
 use Rattle.plir_attr_text.specs.laws.StepLaws.{chosen, bind_ok, done, ok_is}
 use Rattle.plir_attr_text.specs.laws.Begun.{Begins-append, Begins-length, word_found, sign_found, past_sign_found}
-use Rattle.plir_attr_text.specs.laws.ListsFound.{FoundOne, IsSound}
-use Rattle.plir_attr_text.specs.laws.TypesFound.{integer_found}
-use Rattle.plir_attr_text.specs.laws.TypesAgain.{parts}
+use Rattle.plir_attr_text.specs.{declared.fault.Fault.Fault, Steps.◌>>=◌, Strings.string_at, Lists.past_sign}
+use Rattle.plir_attr_text.specs.{Lists.sign_at, TypeReading.word_at, TypeReading.integer_at, Levels.if_level}
+use Rattle.plir_attr_text.specs.{Levels.level_at, laws.Quoted.quoted-found, laws.ListsFound.FoundOne}
+use Rattle.plir_attr_text.specs.{laws.ListsFound.IsSound, laws.TypesFound.integer_found, laws.TypesAgain.parts}
 
 -- what is found takes a byte or more, if some token stands for it
 pub found-shorter : {A : Type 0} (E : A → List Token → Type 0) (read : List ℕ → Result (A × List ℕ) Fault) →

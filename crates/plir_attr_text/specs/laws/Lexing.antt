@@ -1,12 +1,35 @@
 -- Tokens, and how much of the text they take.
-use Rattle.std.proofs.Common.{◌≡◌, ℕ, suc, ◌+◌, ◌-◌, ◌*◌, ◌≤◌, Bool, true, false, cond, nat_eq, List, [], ◌∷◌, ◌++◌}
-use Rattle.std.proofs.Common.{length, get_or, take, drop, Ok, refl, sym, ap, subst, ◌∙◌, length-append, arith}
+use Rattle.std.proofs.Common.{◌≡◌, ℕ, suc, ◌+◌, ◌-◌, ◌*◌, ◌≤◌, Bool, true, false, cond, ◌||◌, not, nat_eq, List}
+use Rattle.std.proofs.Common.{[], ◌∷◌, ◌++◌, length, get_or, take, drop, Ok, refl, sym, ap, subst, ◌∙◌}
+use Rattle.std.proofs.Common.{length-append, arith}
 use Rattle.std.proofs.lemmas.List.{take_all}
-use Rattle.plir_data.specs.Identifier.{is_letter}
+use Rattle.plir_data.specs.Identifier.{is_letter, is_digit}
 use Rattle.plir_attr_text.specs.Bytes.{is_in_name, is_point, front, past, word_front, word_past, value_after, hex_value}
 use Rattle.plir_attr_text.specs.Bytes.{hex_after}
-use Rattle.plir_attr_text.specs.Tokens.{word, token_at}
+use Rattle.plir_attr_text.specs.{Bytes.is_blank, Tokens.word, Tokens.sign, Tokens.token_at, Tokens.look}
 use Rattle.plir_attr_text.specs.laws.StepLaws.{done}
+
+-- a byte that is a token of its own, whatever stands behind it
+abbrev pub is_lone : ℕ → Bool
+is_lone b = not (is_blank b || (is_letter b || (is_digit b || (nat_eq b 45 || nat_eq b 43))))
+
+neither : (a b : Bool) → not (a || b) ≡ true → (a ≡ false) × (not b ≡ true)
+neither true b e = absurd cc
+neither false b e = (refl, e)
+
+none : (a : Bool) → not a ≡ true → a ≡ false
+none true e = absurd cc
+none false e = refl
+
+pub look-sign : (b : ℕ) → is_lone b ≡ true → (rest : List ℕ) → look (b ∷ rest) ≡ Ok (sign b, rest)
+unfolding look
+look-sign b lone rest =
+    let blank = neither (is_blank b) (is_letter b || (is_digit b || (nat_eq b 45 || nat_eq b 43))) lone in
+    let letter = neither (is_letter b) (is_digit b || (nat_eq b 45 || nat_eq b 43)) blank.1 in
+    let digit = neither (is_digit b) (nat_eq b 45 || nat_eq b 43) letter.1 in
+    let minus = neither (nat_eq b 45) (nat_eq b 43) digit.1 in
+    let plus = none (nat_eq b 43) minus.1 in
+    rw (blank.0, letter.0, digit.0, minus.0, plus) refl
 
 choice-length : (t : Bool) (xs ys : List ℕ) (n : ℕ) → length xs ≤ n → length ys ≤ n → length (cond t xs ys) ≤ n
 choice-length true xs ys n p q = p

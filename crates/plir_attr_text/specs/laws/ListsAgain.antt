@@ -1,17 +1,12 @@
 -- Lists that stand there are read.
 use Rattle.std.proofs.Common.{◌≡◌, ℕ, zero, suc, ◌-◌, ◌<◌, ◌≤◌, false, nat_eq, List, [], ◌∷◌, ◌++◌, length, None}
 use Rattle.std.proofs.Common.{Result, Ok, Err, refl, sym, ap, subst, ◌∙◌, arith, append_assoc}
-use Rattle.plir_attr_text.specs.declared.fault.Fault.{Fault}
-use Rattle.plir_attr_text.specs.Steps.{◌>>=◌}
-use Rattle.plir_attr_text.specs.Tokens.{Token, word, sign, Begins}
-use Rattle.plir_attr_text.specs.TypeGrammar.{enclosed, IsText}
 use Rattle.plir_attr_text.specs.Lists.{past_sign, separator_at, with_first, if_more, more_at, items_at}
-use Rattle.plir_attr_text.specs.Wholes.{end_at, whole}
-use Rattle.plir_attr_text.specs.laws.StepLaws.{done, ok_is}
 use Rattle.plir_attr_text.specs.laws.Begun.{Begins-split, Begins-length, Takes-shorter, sign_again, past_sign_again}
-use Rattle.plir_attr_text.specs.laws.Begun.{no_sign}
-use Rattle.plir_attr_text.specs.laws.Begun.{closed_again, comma_again}
-use Rattle.plir_attr_text.specs.laws.ListsFound.{More, Several}
+use Rattle.plir_attr_text.specs.laws.Begun.{no_sign, closed_again, comma_again}
+use Rattle.plir_attr_text.specs.{declared.fault.Fault.Fault, Steps.◌>>=◌, Tokens.Token, Tokens.word, Tokens.sign}
+use Rattle.plir_attr_text.specs.{Tokens.Begins, TypeGrammar.enclosed, TypeGrammar.IsText, Wholes.end_at, Wholes.whole}
+use Rattle.plir_attr_text.specs.{laws.StepLaws.done, laws.StepLaws.ok_is, laws.ListsFound.More, laws.ListsFound.Several}
 
 -- where the tokens stand the thing is read, and no list is closed there
 pub record IsRead {A : Type 0} (close : ℕ) (read : List ℕ → Result (A × List ℕ) Fault) (x : A) (ts : List Token) : Type

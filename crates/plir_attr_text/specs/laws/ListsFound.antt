@@ -1,17 +1,13 @@
 -- Things one behind another, and lists, that are read stand there.
 use Rattle.std.proofs.Common.{◌≡◌, ℕ, zero, suc, Bool, true, false, List, [], ◌∷◌, ◌++◌, length, Option, Some, None}
 use Rattle.std.proofs.Common.{Result, Ok, refl, sym, ap, subst, ◌∙◌, append_assoc}
-use Rattle.plir_attr_text.specs.declared.fault.Fault.{Fault}
-use Rattle.plir_attr_text.specs.Bytes.{is_blank, past}
-use Rattle.plir_attr_text.specs.Steps.{◌>>=◌}
-use Rattle.plir_attr_text.specs.Tokens.{Token, sign, look, Begins}
-use Rattle.plir_attr_text.specs.TypeGrammar.{enclosed, IsText}
-use Rattle.plir_attr_text.specs.AttrGrammar.{SpellsMore, SpellsSeveral}
 use Rattle.plir_attr_text.specs.Lists.{sign_at, past_sign, separator_at, with_first, if_more, more_at, unless_closed}
 use Rattle.plir_attr_text.specs.Lists.{items_at}
-use Rattle.plir_attr_text.specs.Wholes.{if_none_left, end_at, whole}
-use Rattle.plir_attr_text.specs.laws.StepLaws.{bind_ok, ok_is}
 use Rattle.plir_attr_text.specs.laws.Begun.{Begins-append, sign_found, past_sign_found, separator, separator_found}
+use Rattle.plir_attr_text.specs.{declared.fault.Fault.Fault, Bytes.is_blank, Bytes.past, Steps.◌>>=◌, Tokens.Token}
+use Rattle.plir_attr_text.specs.{Tokens.sign, Tokens.look, Tokens.Begins, TypeGrammar.enclosed, TypeGrammar.IsText}
+use Rattle.plir_attr_text.specs.{AttrGrammar.SpellsMore, AttrGrammar.SpellsSeveral, Wholes.if_none_left, Wholes.end_at}
+use Rattle.plir_attr_text.specs.{Wholes.whole, laws.StepLaws.bind_ok, laws.StepLaws.ok_is}
 
 -- a reader finds things that tokens stand for
 pub record FoundOne {A : Type 0} (E : A → List Token → Type 0) (bytes : List ℕ) (x : A) (rest : List ℕ) : Type 0 where
@@ -27,6 +23,16 @@ More {A} E xs ts = SpellsMore E xs ts
 
 abbrev pub Several : {A : Type 0} → (A → List Token → Type 0) → List A → List Token → Type 0
 Several {A} E xs ts = SpellsSeveral E xs ts
+
+-- things one behind another, by what is so of each
+module _ {A : Type 0} (P Q : A → List Token → Type 0) (each : (x : A) (ts : List Token) → P x ts → Q x ts) where
+  more_as : (xs : List A) (ts : List Token) → More P xs ts → More Q xs ts
+  more_as [] ts h = h
+  more_as (x ∷ xs) ts h = (h.0, h.1, each x h.0 h.2, more_as xs h.1 h.3, h.4)
+
+  pub several_as : (xs : List A) (ts : List Token) → Several P xs ts → Several Q xs ts
+  several_as [] ts h = h
+  several_as (x ∷ xs) ts h = (h.0, h.1, each x h.0 h.2, more_as xs h.1 h.3, h.4)
 
 none_left_is : (rest : List ℕ) (u : Unit {0}) → if_none_left rest ≡ Ok u → rest ≡ []
 none_left_is [] u e = refl

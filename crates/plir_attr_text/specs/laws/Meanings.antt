@@ -1,23 +1,19 @@
 -- What attributes mean in tables that grow.
-use Rattle.std.proofs.Common.{◌≡◌, ◌<◌, ℕ, zero, suc, List, [], ◌∷◌, ◌++◌, length, map}
-use Rattle.std.proofs.Common.{refl, sym, ap, subst, ◌∙◌, arith}
-use Rattle.std.proofs.lemmas.List.{map-append}
-use Rattle.std.proofs.lemmas.Option.{slice_get_within}
+use Rattle.std.proofs.Common.{◌≡◌, ◌<◌, ℕ, zero, suc, List, [], ◌∷◌, ◌++◌, length, map, refl, sym, ap, subst, ◌∙◌}
+use Rattle.std.proofs.Common.{arith}
+use Rattle.std.proofs.{lemmas.List.map-append, lemmas.Option.slice_get_within}
 use Rattle.plir_data.specs.Types as types
-use Rattle.plir_data.specs.Types.{TypeView, AllLive}
 use Rattle.plir_data.specs.AttrLive.{leaf_handles, IsAttrLive, AreItemsLive, AreEntriesLive, HandlesLive}
 use Rattle.plir_data.specs.LiveLaws.{live_listed, listed_live, put_live}
-use Rattle.plir_data.specs.AttrSeen.{attr_view}
-use Rattle.plir_data.specs.declared.attributes.AttrObj.{AttrObj}
+use Rattle.plir_data.specs.{Types.TypeView, Types.AllLive, AttrSeen.attr_view, declared.attributes.AttrObj.AttrObj}
 use Rattle.plir_data.specs.AttrView as views
 use Rattle.plir_data.specs.AttrView.{Leaf, AttrView, leaf}
 use Rattle.plir_data.specs.Dictionary.{dict_put, dict_put_all, dict_of}
 use Rattle.plir_attr_text.specs.Terms as terms
 use Rattle.plir_attr_text.specs.Terms.{AttrTerm, AttrTerms, no_attrs, attr_before, EntryTerms, no_entries, entry_before}
 use Rattle.plir_attr_text.specs.Terms.{attrs_of, entries_of}
-use Rattle.plir_attr_text.specs.Names.{Grows}
 use Rattle.plir_attr_text.specs.Meaning.{IsMeant, AreMeant, AreEntriesMeant, IsDictMeant}
-use Rattle.plir_attr_text.specs.laws.Growth.{at_grown, Names-grown, Names-live}
+use Rattle.plir_attr_text.specs.{Names.Grows, laws.Growth.at_grown, laws.Growth.Names-grown, laws.Growth.Names-live}
 
 module _ {A T : Type 0} (old new : List (TypeView T)) (g : Grows old new) where
   mutual

@@ -2,10 +2,9 @@
 use Rattle.std.proofs.Common.{◌≡◌, ◌⊎◌, ℕ, zero, suc, List, [], ◌∷◌, length, true, Result, Ok, inl, inr, sym, ap, subst}
 use Rattle.std.proofs.Common.{◌∙◌}
 use Rattle.plir_data.specs.declared.types.Signedness.{Signedness}
-use Rattle.plir_attr_text.specs.declared.fault.Fault.{Fault}
-use Rattle.plir_attr_text.specs.declared.words.TypeKind.{TypeKind}
 use Rattle.plir_attr_text.specs.declared.words.TypeKind.TheVariants.{Integer, Function, Unit}
 use Rattle.plir_attr_text.specs.declared.attr_words.AttrKind.{AttrKind}
+use Rattle.plir_attr_text.specs.{declared.fault.Fault.Fault, declared.words.TypeKind.TypeKind}
 use Rattle.plir_attr_text.specs.declared.attr_words.AttrKind.TheVariants as kinds
 use Rattle.plir_attr_text.specs.Steps.{◌>>=◌}
 use Rattle.plir_attr_text.specs.Terms as terms
@@ -16,14 +15,12 @@ use Rattle.plir_attr_text.specs.Lists.{items_at}
 use Rattle.plir_attr_text.specs.TypeReading.{arrow_at, integer_at, function_at, type_head, type_body, type_at}
 use Rattle.plir_attr_text.specs.AttrReading.{name_at, value_at, entry_at, attr_head, attr_body, attr_at}
 use Rattle.plir_attr_text.specs.TypeGrammar.{IsText, TypeWithin, IsInteger, FunctionWithin}
-use Rattle.plir_attr_text.specs.AttrGrammar.{AttrWithin}
 use Rattle.plir_attr_text.specs.TypesIn.{IsBehind, IsItemAt, IsInList, IsInInteger, IsInTypeBody, IsInType}
-use Rattle.plir_attr_text.specs.TypesIn.{IsInFunction}
-use Rattle.plir_attr_text.specs.TypesIn.{IsInEntry, IsInAttr, IsBehindId}
+use Rattle.plir_attr_text.specs.TypesIn.{IsInFunction, IsInEntry, IsInAttr, IsBehindId}
 use Rattle.plir_attr_text.specs.Parts.{IsPartOf, IsPartOfOne, IsHeldBy, IsHeldByItem, IsHeldByEntry}
 use Rattle.plir_attr_text.specs.laws.StepLaws.{bind_ok, ok_is}
 use Rattle.plir_attr_text.specs.laws.TypesAgain.{integer_again, type_within_again, function_within_again}
-use Rattle.plir_attr_text.specs.laws.AttrsAgain.{attr_again}
+use Rattle.plir_attr_text.specs.{AttrGrammar.AttrWithin, laws.AttrsAgain.attr_again}
 
 one_of : {A : Type 0} (r : Result A Fault) (x y : A) → r ≡ Ok x → r ≡ Ok y → x ≡ y
 one_of r x y e f = ok_is x y (sym e ∙ f)

@@ -2,24 +2,17 @@
 use Rattle.std.proofs.Common.{◌≡◌, ◌&&◌, ◌||◌, if◌then◌else◌, nat_eq, ℕ, suc, ◌+◌, ◌-◌, ◌*◌, ◌%◌, ◌^◌, ◌<◌, ◌≤◌, Bool}
 use Rattle.std.proofs.Common.{true, false, cond, List, [], ◌∷◌, ◌++◌, codes, Ok, refl, sym, ap, subst, ◌∙◌, arith}
 use Rattle.std.proofs.Common.{append_assoc}
+use Rattle.std.proofs.{lemmas.Fmt.decimal_by_steps, lemmas.Nat.pow_pos, Math.Nat.pow-le-pow_right, Math.Nat.pow-succ'}
+use Rattle.std.proofs.{Math.Nat.mod-eq_of_lt, lemmas.Bool.le-leb, lemmas.Bool.leb-true, lemmas.Bool.Decides.nat_tests}
 use Rattle.std.specs.Fmt.{decimal}
-use Rattle.std.proofs.lemmas.Fmt.{decimal_by_steps}
-use Rattle.std.proofs.lemmas.Nat.{pow_pos}
-use Rattle.std.proofs.Math.Nat.{pow-le-pow_right, pow-succ', mod-eq_of_lt}
-use Rattle.std.proofs.lemmas.Bool.{le-leb, leb-true}
-use Rattle.std.proofs.lemmas.Bool.Decides.{nat_tests}
-use Rattle.plir_data.specs.Identifier.{is_letter, is_digit}
-use Rattle.plir_data.specs.Integers.{is_high, literal}
-use Rattle.plir_data.specs.TypeText.{letters, integer_text}
-use Rattle.plir_data.specs.declared.types.Signedness.{Signedness}
 use Rattle.plir_data.specs.declared.types.Signedness.TheVariants.{Signed, Unsigned, Signless}
-use Rattle.plir_attr_text.specs.AttrGrammar.{SpellsValue}
+use Rattle.plir_data.specs.{Identifier.is_letter, Identifier.is_digit, Integers.is_high, Integers.literal}
+use Rattle.plir_data.specs.{TypeText.letters, TypeText.integer_text, declared.types.Signedness.Signedness}
 use Rattle.plir_attr_text.specs.Bytes.{is_blank, is_in_name, is_in_word, is_point, front, past, word_front, word_past}
 use Rattle.plir_attr_text.specs.Bytes.{all_pass, begins, is_digits, value_after}
 use Rattle.plir_attr_text.specs.Tokens.{Token, word, digits, signed, sign, number_of, token_at, look, Begins}
-use Rattle.plir_attr_text.specs.TypeGrammar.{SpellsInteger}
-use Rattle.plir_attr_text.specs.laws.StepLaws.{done}
-use Rattle.plir_attr_text.specs.laws.TypesAgain.{parts}
+use Rattle.plir_attr_text.specs.{AttrGrammar.SpellsValue, TypeGrammar.SpellsInteger, laws.StepLaws.done}
+use Rattle.plir_attr_text.specs.laws.{Lexing.look-sign, TypesAgain.parts}
 
 -- what ends a run
 abbrev pub Ends : (ℕ → Bool) → List ℕ → Type 0
@@ -309,14 +302,6 @@ look-less : (rest : List ℕ) → look (32 ∷ 60 ∷ rest) ≡ Ok (sign 60, res
 unfolding look
 look-less rest = refl
 
-look-colon : (rest : List ℕ) → look (58 ∷ rest) ≡ Ok (sign 58, rest)
-unfolding look
-look-colon rest = refl
-
-look-greater : (rest : List ℕ) → look (62 ∷ rest) ≡ Ok (sign 62, rest)
-unfolding look
-look-greater rest = refl
-
 literal-takes : (s : Bool) (w b : ℕ) (bytes rest : List ℕ) (ts : List Token) (end : List ℕ) →
     look bytes ≡ Ok (literal_token s w b, rest) → Begins rest ts end → Begins bytes (literal_token s w b ∷ ts) end
 literal-takes s w b bytes rest ts end e m = at (s && is_high w b) e
@@ -339,9 +324,11 @@ integer-begins s k w b rest h =
     ap (λ (x : List ℕ). literal s w b ++ (58 ∷ 32 ∷ x)) (append_assoc (integer_text k w) (codes ">") rest) in
     let type_word = look-spaced (integer_text k w ++ (62 ∷ rest)) ∙
     look-type k w (62 ∷ rest) (omega (arith, h.few)) refl in
-    let inner : Begins behind (sign 58 ∷ word (integer_text k w) ∷ sign 62 ∷ []) rest =
-    (32 ∷ (integer_text k w ++ (62 ∷ rest)), look-colon _, (62 ∷ rest, type_word, (rest, look-greater rest, refl)))
-    in
+    let inner : Begins behind (sign 58 ∷ word (integer_text k w) ∷ sign 62 ∷ []) rest = (
+      32 ∷ (integer_text k w ++ (62 ∷ rest)),
+      look-sign 58 refl _,
+      (62 ∷ rest, type_word, (rest, look-sign 62 refl rest, refl)),
+    ) in
     subst (λ (x : List ℕ). Begins (codes "builtin.integer <" ++ x) (word (codes "builtin.integer") ∷ sign 60 ∷
     literal_token s w b ∷ sign 58 ∷ word (integer_text k w) ∷ sign 62 ∷ []) rest) (sym shape) (
       32 ∷ 60 ∷ (literal s w b ++ behind),

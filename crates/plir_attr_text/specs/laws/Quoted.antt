@@ -2,17 +2,12 @@
 use Rattle.std.proofs.Common.{◌≡◌, ◌⊎◌, ℕ, zero, suc, ◌<◌, ◌≤◌, Bool, true, false, cond, nat_eq, ◌&&◌, List, [], ◌∷◌}
 use Rattle.std.proofs.Common.{◌++◌, length, Option, Some, None, Result, Ok, Err, refl, sym, ap, subst, arith, inl, inr}
 use Rattle.std.proofs.Common.{◌∙◌, append_assoc, append-nil}
-use Rattle.std.specs.Prelude.{encode_utf8}
-use Rattle.std.specs.List.{concat}
-use Rattle.plir_attr_text.specs.declared.fault.Fault.{Fault}
-use Rattle.plir_attr_text.specs.declared.fault.Stop.{Stop}
-use Rattle.plir_attr_text.specs.Bytes.{is_hex, front, past}
-use Rattle.plir_attr_text.specs.Steps.{◌>>=◌}
+use Rattle.std.specs.{Prelude.encode_utf8, List.concat}
 use Rattle.plir_attr_text.specs.Strings.{is_code, closed_code, code_at, escape_at, unit_at, behind, onward, content_at}
 use Rattle.plir_attr_text.specs.Strings.{AreUnits, IsQuoted, string_at}
-use Rattle.plir_attr_text.specs.Reading.{Fails}
-use Rattle.plir_attr_text.specs.laws.Lexing.{past-length}
 use Rattle.plir_attr_text.specs.laws.StepLaws.{chosen, bind_ok, done, ok_is, Fails-bind, Fails-from}
+use Rattle.plir_attr_text.specs.{declared.fault.Fault.Fault, declared.fault.Stop.Stop, Bytes.is_hex, Bytes.front}
+use Rattle.plir_attr_text.specs.{Bytes.past, Steps.◌>>=◌, Reading.Fails, laws.Lexing.past-length}
 
 -- each step takes a byte or more
 closed-shorter : (ds bytes : List ℕ) (x : ℕ × List ℕ) → closed_code ds bytes ≡ Ok x → length x.1 < length bytes

@@ -1,20 +1,16 @@
 -- What is quoted is read back.
 use Rattle.std.proofs.Common.{◌≡◌, ℕ, ◌/◌, ◌%◌, ◌<◌, nat_eq, nat_lt, Bool, true, false, cond, List, [], ◌∷◌, ◌++◌}
 use Rattle.std.proofs.Common.{Option, Some, Result, Ok, refl, sym, ap, subst, ◌∙◌, arith, append_assoc, append-nil}
-use Rattle.std.specs.Prelude.{codes, encode_utf8}
 use Rattle.std.proofs.lemmas.Bool.Decides.{nat_tests, Decides-eqb, Decides-ltb}
 use Rattle.std.proofs.lemmas.Str.{encode_ascii}
-use Rattle.plir_attr_text.specs.declared.fault.Fault.{Fault}
+use Rattle.std.specs.{Prelude.codes, Prelude.encode_utf8, Str.IsUtf8}
 use Rattle.plir_attr_text.specs.Bytes.{is_hex, front, all_pass, hex_value, hex_after}
 use Rattle.plir_attr_text.specs.Strings.{is_scalar, is_code, code_at, escape_at, unit_at, string_at}
-use Rattle.plir_attr_text.specs.Tokens.{quoted, sign, look}
-use Rattle.plir_attr_text.specs.AttrGrammar.{SpellsString}
-use Rattle.std.specs.Str.{IsUtf8}
 use Rattle.plir_attr_text.specs.Written.{hex_digit, hex, is_control, escape, escaped, quotation}
 use Rattle.plir_attr_text.specs.laws.Quoted.{GoesOn, starts, ends, goes_on, quoted-found}
 use Rattle.plir_attr_text.specs.laws.Printed.{front-run, past-run}
-use Rattle.plir_attr_text.specs.laws.Runs.{Shown}
-use Rattle.plir_attr_text.specs.laws.StepLaws.{done}
+use Rattle.plir_attr_text.specs.{declared.fault.Fault.Fault, Tokens.quoted, Tokens.sign, Tokens.look}
+use Rattle.plir_attr_text.specs.{AttrGrammar.SpellsString, laws.Runs.Shown, laws.StepLaws.done}
 
 -- ---- hexadecimal digits
 

@@ -1,16 +1,13 @@
 -- Tokens of things that are printed one behind the other.
-use Rattle.std.proofs.Common.{◌≡◌, ◌||◌, ℕ, suc, Bool, true, false, nat_eq, List, [], ◌∷◌, ◌++◌, All, Ok, refl, sym}
-use Rattle.std.proofs.Common.{codes}
-use Rattle.std.proofs.Common.{subst, arith, append_assoc, ◌∙◌}
+use Rattle.std.proofs.Common.{◌≡◌, ◌||◌, ℕ, suc, true, false, List, [], ◌∷◌, ◌++◌, All, Ok, refl, sym, codes, subst}
+use Rattle.std.proofs.Common.{arith, append_assoc, ◌∙◌}
 use Rattle.plir_data.specs.Identifier.{is_letter, is_digit, all_in_identifier, is_identifier}
-use Rattle.plir_attr_text.specs.AttrGrammar.{SpellsMore, SpellsSeveral}
-use Rattle.plir_attr_text.specs.Bytes.{is_in_word}
-use Rattle.plir_attr_text.specs.Tokens.{Token, word, digits, signed, quoted, arrow, sign, look, Takes, Begins}
-use Rattle.plir_attr_text.specs.TypeGrammar.{enclosed}
 use Rattle.plir_data.specs.TextParts.{parted, parted_from}
-use Rattle.plir_attr_text.specs.laws.Begun.{Begins-append}
+use Rattle.plir_attr_text.specs.Tokens.{Token, word, digits, signed, quoted, arrow, sign, look, Takes, Begins}
 use Rattle.plir_attr_text.specs.laws.Printed.{Ends, has_one_point, is_word, look-word, look-spaced}
-use Rattle.plir_attr_text.specs.laws.TypesAgain.{parts}
+use Rattle.plir_attr_text.specs.{AttrGrammar.SpellsMore, AttrGrammar.SpellsSeveral, Bytes.is_in_word}
+use Rattle.plir_attr_text.specs.{TypeGrammar.enclosed, laws.Begun.Begins-append, laws.TypesAgain.parts}
+use Rattle.plir_attr_text.specs.laws.Lexing.{look-sign}
 
 -- a text that is tokens which spell something, where no word goes on behind it
 pub record Run (E : List Token → Type 0) (text : List ℕ) : Type 0 where
@@ -101,18 +98,6 @@ behind_id {E} {text} id h p = record {
 
 -- ---- lists
 
-look-comma : (rest : List ℕ) → look (44 ∷ rest) ≡ Ok (sign 44, rest)
-unfolding look
-look-comma rest = refl
-
-look-open : (rest : List ℕ) → look (91 ∷ rest) ≡ Ok (sign 91, rest)
-unfolding look
-look-open rest = refl
-
-look-close : (rest : List ℕ) → look (93 ∷ rest) ≡ Ok (sign 93, rest)
-unfolding look
-look-close rest = refl
-
 -- what stands before a sign, and the sign
 pub closed_by : {E : List Token → Type 0} {text : List ℕ} (c : ℕ) → is_in_word c ≡ false →
     ((rest : List ℕ) → look (c ∷ rest) ≡ Ok (sign c, rest)) → (r : Run E text) (rest : List ℕ) →
@@ -134,10 +119,10 @@ listed {E} {text} id h r = record {
         look-word id (32 ∷ 91 ∷ ((text ++ 93 ∷ []) ++ rest)) h refl,
         (
           (text ++ 93 ∷ []) ++ rest,
-          look-spaced (91 ∷ ((text ++ 93 ∷ []) ++ rest)) ∙ look-open ((text ++ 93 ∷ []) ++
+          look-spaced (91 ∷ ((text ++ 93 ∷ []) ++ rest)) ∙ look-sign 91 refl ((text ++ 93 ∷ []) ++
               rest),
           subst (λ bytes. Begins bytes (r.tokens ++ sign 93 ∷ []) rest) (sym (append_assoc text (93 ∷ []) rest))
-              (closed_by 93 refl look-close r rest),
+              (closed_by 93 refl (look-sign 93 refl) r rest),
         ),
       );
 }
@@ -175,7 +160,7 @@ module _ {E F : List Token → Type 0} {text more : List ℕ} (p : Shown E text)
       spelled = (p.first ∷ p.others, m.run.tokens, p.spelled, m.run.spelled, refl);
       begun = λ rest e. (
         32 ∷ ((text ++ more) ++ rest),
-        look-comma (32 ∷ ((text ++ more) ++ rest)),
+        look-sign 44 refl (32 ∷ ((text ++ more) ++ rest)),
         begins-spaced ((text ++ more) ++ rest) p.first (p.others ++ m.run.tokens) rest (both rest e),
       );
     };

@@ -3,13 +3,11 @@ use Rattle.std.proofs.Common.{◌≡◌, ℕ, List, ◌∷◌, sym, ap, subst, �
 use Rattle.plir_data.specs.Types as types
 use Rattle.plir_data.specs.Types.{TypeView, IsTypeTable}
 use Rattle.plir_data.specs.AttrView as views
-use Rattle.plir_data.specs.AttrView.{AttrView}
-use Rattle.plir_data.specs.Dictionary.{dict_of}
+use Rattle.plir_data.specs.{AttrView.AttrView, Dictionary.dict_of}
 use Rattle.plir_attr_text.specs.Terms as terms
 use Rattle.plir_attr_text.specs.Terms.{AttrTerm, AttrTerms, no_attrs, attr_before, EntryTerms, no_entries, entry_before}
 use Rattle.plir_attr_text.specs.Meaning.{IsMeant, AreMeant, AreEntriesMeant, StandsFor}
-use Rattle.plir_attr_text.specs.laws.AttrsAgain.{one_attr}
-use Rattle.plir_attr_text.specs.laws.SameNames.{same_handle}
+use Rattle.plir_attr_text.specs.{laws.AttrsAgain.one_attr, laws.SameNames.same_handle}
 
 module _ {A T : Type 0} (own_handles : T → List ℕ) (table : List (TypeView T)) (whole : IsTypeTable own_handles table)
   where

@@ -1,10 +1,8 @@
 -- Steps that did not fail, and choices.
 use Rattle.std.proofs.Common.{◌≡◌, ◌⊎◌, Bool, true, false, cond, Result, Ok, Err, refl, sym, ◌∙◌, inl, inr}
-use Rattle.plir_attr_text.specs.declared.fault.Fault.{Fault}
-use Rattle.plir_attr_text.specs.declared.fault.Stop.{Stop}
 use Rattle.plir_attr_text.specs.declared.fault.Stop.TheVariants.{OutOfMemory, Crowded, At}
-use Rattle.plir_attr_text.specs.Steps.{◌>>=◌}
-use Rattle.plir_attr_text.specs.Reading.{Ends, Fails}
+use Rattle.plir_attr_text.specs.{declared.fault.Fault.Fault, declared.fault.Stop.Stop, Steps.◌>>=◌, Reading.Ends}
+use Rattle.plir_attr_text.specs.{Reading.Fails}
 
 pub chosen : {A : Type 0} (b : Bool) (x y z : A) → cond b x y ≡ z → ((b ≡ true) × (x ≡ z)) ⊎ ((b ≡ false) × (y ≡ z))
 chosen true x y z e = inl (refl, e)

@@ -2,18 +2,13 @@
 use Rattle.std.proofs.Common.{◌≡◌, ℕ, zero, suc, ◌-◌, ◌<◌, Bool, cond, List, Result, Ok, Err, refl, sym, ap, subst, ◌∙◌}
 use Rattle.std.proofs.Common.{arith}
 use Rattle.std.proofs.lemmas.Bool.{le-leb}
-use Rattle.plir_attr_text.specs.declared.fault.Fault.{Fault}
 use Rattle.plir_attr_text.specs.declared.fault.Fault.TheVariants.{TooDeep}
-use Rattle.plir_attr_text.specs.declared.fault.Stop.{Stop}
 use Rattle.plir_attr_text.specs.declared.fault.Stop.TheVariants.{OutOfMemory, Crowded, At}
-use Rattle.plir_attr_text.specs.declared.words.TypeKind.{TypeKind}
-use Rattle.plir_attr_text.specs.Steps.{◌>>=◌}
-use Rattle.plir_attr_text.specs.Terms.{TypeTerm, types_of}
-use Rattle.plir_attr_text.specs.Lists.{sign_at, items_at}
 use Rattle.plir_attr_text.specs.TypeReading.{word_at, arrow_at, type_kind, function_at, type_head, type_body, type_at}
-use Rattle.plir_attr_text.specs.Levels.{if_level, level_at}
-use Rattle.plir_attr_text.specs.Reading.{Fails, Reads}
 use Rattle.plir_attr_text.specs.laws.StepLaws.{done, Fails-bind, Fails-from}
+use Rattle.plir_attr_text.specs.{declared.fault.Fault.Fault, declared.fault.Stop.Stop, declared.words.TypeKind.TypeKind}
+use Rattle.plir_attr_text.specs.{Steps.◌>>=◌, Terms.TypeTerm, Terms.types_of, Lists.sign_at, Lists.items_at}
+use Rattle.plir_attr_text.specs.{Levels.if_level, Levels.level_at, Reading.Fails, Reading.Reads}
 
 pub type_at-body : (n : ℕ) (bytes rest : List ℕ) (k : TypeKind) → 0 < n → type_head bytes ≡ Ok (k, rest) →
     type_at n bytes ≡ type_body (type_at (n - 1)) k rest

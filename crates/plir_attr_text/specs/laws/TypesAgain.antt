@@ -2,27 +2,20 @@
 use Rattle.std.proofs.Common.{◌≡◌, ℕ, zero, suc, ◌<◌, ◌≤◌, ◌^◌, ◌&&◌, nat_lt, Bool, true, false, List, [], ◌∷◌, ◌++◌}
 use Rattle.std.proofs.Common.{codes, None, Result, Ok, refl, ap, subst, ◌∙◌, arith}
 use Rattle.std.proofs.lemmas.Bool.Decides.{Decides-ltb}
-use Rattle.plir_data.specs.Identifier.{is_digit}
-use Rattle.plir_data.specs.declared.types.Signedness.{Signedness}
 use Rattle.plir_data.specs.declared.types.Signedness.TheVariants.{Signed, Unsigned, Signless}
-use Rattle.plir_data.specs.TypeText.{letters}
-use Rattle.plir_attr_text.specs.declared.fault.Fault.{Fault}
-use Rattle.plir_attr_text.specs.Bytes.{begins, all_pass, is_digits, value_after}
+use Rattle.plir_data.specs.{Identifier.is_digit, declared.types.Signedness.Signedness, TypeText.letters}
 use Rattle.plir_attr_text.specs.Terms.{TypeTerm, integer_type, function_type, unit_type, TypeTerms, no_types}
-use Rattle.plir_attr_text.specs.Terms.{type_before}
-use Rattle.plir_attr_text.specs.Terms.{types_of, type_levels, types_levels}
-use Rattle.plir_attr_text.specs.Tokens.{Token, word, arrow, sign, look, Begins}
+use Rattle.plir_attr_text.specs.Terms.{type_before, types_of, type_levels, types_levels}
 use Rattle.plir_attr_text.specs.TypeGrammar.{enclosed, in_angles, SpellsInteger, SpellsType, SpellsTypes}
-use Rattle.plir_attr_text.specs.TypeGrammar.{SpellsMoreTypes}
-use Rattle.plir_attr_text.specs.TypeGrammar.{TypeWithin, IsInteger, FunctionWithin}
-use Rattle.plir_attr_text.specs.Lists.{past_sign}
+use Rattle.plir_attr_text.specs.TypeGrammar.{SpellsMoreTypes, TypeWithin, IsInteger, FunctionWithin}
 use Rattle.plir_attr_text.specs.TypeReading.{type_kind, width_of, integer_of, integer_at, function_at, type_head}
 use Rattle.plir_attr_text.specs.TypeReading.{type_at}
-use Rattle.plir_attr_text.specs.laws.StepLaws.{done}
 use Rattle.plir_attr_text.specs.laws.Begun.{Begins-split, word_again, arrow_again, sign_again}
-use Rattle.plir_attr_text.specs.laws.ListsFound.{More, Several}
 use Rattle.plir_attr_text.specs.laws.ListsAgain.{IsRead, several_read, word_opens}
-use Rattle.plir_attr_text.specs.laws.TypesFound.{front_all, FunctionOf}
+use Rattle.plir_attr_text.specs.{declared.fault.Fault.Fault, Bytes.begins, Bytes.all_pass, Bytes.is_digits}
+use Rattle.plir_attr_text.specs.{Bytes.value_after, Tokens.Token, Tokens.word, Tokens.arrow, Tokens.sign, Tokens.look}
+use Rattle.plir_attr_text.specs.{Tokens.Begins, Lists.past_sign, laws.StepLaws.done, laws.ListsFound.More}
+use Rattle.plir_attr_text.specs.{laws.ListsFound.Several, laws.TypesFound.front_all, laws.TypesFound.FunctionOf}
 
 pub parts : (a b : Bool) → (a && b) ≡ true → (a ≡ true) × (b ≡ true)
 parts true b e = (refl, e)
@@ -117,6 +110,10 @@ type_opens (function_type as_ rs) ts close bytes rest h b =
 type_opens unit_type ts close bytes rest h b =
     word_opens close (codes "builtin.unit") [] bytes rest (subst (λ (y : List Token). Begins bytes y rest) h b)
 
+type_reads : (t : TypeTerm) (ts : List Token) (n : ℕ) → SpellsType t ts →
+    ((bytes rest : List ℕ) → Begins bytes ts rest → type_at n bytes ≡ Ok (t, rest)) → IsRead 41 (type_at n) t ts
+type_reads t ts n h reads = record { reads = reads; opens = λ bytes rest b. type_opens t ts 41 bytes rest h b }
+
 mutual
   pub type_again : (t : TypeTerm) (ts : List Token) (n : ℕ) (bytes rest : List ℕ) → SpellsType t ts →
       type_levels t ≤ n → Begins bytes ts rest → type_at n bytes ≡ Ok (t, rest)
@@ -138,11 +135,7 @@ mutual
   types_again (type_before t xs) ts n h le = (
     h.0,
     h.1,
-    record {
-      reads = λ bytes rest b. type_again t h.0 n bytes rest h.2 (omega arith) b;
-      opens = λ bytes
-          rest b. type_opens t h.0 41 bytes rest h.2 b;
-    },
+    type_reads t h.0 n h.2 (λ bytes rest b. type_again t h.0 n bytes rest h.2 (omega arith) b),
     more_again xs h.1 n h.3 (omega arith),
     h.4,
   )
@@ -153,11 +146,7 @@ mutual
   more_again (type_before t xs) ts n h le = (
     h.0,
     h.1,
-    record {
-      reads = λ bytes rest b. type_again t h.0 n bytes rest h.2 (omega arith) b;
-      opens = λ bytes
-          rest b. type_opens t h.0 41 bytes rest h.2 b;
-    },
+    type_reads t h.0 n h.2 (λ bytes rest b. type_again t h.0 n bytes rest h.2 (omega arith) b),
     more_again xs h.1 n h.3 (omega arith),
     h.4,
   )

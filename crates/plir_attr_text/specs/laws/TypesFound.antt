@@ -2,32 +2,25 @@
 use Rattle.std.proofs.Common.{◌≡◌, ◌⊎◌, ℕ, zero, suc, ◌<◌, ◌≤◌, ◌^◌, ◌&&◌, nat_eq, nat_lt, Bool, true, false, cond}
 use Rattle.std.proofs.Common.{List, [], ◌∷◌, ◌++◌, length, codes, Result, Ok, Err, refl, sym, ap, subst, ◌∙◌, arith}
 use Rattle.std.proofs.Common.{inl, inr}
-use Rattle.std.specs.Str.{bytes_eq}
 use Rattle.std.proofs.lemmas.Slice.Eq.{bytes_eq-Decides}
 use Rattle.std.proofs.lemmas.Bool.Decides.{Decides-eqb, Decides-ltb}
-use Rattle.plir_data.specs.Identifier.{is_digit}
-use Rattle.plir_data.specs.declared.types.Signedness.{Signedness}
+use Rattle.std.specs.Str.{bytes_eq}
 use Rattle.plir_data.specs.declared.types.Signedness.TheVariants.{Signed, Unsigned, Signless}
-use Rattle.plir_data.specs.TypeText.{letters}
-use Rattle.plir_attr_text.specs.declared.fault.Fault.{Fault}
-use Rattle.plir_attr_text.specs.declared.fault.Fault.TheVariants.{TooDeep}
-use Rattle.plir_attr_text.specs.declared.words.TypeKind.{TypeKind}
+use Rattle.plir_data.specs.{Identifier.is_digit, declared.types.Signedness.Signedness, TypeText.letters}
 use Rattle.plir_attr_text.specs.declared.words.TypeKind.TheVariants.{Integer, Function, Unit}
 use Rattle.plir_attr_text.specs.Bytes.{front, begins, all_pass, is_digits, value_after}
-use Rattle.plir_attr_text.specs.Steps.{◌>>=◌}
 use Rattle.plir_attr_text.specs.Terms.{TypeTerm, integer_type, function_type, unit_type, TypeTerms, types_of}
 use Rattle.plir_attr_text.specs.Terms.{types_levels}
-use Rattle.plir_attr_text.specs.Tokens.{Token, word, arrow, sign, look}
 use Rattle.plir_attr_text.specs.TypeGrammar.{enclosed, in_angles, SpellsType, SpellsTypes, SpellsMoreTypes}
-use Rattle.plir_attr_text.specs.TypeGrammar.{SpellsFunction}
-use Rattle.plir_attr_text.specs.TypeGrammar.{TypeWithin, IsInteger}
-use Rattle.plir_attr_text.specs.Lists.{sign_at, items_at}
+use Rattle.plir_attr_text.specs.TypeGrammar.{SpellsFunction, TypeWithin, IsInteger}
 use Rattle.plir_attr_text.specs.TypeReading.{word_at, arrow_at, type_kind, width_of, integer_of, integer_at}
-use Rattle.plir_attr_text.specs.TypeReading.{function_at}
-use Rattle.plir_attr_text.specs.TypeReading.{type_head, type_body, type_at}
-use Rattle.plir_attr_text.specs.laws.StepLaws.{chosen, bind_ok, done, ok_is}
+use Rattle.plir_attr_text.specs.TypeReading.{function_at, type_head, type_body, type_at}
 use Rattle.plir_attr_text.specs.laws.Begun.{Begins-append, Begins-length, word_found, arrow_found, sign_found}
 use Rattle.plir_attr_text.specs.laws.ListsFound.{FoundOne, IsSound, More, Several, items_found}
+use Rattle.plir_attr_text.specs.{declared.fault.Fault.Fault, declared.fault.Fault.TheVariants.TooDeep}
+use Rattle.plir_attr_text.specs.{declared.words.TypeKind.TypeKind, Steps.◌>>=◌, Tokens.Token, Tokens.word, Tokens.arrow}
+use Rattle.plir_attr_text.specs.{Tokens.sign, Tokens.look, Lists.sign_at, Lists.items_at, laws.StepLaws.chosen}
+use Rattle.plir_attr_text.specs.{laws.StepLaws.bind_ok, laws.StepLaws.done, laws.StepLaws.ok_is}
 
 pub both : (a b : Bool) → a ≡ true → b ≡ true → (a && b) ≡ true
 both true b e f = f

@@ -1,44 +1,25 @@
 -- The text of a type stands for it.
-use Rattle.std.proofs.Common.{◌≡◌, ℕ, zero, suc, ◌<◌, false, List, [], ◌∷◌, ◌++◌, ◌^◌, inl, inr, length, map, Option, Some}
-use Rattle.std.proofs.Common.{None, All, Ok, codes, refl, sym, ap, subst, ◌∙◌, arith, append_assoc}
+use Rattle.std.proofs.Common.{◌≡◌, ℕ, zero, suc, ◌<◌, false, List, [], ◌∷◌, ◌++◌, ◌^◌, inl, inr, length, map, Option}
+use Rattle.std.proofs.Common.{Some, None, All, Ok, codes, refl, sym, ap, subst, ◌∙◌, arith, append_assoc}
 use Rattle.std.proofs.lemmas.Option.{slice_get_cases}
-use Rattle.plir_data.specs.LiveLaws.{all_left, all_right}
 use Rattle.plir_data.specs.Types.{TypeView, integer, function, unit, own, IsTypeTable, type_at}
-use Rattle.plir_data.specs.OwnParts.{Part}
-use Rattle.plir_data.specs.TextParts.{parted, parted_from}
 use Rattle.plir_data.specs.TypeTree.{TypeTree, unit_tree, trees_of, tree_over, tree_of}
 use Rattle.plir_data.specs.TypeText.{integer_text, text_over, type_text}
-use Rattle.plir_data.specs.Unrolled.{unrolled_if, unrolled_within}
-use Rattle.plir_attr_text.specs.Names.{Names, NamesAll}
+use Rattle.plir_data.specs.{LiveLaws.all_left, LiveLaws.all_right, OwnParts.Part, TextParts.parted}
+use Rattle.plir_data.specs.{TextParts.parted_from, Unrolled.unrolled_if, Unrolled.unrolled_within}
 use Rattle.plir_attr_text.specs.Tokens.{Token, word, sign, arrow, look, Begins}
 use Rattle.plir_attr_text.specs.TypeGrammar.{enclosed, in_angles, SpellsInteger, SpellsType, SpellsTypes}
 use Rattle.plir_attr_text.specs.TypeGrammar.{SpellsMoreTypes}
 use Rattle.plir_attr_text.specs.Writable.{IsBuiltin, AreBuiltin, type_term, type_terms}
-use Rattle.plir_attr_text.specs.laws.Begun.{Begins-append}
 use Rattle.plir_attr_text.specs.laws.Printed.{look-type, type_spelled}
 use Rattle.plir_attr_text.specs.laws.Runs.{Run, Shown, Tail, Shown-as, behind_id, word-shown, closed_by, nothing}
-use Rattle.plir_attr_text.specs.laws.Runs.{behind_first}
-use Rattle.plir_attr_text.specs.laws.Runs.{behind_comma}
-
-look-less : (rest : List ℕ) → look (60 ∷ rest) ≡ Ok (sign 60, rest)
-unfolding look
-look-less rest = refl
-
-look-open : (rest : List ℕ) → look (40 ∷ rest) ≡ Ok (sign 40, rest)
-unfolding look
-look-open rest = refl
-
-look-close : (rest : List ℕ) → look (41 ∷ rest) ≡ Ok (sign 41, rest)
-unfolding look
-look-close rest = refl
+use Rattle.plir_attr_text.specs.laws.Runs.{behind_first, behind_comma}
+use Rattle.plir_attr_text.specs.{Names.Names, Names.NamesAll, laws.Begun.Begins-append}
+use Rattle.plir_attr_text.specs.laws.Lexing.{look-sign}
 
 look-arrow : (rest : List ℕ) → look (45 ∷ 62 ∷ rest) ≡ Ok (arrow, rest)
 unfolding look
 look-arrow rest = refl
-
-look-greater : (rest : List ℕ) → look (62 ∷ rest) ≡ Ok (sign 62, rest)
-unfolding look
-look-greater rest = refl
 
 -- an integer type behind its id
 pub integer_type-shown : (s : _) (w : ℕ) → w < 2 ^ 32 → Shown (SpellsInteger s w) (integer_text s w)
@@ -59,7 +40,8 @@ integer_type-shown s w lt =
 module _ {E F : List Token → Type 0} {first second : List ℕ} (p : Run E first) (q : Run F second) where
   in_parens : {G : List Token → Type 0} {text : List ℕ} (r : Run G text) (rest : List ℕ) →
       Begins (40 ∷ (text ++ 41 ∷ rest)) (enclosed 40 r.tokens 41) rest
-  in_parens {G} {text} r rest = (text ++ 41 ∷ rest, look-open (text ++ 41 ∷ rest), closed_by 41 refl look-close r rest)
+  in_parens {G} {text} r rest =
+      (text ++ 41 ∷ rest, look-sign 40 refl (text ++ 41 ∷ rest), closed_by 41 refl (look-sign 41 refl) r rest)
 
   abbrev signature_text : List ℕ
   signature_text = 60 ∷ 40 ∷ (first ++ (41 ∷ 45 ∷ 62 ∷ 40 ∷ (second ++ 41 ∷ 62 ∷ [])))
@@ -75,7 +57,7 @@ module _ {E F : List Token → Type 0} {first second : List ℕ} (p : Run E firs
     40 ∷ (second ++ 41 ∷ 62 ∷ rest),
     look-arrow (40 ∷ (second ++ 41 ∷ 62 ∷ rest)),
     Begins-append (enclosed 40 q.tokens 41) (sign 62 ∷ []) (40 ∷ (second ++ 41 ∷ 62 ∷ rest)) (62 ∷
-        rest) rest (in_parens q (62 ∷ rest)) (rest, look-greater rest, refl),
+        rest) rest (in_parens q (62 ∷ rest)) (rest, look-sign 62 refl rest, refl),
   )
 
   pub signature-shown : Shown (λ ts. (as_ rs : List Token) × E as_ × F rs × (ts ≡ in_angles as_ rs)) signature_text
@@ -86,7 +68,7 @@ module _ {E F : List Token → Type 0} {first second : List ℕ} (p : Run E firs
     begun = λ rest e. subst (λ bytes. Begins bytes (in_angles p.tokens q.tokens) rest) (sym (regroup rest)) (
       40 ∷
           (first ++ (41 ∷ 45 ∷ 62 ∷ 40 ∷ (second ++ 41 ∷ 62 ∷ rest))),
-      look-less (40 ∷ (first ++ (41 ∷ 45 ∷ 62 ∷ 40 ∷ (second ++ 41 ∷ 62 ∷ rest)))),
+      look-sign 60 refl (40 ∷ (first ++ (41 ∷ 45 ∷ 62 ∷ 40 ∷ (second ++ 41 ∷ 62 ∷ rest)))),
       Begins-append (enclosed 40 p.tokens 41) (arrow ∷ (enclosed 40 q.tokens 41 ++ (sign 62 ∷ []))) (40 ∷
           (first ++ (41 ∷ 45 ∷ 62 ∷ 40 ∷ (second ++ 41 ∷ 62 ∷ rest)))) (45 ∷ 62 ∷ 40 ∷ (second ++ 41 ∷ 62 ∷ rest)) rest
           (in_parens p (45 ∷ 62 ∷ 40 ∷ (second ++ 41 ∷ 62 ∷ rest))) (results_begin rest),

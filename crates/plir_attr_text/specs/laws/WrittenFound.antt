@@ -1,26 +1,21 @@
 -- The types that come while a text is read are written in it.
 use Rattle.std.proofs.Common.{◌≡◌, ◌⊎◌, ℕ, zero, suc, List, [], ◌++◌, Ok, inl, inr, refl, sym, subst, append_assoc}
-use Rattle.plir_attr_text.specs.declared.words.TypeKind.{TypeKind}
 use Rattle.plir_attr_text.specs.declared.words.TypeKind.TheVariants.{Integer, Function, Unit}
-use Rattle.plir_attr_text.specs.declared.attr_words.AttrKind.{AttrKind}
+use Rattle.plir_attr_text.specs.{declared.words.TypeKind.TypeKind, declared.attr_words.AttrKind.AttrKind}
 use Rattle.plir_attr_text.specs.declared.attr_words.AttrKind.TheVariants as kinds
 use Rattle.plir_attr_text.specs.Terms as terms
 use Rattle.plir_attr_text.specs.Terms.{TypeTerm, integer_type, function_type, unit_type}
-use Rattle.plir_attr_text.specs.Tokens.{Token, word, Begins}
-use Rattle.plir_attr_text.specs.TypeGrammar.{enclosed, TypeWithin}
-use Rattle.plir_attr_text.specs.AttrGrammar.{AttrWithin}
-use Rattle.plir_attr_text.specs.Lists.{items_at}
 use Rattle.plir_attr_text.specs.TypeReading.{arrow_at, type_head, type_body, type_at}
 use Rattle.plir_attr_text.specs.AttrReading.{entry_at, attr_head, attr_body, attr_at}
 use Rattle.plir_attr_text.specs.TypesIn.{IsInInteger, IsInResults, IsInTypeBody, IsInType, IsInFunction, IsInTypes}
 use Rattle.plir_attr_text.specs.TypesIn.{IsInEntry, IsInAttr, IsBehindId}
-use Rattle.plir_attr_text.specs.TypesWritten.{IsWrittenIn, IsWrittenBare}
-use Rattle.plir_attr_text.specs.laws.Begun.{Begins-append}
 use Rattle.plir_attr_text.specs.laws.Ends.{IsEnd, end_on, takes_end, begins_end, sign_end, arrow_end, name_end}
 use Rattle.plir_attr_text.specs.laws.Ends.{item_end}
-use Rattle.plir_attr_text.specs.laws.ListsFound.{items_found}
 use Rattle.plir_attr_text.specs.laws.TypesFound.{integer_found, function_found, type_id, type_head_found, type_found}
 use Rattle.plir_attr_text.specs.laws.AttrsFound.{id_of, attr_head_found, EntryWithin, entry_found, attr_found}
+use Rattle.plir_attr_text.specs.{Tokens.Token, Tokens.word, Tokens.Begins, TypeGrammar.enclosed, TypeGrammar.TypeWithin}
+use Rattle.plir_attr_text.specs.{AttrGrammar.AttrWithin, Lists.items_at, TypesWritten.IsWrittenIn}
+use Rattle.plir_attr_text.specs.{TypesWritten.IsWrittenBare, laws.Begun.Begins-append, laws.ListsFound.items_found}
 
 -- what is written behind tokens that the text begins with
 pub written_on : (bytes rest : List ℕ) → IsEnd bytes rest → (t : TypeTerm) → IsWrittenIn rest t → IsWrittenIn bytes t

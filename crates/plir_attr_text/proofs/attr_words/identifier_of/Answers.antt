@@ -1,7 +1,6 @@
 use Rattle.std.proofs.Common.{◌≡◌, ℕ, List, Bool, refl, true, false, inr}
-use Rattle.std.specs.Prelude.{IsUtf8}
-use Rattle.std.specs.Str.{is_utf8}
 use Rattle.std.proofs.lemmas.Str.{IsUtf8-from_is_utf8}
+use Rattle.std.specs.{Prelude.IsUtf8, Str.is_utf8}
 use Rattle.plir_attr_text.proofs.Ascii.{no_identifier}
 use Rattle.plir_attr_text.proofs.attr_words.identifier_of.Goals as goal
 

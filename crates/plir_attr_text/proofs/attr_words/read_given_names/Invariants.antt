@@ -1,7 +1,5 @@
 use Rattle.std.proofs.Common.{length}
-use Rattle.plir_attr_text.specs.Lists.{separator_at, items_at}
-use Rattle.plir_attr_text.specs.AttrReading.{given_name_at}
-use Rattle.plir_attr_text.specs.laws.Fronts.{GoesOn}
+use Rattle.plir_attr_text.specs.{Lists.separator_at, Lists.items_at, AttrReading.given_name_at, laws.Fronts.GoesOn}
 use Rattle.plir_attr_text.proofs.attr_words.read_given_names.Given as goal
 
 abbrev pub invariant-names : goal.invariant-names

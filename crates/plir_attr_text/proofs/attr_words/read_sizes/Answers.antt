@@ -1,12 +1,8 @@
-use Rattle.std.proofs.Common.{◌∙◌, ap, sym, arith}
-use Rattle.std.proofs.lemmas.Result.{err_from_is_err_and}
-use Rattle.plir_attr_text.specs.Lists.{separator_at}
-use Rattle.plir_attr_text.specs.AttrReading.{size_at}
-use Rattle.plir_attr_text.specs.laws.StepLaws.{done}
+use Rattle.std.proofs.{Common.◌∙◌, Common.ap, Common.sym, Common.arith, lemmas.Result.err_from_is_err_and}
 use Rattle.plir_attr_text.specs.laws.Fronts.{no_open, nothing_inside, starts, ends_at_item, ends_behind, closes}
 use Rattle.plir_attr_text.specs.laws.Fronts.{goes_on}
-use Rattle.plir_attr_text.specs.laws.Begun.{separator_at-shorter}
-use Rattle.plir_attr_text.specs.laws.LeavesFound.{size_at-shorter}
+use Rattle.plir_attr_text.specs.{Lists.separator_at, AttrReading.size_at, laws.StepLaws.done}
+use Rattle.plir_attr_text.specs.{laws.Begun.separator_at-shorter, laws.LeavesFound.size_at-shorter}
 use Rattle.plir_attr_text.proofs.attr_words.read_sizes.Goals as goal
 
 pub returns-in_err-start : goal.returns-in_err-start

@@ -1,9 +1,8 @@
 use Rattle.std.proofs.Common.{◌+◌, ◌*◌, length, map}
 use Rattle.plir_data.specs.AttrSeen.{attr_view}
-use Rattle.plir_attr_text.specs.AttrReading.{entry_at, attr_at}
-use Rattle.plir_attr_text.specs.TypesIn.{IsInEntry, IsInAttr}
+use Rattle.plir_attr_text.specs.{AttrReading.entry_at, AttrReading.attr_at, TypesIn.IsInEntry, TypesIn.IsInAttr}
+use Rattle.plir_attr_text.specs.{laws.Meanings.ItemsFront, laws.Meanings.DictFront}
 use Rattle.plir_attr_text.proofs.Gathering.{Gathers}
-use Rattle.plir_attr_text.specs.laws.Meanings.{ItemsFront, DictFront}
 use Rattle.plir_attr_text.proofs.attrs.+attrs.Given as goal
 
 abbrev pub decreases-read_attr_at : goal.decreases-read_attr_at

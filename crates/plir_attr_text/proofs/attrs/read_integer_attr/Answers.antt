@@ -1,9 +1,7 @@
 use Rattle.std.proofs.Common.{◌∙◌, ap, refl}
 use Rattle.plir_data.specs.AttrView as views
 use Rattle.plir_attr_text.specs.Terms as terms
-use Rattle.plir_attr_text.specs.Terms.{integer_type}
-use Rattle.plir_attr_text.specs.Steps.{read_as}
-use Rattle.plir_attr_text.specs.laws.Growth.{Adds-one}
+use Rattle.plir_attr_text.specs.{Terms.integer_type, Steps.read_as, laws.Growth.Adds-one}
 use Rattle.plir_attr_text.proofs.attrs.read_integer_attr.Goals as goal
 
 pub returns-clause-read : goal.returns-clause-read

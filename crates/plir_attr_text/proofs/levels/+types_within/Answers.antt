@@ -1,12 +1,8 @@
 use Rattle.std.proofs.Common.{◌++◌, ◌≤◌, refl, sym, subst, arith, rules}
-use Rattle.plir_data.specs.LiveLaws.{all_right}
-use Rattle.plir_data.specs.TypeTree.{tree_of}
-use Rattle.plir_data.specs.Types.{IsLive, AllLive}
 use Rattle.plir_data.specs.declared.types.TypeObj.TheVariants.{Function}
-use Rattle.plir_attr_text.specs.Terms.{type_levels}
-use Rattle.plir_attr_text.specs.Writable.{type_term}
+use Rattle.plir_data.specs.{LiveLaws.all_right, TypeTree.tree_of, Types.IsLive, Types.AllLive}
+use Rattle.plir_attr_text.specs.{Terms.type_levels, Writable.type_term, laws.Handles.held_below}
 use Rattle.plir_attr_text.proofs.Asked.{asked_as}
-use Rattle.plir_attr_text.specs.laws.Handles.{held_below}
 use Rattle.plir_attr_text.proofs.TypeLevels.{some_level, one_level, function_levels}
 use Rattle.plir_attr_text.proofs.levels.+types_within.Goals as goal
 

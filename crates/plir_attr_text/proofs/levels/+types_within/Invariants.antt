@@ -1,7 +1,6 @@
 use Rattle.std.proofs.Common.{◌↔◌, ◌≤◌, ◌+◌, ◌*◌, drop, map}
 use Rattle.plir_data.specs.TypeTree.{trees_of, tree_of}
-use Rattle.plir_attr_text.specs.Terms.{types_levels}
-use Rattle.plir_attr_text.specs.Writable.{type_terms}
+use Rattle.plir_attr_text.specs.{Terms.types_levels, Writable.type_terms}
 use Rattle.plir_attr_text.proofs.levels.+types_within.Given as goal
 
 abbrev pub decreases-is_type_within : goal.decreases-is_type_within

@@ -1,10 +1,7 @@
 use Rattle.std.proofs.Common.{◌↔◌, ◌≤◌, ◌+◌, ◌*◌, drop, map}
-use Rattle.plir_data.specs.AttrLive.{AreEntriesLive}
-use Rattle.plir_data.specs.AttrSeen.{attr_view}
-use Rattle.plir_data.specs.AttrView.{items_of, entries_of}
-use Rattle.plir_data.specs.DictSeen.{pairs_view}
-use Rattle.plir_attr_text.specs.Terms.{attrs_levels, entries_levels}
-use Rattle.plir_attr_text.specs.Writable.{attr_terms, entry_terms}
+use Rattle.plir_data.specs.{AttrLive.AreEntriesLive, AttrSeen.attr_view, AttrView.items_of, AttrView.entries_of}
+use Rattle.plir_data.specs.{DictSeen.pairs_view}
+use Rattle.plir_attr_text.specs.{Terms.attrs_levels, Terms.entries_levels, Writable.attr_terms, Writable.entry_terms}
 use Rattle.plir_attr_text.proofs.levels.+within.Given as goal
 
 abbrev pub decreases-is_attr_within : goal.decreases-is_attr_within

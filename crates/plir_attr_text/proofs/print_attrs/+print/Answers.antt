@@ -1,18 +1,12 @@
 use Rattle.std.proofs.Common.{◌≡◌, ℕ, ◌∙◌, ◌++◌, List, ◌∷◌, ◌+◌, ◌<◌, ◌≤◌, length, get_or, codes, ap, sym, subst, arith}
 use Rattle.std.proofs.Common.{rules, map, drop, string_bytes}
 use Rattle.std.proofs.lemmas.List.{drop_all, drop_more}
-use Rattle.plir_data.specs.AttrDepth.{bulk, items_bulk, entries_bulk}
-use Rattle.plir_data.specs.AttrLive.{IsAttrLive, AreItemsLive, AreEntriesLive}
-use Rattle.plir_data.specs.AttrSeen.{attr_view}
-use Rattle.plir_data.specs.AttrView.{items_of, entries_of}
-use Rattle.plir_data.specs.DepthLaws.{item_small, first_small}
-use Rattle.plir_data.specs.DictSeen.{pairs_view}
-use Rattle.plir_data.specs.LiveLaws.{item_live, first_live}
-use Rattle.plir_data.specs.declared.attributes.AttrObj.{AttrObj}
+use Rattle.plir_data.specs.{AttrDepth.bulk, AttrDepth.entries_bulk, AttrLive.AreEntriesLive, AttrSeen.attr_view}
+use Rattle.plir_data.specs.{AttrView.items_of, AttrView.entries_of, DepthLaws.first_small, DictSeen.pairs_view}
+use Rattle.plir_data.specs.{LiveLaws.first_live, declared.attributes.AttrObj.AttrObj, TextParts.parted, TextLaws.three}
+use Rattle.plir_data.specs.{TextLaws.turn, TextLaws.ended}
 use Rattle.plir_attr_text.specs.AttrText.{attr_text, entry_text, items_text, entries_text}
-use Rattle.plir_data.specs.TextParts.{parted}
-use Rattle.plir_data.specs.TextLaws.{three, turn, ended}
-use Rattle.plir_attr_text.proofs.Joins.{items_parted, entries_parted}
+use Rattle.plir_attr_text.proofs.{Joins.items_parted, Joins.entries_parted, Held.entry_held, Held.item_held}
 use Rattle.plir_attr_text.proofs.print_attrs.+print.Goals as goal
 
 -- what is left of a list, seen, begins with the item that comes next
@@ -48,18 +42,10 @@ put_entries-entries-init g t c =
 
 pub put_entries-put_attr-requires : goal.put_entries-put_attr-requires
 put_entries-put_attr-requires g t c =
-    let types = c.args.types.now in
     let inv = c.entries.invariant in
-    let step = ap pairs_view c.in-Some.ensures.steps in
-    let live : IsAttrLive g.D.OpSet.attr_handles types (attr_view c.in-Some.value.now) =
-    (first_live g.D.OpSet.attr_handles types _ (pairs_view c.next.new.self)
-    (c.in-Some.key.now, attr_view c.in-Some.value.now) step inv.1).0 in
-    let smaller : bulk (attr_view c.in-Some.value.now) < entries_bulk c.args.dict.now + 1 =
-    omega (
-      arith,
-      (first_small (entries_bulk c.args.dict.now) _ (pairs_view c.next.new.self)
-          (c.in-Some.key.now, attr_view c.in-Some.value.now) step inv.2).0,
-    ) in
+    let asked = entry_held g.D.OpSet.attr_handles c.args.types.now _ (pairs_view c.next.new.self)
+    (c.in-Some.key.now, attr_view c.in-Some.value.now) (entries_bulk c.args.dict.now)
+    (ap pairs_view c.in-Some.ensures.steps) inv.1 inv.2 in
     search rules
 
 pub put_entries-entries-preserved : goal.put_entries-entries-preserved
@@ -96,20 +82,8 @@ put_entries-returns g t c =
 
 pub put_items-put_attr-requires : goal.put_items-put_attr-requires
 put_items-put_attr-requires g t c =
-    let types = c.args.types.now in
-    let xs = c.deref-item-items.result.now in
-    let i = c.items.item-index in
-    let x = c.item-item.result in
-    let held = subst (λ ys. AreItemsLive g.D.OpSet.attr_handles types (items_of (map attr_view ys)))
-    (sym c.deref-item-items.ensures.value) c.requires in
-    let live : IsAttrLive g.D.OpSet.attr_handles types (attr_view x) =
-    subst (λ y. IsAttrLive g.D.OpSet.attr_handles types (attr_view y)) (sym c.item-item.is)
-    (item_live g.D.OpSet.attr_handles types attr_view xs i x (omega arith) held) in
-    let below : bulk (attr_view x) < items_bulk (map attr_view xs) + 1 =
-    subst (λ y. bulk (attr_view y) < items_bulk (map attr_view xs) + 1) (sym c.item-item.is)
-    (omega (arith, item_small attr_view xs i x (omega arith))) in
-    let smaller : bulk (attr_view x) < items_bulk (map attr_view c.args.list.now.items) + 1 =
-    subst (λ ys. bulk (attr_view x) < items_bulk (map attr_view ys) + 1) c.deref-item-items.ensures.value below in
+    let asked = item_held g.D.OpSet.attr_handles c.args.types.now c.args.list.now.items _ c.items.item-index
+    c.item-item.result c.deref-item-items.ensures.value (omega arith) c.item-item.is c.requires in
     search rules
 
 pub put_items-items-preserved : goal.put_items-items-preserved

@@ -1,11 +1,8 @@
 use Rattle.std.proofs.Common.{◌≡◌, ◌≤◌, ◌+◌, ◌++◌, drop, map, string_bytes, codes}
 use Rattle.plir_data.specs.AttrDepth.{bulk, items_bulk, entries_bulk}
-use Rattle.plir_data.specs.AttrLive.{AreEntriesLive}
-use Rattle.plir_data.specs.AttrView.{entries_of}
-use Rattle.plir_data.specs.AttrSeen.{attr_view}
-use Rattle.plir_data.specs.DictSeen.{pairs_view}
+use Rattle.plir_data.specs.{AttrLive.AreEntriesLive, AttrView.entries_of, AttrSeen.attr_view, DictSeen.pairs_view}
+use Rattle.plir_data.specs.{TextParts.parted, TextParts.parted_from}
 use Rattle.plir_attr_text.specs.AttrText.{attr_text, entry_text}
-use Rattle.plir_data.specs.TextParts.{parted, parted_from}
 use Rattle.plir_attr_text.proofs.print_attrs.+print.Given as goal
 
 abbrev pub decreases-put_attr : goal.decreases-put_attr

@@ -1,9 +1,6 @@
 use Rattle.std.proofs.Common.{◌≡◌, ◌∙◌, ◌++◌, ap, codes, string_bytes}
-use Rattle.plir_data.specs.Integers.{literal}
-use Rattle.plir_data.specs.Types.{type_at}
-use Rattle.plir_data.specs.TypeText.{type_text}
+use Rattle.plir_data.specs.{Integers.literal, Types.type_at, TypeText.type_text, TextLaws.five}
 use Rattle.plir_attr_text.specs.AttrText.{is_signed, bare_text}
-use Rattle.plir_data.specs.TextLaws.{five}
 use Rattle.plir_attr_text.proofs.print_attrs.put_integer.Goals as goal
 
 pub returns : goal.returns

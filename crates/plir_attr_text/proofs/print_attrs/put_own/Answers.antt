@@ -1,7 +1,5 @@
-use Rattle.std.proofs.Common.{rules}
-use Rattle.std.proofs.lemmas.List.Elements.{All-contains, All-contains_itself}
-use Rattle.plir_data.specs.OwnParts.{held_in}
-use Rattle.plir_data.specs.Types.{IsLive, AllLive}
+use Rattle.std.proofs.{Common.rules, lemmas.List.Elements.All-contains, lemmas.List.Elements.All-contains_itself}
+use Rattle.plir_data.specs.{OwnParts.held_in, Types.IsLive, Types.AllLive}
 use Rattle.plir_attr_text.proofs.print_attrs.put_own.Goals as goal
 
 -- What the parts write out is held, and so live.

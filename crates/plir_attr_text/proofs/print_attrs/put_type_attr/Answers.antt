@@ -1,6 +1,5 @@
 use Rattle.std.proofs.Common.{◌∙◌, ◌++◌, ap, codes, string_bytes}
-use Rattle.plir_data.specs.TypeText.{type_text}
-use Rattle.plir_data.specs.TextLaws.{on}
+use Rattle.plir_data.specs.{TypeText.type_text, TextLaws.on}
 use Rattle.plir_attr_text.proofs.print_attrs.put_type_attr.Goals as goal
 
 pub returns : goal.returns

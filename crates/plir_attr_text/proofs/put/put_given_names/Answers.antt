@@ -1,7 +1,6 @@
 use Rattle.std.proofs.Common.{◌∙◌, ◌++◌, ap, codes, string_bytes}
 use Rattle.plir_attr_text.specs.Written.{name_or_mark}
-use Rattle.plir_data.specs.TextParts.{parted}
-use Rattle.plir_data.specs.TextLaws.{three}
+use Rattle.plir_data.specs.{TextParts.parted, TextLaws.three}
 use Rattle.plir_attr_text.proofs.put.put_given_names.Goals as goal
 
 pub returns : goal.returns

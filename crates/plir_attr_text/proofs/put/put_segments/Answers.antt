@@ -1,7 +1,6 @@
 use Rattle.std.proofs.Common.{◌∙◌, ◌++◌, ap, codes, string_bytes}
 use Rattle.std.specs.Fmt.{decimal}
-use Rattle.plir_data.specs.TextParts.{parted}
-use Rattle.plir_data.specs.TextLaws.{three}
+use Rattle.plir_data.specs.{TextParts.parted, TextLaws.three}
 use Rattle.plir_attr_text.proofs.put.put_segments.Goals as goal
 
 pub returns : goal.returns

@@ -1,5 +1,4 @@
-use Rattle.std.proofs.Common.{arith, codes}
-use Rattle.std.proofs.lemmas.List.{drop_all}
+use Rattle.std.proofs.{Common.arith, Common.codes, lemmas.List.drop_all}
 use Rattle.std.specs.Fmt.{decimal}
 use Rattle.plir_data.specs.TextLaws.{ended}
 use Rattle.plir_attr_text.proofs.put.put_sizes.Goals as goal

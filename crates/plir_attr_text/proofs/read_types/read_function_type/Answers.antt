@@ -1,58 +1,28 @@
-use Rattle.std.proofs.Common.{◌⊎◌, ap, sym, ◌∙◌}
-use Rattle.plir_attr_text.specs.TypeReading.{function_at, type_at}
-use Rattle.plir_attr_text.specs.TypesIn.{IsInFunction}
-use Rattle.plir_attr_text.specs.TypesWritten.{IsWrittenIn, IsWrittenBare}
-use Rattle.plir_attr_text.specs.laws.WrittenFound.{function_written}
-use Rattle.plir_attr_text.specs.Wholes.{whole}
-use Rattle.plir_attr_text.specs.Terms.{function_type}
-use Rattle.plir_attr_text.specs.Parts.{IsPartOf}
-use Rattle.plir_attr_text.specs.laws.PartsFound.{part_of_function}
-use Rattle.plir_attr_text.specs.laws.Growth.{named_as, named_by}
-use Rattle.plir_attr_text.proofs.Wholes.{told, no_place, function_text_found, function_text_refused}
+use Rattle.std.proofs.Common.{◌⊎◌}
+use Rattle.plir_attr_text.specs.{Terms.function_type, TypeGrammar.IsText, TypeGrammar.FunctionWithin, Parts.IsPartOf}
+use Rattle.plir_attr_text.specs.{TypeReading.function_at, TypeReading.type_at, TypesIn.IsInFunction}
+use Rattle.plir_attr_text.specs.{TypesWritten.IsWrittenIn, TypesWritten.IsWrittenBare}
+use Rattle.plir_attr_text.specs.laws.{WrittenFound.function_written, PartsFound.part_of_function}
+use Rattle.plir_attr_text.proofs.Wholes.{function_text_found, function_text_refused}
+use Rattle.plir_attr_text.proofs.Texts.{keeps, found_by, refused_by, placed_by}
 use Rattle.plir_attr_text.proofs.read_types.read_function_type.Goals as goal
 
-pub returns-in-Ok : goal.returns-in-Ok
-returns-in-Ok g c =
-    let y = c.in-Ok.ensures.read in
+pub returns : goal.returns
+returns g c =
+    let same = c.as_bytes-bytes.ensures.value in
+    let r = c.whole_function-read.ensures in
+    let stands = IsText (FunctionWithin 200) c.args.text.now in
+    let k = keeps (IsInFunction 199) (λ u. IsWrittenBare c.args.text.now u ⊎ IsWrittenIn c.args.text.now u) stands
+    (λ x u. IsPartOf u (function_type x.0 x.1)) _ _ same (function_written 199 _)
+    (λ x s u w. part_of_function 199 _ u x s w) r.kept in
     record {
-      found = (
-        y.0,
-        function_text_found 199 _ y.0
-            (ap (whole (function_at (type_at 199))) (sym c.as_bytes-bytes.ensures.value) ∙ y.1),
-        y.2,
-      );
-      refused = tt;
-      placeless = tt;
-      grown = c.in-Ok.ensures.kept.grown;
-      named =
-          named_by _ (λ u. IsWrittenBare c.args.text.now u ⊎ IsWrittenIn c.args.text.now u)
-          (λ u w. function_written 199 _ u w) _ _
-          (named_as (IsInFunction 199) _ _ _ _ c.as_bytes-bytes.ensures.value c.in-Ok.ensures.kept.named);
-      held =
-          λ x s. named_by _ (λ u. IsPartOf u (function_type x.0 x.1)) (λ u w. part_of_function 199 _ u x s w) _ _
-          (named_as (IsInFunction 199) _ _ _ _ c.as_bytes-bytes.ensures.value c.in-Ok.ensures.kept.named);
-      rest =
-          c.in-Ok.ensures.kept.rest;
-    }
-
-pub returns-in-Err : goal.returns-in-Err
-returns-in-Err g c =
-    let h = c.in-Err.ensures in
-    record {
-      found = tt;
-      refused =
-          λ n x s. function_text_refused 199 _ _
-          (ap (whole (function_at (type_at 199))) (sym c.as_bytes-bytes.ensures.value) ∙
-          told c.in-Err.stop _ _ c.placed.ensures.fault h.read n) x s;
-      placeless =
-          no_place c.in-Err.stop _ _ c.placed.ensures.fault c.placed.ensures.nowhere h.read;
-      grown = h.kept.grown;
-      named =
-          named_by _ (λ u. IsWrittenBare c.args.text.now u ⊎ IsWrittenIn c.args.text.now u)
-          (λ u w. function_written 199 _ u w) _ _
-          (named_as (IsInFunction 199) _ _ _ _ c.as_bytes-bytes.ensures.value h.kept.named);
-      held =
-          λ x s. named_by _ (λ u. IsPartOf u (function_type x.0 x.1)) (λ u w. part_of_function 199 _ u x s w) _ _
-          (named_as (IsInFunction 199) _ _ _ _ c.as_bytes-bytes.ensures.value h.kept.named);
-      rest = h.kept.rest;
+      found = found_by (function_at (type_at 199)) _ _ _ _ same (function_text_found 199 _) _ _ r.read
+          c.with_place.ensures;
+      refused = refused_by (function_at (type_at 199)) _ _ _ _ same (function_text_refused 199 _) _ _ r.read
+          c.with_place.ensures;
+      placeless = placed_by (function_at (type_at 199)) stands _ _ _ same _ _ r.read c.with_place.ensures;
+      grown = k.grown;
+      named = k.named;
+      held = k.held;
+      rest = k.rest;
     }

@@ -1,55 +1,23 @@
-use Rattle.std.proofs.Common.{◌≡◌, ap, sym, ◌∙◌}
-use Rattle.plir_attr_text.specs.TypeReading.{integer_at}
-use Rattle.plir_attr_text.specs.TypesIn.{IsInInteger}
-use Rattle.plir_attr_text.specs.TypesWritten.{IsWrittenBare}
-use Rattle.plir_attr_text.specs.laws.WrittenFound.{integer_written}
-use Rattle.plir_attr_text.specs.Wholes.{whole}
-use Rattle.plir_attr_text.specs.Terms.{integer_type}
+use Rattle.std.proofs.Common.{◌≡◌}
+use Rattle.plir_attr_text.specs.{Terms.integer_type, TypeGrammar.IsText, TypeGrammar.IsInteger, TypeReading.integer_at}
+use Rattle.plir_attr_text.specs.{TypesIn.IsInInteger, TypesWritten.IsWrittenBare, laws.WrittenFound.integer_written}
 use Rattle.plir_attr_text.specs.laws.PartsFound.{part_of_integer}
-use Rattle.plir_attr_text.specs.laws.Growth.{named_as, named_by}
-use Rattle.plir_attr_text.proofs.Wholes.{told, no_place, integer_text_found, integer_text_refused}
+use Rattle.plir_attr_text.proofs.Wholes.{integer_text_found, integer_text_refused}
+use Rattle.plir_attr_text.proofs.Texts.{keeps, found_by, refused_by, placed_by}
 use Rattle.plir_attr_text.proofs.read_types.read_integer_type.Goals as goal
 
-pub returns-in-Ok : goal.returns-in-Ok
-returns-in-Ok g c =
-    let y = c.in-Ok.ensures.read in
+pub returns : goal.returns
+returns g c =
+    let same = c.as_bytes-bytes.ensures.value in
+    let r = c.whole_integer-read.ensures in
+    let k = keeps IsInInteger (IsWrittenBare c.args.text.now) (IsText IsInteger c.args.text.now)
+    (λ x u. u ≡ integer_type x.0 x.1) _ _ same (integer_written _) (λ x s u w. part_of_integer _ u x s w) r.kept in
     record {
-      found = (
-        y.0,
-        integer_text_found _ y.0 (ap (whole (integer_at)) (sym c.as_bytes-bytes.ensures.value) ∙ y.1),
-        y.2,
-      );
-      refused =
-          tt;
-      placeless = tt;
-      grown = c.in-Ok.ensures.kept.grown;
-      named =
-          named_by _ (λ u. IsWrittenBare c.args.text.now u) (λ u w. integer_written _ u w) _ _
-          (named_as (IsInInteger) _ _ _ _ c.as_bytes-bytes.ensures.value c.in-Ok.ensures.kept.named);
-      held =
-          λ x s. named_by _ (λ u. u ≡ integer_type x.0 x.1) (λ u w. part_of_integer _ u x s w) _ _
-          (named_as (IsInInteger) _ _ _ _ c.as_bytes-bytes.ensures.value c.in-Ok.ensures.kept.named);
-      rest =
-          c.in-Ok.ensures.kept.rest;
-    }
-
-pub returns-in-Err : goal.returns-in-Err
-returns-in-Err g c =
-    let h = c.in-Err.ensures in
-    record {
-      found = tt;
-      refused =
-          λ n x s. integer_text_refused _ _
-          (ap (whole (integer_at)) (sym c.as_bytes-bytes.ensures.value) ∙
-          told c.in-Err.stop _ _ c.placed.ensures.fault h.read n) x s;
-      placeless =
-          no_place c.in-Err.stop _ _ c.placed.ensures.fault c.placed.ensures.nowhere h.read;
-      grown = h.kept.grown;
-      named =
-          named_by _ (λ u. IsWrittenBare c.args.text.now u) (λ u w. integer_written _ u w) _ _
-          (named_as (IsInInteger) _ _ _ _ c.as_bytes-bytes.ensures.value h.kept.named);
-      held =
-          λ x s. named_by _ (λ u. u ≡ integer_type x.0 x.1) (λ u w. part_of_integer _ u x s w) _ _
-          (named_as (IsInInteger) _ _ _ _ c.as_bytes-bytes.ensures.value h.kept.named);
-      rest = h.kept.rest;
+      found = found_by integer_at _ _ _ _ same (integer_text_found _) _ _ r.read c.with_place.ensures;
+      refused = refused_by integer_at _ _ _ _ same (integer_text_refused _) _ _ r.read c.with_place.ensures;
+      placeless = placed_by integer_at (IsText IsInteger c.args.text.now) _ _ _ same _ _ r.read c.with_place.ensures;
+      grown = k.grown;
+      named = k.named;
+      held = k.held;
+      rest = k.rest;
     }

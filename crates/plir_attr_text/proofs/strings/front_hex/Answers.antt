@@ -1,5 +1,4 @@
-use Rattle.plir_attr_text.specs.Bytes.{is_hex}
-use Rattle.plir_attr_text.specs.laws.Lexing.{past-length, front-taken}
+use Rattle.plir_attr_text.specs.{Bytes.is_hex, laws.Lexing.past-length, laws.Lexing.front-taken}
 use Rattle.plir_attr_text.proofs.strings.front_hex.Goals as goal
 
 pub slice_bounds-result-count : goal.slice_bounds-result-count

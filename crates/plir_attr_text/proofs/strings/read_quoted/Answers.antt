@@ -1,9 +1,7 @@
 use Rattle.std.proofs.Common.{◌≡◌, ap, ◌∙◌, Some, option_map}
 use Rattle.std.proofs.lemmas.Result.{err_from_is_err_and}
-use Rattle.plir_attr_text.specs.Strings.{unit_at}
-use Rattle.plir_attr_text.specs.Units.{bytes_of}
-use Rattle.plir_attr_text.specs.laws.StepLaws.{done}
 use Rattle.plir_attr_text.specs.laws.Quoted.{stops, ends, goes_on, unit-shorter}
+use Rattle.plir_attr_text.specs.{Strings.unit_at, Units.bytes_of, laws.StepLaws.done}
 use Rattle.plir_attr_text.proofs.strings.read_quoted.Goals as goal
 
 pub returns-in_err-step : goal.returns-in_err-step

@@ -1,6 +1,5 @@
 use Rattle.std.proofs.Common.{length}
-use Rattle.plir_attr_text.specs.Strings.{string_at}
-use Rattle.plir_attr_text.specs.laws.Quoted.{GoesOn}
+use Rattle.plir_attr_text.specs.{Strings.string_at, laws.Quoted.GoesOn}
 use Rattle.plir_attr_text.proofs.strings.read_quoted.Given as goal
 
 abbrev pub invariant-steps : goal.invariant-steps

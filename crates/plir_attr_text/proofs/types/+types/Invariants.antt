@@ -1,8 +1,6 @@
 use Rattle.std.proofs.Common.{◌+◌, ◌*◌, length}
-use Rattle.plir_attr_text.specs.TypeReading.{type_at}
-use Rattle.plir_attr_text.specs.TypesIn.{IsInType}
+use Rattle.plir_attr_text.specs.{TypeReading.type_at, TypesIn.IsInType, laws.Growth.NamesFront}
 use Rattle.plir_attr_text.proofs.Gathering.{Gathers}
-use Rattle.plir_attr_text.specs.laws.Growth.{NamesFront}
 use Rattle.plir_attr_text.proofs.types.+types.Given as goal
 
 abbrev pub decreases-read_type_at : goal.decreases-read_type_at

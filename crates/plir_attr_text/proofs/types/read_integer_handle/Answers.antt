@@ -1,6 +1,5 @@
 use Rattle.std.proofs.Common.{refl}
-use Rattle.plir_attr_text.specs.Terms.{integer_type}
-use Rattle.plir_attr_text.specs.laws.Growth.{Adds-one}
+use Rattle.plir_attr_text.specs.{Terms.integer_type, laws.Growth.Adds-one}
 use Rattle.plir_attr_text.proofs.types.read_integer_handle.Goals as goal
 
 pub returns-clause-kept : goal.returns-clause-kept

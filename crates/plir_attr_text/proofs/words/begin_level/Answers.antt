@@ -1,8 +1,5 @@
 use Rattle.std.proofs.Common.{refl, sym, ap, subst, ◌∙◌}
-use Rattle.plir_attr_text.specs.Tokens.{token_at, look}
-use Rattle.plir_attr_text.specs.TypeReading.{word_at}
-use Rattle.plir_attr_text.specs.Levels.{level_at}
-use Rattle.plir_attr_text.specs.Reading.{Gives}
+use Rattle.plir_attr_text.specs.{Tokens.token_at, Tokens.look, TypeReading.word_at, Levels.level_at, Reading.Gives}
 use Rattle.plir_attr_text.proofs.Peeks.{begun, letter-level, other-level}
 use Rattle.plir_attr_text.proofs.words.begin_level.Goals as goal
 

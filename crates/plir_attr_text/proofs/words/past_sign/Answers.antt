@@ -1,10 +1,7 @@
 use Rattle.std.proofs.Common.{◌≡◌, ◌≢◌, ℕ, List, None, Result, refl, sym, ap, ◌∙◌}
-use Rattle.plir_attr_text.specs.declared.fault.Fault.{Fault}
-use Rattle.plir_attr_text.specs.declared.fault.Stop.{Stop}
 use Rattle.plir_attr_text.specs.declared.fault.Stop.TheVariants.{OutOfMemory, Crowded, At}
-use Rattle.plir_attr_text.specs.Tokens.{Token, look, token_at}
-use Rattle.plir_attr_text.specs.Lists.{behind_sign, past_sign}
-use Rattle.plir_attr_text.specs.Reading.{Fails}
+use Rattle.plir_attr_text.specs.{declared.fault.Fault.Fault, declared.fault.Stop.Stop, Tokens.Token, Tokens.look}
+use Rattle.plir_attr_text.specs.{Tokens.token_at, Lists.behind_sign, Lists.past_sign, Reading.Fails}
 use Rattle.plir_attr_text.proofs.Peeks.{other-sign}
 use Rattle.plir_attr_text.proofs.words.past_sign.Goals as goal
 

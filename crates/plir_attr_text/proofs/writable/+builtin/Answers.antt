@@ -1,12 +1,11 @@
 use Rattle.std.proofs.Common.{◌↔◌, ◌+◌, ◌*◌, ◌++◌, ◌<◌, List, ℕ, map, IsTrue, refl, sym, subst, arith, rules}
-use Rattle.plir_data.specs.LiveLaws.{all_left, all_right}
-use Rattle.plir_data.specs.TypeTree.{trees_of, tree_of}
-use Rattle.plir_data.specs.Types.{IsLive, AllLive}
 use Rattle.plir_data.specs.declared.types.TypeObj.TheVariants.{Integer, Function, Unit, Own}
+use Rattle.plir_data.specs.{LiveLaws.all_left, LiveLaws.all_right, TypeTree.trees_of, TypeTree.tree_of, Types.IsLive}
+use Rattle.plir_data.specs.{Types.AllLive}
 use Rattle.plir_attr_text.specs.Writable.{IsBuiltin, AreBuiltin}
-use Rattle.plir_attr_text.proofs.Asked.{asked_as, both, not_both}
 use Rattle.plir_attr_text.specs.laws.Handles.{above_all, above_each, above_all_upto, above_left, above_right}
 use Rattle.plir_attr_text.specs.laws.Handles.{held_below}
+use Rattle.plir_attr_text.proofs.Asked.{asked_as, both, not_both}
 use Rattle.plir_attr_text.proofs.writable.+builtin.Goals as goal
 
 pub are_builtin-is_builtin-requires : goal.are_builtin-is_builtin-requires

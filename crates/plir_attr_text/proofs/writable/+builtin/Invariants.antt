@@ -1,7 +1,6 @@
 use Rattle.std.proofs.Common.{◌↔◌, ◌+◌, ◌*◌, drop, map}
 use Rattle.plir_data.specs.TypeTree.{trees_of, tree_of}
-use Rattle.plir_attr_text.specs.Writable.{AreBuiltin}
-use Rattle.plir_attr_text.specs.laws.Handles.{above_all}
+use Rattle.plir_attr_text.specs.{Writable.AreBuiltin, laws.Handles.above_all}
 use Rattle.plir_attr_text.proofs.writable.+builtin.Given as goal
 
 abbrev pub decreases-is_builtin : goal.decreases-is_builtin

@@ -1,14 +1,10 @@
-use Rattle.std.proofs.Common.{◌≡◌, ◌↔◌, ◌∙◌, ◌∷◌, ◌+◌, ◌<◌, ◌≤◌, true, ap, sym, subst, refl, arith, rules, map}
-use Rattle.plir_data.specs.AttrDepth.{bulk, items_bulk, entries_bulk}
-use Rattle.plir_data.specs.AttrLive.{IsAttrLive, AreItemsLive, AreEntriesLive}
-use Rattle.plir_data.specs.AttrSeen.{attr_view}
-use Rattle.plir_data.specs.AttrView.{items_of, entries_of}
-use Rattle.plir_data.specs.DepthLaws.{item_small, first_small}
-use Rattle.plir_data.specs.DictSeen.{pairs_view}
-use Rattle.plir_data.specs.Dictionary.{IsDictionary}
-use Rattle.plir_data.specs.LiveLaws.{item_live, first_live}
+use Rattle.std.proofs.Common.{◌≡◌, ◌↔◌, ◌∙◌, ◌∷◌, ◌≤◌, true, ap, sym, subst, refl, arith, rules}
+use Rattle.plir_data.specs.AttrLive.{AreEntriesLive}
+use Rattle.plir_data.specs.{AttrDepth.bulk, AttrDepth.entries_bulk, AttrSeen.attr_view, AttrView.entries_of}
+use Rattle.plir_data.specs.{DepthLaws.first_small, DictSeen.pairs_view, Dictionary.IsDictionary, LiveLaws.first_live}
 use Rattle.plir_attr_text.specs.Writable.{AreEntriesWritable}
 use Rattle.plir_attr_text.proofs.Asked.{pairs_again, entry_passed, entry_failed}
+use Rattle.plir_attr_text.proofs.Held.{entry_held, item_held}
 use Rattle.plir_attr_text.proofs.writable.+writable.Goals as goal
 
 pub is_dict_writable-entries-init : goal.is_dict_writable-entries-init
@@ -24,18 +20,10 @@ is_dict_writable-entries-init g t c =
 
 pub is_dict_writable-is_attr_writable-requires : goal.is_dict_writable-is_attr_writable-requires
 is_dict_writable-is_attr_writable-requires g t c =
-    let types = c.args.types.now in
     let inv = c.entries.invariant in
-    let step = ap pairs_view c.in-Some.ensures.steps in
-    let live : IsAttrLive g.D.OpSet.attr_handles types (attr_view c.in-Some.value.now) =
-    (first_live g.D.OpSet.attr_handles types _ (pairs_view c.next.new.self)
-    (c.in-Some.key.now, attr_view c.in-Some.value.now) step inv.1).0 in
-    let smaller : bulk (attr_view c.in-Some.value.now) < entries_bulk c.args.attrs.now + 1 =
-    omega (
-      arith,
-      (first_small (entries_bulk c.args.attrs.now) _ (pairs_view c.next.new.self)
-          (c.in-Some.key.now, attr_view c.in-Some.value.now) step inv.2).0,
-    ) in
+    let asked = entry_held g.D.OpSet.attr_handles c.args.types.now _ (pairs_view c.next.new.self)
+    (c.in-Some.key.now, attr_view c.in-Some.value.now) (entries_bulk c.args.attrs.now)
+    (ap pairs_view c.in-Some.ensures.steps) inv.1 inv.2 in
     search rules
 
 pub is_dict_writable-entries-preserved : goal.is_dict_writable-entries-preserved
@@ -80,18 +68,6 @@ is_dict_writable-returns g t c =
 
 pub are_items_writable-is_attr_writable-requires : goal.are_items_writable-is_attr_writable-requires
 are_items_writable-is_attr_writable-requires g t c =
-    let types = c.args.types.now in
-    let xs = c.deref-item-items.result.now in
-    let i = c.items.item-index in
-    let x = c.item-item.result in
-    let held = subst (λ ys. AreItemsLive g.D.OpSet.attr_handles types (items_of (map attr_view ys)))
-    (sym c.deref-item-items.ensures.value) c.requires in
-    let live : IsAttrLive g.D.OpSet.attr_handles types (attr_view x) =
-    subst (λ y. IsAttrLive g.D.OpSet.attr_handles types (attr_view y)) (sym c.item-item.is)
-    (item_live g.D.OpSet.attr_handles types attr_view xs i x (omega arith) held) in
-    let below : bulk (attr_view x) < items_bulk (map attr_view xs) + 1 =
-    subst (λ y. bulk (attr_view y) < items_bulk (map attr_view xs) + 1) (sym c.item-item.is)
-    (omega (arith, item_small attr_view xs i x (omega arith))) in
-    let smaller : bulk (attr_view x) < items_bulk (map attr_view c.args.list.now.items) + 1 =
-    subst (λ ys. bulk (attr_view x) < items_bulk (map attr_view ys) + 1) c.deref-item-items.ensures.value below in
+    let asked = item_held g.D.OpSet.attr_handles c.args.types.now c.args.list.now.items _ c.items.item-index
+    c.item-item.result c.deref-item-items.ensures.value (omega arith) c.item-item.is c.requires in
     search rules

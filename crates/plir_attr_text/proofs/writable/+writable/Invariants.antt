@@ -1,9 +1,6 @@
 use Rattle.std.proofs.Common.{◌↔◌, ◌≤◌, ◌+◌, drop, map}
-use Rattle.plir_data.specs.AttrDepth.{bulk, items_bulk, entries_bulk}
-use Rattle.plir_data.specs.AttrLive.{AreEntriesLive}
-use Rattle.plir_data.specs.AttrSeen.{attr_view}
-use Rattle.plir_data.specs.AttrView.{items_of, entries_of}
-use Rattle.plir_data.specs.DictSeen.{pairs_view}
+use Rattle.plir_data.specs.{AttrDepth.bulk, AttrDepth.items_bulk, AttrDepth.entries_bulk, AttrLive.AreEntriesLive}
+use Rattle.plir_data.specs.{AttrSeen.attr_view, AttrView.items_of, AttrView.entries_of, DictSeen.pairs_view}
 use Rattle.plir_attr_text.specs.Writable.{AreItemsWritable, AreEntriesWritable}
 use Rattle.plir_attr_text.proofs.writable.+writable.Given as goal
 

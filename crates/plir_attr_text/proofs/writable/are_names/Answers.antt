@@ -1,6 +1,5 @@
 use Rattle.std.proofs.Common.{◌≡◌, true, All, subst, refl, arith}
-use Rattle.std.proofs.lemmas.List.{take_all}
-use Rattle.std.proofs.lemmas.List.Elements.{All-more}
+use Rattle.std.proofs.{lemmas.List.take_all, lemmas.List.Elements.All-more}
 use Rattle.plir_attr_text.specs.Writable.{IsNameOrMark}
 use Rattle.plir_attr_text.proofs.writable.are_names.Goals as goal
 

@@ -1,5 +1,4 @@
-use Rattle.std.proofs.Common.{◌<◌, ◌^◌, refl, arith}
-use Rattle.std.proofs.lemmas.List.Elements.{All-from_get_or}
+use Rattle.std.proofs.{Common.◌<◌, Common.◌^◌, Common.refl, Common.arith, lemmas.List.Elements.All-from_get_or}
 use Rattle.plir_attr_text.proofs.writable.are_u32.Goals as goal
 
 pub returns : goal.returns
