@@ -1,4 +1,4 @@
-use Rattle.std.proofs.Common.{◌≡◌, ◌∙◌, ap, cond, Option, Some}
+use Rattle.std.proofs.Common.{◌≡◌, ◌∙◌, ap, cond, Some}
 use Rattle.std.specs.HashMap.{get}
 use Rattle.plir_names.specs.Tables.{with_one_more}
 use Rattle.plir_names.proofs.Bearing.{bears_more}
