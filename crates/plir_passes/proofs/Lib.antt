@@ -4,6 +4,8 @@ pub mod Converting
 pub mod Walking
 pub mod WholeWalks
 pub mod Replacing
+pub mod Preparing
+pub mod SoleResults
 pub mod Unused
 pub mod Sweeps
 pub mod Lists

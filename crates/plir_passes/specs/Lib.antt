@@ -4,6 +4,8 @@
 --              below none
 --   Kept       Keeps: what a change leaves of the nodes that stand apart from it, and of the types
 --   Rewritten  IsRewriting, IsReplaced: one operation is replaced; IsConverted: what many such changes leave
+--   Prepared   IsPrepared: how far a replacement has come where nothing is gone yet; IsPutBefore: an operation was made
+--              and put before another one
 --   Rewrites   IsRewrite: one call of `rewrite`; IsBlockConverted, IsConversion: the calls that convert a block, and
 --              all that stands below an operation
 --   Converted  IsConvertedAt: what the call of a walk at a node leaves
@@ -20,6 +22,7 @@
 pub mod Legal
 pub mod Kept
 pub mod Rewritten
+pub mod Prepared
 pub mod Rewrites
 pub mod Converted
 pub mod ConversionLaws

@@ -19,8 +19,8 @@ use Rattle.plir_core.specs.Forest.{Shape, IsBelow, IsForest, look}
 use Rattle.plir_walk.specs.Lawful.{Lawful}
 use Rattle.plir_walk.specs.ChangedBelow.{ChangedBelow, WasBelow, WasUnder}
 use Rattle.plir_walk.proofs.Climbs.{climb-bottom}
-use Rattle.plir_walk.proofs.Lawfulness.{SeesTheSame, block-edit-seen, climb-first, moved-given, moved-live, not-both}
-use Rattle.plir_walk.proofs.Lawfulness.{op-edit-seen}
+use Rattle.plir_walk.specs.AdditionLaws.{moved-given, moved-live}
+use Rattle.plir_walk.proofs.Lawfulness.{SeesTheSame, block-edit-seen, climb-first, not-both, op-edit-seen}
 use Rattle.plir_walk.proofs.Nodes.{same_tells}
 
 -- the first step of a climb
@@ -246,7 +246,7 @@ module _ {K A T : Type 0} (s t u : ContextView K A T) (n : IRNode) (c : ChangedB
 
 -- an edit of what an operation or a block holds
 module _ {K A T : Type 0} (s t : ContextView K A T) (n : IRNode) (c : ChangedBelow (look s) n (look t)) where
-  changed-seen : (u : ContextView K A T) → SeesTheSame t u → ChangedBelow (look s) n (look u)
+  pub changed-seen : (u : ContextView K A T) → SeesTheSame t u → ChangedBelow (look s) n (look u)
   changed-seen u e =
       changed-on (look s) n (look t) (look u) c
       (λ m v nb l. (e.live m ∙ l, e.parents m, λ ne. e.children m))

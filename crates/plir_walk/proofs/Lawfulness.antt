@@ -8,16 +8,18 @@ use Rattle.plir_core.specs.declared.ptr.BasicBlock.{BasicBlock as BasicBlockKind
 use Rattle.plir_core.specs.declared.ptr.IRNode.{IRNode}
 use Rattle.plir_core.specs.declared.ptr.IRNode.TheVariants.{Operation, Region, BasicBlock}
 use Rattle.plir_core.specs.Above.{Reaches, climb}
-use Rattle.plir_store.specs.Table.{Table, is_live_at}
-use Rattle.plir_core.specs.Nodes.{Nodes, is_given_out, is_node_live, was_given_out, node_parent, node_over}
+use Rattle.plir_store.specs.Table.{Table}
+use Rattle.plir_core.specs.Nodes.{Nodes, is_node_live, node_parent, node_over}
 use Rattle.plir_core.specs.Contents.{OpView, BlockView}
 use Rattle.plir_core.specs.ContextView.{ContextView, is_live, given_out, children, parent_of}
 use Rattle.plir_core.specs.Changes.{SameLive, with_op_edit, with_block_edit}
 use Rattle.plir_core.specs.Erase.{IsErased}
 use Rattle.plir_core.specs.Made.{IsRegionAdded, IsMade}
-use Rattle.plir_core.specs.Placed.{MovesOnly, IsPlaced}
+use Rattle.plir_core.specs.Held.{KeepsNodes}
+use Rattle.plir_core.specs.Placed.{IsPlaced}
 use Rattle.plir_core.specs.Forest.{Shape, IsBelow, IsForest, look}
 use Rattle.plir_walk.specs.Lawful.{Lawful, SameShape}
+use Rattle.plir_walk.specs.AdditionLaws.{moved-live, moved-given}
 use Rattle.plir_walk.proofs.Climbs.{climb-bottom, climb-split, climb-top, not-below-itself}
 use Rattle.plir_walk.proofs.NamedStores.{op-edit-is, block-edit-is}
 use Rattle.plir_walk.specs.Unnamed.{SameSlots}
@@ -106,19 +108,6 @@ linked-live s m a e = go (is_node_live s m) (node_over s m) e
     go : (b : Bool) (o : Option IRNode) → cond b o None ≡ Some a → b ≡ true
     go true o e = refl
     go false o e = absurd (none-some a e)
-
--- where nodes are moved, the same are live and given out
-pub moved-live : {O B : Type 0} (s t : Nodes O B) (x : IRNode) → MovesOnly s t x → (m : IRNode) → is_node_live t m ≡
-    is_node_live s m
-moved-live s t x e (Operation p) = ap (λ z. is_live_at z p.slot p.version) e.ops
-moved-live s t x e (Region p) = ap (λ z. is_live_at z p.slot p.version) e.regions
-moved-live s t x e (BasicBlock p) = ap (λ z. is_live_at z p.slot p.version) e.blocks
-
-pub moved-given : {O B : Type 0} (s t : Nodes O B) (x : IRNode) → MovesOnly s t x → (m : IRNode) → was_given_out t m ≡
-    was_given_out s m
-moved-given s t x e (Operation p) = ap (λ z. is_given_out z p) e.ops
-moved-given s t x e (Region p) = ap (λ z. is_given_out z p) e.regions
-moved-given s t x e (BasicBlock p) = ap (λ z. is_given_out z p) e.blocks
 
 module _ {K A T : Type 0} (s t : ContextView K A T) where
   -- erasing a tree below n
@@ -221,11 +210,15 @@ module _ {K A T : Type 0} (s : ContextView K A T) where
     pub children : (m : IRNode) → children t m ≡ children s m
     pub given : (m : IRNode) → given_out t m ≡ given_out s m
 
-  lawful-seen : (t : ContextView K A T) (n : IRNode) → SeesTheSame t → Lawful (look s) n (look t)
+  pub lawful-seen : (t : ContextView K A T) (n : IRNode) → SeesTheSame t → Lawful (look s) n (look t)
   lawful-seen t n e = lawful-same (look s) (look t) n e.live e.parents e.children (λ m g. e.given m ∙ g)
 
-  shape-seen : (t : ContextView K A T) → SeesTheSame t → SameShape (look s) (look t)
+  pub shape-seen : (t : ContextView K A T) → SeesTheSame t → SameShape (look s) (look t)
   shape-seen t e = record { live = e.live; children = e.children }
+
+  -- where all nodes are kept, a walk sees the same
+  pub kept-seen : (t : ContextView K A T) → KeepsNodes s t → SeesTheSame t
+  kept-seen t e = record { live = e.live; parents = e.parents; children = e.children; given = e.given }
 
   pub op-edit-seen : (p : Ptr OperationKind) (f : OpView K A → OpView K A) → SeesTheSame (with_op_edit s p f)
   op-edit-seen p f =

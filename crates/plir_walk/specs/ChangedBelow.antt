@@ -5,6 +5,7 @@ use Rattle.plir_core.specs.declared.ptr.Ptr.{Ptr}
 use Rattle.plir_core.specs.declared.ptr.Operation.{Operation as OperationKind}
 use Rattle.plir_core.specs.declared.ptr.BasicBlock.{BasicBlock as BasicBlockKind}
 use Rattle.plir_core.specs.declared.ptr.IRNode.{IRNode}
+use Rattle.plir_core.specs.declared.value.Value.{Value}
 use Rattle.plir_core.specs.Above.{Reaches}
 use Rattle.plir_core.specs.Contents.{OpView, BlockView}
 use Rattle.plir_core.specs.ContextView.{ContextView, IsAncestor, given_out}
@@ -12,6 +13,7 @@ use Rattle.plir_core.specs.Changes.{SameLive, with_op_edit, with_block_edit}
 use Rattle.plir_core.specs.Erase.{IsErased}
 use Rattle.plir_core.specs.Made.{IsRegionAdded, IsMade}
 use Rattle.plir_core.specs.Placed.{IsPlaced, IsUnlinked}
+use Rattle.plir_core.specs.Rewired.{IsRewired}
 use Rattle.plir_core.specs.Forest.{Shape, IsBelow, IsForest, look}
 use Rattle.plir_walk.specs.Lawful.{Lawful}
 
@@ -64,6 +66,9 @@ pub record StepsBelow (K A T : Type 0) : Type 0 where
   pub erased : (s t u : ContextView K A T) (n x : IRNode) → IsForest (look s) → IsForest (look t) →
       ChangedBelow (look s) n (look t) → WasBelow (look s) n x → IsErased t.nodes u.nodes x →
       ChangedBelow (look s) n (look u)
+  -- one value comes in place of another one, wherever it is used
+  pub rewired : (s t u : ContextView K A T) (n : IRNode) (v w : Value) → ChangedBelow (look s) n (look t) →
+      IsRewired t u v w → ChangedBelow (look s) n (look u)
   -- what an operation or a block holds is edited, wherever it stands
   pub op_edit : (s t : ContextView K A T) (n : IRNode) (p : Ptr OperationKind) (f : OpView K A → OpView K A) →
       ChangedBelow (look s) n (look t) → ChangedBelow (look s) n (look (with_op_edit t p f))

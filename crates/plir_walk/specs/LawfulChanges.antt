@@ -1,16 +1,18 @@
 -- What a callback at a node may do to a context.
-use Rattle.std.specs.Prelude.{◌≡◌, ℕ, true, List}
+use Rattle.std.specs.Prelude.{◌≡◌, ℕ, true, List, Some}
 use Rattle.plir_core.specs.declared.ptr.Ptr.{Ptr}
 use Rattle.plir_core.specs.declared.ptr.Operation.{Operation as OperationKind}
 use Rattle.plir_core.specs.declared.ptr.BasicBlock.{BasicBlock as BasicBlockKind}
 use Rattle.plir_core.specs.declared.ptr.IRNode.{IRNode}
+use Rattle.plir_core.specs.declared.value.Value.{Value}
 use Rattle.plir_core.specs.Contents.{OpView, BlockView}
-use Rattle.plir_core.specs.ContextView.{ContextView, IsLive, IsAncestor, given_out}
+use Rattle.plir_core.specs.ContextView.{ContextView, IsLive, IsAncestor, given_out, parent_of}
 use Rattle.plir_core.specs.WellFormed.{IsWellFormed}
 use Rattle.plir_core.specs.Changes.{SameLive, with_op_edit, with_block_edit}
 use Rattle.plir_core.specs.Erase.{IsErased}
 use Rattle.plir_core.specs.Made.{IsRegionAdded, IsMade}
-use Rattle.plir_core.specs.Placed.{IsPlaced}
+use Rattle.plir_core.specs.Placed.{IsPlaced, IsPlacedBefore}
+use Rattle.plir_core.specs.Rewired.{IsRewired}
 use Rattle.plir_core.specs.Forest.{IsBelow, IsForest, look}
 use Rattle.plir_walk.specs.Lawful.{Lawful, SameShape}
 
@@ -41,6 +43,9 @@ pub record LawfulChanges (K A T : Type 0) (own_handles : A → List ℕ) : Type 
       SameShape (look s) (look (with_op_edit s p f))
   pub block_edit_shape : (s : ContextView K A T) (p : Ptr BasicBlockKind) (f : BlockView A → BlockView A) →
       SameShape (look s) (look (with_block_edit s p f))
+  -- One value has come in place of another one, wherever it was used.
+  pub rewired : (s t : ContextView K A T) (n : IRNode) (v w : Value) → IsRewired s t v w → Lawful (look s) n (look t)
+  pub rewired_shape : (s t : ContextView K A T) (v w : Value) → IsRewired s t v w → SameShape (look s) (look t)
   -- a make that was refused
   pub refused : (s t : ContextView K A T) (n : IRNode) → SameLive s t →
       ((m : IRNode) → given_out s m ≡ true → given_out t m ≡ true) → Lawful (look s) n (look t)
@@ -48,6 +53,10 @@ pub record LawfulChanges (K A T : Type 0) (own_handles : A → List ℕ) : Type 
   pub placed : (s t u : ContextView K A T) (n over x : IRNode) (ks : List IRNode) → IsForest (look s)
       → IsAncestor s n over
       → IsMade s.nodes t.nodes x → IsPlaced t.nodes u.nodes x over ks → Lawful (look s) n (look u)
+  -- a tree was made, and its root x was put right before a mark, whose parent is n, or a node below it
+  pub placed_before : (s t u : ContextView K A T) (n over x mark : IRNode) → IsForest (look s) → IsAncestor s n over →
+      parent_of s mark ≡ Some over → IsMade s.nodes t.nodes x → IsPlacedBefore t.nodes u.nodes x mark →
+      Lawful (look s) n (look u)
   -- n was given a region
   pub region : (s t : ContextView K A T) (n x : IRNode) → IsForest (look s) → IsRegionAdded s.nodes t.nodes n x →
       Lawful (look s) n (look t)

@@ -12,6 +12,8 @@
 --   Walked           Walked, WalkedOver: the contracts of the walkers
 --   LawfulChanges    LawfulChanges: which changes of a context are lawful at a node
 --   ChangedBelow     ChangedBelow, StepsBelow: what a callback has done so far, in many steps
+--   Additions        IsNewBefore: a tree was made and put before a mark; Additions: how such changes compose;
+--                    AdditionLaws: their laws
 --   Step             Hops, Runs: the cursor of a walk, step by step
 --   Laws, CallLaws, TreeLaws, NodeLaws, WalkLaws
 --                    laws of settings and traversals, of what calls keep, of trees, of nodes, of whole walks
@@ -31,6 +33,8 @@ pub mod AsRead
 pub mod Walked
 pub mod LawfulChanges
 pub mod ChangedBelow
+pub mod Additions
+pub mod AdditionLaws
 pub mod Step
 pub mod Laws
 pub mod CallLaws

@@ -15,6 +15,7 @@ ghost use Rattle.plir_core.specs.Above.{Reaches};
 ghost use Rattle.plir_core.specs.Forest.{IsForest, Shape};
 ghost use Rattle.plir_walk.specs.Tree.{HasOnePlaceEach, IsUnder};
 ghost use Rattle.plir_walk.specs.Calls.{Advancing, Call, ReadsBack};
+ghost use Rattle.plir_walk.specs.Additions.{Additions};
 ghost use Rattle.plir_walk.specs.ChangedBelow.{StepsBelow};
 ghost use Rattle.plir_walk.specs.LawfulChanges.{LawfulChanges};
 ghost use Rattle.plir_walk.specs.Laws.{BeforeOrders, PostReverseIsPreForwardReversed, SkipsAtPostOrder};
@@ -91,10 +92,16 @@ pub fn lawful_changes<D: OpSet>()
     contexts_stand::<D>();
 }
 
+/// What is made, and put right before a node, touches nothing that was there: the node is live and where it was, and
+/// such changes compose.
+pub fn additions<D: OpSet>()
+    ensures { Additions D.Kind D.Attr D.Ty }
+{}
+
 /// What a callback at a node does in many steps, in any order: it makes nodes, unlinks and moves those below its own,
-/// puts them anywhere below it or into what it made, edits and erases. One relation holds from its beginning to each
-/// step, each step keeps it by the words of the node call that makes it, and where it holds at the end the whole is a
-/// lawful change.
+/// puts them anywhere below it or into what it made, puts one value in place of another one, edits and erases. One
+/// relation holds from its beginning to each step, each step keeps it by the words of the node call that makes it, and
+/// where it holds at the end the whole is a lawful change.
 pub fn changes_below_compose<D: OpSet>()
     ensures { StepsBelow D.Kind D.Attr D.Ty }
 {}

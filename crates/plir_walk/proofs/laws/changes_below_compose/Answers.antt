@@ -1,6 +1,7 @@
 use Rattle.plir_walk.proofs.ChangedSoFar.{changed-begun, changed-lawful, changed-made, changed-refused, changed-region}
 use Rattle.plir_walk.proofs.ChangedSoFar.{changed-unlinked, changed-placed, changed-erased, changed-op-edit}
-use Rattle.plir_walk.proofs.ChangedSoFar.{changed-block-edit, unlinked-under}
+use Rattle.plir_walk.proofs.ChangedSoFar.{changed-block-edit, changed-seen, unlinked-under}
+use Rattle.plir_walk.proofs.Lawfulness.{kept-seen}
 use Rattle.plir_walk.proofs.laws.changes_below_compose.Goals as goal
 use Rattle.plir_core.specs.Forest.{look}
 
@@ -15,6 +16,7 @@ returns g c = record {
   unlinked_under = λ s t x m e h. unlinked-under s t x m e h;
   placed = λ s t u n x over ks e b o p. changed-placed s t u n e x over ks b o p;
   erased = λ s t u n x w w' e b r. changed-erased s t u n e x w w' b r;
+  rewired = λ s t u n v x e r. changed-seen s t n e u (kept-seen t u r.keeps);
   op_edit = λ s t n p f e. changed-op-edit s t n e p f;
   block_edit = λ s t n p f e. changed-block-edit s t n e p f;
 }
