@@ -6,6 +6,7 @@ pub mod WholeWalks
 pub mod Replacing
 pub mod Preparing
 pub mod SoleResults
+pub mod Linked
 pub mod Unused
 pub mod Sweeps
 pub mod Lists

@@ -8,10 +8,12 @@ mod effects;
 pub mod laws;
 mod marks;
 mod reaching;
+mod rewriting;
 mod unreached_code;
 mod worklist;
 
 pub use conversion::{Conversion, convert, convert_block};
 pub use dead_code::{eliminate_dead_code, is_dead};
 pub use effects::{EffectKind, EffectSet, is_removable};
+pub use rewriting::{put_before, replace_op};
 pub use unreached_code::eliminate_unreached_code;

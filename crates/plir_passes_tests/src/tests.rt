@@ -3,9 +3,9 @@ ghost use Rattle.plir_core.specs.ContextView.{IsLive};
 ghost use Rattle.plir_core.specs.declared.ptr.IRNode.{IRNode as AnyNode};
 
 use crate::{Renew, RenewErr, ToyKind};
-use plir_core::{IRNode, Operation, Ptr};
-use plir_data::{KindSet, Memory};
-use plir_passes::{convert, eliminate_dead_code, eliminate_unreached_code};
+use plir_core::{DefiningEntity, IRNode, Operation, Ptr};
+use plir_data::{KindSet, Memory, OpKind};
+use plir_passes::{convert, eliminate_dead_code, eliminate_unreached_code, put_before, replace_op};
 use plir_scripts::{Bench, Layer, Line, Mismatch, NodeCalls, ScriptKind, Stop, play};
 use std::alloc::Global;
 
@@ -23,29 +23,70 @@ impl ScriptKind for ToyKind {
     }
 }
 
-/// The calls of this crate, `eliminate OP`, `reach OP` and `renew OP`, and those on nodes.
+/// The calls of this crate, `eliminate OP`, `reach OP`, `renew OP`, `put OP VALUE`, `replace-op OP VALUE`, `name OP`,
+/// and those on nodes.
 struct PassCalls;
 
 impl Layer<KindSet<ToyKind>> for PassCalls {
     fn run(bench: &mut Bench<KindSet<ToyKind>>, line: Line<'_>) -> Result<(), Stop> {
-        if !matches!(line.command, "eliminate" | "reach" | "renew") {
-            return NodeCalls::run(bench, line);
+        match line.command {
+            "eliminate" => eliminate(bench, line.first),
+            "reach" => reach(bench, line.first),
+            "renew" => renew(bench, line.first),
+            "put" => put(bench, line),
+            "replace-op" => replace(bench, line),
+            "name" => name(bench, line.first),
+            _ => NodeCalls::run(bench, line),
         }
-        if line.command == "eliminate" {
-            return eliminate(bench, line.first);
-        }
-        if line.command == "reach" {
-            return reach(bench, line.first);
-        }
-        let op = bench.made.op(&bench.ctx, line.first)?;
-        let renew = Renew { alloc: bench.alloc };
-        match convert(&mut bench.ctx, &renew, op) {
-            Ok(()) => bench.answer.put("done"),
-            Err(RenewErr::Used) => bench.answer.put("used"),
-            Err(RenewErr::Node(refusal)) => return Err(Stop::from(refusal)),
-        }
-        Ok(())
     }
+}
+
+// Replaces what is old below an operation.
+fn renew(bench: &mut Bench<KindSet<ToyKind>>, word: &str) -> Result<(), Stop> {
+    let op = bench.made.op(&bench.ctx, word)?;
+    let renew = Renew { alloc: bench.alloc };
+    match convert(&mut bench.ctx, &renew, op) {
+        Ok(()) => bench.answer.put("done"),
+        Err(RenewErr::Used) => bench.answer.put("used"),
+        Err(RenewErr::Node(refusal)) => return Err(Stop::from(refusal)),
+    }
+    Ok(())
+}
+
+// Puts a `toy.new` of two operands, which are one value, before an operation in a block.
+fn put(bench: &mut Bench<KindSet<ToyKind>>, line: Line<'_>) -> Result<(), Stop> {
+    let op = bench.made.op(&bench.ctx, line.first)?;
+    let value = bench.made.value(&bench.ctx, line.second)?;
+    if op.get_parent_block(&bench.ctx).is_none() {
+        return Err(Stop::Refused);
+    }
+    let (ctx, kind) = (&mut bench.ctx, OpKind::Own(ToyKind::New));
+    let ty = value.get_type(ctx);
+    put_before(bench.alloc, ctx, op, kind, ty, &[value, value])?;
+    Ok(())
+}
+
+// Names the operation that stands before another one.
+fn name(bench: &mut Bench<KindSet<ToyKind>>, word: &str) -> Result<(), Stop> {
+    let op = bench.made.op(&bench.ctx, word)?;
+    if let Some(prev) = op.get_prev(&bench.ctx) {
+        bench.made.ops.push(prev)?;
+    }
+    Ok(())
+}
+
+// Puts a value of another operation in place of the one result of an operation without regions, and erases that.
+fn replace(bench: &mut Bench<KindSet<ToyKind>>, line: Line<'_>) -> Result<(), Stop> {
+    let op = bench.made.op(&bench.ctx, line.first)?;
+    let value = bench.made.value(&bench.ctx, line.second)?;
+    if op.get_num_results(&bench.ctx) != 1 || op.num_regions(&bench.ctx) != 0 {
+        return Err(Stop::Refused);
+    }
+    if value.defining_entity() == DefiningEntity::Op(op) {
+        return Err(Stop::Refused);
+    }
+    replace_op(&mut bench.ctx, op, value);
+    Ok(())
 }
 
 // Eliminates dead code. What is erased before memory is refused is gone, so the call is made once more right then.
@@ -398,5 +439,34 @@ fn what_a_reached_operation_needs_stays(rt: HostRuntime) -> Result<(), Mismatch>
         reach o0 => used
         reach o5 => refused
         reach o1 => used";
+    play_in(rt.alloc(), script)
+}
+
+#[test]
+fn an_operation_becomes_another_one_in_steps_where_memory_is_refused(
+    rt: HostRuntime,
+) -> Result<(), Mismatch> {
+    let script = "
+        type builtin.unit => t0
+        op func 1 => o0
+        block - t0 => b0
+        back b0 r0
+        op add 0 t0 < b0.0 b0.0 => o1
+        op load 0 < o1.0 b0.0 o1.0 => o2
+        put o1 b0.0 => refused
+        back o1 b0
+        back o2 b0
+        put o1 b0.0
+        name o1
+        put o1 o3.0
+        name o1
+        show o4 => new Unknown, in b0 r0 o0, between o3 o1, regions, from - to -, operands o3.0 o3.0, successors, results 1
+        replace-op o1 o1.0 => refused
+        replace-op o2 o4.0 => refused
+        replace-op o1 o4.0
+        live o1 => no
+        show b0 => -, in r0 o0, between - -, operations o3 o4 o2 to o2, terminator -, arguments 1
+        show o2 => load Unknown, in b0 r0 o0, between o4 -, regions, from - to -, operands o4.0 b0.0 o4.0, successors, results 0
+        count => 6";
     play_in(rt.alloc(), script)
 }
