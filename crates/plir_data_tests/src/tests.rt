@@ -14,9 +14,4 @@ macro_rules! again {
 }
 
 mod conversions;
-mod entries;
 mod holders;
-mod numbers;
-mod scripts;
-mod types;
-mod values;

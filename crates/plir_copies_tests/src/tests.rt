@@ -1,3 +1,0 @@
-//! Copies of operations, as scripts.
-mod copying;
-mod scripts;

@@ -1,4 +1,0 @@
-//! What the op set of flow tells, as scripts.
-mod asking;
-mod scripts;
-mod structs;

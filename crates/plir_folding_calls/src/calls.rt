@@ -1,0 +1,102 @@
+//! Constant folding over a toy op set, as scripts; and of long chains.
+
+use crate::ToyKind;
+use crate::chains::{Layout, folds};
+use plir_core::{Context, DefiningEntity, NodeErr, Value};
+use plir_data::keys::ATTR_KEY_CONSTANT_VALUE;
+use plir_data::{AttrObj, KindSet, OpKind};
+use plir_folding::fold_constants;
+use plir_scripts::{Bench, Layer, Line, Mismatch, NodeCalls, ScriptKind, Stop, number, play};
+use std::alloc::Global;
+
+impl ScriptKind for ToyKind {
+    fn of_word(word: &str) -> Option<ToyKind> {
+        match word {
+            "add" => Some(ToyKind::Add),
+            "use" => Some(ToyKind::Use),
+            "yield" => Some(ToyKind::Yield),
+            _ => None,
+        }
+    }
+}
+
+/// The calls of this crate, `fold OP`, `operand OP PLACE` and `fold-chain LAYOUT`, and those on nodes.
+struct FoldCalls;
+
+impl Layer<KindSet<ToyKind>> for FoldCalls {
+    fn run(bench: &mut Bench<KindSet<ToyKind>>, line: Line<'_>) -> Result<(), Stop> {
+        match line.command {
+            "fold" => fold(bench, line),
+            "operand" => operand(bench, line),
+            "fold-chain" => fold_chain(bench, line.first),
+            _ => NodeCalls::run(bench, line),
+        }
+    }
+}
+
+// Folds constants. What is folded before memory is refused stays, so the call is made once more right then.
+fn fold(bench: &mut Bench<KindSet<ToyKind>>, line: Line<'_>) -> Result<(), Stop> {
+    let op = bench.made.op(&bench.ctx, line.first)?;
+    let mut end = fold_constants(bench.alloc, &mut bench.ctx, op);
+    if matches!(end, Err(NodeErr::Memory)) {
+        let op = bench.made.op(&bench.ctx, line.first)?;
+        end = fold_constants(bench.alloc, &mut bench.ctx, op);
+    }
+    end?;
+    bench.answer.put("done");
+    Ok(())
+}
+
+// The bits of the integer that a value is a constant of.
+pub fn bits_of(ctx: &Context<KindSet<ToyKind>>, value: Value) -> Option<u64> {
+    if !value.is_live(ctx) {
+        return None;
+    }
+    let DefiningEntity::Op(op) = value.defining_entity() else {
+        return None;
+    };
+    if !matches!(op.kind(ctx), OpKind::Constant) {
+        return None;
+    }
+    match op.attributes(ctx).get(ATTR_KEY_CONSTANT_VALUE) {
+        Some(AttrObj::Integer(held)) => Some(held.value().to_u64()),
+        _ => None,
+    }
+}
+
+// Writes the bits of the integer that an operand is a constant of; where it is none, the value.
+fn operand(bench: &mut Bench<KindSet<ToyKind>>, line: Line<'_>) -> Result<(), Stop> {
+    let op = bench.made.op(&bench.ctx, line.first)?;
+    let place = number(line.second)?;
+    if place >= op.get_num_operands(&bench.ctx) {
+        return Err(Stop::Refused);
+    }
+    let value = op.get_operand(&bench.ctx, place);
+    match bits_of(&bench.ctx, value) {
+        Some(bits) => bench.answer.put_number(bits as usize),
+        None => bench.made.put_value(&mut bench.answer, value),
+    }
+    Ok(())
+}
+
+// Answers whether a long chain that is laid out so folds.
+fn fold_chain(bench: &mut Bench<KindSet<ToyKind>>, word: &str) -> Result<(), Stop> {
+    let layout = match word {
+        "one-block" => Layout::OneBlock,
+        "blocks" => Layout::Blocks,
+        "zigzag" => Layout::Zigzag,
+        _ => return Err(Stop::Refused),
+    };
+    let is_folded = folds(bench.alloc, layout)?;
+    bench.answer.put_truth(is_folded);
+    Ok(())
+}
+
+/// Plays a script of foldings in a context with room for so many nodes.
+///
+/// # Errors
+///
+/// The first line whose answer is another one.
+pub fn play_in(alloc: Global, max_nodes: u32, script: &str) -> Result<(), Mismatch> {
+    play::<KindSet<ToyKind>, FoldCalls>(alloc, max_nodes, script)
+}

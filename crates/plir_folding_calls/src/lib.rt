@@ -1,0 +1,10 @@
+// SPDX-License-Identifier: Apache-2.0
+//! The calls of scripts on constant folding, over a toy op set, and how such a script is played.
+#![tactic(auto)]
+
+mod calls;
+mod chains;
+mod toy;
+
+pub use calls::play_in;
+pub use toy::ToyKind;

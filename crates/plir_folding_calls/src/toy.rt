@@ -1,0 +1,68 @@
+//! A toy op set: own kinds of operations, and nothing else.
+use plir_data::{IntegerAttr, NeverRefused, OwnKind};
+use plir_folding::{FoldKind, wrapping_sum};
+
+/// The toy's kinds of operations.
+#[derive(Clone, Copy, PartialEq, Eq, Debug)]
+pub enum ToyKind {
+    /// Adds two integers.
+    Add,
+    /// Uses values.
+    Use,
+    /// Ends a block.
+    Yield,
+}
+
+impl OwnKind for ToyKind {
+    ghost use Rattle.std.specs.Prelude.{false};
+    ghost use Rattle.plir_folding_calls.specs.Kinds.{is_yield, id_of};
+
+    type Err = NeverRefused;
+
+    ghost is_terminator = { is_yield };
+
+    ghost is_symbol = { λ _. false };
+
+    ghost is_symbol_table = { λ _. false };
+
+    ghost is_symbol_user = { λ _. false };
+
+    ghost id = { id_of };
+
+    fn is_terminator(self) -> bool {
+        matches!(self, ToyKind::Yield)
+    }
+
+    fn is_symbol(self) -> bool {
+        false
+    }
+
+    fn is_symbol_table(self) -> bool {
+        false
+    }
+
+    fn is_symbol_user(self) -> bool {
+        false
+    }
+
+    fn id(self) -> &'static str {
+        match self {
+            ToyKind::Add => "toy.add",
+            ToyKind::Use => "toy.use",
+            ToyKind::Yield => "toy.yield",
+        }
+    }
+}
+
+impl FoldKind for ToyKind {
+    ghost use Rattle.plir_folding_calls.specs.Kinds.{fold_of};
+
+    ghost fold = { fold_of };
+
+    fn fold(self, left: &IntegerAttr, right: &IntegerAttr) -> Option<IntegerAttr> {
+        match self {
+            ToyKind::Add => wrapping_sum(left, right),
+            ToyKind::Use | ToyKind::Yield => None,
+        }
+    }
+}

@@ -1,0 +1,11 @@
+// SPDX-License-Identifier: Apache-2.0
+//! The calls of scripts on interfaces, and how such a script is played.
+#![tactic(auto)]
+
+mod any_op;
+mod appending;
+mod asking;
+mod calls;
+mod verifying;
+
+pub use calls::play_in;

@@ -1,3 +1,0 @@
-//! Inlining, as scripts.
-mod inlining;
-mod scripts;

@@ -1,0 +1,12 @@
+// SPDX-License-Identifier: Apache-2.0
+//! The calls of scripts on printed operations and edges, and how such a script is played.
+#![tactic(auto)]
+
+mod calls;
+mod edges;
+mod kinds;
+mod making;
+mod own_attrs;
+mod printing;
+
+pub use calls::{play_in, play_own};

@@ -1,0 +1,11 @@
+// SPDX-License-Identifier: Apache-2.0
+//! The calls of scripts on texts of operations, and how such a script is played.
+#![tactic(auto)]
+
+mod calls;
+mod long;
+mod mutated;
+mod reading;
+mod refused;
+
+pub use calls::play_in;

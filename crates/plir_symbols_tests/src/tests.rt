@@ -1,3 +1,0 @@
-//! The pass over symbols of a toy op set, as scripts.
-mod scripts;
-mod sessions;

@@ -1,0 +1,17 @@
+// SPDX-License-Identifier: Apache-2.0
+//! The calls of scripts on walks and given names, and how such a script is played.
+#![tactic(auto)]
+
+mod calls;
+mod changes;
+mod deep;
+mod from_any;
+mod growing;
+mod naming;
+mod operations;
+mod pass;
+mod plan;
+mod refused;
+mod walking;
+
+pub use calls::play_in;
