@@ -15,8 +15,9 @@ use Rattle.plir_core.specs.Measures.{IsMeasured}
 use Rattle.plir_core.specs.Stored.{IsStored}
 use Rattle.plir_copies.specs.declared.trees.Twin.{Twin}
 use Rattle.plir_copies.specs.Images.{Images}
+use Rattle.plir_copies.specs.Room.{count_of, tree_count, IsFullFor, HaveCome}
 use Rattle.plir_copies.specs.Twins.{nodes_of, HoldsAs, IsTwin, IsCopying, AreChildrenCopied, with_twin, with_twins}
-use Rattle.plir_copies.proofs.Twins.{copying-next, map-append}
+use Rattle.plir_copies.proofs.Twins.{copying-next, full-below, map-append}
 
 one_more : (i : ℕ) → suc i + 1 ≡ suc (i + 1)
 one_more i = omega arith
@@ -97,12 +98,13 @@ module _ {K A T : Type 0} (s t : ContextView K A T) (root copy : IRNode) (ws : L
   -- the children of the next node are copied
   pub step : (u : ContextView K A T) (now : List Twin) (w : Twin) → slice_get ws k ≡ Some w → IsStored t.nodes
       → IsForest (look u) → IsGrown t.nodes u.nodes w.copy → u.types ≡ t.types
-      → AreChildrenCopied t u w.node w.copy ws now → IsCopying s u root copy (take (k + 1) now) (drop (k + 1) now)
-  step u now w e stored forest grown types c =
+      → HaveCome t.nodes u.nodes (count_of (children t w.node)) → AreChildrenCopied t u w.node w.copy ws now
+      → IsCopying s u root copy (take (k + 1) now) (drop (k + 1) now)
+  step u now w e stored forest grown types come c =
       let h1 : IsCopying s t root copy (take k ws) (w ∷ drop (k + 1) ws) =
       subst (IsCopying s t root copy (take k ws)) (drop-here ws k w e) h in
       let r = copying-next s t u root copy (take k ws) (drop (k + 1) ws) c.twins w h1 stored forest grown types c.nodes
-      c.copies c.each c.leaves in
+      c.copies c.each c.leaves come in
       let front : take (k + 1) now ≡ take k ws ++ w ∷ [] =
       ap (take (k + 1)) c.listed ∙ take-further ws c.twins k w e in
       let back : drop (k + 1) now ≡ drop (k + 1) ws ++ c.twins =
@@ -115,6 +117,13 @@ module _ {K A T : Type 0} (s t : ContextView K A T) (root copy : IRNode) (ws : L
       → IsGrown t.nodes u.nodes w.copy → IsMade s.nodes u.nodes copy
   refused u w e stored grown =
       let i = twin-at w e in h.growth.made t.nodes u.nodes copy w.copy stored h.made i.copy_live i.new grown
+
+  -- and where it was refused for want of room, there was none for the tree
+  pub full-tree : (w : Twin) → slice_get ws k ≡ Some w → IsFullFor t.nodes (count_of (children t w.node))
+      → IsFullFor s.nodes (tree_count s.nodes root)
+  full-tree w e =
+      full-below s t root copy (take k ws) (drop (k + 1) ws) w
+      (subst (IsCopying s t root copy (take k ws)) (drop-here ws k w e) h)
 
   pub step-within : (t u : ContextView K A T) (now : List Twin) (w : Twin) → slice_get ws k ≡ Some w
       → AreChildrenCopied t u w.node w.copy ws now → k + 1 ≤ length now

@@ -17,8 +17,10 @@ use Rattle.plir_core.specs.declared.value.Value.{Value}
 use Rattle.plir_core.specs.Held.{IsOpEdited}
 use Rattle.plir_copies.specs.Images.{Images, value_in, block_in, blocks_in}
 use Rattle.plir_copies.specs.Copied.{bare_under, op_under, with_operands_in}
+use Rattle.plir_copies.specs.Room.{no_node, HaveCome}
 use Rattle.plir_copies.specs.Twins.{AreChanged}
 use Rattle.plir_copies.proofs.Edits.{front, front-next, front-all, half_set}
+use Rattle.plir_copies.proofs.RoomLaws.{come_itself, come_still}
 
 module _ {X : Type 0} (f : X → X) where
   -- what stands behind the first i is as it was
@@ -92,6 +94,7 @@ module _ {K A T : Type 0} (m : Images) where
       types = refl;
       limit = refl;
     };
+    none_come = come_itself s.nodes;
     ops = λ p h. absurd h;
     others = λ p l n. refl;
     blocks = λ b. refl;
@@ -101,6 +104,7 @@ module _ {K A T : Type 0} (m : Images) where
   pub changed-block : (s : ContextView K A T) (b : Ptr BlockKind) → AreChanged s s m (BasicBlock b ∷ [])
   changed-block s b = record {
     keeps = (changed-none s).keeps;
+    none_come = come_itself s.nodes;
     ops = λ p h. elim h [ inl e ↦ absurd (let f : ⊥ = cc in f) | inr z ↦ absurd z ];
     others = λ p l n. refl;
     blocks = λ x. refl;
@@ -109,6 +113,7 @@ module _ {K A T : Type 0} (m : Images) where
   pub changed-region : (s : ContextView K A T) (r : Ptr RegionKind) → AreChanged s s m (Region r ∷ [])
   changed-region s r = record {
     keeps = (changed-none s).keeps;
+    none_come = come_itself s.nodes;
     ops = λ p h. elim h [ inl e ↦ absurd (let f : ⊥ = cc in f) | inr z ↦ absurd z ];
     others = λ p l n. refl;
     blocks = λ x. refl;
@@ -116,8 +121,9 @@ module _ {K A T : Type 0} (m : Images) where
 
   -- an operation
   pub changed-op : (s t u : ContextView K A T) (q : Ptr OperationKind) → IsOpEdited s t q (with_operands_in m)
-      → IsOpEdited t u q (bare_under m) → AreChanged s u m (Operation q ∷ [])
-  changed-op s t u q d e = record {
+      → IsOpEdited t u q (bare_under m) → HaveCome s.nodes t.nodes no_node → HaveCome t.nodes u.nodes no_node
+      → AreChanged s u m (Operation q ∷ [])
+  changed-op s t u q d e c o = record {
     keeps = record {
       live = λ n. e.keeps.live n ∙ d.keeps.live n;
       given = λ n. e.keeps.given n ∙ d.keeps.given n;
@@ -126,6 +132,7 @@ module _ {K A T : Type 0} (m : Images) where
       types = e.keeps.types ∙ d.keeps.types;
       limit = e.keeps.limit ∙ d.keeps.limit;
     };
+    none_come = come_still s.nodes t.nodes u.nodes no_node c o;
     ops = λ p h. elim h [
       | inl x ↦ (let f : q ≡ p = cc in subst (λ z. op_at u z ≡ option_map (op_under m) (op_at s z)) f
           (e.held ∙ ap (option_map (bare_under m)) d.held ∙ whole-change m (op_at s q)))
@@ -150,6 +157,7 @@ module _ {K A T : Type 0} (m : Images) where
       types = e.keeps.types ∙ d.keeps.types;
       limit = e.keeps.limit ∙ d.keeps.limit;
     };
+    none_come = come_still s.nodes t.nodes u.nodes no_node d.none_come e.none_come;
     ops = λ p k. elim (Has-append_cases ns (n ∷ []) (Operation p) k) [
       | inl a ↦ e.others p (d.keeps.live (Operation p) ∙ all (Operation p) a) (λ h. elim h [
         | inl x ↦ fresh (subst (Has ns) (sym x) a)

@@ -16,7 +16,9 @@ use Rattle.plir_core.specs.Stored.{IsStored}
 use Rattle.plir_copies.specs.declared.trees.Twin.{Twin}
 use Rattle.plir_copies.specs.Twins.{nodes_of, copies_of, AreOfOneKind, CanStandUnder, HoldsAs, IsTwin, IsAddedLast}
 use Rattle.plir_copies.specs.Twins.{AreChildrenCopied}
+use Rattle.plir_copies.specs.Room.{one_like, count_of, IsFullFor, HaveCome}
 use Rattle.plir_copies.proofs.Keeping.{keeps-same}
+use Rattle.plir_copies.proofs.RoomLaws.{come_both, come_itself, come_one, full_part}
 use Rattle.plir_copies.proofs.Twins.{map-append, holds-later, holds-before}
 
 bool-false : (b : Bool) → (b ≡ true → ⊥) → b ≡ false
@@ -102,6 +104,7 @@ pub record AreSomeCopied {K A T : Type 0} (s t : ContextView K A T) (n c : IRNod
   pub grown : IsGrown s.nodes t.nodes c
   pub types : t.types ≡ s.types
   pub stored : IsStored t.nodes
+  pub come : HaveCome s.nodes t.nodes (count_of (nodes_of twins))
 
 append-none : {X : Type 0} (xs : List X) → xs ++ [] ≡ xs
 append-none [] = refl
@@ -135,6 +138,7 @@ module _ {K A T : Type 0} (s : ContextView K A T) (n c : IRNode) (ws : List Twin
     grown = grown-none s c;
     types = refl;
     stored = stored;
+    come = come_itself s.nodes;
   }
 
   module _ (t : ContextView K A T) (now : List Twin) where
@@ -176,11 +180,27 @@ module _ {K A T : Type 0} (s : ContextView K A T) (n c : IRNode) (ws : List Twin
       leaves = h.leaves;
     }
 
+    -- and then as many nodes have come as the node has children
+    pub all-come : (next : Option IRNode) → AreSomeCopied s t n c ws now next → next ≡ None
+        → HaveCome s.nodes t.nodes (count_of (children s n))
+    all-come next h e =
+        subst (λ l. HaveCome s.nodes t.nodes (count_of l)) (sym (append-none (nodes_of h.twins))
+        ∙ ap (λ zs. nodes_of h.twins ++ zs) (sym (head-none h.rest (sym h.next_is ∙ e))) ∙ h.nodes) h.come
+
+    -- the next one has no room
+    pub full-here : (next : Option IRNode) → AreSomeCopied s t n c ws now next → (x : IRNode) → next ≡ Some x
+        → IsFullFor t.nodes (one_like x) → IsFullFor s.nodes (count_of (children s n))
+    full-here next h x e full =
+        let r = next-child next h x e in
+        subst (λ l. IsFullFor s.nodes (count_of l)) (sym r.1)
+        (full_part s.nodes t.nodes (nodes_of h.twins) r.0 x h.come full)
+
     -- and one more
     module _ (u : ContextView K A T) (growth : Growth s.nodes) (forest : IsForest (look s)) (n_live : IsLive s n)
         (c_live : IsLive s c) (next : Option IRNode) (h : AreSomeCopied s t n c ws now next) (x y : IRNode)
         (is : next ≡ Some x) (added : IsAddedLast t.nodes u.nodes c y) (holds : HoldsAs t u x y)
-        (grown : IsGrown t.nodes u.nodes c) (types : u.types ≡ t.types) (stored : IsStored u.nodes) where
+        (grown : IsGrown t.nodes u.nodes c) (types : u.types ≡ t.types) (stored : IsStored u.nodes)
+        (come : HaveCome t.nodes u.nodes (one_like x)) where
       twin : Twin
       twin = record { node = x; copy = y }
 
@@ -236,4 +256,8 @@ module _ {K A T : Type 0} (s : ContextView K A T) (n c : IRNode) (ws : List Twin
             grown = growth.twice t.nodes u.nodes c h.stored h.grown grown;
             types = types ∙ h.types;
             stored = stored;
+            come = subst (λ l. HaveCome s.nodes u.nodes (count_of l))
+                (sym (map-append (λ w. w.node) h.twins (record { node = x; copy = y } ∷ [])))
+                (come_both s.nodes t.nodes u.nodes (nodes_of h.twins) (x ∷ []) h.come
+                (come_one t.nodes u.nodes x come));
           }

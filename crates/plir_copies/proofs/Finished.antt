@@ -2,6 +2,7 @@
 use Rattle.std.proofs.Common.{◌≡◌, List, [], ◌∷◌, refl, sym, ap, subst, inl, inr}
 use Rattle.std.proofs.lemmas.Option.{none-some}
 use Rattle.plir_store.specs.Members.{Has, Distinct}
+use Rattle.plir_store.specs.MemberLaws.{Distinct-one}
 use Rattle.plir_core.specs.declared.ptr.IRNode.{IRNode}
 use Rattle.plir_core.specs.declared.ptr.IRNode.TheVariants.{Operation, Region, BasicBlock}
 use Rattle.plir_core.specs.ContextView.{ContextView, IsLive, IsAncestor, children}
@@ -11,13 +12,16 @@ use Rattle.plir_core.specs.Made.{IsMade}
 use Rattle.plir_core.specs.Measures.{IsMeasured}
 use Rattle.plir_copies.specs.declared.trees.Twin.{Twin}
 use Rattle.plir_copies.specs.Images.{Images, AreImagesLive, no_images, over}
+use Rattle.plir_copies.specs.Room.{one_like, count_of, tree_count, IsFullFor, HaveCome}
 use Rattle.plir_copies.specs.Trees.{IsCopyOfTree}
 use Rattle.plir_copies.specs.Twins.{AreOfOneKind, CanStandAlone, HoldsAs, IsTwin, IsCopying, AreChanged, copies_of, with_twins}
 use Rattle.plir_copies.proofs.Become.{holds-copies}
 use Rattle.plir_copies.proofs.Below.{holds-now}
 use Rattle.plir_copies.proofs.Keeping.{images-keep}
 use Rattle.plir_copies.proofs.Mapped.{live-all, live-over}
-use Rattle.plir_copies.proofs.Whole.{IsWholeCopy, has-become, made-changed, tree-copied, whole-copy, copies_in}
+use Rattle.plir_copies.proofs.RoomLaws.{come_one, come_still, count_one, full_more}
+use Rattle.plir_copies.proofs.TreeNodes.{tree-most}
+use Rattle.plir_copies.proofs.Whole.{IsWholeCopy, has-become, made-changed, tree-come, tree-copied, whole-copy, copies_in}
 
 -- a copy of what can stand alone can stand alone
 pub stands-alone : (n c : IRNode) → AreOfOneKind n c → CanStandAlone n → CanStandAlone c
@@ -29,12 +33,21 @@ stands-alone (BasicBlock p) (Operation q) k a = tt
 stands-alone (BasicBlock p) (Region q) k a = k
 stands-alone (Region p) c k a = absurd a
 
+module _ {K A T : Type 0} (s : ContextView K A T) (root : IRNode) where
+  -- where the root has no room, the tree has none
+  pub full-root : IsForest (look s) → IsMeasured s → IsFullFor s.nodes (one_like root)
+      → IsFullFor s.nodes (tree_count s.nodes root)
+  full-root forest measured full =
+      full_more s.nodes (count_of (root ∷ [])) (tree_count s.nodes root) (tree-most s forest measured root (root ∷ [])
+      (Distinct-one root) (λ n h. elim h [ inl e ↦ subst (IsAncestor s root) e (0, refl) | inr z ↦ absurd z ]))
+      (subst (IsFullFor s.nodes) (sym (count_one root)) full)
+
 module _ {K A T : Type 0} (s t : ContextView K A T) (root copy : IRNode) where
   -- the root alone has been copied
   pub begun : Growth s.nodes → IsForest (look s) → IsMeasured s → IsMade s.nodes t.nodes copy → t.types ≡ s.types
-      → IsLive s root → HoldsAs s t root copy → children t copy ≡ []
+      → IsLive s root → HoldsAs s t root copy → children t copy ≡ [] → HaveCome s.nodes t.nodes (one_like root)
       → IsCopying s t root copy [] (record { node = root; copy = copy } ∷ [])
-  begun growth forest measured made types live holds leaf = record {
+  begun growth forest measured made types live holds leaf come = record {
     growth = growth;
     forest = forest;
     measured = measured;
@@ -54,6 +67,7 @@ module _ {K A T : Type 0} (s t : ContextView K A T) (root copy : IRNode) where
     whole = λ w h. absurd h;
     bare = λ w h. elim h [ inl e ↦ subst (λ z. children t z.copy ≡ []) e leaf | inr z ↦ absurd z ];
     over = λ w h. elim h [ inl e ↦ inl (ap (λ z. z.node) (sym e)) | inr z ↦ absurd z ];
+    come = come_one s.nodes t.nodes root come;
   }
 
   module _ (ws : List Twin) (h : IsCopying s t root copy ws []) where
@@ -83,6 +97,10 @@ module _ {K A T : Type 0} (s t : ContextView K A T) (root copy : IRNode) where
         (changed : AreChanged t u n (copies_of ws)) where
       pub made-whole : IsMade s.nodes u.nodes copy
       made-whole = made-changed s t root copy ws w u n changed
+
+      pub come-whole : HaveCome s.nodes u.nodes (tree_count s.nodes root)
+      come-whole =
+          come_still s.nodes t.nodes u.nodes (tree_count s.nodes root) (tree-come s t root copy ws w) changed.none_come
 
       pub copied-whole : IsCopyOfTree s u root copy m n
       copied-whole = record {

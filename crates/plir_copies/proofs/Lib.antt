@@ -5,6 +5,8 @@ pub mod Values
 pub mod Keeping
 pub mod Edits
 pub mod NewBlocks
+pub mod RoomLaws
+pub mod TreeNodes
 pub mod Twins
 pub mod Whole
 pub mod Mapped
@@ -14,3 +16,4 @@ pub mod Changing
 pub mod Adding
 pub mod Below
 pub mod Finished
+pub mod Refusals

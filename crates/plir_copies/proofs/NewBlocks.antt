@@ -18,6 +18,7 @@ use Rattle.plir_core.specs.WellFormed.{IsWellFormed}
 use Rattle.plir_core.specs.Held.{IsBlockEdited}
 use Rattle.plir_core.specs.Made.{IsMade}
 use Rattle.plir_copies.specs.Copied.{with_attributes}
+use Rattle.plir_copies.specs.Room.{no_node, HaveCome}
 
 module _ {A : Type 0} where
   -- a block without attributes has none
@@ -100,6 +101,7 @@ pub record IsSetting {K A T : Type 0} (own : A → List ℕ) (s t : ContextView 
   pub rest : dict_put_all done left ≡ es
   pub edited : IsBlockEdited s t p (with_attributes done)
   pub live : HandlesLive own s.types left
+  pub none_come : HaveCome s.nodes t.nodes no_node
   pub whole : IsWellFormed own t
 
 module _ {K A T : Type 0} where

@@ -1,21 +1,22 @@
 -- How a copy of a tree goes on: the children of one more node are copied.
-use Rattle.std.proofs.Common.{◌≡◌, ◌+◌, ◌∙◌, ◌⊎◌, ℕ, zero, suc, arith, Bool, true, false, true≢false, List, [], ◌∷◌, ◌++◌}
-use Rattle.std.proofs.Common.{map, Option, Some, None, inl, inr, refl, sym, ap, subst, append_assoc}
-use Rattle.std.proofs.lemmas.Option.{same_Some, none-some}
+use Rattle.std.proofs.Common.{◌≡◌, ◌∙◌, ◌⊎◌, Bool, true, false, true≢false, List, [], ◌∷◌, ◌++◌}
+use Rattle.std.proofs.Common.{map, Some, inl, inr, refl, sym, ap, subst, append_assoc}
+use Rattle.std.proofs.lemmas.Option.{same_Some}
 use Rattle.plir_store.specs.Members.{Has, Distinct}
 use Rattle.plir_store.specs.MemberLaws.{Has-append_left, Has-append_right, Has-append_cases, Has-mid, Has-map, map-Has}
 use Rattle.plir_store.specs.MemberLaws.{Distinct-append, Distinct-cross, Distinct-right}
 use Rattle.plir_core.specs.declared.ptr.IRNode.{IRNode}
 use Rattle.plir_core.specs.declared.ptr.IRNode.TheVariants.{Operation, Region, BasicBlock}
-use Rattle.plir_core.specs.Above.{climb}
 use Rattle.plir_core.specs.ContextView.{ContextView, IsLive, IsAncestor, is_live, children, parent_of}
 use Rattle.plir_core.specs.Forest.{look, IsForest}
 use Rattle.plir_core.specs.Grown.{IsGrown}
 use Rattle.plir_core.specs.Made.{KeepsLive}
-use Rattle.plir_core.specs.Measures.{depth, IsMeasured}
 use Rattle.plir_core.specs.Stored.{IsStored}
 use Rattle.plir_copies.specs.declared.trees.Twin.{Twin}
+use Rattle.plir_copies.specs.Room.{count_of, tree_count, IsFullFor, HaveCome}
 use Rattle.plir_copies.specs.Twins.{nodes_of, copies_of, AreOfOneKind, HoldsAs, IsTwin, AreTogether, IsCopying}
+use Rattle.plir_copies.proofs.RoomLaws.{come_both, count_append, full_before, full_more}
+use Rattle.plir_copies.proofs.TreeNodes.{no-cycle, one_up, tree-most}
 
 -- a list in two parts
 pub map-append : {X Y : Type 0} (f : X → Y) (xs ys : List X) → map f (xs ++ ys) ≡ map f xs ++ map f ys
@@ -25,35 +26,6 @@ map-append f (x ∷ xs) ys = ap (λ zs. f x ∷ zs) (map-append f xs ys)
 bool-false : (b : Bool) → (b ≡ true → ⊥) → b ≡ false
 bool-false true h = absurd (h refl)
 bool-false false h = refl
-
-module _ {K A T : Type 0} (s : ContextView K A T) where
-  climb-none : {N : Type 0} (up : N → Option N) (k : ℕ) → climb up k None ≡ None
-  climb-none up zero = refl
-  climb-none up (suc k) = refl
-
-  -- each step up leads one level up
-  deeper-by : IsMeasured s → (k : ℕ) (n a : IRNode) → climb (parent_of s) k (Some n) ≡ Some a
-      → depth s n ≡ depth s a + k
-  deeper-by m zero n a e = ap (depth s) (same_Some n a e) ∙ (let h : depth s a ≡ depth s a + 0 = omega arith in h)
-  deeper-by m (suc k) n a e = go (λ x c. deeper-by m k x a c) (parent_of s n) refl e
-    where
-      go : ((x : IRNode) → climb (parent_of s) k (Some x) ≡ Some a → depth s x ≡ depth s a + k) → (o : Option IRNode)
-          → parent_of s n ≡ o → climb (parent_of s) k o ≡ Some a → depth s n ≡ depth s a + suc k
-      go more None p c = absurd (none-some a (sym (climb-none (parent_of s) k) ∙ c))
-      go more (Some x) p c =
-          let here = m.deeper x n p in
-          let rest = more x c in
-          omega (arith, here, rest)
-
-  -- nothing is its own child's child
-  no-cycle : IsMeasured s → (root n : IRNode) → IsAncestor s root n → parent_of s root ≡ Some n → ⊥
-  no-cycle m root n r p =
-      let up = deeper-by m r.0 n root r.1 in
-      let down = m.deeper n root p in
-      omega (arith, up, down)
-
-  one_up : (n x root : IRNode) → parent_of s x ≡ Some n → IsAncestor s root n → IsAncestor s root x
-  one_up n x root p r = (suc r.0, subst (λ o. climb (parent_of s) r.0 o ≡ Some root) (sym p) r.1)
 
 module _ {K A T : Type 0} (s t u : ContextView K A T) where
   -- what a copy holds stays
@@ -109,11 +81,46 @@ module _ (f : Twin → IRNode) (ds rs : List Twin) (w : Twin) (d : Distinct (map
   back-differs x h e =
       (Distinct-right (map f ds) (f w ∷ map f rs) parted).0 (subst (Has (map f rs)) e (map-Has f rs x h))
 
+module _ {K A T : Type 0} (s t : ContextView K A T) (root copy : IRNode) (ds rs : List Twin) (w : Twin)
+    (h : IsCopying s t root copy ds (w ∷ rs)) where
+  next : IsTwin s t w
+  next = h.each w (Has-mid ds rs w)
+
+  -- a child of the next node is not listed yet
+  not-listed : (n : IRNode) → Has (nodes_of (ds ++ w ∷ rs)) n → Has (children s w.node) n → ⊥
+  not-listed n a b =
+      let x = Has-map (λ z. z.node) (ds ++ w ∷ rs) n a in
+      let over = ap (parent_of s) x.1.1 ∙ h.forest.child_parent w.node n b in
+      elim (h.over x.0 x.1.0) [
+        | inl e ↦ no-cycle s h.measured root w.node (h.below w (Has-mid ds rs w)) (ap (parent_of s) (sym e) ∙ over)
+        | inr v ↦ front-differs (λ z. z.node) ds rs w h.nodes v.0 v.1 (same_Some v.0.node w.node (sym v.2 ∙ over))
+      ]
+
+  -- where its children have no room any more, the tree had none
+  pub full-below : IsFullFor t.nodes (count_of (children t w.node)) → IsFullFor s.nodes (tree_count s.nodes root)
+  full-below full =
+      let listed = nodes_of (ds ++ w ∷ rs) in
+      let some = listed ++ children s w.node in
+      let below : (n : IRNode) → Has some n → IsAncestor s root n = λ n m.
+      elim (Has-append_cases listed (children s w.node) n m) [
+        | inl a ↦ (
+            let x = Has-map (λ z. z.node) (ds ++ w ∷ rs) n a in
+            subst (IsAncestor s root) x.1.1 (h.below x.0 x.1.0))
+        | inr b ↦ one_up s w.node n root (h.forest.child_parent w.node n b) (h.below w (Has-mid ds rs w))
+      ] in
+      let once : Distinct some =
+      Distinct-append listed (children s w.node) h.nodes (h.forest.once w.node) not-listed in
+      full_more s.nodes (count_of some) (tree_count s.nodes root) (tree-most s h.forest h.measured root some once below)
+      (subst (IsFullFor s.nodes) (sym (count_append listed (children s w.node)))
+      (full_before s.nodes t.nodes (count_of listed) (count_of (children s w.node)) h.come
+      (subst (λ l. IsFullFor t.nodes (count_of l)) (h.made.children w.node next.live) full)))
+
 module _ {K A T : Type 0} (s t u : ContextView K A T) (root copy : IRNode) (ds rs vs : List Twin) (w : Twin)
     (h : IsCopying s t root copy ds (w ∷ rs)) (stored : IsStored t.nodes) (forest : IsForest (look u))
     (g : IsGrown t.nodes u.nodes w.copy) (types : u.types ≡ t.types)
     (nodes : nodes_of vs ≡ children t w.node) (copies : copies_of vs ≡ children u w.copy)
-    (each : (x : Twin) → Has vs x → IsTwin t u x) (leaves : (x : Twin) → Has vs x → children u x.copy ≡ []) where
+    (each : (x : Twin) → Has vs x → IsTwin t u x) (leaves : (x : Twin) → Has vs x → children u x.copy ≡ [])
+    (come : HaveCome t.nodes u.nodes (count_of (children t w.node))) where
   before : List Twin
   before = ds ++ w ∷ rs
 
@@ -147,16 +154,7 @@ module _ {K A T : Type 0} (s t u : ContextView K A T) (root copy : IRNode) (ds r
 
   -- no new node was there before
   fresh : (n : IRNode) → Has (nodes_of (ds ++ w ∷ rs)) n → Has (nodes_of vs) n → ⊥
-  fresh n a b =
-      let x = Has-map (λ z. z.node) (ds ++ w ∷ rs) n a in
-      let y = Has-map (λ z. z.node) vs n b in
-      let up = parent y.0 y.1.0 in
-      let same_node = y.1.1 ∙ sym x.1.1 in
-      let over = ap (parent_of s) (sym same_node) ∙ up in
-      elim (h.over x.0 x.1.0) [
-        | inl e ↦ no-cycle s h.measured root w.node (h.below w (Has-mid ds rs w)) (ap (parent_of s) (sym e) ∙ over)
-        | inr v ↦ front-differs (λ z. z.node) ds rs w h.nodes v.0 v.1 (same_Some v.0.node w.node (sym v.2 ∙ over))
-      ]
+  fresh n a b = not-listed s t root copy ds rs w h n a (subst (λ l. Has l n) children_s b)
 
   fresh_copy : (n : IRNode) → Has (copies_of (ds ++ w ∷ rs)) n → Has (copies_of vs) n → ⊥
   fresh_copy n a b =
@@ -224,6 +222,13 @@ module _ {K A T : Type 0} (s t u : ContextView K A T) (root copy : IRNode) (ds r
     | inr b ↦ inr (w, Has-append_right ds (w ∷ []) w (inl refl), parent x b)
   ]
 
+  come-next : HaveCome s.nodes u.nodes (count_of (nodes_of after))
+  come-next =
+      subst (λ l. HaveCome s.nodes u.nodes (count_of l))
+      (sym (ap nodes_of same ∙ map-append (λ z. z.node) (ds ++ w ∷ rs) vs))
+      (come_both s.nodes t.nodes u.nodes (nodes_of (ds ++ w ∷ rs)) (nodes_of vs) h.come
+      (subst (λ l. HaveCome t.nodes u.nodes (count_of l)) (sym nodes) come))
+
   pub copying-next : IsCopying s u root copy (ds ++ w ∷ []) (rs ++ vs)
   unfolding after
   copying-next = record {
@@ -243,4 +248,5 @@ module _ {K A T : Type 0} (s t u : ContextView K A T) (root copy : IRNode) (ds r
     whole = whole-next;
     bare = bare-next;
     over = over-next;
+    come = come-next;
   }

@@ -15,11 +15,14 @@ use Rattle.plir_core.specs.Above.{climb, Reaches}
 use Rattle.plir_core.specs.ContextView.{ContextView, IsLive, IsAncestor, is_live, children, parent_of, op_at, block_at}
 use Rattle.plir_core.specs.Forest.{look, IsForest}
 use Rattle.plir_core.specs.Made.{IsMade}
+use Rattle.plir_core.specs.Measures.{IsMeasured}
 use Rattle.plir_copies.specs.declared.trees.Twin.{Twin}
 use Rattle.plir_copies.specs.Images.{Images}
 use Rattle.plir_copies.specs.Copied.{op_under}
+use Rattle.plir_copies.specs.Room.{count_of, tree_count, HaveCome}
 use Rattle.plir_copies.specs.Trees.{Copies, node_copy, HoldsTheSame, IsCopied, IsTreeCopied}
 use Rattle.plir_copies.specs.Twins.{nodes_of, copies_of, AreOfOneKind, HoldsAs, IsTwin, AreTogether, IsCopying, AreChanged}
+use Rattle.plir_copies.proofs.TreeNodes.{climb-none, tree-counted}
 use Rattle.plir_copies.proofs.Twins.{holds-kind}
 
 -- What a list of nodes with their copies says that a node has become: the first that is listed counts.
@@ -124,6 +127,8 @@ pub record IsWholeCopy {K A T : Type 0} (s t : ContextView K A T) (root copy : I
   pub each : (w : Twin) → Has ws w → IsTwin s t w
   pub below : (w : Twin) → Has ws w → IsAncestor s root w.node
   pub whole : (w : Twin) → Has ws w → AreTogether ws (children s w.node) (children t w.copy)
+  pub measured : IsMeasured s
+  pub come : HaveCome s.nodes t.nodes (count_of (nodes_of ws))
 
 append-none : {X : Type 0} (xs : List X) → xs ++ [] ≡ xs
 append-none [] = refl
@@ -143,14 +148,12 @@ whole-copy s t root copy ws h =
       each = λ w m. h.each w (old w m);
       below = λ w m. h.below w (old w m);
       whole = λ w m. subst (λ l. AreTogether l (children s w.node) (children t w.copy)) e (h.whole w m);
+      measured = h.measured;
+      come = subst (λ l. HaveCome s.nodes t.nodes (count_of (nodes_of l))) e h.come;
     }
 
 module _ {K A T : Type 0} (s t : ContextView K A T) (root copy : IRNode) (ws : List Twin)
     (h : IsWholeCopy s t root copy ws) where
-  climb-none : {N : Type 0} (up : N → Option N) (k : ℕ) → climb up k None ≡ None
-  climb-none up zero = refl
-  climb-none up (suc k) = refl
-
   -- each node of the tree is listed
   listed-from : (k : ℕ) (n : IRNode) → climb (parent_of s) k (Some n) ≡ Some root → (w : Twin) × (Has ws w × (w.node ≡ n))
   listed-from zero n e = (record { node = root; copy = copy }, (h.first, sym (same_Some n root e)))
@@ -170,6 +173,15 @@ module _ {K A T : Type 0} (s t : ContextView K A T) (root copy : IRNode) (ws : L
 
   pub listed : (n : IRNode) → IsAncestor s root n → (w : Twin) × (Has ws w × (w.node ≡ n))
   listed n r = listed-from r.0 n r.1
+
+  -- as many nodes have come as the tree has
+  pub tree-come : HaveCome s.nodes t.nodes (tree_count s.nodes root)
+  tree-come =
+      subst (HaveCome s.nodes t.nodes) (tree-counted s h.forest h.measured root (nodes_of ws) h.nodes (λ n m.
+      let w = Has-map (λ z. z.node) ws n m in
+      subst (IsAncestor s root) w.1.1 (h.below w.0 w.1.0)) (λ n r.
+      let w = listed n r in
+      subst (Has (nodes_of ws)) w.1.1 (map-Has (λ z. z.node) ws w.0 w.1.0))) h.come
 
   pub kinds : (w : Twin) → Has ws w → AreOfOneKind w.node w.copy
   kinds w m = holds-kind s t w.node w.copy (h.each w m).holds

@@ -18,6 +18,7 @@ use Rattle.plir_core.specs.Nodes.{Nodes}
 use Rattle.plir_copies.specs.declared.trees.Twin.{Twin}
 use Rattle.plir_copies.specs.Images.{Images}
 use Rattle.plir_copies.specs.Copied.{op_under, with_values_of, with_block_of}
+use Rattle.plir_copies.specs.Room.{count_of, no_node, HaveCome}
 
 -- the nodes of a list, and their copies
 abbrev pub nodes_of : List Twin → List IRNode
@@ -112,6 +113,7 @@ module _ {K A T : Type 0} (s t : ContextView K A T) where
     pub bare : (w : Twin) → Has todo w → children t w.copy ≡ []
     pub over : (w : Twin) → Has (done ++ todo) w → (w.node ≡ root) ⊎ ((v : Twin) × Has done v ×
         (parent_of s w.node ≡ Some v.node))
+    pub come : HaveCome s.nodes t.nodes (count_of (nodes_of (done ++ todo)))
 
 -- what m becomes where the copy of a node, and of its values, is put in place of the node and of its values
 abbrev pub with_twin : {K A T : Type 0} → ContextView K A T → Images → IRNode → IRNode → Images
@@ -132,6 +134,7 @@ with_twins s m (w ∷ ws) = with_twins s (with_twin s m w.node w.copy) ws
 -- successors, and nothing else has changed.
 pub record AreChanged {K A T : Type 0} (s t : ContextView K A T) (m : Images) (ns : List IRNode) : Type 0 where
   pub keeps : KeepsNodes s t
+  pub none_come : HaveCome s.nodes t.nodes no_node
   pub ops : (p : Ptr OperationKind) → Has ns (Operation p) → op_at t p ≡ option_map (op_under m) (op_at s p)
   pub others : (p : Ptr OperationKind) → IsLive s (Operation p) → (Has ns (Operation p) → ⊥) → op_at t p ≡ op_at s p
   pub blocks : (b : Ptr BlockKind) → block_at t b ≡ block_at s b

@@ -14,6 +14,7 @@ ghost use Rattle.plir_core.specs.declared.ptr.IRNode.{IRNode as AnyNode};
 ghost use Rattle.plir_core.specs.declared.value.DefiningEntity.{DefiningEntity};
 ghost use Rattle.plir_copies.specs.Images.{AreImagesLive, images};
 ghost use Rattle.plir_copies.specs.Copied.{with_attributes, with_block_of, with_values_of};
+ghost use Rattle.plir_copies.specs.Room.{HaveCome, IsFullFor, no_node, one_block};
 
 use crate::value_map::ValueMap;
 use plir_core::laws::{block_edits_keep_the_rest, growth, what_was_made_is_unused};
@@ -69,6 +70,7 @@ fn set_attributes<D: OpSet>(
     ensures edited { (es : List (List ℕ × AttrView D.Attr)) × IsBlockEdited ctx.old ctx.new block
         (with_attributes es) }
     ensures all { OnOk result (IsBlockEdited ctx.old ctx.new block (with_attributes attributes.now)) }
+    ensures none_come { HaveCome ctx.old.nodes ctx.new.nodes no_node }
     ensures whole { IsWellFormed D.attr_handles ctx.new }
 {
     ctx.stands();
@@ -96,6 +98,8 @@ pub(crate) fn copy_block<D: OpSet>(
     ensures given { (n : AnyNode) → given_out ctx.old n ≡ true → given_out ctx.new n ≡ true }
     ensures err { OnErr result (SameLive ctx.old ctx.new) }
     ensures too_many_only { result ≡ Err NodeErr.TooManyNodes → IsFullForBlock ctx.old.nodes }
+    ensures full { result ≡ Err NodeErr.TooManyNodes → IsFullFor ctx.old.nodes one_block }
+    ensures come { OnOk result (HaveCome ctx.old.nodes ctx.new.nodes one_block) }
     ensures whole { IsWellFormed D.attr_handles ctx.new }
 {
     ctx.stands();
@@ -178,6 +182,7 @@ pub fn clone_block_into<D: OpSet>(
     ensures err { OnErr result (SameLive ctx.old ctx.new) }
     ensures same_map { OnErr result (images map.new ≡ images map.old) }
     ensures too_many_only { result ≡ Err NodeErr.TooManyNodes → IsFullForBlock ctx.old.nodes }
+    ensures come { OnOk result (HaveCome ctx.old.nodes ctx.new.nodes one_block) }
     ensures whole { IsWellFormed D.attr_handles ctx.new }
 {
     ctx.stands();

@@ -10,6 +10,7 @@ ghost use Rattle.plir_core.specs.declared.ptr.IRNode.{IRNode as AnyNode};
 ghost use Rattle.plir_core.specs.declared.value.DefiningEntity.{DefiningEntity};
 ghost use Rattle.plir_copies.specs.Images.{AreImagesLive, images, over};
 ghost use Rattle.plir_copies.specs.Copied.{bare_under, op_under, with_operands_in, with_values_of};
+ghost use Rattle.plir_copies.specs.Room.{HaveCome, IsFullFor, no_node, one_op};
 
 use crate::reading::{operands, result_types, successors_under};
 use crate::value_map::ValueMap;
@@ -37,6 +38,8 @@ pub(crate) fn copy_bare<D: OpSet>(
     ensures given { (n : AnyNode) → given_out ctx.old n ≡ true → given_out ctx.new n ≡ true }
     ensures err { OnErr result (SameLive ctx.old ctx.new) }
     ensures too_many_only { result ≡ Err NodeErr.TooManyNodes → IsFullForOp ctx.old.nodes 0 }
+    ensures full { result ≡ Err NodeErr.TooManyNodes → IsFullFor ctx.old.nodes one_op }
+    ensures come { OnOk result (HaveCome ctx.old.nodes ctx.new.nodes one_op) }
     ensures whole { IsWellFormed D.attr_handles ctx.new }
 {
     ctx.stands();
@@ -65,6 +68,7 @@ pub(crate) fn set_operands<D: OpSet>(
     requires same { operands_of ctx.old copy ≡ operands_of ctx.old op }
     requires images_live { AreImagesLive ctx.old (images map.now) }
     ensures edited { IsOpEdited ctx.old ctx.new copy (with_operands_in (images map.now)) }
+    ensures none_come { HaveCome ctx.old.nodes ctx.new.nodes no_node }
     ensures whole { IsWellFormed D.attr_handles ctx.new }
 {
     ctx.stands();
@@ -140,6 +144,7 @@ pub fn clone_op_into<D: OpSet>(
     ensures err { OnErr result (SameLive ctx.old ctx.new) }
     ensures same_map { OnErr result (images map.new ≡ images map.old) }
     ensures too_many_only { result ≡ Err NodeErr.TooManyNodes → IsFullForOp ctx.old.nodes 0 }
+    ensures come { OnOk result (HaveCome ctx.old.nodes ctx.new.nodes one_op) }
     ensures whole { IsWellFormed D.attr_handles ctx.new }
 {
     ctx.stands();

@@ -1,5 +1,5 @@
 //! Copies of trees: of an operation, or of a block, with all that stands below it.
-ghost use Rattle.std.specs.Prelude.{◌≡◌, ◌<◌, ◌∷◌, [], IfOk, OnErr, OnOk, Some, length, slice_get, true};
+ghost use Rattle.std.specs.Prelude.{◌≡◌, ◌<◌, ◌∷◌, [], Err, IfOk, OnErr, OnOk, Some, length, slice_get, true};
 ghost use Rattle.plir_core.specs.Changes.{SameLive};
 ghost use Rattle.plir_core.specs.ContextView.{ContextView, IsLive, block_at, children, given_out, op_at};
 ghost use Rattle.plir_core.specs.Erase.{IsErased};
@@ -16,6 +16,8 @@ ghost use Rattle.plir_core.specs.declared.ptr.Region.{Region as RegionKind};
 ghost use Rattle.plir_store.specs.Members.{Distinct, Has};
 ghost use Rattle.plir_copies.specs.Images.{AreImagesLive, images, no_images, over};
 ghost use Rattle.plir_copies.specs.Copied.{bare_under, with_operands_in};
+ghost use Rattle.plir_copies.specs.Room.{HaveCome, IsFullFor, count_of, no_node, one_block, one_like, one_op};
+ghost use Rattle.plir_copies.specs.Room.{one_region, tree_count};
 ghost use Rattle.plir_copies.specs.Trees.{IsCopyOfTree};
 ghost use Rattle.plir_copies.specs.Twins.{AreChanged, AreChildrenCopied, AreOfOneKind, CanStandAlone, CanStandUnder};
 ghost use Rattle.plir_copies.specs.Twins.{HoldsAs, IsAddedLast, IsCopying, copies_of, with_twin, with_twins};
@@ -49,6 +51,8 @@ fn copy_op<D: OpSet>(
     ensures made { IfOk result (λ p. IsMade ctx.old.nodes ctx.new.nodes (AnyNode.Operation p)) }
     ensures held { IfOk result (λ p. op_at ctx.new p ≡ op_at ctx.old op) }
     ensures leaf { IfOk result (λ p. children ctx.new (AnyNode.Operation p) ≡ []) }
+    ensures full { result ≡ Err NodeErr.TooManyNodes → IsFullFor ctx.old.nodes one_op }
+    ensures come { OnOk result (HaveCome ctx.old.nodes ctx.new.nodes one_op) }
     ensures types { ctx.new.types ≡ ctx.old.types }
     ensures given { (n : AnyNode) → given_out ctx.old n ≡ true → given_out ctx.new n ≡ true }
     ensures err { OnErr result (SameLive ctx.old ctx.new) }
@@ -71,6 +75,8 @@ fn copy_op_to<D: OpSet>(
     ensures added { IfOk result (λ p. IsAddedLast ctx.old.nodes ctx.new.nodes (AnyNode.BasicBlock block)
         (AnyNode.Operation p)) }
     ensures holds { IfOk result (λ p. op_at ctx.new p ≡ op_at ctx.old op) }
+    ensures full { result ≡ Err NodeErr.TooManyNodes → IsFullFor ctx.old.nodes one_op }
+    ensures come { OnOk result (HaveCome ctx.old.nodes ctx.new.nodes one_op) }
     ensures types { ctx.new.types ≡ ctx.old.types }
     ensures grown { IsGrown ctx.old.nodes ctx.new.nodes (AnyNode.BasicBlock block) }
     ensures whole { IsWellFormed D.attr_handles ctx.new }
@@ -95,6 +101,8 @@ fn copy_block_to<D: OpSet>(
     ensures added { IfOk result (λ b. IsAddedLast ctx.old.nodes ctx.new.nodes (AnyNode.Region region)
         (AnyNode.BasicBlock b)) }
     ensures holds { IfOk result (λ b. block_at ctx.new b ≡ block_at ctx.old block) }
+    ensures full { result ≡ Err NodeErr.TooManyNodes → IsFullFor ctx.old.nodes one_block }
+    ensures come { OnOk result (HaveCome ctx.old.nodes ctx.new.nodes one_block) }
     ensures types { ctx.new.types ≡ ctx.old.types }
     ensures grown { IsGrown ctx.old.nodes ctx.new.nodes (AnyNode.Region region) }
     ensures whole { IsWellFormed D.attr_handles ctx.new }
@@ -112,6 +120,8 @@ fn add_region_to<D: OpSet>(ctx: &mut Context<D>, op: Ptr<Operation>) -> Result<P
     requires { IsLive ctx.old (AnyNode.Operation op) }
     ensures added { IfOk result (λ r. IsAddedLast ctx.old.nodes ctx.new.nodes (AnyNode.Operation op)
         (AnyNode.Region r)) }
+    ensures full { result ≡ Err NodeErr.TooManyNodes → IsFullFor ctx.old.nodes one_region }
+    ensures come { OnOk result (HaveCome ctx.old.nodes ctx.new.nodes one_region) }
     ensures types { ctx.new.types ≡ ctx.old.types }
     ensures grown { IsGrown ctx.old.nodes ctx.new.nodes (AnyNode.Operation op) }
     ensures whole { IsWellFormed D.attr_handles ctx.new }
@@ -170,6 +180,8 @@ fn copy_child<D: OpSet>(
     requires fits { CanStandUnder child over }
     ensures added { IfOk result (λ n. IsAddedLast ctx.old.nodes ctx.new.nodes over n) }
     ensures holds { IfOk result (λ n. HoldsAs ctx.old ctx.new child n) }
+    ensures full { result ≡ Err NodeErr.TooManyNodes → IsFullFor ctx.old.nodes (one_like child) }
+    ensures come { OnOk result (HaveCome ctx.old.nodes ctx.new.nodes (one_like child)) }
     ensures types { ctx.new.types ≡ ctx.old.types }
     ensures grown { IsGrown ctx.old.nodes ctx.new.nodes over }
     ensures whole { IsWellFormed D.attr_handles ctx.new }
@@ -204,6 +216,8 @@ fn copy_children<D: OpSet>(
     requires apart { node ≡ copy → ⊥ }
     requires leaf { children ctx.old copy ≡ [] }
     ensures ok { OnOk result (AreChildrenCopied ctx.old ctx.new node copy twins.old.items twins.new.items) }
+    ensures full { result ≡ Err NodeErr.TooManyNodes → IsFullFor ctx.old.nodes (count_of (children ctx.old node)) }
+    ensures come { OnOk result (HaveCome ctx.old.nodes ctx.new.nodes (count_of (children ctx.old node))) }
     ensures types { ctx.new.types ≡ ctx.old.types }
     ensures grown { IsGrown ctx.old.nodes ctx.new.nodes copy }
     ensures whole { IsWellFormed D.attr_handles ctx.new }
@@ -247,6 +261,9 @@ fn copy_below<D: OpSet>(
         IsCopying s ctx.new root copy twins.new.items []) }
     ensures made { (s : ContextView D.Kind D.Attr D.Ty) → (root copy : AnyNode) →
         IsCopying s ctx.old root copy [] twins.old.items → IsMade s.nodes ctx.new.nodes copy }
+    ensures full { result ≡ Err NodeErr.TooManyNodes → (s : ContextView D.Kind D.Attr D.Ty) →
+        (root copy : AnyNode) → IsCopying s ctx.old root copy [] twins.old.items →
+        IsFullFor s.nodes (tree_count s.nodes root) }
     ensures types { ctx.new.types ≡ ctx.old.types }
     ensures whole { IsWellFormed D.attr_handles ctx.new }
 {
@@ -297,6 +314,7 @@ fn change_operands<D: OpSet>(ctx: &mut Context<D>, map: &ValueMap, op: Ptr<Opera
     requires live { IsLive ctx.old (AnyNode.Operation op) }
     requires images_live { AreImagesLive ctx.old (images map.now) }
     ensures edited { IsOpEdited ctx.old ctx.new op (with_operands_in (images map.now)) }
+    ensures none_come { HaveCome ctx.old.nodes ctx.new.nodes no_node }
     ensures whole { IsWellFormed D.attr_handles ctx.new }
 {
     ctx.stands();
@@ -312,6 +330,7 @@ fn change_successors<D: OpSet>(ctx: &mut Context<D>, map: &ValueMap, op: Ptr<Ope
     requires live { IsLive ctx.old (AnyNode.Operation op) }
     requires images_live { AreImagesLive ctx.old (images map.now) }
     ensures edited { IsOpEdited ctx.old ctx.new op (bare_under (images map.now)) }
+    ensures none_come { HaveCome ctx.old.nodes ctx.new.nodes no_node }
     ensures whole { IsWellFormed D.attr_handles ctx.new }
 {
     ctx.stands();
@@ -365,6 +384,8 @@ fn copy_root<D: OpSet>(alloc: Global, ctx: &mut Context<D>, node: IRNode) -> Res
     ensures holds { IfOk result (λ n. HoldsAs ctx.old ctx.new node n) }
     ensures leaf { IfOk result (λ n. children ctx.new n ≡ []) }
     ensures kind { IfOk result (AreOfOneKind node) }
+    ensures full { result ≡ Err NodeErr.TooManyNodes → IsFullFor ctx.old.nodes (one_like node) }
+    ensures come { OnOk result (HaveCome ctx.old.nodes ctx.new.nodes (one_like node)) }
     ensures types { ctx.new.types ≡ ctx.old.types }
     ensures given { (n : AnyNode) → given_out ctx.old n ≡ true → given_out ctx.new n ≡ true }
     ensures err { OnErr result (SameLive ctx.old ctx.new) }
@@ -415,6 +436,8 @@ fn copy_and_map<D: OpSet>(
         (images map.old)) }
     ensures made { (s : ContextView D.Kind D.Attr D.Ty) → IsCopying s ctx.old root.node root.copy [] (root ∷ []) →
         IsMade s.nodes ctx.new.nodes root.copy }
+    ensures full { result ≡ Err NodeErr.TooManyNodes → (s : ContextView D.Kind D.Attr D.Ty) →
+        IsCopying s ctx.old root.node root.copy [] (root ∷ []) → IsFullFor s.nodes (tree_count s.nodes root.node) }
     ensures same_map { OnErr result (images map.new ≡ images map.old) }
     ensures types { ctx.new.types ≡ ctx.old.types }
     ensures whole { IsWellFormed D.attr_handles ctx.new }
@@ -442,6 +465,9 @@ fn clone_node_into<D: OpSet>(
     ensures made { IfOk result (λ n. IsMade ctx.old.nodes ctx.new.nodes n) }
     ensures copied { IfOk result (λ n. IsCopyOfTree ctx.old ctx.new node n (images map.old) (images map.new)) }
     ensures kind { IfOk result (AreOfOneKind node) }
+    ensures too_many_only { result ≡ Err NodeErr.TooManyNodes →
+        IsFullFor ctx.old.nodes (tree_count ctx.old.nodes node) }
+    ensures come { OnOk result (HaveCome ctx.old.nodes ctx.new.nodes (tree_count ctx.old.nodes node)) }
     ensures images_live { AreImagesLive ctx.new (images map.new) }
     ensures types { ctx.new.types ≡ ctx.old.types }
     ensures given { (n : AnyNode) → given_out ctx.old n ≡ true → given_out ctx.new n ≡ true }
@@ -470,9 +496,8 @@ fn clone_node_into<D: OpSet>(
 /// stands in place of its operands and successors in the map, and all else as it was. In the map the results,
 /// arguments and blocks of the copy are put in place of those of the tree first, and so they count wherever they are
 /// used, before or behind what they come from. It is refused where memory is wanting, or room for as many nodes as the
-/// tree has. After a refusal no live node has changed, and the map is as before.
-///
-/// No clause says that `TooManyNodes` comes only where there is no room.
+/// tree has, which the context had before: `TooManyNodes` comes only where it had none, and where a copy is made it had
+/// some, of which that is taken. After a refusal no live node has changed, and the map is as before.
 pub fn clone_tree_into<D: OpSet>(
     alloc: Global,
     ctx: &mut Context<D>,
@@ -484,6 +509,10 @@ pub fn clone_tree_into<D: OpSet>(
     ensures made { IfOk result (λ p. IsMade ctx.old.nodes ctx.new.nodes (AnyNode.Operation p)) }
     ensures copied { IfOk result (λ p. IsCopyOfTree ctx.old ctx.new (AnyNode.Operation op) (AnyNode.Operation p)
         (images map.old) (images map.new)) }
+    ensures too_many_only { result ≡ Err NodeErr.TooManyNodes →
+        IsFullFor ctx.old.nodes (tree_count ctx.old.nodes (AnyNode.Operation op)) }
+    ensures come { OnOk result (HaveCome ctx.old.nodes ctx.new.nodes
+        (tree_count ctx.old.nodes (AnyNode.Operation op))) }
     ensures images_live { AreImagesLive ctx.new (images map.new) }
     ensures types { ctx.new.types ≡ ctx.old.types }
     ensures given { (n : AnyNode) → given_out ctx.old n ≡ true → given_out ctx.new n ≡ true }
@@ -509,6 +538,10 @@ pub fn clone_block_tree_into<D: OpSet>(
     ensures made { IfOk result (λ b. IsMade ctx.old.nodes ctx.new.nodes (AnyNode.BasicBlock b)) }
     ensures copied { IfOk result (λ b. IsCopyOfTree ctx.old ctx.new (AnyNode.BasicBlock block) (AnyNode.BasicBlock b)
         (images map.old) (images map.new)) }
+    ensures too_many_only { result ≡ Err NodeErr.TooManyNodes →
+        IsFullFor ctx.old.nodes (tree_count ctx.old.nodes (AnyNode.BasicBlock block)) }
+    ensures come { OnOk result (HaveCome ctx.old.nodes ctx.new.nodes
+        (tree_count ctx.old.nodes (AnyNode.BasicBlock block))) }
     ensures images_live { AreImagesLive ctx.new (images map.new) }
     ensures types { ctx.new.types ≡ ctx.old.types }
     ensures given { (n : AnyNode) → given_out ctx.old n ≡ true → given_out ctx.new n ≡ true }

@@ -1,16 +1,17 @@
 //! Inlining of a call.
-ghost use Rattle.std.specs.Prelude.{◌≡◌, IfOk, OnErr, OnOk, true};
+ghost use Rattle.std.specs.Prelude.{◌≡◌, Err, IfOk, OnErr, OnOk, true};
 ghost use Rattle.plir_core.specs.Changes.{SameLive};
 ghost use Rattle.plir_core.specs.ContextView.{IsLive, given_out};
 ghost use Rattle.plir_core.specs.Made.{IsMade};
 ghost use Rattle.plir_core.specs.WellFormed.{IsWellFormed};
 ghost use Rattle.plir_core.specs.declared.ptr.IRNode.{IRNode as AnyNode};
 ghost use Rattle.plir_copies.specs.Images.{Images, no_images};
+ghost use Rattle.plir_copies.specs.Room.{HaveCome, IsFullFor, tree_count};
 ghost use Rattle.plir_copies.specs.Trees.{IsCopyOfTree};
 ghost use Rattle.plir_inline.specs.Inlined.{CanInline, IsInlined};
 
 use crate::putting::put_in_place;
-use plir_copies::{ValueMap, clone_block_tree_into, images_stay_live};
+use plir_copies::{ValueMap, clone_block_tree_into, images_stay_live, room_is_used_up};
 use plir_core::laws::contexts_stand;
 use plir_core::{BasicBlock, Context, NodeErr, Operation, Ptr};
 use plir_data::OpSet;
@@ -26,6 +27,10 @@ fn copy_tree<D: OpSet>(
     ensures made { IfOk result (λ b. IsMade ctx.old.nodes ctx.new.nodes (AnyNode.BasicBlock b)) }
     ensures copied { IfOk result (λ b. (m : Images) × IsCopyOfTree ctx.old ctx.new (AnyNode.BasicBlock block)
         (AnyNode.BasicBlock b) no_images m) }
+    ensures too_many_only { result ≡ Err NodeErr.TooManyNodes →
+        IsFullFor ctx.old.nodes (tree_count ctx.old.nodes (AnyNode.BasicBlock block)) }
+    ensures come { OnOk result (HaveCome ctx.old.nodes ctx.new.nodes
+        (tree_count ctx.old.nodes (AnyNode.BasicBlock block))) }
     ensures types { ctx.new.types ≡ ctx.old.types }
     ensures given { (n : AnyNode) → given_out ctx.old n ≡ true → given_out ctx.new n ≡ true }
     ensures err { OnErr result (SameLive ctx.old ctx.new) }
@@ -46,8 +51,8 @@ fn copy_tree<D: OpSet>(
 /// # Errors
 ///
 /// What the copy of the block's tree is refused for: [`NodeErr::Memory`] where there is none, and
-/// [`NodeErr::TooManyNodes`] where there is no room for as many nodes as the tree has, of which the copies of the block
-/// and of its last operation are freed again. After a refusal no live node has changed.
+/// [`NodeErr::TooManyNodes`] only where there is no room for as many nodes as the tree has, of which the copies of the
+/// block and of its last operation are freed again. It never goes well there. After a refusal no live node has changed.
 pub fn inline_block<D: OpSet>(
     alloc: Global,
     ctx: &mut Context<D>,
@@ -57,10 +62,14 @@ pub fn inline_block<D: OpSet>(
     requires { CanInline ctx.old call block }
     ensures ok { OnOk result (IsInlined ctx.old ctx.new call block) }
     ensures err { OnErr result (SameLive ctx.old ctx.new) }
+    ensures too_many_only { result ≡ Err NodeErr.TooManyNodes →
+        IsFullFor ctx.old.nodes (tree_count ctx.old.nodes (AnyNode.BasicBlock block)) }
+    ensures room { OnOk result (IsFullFor ctx.old.nodes (tree_count ctx.old.nodes (AnyNode.BasicBlock block)) → ⊥) }
     ensures whole { IsWellFormed D.attr_handles ctx.new }
 {
     ctx.stands();
     contexts_stand::<D>();
+    room_is_used_up::<D>();
     let copy = copy_tree(alloc, ctx, block)?;
     put_in_place(ctx, call, copy);
     Ok(())

@@ -17,33 +17,28 @@ enum Chosen<'a> {
 pub fn play_files(rt: &HostRuntime) -> io::Result<bool> {
     let mut words = env::args(rt)?;
     let _program = words.next();
-    let mut files = words.next();
-    if files.as_deref() == Some("--only") {
+    let Some(first) = words.next() else {
+        return Ok(true);
+    };
+    if first.as_str() == "--only" {
         let name = words.next().unwrap_or(String::new(rt.alloc()));
-        files = words.next();
-        return play_each(rt, files, words, &Chosen::Only(name.as_str()));
+        return play_each(rt, words, Chosen::Only(name.as_str()));
     }
-    play_each(rt, files, words, &Chosen::All)
+    let is_right = play_file(rt, first.as_str(), Chosen::All)?;
+    Ok(play_each(rt, words, Chosen::All)? && is_right)
 }
 
-// The same for the first file and those behind it.
-fn play_each(
-    rt: &HostRuntime,
-    first: Option<String>,
-    mut others: Args,
-    chosen: &Chosen<'_>,
-) -> io::Result<bool> {
+// The same for these files.
+fn play_each(rt: &HostRuntime, files: Args, chosen: Chosen<'_>) -> io::Result<bool> {
     let mut are_right = true;
-    let mut file = first;
-    while let Some(path) = file {
+    for path in files {
         are_right = play_file(rt, path.as_str(), chosen)? && are_right;
-        file = others.next();
     }
     Ok(are_right)
 }
 
 // Plays the scripts of a file, and prints how many there were.
-fn play_file(rt: &HostRuntime, path: &str, chosen: &Chosen<'_>) -> io::Result<bool> {
+fn play_file(rt: &HostRuntime, path: &str, chosen: Chosen<'_>) -> io::Result<bool> {
     let bytes = fs::read(rt, path)?;
     let Ok(text) = str::from_utf8(bytes.as_slice()) else {
         let _told = eprintln!(rt; "{path}: no text");
@@ -61,9 +56,9 @@ fn play_file(rt: &HostRuntime, path: &str, chosen: &Chosen<'_>) -> io::Result<bo
 }
 
 // Whether a script is to be played.
-fn is_chosen(chosen: &Chosen<'_>, part: &str) -> bool {
+fn is_chosen(chosen: Chosen<'_>, part: &str) -> bool {
     match (chosen, script_of(part)) {
-        (Chosen::Only(name), Some(script)) => script.name == *name,
+        (Chosen::Only(name), Some(script)) => script.name == name,
         _ => true,
     }
 }

@@ -1,10 +1,13 @@
 use Rattle.std.proofs.Common.{◌∙◌, ap, sym, subst}
+use Rattle.std.proofs.lemmas.Result.{err_from_is_err_and}
 use Rattle.std.specs.Prelude.{option_map}
 use Rattle.plir_data.specs.AttrLive.{HandlesLive}
 use Rattle.plir_core.specs.declared.ptr.IRNode.TheVariants.{BasicBlock}
 use Rattle.plir_core.specs.ContextView.{block_at, block_attributes_in}
 use Rattle.plir_copies.specs.Copied.{with_attributes}
+use Rattle.plir_copies.specs.Room.{one_block}
 use Rattle.plir_copies.proofs.NewBlocks.{made-block, live-holds, block-whole}
+use Rattle.plir_copies.proofs.RoomLaws.{block_comes, block_full, come_still}
 use Rattle.plir_copies.proofs.blocks.copy_block.Goals as goal
 
 pub set_attributes-requires-clause-live : goal.set_attributes-requires-clause-live
@@ -76,3 +79,17 @@ returns-clause-err g c =
           (with_attributes e.0) made e.1 made.new) c.erase.ensures.tree;
       types = ap (λ z. z.types) c.erase.ensures.after ∙ e.1.keeps.types ∙ ap (λ z. z.types) c.in_ok-copy.ensures.ok;
     }
+
+pub returns-in-Ok-clause-come : goal.returns-in-Ok-clause-come
+returns-in-Ok-clause-come g c =
+    let s = c.args.ctx.now in
+    let t = c.new.new.ctx in
+    come_still s.nodes t.nodes c.set_attributes.new.ctx.nodes one_block
+    (block_comes s c.stands.ensures.whole.stored t _ c.in_ok-copy.ensures.ok)
+    c.set_attributes.ensures.none_come
+
+pub returns-in_err-copy-clause-full : goal.returns-in_err-copy-clause-full
+returns-in_err-copy-clause-full g c =
+    let p = err_from_is_err_and c.from_residual-in_err-copy.result c.from_residual-in_err-copy.ensures.1 in
+    rw (p.1, p.2) (λ e. block_full c.args.ctx.now.nodes c.stands.ensures.whole.stored
+    (c.in_err-copy.ensures.too_many.0 e))

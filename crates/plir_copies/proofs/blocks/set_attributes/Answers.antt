@@ -10,7 +10,9 @@ use Rattle.plir_core.specs.Contents.{BlockView}
 use Rattle.plir_core.specs.ContextView.{block_at}
 use Rattle.plir_core.specs.Held.{IsBlockEdited}
 use Rattle.plir_copies.specs.Copied.{with_attributes}
+use Rattle.plir_copies.specs.Room.{no_node, HaveCome}
 use Rattle.plir_copies.proofs.NewBlocks.{block-put, block-same, none-put}
+use Rattle.plir_copies.proofs.RoomLaws.{block_edit_comes, come_itself}
 use Rattle.plir_copies.proofs.blocks.set_attributes.Goals as goal
 
 pub entries-init : goal.entries-init
@@ -24,6 +26,7 @@ entries-init g c =
           (subst IsDictionary (sym all) c.iter-key-items.ensures.whole) ∙ all;
       edited = block-same s c.args.block (with_attributes []) (none-put (block_at s c.args.block) c.requires.none);
       live = subst (HandlesLive g.D.OpSet.attr_handles s.types) (sym all) c.requires.handles;
+      none_come = come_itself s.nodes;
       whole = c.stands.ensures.whole;
     }
 
@@ -73,6 +76,7 @@ entries-preserved g c =
       edited = block-put s t u p i.done k v i.edited (subst (λ z. IsBlockEdited t z p put) (sym after)
           (c.block_edits_keep_the_rest.ensures put));
       live = All-tail (λ x. IsAttrLive own s.types x.1) (k, v) left (subst (HandlesLive own s.types) step i.live);
+      none_come = block_edit_comes s t no_node i.none_come u p put after;
       whole = c.set_attr.ensures.whole;
     }
 
@@ -98,3 +102,8 @@ returns-clause-all g c =
     let all : i.done ≡ c.args.attributes.now =
     ap (λ l. dict_put_all i.done (pairs_view l)) (sym c.in-None.ensures.steps.0) ∙ i.rest in
     subst (λ es. IsBlockEdited c.args.ctx.now c.entries.ctx c.args.block (with_attributes es)) all i.edited
+
+pub returns-in_err-set_attr-clause-none_come : goal.returns-in_err-set_attr-clause-none_come
+returns-in_err-set_attr-clause-none_come g c =
+    subst (λ z. HaveCome c.args.ctx.now.nodes z.nodes no_node) (sym c.in_err-set_attr.ensures.err)
+    c.entries.invariant.none_come

@@ -6,9 +6,11 @@ use Rattle.plir_core.specs.declared.value.DefiningEntity.TheVariants.{Op}
 use Rattle.plir_core.specs.ContextView.{is_live, op_at, operands_in, result_types_of, results_in}
 use Rattle.plir_copies.specs.Images.{AreImagesLive, images, over}
 use Rattle.plir_copies.specs.Copied.{with_operands_in}
+use Rattle.plir_copies.specs.Room.{one_op}
 use Rattle.plir_copies.proofs.Edits.{bare-operands, bare-results, bare-whole}
 use Rattle.plir_copies.proofs.Images.{live-values}
 use Rattle.plir_copies.proofs.Keeping.{images-edited, images-keep, images-same, made-edited}
+use Rattle.plir_copies.proofs.RoomLaws.{come_still}
 use Rattle.plir_copies.proofs.copying.clone_op_into.Goals as goal
 
 pub copy_bare-requires-clause-images_live : goal.copy_bare-requires-clause-images_live
@@ -127,3 +129,8 @@ returns-clause-err g c = record {
       c.in_ok-copy.ensures.made c.erase.ensures.tree;
   types = ap (λ z. z.types) c.erase.ensures.after ∙ c.in_ok-copy.ensures.types;
 }
+
+pub returns-in-Ok-clause-come : goal.returns-in-Ok-clause-come
+returns-in-Ok-clause-come g c =
+    come_still c.args.ctx.now.nodes c.copy_bare.new.ctx.nodes c.set_operands.new.ctx.nodes
+    one_op c.in_ok-copy.ensures.come c.set_operands.ensures.none_come

@@ -8,9 +8,11 @@ use Rattle.plir_core.specs.ContextView.{IsValueLive, op_at, operands_of, operand
 use Rattle.plir_core.specs.Held.{IsOpEdited}
 use Rattle.plir_copies.specs.Images.{images, value_in}
 use Rattle.plir_copies.specs.Copied.{with_operands_in}
+use Rattle.plir_copies.specs.Room.{no_node}
 use Rattle.plir_copies.proofs.Edits.{half_set, half-none, half-next, half-all, half-length}
 use Rattle.plir_copies.proofs.Images.{value-live}
 use Rattle.plir_copies.proofs.Keeping.{edited-same, edited-both, edited-as, images-edited}
+use Rattle.plir_copies.proofs.RoomLaws.{come_itself, op_edit_comes}
 use Rattle.plir_copies.proofs.copying.set_operands.Goals as goal
 
 pub loop-i-init : goal.loop-i-init
@@ -20,6 +22,7 @@ loop-i-init g c =
       edited-same s c.args.copy (half 0)
           (half-none (images c.args.map.now) (operands_of s c.args.op) (op_at s c.args.copy)),
       c.stands.ensures.whole,
+      come_itself s.nodes,
     )
 
 pub op_edits_keep_the_rest-requires : goal.op_edits_keep_the_rest-requires
@@ -78,6 +81,7 @@ loop-i-preserved g c =
           (subst (λ z. IsOpEdited t z p put) (sym after) (c.op_edits_keep_the_rest.ensures put)))
           (half-next m xs i v at (op_at s p) c.requires.same),
       c.replace_operand.ensures.whole,
+      op_edit_comes s t no_node c.loop-i.invariant.2 u p put after,
     )
 
 pub returns-clause-edited : goal.returns-clause-edited

@@ -2,10 +2,11 @@ use Rattle.plir_core.specs.ContextView.{operands_of}
 use Rattle.plir_core.specs.WellFormed.{IsWellFormed}
 use Rattle.plir_core.specs.Held.{IsOpEdited}
 use Rattle.plir_copies.specs.Images.{images}
+use Rattle.plir_copies.specs.Room.{no_node, HaveCome}
 use Rattle.plir_copies.proofs.Edits.{half_set}
 use Rattle.plir_copies.proofs.copying.set_operands.Given as goal
 
 abbrev pub invariant-loop-i : goal.invariant-loop-i
 invariant-loop-i g l =
     IsOpEdited l.fn.ctx l.ctx l.copy (half_set (images l.map) (operands_of l.fn.ctx l.op) l.i)
-    × IsWellFormed g.D.OpSet.attr_handles l.ctx
+    × IsWellFormed g.D.OpSet.attr_handles l.ctx × HaveCome l.fn.ctx.nodes l.ctx.nodes no_node

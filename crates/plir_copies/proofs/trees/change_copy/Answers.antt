@@ -17,7 +17,8 @@ returns-in-Operation-clause-changed g c =
     let m = images c.args.map.now in
     let u = c.change_successors.new.ctx in
     subst (λ n. AreChanged c.args.ctx.now u m (n ∷ [])) (sym c.in-Operation.is) (changed-op m c.args.ctx.now
-    c.change_operands.new.ctx u c.in-Operation.op c.change_operands.ensures.edited c.change_successors.ensures.edited)
+    c.change_operands.new.ctx u c.in-Operation.op c.change_operands.ensures.edited c.change_successors.ensures.edited
+    c.change_operands.ensures.none_come c.change_successors.ensures.none_come)
 
 pub returns-in-Operation-clause-images_live : goal.returns-in-Operation-clause-images_live
 returns-in-Operation-clause-images_live g c =

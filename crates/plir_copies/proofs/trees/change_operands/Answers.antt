@@ -8,10 +8,12 @@ use Rattle.plir_core.specs.ContextView.{IsValueLive, op_at, operands_of, operand
 use Rattle.plir_core.specs.Held.{IsOpEdited}
 use Rattle.plir_copies.specs.Images.{images, value_in}
 use Rattle.plir_copies.specs.Copied.{with_operands_in}
+use Rattle.plir_copies.specs.Room.{no_node}
 use Rattle.plir_copies.proofs.Changing.{front-at, half-list}
 use Rattle.plir_copies.proofs.Edits.{half_set, half-none, half-next, half-all, half-length}
 use Rattle.plir_copies.proofs.Images.{value-live}
 use Rattle.plir_copies.proofs.Keeping.{edited-same, edited-both, edited-as, images-edited}
+use Rattle.plir_copies.proofs.RoomLaws.{come_itself, op_edit_comes}
 use Rattle.plir_copies.proofs.trees.change_operands.Goals as goal
 
 pub loop-i-init : goal.loop-i-init
@@ -20,6 +22,7 @@ loop-i-init g c =
     let half = half_set (images c.args.map.now) (operands_of s c.args.op) in record {
       edited = edited-same s c.args.op (half 0)
           (half-none (images c.args.map.now) (operands_of s c.args.op) (op_at s c.args.op));
+      none_come = come_itself s.nodes;
       formed = c.stands.ensures.whole;
     }
 
@@ -80,6 +83,7 @@ loop-i-preserved g c =
           (edited-both s t u p (half_set m xs i) put c.loop-i.invariant.edited
           (subst (λ z. IsOpEdited t z p put) (sym after) (c.op_edits_keep_the_rest.ensures put)))
           (half-next m xs i v at (op_at s p) refl);
+      none_come = op_edit_comes s t no_node c.loop-i.invariant.none_come u p put after;
       formed = c.replace_operand.ensures.whole;
     }
 

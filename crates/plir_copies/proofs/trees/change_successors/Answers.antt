@@ -9,10 +9,12 @@ use Rattle.plir_core.specs.ContextView.{IsLive, op_at, successors_of, successors
 use Rattle.plir_core.specs.Held.{IsOpEdited}
 use Rattle.plir_copies.specs.Images.{images, block_in}
 use Rattle.plir_copies.specs.Copied.{bare_under}
+use Rattle.plir_copies.specs.Room.{no_node}
 use Rattle.plir_copies.proofs.Changing.{front-at, half_put, put-none, put-next, put-all, put-list}
 use Rattle.plir_copies.proofs.Edits.{length-front}
 use Rattle.plir_copies.proofs.Images.{block-live}
 use Rattle.plir_copies.proofs.Keeping.{edited-same, edited-both, edited-as, images-edited}
+use Rattle.plir_copies.proofs.RoomLaws.{come_itself, op_edit_comes}
 use Rattle.plir_copies.proofs.trees.change_successors.Goals as goal
 
 pub loop-i-init : goal.loop-i-init
@@ -21,6 +23,7 @@ loop-i-init g c =
     let half = half_put (images c.args.map.now) (successors_of s c.args.op) in record {
       edited = edited-same s c.args.op (half 0)
           (put-none (images c.args.map.now) (successors_of s c.args.op) (op_at s c.args.op));
+      none_come = come_itself s.nodes;
       formed = c.stands.ensures.whole;
     }
 
@@ -85,6 +88,7 @@ loop-i-preserved g c =
           (edited-both s t u p (half_put m xs i) put c.loop-i.invariant.edited
           (subst (λ z. IsOpEdited t z p put) (sym after) (c.op_edits_keep_the_rest.ensures put)))
           (put-next m xs i v at (op_at s p) refl);
+      none_come = op_edit_comes s t no_node c.loop-i.invariant.none_come u p put after;
       formed = c.set_successor.ensures.whole;
     }
 

@@ -1,9 +1,12 @@
 use Rattle.std.proofs.Common.{◌∙◌, [], ap, subst, sym}
+use Rattle.std.proofs.lemmas.Result.{err_from_is_err_and}
 use Rattle.plir_core.specs.Changes.{SameLive}
 use Rattle.plir_copies.specs.Images.{AreImagesLive, images, no_images, over}
 use Rattle.plir_copies.specs.Twins.{IsCopying, with_twins}
-use Rattle.plir_copies.proofs.Finished.{all-live, begun, copied-whole, copies-once, copy-live, made-whole, stands-alone}
+use Rattle.plir_copies.proofs.Finished.{all-live, begun, come-whole, copied-whole, copies-once, copy-live, full-root}
+use Rattle.plir_copies.proofs.Finished.{made-whole, stands-alone}
 use Rattle.plir_copies.proofs.Keeping.{images-same}
+use Rattle.plir_copies.proofs.Refusals.{refused-as}
 use Rattle.plir_copies.proofs.trees.clone_node_into.Goals as goal
 
 pub copy_and_map-requires : goal.copy_and_map-requires
@@ -12,7 +15,7 @@ copy_and_map-requires g c =
     let stands = c.contexts_stand.ensures s c.stands.ensures.whole in
     let e = c.in_ok-copy.ensures in
     let first = begun s c.copy_root.new.ctx c.args.node c.in_ok-copy.copy c.growth.ensures stands.forest stands.measured
-    e.made e.types c.requires.live e.holds e.leaf in
+    e.made e.types c.requires.live e.holds e.leaf e.come in
     (s, first)
 
 pub change_copies-requires-clause-live : goal.change_copies-requires-clause-live
@@ -21,7 +24,7 @@ change_copies-requires-clause-live g c =
     let stands = c.contexts_stand.ensures s c.stands.ensures.whole in
     let e = c.in_ok-copy.ensures in
     let first = begun s c.copy_root.new.ctx c.args.node c.in_ok-copy.copy c.growth.ensures stands.forest stands.measured
-    e.made e.types c.requires.live e.holds e.leaf in
+    e.made e.types c.requires.live e.holds e.leaf e.come in
     let t = c.copy_and_map.new.ctx in
     let ws = c.as_slice.result.now in
     let whole = subst (λ l. IsCopying s t c.args.node c.in_ok-copy.copy l []) (sym c.as_slice.ensures.value)
@@ -34,7 +37,7 @@ change_copies-requires-clause-once g c =
     let stands = c.contexts_stand.ensures s c.stands.ensures.whole in
     let e = c.in_ok-copy.ensures in
     let first = begun s c.copy_root.new.ctx c.args.node c.in_ok-copy.copy c.growth.ensures stands.forest stands.measured
-    e.made e.types c.requires.live e.holds e.leaf in
+    e.made e.types c.requires.live e.holds e.leaf e.come in
     let t = c.copy_and_map.new.ctx in
     let ws = c.as_slice.result.now in
     let whole = subst (λ l. IsCopying s t c.args.node c.in_ok-copy.copy l []) (sym c.as_slice.ensures.value)
@@ -47,7 +50,7 @@ change_copies-requires-clause-images_live g c =
     let stands = c.contexts_stand.ensures s c.stands.ensures.whole in
     let e = c.in_ok-copy.ensures in
     let first = begun s c.copy_root.new.ctx c.args.node c.in_ok-copy.copy c.growth.ensures stands.forest stands.measured
-    e.made e.types c.requires.live e.holds e.leaf in
+    e.made e.types c.requires.live e.holds e.leaf e.come in
     let t = c.copy_and_map.new.ctx in
     let ws = c.as_slice.result.now in
     let whole = subst (λ l. IsCopying s t c.args.node c.in_ok-copy.copy l []) (sym c.as_slice.ensures.value)
@@ -63,7 +66,7 @@ erase_copy-requires-clause-live g c =
     let stands = c.contexts_stand.ensures s c.stands.ensures.whole in
     let e = c.in_ok-copy.ensures in
     let first = begun s c.copy_root.new.ctx c.args.node c.in_ok-copy.copy c.growth.ensures stands.forest stands.measured
-    e.made e.types c.requires.live e.holds e.leaf in
+    e.made e.types c.requires.live e.holds e.leaf e.come in
     let t = c.copy_and_map.new.ctx in
     let made = c.in-Err.ensures.made s first in
     made.root
@@ -78,7 +81,7 @@ erase_copy-requires-clause-unused g c =
     let stands = c.contexts_stand.ensures s c.stands.ensures.whole in
     let e = c.in_ok-copy.ensures in
     let first = begun s c.copy_root.new.ctx c.args.node c.in_ok-copy.copy c.growth.ensures stands.forest stands.measured
-    e.made e.types c.requires.live e.holds e.leaf in
+    e.made e.types c.requires.live e.holds e.leaf e.come in
     let t = c.copy_and_map.new.ctx in
     let made = c.in-Err.ensures.made s first in
     c.what_was_made_is_unused.ensures t c.in_ok-copy.copy made
@@ -94,7 +97,7 @@ returns-in-Ok-clause-made g c =
     let stands = c.contexts_stand.ensures s c.stands.ensures.whole in
     let e = c.in_ok-copy.ensures in
     let first = begun s c.copy_root.new.ctx c.args.node c.in_ok-copy.copy c.growth.ensures stands.forest stands.measured
-    e.made e.types c.requires.live e.holds e.leaf in
+    e.made e.types c.requires.live e.holds e.leaf e.come in
     let t = c.copy_and_map.new.ctx in
     let ws = c.as_slice.result.now in
     let whole = subst (λ l. IsCopying s t c.args.node c.in_ok-copy.copy l []) (sym c.as_slice.ensures.value)
@@ -110,7 +113,7 @@ returns-in-Ok-clause-copied g c =
     let stands = c.contexts_stand.ensures s c.stands.ensures.whole in
     let e = c.in_ok-copy.ensures in
     let first = begun s c.copy_root.new.ctx c.args.node c.in_ok-copy.copy c.growth.ensures stands.forest stands.measured
-    e.made e.types c.requires.live e.holds e.leaf in
+    e.made e.types c.requires.live e.holds e.leaf e.come in
     let t = c.copy_and_map.new.ctx in
     let ws = c.as_slice.result.now in
     let whole = subst (λ l. IsCopying s t c.args.node c.in_ok-copy.copy l []) (sym c.as_slice.ensures.value)
@@ -131,7 +134,7 @@ returns-in-Ok-clause-given g c =
     let stands = c.contexts_stand.ensures s c.stands.ensures.whole in
     let e = c.in_ok-copy.ensures in
     let first = begun s c.copy_root.new.ctx c.args.node c.in_ok-copy.copy c.growth.ensures stands.forest stands.measured
-    e.made e.types c.requires.live e.holds e.leaf in
+    e.made e.types c.requires.live e.holds e.leaf e.come in
     let made = c.in-Ok.ensures.made s first in
     λ n h. c.change_copies.ensures.changed.keeps.given n ∙ made.keeps.given n h
 
@@ -141,7 +144,7 @@ returns-in-Err-clause-images_live g c =
     let stands = c.contexts_stand.ensures s c.stands.ensures.whole in
     let e = c.in_ok-copy.ensures in
     let first = begun s c.copy_root.new.ctx c.args.node c.in_ok-copy.copy c.growth.ensures stands.forest stands.measured
-    e.made e.types c.requires.live e.holds e.leaf in
+    e.made e.types c.requires.live e.holds e.leaf e.come in
     let t = c.copy_and_map.new.ctx in
     let made = c.in-Err.ensures.made s first in
     let u = c.erase_copy.new.ctx in
@@ -162,7 +165,7 @@ returns-in-Err-clause-given g c =
     let stands = c.contexts_stand.ensures s c.stands.ensures.whole in
     let e = c.in_ok-copy.ensures in
     let first = begun s c.copy_root.new.ctx c.args.node c.in_ok-copy.copy c.growth.ensures stands.forest stands.measured
-    e.made e.types c.requires.live e.holds e.leaf in
+    e.made e.types c.requires.live e.holds e.leaf e.come in
     let t = c.copy_and_map.new.ctx in
     let made = c.in-Err.ensures.made s first in
     λ n h. c.erase_copy.ensures.tree.given n ∙ made.keeps.given n h
@@ -173,7 +176,7 @@ returns-in-Err-clause-err g c =
     let stands = c.contexts_stand.ensures s c.stands.ensures.whole in
     let e = c.in_ok-copy.ensures in
     let first = begun s c.copy_root.new.ctx c.args.node c.in_ok-copy.copy c.growth.ensures stands.forest stands.measured
-    e.made e.types c.requires.live e.holds e.leaf in
+    e.made e.types c.requires.live e.holds e.leaf e.come in
     let t = c.copy_and_map.new.ctx in
     let made = c.in-Err.ensures.made s first in
     let u = c.erase_copy.new.ctx in
@@ -182,3 +185,36 @@ returns-in-Err-clause-err g c =
       types = c.erase_copy.ensures.types ∙ c.in-Err.ensures.types ∙ e.types;
     } in
     same
+
+pub returns-in-Ok-clause-come : goal.returns-in-Ok-clause-come
+returns-in-Ok-clause-come g c =
+    let s = c.args.ctx.now in
+    let stands = c.contexts_stand.ensures s c.stands.ensures.whole in
+    let e = c.in_ok-copy.ensures in
+    let first = begun s c.copy_root.new.ctx c.args.node c.in_ok-copy.copy c.growth.ensures stands.forest stands.measured
+    e.made e.types c.requires.live e.holds e.leaf e.come in
+    let t = c.copy_and_map.new.ctx in
+    let ws = c.as_slice.result.now in
+    let whole = subst (λ l. IsCopying s t c.args.node c.in_ok-copy.copy l []) (sym c.as_slice.ensures.value)
+    (c.in-Ok.ensures.ok s first) in
+    let m = images c.args.map.now in
+    let n = images c.copy_and_map.new.map in
+    let is = c.in-Ok.ensures.mapped ∙ ap (λ l. over (with_twins t no_images l) m) (sym c.as_slice.ensures.value) in
+    come-whole s t c.args.node c.in_ok-copy.copy ws whole c.change_copies.new.ctx m n is
+    c.change_copies.ensures.changed
+
+pub returns-in_err-copy-clause-too_many_only : goal.returns-in_err-copy-clause-too_many_only
+returns-in_err-copy-clause-too_many_only g c =
+    let s = c.args.ctx.now in
+    let stands = c.contexts_stand.ensures s c.stands.ensures.whole in
+    let p = err_from_is_err_and c.from_residual.result c.from_residual.ensures.1 in
+    rw (p.1, p.2) (λ e. full-root s c.args.node stands.forest stands.measured (c.in_err-copy.ensures.full e))
+
+pub returns-in-Err-clause-too_many_only : goal.returns-in-Err-clause-too_many_only
+returns-in-Err-clause-too_many_only g c =
+    let s = c.args.ctx.now in
+    let stands = c.contexts_stand.ensures s c.stands.ensures.whole in
+    let e = c.in_ok-copy.ensures in
+    let first = begun s c.copy_root.new.ctx c.args.node c.in_ok-copy.copy c.growth.ensures stands.forest stands.measured
+    e.made e.types c.requires.live e.holds e.leaf e.come in
+    λ x. c.in-Err.ensures.full (refused-as x) s first

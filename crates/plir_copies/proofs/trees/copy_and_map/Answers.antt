@@ -1,8 +1,10 @@
 use Rattle.std.proofs.Common.{◌∙◌, ◌++◌, ◌∷◌, [], ap, subst, sym}
+use Rattle.std.proofs.lemmas.Result.{err_from_is_err_and}
 use Rattle.plir_store.specs.Members.{Has}
 use Rattle.plir_copies.specs.Images.{images, no_images, over}
 use Rattle.plir_copies.specs.Twins.{IsCopying, with_twins}
 use Rattle.plir_copies.proofs.Finished.{copy-live, holds-same, node-live}
+use Rattle.plir_copies.proofs.Refusals.{refused-as}
 use Rattle.plir_copies.proofs.trees.copy_and_map.Goals as goal
 
 pub copy_below-requires : goal.copy_below-requires
@@ -84,3 +86,11 @@ returns-in_err-extend-clause-made g c =
     let copy = c.args.root.copy in
     λ s h. c.in_ok-copy_below.ensures.made s node copy (subst (IsCopying s c.args.ctx.now node copy [])
     (sym (c.in_ok-push.ensures.items ∙ ap (λ l. l ++ c.args.root ∷ []) c.new-twins.ensures.items)) h)
+
+pub returns-in_err-copy_below-clause-full : goal.returns-in_err-copy_below-clause-full
+returns-in_err-copy_below-clause-full g c =
+    let node = c.args.root.node in
+    let copy = c.args.root.copy in
+    let p = err_from_is_err_and c.from_residual-in_err-copy_below.result c.from_residual-in_err-copy_below.ensures.1 in
+    rw (p.1, p.2) (λ e s h. c.in_err-copy_below.ensures.full (refused-as e) s node copy (subst (IsCopying s c.args.ctx.now node copy [])
+    (sym (c.in_ok-push.ensures.items ∙ ap (λ l. l ++ c.args.root ∷ []) c.new-twins.ensures.items)) h))

@@ -1,8 +1,9 @@
 use Rattle.std.proofs.Common.{◌≡◌, ◌∙◌, List, ap, arith, length, refl, subst, take, drop, Some, []}
+use Rattle.std.proofs.lemmas.Result.{err_from_is_err_and}
 use Rattle.std.specs.Prelude.{slice_get}
 use Rattle.plir_copies.specs.declared.trees.Twin.{Twin}
 use Rattle.plir_copies.specs.Twins.{IsCopying}
-use Rattle.plir_copies.proofs.Below.{all-dropped, all-taken, bare-at, refused, step, step-within, twin-at, within-live}
+use Rattle.plir_copies.proofs.Below.{all-dropped, all-taken, bare-at, full-tree, refused, step, step-within, twin-at, within-live}
 use Rattle.plir_copies.proofs.Twins.{holds-kind, twin-apart}
 use Rattle.plir_copies.proofs.trees.copy_below.Goals as goal
 
@@ -120,7 +121,7 @@ nodes-preserved g c =
     record {
       within = step-within s t c.requires.1 c.requires.2 ws k h t u now w at e.ok;
       copying = λ s root copy x. step s t root copy ws k (c.nodes.invariant.copying s root copy x) u now w at
-          c.nodes.invariant.formed.stored (c.contexts_stand.ensures u e.whole).forest e.grown e.types e.ok;
+          c.nodes.invariant.formed.stored (c.contexts_stand.ensures u e.whole).forest e.grown e.types e.come e.ok;
       types = e.types ∙ c.nodes.invariant.types;
       formed = e.whole;
     }
@@ -139,3 +140,15 @@ returns-clause-ok g c =
 pub returns-clause-made : goal.returns-clause-made
 returns-clause-made g c =
     λ s root copy x. (c.nodes.invariant.copying s root copy x).made
+
+pub returns-in_err-copy_children-clause-full : goal.returns-in_err-copy_children-clause-full
+returns-in_err-copy_children-clause-full g c =
+    let t = c.nodes.ctx in
+    let k = c.nodes.done in
+    let ws = c.nodes.twins.items in
+    let w = c.twin_at-twin.result in
+    let at : slice_get ws k ≡ Some w =
+    subst (λ (l : List Twin). slice_get l k ≡ Some w) c.as_slice.ensures.value c.twin_at-twin.ensures in
+    let p = err_from_is_err_and c.from_residual.result c.from_residual.ensures.1 in
+    rw (p.1, p.2) (λ e s root copy x. full-tree s t root copy ws k (c.nodes.invariant.copying s root copy x) w at
+    (c.in_err-copy_children.ensures.full e))

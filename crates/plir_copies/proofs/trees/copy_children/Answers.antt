@@ -1,9 +1,11 @@
 use Rattle.std.proofs.Common.{◌≡◌, ◌∙◌, ◌-◌, ◌<◌, length, subst, sym}
+use Rattle.std.proofs.lemmas.Result.{err_from_is_err_and}
 use Rattle.std.specs.Prelude.{List}
 use Rattle.plir_copies.specs.declared.trees.Twin.{Twin}
 use Rattle.plir_core.specs.ContextView.{children}
-use Rattle.plir_copies.proofs.Children.{AreSomeCopied, all-copied, child-under, fewer-left, is-child, some-next, some-none}
+use Rattle.plir_copies.proofs.Children.{AreSomeCopied, all-come, all-copied, child-under, fewer-left, full-here, is-child, some-next, some-none}
 use Rattle.plir_copies.proofs.Children.{under-alike}
+use Rattle.plir_copies.proofs.Refusals.{refused-as}
 use Rattle.plir_copies.proofs.trees.copy_children.Goals as goal
 
 pub children-init : goal.children-init
@@ -64,7 +66,7 @@ children-preserved g c =
     e.grown.children c.args.node (h.grown.keeps.live c.args.node c.requires.live) c.requires.apart in
     let some = some-next s c.args.node c.args.copy c.args.twins.now.items t c.children.twins.items u c.growth.ensures
     (c.contexts_stand.ensures s c.stands.ensures.whole).forest c.requires.live c.requires.copy_live c.children.next h
-    c.in-Some.child c.in_ok-made.made c.in-Some.is e.added e.holds e.grown e.types e.whole.stored c.next_sibling-next.result
+    c.in-Some.child c.in_ok-made.made c.in-Some.is e.added e.holds e.grown e.types e.whole.stored e.come c.next_sibling-next.result
     (λ xs ys k. c.next_sibling-next.ensures.value ∙ c.next_is_behind.ensures c.args.node xs ys k) same_u same_t in
     record {
       some = subst (λ l. AreSomeCopied s u c.args.node c.args.copy c.args.twins.now.items l c.next_sibling-next.result)
@@ -98,3 +100,15 @@ pub returns-in_err-push-clause-grown : goal.returns-in_err-push-clause-grown
 returns-in_err-push-clause-grown g c =
     c.growth.ensures.twice c.children.ctx.nodes c.copy_child.new.ctx.nodes c.args.copy
     c.children.invariant.some.stored c.children.invariant.some.grown c.in_ok-made.ensures.grown
+
+pub returns-clause-come : goal.returns-clause-come
+returns-clause-come g c =
+    all-come c.args.ctx.now c.args.node c.args.copy c.args.twins.now.items c.children.ctx c.children.twins.items
+    c.children.next c.children.invariant.some c.in_default.is
+
+pub returns-in_err-made-clause-full : goal.returns-in_err-made-clause-full
+returns-in_err-made-clause-full g c =
+    let p = err_from_is_err_and c.from_residual.result c.from_residual.ensures.1 in
+    rw (p.1, p.2) (λ e. full-here c.args.ctx.now c.args.node c.args.copy c.args.twins.now.items c.children.ctx
+    c.children.twins.items c.children.next c.children.invariant.some c.in-Some.child c.in-Some.is
+    (c.in_err-made.ensures.full (refused-as e)))

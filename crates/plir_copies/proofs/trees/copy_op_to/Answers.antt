@@ -2,8 +2,10 @@ use Rattle.std.proofs.Common.{◌∙◌, ◌++◌, ◌∷◌, [], ap}
 use Rattle.plir_store.specs.Table.{content_at}
 use Rattle.plir_core.specs.ContextView.{children}
 use Rattle.plir_core.specs.declared.ptr.IRNode.TheVariants.{Operation, BasicBlock}
+use Rattle.plir_copies.specs.Room.{one_op}
 use Rattle.plir_copies.proofs.Adding.{added-last}
 use Rattle.plir_copies.proofs.Children.{grown-same}
+use Rattle.plir_copies.proofs.RoomLaws.{come_moved}
 use Rattle.plir_copies.proofs.trees.copy_op_to.Goals as goal
 
 pub insert_at_back-requires-clause-live : goal.insert_at_back-requires-clause-live
@@ -47,3 +49,9 @@ pub returns-in_err-copy-clause-grown : goal.returns-in_err-copy-clause-grown
 returns-in_err-copy-clause-grown g c =
     grown-same c.args.ctx.now c.copy_op.new.ctx (BasicBlock c.args.block) c.in_err-copy.ensures.err
     c.in_err-copy.ensures.given
+
+pub returns-clause-come : goal.returns-clause-come
+returns-clause-come g c =
+    come_moved c.args.ctx.now.nodes c.copy_op.new.ctx.nodes c.insert_at_back.new.ctx.nodes
+    one_op (Operation c.in_ok-copy.copy) c.in_ok-copy.ensures.come
+    c.insert_at_back.ensures.placed.moved

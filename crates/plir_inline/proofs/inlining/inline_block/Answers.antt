@@ -1,4 +1,6 @@
 use Rattle.std.proofs.Common.{map}
+use Rattle.plir_core.specs.declared.ptr.IRNode.TheVariants.{BasicBlock}
+use Rattle.plir_copies.specs.Room.{tree_count}
 use Rattle.plir_copies.specs.Trees.{node_copy}
 use Rattle.plir_inline.proofs.Copied.{can-put, copy-ends}
 use Rattle.plir_inline.proofs.FromCopy.{inlined}
@@ -29,3 +31,9 @@ returns-clause-ok g c =
     made done.0 done.1 in
     inlined g.D.OpSet.attr_handles s t c.args.call c.args.block c.in_ok-copy.copy c.requires whole fs ft made done.0 done.1
     u (c.put_in_place.ensures.put (done.1.copies.op c.requires.last) (map (node_copy done.1.copies) c.requires.body) ends) c.copy_tree.ensures.types
+
+pub returns-clause-room : goal.returns-clause-room
+returns-clause-room g c =
+    let s = c.args.ctx.now in
+    c.room_is_used_up.ensures.had s c.copy_tree.new.ctx (tree_count s.nodes (BasicBlock c.args.block))
+    c.copy_tree.ensures.whole c.in_ok-copy.ensures.come
