@@ -1,5 +1,6 @@
 -- What branches of flow forward.
-use Rattle.std.specs.Prelude.{◌≡◌, ℕ, ◌+◌, Bool, ◌&&◌, ◌==◌, cond, List, length, sum, slice_index_or, Option, Some, None}
+use Rattle.std.specs.Prelude.{◌≡◌, ℕ, ◌+◌, Bool, ◌&&◌, ◌==◌, cond, List, length, sum, slice_index_or, Option, Some}
+use Rattle.std.specs.Prelude.{None}
 use Rattle.std.specs.Prelude.{option_and_then}
 use Rattle.plir_data.specs.Dictionary.{dict_get}
 use Rattle.plir_data.specs.declared.op_set.OpKind.TheVariants.{Own}

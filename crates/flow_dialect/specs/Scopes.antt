@@ -25,7 +25,8 @@ first_operand op = record { op = op; index = 0; kind = record {} }
 abbrev pub first_argument : Ptr BlockKind → Value
 first_argument body = record { entity = Block body; index = 0 }
 
--- The edges of a scope: into the region, with its first operand for an argument, and from what ends the body to behind it.
+-- The edges of a scope: into the region, with its first operand for an argument, and from what ends the body to behind
+-- it.
 abbrev pub edges_through : Ptr OperationKind → Ptr RegionKind → Value → Ptr OperationKind → List EdgeView
 edges_through op region argument end =
     record {

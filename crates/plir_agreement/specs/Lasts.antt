@@ -47,8 +47,8 @@ module _ {K A T : Type 0} (own_symbol own_table : K → Bool) where
   Lasts c s t = AllAgree own_symbol own_table s c → AllAgree own_symbol own_table t c
 
   module _ (c : Tables) (s t : ContextView K A T) where
-    -- Agreement lasts over an edit of an operation that keeps its name, over an edit of a block, and where one value has
-    -- come in place of another.
+    -- Agreement lasts over an edit of an operation that keeps its name, over an edit of a block, and where one value
+    -- has come in place of another.
     pub record EditsLast : Type 0 where
       pub op : (p : Ptr OperationKind) (f : OpView K A → OpView K A) → KeepsName f → IsOpEdited s t p f → Lasts c s t
       pub block : (b : Ptr BasicBlockKind) (f : BlockView A → BlockView A) → IsBlockEdited s t b f → Lasts c s t

@@ -23,8 +23,8 @@ pub fn edits_keep_agreement<D: OpSet>()
     stayed_tables_agree::<D>();
 }
 
-/// Tables that agreed agree after an operation that is no symbol was put into a block, taken out of one, moved, or erased
-/// with all below it. The premises are the clauses of the calls.
+/// Tables that agreed agree after an operation that is no symbol was put into a block, taken out of one, moved, or
+/// erased with all below it. The premises are the clauses of the calls.
 pub fn moves_keep_agreement<D: OpSet>()
     ensures { (c : Tables) (s t : ContextView D.Kind D.Attr D.Ty) (p : AnyPtr OperationKind) →
         IsWellFormed D.attr_handles s → IsWellFormed D.attr_handles t → IsNoSymbol D.is_symbol s p →

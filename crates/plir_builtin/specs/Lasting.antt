@@ -32,16 +32,16 @@ module _ {K A T : Type 0} (own_symbol own_table : K → Bool) (own_handles : A �
       AllAgree own_symbol own_table s c → AllAgree own_symbol own_table t c
 
 module _ {K A T : Type 0} (own_symbol own_table : K → Bool) (s t : ContextView K A T) where
-  -- From s to t an operation has stayed a table: it is of a table kind if it was, has a body if it had one, and the same
-  -- symbols stand in it in their order, with the names that they had.
+  -- From s to t an operation has stayed a table: it is of a table kind if it was, has a body if it had one, and the
+  -- same symbols stand in it in their order, with the names that they had.
   pub record StaysTable (p : Ptr OperationKind) : Type 0 where
     pub kind : is_table_kind own_table (kind_in (op_at s p)) ≡ true →
         is_table_kind own_table (kind_in (op_at t p)) ≡ true
     pub body : IsSome (body s p) → IsSome (body t p)
     pub symbols : symbols own_symbol t p ≡ symbols own_symbol s p
 
-  -- Each table that is cached for an operation which is live in t, or is its, was cached so for a live one in s, and its
-  -- operation has stayed a table.
+  -- Each table that is cached for an operation which is live in t, or is its, was cached so for a live one in s, and
+  -- its operation has stayed a table.
   abbrev pub StayTables : Tables → Type 0
   StayTables c = (p : Ptr OperationKind) (tab : Table) → get c p ≡ Some tab →
       IsLive t (Operation tab.op) ⊎ IsLive t (Operation p) →

@@ -242,9 +242,10 @@ impl SymbolTableCollection {
         }
     }
 
-    /// Makes edits one after another and answers each. `Memory` comes before the first edit, if there is one. While all tables agree,
-    /// each edit is answered and made as scans of the bodies say, whatever is cached, and all tables agree after it. A
-    /// refused edit changes no node and no table that was cached; its own table may have been newly cached.
+    /// Makes edits one after another and answers each. `Memory` comes before the first edit, if there is one. While all
+    /// tables agree, each edit is answered and made as scans of the bodies say, whatever is cached, and all tables
+    /// agree after it. A refused edit changes no node and no table that was cached; its own table may have been newly
+    /// cached.
     pub fn apply_all<D: OpSet>(
         &mut self,
         ctx: &mut Context<D>,

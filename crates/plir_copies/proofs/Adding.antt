@@ -1,5 +1,6 @@
 -- Nodes that are made and then put last below another one.
-use Rattle.std.proofs.Common.{◌≡◌, ◌∙◌, ◌++◌, true, true≢false, List, [], ◌∷◌, Option, Some, None, refl, sym, ap, subst, map, option_map}
+use Rattle.std.proofs.Common.{◌≡◌, ◌∙◌, ◌++◌, true, true≢false, List, [], ◌∷◌, Option, Some, None, refl, sym, ap, subst}
+use Rattle.std.proofs.Common.{map, option_map}
 use Rattle.std.proofs.lemmas.Option.{none-some}
 use Rattle.plir_store.specs.Table.{is_live_at}
 use Rattle.plir_core.specs.declared.ptr.IRNode.{IRNode}

@@ -14,14 +14,16 @@ use Rattle.plir_copies.specs.declared.trees.Twin.{Twin}
 use Rattle.plir_copies.specs.Images.{Images, AreImagesLive, no_images, over}
 use Rattle.plir_copies.specs.Room.{one_like, count_of, tree_count, IsFullFor, HaveCome}
 use Rattle.plir_copies.specs.Trees.{IsCopyOfTree}
-use Rattle.plir_copies.specs.Twins.{AreOfOneKind, CanStandAlone, HoldsAs, IsTwin, IsCopying, AreChanged, copies_of, with_twins}
+use Rattle.plir_copies.specs.Twins.{AreOfOneKind, CanStandAlone, HoldsAs, IsTwin, IsCopying, AreChanged, copies_of}
+use Rattle.plir_copies.specs.Twins.{with_twins}
 use Rattle.plir_copies.proofs.Become.{holds-copies}
 use Rattle.plir_copies.proofs.Below.{holds-now}
 use Rattle.plir_copies.proofs.Keeping.{images-keep}
 use Rattle.plir_copies.proofs.Mapped.{live-all, live-over}
 use Rattle.plir_copies.proofs.RoomLaws.{come_one, come_still, count_one, full_more}
 use Rattle.plir_copies.proofs.TreeNodes.{tree-most}
-use Rattle.plir_copies.proofs.Whole.{IsWholeCopy, has-become, made-changed, tree-come, tree-copied, whole-copy, copies_in}
+use Rattle.plir_copies.proofs.Whole.{IsWholeCopy, has-become, made-changed, tree-come, tree-copied, whole-copy}
+use Rattle.plir_copies.proofs.Whole.{copies_in}
 
 -- a copy of what can stand alone can stand alone
 pub stands-alone : (n c : IRNode) → AreOfOneKind n c → CanStandAlone n → CanStandAlone c

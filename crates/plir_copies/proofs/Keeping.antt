@@ -13,7 +13,8 @@ use Rattle.plir_core.specs.Above.{Reaches}
 use Rattle.plir_core.specs.Changes.{SameLive}
 use Rattle.plir_core.specs.Contents.{OpView}
 use Rattle.plir_core.specs.ContextView.{ContextView, IsLive, IsValueLive, is_live, op_at, parent_of}
-use Rattle.plir_core.specs.ContextView.{entity_node, types_from, results_in, arguments_in, result_types_of, arg_types_of}
+use Rattle.plir_core.specs.ContextView.{entity_node, types_from, results_in, arguments_in, result_types_of}
+use Rattle.plir_core.specs.ContextView.{arg_types_of}
 use Rattle.plir_core.specs.Held.{IsOpEdited}
 use Rattle.plir_core.specs.Made.{KeepsLive, IsMade}
 use Rattle.plir_core.specs.SameValue.{same_ptr, ptr-exact}

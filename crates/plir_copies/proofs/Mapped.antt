@@ -1,5 +1,6 @@
 -- What a map holds into which the copies of the nodes of a list are put, one after another.
-use Rattle.std.proofs.Common.{◌≡◌, ◌∙◌, ◌⊎◌, ℕ, Bool, true, false, true≢false, cond, ◌&&◌, nat_lt, List, [], ◌∷◌, length}
+use Rattle.std.proofs.Common.{◌≡◌, ◌∙◌, ◌⊎◌, ℕ, Bool, true, false, true≢false, cond, ◌&&◌, nat_lt, List, [], ◌∷◌}
+use Rattle.std.proofs.Common.{length}
 use Rattle.std.proofs.Common.{Option, Some, None, inl, inr, refl, sym, ap, subst}
 use Rattle.std.specs.Option.{option_or}
 use Rattle.plir_store.specs.Members.{Has, Distinct}
@@ -12,7 +13,8 @@ use Rattle.plir_core.specs.declared.value.Value.{Value}
 use Rattle.plir_core.specs.declared.value.DefiningEntity.{DefiningEntity}
 use Rattle.plir_core.specs.declared.value.DefiningEntity.TheVariants.{Op, Block}
 use Rattle.plir_core.specs.SameValue.{same_ptr, same_entity, ptr-exact, entity-exact}
-use Rattle.plir_core.specs.ContextView.{ContextView, IsLive, IsValueLive, entity_node, types_from, results_in, arguments_in}
+use Rattle.plir_core.specs.ContextView.{ContextView, IsLive, IsValueLive, entity_node, types_from, results_in}
+use Rattle.plir_core.specs.ContextView.{arguments_in}
 use Rattle.plir_copies.specs.declared.trees.Twin.{Twin}
 use Rattle.plir_copies.specs.Images.{Images, AreImagesLive, over}
 use Rattle.plir_copies.specs.Copied.{is_among_first, value_at}

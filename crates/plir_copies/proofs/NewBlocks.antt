@@ -12,7 +12,8 @@ use Rattle.plir_core.specs.declared.ptr.IRNode.{IRNode}
 use Rattle.plir_core.specs.declared.ptr.IRNode.TheVariants.{BasicBlock}
 use Rattle.plir_core.specs.Above.{Reaches}
 use Rattle.plir_core.specs.Contents.{BlockView}
-use Rattle.plir_core.specs.ContextView.{ContextView, IsLive, is_live, block_at, parent_of, block_attributes_in, label_in}
+use Rattle.plir_core.specs.ContextView.{ContextView, IsLive, is_live, block_at, parent_of, block_attributes_in}
+use Rattle.plir_core.specs.ContextView.{label_in}
 use Rattle.plir_core.specs.ContextView.{arguments_in}
 use Rattle.plir_core.specs.WellFormed.{IsWellFormed}
 use Rattle.plir_core.specs.Held.{IsBlockEdited}

@@ -1,5 +1,6 @@
 -- What a copied tree is, once all of it is copied.
-use Rattle.std.proofs.Common.{◌≡◌, ◌∙◌, ◌⊎◌, ℕ, zero, suc, Bool, true, false, true≢false, cond, List, [], ◌∷◌, ◌++◌, map}
+use Rattle.std.proofs.Common.{◌≡◌, ◌∙◌, ◌⊎◌, ℕ, zero, suc, Bool, true, false, true≢false, cond, List, [], ◌∷◌, ◌++◌}
+use Rattle.std.proofs.Common.{map}
 use Rattle.std.proofs.Common.{Option, Some, None, inl, inr, refl, sym, ap, subst, option_map}
 use Rattle.std.proofs.lemmas.Option.{same_Some, none-some}
 use Rattle.plir_store.specs.Members.{Has, Distinct}
@@ -21,7 +22,8 @@ use Rattle.plir_copies.specs.Images.{Images}
 use Rattle.plir_copies.specs.Copied.{op_under}
 use Rattle.plir_copies.specs.Room.{count_of, tree_count, HaveCome}
 use Rattle.plir_copies.specs.Trees.{Copies, node_copy, HoldsTheSame, IsCopied, IsTreeCopied}
-use Rattle.plir_copies.specs.Twins.{nodes_of, copies_of, AreOfOneKind, HoldsAs, IsTwin, AreTogether, IsCopying, AreChanged}
+use Rattle.plir_copies.specs.Twins.{nodes_of, copies_of, AreOfOneKind, HoldsAs, IsTwin, AreTogether, IsCopying}
+use Rattle.plir_copies.specs.Twins.{AreChanged}
 use Rattle.plir_copies.proofs.TreeNodes.{climb-none, tree-counted}
 use Rattle.plir_copies.proofs.Twins.{holds-kind}
 

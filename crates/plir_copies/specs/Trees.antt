@@ -9,7 +9,8 @@ use Rattle.plir_core.specs.declared.ptr.IRNode.TheVariants.{Operation, Region, B
 use Rattle.plir_core.specs.declared.value.Value.{Value}
 use Rattle.plir_core.specs.declared.value.DefiningEntity.{DefiningEntity}
 use Rattle.plir_core.specs.declared.value.DefiningEntity.TheVariants.{Op, Block}
-use Rattle.plir_core.specs.ContextView.{ContextView, IsLive, IsValueLive, IsAncestor, is_live, children, op_at, block_at}
+use Rattle.plir_core.specs.ContextView.{ContextView, IsLive, IsValueLive, IsAncestor, is_live, children, op_at}
+use Rattle.plir_core.specs.ContextView.{block_at}
 use Rattle.plir_core.specs.ContextView.{entity_node}
 use Rattle.plir_copies.specs.Images.{Images}
 use Rattle.plir_copies.specs.Copied.{op_under}

@@ -104,8 +104,8 @@ module _ {K A T : Type 0} where
       IsMismatch (types_within s op (forwards i)) (argument_types s b) m ×
       ((k : ℕ) → k < i → AgreesAt s op forwards k)))
 
-  -- each successor before the first whose types do not agree gets the right ones, and that one gets as many values as it
-  -- has arguments
+  -- each successor before the first whose types do not agree gets the right ones, and that one gets as many values as
+  -- it has arguments
   abbrev pub DifferInTypes : ContextView K A T → Ptr OperationKind → (forwards : ℕ → Range) → Type 0
   DifferInTypes s op forwards = (m : Mismatch) × (IsFirstMismatch s op forwards m × IsOfTypes m)
 

@@ -1,7 +1,7 @@
 -- What the contracts of this crate cite.
 --
---   Told       told_of: what is told of an operation by what it holds; by_own_kind, told_by_kind: as its own kind tells;
---   IsAmongOperands: places among its operands
+--   Told       told_of: what is told of an operation by what it holds; by_own_kind, told_by_kind: as its own kind
+--              tells; IsAmongOperands: places among its operands
 --   Calls      CallView: a call; IsCallLive: what it names is there; arguments_of: its arguments; IsToldCall: what an
 --   op set tells is what an interface says
 --   Branches   forwarded_to: what a successor gets; IsToldBranch: what an op set tells is what an interface says

@@ -43,8 +43,8 @@ module _ {K A T : Type 0} where
     pub holds : op_at t p ≡ Some (constant_view n)
 
   -- From s to t an operation has come for one that uses it: its first result is an operand of an operation that was
-  -- there, and no other operand; and it stands before this one in its block, with nothing between them but what has come
-  -- too.
+  -- there, and no other operand; and it stands before this one in its block, with nothing between them but what has
+  -- come too.
   pub record IsForUser (s t : ContextView K A T) (p : Ptr OperationKind) : Type 0 where
     pub user : Ptr OperationKind
     pub index : ℕ
@@ -77,9 +77,9 @@ module _ {K A T : Type 0} where
     IsSameOrReplaced s t v w = (w ≡ v) ⊎ IsReplaced s t v w
 
     -- From s to t operands that were no constants were replaced by new constants of what they evaluate to, and nothing
-    -- else has changed: each node is there, where it stood, in its order, and holds what it held but for these operands.
-    -- What is new are constants, each for one that uses it alone: so there is none without a use, one for each operand
-    -- that changed, and each comes before its user.
+    -- else has changed: each node is there, where it stood, in its order, and holds what it held but for these
+    -- operands. What is new are constants, each for one that uses it alone: so there is none without a use, one for
+    -- each operand that changed, and each comes before its user.
     pub record IsFolded (s t : ContextView K A T) : Type 0 where
       pub live : (n : IRNode) → IsLive s n → IsLive t n
       pub new : (n : IRNode) → IsLive t n → is_live s n ≡ false →

@@ -1,5 +1,6 @@
 -- Which operations are listed and what waits, while operations are folded behind those that make their operands.
-use Rattle.std.specs.Prelude.{◌≡◌, ◌≢◌, ◌↔◌, ◌⊎◌, ◌+◌, ◌*◌, ◌^◌, ◌≤◌, ◌++◌, ◌∷◌, ◌&&◌, [], ℕ, Bool, true, nat_eq, length}
+use Rattle.std.specs.Prelude.{◌≡◌, ◌≢◌, ◌↔◌, ◌⊎◌, ◌+◌, ◌*◌, ◌^◌, ◌≤◌, ◌++◌, ◌∷◌, ◌&&◌, [], ℕ, Bool, true, nat_eq}
+use Rattle.std.specs.Prelude.{length}
 use Rattle.std.specs.List.{list_any}
 use Rattle.std.specs.declared.ops.ControlFlow.{ControlFlow}
 use Rattle.std.specs.declared.ops.ControlFlow.TheVariants.{Continue, Break}
@@ -39,8 +40,8 @@ pub record IsPut (p : Ptr OperationKind) (w w' : Worklist) : Type 0 where
   pub listed : (q : Ptr OperationKind) → IsListed w' q ↔ (IsListed w q ⊎ (q ≡ p))
   pub waits : w'.waiting.items ≡ w.waiting.items ++ Prepare p ∷ []
 
--- What a call at an operation does to what is listed: it is put, if it is not the root, or nothing is done, and the walk
--- goes on; or the walk is broken off.
+-- What a call at an operation does to what is listed: it is put, if it is not the root, or nothing is done, and the
+-- walk goes on; or the walk is broken off.
 abbrev pub IsListedAt : {B : Type 0} → Ptr OperationKind → Worklist → Ptr OperationKind → ControlFlow B WalkContinue →
     Worklist → Type 0
 IsListedAt r w p (Continue Advance) w' = (w' ≡ w) ⊎ ((p ≢ r) × IsPut p w w')

@@ -1,5 +1,6 @@
 -- What holds of the first elements of a list, one more at a time.
-use Rattle.std.proofs.Common.{◌≡◌, ◌+◌, ℕ, zero, suc, arith, Bool, true, false, ◌&&◌, eqb, not, List, [], ◌∷◌, ◌++◌, take, map}
+use Rattle.std.proofs.Common.{◌≡◌, ◌+◌, ℕ, zero, suc, arith, Bool, true, false, ◌&&◌, eqb, not, List, [], ◌∷◌, ◌++◌}
+use Rattle.std.proofs.Common.{take, map}
 use Rattle.std.proofs.Common.{Some, inl, inr, refl, sym, ap, subst, ◌∙◌}
 use Rattle.std.specs.Prelude.{◌↔◌, IsTrue, slice_get}
 use Rattle.std.proofs.lemmas.List.{take_more}

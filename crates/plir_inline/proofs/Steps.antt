@@ -17,7 +17,8 @@ use Rattle.plir_core.specs.declared.value.DefiningEntity.{DefiningEntity}
 use Rattle.plir_core.specs.declared.value.DefiningEntity.TheVariants.{Op, Block}
 use Rattle.plir_core.specs.Above.{Reaches, climb}
 use Rattle.plir_core.specs.ContextView.{ContextView, IsAncestor, IsLive, arg_types_of, block_at, children, given_out}
-use Rattle.plir_core.specs.ContextView.{IsValueLive, arguments_in, entity_node, is_live, op_at, operands_in, operands_of, parent_of}
+use Rattle.plir_core.specs.ContextView.{IsValueLive, arguments_in, entity_node, is_live, op_at, operands_in}
+use Rattle.plir_core.specs.ContextView.{operands_of, parent_of}
 use Rattle.plir_core.specs.ContextView.{result_types_of, results_in, successors_in, successors_of, types_from}
 use Rattle.plir_core.specs.Unused.{IsUnusedOutside}
 use Rattle.plir_core.specs.WellFormed.{IsWellFormed}

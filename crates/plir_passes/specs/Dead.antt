@@ -52,7 +52,7 @@ module _ {K A T : Type 0} where
     AreDead s [] = Unit {0}
     AreDead s (p ∷ ps) = IsUsedBy s ps p × AreDead s ps
 
-    -- No operation is left below a node that may go and that no other uses. One that nothing but a dead operation outside
-    -- uses is not of these.
+    -- No operation is left below a node that may go and that no other uses. One that nothing but a dead operation
+    -- outside uses is not of these.
     abbrev pub HasNoDead : ContextView K A T → IRNode → Type 0
     HasNoDead s r = (p : Ptr OperationKind) → IsBelow (look s) r (Operation p) → IsUsedBy s [] p → ⊥

@@ -55,8 +55,8 @@ module _ {K A T : Type 0} (effect ends : K → Bool) (s : ContextView K A T) whe
     pub dead : (p : Ptr OperationKind) → IsBelow (look s) (Operation r) (Operation p) → IsUsedBy effect ends s [] p →
         Waits w p
 
-  -- From w to w' operations were taken up to one that is dead, or all, and none of them is: what was taken before it, and
-  -- doesn't wait once more, is not dead.
+  -- From w to w' operations were taken up to one that is dead, or all, and none of them is: what was taken before it,
+  -- and doesn't wait once more, is not dead.
   abbrev pub IsNextDead : Worklist → Option (Ptr OperationKind) → Worklist → Type 0
   IsNextDead w None w' = (p : Ptr OperationKind) → Waits w p → IsUsedBy effect ends s [] p → ⊥
   IsNextDead w (Some q) w' = IsUsedBy effect ends s [] q × Waits w q ×

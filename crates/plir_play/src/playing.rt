@@ -1,6 +1,6 @@
 //! From the words of the command line to scripts that are played.
 use crate::layers::play_script;
-use crate::script::{MARK, script_of};
+use crate::script::{MARK, Script, script_of};
 use plir_scripts::Mismatch;
 use std::env::{self, Args};
 use std::fs;
@@ -18,7 +18,8 @@ pub fn play_files(rt: &HostRuntime) -> io::Result<bool> {
     let mut words = env::args(rt)?;
     let _program = words.next();
     let Some(first) = words.next() else {
-        return Ok(true);
+        let _told = eprintln!(rt; "plir_play: no file is named");
+        return Ok(false);
     };
     if first.as_str() == "--only" {
         let name = words.next().unwrap_or(String::new(rt.alloc()));
@@ -46,8 +47,13 @@ fn play_file(rt: &HostRuntime, path: &str, chosen: Chosen<'_>) -> io::Result<boo
     };
     let (mut count, mut are_right) = (0usize, true);
     for part in text.split(MARK).skip(1) {
-        if is_chosen(chosen, part) {
-            are_right = play_part(rt, path, part) && are_right;
+        let Some(script) = script_of(part) else {
+            let _told = eprintln!(rt; "{path}: no head of a script: {part}");
+            are_right = false;
+            continue;
+        };
+        if is_chosen(chosen, script.name) {
+            are_right = play_one(rt, path, &script) && are_right;
             count = count.saturating_add(1);
         }
     }
@@ -55,22 +61,18 @@ fn play_file(rt: &HostRuntime, path: &str, chosen: Chosen<'_>) -> io::Result<boo
     Ok(are_right)
 }
 
-// Whether a script is to be played.
-fn is_chosen(chosen: Chosen<'_>, part: &str) -> bool {
-    match (chosen, script_of(part)) {
-        (Chosen::Only(name), Some(script)) => script.name == name,
-        _ => true,
+// Whether the script of a name is to be played.
+fn is_chosen(chosen: Chosen<'_>, name: &str) -> bool {
+    match chosen {
+        Chosen::All => true,
+        Chosen::Only(wanted) => name == wanted,
     }
 }
 
 // Plays a script, and tells what is not as it says.
-fn play_part(rt: &HostRuntime, path: &str, part: &str) -> bool {
-    let Some(script) = script_of(part) else {
-        let _told = eprintln!(rt; "{path}: no head of a script: {part}");
-        return false;
-    };
+fn play_one(rt: &HostRuntime, path: &str, script: &Script<'_>) -> bool {
     let name = script.name;
-    match play_script(rt.alloc(), &script) {
+    match play_script(rt.alloc(), script) {
         Some(Ok(())) => return true,
         Some(Err(Mismatch::Answer { line, found })) => {
             let _told = eprintln!(rt; "{path}: {name}: {line}: found {found}");

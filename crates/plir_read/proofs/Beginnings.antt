@@ -28,7 +28,8 @@ use Rattle.plir_read.specs.Room.{NodeCount, together, no_node, one_leaf, one_op,
 use Rattle.plir_read.specs.Room.{IsFullFor, HaveCome, IsBrace, IsBegun, BeginsTooMany, HasNoRoom, LacksRoom}
 use Rattle.plir_read.specs.declared.heads.BodyKind.{BodyKind}
 use Rattle.plir_read.specs.declared.heads.HeadKind.TheVariants.{Bodied}
-use Rattle.plir_read.proofs.OpFound.{by_semicolon, semicolon_found, by_brace, brace_found, header_found, block_head_found}
+use Rattle.plir_read.proofs.OpFound.{by_semicolon, semicolon_found, by_brace, brace_found, header_found}
+use Rattle.plir_read.proofs.OpFound.{block_head_found}
 use Rattle.plir_read.proofs.OpFound.{op_found, block_found, ops_wrote, chain_wrote}
 use Rattle.plir_read.proofs.RoomLaws.{IsAtMost, part_at_most, together_none, count_all, count_append, ops_counted}
 use Rattle.plir_read.proofs.RoomLaws.{blocks_counted, full_more, full_before, come_itself, come_on, come_moved}

@@ -24,10 +24,12 @@ use Rattle.plir_attr_text.specs.laws.LeavesAgain.{string_again}
 use Rattle.plir_attr_text.specs.laws.LeavesFound.{string_found, size_at-shorter, given_name_at-shorter}
 use Rattle.plir_attr_text.specs.laws.StepLaws.{chosen}
 use Rattle.plir_read.specs.FaultsMet.{IsWrong, a_string}
-use Rattle.plir_read.proofs.DecidedTypes.{steady_sign, WordAnswers, steady_word, steady_made, steady_deep, steady_closed}
+use Rattle.plir_read.proofs.DecidedTypes.{steady_sign, WordAnswers, steady_word, steady_made, steady_deep}
+use Rattle.plir_read.proofs.DecidedTypes.{steady_closed}
 use Rattle.plir_read.proofs.DecidedTypes.{closed, steady_items, wrong_word, else_err, steady_type}
 use Rattle.plir_read.proofs.DecidedValues.{firm_of, steady_value}
-use Rattle.plir_read.proofs.Deciding.{pairs, bare, Stopping, Steady, decided_as, bind_err, err_first, ok_first, steady_as, steady_bind, steady_done}
+use Rattle.plir_read.proofs.Deciding.{pairs, bare, Stopping, Steady, decided_as, bind_err, err_first, ok_first}
+use Rattle.plir_read.proofs.Deciding.{steady_as, steady_bind, steady_done}
 use Rattle.plir_read.proofs.OneToken.{Answers, steady_token}
 
 -- ---- words and numbers

@@ -31,7 +31,8 @@ use Rattle.plir_read.proofs.DecidedTypes.{steady_sign, steady_separator, steady_
 use Rattle.plir_read.proofs.DecidedTypes.{closed, steady_closed, steady_enclosed, steady_items, wrong_word, else_err}
 use Rattle.plir_read.proofs.DecidedTypes.{steady_type}
 use Rattle.plir_read.proofs.OpFound.{argument_at-shorter, block_at-shorter, op_at-shorter}
-use Rattle.plir_read.proofs.Deciding.{next, next_of, pairs, bare, Steady, steady_as, steady_bind, steady_done, steady_choice}
+use Rattle.plir_read.proofs.Deciding.{next, next_of, pairs, bare, Steady, steady_as, steady_bind, steady_done}
+use Rattle.plir_read.proofs.Deciding.{steady_choice}
 use Rattle.plir_read.proofs.DecidedAttrs.{steady_name, steady_entry, steady_attr}
 use Rattle.plir_read.proofs.OneByOne.{Shrinks, steady_more}
 

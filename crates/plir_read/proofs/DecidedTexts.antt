@@ -1,6 +1,7 @@
 -- The tokens decide which fault a text meets.
 use Rattle.std.proofs.Common.{◌≡◌, ◌≢◌, ℕ, zero, suc, ◌<◌, nat_eq, Bool, true, false, true≢false, cond, ◌&&◌}
-use Rattle.std.proofs.Common.{List, [], ◌∷◌, ◌++◌, length, codes, Result, Ok, Err, refl, sym, ap, subst, ◌∙◌, arith, inl}
+use Rattle.std.proofs.Common.{List, [], ◌∷◌, ◌++◌, length, codes, Result, Ok, Err, refl, sym, ap, subst, ◌∙◌, arith}
+use Rattle.std.proofs.Common.{inl}
 use Rattle.std.proofs.Common.{inr}
 use Rattle.std.proofs.lemmas.Bool.Decides.{Decides-eqb}
 use Rattle.plir_data.specs.Identifier.{is_identifier, is_letter, is_digit}
@@ -34,7 +35,8 @@ use Rattle.plir_read.proofs.OpAgain.{op_within_again}
 use Rattle.plir_read.proofs.OpFound.{op_found}
 use Rattle.plir_read.proofs.StartAgain.{last_again, next_again}
 use Rattle.plir_read.proofs.StartFound.{id_of, NamesBefore, by_equals, start_found}
-use Rattle.plir_read.proofs.Deciding.{fault, pairs, Stopping, Steady, decided_as, decided_behind, bind_err, err_first, ok_first, stops_bind, steady_bind, steady_done}
+use Rattle.plir_read.proofs.Deciding.{fault, pairs, Stopping, Steady, decided_as, decided_behind, bind_err, err_first}
+use Rattle.plir_read.proofs.Deciding.{ok_first, stops_bind, steady_bind, steady_done}
 use Rattle.plir_read.proofs.OneToken.{plain, plain_takes, plain_looks}
 use Rattle.plir_read.proofs.DecidedValues.{firm_of}
 

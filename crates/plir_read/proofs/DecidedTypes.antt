@@ -24,7 +24,8 @@ use Rattle.plir_attr_text.specs.TypeReading.{integer_at, function_at, type_head,
 use Rattle.plir_attr_text.specs.laws.StepLaws.{chosen}
 use Rattle.plir_attr_text.specs.laws.TypesFound.{type_at-shorter}
 use Rattle.plir_read.specs.FaultsMet.{IsWrong}
-use Rattle.plir_read.proofs.Deciding.{next, next_of, fault, pairs, bare, Steady, steady_as, steady_bind, steady_done, steady_choice}
+use Rattle.plir_read.proofs.Deciding.{next, next_of, fault, pairs, bare, Steady, steady_as, steady_bind, steady_done}
+use Rattle.plir_read.proofs.Deciding.{steady_choice}
 use Rattle.plir_read.proofs.OneToken.{Answers, steady_token}
 use Rattle.plir_read.proofs.OneByOne.{Shrinks, steady_more}
 

@@ -27,7 +27,8 @@ use Rattle.plir_attr_text.specs.laws.TypesFound.{integer_found}
 use Rattle.plir_read.specs.FaultsMet.{IsWrong, IsValueOf, IsUnsupported, anything}
 use Rattle.plir_read.proofs.DecidedTypes.{steady_sign, steady_deep}
 use Rattle.plir_read.proofs.DecidedTypes.{steady_integer}
-use Rattle.plir_read.proofs.Deciding.{pairs, bare, Firm, Stopping, Steady, decided_as, bind_err, err_first, ok_first, steady_as, steady_bind, steady_done}
+use Rattle.plir_read.proofs.Deciding.{pairs, bare, Firm, Stopping, Steady, decided_as, bind_err, err_first, ok_first}
+use Rattle.plir_read.proofs.Deciding.{steady_as, steady_bind, steady_done}
 use Rattle.plir_read.proofs.OneToken.{Answers, steady_token}
 
 -- what is found where it stands, and read where it stands

@@ -10,7 +10,8 @@ use Rattle.plir_attr_text.specs.Tokens.{Token, word, digits, signed, quoted, arr
 use Rattle.plir_attr_text.specs.laws.Begun.{Begins-append, Begins-split}
 use Rattle.plir_attr_text.specs.laws.StepLaws.{bind_ok, done, ok_is}
 use Rattle.plir_attr_text.specs.declared.fault.Fault.TheVariants as faults
-use Rattle.plir_read.specs.FaultsMet.{names_and_id, IsWrong, Behind, anything, the_end, a_string, Comes, IsCause, IsDecided}
+use Rattle.plir_read.specs.FaultsMet.{names_and_id, IsWrong, Behind, anything, the_end, a_string, Comes, IsCause}
+use Rattle.plir_read.specs.FaultsMet.{IsDecided}
 
 abbrev pub fault : {A : Type 0} → Fault → Result A Fault
 fault f = Err f

@@ -9,7 +9,8 @@ use Rattle.plir_attr_text.specs.laws.Begun.{Begins-append, Begins-split, Begins-
 use Rattle.plir_attr_text.specs.laws.StepLaws.{bind_ok, ok_is}
 use Rattle.plir_read.proofs.StartAgain.{last_again, next_again}
 use Rattle.plir_read.specs.FaultsMet.{IsDecided}
-use Rattle.plir_read.proofs.Deciding.{next, alike, pairs, FirmAt, Steady, decided_as, decided_behind, bind_err, err_first}
+use Rattle.plir_read.proofs.Deciding.{next, alike, pairs, FirmAt, Steady, decided_as, decided_behind, bind_err}
+use Rattle.plir_read.proofs.Deciding.{err_first}
 use Rattle.plir_read.proofs.Deciding.{ok_first}
 
 pub tokens_some : (ts : List Token) (bytes rest : List ℕ) → Begins bytes ts rest → length rest < length bytes →

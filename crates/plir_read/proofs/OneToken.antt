@@ -7,7 +7,8 @@ use Rattle.plir_attr_text.specs.declared.fault.Fault.{Fault}
 use Rattle.plir_attr_text.specs.declared.fault.Fault.TheVariants.{Unexpected}
 use Rattle.plir_attr_text.specs.Bytes.{is_blank, past, begins}
 use Rattle.plir_attr_text.specs.Steps.{◌>>=◌}
-use Rattle.plir_attr_text.specs.Tokens.{Token, word, digits, signed, quoted, arrow, sign, look, Takes, is_mark, token_at}
+use Rattle.plir_attr_text.specs.Tokens.{Token, word, digits, signed, quoted, arrow, sign, look, Takes, is_mark}
+use Rattle.plir_attr_text.specs.Tokens.{token_at}
 use Rattle.plir_attr_text.specs.laws.StepLaws.{bind_ok, done, ok_is, chosen}
 use Rattle.plir_read.specs.FaultsMet.{IsWrong, anything, the_end}
 use Rattle.plir_read.proofs.Deciding.{fault, Way, Firm, Stopping, Steady, bind_err, err_first, ok_first}

@@ -1,5 +1,6 @@
 -- Which fault a text meets where an operation has to stand, and where that is seen.
-use Rattle.std.specs.Prelude.{◌≡◌, ◌≢◌, ◌⊎◌, ◌<◌, ◌≤◌, ◌-◌, ◌^◌, ℕ, List, [], ◌∷◌, ◌++◌, length, Bool, true, false, codes}
+use Rattle.std.specs.Prelude.{◌≡◌, ◌≢◌, ◌⊎◌, ◌<◌, ◌≤◌, ◌-◌, ◌^◌, ℕ, List, [], ◌∷◌, ◌++◌, length, Bool, true, false}
+use Rattle.std.specs.Prelude.{codes}
 use Rattle.std.specs.Prelude.{Ok, Err}
 use Rattle.std.specs.Str.{is_utf8}
 use Rattle.plir_data.specs.Identifier.{is_digit}
@@ -18,9 +19,9 @@ use Rattle.plir_attr_text.specs.declared.fault.Fault.TheVariants.{ForwardRefOpEx
 use Rattle.plir_attr_text.specs.declared.fault.Fault.TheVariants.{TooManyNodes}
 use Rattle.plir_read.specs.OpReading.{op_at}
 
--- With at most n levels open the text meets this fault: what has to stand there is looked for from left to right, as the
--- grammar has it, and this is the first that is wrong. A level that is one too many comes before what is in it, and a
--- number of names before what stands behind the id.
+-- With at most n levels open the text meets this fault: what has to stand there is looked for from left to right, as
+-- the grammar has it, and this is the first that is wrong. A level that is one too many comes before what is in it, and
+-- a number of names before what stands behind the id.
 abbrev pub Meets : (n : ℕ) → (text : List ℕ) → Fault → Type 0
 Meets n text f = whole (op_at n) text ≡ Err f
 

@@ -18,7 +18,8 @@ use Rattle.plir_read.specs.OpGrammar.{OpWithin, OpsWithin, BlockWithin, BodyWith
 use Rattle.plir_read.specs.OpReading.{op_at, ops_at, block_at, blocks_at, bodied_at, header_at, named_constant_at}
 use Rattle.plir_read.specs.OpTerms.{Header, OpTerm, op_term, BlockTerm, ops_of, blocks_of}
 use Rattle.plir_read.specs.OpsStanding.{IsOpAt, IsBlockAt, IsConstantAt, HasOps, HasBlocks}
-use Rattle.plir_read.specs.Room.{NodeCount, one_leaf, op_count, block_count, ops_count, blocks_count, IsFullFor, IsBegun}
+use Rattle.plir_read.specs.Room.{NodeCount, one_leaf, op_count, block_count, ops_count, blocks_count, IsFullFor}
+use Rattle.plir_read.specs.Room.{IsBegun}
 use Rattle.plir_read.specs.Room.{HaveCome, HasNoRoom, LacksRoom}
 use Rattle.plir_read.specs.Stopping.{ReadsOn, ReadsOnFirst, ReadsOnPast}
 use Rattle.plir_read.specs.declared.heads.BodyKind.{BodyKind}

@@ -81,8 +81,8 @@ pub record HaveCome {O B : Type 0} (s t : Nodes O B) (c : NodeCount) : Type 0 wh
 abbrev pub IsBrace : Token → Type 0
 IsBrace t = (t ≡ sign 123) ⊎ (t ≡ sign 125)
 
--- The text begins with x, which may go on behind that: some tokens that stand first in the text, with braces behind them
--- alone, stand for x.
+-- The text begins with x, which may go on behind that: some tokens that stand first in the text, with braces behind
+-- them alone, stand for x.
 pub record IsBegun {X : Type 0} (E : X → List Token → Type 0) (bytes : List ℕ) (x : X) : Type 0 where
   pub front : List Token
   pub rest : List ℕ

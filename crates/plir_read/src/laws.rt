@@ -37,8 +37,8 @@ pub fn levels_come_first()
         Meets m text Fault.TooDeep }
 {}
 
-/// A fault is seen at the tokens that are its cause, and what stands behind them is not looked at: each text that begins
-/// with the same tokens up to there meets the same fault, and so none of them stands for an operation.
+/// A fault is seen at the tokens that are its cause, and what stands behind them is not looked at: each text that
+/// begins with the same tokens up to there meets the same fault, and so none of them stands for an operation.
 pub fn fault_is_decided_at_its_cause()
     ensures { (n : ℕ) (text : List ℕ) (f : Fault) → Meets n text f → IsDecided (λ other. Meets n other f) text f }
 {}

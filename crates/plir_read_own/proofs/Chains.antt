@@ -6,7 +6,8 @@ use Rattle.plir_attr_text.specs.Tokens.{Token, sign, look, Begins}
 use Rattle.plir_attr_text.specs.AttrGrammar.{SpellsIdentifier, SpellsMore}
 use Rattle.plir_attr_text.specs.AttrReading.{name_at}
 use Rattle.plir_attr_text.specs.Lists.{separator_at, more_at}
-use Rattle.plir_attr_text.specs.laws.Begun.{Begins-split, separator, separator_found, separator_at-shorter, closed_again}
+use Rattle.plir_attr_text.specs.laws.Begun.{Begins-split, separator, separator_found, separator_at-shorter}
+use Rattle.plir_attr_text.specs.laws.Begun.{closed_again}
 use Rattle.plir_attr_text.specs.laws.Begun.{comma_again}
 use Rattle.plir_attr_text.specs.laws.Fronts.{GoesOn, with_front}
 use Rattle.plir_attr_text.specs.laws.LeavesAgain.{name_again}

@@ -34,8 +34,8 @@ SpellsUses u ts = (operands successors : List Token) × SpellsSeveral SpellsIden
 abbrev pub SpellsSignature : Signature → List Token → Type 0
 SpellsSignature t ts = SpellsFunction t.operand_types t.result_types ts
 
--- `name = id (operand, operand) [^label, ^label] [key = ATTR, key = ATTR]: <(TYPE, TYPE)->(TYPE)>`, with a type for each
--- operand and for each name of a result
+-- `name = id (operand, operand) [^label, ^label] [key = ATTR, key = ATTR]: <(TYPE, TYPE)->(TYPE)>`, with a type for
+-- each operand and for each name of a result
 pub record SpellsHeader {K : Type 0} (find : List ℕ → Option K) (h : Header K) (ts : List Token) : Type 0 where
   pub names : List Token
   pub id : List Token

@@ -40,8 +40,8 @@ fn read_names(alloc: Global, bytes: &[u8]) -> Result<(Vec<Identifier>, &[u8]), S
     }
 }
 
-// How many bytes are left where names have their fault, with `after` behind the first and `left` where it was met: where
-// the text is cut behind that one it may be cut in an id, and the fault stands at the text's end.
+// How many bytes are left where names have their fault, with `after` behind the first and `left` where it was met:
+// where the text is cut behind that one it may be cut in an id, and the fault stands at the text's end.
 fn unread_name_at(after: &[u8], left: usize) -> usize {
     if ends_at_point(after) { 0 } else { left }
 }

@@ -1,6 +1,8 @@
 -- What each call finds and leaves, by the fields.
-use Rattle.std.proofs.Common.{◌≡◌, ℕ, ◌+◌, ◌-◌, ◌<◌, ◌≤◌, ◌^◌, Bool, true, false, cond, ◌&&◌, ◌==◌, List, [], ◌∷◌, map, length}
-use Rattle.std.proofs.Common.{Option, Some, None, IsSome, IfSome, option_map, inl, inr, refl, sym, ◌∙◌, ap, ap₂, subst, arith}
+use Rattle.std.proofs.Common.{◌≡◌, ℕ, ◌+◌, ◌-◌, ◌<◌, ◌≤◌, ◌^◌, Bool, true, false, cond, ◌&&◌, ◌==◌, List, [], ◌∷◌, map}
+use Rattle.std.proofs.Common.{length}
+use Rattle.std.proofs.Common.{Option, Some, None, IsSome, IfSome, option_map, inl, inr, refl, sym, ◌∙◌, ap, ap₂, subst}
+use Rattle.std.proofs.Common.{arith}
 use Rattle.std.proofs.Common.{get_or, eq-eqb, replicate, ◌++◌, IsTrue, ◌↔◌, not, is_some}
 use Rattle.std.proofs.lemmas.Bool.{cases_eq, ne_eqb}
 use Rattle.std.proofs.lemmas.List.{get_or_read}
@@ -10,16 +12,21 @@ use Rattle.plir_uses.specs.declared.entry.Entry.{Entry}
 use Rattle.plir_uses.specs.declared.site.Owner.{Owner}
 use Rattle.plir_uses.specs.declared.site.Site.{Site}
 use Rattle.plir_uses.specs.Owned.{Owned, slot_of, rows_for, row_at, item_at, with_row, with_opened}
-use Rattle.plir_uses.specs.Uses.{Uses, IsUses, IsFree, list_at, num_values, next_in, with_use, without_use, opened, closed}
+use Rattle.plir_uses.specs.Uses.{Uses, IsUses, IsFree, list_at, num_values, next_in, with_use, without_use, opened}
+use Rattle.plir_uses.specs.Uses.{closed}
 use Rattle.plir_uses.specs.Uses.{same_site}
 use Rattle.plir_uses.specs.UseLaws.{cases_site, same_self}
-use Rattle.plir_uses.specs.Entries.{entry_at, next_at, prev_at, user_at, user_or, site_at, has_user, is_at, seek, list_from}
-use Rattle.plir_uses.specs.Entries.{uses_of, entries_in, entries_out, with_first, put_first_after, IsLaid, IsSound, Linked}
+use Rattle.plir_uses.specs.Entries.{entry_at, next_at, prev_at, user_at, user_or, site_at, has_user, is_at, seek}
+use Rattle.plir_uses.specs.Entries.{list_from}
+use Rattle.plir_uses.specs.Entries.{uses_of, entries_in, entries_out, with_first, put_first_after, IsLaid, IsSound}
+use Rattle.plir_uses.specs.Entries.{Linked}
 use Rattle.plir_uses.specs.Entries.{spare_entry, sites_of, is_any_at}
 use Rattle.plir_uses.proofs.Walks.{any_here, any_one}
-use Rattle.plir_uses.proofs.Laid.{IsStore, laid_now, store, entry_within, entry_alone, next_here, site_here, sites_apart}
+use Rattle.plir_uses.proofs.Laid.{IsStore, laid_now, store, entry_within, entry_alone, next_here, site_here}
+use Rattle.plir_uses.proofs.Laid.{sites_apart}
 use Rattle.plir_uses.proofs.Laid.{Has-map, Has-from_map}
-use Rattle.plir_uses.proofs.Steps.{add_laid, cut_laid, first_within, first_here, prev_within, next_within, out_fits, e_within}
+use Rattle.plir_uses.proofs.Steps.{add_laid, cut_laid, first_within, first_here, prev_within, next_within, out_fits}
+use Rattle.plir_uses.proofs.Steps.{e_within}
 use Rattle.plir_uses.proofs.Steps.{out_value, out_in_h, out_within}
 use Rattle.plir_uses.proofs.Grown.{opened_laid, closed_laid, grown_laid, grown_fits}
 

@@ -1,5 +1,6 @@
 -- Lists by their links: what an entry more, and one fewer, leaves of them.
-use Rattle.std.proofs.Common.{◌≡◌, ℕ, ◌≤◌, zero, suc, List, [], ◌∷◌, map, length, Option, Some, None, cond, eqb, ◌⊎◌, inl}
+use Rattle.std.proofs.Common.{◌≡◌, ℕ, ◌≤◌, zero, suc, List, [], ◌∷◌, map, length, Option, Some, None, cond, eqb, ◌⊎◌}
+use Rattle.std.proofs.Common.{inl}
 use Rattle.std.proofs.Common.{inr, refl, sym, ◌∙◌, ap, subst, arith, eq-eqb}
 use Rattle.std.proofs.lemmas.Bool.{cases_eq, ne_eqb}
 use Rattle.std.proofs.lemmas.Option.{same_Some, none-some}

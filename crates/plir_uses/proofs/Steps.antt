@@ -1,5 +1,6 @@
 -- Each change of the entries, as a change of the lists.
-use Rattle.std.proofs.Common.{◌≡◌, ℕ, ◌+◌, ◌-◌, ◌<◌, ◌^◌, List, [], ◌∷◌, map, length, Option, Some, None, IsSome, IfSome}
+use Rattle.std.proofs.Common.{◌≡◌, ℕ, ◌+◌, ◌-◌, ◌<◌, ◌^◌, List, [], ◌∷◌, map, length, Option, Some, None, IsSome}
+use Rattle.std.proofs.Common.{IfSome}
 use Rattle.std.proofs.Common.{◌⊎◌, inl, inr, refl, sym, ◌∙◌, ap, ap₂, subst, arith, true, false}
 use Rattle.std.proofs.lemmas.Bool.{cases_eq}
 use Rattle.std.proofs.lemmas.Option.{same_Some, none-some}
@@ -15,9 +16,11 @@ use Rattle.plir_uses.specs.OwnedLaws.{length-rows_for-with_item}
 use Rattle.plir_uses.specs.Uses.{Uses, IsUses, IsFree, list_at, num_values, without, with_use, without_use}
 use Rattle.plir_uses.specs.UseLaws.{IsUses-with_use, IsUses-without_use, value_within}
 use Rattle.plir_uses.specs.Entries.{entry_at, next_at, prev_at, user_at, site_at, list_from, is_at, entries_in}
-use Rattle.plir_uses.specs.Entries.{entries_out, with_first, put_first_after, IsListed, IsLaid, Linked, Leads, spare_entry}
+use Rattle.plir_uses.specs.Entries.{entries_out, with_first, put_first_after, IsListed, IsLaid, Linked, Leads}
+use Rattle.plir_uses.specs.Entries.{spare_entry}
 use Rattle.plir_uses.proofs.Written.{used_within, some_none, length-in, in_next, in_user, in_site, in_prev, in_first}
-use Rattle.plir_uses.proofs.Written.{in_next_here, in_user_here, in_site_here, in_prev_here, length-out, out_user, out_site}
+use Rattle.plir_uses.proofs.Written.{in_next_here, in_user_here, in_site_here, in_prev_here, length-out, out_user}
+use Rattle.plir_uses.proofs.Written.{out_site}
 use Rattle.plir_uses.proofs.Written.{out_next, out_next_prev, out_prev, out_prev_next, out_here}
 use Rattle.plir_uses.proofs.Links.{Leads-same, Linked-same, Linked-first, Linked-without, Linked-beside, first_after}
 use Rattle.plir_uses.proofs.Links.{first_in}

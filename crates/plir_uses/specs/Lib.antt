@@ -1,7 +1,8 @@
 -- What the contracts of this crate cite, what its own layouts are told by, and laws for the proofs above.
 --
 --   Owned      Owned: something for each value of each operation and each block
---   Uses       Uses: what a contract sees of `UseLists`; list_at and the changes of each call; Tracks: the lists are right
+--   Uses       Uses: what a contract sees of `UseLists`; list_at and the changes of each call; Tracks: the lists
+--              are right
 --   Hops       how a `Hop` codes a number or none
 --   Rows       how a `Row` holds its first entries
 --   Entries    how `UseLists` lays out its lists

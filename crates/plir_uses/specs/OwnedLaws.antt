@@ -1,14 +1,17 @@
 -- Laws of what each value has, proved beside its words so that the crates above can cite them. No contract cites this
 -- module.
-use Rattle.std.proofs.Common.{◌≡◌, ℕ, ◌+◌, ◌<◌, ◌≤◌, zero, suc, List, [], ◌∷◌, ◌++◌, map, length, get_or, set, replicate}
-use Rattle.std.proofs.Common.{◌⊎◌, inl, inr, refl, sym, ◌∙◌, ap, subst, arith, length-set, cond, eqb, eq-eqb, true, false}
+use Rattle.std.proofs.Common.{◌≡◌, ℕ, ◌+◌, ◌<◌, ◌≤◌, zero, suc, List, [], ◌∷◌, ◌++◌, map, length, get_or, set}
+use Rattle.std.proofs.Common.{replicate}
+use Rattle.std.proofs.Common.{◌⊎◌, inl, inr, refl, sym, ◌∙◌, ap, subst, arith, length-set, cond, eqb, eq-eqb, true}
+use Rattle.std.proofs.Common.{false}
 use Rattle.std.proofs.Common.{get_or-set_same, get_or-set_other, ap₂, set-set}
 use Rattle.std.proofs.lemmas.List.{set-get_or}
 use Rattle.std.proofs.lemmas.Bool.{cases_eq, cases_lt, ne_eqb}
 use Rattle.std.proofs.lemmas.List.{get_or_past, get_or_default, same_lists, length-map}
 use Rattle.plir_uses.specs.declared.site.Owner.{Owner}
 use Rattle.plir_uses.specs.declared.site.Owner.TheVariants.{Op, Block}
-use Rattle.plir_uses.specs.Owned.{Owned, slot_of, rows_for, row_at, item_at, with_row, with_item, with_new_row, with_opened}
+use Rattle.plir_uses.specs.Owned.{Owned, slot_of, rows_for, row_at, item_at, with_row, with_item, with_new_row}
+use Rattle.plir_uses.specs.Owned.{with_opened}
 use Rattle.plir_uses.specs.Owned.{map_owned}
 
 -- two owners are one, or not

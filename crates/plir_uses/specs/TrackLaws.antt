@@ -1,6 +1,7 @@
--- Laws of lists that are right, proved beside their words so that the crates above can cite them. No contract cites this
--- module. `f` says of each place which value stands there, `g` says it once something has changed.
-use Rattle.std.proofs.Common.{◌≡◌, ℕ, ◌+◌, ◌-◌, ◌<◌, ◌≤◌, List, [], ◌∷◌, length, Option, Some, None, ◌⊎◌, inl, inr, refl, sym}
+-- Laws of lists that are right, proved beside their words so that the crates above can cite them. No contract cites
+-- this module. `f` says of each place which value stands there, `g` says it once something has changed.
+use Rattle.std.proofs.Common.{◌≡◌, ℕ, ◌+◌, ◌-◌, ◌<◌, ◌≤◌, List, [], ◌∷◌, length, Option, Some, None, ◌⊎◌, inl, inr}
+use Rattle.std.proofs.Common.{refl, sym}
 use Rattle.std.proofs.Common.{◌∙◌, ap, ap₂, subst, arith, replicate}
 use Rattle.std.proofs.lemmas.Bool.{cases_eq}
 use Rattle.std.proofs.lemmas.Option.{same_Some, none-some}
@@ -10,7 +11,8 @@ use Rattle.plir_uses.specs.declared.site.Site.{Site}
 use Rattle.plir_uses.specs.Owned.{Owned, slot_of, rows_for, row_at, item_at, with_item}
 use Rattle.plir_uses.specs.OwnedLaws.{item_at-with_item_same, item_at-with_item_other, item_at-with_opened}
 use Rattle.plir_uses.specs.OwnedLaws.{item_at-without_row, cases_owner}
-use Rattle.plir_uses.specs.Uses.{Uses, IsUses, IsFree, Tracks, list_at, num_values, with_use, without_use, opened, closed}
+use Rattle.plir_uses.specs.Uses.{Uses, IsUses, IsFree, Tracks, list_at, num_values, with_use, without_use, opened}
+use Rattle.plir_uses.specs.Uses.{closed}
 use Rattle.plir_uses.specs.Uses.{cleared, without}
 use Rattle.plir_uses.specs.UseLaws.{Has-from_without, Has-without, not_in_without, cases_site, same_self, value_within}
 

@@ -1,7 +1,8 @@
 //! Entries: where a value is used, with what comes before and after in its list.
 ghost use Rattle.std.specs.Prelude.{◌≡◌, ℕ, ◌<◌, ◌-◌, ◌^◌, None, Some, IfSome, length, slice_set};
 ghost use Rattle.plir_store.specs.Members.{Has};
-ghost use Rattle.plir_uses.specs.Entries.{first_entry, spare_entry, entry_at, is_at, list_from, put_next, put_prev, seek};
+ghost use Rattle.plir_uses.specs.Entries.{first_entry, spare_entry, entry_at, is_at, list_from, put_next, put_prev};
+ghost use Rattle.plir_uses.specs.Entries.{seek};
 ghost use Rattle.plir_uses.specs.Entries.{is_any_at};
 
 use crate::hop::Hop;

@@ -5,7 +5,8 @@ ghost use Rattle.plir_store.specs.Members.{Has, head};
 ghost use Rattle.plir_uses.specs.Owned.{Owned, rows_for, row_at, item_at, slot_of};
 ghost use Rattle.plir_uses.specs.Uses.{Uses, IsUses, IsFree, list_at, num_values, next_in, with_use, without_use};
 ghost use Rattle.plir_uses.specs.Uses.{opened, cleared, closed};
-ghost use Rattle.plir_uses.specs.Entries.{entry_at, entries_in, entries_out, put_first_after, prev_at, next_at, with_first};
+ghost use Rattle.plir_uses.specs.Entries.{entry_at, entries_in, entries_out, put_first_after, prev_at, next_at};
+ghost use Rattle.plir_uses.specs.Entries.{with_first};
 ghost use Rattle.plir_uses.specs.Entries.{list_from, sites_of, is_at, user_at, site_at};
 
 use crate::entry::{Entry, count, is_any, lead_back, lead_on, lists, put, search};

@@ -38,9 +38,9 @@ fn look_at<D: VerifySet>(
     }
 }
 
-/// Verifies an operation and all below it, parents first: each by the verifier of its kind, builtin or own, and then the
-/// attributes that it holds. Accepts exactly where all have their rules and hold valid attributes, memory aside. Else
-/// reports the first refusal, in the order of the places, with the location of its operation.
+/// Verifies an operation and all below it, parents first: each by the verifier of its kind, builtin or own, and then
+/// the attributes that it holds. Accepts exactly where all have their rules and hold valid attributes, memory aside.
+/// Else reports the first refusal, in the order of the places, with the location of its operation.
 pub fn verify_tree<D: VerifySet>(
     alloc: Global,
     ctx: &Context<D>,

@@ -33,8 +33,8 @@ pub trait VerifySet: SymbolUserSet {
         ensures refused { IfErr result (IsUseRefusal (rule ctx.now op) (rule_refusal ctx.now op)) };
 }
 
-/// Own kinds of operations that say what these must meet, in an op set `D`: what [`VerifySet`] is for the op set of such
-/// kinds alone, `KindSet<Self>`.
+/// Own kinds of operations that say what these must meet, in an op set `D`: what [`VerifySet`] is for the op set of
+/// such kinds alone, `KindSet<Self>`.
 pub trait VerifyKind<D: OpSet>: OwnKind {
     // What an operation of one of the kinds must meet.
     ghost rule: { ContextView D.Kind D.Attr D.Ty → AnyPtr OperationKind → Type 0 };

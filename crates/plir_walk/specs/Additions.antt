@@ -7,12 +7,13 @@ use Rattle.plir_core.specs.declared.value.Value.{Value}
 use Rattle.plir_core.specs.Made.{KeepsLive, IsMade}
 use Rattle.plir_core.specs.Placed.{IsPlaced, IsPlacedBefore}
 use Rattle.plir_core.specs.Forest.{look, IsForest}
-use Rattle.plir_core.specs.ContextView.{ContextView, IsLive, IsValueLive, is_live, given_out, children, parent_of, op_at}
+use Rattle.plir_core.specs.ContextView.{ContextView, IsLive, IsValueLive, is_live, given_out, children, parent_of}
+use Rattle.plir_core.specs.ContextView.{op_at}
 use Rattle.plir_core.specs.ContextView.{type_of_value}
 
 module _ {K A T : Type 0} where
-  -- The tree under x, which was made from s to t, has come right before the mark, under `over`, from t to u. The mark is
-  -- live and where it was; so is all that was live, and it holds what it held.
+  -- The tree under x, which was made from s to t, has come right before the mark, under `over`, from t to u. The mark
+  -- is live and where it was; so is all that was live, and it holds what it held.
   pub record IsNewBefore (s t u : ContextView K A T) (x mark over : IRNode) : Type 0 where
     pub keeps : KeepsLive s.nodes u.nodes
     pub mark_live : IsLive u mark

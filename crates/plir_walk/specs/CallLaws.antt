@@ -13,8 +13,8 @@ use Rattle.plir_walk.specs.Calls.{Call, Relation, Chain, nodes_of}
 use Rattle.plir_walk.specs.Tree.{Tree, IsUnder}
 use Rattle.plir_walk.specs.Walk.{IsDue, Answers, LastBreaks}
 
--- A relation from one context and state to another composes: it holds of each with itself, and of what two steps make of
--- it if it holds of both.
+-- A relation from one context and state to another composes: it holds of each with itself, and of what two steps make
+-- of it if it holds of both.
 pub record Composes {C S : Type 0} (keeps : C → S → C → S → Type 0) : Type 0 where
   pub itself : (c : C) (s : S) → keeps c s c s
   pub on : (c d e : C) (s t u : S) → keeps c s d t → keeps d t e u → keeps c s e u

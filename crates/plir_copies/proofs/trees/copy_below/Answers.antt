@@ -3,7 +3,8 @@ use Rattle.std.proofs.lemmas.Result.{err_from_is_err_and}
 use Rattle.std.specs.Prelude.{slice_get}
 use Rattle.plir_copies.specs.declared.trees.Twin.{Twin}
 use Rattle.plir_copies.specs.Twins.{IsCopying}
-use Rattle.plir_copies.proofs.Below.{all-dropped, all-taken, bare-at, full-tree, refused, step, step-within, twin-at, within-live}
+use Rattle.plir_copies.proofs.Below.{all-dropped, all-taken, bare-at, full-tree, refused, step, step-within, twin-at}
+use Rattle.plir_copies.proofs.Below.{within-live}
 use Rattle.plir_copies.proofs.Twins.{holds-kind, twin-apart}
 use Rattle.plir_copies.proofs.trees.copy_below.Goals as goal
 

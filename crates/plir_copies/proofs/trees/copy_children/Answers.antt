@@ -3,7 +3,8 @@ use Rattle.std.proofs.lemmas.Result.{err_from_is_err_and}
 use Rattle.std.specs.Prelude.{List}
 use Rattle.plir_copies.specs.declared.trees.Twin.{Twin}
 use Rattle.plir_core.specs.ContextView.{children}
-use Rattle.plir_copies.proofs.Children.{AreSomeCopied, all-come, all-copied, child-under, fewer-left, full-here, is-child, some-next, some-none}
+use Rattle.plir_copies.proofs.Children.{AreSomeCopied, all-come, all-copied, child-under, fewer-left, full-here}
+use Rattle.plir_copies.proofs.Children.{is-child, some-next, some-none}
 use Rattle.plir_copies.proofs.Children.{under-alike}
 use Rattle.plir_copies.proofs.Refusals.{refused-as}
 use Rattle.plir_copies.proofs.trees.copy_children.Goals as goal

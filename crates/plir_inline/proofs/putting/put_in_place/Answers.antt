@@ -5,7 +5,8 @@ use Rattle.plir_core.specs.Results.{HasNoUsedResult}
 use Rattle.plir_inline.specs.Given.{IsGiven}
 use Rattle.plir_inline.specs.Put.{IsPut, put}
 use Rattle.plir_inline.specs.Taken.{IsTaken}
-use Rattle.plir_inline.proofs.Steps.{block-leaf, block-live, block-live-e, block-unused, call-leaf, call-linked, call-live}
+use Rattle.plir_inline.proofs.Steps.{block-leaf, block-live, block-live-e, block-unused, call-leaf, call-linked}
+use Rattle.plir_inline.proofs.Steps.{call-live}
 use Rattle.plir_inline.proofs.Steps.{call-live-d, call-unused, is-put, last-live, last-unused, not-above}
 use Rattle.plir_inline.proofs.putting.put_in_place.Goals as goal
 

@@ -27,7 +27,8 @@ use Rattle.plir_read.proofs.OpMade.{arguments_live, block_kept, block_made, bloc
 use Rattle.plir_read.proofs.OpMade.{op_stands, head_live, KeepsOlder-typed, KeepsOlder-on}
 use Rattle.plir_attr_text.specs.laws.Ends.{end_itself, end_on, sign_end}
 use Rattle.plir_read.proofs.OpEnds.{block_head_end, header_end, start_end, op_end, block_end, semicolon_end, brace_end}
-use Rattle.plir_read.proofs.OpSteps.{from_start, ReadsOn-as, as_many, Ends-refused, refused_as, bodied_behind, constant_at_id, constant_reads, no_start}
+use Rattle.plir_read.proofs.OpSteps.{from_start, ReadsOn-as, as_many, Ends-refused, refused_as, bodied_behind}
+use Rattle.plir_read.proofs.OpSteps.{constant_at_id, constant_reads, no_start}
 use Rattle.plir_read.proofs.OpSteps.{no_level, no_head, no_body, bodied_read, no_operations, operations, no_block_head}
 use Rattle.plir_read.proofs.OpSteps.{no_block, block_read, no_brace, no_blocks_inside, blocks}
 use Rattle.plir_read.proofs.TreesInOrder.{none_in_order, root_in_order, op_in_order}

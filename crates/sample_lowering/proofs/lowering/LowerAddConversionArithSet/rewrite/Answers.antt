@@ -5,7 +5,8 @@ use Rattle.plir_core.specs.declared.ptr.IRNode.TheVariants.{Operation}
 use Rattle.plir_core.specs.ContextView.{IsValueLive}
 use Rattle.plir_passes.specs.Prepared.{IsPrepared}
 use Rattle.sample_lowering.specs.Kinds.{is_sum}
-use Rattle.sample_lowering.proofs.lowering.LowerAddConversionArithSet.rewrite.Goals.{After-put_before, After-put_before-2}
+use Rattle.sample_lowering.proofs.lowering.LowerAddConversionArithSet.rewrite.Goals.{After-put_before}
+use Rattle.sample_lowering.proofs.lowering.LowerAddConversionArithSet.rewrite.Goals.{After-put_before-2}
 use Rattle.sample_lowering.proofs.lowering.LowerAddConversionArithSet.rewrite.Goals as goal
 
 -- the replacement is prepared behind the call that puts the negation, and behind the one that puts the difference
