@@ -13,9 +13,10 @@ use Rattle.plir_core.specs.Grown.{IsGrown}
 use Rattle.plir_core.specs.Made.{IsMade, KeepsLive}
 use Rattle.plir_core.specs.Measures.{IsMeasured}
 use Rattle.plir_core.specs.Stored.{IsStored}
+use Rattle.plir_core.specs.Room.{IsFullFor, HaveCome}
 use Rattle.plir_copies.specs.declared.trees.Twin.{Twin}
 use Rattle.plir_copies.specs.Images.{Images}
-use Rattle.plir_copies.specs.Room.{count_of, tree_count, IsFullFor, HaveCome}
+use Rattle.plir_copies.specs.Room.{count_of, tree_count}
 use Rattle.plir_copies.specs.Twins.{nodes_of, HoldsAs, IsTwin, IsCopying, AreChildrenCopied, with_twin, with_twins}
 use Rattle.plir_copies.proofs.Twins.{copying-next, full-below, map-append}
 

@@ -15,12 +15,12 @@ use Rattle.plir_core.specs.Contents.{OpView}
 use Rattle.plir_core.specs.ContextView.{ContextView, IsLive, op_at, operands_in, successors_in}
 use Rattle.plir_core.specs.declared.value.Value.{Value}
 use Rattle.plir_core.specs.Held.{IsOpEdited}
+use Rattle.plir_core.specs.Room.{no_node, HaveCome}
+use Rattle.plir_core.specs.RoomLaws.{come_itself, come_still}
 use Rattle.plir_copies.specs.Images.{Images, value_in, block_in, blocks_in}
 use Rattle.plir_copies.specs.Copied.{bare_under, op_under, with_operands_in}
-use Rattle.plir_copies.specs.Room.{no_node, HaveCome}
 use Rattle.plir_copies.specs.Twins.{AreChanged}
 use Rattle.plir_copies.proofs.Edits.{front, front-next, front-all, half_set}
-use Rattle.plir_copies.proofs.RoomLaws.{come_itself, come_still}
 
 module _ {X : Type 0} (f : X → X) where
   -- what stands behind the first i is as it was

@@ -13,12 +13,14 @@ use Rattle.plir_core.specs.Changes.{SameLive}
 use Rattle.plir_core.specs.Forest.{look, IsForest}
 use Rattle.plir_core.specs.Grown.{Growth, IsGrown}
 use Rattle.plir_core.specs.Stored.{IsStored}
+use Rattle.plir_core.specs.Room.{IsFullFor, HaveCome}
+use Rattle.plir_core.specs.RoomLaws.{come_itself}
 use Rattle.plir_copies.specs.declared.trees.Twin.{Twin}
 use Rattle.plir_copies.specs.Twins.{nodes_of, copies_of, AreOfOneKind, CanStandUnder, HoldsAs, IsTwin, IsAddedLast}
 use Rattle.plir_copies.specs.Twins.{AreChildrenCopied}
-use Rattle.plir_copies.specs.Room.{one_like, count_of, IsFullFor, HaveCome}
+use Rattle.plir_copies.specs.Room.{one_like, count_of}
 use Rattle.plir_copies.proofs.Keeping.{keeps-same}
-use Rattle.plir_copies.proofs.RoomLaws.{come_both, come_itself, come_one, full_part}
+use Rattle.plir_copies.proofs.RoomLaws.{come_both, come_one, full_part}
 use Rattle.plir_copies.proofs.Twins.{map-append, holds-later, holds-before}
 
 bool-false : (b : Bool) → (b ≡ true → ⊥) → b ≡ false

@@ -10,9 +10,11 @@ use Rattle.plir_core.specs.Forest.{look, IsForest}
 use Rattle.plir_core.specs.Grown.{Growth}
 use Rattle.plir_core.specs.Made.{IsMade}
 use Rattle.plir_core.specs.Measures.{IsMeasured}
+use Rattle.plir_core.specs.Room.{IsFullFor, HaveCome}
+use Rattle.plir_core.specs.RoomLaws.{come_still, full_more}
 use Rattle.plir_copies.specs.declared.trees.Twin.{Twin}
 use Rattle.plir_copies.specs.Images.{Images, AreImagesLive, no_images, over}
-use Rattle.plir_copies.specs.Room.{one_like, count_of, tree_count, IsFullFor, HaveCome}
+use Rattle.plir_copies.specs.Room.{one_like, count_of, tree_count}
 use Rattle.plir_copies.specs.Trees.{IsCopyOfTree}
 use Rattle.plir_copies.specs.Twins.{AreOfOneKind, CanStandAlone, HoldsAs, IsTwin, IsCopying, AreChanged, copies_of}
 use Rattle.plir_copies.specs.Twins.{with_twins}
@@ -20,7 +22,7 @@ use Rattle.plir_copies.proofs.Become.{holds-copies}
 use Rattle.plir_copies.proofs.Below.{holds-now}
 use Rattle.plir_copies.proofs.Keeping.{images-keep}
 use Rattle.plir_copies.proofs.Mapped.{live-all, live-over}
-use Rattle.plir_copies.proofs.RoomLaws.{come_one, come_still, count_one, full_more}
+use Rattle.plir_copies.proofs.RoomLaws.{come_one, count_one}
 use Rattle.plir_copies.proofs.TreeNodes.{tree-most}
 use Rattle.plir_copies.proofs.Whole.{IsWholeCopy, has-become, made-changed, tree-come, tree-copied, whole-copy}
 use Rattle.plir_copies.proofs.Whole.{copies_in}

@@ -18,8 +18,8 @@ use Rattle.plir_core.specs.ContextView.{arguments_in}
 use Rattle.plir_core.specs.WellFormed.{IsWellFormed}
 use Rattle.plir_core.specs.Held.{IsBlockEdited}
 use Rattle.plir_core.specs.Made.{IsMade}
+use Rattle.plir_core.specs.Room.{no_node, HaveCome}
 use Rattle.plir_copies.specs.Copied.{with_attributes}
-use Rattle.plir_copies.specs.Room.{no_node, HaveCome}
 
 module _ {A : Type 0} where
   -- a block without attributes has none

@@ -13,8 +13,9 @@ use Rattle.plir_core.specs.Erase.{post_order, tree_of}
 use Rattle.plir_core.specs.Forest.{look, IsForest}
 use Rattle.plir_core.specs.Measures.{depth, depth_from, most_steps, IsMeasured}
 use Rattle.plir_core.specs.Stored.{up, seat_of}
+use Rattle.plir_core.specs.RoomLaws.{IsAtMost}
 use Rattle.plir_copies.specs.Room.{count_of, tree_count}
-use Rattle.plir_copies.proofs.RoomLaws.{IsAtMost, as_many, count_within}
+use Rattle.plir_copies.proofs.RoomLaws.{as_many, count_within}
 
 module _ {N : Type 0} (above : N → Option N) where
   pub climb-none : (k : ℕ) → climb above k None ≡ None

@@ -12,10 +12,12 @@ use Rattle.plir_core.specs.Forest.{look, IsForest}
 use Rattle.plir_core.specs.Grown.{IsGrown}
 use Rattle.plir_core.specs.Made.{KeepsLive}
 use Rattle.plir_core.specs.Stored.{IsStored}
+use Rattle.plir_core.specs.Room.{IsFullFor, HaveCome}
+use Rattle.plir_core.specs.RoomLaws.{full_before, full_more}
 use Rattle.plir_copies.specs.declared.trees.Twin.{Twin}
-use Rattle.plir_copies.specs.Room.{count_of, tree_count, IsFullFor, HaveCome}
+use Rattle.plir_copies.specs.Room.{count_of, tree_count}
 use Rattle.plir_copies.specs.Twins.{nodes_of, copies_of, AreOfOneKind, HoldsAs, IsTwin, AreTogether, IsCopying}
-use Rattle.plir_copies.proofs.RoomLaws.{come_both, count_append, full_before, full_more}
+use Rattle.plir_copies.proofs.RoomLaws.{come_both, count_append}
 use Rattle.plir_copies.proofs.TreeNodes.{no-cycle, one_up, tree-most}
 
 -- a list in two parts

@@ -17,10 +17,11 @@ use Rattle.plir_core.specs.ContextView.{ContextView, IsLive, IsAncestor, is_live
 use Rattle.plir_core.specs.Forest.{look, IsForest}
 use Rattle.plir_core.specs.Made.{IsMade}
 use Rattle.plir_core.specs.Measures.{IsMeasured}
+use Rattle.plir_core.specs.Room.{HaveCome}
 use Rattle.plir_copies.specs.declared.trees.Twin.{Twin}
 use Rattle.plir_copies.specs.Images.{Images}
 use Rattle.plir_copies.specs.Copied.{op_under}
-use Rattle.plir_copies.specs.Room.{count_of, tree_count, HaveCome}
+use Rattle.plir_copies.specs.Room.{count_of, tree_count}
 use Rattle.plir_copies.specs.Trees.{Copies, node_copy, HoldsTheSame, IsCopied, IsTreeCopied}
 use Rattle.plir_copies.specs.Twins.{nodes_of, copies_of, AreOfOneKind, HoldsAs, IsTwin, AreTogether, IsCopying}
 use Rattle.plir_copies.specs.Twins.{AreChanged}

@@ -3,7 +3,7 @@
 --   Images   Images: what stands in place of values and blocks; AreImagesLive
 --   Copied   op_under: what the copy of an operation holds; with_results
 --   Trees    IsCopyOfTree: a tree was copied; HoldsCopies: what a map holds then
---   Room     IsFullFor: whether there is room for as many nodes as a tree has; HaveCome: so many have come
+--   Room     count_of, tree_count: how many nodes of each kind stand in a list, and in a tree
 --   Twins    IsCopying: how far a copy of a tree has come
 pub mod Images
 pub mod Copied

@@ -1,35 +1,10 @@
--- Whether there is room for the copy of a tree, and what has come once there is one.
-use Rattle.std.specs.Prelude.{◌≡◌, ℕ, ◌+◌, ◌-◌, ◌<◌, ◌^◌, ◌⊎◌, List, [], ◌∷◌, length}
-use Rattle.plir_store.specs.Table.{Table}
+-- How many nodes there are in a tree: as many as its copy wants room for.
+use Rattle.std.specs.Prelude.{List, [], ◌∷◌}
 use Rattle.plir_core.specs.declared.ptr.IRNode.{IRNode}
 use Rattle.plir_core.specs.declared.ptr.IRNode.TheVariants.{Operation, Region, BasicBlock}
 use Rattle.plir_core.specs.Erase.{tree_of}
-use Rattle.plir_core.specs.Nodes.{Nodes, num_nodes}
-
--- How many operations, regions and blocks.
-pub record NodeCount : Type 0 where
-  pub ops : ℕ
-  pub regions : ℕ
-  pub blocks : ℕ
-
-abbrev pub in_all : NodeCount → ℕ
-in_all c = c.ops + c.regions + c.blocks
-
-abbrev pub together : NodeCount → NodeCount → NodeCount
-together c d = record { ops = c.ops + d.ops; regions = c.regions + d.regions; blocks = c.blocks + d.blocks }
-
-abbrev pub no_node : NodeCount
-no_node = record { ops = 0; regions = 0; blocks = 0 }
-
--- one operation, one region, and one block
-abbrev pub one_op : NodeCount
-one_op = record { ops = 1; regions = 0; blocks = 0 }
-
-abbrev pub one_region : NodeCount
-one_region = record { ops = 0; regions = 1; blocks = 0 }
-
-abbrev pub one_block : NodeCount
-one_block = record { ops = 0; regions = 0; blocks = 1 }
+use Rattle.plir_core.specs.Nodes.{Nodes}
+use Rattle.plir_core.specs.Room.{NodeCount, together, no_node, one_op, one_region, one_block}
 
 -- one node of the kind of this one
 abbrev pub one_like : IRNode → NodeCount
@@ -42,28 +17,6 @@ abbrev pub count_of : List IRNode → NodeCount
 count_of [] = no_node
 count_of (n ∷ ns) = together (one_like n) (count_of ns)
 
--- the numbers of a kind's slots don't reach for n nodes more; those of free slots are given out again
-abbrev pub RunsOut : {C : Type 0} → Table C → ℕ → Type 0
-RunsOut t n = 2 ^ 32 - 1 + length t.free < length t.slots + n
-
--- from s to t so many slots of a kind were given out: new ones, or free ones
-abbrev pub AreGiven : {C : Type 0} (s t : Table C) → ℕ → Type 0
-AreGiven s t n = length t.slots + length s.free ≡ length s.slots + length t.free + n
-
-module _ {O B : Type 0} where
-  -- how many nodes of each kind there are in the tree under a node
-  abbrev pub tree_count : Nodes O B → IRNode → NodeCount
-  tree_count s n = count_of (tree_of s n)
-
-  -- There is no room for so many nodes more: the limit would be passed, or the slot numbers of a kind run out.
-  abbrev pub IsFullFor : Nodes O B → NodeCount → Type 0
-  IsFullFor s c = (s.limit < num_nodes s + in_all c) ⊎ (RunsOut s.ops c.ops ⊎ (RunsOut s.regions c.regions ⊎
-      RunsOut s.blocks c.blocks))
-
--- From s to t so many nodes have come, and none has gone.
-pub record HaveCome {O B : Type 0} (s t : Nodes O B) (c : NodeCount) : Type 0 where
-  pub limit : t.limit ≡ s.limit
-  pub live : num_nodes t ≡ num_nodes s + in_all c
-  pub ops : AreGiven s.ops t.ops c.ops
-  pub regions : AreGiven s.regions t.regions c.regions
-  pub blocks : AreGiven s.blocks t.blocks c.blocks
+-- how many nodes of each kind there are in the tree under a node
+abbrev pub tree_count : {O B : Type 0} → Nodes O B → IRNode → NodeCount
+tree_count s n = count_of (tree_of s n)

@@ -15,10 +15,11 @@ use Rattle.plir_core.specs.Held.{KeepsNodes}
 use Rattle.plir_core.specs.Made.{IsMade, IsRegionAdded}
 use Rattle.plir_core.specs.Measures.{IsMeasured}
 use Rattle.plir_core.specs.Nodes.{Nodes}
+use Rattle.plir_core.specs.Room.{no_node, HaveCome}
 use Rattle.plir_copies.specs.declared.trees.Twin.{Twin}
 use Rattle.plir_copies.specs.Images.{Images}
 use Rattle.plir_copies.specs.Copied.{op_under, with_values_of, with_block_of}
-use Rattle.plir_copies.specs.Room.{count_of, no_node, HaveCome}
+use Rattle.plir_copies.specs.Room.{count_of}
 
 -- the nodes of a list, and their copies
 abbrev pub nodes_of : List Twin → List IRNode

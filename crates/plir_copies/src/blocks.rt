@@ -12,9 +12,9 @@ ghost use Rattle.plir_core.specs.Room.{IsFullForBlock};
 ghost use Rattle.plir_core.specs.WellFormed.{IsWellFormed};
 ghost use Rattle.plir_core.specs.declared.ptr.IRNode.{IRNode as AnyNode};
 ghost use Rattle.plir_core.specs.declared.value.DefiningEntity.{DefiningEntity};
+ghost use Rattle.plir_core.specs.Room.{HaveCome, IsFullFor, no_node, one_block};
 ghost use Rattle.plir_copies.specs.Images.{AreImagesLive, images};
 ghost use Rattle.plir_copies.specs.Copied.{with_attributes, with_block_of, with_values_of};
-ghost use Rattle.plir_copies.specs.Room.{HaveCome, IsFullFor, no_node, one_block};
 
 use crate::value_map::ValueMap;
 use plir_core::laws::{block_edits_keep_the_rest, growth, what_was_made_is_unused};

@@ -8,9 +8,9 @@ ghost use Rattle.plir_core.specs.Room.{IsFullForOp};
 ghost use Rattle.plir_core.specs.WellFormed.{IsWellFormed};
 ghost use Rattle.plir_core.specs.declared.ptr.IRNode.{IRNode as AnyNode};
 ghost use Rattle.plir_core.specs.declared.value.DefiningEntity.{DefiningEntity};
+ghost use Rattle.plir_core.specs.Room.{HaveCome, IsFullFor, no_node, one_op};
 ghost use Rattle.plir_copies.specs.Images.{AreImagesLive, images, over};
 ghost use Rattle.plir_copies.specs.Copied.{bare_under, op_under, with_operands_in, with_values_of};
-ghost use Rattle.plir_copies.specs.Room.{HaveCome, IsFullFor, no_node, one_op};
 
 use crate::reading::{operands, result_types, successors_under};
 use crate::value_map::ValueMap;

@@ -1,7 +1,7 @@
 //! How room for nodes is used up.
 ghost use Rattle.plir_core.specs.ContextView.{ContextView};
 ghost use Rattle.plir_core.specs.WellFormed.{IsWellFormed};
-ghost use Rattle.plir_copies.specs.Room.{HaveCome, IsFullFor, NodeCount, together};
+ghost use Rattle.plir_core.specs.Room.{HaveCome, IsFullFor, NodeCount, together};
 
 use plir_data::OpSet;
 

@@ -17,7 +17,9 @@
 --   Above        climb, Reaches: what stands above what; EndsWithin, IsGrounded: each climb ends
 --   Made         IsMade: a tree is new, and nothing else has changed; IsRegionAdded: one region is;
 --                HasNewRegions: the regions of a new operation
---   Room         IsFullForOp and its kin: when there is no room for a new node
+--   Room         IsFullForOp and its kin: when there is no room for a new node; NodeCount, IsFullFor: for several;
+--                HaveCome: so many have come
+--   RoomLaws     laws of these, for the proofs above
 --   Placed       IsPlaced: a node has come under another one, and nothing else has changed (IsPlacedFirst and its kin:
 --                where); IsUnlinked: it has left its parent
 --   Points       put_at: where a node is put among others; CanBePut: what that asks; IsPutAt: what it leaves
@@ -58,6 +60,7 @@ pub mod Interfaces
 pub mod Changes
 pub mod Made
 pub mod Room
+pub mod RoomLaws
 pub mod Placed
 pub mod Points
 pub mod Held

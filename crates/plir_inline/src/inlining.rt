@@ -5,8 +5,9 @@ ghost use Rattle.plir_core.specs.ContextView.{IsLive, given_out};
 ghost use Rattle.plir_core.specs.Made.{IsMade};
 ghost use Rattle.plir_core.specs.WellFormed.{IsWellFormed};
 ghost use Rattle.plir_core.specs.declared.ptr.IRNode.{IRNode as AnyNode};
+ghost use Rattle.plir_core.specs.Room.{HaveCome, IsFullFor};
 ghost use Rattle.plir_copies.specs.Images.{Images, no_images};
-ghost use Rattle.plir_copies.specs.Room.{HaveCome, IsFullFor, tree_count};
+ghost use Rattle.plir_copies.specs.Room.{tree_count};
 ghost use Rattle.plir_copies.specs.Trees.{IsCopyOfTree};
 ghost use Rattle.plir_inline.specs.Inlined.{CanInline, IsInlined};
 

@@ -6,6 +6,9 @@ use Rattle.std.proofs.lemmas.List.Elements.{All-nil, All-cons, All-append}
 use Rattle.plir_core.specs.declared.ptr.IRNode.{IRNode}
 use Rattle.plir_core.specs.Nodes.{Nodes}
 use Rattle.plir_core.specs.Placed.{MovesOnly}
+use Rattle.plir_core.specs.Room.{NodeCount, together, no_node, one_op, one_block, IsFullFor, HaveCome}
+use Rattle.plir_core.specs.RoomLaws.{IsAtMost, part_at_most, together_none, full_more, full_before, come_itself}
+use Rattle.plir_core.specs.RoomLaws.{come_on, come_moved}
 use Rattle.plir_attr_text.specs.declared.fault.Fault.{Fault}
 use Rattle.plir_attr_text.specs.declared.fault.Stop.{Stop}
 use Rattle.plir_attr_text.specs.declared.fault.Stop.TheVariants.{OutOfMemory, Crowded, At}
@@ -24,15 +27,15 @@ use Rattle.plir_read.specs.OpReading.{start_at, header_at, block_head_at, op_at,
 use Rattle.plir_read.specs.OpReading.{named, semicolon_at, brace_at}
 use Rattle.plir_read.specs.OpTerms.{Header, BlockHead, OpTerm, op_term, BlockTerm, ops_of, blocks_of}
 use Rattle.plir_read.specs.OpsRead.{list_count, body_count, BodyBeginsTooMany}
-use Rattle.plir_read.specs.Room.{NodeCount, together, no_node, one_leaf, one_op, one_block, op_count, block_count}
-use Rattle.plir_read.specs.Room.{IsFullFor, HaveCome, IsBrace, IsBegun, BeginsTooMany, HasNoRoom, LacksRoom}
+use Rattle.plir_read.specs.Room.{one_with_region, op_count, block_count}
+use Rattle.plir_read.specs.Room.{IsBrace, IsBegun, BeginsTooMany, HasNoRoom, LacksRoom}
 use Rattle.plir_read.specs.declared.heads.BodyKind.{BodyKind}
 use Rattle.plir_read.specs.declared.heads.HeadKind.TheVariants.{Bodied}
 use Rattle.plir_read.proofs.OpFound.{by_semicolon, semicolon_found, by_brace, brace_found, header_found}
 use Rattle.plir_read.proofs.OpFound.{block_head_found}
 use Rattle.plir_read.proofs.OpFound.{op_found, block_found, ops_wrote, chain_wrote}
-use Rattle.plir_read.proofs.RoomLaws.{IsAtMost, part_at_most, together_none, count_all, count_append, ops_counted}
-use Rattle.plir_read.proofs.RoomLaws.{blocks_counted, full_more, full_before, come_itself, come_on, come_moved}
+use Rattle.plir_read.proofs.RoomLaws.{count_all, count_append, ops_counted}
+use Rattle.plir_read.proofs.RoomLaws.{blocks_counted}
 use Rattle.plir_read.proofs.StartFound.{start_found, bare_id}
 
 -- where there is no room for one reason, there is none for another that follows from it
@@ -400,7 +403,7 @@ module _ {O B : Type 0} (n : ℕ) (k : BodyKind) (names : ℕ) (s t : Nodes O B)
   }
 
   -- there is no room for the operation itself with its region
-  pub bodied_lacks_room : IsFullFor s one_op →
+  pub bodied_lacks_room : IsFullFor s one_with_region →
       BodyBeginsTooMany s n k names bytes × HasNoRoom op_count s (bodied_at (op_at n) n k names bytes)
   bodied_lacks_room full = (
     record {
@@ -414,11 +417,11 @@ module _ {O B : Type 0} (n : ℕ) (k : BodyKind) (names : ℕ) (s t : Nodes O B)
     },
     λ y e. let x = bodied_is y e in
         subst (λ w. IsFullFor s (op_count w)) (sym x.2)
-        (full_more s one_op (together one_op (body_count x.0.0)) (part_at_most one_op (body_count x.0.0)) full),
+        (full_more s one_with_region (together one_with_region (body_count x.0.0)) (part_at_most one_with_region (body_count x.0.0)) full),
   )
 
   -- there is none for its blocks
-  pub body_lacks_room : HaveCome s t one_op →
+  pub body_lacks_room : HaveCome s t one_with_region →
       LacksRoom body_count (BodyWithin n) t behind (blocks_at (op_at n) n behind) →
       BodyBeginsTooMany s n k names bytes × HasNoRoom op_count s (bodied_at (op_at n) n k names bytes)
   body_lacks_room come g = (
@@ -429,11 +432,11 @@ module _ {O B : Type 0} (n : ℕ) (k : BodyKind) (names : ℕ) (s t : Nodes O B)
       is = head;
       part = g.0.part;
       begun = g.0.begun;
-      full = full_before s t one_op (body_count g.0.part) come g.0.full;
+      full = full_before s t one_with_region (body_count g.0.part) come g.0.full;
     },
     λ y e. let x = bodied_is y e in
         subst (λ w. IsFullFor s (op_count w)) (sym x.2)
-        (full_before s t one_op (body_count x.0.0) come (g.1 x.0 x.1)),
+        (full_before s t one_with_region (body_count x.0.0) come (g.1 x.0 x.1)),
   )
 
 -- ---- an operation

@@ -4,6 +4,7 @@ use Rattle.std.proofs.Common.{Err, refl, sym, ◌∙◌, arith, Option, ◌∷�
 use Rattle.std.proofs.lemmas.List.{length-map}
 use Rattle.plir_core.specs.declared.ptr.IRNode.{IRNode}
 use Rattle.plir_core.specs.ContextView.{ContextView}
+use Rattle.plir_core.specs.Room.{IsFullFor, HaveCome, one_op}
 use Rattle.plir_attr_text.specs.declared.fault.Fault.{Fault}
 use Rattle.plir_attr_text.specs.declared.fault.Fault.TheVariants.{TooDeep}
 use Rattle.plir_attr_text.specs.declared.fault.Stop.{Stop}
@@ -29,7 +30,7 @@ use Rattle.plir_data.specs.Types.{TypeView}
 use Rattle.plir_read.specs.Heads.{result_names, IsConstant}
 use Rattle.plir_read.specs.OpsStanding.{IsConstantAt, IsOpAt}
 use Rattle.plir_read.specs.OpGrammar.{OpWithin}
-use Rattle.plir_read.specs.Room.{IsFullFor, HaveCome, LacksRoom, one_leaf, op_count}
+use Rattle.plir_read.specs.Room.{LacksRoom, op_count}
 use Rattle.plir_read.specs.Stopping.{ReadsOn, IsRefusal}
 use Rattle.plir_read.specs.Suffixes.{given_name}
 use Rattle.plir_read.specs.declared.names.Suffix.TheVariants as kinds
@@ -246,11 +247,11 @@ module _ {K A T X : Type 0} (s t : ContextView K A T) (node : X → IRNode) (aft
   -- a constant was read that has no room
   abbrev IsFullForConstant : Type 0
   IsFullForConstant =
-      (c : _) × (named_constant_at (n - 1) (length names) rest ≡ Ok c) × IsFullFor s.nodes one_leaf
+      (c : _) × (named_constant_at (n - 1) (length names) rest ≡ Ok c) × IsFullFor s.nodes one_op
 
   pub constant_reads : (r : Result X Stop) (k : HeadKind) → 0 < n → start_at bytes ≡ Ok ((ws, k), rest) → k ≡ Constant
       → ReadsOn IsFullForConstant
-      (λ x y. (IsConstantAt t (node x) names y.0 × HaveCome s.nodes t.nodes one_leaf) × (after x ≡ y.1)) r
+      (λ x y. (IsConstantAt t (node x) names y.0 × HaveCome s.nodes t.nodes one_op) × (after x ≡ y.1)) r
       (named_constant_at (n - 1) (length names) rest) →
       ReadsOn (LacksRoom op_count (OpWithin n) s.nodes bytes (op_at n bytes))
       (λ x y. (IsOpAt t (node x) y.0 × HaveCome s.nodes t.nodes (op_count y.0)) × (after x ≡ y.1)) r (op_at n bytes)

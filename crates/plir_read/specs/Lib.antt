@@ -10,8 +10,7 @@
 --                stands for
 --   Keeping      KeepsOlder: what reading leaves of a context as it was
 --   Slots        IsMadeInOrder: a tree's nodes come in the order of a text, each in the next slot of its kind
---   Room         IsFullFor: whether the nodes that a text stands for have room; BeginsTooMany: that those with which it
---                begins have none
+--   Room         op_count: how many nodes a text stands for; BeginsTooMany: that those with which it begins have no room
 --   Stopping     ReadsOn: reading into a context
 --   HeldTypes    IsHeldByOp: the types that an operation holds
 --   OpsRead      ReadsOp: what the reader's own functions answer

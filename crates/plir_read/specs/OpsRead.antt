@@ -8,6 +8,7 @@ use Rattle.plir_core.specs.declared.ptr.BasicBlock.{BasicBlock as BlockKind}
 use Rattle.plir_core.specs.declared.ptr.IRNode.TheVariants.{Operation, BasicBlock}
 use Rattle.plir_core.specs.ContextView.{ContextView}
 use Rattle.plir_core.specs.Nodes.{Nodes}
+use Rattle.plir_core.specs.Room.{NodeCount, one_op, IsFullFor, HaveCome}
 use Rattle.plir_data.specs.Types.{TypeView}
 use Rattle.plir_attr_text.specs.Names.{AreNamed}
 use Rattle.plir_attr_text.specs.Terms.{TypeTerm}
@@ -18,9 +19,9 @@ use Rattle.plir_read.specs.OpGrammar.{OpWithin, OpsWithin, BlockWithin, BodyWith
 use Rattle.plir_read.specs.OpReading.{op_at, ops_at, block_at, blocks_at, bodied_at, header_at, named_constant_at}
 use Rattle.plir_read.specs.OpTerms.{Header, OpTerm, op_term, BlockTerm, ops_of, blocks_of}
 use Rattle.plir_read.specs.OpsStanding.{IsOpAt, IsBlockAt, IsConstantAt, HasOps, HasBlocks}
-use Rattle.plir_read.specs.Room.{NodeCount, one_leaf, op_count, block_count, ops_count, blocks_count, IsFullFor}
+use Rattle.plir_read.specs.Room.{op_count, block_count, ops_count, blocks_count}
 use Rattle.plir_read.specs.Room.{IsBegun}
-use Rattle.plir_read.specs.Room.{HaveCome, HasNoRoom, LacksRoom}
+use Rattle.plir_read.specs.Room.{HasNoRoom, LacksRoom}
 use Rattle.plir_read.specs.Stopping.{ReadsOn, ReadsOnFirst, ReadsOnPast}
 use Rattle.plir_read.specs.declared.heads.BodyKind.{BodyKind}
 
@@ -62,8 +63,8 @@ module _ {K A T : Type 0} (s t : ContextView K A T) (n : ℕ) where
   abbrev pub ReadsConstant : (names : List (Option (List ℕ))) → (bytes : List ℕ) →
       Result (Ptr OperationKind × Bor (List ℕ)) Stop → Type 0
   ReadsConstant names bytes result = ReadsOnFirst ((c : _) × (named_constant_at n (length names) bytes ≡ Ok c) ×
-      IsFullFor s.nodes one_leaf)
-      (λ p c. IsConstantAt t (Operation p) names c × HaveCome s.nodes t.nodes one_leaf) result
+      IsFullFor s.nodes one_op)
+      (λ p c. IsConstantAt t (Operation p) names c × HaveCome s.nodes t.nodes one_op) result
       (named_constant_at n (length names) bytes)
 
   abbrev pub ReadsBlock : (bytes : List ℕ) → Result (Ptr BlockKind × Bor (List ℕ)) Stop → Type 0

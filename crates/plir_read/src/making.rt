@@ -13,10 +13,11 @@ ghost use Rattle.plir_core.specs.Contents.{op_view};
 ghost use Rattle.plir_core.specs.ContextView.{IsLive};
 ghost use Rattle.plir_core.specs.WellFormed.{IsWellFormed};
 ghost use Rattle.plir_core.specs.declared.ptr.IRNode.{IRNode};
+ghost use Rattle.plir_core.specs.Room.{HaveCome, IsFullFor, one_op, one_block};
 ghost use Rattle.plir_read.specs.Heads.{IsHeadLive, module_attributes, func_attributes, op_with, block_with};
 ghost use Rattle.plir_read.specs.Heads.{constant_attributes, constant_op};
 ghost use Rattle.plir_read.specs.Keeping.{IsNewOp, IsNewLeaf, IsNewBlock, KeepsOlder};
-ghost use Rattle.plir_read.specs.Room.{HaveCome, IsFullFor, one_leaf, one_op, one_block};
+ghost use Rattle.plir_read.specs.Room.{one_with_region};
 ghost use Rattle.plir_read.specs.Slots.{AreGivenOut};
 ghost use Rattle.plir_read.specs.Stopping.{IsRefusal};
 
@@ -115,8 +116,8 @@ fn make_with<D: OpSet>(
         ctx.new.nodes) }
     ensures kept { OnErr result (KeepsOlder ctx.old ctx.new) }
     ensures types { OnErr result (ctx.new.types ≡ ctx.old.types) }
-    ensures come { IfOk result (λ x. HaveCome ctx.old.nodes ctx.new.nodes one_op) }
-    ensures refused { IfErr result (IsRefusal (IsFullFor ctx.old.nodes one_op)) }
+    ensures come { IfOk result (λ x. HaveCome ctx.old.nodes ctx.new.nodes one_with_region) }
+    ensures refused { IfErr result (IsRefusal (IsFullFor ctx.old.nodes one_with_region)) }
     ensures whole { IsWellFormed D.attr_handles ctx.new }
 {
     ctx.stands();
@@ -145,8 +146,8 @@ pub fn make_op<D: OpSet>(
         ctx.new.nodes) }
     ensures kept { OnErr result (KeepsOlder ctx.old ctx.new) }
     ensures types { OnErr result (ctx.new.types ≡ ctx.old.types) }
-    ensures come { IfOk result (λ x. HaveCome ctx.old.nodes ctx.new.nodes one_op) }
-    ensures refused { IfErr result (IsRefusal (IsFullFor ctx.old.nodes one_op)) }
+    ensures come { IfOk result (λ x. HaveCome ctx.old.nodes ctx.new.nodes one_with_region) }
+    ensures refused { IfErr result (IsRefusal (IsFullFor ctx.old.nodes one_with_region)) }
     ensures whole { IsWellFormed D.attr_handles ctx.new }
 {
     ctx.stands();
@@ -216,8 +217,8 @@ pub fn make_constant<D: OpSet>(
     ensures slots { IfOk result (λ p. AreGivenOut ctx.old.nodes (IRNode.Operation p ∷ []) ctx.new.nodes) }
     ensures kept { OnErr result (KeepsOlder ctx.old ctx.new) }
     ensures types { OnErr result (ctx.new.types ≡ ctx.old.types) }
-    ensures come { IfOk result (λ p. HaveCome ctx.old.nodes ctx.new.nodes one_leaf) }
-    ensures refused { IfErr result (IsRefusal (IsFullFor ctx.old.nodes one_leaf)) }
+    ensures come { IfOk result (λ p. HaveCome ctx.old.nodes ctx.new.nodes one_op) }
+    ensures refused { IfErr result (IsRefusal (IsFullFor ctx.old.nodes one_op)) }
     ensures whole { IsWellFormed D.attr_handles ctx.new }
 {
     ctx.stands();

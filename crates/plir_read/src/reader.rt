@@ -3,6 +3,7 @@ ghost use Rattle.std.specs.Prelude.{◌≡◌, Ok, IfOk, IfErr};
 ghost use Rattle.plir_core.specs.Made.{IsMade};
 ghost use Rattle.plir_core.specs.WellFormed.{IsWellFormed};
 ghost use Rattle.plir_core.specs.declared.ptr.IRNode.{IRNode};
+ghost use Rattle.plir_core.specs.Room.{HaveCome, IsFullFor};
 ghost use Rattle.plir_attr_text.specs.Faults.{IsOfText, HasNoPlace};
 ghost use Rattle.plir_attr_text.specs.Names.{AreNamed};
 ghost use Rattle.plir_attr_text.specs.TypeGrammar.{IsText};
@@ -16,7 +17,7 @@ ghost use Rattle.plir_read.specs.OpReading.{op_at};
 ghost use Rattle.plir_read.specs.OpTerms.{OpTerm};
 ghost use Rattle.plir_read.specs.OpsRead.{ReadsWhole};
 ghost use Rattle.plir_read.specs.OpsStanding.{StandsForOp};
-ghost use Rattle.plir_read.specs.Room.{BeginsTooMany, HaveCome, IsFullFor, op_count};
+ghost use Rattle.plir_read.specs.Room.{BeginsTooMany, op_count};
 ghost use Rattle.plir_read.specs.Slots.{IsMadeInOrder};
 
 use crate::ops::read_op_at;

@@ -4,10 +4,10 @@ use Rattle.std.specs.Prelude.{option_map}
 use Rattle.plir_data.specs.AttrLive.{HandlesLive}
 use Rattle.plir_core.specs.declared.ptr.IRNode.TheVariants.{BasicBlock}
 use Rattle.plir_core.specs.ContextView.{block_at, block_attributes_in}
+use Rattle.plir_core.specs.Room.{one_block}
+use Rattle.plir_core.specs.RoomLaws.{block_comes, block_full, come_still}
 use Rattle.plir_copies.specs.Copied.{with_attributes}
-use Rattle.plir_copies.specs.Room.{one_block}
 use Rattle.plir_copies.proofs.NewBlocks.{made-block, live-holds, block-whole}
-use Rattle.plir_copies.proofs.RoomLaws.{block_comes, block_full, come_still}
 use Rattle.plir_copies.proofs.blocks.copy_block.Goals as goal
 
 pub set_attributes-requires-clause-live : goal.set_attributes-requires-clause-live

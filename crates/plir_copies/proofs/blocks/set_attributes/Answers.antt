@@ -9,10 +9,10 @@ use Rattle.plir_core.specs.declared.ptr.IRNode.TheVariants.{BasicBlock}
 use Rattle.plir_core.specs.Contents.{BlockView}
 use Rattle.plir_core.specs.ContextView.{block_at}
 use Rattle.plir_core.specs.Held.{IsBlockEdited}
+use Rattle.plir_core.specs.Room.{no_node, HaveCome}
+use Rattle.plir_core.specs.RoomLaws.{block_edit_comes, come_itself}
 use Rattle.plir_copies.specs.Copied.{with_attributes}
-use Rattle.plir_copies.specs.Room.{no_node, HaveCome}
 use Rattle.plir_copies.proofs.NewBlocks.{block-put, block-same, none-put}
-use Rattle.plir_copies.proofs.RoomLaws.{block_edit_comes, come_itself}
 use Rattle.plir_copies.proofs.blocks.set_attributes.Goals as goal
 
 pub entries-init : goal.entries-init

@@ -4,13 +4,13 @@ use Rattle.plir_core.specs.Changes.{SameLive}
 use Rattle.plir_core.specs.declared.ptr.IRNode.TheVariants.{Operation}
 use Rattle.plir_core.specs.declared.value.DefiningEntity.TheVariants.{Op}
 use Rattle.plir_core.specs.ContextView.{is_live, op_at, operands_in, result_types_of, results_in}
+use Rattle.plir_core.specs.Room.{one_op}
+use Rattle.plir_core.specs.RoomLaws.{come_still}
 use Rattle.plir_copies.specs.Images.{AreImagesLive, images, over}
 use Rattle.plir_copies.specs.Copied.{with_operands_in}
-use Rattle.plir_copies.specs.Room.{one_op}
 use Rattle.plir_copies.proofs.Edits.{bare-operands, bare-results, bare-whole}
 use Rattle.plir_copies.proofs.Images.{live-values}
 use Rattle.plir_copies.proofs.Keeping.{images-edited, images-keep, images-same, made-edited}
-use Rattle.plir_copies.proofs.RoomLaws.{come_still}
 use Rattle.plir_copies.proofs.copying.clone_op_into.Goals as goal
 
 pub copy_bare-requires-clause-images_live : goal.copy_bare-requires-clause-images_live

@@ -3,9 +3,9 @@ use Rattle.std.proofs.lemmas.Result.{err_from_is_err_and}
 use Rattle.plir_core.specs.Held.{IsOpEdited}
 use Rattle.plir_core.specs.Contents.{OpView}
 use Rattle.plir_core.specs.declared.ptr.IRNode.TheVariants.{Operation}
-use Rattle.plir_copies.specs.Room.{one_op}
+use Rattle.plir_core.specs.Room.{one_op}
+use Rattle.plir_core.specs.RoomLaws.{op_comes, op_edit_comes, op_full}
 use Rattle.plir_copies.proofs.Keeping.{made-edited}
-use Rattle.plir_copies.proofs.RoomLaws.{op_comes, op_edit_comes, op_full}
 use Rattle.plir_copies.proofs.copying.copy_bare.Goals as goal
 
 pub returns-clause-made : goal.returns-clause-made
@@ -31,5 +31,5 @@ returns-clause-come g c =
 pub returns-in_err-copy-clause-full : goal.returns-in_err-copy-clause-full
 returns-in_err-copy-clause-full g c =
     let p = err_from_is_err_and c.from_residual-in_err-copy.result c.from_residual-in_err-copy.ensures.1 in
-    rw (p.1, p.2) (λ e. op_full c.args.ctx.now.nodes c.stands.ensures.whole.stored
+    rw (p.1, p.2) (λ e. op_full c.args.ctx.now.nodes 0 c.stands.ensures.whole.stored
     (c.in_err-copy.ensures.too_many_only e))

@@ -1,8 +1,8 @@
 use Rattle.plir_core.specs.ContextView.{operands_of}
 use Rattle.plir_core.specs.WellFormed.{IsWellFormed}
 use Rattle.plir_core.specs.Held.{IsOpEdited}
+use Rattle.plir_core.specs.Room.{no_node, HaveCome}
 use Rattle.plir_copies.specs.Images.{images}
-use Rattle.plir_copies.specs.Room.{no_node, HaveCome}
 use Rattle.plir_copies.proofs.Edits.{half_set}
 use Rattle.plir_copies.proofs.copying.set_operands.Given as goal
 

@@ -1,4 +1,4 @@
-use Rattle.plir_copies.proofs.RoomLaws.{full_before, had_room}
+use Rattle.plir_core.specs.RoomLaws.{full_before, had_room}
 use Rattle.plir_copies.proofs.room.room_is_used_up.Goals as goal
 
 pub returns-clause-had : goal.returns-clause-had

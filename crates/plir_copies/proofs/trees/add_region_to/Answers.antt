@@ -2,8 +2,8 @@ use Rattle.std.proofs.Common.{ap, subst, sym}
 use Rattle.std.proofs.lemmas.Result.{err_from_is_err_and}
 use Rattle.plir_core.specs.declared.ptr.IRNode.TheVariants.{Operation, Region}
 use Rattle.plir_core.specs.Grown.{IsGrown}
+use Rattle.plir_core.specs.RoomLaws.{region_comes, region_full}
 use Rattle.plir_copies.proofs.Children.{grown-none}
-use Rattle.plir_copies.proofs.RoomLaws.{region_comes, region_full}
 use Rattle.plir_copies.proofs.trees.add_region_to.Goals as goal
 
 pub returns-clause-types : goal.returns-clause-types

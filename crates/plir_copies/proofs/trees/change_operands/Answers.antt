@@ -6,14 +6,14 @@ use Rattle.plir_core.specs.declared.ptr.IRNode.TheVariants.{Operation}
 use Rattle.plir_core.specs.Contents.{OpView}
 use Rattle.plir_core.specs.ContextView.{IsValueLive, op_at, operands_of, operands_in}
 use Rattle.plir_core.specs.Held.{IsOpEdited}
+use Rattle.plir_core.specs.Room.{no_node}
+use Rattle.plir_core.specs.RoomLaws.{come_itself, op_edit_comes}
 use Rattle.plir_copies.specs.Images.{images, value_in}
 use Rattle.plir_copies.specs.Copied.{with_operands_in}
-use Rattle.plir_copies.specs.Room.{no_node}
 use Rattle.plir_copies.proofs.Changing.{front-at, half-list}
 use Rattle.plir_copies.proofs.Edits.{half_set, half-none, half-next, half-all, half-length}
 use Rattle.plir_copies.proofs.Images.{value-live}
 use Rattle.plir_copies.proofs.Keeping.{edited-same, edited-both, edited-as, images-edited}
-use Rattle.plir_copies.proofs.RoomLaws.{come_itself, op_edit_comes}
 use Rattle.plir_copies.proofs.trees.change_operands.Goals as goal
 
 pub loop-i-init : goal.loop-i-init

@@ -7,14 +7,14 @@ use Rattle.plir_core.specs.declared.ptr.IRNode.TheVariants.{Operation, BasicBloc
 use Rattle.plir_core.specs.Contents.{OpView}
 use Rattle.plir_core.specs.ContextView.{IsLive, op_at, successors_of, successors_in}
 use Rattle.plir_core.specs.Held.{IsOpEdited}
+use Rattle.plir_core.specs.Room.{no_node}
+use Rattle.plir_core.specs.RoomLaws.{come_itself, op_edit_comes}
 use Rattle.plir_copies.specs.Images.{images, block_in}
 use Rattle.plir_copies.specs.Copied.{bare_under}
-use Rattle.plir_copies.specs.Room.{no_node}
 use Rattle.plir_copies.proofs.Changing.{front-at, half_put, put-none, put-next, put-all, put-list}
 use Rattle.plir_copies.proofs.Edits.{length-front}
 use Rattle.plir_copies.proofs.Images.{block-live}
 use Rattle.plir_copies.proofs.Keeping.{edited-same, edited-both, edited-as, images-edited}
-use Rattle.plir_copies.proofs.RoomLaws.{come_itself, op_edit_comes}
 use Rattle.plir_copies.proofs.trees.change_successors.Goals as goal
 
 pub loop-i-init : goal.loop-i-init

@@ -2,10 +2,10 @@ use Rattle.std.proofs.Common.{◌∙◌, ◌++◌, ◌∷◌, [], ap}
 use Rattle.plir_store.specs.Table.{content_at}
 use Rattle.plir_core.specs.ContextView.{children}
 use Rattle.plir_core.specs.declared.ptr.IRNode.TheVariants.{BasicBlock, Region}
-use Rattle.plir_copies.specs.Room.{one_block}
+use Rattle.plir_core.specs.Room.{one_block}
+use Rattle.plir_core.specs.RoomLaws.{come_moved}
 use Rattle.plir_copies.proofs.Adding.{added-last}
 use Rattle.plir_copies.proofs.Children.{grown-same}
-use Rattle.plir_copies.proofs.RoomLaws.{come_moved}
 use Rattle.plir_copies.proofs.trees.copy_block_to.Goals as goal
 
 pub insert_at_back-requires-clause-live : goal.insert_at_back-requires-clause-live

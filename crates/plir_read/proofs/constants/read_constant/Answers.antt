@@ -1,8 +1,8 @@
 use Rattle.std.proofs.Common.{◌≡◌, ◌∙◌, Ok, sym, subst}
 use Rattle.std.proofs.lemmas.Result.{err_from_is_err_and}
 use Rattle.plir_read.specs.OpReading.{named}
-use Rattle.plir_read.specs.Room.{HaveCome, IsFullFor, one_leaf}
 use Rattle.plir_core.specs.declared.ptr.IRNode.TheVariants.{Operation}
+use Rattle.plir_core.specs.Room.{HaveCome, IsFullFor, one_op}
 use Rattle.plir_read.specs.Slots.{IsMadeInOrder}
 use Rattle.plir_read.proofs.OpMade.{value_live, result_live, KeepsOlder-typed, KeepsOlder-on}
 use Rattle.plir_read.proofs.TreesInOrder.{leaf_in_order}
@@ -55,7 +55,7 @@ returns-in_err-op-clause-read g c =
     (λ full. (
       y.0,
       is_named_constant c.args.levels _ c.args.bytes.now tt y.0 many y.1,
-      subst (λ z. IsFullFor z one_leaf) c.in_ok-constant.ensures.rest full,
+      subst (λ z. IsFullFor z one_op) c.in_ok-constant.ensures.rest full,
     )) c.in_err-op.ensures.refused))
 
 pub returns-clause-read : goal.returns-clause-read
@@ -74,7 +74,7 @@ returns-clause-read g c =
             m.held,
             m.empty,
           ),
-          subst (λ z. HaveCome z c.make_constant.new.ctx.nodes one_leaf) c.in_ok-constant.ensures.rest
+          subst (λ z. HaveCome z c.make_constant.new.ctx.nodes one_op) c.in_ok-constant.ensures.rest
               c.in_ok-op.ensures.come,
         ),
         y.2.1,

@@ -6,11 +6,11 @@ use Rattle.plir_data.specs.Keys.{names_key}
 use Rattle.plir_core.specs.Contents.{BlockView}
 use Rattle.plir_core.specs.Held.{IsBlockEdited}
 use Rattle.plir_core.specs.declared.ptr.IRNode.TheVariants.{BasicBlock}
+use Rattle.plir_core.specs.RoomLaws.{block_comes, block_full, block_edit_comes}
+use Rattle.plir_core.specs.Room.{one_block}
 use Rattle.plir_read.proofs.OpMade.{IsNewBlock-edited, named_block}
-use Rattle.plir_read.proofs.RoomLaws.{block_comes, block_full, edit_comes}
 use Rattle.plir_read.proofs.OpSteps.{refused_as}
 use Rattle.plir_read.proofs.SlotLaws.{block_given, given_edited}
-use Rattle.plir_read.specs.Room.{one_block}
 use Rattle.plir_read.proofs.making.make_block.Goals as goal
 
 pub returns-clause-made : goal.returns-clause-made
@@ -57,9 +57,9 @@ returns-then-unset-clause-come g c =
 
 pub returns-clause-come : goal.returns-clause-come
 returns-clause-come g c =
-    edit_comes c.args.ctx.now c.new.new.ctx one_block
-    (block_comes c.args.ctx.now c.stands.ensures.whole.stored c.new.new.ctx _ c.in-Ok.ensures.ok) c.in-Ok.block _
-    c.put_names.new.ctx c.in_ok-put_names.ensures.put
+    block_edit_comes c.args.ctx.now c.new.new.ctx one_block
+    (block_comes c.args.ctx.now c.stands.ensures.whole.stored c.new.new.ctx _ c.in-Ok.ensures.ok) c.put_names.new.ctx
+    c.in-Ok.block _ c.in_ok-put_names.ensures.put
 
 pub returns-in-Err-clause-refused : goal.returns-in-Err-clause-refused
 returns-in-Err-clause-refused g c =

@@ -7,7 +7,7 @@ use Rattle.plir_data.specs.declared.op_set.OpKind.TheVariants as kinds
 use Rattle.plir_core.specs.Contents.{op_view}
 use Rattle.plir_core.specs.ContextView.{IsLive, IsValueLive}
 use Rattle.plir_core.specs.declared.ptr.IRNode.TheVariants.{BasicBlock}
-use Rattle.plir_read.proofs.RoomLaws.{op_full, leaf_comes}
+use Rattle.plir_core.specs.RoomLaws.{op_full, op_comes}
 use Rattle.plir_attr_text.specs.laws.Growth.{Grows-itself}
 use Rattle.plir_read.proofs.OpMade.{KeepsOlder-same, KeepsOlder-typed}
 use Rattle.plir_read.proofs.OpSteps.{refused_as}
@@ -60,7 +60,7 @@ returns-in-Err-clause-refused g c =
 
 pub returns-in-Ok-clause-come : goal.returns-in-Ok-clause-come
 returns-in-Ok-clause-come g c =
-    leaf_comes c.args.ctx.now c.stands.ensures.whole.stored c.with_attributes.new.ctx _ c.in-Ok.ensures.made.after
+    op_comes c.args.ctx.now c.stands.ensures.whole.stored c.with_attributes.new.ctx _ c.in-Ok.ensures.made.after
 
 pub returns-in_err-results-clause-kept : goal.returns-in_err-results-clause-kept
 returns-in_err-results-clause-kept g c =

@@ -1,7 +1,8 @@
 use Rattle.std.proofs.Common.{ap, Err}
 use Rattle.plir_core.specs.Contents.{op_view}
 use Rattle.plir_core.specs.declared.ptr.IRNode.TheVariants.{Operation, Region}
-use Rattle.plir_read.proofs.RoomLaws.{op_full, op_comes}
+use Rattle.plir_core.specs.RoomLaws.{op_full}
+use Rattle.plir_read.proofs.RoomLaws.{op_comes}
 use Rattle.plir_read.proofs.OpSteps.{refused_as}
 use Rattle.plir_read.proofs.SlotLaws.{op_given, region_new}
 use Rattle.plir_read.proofs.making.make_with.Goals as goal

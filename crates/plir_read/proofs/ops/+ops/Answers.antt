@@ -1,6 +1,8 @@
 use Rattle.std.proofs.Common.{◌≡◌, ◌-◌, ◌∙◌, length, [], ◌∷◌, None, Ok, refl, sym, ap, subst, arith, inl, inr, ℕ, List}
 use Rattle.std.proofs.lemmas.Result.{err_from_is_err_and}
 use Rattle.plir_core.specs.declared.ptr.IRNode.TheVariants.{Operation, Region, BasicBlock}
+use Rattle.plir_core.specs.Room.{IsFullFor, HaveCome, one_block}
+use Rattle.plir_core.specs.RoomLaws.{come_itself, come_on}
 use Rattle.plir_attr_text.specs.Tokens.{sign}
 use Rattle.plir_attr_text.specs.laws.Begun.{sign_found}
 use Rattle.plir_attr_text.specs.laws.Growth.{Grows-itself}
@@ -12,7 +14,7 @@ use Rattle.plir_read.specs.OpTerms.{op_term, constant_term, ops_of, blocks_of, O
 use Rattle.plir_read.specs.OpReading.{op_at, first_name, bodied_at, block_at, semicolon_at, brace_at}
 use Rattle.plir_read.specs.OpGrammar.{OpWithin, BlockWithin}
 use Rattle.plir_read.specs.OpsRead.{list_count, body_count}
-use Rattle.plir_read.specs.Room.{IsFullFor, HaveCome, one_op, one_block, op_count, block_count}
+use Rattle.plir_read.specs.Room.{one_with_region, op_count, block_count}
 use Rattle.plir_read.specs.Slots.{IsMadeInOrder}
 use Rattle.plir_read.proofs.Gathered as gathered
 use Rattle.plir_read.proofs.Gathered.{IsGrown-itself, KeepsBut-itself}
@@ -21,7 +23,7 @@ use Rattle.plir_read.proofs.OpFound.{by_semicolon, semicolon_found, by_brace, br
 use Rattle.plir_read.proofs.Beginnings.{Ends-map, room_begins, room_next, room_all, ops_lack_room, block_lacks_room}
 use Rattle.plir_read.proofs.Beginnings.{inside_lacks_room, blocks_lack_room, bodied_lacks_room, body_lacks_room}
 use Rattle.plir_read.proofs.Beginnings.{op_lacks_room}
-use Rattle.plir_read.proofs.RoomLaws.{ops_counted, blocks_counted, come_itself, come_on}
+use Rattle.plir_read.proofs.RoomLaws.{ops_counted, blocks_counted}
 use Rattle.plir_read.proofs.StartFound.{named_is}
 use Rattle.plir_read.proofs.OpMade.{arguments_live, block_kept, block_made, block_stands, op_kept, op_made, body_kept}
 use Rattle.plir_read.proofs.OpMade.{op_stands, head_live, KeepsOlder-typed, KeepsOlder-on}
@@ -548,7 +550,7 @@ read_bodied-returns-in_err-op-clause-read g t c =
     (λ full. bodied_lacks_room c.args.levels c.args.kind c.args.names s s c.args.bytes.now c.in_ok-header.behind.now
     h.0.0 (named_is 0 c.args.names _ c.in_ok-expect_names.ensures)
     (behind_is _ h.0 c.in_ok-header.behind.now h.1 h.2.1)
-    (subst (λ z. IsFullFor z one_op) c.in_ok-header.ensures.rest full)) c.in_err-op.ensures.refused))
+    (subst (λ z. IsFullFor z one_with_region) c.in_ok-header.ensures.rest full)) c.in_err-op.ensures.refused))
 
 pub read_bodied-returns-in-Ok-clause-read : goal.read_bodied-returns-in-Ok-clause-read
 read_bodied-returns-in-Ok-clause-read g t c =
@@ -564,8 +566,8 @@ read_bodied-returns-in-Ok-clause-read g t c =
               c.in_ok-op.region _ (c.contexts_stand.ensures _ c.in_ok-op.ensures.whole) c.in_ok-header.ensures.rest
               c.in_ok-header.ensures.grown c.in_ok-op.ensures.made c.in_ok-header.header.head
               c.in_ok-header.header.entries h.0.0 y.0.0 h.2.0 refl c.in-Ok.ensures.kept y.2.0.0,
-          come_on c.args.ctx.now.nodes c.make_op.new.ctx.nodes c.read_body.new.ctx.nodes one_op (body_count y.0.0)
-              (subst (λ z. HaveCome z c.make_op.new.ctx.nodes one_op) c.in_ok-header.ensures.rest
+          come_on c.args.ctx.now.nodes c.make_op.new.ctx.nodes c.read_body.new.ctx.nodes one_with_region (body_count y.0.0)
+              (subst (λ z. HaveCome z c.make_op.new.ctx.nodes one_with_region) c.in_ok-header.ensures.rest
               c.in_ok-op.ensures.come) y.2.0.1,
         ),
         refl,
@@ -610,7 +612,7 @@ read_bodied-returns-in-Err-clause-read g t c =
     Ends-map _ _ c.in-Err.stop _
     (body_lacks_room c.args.levels c.args.kind c.args.names c.args.ctx.now.nodes c.make_op.new.ctx.nodes
     c.args.bytes.now c.in_ok-header.behind.now h.0.0 (named_is 0 c.args.names _ c.in_ok-expect_names.ensures) head
-    (subst (λ z. HaveCome z c.make_op.new.ctx.nodes one_op) c.in_ok-header.ensures.rest c.in_ok-op.ensures.come))
+    (subst (λ z. HaveCome z c.make_op.new.ctx.nodes one_with_region) c.in_ok-header.ensures.rest c.in_ok-op.ensures.come))
     (no_body (op_at c.args.levels) c.args.levels c.args.kind c.args.names _ c.in-Err.stop _ c.args.bytes.now _ h.0.0
     c.in_ok-expect_names.ensures head c.in-Err.ensures.read)
 

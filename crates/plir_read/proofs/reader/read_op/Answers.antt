@@ -1,6 +1,7 @@
 use Rattle.std.proofs.Common.{[], ap, sym, subst, ◌∙◌}
+use Rattle.plir_core.specs.Room.{HaveCome}
 use Rattle.plir_attr_text.specs.laws.StepLaws.{ok_is}
-use Rattle.plir_read.specs.Room.{BeginsTooMany, HaveCome, op_count}
+use Rattle.plir_read.specs.Room.{BeginsTooMany, op_count}
 use Rattle.plir_attr_text.specs.Wholes.{whole}
 use Rattle.plir_read.specs.OpReading.{op_at}
 use Rattle.plir_read.proofs.OpWhole.{told, no_place, no_room, op_text_found, op_text_refused, whole_first}
