@@ -16,3 +16,4 @@ pub mod UsersWalked
 pub mod Bringing
 pub mod Edges
 pub mod HeldNames
+pub mod Told
