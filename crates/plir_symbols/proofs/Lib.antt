@@ -17,3 +17,4 @@ pub mod Bringing
 pub mod Edges
 pub mod HeldNames
 pub mod Told
+pub mod Chaining

@@ -161,5 +161,6 @@ pub fn call_graph<D: SymbolNames>(
     for user in &users {
         put_edges(alloc, ctx, tables, *user, &mut edges)?;
     }
-    Ok(CallGraph::new(edges))
+    let graph = CallGraph::new(alloc, edges)?;
+    Ok(graph)
 }

@@ -5,6 +5,7 @@
 mod builtin_names;
 mod call_edges;
 mod calling;
+mod chains;
 mod dead_symbols;
 mod reached;
 mod reaching;
