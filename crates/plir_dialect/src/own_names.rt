@@ -1,5 +1,5 @@
 //! Which names operations of own kinds use, and which of their symbols are private.
-ghost use Rattle.std.specs.Prelude.{◌≡◌, ◌<◌, ℕ, Bool, List, Some, length, slice_get};
+ghost use Rattle.std.specs.Prelude.{◌≡◌, ℕ, Bool, IfOk, List, length, map};
 ghost use Rattle.plir_core.specs.declared.ptr.IRNode.{IRNode as AnyNode};
 ghost use Rattle.plir_core.specs.Contents.{OpView};
 ghost use Rattle.plir_core.specs.ContextView.{IsLive, op_at};
@@ -10,8 +10,9 @@ use crate::one_of::OneOf;
 use crate::own_attr::OwnAttr;
 use crate::own_type::OwnType;
 use plir_core::{Context, Operation, Ptr};
-use plir_data::{Identifier, NoMeaning, OpKind, OpSet, OwnKind};
-use plir_symbols::{SymbolNames, is_marked_private, name_held, num_names_held};
+use plir_data::{Identifier, Memory, NoMeaning, OpKind, OpSet, OwnKind};
+use plir_symbols::{SymbolNames, is_marked_private, names_held, num_names_held};
+use std::alloc::Global;
 
 /// Own kinds of operations that tell which names are used and which symbols are private, in an op set `D` that they are
 /// part of, by what an operation holds. Kinds that don't look at attributes of that set say it for each `D`, and can be
@@ -28,11 +29,15 @@ pub trait OwnNames<D: OpSet>: OwnKind {
         requires { IsLive ctx.now (AnyNode.Operation op) }
         ensures { result ≡ length (names_in (names_used self) (op_at ctx.now op)) };
 
-    /// The name at an index among those that an operation uses.
-    fn used_name(self, ctx: &Context<D>, op: Ptr<Operation>, place: usize) -> &Identifier
-        requires live { IsLive ctx.now (AnyNode.Operation op) }
-        requires below { place < length (names_in (names_used self) (op_at ctx.now op)) }
-        ensures { slice_get (names_in (names_used self) (op_at ctx.now op)) place ≡ Some result.now };
+    /// The names that an operation uses, in their order, each as often as it is used.
+    fn used_names(
+        self,
+        alloc: Global,
+        ctx: &Context<D>,
+        op: Ptr<Operation>,
+    ) -> Result<Vec<&Identifier>, Memory>
+        requires { IsLive ctx.now (AnyNode.Operation op) }
+        ensures { IfOk result (λ v. map (λ n. n.now) v.items ≡ names_in (names_used self) (op_at ctx.now op)) };
 
     /// Whether a symbol is private.
     fn is_private(self, ctx: &Context<D>, op: Ptr<Operation>) -> bool
@@ -58,8 +63,13 @@ impl<D: OpSet, K: NamesAsBuiltin> OwnNames<D> for K {
         num_names_held(ctx, op)
     }
 
-    fn used_name(self, ctx: &Context<D>, op: Ptr<Operation>, place: usize) -> &Identifier {
-        name_held(ctx, op, place)
+    fn used_names(
+        self,
+        alloc: Global,
+        ctx: &Context<D>,
+        op: Ptr<Operation>,
+    ) -> Result<Vec<&Identifier>, Memory> {
+        names_held(alloc, ctx, op)
     }
 
     fn is_private(self, ctx: &Context<D>, op: Ptr<Operation>) -> bool {
@@ -81,10 +91,15 @@ impl<D: OpSet, A: OwnNames<D>, B: OwnNames<D>> OwnNames<D> for OneOf<A, B> {
         }
     }
 
-    fn used_name(self, ctx: &Context<D>, op: Ptr<Operation>, place: usize) -> &Identifier {
+    fn used_names(
+        self,
+        alloc: Global,
+        ctx: &Context<D>,
+        op: Ptr<Operation>,
+    ) -> Result<Vec<&Identifier>, Memory> {
         match self {
-            OneOf::First(kind) => kind.used_name(ctx, op, place),
-            OneOf::Second(kind) => kind.used_name(ctx, op, place),
+            OneOf::First(kind) => kind.used_names(alloc, ctx, op),
+            OneOf::Second(kind) => kind.used_names(alloc, ctx, op),
         }
     }
 
@@ -112,10 +127,14 @@ impl<K: OwnNames<Dialect<K, A, T>>, A: OwnAttr, T: OwnType> SymbolNames for Dial
         }
     }
 
-    fn used_name(ctx: &Context<Self>, op: Ptr<Operation>, place: usize) -> &Identifier {
+    fn used_names(
+        alloc: Global,
+        ctx: &Context<Self>,
+        op: Ptr<Operation>,
+    ) -> Result<Vec<&Identifier>, Memory> {
         match op.kind(ctx) {
-            OpKind::Own(kind) => kind.used_name(ctx, op, place),
-            _ => name_held(ctx, op, place),
+            OpKind::Own(kind) => kind.used_names(alloc, ctx, op),
+            _ => names_held(alloc, ctx, op),
         }
     }
 

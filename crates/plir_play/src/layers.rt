@@ -43,6 +43,7 @@ fn play_builtin(alloc: Global, script: &Script<'_>) -> Option<Result<(), Mismatc
         "builtin_own" => plir_builtin_calls::play_own(alloc, nodes, lines),
         "verify" => plir_verify_calls::play_in(alloc, nodes, lines),
         "symbols" => plir_symbols_calls::play_in(alloc, nodes, lines),
+        "symbols_holding" => plir_symbols_calls::play_holding(alloc, nodes, lines),
         "folding" => plir_folding_calls::play_in(alloc, nodes, lines),
         "print" => plir_print_calls::play_in(alloc, nodes, lines),
         "print_own" => plir_print_calls::play_own(alloc, nodes, lines),

@@ -3,10 +3,8 @@ use Rattle.std.proofs.Common.{◌≡◌, ◌<◌, ◌≤◌, ℕ, zero, suc, Boo
 use Rattle.std.proofs.Common.{Some, None, IfSome, arith, inl, inr, refl, sym, ap, subst, ◌∙◌}
 use Rattle.std.specs.Prelude.{slice_get}
 use Rattle.std.specs.FinMap.{get}
-use Rattle.std.specs.List.{filter_map, cons_option}
 use Rattle.std.proofs.lemmas.Grind.{flat_map-append}
 use Rattle.std.proofs.lemmas.List.{append_assoc, append-nil, map-append, take_all}
-use Rattle.std.proofs.lemmas.List.Elements.{filter_map-append}
 use Rattle.std.proofs.lemmas.Option.{none-some, same_Some}
 use Rattle.std.proofs.Math.Seq.{take-suc}
 use Rattle.plir_core.specs.declared.ptr.Ptr.{Ptr}
@@ -33,13 +31,6 @@ pub take-next : {X : Type 0} (xs : List X) (i : ℕ) (x : X) → slice_get xs i 
 take-next [] i x e = absurd (none-some x e)
 take-next (y ∷ ys) zero x e = ap (λ z. z ∷ []) (same_Some y x e)
 take-next (y ∷ ys) (suc i) x e = ap (λ z. y ∷ z) (take-next ys i x e)
-
--- what is given of the elements up to a place, and of the next one
-pub given-next : {X Y : Type 0} (h : X → Option Y) (xs : List X) (i : ℕ) (x : X) → i < length xs →
-    filter_map h (take (suc i) xs) ≡ filter_map h (take i xs) ++ cons_option (h (get_or xs i x)) []
-given-next h xs i x below =
-    ap (filter_map h) (take-suc xs i x below)
-    ∙ filter_map-append h (take i xs) (get_or xs i x ∷ [])
 
 pub has-get : {X : Type 0} (xs : List X) (i : ℕ) (d : X) → i < length xs → Has xs (get_or xs i d)
 has-get [] i d l = absurd (omega (arith, l))

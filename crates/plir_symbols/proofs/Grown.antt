@@ -53,7 +53,7 @@ and-true : (b : Bool) → (b && true) ≡ b
 and-true true = refl
 and-true false = refl
 
-eq-same : (p q : Ptr OperationKind) → ptr_eq p q ≡ same_ptr p q
+pub eq-same : (p q : Ptr OperationKind) → ptr_eq p q ≡ same_ptr p q
 eq-same p q = ap (λ b. nat_eq p.slot q.slot && b) (and-true (nat_eq p.version q.version))
 
 pub not-no : (b : Bool) → not b ≡ false → b ≡ true

@@ -1,10 +1,10 @@
 -- The names that the entries of a dictionary use, entry by entry.
-use Rattle.std.proofs.Common.{◌≡◌, ◌≤◌, ◌<◌, ◌+◌, ◌-◌, ℕ, zero, suc, true, false, cond, List, [], ◌∷◌, length}
+use Rattle.std.proofs.Common.{◌≡◌, ◌≤◌, ◌+◌, ◌-◌, ℕ, suc, true, false, cond, List, [], ◌∷◌, ◌++◌, length, Bor}
 use Rattle.std.proofs.Common.{Option, Some, None, option_map, arith, refl, sym, ap, ◌∙◌}
-use Rattle.std.specs.Prelude.{codes, is_some, slice_get}
+use Rattle.std.specs.Prelude.{codes, is_some}
 use Rattle.std.specs.List.{cons_option}
 use Rattle.std.specs.Str.{bytes_eq}
-use Rattle.std.proofs.lemmas.Option.{none-some}
+use Rattle.std.proofs.lemmas.List.{append_assoc, append-nil, map-append}
 use Rattle.plir_data.specs.AttrView.{AttrView}
 use Rattle.plir_data.specs.Dictionary.{dict_get}
 use Rattle.plir_data.specs.Keys.{symbol_key}
@@ -14,6 +14,7 @@ use Rattle.plir_builtin.specs.Symbols.{name_in}
 use Rattle.plir_symbols.specs.BuiltinNames.{is_marked_private, is_text, name_under, names_held, names_under}
 use Rattle.plir_symbols.specs.BuiltinNames.{visibility_key}
 use Rattle.plir_symbols.specs.SymbolNames.{is_private_in, names_in}
+use Rattle.plir_symbols.proofs.Told.{texts}
 
 -- what is told of an operation is told of its dictionary
 pub in-held : {K A : Type 0} (o : Option (OpView K A)) → names_in names_held o ≡ names_under (attributes_in o)
@@ -86,26 +87,26 @@ module _ {A : Type 0} where
   counted-end it n t none inv =
       (let a = ap (λ z. length (names_under z)) none in let b = ap length none in omega (arith, inv, a, b))
 
-  -- the name at a place: past another entry, at a name, and past a name
-  module _ (it rest : List (List ℕ × AttrView A)) (e : List ℕ × AttrView A) (i : ℕ) (found : Option (List ℕ))
-      (step : it ≡ e ∷ rest) (inv : slice_get (names_under it) i ≡ found) where
-    here : (o : Option (List ℕ)) → o ≡ name_under e → slice_get (cons_option o (names_under rest)) i ≡ found
-    here o is =
-        ap (λ z. slice_get (cons_option z (names_under rest)) i) is
-        ∙ sym (ap (λ z. slice_get (names_under z) i) step) ∙ inv
+  -- the names of the entries that were passed, and of those that are left: past another entry, past a name, at the end
+  module _ (it rest : List (List ℕ × AttrView A)) (e : List ℕ × AttrView A) (ns : List (Bor (List ℕ)))
+      (all : List (List ℕ)) (step : it ≡ e ∷ rest) (inv : texts ns ++ names_under it ≡ all) where
+    gathered : (o : Option (List ℕ)) → o ≡ name_under e → texts ns ++ cons_option o (names_under rest) ≡ all
+    gathered o is =
+        ap (λ z. texts ns ++ cons_option z (names_under rest)) is
+        ∙ sym (ap (λ z. texts ns ++ names_under z) step) ∙ inv
 
-    pub passed-none : None ≡ name_under e → slice_get (names_under rest) i ≡ found
-    passed-none is = here None is
+    pub gathered-none : None ≡ name_under e → texts ns ++ names_under rest ≡ all
+    gathered-none is = gathered None is
 
-    pub found-here : (x : List ℕ) → Some x ≡ name_under e → i ≡ 0 → found ≡ Some x
-    found-here x is z = sym (here (Some x) is) ∙ ap (λ j. slice_get (x ∷ names_under rest) j) z
+    pub gathered-some : (n : Bor (List ℕ)) (more : List (Bor (List ℕ))) → Some n.now ≡ name_under e →
+        more ≡ ns ++ n ∷ [] → texts more ++ names_under rest ≡ all
+    gathered-some n more is put =
+        ap (λ z. texts z ++ names_under rest) put
+        ∙ ap (λ z. z ++ names_under rest) (map-append (λ (m : Bor (List ℕ)). m.now) ns (n ∷ []))
+        ∙ append_assoc (texts ns) (n.now ∷ []) (names_under rest)
+        ∙ gathered (Some n.now) is
 
-    pub passed-some : (x : List ℕ) → Some x ≡ name_under e → (j : ℕ) → i ≡ suc j →
-        slice_get (names_under rest) j ≡ found
-    passed-some x is j s = ap (λ k. slice_get (x ∷ names_under rest) k) (sym s) ∙ here (Some x) is
-
--- a place in a list has something
-pub some-within : {X : Type 0} (xs : List X) (i : ℕ) → i < length xs → None ≡ slice_get xs i → ⊥
-some-within [] i l e = absurd (omega (arith, l))
-some-within (x ∷ xs) zero l e = none-some x e
-some-within (x ∷ xs) (suc i) l e = some-within xs i (omega (arith, l)) e
+  pub gathered-end : (it : List (List ℕ × AttrView A)) (ns : List (Bor (List ℕ))) (all : List (List ℕ)) → it ≡ [] →
+      texts ns ++ names_under it ≡ all → texts ns ≡ all
+  gathered-end it ns all none inv =
+      sym (append-nil (texts ns)) ∙ sym (ap (λ z. texts ns ++ names_under z) none) ∙ inv

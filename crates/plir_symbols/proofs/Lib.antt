@@ -16,3 +16,5 @@ pub mod UsersWalked
 pub mod Bringing
 pub mod Edges
 pub mod HeldNames
+pub mod Told
+pub mod Chaining

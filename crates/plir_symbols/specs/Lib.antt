@@ -7,6 +7,7 @@
 --   Reaching      what the search for reached symbols reaches, step by step
 --   Sweeping      what one step and one round of the pass leave
 --   CallGraph     IsCallGraph, IsGraphRefusal: call graphs; callees_in, callers_in: what is read of them
+--   Chained       AreChains: what a call graph keeps, so that the edges of one operation are found
 --   Calling       what one step of making a call graph leaves
 --   CachedTables  AreBrought, IsOwnCached: what a pass leaves of the tables that are cached
 pub mod SymbolNames
@@ -16,5 +17,6 @@ pub mod SweptSymbols
 pub mod Sweeping
 pub mod CachedTables
 pub mod CallGraph
+pub mod Chained
 pub mod Calling
 pub mod BuiltinNames

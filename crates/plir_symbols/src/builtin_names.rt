@@ -1,5 +1,5 @@
 //! Which names the builtin operations use, and which of their symbols are private.
-ghost use Rattle.std.specs.Prelude.{◌≡◌, ◌<◌, Some, is_some, length, option_map, slice_get};
+ghost use Rattle.std.specs.Prelude.{◌≡◌, IfOk, Some, is_some, length, map, option_map};
 ghost use Rattle.plir_data.specs.AttrSeen.{attr_view};
 ghost use Rattle.plir_core.specs.declared.ptr.IRNode.{IRNode as AnyNode};
 ghost use Rattle.plir_core.specs.ContextView.{IsLive, op_at};
@@ -10,7 +10,8 @@ ghost use Rattle.plir_symbols.specs.SymbolNames.{is_private_in, names_in};
 use crate::symbol_names::SymbolNameKind;
 use plir_builtin::{ATTR_KEY_SYM_NAME, name_in};
 use plir_core::{Context, Operation, Ptr};
-use plir_data::{AttrObj, BuiltinSet, Identifier, NoMeaning, OpSet};
+use plir_data::{AttrObj, BuiltinSet, Identifier, Memory, NoMeaning, OpSet};
+use std::alloc::Global;
 
 /// The key that a symbol's visibility stands under, where it has one: in a private one that is the text `private`.
 pub const ATTR_KEY_SYM_VISIBILITY: &'static str = "sym_visibility";
@@ -49,23 +50,23 @@ pub fn num_names_held<D: OpSet>(ctx: &Context<D>, op: Ptr<Operation>) -> usize
     count
 }
 
-/// The name at a place among these, in the order of the keys.
-pub fn name_held<D: OpSet>(ctx: &Context<D>, op: Ptr<Operation>, place: usize) -> &Identifier
-    requires live { IsLive ctx.now (AnyNode.Operation op) }
-    requires below { place < length (names_in names_held (op_at ctx.now op)) }
-    ensures { slice_get (names_in names_held (op_at ctx.now op)) place ≡ Some result.now }
+/// These names, in the order of the keys. Where there is none, no memory is taken.
+pub fn names_held<D: OpSet>(
+    alloc: Global,
+    ctx: &Context<D>,
+    op: Ptr<Operation>,
+) -> Result<Vec<&Identifier>, Memory>
+    requires { IsLive ctx.now (AnyNode.Operation op) }
+    ensures { IfOk result (λ v. map (λ n. n.now) v.items ≡ names_in names_held (op_at ctx.now op)) }
 {
-    let mut before = place;
+    let mut names = Vec::new(alloc);
     'entries: for (key, attribute) in op.attributes(ctx).iter() {
         let Some(name) = name_under(key.as_str(), attribute) else {
             continue;
         };
-        if before == 0 {
-            return name;
-        }
-        before -= 1;
+        names.push(name)?;
     }
-    unreachable!()
+    Ok(names)
 }
 
 // Whether an attribute is a text.
@@ -101,8 +102,12 @@ impl SymbolNameKind<BuiltinSet> for NoMeaning {
         num_names_held(ctx, op)
     }
 
-    fn used_name(ctx: &Context<BuiltinSet>, op: Ptr<Operation>, place: usize) -> &Identifier {
-        name_held(ctx, op, place)
+    fn used_names(
+        alloc: Global,
+        ctx: &Context<BuiltinSet>,
+        op: Ptr<Operation>,
+    ) -> Result<Vec<&Identifier>, Memory> {
+        names_held(alloc, ctx, op)
     }
 
     fn is_private(ctx: &Context<BuiltinSet>, op: Ptr<Operation>) -> bool {

@@ -1,8 +1,10 @@
 //! Call graphs as they are read.
-ghost use Rattle.std.specs.Prelude.{◌≡◌, [], ◌++◌, IfOk, OnOk};
-ghost use Rattle.std.specs.List.{cons_option};
-ghost use Rattle.plir_symbols.specs.CallGraph.{callee_by, callees_in, caller_by, callers_in};
+ghost use Rattle.std.specs.Prelude.{◌≡◌, [], ◌++◌, IfOk, OnOk, map};
+ghost use Rattle.std.specs.List.{cons_option, filter_map};
+ghost use Rattle.plir_symbols.specs.CallGraph.{callees_in, callers_in};
+ghost use Rattle.plir_symbols.specs.Chained.{AreChains, at_end, beyond, found_by};
 
+use crate::chains::Chains;
 use plir_core::{Operation, Ptr};
 use plir_data::Memory;
 use std::alloc::Global;
@@ -17,21 +19,23 @@ pub struct CallEdge {
     pub symbol: Option<Ptr<Operation>>,
 }
 
-impl CallEdge {
-    // The symbol that the edge leads to, if it comes from an operation.
-    fn callee_of(&self, user: Ptr<Operation>) -> Option<Ptr<Operation>>
-        ensures { result ≡ callee_by user self.now }
-    {
-        if self.user == user { self.symbol } else { None }
-    }
+/// An end of an edge.
+#[derive(Clone, Copy)]
+pub(crate) enum End {
+    /// The operation that uses the name.
+    User,
+    /// The symbol that bears it.
+    Symbol,
+}
 
-    // The operation that the edge comes from, if it leads to a symbol.
-    fn caller_of(&self, symbol: Ptr<Operation>) -> Option<Ptr<Operation>>
-        ensures { result ≡ caller_by symbol self.now }
+impl CallEdge {
+    // What the edge has at its other end.
+    fn beyond(&self, end: End) -> Option<Ptr<Operation>>
+        ensures { result ≡ beyond end self.now }
     {
-        match self.symbol {
-            Some(found) if found == symbol => Some(self.user),
-            _ => None,
+        match end {
+            End::User => self.symbol,
+            End::Symbol => Some(self.user),
         }
     }
 }
@@ -49,60 +53,70 @@ fn put_found(all: &mut Vec<Ptr<Operation>>, found: Option<Ptr<Operation>>) -> Re
     }
 }
 
-// The symbols that edges from an operation lead to.
-fn callees_among(
+// What edges that have an operation at an end have at the other one, found along the chain of that operation.
+fn found_along(
     alloc: Global,
     edges: &[CallEdge],
-    user: Ptr<Operation>,
+    chains: &Chains,
+    end: End,
+    op: Ptr<Operation>,
 ) -> Result<Vec<Ptr<Operation>>, Memory>
-    ensures { IfOk result (λ r. r.items ≡ callees_in user edges.now) }
+    requires { AreChains (map (at_end end) edges.now) chains.now }
+    ensures { IfOk result (λ r. r.items ≡ filter_map (found_by end op) edges.now) }
 {
-    let mut callees = Vec::new(alloc);
-    for edge in edges {
-        put_found(&mut callees, edge.callee_of(user))?;
+    let mut found = Vec::new(alloc);
+    let mut at = chains.last(op);
+    'chain: while let Some(place) = at {
+        let edge = edges[place];
+        put_found(&mut found, edge.beyond(end))?;
+        at = chains.before(place);
     }
-    Ok(callees)
+    found.reverse();
+    Ok(found)
 }
 
-// The operations that edges to a symbol come from.
-fn callers_among(
-    alloc: Global,
-    edges: &[CallEdge],
-    symbol: Ptr<Operation>,
-) -> Result<Vec<Ptr<Operation>>, Memory>
-    ensures { IfOk result (λ r. r.items ≡ callers_in symbol edges.now) }
-{
-    let mut callers = Vec::new(alloc);
-    for edge in edges {
-        put_found(&mut callers, edge.caller_of(symbol))?;
-    }
-    Ok(callers)
-}
-
-/// A call graph: which operations use which symbols. It is a list of edges, one for each use.
+/// A call graph: which operations use which symbols. It is a list of edges, one for each use, and the edges at one
+/// operation are found without a look at the others.
 #[derive(Drop)]
 pub struct CallGraph {
     edges: Vec<CallEdge>,
+    by_user: Chains,
+    by_symbol: Chains,
 }
 
 impl Model for CallGraph {
-    ghost use Rattle.std.specs.Prelude.{List};
+    ghost use Rattle.std.specs.Prelude.{List, map};
     ghost use Rattle.plir_symbols.specs.declared.call_edges.CallEdge.{CallEdge as Edge};
+    ghost use Rattle.plir_symbols.specs.declared.call_edges.End.TheVariants as ends;
     ghost use Rattle.plir_symbols.specs.CallGraph.{edges_code};
+    ghost use Rattle.plir_symbols.specs.Chained.{AreChains, at_end};
 
     ghost Value = { List Edge };
 
     ghost coded = { edges_code };
 
     ghost view = { λ g. g.edges.items };
+
+    ghost invariant = { λ g. AreChains (map (at_end ends.User) g.edges.items) g.by_user ×
+        AreChains (map (at_end ends.Symbol) g.edges.items) g.by_symbol };
 }
 
 impl CallGraph {
     // The graph with these edges.
-    pub(crate) fn new(edges: Vec<CallEdge>) -> CallGraph
-        ensures { result ≡ edges.items }
+    pub(crate) fn new(alloc: Global, edges: Vec<CallEdge>) -> Result<CallGraph, Memory>
+        ensures { IfOk result (λ g. g ≡ edges.items) }
     {
-        CallGraph { edges }
+        let mut by_user = Chains::new(alloc);
+        let mut by_symbol = Chains::new(alloc);
+        for edge in &edges {
+            by_user.put(Some(edge.user))?;
+            by_symbol.put(edge.symbol)?;
+        }
+        Ok(CallGraph {
+            edges,
+            by_user,
+            by_symbol,
+        })
     }
 
     /// The edges, in the order of their users' places, and for one user in the order of its names.
@@ -112,7 +126,8 @@ impl CallGraph {
         self.edges.as_slice()
     }
 
-    /// The symbols that an operation uses, one for each use whose name something bears, in the order of the edges.
+    /// The symbols that an operation uses, one for each use whose name something bears, in the order of the edges. This
+    /// takes time for the edges from the operation alone.
     pub fn callees(
         &self,
         alloc: Global,
@@ -120,10 +135,12 @@ impl CallGraph {
     ) -> Result<Vec<Ptr<Operation>>, Memory>
         ensures { IfOk result (λ r. r.items ≡ callees_in user self.now) }
     {
-        callees_among(alloc, self.edges(), user)
+        let edges = self.edges.as_slice();
+        found_along(alloc, edges, &self.by_user, End::User, user)
     }
 
-    /// The operations that use a symbol, one for each use, in the order of the edges.
+    /// The operations that use a symbol, one for each use, in the order of the edges. This takes time for the edges to
+    /// the symbol alone.
     pub fn callers(
         &self,
         alloc: Global,
@@ -131,6 +148,7 @@ impl CallGraph {
     ) -> Result<Vec<Ptr<Operation>>, Memory>
         ensures { IfOk result (λ r. r.items ≡ callers_in symbol self.now) }
     {
-        callers_among(alloc, self.edges(), symbol)
+        let edges = self.edges.as_slice();
+        found_along(alloc, edges, &self.by_symbol, End::Symbol, symbol)
     }
 }

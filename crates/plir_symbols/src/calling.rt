@@ -98,6 +98,7 @@ fn put_edge(edges: &mut Vec<CallEdge>, edge: CallEdge) -> Result<(), Memory>
 
 // Adds the edges of an operation, one for each name that it uses.
 fn put_edges<D: SymbolNames>(
+    alloc: Global,
     ctx: &Context<D>,
     tables: &mut SymbolTableCollection,
     user: Ptr<Operation>,
@@ -116,8 +117,9 @@ fn put_edges<D: SymbolNames>(
         OnOk result (IsNearestCached D.is_symbol_table ctx.now tables.new user) }
     ensures refused { IfErr result (IsUserRefusal D.is_symbol D.is_symbol_table ctx.now tables.old user) }
 {
-    for place in 0..D::num_used_names(ctx, user) {
-        let edge = edge_of(ctx, tables, user, D::used_name(ctx, user, place))?;
+    let names = D::used_names(alloc, ctx, user)?;
+    for name in &names {
+        let edge = edge_of(ctx, tables, user, name)?;
         put_edge(edges, edge)?;
     }
     Ok(())
@@ -157,7 +159,8 @@ pub fn call_graph<D: SymbolNames>(
     let users = users_below(alloc, ctx, root)?;
     let mut edges = Vec::new(alloc);
     for user in &users {
-        put_edges(ctx, tables, *user, &mut edges)?;
+        put_edges(alloc, ctx, tables, *user, &mut edges)?;
     }
-    Ok(CallGraph::new(edges))
+    let graph = CallGraph::new(alloc, edges)?;
+    Ok(graph)
 }

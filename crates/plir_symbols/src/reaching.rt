@@ -52,6 +52,7 @@ fn reach_name<D: OpSet>(
 
 // Reaches the symbols that a table has under the names that an operation uses.
 fn reach_used<D: SymbolNames>(
+    alloc: Global,
     ctx: &Context<D>,
     table: &SymbolTable,
     op: Ptr<Operation>,
@@ -61,8 +62,9 @@ fn reach_used<D: SymbolNames>(
     ensures { OnOk result (IsGrown (IsTold D.is_symbol_table D.names_used ctx.now table.now op) reached.old
         reached.new) }
 {
-    for place in 0..D::num_used_names(ctx, op) {
-        reach_name(ctx, table, D::used_name(ctx, op, place), reached)?;
+    let names = D::used_names(alloc, ctx, op)?;
+    for name in &names {
+        reach_name(ctx, table, name, reached)?;
     }
     Ok(())
 }
@@ -70,6 +72,7 @@ fn reach_used<D: SymbolNames>(
 // Reaches what an operation uses by names in the table that is searched, or leaves out what is below another table; or
 // breaks the walk off for want of memory.
 fn reach_at<D: SymbolNames>(
+    alloc: Global,
     ctx: &Context<D>,
     table: &SymbolTable,
     reached: &mut Reached,
@@ -81,7 +84,7 @@ fn reach_at<D: SymbolNames>(
     if is_table(ctx, op) {
         return walk_skip();
     }
-    match reach_used(ctx, table, op, reached) {
+    match reach_used(alloc, ctx, table, op, reached) {
         Ok(()) => walk_advance(),
         Err(refused) => walk_break(refused),
     }
@@ -89,6 +92,7 @@ fn reach_at<D: SymbolNames>(
 
 // Reaches what operations at or below a root use by names in the table, where no other table is nearer.
 fn reach_below<D: SymbolNames>(
+    alloc: Global,
     ctx: &Context<D>,
     table: &SymbolTable,
     root: Ptr<Operation>,
@@ -102,7 +106,7 @@ fn reach_below<D: SymbolNames>(
     let reach = |c: &Context<D>, r: &mut Reached, p: Ptr<Operation>| -> WalkResult<Memory>
         requires { IsLive c.now (AnyNode.Operation p) }
         ensures { IsReachedAt D.is_symbol_table D.names_used c.now table.entry.now r.old p result r.new }
-    { reach_at(c, table, r, p) };
+    { reach_at(alloc, c, table, r, p) };
     match walk_ops(
         ctx,
         reached,
@@ -192,11 +196,11 @@ pub(crate) fn reached_symbols<D: SymbolNames>(
 {
     ctx.stands();
     let mut reached = Reached::new(alloc);
-    reach_used(ctx, table, table.get_operation(), &mut reached)?;
+    reach_used(alloc, ctx, table, table.get_operation(), &mut reached)?;
     reach_all_kept(ctx, block, &mut reached)?;
     let mut next = 0;
     'ops: while next < reached.len() {
-        reach_below(ctx, table, reached.at(next), &mut reached)?;
+        reach_below(alloc, ctx, table, reached.at(next), &mut reached)?;
         next += 1;
     }
     Ok(reached)

@@ -1,12 +1,13 @@
 //! Which names operations use, and which symbols are private.
-ghost use Rattle.std.specs.Prelude.{◌≡◌, ◌<◌, ℕ, Bool, List, Some, length, slice_get};
+ghost use Rattle.std.specs.Prelude.{◌≡◌, ℕ, Bool, IfOk, List, length, map};
 ghost use Rattle.plir_core.specs.declared.ptr.IRNode.{IRNode as AnyNode};
 ghost use Rattle.plir_core.specs.Contents.{OpView};
 ghost use Rattle.plir_core.specs.ContextView.{IsLive, op_at};
 ghost use Rattle.plir_symbols.specs.SymbolNames.{is_private_in, names_in};
 
 use plir_core::{Context, Operation, Ptr};
-use plir_data::{Identifier, KindSet, OpSet, OwnKind};
+use plir_data::{Identifier, KindSet, Memory, OpSet, OwnKind};
+use std::alloc::Global;
 
 /// An op set that tells which names its operations use, and which of its symbols are private, by what an operation
 /// holds: what is erased or moved elsewhere changes neither.
@@ -22,11 +23,14 @@ pub trait SymbolNames: OpSet {
         requires { IsLive ctx.now (AnyNode.Operation op) }
         ensures { result ≡ length (names_in names_used (op_at ctx.now op)) };
 
-    /// The name at an index among those that an operation uses.
-    fn used_name(ctx: &Context<Self>, op: Ptr<Operation>, place: usize) -> &Identifier
-        requires live { IsLive ctx.now (AnyNode.Operation op) }
-        requires below { place < length (names_in names_used (op_at ctx.now op)) }
-        ensures { slice_get (names_in names_used (op_at ctx.now op)) place ≡ Some result.now };
+    /// The names that an operation uses, in their order, each as often as it is used.
+    fn used_names(
+        alloc: Global,
+        ctx: &Context<Self>,
+        op: Ptr<Operation>,
+    ) -> Result<Vec<&Identifier>, Memory>
+        requires { IsLive ctx.now (AnyNode.Operation op) }
+        ensures { IfOk result (λ v. map (λ n. n.now) v.items ≡ names_in names_used (op_at ctx.now op)) };
 
     /// Whether a symbol is private: nothing outside the table that it stands in uses its name, so that it may go where
     /// nothing in the table does.
@@ -49,11 +53,14 @@ pub trait SymbolNameKind<D: OpSet>: OwnKind {
         requires { IsLive ctx.now (AnyNode.Operation op) }
         ensures { result ≡ length (names_in names_used (op_at ctx.now op)) };
 
-    /// The name at an index among those that an operation uses.
-    fn used_name(ctx: &Context<D>, op: Ptr<Operation>, place: usize) -> &Identifier
-        requires live { IsLive ctx.now (AnyNode.Operation op) }
-        requires below { place < length (names_in names_used (op_at ctx.now op)) }
-        ensures { slice_get (names_in names_used (op_at ctx.now op)) place ≡ Some result.now };
+    /// The names that an operation uses, in their order, each as often as it is used.
+    fn used_names(
+        alloc: Global,
+        ctx: &Context<D>,
+        op: Ptr<Operation>,
+    ) -> Result<Vec<&Identifier>, Memory>
+        requires { IsLive ctx.now (AnyNode.Operation op) }
+        ensures { IfOk result (λ v. map (λ n. n.now) v.items ≡ names_in names_used (op_at ctx.now op)) };
 
     /// Whether a symbol is private, as [`SymbolNames::is_private`] says.
     fn is_private(ctx: &Context<D>, op: Ptr<Operation>) -> bool
@@ -72,8 +79,12 @@ impl<K: OwnKind + SymbolNameKind<KindSet<K>>> SymbolNames for KindSet<K> {
     }
 
     /// As the kinds say.
-    fn used_name(ctx: &Context<Self>, op: Ptr<Operation>, place: usize) -> &Identifier {
-        <K as SymbolNameKind<KindSet<K>>>::used_name(ctx, op, place)
+    fn used_names(
+        alloc: Global,
+        ctx: &Context<Self>,
+        op: Ptr<Operation>,
+    ) -> Result<Vec<&Identifier>, Memory> {
+        <K as SymbolNameKind<KindSet<K>>>::used_names(alloc, ctx, op)
     }
 
     /// As the kinds say.

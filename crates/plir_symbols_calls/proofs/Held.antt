@@ -1,6 +1,6 @@
 -- What is told of an operation by what it holds.
-use Rattle.std.proofs.Common.{◌≡◌, ◌<◌, ℕ, zero, suc, List, [], ◌∷◌, length, Option, Some, None, option_map, arith, refl, sym, ap}
-use Rattle.std.specs.Prelude.{is_some, slice_get}
+use Rattle.std.proofs.Common.{◌≡◌, ℕ, List, [], ◌∷◌, map, Option, Some, None, option_map, Bor, refl, sym, ap}
+use Rattle.std.specs.Prelude.{is_some}
 use Rattle.std.proofs.lemmas.Option.{none-some}
 use Rattle.plir_data.specs.Dictionary.{dict_get}
 use Rattle.plir_core.specs.Contents.{OpView}
@@ -13,13 +13,9 @@ pub some-map : {X Y : Type 0} (f : X → Y) (o : Option X) → is_some (option_m
 some-map f None = refl
 some-map f (Some x) = refl
 
--- a place in a list of one, and in none
-pub sole-at : {X : Type 0} (xs : List X) (x : X) (i : ℕ) → xs ≡ x ∷ [] → i < length xs → slice_get xs i ≡ Some x
-sole-at xs x zero e l = ap (λ z. slice_get z 0) e
-sole-at xs x (suc i) e l = absurd (let n = ap length e in omega (arith, n, l))
-
-pub none-at : {X : Type 0} (xs : List X) (i : ℕ) → xs ≡ [] → i < length xs → ⊥
-none-at xs i e l = (let n = ap length e in omega (arith, n, l))
+-- what references are to
+abbrev pub texts : List (Bor (List ℕ)) → List (List ℕ)
+texts ns = map (λ n. n.now) ns
 
 module _ {K A : Type 0} where
   pub named-in : (o : Option (OpView K A)) (x : List ℕ) → Some x ≡ name_in (dict_get (attributes_in o) callee_key) → names_in callees o ≡ x ∷ []

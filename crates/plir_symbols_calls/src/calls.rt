@@ -1,8 +1,10 @@
 //! The scripts of sessions, with their answers.
 use crate::ToyKind;
+use crate::holding::HoldingKind;
 use crate::sessions::session;
 use plir_data::KindSet;
-use plir_scripts::{Bench, Layer, Line, Mismatch, NodeCalls, ScriptKind, Stop, play};
+use plir_scripts::{Bench, Layer, Line, Mismatch, NodeCalls, ScriptKind, ScriptSet, Stop, play};
+use plir_symbols::SymbolNames;
 use std::alloc::Global;
 
 impl ScriptKind for ToyKind {
@@ -15,11 +17,21 @@ impl ScriptKind for ToyKind {
     }
 }
 
+impl ScriptKind for HoldingKind {
+    fn of_word(word: &str) -> Option<HoldingKind> {
+        if word == "use" {
+            Some(HoldingKind)
+        } else {
+            None
+        }
+    }
+}
+
 /// The sessions of this crate, and the calls on nodes.
 struct SymbolCalls;
 
-impl Layer<KindSet<ToyKind>> for SymbolCalls {
-    fn run(bench: &mut Bench<KindSet<ToyKind>>, line: Line<'_>) -> Result<(), Stop> {
+impl<D: ScriptSet + SymbolNames> Layer<D> for SymbolCalls {
+    fn run(bench: &mut Bench<D>, line: Line<'_>) -> Result<(), Stop> {
         if line.command == "session" {
             session(bench, line)
         } else {
@@ -35,4 +47,13 @@ impl Layer<KindSet<ToyKind>> for SymbolCalls {
 /// The first line whose answer is another one.
 pub fn play_in(alloc: Global, max_nodes: u32, script: &str) -> Result<(), Mismatch> {
     play::<KindSet<ToyKind>, SymbolCalls>(alloc, max_nodes, script)
+}
+
+/// The same over operations that use names as the builtin ones do.
+///
+/// # Errors
+///
+/// The first line whose answer is another one.
+pub fn play_holding(alloc: Global, max_nodes: u32, script: &str) -> Result<(), Mismatch> {
+    play::<KindSet<HoldingKind>, SymbolCalls>(alloc, max_nodes, script)
 }

@@ -1,10 +1,12 @@
 // SPDX-License-Identifier: Apache-2.0
-//! The calls of scripts on dead symbols and call graphs, over a toy op set, and how such a script is played.
+//! The calls of scripts on dead symbols and call graphs, over a toy op set and one whose operations use
+//! names as the builtin ones do, and how such a script is played.
 #![tactic(auto)]
 
 mod calls;
+mod holding;
 mod sessions;
 mod toy;
 
-pub use calls::play_in;
+pub use calls::{play_holding, play_in};
 pub use toy::ToyKind;

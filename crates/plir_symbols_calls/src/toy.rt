@@ -1,5 +1,5 @@
 //! A toy op set: own kinds of operations, and nothing else.
-ghost use Rattle.std.specs.Prelude.{◌≡◌, ◌<◌, Some, length, option_map, slice_get};
+ghost use Rattle.std.specs.Prelude.{◌≡◌, IfOk, length, map, option_map};
 ghost use Rattle.plir_data.specs.Dictionary.{dict_get};
 ghost use Rattle.plir_core.specs.ContextView.{IsLive, attributes_of, op_at};
 ghost use Rattle.plir_core.specs.declared.ptr.IRNode.{IRNode as AnyNode};
@@ -9,8 +9,9 @@ ghost use Rattle.plir_symbols_calls.specs.Kinds.{callee_key, callees, is_marked}
 
 use plir_builtin::name_in;
 use plir_core::{Context, Operation, Ptr};
-use plir_data::{Identifier, KindSet, NeverRefused, OpSet, OwnKind};
+use plir_data::{Identifier, KindSet, Memory, NeverRefused, OpSet, OwnKind};
 use plir_symbols::SymbolNameKind;
+use std::alloc::Global;
 
 /// The key that the name of a symbol stands under that an operation uses.
 pub const ATTR_KEY_CALLEE: &'static str = "toy_callee";
@@ -83,18 +84,6 @@ fn is_marked<D: OpSet>(ctx: &Context<D>, op: Ptr<Operation>) -> bool
     op.attributes(ctx).get(ATTR_KEY_PRIVATE).is_some()
 }
 
-// The name that an operation uses, which uses one.
-fn sole_callee<D: OpSet>(ctx: &Context<D>, op: Ptr<Operation>, place: usize) -> &Identifier
-    requires live { IsLive ctx.now (AnyNode.Operation op) }
-    requires below { place < length (names_in callees (op_at ctx.now op)) }
-    ensures { slice_get (names_in callees (op_at ctx.now op)) place ≡ Some result.now }
-{
-    match callee(ctx, op) {
-        Some(name) => name,
-        None => unreachable!(),
-    }
-}
-
 // How many names an operation uses: one at most.
 fn num_callees<D: OpSet>(ctx: &Context<D>, op: Ptr<Operation>) -> usize
     requires { IsLive ctx.now (AnyNode.Operation op) }
@@ -103,6 +92,25 @@ fn num_callees<D: OpSet>(ctx: &Context<D>, op: Ptr<Operation>) -> usize
     match callee(ctx, op) {
         Some(_) => 1,
         None => 0,
+    }
+}
+
+// The names that an operation uses.
+fn list_callees<D: OpSet>(
+    alloc: Global,
+    ctx: &Context<D>,
+    op: Ptr<Operation>,
+) -> Result<Vec<&Identifier>, Memory>
+    requires { IsLive ctx.now (AnyNode.Operation op) }
+    ensures { IfOk result (λ v. map (λ n. n.now) v.items ≡ names_in callees (op_at ctx.now op)) }
+{
+    let mut names = Vec::new(alloc);
+    match callee(ctx, op) {
+        Some(name) => {
+            names.push(name)?;
+            Ok(names)
+        }
+        None => Ok(names),
     }
 }
 
@@ -115,8 +123,12 @@ impl SymbolNameKind<KindSet<ToyKind>> for ToyKind {
         num_callees(ctx, op)
     }
 
-    fn used_name(ctx: &Context<KindSet<ToyKind>>, op: Ptr<Operation>, place: usize) -> &Identifier {
-        sole_callee(ctx, op, place)
+    fn used_names(
+        alloc: Global,
+        ctx: &Context<KindSet<ToyKind>>,
+        op: Ptr<Operation>,
+    ) -> Result<Vec<&Identifier>, Memory> {
+        list_callees(alloc, ctx, op)
     }
 
     fn is_private(ctx: &Context<KindSet<ToyKind>>, op: Ptr<Operation>) -> bool {

@@ -99,7 +99,7 @@ returns-clause-graph g c = λ a.
     let names = g.D.SymbolNames.names_used in
     let xs = c.deref-user-items.result.now in
     let all = take_all c.loop-user.user-index xs (omega arith) ∙ c.deref-user-items.ensures.value in
-    subst (IsCallGraph g.D.OpSet.is_symbol g.D.OpSet.is_symbol_table names s c.args.root) (sym c.new.ensures) (record {
+    subst (IsCallGraph g.D.OpSet.is_symbol g.D.OpSet.is_symbol_table names s c.args.root) (sym c.in_ok-graph.ensures) (record {
       users = c.in_ok-users.users.items;
       are_users = c.in_ok-users.ensures;
       are_edges = subst (λ ps. AreEdges g.D.OpSet.is_symbol g.D.OpSet.is_symbol_table s (uses_of names s ps)
@@ -115,3 +115,6 @@ returns-clause-cached g c = λ p user.
 
 pub returns-clause-brought : goal.returns-clause-brought
 returns-clause-brought g c = c.loop-user.invariant.3
+
+pub returns-in_err-graph-clause-brought : goal.returns-in_err-graph-clause-brought
+returns-in_err-graph-clause-brought g c = c.loop-user.invariant.3

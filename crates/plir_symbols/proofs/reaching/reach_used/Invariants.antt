@@ -7,8 +7,8 @@ use Rattle.plir_symbols.specs.Reaching.{IsGrown}
 use Rattle.plir_symbols.specs.SymbolNames.{names_in}
 use Rattle.plir_symbols.proofs.reaching.reach_used.Given as goal
 
-abbrev pub invariant-loop-place : goal.invariant-loop-place
-invariant-loop-place g l =
+abbrev pub invariant-loop-name : goal.invariant-loop-name
+invariant-loop-name g l =
     IsGrown (λ q. IsLive l.ctx (Operation q) × ((x : List ℕ) ×
-    Has (take l.place (names_in g.D.SymbolNames.names_used (op_at l.ctx l.op))) x × (get l.table.names x ≡ Some q)))
+    Has (take l.name-index (names_in g.D.SymbolNames.names_used (op_at l.ctx l.op))) x × (get l.table.names x ≡ Some q)))
     l.fn.reached l.reached
