@@ -100,7 +100,7 @@ module _ {A : Type 0} where
 
     pub gathered-there : (x : List ℕ) → Some x ≡ name_under e → 0 < length all
     gathered-there x is =
-        (let whole = ap length (gathered (Some x) is) in
+        (let whole : length (texts ns ++ x ∷ names_under rest) ≡ length all = ap length (gathered (Some x) is) in
         let parts = length-append (texts ns) (x ∷ names_under rest) in omega (arith, whole, parts))
 
     pub gathered-some : (n : Bor (List ℕ)) (more : List (Bor (List ℕ))) → Some n.now ≡ name_under e →

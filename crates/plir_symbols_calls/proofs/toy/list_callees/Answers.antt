@@ -3,9 +3,9 @@ use Rattle.plir_core.specs.ContextView.{op_at}
 use Rattle.plir_symbols_calls.proofs.Held.{named-in, none-in, texts}
 use Rattle.plir_symbols_calls.proofs.toy.list_callees.Goals as goal
 
-pub returns-in_ok-push-clause-names : goal.returns-in_ok-push-clause-names
-returns-in_ok-push-clause-names g c =
-    ap texts c.in_ok-push.ensures.items
+pub returns-in_ok-push-in-Some-clause-names : goal.returns-in_ok-push-in-Some-clause-names
+returns-in_ok-push-in-Some-clause-names g c =
+    ap texts c.in_ok-push-in-Some.ensures.items
     ∙ ap (λ z. texts (z ++ c.in-Some.name ∷ [])) c.new-names.ensures.items
     ∙ sym (named-in (op_at c.args.ctx.now c.args.op) c.in-Some.name.now c.in-Some.ensures)
 
@@ -13,7 +13,7 @@ pub returns-in-None-clause-names : goal.returns-in-None-clause-names
 returns-in-None-clause-names g c =
     ap texts c.new-names.ensures.items ∙ sym (none-in (op_at c.args.ctx.now c.args.op) c.in-None.ensures)
 
-pub returns-in_err-push-clause-refused : goal.returns-in_err-push-clause-refused
-returns-in_err-push-clause-refused g c =
+pub returns-in_err-push-in-Some-clause-refused : goal.returns-in_err-push-in-Some-clause-refused
+returns-in_err-push-in-Some-clause-refused g c =
     let one = ap length (named-in (op_at c.args.ctx.now c.args.op) c.in-Some.name.now c.in-Some.ensures) in
     omega (arith, one)
