@@ -1,6 +1,6 @@
 -- Chains of places: one place more, and what is read along the chain of an operation.
-use Rattle.std.proofs.Common.{◌≡◌, ◌<◌, ◌≤◌, ◌+◌, ℕ, suc, Bool, true, false, cond, List, [], ◌∷◌, ◌++◌, length, map, reverse}
-use Rattle.std.proofs.Common.{take, get_or, Option, Some, None, option_and_then, arith, refl, sym, ap, subst, ◌∙◌}
+use Rattle.std.proofs.Common.{◌≡◌, ◌<◌, ◌≤◌, ◌+◌, ℕ, suc, Bool, true, false, cond, List, [], ◌∷◌, ◌++◌, length, map}
+use Rattle.std.proofs.Common.{reverse, take, get_or, Option, Some, None, option_and_then, arith, refl, sym, ap, subst, ◌∙◌}
 use Rattle.std.specs.Prelude.{slice_get}
 use Rattle.std.specs.HashMap.{get}
 use Rattle.std.specs.List.{filter_map, cons_option}
@@ -13,7 +13,8 @@ use Rattle.plir_core.specs.declared.ptr.Ptr.{Ptr}
 use Rattle.plir_core.specs.declared.ptr.Operation.{Operation as OperationKind}
 use Rattle.plir_walk.specs.NodeLaws.{same_ptr_tells}
 use Rattle.plir_symbols.specs.CallGraph.{is_found}
-use Rattle.plir_symbols.specs.Chained.{AreChains, at_end, beyond, earlier_in, found_by, last_of, last_place, place_behind}
+use Rattle.plir_symbols.specs.Chained.{AreChains, at_end, beyond, earlier_in, found_by, last_of, last_place}
+use Rattle.plir_symbols.specs.Chained.{place_behind}
 use Rattle.plir_symbols.specs.Reaching.{ptr_eq}
 use Rattle.plir_symbols.specs.declared.call_edges.CallEdge.{CallEdge}
 use Rattle.plir_symbols.specs.declared.call_edges.End.{End}
@@ -47,7 +48,8 @@ module _ {X : Type 0} (test : X → Bool) where
   pub last-within : (xs : List X) → past (last_place test xs) ≤ length xs
   last-within [] = omega arith
   last-within (x ∷ xs) =
-      (let rest = last-within xs in let more = behind-within (test x) (last_place test xs) in omega (arith, rest, more))
+      (let rest = last-within xs in
+      let more = behind-within (test x) (last_place test xs) in omega (arith, rest, more))
 
   -- A list is cut at the last thing in it that passes.
   pub record IsCut (xs : List X) (i : ℕ) : Type 0 where
@@ -181,7 +183,7 @@ module _ (es : List CallEdge) (end : End) (p : Ptr OperationKind) where
   off : (e : CallEdge) → here e ≡ false → found_by end p e ≡ None
   off e is = ap (λ b. cond b (beyond end e) None) is
 
-  -- A look along the chain of p has come to a place, and found what is given of the edges from there on, the last first.
+  -- A look along the chain of p has come to a place, and found what is given of the edges behind it, the last first.
   pub record IsSought (at : Option ℕ) (found : List (Ptr OperationKind)) : Type 0 where
     pub left : List CallEdge
     pub passed : List CallEdge
@@ -207,7 +209,8 @@ module _ (es : List CallEdge) (end : End) (p : Ptr OperationKind) where
       (sym (last-map (is_found p) (at_end end) s.left) ∙ sym s.place ∙ e)))
       ∙ s.behind
 
-  module _ (at : Option ℕ) (found : List (Ptr OperationKind)) (s : IsSought at found) (i : ℕ) (is : at ≡ Some i) where
+  module _ (at : Option ℕ) (found : List (Ptr OperationKind)) (s : IsSought at found) (i : ℕ)
+      (is : at ≡ Some i) where
     cut : IsCut here s.left i
     cut = last-cut here s.left i (sym (last-map (is_found p) (at_end end) s.left) ∙ sym s.place ∙ is)
 

@@ -1,10 +1,10 @@
 -- The names that the entries of a dictionary use, entry by entry.
-use Rattle.std.proofs.Common.{◌≡◌, ◌≤◌, ◌+◌, ◌-◌, ℕ, suc, true, false, cond, List, [], ◌∷◌, ◌++◌, length, Bor}
+use Rattle.std.proofs.Common.{◌≡◌, ◌≤◌, ◌<◌, ◌+◌, ◌-◌, ℕ, suc, true, false, cond, List, [], ◌∷◌, ◌++◌, length, Bor}
 use Rattle.std.proofs.Common.{Option, Some, None, option_map, arith, refl, sym, ap, ◌∙◌}
 use Rattle.std.specs.Prelude.{codes, is_some}
 use Rattle.std.specs.List.{cons_option}
 use Rattle.std.specs.Str.{bytes_eq}
-use Rattle.std.proofs.lemmas.List.{append_assoc, append-nil, map-append}
+use Rattle.std.proofs.lemmas.List.{append_assoc, append-nil, length-append, map-append}
 use Rattle.plir_data.specs.AttrView.{AttrView}
 use Rattle.plir_data.specs.Dictionary.{dict_get}
 use Rattle.plir_data.specs.Keys.{symbol_key}
@@ -97,6 +97,11 @@ module _ {A : Type 0} where
 
     pub gathered-none : None ≡ name_under e → texts ns ++ names_under rest ≡ all
     gathered-none is = gathered None is
+
+    pub gathered-there : (x : List ℕ) → Some x ≡ name_under e → 0 < length all
+    gathered-there x is =
+        (let whole : length (texts ns ++ x ∷ names_under rest) ≡ length all = ap length (gathered (Some x) is) in
+        let parts = length-append (texts ns) (x ∷ names_under rest) in omega (arith, whole, parts))
 
     pub gathered-some : (n : Bor (List ℕ)) (more : List (Bor (List ℕ))) → Some n.now ≡ name_under e →
         more ≡ ns ++ n ∷ [] → texts more ++ names_under rest ≡ all

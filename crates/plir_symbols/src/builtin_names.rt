@@ -1,5 +1,5 @@
 //! Which names the builtin operations use, and which of their symbols are private.
-ghost use Rattle.std.specs.Prelude.{◌≡◌, IfOk, Some, is_some, length, map, option_map};
+ghost use Rattle.std.specs.Prelude.{◌≡◌, ◌<◌, IfOk, OnErr, Some, is_some, length, map, option_map};
 ghost use Rattle.plir_data.specs.AttrSeen.{attr_view};
 ghost use Rattle.plir_core.specs.declared.ptr.IRNode.{IRNode as AnyNode};
 ghost use Rattle.plir_core.specs.ContextView.{IsLive, op_at};
@@ -50,14 +50,15 @@ pub fn num_names_held<D: OpSet>(ctx: &Context<D>, op: Ptr<Operation>) -> usize
     count
 }
 
-/// These names, in the order of the keys. Where there is none, no memory is taken.
+/// These names, in the order of the keys. Refused only where there is one, for want of memory for the list.
 pub fn names_held<D: OpSet>(
     alloc: Global,
     ctx: &Context<D>,
     op: Ptr<Operation>,
 ) -> Result<Vec<&Identifier>, Memory>
     requires { IsLive ctx.now (AnyNode.Operation op) }
-    ensures { IfOk result (λ v. map (λ n. n.now) v.items ≡ names_in names_held (op_at ctx.now op)) }
+    ensures names { IfOk result (λ v. map (λ n. n.now) v.items ≡ names_in names_held (op_at ctx.now op)) }
+    ensures refused { OnErr result (0 < length (names_in names_held (op_at ctx.now op))) }
 {
     let mut names = Vec::new(alloc);
     'entries: for (key, attribute) in op.attributes(ctx).iter() {

@@ -1,5 +1,5 @@
 //! Which names operations use, and which symbols are private.
-ghost use Rattle.std.specs.Prelude.{◌≡◌, ℕ, Bool, IfOk, List, length, map};
+ghost use Rattle.std.specs.Prelude.{◌≡◌, ◌<◌, ℕ, Bool, IfOk, List, OnErr, length, map};
 ghost use Rattle.plir_core.specs.declared.ptr.IRNode.{IRNode as AnyNode};
 ghost use Rattle.plir_core.specs.Contents.{OpView};
 ghost use Rattle.plir_core.specs.ContextView.{IsLive, op_at};
@@ -23,14 +23,16 @@ pub trait SymbolNames: OpSet {
         requires { IsLive ctx.now (AnyNode.Operation op) }
         ensures { result ≡ length (names_in names_used (op_at ctx.now op)) };
 
-    /// The names that an operation uses, in their order, each as often as it is used.
+    /// The names that an operation uses, in their order, each as often as it is used. Refused only where there is one,
+    /// for want of memory for the list.
     fn used_names(
         alloc: Global,
         ctx: &Context<Self>,
         op: Ptr<Operation>,
     ) -> Result<Vec<&Identifier>, Memory>
         requires { IsLive ctx.now (AnyNode.Operation op) }
-        ensures { IfOk result (λ v. map (λ n. n.now) v.items ≡ names_in names_used (op_at ctx.now op)) };
+        ensures names { IfOk result (λ v. map (λ n. n.now) v.items ≡ names_in names_used (op_at ctx.now op)) }
+        ensures refused { OnErr result (0 < length (names_in names_used (op_at ctx.now op))) };
 
     /// Whether a symbol is private: nothing outside the table that it stands in uses its name, so that it may go where
     /// nothing in the table does.
@@ -53,14 +55,16 @@ pub trait SymbolNameKind<D: OpSet>: OwnKind {
         requires { IsLive ctx.now (AnyNode.Operation op) }
         ensures { result ≡ length (names_in names_used (op_at ctx.now op)) };
 
-    /// The names that an operation uses, in their order, each as often as it is used.
+    /// The names that an operation uses, in their order, each as often as it is used. Refused only where there is one,
+    /// for want of memory for the list.
     fn used_names(
         alloc: Global,
         ctx: &Context<D>,
         op: Ptr<Operation>,
     ) -> Result<Vec<&Identifier>, Memory>
         requires { IsLive ctx.now (AnyNode.Operation op) }
-        ensures { IfOk result (λ v. map (λ n. n.now) v.items ≡ names_in names_used (op_at ctx.now op)) };
+        ensures names { IfOk result (λ v. map (λ n. n.now) v.items ≡ names_in names_used (op_at ctx.now op)) }
+        ensures refused { OnErr result (0 < length (names_in names_used (op_at ctx.now op))) };
 
     /// Whether a symbol is private, as [`SymbolNames::is_private`] says.
     fn is_private(ctx: &Context<D>, op: Ptr<Operation>) -> bool

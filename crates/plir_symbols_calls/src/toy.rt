@@ -1,5 +1,5 @@
 //! A toy op set: own kinds of operations, and nothing else.
-ghost use Rattle.std.specs.Prelude.{◌≡◌, IfOk, length, map, option_map};
+ghost use Rattle.std.specs.Prelude.{◌≡◌, ◌<◌, IfOk, OnErr, length, map, option_map};
 ghost use Rattle.plir_data.specs.Dictionary.{dict_get};
 ghost use Rattle.plir_core.specs.ContextView.{IsLive, attributes_of, op_at};
 ghost use Rattle.plir_core.specs.declared.ptr.IRNode.{IRNode as AnyNode};
@@ -102,7 +102,8 @@ fn list_callees<D: OpSet>(
     op: Ptr<Operation>,
 ) -> Result<Vec<&Identifier>, Memory>
     requires { IsLive ctx.now (AnyNode.Operation op) }
-    ensures { IfOk result (λ v. map (λ n. n.now) v.items ≡ names_in callees (op_at ctx.now op)) }
+    ensures names { IfOk result (λ v. map (λ n. n.now) v.items ≡ names_in callees (op_at ctx.now op)) }
+    ensures refused { OnErr result (0 < length (names_in callees (op_at ctx.now op))) }
 {
     let mut names = Vec::new(alloc);
     match callee(ctx, op) {

@@ -26,7 +26,7 @@ loop-name-preserved g c =
     let names = g.D.SymbolNames.names_used in
     let i = c.loop-name.name-index in
     let ns = c.deref-name-items.result.now in
-    let told = ap texts c.deref-name-items.ensures.value ∙ c.in_ok-names.ensures in
+    let told = ap texts c.deref-name-items.ensures.value ∙ c.in_ok-names.ensures.names in
     let old = c.args.edges.now.items in
     let next : i + 1 ≡ suc i = omega arith in (
       λ a. c.edge_of.ensures.agree (c.loop-name.invariant.0 a),
@@ -85,7 +85,7 @@ pub returns-clause-put : goal.returns-clause-put
 returns-clause-put g c = λ a.
     let names = names_in g.D.SymbolNames.names_used (op_at c.args.ctx.now c.args.user) in
     let many = told-many c.deref-name-items.result.now names
-    (ap texts c.deref-name-items.ensures.value ∙ c.in_ok-names.ensures) in
+    (ap texts c.deref-name-items.ensures.value ∙ c.in_ok-names.ensures.names) in
     put-all g.D.OpSet.is_symbol g.D.OpSet.is_symbol_table c.args.ctx.now g.D.SymbolNames.names_used
     c.loop-name.name-index c.args.user c.args.edges.now.items c.loop-name.edges.items (omega (arith, many))
     (c.loop-name.invariant.2 a)
@@ -94,5 +94,5 @@ pub returns-clause-cached : goal.returns-clause-cached
 returns-clause-cached g c = λ less.
     let names = names_in g.D.SymbolNames.names_used (op_at c.args.ctx.now c.args.user) in
     let many = told-many c.deref-name-items.result.now names
-    (ap texts c.deref-name-items.ensures.value ∙ c.in_ok-names.ensures) in
+    (ap texts c.deref-name-items.ensures.value ∙ c.in_ok-names.ensures.names) in
     c.loop-name.invariant.4 (omega (arith, many, less))

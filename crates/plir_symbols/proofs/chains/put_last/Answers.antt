@@ -5,16 +5,17 @@ use Rattle.plir_symbols.specs.Reaching.{ptr_eq}
 use Rattle.plir_symbols.proofs.Chaining.{put-found}
 use Rattle.plir_symbols.proofs.chains.put_last.Goals as goal
 
-pub returns-in_ok-before-clause-before : goal.returns-in_ok-before-clause-before
-returns-in_ok-before-clause-before c =
-    c.in_ok-before.ensures.old
+pub returns-in_ok-before-in-Some-clause-before : goal.returns-in_ok-before-in-Some-clause-before
+returns-in_ok-before-in-Some-clause-before c =
+    c.in_ok-before-in-Some.ensures.old
     ∙ ap (option_and_then (get ptr_eq c.args.latest.now)) (sym c.in-Some.is)
 
-pub returns-in_ok-before-clause-updates : goal.returns-in_ok-before-clause-updates
-returns-in_ok-before-clause-updates c = λ p.
+pub returns-in_ok-before-in-Some-clause-updates : goal.returns-in_ok-before-in-Some-clause-updates
+returns-in_ok-before-in-Some-clause-updates c = λ p.
     let old = get ptr_eq c.args.latest.now p in
     subst (λ o. get ptr_eq c.insert.new.self p ≡ cond (is_found p o) (Some c.args.place) old) (sym c.in-Some.is)
-    (put-found c.in-Some.op p c.args.place (get ptr_eq c.insert.new.self p) old (c.in_ok-before.ensures.updates.0 p))
+    (put-found c.in-Some.op p c.args.place (get ptr_eq c.insert.new.self p) old
+    (c.in_ok-before-in-Some.ensures.updates.0 p))
 
 pub returns-in-None-clause-before : goal.returns-in-None-clause-before
 returns-in-None-clause-before c = ap (option_and_then (get ptr_eq c.args.latest.now)) (sym c.in-None.is)

@@ -17,7 +17,7 @@ loop-name-preserved g c =
     let s = c.args.ctx.now in
     let names = names_in g.D.SymbolNames.names_used (op_at s c.args.op) in
     let i = c.loop-name.name-index in
-    let told = ap texts c.deref-name-items.ensures.value ∙ c.in_ok-names.ensures in
+    let told = ap texts c.deref-name-items.ensures.value ∙ c.in_ok-names.ensures.names in
     let next : i + 1 ≡ suc i = omega arith in
     subst (λ k. IsGrown (IsFoundUnder (λ q. IsLive s (Operation q)) (get c.args.table.now.names) names (take k names))
     c.args.reached.now c.reach_name.new.reached) (sym next)
@@ -30,6 +30,6 @@ returns g c =
     let s = c.args.ctx.now in
     let names = names_in g.D.SymbolNames.names_used (op_at s c.args.op) in
     let many = told-many c.deref-name-items.result.now names
-    (ap texts c.deref-name-items.ensures.value ∙ c.in_ok-names.ensures) in
+    (ap texts c.deref-name-items.ensures.value ∙ c.in_ok-names.ensures.names) in
     names-all (λ q. IsLive s (Operation q)) (get c.args.table.now.names) names c.loop-name.name-index
     c.args.reached.now c.loop-name.reached (omega (arith, many)) c.loop-name.invariant

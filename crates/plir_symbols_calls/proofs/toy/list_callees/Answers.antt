@@ -1,14 +1,19 @@
-use Rattle.std.proofs.Common.{[], ◌∷◌, ◌++◌, sym, ap, ◌∙◌}
+use Rattle.std.proofs.Common.{◌<◌, [], ◌∷◌, ◌++◌, length, arith, sym, ap, ◌∙◌}
 use Rattle.plir_core.specs.ContextView.{op_at}
 use Rattle.plir_symbols_calls.proofs.Held.{named-in, none-in, texts}
 use Rattle.plir_symbols_calls.proofs.toy.list_callees.Goals as goal
 
-pub returns-in_ok-push : goal.returns-in_ok-push
-returns-in_ok-push g c =
-    ap texts c.in_ok-push.ensures.items
+pub returns-in_ok-push-in-Some-clause-names : goal.returns-in_ok-push-in-Some-clause-names
+returns-in_ok-push-in-Some-clause-names g c =
+    ap texts c.in_ok-push-in-Some.ensures.items
     ∙ ap (λ z. texts (z ++ c.in-Some.name ∷ [])) c.new-names.ensures.items
     ∙ sym (named-in (op_at c.args.ctx.now c.args.op) c.in-Some.name.now c.in-Some.ensures)
 
-pub returns-in-None : goal.returns-in-None
-returns-in-None g c =
+pub returns-in-None-clause-names : goal.returns-in-None-clause-names
+returns-in-None-clause-names g c =
     ap texts c.new-names.ensures.items ∙ sym (none-in (op_at c.args.ctx.now c.args.op) c.in-None.ensures)
+
+pub returns-in_err-push-in-Some-clause-refused : goal.returns-in_err-push-in-Some-clause-refused
+returns-in_err-push-in-Some-clause-refused g c =
+    let one = ap length (named-in (op_at c.args.ctx.now c.args.op) c.in-Some.name.now c.in-Some.ensures) in
+    omega (arith, one)
