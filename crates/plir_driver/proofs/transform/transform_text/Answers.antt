@@ -47,10 +47,10 @@ returns-in_err-run_passes-clause-stopped g c =
       c.in_ok-root.ensures.found,
       inr (
         c.in_ok-verify_tree.ensures.ok,
-        inl (subst (λ z. IsStoppedIn g.D.OpSet g.D.EffectSet.has_effect
-            g.D.SymbolUserSet.uses_hold g.D.SymbolUserSet.use_refusal g.D.VerifySet.rule g.D.VerifySet.rule_refusal
-            g.D.SymbolNames.is_private g.D.SymbolNames.names_used c.in_ok-root.root c.args.choices.now.verify z
-            c.read_op.new.ctx c.in_err-run_passes.field-0.0) c.as_slice.ensures.value c.in_err-run_passes.ensures.stopped),
+        inl (subst (λ z. IsStoppedIn g.D.OpSet g.D.SymbolUserSet.uses_hold g.D.SymbolUserSet.use_refusal
+            g.D.VerifySet.rule g.D.VerifySet.rule_refusal g.P.Pass.has_passed g.P.Pass.may_stop c.in_ok-root.root
+            c.args.choices.now.verify z c.read_op.new.ctx c.in_err-run_passes.field-0.0) c.as_slice.ensures.value
+            c.in_err-run_passes.ensures.stopped),
       ),
     ))
 
@@ -63,9 +63,9 @@ returns-clause-transformed g c =
       stands = c.in_ok-root.ensures.found;
       verified = c.in_ok-verify_tree.ensures.ok;
       passed =
-          subst (λ z. AreRun g.D.OpSet g.D.EffectSet.has_effect g.D.SymbolNames.is_private g.D.SymbolNames.names_used
-          c.in_ok-root.root g.D.SymbolUserSet.uses_hold g.D.VerifySet.rule c.args.choices.now.verify z
-          c.read_op.new.ctx c.run_passes.new.ctx) c.as_slice.ensures.value c.in_ok-run_passes.ensures.passed;
+          subst (λ z. AreRun g.D.OpSet g.P.Pass.has_passed c.in_ok-root.root g.D.SymbolUserSet.uses_hold
+          g.D.VerifySet.rule c.args.choices.now.verify z c.read_op.new.ctx c.run_passes.new.ctx)
+          c.as_slice.ensures.value c.in_ok-run_passes.ensures.passed;
       prints = prints;
     }) c.print.ensures.printed
 
@@ -79,9 +79,9 @@ returns-clause-stopped g c =
         c.in_ok-verify_tree.ensures.ok,
         inr (
           c.run_passes.new.ctx,
-          subst (λ z. AreRun g.D.OpSet g.D.EffectSet.has_effect g.D.SymbolNames.is_private g.D.SymbolNames.names_used
-              c.in_ok-root.root g.D.SymbolUserSet.uses_hold g.D.VerifySet.rule c.args.choices.now.verify z
-              c.read_op.new.ctx c.run_passes.new.ctx) c.as_slice.ensures.value c.in_ok-run_passes.ensures.passed,
+          subst (λ z. AreRun g.D.OpSet g.P.Pass.has_passed c.in_ok-root.root g.D.SymbolUserSet.uses_hold
+              g.D.VerifySet.rule c.args.choices.now.verify z c.read_op.new.ctx c.run_passes.new.ctx)
+              c.as_slice.ensures.value c.in_ok-run_passes.ensures.passed,
           unprinted,
         ),
       ),
@@ -95,8 +95,7 @@ returns-clause-logged g c =
       left = c.run_passes.new.ctx;
       stands = c.in_ok-root.ensures.found;
       told =
-          subst (λ z. AreLogged g.D.OpSet g.D.EffectSet.has_effect g.D.SymbolNames.is_private g.D.SymbolNames.names_used
-          c.args.choices.now.reports c.in_ok-root.root z c.read_op.new.ctx c.run_passes.new.ctx
-          (string_bytes c.args.log.now) (string_bytes c.run_passes.new.log)) c.as_slice.ensures.value
-          c.in_ok-run_passes.ensures.logged;
+          subst (λ z. AreLogged g.D.OpSet g.P.Pass.pass_name g.P.Pass.has_passed c.args.choices.now.reports
+          c.in_ok-root.root z c.read_op.new.ctx c.run_passes.new.ctx (string_bytes c.args.log.now)
+          (string_bytes c.run_passes.new.log)) c.as_slice.ensures.value c.in_ok-run_passes.ensures.logged;
     })
