@@ -1,6 +1,6 @@
 -- The first of a list that passes a test, as far as a loop has come.
-use Rattle.std.proofs.Common.{◌≡◌, ℕ, suc, ◌+◌, ◌<◌, ◌≤◌, Bool, true, false, cond, List, [], ◌∷◌, ◌++◌, length, drop, take}
-use Rattle.std.proofs.Common.{get_or, arith, sym, ap, ◌∙◌, Option, Some, None}
+use Rattle.std.proofs.Common.{◌≡◌, ℕ, suc, ◌+◌, ◌<◌, ◌≤◌, Bool, true, false, cond, List, [], ◌∷◌, ◌++◌, length, drop}
+use Rattle.std.proofs.Common.{take, get_or, arith, sym, ap, ◌∙◌, Some, None}
 use Rattle.std.specs.List.{find}
 use Rattle.std.specs.Option.{option_or}
 use Rattle.std.proofs.lemmas.List.{take_all}
@@ -11,7 +11,8 @@ use Rattle.plir_driver.proofs.Passing.{parted}
 module _ {X : Type 0} (test : X → Bool) (xs : List X) (i : ℕ) where
   -- no element in front of a place passes it, so the first is found from there on
   found-from : (d : X) (rest : List X) → find test (take i xs) ≡ None →
-      find test (take i xs ++ get_or xs i d ∷ rest) ≡ cond (test (get_or xs i d)) (Some (get_or xs i d)) (find test rest)
+      find test (take i xs ++ get_or xs i d ∷ rest)
+      ≡ cond (test (get_or xs i d)) (Some (get_or xs i d)) (find test rest)
   found-from d rest none =
       find-append test (take i xs) (get_or xs i d ∷ rest)
       ∙ ap (λ o. option_or o (find test (get_or xs i d ∷ rest))) none

@@ -40,7 +40,8 @@ module _ (ws : List (Bor (List ℕ))) (i : ℕ) (d : Bor (List ℕ)) where
         (zip-push (Names name_of offered) (map (λ w. w.now) (take i ws)) passes (get_or ws i d).now p so_far here))
 
     -- the word at a place is refused
-    pub refused_at : (e : PipelineErr) → i < length ws → AreNames name_of offered (map (λ w. w.now) (take i ws)) passes →
+    pub refused_at : (e : PipelineErr) → i < length ws →
+        AreNames name_of offered (map (λ w. w.now) (take i ws)) passes →
         IsNoName name_of offered (get_or ws i d).now e → AreRefused name_of offered (map (λ w. w.now) ws) e
     refused_at (NoPass name) below so_far none = (
       map (λ w. w.now) (take i ws),

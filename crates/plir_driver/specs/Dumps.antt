@@ -37,9 +37,9 @@ module _ {D K A T E : Type 0} (o : op_set.Ghosts D K A T E) (root : Ptr Operatio
 
 -- `name_of` gives the names of passes.
 module _ {D K A T E X : Type 0} (o : op_set.Ghosts D K A T E) (name_of : X → List ℕ) (root : Ptr OperationKind) where
-  -- A pass went from s to u: the operation as it was in s stands behind a text, if it is to be told in front of passes
-  -- of this name; then as it is in u, if it is to be told behind each; and then how many operations there were and are,
-  -- if that is to be told.
+  -- A pass went from s to u: the operation as it was in s stands behind a text, if it is to be told in front of
+  -- passes of this name; then as it is in u, if it is to be told behind each; and then how many operations there were
+  -- and are, if that is to be told.
   pub record IsPassLogged (reports : Reports X) (pass : X) (s u : ContextView K A T) (t t' : List ℕ) : Type 0 where
     pub between : List ℕ
     pub dumped : List ℕ

@@ -26,8 +26,8 @@ library_name Dce = codes "dce"
 library_name SymbolDce = codes "symbol-dce"
 
 module _ {K A T : Type 0} (effect ends : K → Bool) (p : Ptr OperationKind) where
-  -- From s to t, of the operations at or below p exactly those are left that are reached, so that in t all of them are,
-  -- and none is dead; all else stays as it was.
+  -- From s to t, of the operations at or below p exactly those are left that are reached, so that in t all of them
+  -- are, and none is dead; all else stays as it was.
   pub record IsSweptOf (s t : ContextView K A T) : Type 0 where
     pub left : IsReachedLeft effect ends s p t
     pub clean : AreAllReached effect ends t p

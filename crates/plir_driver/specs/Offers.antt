@@ -28,8 +28,8 @@ is_own_word name = list_any (λ word. bytes_eq word.now name) OWN_WORDS
 
 -- `name_of` gives the names of passes.
 module _ {P : Type 0} (name_of : P → List ℕ) where
-  -- A pass can be offered behind others: an option can have its name, which is no word of the driver's own, and none of
-  -- the others bears it.
+  -- A pass can be offered behind others: an option can have its name, which is no word of the driver's own, and none
+  -- of the others bears it.
   pub record CanFollow (front : List P) (p : P) : Type 0 where
     pub formed : is_option_name (name_of p) ≡ true
     pub free : is_own_word (name_of p) ≡ false

@@ -10,8 +10,10 @@ use Rattle.plir_driver.specs.PassRules.{RunRule}
 
 -- `has_passed` says what one run of each pass leaves.
 module _ {P K A T : Type 0} (has_passed : RunRule P K A T) (root : Ptr OperationKind) where
-  -- From s to t passes have gone over the operation root, one after another, each once, and behind each `stands` holds.
-  abbrev pub ArePassed : (stands : ContextView K A T → Type 0) → List P → ContextView K A T → ContextView K A T → Type 0
+  -- From s to t passes have gone over the operation root, one after another, each once, and behind each `stands`
+  -- holds.
+  abbrev pub ArePassed : (stands : ContextView K A T → Type 0) → List P → ContextView K A T → ContextView K A T
+      → Type 0
   ArePassed stands [] s t = t ≡ s
   ArePassed stands (x ∷ xs) s t =
       (u : ContextView K A T) × has_passed x root s u × stands u × ArePassed stands xs u t

@@ -11,7 +11,8 @@ use Rattle.plir_verify.specs.declared.tree_err.TreeVerifyErr.{TreeVerifyErr}
 use Rattle.plir_driver.specs.declared.pass_err.PassErr.{PassErr}
 use Rattle.plir_driver.specs.declared.pass_err.PassErr.TheVariants as of_passes
 use Rattle.plir_driver.specs.declared.stop.Stop.{Stop}
-use Rattle.plir_driver.specs.declared.stop.Stop.TheVariants.{Unread, Refused, NoTable, Unfit, TooManyNodes, OutOfMemory}
+use Rattle.plir_driver.specs.declared.stop.Stop.TheVariants.{Unread, Refused, NoTable, Unfit}
+use Rattle.plir_driver.specs.declared.stop.Stop.TheVariants.{TooManyNodes, OutOfMemory}
 
 -- what a symbol table reports to a pass
 abbrev pub of_table_in_pass : SymbolTableErr → PassErr

@@ -96,8 +96,8 @@ module _ {D K A T E P : Type 0} (o : op_set.Ghosts D K A T E) (uses_hold : UseRu
     (use_refusal : UseRefusal K A T E) (rule : UseRule K A T) (rule_refusal : UseRefusal K A T E)
     (names : OpView K A → List (List ℕ)) (has_passed : RunRule P K A T) (may_stop : StopRule P K A T)
     (root : Ptr OperationKind) where
-  -- Behind the reading: something is wrong with what was read; or it is right, and one of the passes is where it stops,
-  -- or all of them were run, and what they left is not printed.
+  -- Behind the reading: something is wrong with what was read; or it is right, and one of the passes is where it
+  -- stops, or all of them were run, and what they left is not printed.
   abbrev pub IsStoppedBehind : Bool → List P → Form → ContextView K A T → Stop E → Type 0
   IsStoppedBehind verify passes form s stop =
       IsWrong o uses_hold use_refusal rule rule_refusal root s stop ⊎ (AllHaveRules o uses_hold rule s root ×
@@ -111,8 +111,8 @@ abbrev pub IsStopped : {D K A T E P : Type 0} → (o : op_set.Ghosts D K A T E) 
     (use_refusal : UseRefusal K A T E) → (rule : UseRule K A T) → (rule_refusal : UseRefusal K A T E) →
     (names : OpView K A → List (List ℕ)) → (has_passed : RunRule P K A T) → (may_stop : StopRule P K A T) →
     Bool → List P → Form → List ℕ → Stop E → Type 0
-IsStopped {D} {K} {A} {T} {E} {P} o uses_hold use_refusal rule rule_refusal names has_passed may_stop verify passes form
-    bytes stop =
+IsStopped {D} {K} {A} {T} {E} {P} o uses_hold use_refusal rule rule_refusal names has_passed may_stop verify passes
+    form bytes stop =
     IsUnread K A bytes stop
     ⊎ ((root : Ptr OperationKind) × (read : ContextView K A T) × StandsForOp 200 read bytes (Operation root)
     × IsStoppedBehind o uses_hold use_refusal rule rule_refusal names has_passed may_stop root verify passes form read

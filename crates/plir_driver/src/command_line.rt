@@ -28,7 +28,7 @@ const AFTER: &str =
     "The operation and all below it are verified once they are read. Passes run in the order of the \
 command line. Nothing is printed before all has gone well, but for the parts that go well of an input \
 that is cut, which go to the standard output. The status is 1 where the text can't be read, an \
-operation is refused or memory runs out, and 2 for a wrong command line.";
+operation is refused, a pass stops or memory runs out, and 2 for a wrong command line.";
 
 // An option without a value.
 fn flag<'a>(alloc: Global, id: &'a str, help: &'a str) -> Arg<'a> {

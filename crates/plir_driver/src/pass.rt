@@ -11,8 +11,8 @@ use plir_core::{Context, Operation, Ptr};
 use plir_data::OpSet;
 use std::alloc::Global;
 
-/// A pass over the operations of an op set `D`, as a value: [`opt_main`](crate::opt_main) offers it under its name. What
-/// a program over passes promises is made of what each of them promises here.
+/// A pass over the operations of an op set `D`, as a value: [`opt_main`](crate::opt_main) offers it under its name.
+/// What a program over passes promises is made of what each of them promises here.
 pub trait Pass<D: OpSet>: Copy {
     // Its name.
     ghost pass_name: { Self → List ℕ };

@@ -19,12 +19,13 @@ use std::process::ExitCode;
 use std::{env, io};
 
 /// The whole of a program over an op set, as its command line asks for it: it reads the text of one operation,
-/// verifies it, runs passes over it, and prints it. Each of `passes` is offered by an option of its name, and by its name
-/// in a pipeline; several kinds of passes are offered as [`OneOf`](crate::OneOf) them. The status is 0, or 1 where the
-/// text can't be read, an operation is refused, a pass stops or memory runs out, or 2 for a wrong command line.
+/// verifies it, runs passes over it, and prints it. Each of `passes` is offered by an option of its name, and by its
+/// name in a pipeline; several kinds of passes are offered as [`OneOf`](crate::OneOf) them. The status is 0, or 1
+/// where the text can't be read, an operation is refused, a pass stops or memory runs out, or 2 for a wrong command
+/// line.
 ///
-/// Where the passes can't be offered, as [`check_offer`] tells, that is told, whatever the command line, and the status
-/// is 2.
+/// Where the passes can't be offered, as [`check_offer`] tells, that is told, whatever the command line, and the
+/// status is 2.
 ///
 /// # Errors
 ///

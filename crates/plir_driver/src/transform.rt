@@ -24,14 +24,14 @@ use plir_symbols::SymbolNames;
 use plir_verify::{VerifySet, verify_tree};
 use std::alloc::Global;
 
-/// What is printed for the bytes of a text: they are read as an operation, which is verified, taken through the passes,
-/// and printed. What is told of the passes as they run is put behind the log.
+/// What is printed for the bytes of a text: they are read as an operation, which is verified, taken through the
+/// passes, and printed. What is told of the passes as they run is put behind the log.
 ///
 /// # Errors
 ///
 /// The first that holds of these: the bytes are no text, or a text that can't be read; an operation is refused, once
-/// all is read, or behind a pass; a pass stops; the operation, or its call graph, can't be printed; or memory or room for
-/// a node is wanting.
+/// all is read, or behind a pass; a pass stops; the operation, or its call graph, can't be printed; or memory or room
+/// for a node is wanting.
 pub fn transform<D: VerifySet + SymbolNames, P: Pass<D>>(
     alloc: Global,
     choices: &Choices<P>,
@@ -92,11 +92,12 @@ fn run_passes<D: VerifySet + SymbolNames, P: Pass<D>>(
 ) -> Result<(), Stop<D::Err>>
     requires { IsLive ctx.old (AnyNode.Operation root) }
     ensures live { IsLive ctx.new (AnyNode.Operation root) }
-    ensures passed { OnOk result (AreRun D.OpSet P.has_passed root D.uses_hold D.rule verify passes.now ctx.old ctx.new) }
+    ensures passed { OnOk result (AreRun D.OpSet P.has_passed root D.uses_hold D.rule verify passes.now ctx.old
+        ctx.new) }
     ensures stopped { IfErr result (IsStoppedIn D.OpSet D.uses_hold D.use_refusal D.rule D.rule_refusal P.has_passed
         P.may_stop root verify passes.now ctx.old) }
-    ensures logged { OnOk result (AreLogged D.OpSet P.pass_name P.has_passed reports.now root passes.now ctx.old ctx.new
-        (string_bytes log.old) (string_bytes log.new)) }
+    ensures logged { OnOk result (AreLogged D.OpSet P.pass_name P.has_passed reports.now root passes.now ctx.old
+        ctx.new (string_bytes log.old) (string_bytes log.new)) }
 {
     for pass in passes {
         run_told::<D, P>(alloc, verify, *pass, reports, ctx, root, log)?;

@@ -4,7 +4,8 @@ use Rattle.plir_store.specs.FilterLaws.{not-both}
 use Rattle.plir_driver.proofs.library.erase_unreached.Goals as goal
 
 pub eliminate_unreached_code-requires-clause-unused : goal.eliminate_unreached_code-requires-clause-unused
-eliminate_unreached_code-requires-clause-unused g c = c.is_unused_outside.ensures.value.0 c.if-not-is_unused_outside.false
+eliminate_unreached_code-requires-clause-unused g c =
+    c.is_unused_outside.ensures.value.0 c.if-not-is_unused_outside.false
 
 pub returns-then-not-is_unused_outside-clause-refused : goal.returns-then-not-is_unused_outside-clause-refused
 returns-then-not-is_unused_outside-clause-refused g c =
@@ -15,7 +16,8 @@ returns-in_err-eliminate_unreached_code-clause-live g c =
     c.lawful_changes.ensures.stays c.args.ctx.now c.eliminate_unreached_code.new.ctx (Operation c.args.root)
     c.stands.ensures.standing.forest c.eliminate_unreached_code.ensures.lawful c.requires
 
-pub returns-in_err-eliminate_unreached_code-clause-refused : goal.returns-in_err-eliminate_unreached_code-clause-refused
+pub returns-in_err-eliminate_unreached_code-clause-refused :
+    goal.returns-in_err-eliminate_unreached_code-clause-refused
 returns-in_err-eliminate_unreached_code-clause-refused g c =
     let p = err_from_is_err_and c.from_residual.result c.from_residual.ensures.1 in rw (p.1, p.2) tt
 

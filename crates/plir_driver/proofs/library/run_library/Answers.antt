@@ -27,7 +27,8 @@ returns-in-Dce-clause-stopped g c =
     if-err c.erase_unreached.result (λ e told. subst (λ z. IsPassRefusal g.D.OpSet.is_symbol g.D.OpSet.is_symbol_table
     z c.args.root c.args.ctx.now e) (sym c.in-Dce.is) told) c.erase_unreached.ensures.refused
 
-pub returns-in_ok-erase_symbols-in-SymbolDce-clause-passed : goal.returns-in_ok-erase_symbols-in-SymbolDce-clause-passed
+pub returns-in_ok-erase_symbols-in-SymbolDce-clause-passed :
+    goal.returns-in_ok-erase_symbols-in-SymbolDce-clause-passed
 returns-in_ok-erase_symbols-in-SymbolDce-clause-passed g c =
     subst (λ z. IsPassed g.D.EffectSet.has_effect g.D.OpSet.is_terminator g.D.OpSet.is_symbol g.D.OpSet.is_symbol_table
     g.D.SymbolNames.is_private g.D.SymbolNames.names_used z c.args.root c.args.ctx.now c.erase_symbols.new.ctx)

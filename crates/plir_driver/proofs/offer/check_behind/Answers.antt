@@ -5,8 +5,10 @@ use Rattle.plir_driver.specs.Pipelines.{bearer}
 use Rattle.plir_driver.proofs.offer.check_behind.Goals as goal
 
 pub returns-then-not-is_option_name-clause-refused : goal.returns-then-not-is_option_name-clause-refused
-returns-then-not-is_option_name-clause-refused g c =
-    (c.name-name.ensures, subst (λ n. is_option_name n ≡ false) c.name-name.ensures (sym c.if-not-is_option_name.ensures))
+returns-then-not-is_option_name-clause-refused g c = (
+  c.name-name.ensures,
+  subst (λ n. is_option_name n ≡ false) c.name-name.ensures (sym c.if-not-is_option_name.ensures),
+)
 
 pub returns-then-is_own_word-clause-refused : goal.returns-then-is_own_word-clause-refused
 returns-then-is_own_word-clause-refused g c =

@@ -7,12 +7,13 @@ pub returns-in_err-run-clause-stopped : goal.returns-in_err-run-clause-stopped
 returns-in_err-run-clause-stopped g c =
     let p = err_from_is_err_and c.from_residual.result c.from_residual.ensures.1 in
     rw (p.1, p.2) (passing g.D.OpSet g.D.SymbolUserSet.uses_hold g.D.SymbolUserSet.use_refusal g.D.VerifySet.rule
-    g.D.VerifySet.rule_refusal c.args.root c.args.ctx.now g.P.Pass.has_passed g.P.Pass.may_stop c.args.verify c.args.pass
-    c.in_err-run.field-0.0 c.in_err-run.ensures.stopped)
+    g.D.VerifySet.rule_refusal c.args.root c.args.ctx.now g.P.Pass.has_passed g.P.Pass.may_stop c.args.verify
+    c.args.pass c.in_err-run.field-0.0 c.in_err-run.ensures.stopped)
 
 pub returns-in_err-verify_tree-clause-stopped : goal.returns-in_err-verify_tree-clause-stopped
 returns-in_err-verify_tree-clause-stopped g c =
-    let p = err_from_is_err_and c.from_residual-in_err-verify_tree.result c.from_residual-in_err-verify_tree.ensures.1 in
+    let p =
+    err_from_is_err_and c.from_residual-in_err-verify_tree.result c.from_residual-in_err-verify_tree.ensures.1 in
     rw (p.1, p.2) (verifying g.D.OpSet g.D.SymbolUserSet.uses_hold g.D.SymbolUserSet.use_refusal g.D.VerifySet.rule
     g.D.VerifySet.rule_refusal g.P.Pass.has_passed g.P.Pass.may_stop c.args.root c.args.verify c.args.pass
     c.args.ctx.now c.run.new.ctx c.in_err-verify_tree.field-0.0 c.if-verify.true c.in_ok-run.ensures.passed

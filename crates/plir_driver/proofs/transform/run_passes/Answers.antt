@@ -17,7 +17,8 @@ loop-pass-preserved g c =
     let told = (c.in_ok-run_told.ensures.passed, c.in_ok-run_told.ensures.logged) in (
       c.run_told.ensures.live,
       passed-to g.P.Pass.has_passed c.args.root
-          (λ s. c.args.verify ≡ true → AllHaveRules g.D.OpSet g.D.SymbolUserSet.uses_hold g.D.VerifySet.rule s c.args.root)
+          (λ s. c.args.verify ≡ true →
+          AllHaveRules g.D.OpSet g.D.SymbolUserSet.uses_hold g.D.VerifySet.rule s c.args.root)
           c.args.passes.now c.loop-pass.pass-index x c.args.ctx.now c.loop-pass.ctx c.run_told.new.ctx (omega arith)
           c.loop-pass.invariant.1
           (subst (λ z. g.P.Pass.has_passed z c.args.root c.loop-pass.ctx c.run_told.new.ctx) c.pass-item.is
@@ -53,7 +54,7 @@ returns-in_err-run_told-clause-stopped g c =
       asked = parted c.args.passes.now c.loop-pass.pass-index x (omega arith);
       run = c.loop-pass.invariant.1;
       stops =
-          subst (λ z. IsStoppedAt g.D.OpSet g.D.SymbolUserSet.uses_hold g.D.SymbolUserSet.use_refusal g.D.VerifySet.rule
-          g.D.VerifySet.rule_refusal g.P.Pass.has_passed g.P.Pass.may_stop c.args.root c.args.verify z c.loop-pass.ctx
-          c.in_err-run_told.field-0.0) c.pass-item.is c.in_err-run_told.ensures.stopped;
+          subst (λ z. IsStoppedAt g.D.OpSet g.D.SymbolUserSet.uses_hold g.D.SymbolUserSet.use_refusal
+          g.D.VerifySet.rule g.D.VerifySet.rule_refusal g.P.Pass.has_passed g.P.Pass.may_stop c.args.root c.args.verify z
+          c.loop-pass.ctx c.in_err-run_told.field-0.0) c.pass-item.is c.in_err-run_told.ensures.stopped;
     })

@@ -1,4 +1,4 @@
-use Rattle.std.proofs.Common.{◌≡◌, true, ap, codes, string_bytes, subst}
+use Rattle.std.proofs.Common.{◌≡◌, ℕ, true, List, ap, codes, string_bytes, subst}
 use Rattle.std.specs.Prelude.{IsSome}
 use Rattle.plir_driver.specs.Counts.{AreCountsPut}
 use Rattle.plir_driver.specs.Dumps.{IsDumpedWhere}
@@ -8,7 +8,7 @@ use Rattle.plir_driver.proofs.transform.run_told.Goals as goal
 
 pub returns-clause-logged : goal.returns-clause-logged
 returns-clause-logged g c =
-    let before = λ n. IsSome (bearer g.P.Pass.pass_name c.args.reports.now.before.items n) in
+    let before : List ℕ → Type 0 = λ n. IsSome (bearer g.P.Pass.pass_name c.args.reports.now.before.items n) in
     let w = string_bytes c.args.log.now in
     let between = string_bytes c.put_dump.new.log in
     let dumped = string_bytes c.put_dump-2.new.log in record {

@@ -23,12 +23,13 @@ returns-in_err-root-clause-stopped g c =
     let p = err_from_is_err_and c.from_residual.result c.from_residual.ensures.1 in
     let e = c.in_err-root.field-0.0 in
     rw (p.1, p.2) (inl (unread _ c.args.text.now e.line e.column e.fault c.utf8.text c.in_err-root.ensures.refused
-    (λ many. subst (λ n. BeginsTooMany op_count (OpWithin 200) n c.args.text.now) (ap (λ z. z.nodes) c.new-ctx.ensures.empty)
-    (c.in_err-root.ensures.begins many))))
+    (λ many. subst (λ n. BeginsTooMany op_count (OpWithin 200) n c.args.text.now)
+    (ap (λ z. z.nodes) c.new-ctx.ensures.empty) (c.in_err-root.ensures.begins many))))
 
 pub returns-in_err-verify_tree-clause-stopped : goal.returns-in_err-verify_tree-clause-stopped
 returns-in_err-verify_tree-clause-stopped g c =
-    let p = err_from_is_err_and c.from_residual-in_err-verify_tree.result c.from_residual-in_err-verify_tree.ensures.1 in
+    let p =
+    err_from_is_err_and c.from_residual-in_err-verify_tree.result c.from_residual-in_err-verify_tree.ensures.1 in
     rw (p.1, p.2) (inr (
       c.in_ok-root.root,
       c.read_op.new.ctx,
@@ -40,7 +41,8 @@ returns-in_err-verify_tree-clause-stopped g c =
 
 pub returns-in_err-run_passes-clause-stopped : goal.returns-in_err-run_passes-clause-stopped
 returns-in_err-run_passes-clause-stopped g c =
-    let p = err_from_is_err_and c.from_residual-in_err-run_passes.result c.from_residual-in_err-run_passes.ensures.1 in
+    let p =
+    err_from_is_err_and c.from_residual-in_err-run_passes.result c.from_residual-in_err-run_passes.ensures.1 in
     rw (p.1, p.2) (inr (
       c.in_ok-root.root,
       c.read_op.new.ctx,
