@@ -36,7 +36,7 @@ pub const VIEW: &str = "view";
 /// The name of the option that draws the call graph.
 pub const CALL_GRAPH: &str = "call-graph";
 
-/// All of them, with those that each command line has: no pass can be offered under one of them.
+/// The words of a command line that are the driver's own: no pass can be offered under one of them.
 pub const OWN_WORDS: [&str; 14] = [
     FILE,
     OUTPUT,
