@@ -1,3 +1,4 @@
+use Rattle.std.proofs.Common.{refl}
 use Rattle.std.proofs.lemmas.Result.{err_from_is_err_and}
 use Rattle.plir_core.specs.declared.ptr.IRNode.TheVariants.{Operation}
 use Rattle.plir_store.specs.FilterLaws.{not-both}
@@ -5,7 +6,7 @@ use Rattle.plir_driver.proofs.library.erase_unreached.Goals as goal
 
 pub eliminate_unreached_code-requires-clause-unused : goal.eliminate_unreached_code-requires-clause-unused
 eliminate_unreached_code-requires-clause-unused g c =
-    c.is_unused_outside.ensures.value.0 c.if-not-is_unused_outside.false
+    c.if-not-is_unused_outside.ensures.value.0 refl
 
 pub returns-then-not-is_unused_outside-clause-refused : goal.returns-then-not-is_unused_outside-clause-refused
 returns-then-not-is_unused_outside-clause-refused g c =
