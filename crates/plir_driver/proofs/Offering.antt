@@ -13,7 +13,7 @@ module _ {P : Type 0} (name_of : P → List ℕ) (passes : List P) (i : ℕ) whe
         CanBeOfferedTo name_of (i + 1) passes
     offered-next so_far here =
         below_more (λ k. (q : P) → slice_get passes k ≡ Some q → CanFollow name_of (take k passes) q) i so_far
-        (λ q at. subst (λ z. CanFollow name_of (take i passes) z) (is ∙ get_or_from_slice_get passes i q p at) here)
+        (λ q found. subst (λ z. CanFollow name_of (take i passes) z) (is ∙ get_or_from_slice_get passes i q p found) here)
 
     -- the one at a place can't
     pub refused-at : (e : OfferErr) → CanBeOfferedTo name_of i passes → IsClash name_of (take i passes) p e →
@@ -28,6 +28,6 @@ module _ {P : Type 0} (name_of : P → List ℕ) (passes : List P) (i : ℕ) whe
 
   -- all can
   pub offered-all : length passes ≤ i → CanBeOfferedTo name_of i passes → CanBeOffered name_of passes
-  offered-all past so_far k p at =
-      let within : k < length passes = slice_get_within passes k p at in
-      let below : k < i = omega arith in so_far k below p at
+  offered-all past so_far k p found =
+      let within : k < length passes = slice_get_within passes k p found in
+      let below : k < i = omega arith in so_far k below p found

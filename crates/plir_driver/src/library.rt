@@ -130,7 +130,7 @@ impl<D: EffectSet + SymbolNames> Pass<D> for LibraryPass {
             LibraryPass::EraseNames => {
                 "Pass: take out the names of results and arguments, and the labels of blocks"
             }
-            LibraryPass::Dce => "Pass: erase what has no effect and whose results nothing uses",
+            LibraryPass::Dce => "Pass: erase operations that no operation with an effect needs",
             LibraryPass::SymbolDce => {
                 "Pass: erase private functions and modules right in the module that nothing uses"
             }
