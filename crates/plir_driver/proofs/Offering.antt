@@ -13,7 +13,8 @@ module _ {P : Type 0} (name_of : P → List ℕ) (passes : List P) (i : ℕ) whe
         CanBeOfferedTo name_of (i + 1) passes
     offered-next so_far here =
         below_more (λ k. (q : P) → slice_get passes k ≡ Some q → CanFollow name_of (take k passes) q) i so_far
-        (λ q found. subst (λ z. CanFollow name_of (take i passes) z) (is ∙ get_or_from_slice_get passes i q p found) here)
+        (λ q found. subst (λ z. CanFollow name_of (take i passes) z) (is ∙ get_or_from_slice_get passes i q p found)
+        here)
 
     -- the one at a place can't
     pub refused-at : (e : OfferErr) → CanBeOfferedTo name_of i passes → IsClash name_of (take i passes) p e →

@@ -17,8 +17,8 @@ use Rattle.plir_driver.specs.NodeLines.{IsGraphed, IsListed}
 use Rattle.plir_driver.specs.Passed.{AreRun}
 use Rattle.plir_driver.specs.PassRules.{RunRule}
 
--- What is printed of an operation: where its text is asked for, that text and a line feed; where a list of the nodes, a
--- graph of them or the call graph is, a text that lists or draws it.
+-- What is printed of an operation: where its text is asked for, that text and a line feed; where a list of the nodes,
+-- a graph of them or the call graph is, a text that lists or draws it.
 module _ {D K A T E : Type 0} (o : op_set.Ghosts D K A T E) (names : OpView K A → List (List ℕ))
     (s : ContextView K A T) (root : Ptr OperationKind) where
   abbrev pub IsPrintedAs : Form → List ℕ → Type 0

@@ -55,6 +55,6 @@ returns-in_err-run_told-clause-stopped g c =
       run = c.loop-pass.invariant.1;
       stops =
           subst (λ z. IsStoppedAt g.D.OpSet g.D.SymbolUserSet.uses_hold g.D.SymbolUserSet.use_refusal
-          g.D.VerifySet.rule g.D.VerifySet.rule_refusal g.P.Pass.has_passed g.P.Pass.may_stop c.args.root c.args.verify z
-          c.loop-pass.ctx c.in_err-run_told.field-0.0) c.pass-item.is c.in_err-run_told.ensures.stopped;
+          g.D.VerifySet.rule g.D.VerifySet.rule_refusal g.P.Pass.has_passed g.P.Pass.may_stop c.args.root c.args.verify
+          z c.loop-pass.ctx c.in_err-run_told.field-0.0) c.pass-item.is c.in_err-run_told.ensures.stopped;
     })
