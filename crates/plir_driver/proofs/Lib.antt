@@ -10,3 +10,5 @@ mod Cutting
 mod Logging
 mod OpsAmong
 mod Counting
+mod Bearing
+mod Offering

@@ -7,7 +7,6 @@ use Rattle.plir_data.specs.declared.op_set.OpSet as op_set
 use Rattle.plir_core.specs.declared.ptr.Ptr.{Ptr}
 use Rattle.plir_core.specs.declared.ptr.Operation.{Operation as OperationKind}
 use Rattle.plir_core.specs.ContextView.{ContextView}
-use Rattle.plir_driver.specs.declared.choices.Pass.{Pass}
 use Rattle.plir_driver.specs.Dumps.{AreDone, IsDumped, IsDumpedWhere}
 
 module _ {C X : Type 0} (Done : X → C → C → List ℕ → List ℕ → Type 0) where
@@ -32,15 +31,15 @@ module _ {C X : Type 0} (Done : X → C → C → List ℕ → List ℕ → Type
 
 -- what is asked for is put, and else nothing
 pub dumped-where :
-    {D K A T E : Type 0} (o : op_set.Ghosts D K A T E) (root : Ptr OperationKind) (P : Type 0) (moment : List ℕ)
-    (pass : Pass) (s : ContextView K A T) (w w' : List ℕ) (asked : Bool) → (P → asked ≡ true) → (asked ≡ true → P) →
-    (asked ≡ true → IsDumped o root moment pass s w w') → (asked ≡ false → w' ≡ w) →
-    IsDumpedWhere o root P moment pass s w w'
-dumped-where o root P moment pass s w w' true to from put none = record {
+    {D K A T E : Type 0} (o : op_set.Ghosts D K A T E) (root : Ptr OperationKind) (P : Type 0) (moment name : List ℕ)
+    (s : ContextView K A T) (w w' : List ℕ) (asked : Bool) → (P → asked ≡ true) → (asked ≡ true → P) →
+    (asked ≡ true → IsDumped o root moment name s w w') → (asked ≡ false → w' ≡ w) →
+    IsDumpedWhere o root P moment name s w w'
+dumped-where o root P moment name s w w' true to from put none = record {
   asked = λ p. put refl;
   unasked = λ never. absurd (never (from refl));
 }
-dumped-where o root P moment pass s w w' false to from put none = record {
+dumped-where o root P moment name s w w' false to from put none = record {
   asked = λ p. put (to p);
   unasked = λ never. none refl;
 }

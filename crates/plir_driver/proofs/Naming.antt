@@ -4,7 +4,6 @@ use Rattle.std.proofs.Common.{arith, sym, subst, ap, ◌∙◌}
 use Rattle.std.proofs.lemmas.List.{map-append, take_all, take-append-drop}
 use Rattle.std.proofs.Math.Seq.{take-suc, drop-cons}
 use Rattle.std.specs.List.{AllZip}
-use Rattle.plir_driver.specs.declared.choices.Pass.{Pass}
 use Rattle.plir_driver.specs.declared.pipeline.PipelineErr.{PipelineErr}
 use Rattle.plir_driver.specs.declared.pipeline.PipelineErr.TheVariants.{NoPass, OutOfMemory}
 use Rattle.plir_driver.specs.Pipelines.{AreNames, AreRefused, IsNoName, Names}
@@ -27,22 +26,23 @@ module _ (ws : List (Bor (List ℕ))) (i : ℕ) (d : Bor (List ℕ)) where
       ∙ ap (λ z. take i ws ++ z) (drop-cons ws i d below ∙ ap (λ k. get_or ws i d ∷ drop k ws) (sym next)))
       ∙ map-append (λ w. w.now) (take i ws) (get_or ws i d ∷ drop (i + 1) ws)
 
-  module _ (passes : List Pass) where
+  module _ {P : Type 0} (name_of : P → List ℕ) (offered passes : List P) where
     -- a word further
-    pub names_next : (p : Pass) (more : List Pass) → more ≡ passes ++ p ∷ [] → i < length ws →
-        AreNames (map (λ w. w.now) (take i ws)) passes → Names (get_or ws i d).now p →
-        AreNames (map (λ w. w.now) (take (i + 1) ws)) more
+    pub names_next : (p : P) (more : List P) → more ≡ passes ++ p ∷ [] → i < length ws →
+        AreNames name_of offered (map (λ w. w.now) (take i ws)) passes → Names name_of offered (get_or ws i d).now p →
+        AreNames name_of offered (map (λ w. w.now) (take (i + 1) ws)) more
     names_next p more put below so_far here =
         let next : i + 1 ≡ suc i = omega arith in
         let e = ap (map (λ w. w.now)) (ap (λ k. take k ws) next ∙ take-suc ws i d below)
         ∙ map-append (λ w. w.now) (take i ws) (get_or ws i d ∷ []) in
-        subst (λ z. AreNames (map (λ w. w.now) (take (i + 1) ws)) z) (sym put)
-        (subst (λ z. AreNames z (passes ++ p ∷ [])) (sym e)
-        (zip-push Names (map (λ w. w.now) (take i ws)) passes (get_or ws i d).now p so_far here))
+        subst (λ z. AreNames name_of offered (map (λ w. w.now) (take (i + 1) ws)) z) (sym put)
+        (subst (λ z. AreNames name_of offered z (passes ++ p ∷ [])) (sym e)
+        (zip-push (Names name_of offered) (map (λ w. w.now) (take i ws)) passes (get_or ws i d).now p so_far here))
 
     -- the word at a place is refused
-    pub refused_at : (e : PipelineErr) → i < length ws → AreNames (map (λ w. w.now) (take i ws)) passes →
-        IsNoName (get_or ws i d).now e → AreRefused (map (λ w. w.now) ws) e
+    pub refused_at : (e : PipelineErr) → i < length ws →
+        AreNames name_of offered (map (λ w. w.now) (take i ws)) passes →
+        IsNoName name_of offered (get_or ws i d).now e → AreRefused name_of offered (map (λ w. w.now) ws) e
     refused_at (NoPass name) below so_far none = (
       map (λ w. w.now) (take i ws),
       (get_or ws i d).now,

@@ -14,19 +14,22 @@ use Rattle.plir_attr_text.specs.Faults.{IsOfText}
 use Rattle.plir_attr_text.specs.TypeGrammar.{IsText}
 use Rattle.plir_builtin.specs.declared.symbol_table_err.SymbolTableErr.{SymbolTableErr}
 use Rattle.plir_builtin.specs.declared.symbol_table_err.SymbolTableErr.TheVariants as of_tables
+use Rattle.plir_builtin.specs.Refusals.{IsTableRefusal, Reports}
 use Rattle.plir_builtin.specs.SymbolUses.{UseRefusal, UseRule}
 use Rattle.plir_read.specs.OpGrammar.{OpWithin}
 use Rattle.plir_read.specs.OpTerms.{OpTerm}
 use Rattle.plir_read.specs.Room.{BeginsTooMany, op_count}
 use Rattle.plir_verify.specs.declared.tree_err.TreeVerifyErr.{TreeVerifyErr}
 use Rattle.plir_verify.specs.RuleRefusals.{IsTreeRefusal}
-use Rattle.plir_driver.specs.declared.choices.Pass.{Pass}
 use Rattle.plir_driver.specs.declared.choices.Form.{Form}
 use Rattle.plir_driver.specs.declared.choices.Form.TheVariants.{CallGraph}
+use Rattle.plir_driver.specs.declared.pass_err.PassErr.{PassErr}
+use Rattle.plir_driver.specs.declared.pass_err.PassErr.TheVariants as of_passes
 use Rattle.plir_driver.specs.declared.stop.Stop.{Stop}
-use Rattle.plir_driver.specs.StopOf.{of_fault, of_verifier, of_table}
-use Rattle.plir_driver.specs.Passed.{IsRun}
-use Rattle.plir_driver.specs.Stopped.{IsPassRefusal, IsStoppedAt, IsUnprinted, IsUnread, IsWrong, no_nodes}
+use Rattle.plir_driver.specs.LibraryPasses.{IsSymbolRefusal}
+use Rattle.plir_driver.specs.PassRules.{RunRule, StopRule}
+use Rattle.plir_driver.specs.StopOf.{of_fault, of_pass, of_table, of_table_in_pass, of_verifier}
+use Rattle.plir_driver.specs.Stopped.{IsStoppedAt, IsUnprinted, IsUnread, IsWrong, no_nodes}
 use Rattle.plir_symbols.specs.CallGraph.{IsGraphRefusal}
 use Rattle.std.specs.FinMap as map
 
@@ -66,21 +69,29 @@ module _ {D K A T E : Type 0} (o : op_set.Ghosts D K A T E) (uses_hold : UseRule
   wrong (of_verifiers.Refused l e) h = h
   wrong of_verifiers.Memory h = tt
 
-  module _ (effect : K → Bool) (private : OpView K A → Bool) (names : OpView K A → List (List ℕ)) (verify : Bool)
-      (pass : Pass) where
+  module _ {P : Type 0} (has_passed : RunRule P K A T) (may_stop : StopRule P K A T) (verify : Bool) (pass : P) where
     -- what a pass tells is so
-    pub passing : (e : SymbolTableErr) → IsPassRefusal o.is_symbol o.is_symbol_table s root pass e →
-        IsStoppedAt o effect uses_hold use_refusal rule rule_refusal private names root verify pass s (of_table e)
-    passing of_tables.DoesNotImplementSymbolTableInterface h = h
-    passing of_tables.DoesNotImplementSymbolOpInterface h = h
-    passing (of_tables.SymbolRedefined n) h = h
-    passing (of_tables.SymbolOpAlreadyInAnotherTable n) h = h
-    passing of_tables.InsertionPointNotInSameTable h = h
-    passing of_tables.SymbolOpNotInTableOp h = h
-    passing (of_tables.Regions e) h = h
-    passing (of_tables.Body e) h = h
-    passing (of_tables.Unnamed e) h = h
-    passing of_tables.Memory h = tt
+    pub passing : (e : PassErr) → may_stop pass root s e →
+        IsStoppedAt o uses_hold use_refusal rule rule_refusal has_passed may_stop root verify pass s (of_pass e)
+    passing (of_passes.NoTable e) h = h
+    passing (of_passes.Unfit why) h = h
+    passing of_passes.TooManyNodes h = h
+    passing of_passes.OutOfMemory h = tt
+
+-- what a table tells is so, where a pass tells it
+pub tabled : {K A T : Type 0} (own_symbol own_table : K → Bool) (root : Ptr OperationKind) (s : ContextView K A T)
+    (e : SymbolTableErr) → Reports (IsTableRefusal own_symbol own_table s root) e →
+    IsSymbolRefusal root s own_symbol own_table (of_table_in_pass e)
+tabled own_symbol own_table root s of_tables.DoesNotImplementSymbolTableInterface h = h
+tabled own_symbol own_table root s of_tables.DoesNotImplementSymbolOpInterface h = h
+tabled own_symbol own_table root s (of_tables.SymbolRedefined n) h = h
+tabled own_symbol own_table root s (of_tables.SymbolOpAlreadyInAnotherTable n) h = h
+tabled own_symbol own_table root s of_tables.InsertionPointNotInSameTable h = h
+tabled own_symbol own_table root s of_tables.SymbolOpNotInTableOp h = h
+tabled own_symbol own_table root s (of_tables.Regions e) h = h
+tabled own_symbol own_table root s (of_tables.Body e) h = h
+tabled own_symbol own_table root s (of_tables.Unnamed e) h = h
+tabled own_symbol own_table root s of_tables.Memory h = tt
 
 -- what a call graph tells is so
 pub graphed : {D K A T E : Type 0} (o : op_set.Ghosts D K A T E) (names : OpView K A → List (List ℕ))
@@ -103,13 +114,13 @@ graphed o names root s form e is h = by e h
     by of_tables.Memory h = tt
 
 -- what is told of a tree behind a pass is so
-pub verifying : {D K A T E : Type 0} (o : op_set.Ghosts D K A T E) (effect : K → Bool) (uses_hold : UseRule K A T)
+pub verifying : {D K A T E P : Type 0} (o : op_set.Ghosts D K A T E) (uses_hold : UseRule K A T)
     (use_refusal : UseRefusal K A T E) (rule : UseRule K A T) (rule_refusal : UseRefusal K A T E)
-    (private : OpView K A → Bool) (names : OpView K A → List (List ℕ)) (root : Ptr OperationKind) (verify : Bool)
-    (pass : Pass) (s t : ContextView K A T) (v : VerifyErr (TreeVerifyErr E)) → verify ≡ true →
-    IsRun o effect private names root pass s t → IsTreeRefusal o uses_hold use_refusal rule rule_refusal t root v →
-    IsStoppedAt o effect uses_hold use_refusal rule rule_refusal private names root verify pass s (of_verifier v)
-verifying o effect uses_hold use_refusal rule rule_refusal private names root verify pass s t (of_verifiers.Refused l e)
+    (has_passed : RunRule P K A T) (may_stop : StopRule P K A T) (root : Ptr OperationKind) (verify : Bool) (pass : P)
+    (s t : ContextView K A T) (v : VerifyErr (TreeVerifyErr E)) → verify ≡ true → has_passed pass root s t →
+    IsTreeRefusal o uses_hold use_refusal rule rule_refusal t root v →
+    IsStoppedAt o uses_hold use_refusal rule rule_refusal has_passed may_stop root verify pass s (of_verifier v)
+verifying o uses_hold use_refusal rule rule_refusal has_passed may_stop root verify pass s t (of_verifiers.Refused l e)
     asked run refused = (asked, (t, run, refused))
-verifying o effect uses_hold use_refusal rule rule_refusal private names root verify pass s t of_verifiers.Memory
+verifying o uses_hold use_refusal rule rule_refusal has_passed may_stop root verify pass s t of_verifiers.Memory
     asked run refused = tt

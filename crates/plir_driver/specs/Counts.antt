@@ -6,9 +6,7 @@ use Rattle.plir_core.specs.declared.ptr.Operation.{Operation as OperationKind}
 use Rattle.plir_core.specs.declared.ptr.IRNode.{IRNode}
 use Rattle.plir_core.specs.declared.ptr.IRNode.TheVariants.{Operation, Region, BasicBlock}
 use Rattle.plir_core.specs.ContextView.{ContextView}
-use Rattle.plir_driver.specs.declared.choices.Pass.{Pass}
 use Rattle.plir_driver.specs.DrawnCalls.{AreOps}
-use Rattle.plir_driver.specs.Pipelines.{pass_name}
 
 -- the greatest number that is told
 abbrev pub most : ℕ
@@ -26,14 +24,14 @@ pub record IsCount {K A T : Type 0} (s : ContextView K A T) (root : Ptr Operatio
   pub are_ops : AreOps s root ops
   pub number : n ≡ min (length ops) most
 
--- the line of a pass: how many operations there were in front of it, and how many behind it
-abbrev pub counts_line : Pass → (before after : ℕ) → List ℕ
-counts_line pass before after =
-    pass_name pass ++ (codes ": " ++ (decimal before ++ (codes " operations before, " ++ (decimal after
+-- the line of a pass of a name: how many operations there were in front of it, and how many behind it
+abbrev pub counts_line : (name : List ℕ) → (before after : ℕ) → List ℕ
+counts_line name before after =
+    name ++ (codes ": " ++ (decimal before ++ (codes " operations before, " ++ (decimal after
     ++ codes " after\n"))))
 
 module _ {K A T : Type 0} (root : Ptr OperationKind) where
-  -- behind a text stands the line of a pass that went from s to u
-  abbrev pub AreCountsPut : Pass → (s u : ContextView K A T) → List ℕ → List ℕ → Type 0
-  AreCountsPut pass s u t t' =
-      (m : ℕ) × (n : ℕ) × IsCount s root m × IsCount u root n × (t' ≡ t ++ counts_line pass m n)
+  -- behind a text stands the line of a pass of a name that went from s to u
+  abbrev pub AreCountsPut : (name : List ℕ) → (s u : ContextView K A T) → List ℕ → List ℕ → Type 0
+  AreCountsPut name s u t t' =
+      (m : ℕ) × (n : ℕ) × IsCount s root m × IsCount u root n × (t' ≡ t ++ counts_line name m n)

@@ -1,25 +1,22 @@
 -- What is told of passes as they run.
-use Rattle.std.specs.Prelude.{◌≡◌, ◌⊎◌, ℕ, Bool, true, List, [], ◌∷◌, ◌++◌, codes}
-use Rattle.std.specs.List.{Contains}
+use Rattle.std.specs.Prelude.{◌≡◌, ◌⊎◌, ℕ, true, List, [], ◌∷◌, ◌++◌, codes, IsSome}
 use Rattle.plir_data.specs.declared.op_set.OpSet as op_set
 use Rattle.plir_core.specs.declared.ptr.Ptr.{Ptr}
 use Rattle.plir_core.specs.declared.ptr.Operation.{Operation as OperationKind}
 use Rattle.plir_core.specs.declared.ptr.IRNode.TheVariants.{Operation}
-use Rattle.plir_core.specs.Contents.{OpView}
 use Rattle.plir_core.specs.ContextView.{ContextView}
 use Rattle.plir_print.specs.HeaderAttrs.{IsPrintable}
 use Rattle.plir_print.specs.OpText.{op_text}
 use Rattle.plir_read.specs.OpsStanding.{StandsForOp}
-use Rattle.plir_driver.specs.declared.choices.Pass.{Pass}
 use Rattle.plir_driver.specs.declared.choices.Reports.{Reports}
 use Rattle.plir_driver.specs.Counts.{AreCountsPut}
-use Rattle.plir_driver.specs.Passed.{IsRun}
-use Rattle.plir_driver.specs.Pipelines.{pass_name}
+use Rattle.plir_driver.specs.PassRules.{RunRule}
+use Rattle.plir_driver.specs.Pipelines.{bearer}
 
 -- the line that names a moment and a pass
-abbrev pub dump_head : (moment : List ℕ) → Pass → List ℕ
-dump_head moment pass =
-    codes "// -----// IR Dump " ++ (moment ++ (codes " " ++ (pass_name pass ++ codes " //----- //\n")))
+abbrev pub dump_head : (moment name : List ℕ) → List ℕ
+dump_head moment name =
+    codes "// -----// IR Dump " ++ (moment ++ (codes " " ++ (name ++ codes " //----- //\n")))
 
 module _ {D K A T E : Type 0} (o : op_set.Ghosts D K A T E) (root : Ptr OperationKind) where
   -- the text of the operation; or, where an operation lacks an attribute that its text tells, that it does
@@ -29,25 +26,27 @@ module _ {D K A T E : Type 0} (o : op_set.Ghosts D K A T E) (root : Ptr Operatio
       ⊎ ((IsPrintable s (Operation root) → ⊥) × (shown ≡ codes "an operation lacks an attribute that its text tells"))
 
   -- it stands behind a text, under its line and with an empty line behind it
-  abbrev pub IsDumped : (moment : List ℕ) → Pass → ContextView K A T → List ℕ → List ℕ → Type 0
-  IsDumped moment pass s t t' =
-      (shown : List ℕ) × IsShown s shown × (t' ≡ t ++ (dump_head moment pass ++ (shown ++ codes "\n\n")))
+  abbrev pub IsDumped : (moment name : List ℕ) → ContextView K A T → List ℕ → List ℕ → Type 0
+  IsDumped moment name s t t' =
+      (shown : List ℕ) × IsShown s shown × (t' ≡ t ++ (dump_head moment name ++ (shown ++ codes "\n\n")))
 
   -- it does where P holds, and else nothing is put
-  pub record IsDumpedWhere (P : Type 0) (moment : List ℕ) (pass : Pass) (s : ContextView K A T) (t t' : List ℕ)
-      : Type 0 where
-    pub asked : P → IsDumped moment pass s t t'
+  pub record IsDumpedWhere (P : Type 0) (moment name : List ℕ) (s : ContextView K A T) (t t' : List ℕ) : Type 0 where
+    pub asked : P → IsDumped moment name s t t'
     pub unasked : (P → ⊥) → t' ≡ t
 
-  -- A pass went from s to u: the operation as it was in s stands behind a text, if it is to be told in front of the
-  -- pass; then as it is in u, if it is to be told behind each; and then how many operations there were and are, if that
-  -- is to be told.
-  pub record IsPassLogged (reports : Reports) (pass : Pass) (s u : ContextView K A T) (t t' : List ℕ) : Type 0 where
+-- `name_of` gives the names of passes.
+module _ {D K A T E X : Type 0} (o : op_set.Ghosts D K A T E) (name_of : X → List ℕ) (root : Ptr OperationKind) where
+  -- A pass went from s to u: the operation as it was in s stands behind a text, if it is to be told in front of
+  -- passes of this name; then as it is in u, if it is to be told behind each; and then how many operations there were
+  -- and are, if that is to be told.
+  pub record IsPassLogged (reports : Reports X) (pass : X) (s u : ContextView K A T) (t t' : List ℕ) : Type 0 where
     pub between : List ℕ
     pub dumped : List ℕ
-    pub before : IsDumpedWhere (Contains reports.before.items pass) (codes "Before") pass s t between
-    pub after : IsDumpedWhere (reports.after_all ≡ true) (codes "After") pass u between dumped
-    pub counted : reports.stats ≡ true → AreCountsPut root pass s u dumped t'
+    pub before : IsDumpedWhere o root (IsSome (bearer name_of reports.before.items (name_of pass))) (codes "Before")
+        (name_of pass) s t between
+    pub after : IsDumpedWhere o root (reports.after_all ≡ true) (codes "After") (name_of pass) u between dumped
+    pub counted : reports.stats ≡ true → AreCountsPut root (name_of pass) s u dumped t'
     pub uncounted : (reports.stats ≡ true → ⊥) → t' ≡ dumped
 
 -- From s to t something was done for each of a list, one after another, and from w to w' a text has grown by what was
@@ -57,19 +56,19 @@ abbrev pub AreDone : {C X : Type 0} → (Done : X → C → C → List ℕ → L
 AreDone Done [] s t w w' = (t ≡ s) × (w' ≡ w)
 AreDone {C} Done (x ∷ xs) s t w w' = (u : C) × (v : List ℕ) × Done x s u w v × AreDone Done xs u t v w'
 
-module _ {D K A T E : Type 0} (o : op_set.Ghosts D K A T E) (effect : K → Bool) (private : OpView K A → Bool)
-    (names : OpView K A → List (List ℕ)) (reports : Reports) where
+module _ {D K A T E X : Type 0} (o : op_set.Ghosts D K A T E) (name_of : X → List ℕ) (has_passed : RunRule X K A T)
+    (reports : Reports X) where
   module _ (root : Ptr OperationKind) where
     -- from s to u a pass was run over the operation root, and of it is told what is to be
-    abbrev pub IsRunLogged : Pass → ContextView K A T → ContextView K A T → List ℕ → List ℕ → Type 0
-    IsRunLogged pass s u t t' = IsRun o effect private names root pass s u × IsPassLogged o root reports pass s u t t'
+    abbrev pub IsRunLogged : X → ContextView K A T → ContextView K A T → List ℕ → List ℕ → Type 0
+    IsRunLogged pass s u t t' = has_passed pass root s u × IsPassLogged o name_of root reports pass s u t t'
 
     -- passes were, one after another
-    abbrev pub AreLogged : List Pass → ContextView K A T → ContextView K A T → List ℕ → List ℕ → Type 0
+    abbrev pub AreLogged : List X → ContextView K A T → ContextView K A T → List ℕ → List ℕ → Type 0
     AreLogged = AreDone IsRunLogged
 
   -- A text stands for an operation, and of the passes over it is told what is to be.
-  pub record IsLogged (passes : List Pass) (text w w' : List ℕ) : Type 0 where
+  pub record IsLogged (passes : List X) (text w w' : List ℕ) : Type 0 where
     pub root : Ptr OperationKind
     pub read : ContextView K A T
     pub left : ContextView K A T

@@ -8,8 +8,16 @@ use Rattle.plir_attr_text.specs.declared.fault.ReadErr.{ReadErr}
 use Rattle.plir_builtin.specs.declared.symbol_table_err.SymbolTableErr.{SymbolTableErr}
 use Rattle.plir_builtin.specs.declared.symbol_table_err.SymbolTableErr.TheVariants as of_tables
 use Rattle.plir_verify.specs.declared.tree_err.TreeVerifyErr.{TreeVerifyErr}
+use Rattle.plir_driver.specs.declared.pass_err.PassErr.{PassErr}
+use Rattle.plir_driver.specs.declared.pass_err.PassErr.TheVariants as of_passes
 use Rattle.plir_driver.specs.declared.stop.Stop.{Stop}
-use Rattle.plir_driver.specs.declared.stop.Stop.TheVariants.{Unread, Refused, NoTable, TooManyNodes, OutOfMemory}
+use Rattle.plir_driver.specs.declared.stop.Stop.TheVariants.{Unread, Refused, NoTable, Unfit}
+use Rattle.plir_driver.specs.declared.stop.Stop.TheVariants.{TooManyNodes, OutOfMemory}
+
+-- what a symbol table reports to a pass
+abbrev pub of_table_in_pass : SymbolTableErr → PassErr
+of_table_in_pass of_tables.Memory = of_passes.OutOfMemory
+of_table_in_pass e = of_passes.NoTable e
 
 module _ {E : Type 0} where
   -- a fault of a text at its place, or what was wanting
@@ -30,3 +38,10 @@ module _ {E : Type 0} where
   abbrev pub of_table : SymbolTableErr → Stop E
   of_table of_tables.Memory = OutOfMemory
   of_table e = NoTable e
+
+  -- what a pass reports
+  abbrev pub of_pass : PassErr → Stop E
+  of_pass (of_passes.NoTable e) = NoTable e
+  of_pass (of_passes.Unfit why) = Unfit why
+  of_pass of_passes.TooManyNodes = TooManyNodes
+  of_pass of_passes.OutOfMemory = OutOfMemory

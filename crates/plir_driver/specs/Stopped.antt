@@ -13,9 +13,6 @@ use Rattle.plir_core.specs.Edits.{empty}
 use Rattle.plir_core.specs.Nodes.{Nodes}
 use Rattle.plir_attr_text.specs.Faults.{IsOfText}
 use Rattle.plir_attr_text.specs.TypeGrammar.{IsText}
-use Rattle.plir_builtin.specs.declared.symbol_table_err.SymbolTableErr.{SymbolTableErr}
-use Rattle.plir_builtin.specs.declared.symbol_table_err.SymbolTableErr.TheVariants as of_tables
-use Rattle.plir_builtin.specs.Refusals.{IsTableRefusal, Reports}
 use Rattle.plir_builtin.specs.SymbolUses.{UseRefusal, UseRule}
 use Rattle.plir_read.specs.OpGrammar.{OpWithin}
 use Rattle.plir_read.specs.OpsStanding.{StandsForOp}
@@ -27,12 +24,12 @@ use Rattle.plir_verify.specs.Rules.{AllHaveRules}
 use Rattle.plir_verify.specs.RuleRefusals.{IsTreeRefusal}
 use Rattle.plir_driver.specs.declared.choices.Form.{Form}
 use Rattle.plir_driver.specs.declared.choices.Form.TheVariants.{Text, CallGraph}
-use Rattle.plir_driver.specs.declared.choices.Pass.{Pass}
-use Rattle.plir_driver.specs.declared.choices.Pass.TheVariants.{Dce, SymbolDce}
+use Rattle.plir_driver.specs.declared.pass_err.PassErr.TheVariants as of_passes
 use Rattle.plir_driver.specs.declared.stop.Stop.{Stop}
-use Rattle.plir_driver.specs.declared.stop.Stop.TheVariants.{NoText, Unread, Refused, NoTable, Unprintable}
+use Rattle.plir_driver.specs.declared.stop.Stop.TheVariants.{NoText, Unread, Refused, NoTable, Unfit, Unprintable}
 use Rattle.plir_driver.specs.declared.stop.Stop.TheVariants.{TooManyNodes, OutOfMemory}
-use Rattle.plir_driver.specs.Passed.{AreRun, IsRun}
+use Rattle.plir_driver.specs.Passed.{AreRun}
+use Rattle.plir_driver.specs.PassRules.{RunRule, StopRule}
 
 -- the nodes of a new context
 abbrev pub no_nodes : {K A : Type 0} → Nodes (OpView K A) (BlockView A)
@@ -48,14 +45,6 @@ module _ (K A : Type 0) {E : Type 0} where
   IsUnread bytes TooManyNodes = BeginsTooMany op_count (OpWithin 200) (no_nodes {K = K} {A = A}) bytes
   IsUnread bytes OutOfMemory = Unit {0}
   IsUnread bytes _ = ⊥
-
-module _ {K A T : Type 0} (own_symbol own_table : K → Bool) (s : ContextView K A T) (root : Ptr OperationKind) where
-  -- a pass refuses the operation: it is to be a symbol table, and that is refused; or dead code is to go, and memory is
-  -- wanting
-  abbrev pub IsPassRefusal : Pass → SymbolTableErr → Type 0
-  IsPassRefusal Dce e = e ≡ of_tables.Memory
-  IsPassRefusal SymbolDce e = Reports (IsTableRefusal own_symbol own_table s root) e
-  IsPassRefusal _ e = ⊥
 
 module _ {D K A T E : Type 0} (o : op_set.Ghosts D K A T E) (uses_hold : UseRule K A T)
     (use_refusal : UseRefusal K A T E) (rule : UseRule K A T) (rule_refusal : UseRefusal K A T E)
@@ -77,46 +66,54 @@ module _ {D K A T E : Type 0} (o : op_set.Ghosts D K A T E) (names : OpView K A 
   IsUnprinted form s OutOfMemory = Unit {0}
   IsUnprinted form s _ = ⊥
 
-module _ {D K A T E : Type 0} (o : op_set.Ghosts D K A T E) (effect : K → Bool) (uses_hold : UseRule K A T)
+-- `has_passed` says what one run of each pass leaves, and `may_stop` when it may stop.
+module _ {D K A T E P : Type 0} (o : op_set.Ghosts D K A T E) (uses_hold : UseRule K A T)
     (use_refusal : UseRefusal K A T E) (rule : UseRule K A T) (rule_refusal : UseRefusal K A T E)
-    (private : OpView K A → Bool) (names : OpView K A → List (List ℕ)) (root : Ptr OperationKind) where
-  -- A pass over s refuses the operation; or it leaves t, which is verified, and something is wrong there; or memory is
-  -- wanting.
-  abbrev pub IsStoppedAt : (verify : Bool) → Pass → ContextView K A T → Stop E → Type 0
-  IsStoppedAt verify pass s (NoTable e) = IsPassRefusal o.is_symbol o.is_symbol_table s root pass e
+    (has_passed : RunRule P K A T) (may_stop : StopRule P K A T) (root : Ptr OperationKind) where
+  -- A pass over s stops with an error that it may stop with; or it leaves t, which is verified, and something is wrong
+  -- there; or memory is wanting.
+  abbrev pub IsStoppedAt : (verify : Bool) → P → ContextView K A T → Stop E → Type 0
+  IsStoppedAt verify pass s (NoTable e) = may_stop pass root s (of_passes.NoTable e)
+  IsStoppedAt verify pass s (Unfit why) = may_stop pass root s (of_passes.Unfit why)
+  IsStoppedAt verify pass s TooManyNodes = may_stop pass root s of_passes.TooManyNodes
   IsStoppedAt verify pass s (Refused l e) =
-      (verify ≡ true) × ((t : ContextView K A T) × IsRun o effect private names root pass s t
+      (verify ≡ true) × ((t : ContextView K A T) × has_passed pass root s t
       × IsWrong o uses_hold use_refusal rule rule_refusal root t (Refused l e))
   IsStoppedAt verify pass s OutOfMemory = Unit {0}
   IsStoppedAt verify pass s _ = ⊥
 
   -- One of the passes is where it stops: those in front of it were run, from s to `here`.
-  pub record IsStoppedIn (verify : Bool) (passes : List Pass) (s : ContextView K A T) (stop : Stop E) : Type 0 where
-    pub front : List Pass
-    pub pass : Pass
-    pub back : List Pass
+  pub record IsStoppedIn (verify : Bool) (passes : List P) (s : ContextView K A T) (stop : Stop E) : Type 0 where
+    pub front : List P
+    pub pass : P
+    pub back : List P
     pub here : ContextView K A T
     pub asked : passes ≡ front ++ pass ∷ back
-    pub run : AreRun o effect private names root uses_hold rule verify front s here
+    pub run : AreRun o has_passed root uses_hold rule verify front s here
     pub stops : IsStoppedAt verify pass here stop
 
-  -- Behind the reading: something is wrong with what was read; or it is right, and one of the passes is where it stops,
-  -- or all of them were run, and what they left is not printed.
-  abbrev pub IsStoppedBehind : Bool → List Pass → Form → ContextView K A T → Stop E → Type 0
+module _ {D K A T E P : Type 0} (o : op_set.Ghosts D K A T E) (uses_hold : UseRule K A T)
+    (use_refusal : UseRefusal K A T E) (rule : UseRule K A T) (rule_refusal : UseRefusal K A T E)
+    (names : OpView K A → List (List ℕ)) (has_passed : RunRule P K A T) (may_stop : StopRule P K A T)
+    (root : Ptr OperationKind) where
+  -- Behind the reading: something is wrong with what was read; or it is right, and one of the passes is where it
+  -- stops, or all of them were run, and what they left is not printed.
+  abbrev pub IsStoppedBehind : Bool → List P → Form → ContextView K A T → Stop E → Type 0
   IsStoppedBehind verify passes form s stop =
       IsWrong o uses_hold use_refusal rule rule_refusal root s stop ⊎ (AllHaveRules o uses_hold rule s root ×
-      (IsStoppedIn verify passes s stop
-      ⊎ ((t : ContextView K A T) × AreRun o effect private names root uses_hold rule verify passes s t
+      (IsStoppedIn o uses_hold use_refusal rule rule_refusal has_passed may_stop root verify passes s stop
+      ⊎ ((t : ContextView K A T) × AreRun o has_passed root uses_hold rule verify passes s t
       × IsUnprinted o names root form t stop)))
 
 -- Why nothing is printed for some bytes: they are not read; or they are a text that stands for an operation, and it
 -- stops behind that.
-abbrev pub IsStopped : {D K A T E : Type 0} → (o : op_set.Ghosts D K A T E) → (effect : K → Bool) →
-    (uses_hold : UseRule K A T) → (use_refusal : UseRefusal K A T E) → (rule : UseRule K A T) →
-    (rule_refusal : UseRefusal K A T E) → (private : OpView K A → Bool) → (names : OpView K A → List (List ℕ)) →
-    Bool → List Pass → Form → List ℕ → Stop E → Type 0
-IsStopped {D} {K} {A} {T} {E} o effect uses_hold use_refusal rule rule_refusal private names verify passes form bytes
-    stop =
+abbrev pub IsStopped : {D K A T E P : Type 0} → (o : op_set.Ghosts D K A T E) → (uses_hold : UseRule K A T) →
+    (use_refusal : UseRefusal K A T E) → (rule : UseRule K A T) → (rule_refusal : UseRefusal K A T E) →
+    (names : OpView K A → List (List ℕ)) → (has_passed : RunRule P K A T) → (may_stop : StopRule P K A T) →
+    Bool → List P → Form → List ℕ → Stop E → Type 0
+IsStopped {D} {K} {A} {T} {E} {P} o uses_hold use_refusal rule rule_refusal names has_passed may_stop verify passes
+    form bytes stop =
     IsUnread K A bytes stop
     ⊎ ((root : Ptr OperationKind) × (read : ContextView K A T) × StandsForOp 200 read bytes (Operation root)
-    × IsStoppedBehind o effect uses_hold use_refusal rule rule_refusal private names root verify passes form read stop)
+    × IsStoppedBehind o uses_hold use_refusal rule rule_refusal names has_passed may_stop root verify passes form read
+    stop)

@@ -12,31 +12,31 @@ use Rattle.plir_print.specs.OpText.{op_text}
 use Rattle.plir_verify.specs.Rules.{AllHaveRules}
 use Rattle.plir_driver.specs.declared.choices.Form.{Form}
 use Rattle.plir_driver.specs.declared.choices.Form.TheVariants.{Text, Walk, View, CallGraph}
-use Rattle.plir_driver.specs.declared.choices.Pass.{Pass}
 use Rattle.plir_driver.specs.DrawnCalls.{IsDrawn}
 use Rattle.plir_driver.specs.NodeLines.{IsGraphed, IsListed}
 use Rattle.plir_driver.specs.Passed.{AreRun}
+use Rattle.plir_driver.specs.PassRules.{RunRule}
 
--- What is printed of an operation: where its text is asked for, that text and a line feed; where a list of the nodes, a
--- graph of them or the call graph is, a text that lists or draws it.
-module _ {D K A T E : Type 0} (o : op_set.Ghosts D K A T E) (names : OpView K A → List (List ℕ)) (s : ContextView K A T)
-    (root : Ptr OperationKind) where
+-- What is printed of an operation: where its text is asked for, that text and a line feed; where a list of the nodes,
+-- a graph of them or the call graph is, a text that lists or draws it.
+module _ {D K A T E : Type 0} (o : op_set.Ghosts D K A T E) (names : OpView K A → List (List ℕ))
+    (s : ContextView K A T) (root : Ptr OperationKind) where
   abbrev pub IsPrintedAs : Form → List ℕ → Type 0
   IsPrintedAs Text t = t ≡ op_text o s root ++ codes "\n"
   IsPrintedAs Walk t = IsListed o.kind_id s root t
   IsPrintedAs View t = IsGraphed o.kind_id s root t
   IsPrintedAs CallGraph t = IsDrawn o names s root t
 
--- A text stands for an operation, which with all below it is right; the passes were run over it, one after another, and
--- behind each all there is right again, if that is to be verified; and what is printed is what is asked for of the
--- operation then.
-pub record IsTransformed {D K A T E : Type 0} (o : op_set.Ghosts D K A T E) (effect : K → Bool)
-    (uses_hold rule : UseRule K A T) (private : OpView K A → Bool) (names : OpView K A → List (List ℕ))
-    (verify : Bool) (passes : List Pass) (form : Form) (text printed : List ℕ) : Type 0 where
+-- A text stands for an operation, which with all below it is right; the passes were run over it, one after another,
+-- and behind each all there is right again, if that is to be verified; and what is printed is what is asked for of
+-- the operation then. `has_passed` says what one run of each pass leaves.
+pub record IsTransformed {D K A T E P : Type 0} (o : op_set.Ghosts D K A T E) (uses_hold rule : UseRule K A T)
+    (names : OpView K A → List (List ℕ)) (has_passed : RunRule P K A T) (verify : Bool) (passes : List P)
+    (form : Form) (text printed : List ℕ) : Type 0 where
   pub root : Ptr OperationKind
   pub read : ContextView K A T
   pub left : ContextView K A T
   pub stands : StandsForOp 200 read text (Operation root)
   pub verified : AllHaveRules o uses_hold rule read root
-  pub passed : AreRun o effect private names root uses_hold rule verify passes read left
+  pub passed : AreRun o has_passed root uses_hold rule verify passes read left
   pub prints : IsPrintedAs o names left root form printed

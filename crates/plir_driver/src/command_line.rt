@@ -3,9 +3,15 @@ ghost use Rattle.std.specs.Prelude.{◌⊎◌, IfErr, IfOk};
 ghost use Rattle.clap.specs.Matches.{first_value, found_of};
 ghost use Rattle.plir_driver.specs.Pipelines.{AreGiven, IsRefusedGiven};
 
-use crate::choices::{Choices, DCE, ERASE_NAMES, Form, Pass, Reports, SYMBOL_DCE};
+use crate::choices::{Choices, Form, Reports};
+use crate::pass::Pass;
 use crate::pipeline::{PipelineErr, passes_named};
+use crate::words::{
+    CALL_GRAPH, FILE, OUTPUT, PASS_PIPELINE, PRINT_AFTER_ALL, PRINT_BEFORE, SPLIT, STATS, VERIFY,
+    VERIFY_EACH, VIEW, WALK,
+};
 use clap::{Arg, ArgAction, ArgMatches, Command};
+use plir_data::OpSet;
 use std::alloc::{AllocError, Global};
 
 /// What a program says of itself.
@@ -18,38 +24,11 @@ pub struct About {
     pub about: &'static str,
 }
 
-/// The name of the argument that is the file.
-pub const FILE: &str = "FILE";
-
-/// The name of the argument that is the file of the output.
-pub const OUTPUT: &str = "output";
-
-/// The name of the option by which an input has several parts.
-pub const SPLIT: &str = "split-input-file";
-
-const VERIFY: &str = "verify";
-
-const VERIFY_EACH: &str = "verify-each";
-
-const PASS_PIPELINE: &str = "pass-pipeline";
-
-const PRINT_BEFORE: &str = "print-before";
-
-const PRINT_AFTER_ALL: &str = "print-after-all";
-
-const STATS: &str = "stats";
-
-const WALK: &str = "walk";
-
-const VIEW: &str = "view";
-
-const CALL_GRAPH: &str = "call-graph";
-
 const AFTER: &str =
     "The operation and all below it are verified once they are read. Passes run in the order of the \
 command line. Nothing is printed before all has gone well, but for the parts that go well of an input \
 that is cut, which go to the standard output. The status is 1 where the text can't be read, an \
-operation is refused or memory runs out, and 2 for a wrong command line.";
+operation is refused, a pass stops or memory runs out, and 2 for a wrong command line.";
 
 // An option without a value.
 fn flag<'a>(alloc: Global, id: &'a str, help: &'a str) -> Arg<'a> {
@@ -82,39 +61,54 @@ fn with_forms<'a>(alloc: Global, command: Command<'a>) -> Result<Command<'a>, Al
         .arg(call_graph)
 }
 
-// The option that names all passes.
-fn pipeline<'a>(alloc: Global) -> Result<Arg<'a>, AllocError> {
+// The option of a pass.
+fn pass_option<'a, D: OpSet, P: Pass<D>>(alloc: Global, pass: P) -> Arg<'a> {
+    flag(alloc, pass.name(), pass.help())
+}
+
+// The options of passes, in their order.
+fn pass_options<'a, D: OpSet, P: Pass<D>>(
+    alloc: Global,
+    passes: &[P],
+) -> Result<Vec<Arg<'a>>, AllocError> {
+    let mut options = Vec::new(alloc);
+    for pass in passes {
+        options.push(pass_option::<D, P>(alloc, *pass))?;
+    }
+    Ok(options)
+}
+
+// The names of passes, in their order.
+fn pass_names<'a, D: OpSet, P: Pass<D>>(
+    alloc: Global,
+    passes: &[P],
+) -> Result<Vec<&'a str>, AllocError> {
+    let mut names = Vec::new(alloc);
+    for pass in passes {
+        names.push(pass.name())?;
+    }
+    Ok(names)
+}
+
+// The option that names all passes, beside none of the options of single ones.
+fn pipeline<'a>(alloc: Global, names: &[&'a str]) -> Result<Arg<'a>, AllocError> {
     Arg::new(alloc, PASS_PIPELINE)
         .long(PASS_PIPELINE)
         .value_name("PASSES")
         .help("Passes by their names, with commas between them, in the order in which they run")
-        .conflicts_with(ERASE_NAMES)?
-        .conflicts_with(DCE)?
-        .conflicts_with(SYMBOL_DCE)
+        .conflicts_with_all(names)
 }
 
 // The passes, each by an option of its own, or all by their names.
-fn with_passes<'a>(alloc: Global, command: Command<'a>) -> Result<Command<'a>, AllocError> {
-    let erase_names = flag(
-        alloc,
-        ERASE_NAMES,
-        "Pass: take out the names of results and arguments, and the labels of blocks",
-    );
-    let dce = flag(
-        alloc,
-        DCE,
-        "Pass: erase what has no effect and whose results nothing uses",
-    );
-    let symbol_dce = flag(
-        alloc,
-        SYMBOL_DCE,
-        "Pass: erase private functions and modules right in the module that nothing uses",
-    );
-    command
-        .arg(erase_names)?
-        .arg(dce)?
-        .arg(symbol_dce)?
-        .arg(pipeline(alloc)?)
+fn with_passes<'a, D: OpSet, P: Pass<D>>(
+    alloc: Global,
+    command: Command<'a>,
+    passes: &[P],
+) -> Result<Command<'a>, AllocError> {
+    let options = pass_options::<D, P>(alloc, passes)?;
+    let names = pass_names::<D, P>(alloc, passes)?;
+    let pipeline = pipeline(alloc, names.as_slice())?;
+    command.args(options)?.arg(pipeline)
 }
 
 // What is told of passes as they run.
@@ -138,8 +132,12 @@ fn with_reports<'a>(alloc: Global, command: Command<'a>) -> Result<Command<'a>, 
     command.arg(before)?.arg(after_all)?.arg(stats)
 }
 
-/// The words that a program takes.
-pub fn command<'a>(alloc: Global, about: &About) -> Result<Command<'a>, AllocError> {
+/// The words that a program takes, which offers some passes.
+pub fn command<'a, D: OpSet, P: Pass<D>>(
+    alloc: Global,
+    about: &About,
+    passes: &[P],
+) -> Result<Command<'a>, AllocError> {
     let file = Arg::new(alloc, FILE).help(
         "The file with the text; the standard input, if none is named",
     );
@@ -160,16 +158,22 @@ pub fn command<'a>(alloc: Global, about: &About) -> Result<Command<'a>, AllocErr
         .arg(output)?
         .arg(split)?
         .arg(verify)?;
-    let command = with_reports(alloc, with_passes(alloc, command)?)?;
+    let command = with_passes::<D, P>(alloc, command, passes)?;
+    let command = with_reports(alloc, command)?;
     with_forms(alloc, command)
 }
 
 // The passes that options of their own ask for, in the order of the command line.
-fn asked_passes(alloc: Global, matches: &ArgMatches<'_>) -> Result<Vec<Pass>, AllocError> {
+fn asked_passes<D: OpSet, P: Pass<D>>(
+    alloc: Global,
+    matches: &ArgMatches<'_>,
+    offered: &[P],
+) -> Result<Vec<P>, AllocError> {
     let mut asked = Vec::new(alloc);
-    for pass in [Pass::EraseNames, Pass::Dce, Pass::SymbolDce] {
-        if matches.get_flag(pass.name()) {
-            asked.push((matches.index_of(pass.name()), pass))?;
+    for pass in offered {
+        let name = pass.name();
+        if matches.get_flag(name) {
+            asked.push((matches.index_of(name), *pass))?;
         }
     }
     asked.sort_by_key(|(place, _)| *place)?;
@@ -190,12 +194,18 @@ fn asked_form(matches: &ArgMatches<'_>) -> Form {
 }
 
 // What is to be told of passes.
-fn asked_reports<'a>(alloc: Global, matches: &ArgMatches<'a>) -> Result<Reports, PipelineErr<'a>>
-    ensures named { IfOk result (λ r. AreGiven (first_value (found_of matches.now) PRINT_BEFORE.now) r.before.items) }
-    ensures refused { IfErr result (IsRefusedGiven (first_value (found_of matches.now) PRINT_BEFORE.now)) }
+fn asked_reports<'a, D: OpSet, P: Pass<D>>(
+    alloc: Global,
+    matches: &ArgMatches<'a>,
+    offered: &[P],
+) -> Result<Reports<P>, PipelineErr<'a>>
+    ensures named { IfOk result (λ r. AreGiven P.pass_name offered.now
+        (first_value (found_of matches.now) PRINT_BEFORE.now) r.before.items) }
+    ensures refused { IfErr result (IsRefusedGiven P.pass_name offered.now
+        (first_value (found_of matches.now) PRINT_BEFORE.now)) }
 {
     let before = match matches.get_str(PRINT_BEFORE) {
-        Some(names) => passes_named(alloc, names)?,
+        Some(names) => passes_named::<D, P>(alloc, offered, names)?,
         None => Vec::new(alloc),
     };
     Ok(Reports {
@@ -205,26 +215,32 @@ fn asked_reports<'a>(alloc: Global, matches: &ArgMatches<'a>) -> Result<Reports,
     })
 }
 
-/// What a command line asks for.
+/// What a command line asks for, of the passes that are offered.
 ///
 /// # Errors
 ///
 /// As [`passes_named`], where passes are given by their names.
-pub fn choose<'a>(alloc: Global, matches: &ArgMatches<'a>) -> Result<Choices, PipelineErr<'a>>
-    ensures named { IfOk result (λ c. AreGiven (first_value (found_of matches.now) PASS_PIPELINE.now) c.passes.items) }
-    ensures told { IfOk result (λ c. AreGiven (first_value (found_of matches.now) PRINT_BEFORE.now)
-        c.reports.before.items) }
-    ensures refused { IfErr result (λ e. IsRefusedGiven (first_value (found_of matches.now) PASS_PIPELINE.now) e
-        ⊎ IsRefusedGiven (first_value (found_of matches.now) PRINT_BEFORE.now) e) }
+pub fn choose<'a, D: OpSet, P: Pass<D>>(
+    alloc: Global,
+    matches: &ArgMatches<'a>,
+    offered: &[P],
+) -> Result<Choices<P>, PipelineErr<'a>>
+    ensures named { IfOk result (λ c. AreGiven P.pass_name offered.now
+        (first_value (found_of matches.now) PASS_PIPELINE.now) c.passes.items) }
+    ensures told { IfOk result (λ c. AreGiven P.pass_name offered.now
+        (first_value (found_of matches.now) PRINT_BEFORE.now) c.reports.before.items) }
+    ensures refused { IfErr result (λ e. IsRefusedGiven P.pass_name offered.now
+        (first_value (found_of matches.now) PASS_PIPELINE.now) e
+        ⊎ IsRefusedGiven P.pass_name offered.now (first_value (found_of matches.now) PRINT_BEFORE.now) e) }
 {
     let passes = match matches.get_str(PASS_PIPELINE) {
-        Some(names) => passes_named(alloc, names)?,
-        None => asked_passes(alloc, matches)?,
+        Some(names) => passes_named::<D, P>(alloc, offered, names)?,
+        None => asked_passes::<D, P>(alloc, matches, offered)?,
     };
     Ok(Choices {
         verify: matches.get_flag(VERIFY),
         passes,
         form: asked_form(matches),
-        reports: asked_reports(alloc, matches)?,
+        reports: asked_reports::<D, P>(alloc, matches, offered)?,
     })
 }

@@ -4,7 +4,6 @@ ghost use Rattle.plir_core.specs.ContextView.{IsLive};
 ghost use Rattle.plir_core.specs.declared.ptr.IRNode.{IRNode as AnyNode};
 ghost use Rattle.plir_driver.specs.Counts.{IsCount, IsCounted, counts_line};
 
-use crate::choices::Pass;
 use plir_core::{Context, IRNode, Operation, Ptr};
 use plir_data::OpSet;
 use plir_walk::WALKCONFIG_PREORDER_FORWARD;
@@ -47,10 +46,9 @@ pub fn count_if<D: OpSet>(is_asked: bool, ctx: &Context<D>, root: Ptr<Operation>
 }
 
 // Puts two numbers of operations behind the name of a pass.
-fn put_line(log: &mut String, pass: Pass, before: usize, after: usize) -> Result<(), AllocError>
-    ensures { OnOk result (string_bytes log.new ≡ string_bytes log.old ++ counts_line pass before after) }
+fn put_line(log: &mut String, name: &str, before: usize, after: usize) -> Result<(), AllocError>
+    ensures { OnOk result (string_bytes log.new ≡ string_bytes log.old ++ counts_line name.now before after) }
 {
-    let name = pass.name();
     writeln!(log, "{name}: {before} operations before, {after} after")
 }
 
@@ -58,19 +56,19 @@ fn put_line(log: &mut String, pass: Pass, before: usize, after: usize) -> Result
 pub fn put_counts<D: OpSet>(
     log: &mut String,
     is_asked: bool,
-    pass: Pass,
+    name: &str,
     before: usize,
     ctx: &Context<D>,
     root: Ptr<Operation>,
 ) -> Result<(), AllocError>
     requires { IsLive ctx.now (AnyNode.Operation root) }
     ensures asked { is_asked ≡ true → OnOk result ((after : ℕ) × IsCount ctx.now root after ×
-        (string_bytes log.new ≡ string_bytes log.old ++ counts_line pass before after)) }
+        (string_bytes log.new ≡ string_bytes log.old ++ counts_line name.now before after)) }
     ensures unasked { is_asked ≡ false → (result ≡ Ok tt) × (log.new ≡ log.old) }
 {
     if !is_asked {
         return Ok(());
     }
     let after = count_operations(ctx, root);
-    put_line(log, pass, before, after)
+    put_line(log, name, before, after)
 }

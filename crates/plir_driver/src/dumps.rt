@@ -1,21 +1,23 @@
 //! The operation as it stands in front of a pass and behind it.
-ghost use Rattle.std.specs.Prelude.{◌≡◌, ◌↔◌, ◌++◌, false, true, IsTrue, Ok, OnOk, string_bytes};
-ghost use Rattle.std.specs.List.{Contains};
+ghost use Rattle.std.specs.Prelude.{◌≡◌, ◌↔◌, ◌++◌, false, true, IsSome, IsTrue, Ok, OnOk, string_bytes};
 ghost use Rattle.plir_core.specs.ContextView.{IsLive};
 ghost use Rattle.plir_core.specs.declared.ptr.IRNode.{IRNode as AnyNode};
 ghost use Rattle.plir_driver.specs.Dumps.{IsDumped, IsShown, dump_head};
+ghost use Rattle.plir_driver.specs.Pipelines.{bearer};
 
-use crate::choices::{Pass, Reports};
+use crate::choices::Reports;
+use crate::pass::Pass;
+use crate::pipeline::pass_of;
 use plir_core::{Context, Operation, Ptr};
 use plir_data::{Memory, OpSet};
 use plir_print::{is_printable, print_op};
 use std::alloc::{AllocError, Global};
 
-/// Whether the operation is dumped in front of a pass.
-pub fn is_dumped_before(reports: &Reports, pass: Pass) -> bool
-    ensures { IsTrue result ↔ Contains reports.now.before.items pass }
+/// Whether the operation is dumped in front of passes of a name.
+pub fn is_dumped_before<D: OpSet, P: Pass<D>>(reports: &Reports<P>, name: &str) -> bool
+    ensures { IsTrue result ↔ IsSome (bearer P.pass_name reports.now.before.items name.now) }
 {
-    reports.before.as_slice().contains(&pass)
+    pass_of::<D, P>(reports.before.as_slice(), name).is_some()
 }
 
 // Puts the text of the operation, or that it has none.
@@ -39,10 +41,9 @@ fn put_shown<D: OpSet>(
 }
 
 // Puts the line that names a moment and a pass.
-fn put_head(log: &mut String, moment: &str, pass: Pass) -> Result<(), AllocError>
-    ensures { OnOk result (string_bytes log.new ≡ string_bytes log.old ++ dump_head moment.now pass) }
+fn put_head(log: &mut String, moment: &str, name: &str) -> Result<(), AllocError>
+    ensures { OnOk result (string_bytes log.new ≡ string_bytes log.old ++ dump_head moment.now name.now) }
 {
-    let name = pass.name();
     writeln!(log, "// -----// IR Dump {moment} {name} //----- //")
 }
 
@@ -53,19 +54,19 @@ pub fn put_dump<D: OpSet>(
     alloc: Global,
     is_asked: bool,
     moment: &str,
-    pass: Pass,
+    name: &str,
     ctx: &Context<D>,
     root: Ptr<Operation>,
 ) -> Result<(), Memory>
     requires { IsLive ctx.now (AnyNode.Operation root) }
-    ensures asked { is_asked ≡ true → OnOk result (IsDumped D.OpSet root moment.now pass ctx.now
+    ensures asked { is_asked ≡ true → OnOk result (IsDumped D.OpSet root moment.now name.now ctx.now
         (string_bytes log.old) (string_bytes log.new)) }
     ensures unasked { is_asked ≡ false → (result ≡ Ok tt) × (log.new ≡ log.old) }
 {
     if !is_asked {
         return Ok(());
     }
-    put_head(log, moment, pass)?;
+    put_head(log, moment, name)?;
     put_shown(log, alloc, ctx, root)?;
     log.push_str("\n\n")?;
     Ok(())

@@ -1,8 +1,10 @@
 //! Passes by their names.
-ghost use Rattle.std.specs.Prelude.{◌≡◌, IfErr, IfOk, MatchOption, map};
-ghost use Rattle.plir_driver.specs.Pipelines.{AreNames, AreRefused, IsNoName, Names, NamesNone, pass_name, words_of};
+ghost use Rattle.std.specs.Prelude.{◌≡◌, IfErr, IfOk, IfSome, map};
+ghost use Rattle.std.specs.Str.{bytes_eq};
+ghost use Rattle.plir_driver.specs.Pipelines.{AreNames, AreRefused, IsNoName, Names, bearer, words_of};
 
-use crate::choices::Pass;
+use crate::pass::Pass;
+use plir_data::OpSet;
 use std::alloc::{AllocError, AllocFailed, Global};
 
 /// Why a text names no passes.
@@ -36,38 +38,50 @@ impl<T: Drop> From<AllocFailed<T>> for PipelineErr<'_> {
     }
 }
 
-// The pass of a name.
-fn pass_of(name: &str) -> Option<Pass>
-    ensures { MatchOption result (NamesNone name.now) (λ p. pass_name p ≡ name.now) }
+// Whether a pass bears a name.
+fn bears<D: OpSet, P: Pass<D>>(pass: P, name: &str) -> bool
+    ensures { result ≡ bytes_eq (P.pass_name pass) name.now }
 {
-    match name {
-        "erase-names" => Some(Pass::EraseNames),
-        "dce" => Some(Pass::Dce),
-        "symbol-dce" => Some(Pass::SymbolDce),
-        _ => None,
+    pass.name() == name
+}
+
+/// The first of some passes that bears a name.
+pub(crate) fn pass_of<D: OpSet, P: Pass<D>>(offered: &[P], name: &str) -> Option<P>
+    ensures first { result ≡ bearer P.pass_name offered.now name.now }
+    ensures named { IfSome result (λ p. P.pass_name p ≡ name.now) }
+{
+    for pass in offered {
+        if bears::<D, P>(*pass, name) {
+            return Some(*pass);
+        }
     }
+    None
 }
 
 // The pass that a word names.
-fn pass_in<'a>(word: &'a str) -> Result<Pass, PipelineErr<'a>>
-    ensures named { IfOk result (Names word.entry.now) }
-    ensures refused { IfErr result (IsNoName word.entry.now) }
+fn pass_in<'a, D: OpSet, P: Pass<D>>(offered: &[P], word: &'a str) -> Result<P, PipelineErr<'a>>
+    ensures named { IfOk result (Names P.pass_name offered.now word.entry.now) }
+    ensures refused { IfErr result (IsNoName P.pass_name offered.now word.entry.now) }
 {
     let name = word.trim_ascii();
-    match pass_of(name) {
+    match pass_of::<D, P>(offered, name) {
         Some(pass) => Ok(pass),
         None => Err(PipelineErr::NoPass { name }),
     }
 }
 
 // The passes that words name, in their order.
-fn passes_in<'a>(alloc: Global, words: &[&'a str]) -> Result<Vec<Pass>, PipelineErr<'a>>
-    ensures named { IfOk result (λ v. AreNames (map (λ w. w.now) words.now) v.items) }
-    ensures refused { IfErr result (AreRefused (map (λ w. w.now) words.now)) }
+fn passes_in<'a, D: OpSet, P: Pass<D>>(
+    alloc: Global,
+    offered: &[P],
+    words: &[&'a str],
+) -> Result<Vec<P>, PipelineErr<'a>>
+    ensures named { IfOk result (λ v. AreNames P.pass_name offered.now (map (λ w. w.now) words.now) v.items) }
+    ensures refused { IfErr result (AreRefused P.pass_name offered.now (map (λ w. w.now) words.now)) }
 {
     let mut passes = Vec::new(alloc);
     for word in words {
-        passes.push(pass_in(word)?)?;
+        passes.push(pass_in::<D, P>(offered, word)?)?;
     }
     Ok(passes)
 }
@@ -79,15 +93,20 @@ fn words_of<'a>(alloc: Global, text: &'a str) -> Result<Vec<&'a str>, AllocError
     text.split(',').collect(alloc)
 }
 
-/// The passes that a text names, in their order: names stand between its commas, with white space around them or none.
+/// The passes that a text names, in their order, of those that are offered: names stand between its commas, with white
+/// space around them or none.
 ///
 /// # Errors
 ///
 /// The first of them that is no pass's name, which may be empty; or memory was wanting.
-pub fn passes_named<'a>(alloc: Global, text: &'a str) -> Result<Vec<Pass>, PipelineErr<'a>>
-    ensures named { IfOk result (λ v. AreNames (words_of text.entry.now) v.items) }
-    ensures refused { IfErr result (AreRefused (words_of text.entry.now)) }
+pub fn passes_named<'a, D: OpSet, P: Pass<D>>(
+    alloc: Global,
+    offered: &[P],
+    text: &'a str,
+) -> Result<Vec<P>, PipelineErr<'a>>
+    ensures named { IfOk result (λ v. AreNames P.pass_name offered.now (words_of text.entry.now) v.items) }
+    ensures refused { IfErr result (AreRefused P.pass_name offered.now (words_of text.entry.now)) }
 {
     let words = words_of(alloc, text)?;
-    passes_in(alloc, words.as_slice())
+    passes_in::<D, P>(alloc, offered, words.as_slice())
 }

@@ -1,15 +1,17 @@
 //! A program's run, from its command line to its status.
 use crate::choices::Choices;
-use crate::command_line::{About, FILE, OUTPUT, SPLIT, choose, command};
+use crate::command_line::{About, choose, command};
+use crate::offer::check_offer;
 use crate::output::{is_standard, write_output};
 use crate::parts::{MARK, Part, parts_of};
+use crate::pass::Pass;
 use crate::pipeline::PipelineErr;
 use crate::source::read_source;
 use crate::telling::tell;
 use crate::transform::transform;
+use crate::words::{FILE, OUTPUT, SPLIT};
 use clap::error::ErrorKind;
 use clap::{ArgMatches, Command};
-use plir_passes::EffectSet;
 use plir_symbols::SymbolNames;
 use plir_verify::VerifySet;
 use std::alloc::AllocError;
@@ -17,20 +19,30 @@ use std::process::ExitCode;
 use std::{env, io};
 
 /// The whole of a program over an op set, as its command line asks for it: it reads the text of one operation,
-/// verifies it, runs passes over it, and prints it. The status is 0, or 1 where the text can't be read, an operation is
-/// refused or memory runs out, or 2 for a wrong command line.
+/// verifies it, runs passes over it, and prints it. Each of `passes` is offered by an option of its name, and by its
+/// name in a pipeline; several kinds of passes are offered as [`OneOf`](crate::OneOf) them. The status is 0, or 1
+/// where the text can't be read, an operation is refused, a pass stops or memory runs out, or 2 for a wrong command
+/// line.
+///
+/// Where the passes can't be offered, as [`check_offer`] tells, that is told, whatever the command line, and the
+/// status is 2.
 ///
 /// # Errors
 ///
 /// Where the command line can't be had, memory is wanting for it, or something can't be written.
-pub fn opt_main<D: EffectSet + VerifySet + SymbolNames>(
+pub fn opt_main<D: VerifySet + SymbolNames, P: Pass<D>>(
     rt: &HostRuntime,
     about: &About,
+    passes: &[P],
 ) -> anyhow::Result<ExitCode> {
+    if let Err(error) = check_offer::<D, P>(passes) {
+        eprintln!(rt; "{}: {error}", about.name)?;
+        return Ok(ExitCode::from(2));
+    }
     let words: Vec<String> = env::args(rt)?.collect(rt.alloc())?;
-    let mut command = command(rt.alloc(), about)?;
+    let mut command = command::<D, P>(rt.alloc(), about, passes)?;
     match command.try_get_matches_from_mut(words.as_slice()) {
-        Ok(matches) => run_chosen::<D>(rt, &mut command, &matches),
+        Ok(matches) => run_chosen::<D, P>(rt, &mut command, &matches, passes),
         Err(error) => refuse(rt, &error),
     }
 }
@@ -46,13 +58,14 @@ fn refuse(rt: &HostRuntime, error: &clap::Error) -> anyhow::Result<ExitCode> {
 }
 
 // Runs what is asked for, if each name of a pass is one.
-fn run_chosen<D: EffectSet + VerifySet + SymbolNames>(
+fn run_chosen<D: VerifySet + SymbolNames, P: Pass<D>>(
     rt: &HostRuntime,
     command: &mut Command<'_>,
     matches: &ArgMatches<'_>,
+    offered: &[P],
 ) -> anyhow::Result<ExitCode> {
-    match choose(rt.alloc(), matches) {
-        Ok(choices) => run::<D>(rt, matches, &choices),
+    match choose::<D, P>(rt.alloc(), matches, offered) {
+        Ok(choices) => run::<D, P>(rt, matches, &choices),
         Err(PipelineErr::NoPass { name }) => {
             let what = format!(in rt.alloc(); "'{name}' is the name of no pass")?;
             refuse(rt, &command.error(ErrorKind::InvalidValue, what.as_str())?)
@@ -63,10 +76,10 @@ fn run_chosen<D: EffectSet + VerifySet + SymbolNames>(
 
 // Reads, transforms and prints. Where the status is not 0 no file is written, and the standard output has the parts
 // that went well of an input that is cut, or what was written when the output itself failed.
-fn run<D: EffectSet + VerifySet + SymbolNames>(
+fn run<D: VerifySet + SymbolNames, P: Pass<D>>(
     rt: &HostRuntime,
     matches: &ArgMatches<'_>,
-    choices: &Choices,
+    choices: &Choices<P>,
 ) -> anyhow::Result<ExitCode> {
     let file = matches.get_str(FILE);
     let name = file.unwrap_or("<stdin>");
@@ -76,18 +89,18 @@ fn run<D: EffectSet + VerifySet + SymbolNames>(
     };
     let output = matches.get_str(OUTPUT);
     if matches.get_flag(SPLIT) {
-        return run_parts::<D>(rt, choices, name, bytes.as_slice(), output);
+        return run_parts::<D, P>(rt, choices, name, bytes.as_slice(), output);
     }
-    match handle::<D>(rt, choices, name, bytes.as_slice())? {
+    match handle::<D, P>(rt, choices, name, bytes.as_slice())? {
         Some(text) => put_out(rt, output, text.as_str()),
         None => Ok(ExitCode::FAILURE),
     }
 }
 
 // Handles each part of an input alone, and prints what comes of those that go well, with a mark between each two.
-fn run_parts<D: EffectSet + VerifySet + SymbolNames>(
+fn run_parts<D: VerifySet + SymbolNames, P: Pass<D>>(
     rt: &HostRuntime,
-    choices: &Choices,
+    choices: &Choices<P>,
     name: &str,
     bytes: &[u8],
     output: Option<&str>,
@@ -98,7 +111,7 @@ fn run_parts<D: EffectSet + VerifySet + SymbolNames>(
         if place > 0 {
             writeln!(all, "{MARK}")?;
         }
-        match handle_part::<D>(rt, choices, name, part)? {
+        match handle_part::<D, P>(rt, choices, name, part)? {
             Some(text) => all.push_str(text.as_str())?,
             None => is_well = false,
         }
@@ -113,27 +126,27 @@ fn run_parts<D: EffectSet + VerifySet + SymbolNames>(
 }
 
 // What is printed for a part of an input, if anything is.
-fn handle_part<D: EffectSet + VerifySet + SymbolNames>(
+fn handle_part<D: VerifySet + SymbolNames, P: Pass<D>>(
     rt: &HostRuntime,
-    choices: &Choices,
+    choices: &Choices<P>,
     name: &str,
     part: &Part,
 ) -> anyhow::Result<Option<String>> {
     let line = part.line;
     let name = format!(in rt.alloc(); "within split at {name}:{line} offset ")?;
-    handle::<D>(rt, choices, name.as_str(), part.bytes.as_slice())
+    handle::<D, P>(rt, choices, name.as_str(), part.bytes.as_slice())
 }
 
 // What is printed for the bytes of a text, if anything is; what is told of the passes and of a refusal goes to the
 // standard error.
-fn handle<D: EffectSet + VerifySet + SymbolNames>(
+fn handle<D: VerifySet + SymbolNames, P: Pass<D>>(
     rt: &HostRuntime,
-    choices: &Choices,
+    choices: &Choices<P>,
     name: &str,
     bytes: &[u8],
 ) -> anyhow::Result<Option<String>> {
     let mut log = String::new(rt.alloc());
-    let printed = transform::<D>(rt.alloc(), choices, bytes, &mut log);
+    let printed = transform::<D, P>(rt.alloc(), choices, bytes, &mut log);
     rt.eprint(log.as_str())?;
     match printed {
         Ok(text) => Ok(Some(text)),

@@ -1,4 +1,5 @@
 //! Why nothing is printed.
+use crate::pass_err::PassErr;
 use plir_attr_text::{Fault, ReadErr};
 use plir_builtin::SymbolTableErr;
 use plir_data::{Location, Memory, VerifyErr};
@@ -32,10 +33,15 @@ pub enum Stop<E: StdError> {
     NoTable {
         err: SymbolTableErr,
     },
+    /// A pass can't be run over the operation: what stands against it.
+    #[error("{why}")]
+    Unfit {
+        why: &'static str,
+    },
     /// An operation lacks an attribute that its text tells.
     #[error("an operation lacks an attribute that its text tells")]
     Unprintable,
-    /// The context has no room for one more node.
+    /// The context has no room for one more node, or there are more than a pass may visit.
     #[error("too many nodes")]
     TooManyNodes,
     /// A growth was refused.
@@ -91,6 +97,22 @@ impl<E: StdError> From<SymbolTableErr> for Stop<E> {
         match error {
             SymbolTableErr::Memory => Stop::OutOfMemory,
             err => Stop::NoTable { err },
+        }
+    }
+}
+
+impl<E: StdError> From<PassErr> for Stop<E> {
+    ghost use Rattle.std.specs.Prelude.{◌≡◌};
+    ghost use Rattle.plir_driver.specs.StopOf.{of_pass};
+
+    ghost from_gives = { λ e s. s ≡ of_pass e };
+
+    fn from(error: PassErr) -> Stop<E> {
+        match error {
+            PassErr::NoTable { err } => Stop::NoTable { err },
+            PassErr::Unfit { why } => Stop::Unfit { why },
+            PassErr::TooManyNodes => Stop::TooManyNodes,
+            PassErr::OutOfMemory => Stop::OutOfMemory,
         }
     }
 }

@@ -5,70 +5,70 @@ ghost use Rattle.plir_core.specs.declared.ptr.IRNode.{IRNode as AnyNode};
 ghost use Rattle.plir_print.specs.OpText.{op_text};
 ghost use Rattle.plir_verify.specs.Rules.{AllHaveRules};
 ghost use Rattle.plir_driver.specs.Dumps.{AreLogged, IsLogged, IsPassLogged};
-ghost use Rattle.plir_driver.specs.Passed.{AreRun, IsRun};
+ghost use Rattle.plir_driver.specs.Passed.{AreRun};
 ghost use Rattle.plir_driver.specs.Stopped.{IsStopped, IsStoppedAt, IsStoppedIn, IsUnprinted};
 ghost use Rattle.plir_driver.specs.Transformed.{IsTransformed, IsPrintedAs};
 
 use crate::calls::draw_calls;
-use crate::choices::{Choices, Form, Pass, Reports};
+use crate::choices::{Choices, Form, Reports};
 use crate::counts::{count_if, put_counts};
 use crate::dumps::{is_dumped_before, put_dump};
 use crate::graph::draw;
 use crate::listing::list_nodes;
-use crate::passes::run_pass;
+use crate::pass::Pass;
 use crate::stop::Stop;
 use plir_core::{Context, Operation, Ptr};
-use plir_passes::EffectSet;
 use plir_print::{is_printable, print_op};
 use plir_read::read_op;
 use plir_symbols::SymbolNames;
 use plir_verify::{VerifySet, verify_tree};
 use std::alloc::Global;
 
-/// What is printed for the bytes of a text: they are read as an operation, which is verified, taken through the passes,
-/// and printed. What is told of the passes as they run is put behind the log.
+/// What is printed for the bytes of a text: they are read as an operation, which is verified, taken through the
+/// passes, and printed. What is told of the passes as they run is put behind the log.
 ///
 /// # Errors
 ///
 /// The first that holds of these: the bytes are no text, or a text that can't be read; an operation is refused, once
-/// all is read, or behind a pass; a symbol table is; one can't be printed; or memory or room for a node is wanting.
-pub fn transform<D: EffectSet + VerifySet + SymbolNames>(
+/// all is read, or behind a pass; a pass stops; the operation, or its call graph, can't be printed; or memory or room
+/// for a node is wanting.
+pub fn transform<D: VerifySet + SymbolNames, P: Pass<D>>(
     alloc: Global,
-    choices: &Choices,
+    choices: &Choices<P>,
     bytes: &[u8],
     log: &mut String,
 ) -> Result<String, Stop<D::Err>>
-    ensures transformed { IfOk result (λ t. IsTransformed D.OpSet D.has_effect D.uses_hold D.rule D.is_private
-        D.names_used choices.now.verify choices.now.passes.items choices.now.form bytes.now (string_bytes t)) }
-    ensures stopped { IfErr result (IsStopped D.OpSet D.has_effect D.uses_hold D.use_refusal D.rule D.rule_refusal
-        D.is_private D.names_used choices.now.verify choices.now.passes.items choices.now.form bytes.now) }
-    ensures logged { OnOk result (IsLogged D.OpSet D.has_effect D.is_private D.names_used choices.now.reports
+    ensures transformed { IfOk result (λ t. IsTransformed D.OpSet D.uses_hold D.rule D.names_used P.has_passed
+        choices.now.verify choices.now.passes.items choices.now.form bytes.now (string_bytes t)) }
+    ensures stopped { IfErr result (IsStopped D.OpSet D.uses_hold D.use_refusal D.rule D.rule_refusal D.names_used
+        P.has_passed P.may_stop choices.now.verify choices.now.passes.items choices.now.form bytes.now) }
+    ensures logged { OnOk result (IsLogged D.OpSet P.pass_name P.has_passed choices.now.reports
         choices.now.passes.items bytes.now (string_bytes log.old) (string_bytes log.new)) }
 {
     match str::from_utf8(bytes) {
-        Ok(text) => transform_text::<D>(alloc, choices, text, log),
+        Ok(text) => transform_text::<D, P>(alloc, choices, text, log),
         Err(_) => Err(Stop::NoText),
     }
 }
 
 // The same of a text.
-fn transform_text<D: EffectSet + VerifySet + SymbolNames>(
+fn transform_text<D: VerifySet + SymbolNames, P: Pass<D>>(
     alloc: Global,
-    choices: &Choices,
+    choices: &Choices<P>,
     text: &str,
     log: &mut String,
 ) -> Result<String, Stop<D::Err>>
-    ensures transformed { IfOk result (λ t. IsTransformed D.OpSet D.has_effect D.uses_hold D.rule D.is_private
-        D.names_used choices.now.verify choices.now.passes.items choices.now.form text.now (string_bytes t)) }
-    ensures stopped { IfErr result (IsStopped D.OpSet D.has_effect D.uses_hold D.use_refusal D.rule D.rule_refusal
-        D.is_private D.names_used choices.now.verify choices.now.passes.items choices.now.form text.now) }
-    ensures logged { OnOk result (IsLogged D.OpSet D.has_effect D.is_private D.names_used choices.now.reports
+    ensures transformed { IfOk result (λ t. IsTransformed D.OpSet D.uses_hold D.rule D.names_used P.has_passed
+        choices.now.verify choices.now.passes.items choices.now.form text.now (string_bytes t)) }
+    ensures stopped { IfErr result (IsStopped D.OpSet D.uses_hold D.use_refusal D.rule D.rule_refusal D.names_used
+        P.has_passed P.may_stop choices.now.verify choices.now.passes.items choices.now.form text.now) }
+    ensures logged { OnOk result (IsLogged D.OpSet P.pass_name P.has_passed choices.now.reports
         choices.now.passes.items text.now (string_bytes log.old) (string_bytes log.new)) }
 {
     let mut ctx = Context::<D>::new(alloc);
     let root = read_op(alloc, &mut ctx, text)?;
     verify_tree(alloc, &ctx, root)?;
-    run_passes(
+    run_passes::<D, P>(
         alloc,
         choices.verify,
         choices.passes.as_slice(),
@@ -81,74 +81,75 @@ fn transform_text<D: EffectSet + VerifySet + SymbolNames>(
 }
 
 // Runs passes, one after another.
-fn run_passes<D: EffectSet + VerifySet + SymbolNames>(
+fn run_passes<D: VerifySet + SymbolNames, P: Pass<D>>(
     alloc: Global,
     verify: bool,
-    passes: &[Pass],
-    reports: &Reports,
+    passes: &[P],
+    reports: &Reports<P>,
     ctx: &mut Context<D>,
     root: Ptr<Operation>,
     log: &mut String,
 ) -> Result<(), Stop<D::Err>>
     requires { IsLive ctx.old (AnyNode.Operation root) }
     ensures live { IsLive ctx.new (AnyNode.Operation root) }
-    ensures passed { OnOk result (AreRun D.OpSet D.has_effect D.is_private D.names_used root D.uses_hold D.rule verify
-        passes.now ctx.old ctx.new) }
-    ensures stopped { IfErr result (IsStoppedIn D.OpSet D.has_effect D.uses_hold D.use_refusal D.rule D.rule_refusal
-        D.is_private D.names_used root verify passes.now ctx.old) }
-    ensures logged { OnOk result (AreLogged D.OpSet D.has_effect D.is_private D.names_used reports.now root passes.now
-        ctx.old ctx.new (string_bytes log.old) (string_bytes log.new)) }
+    ensures passed { OnOk result (AreRun D.OpSet P.has_passed root D.uses_hold D.rule verify passes.now ctx.old
+        ctx.new) }
+    ensures stopped { IfErr result (IsStoppedIn D.OpSet D.uses_hold D.use_refusal D.rule D.rule_refusal P.has_passed
+        P.may_stop root verify passes.now ctx.old) }
+    ensures logged { OnOk result (AreLogged D.OpSet P.pass_name P.has_passed reports.now root passes.now ctx.old
+        ctx.new (string_bytes log.old) (string_bytes log.new)) }
 {
     for pass in passes {
-        run_told(alloc, verify, *pass, reports, ctx, root, log)?;
+        run_told::<D, P>(alloc, verify, *pass, reports, ctx, root, log)?;
     }
     Ok(())
 }
 
 // Runs a pass, and tells what is asked for in front of it and behind it.
-fn run_told<D: EffectSet + VerifySet + SymbolNames>(
+fn run_told<D: VerifySet + SymbolNames, P: Pass<D>>(
     alloc: Global,
     verify: bool,
-    pass: Pass,
-    reports: &Reports,
+    pass: P,
+    reports: &Reports<P>,
     ctx: &mut Context<D>,
     root: Ptr<Operation>,
     log: &mut String,
 ) -> Result<(), Stop<D::Err>>
     requires { IsLive ctx.old (AnyNode.Operation root) }
     ensures live { IsLive ctx.new (AnyNode.Operation root) }
-    ensures passed { OnOk result (IsRun D.OpSet D.has_effect D.is_private D.names_used root pass ctx.old ctx.new) }
+    ensures passed { OnOk result (P.has_passed pass root ctx.old ctx.new) }
     ensures verified { OnOk result (verify ≡ true → AllHaveRules D.OpSet D.uses_hold D.rule ctx.new root) }
-    ensures stopped { IfErr result (IsStoppedAt D.OpSet D.has_effect D.uses_hold D.use_refusal D.rule D.rule_refusal
-        D.is_private D.names_used root verify pass ctx.old) }
-    ensures logged { OnOk result (IsPassLogged D.OpSet root reports.now pass ctx.old ctx.new (string_bytes log.old)
-        (string_bytes log.new)) }
+    ensures stopped { IfErr result (IsStoppedAt D.OpSet D.uses_hold D.use_refusal D.rule D.rule_refusal P.has_passed
+        P.may_stop root verify pass ctx.old) }
+    ensures logged { OnOk result (IsPassLogged D.OpSet P.pass_name root reports.now pass ctx.old ctx.new
+        (string_bytes log.old) (string_bytes log.new)) }
 {
-    let before = is_dumped_before(reports, pass);
-    put_dump(log, alloc, before, "Before", pass, ctx, root)?;
+    let name = pass.name();
+    let before = is_dumped_before::<D, P>(reports, name);
+    put_dump(log, alloc, before, "Before", name, ctx, root)?;
     let operations = count_if(reports.stats, ctx, root);
-    run_one(alloc, verify, pass, ctx, root)?;
-    put_dump(log, alloc, reports.after_all, "After", pass, ctx, root)?;
-    put_counts(log, reports.stats, pass, operations, ctx, root)?;
+    run_one::<D, P>(alloc, verify, pass, ctx, root)?;
+    put_dump(log, alloc, reports.after_all, "After", name, ctx, root)?;
+    put_counts(log, reports.stats, name, operations, ctx, root)?;
     Ok(())
 }
 
 // Runs a pass, and verifies behind it, if that is asked for.
-fn run_one<D: EffectSet + VerifySet + SymbolNames>(
+fn run_one<D: VerifySet + SymbolNames, P: Pass<D>>(
     alloc: Global,
     verify: bool,
-    pass: Pass,
+    pass: P,
     ctx: &mut Context<D>,
     root: Ptr<Operation>,
 ) -> Result<(), Stop<D::Err>>
     requires { IsLive ctx.old (AnyNode.Operation root) }
     ensures live { IsLive ctx.new (AnyNode.Operation root) }
-    ensures passed { OnOk result (IsRun D.OpSet D.has_effect D.is_private D.names_used root pass ctx.old ctx.new) }
+    ensures passed { OnOk result (P.has_passed pass root ctx.old ctx.new) }
     ensures verified { OnOk result (verify ≡ true → AllHaveRules D.OpSet D.uses_hold D.rule ctx.new root) }
-    ensures stopped { IfErr result (IsStoppedAt D.OpSet D.has_effect D.uses_hold D.use_refusal D.rule D.rule_refusal
-        D.is_private D.names_used root verify pass ctx.old) }
+    ensures stopped { IfErr result (IsStoppedAt D.OpSet D.uses_hold D.use_refusal D.rule D.rule_refusal P.has_passed
+        P.may_stop root verify pass ctx.old) }
 {
-    run_pass(alloc, pass, ctx, root)?;
+    pass.run(alloc, ctx, root)?;
     if verify {
         verify_tree(alloc, ctx, root)?;
     }

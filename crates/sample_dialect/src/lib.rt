@@ -3,6 +3,7 @@
 #![tactic(auto)]
 
 mod add_op;
+mod asked;
 mod kinds;
 #[cfg(test)]
 mod tests;

@@ -1,49 +1,28 @@
 // SPDX-License-Identifier: Apache-2.0
-//! Reads the text of one operation, sweeps dead operations out of it, and prints what is left.
+//! Reads the text of one operation, verifies it, runs passes over it, and prints it: passes of the library, and one of
+//! its own.
 #![tactic(auto)]
 
-mod stop;
+mod sweep_pass;
 
-use dce::sweep;
-use plir_core::Context;
-use plir_text::{is_printable, print_op, read_op};
-use plir_walk::laws::lawful_changes;
+use plir_driver::{About, LibraryPass, OneOf, opt_main};
 use sample_dialect::SampleSet;
-use std::alloc::Global;
-use std::io::{self, Read, Write};
 use std::process::ExitCode;
-use stop::Stop;
+use sweep_pass::SweepPass;
 
-fn main(rt: HostRuntime) -> ExitCode {
-    let mut bytes = Vec::new(rt.alloc());
-    if rt.reader().read_to_end(&mut bytes).is_err() {
-        return ExitCode::FAILURE;
-    }
-    match swept(rt.alloc(), bytes.as_slice()) {
-        Ok(text) => match io::writer(&rt).write_all(text.as_bytes()) {
-            Ok(()) => ExitCode::SUCCESS,
-            Err(_) => ExitCode::FAILURE,
-        },
-        Err(stop) => {
-            let _told = eprintln!(&rt; "{stop}");
-            ExitCode::FAILURE
-        }
-    }
-}
+const ABOUT: About = About {
+    name: "sample_opt",
+    version: "0.1.0",
+    about: "Reads the text of one operation, verifies it, runs passes over it, and prints it",
+};
 
-// The text of what is left of the operation that a text stands for.
-fn swept(alloc: Global, bytes: &[u8]) -> Result<String, Stop> {
-    let Ok(text) = str::from_utf8(bytes) else {
-        return Err(Stop::NoText);
-    };
-    lawful_changes::<SampleSet>();
-    let mut ctx: Context<SampleSet> = Context::new(alloc);
-    let root = read_op(alloc, &mut ctx, text)?;
-    sweep(&mut ctx, root)?;
-    if !is_printable(&ctx, root) {
-        return Err(Stop::Unprintable);
-    }
-    let mut text = print_op(alloc, &ctx, root)?;
-    text.push_str("\n")?;
-    Ok(text)
+const PASSES: [OneOf<LibraryPass, SweepPass>; 4] = [
+    OneOf::First(LibraryPass::EraseNames),
+    OneOf::First(LibraryPass::Dce),
+    OneOf::First(LibraryPass::SymbolDce),
+    OneOf::Second(SweepPass),
+];
+
+fn main(rt: HostRuntime) -> anyhow::Result<ExitCode> {
+    opt_main::<SampleSet, OneOf<LibraryPass, SweepPass>>(&rt, &ABOUT, &PASSES)
 }

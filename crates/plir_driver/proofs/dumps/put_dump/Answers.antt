@@ -8,7 +8,7 @@ returns-clause-asked g c asked =
     let shown = c.in_ok-put_shown.ensures in (
       shown.0,
       shown.1,
-      dump-put (string_bytes c.args.log.now) (dump_head c.args.moment.now c.args.pass) shown.0 (codes "\n\n")
+      dump-put (string_bytes c.args.log.now) (dump_head c.args.moment.now c.args.name.now) shown.0 (codes "\n\n")
           (string_bytes c.put_head.new.log) (string_bytes c.put_shown.new.log) _ c.in_ok-put_head.ensures shown.2
           c.in_ok-push_str.ensures.bytes,
     )

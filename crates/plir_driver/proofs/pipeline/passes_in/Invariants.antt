@@ -4,4 +4,5 @@ use Rattle.plir_driver.proofs.pipeline.passes_in.Given as goal
 
 -- the words so far are the names of the passes so far
 abbrev pub invariant-loop-word : goal.invariant-loop-word
-invariant-loop-word l = AreNames (map (λ w. w.now) (take l.word-index l.words)) l.passes.items
+invariant-loop-word g l =
+    AreNames g.P.Pass.pass_name l.offered (map (λ w. w.now) (take l.word-index l.words)) l.passes.items

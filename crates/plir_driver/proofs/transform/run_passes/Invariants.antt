@@ -9,7 +9,7 @@ use Rattle.plir_driver.proofs.transform.run_passes.Given as goal
 abbrev pub invariant-loop-pass : goal.invariant-loop-pass
 invariant-loop-pass g l =
     IsLive l.ctx (Operation l.root)
-    × AreRun g.D.OpSet g.D.EffectSet.has_effect g.D.SymbolNames.is_private g.D.SymbolNames.names_used l.root
-    g.D.SymbolUserSet.uses_hold g.D.VerifySet.rule l.verify (take l.pass-index l.passes) l.fn.ctx l.ctx
-    × AreLogged g.D.OpSet g.D.EffectSet.has_effect g.D.SymbolNames.is_private g.D.SymbolNames.names_used l.reports l.root
-    (take l.pass-index l.passes) l.fn.ctx l.ctx (string_bytes l.fn.log) (string_bytes l.log)
+    × AreRun g.D.OpSet g.P.Pass.has_passed l.root g.D.SymbolUserSet.uses_hold g.D.VerifySet.rule l.verify
+    (take l.pass-index l.passes) l.fn.ctx l.ctx
+    × AreLogged g.D.OpSet g.P.Pass.pass_name g.P.Pass.has_passed l.reports l.root (take l.pass-index l.passes) l.fn.ctx
+    l.ctx (string_bytes l.fn.log) (string_bytes l.log)

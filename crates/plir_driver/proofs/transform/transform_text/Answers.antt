@@ -23,12 +23,13 @@ returns-in_err-root-clause-stopped g c =
     let p = err_from_is_err_and c.from_residual.result c.from_residual.ensures.1 in
     let e = c.in_err-root.field-0.0 in
     rw (p.1, p.2) (inl (unread _ c.args.text.now e.line e.column e.fault c.utf8.text c.in_err-root.ensures.refused
-    (λ many. subst (λ n. BeginsTooMany op_count (OpWithin 200) n c.args.text.now) (ap (λ z. z.nodes) c.new-ctx.ensures.empty)
-    (c.in_err-root.ensures.begins many))))
+    (λ many. subst (λ n. BeginsTooMany op_count (OpWithin 200) n c.args.text.now)
+    (ap (λ z. z.nodes) c.new-ctx.ensures.empty) (c.in_err-root.ensures.begins many))))
 
 pub returns-in_err-verify_tree-clause-stopped : goal.returns-in_err-verify_tree-clause-stopped
 returns-in_err-verify_tree-clause-stopped g c =
-    let p = err_from_is_err_and c.from_residual-in_err-verify_tree.result c.from_residual-in_err-verify_tree.ensures.1 in
+    let p =
+    err_from_is_err_and c.from_residual-in_err-verify_tree.result c.from_residual-in_err-verify_tree.ensures.1 in
     rw (p.1, p.2) (inr (
       c.in_ok-root.root,
       c.read_op.new.ctx,
@@ -40,17 +41,18 @@ returns-in_err-verify_tree-clause-stopped g c =
 
 pub returns-in_err-run_passes-clause-stopped : goal.returns-in_err-run_passes-clause-stopped
 returns-in_err-run_passes-clause-stopped g c =
-    let p = err_from_is_err_and c.from_residual-in_err-run_passes.result c.from_residual-in_err-run_passes.ensures.1 in
+    let p =
+    err_from_is_err_and c.from_residual-in_err-run_passes.result c.from_residual-in_err-run_passes.ensures.1 in
     rw (p.1, p.2) (inr (
       c.in_ok-root.root,
       c.read_op.new.ctx,
       c.in_ok-root.ensures.found,
       inr (
         c.in_ok-verify_tree.ensures.ok,
-        inl (subst (λ z. IsStoppedIn g.D.OpSet g.D.EffectSet.has_effect
-            g.D.SymbolUserSet.uses_hold g.D.SymbolUserSet.use_refusal g.D.VerifySet.rule g.D.VerifySet.rule_refusal
-            g.D.SymbolNames.is_private g.D.SymbolNames.names_used c.in_ok-root.root c.args.choices.now.verify z
-            c.read_op.new.ctx c.in_err-run_passes.field-0.0) c.as_slice.ensures.value c.in_err-run_passes.ensures.stopped),
+        inl (subst (λ z. IsStoppedIn g.D.OpSet g.D.SymbolUserSet.uses_hold g.D.SymbolUserSet.use_refusal
+            g.D.VerifySet.rule g.D.VerifySet.rule_refusal g.P.Pass.has_passed g.P.Pass.may_stop c.in_ok-root.root
+            c.args.choices.now.verify z c.read_op.new.ctx c.in_err-run_passes.field-0.0) c.as_slice.ensures.value
+            c.in_err-run_passes.ensures.stopped),
       ),
     ))
 
@@ -63,9 +65,9 @@ returns-clause-transformed g c =
       stands = c.in_ok-root.ensures.found;
       verified = c.in_ok-verify_tree.ensures.ok;
       passed =
-          subst (λ z. AreRun g.D.OpSet g.D.EffectSet.has_effect g.D.SymbolNames.is_private g.D.SymbolNames.names_used
-          c.in_ok-root.root g.D.SymbolUserSet.uses_hold g.D.VerifySet.rule c.args.choices.now.verify z
-          c.read_op.new.ctx c.run_passes.new.ctx) c.as_slice.ensures.value c.in_ok-run_passes.ensures.passed;
+          subst (λ z. AreRun g.D.OpSet g.P.Pass.has_passed c.in_ok-root.root g.D.SymbolUserSet.uses_hold
+          g.D.VerifySet.rule c.args.choices.now.verify z c.read_op.new.ctx c.run_passes.new.ctx)
+          c.as_slice.ensures.value c.in_ok-run_passes.ensures.passed;
       prints = prints;
     }) c.print.ensures.printed
 
@@ -79,9 +81,9 @@ returns-clause-stopped g c =
         c.in_ok-verify_tree.ensures.ok,
         inr (
           c.run_passes.new.ctx,
-          subst (λ z. AreRun g.D.OpSet g.D.EffectSet.has_effect g.D.SymbolNames.is_private g.D.SymbolNames.names_used
-              c.in_ok-root.root g.D.SymbolUserSet.uses_hold g.D.VerifySet.rule c.args.choices.now.verify z
-              c.read_op.new.ctx c.run_passes.new.ctx) c.as_slice.ensures.value c.in_ok-run_passes.ensures.passed,
+          subst (λ z. AreRun g.D.OpSet g.P.Pass.has_passed c.in_ok-root.root g.D.SymbolUserSet.uses_hold
+              g.D.VerifySet.rule c.args.choices.now.verify z c.read_op.new.ctx c.run_passes.new.ctx)
+              c.as_slice.ensures.value c.in_ok-run_passes.ensures.passed,
           unprinted,
         ),
       ),
@@ -95,8 +97,7 @@ returns-clause-logged g c =
       left = c.run_passes.new.ctx;
       stands = c.in_ok-root.ensures.found;
       told =
-          subst (λ z. AreLogged g.D.OpSet g.D.EffectSet.has_effect g.D.SymbolNames.is_private g.D.SymbolNames.names_used
-          c.args.choices.now.reports c.in_ok-root.root z c.read_op.new.ctx c.run_passes.new.ctx
-          (string_bytes c.args.log.now) (string_bytes c.run_passes.new.log)) c.as_slice.ensures.value
-          c.in_ok-run_passes.ensures.logged;
+          subst (λ z. AreLogged g.D.OpSet g.P.Pass.pass_name g.P.Pass.has_passed c.args.choices.now.reports
+          c.in_ok-root.root z c.read_op.new.ctx c.run_passes.new.ctx (string_bytes c.args.log.now)
+          (string_bytes c.run_passes.new.log)) c.as_slice.ensures.value c.in_ok-run_passes.ensures.logged;
     })

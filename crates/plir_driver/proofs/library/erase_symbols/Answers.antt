@@ -1,6 +1,6 @@
 use Rattle.std.proofs.Common.{sym, subst}
 use Rattle.plir_builtin.specs.Agree.{AllAgree}
-use Rattle.plir_driver.proofs.passes.erase_symbols.Goals as goal
+use Rattle.plir_driver.proofs.library.erase_symbols.Goals as goal
 
 pub returns-clause-sweeps : goal.returns-clause-sweeps
 returns-clause-sweeps g c =

@@ -1,0 +1,44 @@
+//! What a pass is.
+ghost use Rattle.std.specs.Prelude.{◌≡◌, ℕ, List, IfErr, OnOk};
+ghost use Rattle.plir_core.specs.ContextView.{ContextView, IsLive};
+ghost use Rattle.plir_core.specs.declared.ptr.IRNode.{IRNode as AnyNode};
+ghost use Rattle.plir_core.specs.declared.ptr.Operation.{Operation as OperationKind};
+ghost use Rattle.plir_core.specs.declared.ptr.Ptr.{Ptr as AnyPtr};
+ghost use Rattle.plir_driver.specs.declared.pass_err.PassErr.{PassErr as AnyPassErr};
+
+use crate::pass_err::PassErr;
+use plir_core::{Context, Operation, Ptr};
+use plir_data::OpSet;
+use std::alloc::Global;
+
+/// A pass over the operations of an op set `D`, as a value: [`opt_main`](crate::opt_main) offers it under its name.
+/// What a program over passes promises is made of what each of them promises here.
+pub trait Pass<D: OpSet>: Copy {
+    // Its name.
+    ghost pass_name: { Self → List ℕ };
+
+    // What one run of it over an operation leaves: the operation, the context before the run and the one after it.
+    ghost has_passed: { Self → AnyPtr OperationKind → ContextView D.Kind D.Attr D.Ty → ContextView D.Kind D.Attr D.Ty
+        → Type 0 };
+
+    // When a run may stop, and with which error: the operation, the context before the run, the error.
+    ghost may_stop: { Self → AnyPtr OperationKind → ContextView D.Kind D.Attr D.Ty → AnyPassErr → Type 0 };
+
+    /// The name under which a command line asks for it: a small letter, and then small letters, digits and dashes.
+    fn name(self) -> &'static str
+        ensures { result.now ≡ pass_name self };
+
+    /// What it does, in a line, as `--help` shows it.
+    fn help(self) -> &'static str;
+
+    /// Runs it over an operation and all below it. The operation is there afterwards.
+    ///
+    /// # Errors
+    ///
+    /// As the pass says; what was done until then stays done.
+    fn run(self, alloc: Global, ctx: &mut Context<D>, root: Ptr<Operation>) -> Result<(), PassErr>
+        requires { IsLive ctx.old (AnyNode.Operation root) }
+        ensures live { IsLive ctx.new (AnyNode.Operation root) }
+        ensures passed { OnOk result (has_passed self root ctx.old ctx.new) }
+        ensures stopped { IfErr result (may_stop self root ctx.old) };
+}
