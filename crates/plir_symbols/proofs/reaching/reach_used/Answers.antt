@@ -22,7 +22,8 @@ loop-name-preserved g c =
     subst (λ k. IsGrown (IsFoundUnder (λ q. IsLive s (Operation q)) (get c.args.table.now.names) names (take k names))
     c.args.reached.now c.reach_name.new.reached) (sym next)
     (names-next (λ q. IsLive s (Operation q)) (get c.args.table.now.names) names i _ c.args.reached.now
-    c.loop-name.reached c.reach_name.new.reached (told-at c.deref-name-items.result.now names told i _ (omega arith))
+    c.loop-name.reached c.reach_name.new.reached (told-at c.deref-name-items.result.now names told i _
+    (omega arith) c.name-item.is)
     c.loop-name.invariant c.in_ok-reach_name.ensures)
 
 pub returns : goal.returns
