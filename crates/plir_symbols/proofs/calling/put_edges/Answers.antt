@@ -36,7 +36,8 @@ loop-name-preserved g c =
           (subst (λ k. ArePutUpTo g.D.OpSet.is_symbol g.D.OpSet.is_symbol_table s names k c.args.user old
           (c.loop-name.edges.items ++ c.in_ok-edge.edge ∷ [])) (sym next)
           (put-next g.D.OpSet.is_symbol g.D.OpSet.is_symbol_table s names i c.args.user _ old
-          c.loop-name.edges.items c.in_ok-edge.edge (told-at ns _ told i _ (omega arith) c.name-item.is) (c.loop-name.invariant.2 a)
+          c.loop-name.edges.items c.in_ok-edge.edge (told-at ns _ told i _ (omega arith) c.name-item.is)
+          (c.loop-name.invariant.2 a)
           (c.in_ok-edge.ensures.edge (c.loop-name.invariant.0 a)))),
       brought-both g.D.OpSet.is_symbol g.D.OpSet.is_symbol_table s
           (λ t. IsNearest g.D.OpSet.is_symbol_table s c.args.user (Some t)) _ _ _ c.loop-name.invariant.3
