@@ -1,6 +1,7 @@
 -- Chains of places: one place more, and what is read along the chain of an operation.
 use Rattle.std.proofs.Common.{◌≡◌, ◌<◌, ◌≤◌, ◌+◌, ℕ, suc, Bool, true, false, cond, List, [], ◌∷◌, ◌++◌, length, map}
-use Rattle.std.proofs.Common.{reverse, take, get_or, Option, Some, None, option_and_then, arith, refl, sym, ap, subst, ◌∙◌}
+use Rattle.std.proofs.Common.{reverse, take, get_or, Option, Some, None, option_and_then, arith, inl, inr, refl, sym}
+use Rattle.std.proofs.Common.{ap, subst, ◌∙◌}
 use Rattle.std.specs.Prelude.{slice_get}
 use Rattle.std.specs.HashMap.{get}
 use Rattle.std.specs.List.{filter_map, cons_option}
@@ -177,7 +178,7 @@ module _ (es : List CallEdge) (end : End) (p : Ptr OperationKind) where
   abbrev ends : List CallEdge → Ops
   ends xs = map (at_end end) xs
 
-  abbrev given : List CallEdge → List (Ptr OperationKind)
+  abbrev pub given : List CallEdge → List (Ptr OperationKind)
   given xs = filter_map (found_by end p) xs
 
   off : (e : CallEdge) → here e ≡ false → found_by end p e ≡ None
@@ -211,7 +212,7 @@ module _ (es : List CallEdge) (end : End) (p : Ptr OperationKind) where
 
   module _ (at : Option ℕ) (found : List (Ptr OperationKind)) (s : IsSought at found) (i : ℕ)
       (is : at ≡ Some i) where
-    cut : IsCut here s.left i
+    pub cut : IsCut here s.left i
     cut = last-cut here s.left i (sym (last-map (is_found p) (at_end end) s.left) ∙ sym s.place ∙ is)
 
     abbrev e : CallEdge

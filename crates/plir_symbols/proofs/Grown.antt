@@ -3,7 +3,6 @@ use Rattle.std.proofs.Common.{◌≡◌, ◌≤◌, Option, ℕ, suc, Bool, true
 use Rattle.std.proofs.Common.{◌⊎◌, Some, inl, inr, refl, sym, ap, subst, ◌∙◌}
 use Rattle.std.specs.Prelude.{◌&&◌, nat_eq, not, slice_get}
 use Rattle.std.specs.List.{list_any}
-use Rattle.std.proofs.lemmas.Bool.{cases_Bool}
 use Rattle.std.proofs.lemmas.List.{append_assoc, append-nil, take_all}
 use Rattle.plir_store.specs.FilterLaws.{not-both}
 use Rattle.plir_store.specs.Members.{Distinct, Has}

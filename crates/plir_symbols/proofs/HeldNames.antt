@@ -89,29 +89,29 @@ module _ {A : Type 0} where
 
   -- the names of the entries that were passed, and of those that are left: past another entry, past a name, at the end
   module _ (it rest : List (List ℕ × AttrView A)) (e : List ℕ × AttrView A) (ns : List (Bor (List ℕ)))
-      (all : List (List ℕ)) (step : it ≡ e ∷ rest) (inv : texts ns ++ names_under it ≡ all) where
-    gathered : (o : Option (List ℕ)) → o ≡ name_under e → texts ns ++ cons_option o (names_under rest) ≡ all
+      (total : List (List ℕ)) (step : it ≡ e ∷ rest) (inv : texts ns ++ names_under it ≡ total) where
+    gathered : (o : Option (List ℕ)) → o ≡ name_under e → texts ns ++ cons_option o (names_under rest) ≡ total
     gathered o is =
         ap (λ z. texts ns ++ cons_option z (names_under rest)) is
         ∙ sym (ap (λ z. texts ns ++ names_under z) step) ∙ inv
 
-    pub gathered-none : None ≡ name_under e → texts ns ++ names_under rest ≡ all
+    pub gathered-none : None ≡ name_under e → texts ns ++ names_under rest ≡ total
     gathered-none is = gathered None is
 
-    pub gathered-there : (x : List ℕ) → Some x ≡ name_under e → 0 < length all
+    pub gathered-there : (x : List ℕ) → Some x ≡ name_under e → 0 < length total
     gathered-there x is =
-        (let whole : length (texts ns ++ x ∷ names_under rest) ≡ length all = ap length (gathered (Some x) is) in
+        (let whole : length (texts ns ++ x ∷ names_under rest) ≡ length total = ap length (gathered (Some x) is) in
         let parts = length-append (texts ns) (x ∷ names_under rest) in omega (arith, whole, parts))
 
     pub gathered-some : (n : Bor (List ℕ)) (more : List (Bor (List ℕ))) → Some n.now ≡ name_under e →
-        more ≡ ns ++ n ∷ [] → texts more ++ names_under rest ≡ all
+        more ≡ ns ++ n ∷ [] → texts more ++ names_under rest ≡ total
     gathered-some n more is put =
         ap (λ z. texts z ++ names_under rest) put
         ∙ ap (λ z. z ++ names_under rest) (map-append (λ (m : Bor (List ℕ)). m.now) ns (n ∷ []))
         ∙ append_assoc (texts ns) (n.now ∷ []) (names_under rest)
         ∙ gathered (Some n.now) is
 
-  pub gathered-end : (it : List (List ℕ × AttrView A)) (ns : List (Bor (List ℕ))) (all : List (List ℕ)) → it ≡ [] →
-      texts ns ++ names_under it ≡ all → texts ns ≡ all
-  gathered-end it ns all none inv =
+  pub gathered-end : (it : List (List ℕ × AttrView A)) (ns : List (Bor (List ℕ))) (total : List (List ℕ)) → it ≡ [] →
+      texts ns ++ names_under it ≡ total → texts ns ≡ total
+  gathered-end it ns total none inv =
       sym (append-nil (texts ns)) ∙ sym (ap (λ z. texts ns ++ names_under z) none) ∙ inv

@@ -1,6 +1,6 @@
 -- What a walk reaches, where each call at an operation reaches what a table tells of it, and leaves out what is below
 -- another table.
-use Rattle.std.proofs.Common.{◌≡◌, ◌≢◌, ℕ, Bool, true, false, List, [], ◌∷◌, ◌⊎◌, inl, inr, refl, sym, ap, subst, ◌∙◌}
+use Rattle.std.proofs.Common.{◌≡◌, ◌≢◌, ℕ, Bool, true, false, List, [], ◌∷◌, inl, inr, refl, sym, ap, subst, ◌∙◌}
 use Rattle.std.proofs.lemmas.Bool.{cases_Bool}
 use Rattle.std.specs.declared.ops.ControlFlow.{ControlFlow}
 use Rattle.std.specs.declared.ops.ControlFlow.TheVariants.{Continue, Break}
@@ -13,16 +13,14 @@ use Rattle.plir_core.specs.declared.ptr.IRNode.TheVariants.{Operation, Region, B
 use Rattle.plir_core.specs.Contents.{OpView}
 use Rattle.plir_core.specs.ContextView.{ContextView, IsAncestor, children}
 use Rattle.plir_core.specs.Forest.{look, IsForest}
-use Rattle.plir_walk.specs.declared.config.Order.TheVariants.{PreOrder}
 use Rattle.plir_walk.specs.declared.config.TheConstants.{WALKCONFIG_PREORDER_FORWARD as pre_forward}
 use Rattle.plir_walk.specs.declared.interruptible.WalkContinue.{WalkContinue}
 use Rattle.plir_walk.specs.declared.interruptible.WalkContinue.TheVariants.{Advance, Skip}
 use Rattle.plir_walk.specs.Calls.{Call, Relation, Chain, nodes_of, NoBreak}
 use Rattle.plir_walk.specs.OperationWalks.{OperationRelation, AtOperations, IsOperationDue, WalkedOperations}
 use Rattle.plir_walk.specs.ShutOut.{IsShutOut}
-use Rattle.plir_walk.specs.TreeLaws.{reached-under, under-reached, under-cases, properly-trans, pre-order}
-use Rattle.plir_walk.specs.Tree.{IsUnder, IsProperlyUnder}
-use Rattle.plir_walk.specs.Walk.{AnswersBy, CallsAllDue, IsDue}
+use Rattle.plir_walk.specs.TreeLaws.{reached-under, under-reached, under-cases, properly-trans}
+use Rattle.plir_walk.specs.Walk.{AnswersBy, CallsAllDue}
 use Rattle.plir_walk.specs.Walked.{IsCallUnder}
 use Rattle.plir_walk.specs.NodeLaws.{same-op}
 use Rattle.plir_builtin.specs.Table.{Table}

@@ -1,11 +1,10 @@
 -- The search for the reached symbols of a table, and that it finds them.
-use Rattle.std.proofs.Common.{◌≡◌, ◌↔◌, ◌<◌, ◌≤◌, ◌-◌, ◌+◌, ℕ, zero, suc, arith, Bool, true, false, IsTrue, cond, List}
+use Rattle.std.proofs.Common.{◌≡◌, ◌↔◌, ◌<◌, ◌≤◌, ℕ, zero, suc, arith, Bool, true, false, IsTrue, cond, List}
 use Rattle.std.proofs.Common.{[], ◌∷◌, ◌++◌, length, map, take, Option, Some, None, ◌⊎◌, inl, inr, refl, sym, ap, subst, ◌∙◌}
-use Rattle.std.specs.Prelude.{IfSome, option_and_then, slice_get}
-use Rattle.std.proofs.lemmas.Bool.{cases_Bool}
+use Rattle.std.specs.Prelude.{option_and_then, slice_get}
 use Rattle.std.proofs.lemmas.List.{length-map, take_all}
 use Rattle.std.proofs.lemmas.Option.{none-some, same_Some}
-use Rattle.plir_store.specs.Members.{Distinct, Has}
+use Rattle.plir_store.specs.Members.{Has}
 use Rattle.plir_store.specs.MemberLaws.{Distinct-map, Has-append_cases, Has-append_left, Has-at, Has-map}
 use Rattle.plir_core.specs.declared.ptr.Ptr.{Ptr}
 use Rattle.plir_core.specs.declared.ptr.Operation.{Operation as OperationKind}
@@ -18,7 +17,7 @@ use Rattle.plir_core.specs.Standing.{IsStanding}
 use Rattle.plir_walk.specs.NodeLaws.{same-op}
 use Rattle.plir_builtin.specs.Agree.{Agrees}
 use Rattle.plir_builtin.specs.Nearest.{IsNearest}
-use Rattle.plir_builtin.specs.Symbols.{IsGood, Symbols, body, children_in, find_named, is_named, is_symbol_kind, name_held}
+use Rattle.plir_builtin.specs.Symbols.{body, children_in, find_named, is_named, is_symbol_kind, name_held}
 use Rattle.plir_builtin.specs.Symbols.{scan, symbols_among}
 use Rattle.plir_builtin.specs.Table.{Table}
 use Rattle.plir_symbols.specs.declared.reached.Reached.{Reached}

@@ -12,8 +12,9 @@ module _ (ns : List (Bor (List ℕ))) (xs : List (List ℕ)) (told : texts ns �
   pub told-many : length ns ≡ length xs
   told-many = sym (length-map {A = Bor (List ℕ)} {B = List ℕ} ns (λ n. n.now)) ∙ ap length told
 
-  pub told-at : (i : ℕ) (n : Bor (List ℕ)) → i < length ns → slice_get xs i ≡ Some (get_or ns i n).now
-  told-at i n below =
+  pub told-at : (i : ℕ) (n : Bor (List ℕ)) → i < length ns → n ≡ get_or ns i n → slice_get xs i ≡ Some n.now
+  told-at i n below is =
       ap (λ z. slice_get z i) (sym told)
       ∙ slice_get-map (λ (m : Bor (List ℕ)). m.now) ns i
       ∙ ap (option_map (λ (m : Bor (List ℕ)). m.now)) (slice_get-get_or ns i n below)
+      ∙ ap (λ (m : Bor (List ℕ)). Some m.now) (sym is)

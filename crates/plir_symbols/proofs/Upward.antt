@@ -1,10 +1,9 @@
 -- Which operations have a table as their nearest one: those under an operation of its body with no other table between.
-use Rattle.std.proofs.Common.{◌≡◌, ◌<◌, ◌≤◌, ◌+◌, ◌-◌, ℕ, zero, suc, arith, Bool, true, false, cond, List, [], ◌∷◌}
-use Rattle.std.proofs.Common.{Option, Some, None, IsSome, IfSome, ◌⊎◌, inl, inr, refl, sym, ap, subst, ◌∙◌}
-use Rattle.std.specs.Prelude.{option_and_then, option_map}
-use Rattle.std.proofs.lemmas.Bool.{cases_Bool, cases_lt}
+use Rattle.std.proofs.Common.{◌≡◌, ◌<◌, ◌≤◌, ◌+◌, ◌-◌, ℕ, zero, suc, arith, Bool, true, false, cond}
+use Rattle.std.proofs.Common.{Option, Some, None, ◌⊎◌, inl, inr, refl, sym, ap, subst, ◌∙◌}
+use Rattle.std.specs.Prelude.{option_map}
+use Rattle.std.proofs.lemmas.Bool.{cases_lt}
 use Rattle.std.proofs.lemmas.Option.{none-some, same_Some}
-use Rattle.plir_store.specs.FilterLaws.{not-both}
 use Rattle.plir_store.specs.Members.{Has}
 use Rattle.plir_core.specs.declared.ptr.Ptr.{Ptr}
 use Rattle.plir_core.specs.declared.ptr.Operation.{Operation as OperationKind}
@@ -12,8 +11,7 @@ use Rattle.plir_core.specs.declared.ptr.BasicBlock.{BasicBlock as BasicBlockKind
 use Rattle.plir_core.specs.declared.ptr.Region.{Region as RegionKind}
 use Rattle.plir_core.specs.declared.ptr.IRNode.{IRNode}
 use Rattle.plir_core.specs.declared.ptr.IRNode.TheVariants.{Operation, Region, BasicBlock}
-use Rattle.plir_core.specs.Above.{climb, Reaches}
-use Rattle.plir_core.specs.Measures.{depth}
+use Rattle.plir_core.specs.Above.{climb}
 use Rattle.plir_store.specs.Lists.{parent_at}
 use Rattle.plir_core.specs.Nodes.{block_node, is_node_live, op_node, ptr_at, region_node}
 use Rattle.plir_core.specs.Standing.{IsStanding}

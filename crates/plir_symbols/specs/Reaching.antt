@@ -14,10 +14,10 @@ use Rattle.plir_core.specs.declared.ptr.IRNode.TheVariants.{Operation, BasicBloc
 use Rattle.plir_core.specs.Contents.{OpView}
 use Rattle.plir_core.specs.ContextView.{ContextView, IsAncestor, IsLive, children, kind_in, op_at}
 use Rattle.plir_core.specs.SameValue.{same_ptr}
-use Rattle.plir_builtin.specs.Symbols.{body, is_table_kind}
+use Rattle.plir_builtin.specs.Symbols.{is_table_kind}
 use Rattle.plir_builtin.specs.Table.{Table}
 use Rattle.plir_symbols.specs.SymbolNames.{names_in}
-use Rattle.plir_symbols.specs.DeadSymbols.{IsReachedFrom, MayGo}
+use Rattle.plir_symbols.specs.DeadSymbols.{MayGo}
 use Rattle.plir_symbols.specs.declared.reached.Reached.{Reached}
 
 -- whether pointers are the same, as a hash set asks

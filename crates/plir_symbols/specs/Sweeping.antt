@@ -14,7 +14,6 @@ use Rattle.plir_walk.specs.Thinned.{IsThinned}
 use Rattle.plir_builtin.specs.Table.{Table}
 use Rattle.plir_builtin.specs.Symbols.{body}
 use Rattle.plir_builtin.specs.Agree.{KeepsAgreement, KeepsAllAgree, KeepsGivenOut}
-use Rattle.plir_symbols.specs.DeadSymbols.{MayGo}
 use Rattle.plir_symbols.specs.SweptSymbols.{AreSwept, ops_that, without_each}
 
 module _ {K A T : Type 0} (own_symbol own_table : K → Bool) where

@@ -1,4 +1,5 @@
 use Rattle.std.proofs.Common.{◌≡◌, ◌<◌, ◌∷◌, ◌++◌, length, Some, None, sym, ap, subst, ◌∙◌}
+use Rattle.std.proofs.lemmas.Result.{err_from_is_err_and}
 use Rattle.plir_data.specs.AttrSeen.{attr_view}
 use Rattle.plir_data.specs.DictSeen.{pairs_view}
 use Rattle.plir_core.specs.ContextView.{op_at}
@@ -49,5 +50,6 @@ returns-in_err-push-clause-refused g c =
     let step : pairs_view c.entries.key-iterator ≡ (k, v) ∷ left = ap pairs_view c.in-Some.ensures.steps in
     let named : Some n.now ≡ name_under (k, v) =
     c.in-Some-name_under.ensures ∙ ap (λ w. name_under (w, v)) c.as_str.ensures.text in
-    subst (λ xs. 0 < length xs) (sym (in-held (op_at c.args.ctx.now c.args.op)))
-    (gathered-there _ left (k, v) c.entries.names.items _ step c.entries.invariant n.now named)
+    let p = err_from_is_err_and c.from_residual.result c.from_residual.ensures.1 in
+    rw p.1 (subst (λ xs. 0 < length xs) (sym (in-held (op_at c.args.ctx.now c.args.op)))
+    (gathered-there _ left (k, v) c.entries.names.items _ step c.entries.invariant n.now named))

@@ -1,8 +1,7 @@
-use Rattle.std.proofs.Common.{[], ◌++◌, ap, ◌∙◌}
+use Rattle.std.proofs.Common.{rules, ◌<◌, [], ◌++◌, length, reverse, ap, ◌∙◌}
 use Rattle.std.specs.List.{cons_option}
 use Rattle.std.proofs.lemmas.List.{reverse-reverse}
 use Rattle.std.proofs.lemmas.Option.{slice_get-get_or}
-use Rattle.std.proofs.Common.{reverse}
 use Rattle.plir_symbols.proofs.Chaining.{given, sought-all, sought-beside, sought-falls, sought-first, sought-next}
 use Rattle.plir_symbols.proofs.Chaining.{sought-within}
 use Rattle.plir_symbols.proofs.call_edges.found_along.Goals as goal
@@ -16,6 +15,13 @@ pub bounds-edges-place : goal.bounds-edges-place
 bounds-edges-place c =
     sought-within c.args.edges.now c.args.end c.args.op c.chain.at c.chain.found.items c.chain.invariant
     c.in-Some.place c.in-Some.is
+
+pub offset_bounds-edges-place : goal.offset_bounds-edges-place
+offset_bounds-edges-place c =
+    let below : c.in-Some.place < length c.args.edges.now =
+    sought-within c.args.edges.now c.args.end c.args.op c.chain.at c.chain.found.items c.chain.invariant
+    c.in-Some.place c.in-Some.is in
+    search rules
 
 pub before-at-requires : goal.before-at-requires
 before-at-requires c =

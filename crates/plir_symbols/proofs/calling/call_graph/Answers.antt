@@ -99,7 +99,8 @@ returns-clause-graph g c = λ a.
     let names = g.D.SymbolNames.names_used in
     let xs = c.deref-user-items.result.now in
     let all = take_all c.loop-user.user-index xs (omega arith) ∙ c.deref-user-items.ensures.value in
-    subst (IsCallGraph g.D.OpSet.is_symbol g.D.OpSet.is_symbol_table names s c.args.root) (sym c.in_ok-graph.ensures) (record {
+    subst (IsCallGraph g.D.OpSet.is_symbol g.D.OpSet.is_symbol_table names s c.args.root)
+    (sym c.in_ok-graph.ensures) (record {
       users = c.in_ok-users.users.items;
       are_users = c.in_ok-users.ensures;
       are_edges = subst (λ ps. AreEdges g.D.OpSet.is_symbol g.D.OpSet.is_symbol_table s (uses_of names s ps)

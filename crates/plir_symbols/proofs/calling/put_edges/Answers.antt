@@ -36,7 +36,8 @@ loop-name-preserved g c =
           (subst (λ k. ArePutUpTo g.D.OpSet.is_symbol g.D.OpSet.is_symbol_table s names k c.args.user old
           (c.loop-name.edges.items ++ c.in_ok-edge.edge ∷ [])) (sym next)
           (put-next g.D.OpSet.is_symbol g.D.OpSet.is_symbol_table s names i c.args.user _ old
-          c.loop-name.edges.items c.in_ok-edge.edge (told-at ns _ told i _ (omega arith)) (c.loop-name.invariant.2 a)
+          c.loop-name.edges.items c.in_ok-edge.edge (told-at ns _ told i _ (omega arith) c.name-item.is)
+          (c.loop-name.invariant.2 a)
           (c.in_ok-edge.ensures.edge (c.loop-name.invariant.0 a)))),
       brought-both g.D.OpSet.is_symbol g.D.OpSet.is_symbol_table s
           (λ t. IsNearest g.D.OpSet.is_symbol_table s c.args.user (Some t)) _ _ _ c.loop-name.invariant.3
@@ -58,7 +59,7 @@ returns-in_err-put_edge-clause-brought g c =
 
 pub returns-in_err-edge-clause-refused : goal.returns-in_err-edge-clause-refused
 returns-in_err-edge-clause-refused g c =
-    let p = err_from_is_err_and c.from_residual.result c.from_residual.ensures.1 in
+    let p = err_from_is_err_and c.from_residual-in_err-edge.result c.from_residual-in_err-edge.ensures.1 in
     rw (p.1, p.2) (refused-before g.D.OpSet.is_symbol g.D.OpSet.is_symbol_table c.args.ctx.now c.args.tables.now
     c.loop-name.tables c.args.user c.in_err-edge.field-0.0
     (absent-before g.D.OpSet.is_symbol g.D.OpSet.is_symbol_table c.args.ctx.now

@@ -1,4 +1,4 @@
-use Rattle.std.proofs.Common.{◌≡◌, Some, None, cond, option_and_then, refl, sym, subst, ◌∙◌, ap}
+use Rattle.std.proofs.Common.{◌≡◌, Some, cond, option_and_then, sym, subst, ◌∙◌, ap}
 use Rattle.std.specs.HashMap.{get}
 use Rattle.plir_symbols.specs.CallGraph.{is_found}
 use Rattle.plir_symbols.specs.Reaching.{ptr_eq}

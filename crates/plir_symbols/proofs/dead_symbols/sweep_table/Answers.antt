@@ -1,5 +1,4 @@
 use Rattle.std.proofs.Common.{sym, ap, ◌∙◌}
-use Rattle.plir_symbols.specs.Reaching.{ops_of}
 use Rattle.plir_builtin.specs.Symbols.{body}
 use Rattle.plir_symbols.proofs.Rounds.{rounds-start, rounds-live, rounds-body, rounds-more, rounds-clean}
 use Rattle.plir_symbols.proofs.dead_symbols.sweep_table.Goals as goal

@@ -1,7 +1,4 @@
-use Rattle.std.proofs.Common.{◌≡◌, List, ◌++◌, option_map}
-use Rattle.plir_store.specs.Members.{Has, head}
-use Rattle.plir_core.specs.declared.ptr.IRNode.{IRNode}
-use Rattle.plir_core.specs.declared.ptr.IRNode.TheVariants.{Operation, BasicBlock}
+use Rattle.plir_core.specs.declared.ptr.IRNode.TheVariants.{BasicBlock}
 use Rattle.plir_core.specs.ContextView.{children}
 use Rattle.plir_walk.specs.NodeLaws.{left_from}
 use Rattle.plir_symbols.proofs.KeptLoop.{IsKeeping}

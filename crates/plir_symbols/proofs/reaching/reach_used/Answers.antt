@@ -1,6 +1,5 @@
-use Rattle.std.proofs.Common.{◌≡◌, suc, ◌+◌, List, Some, take, arith, refl, sym, ap, subst, ◌∙◌}
+use Rattle.std.proofs.Common.{◌≡◌, suc, ◌+◌, take, arith, refl, sym, ap, subst, ◌∙◌}
 use Rattle.std.specs.FinMap.{get}
-use Rattle.plir_store.specs.Members.{Has}
 use Rattle.plir_core.specs.declared.ptr.IRNode.TheVariants.{Operation}
 use Rattle.plir_core.specs.ContextView.{IsLive, op_at}
 use Rattle.plir_symbols.specs.Reaching.{IsGrown}
@@ -22,7 +21,8 @@ loop-name-preserved g c =
     subst (λ k. IsGrown (IsFoundUnder (λ q. IsLive s (Operation q)) (get c.args.table.now.names) names (take k names))
     c.args.reached.now c.reach_name.new.reached) (sym next)
     (names-next (λ q. IsLive s (Operation q)) (get c.args.table.now.names) names i _ c.args.reached.now
-    c.loop-name.reached c.reach_name.new.reached (told-at c.deref-name-items.result.now names told i _ (omega arith))
+    c.loop-name.reached c.reach_name.new.reached (told-at c.deref-name-items.result.now names told i _
+    (omega arith) c.name-item.is)
     c.loop-name.invariant c.in_ok-reach_name.ensures)
 
 pub returns : goal.returns

@@ -9,6 +9,6 @@ use Rattle.plir_symbols.proofs.reaching.reach_used.Given as goal
 
 abbrev pub invariant-loop-name : goal.invariant-loop-name
 invariant-loop-name g l =
-    let names = names_in g.D.SymbolNames.names_used (op_at l.ctx l.op) in
+    let names = names_in g.D.SymbolNames.names_used (op_at l.ctx l.fn.op) in
     IsGrown (λ q. IsLive l.ctx (Operation q) × ((x : List ℕ) × Has (take l.name-index names) x ×
     (get l.table.names x ≡ Some q))) l.fn.reached l.reached

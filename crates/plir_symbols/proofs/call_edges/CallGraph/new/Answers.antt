@@ -1,4 +1,4 @@
-use Rattle.std.proofs.Common.{take, map, arith, refl, subst, ◌∙◌}
+use Rattle.std.proofs.Common.{map, arith, refl, subst, ◌∙◌}
 use Rattle.std.proofs.lemmas.List.{take_all}
 use Rattle.plir_symbols.specs.Chained.{AreChains, at_end}
 use Rattle.plir_symbols.specs.declared.call_edges.End.TheVariants.{User, Symbol}
