@@ -63,7 +63,9 @@ fn with_forms<'a>(alloc: Global, command: Command<'a>) -> Result<Command<'a>, Al
 
 // The option of a pass.
 fn pass_option<'a, D: OpSet, P: Pass<D>>(alloc: Global, pass: P) -> Arg<'a> {
-    flag(alloc, pass.name(), pass.help())
+    let name: &'a str = pass.name();
+    let help: &'a str = pass.help();
+    flag(alloc, name, help)
 }
 
 // The options of passes, in their order.

@@ -1,4 +1,4 @@
-use Rattle.std.proofs.Common.{◌≡◌, true, false, sym, ap, ◌∙◌, subst}
+use Rattle.std.proofs.Common.{◌≡◌, true, false, refl, sym, ap, ◌∙◌, subst}
 use Rattle.std.specs.Prelude.{IsSome}
 use Rattle.plir_driver.specs.Offers.{is_option_name, is_own_word}
 use Rattle.plir_driver.specs.Pipelines.{bearer}
@@ -18,7 +18,7 @@ pub returns-in-Some-clause-refused : goal.returns-in-Some-clause-refused
 returns-in-Some-clause-refused g c = (
   c.name-name.ensures,
   subst (λ n. IsSome (bearer g.P.Pass.pass_name c.args.front.now n)) c.name-name.ensures
-      (subst IsSome c.in-Some.ensures.first tt),
+      (subst IsSome c.in-Some.ensures.first refl),
 )
 
 pub returns-in-None-clause-offered : goal.returns-in-None-clause-offered

@@ -14,7 +14,8 @@ pub loop-pass-preserved : goal.loop-pass-preserved
 loop-pass-preserved g c =
     let x = c.pass-item.result in
     let Done = IsRunLogged g.D.OpSet g.P.Pass.pass_name g.P.Pass.has_passed c.args.reports.now c.args.root in
-    let told = (c.in_ok-run_told.ensures.passed, c.in_ok-run_told.ensures.logged) in (
+    let told : Done x c.loop-pass.ctx c.run_told.new.ctx (string_bytes c.loop-pass.log)
+    (string_bytes c.run_told.new.log) = (c.in_ok-run_told.ensures.passed, c.in_ok-run_told.ensures.logged) in (
       c.run_told.ensures.live,
       passed-to g.P.Pass.has_passed c.args.root
           (λ s. c.args.verify ≡ true →
