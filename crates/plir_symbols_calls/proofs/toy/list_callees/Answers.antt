@@ -1,5 +1,8 @@
 use Rattle.std.proofs.Common.{◌<◌, [], ◌∷◌, ◌++◌, length, arith, sym, ap, ◌∙◌}
+use Rattle.std.proofs.lemmas.Result.{err_from_is_err_and}
 use Rattle.plir_core.specs.ContextView.{op_at}
+use Rattle.plir_symbols.specs.SymbolNames.{names_in}
+use Rattle.plir_symbols_calls.specs.Kinds.{callees}
 use Rattle.plir_symbols_calls.proofs.Held.{named-in, none-in, texts}
 use Rattle.plir_symbols_calls.proofs.toy.list_callees.Goals as goal
 
@@ -16,4 +19,6 @@ returns-in-None-clause-names g c =
 pub returns-in_err-push-in-Some-clause-refused : goal.returns-in_err-push-in-Some-clause-refused
 returns-in_err-push-in-Some-clause-refused g c =
     let one = ap length (named-in (op_at c.args.ctx.now c.args.op) c.in-Some.name.now c.in-Some.ensures) in
-    omega (arith, one)
+    let some : 0 < length (names_in callees (op_at c.args.ctx.now c.args.op)) = omega (arith, one) in
+    let p = err_from_is_err_and c.from_residual.result c.from_residual.ensures.1 in
+    rw p.1 some
