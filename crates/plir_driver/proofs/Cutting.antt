@@ -1,6 +1,6 @@
 -- The lines of an input, as far as a loop has come.
 use Rattle.std.proofs.Common.{◌≡◌, ℕ, suc, ◌+◌, ◌<◌, ◌≤◌, Bool, true, false, List, [], ◌∷◌, ◌++◌, length, take, get_or}
-use Rattle.std.proofs.Common.{map, cond, Bor, arith, refl, sym, subst, ap, ◌∙◌}
+use Rattle.std.proofs.Common.{map, cond, Bor, arith, refl, sym, ap, ◌∙◌}
 use Rattle.std.proofs.lemmas.List.{append_assoc, map-append, length-map, length-take}
 use Rattle.std.proofs.Math.Seq.{take-suc}
 use Rattle.std.specs.List.{join_with_byte, onto_first, slice_split}

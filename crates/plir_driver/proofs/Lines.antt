@@ -1,6 +1,6 @@
 -- The lines of a text, as far as a loop has come.
-use Rattle.std.proofs.Common.{◌≡◌, ℕ, zero, suc, ◌+◌, ◌-◌, ◌<◌, ◌≤◌, ◌==◌, List, [], length, drop, arith, refl, sym, ap, ◌∙◌}
-use Rattle.std.proofs.Common.{◌++◌, ◌∷◌, take, chars, encode_utf8}
+use Rattle.std.proofs.Common.{◌≡◌, ℕ, zero, suc, ◌+◌, ◌-◌, ◌<◌, ◌≤◌, ◌==◌, List, [], length, arith, refl, sym, ap, ◌∙◌}
+use Rattle.std.proofs.Common.{◌++◌, ◌∷◌, take, encode_utf8}
 use Rattle.std.proofs.lemmas.List.{append_assoc, append-nil, drop_all}
 use Rattle.std.proofs.lemmas.Str.{cons_from_encodes, length-le-encodes}
 use Rattle.std.proofs.Math.Seq.{take-nil}

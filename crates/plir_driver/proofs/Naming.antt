@@ -1,7 +1,7 @@
 -- Words and the passes that they name, as far as a loop has come.
-use Rattle.std.proofs.Common.{◌≡◌, ℕ, suc, ◌+◌, ◌<◌, ◌≤◌, List, [], ◌∷◌, ◌++◌, length, drop, take, get_or, map, Bor}
+use Rattle.std.proofs.Common.{◌≡◌, ℕ, suc, ◌+◌, ◌<◌, List, [], ◌∷◌, ◌++◌, length, drop, take, get_or, map, Bor}
 use Rattle.std.proofs.Common.{arith, sym, subst, ap, ◌∙◌}
-use Rattle.std.proofs.lemmas.List.{map-append, take_all, take-append-drop}
+use Rattle.std.proofs.lemmas.List.{map-append, take-append-drop}
 use Rattle.std.proofs.Math.Seq.{take-suc, drop-cons}
 use Rattle.std.specs.List.{AllZip}
 use Rattle.plir_driver.specs.declared.pipeline.PipelineErr.{PipelineErr}

@@ -1,6 +1,6 @@
 -- What a walk puts behind a text, where each call at a node puts what is told of it.
 use Rattle.std.proofs.Common.{◌≡◌, ◌≢◌, ℕ, zero, suc, ◌+◌, ◌*◌, List, [], ◌∷◌, ◌++◌, Option, Some, None, refl, sym, ap}
-use Rattle.std.proofs.Common.{subst, ◌∙◌, arith, codes, replicate}
+use Rattle.std.proofs.Common.{subst, ◌∙◌, arith, codes}
 use Rattle.std.proofs.lemmas.List.{append_assoc, append-nil, replicate-append-replicate}
 use Rattle.std.specs.declared.ops.ControlFlow.{ControlFlow}
 use Rattle.std.specs.declared.ops.ControlFlow.TheVariants.{Continue, Break}
@@ -9,7 +9,7 @@ use Rattle.plir_core.specs.declared.ptr.Operation.{Operation as OperationKind}
 use Rattle.plir_core.specs.declared.ptr.IRNode.{IRNode}
 use Rattle.plir_core.specs.declared.ptr.IRNode.TheVariants.{Operation}
 use Rattle.plir_core.specs.Above.{climb}
-use Rattle.plir_core.specs.ContextView.{ContextView, children, parent_of}
+use Rattle.plir_core.specs.ContextView.{ContextView}
 use Rattle.plir_core.specs.Forest.{look}
 use Rattle.plir_walk.specs.declared.config.TheConstants.{WALKCONFIG_PREORDER_FORWARD as pre_forward}
 use Rattle.plir_walk.specs.declared.interruptible.WalkContinue.{WalkContinue}

@@ -25,7 +25,6 @@ use Rattle.plir_driver.specs.declared.choices.Form.{Form}
 use Rattle.plir_driver.specs.declared.choices.Form.TheVariants.{CallGraph}
 use Rattle.plir_driver.specs.declared.pass_err.PassErr.{PassErr}
 use Rattle.plir_driver.specs.declared.pass_err.PassErr.TheVariants as of_passes
-use Rattle.plir_driver.specs.declared.stop.Stop.{Stop}
 use Rattle.plir_driver.specs.LibraryPasses.{IsSymbolRefusal}
 use Rattle.plir_driver.specs.PassRules.{RunRule, StopRule}
 use Rattle.plir_driver.specs.StopOf.{of_fault, of_pass, of_table, of_table_in_pass, of_verifier}

@@ -1,6 +1,4 @@
 use Rattle.std.proofs.Common.{string_bytes, take, chars}
-use Rattle.std.specs.List.{flat_map}
-use Rattle.plir_driver.specs.Excerpt.{below}
 use Rattle.plir_driver.proofs.Lines.{Remains}
 use Rattle.plir_driver.proofs.excerpt.put_below.Given as goal
 

@@ -1,4 +1,4 @@
-use Rattle.std.proofs.Common.{◌≡◌, true, inl, inr, ap, string_bytes, subst}
+use Rattle.std.proofs.Common.{inl, inr, ap, string_bytes, subst}
 use Rattle.std.proofs.lemmas.Result.{err_from_is_err_and}
 use Rattle.plir_read.specs.OpGrammar.{OpWithin}
 use Rattle.plir_read.specs.Room.{BeginsTooMany, op_count}
