@@ -5,10 +5,8 @@ mod Boxes
 mod NodesPut
 mod Ending
 mod Stopping
-mod Naming
 mod Cutting
 mod Logging
 mod OpsAmong
 mod Counting
-mod Bearing
-mod Offering
+mod WalkTraced

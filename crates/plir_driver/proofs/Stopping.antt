@@ -28,25 +28,43 @@ use Rattle.plir_driver.specs.declared.pass_err.PassErr.TheVariants as of_passes
 use Rattle.plir_driver.specs.LibraryPasses.{IsSymbolRefusal}
 use Rattle.plir_driver.specs.PassRules.{RunRule, StopRule}
 use Rattle.plir_driver.specs.StopOf.{of_fault, of_pass, of_table, of_table_in_pass, of_verifier}
-use Rattle.plir_driver.specs.Stopped.{IsStoppedAt, IsUnprinted, IsUnread, IsWrong, no_nodes}
+use Rattle.plir_driver.specs.Reading.{IsReaderRefusal, RefusalRule, no_nodes}
+use Rattle.plir_driver.specs.Stopped.{IsStoppedAt, IsUnprinted, IsUnread, IsWrong}
+use Rattle.plir_read_ir.specs.declared.fault.IrFault.{IrFault}
+use Rattle.plir_read_ir.specs.declared.fault.IrFault.TheVariants.{Text, UnknownName, AmbiguousName, TypeMismatch}
 use Rattle.plir_symbols.specs.CallGraph.{IsGraphRefusal}
 use Rattle.std.specs.FinMap as map
 
 -- what a reader tells of a text is so
-pub unread : {K A : Type 0} (E : Type 0) (bytes : List ℕ) (line column : ℕ) (f : Fault) → IsUtf8 bytes →
-    (IsOfText f → (w : OpTerm) → IsText (OpWithin 200) bytes w → ⊥) →
-    (f ≡ faults.TooManyNodes → BeginsTooMany op_count (OpWithin 200) (no_nodes {K = K} {A = A}) bytes) →
-    IsUnread K A {E = E} bytes (of_fault line column f)
-unread {K} {A} E bytes line column f text none many = by f none many
+pub unread : (E : Type 0) (refuses : RefusalRule) (bytes : List ℕ) (line column : ℕ) (f : IrFault) → IsUtf8 bytes →
+    refuses bytes f → IsUnread {E = E} refuses bytes (of_fault line column f)
+unread E refuses bytes line column (Text faults.Memory) text why = tt
+unread E refuses bytes line column (Text faults.TooManyNodes) text why = why
+unread E refuses bytes line column (Text faults.Unexpected) text why = (text, why)
+unread E refuses bytes line column (Text faults.BadEscape) text why = (text, why)
+unread E refuses bytes line column (Text faults.IntegerOutOfRange) text why = (text, why)
+unread E refuses bytes line column (Text faults.IntegerWidthUnsupported) text why = (text, why)
+unread E refuses bytes line column (Text faults.TooDeep) text why = (text, why)
+unread E refuses bytes line column (Text faults.ForwardRefOpExistenceErr) text why = (text, why)
+unread E refuses bytes line column (Text (faults.NResultsVerifyErr m n)) text why = (text, why)
+unread E refuses bytes line column UnknownName text why = (text, why)
+unread E refuses bytes line column AmbiguousName text why = (text, why)
+unread E refuses bytes line column TypeMismatch text why = (text, why)
+
+-- and what that of builtin operations does
+pub refused : (K A : Type 0) (bytes : List ℕ) (f : Fault) → (IsOfText f → (w : OpTerm) →
+    IsText (OpWithin 200) bytes w → ⊥) → (f ≡ faults.TooManyNodes → BeginsTooMany op_count (OpWithin 200)
+    (no_nodes {K = K} {A = A}) bytes) → IsReaderRefusal K A bytes f
+refused K A bytes f none many = by f none many
   where
     of-text : (f : Fault) → (f ≡ faults.Memory → ⊥) → (f ≡ faults.TooManyNodes → ⊥) →
         (IsOfText f → (w : OpTerm) → IsText (OpWithin 200) bytes w → ⊥) →
-        IsUtf8 bytes × IsOfText f × ((w : OpTerm) → IsText (OpWithin 200) bytes w → ⊥)
-    of-text f a b none = (text, (a, b), none (a, b))
+        IsOfText f × ((w : OpTerm) → IsText (OpWithin 200) bytes w → ⊥)
+    of-text f a b none = ((a, b), none (a, b))
 
     by : (f : Fault) → (IsOfText f → (w : OpTerm) → IsText (OpWithin 200) bytes w → ⊥) →
         (f ≡ faults.TooManyNodes → BeginsTooMany op_count (OpWithin 200) (no_nodes {K = K} {A = A}) bytes) →
-        IsUnread K A {E = E} bytes (of_fault line column f)
+        IsReaderRefusal K A bytes f
     by faults.Memory none many = tt
     by faults.TooManyNodes none many = many refl
     by faults.Unexpected none many = of-text faults.Unexpected (λ e. cc e) (λ e. cc e) none

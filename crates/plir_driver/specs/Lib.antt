@@ -5,6 +5,8 @@
 --   OneOfPasses  what those of one of two kinds say
 --   Passed       AreRun: what passes leave, one after another
 --   Excerpt      excerpt_of: a line of a text, and a caret below one of its characters
+--   Reading      ReadRule, RefusalRule: what ways to read texts say of themselves; IsBuiltinRefusal, IsMadeOfText: what
+--                those of the library say
 --   Transformed  IsTransformed: what is printed for a text
 --   StopOf       which errors are told as which
 --   Stopped      IsStopped: why nothing is printed for a text
@@ -12,17 +14,17 @@
 --   NodeNames    node_name: how lists and graphs name a node
 --   NodeLines    IsListed, IsGraphed: a text lists the nodes of a tree, or draws them
 --   DrawnCalls   IsDrawn: a text draws the call graph of a tree
---   Pipelines    AreNames: words are the names of passes; AreRefused: one of them is not
---   Offers       CanBeOffered: passes whose names a command line can have; IsOfferRefusal: one has not
 --   Dumps        IsLogged: what is told of passes as they run
 --   Parts        parts_of: the parts of an input
 --   Counts       IsCount: how many operations there are; AreCountsPut: what is told of that
+--   Traces       IsTraced: a text lists the calls of a walk
 --   BoxesPut     how the boxes of a call graph are put behind a text
 pub mod PassRules
 pub mod LibraryPasses
 pub mod OneOfPasses
 pub mod Passed
 pub mod Excerpt
+pub mod Reading
 pub mod Transformed
 pub mod StopOf
 pub mod Stopped
@@ -31,8 +33,7 @@ pub mod NodeNames
 pub mod NodeLines
 pub mod DrawnCalls
 pub mod BoxesPut
-pub mod Pipelines
-pub mod Offers
 pub mod Dumps
 pub mod Parts
 pub mod Counts
+pub mod Traces

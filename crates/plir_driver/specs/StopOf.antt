@@ -2,9 +2,10 @@
 use Rattle.std.specs.Prelude.{ℕ}
 use Rattle.plir_data.specs.declared.location.VerifyErr.{VerifyErr}
 use Rattle.plir_data.specs.declared.location.VerifyErr.TheVariants as of_verifiers
-use Rattle.plir_attr_text.specs.declared.fault.Fault.{Fault}
 use Rattle.plir_attr_text.specs.declared.fault.Fault.TheVariants as faults
-use Rattle.plir_attr_text.specs.declared.fault.ReadErr.{ReadErr}
+use Rattle.plir_read_ir.specs.declared.fault.IrErr.{IrErr}
+use Rattle.plir_read_ir.specs.declared.fault.IrFault.{IrFault}
+use Rattle.plir_read_ir.specs.declared.fault.IrFault.TheVariants.{Text}
 use Rattle.plir_builtin.specs.declared.symbol_table_err.SymbolTableErr.{SymbolTableErr}
 use Rattle.plir_builtin.specs.declared.symbol_table_err.SymbolTableErr.TheVariants as of_tables
 use Rattle.plir_verify.specs.declared.tree_err.TreeVerifyErr.{TreeVerifyErr}
@@ -21,12 +22,12 @@ of_table_in_pass e = of_passes.NoTable e
 
 module _ {E : Type 0} where
   -- a fault of a text at its place, or what was wanting
-  abbrev pub of_fault : (line column : ℕ) → Fault → Stop E
-  of_fault line column faults.Memory = OutOfMemory
-  of_fault line column faults.TooManyNodes = TooManyNodes
+  abbrev pub of_fault : (line column : ℕ) → IrFault → Stop E
+  of_fault line column (Text faults.Memory) = OutOfMemory
+  of_fault line column (Text faults.TooManyNodes) = TooManyNodes
   of_fault line column fault = Unread line column fault
 
-  abbrev pub of_reader : ReadErr → Stop E
+  abbrev pub of_reader : IrErr → Stop E
   of_reader e = of_fault e.line e.column e.fault
 
   -- what a verifier reports

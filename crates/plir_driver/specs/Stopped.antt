@@ -9,15 +9,9 @@ use Rattle.plir_core.specs.declared.ptr.Operation.{Operation as OperationKind}
 use Rattle.plir_core.specs.declared.ptr.IRNode.TheVariants.{Operation}
 use Rattle.plir_core.specs.Contents.{BlockView, OpView}
 use Rattle.plir_core.specs.ContextView.{ContextView}
-use Rattle.plir_core.specs.Edits.{empty}
-use Rattle.plir_core.specs.Nodes.{Nodes}
-use Rattle.plir_attr_text.specs.Faults.{IsOfText}
-use Rattle.plir_attr_text.specs.TypeGrammar.{IsText}
 use Rattle.plir_builtin.specs.SymbolUses.{UseRefusal, UseRule}
-use Rattle.plir_read.specs.OpGrammar.{OpWithin}
-use Rattle.plir_read.specs.OpsStanding.{StandsForOp}
-use Rattle.plir_read.specs.OpTerms.{OpTerm}
-use Rattle.plir_read.specs.Room.{BeginsTooMany, op_count}
+use Rattle.plir_attr_text.specs.declared.fault.Fault.TheVariants as faults
+use Rattle.plir_read_ir.specs.declared.fault.IrFault.TheVariants as faults_of_texts
 use Rattle.plir_print.specs.HeaderAttrs.{IsPrintable}
 use Rattle.plir_symbols.specs.CallGraph.{IsGraphRefusal}
 use Rattle.plir_verify.specs.Rules.{AllHaveRules}
@@ -30,19 +24,17 @@ use Rattle.plir_driver.specs.declared.stop.Stop.TheVariants.{NoText, Unread, Ref
 use Rattle.plir_driver.specs.declared.stop.Stop.TheVariants.{TooManyNodes, OutOfMemory}
 use Rattle.plir_driver.specs.Passed.{AreRun}
 use Rattle.plir_driver.specs.PassRules.{RunRule, StopRule}
+use Rattle.plir_driver.specs.Reading.{ReadRule, RefusalRule}
 
--- the nodes of a new context
-abbrev pub no_nodes : {K A : Type 0} → Nodes (OpView K A) (BlockView A)
-no_nodes = empty (2 ^ 32 - 1)
+-- bytes are no text
+abbrev pub IsNoText : {E : Type 0} → List ℕ → Stop E → Type 0
+IsNoText bytes stop = (stop ≡ NoText) × (IsUtf8 bytes → ⊥)
 
--- The bytes are no text; or they are one, and something is wrong with it, and no operation is written so; or it begins
--- with more nodes than a new context has room for; or memory is wanting.
-module _ (K A : Type 0) {E : Type 0} where
+-- A text is refused, for a fault of it or since room is wanting; or memory is wanting.
+module _ {E : Type 0} (refuses : RefusalRule) where
   abbrev pub IsUnread : List ℕ → Stop E → Type 0
-  IsUnread bytes NoText = IsUtf8 bytes → ⊥
-  IsUnread bytes (Unread line column fault) =
-      IsUtf8 bytes × IsOfText fault × ((w : OpTerm) → IsText (OpWithin 200) bytes w → ⊥)
-  IsUnread bytes TooManyNodes = BeginsTooMany op_count (OpWithin 200) (no_nodes {K = K} {A = A}) bytes
+  IsUnread bytes (Unread line column fault) = IsUtf8 bytes × refuses bytes fault
+  IsUnread bytes TooManyNodes = refuses bytes (faults_of_texts.Text faults.TooManyNodes)
   IsUnread bytes OutOfMemory = Unit {0}
   IsUnread bytes _ = ⊥
 
@@ -105,15 +97,14 @@ module _ {D K A T E P : Type 0} (o : op_set.Ghosts D K A T E) (uses_hold : UseRu
       ⊎ ((t : ContextView K A T) × AreRun o has_passed root uses_hold rule verify passes s t
       × IsUnprinted o names root form t stop)))
 
--- Why nothing is printed for some bytes: they are not read; or they are a text that stands for an operation, and it
--- stops behind that.
+-- Why nothing is printed for a text: it is not read; or it stands for an operation, and it stops behind that.
 abbrev pub IsStopped : {D K A T E P : Type 0} → (o : op_set.Ghosts D K A T E) → (uses_hold : UseRule K A T) →
     (use_refusal : UseRefusal K A T E) → (rule : UseRule K A T) → (rule_refusal : UseRefusal K A T E) →
-    (names : OpView K A → List (List ℕ)) → (has_passed : RunRule P K A T) → (may_stop : StopRule P K A T) →
-    Bool → List P → Form → List ℕ → Stop E → Type 0
-IsStopped {D} {K} {A} {T} {E} {P} o uses_hold use_refusal rule rule_refusal names has_passed may_stop verify passes
-    form bytes stop =
-    IsUnread K A bytes stop
-    ⊎ ((root : Ptr OperationKind) × (read : ContextView K A T) × StandsForOp 200 read bytes (Operation root)
+    (names : OpView K A → List (List ℕ)) → (stands_for : ReadRule K A T) → (refuses : RefusalRule) →
+    (has_passed : RunRule P K A T) → (may_stop : StopRule P K A T) → Bool → List P → Form → List ℕ → Stop E → Type 0
+IsStopped {D} {K} {A} {T} {E} {P} o uses_hold use_refusal rule rule_refusal names stands_for refuses has_passed may_stop
+    verify passes form bytes stop =
+    IsUnread refuses bytes stop
+    ⊎ ((root : Ptr OperationKind) × (read : ContextView K A T) × stands_for bytes read root
     × IsStoppedBehind o uses_hold use_refusal rule rule_refusal names has_passed may_stop root verify passes form read
     stop)

@@ -1,4 +1,5 @@
 //! What is done with an operation, and how it is printed.
+use plir_walk::{Direction, Order};
 
 /// How an operation is printed.
 #[derive(Clone, Copy, Debug, PartialEq, Eq)]
@@ -11,6 +12,8 @@ pub enum Form {
     View,
     /// A graph in DOT of the functions, and of who uses which.
     CallGraph,
+    /// A line for each call of the callback of a walk, in the order of the calls.
+    Trace { order: Order, direction: Direction },
 }
 
 /// What a command line asks for.
@@ -24,6 +27,24 @@ pub struct Choices<P> {
     pub form: Form,
     /// What is told of the passes as they run.
     pub reports: Reports<P>,
+    /// What is compared with what a text says must come of it.
+    pub tests: Tests,
+}
+
+/// What is compared with what a text says must come of it, in its comments.
+#[derive(Clone, Copy, Debug)]
+pub struct Tests {
+    /// Whether the refusals that come are compared with those that it expects.
+    pub diagnostics: bool,
+    /// Whether what would be printed is compared with what it says must be printed.
+    pub checks: bool,
+}
+
+impl Tests {
+    /// Whether anything is.
+    pub fn any(self) -> bool {
+        self.diagnostics || self.checks
+    }
 }
 
 /// What is told of passes as they run.
@@ -35,4 +56,6 @@ pub struct Reports<P> {
     pub after_all: bool,
     /// Whether it is told how many operations there are in front of each pass, and how many behind it.
     pub stats: bool,
+    /// Whether it is told how long each pass took.
+    pub timing: bool,
 }

@@ -1,5 +1,5 @@
 //! How many operations there are.
-ghost use Rattle.std.specs.Prelude.{◌≡◌, ◌++◌, ℕ, false, true, Ok, OnOk, string_bytes};
+ghost use Rattle.std.specs.Prelude.{◌≡◌, ◌++◌, false, true, Ok, OnOk, string_bytes};
 ghost use Rattle.plir_core.specs.ContextView.{IsLive};
 ghost use Rattle.plir_core.specs.declared.ptr.IRNode.{IRNode as AnyNode};
 ghost use Rattle.plir_driver.specs.Counts.{IsCount, IsCounted, counts_line};
@@ -53,22 +53,19 @@ fn put_line(log: &mut String, name: &str, before: usize, after: usize) -> Result
 }
 
 /// Puts how many operations there were in front of a pass, and how many there are behind it, where that is asked for.
-pub fn put_counts<D: OpSet>(
+pub fn put_counts(
     log: &mut String,
     is_asked: bool,
     name: &str,
     before: usize,
-    ctx: &Context<D>,
-    root: Ptr<Operation>,
+    after: usize,
 ) -> Result<(), AllocError>
-    requires { IsLive ctx.now (AnyNode.Operation root) }
-    ensures asked { is_asked ≡ true → OnOk result ((after : ℕ) × IsCount ctx.now root after ×
-        (string_bytes log.new ≡ string_bytes log.old ++ counts_line name.now before after)) }
+    ensures asked { is_asked ≡ true →
+        OnOk result (string_bytes log.new ≡ string_bytes log.old ++ counts_line name.now before after) }
     ensures unasked { is_asked ≡ false → (result ≡ Ok tt) × (log.new ≡ log.old) }
 {
     if !is_asked {
         return Ok(());
     }
-    let after = count_operations(ctx, root);
     put_line(log, name, before, after)
 }

@@ -3,21 +3,20 @@ ghost use Rattle.std.specs.Prelude.{◌≡◌, ◌↔◌, ◌++◌, false, true,
 ghost use Rattle.plir_core.specs.ContextView.{IsLive};
 ghost use Rattle.plir_core.specs.declared.ptr.IRNode.{IRNode as AnyNode};
 ghost use Rattle.plir_driver.specs.Dumps.{IsDumped, IsShown, dump_head};
-ghost use Rattle.plir_driver.specs.Pipelines.{bearer};
+ghost use Rattle.plir_pipelines.specs.Passes.{bearer};
 
 use crate::choices::Reports;
-use crate::pass::Pass;
-use crate::pipeline::pass_of;
 use plir_core::{Context, Operation, Ptr};
 use plir_data::{Memory, OpSet};
+use plir_pipelines::{Offered, pass_of};
 use plir_print::{is_printable, print_op};
 use std::alloc::{AllocError, Global};
 
 /// Whether the operation is dumped in front of passes of a name.
-pub fn is_dumped_before<D: OpSet, P: Pass<D>>(reports: &Reports<P>, name: &str) -> bool
+pub fn is_dumped_before<P: Offered>(reports: &Reports<P>, name: &str) -> bool
     ensures { IsTrue result ↔ IsSome (bearer P.pass_name reports.now.before.items name.now) }
 {
-    pass_of::<D, P>(reports.before.as_slice(), name).is_some()
+    pass_of(reports.before.as_slice(), name).is_some()
 }
 
 // Puts the text of the operation, or that it has none.

@@ -7,36 +7,42 @@
 
 mod calls;
 pub mod choices;
-mod command_line;
+mod choosing;
 mod counts;
 mod dumps;
 mod ends;
 mod excerpt;
 mod graph;
+mod handling;
+mod judging;
 mod library;
 mod listing;
+mod log;
 mod nodes;
-mod offer;
-mod one_of;
+mod one_of_pass;
 mod output;
 mod parts;
 mod pass;
 mod pass_err;
-mod pipeline;
 mod running;
 mod source;
 pub mod stop;
 mod telling;
+mod text_reader;
+mod timing;
+mod tracing;
 pub mod transform;
-mod words;
 
-pub use command_line::About;
+pub use judging::{TestErr, judge};
 pub use library::LibraryPass;
-pub use offer::{OfferErr, check_offer};
-pub use one_of::OneOf;
+pub use log::Log;
 pub use parts::{MARK, Part, parts_of};
 pub use pass::Pass;
 pub use pass_err::PassErr;
-pub use pipeline::{PipelineErr, passes_named};
+pub use plir_command::About;
+pub use plir_pipelines::{
+    FlagErr, OWN_WORDS, OfferErr, Offered, OneOf, PassOption, PipelineErr, check_flags,
+    check_offer, passes_named,
+};
 pub use running::opt_main;
-pub use words::OWN_WORDS;
+pub use text_reader::{BuiltinTexts, OwnTexts, TextReader};

@@ -13,6 +13,7 @@ use plir_builtin::laws::no_tables_agree;
 use plir_builtin::{SymbolTableCollection, SymbolTableErr};
 use plir_core::{Context, IRNode, Operation, Ptr};
 use plir_passes::{EffectSet, eliminate_unreached_code};
+use plir_pipelines::{Offered, PassOption};
 use plir_symbols::{SymbolNames, eliminate_dead_symbols};
 use plir_walk::given_names::erase_given_names;
 use plir_walk::laws::lawful_changes;
@@ -107,15 +108,15 @@ fn run_library<D: EffectSet + SymbolNames>(
     }
 }
 
-impl<D: EffectSet + SymbolNames> Pass<D> for LibraryPass {
+impl Offered for LibraryPass {
+    ghost use Rattle.std.specs.Prelude.{[]};
     ghost use Rattle.plir_driver.specs.LibraryPasses.{library_name};
 
     ghost pass_name = { library_name };
 
-    ghost has_passed = { IsPassed D.has_effect D.is_terminator D.is_symbol D.is_symbol_table D.is_private
-        D.names_used };
+    ghost pass_options = { λ _. [] };
 
-    ghost may_stop = { IsPassRefusal D.is_symbol D.is_symbol_table };
+    ghost with_option = { λ pass _ _. pass };
 
     fn name(self) -> &'static str {
         match self {
@@ -136,6 +137,21 @@ impl<D: EffectSet + SymbolNames> Pass<D> for LibraryPass {
             }
         }
     }
+
+    fn options(self) -> &'static [PassOption] {
+        &[]
+    }
+
+    fn with(self, _place: usize, _number: u64) -> Self {
+        self
+    }
+}
+
+impl<D: EffectSet + SymbolNames> Pass<D> for LibraryPass {
+    ghost has_passed = { IsPassed D.has_effect D.is_terminator D.is_symbol D.is_symbol_table D.is_private
+        D.names_used };
+
+    ghost may_stop = { IsPassRefusal D.is_symbol D.is_symbol_table };
 
     /// Runs it.
     ///

@@ -1,5 +1,5 @@
 //! What a pass is.
-ghost use Rattle.std.specs.Prelude.{◌≡◌, ℕ, List, IfErr, OnOk};
+ghost use Rattle.std.specs.Prelude.{IfErr, OnOk};
 ghost use Rattle.plir_core.specs.ContextView.{ContextView, IsLive};
 ghost use Rattle.plir_core.specs.declared.ptr.IRNode.{IRNode as AnyNode};
 ghost use Rattle.plir_core.specs.declared.ptr.Operation.{Operation as OperationKind};
@@ -9,27 +9,19 @@ ghost use Rattle.plir_driver.specs.declared.pass_err.PassErr.{PassErr as AnyPass
 use crate::pass_err::PassErr;
 use plir_core::{Context, Operation, Ptr};
 use plir_data::OpSet;
+use plir_pipelines::Offered;
 use std::alloc::Global;
 
-/// A pass over the operations of an op set `D`, as a value: [`opt_main`](crate::opt_main) offers it under its name.
-/// What a program over passes promises is made of what each of them promises here.
-pub trait Pass<D: OpSet>: Copy {
-    // Its name.
-    ghost pass_name: { Self → List ℕ };
-
+/// A pass over the operations of an op set `D`, as a value: [`opt_main`](crate::opt_main) offers it as its
+/// [`Offered`](plir_pipelines::Offered) says. What a program over passes promises is made of what each of them promises
+/// here.
+pub trait Pass<D: OpSet>: Offered {
     // What one run of it over an operation leaves: the operation, the context before the run and the one after it.
     ghost has_passed: { Self → AnyPtr OperationKind → ContextView D.Kind D.Attr D.Ty → ContextView D.Kind D.Attr D.Ty
         → Type 0 };
 
     // When a run may stop, and with which error: the operation, the context before the run, the error.
     ghost may_stop: { Self → AnyPtr OperationKind → ContextView D.Kind D.Attr D.Ty → AnyPassErr → Type 0 };
-
-    /// The name under which a command line asks for it: a small letter, and then small letters, digits and dashes.
-    fn name(self) -> &'static str
-        ensures { result.now ≡ pass_name self };
-
-    /// What it does, in a line, as `--help` shows it.
-    fn help(self) -> &'static str;
 
     /// Runs it over an operation and all below it. The operation is there afterwards.
     ///

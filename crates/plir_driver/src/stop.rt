@@ -1,8 +1,9 @@
 //! Why nothing is printed.
 use crate::pass_err::PassErr;
-use plir_attr_text::{Fault, ReadErr};
+use plir_attr_text::Fault;
 use plir_builtin::SymbolTableErr;
 use plir_data::{Location, Memory, VerifyErr};
+use plir_read_ir::{IrErr, IrFault};
 use plir_verify::TreeVerifyErr;
 use std::alloc::{AllocError, AllocFailed};
 use std::error::Error as StdError;
@@ -20,7 +21,7 @@ pub enum Stop<E: StdError> {
     Unread {
         line: usize,
         column: usize,
-        fault: Fault,
+        fault: IrFault,
     },
     /// A verifier refuses an operation: where it stands, and why.
     #[error("{err}")]
@@ -49,21 +50,21 @@ pub enum Stop<E: StdError> {
     OutOfMemory,
 }
 
-impl<E: StdError> From<ReadErr> for Stop<E> {
+impl<E: StdError> From<IrErr> for Stop<E> {
     ghost use Rattle.std.specs.Prelude.{◌≡◌};
     ghost use Rattle.plir_driver.specs.StopOf.{of_reader};
 
     ghost from_gives = { λ e s. s ≡ of_reader e };
 
-    fn from(error: ReadErr) -> Stop<E> {
-        let ReadErr {
+    fn from(error: IrErr) -> Stop<E> {
+        let IrErr {
             line,
             column,
             fault,
         } = error;
         match fault {
-            Fault::Memory => Stop::OutOfMemory,
-            Fault::TooManyNodes => Stop::TooManyNodes,
+            IrFault::Text(Fault::Memory) => Stop::OutOfMemory,
+            IrFault::Text(Fault::TooManyNodes) => Stop::TooManyNodes,
             _ => Stop::Unread {
                 line,
                 column,

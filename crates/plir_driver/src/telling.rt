@@ -77,8 +77,8 @@ fn excerpt_at(alloc: Global, bytes: &[u8], line: usize, column: usize) -> Result
     }
 }
 
-// Where a refusal stands in the text, if that is known.
-fn place_of<E: Error>(stop: &Stop<E>) -> Option<(usize, usize)>
+/// Where a refusal stands in the text, if that is known.
+pub fn place_of<E: Error>(stop: &Stop<E>) -> Option<(usize, usize)>
     ensures { result ≡ place_of stop.now }
 {
     match stop {

@@ -1,12 +1,13 @@
 //! From the bytes of a text to what is printed.
-ghost use Rattle.std.specs.Prelude.{◌≡◌, ◌++◌, ◌⊎◌, true, codes, IfErr, IfOk, OnOk, string_bytes};
+ghost use Rattle.std.specs.Prelude.{◌≡◌, ◌++◌, ◌⊎◌, ◌||◌, true, codes, IfErr, IfOk, OnOk, string_bytes};
+ghost use Rattle.plir_checks.specs.Comments.{blanked};
 ghost use Rattle.plir_core.specs.ContextView.{IsLive};
 ghost use Rattle.plir_core.specs.declared.ptr.IRNode.{IRNode as AnyNode};
 ghost use Rattle.plir_print.specs.OpText.{op_text};
 ghost use Rattle.plir_verify.specs.Rules.{AllHaveRules};
 ghost use Rattle.plir_driver.specs.Dumps.{AreLogged, IsLogged, IsPassLogged};
 ghost use Rattle.plir_driver.specs.Passed.{AreRun};
-ghost use Rattle.plir_driver.specs.Stopped.{IsStopped, IsStoppedAt, IsStoppedIn, IsUnprinted};
+ghost use Rattle.plir_driver.specs.Stopped.{IsNoText, IsStopped, IsStoppedAt, IsStoppedIn, IsUnprinted};
 ghost use Rattle.plir_driver.specs.Transformed.{IsTransformed, IsPrintedAs};
 
 use crate::calls::draw_calls;
@@ -15,60 +16,75 @@ use crate::counts::{count_if, put_counts};
 use crate::dumps::{is_dumped_before, put_dump};
 use crate::graph::draw;
 use crate::listing::list_nodes;
+use crate::log::Log;
 use crate::pass::Pass;
 use crate::stop::Stop;
+use crate::text_reader::TextReader;
+use crate::timing::{nanos_since, put_time, started};
+use crate::tracing::trace_walk;
+use plir_checks::blank_comments;
 use plir_core::{Context, Operation, Ptr};
+use plir_pipelines::PassTime;
 use plir_print::{is_printable, print_op};
-use plir_read::read_op;
 use plir_symbols::SymbolNames;
 use plir_verify::{VerifySet, verify_tree};
 use std::alloc::Global;
+use std::rt::Clock;
 
-/// What is printed for the bytes of a text: they are read as an operation, which is verified, taken through the
-/// passes, and printed. What is told of the passes as they run is put behind the log.
+/// What is printed for the bytes of a text: they are read as an operation, but for lines that are comments, which count
+/// as blanks; it is verified, taken through the passes, and printed. What is told of the passes as they run is put behind the log.
 ///
 /// # Errors
 ///
 /// The first that holds of these: the bytes are no text, or a text that can't be read; an operation is refused, once
 /// all is read, or behind a pass; a pass stops; the operation, or its call graph, can't be printed; or memory or room
 /// for a node is wanting.
-pub fn transform<D: VerifySet + SymbolNames, P: Pass<D>>(
+pub fn transform<D: VerifySet + SymbolNames, P: Pass<D>, T: TextReader<D>, R: Clock>(
+    rt: &R,
     alloc: Global,
     choices: &Choices<P>,
     bytes: &[u8],
-    log: &mut String,
+    log: &mut Log,
 ) -> Result<String, Stop<D::Err>>
-    ensures transformed { IfOk result (λ t. IsTransformed D.OpSet D.uses_hold D.rule D.names_used P.has_passed
-        choices.now.verify choices.now.passes.items choices.now.form bytes.now (string_bytes t)) }
-    ensures stopped { IfErr result (IsStopped D.OpSet D.uses_hold D.use_refusal D.rule D.rule_refusal D.names_used
-        P.has_passed P.may_stop choices.now.verify choices.now.passes.items choices.now.form bytes.now) }
-    ensures logged { OnOk result (IsLogged D.OpSet P.pass_name P.has_passed choices.now.reports
-        choices.now.passes.items bytes.now (string_bytes log.old) (string_bytes log.new)) }
+    ensures transformed { IfOk result (λ t. IsTransformed D.OpSet D.uses_hold D.rule D.names_used T.stands
+        P.has_passed choices.now.verify choices.now.passes.items choices.now.form (blanked bytes.now)
+        (string_bytes t)) }
+    ensures stopped { IfErr result (λ e. IsNoText bytes.now e ⊎ IsStopped D.OpSet D.uses_hold D.use_refusal D.rule
+        D.rule_refusal D.names_used T.stands T.refuses P.has_passed P.may_stop choices.now.verify
+        choices.now.passes.items choices.now.form (blanked bytes.now) e) }
+    ensures logged { OnOk result (IsLogged D.OpSet P.pass_name P.has_passed choices.now.reports T.stands
+        choices.now.passes.items (blanked bytes.now) log.old log.new) }
 {
     match str::from_utf8(bytes) {
-        Ok(text) => transform_text::<D, P>(alloc, choices, text, log),
+        Ok(text) => {
+            let text = blank_comments(alloc, text)?;
+            transform_text::<D, P, T, R>(rt, alloc, choices, text.as_str(), log)
+        }
         Err(_) => Err(Stop::NoText),
     }
 }
 
 // The same of a text.
-fn transform_text<D: VerifySet + SymbolNames, P: Pass<D>>(
+fn transform_text<D: VerifySet + SymbolNames, P: Pass<D>, T: TextReader<D>, R: Clock>(
+    rt: &R,
     alloc: Global,
     choices: &Choices<P>,
     text: &str,
-    log: &mut String,
+    log: &mut Log,
 ) -> Result<String, Stop<D::Err>>
-    ensures transformed { IfOk result (λ t. IsTransformed D.OpSet D.uses_hold D.rule D.names_used P.has_passed
-        choices.now.verify choices.now.passes.items choices.now.form text.now (string_bytes t)) }
+    ensures transformed { IfOk result (λ t. IsTransformed D.OpSet D.uses_hold D.rule D.names_used T.stands
+        P.has_passed choices.now.verify choices.now.passes.items choices.now.form text.now (string_bytes t)) }
     ensures stopped { IfErr result (IsStopped D.OpSet D.uses_hold D.use_refusal D.rule D.rule_refusal D.names_used
-        P.has_passed P.may_stop choices.now.verify choices.now.passes.items choices.now.form text.now) }
-    ensures logged { OnOk result (IsLogged D.OpSet P.pass_name P.has_passed choices.now.reports
-        choices.now.passes.items text.now (string_bytes log.old) (string_bytes log.new)) }
+        T.stands T.refuses P.has_passed P.may_stop choices.now.verify choices.now.passes.items choices.now.form
+        text.now) }
+    ensures logged { OnOk result (IsLogged D.OpSet P.pass_name P.has_passed choices.now.reports T.stands
+        choices.now.passes.items text.now log.old log.new) }
 {
     let mut ctx = Context::<D>::new(alloc);
-    let root = read_op(alloc, &mut ctx, text)?;
+    let root = T::read(alloc, &mut ctx, text)?;
     verify_tree(alloc, &ctx, root)?;
-    run_passes::<D, P>(
+    run_passes::<D, P, R>(
+        rt,
         alloc,
         choices.verify,
         choices.passes.as_slice(),
@@ -81,14 +97,15 @@ fn transform_text<D: VerifySet + SymbolNames, P: Pass<D>>(
 }
 
 // Runs passes, one after another.
-fn run_passes<D: VerifySet + SymbolNames, P: Pass<D>>(
+fn run_passes<D: VerifySet + SymbolNames, P: Pass<D>, R: Clock>(
+    rt: &R,
     alloc: Global,
     verify: bool,
     passes: &[P],
     reports: &Reports<P>,
     ctx: &mut Context<D>,
     root: Ptr<Operation>,
-    log: &mut String,
+    log: &mut Log,
 ) -> Result<(), Stop<D::Err>>
     requires { IsLive ctx.old (AnyNode.Operation root) }
     ensures live { IsLive ctx.new (AnyNode.Operation root) }
@@ -97,23 +114,31 @@ fn run_passes<D: VerifySet + SymbolNames, P: Pass<D>>(
     ensures stopped { IfErr result (IsStoppedIn D.OpSet D.uses_hold D.use_refusal D.rule D.rule_refusal P.has_passed
         P.may_stop root verify passes.now ctx.old) }
     ensures logged { OnOk result (AreLogged D.OpSet P.pass_name P.has_passed reports.now root passes.now ctx.old
-        ctx.new (string_bytes log.old) (string_bytes log.new)) }
+        ctx.new log.old log.new) }
 {
     for pass in passes {
-        run_told::<D, P>(alloc, verify, *pass, reports, ctx, root, log)?;
+        run_told::<D, P, R>(rt, alloc, verify, *pass, reports, ctx, root, log)?;
     }
     Ok(())
 }
 
+// Whether operations are counted in front of passes and behind them.
+fn are_counted<P>(reports: &Reports<P>) -> bool
+    ensures { result ≡ (reports.now.stats || reports.now.timing) }
+{
+    reports.stats || reports.timing
+}
+
 // Runs a pass, and tells what is asked for in front of it and behind it.
-fn run_told<D: VerifySet + SymbolNames, P: Pass<D>>(
+fn run_told<D: VerifySet + SymbolNames, P: Pass<D>, R: Clock>(
+    rt: &R,
     alloc: Global,
     verify: bool,
     pass: P,
     reports: &Reports<P>,
     ctx: &mut Context<D>,
     root: Ptr<Operation>,
-    log: &mut String,
+    log: &mut Log,
 ) -> Result<(), Stop<D::Err>>
     requires { IsLive ctx.old (AnyNode.Operation root) }
     ensures live { IsLive ctx.new (AnyNode.Operation root) }
@@ -122,15 +147,37 @@ fn run_told<D: VerifySet + SymbolNames, P: Pass<D>>(
     ensures stopped { IfErr result (IsStoppedAt D.OpSet D.uses_hold D.use_refusal D.rule D.rule_refusal P.has_passed
         P.may_stop root verify pass ctx.old) }
     ensures logged { OnOk result (IsPassLogged D.OpSet P.pass_name root reports.now pass ctx.old ctx.new
-        (string_bytes log.old) (string_bytes log.new)) }
+        log.old log.new) }
 {
     let name = pass.name();
-    let before = is_dumped_before::<D, P>(reports, name);
-    put_dump(log, alloc, before, "Before", name, ctx, root)?;
-    let operations = count_if(reports.stats, ctx, root);
+    let before = is_dumped_before(reports, name);
+    put_dump(&mut log.text, alloc, before, "Before", name, ctx, root)?;
+    let are_counted = are_counted(reports);
+    let before = count_if(are_counted, ctx, root);
+    let start = started(reports.timing, rt);
     run_one::<D, P>(alloc, verify, pass, ctx, root)?;
-    put_dump(log, alloc, reports.after_all, "After", name, ctx, root)?;
-    put_counts(log, reports.stats, name, operations, ctx, root)?;
+    let nanos = nanos_since(rt, start);
+    let after = count_if(are_counted, ctx, root);
+    put_dump(
+        &mut log.text,
+        alloc,
+        reports.after_all,
+        "After",
+        name,
+        ctx,
+        root,
+    )?;
+    put_counts(&mut log.text, reports.stats, name, before, after)?;
+    put_time(
+        &mut log.times,
+        reports.timing,
+        PassTime {
+            name,
+            nanos,
+            before,
+            after,
+        },
+    )?;
     Ok(())
 }
 
@@ -172,6 +219,7 @@ fn print<D: SymbolNames>(
         Form::Walk => Ok(list_nodes(alloc, ctx, root)?),
         Form::View => Ok(draw(alloc, ctx, root)?),
         Form::CallGraph => Ok(draw_calls(alloc, ctx, root)?),
+        Form::Trace { order, direction } => Ok(trace_walk(alloc, ctx, order, direction, root)?),
     }
 }
 

@@ -4,7 +4,7 @@
 #![tactic(auto)]
 
 use plir_data::BuiltinSet;
-use plir_driver::{About, LibraryPass, opt_main};
+use plir_driver::{About, BuiltinTexts, LibraryPass, opt_main};
 use std::process::ExitCode;
 
 const ABOUT: About = About {
@@ -14,5 +14,5 @@ const ABOUT: About = About {
 };
 
 fn main(rt: HostRuntime) -> anyhow::Result<ExitCode> {
-    opt_main::<BuiltinSet, LibraryPass>(&rt, &ABOUT, &LibraryPass::ALL)
+    opt_main::<BuiltinSet, LibraryPass, BuiltinTexts>(&rt, &ABOUT, &LibraryPass::ALL)
 }

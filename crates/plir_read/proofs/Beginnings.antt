@@ -31,12 +31,12 @@ use Rattle.plir_read.specs.Room.{one_with_region, op_count, block_count}
 use Rattle.plir_read.specs.Room.{IsBrace, IsBegun, BeginsTooMany, HasNoRoom, LacksRoom}
 use Rattle.plir_read.specs.declared.heads.BodyKind.{BodyKind}
 use Rattle.plir_read.specs.declared.heads.HeadKind.TheVariants.{Bodied}
-use Rattle.plir_read.proofs.OpFound.{by_semicolon, semicolon_found, by_brace, brace_found, header_found}
-use Rattle.plir_read.proofs.OpFound.{block_head_found}
-use Rattle.plir_read.proofs.OpFound.{op_found, block_found, ops_wrote, chain_wrote}
+use Rattle.plir_read.specs.laws.OpFound.{by_semicolon, semicolon_found, by_brace, brace_found, header_found}
+use Rattle.plir_read.specs.laws.OpFound.{block_head_found}
+use Rattle.plir_read.specs.laws.OpFound.{op_found, block_found, ops_wrote, chain_wrote}
 use Rattle.plir_read.proofs.RoomLaws.{count_all, count_append, ops_counted}
 use Rattle.plir_read.proofs.RoomLaws.{blocks_counted}
-use Rattle.plir_read.proofs.StartFound.{start_found, bare_id}
+use Rattle.plir_read.specs.laws.StartFound.{start_found, bare_id}
 
 -- where there is no room for one reason, there is none for another that follows from it
 pub Ends-map : {A : Type 0} (P Q : Type 0) (stop : Stop) (r : Result A Fault) → (P → Q) → Ends P stop r → Ends Q stop r
@@ -245,7 +245,8 @@ module _ {O B : Type 0} (n : ℕ) (s t : Nodes O B) (bytes rest : List ℕ)
         part = f.front ++ h.0.part ∷ [];
         begun = ops_begun h.0.part h.0.begun;
         full = subst (IsFullFor s) (sym (ops_counted (f.front ++ h.0.part ∷ [])))
-            (last_full (OpWithin n) by_semicolon op_count semicolon_at (op_at n) [] semicolon_found (op_found n) s t bytes
+            (last_full (OpWithin n) by_semicolon op_count semicolon_at (op_at n) [] semicolon_found (op_found n) s t
+            bytes
             rest (ops_at (op_at n) bytes) f h.0.part h.0.full);
       },
       λ y e. subst (IsFullFor s) (sym (ops_counted y.0))
@@ -417,7 +418,8 @@ module _ {O B : Type 0} (n : ℕ) (k : BodyKind) (names : ℕ) (s t : Nodes O B)
     },
     λ y e. let x = bodied_is y e in
         subst (λ w. IsFullFor s (op_count w)) (sym x.2)
-        (full_more s one_with_region (together one_with_region (body_count x.0.0)) (part_at_most one_with_region (body_count x.0.0)) full),
+        (full_more s one_with_region (together one_with_region (body_count x.0.0)) (part_at_most one_with_region
+        (body_count x.0.0)) full),
   )
 
   -- there is none for its blocks

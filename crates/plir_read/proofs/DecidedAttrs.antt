@@ -121,7 +121,13 @@ steady_text = record { firm = firm_of _ text_at string_found string_again; stops
 
 kind_wrong : (w : List ℕ) (f : Fault) → attr_kind w ≡ Err f → IsWrong f (word w ∷ [])
 unfolding attr_kind
-kind_wrong w f e = wrong_word w f (else_err (bytes_eq w (codes "builtin.given_names")) kinds.GivenNames _ f (else_err (bytes_eq w (codes "builtin.operand_segment_sizes")) kinds.OperandSegmentSizes _ f (else_err (bytes_eq w (codes "builtin.type")) kinds.TypeOf _ f (else_err (bytes_eq w (codes "builtin.unit")) kinds.Unit _ f (else_err (bytes_eq w (codes "builtin.vec")) kinds.Vec _ f (else_err (bytes_eq w (codes "builtin.dict")) kinds.Dict _ f (else_err (bytes_eq w (codes "builtin.integer")) kinds.Integer _ f (else_err (bytes_eq w (codes "builtin.bool")) kinds.Bool _ f (else_err (bytes_eq w (codes "builtin.string")) kinds.String _ f (else_err (bytes_eq w (codes "builtin.identifier")) kinds.Identifier _ f e))))))))))
+kind_wrong w f e = wrong_word w f (else_err (bytes_eq w (codes "builtin.given_names")) kinds.GivenNames _ f (else_err
+    (bytes_eq w (codes "builtin.operand_segment_sizes")) kinds.OperandSegmentSizes _ f (else_err (bytes_eq w (codes
+    "builtin.type")) kinds.TypeOf _ f (else_err (bytes_eq w (codes "builtin.unit")) kinds.Unit _ f (else_err (bytes_eq
+    w (codes "builtin.vec")) kinds.Vec _ f (else_err (bytes_eq w (codes "builtin.dict")) kinds.Dict _ f (else_err
+    (bytes_eq w (codes "builtin.integer")) kinds.Integer _ f (else_err (bytes_eq w (codes "builtin.bool")) kinds.Bool
+    _ f (else_err (bytes_eq w (codes "builtin.string")) kinds.String _ f (else_err (bytes_eq w (codes
+    "builtin.identifier")) kinds.Identifier _ f e))))))))))
 
 steady_head : Steady pairs attr_head
 unfolding attr_head

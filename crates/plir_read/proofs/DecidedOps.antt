@@ -30,7 +30,7 @@ use Rattle.plir_read.specs.declared.heads.HeadKind.TheVariants.{Bodied, Constant
 use Rattle.plir_read.proofs.DecidedTypes.{steady_sign, steady_separator, steady_made, shows, sign_shown}
 use Rattle.plir_read.proofs.DecidedTypes.{closed, steady_closed, steady_enclosed, steady_items, wrong_word, else_err}
 use Rattle.plir_read.proofs.DecidedTypes.{steady_type}
-use Rattle.plir_read.proofs.OpFound.{argument_at-shorter, block_at-shorter, op_at-shorter}
+use Rattle.plir_read.specs.laws.OpFound.{argument_at-shorter, block_at-shorter, op_at-shorter}
 use Rattle.plir_read.proofs.Deciding.{next, next_of, pairs, bare, Steady, steady_as, steady_bind, steady_done}
 use Rattle.plir_read.proofs.Deciding.{steady_choice}
 use Rattle.plir_read.proofs.DecidedAttrs.{steady_name, steady_entry, steady_attr}
@@ -50,7 +50,9 @@ steady_names = steady_more (separator_at 61) (steady_separator 61) name_at stead
 
 kind_wrong : (w : List ℕ) (f : Fault) → op_kind w ≡ Err f → IsWrong f (word w ∷ [])
 unfolding op_kind
-kind_wrong w f e = wrong_word w f (else_err (bytes_eq w (codes "builtin.forward_ref")) ForwardRef _ f (else_err (bytes_eq w (codes "builtin.constant")) Constant _ f (else_err (bytes_eq w (codes "builtin.func")) (Bodied Func) _ f (else_err (bytes_eq w (codes "builtin.module")) (Bodied Module) _ f e))))
+kind_wrong w f e = wrong_word w f (else_err (bytes_eq w (codes "builtin.forward_ref")) ForwardRef _ f (else_err
+    (bytes_eq w (codes "builtin.constant")) Constant _ f (else_err (bytes_eq w (codes "builtin.func")) (Bodied Func) _
+    f (else_err (bytes_eq w (codes "builtin.module")) (Bodied Module) _ f e))))
 
 steady_id : Steady pairs op_id
 unfolding op_id

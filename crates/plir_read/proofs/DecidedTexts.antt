@@ -32,9 +32,9 @@ use Rattle.plir_read.specs.declared.heads.HeadKind.TheVariants.{Bodied, Constant
 use Rattle.plir_read.proofs.DecidedOps.{Start, steady_start, steady_header, steady_constant, steady_blocks}
 use Rattle.plir_read.proofs.DecidedTypes.{steady_deep}
 use Rattle.plir_read.proofs.OpAgain.{op_within_again}
-use Rattle.plir_read.proofs.OpFound.{op_found}
+use Rattle.plir_read.specs.laws.OpFound.{op_found}
 use Rattle.plir_read.proofs.StartAgain.{last_again, next_again}
-use Rattle.plir_read.proofs.StartFound.{id_of, NamesBefore, by_equals, start_found}
+use Rattle.plir_read.specs.laws.StartFound.{id_of, NamesBefore, by_equals, start_found}
 use Rattle.plir_read.proofs.Deciding.{fault, pairs, Stopping, Steady, decided_as, decided_behind, bind_err, err_first}
 use Rattle.plir_read.proofs.Deciding.{ok_first, stops_bind, steady_bind, steady_done}
 use Rattle.plir_read.proofs.OneToken.{plain, plain_takes, plain_looks}
@@ -225,7 +225,8 @@ module _ {B : Type 0} (then : Start → Result B Fault) (bytes : List ℕ) (f : 
       }
 
 module _ (n : ℕ) (ops : Steady pairs (op_at n)) where
-  stops_body : (k : BodyKind) → Stopping {Y = OpTerm × List ℕ} (λ z. header_at n k z >>= λ h. blocks_at (op_at n) n h.1 >>=
+  stops_body : (k : BodyKind) → Stopping {Y = OpTerm × List ℕ} (λ z. header_at n k z >>= λ h. blocks_at (op_at n) n
+      h.1 >>=
       λ bs. done (op_term h.0 (blocks_of bs.0), bs.1))
   stops_body k =
       stops_bind pairs (header_at n k) (steady_header n k) _
@@ -256,7 +257,8 @@ module _ (n : ℕ) (ops : Steady pairs (op_at n)) where
       IsDecided (λ o. (start_at o >>= behind_start) ≡ Err f) bytes f
   unfolding bodied_at
   stops_kind bytes f ws (Bodied Module) rest e h =
-      counted behind_start bytes f ((ws, Bodied Module), rest) e 0 _ (inl (refl, refl)) (λ z. refl) (stops_body Module) h
+      counted behind_start bytes f ((ws, Bodied Module), rest) e 0 _ (inl (refl, refl)) (λ z. refl) (stops_body
+      Module) h
   stops_kind bytes f ws (Bodied Func) rest e h =
       counted behind_start bytes f ((ws, Bodied Func), rest) e 0 _ (inr (inl (refl, refl))) (λ z. refl)
       (stops_body Func) h

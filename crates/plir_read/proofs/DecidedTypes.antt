@@ -204,7 +204,9 @@ else_err false x rest f e = e
 
 kind_wrong : (w : List ℕ) (f : Fault) → type_kind w ≡ Err f → IsWrong f (word w ∷ [])
 unfolding type_kind
-kind_wrong w f e = wrong_word w f (else_err (bytes_eq w (codes "builtin.unit")) type_kinds.Unit _ f (else_err (bytes_eq w (codes "builtin.function")) type_kinds.Function _ f (else_err (bytes_eq w (codes "builtin.integer")) type_kinds.Integer _ f e)))
+kind_wrong w f e = wrong_word w f (else_err (bytes_eq w (codes "builtin.unit")) type_kinds.Unit _ f (else_err
+    (bytes_eq w (codes "builtin.function")) type_kinds.Function _ f (else_err (bytes_eq w (codes "builtin.integer"))
+    type_kinds.Integer _ f e)))
 
 width_wrong : (s : Signedness) (w ds : List ℕ) (f : Fault) → w ≡ letters s ++ ds → width_of s ds ≡ Err f →
     IsWrong f (word w ∷ [])

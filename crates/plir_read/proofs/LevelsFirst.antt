@@ -107,7 +107,8 @@ module _ (r s : List ℕ → Result (TypeTerm × List ℕ) Fault) (sooner : Earl
   unfolding function_at
   function_sooner bytes =
       behind_same (sign_at 60 bytes) _ _
-      (λ start. behind_sooner (items_at 40 41 r start) (items_at 40 41 s start) _ _ (items_sooner r s sooner 40 41 start)
+      (λ start. behind_sooner (items_at 40 41 r start) (items_at 40 41 s start) _ _ (items_sooner r s sooner 40 41
+      start)
       (λ as_. behind_same _ _ _ (λ behind. first_sooner _ _ _ (items_sooner r s sooner 40 41 behind))))
 
   type_body_sooner : (k : TypeKind) → Earlier (type_body r k) (type_body s k)

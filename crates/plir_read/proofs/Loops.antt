@@ -6,8 +6,8 @@ use Rattle.plir_attr_text.specs.declared.fault.Fault.{Fault}
 use Rattle.plir_read.specs.OpTerms.{OpTerm, BlockTerm, ops_of, blocks_of}
 use Rattle.plir_read.specs.OpReading.{block_at, semicolon_at, brace_at}
 use Rattle.plir_read.specs.OpsStanding.{IsOpAt, IsBlockAt, AreOpsAt, AreBlocksAt}
-use Rattle.plir_read.proofs.Frames.{IsOpAt-kept, IsBlockAt-kept, AreOpsAt-kept, AreBlocksAt-kept, AreOpsAt-push}
-use Rattle.plir_read.proofs.Frames.{AreBlocksAt-push}
+use Rattle.plir_read.specs.laws.Frames.{IsOpAt-kept, IsBlockAt-kept, AreOpsAt-kept, AreBlocksAt-kept, AreOpsAt-push}
+use Rattle.plir_read.specs.laws.Frames.{AreBlocksAt-push}
 use Rattle.plir_read.proofs.Gathered as gathered
 
 module _ {K A T : Type 0} (own : A → List ℕ) (read : List ℕ → Result (OpTerm × List ℕ) Fault) where

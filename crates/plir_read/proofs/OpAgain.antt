@@ -15,7 +15,7 @@ use Rattle.plir_attr_text.specs.laws.Begun.{Begins-split, Begins-length, Takes-s
 use Rattle.plir_attr_text.specs.laws.Begun.{no_sign}
 use Rattle.plir_attr_text.specs.laws.LeavesAgain.{name_again}
 use Rattle.plir_attr_text.specs.laws.TypesAgain.{type_again}
-use Rattle.plir_read.proofs.OpFound.{block_head-length}
+use Rattle.plir_read.specs.laws.OpFound.{block_head-length}
 use Rattle.plir_read.specs.OpTerms.{Head, module_head, func_head, Header, Argument, BlockHead, OpTerm, op_term}
 use Rattle.plir_read.specs.OpTerms.{constant_term, BlockTerms, no_blocks, block_before, OpTerms, no_ops, op_before}
 use Rattle.plir_read.specs.OpTerms.{BlockTerm, ops_of, blocks_of, head_levels, header_levels, arguments_levels}
@@ -28,7 +28,7 @@ use Rattle.plir_read.specs.OpReading.{named_constant_at, bodied_at, op_at}
 use Rattle.plir_read.specs.declared.heads.HeadKind.TheVariants.{Bodied, Constant}
 use Rattle.plir_read.specs.declared.heads.BodyKind.{BodyKind}
 use Rattle.plir_read.specs.declared.heads.BodyKind.TheVariants.{Module, Func}
-use Rattle.plir_read.proofs.Dictionaries.{dictionary_again}
+use Rattle.plir_read.specs.laws.Dictionaries.{dictionary_again}
 use Rattle.plir_read.proofs.OpSteps.{header_is}
 use Rattle.plir_read.proofs.StartAgain.{last_again, next_again, module_id, func_id, constant_starts, constant_again}
 

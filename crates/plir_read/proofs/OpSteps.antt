@@ -39,7 +39,7 @@ use Rattle.plir_read.specs.declared.heads.HeadKind.TheVariants.{Bodied, Constant
 use Rattle.plir_read.specs.declared.heads.BodyKind.{BodyKind}
 use Rattle.plir_read.specs.declared.heads.BodyKind.TheVariants.{Module, Func}
 use Rattle.plir_read.proofs.Beginnings.{Ends-map, read_lacks_room}
-use Rattle.plir_read.proofs.StartFound.{named_is}
+use Rattle.plir_read.specs.laws.StartFound.{named_is}
 
 -- a fault of the readers below is a fault here
 pub Ends-of : {A : Type 0} (P : Type 0) (stop : Stop) (r : Result A Fault) → Fails stop r → Ends P stop r

@@ -19,7 +19,7 @@ use Rattle.plir_read.specs.OpGrammar.{OpWithin}
 use Rattle.plir_read.specs.OpReading.{op_at}
 use Rattle.plir_read.specs.OpTerms.{OpTerm}
 use Rattle.plir_read.proofs.OpAgain.{op_within_again}
-use Rattle.plir_read.proofs.OpFound.{op_found}
+use Rattle.plir_read.specs.laws.OpFound.{op_found}
 use Rattle.plir_read.proofs.OpSteps.{Ends-of}
 
 pub op_text_found : (n : ℕ) (bytes : List ℕ) (w : OpTerm) → whole (op_at n) bytes ≡ Ok w → IsText (OpWithin n) bytes w

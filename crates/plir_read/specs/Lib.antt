@@ -10,10 +10,11 @@
 --                stands for
 --   Keeping      KeepsOlder: what reading leaves of a context as it was
 --   Slots        IsMadeInOrder: a tree's nodes come in the order of a text, each in the next slot of its kind
---   Room         op_count: how many nodes a text stands for; BeginsTooMany: that those with which it begins have no room
+--   Room         op_count: how many nodes a text stands for; BeginsTooMany: those with which it begins have no room
 --   Stopping     ReadsOn: reading into a context
 --   HeldTypes    IsHeldByOp: the types that an operation holds
 --   OpsRead      ReadsOp: what the reader's own functions answer
+--   laws         laws of these words, which no contract cites
 pub mod Suffixes
 pub mod OpTerms
 pub mod OpGrammar
@@ -27,3 +28,4 @@ pub mod Keeping
 pub mod Slots
 pub mod HeldTypes
 pub mod OpsRead
+pub mod laws

@@ -3,14 +3,14 @@
 //! their arguments and their labels.
 #![tactic(auto)]
 
-mod arguments;
-mod constants;
-mod headers;
-mod heads;
+pub mod arguments;
+pub mod constants;
+pub mod headers;
+pub mod heads;
 pub mod laws;
-mod making;
-mod names;
-mod openings;
+pub mod making;
+pub mod names;
+pub mod openings;
 mod ops;
 mod reader;
 

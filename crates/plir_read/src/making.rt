@@ -48,7 +48,7 @@ pub fn stop_of(refused: NodeErr) -> Stop
 }
 
 // Puts an attribute under a key that is an identifier. After a refusal all is as before.
-fn put_under<D: OpSet>(
+pub fn put_under<D: OpSet>(
     alloc: Global,
     attributes: &mut AttributeDict<D>,
     key: &str,
@@ -165,7 +165,7 @@ pub fn make_op<D: OpSet>(
 }
 
 // Whether no name is set.
-fn all_unset(names: &[Option<Identifier>]) -> bool
+pub fn all_unset(names: &[Option<Identifier>]) -> bool
     ensures { result ≡ list_all is_none names.now }
 {
     names.iter().all(|name| name.is_none())

@@ -16,8 +16,8 @@ use Rattle.plir_read_own.specs.OwnGrammar.{SpellsLabel, SpellsUses, SpellsSignat
 use Rattle.plir_read_own.specs.OwnReading.{label_at, list_at, uses_at, signature_at, typed_at, as_many_types}
 use Rattle.plir_read_own.specs.OwnReading.{as_many_names, counted, header_at}
 use Rattle.plir_read_own.specs.declared.uses.NameList.TheVariants.{Operands, Successors}
-use Rattle.plir_read_own.proofs.Dictionaries.{entries_again}
-use Rattle.plir_read_own.proofs.Starts.{opening_again}
+use Rattle.plir_read_own.specs.laws.Dictionaries.{entries_again}
+use Rattle.plir_read_own.specs.laws.Starts.{opening_again}
 
 module _ {X : Type 0} {E F : X → List Token → Type 0} (to : (x : X) (ts : List Token) → E x ts → F x ts) where
   more_as : (xs : List X) (ts : List Token) → SpellsMore E xs ts → SpellsMore F xs ts

@@ -1,10 +1,3 @@
-mod Chains
-mod Dictionaries
-mod Starts
-mod Found
-mod Lists
 mod Again
-mod TypeLists
 mod Steps
-mod Parts
 mod Wholes

@@ -16,7 +16,7 @@ use Rattle.plir_attr_text.specs.laws.ListsAgain.{refused}
 use Rattle.plir_read_own.specs.OwnTerms.{Header}
 use Rattle.plir_read_own.specs.OwnGrammar.{HeaderWithin}
 use Rattle.plir_read_own.specs.OwnReading.{header_at}
-use Rattle.plir_read_own.proofs.Found.{header_found}
+use Rattle.plir_read_own.specs.laws.Found.{header_found}
 use Rattle.plir_read_own.proofs.Again.{header_again}
 
 -- a fault that is told is the one that was met

@@ -50,7 +50,7 @@ pub struct Typed<D: OpSet> {
 
 // `[key = ATTR, key = ATTR]: <(TYPE, TYPE)->(TYPE)>`
 #[tactic(auto, unfolding(crate::specs::OwnReading::typed_at, crate::specs::OwnReading::entries_at))]
-fn read_typed<'a, D: OpSet, C: TypeStore<D>>(
+pub fn read_typed<'a, D: OpSet, C: TypeStore<D>>(
     alloc: Global,
     ctx: &mut C,
     levels: usize,
@@ -81,7 +81,7 @@ fn read_typed<'a, D: OpSet, C: TypeStore<D>>(
 
 // Whether there are as many types as operands, with this many bytes left where the types stand.
 #[tactic(auto, unfolding(crate::specs::OwnReading::as_many_types))]
-fn expect_types(operands: usize, types: usize, left: usize) -> Result<(), Stop>
+pub fn expect_types(operands: usize, types: usize, left: usize) -> Result<(), Stop>
     ensures { Gives (λ u. u) result (as_many_types operands types) }
 {
     if operands == types {
@@ -93,7 +93,7 @@ fn expect_types(operands: usize, types: usize, left: usize) -> Result<(), Stop>
 
 // Whether there are as many names as results, with this many bytes left where the id stands.
 #[tactic(auto, unfolding(crate::specs::OwnReading::as_many_names))]
-fn expect_names(results: usize, names: usize, left: usize) -> Result<(), Stop>
+pub fn expect_names(results: usize, names: usize, left: usize) -> Result<(), Stop>
     ensures { Gives (λ u. u) result (as_many_names results names) }
 {
     if results == names {

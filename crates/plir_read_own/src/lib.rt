@@ -2,11 +2,11 @@
 //! The reader of what stands in the text of an own operation before its regions.
 #![tactic(auto)]
 
-mod headers;
-mod openings;
+pub mod headers;
+pub mod openings;
 mod read_set;
-mod signatures;
-mod uses;
+pub mod signatures;
+pub mod uses;
 
 pub use headers::{OwnHeader, read_own_header};
 pub use read_set::{ReadKind, ReadSet};

@@ -42,7 +42,7 @@ fn read_names(alloc: Global, bytes: &[u8]) -> Result<(Vec<Identifier>, &[u8]), S
 
 // How many bytes are left where names have their fault, with `after` behind the first and `left` where it was met:
 // where the text is cut behind that one it may be cut in an id, and the fault stands at the text's end.
-fn unread_name_at(after: &[u8], left: usize) -> usize {
+pub fn unread_name_at(after: &[u8], left: usize) -> usize {
     if ends_at_point(after) { 0 } else { left }
 }
 
@@ -83,7 +83,7 @@ fn kind_of<D: ReadSet>(word: &[u8], rest: &[u8], left: usize) -> Result<D::Kind,
 
 // The id of a kind.
 #[tactic(auto, unfolding(crate::specs::OwnReading::kind_at))]
-fn read_kind<D: ReadSet>(bytes: &[u8]) -> Result<(D::Kind, &[u8]), Stop>
+pub fn read_kind<D: ReadSet>(bytes: &[u8]) -> Result<(D::Kind, &[u8]), Stop>
     ensures { Gives (λ x. (x.0, x.1.now)) result (kind_at D.find_kind bytes.now) }
 {
     let (word, rest) = read_word(bytes)?;

@@ -1,5 +1,5 @@
 //! Op sets whose operations are read.
-ghost use Rattle.std.specs.Prelude.{◌≡◌, ℕ, List, Option, Some};
+ghost use Rattle.std.specs.Prelude.{◌≡◌, ℕ, List, Option, Some, Bool};
 
 use plir_data::{KindSet, OpSet, OwnKind};
 
@@ -11,6 +11,14 @@ pub trait ReadSet: OpSet {
     /// The kind that an id names, as `dialect.name`; none, if it names no kind of the set.
     fn find_kind(id: &[u8]) -> Option<Self::Kind>
         ensures { result ≡ find_kind id.now };
+
+    // Whether names in an operation of the kind mean nothing outside it.
+    ghost is_isolated: { Self.Kind → Bool };
+
+    /// Whether the names in the regions of an operation of the kind are looked up in these alone, as they are in a
+    /// module and in a function: nothing in them uses what stands outside.
+    fn is_isolated(kind: Self::Kind) -> bool
+        ensures { result ≡ is_isolated kind };
 
     // An id names no kind but one that has it.
     ghost found_has_id: { (i : List ℕ) (k : Self.Kind) → find_kind i ≡ Some k → Self.kind_id k ≡ i };
@@ -25,6 +33,14 @@ pub trait ReadKind: OwnKind {
     fn find(id: &[u8]) -> Option<Self>
         ensures { result ≡ find id.now };
 
+    // Whether names in an operation of the kind mean nothing outside it.
+    ghost is_isolated: { Self → Bool };
+
+    /// Whether the names in the regions of an operation of the kind are looked up in these alone: nothing in them uses
+    /// what stands outside.
+    fn is_isolated(self) -> bool
+        ensures { result ≡ is_isolated self };
+
     // An id names no kind but one that has it.
     ghost found_has_id: { (i : List ℕ) (k : Self) → find i ≡ Some k → Self.id k ≡ i };
 }
@@ -34,6 +50,12 @@ impl<K: ReadKind> ReadSet for KindSet<K> {
 
     fn find_kind(id: &[u8]) -> Option<K> {
         K::find(id)
+    }
+
+    ghost is_isolated = { K.is_isolated };
+
+    fn is_isolated(kind: K) -> bool {
+        kind.is_isolated()
     }
 
     ghost found_has_id = { K.found_has_id };

@@ -27,7 +27,7 @@ pub enum NameList {
 }
 
 // The sign that a list begins with.
-fn opening_of(list: NameList) -> u8
+pub fn opening_of(list: NameList) -> u8
     ensures { result ≡ opening_of list }
 {
     match list {
@@ -37,7 +37,7 @@ fn opening_of(list: NameList) -> u8
 }
 
 // The sign that a list ends with.
-fn closing_of(list: NameList) -> u8
+pub fn closing_of(list: NameList) -> u8
     ensures { result ≡ closing_of list }
 {
     match list {

@@ -52,6 +52,7 @@ impl OwnKind for TestKind {
 }
 
 impl ReadKind for TestKind {
+    ghost use Rattle.std.specs.Prelude.{false};
     ghost use Rattle.plir_read_own_tests.specs.Kinds.{kind_of};
     ghost use Rattle.plir_read_own_tests.specs.IdLaws.{has_its_id};
 
@@ -65,6 +66,12 @@ impl ReadKind for TestKind {
         } else {
             None
         }
+    }
+
+    ghost is_isolated = { λ _. false };
+
+    fn is_isolated(self) -> bool {
+        false
     }
 
     ghost found_has_id = { has_its_id };

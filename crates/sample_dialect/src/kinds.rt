@@ -1,6 +1,7 @@
 //! The dialect's kinds of operations, and the op set of them.
 use dce::EffectKind;
 use plir_data::{KindSet, NeverRefused, OwnKind};
+use plir_read_own::ReadKind;
 
 /// The kinds.
 #[derive(Clone, Copy, PartialEq, Eq, Debug)]
@@ -52,6 +53,32 @@ impl OwnKind for SampleKind {
             SampleKind::Show => "sample.show",
         }
     }
+}
+
+impl ReadKind for SampleKind {
+    ghost use Rattle.std.specs.Prelude.{false};
+    ghost use Rattle.sample_dialect.specs.Answers.{kind_of};
+    ghost use Rattle.sample_dialect.specs.IdLaws.{has_its_id};
+
+    ghost find = { kind_of };
+
+    fn find(id: &[u8]) -> Option<SampleKind> {
+        if id == b"sample.add".as_slice() {
+            Some(SampleKind::Add)
+        } else if id == b"sample.show".as_slice() {
+            Some(SampleKind::Show)
+        } else {
+            None
+        }
+    }
+
+    ghost is_isolated = { λ _. false };
+
+    fn is_isolated(self) -> bool {
+        false
+    }
+
+    ghost found_has_id = { has_its_id };
 }
 
 impl EffectKind for SampleKind {

@@ -5,7 +5,7 @@
 
 mod sweep_pass;
 
-use plir_driver::{About, LibraryPass, OneOf, opt_main};
+use plir_driver::{About, LibraryPass, OneOf, OwnTexts, opt_main};
 use sample_dialect::SampleSet;
 use std::process::ExitCode;
 use sweep_pass::SweepPass;
@@ -20,9 +20,9 @@ const PASSES: [OneOf<LibraryPass, SweepPass>; 4] = [
     OneOf::First(LibraryPass::EraseNames),
     OneOf::First(LibraryPass::Dce),
     OneOf::First(LibraryPass::SymbolDce),
-    OneOf::Second(SweepPass),
+    OneOf::Second(SweepPass { rounds: 1 }),
 ];
 
 fn main(rt: HostRuntime) -> anyhow::Result<ExitCode> {
-    opt_main::<SampleSet, OneOf<LibraryPass, SweepPass>>(&rt, &ABOUT, &PASSES)
+    opt_main::<SampleSet, OneOf<LibraryPass, SweepPass>, OwnTexts>(&rt, &ABOUT, &PASSES)
 }

@@ -1,26 +1,38 @@
-//! A pass as one writes it outside.
-ghost use Rattle.std.specs.Prelude.{◌≡◌, codes};
+//! A pass as one writes it outside, with an option.
+ghost use Rattle.std.specs.Prelude.{◌≡◌, [], ◌∷◌, IfErr, OnOk, codes};
+ghost use Rattle.plir_core.specs.ContextView.{IsLive};
 ghost use Rattle.plir_core.specs.declared.ptr.IRNode.{IRNode as AnyNode};
-ghost use Rattle.dce.specs.Swept.{IsSweptBelow};
 ghost use Rattle.plir_driver.specs.declared.pass_err.PassErr.TheVariants as Errors;
+ghost use Rattle.sample_opt.specs.Rounds.{AreSwept, rounds_rule};
 
 use dce::{EffectSet, sweep};
 use plir_core::{Context, Operation, Ptr};
-use plir_driver::{Pass, PassErr};
+use plir_driver::{Offered, Pass, PassErr, PassOption};
 use plir_walk::laws::lawful_changes;
 use std::alloc::Global;
 
-/// `sweep`: erases dead operations, as the function of that name does.
+/// `sweep`: erases dead operations, as the function of that name does, so many times: what an operation in another block
+/// used may be dead once that one is gone.
 #[derive(Clone, Copy, Debug)]
-pub struct SweepPass;
+pub struct SweepPass {
+    /// How many times.
+    pub rounds: u64,
+}
 
-impl<D: EffectSet> Pass<D> for SweepPass {
+const OPTIONS: [PassOption; 1] = [PassOption {
+    name: "rounds",
+    help: "how many times to sweep",
+    least: 1,
+    most: 100,
+    default: 1,
+}];
+
+impl Offered for SweepPass {
     ghost pass_name = { λ _. codes "sweep" };
 
-    ghost has_passed = { λ _ root. IsSweptBelow D.has_effect D.is_terminator (AnyNode.Operation root) };
+    ghost pass_options = { λ _. rounds_rule ∷ [] };
 
-    // There are more nodes than a walk may visit.
-    ghost may_stop = { λ _ _ _ e. e ≡ Errors.TooManyNodes };
+    ghost with_option = { λ _ _ n. record { rounds = n } };
 
     fn name(self) -> &'static str {
         "sweep"
@@ -30,16 +42,47 @@ impl<D: EffectSet> Pass<D> for SweepPass {
         "Pass: erase operations without regions that have no effect and whose results nothing uses"
     }
 
+    fn options(self) -> &'static [PassOption] {
+        &OPTIONS
+    }
+
+    fn with(self, _place: usize, number: u64) -> Self {
+        SweepPass { rounds: number }
+    }
+}
+
+// Sweeps so many times.
+fn sweep_rounds<D: EffectSet>(
+    ctx: &mut Context<D>,
+    root: Ptr<Operation>,
+    rounds: u64,
+) -> Result<(), PassErr>
+    requires { IsLive ctx.old (AnyNode.Operation root) }
+    ensures live { IsLive ctx.new (AnyNode.Operation root) }
+    ensures swept { OnOk result (AreSwept D.has_effect D.is_terminator (AnyNode.Operation root) rounds ctx.old ctx.new) }
+    ensures stopped { IfErr result (λ e. e ≡ Errors.TooManyNodes) }
+{
+    lawful_changes::<D>();
+    for _ in 0..rounds {
+        if sweep(ctx, root).is_err() {
+            return Err(PassErr::TooManyNodes);
+        }
+    }
+    Ok(())
+}
+
+impl<D: EffectSet> Pass<D> for SweepPass {
+    ghost has_passed = { λ pass root. AreSwept D.has_effect D.is_terminator (AnyNode.Operation root) pass.rounds };
+
+    // There are more nodes than a walk may visit.
+    ghost may_stop = { λ _ _ _ e. e ≡ Errors.TooManyNodes };
+
     fn run(
         self,
         _alloc: Global,
         ctx: &mut Context<D>,
         root: Ptr<Operation>,
     ) -> Result<(), PassErr> {
-        lawful_changes::<D>();
-        match sweep(ctx, root) {
-            Ok(()) => Ok(()),
-            Err(_) => Err(PassErr::TooManyNodes),
-        }
+        sweep_rounds(ctx, root, self.rounds)
     }
 }

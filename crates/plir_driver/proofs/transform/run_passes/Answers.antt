@@ -1,4 +1,4 @@
-use Rattle.std.proofs.Common.{◌≡◌, true, ◌+◌, drop, get_or, take, arith, refl, string_bytes, subst}
+use Rattle.std.proofs.Common.{◌≡◌, true, ◌+◌, drop, get_or, take, arith, refl, subst}
 use Rattle.std.proofs.lemmas.Result.{err_from_is_err_and}
 use Rattle.plir_verify.specs.Rules.{AllHaveRules}
 use Rattle.plir_driver.specs.Stopped.{IsStoppedAt}
@@ -13,9 +13,9 @@ loop-pass-init g c = (c.requires, refl, (refl, refl))
 pub loop-pass-preserved : goal.loop-pass-preserved
 loop-pass-preserved g c =
     let x = c.pass-item.result in
-    let Done = IsRunLogged g.D.OpSet g.P.Pass.pass_name g.P.Pass.has_passed c.args.reports.now c.args.root in
-    let told : Done x c.loop-pass.ctx c.run_told.new.ctx (string_bytes c.loop-pass.log)
-    (string_bytes c.run_told.new.log) = (c.in_ok-run_told.ensures.passed, c.in_ok-run_told.ensures.logged) in (
+    let Done = IsRunLogged g.D.OpSet g.P.Offered.pass_name g.P.Pass.has_passed c.args.reports.now c.args.root in
+    let told : Done x c.loop-pass.ctx c.run_told.new.ctx c.loop-pass.log
+    c.run_told.new.log = (c.in_ok-run_told.ensures.passed, c.in_ok-run_told.ensures.logged) in (
       c.run_told.ensures.live,
       passed-to g.P.Pass.has_passed c.args.root
           (λ s. c.args.verify ≡ true →
@@ -25,17 +25,17 @@ loop-pass-preserved g c =
           (subst (λ z. g.P.Pass.has_passed z c.args.root c.loop-pass.ctx c.run_told.new.ctx) c.pass-item.is
           c.in_ok-run_told.ensures.passed) c.in_ok-run_told.ensures.verified,
       done-to Done c.args.passes.now c.loop-pass.pass-index x c.args.ctx.now c.loop-pass.ctx c.run_told.new.ctx
-          (string_bytes c.args.log.now) (string_bytes c.loop-pass.log) (string_bytes c.run_told.new.log) (omega arith)
+          c.args.log.now c.loop-pass.log c.run_told.new.log (omega arith)
           c.loop-pass.invariant.2
-          (subst (λ z. Done z c.loop-pass.ctx c.run_told.new.ctx (string_bytes c.loop-pass.log)
-          (string_bytes c.run_told.new.log)) c.pass-item.is told),
+          (subst (λ z. Done z c.loop-pass.ctx c.run_told.new.ctx c.loop-pass.log
+          c.run_told.new.log) c.pass-item.is told),
     )
 
 pub returns-clause-logged : goal.returns-clause-logged
 returns-clause-logged g c =
-    done-all (IsRunLogged g.D.OpSet g.P.Pass.pass_name g.P.Pass.has_passed c.args.reports.now c.args.root)
-    c.args.passes.now c.loop-pass.pass-index c.args.ctx.now c.loop-pass.ctx (string_bytes c.args.log.now)
-    (string_bytes c.loop-pass.log) (omega arith) c.loop-pass.invariant.2
+    done-all (IsRunLogged g.D.OpSet g.P.Offered.pass_name g.P.Pass.has_passed c.args.reports.now c.args.root)
+    c.args.passes.now c.loop-pass.pass-index c.args.ctx.now c.loop-pass.ctx c.args.log.now
+    c.loop-pass.log (omega arith) c.loop-pass.invariant.2
 
 pub returns-clause-passed : goal.returns-clause-passed
 returns-clause-passed g c =

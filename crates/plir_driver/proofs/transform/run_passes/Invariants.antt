@@ -1,4 +1,4 @@
-use Rattle.std.proofs.Common.{take, string_bytes}
+use Rattle.std.proofs.Common.{take}
 use Rattle.plir_core.specs.declared.ptr.IRNode.TheVariants.{Operation}
 use Rattle.plir_core.specs.ContextView.{IsLive}
 use Rattle.plir_driver.specs.Dumps.{AreLogged}
@@ -11,5 +11,5 @@ invariant-loop-pass g l =
     IsLive l.ctx (Operation l.root)
     × AreRun g.D.OpSet g.P.Pass.has_passed l.root g.D.SymbolUserSet.uses_hold g.D.VerifySet.rule l.verify
     (take l.pass-index l.passes) l.fn.ctx l.ctx
-    × AreLogged g.D.OpSet g.P.Pass.pass_name g.P.Pass.has_passed l.reports l.root (take l.pass-index l.passes) l.fn.ctx
-    l.ctx (string_bytes l.fn.log) (string_bytes l.log)
+    × AreLogged g.D.OpSet g.P.Offered.pass_name g.P.Pass.has_passed l.reports l.root (take l.pass-index l.passes) l.fn.ctx
+    l.ctx l.fn.log l.log

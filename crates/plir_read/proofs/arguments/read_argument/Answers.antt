@@ -1,8 +1,8 @@
 use Rattle.std.proofs.Common.{refl, ◌≡◌, ℕ, List}
 use Rattle.plir_attr_text.specs.laws.TypeSteps.{behind_is}
 use Rattle.plir_read.proofs.OpSteps.{argument_is}
-use Rattle.plir_read.proofs.OpEnds.{argument_start}
-use Rattle.plir_read.proofs.TypesNamed.{type_named}
+use Rattle.plir_read.specs.laws.OpEnds.{argument_start}
+use Rattle.plir_read.specs.laws.TypesNamed.{type_named}
 use Rattle.plir_attr_text.specs.laws.StepLaws.{done}
 use Rattle.plir_attr_text.specs.laws.Growth.{named_by}
 use Rattle.plir_attr_text.specs.Parts.{IsPartOf}

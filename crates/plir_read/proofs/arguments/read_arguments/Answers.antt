@@ -12,10 +12,10 @@ use Rattle.plir_read.specs.Heads.{argument_types, argument_names}
 use Rattle.plir_read.specs.OpReading.{argument_at}
 use Rattle.plir_read.specs.OpTerms.{Argument}
 use Rattle.plir_read.proofs.NamesGiven.{typed_push, named_push}
-use Rattle.plir_read.proofs.OpFound.{argument_at-shorter}
+use Rattle.plir_read.specs.laws.OpFound.{argument_at-shorter}
 use Rattle.plir_attr_text.specs.laws.Ends.{end_on, sign_end}
-use Rattle.plir_read.proofs.OpEnds.{argument_end, separator_end}
-use Rattle.plir_read.proofs.TypesNamed.{named_itself, named_on, behind_named}
+use Rattle.plir_read.specs.laws.OpEnds.{argument_end, separator_end}
+use Rattle.plir_read.specs.laws.TypesNamed.{named_itself, named_on, behind_named}
 use Rattle.plir_attr_text.specs.Lists.{items_at}
 use Rattle.plir_attr_text.specs.Parts.{IsPartOf}
 use Rattle.plir_read.specs.HeldTypes.{IsHeldByArgument}

@@ -2,8 +2,8 @@ use Rattle.std.proofs.Common.{refl, ◌≡◌, ℕ, List}
 use Rattle.plir_attr_text.specs.laws.TypeSteps.{behind_is}
 use Rattle.plir_read.specs.OpTerms.{BlockHead}
 use Rattle.plir_read.proofs.OpSteps.{block_head_is}
-use Rattle.plir_read.proofs.OpEnds.{arguments_start}
-use Rattle.plir_read.proofs.TypesNamed.{behind_named}
+use Rattle.plir_read.specs.laws.OpEnds.{arguments_start}
+use Rattle.plir_read.specs.laws.TypesNamed.{behind_named}
 use Rattle.plir_attr_text.specs.laws.StepLaws.{done}
 use Rattle.plir_read.specs.HeldTypes.{IsHeldByBlockHead}
 use Rattle.plir_read.specs.OpReading.{block_head_at}

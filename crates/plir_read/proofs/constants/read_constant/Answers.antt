@@ -4,9 +4,9 @@ use Rattle.plir_read.specs.OpReading.{named}
 use Rattle.plir_core.specs.declared.ptr.IRNode.TheVariants.{Operation}
 use Rattle.plir_core.specs.Room.{HaveCome, IsFullFor, one_op}
 use Rattle.plir_read.specs.Slots.{IsMadeInOrder}
-use Rattle.plir_read.proofs.OpMade.{value_live, result_live, KeepsOlder-typed, KeepsOlder-on}
-use Rattle.plir_read.proofs.TreesInOrder.{leaf_in_order}
-use Rattle.plir_read.proofs.TypesNamed.{named_still}
+use Rattle.plir_read.specs.laws.OpMade.{value_live, result_live, KeepsOlder-typed, KeepsOlder-on}
+use Rattle.plir_read.specs.laws.TreesInOrder.{leaf_in_order}
+use Rattle.plir_read.specs.laws.TypesNamed.{named_still}
 use Rattle.plir_read.specs.HeldTypes.{IsHeldByConstant}
 use Rattle.plir_read.proofs.Held.{come_still}
 use Rattle.plir_read.proofs.OpSteps.{Ends-refused, refused_as, named_constant_is, is_named_constant, constant_still}

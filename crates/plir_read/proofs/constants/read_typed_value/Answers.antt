@@ -3,8 +3,8 @@ use Rattle.plir_attr_text.specs.laws.Meanings.{IsMeant-grown}
 use Rattle.plir_attr_text.specs.laws.TypeSteps.{behind_is}
 use Rattle.plir_attr_text.specs.Terms.{AttrTerm, TypeTerm}
 use Rattle.plir_read.proofs.OpSteps.{constant_is}
-use Rattle.plir_read.proofs.OpEnds.{constant_type_start}
-use Rattle.plir_read.proofs.TypesNamed.{type_named, named_on}
+use Rattle.plir_read.specs.laws.OpEnds.{constant_type_start}
+use Rattle.plir_read.specs.laws.TypesNamed.{type_named, named_on}
 use Rattle.plir_attr_text.specs.laws.StepLaws.{done}
 use Rattle.plir_attr_text.specs.laws.Growth.{named_by}
 use Rattle.plir_attr_text.specs.Parts.{IsPartOf, IsHeldBy}

@@ -3,7 +3,7 @@ use Rattle.plir_attr_text.specs.laws.TypeSteps.{behind_is}
 use Rattle.plir_attr_text.specs.Terms.{AttrTerm}
 use Rattle.plir_read.proofs.OpSteps.{value_is}
 use Rattle.plir_attr_text.specs.laws.Ends.{sign_end}
-use Rattle.plir_read.proofs.TypesNamed.{attr_named}
+use Rattle.plir_read.specs.laws.TypesNamed.{attr_named}
 use Rattle.plir_attr_text.specs.laws.StepLaws.{done}
 use Rattle.plir_attr_text.specs.laws.Growth.{named_by}
 use Rattle.plir_attr_text.specs.Parts.{IsHeldBy}

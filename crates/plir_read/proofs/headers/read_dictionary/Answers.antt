@@ -2,7 +2,7 @@ use Rattle.std.proofs.Common.{[], refl, sym, ◌≡◌, ℕ, List}
 use Rattle.plir_attr_text.specs.Terms.{no_entries, entries_of, EntryTerms}
 use Rattle.plir_attr_text.specs.laws.TypeSteps.{behind_is}
 use Rattle.plir_read.proofs.OpSteps.{no_dictionary, dictionary_is}
-use Rattle.plir_read.proofs.TypesNamed.{entries_named}
+use Rattle.plir_read.specs.laws.TypesNamed.{entries_named}
 use Rattle.plir_attr_text.specs.laws.StepLaws.{done}
 use Rattle.plir_attr_text.specs.laws.Growth.{named_by}
 use Rattle.plir_attr_text.specs.Parts.{IsHeldByEntry}

@@ -3,8 +3,8 @@ use Rattle.plir_attr_text.specs.laws.TypeSteps.{behind_is}
 use Rattle.plir_read.specs.OpTerms.{Header}
 use Rattle.plir_read.proofs.HeadsGrown.{IsHead-grown}
 use Rattle.plir_read.proofs.OpSteps.{header_is}
-use Rattle.plir_read.proofs.OpEnds.{head_end}
-use Rattle.plir_read.proofs.TypesNamed.{named_on, behind_named}
+use Rattle.plir_read.specs.laws.OpEnds.{head_end}
+use Rattle.plir_read.specs.laws.TypesNamed.{named_on, behind_named}
 use Rattle.plir_attr_text.specs.laws.StepLaws.{done}
 use Rattle.plir_attr_text.specs.Parts.{IsHeldByEntry}
 use Rattle.plir_read.specs.HeldTypes.{IsHeldByHead, IsHeldByHeader}

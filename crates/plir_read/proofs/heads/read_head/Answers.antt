@@ -2,8 +2,8 @@ use Rattle.std.proofs.Common.{refl, ap, ◌∙◌, ◌≡◌, ℕ, List}
 use Rattle.plir_attr_text.specs.laws.TypeSteps.{behind_is}
 use Rattle.plir_read.specs.OpTerms.{module_head, func_head, Head}
 use Rattle.plir_read.specs.OpReading.{head_at}
-use Rattle.plir_read.proofs.OpEnds.{func_start}
-use Rattle.plir_read.proofs.TypesNamed.{type_named}
+use Rattle.plir_read.specs.laws.OpEnds.{func_start}
+use Rattle.plir_read.specs.laws.TypesNamed.{type_named}
 use Rattle.plir_read.proofs.OpSteps.{module_read, func_read}
 use Rattle.plir_attr_text.specs.laws.StepLaws.{done}
 use Rattle.plir_attr_text.specs.laws.Growth.{named_by}

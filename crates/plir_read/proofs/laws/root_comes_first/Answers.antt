@@ -1,4 +1,4 @@
-use Rattle.plir_read.proofs.TreesInOrder.{tree_is}
+use Rattle.plir_read.specs.laws.TreesInOrder.{tree_is}
 use Rattle.plir_read.proofs.laws.root_comes_first.Goals as goal
 
 pub returns : goal.returns

@@ -8,9 +8,9 @@ use Rattle.plir_core.specs.Held.{IsBlockEdited}
 use Rattle.plir_core.specs.declared.ptr.IRNode.TheVariants.{BasicBlock}
 use Rattle.plir_core.specs.RoomLaws.{block_comes, block_full, block_edit_comes}
 use Rattle.plir_core.specs.Room.{one_block}
-use Rattle.plir_read.proofs.OpMade.{IsNewBlock-edited, named_block}
+use Rattle.plir_read.specs.laws.OpMade.{IsNewBlock-edited, named_block}
 use Rattle.plir_read.proofs.OpSteps.{refused_as}
-use Rattle.plir_read.proofs.SlotLaws.{block_given, given_edited}
+use Rattle.plir_read.specs.laws.SlotLaws.{block_given, given_edited}
 use Rattle.plir_read.proofs.making.make_block.Goals as goal
 
 pub returns-clause-made : goal.returns-clause-made

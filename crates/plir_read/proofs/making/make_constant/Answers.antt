@@ -9,9 +9,9 @@ use Rattle.plir_core.specs.ContextView.{IsLive, IsValueLive}
 use Rattle.plir_core.specs.declared.ptr.IRNode.TheVariants.{BasicBlock}
 use Rattle.plir_core.specs.RoomLaws.{op_full, op_comes}
 use Rattle.plir_attr_text.specs.laws.Growth.{Grows-itself}
-use Rattle.plir_read.proofs.OpMade.{KeepsOlder-same, KeepsOlder-typed}
+use Rattle.plir_read.specs.laws.OpMade.{KeepsOlder-same, KeepsOlder-typed}
 use Rattle.plir_read.proofs.OpSteps.{refused_as}
-use Rattle.plir_read.proofs.SlotLaws.{leaf_given}
+use Rattle.plir_read.specs.laws.SlotLaws.{leaf_given}
 use Rattle.plir_read.proofs.making.make_constant.Goals as goal
 
 on-err : {T E P : Type 0} (r : Result T E) → P → OnErr r P

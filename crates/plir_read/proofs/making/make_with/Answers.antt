@@ -4,7 +4,7 @@ use Rattle.plir_core.specs.declared.ptr.IRNode.TheVariants.{Operation, Region}
 use Rattle.plir_core.specs.RoomLaws.{op_full}
 use Rattle.plir_read.proofs.RoomLaws.{op_comes}
 use Rattle.plir_read.proofs.OpSteps.{refused_as}
-use Rattle.plir_read.proofs.SlotLaws.{op_given, region_new}
+use Rattle.plir_read.specs.laws.SlotLaws.{op_given, region_new}
 use Rattle.plir_read.proofs.making.make_with.Goals as goal
 
 pub returns-in-Ok-clause-slots : goal.returns-in-Ok-clause-slots

@@ -17,24 +17,24 @@ use Rattle.plir_read.specs.OpsRead.{list_count, body_count}
 use Rattle.plir_read.specs.Room.{one_with_region, op_count, block_count}
 use Rattle.plir_read.specs.Slots.{IsMadeInOrder}
 use Rattle.plir_read.proofs.Gathered as gathered
-use Rattle.plir_read.proofs.Gathered.{IsGrown-itself, KeepsBut-itself}
-use Rattle.plir_read.proofs.OpFound.{op_at-shorter, block_at-shorter, semicolon_at-shorter, brace_at-shorter}
-use Rattle.plir_read.proofs.OpFound.{by_semicolon, semicolon_found, by_brace, brace_found, op_found, block_found}
+use Rattle.plir_read.specs.laws.Kept.{IsGrown-itself, KeepsBut-itself}
+use Rattle.plir_read.specs.laws.OpFound.{op_at-shorter, block_at-shorter, semicolon_at-shorter, brace_at-shorter}
+use Rattle.plir_read.specs.laws.OpFound.{by_semicolon, semicolon_found, by_brace, brace_found, op_found, block_found}
 use Rattle.plir_read.proofs.Beginnings.{Ends-map, room_begins, room_next, room_all, ops_lack_room, block_lacks_room}
 use Rattle.plir_read.proofs.Beginnings.{inside_lacks_room, blocks_lack_room, bodied_lacks_room, body_lacks_room}
 use Rattle.plir_read.proofs.Beginnings.{op_lacks_room}
 use Rattle.plir_read.proofs.RoomLaws.{ops_counted, blocks_counted}
-use Rattle.plir_read.proofs.StartFound.{named_is}
-use Rattle.plir_read.proofs.OpMade.{arguments_live, block_kept, block_made, block_stands, op_kept, op_made, body_kept}
-use Rattle.plir_read.proofs.OpMade.{op_stands, head_live, KeepsOlder-typed, KeepsOlder-on}
+use Rattle.plir_read.specs.laws.StartFound.{named_is}
+use Rattle.plir_read.specs.laws.OpMade.{arguments_live, block_kept, block_made, block_stands, op_kept, op_made, body_kept}
+use Rattle.plir_read.specs.laws.OpMade.{op_stands, head_live, KeepsOlder-typed, KeepsOlder-on}
 use Rattle.plir_attr_text.specs.laws.Ends.{end_itself, end_on, sign_end}
-use Rattle.plir_read.proofs.OpEnds.{block_head_end, header_end, start_end, op_end, block_end, semicolon_end, brace_end}
+use Rattle.plir_read.specs.laws.OpEnds.{block_head_end, header_end, start_end, op_end, block_end, semicolon_end, brace_end}
 use Rattle.plir_read.proofs.OpSteps.{from_start, ReadsOn-as, as_many, Ends-refused, refused_as, bodied_behind}
 use Rattle.plir_read.proofs.OpSteps.{constant_at_id, constant_reads, no_start}
 use Rattle.plir_read.proofs.OpSteps.{no_level, no_head, no_body, bodied_read, no_operations, operations, no_block_head}
 use Rattle.plir_read.proofs.OpSteps.{no_block, block_read, no_brace, no_blocks_inside, blocks}
-use Rattle.plir_read.proofs.TreesInOrder.{none_in_order, root_in_order, op_in_order}
-use Rattle.plir_read.proofs.TypesNamed.{named_itself, named_still, behind_named, inside_named, so_far_on, so_far_next}
+use Rattle.plir_read.specs.laws.TreesInOrder.{none_in_order, root_in_order, op_in_order}
+use Rattle.plir_read.specs.laws.TypesNamed.{named_itself, named_still, behind_named, inside_named, so_far_on, so_far_next}
 use Rattle.plir_read.proofs.Held.{none_come, both_come, come_still, held_is, HoldsNew-from, HoldsNew-made, ops_front}
 use Rattle.plir_read.proofs.Held.{ops_last, blocks_front, blocks_last, held_begins, held_next, held_all}
 use Rattle.plir_read.proofs.ops.+ops.Goals as goal
@@ -566,7 +566,8 @@ read_bodied-returns-in-Ok-clause-read g t c =
               c.in_ok-op.region _ (c.contexts_stand.ensures _ c.in_ok-op.ensures.whole) c.in_ok-header.ensures.rest
               c.in_ok-header.ensures.grown c.in_ok-op.ensures.made c.in_ok-header.header.head
               c.in_ok-header.header.entries h.0.0 y.0.0 h.2.0 refl c.in-Ok.ensures.kept y.2.0.0,
-          come_on c.args.ctx.now.nodes c.make_op.new.ctx.nodes c.read_body.new.ctx.nodes one_with_region (body_count y.0.0)
+          come_on c.args.ctx.now.nodes c.make_op.new.ctx.nodes c.read_body.new.ctx.nodes one_with_region (body_count
+              y.0.0)
               (subst (λ z. HaveCome z c.make_op.new.ctx.nodes one_with_region) c.in_ok-header.ensures.rest
               c.in_ok-op.ensures.come) y.2.0.1,
         ),
@@ -612,7 +613,8 @@ read_bodied-returns-in-Err-clause-read g t c =
     Ends-map _ _ c.in-Err.stop _
     (body_lacks_room c.args.levels c.args.kind c.args.names c.args.ctx.now.nodes c.make_op.new.ctx.nodes
     c.args.bytes.now c.in_ok-header.behind.now h.0.0 (named_is 0 c.args.names _ c.in_ok-expect_names.ensures) head
-    (subst (λ z. HaveCome z c.make_op.new.ctx.nodes one_with_region) c.in_ok-header.ensures.rest c.in_ok-op.ensures.come))
+    (subst (λ z. HaveCome z c.make_op.new.ctx.nodes one_with_region) c.in_ok-header.ensures.rest
+    c.in_ok-op.ensures.come))
     (no_body (op_at c.args.levels) c.args.levels c.args.kind c.args.names _ c.in-Err.stop _ c.args.bytes.now _ h.0.0
     c.in_ok-expect_names.ensures head c.in-Err.ensures.read)
 
@@ -695,7 +697,8 @@ pub read_op_at-returns-in-Constant-clause-read : goal.read_op_at-returns-in-Cons
 read_op_at-returns-in-Constant-clause-read g t c =
     let y = c.in_ok-opening.ensures in
     let start = behind_is _ y.0 c.in_ok-opening.rest.now y.1 y.2.1 in
-    constant_reads c.args.ctx.now c.read_constant.new.ctx (λ x. Operation x.0) (λ x. x.1.now) c.args.levels c.args.bytes.now c.in_ok-opening.rest.now y.0.0.0
+    constant_reads c.args.ctx.now c.read_constant.new.ctx (λ x. Operation x.0) (λ x. x.1.now) c.args.levels
+    c.args.bytes.now c.in_ok-opening.rest.now y.0.0.0
     c.in_ok-opening.opening.names.items y.2.0.names c.read_constant.result y.0.0.1
     (omega (arith, c.in_ok-begin_level.ensures.some)) start (sym y.2.0.kind ∙ c.in-Constant.is)
     c.read_constant.ensures.read

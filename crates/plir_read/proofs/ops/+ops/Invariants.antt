@@ -3,14 +3,14 @@ use Rattle.plir_attr_text.specs.Tokens.{sign}
 use Rattle.plir_read.specs.OpGrammar.{OpWithin, BlockWithin}
 use Rattle.plir_read.specs.Room.{op_count, block_count}
 use Rattle.plir_read.proofs.Beginnings.{RoomSoFar}
-use Rattle.plir_read.proofs.OpFound.{by_semicolon, by_brace}
+use Rattle.plir_read.specs.laws.OpFound.{by_semicolon, by_brace}
 use Rattle.plir_core.specs.declared.ptr.IRNode.TheVariants.{Region, BasicBlock}
 use Rattle.plir_read.specs.OpReading.{op_at, ops_at, block_at, blocks_at, semicolon_at, brace_at}
 use Rattle.plir_read.specs.OpTerms.{ops_of, blocks_of}
 use Rattle.plir_read.specs.HeldTypes.{IsHeldByOp, IsHeldByOps, IsHeldByBlock, IsHeldByBlocks}
 use Rattle.plir_read.proofs.Loops.{OpsGather, BlocksGather}
 use Rattle.plir_read.proofs.Held.{HeldSoFar}
-use Rattle.plir_read.proofs.TypesNamed.{AreNamedSoFar}
+use Rattle.plir_read.specs.laws.TypesNamed.{AreNamedSoFar}
 use Rattle.plir_read.proofs.ops.+ops.Given as goal
 
 abbrev pub decreases-read_op_at : goal.decreases-read_op_at

@@ -5,7 +5,7 @@ use Rattle.plir_read.specs.Room.{BeginsTooMany, op_count}
 use Rattle.plir_attr_text.specs.Wholes.{whole}
 use Rattle.plir_read.specs.OpReading.{op_at}
 use Rattle.plir_read.proofs.OpWhole.{told, no_place, no_room, op_text_found, op_text_refused, whole_first}
-use Rattle.plir_read.proofs.TypesNamed.{behind_named}
+use Rattle.plir_read.specs.laws.TypesNamed.{behind_named}
 use Rattle.plir_attr_text.specs.laws.ListsAgain.{whole_again}
 use Rattle.plir_read.specs.OpGrammar.{OpWithin}
 use Rattle.plir_read.proofs.OpAgain.{op_within_again}

@@ -2,9 +2,9 @@ use Rattle.std.proofs.Common.{refl}
 use Rattle.std.proofs.lemmas.Result.{err_from_is_err_and}
 use Rattle.plir_attr_text.specs.laws.TypeSteps.{behind_is}
 use Rattle.plir_read_own.specs.OwnMeaning.{uses_of}
-use Rattle.plir_read_own.proofs.Parts.{uses_end}
+use Rattle.plir_read_own.specs.laws.Parts.{uses_end}
 use Rattle.plir_read_own.proofs.Steps.{header_fails, header_is}
-use Rattle.plir_read_own.proofs.TypeLists.{as_many, end_kept}
+use Rattle.plir_read_own.specs.laws.TypeLists.{as_many, end_kept}
 use Rattle.plir_read_own.proofs.headers.read_header_at.Goals as goal
 
 pub returns-in-Err-clause-kept : goal.returns-in-Err-clause-kept

@@ -1,7 +1,7 @@
 use Rattle.std.proofs.Common.{[], ap, sym, ◌∙◌}
 use Rattle.plir_attr_text.specs.Wholes.{whole}
 use Rattle.plir_read_own.specs.OwnReading.{header_at}
-use Rattle.plir_read_own.proofs.TypeLists.{end_kept}
+use Rattle.plir_read_own.specs.laws.TypeLists.{end_kept}
 use Rattle.plir_read_own.proofs.Wholes.{told, no_place, header_text_found, header_text_refused}
 use Rattle.plir_read_own.proofs.headers.read_own_header.Goals as goal
 

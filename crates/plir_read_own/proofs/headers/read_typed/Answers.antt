@@ -3,9 +3,9 @@ use Rattle.plir_attr_text.specs.Terms.{entries_of}
 use Rattle.plir_attr_text.specs.laws.Growth.{Adds-on}
 use Rattle.plir_attr_text.specs.laws.Meanings.{IsDictMeant-grown}
 use Rattle.plir_attr_text.specs.laws.TypeSteps.{behind_is}
-use Rattle.plir_read_own.proofs.Parts.{signature_end}
+use Rattle.plir_read_own.specs.laws.Parts.{signature_end}
 use Rattle.plir_read_own.proofs.Steps.{entries_are, typed_is}
-use Rattle.plir_read_own.proofs.TypeLists.{end_kept, entries_kept}
+use Rattle.plir_read_own.specs.laws.TypeLists.{end_kept, entries_kept}
 use Rattle.plir_read_own.proofs.headers.read_typed.Goals as goal
 
 pub same-attributes : goal.same-attributes

@@ -5,7 +5,7 @@ use Rattle.plir_attr_text.specs.AttrReading.{name_at}
 use Rattle.plir_attr_text.specs.laws.Begun.{separator_at-shorter}
 use Rattle.plir_attr_text.specs.laws.Fronts.{ends_at_item, ends_behind, closes, goes_on}
 use Rattle.plir_attr_text.specs.laws.StepLaws.{done}
-use Rattle.plir_read_own.proofs.Chains.{names_start, name_at-shorter}
+use Rattle.plir_read_own.specs.laws.Chains.{names_start, name_at-shorter}
 use Rattle.plir_read_own.proofs.openings.read_names.Goals as goal
 
 pub names-init : goal.names-init

@@ -4,9 +4,9 @@ use Rattle.plir_attr_text.specs.Terms.{types_of}
 use Rattle.plir_attr_text.specs.laws.Ends.{sign_end}
 use Rattle.plir_attr_text.specs.laws.Growth.{Adds-itself, Adds-on, NamesAll-grown}
 use Rattle.plir_attr_text.specs.laws.TypeSteps.{behind_is, function_read}
-use Rattle.plir_read_own.proofs.Parts.{results_end}
+use Rattle.plir_read_own.specs.laws.Parts.{results_end}
 use Rattle.plir_read_own.proofs.Steps.{signature_is}
-use Rattle.plir_read_own.proofs.TypeLists.{end_kept}
+use Rattle.plir_read_own.specs.laws.TypeLists.{end_kept}
 use Rattle.plir_read_own.proofs.signatures.read_signature.Goals as goal
 
 pub returns-clause-read : goal.returns-clause-read

@@ -10,7 +10,7 @@ use Rattle.plir_attr_text.specs.laws.Growth.{Adds-itself, Adds-on, NamesFront-gr
 use Rattle.plir_attr_text.specs.laws.StepLaws.{done}
 use Rattle.plir_attr_text.specs.laws.TypeSteps.{behind_is}
 use Rattle.plir_attr_text.specs.laws.TypesFound.{type_at-shorter}
-use Rattle.plir_read_own.proofs.TypeLists.{type_kept, type_end, separator_end}
+use Rattle.plir_read_own.specs.laws.TypeLists.{type_kept, type_end, separator_end}
 use Rattle.plir_read_own.proofs.signatures.read_types.Goals as goal
 
 pub returns-in_err-start-clause-read : goal.returns-in_err-start-clause-read

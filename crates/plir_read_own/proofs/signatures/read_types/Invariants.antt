@@ -1,5 +1,5 @@
 use Rattle.std.proofs.Common.{length}
-use Rattle.plir_read_own.proofs.TypeLists.{Holds}
+use Rattle.plir_read_own.specs.laws.TypeLists.{Holds}
 use Rattle.plir_read_own.proofs.signatures.read_types.Given as goal
 
 abbrev pub invariant-types : goal.invariant-types

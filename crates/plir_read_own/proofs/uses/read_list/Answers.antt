@@ -6,7 +6,7 @@ use Rattle.plir_attr_text.specs.laws.Fronts.{no_open, nothing_inside, starts, en
 use Rattle.plir_attr_text.specs.laws.Fronts.{goes_on}
 use Rattle.plir_attr_text.specs.laws.Begun.{separator_at-shorter}
 use Rattle.plir_read_own.specs.OwnReading.{closing_of, list_at, listed_at, opening_of}
-use Rattle.plir_read_own.proofs.Lists.{listed_at-shorter}
+use Rattle.plir_read_own.specs.laws.Lists.{listed_at-shorter}
 use Rattle.plir_read_own.proofs.uses.read_list.Goals as goal
 
 pub returns-in_err-start : goal.returns-in_err-start

@@ -1,0 +1,2 @@
+-- Lemmas that several functions need.
+pub mod Choosing

@@ -1,6 +1,0 @@
-use Rattle.plir_driver.specs.Offers.{CanBeOfferedTo}
-use Rattle.plir_driver.proofs.offer.check_offer.Given as goal
-
--- those so far can be offered
-abbrev pub invariant-loop-place : goal.invariant-loop-place
-invariant-loop-place g l = CanBeOfferedTo g.P.Pass.pass_name l.place l.passes

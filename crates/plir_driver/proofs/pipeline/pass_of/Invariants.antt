@@ -1,7 +1,0 @@
-use Rattle.std.proofs.Common.{◌≡◌, None, take}
-use Rattle.plir_driver.specs.Pipelines.{bearer}
-use Rattle.plir_driver.proofs.pipeline.pass_of.Given as goal
-
--- none of the passes so far bears the name
-abbrev pub invariant-loop-pass : goal.invariant-loop-pass
-invariant-loop-pass g l = bearer g.P.Pass.pass_name (take l.pass-index l.offered) l.name ≡ None

@@ -1,0 +1,12 @@
+pub mod Words
+pub mod Parts
+pub mod Begun
+pub mod Arguments
+pub mod Lefts
+pub mod Refusals
+pub mod Regions
+pub mod Children
+pub mod RegionSteps
+pub mod Noted
+pub mod Steps
+pub mod Shapes

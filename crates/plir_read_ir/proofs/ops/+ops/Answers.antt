@@ -1,0 +1,430 @@
+use Rattle.std.proofs.Common.{None, Some, refl, sym, ap, subst, arith}
+use Rattle.plir_core.specs.declared.ptr.IRNode.TheVariants.{Operation, Region, BasicBlock}
+use Rattle.plir_attr_text.specs.laws.Ends.{end_itself, sign_end}
+use Rattle.plir_attr_text.specs.laws.TypeSteps.{behind_is}
+use Rattle.plir_read.specs.laws.OpEnds.{brace_end, header_end, semicolon_end}
+use Rattle.plir_read.specs.laws.OpFound.{brace_at-shorter, semicolon_at-shorter}
+use Rattle.plir_read.specs.laws.OpMade.{head_live}
+use Rattle.plir_attr_text.specs.laws.Meanings.{IsDictMeant-live}
+use Rattle.plir_read_ir.proofs.Children.{child_comes, gathers_none, live_still, reads_on, stands_apart}
+use Rattle.plir_read_ir.proofs.Lefts.{opening_left}
+use Rattle.plir_read_ir.proofs.Noted.{block_still, holds_itself, holds_kept, holds_placed, notes_grown}
+use Rattle.plir_read_ir.proofs.Noted.{notes_itself, notes_next}
+use Rattle.plir_read_ir.proofs.RegionSteps.{region_comes, region_reading}
+use Rattle.plir_read_ir.specs.Progress.{IsReading}
+use Rattle.plir_read_ir.proofs.Regions.{region_given}
+use Rattle.plir_read_ir.proofs.Steps.{behind_length, braces_end, braces_shorter, left_behind, op_read, op_reading, read_behind}
+use Rattle.plir_read_ir.proofs.Steps.{reading_behind, reading_inside, reading_itself, reading_kept, reading_made}
+use Rattle.plir_read_ir.proofs.Steps.{reading_typed, root_read, sign_shorter}
+use Rattle.plir_read_ir.proofs.ops.+ops.Goals as goal
+
+-- ---- a block
+
+pub read_block-returns-in-Ok-read_ops-clause-read : goal.read_block-returns-in-Ok-read_ops-clause-read
+read_block-returns-in-Ok-read_ops-clause-read g t c =
+    let f = c.in-Ok.ensures in
+    root_read _ _ _ _ c.args.ctx.now c.read_block_front.new.ctx c.read_ops.new.ctx (BasicBlock c.in-Ok.read.0) refl
+    c.growth.ensures f.whole.stored (c.contexts_stand.ensures _ c.in-Ok-read_ops.ensures.whole) f.read.made
+    f.read.slots f.read.behind c.in-Ok-read_ops.ensures.grown
+
+pub read_block-returns-in-Ok-read_ops-clause-shorter : goal.read_block-returns-in-Ok-read_ops-clause-shorter
+read_block-returns-in-Ok-read_ops-clause-shorter g t c =
+    omega (
+      arith,
+      c.in-Ok.ensures.shorter,
+      behind_length c.in-Ok.read.1.now c.in-Ok-read_ops.end.now c.in-Ok-read_ops.ensures.grown.behind,
+    )
+
+pub read_block-returns-in-Ok-read_ops-clause-kept : goal.read_block-returns-in-Ok-read_ops-clause-kept
+read_block-returns-in-Ok-read_ops-clause-kept g t c =
+    let f = c.in-Ok.ensures in
+    reading_inside _ _ c.args.ctx.now c.read_block_front.new.ctx c.read_ops.new.ctx (BasicBlock c.in-Ok.read.0)
+    f.read.made.new f.read.behind f.kept c.in-Ok-read_ops.ensures.kept
+
+pub read_block-returns-in-Err-read_ops-clause-kept : goal.read_block-returns-in-Err-read_ops-clause-kept
+read_block-returns-in-Err-read_ops-clause-kept g t c =
+    let f = c.in-Ok.ensures in
+    reading_inside _ _ c.args.ctx.now c.read_block_front.new.ctx c.read_ops.new.ctx (BasicBlock c.in-Ok.read.0)
+    f.read.made.new f.read.behind f.kept c.in-Err-read_ops.ensures.kept
+
+pub read_block-returns-in-Ok-read_ops-clause-noted : goal.read_block-returns-in-Ok-read_ops-clause-noted
+read_block-returns-in-Ok-read_ops-clause-noted g t c =
+    let f = c.in-Ok.ensures in
+    notes_next _ c.read_block_front.new.ctx c.read_ops.new.ctx c.read_ops.new.ctx _ _ _ f.read.made.keeps f.noted
+    c.in-Ok-read_ops.ensures.noted (holds_itself _)
+
+-- ---- the blocks of a region
+
+pub read_body-returns-in_err-start-clause-kept : goal.read_body-returns-in_err-start-clause-kept
+read_body-returns-in_err-start-clause-kept g t c = reading_itself _ _ _
+
+pub read_body-returns-in-Some-clause-grown : goal.read_body-returns-in-Some-clause-grown
+read_body-returns-in-Some-clause-grown g t c =
+    (gathers_none _ c.args.bytes.now c.in-Some.rest.now c.args.ctx.now (Region c.args.region) c.requires.live
+    c.requires.empty c.stands.ensures.whole
+    (braces_end c.args.bytes.now _ _ c.in_ok-start.ensures (sym c.in-Some.ensures))).has
+
+pub read_body-returns-in-Some-clause-shorter : goal.read_body-returns-in-Some-clause-shorter
+read_body-returns-in-Some-clause-shorter g t c =
+    braces_shorter c.args.bytes.now _ _ c.in_ok-start.ensures (sym c.in-Some.ensures)
+
+pub read_body-returns-in-Some-clause-kept : goal.read_body-returns-in-Some-clause-kept
+read_body-returns-in-Some-clause-kept g t c = reading_itself _ _ _
+
+pub read_body-returns-in-Some-clause-noted : goal.read_body-returns-in-Some-clause-noted
+read_body-returns-in-Some-clause-noted g t c = notes_itself _ _
+
+pub read_body-inner-init : goal.read_body-inner-init
+read_body-inner-init g t c =
+    record {
+      gathers = gathers_none _ c.args.bytes.now c.in_ok-start.start.now c.args.ctx.now (Region c.args.region)
+          c.requires.live c.requires.empty c.stands.ensures.whole (sign_end 123 _ _ c.in_ok-start.ensures);
+      noted = notes_itself _ _;
+      shorter = sign_shorter 123 c.args.bytes.now c.in_ok-start.start.now c.in_ok-start.ensures;
+    }
+
+pub read_body-insert_at_back-requires-clause-target_live : goal.read_body-insert_at_back-requires-clause-target_live
+read_body-insert_at_back-requires-clause-target_live g t c =
+    c.in-Ok.ensures.read.made.keeps.live (Region c.args.region) (live_still _ _ _ _ _ _ c.inner.invariant.gathers)
+
+pub read_body-insert_at_back-requires-clause-not_above : goal.read_body-insert_at_back-requires-clause-not_above
+read_body-insert_at_back-requires-clause-not_above g t c =
+    stands_apart _ _ _ _ _ _ c.inner.invariant.gathers c.read_block.new.ctx (BasicBlock c.in-Ok.read.0)
+    c.in-Ok.ensures.read.made
+
+pub read_body-returns-in-Err-clause-kept : goal.read_body-returns-in-Err-clause-kept
+read_body-returns-in-Err-clause-kept g t c =
+    reads_on _ _ _ _ _ _ c.inner.invariant.gathers c.read_block.new.ctx c.in-Err.ensures.kept
+
+pub read_body-inner-smaller : goal.read_body-inner-smaller
+read_body-inner-smaller g t c =
+    omega (
+      arith,
+      c.in-Ok.ensures.shorter,
+      brace_at-shorter c.in-Ok.read.1.now _ c.past_brace-goes_on.ensures,
+    )
+
+pub read_body-inner-preserved : goal.read_body-inner-preserved
+read_body-inner-preserved g t c =
+    let i = c.inner.invariant in
+    let p = c.insert_at_back.ensures in
+    record {
+      gathers = child_comes _ _ _ _ _ _ i.gathers c.contexts_stand.ensures c.read_block.new.ctx
+          c.insert_at_back.new.ctx (BasicBlock c.in-Ok.read.0) _ _ c.growth.ensures c.growth-in-inner.ensures
+          c.in-Ok.ensures.read c.in-Ok.ensures.kept c.in-Ok.ensures.whole p.whole p.placed (ap (λ z. z.types) p.after)
+          (brace_end _ _ _ c.past_brace-goes_on.ensures);
+      noted = notes_next _ _ c.read_block.new.ctx _ _ _ _ i.gathers.has.grown.keeps i.noted c.in-Ok.ensures.noted
+          (holds_placed _ _ _ _ _ p.placed);
+      shorter = omega (arith, i.shorter, read_body-inner-smaller g t c);
+    }
+
+pub read_body-returns-else-goes_on : goal.read_body-returns-else-goes_on
+read_body-returns-else-goes_on g t c =
+    let i = c.inner.invariant in
+    let p = c.insert_at_back.ensures in
+    let all = child_comes _ _ _ _ _ _ i.gathers c.contexts_stand.ensures c.read_block.new.ctx
+    c.insert_at_back.new.ctx (BasicBlock c.in-Ok.read.0) _ _ c.growth.ensures c.growth-in-inner.ensures
+    c.in-Ok.ensures.read c.in-Ok.ensures.kept c.in-Ok.ensures.whole p.whole p.placed (ap (λ z. z.types) p.after)
+    (brace_end _ _ _ c.past_brace-goes_on.ensures) in
+    record {
+      grown = all.has;
+      shorter = omega (
+        arith,
+        i.shorter,
+        c.in-Ok.ensures.shorter,
+        brace_at-shorter c.in-Ok.read.1.now _ c.past_brace-goes_on.ensures,
+      );
+      kept = all.reading;
+      noted = notes_next _ _ c.read_block.new.ctx _ _ _ _ i.gathers.has.grown.keeps i.noted c.in-Ok.ensures.noted
+          (holds_placed _ _ _ _ _ p.placed);
+      told = tt;
+      whole = p.whole;
+    }
+
+-- ---- the operations of a block
+
+pub read_ops-returns-then-ends_block-clause-grown : goal.read_ops-returns-then-ends_block-clause-grown
+read_ops-returns-then-ends_block-clause-grown g t c =
+    (gathers_none _ c.args.bytes.now c.args.bytes.now c.args.ctx.now (BasicBlock c.args.block) c.requires.live
+    c.requires.empty c.stands.ensures.whole (end_itself _)).has
+
+pub read_ops-returns-then-ends_block-clause-kept : goal.read_ops-returns-then-ends_block-clause-kept
+read_ops-returns-then-ends_block-clause-kept g t c = reading_itself _ _ _
+
+pub read_ops-returns-then-ends_block-clause-noted : goal.read_ops-returns-then-ends_block-clause-noted
+read_ops-returns-then-ends_block-clause-noted g t c = notes_itself _ _
+
+pub read_ops-ops-init : goal.read_ops-ops-init
+read_ops-ops-init g t c =
+    record {
+      gathers = gathers_none _ c.args.bytes.now c.args.bytes.now c.args.ctx.now (BasicBlock c.args.block)
+          c.requires.live c.requires.empty c.stands.ensures.whole (end_itself _);
+      noted = notes_itself _ _;
+      at_live = c.requires.at_live;
+    }
+
+pub read_ops-insert_at_back-requires-clause-target_live : goal.read_ops-insert_at_back-requires-clause-target_live
+read_ops-insert_at_back-requires-clause-target_live g t c =
+    c.in-Ok.ensures.read.made.keeps.live (BasicBlock c.args.block) (live_still _ _ _ _ _ _ c.ops.invariant.gathers)
+
+pub read_ops-insert_at_back-requires-clause-not_above : goal.read_ops-insert_at_back-requires-clause-not_above
+read_ops-insert_at_back-requires-clause-not_above g t c =
+    stands_apart _ _ _ _ _ _ c.ops.invariant.gathers c.read_ir_op.new.ctx (Operation c.in-Ok.read.0)
+    c.in-Ok.ensures.read.made
+
+pub read_ops-returns-in-Err-clause-kept : goal.read_ops-returns-in-Err-clause-kept
+read_ops-returns-in-Err-clause-kept g t c =
+    reads_on _ _ _ _ _ _ c.ops.invariant.gathers c.read_ir_op.new.ctx c.in-Err.ensures.kept
+
+pub read_ops-ops-smaller : goal.read_ops-ops-smaller
+read_ops-ops-smaller g t c =
+    omega (
+      arith,
+      c.in-Ok.ensures.shorter,
+      semicolon_at-shorter c.in-Ok.read.1.now _ c.past_semicolon-goes_on.ensures,
+    )
+
+pub read_ops-ops-preserved : goal.read_ops-ops-preserved
+read_ops-ops-preserved g t c =
+    let i = c.ops.invariant in
+    let p = c.insert_at_back.ensures in
+    let all = child_comes _ _ _ _ _ _ i.gathers c.contexts_stand.ensures c.read_ir_op.new.ctx
+    c.insert_at_back.new.ctx (Operation c.in-Ok.read.0) _ _ c.growth.ensures c.growth-in-ops.ensures
+    c.in-Ok.ensures.read c.in-Ok.ensures.kept c.in-Ok.ensures.whole p.whole p.placed (ap (λ z. z.types) p.after)
+    (semicolon_end _ _ _ c.past_semicolon-goes_on.ensures) in
+    record {
+      gathers = all;
+      noted = notes_next _ _ c.read_ir_op.new.ctx _ _ _ _ i.gathers.has.grown.keeps i.noted c.in-Ok.ensures.noted
+          (holds_placed _ _ _ _ _ p.placed);
+      at_live = block_still c.args.ctx.now c.insert_at_back.new.ctx
+          (holds_kept c.args.ctx.now c.insert_at_back.new.ctx all.has.grown.keeps) c.args.at.block c.requires.at_live;
+    }
+
+pub read_ops-returns-else-goes_on : goal.read_ops-returns-else-goes_on
+read_ops-returns-else-goes_on g t c =
+    let i = c.ops.invariant in
+    let p = c.insert_at_back.ensures in
+    let all = child_comes _ _ _ _ _ _ i.gathers c.contexts_stand.ensures c.read_ir_op.new.ctx
+    c.insert_at_back.new.ctx (Operation c.in-Ok.read.0) _ _ c.growth.ensures c.growth-in-ops.ensures
+    c.in-Ok.ensures.read c.in-Ok.ensures.kept c.in-Ok.ensures.whole p.whole p.placed (ap (λ z. z.types) p.after)
+    (semicolon_end _ _ _ c.past_semicolon-goes_on.ensures) in
+    record {
+      grown = all.has;
+      kept = all.reading;
+      noted = notes_next _ _ c.read_ir_op.new.ctx _ _ _ _ i.gathers.has.grown.keeps i.noted c.in-Ok.ensures.noted
+          (holds_placed _ _ _ _ _ p.placed);
+      told = tt;
+      whole = p.whole;
+    }
+
+-- ---- the regions of an operation
+
+pub read_regions-regions-init : goal.read_regions-regions-init
+read_regions-regions-init g t c =
+    record {
+      gathers = gathers_none _ c.args.bytes.now c.args.bytes.now c.args.ctx.now (Operation c.args.op) c.requires.live
+          c.requires.empty c.stands.ensures.whole (end_itself _);
+      noted = notes_itself _ _;
+    }
+
+pub read_regions-add_region-requires : goal.read_regions-add_region-requires
+read_regions-add_region-requires g t c = live_still _ _ _ _ _ _ c.regions.invariant.gathers
+
+pub read_regions-returns-in-Err-clause-kept : goal.read_regions-returns-in-Err-clause-kept
+read_regions-returns-in-Err-clause-kept g t c =
+    subst (λ z. IsReading c.args.bytes.now (Some (Operation c.args.op)) c.args.ctx.now z) (sym c.in-Err.ensures.err)
+    c.regions.invariant.gathers.reading
+
+pub read_regions-returns-in-Err-read_body-clause-kept : goal.read_regions-returns-in-Err-read_body-clause-kept
+read_regions-returns-in-Err-read_body-clause-kept g t c =
+    region_reading _ _ _ _ c.regions.ctx c.add_region.new.ctx c.read_body.new.ctx (Operation c.args.op)
+    (Region c.in-Ok.region) c.regions.invariant.gathers c.in-Ok.ensures.added (ap (λ z. z.types) c.in-Ok.ensures.ok)
+    c.in-Err-read_body.ensures.kept
+
+pub read_regions-regions-preserved : goal.read_regions-regions-preserved
+read_regions-regions-preserved g t c =
+    let i = c.regions.invariant in
+    let s = c.regions.ctx in
+    let a = c.in-Ok.ensures in
+    let b = c.in-Ok-read_body.ensures in
+    record {
+      gathers = region_comes _ _ _ _ s c.add_region.new.ctx c.read_body.new.ctx (Operation c.args.op)
+          (Region c.in-Ok.region) i.gathers a.added (ap (λ z. z.types) a.ok) b.kept c.contexts_stand.ensures
+          c.in-Ok-read_body.behind.now c.growth.ensures b.whole
+          (region_given s c.add_region.new.ctx i.gathers.whole.stored c.args.op c.in-Ok.region a.ok a.added.added.new
+          a.live) b.grown;
+      noted = notes_next _ s c.read_body.new.ctx c.read_body.new.ctx _ _ _ i.gathers.has.grown.keeps i.noted
+          (notes_grown s c.add_region.new.ctx c.read_body.new.ctx _ _ a.added.added.keeps b.noted) (holds_itself _);
+    }
+
+-- ---- a module or a function
+
+pub read_bodied-make_op-requires-clause-head_live : goal.read_bodied-make_op-requires-clause-head_live
+read_bodied-make_op-requires-clause-head_live g t c =
+    let y = c.in_ok-header.ensures.read in
+    head_live _ _ y.0.0.0 y.2.0.head_is
+
+pub read_bodied-make_op-requires-clause-entries_live : goal.read_bodied-make_op-requires-clause-entries_live
+read_bodied-make_op-requires-clause-entries_live g t c =
+    let y = c.in_ok-header.ensures.read in
+    IsDictMeant-live _ _ y.0.0.1 _ y.2.0.dictionary
+
+pub read_bodied-returns-in_err-expect_names-clause-kept : goal.read_bodied-returns-in_err-expect_names-clause-kept
+read_bodied-returns-in_err-expect_names-clause-kept g t c = reading_itself _ _ _
+
+pub read_bodied-returns-in_err-header-clause-kept : goal.read_bodied-returns-in_err-header-clause-kept
+read_bodied-returns-in_err-header-clause-kept g t c =
+    let k = c.in_err-header.ensures in
+    reading_typed _ _ _ k.rest k.grown k.named
+
+pub read_bodied-returns-in_err-op-clause-kept : goal.read_bodied-returns-in_err-op-clause-kept
+read_bodied-returns-in_err-op-clause-kept g t c =
+    let k = c.in_ok-header.ensures in
+    reading_kept _ _ c.read_header-read.new.ctx _ (reading_typed _ _ _ k.rest k.grown k.named)
+    c.in_err-op.ensures.kept c.in_err-op.ensures.types
+
+pub read_bodied-returns-in-Ok-clause-read : goal.read_bodied-returns-in-Ok-clause-read
+read_bodied-returns-in-Ok-clause-read g t c =
+    let h = c.in_ok-header.ensures.read in
+    let k = c.in_ok-header.ensures in
+    let o = c.in_ok-op.ensures in
+    op_read _ _ _ c.args.ctx.now c.read_header-read.new.ctx c.make_op.new.ctx c.read_body.new.ctx c.in_ok-op.op
+    c.in_ok-op.region _ k.rest k.grown c.growth.ensures o.whole.stored (c.contexts_stand.ensures _ o.whole)
+    (c.contexts_stand.ensures _ c.in-Ok.ensures.whole) o.made o.slots
+    (header_end c.args.levels c.args.kind _ h.0.0 _ (behind_is _ h.0 c.in_ok-header.behind.now h.1 h.2.1))
+    c.in-Ok.ensures.kept.kept c.in-Ok.ensures.grown
+
+pub read_bodied-returns-in-Ok-clause-kept : goal.read_bodied-returns-in-Ok-clause-kept
+read_bodied-returns-in-Ok-clause-kept g t c =
+    let h = c.in_ok-header.ensures.read in
+    let k = c.in_ok-header.ensures in
+    let o = c.in_ok-op.ensures in
+    op_reading _ _ c.args.ctx.now c.read_header-read.new.ctx c.make_op.new.ctx c.read_body.new.ctx c.in_ok-op.op
+    c.in_ok-op.region _ k.rest k.grown k.named (c.contexts_stand.ensures _ o.whole) o.made
+    (header_end c.args.levels c.args.kind _ h.0.0 _ (behind_is _ h.0 c.in_ok-header.behind.now h.1 h.2.1))
+    c.in-Ok.ensures.kept
+
+pub read_bodied-returns-in-Err-clause-kept : goal.read_bodied-returns-in-Err-clause-kept
+read_bodied-returns-in-Err-clause-kept g t c =
+    let h = c.in_ok-header.ensures.read in
+    let k = c.in_ok-header.ensures in
+    let o = c.in_ok-op.ensures in
+    op_reading _ _ c.args.ctx.now c.read_header-read.new.ctx c.make_op.new.ctx c.read_body.new.ctx c.in_ok-op.op
+    c.in_ok-op.region _ k.rest k.grown k.named (c.contexts_stand.ensures _ o.whole) o.made
+    (header_end c.args.levels c.args.kind _ h.0.0 _ (behind_is _ h.0 c.in_ok-header.behind.now h.1 h.2.1))
+    c.in-Err.ensures.kept
+
+pub read_bodied-returns-in-Ok-clause-noted : goal.read_bodied-returns-in-Ok-clause-noted
+read_bodied-returns-in-Ok-clause-noted g t c =
+    let k = c.in_ok-header.ensures in
+    let o = c.in_ok-op.ensures in
+    let r = reading_made c.args.bytes.now c.args.ctx.now c.read_header-read.new.ctx c.make_op.new.ctx
+    (Operation c.in_ok-op.op) (reading_typed _ _ _ k.rest k.grown k.named) o.made.made o.made.types in
+    notes_grown c.args.ctx.now c.make_op.new.ctx c.read_body.new.ctx _ _ r.kept.keeps c.in-Ok.ensures.noted
+
+-- ---- an own operation
+
+pub read_own-returns-in-Ok-read_regions-clause-read : goal.read_own-returns-in-Ok-read_regions-clause-read
+read_own-returns-in-Ok-read_regions-clause-read g t c =
+    let f = c.in-Ok.ensures in
+    root_read _ _ _ _ c.args.ctx.now c.read_own_front.new.ctx c.read_regions.new.ctx (Operation c.in-Ok.read.0) refl
+    c.growth.ensures f.whole.stored (c.contexts_stand.ensures _ c.in-Ok-read_regions.ensures.whole) f.read.made
+    f.read.slots f.read.behind c.in-Ok-read_regions.ensures.grown
+
+pub read_own-returns-in-Ok-read_regions-clause-kept : goal.read_own-returns-in-Ok-read_regions-clause-kept
+read_own-returns-in-Ok-read_regions-clause-kept g t c =
+    let f = c.in-Ok.ensures in
+    reading_inside _ _ c.args.ctx.now c.read_own_front.new.ctx c.read_regions.new.ctx (Operation c.in-Ok.read.0)
+    f.read.made.new f.read.behind f.kept c.in-Ok-read_regions.ensures.kept
+
+pub read_own-returns-in-Err-read_regions-clause-kept : goal.read_own-returns-in-Err-read_regions-clause-kept
+read_own-returns-in-Err-read_regions-clause-kept g t c =
+    let f = c.in-Ok.ensures in
+    reading_inside _ _ c.args.ctx.now c.read_own_front.new.ctx c.read_regions.new.ctx (Operation c.in-Ok.read.0)
+    f.read.made.new f.read.behind f.kept c.in-Err-read_regions.ensures.kept
+
+pub read_own-returns-in-Ok-read_regions-clause-noted : goal.read_own-returns-in-Ok-read_regions-clause-noted
+read_own-returns-in-Ok-read_regions-clause-noted g t c =
+    let f = c.in-Ok.ensures in
+    notes_next _ c.read_own_front.new.ctx c.read_regions.new.ctx c.read_regions.new.ctx _ _ _ f.read.made.keeps f.noted
+    c.in-Ok-read_regions.ensures.noted (holds_itself _)
+
+-- ---- an operation
+
+pub read_ir_op-returns-in_err-begin_level-clause-kept : goal.read_ir_op-returns-in_err-begin_level-clause-kept
+read_ir_op-returns-in_err-begin_level-clause-kept g t c = reading_itself _ _ _
+
+pub read_ir_op-returns-in_err-opening-clause-kept : goal.read_ir_op-returns-in_err-opening-clause-kept
+read_ir_op-returns-in_err-opening-clause-kept g t c = reading_itself _ _ _
+
+pub read_ir_op-returns-in-Builtin-Bodied-clause-read : goal.read_ir_op-returns-in-Builtin-Bodied-clause-read
+read_ir_op-returns-in-Builtin-Bodied-clause-read g t c =
+    let y = c.in_ok-opening.ensures in
+    let l = opening_left g.D.ReadSet.find_kind c.args.bytes.now (y.0.0, c.in_ok-opening.rest.now)
+    (behind_is _ y.0 c.in_ok-opening.rest.now y.1 y.2.1) in
+    read_behind c.args.bytes.now c.in_ok-opening.rest.now c.args.ctx.now c.read_bodied.new.ctx c.read_bodied.result l
+    c.read_bodied.ensures.read
+
+pub read_ir_op-returns-in-Builtin-Bodied-clause-shorter : goal.read_ir_op-returns-in-Builtin-Bodied-clause-shorter
+read_ir_op-returns-in-Builtin-Bodied-clause-shorter g t c =
+    let y = c.in_ok-opening.ensures in
+    let l = opening_left g.D.ReadSet.find_kind c.args.bytes.now (y.0.0, c.in_ok-opening.rest.now)
+    (behind_is _ y.0 c.in_ok-opening.rest.now y.1 y.2.1) in
+    left_behind c.args.bytes.now c.in_ok-opening.rest.now c.args.ctx.now c.read_bodied.new.ctx c.read_bodied.result l
+    c.read_bodied.ensures.read
+
+pub read_ir_op-returns-in-Builtin-Bodied-clause-kept : goal.read_ir_op-returns-in-Builtin-Bodied-clause-kept
+read_ir_op-returns-in-Builtin-Bodied-clause-kept g t c =
+    let y = c.in_ok-opening.ensures in
+    let l = opening_left g.D.ReadSet.find_kind c.args.bytes.now (y.0.0, c.in_ok-opening.rest.now)
+    (behind_is _ y.0 c.in_ok-opening.rest.now y.1 y.2.1) in
+    reading_behind _ _ None c.args.ctx.now c.read_bodied.new.ctx l.behind c.read_bodied.ensures.kept
+
+pub read_ir_op-returns-in-Builtin-Constant-clause-read : goal.read_ir_op-returns-in-Builtin-Constant-clause-read
+read_ir_op-returns-in-Builtin-Constant-clause-read g t c =
+    let y = c.in_ok-opening.ensures in
+    let l = opening_left g.D.ReadSet.find_kind c.args.bytes.now (y.0.0, c.in_ok-opening.rest.now)
+    (behind_is _ y.0 c.in_ok-opening.rest.now y.1 y.2.1) in
+    read_behind c.args.bytes.now c.in_ok-opening.rest.now c.args.ctx.now c.read_named_constant.new.ctx
+    c.read_named_constant.result l c.read_named_constant.ensures.read
+
+pub read_ir_op-returns-in-Builtin-Constant-clause-shorter : goal.read_ir_op-returns-in-Builtin-Constant-clause-shorter
+read_ir_op-returns-in-Builtin-Constant-clause-shorter g t c =
+    let y = c.in_ok-opening.ensures in
+    let l = opening_left g.D.ReadSet.find_kind c.args.bytes.now (y.0.0, c.in_ok-opening.rest.now)
+    (behind_is _ y.0 c.in_ok-opening.rest.now y.1 y.2.1) in
+    left_behind c.args.bytes.now c.in_ok-opening.rest.now c.args.ctx.now c.read_named_constant.new.ctx
+    c.read_named_constant.result l c.read_named_constant.ensures.read
+
+pub read_ir_op-returns-in-Builtin-Constant-clause-kept : goal.read_ir_op-returns-in-Builtin-Constant-clause-kept
+read_ir_op-returns-in-Builtin-Constant-clause-kept g t c =
+    let y = c.in_ok-opening.ensures in
+    let l = opening_left g.D.ReadSet.find_kind c.args.bytes.now (y.0.0, c.in_ok-opening.rest.now)
+    (behind_is _ y.0 c.in_ok-opening.rest.now y.1 y.2.1) in
+    reading_behind _ _ None c.args.ctx.now c.read_named_constant.new.ctx l.behind c.read_named_constant.ensures.kept
+
+pub read_ir_op-returns-clause-read : goal.read_ir_op-returns-clause-read
+read_ir_op-returns-clause-read g t c =
+    let y = c.in_ok-opening.ensures in
+    let l = opening_left g.D.ReadSet.find_kind c.args.bytes.now (y.0.0, c.in_ok-opening.rest.now)
+    (behind_is _ y.0 c.in_ok-opening.rest.now y.1 y.2.1) in
+    read_behind c.args.bytes.now c.in_ok-opening.rest.now c.args.ctx.now c.read_own.new.ctx c.read_own.result l
+    c.read_own.ensures.read
+
+pub read_ir_op-returns-clause-shorter : goal.read_ir_op-returns-clause-shorter
+read_ir_op-returns-clause-shorter g t c =
+    let y = c.in_ok-opening.ensures in
+    let l = opening_left g.D.ReadSet.find_kind c.args.bytes.now (y.0.0, c.in_ok-opening.rest.now)
+    (behind_is _ y.0 c.in_ok-opening.rest.now y.1 y.2.1) in
+    left_behind c.args.bytes.now c.in_ok-opening.rest.now c.args.ctx.now c.read_own.new.ctx c.read_own.result l
+    c.read_own.ensures.read
+
+pub read_ir_op-returns-clause-kept : goal.read_ir_op-returns-clause-kept
+read_ir_op-returns-clause-kept g t c =
+    let y = c.in_ok-opening.ensures in
+    let l = opening_left g.D.ReadSet.find_kind c.args.bytes.now (y.0.0, c.in_ok-opening.rest.now)
+    (behind_is _ y.0 c.in_ok-opening.rest.now y.1 y.2.1) in
+    reading_behind _ _ None c.args.ctx.now c.read_own.new.ctx l.behind c.read_own.ensures.kept
+
+pub read_ir_op-returns-in-Builtin-ForwardRef-clause-kept : goal.read_ir_op-returns-in-Builtin-ForwardRef-clause-kept
+read_ir_op-returns-in-Builtin-ForwardRef-clause-kept g t c = reading_itself _ _ _

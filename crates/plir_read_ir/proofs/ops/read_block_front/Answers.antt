@@ -1,0 +1,82 @@
+use Rattle.std.proofs.Common.{◌∙◌, [], ◌∷◌, length, sym, ap, subst}
+use Rattle.plir_core.specs.ContextView.{arguments_in}
+use Rattle.plir_core.specs.Made.{IsMade}
+use Rattle.plir_core.specs.declared.ptr.IRNode.TheVariants.{BasicBlock}
+use Rattle.plir_attr_text.specs.laws.TypeSteps.{behind_is}
+use Rattle.plir_read.specs.Slots.{AreGivenOut}
+use Rattle.plir_read.specs.laws.OpEnds.{block_head_end}
+use Rattle.plir_read.specs.laws.OpMade.{arguments_live}
+use Rattle.plir_read_ir.proofs.Lefts.{head_counts, head_shorter}
+use Rattle.plir_read_ir.proofs.Noted.{notes_block}
+use Rattle.plir_read_ir.proofs.Steps.{reading_kept, reading_made, reading_typed}
+use Rattle.plir_read_ir.proofs.ops.read_block_front.Goals as goal
+
+pub make_block-requires : goal.make_block-requires
+make_block-requires g c =
+    let y = c.in_ok-front.ensures.read in
+    arguments_live _ _ y.0.0 y.2.0.head
+
+pub bear_arguments-requires-clause-as_many : goal.bear_arguments-requires-clause-as_many
+bear_arguments-requires-clause-as_many g c =
+    let y = c.in_ok-front.ensures.read in
+    ap length c.as_slice.ensures.value ∙ head_counts _ c.in_ok-front.front y.0.0 y.2.0 ∙
+    ap (λ o. length (arguments_in o)) (sym c.in_ok-block.ensures.made.held)
+
+pub returns-in_err-front-clause-kept : goal.returns-in_err-front-clause-kept
+returns-in_err-front-clause-kept g c =
+    let k = c.in_err-front.ensures.kept in
+    reading_typed _ _ _ k.rest k.grown k.named
+
+pub returns-in_err-block-clause-kept : goal.returns-in_err-block-clause-kept
+returns-in_err-block-clause-kept g c =
+    let k = c.in_ok-front.ensures.kept in
+    reading_kept _ _ c.read_spelled_head-read.new.ctx _ (reading_typed _ _ _ k.rest k.grown k.named)
+    c.in_err-block.ensures.kept c.in_err-block.ensures.types
+
+pub returns-in_err-bear_label-clause-kept : goal.returns-in_err-bear_label-clause-kept
+returns-in_err-bear_label-clause-kept g c =
+    let k = c.in_ok-front.ensures.kept in
+    let m = c.in_ok-block.ensures.made in
+    reading_made _ _ c.read_spelled_head-read.new.ctx _ _ (reading_typed _ _ _ k.rest k.grown k.named) m.made m.types
+
+pub returns-in_err-bear_arguments-clause-kept : goal.returns-in_err-bear_arguments-clause-kept
+returns-in_err-bear_arguments-clause-kept g c =
+    let k = c.in_ok-front.ensures.kept in
+    let m = c.in_ok-block.ensures.made in
+    reading_made _ _ c.read_spelled_head-read.new.ctx _ _ (reading_typed _ _ _ k.rest k.grown k.named) m.made m.types
+
+pub returns-clause-kept : goal.returns-clause-kept
+returns-clause-kept g c =
+    let k = c.in_ok-front.ensures.kept in
+    let m = c.in_ok-block.ensures.made in
+    reading_made _ _ c.read_spelled_head-read.new.ctx _ _ (reading_typed _ _ _ k.rest k.grown k.named) m.made m.types
+
+pub returns-clause-read : goal.returns-clause-read
+returns-clause-read g c =
+    let h = c.in_ok-front.ensures.read in
+    let k = c.in_ok-front.ensures.kept in
+    let o = c.in_ok-block.ensures in
+    record {
+      made = subst (λ z. IsMade z c.make_block.new.ctx.nodes (BasicBlock c.in_ok-block.block)) k.rest o.made.made;
+      slots = subst (λ z. AreGivenOut z (BasicBlock c.in_ok-block.block ∷ []) c.make_block.new.ctx.nodes) k.rest o.slots;
+      empty = o.made.empty;
+      behind = block_head_end c.args.levels _ h.0.0 _ (behind_is _ h.0 c.in_ok-front.rest.now h.1 h.2.1);
+    }
+
+pub returns-clause-shorter : goal.returns-clause-shorter
+returns-clause-shorter g c =
+    let h = c.in_ok-front.ensures.read in
+    head_shorter c.args.levels c.args.bytes.now h.0.0 c.in_ok-front.rest.now
+    (behind_is _ h.0 c.in_ok-front.rest.now h.1 h.2.1)
+
+pub returns-clause-noted : goal.returns-clause-noted
+returns-clause-noted g c =
+    let k = c.in_ok-front.ensures.kept in
+    let m = c.in_ok-block.ensures.made in
+    let r = reading_made c.args.bytes.now c.args.ctx.now c.read_spelled_head-read.new.ctx c.make_block.new.ctx
+    (BasicBlock c.in_ok-block.block) (reading_typed _ _ _ k.rest k.grown k.named) m.made m.types in
+    let l = c.in_ok-bear_label.ensures in
+    let a = c.in_ok-bear_arguments.ensures in
+    notes_block c.args.ctx.now c.make_block.new.ctx c.args.notes.now c.bear_label.new.self c.bear_arguments.new.self
+    (c.args.region, c.in_ok-front.front.label.word) c.in_ok-block.block r.kept.keeps m.made.root l.borne l.values l.uses
+    a.borne a.labels a.uses

@@ -1,0 +1,122 @@
+use Rattle.std.proofs.Common.{◌≡◌, ◌∙◌, [], ◌∷◌, length, false, sym, ap, subst}
+use Rattle.std.specs.Prelude.{All}
+use Rattle.std.proofs.lemmas.List.{length-map}
+use Rattle.plir_core.specs.ContextView.{IsLive, results_in, successors_in}
+use Rattle.plir_core.specs.Made.{IsMade}
+use Rattle.plir_core.specs.Nodes.{is_node_live}
+use Rattle.plir_core.specs.declared.ptr.IRNode.TheVariants.{Operation, BasicBlock}
+use Rattle.plir_attr_text.specs.laws.Meanings.{IsDictMeant-live}
+use Rattle.plir_attr_text.specs.laws.TypeSteps.{behind_is}
+use Rattle.plir_read.specs.Slots.{AreGivenOut}
+use Rattle.plir_read_own.specs.laws.TypeLists.{as_many}
+use Rattle.plir_read_ir.specs.OwnOps.{times}
+use Rattle.plir_read_ir.specs.Spelling.{word_of}
+use Rattle.plir_read_ir.proofs.Lefts.{all_live, stand_ins_live}
+use Rattle.plir_read_ir.proofs.Noted.{as_many_places, block_still, holds_kept, notes_own}
+use Rattle.plir_read_ir.proofs.Parts.{parts_read}
+use Rattle.plir_read_ir.proofs.Steps.{reading_kept, reading_made, reading_typed}
+use Rattle.plir_read_ir.proofs.ops.read_own_front.Goals as goal
+
+pub make_own-requires-clause-results_live : goal.make_own-requires-clause-results_live
+make_own-requires-clause-results_live g c =
+    let y = c.in_ok-parts.ensures.read in
+    all_live _ _ y.0.0.1.1.result_types y.2.0.typed.types_are.result_types
+
+pub make_own-requires-clause-successors_live : goal.make_own-requires-clause-successors_live
+make_own-requires-clause-successors_live g c =
+    let s = c.read_own_parts-read.new.ctx in
+    let k = c.in_ok-parts.ensures.kept in
+    let r = reading_typed c.args.bytes.now c.args.ctx.now s k.rest k.grown k.named in
+    subst (All (λ b. IsLive s (BasicBlock b)))
+    (sym (c.in_ok-successors.ensures.value ∙ ap (λ b. times b c.len-2.result) c.block_of.ensures))
+    (stand_ins_live s c.args.at.block c.len-2.result
+    (block_still c.args.ctx.now s (holds_kept c.args.ctx.now s r.kept.keeps) c.args.at.block c.requires.at_live))
+
+pub make_own-requires-clause-entries_live : goal.make_own-requires-clause-entries_live
+make_own-requires-clause-entries_live g c =
+    let y = c.in_ok-parts.ensures.read in
+    IsDictMeant-live _ _ y.0.0.1.0 _ y.2.0.typed.attributes_are
+
+pub bear_results-requires-clause-as_many : goal.bear_results-requires-clause-as_many
+bear_results-requires-clause-as_many g c =
+    let y = c.in_ok-parts.ensures.read in
+    let r = parts_read c.args.levels c.len.result c.args.bytes.now c.in_ok-parts.behind.now y.0.0
+    (behind_is _ y.0 c.in_ok-parts.behind.now y.1 y.2.1) in
+    ap length c.as_slice.ensures.value ∙ sym (c.len.ensures ∙ c.args.names.spelled.ok.0) ∙ sym r.results ∙
+    as_many _ _ y.0.0.1.1.result_types y.2.0.typed.types_are.result_types ∙
+    ap (λ o. length (results_in o)) (sym c.in_ok-op.ensures.made.held)
+
+pub note_uses-requires : goal.note_uses-requires
+note_uses-requires g c =
+    let y = c.in_ok-parts.ensures.read in
+    let r = parts_read c.args.levels c.len.result c.args.bytes.now c.in_ok-parts.behind.now y.0.0
+    (behind_is _ y.0 c.in_ok-parts.behind.now y.1 y.2.1) in
+    ap length c.as_slice-2.ensures.value ∙
+    sym (as_many _ _ y.0.0.1.1.operand_types y.2.0.typed.types_are.operand_types) ∙ sym r.operands ∙
+    sym (ap (λ u. length u.operands) y.2.0.uses_are) ∙ length-map c.in_ok-parts.parts.uses.operands.items word_of
+
+pub returns-in_err-parts-clause-kept : goal.returns-in_err-parts-clause-kept
+returns-in_err-parts-clause-kept g c =
+    let k = c.in_err-parts.ensures.kept in
+    reading_typed _ _ _ k.rest k.grown k.named
+
+pub returns-in_err-successors-clause-kept : goal.returns-in_err-successors-clause-kept
+returns-in_err-successors-clause-kept g c =
+    let k = c.in_ok-parts.ensures.kept in
+    reading_typed _ _ _ k.rest k.grown k.named
+
+pub returns-in_err-op-clause-kept : goal.returns-in_err-op-clause-kept
+returns-in_err-op-clause-kept g c =
+    let k = c.in_ok-parts.ensures.kept in
+    reading_kept _ _ c.read_own_parts-read.new.ctx _ (reading_typed _ _ _ k.rest k.grown k.named)
+    c.in_err-op.ensures.kept c.in_err-op.ensures.types
+
+pub returns-in_err-bear_results-clause-kept : goal.returns-in_err-bear_results-clause-kept
+returns-in_err-bear_results-clause-kept g c =
+    let k = c.in_ok-parts.ensures.kept in
+    let m = c.in_ok-op.ensures.made in
+    reading_made _ _ c.read_own_parts-read.new.ctx _ _ (reading_typed _ _ _ k.rest k.grown k.named) m.made m.types
+
+pub returns-in_err-note_uses-clause-kept : goal.returns-in_err-note_uses-clause-kept
+returns-in_err-note_uses-clause-kept g c =
+    let k = c.in_ok-parts.ensures.kept in
+    let m = c.in_ok-op.ensures.made in
+    reading_made _ _ c.read_own_parts-read.new.ctx _ _ (reading_typed _ _ _ k.rest k.grown k.named) m.made m.types
+
+pub returns-clause-kept : goal.returns-clause-kept
+returns-clause-kept g c =
+    let k = c.in_ok-parts.ensures.kept in
+    let m = c.in_ok-op.ensures.made in
+    reading_made _ _ c.read_own_parts-read.new.ctx _ _ (reading_typed _ _ _ k.rest k.grown k.named) m.made m.types
+
+pub returns-clause-read : goal.returns-clause-read
+returns-clause-read g c =
+    let y = c.in_ok-parts.ensures.read in
+    let k = c.in_ok-parts.ensures.kept in
+    let o = c.in_ok-op.ensures in
+    let r = parts_read c.args.levels c.len.result c.args.bytes.now c.in_ok-parts.behind.now y.0.0
+    (behind_is _ y.0 c.in_ok-parts.behind.now y.1 y.2.1) in
+    record {
+      made = subst (λ z. IsMade z c.make_own.new.ctx.nodes (Operation c.in_ok-op.op)) k.rest o.made.made;
+      slots = subst (λ z. AreGivenOut z (Operation c.in_ok-op.op ∷ [])
+          c.make_own.new.ctx.nodes) k.rest o.slots;
+      empty = o.made.empty;
+      behind = r.behind;
+    }
+
+pub returns-clause-noted : goal.returns-clause-noted
+returns-clause-noted g c =
+    let k = c.in_ok-parts.ensures.kept in
+    let m = c.in_ok-op.ensures.made in
+    let r = reading_made c.args.bytes.now c.args.ctx.now c.read_own_parts-read.new.ctx c.make_own.new.ctx
+    (Operation c.in_ok-op.op) (reading_typed _ _ _ k.rest k.grown k.named) m.made m.types in
+    let b = c.in_ok-bear_results.ensures in
+    let u = c.in_ok-note_uses.ensures in
+    let n = length c.in_ok-parts.parts.uses.successors.items in
+    notes_own c.args.ctx.now c.make_own.new.ctx c.args.notes.now c.bear_results.new.self c.note_uses.new.self
+    c.in_ok-op.op _ r.kept.keeps
+    (subst (λ z. is_node_live z (Operation c.in_ok-op.op) ≡ false) k.rest m.made.new) m.made.root
+    (as_many_places c.args.at.block n ∙ ap (λ b. length (times b n)) (sym c.block_of.ensures) ∙
+    ap (λ j. length (times c.block_of.result j)) (sym (c.len-2.ensures ∙ c.in_ok-parts.parts.uses.successors.ok.0)) ∙
+    sym (ap length c.in_ok-successors.ensures.value) ∙ ap (λ o. length (successors_in o)) (sym m.held))
+    b.borne b.labels b.uses u.added u.values u.labels

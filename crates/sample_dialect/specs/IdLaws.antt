@@ -1,0 +1,18 @@
+-- An id names no kind but one that has it.
+use Rattle.std.proofs.Common.{◌≡◌, ℕ, List, Some, codes, sym, ap, ◌∙◌, inl, inr}
+use Rattle.std.specs.Str.{bytes_eq}
+use Rattle.std.proofs.lemmas.Slice.Eq.{bytes_eq-Decides}
+use Rattle.std.proofs.lemmas.Option.{same_Some, none-some}
+use Rattle.plir_attr_text.specs.laws.StepLaws.{chosen}
+use Rattle.sample_dialect.specs.declared.kinds.SampleKind.{SampleKind}
+use Rattle.sample_dialect.specs.declared.kinds.SampleKind.TheVariants.{Add, Show}
+use Rattle.sample_dialect.specs.Answers.{id_of, kind_of}
+
+pub has_its_id : (i : List ℕ) (k : SampleKind) → kind_of i ≡ Some k → id_of k ≡ i
+has_its_id i k e = elim (chosen (bytes_eq i (codes "sample.add")) _ _ _ e) [
+  | inl h ↦ sym ((bytes_eq-Decides i (codes "sample.add")).0 h.0 ∙ ap id_of (same_Some Add k h.1))
+  | inr f ↦ elim (chosen (bytes_eq i (codes "sample.show")) _ _ _ f.1) [
+    | inl h ↦ sym ((bytes_eq-Decides i (codes "sample.show")).0 h.0 ∙ ap id_of (same_Some Show k h.1))
+    | inr h ↦ absurd (none-some k h.1)
+  ]
+]

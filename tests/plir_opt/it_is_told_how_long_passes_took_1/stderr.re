@@ -1,0 +1,1 @@
+      seconds    share    before     after  pass\n     0\.\d{6} +\d+\.\d%         4         3  symbol-dce\n     0\.\d{6} +\d+\.\d%         3         3  erase-names\n     0\.\d{6}   100\.0%         4         3  total\n
