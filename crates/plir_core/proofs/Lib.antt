@@ -43,6 +43,7 @@ pub mod Counting
 pub mod Counted
 pub mod Walked
 pub mod NotUsed
+pub mod Noted
 pub mod TreeUses
 pub mod ValueUses
 pub mod TimesUsed

@@ -1,5 +1,5 @@
 -- Where a value is put in place of another one here and there, what is left to be replaced is what was.
-use Rattle.std.proofs.Common.{◌≡◌, ℕ, suc, true, ◌<◌, List, [], ◌∷◌, length, map, get_or, Option, Some, None}
+use Rattle.std.proofs.Common.{◌≡◌, ℕ, suc, ◌<◌, List, [], ◌∷◌, length, map, get_or, Option, Some, None}
 use Rattle.std.proofs.Common.{inl, inr, refl, sym, ◌∙◌, ap, subst, arith, slice_set}
 use Rattle.std.specs.Prelude.{Contains, option_map}
 use Rattle.std.proofs.lemmas.List.{set-get_or, get_or_default}
@@ -9,12 +9,11 @@ use Rattle.plir_store.specs.Table.{Cell, no_cell, content_at, cell_at}
 use Rattle.plir_core.specs.declared.value.Value.{Value}
 use Rattle.plir_core.specs.Changes.{op_edited}
 use Rattle.plir_core.specs.Contents.{OpView}
-use Rattle.plir_core.specs.ContextView.{ContextView, entity_node, operands_in}
+use Rattle.plir_core.specs.ContextView.{ContextView, operands_in}
 use Rattle.plir_core.specs.Replaced.{replaced, op_replaced, cell_replaced, with_uses_replaced}
-use Rattle.plir_core.specs.Uses.{is_not_used}
-use Rattle.plir_core.specs.ValueUses.{IsOperandAt}
+use Rattle.plir_core.specs.ValueUses.{IsOperandAt, HasUses}
 use Rattle.plir_core.proofs.Rewiring.{told, at_v, at_other, at_w}
-use Rattle.plir_core.proofs.ValueUses.{HasUses-at, HasUses-not}
+use Rattle.plir_core.proofs.ValueUses.{HasUses-at}
 
 -- a function that leaves each element leaves the list
 map_kept : {X : Type 0} (f : X → X) (xs : List X) → ((i : ℕ) (d : X) → i < length xs → f (get_or xs i d) ≡ get_or xs i d) →
@@ -68,7 +67,7 @@ module _ {K A T : Type 0} (s : ContextView K A T) (v w : Value) where
   with_slots l = record s { nodes = record s.nodes { ops = record s.nodes.ops { slots = l } } }
 
   -- nothing is left to be replaced where nothing uses v
-  pub unused_rest : is_not_used s (entity_node v.entity) ≡ true → with_uses_replaced s v w ≡ s
+  pub unused_rest : (HasUses s v → ⊥) → with_uses_replaced s v w ≡ s
   unused_rest not = ap with_slots (map_kept (cell_replaced v w) s.nodes.ops.slots (λ i d h. here i d h))
     where
       here : (i : ℕ) (d : Cell (OpView K A)) → i < length s.nodes.ops.slots → cell_replaced v w
@@ -76,8 +75,7 @@ module _ {K A T : Type 0} (s : ContextView K A T) (v w : Value) where
       here i d h =
           let same : get_or s.nodes.ops.slots i d ≡ cell_at s.nodes.ops i = get_or_default s.nodes.ops.slots i d no_cell h in
           subst (λ c. cell_replaced v w c ≡ c) (sym same)
-          (cell_absent v w (cell_at s.nodes.ops i) (content_at s.nodes.ops i) refl (λ c. HasUses-not s v not
-          (HasUses-at s v i c)))
+          (cell_absent v w (cell_at s.nodes.ops i) (content_at s.nodes.ops i) refl (λ c. not (HasUses-at s v i c)))
 
   -- an operation that has not v stays
   pub absent_edit : (i : ℕ) → (IsOperandAt s v i → ⊥) → op_edited s i (op_replaced v w) (content_at s.nodes.ops i) ≡ s

@@ -41,6 +41,7 @@
 --   Uses         uses_of: how often what is in a slot is used; Counts: that counts which are kept say so; IsSound
 --   SameValue    same_ptr, same_value: whether two pointers and two values are the same
 --   ValueUses    HasUses: a value is an operand of a live operation; num_uses_of: how many operands are
+--   Noted        AreSeen: what is seen of the uses of a value in some slots
 --   Walked       IsCome: how far a walk through a tree has come
 --   Terminator   terminator_of: the operation that ends a block
 --   InsertionPoint insertion_block: the block that an insertion point is in
@@ -76,6 +77,7 @@ pub mod Uses
 pub mod Walked
 pub mod SameValue
 pub mod ValueUses
+pub mod Noted
 pub mod Terminator
 pub mod InsertionPoint
 pub mod Rewired

@@ -1,10 +1,10 @@
 -- Laws of room and of nodes that come, proved beside their words so that the crates above can cite them. No contract
 -- cites this module.
-use Rattle.std.proofs.Common.{◌≡◌, ℕ, ◌+◌, ◌-◌, ◌<◌, ◌≤◌, ◌^◌, List, [], ◌∷◌, ◌++◌, length, Option, Some, None}
-use Rattle.std.proofs.Common.{IsSome, inl, inr, refl, sym, ap, subst, ◌∙◌, arith, length-set, slice_set}
+use Rattle.std.proofs.Common.{◌≡◌, ℕ, ◌+◌, ◌-◌, ◌<◌, ◌≤◌, ◌^◌, List, [], ◌∷◌, length, Option, Some, None}
+use Rattle.std.proofs.Common.{IsSome, inl, inr, refl, sym, ap, subst, ◌∙◌, arith, length-set}
 use Rattle.std.proofs.lemmas.List.{length-append}
 use Rattle.plir_store.specs.Members.{Has}
-use Rattle.plir_store.specs.Table.{Cell, Table, IsTable, IsFreeSlot, content_at, num_full, slot_after, next_slot}
+use Rattle.plir_store.specs.Table.{Table, IsTable, IsFreeSlot, content_at, num_full, slot_after, next_slot}
 use Rattle.plir_store.specs.Table.{with_new, with_new_in, version_at}
 use Rattle.plir_store.specs.TableLaws.{num_full-with_new, num_full-with_content}
 use Rattle.plir_core.specs.declared.ptr.Ptr.{Ptr}
@@ -15,9 +15,9 @@ use Rattle.plir_core.specs.Changes.{with_op, with_block, with_region, with_op_ed
 use Rattle.plir_core.specs.Changes.{block_edited}
 use Rattle.plir_core.specs.Contents.{OpView, BlockView}
 use Rattle.plir_core.specs.ContextView.{ContextView, op_at, block_at}
-use Rattle.plir_core.specs.Nodes.{Nodes, num_nodes}
+use Rattle.plir_core.specs.Nodes.{Nodes}
 use Rattle.plir_core.specs.Placed.{MovesOnly}
-use Rattle.plir_core.specs.Room.{IsFullForOp, IsFullForBlock, IsFullForRegion, NodeCount, in_all, together, no_node}
+use Rattle.plir_core.specs.Room.{IsFullForOp, IsFullForBlock, IsFullForRegion, NodeCount, together, no_node}
 use Rattle.plir_core.specs.Room.{one_op, one_region, one_block, RunsOut, AreGiven, IsFullFor, HaveCome}
 use Rattle.plir_core.specs.Stored.{IsStored}
 

@@ -110,7 +110,7 @@ impl Operation {
         )?;
         let op = ctx.nodes.make_op_with_regions(data, num_regions)?;
         ctx.uses.begin(IRNode::Operation(op));
-        ctx.uses.raise_op(ctx.nodes.op(op));
+        ctx.uses.raise_new(ctx.nodes.op(op), op);
         Ok(op)
     }
 }

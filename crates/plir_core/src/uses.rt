@@ -5,8 +5,10 @@ ghost use Rattle.plir_core.specs.WellFormed.{IsWellFormed};
 ghost use Rattle.plir_core.specs.declared.ptr.IRNode.{IRNode};
 
 pub(crate) mod counts;
+mod noted;
 mod replacing;
 mod unused;
+mod users;
 mod value_uses;
 
 use crate::context::Context;

@@ -52,7 +52,7 @@ impl Ptr<Operation> {
         );
         prove!(value.is_live(ctx), "the value is not live");
         ctx.nodes.op_mut(self).operands.insert(i, value)?;
-        ctx.uses.raise_value(value);
+        ctx.uses.raise_value(value, self);
         Ok(())
     }
 
@@ -92,7 +92,7 @@ impl Ptr<Operation> {
         prove!(value.is_live(ctx), "the value is not live");
         let replaced = self.get_operand(ctx, i);
         ctx.nodes.op_mut(self).operands[i] = value;
-        ctx.uses.raise_value(value);
+        ctx.uses.raise_value(value, self);
         ctx.uses.lower_value(replaced);
     }
 
@@ -113,7 +113,7 @@ impl Ptr<Operation> {
         prove!(block.is_live(ctx), "the block is not live");
         let replaced = self.get_successor(ctx, i);
         ctx.nodes.op_mut(self).successors.set(i, block);
-        ctx.uses.raise(IRNode::BasicBlock(block));
+        ctx.uses.raise_block(block, self);
         ctx.uses.lower(IRNode::BasicBlock(replaced));
     }
 

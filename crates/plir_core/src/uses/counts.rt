@@ -1,15 +1,17 @@
 //! Counts of uses: how many operands are values of an operation or a block, and how many successors are a block.
-ghost use Rattle.std.specs.Prelude.{◌≡◌, ◌+◌, ◌<◌, ℕ, [], Some, IfSome, slice_get, true};
+ghost use Rattle.std.specs.Prelude.{◌≡◌, ◌+◌, ◌<◌, ℕ, [], Some, IfSome, length, slice_get, true};
 ghost use Rattle.plir_core.specs.ContextView.{entity_node};
 ghost use Rattle.plir_core.specs.Stored.{Seat, seat_of};
 ghost use Rattle.plir_core.specs.Uses.{Counts, IsBegun, IsRaisedBy, IsLoweredBy, UNKNOWN, raised, lowered};
 ghost use Rattle.plir_core.specs.Uses.{with_use, without_use, values_from, blocks_in, uses_in, StaysCounted};
 ghost use Rattle.plir_core.specs.Nodes.{is_node_live};
 ghost use Rattle.plir_core.specs.Erase.{without_node};
+ghost use Rattle.plir_core.specs.declared.ptr.IRNode.{IRNode as AnyNode};
 
 use crate::arena::Arena;
 use crate::arena::contents::{BlockData, OpData};
-use crate::ptr::{BasicBlock, IRNode, Ptr};
+use crate::ptr::{BasicBlock, IRNode, Operation, Ptr};
+use crate::uses::users::Users;
 use crate::value::Value;
 use plir_data::OpSet;
 use std::alloc::Global;
@@ -21,6 +23,8 @@ use std::marker::Model;
 pub(crate) struct UseCounts {
     ops: Vec<u32>,
     blocks: Vec<u32>,
+    // Where users are looked for first: no contract sees it.
+    users: Users,
 }
 
 impl Model for UseCounts {
@@ -83,6 +87,7 @@ impl UseCounts {
         UseCounts {
             ops: Vec::new(alloc),
             blocks: Vec::new(alloc),
+            users: Users::new(alloc),
         }
     }
 
@@ -101,6 +106,7 @@ impl UseCounts {
     pub(crate) fn begin(&mut self, node: IRNode)
         ensures { (f : Seat → ℕ) → f (seat_of node) ≡ 0 → Counts self.old f → Counts self.new f }
     {
+        self.users.clear(node);
         match node {
             IRNode::Operation(op) => begin(&mut self.ops, op.slot),
             IRNode::Region(_) => {}
@@ -109,9 +115,10 @@ impl UseCounts {
     }
 
     /// Counts one use more of a node.
-    pub(crate) fn raise(&mut self, node: IRNode)
+    fn raise(&mut self, node: IRNode)
         ensures { self.new ≡ with_use self.old node }
     {
+        self.users.count_one();
         match node {
             IRNode::Operation(op) => raise(&mut self.ops, op.slot),
             IRNode::Region(_) => {}
@@ -123,6 +130,7 @@ impl UseCounts {
     pub(crate) fn lower(&mut self, node: IRNode)
         ensures { self.new ≡ without_use self.old node }
     {
+        self.users.count_off();
         match node {
             IRNode::Operation(op) => lower(&mut self.ops, op.slot),
             IRNode::Region(_) => {}
@@ -130,11 +138,41 @@ impl UseCounts {
         }
     }
 
-    /// Counts the use of a value.
-    pub(crate) fn raise_value(&mut self, value: Value)
+    // Counts the use of a value.
+    fn count_value(&mut self, value: Value)
         ensures { self.new ≡ with_use self.old (entity_node value.entity) }
     {
         self.raise(value.defining_entity().node());
+    }
+
+    // Notes that an operation uses a value.
+    fn note_value(&mut self, value: Value, user: Ptr<Operation>)
+        ensures { self.new ≡ self.old }
+    {
+        self.users.note(value.defining_entity().node(), user.slot);
+    }
+
+    /// Counts the use of a value by an operation.
+    pub(crate) fn raise_value(&mut self, value: Value, user: Ptr<Operation>)
+        ensures { self.new ≡ with_use self.old (entity_node value.entity) }
+    {
+        self.note_value(value, user);
+        self.count_value(value);
+    }
+
+    // Notes that an operation branches to a block.
+    fn note_block(&mut self, block: Ptr<BasicBlock>, user: Ptr<Operation>)
+        ensures { self.new ≡ self.old }
+    {
+        self.users.note(IRNode::BasicBlock(block), user.slot);
+    }
+
+    /// Counts a block that an operation branches to.
+    pub(crate) fn raise_block(&mut self, block: Ptr<BasicBlock>, user: Ptr<Operation>)
+        ensures { self.new ≡ with_use self.old (AnyNode.BasicBlock block) }
+    {
+        self.note_block(block, user);
+        self.raise(IRNode::BasicBlock(block));
     }
 
     /// Takes the use of a value off.
@@ -149,7 +187,16 @@ impl UseCounts {
         ensures { IsRaisedBy self.old self.new (λ at. values_from at values.now) }
     {
         for value in values {
-            self.raise_value(*value);
+            self.count_value(*value);
+        }
+    }
+
+    // Notes that an operation uses values.
+    fn note_values(&mut self, values: &[Value], user: Ptr<Operation>)
+        ensures { self.new ≡ self.old }
+    {
+        for value in values {
+            self.note_value(*value, user);
         }
     }
 
@@ -180,12 +227,101 @@ impl UseCounts {
         }
     }
 
-    /// Counts what an operation uses.
-    pub(crate) fn raise_op<D: OpSet>(&mut self, held: &OpData<D>)
+    // Counts what an operation uses.
+    fn raise_op<D: OpSet>(&mut self, held: &OpData<D>)
         ensures { IsRaisedBy self.old self.new (λ at. uses_in at held.now) }
     {
         self.raise_values(&held.operands);
         self.raise_blocks(held.successors.as_slice());
+    }
+
+    // Notes that an operation branches to blocks.
+    fn note_blocks(&mut self, blocks: &[Ptr<BasicBlock>], user: Ptr<Operation>)
+        ensures { self.new ≡ self.old }
+    {
+        for block in blocks {
+            self.note_block(*block, user);
+        }
+    }
+
+    // Notes what an operation uses.
+    fn note_op<D: OpSet>(&mut self, held: &OpData<D>, user: Ptr<Operation>)
+        ensures { self.new ≡ self.old }
+    {
+        self.note_values(&held.operands, user);
+        self.note_blocks(held.successors.as_slice(), user);
+    }
+
+    /// Counts what a new operation uses.
+    pub(crate) fn raise_new<D: OpSet>(&mut self, held: &OpData<D>, user: Ptr<Operation>)
+        ensures { IsRaisedBy self.old self.new (λ at. uses_in at held.now) }
+    {
+        self.note_op(held, user);
+        self.raise_op(held);
+    }
+
+    /// Counts what an operation uses that has come to use a value.
+    pub(crate) fn raise_again<D: OpSet>(
+        &mut self,
+        held: &OpData<D>,
+        value: Value,
+        user: Ptr<Operation>,
+    )
+        ensures { IsRaisedBy self.old self.new (λ at. uses_in at held.now) }
+    {
+        self.note_value(value, user);
+        self.raise_op(held);
+    }
+
+    /// Where the first of those that came to use a node is noted, 0 if none is.
+    pub(crate) fn first_user(&self, node: IRNode) -> u32 {
+        self.users.first(node)
+    }
+
+    /// The slot of the operation that is noted there, and where the next one is, if one is.
+    pub(crate) fn user(&self, at: u32) -> Option<(u32, u32)> {
+        self.users.user(at)
+    }
+
+    /// The slots of the operations that are noted as users of a node, in ascending order.
+    pub(crate) fn users(&self, node: IRNode) -> Vec<u32> {
+        self.users.slots(node)
+    }
+
+    /// How many are noted in all, or more.
+    pub(crate) fn num_noted(&self) -> usize {
+        self.users.num_entries()
+    }
+
+    // Notes the operation in a slot, if there is one, as a user of its operands.
+    fn note_in_slot<D: OpSet>(&mut self, nodes: &Arena<OpData<D>, BlockData<D>>, slot: u32)
+        requires { slot < length nodes.now.ops.slots }
+        ensures { self.new ≡ self.old }
+    {
+        match nodes.op_in_slot(slot) {
+            None => {}
+            Some(op) => self.note_op(nodes.op(op), op),
+        }
+    }
+
+    /// Where the lists of users were let go, notes all of them again.
+    pub(crate) fn note_again<D: OpSet>(&mut self, nodes: &Arena<OpData<D>, BlockData<D>>)
+        ensures { self.new ≡ self.old }
+    {
+        if !self.users.is_let_go() {
+            return;
+        }
+        self.users.begin_again();
+        for slot in 0..nodes.num_op_slots() {
+            self.note_in_slot(nodes, slot);
+        }
+    }
+
+    /// Leaves no user of a node noted.
+    pub(crate) fn clear_users(&mut self, node: IRNode)
+        ensures { self.new ≡ self.old }
+    {
+        self.users.clear(node);
     }
 
     /// Takes what an operation uses off.

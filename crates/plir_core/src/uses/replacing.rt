@@ -9,7 +9,7 @@ ghost use Rattle.plir_core.specs.WellFormed.{IsWellFormed};
 ghost use Rattle.plir_core.specs.declared.ptr.IRNode.{IRNode};
 
 use crate::context::Context;
-use crate::ptr::{Operation, Ptr};
+use crate::ptr::{IRNode, Operation, Ptr};
 use crate::value::Value;
 use plir_data::OpSet;
 
@@ -37,7 +37,7 @@ fn replace_in_op<D: OpSet>(ctx: &mut Context<D>, op: Ptr<Operation>, value: Valu
 {
     ctx.uses.lower_op(ctx.nodes.op(op));
     replace_among(&mut ctx.nodes.op_mut(op).operands, value, other);
-    ctx.uses.raise_op(ctx.nodes.op(op));
+    ctx.uses.raise_again(ctx.nodes.op(op), other, op);
 }
 
 // The same in a slot, if there is an operation in it that has the value.
@@ -83,6 +83,43 @@ fn replace_between<D: OpSet>(ctx: &mut Context<D>, first: u32, end: u32, value: 
     }
 }
 
+// Puts a value in place of another one in the operations that are noted as its users, until nothing uses it. What is
+// left to be replaced then is what was.
+fn replace_noted<D: OpSet>(ctx: &mut Context<D>, value: Value, other: Value)
+    requires { IsValueLive ctx.old other }
+    ensures rest { with_uses_replaced ctx.new value other ≡ with_uses_replaced ctx.old value other }
+    ensures live { IsValueLive ctx.new other }
+{
+    let node = value.defining_entity().node();
+    let mut at = ctx.uses.first_user(node);
+    for _entry in 0..ctx.uses.num_noted() {
+        if ctx.is_known_unused(node) {
+            return;
+        }
+        let Some((slot, next)) = ctx.uses.user(at) else {
+            return;
+        };
+        replace_there(ctx, slot, value, other);
+        at = next;
+    }
+}
+
+// Has the users of all nodes noted, where they are not any more.
+fn note_again<D: OpSet>(ctx: &mut Context<D>)
+    ensures { ctx.new ≡ ctx.old }
+{
+    ctx.uses.note_again(&ctx.nodes);
+}
+
+// Leaves no user of a node noted that nothing uses.
+fn clear_unused<D: OpSet>(ctx: &mut Context<D>, node: IRNode)
+    ensures { ctx.new ≡ ctx.old }
+{
+    if ctx.is_known_unused(node) {
+        ctx.uses.clear_users(node);
+    }
+}
+
 // Puts a value in place of the only result of an operation, from its slot on, and then before it, until nothing uses
 // it. What is left to be replaced then is what was.
 fn replace_near<D: OpSet>(ctx: &mut Context<D>, value: Value, other: Value)
@@ -104,7 +141,7 @@ fn replace_in_all<D: OpSet>(ctx: &mut Context<D>, value: Value, other: Value)
     requires { IsValueLive ctx.old other }
     ensures { ctx.new ≡ with_uses_replaced ctx.old value other }
 {
-    if ctx.is_known_unused(value.defining_entity().node()) {
+    if ctx.is_known_without_uses(value) {
         return;
     }
     for slot in 0..ctx.nodes.num_op_slots() {
@@ -116,9 +153,9 @@ impl Value {
     /// Puts another value in place of this one, wherever it is an operand of a live operation. All else stays as it is:
     /// the same nodes stand where they stood, with their types, attributes and successors. After it nothing uses this
     /// value, unless the other one is this one; so an operation each of whose results was replaced, and which has no
-    /// regions, can be erased (`laws::unused_results_can_be_erased`). For the only result of an operation this looks at
-    /// the operations in the slots from that one's on, and then at those before it, until all uses that are counted
-    /// were found; for any other value that is used, and where no count is known, it looks at all operations.
+    /// regions, can be erased (`laws::unused_results_can_be_erased`). This looks at the operations that use values of
+    /// its operation or block or branch to that block. Only where these are not known, as where memory for that was
+    /// refused, or where they do not account for all that is counted, it looks at all operations.
     pub fn replace_all_uses_with<D: OpSet>(self, ctx: &mut Context<D>, other: Value)
         requires other_live { IsValueLive ctx.old other }
         ensures after { ctx.new ≡ with_uses_replaced ctx.old self other }
@@ -126,8 +163,11 @@ impl Value {
         ensures whole { IsWellFormed D.attr_handles ctx.new }
     {
         prove!(other.is_live(ctx), "the other value is not live");
+        note_again(ctx);
+        replace_noted(ctx, self, other);
         replace_near(ctx, self, other);
         replace_in_all(ctx, self, other);
+        clear_unused(ctx, self.defining_entity().node());
         let _types = &ctx.types;
     }
 }

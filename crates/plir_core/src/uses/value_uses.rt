@@ -80,7 +80,7 @@ impl<D: OpSet> Context<D> {
     }
 
     // How many operands of the operation in a slot, if there is one, are a value.
-    fn num_uses_in_slot(&self, value: Value, slot: u32) -> usize
+    pub(crate) fn num_uses_in_slot(&self, value: Value, slot: u32) -> usize
         requires { slot < length self.now.nodes.ops.slots }
         ensures { result ≡ uses_in_slot self.now value slot }
     {
@@ -116,7 +116,7 @@ impl<D: OpSet> Context<D> {
     }
 
     // How often a value is used, if a count says so: that of its operation, if it is the only result, and any that is 0.
-    fn known_num_uses(&self, value: Value) -> Option<u32>
+    fn counted_uses(&self, value: Value) -> Option<u32>
         ensures { IfSome result (λ n. n ≡ num_uses_of self.now value) }
     {
         let count = self.known_uses(value.defining_entity().node())?;
@@ -128,12 +128,34 @@ impl<D: OpSet> Context<D> {
         }
         None
     }
+
+    /// How often a value is used, if a count says so, or those that are noted as users.
+    pub(crate) fn known_num_uses(&self, value: Value) -> Option<usize>
+        ensures { IfSome result (λ n. n ≡ num_uses_of self.now value) }
+    {
+        match self.counted_uses(value) {
+            Some(count) => Some(count as usize),
+            None => self.num_noted_uses(value),
+        }
+    }
+
+    /// Whether a value is known to be used by nothing.
+    pub(crate) fn is_known_without_uses(&self, value: Value) -> bool
+        ensures { IsTrue result → HasUses self.now value → ⊥ }
+    {
+        match self.known_num_uses(value) {
+            Some(count) => count == 0,
+            None => false,
+        }
+    }
 }
 
 impl Value {
     /// Whether the value is an operand of a live operation. If it is the only result of an operation, or no value of
-    /// its operation or block is used and that block is no successor, this looks at a count alone; else it looks at
-    /// all operations.
+    /// its operation or block is used and that block is no successor, this looks at a count alone; else at the
+    /// operations that use values of its operation or block or branch to that block. Only where these are not known,
+    /// as where memory for that was refused, or where they do not account for all that is counted, it looks at all
+    /// operations.
     pub fn has_uses<D: OpSet>(self, ctx: &Context<D>) -> bool
         ensures value { IsTrue result ↔ HasUses ctx.now self }
         ensures whole { IsWellFormed D.attr_handles ctx.now }
@@ -147,15 +169,17 @@ impl Value {
 
     /// How many operands of live operations are the value: an operation that has it twice counts twice. The answer is
     /// at most `usize::MAX`, and no machine holds so many operands. If it is the only result of an operation, or no
-    /// value of its operation or block is used and that block is no successor, this looks at a count alone; else it
-    /// looks at all operations.
+    /// value of its operation or block is used and that block is no successor, this looks at a count alone; else at the
+    /// operations that use values of its operation or block or branch to that block. Only where these are not known,
+    /// as where memory for that was refused, or where they do not account for all that is counted, it looks at all
+    /// operations.
     pub fn num_uses<D: OpSet>(self, ctx: &Context<D>) -> usize
         ensures value { result ≡ min (num_uses_of ctx.now self) (2 ^ 64 - 1) }
         ensures whole { IsWellFormed D.attr_handles ctx.now }
     {
         let _types = &ctx.types;
         match ctx.known_num_uses(self) {
-            Some(count) => count as usize,
+            Some(count) => count,
             None => ctx.num_uses_by_all(self),
         }
     }

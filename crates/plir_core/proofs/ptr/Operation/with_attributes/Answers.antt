@@ -43,9 +43,9 @@ invariant_of-ctx-2 g c =
             location = Unknown;
           } in
           Counts-made g.D.OpSet.attr_handles _ c.ctx.invariant.whole c.ctx.inside.uses c.begin.new.self
-          c.raise_op.new.self made c.op.result.now c.make_op_with_regions.new.self c.in_ok-op.op c.args.num_regions
+          c.raise_new.new.self made c.op.result.now c.make_op_with_regions.new.self c.in_ok-op.op c.args.num_regions
           c.ctx.invariant.counted
-          ok c.in_ok-op.ensures.pointer held c.op.ensures c.begin.ensures c.raise_op.ensures;
+          ok c.in_ok-op.ensures.pointer held c.op.ensures c.begin.ensures c.raise_new.ensures;
     }
 
 pub returns-clause-whole : goal.returns-clause-whole

@@ -1,18 +1,16 @@
-use Rattle.std.proofs.Common.{◌≡◌, true, ◌∙◌, ◌<◌, refl, ap, sym, subst, length, arith}
+use Rattle.std.proofs.Common.{◌∙◌, ◌<◌, refl, ap, sym, subst, length, arith}
 use Rattle.plir_store.specs.Table.{content_at}
 use Rattle.plir_core.specs.Changes.{op_edited}
 use Rattle.plir_core.specs.Replaced.{op_replaced, cell_replaced}
-use Rattle.plir_core.specs.ContextView.{ContextView, IsValueLive, entity_node}
-use Rattle.plir_core.specs.Uses.{is_not_used}
+use Rattle.plir_core.specs.ContextView.{ContextView, IsValueLive}
 use Rattle.plir_core.proofs.Rest.{unused_rest}
 use Rattle.plir_core.proofs.ReplacedUses.{mapped-length, replaced-next, replaced-all, edited-live}
 use Rattle.plir_core.proofs.uses.replacing.replace_in_all.Goals as goal
 
-pub returns-then-is_known_unused : goal.returns-then-is_known_unused
-returns-then-is_known_unused g c =
-    sym (unused_rest c.args.ctx.now c.args.value c.args.other (subst (λ n. is_not_used c.args.ctx.now n ≡ true)
-    (c.node.ensures ∙ ap entity_node c.defining_entity.ensures) (c.is_known_unused.ensures
-    c.if-is_known_unused.true)))
+pub returns-then-is_known_without_uses : goal.returns-then-is_known_without_uses
+returns-then-is_known_without_uses g c =
+    sym (unused_rest c.args.ctx.now c.args.value c.args.other
+    (c.is_known_without_uses.ensures c.if-is_known_without_uses.true))
 
 pub loop-slot-init : goal.loop-slot-init
 loop-slot-init g c = (refl, c.requires)

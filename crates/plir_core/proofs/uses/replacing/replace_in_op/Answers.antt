@@ -30,7 +30,7 @@ invariant_of-ctx g c =
             location =
                 c.behind-ctx.inside.location;
           }) in
-          Counts-rewritten c.ctx.inside.uses c.lower_op.new.self c.raise_op.new.self c.ctx.inside.nodes.ops
+          Counts-rewritten c.ctx.inside.uses c.lower_op.new.self c.raise_again.new.self c.ctx.inside.nodes.ops
           c.args.op.slot c.op.result.now new c.op-2.result.now c.op.ensures c.op-2.ensures c.ctx.invariant.counted
-          c.lower_op.ensures c.raise_op.ensures;
+          c.lower_op.ensures c.raise_again.ensures;
     }

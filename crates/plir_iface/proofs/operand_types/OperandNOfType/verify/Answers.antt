@@ -2,3 +2,6 @@ use Rattle.plir_iface.proofs.operand_types.OperandNOfType.verify.Goals as goal
 
 pub returns-clause-refused : goal.returns-clause-refused
 returns-clause-refused g c = rw c.get_operation.ensures at c.verify_at.ensures.refused
+
+pub returns-clause-ok : goal.returns-clause-ok
+returns-clause-ok g c = rw c.get_operation.ensures at c.verify_at.ensures.ok

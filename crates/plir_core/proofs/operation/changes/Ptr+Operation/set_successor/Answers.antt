@@ -18,10 +18,10 @@ invariant_of-ctx g c =
     record {
       whole = successor_replaced g.D.OpSet.attr_handles _ c.args.ctx.now c.ctx.view_is c.ctx.invariant.whole
           c.args.self.slot c.args.i old c.args.block _ held c.set.ensures c.requires.block_live;
-      counted = Counts-redirected c.ctx.inside.uses c.raise.new.self c.lower.new.self c.ctx.inside.nodes.ops
+      counted = Counts-redirected c.ctx.inside.uses c.raise_block.new.self c.lower.new.self c.ctx.inside.nodes.ops
           c.args.self.slot c.args.i old c.args.block c.get_successor-replaced.result _ held
           (successor_there _ c.args.ctx.now c.ctx.view_is c.args.self c.args.i old held c.get_successor-replaced.result
-          c.get_successor-replaced.ensures.value) c.set.ensures c.ctx.invariant.counted c.raise.ensures c.lower.ensures;
+          c.get_successor-replaced.ensures.value) c.set.ensures c.ctx.invariant.counted c.raise_block.ensures c.lower.ensures;
     }
 
 pub returns-clause-whole : goal.returns-clause-whole

@@ -9,7 +9,7 @@ loop-value-init c = IsRaising-start (λ (v : Value). entity_node v.entity) c.arg
 pub loop-value-preserved : goal.loop-value-preserved
 loop-value-preserved c =
     IsRaising-more (λ (v : Value). entity_node v.entity) c.args.values.now c.args.self.now c.loop-value.self
-    c.raise_value.new.self c.loop-value.value-index _ c.raise_value.ensures c.loop-value.invariant
+    c.count_value.new.self c.loop-value.value-index _ c.count_value.ensures c.loop-value.invariant
     c.loop-value-test.true
 
 pub returns : goal.returns

@@ -1,9 +1,0 @@
-pub mod Walks
-pub mod Written
-pub mod Links
-pub mod Laid
-pub mod Values
-pub mod Steps
-pub mod Grown
-pub mod Clearing
-pub mod Done
