@@ -10,3 +10,13 @@ pub mod RegionSteps
 pub mod Noted
 pub mod Steps
 pub mod Shapes
+pub mod Trees
+pub mod Grammar
+pub mod Says
+pub mod Standing
+pub mod Comes
+pub mod Fronts
+pub mod Links
+pub mod Counted
+pub mod Wholes
+pub mod Unmeant

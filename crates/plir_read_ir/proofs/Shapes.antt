@@ -140,9 +140,17 @@ module _ {K A T : Type 0} where
 -- ---- what is noted goes on standing
 
 module _ {K A T : Type 0} (s t : ContextView K A T) (k : KeepsShape s t) where
-  types_shaped : (e : DefiningEntity) → IsLive s (entity_node e) → types_from t e ≡ types_from s e
+  pub types_shaped : (e : DefiningEntity) → IsLive s (entity_node e) → types_from t e ≡ types_from s e
   types_shaped (Op p) h = k.results p h
   types_shaped (Block p) h = ap arguments_in (k.blocks p)
+
+  -- what is live was live
+  pub value_back : (v : Value) → IsValueLive t v → IsValueLive s v
+  value_back v h =
+      let p = all_and (is_live t (entity_node v.entity)) (nat_lt v.index (length (types_from t v.entity))) h in
+      let live = sym (k.nodes.live (entity_node v.entity)) ∙ p.0 in
+      both_true (is_live s (entity_node v.entity)) (nat_lt v.index (length (types_from s v.entity))) live
+      (subst (λ (l : List ℕ). nat_lt v.index (length l) ≡ true) (types_shaped v.entity live) p.1)
 
   value_shaped : (v : Value) → IsValueLive s v → IsValueLive t v
   value_shaped v h =

@@ -5,8 +5,10 @@ ghost use Rattle.plir_core.specs.ContextView.{ContextView, IsLive, IsValueLive, 
 ghost use Rattle.plir_core.specs.WellFormed.{IsWellFormed};
 ghost use Rattle.plir_core.specs.declared.ptr.IRNode.{IRNode};
 ghost use Rattle.plir_read_ir.specs.IrFaults.{IsTold};
-ghost use Rattle.plir_read_ir.specs.Linking.{IsLinked, IsLinkedAt};
+ghost use Rattle.plir_read_ir.specs.Linking.{FailsUse, FailsUses, IsLinked, IsLinkedAt, LinksUse, LinksUses};
+ghost use Rattle.plir_read_ir.specs.Linking.{TellsMeaning, TellsNoUse, TellsType};
 ghost use Rattle.plir_read_ir.specs.Noting.{AreNew, AreReady, BearAll, IsPending, same_label, same_name};
+ghost use Rattle.plir_read_ir.specs.Readings.{noted_operand, noted_successor, noted_use};
 
 use crate::fault::{IrFault, IrStop};
 use crate::notes::{Notes, PendingUse, Wanted};
@@ -20,6 +22,7 @@ use plir_names::Meaning;
 // What a name means, with this many bytes left where it stands.
 fn expect_one<V>(meaning: Meaning<V>, left: usize) -> Result<V, IrStop>
     ensures found { IfOk result (λ v. meaning ≡ Meaning.Only v) }
+    ensures none { IfErr result (TellsMeaning meaning) }
     ensures told { IfErr result IsTold }
 {
     match meaning {
@@ -38,6 +41,7 @@ fn expect_type<D: OpSet>(
 ) -> Result<(), IrStop>
     requires { IsValueLive ctx.now value }
     ensures same { OnOk result (type_of_value ctx.now value ≡ Some ty) }
+    ensures other { IfErr result (λ stop. TellsType stop × (type_of_value ctx.now value ≡ Some ty → ⊥)) }
     ensures told { IfErr result IsTold }
 {
     if value.get_type(ctx).index() == ty {
@@ -58,6 +62,7 @@ fn push_operand<D: OpSet>(
     ensures pushed { OnOk result (ctx.new ≡ with_op_edit ctx.old op
         (λ o. record o { operands = insert o.operands (length (operands_of ctx.old op)) value })) }
     ensures same { OnErr result (ctx.new ≡ ctx.old) }
+    ensures memory { IfErr result TellsNoUse }
     ensures told { IfErr result IsTold }
     ensures whole { IsWellFormed D.attr_handles ctx.new }
 {
@@ -80,6 +85,11 @@ fn link_operand<'a, D: OpSet>(
     requires live { IsLive ctx.old (IRNode.Operation op) }
     requires values { BearAll same_name (IsValueLive ctx.old) notes.now.values }
     ensures linked { IsLinkedAt ctx.old ctx.new op }
+    ensures meant { OnOk result (LinksUse notes.now ctx.old ctx.new op
+        (noted_operand (name.entry.0, name.entry.1.word.now) ty.0)) }
+    ensures same { OnErr result (ctx.new ≡ ctx.old) }
+    ensures unmeant { IfErr result (FailsUse notes.now ctx.old
+        (noted_operand (name.entry.0, name.entry.1.word.now) ty.0)) }
     ensures told { IfErr result IsTold }
     ensures whole { IsWellFormed D.attr_handles ctx.new }
 {
@@ -107,6 +117,11 @@ fn link_successor<'a, D: OpSet>(
     requires below { place < length (successors_of ctx.old op) }
     requires labels { BearAll same_label (λ b. IsLive ctx.old (IRNode.BasicBlock b)) notes.now.labels }
     ensures linked { IsLinkedAt ctx.old ctx.new op }
+    ensures meant { OnOk result (LinksUse notes.now ctx.old ctx.new op
+        (noted_successor (Some region, label.entry.word.now) place)) }
+    ensures same { OnErr result (ctx.new ≡ ctx.old) }
+    ensures unmeant { IfErr result (FailsUse notes.now ctx.old
+        (noted_successor (Some region, label.entry.word.now) place)) }
     ensures told { IfErr result IsTold }
     ensures whole { IsWellFormed D.attr_handles ctx.new }
 {
@@ -128,6 +143,9 @@ fn link_use<'a, D: OpSet>(
     requires values { BearAll same_name (IsValueLive ctx.old) notes.now.values }
     requires labels { BearAll same_label (λ b. IsLive ctx.old (IRNode.BasicBlock b)) notes.now.labels }
     ensures linked { IsLinkedAt ctx.old ctx.new pending.now.op }
+    ensures meant { OnOk result (LinksUse notes.now ctx.old ctx.new pending.now.op (noted_use pending.now)) }
+    ensures same { OnErr result (ctx.new ≡ ctx.old) }
+    ensures unmeant { IfErr result (FailsUse notes.now ctx.old (noted_use pending.now)) }
     ensures told { IfErr result IsTold }
     ensures whole { IsWellFormed D.attr_handles ctx.new }
 {
@@ -146,6 +164,8 @@ pub fn link_uses<'a, D: OpSet>(ctx: &mut Context<D>, notes: &Notes<'a>) -> Resul
     requires { AreReady ctx.old notes.now }
     ensures linked { (first : ContextView D.Kind D.Attr D.Ty) → AreNew first notes.now →
         IsLinked first ctx.old ctx.new }
+    ensures meant { OnOk result (LinksUses notes.now ctx.old ctx.new notes.now.uses.items) }
+    ensures unmeant { IfErr result (FailsUses notes.now ctx.old ctx.new notes.now.uses.items) }
     ensures told { IfErr result IsTold }
     ensures whole { IsWellFormed D.attr_handles ctx.new }
 {

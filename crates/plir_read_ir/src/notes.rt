@@ -1,11 +1,15 @@
 //! What is noted while a text is read: who bears which name, and what is used by its name.
-ghost use Rattle.std.specs.Prelude.{◌≡◌, ◌<◌, ◌∷◌, [], ℕ, length, option_map, OnOk, IfErr};
+ghost use Rattle.std.specs.Prelude.{◌≡◌, ◌<◌, ◌∷◌, ◌++◌, [], ℕ, List, length, option_map, OnOk, IfErr};
 ghost use Rattle.plir_names.specs.Meanings.{Says};
 ghost use Rattle.plir_names.specs.Tables.{meanings};
 ghost use Rattle.plir_core.specs.ContextView.{IsLive, IsValueLive, arg_types_of, result_types_of};
 ghost use Rattle.plir_core.specs.declared.ptr.IRNode.{IRNode};
 ghost use Rattle.plir_read.specs.Stopping.{IsRefusal};
+ghost use Rattle.plir_read_ir.specs.Mentions.{arguments_bear, results_bear, values_in};
 ghost use Rattle.plir_read_ir.specs.Noting.{AddsUses, BearAll, Bears, IsPlaceOf, places, same_label, same_name};
+ghost use Rattle.plir_read_ir.specs.Readings.{AddsNoted, AddsValues, noted_as, noted_operands, noted_successor};
+ghost use Rattle.plir_read_ir.specs.Readings.{noted_successors, place_in};
+ghost use Rattle.plir_read_ir.specs.Spelling.{words};
 
 use crate::spelled::Spelled;
 use crate::uses::SpelledUses;
@@ -62,7 +66,9 @@ pub const OUTSIDE: Place = Place {
 
 // What a label of an operation's successors is to mean, by where the operation stands and the successor's place.
 fn wanted_at(block: Option<(Ptr<Region>, Ptr<BasicBlock>)>, place: usize) -> Wanted
-    ensures { (n : ℕ) → place < n → IsPlaceOf (places block n) result }
+    ensures place { (n : ℕ) → place < n → IsPlaceOf (places block n) result }
+    ensures noted { (w : List ℕ) → noted_as w result ≡ noted_successor (option_map (λ b. b.0) block, w)
+        (place_in (option_map (λ b. b.0) block) place) }
 {
     match block {
         Some((region, _)) => Wanted::Successor(region, place),
@@ -92,6 +98,8 @@ fn note_operands<'a>(
 ) -> Result<(), Stop>
     requires { length types.now ≡ length names.now }
     ensures added { OnOk result (AddsUses op 0 uses.old.items uses.new.items) }
+    ensures noted { OnOk result (AddsNoted op (noted_operands body (words names.now) types.now) uses.old.items
+        uses.new.items) }
     ensures refused { IfErr result (IsRefusal ⊥) }
 {
     'names: for place in 0..names.len() {
@@ -111,6 +119,8 @@ fn note_successors<'a>(
 ) -> Result<(), Stop>
     ensures added { OnOk result (AddsUses op (places block (length labels.now)) uses.old.items
         uses.new.items) }
+    ensures noted { OnOk result (AddsNoted op (noted_successors (option_map (λ b. b.0) block) 0 (words labels.now))
+        uses.old.items uses.new.items) }
     ensures refused { IfErr result (IsRefusal ⊥) }
 {
     'labels: for place in 0..labels.len() {
@@ -168,6 +178,8 @@ impl<'a> Notes<'a> {
     ) -> Result<(), Stop>
         requires live { IsLive ctx.now (IRNode.Operation op) }
         requires as_many { length names.now ≡ length (result_types_of ctx.now op) }
+        ensures says { OnOk result (AddsValues self.old.values self.new.values
+            (values_in (results_bear body (IRNode.Operation op) (words names.now)))) }
         ensures borne { OnOk result (BearAll same_name (IsValueLive ctx.now) self.old.values →
             BearAll same_name (IsValueLive ctx.now) self.new.values) }
         ensures labels { self.new.labels ≡ self.old.labels }
@@ -190,6 +202,8 @@ impl<'a> Notes<'a> {
     ) -> Result<(), Stop>
         requires live { IsLive ctx.now (IRNode.BasicBlock block) }
         requires as_many { length names.now ≡ length (arg_types_of ctx.now block) }
+        ensures says { OnOk result (AddsValues self.old.values self.new.values
+            (values_in (arguments_bear body (IRNode.BasicBlock block) (words names.now)))) }
         ensures borne { OnOk result (BearAll same_name (IsValueLive ctx.now) self.old.values →
             BearAll same_name (IsValueLive ctx.now) self.new.values) }
         ensures labels { self.new.labels ≡ self.old.labels }
@@ -230,6 +244,9 @@ impl<'a> Notes<'a> {
     ) -> Result<(), Stop>
         requires { length types.now ≡ length uses.now.operands.items }
         ensures added { OnOk result (AddsUses op (places at.block (length uses.now.successors.items))
+            self.old.uses.items self.new.uses.items) }
+        ensures noted { OnOk result (AddsNoted op (noted_operands at.body (words uses.now.operands.items) types.now ++
+            noted_successors (option_map (λ b. b.0) at.block) 0 (words uses.now.successors.items))
             self.old.uses.items self.new.uses.items) }
         ensures values { self.new.values ≡ self.old.values }
         ensures labels { self.new.labels ≡ self.old.labels }

@@ -1,11 +1,15 @@
 //! From a text to operations in a context, whose uses are noted.
-ghost use Rattle.std.specs.Prelude.{◌≡◌, ◌<◌, [], IfErr, IfOk, None, Some, length, if◌then◌else◌};
+ghost use Rattle.std.specs.Prelude.{◌≡◌, ◌<◌, [], ℕ, List, IfErr, IfOk, None, Some, length, if◌then◌else◌};
 ghost use Rattle.plir_core.specs.ContextView.{IsLive, children};
 ghost use Rattle.plir_core.specs.WellFormed.{IsWellFormed};
 ghost use Rattle.plir_core.specs.declared.ptr.IRNode.{IRNode};
 ghost use Rattle.plir_read_ir.specs.IrFaults.{IsToldByText};
-ghost use Rattle.plir_read_ir.specs.Noting.{IsPlaceLive, NotesOn};
+ghost use Rattle.plir_read_ir.specs.IrMeaning.{AreResultNames};
+ghost use Rattle.plir_read_ir.specs.Mentions.{Scope};
+ghost use Rattle.plir_read_ir.specs.Noting.{AreReady, IsPlaceLive, NotesOn};
 ghost use Rattle.plir_read_ir.specs.Progress.{HasFront, HasGrown, HasRead, IsReading};
+ghost use Rattle.plir_read_ir.specs.Readings.{ReadsBehind, ReadsBlock, ReadsBody, ReadsHead, ReadsIr, ReadsOps};
+ghost use Rattle.plir_read_ir.specs.Readings.{ReadsOwnFront, ReadsRegions, scope_of};
 
 use crate::heads::{SpelledHead, read_spelled_head};
 use crate::making::{make_own, stand_ins};
@@ -42,6 +46,8 @@ fn read_ops<'a, D: ReadSet>(
     ensures grown { IfOk result (λ x. HasGrown bytes.now x.now ctx.old ctx.new (IRNode.BasicBlock block)) }
     ensures kept { IsReading bytes.now (Some (IRNode.BasicBlock block)) ctx.old ctx.new }
     ensures noted { IfOk result (λ x. NotesOn ctx.old notes.old ctx.new notes.new) }
+    ensures stands { IfOk result (λ x. AreReady ctx.old notes.old → ReadsOps D.find_kind D.is_isolated levels
+        bytes.now x.now ctx.old ctx.new notes.old notes.new (scope_of at) (IRNode.BasicBlock block)) }
     ensures told { IfErr result IsToldByText }
     ensures whole { IsWellFormed D.attr_handles ctx.new }
 {
@@ -82,6 +88,8 @@ fn read_block_front<'a, D: ReadSet>(
     ensures shorter { IfOk result (λ x. length x.1.now < length bytes.now) }
     ensures kept { IsReading bytes.now None ctx.old ctx.new }
     ensures noted { IfOk result (λ x. NotesOn ctx.old notes.old ctx.new notes.new) }
+    ensures stands { IfOk result (λ x. ReadsHead D.find_kind D.is_isolated levels bytes.now x.1.now ctx.old ctx.new
+        notes.old notes.new (record { body = body; region = Some region }) (IRNode.BasicBlock x.0)) }
     ensures told { IfErr result IsToldByText }
     ensures whole { IsWellFormed D.attr_handles ctx.new }
 {
@@ -111,6 +119,9 @@ fn read_block<'a, D: ReadSet>(
     ensures shorter { IfOk result (λ x. length x.1.now < length bytes.now) }
     ensures kept { IsReading bytes.now None ctx.old ctx.new }
     ensures noted { IfOk result (λ x. NotesOn ctx.old notes.old ctx.new notes.new) }
+    ensures stands { IfOk result (λ x. AreReady ctx.old notes.old → ReadsBlock D.find_kind D.is_isolated levels
+        bytes.now x.1.now ctx.old ctx.new notes.old notes.new (record { body = body; region = Some region })
+        (IRNode.BasicBlock x.0)) }
     ensures told { IfErr result IsToldByText }
     ensures whole { IsWellFormed D.attr_handles ctx.new }
 {
@@ -148,6 +159,9 @@ fn read_body<'a, D: ReadSet>(
     ensures shorter { IfOk result (λ x. length x.now < length bytes.now) }
     ensures kept { IsReading bytes.now (Some (IRNode.Region region)) ctx.old ctx.new }
     ensures noted { IfOk result (λ x. NotesOn ctx.old notes.old ctx.new notes.new) }
+    ensures stands { IfOk result (λ x. AreReady ctx.old notes.old → ReadsBody D.find_kind D.is_isolated levels
+        bytes.now x.now ctx.old ctx.new notes.old notes.new (record { body = body; region = Some region })
+        (IRNode.Region region)) }
     ensures told { IfErr result IsToldByText }
     ensures whole { IsWellFormed D.attr_handles ctx.new }
 {
@@ -191,6 +205,8 @@ fn read_regions<'a, D: ReadSet>(
     ensures grown { IfOk result (λ x. HasGrown bytes.now x.now ctx.old ctx.new (IRNode.Operation op)) }
     ensures kept { IsReading bytes.now (Some (IRNode.Operation op)) ctx.old ctx.new }
     ensures noted { IfOk result (λ x. NotesOn ctx.old notes.old ctx.new notes.new) }
+    ensures stands { IfOk result (λ x. AreReady ctx.old notes.old → ReadsRegions D.find_kind D.is_isolated levels
+        bytes.now x.now ctx.old ctx.new notes.old notes.new body (IRNode.Operation op)) }
     ensures told { IfErr result IsToldByText }
     ensures whole { IsWellFormed D.attr_handles ctx.new }
 {
@@ -227,6 +243,9 @@ fn read_bodied<'a, D: ReadSet>(
     ensures read { IfOk result (λ x. HasRead bytes.now x.1.now ctx.old ctx.new (IRNode.Operation x.0)) }
     ensures kept { IsReading bytes.now None ctx.old ctx.new }
     ensures noted { IfOk result (λ x. NotesOn ctx.old notes.old ctx.new notes.new) }
+    ensures stands { IfOk result (λ x. AreReady ctx.old notes.old → (ws : List (List ℕ)) → length ws ≡ names →
+        (at : Scope) → ReadsBehind D.find_kind D.is_isolated levels ws bytes.now x.1.now ctx.old ctx.new notes.old
+        notes.new (IrKind.Builtin (HeadKind.Bodied kind)) at (IRNode.Operation x.0)) }
     ensures told { IfErr result IsToldByText }
     ensures whole { IsWellFormed D.attr_handles ctx.new }
 {
@@ -259,6 +278,9 @@ fn read_named_constant<'a, D: ReadSet>(
     ensures read { IfOk result (λ x. HasRead bytes.now x.1.now ctx.old ctx.new (IRNode.Operation x.0)) }
     ensures kept { IsReading bytes.now None ctx.old ctx.new }
     ensures noted { IfOk result (λ x. NotesOn ctx.old notes.old ctx.new notes.new) }
+    ensures stands { IfOk result (λ x. AreReady ctx.old notes.old → (ws : List (List ℕ)) →
+        AreResultNames names.entry ws → ReadsBehind D.find_kind D.is_isolated levels ws bytes.now x.1.now ctx.old
+        ctx.new notes.old notes.new (IrKind.Builtin HeadKind.Constant) (scope_of at) (IRNode.Operation x.0)) }
     ensures told { IfErr result IsToldByText }
     ensures whole { IsWellFormed D.attr_handles ctx.new }
 {
@@ -289,6 +311,9 @@ fn read_own_front<'a, D: ReadSet>(
     ensures read { IfOk result (λ x. HasFront bytes.now x.1.now ctx.old ctx.new (IRNode.Operation x.0)) }
     ensures kept { IsReading bytes.now None ctx.old ctx.new }
     ensures noted { IfOk result (λ x. NotesOn ctx.old notes.old ctx.new notes.new) }
+    ensures stands { IfOk result (λ x. AreReady ctx.old notes.old → (ws : List (List ℕ)) →
+        AreResultNames names.entry ws → ReadsOwnFront D.find_kind D.is_isolated levels ws bytes.now x.1.now ctx.old
+        ctx.new notes.old notes.new kind (scope_of at) (IRNode.Operation x.0)) }
     ensures told { IfErr result IsToldByText }
     ensures whole { IsWellFormed D.attr_handles ctx.new }
 {
@@ -347,6 +372,9 @@ fn read_own<'a, D: ReadSet>(
     ensures read { IfOk result (λ x. HasRead bytes.now x.1.now ctx.old ctx.new (IRNode.Operation x.0)) }
     ensures kept { IsReading bytes.now None ctx.old ctx.new }
     ensures noted { IfOk result (λ x. NotesOn ctx.old notes.old ctx.new notes.new) }
+    ensures stands { IfOk result (λ x. AreReady ctx.old notes.old → (ws : List (List ℕ)) →
+        AreResultNames names.entry ws → ReadsBehind D.find_kind D.is_isolated levels ws bytes.now x.1.now ctx.old
+        ctx.new notes.old notes.new (IrKind.Own kind) (scope_of at) (IRNode.Operation x.0)) }
     ensures told { IfErr result IsToldByText }
     ensures whole { IsWellFormed D.attr_handles ctx.new }
 {
@@ -381,6 +409,8 @@ pub fn read_ir_op<'a, D: ReadSet>(
     ensures shorter { IfOk result (λ x. length x.1.now < length bytes.now) }
     ensures kept { IsReading bytes.now None ctx.old ctx.new }
     ensures noted { IfOk result (λ x. NotesOn ctx.old notes.old ctx.new notes.new) }
+    ensures stands { IfOk result (λ x. AreReady ctx.old notes.old → ReadsIr D.find_kind D.is_isolated levels
+        bytes.now x.1.now ctx.old ctx.new notes.old notes.new (scope_of at) (IRNode.Operation x.0)) }
     ensures told { IfErr result IsToldByText }
     ensures whole { IsWellFormed D.attr_handles ctx.new }
 {

@@ -7,9 +7,12 @@ ghost use Rattle.plir_core.specs.WellFormed.{IsWellFormed};
 ghost use Rattle.plir_core.specs.declared.ptr.IRNode.{IRNode};
 ghost use Rattle.plir_read.specs.Keeping.{KeepsOlder};
 ghost use Rattle.plir_read.specs.Slots.{IsMadeInOrder};
-ghost use Rattle.plir_read_ir.specs.IrFaults.{HasNoPlace, IsTold, IsToldByText};
+ghost use Rattle.plir_read_ir.specs.IrFaults.{HasNoPlace, IsTold, IsToldByText, fault_of};
+ghost use Rattle.plir_read_ir.specs.IrStanding.{StandsForIr};
 ghost use Rattle.plir_read_ir.specs.Noting.{AreReady, NotesOn};
 ghost use Rattle.plir_read_ir.specs.Progress.{IsReading};
+ghost use Rattle.plir_read_ir.specs.Readings.{ReadsText, SaysLabels, SaysValues};
+ghost use Rattle.plir_read_ir.specs.UseFaults.{IsAtUse};
 
 use crate::fault::{IrErr, IrStop, placed};
 use crate::linking::link_uses;
@@ -18,6 +21,7 @@ use crate::ops::read_ir_op;
 use plir_attr_text::fault::Stop;
 use plir_attr_text::place::read_end;
 use plir_attr_text::read_types::MAX_LEVELS;
+use plir_core::laws::contexts_stand;
 use plir_core::{Context, Operation, Ptr};
 use plir_read_own::ReadSet;
 use std::alloc::Global;
@@ -33,6 +37,8 @@ fn read_noted<'a, D: ReadSet>(
     ensures slots { IfOk result (λ p. IsMadeInOrder ctx.old.nodes ctx.new.nodes (IRNode.Operation p)) }
     ensures kept { IsReading bytes.now None ctx.old ctx.new }
     ensures noted { IfOk result (λ x. NotesOn ctx.old notes.old ctx.new notes.new) }
+    ensures stands { IfOk result (λ p. AreReady ctx.old notes.old → ReadsText D.find_kind D.is_isolated 200 bytes.now
+        ctx.old ctx.new notes.old notes.new (IRNode.Operation p)) }
     ensures told { IfErr result IsToldByText }
     ensures whole { IsWellFormed D.attr_handles ctx.new }
 {
@@ -53,12 +59,18 @@ fn read_and_link<'a, D: ReadSet>(
 ) -> Result<Ptr<Operation>, IrStop>
     requires ready { AreReady ctx.old notes.old }
     requires none { notes.old.uses.items ≡ [] }
+    requires no_value { SaysValues notes.old.values [] }
+    requires no_label { SaysLabels notes.old.labels [] }
+    ensures stands { IfOk result (λ p. StandsForIr D.find_kind D.is_isolated 200 ctx.new bytes.now
+        (IRNode.Operation p)) }
+    ensures unmeant { IfErr result (λ stop. IsAtUse D.find_kind D.is_isolated 200 ctx.new bytes.now (fault_of stop)) }
     ensures made { IfOk result (λ p. IsMade ctx.old.nodes ctx.new.nodes (IRNode.Operation p)) }
     ensures slots { IfOk result (λ p. IsMadeInOrder ctx.old.nodes ctx.new.nodes (IRNode.Operation p)) }
     ensures kept { IsReading bytes.now None ctx.old ctx.new }
     ensures told { IfErr result IsTold }
     ensures whole { IsWellFormed D.attr_handles ctx.new }
 {
+    contexts_stand::<D>();
     let op = match read_noted(alloc, ctx, notes, bytes) {
         Ok(op) => op,
         Err(stop) => return Err(IrStop::Reading(stop)),
@@ -74,6 +86,9 @@ fn read_linked<D: ReadSet>(
     ctx: &mut Context<D>,
     bytes: &[u8],
 ) -> Result<Ptr<Operation>, IrStop>
+    ensures stands { IfOk result (λ p. StandsForIr D.find_kind D.is_isolated 200 ctx.new bytes.now
+        (IRNode.Operation p)) }
+    ensures unmeant { IfErr result (λ stop. IsAtUse D.find_kind D.is_isolated 200 ctx.new bytes.now (fault_of stop)) }
     ensures made { IfOk result (λ p. IsMade ctx.old.nodes ctx.new.nodes (IRNode.Operation p)) }
     ensures slots { IfOk result (λ p. IsMadeInOrder ctx.old.nodes ctx.new.nodes (IRNode.Operation p)) }
     ensures kept { IsReading bytes.now None ctx.old ctx.new }
@@ -103,6 +118,9 @@ pub fn read_ir<D: ReadSet>(
     ctx: &mut Context<D>,
     text: &str,
 ) -> Result<Ptr<Operation>, IrErr>
+    ensures found { IfOk result (λ p. StandsForIr D.find_kind D.is_isolated 200 ctx.new text.now
+        (IRNode.Operation p)) }
+    ensures unmeant { IfErr result (λ e. IsAtUse D.find_kind D.is_isolated 200 ctx.new text.now e.fault) }
     ensures made { IfOk result (λ p. IsMade ctx.old.nodes ctx.new.nodes (IRNode.Operation p)) }
     ensures slots { IfOk result (λ p. IsMadeInOrder ctx.old.nodes ctx.new.nodes (IRNode.Operation p)) }
     ensures kept { KeepsOlder ctx.old ctx.new }

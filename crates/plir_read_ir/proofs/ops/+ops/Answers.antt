@@ -1,18 +1,29 @@
-use Rattle.std.proofs.Common.{None, Some, refl, sym, ap, subst, arith}
+use Rattle.std.proofs.Common.{None, Some, refl, sym, ap, subst, ◌∙◌, length, arith}
+use Rattle.std.proofs.lemmas.List.{length-map}
 use Rattle.plir_core.specs.declared.ptr.IRNode.TheVariants.{Operation, Region, BasicBlock}
 use Rattle.plir_attr_text.specs.laws.Ends.{end_itself, sign_end}
 use Rattle.plir_attr_text.specs.laws.TypeSteps.{behind_is}
 use Rattle.plir_read.specs.laws.OpEnds.{brace_end, header_end, semicolon_end}
-use Rattle.plir_read.specs.laws.OpFound.{brace_at-shorter, semicolon_at-shorter}
-use Rattle.plir_read.specs.laws.OpMade.{head_live}
+use Rattle.plir_attr_text.specs.Tokens.{Begins}
+use Rattle.plir_read.specs.laws.OpFound.{brace_at-shorter, brace_found, by_brace, by_semicolon, semicolon_at-shorter}
+use Rattle.plir_read.specs.laws.OpFound.{semicolon_found}
+use Rattle.plir_read.specs.laws.OpMade.{body_kept, head_live}
+use Rattle.plir_read.specs.laws.StartFound.{named_is}
 use Rattle.plir_attr_text.specs.laws.Meanings.{IsDictMeant-live}
 use Rattle.plir_read_ir.proofs.Children.{child_comes, gathers_none, live_still, reads_on, stands_apart}
+use Rattle.plir_read_ir.specs.Noting.{AreReady}
+use Rattle.plir_read_ir.specs.Readings.{scope_of}
+use Rattle.plir_read_ir.specs.Spelling.{word_of}
+use Rattle.plir_read_ir.proofs.Comes.{blocks_end, blocks_go_on, no_blocks_read, no_blocks_yet, no_ops_read, no_ops_yet}
+use Rattle.plir_read_ir.proofs.Comes.{no_regions_yet, ops_end, ops_go_on, placed_but, regions_go_on}
+use Rattle.plir_read_ir.proofs.Fronts.{block_reads, bodied_opened, bodied_reads, constant_opened, named_opened, one_past, one_sign}
+use Rattle.plir_read_ir.proofs.Fronts.{own_reads}
 use Rattle.plir_read_ir.proofs.Lefts.{opening_left}
 use Rattle.plir_read_ir.proofs.Noted.{block_still, holds_itself, holds_kept, holds_placed, notes_grown}
-use Rattle.plir_read_ir.proofs.Noted.{notes_itself, notes_next}
+use Rattle.plir_read_ir.proofs.Noted.{notes_itself, notes_next, ready_still}
 use Rattle.plir_read_ir.proofs.RegionSteps.{region_comes, region_reading}
 use Rattle.plir_read_ir.specs.Progress.{IsReading}
-use Rattle.plir_read_ir.proofs.Regions.{region_given}
+use Rattle.plir_read_ir.proofs.Regions.{region_given, region_kept}
 use Rattle.plir_read_ir.proofs.Steps.{behind_length, braces_end, braces_shorter, left_behind, op_read, op_reading, read_behind}
 use Rattle.plir_read_ir.proofs.Steps.{reading_behind, reading_inside, reading_itself, reading_kept, reading_made}
 use Rattle.plir_read_ir.proofs.Steps.{reading_typed, root_read, sign_shorter}
@@ -53,6 +64,15 @@ read_block-returns-in-Ok-read_ops-clause-noted g t c =
     notes_next _ c.read_block_front.new.ctx c.read_ops.new.ctx c.read_ops.new.ctx _ _ _ f.read.made.keeps f.noted
     c.in-Ok-read_ops.ensures.noted (holds_itself _)
 
+pub read_block-returns-in-Ok-read_ops-clause-stands : goal.read_block-returns-in-Ok-read_ops-clause-stands
+read_block-returns-in-Ok-read_ops-clause-stands g t c =
+    let f = c.in-Ok.ensures in
+    λ ready. block_reads g.D.ReadSet.find_kind g.D.ReadSet.is_isolated c.args.levels c.args.bytes.now c.in-Ok.read.1.now
+    c.in-Ok-read_ops.end.now c.args.ctx.now c.read_block_front.new.ctx c.read_ops.new.ctx c.args.notes.now
+    c.read_block_front.new.notes c.read_ops.new.notes (record { body = c.args.body; region = Some c.args.region })
+    c.in-Ok.read.0 f.stands f.read.made.keeps f.read.made.root c.in-Ok-read_ops.ensures.kept.kept
+    (c.in-Ok-read_ops.ensures.stands (f.noted.ready ready))
+
 -- ---- the blocks of a region
 
 pub read_body-returns-in_err-start-clause-kept : goal.read_body-returns-in_err-start-clause-kept
@@ -74,9 +94,21 @@ read_body-returns-in-Some-clause-kept g t c = reading_itself _ _ _
 pub read_body-returns-in-Some-clause-noted : goal.read_body-returns-in-Some-clause-noted
 read_body-returns-in-Some-clause-noted g t c = notes_itself _ _
 
+pub read_body-returns-in-Some-clause-stands : goal.read_body-returns-in-Some-clause-stands
+read_body-returns-in-Some-clause-stands g t c =
+    λ ready. no_blocks_read g.D.ReadSet.find_kind g.D.ReadSet.is_isolated c.args.levels c.args.bytes.now
+    c.in_ok-start.start.now c.in-Some.rest.now c.args.ctx.now c.args.notes.now
+    (record { body = c.args.body; region = Some c.args.region }) (Region c.args.region) c.requires.empty
+    (one_sign 123 c.args.bytes.now c.in_ok-start.start.now c.in_ok-start.ensures)
+    (one_past 125 c.in_ok-start.start.now c.in-Some.rest.now (sym c.in-Some.ensures))
+
 pub read_body-inner-init : goal.read_body-inner-init
 read_body-inner-init g t c =
     record {
+      stands = λ ready. no_blocks_yet g.D.ReadSet.find_kind g.D.ReadSet.is_isolated c.args.levels c.args.bytes.now
+          c.in_ok-start.start.now c.args.ctx.now c.args.notes.now
+          (record { body = c.args.body; region = Some c.args.region }) (Region c.args.region) c.requires.empty
+          (one_sign 123 c.args.bytes.now c.in_ok-start.start.now c.in_ok-start.ensures);
       gathers = gathers_none _ c.args.bytes.now c.in_ok-start.start.now c.args.ctx.now (Region c.args.region)
           c.requires.live c.requires.empty c.stands.ensures.whole (sign_end 123 _ _ c.in_ok-start.ensures);
       noted = notes_itself _ _;
@@ -116,6 +148,20 @@ read_body-inner-preserved g t c =
       noted = notes_next _ _ c.read_block.new.ctx _ _ _ _ i.gathers.has.grown.keeps i.noted c.in-Ok.ensures.noted
           (holds_placed _ _ _ _ _ p.placed);
       shorter = omega (arith, i.shorter, read_body-inner-smaller g t c);
+      stands = λ ready. blocks_go_on g.D.ReadSet.find_kind g.D.ReadSet.is_isolated c.args.levels c.args.bytes.now
+          c.inner.rest.now c.in-Ok.read.1.now c.past_brace-goes_on.result.1.now c.args.ctx.now c.inner.ctx
+          c.read_block.new.ctx c.insert_at_back.new.ctx c.args.notes.now c.inner.notes c.read_block.new.notes
+          (record { body = c.args.body; region = Some c.args.region }) (Region c.args.region) (BasicBlock c.in-Ok.read.0)
+          (i.stands ready) (c.in-Ok.ensures.stands (i.noted.ready ready)) (c.contexts_stand.ensures _ i.gathers.whole)
+          (c.contexts_stand.ensures _ c.in-Ok.ensures.whole) i.gathers.has.grown.keeps
+          (live_still _ _ _ _ _ _ i.gathers)
+          (placed_but c.inner.ctx c.read_block.new.ctx c.insert_at_back.new.ctx (BasicBlock c.in-Ok.read.0)
+          (Region c.args.region) _ c.growth-in-inner.ensures c.in-Ok.ensures.read.made p.placed
+          c.in-Ok.ensures.kept.kept.types (ap (λ z. z.types) p.after)) c.in-Ok.ensures.read.made p.placed
+          (ap (λ z. z.types) p.after)
+          (subst (λ b. Begins c.in-Ok.read.1.now (by_brace b) c.past_brace-goes_on.result.1.now) c.if-goes_on.true
+          (brace_found c.in-Ok.read.1.now (c.past_brace-goes_on.result.0, c.past_brace-goes_on.result.1.now)
+          c.past_brace-goes_on.ensures));
     }
 
 pub read_body-returns-else-goes_on : goal.read_body-returns-else-goes_on
@@ -137,6 +183,20 @@ read_body-returns-else-goes_on g t c =
       kept = all.reading;
       noted = notes_next _ _ c.read_block.new.ctx _ _ _ _ i.gathers.has.grown.keeps i.noted c.in-Ok.ensures.noted
           (holds_placed _ _ _ _ _ p.placed);
+      stands = λ ready. blocks_end g.D.ReadSet.find_kind g.D.ReadSet.is_isolated c.args.levels c.args.bytes.now
+          c.inner.rest.now c.in-Ok.read.1.now c.past_brace-goes_on.result.1.now c.args.ctx.now c.inner.ctx
+          c.read_block.new.ctx c.insert_at_back.new.ctx c.args.notes.now c.inner.notes c.read_block.new.notes
+          (record { body = c.args.body; region = Some c.args.region }) (Region c.args.region) (BasicBlock c.in-Ok.read.0)
+          (i.stands ready) (c.in-Ok.ensures.stands (i.noted.ready ready)) (c.contexts_stand.ensures _ i.gathers.whole)
+          (c.contexts_stand.ensures _ c.in-Ok.ensures.whole) i.gathers.has.grown.keeps
+          (live_still _ _ _ _ _ _ i.gathers)
+          (placed_but c.inner.ctx c.read_block.new.ctx c.insert_at_back.new.ctx (BasicBlock c.in-Ok.read.0)
+          (Region c.args.region) _ c.growth-in-inner.ensures c.in-Ok.ensures.read.made p.placed
+          c.in-Ok.ensures.kept.kept.types (ap (λ z. z.types) p.after)) c.in-Ok.ensures.read.made p.placed
+          (ap (λ z. z.types) p.after)
+          (subst (λ b. Begins c.in-Ok.read.1.now (by_brace b) c.past_brace-goes_on.result.1.now) c.if-goes_on.false
+          (brace_found c.in-Ok.read.1.now (c.past_brace-goes_on.result.0, c.past_brace-goes_on.result.1.now)
+          c.past_brace-goes_on.ensures));
       told = tt;
       whole = p.whole;
     }
@@ -154,9 +214,16 @@ read_ops-returns-then-ends_block-clause-kept g t c = reading_itself _ _ _
 pub read_ops-returns-then-ends_block-clause-noted : goal.read_ops-returns-then-ends_block-clause-noted
 read_ops-returns-then-ends_block-clause-noted g t c = notes_itself _ _
 
+pub read_ops-returns-then-ends_block-clause-stands : goal.read_ops-returns-then-ends_block-clause-stands
+read_ops-returns-then-ends_block-clause-stands g t c =
+    λ ready. no_ops_read g.D.ReadSet.find_kind g.D.ReadSet.is_isolated c.args.levels c.args.bytes.now c.args.ctx.now
+    c.args.notes.now (scope_of c.args.at) (BasicBlock c.args.block) c.requires.empty
+
 pub read_ops-ops-init : goal.read_ops-ops-init
 read_ops-ops-init g t c =
     record {
+      stands = λ ready. no_ops_yet g.D.ReadSet.find_kind g.D.ReadSet.is_isolated c.args.levels c.args.bytes.now
+          c.args.ctx.now c.args.notes.now (scope_of c.args.at) (BasicBlock c.args.block) c.requires.empty;
       gathers = gathers_none _ c.args.bytes.now c.args.bytes.now c.args.ctx.now (BasicBlock c.args.block)
           c.requires.live c.requires.empty c.stands.ensures.whole (end_itself _);
       noted = notes_itself _ _;
@@ -196,6 +263,22 @@ read_ops-ops-preserved g t c =
       gathers = all;
       noted = notes_next _ _ c.read_ir_op.new.ctx _ _ _ _ i.gathers.has.grown.keeps i.noted c.in-Ok.ensures.noted
           (holds_placed _ _ _ _ _ p.placed);
+      stands = λ ready. ops_go_on g.D.ReadSet.find_kind g.D.ReadSet.is_isolated c.args.levels c.args.bytes.now
+          c.ops.rest.now c.in-Ok.read.1.now c.past_semicolon-goes_on.result.1.now c.args.ctx.now c.ops.ctx
+          c.read_ir_op.new.ctx c.insert_at_back.new.ctx c.args.notes.now c.ops.notes c.read_ir_op.new.notes
+          (scope_of c.args.at) (BasicBlock c.args.block) (Operation c.in-Ok.read.0) (i.stands ready)
+          (c.in-Ok.ensures.stands (i.noted.ready ready)) (c.contexts_stand.ensures _ i.gathers.whole)
+          (c.contexts_stand.ensures _ c.in-Ok.ensures.whole) i.gathers.has.grown.keeps
+          (live_still _ _ _ _ _ _ i.gathers)
+          (placed_but c.ops.ctx c.read_ir_op.new.ctx c.insert_at_back.new.ctx (Operation c.in-Ok.read.0)
+          (BasicBlock c.args.block) _ c.growth-in-ops.ensures c.in-Ok.ensures.read.made p.placed
+          c.in-Ok.ensures.kept.kept.types (ap (λ z. z.types) p.after)) c.in-Ok.ensures.read.made p.placed
+          (ap (λ z. z.types) p.after)
+          (subst (λ b. Begins c.in-Ok.read.1.now (by_semicolon b) c.past_semicolon-goes_on.result.1.now)
+          c.if-goes_on.true
+          (semicolon_found c.in-Ok.read.1.now
+          (c.past_semicolon-goes_on.result.0, c.past_semicolon-goes_on.result.1.now)
+          c.past_semicolon-goes_on.ensures));
       at_live = block_still c.args.ctx.now c.insert_at_back.new.ctx
           (holds_kept c.args.ctx.now c.insert_at_back.new.ctx all.has.grown.keeps) c.args.at.block c.requires.at_live;
     }
@@ -213,6 +296,22 @@ read_ops-returns-else-goes_on g t c =
       kept = all.reading;
       noted = notes_next _ _ c.read_ir_op.new.ctx _ _ _ _ i.gathers.has.grown.keeps i.noted c.in-Ok.ensures.noted
           (holds_placed _ _ _ _ _ p.placed);
+      stands = λ ready. ops_end g.D.ReadSet.find_kind g.D.ReadSet.is_isolated c.args.levels c.args.bytes.now
+          c.ops.rest.now c.in-Ok.read.1.now c.past_semicolon-goes_on.result.1.now c.args.ctx.now c.ops.ctx
+          c.read_ir_op.new.ctx c.insert_at_back.new.ctx c.args.notes.now c.ops.notes c.read_ir_op.new.notes
+          (scope_of c.args.at) (BasicBlock c.args.block) (Operation c.in-Ok.read.0) (i.stands ready)
+          (c.in-Ok.ensures.stands (i.noted.ready ready)) (c.contexts_stand.ensures _ i.gathers.whole)
+          (c.contexts_stand.ensures _ c.in-Ok.ensures.whole) i.gathers.has.grown.keeps
+          (live_still _ _ _ _ _ _ i.gathers)
+          (placed_but c.ops.ctx c.read_ir_op.new.ctx c.insert_at_back.new.ctx (Operation c.in-Ok.read.0)
+          (BasicBlock c.args.block) _ c.growth-in-ops.ensures c.in-Ok.ensures.read.made p.placed
+          c.in-Ok.ensures.kept.kept.types (ap (λ z. z.types) p.after)) c.in-Ok.ensures.read.made p.placed
+          (ap (λ z. z.types) p.after)
+          (subst (λ b. Begins c.in-Ok.read.1.now (by_semicolon b) c.past_semicolon-goes_on.result.1.now)
+          c.if-goes_on.false
+          (semicolon_found c.in-Ok.read.1.now
+          (c.past_semicolon-goes_on.result.0, c.past_semicolon-goes_on.result.1.now)
+          c.past_semicolon-goes_on.ensures));
       told = tt;
       whole = p.whole;
     }
@@ -222,6 +321,8 @@ read_ops-returns-else-goes_on g t c =
 pub read_regions-regions-init : goal.read_regions-regions-init
 read_regions-regions-init g t c =
     record {
+      stands = λ ready. no_regions_yet g.D.ReadSet.find_kind g.D.ReadSet.is_isolated c.args.levels c.args.bytes.now
+          c.args.ctx.now c.args.notes.now c.args.body (Operation c.args.op) c.requires.empty;
       gathers = gathers_none _ c.args.bytes.now c.args.bytes.now c.args.ctx.now (Operation c.args.op) c.requires.live
           c.requires.empty c.stands.ensures.whole (end_itself _);
       noted = notes_itself _ _;
@@ -253,6 +354,17 @@ read_regions-regions-preserved g t c =
           c.in-Ok-read_body.behind.now c.growth.ensures b.whole
           (region_given s c.add_region.new.ctx i.gathers.whole.stored c.args.op c.in-Ok.region a.ok a.added.added.new
           a.live) b.grown;
+      stands = λ ready. regions_go_on g.D.ReadSet.find_kind g.D.ReadSet.is_isolated c.args.levels c.args.bytes.now
+          c.regions.rest.now c.in-Ok-read_body.behind.now c.args.ctx.now s c.add_region.new.ctx c.read_body.new.ctx
+          c.args.notes.now c.regions.notes c.read_body.new.notes c.args.body (Operation c.args.op) c.in-Ok.region
+          (i.stands ready)
+          (b.stands (ready_still s c.add_region.new.ctx (holds_kept s c.add_region.new.ctx a.added.added.keeps)
+          c.regions.notes (i.noted.ready ready))) (c.contexts_stand.ensures _ i.gathers.whole)
+          i.gathers.has.grown.keeps a.added.added.keeps
+          (region_kept s c.add_region.new.ctx c.read_body.new.ctx (Operation c.args.op) (Region c.in-Ok.region) a.added
+          (ap (λ z. z.types) a.ok) b.kept.kept)
+          (b.grown.grown.children (Operation c.args.op)
+          (a.added.added.keeps.live (Operation c.args.op) (live_still _ _ _ _ _ _ i.gathers)) (λ q. cc) ∙ a.added.last);
       noted = notes_next _ s c.read_body.new.ctx c.read_body.new.ctx _ _ _ i.gathers.has.grown.keeps i.noted
           (notes_grown s c.add_region.new.ctx c.read_body.new.ctx _ _ a.added.added.keeps b.noted) (holds_itself _);
     }
@@ -322,7 +434,36 @@ read_bodied-returns-in-Ok-clause-noted g t c =
     (Operation c.in_ok-op.op) (reading_typed _ _ _ k.rest k.grown k.named) o.made.made o.made.types in
     notes_grown c.args.ctx.now c.make_op.new.ctx c.read_body.new.ctx _ _ r.kept.keeps c.in-Ok.ensures.noted
 
+pub read_bodied-returns-in-Ok-clause-stands : goal.read_bodied-returns-in-Ok-clause-stands
+read_bodied-returns-in-Ok-clause-stands g t c =
+    let h = c.in_ok-header.ensures.read in
+    let k = c.in_ok-header.ensures in
+    let o = c.in_ok-op.ensures in
+    let r = reading_made c.args.bytes.now c.args.ctx.now c.read_header-read.new.ctx c.make_op.new.ctx
+    (Operation c.in_ok-op.op) (reading_typed _ _ _ k.rest k.grown k.named) o.made.made o.made.types in
+    λ ready ws many at. bodied_reads g.D.ReadSet.find_kind g.D.ReadSet.is_isolated c.args.levels ws c.args.bytes.now
+    c.in_ok-header.behind.now c.in-Ok.end.now c.args.ctx.now c.read_header-read.new.ctx c.make_op.new.ctx
+    c.read_body.new.ctx c.args.notes.now c.read_body.new.notes c.args.kind at c.in_ok-op.op c.in_ok-op.region
+    c.in_ok-header.header.head c.in_ok-header.header.entries h.0.0 k.rest ready
+    (named_is 0 c.args.names _ c.in_ok-expect_names.ensures ∙ sym many)
+    (behind_is _ h.0 c.in_ok-header.behind.now h.1 h.2.1) h.2.0 o.made c.in-Ok.ensures.kept.kept
+    (c.in-Ok.ensures.stands
+    (ready_still c.args.ctx.now c.make_op.new.ctx (holds_kept c.args.ctx.now c.make_op.new.ctx r.kept.keeps)
+    c.args.notes.now ready))
+    (body_kept c.args.ctx.now c.read_header-read.new.ctx c.make_op.new.ctx c.read_body.new.ctx c.in_ok-op.op
+    c.in_ok-op.region _ (c.contexts_stand.ensures _ o.whole) k.rest k.grown o.made c.in-Ok.ensures.kept.kept)
+
 -- ---- an own operation
+
+pub read_own-returns-in-Ok-read_regions-clause-stands : goal.read_own-returns-in-Ok-read_regions-clause-stands
+read_own-returns-in-Ok-read_regions-clause-stands g t c =
+    let f = c.in-Ok.ensures in
+    λ ready ws names. own_reads g.D.ReadSet.find_kind g.D.ReadSet.is_isolated c.args.levels ws c.args.bytes.now
+    c.in-Ok.read.1.now c.in-Ok-read_regions.end.now c.args.ctx.now c.read_own_front.new.ctx c.read_regions.new.ctx
+    c.args.notes.now c.read_own_front.new.notes c.read_regions.new.notes c.args.kind (scope_of c.args.at)
+    c.in-Ok.read.0 c.body_in-body.result (f.stands ready ws names) f.read.made.keeps f.read.made.root
+    c.in-Ok-read_regions.ensures.kept.kept c.body_in-body.ensures
+    (c.in-Ok-read_regions.ensures.stands (f.noted.ready ready))
 
 pub read_own-returns-in-Ok-read_regions-clause-read : goal.read_own-returns-in-Ok-read_regions-clause-read
 read_own-returns-in-Ok-read_regions-clause-read g t c =
@@ -364,6 +505,41 @@ read_ir_op-returns-in-Builtin-Bodied-clause-read g t c =
     (behind_is _ y.0 c.in_ok-opening.rest.now y.1 y.2.1) in
     read_behind c.args.bytes.now c.in_ok-opening.rest.now c.args.ctx.now c.read_bodied.new.ctx c.read_bodied.result l
     c.read_bodied.ensures.read
+
+pub read_ir_op-returns-in-Builtin-Bodied-clause-stands : goal.read_ir_op-returns-in-Builtin-Bodied-clause-stands
+read_ir_op-returns-in-Builtin-Bodied-clause-stands g t c =
+    let y = c.in_ok-opening.ensures in
+    bodied_opened g.D.ReadSet.find_kind g.D.ReadSet.is_isolated c.args.levels c.args.bytes.now c.in_ok-opening.rest.now
+    y.0.0.0 y.0.0.1 c.in-Builtin-Bodied.body c.args.ctx.now c.read_bodied.new.ctx c.args.notes.now
+    c.read_bodied.new.notes (scope_of c.args.at) c.read_bodied.result (omega (arith, c.in_ok-begin_level.ensures.some))
+    (behind_is _ y.0 c.in_ok-opening.rest.now y.1 y.2.1) c.in-Builtin-Bodied.field-0
+    (sym y.2.0.kind ∙ c.in-Builtin-Bodied.is)
+    (rw c.in-Builtin-Bodied.is at c.in-Builtin-Bodied.field-0-is)
+    (AreReady c.args.ctx.now c.args.notes.now) _
+    (sym (ap length y.2.0.names.spelled) ∙ length-map _ word_of ∙ sym (c.len-count.ensures ∙ c.in_ok-opening.opening.names.spelled.ok.0))
+    c.read_bodied.ensures.stands
+
+pub read_ir_op-returns-in-Builtin-Constant-clause-stands : goal.read_ir_op-returns-in-Builtin-Constant-clause-stands
+read_ir_op-returns-in-Builtin-Constant-clause-stands g t c =
+    let y = c.in_ok-opening.ensures in
+    constant_opened g.D.ReadSet.find_kind g.D.ReadSet.is_isolated c.args.levels c.args.bytes.now
+    c.in_ok-opening.rest.now y.0.0.0 y.0.0.1 c.args.ctx.now c.read_named_constant.new.ctx c.args.notes.now c.read_named_constant.new.notes
+    (scope_of c.args.at) c.read_named_constant.result (omega (arith, c.in_ok-begin_level.ensures.some))
+    (behind_is _ y.0 c.in_ok-opening.rest.now y.1 y.2.1) c.in-Builtin-Constant.field-0
+    (sym y.2.0.kind ∙ c.in-Builtin-Constant.is)
+    (rw c.in-Builtin-Constant.is at c.in-Builtin-Constant.field-0-is)
+    (AreReady c.args.ctx.now c.args.notes.now) c.in_ok-opening.opening.names y.2.0.names
+    c.read_named_constant.ensures.stands
+
+pub read_ir_op-returns-clause-stands : goal.read_ir_op-returns-clause-stands
+read_ir_op-returns-clause-stands g t c =
+    let y = c.in_ok-opening.ensures in
+    named_opened g.D.ReadSet.find_kind g.D.ReadSet.is_isolated c.args.levels c.args.bytes.now c.in_ok-opening.rest.now
+    y.0.0.0 y.0.0.1 _ c.args.ctx.now c.read_own.new.ctx c.args.notes.now c.read_own.new.notes
+    (scope_of c.args.at) c.read_own.result (omega (arith, c.in_ok-begin_level.ensures.some))
+    (behind_is _ y.0 c.in_ok-opening.rest.now y.1 y.2.1) (sym y.2.0.kind ∙ c.in-Own.is)
+    (AreReady c.args.ctx.now c.args.notes.now) c.in_ok-opening.opening.names y.2.0.names
+    c.read_own.ensures.stands
 
 pub read_ir_op-returns-in-Builtin-Bodied-clause-shorter : goal.read_ir_op-returns-in-Builtin-Bodied-clause-shorter
 read_ir_op-returns-in-Builtin-Bodied-clause-shorter g t c =

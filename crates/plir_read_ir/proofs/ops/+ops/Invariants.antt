@@ -1,7 +1,9 @@
-use Rattle.std.proofs.Common.{◌+◌, ◌*◌, ◌<◌, length}
+use Rattle.std.proofs.Common.{◌+◌, ◌*◌, ◌<◌, Some, length}
 use Rattle.plir_core.specs.declared.ptr.IRNode.TheVariants.{Operation, Region, BasicBlock}
-use Rattle.plir_read_ir.specs.Noting.{IsPlaceLive, NotesOn}
+use Rattle.plir_read_ir.specs.Noting.{AreReady, IsPlaceLive, NotesOn}
+use Rattle.plir_read_ir.specs.Readings.{ReadsRegions, scope_of}
 use Rattle.plir_read_ir.proofs.Children.{Gathers}
+use Rattle.plir_read_ir.proofs.Comes.{BlocksSoFar, OpsSoFar}
 use Rattle.plir_read_ir.proofs.ops.+ops.Given as goal
 
 abbrev pub decreases-read_ir_op : goal.decreases-read_ir_op
@@ -40,6 +42,8 @@ invariant-read_ops-ops g l =
       gathers : Gathers g.D.OpSet.attr_handles l.bytes l.initial.ctx l.ctx (BasicBlock l.block) l.rest;
       noted : NotesOn l.initial.ctx l.initial.notes l.ctx l.notes;
       at_live : IsPlaceLive l.ctx l.at;
+      stands : AreReady l.initial.ctx l.initial.notes → OpsSoFar g.D.ReadSet.find_kind g.D.ReadSet.is_isolated l.levels
+          l.bytes l.rest l.initial.ctx l.ctx l.initial.notes l.notes (scope_of l.at) (BasicBlock l.block);
     }
 
 abbrev pub invariant-read_body-inner : goal.invariant-read_body-inner
@@ -48,6 +52,9 @@ invariant-read_body-inner g l =
       gathers : Gathers g.D.OpSet.attr_handles l.bytes l.initial.ctx l.ctx (Region l.region) l.rest;
       noted : NotesOn l.initial.ctx l.initial.notes l.ctx l.notes;
       shorter : length l.rest < length l.bytes;
+      stands : AreReady l.initial.ctx l.initial.notes → BlocksSoFar g.D.ReadSet.find_kind g.D.ReadSet.is_isolated
+          l.levels l.bytes l.rest l.initial.ctx l.ctx l.initial.notes l.notes
+          (record { body = l.body; region = Some l.region }) (Region l.region);
     }
 
 abbrev pub invariant-read_regions-regions : goal.invariant-read_regions-regions
@@ -55,4 +62,6 @@ invariant-read_regions-regions g l =
     record {
       gathers : Gathers g.D.OpSet.attr_handles l.bytes l.initial.ctx l.ctx (Operation l.op) l.rest;
       noted : NotesOn l.initial.ctx l.initial.notes l.ctx l.notes;
+      stands : AreReady l.initial.ctx l.initial.notes → ReadsRegions g.D.ReadSet.find_kind g.D.ReadSet.is_isolated
+          l.levels l.bytes l.rest l.initial.ctx l.ctx l.initial.notes l.notes l.body (Operation l.op);
     }

@@ -1,11 +1,18 @@
-use Rattle.std.proofs.Common.{◌∙◌, [], ◌∷◌, length, sym, ap, subst}
+use Rattle.std.proofs.Common.{◌∙◌, [], ◌∷◌, length, Some, sym, ap, subst}
 use Rattle.plir_core.specs.ContextView.{arguments_in}
 use Rattle.plir_core.specs.Made.{IsMade}
 use Rattle.plir_core.specs.declared.ptr.IRNode.TheVariants.{BasicBlock}
 use Rattle.plir_attr_text.specs.laws.TypeSteps.{behind_is}
 use Rattle.plir_read.specs.Slots.{AreGivenOut}
 use Rattle.plir_read.specs.laws.OpEnds.{block_head_end}
-use Rattle.plir_read.specs.laws.OpMade.{arguments_live}
+use Rattle.plir_read.specs.laws.Kept.{KeepsBut-itself}
+use Rattle.plir_read.specs.laws.OpMade.{arguments_live, block_stands}
+use Rattle.plir_read_ir.specs.IrMeaning.{argument_words}
+use Rattle.plir_read_ir.specs.Mentions.{arguments_bear, label_bears, values_in}
+use Rattle.plir_read_ir.specs.Readings.{AddsValues}
+use Rattle.plir_read_ir.specs.Spelling.{words}
+use Rattle.plir_read_ir.proofs.Fronts.{noted_arguments, noted_label}
+use Rattle.plir_read_ir.proofs.Says.{noted_as, noted_on}
 use Rattle.plir_read_ir.proofs.Lefts.{head_counts, head_shorter}
 use Rattle.plir_read_ir.proofs.Noted.{notes_block}
 use Rattle.plir_read_ir.proofs.Steps.{reading_kept, reading_made, reading_typed}
@@ -80,3 +87,28 @@ returns-clause-noted g c =
     notes_block c.args.ctx.now c.make_block.new.ctx c.args.notes.now c.bear_label.new.self c.bear_arguments.new.self
     (c.args.region, c.in_ok-front.front.label.word) c.in_ok-block.block r.kept.keeps m.made.root l.borne l.values l.uses
     a.borne a.labels a.uses
+
+pub returns-clause-stands : goal.returns-clause-stands
+returns-clause-stands g c =
+    let h = c.in_ok-front.ensures.read in
+    let k = c.in_ok-front.ensures.kept in
+    let l = c.in_ok-bear_label.ensures in
+    let a = c.in_ok-bear_arguments.ensures in
+    let block = c.in_ok-block.block in
+    let label = noted_label c.args.ctx.now c.make_block.new.ctx c.args.notes.now c.bear_label.new.self
+    (c.args.region, c.in_ok-front.front.label.word) block l.borne l.values l.uses in
+    let arguments = noted_arguments c.args.ctx.now c.make_block.new.ctx c.bear_label.new.self c.bear_arguments.new.self c.args.body block
+    (argument_words h.0.0.1)
+    (subst (λ z. AddsValues c.bear_label.new.self.values c.bear_arguments.new.self.values
+    (values_in (arguments_bear c.args.body (BasicBlock block) z))) (ap words c.as_slice.ensures.value ∙ h.2.0.spelled)
+    a.says) a.labels a.uses in
+    record {
+      head = h.0.0;
+      read = behind_is _ h.0 c.in_ok-front.rest.now h.1 h.2.1;
+      stands = block_stands c.args.ctx.now c.read_spelled_head-read.new.ctx c.make_block.new.ctx c.make_block.new.ctx
+          block c.in_ok-front.front.head k.rest k.grown c.in_ok-block.ensures.made h.0.0 h.2.0.head
+          (KeepsBut-itself _ _);
+      noted = noted_on c.args.ctx.now c.make_block.new.ctx c.args.notes.now c.bear_label.new.self c.bear_arguments.new.self _ _
+          (noted_as c.args.ctx.now c.make_block.new.ctx c.args.notes.now c.bear_label.new.self _ _
+          (ap (λ z. label_bears (Some c.args.region) (BasicBlock block) z) h.2.0.label) label) arguments;
+    }

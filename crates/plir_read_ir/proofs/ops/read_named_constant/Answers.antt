@@ -1,6 +1,16 @@
-use Rattle.std.proofs.Common.{◌∙◌, length, sym, ap}
+use Rattle.std.proofs.Common.{◌≡◌, ◌∙◌, length, sym, ap, subst}
+use Rattle.std.proofs.lemmas.List.{length-map}
 use Rattle.plir_core.specs.ContextView.{results_in}
 use Rattle.plir_attr_text.specs.laws.TypeSteps.{behind_is}
+use Rattle.plir_core.specs.declared.ptr.IRNode.TheVariants.{Operation}
+use Rattle.plir_read.specs.OpReading.{named_constant_at}
+use Rattle.plir_read.specs.OpsStanding.{IsConstantAt}
+use Rattle.plir_read.specs.Suffixes.{given_name}
+use Rattle.plir_read.specs.declared.names.Suffix.TheVariants as Suffix
+use Rattle.plir_read_ir.specs.Mentions.{results_bear, values_in}
+use Rattle.plir_read_ir.specs.Readings.{AddsValues, scope_of}
+use Rattle.plir_read_ir.specs.Spelling.{words}
+use Rattle.plir_read_ir.proofs.Fronts.{constant_reads}
 use Rattle.plir_read_ir.proofs.Lefts.{constant_read}
 use Rattle.plir_read_ir.proofs.Noted.{notes_results}
 use Rattle.plir_read_ir.proofs.ops.read_named_constant.Goals as goal
@@ -30,3 +40,22 @@ returns-clause-noted g c =
 
 pub returns-in-Err-clause-kept : goal.returns-in-Err-clause-kept
 returns-in-Err-clause-kept g c = record { kept = c.in-Err.ensures.kept; named = c.in-Err.ensures.named }
+
+pub returns-clause-stands : goal.returns-clause-stands
+returns-clause-stands g c =
+    let y = c.in-Ok.ensures.read in
+    let b = c.in_ok-bear_results.ensures in
+    let names = c.args.names in
+    let read = behind_is _ y.0 c.in-Ok.read.1.now y.1 y.2.1 in
+    let r = constant_read c.args.levels _ c.args.bytes.now y.0.0 c.in-Ok.read.1.now read in
+    λ ready ws held.
+    let count : length names.given.items ≡ length ws =
+    ap length held.given ∙ length-map ws (given_name Suffix.OpResult) in
+    constant_reads g.D.ReadSet.find_kind g.D.ReadSet.is_isolated c.args.levels ws c.args.bytes.now
+    c.in-Ok.read.1.now c.args.ctx.now c.read_constant.new.ctx c.args.notes.now c.bear_results.new.self
+    (scope_of c.args.at) c.in-Ok.read.0 y.0.0 ready c.in-Ok.ensures.made.new (r.one ∙ count)
+    (ap (λ n. named_constant_at c.args.levels n c.args.bytes.now) (sym count) ∙ read)
+    (subst (λ z. IsConstantAt c.read_constant.new.ctx (Operation c.in-Ok.read.0) z y.0.0) held.given y.2.0.0)
+    (subst (λ z. AddsValues c.args.notes.now.values c.bear_results.new.self.values
+    (values_in (results_bear c.args.at.body (Operation c.in-Ok.read.0) z)))
+    (ap words c.as_slice.ensures.value ∙ held.spelled) b.says) b.labels b.uses

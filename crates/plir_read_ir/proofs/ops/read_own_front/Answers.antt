@@ -1,16 +1,22 @@
-use Rattle.std.proofs.Common.{◌≡◌, ◌∙◌, [], ◌∷◌, length, false, sym, ap, subst}
+use Rattle.std.proofs.Common.{◌≡◌, ◌∙◌, ◌++◌, [], ◌∷◌, length, false, Some, option_map, sym, ap, subst}
 use Rattle.std.specs.Prelude.{All}
 use Rattle.std.proofs.lemmas.List.{length-map}
 use Rattle.plir_core.specs.ContextView.{IsLive, results_in, successors_in}
 use Rattle.plir_core.specs.Made.{IsMade}
 use Rattle.plir_core.specs.Nodes.{is_node_live}
 use Rattle.plir_core.specs.declared.ptr.IRNode.TheVariants.{Operation, BasicBlock}
+use Rattle.plir_attr_text.specs.Meaning.{IsDictMeant}
+use Rattle.plir_attr_text.specs.Names.{NamesAll}
 use Rattle.plir_attr_text.specs.laws.Meanings.{IsDictMeant-live}
 use Rattle.plir_attr_text.specs.laws.TypeSteps.{behind_is}
 use Rattle.plir_read.specs.Slots.{AreGivenOut}
 use Rattle.plir_read_own.specs.laws.TypeLists.{as_many}
-use Rattle.plir_read_ir.specs.OwnOps.{times}
-use Rattle.plir_read_ir.specs.Spelling.{word_of}
+use Rattle.plir_read_ir.specs.IrReading.{parts_at}
+use Rattle.plir_read_ir.specs.Mentions.{results_bear, values_in}
+use Rattle.plir_read_ir.specs.OwnOps.{own_op, times}
+use Rattle.plir_read_ir.specs.Readings.{AddsNoted, AddsValues, noted_operands, noted_successors, place_in, scope_of}
+use Rattle.plir_read_ir.specs.Spelling.{word_of, words}
+use Rattle.plir_read_ir.proofs.Fronts.{as_many_blocks, own_front_reads}
 use Rattle.plir_read_ir.proofs.Lefts.{all_live, stand_ins_live}
 use Rattle.plir_read_ir.proofs.Noted.{as_many_places, block_still, holds_kept, notes_own}
 use Rattle.plir_read_ir.proofs.Parts.{parts_read}
@@ -120,3 +126,49 @@ returns-clause-noted g c =
     ap (λ j. length (times c.block_of.result j)) (sym (c.len-2.ensures ∙ c.in_ok-parts.parts.uses.successors.ok.0)) ∙
     sym (ap length c.in_ok-successors.ensures.value) ∙ ap (λ o. length (successors_in o)) (sym m.held))
     b.borne b.labels b.uses u.added u.values u.labels
+
+pub returns-clause-stands : goal.returns-clause-stands
+returns-clause-stands g c =
+    let y = c.in_ok-parts.ensures.read in
+    let k = c.in_ok-parts.ensures.kept in
+    let m = c.in_ok-op.ensures.made in
+    let b = c.in_ok-bear_results.ensures in
+    let u = c.in_ok-note_uses.ensures in
+    let held = c.in_ok-parts.parts.uses in
+    let types = c.in_ok-parts.parts.typed.signature in
+    let region = option_map (λ z. z.0) c.args.at.block in
+    let read = behind_is _ y.0 c.in_ok-parts.behind.now y.1 y.2.1 in
+    let r = parts_read c.args.levels c.len.result c.args.bytes.now c.in_ok-parts.behind.now y.0.0 read in
+    λ ready ws names.
+    let count : c.len.result ≡ length ws = c.len.ensures ∙ c.args.names.spelled.ok.0 ∙
+    sym (length-map c.args.names.spelled.items word_of) ∙ ap length names.spelled in
+    own_front_reads g.D.ReadSet.find_kind g.D.ReadSet.is_isolated c.args.levels ws c.args.bytes.now
+    c.in_ok-parts.behind.now c.args.ctx.now c.make_own.new.ctx c.args.notes.now c.bear_results.new.self
+    c.note_uses.new.self c.args.kind (scope_of c.args.at) c.in_ok-op.op y.0.0 c.in_ok-parts.parts.typed.attributes
+    types.result_types.items types.operand_types.items c.in_ok-successors.successors.items
+    (ap (λ n. parts_at c.args.levels n c.args.bytes.now) (sym count) ∙ read) ready
+    (subst (λ z. is_node_live z (Operation c.in_ok-op.op) ≡ false) k.rest m.made.new)
+    (m.held ∙ ap (λ z. Some (own_op c.args.kind z c.in_ok-parts.parts.typed.attributes types.result_types.items
+    c.in_ok-successors.successors.items)) (names.given))
+    (ap length c.in_ok-successors.ensures.value ∙
+    ap (λ j. length (times c.block_of.result j)) (c.len-2.ensures ∙ held.successors.ok.0) ∙
+    ap (λ z. length (times z (length held.successors.items))) c.block_of.ensures ∙
+    sym (as_many_places c.args.at.block (length held.successors.items)) ∙
+    as_many_blocks c.args.at.block (length held.successors.items) ∙
+    ap (place_in region) (sym (length-map held.successors.items word_of) ∙
+    ap (λ z. length z.successors) y.2.0.uses_are))
+    (r.operands ∙ as_many _ _ y.0.0.1.1.operand_types y.2.0.typed.types_are.operand_types)
+    (subst (λ z. IsDictMeant z y.0.0.1.0 c.in_ok-parts.parts.typed.attributes) (sym m.types)
+    y.2.0.typed.attributes_are)
+    (subst (λ z. NamesAll z types.result_types.items y.0.0.1.1.result_types) (sym m.types)
+    y.2.0.typed.types_are.result_types)
+    (subst (λ z. NamesAll z types.operand_types.items y.0.0.1.1.operand_types) (sym m.types)
+    y.2.0.typed.types_are.operand_types)
+    (subst (λ z. AddsValues c.args.notes.now.values c.bear_results.new.self.values
+    (values_in (results_bear c.args.at.body (Operation c.in_ok-op.op) z)))
+    (ap words c.as_slice.ensures.value ∙ names.spelled) b.says) b.labels b.uses
+    (subst (λ z. AddsNoted c.in_ok-op.op z c.bear_results.new.self.uses.items c.note_uses.new.self.uses.items)
+    (ap (λ z. noted_operands c.args.at.body (words held.operands.items) z ++
+    noted_successors region 0 (words held.successors.items)) c.as_slice-2.ensures.value ∙
+    ap (λ z. noted_operands c.args.at.body z.operands types.operand_types.items ++
+    noted_successors region 0 z.successors) y.2.0.uses_are) u.noted) u.values u.labels
