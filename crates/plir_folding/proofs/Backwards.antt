@@ -30,7 +30,7 @@ all-has P (y ∷ ys) all x (inl e) = subst P e (All-head P y ys all)
 all-has P (y ∷ ys) all x (inr h) = all-has P ys (All-tail P y ys all) x h
 
 -- what is paired with two values is two values
-paired-two : (R : Value → Value → Type 0) (vs : List Value) (x y : Value) → ArePaired R vs (x ∷ y ∷ [])
+pub paired-two : (R : Value → Value → Type 0) (vs : List Value) (x y : Value) → ArePaired R vs (x ∷ y ∷ [])
     → (a : Value) × ((b : Value) × ((vs ≡ a ∷ b ∷ []) × (R a x × R b y)))
 paired-two R [] x y h = absurd h
 paired-two R (a ∷ []) x y h = absurd h.1

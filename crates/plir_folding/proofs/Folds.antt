@@ -31,7 +31,7 @@ paired-self R same [] = tt
 paired-self R same (v ∷ vs) = (same v, paired-self R same vs)
 
 -- pairs of pairs
-paired-then : (R Q P : Value → Value → Type 0) (us vs ws : List Value)
+pub paired-then : (R Q P : Value → Value → Type 0) (us vs ws : List Value)
     → ((u v w : Value) → Has us u → R u v → Q v w → P u w) → ArePaired R us vs → ArePaired Q vs ws → ArePaired P us ws
 paired-then R Q P [] [] [] on h k = tt
 paired-then R Q P [] [] (w ∷ ws) on h k = absurd k

@@ -9,3 +9,7 @@ pub mod Worklists
 pub mod ListWalk
 pub mod Room
 pub mod StayedTables
+pub mod Leads
+pub mod PassingOn
+pub mod Used
+pub mod Searching

@@ -25,7 +25,7 @@ vacant_below f zero = 0
 vacant_below f (suc n) = vacant (f n) + vacant_below f n
 
 module _ {X : Type 0} (f g : ℕ → Option X) (less : (i : ℕ) → vacant (g i) ≤ vacant (f i)) where
-  vacant-less : (n : ℕ) → vacant_below g n ≤ vacant_below f n
+  pub vacant-less : (n : ℕ) → vacant_below g n ≤ vacant_below f n
   unfolding vacant_below
   vacant-less zero = omega arith
   vacant-less (suc n) = (let a = less n in let b = vacant-less n in omega (arith, a, b))
@@ -42,14 +42,14 @@ module _ {X : Type 0} (f g : ℕ → Option X) (less : (i : ℕ) → vacant (g i
 
 module _ {C : Type 0} where
   -- a slot that holds something holds it under its version
-  live-now : (t : Table C) (i : ℕ) (v : C) → content_at t i ≡ Some v → is_live_at t i (version_at t i) ≡ true
+  pub live-now : (t : Table C) (i : ℕ) (v : C) → content_at t i ≡ Some v → is_live_at t i (version_at t i) ≡ true
   live-now t i v e = elim (eqb_tells (version_at t i) (version_at t i)) [
     | inl h ↦ ap (λ z. is_some z && (version_at t i == version_at t i)) e ∙ h.0
     | inr h ↦ absurd (h.1 refl)
   ]
 
   -- what is live is held
-  live-some : (t : Table C) (i v : ℕ) → is_live_at t i v ≡ true → (x : C) × (content_at t i ≡ Some x)
+  pub live-some : (t : Table C) (i v : ℕ) → is_live_at t i v ≡ true → (x : C) × (content_at t i ≡ Some x)
   live-some t i v l = go (content_at t i) refl l
     where
       go : (o : Option C) → content_at t i ≡ o → is_some o && (version_at t i == v) ≡ true
@@ -57,7 +57,7 @@ module _ {C : Type 0} where
       go None q l = absurd (not-both false l refl)
       go (Some x) q l = (x, q)
 
-  live-version : (t : Table C) (i v : ℕ) → is_live_at t i v ≡ true → version_at t i ≡ v
+  pub live-version : (t : Table C) (i v : ℕ) → is_live_at t i v ≡ true → version_at t i ≡ v
   live-version t i v l = go (is_some (content_at t i)) l
     where
       go : (b : Bool) → b && (version_at t i == v) ≡ true → version_at t i ≡ v

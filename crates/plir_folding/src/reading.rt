@@ -49,8 +49,8 @@ fn constant_in<D: OpSet>(ctx: &Context<D>, op: Ptr<Operation>) -> Option<Integer
     }
 }
 
-// The integer that a value is a constant of, if it is one.
-fn constant_of<D: OpSet>(ctx: &Context<D>, value: Value) -> Option<IntegerAttr>
+/// The integer that a value is a constant of, if it is one.
+pub(crate) fn constant_of<D: OpSet>(ctx: &Context<D>, value: Value) -> Option<IntegerAttr>
     requires { IsValueLive ctx.now value }
     ensures { option_map integer_of result ≡ constant_of ctx.now value }
 {

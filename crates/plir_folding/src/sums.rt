@@ -1,7 +1,7 @@
 //! Sums of integers.
 ghost use Rattle.std.specs.Prelude.{◌≡◌, option_map};
 ghost use Rattle.plir_folding.specs.Worth.{integer_of};
-ghost use Rattle.plir_folding.specs.Sums.{wrapping_sum};
+ghost use Rattle.plir_folding.specs.Sums.{is_zero, wrapping_sum};
 
 use plir_data::{APInt, IntegerAttr};
 
@@ -17,4 +17,11 @@ pub fn wrapping_sum(left: &IntegerAttr, right: &IntegerAttr) -> Option<IntegerAt
     let sum = one.to_u64().wrapping_add(other.to_u64());
     let value = APInt::from_u64(sum, one.bw()).unwrap();
     Some(IntegerAttr::new(left.get_type(), value))
+}
+
+/// Whether an integer is 0: what it is added to, or subtracted from, stays the same.
+pub fn is_zero(integer: &IntegerAttr) -> bool
+    ensures { result ≡ is_zero (integer_of integer.now) }
+{
+    integer.value().to_u64() == 0
 }

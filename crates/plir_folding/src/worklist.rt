@@ -5,10 +5,9 @@ ghost use Rattle.plir_core.specs.Forest.{look, IsBelow};
 ghost use Rattle.plir_core.specs.ContextView.{IsLive, IsValueLive};
 ghost use Rattle.plir_folding.specs.Worklists.{AreOf, IsListedAt, IsPrepared, IsPut, WaitMore};
 
-use crate::fold_set::FoldSet;
 use crate::reading::maker_of;
 use plir_core::{Context, IRNode, Operation, Ptr, Value};
-use plir_data::Memory;
+use plir_data::{Memory, OpSet};
 use plir_walk::WALKCONFIG_POSTORDER_REVERSE;
 use plir_walk::interruptible::{WalkResult, walk_advance, walk_break};
 use plir_walk::operations::immutable::walk_ops;
@@ -65,7 +64,7 @@ impl Worklist {
 
     /// Prepares an operation, if it is listed: it waits to be folded, and those listed ones that make its operands wait
     /// to be prepared before that. It is listed no more.
-    pub(crate) fn prepare<D: FoldSet>(
+    pub(crate) fn prepare<D: OpSet>(
         &mut self,
         ctx: &Context<D>,
         op: Ptr<Operation>,
@@ -84,7 +83,7 @@ impl Worklist {
     }
 
     // Lets the operation wait that makes a value, if it is listed.
-    fn put_maker<D: FoldSet>(&mut self, ctx: &Context<D>, value: Value) -> Result<(), Memory>
+    fn put_maker<D: OpSet>(&mut self, ctx: &Context<D>, value: Value) -> Result<(), Memory>
         requires { IsValueLive ctx.now value }
         ensures { OnOk result (WaitMore 1 self.old self.new) }
     {
@@ -99,7 +98,7 @@ impl Worklist {
 }
 
 // Lists an operation that has operands and is not the root; or breaks the walk off for want of memory.
-fn list_at<D: FoldSet>(
+fn list_at<D: OpSet>(
     ctx: &Context<D>,
     root: Ptr<Operation>,
     list: &mut Worklist,
@@ -121,7 +120,7 @@ fn list_at<D: FoldSet>(
 }
 
 /// Lists the operations below a root that have operands. All of them wait to be prepared, the first one first.
-pub(crate) fn list_below<D: FoldSet>(
+pub(crate) fn list_below<D: OpSet>(
     alloc: Global,
     ctx: &Context<D>,
     root: Ptr<Operation>,

@@ -1,11 +1,11 @@
-//! Constant folding over a toy op set, as scripts; and of long chains.
+//! Folding over a toy op set, as scripts; and of long chains.
 
 use crate::ToyKind;
-use crate::chains::{Layout, folds};
+use crate::chains::{Layout, Links, folds};
 use plir_core::{Context, DefiningEntity, NodeErr, Value};
 use plir_data::keys::ATTR_KEY_CONSTANT_VALUE;
 use plir_data::{AttrObj, KindSet, OpKind};
-use plir_folding::fold_constants;
+use plir_folding::{fold_constants, fold_values};
 use plir_scripts::{Bench, Layer, Line, Mismatch, NodeCalls, ScriptKind, Stop, number, play};
 use std::alloc::Global;
 
@@ -13,6 +13,7 @@ impl ScriptKind for ToyKind {
     fn of_word(word: &str) -> Option<ToyKind> {
         match word {
             "add" => Some(ToyKind::Add),
+            "sub" => Some(ToyKind::Sub),
             "use" => Some(ToyKind::Use),
             "yield" => Some(ToyKind::Yield),
             _ => None,
@@ -20,15 +21,17 @@ impl ScriptKind for ToyKind {
     }
 }
 
-/// The calls of this crate, `fold OP`, `operand OP PLACE` and `fold-chain LAYOUT`, and those on nodes.
+/// The calls of this crate, `fold OP`, `fold-values OP`, `operand OP PLACE` and `fold-chain LAYOUT LINKS`, and those on
+/// nodes.
 struct FoldCalls;
 
 impl Layer<KindSet<ToyKind>> for FoldCalls {
     fn run(bench: &mut Bench<KindSet<ToyKind>>, line: Line<'_>) -> Result<(), Stop> {
         match line.command {
             "fold" => fold(bench, line),
+            "fold-values" => values(bench, line),
             "operand" => operand(bench, line),
-            "fold-chain" => fold_chain(bench, line.first),
+            "fold-chain" => fold_chain(bench, line),
             _ => NodeCalls::run(bench, line),
         }
     }
@@ -43,6 +46,17 @@ fn fold(bench: &mut Bench<KindSet<ToyKind>>, line: Line<'_>) -> Result<(), Stop>
         end = fold_constants(bench.alloc, &mut bench.ctx, op);
     }
     end?;
+    bench.answer.put("done");
+    Ok(())
+}
+
+// Folds values. What is folded before memory is refused stays, so the call is made once more right then.
+fn values(bench: &mut Bench<KindSet<ToyKind>>, line: Line<'_>) -> Result<(), Stop> {
+    let op = bench.made.op(&bench.ctx, line.first)?;
+    if fold_values(bench.alloc, &mut bench.ctx, op).is_err() {
+        let op = bench.made.op(&bench.ctx, line.first)?;
+        fold_values(bench.alloc, &mut bench.ctx, op)?;
+    }
     bench.answer.put("done");
     Ok(())
 }
@@ -79,15 +93,21 @@ fn operand(bench: &mut Bench<KindSet<ToyKind>>, line: Line<'_>) -> Result<(), St
     Ok(())
 }
 
-// Answers whether a long chain that is laid out so folds.
-fn fold_chain(bench: &mut Bench<KindSet<ToyKind>>, word: &str) -> Result<(), Stop> {
-    let layout = match word {
+// Answers whether a long chain of links that is laid out so folds.
+fn fold_chain(bench: &mut Bench<KindSet<ToyKind>>, line: Line<'_>) -> Result<(), Stop> {
+    let layout = match line.first {
         "one-block" => Layout::OneBlock,
         "blocks" => Layout::Blocks,
         "zigzag" => Layout::Zigzag,
         _ => return Err(Stop::Refused),
     };
-    let is_folded = folds(bench.alloc, layout)?;
+    let links = match line.second {
+        "ones" => Links::Ones,
+        "zeros" => Links::Zeros,
+        "differences" => Links::Differences,
+        _ => return Err(Stop::Refused),
+    };
+    let is_folded = folds(bench.alloc, layout, links)?;
     bench.answer.put_truth(is_folded);
     Ok(())
 }

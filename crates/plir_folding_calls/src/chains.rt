@@ -1,4 +1,4 @@
-//! Long chains of sums, laid out against their order.
+//! Long chains of sums and of differences, laid out against their order.
 ghost use Rattle.std.specs.Prelude.{◌≡◌, All, IfOk};
 ghost use Rattle.plir_data.specs.Types.{AllLive, IsLive as IsTypeLive};
 ghost use Rattle.plir_core.specs.ContextView.{IsValueLive};
@@ -10,17 +10,28 @@ use plir_core::{BasicBlock, Context, IRNode, Operation, Ptr, Region, Value};
 use plir_data::{
     APInt, IntegerAttr, IntegerType, KindSet, OpKind, Signedness, TypeHandle, TypedHandle,
 };
-use plir_folding::fold_constants;
+use plir_folding::{fold_constants, fold_values};
 use plir_scripts::{InContext, Stop, in_new_context};
 use std::alloc::Global;
 
-/// The sums of a chain.
-const SUMS: usize = 4_000;
+/// The links of a chain.
+const LINKS: usize = 4_000;
 
 // The op set that the chains are of.
 type ToySet = KindSet<ToyKind>;
 
-/// Where each sum of a chain stands.
+/// What the links of a chain are.
+#[derive(Clone, Copy, Debug)]
+pub enum Links {
+    /// Each adds 1 to the one before, from 1 on: constants fold.
+    Ones,
+    /// Each adds 0 to the one before, from 0 on: values fold.
+    Zeros,
+    /// Each subtracts the one before from 0, from 0 on: values fold, and each one shows that the next one does.
+    Differences,
+}
+
+/// Where each link of a chain stands.
 #[derive(Clone, Copy, Debug)]
 pub enum Layout {
     /// Before the one that it uses, in the same block.
@@ -62,18 +73,23 @@ fn pair(alloc: Global, ctx: &Context<ToySet>, left: Value, right: Value) -> Resu
     Ok(values)
 }
 
-// A new constant of one, which stands nowhere.
-fn make_one(alloc: Global, ctx: &mut Context<ToySet>) -> Result<Ptr<Operation>, Stop> {
+// A new constant of some bits, which stands nowhere.
+fn make_constant(
+    alloc: Global,
+    ctx: &mut Context<ToySet>,
+    bits: u64,
+) -> Result<Ptr<Operation>, Stop> {
     let ty = integer_type(ctx)?;
-    let one = APInt::from_u64(1, 64).ok_or(Stop::Refused)?;
-    let attr = IntegerAttr::new(ty, one);
+    let value = APInt::from_u64(bits, 64).ok_or(Stop::Refused)?;
+    let attr = IntegerAttr::new(ty, value);
     Ok(MaterializableAttr::<ToySet>::materialize(&attr, alloc, ctx)?)
 }
 
-// A new sum of two values, which stands nowhere.
-fn make_sum(
+// A new operation of a kind on two values, with one result, which stands nowhere.
+fn make_op(
     alloc: Global,
     ctx: &mut Context<ToySet>,
+    kind: ToyKind,
     left: Value,
     right: Value,
 ) -> Result<Ptr<Operation>, Stop> {
@@ -83,12 +99,26 @@ fn make_sum(
     Ok(Operation::new(
         alloc,
         ctx,
-        OpKind::Own(ToyKind::Add),
+        OpKind::Own(kind),
         types,
         operands,
         successors,
         0,
     )?)
+}
+
+// A new link behind a value, over the constant that a chain starts from. It stands nowhere.
+fn make_link(
+    alloc: Global,
+    ctx: &mut Context<ToySet>,
+    links: Links,
+    value: Value,
+    start: Value,
+) -> Result<Ptr<Operation>, Stop> {
+    match links {
+        Links::Ones | Links::Zeros => make_op(alloc, ctx, ToyKind::Add, value, start),
+        Links::Differences => make_op(alloc, ctx, ToyKind::Sub, start, value),
+    }
 }
 
 // A new operation with a region, which stands nowhere.
@@ -145,8 +175,8 @@ fn put_op(
     Ok(value)
 }
 
-// Puts a sum where the layout has it.
-fn put_sum(
+// Puts a link where the layout has it.
+fn put_link(
     alloc: Global,
     ctx: &mut Context<ToySet>,
     block: Ptr<BasicBlock>,
@@ -165,44 +195,70 @@ fn put_sum(
     }
 }
 
-// Puts a chain into a region: a constant of one, and sums of it and the one before. Answers the last.
+// Puts a chain into a region: the constant that it starts from, and its links. Answers the last.
 fn put_chain(
     alloc: Global,
     ctx: &mut Context<ToySet>,
     region: Ptr<Region>,
     layout: Layout,
+    links: Links,
 ) -> Result<Ptr<Operation>, Stop> {
+    let bits = if matches!(links, Links::Ones) { 1 } else { 0 };
     let block = put_block(alloc, ctx, region)?;
-    let mut last = make_one(alloc, ctx)?;
-    let one = put_op(ctx, last, block, false)?;
-    let mut value = one;
-    for place in 0..SUMS {
-        last = make_sum(alloc, ctx, value, one)?;
-        value = put_sum(alloc, ctx, block, region, layout, last, place)?;
+    let mut last = make_constant(alloc, ctx, bits)?;
+    let start = put_op(ctx, last, block, false)?;
+    let mut value = start;
+    for place in 0..LINKS {
+        last = make_link(alloc, ctx, links, value, start)?;
+        value = put_link(alloc, ctx, block, region, layout, last, place)?;
     }
     Ok(last)
 }
 
-// The bits of the integer that an operation's first operand is a constant of.
-fn left_bits(ctx: &Context<ToySet>, op: Ptr<Operation>) -> Option<u64> {
-    if !op.is_live(ctx) || op.get_num_operands(ctx) == 0 {
+// The bits of the integer that an operand of an operation is a constant of.
+fn bits_at(ctx: &Context<ToySet>, op: Ptr<Operation>, place: usize) -> Option<u64> {
+    if !op.is_live(ctx) || op.get_num_operands(ctx) <= place {
         return None;
     }
-    bits_of(ctx, op.get_operand(ctx, 0))
+    bits_of(ctx, op.get_operand(ctx, place))
 }
 
-// Folds a chain: whether the last sum then adds one to a constant, and each other sum but the first has one.
-fn fold_chain(alloc: Global, ctx: &mut Context<ToySet>, layout: Layout) -> Result<bool, Stop> {
-    let root = make_root(alloc, ctx)?;
-    let region = region_of(ctx, root)?;
-    let last = put_chain(alloc, ctx, region, layout)?;
+// Folds what its links ask for below an operation.
+fn fold_below(
+    alloc: Global,
+    ctx: &mut Context<ToySet>,
+    root: Ptr<Operation>,
+    links: Links,
+) -> Result<(), Stop> {
     if !root.is_live(ctx) {
         return Err(Stop::Refused);
     }
+    match links {
+        Links::Ones => fold_constants(alloc, ctx, root)?,
+        Links::Zeros | Links::Differences => fold_values(alloc, ctx, root)?,
+    }
+    Ok(())
+}
+
+// Folds a chain: whether the last link of sums then adds one to a constant, and each other one but the first has one;
+// and of values whether the last one then has what the chain starts from, and nothing has come.
+fn fold_chain(
+    alloc: Global,
+    ctx: &mut Context<ToySet>,
+    layout: Layout,
+    links: Links,
+) -> Result<bool, Stop> {
+    let root = make_root(alloc, ctx)?;
+    let region = region_of(ctx, root)?;
+    let last = put_chain(alloc, ctx, region, layout, links)?;
     let built = ctx.num_live() as usize;
-    fold_constants(alloc, ctx, root)?;
+    fold_below(alloc, ctx, root, links)?;
     let made = (ctx.num_live() as usize).saturating_sub(built);
-    Ok(made == SUMS - 1 && left_bits(ctx, last) == Some(SUMS as u64))
+    Ok(match links {
+        Links::Ones => made == LINKS - 1 && bits_at(ctx, last, 0) == Some(LINKS as u64),
+        Links::Zeros => made == 0 && bits_at(ctx, last, 0) == Some(0),
+        Links::Differences => made == 0 && bits_at(ctx, last, 1) == Some(0),
+    })
 }
 
 // Folds in a new context.
@@ -210,17 +266,25 @@ fn fold_chain(alloc: Global, ctx: &mut Context<ToySet>, layout: Layout) -> Resul
 struct Chain {
     alloc: Global,
     layout: Layout,
+    links: Links,
 }
 
 impl InContext<ToySet> for Chain {
     type Answer = Result<bool, Stop>;
 
     fn run(self, ctx: &mut Context<ToySet>) -> Result<bool, Stop> {
-        fold_chain(self.alloc, ctx, self.layout)
+        fold_chain(self.alloc, ctx, self.layout, self.links)
     }
 }
 
-/// Whether a long chain that is laid out so folds.
-pub fn folds(alloc: Global, layout: Layout) -> Result<bool, Stop> {
-    in_new_context(alloc, Chain { alloc, layout })
+/// Whether a long chain of links that is laid out so folds.
+pub fn folds(alloc: Global, layout: Layout, links: Links) -> Result<bool, Stop> {
+    in_new_context(
+        alloc,
+        Chain {
+            alloc,
+            layout,
+            links,
+        },
+    )
 }

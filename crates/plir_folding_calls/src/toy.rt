@@ -1,12 +1,14 @@
 //! A toy op set: own kinds of operations, and nothing else.
 use plir_data::{IntegerAttr, NeverRefused, OwnKind};
-use plir_folding::{FoldKind, wrapping_sum};
+use plir_folding::{FoldKind, IdentityKind, Side, is_zero, wrapping_sum};
 
 /// The toy's kinds of operations.
 #[derive(Clone, Copy, PartialEq, Eq, Debug)]
 pub enum ToyKind {
     /// Adds two integers.
     Add,
+    /// Subtracts one integer from another one.
+    Sub,
     /// Uses values.
     Use,
     /// Ends a block.
@@ -48,6 +50,7 @@ impl OwnKind for ToyKind {
     fn id(self) -> &'static str {
         match self {
             ToyKind::Add => "toy.add",
+            ToyKind::Sub => "toy.sub",
             ToyKind::Use => "toy.use",
             ToyKind::Yield => "toy.yield",
         }
@@ -62,7 +65,22 @@ impl FoldKind for ToyKind {
     fn fold(self, left: &IntegerAttr, right: &IntegerAttr) -> Option<IntegerAttr> {
         match self {
             ToyKind::Add => wrapping_sum(left, right),
-            ToyKind::Use | ToyKind::Yield => None,
+            ToyKind::Sub | ToyKind::Use | ToyKind::Yield => None,
+        }
+    }
+}
+
+impl IdentityKind for ToyKind {
+    ghost use Rattle.plir_folding_calls.specs.Kinds.{identity_of};
+
+    ghost is_identity = { identity_of };
+
+    fn is_identity(self, side: Side, constant: &IntegerAttr) -> bool {
+        match (self, side) {
+            (ToyKind::Add, _) => is_zero(constant),
+            (ToyKind::Sub, Side::Right) => is_zero(constant),
+            (ToyKind::Sub, Side::Left) => false,
+            (ToyKind::Use | ToyKind::Yield, _) => false,
         }
     }
 }
