@@ -1,8 +1,9 @@
 //! The command line.
 use clap::{Arg, ArgAction, Command};
 use plir_pipelines::words::{
-    CALL_GRAPH, CHECK, FILE, OUTPUT, PASS_PIPELINE, PRINT_AFTER_ALL, PRINT_BEFORE, SPLIT, STATS,
-    TIMING, TRACE_WALK, VERIFY, VERIFY_DIAGNOSTICS, VERIFY_EACH, VIEW, WALK,
+    CALL_GRAPH, CHECK, FILE, LOCATIONS, OUTPUT, PASS_PIPELINE, PRINT_AFTER_ALL, PRINT_BEFORE,
+    SPLIT, STATS, TIMING, TRACE_WALK, VERIFY, VERIFY_DIAGNOSTICS, VERIFY_EACH, VIEW, VIEW_USES,
+    WALK,
 };
 use plir_pipelines::{Flag, Offered};
 use std::alloc::{AllocError, Global};
@@ -44,7 +45,15 @@ fn trace_walk<'a>(alloc: Global) -> Result<Arg<'a>, AllocError> {
         .value_name("ORDER,DIRECTION")
         .value_parser(names)
         .help("Print a line for each call of a walk's callback, in the order of the calls")
-        .conflicts_with_all(&[WALK, VIEW, CALL_GRAPH])
+        .conflicts_with_all(&[WALK, LOCATIONS, VIEW, VIEW_USES, CALL_GRAPH])
+}
+
+// An option that is given alone, without one that asks for a graph.
+fn in_place_of_graphs<'a>(option: Arg<'a>) -> Result<Arg<'a>, AllocError> {
+    option
+        .conflicts_with(VIEW)?
+        .conflicts_with(VIEW_USES)?
+        .conflicts_with(CALL_GRAPH)
 }
 
 // The options that choose how the operation is printed: one of them at most.
@@ -54,19 +63,31 @@ fn with_forms<'a>(alloc: Global, command: Command<'a>) -> Result<Command<'a>, Al
         WALK,
         "Print a line for each node, parents first and further out",
     );
+    let locations = flag(
+        alloc,
+        LOCATIONS,
+        "Print a line for each operation, with its place in the text",
+    );
     let view = flag(
         alloc,
         VIEW,
-        "Print a graph in DOT: a box for each node, an arrow to each child",
+        "Print a graph in DOT: a cluster for each region, a box for each block, arrows to successors",
+    );
+    let uses = flag(
+        alloc,
+        VIEW_USES,
+        "Print such a graph, with a dashed arrow for each use of a value too",
     );
     let call_graph = flag(
         alloc,
         CALL_GRAPH,
-        "Print a call graph in DOT: a box for each function, an arrow to each that it uses",
+        "Print a call graph in DOT: a cluster for each module, a box for each function, an arrow to each that it uses",
     );
     command
-        .arg(walk.conflicts_with(VIEW)?.conflicts_with(CALL_GRAPH)?)?
+        .arg(in_place_of_graphs(walk.conflicts_with(LOCATIONS)?)?)?
+        .arg(in_place_of_graphs(locations)?)?
         .arg(view.conflicts_with(CALL_GRAPH)?)?
+        .arg(uses.conflicts_with(CALL_GRAPH)?)?
         .arg(call_graph)?
         .arg(trace_walk(alloc)?)
 }

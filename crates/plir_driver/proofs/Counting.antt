@@ -14,7 +14,7 @@ use Rattle.plir_walk.specs.declared.interruptible.WalkContinue.TheVariants.{Adva
 use Rattle.plir_walk.specs.Calls.{Call, Relation, Chain, nodes_of}
 use Rattle.plir_walk.specs.CallLaws.{chain-each}
 use Rattle.plir_walk.specs.Walked.{IsCallUnder, WalkedOver}
-use Rattle.plir_driver.proofs.OpsAmong.{has-op, op-has, op-pairs, ops_in}
+use Rattle.plir_places.specs.OpsAmong.{has-op, op-has, op-pairs, ops_in}
 use Rattle.plir_driver.specs.Counts.{IsCount, IsCounted, most}
 
 module _ {K A T : Type 0} (s : ContextView K A T) (root : Ptr OperationKind)

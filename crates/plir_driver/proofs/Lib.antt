@@ -1,12 +1,9 @@
 mod Lines
 mod Passing
 mod Printing
-mod Boxes
 mod NodesPut
-mod Ending
 mod Stopping
 mod Cutting
 mod Logging
-mod OpsAmong
 mod Counting
 mod WalkTraced

@@ -6,7 +6,7 @@ use Rattle.plir_core.specs.declared.ptr.Operation.{Operation as OperationKind}
 use Rattle.plir_core.specs.declared.ptr.IRNode.{IRNode}
 use Rattle.plir_core.specs.declared.ptr.IRNode.TheVariants.{Operation, Region, BasicBlock}
 use Rattle.plir_core.specs.ContextView.{ContextView}
-use Rattle.plir_driver.specs.DrawnCalls.{AreOps}
+use Rattle.plir_places.specs.TreeOps.{AreOps}
 
 -- the greatest number that is told
 abbrev pub most : ℕ

@@ -1,4 +1,4 @@
--- The lines that list the nodes of a tree, and those that draw it as a graph.
+-- The lines that list the nodes of a tree.
 use Rattle.std.specs.Prelude.{◌≡◌, ℕ, ◌*◌, List, [], ◌∷◌, ◌++◌, codes, Option, Some, None}
 use Rattle.std.specs.declared.ops.ControlFlow.{ControlFlow}
 use Rattle.std.specs.declared.ops.ControlFlow.TheVariants.{Continue, Break}
@@ -9,14 +9,13 @@ use Rattle.plir_core.specs.declared.ptr.IRNode.{IRNode}
 use Rattle.plir_core.specs.declared.ptr.IRNode.TheVariants.{Operation}
 use Rattle.plir_core.specs.Above.{climb}
 use Rattle.plir_core.specs.ContextView.{ContextView, children, parent_of}
-use Rattle.plir_core.specs.Texts.{node_text}
 use Rattle.plir_walk.specs.declared.config.TheConstants.{WALKCONFIG_PREORDER_FORWARD as pre_forward}
 use Rattle.plir_walk.specs.declared.interruptible.WalkContinue.{WalkContinue}
 use Rattle.plir_walk.specs.declared.interruptible.WalkContinue.TheVariants.{Advance, Skip}
 use Rattle.plir_walk.specs.Lists.{Pairs}
 use Rattle.plir_walk.specs.Tree.{IsUnder, NodeBefore}
 use Rattle.plir_driver.specs.Excerpt.{spaces}
-use Rattle.plir_driver.specs.NodeNames.{node_name}
+use Rattle.plir_pictures.specs.NodeNames.{node_name}
 
 -- what is told of the nodes of a list, one after another, where P says what may be told of one
 abbrev pub AreTold : (P : IRNode → List ℕ → Type 0) → List IRNode → List ℕ → Type 0
@@ -50,29 +49,12 @@ IsNodePut P t n (Break b) t' = Unit {0}
 abbrev pub StandsBelow : {K A T : Type 0} → ContextView K A T → (k : ℕ) → IRNode → Type 0
 StandsBelow s k n = (top : IRNode) × (climb (parent_of s) k (Some n) ≡ Some top) × (parent_of s top ≡ None)
 
--- the line of an arrow in a graph to a node from what stands right above it, if anything does
-abbrev pub arrow_from : Option IRNode → IRNode → List ℕ
-arrow_from None n = []
-arrow_from (Some over) n = codes "  " ++ (node_text over ++ (codes " -> " ++ (node_text n ++ codes ";\n")))
-
 module _ {K A T : Type 0} (own : K → List ℕ) (s : ContextView K A T) where
   -- the line of a node in a list: its name, two columns further in for each node above it
   abbrev pub IsListLine : IRNode → List ℕ → Type 0
   IsListLine n line = (k : ℕ) × StandsBelow s k n × (line ≡ spaces (2 * k) ++ (node_name own s n ++ codes "\n"))
 
-  -- the line of a node's box in a graph, and what is drawn for the node: its box, and the arrow to it
-  abbrev pub node_box : IRNode → List ℕ
-  node_box n = codes "  " ++ (node_text n ++ (codes " [label=\"" ++ (node_name own s n ++ codes "\"];\n")))
-
-  abbrev pub IsGraphLine : IRNode → List ℕ → Type 0
-  IsGraphLine n lines = lines ≡ node_box n ++ arrow_from (parent_of s n) n
-
   module _ (root : Ptr OperationKind) where
     -- a text lists the nodes of the tree
     abbrev pub IsListed : List ℕ → Type 0
     IsListed t = AreNodesPut s root IsListLine [] t
-
-    -- a text draws them as a graph in DOT
-    abbrev pub IsGraphed : List ℕ → Type 0
-    IsGraphed t = (lines : List ℕ) × AreNodesPut s root IsGraphLine [] lines ×
-        (t ≡ codes "digraph plir {\n  node [shape=box];\n" ++ (lines ++ codes "}\n"))

@@ -24,7 +24,7 @@ use Rattle.plir_walk.specs.Lists.{Pairs}
 use Rattle.plir_walk.specs.Tree.{IsUnder, NodeBefore}
 use Rattle.plir_driver.specs.declared.tracing.Trace.{Trace}
 use Rattle.plir_driver.specs.Counts.{most}
-use Rattle.plir_driver.specs.NodeNames.{node_name}
+use Rattle.plir_pictures.specs.NodeNames.{node_name}
 
 -- how a walk of an order and a direction takes each kind of node
 abbrev pub config_for : Order → Direction → WalkConfig

@@ -9,22 +9,26 @@ use Rattle.plir_builtin.specs.SymbolUses.{UseRule}
 use Rattle.plir_print.specs.OpText.{op_text}
 use Rattle.plir_verify.specs.Rules.{AllHaveRules}
 use Rattle.plir_driver.specs.declared.choices.Form.{Form}
-use Rattle.plir_driver.specs.declared.choices.Form.TheVariants.{Text, Walk, View, CallGraph, Trace}
-use Rattle.plir_driver.specs.DrawnCalls.{IsDrawn}
-use Rattle.plir_driver.specs.NodeLines.{IsGraphed, IsListed}
+use Rattle.plir_driver.specs.declared.choices.Form.TheVariants.{Text, Walk, Locations, View, CallGraph, Trace}
+use Rattle.plir_pictures.specs.DrawnCalls.{IsDrawn}
+use Rattle.plir_pictures.specs.Graph.{graph}
+use Rattle.plir_driver.specs.NodeLines.{IsListed}
+use Rattle.plir_driver.specs.OpLocations.{AreLocated}
 use Rattle.plir_driver.specs.Traces.{IsTraced, config_for}
 use Rattle.plir_driver.specs.Passed.{AreRun}
 use Rattle.plir_driver.specs.PassRules.{RunRule}
 use Rattle.plir_driver.specs.Reading.{ReadRule}
 
--- What is printed of an operation: where its text is asked for, that text and a line feed; where a list of the nodes,
--- a graph of them, the call graph or the calls of a walk are, a text that lists or draws them.
+-- What is printed of an operation: where its text is asked for, that text and a line feed; where its graph is, that; where
+-- a list of the nodes, one of the operations with their places, the call graph or the calls of a walk are, a text that
+-- lists or draws them.
 module _ {D K A T E : Type 0} (o : op_set.Ghosts D K A T E) (names : OpView K A → List (List ℕ))
     (s : ContextView K A T) (root : Ptr OperationKind) where
   abbrev pub IsPrintedAs : Form → List ℕ → Type 0
   IsPrintedAs Text t = t ≡ op_text o s root ++ codes "\n"
   IsPrintedAs Walk t = IsListed o.kind_id s root t
-  IsPrintedAs View t = IsGraphed o.kind_id s root t
+  IsPrintedAs Locations t = AreLocated o.kind_id s root t
+  IsPrintedAs (View uses) t = t ≡ graph o s uses root
   IsPrintedAs CallGraph t = IsDrawn o names s root t
   IsPrintedAs (Trace order direction) t = IsTraced o.kind_id s (config_for order direction) root t
 

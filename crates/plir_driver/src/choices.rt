@@ -8,9 +8,11 @@ pub enum Form {
     Text,
     /// A line for each node.
     Walk,
-    /// A graph in DOT.
-    View,
-    /// A graph in DOT of the functions, and of who uses which.
+    /// A line for each operation, with its place in the text.
+    Locations,
+    /// A graph in DOT, with an arrow for each use of a value, if `uses` are asked for.
+    View { uses: bool },
+    /// A graph in DOT of the functions, by modules, and of who uses which.
     CallGraph,
     /// A line for each call of the callback of a walk, in the order of the calls.
     Trace { order: Order, direction: Direction },

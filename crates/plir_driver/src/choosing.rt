@@ -7,8 +7,8 @@ use crate::choices::{Choices, Form, Reports, Tests};
 use clap::ArgMatches;
 use plir_command::{Chosen, choose_passes};
 use plir_pipelines::words::{
-    CALL_GRAPH, CHECK, PASS_PIPELINE, PRINT_AFTER_ALL, PRINT_BEFORE, STATS, TIMING, TRACE_WALK,
-    VERIFY, VERIFY_DIAGNOSTICS, VIEW, WALK,
+    CALL_GRAPH, CHECK, LOCATIONS, PASS_PIPELINE, PRINT_AFTER_ALL, PRINT_BEFORE, STATS, TIMING,
+    TRACE_WALK, VERIFY, VERIFY_DIAGNOSTICS, VIEW, VIEW_USES, WALK,
 };
 use plir_pipelines::{Flag, Offered, PipelineErr};
 use plir_walk::{Direction, Order};
@@ -31,8 +31,12 @@ fn asked_form(matches: &ArgMatches<'_>) -> Form {
         trace_of(words)
     } else if matches.get_flag(WALK) {
         Form::Walk
+    } else if matches.get_flag(LOCATIONS) {
+        Form::Locations
+    } else if matches.get_flag(VIEW_USES) {
+        Form::View { uses: true }
     } else if matches.get_flag(VIEW) {
-        Form::View
+        Form::View { uses: false }
     } else if matches.get_flag(CALL_GRAPH) {
         Form::CallGraph
     } else {

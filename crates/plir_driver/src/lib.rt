@@ -5,20 +5,17 @@
 //! made of what each of them promises. So a pass is tried on a text of any dialect by a program of a few lines.
 #![tactic(auto)]
 
-mod calls;
 pub mod choices;
 mod choosing;
 mod counts;
 mod dumps;
-mod ends;
 mod excerpt;
-mod graph;
 mod handling;
 mod judging;
 mod library;
 mod listing;
+mod locating;
 mod log;
-mod nodes;
 mod one_of_pass;
 mod output;
 mod parts;

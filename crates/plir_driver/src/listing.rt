@@ -5,9 +5,9 @@ ghost use Rattle.plir_core.specs.declared.ptr.IRNode.{IRNode as AnyNode};
 ghost use Rattle.plir_driver.specs.Excerpt.{spaces};
 ghost use Rattle.plir_driver.specs.NodeLines.{AreNodesPut, IsListLine, IsListed, IsNodePut, StandsBelow};
 
-use crate::nodes::put_node;
 use plir_core::{Context, IRNode, Operation, Ptr};
 use plir_data::OpSet;
+use plir_pictures::put_node;
 use plir_walk::WALKCONFIG_PREORDER_FORWARD;
 use plir_walk::interruptible::immutable::walk_op;
 use plir_walk::interruptible::{WalkResult, walk_advance, walk_break};

@@ -4,9 +4,9 @@ ghost use Rattle.plir_core.specs.ContextView.{IsLive};
 ghost use Rattle.plir_core.specs.declared.ptr.IRNode.{IRNode as AnyNode};
 ghost use Rattle.plir_driver.specs.Traces.{AreCallsPut, IsCallPut, IsTraced, call_line, config_for, next_call};
 
-use crate::nodes::put_node;
 use plir_core::{Context, IRNode, Operation, Ptr};
 use plir_data::OpSet;
+use plir_pictures::put_node;
 use plir_walk::interruptible::immutable::walk_op;
 use plir_walk::interruptible::{WalkResult, walk_advance, walk_break};
 use plir_walk::{

@@ -10,12 +10,11 @@ ghost use Rattle.plir_driver.specs.Passed.{AreRun};
 ghost use Rattle.plir_driver.specs.Stopped.{IsNoText, IsStopped, IsStoppedAt, IsStoppedIn, IsUnprinted};
 ghost use Rattle.plir_driver.specs.Transformed.{IsTransformed, IsPrintedAs};
 
-use crate::calls::draw_calls;
 use crate::choices::{Choices, Form, Reports};
 use crate::counts::{count_if, put_counts};
 use crate::dumps::{is_dumped_before, put_dump};
-use crate::graph::draw;
 use crate::listing::list_nodes;
+use crate::locating::list_locations;
 use crate::log::Log;
 use crate::pass::Pass;
 use crate::stop::Stop;
@@ -24,6 +23,7 @@ use crate::timing::{nanos_since, put_time, started};
 use crate::tracing::trace_walk;
 use plir_checks::blank_comments;
 use plir_core::{Context, Operation, Ptr};
+use plir_pictures::{draw, draw_calls};
 use plir_pipelines::PassTime;
 use plir_print::{is_printable, print_op};
 use plir_symbols::SymbolNames;
@@ -217,7 +217,8 @@ fn print<D: SymbolNames>(
     match form {
         Form::Text => print_text(alloc, ctx, root),
         Form::Walk => Ok(list_nodes(alloc, ctx, root)?),
-        Form::View => Ok(draw(alloc, ctx, root)?),
+        Form::Locations => Ok(list_locations(alloc, ctx, root)?),
+        Form::View { uses } => Ok(draw(alloc, ctx, root, uses)?),
         Form::CallGraph => Ok(draw_calls(alloc, ctx, root)?),
         Form::Trace { order, direction } => Ok(trace_walk(alloc, ctx, order, direction, root)?),
     }

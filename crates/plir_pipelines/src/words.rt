@@ -42,14 +42,20 @@ pub const TRACE_WALK: &str = "trace-walk";
 /// The name of the option that lists nodes.
 pub const WALK: &str = "walk";
 
+/// The name of the option that lists operations with their places.
+pub const LOCATIONS: &str = "locations";
+
 /// The name of the option that draws nodes.
 pub const VIEW: &str = "view";
+
+/// The name of the option that draws uses of values too.
+pub const VIEW_USES: &str = "view-uses";
 
 /// The name of the option that draws the call graph.
 pub const CALL_GRAPH: &str = "call-graph";
 
 /// The words of a command line that are the driver's own: no pass can be offered under one of them.
-pub const OWN_WORDS: [&str; 18] = [
+pub const OWN_WORDS: [&str; 20] = [
     FILE,
     OUTPUT,
     SPLIT,
@@ -64,7 +70,9 @@ pub const OWN_WORDS: [&str; 18] = [
     CHECK,
     TRACE_WALK,
     WALK,
+    LOCATIONS,
     VIEW,
+    VIEW_USES,
     CALL_GRAPH,
     "help",
     "version",

@@ -1,0 +1,8 @@
+mod Levels
+mod StepsLeft
+mod Stepping
+mod Marks
+mod Pieces
+mod Ending
+mod Rows
+mod Drawn
