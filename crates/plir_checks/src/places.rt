@@ -18,8 +18,8 @@ const FURTHER: &str = "@+";
 const BACK: &str = "@-";
 
 /// The number of the line that a word means, by that of its own line: no word means that line, `@above` and `@below`
-/// those beside it, `@+N` and `@-N` those so many lines further on or back; 0 where there would be none. Other words mean
-/// none.
+/// those beside it, `@+N` and `@-N` those so many lines further on or back; 0 where there would be none. Other words
+/// mean none.
 pub fn line_meant(own: usize, word: &str) -> Option<usize>
     requires { own ≤ 2 ^ 63 }
     ensures { result ≡ line_meant own word.now }

@@ -1,6 +1,6 @@
 // SPDX-License-Identifier: Apache-2.0
-//! The command line of a program over passes: the words that it takes, and which passes they ask for. Nothing of it knows
-//! what a pass does.
+//! The command line of a program over passes: the words that it takes, and which passes they ask for. Nothing of it
+//! knows what a pass does.
 #![tactic(auto)]
 
 mod chosen;

@@ -37,8 +37,8 @@ module _ {K A T : Type 0} (s : ContextView K A T) (root : Ptr OperationKind) whe
     pub are_told : AreTold P nodes told
     pub put : t' ≡ t ++ told
 
--- What a call at a node does to a text: what is told of the node is put behind it, and the walk goes on; or it is broken
--- off.
+-- What a call at a node does to a text: what is told of the node is put behind it, and the walk goes on; or it is
+-- broken off.
 abbrev pub IsNodePut : {B : Type 0} → (P : IRNode → List ℕ → Type 0) → List ℕ → IRNode → ControlFlow B WalkContinue →
     List ℕ → Type 0
 IsNodePut P t n (Continue Advance) t' = (here : List ℕ) × P n here × (t' ≡ t ++ here)

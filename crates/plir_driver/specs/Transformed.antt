@@ -19,9 +19,9 @@ use Rattle.plir_driver.specs.Passed.{AreRun}
 use Rattle.plir_driver.specs.PassRules.{RunRule}
 use Rattle.plir_driver.specs.Reading.{ReadRule}
 
--- What is printed of an operation: where its text is asked for, that text and a line feed; where its graph is, that; where
--- a list of the nodes, one of the operations with their places, the call graph or the calls of a walk are, a text that
--- lists or draws them.
+-- What is printed of an operation: where its text is asked for, that text and a line feed; where its graph is, that;
+-- where a list of the nodes, one of the operations with their places, the call graph or the calls of a walk are, a text
+-- that lists or draws them.
 module _ {D K A T E : Type 0} (o : op_set.Ghosts D K A T E) (names : OpView K A → List (List ℕ))
     (s : ContextView K A T) (root : Ptr OperationKind) where
   abbrev pub IsPrintedAs : Form → List ℕ → Type 0

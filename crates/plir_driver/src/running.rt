@@ -20,8 +20,8 @@ use std::process::ExitCode;
 /// [`OneOf`](crate::OneOf) them. The status is 0, or 1 where a text can't be read, an operation is refused, a pass
 /// stops, a text doesn't meet what its comments say or memory runs out, or 2 for a wrong command line.
 ///
-/// Where the passes can't be offered, as [`check_offer`](plir_pipelines::check_offer) and [`check_flags`](plir_pipelines::check_flags) tell, that is told, whatever the command
-/// line, and the status is 2.
+/// Where the passes can't be offered, as [`check_offer`](plir_pipelines::check_offer) and
+/// [`check_flags`](plir_pipelines::check_flags) tell, that is told, whatever the command line, and the status is 2.
 ///
 /// # Errors
 ///

@@ -63,8 +63,8 @@ fn place<D: OpSet>(
     }
 }
 
-/// Texts of builtin operations, over any op set, as [`read_op`] reads them: operations of its own kinds are refused. Each
-/// operation that is read has its place in the text.
+/// Texts of builtin operations, over any op set, as [`read_op`] reads them: operations of its own kinds are refused.
+/// Each operation that is read has its place in the text.
 #[derive(Clone, Copy, Debug)]
 pub struct BuiltinTexts;
 
@@ -88,9 +88,9 @@ impl<D: OpSet> TextReader<D> for BuiltinTexts {
     }
 }
 
-/// Texts of all operations of an op set whose kinds are found by their ids, as [`read_ir`] reads them. So far it is said
-/// of what was read that it was made anew, in an empty context, and that each operation has its place in the text, and of
-/// a refusal nothing but that.
+/// Texts of all operations of an op set whose kinds are found by their ids, as [`read_ir`] reads them. So far it is
+/// said of what was read that it was made anew, in an empty context, and that each operation has its place in the text,
+/// and of a refusal nothing but that.
 #[derive(Clone, Copy, Debug)]
 pub struct OwnTexts;
 

@@ -32,7 +32,8 @@ use std::alloc::Global;
 use std::rt::Clock;
 
 /// What is printed for the bytes of a text: they are read as an operation, but for lines that are comments, which count
-/// as blanks; it is verified, taken through the passes, and printed. What is told of the passes as they run is put behind the log.
+/// as blanks; it is verified, taken through the passes, and printed. What is told of the passes as they run is put
+/// behind the log.
 ///
 /// # Errors
 ///

@@ -1,7 +1,7 @@
 // SPDX-License-Identifier: Apache-2.0
 //! What a program over passes reads and writes as texts: pipelines, which name passes and give their options numbers,
-//! the options of a command line that passes need, and the table that tells how long each pass took. Nothing of it knows
-//! what a pass does.
+//! the options of a command line that passes need, and the table that tells how long each pass took. Nothing of it
+//! knows what a pass does.
 #![tactic(auto)]
 
 mod flags;

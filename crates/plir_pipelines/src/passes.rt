@@ -129,8 +129,8 @@ fn passes_in<'a, P: Offered>(
 }
 
 /// The passes that a text names, in their order, of those that are offered, as [`read_pipeline`] reads it: names stand
-/// between its commas, with white space around them or none, and behind a name may stand, in braces, options of the pass
-/// with their numbers, as `sweep{rounds=2}`. An option that is given none is as it is in the pass that is offered.
+/// between its commas, with white space around them or none, and behind a name may stand, in braces, options of the
+/// pass with their numbers, as `sweep{rounds=2}`. An option that is given none is as it is in the pass that is offered.
 ///
 /// # Errors
 ///

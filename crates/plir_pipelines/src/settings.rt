@@ -6,8 +6,8 @@ ghost use Rattle.plir_pipelines.specs.Settings.{IsNumberRead, is_set, setting_wo
 use crate::step::{Setting, StepErr};
 use std::alloc::{AllocError, Global};
 
-/// The number that a text is: digits in decimal, with a plus in front or none; none where the text is something else, or
-/// the number is 2^64 or more.
+/// The number that a text is: digits in decimal, with a plus in front or none; none where the text is something else,
+/// or the number is 2^64 or more.
 pub fn read_number(text: &str) -> Option<u64>
     ensures { IsNumberRead text.now result }
 {

@@ -53,7 +53,8 @@ past_other Head = Head
 past_other Closed = Head
 past_other _ = Inside
 
--- Behind a byte that is no blank, outside strings: `"` begins one, behind `;` an operation is due, and `^` begins a label.
+-- Behind a byte that is no blank, outside strings: `"` begins one, behind `;` an operation is due, and `^` begins a
+-- label.
 abbrev pub past_sign : Lead → ℕ → Lead
 past_sign l b =
     if nat_eq b 34 then Quoted

@@ -12,8 +12,8 @@ module _ {K A T : Type 0} where
   abbrev pub with_place : ContextView K A T → Ptr OperationKind → Location → ContextView K A T
   with_place s p l = with_op_edit s p (λ o. record o { location = l })
 
-  -- The first of some operations has got the first of some places, the second the second, as far as both go, and nothing
-  -- else has changed.
+  -- The first of some operations has got the first of some places, the second the second, as far as both go, and
+  -- nothing else has changed.
   abbrev pub with_places : ContextView K A T → List (Ptr OperationKind) → List Location → ContextView K A T
   with_places s [] ls = s
   with_places s (p ∷ ps) [] = s

@@ -20,7 +20,8 @@ module _ {K A T : Type 0} (s : ContextView K A T) (root : Ptr OperationKind) whe
     pub all_ops : (p : Ptr OperationKind) → IsUnder (children s) (Operation root) (Operation p) → Has ps p
     pub in_order : Pairs (λ p q. NodeBefore pre_forward (children s) (Operation root) (Operation p) (Operation q)) ps
 
--- What a call at an operation does to a list: the operation is put behind it, and the walk goes on; or it is broken off.
+-- What a call at an operation does to a list: the operation is put behind it, and the walk goes on; or it is broken
+-- off.
 abbrev pub IsNoted : {B : Type 0} → List (Ptr OperationKind) → Ptr OperationKind → ControlFlow B WalkContinue →
     List (Ptr OperationKind) → Type 0
 IsNoted ps p (Continue Advance) ps' = ps' ≡ ps ++ p ∷ []

@@ -78,8 +78,8 @@ fn place_each<D: OpSet>(ctx: &mut Context<D>, ops: &[Ptr<Operation>], places: &[
 }
 
 /// Gives an operation and all operations below it, in the order of their places in the tree, the places at which
-/// operations begin in a text, one after another, as [`op_places`] tells them. So where it was read from this text, with
-/// all below it, each has the line and the column of its first character. Nothing else changes.
+/// operations begin in a text, one after another, as [`op_places`] tells them. So where it was read from this text,
+/// with all below it, each has the line and the column of its first character. Nothing else changes.
 ///
 /// # Errors
 ///

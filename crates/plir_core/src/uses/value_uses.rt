@@ -115,7 +115,8 @@ impl<D: OpSet> Context<D> {
         }
     }
 
-    // How often a value is used, if a count says so: that of its operation, if it is the only result, and any that is 0.
+    // How often a value is used, if a count says so: that of its operation, if it is the only result, and any that is
+    // 0.
     fn counted_uses(&self, value: Value) -> Option<u32>
         ensures { IfSome result (λ n. n ≡ num_uses_of self.now value) }
     {
