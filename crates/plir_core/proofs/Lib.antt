@@ -44,6 +44,7 @@ pub mod Counted
 pub mod Walked
 pub mod NotUsed
 pub mod Noted
+pub mod ListedUses
 pub mod TreeUses
 pub mod ValueUses
 pub mod TimesUsed

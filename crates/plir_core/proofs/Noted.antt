@@ -15,7 +15,7 @@ use Rattle.plir_core.specs.Noted.{owner_uses_in, AreSeen}
 use Rattle.plir_core.proofs.NotUsed.{seated_value}
 use Rattle.plir_core.proofs.Rewiring.{time}
 
-total-next : (f : ℕ → ℕ) (n : ℕ) → total f (n + 1) ≡ total f n + f n
+pub total-next : (f : ℕ → ℕ) (n : ℕ) → total f (n + 1) ≡ total f n + f n
 total-next f n = let e : n + 1 ≡ suc n = omega arith in ap (total f) e
 
 -- From a to b the sum of f has grown, and that of g by no more.
@@ -74,7 +74,7 @@ module _ (v : Value) where
       let t = values_fewer xs in
       omega (arith, l, r, h, t)
 
-  held_fewer : {K A : Type 0} (o : Option (OpView K A)) → times_in v (operands_in o) ≤ uses_held seat o
+  pub held_fewer : {K A : Type 0} (o : Option (OpView K A)) → times_in v (operands_in o) ≤ uses_held seat o
   held_fewer None = omega arith
   held_fewer (Some u) = let t = values_fewer u.operands in omega (arith, t)
 

@@ -42,6 +42,7 @@
 --   SameValue    same_ptr, same_value: whether two pointers and two values are the same
 --   ValueUses    HasUses: a value is an operand of a live operation; num_uses_of: how many operands are
 --   Noted        AreSeen: what is seen of the uses of a value in some slots
+--   ListedUses   value_uses, block_uses: where a value and a block are used; AreListed: some of these places are listed
 --   Walked       IsCome: how far a walk through a tree has come
 --   Terminator   terminator_of: the operation that ends a block
 --   InsertionPoint insertion_block: the block that an insertion point is in
@@ -78,6 +79,7 @@ pub mod Walked
 pub mod SameValue
 pub mod ValueUses
 pub mod Noted
+pub mod ListedUses
 pub mod Terminator
 pub mod InsertionPoint
 pub mod Rewired

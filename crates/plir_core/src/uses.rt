@@ -1,10 +1,11 @@
-//! Uses: the places of operations where a value stands as an operand.
+//! Uses: the places of operations where a value stands as an operand, or a block as a successor.
 ghost use Rattle.std.specs.Prelude.{◌≡◌, ◌<◌, Some, length, slice_get};
 ghost use Rattle.plir_core.specs.ContextView.{IsLive, IsValueLive, operands_of};
 ghost use Rattle.plir_core.specs.WellFormed.{IsWellFormed};
 ghost use Rattle.plir_core.specs.declared.ptr.IRNode.{IRNode};
 
 pub(crate) mod counts;
+mod listing;
 mod noted;
 mod replacing;
 mod unused;
@@ -12,7 +13,7 @@ mod users;
 mod value_uses;
 
 use crate::context::Context;
-use crate::ptr::{IRNode, Operation, Ptr};
+use crate::ptr::{BasicBlock, IRNode, Operation, Ptr};
 use crate::value::Value;
 use plir_data::OpSet;
 use std::marker::PhantomData;
@@ -61,5 +62,21 @@ impl Use<Value> {
         ensures whole { IsWellFormed D.attr_handles ctx.now }
     {
         self.op.get_operand(ctx, self.index)
+    }
+}
+
+impl Use<Ptr<BasicBlock>> {
+    /// The operation that has the block as a successor.
+    pub fn branch_op(self) -> Ptr<Operation>
+        ensures { result ≡ self.op }
+    {
+        self.op
+    }
+
+    /// The place among the operation's successors, from 0.
+    pub fn succ_idx(self) -> usize
+        ensures { result ≡ self.index }
+    {
+        self.index
     }
 }

@@ -12,20 +12,21 @@ use crate::made::Made;
 use crate::showing::{put_attr, put_type, show};
 use crate::stop::Stop;
 use plir_core::{
-    BasicBlock, Context, IRNode, Interface, OpInsertionPoint, Operation, Ptr, Use, kind_impls,
-    op_impls,
+    BasicBlock, Context, IRNode, Interface, OpInsertionPoint, Operation, Ptr, Use, Value,
+    kind_impls, op_impls,
 };
 use plir_data::{GivenNamesAttr, OpSet};
 use std::alloc::Global;
 
 /// Writes what a line asks for: `fresh`, `show NODE`, `get NODE KEY`, `live NODE`, `count`, `number NODE`, `above NODE
-/// NODE`, `unused NODE`, `used VALUE`, `uses VALUE`, `interfaces OP`, `point SIDE NODE`, `use OP PLACE`, `text TYPE`,
-/// `typed VALUE` or `types NODE`.
+/// NODE`, `unused NODE`, `used VALUE`, `uses VALUE`, `users VALUE`, `branches BLOCK`, `interfaces OP`, `point SIDE NODE`,
+/// `use OP PLACE`, `text TYPE`, `typed VALUE` or `types NODE`.
 pub fn ask<D: OpSet>(bench: &mut Bench<D>, line: Line<'_>) -> Result<(), Stop> {
     match line.command {
         "text" | "typed" | "types" => ask_types(bench, line),
         "get" | "interfaces" | "point" | "use" => ask_contents(bench, line),
         "unused" | "used" | "uses" => ask_uses(bench, line),
+        "users" | "branches" => ask_users(bench, line),
         "show" => show_node(bench, line),
         "fresh" => {
             fresh::<D>(bench.alloc, &mut bench.answer);
@@ -57,6 +58,15 @@ fn ask_uses<D: OpSet>(bench: &mut Bench<D>, line: Line<'_>) -> Result<(), Stop> 
         _ => answer.put_number(made.value(ctx, line.first)?.num_uses(ctx)),
     }
     Ok(())
+}
+
+// Which operations use a value or branch to a block, and at which of their places.
+fn ask_users<D: OpSet>(bench: &mut Bench<D>, line: Line<'_>) -> Result<(), Stop> {
+    let (ctx, made, answer) = (&bench.ctx, &bench.made, &mut bench.answer);
+    match line.command {
+        "users" => users(bench.alloc, ctx, made, answer, made.value(ctx, line.first)?),
+        _ => branches(bench.alloc, ctx, made, answer, made.block(ctx, line.first)?),
+    }
 }
 
 fn show_node<D: OpSet>(bench: &mut Bench<D>, line: Line<'_>) -> Result<(), Stop> {
@@ -217,6 +227,38 @@ fn show_use<D: OpSet>(
     answer.put(" ");
     answer.put_number(used.opd_idx());
     made.put_value(answer, used.get_def(ctx));
+    Ok(())
+}
+
+// The operations that use a value, each with the place where it does.
+fn users<D: OpSet>(
+    alloc: Global,
+    ctx: &Context<D>,
+    made: &Made,
+    answer: &mut Answer,
+    value: Value,
+) -> Result<(), Stop> {
+    for used in value.uses(alloc, ctx)? {
+        made.put_op(answer, Some(used.user_op()));
+        answer.put(":");
+        answer.put_number(used.opd_idx());
+    }
+    Ok(())
+}
+
+// The operations that branch to a block, each with the place of that successor.
+fn branches<D: OpSet>(
+    alloc: Global,
+    ctx: &Context<D>,
+    made: &Made,
+    answer: &mut Answer,
+    block: Ptr<BasicBlock>,
+) -> Result<(), Stop> {
+    for used in block.uses(alloc, ctx)? {
+        made.put_op(answer, Some(used.branch_op()));
+        answer.put(":");
+        answer.put_number(used.succ_idx());
+    }
     Ok(())
 }
 

@@ -69,8 +69,8 @@ impl<D: OpSet> Context<D> {
         count_values(&data.operands, node).checked_add(successors)
     }
 
-    // How often the operation in a slot, if there is one, uses a node.
-    fn num_node_uses_in_slot(&self, node: IRNode, slot: u32) -> Option<usize>
+    /// How often the operation in a slot, if there is one, uses a node.
+    pub(crate) fn num_node_uses_in_slot(&self, node: IRNode, slot: u32) -> Option<usize>
         requires { slot < length self.now.nodes.ops.slots }
         ensures { IfSome result (λ n. n ≡ uses_held (seat_of node) (content_at self.now.nodes.ops slot)) }
     {

@@ -1,0 +1,8 @@
+use Rattle.std.proofs.Common.{◌≡◌, ◌++◌, take}
+use Rattle.plir_core.specs.ListedUses.{uses_from}
+use Rattle.plir_core.specs.SameValue.{same_ptr}
+use Rattle.plir_core.proofs.uses.listing.list_successors.Given as goal
+
+abbrev pub invariant-loop-place : goal.invariant-loop-place
+invariant-loop-place g l =
+    l.uses.items ≡ l.initial.uses.items ++ uses_from (λ x. same_ptr x l.block) l.op 0 (take l.place l.successors)
