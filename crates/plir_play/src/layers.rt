@@ -30,6 +30,7 @@ fn play_flow(alloc: Global, script: &Script<'_>) -> Option<Result<(), Mismatch>>
         "calls" => plir_flow_calls::play_calls(alloc, nodes, lines),
         "edges" => plir_flow_calls::play_edges(alloc, nodes, lines),
         "flow_sets" => plir_flow_sets_calls::play_in(alloc, nodes, lines),
+        "inliner" => plir_inliner_calls::play_in(alloc, nodes, lines),
         _ => return play_builtin(alloc, script),
     };
     Some(played)

@@ -1,0 +1,16 @@
+mod OpsWalked
+mod Soles
+mod Shapes
+mod Staying
+mod Kept
+mod Nearest
+mod Plainness
+mod Climbing
+mod Passing
+mod Meant
+mod Stepping
+mod Remembered
+mod Went
+mod Going
+mod Told
+mod Refusing

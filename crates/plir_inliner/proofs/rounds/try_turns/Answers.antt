@@ -1,0 +1,68 @@
+use Rattle.std.proofs.Common.{arith, subst, sym}
+use Rattle.plir_inliner.specs.Steps.{IsCutShort}
+use Rattle.plir_inliner.proofs.Going.{going-agree, going-cut, going-on, going-start}
+use Rattle.plir_inliner.proofs.Refusing.{if-err, on-err}
+use Rattle.plir_inliner.proofs.rounds.try_turns.Goals as goal
+
+pub loop-turn-init : goal.loop-turn-init
+loop-turn-init g c =
+    going-start g.D.OpSet.is_symbol g.D.OpSet.is_symbol_table g.D.OpSet.attr_handles g.D.CallSet.call
+    g.D.CallSet.returned c.args.root c.args.ctx.now c.args.tally.now c.args.tables.now c.requires.root_live
+    c.requires.sure c.stands.ensures.whole
+
+pub try_turn-requires-clause-root_live : goal.try_turn-requires-clause-root_live
+try_turn-requires-clause-root_live g c = c.loop-turn.invariant.root_live
+
+pub try_turn-requires-clause-sure : goal.try_turn-requires-clause-sure
+try_turn-requires-clause-sure g c = c.loop-turn.invariant.sure
+
+pub try_turn-requires-clause-fits : goal.try_turn-requires-clause-fits
+try_turn-requires-clause-fits g c =
+    let a = c.loop-turn.invariant.fits in
+    omega (arith, a, c.requires.fits)
+
+pub loop-turn-preserved : goal.loop-turn-preserved
+loop-turn-preserved g c =
+    let e = c.in_ok-try_turn.ensures in
+    going-on g.D.OpSet.is_symbol g.D.OpSet.is_symbol_table g.D.OpSet.attr_handles g.D.CallSet.call
+    g.D.CallSet.returned c.args.root c.args.ctx.now c.args.tally.now c.loop-turn.ctx c.loop-turn.tally
+    c.loop-turn.tables c.loop-turn.invariant c.try_turn.new.ctx c.try_turn.new.tally c.try_turn.new.tables e.root_live
+    e.sure e.fits e.part e.sure_still e.whole
+
+pub returns-in_err-try_turn-clause-err : goal.returns-in_err-try_turn-clause-err
+returns-in_err-try_turn-clause-err g c =
+    if-err (IsCutShort g.D.OpSet.is_symbol g.D.OpSet.is_symbol_table g.D.CallSet.call g.D.CallSet.returned c.args.root
+    c.args.ctx.now c.try_turn.new.ctx c.args.tally.now.left) c.from_residual.result c.from_residual.ensures.1 (λ y q.
+    subst (IsCutShort g.D.OpSet.is_symbol g.D.OpSet.is_symbol_table g.D.CallSet.call g.D.CallSet.returned c.args.root
+    c.args.ctx.now c.try_turn.new.ctx c.args.tally.now.left) (sym q)
+    (going-cut g.D.OpSet.is_symbol g.D.OpSet.is_symbol_table g.D.OpSet.attr_handles g.D.CallSet.call
+    g.D.CallSet.returned c.args.root c.args.ctx.now c.args.tally.now c.loop-turn.ctx c.loop-turn.tally
+    c.loop-turn.tables c.loop-turn.invariant c.try_turn.new.ctx c.in_err-try_turn.field-0.0
+    c.in_err-try_turn.ensures.err))
+
+pub returns-in_err-try_turn-clause-agree_still : goal.returns-in_err-try_turn-clause-agree_still
+returns-in_err-try_turn-clause-agree_still g c =
+    on-err _ c.from_residual.result
+    (going-agree g.D.OpSet.is_symbol g.D.OpSet.is_symbol_table g.D.OpSet.attr_handles g.D.CallSet.call
+    g.D.CallSet.returned c.args.root c.args.ctx.now c.args.tally.now c.loop-turn.ctx c.loop-turn.tally
+    c.loop-turn.tables c.loop-turn.invariant c.try_turn.new.ctx c.in_err-try_turn.ensures.agree_still)
+
+pub returns-then-branch-clause-part : goal.returns-then-branch-clause-part
+returns-then-branch-clause-part g c =
+    let e = c.in_ok-try_turn.ensures in
+    let h =
+    going-on g.D.OpSet.is_symbol g.D.OpSet.is_symbol_table g.D.OpSet.attr_handles g.D.CallSet.call
+    g.D.CallSet.returned c.args.root c.args.ctx.now c.args.tally.now c.loop-turn.ctx c.loop-turn.tally
+    c.loop-turn.tables c.loop-turn.invariant c.try_turn.new.ctx c.try_turn.new.tally c.try_turn.new.tables e.root_live
+    e.sure e.fits e.part e.sure_still e.whole in
+    h.part
+
+pub returns-then-branch-clause-sure_still : goal.returns-then-branch-clause-sure_still
+returns-then-branch-clause-sure_still g c =
+    let e = c.in_ok-try_turn.ensures in
+    let h =
+    going-on g.D.OpSet.is_symbol g.D.OpSet.is_symbol_table g.D.OpSet.attr_handles g.D.CallSet.call
+    g.D.CallSet.returned c.args.root c.args.ctx.now c.args.tally.now c.loop-turn.ctx c.loop-turn.tally
+    c.loop-turn.tables c.loop-turn.invariant c.try_turn.new.ctx c.try_turn.new.tally c.try_turn.new.tables e.root_live
+    e.sure e.fits e.part e.sure_still e.whole in
+    h.still
