@@ -1,0 +1,9 @@
+pub mod Members
+pub mod Uses
+pub mod Changed
+pub mod Moving
+pub mod PutSteps
+pub mod DropSteps
+pub mod OwnKinds
+pub mod Keeping
+pub mod NewBlocks
