@@ -1,15 +1,15 @@
 -- Uses and names that are noted one after the other.
-use Rattle.std.proofs.Common.{◌≡◌, ◌++◌, ◌+◌, ◌<◌, ℕ, zero, suc, List, [], ◌∷◌, length, map, take, get_or, refl, sym, ap, subst}
+use Rattle.std.proofs.Common.{◌≡◌, ◌++◌, ◌+◌, ◌<◌, ℕ, zero, suc, List, [], ◌∷◌, length, map, take, get_or, refl, sym}
+use Rattle.std.proofs.Common.{ap, subst}
 use Rattle.std.proofs.Common.{◌∙◌, append_assoc, append-nil, arith, Option}
-use Rattle.std.specs.Prelude.{All}
-use Rattle.std.proofs.lemmas.List.{length-take, map-append, take_more, take_all}
+use Rattle.std.proofs.lemmas.List.{map-append, take_more}
 use Rattle.std.proofs.lemmas.List.Elements.{All-nil, All-cons, All-append}
 use Rattle.plir_names.specs.declared.names.NameTable.{NameTable}
 use Rattle.plir_core.specs.declared.ptr.Ptr.{Ptr}
 use Rattle.plir_core.specs.declared.ptr.Operation.{Operation as OperationKind}
 use Rattle.plir_core.specs.declared.ptr.Region.{Region as RegionKind}
 use Rattle.plir_core.specs.declared.value.Value.{Value}
-use Rattle.plir_read_ir.specs.Mentions.{Mention, value_bears, WordIn, values_bear, values_in}
+use Rattle.plir_read_ir.specs.Mentions.{WordIn, values_bear, values_in}
 use Rattle.plir_read_ir.specs.Readings.{AddsNoted, AddsValues, NotedUse, noted_operand, noted_successor, noted_operands}
 use Rattle.plir_read_ir.specs.Readings.{noted_successors, noted_use, place_in, plain_name}
 use Rattle.plir_read_ir.specs.Noting.{Bears, NameInBody, same_name}

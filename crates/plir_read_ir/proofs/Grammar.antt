@@ -1,33 +1,37 @@
 -- Parts that are read one after the other stand there.
-use Rattle.std.proofs.Common.{◌≡◌, ◌≤◌, ◌++◌, ℕ, max, List, [], ◌∷◌, Ok, Err, Result, Option, length, refl, sym, ap, ap₂}
+use Rattle.std.proofs.Common.{◌≡◌, ◌≤◌, ◌++◌, ℕ, max, cond, List, [], ◌∷◌, Ok, Err, Result, Option, None, Some, length}
+use Rattle.std.proofs.Common.{refl, sym, ap, ap₂}
 use Rattle.std.proofs.Common.{subst, ◌∙◌, arith, append-nil, append_assoc}
 use Rattle.plir_attr_text.specs.declared.fault.Fault.{Fault}
+use Rattle.plir_attr_text.specs.declared.fault.Fault.TheVariants.{Unexpected}
 use Rattle.plir_attr_text.specs.Steps.{◌>>=◌}
 use Rattle.plir_attr_text.specs.Terms.{AttrTerm, TypeTerm, EntryTerms}
-use Rattle.plir_attr_text.specs.Tokens.{Token, word, sign, look, Begins}
+use Rattle.plir_attr_text.specs.Tokens.{Token, word, sign}
 use Rattle.plir_attr_text.specs.TypeGrammar.{enclosed}
+use Rattle.plir_attr_text.specs.TypeReading.{word_at}
 use Rattle.plir_attr_text.specs.laws.Begun.{Begins-append}
 use Rattle.plir_attr_text.specs.laws.ListsFound.{FoundOne}
 use Rattle.plir_attr_text.specs.laws.StepLaws.{bind_ok, done, ok_is}
-use Rattle.plir_read.specs.OpGrammar.{SpellsBlockHead}
-use Rattle.plir_read.specs.OpReading.{constant_at, header_at as bodied_at, first_name, named, named_constant_at, op_id, start_at}
+use Rattle.plir_read.specs.OpReading.{constant_at, first_name, named, named_constant_at, op_id, op_kind, start_at}
 use Rattle.plir_read.specs.OpReading.{names_before as bodied_names_before, names_at as bodied_names_at}
-use Rattle.plir_read.specs.OpTerms.{BlockHead, block_levels, Header as BodiedHeader}
-use Rattle.plir_read.specs.declared.heads.BodyKind.{BodyKind}
+use Rattle.plir_read.specs.OpTerms.{BlockHead, block_levels}
 use Rattle.plir_read.specs.declared.heads.HeadKind.{HeadKind}
 use Rattle.plir_read.specs.declared.heads.HeadKind.TheVariants.{Bodied, Constant, ForwardRef}
 use Rattle.plir_read.specs.laws.OpFound.{header_found as bodied_found}
-use Rattle.plir_read.specs.laws.StartFound.{ConstantWithin, bare_id, constant_found, id_of, named_id, named_is, start_found}
-use Rattle.plir_read_own.specs.OwnReading.{header_at, kind_at, names_at, names_before, opening_at, typed_at, uses_at}
+use Rattle.plir_read.specs.laws.StartFound.{bare_id, constant_found, id_of, named_id, named_is, start_found}
+use Rattle.plir_read_own.specs.OwnReading.{header_at, if_found, kind_at, kind_of, names_at, names_before, opening_at}
+use Rattle.plir_read_own.specs.OwnReading.{typed_at, uses_at}
 use Rattle.plir_read_own.specs.OwnReading.{counted as own_counted}
-use Rattle.plir_read_own.specs.OwnTerms.{Header, Signature, Uses}
+use Rattle.plir_read_own.specs.OwnGrammar.{has_point}
+use Rattle.plir_read_own.specs.OwnTerms.{Signature, Uses}
 use Rattle.plir_read_own.specs.laws.Found.{header_found}
-use Rattle.plir_read_ir.specs.IrGrammar.{SpellsBlocks, SpellsFront, SpellsMoreOps, SpellsOp, SpellsOps, SpellsRegions}
-use Rattle.plir_read_ir.specs.IrReading.{builtin_or, counted, ir_kind_at, ir_opening_at, parts_at}
-use Rattle.plir_read_ir.specs.IrTerms.{Front, bodied_front, constant_front, own_front, IrOp, IrRegions, no_regions}
+use Rattle.plir_read_ir.specs.IrGrammar.{own_kind, SpellsBlocks, SpellsFront, SpellsMoreOps, SpellsOp, SpellsOps}
+use Rattle.plir_read_ir.specs.IrGrammar.{SpellsRegions}
+use Rattle.plir_read_ir.specs.IrReading.{builtin_or, counted, header_with, ir_kind_at, ir_opening_at, parts_at}
+use Rattle.plir_read_ir.specs.IrTerms.{Front, IrOp, IrRegions, no_regions}
 use Rattle.plir_read_ir.specs.IrTerms.{region_before, IrBlocks, no_blocks, block_before, IrOps, no_ops, op_before}
 use Rattle.plir_read_ir.specs.IrTerms.{front_levels, op_levels, regions_levels, blocks_levels, ops_levels}
-use Rattle.plir_read_ir.specs.Readings.{IsFrontRead, SpellsBlock, SpellsBody, header_with}
+use Rattle.plir_read_ir.specs.Readings.{IsFrontRead, SpellsBlock, SpellsBody}
 use Rattle.plir_read_ir.specs.declared.openings.IrKind.{IrKind}
 use Rattle.plir_read_ir.specs.declared.openings.IrKind.TheVariants.{Builtin, Own}
 use Rattle.plir_read_ir.proofs.Trees.{blocks_then, ops_then, regions_then}
@@ -148,7 +152,7 @@ module _ {K : Type 0} where
 -- ---- what stands before the regions
 
 -- the names before an id are those of a builtin operation
-same_names : (bytes : List ℕ) → names_before bytes ≡ bodied_names_before bytes
+pub same_names : (bytes : List ℕ) → names_before bytes ≡ bodied_names_before bytes
 unfolding names_before names_at bodied_names_before bodied_names_at
 same_names bytes = refl
 
@@ -179,6 +183,11 @@ same_counts : (ws : List (List ℕ)) (u : Uses) (t : Signature) → own_counted 
 unfolding own_counted counted
 same_counts ws u t = refl
 
+no_kind : (r : Result HeadKind Fault) (rest : List ℕ) (f : Fault) →
+    (r >>= λ j. done {A = HeadKind × List ℕ} (j, rest)) ≡ Err f → (g : Fault) × (r ≡ Err g)
+no_kind (Ok j) rest f e = absurd cc
+no_kind (Err g) rest f e = (g, refl)
+
 module _ {K : Type 0} (find : List ℕ → Option K) where
   -- an id that is read
   record OpenedBy (bytes : List ℕ) (ws : List (List ℕ)) (k : IrKind K) (rest : List ℕ) : Type 0 where
@@ -205,13 +214,35 @@ module _ {K : Type 0} (find : List ℕ → Option K) where
   builtin_is (Err g) (Ok y) k rest e = absurd (not_builtin k y.0 (ok_parts (Own y.0) (Builtin k) y.1 rest e).0)
   builtin_is (Err g) (Err h) k rest e = absurd cc
 
-  own_is : (r : Result (HeadKind × List ℕ) Fault) (own : Result (K × List ℕ) Fault) (k : K) (rest : List ℕ) →
-      builtin_or find r own ≡ Ok (Own k, rest) → own ≡ Ok (k, rest)
-  own_is (Ok x) own k rest e = absurd (not_builtin x.0 k (sym (ok_parts (Builtin x.0) (Own k) x.1 rest e).0))
-  own_is (Err g) (Ok y) k rest e =
+  no_op_id : (r : Result (HeadKind × List ℕ) Fault) (own : Result (K × List ℕ) Fault) (k : K) (rest : List ℕ) →
+      builtin_or find r own ≡ Ok (Own k, rest) → ((g : Fault) × (r ≡ Err g)) × (own ≡ Ok (k, rest))
+  no_op_id (Ok x) own k rest e = absurd (not_builtin x.0 k (sym (ok_parts (Builtin x.0) (Own k) x.1 rest e).0))
+  no_op_id (Err g) (Ok y) k rest e =
       let p = ok_parts (Own y.0) (Own k) y.1 rest e in
-      ok_pair y.0 k y.1 rest (same_own y.0 k p.0) p.1
-  own_is (Err g) (Err h) k rest e = absurd cc
+      ((g, refl), ok_pair y.0 k y.1 rest (same_own y.0 k p.0) p.1)
+  no_op_id (Err g) (Err h) k rest e = absurd cc
+
+  same_found : (o : Option K) → if_found (own_kind find) o ≡ if_found find o
+  same_found None = refl
+  same_found (Some k) = refl
+
+  -- where a word is no id of a builtin operation, it names what `find` says
+  pub unbuiltin : (w : List ℕ) (g : Fault) → op_kind w ≡ Err g → kind_of (own_kind find) w ≡ kind_of find w
+  unfolding kind_of
+  unbuiltin w g e = rw e (ap (λ (r : Result K Fault). cond (has_point w) r (Err Unexpected)) (same_found (find w)))
+
+  -- the id of an own operation is no builtin one
+  own_is : (bytes : List ℕ) (k : K) (rest : List ℕ) → ir_kind_at find bytes ≡ Ok (Own k, rest) →
+      kind_at (own_kind find) bytes ≡ Ok (k, rest)
+  unfolding ir_kind_at kind_at op_id
+  own_is bytes k rest e =
+      let p = no_op_id (op_id bytes) (kind_at find bytes) k rest e in
+      let a = bind_ok (word_at bytes) (λ w. kind_of find w.0 >>= λ j. Ok (j, w.1)) (k, rest) p.1 in
+      let f : (op_kind a.0.0 >>= λ j. done {A = HeadKind × List ℕ} (j, a.0.1)) ≡ Err p.0.0 =
+      ap (λ (r : Result (List ℕ × List ℕ) Fault). r >>= λ w. op_kind w.0 >>=
+      λ j. done {A = HeadKind × List ℕ} (j, w.1)) (sym a.1) ∙ p.0.1 in
+      let g = no_kind (op_kind a.0.0) a.0.1 p.0.0 f in
+      rw (a.1, unbuiltin a.0.0 g.0 g.1) a.2
 
   start_is : (bytes : List ℕ) (ws : List (List ℕ)) (k : HeadKind) (rest : List ℕ) →
       ir_opening_at find bytes ≡ Ok ((ws, Builtin k), rest) → start_at bytes ≡ Ok ((ws, k), rest)
@@ -222,8 +253,8 @@ module _ {K : Type 0} (find : List ℕ → Option K) where
 
   header_is : (n : ℕ) (bytes : List ℕ) (ws : List (List ℕ)) (k : K) (rest end : List ℕ)
       (p : Uses × (EntryTerms × Signature)) → ir_opening_at find bytes ≡ Ok ((ws, Own k), rest) →
-      parts_at n (length ws) rest ≡ Ok (p, end) → header_at find n bytes ≡ Ok (header_with ws k p, end)
-  unfolding header_at opening_at ir_kind_at parts_at
+      parts_at n (length ws) rest ≡ Ok (p, end) → header_at (own_kind find) n bytes ≡ Ok (header_with ws k p, end)
+  unfolding header_at opening_at parts_at
   header_is n bytes ws k rest end p e h =
       let o = opened bytes ws (Own k) rest e in
       let a = bind_ok (uses_at rest) (λ u. typed_at n u.1 >>= λ t. counted (length ws) u.0 t.0.1 >>=
@@ -234,7 +265,7 @@ module _ {K : Type 0} (find : List ℕ → Option K) where
       let same = ok_is ((a.0.0, b.0.0), b.0.1) (p, end) d.2 in
       rw (
         o.names,
-        own_is (op_id o.behind) (kind_at find o.behind) k rest o.kind,
+        own_is o.behind k rest o.kind,
         a.1,
         b.1,
         same_counts ws a.0.0 b.0.0.1 ∙ d.1,
@@ -283,6 +314,6 @@ module _ {K : Type 0} (find : List ℕ → Option K) where
       })
   front_found n bytes ws (Builtin ForwardRef) rest end f e h = absurd h
   front_found n bytes ws (Own k) rest end f e h =
-      let d = header_found find n bytes (header_with ws k h.0, end) (header_is n bytes ws k rest end h.0 e h.1) in
+      let d = header_found (own_kind find) n bytes (header_with ws k h.0, end) (header_is n bytes ws k rest end h.0 e h.1) in
       subst (λ x. FoundOne (FrontWithin n) bytes x end) (sym h.2)
       (record { tokens = d.tokens; begins = d.begins; spelled = d.spelled })

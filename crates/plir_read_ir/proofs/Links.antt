@@ -1,6 +1,7 @@
 -- Operations come to use what their names mean.
-use Rattle.std.proofs.Common.{◌≡◌, ◌++◌, ◌+◌, ℕ, zero, suc, Bool, true, false, cond, List, [], ◌∷◌, length, map, slice_get}
-use Rattle.std.proofs.Common.{slice_set, Option, Some, None, inl, inr, refl, sym, ap, ap₂, subst, ◌∙◌, append-nil}
+use Rattle.std.proofs.Common.{◌≡◌, ◌++◌, ◌+◌, ℕ, zero, suc, Bool, true, false, cond, List, [], ◌∷◌, length, map}
+use Rattle.std.proofs.Common.{slice_get}
+use Rattle.std.proofs.Common.{slice_set, Option, Some, None, refl, sym, ap, ap₂, subst, ◌∙◌, append-nil}
 use Rattle.std.proofs.Common.{append_assoc, arith}
 use Rattle.std.proofs.Math.Seq.{set-append_seam}
 use Rattle.std.proofs.lemmas.Option.{none-some}
@@ -8,8 +9,8 @@ use Rattle.plir_names.specs.Meanings.{meaning}
 use Rattle.plir_names.specs.declared.names.Meaning.{Meaning}
 use Rattle.plir_names.specs.declared.names.Meaning.TheVariants.{Only}
 use Rattle.plir_core.specs.Contents.{BlockView, OpView}
-use Rattle.plir_core.specs.ContextView.{ContextView, IsLive, IsValueLive, children, entity_node, is_live, op_at}
-use Rattle.plir_core.specs.ContextView.{type_of_value, types_from}
+use Rattle.plir_core.specs.ContextView.{ContextView, IsLive, entity_node, is_live, op_at}
+use Rattle.plir_core.specs.ContextView.{type_of_value}
 use Rattle.plir_core.specs.SameValue.{ptr-exact, same_ptr}
 use Rattle.plir_core.specs.Standing.{IsStanding}
 use Rattle.plir_core.specs.declared.ptr.Ptr.{Ptr}
@@ -23,14 +24,13 @@ use Rattle.plir_attr_text.specs.Names.{Grows}
 use Rattle.plir_attr_text.specs.laws.Growth.{Grows-itself, NamesAll-grown}
 use Rattle.plir_attr_text.specs.laws.Meanings.{IsDictMeant-grown}
 use Rattle.plir_read.specs.Heads.{result_names}
-use Rattle.plir_read.specs.OpTerms.{BlockHead}
-use Rattle.plir_read.specs.OpsStanding.{HoldsBlock, HoldsOp, IsBlockHeadAt}
+use Rattle.plir_read.specs.OpsStanding.{HoldsBlock, HoldsOp}
 use Rattle.plir_read_own.specs.OwnTerms.{Header}
 use Rattle.plir_read_ir.specs.IrStanding.{IsFrontAt, IsIrAt, IsIrWhole, IsOwnAt}
 use Rattle.plir_read_ir.specs.IrTerms.{Front, bodied_front, constant_front, own_front, IrOp}
 use Rattle.plir_read_ir.specs.Linking.{AreSteps, AreUsesLinked, IsLinkedAt, IsMadeBy, IsStep, KeepsShape}
 use Rattle.plir_read_ir.specs.Mentions.{Mention, Scope, WordIn, labels_in, nowhere, op_mentions, same_word, values_in}
-use Rattle.plir_read_ir.specs.OwnOps.{own_attributes, own_op}
+use Rattle.plir_read_ir.specs.OwnOps.{own_op}
 use Rattle.plir_read_ir.specs.Readings.{IsFrontNoted, IsOwnNoted, NotedUse, noted_operand, noted_successor}
 use Rattle.plir_read_ir.specs.Readings.{noted_operands, noted_successors, noted_use, place_in, uses_at, uses_by}
 use Rattle.plir_read_ir.specs.declared.notes.PendingUse.{PendingUse}

@@ -8,7 +8,8 @@ use Rattle.plir_names.specs.Meanings.{Says, bearers, meaning_by}
 use Rattle.plir_names.specs.Tables.{meanings}
 use Rattle.plir_names.specs.declared.names.Meaning.TheVariants.{Only}
 use Rattle.plir_names.specs.declared.names.NameTable.{NameTable}
-use Rattle.plir_core.specs.ContextView.{ContextView, IsLive, IsValueLive, is_live, successors_of, types_from, entity_node}
+use Rattle.plir_core.specs.ContextView.{ContextView, IsLive, IsValueLive, is_live, successors_of, types_from}
+use Rattle.plir_core.specs.ContextView.{entity_node}
 use Rattle.plir_core.specs.ContextView.{results_in, successors_in, arguments_in, op_at, block_at}
 use Rattle.plir_core.specs.Placed.{IsPlaced, MovesOnly}
 use Rattle.plir_store.specs.Table.{content_at, is_live_at}

@@ -1,12 +1,12 @@
 -- What is noted, as more is read.
-use Rattle.std.proofs.Common.{◌≡◌, ◌++◌, ◌&&◌, ℕ, Bool, true, false, cond, nat_eq, List, [], ◌∷◌, Option, Some, None, map}
-use Rattle.std.proofs.Common.{refl, sym, ap, ap₂, subst, ◌∙◌, append-nil, append_assoc, inl, inr, length}
+use Rattle.std.proofs.Common.{◌≡◌, ◌++◌, ◌&&◌, Bool, true, false, cond, nat_eq, List, [], ◌∷◌, Option, Some, None, map}
+use Rattle.std.proofs.Common.{refl, sym, ap, ap₂, subst, ◌∙◌, append-nil, append_assoc}
 use Rattle.std.specs.Option.{option_eq}
 use Rattle.std.specs.Prelude.{All}
 use Rattle.std.specs.Str.{bytes_eq}
 use Rattle.std.proofs.lemmas.List.{map-append}
-use Rattle.std.proofs.lemmas.List.Elements.{All-nil, All-cons, All-head, All-tail, All-append}
-use Rattle.plir_names.specs.Meanings.{Says, bearers, meaning, meaning_by}
+use Rattle.std.proofs.lemmas.List.Elements.{All-nil, All-head, All-tail, All-append}
+use Rattle.plir_names.specs.Meanings.{Says, bearers, meaning_by}
 use Rattle.plir_names.specs.Tables.{meanings}
 use Rattle.plir_names.specs.declared.names.NameTable.{NameTable}
 use Rattle.plir_data.specs.Types.{TypeView}
@@ -26,7 +26,7 @@ use Rattle.plir_read_ir.specs.Mentions.{Mention, value_bears, block_bears, opera
 use Rattle.plir_read_ir.specs.Mentions.{labels_in, same_word, uses_in, values_in}
 use Rattle.plir_read_ir.specs.Noting.{AreReady, Bears, IsPending, LabelInRegion, NameInBody, same_label, same_name}
 use Rattle.plir_read_ir.specs.Noting.{same_pointer}
-use Rattle.plir_read_ir.specs.Readings.{AddsLabels, AddsNoted, AddsValues, AreMentioned, IsMentioned, IsNoted}
+use Rattle.plir_read_ir.specs.Readings.{AddsLabels, AddsValues, AreMentioned, IsMentioned, IsNoted}
 use Rattle.plir_read_ir.specs.Readings.{NotedUse, noted_operand, noted_successor, SaysLabels, SaysValues, noted_use}
 use Rattle.plir_read_ir.specs.Readings.{plain_label, plain_name, uses_at, uses_by}
 use Rattle.plir_read_ir.specs.declared.notes.Notes.{Notes}

@@ -1,11 +1,9 @@
 -- Operations that are read go on standing while more is read.
-use Rattle.std.proofs.Common.{◌≡◌, ◌++◌, ℕ, List, [], ◌∷◌, Option, Some, None, inl, inr, refl, sym, ap, subst, ◌∙◌}
-use Rattle.plir_store.specs.Members.{Has}
+use Rattle.std.proofs.Common.{◌≡◌, ℕ, List, [], ◌∷◌, Option, Some, ◌∙◌}
 use Rattle.plir_data.specs.AttrView.{AttrView}
 use Rattle.plir_core.specs.Above.{Reaches}
 use Rattle.plir_core.specs.Contents.{BlockView, OpView}
 use Rattle.plir_core.specs.ContextView.{ContextView, IsLive, children, parent_of}
-use Rattle.plir_core.specs.Made.{KeepsLive}
 use Rattle.plir_core.specs.Standing.{IsStanding}
 use Rattle.plir_core.specs.declared.ptr.IRNode.{IRNode}
 use Rattle.plir_core.specs.declared.ptr.IRNode.TheVariants.{Operation, Region, BasicBlock}
@@ -17,14 +15,12 @@ use Rattle.plir_read.specs.Heads.{argument_types, result_names, written_block}
 use Rattle.plir_read.specs.Keeping.{KeepsBut}
 use Rattle.plir_read.specs.OpTerms.{BlockHead, Head, module_head, func_head, Header}
 use Rattle.plir_read.specs.OpsStanding.{HoldsBlock, HoldsOp, IsBlockHeadAt, IsConstantAt, IsHeadAt, IsHeaderAt}
-use Rattle.plir_read.specs.laws.Frames.{IsFrame, child_below, climb_on}
+use Rattle.plir_read.specs.laws.Frames.{IsFrame, climb_on}
 use Rattle.plir_read_own.specs.OwnTerms.{Header as OwnHeader}
 use Rattle.plir_read_ir.specs.IrTerms.{Front, bodied_front, constant_front, own_front}
-use Rattle.plir_read_ir.specs.Mentions.{Mention, Scope}
-use Rattle.plir_read_ir.specs.Readings.{IsFrontNoted, IsNoted, IsOwnNoted, uses_at}
-use Rattle.plir_read_ir.specs.declared.notes.Notes.{Notes}
+use Rattle.plir_read_ir.specs.Mentions.{Scope}
+use Rattle.plir_read_ir.specs.Readings.{IsFrontNoted, IsOwnNoted, uses_at}
 use Rattle.plir_read_ir.specs.declared.notes.PendingUse.{PendingUse}
-use Rattle.plir_read_ir.proofs.Says.{uses_still}
 
 -- ---- one node
 

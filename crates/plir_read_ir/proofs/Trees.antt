@@ -1,5 +1,5 @@
 -- Written operations go on standing where nodes are as they were, and so do the mentions of names in them.
-use Rattle.std.proofs.Common.{◌≡◌, ◌++◌, ℕ, Bool, List, [], ◌∷◌, Option, Some, inl, inr, refl, sym, ap, ap₂, subst, ◌∙◌}
+use Rattle.std.proofs.Common.{◌≡◌, ◌++◌, Bool, List, [], ◌∷◌, Option, Some, inl, inr, refl, sym, ap, ap₂, subst, ◌∙◌}
 use Rattle.std.proofs.Common.{append-nil, append_assoc}
 use Rattle.plir_store.specs.Members.{Has}
 use Rattle.plir_core.specs.ContextView.{ContextView, children}

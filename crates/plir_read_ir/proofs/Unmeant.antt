@@ -1,16 +1,14 @@
 -- Uses that get nothing.
-use Rattle.std.proofs.Common.{◌≡◌, ◌⊎◌, ◌++◌, ◌+◌, ◌<◌, ℕ, Bool, true, false, cond, List, [], ◌∷◌, length, map, take, drop, get_or}
+use Rattle.std.proofs.Common.{◌≡◌, ◌++◌, ◌+◌, ◌<◌, ℕ, Bool, List, [], ◌∷◌, length, map, take, drop, get_or}
 use Rattle.std.proofs.Common.{slice_get, slice_set, Option, Some, None, inl, inr, refl, sym, ap, subst, ◌∙◌}
 use Rattle.std.proofs.lemmas.List.{drop_more, map-append, take-append-drop}
 use Rattle.plir_names.specs.Meanings.{bearers, meaning, meaning_by}
 use Rattle.plir_names.specs.Tables.{meanings}
-use Rattle.plir_names.specs.declared.names.Meaning.{Meaning}
-use Rattle.plir_names.specs.declared.names.Meaning.TheVariants.{Unknown, Only, Ambiguous}
-use Rattle.plir_names.specs.declared.names.NameTable.{NameTable}
+use Rattle.plir_names.specs.declared.names.Meaning.TheVariants.{Unknown, Only}
 use Rattle.plir_store.specs.Members.{Has}
 use Rattle.plir_data.specs.Types.{TypeView}
-use Rattle.plir_core.specs.Contents.{BlockView, OpView, op_view}
-use Rattle.plir_core.specs.ContextView.{ContextView, IsLive, IsValueLive, entity_node, is_live, type_of_value, types_from}
+use Rattle.plir_core.specs.Contents.{OpView}
+use Rattle.plir_core.specs.ContextView.{ContextView, IsLive, IsValueLive, entity_node, is_live, type_of_value}
 use Rattle.plir_core.specs.Standing.{IsStanding}
 use Rattle.plir_core.specs.declared.ptr.Ptr.{Ptr}
 use Rattle.plir_core.specs.declared.ptr.Operation.{Operation as OperationKind}
@@ -20,21 +18,23 @@ use Rattle.plir_core.specs.declared.ptr.IRNode.{IRNode}
 use Rattle.plir_core.specs.declared.ptr.IRNode.TheVariants.{Operation, Region, BasicBlock}
 use Rattle.plir_core.specs.declared.value.Value.{Value}
 use Rattle.plir_attr_text.specs.Names.{Grows, Names}
-use Rattle.plir_attr_text.specs.laws.Growth.{Grows-itself, Names-grown, NamesAll-grown}
+use Rattle.plir_attr_text.specs.laws.Growth.{Grows-itself, NamesAll-grown}
 use Rattle.plir_attr_text.specs.laws.Meanings.{IsDictMeant-grown}
 use Rattle.plir_read.specs.Heads.{result_names}
 use Rattle.plir_read_own.specs.OwnTerms.{Header}
 use Rattle.plir_read_ir.specs.IrFaults.{fault_of}
 use Rattle.plir_read_ir.specs.IrStanding.{IsIrAt}
 use Rattle.plir_read_ir.specs.IrTerms.{Front, bodied_front, constant_front, own_front, IrOp}
-use Rattle.plir_read_ir.specs.Linking.{AreSteps, AreUsesLinked, FailsUse, FailsUses, HasFault, IsStep, KeepsShape, StopsAtUse}
+use Rattle.plir_read_ir.specs.Linking.{AreSteps, AreUsesLinked, FailsUse, FailsUses, HasFault, IsStep, KeepsShape}
+use Rattle.plir_read_ir.specs.Linking.{StopsAtUse}
 use Rattle.plir_read_ir.specs.Linking.{TellsMeaning, TellsNoUse, TellsType}
-use Rattle.plir_read_ir.specs.Mentions.{Mention, value_bears, block_bears, operand_named, successor_named, Scope, WordIn}
+use Rattle.plir_read_ir.specs.Mentions.{Mention, value_bears, block_bears, operand_named, successor_named, Scope}
+use Rattle.plir_read_ir.specs.Mentions.{WordIn}
 use Rattle.plir_read_ir.specs.Mentions.{block_meant, labels_in, nowhere, op_mentions, same_word, uses_in, value_meant}
 use Rattle.plir_read_ir.specs.Mentions.{values_in}
 use Rattle.plir_read_ir.specs.Noting.{LabelInRegion, NameInBody, same_label, same_name}
 use Rattle.plir_read_ir.specs.OwnOps.{own_op}
-use Rattle.plir_read_ir.specs.Readings.{AddsLabels, AreMentioned, IsFrontNoted, IsMentioned, IsOwnNoted, NotedUse}
+use Rattle.plir_read_ir.specs.Readings.{AreMentioned, IsFrontNoted, IsMentioned, IsOwnNoted, NotedUse}
 use Rattle.plir_read_ir.specs.Readings.{noted_operand, noted_successor, ReadsText, SaysLabels, SaysValues, noted_use}
 use Rattle.plir_read_ir.specs.Readings.{plain_label, uses_at, uses_by}
 use Rattle.plir_read_ir.specs.UseFaults.{HasUseFault, IsAtUse, IsFrontMade, IsOwnMade, IsUnmeant}

@@ -1,5 +1,5 @@
 -- Whole texts that are read.
-use Rattle.std.proofs.Common.{◌≡◌, ℕ, Bool, List, [], ◌∷◌, Option, Ok, refl, sym}
+use Rattle.std.proofs.Common.{◌≡◌, ℕ, Bool, List, [], ◌∷◌, Option, Ok, refl}
 use Rattle.plir_core.specs.ContextView.{ContextView}
 use Rattle.plir_core.specs.declared.ptr.IRNode.{IRNode}
 use Rattle.plir_attr_text.specs.Bytes.{is_blank, past}

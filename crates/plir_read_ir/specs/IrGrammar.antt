@@ -1,11 +1,15 @@
 -- Which tokens stand for an operation of any kind.
-use Rattle.std.specs.Prelude.{◌≡◌, ℕ, ◌≤◌, List, [], ◌∷◌, ◌++◌, Option}
+use Rattle.std.specs.Prelude.{◌≡◌, ℕ, ◌≤◌, List, [], ◌∷◌, ◌++◌, Option, None, Result, Ok, Err}
 use Rattle.plir_attr_text.specs.Tokens.{Token, sign}
 use Rattle.plir_attr_text.specs.TypeGrammar.{enclosed}
+use Rattle.plir_attr_text.specs.declared.fault.Fault.{Fault}
+use Rattle.plir_read.specs.OpReading.{op_kind}
+use Rattle.plir_read.specs.declared.heads.HeadKind.{HeadKind}
 use Rattle.plir_read.specs.OpGrammar.{SpellsBlockHead, SpellsConstant, SpellsHeader as SpellsBodied}
 use Rattle.plir_read_own.specs.OwnGrammar.{SpellsHeader}
-use Rattle.plir_read_ir.specs.IrTerms.{Front, bodied_front, constant_front, own_front, IrOp, ir_op, IrRegions, no_regions}
-use Rattle.plir_read_ir.specs.IrTerms.{region_before, IrBlocks, no_blocks, block_before, IrOps, no_ops, op_before}
+use Rattle.plir_read_ir.specs.IrTerms.{Front, bodied_front, constant_front, own_front, IrOp, ir_op, IrRegions}
+use Rattle.plir_read_ir.specs.IrTerms.{no_regions, region_before, IrBlocks, no_blocks, block_before, IrOps, no_ops}
+use Rattle.plir_read_ir.specs.IrTerms.{op_before}
 use Rattle.plir_read_ir.specs.IrTerms.{op_levels}
 
 module _ {K : Type 0} where
@@ -17,11 +21,19 @@ module _ {K : Type 0} where
 
 -- `find` says which kind of the set an id names
 module _ {K : Type 0} (find : List ℕ → Option K) where
+  abbrev pub unless_builtin : Result HeadKind Fault → Option K → Option K
+  unless_builtin (Ok k) own = None
+  unless_builtin (Err f) own = own
+
+  -- the kind of the set that an id names in a text, where the ids of builtin operations name these
+  abbrev pub own_kind : List ℕ → Option K
+  own_kind id = unless_builtin (op_kind id) (find id)
+
   -- what stands before the regions
   abbrev pub SpellsFront : Front K → List Token → Type 0
   SpellsFront (bodied_front h) ts = SpellsBodied h ts
   SpellsFront (constant_front w a t) ts = SpellsConstant w a t ts
-  SpellsFront (own_front h) ts = SpellsHeader find h ts
+  SpellsFront (own_front h) ts = SpellsHeader own_kind h ts
 
   abbrev mutual
     pub SpellsOp : IrOp K → List Token → Type 0

@@ -2,7 +2,6 @@
 use Rattle.std.specs.Prelude.{◌≡◌, ℕ, map, List, [], ◌∷◌, Bool, Option, Some}
 use Rattle.plir_data.specs.AttrView.{AttrView}
 use Rattle.plir_data.specs.declared.op_set.OpKind.TheVariants as kinds
-use Rattle.plir_names.specs.declared.names.Meaning.{Meaning}
 use Rattle.plir_names.specs.declared.names.Meaning.TheVariants.{Only}
 use Rattle.plir_core.specs.Contents.{op_view}
 use Rattle.plir_core.specs.ContextView.{ContextView, children, type_of_value}
@@ -20,9 +19,10 @@ use Rattle.plir_read.specs.Heads.{result_names}
 use Rattle.plir_read.specs.OpsStanding.{HoldsOp, IsBlockHeadAt, IsConstantAt, IsHeaderAt}
 use Rattle.plir_read_own.specs.OwnTerms.{Header}
 use Rattle.plir_read_ir.specs.IrGrammar.{IrWithin}
-use Rattle.plir_read_ir.specs.IrTerms.{Front, bodied_front, constant_front, own_front, IrOp, ir_op, IrRegions, no_regions}
-use Rattle.plir_read_ir.specs.IrTerms.{region_before, IrBlocks, no_blocks, block_before, IrOps, no_ops, op_before}
-use Rattle.plir_read_ir.specs.Mentions.{Mention, Scope, WordIn, block_meant, body_in, nowhere, op_mentions, value_meant}
+use Rattle.plir_read_ir.specs.IrTerms.{Front, bodied_front, constant_front, own_front, IrOp, ir_op, IrRegions}
+use Rattle.plir_read_ir.specs.IrTerms.{no_regions, region_before, IrBlocks, no_blocks, block_before, IrOps, no_ops}
+use Rattle.plir_read_ir.specs.IrTerms.{op_before}
+use Rattle.plir_read_ir.specs.Mentions.{Mention, Scope, block_meant, body_in, nowhere, op_mentions, value_meant}
 use Rattle.plir_read_ir.specs.OwnOps.{own_attributes}
 
 -- `front` says whether a node in a scope is what is written before the regions of an operation.

@@ -29,6 +29,20 @@ mutual
     op_before : IrOp K → IrOps K → IrOps K
 
 module _ {K : Type 0} where
+  abbrev pub ops_of : List (IrOp K) → IrOps K
+  ops_of [] = no_ops
+  ops_of (o ∷ os) = op_before o (ops_of os)
+
+  -- blocks, each by its head and its operations
+  abbrev pub blocks_of : List (BlockHead × List (IrOp K)) → IrBlocks K
+  blocks_of [] = no_blocks
+  blocks_of (b ∷ bs) = block_before b.0 (ops_of b.1) (blocks_of bs)
+
+  -- regions, each by its blocks
+  abbrev pub regions_of : List (List (BlockHead × List (IrOp K))) → IrRegions K
+  regions_of [] = no_regions
+  regions_of (bs ∷ rs) = region_before (blocks_of bs) (regions_of rs)
+
   -- the names of the results
   abbrev pub result_words : Front K → List (List ℕ)
   result_words (bodied_front h) = []

@@ -2,11 +2,14 @@
 --
 --   IrTerms      operations of all kinds as they are written
 --   IrGrammar    IrWithin: which tokens stand for such an operation
---   Mentions     op_mentions: who bears a name in the tree of an operation, and what is used; value_meant: what a name means
+--   Mentions     op_mentions: who bears a name in the tree of an operation, and what is used; value_meant: what a name
+--                means
 --   IrStanding   StandsForIr: a text stands for an operation, with what it uses by name
 --   Readings     ReadsIr: what was read and noted, before what is used is known
 --   Spelling     words: names as they stand in a text
---   IrReading    ir_opening_at: the parts of texts with own operations as they are read, with the first fault that is met
+--   IrReading    ir_opening_at: the parts of texts with own operations as they are read, with the first fault that is
+--                met
+--   IrOpReading  ir_op_at: operations of all kinds as they are read; MeetsIr: which fault a text meets
 --   IrMeaning    IsIrOpening: what is held of such a part
 --   OwnOps       own_op: what an own operation holds as it is made, before what it uses is known
 --   Noting       AreReady: what is noted stands in a context; NotesOn: what more is noted
@@ -21,6 +24,7 @@ pub mod IrStanding
 pub mod Readings
 pub mod Spelling
 pub mod IrReading
+pub mod IrOpReading
 pub mod IrMeaning
 pub mod OwnOps
 pub mod Noting

@@ -1,5 +1,5 @@
 -- What operations come to use.
-use Rattle.std.specs.Prelude.{◌≡◌, ◌⊎◌, ◌++◌, ℕ, List, [], ◌∷◌, length, slice_set, Option, Some, None}
+use Rattle.std.specs.Prelude.{◌≡◌, ◌⊎◌, ◌++◌, List, [], ◌∷◌, length, slice_set, Some, None}
 use Rattle.plir_names.specs.Meanings.{meaning}
 use Rattle.plir_names.specs.declared.names.Meaning.{Meaning}
 use Rattle.plir_names.specs.declared.names.Meaning.TheVariants.{Unknown, Only, Ambiguous}
@@ -48,8 +48,8 @@ module _ {K A T : Type 0} where
 -- ---- what a use makes of what an operation holds
 
 -- where these values bear names, and these blocks bear labels
-module _ {K A T : Type 0} (values : List (WordIn OperationKind × Value)) (labels : List (WordIn RegionKind × Ptr BlockKind))
-    (s : ContextView K A T) where
+module _ {K A T : Type 0} (values : List (WordIn OperationKind × Value))
+    (labels : List (WordIn RegionKind × Ptr BlockKind)) (s : ContextView K A T) where
   -- The operation gets the live value that its name means, which has the type that is wanted, as its last operand; or
   -- the block that its label means, in a region, in place of the successor at a place.
   abbrev pub IsStep : NotedUse → (o p : OpView K A) → Type 0
@@ -65,7 +65,8 @@ module _ {K A T : Type 0} (values : List (WordIn OperationKind × Value)) (label
 
   -- what q holds in t is made so of what it holds in s, where it is live
   abbrev pub IsMadeBy : (t : ContextView K A T) → Ptr OperationKind → ((o p : OpView K A) → Type 0) → Type 0
-  IsMadeBy t q makes = IsLive s (Operation q) → (o : OpView K A) → op_at s q ≡ Some o → (p : OpView K A) × (op_at t q ≡ Some p) × makes o p
+  IsMadeBy t q makes = IsLive s (Operation q) → (o : OpView K A) → op_at s q ≡ Some o →
+      (p : OpView K A) × (op_at t q ≡ Some p) × makes o p
 
   -- from s to t each operation got what it uses of these uses
   abbrev pub AreUsesLinked : (t : ContextView K A T) → List PendingUse → Type 0
@@ -73,12 +74,14 @@ module _ {K A T : Type 0} (values : List (WordIn OperationKind × Value)) (label
 
 -- The same by what was noted of values and blocks.
 abbrev pub LinksUse : {K A T : Type 0} → Notes → (s t : ContextView K A T) → Ptr OperationKind → NotedUse → Type 0
-LinksUse notes s t q u = (values : List (WordIn OperationKind × Value)) → (labels : List (WordIn RegionKind × Ptr BlockKind)) →
+LinksUse notes s t q u = (values : List (WordIn OperationKind × Value)) →
+    (labels : List (WordIn RegionKind × Ptr BlockKind)) →
     SaysValues notes.values values → SaysLabels notes.labels labels →
     IsMadeBy values labels s t q (IsStep values labels s u)
 
 abbrev pub LinksUses : {K A T : Type 0} → Notes → (s t : ContextView K A T) → List PendingUse → Type 0
-LinksUses notes s t us = (values : List (WordIn OperationKind × Value)) → (labels : List (WordIn RegionKind × Ptr BlockKind)) →
+LinksUses notes s t us = (values : List (WordIn OperationKind × Value)) →
+    (labels : List (WordIn RegionKind × Ptr BlockKind)) →
     SaysValues notes.values values → SaysLabels notes.labels labels → AreUsesLinked values labels s t us
 
 -- ---- uses that get nothing
@@ -104,8 +107,8 @@ abbrev pub TellsNoUse : IrStop → Type 0
 TellsNoUse (Reading stop) = Unit {0}
 TellsNoUse (Use fault left) = ⊥
 
-module _ {K A T : Type 0} (values : List (WordIn OperationKind × Value)) (labels : List (WordIn RegionKind × Ptr BlockKind))
-    (s : ContextView K A T) where
+module _ {K A T : Type 0} (values : List (WordIn OperationKind × Value))
+    (labels : List (WordIn RegionKind × Ptr BlockKind)) (s : ContextView K A T) where
   -- A use has a fault: nothing bears its name, or several do; or what it means has another type than is wanted.
   abbrev pub HasFault : IrFault → NotedUse → Type 0
   HasFault UnknownName (noted_operand w type) = meaning same_word values w ≡ Unknown
@@ -129,10 +132,12 @@ module _ {K A T : Type 0} (values : List (WordIn OperationKind × Value)) (label
 -- The same by what was noted of values and blocks.
 abbrev pub FailsUse : {K A T : Type 0} → Notes → (s : ContextView K A T) → NotedUse → IrStop → Type 0
 FailsUse notes s u (Reading stop) = Unit {0}
-FailsUse notes s u (Use fault left) = (values : List (WordIn OperationKind × Value)) → (labels : List (WordIn RegionKind × Ptr BlockKind)) →
+FailsUse notes s u (Use fault left) = (values : List (WordIn OperationKind × Value)) →
+    (labels : List (WordIn RegionKind × Ptr BlockKind)) →
     SaysValues notes.values values → SaysLabels notes.labels labels → HasFault values labels s fault u
 
 abbrev pub FailsUses : {K A T : Type 0} → Notes → (s t : ContextView K A T) → List PendingUse → IrStop → Type 0
 FailsUses notes s t us (Reading stop) = Unit {0}
-FailsUses notes s t us (Use fault left) = (values : List (WordIn OperationKind × Value)) → (labels : List (WordIn RegionKind × Ptr BlockKind)) →
+FailsUses notes s t us (Use fault left) = (values : List (WordIn OperationKind × Value)) →
+    (labels : List (WordIn RegionKind × Ptr BlockKind)) →
     SaysValues notes.values values → SaysLabels notes.labels labels → StopsAtUse values labels s t us fault

@@ -1,6 +1,6 @@
 -- Who bears a name in the tree of an operation, and which names are used in it.
 use Rattle.std.specs.Option.{option_eq}
-use Rattle.std.specs.Prelude.{ℕ, zero, suc, List, [], ◌∷◌, ◌++◌, ◌&&◌, Bool, if◌then◌else◌, Option, Some, None}
+use Rattle.std.specs.Prelude.{ℕ, suc, List, [], ◌∷◌, ◌++◌, ◌&&◌, Bool, if◌then◌else◌, Option, Some, None}
 use Rattle.std.specs.Str.{bytes_eq}
 use Rattle.plir_names.specs.Meanings.{meaning}
 use Rattle.plir_names.specs.declared.names.Meaning.{Meaning}
@@ -19,7 +19,7 @@ use Rattle.plir_attr_text.specs.Terms.{TypeTerm, TypeTerms, no_types, type_befor
 use Rattle.plir_read.specs.OpTerms.{BlockHead}
 use Rattle.plir_read_own.specs.OwnTerms.{Signature, Uses}
 use Rattle.plir_read_ir.specs.IrMeaning.{argument_words}
-use Rattle.plir_read_ir.specs.IrTerms.{Front, bodied_front, constant_front, own_front, result_words, IrOp, ir_op}
+use Rattle.plir_read_ir.specs.IrTerms.{Front, bodied_front, constant_front, own_front, IrOp, ir_op}
 use Rattle.plir_read_ir.specs.IrTerms.{IrRegions, no_regions, region_before, IrBlocks, no_blocks, block_before, IrOps}
 use Rattle.plir_read_ir.specs.IrTerms.{no_ops, op_before}
 

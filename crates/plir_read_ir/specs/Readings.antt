@@ -28,17 +28,16 @@ use Rattle.plir_read.specs.OpsStanding.{HoldsOp, IsBlockHeadAt, IsConstantAt, Is
 use Rattle.plir_read.specs.declared.heads.HeadKind.TheVariants.{Bodied, Constant, ForwardRef}
 use Rattle.plir_read_own.specs.OwnTerms.{Header, Signature, Uses}
 use Rattle.plir_read_ir.specs.IrGrammar.{HasRegions, IrWithin, SpellsBlocks, SpellsOp, SpellsOps, SpellsRegions}
-use Rattle.plir_read_ir.specs.IrMeaning.{argument_words}
-use Rattle.plir_read_ir.specs.IrReading.{parts_at}
+use Rattle.plir_read_ir.specs.IrReading.{header_with, parts_at}
 use Rattle.plir_read_ir.specs.IrStanding.{AreBlocksAt, AreOpsAt, AreRegionsAt, IsIrAt}
 use Rattle.plir_read_ir.specs.IrTerms.{Front, bodied_front, constant_front, own_front, IrOp, ir_op, IrRegions, IrBlocks}
 use Rattle.plir_read_ir.specs.IrTerms.{IrOps, op_levels, regions_levels, blocks_levels, ops_levels}
-use Rattle.plir_read_ir.specs.Mentions.{Mention, value_bears, block_bears, operand_named, successor_named, Scope, WordIn}
+use Rattle.plir_read_ir.specs.Mentions.{Mention, value_bears, block_bears, operand_named, successor_named, Scope}
+use Rattle.plir_read_ir.specs.Mentions.{WordIn}
 use Rattle.plir_read_ir.specs.Mentions.{blocks_mentions, front_mentions, head_mentions, labels_in, nowhere, op_mentions}
 use Rattle.plir_read_ir.specs.Mentions.{ops_mentions, regions_mentions, same_word, uses_in, values_in}
 use Rattle.plir_read_ir.specs.Noting.{Bears, LabelInRegion, NameInBody, same_label, same_name}
 use Rattle.plir_read_ir.specs.OwnOps.{own_op}
-use Rattle.plir_read_ir.specs.Spelling.{words}
 use Rattle.plir_read_ir.specs.declared.notes.Notes.{Notes}
 use Rattle.plir_read_ir.specs.declared.notes.PendingUse.{PendingUse}
 use Rattle.plir_read_ir.specs.declared.notes.Place.{Place}
@@ -103,7 +102,8 @@ place_in (Some r) i = i
 
 abbrev pub noted_successors : Option (Ptr RegionKind) → (i : ℕ) → List (List ℕ) → List NotedUse
 noted_successors region i [] = []
-noted_successors region i (w ∷ ws) = noted_successor (region, w) (place_in region i) ∷ noted_successors region (i + 1) ws
+noted_successors region i (w ∷ ws) =
+    noted_successor (region, w) (place_in region i) ∷ noted_successors region (i + 1) ws
 
 -- where an operation is read, as a scope
 abbrev pub scope_of : Place → Scope
@@ -123,13 +123,16 @@ abbrev pub SaysValues : NameTable NameInBody Value → List (WordIn OperationKin
 SaysValues table listed = (n : NameInBody) → meanings same_name table n ≡ meaning same_word listed (n.0, n.1.now)
 
 abbrev pub SaysLabels : NameTable LabelInRegion (Ptr BlockKind) → List (WordIn RegionKind × Ptr BlockKind) → Type 0
-SaysLabels table listed = (l : LabelInRegion) → meanings same_label table l ≡ meaning same_word listed (Some l.0, l.1.now)
+SaysLabels table listed = (l : LabelInRegion) →
+    meanings same_label table l ≡ meaning same_word listed (Some l.0, l.1.now)
 
 -- these values, and these blocks, bear names besides those that bore some before
 abbrev pub AddsValues : (old new : NameTable NameInBody Value) → List (WordIn OperationKind × Value) → Type 0
-AddsValues old new more = (added : List (NameInBody × Value)) × (map plain_name added ≡ more) × Bears same_name old new added
+AddsValues old new more = (added : List (NameInBody × Value)) × (map plain_name added ≡ more) ×
+    Bears same_name old new added
 
-abbrev pub AddsLabels : (old new : NameTable LabelInRegion (Ptr BlockKind)) → List (WordIn RegionKind × Ptr BlockKind) → Type 0
+abbrev pub AddsLabels : (old new : NameTable LabelInRegion (Ptr BlockKind)) →
+    List (WordIn RegionKind × Ptr BlockKind) → Type 0
 AddsLabels old new more = (added : List (LabelInRegion × Ptr BlockKind)) × (map plain_label added ≡ more) ×
     Bears same_label old new added
 
@@ -176,7 +179,8 @@ module _ {K A T : Type 0} where
 -- ---- what is read
 
 -- a block as it stands among others
-pub record SpellsBlock {K : Type 0} (find : List ℕ → Option K) (b : BlockHead × IrOps K) (ts : List Token) : Type 0 where
+pub record SpellsBlock {K : Type 0} (find : List ℕ → Option K) (b : BlockHead × IrOps K) (ts : List Token) :
+    Type 0 where
   pub head : List Token
   pub inside : List Token
   pub head_spelled : SpellsBlockHead b.0 head
@@ -190,7 +194,8 @@ SpellsBody find bs ts = (body : List Token) × SpellsBlocks find bs body × (ts 
 -- The part x was read, which stands first in the text, with at most n levels in it; the nodes that are made stand for
 -- it, and what it says of names was noted.
 pub record Reads {K A T X : Type 0} (Spelled : X → List Token → Type 0) (levels : X → ℕ) (Stands : X → Type 0)
-    (mentions : X → List Mention) (n : ℕ) (bytes rest : List ℕ) (s t : ContextView K A T) (old new : Notes) : Type 0 where
+    (mentions : X → List Mention) (n : ℕ) (bytes rest : List ℕ) (s t : ContextView K A T) (old new : Notes) :
+    Type 0 where
   pub part : X
   pub tokens : List Token
   pub begins : Begins bytes tokens rest
@@ -237,10 +242,6 @@ module _ {K A T : Type 0} (find : List ℕ → Option K) (isolated : K → Bool)
     pub read : block_head_at n bytes ≡ Ok (head, rest)
     pub stands : IsBlockHeadAt t m head
     pub noted : IsNoted s t old new (head_mentions isolated at m head)
-
--- a header by its names, its kind and what stands behind its id
-abbrev pub header_with : {K : Type 0} → List (List ℕ) → K → Uses × (EntryTerms × Signature) → Header K
-header_with ws k p = record { names = ws; kind = k; uses = p.0; entries = p.1.0; signature = p.1.1 }
 
 -- what stands behind an id up to the regions is a part of this front, where these names stand before the id
 abbrev pub IsFrontRead : {K : Type 0} → (n : ℕ) → List (List ℕ) → IrKind K → (bytes rest : List ℕ) → Front K → Type 0

@@ -5,6 +5,7 @@
 
 mod fault;
 mod heads;
+pub mod laws;
 mod linking;
 mod making;
 mod notes;

@@ -1,10 +1,11 @@
 //! How uses get what their names mean, once all is read.
 ghost use Rattle.std.specs.Prelude.{◌≡◌, ◌<◌, IfErr, IfOk, OnErr, OnOk, Some, insert, length};
 ghost use Rattle.plir_core.specs.Changes.{with_op_edit};
-ghost use Rattle.plir_core.specs.ContextView.{ContextView, IsLive, IsValueLive, operands_of, successors_of, type_of_value};
+ghost use Rattle.plir_core.specs.ContextView.{ContextView, IsLive, IsValueLive, operands_of, successors_of};
+ghost use Rattle.plir_core.specs.ContextView.{type_of_value};
 ghost use Rattle.plir_core.specs.WellFormed.{IsWellFormed};
 ghost use Rattle.plir_core.specs.declared.ptr.IRNode.{IRNode};
-ghost use Rattle.plir_read_ir.specs.IrFaults.{IsTold};
+ghost use Rattle.plir_read_ir.specs.IrFaults.{IsToldByUse};
 ghost use Rattle.plir_read_ir.specs.Linking.{FailsUse, FailsUses, IsLinked, IsLinkedAt, LinksUse, LinksUses};
 ghost use Rattle.plir_read_ir.specs.Linking.{TellsMeaning, TellsNoUse, TellsType};
 ghost use Rattle.plir_read_ir.specs.Noting.{AreNew, AreReady, BearAll, IsPending, same_label, same_name};
@@ -23,7 +24,7 @@ use plir_names::Meaning;
 fn expect_one<V>(meaning: Meaning<V>, left: usize) -> Result<V, IrStop>
     ensures found { IfOk result (λ v. meaning ≡ Meaning.Only v) }
     ensures none { IfErr result (TellsMeaning meaning) }
-    ensures told { IfErr result IsTold }
+    ensures told { IfErr result IsToldByUse }
 {
     match meaning {
         Meaning::Only(found) => Ok(found),
@@ -42,7 +43,7 @@ fn expect_type<D: OpSet>(
     requires { IsValueLive ctx.now value }
     ensures same { OnOk result (type_of_value ctx.now value ≡ Some ty) }
     ensures other { IfErr result (λ stop. TellsType stop × (type_of_value ctx.now value ≡ Some ty → ⊥)) }
-    ensures told { IfErr result IsTold }
+    ensures told { IfErr result IsToldByUse }
 {
     if value.get_type(ctx).index() == ty {
         Ok(())
@@ -63,7 +64,7 @@ fn push_operand<D: OpSet>(
         (λ o. record o { operands = insert o.operands (length (operands_of ctx.old op)) value })) }
     ensures same { OnErr result (ctx.new ≡ ctx.old) }
     ensures memory { IfErr result TellsNoUse }
-    ensures told { IfErr result IsTold }
+    ensures told { IfErr result IsToldByUse }
     ensures whole { IsWellFormed D.attr_handles ctx.new }
 {
     let place = op.get_num_operands(ctx);
@@ -90,7 +91,7 @@ fn link_operand<'a, D: OpSet>(
     ensures same { OnErr result (ctx.new ≡ ctx.old) }
     ensures unmeant { IfErr result (FailsUse notes.now ctx.old
         (noted_operand (name.entry.0, name.entry.1.word.now) ty.0)) }
-    ensures told { IfErr result IsTold }
+    ensures told { IfErr result IsToldByUse }
     ensures whole { IsWellFormed D.attr_handles ctx.new }
 {
     nodes_are_told_apart();
@@ -122,7 +123,7 @@ fn link_successor<'a, D: OpSet>(
     ensures same { OnErr result (ctx.new ≡ ctx.old) }
     ensures unmeant { IfErr result (FailsUse notes.now ctx.old
         (noted_successor (Some region, label.entry.word.now) place)) }
-    ensures told { IfErr result IsTold }
+    ensures told { IfErr result IsToldByUse }
     ensures whole { IsWellFormed D.attr_handles ctx.new }
 {
     nodes_are_told_apart();
@@ -146,7 +147,7 @@ fn link_use<'a, D: OpSet>(
     ensures meant { OnOk result (LinksUse notes.now ctx.old ctx.new pending.now.op (noted_use pending.now)) }
     ensures same { OnErr result (ctx.new ≡ ctx.old) }
     ensures unmeant { IfErr result (FailsUse notes.now ctx.old (noted_use pending.now)) }
-    ensures told { IfErr result IsTold }
+    ensures told { IfErr result IsToldByUse }
     ensures whole { IsWellFormed D.attr_handles ctx.new }
 {
     ctx.stands();
@@ -166,7 +167,7 @@ pub fn link_uses<'a, D: OpSet>(ctx: &mut Context<D>, notes: &Notes<'a>) -> Resul
         IsLinked first ctx.old ctx.new }
     ensures meant { OnOk result (LinksUses notes.now ctx.old ctx.new notes.now.uses.items) }
     ensures unmeant { IfErr result (FailsUses notes.now ctx.old ctx.new notes.now.uses.items) }
-    ensures told { IfErr result IsTold }
+    ensures told { IfErr result IsToldByUse }
     ensures whole { IsWellFormed D.attr_handles ctx.new }
 {
     ctx.stands();

@@ -1,15 +1,19 @@
 //! From a text to operations in a context, whose uses are noted.
-ghost use Rattle.std.specs.Prelude.{◌≡◌, ◌<◌, [], ℕ, List, IfErr, IfOk, None, Some, length, if◌then◌else◌};
+ghost use Rattle.std.specs.Prelude.{◌≡◌, ◌<◌, [], ℕ, List, IfOk, None, Some, length, if◌then◌else◌};
 ghost use Rattle.plir_core.specs.ContextView.{IsLive, children};
 ghost use Rattle.plir_core.specs.WellFormed.{IsWellFormed};
 ghost use Rattle.plir_core.specs.declared.ptr.IRNode.{IRNode};
-ghost use Rattle.plir_read_ir.specs.IrFaults.{IsToldByText};
+ghost use Rattle.plir_read.specs.OpReading.{block_head_at, named_constant_at};
 ghost use Rattle.plir_read_ir.specs.IrMeaning.{AreResultNames};
+ghost use Rattle.plir_read_ir.specs.IrOpReading.{ReadsUpTo, block_at, bodied_at, ir_op_at, ops_at, own_at, region_at};
+ghost use Rattle.plir_read_ir.specs.IrOpReading.{regions_at};
+ghost use Rattle.plir_read_ir.specs.IrReading.{parts_at};
 ghost use Rattle.plir_read_ir.specs.Mentions.{Scope};
 ghost use Rattle.plir_read_ir.specs.Noting.{AreReady, IsPlaceLive, NotesOn};
 ghost use Rattle.plir_read_ir.specs.Progress.{HasFront, HasGrown, HasRead, IsReading};
 ghost use Rattle.plir_read_ir.specs.Readings.{ReadsBehind, ReadsBlock, ReadsBody, ReadsHead, ReadsIr, ReadsOps};
 ghost use Rattle.plir_read_ir.specs.Readings.{ReadsOwnFront, ReadsRegions, scope_of};
+ghost use Rattle.plir_read_ir.specs.Spelling.{words};
 
 use crate::heads::{SpelledHead, read_spelled_head};
 use crate::making::{make_own, stand_ins};
@@ -48,7 +52,7 @@ fn read_ops<'a, D: ReadSet>(
     ensures noted { IfOk result (λ x. NotesOn ctx.old notes.old ctx.new notes.new) }
     ensures stands { IfOk result (λ x. AreReady ctx.old notes.old → ReadsOps D.find_kind D.is_isolated levels
         bytes.now x.now ctx.old ctx.new notes.old notes.new (scope_of at) (IRNode.BasicBlock block)) }
-    ensures told { IfErr result IsToldByText }
+    ensures met { ReadsUpTo (λ x. x.now) result (ops_at (ir_op_at D.find_kind levels) bytes.now) }
     ensures whole { IsWellFormed D.attr_handles ctx.new }
 {
     contexts_stand::<D>();
@@ -90,7 +94,7 @@ fn read_block_front<'a, D: ReadSet>(
     ensures noted { IfOk result (λ x. NotesOn ctx.old notes.old ctx.new notes.new) }
     ensures stands { IfOk result (λ x. ReadsHead D.find_kind D.is_isolated levels bytes.now x.1.now ctx.old ctx.new
         notes.old notes.new (record { body = body; region = Some region }) (IRNode.BasicBlock x.0)) }
-    ensures told { IfErr result IsToldByText }
+    ensures met { ReadsUpTo (λ x. x.1.now) result (block_head_at levels bytes.now) }
     ensures whole { IsWellFormed D.attr_handles ctx.new }
 {
     ctx.stands();
@@ -122,7 +126,7 @@ fn read_block<'a, D: ReadSet>(
     ensures stands { IfOk result (λ x. AreReady ctx.old notes.old → ReadsBlock D.find_kind D.is_isolated levels
         bytes.now x.1.now ctx.old ctx.new notes.old notes.new (record { body = body; region = Some region })
         (IRNode.BasicBlock x.0)) }
-    ensures told { IfErr result IsToldByText }
+    ensures met { ReadsUpTo (λ x. x.1.now) result (block_at (ir_op_at D.find_kind levels) levels bytes.now) }
     ensures whole { IsWellFormed D.attr_handles ctx.new }
 {
     contexts_stand::<D>();
@@ -162,7 +166,7 @@ fn read_body<'a, D: ReadSet>(
     ensures stands { IfOk result (λ x. AreReady ctx.old notes.old → ReadsBody D.find_kind D.is_isolated levels
         bytes.now x.now ctx.old ctx.new notes.old notes.new (record { body = body; region = Some region })
         (IRNode.Region region)) }
-    ensures told { IfErr result IsToldByText }
+    ensures met { ReadsUpTo (λ x. x.now) result (region_at (ir_op_at D.find_kind levels) levels bytes.now) }
     ensures whole { IsWellFormed D.attr_handles ctx.new }
 {
     contexts_stand::<D>();
@@ -207,7 +211,7 @@ fn read_regions<'a, D: ReadSet>(
     ensures noted { IfOk result (λ x. NotesOn ctx.old notes.old ctx.new notes.new) }
     ensures stands { IfOk result (λ x. AreReady ctx.old notes.old → ReadsRegions D.find_kind D.is_isolated levels
         bytes.now x.now ctx.old ctx.new notes.old notes.new body (IRNode.Operation op)) }
-    ensures told { IfErr result IsToldByText }
+    ensures met { ReadsUpTo (λ x. x.now) result (regions_at (ir_op_at D.find_kind levels) levels bytes.now) }
     ensures whole { IsWellFormed D.attr_handles ctx.new }
 {
     contexts_stand::<D>();
@@ -246,7 +250,8 @@ fn read_bodied<'a, D: ReadSet>(
     ensures stands { IfOk result (λ x. AreReady ctx.old notes.old → (ws : List (List ℕ)) → length ws ≡ names →
         (at : Scope) → ReadsBehind D.find_kind D.is_isolated levels ws bytes.now x.1.now ctx.old ctx.new notes.old
         notes.new (IrKind.Builtin (HeadKind.Bodied kind)) at (IRNode.Operation x.0)) }
-    ensures told { IfErr result IsToldByText }
+    ensures met { ReadsUpTo (λ x. x.1.now) result (bodied_at (ir_op_at D.find_kind levels) levels kind names
+        bytes.now) }
     ensures whole { IsWellFormed D.attr_handles ctx.new }
 {
     contexts_stand::<D>();
@@ -281,7 +286,8 @@ fn read_named_constant<'a, D: ReadSet>(
     ensures stands { IfOk result (λ x. AreReady ctx.old notes.old → (ws : List (List ℕ)) →
         AreResultNames names.entry ws → ReadsBehind D.find_kind D.is_isolated levels ws bytes.now x.1.now ctx.old
         ctx.new notes.old notes.new (IrKind.Builtin HeadKind.Constant) (scope_of at) (IRNode.Operation x.0)) }
-    ensures told { IfErr result IsToldByText }
+    ensures met { ReadsUpTo (λ x. x.1.now) result (named_constant_at levels (length names.entry.given.items)
+        bytes.now) }
     ensures whole { IsWellFormed D.attr_handles ctx.new }
 {
     contexts_stand::<D>();
@@ -314,7 +320,7 @@ fn read_own_front<'a, D: ReadSet>(
     ensures stands { IfOk result (λ x. AreReady ctx.old notes.old → (ws : List (List ℕ)) →
         AreResultNames names.entry ws → ReadsOwnFront D.find_kind D.is_isolated levels ws bytes.now x.1.now ctx.old
         ctx.new notes.old notes.new kind (scope_of at) (IRNode.Operation x.0)) }
-    ensures told { IfErr result IsToldByText }
+    ensures met { ReadsUpTo (λ x. x.1.now) result (parts_at levels (length names.entry.spelled.items) bytes.now) }
     ensures whole { IsWellFormed D.attr_handles ctx.new }
 {
     contexts_stand::<D>();
@@ -375,7 +381,8 @@ fn read_own<'a, D: ReadSet>(
     ensures stands { IfOk result (λ x. AreReady ctx.old notes.old → (ws : List (List ℕ)) →
         AreResultNames names.entry ws → ReadsBehind D.find_kind D.is_isolated levels ws bytes.now x.1.now ctx.old
         ctx.new notes.old notes.new (IrKind.Own kind) (scope_of at) (IRNode.Operation x.0)) }
-    ensures told { IfErr result IsToldByText }
+    ensures met { ReadsUpTo (λ x. x.1.now) result (own_at (ir_op_at D.find_kind levels) levels
+        (words names.entry.spelled.items) kind bytes.now) }
     ensures whole { IsWellFormed D.attr_handles ctx.new }
 {
     contexts_stand::<D>();
@@ -411,7 +418,7 @@ pub fn read_ir_op<'a, D: ReadSet>(
     ensures noted { IfOk result (λ x. NotesOn ctx.old notes.old ctx.new notes.new) }
     ensures stands { IfOk result (λ x. AreReady ctx.old notes.old → ReadsIr D.find_kind D.is_isolated levels
         bytes.now x.1.now ctx.old ctx.new notes.old notes.new (scope_of at) (IRNode.Operation x.0)) }
-    ensures told { IfErr result IsToldByText }
+    ensures met { ReadsUpTo (λ x. x.1.now) result (ir_op_at D.find_kind levels bytes.now) }
     ensures whole { IsWellFormed D.attr_handles ctx.new }
 {
     contexts_stand::<D>();

@@ -1,23 +1,31 @@
 //! The reader of texts of operations.
 ghost use Rattle.std.specs.Prelude.{◌≡◌, [], IfErr, IfOk, None};
+ghost use Rattle.plir_attr_text.specs.Faults.{IsOfText};
 ghost use Rattle.plir_attr_text.specs.Names.{AreNamed};
+ghost use Rattle.plir_attr_text.specs.Reading.{Ends};
+ghost use Rattle.plir_attr_text.specs.TypeGrammar.{IsText};
 ghost use Rattle.plir_attr_text.specs.TypesWritten.{IsWrittenIn};
+ghost use Rattle.plir_attr_text.specs.Wholes.{whole};
 ghost use Rattle.plir_core.specs.Made.{IsMade};
 ghost use Rattle.plir_core.specs.WellFormed.{IsWellFormed};
 ghost use Rattle.plir_core.specs.declared.ptr.IRNode.{IRNode};
 ghost use Rattle.plir_read.specs.Keeping.{KeepsOlder};
 ghost use Rattle.plir_read.specs.Slots.{IsMadeInOrder};
-ghost use Rattle.plir_read_ir.specs.IrFaults.{HasNoPlace, IsTold, IsToldByText, fault_of};
+ghost use Rattle.plir_read_ir.specs.IrFaults.{HasNoPlace, IsMet, fault_of};
+ghost use Rattle.plir_read_ir.specs.IrGrammar.{IrWithin};
+ghost use Rattle.plir_read_ir.specs.IrOpReading.{MeetsIr, ir_op_at};
 ghost use Rattle.plir_read_ir.specs.IrStanding.{StandsForIr};
+ghost use Rattle.plir_read_ir.specs.IrTerms.{IrOp};
 ghost use Rattle.plir_read_ir.specs.Noting.{AreReady, NotesOn};
 ghost use Rattle.plir_read_ir.specs.Progress.{IsReading};
 ghost use Rattle.plir_read_ir.specs.Readings.{ReadsText, SaysLabels, SaysValues};
 ghost use Rattle.plir_read_ir.specs.UseFaults.{IsAtUse};
 
-use crate::fault::{IrErr, IrStop, placed};
+use crate::fault::{IrErr, IrFault, IrStop, placed};
 use crate::linking::link_uses;
 use crate::notes::{Notes, OUTSIDE};
 use crate::ops::read_ir_op;
+use plir_attr_text::Fault;
 use plir_attr_text::fault::Stop;
 use plir_attr_text::place::read_end;
 use plir_attr_text::read_types::MAX_LEVELS;
@@ -39,7 +47,7 @@ fn read_noted<'a, D: ReadSet>(
     ensures noted { IfOk result (λ x. NotesOn ctx.old notes.old ctx.new notes.new) }
     ensures stands { IfOk result (λ p. AreReady ctx.old notes.old → ReadsText D.find_kind D.is_isolated 200 bytes.now
         ctx.old ctx.new notes.old notes.new (IRNode.Operation p)) }
-    ensures told { IfErr result IsToldByText }
+    ensures met { IfErr result (λ stop. Ends (Unit {0}) stop (whole (ir_op_at D.find_kind 200) bytes.now)) }
     ensures whole { IsWellFormed D.attr_handles ctx.new }
 {
     let (op, rest) = match read_ir_op(alloc, ctx, notes, MAX_LEVELS, OUTSIDE, bytes) {
@@ -67,7 +75,7 @@ fn read_and_link<'a, D: ReadSet>(
     ensures made { IfOk result (λ p. IsMade ctx.old.nodes ctx.new.nodes (IRNode.Operation p)) }
     ensures slots { IfOk result (λ p. IsMadeInOrder ctx.old.nodes ctx.new.nodes (IRNode.Operation p)) }
     ensures kept { IsReading bytes.now None ctx.old ctx.new }
-    ensures told { IfErr result IsTold }
+    ensures met { IfErr result (IsMet D.find_kind 200 bytes.now) }
     ensures whole { IsWellFormed D.attr_handles ctx.new }
 {
     contexts_stand::<D>();
@@ -92,7 +100,7 @@ fn read_linked<D: ReadSet>(
     ensures made { IfOk result (λ p. IsMade ctx.old.nodes ctx.new.nodes (IRNode.Operation p)) }
     ensures slots { IfOk result (λ p. IsMadeInOrder ctx.old.nodes ctx.new.nodes (IRNode.Operation p)) }
     ensures kept { IsReading bytes.now None ctx.old ctx.new }
-    ensures told { IfErr result IsTold }
+    ensures met { IfErr result (IsMet D.find_kind 200 bytes.now) }
     ensures whole { IsWellFormed D.attr_handles ctx.new }
 {
     let mut notes = Notes::new(alloc);
@@ -113,6 +121,10 @@ fn read_linked<D: ReadSet>(
 /// may leave new nodes that stand nowhere, and types; what was there before is as it was.
 ///
 /// A fault is the first that the text meets from left to right; where all is read, the first of a use in their order.
+/// It stands at the text's end where the text ends within a token or before one, and at the first character of a token
+/// that can't stand there; the first character of a level that is one too many comes before any fault inside it. A
+/// forward reference is refused at its id, and so is an operation before which another number of names stands than it
+/// has results; where an own operation has more or fewer types than operands, the fault is where its types begin.
 pub fn read_ir<D: ReadSet>(
     alloc: Global,
     ctx: &mut Context<D>,
@@ -120,6 +132,10 @@ pub fn read_ir<D: ReadSet>(
 ) -> Result<Ptr<Operation>, IrErr>
     ensures found { IfOk result (λ p. StandsForIr D.find_kind D.is_isolated 200 ctx.new text.now
         (IRNode.Operation p)) }
+    ensures refused { IfErr result (λ e. (f : Fault) → e.fault ≡ IrFault.Text f → IsOfText f → (o : IrOp D.Kind) →
+        IsText (IrWithin D.find_kind 200) text.now o → ⊥) }
+    ensures met { IfErr result (λ e. (f : Fault) → e.fault ≡ IrFault.Text f → IsOfText f →
+        MeetsIr D.find_kind 200 text.now f) }
     ensures unmeant { IfErr result (λ e. IsAtUse D.find_kind D.is_isolated 200 ctx.new text.now e.fault) }
     ensures made { IfOk result (λ p. IsMade ctx.old.nodes ctx.new.nodes (IRNode.Operation p)) }
     ensures slots { IfOk result (λ p. IsMadeInOrder ctx.old.nodes ctx.new.nodes (IRNode.Operation p)) }

@@ -1,4 +1,5 @@
-use Rattle.std.proofs.Common.{None, Some, refl, sym, ap, subst, ◌∙◌, length, arith}
+use Rattle.std.proofs.Common.{[], None, Ok, Some, refl, sym, ap, subst, ◌∙◌, length, arith}
+use Rattle.std.proofs.lemmas.Result.{err_from_is_err_and}
 use Rattle.std.proofs.lemmas.List.{length-map}
 use Rattle.plir_core.specs.declared.ptr.IRNode.TheVariants.{Operation, Region, BasicBlock}
 use Rattle.plir_attr_text.specs.laws.Ends.{end_itself, sign_end}
@@ -12,19 +13,31 @@ use Rattle.plir_read.specs.laws.StartFound.{named_is}
 use Rattle.plir_attr_text.specs.laws.Meanings.{IsDictMeant-live}
 use Rattle.plir_read_ir.proofs.Children.{child_comes, gathers_none, live_still, reads_on, stands_apart}
 use Rattle.plir_read_ir.specs.Noting.{AreReady}
+use Rattle.plir_read.specs.OpReading.{brace_at, semicolon_at}
+use Rattle.plir_read.specs.Suffixes.{given_name}
+use Rattle.plir_read.specs.declared.names.Suffix.TheVariants as Suffix
+use Rattle.plir_read_ir.specs.IrOpReading.{another_at}
 use Rattle.plir_read_ir.specs.Readings.{scope_of}
 use Rattle.plir_read_ir.specs.Spelling.{word_of}
-use Rattle.plir_read_ir.proofs.Comes.{blocks_end, blocks_go_on, no_blocks_read, no_blocks_yet, no_ops_read, no_ops_yet}
-use Rattle.plir_read_ir.proofs.Comes.{no_regions_yet, ops_end, ops_go_on, placed_but, regions_go_on}
-use Rattle.plir_read_ir.proofs.Fronts.{block_reads, bodied_opened, bodied_reads, constant_opened, named_opened, one_past, one_sign}
-use Rattle.plir_read_ir.proofs.Fronts.{own_reads}
+use Rattle.plir_read_ir.proofs.IrSteps.{block_is, blocks_inside, bodied_met, bodied_read, constant_met, first_region}
+use Rattle.plir_read_ir.proofs.IrSteps.{first_turn, forward_met, last_turn, made_of, next_region, next_turn}
+use Rattle.plir_read_ir.proofs.IrSteps.{no_block_head, no_blocks_inside, no_brace, no_header, no_level, no_opening}
+use Rattle.plir_read_ir.proofs.IrSteps.{no_operations, no_parts, no_region, no_regions_read, opens_as, operations}
+use Rattle.plir_read_ir.proofs.IrSteps.{own_met, own_read, stops_of_it, stops_refused, turn_stops, wrong_names}
+use Rattle.plir_read_ir.proofs.Comes.{no_ops_read, no_ops_yet}
+use Rattle.plir_read_ir.proofs.ComesBlocks.{blocks_end, blocks_go_on, no_blocks_read, no_blocks_yet}
+use Rattle.plir_read_ir.proofs.Comes.{ops_end, ops_go_on, placed_but}
+use Rattle.plir_read_ir.proofs.ComesBlocks.{no_regions_yet, regions_go_on}
+use Rattle.plir_read_ir.proofs.Fronts.{block_reads, bodied_opened, bodied_reads, constant_opened, named_opened}
+use Rattle.plir_read_ir.proofs.Fronts.{one_past, one_sign, own_reads}
 use Rattle.plir_read_ir.proofs.Lefts.{opening_left}
 use Rattle.plir_read_ir.proofs.Noted.{block_still, holds_itself, holds_kept, holds_placed, notes_grown}
 use Rattle.plir_read_ir.proofs.Noted.{notes_itself, notes_next, ready_still}
 use Rattle.plir_read_ir.proofs.RegionSteps.{region_comes, region_reading}
 use Rattle.plir_read_ir.specs.Progress.{IsReading}
 use Rattle.plir_read_ir.proofs.Regions.{region_given, region_kept}
-use Rattle.plir_read_ir.proofs.Steps.{behind_length, braces_end, braces_shorter, left_behind, op_read, op_reading, read_behind}
+use Rattle.plir_read_ir.proofs.Steps.{behind_length, braces_end, braces_shorter, left_behind, op_read, op_reading}
+use Rattle.plir_read_ir.proofs.Steps.{read_behind}
 use Rattle.plir_read_ir.proofs.Steps.{reading_behind, reading_inside, reading_itself, reading_kept, reading_made}
 use Rattle.plir_read_ir.proofs.Steps.{reading_typed, root_read, sign_shorter}
 use Rattle.plir_read_ir.proofs.ops.+ops.Goals as goal
@@ -73,6 +86,25 @@ read_block-returns-in-Ok-read_ops-clause-stands g t c =
     c.in-Ok.read.0 f.stands f.read.made.keeps f.read.made.root c.in-Ok-read_ops.ensures.kept.kept
     (c.in-Ok-read_ops.ensures.stands (f.noted.ready ready))
 
+pub read_block-returns-in-Err-clause-met : goal.read_block-returns-in-Err-clause-met
+read_block-returns-in-Err-clause-met g t c =
+    no_block_head _ c.args.levels c.in-Err.stop c.args.bytes.now c.in-Err.ensures.met
+
+pub read_block-returns-in-Ok-read_ops-clause-met : goal.read_block-returns-in-Ok-read_ops-clause-met
+read_block-returns-in-Ok-read_ops-clause-met g t c =
+    let h = c.in-Ok.ensures.met in
+    let y = c.in-Ok-read_ops.ensures.met in (
+      (h.0, y.0),
+      made_of (λ os. (h.0, os)) _ _ y.0 c.in-Ok-read_ops.end.now
+          (block_is _ c.args.levels c.args.bytes.now c.in-Ok.read.1.now h.0 h.1) y.1,
+    )
+
+pub read_block-returns-in-Err-read_ops-clause-met : goal.read_block-returns-in-Err-read_ops-clause-met
+read_block-returns-in-Err-read_ops-clause-met g t c =
+    let h = c.in-Ok.ensures.met in
+    stops_of_it (λ os. (h.0, os)) _ _ c.in-Err-read_ops.stop
+    (block_is _ c.args.levels c.args.bytes.now c.in-Ok.read.1.now h.0 h.1) c.in-Err-read_ops.ensures.met
+
 -- ---- the blocks of a region
 
 pub read_body-returns-in_err-start-clause-kept : goal.read_body-returns-in_err-start-clause-kept
@@ -102,6 +134,19 @@ read_body-returns-in-Some-clause-stands g t c =
     (one_sign 123 c.args.bytes.now c.in_ok-start.start.now c.in_ok-start.ensures)
     (one_past 125 c.in_ok-start.start.now c.in-Some.rest.now (sym c.in-Some.ensures))
 
+pub read_body-returns-in_err-start-clause-met : goal.read_body-returns-in_err-start-clause-met
+read_body-returns-in_err-start-clause-met g t c =
+    let p = err_from_is_err_and c.from_residual.result c.from_residual.ensures.1 in
+    rw (p.1, p.2) (no_brace _ c.args.levels c.in_err-start.field-0.0 c.args.bytes.now c.in_err-start.ensures)
+
+pub read_body-returns-in-Some-clause-met : goal.read_body-returns-in-Some-clause-met
+read_body-returns-in-Some-clause-met g t c =
+    ([], no_blocks_inside _ c.args.levels _ _ _ c.in_ok-start.ensures (sym c.in-Some.ensures))
+
+pub read_body-returns-in-Err-clause-met : goal.read_body-returns-in-Err-clause-met
+read_body-returns-in-Err-clause-met g t c =
+    turn_stops brace_at _ c.inner.rest.now _ c.inner.invariant.turns c.in-Err.stop c.in-Err.ensures.met
+
 pub read_body-inner-init : goal.read_body-inner-init
 read_body-inner-init g t c =
     record {
@@ -113,6 +158,8 @@ read_body-inner-init g t c =
           c.requires.live c.requires.empty c.stands.ensures.whole (sign_end 123 _ _ c.in_ok-start.ensures);
       noted = notes_itself _ _;
       shorter = sign_shorter 123 c.args.bytes.now c.in_ok-start.start.now c.in_ok-start.ensures;
+      turns = first_turn brace_at _ c.in_ok-start.start.now _
+          (blocks_inside _ c.args.levels _ _ c.in_ok-start.ensures (sym c.in_default.ensures));
     }
 
 pub read_body-insert_at_back-requires-clause-target_live : goal.read_body-insert_at_back-requires-clause-target_live
@@ -162,6 +209,10 @@ read_body-inner-preserved g t c =
           (subst (λ b. Begins c.in-Ok.read.1.now (by_brace b) c.past_brace-goes_on.result.1.now) c.if-goes_on.true
           (brace_found c.in-Ok.read.1.now (c.past_brace-goes_on.result.0, c.past_brace-goes_on.result.1.now)
           c.past_brace-goes_on.ensures));
+      turns = next_turn brace_at _ c.inner.rest.now _ i.turns c.in-Ok.ensures.met.0 c.in-Ok.read.1.now
+          c.past_brace-goes_on.result.1.now c.in-Ok.ensures.met.1
+          (c.past_brace-goes_on.ensures ∙ ap (λ b. Ok (b, c.past_brace-goes_on.result.1.now)) c.if-goes_on.true)
+          (read_body-inner-smaller g t c);
     }
 
 pub read_body-returns-else-goes_on : goal.read_body-returns-else-goes_on
@@ -197,7 +248,9 @@ read_body-returns-else-goes_on g t c =
           (subst (λ b. Begins c.in-Ok.read.1.now (by_brace b) c.past_brace-goes_on.result.1.now) c.if-goes_on.false
           (brace_found c.in-Ok.read.1.now (c.past_brace-goes_on.result.0, c.past_brace-goes_on.result.1.now)
           c.past_brace-goes_on.ensures));
-      told = tt;
+      met = last_turn brace_at _ c.inner.rest.now _ i.turns c.in-Ok.ensures.met.0 c.in-Ok.read.1.now
+          c.past_brace-goes_on.result.1.now c.in-Ok.ensures.met.1
+          (c.past_brace-goes_on.ensures ∙ ap (λ b. Ok (b, c.past_brace-goes_on.result.1.now)) c.if-goes_on.false);
       whole = p.whole;
     }
 
@@ -219,6 +272,14 @@ read_ops-returns-then-ends_block-clause-stands g t c =
     λ ready. no_ops_read g.D.ReadSet.find_kind g.D.ReadSet.is_isolated c.args.levels c.args.bytes.now c.args.ctx.now
     c.args.notes.now (scope_of c.args.at) (BasicBlock c.args.block) c.requires.empty
 
+pub read_ops-returns-then-ends_block-clause-met : goal.read_ops-returns-then-ends_block-clause-met
+read_ops-returns-then-ends_block-clause-met g t c =
+    ([], no_operations _ c.args.bytes.now (sym c.ends_block.ensures ∙ c.if-ends_block.true))
+
+pub read_ops-returns-in-Err-clause-met : goal.read_ops-returns-in-Err-clause-met
+read_ops-returns-in-Err-clause-met g t c =
+    turn_stops semicolon_at _ c.ops.rest.now _ c.ops.invariant.turns c.in-Err.stop c.in-Err.ensures.met
+
 pub read_ops-ops-init : goal.read_ops-ops-init
 read_ops-ops-init g t c =
     record {
@@ -228,6 +289,8 @@ read_ops-ops-init g t c =
           c.requires.live c.requires.empty c.stands.ensures.whole (end_itself _);
       noted = notes_itself _ _;
       at_live = c.requires.at_live;
+      turns = first_turn semicolon_at _ c.args.bytes.now _
+          (operations _ c.args.bytes.now (sym c.ends_block.ensures ∙ c.if-ends_block.false));
     }
 
 pub read_ops-insert_at_back-requires-clause-target_live : goal.read_ops-insert_at_back-requires-clause-target_live
@@ -281,6 +344,10 @@ read_ops-ops-preserved g t c =
           c.past_semicolon-goes_on.ensures));
       at_live = block_still c.args.ctx.now c.insert_at_back.new.ctx
           (holds_kept c.args.ctx.now c.insert_at_back.new.ctx all.has.grown.keeps) c.args.at.block c.requires.at_live;
+      turns = next_turn semicolon_at _ c.ops.rest.now _ i.turns c.in-Ok.ensures.met.0 c.in-Ok.read.1.now
+          c.past_semicolon-goes_on.result.1.now c.in-Ok.ensures.met.1
+          (c.past_semicolon-goes_on.ensures ∙
+          ap (λ b. Ok (b, c.past_semicolon-goes_on.result.1.now)) c.if-goes_on.true) (read_ops-ops-smaller g t c);
     }
 
 pub read_ops-returns-else-goes_on : goal.read_ops-returns-else-goes_on
@@ -312,7 +379,10 @@ read_ops-returns-else-goes_on g t c =
           (semicolon_found c.in-Ok.read.1.now
           (c.past_semicolon-goes_on.result.0, c.past_semicolon-goes_on.result.1.now)
           c.past_semicolon-goes_on.ensures));
-      told = tt;
+      met = last_turn semicolon_at _ c.ops.rest.now _ i.turns c.in-Ok.ensures.met.0 c.in-Ok.read.1.now
+          c.past_semicolon-goes_on.result.1.now c.in-Ok.ensures.met.1
+          (c.past_semicolon-goes_on.ensures ∙
+          ap (λ b. Ok (b, c.past_semicolon-goes_on.result.1.now)) c.if-goes_on.false);
       whole = p.whole;
     }
 
@@ -326,6 +396,7 @@ read_regions-regions-init g t c =
       gathers = gathers_none _ c.args.bytes.now c.args.bytes.now c.args.ctx.now (Operation c.args.op) c.requires.live
           c.requires.empty c.stands.ensures.whole (end_itself _);
       noted = notes_itself _ _;
+      turns = first_region _ c.args.levels c.args.bytes.now;
     }
 
 pub read_regions-add_region-requires : goal.read_regions-add_region-requires
@@ -342,9 +413,24 @@ read_regions-returns-in-Err-read_body-clause-kept g t c =
     (Region c.in-Ok.region) c.regions.invariant.gathers c.in-Ok.ensures.added (ap (λ z. z.types) c.in-Ok.ensures.ok)
     c.in-Err-read_body.ensures.kept
 
+pub read_regions-returns-in-Err-clause-met : goal.read_regions-returns-in-Err-clause-met
+read_regions-returns-in-Err-clause-met g t c = stops_refused _ c.stop_of.result _ c.stop_of.ensures
+
+pub read_regions-returns-in-Err-read_body-clause-met : goal.read_regions-returns-in-Err-read_body-clause-met
+read_regions-returns-in-Err-read_body-clause-met g t c =
+    let opens = opens_as _ c.past_sign.result _ _ c.is_some.ensures c.past_sign.ensures in
+    turn_stops another_at _ c.regions.rest.now _ (c.regions.invariant.turns.more (opens ∙ c.regions-test.true))
+    c.in-Err-read_body.stop c.in-Err-read_body.ensures.met
+
+pub read_regions-returns-clause-met : goal.read_regions-returns-clause-met
+read_regions-returns-clause-met g t c =
+    let opens = opens_as _ c.past_sign.result _ _ c.is_some.ensures c.past_sign.ensures in
+    c.regions.invariant.turns.all (opens ∙ c.regions-test.false)
+
 pub read_regions-regions-preserved : goal.read_regions-regions-preserved
 read_regions-regions-preserved g t c =
     let i = c.regions.invariant in
+    let opens = opens_as _ c.past_sign.result _ _ c.is_some.ensures c.past_sign.ensures in
     let s = c.regions.ctx in
     let a = c.in-Ok.ensures in
     let b = c.in-Ok-read_body.ensures in
@@ -367,6 +453,8 @@ read_regions-regions-preserved g t c =
           (a.added.added.keeps.live (Operation c.args.op) (live_still _ _ _ _ _ _ i.gathers)) (λ q. cc) ∙ a.added.last);
       noted = notes_next _ s c.read_body.new.ctx c.read_body.new.ctx _ _ _ i.gathers.has.grown.keeps i.noted
           (notes_grown s c.add_region.new.ctx c.read_body.new.ctx _ _ a.added.added.keeps b.noted) (holds_itself _);
+      turns = next_region _ c.args.levels c.regions.rest.now c.in-Ok-read_body.behind.now _ b.met.0 i.turns
+          (opens ∙ c.regions-test.true) b.met.1 b.shorter;
     }
 
 -- ---- a module or a function
@@ -453,6 +541,38 @@ read_bodied-returns-in-Ok-clause-stands g t c =
     (body_kept c.args.ctx.now c.read_header-read.new.ctx c.make_op.new.ctx c.read_body.new.ctx c.in_ok-op.op
     c.in_ok-op.region _ (c.contexts_stand.ensures _ o.whole) k.rest k.grown o.made c.in-Ok.ensures.kept.kept)
 
+pub read_bodied-returns-in_err-expect_names-clause-met : goal.read_bodied-returns-in_err-expect_names-clause-met
+read_bodied-returns-in_err-expect_names-clause-met g t c =
+    let p = err_from_is_err_and c.from_residual.result c.from_residual.ensures.1 in
+    rw (p.1, p.2) (wrong_names _ c.args.levels c.in_err-expect_names.field-0.0 c.args.kind c.args.names
+    c.args.bytes.now c.in_err-expect_names.ensures)
+
+pub read_bodied-returns-in_err-header-clause-met : goal.read_bodied-returns-in_err-header-clause-met
+read_bodied-returns-in_err-header-clause-met g t c =
+    let p = err_from_is_err_and c.from_residual-in_err-header.result c.from_residual-in_err-header.ensures.1 in
+    rw (p.1, p.2) (no_header _ c.args.levels c.in_err-header.field-0.0 c.args.kind c.args.names c.args.bytes.now _
+    c.in_ok-expect_names.ensures c.in_err-header.ensures.read)
+
+pub read_bodied-returns-in_err-op-clause-met : goal.read_bodied-returns-in_err-op-clause-met
+read_bodied-returns-in_err-op-clause-met g t c =
+    let p = err_from_is_err_and c.from_residual-in_err-op.result c.from_residual-in_err-op.ensures.1 in
+    rw (p.1, p.2) (stops_refused _ c.in_err-op.field-0.0 _ c.in_err-op.ensures.refused)
+
+pub read_bodied-returns-in-Ok-clause-met : goal.read_bodied-returns-in-Ok-clause-met
+read_bodied-returns-in-Ok-clause-met g t c =
+    let h = c.in_ok-header.ensures.read in
+    let y = c.in-Ok.ensures.met in (
+      _,
+      bodied_read _ c.args.levels c.args.kind c.args.names c.args.bytes.now c.in_ok-header.behind.now c.in-Ok.end.now
+          _ h.0.0 y.0 c.in_ok-expect_names.ensures (behind_is _ h.0 c.in_ok-header.behind.now h.1 h.2.1) y.1,
+    )
+
+pub read_bodied-returns-in-Err-clause-met : goal.read_bodied-returns-in-Err-clause-met
+read_bodied-returns-in-Err-clause-met g t c =
+    let h = c.in_ok-header.ensures.read in
+    no_region _ c.args.levels c.in-Err.stop c.args.kind c.args.names c.args.bytes.now c.in_ok-header.behind.now _ h.0.0
+    c.in_ok-expect_names.ensures (behind_is _ h.0 c.in_ok-header.behind.now h.1 h.2.1) c.in-Err.ensures.met
+
 -- ---- an own operation
 
 pub read_own-returns-in-Ok-read_regions-clause-stands : goal.read_own-returns-in-Ok-read_regions-clause-stands
@@ -489,6 +609,24 @@ read_own-returns-in-Ok-read_regions-clause-noted g t c =
     let f = c.in-Ok.ensures in
     notes_next _ c.read_own_front.new.ctx c.read_regions.new.ctx c.read_regions.new.ctx _ _ _ f.read.made.keeps f.noted
     c.in-Ok-read_regions.ensures.noted (holds_itself _)
+
+pub read_own-returns-in-Err-clause-met : goal.read_own-returns-in-Err-clause-met
+read_own-returns-in-Err-clause-met g t c =
+    no_parts _ c.args.levels c.in-Err.stop c.args.names.spelled.items c.args.kind c.args.bytes.now c.in-Err.ensures.met
+
+pub read_own-returns-in-Ok-read_regions-clause-met : goal.read_own-returns-in-Ok-read_regions-clause-met
+read_own-returns-in-Ok-read_regions-clause-met g t c =
+    let p = c.in-Ok.ensures.met in
+    let y = c.in-Ok-read_regions.ensures.met in (
+      _,
+      own_read _ c.args.levels c.args.names.spelled.items c.args.kind c.args.bytes.now c.in-Ok.read.1.now
+          c.in-Ok-read_regions.end.now p.0 y.0 p.1 y.1,
+    )
+
+pub read_own-returns-in-Err-read_regions-clause-met : goal.read_own-returns-in-Err-read_regions-clause-met
+read_own-returns-in-Err-read_regions-clause-met g t c =
+    no_regions_read _ c.args.levels c.in-Err-read_regions.stop c.args.names.spelled.items c.args.kind c.args.bytes.now
+    c.in-Ok.read.1.now c.in-Ok.ensures.met.0 c.in-Ok.ensures.met.1 c.in-Err-read_regions.ensures.met
 
 -- ---- an operation
 
@@ -604,3 +742,54 @@ read_ir_op-returns-clause-kept g t c =
 
 pub read_ir_op-returns-in-Builtin-ForwardRef-clause-kept : goal.read_ir_op-returns-in-Builtin-ForwardRef-clause-kept
 read_ir_op-returns-in-Builtin-ForwardRef-clause-kept g t c = reading_itself _ _ _
+
+pub read_ir_op-returns-in_err-begin_level-clause-met : goal.read_ir_op-returns-in_err-begin_level-clause-met
+read_ir_op-returns-in_err-begin_level-clause-met g t c =
+    let p = err_from_is_err_and c.from_residual.result c.from_residual.ensures.1 in
+    rw (p.1, p.2) (no_level g.D.ReadSet.find_kind c.args.levels c.in_err-begin_level.field-0.0 c.args.bytes.now
+    c.in_err-begin_level.ensures.read)
+
+pub read_ir_op-returns-in_err-opening-clause-met : goal.read_ir_op-returns-in_err-opening-clause-met
+read_ir_op-returns-in_err-opening-clause-met g t c =
+    let p = err_from_is_err_and c.from_residual-in_err-opening.result c.from_residual-in_err-opening.ensures.1 in
+    rw (p.1, p.2) (no_opening g.D.ReadSet.find_kind c.args.levels c.in_err-opening.field-0.0 c.args.bytes.now (omega (arith, c.in_ok-begin_level.ensures.some))
+    c.in_err-opening.ensures)
+
+pub read_ir_op-returns-in-Builtin-Bodied-clause-met : goal.read_ir_op-returns-in-Builtin-Bodied-clause-met
+read_ir_op-returns-in-Builtin-Bodied-clause-met g t c =
+    let y = c.in_ok-opening.ensures in
+    bodied_met g.D.ReadSet.find_kind (λ x. x.1.now) c.read_bodied.result c.args.levels c.args.bytes.now c.in_ok-opening.rest.now y.0.0.0
+    y.0.0.1 (omega (arith, c.in_ok-begin_level.ensures.some))
+    (behind_is _ y.0 c.in_ok-opening.rest.now y.1 y.2.1) c.in-Builtin-Bodied.field-0 c.in-Builtin-Bodied.body _
+    (sym y.2.0.kind ∙ c.in-Builtin-Bodied.is)
+    (rw c.in-Builtin-Bodied.is at c.in-Builtin-Bodied.field-0-is)
+    (sym (ap length y.2.0.names.spelled) ∙ length-map _ word_of ∙
+    sym (c.len-count.ensures ∙ c.in_ok-opening.opening.names.spelled.ok.0)) c.read_bodied.ensures.met
+
+pub read_ir_op-returns-in-Builtin-Constant-clause-met : goal.read_ir_op-returns-in-Builtin-Constant-clause-met
+read_ir_op-returns-in-Builtin-Constant-clause-met g t c =
+    let y = c.in_ok-opening.ensures in
+    constant_met g.D.ReadSet.find_kind (λ x. x.1.now) c.read_named_constant.result c.args.levels c.args.bytes.now
+    c.in_ok-opening.rest.now y.0.0.0 y.0.0.1 (omega (arith, c.in_ok-begin_level.ensures.some))
+    (behind_is _ y.0 c.in_ok-opening.rest.now y.1 y.2.1) c.in-Builtin-Constant.field-0 _
+    (sym y.2.0.kind ∙ c.in-Builtin-Constant.is)
+    (rw c.in-Builtin-Constant.is at c.in-Builtin-Constant.field-0-is)
+    (sym (length-map y.0.0.0 (given_name Suffix.OpResult)) ∙ sym (ap length y.2.0.names.given))
+    c.read_named_constant.ensures.met
+
+pub read_ir_op-returns-in-Builtin-ForwardRef-clause-met : goal.read_ir_op-returns-in-Builtin-ForwardRef-clause-met
+read_ir_op-returns-in-Builtin-ForwardRef-clause-met g t c =
+    let y = c.in_ok-opening.ensures in (
+      forward_met g.D.ReadSet.find_kind c.args.levels c.args.bytes.now c.in_ok-opening.rest.now y.0.0.0 y.0.0.1
+          c.in-Builtin-ForwardRef.field-0 (omega (arith, c.in_ok-begin_level.ensures.some))
+          (behind_is _ y.0 c.in_ok-opening.rest.now y.1 y.2.1) (sym y.2.0.kind ∙ c.in-Builtin-ForwardRef.is)
+          (rw c.in-Builtin-ForwardRef.is at c.in-Builtin-ForwardRef.field-0-is),
+      refl,
+    )
+
+pub read_ir_op-returns-clause-met : goal.read_ir_op-returns-clause-met
+read_ir_op-returns-clause-met g t c =
+    let y = c.in_ok-opening.ensures in
+    own_met g.D.ReadSet.find_kind (λ x. x.1.now) c.read_own.result c.args.levels c.args.bytes.now c.in_ok-opening.rest.now y.0.0.0
+    y.0.0.1 (omega (arith, c.in_ok-begin_level.ensures.some))
+    (behind_is _ y.0 c.in_ok-opening.rest.now y.1 y.2.1) _ _ (sym y.2.0.kind ∙ c.in-Own.is) y.2.0.names.spelled c.read_own.ensures.met

@@ -1,9 +1,13 @@
 use Rattle.std.proofs.Common.{◌+◌, ◌*◌, ◌<◌, Some, length}
 use Rattle.plir_core.specs.declared.ptr.IRNode.TheVariants.{Operation, Region, BasicBlock}
+use Rattle.plir_read.specs.OpReading.{brace_at, semicolon_at}
+use Rattle.plir_read_ir.specs.IrOpReading.{block_at, ir_op_at, ops_at, region_at, regions_at}
 use Rattle.plir_read_ir.specs.Noting.{AreReady, IsPlaceLive, NotesOn}
 use Rattle.plir_read_ir.specs.Readings.{ReadsRegions, scope_of}
 use Rattle.plir_read_ir.proofs.Children.{Gathers}
-use Rattle.plir_read_ir.proofs.Comes.{BlocksSoFar, OpsSoFar}
+use Rattle.plir_read_ir.proofs.Comes.{OpsSoFar}
+use Rattle.plir_read_ir.proofs.ComesBlocks.{BlocksSoFar}
+use Rattle.plir_read_ir.proofs.IrSteps.{RegionTurns, Turns}
 use Rattle.plir_read_ir.proofs.ops.+ops.Given as goal
 
 abbrev pub decreases-read_ir_op : goal.decreases-read_ir_op
@@ -44,6 +48,8 @@ invariant-read_ops-ops g l =
       at_live : IsPlaceLive l.ctx l.at;
       stands : AreReady l.initial.ctx l.initial.notes → OpsSoFar g.D.ReadSet.find_kind g.D.ReadSet.is_isolated l.levels
           l.bytes l.rest l.initial.ctx l.ctx l.initial.notes l.notes (scope_of l.at) (BasicBlock l.block);
+      turns : Turns semicolon_at (ir_op_at g.D.ReadSet.find_kind l.levels) l.rest
+          (ops_at (ir_op_at g.D.ReadSet.find_kind l.levels) l.bytes);
     }
 
 abbrev pub invariant-read_body-inner : goal.invariant-read_body-inner
@@ -55,6 +61,8 @@ invariant-read_body-inner g l =
       stands : AreReady l.initial.ctx l.initial.notes → BlocksSoFar g.D.ReadSet.find_kind g.D.ReadSet.is_isolated
           l.levels l.bytes l.rest l.initial.ctx l.ctx l.initial.notes l.notes
           (record { body = l.body; region = Some l.region }) (Region l.region);
+      turns : Turns brace_at (block_at (ir_op_at g.D.ReadSet.find_kind l.levels) l.levels) l.rest
+          (region_at (ir_op_at g.D.ReadSet.find_kind l.levels) l.levels l.bytes);
     }
 
 abbrev pub invariant-read_regions-regions : goal.invariant-read_regions-regions
@@ -64,4 +72,6 @@ invariant-read_regions-regions g l =
       noted : NotesOn l.initial.ctx l.initial.notes l.ctx l.notes;
       stands : AreReady l.initial.ctx l.initial.notes → ReadsRegions g.D.ReadSet.find_kind g.D.ReadSet.is_isolated
           l.levels l.bytes l.rest l.initial.ctx l.ctx l.initial.notes l.notes l.body (Operation l.op);
+      turns : RegionTurns (ir_op_at g.D.ReadSet.find_kind l.levels) l.levels l.rest
+          (regions_at (ir_op_at g.D.ReadSet.find_kind l.levels) l.levels l.bytes);
     }

@@ -1,8 +1,10 @@
 use Rattle.std.proofs.Common.{◌∙◌, [], ◌∷◌, length, Some, sym, ap, subst}
+use Rattle.std.proofs.lemmas.Result.{err_from_is_err_and}
 use Rattle.plir_core.specs.ContextView.{arguments_in}
 use Rattle.plir_core.specs.Made.{IsMade}
 use Rattle.plir_core.specs.declared.ptr.IRNode.TheVariants.{BasicBlock}
 use Rattle.plir_attr_text.specs.laws.TypeSteps.{behind_is}
+use Rattle.plir_read.specs.OpReading.{block_head_at}
 use Rattle.plir_read.specs.Slots.{AreGivenOut}
 use Rattle.plir_read.specs.laws.OpEnds.{block_head_end}
 use Rattle.plir_read.specs.laws.Kept.{KeepsBut-itself}
@@ -11,7 +13,8 @@ use Rattle.plir_read_ir.specs.IrMeaning.{argument_words}
 use Rattle.plir_read_ir.specs.Mentions.{arguments_bear, label_bears, values_in}
 use Rattle.plir_read_ir.specs.Readings.{AddsValues}
 use Rattle.plir_read_ir.specs.Spelling.{words}
-use Rattle.plir_read_ir.proofs.Fronts.{noted_arguments, noted_label}
+use Rattle.plir_read_ir.proofs.NotedParts.{noted_arguments, noted_label}
+use Rattle.plir_read_ir.proofs.IrSteps.{stops_of, stops_refused}
 use Rattle.plir_read_ir.proofs.Says.{noted_as, noted_on}
 use Rattle.plir_read_ir.proofs.Lefts.{head_counts, head_shorter}
 use Rattle.plir_read_ir.proofs.Noted.{notes_block}
@@ -112,3 +115,30 @@ returns-clause-stands g c =
           (noted_as c.args.ctx.now c.make_block.new.ctx c.args.notes.now c.bear_label.new.self _ _
           (ap (λ z. label_bears (Some c.args.region) (BasicBlock block) z) h.2.0.label) label) arguments;
     }
+
+pub returns-in_err-front-clause-met : goal.returns-in_err-front-clause-met
+returns-in_err-front-clause-met g c =
+    let p = err_from_is_err_and c.from_residual.result c.from_residual.ensures.1 in
+    rw (p.1, p.2) (stops_of ⊥ c.in_err-front.field-0.0 (block_head_at c.args.levels c.args.bytes.now)
+    c.in_err-front.ensures.read)
+
+pub returns-in_err-block-clause-met : goal.returns-in_err-block-clause-met
+returns-in_err-block-clause-met g c =
+    let p = err_from_is_err_and c.from_residual-in_err-block.result c.from_residual-in_err-block.ensures.1 in
+    rw (p.1, p.2) (stops_refused _ c.in_err-block.field-0.0 _ c.in_err-block.ensures.refused)
+
+pub returns-in_err-bear_label-clause-met : goal.returns-in_err-bear_label-clause-met
+returns-in_err-bear_label-clause-met g c =
+    let p = err_from_is_err_and c.from_residual-in_err-bear_label.result c.from_residual-in_err-bear_label.ensures.1 in
+    rw (p.1, p.2) (stops_refused _ c.in_err-bear_label.field-0.0 _ c.in_err-bear_label.ensures.refused)
+
+pub returns-in_err-bear_arguments-clause-met : goal.returns-in_err-bear_arguments-clause-met
+returns-in_err-bear_arguments-clause-met g c =
+    let p = err_from_is_err_and c.from_residual-in_err-bear_arguments.result
+    c.from_residual-in_err-bear_arguments.ensures.1 in
+    rw (p.1, p.2) (stops_refused _ c.in_err-bear_arguments.field-0.0 _ c.in_err-bear_arguments.ensures.refused)
+
+pub returns-clause-met : goal.returns-clause-met
+returns-clause-met g c =
+    let h = c.in_ok-front.ensures.read in
+    (h.0.0, behind_is _ h.0 c.in_ok-front.rest.now h.1 h.2.1)

@@ -1,5 +1,6 @@
 use Rattle.std.proofs.Common.{◌≡◌, ◌∙◌, length, sym, ap, subst}
 use Rattle.std.proofs.lemmas.List.{length-map}
+use Rattle.std.proofs.lemmas.Result.{err_from_is_err_and}
 use Rattle.plir_core.specs.ContextView.{results_in}
 use Rattle.plir_attr_text.specs.laws.TypeSteps.{behind_is}
 use Rattle.plir_core.specs.declared.ptr.IRNode.TheVariants.{Operation}
@@ -11,6 +12,7 @@ use Rattle.plir_read_ir.specs.Mentions.{results_bear, values_in}
 use Rattle.plir_read_ir.specs.Readings.{AddsValues, scope_of}
 use Rattle.plir_read_ir.specs.Spelling.{words}
 use Rattle.plir_read_ir.proofs.Fronts.{constant_reads}
+use Rattle.plir_read_ir.proofs.IrSteps.{stops_of, stops_refused}
 use Rattle.plir_read_ir.proofs.Lefts.{constant_read}
 use Rattle.plir_read_ir.proofs.Noted.{notes_results}
 use Rattle.plir_read_ir.proofs.ops.read_named_constant.Goals as goal
@@ -59,3 +61,16 @@ returns-clause-stands g c =
     (subst (λ z. AddsValues c.args.notes.now.values c.bear_results.new.self.values
     (values_in (results_bear c.args.at.body (Operation c.in-Ok.read.0) z)))
     (ap words c.as_slice.ensures.value ∙ held.spelled) b.says) b.labels b.uses
+
+pub returns-in-Err-clause-met : goal.returns-in-Err-clause-met
+returns-in-Err-clause-met g c = stops_of _ c.in-Err.stop _ c.in-Err.ensures.read
+
+pub returns-in_err-bear_results-clause-met : goal.returns-in_err-bear_results-clause-met
+returns-in_err-bear_results-clause-met g c =
+    let p = err_from_is_err_and c.from_residual.result c.from_residual.ensures.1 in
+    rw (p.1, p.2) (stops_refused _ c.in_err-bear_results.field-0.0 _ c.in_err-bear_results.ensures.refused)
+
+pub returns-clause-met : goal.returns-clause-met
+returns-clause-met g c =
+    let y = c.in-Ok.ensures.read in
+    (y.0.0, behind_is _ y.0 c.in-Ok.read.1.now y.1 y.2.1)

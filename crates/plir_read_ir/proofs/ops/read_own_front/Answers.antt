@@ -1,6 +1,7 @@
 use Rattle.std.proofs.Common.{◌≡◌, ◌∙◌, ◌++◌, [], ◌∷◌, length, false, Some, option_map, sym, ap, subst}
 use Rattle.std.specs.Prelude.{All}
 use Rattle.std.proofs.lemmas.List.{length-map}
+use Rattle.std.proofs.lemmas.Result.{err_from_is_err_and}
 use Rattle.plir_core.specs.ContextView.{IsLive, results_in, successors_in}
 use Rattle.plir_core.specs.Made.{IsMade}
 use Rattle.plir_core.specs.Nodes.{is_node_live}
@@ -16,7 +17,9 @@ use Rattle.plir_read_ir.specs.Mentions.{results_bear, values_in}
 use Rattle.plir_read_ir.specs.OwnOps.{own_op, times}
 use Rattle.plir_read_ir.specs.Readings.{AddsNoted, AddsValues, noted_operands, noted_successors, place_in, scope_of}
 use Rattle.plir_read_ir.specs.Spelling.{word_of, words}
-use Rattle.plir_read_ir.proofs.Fronts.{as_many_blocks, own_front_reads}
+use Rattle.plir_read_ir.proofs.Fronts.{own_front_reads}
+use Rattle.plir_read_ir.proofs.NotedParts.{as_many_blocks}
+use Rattle.plir_read_ir.proofs.IrSteps.{Stops, stops_of, stops_refused}
 use Rattle.plir_read_ir.proofs.Lefts.{all_live, stand_ins_live}
 use Rattle.plir_read_ir.proofs.Noted.{as_many_places, block_still, holds_kept, notes_own}
 use Rattle.plir_read_ir.proofs.Parts.{parts_read}
@@ -172,3 +175,39 @@ returns-clause-stands g c =
     noted_successors region 0 (words held.successors.items)) c.as_slice-2.ensures.value ∙
     ap (λ z. noted_operands c.args.at.body z.operands types.operand_types.items ++
     noted_successors region 0 z.successors) y.2.0.uses_are) u.noted) u.values u.labels
+
+pub returns-in_err-parts-clause-met : goal.returns-in_err-parts-clause-met
+returns-in_err-parts-clause-met g c =
+    let p = err_from_is_err_and c.from_residual.result c.from_residual.ensures.1 in
+    rw (p.1, p.2) (subst (λ n. Stops c.in_err-parts.field-0.0 (parts_at c.args.levels n c.args.bytes.now))
+    (c.len.ensures ∙ c.args.names.spelled.ok.0)
+    (stops_of ⊥ c.in_err-parts.field-0.0 (parts_at c.args.levels c.len.result c.args.bytes.now)
+    c.in_err-parts.ensures.read))
+
+pub returns-in_err-successors-clause-met : goal.returns-in_err-successors-clause-met
+returns-in_err-successors-clause-met g c =
+    let p = err_from_is_err_and c.from_residual-in_err-successors.result c.from_residual-in_err-successors.ensures.1 in
+    rw (p.1, p.2) (stops_refused _ c.in_err-successors.field-0.0 _ c.in_err-successors.ensures.refused)
+
+pub returns-in_err-op-clause-met : goal.returns-in_err-op-clause-met
+returns-in_err-op-clause-met g c =
+    let p = err_from_is_err_and c.from_residual-in_err-op.result c.from_residual-in_err-op.ensures.1 in
+    rw (p.1, p.2) (stops_refused _ c.in_err-op.field-0.0 _ c.in_err-op.ensures.refused)
+
+pub returns-in_err-bear_results-clause-met : goal.returns-in_err-bear_results-clause-met
+returns-in_err-bear_results-clause-met g c =
+    let p = err_from_is_err_and c.from_residual-in_err-bear_results.result c.from_residual-in_err-bear_results.ensures.1 in
+    rw (p.1, p.2) (stops_refused _ c.in_err-bear_results.field-0.0 _ c.in_err-bear_results.ensures.refused)
+
+pub returns-in_err-note_uses-clause-met : goal.returns-in_err-note_uses-clause-met
+returns-in_err-note_uses-clause-met g c =
+    let p = err_from_is_err_and c.from_residual-in_err-note_uses.result c.from_residual-in_err-note_uses.ensures.1 in
+    rw (p.1, p.2) (stops_refused _ c.in_err-note_uses.field-0.0 _ c.in_err-note_uses.ensures.refused)
+
+pub returns-clause-met : goal.returns-clause-met
+returns-clause-met g c =
+    let y = c.in_ok-parts.ensures.read in (
+      y.0.0,
+      ap (λ n. parts_at c.args.levels n c.args.bytes.now) (sym (c.len.ensures ∙ c.args.names.spelled.ok.0)) ∙
+          behind_is _ y.0 c.in_ok-parts.behind.now y.1 y.2.1,
+    )

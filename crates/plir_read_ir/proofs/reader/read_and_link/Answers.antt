@@ -1,6 +1,7 @@
 use Rattle.plir_core.specs.declared.ptr.IRNode.TheVariants.{Operation}
 use Rattle.plir_read.specs.laws.Kept.{KeepsLive-itself}
 use Rattle.plir_read_ir.specs.Mentions.{labels_in, nowhere, op_mentions, values_in}
+use Rattle.plir_read_ir.proofs.IrTold.{use_met}
 use Rattle.plir_read_ir.proofs.Links.{whole_linked}
 use Rattle.plir_read_ir.proofs.Noted.{none_new}
 use Rattle.plir_read_ir.proofs.Says.{says_labels, says_values}
@@ -66,3 +67,7 @@ returns-in-Err-link_uses-clause-unmeant g c =
     c.link_uses.new.ctx c.args.notes.now c.read_noted.new.notes (Operation c.in-Ok.op) (h.stands c.requires.ready)
     (l.linked c.args.ctx.now new).shape (c.contexts_stand.ensures _ h.whole) h.made.root c.requires.none
     c.requires.no_value c.requires.no_label c.in-Err-link_uses.stop l.unmeant
+
+pub returns-in-Err-link_uses-clause-met : goal.returns-in-Err-link_uses-clause-met
+returns-in-Err-link_uses-clause-met g c =
+    use_met g.D.ReadSet.find_kind 200 c.args.bytes.now c.in-Err-link_uses.stop c.in-Err-link_uses.ensures.told
