@@ -7,3 +7,5 @@ mod Cutting
 mod Logging
 mod Counting
 mod WalkTraced
+mod Ending
+mod Naming

@@ -1,6 +1,8 @@
 -- What the contracts of this crate cite.
 --
 --   PassRules    RunRule, StopRule: what passes say of themselves
+--   PassEnds     IsEnd: whether a pass has changed anything, as it says
+--   Named        is_named: which nodes bear names
 --   LibraryPasses  IsPassed, IsPassRefusal: what those of the library say
 --   OneOfPasses  what those of one of two kinds say
 --   Passed       AreRun: what passes leave, one after another
@@ -18,6 +20,8 @@
 --   Counts       IsCount: how many operations there are; AreCountsPut: what is told of that
 --   Traces       IsTraced: a text lists the calls of a walk
 pub mod PassRules
+pub mod PassEnds
+pub mod Named
 pub mod LibraryPasses
 pub mod OneOfPasses
 pub mod Passed

@@ -5,6 +5,7 @@ use crate::log::Log;
 use crate::output::{is_standard, write_output};
 use crate::parts::{MARK, Part, parts_of};
 use crate::pass::Pass;
+use crate::progress::Progress;
 use crate::source::read_source;
 use crate::stop::Stop;
 use crate::telling::tell;
@@ -148,7 +149,15 @@ fn handle<D: VerifySet + SymbolNames, P: Pass<D>, T: TextReader<D>>(
     bytes: &[u8],
 ) -> anyhow::Result<Option<String>> {
     let mut log = Log::new(rt.alloc());
-    let printed = transform::<D, P, T, HostRuntime>(rt, rt.alloc(), choices, bytes, &mut log);
+    let progress = Progress::new(rt, bytes.len());
+    let printed = transform::<D, P, T, Progress<'_>>(
+        &progress,
+        rt.alloc(),
+        choices,
+        bytes,
+        &mut log,
+    );
+    progress.clear();
     let Log { mut text, times } = log;
     put_times(rt.alloc(), &mut text, times.as_slice())?;
     rt.eprint(text.as_str())?;

@@ -16,11 +16,14 @@ mod library;
 mod listing;
 mod locating;
 mod log;
+mod names;
 mod one_of_pass;
 mod output;
 mod parts;
 mod pass;
+mod pass_end;
 mod pass_err;
+mod progress;
 mod running;
 mod source;
 pub mod stop;
@@ -35,11 +38,13 @@ pub use library::LibraryPass;
 pub use log::Log;
 pub use parts::{MARK, Part, parts_of};
 pub use pass::Pass;
+pub use pass_end::{PassEnd, end_of_erasures};
 pub use pass_err::PassErr;
 pub use plir_command::About;
 pub use plir_pipelines::{
     FlagErr, OWN_WORDS, OfferErr, Offered, OneOf, PassOption, PipelineErr, check_flags,
     check_offer, passes_named,
 };
+pub use progress::{Progress, Watch};
 pub use running::opt_main;
 pub use text_reader::{BuiltinTexts, OwnTexts, TextReader};

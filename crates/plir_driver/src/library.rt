@@ -1,13 +1,16 @@
 //! The passes of the library.
-ghost use Rattle.std.specs.Prelude.{◌≡◌, IfErr, OnErr, OnOk};
+ghost use Rattle.std.specs.Prelude.{◌≡◌, ◌≢◌, IfErr, IfOk, OnErr, OnOk};
 ghost use Rattle.plir_core.specs.ContextView.{IsLive};
 ghost use Rattle.plir_core.specs.declared.ptr.IRNode.{IRNode as AnyNode};
 ghost use Rattle.plir_builtin.specs.Refusals.{IsTableRefusal, Reports};
 ghost use Rattle.plir_symbols.specs.DeadSymbols.{HasNoDead};
 ghost use Rattle.plir_symbols.specs.SweptSymbols.{AreSweeps, AreSwept};
 ghost use Rattle.plir_driver.specs.LibraryPasses.{IsPassRefusal, IsPassed, IsSweepRefusal, IsSweptOf};
+ghost use Rattle.plir_driver.specs.PassEnds.{IsEnd};
 
+use crate::names::erase_names;
 use crate::pass::Pass;
+use crate::pass_end::{PassEnd, end_of_erasures};
 use crate::pass_err::PassErr;
 use plir_builtin::laws::no_tables_agree;
 use plir_builtin::{SymbolTableCollection, SymbolTableErr};
@@ -15,7 +18,6 @@ use plir_core::{Context, IRNode, Operation, Ptr};
 use plir_passes::{EffectSet, eliminate_unreached_code};
 use plir_pipelines::{Offered, PassOption};
 use plir_symbols::{SymbolNames, eliminate_dead_symbols};
-use plir_walk::given_names::erase_given_names;
 use plir_walk::laws::lawful_changes;
 use std::alloc::Global;
 
@@ -46,9 +48,11 @@ fn erase_unreached<D: EffectSet>(
     alloc: Global,
     ctx: &mut Context<D>,
     root: Ptr<Operation>,
-) -> Result<(), PassErr>
+) -> Result<PassEnd, PassErr>
     requires { IsLive ctx.old (AnyNode.Operation root) }
     ensures live { IsLive ctx.new (AnyNode.Operation root) }
+    ensures end { IfOk result (IsEnd ctx.old ctx.new) }
+    ensures exact { result ≡ Ok PassEnd.Changed → ctx.new ≢ ctx.old }
     ensures swept { OnOk result (IsSweptOf D.has_effect D.is_terminator root ctx.old ctx.new) }
     ensures refused { IfErr result (IsSweepRefusal root ctx.old) }
     ensures same { OnErr result (ctx.new ≡ ctx.old) }
@@ -59,8 +63,9 @@ fn erase_unreached<D: EffectSet>(
         let why = "a value or a block of the operation is used outside it";
         return Err(PassErr::Unfit { why });
     }
+    let live_before = ctx.num_live();
     eliminate_unreached_code(alloc, ctx, root)?;
-    Ok(())
+    Ok(end_of_erasures(ctx, live_before))
 }
 
 // Erases the dead symbols of a table.
@@ -68,9 +73,11 @@ fn erase_symbols<D: SymbolNames>(
     alloc: Global,
     ctx: &mut Context<D>,
     table: Ptr<Operation>,
-) -> Result<(), SymbolTableErr>
+) -> Result<PassEnd, SymbolTableErr>
     requires { IsLive ctx.old (AnyNode.Operation table) }
     ensures live { IsLive ctx.new (AnyNode.Operation table) }
+    ensures end { IfOk result (IsEnd ctx.old ctx.new) }
+    ensures exact { result ≡ Ok PassEnd.Changed → ctx.new ≢ ctx.old }
     ensures swept { AreSwept D.is_symbol D.is_private ctx.old ctx.new }
     ensures sweeps { (ms : _) × AreSweeps D.is_symbol D.is_private D.is_symbol_table D.names_used table ctx.old ms
         ctx.new }
@@ -79,7 +86,9 @@ fn erase_symbols<D: SymbolNames>(
 {
     no_tables_agree(ctx);
     let mut tables = SymbolTableCollection::new(alloc);
-    eliminate_dead_symbols(alloc, ctx, &mut tables, table)
+    let live_before = ctx.num_live();
+    eliminate_dead_symbols(alloc, ctx, &mut tables, table)?;
+    Ok(end_of_erasures(ctx, live_before))
 }
 
 // Runs a pass over an operation and all below it.
@@ -88,23 +97,19 @@ fn run_library<D: EffectSet + SymbolNames>(
     pass: LibraryPass,
     ctx: &mut Context<D>,
     root: Ptr<Operation>,
-) -> Result<(), PassErr>
+) -> Result<PassEnd, PassErr>
     requires { IsLive ctx.old (AnyNode.Operation root) }
     ensures live { IsLive ctx.new (AnyNode.Operation root) }
+    ensures end { IfOk result (IsEnd ctx.old ctx.new) }
+    ensures exact { result ≡ Ok PassEnd.Changed → ctx.new ≢ ctx.old }
     ensures passed { OnOk result (IsPassed D.has_effect D.is_terminator D.is_symbol D.is_symbol_table D.is_private
         D.names_used pass root ctx.old ctx.new) }
     ensures stopped { IfErr result (IsPassRefusal D.is_symbol D.is_symbol_table pass root ctx.old) }
 {
     match pass {
-        LibraryPass::EraseNames => {
-            erase_given_names(ctx, root);
-            Ok(())
-        }
+        LibraryPass::EraseNames => Ok(erase_names(ctx, root)),
         LibraryPass::Dce => erase_unreached(alloc, ctx, root),
-        LibraryPass::SymbolDce => {
-            erase_symbols(alloc, ctx, root)?;
-            Ok(())
-        }
+        LibraryPass::SymbolDce => Ok(erase_symbols(alloc, ctx, root)?),
     }
 }
 
@@ -153,13 +158,26 @@ impl<D: EffectSet + SymbolNames> Pass<D> for LibraryPass {
 
     ghost may_stop = { IsPassRefusal D.is_symbol D.is_symbol_table };
 
-    /// Runs it.
+    /// Runs it. It says that something has changed exactly where something has.
     ///
     /// # Errors
     ///
     /// `dce` stops where something outside uses a value or a block of the operation's tree: then nothing has changed;
     /// `symbol-dce` as [`eliminate_dead_symbols`].
-    fn run(self, alloc: Global, ctx: &mut Context<D>, root: Ptr<Operation>) -> Result<(), PassErr> {
+    fn run(
+        self,
+        alloc: Global,
+        ctx: &mut Context<D>,
+        root: Ptr<Operation>,
+    ) -> Result<PassEnd, PassErr>
+        requires { IsLive ctx.old (AnyNode.Operation root) }
+        ensures live { IsLive ctx.new (AnyNode.Operation root) }
+        ensures end { IfOk result (IsEnd ctx.old ctx.new) }
+        ensures exact { result ≡ Ok PassEnd.Changed → ctx.new ≢ ctx.old }
+        ensures passed { OnOk result (IsPassed D.has_effect D.is_terminator D.is_symbol D.is_symbol_table D.is_private
+            D.names_used self root ctx.old ctx.new) }
+        ensures stopped { IfErr result (IsPassRefusal D.is_symbol D.is_symbol_table self root ctx.old) }
+    {
         run_library(alloc, self, ctx, root)
     }
 }

@@ -1,5 +1,6 @@
 //! A pass of one of two kinds.
 use crate::pass::Pass;
+use crate::pass_end::PassEnd;
 use crate::pass_err::PassErr;
 use plir_core::{Context, Operation, Ptr};
 use plir_data::OpSet;
@@ -14,7 +15,12 @@ impl<D: OpSet, P: Pass<D>, Q: Pass<D>> Pass<D> for OneOf<P, Q> {
 
     ghost may_stop = { MayStopByKind P.may_stop Q.may_stop };
 
-    fn run(self, alloc: Global, ctx: &mut Context<D>, root: Ptr<Operation>) -> Result<(), PassErr> {
+    fn run(
+        self,
+        alloc: Global,
+        ctx: &mut Context<D>,
+        root: Ptr<Operation>,
+    ) -> Result<PassEnd, PassErr> {
         match self {
             OneOf::First(pass) => pass.run(alloc, ctx, root),
             OneOf::Second(pass) => pass.run(alloc, ctx, root),

@@ -1,11 +1,12 @@
 //! From the bytes of a text to what is printed.
-ghost use Rattle.std.specs.Prelude.{◌≡◌, ◌++◌, ◌⊎◌, ◌||◌, true, codes, IfErr, IfOk, OnOk, string_bytes};
+ghost use Rattle.std.specs.Prelude.{◌≡◌, ◌++◌, ◌⊎◌, ◌||◌, false, true, codes, IfErr, IfOk, OnOk, string_bytes};
 ghost use Rattle.plir_checks.specs.Comments.{blanked};
 ghost use Rattle.plir_core.specs.ContextView.{IsLive};
 ghost use Rattle.plir_core.specs.declared.ptr.IRNode.{IRNode as AnyNode};
 ghost use Rattle.plir_print.specs.OpText.{op_text};
 ghost use Rattle.plir_verify.specs.Rules.{AllHaveRules};
 ghost use Rattle.plir_driver.specs.Dumps.{AreLogged, IsLogged, IsPassLogged};
+ghost use Rattle.plir_driver.specs.PassEnds.{IsEnd};
 ghost use Rattle.plir_driver.specs.Passed.{AreRun};
 ghost use Rattle.plir_driver.specs.Stopped.{IsNoText, IsStopped, IsStoppedAt, IsStoppedIn, IsUnprinted};
 ghost use Rattle.plir_driver.specs.Transformed.{IsTransformed, IsPrintedAs};
@@ -17,6 +18,8 @@ use crate::listing::list_nodes;
 use crate::locating::list_locations;
 use crate::log::Log;
 use crate::pass::Pass;
+use crate::pass_end::PassEnd;
+use crate::progress::Watch;
 use crate::stop::Stop;
 use crate::text_reader::TextReader;
 use crate::timing::{nanos_since, put_time, started};
@@ -40,7 +43,7 @@ use std::rt::Clock;
 /// The first that holds of these: the bytes are no text, or a text that can't be read; an operation is refused, once
 /// all is read, or behind a pass; a pass stops; the operation, or its call graph, can't be printed; or memory or room
 /// for a node is wanting.
-pub fn transform<D: VerifySet + SymbolNames, P: Pass<D>, T: TextReader<D>, R: Clock>(
+pub fn transform<D: VerifySet + SymbolNames, P: Pass<D>, T: TextReader<D>, R: Clock + Watch>(
     rt: &R,
     alloc: Global,
     choices: &Choices<P>,
@@ -66,7 +69,7 @@ pub fn transform<D: VerifySet + SymbolNames, P: Pass<D>, T: TextReader<D>, R: Cl
 }
 
 // The same of a text.
-fn transform_text<D: VerifySet + SymbolNames, P: Pass<D>, T: TextReader<D>, R: Clock>(
+fn transform_text<D: VerifySet + SymbolNames, P: Pass<D>, T: TextReader<D>, R: Clock + Watch>(
     rt: &R,
     alloc: Global,
     choices: &Choices<P>,
@@ -82,7 +85,9 @@ fn transform_text<D: VerifySet + SymbolNames, P: Pass<D>, T: TextReader<D>, R: C
         choices.now.passes.items text.now log.old log.new) }
 {
     let mut ctx = Context::<D>::new(alloc);
+    rt.begin("reading");
     let root = T::read(alloc, &mut ctx, text)?;
+    rt.begin("verifying");
     verify_tree(alloc, &ctx, root)?;
     run_passes::<D, P, R>(
         rt,
@@ -94,11 +99,12 @@ fn transform_text<D: VerifySet + SymbolNames, P: Pass<D>, T: TextReader<D>, R: C
         root,
         log,
     )?;
+    rt.begin("printing");
     print(alloc, choices.form, &ctx, root)
 }
 
 // Runs passes, one after another.
-fn run_passes<D: VerifySet + SymbolNames, P: Pass<D>, R: Clock>(
+fn run_passes<D: VerifySet + SymbolNames, P: Pass<D>, R: Clock + Watch>(
     rt: &R,
     alloc: Global,
     verify: bool,
@@ -108,7 +114,8 @@ fn run_passes<D: VerifySet + SymbolNames, P: Pass<D>, R: Clock>(
     root: Ptr<Operation>,
     log: &mut Log,
 ) -> Result<(), Stop<D::Err>>
-    requires { IsLive ctx.old (AnyNode.Operation root) }
+    requires live { IsLive ctx.old (AnyNode.Operation root) }
+    requires right { verify ≡ true → AllHaveRules D.OpSet D.uses_hold D.rule ctx.old root }
     ensures live { IsLive ctx.new (AnyNode.Operation root) }
     ensures passed { OnOk result (AreRun D.OpSet P.has_passed root D.uses_hold D.rule verify passes.now ctx.old
         ctx.new) }
@@ -131,7 +138,7 @@ fn are_counted<P>(reports: &Reports<P>) -> bool
 }
 
 // Runs a pass, and tells what is asked for in front of it and behind it.
-fn run_told<D: VerifySet + SymbolNames, P: Pass<D>, R: Clock>(
+fn run_told<D: VerifySet + SymbolNames, P: Pass<D>, R: Clock + Watch>(
     rt: &R,
     alloc: Global,
     verify: bool,
@@ -141,7 +148,8 @@ fn run_told<D: VerifySet + SymbolNames, P: Pass<D>, R: Clock>(
     root: Ptr<Operation>,
     log: &mut Log,
 ) -> Result<(), Stop<D::Err>>
-    requires { IsLive ctx.old (AnyNode.Operation root) }
+    requires live { IsLive ctx.old (AnyNode.Operation root) }
+    requires right { verify ≡ true → AllHaveRules D.OpSet D.uses_hold D.rule ctx.old root }
     ensures live { IsLive ctx.new (AnyNode.Operation root) }
     ensures passed { OnOk result (P.has_passed pass root ctx.old ctx.new) }
     ensures verified { OnOk result (verify ≡ true → AllHaveRules D.OpSet D.uses_hold D.rule ctx.new root) }
@@ -151,12 +159,13 @@ fn run_told<D: VerifySet + SymbolNames, P: Pass<D>, R: Clock>(
         log.old log.new) }
 {
     let name = pass.name();
+    rt.begin(name);
     let before = is_dumped_before(reports, name);
     put_dump(&mut log.text, alloc, before, "Before", name, ctx, root)?;
     let are_counted = are_counted(reports);
     let before = count_if(are_counted, ctx, root);
     let start = started(reports.timing, rt);
-    run_one::<D, P>(alloc, verify, pass, ctx, root)?;
+    let end = run_one::<D, P>(alloc, verify, pass, ctx, root)?;
     let nanos = nanos_since(rt, start);
     let after = count_if(are_counted, ctx, root);
     put_dump(
@@ -168,7 +177,7 @@ fn run_told<D: VerifySet + SymbolNames, P: Pass<D>, R: Clock>(
         ctx,
         root,
     )?;
-    put_counts(&mut log.text, reports.stats, name, before, after)?;
+    put_counts(&mut log.text, reports.stats, name, before, after, end)?;
     put_time(
         &mut log.times,
         reports.timing,
@@ -182,26 +191,39 @@ fn run_told<D: VerifySet + SymbolNames, P: Pass<D>, R: Clock>(
     Ok(())
 }
 
-// Runs a pass, and verifies behind it, if that is asked for.
+// Whether it is verified behind a pass that ends so, where that is asked for: what has not changed is right still.
+fn is_verified_behind(verify: bool, end: PassEnd) -> bool
+    ensures asked { result ≡ true → verify ≡ true }
+    ensures left_out { result ≡ false → verify ≡ true → end ≡ PassEnd.Unchanged }
+{
+    match end {
+        PassEnd::Changed => verify,
+        PassEnd::Unchanged => false,
+    }
+}
+
+// Runs a pass, and verifies behind it what it may have changed, if that is asked for.
 fn run_one<D: VerifySet + SymbolNames, P: Pass<D>>(
     alloc: Global,
     verify: bool,
     pass: P,
     ctx: &mut Context<D>,
     root: Ptr<Operation>,
-) -> Result<(), Stop<D::Err>>
-    requires { IsLive ctx.old (AnyNode.Operation root) }
+) -> Result<PassEnd, Stop<D::Err>>
+    requires live { IsLive ctx.old (AnyNode.Operation root) }
+    requires right { verify ≡ true → AllHaveRules D.OpSet D.uses_hold D.rule ctx.old root }
     ensures live { IsLive ctx.new (AnyNode.Operation root) }
     ensures passed { OnOk result (P.has_passed pass root ctx.old ctx.new) }
+    ensures end { IfOk result (IsEnd ctx.old ctx.new) }
     ensures verified { OnOk result (verify ≡ true → AllHaveRules D.OpSet D.uses_hold D.rule ctx.new root) }
     ensures stopped { IfErr result (IsStoppedAt D.OpSet D.uses_hold D.use_refusal D.rule D.rule_refusal P.has_passed
         P.may_stop root verify pass ctx.old) }
 {
-    pass.run(alloc, ctx, root)?;
-    if verify {
+    let end = pass.run(alloc, ctx, root)?;
+    if is_verified_behind(verify, end) {
         verify_tree(alloc, ctx, root)?;
     }
-    Ok(())
+    Ok(end)
 }
 
 // An operation with all below it, as it is to be printed.

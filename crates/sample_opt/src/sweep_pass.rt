@@ -1,14 +1,15 @@
 //! A pass as one writes it outside, with an option.
-ghost use Rattle.std.specs.Prelude.{◌≡◌, [], ◌∷◌, IfErr, OnOk, codes};
+ghost use Rattle.std.specs.Prelude.{◌≡◌, [], ◌∷◌, IfErr, IfOk, OnOk, codes};
 ghost use Rattle.plir_core.specs.ContextView.{IsLive};
 ghost use Rattle.plir_core.specs.declared.ptr.IRNode.{IRNode as AnyNode};
 ghost use Rattle.plir_driver.specs.declared.pass_err.PassErr.TheVariants as Errors;
+ghost use Rattle.plir_driver.specs.PassEnds.{IsEnd};
 ghost use Rattle.sample_opt.specs.Rounds.{AreSwept, rounds_rule};
 
 use dce::{EffectSet, sweep};
 use plir_core::{Context, Operation, Ptr};
-use plir_driver::{Offered, Pass, PassErr, PassOption};
-use plir_walk::laws::lawful_changes;
+use plir_driver::{Offered, Pass, PassEnd, PassErr, PassOption, end_of_erasures};
+use plir_walk::laws::{erasures_thin, lawful_changes};
 use std::alloc::Global;
 
 /// `sweep`: erases dead operations, as the function of that name does, so many times: what an operation in another block
@@ -56,19 +57,23 @@ fn sweep_rounds<D: EffectSet>(
     ctx: &mut Context<D>,
     root: Ptr<Operation>,
     rounds: u64,
-) -> Result<(), PassErr>
+) -> Result<PassEnd, PassErr>
     requires { IsLive ctx.old (AnyNode.Operation root) }
     ensures live { IsLive ctx.new (AnyNode.Operation root) }
     ensures swept { OnOk result (AreSwept D.has_effect D.is_terminator (AnyNode.Operation root) rounds ctx.old ctx.new) }
+    ensures end { IfOk result (IsEnd ctx.old ctx.new) }
     ensures stopped { IfErr result (λ e. e ≡ Errors.TooManyNodes) }
 {
     lawful_changes::<D>();
+    erasures_thin(ctx);
+    ctx.stands();
+    let live_before = ctx.num_live();
     for _ in 0..rounds {
         if sweep(ctx, root).is_err() {
             return Err(PassErr::TooManyNodes);
         }
     }
-    Ok(())
+    Ok(end_of_erasures(ctx, live_before))
 }
 
 impl<D: EffectSet> Pass<D> for SweepPass {
@@ -82,7 +87,7 @@ impl<D: EffectSet> Pass<D> for SweepPass {
         _alloc: Global,
         ctx: &mut Context<D>,
         root: Ptr<Operation>,
-    ) -> Result<(), PassErr> {
+    ) -> Result<PassEnd, PassErr> {
         sweep_rounds(ctx, root, self.rounds)
     }
 }

@@ -1,7 +1,8 @@
-use Rattle.std.proofs.Common.{refl}
+use Rattle.std.proofs.Common.{◌≡◌, refl, sym}
 use Rattle.std.proofs.lemmas.Result.{err_from_is_err_and}
 use Rattle.plir_core.specs.declared.ptr.IRNode.TheVariants.{Operation}
 use Rattle.plir_store.specs.FilterLaws.{not-both}
+use Rattle.plir_driver.specs.declared.pass_end.PassEnd.TheVariants.{Changed}
 use Rattle.plir_driver.proofs.library.erase_unreached.Goals as goal
 
 pub eliminate_unreached_code-requires-clause-unused : goal.eliminate_unreached_code-requires-clause-unused
@@ -26,6 +27,17 @@ pub returns-clause-live : goal.returns-clause-live
 returns-clause-live g c =
     c.lawful_changes.ensures.stays c.args.ctx.now c.eliminate_unreached_code.new.ctx (Operation c.args.root)
     c.stands.ensures.standing.forest c.eliminate_unreached_code.ensures.lawful c.requires
+
+pub returns-clause-end : goal.returns-clause-end
+returns-clause-end g c =
+    c.end_of_erasures.ensures.end c.args.ctx.now (sym c.num_live-live_before.ensures.value)
+    c.in_ok-eliminate_unreached_code.ensures.left.thinned
+
+pub returns-clause-exact : goal.returns-clause-exact
+returns-clause-exact g c =
+    λ told.
+    (let is : c.end_of_erasures.result ≡ Changed = cc (told) in
+    c.end_of_erasures.ensures.exact c.args.ctx.now (sym c.num_live-live_before.ensures.value) is)
 
 pub returns-clause-swept : goal.returns-clause-swept
 returns-clause-swept g c = record {

@@ -8,13 +8,13 @@ use Rattle.plir_driver.proofs.Stopping.{tabled}
 use Rattle.plir_driver.proofs.library.run_library.Goals as goal
 
 pub returns-in-EraseNames-clause-live : goal.returns-in-EraseNames-clause-live
-returns-in-EraseNames-clause-live g c = c.erase_given_names.ensures.live (Operation c.args.root) ∙ c.requires
+returns-in-EraseNames-clause-live g c = c.erase_names.ensures.unnamed.live (Operation c.args.root) ∙ c.requires
 
 pub returns-in-EraseNames-clause-passed : goal.returns-in-EraseNames-clause-passed
 returns-in-EraseNames-clause-passed g c =
     subst (λ z. IsPassed g.D.EffectSet.has_effect g.D.OpSet.is_terminator g.D.OpSet.is_symbol g.D.OpSet.is_symbol_table
-    g.D.SymbolNames.is_private g.D.SymbolNames.names_used z c.args.root c.args.ctx.now c.erase_given_names.new.ctx)
-    (sym c.in-EraseNames.is) c.erase_given_names.ensures
+    g.D.SymbolNames.is_private g.D.SymbolNames.names_used z c.args.root c.args.ctx.now c.erase_names.new.ctx)
+    (sym c.in-EraseNames.is) c.erase_names.ensures.unnamed
 
 pub returns-in-Dce-clause-passed : goal.returns-in-Dce-clause-passed
 returns-in-Dce-clause-passed g c =

@@ -8,7 +8,13 @@ use Rattle.plir_driver.proofs.Passing.{parted, passed-all, passed-to}
 use Rattle.plir_driver.proofs.transform.run_passes.Goals as goal
 
 pub loop-pass-init : goal.loop-pass-init
-loop-pass-init g c = (c.requires, refl, (refl, refl))
+loop-pass-init g c = (c.requires.live, refl, (refl, refl), c.requires.right)
+
+pub run_told-requires-clause-live : goal.run_told-requires-clause-live
+run_told-requires-clause-live g c = c.loop-pass.invariant.0
+
+pub run_told-requires-clause-right : goal.run_told-requires-clause-right
+run_told-requires-clause-right g c = c.loop-pass.invariant.3
 
 pub loop-pass-preserved : goal.loop-pass-preserved
 loop-pass-preserved g c =
@@ -29,6 +35,7 @@ loop-pass-preserved g c =
           c.loop-pass.invariant.2
           (subst (λ z. Done z c.loop-pass.ctx c.run_told.new.ctx c.loop-pass.log
           c.run_told.new.log) c.pass-item.is told),
+      c.in_ok-run_told.ensures.verified,
     )
 
 pub returns-clause-logged : goal.returns-clause-logged

@@ -34,8 +34,10 @@ returns-clause-logged g c =
           (string_bytes c.put_counts.new.log)) c.name-name.ensures (
             c.count_if-before.result,
             c.count_if-after.result,
+            c.in_ok-end.end,
             c.count_if-before.ensures counts,
             c.count_if-after.ensures counts,
+            c.in_ok-end.ensures.end,
             c.in_ok-put_counts.ensures.asked asked,
           ));
       uncounted = uncounted c.args.reports.now.stats (λ e. ap string_bytes (c.put_counts.ensures.unasked e).1);

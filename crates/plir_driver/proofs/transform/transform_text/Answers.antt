@@ -14,7 +14,10 @@ pub verify_tree-requires : goal.verify_tree-requires
 verify_tree-requires g c = c.in_ok-root.ensures.live
 
 pub run_passes-requires : goal.run_passes-requires
-run_passes-requires g c = c.in_ok-root.ensures.live
+run_passes-requires g c = record {
+  live = c.in_ok-root.ensures.live;
+  right = λ asked. c.in_ok-verify_tree.ensures.ok;
+}
 
 pub print-requires : goal.print-requires
 print-requires g c = c.run_passes.ensures.live
