@@ -5,10 +5,12 @@ ghost use Rattle.plir_core.specs.Made.{IsMade};
 ghost use Rattle.plir_core.specs.ContextView.{IsLive, IsValueLive};
 ghost use Rattle.plir_core.specs.declared.ptr.IRNode.{IRNode as AnyNode};
 
+use crate::kinds::{BenchKind, BenchSet};
+use crate::order::{Order, put_op};
 use crate::stop::Stop;
 use plir_builtin::{FuncOp, ModuleOp};
 use plir_core::{BasicBlock, Context, NodeErr, Operation, Ptr, Value};
-use plir_data::{BuiltinSet, FunctionType, Identifier, OpKind, OpSet, TypeHandle};
+use plir_data::{FunctionType, Identifier, OpKind, TypeHandle};
 use std::alloc::Global;
 
 /// The name of the function of a number.
@@ -20,12 +22,12 @@ pub fn name_of(alloc: Global, number: u64) -> Result<Identifier, Stop> {
 /// A module of functions without arguments and results, named by their numbers from 0.
 pub fn build_functions(
     alloc: Global,
-    ctx: &mut Context<BuiltinSet>,
+    ctx: &mut Context<BenchSet>,
     functions: u64,
 ) -> Result<Ptr<Operation>, Stop> {
     let (root, body) = build_root(alloc, ctx)?;
     for number in 0..functions {
-        add_function(alloc, ctx, body, number)?;
+        add_function(alloc, ctx, body, number, Order::Along)?;
     }
     Ok(root)
 }
@@ -33,7 +35,7 @@ pub fn build_functions(
 /// A module of operations without attributes, each with a region and a block.
 pub fn build_bare(
     alloc: Global,
-    ctx: &mut Context<BuiltinSet>,
+    ctx: &mut Context<BenchSet>,
     operations: u64,
 ) -> Result<Ptr<Operation>, Stop> {
     let (root, body) = build_root(alloc, ctx)?;
@@ -44,39 +46,40 @@ pub fn build_bare(
 }
 
 /// A module, and its body.
-pub fn build_root<D: OpSet>(
+pub fn build_root(
     alloc: Global,
-    ctx: &mut Context<D>,
+    ctx: &mut Context<BenchSet>,
 ) -> Result<(Ptr<Operation>, Ptr<BasicBlock>), Stop>
     ensures { IfOk result (λ x. IsLive ctx.new (AnyNode.BasicBlock x.1)) }
 {
     let name = Identifier::try_new(alloc, "root")?;
     let module = ModuleOp::new(alloc, ctx, name)?;
     let root = module.operation();
-    let region = root.first_region(ctx).ok_or(Stop::Refused)?;
-    let body = region.get_head(ctx).ok_or(Stop::Refused)?;
+    let body = body_of(ctx, root)?;
     Ok((root, body))
 }
 
-fn add_function(
+/// Puts the function of a number into a block, without arguments and results.
+pub fn add_function(
     alloc: Global,
-    ctx: &mut Context<BuiltinSet>,
+    ctx: &mut Context<BenchSet>,
     body: Ptr<BasicBlock>,
     number: u64,
-) -> Result<(), Stop>
+    order: Order,
+) -> Result<Ptr<Operation>, Stop>
     requires { IsLive ctx.old (AnyNode.BasicBlock body) }
     ensures { OnOk result (IsLive ctx.new (AnyNode.BasicBlock body)) }
 {
     let name = name_of(alloc, number)?;
     let func = make_function(alloc, ctx, name)?;
-    func.insert_at_back(ctx, body);
-    Ok(())
+    put_op(ctx, body, func, order);
+    Ok(func)
 }
 
 // A function of a name, without arguments and results, in no block.
 fn make_function(
     alloc: Global,
-    ctx: &mut Context<BuiltinSet>,
+    ctx: &mut Context<BenchSet>,
     name: Identifier,
 ) -> Result<Ptr<Operation>, NodeErr>
     ensures { IfOk result (λ p. IsMade ctx.old.nodes ctx.new.nodes (AnyNode.Operation p)) }
@@ -86,7 +89,7 @@ fn make_function(
     Ok(func.operation())
 }
 
-fn add_bare(alloc: Global, ctx: &mut Context<BuiltinSet>, body: Ptr<BasicBlock>) -> Result<(), Stop>
+fn add_bare(alloc: Global, ctx: &mut Context<BenchSet>, body: Ptr<BasicBlock>) -> Result<(), Stop>
     requires { IsLive ctx.old (AnyNode.BasicBlock body) }
     ensures { OnOk result (IsLive ctx.new (AnyNode.BasicBlock body)) }
 {
@@ -99,7 +102,7 @@ fn add_bare(alloc: Global, ctx: &mut Context<BuiltinSet>, body: Ptr<BasicBlock>)
 }
 
 // Puts a block into the first region of an operation.
-fn add_block(alloc: Global, ctx: &mut Context<BuiltinSet>, op: Ptr<Operation>) -> Result<(), Stop>
+fn add_block(alloc: Global, ctx: &mut Context<BenchSet>, op: Ptr<Operation>) -> Result<(), Stop>
     requires { IsLive ctx.old (AnyNode.Operation op) }
     ensures { OnOk result ((n : AnyNode) → IsLive ctx.old n → IsLive ctx.new n) }
 {
@@ -109,40 +112,56 @@ fn add_block(alloc: Global, ctx: &mut Context<BuiltinSet>, op: Ptr<Operation>) -
     Ok(())
 }
 
-/// Puts an operation without regions at the end of a block.
-pub fn add_op<D: OpSet>(
+/// Puts an operation without regions into a block, as the order of its operations asks.
+pub fn add_op(
     alloc: Global,
-    ctx: &mut Context<D>,
+    ctx: &mut Context<BenchSet>,
     body: Ptr<BasicBlock>,
-    kind: OpKind<D::Kind>,
+    kind: OpKind<BenchKind>,
     types: Vec<TypeHandle>,
     operands: Vec<Value>,
-) -> Result<(), Stop>
+    order: Order,
+) -> Result<Ptr<Operation>, Stop>
     requires body_live { IsLive ctx.old (AnyNode.BasicBlock body) }
     requires types_live { AllLive ctx.old.types types.items }
     requires operands_live { All (IsValueLive ctx.old) operands.items }
-    ensures { OnOk result (IsLive ctx.new (AnyNode.BasicBlock body)) }
+    ensures body_live { OnOk result (IsLive ctx.new (AnyNode.BasicBlock body)) }
+    ensures live { IfOk result (λ op. IsLive ctx.new (AnyNode.Operation op)) }
 {
     let successors = Vec::new(alloc);
     let op = Operation::new(alloc, ctx, kind, types, operands, successors, 0)?;
-    op.insert_at_back(ctx, body);
-    Ok(())
+    put_op(ctx, body, op, order);
+    Ok(op)
 }
 
-/// The first result of the last operation of a block, or nothing where there is none.
-pub fn last_results<D: OpSet>(
-    alloc: Global,
-    ctx: &Context<D>,
-    body: Ptr<BasicBlock>,
-) -> Result<Vec<Value>, Stop>
-    requires { IsLive ctx.now (AnyNode.BasicBlock body) }
-    ensures { IfOk result (λ vs. All (IsValueLive ctx.now) vs.items) }
+/// The first block of an operation that is live.
+pub fn body_of(ctx: &Context<BenchSet>, op: Ptr<Operation>) -> Result<Ptr<BasicBlock>, Stop>
+    ensures { IfOk result (λ block. IsLive ctx.now (AnyNode.BasicBlock block)) }
 {
-    let mut values = Vec::new(alloc);
-    if let Some(last) = body.get_tail(ctx) {
-        if last.get_num_results(ctx) > 0 {
-            values.push(last.get_result(ctx, 0))?;
-        }
+    if !op.is_live(ctx) {
+        return Err(Stop::Refused);
     }
-    Ok(values)
+    let region = op.first_region(ctx).ok_or(Stop::Refused)?;
+    region.get_head(ctx).ok_or(Stop::Refused)
+}
+
+/// The first result of an operation that is live.
+pub fn first_result(ctx: &Context<BenchSet>, op: Ptr<Operation>) -> Result<Value, Stop>
+    ensures { IfOk result (IsValueLive ctx.now) }
+{
+    if !op.is_live(ctx) || op.get_num_results(ctx) == 0 {
+        return Err(Stop::Refused);
+    }
+    Ok(op.get_result(ctx, 0))
+}
+
+/// Refuses a block that is not live.
+pub fn live_block(ctx: &Context<BenchSet>, block: Ptr<BasicBlock>) -> Result<(), Stop>
+    ensures { OnOk result (IsLive ctx.now (AnyNode.BasicBlock block)) }
+{
+    if block.is_live(ctx) {
+        Ok(())
+    } else {
+        Err(Stop::Refused)
+    }
 }

@@ -4,16 +4,21 @@
 #![tactic(auto)]
 
 mod bench;
+mod blocks;
 mod building;
+mod chains;
 mod command;
 mod converting;
-mod folding;
+mod kinds;
+mod naming;
+mod order;
+mod passes;
 mod stop;
-mod sums;
-mod sweeping;
+mod summing;
 mod symbols;
 mod texts;
 mod types;
+mod using;
 mod walking;
 
 use bench::Bench;

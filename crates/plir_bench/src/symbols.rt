@@ -4,18 +4,18 @@ ghost use Rattle.plir_builtin.specs.Agree.{Agrees};
 ghost use Rattle.plir_core.specs.ContextView.{IsLive};
 ghost use Rattle.plir_core.specs.declared.ptr.IRNode.{IRNode as AnyNode};
 
-use crate::building::{build_functions, name_of};
+use crate::building::{body_of, name_of};
+use crate::kinds::BenchSet;
 use crate::stop::Stop;
 use plir_builtin::{SymbolEdit, SymbolTable, SymbolTableCollection};
 use plir_core::{Context, IRNode, Operation, Ptr};
-use plir_data::{BuiltinSet, Identifier};
+use plir_data::Identifier;
 use std::alloc::Global;
-use std::mem::forget;
 
 /// Makes a table of a module's symbols, so many times.
 pub fn make_tables(
     alloc: Global,
-    ctx: &Context<BuiltinSet>,
+    ctx: &Context<BenchSet>,
     root: Ptr<Operation>,
     rounds: u64,
 ) -> Result<u64, Stop>
@@ -29,10 +29,42 @@ pub fn make_tables(
     Ok(made)
 }
 
-/// Looks up the names of so many functions, each of them in so many rounds, and counts what is found.
+/// Looks up the names of so many functions, each of them in so many rounds, and counts what is found. Each name is made
+/// of its text before it is looked up.
+pub fn look_up_texts(
+    alloc: Global,
+    ctx: &Context<BenchSet>,
+    root: Ptr<Operation>,
+    functions: u64,
+    rounds: u64,
+) -> Result<u64, Stop>
+    requires { IsLive ctx.now (AnyNode.Operation root) }
+{
+    let table = SymbolTable::new(alloc, ctx, root)?;
+    let names = list_names(alloc, functions)?;
+    let mut found = 0u64;
+    for _ in 0..rounds {
+        found = found.wrapping_add(count_made(alloc, &table, names.as_slice())?);
+    }
+    Ok(found)
+}
+
+// Makes each name anew and looks it up; counts what is found.
+fn count_made(alloc: Global, table: &SymbolTable, names: &[Identifier]) -> Result<u64, Stop> {
+    let mut found = 0u64;
+    for name in names {
+        let made = Identifier::try_new(alloc, name.as_str())?;
+        if table.lookup(&made).is_some() {
+            found = found.wrapping_add(1);
+        }
+    }
+    Ok(found)
+}
+
+/// The same, where the names are made before.
 pub fn look_up_names(
     alloc: Global,
-    ctx: &Context<BuiltinSet>,
+    ctx: &Context<BenchSet>,
     root: Ptr<Operation>,
     functions: u64,
     rounds: u64,
@@ -66,23 +98,14 @@ fn count_found(table: &SymbolTable, names: &[Identifier]) -> u64 {
     found
 }
 
-/// Builds a module of so many functions in a context of its own, and erases each of them through a table.
-///
-/// The context is not freed.
-pub fn erase_through_table(alloc: Global, functions: u64) -> Result<u64, Stop> {
-    let mut ctx = Context::new(alloc);
-    let end = build_and_erase(alloc, &mut ctx, functions);
-    forget(ctx);
-    end
-}
-
-fn build_and_erase(
+/// Erases the first operations of a module's body through one table of it, each of which nothing uses, and counts them.
+pub fn erase_through_table(
     alloc: Global,
-    ctx: &mut Context<BuiltinSet>,
-    functions: u64,
+    ctx: &mut Context<BenchSet>,
+    root: Ptr<Operation>,
+    number: u64,
 ) -> Result<u64, Stop> {
-    let root = build_functions(alloc, ctx, functions)?;
-    let ops = list_body(alloc, ctx, root, functions)?;
+    let ops = list_body(alloc, ctx, root, number)?;
     let mut table = make_table(alloc, ctx, root)?;
     erase_each(ctx, &mut table, root, ops.as_slice())?;
     Ok(ops.len() as u64)
@@ -90,7 +113,7 @@ fn build_and_erase(
 
 fn make_table(
     alloc: Global,
-    ctx: &Context<BuiltinSet>,
+    ctx: &Context<BenchSet>,
     root: Ptr<Operation>,
 ) -> Result<SymbolTable, Stop>
     ensures of_root { IfOk result (λ t. t.op ≡ root) }
@@ -103,7 +126,7 @@ fn make_table(
 }
 
 fn erase_each(
-    ctx: &mut Context<BuiltinSet>,
+    ctx: &mut Context<BenchSet>,
     table: &mut SymbolTable,
     root: Ptr<Operation>,
     ops: &[Ptr<Operation>],
@@ -119,7 +142,7 @@ fn erase_each(
 
 // Erases a function that nothing uses.
 fn erase_symbol(
-    ctx: &mut Context<BuiltinSet>,
+    ctx: &mut Context<BenchSet>,
     table: &mut SymbolTable,
     root: Ptr<Operation>,
     op: Ptr<Operation>,
@@ -142,7 +165,7 @@ fn erase_symbol(
 /// Erases the first operations of a module's body by one list of edits, and counts those that are done.
 pub fn erase_by_list(
     alloc: Global,
-    ctx: &mut Context<BuiltinSet>,
+    ctx: &mut Context<BenchSet>,
     root: Ptr<Operation>,
     number: u64,
 ) -> Result<u64, Stop> {
@@ -162,15 +185,11 @@ pub fn erase_by_list(
 // At most so many operations of a module's body, from the first on.
 fn list_body(
     alloc: Global,
-    ctx: &Context<BuiltinSet>,
+    ctx: &Context<BenchSet>,
     root: Ptr<Operation>,
     number: u64,
 ) -> Result<Vec<Ptr<Operation>>, Stop> {
-    if !root.is_live(ctx) {
-        return Err(Stop::Refused);
-    }
-    let region = root.first_region(ctx).ok_or(Stop::Refused)?;
-    let body = region.get_head(ctx).ok_or(Stop::Refused)?;
+    let body = body_of(ctx, root)?;
     let mut ops = Vec::new(alloc);
     let mut at = body.get_head(ctx);
     for _ in 0..number {

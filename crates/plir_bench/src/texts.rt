@@ -2,16 +2,17 @@
 ghost use Rattle.plir_core.specs.ContextView.{IsLive};
 ghost use Rattle.plir_core.specs.declared.ptr.IRNode.{IRNode as AnyNode};
 
+use crate::kinds::BenchSet;
 use crate::stop::Stop;
 use plir_core::{Context, Operation, Ptr};
-use plir_data::BuiltinSet;
-use plir_text::{is_printable, print_op, read_op};
+use plir_print::{is_printable, print_op};
+use plir_read::read_op;
 use std::alloc::Global;
 
 /// Prints an operation so many times, and answers the last text.
 pub fn print_root(
     alloc: Global,
-    ctx: &Context<BuiltinSet>,
+    ctx: &Context<BenchSet>,
     root: Ptr<Operation>,
     rounds: u64,
 ) -> Result<String, Stop>
@@ -27,10 +28,10 @@ pub fn print_root(
     Ok(text)
 }
 
-/// Reads a text so many times, and answers how many nodes live then.
+/// Reads a text so many times, and answers how often that was.
 pub fn read_text(
     alloc: Global,
-    ctx: &mut Context<BuiltinSet>,
+    ctx: &mut Context<BenchSet>,
     text: &str,
     rounds: u64,
 ) -> Result<u64, Stop> {
@@ -39,5 +40,5 @@ pub fn read_text(
             return Err(Stop::Refused);
         }
     }
-    Ok(u64::from(ctx.num_live()))
+    Ok(rounds)
 }

@@ -3,9 +3,9 @@ ghost use Rattle.std.specs.Prelude.{◌≡◌};
 ghost use Rattle.plir_core.specs.ContextView.{IsLive};
 ghost use Rattle.plir_core.specs.declared.ptr.IRNode.{IRNode as AnyNode};
 
+use crate::kinds::BenchSet;
 use crate::stop::Stop;
 use plir_core::{Context, IRNode, Operation, Ptr};
-use plir_data::BuiltinSet;
 use plir_walk::WALKCONFIG_PREORDER_FORWARD;
 use plir_walk::interruptible::{WalkResult, walk_advance};
 use plir_walk::laws::lawful_changes;
@@ -13,12 +13,12 @@ use plir_walk::operations::immutable::walk_ops;
 use plir_walk::uninterruptible::{immutable, mutable};
 
 /// Counts the nodes under a root, so many times.
-pub fn walk_nodes(ctx: &Context<BuiltinSet>, root: Ptr<Operation>, rounds: u64) -> u64
+pub fn walk_nodes(ctx: &Context<BenchSet>, root: Ptr<Operation>, rounds: u64) -> u64
     requires { IsLive ctx.now (AnyNode.Operation root) }
 {
     let mut count = 0;
     for _ in 0..rounds {
-        let visit = |_ctx: &Context<BuiltinSet>, count: &mut u64, _node: IRNode| {
+        let visit = |_ctx: &Context<BenchSet>, count: &mut u64, _node: IRNode| {
             *count = count.wrapping_add(1);
         };
         immutable::walk_op(ctx, &mut count, &WALKCONFIG_PREORDER_FORWARD, root, visit);
@@ -27,7 +27,7 @@ pub fn walk_nodes(ctx: &Context<BuiltinSet>, root: Ptr<Operation>, rounds: u64) 
 }
 
 fn count_operation(
-    _ctx: &Context<BuiltinSet>,
+    _ctx: &Context<BenchSet>,
     count: &mut u64,
     _op: Ptr<Operation>,
 ) -> WalkResult<u64> {
@@ -36,7 +36,7 @@ fn count_operation(
 }
 
 /// Counts the operations under a root, so many times.
-pub fn walk_operations(ctx: &Context<BuiltinSet>, root: Ptr<Operation>, rounds: u64) -> u64
+pub fn walk_operations(ctx: &Context<BenchSet>, root: Ptr<Operation>, rounds: u64) -> u64
     requires { IsLive ctx.now (AnyNode.Operation root) }
 {
     let mut count = 0;
@@ -55,7 +55,7 @@ pub fn walk_operations(ctx: &Context<BuiltinSet>, root: Ptr<Operation>, rounds: 
 
 /// Counts the nodes under a root, so many times, by walks whose calls could change what stands below their nodes.
 pub fn walk_mutably(
-    ctx: &mut Context<BuiltinSet>,
+    ctx: &mut Context<BenchSet>,
     root: Ptr<Operation>,
     rounds: u64,
 ) -> Result<u64, Stop> {
@@ -67,15 +67,15 @@ pub fn walk_mutably(
 }
 
 fn walk_once_mutably(
-    ctx: &mut Context<BuiltinSet>,
+    ctx: &mut Context<BenchSet>,
     root: Ptr<Operation>,
     count: &mut u64,
 ) -> Result<(), Stop> {
     if !root.is_live(ctx) {
         return Err(Stop::Refused);
     }
-    lawful_changes::<BuiltinSet>();
-    let visit = |ctx: &mut Context<BuiltinSet>, count: &mut u64, _node: IRNode|
+    lawful_changes::<BenchSet>();
+    let visit = |ctx: &mut Context<BenchSet>, count: &mut u64, _node: IRNode|
         ensures { ctx.new ≡ ctx.old }
     {
         *count = count.wrapping_add(1);

@@ -1,15 +1,12 @@
-use Rattle.std.proofs.Common.{sym, subst}
-use Rattle.plir_core.specs.ContextView.{IsLive}
 use Rattle.plir_core.specs.declared.ptr.IRNode.TheVariants.{BasicBlock}
 use Rattle.plir_bench.proofs.building.add_function.Goals as goal
 
-pub insert_at_back-requires-clause-target_live : goal.insert_at_back-requires-clause-target_live
-insert_at_back-requires-clause-target_live c = c.in_ok-func.ensures.keeps.live (BasicBlock c.args.body) c.requires
+pub put_op-requires-clause-body_live : goal.put_op-requires-clause-body_live
+put_op-requires-clause-body_live c = c.in_ok-func.ensures.keeps.live (BasicBlock c.args.body) c.requires
 
-pub insert_at_back-requires-clause-not_above : goal.insert_at_back-requires-clause-not_above
-insert_at_back-requires-clause-not_above c = c.in_ok-func.ensures.apart (BasicBlock c.args.body) c.requires
+pub put_op-requires-clause-not_above : goal.put_op-requires-clause-not_above
+put_op-requires-clause-not_above c = c.in_ok-func.ensures.apart (BasicBlock c.args.body) c.requires
 
 pub returns : goal.returns
 returns c =
-    subst (λ s. IsLive s (BasicBlock c.args.body)) (sym c.insert_at_back.ensures.after)
-    (c.in_ok-func.ensures.keeps.live (BasicBlock c.args.body) c.requires)
+    c.put_op.ensures (BasicBlock c.args.body) (c.in_ok-func.ensures.keeps.live (BasicBlock c.args.body) c.requires)

@@ -1,6 +1,6 @@
 use Rattle.plir_core.specs.ContextView.{IsLive}
 use Rattle.plir_core.specs.declared.ptr.IRNode.TheVariants.{BasicBlock}
-use Rattle.plir_bench.proofs.converting.build_references.Given as goal
+use Rattle.plir_bench.proofs.using.build_users.Given as goal
 
 -- the body is live
 abbrev pub invariant-loop : goal.invariant-loop

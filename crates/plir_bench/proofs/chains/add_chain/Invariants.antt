@@ -1,6 +1,6 @@
 use Rattle.plir_core.specs.ContextView.{IsLive}
 use Rattle.plir_core.specs.declared.ptr.IRNode.TheVariants.{BasicBlock}
-use Rattle.plir_bench.proofs.sweeping.build_chain.Given as goal
+use Rattle.plir_bench.proofs.chains.add_chain.Given as goal
 
 -- the body is live
 abbrev pub invariant-loop : goal.invariant-loop
