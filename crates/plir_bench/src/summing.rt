@@ -43,8 +43,8 @@ pub fn build_zeros(
     Ok(root)
 }
 
-// Puts so many sums into a block, each of which adds the result of an operation to the one before, and an operation that
-// uses the last.
+// Puts so many sums into a block, each of which adds the result of an operation to the one before, and an operation
+// that uses the last.
 fn add_sums(
     alloc: Global,
     ctx: &mut Context<BenchSet>,

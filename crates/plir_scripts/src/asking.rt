@@ -19,8 +19,8 @@ use plir_data::{GivenNamesAttr, OpSet};
 use std::alloc::Global;
 
 /// Writes what a line asks for: `fresh`, `show NODE`, `get NODE KEY`, `live NODE`, `count`, `number NODE`, `above NODE
-/// NODE`, `unused NODE`, `used VALUE`, `uses VALUE`, `users VALUE`, `branches BLOCK`, `interfaces OP`, `point SIDE NODE`,
-/// `use OP PLACE`, `text TYPE`, `typed VALUE` or `types NODE`.
+/// NODE`, `unused NODE`, `used VALUE`, `uses VALUE`, `users VALUE`, `branches BLOCK`, `interfaces OP`,
+/// `point SIDE NODE`, `use OP PLACE`, `text TYPE`, `typed VALUE` or `types NODE`.
 pub fn ask<D: OpSet>(bench: &mut Bench<D>, line: Line<'_>) -> Result<(), Stop> {
     match line.command {
         "text" | "typed" | "types" => ask_types(bench, line),
