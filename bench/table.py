@@ -1,6 +1,6 @@
 """Measures programs that carry out the commands of the benchmark, and prints one table.
 
-    python3 bench/table.py [--small] [--no-instructions] [--only TEXT] NAME=PROGRAM ..
+    python3 bench/table.py [--small] [--no-instructions] [--no-times] [--only TEXT] NAME=PROGRAM ..
 
 Each row is the difference of two inputs, of which one has more to do: so the start of the process, and what is done
 before, drop out. A time is processor time, the least of several rounds in which all programs take turns. The first
@@ -207,11 +207,13 @@ def head(programs):
 
 
 def measure(row, short, programs, rounds, counts):
-    """Prints the lines of a row; instructions are those of `short`. Answers the programs that were not too slow."""
+    """Prints the lines of a row; instructions are those of `short`, and with no rounds there are no times. Answers the
+    programs that were not too slow."""
     taking = {name: program for name, program in programs.items() if name in row.programs}
     taking = same_counts(row, taking)
-    times, sizes, spent = least(row, taking, rounds)
-    tell(row.name, "ns", times, row, programs)
+    times, sizes, spent = least(row, taking, max(1, rounds))
+    if rounds:
+        tell(row.name, "ns", times, row, programs)
     if counts and short.size <= MOST_COUNTED:
         quick = {name: program for name, program in taking.items() if short is not row or spent[name] < LONGEST_COUNTED}
         tell(row.name, "instructions", counted(short, quick), row, programs)
@@ -228,6 +230,7 @@ def main():
     if not programs:
         sys.exit(__doc__)
     functions, rounds, largest = (10_000, 2, 10_000) if small else (100_000, 5, 1_000_000)
+    rounds = 0 if "--no-times" in words else rounds
     head(programs)
     for row, short in zip(rows(functions, 1), rows(functions, 0.02)):
         if only in row.name:

@@ -7,3 +7,7 @@ pub mod DropSteps
 pub mod OwnKinds
 pub mod Keeping
 pub mod NewBlocks
+pub mod Putting
+pub mod Renamed
+pub mod BlocksWalked
+pub mod Going

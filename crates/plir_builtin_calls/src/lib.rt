@@ -1,17 +1,7 @@
 // SPDX-License-Identifier: Apache-2.0
-//! The calls of scripts on symbol tables and builtin operations, and how such a script is played.
+//! The calls of scripts on builtin operations and their verifiers, a module for each layer, and how such a script is
+//! played.
 #![tactic(auto)]
 
-mod around;
-mod calls;
-mod link_set;
-mod many;
-mod one_collection;
-mod operations;
-mod own_users;
-mod sessions;
-mod symbols;
-mod tables;
-
-pub use calls::play_in;
-pub use own_users::play_own;
+pub mod builtin;
+pub mod verify;

@@ -3,6 +3,9 @@ use Rattle.std.proofs.Common.{◌≡◌, ◌∙◌, ◌++◌, true, true≢false
 use Rattle.std.proofs.Common.{map, option_map}
 use Rattle.std.proofs.lemmas.Option.{none-some}
 use Rattle.plir_store.specs.Table.{is_live_at}
+use Rattle.plir_data.specs.CallSites.{inlined_at}
+use Rattle.plir_data.specs.declared.location.Location.{Location}
+use Rattle.plir_data.specs.declared.location.Location.TheVariants.{Unknown, SrcPos, CallSite}
 use Rattle.plir_core.specs.declared.ptr.IRNode.{IRNode}
 use Rattle.plir_core.specs.declared.ptr.IRNode.TheVariants.{Operation, Region, BasicBlock}
 use Rattle.plir_core.specs.Above.{Reaches}
@@ -47,12 +50,21 @@ map-same : {X : Type 0} (f : X → X) → ((x : X) → f x ≡ x) → (xs : List
 map-same f e [] = refl
 map-same f e (x ∷ xs) = ap (λ y. y ∷ map f xs) (e x) ∙ ap (λ ys. x ∷ ys) (map-same f e xs)
 
+-- what stands in place of no call has the location that it had
+uncalled : (loc : Location) → inlined_at loc Unknown ≡ loc
+uncalled Unknown = refl
+uncalled (SrcPos line column) = refl
+uncalled (CallSite line column call_line call_column) = refl
+
 -- where nothing stands in place of anything, a copy holds the same
 module _ {K A : Type 0} where
   bare-none : (x : Option (OpView K A)) → option_map (bare_under (over no_images no_images)) x ≡ x
   bare-none None = refl
   bare-none (Some o) =
-      ap (λ bs. let r : OpView K A = record o { successors = bs } in Some r) (map-same (λ b. b) (λ b. refl) o.successors)
+      λ i. let r : OpView K A = record o {
+        successors = map-same (λ b. b) (λ b. refl) o.successors i;
+        location = uncalled o.location i;
+      } in Some r
 
   pub bare-same : (m : Images) → m ≡ no_images → (x : Option (OpView K A)) → option_map (bare_under (over m m)) x ≡ x
   bare-same m e x = ap (λ n. option_map (bare_under (over n n)) x) e ∙ bare-none x

@@ -74,4 +74,5 @@ module _ {K A T : Type 0} (s t : ContextView K A T) (root copy : IRNode) (ws : L
         (subst (λ ts. nat_lt v.index (length ts) ≡ true) (same-types v.entity live) l))));
     other_blocks = λ b n. ap (λ z. z.block b) e ∙ ap (λ o. option_or o (m.block b)) (other-blocks t ws no_images b
         (λ w k same. n (subst (IsAncestor s root) (sym same) (h.below w k))));
+    call = ap (λ z. z.call) e;
   }

@@ -18,7 +18,7 @@ use Rattle.plir_core.specs.Held.{IsOpEdited}
 use Rattle.plir_core.specs.Room.{no_node, HaveCome}
 use Rattle.plir_core.specs.RoomLaws.{come_itself, come_still}
 use Rattle.plir_copies.specs.Images.{Images, value_in, block_in, blocks_in}
-use Rattle.plir_copies.specs.Copied.{bare_under, op_under, with_operands_in}
+use Rattle.plir_copies.specs.Copied.{located_in, op_under, with_operands_in, with_successors_in}
 use Rattle.plir_copies.specs.Twins.{AreChanged}
 use Rattle.plir_copies.proofs.Edits.{front, front-next, front-all, half_set}
 
@@ -50,7 +50,7 @@ module _ {K A : Type 0} (m : Images) (xs : List (Ptr BlockKind)) where
       (front-next (block_in m) xs i b at))
 
   pub put-all : (n : ℕ) → n ≡ length xs → (x : Option (OpView K A)) → successors_in x ≡ xs
-      → option_map (half_put n) x ≡ option_map (bare_under m) x
+      → option_map (half_put n) x ≡ option_map (with_successors_in m) x
   put-all n is None e = refl
   put-all n is (Some o) e =
       ap (λ zs. let r : OpView K A = record o { successors = zs } in Some r)
@@ -77,9 +77,10 @@ module _ {K A : Type 0} (m : Images) (xs : List Value) where
   half-list i (Some o) e = ap (front (value_in m) xs i) e
 
 module _ {K A : Type 0} (m : Images) where
-  -- successors after operands
+  -- the location after successors, and those after operands
   pub whole-change : (x : Option (OpView K A))
-      → option_map (bare_under m) (option_map (with_operands_in m) x) ≡ option_map (op_under m) x
+      → option_map (located_in m) (option_map (with_successors_in m) (option_map (with_operands_in m) x))
+      ≡ option_map (op_under m) x
   whole-change None = refl
   whole-change (Some o) = refl
 
@@ -120,28 +121,30 @@ module _ {K A T : Type 0} (m : Images) where
   }
 
   -- an operation
-  pub changed-op : (s t u : ContextView K A T) (q : Ptr OperationKind) → IsOpEdited s t q (with_operands_in m)
-      → IsOpEdited t u q (bare_under m) → HaveCome s.nodes t.nodes no_node → HaveCome t.nodes u.nodes no_node
-      → AreChanged s u m (Operation q ∷ [])
-  changed-op s t u q d e c o = record {
+  pub changed-op : (s t u v : ContextView K A T) (q : Ptr OperationKind) → IsOpEdited s t q (with_operands_in m)
+      → IsOpEdited t u q (with_successors_in m) → IsOpEdited u v q (located_in m) → HaveCome s.nodes v.nodes no_node
+      → AreChanged s v m (Operation q ∷ [])
+  changed-op s t u v q d e f come = record {
     keeps = record {
-      live = λ n. e.keeps.live n ∙ d.keeps.live n;
-      given = λ n. e.keeps.given n ∙ d.keeps.given n;
-      children = λ n. e.keeps.children n ∙ d.keeps.children n;
-      parents = λ n. e.keeps.parents n ∙ d.keeps.parents n;
-      types = e.keeps.types ∙ d.keeps.types;
-      limit = e.keeps.limit ∙ d.keeps.limit;
+      live = λ n. f.keeps.live n ∙ e.keeps.live n ∙ d.keeps.live n;
+      given = λ n. f.keeps.given n ∙ e.keeps.given n ∙ d.keeps.given n;
+      children = λ n. f.keeps.children n ∙ e.keeps.children n ∙ d.keeps.children n;
+      parents = λ n. f.keeps.parents n ∙ e.keeps.parents n ∙ d.keeps.parents n;
+      types = f.keeps.types ∙ e.keeps.types ∙ d.keeps.types;
+      limit = f.keeps.limit ∙ e.keeps.limit ∙ d.keeps.limit;
     };
-    none_come = come_still s.nodes t.nodes u.nodes no_node c o;
+    none_come = come;
     ops = λ p h. elim h [
-      | inl x ↦ (let f : q ≡ p = cc in subst (λ z. op_at u z ≡ option_map (op_under m) (op_at s z)) f
-          (e.held ∙ ap (option_map (bare_under m)) d.held ∙ whole-change m (op_at s q)))
+      | inl x ↦ (let is : q ≡ p = cc in subst (λ z. op_at v z ≡ option_map (op_under m) (op_at s z)) is
+          (f.held ∙ ap (option_map (located_in m)) (e.held ∙ ap (option_map (with_successors_in m)) d.held)
+          ∙ whole-change m (op_at s q)))
       | inr z ↦ absurd z
     ];
     others = λ p l n.
         let differs : p ≡ q → ⊥ = λ x. n (inl (ap Operation (sym x))) in
-        e.ops p (d.keeps.live (Operation p) ∙ l) differs ∙ d.ops p l differs;
-    blocks = λ b. e.blocks b ∙ d.blocks b;
+        let kept = d.keeps.live (Operation p) ∙ l in
+        f.ops p (e.keeps.live (Operation p) ∙ kept) differs ∙ e.ops p kept differs ∙ d.ops p l differs;
+    blocks = λ b. f.blocks b ∙ e.blocks b ∙ d.blocks b;
   }
 
   -- one node after others

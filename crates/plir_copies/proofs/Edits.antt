@@ -4,6 +4,7 @@ use Rattle.std.proofs.Common.{None}
 use Rattle.std.proofs.Common.{refl, sym, ap, subst, ◌∙◌, option_map}
 use Rattle.std.specs.Prelude.{slice_get, slice_set}
 use Rattle.std.proofs.lemmas.Option.{same_Some, none-some}
+use Rattle.plir_data.specs.CallSites.{inlined_at}
 use Rattle.plir_core.specs.declared.value.Value.{Value}
 use Rattle.plir_core.specs.Contents.{OpView}
 use Rattle.plir_core.specs.ContextView.{operands_in, results_in}
@@ -79,12 +80,13 @@ module _ {K A : Type 0} (m : Images) where
   bare-operands None = refl
   bare-operands (Some o) = refl
 
-  -- operands after successors
-  pub bare-whole : (n : Images) → n.block ≡ m.block → (x : Option (OpView K A))
+  -- operands after successors and the location
+  pub bare-whole : (n : Images) → n.block ≡ m.block → n.call ≡ m.call → (x : Option (OpView K A))
       → option_map (with_operands_in m) (option_map (bare_under n) x) ≡ option_map (op_under m) x
-  bare-whole n e None = refl
-  bare-whole n e (Some o) =
-      ap (λ f. let r : Images = record { value = m.value; block = f } in let w : OpView K A = record o {
+  bare-whole n e d None = refl
+  bare-whole n e d (Some o) =
+      λ i. let r : Images = record { value = m.value; block = e i; call = d i } in let w : OpView K A = record o {
         operands = values_in m o.operands;
         successors = blocks_in r o.successors;
-      } in Some w) e
+        location = inlined_at o.location r.call;
+      } in Some w

@@ -65,6 +65,7 @@ module _ (m : Images) (e f : DefiningEntity) where
   block-over b c n = λ j. record {
     value = λ v. (values-over n j).value v;
     block = λ x. at x (same_ptr b x) j;
+    call = m.call;
   }
     where
       at : (x : Ptr BlockKind) (t : Bool) → option_or (cond t (Some c) None) (m.block x) ≡ cond t (Some c) (m.block x)

@@ -1,6 +1,7 @@
 -- What copies of operations hold.
 use Rattle.std.specs.Prelude.{ℕ, List, Bool, ◌&&◌, Some, cond, nat_lt}
 use Rattle.plir_data.specs.AttrView.{AttrView}
+use Rattle.plir_data.specs.CallSites.{inlined_at}
 use Rattle.plir_core.specs.declared.ptr.Ptr.{Ptr}
 use Rattle.plir_core.specs.declared.ptr.BasicBlock.{BasicBlock as BlockKind}
 use Rattle.plir_core.specs.declared.value.Value.{Value}
@@ -26,17 +27,29 @@ with_values_of m e f n = record m { value = λ v. cond (is_among_first e n v) (S
 abbrev pub with_block_of : Images → (b c : Ptr BlockKind) → ℕ → Images
 with_block_of m b c n = with_block (with_values_of m (Block b) (Block c) n) b c
 
--- what the copy of an operation holds that holds o: the same, but what stands in place of operands and successors
+-- What the copy of an operation holds that holds o: the same, but what stands in place of operands and successors; and
+-- where it was written, with the place of the call in place of which it stands.
 abbrev pub op_under : {K A : Type 0} → Images → OpView K A → OpView K A
-op_under m o = record o { operands = values_in m o.operands; successors = blocks_in m o.successors }
+op_under m o = record o {
+  operands = values_in m o.operands;
+  successors = blocks_in m o.successors;
+  location = inlined_at o.location m.call;
+}
 
 -- the same, but with the operands that it holds itself
 abbrev pub bare_under : {K A : Type 0} → Images → OpView K A → OpView K A
-bare_under m o = record o { successors = blocks_in m o.successors }
+bare_under m o = record o { successors = blocks_in m o.successors; location = inlined_at o.location m.call }
 
--- and with what stands in place of those
+-- what an operation holds, with what stands in place of its operands, with what stands in place of its successors, and
+-- with the location of a copy
 abbrev pub with_operands_in : {K A : Type 0} → Images → OpView K A → OpView K A
 with_operands_in m o = record o { operands = values_in m o.operands }
+
+abbrev pub with_successors_in : {K A : Type 0} → Images → OpView K A → OpView K A
+with_successors_in m o = record o { successors = blocks_in m o.successors }
+
+abbrev pub located_in : {K A : Type 0} → Images → OpView K A → OpView K A
+located_in m o = record o { location = inlined_at o.location m.call }
 
 -- what a block holds, with other attributes
 abbrev pub with_attributes : {A : Type 0} → List (List ℕ × AttrView A) → BlockView A → BlockView A

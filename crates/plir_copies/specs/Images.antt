@@ -1,7 +1,9 @@
--- What stands in place of values and blocks.
+-- What stands in place of values and blocks, and in place of which call copies stand.
 use Rattle.std.specs.Prelude.{◌≡◌, List, map, Option, Some, None, cond}
 use Rattle.std.specs.Option.{option_or, unwrap_or}
 use Rattle.std.specs.HashMap.{get}
+use Rattle.plir_data.specs.declared.location.Location.{Location}
+use Rattle.plir_data.specs.declared.location.Location.TheVariants.{Unknown}
 use Rattle.plir_core.specs.declared.ptr.Ptr.{Ptr}
 use Rattle.plir_core.specs.declared.ptr.BasicBlock.{BasicBlock as BlockKind}
 use Rattle.plir_core.specs.declared.ptr.IRNode.TheVariants.{BasicBlock}
@@ -10,18 +12,24 @@ use Rattle.plir_core.specs.SameValue.{same_ptr, same_value}
 use Rattle.plir_core.specs.ContextView.{ContextView, IsLive, IsValueLive}
 use Rattle.plir_copies.specs.declared.value_map.ValueMap.{ValueMap}
 
--- What was put in place of each value and of each block, if anything was.
+-- What was put in place of each value and of each block, if anything was; and where the call was written in place of
+-- which copies stand: nowhere, where they stand in place of none.
 pub record Images : Type 0 where
   pub value : Value → Option Value
   pub block : Ptr BlockKind → Option (Ptr BlockKind)
+  pub call : Location
 
--- what a map has put in place of values and blocks
+-- what a map has put in place of values and blocks, and the call that it is for
 abbrev pub images : ValueMap → Images
-images m = record { value = get same_value m.values; block = get same_ptr m.blocks }
+images m = record { value = get same_value m.values; block = get same_ptr m.blocks; call = m.call }
 
--- nothing stands in place of anything
+-- nothing stands in place of anything, of no call either
 abbrev pub no_images : Images
-no_images = record { value = λ v. None; block = λ b. None }
+no_images = record { value = λ v. None; block = λ b. None; call = Unknown }
+
+-- copies stand in place of a call that was written here; all else is as before
+abbrev pub for_call : Images → Location → Images
+for_call m loc = record m { call = loc }
 
 -- the value w stands in place of v; all else is as before
 abbrev pub with_value : Images → Value → Value → Images
@@ -45,11 +53,12 @@ values_in m vs = map (value_in m) vs
 abbrev pub blocks_in : Images → List (Ptr BlockKind) → List (Ptr BlockKind)
 blocks_in m bs = map (block_in m) bs
 
--- what m has put in place counts, and else what n has
+-- what m has put in place counts, and else what n has; copies stand in place of the call of n
 abbrev pub over : Images → Images → Images
 over m n = record {
   value = λ v. option_or (m.value v) (n.value v);
   block = λ b. option_or (m.block b) (n.block b);
+  call = n.call;
 }
 
 -- what was put in place of values and blocks is live

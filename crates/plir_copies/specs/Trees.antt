@@ -37,7 +37,8 @@ value_copy c v = record { entity = entity_copy c v.entity; index = v.index }
 
 module _ {K A T : Type 0} (s t : ContextView K A T) (c : Copies) (m : Images) where
   -- What the copy of a node holds in t: of an operation what that holds in s, but for what stands in place of its
-  -- operands and successors; of a block what that holds. A region holds nothing of its own.
+  -- operands and successors, and for the call in place of which it stands; of a block what that holds. A region holds
+  -- nothing of its own.
   abbrev pub HoldsTheSame : IRNode → Type 0
   HoldsTheSame (Operation p) = op_at t (c.op p) ≡ option_map (op_under m) (op_at s p)
   HoldsTheSame (Region p) = Unit {0}
@@ -56,7 +57,7 @@ module _ {K A T : Type 0} (s t : ContextView K A T) (c : Copies) (m : Images) wh
   IsTreeCopied root = (n : IRNode) → IsAncestor s root n → IsCopied n
 
 -- Behind a copy of the tree under a root, a map that was m has become n: each value and each block of the tree has been
--- put in place as its copy, and all else is as it was.
+-- put in place as its copy, and all else is as it was, the call too in place of which copies stand.
 pub record HoldsCopies {K A T : Type 0} (s : ContextView K A T) (root : IRNode) (c : Copies) (m n : Images) : Type 0 where
   pub values : (v : Value) → IsAncestor s root (entity_node v.entity) → IsValueLive s v →
       n.value v ≡ Some (value_copy c v)
@@ -64,6 +65,7 @@ pub record HoldsCopies {K A T : Type 0} (s : ContextView K A T) (root : IRNode) 
   pub other_values : (v : Value) → (IsAncestor s root (entity_node v.entity) → IsValueLive s v → ⊥) →
       n.value v ≡ m.value v
   pub other_blocks : (b : Ptr BlockKind) → (IsAncestor s root (BasicBlock b) → ⊥) → n.block b ≡ m.block b
+  pub call : n.call ≡ m.call
 
 -- From s to t the tree under `root` was copied, its copy is the tree under `copy`, and a map has become n that was m.
 pub record IsCopyOfTree {K A T : Type 0} (s t : ContextView K A T) (root copy : IRNode) (m n : Images) : Type 0 where

@@ -132,7 +132,7 @@ with_twins s m [] = m
 with_twins s m (w ∷ ws) = with_twins s (with_twin s m w.node w.copy) ws
 
 -- From s to t each operation of a list has come to hold what it held, but for what stands in place of its operands and
--- successors, and nothing else has changed.
+-- successors, and the call in place of which it stands, and nothing else has changed.
 pub record AreChanged {K A T : Type 0} (s t : ContextView K A T) (m : Images) (ns : List IRNode) : Type 0 where
   pub keeps : KeepsNodes s t
   pub none_come : HaveCome s.nodes t.nodes no_node

@@ -20,7 +20,7 @@ use plir_data::{Memory, OpSet};
 use std::alloc::Global;
 
 /// An operation in no block that holds what another one holds, but for what stands in place of its successors in two
-/// maps, of which the first counts. It has no region.
+/// maps, of which the first counts, and for the call of the second one in place of which it stands. It has no region.
 pub(crate) fn copy_bare<D: OpSet>(
     alloc: Global,
     ctx: &mut Context<D>,
@@ -44,7 +44,7 @@ pub(crate) fn copy_bare<D: OpSet>(
 {
     ctx.stands();
     let kind = op.kind(ctx);
-    let location = op.loc(ctx);
+    let location = op.loc(ctx).inlined_at(map.call());
     let types = result_types(alloc, ctx, op)?;
     let operands = operands(alloc, ctx, op)?;
     let successors = successors_under(alloc, ctx, here, map, op)?;
@@ -121,10 +121,11 @@ fn map_results_in_whole<D: OpSet>(
     Ok(())
 }
 
-/// A copy of an operation without what stands below it, in no block: the same kind, result types, attributes and
-/// location, and what stands in place of its operands and successors in a map. Its results are put in place of those of
-/// the operation, and count for operands too. `TooManyNodes` comes only where there is no room for an operation. After
-/// a refusal no live node has changed, and the map is as before.
+/// A copy of an operation without what stands below it, in no block: the same kind, result types and attributes, and
+/// what stands in place of its operands and successors in a map. Its location is the operation's, with the place of the
+/// call in place of which copies stand, if the map has one. Its results are put in place of those of the operation, and
+/// count for operands too. `TooManyNodes` comes only where there is no room for an operation. After a refusal no live
+/// node has changed, and the map is as before.
 pub fn clone_op_into<D: OpSet>(
     alloc: Global,
     ctx: &mut Context<D>,

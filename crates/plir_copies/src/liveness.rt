@@ -1,6 +1,7 @@
 //! Whether what a map has put in place of values and blocks is live.
 ghost use Rattle.std.specs.Prelude.{◌≡◌, ◌↔◌, IsTrue, Some};
 ghost use Rattle.std.specs.HashMap.{get};
+ghost use Rattle.plir_data.specs.declared.location.Location.{Location as AnyLocation};
 ghost use Rattle.plir_core.specs.ContextView.{ContextView, IsLive, IsValueLive};
 ghost use Rattle.plir_core.specs.Made.{KeepsLive};
 ghost use Rattle.plir_core.specs.SameValue.{same_ptr, same_value};
@@ -8,7 +9,8 @@ ghost use Rattle.plir_core.specs.declared.ptr.BasicBlock.{BasicBlock as BlockKin
 ghost use Rattle.plir_core.specs.declared.ptr.IRNode.{IRNode as AnyNode};
 ghost use Rattle.plir_core.specs.declared.ptr.Ptr.{Ptr as AnyPtr};
 ghost use Rattle.plir_core.specs.declared.value.Value.{Value as AnyValue};
-ghost use Rattle.plir_copies.specs.Images.{AreImagesLive, Images, images, no_images, with_block, with_value};
+ghost use Rattle.plir_copies.specs.Images.{AreImagesLive, Images, for_call, images, no_images, with_block};
+ghost use Rattle.plir_copies.specs.Images.{with_value};
 
 use crate::value_map::ValueMap;
 use plir_core::{BasicBlock, Context, Ptr, Value};
@@ -57,14 +59,16 @@ impl ValueMap {
     }
 }
 
-/// What is put in place of values and blocks stays live where live ones are put there, and where what was live stays
-/// so.
+/// What is put in place of values and blocks stays live where live ones are put there, whatever call copies stand in
+/// place of, and where what was live stays so.
 pub fn images_stay_live<D: OpSet>()
     ensures none { (s : ContextView D.Kind D.Attr D.Ty) → AreImagesLive s no_images }
     ensures value { (s : ContextView D.Kind D.Attr D.Ty) (m : Images) (v w : AnyValue) → AreImagesLive s m →
         IsValueLive s w → AreImagesLive s (with_value m v w) }
     ensures block { (s : ContextView D.Kind D.Attr D.Ty) (m : Images) (b c : AnyPtr BlockKind) → AreImagesLive s m →
         IsLive s (AnyNode.BasicBlock c) → AreImagesLive s (with_block m b c) }
+    ensures call { (s : ContextView D.Kind D.Attr D.Ty) (m : Images) (loc : AnyLocation) → AreImagesLive s m →
+        AreImagesLive s (for_call m loc) }
     ensures kept { (s t : ContextView D.Kind D.Attr D.Ty) (m : Images) → KeepsLive s.nodes t.nodes →
         AreImagesLive s m → AreImagesLive t m }
 {}

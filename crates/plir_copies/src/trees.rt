@@ -16,7 +16,7 @@ ghost use Rattle.plir_core.specs.declared.ptr.Region.{Region as RegionKind};
 ghost use Rattle.plir_core.specs.Room.{HaveCome, IsFullFor, no_node, one_block, one_op, one_region};
 ghost use Rattle.plir_store.specs.Members.{Distinct, Has};
 ghost use Rattle.plir_copies.specs.Images.{AreImagesLive, images, no_images, over};
-ghost use Rattle.plir_copies.specs.Copied.{bare_under, with_operands_in};
+ghost use Rattle.plir_copies.specs.Copied.{located_in, with_operands_in, with_successors_in};
 ghost use Rattle.plir_copies.specs.Room.{count_of, one_like};
 ghost use Rattle.plir_copies.specs.Room.{tree_count};
 ghost use Rattle.plir_copies.specs.Trees.{IsCopyOfTree};
@@ -330,7 +330,7 @@ fn change_operands<D: OpSet>(ctx: &mut Context<D>, map: &ValueMap, op: Ptr<Opera
 fn change_successors<D: OpSet>(ctx: &mut Context<D>, map: &ValueMap, op: Ptr<Operation>)
     requires live { IsLive ctx.old (AnyNode.Operation op) }
     requires images_live { AreImagesLive ctx.old (images map.now) }
-    ensures edited { IsOpEdited ctx.old ctx.new op (bare_under (images map.now)) }
+    ensures edited { IsOpEdited ctx.old ctx.new op (with_successors_in (images map.now)) }
     ensures none_come { HaveCome ctx.old.nodes ctx.new.nodes no_node }
     ensures whole { IsWellFormed D.attr_handles ctx.new }
 {
@@ -342,7 +342,20 @@ fn change_successors<D: OpSet>(ctx: &mut Context<D>, map: &ValueMap, op: Ptr<Ope
     }
 }
 
-// Puts in place of the operands and successors of a node, if it is an operation, what stands in their place in a map.
+// Gives an operation the location of a copy that stands in place of the call of a map.
+fn change_location<D: OpSet>(ctx: &mut Context<D>, map: &ValueMap, op: Ptr<Operation>)
+    requires { IsLive ctx.old (AnyNode.Operation op) }
+    ensures edited { IsOpEdited ctx.old ctx.new op (located_in (images map.now)) }
+    ensures none_come { HaveCome ctx.old.nodes ctx.new.nodes no_node }
+    ensures whole { IsWellFormed D.attr_handles ctx.new }
+{
+    op_edits_keep_the_rest(ctx, op);
+    let location = op.loc(ctx);
+    op.set_loc(ctx, location.inlined_at(map.call()));
+}
+
+// Puts in place of the operands and successors of a node, if it is an operation, what stands in their place in a map,
+// and gives it the location of a copy that stands in place of the map's call.
 fn change_copy<D: OpSet>(ctx: &mut Context<D>, map: &ValueMap, node: IRNode)
     requires live { IsLive ctx.old node }
     requires images_live { AreImagesLive ctx.old (images map.now) }
@@ -355,6 +368,7 @@ fn change_copy<D: OpSet>(ctx: &mut Context<D>, map: &ValueMap, node: IRNode)
         IRNode::Operation(op) => {
             change_operands(ctx, map, op);
             change_successors(ctx, map, op);
+            change_location(ctx, map, op);
         }
         IRNode::BasicBlock(_) => {}
         IRNode::Region(_) => {}
@@ -494,11 +508,12 @@ fn clone_node_into<D: OpSet>(
 }
 
 /// A copy of an operation with all that stands below it, in no block: the same tree, in which each operation holds what
-/// stands in place of its operands and successors in the map, and all else as it was. In the map the results,
-/// arguments and blocks of the copy are put in place of those of the tree first, and so they count wherever they are
-/// used, before or behind what they come from. It is refused where memory is wanting, or room for as many nodes as the
-/// tree has, which the context had before: `TooManyNodes` comes only where it had none, and where a copy is made it had
-/// some, of which that is taken. After a refusal no live node has changed, and the map is as before.
+/// stands in place of its operands and successors in the map, and all else as it was; its location has the place of the
+/// call in place of which copies stand, if the map has one. In the map the results, arguments and blocks of the copy
+/// are put in place of those of the tree first, and so they count wherever they are used, before or behind what they
+/// come from. It is refused where memory is wanting, or room for as many nodes as the tree has, which the context had
+/// before: `TooManyNodes` comes only where it had none, and where a copy is made it had some, of which that is taken.
+/// After a refusal no live node has changed, and the map is as before.
 pub fn clone_tree_into<D: OpSet>(
     alloc: Global,
     ctx: &mut Context<D>,

@@ -2,30 +2,48 @@
 ghost use Rattle.std.specs.Prelude.{◌≡◌, ◌≤◌, OnOk, OnErr};
 ghost use Rattle.std.specs.HashMap.{get, hash_map_len, spare};
 ghost use Rattle.std.specs.Option.{option_or};
-ghost use Rattle.plir_copies.specs.Images.{block_in, images, no_images, over, value_in, with_block, with_value};
+ghost use Rattle.plir_copies.specs.Images.{block_in, for_call, images, no_images, over, value_in, with_block};
+ghost use Rattle.plir_copies.specs.Images.{with_value};
 
 use plir_core::{BasicBlock, Ptr, Value};
-use plir_data::Memory;
+use plir_data::{Location, Memory};
 use std::alloc::Global;
 use std::collections::HashMap;
 use std::hash::Hash;
 
-/// What stands in place of values and blocks. One that nothing was put in place of stands for itself.
+/// What stands in place of values and blocks, and where the call was written in place of which copies stand, if they
+/// stand in place of one. A value or a block that nothing was put in place of stands for itself.
 #[derive(Drop)]
 pub struct ValueMap {
     pub(crate) values: HashMap<Value, Value>,
     pub(crate) blocks: HashMap<Ptr<BasicBlock>, Ptr<BasicBlock>>,
+    pub(crate) call: Location,
 }
 
 impl ValueMap {
-    /// A map in which each value and each block stands for itself.
+    /// A map in which each value and each block stands for itself, and copies stand in place of no call.
     pub fn new(alloc: Global) -> ValueMap
         ensures { images result ≡ no_images }
     {
         ValueMap {
             values: HashMap::new(alloc),
             blocks: HashMap::new(alloc),
+            call: Location::Unknown,
         }
+    }
+
+    /// Says that copies stand in place of a call that was written here: their locations tell it then.
+    pub fn set_call(&mut self, call: Location)
+        ensures { images self.new ≡ for_call (images self.old) call }
+    {
+        self.call = call;
+    }
+
+    /// Where the call was written in place of which copies stand; unknown, where they stand in place of none.
+    pub fn call(&self) -> Location
+        ensures { result ≡ (images self.now).call }
+    {
+        self.call
     }
 
     /// Puts a value in place of another one. After a refusal all is as before.
@@ -74,8 +92,8 @@ impl ValueMap {
         self.find_block(from).unwrap_or(from)
     }
 
-    /// Puts all that another map has put in place of values and blocks in place of them here too. After a refusal all
-    /// is as before.
+    /// Puts all that another map has put in place of values and blocks in place of them here too; copies stand in place
+    /// of the call of this map, as before. After a refusal all is as before.
     pub fn extend(&mut self, other: &ValueMap) -> Result<(), Memory>
         ensures ok { OnOk result (images self.new ≡ over (images other.now) (images self.old)) }
         ensures err { OnErr result (images self.new ≡ images self.old) }

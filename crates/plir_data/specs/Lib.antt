@@ -30,6 +30,7 @@
 --   PartSeen     part_view: an `OwnPart` as a Part
 --   Unrolled     unrolled: what is made of a type with all that its handles name
 --   TypeTree, TypeText   tree_of, type_text: a type as a whole, and its text
+--   CallSites   inlined_at: the location of a copy that stands in place of a call
 --   NamesLent, EntryLent   LendsNames, LendsEntry: what becomes of given names, and of a dictionary's entry, that are
 --   lent
 --   Laws         IsReordered, OrderIsNotSeen, IsDictOfItself: laws of dictionaries; IsMadeOfTrees: a law of types
@@ -62,6 +63,7 @@ pub mod AttrLive
 pub mod LiveLaws
 pub mod AttrVerify
 pub mod Laws
+pub mod CallSites
 pub mod NamesLent
 pub mod EntryLent
 pub mod TextParts

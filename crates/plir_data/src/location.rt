@@ -1,4 +1,6 @@
 //! Places in a source text, and the refusals of verifiers.
+ghost use Rattle.std.specs.Prelude.{◌≡◌};
+ghost use Rattle.plir_data.specs.CallSites.{inlined_at, place_of};
 
 use crate::memory::Memory;
 use std::error::Error as StdError;
@@ -10,7 +12,48 @@ pub enum Location {
     /// No place is known.
     Unknown,
     /// A place in a text, both numbers counted from 1.
-    SrcPos { line: u32, column: u32 },
+    SrcPos {
+        line: u32,
+        column: u32,
+    },
+    /// A place in a text, of which a copy stands in place of a call, and the place of that call.
+    CallSite {
+        line: u32,
+        column: u32,
+        call_line: u32,
+        call_column: u32,
+    },
+}
+
+impl Location {
+    // Where something was written, as line and column, if that is known.
+    fn place(self) -> Option<(u32, u32)>
+        ensures { result ≡ place_of self }
+    {
+        match self {
+            Location::Unknown => None,
+            Location::SrcPos { line, column } => Some((line, column)),
+            Location::CallSite { line, column, .. } => Some((line, column)),
+        }
+    }
+
+    /// The location of a copy of what is here, where the copy stands in place of a call: the place at which it was
+    /// written, and that at which the call was written. Where either is not known, the location as it is.
+    pub fn inlined_at(self, call: Location) -> Location
+        ensures { result ≡ inlined_at self call }
+    {
+        match (self.place(), call.place()) {
+            (Some((line, column)), Some((call_line, call_column))) => {
+                Location::CallSite {
+                    line,
+                    column,
+                    call_line,
+                    call_column,
+                }
+            }
+            _ => self,
+        }
+    }
 }
 
 /// Why a verifier did not accept.

@@ -2,7 +2,7 @@
 use Rattle.std.specs.Prelude.{◌≡◌, ℕ, List, [], ◌++◌, codes, Option, Some, None}
 use Rattle.std.specs.Fmt.{decimal}
 use Rattle.plir_data.specs.declared.location.Location.{Location}
-use Rattle.plir_data.specs.declared.location.Location.TheVariants.{SrcPos, Unknown}
+use Rattle.plir_data.specs.declared.location.Location.TheVariants.{CallSite, SrcPos, Unknown}
 use Rattle.plir_core.specs.declared.ptr.Ptr.{Ptr}
 use Rattle.plir_core.specs.declared.ptr.Operation.{Operation as OperationKind}
 use Rattle.plir_core.specs.declared.ptr.IRNode.{IRNode}
@@ -11,10 +11,14 @@ use Rattle.plir_core.specs.ContextView.{ContextView, location_of}
 use Rattle.plir_driver.specs.NodeLines.{AreNodesPut}
 use Rattle.plir_pictures.specs.NodeNames.{op_name}
 
--- what stands behind the name of an operation: its place, if that is known
+-- what stands behind the name of an operation: its place, if that is known, and that of the call in place of which it
+-- stands
 abbrev pub location_behind : Location → List ℕ
 location_behind Unknown = []
 location_behind (SrcPos line column) = codes " at " ++ (decimal line ++ (codes ":" ++ decimal column))
+location_behind (CallSite line column call_line call_column) =
+    codes " at " ++ (decimal line ++ (codes ":" ++ (decimal column ++ (codes " called at " ++ (decimal call_line
+    ++ (codes ":" ++ decimal call_column))))))
 
 abbrev pub behind_name : Option Location → List ℕ
 behind_name None = []

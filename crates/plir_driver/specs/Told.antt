@@ -2,16 +2,16 @@
 use Rattle.std.specs.Prelude.{◌≡◌, ◌⊎◌, ℕ, List, [], ◌++◌, codes, cond, Option, Some, None}
 use Rattle.std.specs.Fmt.{decimal}
 use Rattle.std.specs.Str.{is_utf8}
-use Rattle.plir_data.specs.declared.location.Location.TheVariants.{SrcPos}
+use Rattle.plir_data.specs.CallSites.{place_of as written_at}
 use Rattle.plir_driver.specs.declared.stop.Stop.{Stop}
 use Rattle.plir_driver.specs.declared.stop.Stop.TheVariants.{Unread, Refused}
 use Rattle.plir_driver.specs.Excerpt.{excerpt_of}
 
 module _ {E : Type 0} where
-  -- the line and the column of what is refused, if they are known
+  -- the line and the column at which what is refused was written, if they are known
   abbrev pub place_of : Stop E → Option (ℕ × ℕ)
   place_of (Unread line column fault) = Some (line, column)
-  place_of (Refused (SrcPos line column) e) = Some (line, column)
+  place_of (Refused loc e) = written_at loc
   place_of _ = None
 
 -- the line, and a caret below the character, where the bytes are a text

@@ -14,12 +14,21 @@ use plir_walk::interruptible::{WalkResult, walk_advance, walk_break};
 use std::alloc::{AllocError, Global};
 use std::ops::ControlFlow;
 
-// Puts a place in a text, if it is known.
+// Puts a place in a text, if it is known, and where a call was written in place of which a copy stands.
 fn put_location(text: &mut String, location: Location) -> Result<(), AllocError>
     ensures { OnOk result (string_bytes text.new ≡ string_bytes text.old ++ location_behind location) }
 {
     match location {
         Location::SrcPos { line, column } => write!(text, " at {line}:{column}"),
+        Location::CallSite {
+            line,
+            column,
+            call_line,
+            call_column,
+        } => write!(
+            text,
+            " at {line}:{column} called at {call_line}:{call_column}"
+        ),
         Location::Unknown => Ok(()),
     }
 }
@@ -80,7 +89,8 @@ fn put_lines<D: OpSet>(
 }
 
 /// A line for each operation at or under an operation, parents first: its name, and its place in the text that it was
-/// read from, if that is known.
+/// read from, if that is known, as ` at 3:5`; where it stands in place of a call, that call's too, as
+/// ` at 3:5 called at 9:5`.
 pub fn list_locations<D: OpSet>(
     alloc: Global,
     ctx: &Context<D>,

@@ -77,7 +77,8 @@ fn excerpt_at(alloc: Global, bytes: &[u8], line: usize, column: usize) -> Result
     }
 }
 
-/// Where a refusal stands in the text, if that is known.
+/// Where a refusal stands in the text, if that is known: of an operation that stands in place of a call, where it was
+/// written.
 pub fn place_of<E: Error>(stop: &Stop<E>) -> Option<(usize, usize)>
     ensures { result ≡ place_of stop.now }
 {
@@ -85,6 +86,10 @@ pub fn place_of<E: Error>(stop: &Stop<E>) -> Option<(usize, usize)>
         Stop::Unread { line, column, .. } => Some((*line, *column)),
         Stop::Refused {
             loc: Location::SrcPos { line, column },
+            ..
+        } => Some((*line as usize, *column as usize)),
+        Stop::Refused {
+            loc: Location::CallSite { line, column, .. },
             ..
         } => Some((*line as usize, *column as usize)),
         _ => None,

@@ -1,22 +1,6 @@
 // SPDX-License-Identifier: Apache-2.0
-//! The calls of scripts on segments, branches, calls and region edges, and how such a script is played.
+//! The calls of scripts on the flow of control, a module for each layer, and how such a script is played.
 #![tactic(auto)]
 
-mod branching;
-mod call_ops;
-mod calling;
-mod calls;
-mod cond_branch;
-mod edge_reading;
-mod edge_scripts;
-mod edged;
-mod edging;
-mod editing;
-mod grouped;
-mod grouping;
-mod looping;
-mod refusing;
-mod switch;
-
-pub use calls::{play_branches, play_calls, play_segments, play_switches};
-pub use edge_scripts::play_edges;
+pub mod flow;
+pub mod flow_sets;

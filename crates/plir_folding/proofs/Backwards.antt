@@ -6,6 +6,7 @@ use Rattle.std.proofs.lemmas.List.Elements.{All-head, All-tail}
 use Rattle.std.specs.Prelude.{All}
 use Rattle.std.specs.Cmp.{first_so}
 use Rattle.plir_store.specs.Members.{Has}
+use Rattle.plir_data.specs.declared.location.Location.{Location}
 use Rattle.plir_core.specs.declared.ptr.Ptr.{Ptr}
 use Rattle.plir_core.specs.declared.ptr.Operation.{Operation as OperationKind}
 use Rattle.plir_core.specs.declared.ptr.IRNode.TheVariants.{Operation}
@@ -14,12 +15,12 @@ use Rattle.plir_core.specs.declared.value.DefiningEntity.{DefiningEntity}
 use Rattle.plir_core.specs.declared.value.DefiningEntity.TheVariants.{Op, Block}
 use Rattle.plir_core.specs.Contents.{OpView}
 use Rattle.plir_core.specs.ContextView.{ContextView, IsLive, op_at, operands_in, operands_of, results_in, entity_node}
-use Rattle.plir_core.specs.ContextView.{IsValueLive, types_from, type_of_value, arguments_in}
+use Rattle.plir_core.specs.ContextView.{IsValueLive, types_from, type_of_value, arguments_in, location_in}
 use Rattle.plir_core.specs.WellFormed.{IsWellFormed}
 use Rattle.plir_core.specs.ButOperands.{but_operands}
 use Rattle.plir_folding.specs.Worth.{Integer, maker_of, first_of, of_type, constant_in, folded_by, folded_in, held_at}
 use Rattle.plir_folding.specs.Worth.{constant_of, worth, Evaluates}
-use Rattle.plir_folding.specs.Folded.{ArePaired, constant_view, result_of, IsSameOrReplaced, IsFolded}
+use Rattle.plir_folding.specs.Folded.{ArePaired, constant_view, result_of, written_at, IsSameOrReplaced, IsFolded}
 use Rattle.plir_folding.proofs.Worths.{maker-entity, first-none, first-is, fold-apart, fold-joined, deeper}
 use Rattle.plir_folding.proofs.Worths.{constant-worth}
 
@@ -58,11 +59,18 @@ module _ {K A : Type 0} where
       same None = refl
       same (Some v) = refl
 
+  pub but-location : (o o' : Option (OpView K A)) → but_operands o ≡ but_operands o' → location_in o ≡ location_in o'
+  but-location o o' e = sym (same o) ∙ ap location_in e ∙ same o'
+    where
+      same : (o : Option (OpView K A)) → location_in (but_operands o) ≡ location_in o
+      same None = refl
+      same (Some v) = refl
+
 module _ {K A T : Type 0} where
   -- a constant that was made is one of its integer
-  pub view-constant : (t : ContextView K A T) (c : Ptr OperationKind) (n : Integer) → op_at t c ≡ Some (constant_view n)
-      → constant_of t (result_of c) ≡ Some n
-  view-constant t c n e = ap constant_in e
+  pub view-constant : (t : ContextView K A T) (c : Ptr OperationKind) (n : Integer) (loc : Location)
+      → op_at t c ≡ Some (constant_view n loc) → constant_of t (result_of c) ≡ Some n
+  view-constant t c n loc e = ap constant_in e
 
   -- what an operand comes from is live
   pub operand-live : (own : A → List ℕ) (s : ContextView K A T) → IsWellFormed own s
@@ -94,6 +102,17 @@ module _ {K A T : Type 0} (fold : K → Integer → Integer → Option Integer) 
           (let there = subst (λ z. IsLive s (entity_node z)) (maker-entity v.entity v.index p q).0 l in
           rw q (but-constant (op_at s p) (op_at t p) (sym (f.ops p there))))
 
+  -- and so is the place at which it was written
+  pub written-stays : (v : Value) → IsLive s (entity_node v.entity) → written_at t v ≡ written_at s v
+  written-stays v l = go (maker_of v) refl
+    where
+      go : (m : Option (Ptr OperationKind)) → maker_of v ≡ m
+          → location_in (held_at t (maker_of v)) ≡ location_in (held_at s (maker_of v))
+      go None q = rw q refl
+      go (Some p) q =
+          (let there = subst (λ z. IsLive s (entity_node z)) (maker-entity v.entity v.index p q).0 l in
+          rw q (but-location (op_at t p) (op_at s p) (f.ops p there)))
+
   pub back : (d : ℕ) (v : Value) (n : Integer) → IsLive s (entity_node v.entity) → worth fold d t v ≡ Some n
       → Evaluates fold s v n
   back zero v n live e = absurd (none-some n e)
@@ -124,7 +143,7 @@ module _ {K A T : Type 0} (fold : K → Integer → Integer → Option Integer) 
               → worth fold d t y ≡ Some m → Evaluates fold s x m
           operand x y m h (inl i) g = rest x m (operand-live own s w p x h) (subst (λ z. worth fold d t z ≡ Some m) i g)
           operand x y m h (inr r) g =
-              let is = ap (constant_of t) r.result ∙ view-constant t r.constant r.integer r.made.holds in
+              let is = ap (constant_of t) r.result ∙ view-constant t r.constant r.integer r.made.location r.made.holds in
               subst (Evaluates fold s x) (constant-worth fold t d y r.integer m is g) r.worth
 
           by-held : (old new : Option (OpView K A)) → op_at s p ≡ old → op_at t p ≡ new → Evaluates fold s v n

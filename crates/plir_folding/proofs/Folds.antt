@@ -21,9 +21,10 @@ use Rattle.plir_core.specs.ContextView.{ContextView, IsLive, is_live, children, 
 use Rattle.plir_core.specs.ContextView.{entity_node, type_of_value, given_out}
 use Rattle.plir_core.specs.ButOperands.{but_operands}
 use Rattle.plir_folding.specs.Worth.{Integer, constant_of, worth}
-use Rattle.plir_folding.specs.Folded.{ArePaired, constant_view, result_of, IsNewConstantOf, IsForUser}
+use Rattle.plir_folding.specs.Folded.{ArePaired, constant_view, result_of, written_at, IsNewConstantOf, IsForUser}
 use Rattle.plir_folding.specs.Folded.{IsSameOrReplaced, IsFolded, IsFlagged}
-use Rattle.plir_folding.proofs.Backwards.{view-constant, operand-live, type-kept, constant-stays, back}
+use Rattle.plir_folding.proofs.Backwards.{view-constant, operand-live, type-kept, written-stays, but-location}
+use Rattle.plir_folding.proofs.Backwards.{constant-stays, back}
 
 -- a list is paired with itself
 pub paired-self : (R : Value → Value → Type 0) → ((v : Value) → R v v) → (vs : List Value) → ArePaired R vs vs
@@ -187,7 +188,8 @@ module _ {K A T : Type 0} (fold : K → Integer → Integer → Option Integer) 
     live = g.live (Operation p) c.live;
     new = c.new;
     fresh = c.fresh;
-    holds = whole-again (op_at u p) (constant_view n) (g.ops p c.live ∙ ap but_operands c.holds)
+    location = c.location;
+    holds = whole-again (op_at u p) (constant_view n c.location) (g.ops p c.live ∙ ap but_operands c.holds)
         (paired-none (IsSameOrReplaced fold t u) (operands_of t p) (operands_of u p) (ap operands_in c.holds)
         (g.operands p c.live));
   }
@@ -203,6 +205,7 @@ module _ {K A T : Type 0} (fold : K → Integer → Integer → Option Integer) 
     fresh =
         false_from_ne_true (given_out s (Operation p))
         (λ l. not-both (given_out t (Operation p)) (f.given (Operation p) l) c.fresh);
+    location = c.location;
     holds = c.holds;
   }
 
@@ -245,6 +248,7 @@ module _ {K A T : Type 0} (fold : K → Integer → Integer → Option Integer) 
               back fold own s t w f i.worth.0 x i.integer there
               (subst (λ v. worth fold i.worth.0 t v ≡ Some i.integer) e i.worth.1);
           typed = i.typed ∙ ap (type_of_value t) e ∙ type-kept fold own s t w f x there;
+          written = i.written ∙ ap (written_at t) e ∙ written-stays fold own s t w f x there;
         })
     replaced-then p x y z h (inr i) (inl d) =
         let there = subst (λ v. IsLive t (entity_node v.entity)) (sym i.result) i.made.live in
@@ -256,10 +260,12 @@ module _ {K A T : Type 0} (fold : K → Integer → Integer → Option Integer) 
           made = constant-kept s t u g i.constant i.integer i.made;
           worth = i.worth;
           typed = ap (type_of_value u) d ∙ type-kept fold own t u w' g y there ∙ i.typed;
+          written =
+              but-location (op_at u i.constant) (op_at t i.constant) (g.ops i.constant i.made.live) ∙ i.written;
         })
     replaced-then p x y z h (inr i) (inr j) =
         absurd (none-some i.integer
-        (sym j.unknown ∙ ap (constant_of t) i.result ∙ view-constant t i.constant i.integer i.made.holds))
+        (sym j.unknown ∙ ap (constant_of t) i.result ∙ view-constant t i.constant i.integer i.made.location i.made.holds))
 
     -- what stands at an index of paired lists is paired
     same-constant : (p q : Ptr OperationKind) (i : ℕ) (n : Integer) → IsLive t (Operation q) → IsNewConstantOf s t p n
@@ -269,7 +275,7 @@ module _ {K A T : Type 0} (fold : K → Integer → Integer → Option Integer) 
         (g.operands q l) e in
         elim r.2 [
           | inl same ↦ r.1 ∙ ap Some same
-          | inr k ↦ absurd (none-some n (sym k.unknown ∙ view-constant t p n c.holds))
+          | inr k ↦ absurd (none-some n (sym k.unknown ∙ view-constant t p n c.location c.holds))
         ])
 
     -- what uses a constant that was there used it before

@@ -1,6 +1,7 @@
 pub mod Worths
 pub mod Backwards
 pub mod Folds
+pub mod Placing
 pub mod OneFold
 pub mod Below
 pub mod Block

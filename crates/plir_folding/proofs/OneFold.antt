@@ -2,6 +2,7 @@
 use Rattle.std.proofs.Common.{◌≡◌, ℕ, zero, suc, false, List, [], ◌∷◌, ◌++◌, Option, Some, None, inl, inr}
 use Rattle.std.proofs.Common.{refl, sym, ap, subst, ◌∙◌, slice_get, option_map, ◌⊎◌}
 use Rattle.std.specs.Prelude.{slice_set}
+use Rattle.std.specs.Option.{unwrap_or}
 use Rattle.std.specs.List.{filter}
 use Rattle.std.proofs.lemmas.Bool.{cases_Bool}
 use Rattle.std.proofs.lemmas.Option.{none-some, same_Some}
@@ -9,9 +10,8 @@ use Rattle.plir_store.specs.Members.{Has}
 use Rattle.plir_store.specs.MemberLaws.{Has-at, Has-split, Has-append_left, Has-append_right}
 use Rattle.plir_store.specs.Table.{content_at, is_live_at}
 use Rattle.plir_core.specs.Nodes.{is_given_out, was_given_out}
-use Rattle.plir_data.specs.Dictionary.{dict_put}
-use Rattle.plir_data.specs.Keys.{value_key}
-use Rattle.plir_data.specs.declared.op_set.OpKind.TheVariants.{Constant}
+use Rattle.plir_data.specs.declared.location.Location.{Location}
+use Rattle.plir_data.specs.declared.location.Location.TheVariants.{Unknown}
 use Rattle.plir_store.specs.FilterLaws.{not-both, filter-all, filter-without}
 use Rattle.plir_core.specs.declared.ptr.Ptr.{Ptr}
 use Rattle.plir_core.specs.declared.ptr.Operation.{Operation as OperationKind}
@@ -19,22 +19,21 @@ use Rattle.plir_core.specs.declared.ptr.BasicBlock.{BasicBlock as BasicBlockKind
 use Rattle.plir_core.specs.declared.ptr.IRNode.{IRNode}
 use Rattle.plir_core.specs.declared.ptr.IRNode.TheVariants.{Operation, Region, BasicBlock}
 use Rattle.plir_core.specs.declared.value.Value.{Value}
-use Rattle.plir_core.specs.Contents.{OpView, op_view}
+use Rattle.plir_core.specs.Contents.{OpView}
 use Rattle.plir_core.specs.Held.{IsOpEdited}
 use Rattle.plir_core.specs.Made.{IsMade}
 use Rattle.plir_core.specs.Nodes.{Nodes, is_node_live}
 use Rattle.plir_core.specs.Placed.{MovesOnly, IsPlaced, IsPlacedBefore}
 use Rattle.plir_core.specs.Forest.{look, IsForest}
 use Rattle.plir_core.specs.ContextView.{ContextView, IsLive, is_live, children, parent_of, op_at, block_at, operands_in}
-use Rattle.plir_core.specs.ContextView.{operands_of, results_in, types_from, type_of_value}
+use Rattle.plir_core.specs.ContextView.{operands_of, results_in, types_from, type_of_value, location_in, location_of}
 use Rattle.plir_core.specs.ButOperands.{but_operands}
 use Rattle.plir_core.specs.WellFormed.{IsWellFormed}
-use Rattle.plir_builtin.specs.BuiltinOps.{IsNewConstant}
 use Rattle.plir_walk.specs.Lawful.{Lawful}
 use Rattle.plir_walk.specs.LawfulChanges.{LawfulChanges}
 use Rattle.plir_walk.specs.NodeLaws.{ptr-tells, block-tells, reach-leaf}
-use Rattle.plir_folding.specs.Worth.{Integer, attr_of, maker_of, held_at, made_by, folded}
-use Rattle.plir_folding.specs.Folded.{ArePaired, constant_view, result_of, IsNewConstantOf, IsForUser}
+use Rattle.plir_folding.specs.Worth.{Integer, maker_of, held_at, made_by, folded}
+use Rattle.plir_folding.specs.Folded.{ArePaired, constant_view, result_of, written_at, IsNewConstantOf, IsForUser}
 use Rattle.plir_folding.specs.Folded.{IsReplaced, IsSameOrReplaced, IsFolded}
 use Rattle.plir_folding.proofs.Worths.{maker-entity, folded-worth, folded-typed, folded-unknown}
 use Rattle.plir_folding.proofs.Backwards.{operand-live}
@@ -140,25 +139,26 @@ module _ {K A T : Type 0} where
           (laws.placed s t u (BasicBlock b) (BasicBlock b) (Operation c) _ w (zero, refl) made at) e
 
     -- and it took the place of an operand of op
-    module _ (fold : K → Integer → Integer → Option Integer) (own_type : A → Option ℕ) (v : ContextView K A T) (i : ℕ)
-        (n : Integer) (x : Value) (w' : IsForest (look t))
-        (new : IsNewConstant own_type t c (attr_of n)) (types : t.types ≡ s.types) (moved_types : u.types ≡ t.types)
+    module _ (fold : K → Integer → Integer → Option Integer) (v : ContextView K A T) (i : ℕ)
+        (n : Integer) (loc : Location) (x : Value) (w' : IsForest (look t))
+        (holds : op_at t c ≡ Some (constant_view n loc)) (leaf : children t (Operation c) ≡ [])
+        (is : loc ≡ unwrap_or (written_at s x) Unknown)
+        (types : t.types ≡ s.types) (moved_types : u.types ≡ t.types)
         (edited : IsOpEdited u v op (replaced_in i (result_of c))) (operand : slice_get (operands_of s op) i ≡ Some x)
         (folds : folded fold s x ≡ Some n) where
-      holds : op_at t c ≡ Some (constant_view n)
-      holds =
-          new.holds ∙ ap (λ z. Some (op_view Constant (z ∷ []) [] [] (dict_put [] value_key (attr_of n))))
-          (sym (same_Some n.type new.type new.typed))
-
       apart : c ≡ op → ⊥
       apart e = older (Operation op) op-live (ap Operation (sym e))
+
+      there : op_at v c ≡ Some (constant_view n loc)
+      there = edited.ops c new-live-u apart ∙ new-op-u ∙ holds
 
       pub new-constant : IsNewConstantOf s v c n
       new-constant = record {
         live = edited.keeps.live (Operation c) ∙ new-live-u;
         new = made.new;
         fresh = made.fresh (Operation c) made.root made.new;
-        holds = edited.ops c new-live-u apart ∙ new-op-u ∙ holds;
+        location = loc;
+        holds = there;
       }
 
       -- the constant's type is the operand's
@@ -176,6 +176,15 @@ module _ {K A T : Type 0} where
               ap (λ z. slice_get (types_from s z) x.index) e.0 ∙ ap (slice_get (results_in (op_at s p))) e.1
               ∙ ap (λ z. slice_get (results_in z) 0) (sym (ap (held_at s) q) ∙ r.1.0) ∙ ap (λ z. slice_get z 0) r.1.1
 
+      -- and its location is that of the operand's operation
+      same-place : location_of v c ≡ written_at s x
+      same-place = ap location_in there ∙ ap Some is ∙ go (made_by s x) (folded-typed fold s x n folds)
+        where
+          go : (m : Option (OpView K A)) → (o : OpView K A) × ((m ≡ Some o) × (o.result_types ≡ n.type ∷ []))
+              → Some (unwrap_or (location_in m) Unknown) ≡ location_in m
+          go None r = absurd (none-some r.0 r.1.0)
+          go (Some o) r = refl
+
       replaced : IsReplaced fold s v x (result_of c)
       replaced = record {
         unknown = folded-unknown fold s x n folds;
@@ -185,13 +194,14 @@ module _ {K A T : Type 0} where
         made = new-constant;
         worth = (2, folded-worth fold s x n folds);
         typed = same-type;
+        written = same-place;
       }
 
       only-new : (m : IRNode) → IsLive v m → is_live s m ≡ false → m ≡ Operation c
       only-new m l e =
           let lt = sym (moved-live t.nodes u.nodes (Operation c) at.moved m) ∙ sym (edited.keeps.live m) ∙ l in
           let r = made.below m lt e in
-          reach-leaf t (Operation c) w' new.no_regions r.0 m r.1
+          reach-leaf t (Operation c) w' leaf r.0 m r.1
 
       children-left : (m : IRNode) → IsLive s m → filter (is_live s) (children v m) ≡ children s m
       children-left m l = elim (block-tells m b) [

@@ -3,6 +3,7 @@ use Rattle.std.specs.Prelude.{◌≡◌, ℕ, Bool, true, false, List, [], ◌�
 use Rattle.std.specs.List.{filter}
 use Rattle.plir_data.specs.Dictionary.{dict_put}
 use Rattle.plir_data.specs.Keys.{value_key}
+use Rattle.plir_data.specs.declared.location.Location.{Location}
 use Rattle.plir_data.specs.declared.op_set.OpKind.TheVariants.{Constant}
 use Rattle.plir_core.specs.declared.ptr.Ptr.{Ptr}
 use Rattle.plir_core.specs.declared.ptr.Operation.{Operation as OperationKind}
@@ -13,10 +14,10 @@ use Rattle.plir_core.specs.declared.value.Value.{Value}
 use Rattle.plir_core.specs.declared.value.DefiningEntity.TheVariants.{Op}
 use Rattle.plir_core.specs.Contents.{OpView, op_view}
 use Rattle.plir_core.specs.ContextView.{ContextView, IsLive, is_live, children, parent_of, op_at, block_at, operands_of}
-use Rattle.plir_core.specs.ContextView.{type_of_value, given_out, limit}
+use Rattle.plir_core.specs.ContextView.{type_of_value, given_out, limit, location_in, location_of}
 use Rattle.plir_core.specs.ButOperands.{but_operands}
 use Rattle.plir_store.specs.Members.{Has}
-use Rattle.plir_folding.specs.Worth.{Integer, attr_of, constant_of, Evaluates}
+use Rattle.plir_folding.specs.Worth.{Integer, attr_of, constant_of, made_by, Evaluates}
 
 -- two lists of values are as long, and R holds of those at the same indices
 abbrev pub ArePaired : (Value → Value → Type 0) → List Value → List Value → Type 0
@@ -26,21 +27,27 @@ ArePaired R (v ∷ vs) [] = ⊥
 ArePaired R (v ∷ vs) (w ∷ ws) = R v w × ArePaired R vs ws
 
 module _ {K A : Type 0} where
-  -- what a constant of an integer holds that was made
-  abbrev pub constant_view : Integer → OpView K A
-  constant_view n = op_view Constant (n.type ∷ []) [] [] (dict_put [] value_key (attr_of n))
+  -- what a constant of an integer holds that was made, with a location
+  abbrev pub constant_view : Integer → Location → OpView K A
+  constant_view n loc =
+      record (op_view Constant (n.type ∷ []) [] [] (dict_put [] value_key (attr_of n))) { location = loc }
 
 -- the first result of an operation
 abbrev pub result_of : Ptr OperationKind → Value
 result_of p = record { entity = Op p; index = 0 }
 
 module _ {K A T : Type 0} where
+  -- where the operation was written whose first result a value is, if it is one
+  abbrev pub written_at : ContextView K A T → Value → Option Location
+  written_at s v = location_in (made_by s v)
+
   -- From s to t an operation is new, its pointer was never given out before, and it is a constant of the integer n.
   pub record IsNewConstantOf (s t : ContextView K A T) (p : Ptr OperationKind) (n : Integer) : Type 0 where
     pub live : IsLive t (Operation p)
     pub new : is_live s (Operation p) ≡ false
     pub fresh : given_out s (Operation p) ≡ false
-    pub holds : op_at t p ≡ Some (constant_view n)
+    pub location : Location
+    pub holds : op_at t p ≡ Some (constant_view n location)
 
   -- From s to t an operation has come for one that uses it: its first result is an operand of an operation that was
   -- there, and no other operand; and it stands before this one in its block, with nothing between them but what has
@@ -62,7 +69,7 @@ module _ {K A T : Type 0} where
 
   module _ (fold : K → Integer → Integer → Option Integer) where
     -- From s to t a value v, which was no constant, has another one in its place: a new constant of what v evaluates
-    -- to, which is of v's type.
+    -- to, which is of v's type, and has the location of the operation that made v.
     pub record IsReplaced (s t : ContextView K A T) (v w : Value) : Type 0 where
       pub unknown : constant_of s v ≡ None
       pub constant : Ptr OperationKind
@@ -71,6 +78,7 @@ module _ {K A T : Type 0} where
       pub made : IsNewConstantOf s t constant integer
       pub worth : Evaluates fold s v integer
       pub typed : type_of_value t w ≡ type_of_value s v
+      pub written : location_of t constant ≡ written_at s v
 
     -- in the place of a value is that value, or a new constant of what it evaluates to
     abbrev pub IsSameOrReplaced : ContextView K A T → ContextView K A T → Value → Value → Type 0

@@ -1,17 +1,20 @@
 //! Constant folding.
-ghost use Rattle.std.specs.Prelude.{◌≡◌, ◌<◌, false, Some, Err, OnOk, IfOk, length};
+ghost use Rattle.std.specs.Prelude.{◌≡◌, ◌<◌, false, true, [], Some, Err, OnErr, OnOk, IfOk, length};
+ghost use Rattle.plir_data.specs.Types.{IsLive as IsTypeLive};
 ghost use Rattle.plir_core.specs.declared.ptr.IRNode.{IRNode as AnyNode};
 ghost use Rattle.plir_core.specs.Forest.{look, IsBelow};
-ghost use Rattle.plir_core.specs.ContextView.{IsLive, operands_of, parent_of};
+ghost use Rattle.plir_core.specs.Changes.{SameLive};
+ghost use Rattle.plir_core.specs.Made.{IsMade};
+ghost use Rattle.plir_core.specs.ContextView.{IsLive, children, given_out, op_at, operands_of, parent_of};
 ghost use Rattle.plir_core.specs.Room.{IsFullForOp};
 ghost use Rattle.plir_core.specs.WellFormed.{IsWellFormed};
 ghost use Rattle.plir_walk.specs.Lawful.{Lawful};
-ghost use Rattle.plir_folding.specs.Worth.{AreSettled, IsSettled, IsUnfolded};
-ghost use Rattle.plir_folding.specs.Folded.{IsFolded};
+ghost use Rattle.plir_folding.specs.Worth.{AreSettled, IsSettled, IsUnfolded, integer_of};
+ghost use Rattle.plir_folding.specs.Folded.{IsFolded, constant_view};
 ghost use Rattle.plir_folding.specs.Folding.{AreChildrenSettled, IsFilledBefore, IsFoldedAt, IsFoldedBelow, IsToldBy};
 
 use crate::fold_set::FoldSet;
-use crate::reading::folded;
+use crate::reading::{folded, written_at};
 use crate::worklist::{Step, list_below};
 use plir_builtin::MaterializableAttr;
 use plir_core::laws::{
@@ -19,6 +22,7 @@ use plir_core::laws::{
     op_edits_keep_the_rest,
 };
 use plir_core::{BasicBlock, Context, IRNode, NodeErr, Operation, Ptr};
+use plir_data::{IntegerAttr, Location};
 use plir_walk::WALKCONFIG_PREORDER_FORWARD;
 use plir_walk::interruptible::mutable::walk_op;
 use plir_walk::interruptible::{WalkResult, walk_advance, walk_break};
@@ -26,8 +30,31 @@ use plir_walk::laws::{before_is_a_total_order, lawful_changes};
 use std::alloc::Global;
 use std::ops::ControlFlow;
 
-// Puts a new constant in place of an operand of an operation in a block, if the operand folds. The flag is set where it
-// did.
+// A new constant of an integer, in no block, with a location.
+fn new_constant<D: FoldSet>(
+    alloc: Global,
+    ctx: &mut Context<D>,
+    integer: &IntegerAttr,
+    location: Location,
+) -> Result<Ptr<Operation>, NodeErr>
+    requires { IsTypeLive ctx.old.types integer.now.ty }
+    ensures made { IfOk result (λ p. IsMade ctx.old.nodes ctx.new.nodes (AnyNode.Operation p)) }
+    ensures held { IfOk result (λ p. op_at ctx.new p ≡ Some (constant_view (integer_of integer.now) location)) }
+    ensures leaf { IfOk result (λ p. children ctx.new (AnyNode.Operation p) ≡ []) }
+    ensures types { ctx.new.types ≡ ctx.old.types }
+    ensures given { (n : AnyNode) → given_out ctx.old n ≡ true → given_out ctx.new n ≡ true }
+    ensures err { OnErr result (SameLive ctx.old ctx.new) }
+    ensures crowded { result ≡ Err NodeErr.TooManyNodes → IsFullForOp ctx.new.nodes 0 }
+    ensures whole { IsWellFormed D.attr_handles ctx.new }
+{
+    let constant = MaterializableAttr::<D>::materialize(integer, alloc, ctx)?;
+    op_edits_keep_the_rest(ctx, constant);
+    constant.set_loc(ctx, location);
+    Ok(constant)
+}
+
+// Puts a new constant, with the location of what made the operand, in place of an operand of an operation in a block,
+// if the operand folds. The flag is set where it did.
 fn fold_operand<D: FoldSet>(
     alloc: Global,
     ctx: &mut Context<D>,
@@ -51,7 +78,8 @@ fn fold_operand<D: FoldSet>(
     let Some(integer) = folded(ctx, value) else {
         return Ok(before);
     };
-    let constant = MaterializableAttr::<D>::materialize(&integer, alloc, ctx)?;
+    let location = written_at(ctx, value);
+    let constant = new_constant(alloc, ctx, &integer, location)?;
     constant.insert_before(ctx, op);
     op_edits_keep_the_rest(ctx, op);
     let result = constant.get_result(ctx, 0);
@@ -220,11 +248,12 @@ fn fold_makers_first<D: FoldSet>(
 
 /// Folds constants below an operation until no operand there folds: where an operand is the result of an operation of
 /// an own kind on two constants, and its kind says what it makes of them, a new constant of that is put right before
-/// the operand's user and takes the operand's place. The operation on constants stays; where nothing uses it any more,
-/// dead code elimination takes it. A look at an operation goes by its operands alone, and in whatever order operations
-/// are laid out, there are three rounds over the tree at most: the first folds all where each stands behind those that
-/// it uses, and a second one sees that; where that still folds something, the operations are listed, each is folded
-/// behind those that make its operands, and a third round sees that all is done.
+/// the operand's user and takes the operand's place. The constant has the location of the operation that was folded.
+/// That operation stays; where nothing uses it any more, dead code elimination takes it. A look at an operation goes by
+/// its operands alone, and in whatever order operations are laid out, there are three rounds over the tree at most: the
+/// first folds all where each stands behind those that it uses, and a second one sees that; where that still folds
+/// something, the operations are listed, each is folded behind those that make its operands, and a third round sees
+/// that all is done.
 ///
 /// # Errors
 ///

@@ -1,16 +1,19 @@
 //! What is known of values: constants, and what operations on constants fold to.
 ghost use Rattle.std.specs.Prelude.{◌≡◌, IfSome, option_map};
+ghost use Rattle.std.specs.Option.{unwrap_or};
+ghost use Rattle.plir_data.specs.declared.location.Location.TheVariants as locations;
 ghost use Rattle.plir_data.specs.AttrSeen.{attr_view};
 ghost use Rattle.plir_data.specs.Types.{IsLive as IsTypeLive};
 ghost use Rattle.plir_core.specs.declared.ptr.IRNode.{IRNode as AnyNode};
 ghost use Rattle.plir_core.specs.ContextView.{IsLive, IsValueLive, op_at, operands_of};
 ghost use Rattle.plir_folding.specs.Worth.{constant_in, constant_of, folded, folded_in, integer_of, maker_of};
 ghost use Rattle.plir_folding.specs.Worth.{integer_in, of_both, of_two};
+ghost use Rattle.plir_folding.specs.Folded.{written_at};
 
 use crate::fold_set::FoldSet;
 use plir_builtin::ATTR_KEY_CONSTANT_VALUE;
 use plir_core::{Context, DefiningEntity, Operation, Ptr, Value};
-use plir_data::{AttrObj, IntegerAttr, OpKind, OpSet};
+use plir_data::{AttrObj, IntegerAttr, Location, OpKind, OpSet};
 
 /// The operation whose first result a value is, if it is one.
 pub fn maker_of<D: OpSet>(ctx: &Context<D>, value: Value) -> Option<Ptr<Operation>>
@@ -22,6 +25,17 @@ pub fn maker_of<D: OpSet>(ctx: &Context<D>, value: Value) -> Option<Ptr<Operatio
     match value.defining_entity() {
         DefiningEntity::Op(op) if value.index() == 0 => Some(op),
         _ => None,
+    }
+}
+
+/// Where the operation was written whose first result a value is, if it is one and that is known.
+pub(crate) fn written_at<D: OpSet>(ctx: &Context<D>, value: Value) -> Location
+    requires { IsValueLive ctx.now value }
+    ensures { result ≡ unwrap_or (written_at ctx.now value) locations.Unknown }
+{
+    match maker_of(ctx, value) {
+        Some(op) => op.loc(ctx),
+        None => Location::Unknown,
     }
 }
 

@@ -7,6 +7,7 @@ use Rattle.std.specs.Cmp.{first_so}
 use Rattle.std.proofs.lemmas.Option.{get_or_from_slice_get, none-some, same_Some, slice_get_within}
 use Rattle.plir_store.specs.Members.{Has}
 use Rattle.plir_store.specs.MemberLaws.{Has-map, Has-mid, at-Has, map-Has}
+use Rattle.plir_data.specs.declared.location.Location.{Location}
 use Rattle.plir_core.specs.declared.ptr.Ptr.{Ptr}
 use Rattle.plir_core.specs.declared.ptr.Operation.{Operation as OperationKind}
 use Rattle.plir_core.specs.declared.ptr.BasicBlock.{BasicBlock as BlockKind}
@@ -23,7 +24,7 @@ use Rattle.plir_core.specs.ContextView.{result_types_of, results_in, successors_
 use Rattle.plir_core.specs.Forest.{IsForest, look}
 use Rattle.plir_core.specs.Made.{IsMade}
 use Rattle.plir_core.specs.WellFormed.{IsWellFormed}
-use Rattle.plir_copies.specs.Images.{Images, block_in, blocks_in, no_images, value_in, values_in}
+use Rattle.plir_copies.specs.Images.{Images, block_in, blocks_in, for_call, no_images, value_in, values_in}
 use Rattle.plir_copies.specs.Copied.{op_under}
 use Rattle.plir_copies.specs.Trees.{Copies, IsCopyOfTree, entity_copy, node_copy, value_copy}
 use Rattle.plir_inline.specs.Given.{NoneFrom}
@@ -74,8 +75,8 @@ op-of c (BasicBlock q) p e = absurd (let z : ⊥ = cc in z)
 
 module _ {K A T : Type 0} (own : A → List ℕ) (s t : ContextView K A T) (call : Ptr OperationKind) (block copy : Ptr BlockKind)
     (h : CanInline s call block) (whole : IsWellFormed own s) (fs : IsForest (look s)) (ft : IsForest (look t))
-    (made : IsMade s.nodes t.nodes (BasicBlock copy)) (m : Images)
-    (k : IsCopyOfTree s t (BasicBlock block) (BasicBlock copy) no_images m) where
+    (made : IsMade s.nodes t.nodes (BasicBlock copy)) (place : Location) (m : Images)
+    (k : IsCopyOfTree s t (BasicBlock block) (BasicBlock copy) (for_call no_images place) m) where
   pub top : k.copies.block block ≡ copy
   top = block-same (k.copies.block block) copy k.top
 

@@ -4,6 +4,8 @@ use Rattle.std.proofs.Common.{◌∙◌, List, [], ◌∷◌, ◌++◌, map, Opt
 use Rattle.std.proofs.lemmas.Option.{none-some, same_Some}
 use Rattle.plir_store.specs.Members.{Distinct, Has}
 use Rattle.plir_store.specs.MemberLaws.{Distinct-cross, Has-append_cases, Has-mid, map-Has}
+use Rattle.plir_data.specs.CallSites.{inlined_at}
+use Rattle.plir_data.specs.declared.location.Location.{Location}
 use Rattle.plir_core.specs.declared.ptr.Ptr.{Ptr}
 use Rattle.plir_core.specs.declared.ptr.Operation.{Operation as OperationKind}
 use Rattle.plir_core.specs.declared.ptr.BasicBlock.{BasicBlock as BlockKind}
@@ -14,11 +16,11 @@ use Rattle.plir_core.specs.declared.value.DefiningEntity.TheVariants.{Op, Block}
 use Rattle.plir_core.specs.Above.{climb}
 use Rattle.plir_core.specs.Contents.{OpView}
 use Rattle.plir_core.specs.ContextView.{ContextView, IsAncestor, IsLive, children, is_live, op_at}
-use Rattle.plir_core.specs.ContextView.{operands_in, operands_of, parent_of}
+use Rattle.plir_core.specs.ContextView.{location_of, operands_in, operands_of, parent_of}
 use Rattle.plir_core.specs.Forest.{IsForest, look}
 use Rattle.plir_core.specs.Made.{IsMade}
 use Rattle.plir_core.specs.WellFormed.{IsWellFormed}
-use Rattle.plir_copies.specs.Images.{Images, blocks_in, no_images, value_in}
+use Rattle.plir_copies.specs.Images.{Images, blocks_in, for_call, no_images, value_in}
 use Rattle.plir_copies.specs.Copied.{op_under}
 use Rattle.plir_copies.specs.Trees.{IsCopyOfTree, node_copy}
 use Rattle.plir_inline.specs.Given.{given, with_operands_by}
@@ -43,7 +45,11 @@ module _ {K A : Type 0} where
       ap (λ vs. let r : OpView K A = record o { operands = vs } in Some r) (map-agree f g o.operands e)
 
   abbrev held_under : (Value → Value) → Images → OpView K A → OpView K A
-  held_under h m x = record x { operands = map h x.operands; successors = blocks_in m x.successors }
+  held_under h m x = record x {
+    operands = map h x.operands;
+    successors = blocks_in m x.successors;
+    location = inlined_at x.location m.call;
+  }
 
   -- operands after a copy
   under-by : (m : Images) (f h : Value → Value) → ((x : Value) → f (value_in m x) ≡ h x) → (o : Option (OpView K A))
@@ -51,24 +57,28 @@ module _ {K A : Type 0} where
       ≡ option_map (held_under h m) o
   under-by m f h e None = refl
   under-by m f h e (Some o) =
-      ap (λ vs. let r : OpView K A = record o { operands = vs; successors = blocks_in m o.successors } in Some r)
+      ap (λ vs. let r : OpView K A = record o {
+        operands = vs;
+        successors = blocks_in m o.successors;
+        location = inlined_at o.location m.call;
+      } in Some r)
       (map-as (value_in m) f h e o.operands)
 
 module _ {K A T : Type 0} (own : A → List ℕ) (s t : ContextView K A T) (call : Ptr OperationKind) (block copy : Ptr BlockKind)
     (h : CanInline s call block) (whole : IsWellFormed own s) (fs : IsForest (look s)) (ft : IsForest (look t))
-    (made : IsMade s.nodes t.nodes (BasicBlock copy)) (m : Images)
-    (k : IsCopyOfTree s t (BasicBlock block) (BasicBlock copy) no_images m)
+    (made : IsMade s.nodes t.nodes (BasicBlock copy)) (place : Location) (m : Images)
+    (k : IsCopyOfTree s t (BasicBlock block) (BasicBlock copy) (for_call no_images place) m)
     (u : ContextView K A T) (is-put : IsPut t call copy (k.copies.op h.last) u) where
   -- the call's operands in place of the arguments, and what has come in place of the call's results
   inside-as : (x : Value) → inside t call copy (k.copies.op h.last) x ≡ given (Block (k.copies.block block)) (operands_of s call) x
   inside-as x =
-      ap (λ b. given (Block b) (operands_of t call) x) (sym (top own s t call block copy h whole fs ft made m k))
-      ∙ ap (λ vs. given (Block (k.copies.block block)) vs x) (call-operands own s t call block copy h whole fs ft made m k)
+      ap (λ b. given (Block b) (operands_of t call) x) (sym (top own s t call block copy h whole fs ft made place m k))
+      ∙ ap (λ vs. given (Block (k.copies.block block)) vs x) (call-operands own s t call block copy h whole fs ft made place m k)
 
   given-as : map (inside t call copy (k.copies.op h.last)) (operands_of t (k.copies.op h.last))
       ≡ map (copied s u call block h.last k.copies m) (operands_of s h.last)
   given-as =
-      ap (map (inside t call copy (k.copies.op h.last))) (last-operands own s t call block copy h whole fs ft made m k)
+      ap (map (inside t call copy (k.copies.op h.last))) (last-operands own s t call block copy h whole fs ft made place m k)
       ∙ map-as (value_in m) (inside t call copy (k.copies.op h.last)) (copied s u call block h.last k.copies m)
       (λ x. inside-as (value_in m x)) (operands_of s h.last)
 
@@ -83,7 +93,7 @@ module _ {K A T : Type 0} (own : A → List ℕ) (s t : ContextView K A T) (call
   put-old p x has =
       ap (λ ws. given (Op call) ws (inside t call copy (k.copies.op h.last) x)) given-as
       ∙ ap (λ y. answered s u call block h.last k.copies m y) (given-other (Block copy) (operands_of t call) _ x
-      (none-inner own s t call block copy h whole fs ft made m k p x has))
+      (none-inner own s t call block copy h whole fs ft made place m k p x has))
 
   -- nodes that were live stay, but for the call
   old-stays : (n : IRNode) → IsLive s n → (n ≡ Operation call → ⊥) → Stays t call copy (k.copies.op h.last) n
@@ -91,8 +101,8 @@ module _ {K A T : Type 0} (own : A → List ℕ) (s t : ContextView K A T) (call
     not_call = off;
     not_block = λ e. true≢false (sym live ∙ ap (is_live s) e ∙ made.new);
     not_last = λ e.
-        not-copy own s t call block copy h whole fs ft made m k (Operation h.last) n
-        (last-below own s t call block copy h whole fs ft made m k) live (sym e);
+        not-copy own s t call block copy h whole fs ft made place m k (Operation h.last) n
+        (last-below own s t call block copy h whole fs ft made place m k) live (sym e);
   }
 
   child-copied : (n x : IRNode) → IsAncestor s (BasicBlock block) x → parent_of s n ≡ Some x
@@ -103,7 +113,7 @@ module _ {K A T : Type 0} (own : A → List ℕ) (s t : ContextView K A T) (call
       (map-Has (node_copy k.copies) (children s x) n (fs.parent_child x n p)))
 
   last-parent : parent_of s (Operation h.last) ≡ Some (BasicBlock block)
-  last-parent = fs.child_parent (BasicBlock block) (Operation h.last) (has-last own s t call block copy h whole fs ft made m k)
+  last-parent = fs.child_parent (BasicBlock block) (Operation h.last) (has-last own s t call block copy h whole fs ft made place m k)
 
   -- no other node has become the copy of the last operation
   last-only : (n : IRNode) → IsAncestor s (BasicBlock block) n → (n ≡ BasicBlock block → ⊥)
@@ -132,7 +142,7 @@ module _ {K A T : Type 0} (own : A → List ℕ) (s t : ContextView K A T) (call
           let same : node_copy k.copies x ≡ node_copy k.copies (BasicBlock block) =
           same_Some (node_copy k.copies x) (node_copy k.copies (BasicBlock block)) (sym (child-copied n x up p)
           ∙ ap (parent_of t) is ∙ child-copied (Operation h.last) (BasicBlock block) (0, refl) last-parent) in
-          in-block (p ∙ ap Some (top-only own s t call block copy h whole fs ft made m k x up (same ∙ k.top)))
+          in-block (p ∙ ap Some (top-only own s t call block copy h whole fs ft made place m k x up (same ∙ k.top)))
 
       step : (j : ℕ) (o : Option IRNode) → parent_of s n ≡ o → climb (parent_of s) j o ≡ Some (BasicBlock block) → ⊥
       step j None p e = none-some (BasicBlock block) (sym (climb-none (parent_of s) j) ∙ e)
@@ -145,8 +155,8 @@ module _ {K A T : Type 0} (own : A → List ℕ) (s t : ContextView K A T) (call
   body-stays : (n : IRNode) → IsInBody s u call block h.last k.copies m n
       → Stays t call copy (k.copies.op h.last) (node_copy k.copies n)
   body-stays n i = record {
-    not_call = λ e. not-copy own s t call block copy h whole fs ft made m k n (Operation call) i.below h.stand.call_live e;
-    not_block = λ e. i.not_block (top-only own s t call block copy h whole fs ft made m k n i.below e);
+    not_call = λ e. not-copy own s t call block copy h whole fs ft made place m k n (Operation call) i.below h.stand.call_live e;
+    not_block = λ e. i.not_block (top-only own s t call block copy h whole fs ft made place m k n i.below e);
     not_last = last-only n i.below i.not_block i.not_last;
   }
 
@@ -177,7 +187,7 @@ module _ {K A T : Type 0} (own : A → List ℕ) (s t : ContextView K A T) (call
         live = is-put.live (node_copy k.copies n) y ∙ e.live;
         holds = held n i.below y;
         children = is-put.children (node_copy k.copies n) y (λ p.
-            not-copy own s t call block copy h whole fs ft made m k n (node_copy k.copies n) i.below
+            not-copy own s t call block copy h whole fs ft made place m k n (node_copy k.copies n) i.below
             (parent-live (node_copy k.copies n) p) refl) ∙ e.children;
       }
 
@@ -192,7 +202,7 @@ module _ {K A T : Type 0} (own : A → List ℕ) (s t : ContextView K A T) (call
   new-copied : (n : IRNode) → IsLive u n → is_live s n ≡ false
       → (o : IRNode) × (IsInBody s u call block h.last k.copies m o × (node_copy k.copies o ≡ n))
   new-copied n l new =
-      let r = image own s t call block copy h whole fs ft made m k n (was-live n l) new in (
+      let r = image own s t call block copy h whole fs ft made place m k n (was-live n l) new in (
         r.0,
         (
           record {
@@ -205,13 +215,15 @@ module _ {K A T : Type 0} (own : A → List ℕ) (s t : ContextView K A T) (call
         ),
       )
 
-  pub inlined : t.types ≡ s.types → IsInlined s u call block
-  inlined types =
-      let ends = copy-ends own s t call block copy h whole fs ft made m k in
+  pub inlined : t.types ≡ s.types → location_of s call ≡ Some place → IsInlined s u call block
+  inlined types called =
+      let ends = copy-ends own s t call block copy h whole fs ft made place m k in
       record {
         body = h.body;
         last = h.last;
         ends = h.ends;
+        place = place;
+        called = called;
         copies = k.copies;
         images = m;
         mapped = k.mapped;

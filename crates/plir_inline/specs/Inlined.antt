@@ -1,5 +1,7 @@
 -- A copy of a block is put in place of a call.
 use Rattle.std.specs.Prelude.{◌≡◌, ℕ, IsSome, List, [], ◌∷◌, ◌++◌, Some, false, map, option_map, true}
+use Rattle.plir_data.specs.CallSites.{inlined_at}
+use Rattle.plir_data.specs.declared.location.Location.{Location}
 use Rattle.plir_core.specs.declared.ptr.Ptr.{Ptr}
 use Rattle.plir_core.specs.declared.ptr.Operation.{Operation as OperationKind}
 use Rattle.plir_core.specs.declared.ptr.BasicBlock.{BasicBlock as BlockKind}
@@ -9,9 +11,9 @@ use Rattle.plir_core.specs.declared.value.Value.{Value}
 use Rattle.plir_core.specs.declared.value.DefiningEntity.TheVariants.{Op, Block}
 use Rattle.plir_core.specs.Contents.{OpView}
 use Rattle.plir_core.specs.ContextView.{ContextView, IsLive, IsAncestor, arg_types_of, block_at, children, given_out}
-use Rattle.plir_core.specs.ContextView.{is_live, limit, op_at, operands_of, parent_of, result_types_of}
+use Rattle.plir_core.specs.ContextView.{is_live, limit, location_of, op_at, operands_of, parent_of, result_types_of}
 use Rattle.plir_core.specs.ContextView.{type_of_value}
-use Rattle.plir_copies.specs.Images.{Images, blocks_in, no_images, value_in}
+use Rattle.plir_copies.specs.Images.{Images, blocks_in, for_call, no_images, value_in}
 use Rattle.plir_copies.specs.Trees.{Copies, HoldsCopies, node_copy}
 use Rattle.plir_inline.specs.Branches.{NoBranchBack}
 use Rattle.plir_inline.specs.Given.{NoneFrom, given, with_operands_by}
@@ -69,11 +71,13 @@ module _ {K A T : Type 0} (s t : ContextView K A T) (call : Ptr OperationKind) (
   abbrev pub answered : Value → Value
   answered v = given (Op call) (map copied (operands_of s last)) v
 
-  -- what a copied operation holds: the same, but for its operands and successors
+  -- what a copied operation holds: the same, but for its operands and successors; and where it was written, with the
+  -- place of the call
   abbrev pub op_inlined : OpView K A → OpView K A
   op_inlined o = record o {
     operands = map (λ v. answered (copied v)) o.operands;
     successors = blocks_in m o.successors;
+    location = inlined_at o.location m.call;
   }
 
   abbrev pub HoldsTheSame : IRNode → Type 0
@@ -102,10 +106,13 @@ pub record IsInlined {K A T : Type 0} (s t : ContextView K A T) (call : Ptr Oper
   pub body : List IRNode
   pub last : Ptr OperationKind
   pub ends : children s (BasicBlock block) ≡ body ++ Operation last ∷ []
-  -- what each node, value and block of the block's tree has become
+  -- where the call was written
+  pub place : Location
+  pub called : location_of s call ≡ Some place
+  -- what each node, value and block of the block's tree has become, and the call in place of which the copies stand
   pub copies : Copies
   pub images : Images
-  pub mapped : HoldsCopies s (BasicBlock block) copies no_images images
+  pub mapped : HoldsCopies s (BasicBlock block) copies (for_call no_images place) images
   -- all that stands below the block but its last operation is copied
   pub tree : (n : IRNode) → IsInBody s t call block last copies images n →
       IsInlinedNode s t call block last copies images n

@@ -1,11 +1,9 @@
 // SPDX-License-Identifier: Apache-2.0
-//! The calls of scripts on passes, over a toy op set and a conversion of it, and how such a script is played.
+//! The calls of scripts on passes, over toy op sets, a module for each layer, and how such a script is played.
 #![tactic(auto)]
 
-mod calls;
-mod renewing;
-mod toy;
-
-pub use calls::play_in;
-pub use renewing::{Renew, RenewErr};
-pub use toy::ToyKind;
+pub mod arguments;
+pub mod folding;
+pub mod inliner;
+pub mod passes;
+pub mod symbols;

@@ -50,6 +50,13 @@ impl AddOp {
         Ok(AddOp { op })
     }
 
+    // An operation as a sum, whether it is one or not.
+    pub(crate) fn at(op: Ptr<Operation>) -> AddOp
+        ensures { result.op ≡ op }
+    {
+        AddOp { op }
+    }
+
     /// The operation, without the op set to be named.
     pub fn operation(self) -> Ptr<Operation>
         ensures { result ≡ self.op }

@@ -1,8 +1,12 @@
 //! What passes, the verifier of trees and a program over the dialect ask of its kinds.
-use crate::kinds::{SampleKind, SampleSet};
+use crate::flow::callee;
+use crate::kinds::{SampleErr, SampleKind, SampleSet};
+use crate::rules::{goes_on, is_sum};
 use plir_builtin::{SymbolTableCollection, SymbolUses};
 use plir_core::{Context, Operation, Ptr};
-use plir_data::{Identifier, Memory, NeverRefused, VerifyErr};
+use plir_data::{Identifier, IntegerAttr, Memory, OpKind, VerifyErr};
+use plir_folding::{FoldKind, IdentityKind, Side, is_zero, wrapping_sum};
+use plir_iface::accept_if;
 use plir_passes::EffectKind;
 use plir_symbols::{SymbolNameKind, is_marked_private, names_held, num_names_held};
 use plir_verify::VerifyKind;
@@ -14,11 +18,38 @@ impl EffectKind for SampleKind {
     ghost has_effect = { has_effect };
 
     fn has_effect(self) -> bool {
-        matches!(self, SampleKind::Show)
+        matches!(self, SampleKind::Show | SampleKind::Call)
     }
 }
 
-/// No operation of the dialect uses symbols.
+impl FoldKind for SampleKind {
+    ghost use Rattle.sample_dialect.specs.Answers.{fold_of};
+
+    ghost fold = { fold_of };
+
+    fn fold(self, left: &IntegerAttr, right: &IntegerAttr) -> Option<IntegerAttr> {
+        match self {
+            SampleKind::Add => wrapping_sum(left, right),
+            _ => None,
+        }
+    }
+}
+
+/// A sum of a value and 0 is that value.
+impl IdentityKind for SampleKind {
+    ghost use Rattle.sample_dialect.specs.Answers.{identity_of};
+
+    ghost is_identity = { identity_of };
+
+    fn is_identity(self, _side: Side, constant: &IntegerAttr) -> bool {
+        match self {
+            SampleKind::Add => is_zero(constant),
+            _ => false,
+        }
+    }
+}
+
+/// The verifier of tables asks nothing of the dialect's operations.
 impl SymbolUses<SampleSet> for SampleKind {
     ghost use Rattle.std.specs.Prelude.{⊤};
 
@@ -30,25 +61,40 @@ impl SymbolUses<SampleSet> for SampleKind {
         _ctx: &Context<SampleSet>,
         _op: Ptr<Operation>,
         _tables: &mut SymbolTableCollection,
-    ) -> Result<(), VerifyErr<NeverRefused>> {
+    ) -> Result<(), VerifyErr<SampleErr>> {
         Ok(())
     }
 }
 
-/// The dialect asks nothing of its operations.
+/// Each operation stands as its kind wants it.
 impl VerifyKind<SampleSet> for SampleKind {
-    ghost use Rattle.std.specs.Prelude.{⊤};
+    ghost use Rattle.std.specs.Prelude.{◌≡◌, Some};
+    ghost use Rattle.plir_core.specs.ContextView.{location_of};
+    ghost use Rattle.sample_dialect.specs.Rules.{IsRight};
 
-    ghost rule = { λ _ _. ⊤ };
+    ghost rule = { IsRight };
 
-    ghost rule_refusal = { λ _ _ _ _. ⊥ };
+    ghost rule_refusal = { λ s op loc _. location_of s op ≡ Some loc };
 
     fn verify_op(
         _alloc: Global,
-        _ctx: &Context<SampleSet>,
-        _op: Ptr<Operation>,
-    ) -> Result<(), VerifyErr<NeverRefused>> {
-        Ok(())
+        ctx: &Context<SampleSet>,
+        op: Ptr<Operation>,
+    ) -> Result<(), VerifyErr<SampleErr>> {
+        let OpKind::Own(kind) = op.kind(ctx) else {
+            return Ok(());
+        };
+        match kind {
+            SampleKind::Add => accept_if(ctx, op, is_sum(ctx, op), SampleErr::NotASum),
+            SampleKind::Call => accept_if(ctx, op, callee(ctx, op).is_some(), SampleErr::NoCallee),
+            SampleKind::Branch => {
+                accept_if(ctx, op, goes_on(ctx, op, 1, 0), SampleErr::WrongBranch)
+            }
+            SampleKind::CondBranch => {
+                accept_if(ctx, op, goes_on(ctx, op, 2, 1), SampleErr::WrongBranch)
+            }
+            SampleKind::Show | SampleKind::Return => Ok(()),
+        }
     }
 }
 

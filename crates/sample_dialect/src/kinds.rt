@@ -1,7 +1,8 @@
 //! The dialect's kinds of operations, and the op set of them.
 use dce::EffectKind;
-use plir_data::{KindSet, NeverRefused, OwnKind};
+use plir_data::{KindSet, OwnKind};
 use plir_read_own::ReadKind;
+use thiserror::Error;
 
 /// The kinds.
 #[derive(Clone, Copy, PartialEq, Eq, Debug)]
@@ -10,18 +11,40 @@ pub enum SampleKind {
     Add,
     /// Shows values.
     Show,
+    /// Calls the function of the name under [`ATTR_KEY_CALLEE`](crate::ATTR_KEY_CALLEE), with all its operands.
+    Call,
+    /// Hands its operands back to the call.
+    Return,
+    /// Goes on at its successor, whose arguments its operands become.
+    Branch,
+    /// Goes on at one of two successors, as its first operand says; the others become the arguments of that.
+    CondBranch,
 }
 
 /// The builtin operations, and those of the dialect.
 pub type SampleSet = KindSet<SampleKind>;
 
+/// An operation does not stand as its kind wants it.
+#[derive(Clone, Copy, PartialEq, Eq, Debug, Error)]
+pub enum SampleErr {
+    /// A sum has not two operands and one result, all of one type.
+    #[error("a sum is of two values, and all of one type")]
+    NotASum,
+    /// A call names no function.
+    #[error("a call names a function by an identifier under 'callee'")]
+    NoCallee,
+    /// A branch has another number of successors, or its operands don't become the arguments of one.
+    #[error("a branch has other successors, or other operands than these have arguments")]
+    WrongBranch,
+}
+
 impl OwnKind for SampleKind {
     ghost use Rattle.std.specs.Prelude.{false};
-    ghost use Rattle.sample_dialect.specs.Answers.{id_of};
+    ghost use Rattle.sample_dialect.specs.Answers.{ends_block, id_of};
 
-    type Err = NeverRefused;
+    type Err = SampleErr;
 
-    ghost is_terminator = { λ _. false };
+    ghost is_terminator = { ends_block };
 
     ghost is_symbol = { λ _. false };
 
@@ -32,7 +55,10 @@ impl OwnKind for SampleKind {
     ghost id = { id_of };
 
     fn is_terminator(self) -> bool {
-        false
+        matches!(
+            self,
+            SampleKind::Return | SampleKind::Branch | SampleKind::CondBranch
+        )
     }
 
     fn is_symbol(self) -> bool {
@@ -51,6 +77,10 @@ impl OwnKind for SampleKind {
         match self {
             SampleKind::Add => "sample.add",
             SampleKind::Show => "sample.show",
+            SampleKind::Call => "sample.call",
+            SampleKind::Return => "sample.return",
+            SampleKind::Branch => "sample.br",
+            SampleKind::CondBranch => "sample.cond_br",
         }
     }
 }
@@ -67,6 +97,14 @@ impl ReadKind for SampleKind {
             Some(SampleKind::Add)
         } else if id == b"sample.show".as_slice() {
             Some(SampleKind::Show)
+        } else if id == b"sample.call".as_slice() {
+            Some(SampleKind::Call)
+        } else if id == b"sample.return".as_slice() {
+            Some(SampleKind::Return)
+        } else if id == b"sample.br".as_slice() {
+            Some(SampleKind::Branch)
+        } else if id == b"sample.cond_br".as_slice() {
+            Some(SampleKind::CondBranch)
         } else {
             None
         }
@@ -87,6 +125,6 @@ impl EffectKind for SampleKind {
     ghost has_effect = { has_effect };
 
     fn has_effect(self) -> bool {
-        matches!(self, SampleKind::Show)
+        matches!(self, SampleKind::Show | SampleKind::Call)
     }
 }

@@ -6,6 +6,7 @@
 mod sweep_pass;
 
 use plir_driver::{About, LibraryPass, OneOf, OwnTexts, opt_main};
+use plir_value_passes::{FoldPass, InlinePass};
 use sample_dialect::SampleSet;
 use std::process::ExitCode;
 use sweep_pass::SweepPass;
@@ -16,13 +17,18 @@ const ABOUT: About = About {
     about: "Reads the text of one operation, verifies it, runs passes over it, and prints it",
 };
 
-const PASSES: [OneOf<LibraryPass, SweepPass>; 4] = [
+/// A pass that the program offers.
+type SamplePass = OneOf<LibraryPass, OneOf<SweepPass, OneOf<InlinePass, FoldPass>>>;
+
+const PASSES: [SamplePass; 6] = [
     OneOf::First(LibraryPass::EraseNames),
     OneOf::First(LibraryPass::Dce),
     OneOf::First(LibraryPass::SymbolDce),
-    OneOf::Second(SweepPass { rounds: 1 }),
+    OneOf::Second(OneOf::First(SweepPass { rounds: 1 })),
+    OneOf::Second(OneOf::Second(OneOf::First(InlinePass::DEFAULT))),
+    OneOf::Second(OneOf::Second(OneOf::Second(FoldPass))),
 ];
 
 fn main(rt: HostRuntime) -> anyhow::Result<ExitCode> {
-    opt_main::<SampleSet, OneOf<LibraryPass, SweepPass>, OwnTexts>(&rt, &ABOUT, &PASSES)
+    opt_main::<SampleSet, SamplePass, OwnTexts>(&rt, &ABOUT, &PASSES)
 }

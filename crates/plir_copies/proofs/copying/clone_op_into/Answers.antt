@@ -87,8 +87,9 @@ returns-in-Ok-clause-held g c =
     let n = over (images c.new-nothing.result) (images c.args.map.now) in
     let same = ap (λ k. (over k (images c.args.map.now)).block) c.new-nothing.ensures
     ∙ sym (ap (λ k. k.block) c.in-Ok.ensures.ok) in
+    let call = sym (ap (λ k. k.call) c.in-Ok.ensures.ok) in
     c.set_operands.ensures.edited.held ∙ ap (option_map (with_operands_in m)) c.in_ok-copy.ensures.held
-    ∙ bare-whole m n same (op_at c.args.ctx.now c.args.op)
+    ∙ bare-whole m n same call (op_at c.args.ctx.now c.args.op)
 
 pub returns-in-Ok-clause-leaf : goal.returns-in-Ok-clause-leaf
 returns-in-Ok-clause-leaf g c =

@@ -14,7 +14,7 @@ returns-clause-made g c =
     let t = c.with_attributes.new.ctx in
     let p = c.in_ok-copy.copy in
     let f : OpView g.row.D-Kind.Denot g.row.D-Attr.Denot → OpView g.row.D-Kind.Denot g.row.D-Attr.Denot =
-    λ o. record o { location = c.loc-location.result } in
+    λ o. record o { location = c.inlined_at-location.result } in
     made-edited s t c.set_loc.new.ctx (Operation p) p f c.in_ok-copy.ensures.made.made
     (subst (λ u. IsOpEdited t u p f) (sym c.set_loc.ensures.after) (c.op_edits_keep_the_rest.ensures f))
     c.in_ok-copy.ensures.made.made.new

@@ -10,7 +10,7 @@ use Rattle.plir_core.specs.Held.{IsOpEdited}
 use Rattle.plir_core.specs.Room.{no_node}
 use Rattle.plir_core.specs.RoomLaws.{come_itself, op_edit_comes}
 use Rattle.plir_copies.specs.Images.{images, block_in}
-use Rattle.plir_copies.specs.Copied.{bare_under}
+use Rattle.plir_copies.specs.Copied.{with_successors_in}
 use Rattle.plir_copies.proofs.Changing.{front-at, half_put, put-none, put-next, put-all, put-list}
 use Rattle.plir_copies.proofs.Edits.{length-front}
 use Rattle.plir_copies.proofs.Images.{block-live}
@@ -99,5 +99,5 @@ returns-clause-edited g c =
     let xs = successors_of s c.args.op in
     let all : c.loop-i.i ≡ length xs =
     omega (arith, c.loop-i.auto.i-end, c.loop-i-test.false, c.get_num_successors-i-end.ensures.value) in
-    edited-as s c.loop-i.ctx c.args.op (half_put m xs c.loop-i.i) (bare_under m) c.loop-i.invariant.edited
+    edited-as s c.loop-i.ctx c.args.op (half_put m xs c.loop-i.i) (with_successors_in m) c.loop-i.invariant.edited
     (put-all m xs c.loop-i.i all (op_at s c.args.op) refl)

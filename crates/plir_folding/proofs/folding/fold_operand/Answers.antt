@@ -1,8 +1,6 @@
 use Rattle.std.proofs.Common.{◌≡◌, None, [], refl, sym, ap, subst, ◌∙◌, arith, inr, length, ◌<◌}
 use Rattle.std.specs.Prelude.{IsSome}
-use Rattle.std.proofs.lemmas.List.Elements.{All-cons, All-nil}
 use Rattle.std.proofs.lemmas.Option.{same_Some}
-use Rattle.plir_data.specs.Types.{IsLive as IsTypeLive}
 use Rattle.plir_core.specs.declared.ptr.IRNode.TheVariants.{Operation, BasicBlock}
 use Rattle.plir_core.specs.Forest.{look}
 use Rattle.plir_core.specs.Changes.{with_op_edit}
@@ -33,11 +31,6 @@ returns-in_default-clause-told g c = record {
 pub returns-in_default-clause-filled : goal.returns-in_default-clause-filled
 returns-in_default-clause-filled g c = λ xs ys e. ([], e)
 
-pub materialize-requires : goal.materialize-requires
-materialize-requires g c =
-    All-cons (IsTypeLive c.args.ctx.now.types) c.in-Some.integer.ty [] c.in-Some.ensures.live
-    (All-nil (IsTypeLive c.args.ctx.now.types))
-
 pub insert_before-requires-clause-mark_live : goal.insert_before-requires-clause-mark_live
 insert_before-requires-clause-mark_live g c =
     c.in_ok-constant.ensures.made.keeps.live (Operation c.args.op) c.requires.live
@@ -52,41 +45,41 @@ insert_before-requires-clause-not_above g c = c.in_ok-constant.ensures.made.apar
 
 pub op_edits_keep_the_rest-requires : goal.op_edits_keep_the_rest-requires
 op_edits_keep_the_rest-requires g c =
-    live-u g.D.OpSet.attr_handles c.args.ctx.now c.materialize.new.ctx c.insert_before.new.ctx c.args.block c.args.op
+    live-u g.D.OpSet.attr_handles c.args.ctx.now c.new_constant.new.ctx c.insert_before.new.ctx c.args.block c.args.op
     c.in_ok-constant.constant c.stands.ensures.standing.forest
     c.requires.here c.in_ok-constant.ensures.made c.insert_before.ensures.placed (Operation c.args.op) c.requires.live
 
 pub get_result-result-requires-clause-live : goal.get_result-result-requires-clause-live
 get_result-result-requires-clause-live g c =
-    new-live-u g.D.OpSet.attr_handles c.args.ctx.now c.materialize.new.ctx c.insert_before.new.ctx c.args.block
+    new-live-u g.D.OpSet.attr_handles c.args.ctx.now c.new_constant.new.ctx c.insert_before.new.ctx c.args.block
     c.args.op c.in_ok-constant.constant c.stands.ensures.standing.forest
     c.requires.here c.in_ok-constant.ensures.made c.insert_before.ensures.placed
 
 pub get_result-result-requires-clause-below : goal.get_result-result-requires-clause-below
 get_result-result-requires-clause-below g c =
     let same =
-    new-op-u g.D.OpSet.attr_handles c.args.ctx.now c.materialize.new.ctx c.insert_before.new.ctx c.args.block
+    new-op-u g.D.OpSet.attr_handles c.args.ctx.now c.new_constant.new.ctx c.insert_before.new.ctx c.args.block
     c.args.op c.in_ok-constant.constant c.stands.ensures.standing.forest
     c.requires.here c.in_ok-constant.ensures.made c.insert_before.ensures.placed in
-    subst (λ z. 0 < length (results_in z)) (sym (same ∙ c.in_ok-constant.ensures.tree.holds)) (omega arith)
+    subst (λ z. 0 < length (results_in z)) (sym (same ∙ c.in_ok-constant.ensures.held)) (omega arith)
 
 pub replace_operand-requires-clause-live : goal.replace_operand-requires-clause-live
 replace_operand-requires-clause-live g c =
-    live-u g.D.OpSet.attr_handles c.args.ctx.now c.materialize.new.ctx c.insert_before.new.ctx c.args.block c.args.op
+    live-u g.D.OpSet.attr_handles c.args.ctx.now c.new_constant.new.ctx c.insert_before.new.ctx c.args.block c.args.op
     c.in_ok-constant.constant c.stands.ensures.standing.forest
     c.requires.here c.in_ok-constant.ensures.made c.insert_before.ensures.placed (Operation c.args.op) c.requires.live
 
 pub replace_operand-requires-clause-below : goal.replace_operand-requires-clause-below
 replace_operand-requires-clause-below g c =
     let same =
-    op-u g.D.OpSet.attr_handles c.args.ctx.now c.materialize.new.ctx c.insert_before.new.ctx c.args.block c.args.op
+    op-u g.D.OpSet.attr_handles c.args.ctx.now c.new_constant.new.ctx c.insert_before.new.ctx c.args.block c.args.op
     c.in_ok-constant.constant c.stands.ensures.standing.forest
     c.requires.here c.in_ok-constant.ensures.made c.insert_before.ensures.placed c.args.op c.requires.live in
     subst (λ z. c.args.place < length (operands_in z)) (sym same) c.requires.below
 
 pub returns-in_err-constant-clause-below : goal.returns-in_err-constant-clause-below
 returns-in_err-constant-clause-below g c =
-    below-refused g.D.FoldSet.fold g.D.OpSet.attr_handles c.lawful_changes.ensures c.args.ctx.now c.materialize.new.ctx
+    below-refused g.D.FoldSet.fold g.D.OpSet.attr_handles c.lawful_changes.ensures c.args.ctx.now c.new_constant.new.ctx
     (BasicBlock c.args.block) c.stands.ensures.whole
     c.in_err-constant.ensures.whole c.in_err-constant.ensures.err c.in_err-constant.ensures.given
 
@@ -100,7 +93,7 @@ returns-clause-below g c =
     let fold = g.D.FoldSet.fold in
     let laws = c.lawful_changes.ensures in
     let s = c.args.ctx.now in
-    let t = c.materialize.new.ctx in
+    let t = c.new_constant.new.ctx in
     let u = c.insert_before.new.ctx in
     let v = c.replace_operand.new.ctx in
     let b = c.args.block in
@@ -117,9 +110,9 @@ returns-clause-below g c =
     subst (λ z. Lawful (look u) (BasicBlock b) (look z)) (sym after) (laws.op_edit u (BasicBlock b) op f) in
     record {
       folded =
-          folded-one own s t u b op k w c.requires.here e.made c.insert_before.ensures.placed fold g.D.OpSet.attr_type v
-          c.args.place (integer_of c.in-Some.integer) c.get_operand-value.result
-          (laws.forest t e.whole) e.tree e.types (ap (λ z. z.types) c.insert_before.ensures.after) edited
+          folded-one own s t u b op k w c.requires.here e.made c.insert_before.ensures.placed fold v
+          c.args.place (integer_of c.in-Some.integer) c.written_at-location.result c.get_operand-value.result
+          (laws.forest t e.whole) e.held e.leaf c.written_at-location.ensures e.types (ap (λ z. z.types) c.insert_before.ensures.after) edited
           c.get_operand-value.ensures.value (sym c.in-Some.ensures.value) c.stands.ensures.whole;
       lawful = lawful-fold own s t u b op k w c.requires.here e.made c.insert_before.ensures.placed laws v lawful;
       whole = c.replace_operand.ensures.whole;
@@ -131,7 +124,7 @@ returns-clause-told g c =
     let fold = g.D.FoldSet.fold in
     let laws = c.lawful_changes.ensures in
     let s = c.args.ctx.now in
-    let t = c.materialize.new.ctx in
+    let t = c.new_constant.new.ctx in
     let u = c.insert_before.new.ctx in
     let v = c.replace_operand.new.ctx in
     let b = c.args.block in
@@ -145,9 +138,9 @@ returns-clause-told g c =
     ∙ ap (λ z. with_op_edit u op (replaced_in c.args.place z)) c.get_result-result.ensures.value in
     let edited = subst (λ z. IsOpEdited u z op f) (sym after) (c.op_edits_keep_the_rest.ensures f) in
     let made =
-    new-constant own s t u b op k w c.requires.here e.made c.insert_before.ensures.placed fold g.D.OpSet.attr_type v
-    c.args.place (integer_of c.in-Some.integer) c.get_operand-value.result
-    (laws.forest t e.whole) e.tree e.types (ap (λ z. z.types) c.insert_before.ensures.after) edited
+    new-constant own s t u b op k w c.requires.here e.made c.insert_before.ensures.placed fold v
+    c.args.place (integer_of c.in-Some.integer) c.written_at-location.result c.get_operand-value.result
+    (laws.forest t e.whole) e.held e.leaf c.written_at-location.ensures e.types (ap (λ z. z.types) c.insert_before.ensures.after) edited
     c.get_operand-value.ensures.value (sym c.in-Some.ensures.value) in
     record {
       tells =
@@ -164,7 +157,7 @@ returns-clause-filled g c =
     let fold = g.D.FoldSet.fold in
     let laws = c.lawful_changes.ensures in
     let s = c.args.ctx.now in
-    let t = c.materialize.new.ctx in
+    let t = c.new_constant.new.ctx in
     let u = c.insert_before.new.ctx in
     let v = c.replace_operand.new.ctx in
     let b = c.args.block in
@@ -177,7 +170,7 @@ returns-clause-filled g c =
     c.replace_operand.ensures.after
     ∙ ap (λ z. with_op_edit u op (replaced_in c.args.place z)) c.get_result-result.ensures.value in
     let edited = subst (λ z. IsOpEdited u z op f) (sym after) (c.op_edits_keep_the_rest.ensures f) in
-    filled-one own s t u b op k w c.requires.here e.made c.insert_before.ensures.placed fold g.D.OpSet.attr_type v
-    c.args.place (integer_of c.in-Some.integer) c.get_operand-value.result
-    (laws.forest t e.whole) e.tree e.types (ap (λ z. z.types) c.insert_before.ensures.after) edited
+    filled-one own s t u b op k w c.requires.here e.made c.insert_before.ensures.placed fold v
+    c.args.place (integer_of c.in-Some.integer) c.written_at-location.result c.get_operand-value.result
+    (laws.forest t e.whole) e.held e.leaf c.written_at-location.ensures e.types (ap (λ z. z.types) c.insert_before.ensures.after) edited
     c.get_operand-value.ensures.value (sym c.in-Some.ensures.value)

@@ -15,7 +15,7 @@ put_in_place-requires g c =
     let ft = (c.contexts_stand.ensures t c.copy_tree.ensures.whole).forest in
     let done = c.in_ok-copy.ensures.copied in
     can-put g.D.OpSet.attr_handles s t c.args.call c.args.block c.in_ok-copy.copy c.requires whole fs ft
-    c.in_ok-copy.ensures.made done.0 done.1
+    c.in_ok-copy.ensures.made c.loc-place.result done.0 done.1
 
 pub returns-clause-ok : goal.returns-clause-ok
 returns-clause-ok g c =
@@ -28,9 +28,10 @@ returns-clause-ok g c =
     let done = c.in_ok-copy.ensures.copied in
     let made = c.in_ok-copy.ensures.made in
     let ends = copy-ends g.D.OpSet.attr_handles s t c.args.call c.args.block c.in_ok-copy.copy c.requires whole fs ft
-    made done.0 done.1 in
-    inlined g.D.OpSet.attr_handles s t c.args.call c.args.block c.in_ok-copy.copy c.requires whole fs ft made done.0 done.1
+    made c.loc-place.result done.0 done.1 in
+    inlined g.D.OpSet.attr_handles s t c.args.call c.args.block c.in_ok-copy.copy c.requires whole fs ft made c.loc-place.result done.0 done.1
     u (c.put_in_place.ensures.put (done.1.copies.op c.requires.last) (map (node_copy done.1.copies) c.requires.body) ends) c.copy_tree.ensures.types
+    c.loc-place.ensures.value
 
 pub returns-clause-room : goal.returns-clause-room
 returns-clause-room g c =

@@ -10,6 +10,7 @@ returns-in_err-reserve-2-clause-err c =
     on-err c.from_residual-in_err-reserve-2.result (λ i. record {
       value = λ x. value_same c.args.self.now.values c.reserve.new.self c.in_ok-reserve.ensures.entries.2 x i;
       block = λ x. ptr_same c.args.self.now.blocks c.reserve-2.new.self c.in_err-reserve-2.ensures.entries.2 x i;
+      call = (images c.args.self.now).call;
     })
 
 pub returns-clause-ok : goal.returns-clause-ok
@@ -23,4 +24,5 @@ returns-clause-ok c =
           (ptr_found c.args.other.now.blocks x j) (ptr_found c.reserve-2.new.self x j))
           ∙ ap (option_or ((images c.args.other.now).block x)) (ptr_same c.args.self.now.blocks c.reserve-2.new.self
           c.in_ok-reserve-2.ensures.entries.2 x)) i;
+      call = (images c.args.self.now).call;
     }

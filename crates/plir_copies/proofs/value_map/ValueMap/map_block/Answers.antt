@@ -8,4 +8,5 @@ returns-clause-ok c =
       value = (images c.args.self.now).value;
       block = λ x. ptr_put c.args.self.now.blocks c.insert.new.self c.args.from c.args.to
           c.in_ok-insert.ensures.updates.0 x i;
+      call = (images c.args.self.now).call;
     }

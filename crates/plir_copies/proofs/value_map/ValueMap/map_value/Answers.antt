@@ -8,4 +8,5 @@ returns-clause-ok c =
       value = λ x. value_put c.args.self.now.values c.insert.new.self c.args.from c.args.to
           c.in_ok-insert.ensures.updates.0 x i;
       block = (images c.args.self.now).block;
+      call = (images c.args.self.now).call;
     }

@@ -1,6 +1,0 @@
-// SPDX-License-Identifier: Apache-2.0
-//! Tests of `plir_checks`, in a crate of their own, since a crate that holds its tests is proved twice, once with them.
-#![tactic(auto)]
-
-#[cfg(test)]
-mod tests;

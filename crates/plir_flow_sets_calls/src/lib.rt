@@ -1,9 +1,0 @@
-// SPDX-License-Identifier: Apache-2.0
-//! The calls of scripts on sets that tell their flow, and structs of their operations, and how such a script is played.
-#![tactic(auto)]
-
-mod asking;
-mod calls;
-mod structs;
-
-pub use calls::play_in;

@@ -1,8 +1,0 @@
-// SPDX-License-Identifier: Apache-2.0
-//! Tests of `plir_read_own`, in a crate of their own, since a crate that holds its tests is proved twice, once with
-//! them.
-#![tactic(auto)]
-
-pub mod kinds;
-#[cfg(test)]
-mod tests;

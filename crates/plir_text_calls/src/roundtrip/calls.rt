@@ -1,0 +1,37 @@
+//! The scripts of operations that can be read back, and of those that cannot.
+use crate::roundtrip::readable::{OwnAttrSet, read_nested, readable, set_own};
+use crate::roundtrip::reading_back::module_is_read_back;
+use plir_data::OpSet;
+use plir_scripts::{Bench, Layer, Line, Mismatch, NodeCalls, SampleSet, Stop, play};
+use std::alloc::Global;
+
+/// The calls of these tests, and those on nodes.
+struct ReadableCalls;
+
+impl<D: OwnAttrSet> Layer<D> for ReadableCalls {
+    fn run(bench: &mut Bench<D>, line: Line<'_>) -> Result<(), Stop> {
+        match line.command {
+            "readable" => readable(bench, line),
+            "nested" => read_nested(bench, line),
+            "own" => set_own(bench, line),
+            "read-back" => read_back(bench),
+            _ => NodeCalls::run(bench, line),
+        }
+    }
+}
+
+// Answers whether a module is read back.
+fn read_back<D: OpSet>(bench: &mut Bench<D>) -> Result<(), Stop> {
+    let is_read_back = module_is_read_back(bench.alloc)?;
+    bench.answer.put_truth(is_read_back);
+    Ok(())
+}
+
+/// Plays a script of operations that are read back in a context with room for so many nodes.
+///
+/// # Errors
+///
+/// The first line whose answer is another one.
+pub fn play_in(alloc: Global, max_nodes: u32, script: &str) -> Result<(), Mismatch> {
+    play::<SampleSet, ReadableCalls>(alloc, max_nodes, script)
+}
