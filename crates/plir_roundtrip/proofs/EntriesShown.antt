@@ -164,7 +164,7 @@ module _ {A T : Type 0} (types : List (TypeView T)) (own : A → Bool) where
   entry_kept k (dict es) h e = refl
   entry_kept k (vec xs) h e = refl
 
-not_or : (a b : Bool) → not (a || b) ≡ true → b ≡ false
+pub not_or : (a b : Bool) → not (a || b) ≡ true → b ≡ false
 not_or true b e = absurd cc
 not_or false true e = absurd cc
 not_or false false e = refl

@@ -4,6 +4,7 @@ pub mod Joined
 pub mod PartsShown
 pub mod Children
 pub mod EntriesShown
+pub mod OpParts
 pub mod OpShown
 pub mod MeantAgain
 pub mod NamesAgain
@@ -17,3 +18,18 @@ pub mod Asked
 pub mod ValuesAsked
 pub mod NodesAsked
 pub mod PartLevels
+pub mod IrChildren
+pub mod Ids
+pub mod ListsShown
+pub mod OwnShown
+pub mod FrontsShown
+pub mod IrShown
+pub mod IrStands
+pub mod IrReadBack
+pub mod OnePlace
+pub mod Related
+pub mod OwnSame
+pub mod Mentioned
+pub mod IrSame
+pub mod SameReadBack
+pub mod BuiltinTexts

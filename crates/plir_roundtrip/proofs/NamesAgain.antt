@@ -11,7 +11,7 @@ use Rattle.plir_walk.specs.GivenNames.{name_at, names_in, names_under}
 use Rattle.plir_read.specs.Heads.{names_attributes, constant_attributes}
 use Rattle.plir_roundtrip.proofs.Children.{at_row}
 
-none_named : (ns : List (Option (List ℕ))) (i : ℕ) → list_all is_none ns ≡ true → name_at ns i ≡ None
+pub none_named : (ns : List (Option (List ℕ))) (i : ℕ) → list_all is_none ns ≡ true → name_at ns i ≡ None
 none_named [] i h = refl
 none_named (None ∷ ns) zero h = refl
 none_named (None ∷ ns) (suc i) h = none_named ns i h

@@ -34,7 +34,7 @@ use Rattle.plir_roundtrip.specs.Readable.{IsBodyReadable, IsConstantReadable, Is
 use Rattle.plir_roundtrip.specs.SameTree.{HoldSame, IsSameOp}
 use Rattle.plir_roundtrip.specs.Written.{some_type_term, argument_term, symbol_of}
 use Rattle.plir_roundtrip.proofs.NamesAgain.{no_others, constant_names_again}
-use Rattle.plir_roundtrip.proofs.OpShown.{HoldsConstant}
+use Rattle.plir_roundtrip.proofs.OpParts.{HoldsConstant}
 use Rattle.plir_roundtrip.proofs.PrintedNames.{result_name_given}
 use Rattle.plir_roundtrip.proofs.EntriesShown.{key_is, other_bytes, name_there, shown_there}
 

@@ -1,4 +1,4 @@
--- What the law of the round trip cites, and the test whether it speaks of an operation.
+-- What the laws of the round trip cite, and the test whether the law of builtin operations speaks of one.
 --
 --   Written        op_term_of: an operation as it is written
 --   Readable       IsReadable: what a text tells of an operation is all that it holds, and can be read
@@ -7,9 +7,28 @@
 --                  NewModulesReadable
 --   ReadableParts  what the test asks of a value, a node, and of all nodes of a tree
 --   WrittenLevels  how many levels the parts of an operation have as they are written
+--
+-- Of operations of any kind:
+--
+--   IrWritten      ir_term_of: an operation as it is written
+--   IrReadable     HasReadableText: what is asked of an operation, so that its text stands for it
+--   TextsStanding  IrTextsStand: the text of an operation stands for it
+--   IrReadBack     IsIrRead: what the reader answers; IsIrReadBack: that it reads back what was printed
+--   SameIrTree     IsSameIrTree: two trees are the same, with what their operations use
+--   UsesMeant      UsesStand: each name that the text of an operation uses means what it was written for
+--   SameReadBack   IsSameReadBack: what was printed is read back as the same tree
+--   BuiltinTexts   BuiltinTextsAreRead: texts of builtin operations are texts of operations of any kind
 pub mod Written
 pub mod Readable
 pub mod SameTree
 pub mod OpAnswer
 pub mod ReadableParts
 pub mod WrittenLevels
+pub mod IrWritten
+pub mod IrReadable
+pub mod TextsStanding
+pub mod IrReadBack
+pub mod SameIrTree
+pub mod UsesMeant
+pub mod SameReadBack
+pub mod BuiltinTexts
