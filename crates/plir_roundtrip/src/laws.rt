@@ -78,8 +78,8 @@ pub fn ir_tree_is_read_back<D: ReadSet>(text: &str, read: &Result<Ptr<Operation>
     plir_read_ir::laws::text_stands_for_one_operation::<D>();
 }
 
-/// What the laws of operations of any kind ask holds of each operation that `is_readable` accepts: its text can be read by
-/// `read_ir` too, and each name in it stands, since it uses none.
+/// What the laws of operations of any kind ask holds of each operation that `is_readable` accepts: its text can be read
+/// by `read_ir` too, and each name in it stands, since it uses none.
 pub fn builtin_texts_are_read<D: ReadSet>()
     ensures { BuiltinTextsAreRead D.OpSet D.find_kind D.is_isolated }
 {
