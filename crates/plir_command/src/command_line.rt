@@ -56,40 +56,68 @@ fn in_place_of_graphs<'a>(option: Arg<'a>) -> Result<Arg<'a>, AllocError> {
         .conflicts_with(CALL_GRAPH)
 }
 
-// The options that choose how the operation is printed: one of them at most.
-fn with_forms<'a>(alloc: Global, command: Command<'a>) -> Result<Command<'a>, AllocError> {
+// The options that list nodes and operations.
+fn walk<'a>(alloc: Global) -> Result<Arg<'a>, AllocError> {
     let walk = flag(
         alloc,
         WALK,
         "Print a line for each node, parents first and further out",
     );
+    in_place_of_graphs(walk.conflicts_with(LOCATIONS)?)
+}
+
+fn locations<'a>(alloc: Global) -> Result<Arg<'a>, AllocError> {
     let locations = flag(
         alloc,
         LOCATIONS,
         "Print a line for each operation, with its place in the text",
     );
+    in_place_of_graphs(locations)
+}
+
+// The options that draw graphs.
+fn view<'a>(alloc: Global) -> Result<Arg<'a>, AllocError> {
     let view = flag(
         alloc,
         VIEW,
         "Print a graph in DOT: a cluster for each region, a box for each block, arrows to successors",
     );
+    view.conflicts_with(CALL_GRAPH)
+}
+
+fn view_uses<'a>(alloc: Global) -> Result<Arg<'a>, AllocError> {
     let uses = flag(
         alloc,
         VIEW_USES,
         "Print such a graph, with a dashed arrow for each use of a value too",
     );
-    let call_graph = flag(
+    uses.conflicts_with(CALL_GRAPH)
+}
+
+fn call_graph<'a>(alloc: Global) -> Arg<'a> {
+    flag(
         alloc,
         CALL_GRAPH,
         "Print a call graph in DOT: a cluster for each module, a box for each function, an arrow to each that it uses",
-    );
+    )
+}
+
+fn with_lists<'a>(alloc: Global, command: Command<'a>) -> Result<Command<'a>, AllocError> {
+    command.arg(walk(alloc)?)?.arg(locations(alloc)?)
+}
+
+fn with_graphs<'a>(alloc: Global, command: Command<'a>) -> Result<Command<'a>, AllocError> {
     command
-        .arg(in_place_of_graphs(walk.conflicts_with(LOCATIONS)?)?)?
-        .arg(in_place_of_graphs(locations)?)?
-        .arg(view.conflicts_with(CALL_GRAPH)?)?
-        .arg(uses.conflicts_with(CALL_GRAPH)?)?
-        .arg(call_graph)?
-        .arg(trace_walk(alloc)?)
+        .arg(view(alloc)?)?
+        .arg(view_uses(alloc)?)?
+        .arg(call_graph(alloc))
+}
+
+// The options that choose how the operation is printed: one of them at most.
+fn with_forms<'a>(alloc: Global, command: Command<'a>) -> Result<Command<'a>, AllocError> {
+    let command = with_lists(alloc, command)?;
+    let command = with_graphs(alloc, command)?;
+    command.arg(trace_walk(alloc)?)
 }
 
 // The option of a pass.
@@ -118,12 +146,13 @@ fn pass_names<'a, P: Offered>(alloc: Global, passes: &[P]) -> Result<Vec<&'a str
 }
 
 // The option that names all passes, beside none of the options of single ones.
-fn pipeline<'a>(alloc: Global, names: &[&'a str]) -> Result<Arg<'a>, AllocError> {
+fn pipeline<'a, P: Offered>(alloc: Global, passes: &[P]) -> Result<Arg<'a>, AllocError> {
+    let names = pass_names(alloc, passes)?;
     Arg::new(alloc, PASS_PIPELINE)
         .long(PASS_PIPELINE)
         .value_name("PASSES")
         .help("Passes by their names, with commas between them, in the order in which they run")
-        .conflicts_with_all(names)
+        .conflicts_with_all(names.as_slice())
 }
 
 // The options of options of passes, each of which takes a number.
@@ -146,70 +175,114 @@ fn with_passes<'a, P: Offered>(
     passes: &[P],
     flags: &'a [Flag],
 ) -> Result<Command<'a>, AllocError> {
-    let options = pass_options(alloc, passes)?;
-    let names = pass_names(alloc, passes)?;
-    let pipeline = pipeline(alloc, names.as_slice())?;
-    let numbers = number_options(alloc, flags)?;
-    command.args(options)?.args(numbers)?.arg(pipeline)
+    let command = command.args(pass_options(alloc, passes)?)?;
+    let command = command.args(number_options(alloc, flags)?)?;
+    command.arg(pipeline(alloc, passes)?)
 }
 
 // What is told of passes as they run.
-fn with_reports<'a>(alloc: Global, command: Command<'a>) -> Result<Command<'a>, AllocError> {
-    let before = Arg::new(alloc, PRINT_BEFORE)
+fn print_before<'a>(alloc: Global) -> Arg<'a> {
+    Arg::new(alloc, PRINT_BEFORE)
         .long(PRINT_BEFORE)
         .value_name("PASSES")
         .help(
             "Print the operation to the standard error in front of these passes, named as in a pipeline",
-        );
-    let after_all = flag(
+        )
+}
+
+fn print_after_all<'a>(alloc: Global) -> Arg<'a> {
+    flag(
         alloc,
         PRINT_AFTER_ALL,
         "Print the operation to the standard error behind each pass",
-    );
-    let stats = flag(
+    )
+}
+
+fn stats<'a>(alloc: Global) -> Arg<'a> {
+    flag(
         alloc,
         STATS,
         "Tell on the standard error how many operations there are in front of each pass and behind it",
-    );
-    let timing = flag(
+    )
+}
+
+fn timing<'a>(alloc: Global) -> Arg<'a> {
+    flag(
         alloc,
         TIMING,
         "Tell on the standard error how long each pass took, in a table",
-    );
-    command.arg(before)?.arg(after_all)?.arg(stats)?.arg(timing)
+    )
+}
+
+fn with_reports<'a>(alloc: Global, command: Command<'a>) -> Result<Command<'a>, AllocError> {
+    command
+        .arg(print_before(alloc))?
+        .arg(print_after_all(alloc))?
+        .arg(stats(alloc))?
+        .arg(timing(alloc))
 }
 
 // What is compared with what the comments of a text say: then nothing is printed.
-fn with_tests<'a>(alloc: Global, command: Command<'a>) -> Result<Command<'a>, AllocError> {
+fn diagnostics<'a>(alloc: Global) -> Result<Arg<'a>, AllocError> {
     let diagnostics = flag(
         alloc,
         VERIFY_DIAGNOSTICS,
         "Print nothing, and compare the refusals with those that comments `// expected-error` expect",
     );
+    diagnostics.conflicts_with(OUTPUT)
+}
+
+fn check<'a>(alloc: Global) -> Result<Arg<'a>, AllocError> {
     let check = flag(
         alloc,
         CHECK,
         "Print nothing, and compare what would be printed with comments `// CHECK:` and `// CHECK-NEXT:`",
     );
-    command
-        .arg(diagnostics.conflicts_with(OUTPUT)?)?
-        .arg(check.conflicts_with(OUTPUT)?)
+    check.conflicts_with(OUTPUT)
+}
+
+fn with_tests<'a>(alloc: Global, command: Command<'a>) -> Result<Command<'a>, AllocError> {
+    command.arg(diagnostics(alloc)?)?.arg(check(alloc)?)
 }
 
 // Where texts come from, and where what is printed of them goes.
-fn with_files<'a>(alloc: Global, command: Command<'a>) -> Result<Command<'a>, AllocError> {
-    let file = Arg::new(alloc, FILE).action(ArgAction::Append).help(
+fn file<'a>(alloc: Global) -> Arg<'a> {
+    Arg::new(alloc, FILE).action(ArgAction::Append).help(
         "The files with the texts, one after another; the standard input, if none is named",
-    );
-    let output = Arg::new(alloc, OUTPUT).short('o').value_name("OUT").help(
+    )
+}
+
+fn output<'a>(alloc: Global) -> Arg<'a> {
+    Arg::new(alloc, OUTPUT).short('o').value_name("OUT").help(
         "The file that what is printed goes to; the standard output, if none is named",
-    );
-    let split = flag(
+    )
+}
+
+fn split<'a>(alloc: Global) -> Arg<'a> {
+    flag(
         alloc,
         SPLIT,
         "Cut the input at lines `// -----`, and handle each part alone",
-    );
-    command.arg(file)?.arg(output)?.arg(split)
+    )
+}
+
+fn with_files<'a>(alloc: Global, command: Command<'a>) -> Result<Command<'a>, AllocError> {
+    command
+        .arg(file(alloc))?
+        .arg(output(alloc))?
+        .arg(split(alloc))
+}
+
+fn verify<'a>(alloc: Global) -> Result<Arg<'a>, AllocError> {
+    flag(alloc, VERIFY, "Verify behind each pass too").visible_alias(VERIFY_EACH)
+}
+
+// What a program is called, and what it says of itself.
+fn told_of<'a>(alloc: Global, about: &About) -> Command<'a> {
+    Command::new(alloc, about.name)
+        .version(about.version)
+        .about(about.about)
+        .after_help(AFTER)
 }
 
 /// The words that a program takes, which offers some passes, and their options by flags.
@@ -219,12 +292,8 @@ pub fn command<'a, P: Offered>(
     passes: &[P],
     flags: &'a [Flag],
 ) -> Result<Command<'a>, AllocError> {
-    let verify = flag(alloc, VERIFY, "Verify behind each pass too").visible_alias(VERIFY_EACH)?;
-    let command = Command::new(alloc, about.name)
-        .version(about.version)
-        .about(about.about)
-        .after_help(AFTER);
-    let command = with_files(alloc, command)?.arg(verify)?;
+    let command = with_files(alloc, told_of(alloc, about))?;
+    let command = command.arg(verify(alloc)?)?;
     let command = with_passes(alloc, command, passes, flags)?;
     let command = with_reports(alloc, command)?;
     let command = with_tests(alloc, command)?;

@@ -8,6 +8,7 @@ ghost use Rattle.plir_verify.specs.Rules.{AllHaveRules};
 ghost use Rattle.plir_driver.specs.Dumps.{AreLogged, IsLogged, IsPassLogged};
 ghost use Rattle.plir_driver.specs.PassEnds.{IsEnd};
 ghost use Rattle.plir_driver.specs.Passed.{AreRun};
+ghost use Rattle.plir_driver.specs.Reading.{no_nodes};
 ghost use Rattle.plir_driver.specs.Stopped.{IsNoText, IsStopped, IsStoppedAt, IsStoppedIn, IsUnprinted};
 ghost use Rattle.plir_driver.specs.Transformed.{IsTransformed, IsPrintedAs};
 
@@ -85,22 +86,43 @@ fn transform_text<D: VerifySet + SymbolNames, P: Pass<D>, T: TextReader<D>, R: C
         choices.now.passes.items text.now log.old log.new) }
 {
     let mut ctx = Context::<D>::new(alloc);
+    transform_in::<D, P, T, R>(rt, alloc, choices, text, &mut ctx, log)
+}
+
+// The same in a context in which nothing was made yet.
+fn transform_in<D: VerifySet + SymbolNames, P: Pass<D>, T: TextReader<D>, R: Clock + Watch>(
+    rt: &R,
+    alloc: Global,
+    choices: &Choices<P>,
+    text: &str,
+    ctx: &mut Context<D>,
+    log: &mut Log,
+) -> Result<String, Stop<D::Err>>
+    requires { ctx.old.nodes ≡ no_nodes }
+    ensures transformed { IfOk result (λ t. IsTransformed D.OpSet D.uses_hold D.rule D.names_used T.stands
+        P.has_passed choices.now.verify choices.now.passes.items choices.now.form text.now (string_bytes t)) }
+    ensures stopped { IfErr result (IsStopped D.OpSet D.uses_hold D.use_refusal D.rule D.rule_refusal D.names_used
+        T.stands T.refuses P.has_passed P.may_stop choices.now.verify choices.now.passes.items choices.now.form
+        text.now) }
+    ensures logged { OnOk result (IsLogged D.OpSet P.pass_name P.has_passed choices.now.reports T.stands
+        choices.now.passes.items text.now log.old log.new) }
+{
     rt.begin("reading");
-    let root = T::read(alloc, &mut ctx, text)?;
+    let root = T::read(alloc, ctx, text)?;
     rt.begin("verifying");
-    verify_tree(alloc, &ctx, root)?;
+    verify_tree(alloc, ctx, root)?;
     run_passes::<D, P, R>(
         rt,
         alloc,
         choices.verify,
         choices.passes.as_slice(),
         &choices.reports,
-        &mut ctx,
+        ctx,
         root,
         log,
     )?;
     rt.begin("printing");
-    print(alloc, choices.form, &ctx, root)
+    print(alloc, choices.form, ctx, root)
 }
 
 // Runs passes, one after another.
