@@ -1,4 +1,5 @@
--- Nothing that a printed operation uses has a fault where its text is read, where each name means what it was written for.
+-- Nothing that a printed operation uses has a fault where its text is read, if each name means what it was written
+-- for.
 use Rattle.std.proofs.Common.{◌≡◌, ℕ, zero, suc, Bool, List, [], Option, Some, None, refl, sym, subst, arith}
 use Rattle.plir_data.specs.Types.{IsTypeTable}
 use Rattle.plir_data.specs.declared.op_set.OpKind.{OpKind}
@@ -12,7 +13,7 @@ use Rattle.plir_core.specs.WellFormed.{IsWellFormed}
 use Rattle.plir_core.specs.declared.ptr.Ptr.{Ptr}
 use Rattle.plir_core.specs.declared.ptr.Operation.{Operation as OperationKind}
 use Rattle.plir_core.specs.declared.ptr.IRNode.{IRNode}
-use Rattle.plir_core.specs.declared.ptr.IRNode.TheVariants.{Operation, Region, BasicBlock}
+use Rattle.plir_core.specs.declared.ptr.IRNode.TheVariants.{Operation}
 use Rattle.plir_attr_text.specs.Names.{Grows}
 use Rattle.plir_attr_text.specs.TypeGrammar.{IsText}
 use Rattle.plir_print.specs.OpText.{op_text, room}
@@ -34,17 +35,13 @@ use Rattle.plir_roundtrip.proofs.IrStands.{ir_stands}
 use Rattle.plir_roundtrip.proofs.MadeTold.{IsKnown, IsTypedSame, made_told}
 use Rattle.plir_roundtrip.proofs.Mentioned.{op_told}
 use Rattle.plir_roundtrip.proofs.OnePlace.{one_place}
+use Rattle.plir_roundtrip.proofs.OpSame.{op_held}
 use Rattle.plir_roundtrip.proofs.Related.{SayAlike}
 use Rattle.plir_roundtrip.proofs.UsesGood.{AreGood, good_told, refuted}
 
 module _ {D K A T E : Type 0} (o : op_set.Ghosts D K A T E) (find : List ℕ → Option K) (isolated : K → Bool)
     (s t : ContextView K A T) (st : IsStanding s) (p : Ptr OperationKind) (readable : HasReadableText o find s p) where
   -- ---- what was made of the operation is an operation
-
-  op_there : (n : IRNode) (v : OpView K A) → HoldsOp t n v → (q : Ptr OperationKind) × (n ≡ Operation q)
-  op_there (Operation q) v h = (q, refl)
-  op_there (Region r) v h = absurd h
-  op_there (BasicBlock b) v h = absurd h
 
   front_there : (n : IRNode) → IsFrontMade t nowhere n (front_of o s (kind_of s p) p)
       → (q : Ptr OperationKind) × (n ≡ Operation q)
@@ -53,13 +50,16 @@ module _ {D K A T E : Type 0} (o : op_set.Ghosts D K A T E) (find : List ℕ →
       builtin : (kind : Option (OpKind K)) → kind_of s p ≡ kind → IsOpReadable s p → IsKindReadable s kind p
       builtin kind is r = subst (λ z. IsKindReadable s z p) is r.kind
 
+      held : (v : OpView K A) → HoldsOp t n v → (q : Ptr OperationKind) × (n ≡ Operation q)
+      held v h = let q = op_held t n v h in (q.0, q.1)
+
       by : (kind : Option (OpKind K)) → kind_of s p ≡ kind → IsReadableAs o find s kind p
           → IsFrontMade t nowhere n (front_of o s kind p) → (q : Ptr OperationKind) × (n ≡ Operation q)
-      by (Some Module) is r h = op_there n _ h.2
-      by (Some Func) is r h = let head = h.2 in op_there n _ head.2
-      by (Some Constant) is r h = op_there n _ h.3
+      by (Some Module) is r h = held _ h.2
+      by (Some Func) is r h = let head = h.2 in held _ head.2
+      by (Some Constant) is r h = held _ h.3
       by (Some ForwardRef) is r h = absurd (builtin (Some ForwardRef) is r)
-      by (Some (Own k)) is r h = op_there n _ h.holds
+      by (Some (Own k)) is r h = held _ h.holds
       by None is r h = absurd (builtin None is r)
 
   made_there : (n : IRNode) (k : ℕ) → HasRoom s (Operation p) k
