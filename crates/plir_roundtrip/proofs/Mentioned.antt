@@ -302,10 +302,10 @@ module _ {D K A T E : Type 0} (o : op_set.Ghosts D K A T E) (isolated : K → Bo
         let here : At bt (Operation q.0) (term k (Operation p.0)) =
         subst (λ a. At bt a (term k (Operation p.0))) q.1 (subst (λ a. At bt z (term k a)) p.1 h) in
         let enough : HasRoom s (Operation p.0) k = subst (λ a. HasRoom s a k) p.1 (room w m) in
-        let of : Known at (Operation p.0) = subst (Known at) p.1 (tell.known_in at (BasicBlock d) w m known) in
+        let kept : Known at (Operation p.0) = subst (Known at) p.1 (tell.known_in at (BasicBlock d) w m known) in
         subst (λ a. ToldOf at bt a z (term k a)) (sym p.1)
         (subst (λ a. ToldOf at bt (Operation p.0) a (term k (Operation p.0))) (sym q.1)
-        (told at bt p.0 q.0 scopes enough one of here))
+        (told at bt p.0 q.0 scopes enough one kept here))
 
     -- regions of operations
     regions_in : (k : ℕ) → OpTold k → (b c : Option (Ptr OperationKind)) → SameScope s t x y (λ z. Operation z) b c
@@ -323,17 +323,17 @@ module _ {D K A T E : Type 0} (o : op_set.Ghosts D K A T E) (isolated : K → Bo
         subst (λ z. AreBlocksAt isolated t front (record { body = c; region = Some q })
         (children t (Region q)) (blocks_of (region_written s (term k) z))) is blocks in
         let enough : HasRoom s (Region r) k = subst (λ z. HasRoom s z k) is room in
-        let of : Known (record { body = b; region = None }) (Region r) =
+        let kept : Known (record { body = b; region = None }) (Region r) =
         subst (Known (record { body = b; region = None })) is known in
         subst (λ z. Says (blocks_mentions isolated s (record { body = b; region = region_of z })
         (children s z) (blocks_of (region_written s (term k) z)))
         (blocks_mentions isolated t (record { body = c; region = Some q }) (children t (Region q))
         (blocks_of (region_written s (term k) z)))) (sym is)
-        (region_told k b c r q same place of inside (λ d e m.
+        (region_told k b c r q same place kept inside (λ d e m.
         ops_in k told (record { body = b; region = Some r }) (record { body = c; region = Some q }) d e
         (record { body = same; region = place }) (λ w n. lower_room s st (BasicBlock d) w k n
         (lower_room s st (Region r) (BasicBlock d) k m enough))
-        (tell.known_in (record { body = b; region = None }) (Region r) (BasicBlock d) m of)))
+        (tell.known_in (record { body = b; region = None }) (Region r) (BasicBlock d) m kept)))
 
     op_step : (k : ℕ) → OpTold k → OpTold (suc k)
     op_step k told at bt p q scopes room place known h =
