@@ -63,9 +63,8 @@ use Rattle.plir_roundtrip.proofs.Mentioned.{InRow, SameScopes, bodies_alike, chi
 use Rattle.plir_roundtrip.proofs.Mentioned.{others_in_row}
 use Rattle.plir_roundtrip.proofs.NamesAgain.{names_again, no_others, name_in_row}
 use Rattle.plir_roundtrip.proofs.OpSame.{block_held, module_holds_same, func_holds_same, body_same, constant_same}
-use Rattle.plir_roundtrip.proofs.OpSame.{value_of_place, typed}
+use Rattle.plir_roundtrip.proofs.OpSame.{value_of_place}
 use Rattle.plir_roundtrip.proofs.OwnSame.{own_holds_same, own_names_same, read_attributes, read_names}
-use Rattle.plir_roundtrip.proofs.OwnSame.{results_typed}
 use Rattle.plir_roundtrip.proofs.PartsShown.{AreWritable}
 use Rattle.plir_roundtrip.proofs.PrintedNames.{block_name_given, argument_name_given}
 use Rattle.plir_roundtrip.proofs.Related.{SameScope, SayAlike, all_meant, meant_alike}
@@ -322,7 +321,8 @@ module _ {D K A T E : Type 0} (o : op_set.Ghosts D K A T E) (find : List ℕ →
         (placed u (Region r) (Region is.0) (Region r) is.1 refl here)
         (subst (λ z. AreBlocksAt isolated t (IsFrontAt t ns) (record { body = c; region = Some r })
         (children t (Region r)) (blocks_of (region_written s (ir_term_at o s k) z))) is.1 blocks)
-        (subst (Meant rest (record { body = b; region = None })) is.1 (meant_in o isolated s ms i rest at (Operation p) u meant e))))
+        (subst (Meant rest (record { body = b; region = None })) is.1
+        (meant_in o isolated s ms i rest at (Operation p) u meant e))))
 
     region_same : (place : Place) (k : ℕ) (b c : Option (Ptr OperationKind)) (d r : Ptr RegionKind)
         → SameScope s t x y (λ a. Operation a) b c → HasRoom s (Region d) k → AreIrReadable o find s (Region d)

@@ -70,24 +70,24 @@ module _ {D K A T E : Type 0} (o : op_set.Ghosts D K A T E) (find : List ℕ →
     typed = ap (λ (l : List ℕ). slice_get l i) types;
   }
 
+  abbrev Told : (at bt : Scope) → (p q : Ptr OperationKind) → Option (OpKind K) → Type 0
+  Told at bt p q kind =
+      Said (front_mentions isolated at (Operation p) (front_of o s kind p))
+      (front_mentions isolated bt (Operation q) (front_of o s kind p))
+
   fronts_told : (at bt : Scope) (p q : Ptr OperationKind) → SameScopes isolated s t x y at bt
       → AreAtOnePlace s t x y (Operation p) (Operation q) → IsKnown o find isolated s ms at (Operation p)
       → IsFrontMade t bt (Operation q) (front_of o s (kind_of s p) p)
-      → Said (front_mentions isolated at (Operation p) (front_of o s (kind_of s p) p))
-      (front_mentions isolated bt (Operation q) (front_of o s (kind_of s p) p))
+      → Told at bt p q (kind_of s p)
   fronts_told at bt p q scopes place known h = by (kind_of s p) refl (op_readable o find s p known.readable) h
     where
-      abbrev Told : Option (OpKind K) → Type 0
-      Told kind =
-          Said (front_mentions isolated at (Operation p) (front_of o s kind p))
-          (front_mentions isolated bt (Operation q) (front_of o s kind p))
-
-      with_types : (kind : Option (OpKind K)) → result_types_of t q ≡ result_types_of s p → Told kind
+      with_types : (kind : Option (OpKind K)) → result_types_of t q ≡ result_types_of s p → Told at bt p q kind
       with_types kind types =
-          front_said isolated s t x y (IsTypedSame s t x y) at bt p q scopes (results_alike p q place types) (front_of o s kind p)
+          front_said isolated s t x y (IsTypedSame s t x y) at bt p q scopes (results_alike p q place types)
+          (front_of o s kind p)
 
       of_constant : kind_of s p ≡ Some Constant → IsOpReadable s p
-          → IsFrontMade t bt (Operation q) (front_of o s (Some Constant) p) → Told (Some Constant)
+          → IsFrontMade t bt (Operation q) (front_of o s (Some Constant) p) → Told at bt p q (Some Constant)
       of_constant is r h =
           let headed : has_header_of s (Some Constant) p ≡ true =
           subst (λ z. has_header_of s z p ≡ true) is r.header in
@@ -97,7 +97,7 @@ module _ {D K A T E : Type 0} (o : op_set.Ghosts D K A T E) (find : List ℕ →
           with_types (Some Constant) (ap results_in h.3 ∙ ap (λ z. z ∷ []) handle ∙ sym c.result)
 
       by : (kind : Option (OpKind K)) → kind_of s p ≡ kind → IsReadableAs o find s kind p
-          → IsFrontMade t bt (Operation q) (front_of o s kind p) → Told kind
+          → IsFrontMade t bt (Operation q) (front_of o s kind p) → Told at bt p q kind
       by (Some Module) is r h = nothing_said s t x y (IsTypedSame s t x y)
       by (Some Func) is r h = nothing_said s t x y (IsTypedSame s t x y)
       by (Some Constant) is r h = of_constant is r h

@@ -1,6 +1,6 @@
 -- What a written operation says of names where it was written of, and where it was read.
 use Rattle.std.proofs.Common.{◌≡◌, ℕ, zero, suc, Bool, true, false, List, [], ◌∷◌, ◌++◌, map, inl, inr, Option, Some}
-use Rattle.std.proofs.Common.{refl, sym, ap, subst, ◌∙◌}
+use Rattle.std.proofs.Common.{None, refl, sym, ap, subst, ◌∙◌}
 use Rattle.std.specs.Prelude.{slice_get, option_and_then, if◌then◌else◌}
 use Rattle.plir_data.specs.declared.op_set.OpSet as op_set
 use Rattle.plir_store.specs.Members.{Has}
@@ -117,58 +117,59 @@ module _ {K A T : Type 0} (isolated : K → Bool) (s t : ContextView K A T) (x y
   -- ---- regions, blocks and operations in a row
 
   module _ (front : Scope → IRNode → Front K → Type 0) (Says : List Mention → List Mention → Type 0)
-      (nothing : Says [] []) (both : (ms us ns vs : List Mention) → Says ms ns → Says us vs → Says (ms ++ us) (ns ++ vs))
+      (nothing : Says [] [])
+      (both : (ms us ns vs : List Mention) → Says ms ns → Says us vs → Says (ms ++ us) (ns ++ vs))
     where
-    regions_said : (b c : Option (Ptr OperationKind)) (write : IRNode → List (BlockHead × List (IrOp K)))
-        (us vs : List IRNode) → InRow us vs → AreRegionsAt isolated t front c vs (regions_of (map write us))
-        → ((u : IRNode) (r : Ptr RegionKind) → Has us u → AreAtOnePlace s t x y u (Region r)
-        → AreBlocksAt isolated t front (record { body = c; region = Some r }) (children t (Region r))
-        (blocks_of (write u))
-        → Says (blocks_mentions isolated s (record { body = b; region = region_of u }) (children s u)
-        (blocks_of (write u))) (blocks_mentions isolated t (record { body = c; region = Some r })
-        (children t (Region r)) (blocks_of (write u))))
-        → Says (regions_mentions isolated s b us (regions_of (map write us)))
-        (regions_mentions isolated t c vs (regions_of (map write us)))
-    regions_said b c write [] vs row h each = nothing
-    regions_said b c write (u ∷ us) vs row h each =
-        subst (λ l. Says (regions_mentions isolated s b (u ∷ us) (regions_of (map write (u ∷ us))))
-        (regions_mentions isolated t c l (regions_of (map write (u ∷ us))))) (sym h.2)
-        (both _ _ _ _ (each u h.0 (inl refl) (first_in_row u (Region h.0) us vs h.1 h.2 row) h.3)
-        (regions_said b c write us h.1 (others_in_row u (Region h.0) us vs h.1 h.2 row) h.4
-        (λ v r m. each v r (inr m))))
+      regions_said : (b c : Option (Ptr OperationKind)) (write : IRNode → List (BlockHead × List (IrOp K)))
+          (us vs : List IRNode) → InRow us vs → AreRegionsAt isolated t front c vs (regions_of (map write us))
+          → ((u : IRNode) (r : Ptr RegionKind) → Has us u → AreAtOnePlace s t x y u (Region r)
+          → AreBlocksAt isolated t front (record { body = c; region = Some r }) (children t (Region r))
+          (blocks_of (write u))
+          → Says (blocks_mentions isolated s (record { body = b; region = region_of u }) (children s u)
+          (blocks_of (write u))) (blocks_mentions isolated t (record { body = c; region = Some r })
+          (children t (Region r)) (blocks_of (write u))))
+          → Says (regions_mentions isolated s b us (regions_of (map write us)))
+          (regions_mentions isolated t c vs (regions_of (map write us)))
+      regions_said b c write [] vs row h each = nothing
+      regions_said b c write (u ∷ us) vs row h each =
+          subst (λ l. Says (regions_mentions isolated s b (u ∷ us) (regions_of (map write (u ∷ us))))
+          (regions_mentions isolated t c l (regions_of (map write (u ∷ us))))) (sym h.2)
+          (both _ _ _ _ (each u h.0 (inl refl) (first_in_row u (Region h.0) us vs h.1 h.2 row) h.3)
+          (regions_said b c write us h.1 (others_in_row u (Region h.0) us vs h.1 h.2 row) h.4
+          (λ v r m. each v r (inr m))))
 
-    blocks_said : (at bt : Scope) (write : IRNode → BlockHead × List (IrOp K)) (us vs : List IRNode) → InRow us vs
-        → AreBlocksAt isolated t front bt vs (blocks_of (map write us))
-        → ((u v : IRNode) → Has us u → AreAtOnePlace s t x y u v → IsBlockHeadAt t v (write u).0
-        → AreOpsAt isolated t front bt (children t v) (ops_of (write u).1)
-        → Says (head_mentions isolated at u (write u).0) (head_mentions isolated bt v (write u).0) ×
-        Says (ops_mentions isolated s at (children s u) (ops_of (write u).1))
-        (ops_mentions isolated t bt (children t v) (ops_of (write u).1)))
-        → Says (blocks_mentions isolated s at us (blocks_of (map write us)))
-        (blocks_mentions isolated t bt vs (blocks_of (map write us)))
-    blocks_said at bt write [] vs row h each = nothing
-    blocks_said at bt write (u ∷ us) vs row h each =
-        let both = each u h.0 (inl refl) (first_in_row u h.0 us vs h.1 h.2 row) h.3 h.4 in
-        let more =
-        blocks_said at bt write us h.1 (others_in_row u h.0 us vs h.1 h.2 row) h.5 (λ a b m. each a b (inr m)) in
-        subst (λ l. Says (blocks_mentions isolated s at (u ∷ us) (blocks_of (map write (u ∷ us))))
-        (blocks_mentions isolated t bt l (blocks_of (map write (u ∷ us))))) (sym h.2)
-        (both _ _ _ _ both.0 (both _ _ _ _ both.1 more))
+      blocks_said : (at bt : Scope) (write : IRNode → BlockHead × List (IrOp K)) (us vs : List IRNode) → InRow us vs
+          → AreBlocksAt isolated t front bt vs (blocks_of (map write us))
+          → ((u v : IRNode) → Has us u → AreAtOnePlace s t x y u v → IsBlockHeadAt t v (write u).0
+          → AreOpsAt isolated t front bt (children t v) (ops_of (write u).1)
+          → Says (head_mentions isolated at u (write u).0) (head_mentions isolated bt v (write u).0) ×
+          Says (ops_mentions isolated s at (children s u) (ops_of (write u).1))
+          (ops_mentions isolated t bt (children t v) (ops_of (write u).1)))
+          → Says (blocks_mentions isolated s at us (blocks_of (map write us)))
+          (blocks_mentions isolated t bt vs (blocks_of (map write us)))
+      blocks_said at bt write [] vs row h each = nothing
+      blocks_said at bt write (u ∷ us) vs row h each =
+          let here = each u h.0 (inl refl) (first_in_row u h.0 us vs h.1 h.2 row) h.3 h.4 in
+          let more =
+          blocks_said at bt write us h.1 (others_in_row u h.0 us vs h.1 h.2 row) h.5 (λ a b m. each a b (inr m)) in
+          subst (λ l. Says (blocks_mentions isolated s at (u ∷ us) (blocks_of (map write (u ∷ us))))
+          (blocks_mentions isolated t bt l (blocks_of (map write (u ∷ us))))) (sym h.2)
+          (both _ _ _ _ here.0 (both _ _ _ _ here.1 more))
 
-    ops_said : (at bt : Scope) (write : IRNode → IrOp K) (us vs : List IRNode) → InRow us vs
-        → AreOpsAt isolated t front bt vs (ops_of (map write us))
-        → ((u v : IRNode) → Has us u → Has vs v → AreAtOnePlace s t x y u v → IsIrAt isolated t front bt v (write u)
-        → Says (op_mentions isolated s at u (write u)) (op_mentions isolated t bt v (write u)))
-        → Says (ops_mentions isolated s at us (ops_of (map write us)))
-        (ops_mentions isolated t bt vs (ops_of (map write us)))
-    ops_said at bt write [] vs row h each = nothing
-    ops_said at bt write (u ∷ us) vs row h each =
-        subst (λ l. Says (ops_mentions isolated s at (u ∷ us) (ops_of (map write (u ∷ us))))
-        (ops_mentions isolated t bt l (ops_of (map write (u ∷ us))))) (sym h.2)
-        (both _ _ _ _
-        (each u h.0 (inl refl) (subst (λ l. Has l h.0) (sym h.2) (inl refl)) (first_in_row u h.0 us vs h.1 h.2 row) h.3)
-        (ops_said at bt write us h.1 (others_in_row u h.0 us vs h.1 h.2 row) h.4
-        (λ a b m n. each a b (inr m) (subst (λ l. Has l b) (sym h.2) (inr n)))))
+      ops_said : (at bt : Scope) (write : IRNode → IrOp K) (us vs : List IRNode) → InRow us vs
+          → AreOpsAt isolated t front bt vs (ops_of (map write us))
+          → ((u v : IRNode) → Has us u → Has vs v → AreAtOnePlace s t x y u v → IsIrAt isolated t front bt v (write u)
+          → Says (op_mentions isolated s at u (write u)) (op_mentions isolated t bt v (write u)))
+          → Says (ops_mentions isolated s at us (ops_of (map write us)))
+          (ops_mentions isolated t bt vs (ops_of (map write us)))
+      ops_said at bt write [] vs row h each = nothing
+      ops_said at bt write (u ∷ us) vs row h each =
+          subst (λ l. Says (ops_mentions isolated s at (u ∷ us) (ops_of (map write (u ∷ us))))
+          (ops_mentions isolated t bt l (ops_of (map write (u ∷ us))))) (sym h.2)
+          (both _ _ _ _
+          (each u h.0 (inl refl) (subst (λ l. Has l h.0) (sym h.2) (inl refl)) (first_in_row u h.0 us vs h.1 h.2 row) h.3)
+          (ops_said at bt write us h.1 (others_in_row u h.0 us vs h.1 h.2 row) h.4
+          (λ a b m n. each a b (inr m) (subst (λ l. Has l b) (sym h.2) (inr n)))))
 
 -- ---- an operation with all below it
 
@@ -178,7 +179,8 @@ module _ {D K A T E : Type 0} (o : op_set.Ghosts D K A T E) (isolated : K → Bo
   -- what stands before regions, and of heads of blocks. `Known` is what is known of nodes of s in their scopes, and
   -- `Says` what is told.
   pub record Telling (Known : Scope → IRNode → Type 0) (Says : List Mention → List Mention → Type 0) : Type 0 where
-    pub known_in : (at : Scope) (n c : IRNode) → Has (children s n) c → Known at n → Known (scope_in o isolated s at n) c
+    pub known_in : (at : Scope) (n c : IRNode) → Has (children s n) c → Known at n
+        → Known (scope_in o isolated s at n) c
     pub nothing : Says [] []
     pub both : (ms us ns vs : List Mention) → Says ms ns → Says us vs → Says (ms ++ us) (ns ++ vs)
     pub fronts : (at bt : Scope) (p q : Ptr OperationKind) → SameScopes isolated s t x y at bt
@@ -246,7 +248,8 @@ module _ {D K A T E : Type 0} (o : op_set.Ghosts D K A T E) (isolated : K → Bo
       block_told d e at_one known head ops each = (
         tell.heads mine yours d e same_scopes at_one known head,
         ops_said isolated s t x y front Says tell.nothing tell.both mine yours (term k) (children s (BasicBlock d))
-            (children t (BasicBlock e)) (children_in_row isolated s t x y (BasicBlock d) (BasicBlock e) at_one) ops each,
+            (children t (BasicBlock e)) (children_in_row isolated s t x y (BasicBlock d) (BasicBlock e) at_one) ops
+            each,
       )
 
       there : (u v : IRNode) (d e : Ptr BlockKind) → u ≡ BasicBlock d → v ≡ BasicBlock e → AreAtOnePlace s t x y u v
@@ -263,7 +266,8 @@ module _ {D K A T E : Type 0} (o : op_set.Ghosts D K A T E) (isolated : K → Bo
           let told =
           block_told d e one (subst (Known mine) is known) front_here inside
           (each (subst (Has (children s (Region r))) is m)) in (
-            subst (λ z. ToldHead mine yours k z v) (sym is) (subst (ToldHead mine yours k (BasicBlock d)) (sym be) told.0),
+            subst (λ z. ToldHead mine yours k z v) (sym is)
+                (subst (ToldHead mine yours k (BasicBlock d)) (sym be) told.0),
             subst (λ z. ToldBelow mine yours k z v) (sym is)
                 (subst (ToldBelow mine yours k (BasicBlock d)) (sym be) told.1),
           )
@@ -285,8 +289,8 @@ module _ {D K A T E : Type 0} (o : op_set.Ghosts D K A T E) (isolated : K → Bo
 
     -- of two operations, with at most k levels below them
     abbrev OpTold : ℕ → Type 0
-    OpTold k = (at bt : Scope) (p q : Ptr OperationKind) → SameScopes isolated s t x y at bt → HasRoom s (Operation p) k →
-        AreAtOnePlace s t x y (Operation p) (Operation q) → Known at (Operation p) →
+    OpTold k = (at bt : Scope) (p q : Ptr OperationKind) → SameScopes isolated s t x y at bt →
+        HasRoom s (Operation p) k → AreAtOnePlace s t x y (Operation p) (Operation q) → Known at (Operation p) →
         At bt (Operation q) (term k (Operation p)) → ToldOf at bt (Operation p) (Operation q) (term k (Operation p))
 
     -- operations of blocks

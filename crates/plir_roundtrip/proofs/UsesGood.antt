@@ -1,5 +1,5 @@
 -- What was made of a written operation uses nothing that has a fault, where each name means what it was written for.
-use Rattle.std.proofs.Common.{◌≡◌, ◌×◌, ℕ, suc, Bool, List, [], ◌∷◌, ◌++◌, All, map, inl, inr, Option, Some, None, refl}
+use Rattle.std.proofs.Common.{◌≡◌, ℕ, suc, Bool, List, [], ◌∷◌, ◌++◌, All, map, inl, inr, Option, Some, None, refl}
 use Rattle.std.proofs.Common.{sym, ap, subst, ◌∙◌}
 use Rattle.std.proofs.lemmas.Option.{slice_get_within, get_or_from_slice_get}
 use Rattle.plir_data.specs.Types.{IsTypeTable}
@@ -10,6 +10,7 @@ use Rattle.plir_names.specs.declared.names.Meaning.TheVariants.{Unknown, Only, A
 use Rattle.plir_store.specs.MemberLaws.{Has-append_cases, at-Has}
 use Rattle.plir_store.specs.Members.{Has}
 use Rattle.plir_core.specs.ContextView.{ContextView, children, kind_of, operands_of, successors_of, type_of_value}
+use Rattle.plir_core.specs.ContextView.{IsValueLive}
 use Rattle.plir_core.specs.Results.{result_of}
 use Rattle.plir_core.specs.WellFormed.{IsWellFormed}
 use Rattle.plir_core.specs.declared.ptr.Ptr.{Ptr}
@@ -32,7 +33,7 @@ use Rattle.plir_read_ir.specs.UseFaults.{IsFrontMade, IsUnmeant}
 use Rattle.plir_read_ir.specs.declared.fault.IrFault.{IrFault}
 use Rattle.plir_read_ir.specs.declared.fault.IrFault.TheVariants.{Text, UnknownName, AmbiguousName, TypeMismatch}
 use Rattle.plir_roundtrip.specs.Written.{block_head_term, some_type_term}
-use Rattle.plir_roundtrip.specs.IrReadable.{IsOwnReadable, IsReadableAs}
+use Rattle.plir_roundtrip.specs.IrReadable.{IsOwnReadable, IsReadableAs, IsUseReadable}
 use Rattle.plir_roundtrip.specs.IrWritten.{front_of, names_of, own_header, types_written}
 use Rattle.plir_roundtrip.specs.SameIrTree.{AreAtOnePlace, IsSameTarget}
 use Rattle.plir_roundtrip.specs.UsesMeant.{IsUseMeant}
@@ -138,8 +139,9 @@ module _ {D K A T E : Type 0} (o : op_set.Ghosts D K A T E) (find : List ℕ →
       both_good (operands_named bt.body (names_of s (operands_of s p)) (types_written s (operands_of s p)))
       (successors_named bt.region (map (block_name s) (successors_of s p)))
       (operands_good at.body bt.body scopes.body (operands_of s p) meant.operands (λ v h.
-      typed_use o s t whole g table v (all_has _ (operands_of s p) v (operands_live o s t whole g table p) h)
-      (all_has _ (operands_of s p) v r.operands h)))
+      typed_use o s t whole g table v
+      (all_has (IsValueLive s) (operands_of s p) v (operands_live o s t whole g table p) h)
+      (all_has (IsUseReadable o find s) (operands_of s p) v r.operands h)))
       (successors_good at.region bt.region scopes.region (successors_of s p) meant.successors)
 
   fronts_good : (at bt : Scope) (p q : Ptr OperationKind) → SameScopes isolated s t x y at bt
@@ -150,16 +152,16 @@ module _ {D K A T E : Type 0} (o : op_set.Ghosts D K A T E) (find : List ℕ →
     where
       by : (kind : Option (OpKind K)) → IsReadableAs o find s kind p
           → AreGood (front_mentions isolated bt (Operation q) (front_of o s kind p))
-      by (Some Module) r m k = absurd k
-      by (Some Func) r m k = absurd k
-      by (Some Constant) r m k = absurd k
-      by (Some ForwardRef) r m k = absurd k
+      by (Some Module) r = λ m h. absurd h
+      by (Some Func) r = λ m h. absurd h
+      by (Some Constant) r = λ m h. absurd h
+      by (Some ForwardRef) r = λ m h. absurd h
       by (Some (Own k)) r =
           both_good (results_bear bt.body (Operation q) (names_of s (results_of s p)))
           (uses_named bt (own_header o s k p).uses (own_header o s k p).signature)
           (bearing_good bt.body (result_of q) 0 (names_of s (results_of s p)))
           (uses_good at bt p k scopes r (known.meant []))
-      by None r m k = absurd k
+      by None r = λ m h. absurd h
 
   heads_good : (bt : Scope) (b c : Ptr BlockKind)
       → AreGood (head_mentions isolated bt (BasicBlock c) (block_head_term s b))
@@ -170,7 +172,7 @@ module _ {D K A T E : Type 0} (o : op_set.Ghosts D K A T E) (find : List ℕ →
   good_told = record {
     known_in = known_in o find isolated s ms;
     nothing = λ m k. absurd k;
-    both = λ us as_ vs bs f h. both_good as_ bs f h;
+    both = λ us as_ vs bs f h. both_good vs bs f h;
     fronts = fronts_good;
     heads = λ at bt b c scopes place known h. heads_good bt b c;
   }

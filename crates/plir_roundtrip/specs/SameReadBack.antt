@@ -23,7 +23,8 @@ abbrev pub IsSameReadBack : {D K A T E : Type 0} → (o : op_set.Ghosts D K A T 
     (isolated : K → Bool) → (text : List ℕ) → Result (Ptr OperationKind) IrErr → Type 0
 IsSameReadBack {D} {K} {A} {T} {E} o find isolated text answer =
     (printed old new : ContextView K A T) (p : Ptr OperationKind) → IsWellFormed o.attr_handles printed →
-    IsWellFormed o.attr_handles new → IsTypeTable o.type_handles new.types → HasReadableText o find printed p → UsesStand o isolated printed p →
+    IsWellFormed o.attr_handles new → IsTypeTable o.type_handles new.types → HasReadableText o find printed p →
+    UsesStand o isolated printed p →
     text ≡ op_text o printed p → Grows printed.types old.types → IsIrRead find isolated old text answer new →
     MatchResult answer (λ q. IsSameIrTree printed new (Operation p) (Operation q))
     (λ e. IsRoomWanting e.fault)
