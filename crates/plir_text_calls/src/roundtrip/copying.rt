@@ -106,8 +106,5 @@ pub fn copy_ir_by_text<D: ReadSet>(
     let read = read_ir(alloc, into, text);
     ir_tree_is_read_back::<D>(text, &read);
     let _types = into.types();
-    match read {
-        Ok(copy) => Ok(copy),
-        Err(found) => Err(found),
-    }
+    read
 }
