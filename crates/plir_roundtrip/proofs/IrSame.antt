@@ -1,20 +1,17 @@
 -- A tree that stands where the text of another was read is the same, with what its operations use.
-use Rattle.std.proofs.Common.{◌≡◌, ℕ, zero, suc, ◌+◌, ◌<◌, Bool, true, List, [], ◌∷◌, All, length, map, Option}
-use Rattle.std.proofs.Common.{Some, None, is_some, option_and_then, refl, sym, ap, subst, ◌∙◌, arith}
-use Rattle.std.specs.Prelude.{slice_get, MatchOption}
+use Rattle.std.proofs.Common.{◌≡◌, ℕ, zero, suc, ◌<◌, Bool, true, List, [], ◌∷◌, length, map, Option}
+use Rattle.std.proofs.Common.{Some, None, is_some, option_and_then, refl, sym, ap, subst, ◌∙◌}
+use Rattle.std.specs.Prelude.{slice_get}
 use Rattle.std.proofs.lemmas.Bool.{and_parts}
-use Rattle.std.proofs.lemmas.Option.{slice_get_within, get_or_from_slice_get}
 use Rattle.plir_data.specs.AttrView.{AttrView}
 use Rattle.plir_data.specs.Dictionary.{IsDictionary, dict_get}
 use Rattle.plir_data.specs.Laws.{IsDictOfItself}
-use Rattle.plir_data.specs.TypeTree.{tree_of}
-use Rattle.plir_data.specs.Types.{IsTypeTable, AllLive, IsLive as IsTypeLive}
+use Rattle.plir_data.specs.Types.{IsTypeTable}
 use Rattle.plir_data.specs.declared.op_set.OpKind.{OpKind}
 use Rattle.plir_data.specs.declared.op_set.OpKind.TheVariants.{Module, Func, Constant, ForwardRef, Own}
 use Rattle.plir_data.specs.declared.op_set.OpSet as op_set
 use Rattle.plir_store.specs.MemberLaws.{Has-at}
-use Rattle.plir_core.specs.Contents.{OpView, BlockView}
-use Rattle.plir_core.specs.ContextView.{ContextView, children, kind_of, kind_in, op_at, block_at, attributes_of}
+use Rattle.plir_core.specs.ContextView.{ContextView, children, kind_of, kind_in, op_at, attributes_of}
 use Rattle.plir_core.specs.ContextView.{attributes_in, result_types_of, results_in, operands_of, operands_in}
 use Rattle.plir_core.specs.ContextView.{successors_of, successors_in, arg_types_of, arguments_in, label_in}
 use Rattle.plir_core.specs.ContextView.{block_attributes_in}
@@ -28,9 +25,7 @@ use Rattle.plir_core.specs.declared.ptr.IRNode.{IRNode}
 use Rattle.plir_core.specs.declared.ptr.IRNode.TheVariants.{Operation, Region, BasicBlock}
 use Rattle.plir_core.specs.declared.value.DefiningEntity.TheVariants.{Block}
 use Rattle.plir_attr_text.specs.Meaning.{IsDictMeant}
-use Rattle.plir_attr_text.specs.Names.{Grows, Names}
-use Rattle.plir_attr_text.specs.Writable.{IsBuiltin}
-use Rattle.plir_attr_text.specs.laws.SameNames.{same_handles}
+use Rattle.plir_attr_text.specs.Names.{Grows}
 use Rattle.plir_walk.specs.GivenNames.{names_at, names_in, name_at}
 use Rattle.plir_walk.specs.Tree.{HasOnePlaceEach, Place, node_at}
 use Rattle.plir_builtin.specs.BuiltinOps.{func_type_of, value_of}
@@ -38,9 +33,9 @@ use Rattle.plir_builtin.specs.ResultNames.{result_name}
 use Rattle.plir_builtin.specs.Symbols.{name_held}
 use Rattle.plir_print.specs.Dictionaries.{is_shown, shown}
 use Rattle.plir_print.specs.HeaderAttrs.{has_header_of}
-use Rattle.plir_print.specs.ValueNames.{arguments_of, block_name, results_of, value_name}
+use Rattle.plir_print.specs.ValueNames.{arguments_of, block_name, value_name}
 use Rattle.plir_read.specs.Heads.{module_attributes, func_attributes, module_op, func_op, constant_op, result_names}
-use Rattle.plir_read.specs.Heads.{argument_types, argument_names}
+use Rattle.plir_read.specs.Heads.{argument_names}
 use Rattle.plir_read.specs.OpTerms.{Argument, BlockHead}
 use Rattle.plir_read.specs.OpsStanding.{IsBlockHeadAt}
 use Rattle.plir_read.specs.Suffixes.{given_name}
@@ -52,28 +47,28 @@ use Rattle.plir_read_ir.specs.Mentions.{Mention, Scope, block_meant, body_in, la
 use Rattle.plir_roundtrip.specs.Readable.{IsBodyReadable, IsConstantReadable, IsKindReadable, IsOpReadable}
 use Rattle.plir_roundtrip.specs.Readable.{IsBlockReadable}
 use Rattle.plir_roundtrip.specs.SameTree.{IsSameOp, IsSameBlock}
-use Rattle.plir_roundtrip.specs.Written.{some_type_term, argument_term, block_head_term, symbol_of, dictionary_term}
+use Rattle.plir_roundtrip.specs.Written.{argument_term, block_head_term, symbol_of, dictionary_term}
 use Rattle.plir_roundtrip.specs.IrReadable.{AreIrReadable, IsIrOpReadable, IsOwnReadable, IsReadableAs}
-use Rattle.plir_roundtrip.specs.IrWritten.{block_written, front_of, ir_term_at, region_written, types_written}
+use Rattle.plir_roundtrip.specs.IrWritten.{block_written, front_of, ir_term_at, region_written}
 use Rattle.plir_roundtrip.specs.SameIrTree.{AreAtOnePlace, IsSameIrOp, IsSameIrOrNone, IsSameTarget}
 use Rattle.plir_roundtrip.specs.SameIrTree.{IsSameValue, Pairwise}
-use Rattle.plir_roundtrip.specs.UsesMeant.{IsMeantBelow, IsUseMeant, scope_in}
+use Rattle.plir_roundtrip.specs.UsesMeant.{IsMeantBelow, IsUseMeant}
 use Rattle.plir_roundtrip.proofs.Children.{child_of_block, child_of_op, child_of_region}
 use Rattle.plir_roundtrip.proofs.Children.{HasRoom, some_room, lower_room, child_room}
-use Rattle.plir_roundtrip.proofs.IrChildren.{child_readable, op_readable, block_readable}
+use Rattle.plir_roundtrip.proofs.IrChildren.{child_readable, op_readable, block_readable, meant_in}
 use Rattle.plir_roundtrip.proofs.EntriesShown.{filter_dictionary, shown_writable}
-use Rattle.plir_roundtrip.proofs.OpParts.{constant_there, at_first, func_type_there}
-use Rattle.plir_roundtrip.proofs.MeantAgain.{type_stays, handle_again, attr_again, dictionary_again}
+use Rattle.plir_roundtrip.proofs.OpParts.{constant_there, func_type_there}
+use Rattle.plir_roundtrip.proofs.MeantAgain.{handle_again, attr_again, dictionary_again}
 use Rattle.plir_roundtrip.proofs.Mentioned.{InRow, SameScopes, bodies_alike, children_in_row, first_in_row}
 use Rattle.plir_roundtrip.proofs.Mentioned.{others_in_row}
 use Rattle.plir_roundtrip.proofs.NamesAgain.{names_again, no_others, name_in_row}
 use Rattle.plir_roundtrip.proofs.OpSame.{block_held, module_holds_same, func_holds_same, body_same, constant_same}
-use Rattle.plir_roundtrip.proofs.OpSame.{value_of_place, typed}
+use Rattle.plir_roundtrip.proofs.OpSame.{value_of_place}
 use Rattle.plir_roundtrip.proofs.OwnSame.{own_holds_same, own_names_same, read_attributes, read_names}
-use Rattle.plir_roundtrip.proofs.OwnSame.{results_typed}
 use Rattle.plir_roundtrip.proofs.PartsShown.{AreWritable}
 use Rattle.plir_roundtrip.proofs.PrintedNames.{block_name_given, argument_name_given}
 use Rattle.plir_roundtrip.proofs.Related.{SameScope, SayAlike, all_meant, meant_alike}
+use Rattle.plir_roundtrip.proofs.TypesKept.{argument_types_same, constant_type_same, own_types_same}
 
 -- ---- lists of nodes
 
@@ -127,35 +122,8 @@ module _ {K A T : Type 0} (isolated : K → Bool) (s t : ContextView K A T) (x y
 module _ {D K A T E : Type 0} (o : op_set.Ghosts D K A T E) (find : List ℕ → Option K) (isolated : K → Bool)
     (s t : ContextView K A T) (st : IsStanding s) (whole : IsWellFormed o.attr_handles s)
     (itself : IsDictOfItself (AttrView A)) (g : Grows s.types t.types) (table : IsTypeTable o.type_handles t.types)
-    (x y : IRNode) (once : HasOnePlaceEach (children s) x) (ms ns : List Mention) (said : SayAlike s t x y ms ns) where
-  -- ---- what nodes hold is live
-
-  results_live : (p : Ptr OperationKind) → AllLive s.types (result_types_of s p)
-  results_live p = at (op_at s p) refl
-    where
-      at : (v : Option (OpView K A)) → op_at s p ≡ v → AllLive s.types (results_in v)
-      at None e = λ k d lt. absurd (omega (arith, lt))
-      at (Some v) e = (whole.holds.ops p.slot v e).result_types
-
-  arguments_live : (b : Ptr BlockKind) → AllLive s.types (arg_types_of s b)
-  arguments_live b = at (block_at s b) refl
-    where
-      at : (v : Option (BlockView A)) → block_at s b ≡ v → AllLive s.types (arguments_in v)
-      at None e = λ k d lt. absurd (omega (arith, lt))
-      at (Some v) e = (whole.holds.blocks b.slot v e).arg_types
-
-  -- a type of a list of live builtin ones is named in t as it was in s
-  type_kept : (hs : List ℕ) → AllLive s.types hs → All (λ h. IsBuiltin (tree_of s.types h)) hs → (h k : ℕ)
-      → slice_get hs k ≡ Some h → Names t.types h (some_type_term s.types (slice_get hs k))
-  type_kept hs lives builtins h k e =
-      let within = slice_get_within hs k h e in
-      let is = get_or_from_slice_get hs k h 0 e in
-      let live : IsTypeLive s.types h = subst (λ z. IsTypeLive s.types z) is (lives k 0 within) in
-      let builtin : IsBuiltin (tree_of s.types h) =
-      subst (λ z. IsBuiltin (tree_of s.types z)) is (builtins k 0 within) in
-      subst (λ z. Names t.types h (some_type_term s.types z)) (sym e)
-      (type_stays o.type_handles s.types t.types g table h live builtin)
-
+    (x y : IRNode) (once : HasOnePlaceEach (children s) x) (ms ns : List Mention)
+    (said : SayAlike s t x y (IsSameValue s t x y) ms ns) where
   -- ---- blocks
 
   block_matches : (b c : Ptr BlockKind) → IsBlockReadable s b → IsBlockHeadAt t (BasicBlock c) (block_head_term s b)
@@ -177,11 +145,7 @@ module _ {D K A T E : Type 0} (o : op_set.Ghosts D K A T E) (find : List ℕ →
       as_ = map (argument_term s) (arguments_of s b)
 
       types_are : h.0 ≡ arg_types_of s b
-      types_are =
-          same_handles o.type_handles t.types table (argument_types as_) h.0 (arg_types_of s b) h.1
-          (typed s t b (arg_types_of s b) 0
-          (λ i lt. ap (slice_get (arg_types_of s b)) (let e : 0 + i ≡ i = omega arith in e))
-          (type_kept (arg_types_of s b) (arguments_live b) r.arguments.types))
+      types_are = argument_types_same o s t whole g table b r h.0 h.1
 
       name_is : (i : ℕ) → i < length (arg_types_of s b)
           → name_at (argument_names as_) i ≡ name_at (names_at s (Block b)) i
@@ -248,14 +212,8 @@ module _ {D K A T E : Type 0} (o : op_set.Ghosts D K A T E) (find : List ℕ →
         → has_header_of s (Some Constant) p ≡ true → IsFront (Some Constant) → IsSameIrOp s t x y p q
     constant_matches is readable r e h =
         let c = constant_there s p e in
-        let first : slice_get (result_types_of s p) 0 ≡ Some c.handle = ap (λ (l : List ℕ). slice_get l 0) c.result in
-        let live = at_first (IsTypeLive s.types) (result_types_of s p) c.handle c.result (results_live p) in
-        let builtin : IsBuiltin (tree_of s.types c.handle) =
-        at_first (λ h. IsBuiltin (tree_of s.types h)) (result_types_of s p) c.handle c.result
-        readable.results.types in
         let handle : h.1 ≡ c.handle =
-        handle_again o.type_handles s.types t.types g table (slice_get (result_types_of s p) 0) c.handle h.1 first
-        live builtin h.2.typed in
+        constant_type_same o s t whole g table p c readable.results h.1 h.2.typed in
         let value : h.0 ≡ c.value =
         attr_again o.type_handles s.types t.types g table itself (value_of s p) c.value h.0 c.held
         (r.value c.value c.held) h.2.meant in
@@ -272,10 +230,7 @@ module _ {D K A T E : Type 0} (o : op_set.Ghosts D K A T E) (find : List ℕ →
         entries_are p r.dictionary h.entries h.entries_meant
         (shown_writable o s.types (kind_of s p) (attributes_of s p) r.dictionary r.entries) in
         let types : h.result_types ≡ result_types_of s p =
-        same_handles o.type_handles t.types table (types_written s (results_of s p)) h.result_types
-        (result_types_of s p) h.results_typed (results_typed s t p (result_types_of s p) 0
-        (λ i lt. ap (slice_get (result_types_of s p)) (let e : 0 + i ≡ i = omega arith in e))
-        (type_kept (result_types_of s p) (results_live p) r.results.types)) in
+        own_types_same o s t whole g table p r.results h.result_types h.results_typed in
         let held = h.holds in
         let attributes : attributes_of t q ≡ read_attributes o find s k p is r =
         ap attributes_in held ∙ ap (own_attributes (read_names o find s k p is r)) entries in
@@ -335,12 +290,6 @@ module _ {D K A T E : Type 0} (o : op_set.Ghosts D K A T E) (find : List ℕ →
   abbrev Same : Place → IRNode → IRNode → Type 0
   Same place u v = IsSameIrOrNone s t x y (node_at (children s) u place) (node_at (children t) v place)
 
-  -- what is meant below a child
-  meant_in : (i : ℕ) (rest : Place) (at : Scope) (n c : IRNode) → Meant (i ∷ rest) at n
-      → slice_get (children s n) i ≡ Some c → Meant rest (scope_in o isolated s at n) c
-  meant_in i rest at n c h e =
-      subst (λ z. MatchOption z (Unit {0}) (λ d. Meant rest (scope_in o isolated s at n) d)) e h
-
   -- the same at a place below two nodes, where it is known below what these are
   both_are : (place : Place) (u v a b : IRNode) → u ≡ a → v ≡ b → Same place a b → Same place u v
   both_are place u v a b e f h = subst (λ z. Same place z v) (sym e) (subst (Same place a) (sym f) h)
@@ -372,7 +321,8 @@ module _ {D K A T E : Type 0} (o : op_set.Ghosts D K A T E) (find : List ℕ →
         (placed u (Region r) (Region is.0) (Region r) is.1 refl here)
         (subst (λ z. AreBlocksAt isolated t (IsFrontAt t ns) (record { body = c; region = Some r })
         (children t (Region r)) (blocks_of (region_written s (ir_term_at o s k) z))) is.1 blocks)
-        (subst (Meant rest (record { body = b; region = None })) is.1 (meant_in i rest at (Operation p) u meant e))))
+        (subst (Meant rest (record { body = b; region = None })) is.1
+        (meant_in o isolated s ms i rest at (Operation p) u meant e))))
 
     region_same : (place : Place) (k : ℕ) (b c : Option (Ptr OperationKind)) (d r : Ptr RegionKind)
         → SameScope s t x y (λ a. Operation a) b c → HasRoom s (Region d) k → AreIrReadable o find s (Region d)
@@ -402,7 +352,7 @@ module _ {D K A T E : Type 0} (o : op_set.Ghosts D K A T E) (find : List ℕ →
         (subst (λ z. AreOpsAt isolated t (IsFrontAt t ns) (record { body = c; region = Some r }) (children t v)
         (ops_of (block_written s (ir_term_at o s k) z).1)) is.1 ops))
         (subst (Meant rest (record { body = b; region = Some d })) is.1
-        (meant_in i rest (record { body = b; region = None }) (Region d) u meant e))))
+        (meant_in o isolated s ms i rest (record { body = b; region = None }) (Region d) u meant e))))
 
     block_same : (place : Place) (k : ℕ) (at bt : Scope) (d c : Ptr BlockKind) → SameScopes isolated s t x y at bt
         → HasRoom s (BasicBlock d) k → AreIrReadable o find s (BasicBlock d)
@@ -427,4 +377,4 @@ module _ {D K A T E : Type 0} (o : op_set.Ghosts D K A T E) (find : List ℕ →
         (placed u v (Operation p.0) (Operation q.0) p.1 q.1 here)
         (subst (λ z. At bt z (ir_term_at o s k (Operation p.0))) q.1
         (subst (λ z. At bt v (ir_term_at o s k z)) p.1 there))
-        (subst (Meant rest at) p.1 (meant_in i rest at (BasicBlock d) u meant e))))
+        (subst (Meant rest at) p.1 (meant_in o isolated s ms i rest at (BasicBlock d) u meant e))))

@@ -30,6 +30,11 @@ pub mod OnePlace
 pub mod Related
 pub mod OwnSame
 pub mod Mentioned
+pub mod TypesKept
 pub mod IrSame
+pub mod MeantOver
+pub mod MadeTold
+pub mod UsesGood
+pub mod NoFault
 pub mod SameReadBack
 pub mod BuiltinTexts

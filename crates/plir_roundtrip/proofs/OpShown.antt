@@ -52,8 +52,8 @@ use Rattle.plir_roundtrip.proofs.PartsShown.{constant-shown}
 use Rattle.plir_roundtrip.proofs.PrintedNames.{result_name_good}
 use Rattle.plir_roundtrip.proofs.EntriesShown.{shown_writable}
 use Rattle.plir_roundtrip.proofs.OpParts.{constant_there, at_first, some_type-shown, some_attr-shown}
-use Rattle.plir_roundtrip.proofs.OpParts.{block_front-shown, dictionary-shown, one_result, text_by, regroup, symbol_good}
-use Rattle.plir_roundtrip.proofs.OpParts.{func_type_there}
+use Rattle.plir_roundtrip.proofs.OpParts.{block_front-shown, dictionary-shown, one_result, text_by, regroup}
+use Rattle.plir_roundtrip.proofs.OpParts.{func_type_there, symbol_good}
 
 -- ---- operations and blocks in a row
 

@@ -24,7 +24,7 @@ use Rattle.plir_attr_text.specs.Terms.{TypeTerms, no_types, type_before}
 use Rattle.plir_walk.specs.Tree.{HasOnePlaceEach, node_at}
 use Rattle.plir_read_ir.specs.Mentions.{Mention, value_bears, block_bears, operand_named, successor_named, WordIn}
 use Rattle.plir_read_ir.specs.Mentions.{labels_in, operands_named, same_word, successors_named, values_bear, values_in}
-use Rattle.plir_roundtrip.specs.SameIrTree.{AreAtOnePlace, IsSameTarget, IsSameValue, Pairwise}
+use Rattle.plir_roundtrip.specs.SameIrTree.{AreAtOnePlace, IsSameTarget, Pairwise}
 
 -- ---- lists, matched one by one
 
@@ -64,56 +64,58 @@ module _ {K A T : Type 0} (s t : ContextView K A T) (x y : IRNode) where
     pub word : a.0.1 ≡ b.0.1
     pub bearer : R a.1 b.1
 
-  abbrev pub ValuesAlike : List (WordIn OperationKind × Value) → List (WordIn OperationKind × Value) → Type 0
-  ValuesAlike ms ns = Pairwise (BearAlike (λ p. Operation p) (IsSameValue s t x y)) ms ns
-
   abbrev pub LabelsAlike : List (WordIn RegionKind × Ptr BlockKind) → List (WordIn RegionKind × Ptr BlockKind) → Type 0
   LabelsAlike ms ns = Pairwise (BearAlike (λ p. Region p) (IsSameTarget s t x y)) ms ns
 
-  -- what two texts say of names
-  pub record SayAlike (ms ns : List Mention) : Type 0 where
-    pub values : ValuesAlike (values_in ms) (values_in ns)
-    pub labels : LabelsAlike (labels_in ms) (labels_in ns)
+  -- ---- what two texts say of names, where R relates the values
 
-  pub nothing_said : SayAlike [] []
-  nothing_said = record { values = tt; labels = tt }
+  module _ (R : Value → Value → Type 0) where
+    abbrev pub ValuesAlike : List (WordIn OperationKind × Value) → List (WordIn OperationKind × Value) → Type 0
+    ValuesAlike ms ns = Pairwise (BearAlike (λ p. Operation p) R) ms ns
 
-  pub say_both : (ms us ns vs : List Mention) → SayAlike ms ns → SayAlike us vs → SayAlike (ms ++ us) (ns ++ vs)
-  say_both ms us ns vs h k = record {
-    values =
-        subst (λ l. ValuesAlike l (values_in (ns ++ vs))) (sym (values_append ms us))
-        (subst (λ l. ValuesAlike (values_in ms ++ values_in us) l) (sym (values_append ns vs))
-        (pairs_append (BearAlike (λ p. Operation p) (IsSameValue s t x y)) (values_in ms) (values_in us)
-        (values_in ns) (values_in vs) h.values k.values));
-    labels =
-        subst (λ l. LabelsAlike l (labels_in (ns ++ vs))) (sym (labels_append ms us))
-        (subst (λ l. LabelsAlike (labels_in ms ++ labels_in us) l) (sym (labels_append ns vs))
-        (pairs_append (BearAlike (λ p. Region p) (IsSameTarget s t x y)) (labels_in ms) (labels_in us)
-        (labels_in ns) (labels_in vs) h.labels k.labels));
-  }
+    pub record SayAlike (ms ns : List Mention) : Type 0 where
+      pub values : ValuesAlike (values_in ms) (values_in ns)
+      pub labels : LabelsAlike (labels_in ms) (labels_in ns)
 
-  -- values that bear words
-  pub values_said : (b c : Option (Ptr OperationKind)) → SameScope (λ p. Operation p) b c → (f g : ℕ → Value)
-      → ((i : ℕ) → IsSameValue s t x y (f i) (g i)) → (i : ℕ) (ws : List (List ℕ))
-      → SayAlike (values_bear b f i ws) (values_bear c g i ws)
-  values_said b c h f g each i [] = nothing_said
-  values_said b c h f g each i (w ∷ ws) =
-      let more = values_said b c h f g each (suc i) ws in
-      record { values = (record { scope = h; word = refl; bearer = each i }, more.values); labels = more.labels }
+    pub nothing_said : SayAlike [] []
+    nothing_said = record { values = tt; labels = tt }
 
-  -- what is used says nothing of who bears a name
-  pub operands_said : (b c : Option (Ptr OperationKind)) (ws : List (List ℕ)) (ts : TypeTerms)
-      → SayAlike (operands_named b ws ts) (operands_named c ws ts)
-  operands_said b c [] ts = nothing_said
-  operands_said b c (w ∷ ws) no_types = nothing_said
-  operands_said b c (w ∷ ws) (type_before t ts) =
-      let more = operands_said b c ws ts in record { values = more.values; labels = more.labels }
+    pub say_both : (ms us ns vs : List Mention) → SayAlike ms ns → SayAlike us vs → SayAlike (ms ++ us) (ns ++ vs)
+    say_both ms us ns vs h k = record {
+      values =
+          subst (λ l. ValuesAlike l (values_in (ns ++ vs))) (sym (values_append ms us))
+          (subst (λ l. ValuesAlike (values_in ms ++ values_in us) l) (sym (values_append ns vs))
+          (pairs_append (BearAlike (λ p. Operation p) R) (values_in ms) (values_in us)
+          (values_in ns) (values_in vs) h.values k.values));
+      labels =
+          subst (λ l. LabelsAlike l (labels_in (ns ++ vs))) (sym (labels_append ms us))
+          (subst (λ l. LabelsAlike (labels_in ms ++ labels_in us) l) (sym (labels_append ns vs))
+          (pairs_append (BearAlike (λ p. Region p) (IsSameTarget s t x y)) (labels_in ms) (labels_in us)
+          (labels_in ns) (labels_in vs) h.labels k.labels));
+    }
 
-  pub successors_said : (b c : Option (Ptr RegionKind)) (ws : List (List ℕ))
-      → SayAlike (successors_named b ws) (successors_named c ws)
-  successors_said b c [] = nothing_said
-  successors_said b c (w ∷ ws) =
-      let more = successors_said b c ws in record { values = more.values; labels = more.labels }
+    -- values that bear words
+    pub values_said : (b c : Option (Ptr OperationKind)) → SameScope (λ p. Operation p) b c → (f g : ℕ → Value)
+        → ((i : ℕ) → R (f i) (g i)) → (i : ℕ) (ws : List (List ℕ))
+        → SayAlike (values_bear b f i ws) (values_bear c g i ws)
+    values_said b c h f g each i [] = nothing_said
+    values_said b c h f g each i (w ∷ ws) =
+        let more = values_said b c h f g each (suc i) ws in
+        record { values = (record { scope = h; word = refl; bearer = each i }, more.values); labels = more.labels }
+
+    -- what is used says nothing of who bears a name
+    pub operands_said : (b c : Option (Ptr OperationKind)) (ws : List (List ℕ)) (ts : TypeTerms)
+        → SayAlike (operands_named b ws ts) (operands_named c ws ts)
+    operands_said b c [] ts = nothing_said
+    operands_said b c (w ∷ ws) no_types = nothing_said
+    operands_said b c (w ∷ ws) (type_before t ts) =
+        let more = operands_said b c ws ts in record { values = more.values; labels = more.labels }
+
+    pub successors_said : (b c : Option (Ptr RegionKind)) (ws : List (List ℕ))
+        → SayAlike (successors_named b ws) (successors_named c ws)
+    successors_said b c [] = nothing_said
+    successors_said b c (w ∷ ws) =
+        let more = successors_said b c ws in record { values = more.values; labels = more.labels }
 
   -- ---- what a name means
 
@@ -137,7 +139,7 @@ module _ {K A T : Type 0} (s t : ContextView K A T) (x y : IRNode) where
         let at : Some (node q) ≡ Some (node v) = sym h.2 ∙ ap (node_at (children t) y) one ∙ k.2 in
         (ptr-exact q v).1 (apart q v (same_Some (node q) (node v) at))
 
-    word_kept : (a b c d : WordIn X) → SameScope node a.0 b.0 → a.1 ≡ b.1 → SameScope node c.0 d.0 → c.1 ≡ d.1
+    pub word_kept : (a b c d : WordIn X) → SameScope node a.0 b.0 → a.1 ≡ b.1 → SameScope node c.0 d.0 → c.1 ≡ d.1
         → same_word a c ≡ true → same_word b d ≡ true
     word_kept a b c d h e k f same =
         let ends = and_parts (option_eq same_ptr a.0 c.0) (bytes_eq a.1 c.1) same in
@@ -182,7 +184,7 @@ module _ {K A T : Type 0} (s t : ContextView K A T) (x y : IRNode) where
         at true is rest (inr k) = others (rest k)
         at false is rest k = others (rest k)
 
-    only_one : (vs : List V) (v : V) → meaning_by vs ≡ Only v → vs ≡ v ∷ []
+    pub only_one : (vs : List V) (v : V) → meaning_by vs ≡ Only v → vs ≡ v ∷ []
     only_one [] v e = absurd (let f : ⊥ = cc in f)
     only_one (a ∷ []) v e = let same : a ≡ v = cc in ap (λ z. z ∷ []) same
     only_one (a ∷ b ∷ vs) v e = absurd (let f : ⊥ = cc in f)

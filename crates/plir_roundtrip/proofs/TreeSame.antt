@@ -1,15 +1,13 @@
 -- A tree that stands where the text of another was read is the same.
-use Rattle.std.proofs.Common.{◌≡◌, ◌⊎◌, ℕ, zero, suc, ◌+◌, ◌<◌, true, List, [], ◌∷◌, length, map, inl, inr, Option}
-use Rattle.std.proofs.Common.{Some, None, is_some, flat_map, option_and_then, refl, sym, ap, subst, ◌∙◌, arith}
+use Rattle.std.proofs.Common.{◌≡◌, ◌⊎◌, ℕ, zero, suc, ◌<◌, true, List, [], ◌∷◌, length, map, inl, inr, Option}
+use Rattle.std.proofs.Common.{Some, None, is_some, flat_map, option_and_then, refl, sym, ap, subst, ◌∙◌}
 use Rattle.std.proofs.Common.{append-nil}
 use Rattle.std.specs.Prelude.{slice_get}
 use Rattle.std.proofs.lemmas.Bool.{and_parts}
-use Rattle.std.proofs.lemmas.Option.{slice_get_within, get_or_from_slice_get}
 use Rattle.plir_data.specs.AttrView.{AttrView}
 use Rattle.plir_data.specs.Dictionary.{dict_get}
 use Rattle.plir_data.specs.Laws.{IsDictOfItself}
-use Rattle.plir_data.specs.TypeTree.{tree_of}
-use Rattle.plir_data.specs.Types.{IsTypeTable, AllLive, IsLive as IsTypeLive}
+use Rattle.plir_data.specs.Types.{IsTypeTable}
 use Rattle.plir_data.specs.declared.op_set.OpKind.{OpKind}
 use Rattle.plir_data.specs.declared.op_set.OpKind.TheVariants.{Module, Func, Constant, ForwardRef, Own}
 use Rattle.plir_data.specs.declared.op_set.OpSet as op_set
@@ -20,16 +18,13 @@ use Rattle.plir_core.specs.declared.ptr.BasicBlock.{BasicBlock as BlockKind}
 use Rattle.plir_core.specs.declared.ptr.IRNode.{IRNode}
 use Rattle.plir_core.specs.declared.ptr.IRNode.TheVariants.{Operation, Region, BasicBlock}
 use Rattle.plir_core.specs.declared.value.DefiningEntity.TheVariants.{Block}
-use Rattle.plir_core.specs.Contents.{OpView, BlockView}
 use Rattle.plir_store.specs.Members.{Has}
 use Rattle.plir_core.specs.Standing.{IsStanding}
-use Rattle.plir_core.specs.ContextView.{ContextView, children, kind_of, op_at, block_at, attributes_of, result_types_of}
-use Rattle.plir_core.specs.ContextView.{results_in, arg_types_of, arguments_in, label_in, block_attributes_in}
+use Rattle.plir_core.specs.ContextView.{ContextView, children, kind_of, op_at, block_at, attributes_of}
+use Rattle.plir_core.specs.ContextView.{arg_types_of, arguments_in, label_in, block_attributes_in}
 use Rattle.plir_core.specs.WellFormed.{IsWellFormed}
 use Rattle.plir_attr_text.specs.Meaning.{IsDictMeant}
-use Rattle.plir_attr_text.specs.Names.{Grows, Names}
-use Rattle.plir_attr_text.specs.laws.SameNames.{same_handles}
-use Rattle.plir_attr_text.specs.Writable.{IsBuiltin}
+use Rattle.plir_attr_text.specs.Names.{Grows}
 use Rattle.plir_walk.specs.GivenNames.{names_at, names_in, name_at}
 use Rattle.plir_walk.specs.Tree.{Place, node_at}
 use Rattle.plir_builtin.specs.BuiltinOps.{func_type_of, value_of}
@@ -39,7 +34,7 @@ use Rattle.plir_print.specs.Dictionaries.{is_shown, shown}
 use Rattle.plir_print.specs.HeaderAttrs.{has_header_of}
 use Rattle.plir_print.specs.ValueNames.{arguments_of}
 use Rattle.plir_read.specs.Heads.{module_attributes, func_attributes, module_op, func_op, constant_op, result_names}
-use Rattle.plir_read.specs.Heads.{argument_types, argument_names, written_block}
+use Rattle.plir_read.specs.Heads.{argument_names, written_block}
 use Rattle.plir_read.specs.OpTerms.{Argument, OpTerm, BlockTerms, ops_of, blocks_of}
 use Rattle.plir_read.specs.OpsStanding.{IsBlockHeadAt, IsOpAt, AreBlocksAt, AreOpsAt}
 use Rattle.plir_read.specs.Suffixes.{given_name}
@@ -47,18 +42,19 @@ use Rattle.plir_read.specs.declared.names.Suffix.TheVariants as kinds
 use Rattle.plir_roundtrip.specs.Readable.{IsBodyReadable, IsConstantReadable, IsKindReadable, IsOpReadable}
 use Rattle.plir_roundtrip.specs.Readable.{IsBlockReadable}
 use Rattle.plir_roundtrip.specs.SameTree.{IsSameOp, IsSameBlock, IsSameNode, IsSameOrNone}
-use Rattle.plir_roundtrip.specs.Written.{some_type_term, argument_term, block_head_term, block_term, blocks_under}
+use Rattle.plir_roundtrip.specs.Written.{argument_term, block_head_term, block_term, blocks_under}
 use Rattle.plir_roundtrip.specs.Written.{symbol_of, dictionary_term, term_of_kind, term_at}
 use Rattle.plir_roundtrip.specs.ReadableParts.{AllReadable}
 use Rattle.plir_roundtrip.proofs.Children.{child_of_region, child_of_block, only_region, child_readable, op_readable}
 use Rattle.plir_roundtrip.proofs.Children.{block_readable, HasRoom, some_room, lower_room, child_room}
-use Rattle.plir_roundtrip.proofs.MeantAgain.{type_stays, handle_again, attr_again, dictionary_again}
+use Rattle.plir_roundtrip.proofs.MeantAgain.{handle_again, attr_again, dictionary_again}
 use Rattle.plir_roundtrip.proofs.NamesAgain.{names_again, no_others, name_in_row}
 use Rattle.plir_roundtrip.proofs.OpSame.{op_held, block_held, module_holds_same, func_holds_same, body_same}
 use Rattle.plir_roundtrip.proofs.OpSame.{constant_same, value_of_place, typed}
-use Rattle.plir_roundtrip.proofs.OpParts.{constant_there, at_first, func_type_there}
+use Rattle.plir_roundtrip.proofs.OpParts.{constant_there, func_type_there}
 use Rattle.plir_roundtrip.proofs.PrintedNames.{block_name_given, argument_name_given}
 use Rattle.plir_roundtrip.proofs.EntriesShown.{filter_dictionary, shown_writable}
+use Rattle.plir_roundtrip.proofs.TypesKept.{argument_types_same, constant_type_same}
 
 -- ---- lists of nodes
 
@@ -90,34 +86,7 @@ module _ {K A T : Type 0} (s t : ContextView K A T) (f g : IRNode → Option IRN
 module _ {D K A T E : Type 0} (o : op_set.Ghosts D K A T E) (s t : ContextView K A T) (st : IsStanding s)
     (whole : IsWellFormed o.attr_handles s) (itself : IsDictOfItself (AttrView A)) (g : Grows s.types t.types)
     (table : IsTypeTable o.type_handles t.types) where
-  -- ---- what nodes hold is live
-
-  results_live : (p : Ptr OperationKind) → AllLive s.types (result_types_of s p)
-  results_live p = at (op_at s p) refl
-    where
-      at : (v : Option (OpView K A)) → op_at s p ≡ v → AllLive s.types (results_in v)
-      at None e = λ k d lt. absurd (omega (arith, lt))
-      at (Some v) e = (whole.holds.ops p.slot v e).result_types
-
-  arguments_live : (b : Ptr BlockKind) → AllLive s.types (arg_types_of s b)
-  arguments_live b = at (block_at s b) refl
-    where
-      at : (v : Option (BlockView A)) → block_at s b ≡ v → AllLive s.types (arguments_in v)
-      at None e = λ k d lt. absurd (omega (arith, lt))
-      at (Some v) e = (whole.holds.blocks b.slot v e).arg_types
-
   -- ---- blocks
-
-  argument_type : (b : Ptr BlockKind) → IsBlockReadable s b → (h k : ℕ) → slice_get (arg_types_of s b) k ≡ Some h
-      → Names t.types h (some_type_term s.types (slice_get (arg_types_of s b) k))
-  argument_type b r h k e =
-      let within = slice_get_within (arg_types_of s b) k h e in
-      let is = get_or_from_slice_get (arg_types_of s b) k h 0 e in
-      let live : IsTypeLive s.types h = subst (λ z. IsTypeLive s.types z) is (arguments_live b k 0 within) in
-      let builtin : IsBuiltin (tree_of s.types h) =
-      subst (λ z. IsBuiltin (tree_of s.types z)) is (r.arguments.types k 0 within) in
-      subst (λ z. Names t.types h (some_type_term s.types z)) (sym e)
-      (type_stays o.type_handles s.types t.types g table h live builtin)
 
   -- the block at a node, and that it is the same
   record BlockMatch (b : Ptr BlockKind) (y : IRNode) : Type 0 where
@@ -135,10 +104,7 @@ module _ {D K A T E : Type 0} (o : op_set.Ghosts D K A T E) (s t : ContextView K
       as_ = map (argument_term s) (arguments_of s b)
 
       types_are : h.0 ≡ arg_types_of s b
-      types_are =
-          same_handles o.type_handles t.types table (argument_types as_) h.0 (arg_types_of s b) h.1
-          (typed s t b (arg_types_of s b) 0
-          (λ i lt. ap (slice_get (arg_types_of s b)) (let e : 0 + i ≡ i = omega arith in e)) (argument_type b r))
+      types_are = argument_types_same o s t whole g table b r h.0 h.1
 
       name_is : (i : ℕ) → i < length (arg_types_of s b)
           → name_at (argument_names as_) i ≡ name_at (names_at s (Block b)) i
@@ -251,14 +217,8 @@ module _ {D K A T E : Type 0} (o : op_set.Ghosts D K A T E) (s t : ContextView K
         → IsOpAt t y (term_of_kind o s (Some Constant) bs p) → OpMatch j p y
     constant_matches is r e h =
         let c = constant_there s p e in
-        let first : slice_get (result_types_of s p) 0 ≡ Some c.handle = ap (λ (l : List ℕ). slice_get l 0) c.result in
-        let live = at_first (IsTypeLive s.types) (result_types_of s p) c.handle c.result (results_live p) in
-        let builtin : IsBuiltin (tree_of s.types c.handle) =
-        at_first (λ h. IsBuiltin (tree_of s.types h)) (result_types_of s p) c.handle c.result
-        readable.results.types in
         let handle : h.1 ≡ c.handle =
-        handle_again o.type_handles s.types t.types g table (slice_get (result_types_of s p) 0) c.handle h.1 first
-        live builtin h.2.typed in
+        constant_type_same o s t whole g table p c readable.results h.1 h.2.typed in
         let value : h.0 ≡ c.value =
         attr_again o.type_handles s.types t.types g table itself (value_of s p) c.value h.0 c.held
         (r.value c.value c.held) h.2.meant in

@@ -23,6 +23,10 @@ use Rattle.plir_read_ir.specs.declared.fault.IrFault.TheVariants.{Text}
 use Rattle.plir_roundtrip.specs.IrReadable.{HasReadableText}
 use Rattle.plir_roundtrip.specs.IrWritten.{ir_term_of}
 
+-- memory or room for a node was wanting
+abbrev pub IsRoomWanting : IrFault → Type 0
+IsRoomWanting fault = (fault ≡ Text Memory) ⊎ (fault ≡ Text TooManyNodes)
+
 module _ {K A T : Type 0} (find : List ℕ → Option K) (isolated : K → Bool) where
   -- The answer to a text, read into the context `old`, which leaves the context `new`: an operation that the text
   -- stands for, made anew; or memory or room was wanting, or the text stands for no operation, or one of its uses has a
@@ -38,8 +42,7 @@ module _ {K A T : Type 0} (find : List ℕ → Option K) (isolated : K → Bool)
 
   -- memory or room for a node was wanting, or something that the text uses by name has this fault
   abbrev pub IsNoFaultOfText : ContextView K A T → (text : List ℕ) → IrFault → Type 0
-  IsNoFaultOfText new text fault =
-      ((fault ≡ Text Memory) ⊎ (fault ≡ Text TooManyNodes)) ⊎ HasUseFault find isolated 200 new text fault
+  IsNoFaultOfText new text fault = IsRoomWanting fault ⊎ HasUseFault find isolated 200 new text fault
 
 -- Where the text is that of an operation p that can be read, printed from the context `printed`, and this is the answer
 -- to it, the answer is the operation as it was written, or no fault of the text is told. `new` is the context that the

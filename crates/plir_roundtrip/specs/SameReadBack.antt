@@ -10,20 +10,21 @@ use Rattle.plir_core.specs.WellFormed.{IsWellFormed}
 use Rattle.plir_attr_text.specs.Names.{Grows}
 use Rattle.plir_print.specs.OpText.{op_text}
 use Rattle.plir_read_ir.specs.declared.fault.IrErr.{IrErr}
-use Rattle.plir_roundtrip.specs.IrReadBack.{IsIrRead, IsNoFaultOfText}
+use Rattle.plir_roundtrip.specs.IrReadBack.{IsIrRead, IsRoomWanting}
 use Rattle.plir_roundtrip.specs.IrReadable.{HasReadableText}
 use Rattle.plir_roundtrip.specs.SameIrTree.{IsSameIrTree}
 use Rattle.plir_roundtrip.specs.UsesMeant.{UsesStand}
 
 -- Where the text is that of an operation p that can be read, each name of which means what it was written for, printed
 -- from the context `printed`, and this is the answer to it, read into a context `old` whose types have grown from
--- those, the answer is the root of the same tree, or no fault of the text is told. `new` is the context that the reader
--- left.
+-- those, the answer is the root of the same tree, or memory or room for a node was wanting. `new` is the context that
+-- the reader left, a well-formed one.
 abbrev pub IsSameReadBack : {D K A T E : Type 0} → (o : op_set.Ghosts D K A T E) → (find : List ℕ → Option K) →
     (isolated : K → Bool) → (text : List ℕ) → Result (Ptr OperationKind) IrErr → Type 0
 IsSameReadBack {D} {K} {A} {T} {E} o find isolated text answer =
     (printed old new : ContextView K A T) (p : Ptr OperationKind) → IsWellFormed o.attr_handles printed →
-    IsTypeTable o.type_handles new.types → HasReadableText o find printed p → UsesStand o isolated printed p →
+    IsWellFormed o.attr_handles new → IsTypeTable o.type_handles new.types → HasReadableText o find printed p →
+    UsesStand o isolated printed p →
     text ≡ op_text o printed p → Grows printed.types old.types → IsIrRead find isolated old text answer new →
     MatchResult answer (λ q. IsSameIrTree printed new (Operation p) (Operation q))
-    (λ e. IsNoFaultOfText find isolated new text e.fault)
+    (λ e. IsRoomWanting e.fault)

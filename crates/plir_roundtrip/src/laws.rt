@@ -69,7 +69,7 @@ pub fn ir_op_is_read_back<D: ReadSet>(text: &str, read: &Result<Ptr<Operation>, 
 /// from those of `printed`, as `printed` itself later on. Each name that the text uses means, by the rules of the
 /// reader, the value or the block that it was written for. So `read` is the root of the same tree in `new`, but for
 /// slots, versions and locations: an operand is the value of the same index from the same place, and a successor the
-/// block at the same place; or memory was refused, or the context was full, or a use has a fault.
+/// block at the same place; or memory was refused, or the context was full.
 pub fn ir_tree_is_read_back<D: ReadSet>(text: &str, read: &Result<Ptr<Operation>, IrErr>)
     ensures { IsSameReadBack D.OpSet D.find_kind D.is_isolated text.now read.now }
 {

@@ -1,17 +1,27 @@
-//! A caller of the law: what the law says of a printed operation that is read is what this call promises.
-ghost use Rattle.std.specs.Prelude.{IfOk};
+//! Callers of the laws: what a law says of a printed operation that is read is what a call here promises.
+ghost use Rattle.std.specs.Prelude.{◌≡◌, IfErr, IfOk, string_bytes};
 ghost use Rattle.plir_core.specs.declared.ptr.IRNode.{IRNode as AnyNode};
 ghost use Rattle.plir_core.specs.ContextView.{IsLive};
 ghost use Rattle.plir_attr_text.specs.Names.{Grows};
 ghost use Rattle.plir_builtin.specs.BuiltinOps.{IsNewModule};
+ghost use Rattle.plir_core.specs.WellFormed.{IsWellFormed};
+ghost use Rattle.plir_print.specs.HeaderAttrs.{IsPrintable};
+ghost use Rattle.plir_print.specs.OpText.{op_text};
+ghost use Rattle.plir_roundtrip.specs.IrReadBack.{IsRoomWanting};
+ghost use Rattle.plir_roundtrip.specs.IrReadable.{HasReadableText};
 ghost use Rattle.plir_roundtrip.specs.Readable.{IsReadable};
+ghost use Rattle.plir_roundtrip.specs.SameIrTree.{IsSameIrTree};
 ghost use Rattle.plir_roundtrip.specs.SameTree.{IsSameTree};
+ghost use Rattle.plir_roundtrip.specs.UsesMeant.{UsesStand};
 
+use plir_attr_text::Fault;
 use plir_core::{Context, Operation, Ptr};
-use plir_data::{Identifier, OpSet, TypeStore};
+use plir_data::{Identifier, Memory, OpSet, TypeStore};
 use plir_print::print_op;
 use plir_read::read_op;
-use plir_roundtrip::laws::{new_modules_can_be_read_back, op_is_read_back};
+use plir_read_ir::{IrErr, IrFault, read_ir};
+use plir_read_own::ReadSet;
+use plir_roundtrip::laws::{ir_tree_is_read_back, new_modules_can_be_read_back, op_is_read_back};
 use plir_scripts::Stop;
 use std::alloc::Global;
 
@@ -55,4 +65,46 @@ pub fn copy_new_module<D: OpSet>(
     from.stands();
     new_modules_can_be_read_back::<D>();
     copy_by_text(alloc, from, op, into)
+}
+
+// The text of an operation of any kind.
+fn text_of<D: ReadSet>(alloc: Global, ctx: &Context<D>, op: Ptr<Operation>) -> Result<String, IrErr>
+    requires live { IsLive ctx.now (AnyNode.Operation op) }
+    requires printable { IsPrintable ctx.now (AnyNode.Operation op) }
+    ensures text { IfOk result (λ s. string_bytes s ≡ op_text D.OpSet ctx.now op) }
+    ensures refused { IfErr result (λ e. e.fault ≡ IrFault.Text Fault.Memory) }
+    ensures whole { IsWellFormed D.attr_handles ctx.now }
+{
+    match print_op(alloc, ctx, op) {
+        Ok(printed) => Ok(printed),
+        Err(Memory) => Err(IrErr {
+            line: 0,
+            column: 0,
+            fault: IrFault::Text(Fault::Memory),
+        }),
+    }
+}
+
+/// Copies an operation of any kind with all below it into another context, by its text: only memory or room can be
+/// wanting.
+pub fn copy_ir_by_text<D: ReadSet>(
+    alloc: Global,
+    from: &Context<D>,
+    op: Ptr<Operation>,
+    into: &mut Context<D>,
+) -> Result<Ptr<Operation>, IrErr>
+    requires live { IsLive from.now (AnyNode.Operation op) }
+    requires printable { IsPrintable from.now (AnyNode.Operation op) }
+    requires readable { HasReadableText D.OpSet D.find_kind from.now op }
+    requires uses { UsesStand D.OpSet D.is_isolated from.now op }
+    requires types { Grows from.now.types into.old.types }
+    ensures same { IfOk result (λ q. IsSameIrTree from.now into.new (AnyNode.Operation op) (AnyNode.Operation q)) }
+    ensures wanting { IfErr result (λ e. IsRoomWanting e.fault) }
+{
+    let printed = text_of(alloc, from, op)?;
+    let text = printed.as_str();
+    let read = read_ir(alloc, into, text);
+    ir_tree_is_read_back::<D>(text, &read);
+    let _types = into.types();
+    read
 }

@@ -1,0 +1,38 @@
+use Rattle.std.proofs.Common.{Result, Ok, Err, IfErr, IfOk, MatchResult, ◌∙◌}
+use Rattle.plir_core.specs.declared.ptr.IRNode.TheVariants.{Operation}
+use Rattle.plir_roundtrip.specs.IrReadBack.{IsRoomWanting}
+use Rattle.plir_roundtrip.specs.SameIrTree.{IsSameIrTree}
+use Rattle.plir_text_calls.proofs.roundtrip.copying.copy_ir_by_text.Given as given
+use Rattle.plir_text_calls.proofs.roundtrip.copying.copy_ir_by_text.Goals as goal
+
+where_ok : {X E : Type 0} (P : X → Type 0) (Q : E → Type 0) (r : Result X E) → MatchResult r P Q → IfOk r P
+where_ok P Q (Ok x) h = h
+where_ok P Q (Err e) h = tt
+
+where_err : {X E : Type 0} (P : X → Type 0) (Q : E → Type 0) (r : Result X E) → MatchResult r P Q → IfErr r Q
+where_err P Q (Ok x) h = tt
+where_err P Q (Err e) h = h
+
+-- the law, at what the calls before it ensure
+told : (g : given.Over) (c : goal.After-drop-printed g) → MatchResult c.read_ir-read.result
+    (λ q. IsSameIrTree c.args.from.now c.read_ir-read.new.ctx (Operation c.args.op) (Operation q))
+    (λ e. IsRoomWanting e.fault)
+told g c =
+    let read = c.read_ir-read.ensures in
+    c.ir_tree_is_read_back.ensures c.args.from.now c.args.into.now c.read_ir-read.new.ctx c.args.op
+    c.in_ok-printed.ensures.whole read.whole c.types-types.ensures.table c.requires.readable c.requires.uses
+    (c.as_str-text.ensures.value ∙ c.in_ok-printed.ensures.text) c.requires.types (record {
+      found = read.found;
+      made = read.made;
+      refused = read.refused;
+      unmeant = read.unmeant;
+      kept = read.kept;
+    })
+
+pub returns-clause-same : goal.returns-clause-same
+returns-clause-same g c = where_ok _ (λ e. IsRoomWanting e.fault) c.read_ir-read.result (told g c)
+
+pub returns-clause-wanting : goal.returns-clause-wanting
+returns-clause-wanting g c =
+    where_err (λ q. IsSameIrTree c.args.from.now c.read_ir-read.new.ctx (Operation c.args.op) (Operation q)) _
+    c.read_ir-read.result (told g c)
