@@ -1,6 +1,0 @@
-use Rattle.std.proofs.Common.{IfSome}
-use Rattle.plir_core.specs.ContextView.{IsLive}
-use Rattle.plir_low_calls.proofs.copies.copying.name_all.Given as goal
-
-abbrev pub invariant-nodes : goal.invariant-nodes
-invariant-nodes g l = IfSome l.next (IsLive l.fn.ctx)
