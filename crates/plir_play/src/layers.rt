@@ -14,7 +14,7 @@ pub fn play_script(alloc: Global, script: &Script<'_>) -> Option<Result<(), Mism
         "iface" => plir_low_calls::iface::play_in(alloc, nodes, lines),
         "copies" => plir_walk_calls::copies::play_in(alloc, nodes, lines),
         "inline" => plir_walk_calls::inline::play_in(alloc, nodes, lines),
-        "arguments" => plir_passes_calls::arguments::play_in(alloc, nodes, lines),
+        "arguments" => plir_inliner_calls::arguments::play_in(alloc, nodes, lines),
         "passes" => plir_passes_calls::passes::play_in(alloc, nodes, lines),
         _ => return play_flow(alloc, script),
     };
@@ -31,7 +31,7 @@ fn play_flow(alloc: Global, script: &Script<'_>) -> Option<Result<(), Mismatch>>
         "calls" => plir_flow_calls::flow::play_calls(alloc, nodes, lines),
         "edges" => plir_flow_calls::flow::play_edges(alloc, nodes, lines),
         "flow_sets" => plir_flow_calls::flow_sets::play_in(alloc, nodes, lines),
-        "inliner" => plir_passes_calls::inliner::play_in(alloc, nodes, lines),
+        "inliner" => plir_inliner_calls::inliner::play_in(alloc, nodes, lines),
         _ => return play_builtin(alloc, script),
     };
     Some(played)

@@ -14,8 +14,8 @@ use Rattle.plir_core.specs.ContextView.{ContextView, IsLive, op_at}
 use Rattle.plir_core.specs.Held.{IsOpEdited}
 use Rattle.plir_flow.specs.Branches.{Range as Places}
 use Rattle.plir_arguments.specs.Removed.{ForwardsLess, IsOpChanged, is_told, test_held, values_at}
-use Rattle.plir_passes_calls.specs.EndKinds.{all_to_first, loses, removes_of}
-use Rattle.plir_passes_calls.specs.declared.arguments.kinds.EndKind.{EndKind}
+use Rattle.plir_inliner_calls.specs.EndKinds.{all_to_first, loses, removes_of}
+use Rattle.plir_inliner_calls.specs.declared.arguments.kinds.EndKind.{EndKind}
 
 not-first : (i j : ℕ) → nat_eq i 0 ≡ true → j ≢ i → nat_eq j 0 ≡ false
 not-first i j first off = grind arith

@@ -1,9 +1,9 @@
 use Rattle.std.proofs.Common.{◌∙◌, [], subst, sym}
 use Rattle.plir_core.specs.Changes.{with_op_edit}
 use Rattle.plir_arguments.specs.Removed.{ForwardsLess, IsOpChanged}
-use Rattle.plir_passes_calls.specs.EndKinds.{all_to_first, removes_of}
-use Rattle.plir_passes_calls.proofs.Taking.{edited-changed, less, removed-first, told-test, without_operand}
-use Rattle.plir_passes_calls.proofs.arguments.kinds.EndKindBranchEditKind.remove_forwarded.Goals as goal
+use Rattle.plir_inliner_calls.specs.EndKinds.{all_to_first, removes_of}
+use Rattle.plir_inliner_calls.proofs.Taking.{edited-changed, less, removed-first, told-test, without_operand}
+use Rattle.plir_inliner_calls.proofs.arguments.kinds.EndKindBranchEditKind.remove_forwarded.Goals as goal
 
 pub returns-clause-less : goal.returns-clause-less
 returns-clause-less g c =

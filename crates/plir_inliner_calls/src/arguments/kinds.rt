@@ -23,7 +23,7 @@ pub type EndSet = KindSet<EndKind>;
 
 impl OwnKind for EndKind {
     ghost use Rattle.std.specs.Prelude.{true, false};
-    ghost use Rattle.plir_passes_calls.specs.EndKinds.{id_of};
+    ghost use Rattle.plir_inliner_calls.specs.EndKinds.{id_of};
 
     type Err = NeverRefused;
 
@@ -72,7 +72,7 @@ impl ScriptKind for EndKind {
 }
 
 impl<D: OpSet> BranchKind<D> for EndKind {
-    ghost use Rattle.plir_passes_calls.specs.EndKinds.{all_to_first};
+    ghost use Rattle.plir_inliner_calls.specs.EndKinds.{all_to_first};
 
     ghost forwards = { λ _ i held. all_to_first held i };
 
@@ -89,7 +89,7 @@ impl<D: OpSet> BranchKind<D> for EndKind {
 
 impl<D: OpSet> BranchEditKind<D> for EndKind {
     ghost use Rattle.std.specs.Prelude.{[]};
-    ghost use Rattle.plir_passes_calls.specs.EndKinds.{removes_of};
+    ghost use Rattle.plir_inliner_calls.specs.EndKinds.{removes_of};
 
     ghost removes = { λ kind i _. removes_of kind i };
 

@@ -2,8 +2,8 @@
 use Rattle.std.specs.Prelude.{ℕ, List, Bool, ◌&&◌, true, false, nat_eq, cond, codes, length, Option, Some, None}
 use Rattle.plir_core.specs.Contents.{OpView}
 use Rattle.plir_flow.specs.Branches.{Range as Places}
-use Rattle.plir_passes_calls.specs.declared.arguments.kinds.EndKind.{EndKind}
-use Rattle.plir_passes_calls.specs.declared.arguments.kinds.EndKind.TheVariants.{Jump, Fixed}
+use Rattle.plir_inliner_calls.specs.declared.arguments.kinds.EndKind.{EndKind}
+use Rattle.plir_inliner_calls.specs.declared.arguments.kinds.EndKind.TheVariants.{Jump, Fixed}
 
 abbrev pub id_of : EndKind → List ℕ
 id_of Jump = codes "branch.jump"
