@@ -1,6 +1,9 @@
 //! From a text to an attribute.
 
+ghost use Rattle.std.specs.Prelude.{◌≡◌, IfOk};
 ghost use Rattle.plir_data.specs.AttrSeen.{attr_view};
+ghost use Rattle.plir_data.specs.DictSeen.{pairs_view};
+ghost use Rattle.plir_data.specs.Dictionary.{dict_of};
 ghost use Rattle.plir_data.specs.AttrView.{leaf, identifier, string, bool, operand_segment_sizes, given_names};
 ghost use Rattle.plir_attr_text.specs.MeantBy.{IsMeantBy, AreMeantBy, IsEntryMeantBy};
 ghost use Rattle.plir_attr_text.specs.AttrReading.{name_at, text_at, bool_at, size_at, given_name_at, entry_at};
@@ -18,8 +21,8 @@ use crate::types::read_type_at;
 use crate::words::{begin_level, past_sign, read_separator, read_sign};
 use plir_data::{
     AttrObj, AttributeDict, BoolAttr, DictAttr, GivenNamesAttr, Identifier, IdentifierAttr,
-    IntegerAttr, IntegerType, OpSet, OperandSegmentSizesAttr, StringAttr, TypeAttr, TypeStore,
-    UnitAttr, VecAttr,
+    IntegerAttr, IntegerType, Memory, OpSet, OperandSegmentSizesAttr, StringAttr, TypeAttr,
+    TypeStore, UnitAttr, VecAttr,
 };
 use std::alloc::Global;
 
@@ -120,6 +123,17 @@ fn read_entry<'a, D: OpSet, C: TypeStore<D>>(
     }
 }
 
+// The dictionary of entries, sorted once.
+fn dictionary_of<D: OpSet>(
+    alloc: Global,
+    entries: Vec<(Identifier, AttrObj<D>)>,
+) -> Result<AttributeDict<D>, Memory>
+    ensures { IfOk result (λ d. d ≡ dict_of (pairs_view entries.items)) }
+{
+    let dict = DictAttr::new(alloc, entries)?;
+    Ok(dict.0)
+}
+
 // Entries in brackets; of a key that comes again the last counts.
 #[cycle(attrs)]
 pub fn read_entries<'a, D: OpSet, C: TypeStore<D>>(
@@ -133,9 +147,9 @@ pub fn read_entries<'a, D: OpSet, C: TypeStore<D>>(
     ensures kept { Adds C.types C.same_besides (IsBehindId levels AttrKind.Dict bytes.now) ctx.old ctx.new }
 {
     let start = read_sign(bytes, b'[')?;
-    let mut entries = AttributeDict::new(alloc);
+    let mut entries = Vec::new(alloc);
     if let Some(rest) = past_sign(start, b']') {
-        return Ok((entries, rest));
+        return Ok((AttributeDict::new(alloc), rest));
     }
     let mut rest = start;
     'entries: loop {
@@ -143,12 +157,12 @@ pub fn read_entries<'a, D: OpSet, C: TypeStore<D>>(
             Ok(read) => read,
             Err(stop) => return Err(stop),
         };
-        entries.insert(key, value)?;
+        entries.push((key, value))?;
         let (goes_on, behind) = read_separator(after, b']')?;
         if goes_on {
             rest = behind;
         } else {
-            return Ok((entries, behind));
+            return Ok((dictionary_of(alloc, entries)?, behind));
         }
     }
 }

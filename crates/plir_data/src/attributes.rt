@@ -10,6 +10,7 @@ use crate::attribute_dict::AttributeDict;
 use crate::identifier::Identifier;
 use crate::memory::Memory;
 use crate::op_set::OpSet;
+use crate::ordering::in_order;
 use crate::plain_attrs::{BoolAttr, IntegerAttr, TypeAttr, UnitAttr};
 use crate::text_attrs::{IdentifierAttr, StringAttr};
 use std::alloc::Global;
@@ -51,7 +52,7 @@ impl<D: OpSet> DictAttr<D> {
         ensures { IfOk result (λ d. d ≡ dict_of (map (λ p. (p.0, attr_view p.1)) pairs.items)) }
     {
         let mut dict = AttributeDict::new(alloc);
-        for (key, value) in pairs {
+        for (key, value) in in_order(alloc, pairs)? {
             dict.insert(key, value)?;
         }
         Ok(DictAttr(dict))

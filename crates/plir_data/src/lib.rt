@@ -20,6 +20,7 @@ mod liveness;
 mod location;
 mod memory;
 mod op_set;
+mod ordering;
 mod own_text;
 mod places;
 mod plain_attrs;

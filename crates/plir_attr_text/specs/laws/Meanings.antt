@@ -6,6 +6,7 @@ use Rattle.plir_data.specs.Types as types
 use Rattle.plir_data.specs.AttrLive.{leaf_handles, IsAttrLive, AreItemsLive, AreEntriesLive, HandlesLive}
 use Rattle.plir_data.specs.LiveLaws.{live_listed, listed_live, put_live}
 use Rattle.plir_data.specs.{Types.TypeView, Types.AllLive, AttrSeen.attr_view, declared.attributes.AttrObj.AttrObj}
+use Rattle.plir_data.specs.DictSeen.{pairs_view}
 use Rattle.plir_data.specs.AttrView as views
 use Rattle.plir_data.specs.AttrView.{Leaf, AttrView, leaf}
 use Rattle.plir_data.specs.Dictionary.{dict_put, dict_put_all, dict_of}
@@ -100,7 +101,7 @@ module _ {A T : Type 0} (table : List (TypeView T)) where
   put_all-push es [] k x = refl
   put_all-push es (p ∷ ps) k x = put_all-push (dict_put es p.0 p.1) ps k x
 
-  pub IsDictMeant-push : (held held' : List (List ℕ × AttrView A)) (es : List (List ℕ × AttrTerm)) (k l : List ℕ)
+  IsDictMeant-push : (held held' : List (List ℕ × AttrView A)) (es : List (List ℕ × AttrTerm)) (k l : List ℕ)
       (x : AttrView A) (t : AttrTerm) → held' ≡ dict_put held k x → k ≡ l → IsDictMeant table (entries_of es) held →
       IsMeant table t x → IsDictMeant table (entries_of (es ++ (l, t) ∷ [])) held'
   IsDictMeant-push held held' es k l x t put same m n = (
@@ -110,6 +111,15 @@ module _ {A T : Type 0} (table : List (TypeView T)) where
         ap (λ (es : List (List ℕ × AttrView A)). dict_put es k x) m.2 ∙
         ap (λ (w : List ℕ). dict_put (dict_of m.0) w x) same ∙ sym (put_all-push [] m.0 l x),
   )
+
+  pub DictFront-push : {D K E : Type 0} (ps qs : List (List ℕ × AttrObj D K A T E)) (d : List (List ℕ × AttrView A))
+      (es : List (List ℕ × AttrTerm)) (k l : List ℕ) (x : AttrObj D K A T E) (t : AttrTerm) → qs ≡ ps ++ (k, x) ∷ [] →
+      d ≡ dict_of (pairs_view qs) → k ≡ l → DictFront table (dict_of (pairs_view ps)) es →
+      IsMeant table t (attr_view x) → DictFront table d (es ++ (l, t) ∷ [])
+  DictFront-push ps qs d es k l x t e is same m n =
+      IsDictMeant-push (dict_of (pairs_view ps)) d es k l (attr_view x) t (is ∙ ap (λ rs. dict_of (pairs_view rs)) e ∙
+      ap dict_of (map-append (λ p. (p.0, attr_view p.1)) ps ((k, x) ∷ [])) ∙
+      put_all-push [] (pairs_view ps) k (attr_view x)) same m n
 
 -- ---- what is meant holds handles of the table alone
 

@@ -1,10 +1,11 @@
 use Rattle.std.proofs.{Common.map, Common.[], Common.refl, Common.sym, Common.ap, lemmas.Result.err_from_is_err_and}
 use Rattle.plir_data.specs.AttrSeen.{attr_view}
+use Rattle.plir_data.specs.{DictSeen.pairs_view, Dictionary.dict_of}
 use Rattle.plir_data.specs.AttrView as views
 use Rattle.plir_attr_text.specs.Terms as terms
 use Rattle.plir_attr_text.specs.Terms.{attrs_of, entries_of}
 use Rattle.plir_attr_text.specs.AttrReading.{name_at, text_at, bool_at, size_at, given_name_at, entry_at, attr_at}
-use Rattle.plir_attr_text.specs.laws.Meanings.{ItemsFront-grown, ItemsFront-push, DictFront-grown, IsDictMeant-push}
+use Rattle.plir_attr_text.specs.laws.Meanings.{ItemsFront-grown, ItemsFront-push, DictFront-grown, DictFront-push}
 use Rattle.plir_attr_text.specs.laws.{AttrSteps.attr_at-level-fails, AttrSteps.attr_at-head-fails, Growth.Adds-itself}
 use Rattle.plir_attr_text.specs.laws.{AttrsFound.attr_at-shorter, AttrsFound.entry_at-shorter, Growth.Adds-as}
 use Rattle.plir_attr_text.specs.laws.{Fronts.no_open, Fronts.nothing_inside, AttrsAgain.entry_again}
@@ -187,14 +188,14 @@ read_entries-returns-in-Some g t c =
       read = (
         ([], c.in-Some.rest.now),
         nothing_inside 91 93 (entry_at (attr_at c.args.levels)) _ _ _ c.in_ok-start.ensures (sym c.in-Some.ensures),
-        (([], refl, c.new-entries.ensures), refl),
+        (([], refl, c.new.ensures), refl),
       );
       kept = Adds-itself g.met.C.TypeStore.same_besides_itself _;
     }
 
 pub read_entries-entries-init : goal.read_entries-entries-init
 read_entries-entries-init g t c =
-    begins g.met.C.TypeStore.same_besides_itself _ _ _ ([], refl, c.new-entries.ensures) c.in_ok-start.ensures
+    begins g.met.C.TypeStore.same_besides_itself _ _ _ ([], refl, ap (λ es. dict_of (pairs_view es)) c.new-entries.ensures.items) c.in_ok-start.ensures
     (sym c.in_default.ensures)
 
 pub read_entries-returns-in-Err : goal.read_entries-returns-in-Err
@@ -204,8 +205,12 @@ read_entries-returns-in-Err g t c =
       kept = kept_on c.entries.invariant g.met.C.TypeStore.same_besides_on _ c.in-Err.ensures.kept;
     }
 
-pub read_entries-returns-in_err-insert-clause-kept : goal.read_entries-returns-in_err-insert-clause-kept
-read_entries-returns-in_err-insert-clause-kept g t c =
+pub read_entries-returns-in_err-push-clause-kept : goal.read_entries-returns-in_err-push-clause-kept
+read_entries-returns-in_err-push-clause-kept g t c =
+    kept_on c.entries.invariant g.met.C.TypeStore.same_besides_on _ c.in-Ok.ensures.kept
+
+pub read_entries-returns-in_err-dictionary_of-clause-kept : goal.read_entries-returns-in_err-dictionary_of-clause-kept
+read_entries-returns-in_err-dictionary_of-clause-kept g t c =
     kept_on c.entries.invariant g.met.C.TypeStore.same_besides_on _ c.in-Ok.ensures.kept
 
 pub read_entries-returns-in_err-goes_on : goal.read_entries-returns-in_err-goes_on
@@ -227,7 +232,7 @@ pub read_entries-entries-preserved : goal.read_entries-entries-preserved
 read_entries-entries-preserved g t c =
     let y = c.in-Ok.ensures.read in
     one_more c.entries.invariant y.0 y.1 _ y.2.1 _ _ c.in_ok-goes_on.ensures DictFront-grown _ c.in-Ok.ensures.kept _
-    (λ front m. IsDictMeant-push _ _ _ front c.in-Ok.read.0.0 y.0.0.0 _ y.0.0.1 c.in_ok-insert.ensures.ok y.2.0.0 m
+    (λ front m. DictFront-push _ _ _ _ front c.in-Ok.read.0.0 y.0.0.0 _ y.0.0.1 c.in_ok-push.ensures.items refl y.2.0.0 m
     y.2.0.1)
     c.if-goes_on.true g.met.C.TypeStore.same_besides_on (entry_at-shorter c.args.levels)
 
@@ -237,9 +242,8 @@ read_entries-returns-else-goes_on g t c =
     record {
       read = gathered c.entries.invariant y.0 y.1 _ y.2.1 _ _ c.in_ok-goes_on.ensures DictFront-grown _
           c.in-Ok.ensures.kept _
-          (λ front m. IsDictMeant-push _ _ _ front c.in-Ok.read.0.0 y.0.0.0 _ y.0.0.1 c.in_ok-insert.ensures.ok y.2.0.0
-          m
-          y.2.0.1)
+          (λ front m. DictFront-push _ _ _ _ front c.in-Ok.read.0.0 y.0.0.0 _ y.0.0.1 c.in_ok-push.ensures.items
+          c.in_ok-dictionary_of.ensures y.2.0.0 m y.2.0.1)
           c.if-goes_on.false;
       kept = kept_on c.entries.invariant g.met.C.TypeStore.same_besides_on _ c.in-Ok.ensures.kept;
     }

@@ -1,5 +1,6 @@
 use Rattle.std.proofs.Common.{◌+◌, ◌*◌, length, map}
 use Rattle.plir_data.specs.AttrSeen.{attr_view}
+use Rattle.plir_data.specs.{DictSeen.pairs_view, Dictionary.dict_of}
 use Rattle.plir_attr_text.specs.{AttrReading.entry_at, AttrReading.attr_at, TypesIn.IsInEntry, TypesIn.IsInAttr}
 use Rattle.plir_attr_text.specs.{laws.Meanings.ItemsFront, laws.Meanings.DictFront}
 use Rattle.plir_attr_text.proofs.Gathering.{Gathers}
@@ -37,4 +38,4 @@ invariant-read_items-items g l =
 abbrev pub invariant-read_entries-entries : goal.invariant-read_entries-entries
 invariant-read_entries-entries g l =
     Gathers g.C.TypeStore.types g.C.TypeStore.same_besides 91 93 (entry_at (attr_at l.levels))
-    (IsInEntry (IsInAttr l.levels)) DictFront l.bytes l.fn.ctx l.ctx l.entries l.rest
+    (IsInEntry (IsInAttr l.levels)) DictFront l.bytes l.fn.ctx l.ctx (dict_of (pairs_view l.entries.items)) l.rest
