@@ -13,7 +13,7 @@ use std::alloc::Global;
 use std::collections::BTreeMap;
 
 // Puts an attribute under a key, in place of what was there.
-fn put<D: OpSet>(
+fn put_entry<D: OpSet>(
     map: &mut BTreeMap<Identifier, AttrObj<D>>,
     key: Identifier,
     value: AttrObj<D>,
@@ -33,7 +33,7 @@ fn by_keys<D: OpSet>(
 {
     let mut map = BTreeMap::new(alloc);
     'entries: for (key, value) in entries {
-        put(&mut map, key, value)?;
+        put_entry(&mut map, key, value)?;
     }
     Ok(map)
 }
