@@ -146,7 +146,8 @@ pub fn fold<D: FoldSet>(
     ctx.stands();
     folding_keeps_tables::<D>();
     stayed_tables_agree::<D>();
-    fold_constants(alloc, ctx, root)
+    let _any = fold_constants(alloc, ctx, root)?;
+    Ok(())
 }
 
 /// Converts what stands below an operation, where tables that agreed agree after each call of the conversion's

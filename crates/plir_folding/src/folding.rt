@@ -253,7 +253,7 @@ fn fold_makers_first<D: FoldSet>(
 /// its operands alone, and in whatever order operations are laid out, there are three rounds over the tree at most: the
 /// first folds all where each stands behind those that it uses, and a second one sees that; where that still folds
 /// something, the operations are listed, each is folded behind those that make its operands, and a third round sees
-/// that all is done.
+/// that all is done. Answers whether any operand has become a constant.
 ///
 /// # Errors
 ///
@@ -263,8 +263,9 @@ pub fn fold_constants<D: FoldSet>(
     alloc: Global,
     ctx: &mut Context<D>,
     root: Ptr<Operation>,
-) -> Result<(), NodeErr>
+) -> Result<bool, NodeErr>
     requires { IsLive ctx.old (AnyNode.Operation root) }
+    ensures unchanged { IfOk result (λ any. any ≡ false → ctx.new ≡ ctx.old) }
     ensures settled { OnOk result (AreSettled D.fold ctx.new (AnyNode.Operation root)) }
     ensures folded { IsFolded D.fold ctx.old ctx.new }
     ensures lawful { Lawful (look ctx.old) (AnyNode.Operation root) (look ctx.new) }
@@ -275,13 +276,13 @@ pub fn fold_constants<D: FoldSet>(
     ctx.stands();
     let found = fold_round(alloc, ctx, root)?;
     if !found {
-        return Ok(());
+        return Ok(false);
     }
     'rounds: loop {
         let changed = fold_round(alloc, ctx, root)?;
         index_is_slot_and_one(ctx);
         if !changed {
-            return Ok(());
+            return Ok(true);
         }
         fold_makers_first(alloc, ctx, root)?;
     }

@@ -1,5 +1,5 @@
 //! Folding of values: uses of results that stand for an operand become uses of that operand.
-ghost use Rattle.std.specs.Prelude.{◌≡◌, None, IfSome, OnOk};
+ghost use Rattle.std.specs.Prelude.{◌≡◌, None, IfOk, IfSome, OnOk, false};
 ghost use Rattle.plir_core.specs.declared.ptr.IRNode.{IRNode as AnyNode};
 ghost use Rattle.plir_core.specs.declared.value.Value.{Value as AnyValue};
 ghost use Rattle.plir_core.specs.Forest.{look, IsBelow};
@@ -113,7 +113,7 @@ fn pass_on_makers_first<D: IdentitySet>(
 /// listed and each is folded behind those that make its operands, and a last walk sees that all is done. What an
 /// operation stands for is looked up by its operands alone, and a replacement looks at the users of the one value.
 ///
-/// A result that stands for itself, by an operation that uses it, stays.
+/// A result that stands for itself, by an operation that uses it, stays. Answers whether any operand has changed.
 ///
 /// # Errors
 ///
@@ -122,8 +122,9 @@ pub fn fold_values<D: IdentitySet>(
     alloc: Global,
     ctx: &mut Context<D>,
     root: Ptr<Operation>,
-) -> Result<(), Memory>
+) -> Result<bool, Memory>
     requires { IsLive ctx.old (AnyNode.Operation root) }
+    ensures unchanged { IfOk result (λ any. any ≡ false → ctx.new ≡ ctx.old) }
     ensures settled { OnOk result (ArePassed D.is_identity ctx.new (AnyNode.Operation root)) }
     ensures passed { IsPassedOn D.is_identity ctx.old ctx.new }
     ensures lawful { Lawful (look ctx.old) (AnyNode.Operation root) (look ctx.new) }
@@ -132,10 +133,12 @@ pub fn fold_values<D: IdentitySet>(
     lawful_changes::<D>();
     contexts_stand::<D>();
     ctx.stands();
+    let mut any = false;
     'left: while let Some(op) = next_left(ctx, root) {
         index_is_slot_and_one(ctx);
         pass_on(ctx, op);
         pass_on_makers_first(alloc, ctx, root)?;
+        any = true;
     }
-    Ok(())
+    Ok(any)
 }

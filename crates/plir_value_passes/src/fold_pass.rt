@@ -40,7 +40,18 @@ impl Offered for FoldPass {
     }
 }
 
-// Folds constants, and then values. It can't tell whether there were any.
+// What a pass ends with that has changed something, or nothing.
+fn end_of(any: bool) -> PassEnd
+    ensures { result ≡ (if any then PassEnd.Changed else PassEnd.Unchanged) }
+{
+    if any {
+        PassEnd::Changed
+    } else {
+        PassEnd::Unchanged
+    }
+}
+
+// Folds constants, and then values.
 fn fold_all<D: FoldSet + IdentitySet>(
     alloc: Global,
     ctx: &mut Context<D>,
@@ -54,14 +65,14 @@ fn fold_all<D: FoldSet + IdentitySet>(
 {
     lawful_changes::<D>();
     ctx.stands();
-    match fold_constants(alloc, ctx, root) {
-        Ok(()) => {}
+    let constants = match fold_constants(alloc, ctx, root) {
+        Ok(any) => any,
         Err(NodeErr::TooManyNodes) => return Err(PassErr::TooManyNodes),
         Err(NodeErr::Memory) => return Err(PassErr::OutOfMemory),
-    }
+    };
     ctx.stands();
-    fold_values(alloc, ctx, root)?;
-    Ok(PassEnd::Changed)
+    let values = fold_values(alloc, ctx, root)?;
+    Ok(end_of(constants || values))
 }
 
 impl<D: FoldSet + IdentitySet> Pass<D> for FoldPass {

@@ -89,7 +89,8 @@ fn fold<D: FoldSet>(alloc: Global, ctx: &mut Context<D>, root: Ptr<Operation>) -
     if !root.is_live(ctx) {
         return Err(Stop::Refused);
     }
-    Ok(fold_constants(alloc, ctx, root)?)
+    let _any = fold_constants(alloc, ctx, root)?;
+    Ok(())
 }
 
 /// Shows the sum of two constants, folds it, and sweeps what is dead then: the text of what is left.

@@ -233,10 +233,10 @@ fn fold_below(
     if !root.is_live(ctx) {
         return Err(Stop::Refused);
     }
-    match links {
+    let _any = match links {
         Links::Ones => fold_constants(alloc, ctx, root)?,
         Links::Zeros | Links::Differences => fold_values(alloc, ctx, root)?,
-    }
+    };
     Ok(())
 }
 

@@ -13,6 +13,9 @@ returns-in_err-found-clause-lawful g c = c.in_err-found.ensures.below.lawful
 pub returns-in_err-found-clause-whole : goal.returns-in_err-found-clause-whole
 returns-in_err-found-clause-whole g c = c.in_err-found.ensures.below.whole
 
+pub returns-then-not-found-clause-unchanged : goal.returns-then-not-found-clause-unchanged
+returns-then-not-found-clause-unchanged g c = λ none. (c.in_ok-found.ensures.told.tells.clear c.if-not-found.true).1
+
 pub returns-then-not-found-clause-settled : goal.returns-then-not-found-clause-settled
 returns-then-not-found-clause-settled g c = c.in_ok-found.ensures.told.settled c.if-not-found.true
 

@@ -10,6 +10,7 @@ left-init g c = (
   below-none g.D.IdentitySet.is_identity g.D.OpSet.attr_handles c.lawful_changes.ensures c.args.ctx.now
       (Operation c.args.root) c.stands.ensures.whole,
   c.requires,
+  λ none. refl,
 )
 
 pub next_left-requires : goal.next_left-requires
@@ -38,7 +39,7 @@ left-preserved g c =
     let k = below-then holds own laws s c.left.ctx t r c.stands.ensures.whole c.left.invariant.0 f in
     let all =
     below-then holds own laws s t u r c.stands.ensures.whole k c.in_ok-pass_on_makers_first.ensures in
-    (all, all.passed.keeps.live r ∙ c.requires)
+    (all, all.passed.keeps.live r ∙ c.requires, λ none. absurd (let z : ⊥ = cc none in z))
 
 pub left-smaller : goal.left-smaller
 left-smaller g c =
@@ -57,6 +58,9 @@ left-smaller g c =
     (c.pass_on.ensures.gone left.0 left.1) in
     let rest = no-more-used s t u c.in_ok-pass_on_makers_first.ensures.passed.used in
     omega (arith, first, rest)
+
+pub returns-clause-unchanged : goal.returns-clause-unchanged
+returns-clause-unchanged g c = c.left.invariant.2
 
 pub returns-clause-settled : goal.returns-clause-settled
 returns-clause-settled g c = c.in_default.ensures.none refl
