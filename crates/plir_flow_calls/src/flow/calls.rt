@@ -1,6 +1,5 @@
 //! The scripts of segments, branches and calls, with their answers.
-ghost use Rattle.plir_core.specs.ContextView.{IsLive};
-ghost use Rattle.plir_core.specs.declared.ptr.IRNode.{IRNode as AnyNode};
+ghost use Rattle.std.specs.Prelude.{◌≡◌};
 
 use crate::flow::branching::{call_branch, call_counted};
 use crate::flow::call_ops::{NamedCall, ValueCall};
@@ -13,8 +12,8 @@ use crate::flow::grouping::{
 };
 use crate::flow::refusing::Refusing;
 use crate::flow::switch::Switch;
+use plir_core::{Operation, Ptr};
 use plir_data::OpSet;
-use plir_flow::OperandSegmentInterface;
 use plir_scripts::{
     Bench, Layer, Line, Mismatch, NodeCalls, SampleSet, ScriptSet, Stop, number, play,
 };
@@ -26,57 +25,61 @@ struct SegmentCalls;
 impl<D: ScriptSet> Layer<D> for SegmentCalls {
     fn run(bench: &mut Bench<D>, line: Line<'_>) -> Result<(), Stop> {
         match line.command {
-            "flatten" => return flatten(bench, line),
-            "verify"
-            | "segment-types"
-            | "segments"
-            | "held"
-            | "size"
-            | "segment"
-            | "sizes"
-            | "push"
-            | "into"
-            | "pop"
-            | "from" => {}
-            _ => return NodeCalls::run(bench, line),
+            "flatten" => flatten(bench, line),
+            "verify" => verify_counted(bench, line),
+            "segment-types" => verify_segment_types(bench, line),
+            "sizes" | "push" | "into" | "pop" | "from" => change_segments(bench, line),
+            "segments" | "held" | "size" | "segment" => ask_segments(bench, line),
+            _ => NodeCalls::run(bench, line),
         }
-        let op = bench.made.op(&bench.ctx, line.first)?;
-        let expected = if line.command == "verify" {
-            expected_of(line.second)?
-        } else {
-            None
-        };
-        let any = Grouped { op, expected };
-        if line.command == "segment-types" {
-            let (_, rule) = line.text.split_once(' ').unwrap_or((line.text, ""));
-            return verify_types(bench.alloc, &bench.ctx, &mut bench.answer, &any, rule);
-        }
-        call_segments(bench, &any, line)
     }
 }
 
-// The calls on the segments of an operation.
-fn call_segments<D: OpSet, O: OperandSegmentInterface<D>>(
-    bench: &mut Bench<D>,
-    op: &O,
-    line: Line<'_>,
-) -> Result<(), Stop>
-    requires { IsLive bench.old.ctx (AnyNode.Operation (O.pointer op.now)) }
-{
+// Verifies the segments of an operation, so many where the line says it.
+fn verify_counted<D: OpSet>(bench: &mut Bench<D>, line: Line<'_>) -> Result<(), Stop> {
+    let op = bench.made.op(&bench.ctx, line.first)?;
+    let expected = expected_of(line.second)?;
+    verify(&bench.ctx, &mut bench.answer, &Grouped { op, expected })
+}
+
+// Verifies the types of the segments of an operation by a rule.
+fn verify_segment_types<D: OpSet>(bench: &mut Bench<D>, line: Line<'_>) -> Result<(), Stop> {
+    let op = bench.made.op(&bench.ctx, line.first)?;
+    let (_, rule) = line.text.split_once(' ').unwrap_or((line.text, ""));
+    verify_types(
+        bench.alloc,
+        &bench.ctx,
+        &mut bench.answer,
+        &segments_of(op),
+        rule,
+    )
+}
+
+// Changes the segments of an operation.
+fn change_segments<D: OpSet>(bench: &mut Bench<D>, line: Line<'_>) -> Result<(), Stop> {
+    let op = segments_of(bench.made.op(&bench.ctx, line.first)?);
     match line.command {
-        "sizes" => return set_sizes(bench, op, line),
-        "push" | "into" | "pop" | "from" => {
-            return edit(&mut bench.ctx, &bench.made, &mut bench.answer, op, line);
-        }
-        _ => {}
+        "sizes" => set_sizes(bench, &op, line),
+        _ => edit(&mut bench.ctx, &bench.made, &mut bench.answer, &op, line),
     }
+}
+
+// Asks for the segments of an operation.
+fn ask_segments<D: OpSet>(bench: &mut Bench<D>, line: Line<'_>) -> Result<(), Stop> {
+    let op = segments_of(bench.made.op(&bench.ctx, line.first)?);
     let (alloc, ctx, made, answer) = (bench.alloc, &bench.ctx, &bench.made, &mut bench.answer);
     match line.command {
-        "verify" => verify(ctx, answer, op),
-        "size" => ask_size(ctx, answer, op, number(line.second)?),
-        "segment" => ask_segment(alloc, ctx, made, answer, op, number(line.second)?),
-        _ => ask_all(ctx, made, answer, op, line.command),
+        "size" => ask_size(ctx, answer, &op, number(line.second)?),
+        "segment" => ask_segment(alloc, ctx, made, answer, &op, number(line.second)?),
+        _ => ask_all(ctx, made, answer, &op, line.command),
     }
+}
+
+// An operation with any number of segments.
+fn segments_of(op: Ptr<Operation>) -> Grouped
+    ensures { result.op ≡ op }
+{
+    Grouped { op, expected: None }
 }
 
 /// The calls on branches, and those on segments.

@@ -17,30 +17,42 @@ struct InterfaceCalls;
 
 impl<D: ScriptSet> Layer<D> for InterfaceCalls {
     fn run(bench: &mut Bench<D>, line: Line<'_>) -> Result<(), Stop> {
-        if line.command == "resolve" {
-            return resolve(bench, line);
-        }
-        if !matches!(
-            line.command,
-            "counts" | "of-types" | "places" | "counted" | "regions" | "free" | "append"
-        ) {
-            return NodeCalls::run(bench, line);
-        }
-        let op = bench.made.op(&bench.ctx, line.first)?;
-        if line.command == "append" {
-            return append(bench, line);
-        }
-        let (alloc, ctx, made, answer) = (bench.alloc, &bench.ctx, &bench.made, &mut bench.answer);
-        let (_, name) = line.text.split_once(' ').unwrap_or((line.text, ""));
-        let op = AnyOp { op };
         match line.command {
-            "counts" => verify_counts(ctx, answer, &op, name),
-            "of-types" => verify_types(alloc, ctx, answer, &op, name),
-            "places" => verify_places(ctx, answer, &op, name),
-            "counted" => ask_counted(ctx, made, answer, &op, name),
-            "regions" => ask_regions(ctx, made, answer, &op, name),
-            _ => ask_freely(ctx, made, answer, &op, name),
+            "resolve" => resolve(bench, line),
+            "append" => append(bench, line),
+            "counts" | "of-types" | "places" => verify(bench, line),
+            "counted" | "regions" | "free" => ask(bench, line),
+            _ => NodeCalls::run(bench, line),
         }
+    }
+}
+
+// What stands behind the operation of a line: the name of an interface, or of an accessor.
+fn name_in<'a>(line: Line<'a>) -> &'a str {
+    let (_, name) = line.text.split_once(' ').unwrap_or((line.text, ""));
+    name
+}
+
+// Verifies an operation by an interface.
+fn verify<D: ScriptSet>(bench: &mut Bench<D>, line: Line<'_>) -> Result<(), Stop> {
+    let op = bench.made.op(&bench.ctx, line.first)?;
+    let (ctx, answer, op, name) = (&bench.ctx, &mut bench.answer, AnyOp { op }, name_in(line));
+    match line.command {
+        "counts" => verify_counts(ctx, answer, &op, name),
+        "of-types" => verify_types(bench.alloc, ctx, answer, &op, name),
+        _ => verify_places(ctx, answer, &op, name),
+    }
+}
+
+// Asks an operation by an accessor.
+fn ask<D: ScriptSet>(bench: &mut Bench<D>, line: Line<'_>) -> Result<(), Stop> {
+    let op = bench.made.op(&bench.ctx, line.first)?;
+    let (ctx, made, answer) = (&bench.ctx, &bench.made, &mut bench.answer);
+    let (op, name) = (AnyOp { op }, name_in(line));
+    match line.command {
+        "counted" => ask_counted(ctx, made, answer, &op, name),
+        "regions" => ask_regions(ctx, made, answer, &op, name),
+        _ => ask_freely(ctx, made, answer, &op, name),
     }
 }
 
