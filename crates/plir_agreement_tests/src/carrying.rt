@@ -131,13 +131,13 @@ pub fn sweep<D: EffectSet>(
     swept
 }
 
-/// Folds constants below an operation.
+/// Folds constants below an operation, and answers whether there were any.
 pub fn fold<D: FoldSet>(
     alloc: Global,
     ctx: &mut Context<D>,
     root: Ptr<Operation>,
     tables: &SymbolTableCollection,
-) -> Result<(), NodeErr>
+) -> Result<bool, NodeErr>
     requires live { IsLive ctx.old (AnyNode.Operation root) }
     requires given { AreGivenOut ctx.old tables.now }
     requires agree { AllAgree D.is_symbol D.is_symbol_table ctx.old tables.now }
@@ -146,8 +146,7 @@ pub fn fold<D: FoldSet>(
     ctx.stands();
     folding_keeps_tables::<D>();
     stayed_tables_agree::<D>();
-    let _any = fold_constants(alloc, ctx, root)?;
-    Ok(())
+    fold_constants(alloc, ctx, root)
 }
 
 /// Converts what stands below an operation, where tables that agreed agree after each call of the conversion's
