@@ -1,9 +1,9 @@
 -- The loop over the operations of a block.
-use Rattle.std.proofs.Common.{◌≡◌, ◌<◌, ℕ, suc, arith, Bool, false, List, [], ◌∷◌, ◌++◌, length, Option, Some, None}
+use Rattle.std.proofs.Common.{◌≡◌, ◌<◌, ℕ, arith, Bool, false, List, [], ◌∷◌, ◌++◌, length, Option, Some, None}
 use Rattle.std.proofs.Common.{option_map, inl, inr, refl, sym, ap, subst, ◌∙◌, append_assoc, length-append}
 use Rattle.std.proofs.lemmas.List.{nil_from_length}
-use Rattle.plir_store.specs.Members.{Has, Distinct, head}
-use Rattle.plir_store.specs.MemberLaws.{Has-append_cases, Has-mid}
+use Rattle.plir_store.specs.Members.{Has, head}
+use Rattle.plir_store.specs.MemberLaws.{Has-append_cases}
 use Rattle.plir_core.specs.declared.ptr.Ptr.{Ptr}
 use Rattle.plir_core.specs.declared.ptr.Operation.{Operation as OperationKind}
 use Rattle.plir_core.specs.declared.ptr.BasicBlock.{BasicBlock as BasicBlockKind}
@@ -13,10 +13,11 @@ use Rattle.plir_core.specs.Forest.{look, IsForest}
 use Rattle.plir_core.specs.WellFormed.{IsWellFormed}
 use Rattle.plir_core.specs.ContextView.{ContextView, IsLive, children, parent_of}
 use Rattle.plir_walk.specs.LawfulChanges.{LawfulChanges}
-use Rattle.plir_walk.specs.NodeLaws.{left_from, same-op, left-cut, headed, ended}
+use Rattle.plir_walk.specs.NodeLaws.{left_from, same-op, ended}
 use Rattle.plir_folding.specs.Worth.{Integer, IsSettled}
 use Rattle.plir_folding.specs.Folded.{IsFlagged}
 use Rattle.plir_folding.specs.Folding.{AreChildrenSettled, IsFilledBefore, IsFoldedBelow, IsToldBy}
+use Rattle.plir_folding.proofs.Along.{along-rest, along-cut, along-live, along-parent, left-falls}
 use Rattle.plir_folding.proofs.Folds.{tells-then, tells-none}
 use Rattle.plir_folding.proofs.Below.{below-none, below-then}
 
@@ -71,20 +72,17 @@ module _ {K A T : Type 0} {fold : K → Integer → Integer → Option Integer} 
       forest : IsForest (look s')
       forest = laws.forest s' r.below.whole
 
-      pub rest : (ys : List IRNode) × (r.back ≡ Operation op ∷ ys)
-      rest = headed r.back op (ap (option_map Operation) (sym is) ∙ r.here)
+      abbrev rest : (ys : List IRNode) × (r.back ≡ Operation op ∷ ys)
+      rest = along-rest s' forest b r.front r.back at r.split r.here op is
 
-      pub block-cut : children s' (BasicBlock b) ≡ r.front ++ Operation op ∷ rest.0
-      block-cut = r.split ∙ ap (λ z. r.front ++ z) rest.1
-
-      has : Has (children s' (BasicBlock b)) (Operation op)
-      has = subst (λ z. Has z (Operation op)) (sym block-cut) (Has-mid r.front rest.0 (Operation op))
+      block-cut : children s' (BasicBlock b) ≡ r.front ++ Operation op ∷ rest.0
+      block-cut = along-cut s' forest b r.front r.back at r.split r.here op is
 
       pub block-live : IsLive s' (Operation op)
-      block-live = forest.child_live (BasicBlock b) (Operation op) has
+      block-live = along-live s' forest b r.front r.back at r.split r.here op is
 
       pub block-parent : parent_of s' (Operation op) ≡ Some (BasicBlock b)
-      block-parent = forest.child_parent (BasicBlock b) (Operation op) has
+      block-parent = along-parent s' forest b r.front r.back at r.split r.here op is
 
       module _ {t : ContextView K A T} (f : IsFoldedBelow fold own s' (BasicBlock b) t) where
         pub block-below : IsFoldedBelow fold own s (BasicBlock b) t
@@ -129,20 +127,7 @@ module _ {K A T : Type 0} {fold : K → Integer → Integer → Option Integer} 
           }
 
           pub block-falls : left_from (children t (BasicBlock b)) next < left_from (children s' (BasicBlock b)) at
-          block-falls = go next (behind r.front rest.0 block-cut)
-            where
-              before-it : left_from (children s' (BasicBlock b)) at ≡ suc (length rest.0)
-              before-it =
-                  ap (left_from (children s' (BasicBlock b))) is ∙ ap (λ z. left_from z (Some op)) block-cut
-                  ∙ left-cut r.front rest.0 op (subst Distinct block-cut (forest.once (BasicBlock b)))
-
-              go : (o : Option (Ptr OperationKind)) → option_map Operation o ≡ head rest.0
-                  → left_from (children t (BasicBlock b)) o < left_from (children s' (BasicBlock b)) at
-              go None e = omega (arith, before-it)
-              go (Some q) e =
-                  let y = headed rest.0 q e in
-                  let c = recut ∙ ap (λ z. passed ++ z) y.1 in
-                  let after =
-                  ap (λ z. left_from z (Some q)) c
-                  ∙ left-cut passed y.0 q (subst Distinct c ((laws.forest t f.whole).once (BasicBlock b))) in
-                  omega (arith, before-it, after, ap length y.1)
+          block-falls =
+              left-falls (children s' (BasicBlock b)) (children t (BasicBlock b)) r.front passed rest.0 op at next is
+              block-cut (forest.once (BasicBlock b)) recut ((laws.forest t f.whole).once (BasicBlock b))
+              (behind r.front rest.0 block-cut)

@@ -47,6 +47,23 @@ contains-other : (side : Side) (x y : Value) → Contains (x ∷ y ∷ []) (othe
 contains-other Left x y = (1, omega arith, refl)
 contains-other Right x y = (0, omega arith, refl)
 
+-- where operands alone have changed, values are constants of what they were, and of the types that they were of
+module _ {K A T : Type 0} (s t : ContextView K A T)
+    (ops : (p : Ptr OperationKind) → but_operands (op_at t p) ≡ but_operands (op_at s p)) where
+  pub constants-kept : (v : Value) → constant_of t v ≡ constant_of s v
+  constants-kept v = go (maker_of v)
+    where
+      go : (m : Option (Ptr OperationKind)) → constant_in (held_at t m) ≡ constant_in (held_at s m)
+      go None = refl
+      go (Some p) = but-constant (op_at t p) (op_at s p) (ops p)
+
+  pub types-kept : t.nodes.blocks ≡ s.nodes.blocks → (v : Value) → type_of_value t v ≡ type_of_value s v
+  types-kept blocks v = ap (λ z. slice_get z v.index) (go v.entity)
+    where
+      go : (e : DefiningEntity) → types_from t e ≡ types_from s e
+      go (Op p) = but-results (op_at t p) (op_at s p) (ops p)
+      go (Block b) = ap (λ z. arguments_in (content_at z b.slot)) blocks
+
 module _ {K : Type 0} (holds : K → Side → Integer → Bool) where
   -- which side it is at which a constant meets the identity
   record KeptAt (known : Value → Option Integer) (k : K) (vs : List Value) (w : Value) : Type 0 where
@@ -165,7 +182,7 @@ module _ {K A T : Type 0} (holds : K → Side → Integer → Bool) where
 
   -- ---- what a value stands for
 
-  typed-apart : (s : ContextView K A T) (ts : List ℕ) (o : Option Value) (w : Value) → typed_so holds s ts o ≡ Some w
+  pub typed-apart : (s : ContextView K A T) (ts : List ℕ) (o : Option Value) (w : Value) → typed_so holds s ts o ≡ Some w
       → (o ≡ Some w) × (is_of_type ts (type_of_value s w) ≡ true)
   typed-apart s ts None w e = absurd (none-some w e)
   typed-apart s ts (Some v) w e = go (is_of_type ts (type_of_value s v)) refl e
@@ -276,18 +293,10 @@ module _ {K A T : Type 0} (holds : K → Side → Integer → Bool) where
 
   module _ (s t : ContextView K A T) (f : IsPassedOn holds s t) where
     pub type-stays : (v : Value) → type_of_value t v ≡ type_of_value s v
-    type-stays v = ap (λ z. slice_get z v.index) (go v.entity)
-      where
-        go : (e : DefiningEntity) → types_from t e ≡ types_from s e
-        go (Op p) = but-results (op_at t p) (op_at s p) (f.ops p)
-        go (Block b) = ap (λ z. arguments_in (content_at z b.slot)) f.blocks
+    type-stays v = types-kept s t f.ops f.blocks v
 
     constant-before : (v : Value) → constant_of t v ≡ constant_of s v
-    constant-before v = go (maker_of v)
-      where
-        go : (m : Option (Ptr OperationKind)) → constant_in (held_at t m) ≡ constant_in (held_at s m)
-        go None = refl
-        go (Some p) = but-constant (op_at t p) (op_at s p) (f.ops p)
+    constant-before v = constants-kept s t f.ops v
 
     at-sides : (R : Value → Value → Type 0) (side : Side) (a b x y : Value) → R a x → R b y
         → R (operand_at side a b) (operand_at side x y) × R (other_at side a b) (other_at side x y)

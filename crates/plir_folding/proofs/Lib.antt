@@ -4,6 +4,7 @@ pub mod Folds
 pub mod Placing
 pub mod OneFold
 pub mod Below
+pub mod Along
 pub mod Block
 pub mod Walking
 pub mod Worklists
@@ -14,3 +15,8 @@ pub mod Leads
 pub mod PassingOn
 pub mod Used
 pub mod Searching
+pub mod Firsts
+pub mod Merges
+pub mod Listing
+pub mod Settled
+pub mod StillPassed

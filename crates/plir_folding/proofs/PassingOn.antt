@@ -43,7 +43,7 @@ module _ {K A : Type 0} (v w : Value) where
   operands-same None = refl
   operands-same (Some o) = refl
 
-keeps-self : {K A T : Type 0} (s : ContextView K A T) → KeepsNodes s s
+pub keeps-self : {K A T : Type 0} (s : ContextView K A T) → KeepsNodes s s
 keeps-self s = record {
   live = λ n. refl;
   given = λ n. refl;
@@ -53,7 +53,7 @@ keeps-self s = record {
   limit = refl;
 }
 
-keeps-then : {K A T : Type 0} (s t u : ContextView K A T) → KeepsNodes s t → KeepsNodes t u → KeepsNodes s u
+pub keeps-then : {K A T : Type 0} (s t u : ContextView K A T) → KeepsNodes s t → KeepsNodes t u → KeepsNodes s u
 keeps-then s t u f g = record {
   live = λ n. g.live n ∙ f.live n;
   given = λ n. g.given n ∙ f.given n;

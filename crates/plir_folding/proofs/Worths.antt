@@ -38,6 +38,19 @@ of-type-is (t ∷ []) (Some m) n e = elim (eqb_tells m.type t) [
 ]
 of-type-is (t ∷ u ∷ ts) (Some m) n e = absurd (none-some n e)
 
+-- it is that integer
+pub of-type-known : (ts : List ℕ) (x : Option Integer) (n : Integer) → of_type ts x ≡ Some n → x ≡ Some n
+of-type-known ts None n e = absurd (none-some n e)
+of-type-known [] (Some m) n e = absurd (none-some n e)
+of-type-known (t ∷ []) (Some m) n e = elim (eqb_tells m.type t) [
+  | inl h ↦ (let yes = h.0 in let k : Some m ≡ Some n = rw yes at e in k)
+  | inr h ↦ (
+      let no = h.0 in
+      let k : ◌≡◌ {A = Option Integer} None (Some n) = rw no at e in
+      absurd (none-some n k))
+]
+of-type-known (t ∷ u ∷ ts) (Some m) n e = absurd (none-some n e)
+
 pub first-is : (x y : Option Integer) (n : Integer) → x ≡ Some n → first_of x y ≡ Some n
 first-is x y n e = ap (λ z. first_of z y) e
 

@@ -9,6 +9,9 @@
 --              nothing is left to be done, at an operation and below a node
 --   PassedOn   IsPassedOn: operands have become values that the identities of operations say they are, and nothing else
 --              has changed
+--   Merged     IsMerged: constants of the same integer in a block have become the first one of them, wherever they were
+--              operands, and nothing else has changed
+--   Merging    which constants are to be merged, and how far the search for them has come
 --   Worklists  what is listed and what waits, while operations are folded behind those that make their operands
 pub mod Worth
 pub mod Sums
@@ -17,3 +20,5 @@ pub mod Folding
 pub mod Identities
 pub mod PassedOn
 pub mod Worklists
+pub mod Merged
+pub mod Merging

@@ -50,7 +50,7 @@ fn integer_in<D: OpSet>(attr: &AttrObj<D>) -> Option<IntegerAttr>
 }
 
 // The integer that an operation is a constant of, if it is one.
-fn constant_in<D: OpSet>(ctx: &Context<D>, op: Ptr<Operation>) -> Option<IntegerAttr>
+pub(crate) fn constant_in<D: OpSet>(ctx: &Context<D>, op: Ptr<Operation>) -> Option<IntegerAttr>
     requires { IsLive ctx.now (AnyNode.Operation op) }
     ensures { option_map integer_of result ≡ constant_in (op_at ctx.now op) }
 {
